@@ -1,4 +1,8 @@
+ghost use Rattle.std.specs.Prelude.{◌≡◌};
+ghost use Rattle.fm_base.specs.declared.refusal.Refusal.TheVariants.{Memory};
+
 use crate::kind::Kind;
+use std::alloc::AllocError;
 
 /// Why a call was refused. A refused call leaves arenas, bytes and segments as they were, unless it says otherwise.
 ///
@@ -77,4 +81,12 @@ pub enum Refusal {
     TableFull,
     /// Memory ran out.
     Memory,
+}
+
+impl From<AllocError> for Refusal {
+    ghost from_gives = { λ _ e. e ≡ Memory };
+
+    fn from(_: AllocError) -> Self {
+        Refusal::Memory
+    }
 }

@@ -1,5 +1,5 @@
 -- What a source of files tells of its files, and what a read of one may answer.
-use Rattle.std.specs.Prelude.{◌≡◌, ℕ, ◌≤◌, ◌<◌, List, map, length, take, drop, Option, MatchOption, Result, Ok, Err, String, Vec, string_bytes}
+use Rattle.std.specs.Prelude.{◌≡◌, ℕ, ◌≤◌, ◌<◌, List, [], map, length, take, drop, Option, None, MatchOption, IfSome, IsSomeAnd, String, Vec, string_bytes}
 use Rattle.std.specs.Ordering.{nat_cmp}
 use Rattle.std.specs.Cmp.Lexicographic.{slice_cmp}
 use Rattle.std.specs.FinMap.{FinMap, from_entries, get}
@@ -36,3 +36,17 @@ IsPieceOf file at buffer Missing = ⊥
 abbrev pub TellsPiece : Contents → List ℕ → ℕ → List ℕ → Piece → Type 0
 TellsPiece contents name at buffer piece =
     MatchOption (file_of contents name) (piece ≡ Missing) (λ file. IsPieceOf file at buffer piece)
+
+-- the files tell that these are bytes of the file of that name, if there are any of them
+abbrev pub AreBytesFrom : Option Contents → List ℕ → ℕ → List ℕ → Type 0
+AreBytesFrom told name at bytes = IfSome told (λ contents.
+    MatchOption (file_of contents name) (bytes ≡ []) (λ file. bytes ≡ take (length bytes) (drop at file)))
+
+-- the files tell that the file of that name is there, and ends at or before the place
+abbrev pub EndsBefore : Option Contents → List ℕ → ℕ → Type 0
+EndsBefore told name place = IfSome told (λ contents.
+    IsSomeAnd (file_of contents name) (λ file. length file ≤ place))
+
+-- the files tell that there is no file of that name
+abbrev pub IsAbsent : Option Contents → List ℕ → Type 0
+IsAbsent told name = IfSome told (λ contents. file_of contents name ≡ None)
