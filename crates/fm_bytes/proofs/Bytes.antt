@@ -217,6 +217,20 @@ lane-replaced word at width v h =
     ap (λ n. n % 2 ^ (8 * width)) (replaced_parts at width word v).1
     ∙ mod_low (word / 2 ^ (8 * (at + width))) (8 * width) v h
 
+-- What was put there last stays.
+pub replaced-replaced : (word at width v n : ℕ) → v < 2 ^ (8 * width) → replaced (replaced word at width v) at width n ≡ replaced word at width n
+replaced-replaced word at width v n h =
+    let parts = replaced_parts at width word v in
+    let hi = word / 2 ^ (8 * (at + width)) in
+    let r = replaced word at width v in
+    let up : replaced word at width v / 2 ^ (8 * (at + width)) ≡ word / 2 ^ (8 * (at + width)) =
+    ap (λ m. replaced word at width v / 2 ^ m) (let e : 8 * (at + width) ≡ 8 * at + 8 * width = omega arith in e)
+    ∙ sym (shr-shr (replaced word at width v) (8 * at) (8 * width))
+    ∙ ap (λ m. m / 2 ^ (8 * width)) parts.1
+    ∙ shr_high hi (8 * width) v h in
+    ap (λ m. m * 2 ^ (8 * (at + width)) + n * 2 ^ (8 * at) + r % 2 ^ (8 * at)) up
+    ∙ ap (λ m. hi * 2 ^ (8 * (at + width)) + n * 2 ^ (8 * at) + m) parts.0
+
 -- To put a lane's own number there changes nothing.
 pub replaced-lane : (word at width : ℕ) → replaced word at width (lane word at width) ≡ word
 replaced-lane word at width =
