@@ -1,5 +1,5 @@
 -- A buffer that is filled piece by piece.
-use Rattle.std.proofs.Common.{◌≡◌, ℕ, ◌+◌, ◌-◌, ◌≤◌, List, [], ◌++◌, length, take, drop, Option, None, Some, MatchOption, IfSome, ap, sym, ◌∙◌, arith, length-append}
+use Rattle.std.proofs.Common.{◌≡◌, ℕ, ◌+◌, ◌-◌, ◌≤◌, List, [], ◌++◌, length, take, drop, Option, None, Some, MatchOption, IfSome, refl, ap, sym, ◌∙◌, arith, length-append}
 use Rattle.std.proofs.lemmas.List.{drop-drop, length-take-le, take-append-le}
 use Rattle.std.proofs.Math.Seq.{take-add, take-append-add}
 use borrow.Rule.Slice.PartMut.{put_mid, post_of}
@@ -55,3 +55,17 @@ pub AreBytesFrom-more : (told : Option Contents) (name bytes buffer : List ℕ) 
 AreBytesFrom-more None name bytes buffer at n m size fits is next = tt
 AreBytesFrom-more (Some contents) name bytes buffer at n m size fits is next =
     joined (file_of contents name) bytes buffer at n m size fits is next
+
+-- bytes from a place, and then those from behind them
+both : (found : Option (List ℕ)) (xs ys : List ℕ) (at : ℕ)
+    → MatchOption found (xs ≡ []) (λ file. xs ≡ take (length xs) (drop at file))
+    → MatchOption found (ys ≡ []) (λ file. ys ≡ take (length ys) (drop (at + length xs) file))
+    → MatchOption found (xs ++ ys ≡ []) (λ file. xs ++ ys ≡ take (length (xs ++ ys)) (drop at file))
+both None xs ys at first second = ap (λ front. front ++ ys) first ∙ second
+both (Some file) xs ys at first second = join_piece file xs ys at (length xs) (length ys) refl refl first second
+
+-- the same, of files that may tell
+pub AreBytesFrom-append : (told : Option Contents) (name xs ys : List ℕ) (at : ℕ)
+    → AreBytesFrom told name at xs → AreBytesFrom told name (at + length xs) ys → AreBytesFrom told name at (xs ++ ys)
+AreBytesFrom-append None name xs ys at first second = tt
+AreBytesFrom-append (Some contents) name xs ys at first second = both (file_of contents name) xs ys at first second

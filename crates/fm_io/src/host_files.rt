@@ -13,6 +13,7 @@ use std::{io, rt};
 /// Each read opens the file anew and makes one call of the system on it, so what others write
 /// between two reads shows. A folder, a file that may not be read and a path that leads through a
 /// file are faults; only a name that doesn't exist is missing.
+#[derive(Drop)]
 pub struct HostFiles<R: rt::Files<File = File>> {
     rt: R,
     faults: u64,

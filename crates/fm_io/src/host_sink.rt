@@ -8,6 +8,7 @@ use std::io::Write;
 /// A writer of the host, as the standard output. It tells nothing of what was written.
 ///
 /// Each write is one call of the system. One that takes no byte is a fault.
+#[derive(Drop)]
 pub struct HostSink<W: Write> {
     writer: W,
     faults: u64,

@@ -1,6 +1,6 @@
 ghost use Rattle.std.specs.Prelude.{◌≡◌, ◌+◌, ◌*◌, ◌<◌, ◌≤◌, ◌^◌, [], length, slice_index, slice_set, true, IfOk, IfErr, OnOk, OnErr};
 ghost use Rattle.std.specs.Int.{is_power_of_two};
-ghost use Rattle.fm_mono.specs.Arena.{rounded_up, with_given, IsRefused};
+ghost use Rattle.fm_mono.specs.Arena.{IsSound, rounded_up, with_given, IsRefused};
 
 use fm_base::Refusal;
 use std::alloc::Global;
@@ -51,6 +51,7 @@ impl Mono {
         ensures aligned { OnOk result (is_power_of_two align ≡ true) }
         ensures room { OnOk result (rounded_up self.old.given align + size ≤ self.old.limit) }
         ensures refused { IfErr result (IsRefused self.old size align) }
+        ensures sound { OnOk result (IsSound self.new) }
         ensures same { OnErr result (self.new ≡ self.old) }
     {
         if !align.is_power_of_two() {
@@ -66,6 +67,14 @@ impl Mono {
         Ok(place)
     }
 
+    /// How many bytes were given.
+    pub fn given(&self) -> u64
+        ensures given { result ≡ self.now.given }
+        ensures sound { IsSound self.now }
+    {
+        self.given
+    }
+
     /// The word at an index.
     pub fn load(&self, word: u64) -> u64
         requires { 8 * word < self.now.given }
@@ -77,7 +86,8 @@ impl Mono {
     /// Puts `v` in the place of a word.
     pub fn store(&mut self, word: u64, v: u64)
         requires { 8 * word < self.old.given }
-        ensures { self.new ≡ record self.old { words = slice_set self.old.words word v } }
+        ensures stored { self.new ≡ record self.old { words = slice_set self.old.words word v } }
+        ensures sound { IsSound self.new }
     {
         self.words[word as usize] = v;
     }

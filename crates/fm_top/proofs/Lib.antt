@@ -1,1 +1,7 @@
+pub mod Causes
+pub mod Chunks
+pub mod GivenBytes
 pub mod Numbers
+pub mod Outcomes
+pub mod Runs
+pub mod Sums

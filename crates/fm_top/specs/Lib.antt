@@ -1,5 +1,8 @@
 pub mod Asked
+pub mod Ending
+pub mod Loaded
 pub mod Outcome
 pub mod Records
 pub mod Run
+pub mod Whole
 pub mod Words

@@ -12,6 +12,14 @@ pub data Request : Type 0 where
   -- the sum of the long at byte `at` of each record of `size` bytes
   Sum : (size at : ℕ) (file : List ℕ) → Request
 
+-- the file that is read first
+abbrev pub first_file : Request → List ℕ
+first_file (Sum size at file) = file
+
+-- the bytes of a record
+abbrev pub record_size : Request → ℕ
+record_size (Sum size at file) = size
+
 -- a word that names a file where options are looked for: it doesn't begin with a dash
 abbrev pub IsFileWord : List ℕ → Type 0
 IsFileWord word = slice_index word 0 ≢ 45
@@ -24,19 +32,22 @@ pub record HasLong (size at : ℕ) : Type 0 where
   pub at_whole : at % 8 ≡ 0
   pub within : at + 8 ≤ size
 
--- the five words of a sum
-abbrev pub sum_words : List ℕ → List ℕ → List ℕ → List (List ℕ)
-sum_words size at file = codes "sum" ∷ size ∷ at ∷ codes "long" ∷ file ∷ []
+abbrev pub five : List ℕ → List ℕ → List ℕ → List ℕ → List ℕ → List (List ℕ)
+five a b c d e = a ∷ b ∷ c ∷ d ∷ e ∷ []
 
 -- `sum SIZE AT long FILE`, whose numbers are written in decimal digits, with no sign and no leading zero
 pub record IsSum (words : List (List ℕ)) (size at : ℕ) (file : List ℕ) : Type 0 where
-  pub spelled : words ≡ sum_words (decimal size) (decimal at) file
+  pub spelled : words ≡ five (codes "sum") (decimal size) (decimal at) (codes "long") file
   pub has_long : HasLong size at
   pub file_word : IsFileWord file
 
 -- the words ask for this
 abbrev pub Asks : List (List ℕ) → Request → Type 0
 Asks words (Sum size at file) = IsSum words size at file
+
+-- what some words ask for
+abbrev pub CanBeAsked : Request → Type 0
+CanBeAsked (Sum size at file) = HasLong size at
 
 -- the words ask for nothing that there is
 abbrev pub AreFaulty : List (List ℕ) → Type 0

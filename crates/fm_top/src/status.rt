@@ -24,3 +24,15 @@ pub enum Status {
     /// The script was refused.
     ScriptRefused = 10,
 }
+
+impl Status {
+    ghost use Rattle.std.specs.Prelude.{◌≡◌};
+    ghost use Rattle.fm_top.specs.Run.{code_of};
+
+    /// The status as the process answers it.
+    pub fn code(self) -> u8
+        ensures { result ≡ code_of self }
+    {
+        self as u8
+    }
+}

@@ -1,7 +1,7 @@
 ghost use Rattle.std.specs.Prelude.{◌≡◌, ◌^◌, ◌<◌, ◌↔◌, IfSome, IfNone, IsTrue, List, ℕ};
 ghost use Rattle.std.specs.Fmt.{decimal};
 ghost use Rattle.fm_top.specs.Asked.{request_of};
-ghost use Rattle.fm_top.specs.Words.{texts, Asks, AreFaulty, HasLong, IsFileWord, IsSum, sum_words};
+ghost use Rattle.fm_top.specs.Words.{texts, Asks, AreFaulty, HasLong, IsFileWord, IsSum, five};
 
 use itoa::Buffer;
 
@@ -24,25 +24,35 @@ pub fn command_of(words: &[String]) -> Option<Command<'_>>
     ensures found { IfSome result (λ command. Asks (texts words.now) (request_of command)) }
     ensures none { IfNone result (AreFaulty (texts words.now)) }
 {
-    match words {
-        [command, size, at, kind, file] if command.as_str() == "sum" && kind.as_str() == "long" => {
-            Some(Command::Sum(sum_command(size, at, file)?))
-        }
-        _ => None,
+    let [command, size, at, kind, file] = words else {
+        return None;
+    };
+    match sum_command(command, size, at, kind, file) {
+        Some(sum) => Some(Command::Sum(sum)),
+        None => None,
     }
 }
 
-/// The sum that the words SIZE, AT and FILE ask for.
-fn sum_command<'a>(size: &str, at: &str, file: &'a str) -> Option<SumCommand<'a>>
+/// The sum that these five words ask for.
+fn sum_command<'a>(
+    command: &str,
+    size: &str,
+    at: &str,
+    kind: &str,
+    file: &'a str,
+) -> Option<SumCommand<'a>>
     ensures found { IfSome result (λ sum.
-        IsSum (sum_words size.now at.now file.now) sum.size sum.at sum.file.now) }
+        IsSum (five command.now size.now at.now kind.now file.now) sum.size sum.at sum.file.now) }
     ensures none { IfNone result ((size_of at_of : ℕ) (name : List ℕ) →
-        IsSum (sum_words size.now at.now file.now) size_of at_of name → ⊥) }
+        IsSum (five command.now size.now at.now kind.now file.now) size_of at_of name → ⊥) }
 {
+    if command != "sum" || kind != "long" || !is_file_word(file) {
+        return None;
+    }
     let (Some(size), Some(at)) = (number_of_word(size), number_of_word(at)) else {
         return None;
     };
-    if has_long(size, at) && is_file_word(file) {
+    if has_long(size, at) {
         Some(SumCommand { size, at, file })
     } else {
         None
@@ -70,6 +80,7 @@ fn is_file_word(word: &str) -> bool
 /// The number that a word spells in decimal digits, with no sign and no leading zero.
 fn number_of_word(word: &str) -> Option<u64>
     ensures found { IfSome result (λ n. word.now ≡ decimal n) }
+    ensures fits { IfSome result (λ n. n < 2 ^ 64) }
     ensures none { IfNone result ((n : ℕ) → n < 2 ^ 64 → word.now ≡ decimal n → ⊥) }
 {
     let Ok(n) = word.parse::<u64>() else {
