@@ -15,6 +15,11 @@ use Rattle.fm_layout.specs.WellFormed.{limit}
 abbrev pub plain : ℕ → Label
 plain alignment = record { alignment = alignment; name = None }
 
+-- a layout, unless it is refused
+abbrev pub made : Tree → Option Refusal → Result Tree Refusal
+made t None = Ok t
+made t (Some r) = Err r
+
 -- a value, little, with its natural alignment
 abbrev pub value_of : ValueKind → Tree
 value_of k = Value k Little (plain (width_of k))
@@ -24,11 +29,15 @@ padding_of n =
     if nat_eq n 0 then Err BadPadding
     else (if nat_le n limit then Ok (Padding n (plain 1)) else Err Overflow)
 
+-- the refusal of a sequence
+abbrev pub sequence_fault : ℕ → ℕ → ℕ → Option Refusal
+sequence_fault count size alignment =
+    if nat_eq (size % alignment) 0
+    then (if nat_le (count * size) limit then None else Some Overflow)
+    else Some ElementRagged
+
 abbrev pub sequence_of : ℕ → Tree → Result Tree Refusal
-sequence_of n e =
-    if nat_eq (size_of e % alignment_of e) 0
-    then (if nat_le (n * size_of e) limit then Ok (Sequence n e (plain (alignment_of e))) else Err Overflow)
-    else Err ElementRagged
+sequence_of n e = made (Sequence n e (plain (alignment_of e))) (sequence_fault n (size_of e) (alignment_of e))
 
 -- the first member that breaks the rule of structs: they are numbered from `index`, and the first begins at offset `at`
 abbrev pub fault_of : ℕ → ℕ → Trees → Option Refusal
@@ -37,10 +46,6 @@ fault_of index at (More t ts) =
     if nat_eq (at % alignment_of t) 0
     then (if nat_le (at + size_of t) limit then fault_of (index + 1) (at + size_of t) ts else Some Overflow)
     else Some (MemberMisaligned index at)
-
-abbrev pub made : Tree → Option Refusal → Result Tree Refusal
-made t None = Ok t
-made t (Some r) = Err r
 
 abbrev pub struct_of : Trees → Result Tree Refusal
 struct_of ts = made (Struct ts (plain (greatest_alignment ts))) (fault_of 0 0 ts)
