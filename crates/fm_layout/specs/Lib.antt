@@ -1,3 +1,4 @@
+pub mod Alike
 pub mod Codes
 pub mod Depth
 pub mod Extent
@@ -5,6 +6,7 @@ pub mod Falls
 pub mod Made
 pub mod Name
 pub mod Parts
+pub mod Same
 pub mod Size
 pub mod Tree
 pub mod Views

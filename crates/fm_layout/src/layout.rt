@@ -1,5 +1,6 @@
 mod constructors;
 mod copies;
+mod equality;
 mod extent;
 
 ghost use Rattle.std.specs.Prelude.{◌≡◌};
@@ -7,11 +8,12 @@ ghost use Rattle.std.specs.Option.{option_copied};
 ghost use Rattle.fm_layout.specs.Tree.{alignment_of, name_of};
 ghost use Rattle.fm_layout.specs.Size.{size_of};
 ghost use Rattle.fm_layout.specs.WellFormed.{IsWellFormed};
-ghost use Rattle.fm_layout.specs.Parts.{element_of, form_of, member_of};
+ghost use Rattle.fm_layout.specs.Parts.{children_of, element_of, form_of, member_of};
 
 use crate::form::Form;
 use fm_lanes::{Order, ValueKind};
 use std::marker::Model;
+use std::slice;
 
 /// A layout: what stands where in a run of bytes. Contracts see it as a tree.
 #[derive(Drop)]
@@ -117,6 +119,18 @@ impl Layout {
         match &self.node {
             Node::Sequence(_, element) => Some(&**element),
             _ => None,
+        }
+    }
+
+    /// What stands directly in it: members, or the one element.
+    fn children(&self) -> &[Layout]
+        ensures { result.now ≡ children_of self.now }
+    {
+        match &self.node {
+            Node::Value(_, _) | Node::Padding => &[],
+            Node::Sequence(_, element) => slice::from_ref(&**element),
+            Node::Struct(members) => members,
+            Node::Union(members) => members,
         }
     }
 }
