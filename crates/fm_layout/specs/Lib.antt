@@ -5,9 +5,11 @@ pub mod Extent
 pub mod Falls
 pub mod Made
 pub mod Name
+pub mod Named
 pub mod Parts
 pub mod Same
 pub mod Size
+pub mod Sound
 pub mod Tree
 pub mod Views
 pub mod WellFormed

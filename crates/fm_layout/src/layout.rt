@@ -8,6 +8,7 @@ ghost use Rattle.std.specs.Option.{option_copied};
 ghost use Rattle.fm_layout.specs.Tree.{alignment_of, name_of};
 ghost use Rattle.fm_layout.specs.Size.{size_of};
 ghost use Rattle.fm_layout.specs.WellFormed.{IsWellFormed};
+ghost use Rattle.fm_layout.specs.Named.{HasNames, IsNameIfAny};
 ghost use Rattle.fm_layout.specs.Parts.{children_of, element_of, form_of, member_of};
 
 use crate::form::Form;
@@ -39,7 +40,7 @@ impl Model for Layout {
     ghost use Rattle.std.specs.Prelude.{◌≡◌};
     ghost use Rattle.fm_layout.specs.Tree.{Tree};
     ghost use Rattle.fm_layout.specs.Depth.{depth};
-    ghost use Rattle.fm_layout.specs.WellFormed.{IsSound};
+    ghost use Rattle.fm_layout.specs.Sound.{IsSound};
 
     ghost Value = { Tree };
 
@@ -65,6 +66,7 @@ impl Layout {
     pub fn size(&self) -> u64
         ensures size { result ≡ size_of self.now }
         ensures well_formed { IsWellFormed self.now }
+        ensures named { HasNames self.now }
     {
         self.size
     }
@@ -93,7 +95,8 @@ impl Layout {
 
     /// The name; `None` exactly where the layout has none.
     pub fn name(&self) -> Option<&str>
-        ensures { option_copied result ≡ name_of self.now }
+        ensures name { option_copied result ≡ name_of self.now }
+        ensures named { IsNameIfAny (name_of self.now) }
     {
         match &self.name {
             None => None,
