@@ -1,0 +1,6 @@
+pub mod Names
+pub mod Sound
+pub mod Powers
+pub mod Deep
+pub mod Nodes
+pub mod Whole
