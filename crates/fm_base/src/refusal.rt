@@ -1,4 +1,5 @@
 use crate::kind::Kind;
+use std::alloc::AllocError;
 use std::fmt;
 
 /// Why a call was refused. A refused call leaves arenas, bytes and segments as they were, unless it says otherwise.
@@ -79,6 +80,17 @@ pub enum Refusal {
     TableFull,
     /// Memory ran out.
     Memory,
+}
+
+impl From<AllocError> for Refusal {
+    ghost use Rattle.std.specs.Prelude.{◌≡◌};
+    ghost use Rattle.fm_base.specs.declared.refusal.Refusal.TheVariants.{Memory};
+
+    ghost from_gives = { λ _ e. e ≡ Memory };
+
+    fn from(_: AllocError) -> Self {
+        Refusal::Memory
+    }
 }
 
 /// What a refusal tells beside its number.
