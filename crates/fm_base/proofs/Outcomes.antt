@@ -6,11 +6,11 @@ use Rattle.fm_base.specs.Arenas.{State, Arena, Ended, has_arena, arena_of, chang
 use Rattle.fm_base.specs.Calls.{Open, End, Allocate, Given, Reply, Fine, Entry, entry_of}
 use Rattle.fm_base.specs.Machine.{MayCall, reply_to, after, opened, given_up_to}
 use Rattle.fm_base.specs.Histories.{IsLegal, state_after, made_by}
-use Rattle.fm_base.specs.View.{View, Makes, but_loans}
-use Rattle.fm_base.specs.Outcomes.{IsNew, Gives}
+use Rattle.fm_base.specs.View.{View, Makes, Did, but_loans}
+use Rattle.fm_base.specs.Outcomes.{IsNew, Gives, Lasts}
 use Rattle.fm_base.proofs.Lookup.{has_arena-opened, lookup_changed}
 use Rattle.fm_base.proofs.Making.{IsLegal-split, state_after-append}
-use Rattle.fm_base.proofs.Growing.{Grows, Grows-state_after, given_is, le-rounded_up, power_pos, over_at_end}
+use Rattle.fm_base.proofs.Growing.{Makes-grows, Grows, Grows-state_after, given_is, le-rounded_up, power_pos, over_at_end}
 use Rattle.fm_base.proofs.Placing.{there_by_way, rounded_even}
 
 -- a history with this entry of the caller somewhere in it
@@ -119,3 +119,15 @@ closed_ended x y own c id reply m h =
     let a = around x y own (entry_of c (End id) reply) m h in
     let o = over_at_end a.now id a.legal.0 a.legal.1 in
     (a.until.over id o.0 o.1).life
+
+-- ---- every call
+
+-- what a call leaves as it was
+pub Makes-lasts : (x y : View) (own : List Entry) → Makes x y own → Lasts x y
+Makes-lasts x y own m =
+    let g = Makes-grows x y own m in
+    record { known = g.has; given = g.given; limit = m.same_limit; caller = m.same_caller }
+
+-- the same of a call that did what it does
+pub Did-lasts : (x y : View) (P : List Entry → Type 0) → Did x y P → Lasts x y
+Did-lasts x y P d = Makes-lasts x y d.own d.makes

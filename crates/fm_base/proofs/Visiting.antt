@@ -7,6 +7,7 @@ use Rattle.std.specs.Prelude.{Ok, Err}
 use Rattle.fm_base.specs.Arenas.{has_arena, MayUse}
 use Rattle.fm_base.specs.Calls.{Call, Reply, Enter, Leave, Fine, SwapIf, Found, Entry, entry_of}
 use Rattle.fm_base.specs.View.{View, Makes, Did, given_in, inside_next, inside_after}
+use Rattle.fm_base.specs.Outcomes.{Lasts}
 use Rattle.fm_base.specs.Does.{CanReach, DoesEnter, DoesAct, DoesPatch, patched}
 use Rattle.fm_base.specs.Visits.{visit, refused_visit, Acts, entries_of, Tries, looked, missed, hit}
 use Rattle.fm_base.proofs.Making.{Makes-then, inside_after-append}
@@ -98,13 +99,16 @@ visit_outside x y id acts m = m.inside ∙ inside_after-append (Some id) (entrie
 
 -- ---- what lasts
 
--- an arena that is known and may be used stays so, and what is given stays given
-pub record Lasts (x : View) (id : ArenaId) (end : ℕ) : Type 0 where
+-- an arena that is known, may be used, and has given the bytes below `end`
+pub record CanUse (x : View) (id : ArenaId) (end : ℕ) : Type 0 where
   pub known : has_arena x.state id ≡ true
   pub may : MayUse id x.caller
   pub given : end ≤ given_in x id
 
-pub lasts : (x y : View) (id : ArenaId) (end : ℕ) (es : List Entry) → Makes x y es → Lasts x id end → Lasts y id end
-lasts x y id end es m l =
-    let g = Makes-grows x y es m in
-    record { known = g.has id l.known; may = rw m.same_caller l.may; given = (let k = g.given id in let j = l.given in omega arith) }
+-- it stays so
+pub can_use_still : (x y : View) (id : ArenaId) (end : ℕ) → Lasts x y → CanUse x id end → CanUse y id end
+can_use_still x y id end l can = record {
+  known = l.known id can.known;
+  may = rw l.caller can.may;
+  given = (let k = l.given id in let j = can.given in omega arith);
+}

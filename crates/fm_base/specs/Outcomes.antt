@@ -44,3 +44,10 @@ pub record Gives (old new : View) (id : ArenaId) (size align place : ℕ) : Type
   pub unused : given_in old id ≤ place
   pub given : place + size ≤ given_in new id
   pub within : place + size ≤ old.limit
+
+-- What was known and given stays so, and the memory's constants stay
+pub record Lasts (old new : View) : Type 0 where
+  pub known : (id : ArenaId) → has_arena old.state id ≡ true → has_arena new.state id ≡ true
+  pub given : (id : ArenaId) → given_in old id ≤ given_in new id
+  pub limit : new.limit ≡ old.limit
+  pub caller : new.caller ≡ old.caller

@@ -1,10 +1,10 @@
-ghost use Rattle.std.specs.Prelude.{◌≡◌, ◌≢◌, bit_and, true, Ok, Err, IfOk, IsSome};
+ghost use Rattle.std.specs.Prelude.{◌≡◌, ◌≢◌, bit_and, true, Ok, Err, IfOk, IfErr, IsSome, Some, None};
 ghost use Rattle.fm_base.specs.Arenas.{Ended, has_arena, arena_of};
 ghost use Rattle.fm_base.specs.Calls as machine;
 ghost use Rattle.fm_base.specs.Finds.{is_slot, is_page};
 ghost use Rattle.fm_base.specs.View.{View, Did, IsSound, but_loans};
 ghost use Rattle.fm_base.specs.Does.{CanReach, DoesEnter, DoesAct, DoesPatch, DoesOpen, DoesAllocate, DoesClose};
-ghost use Rattle.fm_base.specs.Outcomes.{Nature, MayCome, FoundNoneFree, IsNew, Gives};
+ghost use Rattle.fm_base.specs.Outcomes.{Nature, MayCome, FoundNoneFree, IsNew, Gives, Lasts};
 
 use crate::arena_id::ArenaId;
 use crate::kind::Kind;
@@ -38,30 +38,41 @@ pub trait Memory {
         requires outside { (view self.old).inside ≡ None }
         requires known { has_arena (view self.old).state a ≡ true }
         ensures did { Did (view self.old) (view self.new) (DoesEnter (view self.old).caller a result) }
+        ensures inside { IfOk result (λ _. (view self.new).inside ≡ Some a) }
+        ensures outside { IfErr result (λ _. (view self.new).inside ≡ None) }
+        ensures lasts { Lasts (view self.old) (view self.new) }
         ensures sound { IsSound (view self.new) };
 
     /// The word of this index.
     fn load(&mut self, word: u64) -> u64
         requires { CanReach (view self.old) word }
         ensures did { Did (view self.old) (view self.new) (DoesAct (view self.old).inside (view self.old).caller (λ a. machine.Read a word) (machine.Found result)) }
+        ensures inside { (view self.new).inside ≡ (view self.old).inside }
+        ensures lasts { Lasts (view self.old) (view self.new) }
         ensures sound { IsSound (view self.new) };
 
     /// Puts `v` into the word of this index.
     fn store(&mut self, word: u64, v: u64)
         requires { CanReach (view self.old) word }
         ensures did { Did (view self.old) (view self.new) (DoesAct (view self.old).inside (view self.old).caller (λ a. machine.Write a word v) machine.Fine) }
+        ensures inside { (view self.new).inside ≡ (view self.old).inside }
+        ensures lasts { Lasts (view self.old) (view self.new) }
         ensures sound { IsSound (view self.new) };
 
     /// Puts `new` into the word where it is `old`, and answers the word found.
     fn swap_if(&mut self, word: u64, old: u64, new: u64) -> u64
         requires { CanReach (view self.old) word }
         ensures did { Did (view self.old) (view self.new) (DoesAct (view self.old).inside (view self.old).caller (λ a. machine.SwapIf a word old new) (machine.Found result)) }
+        ensures inside { (view self.new).inside ≡ (view self.old).inside }
+        ensures lasts { Lasts (view self.old) (view self.new) }
         ensures sound { IsSound (view self.new) };
 
     /// Adds `n` to the word, wrapping at 2^64, and answers the word found.
     fn add(&mut self, word: u64, n: u64) -> u64
         requires { CanReach (view self.old) word }
         ensures did { Did (view self.old) (view self.new) (DoesAct (view self.old).inside (view self.old).caller (λ a. machine.Add a word n) (machine.Found result)) }
+        ensures inside { (view self.new).inside ≡ (view self.old).inside }
+        ensures lasts { Lasts (view self.old) (view self.new) }
         ensures sound { IsSound (view self.new) };
 
     /// Puts the word's bits under `mask` to `bits` in one step, and answers the word found at that step.
@@ -71,12 +82,16 @@ pub trait Memory {
         requires reach { CanReach (view self.old) word }
         requires under { bit_and bits mask ≡ bits }
         ensures did { Did (view self.old) (view self.new) (DoesPatch (view self.old).inside (view self.old).caller word mask bits result) }
+        ensures inside { (view self.new).inside ≡ (view self.old).inside }
+        ensures lasts { Lasts (view self.old) (view self.new) }
         ensures sound { IsSound (view self.new) };
 
     /// Goes out of the arena that was entered.
     fn leave(&mut self)
         requires { IsSome (view self.old).inside }
         ensures did { Did (view self.old) (view self.new) (DoesAct (view self.old).inside (view self.old).caller machine.Leave machine.Fine) }
+        ensures outside { (view self.new).inside ≡ None }
+        ensures lasts { Lasts (view self.old) (view self.new) }
         ensures sound { IsSound (view self.new) };
 
     /// Opens an arena of this kind, alive, of which nothing is given. Its name was never used before.
@@ -87,6 +102,8 @@ pub trait Memory {
         requires by_hand { kind ≢ Kind.Automatic }
         ensures did { Did (view self.old) (view self.new) (λ own. DoesOpen (view self.old).caller kind result (but_loans own)) }
         ensures is_new { IfOk result (λ id. IsNew (view self.old) (view self.new) id) }
+        ensures outside { (view self.new).inside ≡ None }
+        ensures lasts { Lasts (view self.old) (view self.new) }
         ensures comes { MayCome nature result }
         ensures no_slot { result ≡ Err Refusal.NoSlot → FoundNoneFree is_slot (view self.old).told (view self.new).told }
         ensures sound { IsSound (view self.new) };
@@ -106,6 +123,8 @@ pub trait Memory {
         requires known { has_arena (view self.old).state a ≡ true }
         ensures did { Did (view self.old) (view self.new) (λ own. DoesAllocate (view self.old).caller a size align result (but_loans own)) }
         ensures gives { IfOk result (λ place. Gives (view self.old) (view self.new) a size align place) }
+        ensures outside { (view self.new).inside ≡ None }
+        ensures lasts { Lasts (view self.old) (view self.new) }
         ensures comes { MayCome nature result }
         ensures pool_full { result ≡ Err Refusal.PoolFull → FoundNoneFree is_page (view self.old).told (view self.new).told }
         ensures sound { IsSound (view self.new) };
@@ -118,6 +137,8 @@ pub trait Memory {
         requires known { has_arena (view self.old).state a ≡ true }
         ensures did { Did (view self.old) (view self.new) (λ own. DoesClose (view self.old).caller a result (but_loans own)) }
         ensures ended { IfOk result (λ _. (arena_of (view self.new).state a).life ≡ Ended) }
+        ensures outside { (view self.new).inside ≡ None }
+        ensures lasts { Lasts (view self.old) (view self.new) }
         ensures sound { IsSound (view self.new) };
 
     /// Whether the caller is alone is a constant of the type.

@@ -1,5 +1,5 @@
 -- An arena that gives more bytes, and one that ends.
-use Rattle.std.proofs.Common.{◌≡◌, ℕ, ◌+◌, ◌-◌, ◌*◌, ◌/◌, ◌<◌, ◌≤◌, max, true, false, if◌then◌else◌, List, [], ◌++◌, length, set, take, replicate, get_or, refl, ap, sym, ◌∙◌, subst, arith, append_assoc, length-append, Option, Some, None, slice_get}
+use Rattle.std.proofs.Common.{◌≡◌, ℕ, ◌+◌, ◌-◌, ◌<◌, ◌≤◌, true, false, List, ◌++◌, length, set, take, replicate, get_or, refl, ap, sym, ◌∙◌, subst, arith, append_assoc, length-append, Option, Some, None, slice_get}
 use Rattle.std.specs.Prelude.{nat_le}
 use Rattle.std.proofs.lemmas.Bool.Decides.{nat_tests}
 use Rattle.std.proofs.lemmas.List.{length-set, length-replicate, replicate-append-replicate, set-get_or, take_all}
@@ -10,7 +10,7 @@ use Rattle.fm_base.specs.Machine.{words_within, rounded_up, allocate_reply, give
 use Rattle.fm_base.proofs.Growing.{le-rounded_up}
 use Rattle.fm_base.proofs.Lookup.{changed_same}
 use Rattle.fm_mono.specs.declared.arena.MonoArena.{MonoArena}
-use Rattle.fm_mono.specs.Shown.{shown, shown_all, IsSoundMono, FitsIn, filled}
+use Rattle.fm_mono.specs.Shown.{shown, shown_all, IsSoundMono, filled}
 use Rattle.fm_mono.proofs.Showing.{change_shown, CountFrom-set}
 use Rattle.fm_mono.proofs.Steps.{IsPlaced, placed_read, life_true, fit_set, sound_set}
 

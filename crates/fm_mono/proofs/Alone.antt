@@ -1,8 +1,8 @@
 -- Entries of the only caller.
-use Rattle.std.proofs.Common.{◌≡◌, ℕ, ◌≤◌, ◌^◌, List, [], ◌∷◌, ◌==◌, arith, refl, sym, subst, ap, ◌∙◌, Bool, false, if◌then◌else◌, true, Some}
+use Rattle.std.proofs.Common.{◌≡◌, ℕ, ◌≤◌, ◌^◌, [], ◌∷◌, ◌==◌, arith, refl, sym, ap, false, if◌then◌else◌, true, Some}
 use Rattle.std.proofs.lemmas.Bool.Decides.{nat_tests}
 use Rattle.fm_base.specs.declared.arena_id.ArenaId.{ArenaId}
-use Rattle.fm_base.specs.Arenas.{State, Arena, changed}
+use Rattle.fm_base.specs.Arenas.{State, changed}
 use Rattle.fm_base.specs.Calls.{Call, Reply, entry_of}
 use Rattle.fm_base.specs.Machine.{MayCall, reply_to, state_by, written}
 use Rattle.fm_base.specs.View.{Makes, Did, IsSound, inside_next}

@@ -1,16 +1,16 @@
 -- Whole calls of the only caller.
-use Rattle.std.proofs.Common.{◌≡◌, ℕ, ◌+◌, Bool, true, false, if◌then◌else◌, List, [], ◌∷◌, refl, sym, ap, ◌∙◌, arith, Some, None, Result, Ok, Err, Contains, inl, inr, ◌==◌, not}
+use Rattle.std.proofs.Common.{◌≡◌, ℕ, ◌+◌, true, List, [], ◌∷◌, refl, sym, ap, ◌∙◌, arith, Some, None, Result, Ok, Err, inl, inr, ◌==◌, not}
 use Rattle.std.specs.Prelude.{filter, IfOk}
 use Rattle.fm_base.specs.declared.arena_id.ArenaId.{ArenaId}
 use Rattle.fm_base.specs.declared.refusal.Refusal.{Refusal}
 use Rattle.fm_base.specs.declared.refusal.Refusal.TheVariants as refusal
 use Rattle.fm_base.specs.declared.kind.Kind.TheVariants.{Global}
-use Rattle.fm_base.specs.Arenas.{State, Arena, Life, Alive, Closing, Ended, MayUse, arena_of, has_arena, changed, IsUnderWay}
-use Rattle.fm_base.specs.Calls.{Reply, Enter, Allocate, Leave, Shut, End, Closed, Fine, Given, NoRoom, entry_of}
-use Rattle.fm_base.specs.Machine.{IsPower, IsUnderWayNowhere, reply_to, allocate_reply, entered, left, given_up_to, closing, ended, enter_reply, shut_reply}
+use Rattle.fm_base.specs.Arenas.{State, Arena, Alive, Closing, Ended, MayUse, arena_of, has_arena, changed, IsUnderWay}
+use Rattle.fm_base.specs.Calls.{Enter, Allocate, Leave, Shut, End, Closed, Fine, Given, NoRoom, entry_of}
+use Rattle.fm_base.specs.Machine.{IsPower, IsUnderWayNowhere, reply_to, allocate_reply, entered, left, given_up_to, closing, ended, enter_reply}
 use Rattle.fm_base.specs.Visits.{visit, refused_visit}
 use Rattle.fm_base.specs.View.{Makes, Did, but_loans}
-use Rattle.fm_base.specs.Does.{DoesAllocate, DoesClose, IsClosable}
+use Rattle.fm_base.specs.Does.{DoesAllocate}
 use Rattle.fm_base.proofs.Lookup.{KeepsName, changed_has, lookup_changed, changed_twice, changed_alike, changed_same}
 use Rattle.fm_base.specs.Outcomes.{Gives}
 use Rattle.fm_base.proofs.Making.{Makes-then, Makes-none}

@@ -3,7 +3,7 @@ use Rattle.std.specs.Prelude.{◌≡◌, ℕ, ◌+◌, ◌-◌, ◌*◌, ◌^◌
 use Rattle.fm_base.specs.declared.arena_id.ArenaId.{ArenaId}
 use Rattle.fm_base.specs.declared.refusal.Refusal.{Refusal}
 use Rattle.fm_base.specs.declared.refusal.Refusal.TheVariants as refusal
-use Rattle.fm_base.specs.Arenas.{State, Arena, Alive, Ended, same_id, arena_of, changed}
+use Rattle.fm_base.specs.Arenas.{State, Arena, Alive, Ended, same_id, has_arena, arena_of, changed}
 use Rattle.fm_base.specs.Calls.{Allocate, Given, NoRoom}
 use Rattle.fm_base.specs.Machine.{words_within, reply_to, given_up_to}
 use Rattle.fm_base.specs.View.{View}
@@ -78,6 +78,9 @@ pub record IsSoundMono (limit : ℕ) (inside : Option ArenaId) (os : List MonoAr
   pub there : IsThere inside os
 
 -- ---- what the steps of calls do
+
+abbrev pub IsKnown : Arenas → ArenaId → Type 0
+IsKnown m id = has_arena m.state id ≡ true
 
 -- inside this arena, where the word has a given byte
 pub record IsAt (m : Arenas) (a : ArenaId) (word : ℕ) : Type 0 where

@@ -176,7 +176,7 @@ impl Memory for Mono {
     ghost use Rattle.fm_base.specs.Finds.{is_slot};
     ghost use Rattle.fm_base.specs.View.{Did, IsSound, but_loans};
     ghost use Rattle.fm_base.specs.Does.{DoesOpen};
-    ghost use Rattle.fm_base.specs.Outcomes.{MayCome, FoundNoneFree, IsNew};
+    ghost use Rattle.fm_base.specs.Outcomes.{MayCome, FoundNoneFree, IsNew, Lasts};
     ghost use Rattle.fm_mono.specs.Shown.{view_of, nature_of_mono, most_arenas};
 
     ghost nature = { nature_of_mono };
@@ -241,6 +241,8 @@ impl Memory for Mono {
         requires by_hand { kind ≢ Kind.Automatic }
         ensures did { Did (view_of self.old) (view_of self.new) (λ own. DoesOpen 0 kind result (but_loans own)) }
         ensures is_new { IfOk result (λ id. IsNew (view_of self.old) (view_of self.new) id) }
+        ensures outside { self.new.inside ≡ None }
+        ensures lasts { Lasts (view_of self.old) (view_of self.new) }
         ensures comes { MayCome nature_of_mono result }
         ensures no_slot { result ≡ Err Refusal.NoSlot → FoundNoneFree is_slot None None }
         ensures sound { IsSound (view_of self.new) }

@@ -1,4 +1,4 @@
-use Rattle.std.proofs.Common.{arith, ◌∙◌, ap, sym, ◌≡◌, ◌+◌, ◌-◌, ◌≤◌, ◌<◌, ◌++◌, refl, replicate, take, length, vec_len}
+use Rattle.std.proofs.Common.{arith, ◌∙◌, ap, ◌≡◌, ◌+◌, ◌-◌, ◌≤◌, ◌<◌, ◌++◌, refl, replicate, take, length, vec_len}
 use Rattle.std.proofs.lemmas.Result.{err_from_is_err_and}
 use Rattle.fm_base.specs.Arenas.{State, changed}
 use Rattle.fm_base.specs.Calls.{Given}
@@ -6,7 +6,7 @@ use Rattle.fm_base.specs.Machine.{rounded_up, words_within, given_up_to}
 use Rattle.fm_base.proofs.Growing.{power_pos}
 use Rattle.fm_mono.specs.Shown.{shown_all}
 use Rattle.fm_mono.proofs.Steps.{IsPlaced, placed}
-use Rattle.fm_mono.proofs.Allotting.{IsRead, is_read, no_room, gives_place, grows, unchanged, same_shown, allotted_shown, IsGrown, is_grown}
+use Rattle.fm_mono.proofs.Allotting.{IsRead, is_read, no_room, gives_place, grows, unchanged, same_shown, allotted_shown, is_grown}
 use Rattle.fm_mono.proofs.mono.Mono.allot.Goals as goal
 use Rattle.fm_mono.proofs.mono.Mono.allot.Goals.{After-struct_known-1, After-index_mut-arena}
 

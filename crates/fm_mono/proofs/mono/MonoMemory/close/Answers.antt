@@ -5,6 +5,7 @@ use Rattle.fm_base.specs.Does.{IsClosable}
 use Rattle.fm_base.proofs.Outcomes.{closed_ended}
 use Rattle.fm_mono.specs.Shown.{view_of}
 use Rattle.fm_mono.proofs.Visits.{CanEnter, closes, shut_closed}
+use Rattle.fm_base.proofs.Outcomes.{Did-lasts}
 use Rattle.fm_mono.proofs.mono.MonoMemory.close.Goals as goal
 
 pub returns-then-not-alive-clause-did : goal.returns-then-not-alive-clause-did
@@ -38,3 +39,6 @@ returns-clause-ended g c =
     let alive = s.life ∙ ap (λ (b : Bool). if b then Alive else Ended) c.if-not-alive.false in
     let kind : IsClosable c.args.a.kind = rw c.if-not-is_closable.false at c.is_closable.ensures in
     closed_ended (view_of c.args.self.now) (view_of c.finish.new.self) _ 0 c.args.a Fine (closes c.args.self.now c.finish.new.self c.args.a can kind.0 alive c.finish.ensures.holds c.finish.ensures.after) (inr (inl refl))
+
+pub returns-clause-lasts : goal.returns-clause-lasts
+returns-clause-lasts g c = Did-lasts _ _ _ (returns-clause-did g c)

@@ -1,11 +1,12 @@
 use Rattle.std.proofs.Common.{sym, ap, ◌∙◌, ◌∷◌, [], refl, if◌then◌else◌, Bool}
 use Rattle.fm_base.specs.Arenas.{MayUse, Alive, Ended}
-use Rattle.fm_base.specs.Calls.{Enter, Fine, Closed, entry_of}
+use Rattle.fm_base.specs.Calls.{Enter, Fine, entry_of}
 use Rattle.fm_base.specs.Machine.{enter_reply}
 use Rattle.fm_base.specs.Visits.{refused_visit}
 use Rattle.fm_mono.specs.Shown.{Arenas}
 use Rattle.fm_mono.proofs.Alone.{makes_one}
 use Rattle.fm_mono.proofs.Visits.{enter_closed}
+use Rattle.fm_base.proofs.Outcomes.{Did-lasts}
 use Rattle.fm_mono.proofs.mono.MonoMemory.enter.Goals as goal
 
 pub returns-then-is_alive-clause-did : goal.returns-then-is_alive-clause-did
@@ -31,3 +32,6 @@ returns-else-is_alive-clause-did c =
       does = (may, refl);
       makes = enter_closed c.args.self.now c.args.a (record { outside = c.requires.outside; known = c.requires.known; may = may; nowhere = s.nowhere c.requires.outside; empty = s.empty c.requires.outside }) over;
     }
+
+pub returns-then-is_alive-clause-lasts : goal.returns-then-is_alive-clause-lasts
+returns-then-is_alive-clause-lasts c = Did-lasts _ _ _ (returns-then-is_alive-clause-did c)

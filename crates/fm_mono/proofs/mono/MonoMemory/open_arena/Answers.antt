@@ -1,10 +1,11 @@
-use Rattle.std.proofs.Common.{◌∙◌, ◌∷◌, [], ◌≡◌, ◌<◌, length, true, refl, sym, arith, inl}
+use Rattle.std.proofs.Common.{◌∙◌, ◌∷◌, [], ◌≡◌, length, true, refl, arith, inl}
 use Rattle.fm_base.specs.declared.arena_id.ArenaId.{ArenaId}
 use Rattle.fm_base.specs.Calls.{Open, Fine, entry_of}
 use Rattle.fm_base.proofs.Outcomes.{opened_new}
 use Rattle.fm_mono.specs.declared.arena.MonoArena.{MonoArena}
 use Rattle.fm_mono.specs.Shown.{shown_all, view_of, most_arenas}
 use Rattle.fm_mono.proofs.Opening.{sound_push, length-shown_all, seen_of, opens}
+use Rattle.fm_base.proofs.Outcomes.{Did-lasts}
 use Rattle.fm_mono.proofs.mono.MonoMemory.open_arena.Goals as goal
 use Rattle.fm_mono.proofs.mono.MonoMemory.open_arena.Goals.{In-Ok}
 
@@ -62,3 +63,6 @@ returns-clause-full g c =
     let f = c.self.inside in
     let n = length-shown_all f.limit f.inside f.arenas.items in
     (λ e. absurd (cc), rw (← c.self.view_is) (λ l. absurd (omega (arith, n, c.len-slot.ensures, f.arenas.ok.0, c.if-slot-eq-MOST_ARENAS.false))))
+
+pub returns-clause-lasts : goal.returns-clause-lasts
+returns-clause-lasts g c = Did-lasts _ _ _ (returns-clause-did g c)

@@ -4,6 +4,7 @@ use Rattle.fm_base.specs.Does.{patched}
 use Rattle.fm_base.specs.Visits.{hit}
 use Rattle.fm_mono.specs.Shown.{Arenas}
 use Rattle.fm_mono.proofs.Alone.{makes_one, swaps}
+use Rattle.fm_base.proofs.Outcomes.{Did-lasts}
 use Rattle.fm_mono.proofs.mono.MonoMemory.patch.Goals as goal
 
 pub returns-clause-did : goal.returns-clause-did
@@ -21,3 +22,6 @@ returns-clause-did g c =
           (ap (λ (x : Arenas). x.state) e ∙ swaps m.state a c.args.word found new found refl)
           (ap (λ (x : Arenas). x.inside) e) (ap (λ (x : Arenas). x.limit) e);
     }
+
+pub returns-clause-lasts : goal.returns-clause-lasts
+returns-clause-lasts g c = Did-lasts _ _ _ (returns-clause-did g c)
