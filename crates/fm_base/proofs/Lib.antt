@@ -9,3 +9,4 @@ pub mod Faith
 pub mod Visiting
 pub mod Running
 pub mod Outcomes
+pub mod Alone

@@ -113,3 +113,11 @@ changed_alike (a ∷ s) id f g h =
     let P : Bool → Type 0 = λ b. f (if b then a else arena_of s id) ≡ g (if b then a else arena_of s id) → (if b then f a ∷ s else a ∷ changed s id f) ≡ (if b then g a ∷ s else a ∷ changed s id g) in
     let go : (b : Bool) → P b = λ b. elim b as P [ true ↦ (λ e. ap (λ (x : Arena). x ∷ s) e) | false ↦ (λ e. ap (λ (x : State). a ∷ x) (changed_alike s id f g e)) ] in
     go (same_id a.id id) h
+
+-- an arena that was opened is looked up
+pub arena_of-opened : (s : State) (o : Arena) → has_arena s o.id ≡ false → arena_of (s ++ o ∷ []) o.id ≡ o
+arena_of-opened [] o h = ap (λ b. if b then o else no_arena o.id) (same_id-self o.id)
+arena_of-opened (a ∷ s) o h =
+    let P : Bool → Type 0 = λ b. (if b then true else has_arena s o.id) ≡ false → (if b then a else arena_of (s ++ o ∷ []) o.id) ≡ o in
+    let go : (b : Bool) → P b = λ b. elim b as P [ true ↦ (λ e. absurd (cc)) | false ↦ (λ e. arena_of-opened s o e) ] in
+    go (same_id a.id o.id) h
