@@ -1,11 +1,12 @@
 //! The tool: what its words ask for, how a run ends, and what it prints.
 #![tactic(auto)]
 
-mod loading;
 mod buffers;
 mod ending;
-mod loaded;
+mod held;
 mod kept;
+mod loaded;
+mod loading;
 mod run;
 mod status;
 mod stop;
@@ -13,9 +14,10 @@ mod sum;
 mod summing;
 mod words;
 
-pub use loading::{LoadFault, load};
+pub use held::RECORD_FILE_LIMIT;
 pub use kept::Kept;
-pub use loaded::{Loaded, RECORD_FILE_LIMIT};
+pub use loaded::Loaded;
+pub use loading::{LoadFault, load};
 pub use run::run_tool;
 pub use status::Status;
 pub use words::{Command, SumCommand};
