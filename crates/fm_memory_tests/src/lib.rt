@@ -6,4 +6,10 @@ mod body;
 #[cfg(test)]
 mod braided;
 #[cfg(test)]
+mod ear;
+#[cfg(test)]
+mod heard;
+#[cfg(test)]
+mod telling;
+#[cfg(test)]
 mod tests;
