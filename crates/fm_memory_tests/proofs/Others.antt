@@ -1,23 +1,22 @@
 -- What another caller's visit does, between the calls of caller 0.
-use Rattle.std.proofs.Common.{◌≡◌, ◌≢◌, ℕ, ◌+◌, ◌%◌, ◌^◌, ◌<◌, ◌==◌, Bool, true, false, if◌then◌else◌, cond, List, [], ◌∷◌, ◌++◌, refl, ap, sym, ◌∙◌, subst, arith, Option, Some, None, All, length, not, eqb-true}
-use Rattle.std.specs.Prelude.{Contains, filter, slice_index, Ok}
-use Rattle.std.proofs.lemmas.Bool.Decides.{nat_tests}
+use Rattle.std.proofs.Common.{◌≡◌, ℕ, ◌+◌, ◌%◌, ◌^◌, ◌==◌, Bool, true, false, if◌then◌else◌, cond, List, [], ◌∷◌, ◌++◌, refl, ap, sym, ◌∙◌, subst, arith, Option, Some, None, All, not, eqb-true}
+use Rattle.std.specs.Prelude.{filter, slice_index, Ok}
 use Rattle.std.proofs.lemmas.List.Elements.{All-nil, All-cons, All-head, All-tail, All-contains, All-filter, All-weaker, filter_passes}
 use Rattle.fm_base.specs.declared.arena_id.ArenaId.{ArenaId}
 use Rattle.fm_base.specs.declared.kind.Kind.TheVariants.{Confined}
-use Rattle.fm_base.specs.Arenas.{State, Arena, Life, Alive, Closing, Ended, has_arena, arena_of, changed, word_in, IsUnderWay, MayUse, no_arena}
-use Rattle.fm_base.specs.Calls.{Call, Open, Enter, Read, Write, SwapIf, Add, Allocate, Leave, Hold, Unhold, Shut, End, Lend, Back, Reply, Fine, Closed, Found, Given, Entry, entry_of}
-use Rattle.fm_base.specs.Machine.{IsUnderWayNowhere, reply_to, enter_reply, state_by, after, opened, entered, left, written, given_up_to, held, released, closing, ended}
+use Rattle.fm_base.specs.Arenas.{State, Arena, Life, Alive, Closing, Ended, has_arena, arena_of, changed, IsUnderWay, MayUse}
+use Rattle.fm_base.specs.Calls.{Call, Open, Enter, Read, Write, SwapIf, Add, Allocate, Leave, Hold, Unhold, Shut, End, Lend, Back, Reply, Fine, Found, Given, Entry, entry_of}
+use Rattle.fm_base.specs.Machine.{IsUnderWayNowhere, enter_reply, state_by, after, opened, entered, left, written, given_up_to, held, released, closing, ended}
 use Rattle.fm_base.specs.Histories.{IsLegal, state_after, made_by}
 use Rattle.fm_base.specs.Visits.{Acts, entries_of, visit, Tries, looked, missed, hit}
-use Rattle.fm_base.specs.View.{View, Makes, Did}
+use Rattle.fm_base.specs.View.{Makes, Did}
 use Rattle.fm_base.specs.Does.{CanReach, DoesEnter, DoesAct, DoesPatch, patched}
 use Rattle.fm_base.proofs.Making.{Makes-then}
 use Rattle.fm_base.proofs.Growing.{Makes-grows}
 use Rattle.fm_base.proofs.Faith.{Makes-alone}
 use Rattle.fm_base.proofs.Visiting.{entered_makes, patch_makes}
 use Rattle.fm_base.proofs.Lookup.{KeepsName, changed_lookup, opened_lookup, lookup_changed, changed_has, changed_twice, changed_alike}
-use Rattle.fm_base.proofs.Alone.{only_act, only_one, IsOnly}
+use Rattle.fm_base.proofs.Alone.{only_act, only_one}
 use Rattle.fm_mono.specs.Shown.{Arenas, view_of}
 use Rattle.fm_memory_tests.specs.Braided.{braided_view, IsOnlyZero, IsInAlive, IsBraided}
 

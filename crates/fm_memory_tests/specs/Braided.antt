@@ -1,5 +1,5 @@
 -- What contracts see of a `Braided`: the arenas of a `Mono`, which another caller uses too.
-use Rattle.std.specs.Prelude.{◌≡◌, ◌≤◌, ◌^◌, ℕ, true, false, Some, None, Option, All, List, ⊤}
+use Rattle.std.specs.Prelude.{◌≡◌, ◌≤◌, ◌^◌, true, false, Some, None, Option, All, ⊤}
 use Rattle.fm_base.specs.declared.arena_id.ArenaId.{ArenaId}
 use Rattle.fm_base.specs.Arenas.{State, Alive, has_arena, arena_of}
 use Rattle.fm_base.specs.View.{View}

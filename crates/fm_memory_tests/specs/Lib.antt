@@ -1,1 +1,3 @@
 pub mod Braided
+pub mod Heard
+pub mod Telling

@@ -1,9 +1,17 @@
 //! Two more implementations of `Memory`, for tests alone, and one test body over every implementation.
 #![tactic(auto)]
 
+mod heard;
+
+pub use heard::Heard;
+
 #[cfg(test)]
 mod body;
 #[cfg(test)]
 mod braided;
+#[cfg(test)]
+mod ear;
+#[cfg(test)]
+mod telling;
 #[cfg(test)]
 mod tests;

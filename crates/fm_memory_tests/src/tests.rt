@@ -1,5 +1,6 @@
 use crate::body::{close_an_arena, use_a_word};
 use crate::braided::Braided;
+use crate::telling::Telling;
 use fm_mono::Mono;
 
 #[test]
@@ -13,5 +14,12 @@ fn one_thread(rt: HostRuntime) {
 fn beside_another_caller(rt: HostRuntime) {
     let mut m = Braided::new(Mono::make(rt.alloc(), 64));
     use_a_word(&rt, &mut m, 1);
+    close_an_arena(&rt, &mut m);
+}
+
+#[test]
+fn with_a_history_that_is_told(rt: HostRuntime) {
+    let mut m = Telling::new(&rt, rt.alloc(), Mono::make(rt.alloc(), 64));
+    use_a_word(&rt, &mut m, 0);
     close_an_arena(&rt, &mut m);
 }

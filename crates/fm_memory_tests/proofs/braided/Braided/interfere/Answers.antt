@@ -1,4 +1,4 @@
-use Rattle.std.proofs.Common.{◌∙◌, ◌≡◌, Some, true, tests}
+use Rattle.std.proofs.Common.{◌∙◌, ◌≡◌, Some}
 use Rattle.fm_base.specs.declared.kind.Kind.TheVariants.{Confined}
 use Rattle.fm_memory_tests.proofs.Others.{other_added, braided_act}
 use Rattle.fm_memory_tests.proofs.braided.Braided.interfere.Goals as goal

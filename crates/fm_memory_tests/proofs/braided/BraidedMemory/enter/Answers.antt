@@ -1,4 +1,4 @@
-use Rattle.fm_memory_tests.proofs.Others.{braided_in, braided_outside}
+use Rattle.fm_memory_tests.proofs.Others.{braided_in}
 use Rattle.fm_memory_tests.proofs.braided.BraidedMemory.enter.Goals as goal
 
 pub invariant_of-self : goal.invariant_of-self

@@ -1,4 +1,3 @@
-use Rattle.std.proofs.Common.{◌∙◌}
 use Rattle.fm_base.specs.Calls.{Read, Found}
 use Rattle.fm_base.specs.Does.{DoesAct}
 use Rattle.fm_base.proofs.Outcomes.{Did-lasts}

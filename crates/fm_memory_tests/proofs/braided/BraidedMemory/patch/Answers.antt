@@ -1,5 +1,3 @@
-use Rattle.std.proofs.Common.{◌∙◌}
-use Rattle.fm_base.specs.Calls.{Read}
 use Rattle.fm_base.specs.Does.{DoesPatch}
 use Rattle.fm_base.proofs.Outcomes.{Did-lasts}
 use Rattle.fm_memory_tests.proofs.Others.{reach_still, did_after, braided_act, alive_patch}
