@@ -1,0 +1,4 @@
+pub mod Lanes
+pub mod Meaning
+pub mod Reading
+pub mod Turning

@@ -1,0 +1,5 @@
+pub mod Names
+pub mod Sound
+pub mod Powers
+pub mod Deep
+pub mod Nodes

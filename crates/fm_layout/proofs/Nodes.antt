@@ -1,0 +1,27 @@
+-- The tree of a node with another label.
+use Rattle.std.proofs.Common.{◌≡◌, ℕ, ◌≤◌, true, refl, sym, subst}
+use Rattle.std.specs.Int.{is_power_of_two}
+use Rattle.fm_layout.specs.Tree.{Label, relabelled}
+use Rattle.fm_layout.specs.Size.{least_of}
+use Rattle.fm_layout.specs.WellFormed.{limit, IsSound}
+use Rattle.fm_layout.specs.Parts.{IsPadding}
+use Rattle.fm_layout.specs.Views.{tree_of}
+use Rattle.fm_layout.specs.declared.layout.Node.{Node}
+use Rattle.fm_layout.specs.declared.layout.Node.TheVariants as node
+use Rattle.fm_layout.proofs.Powers.{IsPowerOfTwo-from_test}
+use Rattle.fm_layout.proofs.Sound.{realigned_sound}
+
+-- The label is all that changes.
+tree_of-relabelled : (size : ℕ) (l m : Label) (n : Node) → tree_of size l n ≡ relabelled l (tree_of size m n)
+tree_of-relabelled size l m (node.Value k o) = refl
+tree_of-relabelled size l m node.Padding = refl
+tree_of-relabelled size l m (node.Sequence n e) = refl
+tree_of-relabelled size l m (node.Struct ms) = refl
+tree_of-relabelled size l m (node.Union ms) = refl
+
+-- A layout that isn't padding, with another alignment that it may have.
+pub realigned_node : (size n : ℕ) (l m : Label) (inside : Node) → IsSound size (tree_of size m inside) → ¬ (IsPadding (tree_of size m inside))
+    → l.alignment ≡ n → is_power_of_two n ≡ true → n ≤ limit → least_of (tree_of size m inside) ≤ n → IsSound size (tree_of size l inside)
+realigned_node size n l m inside s other e p h least =
+    subst (IsSound size) (sym (tree_of-relabelled size l m inside))
+    (realigned_sound size n l (tree_of size m inside) s other e (IsPowerOfTwo-from_test n p) h least)

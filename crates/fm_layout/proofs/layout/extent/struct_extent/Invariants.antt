@@ -1,0 +1,7 @@
+use Rattle.std.proofs.Common.{drop}
+use Rattle.fm_layout.specs.Extent.{IsLaying}
+use Rattle.fm_layout.specs.Views.{trees}
+use Rattle.fm_layout.proofs.layout.extent.struct_extent.Given as goal
+
+abbrev pub invariant-loop-i : goal.invariant-loop-i
+invariant-loop-i l = IsLaying l.i l.size l.alignment (trees l.members) (trees (drop l.i l.members))

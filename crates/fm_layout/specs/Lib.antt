@@ -1,0 +1,11 @@
+pub mod Codes
+pub mod Depth
+pub mod Extent
+pub mod Falls
+pub mod Made
+pub mod Name
+pub mod Parts
+pub mod Size
+pub mod Tree
+pub mod Views
+pub mod WellFormed
