@@ -7,7 +7,7 @@ use Rattle.std.proofs.lemmas.List.{append_assoc, append-nil, length-append}
 use Rattle.std.proofs.lemmas.Fmt.{decimal_by_steps}
 use Rattle.fm_steps.specs.declared.step.PathStep.{PathStep}
 use Rattle.fm_steps.specs.declared.step.PathStep.TheVariants.{Name, Group, At, Each, EachFrom}
-use Rattle.fm_steps.specs.Name.{is_letter, is_digit, AreNameBytes}
+use Rattle.fm_layout.specs.Name.{is_letter, is_digit, IsNameEnd}
 use Rattle.fm_steps.specs.Grammar.{piece_of, pieces_of, path_text, most_number, HasPiece, IsPath, Begins}
 use Rattle.fm_steps.specs.Reader.{sign_of, longer_number, spells, next, Spot, spot, moved, onward, run, start, whole}
 use Rattle.fm_steps.specs.declared.part.Part.{Part}
@@ -53,7 +53,7 @@ name_step ds w c h lt = go (is_letter c) refl
         ∙ spelled ds w (48 + d.0) lt
         ∙ ap (λ x. Some (spot ds (Word (w ++ x ∷ [])))) (sym d.2)
 
-run_name : (ds : List PathStep) (cs w : List ℕ) → AreNameBytes cs → length w + length cs ≤ 64 → run cs (Some (spot ds (Word w))) ≡ Some (spot ds (Word (w ++ cs)))
+run_name : (ds : List PathStep) (cs w : List ℕ) → IsNameEnd cs → length w + length cs ≤ 64 → run cs (Some (spot ds (Word w))) ≡ Some (spot ds (Word (w ++ cs)))
 run_name ds [] w n le = ap (λ x. Some (spot ds (Word x))) (sym (append-nil w))
 run_name ds (c ∷ cs) w n le =
     ap (run cs) (name_step ds w c n.0 (omega arith)) ∙ run_name ds cs (w ++ c ∷ []) n.1 (omega (arith, length-append w (c ∷ []))) ∙ ap (λ x. Some (spot ds (Word x))) (append_assoc w (c ∷ []) cs)

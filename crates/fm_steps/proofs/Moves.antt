@@ -8,7 +8,7 @@ use Rattle.std.proofs.lemmas.Fmt.{decimal_step, decimal_digit}
 use Rattle.fm_steps.specs.declared.step.PathStep.{PathStep}
 use Rattle.fm_steps.specs.declared.step.PathStep.TheVariants.{Name, Group}
 use Rattle.fm_steps.proofs.Names.{name_more}
-use Rattle.fm_steps.specs.Name.{is_letter, is_digit, IsName}
+use Rattle.fm_layout.specs.Name.{is_letter, is_digit, IsName}
 use Rattle.fm_steps.specs.Grammar.{piece_of, most_number, HasPiece, magnitude}
 use Rattle.fm_steps.specs.Reader.{sign_of, longer_number, counts, closes, opens, spells, next}
 use Rattle.fm_steps.specs.declared.part.Part.{Part}

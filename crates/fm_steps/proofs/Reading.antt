@@ -7,7 +7,7 @@ use Rattle.std.proofs.lemmas.List.{append_assoc, append-nil, length-append}
 use Rattle.std.proofs.lemmas.Fmt.{decimal_digit}
 use Rattle.fm_steps.specs.declared.step.PathStep.{PathStep}
 use Rattle.fm_steps.specs.declared.step.PathStep.TheVariants.{Name, Group, At, Each, EachFrom}
-use Rattle.fm_steps.specs.Name.{is_letter, is_digit}
+use Rattle.fm_layout.specs.Name.{is_letter, is_digit}
 use Rattle.fm_steps.specs.Grammar.{piece_of, pieces_of, path_text, HasPiece, IsPath, Begins}
 use Rattle.fm_steps.specs.Reader.{sign_of, closes, opens, next, Spot, spot, moved, onward, run, whole}
 use Rattle.fm_steps.specs.declared.part.Part.{Part}

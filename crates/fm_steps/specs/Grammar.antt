@@ -7,7 +7,7 @@ use Rattle.fm_base.specs.declared.refusal.Refusal.{Refusal}
 use Rattle.fm_base.specs.declared.refusal.Refusal.TheVariants.{BadQuery, Memory}
 use Rattle.fm_steps.specs.declared.step.PathStep.{PathStep}
 use Rattle.fm_steps.specs.declared.step.PathStep.TheVariants.{Name, Group, At, Each, EachFrom}
-use Rattle.fm_steps.specs.Name.{IsName}
+use Rattle.fm_layout.specs.Name.{IsName}
 
 -- the greatest number of a path's text, and the most pieces
 abbrev pub most_number : ℕ

@@ -8,7 +8,7 @@ use Rattle.fm_steps.specs.declared.sign.Sign.{Sign}
 use Rattle.fm_steps.specs.declared.sign.Sign.TheVariants as sign
 use Rattle.fm_steps.specs.declared.part.Move.{Move}
 use Rattle.fm_steps.specs.declared.part.Move.TheVariants.{Dead, Stay, Finish}
-use Rattle.fm_steps.specs.Name.{is_letter, is_digit}
+use Rattle.fm_layout.specs.Name.{is_letter, is_digit}
 use Rattle.fm_steps.specs.Grammar.{most_number, most_pieces}
 
 -- what a byte is to a path: . # [ ] : - a digit, a letter, or another byte

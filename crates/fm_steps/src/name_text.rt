@@ -1,7 +1,7 @@
 ghost use Rattle.std.specs.Prelude.{◌≡◌, ◌<◌, ◌≤◌, ◌++◌, ◌∷◌, ◌||◌, [], length, IsTrue, IsSome, IfSome, ◌↔◌};
-ghost use Rattle.fm_steps.specs.Name.{IsName, is_letter, is_digit};
+ghost use Rattle.fm_layout.specs.Name.{IsName, is_letter, is_digit};
 
-use crate::sign::Sign;
+use fm_layout::is_name;
 use std::marker::Model;
 
 /// A name of a layout, seen as its bytes: 1 to 64 ASCII letters, digits and `_`, no digit first.
@@ -13,7 +13,7 @@ pub struct NameText {
 
 impl Model for NameText {
     ghost use Rattle.std.specs.Prelude.{◌≤◌, List, ℕ, take};
-    ghost use Rattle.fm_steps.specs.Name.{IsName};
+    ghost use Rattle.fm_layout.specs.Name.{IsName};
 
     ghost Value = { List ℕ };
 
@@ -28,18 +28,15 @@ impl NameText {
         ensures name { IfSome result (λ name. name ≡ text.now) }
         ensures some { IsSome result ↔ IsName text.now }
     {
-        let (first, others) = text.as_bytes().split_first()?;
-        let Sign::Letter(letter) = Sign::of(*first) else {
+        if !is_name(text) {
             return None;
-        };
-        let mut name = NameText::of_letter(letter);
-        for byte in others {
-            if name.len() == 64 || !is_name_byte(*byte) {
-                return None;
-            }
-            name.push(*byte);
         }
-        Some(name)
+        let mut bytes = [0; 64];
+        bytes[..text.len()].copy_from_slice(text.as_bytes());
+        Some(NameText {
+            bytes,
+            len: text.len(),
+        })
     }
 
     /// The name of this one letter.
@@ -77,11 +74,4 @@ impl NameText {
     {
         &self.bytes[..self.len]
     }
-}
-
-/// Whether a byte may stand in a name, but for its first place.
-fn is_name_byte(byte: u8) -> bool
-    ensures { result ≡ (is_letter byte || is_digit byte) }
-{
-    matches!(Sign::of(byte), Sign::Letter(_) | Sign::Digit(_))
 }

@@ -1,5 +1,5 @@
 ghost use Rattle.std.specs.Prelude.{◌≡◌, ℕ, ◌<◌, ◌≤◌, ◌++◌, ◌∷◌, ◌||◌, [], pos, neg_ℤ, IfOk, IfErr, IsTrue, length};
-ghost use Rattle.fm_steps.specs.Name.{is_letter, is_digit};
+ghost use Rattle.fm_layout.specs.Name.{is_letter, is_digit};
 ghost use Rattle.fm_steps.specs.Grammar.{most_number, most_pieces};
 ghost use Rattle.fm_steps.specs.Reader.{longer_number, next, opens, closes, spells, IsSound, IsBounded, whole, Holds};
 

@@ -1,0 +1,7 @@
+pub mod Agreeing
+pub mod Bounds
+pub mod Fitting
+pub mod Inside
+pub mod Listed
+pub mod Members
+pub mod Walking
