@@ -51,7 +51,7 @@ fn take_name<'a>(layout: &'a Layout, k: u64, name: &NameText) -> Result<Move<'a>
     if member_count(layout).is_none() {
         return Err(Refusal::NotGroup(k));
     }
-    match index_of(layout, name) {
+    match index_of(layout, name.as_bytes()) {
         Some(n) => take_group(layout, k, n),
         None => Err(Refusal::NoMember(k)),
     }
@@ -136,7 +136,7 @@ fn row(layout: &Layout, k: u64) -> Result<(u64, &Layout), Refusal>
 }
 
 /// The index of the first member of this name, from 0.
-fn index_of(layout: &Layout, name: &NameText) -> Option<u64>
+pub fn index_of(layout: &Layout, name: &[u8]) -> Option<u64>
     ensures { result ≡ index_in name.now (members_of layout.now) }
 {
     let count = member_count(layout)?;
@@ -163,11 +163,11 @@ fn member_count(layout: &Layout) -> Option<u64>
     }
 }
 
-fn is_named(layout: &Layout, name: &NameText) -> bool
+fn is_named(layout: &Layout, name: &[u8]) -> bool
     ensures { result ≡ is_name_of (name_of layout.now) name.now }
 {
     match layout.name() {
-        Some(own) => own.as_bytes() == name.as_bytes(),
+        Some(own) => own.as_bytes() == name,
         None => false,
     }
 }

@@ -58,26 +58,26 @@ offset_none (Sequence c x l) = refl
 offset_none (Union ms l) = refl
 
 -- the members from index n on
-abbrev skip : ℕ → Trees → Trees
+abbrev pub skip : ℕ → Trees → Trees
 skip n NoMore = NoMore
 skip zero (More t ts) = More t ts
 skip (suc n) (More t ts) = skip n ts
 
-skip_none : (ms : Trees) → skip 0 ms ≡ ms
+pub skip_none : (ms : Trees) → skip 0 ms ≡ ms
 skip_none NoMore = refl
 skip_none (More t ts) = refl
 
-skip_more : (i : ℕ) (ms : Trees) (u : Tree) → tree_at i ms ≡ Some u → skip i ms ≡ More u (skip (suc i) ms)
+pub skip_more : (i : ℕ) (ms : Trees) (u : Tree) → tree_at i ms ≡ Some u → skip i ms ≡ More u (skip (suc i) ms)
 skip_more i NoMore u e = absurd (cc)
 skip_more zero (More t ts) u e = let is : t ≡ u = cc in ap (λ x. More x ts) is ∙ ap (More u) (sym (skip_none ts))
 skip_more (suc i) (More t ts) u e = skip_more i ts u e
 
-skip_past : (i : ℕ) (ms : Trees) → tree_at i ms ≡ None → skip i ms ≡ NoMore
+pub skip_past : (i : ℕ) (ms : Trees) → tree_at i ms ≡ None → skip i ms ≡ NoMore
 skip_past i NoMore e = refl
 skip_past zero (More t ts) e = absurd (cc)
 skip_past (suc i) (More t ts) e = skip_past i ts e
 
-skip_all : (i : ℕ) (ms : Trees) → count_of ms ≤ i → skip i ms ≡ NoMore
+pub skip_all : (i : ℕ) (ms : Trees) → count_of ms ≤ i → skip i ms ≡ NoMore
 skip_all i NoMore le = refl
 skip_all zero (More t ts) le = absurd (omega arith)
 skip_all (suc i) (More t ts) le = skip_all i ts (omega arith)

@@ -23,7 +23,7 @@ pub record HasRead (text : List ℕ) (s : Spot) : Type 0 where
   pub each : AllByRecursion HasPiece s.done
   pub live : IsLive (length s.done) s.part
 
-pieces_snoc : (ds : List PathStep) (p : PathStep) → pieces_of (ds ++ p ∷ []) ≡ pieces_of ds ++ piece_of p
+pub pieces_snoc : (ds : List PathStep) (p : PathStep) → pieces_of (ds ++ p ∷ []) ≡ pieces_of ds ++ piece_of p
 pieces_snoc [] p = append-nil (piece_of p)
 pieces_snoc (d ∷ ds) p = ap (λ xs. piece_of d ++ xs) (pieces_snoc ds p) ∙ sym (append_assoc (piece_of d) (pieces_of ds) (piece_of p))
 
