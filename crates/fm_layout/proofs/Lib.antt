@@ -3,3 +3,4 @@ pub mod Sound
 pub mod Powers
 pub mod Deep
 pub mod Nodes
+pub mod Whole

@@ -15,7 +15,9 @@ use Rattle.fm_lanes.specs.declared.value_kind.ValueKind.{ValueKind}
 use Rattle.fm_lanes.specs.declared.value_kind.ValueKind.TheVariants.{Byte, Boolean, Char, Short, Int, Long}
 use Rattle.fm_layout.specs.Tree.{Tree, Trees, Value, Padding, Sequence, Struct, Union, NoMore, More, Label, alignment_of, relabelled}
 use Rattle.fm_layout.specs.Size.{size_of, greatest_alignment, least_of}
-use Rattle.fm_layout.specs.WellFormed.{limit, IsFit, IsSound, IsWellFormed}
+use Rattle.fm_layout.specs.WellFormed.{limit, IsFit, IsWellFormed}
+use Rattle.fm_layout.specs.Named.{HasNames, IsNameIfAny}
+use Rattle.fm_layout.specs.Sound.{IsSound}
 use Rattle.fm_layout.specs.Parts.{count_of, tree_at, IsPadding}
 use Rattle.fm_layout.specs.Made.{plain, fault_of, struct_of}
 use Rattle.fm_layout.specs.Extent.{IsStructExtent, IsUnionExtent, IsLaying, IsStacking}
@@ -88,6 +90,7 @@ value_sound k n e =
     record {
       size = e;
       well_formed = record { power = (p.0, e ∙ p.1); least = omega arith; greatest = omega arith; size = omega arith };
+      named = tt;
     }
 
 -- Padding.
@@ -95,12 +98,13 @@ pub padding_sound : (n : ℕ) → 1 ≤ n → n ≤ limit → IsSound n (Padding
 padding_sound n some small = record {
   size = refl;
   well_formed = (record { power = (0, refl); least = omega arith; greatest = omega arith; size = small }, refl, some);
+  named = tt;
 }
 
 -- A sequence.
-pub sequence_sound : (count n a : ℕ) (e : Tree) → IsWellFormed e → n ≡ count * size_of e → a ≡ alignment_of e → size_of e % a ≡ 0 → n ≤ limit
+pub sequence_sound : (count n a : ℕ) (e : Tree) → IsWellFormed e → HasNames e → n ≡ count * size_of e → a ≡ alignment_of e → size_of e % a ≡ 0 → n ≤ limit
     → IsSound n (Sequence count e (plain a))
-sequence_sound count n a e w en ea even small =
+sequence_sound count n a e w named en ea even small =
     let f = fit_of e w in
     record {
       size = en;
@@ -109,6 +113,7 @@ sequence_sound count n a e w en ea even small =
         ap (λ m. size_of e % m) (sym ea) ∙ even,
         w,
       );
+      named = (tt, named);
     }
 
 -- ---- structs
@@ -132,10 +137,11 @@ laying_start ts = record {
   small = omega arith;
   below = omega arith;
   laid_out = λ r. r;
+  named = λ r. r;
 }
 
-laying_step : (i at a : ℕ) (ts rest : Trees) (t : Tree) → IsLaying i at a ts (More t rest) → IsWellFormed t → at % alignment_of t ≡ 0 → at + size_of t ≤ limit → IsLaying (i + 1) (at + size_of t) (max a (alignment_of t)) ts rest
-laying_step i at a ts rest t l w h g =
+laying_step : (i at a : ℕ) (ts rest : Trees) (t : Tree) → IsLaying i at a ts (More t rest) → IsWellFormed t → HasNames t → at % alignment_of t ≡ 0 → at + size_of t ≤ limit → IsLaying (i + 1) (at + size_of t) (max a (alignment_of t)) ts rest
+laying_step i at a ts rest t l w named h g =
     let f = fit_of t w in
     record {
       fault = sym (fault_of-more i at t rest h g) ∙ l.fault;
@@ -145,13 +151,14 @@ laying_step i at a ts rest t l w h g =
       small = g;
       below = omega (arith, l.below, f.greatest);
       laid_out = λ r. l.laid_out (h, w, r);
+      named = λ r. l.named (named, r);
     }
 
 -- One member more that keeps the rule.
-pub laying_more : (i at a n b m : ℕ) (ts : List Tree) (t : Tree) → IsLaying i at a (trees ts) (trees (drop i ts)) → i < length ts → t ≡ get_or ts i t → n ≡ size_of t → b ≡ alignment_of t → IsWellFormed t → at % b ≡ 0 → at + n ≤ limit → m ≡ max a b → IsLaying (i + 1) (at + n) m (trees ts) (trees (drop (i + 1) ts))
-laying_more i at a n b m ts t l lt is en eb w h g em =
+pub laying_more : (i at a n b m : ℕ) (ts : List Tree) (t : Tree) → IsLaying i at a (trees ts) (trees (drop i ts)) → i < length ts → t ≡ get_or ts i t → n ≡ size_of t → b ≡ alignment_of t → IsWellFormed t → HasNames t → at % b ≡ 0 → at + n ≤ limit → m ≡ max a b → IsLaying (i + 1) (at + n) m (trees ts) (trees (drop (i + 1) ts))
+laying_more i at a n b m ts t l lt is en eb w named h g em =
     let l' = subst (λ r. IsLaying i at a (trees ts) (trees r)) (drop_more ts i t lt ∙ ap (λ x. x ∷ drop (i + 1) ts) (sym is)) l in
-    rw (em, en, eb) (laying_step i at a (trees ts) (trees (drop (i + 1) ts)) t l' w (rw (← eb) h) (rw (← en) g))
+    rw (em, en, eb) (laying_step i at a (trees ts) (trees (drop (i + 1) ts)) t l' w named (rw (← eb) h) (rw (← en) g))
 
 -- Past the last member.
 pub laying_end : (i at a : ℕ) (ts : List Tree) → IsLaying i at a (trees ts) (trees (drop i ts)) → length ts ≤ i → IsStructExtent at a (trees ts)
@@ -165,6 +172,7 @@ laying_end i at a ts l le =
       small = l'.small;
       below = l'.below;
       laid_out = l'.laid_out tt;
+      named = l'.named tt;
       none = sym l'.fault;
     }
 
@@ -173,6 +181,7 @@ pub struct_sound : (n a : ℕ) (ts : Trees) → IsStructExtent n a ts → IsSoun
 struct_sound n a ts e = record {
   size = e.size;
   well_formed = (record { power = e.power; least = omega (arith, e.greatest); greatest = e.below; size = omega (arith, e.size, e.small) }, e.laid_out);
+  named = (tt, e.named);
 }
 
 -- What making a struct of such members answers.
@@ -190,11 +199,12 @@ stacking_start ts = record {
   small = omega arith;
   below = omega arith;
   well_formed = λ r. r;
+  named = λ r. r;
 }
 
 -- One member more.
-pub stacking_more : (i n a m b : ℕ) (ts : List Tree) (t : Tree) → IsStacking n a (trees ts) (trees (drop i ts)) → i < length ts → t ≡ get_or ts i t → IsWellFormed t → m ≡ max (size_of t) n → b ≡ max (alignment_of t) a → IsStacking m b (trees ts) (trees (drop (i + 1) ts))
-stacking_more i n a m b ts t s lt is w em eb =
+pub stacking_more : (i n a m b : ℕ) (ts : List Tree) (t : Tree) → IsStacking n a (trees ts) (trees (drop i ts)) → i < length ts → t ≡ get_or ts i t → IsWellFormed t → HasNames t → m ≡ max (size_of t) n → b ≡ max (alignment_of t) a → IsStacking m b (trees ts) (trees (drop (i + 1) ts))
+stacking_more i n a m b ts t s lt is w named em eb =
     let s' = subst (λ r. IsStacking n a (trees ts) (trees r)) (drop_more ts i t lt ∙ ap (λ x. x ∷ drop (i + 1) ts) (sym is)) s in
     let f = fit_of t w in
     record {
@@ -204,6 +214,7 @@ stacking_more i n a m b ts t s lt is w em eb =
       small = omega (arith, s'.small, f.size, em);
       below = omega (arith, s'.below, f.greatest, eb);
       well_formed = λ r. s'.well_formed (w, r);
+      named = λ r. s'.named (named, r);
     }
 
 -- Past the last member.
@@ -217,6 +228,7 @@ stacking_end i n a ts s le =
       small = s'.small;
       below = s'.below;
       well_formed = s'.well_formed tt;
+      named = s'.named tt;
     }
 
 -- A union of these members.
@@ -224,6 +236,7 @@ pub union_sound : (n a : ℕ) (ts : Trees) → IsUnionExtent n a ts → IsSound 
 union_sound n a ts e = record {
   size = e.size;
   well_formed = (record { power = e.power; least = omega (arith, e.greatest); greatest = e.below; size = omega (arith, e.size, e.small) }, e.well_formed);
+  named = (tt, e.named);
 }
 
 -- ---- the greatest alignment alone
@@ -244,16 +257,16 @@ greatest_end i a ts some e le =
 -- ---- another alignment
 
 -- A layout that isn't padding, with another alignment that it may have.
-pub realigned_sound : (kept n : ℕ) (l : Label) (t : Tree) → IsSound kept t → ¬ (IsPadding t) → l.alignment ≡ n → IsPowerOfTwo n → n ≤ limit → least_of t ≤ n → IsSound kept (relabelled l t)
-realigned_sound kept n l (Value k o m) s other e p h least =
-    record { size = s.size; well_formed = record { power = (p.0, e ∙ p.1); least = omega arith; greatest = omega arith; size = s.well_formed.size } }
-realigned_sound kept n l (Padding k m) s other e p h least = absurd (other tt)
-realigned_sound kept n l (Sequence k u m) s other e p h least =
-    record { size = s.size; well_formed = (record { power = (p.0, e ∙ p.1); least = omega arith; greatest = omega arith; size = s.well_formed.0.size }, s.well_formed.1, s.well_formed.2) }
-realigned_sound kept n l (Struct ms m) s other e p h least =
-    record { size = s.size; well_formed = (record { power = (p.0, e ∙ p.1); least = omega arith; greatest = omega arith; size = s.well_formed.0.size }, s.well_formed.1) }
-realigned_sound kept n l (Union ms m) s other e p h least =
-    record { size = s.size; well_formed = (record { power = (p.0, e ∙ p.1); least = omega arith; greatest = omega arith; size = s.well_formed.0.size }, s.well_formed.1) }
+pub realigned_sound : (kept n : ℕ) (l : Label) (t : Tree) → IsSound kept t → ¬ (IsPadding t) → l.alignment ≡ n → IsNameIfAny l.name → IsPowerOfTwo n → n ≤ limit → least_of t ≤ n → IsSound kept (relabelled l t)
+realigned_sound kept n l (Value k o m) s other e name p h least =
+    record { size = s.size; well_formed = record { power = (p.0, e ∙ p.1); least = omega arith; greatest = omega arith; size = s.well_formed.size }; named = name }
+realigned_sound kept n l (Padding k m) s other e name p h least = absurd (other tt)
+realigned_sound kept n l (Sequence k u m) s other e name p h least =
+    record { size = s.size; well_formed = (record { power = (p.0, e ∙ p.1); least = omega arith; greatest = omega arith; size = s.well_formed.0.size }, s.well_formed.1, s.well_formed.2); named = (name, s.named.1) }
+realigned_sound kept n l (Struct ms m) s other e name p h least =
+    record { size = s.size; well_formed = (record { power = (p.0, e ∙ p.1); least = omega arith; greatest = omega arith; size = s.well_formed.0.size }, s.well_formed.1); named = (name, s.named.1) }
+realigned_sound kept n l (Union ms m) s other e name p h least =
+    record { size = s.size; well_formed = (record { power = (p.0, e ∙ p.1); least = omega arith; greatest = omega arith; size = s.well_formed.0.size }, s.well_formed.1); named = (name, s.named.1) }
 
 -- ---- members by their index
 

@@ -1,6 +1,6 @@
 -- A code for trees, by which proofs tell them apart: a tree is stored as a list of tokens, its parts first, and read back by a stack.
 use Rattle.std.specs.Prelude.{◌≡◌, ◌⊎◌, refl, ℕ, Option, None, List, [], ◌∷◌, ◌++◌}
-use Rattle.std.proofs.Common.{zero, suc, ap, ◌∙◌}
+use Rattle.std.proofs.Common.{zero, suc, sym, ap, ◌∙◌}
 use mathlib.Core.Logic.{inl, inr}
 use Rattle.std.specs.Coded.{Coded, code_by, coded×, coded_ℕ, coded_list, coded_option}
 use Rattle.fm_lanes.specs.declared.order.Order.{Order}
@@ -37,7 +37,7 @@ abbrev coded_label : Coded Label
 coded_label = code_by (ℕ × Option (List ℕ)) (coded× coded_ℕ (coded_option (coded_list coded_ℕ))) (λ l. (l.alignment, l.name)) (λ p. record { alignment = p.0; name = p.1 }) (λ _. refl)
 
 -- a token: what it makes, its number, its label
-abbrev Token : Type 0
+abbrev pub Token : Type 0
 Token = ℕ × (ℕ × Label)
 
 abbrev unlabelled : Label
@@ -49,7 +49,7 @@ token_of_order Little = 0
 token_of_order Big = 1
 
 abbrev mutual
-  tokens : Tree → List Token
+  pub tokens : Tree → List Token
   tokens (Value k o l) = (token_of_order o, (number_of_kind k, l)) ∷ []
   tokens (Padding n l) = (2, (n, l)) ∷ []
   tokens (Sequence n e l) = tokens e ++ ((3, (n, l)) ∷ [])
@@ -101,8 +101,13 @@ mutual
       ∙ (pushes-append (tokens t) ((7, (0, unlabelled)) ∷ []) (inr ts ∷ stack)
       ∙ ap (λ s. push 7 0 unlabelled s) (reads t (inr ts ∷ stack))))
 
+-- The tokens give the tree back.
 pub tree_again : (t : Tree) → top (pushes (tokens t) []) ≡ t
 tree_again t = ap top (reads t [])
+
+-- Trees of the same tokens are the same.
+pub same_from_tokens : (t u : Tree) → tokens t ≡ tokens u → t ≡ u
+same_from_tokens t u e = sym (tree_again t) ∙ ap (λ ts. top (pushes ts [])) e ∙ tree_again u
 
 abbrev pub tree_code : Coded Tree
 tree_code = code_by (List Token) (coded_list (coded× coded_ℕ (coded× coded_ℕ coded_label))) tokens (λ ts. top (pushes ts [])) tree_again

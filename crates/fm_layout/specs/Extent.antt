@@ -5,6 +5,7 @@ use Rattle.fm_layout.specs.Tree.{Trees}
 use Rattle.fm_layout.specs.Size.{sum_of, greatest_of, greatest_alignment}
 use Rattle.fm_layout.specs.WellFormed.{limit, AreLaidOut, AreWellFormed}
 use Rattle.fm_layout.specs.Made.{fault_of}
+use Rattle.fm_layout.specs.Named.{HaveNames}
 
 -- the size and the alignment of a struct of members that keep the rule
 pub record IsStructExtent (bytes alignment : ℕ) (ts : Trees) : Type 0 where
@@ -14,6 +15,7 @@ pub record IsStructExtent (bytes alignment : ℕ) (ts : Trees) : Type 0 where
   pub small : bytes ≤ limit
   pub below : alignment ≤ limit
   pub laid_out : AreLaidOut 0 ts
+  pub named : HaveNames ts
   pub none : fault_of 0 0 ts ≡ None
 
 -- the size and the alignment of a union of these members
@@ -24,6 +26,7 @@ pub record IsUnionExtent (bytes alignment : ℕ) (ts : Trees) : Type 0 where
   pub small : bytes ≤ limit
   pub below : alignment ≤ limit
   pub well_formed : AreWellFormed ts
+  pub named : HaveNames ts
 
 -- what is known on the way through the members of a struct, at member index
 pub record IsLaying (index at alignment : ℕ) (ts rest : Trees) : Type 0 where
@@ -34,6 +37,7 @@ pub record IsLaying (index at alignment : ℕ) (ts rest : Trees) : Type 0 where
   pub small : at ≤ limit
   pub below : alignment ≤ limit
   pub laid_out : AreLaidOut at rest → AreLaidOut 0 ts
+  pub named : HaveNames rest → HaveNames ts
 
 -- what is known on the way through the members of a union
 pub record IsStacking (bytes alignment : ℕ) (ts rest : Trees) : Type 0 where
@@ -43,3 +47,4 @@ pub record IsStacking (bytes alignment : ℕ) (ts rest : Trees) : Type 0 where
   pub small : bytes ≤ limit
   pub below : alignment ≤ limit
   pub well_formed : AreWellFormed rest → AreWellFormed ts
+  pub named : HaveNames rest → HaveNames ts

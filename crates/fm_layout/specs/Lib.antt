@@ -1,11 +1,15 @@
+pub mod Alike
 pub mod Codes
 pub mod Depth
 pub mod Extent
 pub mod Falls
 pub mod Made
 pub mod Name
+pub mod Named
 pub mod Parts
+pub mod Same
 pub mod Size
+pub mod Sound
 pub mod Tree
 pub mod Views
 pub mod WellFormed

@@ -1,7 +1,8 @@
 -- What a layout is, and what stands directly in it.
-use Rattle.std.specs.Prelude.{ℕ, ◌+◌, Option, Some, None}
+use Rattle.std.specs.Prelude.{◌≡◌, ℕ, ◌+◌, Option, Some, None, List, [], ◌∷◌}
 use Rattle.std.proofs.Common.{zero, suc}
-use Rattle.fm_layout.specs.Tree.{Tree, Trees, Value, Padding, Sequence, Struct, Union, NoMore, More}
+use Rattle.fm_layout.specs.Tree.{Tree, Trees, Value, Padding, Sequence, Struct, Union, NoMore, More, label_of}
+use Rattle.fm_layout.specs.Size.{size_of}
 use Rattle.fm_layout.specs.declared.form.Form.{Form}
 use Rattle.fm_layout.specs.declared.form.Form.TheVariants as form
 
@@ -33,6 +34,17 @@ abbrev pub element_of : Tree → Option Tree
 element_of (Sequence n e l) = Some e
 element_of t = None
 
+abbrev pub list_of : Trees → List Tree
+list_of NoMore = []
+list_of (More t ts) = t ∷ list_of ts
+
+-- what stands directly in it
+abbrev pub children_of : Tree → List Tree
+children_of (Sequence n e l) = e ∷ []
+children_of (Struct ms l) = list_of ms
+children_of (Union ms l) = list_of ms
+children_of t = []
+
 abbrev pub IsValue : Tree → Type 0
 IsValue (Value k o l) = Unit {0}
 IsValue t = ⊥
@@ -40,3 +52,9 @@ IsValue t = ⊥
 abbrev pub IsPadding : Tree → Type 0
 IsPadding (Padding n l) = Unit {0}
 IsPadding t = ⊥
+
+-- two layouts are equal but for what stands in them
+pub record HasSameHead (t u : Tree) : Type 0 where
+  pub form : form_of t ≡ form_of u
+  pub size : size_of t ≡ size_of u
+  pub label : label_of t ≡ label_of u

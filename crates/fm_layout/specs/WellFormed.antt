@@ -31,8 +31,3 @@ abbrev mutual
   pub AreWellFormed : Trees → Type 0
   AreWellFormed NoMore = Unit {0}
   AreWellFormed (More t ts) = IsWellFormed t × AreWellFormed ts
-
--- what every layout of the program keeps: its size, and that it is well formed
-pub record IsSound (kept : ℕ) (t : Tree) : Type 0 where
-  pub size : kept ≡ size_of t
-  pub well_formed : IsWellFormed t

@@ -1,5 +1,6 @@
 mod constructors;
 mod copies;
+mod equality;
 mod extent;
 
 ghost use Rattle.std.specs.Prelude.{◌≡◌};
@@ -7,11 +8,13 @@ ghost use Rattle.std.specs.Option.{option_copied};
 ghost use Rattle.fm_layout.specs.Tree.{alignment_of, name_of};
 ghost use Rattle.fm_layout.specs.Size.{size_of};
 ghost use Rattle.fm_layout.specs.WellFormed.{IsWellFormed};
-ghost use Rattle.fm_layout.specs.Parts.{element_of, form_of, member_of};
+ghost use Rattle.fm_layout.specs.Named.{HasNames, IsNameIfAny};
+ghost use Rattle.fm_layout.specs.Parts.{children_of, element_of, form_of, member_of};
 
 use crate::form::Form;
 use fm_lanes::{Order, ValueKind};
 use std::marker::Model;
+use std::slice;
 
 /// A layout: what stands where in a run of bytes. Contracts see it as a tree.
 #[derive(Drop)]
@@ -37,7 +40,7 @@ impl Model for Layout {
     ghost use Rattle.std.specs.Prelude.{◌≡◌};
     ghost use Rattle.fm_layout.specs.Tree.{Tree};
     ghost use Rattle.fm_layout.specs.Depth.{depth};
-    ghost use Rattle.fm_layout.specs.WellFormed.{IsSound};
+    ghost use Rattle.fm_layout.specs.Sound.{IsSound};
 
     ghost Value = { Tree };
 
@@ -63,6 +66,7 @@ impl Layout {
     pub fn size(&self) -> u64
         ensures size { result ≡ size_of self.now }
         ensures well_formed { IsWellFormed self.now }
+        ensures named { HasNames self.now }
     {
         self.size
     }
@@ -91,7 +95,8 @@ impl Layout {
 
     /// The name; `None` exactly where the layout has none.
     pub fn name(&self) -> Option<&str>
-        ensures { option_copied result ≡ name_of self.now }
+        ensures name { option_copied result ≡ name_of self.now }
+        ensures named { IsNameIfAny (name_of self.now) }
     {
         match &self.name {
             None => None,
@@ -117,6 +122,18 @@ impl Layout {
         match &self.node {
             Node::Sequence(_, element) => Some(&**element),
             _ => None,
+        }
+    }
+
+    /// What stands directly in it: members, or the one element.
+    fn children(&self) -> &[Layout]
+        ensures { result.now ≡ children_of self.now }
+    {
+        match &self.node {
+            Node::Value(_, _) | Node::Padding => &[],
+            Node::Sequence(_, element) => slice::from_ref(&**element),
+            Node::Struct(members) => members,
+            Node::Union(members) => members,
         }
     }
 }

@@ -1,7 +1,7 @@
 use Rattle.std.proofs.Common.{refl, sym, ap, subst, ◌∙◌, arith}
 use Rattle.fm_layout.specs.Tree.{Tree}
 use Rattle.fm_layout.specs.Size.{least_of}
-use Rattle.fm_layout.specs.WellFormed.{IsSound}
+use Rattle.fm_layout.specs.Sound.{IsSound}
 use Rattle.fm_layout.specs.Parts.{IsPadding}
 use Rattle.fm_layout.specs.Views.{label, tree_of}
 use Rattle.fm_layout.proofs.Nodes.{realigned_node}
@@ -12,7 +12,7 @@ sound : (c : goal.Else-n-least) → IsSound c.self.inside.size (tree_of c.self.i
 sound c =
     let Other : Tree → Type 0 = λ t. ¬ (IsPadding t) in
     realigned_node c.self.inside.size c.args.n (label c.args.n c.self.inside.name) (label c.self.inside.alignment c.self.inside.name) c.self.inside.node c.self.invariant
-    (subst Other (sym c.self.view_is) c.requires) refl (sym c.is_power_of_two.ensures ∙ c.if-not-is_power_of_two.false) c.if-n-gt-LIMIT.false
+    (subst Other (sym c.self.view_is) c.requires) refl refl (sym c.is_power_of_two.ensures ∙ c.if-not-is_power_of_two.false) c.if-n-gt-LIMIT.false
     (omega (arith, ap least_of c.self.view_is, c.least-least.ensures, c.if-n-least.false))
 
 pub invariant_of-result : goal.invariant_of-result
