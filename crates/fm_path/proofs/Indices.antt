@@ -1,11 +1,10 @@
 -- What the two passes over indices keep: the first checks them, the second sums.
-use Rattle.std.proofs.Common.{◌≡◌, sym, ap, subst, ℕ, ◌+◌, ◌<◌, List, ◌∷◌, length, drop, get_or, ◌∙◌}
-use Rattle.std.proofs.lemmas.List.{drop_more}
+use Rattle.std.proofs.Common.{◌≡◌, ℕ, List, drop}
 use Rattle.fm_base.specs.declared.refusal.Refusal.{Refusal}
 use Rattle.fm_places.specs.declared.dim.Dim.{Dim}
 use Rattle.fm_places.specs.Found.{IsFirstOut}
-use Rattle.fm_places.specs.Steady.{IsInside, IsSteady}
-use Rattle.fm_places.specs.Walk.{reach, offset_at, AreAdmitted}
+use Rattle.fm_places.specs.Steady.{IsSteady}
+use Rattle.fm_places.specs.Walk.{offset_at, AreAdmitted}
 
 -- the indices before k are admitted
 pub record IsChecked (k : ℕ) (ds : List Dim) (is : List ℕ) : Type 0 where

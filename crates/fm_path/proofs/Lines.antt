@@ -25,6 +25,7 @@ dims_snoc : (dims : List (ℕ × ℕ)) (stride bound : ℕ) → dims_text (dims 
 dims_snoc [] stride bound = append-nil (dim_text stride bound)
 dims_snoc (d ∷ ds) stride bound = ap (λ x. dim_text d.0 d.1 ++ x) (dims_snoc ds stride bound) ∙ sym (append_assoc (dim_text d.0 d.1) (dims_text ds) (dim_text stride bound))
 
+-- the text of two lists of lines
 lines_text_append : (xs ys : List Line) → lines_text (xs ++ ys) ≡ lines_text xs ++ lines_text ys
 lines_text_append [] ys = refl
 lines_text_append (x ∷ xs) ys = ap (λ t. line_text x ++ t) (lines_text_append xs ys) ∙ sym (append_assoc (line_text x) (lines_text xs) (lines_text ys))
@@ -41,6 +42,7 @@ mutual
   lines_listed (Struct ms l) path at dims = members_listed ms path at dims (Struct ms l) 0
   lines_listed (Union ms l) path at dims = members_listed ms path at dims (Union ms l) 0
 
+  -- the same of the members of a group
   members_listed : (ts : Trees) (path : List PathStep) (at : ℕ) (dims : List (ℕ × ℕ)) (group : Tree) (i : ℕ) → lines_text (member_lines path at dims group i ts) ≡ listed_members (pieces_of path) at (dims_text dims) group i ts
   members_listed NoMore path at dims group i = refl
   members_listed (More t ts) path at dims group i =

@@ -1,5 +1,5 @@
 -- What the code's answers are seen as.
-use Rattle.std.specs.Prelude.{◌≡◌, ℕ, Result, Ok, Err, Option, Some, None, List}
+use Rattle.std.specs.Prelude.{◌≡◌, ℕ, Result, Ok, Err, Option, Some, None}
 use Rattle.fm_base.specs.declared.refusal.Refusal.{Refusal}
 use Rattle.fm_base.specs.declared.refusal.Refusal.TheVariants.{NotSequence}
 use Rattle.fm_layout.specs.Tree.{Tree}

@@ -1,5 +1,5 @@
 -- The text of a layout's values, from the texts of the path and the dims that lead to it.
-use Rattle.std.specs.Prelude.{ℕ, ◌+◌, ◌≤◌, List, [], ◌∷◌, ◌++◌, codes}
+use Rattle.std.specs.Prelude.{ℕ, ◌+◌, List, [], ◌∷◌, ◌++◌, codes}
 use Rattle.fm_layout.specs.Tree.{Tree, Trees, Value, Padding, Sequence, Struct, Union, NoMore, More}
 use Rattle.fm_layout.specs.Size.{size_of, member_offset}
 use Rattle.fm_steps.specs.Grammar.{piece_of}

@@ -8,7 +8,7 @@ use Rattle.fm_layout.specs.Tree.{Tree, Trees, Value, Padding, Sequence, Struct, 
 use Rattle.fm_layout.specs.Size.{size_of, member_offset}
 use Rattle.fm_steps.specs.declared.step.PathStep.{PathStep}
 use Rattle.fm_steps.specs.declared.step.PathStep.TheVariants.{Name, Group, Each}
-use Rattle.fm_steps.specs.Grammar.{path_text, piece_of}
+use Rattle.fm_steps.specs.Grammar.{path_text}
 use Rattle.fm_places.specs.Follow.{members_of, index_in}
 
 abbrev pub kind_text : ValueKind → List ℕ

@@ -8,7 +8,7 @@ use Rattle.fm_path.specs.declared.value_spec.ValueSpec.{ValueSpec}
 use Rattle.fm_steps.specs.declared.step.PathStep.{PathStep}
 use Rattle.fm_base.specs.declared.refusal.Refusal.{Refusal}
 use Rattle.fm_base.specs.declared.refusal.Refusal.TheVariants.{NotValue, Memory}
-use Rattle.fm_places.specs.Found.{Finds, LeadsTo, EndsElsewhere, IsRefused, end_of}
+use Rattle.fm_places.specs.Found.{Finds, HasDims, LeadsTo, EndsElsewhere, IsRefused, end_of}
 use Rattle.fm_places.specs.Steady.{IsSteady}
 use Rattle.fm_places.specs.Walk.{AreAdmitted, offset_at}
 
@@ -39,7 +39,9 @@ pub record IsResolved (path : List PathStep) (t : Tree) (r : Resolution) : Type 
   -- the value layout at the path's end
   pub ends : end_of path t ≡ Ok last
   pub value : IsSpecOf last r.value
-  -- one pass over the path: the offset, and a dim for each step that is left open
+  -- a dim for each step that is left open: its stride, and as many indices as are admitted
+  pub dims : HasDims path t r.dims
+  -- one pass over the path, with the offset at index 0
   pub leads : LeadsTo path t r.offset r.dims last
   -- an index below each bound: the place that following the path comes to
   pub finds : (is : List ℕ) → AreAdmitted r.dims is → Finds path t is (offset_at r.offset r.dims is) last

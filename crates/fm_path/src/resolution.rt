@@ -57,7 +57,7 @@ pub fn byte_offset(layout: &Layout, path: &[PathStep]) -> Result<u64, Refusal>
     for (k, step) in path.iter().enumerate() {
         let moved = match take_closed(here, k as u64, step) {
             Ok(moved) => moved,
-            Err(refusal) => return Err(refusal),
+            Err(refused) => return Err(refused),
         };
         offset = offset.saturating_add(moved.by);
         here = moved.to;

@@ -1,12 +1,12 @@
 -- The offset at admitted indices is that of the place that following the path finds.
-use Rattle.std.proofs.Common.{◌≡◌, refl, sym, ap, subst, ℕ, ℤ, pos, negsuc, zero, suc, ◌+◌, ◌-◌, ◌*◌, ◌<◌, ◌≤◌, Option, Some, None, Result, Ok, Err, List, [], ◌∷◌, arith, ◌∙◌}
+use Rattle.std.proofs.Common.{◌≡◌, refl, sym, ap, subst, ℕ, ℤ, pos, negsuc, ◌+◌, ◌≤◌, Option, Some, None, Result, Ok, Err, List, [], ◌∷◌, arith, ◌∙◌}
 use Rattle.fm_base.specs.declared.refusal.Refusal.{Refusal}
 use Rattle.fm_layout.specs.Tree.{Tree}
 use Rattle.fm_steps.specs.declared.step.PathStep.{PathStep}
 use Rattle.fm_places.specs.declared.dim.Dim.{Dim}
-use Rattle.fm_places.specs.Places.{Step, IsPart, IsAt}
-use Rattle.fm_places.specs.Follow.{Taken, taken, taken_closed, first, others, after, before, ◌>>=◌, follow_by}
-use Rattle.fm_places.specs.Walk.{Move, Moved, move, move_closed, Walk, with_dim, moved, walk_by, reach, offset_at, AreAdmitted}
+use Rattle.fm_places.specs.Places.{Step, IsAt}
+use Rattle.fm_places.specs.Follow.{Taken, taken, taken_closed, first, after, before, ◌>>=◌, follow_by}
+use Rattle.fm_places.specs.Walk.{Moved, move, move_closed, Walk, moved, walk_by, reach, offset_at, AreAdmitted}
 use Rattle.fm_places.specs.Steady.{dip}
 use Rattle.fm_places.proofs.Fitting.{Tells, Fits, fits, fits_closed}
 
@@ -16,10 +16,12 @@ StaysAbove at [] is = Unit {0}
 StaysAbove at (d ∷ ds) [] = Unit {0}
 StaysAbove at (d ∷ ds) (i ∷ is) = (dip d.stride i ≤ at) × StaysAbove (reach at d.stride i) ds is
 
+-- an offset that starts further on ends further on
 reach_more : (a b : ℕ) (z : ℤ) (i : ℕ) → dip z i ≤ b → reach (a + b) z i ≡ a + reach b z i
 reach_more a b (pos s) i h = omega arith
 reach_more a b (negsuc s) i h = omega arith
 
+-- so do the offsets at all indices
 steady_more : (a b : ℕ) (ds : List Dim) (is : List ℕ) → StaysAbove b ds is → StaysAbove (a + b) ds is × (offset_at (a + b) ds is ≡ a + offset_at b ds is)
 steady_more a b [] is h = (tt, refl)
 steady_more a b (d ∷ ds) [] h = (tt, refl)
@@ -39,6 +41,7 @@ abbrev pub Agrees : (ℕ → PathStep → Tree → ℕ → Taken) → List PathS
 Agrees take ps k t (Ok w) = (is : List ℕ) → AreAdmitted w.dims is → Meets take ps k t w is
 Agrees take ps k t (Err e) = (is : List ℕ) → follow_by take ps k t is ≡ Err e
 
+-- a refusal later on refuses the path
 then_err : (s : Step) (e : Refusal) (r : Result (List Step) Refusal) → r ≡ Err e → before s r ≡ Err e
 then_err s e r h = ap (before s) h
 
@@ -58,6 +61,7 @@ plain_join take p ps k t by u (Ok w) f ih = λ is a.
       steady = g.0;
     }
 
+-- a step that takes an index, and then the rest
 each_join : (take : ℕ → PathStep → Tree → ℕ → Taken) (p : PathStep) (ps : List PathStep) (k : ℕ) (t : Tree) (by : ℕ) (d : Dim) (u : Tree) (r : Result Walk Refusal) → Tells (take k p t) p t (Some d) by u → Agrees take ps (k + 1) u r → Agrees take (p ∷ ps) k t (moved (record { by = by; dim = Some d; to = u }) r)
 each_join take p ps k t by d u (Err e) f ih = λ is.
     let l = f.1 (first is) in
@@ -79,6 +83,7 @@ each_join take p ps k t by d u (Ok w) f ih = at_indices
           steady = (omega (arith, q.1), subst (λ x. StaysAbove x w.dims is) (sym e) g.0);
         }
 
+-- a step, and then the rest
 join : (take : ℕ → PathStep → Tree → ℕ → Taken) (go : ℕ → PathStep → Tree → Moved) (p : PathStep) (ps : List PathStep) (k : ℕ) (t : Tree) (r : Moved) → Fits (take k p t) p t r → ((u : Tree) → Agrees take ps (k + 1) u (walk_by go ps (k + 1) u)) → Agrees take (p ∷ ps) k t (r >>= λ m. moved m (walk_by go ps (k + 1) m.to))
 join take go p ps k t (Err e) f ih = λ is. ap (λ c. c >>= λ c. before c.0 (follow_by take ps (k + 1) c.1 (after p is))) (f (first is))
 join take go p ps k t (Ok m) f ih = by_dim m.dim f

@@ -1,5 +1,6 @@
 pub mod Agreeing
 pub mod Bounds
+pub mod Dims
 pub mod Fitting
 pub mod Inside
 pub mod Listed

@@ -1,20 +1,20 @@
 -- The pass over a path, step by step, and what it comes to.
-use Rattle.std.proofs.Common.{◌≡◌, refl, sym, ap, subst, ℕ, ℤ, pos, negsuc, zero, suc, ◌+◌, ◌-◌, ◌*◌, ◌^◌, ◌<◌, ◌≤◌, min, Bool, true, false, nat_lt, if◌then◌else◌, Option, Some, None, Result, Ok, Err, List, [], ◌∷◌, ◌++◌, length, drop, get_or, arith, ◌∙◌}
+use Rattle.std.proofs.Common.{◌≡◌, refl, sym, ap, subst, ℕ, ℤ, pos, negsuc, ◌+◌, ◌-◌, ◌*◌, ◌^◌, ◌<◌, ◌≤◌, min, Bool, true, false, nat_lt, if◌then◌else◌, Option, Some, None, Result, Ok, Err, List, [], ◌∷◌, ◌++◌, length, drop, get_or, arith, ◌∙◌}
 use Rattle.std.proofs.lemmas.List.{append_assoc, append-nil, drop_more, drop_all}
 use Rattle.fm_base.specs.declared.refusal.Refusal.{Refusal}
 use Rattle.fm_base.specs.declared.refusal.Refusal.TheVariants.{IndexOut}
 use Rattle.fm_layout.specs.Tree.{Tree, Trees, Value, Padding, Sequence, Struct, Union}
 use Rattle.fm_layout.specs.Size.{size_of}
 use Rattle.fm_layout.specs.Parts.{tree_at}
-use Rattle.fm_layout.specs.WellFormed.{IsWellFormed, limit}
+use Rattle.fm_layout.specs.WellFormed.{IsWellFormed}
 use Rattle.fm_layout.proofs.Sound.{fit_of}
 use Rattle.fm_steps.specs.declared.step.PathStep.{PathStep}
 use Rattle.fm_steps.specs.declared.step.PathStep.TheVariants.{Name, Group, At, Each, EachFrom}
 use Rattle.fm_places.specs.declared.dim.Dim.{Dim}
-use Rattle.fm_places.specs.Places.{Step, IsAt, IsAmong, places}
-use Rattle.fm_places.specs.Follow.{index_named, Taken, taken, taken_closed, ◌>>=◌, follow_by, follow, follow_closed}
-use Rattle.fm_places.specs.Found.{IsPlace, LeadsTo, Finds, FindsClosed, end_from, end_of, IsRefused}
-use Rattle.fm_places.specs.Steady.{dip, IsInside, IsSteady}
+use Rattle.fm_places.specs.Places.{Step}
+use Rattle.fm_places.specs.Follow.{index_named, taken, taken_closed, ◌>>=◌, follow_closed}
+use Rattle.fm_places.specs.Found.{LeadsTo, Finds, FindsClosed, end_from, end_of, IsRefused}
+use Rattle.fm_places.specs.Steady.{IsSteady}
 use Rattle.fm_places.specs.Walk.{Move, Moved, move_member, move_found, move, move_closed, Walk, with_dim, moved, walk_by, walk, walk_closed, reach, offset_at, AreAdmitted}
 use Rattle.fm_places.proofs.Agreeing.{Meets, StaysAbove, Agrees, agrees, agrees_closed}
 use Rattle.fm_places.proofs.Fitting.{Tells, Fits, fits}
@@ -26,6 +26,7 @@ abbrev pub onto : ℕ → List Dim → Result Walk Refusal → Result Walk Refus
 onto a ds (Ok w) = Ok (record { offset = a + w.offset; dims = ds ++ w.dims; last = w.last })
 onto a ds (Err e) = Err e
 
+-- a dim at the end of the first list stands before the second
 with_dim_append : (ds es : List Dim) (o : Option Dim) → ds ++ with_dim o es ≡ (ds ++ with_dim o []) ++ es
 with_dim_append ds es None = ap (λ x. x ++ es) (sym (append-nil ds))
 with_dim_append ds es (Some d) = sym (append_assoc ds (d ∷ []) es)
@@ -33,13 +34,16 @@ with_dim_append ds es (Some d) = sym (append_assoc ds (d ∷ []) es)
 abbrev pub made : ℕ → List Dim → Tree → Result Walk Refusal
 made a ds u = Ok (record { offset = a; dims = ds; last = u })
 
+-- walks of equal parts are equal
 made_like : (a b : ℕ) (ds es : List Dim) (u : Tree) → a ≡ b → ds ≡ es → made a ds u ≡ made b es u
 made_like a b ds es u e f = ap (λ x. made x ds u) e ∙ ap (λ x. made b x u) f
 
+-- a move goes onto the way so far
 onto_moved : (a : ℕ) (ds : List Dim) (m : Move) (r : Result Walk Refusal) → onto a ds (moved m r) ≡ onto (a + m.by) (ds ++ with_dim m.dim []) r
 onto_moved a ds m (Err e) = refl
 onto_moved a ds m (Ok w) = made_like (a + (m.by + w.offset)) (a + m.by + w.offset) (ds ++ with_dim m.dim w.dims) ((ds ++ with_dim m.dim []) ++ w.dims) w.last (omega arith) (with_dim_append ds w.dims m.dim)
 
+-- a walk behind nothing is itself
 onto_nothing : (r : Result Walk Refusal) → onto 0 [] r ≡ r
 onto_nothing (Ok w) = made_like (0 + w.offset) w.offset w.dims w.dims w.last (omega arith) refl
 onto_nothing (Err e) = refl
@@ -50,9 +54,11 @@ pub record IsOnWay (go : ℕ → PathStep → Tree → Moved) (path : List PathS
   pub kept : offset ≡ min true_offset (2 ^ 64 - 1)
   pub way : onto true_offset dims (walk_by go (drop k path) k here) ≡ walk_by go path 0 t
 
+-- before the first step nothing was walked
 pub on_way_start : (go : ℕ → PathStep → Tree → Moved) (path : List PathStep) (t : Tree) → IsOnWay go path t 0 0 [] t
 on_way_start go path t = record { true_offset = 0; kept = omega arith; way = onto_nothing (walk_by go path 0 t) }
 
+-- one more step
 pub on_way_more : (go : ℕ → PathStep → Tree → Moved) (path : List PathStep) (t : Tree) (k offset : ℕ) (dims : List Dim) (here : Tree) (p : PathStep) (m : Move) (offset' : ℕ) (dims' : List Dim)
     → IsOnWay go path t k offset dims here → k < length path → p ≡ get_or path k p → go k p here ≡ Ok m
     → offset' ≡ min (offset + m.by) (2 ^ 64 - 1) → dims' ≡ dims ++ with_dim m.dim [] → IsOnWay go path t (k + 1) offset' dims' m.to
@@ -73,6 +79,7 @@ on_way_err go path t k offset dims here p e w lt is m =
     sym w.way ∙ ap (λ ps. onto w.true_offset dims (walk_by go ps k here)) (drop_more path k p lt)
     ∙ ap (λ r. onto w.true_offset dims (r >>= λ m. moved m (walk_by go (drop (k + 1) path) (k + 1) m.to))) (sym (ap (λ s. go k s here) is) ∙ m)
 
+-- behind the last step the way is the whole walk
 pub on_way_end : (go : ℕ → PathStep → Tree → Moved) (path : List PathStep) (t : Tree) (k offset : ℕ) (dims : List Dim) (here : Tree) → IsOnWay go path t k offset dims here → length path ≤ k
     → (a : ℕ) × (offset ≡ min a (2 ^ 64 - 1)) × (walk_by go path 0 t ≡ made a dims here)
 on_way_end go path t k offset dims here w le =
@@ -82,6 +89,7 @@ on_way_end go path t k offset dims here w le =
 pub refused : (path : List PathStep) (t : Tree) (e : Refusal) → walk path t ≡ Err e → IsRefused path t e
 refused path t e h = subst (Agrees taken path 0 t) h (agrees path 0 t)
 
+-- the same where no step may be left open
 pub refused_closed : (path : List PathStep) (t : Tree) (e : Refusal) → walk_closed path t ≡ Err e → follow_closed path t ≡ Err e
 refused_closed path t e h = let g : Agrees taken_closed path 0 t (Err e) = subst (Agrees taken_closed path 0 t) h (agrees_closed path 0 t) in g []
 
@@ -90,16 +98,19 @@ abbrev pub zeros : List ℕ → List ℕ
 zeros [] = []
 zeros (i ∷ is) = 0 ∷ zeros is
 
+-- where some indices are admitted, index 0 is
 zeros_admitted : (ds : List Dim) (is : List ℕ) → AreAdmitted ds is → AreAdmitted ds (zeros is)
 zeros_admitted [] [] a = tt
 zeros_admitted (d ∷ ds) (i ∷ is) a = (omega (arith, a.0), zeros_admitted ds is a.1)
 zeros_admitted [] (i ∷ is) a = absurd a
 zeros_admitted (d ∷ ds) [] a = absurd a
 
+-- index 0 stays where it is
 reach_zero : (at : ℕ) (z : ℤ) → reach at z 0 ≡ at
 reach_zero at (pos s) = omega arith
 reach_zero at (negsuc s) = omega arith
 
+-- so do all of them
 at_zeros : (at : ℕ) (ds : List Dim) (is : List ℕ) → offset_at at ds (zeros is) ≡ at
 at_zeros at [] is = refl
 at_zeros at (d ∷ ds) [] = refl
@@ -159,24 +170,29 @@ abbrev Ends : List PathStep → ℕ → Tree → Result Walk Refusal → Type 0
 Ends ps k t (Ok w) = end_from ps k t ≡ Ok w.last
 Ends ps k t (Err e) = end_from ps k t ≡ Err e
 
+-- a move changes no end
 ends_moved : (ps : List PathStep) (k : ℕ) (m : Move) (r : Result Walk Refusal) → Ends ps k m.to r → Ends ps k m.to (moved m r)
 ends_moved ps k m (Ok w) h = h
 ends_moved ps k m (Err e) h = h
 
+-- equal ways have equal ends
 ends_like : (ps qs : List PathStep) (j k : ℕ) (t u : Tree) (r : Result Walk Refusal) → end_from ps j t ≡ end_from qs k u → Ends qs k u r → Ends ps j t r
 ends_like ps qs j k t u (Ok w) e h = e ∙ h
 ends_like ps qs j k t u (Err x) e h = e ∙ h
 
+-- a step, and then the rest
 ends_join : (p : PathStep) (ps : List PathStep) (k : ℕ) (t : Tree) (r : Moved) → Fits (taken k p t) p t r → ((u : Tree) → Ends ps (k + 1) u (walk_by move ps (k + 1) u)) → Ends (p ∷ ps) k t (r >>= λ m. moved m (walk_by move ps (k + 1) m.to))
 ends_join p ps k t (Err e) f ih = ap (λ c. c >>= λ c. end_from ps (k + 1) c.1) (f 0)
 ends_join p ps k t (Ok m) f ih =
     let e = ends_by_dim k p t m.dim m.by m.to f in
     ends_like (p ∷ ps) ps k (k + 1) t m.to (moved m (walk_by move ps (k + 1) m.to)) (ap (λ c. c >>= λ c. end_from ps (k + 1) c.1) e.1) (ends_moved ps (k + 1) m (walk_by move ps (k + 1) m.to) (ih m.to))
 
+-- the walk ends where the path does
 ends : (ps : List PathStep) (k : ℕ) (t : Tree) → Ends ps k t (walk_by move ps k t)
 ends [] k t = refl
 ends (p ∷ ps) k t = ends_join p ps k t (move k p t) (fits k p t) (λ u. ends ps (k + 1) u)
 
+-- so does what the path leads to
 pub leads_end : (path : List PathStep) (t : Tree) (offset : ℕ) (dims : List Dim) (u : Tree) → LeadsTo path t offset dims u → end_of path t ≡ Ok u
 leads_end path t offset dims u l = subst (Ends path 0 t) l.walked (ends path 0 t)
 
@@ -204,10 +220,12 @@ member_no_dim : (k n : ℕ) (t : Tree) (o : Option Tree) (m : Move) → move_mem
 member_no_dim k n t None m e = absurd (cc)
 member_no_dim k n t (Some u) m e = cc
 
+-- a step by name has no dim
 found_no_dim : (k : ℕ) (t : Tree) (ms : Trees) (o : Option ℕ) (m : Move) → move_found k t ms o ≡ Ok m → m.dim ≡ None
 found_no_dim k t ms None m e = absurd (cc)
 found_no_dim k t ms (Some n) m e = member_no_dim k n t (tree_at n ms) m e
 
+-- a step to an element has no dim
 at_no_dim : (k n : ℕ) (u : Tree) (b : Bool) (m : Move) → (if b then Ok (record { by = n * size_of u; dim = None; to = u }) else Err (IndexOut k)) ≡ Ok m → m.dim ≡ None
 at_no_dim k n u true m e = cc
 at_no_dim k n u false m e = absurd (cc)
@@ -232,6 +250,7 @@ closed_no_dim k (At n) (Union ms l) m e = absurd (cc)
 closed_no_dim k Each t m e = absurd (cc)
 closed_no_dim k (EachFrom f s) t m e = absurd (cc)
 
+-- one more step where none may be left open
 pub on_way_closed : (path : List PathStep) (t : Tree) (k offset : ℕ) (here : Tree) (p : PathStep) (m : Move) (offset' : ℕ)
     → IsOnWay move_closed path t k offset [] here → k < length path → p ≡ get_or path k p → move_closed k p here ≡ Ok m
     → offset' ≡ min (offset + m.by) (2 ^ 64 - 1) → IsOnWay move_closed path t (k + 1) offset' [] m.to

@@ -1,5 +1,5 @@
 -- Following a path, with an index for each step that is left open.
-use Rattle.std.specs.Prelude.{◌≡◌, ℕ, ℤ, pos, negsuc, ◌+◌, ◌-◌, ◌*◌, ◌<◌, ◌≤◌, Bool, true, false, Option, Some, None, Result, Ok, Err, List, [], ◌∷◌, nat_lt, bytes_eq, if◌then◌else◌}
+use Rattle.std.specs.Prelude.{ℕ, ℤ, pos, negsuc, ◌+◌, ◌-◌, ◌*◌, ◌<◌, ◌≤◌, Bool, false, Option, Some, None, Result, Ok, Err, List, [], ◌∷◌, nat_lt, bytes_eq, if◌then◌else◌}
 use Rattle.std.proofs.Common.{zero, suc}
 use Rattle.fm_base.specs.declared.refusal.Refusal.{Refusal}
 use Rattle.fm_base.specs.declared.refusal.Refusal.TheVariants.{NotGroup, NoMember, NotSequence, IndexOut, StillOpen, BadStep}
@@ -52,6 +52,13 @@ count_in (Some ms) = Some (count_of ms)
 abbrev pub element_from : ℕ → ℤ → ℕ → ℕ
 element_from f (pos s) i = f + i * s
 element_from f (negsuc s) i = f - i * suc s
+
+-- index i of a step that is left open is admitted in a sequence of so many elements
+abbrev pub IsAdmitted : PathStep → ℕ → ℕ → Type 0
+IsAdmitted Each count i = i < count
+IsAdmitted (EachFrom f (pos s)) count i = f + i * s < count
+IsAdmitted (EachFrom f (negsuc s)) count i = (i * suc s ≤ f) × (f - i * suc s < count)
+IsAdmitted p count i = ⊥
 
 -- a step taken: the concrete step, and the layout there; or the refusal of step k
 abbrev pub Taken : Type 0

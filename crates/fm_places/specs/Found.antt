@@ -1,15 +1,16 @@
 -- What following a path finds: the place, the bytes it touches, or why the path is refused.
-use Rattle.std.specs.Prelude.{◌≡◌, ℕ, ◌+◌, ◌-◌, ◌^◌, ◌<◌, ◌≤◌, ◌⊎◌, min, Result, Ok, Err, List, [], ◌∷◌}
+use Rattle.std.specs.Prelude.{◌≡◌, ℕ, ◌+◌, ◌-◌, ◌^◌, ◌<◌, ◌≤◌, ◌⊎◌, min, pos, Some, Result, Ok, Err, List, [], ◌∷◌}
 use Rattle.fm_base.specs.declared.refusal.Refusal.{Refusal}
-use Rattle.fm_base.specs.declared.refusal.Refusal.TheVariants.{NotValue, IndexOut}
+use Rattle.fm_base.specs.declared.refusal.Refusal.TheVariants.{IndexOut}
 use Rattle.fm_layout.specs.Tree.{Tree}
 use Rattle.fm_layout.specs.Size.{size_of}
 use Rattle.fm_steps.specs.declared.step.PathStep.{PathStep}
+use Rattle.fm_steps.specs.declared.step.PathStep.TheVariants.{Each, EachFrom}
 use Rattle.fm_places.specs.declared.dim.Dim.{Dim}
 use Rattle.fm_places.specs.Places.{Step, places, IsAmong}
 use Rattle.fm_layout.specs.Parts.{IsValue}
-use Rattle.fm_places.specs.Walk.{Walk, walk}
-use Rattle.fm_places.specs.Follow.{Taken, taken, ◌>>=◌, follow, follow_closed}
+use Rattle.fm_places.specs.Walk.{stride_of, walk}
+use Rattle.fm_places.specs.Follow.{row_of, IsAdmitted, taken, taken_closed, ◌>>=◌, follow, follow_closed}
 
 -- these steps lead to the place of this offset and layout
 abbrev pub IsPlace : List Step → ℕ → Tree → Tree → Type 0
@@ -26,6 +27,24 @@ pub record FindsClosed (path : List PathStep) (t : Tree) (at : ℕ) (u : Tree) :
   pub steps : List Step
   pub follows : follow_closed path t ≡ Ok steps
   pub listed : IsPlace steps at u t
+
+-- the stride of a step that is left open, over elements of so many bytes: none where there is no second index
+abbrev pub IsStride : PathStep → ℕ → Dim → Type 0
+IsStride Each bytes d = d.stride ≡ pos bytes
+IsStride (EachFrom f s) bytes d = d.stride ≡ stride_of s bytes d.bound
+IsStride p bytes d = ⊥
+
+-- the dim of a step that is left open: below its bound are just the indices that are admitted
+pub record IsDimOf (p : PathStep) (count : ℕ) (element : Tree) (d : Dim) : Type 0 where
+  pub below : (i : ℕ) → i < d.bound → IsAdmitted p count i
+  pub all : (i : ℕ) → IsAdmitted p count i → i < d.bound
+  pub stride : IsStride p (size_of element) d
+
+-- a dim for each step of the path that is left open, in their order
+pub data HasDims : List PathStep → Tree → List Dim → Type 0 where
+  no_step : {t : Tree} → HasDims [] t []
+  closed_step : {p : PathStep} {ps : List PathStep} {t : Tree} {ds : List Dim} → (k : ℕ) → (s : Step) → (u : Tree) → taken_closed k p t 0 ≡ Ok (s, u) → HasDims ps u ds → HasDims (p ∷ ps) t ds
+  open_step : {p : PathStep} {ps : List PathStep} {t : Tree} {d : Dim} {ds : List Dim} → (count : ℕ) → (e : Tree) → row_of t ≡ Some (count, e) → IsDimOf p count e d → HasDims ps e ds → HasDims (p ∷ ps) t (d ∷ ds)
 
 -- one pass over the path comes to this offset, as far as 64 bits go, to these dims and to this layout
 pub record LeadsTo (path : List PathStep) (t : Tree) (offset : ℕ) (dims : List Dim) (u : Tree) : Type 0 where

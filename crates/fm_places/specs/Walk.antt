@@ -1,11 +1,11 @@
 -- One pass over a path: the offset, and what each open index does to it.
-use Rattle.std.specs.Prelude.{◌≡◌, ℕ, ℤ, pos, negsuc, ◌+◌, ◌-◌, ◌*◌, ◌/◌, ◌<◌, ◌≤◌, Option, Some, None, Result, Ok, Err, List, [], ◌∷◌, ◌++◌, nat_lt, nat_eq, if◌then◌else◌}
+use Rattle.std.specs.Prelude.{ℕ, ℤ, pos, negsuc, ◌+◌, ◌-◌, ◌*◌, ◌/◌, ◌<◌, Option, Some, None, Result, Ok, Err, List, [], ◌∷◌, nat_lt, nat_eq, if◌then◌else◌}
 use Rattle.std.proofs.Common.{zero, suc}
 use Rattle.fm_base.specs.declared.refusal.Refusal.{Refusal}
 use Rattle.fm_base.specs.declared.refusal.Refusal.TheVariants.{NotGroup, NoMember, NotSequence, IndexOut, StillOpen, BadStep}
 use Rattle.fm_steps.specs.declared.step.PathStep.{PathStep}
 use Rattle.fm_steps.specs.declared.step.PathStep.TheVariants.{Name, Group, At, Each, EachFrom}
-use Rattle.fm_layout.specs.Tree.{Tree, Trees, Value, Padding, Sequence, Struct, Union, NoMore, More}
+use Rattle.fm_layout.specs.Tree.{Tree, Trees}
 use Rattle.fm_layout.specs.Size.{size_of, member_offset}
 use Rattle.fm_layout.specs.Parts.{tree_at}
 use Rattle.fm_places.specs.declared.dim.Dim.{Dim}

@@ -16,13 +16,16 @@ use Rattle.fm_steps.specs.declared.sign.Sign.TheVariants as sign
 use Rattle.fm_steps.specs.declared.part.Move.TheVariants.{Dead, Stay}
 use Rattle.fm_steps.proofs.Reading.{MayHaveRead, has_read, read_nothing, can_end, is_whole, IsSettled, By_end, By_word, By_number, dot_next, open_next, run_append, digit_sign, lt_test}
 
+-- a refused text stays refused
 run_none : (bs : List ℕ) → run bs None ≡ None
 run_none [] = refl
 run_none (b ∷ bs) = run_none bs
 
+-- two different numbers fail the test
 no : (a b : ℕ) → (a ≡ b → ⊥) → nat_eq a b ≡ false
 no a b f = grind (arith, nat_tests)
 
+-- the sign of a letter is the letter
 letter_sign : (c : ℕ) → IsTrue (is_letter c) → sign_of c ≡ sign.Letter c
 letter_sign c h =
     rw (no c 46 (λ x. let k : false ≡ true = other c 46 h x in cc), no c 35 (λ x. let k : false ≡ true = other c 35 h x in cc), no c 91 (λ x. let k : false ≡ true = other c 91 h x in cc), no c 93 (λ x. let k : false ≡ true = other c 93 h x in cc), no c 58 (λ x. let k : false ≡ true = other c 58 h x in cc), no c 45 (λ x. let k : false ≡ true = other c 45 h x in cc), no_digit c h, h) refl
@@ -33,9 +36,11 @@ letter_sign c h =
     no_digit : (c : ℕ) → IsTrue (is_letter c) → is_digit c ≡ false
     no_digit c h = grind (arith, nat_tests)
 
+-- one more byte of a name leads on where there is room
 spelled : (ds : List PathStep) (w : List ℕ) (c : ℕ) → length w < 64 → moved ds (spells w c) ≡ Some (spot ds (Word (w ++ c ∷ [])))
 spelled ds w c lt = ap (λ b. moved ds (if b then Stay (Word (w ++ c ∷ [])) else Dead)) (lt_test (length w) 64 lt)
 
+-- a digit is 48 and a number below ten
 digit_byte : (c : ℕ) → is_digit c ≡ true → (d : ℕ) × (d < 10) × (c ≡ 48 + d)
 digit_byte c h = (c - 48, grind (arith, nat_tests), grind (arith, nat_tests))
 
@@ -53,23 +58,29 @@ name_step ds w c h lt = go (is_letter c) refl
         ∙ spelled ds w (48 + d.0) lt
         ∙ ap (λ x. Some (spot ds (Word (w ++ x ∷ [])))) (sym d.2)
 
+-- the bytes of a name are read to the name
 run_name : (ds : List PathStep) (cs w : List ℕ) → IsNameEnd cs → length w + length cs ≤ 64 → run cs (Some (spot ds (Word w))) ≡ Some (spot ds (Word (w ++ cs)))
 run_name ds [] w n le = ap (λ x. Some (spot ds (Word x))) (sym (append-nil w))
 run_name ds (c ∷ cs) w n le =
     ap (run cs) (name_step ds w c n.0 (omega arith)) ∙ run_name ds cs (w ++ c ∷ []) n.1 (omega (arith, length-append w (c ∷ []))) ∙ ap (λ x. Some (spot ds (Word x))) (append_assoc w (c ∷ []) cs)
 
+-- a digit behind a number that is not 0 leads on within the limit
 more_is : (n d : ℕ) → 0 < n → 10 * n + d ≤ most_number → longer_number n d ≡ Some (10 * n + d)
 more_is n d gt le = grind (arith, nat_tests)
 
+-- the first digit of a member index
 first_number : (ds : List PathStep) (d : ℕ) → d < 10 → onward (Some (spot ds Hash)) (48 + d) ≡ Some (spot ds (Number d))
 first_number ds d h = rw (digit_sign d h) refl
 
+-- the first digit of an element index
 first_index : (ds : List PathStep) (d : ℕ) → d < 10 → onward (Some (spot ds Open)) (48 + d) ≡ Some (spot ds (Index d))
 first_index ds d h = rw (digit_sign d h) refl
 
+-- a further digit of a member index
 next_number : (ds : List PathStep) (n d : ℕ) → d < 10 → 0 < n → 10 * n + d ≤ most_number → onward (Some (spot ds (Number n))) (48 + d) ≡ Some (spot ds (Number (10 * n + d)))
 next_number ds n d h gt le = rw (digit_sign d h, more_is n d gt le) refl
 
+-- a further digit of an element index
 next_index : (ds : List PathStep) (n d : ℕ) → d < 10 → 0 < n → 10 * n + d ≤ most_number → onward (Some (spot ds (Index n))) (48 + d) ≡ Some (spot ds (Index (10 * n + d)))
 next_index ds n d h gt le = rw (digit_sign d h, more_is n d gt le) refl
 
@@ -111,15 +122,19 @@ run_positive ds from at one again n gt le =
     ∙ ap (λ m. Some (spot ds (at m))) e)
     n (omega arith) gt le
 
+-- the first digit of a stride
 first_up : (ds : List PathStep) (f d : ℕ) → d < 10 → onward (Some (spot ds (Colon f))) (48 + d) ≡ Some (spot ds (Up f d))
 first_up ds f d h = rw (digit_sign d h) refl
 
+-- a further digit of a stride
 next_up : (ds : List PathStep) (f n d : ℕ) → d < 10 → 0 < n → 10 * n + d ≤ most_number → onward (Some (spot ds (Up f n))) (48 + d) ≡ Some (spot ds (Up f (10 * n + d)))
 next_up ds f n d h gt le = rw (digit_sign d h, more_is n d gt le) refl
 
+-- the first digit of a stride back
 first_down : (ds : List PathStep) (f d : ℕ) → d < 10 → 0 < d → onward (Some (spot ds (Minus f))) (48 + d) ≡ Some (spot ds (Down f d))
 first_down ds f d h gt = rw (digit_sign d h, no d 0 (λ x. omega arith)) refl
 
+-- a further digit of a stride back
 next_down : (ds : List PathStep) (f n d : ℕ) → d < 10 → 0 < n → 10 * n + d ≤ most_number → onward (Some (spot ds (Down f n))) (48 + d) ≡ Some (spot ds (Down f (10 * n + d)))
 next_down ds f n d h gt le = rw (digit_sign d h, more_is n d gt le) refl
 
@@ -129,6 +144,7 @@ first_of ds s f rest h lt le =
     ap (run (decimal f ++ 58 ∷ rest)) (open_next ds s h lt) ∙ run_append (decimal f) (58 ∷ rest) (Some (spot ds Open))
     ∙ ap (λ o. run rest (onward o 58)) (run_digits ds Open (λ m. Index m) (first_index ds) (next_index ds) f le)
 
+-- each piece is read to its step
 reads_piece : (ds : List PathStep) (s : Spot) (p : PathStep) → IsSettled ds s → length ds < 64 → HasPiece p → Goes (ds ++ p ∷ []) (piece_of p) s
 reads_piece ds s (Name []) h lt a = absurd a
 reads_piece ds s (Name (c ∷ cs)) h lt a = record {
@@ -166,6 +182,7 @@ reads_piece ds s (EachFrom f (negsuc n)) h lt a = record {
   settled = By_end;
 }
 
+-- pieces are read one after the other
 reads_pieces : (ps ds : List PathStep) (s : Spot) → IsSettled ds s → AllByRecursion HasPiece ps → length ds + length ps ≤ 64 → Goes (ds ++ ps) (pieces_of ps) s
 reads_pieces [] ds s h a le = record { to = s; by = refl; settled = subst (λ x. IsSettled x s) (sym (append-nil ds)) h }
 reads_pieces (p ∷ ps) ds s h a le =
@@ -177,6 +194,7 @@ reads_pieces (p ∷ ps) ds s h a le =
       settled = subst (λ x. IsSettled x r.to) (append_assoc ds (p ∷ []) ps) r.settled;
     }
 
+-- pieces that were read whole make the path
 settled_whole : (d : PathStep) (ds : List PathStep) (s : Spot) → IsSettled (d ∷ ds) s → whole s.done s.part ≡ Some (d ∷ ds)
 settled_whole d ds s By_end = refl
 settled_whole d ds s (By_word es w e) = ap Some (sym e)

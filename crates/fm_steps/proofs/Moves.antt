@@ -32,7 +32,7 @@ shown (Minus f) = 91 ∷ decimal f ++ 58 ∷ 45 ∷ []
 shown (Up f n) = 91 ∷ decimal f ++ 58 ∷ decimal n
 shown (Down f n) = 91 ∷ decimal f ++ 58 ∷ 45 ∷ decimal n
 
--- what holds of a part behind k whole pieces_of
+-- what holds of a part behind k whole pieces
 abbrev pub IsLive : ℕ → Part → Type 0
 IsLive k Between = k ≤ 64
 IsLive k Dot = k < 64
@@ -58,16 +58,20 @@ Writes (sign.Digit d) b = (b ≡ 48 + d) × (d < 10)
 Writes (sign.Letter c) b = (b ≡ c) × IsTrue (is_letter c)
 Writes sign.Other b = Unit {0}
 
+-- what holds of both values holds of the one that a test picks
 choose : {A : Type 0} (P : A → Type 0) (c : Bool) (x y : A) → (c ≡ true → P x) → (c ≡ false → P y) → P (if c then x else y)
 choose P true x y f g = f refl
 choose P false x y f g = g refl
 
+-- a digit is 48 and its value
 digit_is : (b : ℕ) → is_digit b ≡ true → Writes (sign.Digit (b - 48)) b
 digit_is b h = (grind (arith, nat_tests), grind (arith, nat_tests))
 
+-- two numbers that the test finds equal are equal
 eqb_is : (a b : ℕ) → nat_eq a b ≡ true → a ≡ b
 eqb_is a b h = grind (arith, nat_tests)
 
+-- the sign of a byte says which byte it is
 pub told : (b : ℕ) → Writes (sign_of b) b
 told b =
     choose (λ s. Writes s b) (nat_eq b 46) _ _ (λ h. eqb_is b 46 h) (λ _.
@@ -86,35 +90,43 @@ decimal_more n d gt small le =
     let r : (10 * n + d) % 10 ≡ d = omega arith in
     decimal_step (10 * n + d) (omega arith) (omega arith) ∙ ap (λ m. decimal m ++ (48 + (10 * n + d) % 10) ∷ []) q ∙ ap (λ m. decimal n ++ (48 + m) ∷ []) r
 
--- what a move leaves, where byte b was read behind k pieces_of
+-- what a move leaves, where byte b was read behind k pieces
 abbrev pub Leaves : Part → ℕ → ℕ → Move → Type 0
 Leaves p k b Dead = Unit {0}
 Leaves p k b (Stay q) = (shown p ++ b ∷ [] ≡ shown q) × IsLive k q
 Leaves p k b (Finish s q) = (shown p ++ b ∷ [] ≡ piece_of s ++ shown q) × HasPiece s × IsLive (k + 1) q
 
+-- a number that the test finds smaller is smaller
 lt_is : (a b : ℕ) → nat_lt a b ≡ true → a < b
 lt_is a b h = grind (arith, nat_tests)
 
+-- a number that the test finds at most another is at most it
 le_is : (a b : ℕ) → nat_le a b ≡ true → a ≤ b
 le_is a b h = grind (arith, nat_tests)
 
+-- a first byte leaves what its part shows, where there may be one more piece
 opens_leaves : (p q : Part) (k b : ℕ) → (k < 64 → Leaves p k b (Stay q)) → Leaves p k b (opens k q)
 opens_leaves p q k b f = choose (Leaves p k b) (nat_lt k 64) (Stay q) Dead (λ h. f (lt_is k 64 h)) (λ _. tt)
 
+-- a byte that ends a piece leaves the piece, where there may be one more
 closes_leaves : (p q : Part) (s : PathStep) (k b : ℕ) → (k + 1 < 64 → Leaves p k b (Finish s q)) → Leaves p k b (closes k s q)
 closes_leaves p q s k b f = choose (Leaves p k b) (nat_lt (k + 1) 64) (Finish s q) Dead (λ h. f (lt_is (k + 1) 64 h)) (λ _. tt)
 
+-- a letter or digit leaves a longer name
 spells_leaves : (s : List ℕ) (c k b : ℕ) → b ≡ c → IsTrue (is_letter c || is_digit c) → IsLive k (Word s) → Leaves (Word s) k b (spells s c)
 spells_leaves s c k b e h live = choose (Leaves (Word s) k b) (nat_lt (length s) 64) (Stay (Word (s ++ c ∷ []))) Dead
     (λ lt. (ap (λ x. 46 ∷ s ++ x ∷ []) e, (live.0, name_more s c live.1 (lt_is _ _ lt) h))) (λ _. tt)
 
+-- a digit leaves a longer number
 counts_leaves : (p : Part) (f : ℕ → Part) (n d k b : ℕ) → (0 < n → 10 * n + d ≤ most_number → Leaves p k b (Stay (f (10 * n + d)))) → Leaves p k b (counts f (longer_number n d))
 counts_leaves p f n d k b g = choose (λ o. Leaves p k b (counts f o)) (nat_eq n 0) None (if nat_le (10 * n + d) most_number then Some (10 * n + d) else None) (λ _. tt) (λ h.
     choose (λ o. Leaves p k b (counts f o)) (nat_le (10 * n + d) most_number) (Some (10 * n + d)) None (λ le. g (grind (arith, nat_tests)) (le_is _ _ le)) (λ _. tt))
 
+-- a letter may stand anywhere in a name
 letter_or : (c : ℕ) → IsTrue (is_letter c) → IsTrue (is_letter c || is_digit c)
 letter_or c h = rw h refl
 
+-- a digit may stand behind the first byte of a name
 pub digit_or : (d : ℕ) → d < 10 → IsTrue (is_letter (48 + d) || is_digit (48 + d))
 digit_or d h = grind (arith, nat_tests)
 
@@ -122,14 +134,17 @@ digit_or d h = grind (arith, nat_tests)
 longer : (f c b : ℕ) (xs ys : List ℕ) → xs ++ b ∷ [] ≡ ys → (91 ∷ decimal f ++ xs) ++ b ∷ [] ≡ 91 ∷ decimal f ++ ys
 longer f c b xs ys e = append_assoc (91 ∷ decimal f) xs (b ∷ []) ∙ ap (λ t. 91 ∷ decimal f ++ t) e
 
+-- a number below 0 is written with a minus
 pub minus_text : (n : ℕ) → 0 < n → signed_decimal (neg_ℤ (pos n)) ≡ 45 ∷ decimal n
 minus_text zero h = absurd (omega arith)
 minus_text (suc n) h = refl
 
+-- minus a number is as great as it
 minus_mag : (n : ℕ) → n ≤ most_number → magnitude (neg_ℤ (pos n)) ≤ most_number
 minus_mag zero h = omega arith
 minus_mag (suc n) h = omega arith
 
+-- each byte leaves what the part after it shows
 pub leaves : (p : Part) (k : ℕ) (s : Sign) (b : ℕ) → Writes s b → IsLive k p → Leaves p k b (next p k s)
 leaves Between k sign.Dot b w live = opens_leaves Between Dot k b (λ h. (ap (λ x. x ∷ []) w, h))
 leaves Between k sign.Open b w live = opens_leaves Between Open k b (λ h. (ap (λ x. x ∷ []) w, h))

@@ -1,8 +1,8 @@
 -- Names that grow at their end.
-use Rattle.std.proofs.Common.{◌≡◌, sym, subst, ap, ℕ, zero, suc, ◌+◌, ◌<◌, ◌≤◌, ◌||◌, false, List, [], ◌∷◌, ◌++◌, length, take, get_or, arith, ◌∙◌}
+use Rattle.std.proofs.Common.{◌≡◌, sym, subst, ℕ, ◌+◌, ◌<◌, ◌||◌, List, [], ◌∷◌, ◌++◌, length, take, arith}
 use Rattle.std.specs.Prelude.{IsTrue}
 use Rattle.std.proofs.Math.ListN.{set}
-use Rattle.std.proofs.lemmas.List.{length-append, length-take, take_more, take_more_set}
+use Rattle.std.proofs.lemmas.List.{length-append, length-take, take_more_set}
 use Rattle.fm_layout.specs.Name.{is_letter, is_digit, IsName, IsNameEnd}
 
 -- one more letter or digit behind bytes of a name

@@ -19,6 +19,7 @@ pub record IsReading (text : List ℕ) (i : ℕ) (ds : List PathStep) (p : Part)
   pub bounded : IsBounded p
   pub there : run (take i text) start ≡ Some (spot ds p)
 
+-- there are at most 64 pieces
 few : (k : ℕ) (p : Part) → IsLive k p → k ≤ 64
 few k Between h = h
 few k Dot h = omega arith
@@ -32,11 +33,13 @@ few k (Minus f) h = omega (arith, h.0)
 few k (Up f n) h = omega (arith, h.0)
 few k (Down f n) h = omega (arith, h.0)
 
+-- a stride is within the limit
 bounds : (k : ℕ) (p : Part) → IsLive k p → IsBounded p
 bounds k (Up f n) h = h.2
 bounds k (Down f n) h = h.2
 bounds k _ h = tt
 
+-- what the loop keeps holds wherever the reader stands
 reading : (text : List ℕ) (i : ℕ) (ds : List PathStep) (p : Part) → run (take i text) start ≡ Some (spot ds p) → IsReading text i ds p
 reading text i ds p e =
     let h : HasRead (take i text) (spot ds p) = subst (MayHaveRead (take i text)) e (has_read (take i text) [] start read_nothing) in
@@ -52,12 +55,15 @@ goes_on text i ds p k sg m h lt ek es em =
     ∙ ap (λ n. moved ds (next p n sg)) (sym ek)
     ∙ ap (moved ds) (sym em)
 
+-- the loop after a byte inside a piece
 pub stays : (text : List ℕ) (i : ℕ) (ds es : List PathStep) (q r : Part) → run (take (i + 1) text) start ≡ moved ds (Stay q) → es ≡ ds → r ≡ q → IsReading text (i + 1) es r
 stays text i ds es q r h e f = reading text (i + 1) es r (h ∙ ap (λ x. Some (spot x q)) (sym e) ∙ ap (λ x. Some (spot es x)) (sym f))
 
+-- the loop after a byte that ends a piece
 pub finishes : (text : List ℕ) (i : ℕ) (ds es : List PathStep) (d : PathStep) (q r : Part) → run (take (i + 1) text) start ≡ moved ds (Finish d q) → es ≡ ds ++ d ∷ [] → r ≡ q → IsReading text (i + 1) es r
 finishes text i ds es d q r h e f = reading text (i + 1) es r (h ∙ ap (λ x. Some (spot x q)) (sym e) ∙ ap (λ x. Some (spot es x)) (sym f))
 
+-- where the reader dies the longest prefix ends
 pub ends_at : (text : List ℕ) (i : ℕ) (ds : List PathStep) (p : Part) → IsReading text i ds p → i < length text → run (take (i + 1) text) start ≡ None → BeginsUpTo i text
 ends_at text i ds p h lt e = record {
   within = omega arith;
@@ -66,6 +72,7 @@ ends_at text i ds p h lt e = record {
   none = λ ps h t. stops (take (i + 1) text) e (drop (i + 1) text, ps, h, take-append-drop (i + 1) text ∙ t);
 }
 
+-- after the last byte the whole text was read
 at_end : (text : List ℕ) (i : ℕ) (ds : List PathStep) (p : Part) → IsReading text i ds p → length text ≤ i → run text start ≡ Some (spot ds p)
 at_end text i ds p h le = ap (λ t. run t start) (sym (take_all i text le)) ∙ h.there
 

@@ -17,16 +17,18 @@ use Rattle.fm_steps.specs.declared.part.Move.{Move}
 use Rattle.fm_steps.specs.declared.part.Move.TheVariants.{Dead, Stay, Finish}
 use Rattle.fm_steps.proofs.Moves.{shown, IsLive, Leaves, leaves, told}
 
--- the text so far is that of the whole pieces_of and of the part
+-- the text so far is that of the whole pieces and of the part
 pub record HasRead (text : List ℕ) (s : Spot) : Type 0 where
   pub spelled : text ≡ pieces_of s.done ++ shown s.part
   pub each : AllByRecursion HasPiece s.done
   pub live : IsLive (length s.done) s.part
 
+-- one more piece stands at the end
 pub pieces_snoc : (ds : List PathStep) (p : PathStep) → pieces_of (ds ++ p ∷ []) ≡ pieces_of ds ++ piece_of p
 pieces_snoc [] p = append-nil (piece_of p)
 pieces_snoc (d ∷ ds) p = ap (λ xs. piece_of d ++ xs) (pieces_snoc ds p) ∙ sym (append_assoc (piece_of d) (pieces_of ds) (piece_of p))
 
+-- one more step that a piece may write
 each_snoc : (ds : List PathStep) (p : PathStep) → AllByRecursion HasPiece ds → HasPiece p → AllByRecursion HasPiece (ds ++ p ∷ [])
 each_snoc [] p e h = (h, tt)
 each_snoc (d ∷ ds) p e h = (e.0, each_snoc ds p e.1 h)
@@ -36,6 +38,7 @@ abbrev pub MayHaveRead : List ℕ → Option Spot → Type 0
 MayHaveRead text None = Unit {0}
 MayHaveRead text (Some s) = HasRead text s
 
+-- what was read after one more move
 after : (text : List ℕ) (ds : List PathStep) (p : Part) (b : ℕ) (m : Move) → HasRead text (spot ds p) → Leaves p (length ds) b m → MayHaveRead (text ++ b ∷ []) (moved ds m)
 after text ds p b Dead h l = tt
 after text ds p b (Stay q) h l = record {
@@ -49,6 +52,7 @@ after text ds p b (Finish d q) h l = record {
   live = subst (λ k. IsLive k q) (sym (length-append ds (d ∷ []))) l.2;
 }
 
+-- what was read after one more byte
 onward_read : (text : List ℕ) (o : Option Spot) (b : ℕ) → MayHaveRead text o → MayHaveRead (text ++ b ∷ []) (onward o b)
 onward_read text None b h = tt
 onward_read text (Some s) b h = after text s.done s.part b (next s.part (length s.done) (sign_of b)) h (leaves s.part (length s.done) (sign_of b) b (told b) h.live)
@@ -58,13 +62,16 @@ pub has_read : (bs text : List ℕ) (o : Option Spot) → MayHaveRead text o →
 has_read [] text o h = subst (λ x. MayHaveRead x o) (sym (append-nil text)) h
 has_read (b ∷ bs) text o h = subst (λ x. MayHaveRead x (run bs (onward o b))) (append_assoc text (b ∷ []) bs) (has_read bs (text ++ b ∷ []) (onward o b) (onward_read text o b h))
 
+-- before the first byte nothing was read
 pub read_nothing : HasRead [] (spot [] Between)
 read_nothing = record { spelled = refl; each = tt; live = omega arith }
 
+-- a path with a step is written by its pieces
 text_snoc : (ds : List PathStep) (p : PathStep) → path_text (ds ++ p ∷ []) ≡ pieces_of (ds ++ p ∷ [])
 text_snoc [] p = refl
 text_snoc (d ∷ ds) p = refl
 
+-- what was read is completed by the rest of a piece
 ends : (text : List ℕ) (ds : List PathStep) (p : Part) (d : PathStep) (rest : List ℕ) → HasRead text (spot ds p) → shown p ++ rest ≡ piece_of d → HasPiece d → length ds < 64 → Begins text
 ends text ds p d rest h e a lt = (
   rest,
@@ -73,6 +80,7 @@ ends text ds p d rest h e a lt = (
   ap (λ t. t ++ rest) h.spelled ∙ append_assoc (pieces_of ds) (shown p) rest ∙ ap (λ t. pieces_of ds ++ t) e ∙ sym (pieces_snoc ds d) ∙ sym (text_snoc ds d),
 )
 
+-- a is a letter
 letter_a : IsTrue (is_letter 97)
 letter_a = refl
 
@@ -96,12 +104,15 @@ can_end text ds (Down f (suc n)) h = ends text ds (Down f (suc n)) (EachFrom f (
 some_of : {A : Type 0} {x y : A} → Some x ≡ Some y → x ≡ y
 some_of e = cc
 
+-- a fact of one path is one of an equal path
 was : (text : List ℕ) (ps qs : List PathStep) → qs ≡ ps → IsPath qs × (text ≡ path_text qs) → IsPath ps × (text ≡ path_text ps)
 was text ps qs e h = subst (λ ps. IsPath ps × (text ≡ path_text ps)) e h
 
+-- a text whose last part is a whole piece is that of the path with it
 at_end : (text : List ℕ) (ds : List PathStep) (p : Part) (d : PathStep) → HasRead text (spot ds p) → shown p ≡ piece_of d → HasPiece d → length ds < 64 → IsPath (ds ++ d ∷ []) × (text ≡ path_text (ds ++ d ∷ []))
 at_end text ds p d h e a lt = (record { each = each_snoc ds d h.each a; short = omega (arith, length-append ds (d ∷ [])) }, h.spelled ∙ ap (λ t. pieces_of ds ++ t) e ∙ sym (pieces_snoc ds d) ∙ sym (text_snoc ds d))
 
+-- a text that may end is that of the path which was read
 pub is_whole : (text : List ℕ) (ds ps : List PathStep) (p : Part) → HasRead text (spot ds p) → whole ds p ≡ Some ps → IsPath ps × (text ≡ path_text ps)
 is_whole text [] ps Dot h e = was text ps [] (some_of e) (record { each = tt; short = omega arith }, h.spelled)
 is_whole text (d ∷ ds) ps Dot h e = absurd (cc)
@@ -123,34 +134,42 @@ pub data IsSettled (ds : List PathStep) : Spot → Type 0 where
   By_word : (es : List PathStep) (w : List ℕ) → ds ≡ es ++ Name w ∷ [] → IsSettled ds (spot es (Word w))
   By_number : (es : List PathStep) (n : ℕ) → ds ≡ es ++ Group n ∷ [] → IsSettled ds (spot es (Number n))
 
+-- a smaller number passes the test
 pub lt_test : (a b : ℕ) → a < b → nat_lt a b ≡ true
 lt_test a b h = grind (arith, nat_tests)
 
+-- a list with one more element is longer by one
 shorter : (ds es : List PathStep) (d : PathStep) → ds ≡ es ++ d ∷ [] → length ds ≡ length es + 1
 shorter ds es d e = ap length e ∙ length-append es (d ∷ [])
 
+-- a byte that ends a piece leads on to the next part
 closed : (ds es : List PathStep) (d : PathStep) (q : Part) → ds ≡ es ++ d ∷ [] → length ds < 64 → moved es (closes (length es) d q) ≡ Some (spot ds q)
 closed ds es d q e lt =
     let k : length es + 1 < 64 = omega (arith, shorter ds es d e) in
     ap (λ c. moved es (if c then Finish d q else Dead)) (lt_test (length es + 1) 64 k) ∙ ap (λ x. Some (spot x q)) (sym e)
 
+-- a first byte leads on to its part
 opened : (ds : List PathStep) (q : Part) → length ds < 64 → moved ds (opens (length ds) q) ≡ Some (spot ds q)
 opened ds q lt = ap (λ c. moved ds (if c then Stay q else Dead)) (lt_test (length ds) 64 lt)
 
+-- a dot goes on behind whole pieces
 pub dot_next : (ds : List PathStep) (s : Spot) → IsSettled ds s → length ds < 64 → onward (Some s) 46 ≡ Some (spot ds Dot)
 dot_next ds s By_end lt = opened ds Dot lt
 dot_next ds s (By_word es w e) lt = closed ds es (Name w) Dot e lt
 dot_next ds s (By_number es n e) lt = closed ds es (Group n) Dot e lt
 
+-- a bracket goes on behind whole pieces
 pub open_next : (ds : List PathStep) (s : Spot) → IsSettled ds s → length ds < 64 → onward (Some s) 91 ≡ Some (spot ds Open)
 open_next ds s By_end lt = opened ds Open lt
 open_next ds s (By_word es w e) lt = closed ds es (Name w) Open e lt
 open_next ds s (By_number es n e) lt = closed ds es (Group n) Open e lt
 
+-- reading two texts is reading one and then the other
 pub run_append : (xs ys : List ℕ) (o : Option Spot) → run (xs ++ ys) o ≡ run ys (run xs o)
 run_append [] ys o = refl
 run_append (x ∷ xs) ys o = run_append xs ys (onward o x)
 
+-- the sign of a digit is its value
 pub digit_sign : (d : ℕ) → d < 10 → sign_of (48 + d) ≡ sign.Digit d
 digit_sign d h =
     let e : 48 + d - 48 ≡ d = omega arith in

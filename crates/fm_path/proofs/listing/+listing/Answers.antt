@@ -1,5 +1,5 @@
 -- The members' texts follow one another, each at its offset.
-use Rattle.std.proofs.Common.{◌∙◌, ◌<◌, ◌≤◌, ◌+◌, ◌*◌, ◌^◌, length, ap, sym, refl, arith}
+use Rattle.std.proofs.Common.{◌∙◌, ◌<◌, ◌≤◌, ◌+◌, ◌*◌, ◌^◌, length, ap, sym, arith}
 use Rattle.fm_layout.specs.Depth.{depth}
 use Rattle.fm_path.proofs.Texts.{list_start, list_more, list_past, list_end, deep_member, inner_fits}
 use Rattle.fm_path.proofs.listing.+listing.Goals as goal

@@ -1,5 +1,5 @@
 -- Members are sought in their order.
-use Rattle.std.proofs.Common.{◌∙◌, sym, arith}
+use Rattle.std.proofs.Common.{◌∙◌, sym}
 use Rattle.fm_places.proofs.Members.{seek_start, seek_more, seek_found, seek_past, seek_end}
 use Rattle.fm_path.proofs.moves.index_of.Goals as goal
 

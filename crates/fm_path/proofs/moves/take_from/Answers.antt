@@ -1,5 +1,5 @@
 -- Where there is a second index, a step stays in the sequence.
-use Rattle.std.proofs.Common.{arith, subst, sym, ap, ◌∙◌, ◌*◌, w64, to_z, of_z}
+use Rattle.std.proofs.Common.{arith, subst, sym, ap, ◌∙◌, ◌*◌, w64, of_z}
 use Rattle.std.proofs.lemmas.Int.{to_z-of_z}
 use Rattle.fm_places.specs.Steady.{IsShort}
 use Rattle.fm_places.specs.Walk.{bound_of}
