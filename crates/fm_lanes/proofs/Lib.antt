@@ -1,4 +1,5 @@
 pub mod Lanes
+pub mod Masks
 pub mod Meaning
 pub mod Reading
 pub mod Turning

@@ -5,6 +5,8 @@
 mod coding;
 mod lane;
 mod order;
+#[cfg(test)]
+mod tests;
 mod value;
 mod value_kind;
 mod words;

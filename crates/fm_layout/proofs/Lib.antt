@@ -1,4 +1,5 @@
 pub mod Names
+pub mod Refused
 pub mod Sound
 pub mod Powers
 pub mod Deep

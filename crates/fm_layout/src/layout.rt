@@ -17,7 +17,7 @@ use std::marker::Model;
 use std::slice;
 
 /// A layout: what stands where in a run of bytes. Contracts see it as a tree.
-#[derive(Drop)]
+#[derive(Debug, Drop)]
 #[cycle(layout)]
 pub struct Layout {
     size: u64,
@@ -26,7 +26,7 @@ pub struct Layout {
     node: Node,
 }
 
-#[derive(Drop)]
+#[derive(Debug, Drop)]
 #[cycle(layout)]
 enum Node {
     Value(ValueKind, Order),

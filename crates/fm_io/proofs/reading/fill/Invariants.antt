@@ -1,0 +1,18 @@
+use Rattle.std.proofs.Common.{◌≡◌, ◌≤◌, ◌-◌, ℕ, length, take}
+use Rattle.fm_io.specs.Files.{AreBytesFrom}
+use Rattle.fm_io.proofs.reading.fill.Given as goal
+
+-- the buffer's first n bytes are those of the file, and nothing else has changed
+abbrev pub invariant-loop-n : goal.invariant-loop-n
+invariant-loop-n g l =
+    let files = g.F.Files in
+    record {
+      within : l.n ≤ length l.buf;
+      bytes : AreBytesFrom (files.holds l.fn.files) l.name l.at (take l.n l.buf);
+      held : files.holds l.files ≡ files.holds l.fn.files;
+      faults_stay : files.faults l.fn.files ≤ files.faults l.files;
+      misses_stay : files.misses l.fn.files ≤ files.misses l.files;
+    }
+
+abbrev pub decreases-loop-n : goal.decreases-loop-n
+decreases-loop-n g l = length l.initial.buf - l.n

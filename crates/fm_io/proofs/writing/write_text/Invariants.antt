@@ -1,0 +1,16 @@
+use Rattle.std.proofs.Common.{◌≡◌, ◌≤◌, ◌-◌, ℕ, length, take}
+use Rattle.fm_io.specs.Sink.{Appends}
+use Rattle.fm_io.proofs.writing.write_text.Given as goal
+
+-- the text's first bytes were written
+abbrev pub invariant-loop-taken : goal.invariant-loop-taken
+invariant-loop-taken g l =
+    let out = g.O.Sink in
+    record {
+      within : l.taken ≤ length l.text;
+      written : Appends (out.written l.fn.out) (out.written l.out) (take l.taken l.text);
+      faults_stay : out.faults l.fn.out ≤ out.faults l.out;
+    }
+
+abbrev pub decreases-loop-taken : goal.decreases-loop-taken
+decreases-loop-taken g l = length l.text - l.taken

@@ -1,0 +1,52 @@
+-- What a source of files tells of its files, and what a read of one may answer.
+use Rattle.std.specs.Prelude.{◌≡◌, ℕ, ◌≤◌, ◌<◌, List, [], map, length, take, drop, Option, None, MatchOption, IfSome, IsSomeAnd, String, Vec, string_bytes}
+use Rattle.std.specs.Ordering.{nat_cmp}
+use Rattle.std.specs.Cmp.Lexicographic.{slice_cmp}
+use Rattle.std.specs.FinMap.{FinMap, from_entries, get}
+use Rattle.std.specs.declared.alloc.Global.{Global}
+use Rattle.fm_io.specs.declared.files.Piece.{Piece}
+use Rattle.fm_io.specs.declared.files.Piece.TheVariants.{Got, End, Missing}
+use Rattle.fm_io.specs.declared.fault.Fault.{Fault}
+
+-- the bytes under each name that is there
+abbrev pub Contents : Type 0
+Contents = FinMap (slice_cmp nat_cmp) (List ℕ)
+
+-- the bytes under a name, where it is there
+abbrev pub file_of : Contents → List ℕ → Option (List ℕ)
+file_of contents name = get contents name
+
+-- What a list of names and bytes holds: where a name stands twice, the first counts.
+abbrev pub contents_of : List (String Global × Vec ℕ Global) → Contents
+contents_of files = from_entries (map (λ f. (string_bytes f.0, f.1.items)) files)
+
+-- a piece has at least one byte, and no more than there was room for
+abbrev pub HasBytes : ℕ → Piece → Type 0
+HasBytes room (Got n) = (0 < n) × (n ≤ room)
+HasBytes room End = Unit {0}
+HasBytes room Missing = Unit {0}
+
+-- what the piece read at a place says of a file with these bytes
+abbrev pub IsPieceOf : List ℕ → ℕ → List ℕ → Piece → Type 0
+IsPieceOf file at buffer (Got n) = take n buffer ≡ take n (drop at file)
+IsPieceOf file at buffer End = length file ≤ at
+IsPieceOf file at buffer Missing = ⊥
+
+-- what a piece says of the contents: there is no such name, or it is a piece of that file
+abbrev pub TellsPiece : Contents → List ℕ → ℕ → List ℕ → Piece → Type 0
+TellsPiece contents name at buffer piece =
+    MatchOption (file_of contents name) (piece ≡ Missing) (λ file. IsPieceOf file at buffer piece)
+
+-- the files tell that these are bytes of the file of that name, if there are any of them
+abbrev pub AreBytesFrom : Option Contents → List ℕ → ℕ → List ℕ → Type 0
+AreBytesFrom told name at bytes = IfSome told (λ contents.
+    MatchOption (file_of contents name) (bytes ≡ []) (λ file. bytes ≡ take (length bytes) (drop at file)))
+
+-- the files tell that the file of that name is there, and ends at or before the place
+abbrev pub EndsBefore : Option Contents → List ℕ → ℕ → Type 0
+EndsBefore told name place = IfSome told (λ contents.
+    IsSomeAnd (file_of contents name) (λ file. length file ≤ place))
+
+-- the files tell that there is no file of that name
+abbrev pub IsAbsent : Option Contents → List ℕ → Type 0
+IsAbsent told name = IfSome told (λ contents. file_of contents name ≡ None)

@@ -1,0 +1,5 @@
+pub mod Count
+pub mod Failing
+pub mod Files
+pub mod InMemory
+pub mod Sink

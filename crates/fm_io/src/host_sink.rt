@@ -1,0 +1,37 @@
+ghost use Rattle.std.specs.Prelude.{◌≡◌, None};
+
+use crate::count::raised;
+use crate::fault::Fault;
+use crate::sink::Sink;
+use std::io::Write;
+
+/// A writer of the host, as the standard output. It tells nothing of what was written.
+///
+/// Each write is one call of the system. One that takes no byte is a fault.
+#[derive(Drop)]
+pub struct HostSink<W: Write> {
+    writer: W,
+    faults: u64,
+}
+
+impl<W: Write> HostSink<W> {
+    pub fn new(writer: W) -> HostSink<W> {
+        HostSink { writer, faults: 0 }
+    }
+}
+
+impl<W: Write> Sink for HostSink<W> {
+    ghost written = { λ _. None };
+
+    ghost faults = { λ s. s.faults };
+
+    fn write(&mut self, piece: &[u8]) -> Result<usize, Fault> {
+        match self.writer.write(piece) {
+            Ok(n) if n > 0 => Ok(n),
+            _ => {
+                self.faults = raised(self.faults);
+                Err(Fault::Failed)
+            }
+        }
+    }
+}

@@ -1,0 +1,97 @@
+ghost use Rattle.std.specs.Prelude.{◌≡◌, ◌≢◌, ◌≤◌, ◌<◌, Some, length, IfOk, is_err};
+ghost use Rattle.fm_io.specs.Count.{Rose};
+ghost use Rattle.fm_io.specs.Files.{contents_of, HasBytes, TellsPiece};
+
+use crate::count::raised;
+use crate::failing::Failing;
+use crate::fault::Fault;
+use crate::files::{Files, Piece};
+use crate::listed_files::read_listed;
+
+/// Files in memory, some of whose reads fail.
+#[derive(Drop)]
+pub struct MemFiles {
+    files: Vec<(String, Vec<u8>)>,
+    reads: Failing,
+    misses: u64,
+    most: usize,
+    ghost some: { 0 < most },
+}
+
+impl MemFiles {
+    ghost use Rattle.fm_io.specs.Failing.{listed_calls, calls_made, calls_failed};
+    ghost use Rattle.fm_io.specs.InMemory.{mem_contents, mem_misses, mem_reads, read_limit};
+
+    /// The reads whose numbers, from 0, are in `failing` fail. Where a name is listed twice, the first counts.
+    pub fn new(files: Vec<(String, Vec<u8>)>, failing: Vec<u64>) -> MemFiles
+        ensures contents { mem_contents result ≡ contents_of files.items }
+        ensures listed { listed_calls (mem_reads result) ≡ failing.items }
+        ensures made { calls_made (mem_reads result) ≡ 0 }
+        ensures failed { calls_failed (mem_reads result) ≡ 0 }
+        ensures misses { mem_misses result ≡ 0 }
+    {
+        MemFiles {
+            files,
+            reads: Failing::new(failing),
+            misses: 0,
+            most: usize::MAX,
+        }
+    }
+
+    /// The same files, each piece of at most `n` bytes.
+    pub fn with_piece(self, n: usize) -> MemFiles
+        requires { 0 < n }
+        ensures contents { mem_contents result ≡ mem_contents self }
+        ensures reads { mem_reads result ≡ mem_reads self }
+        ensures misses { mem_misses result ≡ mem_misses self }
+        ensures limit { read_limit result ≡ n }
+    {
+        let MemFiles {
+            files,
+            reads,
+            misses,
+            most: _,
+        } = self;
+        MemFiles {
+            files,
+            reads,
+            misses,
+            most: n,
+        }
+    }
+}
+
+impl Files for MemFiles {
+    ghost use Rattle.fm_io.specs.Failing.{calls_failed, CountsCall};
+    ghost use Rattle.fm_io.specs.InMemory.{mem_contents, mem_misses, mem_reads, read_limit};
+
+    ghost holds = { λ f. Some (mem_contents f) };
+
+    ghost faults = { λ f. calls_failed (mem_reads f) };
+
+    ghost misses = { mem_misses };
+
+    fn read_at(&mut self, name: &str, at: u64, buf: &mut [u8]) -> Result<Piece, Fault>
+        requires { 0 < length buf.old }
+
+        // It fails exactly where the call is one of those listed.
+        ensures fails { CountsCall (mem_reads self.old) (mem_reads self.new) (is_err result) }
+        ensures never_memory { result ≢ Err Fault.Memory }
+        ensures bytes { IfOk result (HasBytes (length buf.old)) }
+        ensures most { IfOk result (HasBytes (read_limit self.old)) }
+        ensures content { IfOk result (TellsPiece (mem_contents self.old) name.now at buf.new) }
+        ensures held { mem_contents self.new ≡ mem_contents self.old }
+        ensures limit { read_limit self.new ≡ read_limit self.old }
+        ensures missing { result ≡ Ok Piece.Missing → Rose (mem_misses self.old) (mem_misses self.new) }
+        ensures misses_stay { mem_misses self.old ≤ mem_misses self.new }
+    {
+        if self.reads.counts_call() {
+            return Err(Fault::Failed);
+        }
+        let piece = read_listed(&self.files, name, at, buf, self.most);
+        if piece == Piece::Missing {
+            self.misses = raised(self.misses);
+        }
+        Ok(piece)
+    }
+}

@@ -1,0 +1,25 @@
+ghost use Rattle.std.specs.Prelude.{◌≡◌, ◌<◌, ◌≤◌, ℕ, List, length, Option, IfOk, IsErrOf};
+ghost use Rattle.fm_io.specs.Count.{Rose};
+ghost use Rattle.fm_io.specs.Sink.{TookPiece};
+
+use crate::fault::Fault;
+
+/// Where bytes are written, one after another.
+///
+/// An implementation may tell what was written. It counts the writes that failed; the count stands
+/// still at the greatest `u64`. Code that is generic over the trait can't raise it by itself.
+pub trait Sink {
+    /// What was written, where it is told.
+    ghost written: { Self → Option (List ℕ) };
+
+    /// How many writes failed.
+    ghost faults: { Self → ℕ };
+
+    /// Writes some first bytes of the piece, at least one, and answers how many. After an error none was written.
+    fn write(&mut self, piece: &[u8]) -> Result<usize, Fault>
+        requires { 0 < length piece.now }
+        ensures bytes { IfOk result (λ n. (0 < n) × (n ≤ length piece.now)) }
+        ensures took { TookPiece (written self.old) (written self.new) piece.now result }
+        ensures failed { IsErrOf result Fault.Failed → Rose (faults self.old) (faults self.new) }
+        ensures faults_stay { faults self.old ≤ faults self.new };
+}

@@ -1,0 +1,35 @@
+use Rattle.std.proofs.Common.{◌≡◌, Err, List, ℕ, Option, ap, ◌∙◌, refl, subst}
+use Rattle.fm_top.specs.Ending.{shown}
+use Rattle.fm_top.specs.Run.{Stops, Traces, traces_of}
+use Rattle.fm_top.specs.Words.{texts}
+use Rattle.fm_top.specs.declared.stop.Stop.{Stop}
+use Rattle.fm_top.proofs.Runs.{runs-printed, runs-unread, runs-stopped}
+use Rattle.fm_top.proofs.run.run_words.Goals as goal
+
+pub returns-in-Ok-clause-runs : goal.returns-in-Ok-clause-runs
+returns-in-Ok-clause-runs g c =
+    let files = g.F.Files in
+    let out = g.O.Sink in
+    let t = traces_of (files.faults c.args.files.now) (files.faults c.ending_of.new.files) (out.faults c.args.out.now) (out.faults c.print.new.out) (out.written c.args.out.now) (out.written c.print.new.out) in
+    runs-printed (texts c.args.words.now) (files.holds c.args.files.now) t (shown c.in-Ok.ending) c.print.result c.in-Ok.ensures.outcome c.print.ensures.prints
+
+pub returns-in-Err-Failed-clause-runs : goal.returns-in-Err-Failed-clause-runs
+returns-in-Err-Failed-clause-runs g c =
+    let files = g.F.Files in
+    let out = g.O.Sink in
+    let words = texts c.args.words.now in
+    let told = files.holds c.args.files.now in
+    let t = traces_of (files.faults c.args.files.now) (files.faults c.ending_of.new.files) (out.faults c.args.out.now) (out.faults c.args.out.now) (out.written c.args.out.now) (out.written c.args.out.now) in
+    runs-unread words told t
+    (subst (λ (stop : Stop). Stops words told stop) c.in-Err-Failed.field-0-is c.in-Err-Failed.ensures.stops)
+    (c.ending_of.ensures.unread (c.in-Err-Failed.is ∙ ap Err c.in-Err-Failed.field-0-is)) refl
+
+pub returns-in-Err-Memory-clause-runs : goal.returns-in-Err-Memory-clause-runs
+returns-in-Err-Memory-clause-runs g c =
+    let files = g.F.Files in
+    let out = g.O.Sink in
+    let words = texts c.args.words.now in
+    let told = files.holds c.args.files.now in
+    let t = traces_of (files.faults c.args.files.now) (files.faults c.ending_of.new.files) (out.faults c.args.out.now) (out.faults c.args.out.now) (out.written c.args.out.now) (out.written c.args.out.now) in
+    runs-stopped words told t
+    (subst (λ (stop : Stop). Stops words told stop) c.in-Err-Memory.field-0-is c.in-Err-Memory.ensures.stops) refl

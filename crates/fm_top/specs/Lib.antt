@@ -1,0 +1,9 @@
+pub mod Asked
+pub mod Ending
+pub mod Held
+pub mod Loaded
+pub mod Outcome
+pub mod Records
+pub mod Run
+pub mod Whole
+pub mod Words

@@ -1,0 +1,60 @@
+-- How a run ends: its status, and all that it prints.
+use Rattle.std.specs.Prelude.{ℕ, ◌%◌, ◌==◌, nat_lt, if◌then◌else◌, List, [], ◌∷◌, ◌++◌, length, codes, Option, None, Some}
+use Rattle.std.specs.Fmt.{decimal, signed_decimal}
+use Rattle.fm_io.specs.Files.{Contents, file_of}
+use Rattle.fm_lanes.specs.declared.value_kind.ValueKind.TheVariants.{Long}
+use Rattle.fm_top.specs.Records.{sum_of_values}
+use Rattle.fm_top.specs.Words.{Request, Sum}
+use Rattle.fm_top.specs.declared.status.Status.{Status}
+use Rattle.fm_top.specs.declared.status.Status.TheVariants.{Answered, Usage, Missing, Unread, LayoutRefused, QueryRefused, Ragged, TooLong, Unwritten, NoMemory, ScriptRefused}
+
+pub record Outcome : Type 0 where
+  pub status : Status
+  pub text : List ℕ
+
+-- a line of text
+abbrev pub line : List ℕ → List ℕ
+line text = text ++ 10 ∷ []
+
+-- the most bytes of a record file
+abbrev pub record_file_limit : ℕ
+record_file_limit = 67108864
+
+-- the words are no command
+abbrev pub usage : Outcome
+usage = record { status = Usage; text = line (codes "usage") }
+
+-- there is no file of that name
+abbrev pub missing : List ℕ → Outcome
+missing file = record { status = Missing; text = line (codes "missing " ++ file) }
+
+-- the file has more bytes than the limit
+abbrev pub too_long : Outcome
+too_long = record { status = TooLong; text = line (codes "too long") }
+
+-- the file's length leaves this rest when it is cut into records
+abbrev pub ragged : ℕ → Outcome
+ragged rest = record { status = Ragged; text = line (codes "ragged " ++ decimal rest) }
+
+-- all else: the answer
+abbrev pub answered : List ℕ → Outcome
+answered text = record { status = Answered; text = text }
+
+-- what `sum` prints for a file
+abbrev pub sum_text : ℕ → ℕ → List ℕ → List ℕ
+sum_text size at bytes = line (codes "sum " ++ signed_decimal (sum_of_values Long size at bytes))
+
+-- how `sum` ends for a file of these bytes
+abbrev pub sum_of_file : ℕ → ℕ → List ℕ → Outcome
+sum_of_file size at bytes =
+    if nat_lt record_file_limit (length bytes) then too_long
+    else if length bytes % size == 0 then answered (sum_text size at bytes)
+    else ragged (length bytes % size)
+
+abbrev pub sum_outcome : ℕ → ℕ → List ℕ → Option (List ℕ) → Outcome
+sum_outcome size at file None = missing file
+sum_outcome size at file (Some bytes) = sum_of_file size at bytes
+
+-- how the request ends where these are the files
+abbrev pub outcome_of : Request → Contents → Outcome
+outcome_of (Sum size at file) contents = sum_outcome size at file (file_of contents file)

@@ -1,0 +1,23 @@
+//! The tool: what its words ask for, how a run ends, and what it prints.
+#![tactic(auto)]
+
+mod buffers;
+mod ending;
+mod held;
+mod kept;
+mod loaded;
+mod loading;
+mod run;
+mod status;
+mod stop;
+mod sum;
+mod summing;
+mod words;
+
+pub use held::RECORD_FILE_LIMIT;
+pub use kept::Kept;
+pub use loaded::Loaded;
+pub use loading::{LoadFault, load};
+pub use run::run_tool;
+pub use status::Status;
+pub use words::{Command, SumCommand};

@@ -1,0 +1,141 @@
+ghost use Rattle.std.specs.Prelude.{◌≡◌, IfOk, IfErr, IsErrOf, Some};
+ghost use Rattle.fm_io.specs.Count.{Rose};
+ghost use Rattle.fm_top.specs.Asked.{request_of};
+ghost use Rattle.fm_top.specs.Ending.{shown};
+ghost use Rattle.fm_io.specs.Files.{Contents};
+ghost use Rattle.fm_top.specs.Outcome.{outcome_of};
+ghost use Rattle.fm_top.specs.Run.{HasOutcome, IsOutcome, Runs, Stops, Prints, traces_of, code_of, EndsWith, Answers, AsksAbsent, AsksLong, AsksRagged};
+ghost use Rattle.fm_top.specs.Words.{Request, texts, Asks, AreFaulty, CanBeAsked};
+ghost use Rattle.fm_top.specs.declared.status.Status.TheVariants.{Answered, Usage, Missing, Unread, Ragged, TooLong, Unwritten};
+
+use crate::ending::Ending;
+use crate::kept::Kept;
+use crate::status::Status;
+use crate::stop::Stop;
+use crate::sum::sum_ending;
+use crate::words::{Command, command_of};
+use fm_io::{Fault, Files, Gate, Sink, write_text};
+use std::alloc::{AllocGlobal, Global};
+use std::random::RandomSource;
+use std::sync::Wait;
+use std::thread::Threads;
+
+/// Runs the tool on its words, which exclude the program's own name, and answers its status.
+///
+/// Everything is written after the answer is complete. The statuses are 0 for an answer, 1 for words that are no
+/// command, 2 for a missing file, 3 for a failed read, 6 for a file that is no whole number of records, 7 for a file
+/// over its limit, 8 for a failed write and 9 for want of memory; that is also the order in which they are tested,
+/// but for 7, which comes before 6, and for 9, which may come at any time.
+pub fn run_tool<R, F, O, G>(
+    rt: &R,
+    alloc: Global,
+    words: &[String],
+    files: &mut F,
+    out: &mut O,
+    gate: &G,
+    kept: &mut Kept,
+) -> u8
+where
+    R: Threads + Wait + RandomSource + AllocGlobal,
+    F: Files,
+    O: Sink,
+    G: Gate,
+    // The status is that of an outcome of the words and the files, or of what hindered it; what was written too.
+    ensures runs { (status : Status) × (result ≡ code_of status)
+        × Runs (texts words.now) (F.holds files.old)
+        (traces_of (F.faults files.old) (F.faults files.new) (O.faults out.old) (O.faults out.new)
+        (O.written out.old) (O.written out.new)) status }
+
+    // Each status has its cause.
+    ensures usage { result ≡ code_of Usage → AreFaulty (texts words.now) }
+    ensures missing { result ≡ code_of Missing → AsksAbsent (texts words.now) (F.holds files.old) }
+    ensures missed { result ≡ code_of Missing → Rose (F.misses files.old) (F.misses files.new) }
+    ensures unread { result ≡ code_of Unread → Rose (F.faults files.old) (F.faults files.new) }
+    ensures ragged { result ≡ code_of Ragged → AsksRagged (texts words.now) (F.holds files.old) }
+    ensures too_long { result ≡ code_of TooLong → AsksLong (texts words.now) (F.holds files.old) }
+    ensures unwritten { result ≡ code_of Unwritten → Rose (O.faults out.old) (O.faults out.new) }
+
+    // Words that are no command are told so, and read no file.
+    ensures faulty { AreFaulty (texts words.now) → EndsWith Usage result }
+    ensures reads_nothing { AreFaulty (texts words.now) → files.new ≡ files.old }
+
+    // Valid input is answered where files tell and no read or write failed.
+    ensures complete { (request : Request) (contents : Contents) → Asks (texts words.now) request
+        → F.holds files.old ≡ Some contents → (outcome_of request contents).status ≡ Answered
+        → ¬ (Rose (F.faults files.old) (F.faults files.new)) → ¬ (Rose (O.faults out.old) (O.faults out.new))
+        → Answers (outcome_of request contents) result (O.written out.old) (O.written out.new) }
+{
+    *kept = Kept::new();
+    run_words(rt, alloc, words, files, out).code()
+}
+
+/// Runs the words, and answers the status that this leaves.
+fn run_words<R: Wait, F: Files, O: Sink>(
+    rt: &R,
+    alloc: Global,
+    words: &[String],
+    files: &mut F,
+    out: &mut O,
+) -> Status
+    ensures runs { Runs (texts words.now) (F.holds files.old)
+        (traces_of (F.faults files.old) (F.faults files.new) (O.faults out.old) (O.faults out.new)
+        (O.written out.old) (O.written out.new)) result }
+    ensures missed { result ≡ Missing → Rose (F.misses files.old) (F.misses files.new) }
+    ensures reads_nothing { AreFaulty (texts words.now) → files.new ≡ files.old }
+{
+    match ending_of(rt, alloc, words, files) {
+        Ok(ending) => print(&ending, out),
+        Err(Stop::Failed) => Status::Unread,
+        Err(Stop::Memory) => Status::NoMemory,
+    }
+}
+
+/// Answers how the run ends. Words that are no command read no file.
+fn ending_of<R: Wait, F: Files>(
+    rt: &R,
+    alloc: Global,
+    words: &[String],
+    files: &mut F,
+) -> Result<Ending, Stop>
+    ensures outcome { IfOk result (λ ending. IsOutcome (texts words.now) (F.holds files.old) (shown ending)) }
+    ensures stops { IfErr result (Stops (texts words.now) (F.holds files.old)) }
+    ensures reads_nothing { AreFaulty (texts words.now) → files.new ≡ files.old }
+    ensures missed { IfOk result (λ ending. ending.status ≡ Missing → Rose (F.misses files.old) (F.misses files.new)) }
+    ensures unread { IsErrOf result Stop.Failed → Rose (F.faults files.old) (F.faults files.new) }
+{
+    match command_of(words) {
+        Some(command) => command_ending(rt, alloc, files, &command),
+        None => Ok(Ending::usage(alloc)?),
+    }
+}
+
+/// Does what the command asks for, up to the writing.
+fn command_ending<R: Wait, F: Files>(
+    rt: &R,
+    alloc: Global,
+    files: &mut F,
+    command: &Command<'_>,
+) -> Result<Ending, Stop>
+    requires { CanBeAsked (request_of command.now) }
+    ensures outcome { IfOk result (λ ending.
+        HasOutcome (request_of command.now) (F.holds files.old) (shown ending)) }
+    ensures missed { IfOk result (λ ending. ending.status ≡ Missing → Rose (F.misses files.old) (F.misses files.new)) }
+    ensures unread { IsErrOf result Stop.Failed → Rose (F.faults files.old) (F.faults files.new) }
+{
+    match command {
+        Command::Sum(sum) => sum_ending(rt, alloc, files, sum),
+    }
+}
+
+/// Writes the ending's text, and answers the status that this leaves.
+fn print<O: Sink>(ending: &Ending, out: &mut O) -> Status
+    ensures prints { Prints (shown ending.now) (O.faults out.old) (O.faults out.new)
+        (O.written out.old) (O.written out.new) result }
+    ensures missing { result ≡ Missing → ending.now.status ≡ Missing }
+{
+    match write_text(out, ending.text.as_str().as_bytes()) {
+        Ok(()) => ending.status,
+        Err(Fault::Failed) => Status::Unwritten,
+        Err(Fault::Memory) => Status::NoMemory,
+    }
+}

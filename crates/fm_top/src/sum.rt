@@ -1,0 +1,59 @@
+ghost use Rattle.std.specs.Prelude.{◌≡◌, ◌≤◌, IfOk, IsErrOf, length};
+ghost use Rattle.fm_io.specs.Count.{Rose};
+ghost use Rattle.fm_top.specs.Ending.{shown};
+ghost use Rattle.fm_top.specs.Outcome.{sum_of_file};
+ghost use Rattle.fm_top.specs.Run.{HasOutcome};
+ghost use Rattle.fm_top.specs.Words.{Sum, HasLong};
+ghost use Rattle.fm_top.specs.declared.status.Status.TheVariants.{Missing};
+
+use crate::ending::Ending;
+use crate::held::RECORD_FILE_LIMIT;
+use crate::loaded::Loaded;
+use crate::loading::{LoadFault, load};
+use crate::stop::Stop;
+use crate::summing::sum_longs;
+use crate::words::SumCommand;
+use fm_io::Files;
+use std::alloc::{AllocError, Global};
+use std::sync::Wait;
+
+/// Reads the file of a sum, and answers how the run ends.
+pub fn sum_ending<R: Wait, F: Files>(
+    rt: &R,
+    alloc: Global,
+    files: &mut F,
+    sum: &SumCommand<'_>,
+) -> Result<Ending, Stop>
+    requires { HasLong sum.now.size sum.now.at }
+    ensures outcome { IfOk result (λ ending.
+        HasOutcome (Sum sum.now.size sum.now.at sum.now.file.now) (F.holds files.old) (shown ending)) }
+    ensures missing { IfOk result (λ ending. ending.status ≡ Missing → Rose (F.misses files.old) (F.misses files.new)) }
+    ensures failed { IsErrOf result Stop.Failed → Rose (F.faults files.old) (F.faults files.new) }
+{
+    match load(rt, alloc, files, sum.file) {
+        Ok(mut loaded) => Ok(loaded_ending(alloc, &mut loaded, sum.size, sum.at)?),
+        Err(LoadFault::Missing) => Ok(Ending::missing(alloc, sum.file)?),
+        Err(LoadFault::TooLong) => Ok(Ending::too_long(alloc)?),
+        Err(LoadFault::Failed) => Err(Stop::Failed),
+        Err(LoadFault::Memory) => Err(Stop::Memory),
+    }
+}
+
+/// How the run ends for a file that was loaded whole.
+fn loaded_ending(
+    alloc: Global,
+    loaded: &mut Loaded,
+    size: u64,
+    at: u64,
+) -> Result<Ending, AllocError>
+    requires long { HasLong size at }
+    requires short { length loaded.old ≤ RECORD_FILE_LIMIT }
+    ensures { IfOk result (λ ending. shown ending ≡ sum_of_file size at loaded.old) }
+{
+    let rest = loaded.len() % size;
+    if rest == 0 {
+        Ending::sum(alloc, sum_longs(loaded, size, at))
+    } else {
+        Ending::ragged(alloc, rest)
+    }
+}
