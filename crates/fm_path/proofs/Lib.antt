@@ -1,0 +1,4 @@
+pub mod Indices
+pub mod Lines
+pub mod Resolving
+pub mod Texts

@@ -1,0 +1,43 @@
+-- What the pass over a path comes to is what a resolved path is.
+use Rattle.std.proofs.Common.{◌≡◌, ap, ℕ, List, arith}
+use Rattle.fm_lanes.specs.Kind.{width_of}
+use Rattle.fm_layout.specs.Tree.{Tree, Value, Padding, Sequence, Struct, Union, alignment_of}
+use Rattle.fm_layout.specs.Size.{size_of}
+use Rattle.fm_layout.specs.WellFormed.{IsWellFormed}
+use Rattle.fm_layout.proofs.Sound.{fit_of}
+use Rattle.fm_steps.specs.declared.step.PathStep.{PathStep}
+use Rattle.fm_places.specs.declared.dim.Dim.{Dim}
+use Rattle.fm_places.specs.Found.{LeadsTo}
+use Rattle.fm_places.proofs.Dims.{leads_dims}
+use Rattle.fm_places.proofs.Walking.{leads_finds, leads_steady, leads_inside, leads_end}
+use Rattle.fm_path.specs.declared.value_spec.ValueSpec.{ValueSpec}
+use Rattle.fm_path.specs.Resolution.{resolution, StaysInside, IsSpecOf, IsResolved}
+
+-- a value layout is as large as its kind is wide
+spec_size : (u : Tree) (v : ValueSpec) → IsSpecOf u v → width_of v.kind ≡ size_of u
+spec_size (Value k o l) v s = ap width_of s.0
+spec_size (Padding n l) v s = absurd s
+spec_size (Sequence n e l) v s = absurd s
+spec_size (Struct ms l) v s = absurd s
+spec_size (Union ms l) v s = absurd s
+
+-- what the pass comes to stays inside the root
+pub stays_inside : (path : List PathStep) (t : Tree) (offset : ℕ) (dims : List Dim) (u : Tree) (v : ValueSpec) (n a : ℕ) → IsWellFormed t → LeadsTo path t offset dims u → IsSpecOf u v → n ≡ size_of t → StaysInside (resolution offset dims v n a)
+stays_inside path t offset dims u v n a well l s e = record {
+  steady = λ is h. leads_steady path t offset dims u well l is h;
+  inside = λ is h. omega (arith, leads_inside path t offset dims u well l is h, spec_size u v s, e);
+  small = omega (arith, e, (fit_of t well).size);
+}
+
+-- what the pass comes to is the resolved path
+pub is_resolved : (path : List PathStep) (t : Tree) (offset : ℕ) (dims : List Dim) (u : Tree) (v : ValueSpec) (n a : ℕ) → IsWellFormed t → LeadsTo path t offset dims u → IsSpecOf u v → n ≡ size_of t → a ≡ alignment_of t → IsResolved path t (resolution offset dims v n a)
+is_resolved path t offset dims u v n a well l s en ea = record {
+  last = u;
+  ends = leads_end path t offset dims u l;
+  value = s;
+  dims = leads_dims path t offset dims u l;
+  leads = l;
+  finds = λ is h. leads_finds path t offset dims u well l is h;
+  root_size = en;
+  root_alignment = ea;
+}

@@ -1,0 +1,7 @@
+use Rattle.std.specs.Prelude.{[]}
+use Rattle.fm_places.specs.Walk.{move_closed}
+use Rattle.fm_places.proofs.Walking.{IsOnWay}
+use Rattle.fm_path.proofs.resolution.byte_offset.Given as goal
+
+abbrev pub invariant-loop-k : goal.invariant-loop-k
+invariant-loop-k l = IsOnWay move_closed l.path l.layout l.k l.offset [] l.here

@@ -1,0 +1,6 @@
+use Rattle.fm_places.specs.Walk.{move}
+use Rattle.fm_places.proofs.Walking.{IsOnWay}
+use Rattle.fm_path.proofs.resolution.resolve.Given as goal
+
+abbrev pub invariant-loop-k : goal.invariant-loop-k
+invariant-loop-k l = IsOnWay move l.path l.layout l.k l.offset l.dims l.here

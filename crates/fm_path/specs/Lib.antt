@@ -1,0 +1,4 @@
+pub mod Gives
+pub mod Listed
+pub mod Listing
+pub mod Resolution

@@ -1,0 +1,21 @@
+//! Paths into layouts: where they lead, and what their open indices do to the offset.
+#![tactic(auto)]
+
+mod dims;
+mod laws;
+mod listing;
+mod moves;
+mod resolution;
+mod resolved;
+#[cfg(test)]
+mod tests;
+mod value_spec;
+
+pub use dims::Dims;
+pub use fm_places::Dim;
+pub use fm_steps::{NameText, PathStep, parse_path};
+pub use laws::{places_lie_inside, values_lie_apart};
+pub use listing::list_places;
+pub use resolution::{byte_offset, resolve};
+pub use resolved::Resolved;
+pub use value_spec::ValueSpec;

@@ -1,0 +1,229 @@
+ghost use Rattle.std.specs.Prelude.{◌≡◌, ◌≤◌, ◌<◌, ◌*◌, ◌^◌, ◌++◌, length, codes, decimal, IfOk, IfErr, OnOk, Some};
+ghost use Rattle.std.specs.String.{string_bytes};
+ghost use Rattle.fm_layout.specs.Parts.{form_of};
+ghost use Rattle.fm_places.specs.Follow.{members_of, count_in};
+ghost use Rattle.fm_steps.specs.Grammar.{piece_of};
+ghost use Rattle.fm_path.specs.Listing.{kind_text, order_text, value_text, step_to, list_text};
+ghost use Rattle.fm_path.specs.Listed.{shown, longer_dims, listed, extent_of};
+
+use crate::moves::index_of;
+use fm_base::Refusal;
+use fm_lanes::{Order, ValueKind};
+use fm_layout::{Form, Layout};
+use std::alloc::Global;
+
+/// The layout's size and alignment in bytes, and then a line for each of its values in their order: the path to it,
+/// its offset in bytes, its type, its byte order, and the stride and bound of each open step of the path.
+///
+/// The path names a member that is the first of its name in its group, numbers every other one, and leaves the index
+/// of each sequence open. Refused: `Memory`.
+pub fn list_places(alloc: Global, layout: &Layout) -> Result<String, Refusal>
+    ensures text { IfOk result (λ text. string_bytes text ≡ list_text layout.now) }
+    ensures memory { IfErr result (λ refusal. refusal ≡ Refusal.Memory) }
+{
+    let size = layout.size();
+    let alignment = layout.alignment();
+    let Ok(mut text) = format!(in alloc; "size {size}\nalignment {alignment}\n") else {
+        return Err(Refusal::Memory);
+    };
+    list(alloc, &mut text, "", 0, "", layout)?;
+    Ok(text)
+}
+
+/// Adds a line for each value of the layout, which this path and these dims lead to.
+#[cycle(listing)]
+fn list(
+    alloc: Global,
+    text: &mut String,
+    path: &str,
+    at: u128,
+    dims: &str,
+    layout: &Layout,
+) -> Result<(), Refusal>
+    requires { at ≤ 2 ^ 40 * length path.now }
+    ensures text { OnOk result (string_bytes text.new ≡ string_bytes text.old ++ listed path.now at dims.now layout.now) }
+    ensures memory { IfErr result (λ refusal. refusal ≡ Refusal.Memory) }
+{
+    match layout.form() {
+        Form::Value(kind, order) => list_value(alloc, text, path, at, dims, kind, order),
+        Form::Padding => Ok(()),
+        Form::Sequence(count) => list_element(alloc, text, path, at, dims, layout, count),
+        Form::Struct(count) => list_members(alloc, text, path, at, dims, layout, count),
+        Form::Union(count) => list_members(alloc, text, path, at, dims, layout, count),
+    }
+}
+
+#[cycle(listing)]
+fn list_element(
+    alloc: Global,
+    text: &mut String,
+    path: &str,
+    at: u128,
+    dims: &str,
+    layout: &Layout,
+    count: u64,
+) -> Result<(), Refusal>
+    requires at { at ≤ 2 ^ 40 * length path.now }
+    requires form { Form.Sequence count ≡ form_of layout.now }
+    ensures text { OnOk result (string_bytes text.new ≡ string_bytes text.old ++ listed path.now at dims.now layout.now) }
+    ensures memory { IfErr result (λ refusal. refusal ≡ Refusal.Memory) }
+{
+    let Some(element) = layout.element() else {
+        return Ok(());
+    };
+    let path = element_path(alloc, path)?;
+    let dims = element_dims(alloc, dims, element.size(), count)?;
+    list(alloc, text, &path, at, &dims, element)
+}
+
+#[cycle(listing)]
+fn list_members(
+    alloc: Global,
+    text: &mut String,
+    path: &str,
+    at: u128,
+    dims: &str,
+    layout: &Layout,
+    count: u64,
+) -> Result<(), Refusal>
+    requires at { at ≤ 2 ^ 40 * length path.now }
+    requires count { Some count ≡ count_in (members_of layout.now) }
+    ensures text { OnOk result (string_bytes text.new ≡ string_bytes text.old ++ listed path.now at dims.now layout.now) }
+    ensures memory { IfErr result (λ refusal. refusal ≡ Refusal.Memory) }
+{
+    let _size = layout.size();
+    let mut inner = at;
+    for i in 0..count {
+        let Some(member) = layout.member(i) else {
+            return Ok(());
+        };
+        let to = member_path(alloc, path, layout, i, member)?;
+        list(alloc, text, &to, inner, dims, member)?;
+        inner += u128::from(extent(layout, member));
+    }
+    Ok(())
+}
+
+/// Adds the line of a value.
+fn list_value(
+    alloc: Global,
+    text: &mut String,
+    path: &str,
+    at: u128,
+    dims: &str,
+    kind: ValueKind,
+    order: Order,
+) -> Result<(), Refusal>
+    ensures text { OnOk result (string_bytes text.new ≡ string_bytes text.old ++ value_text (shown path.now) at kind order dims.now) }
+    ensures memory { IfErr result (λ refusal. refusal ≡ Refusal.Memory) }
+{
+    let path = if path.is_empty() { "." } else { path };
+    let kind = kind_name(kind);
+    let order = order_name(order);
+    let Ok(line) = format!(in alloc; "{path} {at} {kind} {order}{dims}\n") else {
+        return Err(Refusal::Memory);
+    };
+    match text.push_str(&line) {
+        Ok(()) => Ok(()),
+        Err(_) => Err(Refusal::Memory),
+    }
+}
+
+/// The path of a sequence's elements.
+fn element_path(alloc: Global, path: &str) -> Result<String, Refusal>
+    ensures text { IfOk result (λ inner. string_bytes inner ≡ path.now ++ codes "[]") }
+    ensures memory { IfErr result (λ refusal. refusal ≡ Refusal.Memory) }
+{
+    match format!(in alloc; "{path}[]") {
+        Ok(inner) => Ok(inner),
+        Err(_) => Err(Refusal::Memory),
+    }
+}
+
+/// The dims of a sequence's elements.
+fn element_dims(alloc: Global, dims: &str, stride: u64, bound: u64) -> Result<String, Refusal>
+    ensures text { IfOk result (λ inner. string_bytes inner ≡ longer_dims dims.now stride bound) }
+    ensures memory { IfErr result (λ refusal. refusal ≡ Refusal.Memory) }
+{
+    match format!(in alloc; "{dims} {stride}*{bound}") {
+        Ok(inner) => Ok(inner),
+        Err(_) => Err(Refusal::Memory),
+    }
+}
+
+/// The path of a group's member.
+fn member_path(
+    alloc: Global,
+    path: &str,
+    group: &Layout,
+    i: u64,
+    member: &Layout,
+) -> Result<String, Refusal>
+    ensures text { IfOk result (λ inner. string_bytes inner ≡ path.now ++ piece_of (step_to group.now i member.now)) }
+    ensures longer { IfOk result (λ inner. length path.now < length (string_bytes inner)) }
+    ensures memory { IfErr result (λ refusal. refusal ≡ Refusal.Memory) }
+{
+    match member.name() {
+        Some(name) => {
+            if index_of(group, name.as_bytes()) == Some(i) {
+                named_path(alloc, path, name)
+            } else {
+                numbered_path(alloc, path, i)
+            }
+        }
+        None => numbered_path(alloc, path, i),
+    }
+}
+
+fn named_path(alloc: Global, path: &str, name: &str) -> Result<String, Refusal>
+    ensures text { IfOk result (λ inner. string_bytes inner ≡ path.now ++ (codes "." ++ name.now)) }
+    ensures memory { IfErr result (λ refusal. refusal ≡ Refusal.Memory) }
+{
+    match format!(in alloc; "{path}.{name}") {
+        Ok(inner) => Ok(inner),
+        Err(_) => Err(Refusal::Memory),
+    }
+}
+
+fn numbered_path(alloc: Global, path: &str, i: u64) -> Result<String, Refusal>
+    ensures text { IfOk result (λ inner. string_bytes inner ≡ path.now ++ (codes ".#" ++ decimal i)) }
+    ensures memory { IfErr result (λ refusal. refusal ≡ Refusal.Memory) }
+{
+    match format!(in alloc; "{path}.#{i}") {
+        Ok(inner) => Ok(inner),
+        Err(_) => Err(Refusal::Memory),
+    }
+}
+
+/// The bytes from a group's member to the next one.
+fn extent(group: &Layout, member: &Layout) -> u64
+    ensures extent { result ≡ extent_of group.now member.now }
+    ensures fits { result ≤ 2 ^ 40 }
+{
+    match group.form() {
+        Form::Struct(_) => member.size(),
+        _ => 0,
+    }
+}
+
+fn kind_name(kind: ValueKind) -> &'static str
+    ensures { result.now ≡ kind_text kind }
+{
+    match kind {
+        ValueKind::Byte => "byte",
+        ValueKind::Boolean => "boolean",
+        ValueKind::Char => "char",
+        ValueKind::Short => "short",
+        ValueKind::Int => "int",
+        ValueKind::Long => "long",
+    }
+}
+
+fn order_name(order: Order) -> &'static str
+    ensures { result.now ≡ order_text order }
+{
+    match order {
+        Order::Little => "little",
+        Order::Big => "big",
+    }
+}

@@ -1,0 +1,5 @@
+pub mod Accepting
+pub mod Moves
+pub mod Names
+pub mod Parsing
+pub mod Reading
