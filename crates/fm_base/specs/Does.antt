@@ -9,7 +9,7 @@ use Rattle.fm_base.specs.Arenas.{MayUse}
 use Rattle.fm_base.specs.Calls as machine
 use Rattle.fm_base.specs.Calls.{Call, Reply, Entry, entry_of}
 use Rattle.fm_base.specs.Machine.{IsPower}
-use Rattle.fm_base.specs.View.{View, given_in}
+use Rattle.fm_base.specs.View.{View, Did, but_loans, given_in}
 use Rattle.fm_base.specs.Visits.{Acts, entries_of, visit, refused_visit, Tries}
 
 -- inside an arena, where the word has a given byte
@@ -76,3 +76,24 @@ DoesClose c id (Err (Held holds)) own =
     IsClosable id.kind × MayUse id c × (0 < holds)
     × (own ≡ entry_of c (machine.Shut id) (machine.Held holds) ∷ [])
 DoesClose c id (Err r) own = ⊥
+
+-- ---- the calls of a memory, from one view to the next
+
+abbrev pub DidEnter : View → View → ArenaId → Result (Unit {0}) Refusal → Type 0
+DidEnter old new id result = Did old new (DoesEnter old.caller id result)
+
+abbrev pub DidAct : View → View → (ArenaId → Call) → Reply → Type 0
+DidAct old new call reply = Did old new (DoesAct old.inside old.caller call reply)
+
+abbrev pub DidPatch : View → View → ℕ → ℕ → ℕ → ℕ → Type 0
+DidPatch old new word mask bits found = Did old new (DoesPatch old.inside old.caller word mask bits found)
+
+abbrev pub DidOpen : View → View → Kind → Result ArenaId Refusal → Type 0
+DidOpen old new kind result = Did old new (λ own. DoesOpen old.caller kind result (but_loans own))
+
+abbrev pub DidAllocate : View → View → ArenaId → ℕ → ℕ → Result ℕ Refusal → Type 0
+DidAllocate old new id size align result =
+    Did old new (λ own. DoesAllocate old.caller id size align result (but_loans own))
+
+abbrev pub DidClose : View → View → ArenaId → Result (Unit {0}) Refusal → Type 0
+DidClose old new id result = Did old new (λ own. DoesClose old.caller id result (but_loans own))

@@ -2,8 +2,8 @@ ghost use Rattle.std.specs.Prelude.{◌≡◌, ◌≢◌, bit_and, true, Ok, Err
 ghost use Rattle.fm_base.specs.Arenas.{Ended, has_arena, arena_of};
 ghost use Rattle.fm_base.specs.Calls as machine;
 ghost use Rattle.fm_base.specs.Finds.{is_slot, is_page};
-ghost use Rattle.fm_base.specs.View.{View, Did, IsSound, but_loans};
-ghost use Rattle.fm_base.specs.Does.{CanReach, DoesEnter, DoesAct, DoesPatch, DoesOpen, DoesAllocate, DoesClose};
+ghost use Rattle.fm_base.specs.View.{View, IsSound};
+ghost use Rattle.fm_base.specs.Does.{CanReach, DidEnter, DidAct, DidPatch, DidOpen, DidAllocate, DidClose};
 ghost use Rattle.fm_base.specs.Outcomes.{Nature, MayCome, FoundNoneFree, IsNew, Gives, Lasts};
 
 use crate::arena_id::ArenaId;
@@ -37,7 +37,7 @@ pub trait Memory {
     fn enter(&mut self, a: ArenaId) -> Result<(), Refusal>
         requires outside { (view self.old).inside ≡ None }
         requires known { has_arena (view self.old).state a ≡ true }
-        ensures did { Did (view self.old) (view self.new) (DoesEnter (view self.old).caller a result) }
+        ensures did { DidEnter (view self.old) (view self.new) a result }
         ensures inside { IfOk result (λ _. (view self.new).inside ≡ Some a) }
         ensures outside { IfErr result (λ _. (view self.new).inside ≡ None) }
         ensures lasts { Lasts (view self.old) (view self.new) }
@@ -46,7 +46,8 @@ pub trait Memory {
     /// The word of this index.
     fn load(&mut self, word: u64) -> u64
         requires { CanReach (view self.old) word }
-        ensures did { Did (view self.old) (view self.new) (DoesAct (view self.old).inside (view self.old).caller (λ a. machine.Read a word) (machine.Found result)) }
+        ensures did { DidAct (view self.old) (view self.new)
+            (λ a. machine.Read a word) (machine.Found result) }
         ensures inside { (view self.new).inside ≡ (view self.old).inside }
         ensures lasts { Lasts (view self.old) (view self.new) }
         ensures sound { IsSound (view self.new) };
@@ -54,7 +55,8 @@ pub trait Memory {
     /// Puts `v` into the word of this index.
     fn store(&mut self, word: u64, v: u64)
         requires { CanReach (view self.old) word }
-        ensures did { Did (view self.old) (view self.new) (DoesAct (view self.old).inside (view self.old).caller (λ a. machine.Write a word v) machine.Fine) }
+        ensures did { DidAct (view self.old) (view self.new)
+            (λ a. machine.Write a word v) machine.Fine }
         ensures inside { (view self.new).inside ≡ (view self.old).inside }
         ensures lasts { Lasts (view self.old) (view self.new) }
         ensures sound { IsSound (view self.new) };
@@ -62,7 +64,8 @@ pub trait Memory {
     /// Puts `new` into the word where it is `old`, and answers the word found.
     fn swap_if(&mut self, word: u64, old: u64, new: u64) -> u64
         requires { CanReach (view self.old) word }
-        ensures did { Did (view self.old) (view self.new) (DoesAct (view self.old).inside (view self.old).caller (λ a. machine.SwapIf a word old new) (machine.Found result)) }
+        ensures did { DidAct (view self.old) (view self.new)
+            (λ a. machine.SwapIf a word old new) (machine.Found result) }
         ensures inside { (view self.new).inside ≡ (view self.old).inside }
         ensures lasts { Lasts (view self.old) (view self.new) }
         ensures sound { IsSound (view self.new) };
@@ -70,7 +73,8 @@ pub trait Memory {
     /// Adds `n` to the word, wrapping at 2^64, and answers the word found.
     fn add(&mut self, word: u64, n: u64) -> u64
         requires { CanReach (view self.old) word }
-        ensures did { Did (view self.old) (view self.new) (DoesAct (view self.old).inside (view self.old).caller (λ a. machine.Add a word n) (machine.Found result)) }
+        ensures did { DidAct (view self.old) (view self.new)
+            (λ a. machine.Add a word n) (machine.Found result) }
         ensures inside { (view self.new).inside ≡ (view self.old).inside }
         ensures lasts { Lasts (view self.old) (view self.new) }
         ensures sound { IsSound (view self.new) };
@@ -81,7 +85,7 @@ pub trait Memory {
     fn patch<R: Wait>(&mut self, rt: &R, word: u64, mask: u64, bits: u64) -> u64
         requires reach { CanReach (view self.old) word }
         requires under { bit_and bits mask ≡ bits }
-        ensures did { Did (view self.old) (view self.new) (DoesPatch (view self.old).inside (view self.old).caller word mask bits result) }
+        ensures did { DidPatch (view self.old) (view self.new) word mask bits result }
         ensures inside { (view self.new).inside ≡ (view self.old).inside }
         ensures lasts { Lasts (view self.old) (view self.new) }
         ensures sound { IsSound (view self.new) };
@@ -89,7 +93,8 @@ pub trait Memory {
     /// Goes out of the arena that was entered.
     fn leave(&mut self)
         requires { IsSome (view self.old).inside }
-        ensures did { Did (view self.old) (view self.new) (DoesAct (view self.old).inside (view self.old).caller machine.Leave machine.Fine) }
+        ensures did { DidAct (view self.old) (view self.new)
+            machine.Leave machine.Fine }
         ensures outside { (view self.new).inside ≡ None }
         ensures lasts { Lasts (view self.old) (view self.new) }
         ensures sound { IsSound (view self.new) };
@@ -100,12 +105,13 @@ pub trait Memory {
     fn open_arena<R: Wait>(&mut self, rt: &R, kind: Kind) -> Result<ArenaId, Refusal>
         requires outside { (view self.old).inside ≡ None }
         requires by_hand { kind ≢ Kind.Automatic }
-        ensures did { Did (view self.old) (view self.new) (λ own. DoesOpen (view self.old).caller kind result (but_loans own)) }
+        ensures did { DidOpen (view self.old) (view self.new) kind result }
         ensures is_new { IfOk result (λ id. IsNew (view self.old) (view self.new) id) }
         ensures outside { (view self.new).inside ≡ None }
         ensures lasts { Lasts (view self.old) (view self.new) }
         ensures comes { MayCome nature result }
-        ensures no_slot { result ≡ Err Refusal.NoSlot → FoundNoneFree is_slot (view self.old).told (view self.new).told }
+        ensures no_slot { result ≡ Err Refusal.NoSlot
+            → FoundNoneFree is_slot (view self.old).told (view self.new).told }
         ensures sound { IsSound (view self.new) };
 
     /// Gives `size` bytes at the next place that is a multiple of `align`, and answers that place.
@@ -121,12 +127,13 @@ pub trait Memory {
     ) -> Result<u64, Refusal>
         requires outside { (view self.old).inside ≡ None }
         requires known { has_arena (view self.old).state a ≡ true }
-        ensures did { Did (view self.old) (view self.new) (λ own. DoesAllocate (view self.old).caller a size align result (but_loans own)) }
+        ensures did { DidAllocate (view self.old) (view self.new) a size align result }
         ensures gives { IfOk result (λ place. Gives (view self.old) (view self.new) a size align place) }
         ensures outside { (view self.new).inside ≡ None }
         ensures lasts { Lasts (view self.old) (view self.new) }
         ensures comes { MayCome nature result }
-        ensures pool_full { result ≡ Err Refusal.PoolFull → FoundNoneFree is_page (view self.old).told (view self.new).told }
+        ensures pool_full { result ≡ Err Refusal.PoolFull
+            → FoundNoneFree is_page (view self.old).told (view self.new).told }
         ensures sound { IsSound (view self.new) };
 
     /// Ends the arena, once nobody is under way in it.
@@ -135,7 +142,7 @@ pub trait Memory {
     fn close<R: Wait>(&mut self, rt: &R, a: ArenaId) -> Result<(), Refusal>
         requires outside { (view self.old).inside ≡ None }
         requires known { has_arena (view self.old).state a ≡ true }
-        ensures did { Did (view self.old) (view self.new) (λ own. DoesClose (view self.old).caller a result (but_loans own)) }
+        ensures did { DidClose (view self.old) (view self.new) a result }
         ensures ended { IfOk result (λ _. (arena_of (view self.new).state a).life ≡ Ended) }
         ensures outside { (view self.new).inside ≡ None }
         ensures lasts { Lasts (view self.old) (view self.new) }
