@@ -1,4 +1,6 @@
 pub mod Gives
+pub mod Laws
 pub mod Listed
 pub mod Listing
+pub mod Moving
 pub mod Resolution

@@ -1,9 +1,15 @@
 -- The text of a layout's values, from the texts of the path and the dims that lead to it.
-use Rattle.std.specs.Prelude.{ℕ, ◌+◌, List, [], ◌∷◌, ◌++◌, codes}
+use Rattle.std.specs.declared.string.String.{String}
+use Rattle.std.specs.String.{string_bytes}
+use Rattle.std.specs.Prelude.{◌≡◌, ℕ, ◌+◌, List, [], ◌∷◌, ◌++◌, codes}
 use Rattle.fm_layout.specs.Tree.{Tree, Trees, Value, Padding, Sequence, Struct, Union, NoMore, More}
 use Rattle.fm_layout.specs.Size.{size_of, member_offset}
 use Rattle.fm_steps.specs.Grammar.{piece_of}
 use Rattle.fm_path.specs.Listing.{value_text, dim_text, step_to}
+
+-- the text grew by these bytes
+abbrev pub Adds : {Z : Type 0} → String Z → String Z → List ℕ → Type 0
+Adds old new bytes = string_bytes new ≡ string_bytes old ++ bytes
 
 -- the layout's own path is a dot
 abbrev pub shown : List ℕ → List ℕ

@@ -4,7 +4,7 @@ ghost use Rattle.fm_layout.specs.Parts.{form_of};
 ghost use Rattle.fm_places.specs.Follow.{members_of, count_in};
 ghost use Rattle.fm_steps.specs.Grammar.{piece_of};
 ghost use Rattle.fm_path.specs.Listing.{kind_text, order_text, value_text, step_to, list_text};
-ghost use Rattle.fm_path.specs.Listed.{shown, longer_dims, listed, extent_of};
+ghost use Rattle.fm_path.specs.Listed.{Adds, shown, longer_dims, listed, extent_of};
 
 use crate::moves::index_of;
 use fm_base::Refusal;
@@ -41,7 +41,7 @@ fn list(
     layout: &Layout,
 ) -> Result<(), Refusal>
     requires { at ≤ 2 ^ 40 * length path.now }
-    ensures text { OnOk result (string_bytes text.new ≡ string_bytes text.old ++ listed path.now at dims.now layout.now) }
+    ensures text { OnOk result (Adds text.old text.new (listed path.now at dims.now layout.now)) }
     ensures memory { IfErr result (λ refusal. refusal ≡ Refusal.Memory) }
 {
     match layout.form() {
@@ -65,7 +65,7 @@ fn list_element(
 ) -> Result<(), Refusal>
     requires at { at ≤ 2 ^ 40 * length path.now }
     requires form { Form.Sequence count ≡ form_of layout.now }
-    ensures text { OnOk result (string_bytes text.new ≡ string_bytes text.old ++ listed path.now at dims.now layout.now) }
+    ensures text { OnOk result (Adds text.old text.new (listed path.now at dims.now layout.now)) }
     ensures memory { IfErr result (λ refusal. refusal ≡ Refusal.Memory) }
 {
     let Some(element) = layout.element() else {
@@ -88,7 +88,7 @@ fn list_members(
 ) -> Result<(), Refusal>
     requires at { at ≤ 2 ^ 40 * length path.now }
     requires count { Some count ≡ count_in (members_of layout.now) }
-    ensures text { OnOk result (string_bytes text.new ≡ string_bytes text.old ++ listed path.now at dims.now layout.now) }
+    ensures text { OnOk result (Adds text.old text.new (listed path.now at dims.now layout.now)) }
     ensures memory { IfErr result (λ refusal. refusal ≡ Refusal.Memory) }
 {
     let _size = layout.size();
@@ -114,7 +114,7 @@ fn list_value(
     kind: ValueKind,
     order: Order,
 ) -> Result<(), Refusal>
-    ensures text { OnOk result (string_bytes text.new ≡ string_bytes text.old ++ value_text (shown path.now) at kind order dims.now) }
+    ensures text { OnOk result (Adds text.old text.new (value_text (shown path.now) at kind order dims.now)) }
     ensures memory { IfErr result (λ refusal. refusal ≡ Refusal.Memory) }
 {
     let path = if path.is_empty() { "." } else { path };

@@ -8,6 +8,7 @@ ghost use Rattle.fm_places.specs.Steady.{IsShort, IsRow};
 ghost use Rattle.fm_layout.specs.Size.{member_offset};
 ghost use Rattle.fm_places.specs.Walk.{bound_of, stride_of, move, move_closed, move_group, move_name, move_from};
 ghost use Rattle.fm_path.specs.Gives.{Gives, row_or};
+ghost use Rattle.fm_path.specs.Moving.{Moves};
 
 use fm_base::Refusal;
 use fm_layout::{Form, Layout};
@@ -24,7 +25,7 @@ pub struct Move<'a> {
 
 /// Where step `k` leads from this layout.
 pub fn take<'a>(layout: &'a Layout, k: u64, step: &PathStep) -> Result<Move<'a>, Refusal>
-    ensures { Gives (λ m. record { by = m.by; dim = m.dim; to = m.to.now }) result (move k step.now layout.now) }
+    ensures { Moves result (move k step.now layout.now) }
 {
     match step {
         PathStep::Name(name) => take_name(layout, k, name),
@@ -37,7 +38,7 @@ pub fn take<'a>(layout: &'a Layout, k: u64, step: &PathStep) -> Result<Move<'a>,
 
 /// The same where no step may be left open.
 pub fn take_closed<'a>(layout: &'a Layout, k: u64, step: &PathStep) -> Result<Move<'a>, Refusal>
-    ensures { Gives (λ m. record { by = m.by; dim = m.dim; to = m.to.now }) result (move_closed k step.now layout.now) }
+    ensures { Moves result (move_closed k step.now layout.now) }
 {
     match step {
         PathStep::Each | PathStep::EachFrom(_, _) => Err(Refusal::StillOpen(k)),
@@ -46,7 +47,7 @@ pub fn take_closed<'a>(layout: &'a Layout, k: u64, step: &PathStep) -> Result<Mo
 }
 
 fn take_name<'a>(layout: &'a Layout, k: u64, name: &NameText) -> Result<Move<'a>, Refusal>
-    ensures { Gives (λ m. record { by = m.by; dim = m.dim; to = m.to.now }) result (move_name k name.now layout.now (members_of layout.now)) }
+    ensures { Moves result (move_name k name.now layout.now (members_of layout.now)) }
 {
     if member_count(layout).is_none() {
         return Err(Refusal::NotGroup(k));
@@ -58,7 +59,7 @@ fn take_name<'a>(layout: &'a Layout, k: u64, name: &NameText) -> Result<Move<'a>
 }
 
 fn take_group(layout: &Layout, k: u64, n: u64) -> Result<Move<'_>, Refusal>
-    ensures { Gives (λ m. record { by = m.by; dim = m.dim; to = m.to.now }) result (move_group k n layout.now (members_of layout.now)) }
+    ensures { Moves result (move_group k n layout.now (members_of layout.now)) }
 {
     let by = match layout.form() {
         Form::Struct(_) => bytes_before(layout, n),
@@ -72,7 +73,7 @@ fn take_group(layout: &Layout, k: u64, n: u64) -> Result<Move<'_>, Refusal>
 }
 
 fn take_at(layout: &Layout, k: u64, n: u64) -> Result<Move<'_>, Refusal>
-    ensures { Gives (λ m. record { by = m.by; dim = m.dim; to = m.to.now }) result (move k (PathStep.At n) layout.now) }
+    ensures { Moves result (move k (PathStep.At n) layout.now) }
 {
     let (count, to) = row(layout, k)?;
     if n < count {
@@ -87,7 +88,7 @@ fn take_at(layout: &Layout, k: u64, n: u64) -> Result<Move<'_>, Refusal>
 }
 
 fn take_each(layout: &Layout, k: u64) -> Result<Move<'_>, Refusal>
-    ensures { Gives (λ m. record { by = m.by; dim = m.dim; to = m.to.now }) result (move k PathStep.Each layout.now) }
+    ensures { Moves result (move k PathStep.Each layout.now) }
 {
     let (count, to) = row(layout, k)?;
     let dim = Dim {
@@ -102,7 +103,7 @@ fn take_each(layout: &Layout, k: u64) -> Result<Move<'_>, Refusal>
 }
 
 fn take_from(layout: &Layout, k: u64, first: u64, step: i64) -> Result<Move<'_>, Refusal>
-    ensures { Gives (λ m. record { by = m.by; dim = m.dim; to = m.to.now }) result (move_from k first step (row_of layout.now)) }
+    ensures { Moves result (move_from k first step (row_of layout.now)) }
 {
     let (count, to) = row(layout, k)?;
     if step == 0 {

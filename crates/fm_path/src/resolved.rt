@@ -23,13 +23,13 @@ pub struct Resolved {
 }
 
 impl Model for Resolved {
-    ghost use Rattle.fm_path.specs.Resolution.{Resolution, StaysInside};
+    ghost use Rattle.fm_path.specs.Resolution.{Resolution, resolution, StaysInside};
 
     ghost Value = { Resolution };
 
-    ghost view = { λ r. record { offset = r.offset; dims = r.dims; value = r.value; root_size = r.root_size; root_alignment = r.root_alignment } };
+    ghost view = { λ r. resolution r.offset r.dims r.value r.root_size r.root_alignment };
 
-    ghost invariant = { λ r. StaysInside (record { offset = r.offset; dims = r.dims; value = r.value; root_size = r.root_size; root_alignment = r.root_alignment }) };
+    ghost invariant = { λ r. StaysInside (resolution r.offset r.dims r.value r.root_size r.root_alignment) };
 }
 
 impl Resolved {
