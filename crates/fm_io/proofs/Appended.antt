@@ -20,5 +20,5 @@ Appends-more old mid new text n m first second =
 pub Appends-rest : (old mid new : Option (List ℕ)) (text : List ℕ) (n m : ℕ) → Appends old mid (take n text) → Appends mid new (take m (take (length text - n) (drop n text))) → Appends old new (take (n + m) text)
 Appends-rest old mid new text n m first second =
     let whole : take (length text - n) (drop n text) ≡ drop n text =
-        ap (λ k. take k (drop n text)) (sym (length-drop n text)) ∙ take-length (drop n text) in
+    ap (λ k. take k (drop n text)) (sym (length-drop n text)) ∙ take-length (drop n text) in
     Appends-more old mid new text n m first (second ∙ ap (λ rest. option_map (λ written. written ++ take m rest) mid) whole)

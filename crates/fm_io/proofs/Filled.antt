@@ -33,7 +33,7 @@ join_piece : (file bytes piece : List ℕ) (at n m : ℕ) → length bytes ≡ n
 join_piece file bytes piece at n m size more is next =
     let whole : length (bytes ++ piece) ≡ length bytes + m = omega (arith, length-append bytes piece) in
     let behind : piece ≡ take m (drop (length bytes) (drop at file)) =
-        next ∙ ap (take m) (ap (λ k. drop (at + k) file) (sym size) ∙ sym (drop-drop (length bytes) at file)) in
+    next ∙ ap (take m) (ap (λ k. drop (at + k) file) (sym size) ∙ sym (drop-drop (length bytes) at file)) in
     ap (λ front. front ++ piece) is
     ∙ ap (λ last. take (length bytes) (drop at file) ++ last) behind
     ∙ sym (take-add (length bytes) m (drop at file))

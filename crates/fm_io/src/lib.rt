@@ -18,6 +18,8 @@ mod reading;
 mod sink;
 mod sure_files;
 mod sure_sink;
+#[cfg(test)]
+mod tests;
 mod writing;
 
 pub use fault::Fault;

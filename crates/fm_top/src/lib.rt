@@ -12,6 +12,8 @@ mod status;
 mod stop;
 mod sum;
 mod summing;
+#[cfg(test)]
+mod tests;
 mod words;
 
 pub use held::RECORD_FILE_LIMIT;

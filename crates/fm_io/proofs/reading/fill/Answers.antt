@@ -17,8 +17,8 @@ loop-n-preserved g c =
     let read = rw c.in-Ok-Got.field-0-is at c.in-Ok-Got.ensures.bytes in
     let room : more ≤ length rest = omega (arith, read, c.read_at.auto.buf) in
     let piece : IfSome told (λ contents. TellsPiece contents name (c.args.at + n) rest (Got more)) =
-        subst (λ (t : Option Contents). IfSome t (λ contents. TellsPiece contents name (c.args.at + n) rest (Got more)))
-            c.loop-n.invariant.held (rw c.in-Ok-Got.field-0-is at c.in-Ok-Got.ensures.content) in
+    subst (λ (t : Option Contents). IfSome t (λ contents. TellsPiece contents name (c.args.at + n) rest (Got more)))
+    c.loop-n.invariant.held (rw c.in-Ok-Got.field-0-is at c.in-Ok-Got.ensures.content) in
     record {
       within = filled-le n more buffer rest c.loop-n.invariant.within room;
       bytes = subst (λ (bytes : List ℕ). AreBytesFrom told name c.args.at bytes)

@@ -1,0 +1,147 @@
+use crate::{
+    Fault, Files, FreeGate, Gate, HostFiles, HostSink, MemFiles, MemSink, Piece, ReadFault, Sink,
+    SureFiles, SureSink, fill, write_text,
+};
+use std::alloc::{AllocError, Global};
+use std::fs::{self, File};
+use std::test::Fail;
+use std::{env, process};
+
+/// The one file that is there.
+const TEXT: &[u8] = b"seven b";
+
+/// The file `f`.
+fn one_file(alloc: Global) -> Result<Vec<(String, Vec<u8>)>, AllocError> {
+    let file = (String::from_str(alloc, "f")?, TEXT.to_vec(alloc)?);
+    Ok(vec![in alloc; file]?)
+}
+
+/// The file `f`, where the reads of these numbers fail.
+fn files(alloc: Global, failing: &[u64]) -> Result<MemFiles, AllocError> {
+    Ok(MemFiles::new(one_file(alloc)?, failing.to_vec(alloc)?))
+}
+
+/// A sink whose writes of these numbers fail.
+fn sink(alloc: Global, failing: &[u64]) -> Result<MemSink, AllocError> {
+    Ok(MemSink::new(alloc, failing.to_vec(alloc)?))
+}
+
+#[test]
+fn files_in_memory_are_read_in_pieces(rt: HostRuntime) -> Result<(), Fail> {
+    let mut sure = SureFiles::new(one_file(rt.alloc())?);
+    let mut mem = files(rt.alloc(), &[])?;
+    let mut small = files(rt.alloc(), &[])?.with_piece(2);
+    for (name, at, whole, piece) in [
+        ("f", 0, Piece::Got(4), Piece::Got(2)),
+        ("f", 5, Piece::Got(2), Piece::Got(2)),
+        ("f", 6, Piece::Got(1), Piece::Got(1)),
+        ("f", 7, Piece::End, Piece::End),
+        ("f", u64::MAX, Piece::End, Piece::End),
+        ("g", 0, Piece::Missing, Piece::Missing),
+    ] {
+        let mut buf = [0; 4];
+        assert_eq!(rt; sure.read_at(name, at, &mut buf), Ok(whole), "{name} {at}");
+        assert_eq!(rt; mem.read_at(name, at, &mut buf), Ok(whole), "{name} {at}");
+        assert_eq!(rt; small.read_at(name, at, &mut buf), Ok(piece), "{name} {at}");
+    }
+    Ok(())
+}
+
+#[test]
+fn a_listed_call_fails_alone(rt: HostRuntime) -> Result<(), Fail> {
+    let mut files = files(rt.alloc(), &[1])?;
+    let mut out = sink(rt.alloc(), &[1])?.with_piece(2);
+    let mut buf = [0; 4];
+    for (read, write) in [
+        (Ok(Piece::Got(4)), Ok(2)),
+        (Err(Fault::Failed), Err(Fault::Failed)),
+        (Ok(Piece::Got(4)), Ok(2)),
+    ] {
+        assert_eq!(rt; files.read_at("f", 0, &mut buf), read);
+        assert_eq!(rt; out.write(b"abc"), write);
+    }
+    assert_eq!(rt; out.written(), b"abab".as_slice());
+    Ok(())
+}
+
+#[test]
+fn a_buffer_is_filled_up_to_the_end(rt: HostRuntime) -> Result<(), Fail> {
+    for (name, at, failing, answer) in [
+        ("f", 0, 9, Ok(4)),
+        ("f", 4, 9, Ok(3)),
+        ("f", 7, 9, Ok(0)),
+        ("g", 0, 9, Err(ReadFault::Missing)),
+        ("f", 0, 1, Err(ReadFault::Failed)),
+        ("f", 4, 3, Err(ReadFault::Failed)),
+    ] {
+        let mut files = files(rt.alloc(), &[failing])?.with_piece(1);
+        let mut buf = [0; 4];
+        assert_eq!(rt; fill(&mut files, name, at, &mut buf), answer, "{name} {at}");
+        if answer == Ok(3) {
+            assert_eq!(rt; &buf[..3], b"n b".as_slice());
+        }
+    }
+    Ok(())
+}
+
+#[test]
+fn a_text_is_written_whole_or_a_prefix_of_it(rt: HostRuntime) -> Result<(), Fail> {
+    let mut sure = SureSink::new(rt.alloc());
+    assert_eq!(rt; write_text(&mut sure, TEXT), Ok(()));
+    assert_eq!(rt; sure.written(), TEXT);
+    for k in 0..=TEXT.len() {
+        let mut out = sink(rt.alloc(), &[k as u64])?.with_piece(1);
+        let answer = if k < TEXT.len() {
+            Err(Fault::Failed)
+        } else {
+            Ok(())
+        };
+        assert_eq!(rt; write_text(&mut out, TEXT), answer, "at write {k}");
+        assert_eq!(rt; out.written(), &TEXT[..k], "at write {k}");
+    }
+    Ok(())
+}
+
+#[test]
+fn the_free_gate_holds_nobody(rt: HostRuntime) {
+    FreeGate.before(&rt, 1, 0);
+    FreeGate.after(1, 0);
+}
+
+#[test]
+fn host_files_and_a_host_sink_reach_a_real_file(rt: HostRuntime) -> Result<(), Fail> {
+    let folder = env::temp_dir(&rt)?;
+    let name = format!(in rt.alloc(); "fm_io-test-{}", process::id(rt.process()))?;
+    let path = folder.join(rt.alloc(), name.as_str())?;
+    let mut out = HostSink::new(File::create(&rt, path.as_path())?);
+    assert_eq!(rt; write_text(&mut out, TEXT), Ok(()));
+
+    let mut files = HostFiles::new(&rt);
+    let mut buf = [0; 9];
+    assert_eq!(rt; fill(&mut files, path.as_str(), 2, &mut buf), Ok(5));
+    assert_eq!(rt; &buf[..5], b"ven b".as_slice());
+    assert_eq!(rt; files.read_at(path.as_str(), 7, &mut buf), Ok(Piece::End));
+    assert_eq!(rt;
+        files.read_at(folder.as_str(), 0, &mut buf),
+        Err(Fault::Failed)
+    );
+    let inside = path.join(rt.alloc(), "f")?;
+    assert_eq!(rt;
+        files.read_at(inside.as_str(), 0, &mut buf),
+        Err(Fault::Failed)
+    );
+
+    fs::remove_file(&rt, path.as_path())?;
+    assert_eq!(rt;
+        files.read_at(path.as_str(), 0, &mut buf),
+        Ok(Piece::Missing)
+    );
+    Ok(())
+}
+
+#[test]
+fn a_host_sink_that_takes_nothing_fails(rt: HostRuntime) -> Result<(), Fail> {
+    let mut full = HostSink::new(File::create(&rt, "/dev/full")?);
+    assert_eq!(rt; full.write(TEXT), Err(Fault::Failed));
+    Ok(())
+}

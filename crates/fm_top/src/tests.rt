@@ -1,0 +1,188 @@
+use crate::{Kept, run_tool};
+use fm_io::{Files, FreeGate, MemFiles, MemSink, Sink, SureFiles, SureSink};
+use std::alloc::{AllocError, AllocGlobal, Global};
+use std::random::RandomSource;
+use std::sync::Wait;
+use std::test::Fail;
+use std::thread::Threads;
+
+/// Two records of 16 bytes, whose longs at byte 8 are -3 and 5.
+const F1: [u8; 32] = [
+    0, 0, 0, 0, 0, 0, 0, 0, 0xfd, 0xff, 0xff, 0xff, 0xff, 0xff, 0xff, 0xff, 0, 0, 0, 0, 0, 0, 0, 0,
+    5, 0, 0, 0, 0, 0, 0, 0,
+];
+
+/// The most bytes of a record file.
+const LIMIT: usize = 67_108_864;
+
+/// The row that others vary.
+const ROW: &str = "sum 16 8 long F1";
+
+/// What this row prints.
+const SUM: &str = "sum 2\n";
+
+/// Runs the tool on the words of a line, which single blanks part.
+fn run_line<R, F, O>(rt: &R, line: &str, files: &mut F, out: &mut O) -> Result<u8, AllocError>
+where
+    R: Threads + Wait + RandomSource + AllocGlobal,
+    F: Files,
+    O: Sink,
+{
+    let alloc = rt.alloc();
+    let mut words = Vec::new(alloc);
+    for word in line.split(' ') {
+        words.push(String::from_str(alloc, word)?)?;
+    }
+    Ok(run_tool(rt, alloc, &words, files, out, &FreeGate, &mut Kept::new()))
+}
+
+/// A file under its name.
+fn named(alloc: Global, name: &str, bytes: Vec<u8>) -> Result<(String, Vec<u8>), AllocError> {
+    Ok((String::from_str(alloc, name)?, bytes))
+}
+
+/// `F1`, the empty file `E`, and `F1` with a byte more, which is named `Ragged`.
+fn small_files(alloc: Global) -> Result<Vec<(String, Vec<u8>)>, AllocError> {
+    let mut longer = F1.to_vec(alloc)?;
+    longer.push(0)?;
+    Ok(vec![in alloc;
+        named(alloc, "F1", F1.to_vec(alloc)?)?,
+        named(alloc, "E", Vec::new(alloc))?,
+        named(alloc, "Ragged", longer)?,
+    ]?)
+}
+
+/// The small files, where the reads of these numbers fail and each gives at most so many bytes.
+fn files(alloc: Global, failing: &[u64], most: usize) -> Result<MemFiles, AllocError> {
+    Ok(MemFiles::new(small_files(alloc)?, failing.to_vec(alloc)?).with_piece(most.max(1)))
+}
+
+/// A sink whose writes of these numbers fail, and each of which takes at most so many bytes.
+fn sink(alloc: Global, failing: &[u64], most: usize) -> Result<MemSink, AllocError> {
+    Ok(MemSink::new(alloc, failing.to_vec(alloc)?).with_piece(most.max(1)))
+}
+
+fn zeros(alloc: Global, count: usize) -> Result<Vec<u8>, AllocError> {
+    vec![in alloc; 0; count]
+}
+
+#[test]
+fn each_row_is_answered_in_pieces_of_every_size(rt: HostRuntime) -> Result<(), Fail> {
+    for (line, status, text) in [
+        (ROW, 0, SUM),
+        ("sum 8 0 long F1", 0, "sum 2\n"),
+        ("sum 32 8 long F1", 0, "sum -3\n"),
+        ("sum 16 8 long E", 0, "sum 0\n"),
+        ("sum 16 4 long F1", 1, "usage\n"),
+        ("sum 16 8 long nofile", 2, "missing nofile\n"),
+        ("sum 16 8 long ", 2, "missing \n"),
+        ("sum 16 8 long Ragged", 6, "ragged 1\n"),
+        ("sum 24 8 long F1", 6, "ragged 8\n"),
+    ] {
+        for most in [1, 7, usize::MAX] {
+            let mut files = files(rt.alloc(), &[], most)?;
+            let mut out = sink(rt.alloc(), &[], most)?;
+            let code = run_line(&rt, line, &mut files, &mut out)?;
+            assert_eq!(rt; code, status, "{line}");
+            assert_eq!(rt; out.written(), text.as_bytes(), "{line}");
+        }
+    }
+    Ok(())
+}
+
+#[test]
+fn words_of_no_form_read_no_file(rt: HostRuntime) -> Result<(), Fail> {
+    for line in [
+        "",
+        "sum",
+        "sum 16 8 long",
+        "sum 16 8 long F1 F1",
+        "sum  8 long F1",
+        "sum 16  long F1",
+        "sum 16 8  F1",
+        " 16 8 long F1",
+        "Sum 16 8 long F1",
+        "min 16 8 long F1",
+        "sum 16 8 int F1",
+        "sum 16 8 Long F1",
+        "sum 16 8 long -F1",
+        "sum 16 8 long -",
+        "sum +16 8 long F1",
+        "sum 16 +8 long F1",
+        "sum -16 8 long F1",
+        "sum 16 -8 long F1",
+        "sum 16 -0 long F1",
+        "sum 016 8 long F1",
+        "sum 16 08 long F1",
+        "sum 16 00 long F1",
+        "sum 0x10 8 long F1",
+        "sum 16 8. long F1",
+        "sum 0 0 long F1",
+        "sum 12 0 long F1",
+        "sum 16 4 long F1",
+        "sum 16 16 long F1",
+        "sum 1048584 0 long F1",
+        "sum 18446744073709551616 8 long F1",
+        "sum 16 18446744073709551608 long F1",
+        "sum 16 18446744073709551624 long F1",
+    ] {
+        let mut files = files(rt.alloc(), &[0], 1)?;
+        let mut out = SureSink::new(rt.alloc());
+        let code = run_line(&rt, line, &mut files, &mut out)?;
+        assert_eq!(rt; code, 1, "{line}");
+        assert_eq!(rt; out.written(), b"usage\n".as_slice(), "{line}");
+    }
+    Ok(())
+}
+
+#[test]
+fn a_read_that_fails_prints_nothing(rt: HostRuntime) -> Result<(), Fail> {
+    // Each byte is read by a call of its own, and then the end.
+    for k in 0..=33_u64 {
+        let mut files = files(rt.alloc(), &[k], 1)?;
+        let mut out = SureSink::new(rt.alloc());
+        let code = run_line(&rt, ROW, &mut files, &mut out)?;
+        let (status, text) = if k < 33 { (3, "") } else { (0, SUM) };
+        assert_eq!(rt; code, status, "at read {k}");
+        assert_eq!(rt; out.written(), text.as_bytes(), "at read {k}");
+    }
+    Ok(())
+}
+
+#[test]
+fn a_write_that_fails_leaves_a_prefix(rt: HostRuntime) -> Result<(), Fail> {
+    for (line, status, text) in [
+        (ROW, 0, SUM),
+        ("sum", 1, "usage\n"),
+        ("sum 16 8 long nofile", 2, "missing nofile\n"),
+        ("sum 16 8 long Ragged", 6, "ragged 1\n"),
+    ] {
+        for k in 0..=text.len() {
+            let mut files = files(rt.alloc(), &[], usize::MAX)?;
+            let mut out = sink(rt.alloc(), &[k as u64], 1)?;
+            let code = run_line(&rt, line, &mut files, &mut out)?;
+            let status = if k < text.len() { 8 } else { status };
+            assert_eq!(rt; code, status, "{line} at write {k}");
+            assert_eq!(rt; out.written(), &text.as_bytes()[..k], "{line} at write {k}");
+        }
+    }
+    Ok(())
+}
+
+#[test]
+fn a_file_may_be_as_long_as_the_limit(rt: HostRuntime) -> Result<(), Fail> {
+    for (line, over, status, text) in [
+        ("sum 8 0 long Z", 0, 0, "sum 0\n"),
+        ("sum 8 0 long Z", 1, 7, "too long\n"),
+        ("sum 8 0 long Z", 8, 7, "too long\n"),
+    ] {
+        let alloc = rt.alloc();
+        let file = named(alloc, "Z", zeros(alloc, LIMIT + over)?)?;
+        let mut files = SureFiles::new(vec![in alloc; file]?);
+        let mut out = SureSink::new(alloc);
+        let code = run_line(&rt, line, &mut files, &mut out)?;
+        assert_eq!(rt; code, status, "{over} over");
+        assert_eq!(rt; out.written(), text.as_bytes(), "{over} over");
+    }
+    Ok(())
+}
