@@ -1,10 +1,20 @@
-//! Names of arenas and the refusals that every layer answers.
+//! Names of arenas, refusals, the one-thread machine and the trait `Memory` that every layer above is generic over.
 #![tactic(auto)]
 
 mod arena_id;
 mod kind;
+mod laws;
+mod memory;
 mod refusal;
 
 pub use arena_id::ArenaId;
 pub use kind::Kind;
+pub use laws::{
+    always_keeps_faith, ends_for_good, gives_zeros, looks_up, places_apart, stays_for_ever,
+    zero_past_given,
+};
+pub use memory::Memory;
 pub use refusal::Refusal;
+
+#[cfg(test)]
+mod tests;

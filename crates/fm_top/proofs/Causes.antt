@@ -45,14 +45,14 @@ sum_long : (size at : ℕ) (name : List ℕ) (found : Option (List ℕ)) → (su
 sum_long size at name None is = absurd (cc)
 sum_long size at name (Some bytes) is =
     (Decides-ltb record_file_limit (length bytes)).0
-        (cut_long (nat_lt record_file_limit (length bytes)) (length bytes % size == 0) (sum_text size at bytes) (length bytes % size) is)
+    (cut_long (nat_lt record_file_limit (length bytes)) (length bytes % size == 0) (sum_text size at bytes) (length bytes % size) is)
 
 sum_ragged : (size at : ℕ) (name : List ℕ) (found : Option (List ℕ)) → (sum_outcome size at name found).status ≡ Ragged
     → IsSomeAnd found (λ file. length file % size ≢ 0)
 sum_ragged size at name None is = absurd (cc)
 sum_ragged size at name (Some bytes) is =
     not_from_Decides (length bytes % size == 0) (Decides-eqb (length bytes % size) 0)
-        (cut_ragged (nat_lt record_file_limit (length bytes)) (length bytes % size == 0) (sum_text size at bytes) (length bytes % size) is)
+    (cut_ragged (nat_lt record_file_limit (length bytes)) (length bytes % size == 0) (sum_text size at bytes) (length bytes % size) is)
 
 -- what holds of the contents holds of those that are told
 told_too : (P : Contents → Type 0) (told : Option Contents) (contents : Contents) → IfSome told (λ held. contents ≡ held) → P contents → IfSome told P
@@ -137,4 +137,4 @@ pub complete : (words : List (List ℕ)) (told : Option Contents) (t : Traces) (
 complete words told t s code runs same request contents asks tells valid no_read no_write =
     let is = told_outcome words contents request runs.outcome asks (subst (λ (x : Option Contents). IsOutcome words x runs.outcome) tells runs.is_outcome) in
     subst (λ (o : Outcome). Answers o code t.before t.after) is
-        (ends_answered runs.outcome t s code (ap (λ (o : Outcome). o.status) is ∙ valid) runs.ends same no_read no_write)
+    (ends_answered runs.outcome t s code (ap (λ (o : Outcome). o.status) is ∙ valid) runs.ends same no_read no_write)

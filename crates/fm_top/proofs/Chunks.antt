@@ -9,5 +9,5 @@ pub AreBytesFrom-took : (told : Option Contents) (name old new : List ℕ) (ende
     → TakesChunk told name old new ended → AreBytesFrom told name 0 new
 AreBytesFrom-took told name old new ended first took =
     subst (λ (bytes : List ℕ). AreBytesFrom told name 0 bytes) (sym took.appended)
-        (AreBytesFrom-append told name old took.piece 0 first
-            (subst (λ (at : ℕ). AreBytesFrom told name at took.piece) (sym (zero-add (length old))) took.bytes))
+    (AreBytesFrom-append told name old took.piece 0 first
+    (subst (λ (at : ℕ). AreBytesFrom told name at took.piece) (sym (zero-add (length old))) took.bytes))

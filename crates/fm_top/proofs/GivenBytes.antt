@@ -1,18 +1,18 @@
 -- The bytes that an arena has given, and its words.
-use Rattle.std.proofs.Common.{◌≡◌, ℕ, ◌+◌, ◌-◌, ◌*◌, ◌/◌, ◌%◌, ◌<◌, ◌≤◌, ◌^◌, List, ◌++◌, length, take, drop, get_or, replicate, ap, sym, ◌∙◌, arith, length-append, length-drop, append-nil}
-use Rattle.std.proofs.lemmas.List.{length-take-le, take-append-le, drop-append-le, take-append-drop}
-use Rattle.std.proofs.Math.Seq.{take-append-add, take-append_seam, take-length}
+use Rattle.std.proofs.Common.{◌≡◌, ℕ, ◌+◌, ◌-◌, ◌*◌, ◌/◌, ◌%◌, ◌<◌, ◌≤◌, ◌^◌, List, ◌++◌, length, take, drop, get_or, replicate, ap, sym, ◌∙◌, arith, length-drop, append_assoc, slice_set, suc, [], ◌∷◌}
+use Rattle.std.proofs.lemmas.List.{length-take-le, take-append-le, drop-append-le, take-append-drop, take_more}
+use Rattle.std.proofs.Math.Seq.{take-append-add, take-append_seam, take-suc-set}
+use Rattle.fm_base.specs.Machine.{rounded_up}
 use Rattle.fm_bytes.specs.Bytes.{AreBytes, bytes_of, number_of}
 use Rattle.fm_bytes.specs.Words.{word_count, bytes_in, words_of, words_from}
 use Rattle.fm_bytes.proofs.Bytes.{number_of-bytes_of}
-use Rattle.fm_bytes.proofs.Words.{length-bytes_in, bytes_in-append, bytes_in-word, bytes_in-words_from}
-use Rattle.fm_mono.specs.Arena.{Arena, IsSound, grown, rounded_up, with_given}
-use Rattle.fm_top.specs.Loaded.{given_bytes}
+use Rattle.fm_bytes.proofs.Words.{length-bytes_in, bytes_in-append, bytes_in-word, bytes_in-words_from, take-bytes_in}
+use Rattle.fm_top.specs.Loaded.{first_bytes}
+use Rattle.fm_top.proofs.Sums.{take-within}
 
--- as many bytes as were given
-pub length-given_bytes : (a : Arena) → IsSound a → length (given_bytes a) ≡ a.given
-length-given_bytes a sound =
-    length-take-le a.given (bytes_in a.words) (omega (arith, length-bytes_in a.words, sound.words))
+-- as many bytes as were counted, where there are words for them
+pub length-first_bytes : (count : ℕ) (words : List ℕ) → count ≤ 8 * length words → length (first_bytes count words) ≡ count
+length-first_bytes count words fit = length-take-le count (bytes_in words) (omega (arith, length-bytes_in words))
 
 -- a range that lies in the first of two lists
 take_inside : {X : Type 0} (xs ys : List X) (n m : ℕ) → n + m ≤ length xs → take m (drop n (xs ++ ys)) ≡ take m (drop n xs)
@@ -21,46 +21,58 @@ take_inside xs ys n m within =
     ∙ take-append-le m (drop n xs) ys (omega (arith, length-drop n xs))
 
 -- a word is the number of its eight bytes
-pub word-given_bytes : (a : Arena) (place word : ℕ) → IsSound a → place % 8 ≡ 0 → place + 8 ≤ a.given
-    → word ≡ get_or a.words (place / 8) 0 → word < 2 ^ 64 → word ≡ number_of (take 8 (drop place (given_bytes a)))
-word-given_bytes a place word sound whole within is fits =
+pub word-first_bytes : (count place word : ℕ) (words : List ℕ) → count ≤ 8 * length words → place % 8 ≡ 0 → place + 8 ≤ count
+    → word ≡ get_or words (place / 8) 0 → word < 2 ^ 64 → word ≡ number_of (take 8 (drop place (first_bytes count words)))
+word-first_bytes count place word words fit whole within is small =
     let w = place / 8 in
-    let bytes = bytes_in a.words in
+    let bytes = bytes_in words in
     let at : 8 * w ≡ place = omega arith in
-    let inside : w < length a.words = omega (arith, sound.words) in
-    let front : take 8 (drop place (given_bytes a)) ≡ take 8 (drop place bytes) =
-        sym (take_inside (given_bytes a) (drop a.given bytes) place 8 (omega (arith, length-given_bytes a sound)))
-        ∙ ap (λ all. take 8 (drop place all)) (take-append-drop a.given bytes) in
-    let eight : take 8 (drop place bytes) ≡ bytes_of 8 (get_or a.words w 0) =
-        ap (λ n. take 8 (drop n bytes)) (sym at) ∙ bytes_in-word a.words w inside in
-    sym (ap number_of (front ∙ eight ∙ ap (bytes_of 8) (sym is)) ∙ number_of-bytes_of 8 word fits)
+    let inside : w < length words = omega arith in
+    let front : take 8 (drop place (first_bytes count words)) ≡ take 8 (drop place bytes) =
+    sym (take_inside (first_bytes count words) (drop count bytes) place 8 (omega (arith, length-first_bytes count words fit)))
+    ∙ ap (λ all. take 8 (drop place all)) (take-append-drop count bytes) in
+    let eight : take 8 (drop place bytes) ≡ bytes_of 8 (get_or words w 0) =
+    ap (λ n. take 8 (drop n bytes)) (sym at) ∙ bytes_in-word words w inside in
+    sym (ap number_of (front ∙ eight ∙ ap (bytes_of 8) (sym is)) ∙ number_of-bytes_of 8 word small)
 
 -- the first bytes of a list and of what follows it
 take-behind : {X : Type 0} (xs ys : List X) (n m : ℕ) → length xs ≡ n → take (n + m) (xs ++ ys) ≡ xs ++ take m ys
 take-behind xs ys n m size = ap (λ k. take (k + m) (xs ++ ys)) (sym size) ∙ take-append-add xs ys m
 
--- what was given behind whole words stands behind them
-pub pushed-given_bytes : (a b : Arena) (bytes : List ℕ) → IsSound a → a.given % 8 ≡ 0 → AreBytes bytes
-    → b.given ≡ a.given + length bytes → b.words ≡ a.words ++ words_of bytes → given_bytes b ≡ given_bytes a ++ bytes
-pushed-given_bytes a b bytes sound whole are given words =
-    let old = bytes_in a.words in
-    let size : length old ≡ a.given = omega (arith, length-bytes_in a.words, sound.words) in
-    let all : given_bytes a ≡ old = ap (λ n. take n old) (sym size) ∙ take-length old in
-    let fits : length bytes ≤ 8 * word_count (length bytes) = omega arith in
-    let new : take (length bytes) (bytes_in (words_of bytes)) ≡ bytes =
-        ap (take (length bytes)) (bytes_in-words_from (word_count (length bytes)) bytes are fits)
-        ∙ take-append_seam bytes (replicate (8 * word_count (length bytes) - length bytes) 0) in
-    ap (λ n. take n (bytes_in b.words)) given
-    ∙ ap (λ ws. take (a.given + length bytes) (bytes_in ws)) words
-    ∙ ap (take (a.given + length bytes)) (bytes_in-append a.words (words_of bytes))
-    ∙ take-behind old (bytes_in (words_of bytes)) a.given (length bytes) size
-    ∙ ap (λ front. front ++ take (length bytes) (bytes_in (words_of bytes))) (sym all)
-    ∙ ap (λ rest. given_bytes a ++ rest) new
+-- What was stored behind whole words stands behind their bytes.
+pub pushed-first_bytes : (old new bytes : List ℕ) (count first : ℕ) → count ≡ 8 * first → first ≤ length old → AreBytes bytes
+    → first + word_count (length bytes) ≤ length new
+    → take (first + word_count (length bytes)) new ≡ take first old ++ words_of bytes
+    → first_bytes (count + length bytes) new ≡ first_bytes count old ++ bytes
+pushed-first_bytes old new bytes count first even there are fit front =
+    let n = length bytes in
+    let k = word_count n in
+    let short : count + n ≤ 8 * (first + k) = omega arith in
+    let fits : n ≤ 8 * k = omega arith in
+    let stored : take n (bytes_in (words_of bytes)) ≡ bytes =
+    ap (take n) (bytes_in-words_from k bytes are fits) ∙ take-append_seam bytes (replicate (8 * k - n) 0) in
+    let before : first_bytes count old ≡ bytes_in (take first old) = ap (λ m. take m (bytes_in old)) even ∙ take-bytes_in first old in
+    let size : length (bytes_in (take first old)) ≡ count = omega (arith, length-bytes_in (take first old), length-take-le first old there) in
+    sym (take-within (count + n) (8 * (first + k)) (bytes_in new) short)
+    ∙ ap (take (count + n)) (take-bytes_in (first + k) new ∙ ap bytes_in front ∙ bytes_in-append (take first old) (words_of bytes))
+    ∙ take-behind (bytes_in (take first old)) (bytes_in (words_of bytes)) count n size
+    ∙ ap (λ rest. bytes_in (take first old) ++ rest) stored
+    ∙ ap (λ first_part. first_part ++ bytes) (sym before)
 
--- the whole words that were given before are the first of those after
-pub grown_front : (a : Arena) (place size : ℕ) → IsSound a → a.given % 8 ≡ 0 → place ≡ rounded_up a.given 8
-    → take (place / 8) (with_given a place size).words ≡ a.words
-grown_front a place size sound whole is =
-    let count : length a.words ≡ place / 8 = omega (arith, sound.words) in
-    ap (λ n. take n (grown a.words (place + size))) (sym count)
-    ∙ take-append_seam a.words (replicate (word_count (place + size) - length a.words) 0)
+-- one word more is stored behind those so far
+pub store_next : (old new words front : List ℕ) (first k : ℕ) → first + k < length old → k < length words
+    → new ≡ slice_set old (first + k) (get_or words k 0)
+    → take (first + k) old ≡ front ++ take k words → take (first + (k + 1)) new ≡ front ++ take (k + 1) words
+store_next old new words front first k below inside is before =
+    let last = get_or words k 0 in
+    let place : first + (k + 1) ≡ suc (first + k) = omega arith in
+    ap (λ n. take n new) place
+    ∙ ap (take (suc (first + k))) is
+    ∙ take-suc-set old (first + k) last below
+    ∙ ap (λ part. part ++ last ∷ []) before
+    ∙ append_assoc front (take k words) (last ∷ [])
+    ∙ ap (λ part. front ++ part) (sym (take_more words k 0 inside))
+
+-- a whole number of words is rounded up to itself
+pub rounded_whole : (n : ℕ) → n % 8 ≡ 0 → rounded_up n 8 ≡ n
+rounded_whole n whole = omega arith

@@ -18,10 +18,11 @@ use Rattle.fm_top.specs.Words.{Request, Sum}
 -- there are files where the name has these bytes
 with_file : (name bytes : List ℕ) → (contents : Contents) × (file_of contents name ≡ Some bytes)
 with_file name bytes =
-    let same : bytes_eq name name ≡ true = (bytes_eq-Decides name name).1 refl in
-    (insert empty name bytes,
-        get-insert nat_list_cmp_total empty name bytes name
-        ∙ ap (λ b. cond b (Some bytes) (file_of empty name)) (is_eq-slice_cmp name name ∙ same))
+    let same : bytes_eq name name ≡ true = (bytes_eq-Decides name name).1 refl in (
+      insert empty name bytes,
+      get-insert nat_list_cmp_total empty name bytes name
+          ∙ ap (λ b. cond b (Some bytes) (file_of empty name)) (is_eq-slice_cmp name name ∙ same),
+    )
 
 -- there are files where the name is missing
 without_file : (name : List ℕ) → (contents : Contents) × (file_of contents name ≡ None)

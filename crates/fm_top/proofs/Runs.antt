@@ -133,7 +133,6 @@ whole_status o t status (unread asks rose same) = inr tt
 whole_status o t status (unwritten rose front) = inr tt
 whole_status o t status (no_memory front) = inr tt
 
-
 -- a sum's outcome doesn't come of a fault
 early : (s : Status) → IsSumStatus s → IsLate s → ⊥
 early Answered of_sum late = late

@@ -52,7 +52,7 @@ pieces-next count size k file below =
     let behind : k * size + size ≡ (k + 1) * size = grind arith in
     ap (λ n. pieces n size (drop (k * size) file)) more
     ∙ ap (λ bytes. take size (drop (k * size) file) ∷ pieces (count - (k + 1)) size bytes)
-        (drop-drop size (k * size) file ∙ ap (λ n. drop n file) behind)
+    (drop-drop size (k * size) file ∙ ap (λ n. drop n file) behind)
 
 -- the sum of the longs of the records from the k-th on
 abbrev pub rest_from : ℕ → ℕ → ℕ → List ℕ → ℤ
@@ -66,9 +66,9 @@ next_sum size at k file sum x new all below within is_new is_x before =
     let count = length file / size in
     let rest = rest_from (k + 1) size at file in
     let value : number_at Long at (take size (drop (k * size) file)) ≡ x =
-        ap (λ bytes. number_of_value (value_of Long Little bytes)) (take-record at size (k * size) file within) ∙ sym is_x in
+    ap (λ bytes. number_of_value (value_of Long Little bytes)) (take-record at size (k * size) file within) ∙ sym is_x in
     let front : rest_from k size at file ≡ x +ℤ rest =
-        ap (λ all_pieces. sum_of (map (number_at Long at) all_pieces)) (pieces-next count size k file below) ∙ ap (λ n. n +ℤ rest) value in
+    ap (λ all_pieces. sum_of (map (number_at Long at) all_pieces)) (pieces-next count size k file below) ∙ ap (λ n. n +ℤ rest) value in
     ap (λ n. n +ℤ rest) is_new ∙ +ℤ_assoc sum x rest ∙ ap (λ n. sum +ℤ n) (sym front) ∙ before
 
 -- one more long is at most 2^63 from 0

@@ -1,5 +1,6 @@
 pub mod Asked
 pub mod Ending
+pub mod Held
 pub mod Loaded
 pub mod Outcome
 pub mod Records

@@ -3,6 +3,7 @@
 
 mod buffers;
 mod ending;
+mod held;
 mod kept;
 mod loaded;
 mod loading;
@@ -15,8 +16,9 @@ mod summing;
 mod tests;
 mod words;
 
+pub use held::RECORD_FILE_LIMIT;
 pub use kept::Kept;
-pub use loaded::{Loaded, RECORD_FILE_LIMIT};
+pub use loaded::Loaded;
 pub use loading::{LoadFault, load};
 pub use run::run_tool;
 pub use status::Status;

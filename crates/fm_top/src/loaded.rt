@@ -1,20 +1,23 @@
-ghost use Rattle.std.specs.Prelude.{◌≡◌, ◌+◌, ◌*◌, ◌%◌, ◌<◌, ◌≤◌, [], ◌++◌, length, take, drop, OnOk, OnErr};
+ghost use Rattle.std.specs.Prelude.{◌≡◌, ◌+◌, ◌%◌, ◌≤◌, [], ◌++◌, length, take, drop, Some, IfOk, OnOk, OnErr};
 ghost use Rattle.fm_bytes.specs.Bytes.{number_of};
 ghost use Rattle.fm_bytes.specs.Words.{word_count};
-ghost use Rattle.fm_mono.specs.Arena.{IsSound};
+ghost use Rattle.fm_top.specs.Held.{IsHeld, given_at, words_at};
+ghost use Rattle.fm_top.specs.Outcome.{record_file_limit};
 
+use crate::held::{allocate_held, enter_held, leave_held, load_held, open_held, store_held};
+use fm_base::ArenaId;
 use fm_lanes::words_of;
 use fm_mono::Mono;
 use std::alloc::{AllocError, Global};
 use std::marker::Model;
-
-/// The most bytes of a record file.
-pub const RECORD_FILE_LIMIT: u64 = 67_108_864;
+use std::sync::Wait;
 
 /// The bytes of a record file, in an arena of one thread.
 #[derive(Drop)]
 pub struct Loaded {
-    arena: Mono,
+    memory: Mono,
+    arena: ArenaId,
+    len: u64,
 }
 
 impl Model for Loaded {
@@ -22,65 +25,80 @@ impl Model for Loaded {
 
     ghost Value = { List ℕ };
 
-    ghost use Rattle.fm_top.specs.Loaded.{loaded_bytes, HasRoom};
+    ghost use Rattle.fm_top.specs.Loaded.{loaded_bytes, IsReady};
 
     ghost view = { loaded_bytes };
 
-    ghost invariant = { HasRoom };
+    ghost invariant = { IsReady };
 }
 
 impl Loaded {
-    pub fn new(alloc: Global) -> Loaded
-        ensures { result ≡ [] }
+    /// No bytes yet.
+    pub fn new<R: Wait>(rt: &R, alloc: Global) -> Result<Loaded, AllocError>
+        ensures { IfOk result (λ bytes. bytes ≡ []) }
     {
-        Loaded {
-            arena: Mono::make(alloc, RECORD_FILE_LIMIT),
-        }
+        let (memory, arena) = open_held(rt, alloc)?;
+        Ok(Loaded {
+            memory,
+            arena,
+            len: 0,
+        })
     }
 
     /// How many bytes there are.
     pub fn len(&self) -> u64
         ensures { result ≡ length self.now }
     {
-        self.arena.given()
+        self.len
     }
 
     /// Puts bytes behind those that are there, whose number is a multiple of 8. `words` is room for their words.
-    pub fn push(&mut self, bytes: &[u8], words: &mut [u64]) -> Result<(), AllocError>
+    pub fn push<R: Wait>(
+        &mut self,
+        rt: &R,
+        bytes: &[u8],
+        words: &mut [u64],
+    ) -> Result<(), AllocError>
         requires whole { length self.old % 8 ≡ 0 }
-        requires room { length self.old + length bytes.now ≤ RECORD_FILE_LIMIT }
+        requires room { length self.old + length bytes.now ≤ record_file_limit }
         requires words { length words.old ≡ word_count (length bytes.now) }
         ensures ok { OnOk result (self.new ≡ self.old ++ bytes.now) }
         ensures err { OnErr result (self.new ≡ self.old) }
     {
-        let Ok(place) = self.arena.allocate(bytes.len() as u64, 8) else {
-            return Err(AllocError);
-        };
+        let size = bytes.len() as u64;
+        let place = allocate_held(rt, &mut self.memory, self.arena, size)?;
+        self.len = place + size;
         words_of(bytes, words);
-        store_words(&mut self.arena, place / 8, words);
+        enter_held(&mut self.memory, self.arena);
+        store_words(&mut self.memory, self.arena, place / 8, words);
+        leave_held(&mut self.memory, self.arena);
         Ok(())
     }
 
     /// The word of the eight bytes from the place on.
-    pub fn word(&self, place: u64) -> u64
+    pub fn word(&mut self, place: u64) -> u64
         requires whole { place % 8 ≡ 0 }
-        requires within { place + 8 ≤ length self.now }
-        ensures { result ≡ number_of (take 8 (drop place self.now)) }
+        requires within { place + 8 ≤ length self.old }
+        ensures word { result ≡ number_of (take 8 (drop place self.old)) }
+        ensures same { self.new ≡ self.old }
     {
-        self.arena.load(place / 8)
+        enter_held(&mut self.memory, self.arena);
+        let word = load_held(&mut self.memory, self.arena, place / 8);
+        leave_held(&mut self.memory, self.arena);
+        word
     }
 }
 
-/// Stores words in an arena's last words, the first of them at the index `first`.
-fn store_words(arena: &mut Mono, first: u64, words: &[u64])
-    requires sound { IsSound arena.old }
-    requires last { first + length words.now ≡ length arena.old.words }
-    ensures words { arena.new.words ≡ take first arena.old.words ++ words.now }
-    ensures given { arena.new.given ≡ arena.old.given }
-    ensures limit { arena.new.limit ≡ arena.old.limit }
-    ensures sound { IsSound arena.new }
+/// Stores words in the arena that was entered, the first of them at the index `first`.
+fn store_words(memory: &mut Mono, arena: ArenaId, first: u64, words: &[u64])
+    requires held { IsHeld record_file_limit memory.old (Some arena) arena }
+    requires given { first + length words.now ≤ word_count (given_at memory.old arena) }
+    ensures held { IsHeld record_file_limit memory.new (Some arena) arena }
+    ensures given { given_at memory.new arena ≡ given_at memory.old arena }
+    ensures words { take (first + length words.now) (words_at memory.new arena)
+        ≡ take first (words_at memory.old arena) ++ words.now }
 {
     for (k, word) in words.iter().enumerate() {
-        arena.store(first + k as u64, *word);
+        store_held(memory, arena, first + k as u64, *word);
     }
 }

@@ -4,9 +4,11 @@ ghost use Rattle.fm_io.specs.Files.{IsAbsent};
 ghost use Rattle.fm_top.specs.Whole.{IsWhole, IsOver, TakesChunk};
 
 use crate::buffers::{zero_bytes, zero_words};
-use crate::loaded::{Loaded, RECORD_FILE_LIMIT};
+use crate::held::RECORD_FILE_LIMIT;
+use crate::loaded::Loaded;
 use fm_io::{Files, ReadFault, fill};
 use std::alloc::Global;
+use std::sync::Wait;
 
 /// The most bytes of one read.
 const CHUNK: usize = 65_536;
@@ -27,7 +29,12 @@ pub enum LoadFault {
 /// Reads a whole record file into an arena.
 ///
 /// It reads up to the file's end, or until more bytes than the limit came.
-pub fn load<F: Files>(alloc: Global, files: &mut F, name: &str) -> Result<Loaded, LoadFault>
+pub fn load<R: Wait, F: Files>(
+    rt: &R,
+    alloc: Global,
+    files: &mut F,
+    name: &str,
+) -> Result<Loaded, LoadFault>
     ensures whole { IfOk result (IsWhole (F.holds files.old) name.now) }
     ensures short { IfOk result (λ bytes. length bytes ≤ RECORD_FILE_LIMIT) }
     ensures too_long { IsErrOf result LoadFault.TooLong →
@@ -42,9 +49,11 @@ pub fn load<F: Files>(alloc: Global, files: &mut F, name: &str) -> Result<Loaded
     let Ok(mut words) = zero_words(alloc, CHUNK / 8) else {
         return Err(LoadFault::Memory);
     };
-    let mut loaded = Loaded::new(alloc);
+    let Ok(mut loaded) = Loaded::new(rt, alloc) else {
+        return Err(LoadFault::Memory);
+    };
     loop {
-        match load_chunk(files, name, &mut bytes, &mut words, &mut loaded) {
+        match load_chunk(rt, files, name, &mut bytes, &mut words, &mut loaded) {
             Ok(true) => return Ok(loaded),
             Ok(false) => {}
             Err(fault) => return Err(fault),
@@ -54,7 +63,8 @@ pub fn load<F: Files>(alloc: Global, files: &mut F, name: &str) -> Result<Loaded
 
 /// Reads the next bytes of the file, with room for them and their words, behind those that are loaded.
 /// Answers whether the file ended with them.
-fn load_chunk<F: Files>(
+fn load_chunk<R: Wait, F: Files>(
+    rt: &R,
     files: &mut F,
     name: &str,
     bytes: &mut [u8],
@@ -87,7 +97,7 @@ fn load_chunk<F: Files>(
     if n > rest {
         return Err(LoadFault::TooLong);
     }
-    match loaded.push(&bytes[..n], &mut words[..n.div_ceil(8)]) {
+    match loaded.push(rt, &bytes[..n], &mut words[..n.div_ceil(8)]) {
         Ok(()) => Ok(n < room),
         Err(_) => Err(LoadFault::Memory),
     }

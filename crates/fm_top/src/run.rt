@@ -43,8 +43,8 @@ where
     // The status is that of an outcome of the words and the files, or of what hindered it; what was written too.
     ensures runs { (status : Status) × (result ≡ code_of status)
         × Runs (texts words.now) (F.holds files.old)
-            (traces_of (F.faults files.old) (F.faults files.new) (O.faults out.old) (O.faults out.new)
-                (O.written out.old) (O.written out.new)) status }
+        (traces_of (F.faults files.old) (F.faults files.new) (O.faults out.old) (O.faults out.new)
+        (O.written out.old) (O.written out.new)) status }
 
     // Each status has its cause.
     ensures usage { result ≡ code_of Usage → AreFaulty (texts words.now) }
@@ -66,11 +66,12 @@ where
         → Answers (outcome_of request contents) result (O.written out.old) (O.written out.new) }
 {
     *kept = Kept::new();
-    run_words(alloc, words, files, out).code()
+    run_words(rt, alloc, words, files, out).code()
 }
 
 /// Runs the words, and answers the status that this leaves.
-fn run_words<F: Files, O: Sink>(
+fn run_words<R: Wait, F: Files, O: Sink>(
+    rt: &R,
     alloc: Global,
     words: &[String],
     files: &mut F,
@@ -78,11 +79,11 @@ fn run_words<F: Files, O: Sink>(
 ) -> Status
     ensures runs { Runs (texts words.now) (F.holds files.old)
         (traces_of (F.faults files.old) (F.faults files.new) (O.faults out.old) (O.faults out.new)
-            (O.written out.old) (O.written out.new)) result }
+        (O.written out.old) (O.written out.new)) result }
     ensures missed { result ≡ Missing → Rose (F.misses files.old) (F.misses files.new) }
     ensures reads_nothing { AreFaulty (texts words.now) → files.new ≡ files.old }
 {
-    match ending_of(alloc, words, files) {
+    match ending_of(rt, alloc, words, files) {
         Ok(ending) => print(&ending, out),
         Err(Stop::Failed) => Status::Unread,
         Err(Stop::Memory) => Status::NoMemory,
@@ -90,7 +91,12 @@ fn run_words<F: Files, O: Sink>(
 }
 
 /// Answers how the run ends. Words that are no command read no file.
-fn ending_of<F: Files>(alloc: Global, words: &[String], files: &mut F) -> Result<Ending, Stop>
+fn ending_of<R: Wait, F: Files>(
+    rt: &R,
+    alloc: Global,
+    words: &[String],
+    files: &mut F,
+) -> Result<Ending, Stop>
     ensures outcome { IfOk result (λ ending. IsOutcome (texts words.now) (F.holds files.old) (shown ending)) }
     ensures stops { IfErr result (Stops (texts words.now) (F.holds files.old)) }
     ensures reads_nothing { AreFaulty (texts words.now) → files.new ≡ files.old }
@@ -98,13 +104,14 @@ fn ending_of<F: Files>(alloc: Global, words: &[String], files: &mut F) -> Result
     ensures unread { IsErrOf result Stop.Failed → Rose (F.faults files.old) (F.faults files.new) }
 {
     match command_of(words) {
-        Some(command) => command_ending(alloc, files, &command),
+        Some(command) => command_ending(rt, alloc, files, &command),
         None => Ok(Ending::usage(alloc)?),
     }
 }
 
 /// Does what the command asks for, up to the writing.
-fn command_ending<F: Files>(
+fn command_ending<R: Wait, F: Files>(
+    rt: &R,
     alloc: Global,
     files: &mut F,
     command: &Command<'_>,
@@ -116,7 +123,7 @@ fn command_ending<F: Files>(
     ensures unread { IsErrOf result Stop.Failed → Rose (F.faults files.old) (F.faults files.new) }
 {
     match command {
-        Command::Sum(sum) => sum_ending(alloc, files, sum),
+        Command::Sum(sum) => sum_ending(rt, alloc, files, sum),
     }
 }
 

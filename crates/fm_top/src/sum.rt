@@ -7,16 +7,19 @@ ghost use Rattle.fm_top.specs.Words.{Sum, HasLong};
 ghost use Rattle.fm_top.specs.declared.status.Status.TheVariants.{Missing};
 
 use crate::ending::Ending;
-use crate::loaded::{Loaded, RECORD_FILE_LIMIT};
+use crate::held::RECORD_FILE_LIMIT;
+use crate::loaded::Loaded;
 use crate::loading::{LoadFault, load};
 use crate::stop::Stop;
 use crate::summing::sum_longs;
 use crate::words::SumCommand;
 use fm_io::Files;
 use std::alloc::{AllocError, Global};
+use std::sync::Wait;
 
 /// Reads the file of a sum, and answers how the run ends.
-pub fn sum_ending<F: Files>(
+pub fn sum_ending<R: Wait, F: Files>(
+    rt: &R,
     alloc: Global,
     files: &mut F,
     sum: &SumCommand<'_>,
@@ -27,8 +30,8 @@ pub fn sum_ending<F: Files>(
     ensures missing { IfOk result (λ ending. ending.status ≡ Missing → Rose (F.misses files.old) (F.misses files.new)) }
     ensures failed { IsErrOf result Stop.Failed → Rose (F.faults files.old) (F.faults files.new) }
 {
-    match load(alloc, files, sum.file) {
-        Ok(loaded) => Ok(loaded_ending(alloc, &loaded, sum.size, sum.at)?),
+    match load(rt, alloc, files, sum.file) {
+        Ok(mut loaded) => Ok(loaded_ending(alloc, &mut loaded, sum.size, sum.at)?),
         Err(LoadFault::Missing) => Ok(Ending::missing(alloc, sum.file)?),
         Err(LoadFault::TooLong) => Ok(Ending::too_long(alloc)?),
         Err(LoadFault::Failed) => Err(Stop::Failed),
@@ -37,10 +40,15 @@ pub fn sum_ending<F: Files>(
 }
 
 /// How the run ends for a file that was loaded whole.
-fn loaded_ending(alloc: Global, loaded: &Loaded, size: u64, at: u64) -> Result<Ending, AllocError>
+fn loaded_ending(
+    alloc: Global,
+    loaded: &mut Loaded,
+    size: u64,
+    at: u64,
+) -> Result<Ending, AllocError>
     requires long { HasLong size at }
-    requires short { length loaded.now ≤ RECORD_FILE_LIMIT }
-    ensures { IfOk result (λ ending. shown ending ≡ sum_of_file size at loaded.now) }
+    requires short { length loaded.old ≤ RECORD_FILE_LIMIT }
+    ensures { IfOk result (λ ending. shown ending ≡ sum_of_file size at loaded.old) }
 {
     let rest = loaded.len() % size;
     if rest == 0 {

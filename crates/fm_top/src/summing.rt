@@ -3,14 +3,16 @@ ghost use Rattle.fm_lanes.specs.declared.value_kind.ValueKind.TheVariants.{Long}
 ghost use Rattle.fm_top.specs.Records.{number_at, sum_of_values};
 ghost use Rattle.fm_top.specs.Words.{HasLong};
 
-use crate::loaded::{Loaded, RECORD_FILE_LIMIT};
+use crate::held::RECORD_FILE_LIMIT;
+use crate::loaded::Loaded;
 use fm_lanes::{ValueKind, decode};
 
 /// The long that stands at a place of the file.
-fn long_at(loaded: &Loaded, place: u64) -> i64
+fn long_at(loaded: &mut Loaded, place: u64) -> i64
     requires whole { place % 8 ≡ 0 }
-    requires within { place + 8 ≤ length loaded.now }
-    ensures { result ≡ number_at Long place loaded.now }
+    requires within { place + 8 ≤ length loaded.old }
+    ensures long { result ≡ number_at Long place loaded.old }
+    ensures same { loaded.new ≡ loaded.old }
 {
     decode(ValueKind::Long, loaded.word(place)).number()
 }
@@ -18,10 +20,10 @@ fn long_at(loaded: &Loaded, place: u64) -> i64
 /// The sum of the long at byte `at` of each record of `size` bytes. What is left behind the last record doesn't count.
 ///
 /// It can't overflow: a file has fewer than 2^23 records, and each long is less than 2^63 from 0.
-pub fn sum_longs(loaded: &Loaded, size: u64, at: u64) -> i128
+pub fn sum_longs(loaded: &mut Loaded, size: u64, at: u64) -> i128
     requires long { HasLong size at }
-    requires short { length loaded.now ≤ RECORD_FILE_LIMIT }
-    ensures { result ≡ sum_of_values Long size at loaded.now }
+    requires short { length loaded.old ≤ RECORD_FILE_LIMIT }
+    ensures { result ≡ sum_of_values Long size at loaded.old }
 {
     let mut sum = 0;
     for record in 0..loaded.len() / size {

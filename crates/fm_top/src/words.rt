@@ -63,12 +63,7 @@ fn sum_command<'a>(
 fn has_long(size: u64, at: u64) -> bool
     ensures { IsTrue result ↔ HasLong size at }
 {
-    0 < size
-        && size <= 1_048_576
-        && size % 8 == 0
-        && at % 8 == 0
-        && at <= size
-        && 8 <= size - at
+    0 < size && size <= 1_048_576 && size % 8 == 0 && at % 8 == 0 && at <= size && 8 <= size - at
 }
 
 fn is_file_word(word: &str) -> bool
@@ -87,5 +82,9 @@ fn number_of_word(word: &str) -> Option<u64>
         return None;
     };
     let mut buffer = Buffer::new();
-    if buffer.format(n) == word { Some(n) } else { None }
+    if buffer.format(n) == word {
+        Some(n)
+    } else {
+        None
+    }
 }

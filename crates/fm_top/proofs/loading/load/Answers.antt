@@ -10,8 +10,8 @@ loop-loaded-preserved g c =
     let old = c.loop-loaded.invariant in
     let step = c.in-Ok-false.ensures in
     let took : TakesChunk (holds c.args.files.now) c.args.name.now c.loop-loaded.loaded c.load_chunk.new.loaded false =
-        subst (λ (told : Option Contents). TakesChunk told c.args.name.now c.loop-loaded.loaded c.load_chunk.new.loaded false) old.held
-            (rw c.in-Ok-false.field-0-test at step.took) in
+    subst (λ (told : Option Contents). TakesChunk told c.args.name.now c.loop-loaded.loaded c.load_chunk.new.loaded false) old.held
+    (rw c.in-Ok-false.field-0-test at step.took) in
     record {
       room = old.room;
       words_room = old.words_room;

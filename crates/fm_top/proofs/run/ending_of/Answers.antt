@@ -20,14 +20,14 @@ returns-in_err-usage-in-None-clause-stops g c =
 pub returns-in_ok-usage-in-None-clause-outcome : goal.returns-in_ok-usage-in-None-clause-outcome
 returns-in_ok-usage-in-None-clause-outcome g c =
     subst (λ (o : Outcome). IsOutcome (texts c.args.words.now) (g.F.Files.holds c.args.files.now) o)
-        (sym c.in_ok-usage-in-None.ensures) (faulty c.in-None.ensures.none)
+    (sym c.in_ok-usage-in-None.ensures) (faulty c.in-None.ensures.none)
 
 pub returns-in-Some-clause-outcome : goal.returns-in-Some-clause-outcome
 returns-in-Some-clause-outcome g c =
     IfOk-weaker c.command_ending.result _ _
-        (λ ending has. asked (request_of c.in-Some.command) (shown ending) c.in-Some.ensures.found has) c.command_ending.ensures.outcome
+    (λ ending has. asked (request_of c.in-Some.command) (shown ending) c.in-Some.ensures.found has) c.command_ending.ensures.outcome
 
 pub returns-in-Some-clause-stops : goal.returns-in-Some-clause-stops
 returns-in-Some-clause-stops g c =
     on_every_err c.command_ending.result (Stops (texts c.args.words.now) (g.F.Files.holds c.args.files.now))
-        (λ (stop : Stop). stops-asked (texts c.args.words.now) (g.F.Files.holds c.args.files.now) (request_of c.in-Some.command) stop c.in-Some.ensures.found)
+    (λ (stop : Stop). stops-asked (texts c.args.words.now) (g.F.Files.holds c.args.files.now) (request_of c.in-Some.command) stop c.in-Some.ensures.found)

@@ -21,8 +21,8 @@ returns-in-Err-Failed-clause-runs g c =
     let told = files.holds c.args.files.now in
     let t = traces_of (files.faults c.args.files.now) (files.faults c.ending_of.new.files) (out.faults c.args.out.now) (out.faults c.args.out.now) (out.written c.args.out.now) (out.written c.args.out.now) in
     runs-unread words told t
-        (subst (λ (stop : Stop). Stops words told stop) c.in-Err-Failed.field-0-is c.in-Err-Failed.ensures.stops)
-        (c.ending_of.ensures.unread (c.in-Err-Failed.is ∙ ap Err c.in-Err-Failed.field-0-is)) refl
+    (subst (λ (stop : Stop). Stops words told stop) c.in-Err-Failed.field-0-is c.in-Err-Failed.ensures.stops)
+    (c.ending_of.ensures.unread (c.in-Err-Failed.is ∙ ap Err c.in-Err-Failed.field-0-is)) refl
 
 pub returns-in-Err-Memory-clause-runs : goal.returns-in-Err-Memory-clause-runs
 returns-in-Err-Memory-clause-runs g c =
@@ -32,4 +32,4 @@ returns-in-Err-Memory-clause-runs g c =
     let told = files.holds c.args.files.now in
     let t = traces_of (files.faults c.args.files.now) (files.faults c.ending_of.new.files) (out.faults c.args.out.now) (out.faults c.args.out.now) (out.written c.args.out.now) (out.written c.args.out.now) in
     runs-stopped words told t
-        (subst (λ (stop : Stop). Stops words told stop) c.in-Err-Memory.field-0-is c.in-Err-Memory.ensures.stops) refl
+    (subst (λ (stop : Stop). Stops words told stop) c.in-Err-Memory.field-0-is c.in-Err-Memory.ensures.stops) refl

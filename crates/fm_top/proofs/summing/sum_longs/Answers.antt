@@ -4,7 +4,7 @@ use Rattle.std.specs.Prelude.{ℤ, ◌+ℤ◌}
 use Rattle.std.proofs.lemmas.Int.{to_z-of_z}
 use mir.Val.{to_z, of_z}
 use Rattle.fm_top.proofs.Sums.{whole_place, next_sum, IsWithin-more}
-use Rattle.fm_top.specs.Records.{sum_of_values}
+use Rattle.fm_top.specs.Records.{number_at, sum_of_values}
 use Rattle.fm_lanes.specs.declared.value_kind.ValueKind.TheVariants.{Long}
 use Rattle.fm_top.proofs.summing.sum_longs.Goals as goal
 
@@ -18,11 +18,12 @@ loop-record-preserved c =
     let stored : to_z w128 (of_z w128 new) ≡ new = to_z-of_z w128 new (search (rules, c.plus-sum.type_inv)) in
     let read : to_z w64 (of_z w64 x) ≡ x = to_z-of_z w64 x (search (rules, c.long_at.type_inv)) in
     let is : to_z w128 (of_z w128 new) ≡ to_z w128 c.loop-record.sum-bits +ℤ x =
-        stored ∙ c.plus-sum.ensures ∙ ap (λ n. to_z w128 c.loop-record.sum-bits +ℤ n) read in
+    stored ∙ c.plus-sum.ensures ∙ ap (λ n. to_z w128 c.loop-record.sum-bits +ℤ n) read in
     let below : c.loop-record.record < length c.args.loaded.now / c.args.size =
-        subst (λ n. c.loop-record.record < n / c.args.size) c.len.ensures c.loop-record-test.true in
+    subst (λ n. c.loop-record.record < n / c.args.size) c.len.ensures c.loop-record-test.true in
     record {
       rest = next_sum c.args.size c.args.at c.loop-record.record c.args.loaded.now (to_z w128 c.loop-record.sum-bits) x (to_z w128 (of_z w128 new)) (sum_of_values Long c.args.size c.args.at c.args.loaded.now)
-          below c.requires.long.within is c.long_at.ensures c.loop-record.invariant.rest;
+          below c.requires.long.within is (c.long_at.ensures.long ∙ ap (number_at Long (c.loop-record.record * c.args.size + c.args.at)) c.loop-record.invariant.same) c.loop-record.invariant.rest;
+      same = c.long_at.ensures.same ∙ c.loop-record.invariant.same;
       small = IsWithin-more c.loop-record.record (to_z w128 c.loop-record.sum-bits) x (to_z w128 (of_z w128 new)) c.loop-record.invariant.small c.long_at.type_inv is;
     }

@@ -8,8 +8,9 @@ use Rattle.fm_top.proofs.summing.sum_longs.Given as goal
 -- the sum so far and that of the records that are left are the whole sum
 abbrev pub invariant-loop-record : goal.invariant-loop-record
 invariant-loop-record l =
-    let file = l.loaded in
+    let file = l.fn.loaded in
     record {
       rest : l.sum +ℤ sum_of (map (number_at Long l.at) (pieces (length file / l.size - l.record) l.size (drop (l.record * l.size) file))) ≡ sum_of_values Long l.size l.at file;
+      same : l.loaded ≡ file;
       small : IsWithin l.record l.sum;
     }

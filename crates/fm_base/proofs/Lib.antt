@@ -1,0 +1,12 @@
+pub mod Names
+pub mod Lookup
+pub mod Making
+pub mod Growing
+pub mod Tidiness
+pub mod Placing
+pub mod Listing
+pub mod Faith
+pub mod Visiting
+pub mod Running
+pub mod Outcomes
+pub mod Alone

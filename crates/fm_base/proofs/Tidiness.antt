@@ -1,0 +1,141 @@
+-- Bytes past the given count, in legal and tidy histories.
+use Rattle.std.proofs.Common.{◌≡◌, ◌≢◌, ℕ, zero, suc, ◌+◌, ◌/◌, ◌%◌, ◌^◌, ◌<◌, ◌≤◌, ◌==◌, Bool, true, false, if◌then◌else◌, List, [], ◌∷◌, ◌++◌, length, replicate, slice_index, slice_set, refl, ap, sym, ◌∙◌, subst, arith, eqb-true}
+use Rattle.std.proofs.lemmas.List.{get_or-set_same, get_or-set_other}
+use Rattle.std.proofs.lemmas.Bool.Decides.{nat_tests}
+use Rattle.fm_base.specs.declared.arena_id.ArenaId.{ArenaId}
+use Rattle.fm_base.specs.Arenas.{State, Arena, arena_of, no_arena, changed, word_in}
+use Rattle.fm_base.specs.Calls.{Call, Open, Enter, Read, Write, SwapIf, Add, Allocate, Leave, Hold, Unhold, Shut, End, Lend, Back, Reply, Fine, Found, Given, Entry, entry_of}
+use Rattle.fm_base.specs.Machine.{MayCall, reply_to, state_by, after, opened, entered, left, written, given_up_to, held, released, closing, ended, words_within}
+use Rattle.fm_base.specs.Histories.{IsLegal, state_after, byte_of, byte_at, DifferBelow, IsTidyIn, IsTidy, StaysBelow}
+use Rattle.fm_base.specs.Lasting.{ZeroPastGiven, GivesZeros}
+use Rattle.fm_base.proofs.Lookup.{KeepsName, changed_lookup, opened_lookup}
+use Rattle.fm_base.proofs.Making.{IsLegal-split}
+use Rattle.fm_base.proofs.Growing.{given_is, le-rounded_up, power_pos}
+
+-- every byte of the arena at or past its given count is 0
+abbrev pub IsZeroPast : Arena → Type 0
+IsZeroPast a = (place : ℕ) → a.given ≤ place → byte_at a.words place ≡ 0
+
+zeros_at : (n i : ℕ) → slice_index (replicate n 0) i ≡ 0
+zeros_at zero i = refl
+zeros_at (suc n) zero = refl
+zeros_at (suc n) (suc i) = zeros_at n i
+
+zero_byte : (at : ℕ) → byte_of 0 at ≡ 0
+zero_byte at = grind arith
+
+opened_zero : (limit : ℕ) (id : ArenaId) → IsZeroPast (opened limit id)
+opened_zero limit id place h =
+    ap (λ w. byte_of w (place % 8)) (zeros_at (words_within limit) (place / 8)) ∙ zero_byte (place % 8)
+
+-- a word that differs only below the given count leaves the bytes past it
+written_zero : (a : Arena) (word value : ℕ) → word < length a.words → DifferBelow a.given word (slice_index a.words word) value → IsZeroPast a → IsZeroPast (written word value a)
+written_zero a word value l d z place h =
+    let P : Bool → Type 0 = λ b. (place / 8 == word) ≡ b → byte_at (slice_set a.words word value) place ≡ 0 in
+    let go : (b : Bool) → P b = λ b. elim b as P [
+      | true ↦ (λ e.
+          let here : place / 8 ≡ word = eqb-true (place / 8) word e in
+          let new : slice_index (slice_set a.words word value) (place / 8) ≡ value = rw here (get_or-set_same a.words word value 0 l) in
+          let was : byte_of (slice_index a.words word) (place % 8) ≡ 0 = ap (λ (w : ℕ). byte_of (slice_index a.words w) (place % 8)) (sym here) ∙ z place h in
+          ap (λ w. byte_of w (place % 8)) new ∙ (d (place % 8) (omega arith) (omega arith) ∙ was))
+      | false ↦ (λ e.
+          let other : place / 8 ≢ word = grind (arith, nat_tests) in
+          ap (λ w. byte_of w (place % 8)) (get_or-set_other a.words word (place / 8) value 0 other) ∙ z place h)
+    ] in
+    go (place / 8 == word) refl
+
+KeepsZero : Arena → Arena → Type 0
+KeepsZero a b = IsZeroPast a → IsZeroPast b
+
+same_zero : (a : Arena) → KeepsZero a a
+unfolding KeepsZero
+same_zero a z = z
+
+changed_zero : (f : Arena → Arena) → KeepsName f → (s : State) (id other : ArenaId) → (IsZeroPast (arena_of s id) → IsZeroPast (f (arena_of s id))) → IsZeroPast (arena_of s other) → IsZeroPast (arena_of (changed s id f) other)
+unfolding KeepsZero
+changed_zero f named s id other made z = changed_lookup KeepsZero f named same_zero s id made other z
+
+opened_zero_in : (limit : ℕ) (id : ArenaId) (s : State) (other : ArenaId) → IsZeroPast (arena_of s other) → IsZeroPast (arena_of (s ++ opened limit id ∷ []) other)
+unfolding KeepsZero
+opened_zero_in limit id s other z = opened_lookup KeepsZero same_zero s (opened limit id) (λ _. opened_zero limit id) other z
+
+-- a tidy call leaves the bytes past the given counts
+zero_by : (limit : ℕ) (s : State) (c : ℕ) (call : Call) (reply : Reply) → MayCall s c call → reply ≡ reply_to limit s call → IsTidyIn s call → (other : ArenaId)
+    → IsZeroPast (arena_of s other) → IsZeroPast (arena_of (state_by limit s c call reply) other)
+zero_by limit s c (Open id) reply may is t other z = opened_zero_in limit id s other z
+zero_by limit s c (Enter id) Fine may is t other z = changed_zero (entered c) (λ a. refl) s id other (λ y. y) z
+zero_by limit s c (Enter id) reply may is t other z = z
+zero_by limit s c (Read id word) reply may is t other z = z
+zero_by limit s c (Write id word value) reply may is t other z =
+    changed_zero (written word value) (λ a. refl) s id other (written_zero (arena_of s id) word value may.within t) z
+zero_by limit s c (SwapIf id word old new) (Found found) may is t other z =
+    let P : Bool → Type 0 = λ b. (found == old) ≡ b → IsZeroPast (arena_of (if b then changed s id (written word new) else s) other) in
+    let go : (b : Bool) → P b = λ b. elim b as P [
+      | true ↦ (λ e.
+          let at : found ≡ old = eqb-true found old e in
+          let now : found ≡ word_in s id word = cc in
+          let d : DifferBelow (arena_of s id).given word (word_in s id word) new = subst (λ (x : ℕ). DifferBelow (arena_of s id).given word x new) (sym at ∙ now) (t (sym now ∙ at)) in
+          changed_zero (written word new) (λ a. refl) s id other (written_zero (arena_of s id) word new may.within d) z)
+      | false ↦ (λ e. z)
+    ] in
+    go (found == old) refl
+zero_by limit s c (SwapIf id word old new) reply may is t other z = z
+zero_by limit s c (Add id word n) (Found found) may is t other z =
+    let now : found ≡ word_in s id word = cc in
+    let d : DifferBelow (arena_of s id).given word (word_in s id word) ((found + n) % 2 ^ 64) = subst (λ (x : ℕ). DifferBelow (arena_of s id).given word (word_in s id word) ((x + n) % 2 ^ 64)) (sym now) t in
+    changed_zero (written word ((found + n) % 2 ^ 64)) (λ a. refl) s id other (written_zero (arena_of s id) word ((found + n) % 2 ^ 64) may.within d) z
+zero_by limit s c (Add id word n) reply may is t other z = z
+zero_by limit s c (Allocate id size align) (Given place) may is t other z =
+    let g = given_is limit (arena_of s id).given size align place is in
+    let up = le-rounded_up (arena_of s id).given align (power_pos align may.1) in
+    let more : (arena_of s id).given ≤ place + size = (let p = g.rounded in omega arith) in
+    changed_zero (given_up_to (place + size)) (λ a. refl) s id other (λ y p h. y p (omega arith)) z
+zero_by limit s c (Allocate id size align) reply may is t other z = z
+zero_by limit s c (Leave id) reply may is t other z = changed_zero (left c) (λ a. refl) s id other (λ y. y) z
+zero_by limit s c (Hold id) Fine may is t other z = changed_zero held (λ a. refl) s id other (λ y. y) z
+zero_by limit s c (Hold id) reply may is t other z = z
+zero_by limit s c (Unhold id) reply may is t other z = changed_zero released (λ a. refl) s id other (λ y. y) z
+zero_by limit s c (Shut id) Fine may is t other z = changed_zero closing (λ a. refl) s id other (λ y. y) z
+zero_by limit s c (Shut id) reply may is t other z = z
+zero_by limit s c (End id) reply may is t other z = changed_zero ended (λ a. refl) s id other (λ y. y) z
+zero_by limit s c (Lend block id part) reply may is t other z = z
+zero_by limit s c (Back block) reply may is t other z = z
+
+-- a legal and tidy history leaves the bytes past the given counts
+pub zero_after : (limit : ℕ) (s : State) (es : List Entry) → IsLegal limit s es → IsTidy limit s es → ((id : ArenaId) → IsZeroPast (arena_of s id)) → (id : ArenaId) → IsZeroPast (arena_of (state_after limit s es) id)
+zero_after limit s [] l t z id = z id
+zero_after limit s (e ∷ es) l t z id =
+    zero_after limit (after limit s e) es l.2 t.1 (λ o. zero_by limit s e.caller e.call e.reply l.0 l.1 t.0 o (z o)) id
+
+none_past : (id : ArenaId) → IsZeroPast (no_arena id)
+none_past id place h = zero_byte (place % 8)
+
+pub zero_past : ZeroPastGiven
+zero_past limit h l t id place g = zero_after limit [] h l t none_past id place g
+
+pub zeros_given : GivesZeros
+zeros_given limit h c id size align place l t at up =
+    let parts = IsLegal-split limit [] h (entry_of c (Allocate id size align) (Given place) ∷ []) l in
+    let given = (arena_of (state_after limit [] h) id).given in
+    let g = given_is limit given size align place parts.1.1 in
+    let above = le-rounded_up given align (power_pos align parts.1.0.1) in
+    zero_past limit h parts.0 t id at (let p = g.rounded in omega arith)
+
+-- ---- what a caller may say without the state
+
+-- a call that stays below a count that was given is tidy
+pub tidy_of : (s : State) (id : ArenaId) (end : ℕ) (call : Call) → end ≤ (arena_of s id).given → StaysBelow id end call → IsTidyIn s call
+tidy_of s id end (Open a) h b = tt
+tidy_of s id end (Enter a) h b = tt
+tidy_of s id end (Read a word) h b = tt
+tidy_of s id end (Write a word value) h b = λ at l p. let e : (arena_of s a).given ≡ (arena_of s id).given = ap (λ (x : ArenaId). (arena_of s x).given) b.0 in let k = b.1 in absurd (omega arith)
+tidy_of s id end (SwapIf a word old new) h b = λ is at l p. let e : (arena_of s a).given ≡ (arena_of s id).given = ap (λ (x : ArenaId). (arena_of s x).given) b.0 in b.1 at l (omega arith)
+tidy_of s id end (Add a word n) h b = λ at l p. let e : (arena_of s a).given ≡ (arena_of s id).given = ap (λ (x : ArenaId). (arena_of s x).given) b.0 in let k = b.1 in absurd (omega arith)
+tidy_of s id end (Allocate a size align) h b = tt
+tidy_of s id end (Leave a) h b = tt
+tidy_of s id end (Hold a) h b = tt
+tidy_of s id end (Unhold a) h b = tt
+tidy_of s id end (Shut a) h b = tt
+tidy_of s id end (End a) h b = tt
+tidy_of s id end (Lend block a part) h b = tt
+tidy_of s id end (Back block) h b = tt

@@ -1,0 +1,78 @@
+-- What each call of `Memory` does: the caller's own entries and the answer. Cases in the order of the checks.
+use Rattle.std.specs.Prelude.{◌≡◌, ◌≢◌, ℕ, ◌-◌, ◌*◌, ◌^◌, ◌<◌, bit_and, bit_or, List, [], ◌∷◌, Option, Some, None, Result, Ok, Err}
+use Rattle.fm_base.specs.declared.arena_id.ArenaId.{ArenaId}
+use Rattle.fm_base.specs.declared.kind.Kind.{Kind}
+use Rattle.fm_base.specs.declared.kind.Kind.TheVariants.{Global, Automatic}
+use Rattle.fm_base.specs.declared.refusal.Refusal.{Refusal}
+use Rattle.fm_base.specs.declared.refusal.Refusal.TheVariants.{Closed, WrongThread, BadAlignment, NoRoom, PoolFull, NoSlot, Memory, CannotClose, Held}
+use Rattle.fm_base.specs.Arenas.{MayUse}
+use Rattle.fm_base.specs.Calls as machine
+use Rattle.fm_base.specs.Calls.{Call, Reply, Entry, entry_of}
+use Rattle.fm_base.specs.Machine.{IsPower}
+use Rattle.fm_base.specs.View.{View, given_in}
+use Rattle.fm_base.specs.Visits.{Acts, entries_of, visit, refused_visit, Tries}
+
+-- inside an arena, where the word has a given byte
+pub record CanReach (v : View) (word : ℕ) : Type 0 where
+  pub id : ArenaId
+  pub inside : v.inside ≡ Some id
+  pub given : 8 * word < given_in v id
+
+-- an arena of this kind is closed by hand
+abbrev pub IsClosable : Kind → Type 0
+IsClosable kind = (kind ≢ Global) × (kind ≢ Automatic)
+
+abbrev pub DoesEnter : ℕ → ArenaId → Result (Unit {0}) Refusal → List Entry → Type 0
+DoesEnter c id (Ok u) own = MayUse id c × (own ≡ entry_of c (machine.Enter id) machine.Fine ∷ [])
+DoesEnter c id (Err WrongThread) own = ¬ (MayUse id c) × (own ≡ [])
+DoesEnter c id (Err Closed) own = MayUse id c × (own ≡ refused_visit c id)
+DoesEnter c id (Err r) own = ⊥
+
+-- one act in the arena that the caller is inside
+abbrev pub DoesAct : Option ArenaId → ℕ → (ArenaId → Call) → Reply → List Entry → Type 0
+DoesAct None c call reply own = ⊥
+DoesAct (Some id) c call reply own = own ≡ entry_of c (call id) reply ∷ []
+
+-- the word, its bits under `mask` put to `bits`
+unfoldable pub patched : ℕ → ℕ → ℕ → ℕ
+patched mask bits word = bit_or (bit_and word (2 ^ 64 - 1 - mask)) bits
+
+-- tries that change just the bits under the mask
+abbrev pub DoesPatch : Option ArenaId → ℕ → ℕ → ℕ → ℕ → ℕ → List Entry → Type 0
+DoesPatch None c word mask bits found own = ⊥
+DoesPatch (Some id) c word mask bits found own =
+    (acts : Acts) × Tries id word (patched mask bits) found acts × (own ≡ entries_of c acts)
+
+abbrev pub DoesOpen : ℕ → Kind → Result ArenaId Refusal → List Entry → Type 0
+DoesOpen c kind (Ok id) own =
+    (id.kind ≡ kind) × (id.owner ≡ c) × (own ≡ entry_of c (machine.Open id) machine.Fine ∷ [])
+DoesOpen c kind (Err NoSlot) own = own ≡ []
+DoesOpen c kind (Err Memory) own = own ≡ []
+DoesOpen c kind (Err r) own = ⊥
+
+abbrev pub DoesAllocate : ℕ → ArenaId → ℕ → ℕ → Result ℕ Refusal → List Entry → Type 0
+DoesAllocate c id size align (Ok place) own =
+    IsPower align × MayUse id c
+    × (own ≡ visit c id ((machine.Allocate id size align, machine.Given place) ∷ []))
+DoesAllocate c id size align (Err BadAlignment) own = ¬ (IsPower align) × (own ≡ [])
+DoesAllocate c id size align (Err WrongThread) own = IsPower align × ¬ (MayUse id c) × (own ≡ [])
+DoesAllocate c id size align (Err Closed) own = IsPower align × MayUse id c × (own ≡ refused_visit c id)
+DoesAllocate c id size align (Err (NoRoom given)) own =
+    IsPower align × MayUse id c
+    × (own ≡ visit c id ((machine.Allocate id size align, machine.NoRoom given) ∷ []))
+DoesAllocate c id size align (Err PoolFull) own = IsPower align × MayUse id c × (own ≡ visit c id [])
+DoesAllocate c id size align (Err Memory) own = IsPower align × MayUse id c × (own ≡ [])
+DoesAllocate c id size align (Err r) own = ⊥
+
+abbrev pub DoesClose : ℕ → ArenaId → Result (Unit {0}) Refusal → List Entry → Type 0
+DoesClose c id (Ok u) own =
+    IsClosable id.kind × MayUse id c
+    × (own ≡ entry_of c (machine.Shut id) machine.Fine ∷ entry_of c (machine.End id) machine.Fine ∷ [])
+DoesClose c id (Err (CannotClose kind)) own = ¬ (IsClosable id.kind) × (kind ≡ id.kind) × (own ≡ [])
+DoesClose c id (Err WrongThread) own = IsClosable id.kind × ¬ (MayUse id c) × (own ≡ [])
+DoesClose c id (Err Closed) own =
+    IsClosable id.kind × MayUse id c × (own ≡ entry_of c (machine.Shut id) machine.Closed ∷ [])
+DoesClose c id (Err (Held holds)) own =
+    IsClosable id.kind × MayUse id c × (0 < holds)
+    × (own ≡ entry_of c (machine.Shut id) (machine.Held holds) ∷ [])
+DoesClose c id (Err r) own = ⊥

@@ -1,0 +1,74 @@
+-- What a caller of a pool is told of beside the history: the words that certain steps found, and what it has.
+use Rattle.std.specs.Prelude.{◌≡◌, ℕ, Bool, true, false, List, ◌++◌, Contains, All}
+use Rattle.fm_base.specs.declared.arena_id.ArenaId.{ArenaId}
+
+-- the steps whose finds are kept, with their arguments
+pub data FindStep : Type 0 where
+  Draws : (expected : ℕ) → FindStep
+  Visits : (id : ArenaId) (pass : ℕ) → FindStep
+  TakesSlot : (expected bit : ℕ) → FindStep
+  TakesPage : (expected bit : ℕ) → FindStep
+  Maps : (id : ArenaId) (part page : ℕ) → FindStep
+
+pub record Find : Type 0 where
+  pub step : FindStep
+  -- the word that the step found
+  pub found : ℕ
+  -- how many entries the caller had seen before the step's own entry
+  pub seen : ℕ
+  -- whether the caller was clear before the step
+  pub clear : Bool
+
+-- a number that was gathered into the caller's, with what its caller had found
+pub record Gathered : Type 0 where
+  pub number : ℕ
+  pub finds : List Find
+
+-- what a caller has, and what was gathered into it
+pub record Rest : Type 0 where
+  pub holds : List ArenaId
+  pub handles : List ArenaId
+  -- the arenas whose close was begun and not finished
+  pub closes : List ArenaId
+  -- the pages and slots in its hand
+  pub pages : List ℕ
+  pub slots : List ℕ
+  pub gathered : List Gathered
+  -- whether it is known that every drawn number but its own is gathered into it
+  pub whole : Bool
+
+abbrev pub is_draw : FindStep → Bool
+is_draw (Draws expected) = true
+is_draw (Visits id pass) = false
+is_draw (TakesSlot expected bit) = false
+is_draw (TakesPage expected bit) = false
+is_draw (Maps id part page) = false
+
+abbrev pub is_slot : FindStep → Bool
+is_slot (Draws expected) = false
+is_slot (Visits id pass) = false
+is_slot (TakesSlot expected bit) = true
+is_slot (TakesPage expected bit) = false
+is_slot (Maps id part page) = false
+
+abbrev pub is_page : FindStep → Bool
+is_page (Draws expected) = false
+is_page (Visits id pass) = false
+is_page (TakesSlot expected bit) = false
+is_page (TakesPage expected bit) = true
+is_page (Maps id part page) = false
+
+-- the finds grow by these
+pub record FindsMore (old new : List Find) : Type 0 where
+  pub more : List Find
+  pub grown : new ≡ old ++ more
+  pub no_draw : All (λ f. is_draw f.step ≡ false) more
+
+-- among the finds that were added, a step of this kind found the word 0
+pub record FoundNothing (is_step : FindStep → Bool) (old new : List Find) : Type 0 where
+  pub more : List Find
+  pub grown : new ≡ old ++ more
+  pub find : Find
+  pub among : Contains more find
+  pub step : is_step find.step ≡ true
+  pub nothing : find.found ≡ 0

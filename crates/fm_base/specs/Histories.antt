@@ -1,0 +1,55 @@
+-- Histories: lists of entries in order. Which are legal and which tidy, and what state one leaves.
+use Rattle.std.specs.Prelude.{◌≡◌, ℕ, ◌+◌, ◌*◌, ◌/◌, ◌%◌, ◌^◌, ◌<◌, ◌≤◌, ◌==◌, List, [], ◌∷◌, filter, ⊤, slice_index}
+use Rattle.fm_base.specs.declared.arena_id.ArenaId.{ArenaId}
+use Rattle.fm_base.specs.Arenas.{State, arena_of, word_in}
+use Rattle.fm_base.specs.Calls.{Call, Write, SwapIf, Add, Entry}
+use Rattle.fm_base.specs.Machine.{MayCall, reply_to, after}
+
+-- the state that entries leave
+abbrev pub state_after : ℕ → State → List Entry → State
+state_after limit s [] = s
+state_after limit s (e ∷ es) = state_after limit (after limit s e) es
+
+-- each entry is legal, with its reply, in the state that the entries before it leave
+abbrev pub IsLegal : ℕ → State → List Entry → Type 0
+IsLegal limit s [] = ⊤
+IsLegal limit s (e ∷ es) =
+    MayCall s e.caller e.call × (e.reply ≡ reply_to limit s e.call) × IsLegal limit (after limit s e) es
+
+-- the entries of one caller
+abbrev pub made_by : ℕ → List Entry → List Entry
+made_by caller es = filter (λ e. e.caller == caller) es
+
+-- ---- which bytes an entry changes
+
+-- byte `at` of a word, the lowest first
+abbrev pub byte_of : ℕ → ℕ → ℕ
+byte_of word at = word / 2 ^ (8 * at) % 256
+
+-- the byte at a place of an arena
+abbrev pub byte_at : List ℕ → ℕ → ℕ
+byte_at words place = byte_of (slice_index words (place / 8)) (place % 8)
+
+-- the words `old` and `new`, at this index, differ only in bytes at places below `end`
+abbrev pub DifferBelow : ℕ → ℕ → ℕ → ℕ → Type 0
+DifferBelow end word old new = (at : ℕ) → at < 8 → end ≤ 8 * word + at → byte_of new at ≡ byte_of old at
+
+-- the call, made in this state, changes only bytes at places below the given count of its arena
+abbrev pub IsTidyIn : State → Call → Type 0
+IsTidyIn s (Write id word value) = DifferBelow (arena_of s id).given word (word_in s id word) value
+IsTidyIn s (SwapIf id word old new) =
+    word_in s id word ≡ old → DifferBelow (arena_of s id).given word old new
+IsTidyIn s (Add id word n) =
+    DifferBelow (arena_of s id).given word (word_in s id word) ((word_in s id word + n) % 2 ^ 64)
+IsTidyIn s call = ⊤
+
+abbrev pub IsTidy : ℕ → State → List Entry → Type 0
+IsTidy limit s [] = ⊤
+IsTidy limit s (e ∷ es) = IsTidyIn s e.call × IsTidy limit (after limit s e) es
+
+-- Whatever the words are, the call changes only bytes of this arena at places below `end`
+abbrev pub StaysBelow : ArenaId → ℕ → Call → Type 0
+StaysBelow a end (Write id word value) = (id ≡ a) × (8 * word + 8 ≤ end)
+StaysBelow a end (SwapIf id word old new) = (id ≡ a) × DifferBelow end word old new
+StaysBelow a end (Add id word n) = (id ≡ a) × (8 * word + 8 ≤ end)
+StaysBelow a end call = ⊤

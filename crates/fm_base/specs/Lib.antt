@@ -1,0 +1,13 @@
+pub mod Arenas
+pub mod Calls
+pub mod Machine
+pub mod Histories
+pub mod Loans
+pub mod Visits
+pub mod Finds
+pub mod View
+pub mod Does
+pub mod Outcomes
+pub mod Lasting
+pub mod Printed
+pub mod Listed

@@ -1,0 +1,6 @@
+pub mod Showing
+pub mod Alone
+pub mod Steps
+pub mod Opening
+pub mod Allotting
+pub mod Visits

@@ -1,0 +1,98 @@
+-- What contracts see of a `Mono`, and the machine's arena that each of its arenas is.
+use Rattle.std.specs.Prelude.{◌≡◌, ℕ, ◌+◌, ◌-◌, ◌*◌, ◌^◌, ◌<◌, ◌≤◌, Bool, true, false, if◌then◌else◌, List, [], ◌∷◌, ◌++◌, Option, Some, None, length, replicate, slice_get, Result, Ok, Err}
+use Rattle.fm_base.specs.declared.arena_id.ArenaId.{ArenaId}
+use Rattle.fm_base.specs.declared.refusal.Refusal.{Refusal}
+use Rattle.fm_base.specs.declared.refusal.Refusal.TheVariants as refusal
+use Rattle.fm_base.specs.Arenas.{State, Arena, Alive, Ended, same_id, has_arena, arena_of, changed}
+use Rattle.fm_base.specs.Calls.{Allocate, Given, NoRoom}
+use Rattle.fm_base.specs.Machine.{words_within, reply_to, given_up_to}
+use Rattle.fm_base.specs.View.{View}
+use Rattle.fm_base.specs.Outcomes.{Nature}
+use Rattle.fm_mono.specs.declared.arena.MonoArena.{MonoArena}
+
+-- the arenas of one thread
+pub record Arenas : Type 0 where
+  -- how many bytes an arena can give
+  pub limit : ℕ
+  pub state : State
+  -- the arena that was entered, or none
+  pub inside : Option ArenaId
+
+-- alone, as caller 0, and telling nothing
+abbrev pub view_of : Arenas → View
+view_of m = record { limit = m.limit; state = m.state; caller = 0; inside = m.inside; alone = true; told = None }
+
+-- want of memory and NoSlot may come, PoolFull never
+abbrev pub nature_of_mono : Nature
+nature_of_mono = record { alone = true; memory = true; no_slot = true; pool_full = false }
+
+abbrev pub most_arenas : ℕ
+most_arenas = 4294967295
+
+-- ---- the machine's arena
+
+abbrev pub is_inside : Option ArenaId → ArenaId → Bool
+is_inside None id = false
+is_inside (Some a) id = same_id id a
+
+-- the words so far, and zeros
+abbrev pub filled : ℕ → List ℕ → List ℕ
+filled n words = words ++ replicate (n - length words) 0
+
+abbrev pub shown : ℕ → Option ArenaId → MonoArena → Arena
+shown limit inside o = record {
+  id = o.id;
+  life = (if o.is_alive then Alive else Ended);
+  words = filled (words_within limit) (if o.is_alive then o.words.items else o.past.numbers);
+  given = o.given;
+  holds = 0;
+  under_way = (if is_inside inside o.id then 0 ∷ [] else []);
+}
+
+abbrev pub shown_all : ℕ → Option ArenaId → List MonoArena → State
+shown_all limit inside [] = []
+shown_all limit inside (o ∷ os) = shown limit inside o ∷ shown_all limit inside os
+
+-- ---- what the fields keep
+
+-- the slots count the places
+abbrev pub CountFrom : ℕ → List MonoArena → Type 0
+CountFrom n [] = Unit {0}
+CountFrom n (o ∷ os) = (o.id.slot ≡ n) × (o.id.owner ≡ 0) × CountFrom (n + 1) os
+
+-- the given bytes are within the limit, and an arena that is alive has just their words
+pub record FitsIn (limit : ℕ) (o : MonoArena) : Type 0 where
+  pub given : o.given ≤ limit
+  pub words : o.is_alive ≡ true → length o.words.items ≡ words_within o.given
+
+-- the arena that was entered is there, and is alive
+abbrev pub IsThere : Option ArenaId → List MonoArena → Type 0
+IsThere None os = Unit {0}
+IsThere (Some a) os = (o : MonoArena) × (slice_get os a.slot ≡ Some o) × (o.id ≡ a) × (o.is_alive ≡ true)
+
+pub record IsSoundMono (limit : ℕ) (inside : Option ArenaId) (os : List MonoArena) : Type 0 where
+  pub small : limit ≤ 2 ^ 40
+  pub few : length os ≤ most_arenas
+  pub names : CountFrom 0 os
+  pub fit : (i : ℕ) (o : MonoArena) → slice_get os i ≡ Some o → FitsIn limit o
+  pub there : IsThere inside os
+
+-- ---- what the steps of calls do
+
+abbrev pub IsKnown : Arenas → ArenaId → Type 0
+IsKnown m id = has_arena m.state id ≡ true
+
+-- inside this arena, where the word has a given byte
+pub record IsAt (m : Arenas) (a : ArenaId) (word : ℕ) : Type 0 where
+  pub inside : m.inside ≡ Some a
+  pub given : 8 * word < (arena_of m.state a).given
+
+-- Allocate in an arena that is alive, or nothing where memory is wanting
+abbrev pub Allots : Arenas → ArenaId → ℕ → ℕ → Result ℕ Refusal → Arenas → Type 0
+Allots old a size align (Ok place) new =
+    (Given place ≡ reply_to old.limit old.state (Allocate a size align))
+    × (new ≡ record old { state = changed old.state a (given_up_to (place + size)) })
+Allots old a size align (Err (refusal.NoRoom given)) new =
+    (NoRoom given ≡ reply_to old.limit old.state (Allocate a size align)) × (new ≡ old)
+Allots old a size align (Err refusal.Memory) new = new ≡ old
+Allots old a size align (Err r) new = ⊥
