@@ -1,13 +1,13 @@
 -- What a list of names and bytes holds under a name, file by file.
-use Rattle.std.proofs.Common.{◌≡◌, ℕ, ◌+◌, suc, ◌<◌, ◌≤◌, List, [], ◌∷◌, length, drop, get_or, Option, None, Some, String, Vec, string_bytes, cond, Bool, true, false, ap, sym, ◌∙◌, add-one, drop-cons}
+use Rattle.std.proofs.Common.{◌≡◌, ℕ, ◌+◌, suc, ◌<◌, ◌≤◌, List, [], ◌∷◌, length, drop, get_or, None, Some, String, Vec, string_bytes, cond, true, false, ap, sym, ◌∙◌, add-one, drop-cons}
 use Rattle.std.proofs.Math.ListN.{drop_of_length-le}
 use Rattle.std.specs.Ordering.{nat_cmp}
 use Rattle.std.specs.Cmp.Lexicographic.{slice_cmp, nat_list_cmp_total}
-use Rattle.std.specs.FinMap.{FinMap, from_entries, get, get-insert, get-empty}
+use Rattle.std.specs.FinMap.{get-insert, get-empty}
 use Rattle.std.specs.Str.{bytes_eq}
 use Rattle.std.specs.declared.alloc.Global.{Global}
 use Rattle.std.proofs.lemmas.Map.Text.{is_eq-slice_cmp}
-use Rattle.fm_io.specs.Files.{Contents, file_of, contents_of}
+use Rattle.fm_io.specs.Files.{file_of, contents_of}
 
 -- the first file has the name, or the others decide
 file_of-cons : (f : String Global × Vec ℕ Global) (fs : List (String Global × Vec ℕ Global)) (q : List ℕ)

@@ -6,7 +6,6 @@ use Rattle.std.specs.FinMap.{FinMap, from_entries, get}
 use Rattle.std.specs.declared.alloc.Global.{Global}
 use Rattle.fm_io.specs.declared.files.Piece.{Piece}
 use Rattle.fm_io.specs.declared.files.Piece.TheVariants.{Got, End, Missing}
-use Rattle.fm_io.specs.declared.fault.Fault.{Fault}
 
 -- the bytes under each name that is there
 abbrev pub Contents : Type 0

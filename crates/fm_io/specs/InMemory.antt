@@ -1,5 +1,5 @@
 -- What contracts see of the files and the sinks in memory.
-use Rattle.std.specs.Prelude.{◌≡◌, ℕ, List}
+use Rattle.std.specs.Prelude.{ℕ, List}
 use Rattle.fm_io.specs.Files.{Contents, contents_of}
 use Rattle.fm_io.specs.declared.sure_files.SureFiles.{SureFiles}
 use Rattle.fm_io.specs.declared.mem_files.MemFiles.{MemFiles}

@@ -21,7 +21,11 @@ pub struct HostFiles<R: rt::Files<File = File>> {
 }
 
 impl<R: rt::Files<File = File>> HostFiles<R> {
-    pub fn new(rt: R) -> HostFiles<R> {
+    /// No read has failed yet, and none has missed.
+    pub fn new(rt: R) -> HostFiles<R>
+        ensures faults { result.faults ≡ 0 }
+        ensures misses { result.misses ≡ 0 }
+    {
         HostFiles {
             rt,
             faults: 0,

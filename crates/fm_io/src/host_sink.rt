@@ -15,7 +15,10 @@ pub struct HostSink<W: Write> {
 }
 
 impl<W: Write> HostSink<W> {
-    pub fn new(writer: W) -> HostSink<W> {
+    /// No write has failed yet.
+    pub fn new(writer: W) -> HostSink<W>
+        ensures { result.faults ≡ 0 }
+    {
         HostSink { writer, faults: 0 }
     }
 }

@@ -1,18 +1,17 @@
 -- What each status of a run comes of.
-use Rattle.std.proofs.Common.{◌≡◌, ◌≢◌, ℕ, ◌%◌, ◌<◌, ◌^◌, List, [], ◌∷◌, length, Option, None, Some, IfSome, Bool, true, false, refl, sym, ap, subst, ◌∙◌, ◌⊎◌, inl, inr, arith}
+use Rattle.std.proofs.Common.{◌≡◌, ◌≢◌, ℕ, ◌%◌, ◌<◌, List, length, Option, None, Some, IfSome, Bool, true, false, refl, sym, ap, subst, ◌∙◌, inl, inr, arith}
 use Rattle.std.specs.Prelude.{nat_lt, ◌==◌, if◌then◌else◌, IsSomeAnd}
 use Rattle.std.specs.Fmt.{decimal}
 use Rattle.std.proofs.lemmas.Bool.Decides.{Decides-ltb, Decides-eqb, not_from_Decides}
 use Rattle.std.proofs.lemmas.Fmt.{decimal_injective}
 use Rattle.fm_io.specs.Count.{Rose}
 use Rattle.fm_io.specs.Files.{Contents, file_of, IsAbsent}
-use Rattle.fm_io.specs.Sink.{Appends}
-use Rattle.fm_top.specs.Outcome.{Outcome, outcome_of, sum_outcome, sum_text, usage, too_long, answered, ragged, record_file_limit}
+use Rattle.fm_top.specs.Outcome.{Outcome, outcome_of, sum_outcome, sum_text, too_long, answered, ragged, record_file_limit}
 use Rattle.fm_top.specs.Run.{HasOutcome, over, IsOutcome, faulty, asked, Traces, Ends, whole, unread, unwritten, no_memory, Runs, code_of, Answers, AsksAbsent, AsksLong, AsksRagged}
 use Rattle.fm_top.specs.Whole.{IsOver, IsRagged}
-use Rattle.fm_top.specs.Words.{Request, Sum, Asks, IsSum, AreFaulty, first_file, record_size}
+use Rattle.fm_top.specs.Words.{Request, Sum, Asks, IsSum, first_file, record_size}
 use Rattle.fm_top.specs.declared.status.Status.{Status}
-use Rattle.fm_top.specs.declared.status.Status.TheVariants.{Answered, Usage, Missing, Unread, Ragged, TooLong, Unwritten, NoMemory}
+use Rattle.fm_top.specs.declared.status.Status.TheVariants.{Answered, Missing, Ragged, TooLong}
 use Rattle.fm_top.proofs.Runs.{outcome_status, IsLate}
 
 -- how a file is cut, by two tests

@@ -1,5 +1,5 @@
 -- A file that is read chunk by chunk.
-use Rattle.std.proofs.Common.{◌≡◌, ℕ, List, ◌++◌, length, Bool, Option, sym, subst, zero-add}
+use Rattle.std.proofs.Common.{ℕ, List, length, Bool, Option, sym, subst, zero-add}
 use Rattle.fm_io.specs.Files.{Contents, AreBytesFrom}
 use Rattle.fm_io.proofs.Filled.{AreBytesFrom-append}
 use Rattle.fm_top.specs.Whole.{TakesChunk}

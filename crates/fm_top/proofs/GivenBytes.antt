@@ -4,7 +4,7 @@ use Rattle.std.proofs.lemmas.List.{length-take-le, take-append-le, drop-append-l
 use Rattle.std.proofs.Math.Seq.{take-append-add, take-append_seam, take-suc-set}
 use Rattle.fm_base.specs.Machine.{rounded_up}
 use Rattle.fm_bytes.specs.Bytes.{AreBytes, bytes_of, number_of}
-use Rattle.fm_bytes.specs.Words.{word_count, bytes_in, words_of, words_from}
+use Rattle.fm_bytes.specs.Words.{word_count, bytes_in, words_of}
 use Rattle.fm_bytes.proofs.Bytes.{number_of-bytes_of}
 use Rattle.fm_bytes.proofs.Words.{length-bytes_in, bytes_in-append, bytes_in-word, bytes_in-words_from, take-bytes_in}
 use Rattle.fm_top.specs.Loaded.{first_bytes}

@@ -1,24 +1,24 @@
 -- What the only caller's calls do to the arena that it holds.
-use Rattle.std.proofs.Common.{◌≡◌, ◌≢◌, ℕ, ◌+◌, ◌-◌, ◌*◌, ◌/◌, ◌<◌, ◌≤◌, Bool, true, false, List, [], ◌∷◌, ◌++◌, Option, Some, None, Result, Ok, Err, slice_index, slice_set, replicate, length, length-set, refl, ap, sym, ◌∙◌, subst, arith}
-use Rattle.std.specs.Prelude.{nat_le, if◌then◌else◌, filter, not}
+use Rattle.std.proofs.Common.{◌≡◌, ℕ, ◌+◌, ◌≤◌, Bool, true, false, List, [], ◌∷◌, Option, Some, None, Ok, Err, slice_set, length, length-set, refl, ap, sym, ◌∙◌, subst, arith}
+use Rattle.std.specs.Prelude.{nat_le, if◌then◌else◌, not}
 use lib.Count.{ones}
 use Rattle.fm_base.specs.declared.arena_id.ArenaId.{ArenaId}
 use Rattle.fm_base.specs.declared.kind.Kind.{Kind}
 use Rattle.fm_base.specs.declared.refusal.Refusal.{Refusal}
 use Rattle.fm_base.specs.declared.refusal.Refusal.TheVariants as refusal
-use Rattle.fm_base.specs.Arenas.{State, Arena, changed, Life, Alive, Closing, Ended, arena_of, has_arena, MayUse}
-use Rattle.fm_base.specs.Calls.{Call, Open, Enter, Read, Write, SwapIf, Add, Allocate, Leave, Hold, Unhold, Shut, End, Lend, Back, Reply, Fine, Closed, Found, Given, NoRoom, Entry, entry_of}
-use Rattle.fm_base.specs.Machine.{MayCall, reply_to, after, state_by, words_within, rounded_up, opened, entered, left, written, given_up_to, enter_reply, allocate_reply}
+use Rattle.fm_base.specs.Arenas.{State, Arena, changed, arena_of, has_arena}
+use Rattle.fm_base.specs.Calls.{Call, Open, Enter, Read, Write, SwapIf, Add, Allocate, Leave, Hold, Unhold, Shut, End, Lend, Back, Reply, Fine, Closed, Given, NoRoom, Entry, entry_of}
+use Rattle.fm_base.specs.Machine.{after, state_by, words_within, rounded_up, opened, entered, left, written, given_up_to, enter_reply, allocate_reply}
 use Rattle.fm_base.specs.Histories.{IsLegal, state_after}
 use Rattle.fm_base.specs.Visits.{visit, refused_visit}
 use Rattle.fm_base.specs.View.{View, Makes, Did, but_loans, is_loan}
 use Rattle.fm_base.specs.Does.{DoesAct, DoesEnter, DoesOpen, DoesAllocate}
-use Rattle.fm_base.specs.Outcomes.{IsNew, Nature, MayCome}
+use Rattle.fm_base.specs.Outcomes.{MayCome}
 use Rattle.fm_base.proofs.Lookup.{KeepsName, changed_has, changed_twice, lookup_changed, arena_of-opened, has_arena-opened}
 use Rattle.fm_base.proofs.Growing.{given_is}
 use Rattle.fm_base.proofs.Visiting.{entered_makes}
 use Rattle.fm_base.proofs.Faith.{Makes-alone}
-use Rattle.fm_base.proofs.Alone.{only_one, only_act, IsOnly}
+use Rattle.fm_base.proofs.Alone.{only_one, only_act}
 use Rattle.fm_mono.specs.Shown.{Arenas, view_of, nature_of_mono}
 use Rattle.fm_top.specs.Held.{IsHeld, HoldsThen, given_at, words_at}
 use Rattle.std.proofs.lemmas.List.{length-replicate}

@@ -1,13 +1,13 @@
 -- How runs end.
-use Rattle.std.proofs.Common.{◌≡◌, ◌≢◌, ℕ, ◌+◌, ◌%◌, ◌<◌, ◌≤◌, List, length, Option, None, Some, IfSome, Result, Ok, Err, IfErr, Bool, true, false, refl, sym, ap, subst, ◌∙◌, ◌⊎◌, inl, inr, arith, append-nil}
-use Rattle.std.specs.Prelude.{nat_lt, ◌==◌, if◌then◌else◌, IsSomeAnd}
+use Rattle.std.proofs.Common.{◌≡◌, ◌≢◌, ℕ, ◌%◌, List, length, Option, None, Some, Result, Ok, Err, IfErr, Bool, true, false, refl, sym, ap, subst, ◌∙◌, ◌⊎◌, inl, inr, arith, append-nil}
+use Rattle.std.specs.Prelude.{nat_lt, ◌==◌, if◌then◌else◌}
 use Rattle.std.specs.FinMap.{empty}
 use Rattle.fm_io.specs.Count.{Rose}
-use Rattle.fm_io.specs.Files.{Contents, file_of, IsAbsent}
-use Rattle.fm_io.specs.Sink.{Appends, AppendsPrefix}
+use Rattle.fm_io.specs.Files.{Contents, file_of}
+use Rattle.fm_io.specs.Sink.{AppendsPrefix}
 use Rattle.fm_top.specs.Outcome.{Outcome, outcome_of, sum_outcome, sum_text, usage, too_long, answered, ragged, record_file_limit}
 use Rattle.fm_top.specs.Run.{HasOutcome, over, IsOutcome, faulty, asked, Traces, Ends, whole, unread, unwritten, no_memory, Stops, Prints, printed, failed, stopped, Runs, code_of, EndsWith}
-use Rattle.fm_top.specs.Words.{Request, Sum, Asks, CanBeAsked, AreFaulty, first_file, record_size}
+use Rattle.fm_top.specs.Words.{Request, Sum, Asks, CanBeAsked, AreFaulty}
 use Rattle.fm_top.specs.declared.status.Status.{Status}
 use Rattle.fm_top.specs.declared.status.Status.TheVariants.{Answered, Usage, Missing, Unread, LayoutRefused, QueryRefused, Ragged, TooLong, Unwritten, NoMemory, ScriptRefused}
 use Rattle.fm_top.specs.declared.stop.Stop.{Stop}

@@ -6,7 +6,7 @@ use Rattle.fm_lanes.specs.declared.value_kind.ValueKind.TheVariants.{Long}
 use Rattle.fm_top.specs.Records.{sum_of_values}
 use Rattle.fm_top.specs.Words.{Request, Sum}
 use Rattle.fm_top.specs.declared.status.Status.{Status}
-use Rattle.fm_top.specs.declared.status.Status.TheVariants.{Answered, Usage, Missing, Unread, LayoutRefused, QueryRefused, Ragged, TooLong, Unwritten, NoMemory, ScriptRefused}
+use Rattle.fm_top.specs.declared.status.Status.TheVariants.{Answered, Usage, Missing, Ragged, TooLong}
 
 pub record Outcome : Type 0 where
   pub status : Status

@@ -1,5 +1,5 @@
 -- What a run of the tool does: the outcome that its words and files have, and how it may end.
-use Rattle.std.specs.Prelude.{◌≡◌, ◌≢◌, ◌⊎◌, ℕ, List, Option, None, Some, IfSome}
+use Rattle.std.specs.Prelude.{◌≡◌, ◌≢◌, ◌⊎◌, ℕ, List, Option, IfSome}
 use Rattle.fm_io.specs.Count.{Rose}
 use Rattle.fm_io.specs.Files.{Contents, IsAbsent}
 use Rattle.fm_io.specs.Sink.{Appends, AppendsPrefix}

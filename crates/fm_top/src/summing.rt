@@ -19,7 +19,7 @@ fn long_at(loaded: &mut Loaded, place: u64) -> i64
 
 /// The sum of the long at byte `at` of each record of `size` bytes. What is left behind the last record doesn't count.
 ///
-/// It can't overflow: a file has fewer than 2^23 records, and each long is less than 2^63 from 0.
+/// It can't overflow: a file has at most 2^23 records, and each long is at most 2^63 from 0.
 pub fn sum_longs(loaded: &mut Loaded, size: u64, at: u64) -> i128
     requires long { HasLong size at }
     requires short { length loaded.old ≤ RECORD_FILE_LIMIT }

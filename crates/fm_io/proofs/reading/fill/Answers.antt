@@ -1,4 +1,4 @@
-use Rattle.std.proofs.Common.{ℕ, ◌+◌, ◌-◌, ◌≤◌, List, ◌++◌, length, take, IfSome, Option, ◌≡◌, sym, ◌∙◌, arith, subst}
+use Rattle.std.proofs.Common.{ℕ, ◌+◌, ◌≤◌, List, length, take, IfSome, Option, sym, ◌∙◌, arith, subst}
 use Rattle.std.proofs.lemmas.List.{length-take-le}
 use Rattle.fm_io.specs.Files.{Contents, AreBytesFrom, TellsPiece}
 use Rattle.fm_io.specs.declared.files.Piece.TheVariants.{Got}

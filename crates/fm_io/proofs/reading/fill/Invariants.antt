@@ -1,4 +1,4 @@
-use Rattle.std.proofs.Common.{◌≡◌, ◌≤◌, ◌-◌, ℕ, length, take}
+use Rattle.std.proofs.Common.{◌≡◌, ◌≤◌, ◌-◌, length, take}
 use Rattle.fm_io.specs.Files.{AreBytesFrom}
 use Rattle.fm_io.proofs.reading.fill.Given as goal
 

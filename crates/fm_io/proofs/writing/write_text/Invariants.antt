@@ -1,4 +1,4 @@
-use Rattle.std.proofs.Common.{◌≡◌, ◌≤◌, ◌-◌, ℕ, length, take}
+use Rattle.std.proofs.Common.{◌≤◌, ◌-◌, length, take}
 use Rattle.fm_io.specs.Sink.{Appends}
 use Rattle.fm_io.proofs.writing.write_text.Given as goal
 

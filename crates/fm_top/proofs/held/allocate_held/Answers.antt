@@ -1,4 +1,3 @@
-use Rattle.std.proofs.Common.{subst}
 use Rattle.fm_top.specs.Outcome.{record_file_limit}
 use Rattle.fm_top.proofs.Holding.{allocated_held, refused_held}
 use Rattle.fm_top.proofs.held.allocate_held.Goals as goal

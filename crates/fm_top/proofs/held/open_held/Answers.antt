@@ -3,7 +3,6 @@ use Rattle.fm_base.specs.declared.kind.Kind.TheVariants.{Confined}
 use Rattle.fm_base.specs.Does.{DoesOpen}
 use Rattle.fm_base.specs.View.{Did, but_loans}
 use Rattle.fm_mono.specs.Shown.{Arenas, view_of}
-use Rattle.fm_top.specs.Held.{IsHeld, given_at}
 use Rattle.fm_top.specs.Outcome.{record_file_limit}
 use Rattle.fm_top.proofs.Holding.{opened_held}
 use Rattle.fm_top.proofs.held.open_held.Goals as goal

@@ -1,4 +1,4 @@
-use Rattle.std.proofs.Common.{◌≡◌, ℕ, ◌+◌, ◌<◌, length, take, ◌∙◌, arith}
+use Rattle.std.proofs.Common.{take, ◌∙◌, arith}
 use Rattle.fm_top.specs.Held.{words_at}
 use Rattle.fm_top.proofs.GivenBytes.{store_next}
 use Rattle.fm_top.proofs.loaded.store_words.Goals as goal

@@ -1,4 +1,4 @@
-use Rattle.std.proofs.Common.{◌≡◌, ◌+◌, ◌++◌, length, take, Some}
+use Rattle.std.proofs.Common.{◌≡◌, ◌+◌, ◌++◌, take, Some}
 use Rattle.fm_top.specs.Held.{IsHeld, given_at, words_at}
 use Rattle.fm_top.specs.Outcome.{record_file_limit}
 use Rattle.fm_top.proofs.loaded.store_words.Given as goal

@@ -1,4 +1,4 @@
-use Rattle.std.proofs.Common.{ℕ, List, Option, Bool, false, ◌≡◌, refl, sym, ◌∙◌, subst, arith}
+use Rattle.std.proofs.Common.{Option, false, refl, ◌∙◌, subst, arith}
 use Rattle.fm_io.specs.Files.{Contents}
 use Rattle.fm_top.specs.Whole.{TakesChunk}
 use Rattle.fm_top.proofs.Chunks.{AreBytesFrom-took}

@@ -1,9 +1,9 @@
-use Rattle.std.proofs.Common.{◌≡◌, Err, ap, sym, subst, ◌∙◌}
+use Rattle.std.proofs.Common.{sym, subst}
 use Rattle.std.proofs.lemmas.Result.{err_from_is_err_and, IfOk-weaker}
 use Rattle.fm_top.specs.Asked.{request_of}
 use Rattle.fm_top.specs.Ending.{shown}
-use Rattle.fm_top.specs.Outcome.{Outcome, usage}
-use Rattle.fm_top.specs.Run.{IsOutcome, HasOutcome, Stops, faulty, asked}
+use Rattle.fm_top.specs.Outcome.{Outcome}
+use Rattle.fm_top.specs.Run.{IsOutcome, Stops, faulty, asked}
 use Rattle.fm_top.specs.Words.{texts}
 use Rattle.fm_top.specs.declared.stop.Stop.{Stop}
 use Rattle.fm_top.proofs.Runs.{can_be_asked, stops-asked, stops-faulty, on_every_err}

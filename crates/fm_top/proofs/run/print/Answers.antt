@@ -1,4 +1,4 @@
-use Rattle.std.proofs.Common.{Err, List, ℕ, ap, subst, ◌≡◌, ◌∙◌, string_bytes}
+use Rattle.std.proofs.Common.{Err, List, ℕ, ap, subst, ◌∙◌}
 use Rattle.fm_io.specs.Sink.{Appends, AppendsPrefix}
 use Rattle.fm_top.specs.Run.{printed, failed, stopped}
 use Rattle.fm_top.proofs.run.print.Goals as goal

@@ -1,6 +1,5 @@
-use Rattle.std.proofs.Common.{◌≡◌, List, ℕ, Option, sym, ◌∙◌}
-use Rattle.fm_io.specs.Files.{Contents}
-use Rattle.fm_top.specs.Run.{Traces, traces_of, code_of}
+use Rattle.std.proofs.Common.{sym, ◌∙◌}
+use Rattle.fm_top.specs.Run.{traces_of}
 use Rattle.fm_top.specs.Words.{texts}
 use Rattle.fm_top.specs.declared.status.Status.TheVariants.{Usage, Missing, Unread, Ragged, TooLong, Unwritten}
 use Rattle.fm_top.proofs.Causes.{only_missing, only_too_long, only_ragged, complete}

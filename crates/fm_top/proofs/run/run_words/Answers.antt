@@ -1,6 +1,6 @@
-use Rattle.std.proofs.Common.{◌≡◌, Err, List, ℕ, Option, ap, ◌∙◌, refl, subst}
+use Rattle.std.proofs.Common.{Err, ap, ◌∙◌, refl, subst}
 use Rattle.fm_top.specs.Ending.{shown}
-use Rattle.fm_top.specs.Run.{Stops, Traces, traces_of}
+use Rattle.fm_top.specs.Run.{Stops, traces_of}
 use Rattle.fm_top.specs.Words.{texts}
 use Rattle.fm_top.specs.declared.stop.Stop.{Stop}
 use Rattle.fm_top.proofs.Runs.{runs-printed, runs-unread, runs-stopped}

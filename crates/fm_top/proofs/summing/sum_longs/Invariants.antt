@@ -1,5 +1,5 @@
-use Rattle.std.proofs.Common.{◌≡◌, ℕ, ◌+◌, ◌-◌, ◌*◌, ◌/◌, ◌≤◌, ◌^◌, length, drop, map}
-use Rattle.std.specs.Prelude.{ℤ, ◌+ℤ◌}
+use Rattle.std.proofs.Common.{◌≡◌, ◌-◌, ◌*◌, ◌/◌, length, drop, map}
+use Rattle.std.specs.Prelude.{◌+ℤ◌}
 use Rattle.fm_lanes.specs.declared.value_kind.ValueKind.TheVariants.{Long}
 use Rattle.fm_top.specs.Records.{number_at, pieces, sum_of, sum_of_values}
 use Rattle.fm_top.proofs.Sums.{IsWithin}

@@ -1,4 +1,3 @@
-use Rattle.std.proofs.Common.{◌≡◌}
 use Rattle.fm_top.proofs.Numbers.{unread, no_spelling}
 use Rattle.fm_top.proofs.words.number_of_word.Goals as goal
 

@@ -1,5 +1,3 @@
-use Rattle.std.proofs.Common.{◌≡◌, ℕ, List, true, false, sym, ◌∙◌}
-use Rattle.fm_top.specs.Words.{HasLong}
 use Rattle.fm_top.proofs.Numbers.{no_sum, no_true}
 use Rattle.fm_top.proofs.words.sum_command.Goals as goal
 

@@ -1,4 +1,4 @@
-use Rattle.std.proofs.Common.{ℕ, ◌*◌, ◌≤◌, length, ap, sym, ◌∙◌, arith}
+use Rattle.std.proofs.Common.{◌*◌, ◌≤◌, length, ap, sym, ◌∙◌, arith}
 use Rattle.fm_top.specs.Held.{words_at}
 use Rattle.fm_top.proofs.GivenBytes.{length-first_bytes}
 use Rattle.fm_top.proofs.loaded.Loaded.len.Goals as goal

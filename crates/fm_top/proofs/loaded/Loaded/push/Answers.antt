@@ -1,12 +1,10 @@
 use Rattle.std.proofs.Common.{◌≡◌, ℕ, ◌+◌, ◌*◌, ◌/◌, ◌%◌, ◌<◌, ◌≤◌, List, ◌++◌, length, take, ap, sym, ◌∙◌, arith}
 use Rattle.std.proofs.lemmas.List.Elements.{All-from_get_or}
-use Rattle.fm_base.specs.Machine.{rounded_up}
 use Rattle.fm_bytes.specs.Bytes.{AreBytes}
 use Rattle.fm_bytes.specs.Words.{words_of, word_count}
 use Rattle.fm_bytes.proofs.Words.{length-words_of}
 use Rattle.fm_top.specs.Held.{given_at, words_at}
 use Rattle.fm_top.specs.Loaded.{first_bytes}
-use Rattle.fm_top.specs.Outcome.{record_file_limit}
 use Rattle.fm_top.proofs.GivenBytes.{length-first_bytes, pushed-first_bytes, rounded_whole}
 use Rattle.fm_top.proofs.loaded.Loaded.push.Goals as goal
 

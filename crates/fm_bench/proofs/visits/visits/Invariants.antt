@@ -1,0 +1,8 @@
+use Rattle.fm_bench.proofs.visits.visits.Given as goal
+use Rattle.fm_bench.specs.Ready.{IsReady}
+
+abbrev pub invariant-loop-turn : goal.invariant-loop-turn
+invariant-loop-turn g l = IsReady l.memory l.arena 65536
+
+abbrev pub invariant-loop-word : goal.invariant-loop-word
+invariant-loop-word g l = IsReady l.memory l.arena 65536

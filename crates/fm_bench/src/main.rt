@@ -1,0 +1,46 @@
+//! Loops for the benchmarks: `visits COUNT` of an arena's words, `loads COUNT` from a plain vector.
+//!
+//! It prints what it found, so that the loops are run; the script that calls it takes the time.
+#![tactic(auto)]
+
+mod loads;
+mod visits;
+
+use crate::loads::loads;
+use crate::visits::visits;
+use std::alloc::Global;
+use std::env;
+use std::process::ExitCode;
+use std::sync::Wait;
+
+fn main(rt: HostRuntime) -> ExitCode {
+    let printed = match words(&rt) {
+        Some((what, count)) => match run(&rt, rt.alloc(), what.as_str(), count) {
+            Some(joined) => println!(rt; "{joined}").is_ok(),
+            None => false,
+        },
+        None => false,
+    };
+    if printed {
+        ExitCode::SUCCESS
+    } else {
+        ExitCode::FAILURE
+    }
+}
+
+/// The two words behind the program's name, where they are of the form.
+fn words(rt: &HostRuntime) -> Option<(String, u64)> {
+    let mut words = env::args(rt).ok()?.skip(1);
+    let what = words.next()?;
+    let count = words.next()?.as_str().parse::<u64>().ok()?;
+    Some((what, count))
+}
+
+/// Runs the loop of this name; none where there is no such loop, or memory ran out.
+fn run<R: Wait>(rt: &R, alloc: Global, what: &str, count: u64) -> Option<u64> {
+    match what {
+        "visits" => visits(rt, alloc, count).ok(),
+        "loads" => loads(alloc, count).ok(),
+        _ => None,
+    }
+}
