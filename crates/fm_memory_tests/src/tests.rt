@@ -1,6 +1,7 @@
 use crate::body::{close_an_arena, use_a_word};
 use crate::braided::Braided;
 use crate::telling::Telling;
+use fm_base::{Kind, Memory, Refusal};
 use fm_mono::Mono;
 
 #[test]
@@ -22,4 +23,19 @@ fn with_a_history_that_is_told(rt: HostRuntime) {
     let mut m = Telling::new(&rt, rt.alloc(), Mono::make(rt.alloc(), 64));
     use_a_word(&rt, &mut m, 0);
     close_an_arena(&rt, &mut m);
+}
+
+/// The example of the repository's README.
+#[test]
+fn from_opening_to_closing(rt: HostRuntime) {
+    let mut memory = Mono::make(rt.alloc(), 64);
+    let arena = memory.open_arena(&rt, Kind::Shared).expect(&rt, "an arena");
+    assert_eq!(rt; memory.allocate(&rt, arena, 8, 8), Ok(0));
+    assert_eq!(rt; memory.enter(arena), Ok(()));
+    memory.store(0, 7);
+    assert_eq!(rt; memory.load(0), 7);
+    memory.leave();
+    assert_eq!(rt; memory.allocate(&rt, arena, 64, 8), Err(Refusal::NoRoom(8)));
+    assert_eq!(rt; memory.close(&rt, arena), Ok(()));
+    assert_eq!(rt; memory.enter(arena), Err(Refusal::Closed));
 }
