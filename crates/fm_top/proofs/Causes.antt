@@ -6,9 +6,12 @@ use Rattle.std.proofs.lemmas.Bool.Decides.{Decides-ltb, Decides-eqb, not_from_De
 use Rattle.std.proofs.lemmas.Fmt.{decimal_injective}
 use Rattle.fm_io.specs.Count.{Rose}
 use Rattle.fm_io.specs.Files.{Contents, file_of, IsAbsent}
+use Rattle.fm_lanes.specs.declared.value_kind.ValueKind.{ValueKind}
 use Rattle.fm_top.specs.Outcome.{Outcome, outcome_of, sum_outcome, sum_text, too_long, answered, ragged, record_file_limit}
 use Rattle.fm_top.specs.Run.{HasOutcome, over, IsOutcome, faulty, asked, Traces, Ends, whole, unread, unwritten, no_memory, Runs, code_of, Answers, AsksAbsent, AsksLong, AsksRagged}
 use Rattle.fm_top.specs.Whole.{IsOver, IsRagged}
+use Rattle.fm_path.specs.Listing.{kind_text}
+use Rattle.fm_top.proofs.TypeNames.{kind_text-injective}
 use Rattle.fm_top.specs.Words.{Request, Sum, Asks, IsSum, first_file, record_size}
 use Rattle.fm_top.specs.declared.status.Status.{Status}
 use Rattle.fm_top.specs.declared.status.Status.TheVariants.{Answered, Missing, Ragged, TooLong}
@@ -34,24 +37,24 @@ cut_ragged false true text rest is = absurd (cc)
 cut_ragged false false text rest is = refl
 
 -- the file of a sum that ends so
-sum_missing : (size at : ℕ) (name : List ℕ) (found : Option (List ℕ)) → (sum_outcome size at name found).status ≡ Missing → found ≡ None
-sum_missing size at name None is = refl
-sum_missing size at name (Some bytes) is =
-    absurd (cut_missing (nat_lt record_file_limit (length bytes)) (length bytes % size == 0) (sum_text size at bytes) (length bytes % size) is)
+sum_missing : (size at : ℕ) (kind : ValueKind) (name : List ℕ) (found : Option (List ℕ)) → (sum_outcome size at kind name found).status ≡ Missing → found ≡ None
+sum_missing size at kind name None is = refl
+sum_missing size at kind name (Some bytes) is =
+    absurd (cut_missing (nat_lt record_file_limit (length bytes)) (length bytes % size == 0) (sum_text size at kind bytes) (length bytes % size) is)
 
-sum_long : (size at : ℕ) (name : List ℕ) (found : Option (List ℕ)) → (sum_outcome size at name found).status ≡ TooLong
+sum_long : (size at : ℕ) (kind : ValueKind) (name : List ℕ) (found : Option (List ℕ)) → (sum_outcome size at kind name found).status ≡ TooLong
     → IsSomeAnd found (λ file. record_file_limit < length file)
-sum_long size at name None is = absurd (cc)
-sum_long size at name (Some bytes) is =
+sum_long size at kind name None is = absurd (cc)
+sum_long size at kind name (Some bytes) is =
     (Decides-ltb record_file_limit (length bytes)).0
-    (cut_long (nat_lt record_file_limit (length bytes)) (length bytes % size == 0) (sum_text size at bytes) (length bytes % size) is)
+    (cut_long (nat_lt record_file_limit (length bytes)) (length bytes % size == 0) (sum_text size at kind bytes) (length bytes % size) is)
 
-sum_ragged : (size at : ℕ) (name : List ℕ) (found : Option (List ℕ)) → (sum_outcome size at name found).status ≡ Ragged
+sum_ragged : (size at : ℕ) (kind : ValueKind) (name : List ℕ) (found : Option (List ℕ)) → (sum_outcome size at kind name found).status ≡ Ragged
     → IsSomeAnd found (λ file. length file % size ≢ 0)
-sum_ragged size at name None is = absurd (cc)
-sum_ragged size at name (Some bytes) is =
+sum_ragged size at kind name None is = absurd (cc)
+sum_ragged size at kind name (Some bytes) is =
     not_from_Decides (length bytes % size == 0) (Decides-eqb (length bytes % size) 0)
-    (cut_ragged (nat_lt record_file_limit (length bytes)) (length bytes % size == 0) (sum_text size at bytes) (length bytes % size) is)
+    (cut_ragged (nat_lt record_file_limit (length bytes)) (length bytes % size == 0) (sum_text size at kind bytes) (length bytes % size) is)
 
 -- what holds of the contents holds of those that are told
 told_too : (P : Contents → Type 0) (told : Option Contents) (contents : Contents) → IfSome told (λ held. contents ≡ held) → P contents → IfSome told P
@@ -60,16 +63,16 @@ told_too P (Some other) contents held p = subst P held p
 
 -- the request whose outcome has the status Missing
 absent : (request : Request) (told : Option Contents) (o : Outcome) → HasOutcome request told o → o.status ≡ Missing → IsAbsent told (first_file request)
-absent (Sum size at file) told o (over contents held) is =
-    told_too (λ held'. file_of held' file ≡ None) told contents held (sum_missing size at file (file_of contents file) is)
+absent (Sum size at kind file) told o (over contents held) is =
+    told_too (λ held'. file_of held' file ≡ None) told contents held (sum_missing size at kind file (file_of contents file) is)
 
 long : (request : Request) (told : Option Contents) (o : Outcome) → HasOutcome request told o → o.status ≡ TooLong → IsOver told (first_file request) record_file_limit
-long (Sum size at file) told o (over contents held) is =
-    told_too (λ held'. IsSomeAnd (file_of held' file) (λ bytes. record_file_limit < length bytes)) told contents held (sum_long size at file (file_of contents file) is)
+long (Sum size at kind file) told o (over contents held) is =
+    told_too (λ held'. IsSomeAnd (file_of held' file) (λ bytes. record_file_limit < length bytes)) told contents held (sum_long size at kind file (file_of contents file) is)
 
 is_ragged : (request : Request) (told : Option Contents) (o : Outcome) → HasOutcome request told o → o.status ≡ Ragged → IsRagged told (first_file request) (record_size request)
-is_ragged (Sum size at file) told o (over contents held) is =
-    told_too (λ held'. IsSomeAnd (file_of held' file) (λ bytes. length bytes % size ≢ 0)) told contents held (sum_ragged size at file (file_of contents file) is)
+is_ragged (Sum size at kind file) told o (over contents held) is =
+    told_too (λ held'. IsSomeAnd (file_of held' file) (λ bytes. length bytes % size ≢ 0)) told contents held (sum_ragged size at kind file (file_of contents file) is)
 
 -- the words whose outcome has the status
 asks_absent : (words : List (List ℕ)) (told : Option Contents) (o : Outcome) → IsOutcome words told o → o.status ≡ Missing → AsksAbsent words told
@@ -99,19 +102,22 @@ only_ragged words told t s runs is =
 -- ---- valid input
 
 -- words ask for one thing
-same_sum : (words : List (List ℕ)) (n m n' m' : ℕ) (file file' : List ℕ) → IsSum words n m file → IsSum words n' m' file' → Sum n m file ≡ Sum n' m' file'
-same_sum words n m n' m' file file' a b =
+same_sum : (words : List (List ℕ)) (n m n' m' : ℕ) (kind kind' : ValueKind) (file file' : List ℕ)
+    → IsSum words n m kind file → IsSum words n' m' kind' file' → Sum n m kind file ≡ Sum n' m' kind' file'
+same_sum words n m n' m' kind kind' file file' a b =
     let one = a.spelled in
     let two = b.spelled in
     let sizes : decimal n ≡ decimal n' = cc in
     let ats : decimal m ≡ decimal m' = cc in
     let files : file ≡ file' = cc in
-    let size : n ≡ n' = decimal_injective n n' (omega (arith, a.has_long.small)) (omega (arith, b.has_long.small)) sizes in
-    let at : m ≡ m' = decimal_injective m m' (omega (arith, a.has_long.small, a.has_long.within)) (omega (arith, b.has_long.small, b.has_long.within)) ats in
+    let types : kind_text kind ≡ kind_text kind' = cc in
+    let same_kind : kind ≡ kind' = kind_text-injective kind kind' types in
+    let size : n ≡ n' = decimal_injective n n' (omega (arith, a.has_value.small)) (omega (arith, b.has_value.small)) sizes in
+    let at : m ≡ m' = decimal_injective m m' (omega (arith, a.has_value.small, a.has_value.within)) (omega (arith, b.has_value.small, b.has_value.within)) ats in
     cc
 
 same_request : (words : List (List ℕ)) (r s : Request) → Asks words r → Asks words s → r ≡ s
-same_request words (Sum n m file) (Sum n' m' file') a b = same_sum words n m n' m' file file' a b
+same_request words (Sum n m kind file) (Sum n' m' kind' file') a b = same_sum words n m n' m' kind kind' file file' a b
 
 -- where the files tell, a request has one outcome
 one_outcome : (request : Request) (contents : Contents) (o : Outcome) → HasOutcome request (Some contents) o → o ≡ outcome_of request contents

@@ -3,10 +3,10 @@ use Rattle.std.proofs.Common.{◌≡◌, ℕ, ◌+◌, ◌-◌, ◌*◌, ◌/◌
 use Rattle.std.proofs.lemmas.List.{length-take-le, take-append-le, drop-append-le, take-append-drop, take_more}
 use Rattle.std.proofs.Math.Seq.{take-append-add, take-append_seam, take-suc-set}
 use Rattle.fm_base.specs.Machine.{rounded_up}
-use Rattle.fm_bytes.specs.Bytes.{AreBytes, bytes_of, number_of}
+use Rattle.fm_bytes.specs.Bytes.{AreBytes, bytes_of, number_of, lane}
 use Rattle.fm_bytes.specs.Words.{word_count, bytes_in, words_of}
-use Rattle.fm_bytes.proofs.Bytes.{number_of-bytes_of}
-use Rattle.fm_bytes.proofs.Words.{length-bytes_in, bytes_in-append, bytes_in-word, bytes_in-words_from, take-bytes_in}
+use Rattle.fm_bytes.proofs.Bytes.{number_of-bytes_of, lane-lt}
+use Rattle.fm_bytes.proofs.Words.{length-bytes_in, bytes_in-append, bytes_in-lane, bytes_in-words_from, take-bytes_in}
 use Rattle.fm_top.specs.Loaded.{first_bytes}
 use Rattle.fm_top.proofs.Sums.{take-within}
 
@@ -20,20 +20,23 @@ take_inside xs ys n m within =
     ap (take m) (drop-append-le n xs ys (omega arith))
     ∙ take-append-le m (drop n xs) ys (omega (arith, length-drop n xs))
 
--- a word is the number of its eight bytes
-pub word-first_bytes : (count place word : ℕ) (words : List ℕ) → count ≤ 8 * length words → place % 8 ≡ 0 → place + 8 ≤ count
-    → word ≡ get_or words (place / 8) 0 → word < 2 ^ 64 → word ≡ number_of (take 8 (drop place (first_bytes count words)))
-word-first_bytes count place word words fit whole within is small =
+-- a lane of a word is the number of its bytes
+pub lane-first_bytes : (count place width word : ℕ) (words : List ℕ) → count ≤ 8 * length words → 1 ≤ width → place % 8 + width ≤ 8
+    → place + width ≤ count → word ≡ get_or words (place / 8) 0
+    → lane word (place % 8) width ≡ number_of (take width (drop place (first_bytes count words)))
+lane-first_bytes count place width word words fit some in_word within is =
     let w = place / 8 in
+    let at = place % 8 in
     let bytes = bytes_in words in
-    let at : 8 * w ≡ place = omega arith in
+    let place_is : 8 * w + at ≡ place = omega arith in
     let inside : w < length words = omega arith in
-    let front : take 8 (drop place (first_bytes count words)) ≡ take 8 (drop place bytes) =
-    sym (take_inside (first_bytes count words) (drop count bytes) place 8 (omega (arith, length-first_bytes count words fit)))
-    ∙ ap (λ all. take 8 (drop place all)) (take-append-drop count bytes) in
-    let eight : take 8 (drop place bytes) ≡ bytes_of 8 (get_or words w 0) =
-    ap (λ n. take 8 (drop n bytes)) (sym at) ∙ bytes_in-word words w inside in
-    sym (ap number_of (front ∙ eight ∙ ap (bytes_of 8) (sym is)) ∙ number_of-bytes_of 8 word small)
+    let front : take width (drop place (first_bytes count words)) ≡ take width (drop place bytes) =
+    sym (take_inside (first_bytes count words) (drop count bytes) place width (omega (arith, length-first_bytes count words fit)))
+    ∙ ap (λ all. take width (drop place all)) (take-append-drop count bytes) in
+    let bytes_are : take width (drop place bytes) ≡ bytes_of width (lane (get_or words w 0) at width) =
+    ap (λ n. take width (drop n bytes)) (sym place_is) ∙ bytes_in-lane words w at width inside in_word in
+    sym (ap number_of (front ∙ bytes_are ∙ ap (λ n. bytes_of width (lane n at width)) (sym is))
+    ∙ number_of-bytes_of width (lane word at width) (lane-lt word at width))
 
 -- the first bytes of a list and of what follows it
 take-behind : {X : Type 0} (xs ys : List X) (n m : ℕ) → length xs ≡ n → take (n + m) (xs ++ ys) ≡ xs ++ take m ys

@@ -6,3 +6,4 @@ pub mod Numbers
 pub mod Outcomes
 pub mod Runs
 pub mod Sums
+pub mod TypeNames

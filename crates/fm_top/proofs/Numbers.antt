@@ -1,12 +1,17 @@
 -- Words that spell numbers.
-use Rattle.std.proofs.Common.{◌≡◌, ℕ, ◌<◌, ◌^◌, List, Bool, false, Result, Ok, Err, sym, ◌∙◌, ap, subst, arith, IsTrue}
+use Rattle.std.proofs.Common.{◌≡◌, ℕ, ◌<◌, ◌^◌, ◌≤◌, List, [], ◌∷◌, length, get_or, Bool, false, Result, Ok, Err, sym, ◌∙◌, ap, subst, arith, IsTrue}
 use Rattle.std.specs.Fmt.{decimal}
+use Rattle.std.specs.Prelude.{String, string_bytes}
+use Rattle.std.specs.declared.alloc.Global.{Global}
 use Rattle.std.specs.Str.{bytes_eq}
 use Rattle.std.specs.Str.Parse.{ParsesUnsigned}
 use Rattle.std.proofs.lemmas.Bool.Decides.{not_from_Decides}
 use Rattle.std.proofs.lemmas.Fmt.{parse-decimal, decimal_injective}
 use Rattle.std.proofs.lemmas.Slice.Eq.{bytes_eq-Decides}
-use Rattle.fm_top.specs.Words.{HasLong, IsSum, five}
+use Rattle.fm_path.specs.Listing.{kind_text}
+use Rattle.fm_top.proofs.TypeNames.{kind_text-injective}
+use Rattle.fm_lanes.specs.declared.value_kind.ValueKind.{ValueKind}
+use Rattle.fm_top.specs.Words.{Sum, AreFaulty, texts, HasValue, IsSum, five}
 
 -- what spells a number is read as that number
 read_spelled : {E : Type 0} (word : List ℕ) (r : Result ℕ E) (n : ℕ) → ParsesUnsigned 64 10 word r → n < 2 ^ 64 → word ≡ decimal n → r ≡ Ok n
@@ -26,17 +31,39 @@ no_spelling {E} word text r m same parsed read is tested other n small spelled =
     let equal : m ≡ n = cc in
     not_from_Decides (bytes_eq text word) (bytes_eq-Decides text word) (sym tested ∙ other) (is ∙ ap decimal equal ∙ sym spelled)
 
--- two words spell numbers at which no long stands, so no sum is spelled with them
-pub no_sum : (command size at kind file name : List ℕ) (n m n' m' : ℕ) → n < 2 ^ 64 → m < 2 ^ 64 → size ≡ decimal n → at ≡ decimal m
-    → (HasLong n m → ⊥) → IsSum (five command size at kind file) n' m' name → ⊥
-no_sum command size at kind file name n m n' m' small_n small_m size_is at_is not sum =
+-- words spell numbers at which no value of the kind that they name stands, so no sum is spelled with them
+pub no_sum : (command size at type_word file name : List ℕ) (n m n' m' : ℕ) (kind kind' : ValueKind) → n < 2 ^ 64 → m < 2 ^ 64
+    → size ≡ decimal n → at ≡ decimal m → type_word ≡ kind_text kind
+    → (HasValue n m kind → ⊥) → IsSum (five command size at type_word file) n' m' kind' name → ⊥
+no_sum command size at type_word file name n m n' m' kind kind' small_n small_m size_is at_is type_is not sum =
     let spelled = sum.spelled in
     let size' : size ≡ decimal n' = cc in
     let at' : at ≡ decimal m' = cc in
-    let has = sum.has_long in
+    let type' : type_word ≡ kind_text kind' = cc in
+    let has = sum.has_value in
     let same_n : n' ≡ n = decimal_injective n' n (omega (arith, has.small)) small_n (sym size' ∙ size_is) in
     let same_m : m' ≡ m = decimal_injective m' m (omega (arith, has.small, has.within)) small_m (sym at' ∙ at_is) in
-    not (subst (λ (k : ℕ). HasLong k m) same_n (subst (λ (k : ℕ). HasLong n' k) same_m has))
+    let same_kind : kind' ≡ kind = kind_text-injective kind' kind (sym type' ∙ type_is) in
+    not (subst (λ (k : ℕ). HasValue k m kind) same_n (subst (λ (k : ℕ). HasValue n' k kind) same_m (subst (λ (k : ValueKind). HasValue n' m' k) same_kind has)))
+
+-- five words and their texts
+pub five_texts : (words : List (String Global)) (v w x y z : String Global) (a b c d e : List ℕ) → 5 ≤ length words → length words < 6
+    → v ≡ get_or words 0 v → w ≡ get_or words 1 w → x ≡ get_or words 2 x → y ≡ get_or words 3 y → z ≡ get_or words 4 z
+    → a ≡ string_bytes v → b ≡ string_bytes w → c ≡ string_bytes x → d ≡ string_bytes y → e ≡ string_bytes z
+    → texts words ≡ five a b c d e
+five_texts (p ∷ q ∷ r ∷ s ∷ t ∷ []) v w x y z a b c d e low high is_v is_w is_x is_y is_z is_a is_b is_c is_d is_e = cc
+five_texts (p ∷ q ∷ r ∷ s ∷ t ∷ u ∷ more) v w x y z a b c d e low high is_v is_w is_x is_y is_z is_a is_b is_c is_d is_e = absurd (omega arith)
+five_texts (p ∷ q ∷ r ∷ s ∷ []) v w x y z a b c d e low high is_v is_w is_x is_y is_z is_a is_b is_c is_d is_e = absurd (omega arith)
+five_texts (p ∷ q ∷ r ∷ []) v w x y z a b c d e low high is_v is_w is_x is_y is_z is_a is_b is_c is_d is_e = absurd (omega arith)
+five_texts (p ∷ q ∷ []) v w x y z a b c d e low high is_v is_w is_x is_y is_z is_a is_b is_c is_d is_e = absurd (omega arith)
+five_texts (p ∷ []) v w x y z a b c d e low high is_v is_w is_x is_y is_z is_a is_b is_c is_d is_e = absurd (omega arith)
+five_texts [] v w x y z a b c d e low high is_v is_w is_x is_y is_z is_a is_b is_c is_d is_e = absurd (omega arith)
+
+-- where these words ask for no sum, they ask for nothing
+pub none_asked : (words other : List (List ℕ)) → words ≡ other
+    → ((size at : ℕ) (kind : ValueKind) (file : List ℕ) → IsSum other size at kind file → ⊥) → AreFaulty words
+none_asked words other same none (Sum size at kind file) asks =
+    none size at kind file (subst (λ (all : List (List ℕ)). IsSum all size at kind file) same asks)
 
 -- what is false isn't true
 pub no_true : (b : Bool) → b ≡ false → IsTrue b → ⊥

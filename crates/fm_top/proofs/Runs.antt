@@ -5,6 +5,7 @@ use Rattle.std.specs.FinMap.{empty}
 use Rattle.fm_io.specs.Count.{Rose}
 use Rattle.fm_io.specs.Files.{Contents, file_of}
 use Rattle.fm_io.specs.Sink.{AppendsPrefix}
+use Rattle.fm_lanes.specs.declared.value_kind.ValueKind.{ValueKind}
 use Rattle.fm_top.specs.Outcome.{Outcome, outcome_of, sum_outcome, sum_text, usage, too_long, answered, ragged, record_file_limit}
 use Rattle.fm_top.specs.Run.{HasOutcome, over, IsOutcome, faulty, asked, Traces, Ends, whole, unread, unwritten, no_memory, Stops, Prints, printed, failed, stopped, Runs, code_of, EndsWith}
 use Rattle.fm_top.specs.Words.{Request, Sum, Asks, CanBeAsked, AreFaulty}
@@ -15,7 +16,7 @@ use Rattle.fm_top.specs.declared.stop.Stop.TheVariants.{Failed, Memory}
 
 -- what words ask for can be asked
 pub can_be_asked : (words : List (List ℕ)) (request : Request) → Asks words request → CanBeAsked request
-can_be_asked words (Sum size at file) asks = asks.has_long
+can_be_asked words (Sum size at kind file) asks = asks.has_value
 
 -- the statuses of a sum's outcome
 abbrev IsSumStatus : Status → Type 0
@@ -33,20 +34,20 @@ IsLate NoMemory = Unit {0}
 IsLate other = ⊥
 
 -- the status of a file that is cut into records
-cut_status : (long even : Bool) (size at : ℕ) (bytes text : List ℕ) (rest : ℕ)
+cut_status : (long even : Bool) (size at : ℕ) (kind : ValueKind) (bytes text : List ℕ) (rest : ℕ)
     → IsSumStatus (if long then too_long else if even then answered text else ragged rest).status
-cut_status true even size at bytes text rest = tt
-cut_status false true size at bytes text rest = tt
-cut_status false false size at bytes text rest = tt
+cut_status true even size at kind bytes text rest = tt
+cut_status false true size at kind bytes text rest = tt
+cut_status false false size at kind bytes text rest = tt
 
-sum_status : (size at : ℕ) (name : List ℕ) (found : Option (List ℕ)) → IsSumStatus (sum_outcome size at name found).status
-sum_status size at name None = tt
-sum_status size at name (Some bytes) =
-    cut_status (nat_lt record_file_limit (length bytes)) (length bytes % size == 0) size at bytes (sum_text size at bytes) (length bytes % size)
+sum_status : (size at : ℕ) (kind : ValueKind) (name : List ℕ) (found : Option (List ℕ)) → IsSumStatus (sum_outcome size at kind name found).status
+sum_status size at kind name None = tt
+sum_status size at kind name (Some bytes) =
+    cut_status (nat_lt record_file_limit (length bytes)) (length bytes % size == 0) size at kind bytes (sum_text size at kind bytes) (length bytes % size)
 
 -- a request's outcome has one of its statuses
 request_status : (request : Request) (contents : Contents) → IsSumStatus (outcome_of request contents).status
-request_status (Sum size at file) contents = sum_status size at file (file_of contents file)
+request_status (Sum size at kind file) contents = sum_status size at kind file (file_of contents file)
 
 -- what a request stops with when a read failed isn't usage
 not_usage : (request : Request) (contents : Contents) → (outcome_of request contents).status ≢ Usage

@@ -4,4 +4,4 @@ use Rattle.fm_top.specs.declared.words.Command.{Command}
 use Rattle.fm_top.specs.declared.words.Command.TheVariants as command
 
 abbrev pub request_of : Command → Request
-request_of (command.Sum words) = Sum words.size words.at words.file.now
+request_of (command.Sum words) = Sum words.size words.at words.kind words.file.now

@@ -2,7 +2,7 @@
 use Rattle.std.specs.Prelude.{ℕ, ◌%◌, ◌==◌, nat_lt, if◌then◌else◌, List, [], ◌∷◌, ◌++◌, length, codes, Option, None, Some}
 use Rattle.std.specs.Fmt.{decimal, signed_decimal}
 use Rattle.fm_io.specs.Files.{Contents, file_of}
-use Rattle.fm_lanes.specs.declared.value_kind.ValueKind.TheVariants.{Long}
+use Rattle.fm_lanes.specs.declared.value_kind.ValueKind.{ValueKind}
 use Rattle.fm_top.specs.Records.{sum_of_values}
 use Rattle.fm_top.specs.Words.{Request, Sum}
 use Rattle.fm_top.specs.declared.status.Status.{Status}
@@ -41,20 +41,20 @@ abbrev pub answered : List ℕ → Outcome
 answered text = record { status = Answered; text = text }
 
 -- what `sum` prints for a file
-abbrev pub sum_text : ℕ → ℕ → List ℕ → List ℕ
-sum_text size at bytes = line (codes "sum " ++ signed_decimal (sum_of_values Long size at bytes))
+abbrev pub sum_text : ℕ → ℕ → ValueKind → List ℕ → List ℕ
+sum_text size at kind bytes = line (codes "sum " ++ signed_decimal (sum_of_values kind size at bytes))
 
 -- how `sum` ends for a file of these bytes
-abbrev pub sum_of_file : ℕ → ℕ → List ℕ → Outcome
-sum_of_file size at bytes =
+abbrev pub sum_of_file : ℕ → ℕ → ValueKind → List ℕ → Outcome
+sum_of_file size at kind bytes =
     if nat_lt record_file_limit (length bytes) then too_long
-    else if length bytes % size == 0 then answered (sum_text size at bytes)
+    else if length bytes % size == 0 then answered (sum_text size at kind bytes)
     else ragged (length bytes % size)
 
-abbrev pub sum_outcome : ℕ → ℕ → List ℕ → Option (List ℕ) → Outcome
-sum_outcome size at file None = missing file
-sum_outcome size at file (Some bytes) = sum_of_file size at bytes
+abbrev pub sum_outcome : ℕ → ℕ → ValueKind → List ℕ → Option (List ℕ) → Outcome
+sum_outcome size at kind file None = missing file
+sum_outcome size at kind file (Some bytes) = sum_of_file size at kind bytes
 
 -- how the request ends where these are the files
 abbrev pub outcome_of : Request → Contents → Outcome
-outcome_of (Sum size at file) contents = sum_outcome size at file (file_of contents file)
+outcome_of (Sum size at kind file) contents = sum_outcome size at kind file (file_of contents file)

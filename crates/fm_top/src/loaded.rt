@@ -6,7 +6,7 @@ ghost use Rattle.fm_top.specs.Outcome.{record_file_limit};
 
 use crate::held::{allocate_held, enter_held, leave_held, load_held, open_held, store_held};
 use fm_base::ArenaId;
-use fm_lanes::words_of;
+use fm_lanes::{read, words_of};
 use fm_mono::Mono;
 use std::alloc::{AllocError, Global};
 use std::marker::Model;
@@ -75,17 +75,18 @@ impl Loaded {
         Ok(())
     }
 
-    /// The word of the eight bytes from the place on.
-    pub fn word(&mut self, place: u64) -> u64
-        requires whole { place % 8 ≡ 0 }
-        requires within { place + 8 ≤ length self.old }
-        ensures word { result ≡ number_of (take 8 (drop place self.old)) }
+    /// The number of the bytes from the place on, which lie in one word, the lowest first.
+    pub fn lane(&mut self, place: u64, width: u32) -> u64
+        requires some { 1 ≤ width }
+        requires in_word { place % 8 + width ≤ 8 }
+        requires within { place + width ≤ length self.old }
+        ensures lane { result ≡ number_of (take width (drop place self.old)) }
         ensures same { self.new ≡ self.old }
     {
         enter_held(&mut self.memory, self.arena);
         let word = load_held(&mut self.memory, self.arena, place / 8);
         leave_held(&mut self.memory, self.arena);
-        word
+        read(word, (place % 8) as u32, width)
     }
 }
 

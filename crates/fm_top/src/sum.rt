@@ -3,7 +3,7 @@ ghost use Rattle.fm_io.specs.Count.{Rose};
 ghost use Rattle.fm_top.specs.Ending.{shown};
 ghost use Rattle.fm_top.specs.Outcome.{sum_of_file};
 ghost use Rattle.fm_top.specs.Run.{HasOutcome};
-ghost use Rattle.fm_top.specs.Words.{Sum, HasLong};
+ghost use Rattle.fm_top.specs.Words.{Sum, HasValue};
 ghost use Rattle.fm_top.specs.declared.status.Status.TheVariants.{Missing};
 
 use crate::ending::Ending;
@@ -11,7 +11,7 @@ use crate::held::RECORD_FILE_LIMIT;
 use crate::loaded::Loaded;
 use crate::loading::{LoadFault, load};
 use crate::stop::Stop;
-use crate::summing::sum_longs;
+use crate::summing::sum_values;
 use crate::words::SumCommand;
 use fm_io::Files;
 use std::alloc::{AllocError, Global};
@@ -24,14 +24,14 @@ pub fn sum_ending<R: Wait, F: Files>(
     files: &mut F,
     sum: &SumCommand<'_>,
 ) -> Result<Ending, Stop>
-    requires { HasLong sum.now.size sum.now.at }
+    requires { HasValue sum.now.size sum.now.at sum.now.kind }
     ensures outcome { IfOk result (λ ending.
-        HasOutcome (Sum sum.now.size sum.now.at sum.now.file.now) (F.holds files.old) (shown ending)) }
+        HasOutcome (Sum sum.now.size sum.now.at sum.now.kind sum.now.file.now) (F.holds files.old) (shown ending)) }
     ensures missing { IfOk result (λ ending. ending.status ≡ Missing → Rose (F.misses files.old) (F.misses files.new)) }
     ensures failed { IsErrOf result Stop.Failed → Rose (F.faults files.old) (F.faults files.new) }
 {
     match load(rt, alloc, files, sum.file) {
-        Ok(mut loaded) => Ok(loaded_ending(alloc, &mut loaded, sum.size, sum.at)?),
+        Ok(mut loaded) => Ok(loaded_ending(alloc, &mut loaded, sum)?),
         Err(LoadFault::Missing) => Ok(Ending::missing(alloc, sum.file)?),
         Err(LoadFault::TooLong) => Ok(Ending::too_long(alloc)?),
         Err(LoadFault::Failed) => Err(Stop::Failed),
@@ -43,16 +43,15 @@ pub fn sum_ending<R: Wait, F: Files>(
 fn loaded_ending(
     alloc: Global,
     loaded: &mut Loaded,
-    size: u64,
-    at: u64,
+    sum: &SumCommand<'_>,
 ) -> Result<Ending, AllocError>
-    requires long { HasLong size at }
+    requires value { HasValue sum.now.size sum.now.at sum.now.kind }
     requires short { length loaded.old ≤ RECORD_FILE_LIMIT }
-    ensures { IfOk result (λ ending. shown ending ≡ sum_of_file size at loaded.old) }
+    ensures { IfOk result (λ ending. shown ending ≡ sum_of_file sum.now.size sum.now.at sum.now.kind loaded.old) }
 {
-    let rest = loaded.len() % size;
+    let rest = loaded.len() % sum.size;
     if rest == 0 {
-        Ending::sum(alloc, sum_longs(loaded, size, at))
+        Ending::sum(alloc, sum_values(loaded, sum.size, sum.at, sum.kind))
     } else {
         Ending::ragged(alloc, rest)
     }

@@ -1,33 +1,33 @@
 ghost use Rattle.std.specs.Prelude.{◌≡◌, ◌+◌, ◌%◌, ◌^◌, ◌≤◌, length, pos, negsuc, ◌+ℤ◌, ◌≤ℤ◌};
-ghost use Rattle.fm_lanes.specs.declared.value_kind.ValueKind.TheVariants.{Long};
+ghost use Rattle.fm_lanes.specs.Kind.{width_of};
 ghost use Rattle.fm_top.specs.Records.{number_at, sum_of_values};
-ghost use Rattle.fm_top.specs.Words.{HasLong};
+ghost use Rattle.fm_top.specs.Words.{HasValue};
 
 use crate::held::RECORD_FILE_LIMIT;
 use crate::loaded::Loaded;
 use fm_lanes::{ValueKind, decode};
 
-/// The long that stands at a place of the file.
-fn long_at(loaded: &mut Loaded, place: u64) -> i64
-    requires whole { place % 8 ≡ 0 }
-    requires within { place + 8 ≤ length loaded.old }
-    ensures long { result ≡ number_at Long place loaded.old }
+/// The number of the value of this kind that stands at a place of the file.
+fn number_at(loaded: &mut Loaded, place: u64, kind: ValueKind) -> i64
+    requires whole { place % width_of kind ≡ 0 }
+    requires within { place + width_of kind ≤ length loaded.old }
+    ensures number { result ≡ number_at kind place loaded.old }
     ensures same { loaded.new ≡ loaded.old }
 {
-    decode(ValueKind::Long, loaded.word(place)).number()
+    decode(kind, loaded.lane(place, kind.width())).number()
 }
 
-/// The sum of the long at byte `at` of each record of `size` bytes. What is left behind the last record doesn't count.
+/// The sum of the value at byte `at` of each record of `size` bytes. What is left behind the last record doesn't count.
 ///
-/// It can't overflow: a file has at most 2^23 records, and each long is at most 2^63 from 0.
-pub fn sum_longs(loaded: &mut Loaded, size: u64, at: u64) -> i128
-    requires long { HasLong size at }
+/// It can't overflow: a file has at most 2^26 records, and each value is at most 2^63 from 0.
+pub fn sum_values(loaded: &mut Loaded, size: u64, at: u64, kind: ValueKind) -> i128
+    requires value { HasValue size at kind }
     requires short { length loaded.old ≤ RECORD_FILE_LIMIT }
-    ensures { result ≡ sum_of_values Long size at loaded.old }
+    ensures { result ≡ sum_of_values kind size at loaded.old }
 {
     let mut sum = 0;
     for record in 0..loaded.len() / size {
-        sum = plus(sum, long_at(loaded, record * size + at));
+        sum = plus(sum, number_at(loaded, record * size + at, kind));
     }
     sum
 }

@@ -1,8 +1,11 @@
 ghost use Rattle.std.specs.Prelude.{◌≡◌, ◌^◌, ◌<◌, ◌↔◌, IfSome, IfNone, IsTrue, List, ℕ};
+ghost use Rattle.fm_lanes.specs.declared.value_kind.ValueKind.{ValueKind};
+ghost use Rattle.fm_path.specs.Listing.{kind_text};
 ghost use Rattle.std.specs.Fmt.{decimal};
 ghost use Rattle.fm_top.specs.Asked.{request_of};
-ghost use Rattle.fm_top.specs.Words.{texts, Asks, AreFaulty, HasLong, IsFileWord, IsSum, five};
+ghost use Rattle.fm_top.specs.Words.{texts, Asks, AreFaulty, HasValue, IsFileWord, IsSum, five};
 
+use fm_lanes::ValueKind;
 use itoa::Buffer;
 
 /// What the words ask for.
@@ -11,11 +14,12 @@ pub enum Command<'a> {
     Sum(SumCommand<'a>),
 }
 
-/// `sum SIZE AT long FILE`: the sum of the long at byte `at` of each record of `size` bytes.
+/// `sum SIZE AT TYPE FILE`: the sum of the value of this kind at byte `at` of each record of `size` bytes.
 #[derive(Clone, Copy, Debug)]
 pub struct SumCommand<'a> {
     pub size: u64,
     pub at: u64,
+    pub kind: ValueKind,
     pub file: &'a str,
 }
 
@@ -42,28 +46,58 @@ fn sum_command<'a>(
     file: &'a str,
 ) -> Option<SumCommand<'a>>
     ensures found { IfSome result (λ sum.
-        IsSum (five command.now size.now at.now kind.now file.now) sum.size sum.at sum.file.now) }
-    ensures none { IfNone result ((size_of at_of : ℕ) (name : List ℕ) →
-        IsSum (five command.now size.now at.now kind.now file.now) size_of at_of name → ⊥) }
+        IsSum (five command.now size.now at.now kind.now file.now) sum.size sum.at sum.kind sum.file.now) }
+    ensures none { IfNone result ((size_of at_of : ℕ) (of : ValueKind) (name : List ℕ) →
+        IsSum (five command.now size.now at.now kind.now file.now) size_of at_of of name → ⊥) }
 {
-    if command != "sum" || kind != "long" || !is_file_word(file) {
+    if command != "sum" || !is_file_word(file) {
         return None;
     }
     let (Some(size), Some(at)) = (number_of_word(size), number_of_word(at)) else {
         return None;
     };
-    if has_long(size, at) {
-        Some(SumCommand { size, at, file })
+    let Some(kind) = kind_of_word(kind) else {
+        return None;
+    };
+    if has_value(size, at, kind) {
+        Some(SumCommand {
+            size,
+            at,
+            kind,
+            file,
+        })
     } else {
         None
     }
 }
 
-/// A long stands at byte `at` of each record of `size` bytes.
-fn has_long(size: u64, at: u64) -> bool
-    ensures { IsTrue result ↔ HasLong size at }
+/// A value of this kind stands at byte `at` of each record of `size` bytes, aligned to its width.
+fn has_value(size: u64, at: u64, kind: ValueKind) -> bool
+    ensures { IsTrue result ↔ HasValue size at kind }
 {
-    0 < size && size <= 1_048_576 && size % 8 == 0 && at % 8 == 0 && at <= size && 8 <= size - at
+    let width = u64::from(kind.width());
+    0 < size
+        && size <= 1_048_576
+        && size % width == 0
+        && at % width == 0
+        && at <= size
+        && width <= size - at
+}
+
+/// The kind of value that a word names.
+fn kind_of_word(word: &str) -> Option<ValueKind>
+    ensures found { IfSome result (λ kind. word.now ≡ kind_text kind) }
+    ensures none { IfNone result ((kind : ValueKind) → word.now ≡ kind_text kind → ⊥) }
+{
+    match word {
+        "byte" => Some(ValueKind::Byte),
+        "boolean" => Some(ValueKind::Boolean),
+        "char" => Some(ValueKind::Char),
+        "short" => Some(ValueKind::Short),
+        "int" => Some(ValueKind::Int),
+        "long" => Some(ValueKind::Long),
+        _ => None,
+    }
 }
 
 fn is_file_word(word: &str) -> bool

@@ -1,16 +1,15 @@
 use Rattle.std.proofs.Common.{◌≡◌, ◌-◌, ◌*◌, ◌/◌, length, drop, map}
 use Rattle.std.specs.Prelude.{◌+ℤ◌}
-use Rattle.fm_lanes.specs.declared.value_kind.ValueKind.TheVariants.{Long}
 use Rattle.fm_top.specs.Records.{number_at, pieces, sum_of, sum_of_values}
 use Rattle.fm_top.proofs.Sums.{IsWithin}
-use Rattle.fm_top.proofs.summing.sum_longs.Given as goal
+use Rattle.fm_top.proofs.summing.sum_values.Given as goal
 
 -- the sum so far and that of the records that are left are the whole sum
 abbrev pub invariant-loop-record : goal.invariant-loop-record
 invariant-loop-record l =
     let file = l.fn.loaded in
     record {
-      rest : l.sum +ℤ sum_of (map (number_at Long l.at) (pieces (length file / l.size - l.record) l.size (drop (l.record * l.size) file))) ≡ sum_of_values Long l.size l.at file;
+      rest : l.sum +ℤ sum_of (map (number_at l.kind l.at) (pieces (length file / l.size - l.record) l.size (drop (l.record * l.size) file))) ≡ sum_of_values l.kind l.size l.at file;
       same : l.loaded ≡ file;
       small : IsWithin l.record l.sum;
     }
