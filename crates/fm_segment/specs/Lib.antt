@@ -1,0 +1,4 @@
+pub mod Elements
+pub mod Overlap
+pub mod Region
+pub mod Slices
