@@ -1,3 +1,4 @@
+pub mod Access
 pub mod Elements
 pub mod Overlap
 pub mod Region

@@ -1,5 +1,7 @@
+mod access;
 mod overlap;
 mod slices;
+mod value;
 
 ghost use Rattle.std.specs.Prelude.{◌≡◌, ◌+◌, ◌≤◌, ◌^◌};
 ghost use Rattle.fm_segment.specs.Region.{EndsByLimit, part_of, read_only_of, region_of};
