@@ -1,0 +1,5 @@
+pub mod Going
+pub mod Patching
+pub mod Numbers
+pub mod Getting
+pub mod Putting

@@ -1,0 +1,9 @@
+//! Accesses to a range of bytes of an arena, piece by piece: a piece is a longest run of bytes in one word, and each is
+//! read or put in a visit of its own, the lowest place first.
+#![tactic(auto)]
+
+mod number;
+mod piece;
+
+pub use number::{get_number, put_number};
+pub use piece::{get_piece, piece_width, put_piece};

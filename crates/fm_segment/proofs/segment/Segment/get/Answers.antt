@@ -1,0 +1,17 @@
+use Rattle.std.proofs.Common.{sym, ap, ◌∙◌, Err}
+use Rattle.std.proofs.lemmas.Result.{err_from_is_err_and}
+use Rattle.fm_segment.specs.Region.{Region}
+use Rattle.fm_segment.proofs.Access.{get_none, got_at}
+use Rattle.fm_segment.proofs.segment.Segment.get.Goals as goal
+
+pub returns-in_err-place-clause-did : goal.returns-in_err-place-clause-did
+returns-in_err-place-clause-did g c =
+    let p = err_from_is_err_and c.from_residual.result c.from_residual.ensures.1 in
+    get_none (g.M.Memory.view c.args.m.now) c.args.self.now.arena c.args.layout.now _ c.in_err-place.field-0.0 c.from_residual.result
+    (sym c.place_of.ensures ∙ c.in_err-place.was) (p.1 ∙ ap Err p.2)
+
+pub returns-clause-did : goal.returns-clause-did
+returns-clause-did g c =
+    let v = g.M.Memory.view in
+    got_at (v c.args.m.now) (v c.get_value.new.m) c.self.inside.arena c.args.self.now.arena c.args.layout.now c.coding_of-kind.result.0 c.coding_of-kind.result.1
+    _ c.in_ok-place.place c.get_value.result (ap (λ (r : Region). r.arena) c.self.view_is) c.requires.value c.coding_of-kind.ensures (sym c.place_of.ensures ∙ c.in_ok-place.was) c.get_value.ensures.did

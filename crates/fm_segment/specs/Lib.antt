@@ -1,0 +1,5 @@
+pub mod Access
+pub mod Elements
+pub mod Overlap
+pub mod Region
+pub mod Slices
