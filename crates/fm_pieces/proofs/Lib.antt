@@ -1,5 +1,8 @@
-pub mod Going
-pub mod Patching
-pub mod Numbers
+pub mod Alone
 pub mod Getting
+pub mod Going
+pub mod Numbers
+pub mod Patching
 pub mod Putting
+pub mod Splicing
+pub mod Visits

@@ -7,3 +7,6 @@ mod piece;
 
 pub use number::{get_number, put_number};
 pub use piece::{get_piece, piece_width, put_piece};
+
+#[cfg(test)]
+mod tests;

@@ -1,8 +1,9 @@
-use Rattle.std.proofs.Common.{◌≡◌, ◌+◌, ◌++◌, [], arith, ap}
+use Rattle.std.proofs.Common.{Ok, ◌≡◌, ◌+◌, ◌++◌, [], arith, ap}
 use Rattle.std.proofs.lemmas.Result.{err_from_is_err_and}
 use Rattle.fm_base.proofs.Outcomes.{Makes-lasts, Did-lasts}
 use Rattle.fm_bytes.specs.Bytes.{bytes_of}
 use Rattle.fm_pieces.specs.Ranges.{ReadsOn, EndsReading}
+use Rattle.fm_pieces.proofs.Alone.{get_alone}
 use Rattle.fm_pieces.proofs.Going.{going_start}
 use Rattle.fm_pieces.proofs.Getting.{reading, piece_fits, get_goes_on, get_stops, get_done}
 use Rattle.fm_pieces.proofs.Numbers.{none_so_far, more_so_far, placed}
@@ -84,3 +85,9 @@ returns-clause-did g c =
 
 pub returns-clause-lasts : goal.returns-clause-lasts
 returns-clause-lasts g c = Makes-lasts _ _ _ c.loop-at.invariant.going.makes
+
+pub returns-clause-alone : goal.returns-clause-alone
+returns-clause-alone g c = get_alone _ _ c.args.arena c.args.place c.args.width (Ok c.loop-at.number) (returns-clause-did g c)
+
+pub returns-in_err-number-clause-alone : goal.returns-in_err-number-clause-alone
+returns-in_err-number-clause-alone g c = get_alone _ _ c.args.arena c.args.place c.args.width c.from_residual.result (returns-in_err-number-clause-did g c)

@@ -1,0 +1,211 @@
+-- What one visit of the only caller does to the bytes of an arena.
+use Rattle.std.proofs.Common.{◌≡◌, ◌≢◌, ℕ, ◌+◌, ◌*◌, ◌/◌, ◌%◌, ◌^◌, ◌<◌, ◌≤◌, ◌==◌, Bool, true, false, if◌then◌else◌, List, [], ◌∷◌, ◌++◌, length, take, drop, slice_index, slice_set, refl, sym, ap, subst, ◌∙◌, arith}
+use Rattle.std.proofs.lemmas.Bool.Decides.{nat_tests}
+use Rattle.fm_base.specs.declared.arena_id.ArenaId.{ArenaId}
+use Rattle.fm_base.specs.Arenas.{State, Arena, arena_of, has_arena, changed, word_in, same_id}
+use Rattle.fm_base.specs.Calls.{Read, Leave, Fine, Found, Entry, entry_of}
+use Rattle.fm_base.specs.Machine.{entered, left, written}
+use Rattle.fm_base.specs.Histories.{IsLegal, state_after}
+use Rattle.fm_base.specs.Visits.{Acts, entries_of, visit, Tries, looked, missed, hit}
+use Rattle.fm_base.proofs.Lookup.{KeepsName, changed_lookup, lookup_changed}
+use Rattle.fm_base.proofs.Making.{IsLegal-split, state_after-append}
+use Rattle.fm_base.proofs.Names.{same_id-true}
+use Rattle.fm_base.proofs.Placing.{there_by_way}
+use Rattle.fm_bytes.specs.Bytes.{bytes_of, lane, replaced}
+use Rattle.fm_bytes.specs.Words.{bytes_in}
+use Rattle.fm_bytes.proofs.Words.{bytes_in-lane, bytes_in-set, bytes_in-replaced}
+use Rattle.fm_pieces.specs.Alone.{bytes_of_arena}
+use Rattle.fm_pieces.specs.Pieces.{ReadsPiece, PutsBytes, whole, narrow, PutsPiece}
+
+SameWords : Arena → Arena → Type 0
+SameWords a b = b.words ≡ a.words
+
+-- A change that leaves the words.
+same_words : (f : Arena → Arena) → KeepsName f → ((a : Arena) → (f a).words ≡ a.words) → (s : State) (id other : ArenaId) → (arena_of (changed s id f) other).words ≡ (arena_of s other).words
+unfolding SameWords
+same_words f named same s id other = changed_lookup SameWords f named (λ a. refl) s id (same (arena_of s id)) other
+
+-- An arena that is looked up has the name by which it is looked up.
+name_of : (s : State) (id : ArenaId) → (arena_of s id).id ≡ id
+name_of [] id = refl
+name_of (a ∷ s) id =
+    let P : Bool → Type 0 = λ b. same_id a.id id ≡ b → (if b then a else arena_of s id).id ≡ id in
+    let go : (b : Bool) → P b = λ b. elim b as P [ true ↦ (λ e. same_id-true a.id id e) | false ↦ (λ e. name_of s id) ] in
+    go (same_id a.id id) refl
+
+-- A change of one arena leaves the words of the others.
+other_words : (f : Arena → Arena) → KeepsName f → (s : State) (id other : ArenaId) → other ≢ id → (arena_of (changed s id f) other).words ≡ (arena_of s other).words
+other_words f named s id other n =
+    let P : Arena → Arena → Type 0 = λ a b. a.id ≢ id → b.words ≡ a.words in
+    let here : P (arena_of s id) (f (arena_of s id)) = λ m. absurd (m (name_of s id)) in
+    let at : P (arena_of s other) (arena_of (changed s id f) other) = changed_lookup P f named (λ a m. refl) s id here other in
+    at (λ e. n (sym (name_of s other) ∙ e))
+
+-- A place, by its word.
+place_is : (place : ℕ) → 8 * (place / 8) + place % 8 ≡ place
+place_is place = omega arith
+
+-- ---- reading
+
+pub record VisitReads (s t : State) (id : ArenaId) (place width v : ℕ) : Type 0 where
+  pub value : bytes_of width v ≡ take width (drop place (bytes_of_arena s id))
+  pub same : (other : ArenaId) → bytes_of_arena t other ≡ bytes_of_arena s other
+
+after_visit : (s : State) (c : ℕ) (id other : ArenaId) → (arena_of (changed (changed s id (entered c)) id (left c)) other).words ≡ (arena_of s other).words
+after_visit s c id other =
+    same_words (left c) (λ a. refl) (λ a. refl) (changed s id (entered c)) id other ∙ same_words (entered c) (λ a. refl) (λ a. refl) s id other
+
+-- The bytes of a lane of a word.
+lane_bytes : (words : List ℕ) (place width v word : ℕ) → place / 8 < length words → place % 8 + width ≤ 8 → word ≡ slice_index words (place / 8) → v ≡ lane word (place % 8) width
+    → bytes_of width v ≡ take width (drop place (bytes_in words))
+lane_bytes words place width v word h fits e d =
+    ap (bytes_of width) (d ∙ ap (λ n. lane n (place % 8) width) e)
+    ∙ sym (bytes_in-lane words (place / 8) (place % 8) width h fits)
+    ∙ ap (λ n. take width (drop n (bytes_in words))) (place_is place)
+
+read_visit : (limit c : ℕ) (s : State) (id : ArenaId) (place width v word : ℕ) → v ≡ lane word (place % 8) width → place % 8 + width ≤ 8
+    → IsLegal limit s (visit c id ((Read id (place / 8), Found word) ∷ []))
+    → VisitReads s (state_after limit s (visit c id ((Read id (place / 8), Found word) ∷ []))) id place width v
+read_visit limit c s id place width v word d fits legal =
+    let inside = changed s id (entered c) in
+    let same = same_words (entered c) (λ a. refl) (λ a. refl) s id id in
+    let reach = legal.2.0 in
+    let is : Found word ≡ Found (word_in (changed s id (entered c)) id (place / 8)) = legal.2.1 in
+    let found : word ≡ slice_index (arena_of (changed s id (entered c)) id).words (place / 8) = cc in
+    let value = lane_bytes (arena_of (changed s id (entered c)) id).words place width v word reach.within fits found d in
+    record {
+      value = value ∙ ap (λ ws. take width (drop place (bytes_in ws))) same;
+      same = λ other. ap bytes_in (after_visit s c id other);
+    }
+
+-- A visit with one Read finds the bytes that stand there, and changes nothing.
+pub visit_reads : (limit c : ℕ) (s : State) (id : ArenaId) (place width v : ℕ) (own : List Entry) → ReadsPiece c id place width v own → place % 8 + width ≤ 8
+    → IsLegal limit s own → VisitReads s (state_after limit s own) id place width v
+visit_reads limit c s id place width v own p fits legal =
+    let Q : List Entry → Type 0 = λ es. VisitReads s (state_after limit s es) id place width v in
+    subst Q (sym p.visits) (read_visit limit c s id place width v p.word p.value fits (subst (λ (es : List Entry). IsLegal limit s es) p.visits legal))
+
+-- ---- putting
+
+-- the word of these acts is set, so that these bytes stand at the place
+pub record ActsPut (s t : State) (c : ℕ) (id : ArenaId) (place width v : ℕ) : Type 0 where
+  pub word : ℕ
+  pub known : has_arena s id ≡ true
+  pub within : place / 8 < length (arena_of s id).words
+  pub after : t ≡ changed s id (written (place / 8) word)
+  pub bytes : bytes_in (slice_set (arena_of s id).words (place / 8) word)
+      ≡ take place (bytes_of_arena s id) ++ (bytes_of width v ++ drop (place + width) (bytes_of_arena s id))
+
+-- what tries leave
+record TriesLeave (s t : State) (c : ℕ) (id : ArenaId) (word found n : ℕ) : Type 0 where
+  pub known : has_arena s id ≡ true
+  pub within : word < length (arena_of s id).words
+  pub is : found ≡ word_in s id word
+  pub after : t ≡ changed s id (written word n)
+
+not_same : (a b : ℕ) → ¬ (a ≡ b) → (a == b) ≡ false
+not_same a b h = grind (arith, nat_tests)
+
+is_same : (a : ℕ) → (a == a) ≡ true
+is_same a = grind (arith, nat_tests)
+
+-- Tries set the word once, at their last step.
+tries_leave : (limit c : ℕ) (s : State) (id : ArenaId) (word : ℕ) (f : ℕ → ℕ) (found : ℕ) (acts : Acts) → Tries id word f found acts
+    → IsLegal limit s (entries_of c acts) → TriesLeave s (state_after limit s (entries_of c acts)) c id word found (f found)
+tries_leave limit c s id word f found acts (looked now rest t) legal = tries_leave limit c s id word f found rest t legal.2
+tries_leave limit c s id word f found acts (missed now old new rest n t) legal =
+    let e = not_same now old n in
+    let next = changed s id (written word new) in
+    let Here : Bool → Type 0 = λ b. IsLegal limit (if b then changed s id (written word new) else s) (entries_of c rest)
+    → TriesLeave s (state_after limit (if b then changed s id (written word new) else s) (entries_of c rest)) c id word found (f found) in
+    let go : Here (now == old) = subst Here (sym e) (λ l. tries_leave limit c s id word f found rest t l) in
+    go legal.2
+tries_leave limit c s id word f found acts hit legal =
+    let reach = legal.0 in
+    let is : Found found ≡ Found (word_in s id word) = legal.1 in
+    let e = is_same found in
+    record {
+      known = there_by_way s c id reach.under_way;
+      within = reach.within;
+      is = (cc);
+      after = ap (λ b. if b then changed s id (written word (f found)) else s) e;
+    }
+
+-- Eight bytes fill a word.
+whole_word : (words : List ℕ) (place v : ℕ) → place / 8 < length words → place % 8 + 8 ≤ 8
+    → bytes_in (slice_set words (place / 8) v) ≡ take place (bytes_in words) ++ (bytes_of 8 v ++ drop (place + 8) (bytes_in words))
+whole_word words place v h fits =
+    let e : 8 * (place / 8) ≡ place = omega arith in
+    let P : ℕ → Type 0 = λ n. bytes_in (slice_set words (place / 8) v) ≡ take n (bytes_in words) ++ (bytes_of 8 v ++ drop (n + 8) (bytes_in words)) in
+    subst P e (bytes_in-set words (place / 8) v h)
+
+-- Fewer bytes are a part of a word.
+part_of_word : (words : List ℕ) (place width v found : ℕ) → place / 8 < length words → place % 8 + width ≤ 8 → v < 2 ^ (8 * width) → found ≡ slice_index words (place / 8)
+    → bytes_in (slice_set words (place / 8) (replaced found (place % 8) width v)) ≡ take place (bytes_in words) ++ (bytes_of width v ++ drop (place + width) (bytes_in words))
+part_of_word words place width v found h fits small e =
+    let w = place / 8 in
+    let P : ℕ → Type 0 = λ n. bytes_in (slice_set words (place / 8) (replaced found (place % 8) width v)) ≡ take n (bytes_in words) ++ (bytes_of width v ++ drop (n + width) (bytes_in words)) in
+    let put = bytes_in-replaced words (place / 8) (place % 8) width v h fits small in
+    subst P (place_is place) (ap (λ n. bytes_in (slice_set words (place / 8) (replaced n (place % 8) width v))) e ∙ put)
+
+-- What the acts of one visit do.
+acts_put : (limit c : ℕ) (s : State) (id : ArenaId) (place width v : ℕ) (acts : Acts) → PutsBytes id place width v acts → place % 8 + width ≤ 8 → v < 2 ^ (8 * width)
+    → IsLegal limit s (entries_of c acts) → ActsPut s (state_after limit s (entries_of c acts)) c id place width v
+acts_put limit c s id place width v acts (whole e) fits small legal =
+    let reach = legal.0 in
+    let eight : place % 8 + 8 ≤ 8 = omega arith in
+    let words = (arena_of s id).words in
+    let P : ℕ → Type 0 = λ n. bytes_in (slice_set (arena_of s id).words (place / 8) v) ≡ take place (bytes_of_arena s id) ++ (bytes_of n v ++ drop (place + n) (bytes_of_arena s id)) in
+    record {
+      word = v;
+      known = there_by_way s c id reach.under_way;
+      within = reach.within;
+      after = refl;
+      bytes = subst P (sym e) (whole_word words place v reach.within eight);
+    }
+acts_put limit c s id place width v acts (narrow found tried few t) fits small legal =
+    let n = replaced found (place % 8) width v in
+    let l = tries_leave limit c s id (place / 8) (λ word. replaced word (place % 8) width v) found acts t legal in
+    record {
+      word = n;
+      known = l.known;
+      within = l.within;
+      after = l.after;
+      bytes = part_of_word (arena_of s id).words place width v found l.within fits small l.is;
+    }
+
+pub record VisitPuts (s t : State) (id : ArenaId) (place width v : ℕ) : Type 0 where
+  pub changed : bytes_of_arena t id ≡ take place (bytes_of_arena s id) ++ (bytes_of width v ++ drop (place + width) (bytes_of_arena s id))
+  pub others : (other : ArenaId) → other ≢ id → bytes_of_arena t other ≡ bytes_of_arena s other
+  pub within : place / 8 < length (arena_of s id).words
+
+put_visit : (limit c : ℕ) (s : State) (id : ArenaId) (place width v : ℕ) (acts : Acts) → PutsBytes id place width v acts → place % 8 + width ≤ 8 → v < 2 ^ (8 * width)
+    → IsLegal limit s (visit c id acts) → VisitPuts s (state_after limit s (visit c id acts)) id place width v
+put_visit limit c s id place width v acts p fits small legal =
+    let s1 = changed s id (entered c) in
+    let out = entry_of c (Leave id) Fine ∷ [] in
+    let es = entries_of c acts in
+    let parts = IsLegal-split limit (changed s id (entered c)) (entries_of c acts) (entry_of c (Leave id) Fine ∷ []) legal.2 in
+    let a = acts_put limit c (changed s id (entered c)) id place width v acts p fits small parts.0 in
+    let s2 = state_after limit s1 es in
+    let last : state_after limit (changed s id (entered c)) (entries_of c acts ++ entry_of c (Leave id) Fine ∷ []) ≡ changed (state_after limit (changed s id (entered c)) (entries_of c acts)) id (left c) =
+    state_after-append limit s1 es out in
+    let at : (other : ArenaId) → bytes_of_arena (state_after limit (changed s id (entered c)) (entries_of c acts ++ entry_of c (Leave id) Fine ∷ [])) other
+    ≡ bytes_of_arena (changed (changed s id (entered c)) id (written (place / 8) a.word)) other =
+    λ other. ap (λ (t : State). bytes_of_arena t other) last ∙ ap bytes_in (same_words (left c) (λ x. refl) (λ x. refl) s2 id other) ∙ ap (λ (t : State). bytes_of_arena t other) a.after in
+    let same : (other : ArenaId) → (arena_of (changed s id (entered c)) other).words ≡ (arena_of s other).words = λ other. same_words (entered c) (λ x. refl) (λ x. refl) s id other in
+    let set : (arena_of (changed (changed s id (entered c)) id (written (place / 8) a.word)) id).words ≡ slice_set (arena_of (changed s id (entered c)) id).words (place / 8) a.word =
+    ap (λ (x : Arena). x.words) (lookup_changed s1 id (written (place / 8) a.word) (λ x. refl) a.known) in
+    let P : List ℕ → Type 0 = λ ws. bytes_in (slice_set (arena_of (changed s id (entered c)) id).words (place / 8) a.word) ≡ take place (bytes_in ws) ++ (bytes_of width v ++ drop (place + width) (bytes_in ws)) in
+    record {
+      changed = at id ∙ ap bytes_in set ∙ subst P (same id) a.bytes;
+      others = λ other n. at other ∙ ap bytes_in (other_words (written (place / 8) a.word) (λ x. refl) s1 id other n) ∙ ap bytes_in (same other);
+      within = subst (λ (ws : List ℕ). place / 8 < length ws) (same id) a.within;
+    }
+
+-- A visit that puts bytes puts just these.
+pub visit_puts : (limit c : ℕ) (s : State) (id : ArenaId) (place width v : ℕ) (own : List Entry) → PutsPiece c id place width v own → place % 8 + width ≤ 8 → v < 2 ^ (8 * width)
+    → IsLegal limit s own → VisitPuts s (state_after limit s own) id place width v
+visit_puts limit c s id place width v own p fits small legal =
+    let Q : List Entry → Type 0 = λ es. VisitPuts s (state_after limit s es) id place width v in
+    subst Q (sym p.visits) (put_visit limit c s id place width v p.acts p.puts fits small (subst (λ (es : List Entry). IsLegal limit s es) p.visits legal))

@@ -1,0 +1,131 @@
+ghost use Rattle.std.specs.Prelude.{◌≡◌, ◌+◌, ◌≤◌, true, None};
+ghost use Rattle.fm_base.specs.Arenas.{has_arena};
+ghost use Rattle.fm_base.specs.View.{given_in};
+
+use crate::{get_number, put_number};
+use fm_base::{ArenaId, Kind, Memory, Refusal};
+use fm_mono::Mono;
+use std::process::Abort;
+use std::sync::Wait;
+
+/// A shared arena with three words.
+fn three_words<R: Abort + Wait, M: Memory>(rt: &R, m: &mut M) -> ArenaId
+    requires { (M.view m.old).inside ≡ None }
+    ensures outside { (M.view m.new).inside ≡ None }
+    ensures known { has_arena (M.view m.new).state result ≡ true }
+    ensures given { 24 ≤ given_in (M.view m.new) result }
+{
+    let arena = m.open_arena(rt, Kind::Shared).expect(rt, "an arena");
+    let place = m.allocate(rt, arena, 24, 8).expect(rt, "three words");
+    assert_eq!(rt; place, 0);
+    arena
+}
+
+fn put<R: Wait, M: Memory>(
+    rt: &R,
+    m: &mut M,
+    arena: ArenaId,
+    place: u64,
+    width: u32,
+    number: u64,
+) -> Result<(), Refusal>
+    requires outside { (M.view m.old).inside ≡ None }
+    requires known { has_arena (M.view m.old).state arena ≡ true }
+    requires given { 24 ≤ given_in (M.view m.old) arena }
+    requires some { 1 ≤ width }
+    requires width { width ≤ 8 }
+    requires within { place + width ≤ 24 }
+    ensures outside { (M.view m.new).inside ≡ None }
+    ensures known { has_arena (M.view m.new).state arena ≡ true }
+    ensures given { 24 ≤ given_in (M.view m.new) arena }
+{
+    put_number(rt, m, arena, place, width, number)
+}
+
+fn get<M: Memory>(m: &mut M, arena: ArenaId, place: u64, width: u32) -> Result<u64, Refusal>
+    requires outside { (M.view m.old).inside ≡ None }
+    requires known { has_arena (M.view m.old).state arena ≡ true }
+    requires given { 24 ≤ given_in (M.view m.old) arena }
+    requires some { 1 ≤ width }
+    requires width { width ≤ 8 }
+    requires within { place + width ≤ 24 }
+    ensures outside { (M.view m.new).inside ≡ None }
+    ensures known { has_arena (M.view m.new).state arena ≡ true }
+    ensures given { 24 ≤ given_in (M.view m.new) arena }
+{
+    get_number(m, arena, place, width)
+}
+
+/// The byte at `at`, where the bytes 1, 2, 3 .. were put at `place` and all others are 255.
+fn byte_at(at: u64, place: u64, width: u64) -> u64
+    requires { place + width ≤ 24 }
+{
+    if at >= place && at < place + width {
+        at - place + 1
+    } else {
+        255
+    }
+}
+
+/// Puts a number of the bytes 1, 2, 3 .. among ones, and reads it and every byte again.
+fn put_among_ones<R: Abort + Wait, M: Memory>(
+    rt: &R,
+    m: &mut M,
+    arena: ArenaId,
+    place: u64,
+    width: u32,
+    number: u64,
+)
+    requires outside { (M.view m.old).inside ≡ None }
+    requires known { has_arena (M.view m.old).state arena ≡ true }
+    requires given { 24 ≤ given_in (M.view m.old) arena }
+    requires some { 1 ≤ width }
+    requires width { width ≤ 8 }
+    requires within { place + width ≤ 24 }
+    ensures outside { (M.view m.new).inside ≡ None }
+    ensures known { has_arena (M.view m.new).state arena ≡ true }
+    ensures given { 24 ≤ given_in (M.view m.new) arena }
+{
+    assert_eq!(rt; put(rt, m, arena, 0, 8, u64::MAX), Ok(()));
+    assert_eq!(rt; put(rt, m, arena, 8, 8, u64::MAX), Ok(()));
+    assert_eq!(rt; put(rt, m, arena, 16, 8, u64::MAX), Ok(()));
+    assert_eq!(rt; put(rt, m, arena, place, width, number), Ok(()));
+    assert_eq!(rt; get(m, arena, place, width), Ok(number));
+    for at in 0..24u64 {
+        let byte = byte_at(at, place, u64::from(width));
+        assert_eq!(rt; get(m, arena, at, 1), Ok(byte));
+    }
+}
+
+/// The number at each place from a word's start to the next word's.
+fn at_each_place<R: Abort + Wait, M: Memory>(rt: &R, m: &mut M, width: u32, number: u64)
+    requires outside { (M.view m.old).inside ≡ None }
+    requires some { 1 ≤ width }
+    requires width { width ≤ 8 }
+    ensures { (M.view m.new).inside ≡ None }
+{
+    let arena = three_words(rt, m);
+    for place in 0..9u64 {
+        put_among_ones(rt, m, arena, place, width, number);
+    }
+}
+
+#[test]
+fn numbers_at_each_place(rt: HostRuntime) {
+    let mut m = Mono::make(rt.alloc(), 64);
+    at_each_place(&rt, &mut m, 1, 0x01);
+    at_each_place(&rt, &mut m, 2, 0x0201);
+    at_each_place(&rt, &mut m, 4, 0x0403_0201);
+    at_each_place(&rt, &mut m, 8, 0x0807_0605_0403_0201);
+}
+
+#[test]
+fn a_closed_arena_is_refused(rt: HostRuntime) {
+    let mut m = Mono::make(rt.alloc(), 64);
+    let arena = three_words(&rt, &mut m);
+    assert_eq!(rt; put(&rt, &mut m, arena, 6, 4, 0x0403_0201), Ok(()));
+    assert_eq!(rt; get(&mut m, arena, 4, 4), Ok(0x0201_0000));
+    assert_eq!(rt; m.close(&rt, arena), Ok(()));
+    assert_eq!(rt; get(&mut m, arena, 6, 4), Err(Refusal::Closed));
+    assert_eq!(rt; put(&rt, &mut m, arena, 6, 4, 0), Err(Refusal::Closed));
+}
