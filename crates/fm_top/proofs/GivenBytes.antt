@@ -1,5 +1,5 @@
 -- The bytes that an arena has given, and its words.
-use Rattle.std.proofs.Common.{◌≡◌, ℕ, ◌+◌, ◌-◌, ◌*◌, ◌/◌, ◌%◌, ◌<◌, ◌≤◌, ◌^◌, List, ◌++◌, length, take, drop, get_or, replicate, ap, sym, ◌∙◌, arith, length-drop, append_assoc, slice_set, suc, [], ◌∷◌}
+use Rattle.std.proofs.Common.{◌≡◌, ℕ, ◌+◌, ◌-◌, ◌*◌, ◌/◌, ◌%◌, ◌<◌, ◌≤◌, List, ◌++◌, length, take, drop, get_or, replicate, ap, sym, ◌∙◌, arith, length-drop, append_assoc, slice_set, suc, [], ◌∷◌}
 use Rattle.std.proofs.lemmas.List.{length-take-le, take-append-le, drop-append-le, take-append-drop, take_more}
 use Rattle.std.proofs.Math.Seq.{take-append-add, take-append_seam, take-suc-set}
 use Rattle.fm_base.specs.Machine.{rounded_up}

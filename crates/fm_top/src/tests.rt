@@ -73,7 +73,16 @@ fn each_row_is_answered_in_pieces_of_every_size(rt: HostRuntime) -> Result<(), F
         ("sum 8 0 long F1", 0, "sum 2\n"),
         ("sum 32 8 long F1", 0, "sum -3\n"),
         ("sum 16 8 long E", 0, "sum 0\n"),
+        ("sum 1 0 byte F1", 0, "sum -5\n"),
+        ("sum 1 0 boolean F1", 0, "sum 9\n"),
+        ("sum 2 0 char F1", 0, "sum 262143\n"),
+        ("sum 2 0 short F1", 0, "sum -1\n"),
+        ("sum 4 0 int F1", 0, "sum 1\n"),
+        ("sum 16 12 int F1", 0, "sum -1\n"),
+        ("sum 11 0 byte Ragged", 0, "sum -1\n"),
         ("sum 16 4 long F1", 1, "usage\n"),
+        ("sum 2 1 short F1", 1, "usage\n"),
+        ("sum 3 0 char F1", 1, "usage\n"),
         ("sum 16 8 long nofile", 2, "missing nofile\n"),
         ("sum 16 8 long ", 2, "missing \n"),
         ("sum 16 8 long Ragged", 6, "ragged 1\n"),
@@ -103,7 +112,7 @@ fn words_of_no_form_read_no_file(rt: HostRuntime) -> Result<(), Fail> {
         " 16 8 long F1",
         "Sum 16 8 long F1",
         "min 16 8 long F1",
-        "sum 16 8 int F1",
+        "sum 16 8 float F1",
         "sum 16 8 Long F1",
         "sum 16 8 long -F1",
         "sum 16 8 long -",
@@ -175,6 +184,7 @@ fn a_file_may_be_as_long_as_the_limit(rt: HostRuntime) -> Result<(), Fail> {
         ("sum 8 0 long Z", 0, 0, "sum 0\n"),
         ("sum 8 0 long Z", 1, 7, "too long\n"),
         ("sum 8 0 long Z", 8, 7, "too long\n"),
+        ("sum 1 0 byte Z", 1, 7, "too long\n"),
     ] {
         let alloc = rt.alloc();
         let file = named(alloc, "Z", zeros(alloc, LIMIT + over)?)?;
