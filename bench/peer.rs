@@ -9,15 +9,31 @@ fn number(word: &str) -> Option<usize> {
     (n.to_string() == word).then_some(n)
 }
 
-fn sum(words: &[String]) -> Option<(usize, usize, &str)> {
+/// The width of a type, and the value of its bytes.
+type Reader = (usize, fn(&[u8]) -> i128);
+
+fn reader(kind: &str) -> Option<Reader> {
+    Some(match kind {
+        "byte" => (1, |b| (b[0] as i8).into()),
+        "boolean" => (1, |b| (b[0] != 0).into()),
+        "char" => (2, |b| u16::from_le_bytes(b.try_into().unwrap()).into()),
+        "short" => (2, |b| i16::from_le_bytes(b.try_into().unwrap()).into()),
+        "int" => (4, |b| i32::from_le_bytes(b.try_into().unwrap()).into()),
+        "long" => (8, |b| i64::from_le_bytes(b.try_into().unwrap()).into()),
+        _ => return None,
+    })
+}
+
+fn sum(words: &[String]) -> Option<(usize, usize, Reader, &str)> {
     let [command, size, at, kind, file] = words else { return None };
-    let (size, at) = (number(size)?, number(at)?);
-    let fits = (1..=1_048_576).contains(&size) && size % 8 == 0 && at % 8 == 0 && at + 8 <= size;
-    (command == "sum" && kind == "long" && fits && !file.starts_with('-')).then_some((size, at, file))
+    let (size, at, reader) = (number(size)?, number(at)?, reader(kind)?);
+    let width = reader.0;
+    let fits = (1..=1_048_576).contains(&size) && size % width == 0 && at % width == 0 && at + width <= size;
+    (command == "sum" && fits && !file.starts_with('-')).then_some((size, at, reader, file))
 }
 
 fn answer(words: &[String]) -> (i32, String) {
-    let Some((size, at, file)) = sum(words) else { return (1, "usage\n".into()) };
+    let Some((size, at, (width, value), file)) = sum(words) else { return (1, "usage\n".into()) };
     let bytes = match std::fs::read(file) {
         Ok(bytes) => bytes,
         Err(e) if e.kind() == ErrorKind::NotFound => return (2, format!("missing {file}\n")),
@@ -31,7 +47,7 @@ fn answer(words: &[String]) -> (i32, String) {
     }
     let sum: i128 = bytes
         .chunks_exact(size)
-        .map(|record| i128::from(i64::from_le_bytes(record[at..at + 8].try_into().unwrap())))
+        .map(|record| value(&record[at..at + width]))
         .sum();
     (0, format!("sum {sum}\n"))
 }
