@@ -1,4 +1,5 @@
 pub mod Alone
+pub mod Filling
 pub mod Getting
 pub mod Going
 pub mod Numbers

@@ -1,5 +1,5 @@
 -- Calls on a range of bytes of an arena: a run of visits, one a piece, the lowest place first.
-use Rattle.std.specs.Prelude.{◌≡◌, ℕ, ◌+◌, ◌<◌, Bool, true, false, List, [], ◌++◌, length, take, drop, Option, Some, None, Result, Ok, Err}
+use Rattle.std.specs.Prelude.{◌≡◌, ℕ, ◌+◌, ◌<◌, Bool, true, false, List, [], ◌++◌, length, take, drop, replicate, MatchBool, ◌==◌, Option, Some, None, Result, Ok, Err}
 use Rattle.fm_base.specs.declared.arena_id.ArenaId.{ArenaId}
 use Rattle.fm_base.specs.declared.refusal.Refusal.{Refusal}
 use Rattle.fm_base.specs.declared.refusal.Refusal.TheVariants.{Closed, WrongThread}
@@ -81,3 +81,8 @@ PutsRange c id place bytes own done =
 abbrev pub DoesPut : ℕ → ArenaId → ℕ → List ℕ → Result (Unit {0}) Refusal → List Entry → Type 0
 DoesPut c id place bytes (Ok u) own = MayUse id c × PutsRange c id place bytes own true
 DoesPut c id place bytes (Err r) own = DoesRefuse c id (λ es. PutsRange c id place bytes es false) r own
+
+-- this byte is put at each place of the range, which may be empty
+abbrev pub DoesFill : ℕ → ArenaId → ℕ → ℕ → ℕ → Result (Unit {0}) Refusal → List Entry → Type 0
+DoesFill c id place size byte result own =
+    MatchBool (size == 0) ((result ≡ Ok tt) × (own ≡ [])) (DoesPut c id place (replicate size byte) result own)

@@ -4,9 +4,11 @@
 
 mod number;
 mod piece;
+mod range;
 
 pub use number::{get_number, put_number};
 pub use piece::{get_piece, piece_width, put_piece};
+pub use range::fill;
 
 #[cfg(test)]
 mod tests;

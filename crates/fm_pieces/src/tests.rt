@@ -2,7 +2,7 @@ ghost use Rattle.std.specs.Prelude.{◌≡◌, ◌+◌, ◌≤◌, true, None};
 ghost use Rattle.fm_base.specs.Arenas.{has_arena};
 ghost use Rattle.fm_base.specs.View.{given_in};
 
-use crate::{get_number, put_number};
+use crate::{fill, get_number, put_number};
 use fm_base::{ArenaId, Kind, Memory, Refusal};
 use fm_mono::Mono;
 use std::process::Abort;
@@ -40,6 +40,25 @@ fn put<R: Wait, M: Memory>(
     ensures given { 24 ≤ given_in (M.view m.new) arena }
 {
     put_number(rt, m, arena, place, width, number)
+}
+
+fn fill_bytes<R: Wait, M: Memory>(
+    rt: &R,
+    m: &mut M,
+    arena: ArenaId,
+    place: u64,
+    size: u64,
+    byte: u8,
+) -> Result<(), Refusal>
+    requires outside { (M.view m.old).inside ≡ None }
+    requires known { has_arena (M.view m.old).state arena ≡ true }
+    requires given { 24 ≤ given_in (M.view m.old) arena }
+    requires within { place + size ≤ 24 }
+    ensures outside { (M.view m.new).inside ≡ None }
+    ensures known { has_arena (M.view m.new).state arena ≡ true }
+    ensures given { 24 ≤ given_in (M.view m.new) arena }
+{
+    fill(rt, m, arena, place, size, byte)
 }
 
 fn get<M: Memory>(m: &mut M, arena: ArenaId, place: u64, width: u32) -> Result<u64, Refusal>
@@ -120,6 +139,18 @@ fn numbers_at_each_place(rt: HostRuntime) {
 }
 
 #[test]
+fn a_fill_changes_just_its_bytes(rt: HostRuntime) {
+    let mut m = Mono::make(rt.alloc(), 64);
+    let arena = three_words(&rt, &mut m);
+    assert_eq!(rt; fill_bytes(&rt, &mut m, arena, 3, 14, 7), Ok(()));
+    assert_eq!(rt; get(&mut m, arena, 0, 8), Ok(0x0707_0707_0700_0000));
+    assert_eq!(rt; get(&mut m, arena, 8, 8), Ok(0x0707_0707_0707_0707));
+    assert_eq!(rt; get(&mut m, arena, 16, 8), Ok(7));
+    assert_eq!(rt; fill_bytes(&rt, &mut m, arena, 5, 0, 9), Ok(()));
+    assert_eq!(rt; get(&mut m, arena, 5, 1), Ok(7));
+}
+
+#[test]
 fn a_closed_arena_is_refused(rt: HostRuntime) {
     let mut m = Mono::make(rt.alloc(), 64);
     let arena = three_words(&rt, &mut m);
@@ -128,4 +159,8 @@ fn a_closed_arena_is_refused(rt: HostRuntime) {
     assert_eq!(rt; m.close(&rt, arena), Ok(()));
     assert_eq!(rt; get(&mut m, arena, 6, 4), Err(Refusal::Closed));
     assert_eq!(rt; put(&rt, &mut m, arena, 6, 4, 0), Err(Refusal::Closed));
+    assert_eq!(rt;
+        fill_bytes(&rt, &mut m, arena, 6, 4, 0),
+        Err(Refusal::Closed)
+    );
 }
