@@ -1,5 +1,5 @@
 -- What accesses do, from what the accesses to bytes did.
-use Rattle.std.proofs.Common.{◌≡◌, ℕ, ◌+◌, ◌<◌, ◌^◌, ◌*◌, Option, Some, None, Result, Ok, Err, List, [], length, refl, sym, ap, subst, ◌∙◌, arith, length-append}
+use Rattle.std.proofs.Common.{nat_le, min, Bool, true, false, if◌then◌else◌, ◌≡◌, ℕ, ◌+◌, ◌<◌, ◌^◌, ◌*◌, Option, Some, None, Result, Ok, Err, List, [], length, refl, sym, ap, subst, ◌∙◌, arith, length-append}
 use Rattle.std.proofs.lemmas.List.Elements.{All-append, All-nil}
 use Rattle.fm_base.specs.declared.arena_id.ArenaId.{ArenaId}
 use Rattle.fm_base.specs.declared.refusal.Refusal.{Refusal}
@@ -24,7 +24,13 @@ use Rattle.fm_layout.specs.Tree as tree
 use Rattle.fm_layout.specs.Tree.{Tree}
 use Rattle.fm_layout.specs.Parts.{form_of, IsValue}
 use Rattle.fm_pieces.specs.Ranges.{Reading, ReadsOn, EndsReading, ReadsRange, DoesGet, DoesPut}
-use Rattle.fm_segment.specs.Access.{HasKind, DoesGetValue, DoesGetAt, DoesSetAt}
+use Rattle.std.proofs.lemmas.Bool.{lt-leb, leb-true, leb-false}
+use Rattle.fm_base.specs.declared.refusal.Refusal.TheVariants.{Bounds, ReadOnly, Unsupported}
+use Rattle.fm_layout.specs.Size.{size_of}
+use Rattle.fm_layout.specs.Tree.{alignment_of}
+use Rattle.fm_segment.specs.Access.{if_tiling, HasKind, IsKnown, DoesGetValue, DoesGetAt, DoesSetAt, place_of, writable_place_of, offset_of_index, place_at_index, writable_place_at_index}
+use Rattle.fm_segment.specs.Region.{Region}
+use Rattle.fm_base.specs.Outcomes.{Lasts}
 
 -- What was done, said otherwise.
 pub said : (old new : View) (P Q : List Entry → Type 0) → ((own : List Entry) → P own → Q own) → Did old new P → Did old new Q
@@ -152,3 +158,64 @@ pub put_at : (old new : View) (mine id : ArenaId) (t : Tree) (k : ValueKind) (o 
 put_at old new mine id t k o found place v result same i f e d =
     let P : ArenaId → Type 0 = λ a. Did old new (DoesPut old.caller a place (bytes_of_value o v) result) in
     rw e (said old new (DoesPut old.caller id place (bytes_of_value o v) result) (DoesSetAt old.caller id t (Ok place) v result) (λ own d. set_at old.caller id t k o place v result own i f d) (subst P same d))
+
+-- ---- what stays known
+
+pub known_still : (old new : View) (r : Region) → Lasts old new → IsKnown old r → IsKnown new r
+known_still old new r l k = record { arena = l.known r.arena k.arena; given = (let g = l.given r.arena in let h = k.given in omega arith) }
+
+-- ---- by index
+
+-- A layout past the end.
+past_end : (n : ℕ) (t : Tree) (r : Region) → r.size < n → place_of n t r ≡ Err Bounds
+past_end n t r h = rw (lt-leb (n + size_of t) r.size (omega arith)) refl
+
+capped_on : (b : Bool) (n : ℕ) (t : Tree) (r : Region) → nat_le n r.size ≡ b → place_of (min n (r.size + 1)) t r ≡ place_of n t r
+capped_on true n t r h =
+    let below = leb-true n r.size h in
+    let same : min n (r.size + 1) ≡ n = omega arith in
+    ap (λ k. place_of k t r) same
+capped_on false n t r h =
+    let above = leb-false n r.size h in
+    past_end (min n (r.size + 1)) t r (omega arith) ∙ sym (past_end n t r above)
+
+-- One past the end is as far past as need be.
+capped : (n : ℕ) (t : Tree) (r : Region) → place_of (min n (r.size + 1)) t r ≡ place_of n t r
+capped n t r = capped_on (nat_le n r.size) n t r refl
+
+writable_capped : (n : ℕ) (t : Tree) (r : Region) → writable_place_of (min n (r.size + 1)) t r ≡ writable_place_of n t r
+writable_capped n t r = ap (λ (x : Result ℕ Refusal). if r.read_only then Err ReadOnly else x) (capped n t r)
+
+number_in : Result ℕ Refusal → ℕ
+number_in (Ok n) = n
+number_in (Err r) = 0
+
+-- Tests that come first.
+tested_err : (b : Bool) (n : ℕ) (x : Result ℕ Refusal) (first e : Refusal) → (if b then Ok n else Err first) ≡ Err e → (if b then x else Err first) ≡ Err e
+tested_err true n x first e h = cc
+tested_err false n x first e h = h
+
+tested_ok : (b : Bool) (n m : ℕ) (x : ℕ → Result ℕ Refusal) (first : Refusal) → (if b then Ok n else Err first) ≡ Ok m → (if b then x n else Err first) ≡ x m
+unfolding number_in
+tested_ok true n m x first h = ap x (ap number_in h)
+tested_ok false n m x first h = cc
+
+pub index_err : (i : ℕ) (t : Tree) (r : Region) (e : Refusal) → offset_of_index i t r ≡ Err e → place_at_index i t r ≡ Err e
+index_err i t r e h = tested_err (nat_le (alignment_of t) (size_of t)) (min (i * size_of t) (r.size + 1)) (place_of (i * size_of t) t r) Unsupported e h
+
+pub writable_index_err : (i : ℕ) (t : Tree) (r : Region) (e : Refusal) → offset_of_index i t r ≡ Err e → writable_place_at_index i t r ≡ Err e
+writable_index_err i t r e h = tested_err (nat_le (alignment_of t) (size_of t)) (min (i * size_of t) (r.size + 1)) (writable_place_of (i * size_of t) t r) Unsupported e h
+
+pub index_ok : (i : ℕ) (t : Tree) (r : Region) (n : ℕ) → offset_of_index i t r ≡ Ok n → place_of n t r ≡ place_at_index i t r
+index_ok i t r n h =
+    sym (tested_ok (nat_le (alignment_of t) (size_of t)) (min (i * size_of t) (r.size + 1)) n (λ k. place_of k t r) Unsupported h) ∙ ap (if_tiling t) (capped (i * size_of t) t r)
+
+pub writable_index_ok : (i : ℕ) (t : Tree) (r : Region) (n : ℕ) → offset_of_index i t r ≡ Ok n → writable_place_of n t r ≡ writable_place_at_index i t r
+writable_index_ok i t r n h =
+    sym (tested_ok (nat_le (alignment_of t) (size_of t)) (min (i * size_of t) (r.size + 1)) n (λ k. writable_place_of k t r) Unsupported h) ∙ ap (if_tiling t) (writable_capped (i * size_of t) t r)
+
+pub got_there : (old new : View) (id : ArenaId) (t : Tree) (p q : Result ℕ Refusal) (result : Result Value Refusal) → p ≡ q → Did old new (DoesGetAt old.caller id t p result) → Did old new (DoesGetAt old.caller id t q result)
+got_there old new id t p q result e d = let P : Result ℕ Refusal → Type 0 = λ x. Did old new (DoesGetAt old.caller id t x result) in subst P e d
+
+pub put_there : (old new : View) (id : ArenaId) (t : Tree) (p q : Result ℕ Refusal) (v : Value) (result : Result (Unit {0}) Refusal) → p ≡ q → Did old new (DoesSetAt old.caller id t p v result) → Did old new (DoesSetAt old.caller id t q v result)
+put_there old new id t p q v result e d = let P : Result ℕ Refusal → Type 0 = λ x. Did old new (DoesSetAt old.caller id t x v result) in subst P e d

@@ -1,5 +1,5 @@
 -- What accesses to the values of a segment do (`get` and `set` of `MemorySegment`, Java SE 22).
-use Rattle.std.specs.Prelude.{◌≡◌, ℕ, ◌+◌, ◌*◌, ◌%◌, ◌≤◌, true, List, [], Some, None, Result, Ok, Err, if◌then◌else◌, nat_eq, nat_le}
+use Rattle.std.specs.Prelude.{◌≡◌, ℕ, ◌+◌, ◌*◌, ◌%◌, ◌≤◌, true, List, [], Some, None, Result, Ok, Err, if◌then◌else◌, nat_eq, nat_le, min}
 use Rattle.fm_base.specs.declared.arena_id.ArenaId.{ArenaId}
 use Rattle.fm_base.specs.declared.refusal.Refusal.{Refusal}
 use Rattle.fm_base.specs.declared.refusal.Refusal.TheVariants.{Bounds, Misaligned, ReadOnly, Unsupported}
@@ -42,6 +42,11 @@ writable_place_of offset t r = if r.read_only then Err ReadOnly else place_of of
 -- an answer for layouts whose alignment is at most their size
 abbrev pub if_tiling : Tree → Result ℕ Refusal → Result ℕ Refusal
 if_tiling t answer = if nat_le (alignment_of t) (size_of t) then answer else Err Unsupported
+
+-- The offset of the element of an index, or one past the end where it begins past the end.
+-- Elements stand side by side where the alignment is at most the size
+abbrev pub offset_of_index : ℕ → Tree → Region → Result ℕ Refusal
+offset_of_index index t r = if_tiling t (Ok (min (index * size_of t) (r.size + 1)))
 
 abbrev pub place_at_index : ℕ → Tree → Region → Result ℕ Refusal
 place_at_index index t r = if_tiling t (place_of (index * size_of t) t r)

@@ -3,7 +3,7 @@ ghost use Rattle.fm_base.specs.Outcomes.{Lasts};
 ghost use Rattle.fm_base.specs.View.{Did};
 ghost use Rattle.fm_lanes.specs.Value.{kind_of};
 ghost use Rattle.fm_layout.specs.Parts.{IsValue, form_of};
-ghost use Rattle.fm_segment.specs.Access.{DoesGetAt, DoesSetAt, HasKind, IsKnown, place_of, writable_place_of};
+ghost use Rattle.fm_segment.specs.Access.{DoesGetAt, DoesSetAt, HasKind, IsKnown, offset_of_index, place_at_index, place_of, writable_place_at_index, writable_place_of};
 
 use super::Segment;
 use super::value::{get_value, put_value};
@@ -26,6 +26,7 @@ impl Segment {
             (place_of offset layout.now self.now) result) }
         ensures outside { (M.view m.new).inside ≡ None }
         ensures lasts { Lasts (M.view m.old) (M.view m.new) }
+        ensures known { IsKnown (M.view m.new) self.now }
     {
         let place = self.place_of(layout, offset)?;
         let (kind, order) = coding_of(layout);
@@ -53,10 +54,75 @@ impl Segment {
             (writable_place_of offset layout.now self.now) v result) }
         ensures outside { (M.view m.new).inside ≡ None }
         ensures lasts { Lasts (M.view m.old) (M.view m.new) }
+        ensures known { IsKnown (M.view m.new) self.now }
     {
         let place = self.writable_place_of(layout, offset)?;
         let (_, order) = coding_of(layout);
         put_value(rt, m, self.arena, place, order, v)
+    }
+
+    /// Reads the value of `layout` at the index `index`, where values stand side by side from the segment's start on.
+    ///
+    /// Refused, in this order: `Unsupported` where the layout's alignment is over its size, whatever the index, then
+    /// `Bounds`, `Misaligned`, `WrongThread`, `Closed`, as `get` is.
+    pub fn get_at_index<M: Memory>(
+        &self,
+        m: &mut M,
+        layout: &Layout,
+        index: u64,
+    ) -> Result<Value, Refusal>
+        requires known { IsKnown (M.view m.old) self.now }
+        requires outside { (M.view m.old).inside ≡ None }
+        requires value { IsValue layout.now }
+        ensures did { Did (M.view m.old) (M.view m.new)
+            (DoesGetAt (M.view m.old).caller self.now.arena layout.now
+            (place_at_index index layout.now self.now) result) }
+        ensures outside { (M.view m.new).inside ≡ None }
+        ensures lasts { Lasts (M.view m.old) (M.view m.new) }
+        ensures known { IsKnown (M.view m.new) self.now }
+    {
+        let offset = self.offset_of_index(layout, index)?;
+        self.get(m, layout, offset)
+    }
+
+    /// Puts `v` as the value of `layout` at the index `index`, where values stand side by side from the segment's start
+    /// on. Other bytes stay.
+    ///
+    /// Refused, in this order: `Unsupported` where the layout's alignment is over its size, whatever the index, then
+    /// `ReadOnly`, `Bounds`, `Misaligned`, `WrongThread`, `Closed`, as `set` is.
+    pub fn set_at_index<R: Wait, M: Memory>(
+        &self,
+        rt: &R,
+        m: &mut M,
+        layout: &Layout,
+        index: u64,
+        v: Value,
+    ) -> Result<(), Refusal>
+        requires known { IsKnown (M.view m.old) self.now }
+        requires outside { (M.view m.old).inside ≡ None }
+        requires value { HasKind layout.now (kind_of v) }
+        ensures did { Did (M.view m.old) (M.view m.new)
+            (DoesSetAt (M.view m.old).caller self.now.arena layout.now
+            (writable_place_at_index index layout.now self.now) v result) }
+        ensures outside { (M.view m.new).inside ≡ None }
+        ensures lasts { Lasts (M.view m.old) (M.view m.new) }
+        ensures known { IsKnown (M.view m.new) self.now }
+    {
+        let offset = self.offset_of_index(layout, index)?;
+        self.set(rt, m, layout, offset, v)
+    }
+
+    /// The offset of the element of this index in bytes, or one past the end where the element begins past the end.
+    ///
+    /// Refused: `Unsupported` where elements can't stand side by side, as the layout's alignment is over its size.
+    fn offset_of_index(&self, layout: &Layout, index: u64) -> Result<u64, Refusal>
+        ensures { result ≡ offset_of_index index layout.now self.now }
+    {
+        let size = layout.size();
+        if layout.alignment() > size {
+            return Err(Refusal::Unsupported);
+        }
+        Ok(index.saturating_mul(size).min(self.size + 1))
     }
 
     /// The place in the arena of a layout at an offset. Refused, in this order: `Bounds`, `Misaligned`.

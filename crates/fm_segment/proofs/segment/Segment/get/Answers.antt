@@ -1,7 +1,7 @@
 use Rattle.std.proofs.Common.{sym, ap, ◌∙◌, Err}
 use Rattle.std.proofs.lemmas.Result.{err_from_is_err_and}
 use Rattle.fm_segment.specs.Region.{Region}
-use Rattle.fm_segment.proofs.Access.{get_none, got_at}
+use Rattle.fm_segment.proofs.Access.{known_still, get_none, got_at}
 use Rattle.fm_segment.proofs.segment.Segment.get.Goals as goal
 
 pub returns-in_err-place-clause-did : goal.returns-in_err-place-clause-did
@@ -15,3 +15,6 @@ returns-clause-did g c =
     let v = g.M.Memory.view in
     got_at (v c.args.m.now) (v c.get_value.new.m) c.self.inside.arena c.args.self.now.arena c.args.layout.now c.coding_of-kind.result.0 c.coding_of-kind.result.1
     _ c.in_ok-place.place c.get_value.result (ap (λ (r : Region). r.arena) c.self.view_is) c.requires.value c.coding_of-kind.ensures (sym c.place_of.ensures ∙ c.in_ok-place.was) c.get_value.ensures.did
+
+pub returns-clause-known : goal.returns-clause-known
+returns-clause-known g c = known_still _ _ c.args.self.now c.get_value.ensures.lasts c.requires.known

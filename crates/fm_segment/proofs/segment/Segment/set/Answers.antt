@@ -2,7 +2,7 @@ use Rattle.std.proofs.Common.{sym, ap, ◌∙◌, Err}
 use Rattle.std.proofs.lemmas.Result.{err_from_is_err_and}
 use Rattle.fm_lanes.specs.Value.{kind_of}
 use Rattle.fm_segment.specs.Region.{Region}
-use Rattle.fm_segment.proofs.Access.{set_none, put_at, is_value}
+use Rattle.fm_segment.proofs.Access.{known_still, set_none, put_at, is_value}
 use Rattle.fm_segment.proofs.segment.Segment.set.Goals as goal
 
 pub coding_of-order-requires : goal.coding_of-order-requires
@@ -19,3 +19,6 @@ returns-clause-did g c =
     let v = g.M.Memory.view in
     put_at (v c.args.m.now) (v c.put_value.new.m) c.self.inside.arena c.args.self.now.arena c.args.layout.now c.coding_of-order.result.0 c.coding_of-order.result.1
     _ c.in_ok-place.place c.args.v c.put_value.result (ap (λ (r : Region). r.arena) c.self.view_is) (is_value c.args.layout.now (kind_of c.args.v) c.requires.value) c.coding_of-order.ensures (sym c.writable_place_of.ensures ∙ c.in_ok-place.was) c.put_value.ensures.did
+
+pub returns-clause-known : goal.returns-clause-known
+returns-clause-known g c = known_still _ _ c.args.self.now c.put_value.ensures.lasts c.requires.known

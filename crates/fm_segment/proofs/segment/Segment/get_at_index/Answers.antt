@@ -1,0 +1,23 @@
+use Rattle.std.proofs.Common.{sym, ap, ◌∙◌, Err}
+use Rattle.std.proofs.lemmas.Result.{err_from_is_err_and}
+use Rattle.fm_segment.specs.Access.{place_of, place_at_index}
+use Rattle.fm_segment.proofs.Access.{get_none, got_there, index_err, index_ok}
+use Rattle.fm_segment.proofs.segment.Segment.get_at_index.Goals as goal
+
+pub returns-in_err-offset-clause-did : goal.returns-in_err-offset-clause-did
+returns-in_err-offset-clause-did g c =
+    let t = c.args.layout.now in
+    let r = c.args.self.now in
+    let e = c.in_err-offset.field-0.0 in
+    let p = err_from_is_err_and c.from_residual.result c.from_residual.ensures.1 in
+    get_none (g.M.Memory.view c.args.m.now) c.args.self.now.arena t (place_at_index c.args.index t r) e c.from_residual.result
+    (index_err c.args.index t r e (sym c.offset_of_index.ensures ∙ c.in_err-offset.was)) (p.1 ∙ ap Err p.2)
+
+pub returns-clause-did : goal.returns-clause-did
+returns-clause-did g c =
+    let v = g.M.Memory.view in
+    let t = c.args.layout.now in
+    let r = c.args.self.now in
+    let n = c.in_ok-offset.offset in
+    got_there (v c.args.m.now) (v c.get.new.m) c.args.self.now.arena t (place_of n t r) (place_at_index c.args.index t r) c.get.result
+    (index_ok c.args.index t r n (sym c.offset_of_index.ensures ∙ c.in_ok-offset.was)) c.get.ensures.did

@@ -1,0 +1,23 @@
+use Rattle.std.proofs.Common.{sym, ap, ◌∙◌, Err}
+use Rattle.std.proofs.lemmas.Result.{err_from_is_err_and}
+use Rattle.fm_segment.specs.Access.{writable_place_of, writable_place_at_index}
+use Rattle.fm_segment.proofs.Access.{set_none, put_there, writable_index_err, writable_index_ok}
+use Rattle.fm_segment.proofs.segment.Segment.set_at_index.Goals as goal
+
+pub returns-in_err-offset-clause-did : goal.returns-in_err-offset-clause-did
+returns-in_err-offset-clause-did g c =
+    let t = c.args.layout.now in
+    let r = c.args.self.now in
+    let e = c.in_err-offset.field-0.0 in
+    let p = err_from_is_err_and c.from_residual.result c.from_residual.ensures.1 in
+    set_none (g.M.Memory.view c.args.m.now) c.args.self.now.arena t (writable_place_at_index c.args.index t r) e c.args.v c.from_residual.result
+    (writable_index_err c.args.index t r e (sym c.offset_of_index.ensures ∙ c.in_err-offset.was)) (p.1 ∙ ap Err p.2)
+
+pub returns-clause-did : goal.returns-clause-did
+returns-clause-did g c =
+    let v = g.M.Memory.view in
+    let t = c.args.layout.now in
+    let r = c.args.self.now in
+    let n = c.in_ok-offset.offset in
+    put_there (v c.args.m.now) (v c.set.new.m) c.args.self.now.arena t (writable_place_of n t r) (writable_place_at_index c.args.index t r) c.args.v c.set.result
+    (writable_index_ok c.args.index t r n (sym c.offset_of_index.ensures ∙ c.in_ok-offset.was)) c.set.ensures.did
