@@ -3,6 +3,8 @@
 #![tactic(auto)]
 
 mod copy;
+mod mismatch;
 mod side;
 
 pub use copy::copy_range;
+pub use mismatch::mismatch_range;

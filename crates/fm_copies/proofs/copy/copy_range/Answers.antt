@@ -1,20 +1,9 @@
-use Rattle.std.proofs.Common.{◌++◌, [], arith, refl}
+use Rattle.std.proofs.Common.{◌++◌, [], arith}
 use Rattle.std.proofs.lemmas.Result.{err_from_is_err_and}
-use Rattle.fm_base.proofs.Making.{Makes-none}
 use Rattle.fm_base.proofs.Outcomes.{Makes-lasts, Did-lasts}
 use Rattle.fm_copies.specs.Sides.{side}
 use Rattle.fm_copies.proofs.Copying.{copy_begins, copy_goes_on, copy_stops, copy_done}
 use Rattle.fm_copies.proofs.copy.copy_range.Goals as goal
-
-pub returns-then-is_wrong_thread-clause-did : goal.returns-then-is_wrong_thread-clause-did
-returns-then-is_wrong_thread-clause-did g c = record {
-  own = [];
-  does = (c.is_wrong_thread.ensures.yes c.if-is_wrong_thread.true, refl);
-  makes = Makes-none (g.M.Memory.view c.args.m.now);
-}
-
-pub returns-then-is_wrong_thread-clause-lasts : goal.returns-then-is_wrong_thread-clause-lasts
-returns-then-is_wrong_thread-clause-lasts g c = Makes-lasts _ _ _ (Makes-none (g.M.Memory.view c.args.m.now))
 
 pub loop-left-init : goal.loop-left-init
 loop-left-init g c = record {
@@ -29,12 +18,6 @@ copy_piece-requires-clause-source_known g c = (Makes-lasts _ _ _ c.loop-left.inv
 
 pub copy_piece-requires-clause-target_known : goal.copy_piece-requires-clause-target_known
 copy_piece-requires-clause-target_known g c = (Makes-lasts _ _ _ c.loop-left.invariant.going.makes).known c.args.dst c.requires.target_known
-
-pub copy_piece-requires-clause-may_use : goal.copy_piece-requires-clause-may_use
-copy_piece-requires-clause-may_use g c =
-    let b = c.loop-left.invariant.below in
-    let t = c.loop-left-test.true in
-    rw c.loop-left.invariant.going.makes.same_caller (c.is_wrong_thread.ensures.no c.if-is_wrong_thread.false (omega arith))
 
 pub copy_piece-requires-clause-source_given : goal.copy_piece-requires-clause-source_given
 copy_piece-requires-clause-source_given g c =
