@@ -5,6 +5,8 @@
 mod copy;
 mod mismatch;
 mod side;
+#[cfg(test)]
+mod tests;
 
 pub use copy::copy_range;
 pub use mismatch::mismatch_range;
