@@ -1,0 +1,4 @@
+pub mod Stopping
+pub mod Copying
+pub mod Differing
+pub mod Comparing

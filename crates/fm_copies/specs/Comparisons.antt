@@ -1,0 +1,71 @@
+-- Two ranges compared piece by piece, the lowest place first, up to the first piece that differs.
+use Rattle.std.specs.Prelude.{◌≡◌, ◌≢◌, ℕ, ◌+◌, ◌-◌, ◌<◌, List, [], ◌++◌, Option, Some, None, Result, Ok, Err}
+use Rattle.fm_base.specs.declared.refusal.Refusal.{Refusal}
+use Rattle.fm_base.specs.declared.refusal.Refusal.TheVariants.{Closed, WrongThread}
+use Rattle.fm_base.specs.Calls.{Entry}
+use Rattle.fm_base.specs.Visits.{Run}
+use Rattle.fm_bytes.specs.Bytes.{bytes_of, lane}
+use Rattle.fm_copies.specs.declared.side.Side.{Side}
+use Rattle.fm_copies.specs.declared.side.Piece.{Piece}
+use Rattle.fm_copies.specs.declared.side.Way.TheVariants.{Up}
+use Rattle.fm_copies.specs.Sides.{MayUseBoth, IsForOthers, next_piece, ReadsAt, StopsAt}
+
+-- byte `at` of v and w differs, and the bytes below it don't
+pub record DiffersAt (width v w at : ℕ) : Type 0 where
+  pub within : at < width
+  pub below : bytes_of at v ≡ bytes_of at w
+  pub differs : lane v at 1 ≢ lane w at 1
+
+-- the lowest byte in which v and w differ
+abbrev pub IsDifference : ℕ → ℕ → ℕ → Option ℕ → Type 0
+IsDifference width v w None = v ≡ w
+IsDifference width v w (Some at) = DiffersAt width v w at
+
+-- a visit to a reads the piece, and then one to b; `found` is the first byte in which they differ
+pub record ComparesPiece (c : ℕ) (a b : Side) (p : Piece) (found : Option ℕ) (own : List Entry) : Type 0 where
+  pub v : ℕ
+  pub w : ℕ
+  pub first : List Entry
+  pub second : List Entry
+  pub reads_first : ReadsAt c a p v first
+  pub reads_second : ReadsAt c b p w second
+  pub visits : own ≡ first ++ second
+  pub answer : IsDifference p.width v w found
+
+abbrev pub DoesComparePiece : ℕ → Side → Side → Piece → Result (Option ℕ) Refusal → List Entry → Type 0
+DoesComparePiece c a b p (Ok found) own = ComparesPiece c a b p found own
+DoesComparePiece c a b p (Err Closed) own = StopsAt c a b p own
+DoesComparePiece c a b p (Err r) own = ⊥
+
+-- a comparison of `count` bytes
+module _ (c : ℕ) (a b : Side) (count : ℕ) where
+  -- of `left` bytes the next piece agrees
+  pub record AgreesOn (left : ℕ) (own : List Entry) (left_then : ℕ) : Type 0 where
+    pub more : 0 < left
+    pub piece : ComparesPiece c a b (next_piece Up a b count left) None own
+    pub then : left_then ≡ left - (next_piece Up a b count left).width
+
+  -- the next piece differs, first in the byte at this offset
+  pub record DiffersNext (left : ℕ) (own : List Entry) (offset : ℕ) : Type 0 where
+    pub more : 0 < left
+    pub at : ℕ
+    pub piece : ComparesPiece c a b (next_piece Up a b count left) (Some at) own
+    pub offset_is : offset ≡ (next_piece Up a b count left).offset + at
+
+  -- Some found: the answer. None: a visit of the next piece was refused
+  abbrev pub EndsComparing : ℕ → List Entry → Option (Option ℕ) → Type 0
+  EndsComparing left own (Some None) = (left ≡ 0) × (own ≡ [])
+  EndsComparing left own (Some (Some offset)) = DiffersNext left own offset
+  EndsComparing left own None = (0 < left) × StopsAt c a b (next_piece Up a b count left) own
+
+-- the visits of a comparison, up to its answer or a visit that was refused
+pub record Compares (c : ℕ) (a b : Side) (count : ℕ) (own : List Entry) (answer : Option (Option ℕ)) : Type 0 where
+  pub may_use : 0 < count → MayUseBoth c a b
+  pub visits : Run (AgreesOn c a b count) (EndsComparing c a b count) count own answer
+
+-- the offset of the first byte that differs, or None where all bytes agree
+abbrev pub DoesCompare : ℕ → Side → Side → ℕ → Result (Option ℕ) Refusal → List Entry → Type 0
+DoesCompare c a b count (Ok found) own = Compares c a b count own (Some found)
+DoesCompare c a b count (Err WrongThread) own = IsForOthers c a b count × (own ≡ [])
+DoesCompare c a b count (Err Closed) own = Compares c a b count own None
+DoesCompare c a b count (Err r) own = ⊥

@@ -1,0 +1,83 @@
+ghost use Rattle.std.specs.Prelude.{◌≡◌, ◌+◌, ◌^◌, ◌≤◌, true, None};
+ghost use Rattle.fm_base.specs.Arenas.{has_arena};
+ghost use Rattle.fm_base.specs.Outcomes.{Lasts};
+ghost use Rattle.fm_base.specs.View.{Did, given_in};
+ghost use Rattle.fm_copies.specs.Sides.{side, IsPieceAt, MayUseBoth};
+ghost use Rattle.fm_copies.specs.Copies.{DoesCopyPiece, DoesCopy};
+
+use crate::side::{Piece, Side, is_wrong_thread, next_piece, way_of};
+use fm_base::{ArenaId, Memory, Refusal};
+use fm_pieces::{get_piece, put_piece};
+use std::sync::Wait;
+
+/// Reads a piece of the source, and then puts it.
+fn copy_piece<R: Wait, M: Memory>(
+    rt: &R,
+    m: &mut M,
+    from: Side,
+    to: Side,
+    piece: Piece,
+) -> Result<(), Refusal>
+    requires outside { (M.view m.old).inside ≡ None }
+    requires source_known { has_arena (M.view m.old).state from.arena ≡ true }
+    requires target_known { has_arena (M.view m.old).state to.arena ≡ true }
+    requires may_use { MayUseBoth (M.view m.old).caller from to }
+    requires piece { IsPieceAt from to piece }
+    requires source_small { from.at + piece.offset ≤ 2 ^ 40 }
+    requires target_small { to.at + piece.offset ≤ 2 ^ 40 }
+    requires source_given { from.at + piece.offset + piece.width ≤ given_in (M.view m.old) from.arena }
+    requires target_given { to.at + piece.offset + piece.width ≤ given_in (M.view m.old) to.arena }
+    ensures did { Did (M.view m.old) (M.view m.new)
+        (DoesCopyPiece (M.view m.old).caller from to piece result) }
+    ensures outside { (M.view m.new).inside ≡ None }
+{
+    let v = get_piece(m, from.arena, from.at + piece.offset, piece.width)?;
+    put_piece(rt, m, to.arena, to.at + piece.offset, piece.width, v)
+}
+
+/// Copies `n` bytes, from the place `src_at` of one arena to the place `dst_at` of one.
+///
+/// The lowest piece comes first, but inside one arena to a higher place the highest. In a piece the source is entered
+/// first. Refused, in this order: `WrongThread`, `Closed`. Where a later piece is refused, the pieces before it stay
+/// done. A call over 0 bytes makes no access.
+pub fn copy_range<R: Wait, M: Memory>(
+    rt: &R,
+    m: &mut M,
+    src: ArenaId,
+    src_at: u64,
+    dst: ArenaId,
+    dst_at: u64,
+    n: u64,
+) -> Result<(), Refusal>
+    requires outside { (M.view m.old).inside ≡ None }
+    requires source_known { has_arena (M.view m.old).state src ≡ true }
+    requires target_known { has_arena (M.view m.old).state dst ≡ true }
+    requires source_given { src_at + n ≤ given_in (M.view m.old) src }
+    requires target_given { dst_at + n ≤ given_in (M.view m.old) dst }
+    requires source_small { src_at + n ≤ 2 ^ 40 }
+    requires target_small { dst_at + n ≤ 2 ^ 40 }
+    ensures did { Did (M.view m.old) (M.view m.new)
+        (DoesCopy (M.view m.old).caller (side src src_at) (side dst dst_at) n result) }
+    ensures outside { (M.view m.new).inside ≡ None }
+    ensures lasts { Lasts (M.view m.old) (M.view m.new) }
+{
+    let from = Side {
+        arena: src,
+        at: src_at,
+    };
+    let to = Side {
+        arena: dst,
+        at: dst_at,
+    };
+    if is_wrong_thread(m, from, to, n) {
+        return Err(Refusal::WrongThread);
+    }
+    let way = way_of(from, to);
+    let mut left = n;
+    while left > 0 {
+        let piece = next_piece(way, from, to, n, left);
+        copy_piece(rt, m, from, to, piece)?;
+        left -= u64::from(piece.width);
+    }
+    Ok(())
+}

@@ -1,0 +1,95 @@
+ghost use Rattle.std.specs.Prelude.{◌≡◌, ◌+◌, ◌*◌, ◌^◌, ◌<◌, ◌≤◌, true, None};
+ghost use Rattle.fm_base.specs.Arenas.{has_arena};
+ghost use Rattle.fm_base.specs.Outcomes.{Lasts};
+ghost use Rattle.fm_base.specs.View.{Did, given_in};
+ghost use Rattle.fm_copies.specs.Sides.{side, IsPieceAt, MayUseBoth};
+ghost use Rattle.fm_copies.specs.Comparisons.{IsDifference, DoesComparePiece, DoesCompare};
+
+use crate::side::{Piece, Side, Way, is_wrong_thread, next_piece};
+use fm_base::{ArenaId, Memory, Refusal};
+use fm_lanes::read;
+use fm_pieces::get_piece;
+
+/// The lowest byte in which two numbers of `width` bytes differ.
+fn first_difference(v: u64, w: u64, width: u32) -> Option<u32>
+    requires width { width ≤ 8 }
+    requires first { v < 2 ^ (8 * width) }
+    requires second { w < 2 ^ (8 * width) }
+    ensures { IsDifference width v w result }
+{
+    if v == w {
+        return None;
+    }
+    for i in 0..width {
+        if read(v, i, 1) != read(w, i, 1) {
+            return Some(i);
+        }
+    }
+    None
+}
+
+/// Reads a piece of both sides, and answers its first byte that differs.
+fn compare_piece<M: Memory>(
+    m: &mut M,
+    first: Side,
+    second: Side,
+    piece: Piece,
+) -> Result<Option<u32>, Refusal>
+    requires outside { (M.view m.old).inside ≡ None }
+    requires first_known { has_arena (M.view m.old).state first.arena ≡ true }
+    requires second_known { has_arena (M.view m.old).state second.arena ≡ true }
+    requires may_use { MayUseBoth (M.view m.old).caller first second }
+    requires piece { IsPieceAt first second piece }
+    requires first_small { first.at + piece.offset ≤ 2 ^ 40 }
+    requires second_small { second.at + piece.offset ≤ 2 ^ 40 }
+    requires first_given { first.at + piece.offset + piece.width ≤ given_in (M.view m.old) first.arena }
+    requires second_given { second.at + piece.offset + piece.width
+        ≤ given_in (M.view m.old) second.arena }
+    ensures did { Did (M.view m.old) (M.view m.new)
+        (DoesComparePiece (M.view m.old).caller first second piece result) }
+    ensures outside { (M.view m.new).inside ≡ None }
+{
+    let v = get_piece(m, first.arena, first.at + piece.offset, piece.width)?;
+    let w = get_piece(m, second.arena, second.at + piece.offset, piece.width)?;
+    Ok(first_difference(v, w, piece.width))
+}
+
+/// The offset of the first byte in which `n` bytes of one arena, from `a_at` on, and of one, from `b_at` on, differ.
+///
+/// The lowest piece comes first, and none after the first that differs. In a piece `a` is entered first. Refused, in
+/// this order: `WrongThread`, `Closed`. A call over 0 bytes makes no access.
+pub fn mismatch_range<M: Memory>(
+    m: &mut M,
+    a: ArenaId,
+    a_at: u64,
+    b: ArenaId,
+    b_at: u64,
+    n: u64,
+) -> Result<Option<u64>, Refusal>
+    requires outside { (M.view m.old).inside ≡ None }
+    requires first_known { has_arena (M.view m.old).state a ≡ true }
+    requires second_known { has_arena (M.view m.old).state b ≡ true }
+    requires first_given { a_at + n ≤ given_in (M.view m.old) a }
+    requires second_given { b_at + n ≤ given_in (M.view m.old) b }
+    requires first_small { a_at + n ≤ 2 ^ 40 }
+    requires second_small { b_at + n ≤ 2 ^ 40 }
+    ensures did { Did (M.view m.old) (M.view m.new)
+        (DoesCompare (M.view m.old).caller (side a a_at) (side b b_at) n result) }
+    ensures outside { (M.view m.new).inside ≡ None }
+    ensures lasts { Lasts (M.view m.old) (M.view m.new) }
+{
+    let first = Side { arena: a, at: a_at };
+    let second = Side { arena: b, at: b_at };
+    if is_wrong_thread(m, first, second, n) {
+        return Err(Refusal::WrongThread);
+    }
+    let mut left = n;
+    while left > 0 {
+        let piece = next_piece(Way::Up, first, second, n, left);
+        if let Some(at) = compare_piece(m, first, second, piece)? {
+            return Ok(Some(piece.offset + u64::from(at)));
+        }
+        left -= u64::from(piece.width);
+    }
+    Ok(None)
+}

@@ -1,0 +1,107 @@
+ghost use Rattle.std.specs.Prelude.{◌≡◌, ◌+◌, ◌<◌, ◌≤◌, true, None};
+ghost use Rattle.fm_base.specs.Arenas.{has_arena};
+ghost use Rattle.fm_base.specs.View.{given_in};
+
+use crate::{copy_range, mismatch_range};
+use fm_base::{ArenaId, Kind, Memory, Refusal};
+use fm_mono::Mono;
+use fm_pieces::{get_number, put_number};
+use std::process::Abort;
+use std::sync::Wait;
+
+/// An arena with 48 bytes: each of the first 24 is its place, and the others are zeros.
+fn open<R: Abort + Wait, M: Memory>(rt: &R, m: &mut M) -> ArenaId
+    requires outside { (M.view m.old).inside ≡ None }
+    ensures outside { (M.view m.new).inside ≡ None }
+    ensures known { has_arena (M.view m.new).state result ≡ true }
+    ensures given { 48 ≤ given_in (M.view m.new) result }
+{
+    let a = m.open_arena(rt, Kind::Shared).expect(rt, "an arena");
+    assert_eq!(rt; m.allocate(rt, a, 48, 8), Ok(0));
+    assert_eq!(rt; put_number(rt, m, a, 0, 8, 0x0706_0504_0302_0100), Ok(()));
+    assert_eq!(rt; put_number(rt, m, a, 8, 8, 0x0f0e_0d0c_0b0a_0908), Ok(()));
+    assert_eq!(rt; put_number(rt, m, a, 16, 8, 0x1716_1514_1312_1110), Ok(()));
+    a
+}
+
+/// The byte at `place` once `n` bytes were copied, where each byte was its place before.
+fn byte_after(place: u64, src: u64, dst: u64, n: u64) -> u64
+    requires source { src + n ≤ 24 }
+    requires target { dst + n ≤ 24 }
+{
+    if dst <= place && place < dst + n {
+        place - dst + src
+    } else {
+        place
+    }
+}
+
+fn copy_inside<R: Abort + Wait, M: Memory>(rt: &R, m: &mut M, src: u64, dst: u64, n: u64)
+    requires outside { (M.view m.old).inside ≡ None }
+    requires source { src + n ≤ 24 }
+    requires target { dst + n ≤ 24 }
+{
+    let a = open(rt, m);
+    assert_eq!(rt; copy_range(rt, m, a, src, a, dst, n), Ok(()));
+    for place in 0..24 {
+        assert_eq!(rt;
+            get_number(m, a, place, 1),
+            Ok(byte_after(place, src, dst, n))
+        );
+    }
+}
+
+#[test]
+fn copies_of_every_overlap(rt: HostRuntime) {
+    for src in 0..13 {
+        for dst in 0..13 {
+            for n in 0..12 {
+                let mut m = Mono::make(rt.alloc(), 48);
+                copy_inside(&rt, &mut m, src, dst, n);
+            }
+        }
+    }
+}
+
+/// Compares 11 zeros with 11 bytes of which that at `offset` is 1, if it is one of them.
+fn compare<R: Abort + Wait, M: Memory>(rt: &R, m: &mut M, first: u64, second: u64, offset: u64)
+    requires outside { (M.view m.old).inside ≡ None }
+    requires first { first < 9 }
+    requires second { second < 9 }
+    requires offset { offset < 12 }
+{
+    let a = m.open_arena(rt, Kind::Shared).expect(rt, "an arena");
+    assert_eq!(rt; m.allocate(rt, a, 48, 8), Ok(0));
+    assert_eq!(rt; put_number(rt, m, a, 24 + second + offset, 1, 1), Ok(()));
+    let found = if offset < 11 { Some(offset) } else { None };
+    assert_eq!(rt; mismatch_range(m, a, first, a, 24 + second, 11), Ok(found));
+}
+
+#[test]
+fn the_first_byte_that_differs(rt: HostRuntime) {
+    for first in 0..9 {
+        for second in 0..9 {
+            for offset in 0..12 {
+                let mut m = Mono::make(rt.alloc(), 48);
+                compare(&rt, &mut m, first, second, offset);
+            }
+        }
+    }
+}
+
+fn use_a_closed_arena<R: Abort + Wait, M: Memory>(rt: &R, m: &mut M)
+    requires outside { (M.view m.old).inside ≡ None }
+{
+    let a = open(rt, m);
+    assert_eq!(rt; m.close(rt, a), Ok(()));
+    assert_eq!(rt; copy_range(rt, m, a, 0, a, 9, 5), Err(Refusal::Closed));
+    assert_eq!(rt; mismatch_range(m, a, 0, a, 9, 5), Err(Refusal::Closed));
+    assert_eq!(rt; copy_range(rt, m, a, 0, a, 9, 0), Ok(()));
+    assert_eq!(rt; mismatch_range(m, a, 0, a, 9, 0), Ok(None));
+}
+
+#[test]
+fn closed_arenas_are_refused(rt: HostRuntime) {
+    let mut m = Mono::make(rt.alloc(), 48);
+    use_a_closed_arena(&rt, &mut m);
+}
