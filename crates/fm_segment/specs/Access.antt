@@ -1,8 +1,8 @@
 -- What accesses to the values of a segment do (`get` and `set` of `MemorySegment`, Java SE 22).
-use Rattle.std.specs.Prelude.{◌≡◌, ℕ, ◌+◌, ◌*◌, ◌%◌, ◌≤◌, true, List, [], Some, None, Result, Ok, Err, if◌then◌else◌, nat_eq, nat_le, min}
+use Rattle.std.specs.Prelude.{Bool, false, ◌<◌, ◌≡◌, ℕ, ◌+◌, ◌*◌, ◌%◌, ◌≤◌, true, List, [], Some, None, Result, Ok, Err, if◌then◌else◌, nat_eq, nat_le, min}
 use Rattle.fm_base.specs.declared.arena_id.ArenaId.{ArenaId}
 use Rattle.fm_base.specs.declared.refusal.Refusal.{Refusal}
-use Rattle.fm_base.specs.declared.refusal.Refusal.TheVariants.{Bounds, Misaligned, ReadOnly, Unsupported}
+use Rattle.fm_base.specs.declared.refusal.Refusal.TheVariants.{Bounds, Misaligned, ReadOnly, Unsupported, WrongThread, Closed}
 use Rattle.fm_base.specs.Arenas.{has_arena, MayUse}
 use Rattle.fm_base.specs.Calls.{Entry}
 use Rattle.fm_base.specs.View.{View, given_in}
@@ -78,3 +78,31 @@ abbrev pub DoesSetAt : ℕ → ArenaId → Tree → Result ℕ Refusal → Value
 DoesSetAt c id t (Err r) v result own = (result ≡ Err r) × (own ≡ [])
 DoesSetAt c id (tree.Value k o l) (Ok place) v result own = DoesPut c id place (bytes_of_value o v) result own
 DoesSetAt c id t (Ok place) v result own = ⊥
+
+-- ---- why a refusal comes, the first cause that applies
+
+abbrev pub Fits : ℕ → Tree → Region → Type 0
+Fits offset t r = offset + size_of t ≤ r.size
+
+abbrev pub IsAligned : ℕ → Tree → Region → Type 0
+IsAligned offset t r = (r.first + offset) % alignment_of t ≡ 0
+
+abbrev pub GetCause : ℕ → Tree → Region → ℕ → Refusal → Type 0
+GetCause offset t r c Bounds = ¬ (Fits offset t r)
+GetCause offset t r c Misaligned = Fits offset t r × ¬ (IsAligned offset t r)
+GetCause offset t r c WrongThread = Fits offset t r × IsAligned offset t r × ¬ (MayUse r.arena c)
+GetCause offset t r c Closed = Fits offset t r × IsAligned offset t r × MayUse r.arena c
+GetCause offset t r c e = ⊥
+
+-- a write asks first whether the segment is read-only
+abbrev pub WriteCause : Bool → (Refusal → Type 0) → Refusal → Type 0
+WriteCause read_only Cause ReadOnly = read_only ≡ true
+WriteCause read_only Cause e = (read_only ≡ false) × Cause e
+
+abbrev pub SetCause : ℕ → Tree → Region → ℕ → Refusal → Type 0
+SetCause offset t r c = WriteCause r.read_only (GetCause offset t r c)
+
+-- an access by index asks first whether the layout's alignment is over its size
+abbrev pub IndexCause : Tree → (Refusal → Type 0) → Refusal → Type 0
+IndexCause t Cause Unsupported = size_of t < alignment_of t
+IndexCause t Cause e = (alignment_of t ≤ size_of t) × Cause e

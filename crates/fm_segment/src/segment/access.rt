@@ -1,9 +1,10 @@
-ghost use Rattle.std.specs.Prelude.{◌≡◌, ◌+◌, None};
+ghost use Rattle.std.specs.Prelude.{◌≡◌, ◌*◌, None, IfErr};
 ghost use Rattle.fm_base.specs.Outcomes.{Lasts};
 ghost use Rattle.fm_base.specs.View.{Did};
 ghost use Rattle.fm_lanes.specs.Value.{kind_of};
 ghost use Rattle.fm_layout.specs.Parts.{IsValue, form_of};
-ghost use Rattle.fm_segment.specs.Access.{DoesGetAt, DoesSetAt, HasKind, IsKnown, offset_of_index, place_at_index, place_of, writable_place_at_index, writable_place_of};
+ghost use Rattle.fm_layout.specs.Size.{size_of};
+ghost use Rattle.fm_segment.specs.Access.{GetCause, SetCause, IndexCause, DoesGetAt, DoesSetAt, HasKind, IsKnown, offset_of_index, place_at_index, place_of, writable_place_at_index, writable_place_of};
 
 use super::Segment;
 use super::value::{get_value, put_value};
@@ -24,6 +25,7 @@ impl Segment {
         ensures did { Did (M.view m.old) (M.view m.new)
             (DoesGetAt (M.view m.old).caller self.now.arena layout.now
             (place_of offset layout.now self.now) result) }
+        ensures refused { IfErr result (GetCause offset layout.now self.now (M.view m.old).caller) }
         ensures outside { (M.view m.new).inside ≡ None }
         ensures lasts { Lasts (M.view m.old) (M.view m.new) }
         ensures known { IsKnown (M.view m.new) self.now }
@@ -52,6 +54,7 @@ impl Segment {
         ensures did { Did (M.view m.old) (M.view m.new)
             (DoesSetAt (M.view m.old).caller self.now.arena layout.now
             (writable_place_of offset layout.now self.now) v result) }
+        ensures refused { IfErr result (SetCause offset layout.now self.now (M.view m.old).caller) }
         ensures outside { (M.view m.new).inside ≡ None }
         ensures lasts { Lasts (M.view m.old) (M.view m.new) }
         ensures known { IsKnown (M.view m.new) self.now }
@@ -77,6 +80,8 @@ impl Segment {
         ensures did { Did (M.view m.old) (M.view m.new)
             (DoesGetAt (M.view m.old).caller self.now.arena layout.now
             (place_at_index index layout.now self.now) result) }
+        ensures refused { IfErr result (IndexCause layout.now
+            (GetCause (index * size_of layout.now) layout.now self.now (M.view m.old).caller)) }
         ensures outside { (M.view m.new).inside ≡ None }
         ensures lasts { Lasts (M.view m.old) (M.view m.new) }
         ensures known { IsKnown (M.view m.new) self.now }
@@ -104,6 +109,8 @@ impl Segment {
         ensures did { Did (M.view m.old) (M.view m.new)
             (DoesSetAt (M.view m.old).caller self.now.arena layout.now
             (writable_place_at_index index layout.now self.now) v result) }
+        ensures refused { IfErr result (IndexCause layout.now
+            (SetCause (index * size_of layout.now) layout.now self.now (M.view m.old).caller)) }
         ensures outside { (M.view m.new).inside ≡ None }
         ensures lasts { Lasts (M.view m.old) (M.view m.new) }
         ensures known { IsKnown (M.view m.new) self.now }

@@ -1,6 +1,7 @@
 use Rattle.std.proofs.Common.{sym, ap, ◌∙◌, Err}
 use Rattle.std.proofs.lemmas.Result.{err_from_is_err_and}
 use Rattle.fm_segment.specs.Region.{Region}
+use Rattle.fm_segment.proofs.Causes.{get_cause}
 use Rattle.fm_segment.proofs.Access.{known_still, get_none, got_at}
 use Rattle.fm_segment.proofs.segment.Segment.get.Goals as goal
 
@@ -18,3 +19,13 @@ returns-clause-did g c =
 
 pub returns-clause-known : goal.returns-clause-known
 returns-clause-known g c = known_still _ _ c.args.self.now c.get_value.ensures.lasts c.requires.known
+
+pub returns-in_err-place-clause-refused : goal.returns-in_err-place-clause-refused
+returns-in_err-place-clause-refused g c =
+    let v = g.M.Memory.view c.args.m.now in
+    get_cause v v c.args.offset c.args.layout.now c.args.self.now c.from_residual.result (returns-in_err-place-clause-did g c)
+
+pub returns-clause-refused : goal.returns-clause-refused
+returns-clause-refused g c =
+    let v = g.M.Memory.view in
+    get_cause (v c.args.m.now) (v c.get_value.new.m) c.args.offset c.args.layout.now c.args.self.now c.get_value.result (returns-clause-did g c)

@@ -2,6 +2,7 @@ use Rattle.std.proofs.Common.{sym, ap, ◌∙◌, Err}
 use Rattle.std.proofs.lemmas.Result.{err_from_is_err_and}
 use Rattle.fm_lanes.specs.Value.{kind_of}
 use Rattle.fm_segment.specs.Region.{Region}
+use Rattle.fm_segment.proofs.Causes.{set_cause}
 use Rattle.fm_segment.proofs.Access.{known_still, set_none, put_at, is_value}
 use Rattle.fm_segment.proofs.segment.Segment.set.Goals as goal
 
@@ -22,3 +23,13 @@ returns-clause-did g c =
 
 pub returns-clause-known : goal.returns-clause-known
 returns-clause-known g c = known_still _ _ c.args.self.now c.put_value.ensures.lasts c.requires.known
+
+pub returns-in_err-place-clause-refused : goal.returns-in_err-place-clause-refused
+returns-in_err-place-clause-refused g c =
+    let v = g.M.Memory.view c.args.m.now in
+    set_cause v v c.args.offset c.args.layout.now c.args.self.now c.args.v c.from_residual.result (returns-in_err-place-clause-did g c)
+
+pub returns-clause-refused : goal.returns-clause-refused
+returns-clause-refused g c =
+    let v = g.M.Memory.view in
+    set_cause (v c.args.m.now) (v c.put_value.new.m) c.args.offset c.args.layout.now c.args.self.now c.args.v c.put_value.result (returns-clause-did g c)

@@ -1,6 +1,7 @@
 use Rattle.std.proofs.Common.{sym, ap, ◌∙◌, Err}
 use Rattle.std.proofs.lemmas.Result.{err_from_is_err_and}
 use Rattle.fm_segment.specs.Access.{writable_place_of, writable_place_at_index}
+use Rattle.fm_segment.proofs.Causes.{set_index_cause}
 use Rattle.fm_segment.proofs.Access.{set_none, put_there, writable_index_err, writable_index_ok}
 use Rattle.fm_segment.proofs.segment.Segment.set_at_index.Goals as goal
 
@@ -21,3 +22,13 @@ returns-clause-did g c =
     let n = c.in_ok-offset.offset in
     put_there (v c.args.m.now) (v c.set.new.m) c.args.self.now.arena t (writable_place_of n t r) (writable_place_at_index c.args.index t r) c.args.v c.set.result
     (writable_index_ok c.args.index t r n (sym c.offset_of_index.ensures ∙ c.in_ok-offset.was)) c.set.ensures.did
+
+pub returns-in_err-offset-clause-refused : goal.returns-in_err-offset-clause-refused
+returns-in_err-offset-clause-refused g c =
+    let v = g.M.Memory.view c.args.m.now in
+    set_index_cause v v c.args.index c.args.layout.now c.args.self.now c.args.v c.from_residual.result (returns-in_err-offset-clause-did g c)
+
+pub returns-clause-refused : goal.returns-clause-refused
+returns-clause-refused g c =
+    let v = g.M.Memory.view in
+    set_index_cause (v c.args.m.now) (v c.set.new.m) c.args.index c.args.layout.now c.args.self.now c.args.v c.set.result (returns-clause-did g c)
