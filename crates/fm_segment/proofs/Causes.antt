@@ -1,5 +1,5 @@
 -- Why accesses are refused, from what they did.
-use Rattle.std.proofs.Common.{◌≡◌, ℕ, ◌+◌, ◌*◌, ◌%◌, ◌<◌, ◌≤◌, Bool, true, false, if◌then◌else◌, nat_eq, nat_le, Result, Ok, Err, IfErr, List, refl, sym, ap, subst, ◌∙◌, arith}
+use Rattle.std.proofs.Common.{◌≡◌, ℕ, ◌+◌, ◌*◌, ◌%◌, ◌≤◌, Bool, true, false, if◌then◌else◌, nat_eq, nat_le, Result, Ok, Err, IfErr, List, refl, sym, ap, subst, arith}
 use Rattle.std.proofs.lemmas.Bool.{leb-true, leb-false}
 use Rattle.std.proofs.lemmas.Bool.Decides.{nat_tests}
 use Rattle.fm_base.specs.declared.arena_id.ArenaId.{ArenaId}
@@ -12,7 +12,7 @@ use Rattle.fm_lanes.specs.declared.value.Value.{Value}
 use Rattle.fm_layout.specs.Tree as tree
 use Rattle.fm_layout.specs.Tree.{Tree, alignment_of}
 use Rattle.fm_layout.specs.Size.{size_of}
-use Rattle.fm_segment.specs.Access.{DoesGetAt, DoesSetAt, place_of, writable_place_of, place_at_index, writable_place_at_index, if_tiling, Fits, IsAligned, GetCause, WriteCause, SetCause, IndexCause}
+use Rattle.fm_segment.specs.Access.{DoesGetAt, DoesSetAt, place_of, writable_place_of, place_at_index, writable_place_at_index, if_tiling, Fits, IsAligned, GetCause, SetCause, IndexCause}
 use Rattle.fm_segment.specs.Region.{Region}
 
 -- The causes of an access to the arena at the place that was found, or refused before.

@@ -1,5 +1,7 @@
 ghost use Rattle.std.specs.Prelude.{◌≤◌, ◌^◌};
 
+mod access;
+
 use crate::Segment;
 use fm_base::{ArenaId, Kind, Refusal};
 use fm_lanes::ValueKind;
