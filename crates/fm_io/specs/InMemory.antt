@@ -1,11 +1,14 @@
 -- What contracts see of the files and the sinks in memory.
-use Rattle.std.specs.Prelude.{ℕ, List}
+use Rattle.std.specs.Prelude.{ℕ, ◌↔◌, List, Bool, IsTrue, Result, IsErrOf}
 use Rattle.fm_io.specs.Files.{Contents, contents_of}
 use Rattle.fm_io.specs.declared.sure_files.SureFiles.{SureFiles}
 use Rattle.fm_io.specs.declared.mem_files.MemFiles.{MemFiles}
 use Rattle.fm_io.specs.declared.mem_sink.MemSink.{MemSink}
 use Rattle.fm_io.specs.declared.sure_sink.SureSink.{SureSink}
 use Rattle.fm_io.specs.declared.failing.Failing.{Failing}
+use Rattle.fm_io.specs.declared.fault.Fault.{Fault}
+use Rattle.fm_io.specs.declared.fault.Fault.TheVariants.{Failed}
+use Rattle.fm_io.specs.Failing.{CountsCall}
 
 abbrev pub sure_contents : SureFiles → Contents
 sure_contents f = contents_of f.files.items
@@ -40,3 +43,7 @@ sure_written s = s.written.items
 
 abbrev pub mem_written : MemSink → List ℕ
 mem_written s = s.written.items
+
+-- one more call was made, and it failed exactly where it is one of those listed
+abbrev pub FailsAsListed : {X : Type 0} → Failing → Failing → Result X Fault → Type 0
+FailsAsListed old new result = (b : Bool) × (IsTrue b ↔ IsErrOf result Failed) × CountsCall old new b

@@ -1,4 +1,4 @@
-ghost use Rattle.std.specs.Prelude.{◌≡◌, ◌≤◌, ◌<◌, ◌↔◌, [], Some, length, IfOk, IsErrOf, IsTrue, Bool};
+ghost use Rattle.std.specs.Prelude.{◌≡◌, ◌≤◌, ◌<◌, [], Some, length, IfOk};
 ghost use Rattle.fm_io.specs.Sink.{TookPiece};
 
 use crate::failing::Failing;
@@ -61,8 +61,8 @@ impl MemSink {
 }
 
 impl Sink for MemSink {
-    ghost use Rattle.fm_io.specs.Failing.{calls_failed, CountsCall};
-    ghost use Rattle.fm_io.specs.InMemory.{mem_written, mem_writes, write_limit};
+    ghost use Rattle.fm_io.specs.Failing.{calls_failed};
+    ghost use Rattle.fm_io.specs.InMemory.{FailsAsListed, mem_written, mem_writes, write_limit};
 
     ghost written = { λ s. Some (mem_written s) };
 
@@ -72,7 +72,7 @@ impl Sink for MemSink {
         requires { 0 < length piece.now }
 
         // It fails exactly where the call is one of those listed.
-        ensures fails { (b : Bool) × (IsTrue b ↔ IsErrOf result Fault.Failed) × CountsCall (mem_writes self.old) (mem_writes self.new) b }
+        ensures fails { FailsAsListed (mem_writes self.old) (mem_writes self.new) result }
         ensures bytes { IfOk result (λ n. (0 < n) × (n ≤ length piece.now)) }
         ensures most { IfOk result (λ n. n ≤ write_limit self.old) }
         ensures took { TookPiece (Some (mem_written self.old)) (Some (mem_written self.new)) piece.now result }
