@@ -1,2 +1,4 @@
 pub mod Access
 pub mod Causes
+pub mod Checking
+pub mod Comparing

@@ -1,4 +1,7 @@
 mod access;
+mod copy;
+mod fill;
+mod mismatch;
 mod overlap;
 mod slices;
 mod value;

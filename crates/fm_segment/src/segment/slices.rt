@@ -43,7 +43,7 @@ impl Segment {
     }
 
     /// Whether it has so many bytes from an offset on.
-    fn has(&self, offset: u64, size: u64) -> bool
+    pub(super) fn has(&self, offset: u64, size: u64) -> bool
         ensures { IsTrue result ↔ (offset + size ≤ self.now.size) }
     {
         offset <= self.size && size <= self.size - offset

@@ -1,0 +1,81 @@
+ghost use Rattle.std.specs.Prelude.{◌≡◌, None, IfErr};
+ghost use Rattle.fm_base.specs.Outcomes.{Lasts};
+ghost use Rattle.fm_base.specs.View.{Did};
+ghost use Rattle.fm_segment.specs.Access.{IsKnown};
+ghost use Rattle.fm_segment.specs.Copies.{CopyCause, DoesCopySegment, checked_copy};
+
+use super::Segment;
+use fm_base::{Memory, Refusal};
+use fm_copies::copy_range;
+use std::sync::Wait;
+
+impl Segment {
+    /// Copies all bytes of `src` to its start (`copyFrom`). Its other bytes stay.
+    ///
+    /// Refused, in this order: `ReadOnly`, `Bounds` where `src` is larger, `WrongThread`, `Closed`, as `copy` is.
+    pub fn copy_from<R: Wait, M: Memory>(
+        &self,
+        rt: &R,
+        m: &mut M,
+        src: &Segment,
+    ) -> Result<(), Refusal>
+        requires source_known { IsKnown (M.view m.old) src.now }
+        requires target_known { IsKnown (M.view m.old) self.now }
+        requires outside { (M.view m.old).inside ≡ None }
+        ensures did { Did (M.view m.old) (M.view m.new)
+            (DoesCopySegment src.now 0 self.now 0 src.now.size (M.view m.old).caller result) }
+        ensures refused { IfErr result
+            (CopyCause src.now 0 self.now 0 src.now.size (M.view m.old).caller) }
+        ensures outside { (M.view m.new).inside ≡ None }
+        ensures lasts { Lasts (M.view m.old) (M.view m.new) }
+        ensures source_known { IsKnown (M.view m.new) src.now }
+        ensures target_known { IsKnown (M.view m.new) self.now }
+    {
+        Segment::copy(rt, m, src, 0, self, 0, src.size())
+    }
+
+    /// Copies `n` bytes, from the offset `src_at` of `src` to the offset `dst_at` of `dst`. Other bytes stay.
+    ///
+    /// Refused, in this order: `ReadOnly`, `Bounds` where the bytes pass the end of either, `WrongThread` where either
+    /// arena is confined to another caller, `Closed`. A copy of 0 bytes enters no arena and is refused as `Bounds`
+    /// alone. Pieces are read and put one by one, each in visits of its own, those of the source before those of the
+    /// target; the lowest piece comes first, but inside one arena to a higher place the highest. Where an arena is
+    /// closed in between, the pieces before stay put.
+    pub fn copy<R: Wait, M: Memory>(
+        rt: &R,
+        m: &mut M,
+        src: &Segment,
+        src_at: u64,
+        dst: &Segment,
+        dst_at: u64,
+        n: u64,
+    ) -> Result<(), Refusal>
+        requires source_known { IsKnown (M.view m.old) src.now }
+        requires target_known { IsKnown (M.view m.old) dst.now }
+        requires outside { (M.view m.old).inside ≡ None }
+        ensures did { Did (M.view m.old) (M.view m.new)
+            (DoesCopySegment src.now src_at dst.now dst_at n (M.view m.old).caller result) }
+        ensures refused { IfErr result
+            (CopyCause src.now src_at dst.now dst_at n (M.view m.old).caller) }
+        ensures outside { (M.view m.new).inside ≡ None }
+        ensures lasts { Lasts (M.view m.old) (M.view m.new) }
+        ensures source_known { IsKnown (M.view m.new) src.now }
+        ensures target_known { IsKnown (M.view m.new) dst.now }
+    {
+        check_copy(src, src_at, dst, dst_at, n)?;
+        let from = src.part(src_at, n);
+        let to = dst.part(dst_at, n);
+        copy_range(rt, m, from.arena(), from.first(), to.arena(), to.first(), n)
+    }
+}
+
+/// What refuses a copy before an arena is entered, in this order: `ReadOnly`, `Bounds`.
+fn check_copy(src: &Segment, src_at: u64, dst: &Segment, dst_at: u64, n: u64) -> Result<(), Refusal>
+    ensures { result ≡ checked_copy src.now src_at dst.now dst_at n }
+{
+    dst.check_write(n)?;
+    if !(src.has(src_at, n) && dst.has(dst_at, n)) {
+        return Err(Refusal::Bounds);
+    }
+    Ok(())
+}

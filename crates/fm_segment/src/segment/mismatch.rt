@@ -1,0 +1,55 @@
+ghost use Rattle.std.specs.Prelude.{◌≡◌, ◌^◌, ◌<◌, ◌≤◌, None, IfErr};
+ghost use Rattle.std.specs.Option.{ForSome};
+ghost use Rattle.fm_base.specs.Outcomes.{Lasts};
+ghost use Rattle.fm_base.specs.View.{Did};
+ghost use Rattle.fm_segment.specs.Access.{IsKnown};
+ghost use Rattle.fm_segment.specs.Comparisons.{DoesMismatch, MismatchCause, mismatch_of};
+
+use super::Segment;
+use fm_base::{Memory, Refusal};
+use fm_copies::mismatch_range;
+
+impl Segment {
+    /// The offset of the first byte in which it differs from `other`. Where one has all bytes of the other, and then
+    /// more, it is the size of the smaller; where they are equal, -1.
+    ///
+    /// Refused, in this order: `WrongThread` where either arena is confined to another caller, `Closed`; where one has
+    /// 0 bytes, neither, and no arena is entered. Pieces are read one by one, the lowest first and each in visits of
+    /// its own, its own before those of `other`, and none after the first that differs.
+    pub fn mismatch<M: Memory>(&self, m: &mut M, other: &Segment) -> Result<i64, Refusal>
+        requires known { IsKnown (M.view m.old) self.now }
+        requires other_known { IsKnown (M.view m.old) other.now }
+        requires outside { (M.view m.old).inside ≡ None }
+        ensures did { Did (M.view m.old) (M.view m.new)
+            (DoesMismatch (M.view m.old).caller self.now other.now result) }
+        ensures refused { IfErr result (MismatchCause self.now other.now (M.view m.old).caller) }
+        ensures outside { (M.view m.new).inside ≡ None }
+        ensures lasts { Lasts (M.view m.old) (M.view m.new) }
+        ensures known { IsKnown (M.view m.new) self.now }
+        ensures other_known { IsKnown (M.view m.new) other.now }
+    {
+        let n = self.size().min(other.size());
+        let found = mismatch_range(
+            m,
+            self.arena(),
+            self.first(),
+            other.arena(),
+            other.first(),
+            n,
+        )?;
+        Ok(answer_of(self.size(), other.size(), found))
+    }
+}
+
+/// The answer for segments of these sizes, where `found` is the first byte that differs.
+fn answer_of(size: u64, other: u64, found: Option<u64>) -> i64
+    requires size { size ≤ 2 ^ 40 }
+    requires found { ForSome found (λ offset. offset < 2 ^ 40) }
+    ensures { result ≡ mismatch_of size other found }
+{
+    match found {
+        Some(offset) => offset as i64,
+        None if size == other => -1,
+        None => size.min(other) as i64,
+    }
+}

@@ -1,0 +1,97 @@
+ghost use Rattle.std.specs.Prelude.{◌≡◌, None};
+ghost use Rattle.fm_mono.specs.Shown.{view_of};
+ghost use Rattle.fm_segment.specs.Access.{IsKnown};
+
+use crate::Segment;
+use fm_base::{Kind, Memory, Refusal};
+use fm_lanes::{Value, ValueKind};
+use fm_layout::Layout;
+use fm_mono::Mono;
+use std::process::Abort;
+use std::sync::Wait;
+
+/// Two segments of 8 bytes, side by side in a fresh arena.
+fn two_of_eight<R: Abort + Wait>(rt: &R, m: &mut Mono) -> (Segment, Segment)
+    requires { m.old.inside ≡ None }
+    ensures outside { m.new.inside ≡ None }
+    ensures first { IsKnown (view_of m.new) result.0 }
+    ensures second { IsKnown (view_of m.new) result.1 }
+    ensures first_size { result.0.size ≡ 8 }
+{
+    let arena = m.open_arena(rt, Kind::Shared).expect(rt, "an arena");
+    let first = m.allocate(rt, arena, 16, 8).expect(rt, "bytes");
+    (
+        Segment::of(arena, first, 8),
+        Segment::of(arena, first + 8, 8),
+    )
+}
+
+#[test]
+fn segments_are_filled_copied_and_compared(rt: HostRuntime) {
+    let mut m = Mono::make(rt.alloc(), 64);
+    let (s, t) = two_of_eight(&rt, &mut m);
+    let u = s.part(0, 4);
+    assert_eq!(rt; s.fill(&rt, &mut m, 255), Ok(()));
+    assert_eq!(rt; s.mismatch(&mut m, &t), Ok(0));
+    assert_eq!(rt; t.copy_from(&rt, &mut m, &s), Ok(()));
+    assert_eq!(rt; s.mismatch(&mut m, &t), Ok(-1));
+    assert_eq!(rt; u.mismatch(&mut m, &s), Ok(4));
+    assert_eq!(rt; s.mismatch(&mut m, &u), Ok(4));
+    assert_eq!(rt; u.copy_from(&rt, &mut m, &s), Err(Refusal::Bounds));
+    assert_eq!(rt; (u.overlap(&s), s.overlap(&t)), (Some(u), None));
+}
+
+#[test]
+fn a_copy_to_its_own_next_place_reads_before_it_writes(rt: HostRuntime) {
+    let mut m = Mono::make(rt.alloc(), 64);
+    let (s, _) = two_of_eight(&rt, &mut m);
+    let long = Layout::value(ValueKind::Long);
+    let v = Value::Long(0x0000_0605_0403_0201);
+    assert_eq!(rt; s.set(&rt, &mut m, &long, 0, v), Ok(()));
+    assert_eq!(rt; Segment::copy(&rt, &mut m, &s, 0, &s, 1, 6), Ok(()));
+    assert_eq!(rt;
+        s.get(&mut m, &long, 0),
+        Ok(Value::Long(0x0006_0504_0302_0101))
+    );
+}
+
+#[test]
+fn ranges_are_refused_in_order(rt: HostRuntime) {
+    let mut m = Mono::make(rt.alloc(), 64);
+    let (s, t) = two_of_eight(&rt, &mut m);
+    let kept = s.as_read_only();
+    assert_eq!(rt; kept.fill(&rt, &mut m, 1), Err(Refusal::ReadOnly));
+    assert_eq!(rt; kept.copy_from(&rt, &mut m, &t), Err(Refusal::ReadOnly));
+    assert_eq!(rt;
+        Segment::copy(&rt, &mut m, &t, 9, &kept, 0, 1),
+        Err(Refusal::ReadOnly)
+    );
+    assert_eq!(rt;
+        Segment::copy(&rt, &mut m, &t, 1, &s, 0, 8),
+        Err(Refusal::Bounds)
+    );
+    assert_eq!(rt;
+        Segment::copy(&rt, &mut m, &t, 0, &s, u64::MAX, 8),
+        Err(Refusal::Bounds)
+    );
+    assert_eq!(rt; s.mismatch(&mut m, &t), Ok(-1));
+}
+
+#[test]
+fn ranges_of_a_closed_arena_are_refused(rt: HostRuntime) {
+    let mut m = Mono::make(rt.alloc(), 64);
+    let (s, t) = two_of_eight(&rt, &mut m);
+    let none = s.part(8, 0).as_read_only();
+    assert_eq!(rt; m.close(&rt, s.arena()), Ok(()));
+    assert_eq!(rt; s.fill(&rt, &mut m, 1), Err(Refusal::Closed));
+    assert_eq!(rt; s.copy_from(&rt, &mut m, &t), Err(Refusal::Closed));
+    assert_eq!(rt; s.mismatch(&mut m, &t), Err(Refusal::Closed));
+    assert_eq!(rt; none.fill(&rt, &mut m, 1), Ok(()));
+    assert_eq!(rt; none.copy_from(&rt, &mut m, &none), Ok(()));
+    assert_eq!(rt; none.mismatch(&mut m, &t), Ok(0));
+    assert_eq!(rt; none.mismatch(&mut m, &none), Ok(-1));
+    assert_eq!(rt;
+        Segment::copy(&rt, &mut m, &s, 9, &none, 0, 0),
+        Err(Refusal::Bounds)
+    );
+}
