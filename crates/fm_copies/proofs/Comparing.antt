@@ -3,7 +3,6 @@ use Rattle.std.proofs.Common.{◌≡◌, ℕ, ◌+◌, ◌-◌, ◌<◌, List, [
 use Rattle.std.proofs.lemmas.List.{append-nil}
 use Rattle.fm_base.specs.declared.refusal.Refusal.{Refusal}
 use Rattle.fm_base.specs.declared.refusal.Refusal.TheVariants.{Closed}
-use Rattle.fm_base.specs.Arenas.{MayUse}
 use Rattle.fm_base.specs.Calls.{Entry}
 use Rattle.fm_base.specs.View.{View, Makes, Did}
 use Rattle.fm_base.specs.Visits.{Run}
@@ -15,23 +14,13 @@ use Rattle.fm_copies.specs.declared.side.Piece.{Piece}
 use Rattle.fm_copies.specs.declared.side.Way.TheVariants.{Up}
 use Rattle.fm_copies.specs.Sides.{MayUseBoth, StopsAt, next_piece}
 use Rattle.fm_copies.specs.Comparisons.{IsDifference, ComparesPiece, DoesComparePiece, AgreesOn, EndsComparing, DoesCompare}
-use Rattle.fm_copies.proofs.Stopping.{Stopped, stopped_first, stopped_second}
+use Rattle.fm_copies.proofs.Stopping.{Stopped}
 
 -- ---- one piece
 
-not_compared : (x y : View) (a b : Side) (p : Piece) (r : Refusal) → Stopped x y a b p r → Did x y (DoesComparePiece x.caller a b p (Err r))
+-- A piece that was refused.
+pub not_compared : (x y : View) (a b : Side) (p : Piece) (r : Refusal) → Stopped x y a b p r → Did x y (DoesComparePiece x.caller a b p (Err r))
 not_compared x y a b p r s = rw s.closed (record { own = s.own; does = s.stops; makes = s.makes })
-
--- The first side was refused.
-pub first_refused : (x y : View) (a b : Side) (p : Piece) (r : Refusal) → MayUse a.arena x.caller
-    → Did x y (DoesGetPiece x.caller a.arena (a.at + p.offset) p.width (Err r)) → Did x y (DoesComparePiece x.caller a b p (Err r))
-first_refused x y a b p r may d = not_compared x y a b p r (stopped_first x y a b p r may d)
-
--- The second side was refused.
-pub second_refused : (x y z : View) (a b : Side) (p : Piece) (v : ℕ) (r : Refusal) → MayUse b.arena x.caller
-    → Did x y (DoesGetPiece x.caller a.arena (a.at + p.offset) p.width (Ok v))
-    → Did y z (DoesGetPiece y.caller b.arena (b.at + p.offset) p.width (Err r)) → Did x z (DoesComparePiece x.caller a b p (Err r))
-second_refused x y z a b p v r may d e = not_compared x z a b p r (stopped_second x y z a b p v r may d e)
 
 -- Both sides were read.
 pub compared : (x y z : View) (a b : Side) (p : Piece) (v w : ℕ) (found : Option ℕ)

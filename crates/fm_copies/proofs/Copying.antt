@@ -15,17 +15,13 @@ use Rattle.fm_copies.specs.declared.side.Piece.{Piece}
 use Rattle.fm_copies.specs.declared.side.Way.{Way}
 use Rattle.fm_copies.specs.Sides.{MayUseBoth, IsWay, StopsAt, next_piece}
 use Rattle.fm_copies.specs.Copies.{CopiesPiece, DoesCopyPiece, CopiesOn, EndsCopy, DoesCopy}
-use Rattle.fm_copies.proofs.Stopping.{Stopped, stopped_first, stopped_second}
+use Rattle.fm_copies.proofs.Stopping.{Stopped, stopped_second}
 
 -- ---- one piece
 
-not_copied : (x y : View) (a b : Side) (p : Piece) (r : Refusal) → Stopped x y a b p r → Did x y (DoesCopyPiece x.caller a b p (Err r))
+-- A piece that was refused.
+pub not_copied : (x y : View) (a b : Side) (p : Piece) (r : Refusal) → Stopped x y a b p r → Did x y (DoesCopyPiece x.caller a b p (Err r))
 not_copied x y a b p r s = rw s.closed (record { own = s.own; does = s.stops; makes = s.makes })
-
--- The source was refused.
-pub not_read : (x y : View) (a b : Side) (p : Piece) (width : ℕ) (r : Refusal) → MayUse a.arena x.caller
-    → Did x y (DoesGetPiece x.caller a.arena (a.at + p.offset) width (Err r)) → Did x y (DoesCopyPiece x.caller a b p (Err r))
-not_read x y a b p width r may d = not_copied x y a b p r (stopped_first x y a b p r may d)
 
 -- What was read is put, or the target was refused.
 pub put_then : (x y z : View) (a b : Side) (p : Piece) (v : ℕ) (result : Result (Unit {0}) Refusal) → MayUse b.arena x.caller

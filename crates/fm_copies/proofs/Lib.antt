@@ -2,3 +2,10 @@ pub mod Stopping
 pub mod Copying
 pub mod Differing
 pub mod Comparing
+pub mod Leaving
+pub mod Overlaps
+pub mod Differences
+pub mod Fitting
+pub mod Refusing
+pub mod ComparingAlone
+pub mod CopyingAlone

@@ -1,3 +1,4 @@
 pub mod Sides
 pub mod Copies
 pub mod Comparisons
+pub mod Alone

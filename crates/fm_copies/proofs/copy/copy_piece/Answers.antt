@@ -1,12 +1,14 @@
 use Rattle.std.proofs.lemmas.Result.{err_from_is_err_and}
-use Rattle.fm_copies.proofs.Copying.{not_read, put_then}
+use Rattle.fm_copies.proofs.Stopping.{stopped_first}
+use Rattle.fm_copies.proofs.Copying.{not_copied, put_then}
 use Rattle.fm_copies.proofs.copy.copy_piece.Goals as goal
 
 pub returns-in_err-v-clause-did : goal.returns-in_err-v-clause-did
 returns-in_err-v-clause-did g c =
     let v = g.M.Memory.view in
     let p = err_from_is_err_and c.from_residual.result c.from_residual.ensures.1 in
-    rw (p.1, p.2) (not_read (v c.args.m.now) (v c.get_piece.new.m) c.args.from c.args.to c.args.piece c.args.piece.width c.in_err-v.field-0.0 c.requires.may_use.0 c.in_err-v.ensures.did)
+    rw (p.1, p.2) (not_copied (v c.args.m.now) (v c.get_piece.new.m) c.args.from c.args.to c.args.piece c.in_err-v.field-0.0
+    (stopped_first (v c.args.m.now) (v c.get_piece.new.m) c.args.from c.args.to c.args.piece c.in_err-v.field-0.0 c.requires.may_use.0 c.in_err-v.ensures.did))
 
 pub returns-clause-did : goal.returns-clause-did
 returns-clause-did g c =

@@ -1,0 +1,231 @@
+-- What the only caller finds by a comparison.
+use Rattle.std.proofs.Common.{◌≡◌, ℕ, ◌+◌, ◌-◌, ◌≤◌, true, List, ◌++◌, length, take, drop, refl, sym, ap, subst, ◌∙◌, arith, Option, Some, None, Result, Ok, Err, IsOk}
+use Rattle.std.proofs.lemmas.List.{drop-drop}
+use Rattle.fm_base.specs.declared.refusal.Refusal.{Refusal}
+use Rattle.fm_base.specs.declared.refusal.Refusal.TheVariants.{Closed, WrongThread}
+use Rattle.fm_base.specs.Arenas.{State}
+use Rattle.fm_base.specs.Calls.{Entry}
+use Rattle.fm_base.specs.Histories.{IsLegal, state_after}
+use Rattle.fm_base.specs.View.{View, Did}
+use Rattle.fm_base.specs.Visits.{Run, ends, goes_on}
+use Rattle.fm_base.proofs.Faith.{Makes-alone}
+use Rattle.fm_base.proofs.Making.{IsLegal-split, state_after-append}
+use Rattle.fm_bytes.specs.Bytes.{bytes_of}
+use Rattle.fm_bytes.proofs.Bytes.{length-bytes_of}
+use Rattle.fm_bytes.proofs.Words.{take-add}
+use Rattle.fm_pieces.specs.Alone.{bytes_of_arena}
+use Rattle.fm_pieces.proofs.Visits.{visit_reads}
+use Rattle.fm_copies.specs.declared.side.Side.{Side}
+use Rattle.fm_copies.specs.declared.side.Piece.{Piece}
+use Rattle.fm_copies.specs.declared.side.Way.TheVariants.{Up}
+use Rattle.fm_copies.specs.Sides.{IsPieceAt, next_piece}
+use Rattle.fm_copies.specs.Comparisons.{IsDifference, ComparesPiece, AgreesOn, EndsComparing, DoesCompare}
+use Rattle.fm_copies.specs.Alone.{first_difference, FindsDifference, CanUseBoth}
+use Rattle.fm_copies.proofs.Differences.{later, later-none, later-later, first_difference-append, differs_at}
+use Rattle.fm_copies.proofs.Fitting.{next_piece_fits}
+use Rattle.fm_copies.proofs.Leaving.{read_leaves}
+use Rattle.fm_copies.proofs.Refusing.{AreAlive, never_stops, stopped_leaves}
+
+-- the bytes of the side from this offset on
+abbrev bytes_from : State → Side → ℕ → List ℕ
+bytes_from s a offset = drop (a.at + offset) (bytes_of_arena s a.arena)
+
+-- ---- one piece
+
+-- a piece that was compared: both numbers are of the bytes that stand there, and the state stays
+record IsCompared (s t : State) (a b : Side) (p : Piece) (found : Option ℕ) : Type 0 where
+  pub v : ℕ
+  pub w : ℕ
+  pub first : bytes_of p.width v ≡ take p.width (bytes_from s a p.offset)
+  pub second : bytes_of p.width w ≡ take p.width (bytes_from s b p.offset)
+  pub answer : IsDifference p.width v w found
+  pub same : t ≡ s
+
+piece_compared : (limit c : ℕ) (s : State) (a b : Side) (p : Piece) (found : Option ℕ) (own : List Entry) → ComparesPiece c a b p found own → IsPieceAt a b p
+    → IsLegal limit s own → IsCompared s (state_after limit s own) a b p found
+piece_compared limit c s a b p found own q fits legal =
+    let at_a = a.at + p.offset in
+    let at_b = b.at + p.offset in
+    let here = subst (λ (es : List Entry). IsLegal limit s es) q.visits legal in
+    let parts = IsLegal-split limit s q.first q.second here in
+    let still = read_leaves limit c s a.arena at_a p.width q.v q.first q.reads_first parts.0 in
+    let legal_second = subst (λ (t : State). IsLegal limit t q.second) still parts.1 in
+    record {
+      v = q.v;
+      w = q.w;
+      first = (visit_reads limit c s a.arena at_a p.width q.v q.first q.reads_first fits.within_source parts.0).value;
+      second = (visit_reads limit c s b.arena at_b p.width q.w q.second q.reads_second fits.within_target legal_second).value;
+      answer = q.answer;
+      same = ap (λ (es : List Entry). state_after limit s es) q.visits
+          ∙ state_after-append limit s q.first q.second
+          ∙ ap (λ (t : State). state_after limit t q.second) still
+          ∙ read_leaves limit c s b.arena at_b p.width q.w q.second q.reads_second legal_second;
+    }
+
+-- ---- all pieces
+
+-- the first difference of the last `left` of `count` bytes, as an offset among all
+abbrev difference_from : State → Side → Side → ℕ → ℕ → Option ℕ
+difference_from s a b offset left = later offset (first_difference (take left (bytes_from s a offset)) (take left (bytes_from s b offset)))
+
+abbrev Answers : State → Side → Side → ℕ → ℕ → Option (Option ℕ) → Type 0
+Answers s a b count left (Some found) = found ≡ difference_from s a b (count - left) left
+Answers s a b count left None = Unit {0}
+
+-- what a comparison of the last `left` bytes tells, and that it leaves the state
+record RunCompares (s t : State) (a b : Side) (count left : ℕ) (answer : Option (Option ℕ)) : Type 0 where
+  pub answers : Answers s a b count left answer
+  pub same : t ≡ s
+
+-- The first bytes, and those behind them.
+take_two : (xs bytes : List ℕ) (width left : ℕ) → width ≤ left → bytes ≡ take width xs → take left xs ≡ bytes ++ take (left - width) (drop width xs)
+take_two xs bytes width left h e =
+    let sum : width + (left - width) ≡ left = omega arith in
+    sym (ap (λ n. take n xs) sum) ∙ take-add width (left - width) xs ∙ ap (λ bs. bs ++ take (left - width) (drop width xs)) (sym e)
+
+-- A piece that differs holds the first difference.
+differs_next : (s : State) (a b : Side) (offset left width v w at : ℕ) → width ≤ left
+    → bytes_of width v ≡ take width (bytes_from s a offset) → bytes_of width w ≡ take width (bytes_from s b offset) → IsDifference width v w (Some at)
+    → difference_from s a b offset left ≡ Some (offset + at)
+differs_next s a b offset left width v w at h first second d =
+    let xs = bytes_from s a offset in
+    let ys = bytes_from s b offset in
+    let p = take (left - width) (drop width xs) in
+    let q = take (left - width) (drop width ys) in
+    ap (λ bs. later offset (first_difference bs (take left ys))) (take_two xs (bytes_of width v) width left h first)
+    ∙ ap (λ bs. later offset (first_difference (bytes_of width v ++ p) bs)) (take_two ys (bytes_of width w) width left h second)
+    ∙ ap (later offset) (differs_at width v w at p q d)
+
+-- A piece that agrees leaves the first difference to the bytes behind it.
+agrees_next : (s : State) (a b : Side) (offset left width v next : ℕ) → width ≤ left → offset + width ≡ next
+    → bytes_of width v ≡ take width (bytes_from s a offset) → bytes_of width v ≡ take width (bytes_from s b offset)
+    → difference_from s a b offset left ≡ difference_from s a b next (left - width)
+agrees_next s a b offset left width v next h e first second =
+    let xs = bytes_from s a offset in
+    let ys = bytes_from s b offset in
+    let rest = left - width in
+    let p = bytes_of width v in
+    let past : (side : Side) → drop width (bytes_from s side offset) ≡ bytes_from s side next =
+    λ side. drop-drop width (side.at + offset) (bytes_of_arena s side.arena)
+    ∙ ap (λ n. drop n (bytes_of_arena s side.arena)) (let d : side.at + offset + width ≡ side.at + next = omega arith in d) in
+    let sum : offset + length (bytes_of width v) ≡ next = omega (arith, length-bytes_of width v) in
+    ap (λ bs. later offset (first_difference bs (take left ys))) (take_two xs p width left h first)
+    ∙ ap (λ bs. later offset (first_difference (p ++ take rest (drop width xs)) bs)) (take_two ys p width left h second)
+    ∙ ap (later offset) (first_difference-append p (take rest (drop width xs)) (take rest (drop width ys)))
+    ∙ later-later offset (length p) next (first_difference (take rest (drop width xs)) (take rest (drop width ys))) sum
+    ∙ ap (λ bs. later next (first_difference (take rest bs) (take rest (drop width ys)))) (past a)
+    ∙ ap (λ bs. later next (first_difference (take rest (bytes_from s a next)) (take rest bs))) (past b)
+
+-- The end of a comparison.
+compare_ends : (limit c : ℕ) (a b : Side) (count : ℕ) (s : State) (left : ℕ) (own : List Entry) (answer : Option (Option ℕ)) → left ≤ count
+    → EndsComparing c a b count left own answer → IsLegal limit s own → RunCompares s (state_after limit s own) a b count left answer
+compare_ends limit c a b count s left own None h e legal = record {
+  answers = tt;
+  same = stopped_leaves limit c s a b (next_piece Up a b count left) own e.1 legal;
+}
+compare_ends limit c a b count s left own (Some None) h e legal = record {
+  answers = sym (ap (λ n. later (count - left) (first_difference (take n (bytes_from s a (count - left))) (take n (bytes_from s b (count - left))))) e.0);
+  same = ap (λ (es : List Entry). state_after limit s es) e.1;
+}
+compare_ends limit c a b count s left own (Some (Some offset)) h e legal =
+    let p = next_piece Up a b count left in
+    let fits = next_piece_fits Up a b count left e.more h in
+    let q = piece_compared limit c s a b p (Some e.at) own e.piece fits.at legal in
+    record {
+      answers = ap (λ n. Some n) e.offset_is ∙ sym (differs_next s a b (count - left) left p.width q.v q.w e.at fits.room q.first q.second q.answer);
+      same = q.same;
+    }
+
+-- A piece that agrees, and the rest.
+answers_on : (s : State) (a b : Side) (count left next width v : ℕ) (answer : Option (Option ℕ)) → width ≤ left → left ≤ count → next ≡ left - width
+    → bytes_of width v ≡ take width (bytes_from s a (count - left)) → bytes_of width v ≡ take width (bytes_from s b (count - left))
+    → Answers s a b count next answer → Answers s a b count left answer
+answers_on s a b count left next width v None h k e first second more = tt
+answers_on s a b count left next width v (Some found) h k e first second more =
+    let sum : count - left + width ≡ count - next = omega arith in
+    more
+    ∙ ap (λ n. difference_from s a b (count - next) n) e
+    ∙ sym (agrees_next s a b (count - left) left width v (count - next) h sum first second)
+
+-- A comparison finds the first difference, and leaves the state.
+compare_run : (limit c : ℕ) (a b : Side) (count : ℕ) (s : State) (left : ℕ) (own : List Entry) (answer : Option (Option ℕ)) → left ≤ count
+    → Run (AgreesOn c a b count) (EndsComparing c a b count) left own answer → IsLegal limit s own → RunCompares s (state_after limit s own) a b count left answer
+compare_run limit c a b count s left own answer h (ends e) legal = compare_ends limit c a b count s left own answer h e legal
+compare_run limit c a b count s left own answer h (goes_on next one rest step run) legal =
+    let p = next_piece Up a b count left in
+    let fits = next_piece_fits Up a b count left step.more h in
+    let parts = IsLegal-split limit s one rest legal in
+    let q = piece_compared limit c s a b p None one step.piece fits.at parts.0 in
+    let legal_rest = subst (λ (t : State). IsLegal limit t rest) q.same parts.1 in
+    let below : next ≤ count = (let e = step.then in omega arith) in
+    let more = compare_run limit c a b count s next rest answer below run legal_rest in
+    let second : bytes_of p.width q.v ≡ take p.width (bytes_from s b p.offset) = ap (bytes_of p.width) q.answer ∙ q.second in
+    record {
+      answers = answers_on s a b count left next p.width q.v answer fits.room h step.then q.first second more.answers;
+      same = state_after-append limit s one rest ∙ ap (λ (t : State). state_after limit t rest) q.same ∙ more.same;
+    }
+
+-- ---- the call
+
+compare_finds : (old new : View) (a b : Side) (count : ℕ) (found : Option ℕ) → old.alone ≡ true → Did old new (DoesCompare old.caller a b count (Ok found))
+    → FindsDifference old new a b count (Ok found)
+compare_finds old new a b count found alone d =
+    let m = Makes-alone old new d.own alone d.makes in
+    let all = compare_run old.limit old.caller a b count old.state count d.own (Some found) (let e : count ≤ count = omega arith in e) d.does.visits m.0 in
+    let none : count - count ≡ 0 = omega arith in
+    let from : (x : Side) → bytes_from old.state x (count - count) ≡ drop x.at (bytes_of_arena old.state x.arena) =
+    λ x. ap (λ n. drop n (bytes_of_arena old.state x.arena)) (let e : x.at + (count - count) ≡ x.at = omega arith in e) in
+    record {
+      first = all.answers
+          ∙ later-none (count - count) (first_difference (take count (bytes_from old.state a (count - count))) (take count (bytes_from old.state b (count - count)))) none
+          ∙ ap (λ bs. first_difference (take count bs) (take count (bytes_from old.state b (count - count)))) (from a)
+          ∙ ap (λ bs. first_difference (take count (drop a.at (bytes_of_arena old.state a.arena))) (take count bs)) (from b);
+      same = m.1 ∙ all.same;
+    }
+
+-- A comparison by the only caller.
+pub compare_alone : (old new : View) (a b : Side) (count : ℕ) (result : Result (Option ℕ) Refusal) → Did old new (DoesCompare old.caller a b count result)
+    → old.alone ≡ true → FindsDifference old new a b count result
+compare_alone old new a b count (Ok found) d alone = compare_finds old new a b count found alone d
+compare_alone old new a b count (Err WrongThread) d alone =
+    let m = Makes-alone old new d.own alone d.makes in
+    record { first = tt; same = m.1 ∙ ap (λ (es : List Entry). state_after old.limit old.state es) d.does.1 }
+compare_alone old new a b count (Err Closed) d alone =
+    let m = Makes-alone old new d.own alone d.makes in
+    let all = compare_run old.limit old.caller a b count old.state count d.own None (let e : count ≤ count = omega arith in e) d.does.visits m.0 in
+    record { first = tt; same = m.1 ∙ all.same }
+compare_alone old new a b count (Err r) d alone = absurd d.does
+
+-- ---- where both arenas can be used
+
+abbrev IsAnswered : Option (Option ℕ) → Type 0
+IsAnswered (Some found) = Unit {0}
+IsAnswered None = ⊥
+
+-- The end of a comparison of arenas that are alive is an answer.
+ends_answered : (limit c : ℕ) (a b : Side) (count : ℕ) (s : State) (left : ℕ) (own : List Entry) (answer : Option (Option ℕ)) → EndsComparing c a b count left own answer
+    → IsLegal limit s own → AreAlive s a b → IsAnswered answer
+ends_answered limit c a b count s left own (Some found) e legal alive = tt
+ends_answered limit c a b count s left own None e legal alive = never_stops limit c s a b (next_piece Up a b count left) own e.1 alive legal
+
+-- A comparison of arenas that are alive ends with an answer.
+compare_answers : (limit c : ℕ) (a b : Side) (count : ℕ) (s : State) (left : ℕ) (own : List Entry) (answer : Option (Option ℕ)) → left ≤ count
+    → Run (AgreesOn c a b count) (EndsComparing c a b count) left own answer → IsLegal limit s own → AreAlive s a b → IsAnswered answer
+compare_answers limit c a b count s left own answer h (ends e) legal alive = ends_answered limit c a b count s left own answer e legal alive
+compare_answers limit c a b count s left own answer h (goes_on next one rest step run) legal alive =
+    let fits = next_piece_fits Up a b count left step.more h in
+    let parts = IsLegal-split limit s one rest legal in
+    let q = piece_compared limit c s a b (next_piece Up a b count left) None one step.piece fits.at parts.0 in
+    let below : next ≤ count = (let e = step.then in omega arith) in
+    compare_answers limit c a b count s next rest answer below run (subst (λ (t : State). IsLegal limit t rest) q.same parts.1) alive
+
+-- A comparison of two arenas that the only caller can use isn't refused.
+pub compare_open : (old new : View) (a b : Side) (count : ℕ) (result : Result (Option ℕ) Refusal) → Did old new (DoesCompare old.caller a b count result)
+    → CanUseBoth old a b → IsOk result
+compare_open old new a b count (Ok found) d can = refl
+compare_open old new a b count (Err WrongThread) d can = absurd (d.does.0.1 can.may_use)
+compare_open old new a b count (Err Closed) d can =
+    let m = Makes-alone old new d.own can.alone d.makes in
+    let alive : AreAlive old.state a b = record { first = can.first_alive; second = can.second_alive } in
+    absurd (compare_answers old.limit old.caller a b count old.state count d.own None (let e : count ≤ count = omega arith in e) d.does.visits m.0 alive)
+compare_open old new a b count (Err r) d can = absurd d.does
