@@ -53,6 +53,15 @@ found_within xs from width h e =
     let d = length-drop from xs in
     omega arith
 
+-- Bytes of a piece and those behind it are all found.
+all_found : (xs : List ℕ) (from width next left : ℕ) → width + next ≡ left → from + width ≤ length xs → length (take next (drop (from + width) xs)) ≡ next
+    → length (take left (drop from xs)) ≡ left
+all_found xs from width next left sum room rest =
+    let t = length-take next (drop (from + width) xs) in
+    let d = length-drop (from + width) xs in
+    let e = length-drop from xs in
+    length-take-le left (drop from xs) (omega arith)
+
 piece_put : (limit c : ℕ) (s : State) (a b : Side) (p : Piece) (own : List Entry) (q : CopiesPiece c a b p own) → IsPieceAt a b p
     → IsLegal limit s q.reading → IsLegal limit s q.putting → IsCopied s (state_after limit s q.putting) a b p
 piece_put limit c s a b p own q fits legal_read legal_put =
@@ -138,16 +147,24 @@ stays_below s t a b p down q =
 
 -- ---- all pieces
 
+-- all of so many bytes were put
+record Puts (s t : State) (id : ArenaId) (place : ℕ) (bytes : List ℕ) (count : ℕ) : Type 0 where
+  pub all : length bytes ≡ count
+  pub replaces : Replaces s t id place bytes
+
 -- what a copy of the last or the first `left` bytes leaves
 abbrev Leaves : Way → State → State → Side → Side → ℕ → ℕ → Type 0
-Leaves Up s t a b count left = Replaces s t b.arena (b.at + (count - left)) (take left (drop (a.at + (count - left)) (bytes_of_arena s a.arena)))
-Leaves Down s t a b count left = Replaces s t b.arena b.at (take left (drop a.at (bytes_of_arena s a.arena)))
+Leaves Up s t a b count left = Puts s t b.arena (b.at + (count - left)) (take left (drop (a.at + (count - left)) (bytes_of_arena s a.arena))) left
+Leaves Down s t a b count left = Puts s t b.arena b.at (take left (drop a.at (bytes_of_arena s a.arena))) left
 
 -- Nothing more is put.
-leaves_none : (s : State) (a b : Side) (place from left : ℕ) → left ≡ 0 → Replaces s s b.arena place (take left (drop from (bytes_of_arena s a.arena)))
+leaves_none : (s : State) (a b : Side) (place from left : ℕ) → left ≡ 0 → Puts s s b.arena place (take left (drop from (bytes_of_arena s a.arena))) left
 leaves_none s a b place from left e = record {
-  changed = sym (ap (λ n. with_bytes (bytes_of_arena s b.arena) place (take n (drop from (bytes_of_arena s a.arena)))) e ∙ with_none (bytes_of_arena s b.arena) place);
-  others = λ other n. refl;
+  all = ap (λ n. length (take n (drop from (bytes_of_arena s a.arena)))) e ∙ sym e;
+  replaces = record {
+    changed = sym (ap (λ n. with_bytes (bytes_of_arena s b.arena) place (take n (drop from (bytes_of_arena s a.arena)))) e ∙ with_none (bytes_of_arena s b.arena) place);
+    others = λ other n. refl;
+  };
 }
 
 leaves_end : (way : Way) (s : State) (a b : Side) (count left : ℕ) → left ≡ 0 → Leaves way s s a b count left
@@ -168,14 +185,20 @@ leaves_on Up s t u a b count left next way some h e q more =
     let e_from : a.at + (count - next) ≡ a.at + (count - left) + w = omega arith in
     let sum : w + next ≡ left = omega arith in
     let last : bytes_of_arena u b.arena ≡ with_bytes (bytes_of_arena t b.arena) (b.at + (count - left) + w) (take next (drop (a.at + (count - left) + w) (bytes_of_arena t a.arena))) =
-    more.changed
+    more.replaces.changed
     ∙ ap (λ n. with_bytes (bytes_of_arena t b.arena) n (take next (drop (a.at + (count - next)) (bytes_of_arena t a.arena)))) e_to
     ∙ ap (λ n. with_bytes (bytes_of_arena t b.arena) (to + w) (take next (drop n (bytes_of_arena t a.arena)))) e_from in
+    let behind = stays_behind s t a b (next_piece Up a b count left) way q in
+    let rest : length (take next (drop (a.at + (count - left) + w) (bytes_of_arena s a.arena))) ≡ next =
+    ap (λ bs. length (take next bs)) (sym behind) ∙ ap (λ n. length (take next (drop n (bytes_of_arena t a.arena)))) (sym e_from) ∙ more.all in
     let all = copied_up S (bytes_of_arena t a.arena) (bytes_of_arena s b.arena) (bytes_of_arena t b.arena) (bytes_of_arena u b.arena) from to w next
-    q.within q.count q.replaces.changed (stays_behind s t a b (next_piece Up a b count left) way q) last in
+    q.within q.count q.replaces.changed behind last in
     record {
-      changed = all ∙ ap (λ n. with_bytes (bytes_of_arena s b.arena) to (take n (drop from S))) sum;
-      others = λ other n. more.others other n ∙ q.replaces.others other n;
+      all = all_found S from w next left sum q.room rest;
+      replaces = record {
+        changed = all ∙ ap (λ n. with_bytes (bytes_of_arena s b.arena) to (take n (drop from S))) sum;
+        others = λ other n. more.replaces.others other n ∙ q.replaces.others other n;
+      };
     }
 leaves_on Down s t u a b count left next way some h e q more =
     let w = last_width a.at b.at left in
@@ -190,10 +213,14 @@ leaves_on Down s t u a b count left next way some h e q more =
     let within : b.at + next ≤ length (bytes_of_arena s b.arena) = (let k = q.within in omega arith) in
     let source : next ≤ length (drop a.at (bytes_of_arena s a.arena)) = (let k = q.room in omega (arith, length-drop a.at (bytes_of_arena s a.arena))) in
     let all = copied_down S (bytes_of_arena t a.arena) (bytes_of_arena s b.arena) (bytes_of_arena t b.arena) (bytes_of_arena u b.arena) a.at b.at w next
-    within (length-take-le next (drop a.at S) source) first stays more.changed in
+    within (length-take-le next (drop a.at S) source) first stays more.replaces.changed in
+    let whole : left ≤ length (drop a.at (bytes_of_arena s a.arena)) = (let k = q.room in omega (arith, length-drop a.at (bytes_of_arena s a.arena))) in
     record {
-      changed = all ∙ ap (λ n. with_bytes (bytes_of_arena s b.arena) b.at (take n (drop a.at S))) sum;
-      others = λ other n. more.others other n ∙ q.replaces.others other n;
+      all = length-take-le left (drop a.at S) whole;
+      replaces = record {
+        changed = all ∙ ap (λ n. with_bytes (bytes_of_arena s b.arena) b.at (take n (drop a.at S))) sum;
+        others = λ other n. more.replaces.others other n ∙ q.replaces.others other n;
+      };
     }
 
 abbrev IfWhole : Bool → Type 0 → Type 0
@@ -274,17 +301,15 @@ copy_refused limit c a b count way s left own whole h (goes_on next one rest ste
 
 -- ---- the call
 
-all_leaves : (way : Way) (s t : State) (a b : Side) (count : ℕ) → Leaves way s t a b count count → Replaces s t b.arena b.at (take count (drop a.at (bytes_of_arena s a.arena)))
+-- What a copy of all bytes leaves.
+all_leaves : (way : Way) (s t : State) (a b : Side) (count : ℕ) → Leaves way s t a b count count
+    → Puts s t b.arena b.at (take count (drop a.at (bytes_of_arena s a.arena))) count
 all_leaves Down s t a b count l = l
 all_leaves Up s t a b count l =
     let from : a.at + (count - count) ≡ a.at = omega arith in
     let to : b.at + (count - count) ≡ b.at = omega arith in
-    record {
-      changed = l.changed
-          ∙ ap (λ n. with_bytes (bytes_of_arena s b.arena) n (take count (drop (a.at + (count - count)) (bytes_of_arena s a.arena)))) to
-          ∙ ap (λ n. with_bytes (bytes_of_arena s b.arena) b.at (take count (drop n (bytes_of_arena s a.arena)))) from;
-      others = l.others;
-    }
+    let P : ℕ → ℕ → Type 0 = λ m n. Puts s t b.arena n (take count (drop m (bytes_of_arena s a.arena))) count in
+    subst (P a.at) to (subst (λ (m : ℕ). P m (b.at + (count - count))) from l)
 
 -- A copy by the only caller.
 pub copy_alone : (old new : View) (a b : Side) (count : ℕ) (result : Result (Unit {0}) Refusal) → Did old new (DoesCopy old.caller a b count result)
@@ -295,8 +320,11 @@ copy_alone old new a b count (Ok u) d alone =
     let run = copy_run old.limit old.caller a b count way d.does.is_way old.state count d.own true (let e : count ≤ count = omega arith in e) d.does.visits m.0 in
     let all = all_leaves way old.state (state_after old.limit old.state d.own) a b count run in
     record {
-      changed = ap (λ (t : State). bytes_of_arena t b.arena) m.1 ∙ all.changed;
-      others = λ other n. ap (λ (t : State). bytes_of_arena t other) m.1 ∙ all.others other n;
+      all = all.all;
+      bytes = record {
+        changed = ap (λ (t : State). bytes_of_arena t b.arena) m.1 ∙ all.replaces.changed;
+        others = λ other n. ap (λ (t : State). bytes_of_arena t other) m.1 ∙ all.replaces.others other n;
+      };
     }
 copy_alone old new a b count (Err WrongThread) d alone =
     (Makes-alone old new d.own alone d.makes).1 ∙ ap (λ (es : List Entry). state_after old.limit old.state es) d.does.1

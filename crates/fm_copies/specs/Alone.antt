@@ -1,5 +1,5 @@
 -- What the only caller of a memory sees of two ranges of bytes.
-use Rattle.std.specs.Prelude.{◌≡◌, ℕ, ◌==◌, if◌then◌else◌, true, List, [], ◌∷◌, take, drop, Option, Some, None, Result, Ok, Err, IfOk}
+use Rattle.std.specs.Prelude.{◌≡◌, ℕ, ◌==◌, if◌then◌else◌, true, List, [], ◌∷◌, length, take, drop, Option, Some, None, Result, Ok, Err, IfOk}
 use Rattle.std.specs.Option.{option_map}
 use Rattle.std.proofs.Common.{suc}
 use Rattle.fm_base.specs.declared.refusal.Refusal.{Refusal}
@@ -13,20 +13,25 @@ use Rattle.fm_copies.specs.Sides.{MayUseBoth}
 abbrev pub bytes_at : State → Side → ℕ → List ℕ
 bytes_at s a count = take count (drop a.at (bytes_of_arena s a.arena))
 
--- the index of the first byte that differs, or None where all agree
+-- the index of the first byte that differs; None where the lists are one
 abbrev pub first_difference : List ℕ → List ℕ → Option ℕ
-first_difference [] ys = None
-first_difference (x ∷ xs) [] = None
+first_difference [] [] = None
 first_difference (x ∷ xs) (y ∷ ys) = if x == y then option_map suc (first_difference xs ys) else Some 0
+first_difference xs ys = Some 0
 
 -- the answer is the first offset at which `count` bytes of both sides differ, and the state stays
 pub record FindsDifference (old new : View) (a b : Side) (count : ℕ) (result : Result (Option ℕ) Refusal) : Type 0 where
   pub first : IfOk result (λ found. found ≡ first_difference (bytes_at old.state a count) (bytes_at old.state b count))
   pub same : new.state ≡ old.state
 
--- the bytes of b become those that a had; a refused copy leaves the state
+-- the bytes of b become the `count` bytes that a had; other bytes stay
+pub record TakesBytes (old new : View) (a b : Side) (count : ℕ) : Type 0 where
+  pub all : length (bytes_at old.state a count) ≡ count
+  pub bytes : ChangesBytes old new b.arena b.at (bytes_at old.state a count)
+
+-- a copy takes all bytes, or it is refused and leaves the state
 abbrev pub CopiesBytes : View → View → Side → Side → ℕ → Result (Unit {0}) Refusal → Type 0
-CopiesBytes old new a b count (Ok u) = ChangesBytes old new b.arena b.at (bytes_at old.state a count)
+CopiesBytes old new a b count (Ok u) = TakesBytes old new a b count
 CopiesBytes old new a b count (Err r) = new.state ≡ old.state
 
 -- no other caller exists, both arenas are alive, and the caller may use them
