@@ -1,5 +1,6 @@
 -- A range that is filled with one byte.
 use Rattle.std.proofs.Common.{◌≡◌, ℕ, ◌+◌, ◌-◌, ◌*◌, ◌<◌, ◌≤◌, ◌==◌, Bool, true, false, MatchBool, List, [], length, take, drop, replicate, refl, sym, ap, subst, ◌∙◌, arith, Result, Ok, Err}
+use Rattle.std.specs.Prelude.{OnErr}
 use Rattle.std.proofs.lemmas.Bool.Decides.{nat_tests}
 use Rattle.std.proofs.lemmas.List.{take-replicate, drop-replicate, length-replicate}
 use Rattle.std.proofs.lemmas.List.Elements.{All-replicate}
@@ -10,11 +11,12 @@ use Rattle.fm_base.specs.View.{View, Did}
 use Rattle.fm_base.proofs.Making.{Makes-none}
 use Rattle.fm_bytes.specs.Bytes.{AreBytes, bytes_of, number_of, lane}
 use Rattle.fm_bytes.proofs.Bytes.{bytes_of-number_of, lane-number_of}
-use Rattle.fm_pieces.specs.Alone.{ChangesBytes, bytes_of_arena, with_bytes}
+use Rattle.fm_base.specs.Arenas.{has_arena}
+use Rattle.fm_pieces.specs.Alone.{ChangesBytes, StaysOut}
+use Rattle.fm_pieces.proofs.Alone.{put_none, put_shut}
 use Rattle.fm_pieces.specs.Pieces.{DoesPutPiece}
 use Rattle.fm_pieces.specs.Ranges.{DoesPut, DoesFill}
 use Rattle.fm_pieces.proofs.Putting.{GoingPut, put_stops, put_done}
-use Rattle.fm_pieces.proofs.Splicing.{with_none}
 
 -- Copies of a byte are bytes.
 pub AreBytes-replicate : (n byte : ℕ) → byte < 256 → AreBytes (replicate n byte)
@@ -65,11 +67,16 @@ no_fill old id place size byte none =
     record { own = []; does = subst P (sym e) both; makes = Makes-none old }
 
 -- A fill of no bytes changes none.
-pub none_alone : (old : View) (id : ArenaId) (place size byte : ℕ) → size ≡ 0 → ChangesBytes old old id place (replicate size byte)
-none_alone old id place size byte none = record {
-  changed = sym (ap (λ n. with_bytes (bytes_of_arena old.state id) place (replicate n byte)) none ∙ with_none (bytes_of_arena old.state id) place);
-  others = λ other n. refl;
-}
+pub none_alone : (old : View) (id : ArenaId) (place size byte : ℕ) → size ≡ 0 → has_arena old.state id ≡ true → ChangesBytes old old id place (replicate size byte)
+none_alone old id place size byte none known = put_none old id place (replicate size byte) (ap (λ n. replicate n byte) none) known
+
+-- A fill that is refused is a put that is refused.
+pub fill_shut : (old now : View) (id : ArenaId) (place size byte : ℕ) (result : Result (Unit {0}) Refusal) → 0 < size → byte < 256
+    → Did old now (DoesFill old.caller id place size byte result) → old.alone ≡ true → OnErr result (StaysOut old now id)
+fill_shut old now id place size byte result some small d alone =
+    let e : (size == 0) ≡ false = grind (arith, nat_tests) in
+    let P : Bool → Type 0 = λ b. MatchBool b ((result ≡ Ok tt) × (d.own ≡ [])) (DoesPut old.caller id place (replicate size byte) result d.own) in
+    put_shut old now id place (replicate size byte) result (AreBytes-replicate size byte small) (record { own = d.own; does = subst P e d.does; makes = d.makes }) alone
 
 -- All is filled.
 pub fill_done : (old now : View) (id : ArenaId) (place size byte at : ℕ) (own : List Entry)

@@ -1,45 +1,65 @@
 -- What one visit of the only caller does to the bytes of an arena.
-use Rattle.std.proofs.Common.{◌≡◌, ◌≢◌, ℕ, ◌+◌, ◌*◌, ◌/◌, ◌%◌, ◌^◌, ◌<◌, ◌≤◌, ◌==◌, Bool, true, false, if◌then◌else◌, List, [], ◌∷◌, ◌++◌, length, take, drop, slice_index, slice_set, refl, sym, ap, subst, ◌∙◌, arith}
+use Rattle.std.proofs.Common.{◌≡◌, ℕ, ◌+◌, ◌*◌, ◌/◌, ◌%◌, ◌^◌, ◌<◌, ◌≤◌, ◌==◌, suc, Bool, true, false, cond, if◌then◌else◌, List, [], ◌∷◌, ◌++◌, length, take, drop, slice_index, slice_set, refl, sym, ap, subst, ◌∙◌, arith}
+use Rattle.std.specs.Prelude.{Contains, filter, not}
 use Rattle.std.proofs.lemmas.Bool.Decides.{nat_tests}
 use Rattle.fm_base.specs.declared.arena_id.ArenaId.{ArenaId}
-use Rattle.fm_base.specs.Arenas.{State, Arena, arena_of, has_arena, changed, word_in, same_id}
-use Rattle.fm_base.specs.Calls.{Read, Leave, Fine, Found, Entry, entry_of}
-use Rattle.fm_base.specs.Machine.{entered, left, written}
+use Rattle.fm_base.specs.Arenas.{Life, Alive, Closing, Ended, State, Arena, arena_of, has_arena, changed, word_in}
+use Rattle.fm_base.specs.Calls.{Read, Leave, Fine, Found, Closed, Entry, entry_of}
+use Rattle.fm_base.specs.Machine.{entered, left, written, enter_reply}
 use Rattle.fm_base.specs.Histories.{IsLegal, state_after}
-use Rattle.fm_base.specs.Visits.{Acts, entries_of, visit, Tries, looked, missed, hit}
-use Rattle.fm_base.proofs.Lookup.{KeepsName, changed_lookup, lookup_changed}
+use Rattle.fm_base.specs.Visits.{Acts, entries_of, visit, refused_visit, Tries, looked, missed, hit}
+use Rattle.fm_base.proofs.Lookup.{changed_twice, changed_same, changed_alike, lookup_changed}
 use Rattle.fm_base.proofs.Making.{IsLegal-split, state_after-append}
-use Rattle.fm_base.proofs.Names.{same_id-true}
 use Rattle.fm_base.proofs.Placing.{there_by_way}
 use Rattle.fm_bytes.specs.Bytes.{bytes_of, lane, replaced}
 use Rattle.fm_bytes.specs.Words.{bytes_in}
 use Rattle.fm_bytes.proofs.Words.{bytes_in-lane, bytes_in-set, bytes_in-replaced}
-use Rattle.fm_pieces.specs.Alone.{bytes_of_arena}
+use Rattle.fm_pieces.specs.Alone.{bytes_of_arena, with_words}
 use Rattle.fm_pieces.specs.Pieces.{ReadsPiece, PutsBytes, whole, narrow, PutsPiece}
 
-SameWords : Arena → Arena → Type 0
-SameWords a b = b.words ≡ a.words
+not_same : (a b : ℕ) → ¬ (a ≡ b) → (a == b) ≡ false
+not_same a b h = grind (arith, nat_tests)
 
--- A change that leaves the words.
-same_words : (f : Arena → Arena) → KeepsName f → ((a : Arena) → (f a).words ≡ a.words) → (s : State) (id other : ArenaId) → (arena_of (changed s id f) other).words ≡ (arena_of s other).words
-unfolding SameWords
-same_words f named same s id other = changed_lookup SameWords f named (λ a. refl) s id (same (arena_of s id)) other
+is_same : (a : ℕ) → (a == a) ≡ true
+is_same a = grind (arith, nat_tests)
 
--- An arena that is looked up has the name by which it is looked up.
-name_of : (s : State) (id : ArenaId) → (arena_of s id).id ≡ id
-name_of [] id = refl
-name_of (a ∷ s) id =
-    let P : Bool → Type 0 = λ b. same_id a.id id ≡ b → (if b then a else arena_of s id).id ≡ id in
-    let go : (b : Bool) → P b = λ b. elim b as P [ true ↦ (λ e. same_id-true a.id id e) | false ↦ (λ e. name_of s id) ] in
-    go (same_id a.id id) refl
+-- ---- coming in and going out
 
--- A change of one arena leaves the words of the others.
-other_words : (f : Arena → Arena) → KeepsName f → (s : State) (id other : ArenaId) → other ≢ id → (arena_of (changed s id f) other).words ≡ (arena_of s other).words
-other_words f named s id other n =
-    let P : Arena → Arena → Type 0 = λ a b. a.id ≢ id → b.words ≡ a.words in
-    let here : P (arena_of s id) (f (arena_of s id)) = λ m. absurd (m (name_of s id)) in
-    let at : P (arena_of s other) (arena_of (changed s id f) other) = changed_lookup P f named (λ a m. refl) s id here other in
-    at (λ e. n (sym (name_of s other) ∙ e))
+-- Callers but one that isn't among them.
+gone : (c : ℕ) (callers : List ℕ) → ¬ (Contains callers c) → filter (λ x. not (x == c)) callers ≡ callers
+gone c [] h = refl
+gone c (x ∷ xs) h =
+    let other : (x == c) ≡ false = not_same x c (λ e. h (0, omega arith, e)) in
+    let rest : filter (λ y. not (y == c)) xs ≡ xs = gone c xs (λ k. h (suc k.0, (let below = k.1 in omega arith), k.2)) in
+    ap (λ b. cond (not b) (x ∷ filter (λ y. not (y == c)) xs) (filter (λ y. not (y == c)) xs)) other ∙ ap (λ (ys : List ℕ). x ∷ ys) rest
+
+-- A visit leaves an arena as it was but for its words.
+around : (c : ℕ) (words : List ℕ) (a : Arena) → ¬ (Contains a.under_way c) → left c (with_words words (entered c a)) ≡ with_words words a
+around c words a h =
+    ap (λ b. record a { words = words; under_way = cond (not b) (c ∷ filter (λ x. not (x == c)) a.under_way) (filter (λ x. not (x == c)) a.under_way) }) (is_same c)
+    ∙ ap (λ (w : List ℕ). record a { words = words; under_way = w }) (gone c a.under_way h)
+
+-- Who comes in finds the arena alive, and who is refused doesn't.
+alive_by : (life : Life) → Fine ≡ enter_reply life → life ≡ Alive
+alive_by Alive e = refl
+alive_by Closing e = absurd (cc)
+alive_by Ended e = absurd (cc)
+
+over_by : (life : Life) → Closed ≡ enter_reply life → ¬ (life ≡ Alive)
+over_by Alive e = absurd (cc)
+over_by Closing e = λ h. (cc)
+over_by Ended e = λ h. (cc)
+
+pub record VisitRefused (s t : State) (id : ArenaId) : Type 0 where
+  pub over : ¬ ((arena_of s id).life ≡ Alive)
+  pub same : t ≡ s
+
+-- A refused visit changes nothing, and the arena isn't alive.
+pub visit_refused : (limit c : ℕ) (s : State) (id : ArenaId) (own : List Entry) → own ≡ refused_visit c id → IsLegal limit s own → VisitRefused s (state_after limit s own) id
+visit_refused limit c s id own e legal =
+    let Q : List Entry → Type 0 = λ es. IsLegal limit s es → VisitRefused s (state_after limit s es) id in
+    let go : Q (refused_visit c id) = λ l. record { over = over_by (arena_of s id).life l.1; same = refl } in
+    subst Q (sym e) go legal
 
 -- A place, by its word.
 place_is : (place : ℕ) → 8 * (place / 8) + place % 8 ≡ place
@@ -49,11 +69,7 @@ place_is place = omega arith
 
 pub record VisitReads (s t : State) (id : ArenaId) (place width v : ℕ) : Type 0 where
   pub value : bytes_of width v ≡ take width (drop place (bytes_of_arena s id))
-  pub same : (other : ArenaId) → bytes_of_arena t other ≡ bytes_of_arena s other
-
-after_visit : (s : State) (c : ℕ) (id other : ArenaId) → (arena_of (changed (changed s id (entered c)) id (left c)) other).words ≡ (arena_of s other).words
-after_visit s c id other =
-    same_words (left c) (λ a. refl) (λ a. refl) (changed s id (entered c)) id other ∙ same_words (entered c) (λ a. refl) (λ a. refl) s id other
+  pub same : t ≡ s
 
 -- The bytes of a lane of a word.
 lane_bytes : (words : List ℕ) (place width v word : ℕ) → place / 8 < length words → place % 8 + width ≤ 8 → word ≡ slice_index words (place / 8) → v ≡ lane word (place % 8) width
@@ -67,15 +83,15 @@ read_visit : (limit c : ℕ) (s : State) (id : ArenaId) (place width v word : �
     → IsLegal limit s (visit c id ((Read id (place / 8), Found word) ∷ []))
     → VisitReads s (state_after limit s (visit c id ((Read id (place / 8), Found word) ∷ []))) id place width v
 read_visit limit c s id place width v word d fits legal =
-    let inside = changed s id (entered c) in
-    let same = same_words (entered c) (λ a. refl) (λ a. refl) s id id in
+    let there = lookup_changed s id (entered c) (λ a. refl) legal.0.0 in
+    let same : (arena_of (changed s id (entered c)) id).words ≡ (arena_of s id).words = ap (λ (a : Arena). a.words) there in
     let reach = legal.2.0 in
     let is : Found word ≡ Found (word_in (changed s id (entered c)) id (place / 8)) = legal.2.1 in
     let found : word ≡ slice_index (arena_of (changed s id (entered c)) id).words (place / 8) = cc in
     let value = lane_bytes (arena_of (changed s id (entered c)) id).words place width v word reach.within fits found d in
     record {
       value = value ∙ ap (λ ws. take width (drop place (bytes_in ws))) same;
-      same = λ other. ap bytes_in (after_visit s c id other);
+      same = changed_twice s id (entered c) (left c) (λ a. refl) ∙ changed_same s id (λ a. left c (entered c a)) (around c (arena_of s id).words (arena_of s id) (legal.0.2 id));
     }
 
 -- A visit with one Read finds the bytes that stand there, and changes nothing.
@@ -102,12 +118,6 @@ record TriesLeave (s t : State) (c : ℕ) (id : ArenaId) (word found n : ℕ) : 
   pub within : word < length (arena_of s id).words
   pub is : found ≡ word_in s id word
   pub after : t ≡ changed s id (written word n)
-
-not_same : (a b : ℕ) → ¬ (a ≡ b) → (a == b) ≡ false
-not_same a b h = grind (arith, nat_tests)
-
-is_same : (a : ℕ) → (a == a) ≡ true
-is_same a = grind (arith, nat_tests)
 
 -- Tries set the word once, at their last step.
 tries_leave : (limit c : ℕ) (s : State) (id : ArenaId) (word : ℕ) (f : ℕ → ℕ) (found : ℕ) (acts : Acts) → Tries id word f found acts
@@ -174,10 +184,14 @@ acts_put limit c s id place width v acts (narrow found tried few t) fits small l
       bytes = part_of_word (arena_of s id).words place width v found l.within fits small l.is;
     }
 
+-- a visit to an arena that is alive, whose bytes from the place on are put
 pub record VisitPuts (s t : State) (id : ArenaId) (place width v : ℕ) : Type 0 where
-  pub changed : bytes_of_arena t id ≡ take place (bytes_of_arena s id) ++ (bytes_of width v ++ drop (place + width) (bytes_of_arena s id))
-  pub others : (other : ArenaId) → other ≢ id → bytes_of_arena t other ≡ bytes_of_arena s other
+  pub words : List ℕ
+  pub state : t ≡ changed s id (with_words words)
+  pub bytes : bytes_in words ≡ take place (bytes_of_arena s id) ++ (bytes_of width v ++ drop (place + width) (bytes_of_arena s id))
   pub within : place / 8 < length (arena_of s id).words
+  pub known : has_arena s id ≡ true
+  pub alive : (arena_of s id).life ≡ Alive
 
 put_visit : (limit c : ℕ) (s : State) (id : ArenaId) (place width v : ℕ) (acts : Acts) → PutsBytes id place width v acts → place % 8 + width ≤ 8 → v < 2 ^ (8 * width)
     → IsLegal limit s (visit c id acts) → VisitPuts s (state_after limit s (visit c id acts)) id place width v
@@ -187,20 +201,23 @@ put_visit limit c s id place width v acts p fits small legal =
     let es = entries_of c acts in
     let parts = IsLegal-split limit (changed s id (entered c)) (entries_of c acts) (entry_of c (Leave id) Fine ∷ []) legal.2 in
     let a = acts_put limit c (changed s id (entered c)) id place width v acts p fits small parts.0 in
-    let s2 = state_after limit s1 es in
-    let last : state_after limit (changed s id (entered c)) (entries_of c acts ++ entry_of c (Leave id) Fine ∷ []) ≡ changed (state_after limit (changed s id (entered c)) (entries_of c acts)) id (left c) =
-    state_after-append limit s1 es out in
-    let at : (other : ArenaId) → bytes_of_arena (state_after limit (changed s id (entered c)) (entries_of c acts ++ entry_of c (Leave id) Fine ∷ [])) other
-    ≡ bytes_of_arena (changed (changed s id (entered c)) id (written (place / 8) a.word)) other =
-    λ other. ap (λ (t : State). bytes_of_arena t other) last ∙ ap bytes_in (same_words (left c) (λ x. refl) (λ x. refl) s2 id other) ∙ ap (λ (t : State). bytes_of_arena t other) a.after in
-    let same : (other : ArenaId) → (arena_of (changed s id (entered c)) other).words ≡ (arena_of s other).words = λ other. same_words (entered c) (λ x. refl) (λ x. refl) s id other in
-    let set : (arena_of (changed (changed s id (entered c)) id (written (place / 8) a.word)) id).words ≡ slice_set (arena_of (changed s id (entered c)) id).words (place / 8) a.word =
-    ap (λ (x : Arena). x.words) (lookup_changed s1 id (written (place / 8) a.word) (λ x. refl) a.known) in
-    let P : List ℕ → Type 0 = λ ws. bytes_in (slice_set (arena_of (changed s id (entered c)) id).words (place / 8) a.word) ≡ take place (bytes_in ws) ++ (bytes_of width v ++ drop (place + width) (bytes_in ws)) in
+    let known = legal.0.0 in
+    let same : (arena_of (changed s id (entered c)) id).words ≡ (arena_of s id).words = ap (λ (x : Arena). x.words) (lookup_changed s id (entered c) (λ x. refl) legal.0.0) in
+    let put = written (place / 8) a.word in
+    let words = slice_set (arena_of s id).words (place / 8) a.word in
+    let P : List ℕ → Type 0 = λ ws. bytes_in (slice_set ws (place / 8) a.word) ≡ take place (bytes_in ws) ++ (bytes_of width v ++ drop (place + width) (bytes_in ws)) in
+    let three : changed (changed (changed s id (entered c)) id (written (place / 8) a.word)) id (left c) ≡ changed s id (λ x. left c (written (place / 8) a.word (entered c x))) =
+    ap (λ (t : State). changed t id (left c)) (changed_twice s id (entered c) put (λ x. refl)) ∙ changed_twice s id (λ x. put (entered c x)) (left c) (λ x. refl) in
     record {
-      changed = at id ∙ ap bytes_in set ∙ subst P (same id) a.bytes;
-      others = λ other n. at other ∙ ap bytes_in (other_words (written (place / 8) a.word) (λ x. refl) s1 id other n) ∙ ap bytes_in (same other);
-      within = subst (λ (ws : List ℕ). place / 8 < length ws) (same id) a.within;
+      words = words;
+      state = state_after-append limit s1 es out
+          ∙ ap (λ (t : State). changed t id (left c)) a.after
+          ∙ three
+          ∙ changed_alike s id (λ x. left c (put (entered c x))) (with_words words) (around c words (arena_of s id) (legal.0.2 id));
+      bytes = subst P same a.bytes;
+      within = subst (λ (ws : List ℕ). place / 8 < length ws) same a.within;
+      known = known;
+      alive = alive_by (arena_of s id).life legal.1;
     }
 
 -- A visit that puts bytes puts just these.

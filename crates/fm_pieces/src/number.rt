@@ -1,9 +1,9 @@
-ghost use Rattle.std.specs.Prelude.{◌≡◌, ◌+◌, ◌^◌, ◌≤◌, true, None, IfOk, OnOk};
+ghost use Rattle.std.specs.Prelude.{◌≡◌, ◌+◌, ◌^◌, ◌≤◌, true, None, IfOk, OnOk, OnErr};
 ghost use Rattle.fm_base.specs.Arenas.{has_arena};
 ghost use Rattle.fm_base.specs.Outcomes.{Lasts};
 ghost use Rattle.fm_base.specs.View.{Did, given_in};
 ghost use Rattle.fm_bytes.specs.Bytes.{bytes_of};
-ghost use Rattle.fm_pieces.specs.Alone.{FindsNumber, ChangesBytes};
+ghost use Rattle.fm_pieces.specs.Alone.{FindsNumber, ChangesBytes, StaysOut};
 ghost use Rattle.fm_pieces.specs.Ranges.{DoesGet, DoesPut};
 
 use crate::piece::{get_piece, piece_width, put_piece};
@@ -30,6 +30,8 @@ pub fn get_number<M: Memory>(
         (DoesGet (M.view m.old).caller arena place width result) }
     ensures alone { (M.view m.old).alone ≡ true
         → IfOk result (λ n. FindsNumber (M.view m.old) (M.view m.new) arena place width n) }
+    ensures shut { (M.view m.old).alone ≡ true
+        → OnErr result (StaysOut (M.view m.old) (M.view m.new) arena) }
     ensures outside { (M.view m.new).inside ≡ None }
     ensures lasts { Lasts (M.view m.old) (M.view m.new) }
 {
@@ -66,6 +68,8 @@ pub fn put_number<R: Wait, M: Memory>(
         (DoesPut (M.view m.old).caller arena place (bytes_of width number) result) }
     ensures alone { (M.view m.old).alone ≡ true → OnOk result
         (ChangesBytes (M.view m.old) (M.view m.new) arena place (bytes_of width number)) }
+    ensures shut { (M.view m.old).alone ≡ true
+        → OnErr result (StaysOut (M.view m.old) (M.view m.new) arena) }
     ensures outside { (M.view m.new).inside ≡ None }
     ensures lasts { Lasts (M.view m.old) (M.view m.new) }
 {

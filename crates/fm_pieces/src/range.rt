@@ -1,9 +1,9 @@
-ghost use Rattle.std.specs.Prelude.{◌≡◌, ◌+◌, ◌^◌, ◌≤◌, true, None, OnOk, replicate};
+ghost use Rattle.std.specs.Prelude.{◌≡◌, ◌+◌, ◌^◌, ◌≤◌, true, None, OnOk, OnErr, replicate};
 ghost use Rattle.fm_base.specs.Arenas.{has_arena};
 ghost use Rattle.fm_base.specs.Outcomes.{Lasts};
 ghost use Rattle.fm_base.specs.View.{Did, given_in};
 ghost use Rattle.fm_bytes.specs.Bytes.{bytes_of};
-ghost use Rattle.fm_pieces.specs.Alone.{ChangesBytes};
+ghost use Rattle.fm_pieces.specs.Alone.{ChangesBytes, StaysOut};
 ghost use Rattle.fm_pieces.specs.Ranges.{DoesFill};
 
 use crate::piece::{piece_width, put_piece};
@@ -38,6 +38,8 @@ pub fn fill<R: Wait, M: Memory>(
         (DoesFill (M.view m.old).caller arena place size byte result) }
     ensures alone { (M.view m.old).alone ≡ true → OnOk result
         (ChangesBytes (M.view m.old) (M.view m.new) arena place (replicate size byte)) }
+    ensures shut { (M.view m.old).alone ≡ true
+        → OnErr result (StaysOut (M.view m.old) (M.view m.new) arena) }
     ensures outside { (M.view m.new).inside ≡ None }
     ensures lasts { Lasts (M.view m.old) (M.view m.new) }
 {

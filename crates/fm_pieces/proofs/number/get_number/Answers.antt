@@ -3,7 +3,7 @@ use Rattle.std.proofs.lemmas.Result.{err_from_is_err_and}
 use Rattle.fm_base.proofs.Outcomes.{Makes-lasts, Did-lasts}
 use Rattle.fm_bytes.specs.Bytes.{bytes_of}
 use Rattle.fm_pieces.specs.Ranges.{ReadsOn, EndsReading}
-use Rattle.fm_pieces.proofs.Alone.{get_alone}
+use Rattle.fm_pieces.proofs.Alone.{get_alone, get_shut}
 use Rattle.fm_pieces.proofs.Going.{going_start}
 use Rattle.fm_pieces.proofs.Getting.{reading, piece_fits, get_goes_on, get_stops, get_done}
 use Rattle.fm_pieces.proofs.Numbers.{none_so_far, more_so_far, placed}
@@ -91,3 +91,9 @@ returns-clause-alone g c = get_alone _ _ c.args.arena c.args.place c.args.width 
 
 pub returns-in_err-number-clause-alone : goal.returns-in_err-number-clause-alone
 returns-in_err-number-clause-alone g c = get_alone _ _ c.args.arena c.args.place c.args.width c.from_residual.result (returns-in_err-number-clause-did g c)
+
+pub returns-clause-shut : goal.returns-clause-shut
+returns-clause-shut g c = get_shut _ _ c.args.arena c.args.place c.args.width (Ok c.loop-at.number) (returns-clause-did g c)
+
+pub returns-in_err-number-clause-shut : goal.returns-in_err-number-clause-shut
+returns-in_err-number-clause-shut g c = get_shut _ _ c.args.arena c.args.place c.args.width c.from_residual.result (returns-in_err-number-clause-did g c)

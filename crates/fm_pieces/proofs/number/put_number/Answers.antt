@@ -4,7 +4,7 @@ use Rattle.fm_base.proofs.Outcomes.{Makes-lasts, Did-lasts}
 use Rattle.fm_base.specs.Visits.{piece_width}
 use Rattle.fm_bytes.specs.Bytes.{bytes_of, number_of}
 use Rattle.fm_bytes.proofs.Bytes.{AreBytes-bytes_of, length-bytes_of, lane-number_of}
-use Rattle.fm_pieces.proofs.Alone.{put_alone}
+use Rattle.fm_pieces.proofs.Alone.{put_alone, put_shut}
 use Rattle.fm_pieces.proofs.Putting.{put_begin, put_goes_on, put_stops, put_done}
 use Rattle.fm_pieces.proofs.number.put_number.Goals as goal
 use Rattle.fm_pieces.proofs.number.put_number.Goals.{After-put_piece}
@@ -82,7 +82,13 @@ pub returns-clause-lasts : goal.returns-clause-lasts
 returns-clause-lasts g c = Makes-lasts _ _ _ c.loop-at.invariant.going.makes
 
 pub returns-clause-alone : goal.returns-clause-alone
-returns-clause-alone g c = put_alone _ _ c.args.arena c.args.place _ (Ok tt) (AreBytes-bytes_of c.args.width c.args.number) (returns-clause-did g c)
+returns-clause-alone g c = put_alone _ _ c.args.arena c.args.place _ (Ok tt) (AreBytes-bytes_of c.args.width c.args.number) c.requires.known (returns-clause-did g c)
 
 pub returns-in_err-put_piece-clause-alone : goal.returns-in_err-put_piece-clause-alone
-returns-in_err-put_piece-clause-alone g c = put_alone _ _ c.args.arena c.args.place _ c.from_residual.result (AreBytes-bytes_of c.args.width c.args.number) (returns-in_err-put_piece-clause-did g c)
+returns-in_err-put_piece-clause-alone g c = put_alone _ _ c.args.arena c.args.place _ c.from_residual.result (AreBytes-bytes_of c.args.width c.args.number) c.requires.known (returns-in_err-put_piece-clause-did g c)
+
+pub returns-clause-shut : goal.returns-clause-shut
+returns-clause-shut g c = put_shut _ _ c.args.arena c.args.place _ (Ok tt) (AreBytes-bytes_of c.args.width c.args.number) (returns-clause-did g c)
+
+pub returns-in_err-put_piece-clause-shut : goal.returns-in_err-put_piece-clause-shut
+returns-in_err-put_piece-clause-shut g c = put_shut _ _ c.args.arena c.args.place _ c.from_residual.result (AreBytes-bytes_of c.args.width c.args.number) (returns-in_err-put_piece-clause-did g c)

@@ -7,7 +7,7 @@ use Rattle.fm_base.specs.Visits.{piece_width}
 use Rattle.fm_bytes.specs.Bytes.{number_of}
 use Rattle.fm_pieces.specs.Ranges.{DoesPut}
 use Rattle.fm_pieces.proofs.Alone.{put_alone}
-use Rattle.fm_pieces.proofs.Filling.{AreBytes-replicate, copies, some_fill, no_fill, none_alone, fill_stops, fill_done}
+use Rattle.fm_pieces.proofs.Filling.{AreBytes-replicate, copies, some_fill, no_fill, none_alone, fill_shut, fill_stops, fill_done}
 use Rattle.fm_pieces.proofs.Putting.{put_begin, put_goes_on}
 use Rattle.fm_pieces.proofs.range.fill.Goals as goal
 use Rattle.fm_pieces.proofs.range.fill.Goals.{After-loop-at}
@@ -16,7 +16,7 @@ pub returns-then-size-eq0-clause-did : goal.returns-then-size-eq0-clause-did
 returns-then-size-eq0-clause-did g c = no_fill (g.M.Memory.view c.args.m.now) c.args.arena c.args.place c.args.size c.args.byte c.if-size-eq0.true
 
 pub returns-then-size-eq0-clause-alone : goal.returns-then-size-eq0-clause-alone
-returns-then-size-eq0-clause-alone g c = λ h. none_alone (g.M.Memory.view c.args.m.now) c.args.arena c.args.place c.args.size c.args.byte c.if-size-eq0.true
+returns-then-size-eq0-clause-alone g c = λ h. none_alone (g.M.Memory.view c.args.m.now) c.args.arena c.args.place c.args.size c.args.byte c.if-size-eq0.true c.requires.known
 
 pub returns-then-size-eq0-clause-lasts : goal.returns-then-size-eq0-clause-lasts
 returns-then-size-eq0-clause-lasts g c = Did-lasts _ _ _ (returns-then-size-eq0-clause-did g c)
@@ -95,7 +95,13 @@ returns-clause-did g c =
 pub returns-clause-alone : goal.returns-clause-alone
 returns-clause-alone g c =
     let small : c.args.byte < 2 ^ 8 = omega arith in
-    put_alone _ _ c.args.arena c.args.place _ (Ok tt) (AreBytes-replicate c.args.size c.args.byte small) (put g c)
+    put_alone _ _ c.args.arena c.args.place _ (Ok tt) (AreBytes-replicate c.args.size c.args.byte small) c.requires.known (put g c)
 
 pub returns-clause-lasts : goal.returns-clause-lasts
 returns-clause-lasts g c = Makes-lasts _ _ _ c.loop-at.invariant.going.makes
+
+pub returns-in_err-put_piece-clause-shut : goal.returns-in_err-put_piece-clause-shut
+returns-in_err-put_piece-clause-shut g c =
+    let some : 0 < c.args.size = (let f = c.if-size-eq0.false in omega arith) in
+    let small : c.args.byte < 256 = omega arith in
+    fill_shut _ _ c.args.arena c.args.place c.args.size c.args.byte c.from_residual.result some small (returns-in_err-put_piece-clause-did g c)
