@@ -1,5 +1,6 @@
 -- What the only caller finds by a comparison.
-use Rattle.std.proofs.Common.{◌≡◌, ℕ, ◌+◌, ◌-◌, ◌≤◌, true, List, ◌++◌, length, take, drop, refl, sym, ap, subst, ◌∙◌, arith, Option, Some, None, Result, Ok, Err, IsOk}
+use Rattle.std.proofs.Common.{◌≡◌, ℕ, ◌+◌, ◌-◌, ◌≤◌, true, List, ◌++◌, length, take, drop, sym, ap, subst, ◌∙◌, arith, Option, Some, None, Result, Ok, Err, IfOk}
+use Rattle.std.specs.Prelude.{OnErr}
 use Rattle.std.proofs.lemmas.List.{drop-drop}
 use Rattle.fm_base.specs.declared.refusal.Refusal.{Refusal}
 use Rattle.fm_base.specs.declared.refusal.Refusal.TheVariants.{Closed, WrongThread}
@@ -20,11 +21,10 @@ use Rattle.fm_copies.specs.declared.side.Piece.{Piece}
 use Rattle.fm_copies.specs.declared.side.Way.TheVariants.{Up}
 use Rattle.fm_copies.specs.Sides.{IsPieceAt, next_piece}
 use Rattle.fm_copies.specs.Comparisons.{IsDifference, ComparesPiece, AgreesOn, EndsComparing, DoesCompare}
-use Rattle.fm_copies.specs.Alone.{first_difference, FindsDifference, CanUseBoth}
+use Rattle.fm_copies.specs.Alone.{first_difference, FindsDifference, StaysOutOf}
 use Rattle.fm_copies.proofs.Differences.{later, later-none, later-later, first_difference-append, differs_at}
 use Rattle.fm_copies.proofs.Fitting.{next_piece_fits}
-use Rattle.fm_copies.proofs.Leaving.{read_leaves}
-use Rattle.fm_copies.proofs.Refusing.{AreAlive, never_stops, stopped_leaves}
+use Rattle.fm_copies.proofs.Refusing.{AreAlive, piece_refused}
 
 -- the bytes of the side from this offset on
 abbrev bytes_from : State → Side → ℕ → List ℕ
@@ -48,18 +48,19 @@ piece_compared limit c s a b p found own q fits legal =
     let at_b = b.at + p.offset in
     let here = subst (λ (es : List Entry). IsLegal limit s es) q.visits legal in
     let parts = IsLegal-split limit s q.first q.second here in
-    let still = read_leaves limit c s a.arena at_a p.width q.v q.first q.reads_first parts.0 in
-    let legal_second = subst (λ (t : State). IsLegal limit t q.second) still parts.1 in
+    let one = visit_reads limit c s a.arena at_a p.width q.v q.first q.reads_first fits.within_source parts.0 in
+    let legal_second = subst (λ (t : State). IsLegal limit t q.second) one.same parts.1 in
+    let two = visit_reads limit c s b.arena at_b p.width q.w q.second q.reads_second fits.within_target legal_second in
     record {
       v = q.v;
       w = q.w;
-      first = (visit_reads limit c s a.arena at_a p.width q.v q.first q.reads_first fits.within_source parts.0).value;
-      second = (visit_reads limit c s b.arena at_b p.width q.w q.second q.reads_second fits.within_target legal_second).value;
+      first = one.value;
+      second = two.value;
       answer = q.answer;
       same = ap (λ (es : List Entry). state_after limit s es) q.visits
           ∙ state_after-append limit s q.first q.second
-          ∙ ap (λ (t : State). state_after limit t q.second) still
-          ∙ read_leaves limit c s b.arena at_b p.width q.w q.second q.reads_second legal_second;
+          ∙ ap (λ (t : State). state_after limit t q.second) one.same
+          ∙ two.same;
     }
 
 -- ---- all pieces
@@ -68,9 +69,10 @@ piece_compared limit c s a b p found own q fits legal =
 abbrev difference_from : State → Side → Side → ℕ → ℕ → Option ℕ
 difference_from s a b offset left = later offset (first_difference (take left (bytes_from s a offset)) (take left (bytes_from s b offset)))
 
+-- a comparison answers the first difference, or stops as one of the arenas isn't alive
 abbrev Answers : State → Side → Side → ℕ → ℕ → Option (Option ℕ) → Type 0
 Answers s a b count left (Some found) = found ≡ difference_from s a b (count - left) left
-Answers s a b count left None = Unit {0}
+Answers s a b count left None = ¬ (AreAlive s a b)
 
 -- what a comparison of the last `left` bytes tells, and that it leaves the state
 record RunCompares (s t : State) (a b : Side) (count left : ℕ) (answer : Option (Option ℕ)) : Type 0 where
@@ -119,10 +121,9 @@ agrees_next s a b offset left width v next h e first second =
 -- The end of a comparison.
 compare_ends : (limit c : ℕ) (a b : Side) (count : ℕ) (s : State) (left : ℕ) (own : List Entry) (answer : Option (Option ℕ)) → left ≤ count
     → EndsComparing c a b count left own answer → IsLegal limit s own → RunCompares s (state_after limit s own) a b count left answer
-compare_ends limit c a b count s left own None h e legal = record {
-  answers = tt;
-  same = stopped_leaves limit c s a b (next_piece Up a b count left) own e.1 legal;
-}
+compare_ends limit c a b count s left own None h e legal =
+    let shut = piece_refused limit c s a b (next_piece Up a b count left) own e.1 (next_piece_fits Up a b count left e.0 h).at legal in
+    record { answers = shut.over; same = shut.same }
 compare_ends limit c a b count s left own (Some None) h e legal = record {
   answers = sym (ap (λ n. later (count - left) (first_difference (take n (bytes_from s a (count - left))) (take n (bytes_from s b (count - left))))) e.0);
   same = ap (λ (es : List Entry). state_after limit s es) e.1;
@@ -140,7 +141,7 @@ compare_ends limit c a b count s left own (Some (Some offset)) h e legal =
 answers_on : (s : State) (a b : Side) (count left next width v : ℕ) (answer : Option (Option ℕ)) → width ≤ left → left ≤ count → next ≡ left - width
     → bytes_of width v ≡ take width (bytes_from s a (count - left)) → bytes_of width v ≡ take width (bytes_from s b (count - left))
     → Answers s a b count next answer → Answers s a b count left answer
-answers_on s a b count left next width v None h k e first second more = tt
+answers_on s a b count left next width v None h k e first second more = more
 answers_on s a b count left next width v (Some found) h k e first second more =
     let sum : count - left + width ≡ count - next = omega arith in
     more
@@ -168,7 +169,7 @@ compare_run limit c a b count s left own answer h (goes_on next one rest step ru
 -- ---- the call
 
 compare_finds : (old new : View) (a b : Side) (count : ℕ) (found : Option ℕ) → old.alone ≡ true → Did old new (DoesCompare old.caller a b count (Ok found))
-    → FindsDifference old new a b count (Ok found)
+    → FindsDifference old new a b count found
 compare_finds old new a b count found alone d =
     let m = Makes-alone old new d.own alone d.makes in
     let all = compare_run old.limit old.caller a b count old.state count d.own (Some found) (let e : count ≤ count = omega arith in e) d.does.visits m.0 in
@@ -183,49 +184,21 @@ compare_finds old new a b count found alone d =
       same = m.1 ∙ all.same;
     }
 
--- A comparison by the only caller.
+-- The only caller finds the first difference.
 pub compare_alone : (old new : View) (a b : Side) (count : ℕ) (result : Result (Option ℕ) Refusal) → Did old new (DoesCompare old.caller a b count result)
-    → old.alone ≡ true → FindsDifference old new a b count result
+    → old.alone ≡ true → IfOk result (λ found. FindsDifference old new a b count found)
 compare_alone old new a b count (Ok found) d alone = compare_finds old new a b count found alone d
-compare_alone old new a b count (Err WrongThread) d alone =
+compare_alone old new a b count (Err r) d alone = tt
+
+-- The only caller is refused where one of the arenas isn't open to it.
+pub compare_shut : (old new : View) (a b : Side) (count : ℕ) (result : Result (Option ℕ) Refusal) → Did old new (DoesCompare old.caller a b count result)
+    → old.alone ≡ true → OnErr result (StaysOutOf old new a.arena b.arena)
+compare_shut old new a b count (Ok found) d alone = tt
+compare_shut old new a b count (Err WrongThread) d alone =
     let m = Makes-alone old new d.own alone d.makes in
-    record { first = tt; same = m.1 ∙ ap (λ (es : List Entry). state_after old.limit old.state es) d.does.1 }
-compare_alone old new a b count (Err Closed) d alone =
+    record { shut = λ both. d.does.0.1 (both.0.usable, both.1.usable); same = m.1 ∙ ap (λ (es : List Entry). state_after old.limit old.state es) d.does.1 }
+compare_shut old new a b count (Err Closed) d alone =
     let m = Makes-alone old new d.own alone d.makes in
     let all = compare_run old.limit old.caller a b count old.state count d.own None (let e : count ≤ count = omega arith in e) d.does.visits m.0 in
-    record { first = tt; same = m.1 ∙ all.same }
-compare_alone old new a b count (Err r) d alone = absurd d.does
-
--- ---- where both arenas can be used
-
-abbrev IsAnswered : Option (Option ℕ) → Type 0
-IsAnswered (Some found) = Unit {0}
-IsAnswered None = ⊥
-
--- The end of a comparison of arenas that are alive is an answer.
-ends_answered : (limit c : ℕ) (a b : Side) (count : ℕ) (s : State) (left : ℕ) (own : List Entry) (answer : Option (Option ℕ)) → EndsComparing c a b count left own answer
-    → IsLegal limit s own → AreAlive s a b → IsAnswered answer
-ends_answered limit c a b count s left own (Some found) e legal alive = tt
-ends_answered limit c a b count s left own None e legal alive = never_stops limit c s a b (next_piece Up a b count left) own e.1 alive legal
-
--- A comparison of arenas that are alive ends with an answer.
-compare_answers : (limit c : ℕ) (a b : Side) (count : ℕ) (s : State) (left : ℕ) (own : List Entry) (answer : Option (Option ℕ)) → left ≤ count
-    → Run (AgreesOn c a b count) (EndsComparing c a b count) left own answer → IsLegal limit s own → AreAlive s a b → IsAnswered answer
-compare_answers limit c a b count s left own answer h (ends e) legal alive = ends_answered limit c a b count s left own answer e legal alive
-compare_answers limit c a b count s left own answer h (goes_on next one rest step run) legal alive =
-    let fits = next_piece_fits Up a b count left step.more h in
-    let parts = IsLegal-split limit s one rest legal in
-    let q = piece_compared limit c s a b (next_piece Up a b count left) None one step.piece fits.at parts.0 in
-    let below : next ≤ count = (let e = step.then in omega arith) in
-    compare_answers limit c a b count s next rest answer below run (subst (λ (t : State). IsLegal limit t rest) q.same parts.1) alive
-
--- A comparison of two arenas that the only caller can use isn't refused.
-pub compare_open : (old new : View) (a b : Side) (count : ℕ) (result : Result (Option ℕ) Refusal) → Did old new (DoesCompare old.caller a b count result)
-    → CanUseBoth old a b → IsOk result
-compare_open old new a b count (Ok found) d can = refl
-compare_open old new a b count (Err WrongThread) d can = absurd (d.does.0.1 can.may_use)
-compare_open old new a b count (Err Closed) d can =
-    let m = Makes-alone old new d.own can.alone d.makes in
-    let alive : AreAlive old.state a b = record { first = can.first_alive; second = can.second_alive } in
-    absurd (compare_answers old.limit old.caller a b count old.state count d.own None (let e : count ≤ count = omega arith in e) d.does.visits m.0 alive)
-compare_open old new a b count (Err r) d can = absurd d.does
+    record { shut = λ both. all.answers (both.0.alive, both.1.alive); same = m.1 ∙ all.same }
+compare_shut old new a b count (Err r) d alone = absurd d.does

@@ -2,7 +2,6 @@ pub mod Stopping
 pub mod Copying
 pub mod Differing
 pub mod Comparing
-pub mod Leaving
 pub mod Overlaps
 pub mod Differences
 pub mod Fitting

@@ -1,10 +1,10 @@
-ghost use Rattle.std.specs.Prelude.{◌≡◌, ◌+◌, ◌^◌, ◌≤◌, true, None, IsOk};
+ghost use Rattle.std.specs.Prelude.{◌≡◌, ◌+◌, ◌^◌, ◌≤◌, true, None, OnOk, OnErr};
 ghost use Rattle.fm_base.specs.Arenas.{has_arena};
 ghost use Rattle.fm_base.specs.Outcomes.{Lasts};
 ghost use Rattle.fm_base.specs.View.{Did, given_in};
 ghost use Rattle.fm_copies.specs.Sides.{side, IsPieceAt, MayUseBoth};
 ghost use Rattle.fm_copies.specs.Copies.{DoesCopyPiece, DoesCopy};
-ghost use Rattle.fm_copies.specs.Alone.{CopiesBytes, CanUseBoth};
+ghost use Rattle.fm_copies.specs.Alone.{TakesBytes, StaysOutOf};
 
 use crate::side::{Piece, Side, is_wrong_thread, next_piece, way_of};
 use fm_base::{ArenaId, Memory, Refusal};
@@ -59,9 +59,10 @@ pub fn copy_range<R: Wait, M: Memory>(
     requires target_small { dst_at + n ≤ 2 ^ 40 }
     ensures did { Did (M.view m.old) (M.view m.new)
         (DoesCopy (M.view m.old).caller (side src src_at) (side dst dst_at) n result) }
-    ensures alone { (M.view m.old).alone ≡ true
-        → CopiesBytes (M.view m.old) (M.view m.new) (side src src_at) (side dst dst_at) n result }
-    ensures ok { CanUseBoth (M.view m.old) (side src src_at) (side dst dst_at) → IsOk result }
+    ensures alone { (M.view m.old).alone ≡ true → OnOk result
+        (TakesBytes (M.view m.old) (M.view m.new) (side src src_at) (side dst dst_at) n) }
+    ensures shut { (M.view m.old).alone ≡ true
+        → OnErr result (StaysOutOf (M.view m.old) (M.view m.new) src dst) }
     ensures outside { (M.view m.new).inside ≡ None }
     ensures lasts { Lasts (M.view m.old) (M.view m.new) }
 {

@@ -1,10 +1,10 @@
-ghost use Rattle.std.specs.Prelude.{◌≡◌, ◌+◌, ◌*◌, ◌^◌, ◌<◌, ◌≤◌, true, None, IsOk};
+ghost use Rattle.std.specs.Prelude.{◌≡◌, ◌+◌, ◌*◌, ◌^◌, ◌<◌, ◌≤◌, true, None, IfOk, OnErr};
 ghost use Rattle.fm_base.specs.Arenas.{has_arena};
 ghost use Rattle.fm_base.specs.Outcomes.{Lasts};
 ghost use Rattle.fm_base.specs.View.{Did, given_in};
 ghost use Rattle.fm_copies.specs.Sides.{side, IsPieceAt, MayUseBoth};
 ghost use Rattle.fm_copies.specs.Comparisons.{IsDifference, DoesComparePiece, DoesCompare};
-ghost use Rattle.fm_copies.specs.Alone.{FindsDifference, CanUseBoth};
+ghost use Rattle.fm_copies.specs.Alone.{FindsDifference, StaysOutOf};
 
 use crate::side::{Piece, Side, Way, is_wrong_thread, next_piece};
 use fm_base::{ArenaId, Memory, Refusal};
@@ -76,9 +76,10 @@ pub fn mismatch_range<M: Memory>(
     requires second_small { b_at + n ≤ 2 ^ 40 }
     ensures did { Did (M.view m.old) (M.view m.new)
         (DoesCompare (M.view m.old).caller (side a a_at) (side b b_at) n result) }
-    ensures alone { (M.view m.old).alone ≡ true
-        → FindsDifference (M.view m.old) (M.view m.new) (side a a_at) (side b b_at) n result }
-    ensures ok { CanUseBoth (M.view m.old) (side a a_at) (side b b_at) → IsOk result }
+    ensures alone { (M.view m.old).alone ≡ true → IfOk result
+        (λ found. FindsDifference (M.view m.old) (M.view m.new) (side a a_at) (side b b_at) n found) }
+    ensures shut { (M.view m.old).alone ≡ true
+        → OnErr result (StaysOutOf (M.view m.old) (M.view m.new) a b) }
     ensures outside { (M.view m.new).inside ≡ None }
     ensures lasts { Lasts (M.view m.old) (M.view m.new) }
 {

@@ -145,7 +145,7 @@ abbrev Leaves : State → State → ArenaId → Putting → Bool → Type 0
 Leaves s t id x true = RunPuts s t id x
 Leaves s t id x false = VisitRefused s t id
 
-puts_none : (s t : State) (id : ArenaId) (x : Putting) → x.bytes ≡ [] → t ≡ s → RunPuts s t id x
+pub puts_none : (s t : State) (id : ArenaId) (x : Putting) → x.bytes ≡ [] → t ≡ s → RunPuts s t id x
 puts_none s t id x none same =
     let words = (arena_of s id).words in
     record {
@@ -180,7 +180,7 @@ is_part bytes width v h fits e =
     }
 
 -- The arena after its words were changed.
-with_words_there : (s t : State) (id : ArenaId) (words : List ℕ) → has_arena s id ≡ true → t ≡ changed s id (with_words words) → arena_of t id ≡ with_words words (arena_of s id)
+pub with_words_there : (s t : State) (id : ArenaId) (words : List ℕ) → has_arena s id ≡ true → t ≡ changed s id (with_words words) → arena_of t id ≡ with_words words (arena_of s id)
 with_words_there s t id words known state = ap (λ (u : State). arena_of u id) state ∙ lookup_changed s id (with_words words) (λ a. refl) known
 
 -- One piece more, and the rest.
@@ -238,7 +238,7 @@ name_of (a ∷ s) id =
     go (same_id a.id id) refl
 
 -- A change of one arena leaves the words of the others.
-other_words : (f : Arena → Arena) → KeepsName f → (s : State) (id other : ArenaId) → other ≢ id → (arena_of (changed s id f) other).words ≡ (arena_of s other).words
+pub other_words : (f : Arena → Arena) → KeepsName f → (s : State) (id other : ArenaId) → other ≢ id → (arena_of (changed s id f) other).words ≡ (arena_of s other).words
 other_words f named s id other n =
     let P : Arena → Arena → Type 0 = λ a b. a.id ≢ id → b.words ≡ a.words in
     let here : P (arena_of s id) (f (arena_of s id)) = λ m. absurd (m (name_of s id)) in

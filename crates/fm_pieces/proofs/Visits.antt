@@ -40,7 +40,7 @@ around c words a h =
     ∙ ap (λ (w : List ℕ). record a { words = words; under_way = w }) (gone c a.under_way h)
 
 -- Who comes in finds the arena alive, and who is refused doesn't.
-alive_by : (life : Life) → Fine ≡ enter_reply life → life ≡ Alive
+pub alive_by : (life : Life) → Fine ≡ enter_reply life → life ≡ Alive
 alive_by Alive e = refl
 alive_by Closing e = absurd (cc)
 alive_by Ended e = absurd (cc)

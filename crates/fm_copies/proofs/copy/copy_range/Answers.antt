@@ -3,7 +3,7 @@ use Rattle.std.proofs.lemmas.Result.{err_from_is_err_and}
 use Rattle.fm_base.proofs.Outcomes.{Makes-lasts, Did-lasts}
 use Rattle.fm_copies.specs.Sides.{side}
 use Rattle.fm_copies.proofs.Copying.{copy_begins, copy_goes_on, copy_stops, copy_done}
-use Rattle.fm_copies.proofs.CopyingAlone.{copy_alone, copy_open}
+use Rattle.fm_copies.proofs.CopyingAlone.{copy_alone, copy_shut}
 use Rattle.fm_copies.proofs.copy.copy_range.Goals as goal
 
 pub loop-left-init : goal.loop-left-init
@@ -45,11 +45,8 @@ returns-in_err-copy_piece-clause-did g c =
 pub returns-in_err-copy_piece-clause-lasts : goal.returns-in_err-copy_piece-clause-lasts
 returns-in_err-copy_piece-clause-lasts g c = Did-lasts _ _ _ (returns-in_err-copy_piece-clause-did g c)
 
-pub returns-in_err-copy_piece-clause-alone : goal.returns-in_err-copy_piece-clause-alone
-returns-in_err-copy_piece-clause-alone g c = copy_alone _ _ (side c.args.src c.args.src_at) (side c.args.dst c.args.dst_at) c.args.n _ (returns-in_err-copy_piece-clause-did g c)
-
-pub returns-in_err-copy_piece-clause-ok : goal.returns-in_err-copy_piece-clause-ok
-returns-in_err-copy_piece-clause-ok g c = copy_open _ _ (side c.args.src c.args.src_at) (side c.args.dst c.args.dst_at) c.args.n _ (returns-in_err-copy_piece-clause-did g c)
+pub returns-in_err-copy_piece-clause-shut : goal.returns-in_err-copy_piece-clause-shut
+returns-in_err-copy_piece-clause-shut g c = copy_shut _ _ (side c.args.src c.args.src_at) (side c.args.dst c.args.dst_at) c.args.n _ (returns-in_err-copy_piece-clause-did g c)
 
 pub loop-left-preserved : goal.loop-left-preserved
 loop-left-preserved g c =
@@ -75,4 +72,4 @@ pub returns-clause-lasts : goal.returns-clause-lasts
 returns-clause-lasts g c = Makes-lasts _ _ _ c.loop-left.invariant.going.makes
 
 pub returns-clause-alone : goal.returns-clause-alone
-returns-clause-alone g c = copy_alone _ _ (side c.args.src c.args.src_at) (side c.args.dst c.args.dst_at) c.args.n (Ok tt) (returns-clause-did g c)
+returns-clause-alone g c = copy_alone _ _ (side c.args.src c.args.src_at) (side c.args.dst c.args.dst_at) c.args.n (Ok tt) c.requires.target_known (returns-clause-did g c)

@@ -5,7 +5,7 @@ use Rattle.fm_base.proofs.Outcomes.{Makes-lasts, Did-lasts}
 use Rattle.fm_copies.specs.Sides.{side}
 use Rattle.fm_copies.specs.Comparisons.{DoesComparePiece}
 use Rattle.fm_copies.proofs.Comparing.{compare_begins, compare_goes_on, compare_differs, compare_stops, compare_done}
-use Rattle.fm_copies.proofs.ComparingAlone.{compare_alone, compare_open}
+use Rattle.fm_copies.proofs.ComparingAlone.{compare_alone, compare_shut}
 use Rattle.fm_copies.proofs.mismatch.mismatch_range.Goals as goal
 
 pub loop-left-init : goal.loop-left-init
@@ -47,11 +47,8 @@ returns-in_err-at-clause-did g c =
 pub returns-in_err-at-clause-lasts : goal.returns-in_err-at-clause-lasts
 returns-in_err-at-clause-lasts g c = Did-lasts _ _ _ (returns-in_err-at-clause-did g c)
 
-pub returns-in_err-at-clause-alone : goal.returns-in_err-at-clause-alone
-returns-in_err-at-clause-alone g c = compare_alone _ _ (side c.args.a c.args.a_at) (side c.args.b c.args.b_at) c.args.n _ (returns-in_err-at-clause-did g c)
-
-pub returns-in_err-at-clause-ok : goal.returns-in_err-at-clause-ok
-returns-in_err-at-clause-ok g c = compare_open _ _ (side c.args.a c.args.a_at) (side c.args.b c.args.b_at) c.args.n _ (returns-in_err-at-clause-did g c)
+pub returns-in_err-at-clause-shut : goal.returns-in_err-at-clause-shut
+returns-in_err-at-clause-shut g c = compare_shut _ _ (side c.args.a c.args.a_at) (side c.args.b c.args.b_at) c.args.n _ (returns-in_err-at-clause-did g c)
 
 pub returns-in-Some-clause-did : goal.returns-in-Some-clause-did
 returns-in-Some-clause-did g c =
@@ -67,7 +64,7 @@ pub returns-in-Some-clause-lasts : goal.returns-in-Some-clause-lasts
 returns-in-Some-clause-lasts g c = Did-lasts _ _ _ (returns-in-Some-clause-did g c)
 
 pub returns-in-Some-clause-alone : goal.returns-in-Some-clause-alone
-returns-in-Some-clause-alone g c = compare_alone _ _ (side c.args.a c.args.a_at) (side c.args.b c.args.b_at) c.args.n _ (returns-in-Some-clause-did g c)
+returns-in-Some-clause-alone g c = compare_alone _ _ (side c.args.a c.args.a_at) (side c.args.b c.args.b_at) c.args.n (Ok (Some (c.next_piece-piece.result.offset + c.from.result))) (returns-in-Some-clause-did g c)
 
 pub loop-left-preserved : goal.loop-left-preserved
 loop-left-preserved g c =
