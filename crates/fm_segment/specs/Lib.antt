@@ -1,4 +1,5 @@
 pub mod Access
+pub mod Alone
 pub mod Elements
 pub mod Overlap
 pub mod Region

@@ -1,6 +1,7 @@
 ghost use Rattle.std.specs.Prelude.{◌≤◌, ◌^◌};
 
 mod access;
+mod story;
 
 use crate::Segment;
 use fm_base::{ArenaId, Kind, Refusal};
