@@ -1,13 +1,12 @@
 -- The bytes that an arena has given, and its words.
-use Rattle.std.proofs.Common.{◌≡◌, ℕ, ◌+◌, ◌-◌, ◌*◌, ◌/◌, ◌%◌, ◌<◌, ◌≤◌, List, ◌++◌, length, take, drop, get_or, replicate, ap, sym, ◌∙◌, arith, length-drop, append_assoc, slice_set, suc, [], ◌∷◌}
-use Rattle.std.proofs.lemmas.List.{length-take-le, take-append-le, drop-append-le, take-append-drop, take_more}
+use Rattle.std.proofs.Common.{◌≡◌, ℕ, ◌+◌, ◌-◌, ◌*◌, ◌%◌, ◌<◌, ◌≤◌, List, ◌++◌, length, take, drop, get_or, replicate, ap, sym, ◌∙◌, arith, append_assoc, slice_set, suc, [], ◌∷◌}
+use Rattle.std.proofs.lemmas.List.{length-take-le, take_more}
 use Rattle.std.proofs.Math.Seq.{take-append-add, take-append_seam, take-suc-set}
 use Rattle.fm_base.specs.Arenas.{State, arena_of}
 use Rattle.fm_base.specs.Machine.{rounded_up}
-use Rattle.fm_bytes.specs.Bytes.{AreBytes, bytes_of, number_of, lane}
+use Rattle.fm_bytes.specs.Bytes.{AreBytes}
 use Rattle.fm_bytes.specs.Words.{word_count, bytes_in, words_of}
-use Rattle.fm_bytes.proofs.Bytes.{number_of-bytes_of, lane-lt}
-use Rattle.fm_bytes.proofs.Words.{length-bytes_in, bytes_in-append, bytes_in-lane, bytes_in-words_from, take-bytes_in}
+use Rattle.fm_bytes.proofs.Words.{length-bytes_in, bytes_in-append, bytes_in-words_from, take-bytes_in}
 use Rattle.fm_pieces.specs.Alone.{bytes_of_arena}
 use Rattle.fm_segment.specs.Alone.{bytes_of_region}
 use Rattle.fm_segment.specs.Region.{Region}
