@@ -25,7 +25,7 @@ fn with_a_history_that_is_told(rt: HostRuntime) {
     close_an_arena(&rt, &mut m);
 }
 
-/// The example of the repository's README.
+/// An arena of one thread, and a word of it, by the calls of `Memory` alone.
 #[test]
 fn from_opening_to_closing(rt: HostRuntime) {
     let mut memory = Mono::make(rt.alloc(), 64);

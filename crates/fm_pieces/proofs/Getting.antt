@@ -1,5 +1,5 @@
 -- A range that is read, as far as it has come.
-use Rattle.std.proofs.Common.{◌≡◌, inl, inr, ℕ, ◌+◌, ◌^◌, ◌*◌, ◌<◌, List, [], ◌++◌, refl, ap, subst, arith, Some, None, Ok, Err}
+use Rattle.std.proofs.Common.{◌≡◌, inl, inr, ℕ, ◌+◌, ◌^◌, ◌*◌, ◌%◌, ◌<◌, ◌≤◌, List, [], ◌++◌, refl, ap, sym, subst, arith, Some, None, Result, Ok, Err}
 use Rattle.fm_base.specs.declared.arena_id.ArenaId.{ArenaId}
 use Rattle.fm_base.specs.declared.refusal.Refusal.{Refusal}
 use Rattle.fm_base.specs.Arenas.{MayUse}
@@ -7,10 +7,10 @@ use Rattle.fm_base.specs.Calls.{Entry}
 use Rattle.fm_base.specs.View.{View, Did}
 use Rattle.fm_base.specs.Visits.{piece_width}
 use Rattle.fm_bytes.specs.Bytes.{bytes_of, number_of}
-use Rattle.fm_bytes.proofs.Bytes.{lane-lt}
+use Rattle.fm_bytes.proofs.Bytes.{lane-lt, number_of-bytes_of}
 use Rattle.fm_pieces.specs.Pieces.{ReadsPiece, DoesGetPiece}
 use Rattle.fm_pieces.specs.Ranges.{Reading, ReadsOn, EndsReading, DoesGet}
-use Rattle.fm_pieces.proofs.Going.{Going, going_more, going_ends, going_refused}
+use Rattle.fm_pieces.proofs.Going.{Going, going_start, going_more, going_ends, going_refused}
 
 abbrev pub reading : ℕ → List ℕ → Reading
 reading at bytes = record { at = at; bytes = bytes }
@@ -59,3 +59,22 @@ get_done old now id place width end at number bytes own g h e some v =
       | inr may ↦ may
     ] in
     record { own = own; does = (may, record { bytes = bytes; visits = rw e at run; value = v }); makes = g.makes }
+
+-- A number that lies in one word is read as one piece.
+pub got_one : (old now : View) (id : ArenaId) (place width : ℕ) (result : Result ℕ Refusal) → 0 < width → place % 8 + width ≤ 8
+    → Did old now (DoesGetPiece old.caller id place width result) → Did old now (DoesGet old.caller id place width result)
+got_one old now id place width (Ok v) some fits d =
+    let c = old.caller in
+    let end = place + width in
+    let first = going_start (ReadsOn c id end) (EndsReading c id end) old id (reading place []) in
+    let below : place < place + width = omega arith in
+    let whole : width ≡ piece_width place (place + width) = omega arith in
+    let one = get_goes_on old old now id place end place width v [] [] first below whole d in
+    let value : v ≡ number_of (bytes_of width v) = sym (number_of-bytes_of width v (piece_fits old now id place width v d)) in
+    get_done old now id place width end end v (bytes_of width v) d.own one refl refl some value
+got_one old now id place width (Err r) some fits d =
+    let c = old.caller in
+    let end = place + width in
+    let first = going_start (ReadsOn c id end) (EndsReading c id end) old id (reading place []) in
+    let below : place < place + width = omega arith in
+    get_stops old old now id place width end place width [] [] r first below refl d

@@ -35,6 +35,26 @@ pub fn get_number<M: Memory>(
     ensures outside { (M.view m.new).inside ≡ None }
     ensures lasts { Lasts (M.view m.old) (M.view m.new) }
 {
+    if place % 8 + u64::from(width) <= 8 {
+        get_piece(m, arena, place, width)
+    } else {
+        get_across(m, arena, place, width)
+    }
+}
+
+/// The same, piece by piece, for a number that crosses a word's end.
+fn get_across<M: Memory>(m: &mut M, arena: ArenaId, place: u64, width: u32) -> Result<u64, Refusal>
+    requires outside { (M.view m.old).inside ≡ None }
+    requires known { has_arena (M.view m.old).state arena ≡ true }
+    requires some { 1 ≤ width }
+    requires width { width ≤ 8 }
+    requires given { place + width ≤ given_in (M.view m.old) arena }
+    requires small { place + width ≤ 2 ^ 40 }
+    ensures did { Did (M.view m.old) (M.view m.new)
+        (DoesGet (M.view m.old).caller arena place width result) }
+    ensures outside { (M.view m.new).inside ≡ None }
+    ensures lasts { Lasts (M.view m.old) (M.view m.new) }
+{
     let end = place + u64::from(width);
     let mut at = place;
     let mut number = 0;

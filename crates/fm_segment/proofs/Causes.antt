@@ -89,7 +89,7 @@ module _ (offset : ℕ) (t : Tree) (r : Region) (c : ℕ) where
   write_on true e w h = err_is ReadOnly e (SetCause offset t r c) h w
   write_on false e w h = write_lift e w (get_causes.before e h)
 
-  write_ok : (b : Bool) (p : ℕ) → r.read_only ≡ b → (if b then Err ReadOnly else place_of offset t r) ≡ Ok p → (r.read_only ≡ false) × (place_of offset t r ≡ Ok p)
+  pub write_ok : (b : Bool) (p : ℕ) → r.read_only ≡ b → (if b then Err ReadOnly else place_of offset t r) ≡ Ok p → (r.read_only ≡ false) × (place_of offset t r ≡ Ok p)
   write_ok true p w h = never p ReadOnly (sym h)
   write_ok false p w h = (w, h)
 
@@ -100,6 +100,10 @@ module _ (offset : ℕ) (t : Tree) (r : Region) (c : ℕ) where
     closed = λ p h may. (let w = write_ok r.read_only p refl h in (w.0, get_causes.closed p w.1 may));
   }
 
+pub when_tiling : (t : Tree) (found : Result ℕ Refusal) (b : Bool) (p : ℕ) → nat_le (alignment_of t) (size_of t) ≡ b → (if b then found else Err Unsupported) ≡ Ok p → (alignment_of t ≤ size_of t) × (found ≡ Ok p)
+when_tiling t found true p w h = (leb-true (alignment_of t) (size_of t) w, h)
+when_tiling t found false p w h = never p Unsupported (sym h)
+
 module _ (t : Tree) (found : Result ℕ Refusal) (id : ArenaId) (c : ℕ) (Cause : Refusal → Type 0) (causes : Causes found id c Cause) (none : Cause Unsupported → ⊥) where
   index_lift : (e : Refusal) → alignment_of t ≤ size_of t → Cause e → IndexCause t Cause e
   index_lift Unsupported w x = absurd (none x)
@@ -109,15 +113,11 @@ module _ (t : Tree) (found : Result ℕ Refusal) (id : ArenaId) (c : ℕ) (Cause
   index_on true e w h = index_lift e (leb-true (alignment_of t) (size_of t) w) (causes.before e h)
   index_on false e w h = err_is Unsupported e (IndexCause t Cause) h (leb-false (alignment_of t) (size_of t) w)
 
-  tiling_ok : (b : Bool) (p : ℕ) → nat_le (alignment_of t) (size_of t) ≡ b → (if b then found else Err Unsupported) ≡ Ok p → (alignment_of t ≤ size_of t) × (found ≡ Ok p)
-  tiling_ok true p w h = (leb-true (alignment_of t) (size_of t) w, h)
-  tiling_ok false p w h = never p Unsupported (sym h)
-
   index_causes : Causes (if_tiling t found) id c (IndexCause t Cause)
   index_causes = record {
     before = λ e h. index_on (nat_le (alignment_of t) (size_of t)) e refl h;
-    wrong_thread = λ p h not. (let w = tiling_ok (nat_le (alignment_of t) (size_of t)) p refl h in (w.0, causes.wrong_thread p w.1 not));
-    closed = λ p h may. (let w = tiling_ok (nat_le (alignment_of t) (size_of t)) p refl h in (w.0, causes.closed p w.1 may));
+    wrong_thread = λ p h not. (let w = when_tiling t found (nat_le (alignment_of t) (size_of t)) p refl h in (w.0, causes.wrong_thread p w.1 not));
+    closed = λ p h may. (let w = when_tiling t found (nat_le (alignment_of t) (size_of t)) p refl h in (w.0, causes.closed p w.1 may));
   }
 
 -- ---- what each call promises of its refusals

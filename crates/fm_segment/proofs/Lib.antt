@@ -1,4 +1,5 @@
 pub mod Access
+pub mod Alone
 pub mod Causes
 pub mod Checking
 pub mod Comparing

@@ -1,4 +1,5 @@
 pub mod Access
+pub mod Alone
 pub mod Comparisons
 pub mod Copies
 pub mod Elements

@@ -17,9 +17,11 @@
 #![tactic(auto)]
 
 mod elements;
+mod laws;
 mod segment;
 #[cfg(test)]
 mod tests;
 
 pub use elements::Elements;
+pub use laws::sets_then_gets;
 pub use segment::Segment;

@@ -2,6 +2,7 @@ ghost use Rattle.std.specs.Prelude.{◌≤◌, ◌^◌};
 
 mod access;
 mod ranges;
+mod story;
 
 use crate::Segment;
 use fm_base::{ArenaId, Kind, Refusal};

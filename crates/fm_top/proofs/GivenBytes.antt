@@ -1,42 +1,25 @@
 -- The bytes that an arena has given, and its words.
-use Rattle.std.proofs.Common.{◌≡◌, ℕ, ◌+◌, ◌-◌, ◌*◌, ◌/◌, ◌%◌, ◌<◌, ◌≤◌, List, ◌++◌, length, take, drop, get_or, replicate, ap, sym, ◌∙◌, arith, length-drop, append_assoc, slice_set, suc, [], ◌∷◌}
-use Rattle.std.proofs.lemmas.List.{length-take-le, take-append-le, drop-append-le, take-append-drop, take_more}
+use Rattle.std.proofs.Common.{◌≡◌, ℕ, ◌+◌, ◌-◌, ◌*◌, ◌%◌, ◌<◌, ◌≤◌, List, ◌++◌, length, take, drop, get_or, replicate, ap, sym, ◌∙◌, arith, append_assoc, slice_set, suc, [], ◌∷◌}
+use Rattle.std.proofs.lemmas.List.{length-take-le, take_more}
 use Rattle.std.proofs.Math.Seq.{take-append-add, take-append_seam, take-suc-set}
+use Rattle.fm_base.specs.Arenas.{State, arena_of}
 use Rattle.fm_base.specs.Machine.{rounded_up}
-use Rattle.fm_bytes.specs.Bytes.{AreBytes, bytes_of, number_of, lane}
+use Rattle.fm_bytes.specs.Bytes.{AreBytes}
 use Rattle.fm_bytes.specs.Words.{word_count, bytes_in, words_of}
-use Rattle.fm_bytes.proofs.Bytes.{number_of-bytes_of, lane-lt}
-use Rattle.fm_bytes.proofs.Words.{length-bytes_in, bytes_in-append, bytes_in-lane, bytes_in-words_from, take-bytes_in}
+use Rattle.fm_bytes.proofs.Words.{length-bytes_in, bytes_in-append, bytes_in-words_from, take-bytes_in}
+use Rattle.fm_pieces.specs.Alone.{bytes_of_arena}
+use Rattle.fm_segment.specs.Alone.{bytes_of_region}
+use Rattle.fm_segment.specs.Region.{Region}
 use Rattle.fm_top.specs.Loaded.{first_bytes}
-use Rattle.fm_top.proofs.Sums.{take-within}
+use Rattle.fm_segment.proofs.Alone.{take-within}
+
+-- the bytes of a segment from the arena's start on
+pub bytes_from_start : (s : State) (r : Region) → r.first ≡ 0 → bytes_of_region s r ≡ first_bytes r.size (arena_of s r.arena).words
+bytes_from_start s r h = ap (λ n. take r.size (drop n (bytes_of_arena s r.arena))) h
 
 -- as many bytes as were counted, where there are words for them
 pub length-first_bytes : (count : ℕ) (words : List ℕ) → count ≤ 8 * length words → length (first_bytes count words) ≡ count
 length-first_bytes count words fit = length-take-le count (bytes_in words) (omega (arith, length-bytes_in words))
-
--- a range that lies in the first of two lists
-take_inside : {X : Type 0} (xs ys : List X) (n m : ℕ) → n + m ≤ length xs → take m (drop n (xs ++ ys)) ≡ take m (drop n xs)
-take_inside xs ys n m within =
-    ap (take m) (drop-append-le n xs ys (omega arith))
-    ∙ take-append-le m (drop n xs) ys (omega (arith, length-drop n xs))
-
--- a lane of a word is the number of its bytes
-pub lane-first_bytes : (count place width word : ℕ) (words : List ℕ) → count ≤ 8 * length words → 1 ≤ width → place % 8 + width ≤ 8
-    → place + width ≤ count → word ≡ get_or words (place / 8) 0
-    → lane word (place % 8) width ≡ number_of (take width (drop place (first_bytes count words)))
-lane-first_bytes count place width word words fit some in_word within is =
-    let w = place / 8 in
-    let at = place % 8 in
-    let bytes = bytes_in words in
-    let place_is : 8 * w + at ≡ place = omega arith in
-    let inside : w < length words = omega arith in
-    let front : take width (drop place (first_bytes count words)) ≡ take width (drop place bytes) =
-    sym (take_inside (first_bytes count words) (drop count bytes) place width (omega (arith, length-first_bytes count words fit)))
-    ∙ ap (λ all. take width (drop place all)) (take-append-drop count bytes) in
-    let bytes_are : take width (drop place bytes) ≡ bytes_of width (lane (get_or words w 0) at width) =
-    ap (λ n. take width (drop n bytes)) (sym place_is) ∙ bytes_in-lane words w at width inside in_word in
-    sym (ap number_of (front ∙ bytes_are ∙ ap (λ n. bytes_of width (lane n at width)) (sym is))
-    ∙ number_of-bytes_of width (lane word at width) (lane-lt word at width))
 
 -- the first bytes of a list and of what follows it
 take-behind : {X : Type 0} (xs ys : List X) (n m : ℕ) → length xs ≡ n → take (n + m) (xs ++ ys) ≡ xs ++ take m ys

@@ -100,7 +100,7 @@ did_only x y own es alone makes are =
     }
 
 -- nothing changed
-held_same : (limit : ℕ) (m n : Arenas) (i : Option ArenaId) (a : ArenaId) → IsHeld limit m i a → n.state ≡ m.state → n.limit ≡ m.limit → n.inside ≡ i
+pub held_same : (limit : ℕ) (m n : Arenas) (i : Option ArenaId) (a : ArenaId) → IsHeld limit m i a → n.state ≡ m.state → n.limit ≡ m.limit → n.inside ≡ i
     → HoldsThen limit n i a (given_at m a) (words_at m a)
 held_same limit m n i a h state limit_same inside =
     let is : arena_of n.state a ≡ arena_of m.state a = ap (λ (s : State). arena_of s a) state in

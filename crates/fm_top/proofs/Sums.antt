@@ -1,7 +1,7 @@
 -- Sums of the values of records.
-use Rattle.std.proofs.Common.{◌≡◌, ℕ, zero, suc, ◌+◌, ◌-◌, ◌*◌, ◌/◌, ◌%◌, ◌<◌, ◌≤◌, ◌^◌, List, [], ◌∷◌, length, take, drop, map, refl, ap, sym, ◌∙◌, arith, mul_assoc}
-use Rattle.std.proofs.Math.Nat.{mod-add-div', mul-add-mod_self_right}
-use Rattle.std.proofs.lemmas.List.{drop-take, drop-drop}
+use Rattle.std.proofs.Common.{◌≡◌, ℕ, suc, ◌+◌, ◌-◌, ◌*◌, ◌/◌, ◌%◌, ◌<◌, ◌≤◌, ◌^◌, List, ◌∷◌, length, take, drop, map, ap, sym, subst, ◌∙◌, arith, mul_assoc}
+use Rattle.std.proofs.Math.Nat.{div-mul-le_self, mod-add-div', mul-add-mod_self_right, mul-le-mul_right}
+use Rattle.std.proofs.lemmas.List.{drop-drop}
 use Rattle.std.specs.Prelude.{ℤ, pos, negsuc, ◌+ℤ◌, ◌≤ℤ◌}
 use Rattle.std.proofs.Math.IntN.{+ℤ_assoc}
 use Rattle.std.proofs.lemmas.Int.{ints}
@@ -10,8 +10,13 @@ use Rattle.fm_lanes.specs.Coding.{value_of}
 use Rattle.fm_lanes.specs.Value.{number_of_value}
 use Rattle.fm_lanes.specs.declared.order.Order.TheVariants.{Little}
 use Rattle.fm_lanes.specs.declared.value_kind.ValueKind.{ValueKind}
-use Rattle.fm_lanes.specs.declared.value_kind.ValueKind.TheVariants.{Byte, Boolean, Char, Short, Int, Long}
+use Rattle.fm_lanes.specs.declared.value.Value.{Value}
 use Rattle.fm_lanes.specs.Kind.{width_of}
+use Rattle.fm_layout.specs.Tree.{Tree}
+use Rattle.fm_layout.specs.Size.{size_of}
+use Rattle.fm_layout.specs.Made.{value_of as natural}
+use Rattle.fm_segment.specs.Alone.{Means}
+use Rattle.fm_segment.proofs.Alone.{take-part}
 use Rattle.fm_top.specs.Records.{number_at, pieces, sum_of}
 
 -- at most 2^63 from 0 for each of so many values
@@ -27,32 +32,20 @@ whole_place width k size at size_whole at_whole =
     let product : k * size ≡ (k * q) * width = ap (λ n. k * n) (sym is) ∙ sym (mul_assoc k q width) in
     ap (λ n. (n + at) % width) product ∙ mul-add-mod_self_right (k * q) width at ∙ at_whole
 
--- an aligned value lies in one word
-pub in_a_word : (kind : ValueKind) (place : ℕ) → place % width_of kind ≡ 0 → place % 8 + width_of kind ≤ 8
-in_a_word Byte place whole = omega arith
-in_a_word Boolean place whole = omega arith
-in_a_word Char place whole = omega arith
-in_a_word Short place whole = omega arith
-in_a_word Int place whole = omega arith
-in_a_word Long place whole = omega arith
+-- a value of a record ends in the file
+pub ends_in_file : (k size at width count : ℕ) → k < count / size → at + width ≤ size → k * size + at + width ≤ count
+ends_in_file k size at width count below within =
+    let most : count / size * size ≤ count = div-mul-le_self count size in
+    let rows : (k + 1) * size ≤ count / size * size = mul-le-mul_right size (let h : k + 1 ≤ count / size = omega arith in h) in
+    let next : (k + 1) * size ≡ k * size + size = grind arith in
+    omega arith
 
--- a front of a longer front
-pub take-within : {X : Type 0} (n m : ℕ) (xs : List X) → n ≤ m → take n (take m xs) ≡ take n xs
-take-within zero m xs h = refl
-take-within (suc n) zero xs h = absurd (omega arith)
-take-within (suc n) (suc m) [] h = refl
-take-within (suc n) (suc m) (x ∷ xs) h = ap (λ rest. x ∷ rest) (take-within n m xs (omega arith))
-
--- a value of a record is that of the file, behind the record's first byte
-pub take-record : (width at size place : ℕ) (file : List ℕ) → at + width ≤ size
-    → take width (drop at (take size (drop place file))) ≡ take width (drop (place + at) file)
-take-record width at size place file within =
-    let rest = size - at in
-    let whole : size ≡ at + rest = omega arith in
-    ap (λ n. take width (drop at (take n (drop place file)))) whole
-    ∙ ap (take width) (drop-take at rest (drop place file))
-    ∙ take-within width rest (drop at (drop place file)) (omega arith)
-    ∙ ap (take width) (drop-drop at place file)
+-- the number of a value that was got by its natural layout
+pub number_got : (kind : ValueKind) (t : Tree) (place : ℕ) (file : List ℕ) (v : Value) (x : ℤ) → t ≡ natural kind
+    → Means t (take (size_of t) (drop place file)) v → x ≡ number_of_value v → x ≡ number_at kind place file
+number_got kind t place file v x is means e =
+    let P : Tree → Type 0 = λ u. Means u (take (size_of u) (drop place file)) v in
+    e ∙ ap number_of_value (subst P is means)
 
 -- the pieces from the k-th on are the k-th and those behind it
 pieces-next : (count size k : ℕ) (file : List ℕ) → k < count
@@ -76,7 +69,7 @@ next_sum kind size at k file sum x new all below within is_new is_x before =
     let count = length file / size in
     let rest = rest_from kind (k + 1) size at file in
     let value : number_at kind at (take size (drop (k * size) file)) ≡ x =
-    ap (λ bytes. number_of_value (value_of kind Little bytes)) (take-record (width_of kind) at size (k * size) file within) ∙ sym is_x in
+    ap (λ bytes. number_of_value (value_of kind Little bytes)) (take-part (width_of kind) at size (k * size) file within) ∙ sym is_x in
     let front : rest_from kind k size at file ≡ x +ℤ rest =
     ap (λ all_pieces. sum_of (map (number_at kind at) all_pieces)) (pieces-next count size k file below) ∙ ap (λ n. n +ℤ rest) value in
     ap (λ n. n +ℤ rest) is_new ∙ +ℤ_assoc sum x rest ∙ ap (λ n. sum +ℤ n) (sym front) ∙ before

@@ -1,4 +1,4 @@
-ghost use Rattle.std.specs.Prelude.{◌≡◌, ◌+◌, ◌*◌, ◌<◌, ◌≤◌, ◌++◌, None, Some, length, take, drop, replicate, slice_index, slice_set, IfOk, OnOk, OnErr};
+ghost use Rattle.std.specs.Prelude.{◌≡◌, ◌+◌, ◌*◌, ◌<◌, ◌≤◌, ◌++◌, None, Some, length, take, drop, replicate, slice_set, IfOk, OnOk, OnErr};
 ghost use Rattle.fm_base.specs.Machine.{rounded_up, words_within};
 ghost use Rattle.fm_top.specs.Held.{IsHeld, HoldsThen, given_at, words_at};
 ghost use Rattle.fm_top.specs.Outcome.{record_file_limit};
@@ -40,16 +40,6 @@ pub fn leave_held(memory: &mut Mono, arena: ArenaId)
     ensures { HoldsThen record_file_limit memory.new None arena (given_at memory.old arena) (words_at memory.old arena) }
 {
     memory.leave();
-}
-
-/// A word of the arena that was entered.
-pub fn load_held(memory: &mut Mono, arena: ArenaId, word: u64) -> u64
-    requires held { IsHeld record_file_limit memory.old (Some arena) arena }
-    requires given { 8 * word < given_at memory.old arena }
-    ensures found { result ≡ slice_index (words_at memory.old arena) word }
-    ensures same { memory.new ≡ memory.old }
-{
-    memory.load(word)
 }
 
 /// Puts `v` into a word of the arena that was entered.

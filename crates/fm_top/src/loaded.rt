@@ -1,13 +1,18 @@
 ghost use Rattle.std.specs.Prelude.{◌≡◌, ◌+◌, ◌%◌, ◌≤◌, [], ◌++◌, length, take, drop, Some, IfOk, OnOk, OnErr};
-ghost use Rattle.fm_bytes.specs.Bytes.{number_of};
 ghost use Rattle.fm_bytes.specs.Words.{word_count};
+ghost use Rattle.fm_layout.specs.Parts.{IsValue};
+ghost use Rattle.fm_layout.specs.Size.{size_of};
+ghost use Rattle.fm_layout.specs.Tree.{alignment_of};
+ghost use Rattle.fm_segment.specs.Alone.{Means};
 ghost use Rattle.fm_top.specs.Held.{IsHeld, given_at, words_at};
 ghost use Rattle.fm_top.specs.Outcome.{record_file_limit};
 
-use crate::held::{allocate_held, enter_held, leave_held, load_held, open_held, store_held};
+use crate::held::{allocate_held, enter_held, leave_held, open_held, store_held};
 use fm_base::ArenaId;
-use fm_lanes::{read, words_of};
+use fm_lanes::{Value, words_of};
+use fm_layout::Layout;
 use fm_mono::Mono;
+use fm_segment::Segment;
 use std::alloc::{AllocError, Global};
 use std::marker::Model;
 use std::sync::Wait;
@@ -16,8 +21,7 @@ use std::sync::Wait;
 #[derive(Drop)]
 pub struct Loaded {
     memory: Mono,
-    arena: ArenaId,
-    len: u64,
+    segment: Segment,
 }
 
 impl Model for Loaded {
@@ -40,8 +44,7 @@ impl Loaded {
         let (memory, arena) = open_held(rt, alloc)?;
         Ok(Loaded {
             memory,
-            arena,
-            len: 0,
+            segment: Segment::of(arena, 0, 0),
         })
     }
 
@@ -49,7 +52,7 @@ impl Loaded {
     pub fn len(&self) -> u64
         ensures { result ≡ length self.now }
     {
-        self.len
+        self.segment.size()
     }
 
     /// Puts bytes behind those that are there, whose number is a multiple of 8. `words` is room for their words.
@@ -66,27 +69,29 @@ impl Loaded {
         ensures err { OnErr result (self.new ≡ self.old) }
     {
         let size = bytes.len() as u64;
-        let place = allocate_held(rt, &mut self.memory, self.arena, size)?;
-        self.len = place + size;
+        let arena = self.segment.arena();
+        let place = allocate_held(rt, &mut self.memory, arena, size)?;
+        self.segment = Segment::of(arena, 0, place + size);
         words_of(bytes, words);
-        enter_held(&mut self.memory, self.arena);
-        store_words(&mut self.memory, self.arena, place / 8, words);
-        leave_held(&mut self.memory, self.arena);
+        enter_held(&mut self.memory, arena);
+        store_words(&mut self.memory, arena, place / 8, words);
+        leave_held(&mut self.memory, arena);
         Ok(())
     }
 
-    /// The number of the bytes from the place on, which lie in one word, the lowest first.
-    pub fn lane(&mut self, place: u64, width: u32) -> u64
-        requires some { 1 ≤ width }
-        requires in_word { place % 8 + width ≤ 8 }
-        requires within { place + width ≤ length self.old }
-        ensures lane { result ≡ number_of (take width (drop place self.old)) }
+    /// The value of this layout that stands at a place, which is aligned for it.
+    pub fn value(&mut self, layout: &Layout, place: u64) -> Value
+        requires value { IsValue layout.now }
+        requires aligned { place % alignment_of layout.now ≡ 0 }
+        requires within { place + size_of layout.now ≤ length self.old }
+        ensures value { Means layout.now (take (size_of layout.now) (drop place self.old)) result }
         ensures same { self.new ≡ self.old }
     {
-        enter_held(&mut self.memory, self.arena);
-        let word = load_held(&mut self.memory, self.arena, place / 8);
-        leave_held(&mut self.memory, self.arena);
-        read(word, (place % 8) as u32, width)
+        match self.segment.get(&mut self.memory, layout, place) {
+            Ok(v) => v,
+            // The arena is alive, its owner reads, and the value fits.
+            Err(_) => unreachable!(),
+        }
     }
 }
 

@@ -1,21 +1,11 @@
-ghost use Rattle.std.specs.Prelude.{◌≡◌, ◌+◌, ◌%◌, ◌^◌, ◌≤◌, length, pos, negsuc, ◌+ℤ◌, ◌≤ℤ◌};
-ghost use Rattle.fm_lanes.specs.Kind.{width_of};
-ghost use Rattle.fm_top.specs.Records.{number_at, sum_of_values};
+ghost use Rattle.std.specs.Prelude.{◌≡◌, ◌^◌, ◌≤◌, length, pos, negsuc, ◌+ℤ◌, ◌≤ℤ◌};
+ghost use Rattle.fm_top.specs.Records.{sum_of_values};
 ghost use Rattle.fm_top.specs.Words.{HasValue};
 
 use crate::held::RECORD_FILE_LIMIT;
 use crate::loaded::Loaded;
-use fm_lanes::{ValueKind, decode};
-
-/// The number of the value of this kind that stands at a place of the file.
-fn number_at(loaded: &mut Loaded, place: u64, kind: ValueKind) -> i64
-    requires whole { place % width_of kind ≡ 0 }
-    requires within { place + width_of kind ≤ length loaded.old }
-    ensures number { result ≡ number_at kind place loaded.old }
-    ensures same { loaded.new ≡ loaded.old }
-{
-    decode(kind, loaded.lane(place, kind.width())).number()
-}
+use fm_lanes::ValueKind;
+use fm_layout::Layout;
 
 /// The sum of the value at byte `at` of each record of `size` bytes. What is left behind the last record doesn't count.
 ///
@@ -25,9 +15,11 @@ pub fn sum_values(loaded: &mut Loaded, size: u64, at: u64, kind: ValueKind) -> i
     requires short { length loaded.old ≤ RECORD_FILE_LIMIT }
     ensures { result ≡ sum_of_values kind size at loaded.old }
 {
+    let layout = Layout::value(kind);
     let mut sum = 0;
     for record in 0..loaded.len() / size {
-        sum = plus(sum, number_at(loaded, record * size + at, kind));
+        let value = loaded.value(&layout, record * size + at);
+        sum = plus(sum, value.number());
     }
     sum
 }

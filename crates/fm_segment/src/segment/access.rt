@@ -1,9 +1,10 @@
-ghost use Rattle.std.specs.Prelude.{◌≡◌, ◌*◌, None, IfErr};
+ghost use Rattle.std.specs.Prelude.{◌≡◌, ◌*◌, true, None, IfErr, IfOk, OnOk, OnErr};
 ghost use Rattle.fm_base.specs.Outcomes.{Lasts};
 ghost use Rattle.fm_base.specs.View.{Did};
 ghost use Rattle.fm_lanes.specs.Value.{kind_of};
 ghost use Rattle.fm_layout.specs.Parts.{IsValue, form_of};
 ghost use Rattle.fm_layout.specs.Size.{size_of};
+ghost use Rattle.fm_segment.specs.Alone.{FindsValue, PutsValue, StaysOutOf};
 ghost use Rattle.fm_segment.specs.Access.{GetCause, SetCause, IndexCause, DoesGetAt, DoesSetAt, HasKind, IsKnown, offset_of_index, place_at_index, place_of, writable_place_at_index, writable_place_of};
 
 use super::Segment;
@@ -26,6 +27,11 @@ impl Segment {
             (DoesGetAt (M.view m.old).caller self.now.arena layout.now
             (place_of offset layout.now self.now) result) }
         ensures refused { IfErr result (GetCause offset layout.now self.now (M.view m.old).caller) }
+        ensures alone { (M.view m.old).alone ≡ true → IfOk result
+            (FindsValue (M.view m.old) (M.view m.new) self.now layout.now offset) }
+        ensures shut { (M.view m.old).alone ≡ true → OnErr result
+            (StaysOutOf (M.view m.old) (M.view m.new) self.now.arena
+            (place_of offset layout.now self.now)) }
         ensures outside { (M.view m.new).inside ≡ None }
         ensures lasts { Lasts (M.view m.old) (M.view m.new) }
         ensures known { IsKnown (M.view m.new) self.now }
@@ -55,6 +61,11 @@ impl Segment {
             (DoesSetAt (M.view m.old).caller self.now.arena layout.now
             (writable_place_of offset layout.now self.now) v result) }
         ensures refused { IfErr result (SetCause offset layout.now self.now (M.view m.old).caller) }
+        ensures alone { (M.view m.old).alone ≡ true → OnOk result
+            (PutsValue (M.view m.old) (M.view m.new) self.now layout.now offset v) }
+        ensures shut { (M.view m.old).alone ≡ true → OnErr result
+            (StaysOutOf (M.view m.old) (M.view m.new) self.now.arena
+            (writable_place_of offset layout.now self.now)) }
         ensures outside { (M.view m.new).inside ≡ None }
         ensures lasts { Lasts (M.view m.old) (M.view m.new) }
         ensures known { IsKnown (M.view m.new) self.now }
@@ -82,6 +93,12 @@ impl Segment {
             (place_at_index index layout.now self.now) result) }
         ensures refused { IfErr result (IndexCause layout.now
             (GetCause (index * size_of layout.now) layout.now self.now (M.view m.old).caller)) }
+        ensures alone { (M.view m.old).alone ≡ true → IfOk result
+            (FindsValue (M.view m.old) (M.view m.new) self.now layout.now
+            (index * size_of layout.now)) }
+        ensures shut { (M.view m.old).alone ≡ true → OnErr result
+            (StaysOutOf (M.view m.old) (M.view m.new) self.now.arena
+            (place_at_index index layout.now self.now)) }
         ensures outside { (M.view m.new).inside ≡ None }
         ensures lasts { Lasts (M.view m.old) (M.view m.new) }
         ensures known { IsKnown (M.view m.new) self.now }
@@ -111,6 +128,12 @@ impl Segment {
             (writable_place_at_index index layout.now self.now) v result) }
         ensures refused { IfErr result (IndexCause layout.now
             (SetCause (index * size_of layout.now) layout.now self.now (M.view m.old).caller)) }
+        ensures alone { (M.view m.old).alone ≡ true → OnOk result
+            (PutsValue (M.view m.old) (M.view m.new) self.now layout.now
+            (index * size_of layout.now) v) }
+        ensures shut { (M.view m.old).alone ≡ true → OnErr result
+            (StaysOutOf (M.view m.old) (M.view m.new) self.now.arena
+            (writable_place_at_index index layout.now self.now)) }
         ensures outside { (M.view m.new).inside ≡ None }
         ensures lasts { Lasts (M.view m.old) (M.view m.new) }
         ensures known { IsKnown (M.view m.new) self.now }

@@ -9,7 +9,7 @@ abbrev pub invariant-loop-record : goal.invariant-loop-record
 invariant-loop-record l =
     let file = l.fn.loaded in
     record {
-      rest : l.sum +ℤ sum_of (map (number_at l.kind l.at) (pieces (length file / l.size - l.record) l.size (drop (l.record * l.size) file))) ≡ sum_of_values l.kind l.size l.at file;
+      rest : l.sum +ℤ sum_of (map (number_at l.fn.kind l.at) (pieces (length file / l.size - l.record) l.size (drop (l.record * l.size) file))) ≡ sum_of_values l.fn.kind l.size l.at file;
       same : l.loaded ≡ file;
       small : IsWithin l.record l.sum;
     }

@@ -2,6 +2,7 @@ use Rattle.std.proofs.Common.{sym, ap, ◌∙◌, Err}
 use Rattle.std.proofs.lemmas.Result.{err_from_is_err_and}
 use Rattle.fm_segment.specs.Region.{Region}
 use Rattle.fm_segment.proofs.Causes.{get_cause}
+use Rattle.fm_segment.proofs.Alone.{get_alone, get_stays_out, place_stands}
 use Rattle.fm_segment.proofs.Access.{known_still, get_none, got_at}
 use Rattle.fm_segment.proofs.segment.Segment.get.Goals as goal
 
@@ -29,3 +30,27 @@ pub returns-clause-refused : goal.returns-clause-refused
 returns-clause-refused g c =
     let v = g.M.Memory.view in
     get_cause (v c.args.m.now) (v c.get_value.new.m) c.args.offset c.args.layout.now c.args.self.now c.get_value.result (returns-clause-did g c)
+
+pub returns-in_err-place-clause-alone : goal.returns-in_err-place-clause-alone
+returns-in_err-place-clause-alone g c =
+    let v = g.M.Memory.view c.args.m.now in
+    let t = c.args.layout.now in
+    let r = c.args.self.now in
+    get_alone v v r t c.args.offset _ c.from_residual.result (place_stands c.args.offset t r) (returns-in_err-place-clause-did g c)
+
+pub returns-clause-alone : goal.returns-clause-alone
+returns-clause-alone g c =
+    let v = g.M.Memory.view in
+    let t = c.args.layout.now in
+    let r = c.args.self.now in
+    get_alone (v c.args.m.now) (v c.get_value.new.m) r t c.args.offset _ c.get_value.result (place_stands c.args.offset t r) (returns-clause-did g c)
+
+pub returns-in_err-place-clause-shut : goal.returns-in_err-place-clause-shut
+returns-in_err-place-clause-shut g c =
+    let v = g.M.Memory.view c.args.m.now in
+    get_stays_out v v c.args.self.now.arena c.args.layout.now _ c.from_residual.result (returns-in_err-place-clause-did g c)
+
+pub returns-clause-shut : goal.returns-clause-shut
+returns-clause-shut g c =
+    let v = g.M.Memory.view in
+    get_stays_out (v c.args.m.now) (v c.get_value.new.m) c.args.self.now.arena c.args.layout.now _ c.get_value.result (returns-clause-did g c)

@@ -3,6 +3,7 @@ use Rattle.std.proofs.lemmas.Result.{err_from_is_err_and}
 use Rattle.fm_lanes.specs.Value.{kind_of}
 use Rattle.fm_segment.specs.Region.{Region}
 use Rattle.fm_segment.proofs.Causes.{set_cause}
+use Rattle.fm_segment.proofs.Alone.{set_alone, set_stays_out, writable_stands}
 use Rattle.fm_segment.proofs.Access.{known_still, set_none, put_at, is_value}
 use Rattle.fm_segment.proofs.segment.Segment.set.Goals as goal
 
@@ -33,3 +34,27 @@ pub returns-clause-refused : goal.returns-clause-refused
 returns-clause-refused g c =
     let v = g.M.Memory.view in
     set_cause (v c.args.m.now) (v c.put_value.new.m) c.args.offset c.args.layout.now c.args.self.now c.args.v c.put_value.result (returns-clause-did g c)
+
+pub returns-in_err-place-clause-alone : goal.returns-in_err-place-clause-alone
+returns-in_err-place-clause-alone g c =
+    let v = g.M.Memory.view c.args.m.now in
+    let t = c.args.layout.now in
+    let r = c.args.self.now in
+    set_alone v v r t c.args.offset _ c.args.v c.from_residual.result (writable_stands c.args.offset t r) c.requires.known.arena (returns-in_err-place-clause-did g c)
+
+pub returns-clause-alone : goal.returns-clause-alone
+returns-clause-alone g c =
+    let v = g.M.Memory.view in
+    let t = c.args.layout.now in
+    let r = c.args.self.now in
+    set_alone (v c.args.m.now) (v c.put_value.new.m) r t c.args.offset _ c.args.v c.put_value.result (writable_stands c.args.offset t r) c.requires.known.arena (returns-clause-did g c)
+
+pub returns-in_err-place-clause-shut : goal.returns-in_err-place-clause-shut
+returns-in_err-place-clause-shut g c =
+    let v = g.M.Memory.view c.args.m.now in
+    set_stays_out v v c.args.self.now.arena c.args.layout.now _ c.args.v c.from_residual.result (returns-in_err-place-clause-did g c)
+
+pub returns-clause-shut : goal.returns-clause-shut
+returns-clause-shut g c =
+    let v = g.M.Memory.view in
+    set_stays_out (v c.args.m.now) (v c.put_value.new.m) c.args.self.now.arena c.args.layout.now _ c.args.v c.put_value.result (returns-clause-did g c)

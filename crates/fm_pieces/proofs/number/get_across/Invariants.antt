@@ -3,7 +3,7 @@ use Rattle.fm_base.specs.Calls.{Entry}
 use Rattle.fm_pieces.specs.Ranges.{ReadsOn, EndsReading}
 use Rattle.fm_pieces.proofs.Going.{Going}
 use Rattle.fm_pieces.proofs.Numbers.{IsSoFar}
-use Rattle.fm_pieces.proofs.number.get_number.Given as goal
+use Rattle.fm_pieces.proofs.number.get_across.Given as goal
 
 abbrev pub invariant-loop-at : goal.invariant-loop-at
 invariant-loop-at g l =

@@ -1,0 +1,49 @@
+-- What the only caller of a memory sees of accesses to the values of a segment.
+use Rattle.std.specs.Prelude.{◌≡◌, ℕ, ◌+◌, ◌≤◌, List, [], length, take, drop, Result, Ok, Err}
+use Rattle.fm_base.specs.declared.arena_id.ArenaId.{ArenaId}
+use Rattle.fm_base.specs.declared.refusal.Refusal.{Refusal}
+use Rattle.fm_base.specs.Arenas.{State}
+use Rattle.fm_base.specs.View.{View}
+use Rattle.fm_lanes.specs.declared.value.Value.{Value}
+use Rattle.fm_lanes.specs.Coding.{value_of, bytes_of_value}
+use Rattle.fm_layout.specs.Tree as tree
+use Rattle.fm_layout.specs.Tree.{Tree}
+use Rattle.fm_layout.specs.Size.{size_of}
+use Rattle.fm_pieces.specs.Alone.{bytes_of_arena, ChangesBytes, StaysOut}
+use Rattle.fm_segment.specs.Access.{Fits}
+use Rattle.fm_segment.specs.Region.{Region}
+
+-- the region's bytes
+abbrev pub bytes_of_region : State → Region → List ℕ
+bytes_of_region s r = take r.size (drop r.first (bytes_of_arena s r.arena))
+
+-- these bytes mean v, as the value of a layout
+abbrev pub Means : Tree → List ℕ → Value → Type 0
+Means (tree.Value k o l) bytes v = v ≡ value_of k o bytes
+Means t bytes v = ⊥
+
+-- the bytes that v is put as, as the value of a layout
+abbrev pub bytes_by : Tree → Value → List ℕ
+bytes_by (tree.Value k o l) v = bytes_of_value o v
+bytes_by t v = []
+
+-- the region's bytes from the offset on mean v, and the state stays
+pub record FindsValue (old new : View) (r : Region) (t : Tree) (offset : ℕ) (v : Value) : Type 0 where
+  pub value : Means t (take (size_of t) (drop offset (bytes_of_region old.state r))) v
+  pub same : new.state ≡ old.state
+
+-- the region's bytes from the offset on are those of v; all other bytes stay, and all else of the state
+abbrev pub PutsValue : View → View → Region → Tree → ℕ → Value → Type 0
+PutsValue old new r t offset v = ChangesBytes old new r.arena (r.first + offset) (bytes_by t v)
+
+-- Why an access that was to go to this place, or finds none, is refused: the arena isn't open to the caller,
+-- or the arguments are at fault. The state stays
+abbrev pub StaysOutOf : View → View → ArenaId → Result ℕ Refusal → Type 0
+StaysOutOf old new id (Ok place) = StaysOut old new id
+StaysOutOf old new id (Err r) = new.state ≡ old.state
+
+-- where v was set, and a value is got next, it is v
+abbrev pub SetsThenGets : Region → Tree → ℕ → Value → Type 0
+SetsThenGets r t offset v =
+    (old between new : View) (got : Value) → Fits offset t r → r.first + r.size ≤ length (bytes_of_arena old.state r.arena)
+    → PutsValue old between r t offset v → FindsValue between new r t offset got → got ≡ v
