@@ -1,5 +1,5 @@
--- What the only caller of a memory sees of accesses to the values of a segment.
-use Rattle.std.specs.Prelude.{◌≡◌, ℕ, ◌+◌, ◌≤◌, List, [], length, take, drop, Result, Ok, Err}
+-- What the only caller of a memory sees of accesses to a segment.
+use Rattle.std.specs.Prelude.{◌≡◌, ℕ, ℤ, ◌+◌, ◌≤◌, List, [], length, take, drop, replicate, Result, Ok, Err}
 use Rattle.fm_base.specs.declared.arena_id.ArenaId.{ArenaId}
 use Rattle.fm_base.specs.declared.refusal.Refusal.{Refusal}
 use Rattle.fm_base.specs.Arenas.{State}
@@ -10,7 +10,10 @@ use Rattle.fm_layout.specs.Tree as tree
 use Rattle.fm_layout.specs.Tree.{Tree}
 use Rattle.fm_layout.specs.Size.{size_of}
 use Rattle.fm_pieces.specs.Alone.{bytes_of_arena, ChangesBytes, StaysOut}
+use Rattle.fm_copies.specs.Sides.{side}
+use Rattle.fm_copies.specs.Alone.{bytes_at, first_difference, TakesBytes}
 use Rattle.fm_segment.specs.Access.{Fits}
+use Rattle.fm_segment.specs.Comparisons.{common_size, mismatch_of}
 use Rattle.fm_segment.specs.Region.{Region}
 
 -- the region's bytes
@@ -47,3 +50,29 @@ abbrev pub SetsThenGets : Region → Tree → ℕ → Value → Type 0
 SetsThenGets r t offset v =
     (old between new : View) (got : Value) → Fits offset t r → r.first + r.size ≤ length (bytes_of_arena old.state r.arena)
     → PutsValue old between r t offset v → FindsValue between new r t offset got → got ≡ v
+
+-- ---- ranges
+
+-- each byte of the region is this one; all other bytes stay, and all else of the state
+abbrev pub FillsBytes : View → View → Region → ℕ → Type 0
+FillsBytes old new r byte = ChangesBytes old new r.arena r.first (replicate r.size byte)
+
+-- `n` bytes of `dst` from an offset on are those that `src` had from another on, wherever the two overlap;
+-- all other bytes stay, and all else of the state
+abbrev pub CopiesBytes : View → View → Region → ℕ → Region → ℕ → ℕ → Type 0
+CopiesBytes old new src src_at dst dst_at n =
+    TakesBytes old new (side src.arena (src.first + src_at)) (side dst.arena (dst.first + dst_at)) n
+
+-- the first bytes of a region, as many as both have
+abbrev pub common_bytes : State → Region → Region → List ℕ
+common_bytes s r other = bytes_at s (side r.arena r.first) (common_size r other)
+
+-- z is by the first of the common bytes that differs, and the state stays
+pub record FindsMismatch (old new : View) (a b : Region) (z : ℤ) : Type 0 where
+  pub first : z ≡ mismatch_of a.size b.size (first_difference (common_bytes old.state a b) (common_bytes old.state b a))
+  pub same : new.state ≡ old.state
+
+-- why a call that was checked first is refused: by its arguments, and then the state stays; or as `Shut` says
+abbrev pub StaysOutAfter : View → View → Result (Unit {0}) Refusal → Type 0 → Type 0
+StaysOutAfter old new (Ok u) Shut = Shut
+StaysOutAfter old new (Err r) Shut = new.state ≡ old.state

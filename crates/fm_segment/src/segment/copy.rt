@@ -1,7 +1,9 @@
-ghost use Rattle.std.specs.Prelude.{◌≡◌, None, IfErr};
+ghost use Rattle.std.specs.Prelude.{◌≡◌, true, None, IfErr, OnOk, OnErr};
 ghost use Rattle.fm_base.specs.Outcomes.{Lasts};
 ghost use Rattle.fm_base.specs.View.{Did};
+ghost use Rattle.fm_copies.specs.Alone.{StaysOutOf};
 ghost use Rattle.fm_segment.specs.Access.{IsKnown};
+ghost use Rattle.fm_segment.specs.Alone.{CopiesBytes, StaysOutAfter};
 ghost use Rattle.fm_segment.specs.Copies.{CopyCause, DoesCopySegment, checked_copy};
 
 use super::Segment;
@@ -26,6 +28,11 @@ impl Segment {
             (DoesCopySegment src.now 0 self.now 0 src.now.size (M.view m.old).caller result) }
         ensures refused { IfErr result
             (CopyCause src.now 0 self.now 0 src.now.size (M.view m.old).caller) }
+        ensures alone { (M.view m.old).alone ≡ true → OnOk result
+            (CopiesBytes (M.view m.old) (M.view m.new) src.now 0 self.now 0 src.now.size) }
+        ensures shut { (M.view m.old).alone ≡ true → OnErr result
+            (StaysOutAfter (M.view m.old) (M.view m.new) (checked_copy src.now 0 self.now 0 src.now.size)
+            (StaysOutOf (M.view m.old) (M.view m.new) src.now.arena self.now.arena)) }
         ensures outside { (M.view m.new).inside ≡ None }
         ensures lasts { Lasts (M.view m.old) (M.view m.new) }
         ensures source_known { IsKnown (M.view m.new) src.now }
@@ -57,6 +64,11 @@ impl Segment {
             (DoesCopySegment src.now src_at dst.now dst_at n (M.view m.old).caller result) }
         ensures refused { IfErr result
             (CopyCause src.now src_at dst.now dst_at n (M.view m.old).caller) }
+        ensures alone { (M.view m.old).alone ≡ true → OnOk result
+            (CopiesBytes (M.view m.old) (M.view m.new) src.now src_at dst.now dst_at n) }
+        ensures shut { (M.view m.old).alone ≡ true → OnErr result
+            (StaysOutAfter (M.view m.old) (M.view m.new) (checked_copy src.now src_at dst.now dst_at n)
+            (StaysOutOf (M.view m.old) (M.view m.new) src.now.arena dst.now.arena)) }
         ensures outside { (M.view m.new).inside ≡ None }
         ensures lasts { Lasts (M.view m.old) (M.view m.new) }
         ensures source_known { IsKnown (M.view m.new) src.now }

@@ -1,7 +1,9 @@
-ghost use Rattle.std.specs.Prelude.{◌≡◌, None, IfErr};
+ghost use Rattle.std.specs.Prelude.{◌≡◌, true, None, IfErr, OnOk, OnErr};
 ghost use Rattle.fm_base.specs.Outcomes.{Lasts};
 ghost use Rattle.fm_base.specs.View.{Did};
+ghost use Rattle.fm_pieces.specs.Alone.{StaysOut};
 ghost use Rattle.fm_segment.specs.Access.{IsKnown};
+ghost use Rattle.fm_segment.specs.Alone.{FillsBytes, StaysOutAfter};
 ghost use Rattle.fm_segment.specs.Fills.{DoesFillSegment, FillCause, checked_write};
 
 use super::Segment;
@@ -21,6 +23,11 @@ impl Segment {
         ensures did { Did (M.view m.old) (M.view m.new)
             (DoesFillSegment (M.view m.old).caller self.now byte result) }
         ensures refused { IfErr result (FillCause self.now (M.view m.old).caller) }
+        ensures alone { (M.view m.old).alone ≡ true → OnOk result
+            (FillsBytes (M.view m.old) (M.view m.new) self.now byte) }
+        ensures shut { (M.view m.old).alone ≡ true → OnErr result
+            (StaysOutAfter (M.view m.old) (M.view m.new) (checked_write self.now.size self.now)
+            (StaysOut (M.view m.old) (M.view m.new) self.now.arena)) }
         ensures outside { (M.view m.new).inside ≡ None }
         ensures lasts { Lasts (M.view m.old) (M.view m.new) }
         ensures known { IsKnown (M.view m.new) self.now }

@@ -1,8 +1,10 @@
-ghost use Rattle.std.specs.Prelude.{◌≡◌, ◌^◌, ◌<◌, ◌≤◌, None, IfErr};
+ghost use Rattle.std.specs.Prelude.{◌≡◌, ◌^◌, ◌<◌, ◌≤◌, true, None, IfErr, IfOk, OnErr};
 ghost use Rattle.std.specs.Option.{ForSome};
 ghost use Rattle.fm_base.specs.Outcomes.{Lasts};
 ghost use Rattle.fm_base.specs.View.{Did};
+ghost use Rattle.fm_copies.specs.Alone.{StaysOutOf};
 ghost use Rattle.fm_segment.specs.Access.{IsKnown};
+ghost use Rattle.fm_segment.specs.Alone.{FindsMismatch};
 ghost use Rattle.fm_segment.specs.Comparisons.{DoesMismatch, MismatchCause, mismatch_of};
 
 use super::Segment;
@@ -23,6 +25,10 @@ impl Segment {
         ensures did { Did (M.view m.old) (M.view m.new)
             (DoesMismatch (M.view m.old).caller self.now other.now result) }
         ensures refused { IfErr result (MismatchCause self.now other.now (M.view m.old).caller) }
+        ensures alone { (M.view m.old).alone ≡ true → IfOk result
+            (FindsMismatch (M.view m.old) (M.view m.new) self.now other.now) }
+        ensures shut { (M.view m.old).alone ≡ true → OnErr result
+            (StaysOutOf (M.view m.old) (M.view m.new) self.now.arena other.now.arena) }
         ensures outside { (M.view m.new).inside ≡ None }
         ensures lasts { Lasts (M.view m.old) (M.view m.new) }
         ensures known { IsKnown (M.view m.new) self.now }
