@@ -23,6 +23,7 @@ use Rattle.fm_pieces.specs.Alone.{bytes_of_arena, with_bytes, with_words}
 use Rattle.fm_pieces.specs.Pieces.{ReadsPiece}
 use Rattle.fm_pieces.proofs.Alone.{RunPuts, puts_none, with_words_there, other_words, changes}
 use Rattle.fm_pieces.proofs.Putting.{putting}
+use Rattle.fm_pieces.proofs.Splicing.{keeps_elsewhere}
 use Rattle.fm_pieces.proofs.Visits.{alive_by, visit_reads, visit_puts}
 use Rattle.fm_copies.specs.declared.side.Side.{Side}
 use Rattle.fm_copies.specs.declared.side.Piece.{Piece}
@@ -32,7 +33,7 @@ use Rattle.fm_copies.specs.Sides.{IsWay, IsPieceAt, next_piece}
 use Rattle.fm_copies.specs.Copies.{CopiesPiece, CopiesOn, EndsCopy, DoesCopy}
 use Rattle.fm_copies.specs.Alone.{bytes_at, TakesBytes, StaysOutOf}
 use Rattle.fm_copies.proofs.Fitting.{next_piece_fits}
-use Rattle.fm_copies.proofs.Overlaps.{drop-with_bytes, take-with_bytes, copied_up, copied_down}
+use Rattle.fm_copies.proofs.Overlaps.{copied_up, copied_down}
 use Rattle.fm_copies.proofs.Refusing.{AreAlive, AreShut, piece_refused}
 
 -- ---- one piece
@@ -42,7 +43,7 @@ record IsCopied (s t : State) (a b : Side) (p : Piece) : Type 0 where
   pub words : List ℕ
   pub state : t ≡ changed s b.arena (with_words words)
   pub room : a.at + p.offset + p.width ≤ length (bytes_of_arena s a.arena)
-  pub within : b.at + p.offset ≤ length (bytes_of_arena s b.arena)
+  pub within : b.at + p.offset + p.width ≤ length (bytes_of_arena s b.arena)
   pub count : length (take p.width (drop (a.at + p.offset) (bytes_of_arena s a.arena))) ≡ p.width
   pub bytes : bytes_of_arena t b.arena ≡ with_bytes (bytes_of_arena s b.arena) (b.at + p.offset) (take p.width (drop (a.at + p.offset) (bytes_of_arena s a.arena)))
   pub alive : AreAlive s a b
@@ -80,7 +81,7 @@ piece_put limit c s a b p own q fits alive value legal =
       words = put.words;
       state = put.state;
       room = found_within (bytes_of_arena s a.arena) from p.width fits.some count;
-      within = (let w = put.within in let l = length-bytes_in (arena_of s b.arena).words in omega arith);
+      within = (let w = put.within in let f = fits.within_target in let l = length-bytes_in (arena_of s b.arena).words in omega arith);
       count = count;
       bytes = ap (λ (x : Arena). bytes_in x.words) (with_words_there s t b.arena put.words put.known put.state)
           ∙ put.bytes
@@ -140,37 +141,39 @@ same_or_other i j =
     ] in
     go (same_id i j) refl
 
--- Upwards, the bytes behind the piece stay in the source.
-stays_behind : (s t : State) (a b : Side) (p : Piece) → IsWay a b Up → IsCopied s t a b p
-    → drop (a.at + p.offset + p.width) (bytes_of_arena t a.arena) ≡ drop (a.at + p.offset + p.width) (bytes_of_arena s a.arena)
-stays_behind s t a b p up q =
-    let k = a.at + p.offset + p.width in
-    let Stays : ArenaId → Type 0 = λ i. drop (a.at + p.offset + p.width) (bytes_of_arena t i) ≡ drop (a.at + p.offset + p.width) (bytes_of_arena s i) in
+-- The bytes of the source stay, but where the piece was put.
+stays_elsewhere : (s t : State) (a b : Side) (p : Piece) (at size : ℕ) → IsCopied s t a b p
+    → (a.arena ≡ b.arena → (at + size ≤ b.at + p.offset) ⊎ (b.at + p.offset + p.width ≤ at))
+    → take size (drop at (bytes_of_arena t a.arena)) ≡ take size (drop at (bytes_of_arena s a.arena))
+stays_elsewhere s t a b p at size q apart =
+    let place = b.at + p.offset in
+    let target = bytes_of_arena s b.arena in
     let bytes = take p.width (drop (a.at + p.offset) (bytes_of_arena s a.arena)) in
-    elim (same_or_other a.arena b.arena) as (λ _. drop (a.at + p.offset + p.width) (bytes_of_arena t a.arena) ≡ drop (a.at + p.offset + p.width) (bytes_of_arena s a.arena)) [
+    let Stays : ArenaId → Type 0 = λ i. take size (drop at (bytes_of_arena t i)) ≡ take size (drop at (bytes_of_arena s i)) in
+    let n : length (take p.width (drop (a.at + p.offset) (bytes_of_arena s a.arena))) ≡ p.width = q.count in
+    let w : b.at + p.offset + p.width ≤ length (bytes_of_arena s b.arena) = q.within in
+    let fits : b.at + p.offset + length (take p.width (drop (a.at + p.offset) (bytes_of_arena s a.arena))) ≤ length (bytes_of_arena s b.arena) = omega arith in
+    elim (same_or_other a.arena b.arena) as (λ _. take size (drop at (bytes_of_arena t a.arena)) ≡ take size (drop at (bytes_of_arena s a.arena))) [
       | inl same ↦
-          elim (cases_lt a.at b.at) as (λ _. drop (a.at + p.offset + p.width) (bytes_of_arena t a.arena) ≡ drop (a.at + p.offset + p.width) (bytes_of_arena s a.arena)) [
-            | inl below ↦ absurd (up (same, below))
-            | inr above ↦
-                let n = q.count in
-                let past : b.at + p.offset + length (take p.width (drop (a.at + p.offset) (bytes_of_arena s a.arena))) ≤ a.at + p.offset + p.width = omega arith in
-                let there : Stays b.arena = ap (drop k) q.bytes ∙ drop-with_bytes (bytes_of_arena s b.arena) (b.at + p.offset) bytes k q.within past in
-                subst Stays (sym same) there
-          ]
-      | inr other ↦ ap (drop k) (other_bytes s t a b p q a.arena other)
+          let beside : (at + size ≤ b.at + p.offset) ⊎ (b.at + p.offset + length (take p.width (drop (a.at + p.offset) (bytes_of_arena s a.arena))) ≤ at) =
+          elim (apart same) [ inl below ↦ inl below | inr behind ↦ inr (omega arith) ] in
+          subst Stays (sym same) (ap (λ bs. take size (drop at bs)) q.bytes ∙ keeps_elsewhere target bytes place at size fits beside)
+      | inr other ↦ ap (λ bs. take size (drop at bs)) (other_bytes s t a b p q a.arena other)
     ]
 
+-- Upwards, the bytes behind the piece stay in the source.
+stays_behind : (s t : State) (a b : Side) (p : Piece) (size : ℕ) → IsWay a b Up → IsCopied s t a b p
+    → take size (drop (a.at + p.offset + p.width) (bytes_of_arena t a.arena)) ≡ take size (drop (a.at + p.offset + p.width) (bytes_of_arena s a.arena))
+stays_behind s t a b p size up q =
+    stays_elsewhere s t a b p (a.at + p.offset + p.width) size q
+    (λ same. elim (cases_lt a.at b.at) [ inl below ↦ absurd (up (same, below)) | inr above ↦ inr (omega arith) ])
+
 -- Downwards, the bytes below the piece stay in the source.
-stays_below : (s t : State) (a b : Side) (p : Piece) → IsWay a b Down → IsCopied s t a b p
-    → take (a.at + p.offset) (bytes_of_arena t a.arena) ≡ take (a.at + p.offset) (bytes_of_arena s a.arena)
-stays_below s t a b p down q =
-    let k = a.at + p.offset in
-    let Stays : ArenaId → Type 0 = λ i. take (a.at + p.offset) (bytes_of_arena t i) ≡ take (a.at + p.offset) (bytes_of_arena s i) in
-    let bytes = take p.width (drop (a.at + p.offset) (bytes_of_arena s a.arena)) in
-    let higher = down.1 in
-    let below : a.at + p.offset ≤ b.at + p.offset = omega arith in
-    let there : Stays b.arena = ap (take k) q.bytes ∙ take-with_bytes (bytes_of_arena s b.arena) (b.at + p.offset) bytes k q.within below in
-    subst Stays (sym down.0) there
+stays_below : (s t : State) (a b : Side) (p : Piece) (size : ℕ) → IsWay a b Down → size ≤ p.offset → IsCopied s t a b p
+    → take size (drop a.at (bytes_of_arena t a.arena)) ≡ take size (drop a.at (bytes_of_arena s a.arena))
+stays_below s t a b p size down h q =
+    let higher : a.at < b.at = down.1 in
+    stays_elsewhere s t a b p a.at size q (λ same. inl (omega arith))
 
 -- ---- all pieces
 
@@ -212,15 +215,16 @@ leaves_on Up s t u a b count left next way some h e q more =
     let e_to : b.at + (count - next) ≡ b.at + (count - left) + w = omega arith in
     let e_from : a.at + (count - next) ≡ a.at + (count - left) + w = omega arith in
     let sum : w + next ≡ left = omega arith in
-    let behind = stays_behind s t a b (next_piece Up a b count left) way q in
+    let behind = stays_behind s t a b (next_piece Up a b count left) next way q in
     let rest : length (take next (drop (a.at + (count - left) + w) (bytes_of_arena s a.arena))) ≡ next =
-    ap (λ bs. length (take next bs)) (sym behind) ∙ ap (λ n. length (take next (drop n (bytes_of_arena t a.arena)))) (sym e_from) ∙ more.all in
+    ap (λ (bs : List ℕ). length bs) (sym behind) ∙ ap (λ n. length (take next (drop n (bytes_of_arena t a.arena)))) (sym e_from) ∙ more.all in
     let last : bytes_in more.puts.words ≡ with_bytes (bytes_of_arena t b.arena) (b.at + (count - left) + w) (take next (drop (a.at + (count - left) + w) (bytes_of_arena t a.arena))) =
     more.puts.bytes
     ∙ ap (λ n. with_bytes (bytes_of_arena t b.arena) n (take next (drop (a.at + (count - next)) (bytes_of_arena t a.arena)))) e_to
     ∙ ap (λ n. with_bytes (bytes_of_arena t b.arena) (to + w) (take next (drop n (bytes_of_arena t a.arena)))) e_from in
+    let room_to : b.at + (count - left) ≤ length (bytes_of_arena s b.arena) = (let k = q.within in omega arith) in
     let all = copied_up S (bytes_of_arena t a.arena) (bytes_of_arena s b.arena) (bytes_of_arena t b.arena) (bytes_in more.puts.words) from to w next
-    q.within q.count q.bytes behind last in
+    room_to q.count q.bytes behind last in
     record {
       all = all_found S from w next left sum q.room rest;
       puts = record {
@@ -236,14 +240,15 @@ leaves_on Down s t u a b count left next way some h e q more =
     let room : w ≤ left = fits.room in
     let sum : next + w ≡ left = omega arith in
     let P : ℕ → Type 0 = λ n. bytes_of_arena t b.arena ≡ with_bytes (bytes_of_arena s b.arena) (b.at + n) (take w (drop (a.at + n) (bytes_of_arena s a.arena))) in
-    let Q : ℕ → Type 0 = λ n. take (a.at + n) (bytes_of_arena t a.arena) ≡ take (a.at + n) (bytes_of_arena s a.arena) in
+    let R : ℕ → Type 0 = λ n. length (take w (drop (a.at + n) (bytes_of_arena s a.arena))) ≡ w in
     let first : P next = subst P (sym e) q.bytes in
-    let stays : Q next = subst Q (sym e) (stays_below s t a b (next_piece Down a b count left) way q) in
-    let within : b.at + next ≤ length (bytes_of_arena s b.arena) = (let k = q.within in omega arith) in
+    let wide : R next = subst R (sym e) q.count in
+    let stays = stays_below s t a b (next_piece Down a b count left) next way (omega arith) q in
+    let within : b.at + next + w ≤ length (bytes_of_arena s b.arena) = (let k = q.within in omega arith) in
     let source : next ≤ length (drop a.at (bytes_of_arena s a.arena)) = (let k = q.room in omega (arith, length-drop a.at (bytes_of_arena s a.arena))) in
     let whole : left ≤ length (drop a.at (bytes_of_arena s a.arena)) = (let k = q.room in omega (arith, length-drop a.at (bytes_of_arena s a.arena))) in
     let all = copied_down S (bytes_of_arena t a.arena) (bytes_of_arena s b.arena) (bytes_of_arena t b.arena) (bytes_in more.puts.words) a.at b.at w next
-    within (length-take-le next (drop a.at S) source) first stays more.puts.bytes in
+    within (length-take-le next (drop a.at S) source) wide first stays more.puts.bytes in
     record {
       all = length-take-le left (drop a.at S) whole;
       puts = record {

@@ -12,7 +12,7 @@ use Rattle.fm_copies.specs.declared.side.Side.{Side}
 abbrev pub bytes_at : State → Side → ℕ → List ℕ
 bytes_at s a count = take count (drop a.at (bytes_of_arena s a.arena))
 
--- the index of the first byte that differs; None where the lists are one
+-- the index of the first byte that differs, or None where the lists are equal
 abbrev pub first_difference : List ℕ → List ℕ → Option ℕ
 first_difference [] [] = None
 first_difference (x ∷ xs) (y ∷ ys) = if x == y then option_map suc (first_difference xs ys) else Some 0
