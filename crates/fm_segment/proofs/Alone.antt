@@ -19,6 +19,7 @@ use Rattle.fm_lanes.specs.declared.value_kind.ValueKind.{ValueKind}
 use Rattle.fm_lanes.specs.Coding.{encoded, decoded, lowest_first, value_of, bytes_of_value}
 use Rattle.fm_lanes.specs.Kind.{width_of}
 use Rattle.fm_lanes.specs.Value.{kind_of}
+use Rattle.fm_lanes.proofs.Meaning.{width_of-bounds}
 use Rattle.fm_lanes.proofs.Turning.{AreBytes-reverse}
 use Rattle.fm_layout.specs.Tree as tree
 use Rattle.fm_layout.specs.Tree.{Tree, alignment_of}
@@ -163,12 +164,14 @@ length-value Big v = length-reverse (bytes_of (width_of (kind_of v)) (encoded v)
 
 pub sets_then_gets : (r : Region) (t : Tree) (offset : ℕ) (v : Value) → HasKind t (kind_of v)
     → encoded v < 2 ^ (8 * width_of (kind_of v)) → decoded (kind_of v) (encoded v) ≡ v → SetsThenGets r t offset v
-sets_then_gets r (tree.Value k o l) offset v kind small back old between new got fits there put found =
+sets_then_gets r (tree.Value k o l) offset v kind small back old between new got fits put found =
     let bytes = bytes_of_value o v in
     let width : length (bytes_of_value o v) ≡ width_of k = length-value o v ∙ ap width_of kind in
     let all = bytes_of_arena old.state r.arena in
     let now = bytes_of_arena between.state r.arena in
     let at = r.first + offset in
+    let some : 0 < length (bytes_of_value o v) = (let bounds = width_of-bounds k in let least = bounds.0 in omega arith) in
+    let ends = put.within some in
     let room : r.first + offset ≤ length (bytes_of_arena old.state r.arena) = omega arith in
     let read : take (width_of k) (drop offset (bytes_of_region between.state r)) ≡ bytes_of_value o v =
     take-part (width_of k) offset r.size r.first now fits
@@ -176,4 +179,4 @@ sets_then_gets r (tree.Value k o l) offset v kind small back old between new got
     ∙ ap (λ n. take n (drop at (with_bytes all at bytes))) (sym width)
     ∙ takes_put all at bytes room in
     found.value ∙ ap (value_of k o) read ∙ means_itself k o v (sym kind) small back
-sets_then_gets r t offset v kind small back old between new got fits there put found = absurd kind
+sets_then_gets r t offset v kind small back old between new got fits put found = absurd kind

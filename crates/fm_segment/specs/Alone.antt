@@ -1,5 +1,5 @@
 -- What the only caller of a memory sees of accesses to a segment.
-use Rattle.std.specs.Prelude.{◌≡◌, ℕ, ℤ, ◌+◌, ◌≤◌, List, [], length, take, drop, replicate, Result, Ok, Err}
+use Rattle.std.specs.Prelude.{◌≡◌, ℕ, ℤ, ◌+◌, List, [], take, drop, replicate, Result, Ok, Err}
 use Rattle.fm_base.specs.declared.arena_id.ArenaId.{ArenaId}
 use Rattle.fm_base.specs.declared.refusal.Refusal.{Refusal}
 use Rattle.fm_base.specs.Arenas.{State}
@@ -48,7 +48,7 @@ StaysOutOf old new id (Err r) = new.state ≡ old.state
 -- where v was set, and a value is got next, it is v
 abbrev pub SetsThenGets : Region → Tree → ℕ → Value → Type 0
 SetsThenGets r t offset v =
-    (old between new : View) (got : Value) → Fits offset t r → r.first + r.size ≤ length (bytes_of_arena old.state r.arena)
+    (old between new : View) (got : Value) → Fits offset t r
     → PutsValue old between r t offset v → FindsValue between new r t offset got → got ≡ v
 
 -- ---- ranges
