@@ -12,6 +12,8 @@ mod braided;
 #[cfg(test)]
 mod ear;
 #[cfg(test)]
+mod segments;
+#[cfg(test)]
 mod telling;
 #[cfg(test)]
 mod tests;

@@ -1,5 +1,6 @@
 use crate::body::{close_an_arena, use_a_word};
 use crate::braided::Braided;
+use crate::segments::{use_ranges, use_values};
 use crate::telling::Telling;
 use fm_base::{Kind, Memory, Refusal};
 use fm_mono::Mono;
@@ -9,6 +10,8 @@ fn one_thread(rt: HostRuntime) {
     let mut m = Mono::make(rt.alloc(), 64);
     use_a_word(&rt, &mut m, 0);
     close_an_arena(&rt, &mut m);
+    use_ranges(&rt, &mut m);
+    use_values(&rt, &mut m, 7, 7, -1);
 }
 
 #[test]
@@ -16,6 +19,8 @@ fn beside_another_caller(rt: HostRuntime) {
     let mut m = Braided::new(Mono::make(rt.alloc(), 64));
     use_a_word(&rt, &mut m, 1);
     close_an_arena(&rt, &mut m);
+    use_ranges(&rt, &mut m);
+    use_values(&rt, &mut m, 8, 10, 0);
 }
 
 #[test]
@@ -23,6 +28,8 @@ fn with_a_history_that_is_told(rt: HostRuntime) {
     let mut m = Telling::new(&rt, rt.alloc(), Mono::make(rt.alloc(), 64));
     use_a_word(&rt, &mut m, 0);
     close_an_arena(&rt, &mut m);
+    use_ranges(&rt, &mut m);
+    use_values(&rt, &mut m, 7, 7, -1);
 }
 
 /// An arena of one thread, and a word of it, by the calls of `Memory` alone.

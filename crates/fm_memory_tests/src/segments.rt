@@ -1,0 +1,66 @@
+ghost use Rattle.std.specs.Prelude.{◌≡◌, ◌≢◌, None};
+ghost use Rattle.fm_segment.specs.Access.{IsKnown};
+
+use fm_base::{Kind, Memory, Refusal};
+use fm_lanes::{Value, ValueKind};
+use fm_layout::Layout;
+use fm_segment::Segment;
+use std::process::Abort;
+use std::sync::Wait;
+
+/// Two segments of 8 bytes, side by side in a fresh arena of this kind.
+fn two_of_eight<R: Abort + Wait, M: Memory>(rt: &R, m: &mut M, kind: Kind) -> (Segment, Segment)
+    requires outside { (M.view m.old).inside ≡ None }
+    requires by_hand { kind ≢ Kind.Automatic }
+    ensures outside { (M.view m.new).inside ≡ None }
+    ensures first { IsKnown (M.view m.new) result.0 }
+    ensures second { IsKnown (M.view m.new) result.1 }
+    ensures size { result.0.size ≡ 8 }
+{
+    let arena = m.open_arena(rt, kind).expect(rt, "an arena");
+    let first = m.allocate(rt, arena, 16, 8).expect(rt, "bytes");
+    (
+        Segment::of(arena, first, 8),
+        Segment::of(arena, first + 8, 8),
+    )
+}
+
+/// What every memory does with segments of an arena that others leave alone.
+pub fn use_ranges<R: Abort + Wait, M: Memory>(rt: &R, m: &mut M)
+    requires outside { (M.view m.old).inside ≡ None }
+    ensures { (M.view m.new).inside ≡ None }
+{
+    let (s, t) = two_of_eight(rt, m, Kind::Confined);
+    let u = Segment::of(s.arena(), s.first(), 4);
+    assert_eq!(rt; s.fill(rt, m, 255), Ok(()));
+    assert_eq!(rt; s.mismatch(m, &t), Ok(0));
+    assert_eq!(rt; t.copy_from(rt, m, &s), Ok(()));
+    assert_eq!(rt; s.mismatch(m, &t), Ok(-1));
+    assert_eq!(rt; u.mismatch(m, &s), Ok(4));
+    assert_eq!(rt; u.copy_from(rt, m, &s), Err(Refusal::Bounds));
+    assert_eq!(rt; m.close(rt, s.arena()), Ok(()));
+    assert_eq!(rt; s.fill(rt, m, 1), Err(Refusal::Closed));
+    assert_eq!(rt; t.copy_from(rt, m, &u), Err(Refusal::Closed));
+    assert_eq!(rt; u.mismatch(m, &t), Err(Refusal::Closed));
+}
+
+/// What every memory does with values of a shared arena: the value that is got after 7 was set, that which is got after
+/// a copy, and where the two then differ are as others changed them.
+pub fn use_values<R: Abort + Wait, M: Memory>(
+    rt: &R,
+    m: &mut M,
+    set: i64,
+    copied: i64,
+    differs: i64,
+)
+    requires outside { (M.view m.old).inside ≡ None }
+    ensures { (M.view m.new).inside ≡ None }
+{
+    let (s, t) = two_of_eight(rt, m, Kind::Shared);
+    let long = Layout::value(ValueKind::Long);
+    assert_eq!(rt; s.set(rt, m, &long, 0, Value::Long(7)), Ok(()));
+    assert_eq!(rt; s.get(m, &long, 0), Ok(Value::Long(set)));
+    assert_eq!(rt; Segment::copy(rt, m, &s, 0, &t, 0, 8), Ok(()));
+    assert_eq!(rt; t.get(m, &long, 0), Ok(Value::Long(copied)));
+    assert_eq!(rt; s.mismatch(m, &t), Ok(differs));
+}
