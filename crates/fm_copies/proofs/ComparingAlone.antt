@@ -41,6 +41,7 @@ record IsCompared (s t : State) (a b : Side) (p : Piece) (found : Option ℕ) : 
   pub answer : IsDifference p.width v w found
   pub same : t ≡ s
 
+-- A piece that the only caller compares.
 piece_compared : (limit c : ℕ) (s : State) (a b : Side) (p : Piece) (found : Option ℕ) (own : List Entry) → ComparesPiece c a b p found own → IsPieceAt a b p
     → IsLegal limit s own → IsCompared s (state_after limit s own) a b p found
 piece_compared limit c s a b p found own q fits legal =
@@ -168,6 +169,7 @@ compare_run limit c a b count s left own answer h (goes_on next one rest step ru
 
 -- ---- the call
 
+-- A comparison that was answered found the first difference.
 compare_finds : (old new : View) (a b : Side) (count : ℕ) (found : Option ℕ) → old.alone ≡ true → Did old new (DoesCompare old.caller a b count (Ok found))
     → FindsDifference old new a b count found
 compare_finds old new a b count found alone d =

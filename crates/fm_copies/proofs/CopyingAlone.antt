@@ -132,6 +132,7 @@ other_bytes s t a b p q other n =
 
 -- ---- the bytes that are still to be read
 
+-- Two arenas are the same or not.
 same_or_other : (i j : ArenaId) → (i ≡ j) ⊎ (i ≢ j)
 same_or_other i j =
     let P : Bool → Type 0 = λ b. same_id i j ≡ b → (i ≡ j) ⊎ (i ≢ j) in
@@ -194,6 +195,7 @@ none_put s a b place from left e =
     let none : take left (drop from (bytes_of_arena s a.arena)) ≡ [] = ap (λ n. take n bytes) e in
     record { all = ap length none ∙ sym e; puts = puts_none s s b.arena (putting place (take left bytes)) none refl }
 
+-- Where no byte is left, all are put.
 leaves_end : (way : Way) (s : State) (a b : Side) (count left : ℕ) → left ≡ 0 → Leaves way s s a b count left
 leaves_end Up s a b count left e = none_put s a b (b.at + (count - left)) (a.at + (count - left)) left e
 leaves_end Down s a b count left e = none_put s a b b.at a.at left e
@@ -293,6 +295,7 @@ copy_ends limit c a b count way s left own false h e legal =
 copy_ends limit c a b count way s left own true h e legal =
     subst (λ (es : List Entry). Leaves way s (state_after limit s es) a b count left) (sym e.1) (leaves_end way s a b count left e.0)
 
+-- One piece more, and the end.
 ends_on : (whole : Bool) (way : Way) (s t u : State) (a b : Side) (count left next : ℕ) → IsWay a b way → 0 < left → left ≤ count → next ≡ left - (next_piece way a b count left).width
     → IsCopied s t a b (next_piece way a b count left) → Ends whole way t u a b count next → Ends whole way s u a b count left
 ends_on true way s t u a b count left next is some h e q more = leaves_on way s t u a b count left next is some h e q more

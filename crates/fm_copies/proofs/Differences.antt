@@ -21,6 +21,7 @@ pub later-later : (m n k : ℕ) (found : Option ℕ) → m + n ≡ k → later m
 later-later m n k None e = refl
 later-later m n k (Some i) e = let d : m + (n + i) ≡ k + i = omega arith in ap (λ j. Some j) d
 
+-- Counted from one byte more.
 one_later : (n : ℕ) (found : Option ℕ) → option_map suc (later n found) ≡ later (suc n) found
 one_later n None = refl
 one_later n (Some i) = let d : suc (n + i) ≡ suc n + i = omega arith in ap (λ j. Some j) d

@@ -6,17 +6,21 @@ use Rattle.fm_copies.specs.declared.side.Way.{Way}
 use Rattle.fm_copies.specs.declared.side.Way.TheVariants.{Up, Down}
 use Rattle.fm_copies.specs.Sides.{IsPieceOf, next_piece}
 
+-- The first bytes that lie in one word of each side lie in it.
 first_fits : (source target left : ℕ) → (source % 8 + first_width source target left ≤ 8) × (target % 8 + first_width source target left ≤ 8)
 first_fits source target left = (omega arith, omega arith)
 
+-- They are one byte or more, and none but those that are left.
 first_some : (source target left : ℕ) → 0 < left → (1 ≤ first_width source target left) × (first_width source target left ≤ left)
 first_some source target left h = (omega arith, omega arith)
 
+-- The last bytes that lie in one word of each side lie in it.
 last_fits : (source target left : ℕ) → 0 < left
     → ((source + (left - last_width source target left)) % 8 + last_width source target left ≤ 8)
     × ((target + (left - last_width source target left)) % 8 + last_width source target left ≤ 8)
 last_fits source target left h = (omega arith, omega arith)
 
+-- They are one byte or more, and none but those that are left.
 last_some : (source target left : ℕ) → 0 < left → (1 ≤ last_width source target left) × (last_width source target left ≤ left)
 last_some source target left h = (omega arith, omega arith)
 
