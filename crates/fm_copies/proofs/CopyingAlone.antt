@@ -23,7 +23,7 @@ use Rattle.fm_pieces.specs.Alone.{bytes_of_arena, with_bytes, with_words}
 use Rattle.fm_pieces.specs.Pieces.{ReadsPiece}
 use Rattle.fm_pieces.proofs.Alone.{RunPuts, puts_none, with_words_there, other_words, changes}
 use Rattle.fm_pieces.proofs.Putting.{putting}
-use Rattle.fm_pieces.proofs.Splicing.{keeps_count, keeps_elsewhere}
+use Rattle.fm_pieces.proofs.Splicing.{keeps_elsewhere}
 use Rattle.fm_pieces.proofs.Visits.{alive_by, visit_reads, visit_puts}
 use Rattle.fm_copies.specs.declared.side.Side.{Side}
 use Rattle.fm_copies.specs.declared.side.Piece.{Piece}
@@ -204,15 +204,6 @@ leaves_end Down s a b count left e = none_put s a b b.at a.at left e
 put_twice : (s t u : State) (id : ArenaId) (first last : List ℕ) → t ≡ changed s id (with_words first) → u ≡ changed t id (with_words last) → u ≡ changed s id (with_words last)
 put_twice s t u id first last e d = d ∙ ap (λ (x : State). changed x id (with_words last)) e ∙ changed_twice s id (with_words first) (with_words last) (λ x. refl)
 
--- A piece and the rest lie within the target.
-both_within : (target now : List ℕ) (to w next left : ℕ) → w + next ≡ left → to + w ≤ length target → length now ≡ length target
-    → (0 < next → to + w + next ≤ length now) → to + left ≤ length target
-both_within target now to w next left sum piece same rest =
-    elim (cases_lt 0 next) [
-      | inl some ↦ (let h = rest some in omega arith)
-      | inr none ↦ omega arith
-    ]
-
 -- One piece more, and the rest.
 leaves_on : (way : Way) (s t u : State) (a b : Side) (count left next : ℕ) → IsWay a b way → 0 < left → left ≤ count → next ≡ left - (next_piece way a b count left).width
     → IsCopied s t a b (next_piece way a b count left) → Leaves way t u a b count next → Leaves way s u a b count left
@@ -236,23 +227,12 @@ leaves_on Up s t u a b count left next way some h e q more =
     let room_to : b.at + (count - left) ≤ length (bytes_of_arena s b.arena) = (let k = q.within in omega arith) in
     let all = copied_up S (bytes_of_arena t a.arena) (bytes_of_arena s b.arena) (bytes_of_arena t b.arena) (bytes_in more.puts.words) from to w next
     room_to q.count q.bytes behind last in
-    let found : length (take left (drop (a.at + (count - left)) (bytes_of_arena s a.arena))) ≡ left = all_found S from w next left sum q.room rest in
-    let n : length (take w (drop from S)) ≡ w = q.count in
-    let fit : b.at + (count - left) + w ≤ length (bytes_of_arena s b.arena) = q.within in
-    let same : length (bytes_of_arena t b.arena) ≡ length (bytes_of_arena s b.arena) =
-    ap (λ (bs : List ℕ). length bs) q.bytes ∙ keeps_count (bytes_of_arena s b.arena) (take w (drop from S)) to (omega arith) in
-    let behind_within : 0 < next → b.at + (count - left) + w + next ≤ length (bytes_of_arena t b.arena) = λ left_over. (
-    let l = more.all in
-    let h = more.puts.within (omega arith) in
-    omega arith) in
-    let ends = both_within (bytes_of_arena s b.arena) (bytes_of_arena t b.arena) to w next left sum fit same behind_within in
     record {
-      all = found;
+      all = all_found S from w next left sum q.room rest;
       puts = record {
         words = more.puts.words;
         state = put_twice s t u b.arena q.words more.puts.words q.state more.puts.state;
         bytes = all ∙ ap (λ n. with_bytes (bytes_of_arena s b.arena) to (take n (drop from S))) sum;
-        within = λ some. (omega arith);
       };
     }
 leaves_on Down s t u a b count left next way some h e q more =
@@ -271,14 +251,12 @@ leaves_on Down s t u a b count left next way some h e q more =
     let whole : left ≤ length (drop a.at (bytes_of_arena s a.arena)) = (let k = q.room in omega (arith, length-drop a.at (bytes_of_arena s a.arena))) in
     let all = copied_down S (bytes_of_arena t a.arena) (bytes_of_arena s b.arena) (bytes_of_arena t b.arena) (bytes_in more.puts.words) a.at b.at w next
     within (length-take-le next (drop a.at S) source) wide first stays more.puts.bytes in
-    let found : length (take left (drop a.at (bytes_of_arena s a.arena))) ≡ left = length-take-le left (drop a.at S) whole in
     record {
-      all = found;
+      all = length-take-le left (drop a.at S) whole;
       puts = record {
         words = more.puts.words;
         state = put_twice s t u b.arena q.words more.puts.words q.state more.puts.state;
         bytes = all ∙ ap (λ n. with_bytes (bytes_of_arena s b.arena) b.at (take n (drop a.at S))) sum;
-        within = λ some. (omega arith);
       };
     }
 

@@ -1,8 +1,8 @@
 -- What runs of visits of the only caller do to the bytes of an arena.
-use Rattle.std.proofs.Common.{◌≡◌, ◌≢◌, ℕ, ◌+◌, ◌-◌, ◌*◌, ◌%◌, ◌^◌, ◌<◌, ◌≤◌, Bool, true, false, if◌then◌else◌, List, [], ◌∷◌, ◌++◌, length, take, drop, refl, sym, ap, subst, ◌∙◌, arith, append_assoc, length-drop, inl, inr, Option, Some, None, Result, Ok, Err, IfOk}
+use Rattle.std.proofs.Common.{◌≡◌, ◌≢◌, ℕ, ◌+◌, ◌-◌, ◌*◌, ◌%◌, ◌^◌, ◌<◌, ◌≤◌, Bool, true, false, if◌then◌else◌, List, [], ◌∷◌, ◌++◌, length, take, drop, refl, sym, ap, subst, ◌∙◌, arith, append_assoc, length-append, length-drop, inl, inr, Option, Some, None, Result, Ok, Err, IfOk}
 use Rattle.std.specs.Prelude.{OnErr}
 use Rattle.std.proofs.lemmas.Bool.{cases_lt}
-use Rattle.std.proofs.lemmas.List.{append-nil, drop-drop, length-take, length-take-le, take-append-drop}
+use Rattle.std.proofs.lemmas.List.{append-nil, drop-drop, length-take-le, take-append-drop}
 use Rattle.std.proofs.lemmas.List.Elements.{All-take, All-drop}
 use Rattle.fm_base.specs.declared.arena_id.ArenaId.{ArenaId}
 use Rattle.fm_base.specs.declared.refusal.Refusal.{Refusal}
@@ -18,11 +18,11 @@ use Rattle.fm_base.proofs.Making.{IsLegal-split, state_after-append}
 use Rattle.fm_base.proofs.Names.{same_id-true}
 use Rattle.fm_bytes.specs.Bytes.{AreBytes, bytes_of, number_of}
 use Rattle.fm_bytes.specs.Words.{bytes_in}
-use Rattle.fm_bytes.proofs.Bytes.{bytes_of-number_of, number_of-lt}
+use Rattle.fm_bytes.proofs.Bytes.{bytes_of-number_of, length-bytes_of, number_of-lt}
 use Rattle.fm_bytes.proofs.Words.{take-add, length-bytes_in}
 use Rattle.fm_pieces.specs.Alone.{bytes_of_arena, with_bytes, with_words, FindsNumber, ChangesBytes, StaysOut}
 use Rattle.fm_pieces.specs.Ranges.{Reading, ReadsOn, EndsReading, ReadsRange, Putting, PutsOn, EndsPutting, next_width, DoesRefuse, DoesGet, DoesPut}
-use Rattle.fm_pieces.proofs.Splicing.{with_none, with_bytes-twice, keeps_count}
+use Rattle.fm_pieces.proofs.Splicing.{with_none, with_bytes-twice}
 use Rattle.fm_pieces.proofs.Visits.{VisitRefused, visit_refused, VisitPuts, visit_reads, visit_puts}
 
 -- ---- refusals
@@ -140,7 +140,6 @@ pub record RunPuts (s t : State) (id : ArenaId) (x : Putting) : Type 0 where
   pub words : List ℕ
   pub state : t ≡ changed s id (with_words words)
   pub bytes : bytes_in words ≡ with_bytes (bytes_of_arena s id) x.at x.bytes
-  pub within : 0 < length x.bytes → x.at + length x.bytes ≤ length (bytes_of_arena s id)
 
 -- A run of puts changes the bytes, or stops as the arena isn't alive.
 abbrev Leaves : State → State → ArenaId → Putting → Bool → Type 0
@@ -154,7 +153,6 @@ puts_none s t id x none same =
       words = words;
       state = same ∙ sym (changed_same s id (with_words words) refl);
       bytes = sym (ap (with_bytes (bytes_of_arena s id) x.at) none ∙ with_none (bytes_of_arena s id) x.at);
-      within = λ some. (let empty : length x.bytes ≡ 0 = ap length none in absurd (omega arith));
     }
 
 -- The end of a run of puts.
@@ -186,24 +184,13 @@ is_part bytes width v h fits e =
 pub with_words_there : (s t : State) (id : ArenaId) (words : List ℕ) → has_arena s id ≡ true → t ≡ changed s id (with_words words) → arena_of t id ≡ with_words words (arena_of s id)
 with_words_there s t id words known state = ap (λ (u : State). arena_of u id) state ∙ lookup_changed s id (with_words words) (λ a. refl) known
 
--- Where the first piece and the rest lie within the arena, all bytes do.
-ends_within : (x y : Putting) (width : ℕ) (all next : List ℕ) → x.at + width ≤ length all → length next ≡ length all → length (take width x.bytes) ≡ width
-    → y.at ≡ x.at + width → y.bytes ≡ drop width x.bytes → (0 < length y.bytes → y.at + length y.bytes ≤ length next) → x.at + length x.bytes ≤ length all
-ends_within x y width all next first same count at bytes rest =
-    let left : length y.bytes ≡ length x.bytes - width = ap length bytes ∙ length-drop width x.bytes in
-    let few : width ≤ length x.bytes = omega (arith, length-take width x.bytes) in
-    elim (cases_lt 0 (length y.bytes)) [
-      | inl some ↦ (let h = rest some in omega arith)
-      | inr none ↦ omega arith
-    ]
-
 -- One piece more, and the rest.
-puts_on : (s t u : State) (id : ArenaId) (width v : ℕ) (x y : Putting) (done : Bool) → IsPart x.bytes width v → x.at % 8 + width ≤ 8 → VisitPuts s t id x.at width v
+puts_on : (s t u : State) (id : ArenaId) (width v : ℕ) (x y : Putting) (done : Bool) → IsPart x.bytes width v → VisitPuts s t id x.at width v
     → y.at ≡ x.at + width → y.bytes ≡ drop width x.bytes → Leaves t u id y done → Leaves s u id x done
-puts_on s t u id width v x y false p fits put at bytes more =
+puts_on s t u id width v x y false p put at bytes more =
     let there = with_words_there s t id put.words put.known put.state in
     absurd (more.over (ap (λ (a : Arena). a.life) there ∙ put.alive))
-puts_on s t u id width v x y true p fits put at bytes more =
+puts_on s t u id width v x y true p put at bytes more =
     let all = bytes_of_arena s id in
     let part = take width x.bytes in
     let rest = drop width x.bytes in
@@ -214,9 +201,6 @@ puts_on s t u id width v x y true p fits put at bytes more =
     let next : y.at ≡ x.at + length (take width x.bytes) = at ∙ ap (λ k. x.at + k) (sym n) in
     let within = put.within in
     let room : x.at ≤ length (bytes_of_arena s id) = omega (arith, length-bytes_in (arena_of s id).words) in
-    let count : length (take width x.bytes) ≡ width = p.count in
-    let x_fits : x.at + width ≤ length (bytes_of_arena s id) = omega (arith, length-bytes_in (arena_of s id).words) in
-    let same_count : length (bytes_of_arena t id) ≡ length (bytes_of_arena s id) = ap length first ∙ keeps_count all part x.at (omega arith) in
     record {
       words = more.words;
       state = more.state ∙ ap (λ (r : State). changed r id (with_words more.words)) put.state ∙ changed_twice s id (with_words put.words) (with_words more.words) (λ a. refl);
@@ -226,7 +210,6 @@ puts_on s t u id width v x y true p fits put at bytes more =
           ∙ ap (λ bs. with_bytes bs (x.at + length part) rest) first
           ∙ with_bytes-twice all x.at part rest room
           ∙ ap (with_bytes all x.at) (take-append-drop width x.bytes);
-      within = λ some. ends_within x y width all (bytes_of_arena t id) x_fits same_count p.count at bytes more.within;
     }
 
 -- A run of puts puts just these bytes.
@@ -245,7 +228,7 @@ puts_run limit c id s x own done are (goes_on y first rest step run) legal =
     let put = visit_puts limit c s id x.at (next_width x) (number_of (take (next_width x) x.bytes)) first step.piece fits p.small parts.0 in
     let more = puts_run limit c id (state_after limit s first) y rest done left run parts.1 in
     let Here : State → Type 0 = λ u. Leaves s u id x done in
-    subst Here (sym (state_after-append limit s first rest)) (puts_on s t (state_after limit t rest) id width v x y done p fits put step.at step.bytes more)
+    subst Here (sym (state_after-append limit s first rest)) (puts_on s t (state_after limit t rest) id width v x y done p put step.at step.bytes more)
 
 -- An arena that is looked up has the name by which it is looked up.
 name_of : (s : State) (id : ArenaId) → (arena_of s id).id ≡ id
@@ -272,7 +255,6 @@ changes old now id place bytes known r =
       changed = ap bytes_in words ∙ r.bytes;
       others = λ other n. ap (λ (s : State). bytes_of_arena s other) r.state ∙ ap bytes_in (other_words (with_words r.words) (λ a. refl) old.state id other n);
       rest = r.state ∙ ap (λ ws. changed old.state id (with_words ws)) (sym words);
-      within = r.within;
     }
 
 -- Bytes that the only caller puts stand there, and all others stay.
@@ -282,7 +264,54 @@ put_alone old now id place bytes (Err r) are known d alone = tt
 put_alone old now id place bytes (Ok u) are known d alone =
     let m = Makes-alone old now d.own alone d.makes in
     let all = puts_run old.limit old.caller id old.state (record { at = place; bytes = bytes }) d.own true are d.does.1 m.0 in
-    changes old now id place bytes known (record { words = all.words; state = m.1 ∙ all.state; bytes = all.bytes; within = all.within })
+    changes old now id place bytes known (record { words = all.words; state = m.1 ∙ all.state; bytes = all.bytes })
+
+-- A put leaves as many bytes as there were.
+same_count : (all next bytes : List ℕ) (at width v : ℕ) → at + width ≤ length all → next ≡ take at all ++ (bytes_of width v ++ drop (at + width) all) → length next ≡ length all
+same_count all next bytes at width v fits is =
+    let begins : at ≤ length all = omega arith in
+    let count = length-take-le at all begins in
+    ap length is ∙ simp (length-append, length-drop, length-bytes_of) (omega arith)
+
+-- Where the first piece and the rest lie within the arena, all bytes do.
+ends_within : (x y : Putting) (width : ℕ) (all next : List ℕ) → x.at + width ≤ length all → length next ≡ length all → width ≤ length x.bytes
+    → y.at ≡ x.at + width → y.bytes ≡ drop width x.bytes → (0 < length y.bytes → y.at + length y.bytes ≤ length next) → x.at + length x.bytes ≤ length all
+ends_within x y width all next first same few at bytes rest =
+    let left : length y.bytes ≡ length x.bytes - width = ap length bytes ∙ length-drop width x.bytes in
+    elim (cases_lt 0 (length y.bytes)) [
+      | inl some ↦ (let h = rest some in omega arith)
+      | inr none ↦ omega arith
+    ]
+
+-- Bytes that a run puts lie within the arena.
+puts_within : (limit c : ℕ) (id : ArenaId) (s : State) (x : Putting) (own : List Entry) (done : Bool) → AreBytes x.bytes
+    → Run (PutsOn c id) (EndsPutting c id) x own done → IsLegal limit s own → done ≡ true → 0 < length x.bytes → x.at + length x.bytes ≤ length (bytes_of_arena s id)
+puts_within limit c id s x own false are (ends e) legal all_done some = absurd (cc)
+puts_within limit c id s x own true are (ends e) legal all_done some = (let empty : length x.bytes ≡ 0 = ap length e.0 in absurd (omega arith))
+puts_within limit c id s x own done are (goes_on y first rest step run) legal all_done some =
+    let width = next_width x in
+    let parts = IsLegal-split limit s first rest legal in
+    let fits : x.at % 8 + next_width x ≤ 8 = omega arith in
+    let few : next_width x ≤ length x.bytes = omega arith in
+    let t = state_after limit s first in
+    let v = number_of (take width x.bytes) in
+    let p = is_part x.bytes (next_width x) (number_of (take (next_width x) x.bytes)) are few refl in
+    let left : AreBytes y.bytes = subst AreBytes (sym step.bytes) (All-drop (λ b. b < 256) width x.bytes are) in
+    let put = visit_puts limit c s id x.at (next_width x) (number_of (take (next_width x) x.bytes)) first step.piece fits p.small parts.0 in
+    let all = bytes_of_arena s id in
+    let there = with_words_there s t id put.words put.known put.state in
+    let in_word = put.within in
+    let x_fits : x.at + next_width x ≤ length (bytes_of_arena s id) = omega (arith, length-bytes_in (arena_of s id).words) in
+    let same : length (bytes_of_arena t id) ≡ length (bytes_of_arena s id) =
+    same_count all (bytes_of_arena t id) x.bytes x.at width v x_fits (ap (λ (a : Arena). bytes_in a.words) there ∙ put.bytes) in
+    ends_within x y width all (bytes_of_arena t id) x_fits same few step.at step.bytes (puts_within limit c id t y rest done left run parts.1 all_done)
+
+-- Bytes that the only caller puts lie within the arena.
+pub put_within : (old now : View) (id : ArenaId) (place : ℕ) (bytes : List ℕ) (u : Unit {0}) → AreBytes bytes → Did old now (DoesPut old.caller id place bytes (Ok u))
+    → old.alone ≡ true → 0 < length bytes → place + length bytes ≤ length (bytes_of_arena old.state id)
+put_within old now id place bytes u are d alone some =
+    let m = Makes-alone old now d.own alone d.makes in
+    puts_within old.limit old.caller id old.state (record { at = place; bytes = bytes }) d.own true are d.does.1 m.0 refl some
 
 -- The only caller puts nothing where the arena isn't open to it.
 pub put_shut : (old now : View) (id : ArenaId) (place : ℕ) (bytes : List ℕ) (result : Result (Unit {0}) Refusal) → AreBytes bytes

@@ -1,5 +1,5 @@
 -- What the only caller of a memory sees of the bytes of its arenas, and where its calls are refused.
-use Rattle.std.specs.Prelude.{◌≡◌, ◌≢◌, ◌⊎◌, ℕ, ◌+◌, ◌*◌, ◌%◌, ◌^◌, ◌<◌, ◌≤◌, List, ◌++◌, length, take, drop}
+use Rattle.std.specs.Prelude.{◌≡◌, ◌≢◌, ◌⊎◌, ℕ, ◌+◌, ◌*◌, ◌%◌, ◌^◌, ◌≤◌, List, ◌++◌, length, take, drop}
 use Rattle.fm_base.specs.declared.arena_id.ArenaId.{ArenaId}
 use Rattle.fm_base.specs.Arenas.{Alive, Arena, State, arena_of, changed, MayUse}
 use Rattle.fm_base.specs.View.{View}
@@ -30,13 +30,11 @@ pub record FindsNumber (old new : View) (id : ArenaId) (place width n : ℕ) : T
   pub value : n ≡ number_at (bytes_of_arena old.state id) place width
   pub same : new.state ≡ old.state
 
--- The arena's bytes from the place on are these, which it has room for. Its other bytes stay, those of other arenas,
--- and all else of the state
+-- The arena's bytes from the place on are these. Its other bytes stay, those of other arenas, and all else of the state
 pub record ChangesBytes (old new : View) (id : ArenaId) (place : ℕ) (bytes : List ℕ) : Type 0 where
   pub changed : bytes_of_arena new.state id ≡ with_bytes (bytes_of_arena old.state id) place bytes
   pub others : (other : ArenaId) → other ≢ id → bytes_of_arena new.state other ≡ bytes_of_arena old.state other
   pub rest : DifferInWords old.state new.state id
-  pub within : 0 < length bytes → place + length bytes ≤ length (bytes_of_arena old.state id)
 
 -- the arena is alive, and the caller may use it
 pub record IsOpen (v : View) (id : ArenaId) : Type 0 where

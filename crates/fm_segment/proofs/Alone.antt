@@ -25,7 +25,7 @@ use Rattle.fm_layout.specs.Tree as tree
 use Rattle.fm_layout.specs.Tree.{Tree, alignment_of}
 use Rattle.fm_layout.specs.Size.{size_of}
 use Rattle.fm_pieces.specs.Alone.{bytes_of_arena, with_bytes, ChangesBytes}
-use Rattle.fm_pieces.proofs.Alone.{reads_alone, get_shut, put_alone, put_shut}
+use Rattle.fm_pieces.proofs.Alone.{reads_alone, get_shut, put_alone, put_within, put_shut}
 use Rattle.fm_pieces.proofs.Splicing.{takes_put}
 use Rattle.fm_segment.specs.Access.{HasKind, DoesGetAt, DoesSetAt, place_of, writable_place_of, if_tiling, Fits, IsAligned}
 use Rattle.fm_segment.specs.Alone.{bytes_of_region, FindsValue, PutsValue, StaysOutOf, SetsThenGets}
@@ -124,15 +124,26 @@ AreBytes-lowest_first Big bytes h = AreBytes-reverse bytes h
 AreBytes-value : (o : Order) (v : Value) → AreBytes (bytes_of_value o v)
 AreBytes-value o v = AreBytes-lowest_first o (bytes_of (width_of (kind_of v)) (encoded v)) (AreBytes-bytes_of (width_of (kind_of v)) (encoded v))
 
+length-value : (o : Order) (v : Value) → length (bytes_of_value o v) ≡ width_of (kind_of v)
+length-value Little v = length-bytes_of (width_of (kind_of v)) (encoded v)
+length-value Big v = length-reverse (bytes_of (width_of (kind_of v)) (encoded v)) ∙ length-bytes_of (width_of (kind_of v)) (encoded v)
+
 -- A value that the only caller sets stands there, and all else stays.
-pub set_alone : (old now : View) (r : Region) (t : Tree) (offset : ℕ) (found : Result ℕ Refusal) (v : Value) (result : Result (Unit {0}) Refusal) → StandsIf found offset t r
+pub set_alone : (old now : View) (r : Region) (t : Tree) (offset : ℕ) (found : Result ℕ Refusal) (v : Value) (result : Result (Unit {0}) Refusal) → StandsIf found offset t r → HasKind t (kind_of v)
     → has_arena old.state r.arena ≡ true → Did old now (DoesSetAt old.caller r.arena t found v result) → old.alone ≡ true → OnOk result (PutsValue old now r t offset v)
-set_alone old now r t offset found v (Err e) stands known d alone = tt
-set_alone old now r t offset (Err e) v (Ok u) stands known d alone = absurd (let is : Ok u ≡ Err e = d.does.0 in let no : ⊥ = cc in no)
-set_alone old now r (tree.Value k o l) offset (Ok p) v (Ok u) stands known d alone =
+set_alone old now r t offset found v (Err e) stands kind known d alone = tt
+set_alone old now r t offset (Err e) v (Ok u) stands kind known d alone = absurd (let is : Ok u ≡ Err e = d.does.0 in let no : ⊥ = cc in no)
+set_alone old now r (tree.Value k o l) offset (Ok p) v (Ok u) stands kind known d alone =
     let P : ℕ → Type 0 = λ n. ChangesBytes old now r.arena n (bytes_of_value o v) in
-    subst P (stands p refl).at (put_alone old now r.arena p (bytes_of_value o v) (Ok u) (AreBytes-value o v) known d alone)
-set_alone old now r t offset (Ok p) v (Ok u) stands known d alone = absurd d.does
+    let at = (stands p refl).at in
+    let width : length (bytes_of_value o v) ≡ width_of k = length-value o v ∙ ap width_of kind in
+    let some : 0 < length (bytes_of_value o v) = (let bounds = width_of-bounds k in let least = bounds.0 in omega arith) in
+    let within = put_within old now r.arena p (bytes_of_value o v) u (AreBytes-value o v) d alone some in
+    record {
+      bytes = subst P at (put_alone old now r.arena p (bytes_of_value o v) (Ok u) (AreBytes-value o v) known d alone);
+      within = omega arith;
+    }
+set_alone old now r t offset (Ok p) v (Ok u) stands kind known d alone = absurd d.does
 
 -- The only caller sets nothing where it is refused.
 pub set_stays_out : (old now : View) (id : ArenaId) (t : Tree) (found : Result ℕ Refusal) (v : Value) (result : Result (Unit {0}) Refusal)
@@ -158,10 +169,6 @@ means_itself k o v same small back =
     ∙ ap (decoded (kind_of v)) (number_of-bytes_of w (encoded v) small)
     ∙ back
 
-length-value : (o : Order) (v : Value) → length (bytes_of_value o v) ≡ width_of (kind_of v)
-length-value Little v = length-bytes_of (width_of (kind_of v)) (encoded v)
-length-value Big v = length-reverse (bytes_of (width_of (kind_of v)) (encoded v)) ∙ length-bytes_of (width_of (kind_of v)) (encoded v)
-
 pub sets_then_gets : (r : Region) (t : Tree) (offset : ℕ) (v : Value) → HasKind t (kind_of v)
     → encoded v < 2 ^ (8 * width_of (kind_of v)) → decoded (kind_of v) (encoded v) ≡ v → SetsThenGets r t offset v
 sets_then_gets r (tree.Value k o l) offset v kind small back old between new got fits put found =
@@ -170,12 +177,11 @@ sets_then_gets r (tree.Value k o l) offset v kind small back old between new got
     let all = bytes_of_arena old.state r.arena in
     let now = bytes_of_arena between.state r.arena in
     let at = r.first + offset in
-    let some : 0 < length (bytes_of_value o v) = (let bounds = width_of-bounds k in let least = bounds.0 in omega arith) in
-    let ends = put.within some in
+    let within = put.within in
     let room : r.first + offset ≤ length (bytes_of_arena old.state r.arena) = omega arith in
     let read : take (width_of k) (drop offset (bytes_of_region between.state r)) ≡ bytes_of_value o v =
     take-part (width_of k) offset r.size r.first now fits
-    ∙ ap (λ bs. take (width_of k) (drop at bs)) put.changed
+    ∙ ap (λ bs. take (width_of k) (drop at bs)) put.bytes.changed
     ∙ ap (λ n. take n (drop at (with_bytes all at bytes))) (sym width)
     ∙ takes_put all at bytes room in
     found.value ∙ ap (value_of k o) read ∙ means_itself k o v (sym kind) small back

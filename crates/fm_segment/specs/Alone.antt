@@ -1,5 +1,5 @@
 -- What the only caller of a memory sees of accesses to a segment.
-use Rattle.std.specs.Prelude.{◌≡◌, ℕ, ℤ, ◌+◌, List, [], take, drop, replicate, Result, Ok, Err}
+use Rattle.std.specs.Prelude.{◌≡◌, ℕ, ℤ, ◌+◌, ◌≤◌, List, [], length, take, drop, replicate, Result, Ok, Err}
 use Rattle.fm_base.specs.declared.arena_id.ArenaId.{ArenaId}
 use Rattle.fm_base.specs.declared.refusal.Refusal.{Refusal}
 use Rattle.fm_base.specs.Arenas.{State}
@@ -35,9 +35,11 @@ pub record FindsValue (old new : View) (r : Region) (t : Tree) (offset : ℕ) (v
   pub value : Means t (take (size_of t) (drop offset (bytes_of_region old.state r))) v
   pub same : new.state ≡ old.state
 
--- the region's bytes from the offset on are those of v; all other bytes stay, and all else of the state
-abbrev pub PutsValue : View → View → Region → Tree → ℕ → Value → Type 0
-PutsValue old new r t offset v = ChangesBytes old new r.arena (r.first + offset) (bytes_by t v)
+-- The region's bytes from the offset on are those of v, and the arena has room for them; all other bytes stay, and
+-- all else of the state
+pub record PutsValue (old new : View) (r : Region) (t : Tree) (offset : ℕ) (v : Value) : Type 0 where
+  pub bytes : ChangesBytes old new r.arena (r.first + offset) (bytes_by t v)
+  pub within : r.first + offset + size_of t ≤ length (bytes_of_arena old.state r.arena)
 
 -- Why an access that was to go to this place, or finds none, is refused: the arena isn't open to the caller,
 -- or the arguments are at fault. The state stays

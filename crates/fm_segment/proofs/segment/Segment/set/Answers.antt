@@ -40,14 +40,14 @@ returns-in_err-place-clause-alone g c =
     let v = g.M.Memory.view c.args.m.now in
     let t = c.args.layout.now in
     let r = c.args.self.now in
-    set_alone v v r t c.args.offset _ c.args.v c.from_residual.result (writable_stands c.args.offset t r) c.requires.known.arena (returns-in_err-place-clause-did g c)
+    set_alone v v r t c.args.offset _ c.args.v c.from_residual.result (writable_stands c.args.offset t r) c.requires.value c.requires.known.arena (returns-in_err-place-clause-did g c)
 
 pub returns-clause-alone : goal.returns-clause-alone
 returns-clause-alone g c =
     let v = g.M.Memory.view in
     let t = c.args.layout.now in
     let r = c.args.self.now in
-    set_alone (v c.args.m.now) (v c.put_value.new.m) r t c.args.offset _ c.args.v c.put_value.result (writable_stands c.args.offset t r) c.requires.known.arena (returns-clause-did g c)
+    set_alone (v c.args.m.now) (v c.put_value.new.m) r t c.args.offset _ c.args.v c.put_value.result (writable_stands c.args.offset t r) c.requires.value c.requires.known.arena (returns-clause-did g c)
 
 pub returns-in_err-place-clause-shut : goal.returns-in_err-place-clause-shut
 returns-in_err-place-clause-shut g c =

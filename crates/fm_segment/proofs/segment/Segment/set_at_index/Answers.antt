@@ -41,7 +41,7 @@ returns-in_err-offset-clause-alone g c =
     let t = c.args.layout.now in
     let r = c.args.self.now in
     let offset = c.args.index * size_of t in
-    set_alone v v r t offset _ c.args.v c.from_residual.result (tiled_stands (writable_place_of offset t r) offset t r (writable_stands offset t r)) c.requires.known.arena (returns-in_err-offset-clause-did g c)
+    set_alone v v r t offset _ c.args.v c.from_residual.result (tiled_stands (writable_place_of offset t r) offset t r (writable_stands offset t r)) c.requires.value c.requires.known.arena (returns-in_err-offset-clause-did g c)
 
 pub returns-clause-alone : goal.returns-clause-alone
 returns-clause-alone g c =
@@ -49,7 +49,7 @@ returns-clause-alone g c =
     let t = c.args.layout.now in
     let r = c.args.self.now in
     let offset = c.args.index * size_of t in
-    set_alone (v c.args.m.now) (v c.set.new.m) r t offset _ c.args.v c.set.result (tiled_stands (writable_place_of offset t r) offset t r (writable_stands offset t r)) c.requires.known.arena (returns-clause-did g c)
+    set_alone (v c.args.m.now) (v c.set.new.m) r t offset _ c.args.v c.set.result (tiled_stands (writable_place_of offset t r) offset t r (writable_stands offset t r)) c.requires.value c.requires.known.arena (returns-clause-did g c)
 
 pub returns-in_err-offset-clause-shut : goal.returns-in_err-offset-clause-shut
 returns-in_err-offset-clause-shut g c =
