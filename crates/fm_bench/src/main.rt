@@ -1,12 +1,15 @@
-//! Loops for the benchmarks: `visits COUNT` of an arena's words, `loads COUNT` from a plain vector.
+//! Loops for the benchmarks: `visits COUNT` of an arena's words, `loads COUNT` from a plain vector, and `fills COUNT`,
+//! `copies COUNT` and `mismatches COUNT` of segments of 64 MiB.
 //!
 //! It prints what it found, so that the loops are run; the script that calls it takes the time.
 #![tactic(auto)]
 
 mod loads;
+mod ranges;
 mod visits;
 
 use crate::loads::loads;
+use crate::ranges::{copies, fills, mismatches};
 use crate::visits::visits;
 use std::alloc::Global;
 use std::env;
@@ -41,6 +44,9 @@ fn run<R: Wait>(rt: &R, alloc: Global, what: &str, count: u64) -> Option<u64> {
     match what {
         "visits" => visits(rt, alloc, count).ok(),
         "loads" => loads(alloc, count).ok(),
+        "fills" => fills(rt, alloc, count).ok(),
+        "copies" => copies(rt, alloc, count).ok(),
+        "mismatches" => mismatches(rt, alloc, count).ok(),
         _ => None,
     }
 }
