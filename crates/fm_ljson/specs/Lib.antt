@@ -1,5 +1,7 @@
 pub mod Answer
 pub mod Built
+pub mod Counted
 pub mod Node
 pub mod Nodes
 pub mod Types
+pub mod Views

@@ -1,8 +1,8 @@
 -- What a layout object says by itself, where it breaks no rule of its own.
 use Rattle.std.specs.Prelude.{ℕ, Bool, true, ◌&&◌, ◌||◌, false, Option, Some, None, List, [], ◌∷◌, length, codes, bytes_eq, find, nat_le, if◌then◌else◌, option_map, option_and_then, unwrap_or}
 use Rattle.std.specs.List.{list_all, list_any}
-use Rattle.serde_json.specs.Data.{Num, unsigned, negative, float, Data, Items, no_items, item, Members, no_members, member}
-use Rattle.serde_json.specs.Find.{as_array, as_number, as_object, as_str, get_member}
+use Rattle.serde_json.specs.Data.{Data, Items, no_items, item, Members, no_members, member}
+use Rattle.serde_json.specs.Find.{as_array, as_number, as_object, as_str, as_u64, get_member}
 use Rattle.fm_lanes.specs.declared.order.Order.{Order}
 use Rattle.fm_lanes.specs.declared.order.Order.TheVariants.{Little, Big}
 use Rattle.fm_lanes.specs.declared.value_kind.ValueKind.{ValueKind}
@@ -28,14 +28,12 @@ pub record Node : Type 0 where
 
 -- ---- the values of keys
 
--- a whole number up to 2^40, in decimal digits alone: with a sign, a point or an exponent it is no unsigned number
-abbrev pub whole_in : Num → Option ℕ
-whole_in (unsigned n) = if nat_le n limit then Some n else None
-whole_in (negative z) = None
-whole_in (float x) = None
+abbrev pub within : ℕ → Option ℕ
+within n = if nat_le n limit then Some n else None
 
+-- a whole number up to 2^40, in decimal digits alone: what has a sign, a point or an exponent is no unsigned number
 abbrev pub whole_of : Data → Option ℕ
-whole_of d = option_and_then whole_in (as_number d)
+whole_of d = option_and_then within (option_and_then as_u64 (as_number d))
 
 -- whether the text is a name
 abbrev pub is_name : List ℕ → Bool
@@ -86,8 +84,12 @@ has_only keys (member k d ms) = list_any (bytes_eq k) keys && has_only keys ms
 
 -- ---- objects
 
+-- little, unless it says otherwise
+abbrev pub order_in : Members → Option Order
+order_in ms = option_map (λ o. unwrap_or o Little) (optional order_of (codes "order") ms)
+
 abbrev pub content_in : TypeName → Members → Option Content
-content_in (type_name.Value k) ms = option_map (λ o. Value k (unwrap_or o Little)) (optional order_of (codes "order") ms)
+content_in (type_name.Value k) ms = option_map (Value k) (order_in ms)
 content_in type_name.Padding ms = option_map Padding (required whole_of (codes "size") ms)
 content_in type_name.Sequence ms =
     option_and_then (λ n. option_map (Sequence n) (get_member (codes "element") ms)) (required whole_of (codes "count") ms)
@@ -99,7 +101,7 @@ abbrev pub align_in : TypeName → Members → Option (Option ℕ)
 align_in type_name.Padding ms = Some None
 align_in t ms = optional whole_of (codes "align") ms
 
-abbrev node : Content → Option (List ℕ) → Option ℕ → Node
+abbrev pub node : Content → Option (List ℕ) → Option ℕ → Node
 node content name align = record { content = content; name = name; align = align }
 
 abbrev pub node_of_type : Members → TypeName → Option Node
