@@ -82,7 +82,7 @@ all_false : (a b c : Bool) → a ≡ false → b ≡ false → c ≡ false → a
 all_false a b c p q r = rw (p, q, r) refl
 
 -- The nodes from this one down, where it breaks no rule.
-whole_here : (n levels : ℕ) (d : Data) (x : Node) → n < most_nodes → Some x ≡ node_of d
+pub whole_here : (n levels : ℕ) (d : Data) (x : Node) → n < most_nodes → Some x ≡ node_of d
     → first_broken n ((suc levels, d) ∷ flat_map (nodes levels) (parts_of d)) ≡ first_broken (n + 1) (flat_map (nodes levels) (parts_in x.content))
 whole_here n levels d x few is =
     ap (λ b. cond b (Some n) (first_broken (n + 1) (flat_map (nodes levels) (parts_of d))))

@@ -1,5 +1,6 @@
 pub mod Answer
 pub mod Built
+pub mod Causes
 pub mod Counted
 pub mod Node
 pub mod Nodes

@@ -1,8 +1,7 @@
-ghost use Rattle.std.specs.Prelude.{◌≡◌, ◌⊎◌, IfOk};
+ghost use Rattle.std.specs.Prelude.{◌≡◌, ◌⊎◌, IfErr};
 ghost use Rattle.serde_json.specs.View.{view};
-ghost use Rattle.fm_layout.specs.Named.{HasNames};
-ghost use Rattle.fm_layout.specs.WellFormed.{IsWellFormed};
 ghost use Rattle.fm_ljson.specs.Answer.{layout_of_data, layout_of_json};
+ghost use Rattle.fm_ljson.specs.Causes.{IsCause};
 
 use crate::build::build;
 use crate::shape::check;
@@ -22,6 +21,9 @@ const LEVELS: u64 = 40;
 /// `Memory` may come at any time.
 pub fn layout_from_json(alloc: Global, bytes: &[u8]) -> Result<Layout, Refusal>
     ensures read { (result ≡ Err Refusal.Memory) ⊎ (result ≡ layout_of_json bytes.now) }
+
+    // Each refusal has its cause.
+    ensures refused { IfErr result (λ refusal. IsCause bytes.now refusal) }
 {
     match Value::from_slice(alloc, bytes) {
         Ok(value) => layout_of(alloc, &value),
