@@ -15,10 +15,9 @@ use Rattle.fm_layout.specs.Made.{fault_of, made, padding_of, sequence_fault, seq
 use Rattle.fm_ljson.specs.Node.{Content, Padding, Sequence, Struct, Union, Node, node_of, parts_in, parts_of}
 use Rattle.fm_ljson.specs.Node as said
 use Rattle.fm_ljson.specs.Nodes.{first_broken, is_broken, most_levels, most_nodes, nodes}
-use Rattle.fm_ljson.specs.Built.{aligned, all_of, built, built_if_any, content_built, named, node_built, then}
+use Rattle.fm_ljson.specs.Built.{aligned, all_of, built, built_if_any, content_built, node_built, OrMemory, then}
 use Rattle.fm_ljson.specs.Answer.{layout_of_data, shaped}
 use Rattle.fm_ljson.specs.Causes.{IsBadAt, IsCause, IsJsonOf, IsRefusedAs}
-use Rattle.fm_ljson.proofs.Building.{OrMemory}
 use Rattle.fm_ljson.proofs.Counting.{no_node, one_too_many, too_deep, whole_here}
 
 -- the refusals of constructors and of `with_alignment`

@@ -8,7 +8,8 @@ use Rattle.fm_base.specs.declared.refusal.Refusal.{Refusal}
 use Rattle.fm_base.specs.declared.refusal.Refusal.TheVariants.{BadJson}
 use Rattle.fm_layout.specs.Tree.{Tree}
 use Rattle.fm_ljson.specs.Answer.{layout_if_read, layout_of_data, layout_of_json}
-use Rattle.fm_ljson.proofs.Building.{OrMemory, or_memory}
+use Rattle.fm_ljson.specs.Built.{OrMemory}
+use Rattle.fm_ljson.proofs.Building.{or_memory}
 
 -- What has a reading is answered as its value is.
 pub value_read : (bytes : List ℕ) (d : Data) (r : Result Tree Refusal) → IsUtf8 bytes × (read bytes ≡ Some d) → OrMemory r (layout_of_data d) → OrMemory r (layout_of_json bytes)

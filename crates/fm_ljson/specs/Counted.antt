@@ -1,7 +1,17 @@
 -- What is known on the way through the nodes.
-use Rattle.std.specs.Prelude.{◌≡◌, ℕ, ◌+◌, ◌≤◌, None, List, length}
+use Rattle.std.specs.Prelude.{◌≡◌, ℕ, ◌+◌, ◌≤◌, Some, None, List, length, map, flat_map}
 use Rattle.serde_json.specs.Data.{Data}
-use Rattle.fm_ljson.specs.Nodes.{first_broken, most_nodes}
+use Rattle.serde_json.specs.View.{view}
+use Rattle.serde_json.specs.declared.value.Value.{Value}
+use Rattle.fm_ljson.specs.Nodes.{first_broken, most_nodes, nodes}
+
+-- the nodes from these down
+abbrev pub all_nodes : ℕ → List Value → List (ℕ × Data)
+all_nodes levels vs = flat_map (nodes levels) (map view vs)
+
+-- of these nodes, which are counted from n, node m is the first that breaks a rule
+abbrev pub IsBroken : ℕ → ℕ → List (ℕ × Data) → Type 0
+IsBroken n m ps = first_broken n ps ≡ Some m
 
 -- none of these nodes, which are counted from n, breaks a rule, and the next has number m
 pub record AreSound (n m : ℕ) (ps : List (ℕ × Data)) : Type 0 where

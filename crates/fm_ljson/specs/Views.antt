@@ -1,11 +1,19 @@
 -- What a node that refers into a value says.
-use Rattle.std.specs.Prelude.{Option, Some, None, map, option_copied}
-use Rattle.serde_json.specs.View.{view}
+use Rattle.std.specs.Prelude.{Option, Some, None, String, map, option_copied}
+use Rattle.std.specs.BTreeMap.{BTreeMap}
+use Rattle.std.specs.declared.alloc.Global.{Global}
+use Rattle.serde_json.specs.Data.{Members}
+use Rattle.serde_json.specs.View.{members_view, view}
+use Rattle.serde_json.specs.declared.value.Value as json
 use Rattle.fm_ljson.specs.Node.{Content, Node}
 use Rattle.fm_ljson.specs.Node as node
 use Rattle.fm_ljson.specs.declared.node.ContentRef.{ContentRef}
 use Rattle.fm_ljson.specs.declared.node.ContentRef.TheVariants.{Value, Padding, Sequence, Struct, Union}
 use Rattle.fm_ljson.specs.declared.node.NodeRef.{NodeRef}
+
+-- the members of an object
+abbrev pub object_view : BTreeMap (String Global) json.Value → Members
+object_view m = members_view m.entries
 
 abbrev pub content_view : ContentRef → Content
 content_view (Value k o) = node.Value k o

@@ -1,9 +1,9 @@
-ghost use Rattle.std.specs.Prelude.{◌≡◌, ◌⊎◌, map, option_copied, IfOk, IfErr};
+ghost use Rattle.std.specs.Prelude.{◌≡◌, ◌⊎◌, option_copied, IfOk, IfErr};
 ghost use Rattle.serde_json.specs.View.{view};
 ghost use Rattle.fm_layout.specs.Named.{IsNameIfAny};
 ghost use Rattle.fm_layout.specs.Parts.{IsPadding};
 ghost use Rattle.fm_layout.specs.Views.{trees};
-ghost use Rattle.fm_ljson.specs.Built.{aligned, all_of, built, content_built, named, then};
+ghost use Rattle.fm_ljson.specs.Built.{aligned, all_built, built, content_built, finished, named, OrMemory};
 ghost use Rattle.fm_ljson.specs.Views.{content_view, MayBeAligned};
 
 use crate::node::{ContentRef, node_of};
@@ -18,7 +18,7 @@ use std::alloc::Global;
 /// here breaks a rule; one that did would be `BadShape`.
 #[cycle(build)]
 pub(crate) fn build(alloc: Global, value: &Value, levels: u64) -> Result<Layout, Refusal>
-    ensures { (result ≡ Err Refusal.Memory) ⊎ (result ≡ built levels (view value.now)) }
+    ensures { OrMemory result (built levels (view value.now)) }
 {
     if levels == 0 {
         return Err(Refusal::BadShape(0));
@@ -34,7 +34,7 @@ pub(crate) fn build(alloc: Global, value: &Value, levels: u64) -> Result<Layout,
 
 #[cycle(build)]
 fn build_content(alloc: Global, content: ContentRef<'_>, levels: u64) -> Result<Layout, Refusal>
-    ensures { (result ≡ Err Refusal.Memory) ⊎ (result ≡ content_built (built levels) (content_view content.entry)) }
+    ensures { OrMemory result (content_built (built levels) (content_view content.entry)) }
 {
     match content {
         ContentRef::Value(kind, order) => Ok(Layout::value(kind).with_order(order)),
@@ -57,9 +57,8 @@ fn build_content(alloc: Global, content: ContentRef<'_>, levels: u64) -> Result<
 /// The layouts of these nodes in order, or the first refusal.
 #[cycle(build)]
 fn build_all(alloc: Global, values: &[Value], levels: u64) -> Result<Vec<Layout>, Refusal>
-    ensures ok { IfOk result (λ v. Ok (trees v.items) ≡ all_of (map (built levels) (map view values.now))) }
-    ensures err { IfErr result (λ r.
-        (r ≡ Refusal.Memory) ⊎ (Err r ≡ all_of (map (built levels) (map view values.now)))) }
+    ensures ok { IfOk result (λ v. Ok (trees v.items) ≡ all_built levels values.now) }
+    ensures err { IfErr result (λ r. (r ≡ Refusal.Memory) ⊎ (Err r ≡ all_built levels values.now)) }
 {
     let mut layouts = Vec::new(alloc);
     for value in values {
@@ -83,8 +82,7 @@ fn finish(
 ) -> Result<Layout, Refusal>
     requires aligned { MayBeAligned align (IsPadding layout) }
     requires named { IsNameIfAny (option_copied name) }
-    ensures { (result ≡ Err Refusal.Memory)
-        ⊎ (result ≡ then (λ t. Ok (named (option_copied name.entry) t)) (aligned align layout)) }
+    ensures { OrMemory result (finished align (option_copied name.entry) layout) }
 {
     match aligned(layout, align) {
         Ok(layout) => named(alloc, layout, name),
@@ -104,7 +102,7 @@ fn aligned(layout: Layout, align: Option<u64>) -> Result<Layout, Refusal>
 
 fn named(alloc: Global, layout: Layout, name: Option<&str>) -> Result<Layout, Refusal>
     requires { IsNameIfAny (option_copied name) }
-    ensures { (result ≡ Err Refusal.Memory) ⊎ (result ≡ Ok (named (option_copied name.entry) layout)) }
+    ensures { OrMemory result (Ok (named (option_copied name.entry) layout)) }
 {
     match name {
         Some(name) => layout.with_name(alloc, name),

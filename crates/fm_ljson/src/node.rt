@@ -1,7 +1,7 @@
 ghost use Rattle.std.specs.Prelude.{◌≡◌, map, option_map};
-ghost use Rattle.serde_json.specs.View.{members_view, view};
+ghost use Rattle.serde_json.specs.View.{view};
 ghost use Rattle.fm_ljson.specs.Node.{content_in, node_in, node_of, node_of_type, parts_in};
-ghost use Rattle.fm_ljson.specs.Views.{content_view, node_view};
+ghost use Rattle.fm_ljson.specs.Views.{content_view, node_view, object_view};
 
 use crate::keys;
 use crate::type_name::TypeName;
@@ -50,7 +50,7 @@ pub(crate) fn node_of(value: &Value) -> Option<NodeRef<'_>>
 }
 
 fn node_in(object: &Map<String, Value>) -> Option<NodeRef<'_>>
-    ensures { option_map node_view result ≡ node_in (members_view object.now.entries) }
+    ensures { option_map node_view result ≡ node_in (object_view object.now) }
 {
     match keys::type_at(object) {
         Some(type_name) => node_of_type(object, type_name),
@@ -59,7 +59,7 @@ fn node_in(object: &Map<String, Value>) -> Option<NodeRef<'_>>
 }
 
 fn node_of_type<'v>(object: &'v Map<String, Value>, type_name: TypeName) -> Option<NodeRef<'v>>
-    ensures { option_map node_view result ≡ node_of_type (members_view object.now.entries) type_name }
+    ensures { option_map node_view result ≡ node_of_type (object_view object.now) type_name }
 {
     if !keys::has_only(type_name, object) {
         return None;
@@ -81,7 +81,7 @@ fn node_of_type<'v>(object: &'v Map<String, Value>, type_name: TypeName) -> Opti
 }
 
 fn content_of<'v>(object: &'v Map<String, Value>, type_name: TypeName) -> Option<ContentRef<'v>>
-    ensures { option_map content_view result ≡ content_in type_name (members_view object.now.entries) }
+    ensures { option_map content_view result ≡ content_in type_name (object_view object.now) }
 {
     match type_name {
         TypeName::Value(kind) => match keys::order_at(object) {
@@ -106,7 +106,7 @@ fn content_of<'v>(object: &'v Map<String, Value>, type_name: TypeName) -> Option
 
 fn sequence_of(object: &Map<String, Value>) -> Option<ContentRef<'_>>
     ensures { option_map content_view result
-        ≡ content_in TypeName.Sequence (members_view object.now.entries) }
+        ≡ content_in TypeName.Sequence (object_view object.now) }
 {
     let Some(count) = keys::whole_at(object, "count") else {
         return None;

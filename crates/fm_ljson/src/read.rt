@@ -1,6 +1,7 @@
 ghost use Rattle.std.specs.Prelude.{◌≡◌, ◌⊎◌, IfErr};
 ghost use Rattle.serde_json.specs.View.{view};
 ghost use Rattle.fm_ljson.specs.Answer.{layout_of_data, layout_of_json};
+ghost use Rattle.fm_ljson.specs.Built.{OrMemory};
 ghost use Rattle.fm_ljson.specs.Causes.{IsCause};
 
 use crate::build::build;
@@ -39,7 +40,7 @@ pub fn layout_from_json(alloc: Global, bytes: &[u8]) -> Result<Layout, Refusal>
 
 /// The layout of what was read: its shape is checked whole before anything is built.
 fn layout_of(alloc: Global, value: &Value) -> Result<Layout, Refusal>
-    ensures { (result ≡ Err Refusal.Memory) ⊎ (result ≡ layout_of_data (view value.now)) }
+    ensures { OrMemory result (layout_of_data (view value.now)) }
 {
     match check(value, LEVELS, 0) {
         Ok(_) => build(alloc, value, LEVELS),

@@ -1,7 +1,7 @@
-ghost use Rattle.std.specs.Prelude.{◌≡◌, ◌≤◌, map, flat_map, Some, IfOk, IfErr};
+ghost use Rattle.std.specs.Prelude.{◌≤◌, IfOk, IfErr};
 ghost use Rattle.serde_json.specs.View.{view};
-ghost use Rattle.fm_ljson.specs.Counted.{AreSound};
-ghost use Rattle.fm_ljson.specs.Nodes.{first_broken, most_nodes, nodes};
+ghost use Rattle.fm_ljson.specs.Counted.{all_nodes, AreSound, IsBroken};
+ghost use Rattle.fm_ljson.specs.Nodes.{most_nodes, nodes};
 
 use crate::node::{node_of, parts_of};
 use serde_json::Value;
@@ -15,7 +15,7 @@ const NODES: u64 = 65_536;
 pub(crate) fn check(value: &Value, levels: u64, number: u64) -> Result<u64, u64>
     requires { number ≤ most_nodes }
     ensures sound { IfOk result (λ next. AreSound number next (nodes levels (view value.now))) }
-    ensures broken { IfErr result (λ n. first_broken number (nodes levels (view value.now)) ≡ Some n) }
+    ensures broken { IfErr result (λ n. IsBroken number n (nodes levels (view value.now))) }
 {
     if number >= NODES {
         return Err(number);
@@ -33,8 +33,8 @@ pub(crate) fn check(value: &Value, levels: u64, number: u64) -> Result<u64, u64>
 #[cycle(shape)]
 fn check_all(values: &[Value], levels: u64, mut number: u64) -> Result<u64, u64>
     requires { number ≤ most_nodes }
-    ensures sound { IfOk result (λ next. AreSound number next (flat_map (nodes levels) (map view values.now))) }
-    ensures broken { IfErr result (λ n. first_broken number (flat_map (nodes levels) (map view values.now)) ≡ Some n) }
+    ensures sound { IfOk result (λ next. AreSound number next (all_nodes levels values.now)) }
+    ensures broken { IfErr result (λ n. IsBroken number n (all_nodes levels values.now)) }
 {
     for value in values {
         match check(value, levels, number) {

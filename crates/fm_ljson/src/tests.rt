@@ -135,6 +135,13 @@ fn reads_each_type_and_key(rt: HostRuntime) -> Result<(), Fail> {
             Some("u"),
         ),
         (
+            "{'type':'struct','members':[{'type':'int'},{'type':'padding','size':4},{'type':'long'}]}",
+            Form::Struct(3),
+            16,
+            8,
+            None,
+        ),
+        (
             "{'type':'byte','type':'int'}",
             Form::Value(ValueKind::Int, Order::Little),
             4,

@@ -4,7 +4,7 @@ use Rattle.serde_json.specs.Read.{read}
 use Rattle.serde_json.specs.View.{view}
 use Rattle.fm_base.specs.declared.refusal.Refusal.TheVariants.{BadJson}
 use Rattle.fm_ljson.specs.Answer.{layout_of_json}
-use Rattle.fm_ljson.proofs.Building.{OrMemory}
+use Rattle.fm_ljson.specs.Built.{OrMemory}
 use Rattle.fm_ljson.proofs.Causing.{refused_read, refused_unread}
 use Rattle.fm_ljson.proofs.Reading.{value_read, not_read, not_so}
 use Rattle.fm_ljson.proofs.read.layout_from_json.Goals as goal
