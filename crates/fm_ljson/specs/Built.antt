@@ -1,0 +1,63 @@
+-- The layout that nodes stand for: each is built after its parts, and the first refusal is answered.
+use Rattle.std.specs.Prelude.{◌≡◌, ◌⊎◌, ℕ, zero, suc, Option, Some, None, Result, Ok, Err, List, [], ◌∷◌, map}
+use Rattle.serde_json.specs.Data.{Data}
+use Rattle.serde_json.specs.View.{view}
+use Rattle.serde_json.specs.declared.value.Value.{Value}
+use Rattle.fm_base.specs.declared.refusal.Refusal.{Refusal}
+use Rattle.fm_base.specs.declared.refusal.Refusal.TheVariants.{BadShape, Memory}
+use Rattle.fm_layout.specs.Tree.{Tree, Trees, NoMore, More}
+use Rattle.fm_layout.specs.Made.{value_of, padding_of, sequence_of, struct_of, union_of, with_alignment, with_name, with_order}
+use Rattle.fm_ljson.specs.Node.{Content, Padding, Sequence, Struct, Union, Node, node_of}
+use Rattle.fm_ljson.specs.Node as said
+
+-- what f makes of the first, or the first's refusal
+abbrev pub then : {A B : Type 0} → (A → Result B Refusal) → Result A Refusal → Result B Refusal
+then f (Ok a) = f a
+then f (Err r) = Err r
+
+-- this answer, but for want of memory, which is free
+abbrev pub OrMemory : {A : Type 0} → Result A Refusal → Result A Refusal → Type 0
+OrMemory r s = (r ≡ Err Memory) ⊎ (r ≡ s)
+
+-- all of them, or the first refusal
+abbrev pub all_of : List (Result Tree Refusal) → Result Trees Refusal
+all_of [] = Ok NoMore
+all_of (r ∷ rs) = then (λ t. then (λ ts. Ok (More t ts)) (all_of rs)) r
+
+-- the layout of a content, whose parts are built so
+abbrev pub content_built : (Data → Result Tree Refusal) → Content → Result Tree Refusal
+content_built build (said.Value k o) = Ok (with_order o (value_of k))
+content_built build (Padding n) = padding_of n
+content_built build (Sequence n e) = then (sequence_of n) (build e)
+content_built build (Struct ms) = then struct_of (all_of (map build ms))
+content_built build (Union ms) = then (λ ts. Ok (union_of ts)) (all_of (map build ms))
+
+abbrev pub aligned : Option ℕ → Tree → Result Tree Refusal
+aligned None t = Ok t
+aligned (Some n) t = with_alignment n t
+
+abbrev pub named : Option (List ℕ) → Tree → Tree
+named None t = t
+named (Some name) t = with_name name t
+
+-- the layout with this alignment, if any, and then this name
+abbrev pub finished : Option ℕ → Option (List ℕ) → Tree → Result Tree Refusal
+finished align name t = then (λ u. Ok (named name u)) (aligned align t)
+
+-- the layout of a node: that of its content, finished
+abbrev pub node_built : (Data → Result Tree Refusal) → Node → Result Tree Refusal
+node_built build n = then (finished n.align n.name) (content_built build n.content)
+
+-- a node that breaks a rule is never built
+abbrev pub built_if_any : (Data → Result Tree Refusal) → Option Node → Result Tree Refusal
+built_if_any build None = Err (BadShape 0)
+built_if_any build (Some n) = node_built build n
+
+-- the layout of a node with so many levels from it down
+unfoldable pub built : ℕ → Data → Result Tree Refusal
+built zero d = built_if_any (λ _. Err (BadShape 0)) None
+built (suc levels) d = built_if_any (built levels) (node_of d)
+
+-- the layouts of these nodes
+abbrev pub all_built : ℕ → List Value → Result Trees Refusal
+all_built levels vs = all_of (map (built levels) (map view vs))

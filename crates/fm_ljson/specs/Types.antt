@@ -1,0 +1,31 @@
+-- The types of layout objects, and the keys that an object of each may have.
+use Rattle.std.specs.Prelude.{ℕ, Option, List, [], ◌∷◌, codes, bytes_eq, find}
+use Rattle.fm_lanes.specs.declared.value_kind.ValueKind.TheVariants.{Byte, Boolean, Char, Short, Int, Long}
+use Rattle.fm_path.specs.Listing.{kind_text}
+use Rattle.fm_ljson.specs.declared.type_name.TypeName.{TypeName}
+use Rattle.fm_ljson.specs.declared.type_name.TypeName.TheVariants.{Value, Padding, Sequence, Struct, Union}
+
+-- what the key `type` has for it
+abbrev pub type_text : TypeName → List ℕ
+type_text (Value k) = kind_text k
+type_text Padding = codes "padding"
+type_text Sequence = codes "sequence"
+type_text Struct = codes "struct"
+type_text Union = codes "union"
+
+abbrev pub types : List TypeName
+types =
+    Value Byte ∷ Value Boolean ∷ Value Char ∷ Value Short ∷ Value Int ∷ Value Long
+    ∷ Padding ∷ Sequence ∷ Struct ∷ Union ∷ []
+
+-- the type that a text names
+unfoldable pub type_named : List ℕ → Option TypeName
+type_named text = find (λ t. bytes_eq text (type_text t)) types
+
+-- the keys that an object of this type may have
+abbrev pub keys_of : TypeName → List (List ℕ)
+keys_of (Value k) = codes "type" ∷ codes "name" ∷ codes "order" ∷ codes "align" ∷ []
+keys_of Padding = codes "type" ∷ codes "name" ∷ codes "size" ∷ []
+keys_of Sequence = codes "type" ∷ codes "name" ∷ codes "align" ∷ codes "count" ∷ codes "element" ∷ []
+keys_of Struct = codes "type" ∷ codes "name" ∷ codes "align" ∷ codes "members" ∷ []
+keys_of Union = codes "type" ∷ codes "name" ∷ codes "align" ∷ codes "members" ∷ []

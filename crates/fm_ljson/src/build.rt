@@ -1,0 +1,111 @@
+ghost use Rattle.std.specs.Prelude.{◌≡◌, ◌⊎◌, option_copied, IfOk, IfErr};
+ghost use Rattle.serde_json.specs.View.{view};
+ghost use Rattle.fm_layout.specs.Named.{IsNameIfAny};
+ghost use Rattle.fm_layout.specs.Parts.{IsPadding};
+ghost use Rattle.fm_layout.specs.Views.{trees};
+ghost use Rattle.fm_ljson.specs.Built.{aligned, all_built, built, content_built, finished, named, OrMemory};
+ghost use Rattle.fm_ljson.specs.Views.{content_view, MayBeAligned};
+
+use crate::node::{ContentRef, node_of};
+use fm_base::Refusal;
+use fm_layout::Layout;
+use serde_json::Value;
+use std::alloc::Global;
+
+/// The layout of a node with so many levels from it down.
+///
+/// Refused: as the first constructor refuses, parts before their node, from the first to the last; `Memory`. No node
+/// here breaks a rule; one that did would be `BadShape`.
+#[cycle(build)]
+pub(crate) fn build(alloc: Global, value: &Value, levels: u64) -> Result<Layout, Refusal>
+    ensures { OrMemory result (built levels (view value.now)) }
+{
+    if levels == 0 {
+        return Err(Refusal::BadShape(0));
+    }
+    match node_of(value) {
+        Some(node) => match build_content(alloc, node.content, levels - 1) {
+            Ok(layout) => finish(alloc, layout, node.align, node.name),
+            Err(refusal) => Err(refusal),
+        },
+        None => Err(Refusal::BadShape(0)),
+    }
+}
+
+#[cycle(build)]
+fn build_content(alloc: Global, content: ContentRef<'_>, levels: u64) -> Result<Layout, Refusal>
+    ensures { OrMemory result (content_built (built levels) (content_view content.entry)) }
+{
+    match content {
+        ContentRef::Value(kind, order) => Ok(Layout::value(kind).with_order(order)),
+        ContentRef::Padding(size) => Layout::padding(size),
+        ContentRef::Sequence(count, element) => match build(alloc, element, levels) {
+            Ok(element) => Layout::sequence(alloc, count, element),
+            Err(refusal) => Err(refusal),
+        },
+        ContentRef::Struct(members) => match build_all(alloc, members, levels) {
+            Ok(members) => Layout::structure(members),
+            Err(refusal) => Err(refusal),
+        },
+        ContentRef::Union(members) => match build_all(alloc, members, levels) {
+            Ok(members) => Ok(Layout::union_of(members)),
+            Err(refusal) => Err(refusal),
+        },
+    }
+}
+
+/// The layouts of these nodes in order, or the first refusal.
+#[cycle(build)]
+fn build_all(alloc: Global, values: &[Value], levels: u64) -> Result<Vec<Layout>, Refusal>
+    ensures ok { IfOk result (λ v. Ok (trees v.items) ≡ all_built levels values.now) }
+    ensures err { IfErr result (λ r. (r ≡ Refusal.Memory) ⊎ (Err r ≡ all_built levels values.now)) }
+{
+    let mut layouts = Vec::new(alloc);
+    for value in values {
+        let layout = match build(alloc, value, levels) {
+            Ok(layout) => layout,
+            Err(refusal) => return Err(refusal),
+        };
+        let Ok(()) = layouts.push(layout) else {
+            return Err(Refusal::Memory);
+        };
+    }
+    Ok(layouts)
+}
+
+/// The layout with this alignment and this name.
+fn finish(
+    alloc: Global,
+    layout: Layout,
+    align: Option<u64>,
+    name: Option<&str>,
+) -> Result<Layout, Refusal>
+    requires aligned { MayBeAligned align (IsPadding layout) }
+    requires named { IsNameIfAny (option_copied name) }
+    ensures { OrMemory result (finished align (option_copied name.entry) layout) }
+{
+    match aligned(layout, align) {
+        Ok(layout) => named(alloc, layout, name),
+        Err(refusal) => Err(refusal),
+    }
+}
+
+fn aligned(layout: Layout, align: Option<u64>) -> Result<Layout, Refusal>
+    requires { MayBeAligned align (IsPadding layout) }
+    ensures { result ≡ aligned align layout }
+{
+    match align {
+        Some(n) => layout.with_alignment(n),
+        None => Ok(layout),
+    }
+}
+
+fn named(alloc: Global, layout: Layout, name: Option<&str>) -> Result<Layout, Refusal>
+    requires { IsNameIfAny (option_copied name) }
+    ensures { OrMemory result (Ok (named (option_copied name.entry) layout)) }
+{
+    match name {
+        Some(name) => layout.with_name(alloc, name),
+        None => Ok(layout),
+    }
+}

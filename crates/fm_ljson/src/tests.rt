@@ -1,0 +1,385 @@
+use crate::layout_from_json;
+use fm_base::Refusal;
+use fm_lanes::{Order, ValueKind};
+use fm_layout::{Form, Layout};
+use std::alloc::Global;
+use std::test::Fail;
+
+/// The layout of a text that has `'` for each quotation mark.
+fn read(alloc: Global, text: &str) -> Result<Layout, Refusal> {
+    let mut json = String::new(alloc);
+    for c in text.chars() {
+        json.push(if c == '\'' { '"' } else { c })?;
+    }
+    layout_from_json(alloc, json.as_bytes())
+}
+
+/// A struct of int `id`, short `kind`, padding, long `price`, four bytes `tags` and padding: 24 bytes.
+fn item(alloc: Global) -> Result<Layout, Fail> {
+    let mut members = Vec::new(alloc);
+    members.push(Layout::value(ValueKind::Int).with_name(alloc, "id")?)?;
+    members.push(Layout::value(ValueKind::Short).with_name(alloc, "kind")?)?;
+    members.push(Layout::padding(2)?)?;
+    members.push(Layout::value(ValueKind::Long).with_name(alloc, "price")?)?;
+    let tags = Layout::sequence(alloc, 4, Layout::value(ValueKind::Byte))?;
+    members.push(tags.with_name(alloc, "tags")?)?;
+    members.push(Layout::padding(4)?)?;
+    Ok(Layout::structure(members)?)
+}
+
+#[test]
+fn reads_a_record(rt: HostRuntime) -> Result<(), Fail> {
+    let item = item(rt.alloc())?;
+    for text in [
+        "{'type':'struct','members':[{'type':'int','name':'id'},{'type':'short','name':'kind'},{'type':'padding','size':2},{'type':'long','name':'price'},{'type':'sequence','name':'tags','count':4,'element':{'type':'byte'}},{'type':'padding','size':4}]}",
+        "{'members':[{'name':'id','type':'int'},{'name':'kind','type':'short'},{'size':2,'type':'padding'},{'name':'price','type':'long'},{'count':4,'element':{'type':'byte'},'name':'tags','type':'sequence'},{'size':4,'type':'padding'}],'type':'struct'}",
+    ] {
+        let layout = read(rt.alloc(), text)?;
+        assert!(rt; layout == item, "at {text}");
+    }
+    Ok(())
+}
+
+#[test]
+fn reads_each_type_and_key(rt: HostRuntime) -> Result<(), Fail> {
+    for (text, form, size, alignment, name) in [
+        (
+            "{'type':'byte'}",
+            Form::Value(ValueKind::Byte, Order::Little),
+            1,
+            1,
+            None,
+        ),
+        (
+            "{'type':'boolean'}",
+            Form::Value(ValueKind::Boolean, Order::Little),
+            1,
+            1,
+            None,
+        ),
+        (
+            "{'type':'char','order':'big'}",
+            Form::Value(ValueKind::Char, Order::Big),
+            2,
+            2,
+            None,
+        ),
+        (
+            "{'type':'short','order':'little'}",
+            Form::Value(ValueKind::Short, Order::Little),
+            2,
+            2,
+            None,
+        ),
+        (
+            "{'type':'int','align':1}",
+            Form::Value(ValueKind::Int, Order::Little),
+            4,
+            1,
+            None,
+        ),
+        (
+            "{'type':'long','align':1099511627776}",
+            Form::Value(ValueKind::Long, Order::Little),
+            8,
+            1 << 40,
+            None,
+        ),
+        (
+            " { 'type' : 'int' , 'name' : '_a9' } ",
+            Form::Value(ValueKind::Int, Order::Little),
+            4,
+            4,
+            Some("_a9"),
+        ),
+        (
+            "{'type':'padding','size':3,'name':'p'}",
+            Form::Padding,
+            3,
+            1,
+            Some("p"),
+        ),
+        (
+            "{'type':'padding','size':1099511627776}",
+            Form::Padding,
+            1 << 40,
+            1,
+            None,
+        ),
+        (
+            "{'type':'sequence','count':0,'element':{'type':'int'}}",
+            Form::Sequence(0),
+            0,
+            4,
+            None,
+        ),
+        (
+            "{'type':'sequence','count':2,'element':{'type':'int'},'align':16,'name':'s'}",
+            Form::Sequence(2),
+            8,
+            16,
+            Some("s"),
+        ),
+        (
+            "{'type':'struct','members':[]}",
+            Form::Struct(0),
+            0,
+            1,
+            None,
+        ),
+        (
+            "{'type':'union','members':[{'type':'byte'},{'type':'long'}],'align':32,'name':'u'}",
+            Form::Union(2),
+            8,
+            32,
+            Some("u"),
+        ),
+        (
+            "{'type':'struct','members':[{'type':'int'},{'type':'padding','size':4},{'type':'long'}]}",
+            Form::Struct(3),
+            16,
+            8,
+            None,
+        ),
+        (
+            "{'type':'byte','type':'int'}",
+            Form::Value(ValueKind::Int, Order::Little),
+            4,
+            4,
+            None,
+        ),
+        (
+            "{'type':'int','align':3,'align':2}",
+            Form::Value(ValueKind::Int, Order::Little),
+            4,
+            2,
+            None,
+        ),
+        (
+            "{'\\u0074ype':'int'}",
+            Form::Value(ValueKind::Int, Order::Little),
+            4,
+            4,
+            None,
+        ),
+    ] {
+        let layout = read(rt.alloc(), text)?;
+        assert_eq!(rt; layout.form(), form, "at {text}");
+        assert_eq!(rt; layout.size(), size, "at {text}");
+        assert_eq!(rt; layout.alignment(), alignment, "at {text}");
+        assert_eq!(rt; layout.name(), name, "at {text}");
+    }
+    Ok(())
+}
+
+#[test]
+fn refuses_what_is_no_json(rt: HostRuntime) {
+    for text in [
+        "",
+        "{",
+        "{'type':'int'}}",
+        "{'type':'int'} 1",
+        "{'type':'int',}",
+        "{'type':'int','align':08}",
+        "{'type':'int','align':+8}",
+        "{'type':'int','align':1e999}",
+        "{'type':'int','name':'\\ud800'}",
+    ] {
+        assert_eq!(rt;
+            read(rt.alloc(), text).err(),
+            Some(Refusal::BadJson),
+            "at {text}"
+        );
+    }
+    for bytes in [
+        &b"\"\xff\""[..],
+        &b"{\"type\":\"int\"\xc3}"[..],
+        &b"\xef\xbb\xbf{}"[..],
+    ] {
+        assert_eq!(rt;
+            layout_from_json(rt.alloc(), bytes).err(),
+            Some(Refusal::BadJson)
+        );
+    }
+}
+
+#[test]
+fn names_the_node_that_breaks_a_rule(rt: HostRuntime) {
+    for (text, node) in [
+        ("null", 0),
+        ("[]", 0),
+        ("'int'", 0),
+        ("{}", 0),
+        ("{'type':'float'}", 0),
+        ("{'type':'Int'}", 0),
+        ("{'type':7}", 0),
+        ("{'type':'int','size':4}", 0),
+        ("{'type':'int','Name':'a'}", 0),
+        ("{'type':'int','':1}", 0),
+        ("{'type':'int','name':''}", 0),
+        ("{'type':'int','name':'9a'}", 0),
+        ("{'type':'int','name':'a-b'}", 0),
+        ("{'type':'int','name':null}", 0),
+        ("{'type':'int','order':'Big'}", 0),
+        ("{'type':'int','order':true}", 0),
+        ("{'type':'int','align':8.0}", 0),
+        ("{'type':'int','align':8e0}", 0),
+        ("{'type':'int','align':-0}", 0),
+        ("{'type':'int','align':-8}", 0),
+        ("{'type':'int','align':'8'}", 0),
+        ("{'type':'int','align':1099511627777}", 0),
+        ("{'type':'int','align':18446744073709551616}", 0),
+        ("{'type':'padding'}", 0),
+        ("{'type':'padding','size':1099511627777}", 0),
+        ("{'type':'padding','size':2,'align':1}", 0),
+        ("{'type':'padding','size':2,'order':'big'}", 0),
+        ("{'type':'sequence','count':2}", 0),
+        ("{'type':'sequence','element':{'type':'int'}}", 0),
+        (
+            "{'type':'sequence','count':1099511627777,'element':{'type':'int'}}",
+            0,
+        ),
+        (
+            "{'type':'sequence','count':2,'element':{'type':'int'},'members':[]}",
+            0,
+        ),
+        ("{'type':'struct'}", 0),
+        ("{'type':'struct','members':{}}", 0),
+        ("{'type':'struct','members':[],'order':'big'}", 0),
+        ("{'type':'union','members':[],'size':1}", 0),
+        ("{'type':'sequence','count':2,'element':7}", 1),
+        ("{'type':'struct','members':[1]}", 1),
+        (
+            "{'type':'struct','members':[{'type':'int'},{'type':'float'},{}]}",
+            2,
+        ),
+        (
+            "{'type':'struct','members':[{'type':'union','members':[{'type':'int'},{'type':'int'}]},{}]}",
+            4,
+        ),
+        (
+            "{'type':'struct','members':[{'type':'sequence','count':1,'element':{'type':'struct','members':[]}},{'type':'int'},null]}",
+            4,
+        ),
+        (
+            "{'type':'union','members':[{'type':'struct','members':[{'type':'int'},{'type':'int','align':-1}]},{}]}",
+            3,
+        ),
+        (
+            "{'type':'struct','members':[{'type':'padding','size':0},{}]}",
+            2,
+        ),
+    ] {
+        assert_eq!(rt;
+            read(rt.alloc(), text).err(),
+            Some(Refusal::BadShape(node)),
+            "at {text}"
+        );
+    }
+}
+
+#[test]
+fn refuses_as_the_constructors_do(rt: HostRuntime) {
+    for (text, refusal) in [
+        ("{'type':'int','align':0}", Refusal::BadAlignment),
+        ("{'type':'int','align':24}", Refusal::BadAlignment),
+        (
+            "{'type':'struct','members':[{'type':'int'},{'type':'long'}]}",
+            Refusal::MemberMisaligned(1, 4),
+        ),
+        (
+            "{'type':'sequence','count':1099511627776,'element':{'type':'long'}}",
+            Refusal::Overflow,
+        ),
+        (
+            "{'type':'struct','members':[{'type':'padding','size':1099511627776},{'type':'byte'}]}",
+            Refusal::Overflow,
+        ),
+        (
+            "{'type':'sequence','count':2,'element':{'type':'struct','members':[{'type':'long'},{'type':'int'}]}}",
+            Refusal::ElementRagged,
+        ),
+        ("{'type':'padding','size':0}", Refusal::BadPadding),
+        (
+            "{'type':'struct','members':[{'type':'long'}],'align':4}",
+            Refusal::AlignmentBelow(8),
+        ),
+        (
+            "{'type':'sequence','count':0,'element':{'type':'short'},'align':1}",
+            Refusal::AlignmentBelow(2),
+        ),
+        (
+            "{'type':'union','members':[{'type':'padding','size':0},{'type':'int','align':3}],'align':5}",
+            Refusal::BadPadding,
+        ),
+        (
+            "{'type':'union','members':[{'type':'int','align':3},{'type':'padding','size':0}],'align':5}",
+            Refusal::BadAlignment,
+        ),
+        (
+            "{'type':'struct','members':[{'type':'byte'},{'type':'int'}],'align':3}",
+            Refusal::MemberMisaligned(1, 1),
+        ),
+        (
+            "{'type':'struct','members':[{'type':'byte'},{'type':'int'},{'type':'padding','size':0}]}",
+            Refusal::BadPadding,
+        ),
+    ] {
+        assert_eq!(rt; read(rt.alloc(), text).err(), Some(refusal), "at {text}");
+    }
+}
+
+/// An int in so many sequences of one.
+fn nested(alloc: Global, levels: u64) -> Result<String, Fail> {
+    let mut text = String::new(alloc);
+    for _ in 0..levels {
+        text.push_str("{'type':'sequence','count':1,'element':")?;
+    }
+    text.push_str("{'type':'int'}")?;
+    for _ in 0..levels {
+        text.push_str("}")?;
+    }
+    Ok(text)
+}
+
+#[test]
+fn reads_forty_levels(rt: HostRuntime) -> Result<(), Fail> {
+    let deep = nested(rt.alloc(), 39)?;
+    assert_eq!(rt; read(rt.alloc(), &deep).map(|l| l.size()).ok(), Some(4));
+    for (levels, refusal) in [
+        (40, Refusal::BadShape(40)),
+        (41, Refusal::BadShape(40)),
+        (126, Refusal::BadShape(40)),
+        (127, Refusal::BadJson),
+    ] {
+        let deep = nested(rt.alloc(), levels)?;
+        assert_eq!(rt; read(rt.alloc(), &deep).err(), Some(refusal), "at {levels}");
+    }
+    Ok(())
+}
+
+/// A struct of so many bytes.
+fn wide(alloc: Global, members: u64) -> Result<String, Fail> {
+    let mut text = String::new(alloc);
+    text.push_str("{'type':'struct','members':[{'type':'byte'}")?;
+    for _ in 1..members {
+        text.push_str(",{'type':'byte'}")?;
+    }
+    text.push_str("]}")?;
+    Ok(text)
+}
+
+#[test]
+fn reads_65536_nodes(rt: HostRuntime) -> Result<(), Fail> {
+    let most = wide(rt.alloc(), 65_535)?;
+    assert_eq!(rt;
+        read(rt.alloc(), &most).map(|l| l.size()).ok(),
+        Some(65_535)
+    );
+    let more = wide(rt.alloc(), 65_536)?;
+    assert_eq!(rt;
+        read(rt.alloc(), &more).err(),
+        Some(Refusal::BadShape(65_536))
+    );
+    Ok(())
+}
