@@ -1,5 +1,5 @@
 -- The nodes of the canonical JSON break no rule, and the layout that they stand for is the one that was written.
-use Rattle.std.proofs.Common.{◌≡◌, refl, sym, ap, ◌∙◌, ℕ, zero, suc, ◌+◌, ◌*◌, ◌%◌, ◌≤◌, ◌<◌, Bool, true, false, nat_eq, nat_le, le-leb, eq-eqb, cond, map, List, [], ◌∷◌, ◌++◌, Option, Some, None, Result, Ok, Err, arith, append-nil}
+use Rattle.std.proofs.Common.{◌≡◌, refl, sym, ap, ◌∙◌, ℕ, zero, suc, ◌+◌, ◌≤◌, ◌<◌, Bool, true, false, nat_eq, nat_le, le-leb, eq-eqb, cond, map, List, [], ◌∷◌, ◌++◌, Option, Some, None, Result, Ok, arith, append-nil}
 use Rattle.std.specs.Prelude.{flat_map}
 use Rattle.std.specs.Int.{is_power_of_two}
 use Rattle.std.proofs.lemmas.List.{append_assoc}
@@ -11,14 +11,14 @@ use Rattle.fm_lanes.specs.Kind.{width_of}
 use Rattle.fm_layout.specs.Depth.{depth, deepest}
 use Rattle.fm_layout.specs.Made.{plain, padding_of, sequence_of, struct_of, with_alignment}
 use Rattle.fm_layout.specs.Named.{HasNames, HaveNames}
-use Rattle.fm_layout.specs.Size.{greatest_alignment, least_of, size_of, sum_of}
+use Rattle.fm_layout.specs.Size.{greatest_alignment, least_of, size_of}
 use Rattle.fm_layout.specs.Tree.{Label, Tree, Trees, Value, Padding, Sequence, Struct, Union, NoMore, More, alignment_of, label_of, relabelled}
 use Rattle.fm_layout.specs.WellFormed.{limit, IsFit, IsWellFormed, AreWellFormed, AreLaidOut}
 use Rattle.fm_layout.proofs.Powers.{is_power_of_two-IsPowerOfTwo}
 use Rattle.fm_layout.proofs.Refused.{fault_of-none}
-use Rattle.fm_ljson.specs.Answer.{layout_of_data, layout_of_json, shaped}
+use Rattle.fm_ljson.specs.Answer.{layout_of_json}
 use Rattle.fm_ljson.specs.Built.{built, built_if_any, node_built, then, all_of, aligned, named}
-use Rattle.fm_ljson.specs.Node.{node_of, list_of, parts_in, parts_of_node}
+use Rattle.fm_ljson.specs.Node.{node_of, list_of, parts_in}
 use Rattle.fm_ljson.specs.Nodes.{nodes, first_broken, most_levels, most_nodes}
 use Rattle.serde_json.specs.Read.{read}
 use Rattle.std.specs.Str.{is_utf8}

@@ -1,5 +1,5 @@
 -- How deep the canonical JSON nests.
-use Rattle.std.proofs.Common.{◌≡◌, refl, ◌∙◌, ℕ, suc, ◌+◌, ◌*◌, ◌≤◌, max, Bool, true, false, nat_eq, cond, List, Option, Some, None, codes, arith}
+use Rattle.std.proofs.Common.{◌≡◌, refl, ℕ, suc, ◌*◌, ◌≤◌, Bool, true, false, nat_eq, cond, List, Option, Some, None, codes, arith}
 use Rattle.serde_json.specs.Data.{Data, array, Members, member, depth, items_depth, members_depth}
 use Rattle.fm_lanes.specs.declared.order.Order.{Order}
 use Rattle.fm_lanes.specs.declared.order.Order.TheVariants.{Little, Big}

@@ -1,6 +1,6 @@
 -- No float stands in the canonical JSON.
-use Rattle.std.proofs.Common.{◌≡◌, refl, ap, ◌∙◌, ℕ, Bool, true, false, nat_eq, List, Option, Some, None, codes, cond}
-use Rattle.serde_json.specs.Data.{Data, Members, member, string}
+use Rattle.std.proofs.Common.{◌≡◌, refl, ℕ, Bool, true, false, nat_eq, List, Option, Some, None, codes, cond}
+use Rattle.serde_json.specs.Data.{Data, Members, member}
 use Rattle.serde_json.specs.Written.{has_float, items_have_float, members_have_float}
 use Rattle.fm_lanes.specs.declared.order.Order.{Order}
 use Rattle.fm_lanes.specs.declared.order.Order.TheVariants.{Little, Big}

@@ -1,5 +1,5 @@
 -- What the profile of the format finds in the canonical JSON: each node says what its layout is.
-use Rattle.std.proofs.Common.{◌≡◌, refl, sym, ap, ◌∙◌, ℕ, ◌≤◌, Bool, true, false, ◌&&◌, ◌||◌, nat_eq, nat_le, le-leb, cond, List, [], ◌∷◌, length, Option, Some, None, option_map, unwrap_or, codes}
+use Rattle.std.proofs.Common.{◌≡◌, refl, ap, ◌∙◌, ℕ, ◌≤◌, Bool, true, false, ◌&&◌, ◌||◌, nat_eq, nat_le, le-leb, cond, List, [], ◌∷◌, length, Option, Some, None, option_map, unwrap_or, codes}
 use Rattle.std.specs.List.{list_all}
 use Rattle.std.proofs.lemmas.Bool.{and_from}
 use Rattle.serde_json.specs.Data.{Data, string, array, object, Members, member}
@@ -12,10 +12,9 @@ use Rattle.fm_lanes.specs.Kind.{width_of}
 use Rattle.fm_layout.specs.Name.{is_digit, is_letter, IsName}
 use Rattle.fm_layout.specs.Named.{HasNames, IsNameIfAny}
 use Rattle.fm_layout.specs.Size.{greatest_alignment}
-use Rattle.fm_layout.specs.Tree.{Label, Tree, Trees, Value, Padding, Sequence, Struct, Union, NoMore, More, alignment_of, label_of}
-use Rattle.fm_layout.specs.WellFormed.{limit, IsFit, IsWellFormed}
+use Rattle.fm_layout.specs.Tree.{Label, Tree, Value, Padding, Sequence, Struct, Union, alignment_of, label_of}
+use Rattle.fm_layout.specs.WellFormed.{limit, IsWellFormed}
 use Rattle.fm_layout.proofs.Names.{list_all-IsNameEnd}
-use Rattle.fm_layout.proofs.Sound.{fit_of}
 use Rattle.fm_path.specs.Listing.{kind_text}
 use Rattle.fm_ljson.specs.Node as node
 use Rattle.fm_ljson.specs.Node.{Content, Node, node_of, content_in, align_in, optional, has_only, is_name, list_of, whole_of}

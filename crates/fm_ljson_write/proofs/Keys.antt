@@ -1,10 +1,9 @@
 -- Members that are put in any order stand in byte order.
-use Rattle.std.proofs.Common.{◌≡◌, refl, ap, ◌∙◌, ℕ, nat_eq, Bool, true, false, Option, Some, None, List, codes, cond}
-use Rattle.serde_json.specs.Data.{Data, string, array, Members, member, object, put}
-use Rattle.fm_lanes.specs.declared.value_kind.ValueKind.{ValueKind}
+use Rattle.std.proofs.Common.{◌≡◌, refl, ℕ, Option, Some, None, List, codes}
+use Rattle.serde_json.specs.Data.{Data, Members, member, put}
 use Rattle.fm_lanes.specs.declared.order.Order.{Order}
 use Rattle.fm_lanes.specs.declared.order.Order.TheVariants.{Little, Big}
-use Rattle.fm_ljson_write.specs.Canonical.{if_any, order_of, typed, whole}
+use Rattle.fm_ljson_write.specs.Canonical.{if_any, order_of, typed}
 use Rattle.fm_ljson_write.specs.Putting.{put_any}
 
 -- the name and the alignment go before the type
