@@ -1,0 +1,6 @@
+pub mod Again
+pub mod Deep
+pub mod Floats
+pub mod Found
+pub mod Keys
+pub mod Rest

@@ -1,0 +1,4 @@
+pub mod Canonical
+pub mod Groups
+pub mod Limits
+pub mod Putting

@@ -1,0 +1,14 @@
+//! The canonical JSON of layouts.
+//!
+//! A layout's JSON is an object with the key `type` and those that its type asks for. The canonical text is compact and
+//! has its keys in byte order; `order` is written exactly where it is `big`, `align` exactly where the alignment isn't
+//! the one that the constructor gives, and `name` exactly where there is one.
+#![tactic(auto)]
+
+mod canonical;
+mod members;
+#[cfg(test)]
+mod tests;
+mod writing;
+
+pub use writing::layout_to_json;

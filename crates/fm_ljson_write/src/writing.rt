@@ -1,0 +1,29 @@
+ghost use Rattle.std.specs.Prelude.{◌≡◌, IfOk, IfErr, Ok};
+ghost use Rattle.fm_ljson.specs.Answer.{layout_of_json};
+ghost use Rattle.fm_ljson_write.specs.Canonical.{canonical_text};
+ghost use Rattle.fm_ljson_write.specs.Limits.{IsWithinLimits};
+
+use crate::canonical::json_of;
+use fm_base::Refusal;
+use fm_layout::Layout;
+use std::alloc::Global;
+
+/// The canonical text of the layout, as UTF-8. Refused: `Memory`.
+///
+/// It reads as an equal layout where that has at most 40 levels and 65,536 layouts in it, and no sequence of more than
+/// 2^40 elements, which one whose elements have no bytes may have.
+pub fn layout_to_json(alloc: Global, layout: &Layout) -> Result<Vec<u8>, Refusal>
+    ensures text { IfOk result (λ bytes. bytes.items ≡ canonical_text layout.now) }
+    ensures reads_back { IfOk result (λ bytes. IsWithinLimits layout.now →
+        layout_of_json bytes.items ≡ Ok layout.now) }
+    ensures memory { IfErr result (λ refusal. refusal ≡ Refusal.Memory) }
+{
+    let _size = layout.size();
+    let Ok(value) = json_of(alloc, layout) else {
+        return Err(Refusal::Memory);
+    };
+    match value.to_vec(alloc) {
+        Ok(bytes) => Ok(bytes),
+        Err(_) => Err(Refusal::Memory),
+    }
+}
