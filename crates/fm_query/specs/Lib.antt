@@ -1,0 +1,4 @@
+pub mod Grammar
+pub mod Parsed
+pub mod Plan
+pub mod Records
