@@ -2,6 +2,8 @@
 use Rattle.std.specs.Prelude.{◌≡◌, ℤ, pos, negsuc, ℕ, ◌+◌, ◌^◌, ◌<◌, ◌≤◌, List, [], ◌∷◌, ◌++◌, length, take, codes}
 use Rattle.std.specs.Fmt.{signed_decimal}
 use Rattle.std.specs.List.{AllByRecursion, join_by}
+use Rattle.fm_base.specs.declared.refusal.Refusal.{Refusal}
+use Rattle.fm_base.specs.declared.refusal.Refusal.TheVariants.{BadQuery, Memory}
 use Rattle.fm_steps.specs.Grammar as path
 use Rattle.fm_query.specs.declared.fold.Fold.{Fold}
 use Rattle.fm_query.specs.declared.fold.Fold.TheVariants.{Sum, Least, Greatest, All}
@@ -41,6 +43,9 @@ condition_text c = path.path_text c.path ++ (operator_text c.operator ++ signed_
 pub record Syntax : Type 0 where
   pub items : List ItemSyntax
   pub conditions : List ConditionSyntax
+
+abbrev pub syntax : List ItemSyntax → List ConditionSyntax → Syntax
+syntax items conditions = record { items = items; conditions = conditions }
 
 abbrev pub where_text : List ConditionSyntax → List ℕ
 where_text [] = []
@@ -88,3 +93,9 @@ pub record BeginsUpTo (at : ℕ) (text : List ℕ) : Type 0 where
   pub begins : Begins (take at text)
   pub longest : at < length text → Begins (take (at + 1) text) → ⊥
   pub none : (q : Syntax) → IsQuery q → text ≡ query_text q → ⊥
+
+-- what reading a query's text may answer in place of what it says
+abbrev pub IsNoText : List ℕ → Refusal → Type 0
+IsNoText text (BadQuery at) = BeginsUpTo at text
+IsNoText text Memory = Unit {0}
+IsNoText text _ = ⊥

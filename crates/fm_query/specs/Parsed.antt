@@ -1,8 +1,8 @@
 -- What the text of a query comes to over a layout, and why it is refused.
-use Rattle.std.specs.Prelude.{◌≡◌, ℕ, ◌+◌, ◌⊎◌, Option, Some, None, List, [], ◌∷◌}
+use Rattle.std.specs.Prelude.{◌≡◌, ℕ, ◌+◌, ◌⊎◌, Bool, true, false, if◌then◌else◌, Option, Some, None, List, [], ◌∷◌}
 use Rattle.std.specs.List.{AllByRecursion, AllZip}
 use Rattle.fm_base.specs.declared.refusal.Refusal.{Refusal}
-use Rattle.fm_base.specs.declared.refusal.Refusal.TheVariants.{StillOpen, BadQuery, Memory}
+use Rattle.fm_base.specs.declared.refusal.Refusal.TheVariants.{StillOpen, Memory}
 use Rattle.fm_layout.specs.Tree.{Tree, alignment_of}
 use Rattle.fm_layout.specs.Size.{size_of}
 use Rattle.fm_steps.specs.declared.step.PathStep.{PathStep}
@@ -15,17 +15,21 @@ use Rattle.fm_query.specs.declared.item.Asked.{Asked}
 use Rattle.fm_query.specs.declared.item.Asked.TheVariants as asked
 use Rattle.fm_query.specs.declared.item.Item.{Item}
 use Rattle.fm_query.specs.declared.condition.Condition.{Condition}
-use Rattle.fm_query.specs.Grammar.{Syntax, IsTextOf, BeginsUpTo, item_text, condition_text}
+use Rattle.fm_query.specs.Grammar.{Syntax, IsTextOf, IsNoText, item_text, condition_text}
 use Rattle.fm_query.specs.Plan.{Plan}
+
+-- the step leaves an index open
+abbrev pub is_open : PathStep → Bool
+is_open (Name name) = false
+is_open (Group n) = false
+is_open (At n) = false
+is_open Each = true
+is_open (EachFrom f s) = true
 
 -- the first step of a path that leaves an index open, where its first step has this number
 abbrev pub open_from : ℕ → List PathStep → Option ℕ
 open_from k [] = None
-open_from k (Name name ∷ ps) = open_from (k + 1) ps
-open_from k (Group n ∷ ps) = open_from (k + 1) ps
-open_from k (At n ∷ ps) = open_from (k + 1) ps
-open_from k (Each ∷ ps) = Some k
-open_from k (EachFrom f s ∷ ps) = Some k
+open_from k (p ∷ ps) = if is_open p then Some k else open_from (k + 1) ps
 
 abbrev pub first_open : List PathStep → Option ℕ
 first_open path = open_from 0 path
@@ -87,7 +91,10 @@ pub record IsParsed (text : List ℕ) (t : Tree) (p : Plan) : Type 0 where
   pub is_plan : IsPlanOf t syntax p
 
 -- what parsing a text answers in place of a query: where it leaves the grammar; else why the query is refused
-pub data IsNoQuery (text : List ℕ) (t : Tree) : Refusal → Type 0 where
-  no_text : (at : ℕ) → BeginsUpTo at text → IsNoQuery text t (BadQuery at)
-  refused : (q : Syntax) → (e : Refusal) → IsTextOf text q → IsSyntaxRefused t q e → IsNoQuery text t e
-  no_memory : IsNoQuery text t Memory
+pub data IsNoQuery (text : List ℕ) (t : Tree) (e : Refusal) : Type 0 where
+  no_text : IsNoText text e → IsNoQuery text t e
+  refused : (q : Syntax) → IsTextOf text q → IsSyntaxRefused t q e → IsNoQuery text t e
+
+-- refused so, or for want of memory
+abbrev pub OrMemory : (Refusal → Type 0) → Refusal → Type 0
+OrMemory Refuses e = Refuses e ⊎ (e ≡ Memory)

@@ -4,13 +4,21 @@
 mod condition;
 mod fold;
 mod item;
+mod number;
 mod operator;
 mod parse;
+mod printing;
 mod query;
 mod record;
+mod resolving;
+mod spot;
+mod stage;
 mod steps;
 mod syntax;
+#[cfg(test)]
+mod tests;
 mod text;
+mod word;
 
 pub use condition::Condition;
 pub use fold::Fold;

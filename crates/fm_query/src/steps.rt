@@ -1,6 +1,8 @@
-ghost use Rattle.std.specs.Prelude.{◌≡◌};
+ghost use Rattle.std.specs.Prelude.{◌≡◌, ◌++◌, ◌∷◌, [], length, OnOk, IfErr};
 
+use fm_base::Refusal;
 use fm_path::PathStep;
+use std::alloc::Global;
 use std::marker::Model;
 
 /// The steps of a path, seen as their list.
@@ -19,6 +21,15 @@ impl Model for Steps {
 }
 
 impl Steps {
+    /// No steps. Takes no memory.
+    pub fn new(alloc: Global) -> Steps
+        ensures { result ≡ [] }
+    {
+        Steps {
+            steps: Vec::new(alloc),
+        }
+    }
+
     /// These steps.
     pub fn of(steps: Vec<PathStep>) -> Steps
         ensures { result ≡ steps.items }
@@ -31,6 +42,24 @@ impl Steps {
         ensures { result.items ≡ self }
     {
         self.steps
+    }
+
+    /// How many there are.
+    pub fn len(&self) -> usize
+        ensures { result ≡ length self.now }
+    {
+        self.steps.len()
+    }
+
+    /// Adds a step at the end. Refused: `Memory`.
+    pub fn push(&mut self, step: PathStep) -> Result<(), Refusal>
+        ensures ok { OnOk result (self.new ≡ self.old ++ step ∷ []) }
+        ensures memory { IfErr result (λ refusal. refusal ≡ Refusal.Memory) }
+    {
+        match self.steps.push(step) {
+            Ok(()) => Ok(()),
+            Err(_) => Err(Refusal::Memory),
+        }
     }
 
     pub fn as_slice(&self) -> &[PathStep]
