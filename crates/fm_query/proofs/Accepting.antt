@@ -1,10 +1,10 @@
 -- The text of each query is read to its end, to that query.
-use Rattle.std.proofs.Common.{◌≡◌, refl, sym, ap, subst, ℕ, ◌+◌, ◌-◌, ◌*◌, ◌/◌, ◌%◌, ◌^◌, ◌<◌, ◌≤◌, zero, suc, Bool, true, false, ◌||◌, ◌⊎◌, inl, inr, if◌then◌else◌, nat_eq, nat_lt, nat_le, Option, Some, None, List, [], ◌∷◌, ◌++◌, length, arith, ◌∙◌}
+use Rattle.std.proofs.Common.{◌≡◌, refl, sym, ap, subst, ℕ, ◌+◌, ◌-◌, ◌*◌, ◌/◌, ◌%◌, ◌^◌, ◌<◌, ◌≤◌, suc, Bool, true, false, ◌||◌, ◌⊎◌, inl, inr, if◌then◌else◌, nat_eq, nat_le, Option, Some, None, List, [], ◌∷◌, ◌++◌, length, arith, ◌∙◌}
 use Rattle.std.specs.Prelude.{codes, decimal, ℤ, pos, negsuc}
 use Rattle.std.specs.Fmt.{signed_decimal}
 use Rattle.std.specs.List.{AllByRecursion, join_by, flat_map}
 use Rattle.std.proofs.lemmas.Bool.Decides.{nat_tests}
-use Rattle.std.proofs.lemmas.List.{append_assoc, append-nil, length-append}
+use Rattle.std.proofs.lemmas.List.{append_assoc, length-append}
 use Rattle.std.proofs.lemmas.Fmt.{decimal_by_steps}
 use Rattle.fm_layout.specs.Name.{is_digit}
 use Rattle.fm_steps.specs.declared.step.PathStep.{PathStep}
@@ -12,7 +12,7 @@ use Rattle.fm_steps.specs.declared.part.Part.{Part}
 use Rattle.fm_steps.specs.declared.part.Part.TheVariants as part
 use Rattle.fm_steps.specs.declared.part.Move.TheVariants as move
 use Rattle.fm_steps.specs.declared.sign.Sign.TheVariants as sign
-use Rattle.fm_steps.specs.Grammar.{path_text, IsPath}
+use Rattle.fm_steps.specs.Grammar.{path_text}
 use Rattle.fm_steps.specs.Reader as path
 use Rattle.fm_steps.proofs.Reading.{lt_test}
 use Rattle.fm_steps.proofs.Accepting as path_accepting

@@ -1,13 +1,11 @@
 -- What has been read begins some query's text.
-use Rattle.std.proofs.Common.{◌≡◌, refl, sym, ap, ℕ, ◌+◌, ◌<◌, ◌≤◌, zero, suc, Some, List, [], ◌∷◌, ◌++◌, length, take, drop, arith, ◌∙◌}
+use Rattle.std.proofs.Common.{◌≡◌, refl, sym, ap, ℕ, ◌+◌, zero, suc, List, [], ◌∷◌, ◌++◌, length, take, drop, arith, ◌∙◌}
 use Rattle.std.specs.Prelude.{codes, decimal, pos, negsuc}
 use Rattle.std.specs.List.{AllByRecursion, join_by}
 use Rattle.std.proofs.lemmas.List.{append_assoc, append-nil, length-append, take-append-drop}
 use Rattle.std.proofs.lemmas.Fmt.{decimal_digit}
-use Rattle.fm_steps.specs.declared.step.PathStep.{PathStep}
 use Rattle.fm_steps.specs.Grammar as path
 use Rattle.fm_steps.proofs.Accepting as path_accepting
-use Rattle.fm_query.specs.declared.operator.Operator.{Operator}
 use Rattle.fm_query.specs.declared.operator.Operator.TheVariants.{Equal, NotEqual}
 use Rattle.fm_query.specs.declared.syntax.ItemSyntax.{ItemSyntax}
 use Rattle.fm_query.specs.declared.syntax.ItemSyntax.TheVariants.{Count, Of}
@@ -16,7 +14,7 @@ use Rattle.fm_query.specs.declared.word.Word.TheVariants.{Counting, Folding}
 use Rattle.fm_query.specs.declared.stage.Role.TheVariants.{OfItem, OfCondition}
 use Rattle.fm_query.specs.declared.stage.Stage.{Stage}
 use Rattle.fm_query.specs.declared.stage.Stage.TheVariants.{Start, Spelling, InPath, Behind, Bang, Compare, Minus, Literal}
-use Rattle.fm_query.specs.Grammar.{syntax, fold_text, item_text, condition_text, operator_text, where_text, IsItem, IsCondition, IsQuery, Begins}
+use Rattle.fm_query.specs.Grammar.{syntax, fold_text, item_text, condition_text, operator_text, where_text, IsItem, IsCondition, Begins}
 use Rattle.fm_query.specs.Reader.{word_text, where_word, and_word, condition}
 use Rattle.fm_query.proofs.Shown.{so_far, items_led, conditions_led, led, join_led, conditions_more, IsAtItem, IsAtCondition, HasRead}
 use Rattle.fm_query.proofs.Leaving.{literal_of}

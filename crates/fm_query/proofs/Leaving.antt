@@ -1,8 +1,8 @@
 -- One byte leaves what the next stage shows.
-use Rattle.std.proofs.Common.{◌≡◌, refl, sym, ap, subst, ℕ, ◌+◌, ◌-◌, ◌*◌, ◌/◌, ◌%◌, ◌^◌, ◌<◌, ◌≤◌, zero, suc, Bool, true, false, ◌&&◌, ◌||◌, not, if◌then◌else◌, nat_eq, nat_lt, nat_le, Option, Some, None, List, [], ◌∷◌, ◌++◌, length, take, get_or, arith, ◌∙◌}
+use Rattle.std.proofs.Common.{◌≡◌, refl, sym, ap, subst, ℕ, ◌+◌, ◌-◌, ◌*◌, ◌/◌, ◌%◌, ◌^◌, ◌<◌, ◌≤◌, zero, suc, Bool, true, false, ◌&&◌, not, if◌then◌else◌, nat_eq, nat_lt, nat_le, Option, Some, None, List, [], ◌∷◌, ◌++◌, length, take, get_or, arith, ◌∙◌}
 use Rattle.std.specs.Prelude.{codes, decimal, pos, neg_ℤ}
 use Rattle.std.specs.Fmt.{signed_decimal}
-use Rattle.std.specs.List.{AllByRecursion, join_by}
+use Rattle.std.specs.List.{join_by}
 use Rattle.std.proofs.lemmas.Bool.Decides.{nat_tests}
 use Rattle.std.proofs.lemmas.List.{append_assoc, append-nil, length-append, take_more, take_all}
 use Rattle.std.proofs.lemmas.Fmt.{decimal_step, decimal_digit}
@@ -32,8 +32,8 @@ use Rattle.fm_query.specs.declared.stage.Stage.TheVariants.{Start, Spelling, InP
 use Rattle.fm_query.specs.declared.stage.Turn.{Turn}
 use Rattle.fm_query.specs.declared.stage.Turn.TheVariants.{Dead, Stay, NextItem, NextCondition}
 use Rattle.fm_query.specs.Grammar.{fold_text, item_text, condition_text, operator_text, IsItem, IsCondition, IsLiteral}
-use Rattle.fm_query.specs.Reader.{word_text, where_word, and_word, starts, spelled, turns, spells, is_mark, marks, goes, in_path, behind, or_equal, compares, negates, value_of, longer, counts, condition, in_literal, next, IsNumber, Spot, spot, moved, onward, run, start}
-use Rattle.fm_query.proofs.Shown.{so_far, items_led, conditions_led, led_snoc, join_led, conditions_more, base, own, IsAtItem, IsAtCondition, IsCounted, IsLive, HasRead, MayHaveRead}
+use Rattle.fm_query.specs.Reader.{word_text, where_word, and_word, starts, spelled, turns, spells, is_mark, marks, goes, behind, or_equal, compares, negates, value_of, longer, counts, condition, in_literal, next, IsNumber}
+use Rattle.fm_query.proofs.Shown.{so_far, items_led, conditions_led, led_snoc, join_led, conditions_more, base, own, IsAtItem, IsAtCondition, IsCounted, IsLive}
 
 -- what holds of both values holds of the one that a test picks
 choose : {A : Type 0} (P : A → Type 0) (c : Bool) (x y : A) → (c ≡ true → P x) → (c ≡ false → P y) → P (if c then x else y)

@@ -1,9 +1,9 @@
 -- Paths resolved one after the other, up to the first refusal.
-use Rattle.std.proofs.Common.{◌≡◌, refl, sym, ap, subst, ℕ, ◌+◌, ◌%◌, ◌<◌, ◌≤◌, zero, suc, Option, Some, None, List, [], ◌∷◌, ◌++◌, length, take, drop, get_or, inl, inr, arith, ◌∙◌}
+use Rattle.std.proofs.Common.{◌≡◌, refl, sym, ap, subst, ℕ, ◌+◌, ◌<◌, ◌≤◌, zero, suc, None, List, [], ◌∷◌, ◌++◌, length, take, get_or, inl, inr, arith, ◌∙◌}
 use Rattle.std.specs.Prelude.{IsTrue, ◌||◌}
 use Rattle.std.specs.List.{AllByRecursion, AllZip}
 use Rattle.std.proofs.lemmas.Bool.Decides.{nat_tests}
-use Rattle.std.proofs.lemmas.List.{append_assoc, append-nil, take_more, take_all}
+use Rattle.std.proofs.lemmas.List.{take_more, take_all}
 use Rattle.fm_base.specs.declared.refusal.Refusal.{Refusal}
 use Rattle.fm_base.specs.declared.refusal.Refusal.TheVariants.{Memory}
 use Rattle.fm_layout.specs.Tree.{Tree, alignment_of}
@@ -22,10 +22,10 @@ use Rattle.fm_query.specs.declared.syntax.ItemSyntax.TheVariants.{Count, Of}
 use Rattle.fm_query.specs.declared.syntax.ConditionSyntax.{ConditionSyntax}
 use Rattle.fm_query.specs.declared.item.Item.{Item}
 use Rattle.fm_query.specs.declared.condition.Condition.{Condition}
-use Rattle.fm_query.specs.Grammar.{Syntax, IsQuery, IsTextOf, IsNoText}
+use Rattle.fm_query.specs.Grammar.{Syntax, IsTextOf, IsNoText}
 use Rattle.fm_query.specs.Records.{IsRecord}
 use Rattle.fm_query.specs.Plan.{plan, AsksOf, IsItemIn, IsConditionIn, IsPlan}
-use Rattle.fm_query.specs.Parsed.{open_from, IsItemOf, IsItemAdmitted, IsItemRefused, IsConditionOf, IsConditionAdmitted, IsConditionRefused, IsFirstRefused, at_item, at_condition, IsPlanOf, IsParsed, IsNoQuery, no_text, refused, OrMemory}
+use Rattle.fm_query.specs.Parsed.{open_from, IsItemOf, IsItemAdmitted, IsItemRefused, IsConditionOf, IsConditionAdmitted, IsConditionRefused, IsFirstRefused, at_item, at_condition, IsParsed, IsNoQuery, no_text, refused, OrMemory}
 
 -- one more pair
 zip_push : {A B : Type 0} (R : A → B → Type 0) (xs : List A) (ys : List B) (x : A) (y : B) → AllZip R xs ys → R x y → AllZip R (xs ++ x ∷ []) (ys ++ y ∷ [])

@@ -16,8 +16,8 @@ use Rattle.fm_query.specs.declared.stage.Stage.TheVariants.{Start, Spelling, InP
 use Rattle.fm_query.specs.declared.stage.Turn.{Turn}
 use Rattle.fm_query.specs.declared.stage.Turn.TheVariants.{Dead, Stay, NextItem, NextCondition}
 use Rattle.fm_query.specs.Grammar.{Syntax, syntax, item_text, condition_text, where_text, query_text, IsItem, IsCondition, IsQuery, IsTextOf, Begins, BeginsUpTo}
-use Rattle.fm_query.specs.Reader.{condition, next, Spot, spot, moved, onward, run, start, whole, whole_at, IsReady, IsReadySpot}
-use Rattle.fm_query.proofs.Shown.{so_far, items_led, conditions_led, led, join_led, base, own, IsLive, HasRead, MayHaveRead}
+use Rattle.fm_query.specs.Reader.{condition, next, Spot, spot, moved, onward, run, start, whole, whole_at, IsReadySpot}
+use Rattle.fm_query.proofs.Shown.{so_far, items_led, conditions_led, led, join_led, base, own, HasRead, MayHaveRead}
 use Rattle.fm_query.proofs.Leaving.{Leaves, leaves, literal_of}
 use Rattle.fm_query.proofs.Completing.{all_snoc, where_led, can_end}
 use Rattle.fm_query.proofs.Accepting.{run_append, run_none, accepts}

@@ -1,7 +1,6 @@
 -- Each byte takes the reader on as the definition says; a byte where it dies, or a stage that isn't whole, ends the longest prefix.
-use Rattle.std.proofs.Common.{◌≡◌, ap, get_or, length, arith, Some, None}
-use Rattle.fm_query.specs.Reader.{onward, whole}
-use Rattle.fm_query.proofs.Reading.{begun, stays, ends_at, is_found, ends_all}
+use Rattle.std.proofs.Common.{ap, get_or, length, arith}
+use Rattle.fm_query.proofs.Reading.{stays, ends_at, is_found, ends_all}
 use Rattle.fm_query.proofs.parse.read.Goals as goal
 
 pub returns-in-Ok-None-clause-refused : goal.returns-in-Ok-None-clause-refused
