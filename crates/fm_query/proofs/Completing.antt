@@ -1,0 +1,161 @@
+-- What has been read begins some query's text.
+use Rattle.std.proofs.Common.{◌≡◌, refl, sym, ap, ℕ, ◌+◌, zero, suc, List, [], ◌∷◌, ◌++◌, length, take, drop, arith, ◌∙◌}
+use Rattle.std.specs.Prelude.{codes, decimal, pos, negsuc}
+use Rattle.std.specs.List.{AllByRecursion, join_by}
+use Rattle.std.proofs.lemmas.List.{append_assoc, append-nil, length-append, take-append-drop}
+use Rattle.std.proofs.lemmas.Fmt.{decimal_digit}
+use Rattle.fm_steps.specs.Grammar as path
+use Rattle.fm_steps.proofs.Accepting as path_accepting
+use Rattle.fm_query.specs.declared.operator.Operator.TheVariants.{Equal, NotEqual}
+use Rattle.fm_query.specs.declared.syntax.ItemSyntax.{ItemSyntax}
+use Rattle.fm_query.specs.declared.syntax.ItemSyntax.TheVariants.{Count, Of}
+use Rattle.fm_query.specs.declared.syntax.ConditionSyntax.{ConditionSyntax}
+use Rattle.fm_query.specs.declared.word.Word.TheVariants.{Counting, Folding}
+use Rattle.fm_query.specs.declared.stage.Role.TheVariants.{OfItem, OfCondition}
+use Rattle.fm_query.specs.declared.stage.Stage.{Stage}
+use Rattle.fm_query.specs.declared.stage.Stage.TheVariants.{Start, Spelling, InPath, Behind, Bang, Compare, Minus, Literal}
+use Rattle.fm_query.specs.Grammar.{syntax, fold_text, item_text, condition_text, operator_text, where_text, IsItem, IsCondition, Begins}
+use Rattle.fm_query.specs.Reader.{word_text, where_word, and_word, condition}
+use Rattle.fm_query.proofs.Shown.{so_far, items_led, conditions_led, led, join_led, conditions_more, IsAtItem, IsAtCondition, HasRead}
+use Rattle.fm_query.proofs.Leaving.{literal_of}
+
+-- what holds of each of some things and of one more holds of each
+pub all_snoc : {A : Type 0} (P : A → Type 0) (xs : List A) (x : A) → AllByRecursion P xs → P x → AllByRecursion P (xs ++ x ∷ [])
+all_snoc P [] x h p = (p, tt)
+all_snoc P (y ∷ ys) x h p = (h.0, all_snoc P ys x h.1 p)
+
+-- conditions behind where, the last one apart
+pub where_led : (cs : List ConditionSyntax) (c : ConditionSyntax) → where_text (cs ++ c ∷ []) ≡ codes " where " ++ (led condition_text (codes " and ") cs ++ condition_text c)
+where_led [] c = ap (λ t. codes " where " ++ t) (join_led condition_text (codes " and ") [] c)
+where_led (d ∷ ds) c = ap (λ t. codes " where " ++ t) (join_led condition_text (codes " and ") (d ∷ ds) c)
+
+-- a text begins what a longer one begins
+shorter : (text more : List ℕ) → Begins (text ++ more) → Begins text
+shorter text more b = (more ++ b.0, b.1, b.2, sym (append_assoc text more b.0) ∙ b.3)
+
+-- an item as far as it goes is completed by the rest of it
+ends_item : (text own rest : List ℕ) (is : List ItemSyntax) (cs : List ConditionSyntax) (i : ItemSyntax) → text ≡ items_led is ++ own → own ++ rest ≡ item_text i → AllByRecursion IsItem is → IsItem i → IsAtItem is cs → Begins text
+ends_item text own rest is cs i e w all item at = (
+  rest,
+  syntax (is ++ i ∷ []) [],
+  record {
+    items = all_snoc IsItem is i all item;
+    some_item = omega (arith, length-append is (i ∷ []));
+    few_items = omega (arith, at.few, length-append is (i ∷ []));
+    conditions = tt;
+    few_conditions = omega arith;
+  },
+  ap (λ t. t ++ rest) e
+      ∙ append_assoc (items_led is) own rest
+      ∙ ap (λ t. items_led is ++ t) w
+      ∙ sym (join_led item_text (codes ",") is i)
+      ∙ sym (append-nil (join_by item_text (codes ",") (is ++ i ∷ []))),
+)
+
+-- a condition as far as it goes is completed by the rest of it
+ends_condition : (text own rest : List ℕ) (is : List ItemSyntax) (cs : List ConditionSyntax) (c : ConditionSyntax) → text ≡ conditions_led is cs ++ own → own ++ rest ≡ condition_text c
+    → AllByRecursion IsItem is → AllByRecursion IsCondition cs → IsCondition c → IsAtCondition is cs 1 → Begins text
+ends_condition text own rest is cs c e w all each one at = (
+  rest,
+  syntax is (cs ++ c ∷ []),
+  record {
+    items = all;
+    some_item = at.some;
+    few_items = at.few_items;
+    conditions = all_snoc IsCondition cs c each one;
+    few_conditions = omega (arith, at.few, length-append cs (c ∷ []));
+  },
+  ap (λ t. t ++ rest) e
+      ∙ append_assoc (conditions_led is cs) own rest
+      ∙ ap (λ t. conditions_led is cs ++ t) w
+      ∙ append_assoc (join_by item_text (codes ",") is) (codes " where " ++ led condition_text (codes " and ") cs) (condition_text c)
+      ∙ ap (λ t. join_by item_text (codes ",") is ++ t) (append_assoc (codes " where ") (led condition_text (codes " and ") cs) (condition_text c) ∙ sym (where_led cs c)),
+)
+
+-- the condition .=0
+abbrev pub least : ConditionSyntax
+least = record { path = []; operator = Equal; literal = pos 0 }
+
+least_is : IsCondition least
+least_is = record { is_path = record { each = tt; short = omega arith }; is_literal = omega arith }
+
+-- where a condition may begin, a text may go on
+may_begin : (text : List ℕ) (is : List ItemSyntax) (cs : List ConditionSyntax) → text ≡ conditions_led is cs → AllByRecursion IsItem is → AllByRecursion IsCondition cs → IsAtCondition is cs 1 → Begins text
+may_begin text is cs e all each at = ends_condition text [] (condition_text least) is cs least (e ∙ sym (append-nil (conditions_led is cs))) refl all each least_is at
+
+-- the text of 0 and of 1
+zero_text : decimal 0 ≡ 48 ∷ []
+zero_text = decimal_digit 0 (omega arith)
+
+one_text : decimal 1 ≡ 49 ∷ []
+one_text = decimal_digit 1 (omega arith)
+
+-- what has been read begins a text
+pub can_end : (text : List ℕ) (is : List ItemSyntax) (cs : List ConditionSyntax) (s : Stage) → HasRead text is cs s → Begins text
+can_end text is cs Start h = ends_item text [] (item_text Count) is cs Count h.spelled refl h.items tt h.counted
+can_end text is cs (Spelling Counting n) h = ends_item text (take n (codes "count")) (drop n (codes "count")) is cs Count h.spelled (take-append-drop n (codes "count")) h.items tt h.counted
+can_end text is cs (Spelling (Folding f) n) h =
+    let w = word_text (Folding f) in
+    ends_item text (take n w) (drop n w ++ codes ".)") is cs (Of f []) h.spelled
+    (sym (append_assoc (take n w) (drop n w) (codes ".)")) ∙ ap (λ t. t ++ codes ".)") (take-append-drop n w) ∙ append_assoc (fold_text f) (codes "(") (codes ".)"))
+    h.items (record { each = tt; short = omega arith }) h.counted
+can_end text is cs (InPath (OfItem f) d p) h =
+    let b = path_accepting.begins (so_far d p) d p h.live in
+    ends_item text (word_text (Folding f) ++ so_far d p) (b.0 ++ codes ")") is cs (Of f b.1) h.spelled
+    (append_assoc (word_text (Folding f)) (so_far d p) (b.0 ++ codes ")")
+    ∙ ap (λ t. word_text (Folding f) ++ t) (sym (append_assoc (so_far d p) b.0 (codes ")")) ∙ ap (λ t. t ++ codes ")") b.3)
+    ∙ append_assoc (fold_text f) (codes "(") (path.path_text b.1 ++ codes ")"))
+    h.items b.2 h.counted
+can_end text is cs (InPath OfCondition d p) h =
+    let b = path_accepting.begins (so_far d p) d p h.live in
+    ends_condition text (so_far d p) (b.0 ++ codes "=0") is cs (record { path = b.1; operator = Equal; literal = pos 0 }) h.spelled
+    (sym (append_assoc (so_far d p) b.0 (codes "=0")) ∙ ap (λ t. t ++ codes "=0") b.3 ∙ ap (λ t. path.path_text b.1 ++ 61 ∷ t) (sym zero_text))
+    h.items h.conditions (record { is_path = b.2; is_literal = omega arith }) h.counted
+can_end text is cs (Behind i n) h =
+    shorter text (drop n where_word) (may_begin (text ++ drop n where_word) (is ++ i ∷ []) cs
+    (ap (λ t. t ++ drop n where_word) h.spelled
+    ∙ append_assoc (items_led is) (item_text i ++ take n where_word) (drop n where_word)
+    ∙ ap (λ t. items_led is ++ t) (append_assoc (item_text i) (take n where_word) (drop n where_word) ∙ ap (λ t. item_text i ++ t) (take-append-drop n where_word))
+    ∙ sym (append_assoc (items_led is) (item_text i) where_word)
+    ∙ ap (λ t. t ++ where_word) (sym (join_led item_text (codes ",") is i))
+    ∙ ap (λ t. join_by item_text (codes ",") (is ++ i ∷ []) ++ t) (sym (append-nil where_word))
+    ∙ ap (λ c. conditions_led (is ++ i ∷ []) c) (sym h.counted.no_condition))
+    (all_snoc IsItem is i h.items h.live.0)
+    h.conditions
+    (record {
+      some = omega (arith, length-append is (i ∷ []));
+      few_items = omega (arith, h.counted.few, length-append is (i ∷ []));
+      few = omega (arith, ap length h.counted.no_condition);
+    }))
+can_end text is cs (Bang p) h =
+    ends_condition text (path.path_text p ++ codes "!") (codes "=0") is cs (record { path = p; operator = NotEqual; literal = pos 0 }) h.spelled
+    (append_assoc (path.path_text p) (codes "!") (codes "=0") ∙ ap (λ t. path.path_text p ++ 33 ∷ 61 ∷ t) (sym zero_text))
+    h.items h.conditions (record { is_path = h.live; is_literal = omega arith }) h.counted
+can_end text is cs (Compare p o) h =
+    ends_condition text (path.path_text p ++ operator_text o) (codes "0") is cs (record { path = p; operator = o; literal = pos 0 }) h.spelled
+    (append_assoc (path.path_text p) (operator_text o) (codes "0") ∙ ap (λ t. path.path_text p ++ (operator_text o ++ t)) (sym zero_text))
+    h.items h.conditions (record { is_path = h.live; is_literal = omega arith }) h.counted
+can_end text is cs (Minus p o) h =
+    ends_condition text (path.path_text p ++ (operator_text o ++ codes "-")) (codes "1") is cs (record { path = p; operator = o; literal = negsuc 0 }) h.spelled
+    (append_assoc (path.path_text p) (operator_text o ++ codes "-") (codes "1")
+    ∙ ap (λ t. path.path_text p ++ t) (append_assoc (operator_text o) (codes "-") (codes "1"))
+    ∙ ap (λ t. path.path_text p ++ (operator_text o ++ 45 ∷ t)) (sym one_text))
+    h.items h.conditions (record { is_path = h.live; is_literal = omega arith }) h.counted
+can_end text is cs (Literal p o m zero) h =
+    ends_condition text (condition_text (condition p o m) ++ []) [] is cs (condition p o m) h.spelled
+    (append-nil (condition_text (condition p o m) ++ []) ∙ append-nil (condition_text (condition p o m)))
+    h.items h.conditions (record { is_path = h.live.0; is_literal = literal_of m h.live.1 }) h.counted.0
+can_end text is cs (Literal p o m (suc n)) h =
+    let c = condition p o m in
+    shorter text (drop (suc n) and_word) (may_begin (text ++ drop (suc n) and_word) is (cs ++ c ∷ [])
+    (ap (λ t. t ++ drop (suc n) and_word) h.spelled
+    ∙ append_assoc (conditions_led is cs) (condition_text c ++ take (suc n) and_word) (drop (suc n) and_word)
+    ∙ ap (λ t. conditions_led is cs ++ t) (append_assoc (condition_text c) (take (suc n) and_word) (drop (suc n) and_word) ∙ ap (λ t. condition_text c ++ t) (take-append-drop (suc n) and_word))
+    ∙ conditions_more is cs c)
+    h.items
+    (all_snoc IsCondition cs c h.conditions (record { is_path = h.live.0; is_literal = literal_of m h.live.1 }))
+    (record {
+      some = h.counted.0.some;
+      few_items = h.counted.0.few_items;
+      few = omega (arith, h.counted.1 (omega arith), length-append cs (c ∷ []));
+    }))

@@ -1,0 +1,6 @@
+pub mod Accepting
+pub mod Completing
+pub mod Leaving
+pub mod Reading
+pub mod Plans
+pub mod Shown

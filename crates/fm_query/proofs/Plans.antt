@@ -1,0 +1,181 @@
+-- Paths resolved one after the other, up to the first refusal.
+use Rattle.std.proofs.Common.{◌≡◌, refl, sym, ap, subst, ℕ, ◌+◌, ◌<◌, ◌≤◌, zero, suc, None, List, [], ◌∷◌, ◌++◌, length, take, get_or, inl, inr, arith, ◌∙◌}
+use Rattle.std.specs.Prelude.{IsTrue, ◌||◌}
+use Rattle.std.specs.List.{AllByRecursion, AllZip}
+use Rattle.std.proofs.lemmas.Bool.Decides.{nat_tests}
+use Rattle.std.proofs.lemmas.List.{take_more, take_all}
+use Rattle.fm_base.specs.declared.refusal.Refusal.{Refusal}
+use Rattle.fm_base.specs.declared.refusal.Refusal.TheVariants.{Memory}
+use Rattle.fm_layout.specs.Tree.{Tree, alignment_of}
+use Rattle.fm_layout.specs.Size.{size_of}
+use Rattle.fm_layout.specs.Name.{is_letter, is_digit, IsName, IsNameEnd}
+use Rattle.fm_layout.specs.WellFormed.{IsWellFormed}
+use Rattle.fm_layout.proofs.Sound.{fit_of}
+use Rattle.fm_steps.specs.declared.step.PathStep.{PathStep}
+use Rattle.fm_steps.specs.declared.step.PathStep.TheVariants.{Name, Group, At, Each, EachFrom}
+use Rattle.fm_steps.specs.Grammar.{piece_of, pieces_of, path_text}
+use Rattle.fm_steps.proofs.Reading.{pieces_snoc}
+use Rattle.fm_places.specs.declared.dim.Dim.{Dim}
+use Rattle.fm_places.specs.Found.{HasDims, no_step, closed_step, open_step}
+use Rattle.fm_query.specs.declared.syntax.ItemSyntax.{ItemSyntax}
+use Rattle.fm_query.specs.declared.syntax.ItemSyntax.TheVariants.{Count, Of}
+use Rattle.fm_query.specs.declared.syntax.ConditionSyntax.{ConditionSyntax}
+use Rattle.fm_query.specs.declared.item.Item.{Item}
+use Rattle.fm_query.specs.declared.condition.Condition.{Condition}
+use Rattle.fm_query.specs.Grammar.{Syntax, IsTextOf, IsNoText}
+use Rattle.fm_query.specs.Records.{IsRecord}
+use Rattle.fm_query.specs.Plan.{plan, AsksOf, IsItemIn, IsConditionIn, IsPlan}
+use Rattle.fm_query.specs.Parsed.{open_from, IsItemOf, IsItemAdmitted, IsItemRefused, IsConditionOf, IsConditionAdmitted, IsConditionRefused, IsFirstRefused, at_item, at_condition, IsParsed, IsNoQuery, no_text, refused, OrMemory}
+
+-- one more pair
+zip_push : {A B : Type 0} (R : A → B → Type 0) (xs : List A) (ys : List B) (x : A) (y : B) → AllZip R xs ys → R x y → AllZip R (xs ++ x ∷ []) (ys ++ y ∷ [])
+zip_push R [] [] x y h r = (r, tt)
+zip_push R [] (b ∷ ys) x y h r = absurd h
+zip_push R (a ∷ xs) [] x y h r = absurd h
+zip_push R (a ∷ xs) (b ∷ ys) x y h r = (h.0, zip_push R xs ys x y h.1 r)
+
+-- the next of the first k
+pub zip_more : {A B : Type 0} (R : A → B → Type 0) (xs : List A) (ys : List B) (k : ℕ) (x : A) (y : B) → AllZip R (take k xs) ys → k < length xs → x ≡ get_or xs k x → R x y → AllZip R (take (k + 1) xs) (ys ++ y ∷ [])
+zip_more R xs ys k x y h lt is r = subst (λ l. AllZip R l (ys ++ y ∷ [])) (ap (λ z. take k xs ++ z ∷ []) is ∙ sym (take_more xs k x lt)) (zip_push R (take k xs) ys x y h r)
+
+-- all of them
+pub zip_all : {A B : Type 0} (R : A → B → Type 0) (xs : List A) (ys : List B) (k : ℕ) → AllZip R (take k xs) ys → length xs ≤ k → AllZip R xs ys
+zip_all R xs ys k h le = subst (λ l. AllZip R l ys) (take_all k xs le) h
+
+-- the first that is refused, behind k that are admitted
+pub refused_at : {A B : Type 0} (R : A → B → Type 0) (Refuses : A → Refusal → Type 0) (xs : List A) (ys : List B) (k : ℕ) (x : A) (e : Refusal)
+    → AllZip R (take k xs) ys → k < length xs → x ≡ get_or xs k x → Refuses x e → IsFirstRefused (λ x. (y : B) × R x y) Refuses xs e
+refused_at R Refuses [] ys k x e h lt is r = absurd (omega arith)
+refused_at R Refuses (z ∷ xs) ys zero x e h lt is r = inl (subst (λ z. Refuses z e) is r)
+refused_at R Refuses (z ∷ xs) [] (suc k) x e h lt is r = absurd h
+refused_at R Refuses (z ∷ xs) (y ∷ ys) (suc k) x e h lt is r = inr ((y, h.0), refused_at R Refuses xs ys k x e h.1 (omega arith) is r)
+
+-- the same, where memory may have run out
+pub refused_or : {A B : Type 0} (R : A → B → Type 0) (Refuses : A → Refusal → Type 0) (xs : List A) (ys : List B) (k : ℕ) (x : A) (e : Refusal)
+    → AllZip R (take k xs) ys → k < length xs → x ≡ get_or xs k x → OrMemory (Refuses x) e → OrMemory (IsFirstRefused (λ x. (y : B) × R x y) Refuses xs) e
+refused_or R Refuses xs ys k x e h lt is (inl r) = inl (refused_at R Refuses xs ys k x e h lt is r)
+refused_or R Refuses xs ys k x e h lt is (inr m) = inr m
+
+-- what each comes to is admitted
+pub all_admitted : {A B : Type 0} (R : A → B → Type 0) (xs : List A) (ys : List B) → AllZip R xs ys → AllByRecursion (λ x. (y : B) × R x y) xs
+all_admitted R [] ys h = tt
+all_admitted R (x ∷ xs) [] h = absurd h
+all_admitted R (x ∷ xs) (y ∷ ys) h = ((y, h.0), all_admitted R xs ys h.1)
+
+-- as many as there were
+as_many : {A B : Type 0} (R : A → B → Type 0) (xs : List A) (ys : List B) → AllZip R xs ys → length ys ≡ length xs
+as_many R [] [] h = refl
+as_many R [] (y ∷ ys) h = absurd h
+as_many R (x ∷ xs) [] h = absurd h
+as_many R (x ∷ xs) (y ∷ ys) h = ap (λ n. suc n) (as_many R xs ys h.1)
+
+-- a path with no open step has no dims
+no_dims : (path : List PathStep) (t : Tree) (ds : List Dim) (k : ℕ) → HasDims path t ds → open_from k path ≡ None → ds ≡ []
+no_dims [] t ds k no_step e = refl
+no_dims (Name n ∷ ps) t ds k (closed_step j s u x h) e = no_dims ps u ds (k + 1) h e
+no_dims (Name n ∷ ps) t ds k (open_step c el x d h) e = absurd d.stride
+no_dims (Group n ∷ ps) t ds k (closed_step j s u x h) e = no_dims ps u ds (k + 1) h e
+no_dims (Group n ∷ ps) t ds k (open_step c el x d h) e = absurd d.stride
+no_dims (At n ∷ ps) t ds k (closed_step j s u x h) e = no_dims ps u ds (k + 1) h e
+no_dims (At n ∷ ps) t ds k (open_step c el x d h) e = absurd d.stride
+no_dims (Each ∷ ps) t ds k h e = absurd (cc)
+no_dims (EachFrom f s ∷ ps) t ds k h e = absurd (cc)
+
+-- each item is one on records of the layout
+items_in : (t : Tree) (xs : List ItemSyntax) (ys : List Item) → AllZip (IsItemOf t) xs ys → AllByRecursion (IsItemIn (size_of t) (alignment_of t)) ys
+items_in t [] [] h = tt
+items_in t [] (y ∷ ys) h = absurd h
+items_in t (x ∷ xs) [] h = absurd h
+items_in t (x ∷ xs) (y ∷ ys) h = (item_in x h.0, items_in t xs ys h.1)
+  where
+    item_in : (x : ItemSyntax) → IsItemOf t x y → IsItemIn (size_of t) (alignment_of t) y
+    item_in Count i = subst (AsksOf (size_of t) (alignment_of t)) (sym i.asked) tt
+    item_in (Of f p) i = subst (AsksOf (size_of t) (alignment_of t)) (sym i.asked.2) (record { size = i.asked.1.root_size; alignment = i.asked.1.root_alignment })
+
+-- each condition is one on one value of records of the layout
+conditions_in : (t : Tree) (xs : List ConditionSyntax) (ys : List Condition) → AllZip (IsConditionOf t) xs ys → AllByRecursion (IsConditionIn (size_of t) (alignment_of t)) ys
+conditions_in t [] [] h = tt
+conditions_in t [] (y ∷ ys) h = absurd h
+conditions_in t (x ∷ xs) [] h = absurd h
+conditions_in t (x ∷ xs) (y ∷ ys) h = (
+  record {
+    through = record { size = h.0.path.root_size; alignment = h.0.path.root_alignment };
+    closed = no_dims x.path t y.path.dims 0 h.0.path.dims h.0.closed;
+  },
+  conditions_in t xs ys h.1,
+)
+
+-- what the parts come to is a plan
+pub is_plan : (t : Tree) (text : List ℕ) (q : Syntax) (n a : ℕ) (xs : List ItemSyntax) (cs : List ConditionSyntax) (items : List Item) (conditions : List Condition)
+    → IsWellFormed t → IsRecord t → IsTextOf text q → xs ≡ q.items → cs ≡ q.conditions → n ≡ size_of t → a ≡ alignment_of t → AllZip (IsItemOf t) xs items → AllZip (IsConditionOf t) cs conditions → IsPlan (plan n a items conditions)
+is_plan t text q n a xs cs items conditions well rec is ei ec en ea hi hc =
+    subst (λ n. IsPlan (plan n a items conditions)) (sym en) (subst (λ a. IsPlan (plan (size_of t) a items conditions)) (sym ea) (record {
+      sized = rec.sized;
+      small = (fit_of t well).size;
+      even = rec.even;
+      items = items_in t xs items hi;
+      some_item = omega (arith, as_many (IsItemOf t) xs items hi, ap length ei, is.is_query.some_item);
+      few_items = omega (arith, as_many (IsItemOf t) xs items hi, ap length ei, is.is_query.few_items);
+      conditions = conditions_in t cs conditions hc;
+      few_conditions = omega (arith, as_many (IsConditionOf t) cs conditions hc, ap length ec, is.is_query.few_conditions);
+    }))
+
+-- and it is what the text asks
+pub is_parsed : (t : Tree) (text : List ℕ) (q : Syntax) (n a : ℕ) (xs : List ItemSyntax) (cs : List ConditionSyntax) (items : List Item) (conditions : List Condition)
+    → IsTextOf text q → xs ≡ q.items → cs ≡ q.conditions → n ≡ size_of t → a ≡ alignment_of t → AllZip (IsItemOf t) xs items → AllZip (IsConditionOf t) cs conditions → IsParsed text t (plan n a items conditions)
+is_parsed t text q n a xs cs items conditions is ei ec en ea hi hc = record {
+  syntax = q;
+  is_text = is;
+  is_plan = record { size = en; alignment = ea; items = subst (λ xs. AllZip (IsItemOf t) xs items) ei hi; conditions = subst (λ cs. AllZip (IsConditionOf t) cs conditions) ec hc };
+}
+
+-- memory may run out at any text
+out_of_memory : (t : Tree) (text : List ℕ) (e : Refusal) → e ≡ Memory → IsNoQuery text t e
+out_of_memory t text e m = no_text (subst (IsNoText text) (sym m) tt)
+
+-- a query is refused by the first of its items that is
+pub item_refused : (t : Tree) (text : List ℕ) (q : Syntax) (xs : List ItemSyntax) (e : Refusal) → IsTextOf text q → xs ≡ q.items → OrMemory (IsFirstRefused (IsItemAdmitted t) (IsItemRefused t) xs) e → IsNoQuery text t e
+item_refused t text q xs e is ei (inl h) = refused q is (at_item (subst (λ xs. IsFirstRefused (IsItemAdmitted t) (IsItemRefused t) xs e) ei h))
+item_refused t text q xs e is ei (inr m) = out_of_memory t text e m
+
+-- and else by the first of its conditions that is
+pub condition_refused : (t : Tree) (text : List ℕ) (q : Syntax) (xs : List ItemSyntax) (cs : List ConditionSyntax) (items : List Item) (e : Refusal)
+    → IsTextOf text q → xs ≡ q.items → cs ≡ q.conditions → AllZip (IsItemOf t) xs items → OrMemory (IsFirstRefused (IsConditionAdmitted t) (IsConditionRefused t) cs) e → IsNoQuery text t e
+condition_refused t text q xs cs items e is ei ec hi (inl h) =
+    refused q is (at_condition (all_admitted (IsItemOf t) q.items items (subst (λ xs. AllZip (IsItemOf t) xs items) ei hi)) (subst (λ cs. IsFirstRefused (IsConditionAdmitted t) (IsConditionRefused t) cs e) ec h))
+condition_refused t text q xs cs items e is ei ec hi (inr m) = out_of_memory t text e m
+
+-- the pieces of the first k + 1 steps
+pub pieces_more : (path : List PathStep) (k : ℕ) (p : PathStep) (text piece more : List ℕ) → text ≡ pieces_of (take k path) → k < length path → p ≡ get_or path k p → piece ≡ piece_of p → more ≡ text ++ piece → more ≡ pieces_of (take (k + 1) path)
+pieces_more path k p text piece more e lt is ep em =
+    em ∙ ap (λ t. t ++ piece) e ∙ ap (λ t. pieces_of (take k path) ++ t) ep ∙ sym (pieces_snoc (take k path) p)
+    ∙ ap (λ z. pieces_of (take k path ++ z ∷ [])) is ∙ ap pieces_of (sym (take_more path k p lt))
+
+-- the pieces of a path with steps are its text
+pub pieces_all : (path : List PathStep) (k : ℕ) (text : List ℕ) → text ≡ pieces_of (take k path) → length path ≤ k → 0 < length path → text ≡ path_text path
+pieces_all [] k text e le some = absurd (omega arith)
+pieces_all (p ∷ ps) k text e le some = e ∙ ap pieces_of (take_all k (p ∷ ps) le)
+
+-- letters and digits are ASCII
+ascii : (c : ℕ) → IsTrue (is_letter c || is_digit c) → c < 128
+ascii c h = grind (arith, nat_tests)
+
+ascii_end : (cs : List ℕ) (k : ℕ) → IsNameEnd cs → k < length cs → get_or cs k 0 < 128
+ascii_end [] k h lt = absurd (omega arith)
+ascii_end (c ∷ cs) zero h lt = ascii c h.0
+ascii_end (c ∷ cs) (suc k) h lt = ascii_end cs k h.1 (omega arith)
+
+-- the bytes of a name are ASCII
+ascii_at : (name : List ℕ) (k : ℕ) → IsName name → k < length name → get_or name k 0 < 128
+ascii_at [] k h lt = absurd h
+ascii_at (c ∷ cs) zero h lt = letter c h.0
+  where
+    letter : (c : ℕ) → IsTrue (is_letter c) → c < 128
+    letter c h = grind (arith, nat_tests)
+ascii_at (c ∷ cs) (suc k) h lt = ascii_end cs k h.1 (omega arith)
+
+-- the first k + 1 bytes of a name behind a dot
+pub name_more : (name : List ℕ) (k ch : ℕ) (text coded more : List ℕ) → text ≡ 46 ∷ take k name → k < length name → IsName name → ch ≡ get_or name k 0 → (ch < 128 → coded ≡ ch ∷ []) → more ≡ text ++ coded → more ≡ 46 ∷ take (k + 1) name
+name_more name k ch text coded more e lt is ec ascii em =
+    em ∙ ap (λ t. t ++ coded) e ∙ ap (λ t. 46 ∷ take k name ++ t) (ascii (omega (arith, ec, ascii_at name k is lt)))
+    ∙ ap (λ x. 46 ∷ take k name ++ x ∷ []) ec ∙ ap (λ t. 46 ∷ t) (sym (take_more name k 0 lt))

@@ -1,0 +1,217 @@
+-- The loop over the bytes of a query's text.
+use Rattle.std.proofs.Common.{◌≡◌, refl, sym, ap, subst, ℕ, ◌+◌, ◌<◌, ◌≤◌, zero, suc, false, if◌then◌else◌, nat_eq, Option, Some, None, List, [], ◌∷◌, ◌++◌, length, take, drop, get_or, arith, ◌∙◌}
+use Rattle.std.specs.Prelude.{codes}
+use Rattle.std.specs.List.{join_by}
+use Rattle.std.proofs.lemmas.Bool.Decides.{nat_tests}
+use Rattle.std.proofs.lemmas.List.{append_assoc, append-nil, length-append, take_more, take_all, take-append-drop}
+use Rattle.fm_steps.specs.declared.step.PathStep.{PathStep}
+use Rattle.fm_steps.specs.declared.part.Part.{Part}
+use Rattle.fm_steps.specs.Reader as path
+use Rattle.fm_steps.proofs.Parsing as path_parsing
+use Rattle.fm_query.specs.declared.syntax.ItemSyntax.{ItemSyntax}
+use Rattle.fm_query.specs.declared.syntax.ConditionSyntax.{ConditionSyntax}
+use Rattle.fm_query.specs.declared.stage.Role.TheVariants.{OfItem, OfCondition}
+use Rattle.fm_query.specs.declared.stage.Stage.{Stage}
+use Rattle.fm_query.specs.declared.stage.Stage.TheVariants.{Start, Spelling, InPath, Behind, Bang, Compare, Minus, Literal}
+use Rattle.fm_query.specs.declared.stage.Turn.{Turn}
+use Rattle.fm_query.specs.declared.stage.Turn.TheVariants.{Dead, Stay, NextItem, NextCondition}
+use Rattle.fm_query.specs.Grammar.{Syntax, syntax, item_text, condition_text, where_text, query_text, IsItem, IsCondition, IsQuery, IsTextOf, Begins, BeginsUpTo}
+use Rattle.fm_query.specs.Reader.{condition, next, Spot, spot, moved, onward, run, start, whole, whole_at, IsReadySpot}
+use Rattle.fm_query.proofs.Shown.{so_far, items_led, conditions_led, led, join_led, base, own, HasRead, MayHaveRead}
+use Rattle.fm_query.proofs.Leaving.{Leaves, leaves, literal_of}
+use Rattle.fm_query.proofs.Completing.{all_snoc, where_led, can_end}
+use Rattle.fm_query.proofs.Accepting.{run_append, run_none, accepts}
+
+-- what was read after one more turn
+after : (text : List ℕ) (is : List ItemSyntax) (cs : List ConditionSyntax) (s : Stage) (b : ℕ) (m : Turn) → HasRead text is cs s → Leaves is cs s b m → MayHaveRead (text ++ b ∷ []) (moved is cs m)
+after text is cs s b Dead h l = tt
+after text is cs s b (Stay t) h l = record {
+  spelled = ap (λ x. x ++ b ∷ []) h.spelled ∙ append_assoc (base is cs s) (own s) (b ∷ []) ∙ ap (λ x. base is cs s ++ x) l.1 ∙ ap (λ x. x ++ own t) l.0;
+  items = h.items;
+  conditions = h.conditions;
+  counted = l.2;
+  live = l.3;
+}
+after text is cs s b (NextItem i t) h l = record {
+  spelled = ap (λ x. x ++ b ∷ []) h.spelled ∙ append_assoc (base is cs s) (own s) (b ∷ []) ∙ l.0;
+  items = all_snoc IsItem is i h.items l.1;
+  conditions = h.conditions;
+  counted = l.2;
+  live = l.3;
+}
+after text is cs s b (NextCondition c t) h l = record {
+  spelled = ap (λ x. x ++ b ∷ []) h.spelled ∙ append_assoc (base is cs s) (own s) (b ∷ []) ∙ l.0;
+  items = h.items;
+  conditions = all_snoc IsCondition cs c h.conditions l.1;
+  counted = l.2;
+  live = l.3;
+}
+
+-- what was read after one more byte
+onward_read : (text : List ℕ) (o : Option Spot) (b : ℕ) → MayHaveRead text o → MayHaveRead (text ++ b ∷ []) (onward o b)
+onward_read text None b h = tt
+onward_read text (Some s) b h = after text s.items s.conditions s.stage b (next (length s.items) (length s.conditions) s.stage b) h (leaves s.items s.conditions s.stage b h.counted h.live)
+
+-- what the reader has read
+has_read : (bs text : List ℕ) (o : Option Spot) → MayHaveRead text o → MayHaveRead (text ++ bs) (run bs o)
+has_read [] text o h = subst (λ x. MayHaveRead x o) (sym (append-nil text)) h
+has_read (b ∷ bs) text o h = subst (λ x. MayHaveRead x (run bs (onward o b))) (append_assoc text (b ∷ []) bs) (has_read bs (text ++ b ∷ []) (onward o b) (onward_read text o b h))
+
+-- before the first byte nothing was read
+read_nothing : MayHaveRead [] start
+read_nothing = record { spelled = refl; items = tt; conditions = tt; counted = record { few = omega arith; no_condition = refl }; live = tt }
+
+-- where the reader stands, it has read what it shows
+there_read : (text : List ℕ) (s : Spot) → run text start ≡ Some s → HasRead text s.items s.conditions s.stage
+there_read text s e = subst (MayHaveRead text) e (has_read text [] start read_nothing)
+
+some_of : {A : Type 0} {x y : A} → Some x ≡ Some y → x ≡ y
+some_of e = cc
+
+not_zero : (n : ℕ) → nat_eq (suc n) 0 ≡ false
+not_zero n = grind (arith, nat_tests)
+
+-- a text that may end is that of the query which was read
+is_whole : (text : List ℕ) (is : List ItemSyntax) (cs : List ConditionSyntax) (s : Stage) (q : Syntax) → HasRead text is cs s → whole_at is cs s ≡ Some q → IsQuery q × (text ≡ query_text q)
+is_whole text is cs Start q h e = absurd (cc)
+is_whole text is cs (Spelling w n) q h e = absurd (cc)
+is_whole text is cs (InPath r d p) q h e = absurd (cc)
+is_whole text is cs (Bang p) q h e = absurd (cc)
+is_whole text is cs (Compare p o) q h e = absurd (cc)
+is_whole text is cs (Minus p o) q h e = absurd (cc)
+is_whole text is cs (Behind i zero) q h e =
+    subst (λ q. IsQuery q × (text ≡ query_text q)) (some_of e) (
+      record {
+        items = all_snoc IsItem is i h.items h.live.0;
+        some_item = omega (arith, length-append is (i ∷ []));
+        few_items = omega (arith, h.counted.few, length-append is (i ∷ []));
+        conditions = h.conditions;
+        few_conditions = omega (arith, ap length h.counted.no_condition);
+      },
+      h.spelled
+          ∙ ap (λ t. items_led is ++ t) (append-nil (item_text i))
+          ∙ sym (join_led item_text (codes ",") is i)
+          ∙ sym (append-nil (join_by item_text (codes ",") (is ++ i ∷ [])))
+          ∙ ap (λ c. join_by item_text (codes ",") (is ++ i ∷ []) ++ where_text c) (sym h.counted.no_condition),
+    )
+is_whole text is cs (Behind i (suc n)) q h e =
+    let f : None ≡ Some q = sym (ap (λ c. if c then Some (syntax (is ++ i ∷ []) cs) else None) (not_zero n)) ∙ e in
+    absurd (cc)
+is_whole text is cs (Literal p o m zero) q h e =
+    let c = condition p o m in
+    subst (λ q. IsQuery q × (text ≡ query_text q)) (some_of e) (
+      record {
+        items = h.items;
+        some_item = h.counted.0.some;
+        few_items = h.counted.0.few_items;
+        conditions = all_snoc IsCondition cs c h.conditions (record { is_path = h.live.0; is_literal = literal_of m h.live.1 });
+        few_conditions = omega (arith, h.counted.0.few, length-append cs (c ∷ []));
+      },
+      h.spelled
+          ∙ ap (λ t. conditions_led is cs ++ t) (append-nil (condition_text c))
+          ∙ append_assoc (join_by item_text (codes ",") is) (codes " where " ++ led condition_text (codes " and ") cs) (condition_text c)
+          ∙ ap (λ t. join_by item_text (codes ",") is ++ t) (append_assoc (codes " where ") (led condition_text (codes " and ") cs) (condition_text c) ∙ sym (where_led cs c)),
+    )
+is_whole text is cs (Literal p o m (suc n)) q h e =
+    let f : None ≡ Some q = sym (ap (λ c. if c then Some (syntax is (cs ++ condition p o m ∷ [])) else None) (not_zero n)) ∙ e in
+    absurd (cc)
+
+-- where the reader stops, no text goes on
+stops : (text : List ℕ) → run text start ≡ None → Begins text → ⊥
+stops text e b =
+    let a = accepts b.1.items b.1.conditions b.2 in
+    let f : None ≡ Some a.to = sym (run_none b.0) ∙ ap (run b.0) (sym e) ∙ sym (run_append text b.0 start) ∙ ap (λ t. run t start) b.3 ∙ a.by in
+    absurd (cc)
+
+-- what was not read whole is no text
+no_text : (text : List ℕ) (s : Spot) → run text start ≡ Some s → whole s ≡ None → (q : Syntax) → IsQuery q → text ≡ query_text q → ⊥
+no_text text s e w q h t =
+    let a = accepts q.items q.conditions h in
+    let f : Some s ≡ Some a.to = sym e ∙ ap (λ x. run x start) t ∙ a.by in
+    let g : whole s ≡ whole a.to = ap whole (some_of f) in
+    let k : None ≡ Some q = sym w ∙ g ∙ a.whole in
+    absurd (cc)
+
+-- and the query of a text is the one that was read
+only : (text : List ℕ) (s : Spot) (q : Syntax) → run text start ≡ Some s → whole s ≡ Some q → (other : Syntax) → IsQuery other → text ≡ query_text other → q ≡ other
+only text s q e w other h t =
+    let a = accepts other.items other.conditions h in
+    let f : Some s ≡ Some a.to = sym e ∙ ap (λ x. run x start) t ∙ a.by in
+    let k : Some q ≡ Some other = sym w ∙ ap whole (some_of f) ∙ a.whole in
+    some_of k
+
+-- a path that is read may be read on
+path_ready : (d : List PathStep) (p : Part) → path.run (so_far d p) path.start ≡ Some (path.spot d p) → (length d ≤ 64) × path.IsBounded p
+path_ready d p e =
+    let t = so_far d p in
+    let r = path_parsing.stays t (length t) d d p p (ap (λ x. path.run x path.start) (take_all (length t + 1) t (omega arith)) ∙ e) refl refl in
+    (r.short, r.bounded)
+
+-- wherever the reader stands, it may read on
+ready : (text : List ℕ) (is : List ItemSyntax) (cs : List ConditionSyntax) (s : Stage) → HasRead text is cs s → IsReadySpot (spot is cs s)
+ready text is cs Start h = record { items = omega (arith, h.counted.few); conditions = omega (arith, ap length h.counted.no_condition); stage = tt }
+ready text is cs (Spelling w n) h = record { items = omega (arith, h.counted.few); conditions = omega (arith, ap length h.counted.no_condition); stage = h.live }
+ready text is cs (InPath (OfItem f) d p) h = record { items = omega (arith, h.counted.few); conditions = omega (arith, ap length h.counted.no_condition); stage = path_ready d p h.live }
+ready text is cs (InPath OfCondition d p) h = record { items = h.counted.few_items; conditions = omega (arith, h.counted.few); stage = path_ready d p h.live }
+ready text is cs (Behind i n) h = record { items = omega (arith, h.counted.few); conditions = omega (arith, ap length h.counted.no_condition); stage = h.live.1 }
+ready text is cs (Bang p) h = record { items = h.counted.few_items; conditions = omega (arith, h.counted.few); stage = tt }
+ready text is cs (Compare p o) h = record { items = h.counted.few_items; conditions = omega (arith, h.counted.few); stage = tt }
+ready text is cs (Minus p o) h = record { items = h.counted.few_items; conditions = omega (arith, h.counted.few); stage = tt }
+ready text is cs (Literal p o m n) h = record { items = h.counted.0.few_items; conditions = omega (arith, h.counted.0.few); stage = (h.live.1, h.live.2) }
+
+-- what the loop keeps
+pub record IsReading (text : List ℕ) (i : ℕ) (s : Spot) : Type 0 where
+  pub ready : IsReadySpot s
+  pub there : run (take i text) start ≡ Some s
+
+reading : (text : List ℕ) (i : ℕ) (s : Spot) → run (take i text) start ≡ Some s → IsReading text i s
+reading text i s e = record { ready = ready (take i text) s.items s.conditions s.stage (there_read (take i text) s e); there = e }
+
+-- before the first byte
+pub begun : (text : List ℕ) (s : Spot) → Some s ≡ start → IsReading text 0 s
+begun text s e = reading text 0 s (sym e)
+
+-- where the next byte leads
+goes_on : (text : List ℕ) (i : ℕ) (s : Spot) (b : ℕ) → IsReading text i s → i < length text → b ≡ get_or text i 0 → run (take (i + 1) text) start ≡ onward (Some s) b
+goes_on text i s b h lt e =
+    ap (λ t. run t start) (take_more text i 0 lt)
+    ∙ run_append (take i text) (get_or text i 0 ∷ []) start
+    ∙ ap (λ o. onward o (get_or text i 0)) h.there
+    ∙ ap (λ x. onward (Some s) x) (sym e)
+
+-- the loop after a byte
+pub stays : (text : List ℕ) (i : ℕ) (s t : Spot) (b : ℕ) → IsReading text i s → i < length text → b ≡ get_or text i 0 → Some t ≡ onward (Some s) b → IsReading text (i + 1) t
+stays text i s t b h lt e m = reading text (i + 1) t (goes_on text i s b h lt e ∙ sym m)
+
+-- where the reader dies the longest prefix ends
+pub ends_at : (text : List ℕ) (i : ℕ) (s : Spot) (b : ℕ) → IsReading text i s → i < length text → b ≡ get_or text i 0 → None ≡ onward (Some s) b → BeginsUpTo i text
+ends_at text i s b h lt e m =
+    let dead = goes_on text i s b h lt e ∙ sym m in
+    record {
+      within = omega arith;
+      begins = can_end (take i text) s.items s.conditions s.stage (there_read (take i text) s h.there);
+      longest = λ _. stops (take (i + 1) text) dead;
+      none = λ q is t. stops (take (i + 1) text) dead (drop (i + 1) text, q, is, take-append-drop (i + 1) text ∙ t);
+    }
+
+-- after the last byte the whole text was read
+at_end : (text : List ℕ) (i : ℕ) (s : Spot) → IsReading text i s → length text ≤ i → run text start ≡ Some s
+at_end text i s h le = ap (λ t. run t start) (sym (take_all i text le)) ∙ h.there
+
+-- a text read whole is that of the query which was read
+pub is_found : (text : List ℕ) (i : ℕ) (s : Spot) (q : Syntax) → IsReading text i s → length text ≤ i → Some q ≡ whole s → IsTextOf text q
+is_found text i s q h le w =
+    let e = at_end text i s h le in
+    let f = is_whole text s.items s.conditions s.stage q (there_read text s e) (sym w) in
+    record { is_query = f.0; spelled = f.1; only = only text s q e (sym w) }
+
+-- a text that ends too early begins a query's text as far as it goes
+pub ends_all : (text : List ℕ) (i : ℕ) (s : Spot) → IsReading text i s → length text ≤ i → None ≡ whole s → BeginsUpTo (length text) text
+ends_all text i s h le w =
+    let e = at_end text i s h le in
+    record {
+      within = omega arith;
+      begins = subst Begins (sym (take_all (length text) text (omega arith))) (can_end text s.items s.conditions s.stage (there_read text s e));
+      longest = λ lt. absurd (omega arith);
+      none = no_text text s e (sym w);
+    }

@@ -1,0 +1,6 @@
+pub mod Grammar
+pub mod Parsed
+pub mod Plan
+pub mod Read
+pub mod Reader
+pub mod Records

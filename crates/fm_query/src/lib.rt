@@ -1,0 +1,30 @@
+//! Queries over records: their texts, and what they ask of a record's values.
+#![tactic(auto)]
+
+mod condition;
+mod fold;
+mod item;
+mod number;
+mod operator;
+mod parse;
+mod printing;
+mod query;
+mod record;
+mod resolving;
+mod spot;
+mod stage;
+mod steps;
+mod syntax;
+#[cfg(test)]
+mod tests;
+mod text;
+mod word;
+
+pub use condition::Condition;
+pub use fold::Fold;
+pub use item::{Asked, Item};
+pub use operator::Operator;
+pub use parse::parse_query;
+pub use query::Query;
+pub use record::check_record;
+pub use text::Text;

@@ -1,0 +1,115 @@
+ghost use Rattle.std.specs.Prelude.{◌≡◌, IfOk, IfErr};
+ghost use Rattle.std.specs.String.{string_bytes};
+ghost use Rattle.fm_steps.specs.Grammar.{piece_of, path_text};
+ghost use Rattle.fm_query.specs.Grammar.{item_text, condition_text};
+
+use crate::syntax::{ConditionSyntax, ItemSyntax};
+use crate::text::Text;
+use fm_base::Refusal;
+use fm_path::{NameText, PathStep};
+use std::alloc::Global;
+
+/// The item's text.
+pub fn item_text(alloc: Global, item: &ItemSyntax) -> Result<Text, Refusal>
+    ensures text { IfOk result (λ text. text ≡ item_text item.now) }
+    ensures memory { IfErr result (λ refusal. refusal ≡ Refusal.Memory) }
+{
+    match item {
+        ItemSyntax::Count => match String::from_str(alloc, "count") {
+            Ok(text) => Ok(Text::of(text)),
+            Err(_) => Err(Refusal::Memory),
+        },
+        ItemSyntax::Of(fold, path) => {
+            let path = match path_text(alloc, path.as_slice()) {
+                Ok(path) => path,
+                Err(refusal) => return Err(refusal),
+            };
+            let fold = fold.text();
+            match format!(in alloc; "{fold}({path})") {
+                Ok(text) => Ok(Text::of(text)),
+                Err(_) => Err(Refusal::Memory),
+            }
+        }
+    }
+}
+
+/// The condition's text.
+pub fn condition_text(alloc: Global, condition: &ConditionSyntax) -> Result<Text, Refusal>
+    ensures text { IfOk result (λ text. text ≡ condition_text condition.now) }
+    ensures memory { IfErr result (λ refusal. refusal ≡ Refusal.Memory) }
+{
+    let path = match path_text(alloc, condition.path.as_slice()) {
+        Ok(path) => path,
+        Err(refusal) => return Err(refusal),
+    };
+    let operator = condition.operator.text();
+    let literal = condition.literal;
+    match format!(in alloc; "{path}{operator}{literal}") {
+        Ok(text) => Ok(Text::of(text)),
+        Err(_) => Err(Refusal::Memory),
+    }
+}
+
+fn path_text(alloc: Global, path: &[PathStep]) -> Result<String, Refusal>
+    ensures text { IfOk result (λ text. string_bytes text ≡ path_text path.now) }
+    ensures memory { IfErr result (λ refusal. refusal ≡ Refusal.Memory) }
+{
+    if path.is_empty() {
+        return match String::from_str(alloc, ".") {
+            Ok(text) => Ok(text),
+            Err(_) => Err(Refusal::Memory),
+        };
+    }
+    let mut text = String::new(alloc);
+    for (k, step) in path.iter().enumerate() {
+        let piece = match piece_text(alloc, step) {
+            Ok(piece) => piece,
+            Err(refusal) => return Err(refusal),
+        };
+        let Ok(()) = text.push_str(&piece) else {
+            return Err(Refusal::Memory);
+        };
+    }
+    Ok(text)
+}
+
+fn piece_text(alloc: Global, step: &PathStep) -> Result<String, Refusal>
+    ensures text { IfOk result (λ text. string_bytes text ≡ piece_of step.now) }
+    ensures memory { IfErr result (λ refusal. refusal ≡ Refusal.Memory) }
+{
+    match step {
+        PathStep::Name(name) => name_text(alloc, name),
+        PathStep::Group(n) => match format!(in alloc; ".#{n}") {
+            Ok(text) => Ok(text),
+            Err(_) => Err(Refusal::Memory),
+        },
+        PathStep::At(n) => match format!(in alloc; "[{n}]") {
+            Ok(text) => Ok(text),
+            Err(_) => Err(Refusal::Memory),
+        },
+        PathStep::Each => match String::from_str(alloc, "[]") {
+            Ok(text) => Ok(text),
+            Err(_) => Err(Refusal::Memory),
+        },
+        PathStep::EachFrom(first, step) => match format!(in alloc; "[{first}:{step}]") {
+            Ok(text) => Ok(text),
+            Err(_) => Err(Refusal::Memory),
+        },
+    }
+}
+
+/// A dot and the name.
+fn name_text(alloc: Global, name: &NameText) -> Result<String, Refusal>
+    ensures text { IfOk result (λ text. string_bytes text ≡ piece_of (PathStep.Name name.now)) }
+    ensures memory { IfErr result (λ refusal. refusal ≡ Refusal.Memory) }
+{
+    let Ok(mut text) = String::from_str(alloc, ".") else {
+        return Err(Refusal::Memory);
+    };
+    for (k, byte) in name.as_bytes().iter().enumerate() {
+        let Ok(()) = text.push(char::from(*byte)) else {
+            return Err(Refusal::Memory);
+        };
+    }
+    Ok(text)
+}

@@ -1,0 +1,128 @@
+ghost use Rattle.std.specs.Prelude.{◌≡◌, IfOk, IfErr};
+ghost use Rattle.std.specs.List.{AllZip};
+ghost use Rattle.fm_query.specs.Parsed.{IsItemOf, IsItemRefused, IsItemAdmitted, IsConditionOf, IsConditionRefused, IsConditionAdmitted, IsFirstRefused, OrMemory, first_open, is_open};
+
+use crate::condition::Condition;
+use crate::item::{Asked, Item};
+use crate::printing::{condition_text, item_text};
+use crate::syntax::{ConditionSyntax, ItemSyntax};
+use fm_base::Refusal;
+use fm_layout::Layout;
+use fm_path::{PathStep, resolve};
+use std::alloc::Global;
+
+/// The items with their paths resolved, or the first refusal.
+pub fn resolve_items(
+    alloc: Global,
+    layout: &Layout,
+    items: &[ItemSyntax],
+) -> Result<Vec<Item>, Refusal>
+    ensures resolved { IfOk result (λ found. AllZip (IsItemOf layout.now) items.now found.items) }
+    ensures refused { IfErr result (OrMemory (IsFirstRefused (IsItemAdmitted layout.now) (IsItemRefused layout.now) items.now)) }
+{
+    let mut found = Vec::new(alloc);
+    for (k, item) in items.iter().enumerate() {
+        let item = match resolve_item(alloc, layout, item) {
+            Ok(item) => item,
+            Err(refusal) => return Err(refusal),
+        };
+        let Ok(()) = found.push(item) else {
+            return Err(Refusal::Memory);
+        };
+    }
+    Ok(found)
+}
+
+/// The conditions with their paths resolved, or the first refusal.
+pub fn resolve_conditions(
+    alloc: Global,
+    layout: &Layout,
+    conditions: &[ConditionSyntax],
+) -> Result<Vec<Condition>, Refusal>
+    ensures resolved { IfOk result (λ found. AllZip (IsConditionOf layout.now) conditions.now found.items) }
+    ensures refused { IfErr result (OrMemory (IsFirstRefused (IsConditionAdmitted layout.now) (IsConditionRefused layout.now) conditions.now)) }
+{
+    let mut found = Vec::new(alloc);
+    for (k, condition) in conditions.iter().enumerate() {
+        let condition = match resolve_condition(alloc, layout, condition) {
+            Ok(condition) => condition,
+            Err(refusal) => return Err(refusal),
+        };
+        let Ok(()) = found.push(condition) else {
+            return Err(Refusal::Memory);
+        };
+    }
+    Ok(found)
+}
+
+fn resolve_item(alloc: Global, layout: &Layout, item: &ItemSyntax) -> Result<Item, Refusal>
+    ensures resolved { IfOk result (IsItemOf layout.now item.now) }
+    ensures refused { IfErr result (OrMemory (IsItemRefused layout.now item.now)) }
+{
+    let text = match item_text(alloc, item) {
+        Ok(text) => text,
+        Err(refusal) => return Err(refusal),
+    };
+    match item {
+        ItemSyntax::Count => {
+            let asked = Asked::Count;
+            Ok(Item { text, asked })
+        }
+        ItemSyntax::Of(fold, path) => match resolve(alloc, layout, path.as_slice()) {
+            Ok(resolved) => {
+                let asked = Asked::Of(*fold, resolved);
+                Ok(Item { text, asked })
+            }
+            Err(refusal) => Err(refusal),
+        },
+    }
+}
+
+/// A path that leaves an index open is refused after all its other refusals.
+fn resolve_condition(
+    alloc: Global,
+    layout: &Layout,
+    condition: &ConditionSyntax,
+) -> Result<Condition, Refusal>
+    ensures resolved { IfOk result (IsConditionOf layout.now condition.now) }
+    ensures refused { IfErr result (OrMemory (IsConditionRefused layout.now condition.now)) }
+{
+    let text = match condition_text(alloc, condition) {
+        Ok(text) => text,
+        Err(refusal) => return Err(refusal),
+    };
+    let path = match resolve(alloc, layout, condition.path.as_slice()) {
+        Ok(path) => path,
+        Err(refusal) => return Err(refusal),
+    };
+    match first_open(condition.path.as_slice()) {
+        Some(step) => Err(Refusal::StillOpen(step)),
+        None => Ok(Condition {
+            text,
+            path,
+            operator: condition.operator,
+            literal: condition.literal,
+        }),
+    }
+}
+
+/// The first step that leaves an index open.
+fn first_open(path: &[PathStep]) -> Option<u64>
+    ensures { result ≡ first_open path.now }
+{
+    for (k, step) in path.iter().enumerate() {
+        if is_open(step) {
+            return Some(k as u64);
+        }
+    }
+    None
+}
+
+fn is_open(step: &PathStep) -> bool
+    ensures { result ≡ is_open step.now }
+{
+    match step {
+        PathStep::Each | PathStep::EachFrom(_, _) => true,
+        PathStep::Name(_) | PathStep::Group(_) | PathStep::At(_) => false,
+    }
+}

@@ -1,0 +1,130 @@
+ghost use Rattle.std.specs.Prelude.{◌≡◌, ◌++◌, ◌∷◌, [], Some, IfOk, IfErr};
+ghost use Rattle.fm_query.specs.Reader.{start, onward, whole, IsReadySpot};
+
+use crate::stage::{Stage, Turn};
+use crate::syntax::{ConditionSyntax, ItemSyntax, QuerySyntax};
+use fm_base::Refusal;
+use std::alloc::Global;
+use std::marker::Model;
+
+/// What has been read of a query's text: its whole items and conditions, and how far the next one.
+#[derive(Debug, Drop)]
+pub struct Spot {
+    items: Vec<ItemSyntax>,
+    conditions: Vec<ConditionSyntax>,
+    stage: Stage,
+}
+
+impl Model for Spot {
+    ghost use Rattle.fm_query.specs.Reader as reader;
+
+    ghost Value = { reader.Spot };
+
+    ghost view = { λ s. reader.spot s.items.items s.conditions.items s.stage };
+}
+
+impl Spot {
+    /// Before the first byte. Takes no memory.
+    pub fn start(alloc: Global) -> Spot
+        ensures { Some result ≡ start }
+    {
+        Spot {
+            items: Vec::new(alloc),
+            conditions: Vec::new(alloc),
+            stage: Stage::Start,
+        }
+    }
+
+    /// Where a byte leads, if some query's text goes on so.
+    pub fn take(self, alloc: Global, byte: u8) -> Result<Option<Spot>, Refusal>
+        requires { IsReadySpot self }
+        ensures spot { IfOk result (λ spot. spot ≡ onward (Some self) byte) }
+        ensures memory { IfErr result (λ refusal. refusal ≡ Refusal.Memory) }
+    {
+        let Spot {
+            items,
+            conditions,
+            stage,
+        } = self;
+        match stage.next(alloc, items.len(), conditions.len(), byte) {
+            Ok(Turn::Dead) => Ok(None),
+            Ok(Turn::Stay(stage)) => Ok(Some(Spot {
+                items,
+                conditions,
+                stage,
+            })),
+            Ok(Turn::NextItem(item, stage)) => {
+                let items = with_item(items, item)?;
+                Ok(Some(Spot {
+                    items,
+                    conditions,
+                    stage,
+                }))
+            }
+            Ok(Turn::NextCondition(condition, stage)) => {
+                let conditions = with_condition(conditions, condition)?;
+                Ok(Some(Spot {
+                    items,
+                    conditions,
+                    stage,
+                }))
+            }
+            Err(refusal) => Err(refusal),
+        }
+    }
+
+    /// The query that was read, if the text may end here.
+    pub fn finish(self) -> Result<Option<QuerySyntax>, Refusal>
+        requires { IsReadySpot self }
+        ensures query { IfOk result (λ query. query ≡ whole self) }
+        ensures memory { IfErr result (λ refusal. refusal ≡ Refusal.Memory) }
+    {
+        let Spot {
+            items,
+            conditions,
+            stage,
+        } = self;
+        match stage {
+            Stage::Behind(item, 0) => {
+                let items = with_item(items, item)?;
+                Ok(Some(QuerySyntax::of(items, conditions)))
+            }
+            Stage::Literal(path, operator, number, 0) => {
+                let literal = number.value();
+                let condition = ConditionSyntax {
+                    path,
+                    operator,
+                    literal,
+                };
+                let conditions = with_condition(conditions, condition)?;
+                Ok(Some(QuerySyntax::of(items, conditions)))
+            }
+            _ => Ok(None),
+        }
+    }
+}
+
+/// The items with one more.
+fn with_item(mut items: Vec<ItemSyntax>, item: ItemSyntax) -> Result<Vec<ItemSyntax>, Refusal>
+    ensures more { IfOk result (λ more. more.items ≡ items.items ++ item ∷ []) }
+    ensures memory { IfErr result (λ refusal. refusal ≡ Refusal.Memory) }
+{
+    match items.push(item) {
+        Ok(()) => Ok(items),
+        Err(_) => Err(Refusal::Memory),
+    }
+}
+
+/// The conditions with one more.
+fn with_condition(
+    mut conditions: Vec<ConditionSyntax>,
+    condition: ConditionSyntax,
+) -> Result<Vec<ConditionSyntax>, Refusal>
+    ensures more { IfOk result (λ more. more.items ≡ conditions.items ++ condition ∷ []) }
+    ensures memory { IfErr result (λ refusal. refusal ≡ Refusal.Memory) }
+{
+    match conditions.push(condition) {
+        Ok(()) => Ok(conditions),
+        Err(_) => Err(Refusal::Memory),
+    }
+}

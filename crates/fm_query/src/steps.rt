@@ -1,0 +1,70 @@
+ghost use Rattle.std.specs.Prelude.{◌≡◌, ◌++◌, ◌∷◌, [], length, OnOk, IfErr};
+
+use fm_base::Refusal;
+use fm_path::PathStep;
+use std::alloc::Global;
+use std::marker::Model;
+
+/// The steps of a path, seen as their list.
+#[derive(Debug, Drop)]
+pub struct Steps {
+    steps: Vec<PathStep>,
+}
+
+impl Model for Steps {
+    ghost use Rattle.std.specs.Prelude.{List};
+    ghost use Rattle.fm_steps.specs.declared.step.PathStep.{PathStep};
+
+    ghost Value = { List PathStep };
+
+    ghost view = { λ steps. steps.steps.items };
+}
+
+impl Steps {
+    /// No steps. Takes no memory.
+    pub fn new(alloc: Global) -> Steps
+        ensures { result ≡ [] }
+    {
+        Steps {
+            steps: Vec::new(alloc),
+        }
+    }
+
+    /// These steps.
+    pub fn of(steps: Vec<PathStep>) -> Steps
+        ensures { result ≡ steps.items }
+    {
+        Steps { steps }
+    }
+
+    /// The steps as a vector again.
+    pub fn into_vec(self) -> Vec<PathStep>
+        ensures { result.items ≡ self }
+    {
+        self.steps
+    }
+
+    /// How many there are.
+    pub fn len(&self) -> usize
+        ensures { result ≡ length self.now }
+    {
+        self.steps.len()
+    }
+
+    /// Adds a step at the end. Refused: `Memory`.
+    pub fn push(&mut self, step: PathStep) -> Result<(), Refusal>
+        ensures ok { OnOk result (self.new ≡ self.old ++ step ∷ []) }
+        ensures memory { IfErr result (λ refusal. refusal ≡ Refusal.Memory) }
+    {
+        match self.steps.push(step) {
+            Ok(()) => Ok(()),
+            Err(_) => Err(Refusal::Memory),
+        }
+    }
+
+    pub fn as_slice(&self) -> &[PathStep]
+        ensures { result.now ≡ self.now }
+    {
+        self.steps.as_slice()
+    }
+}

@@ -1,0 +1,188 @@
+use crate::{Asked, Fold, Operator, Query, check_record, parse_query};
+use fm_base::Refusal;
+use fm_lanes::ValueKind;
+use fm_layout::Layout;
+use std::alloc::Global;
+use std::test::Fail;
+
+/// A struct of int `id`, short `kind`, padding, long `price`, four bytes `tags` and padding: 24 bytes.
+fn item(alloc: Global) -> Result<Layout, Fail> {
+    let mut members = Vec::new(alloc);
+    members.push(Layout::value(ValueKind::Int).with_name(alloc, "id")?)?;
+    members.push(Layout::value(ValueKind::Short).with_name(alloc, "kind")?)?;
+    members.push(Layout::padding(2)?)?;
+    members.push(Layout::value(ValueKind::Long).with_name(alloc, "price")?)?;
+    let tags = Layout::sequence(alloc, 4, Layout::value(ValueKind::Byte))?;
+    members.push(tags.with_name(alloc, "tags")?)?;
+    members.push(Layout::padding(4)?)?;
+    Ok(Layout::structure(members)?)
+}
+
+/// The refusal of this text over the items.
+fn refused(alloc: Global, text: &str) -> Result<Option<Refusal>, Fail> {
+    let layout = item(alloc)?;
+    if check_record(&layout).is_err() {
+        return Ok(None);
+    }
+    Ok(parse_query(alloc, text, &layout).err())
+}
+
+#[test]
+fn reads_items_and_conditions(rt: HostRuntime) -> Result<(), Fail> {
+    let layout = item(rt.alloc())?;
+    check_record(&layout)?;
+    let query = parse_query(
+        rt.alloc(),
+        "count,sum(.price),list(.tags[]) where .kind>=2",
+        &layout,
+    )?;
+    assert_eq!(rt; query.record_size(), 24);
+    assert_eq!(rt; query.record_alignment(), 8);
+    let items = query.items();
+    assert_eq!(rt; items.len(), 3);
+    assert_eq!(rt; items[0].text.as_str(), "count");
+    assert!(rt; matches!(&items[0].asked, Asked::Count));
+    assert_eq!(rt; items[1].text.as_str(), "sum(.price)");
+    assert!(rt; matches!(&items[1].asked, Asked::Of(Fold::Sum, path) if path.offset() == 8));
+    assert_eq!(rt; items[2].text.as_str(), "list(.tags[])");
+    assert!(rt; matches!(&items[2].asked, Asked::Of(Fold::All, path) if path.dims().len() == 1));
+    let conditions = query.conditions();
+    assert_eq!(rt; conditions.len(), 1);
+    assert_eq!(rt; conditions[0].text.as_str(), ".kind>=2");
+    assert_eq!(rt; conditions[0].path.offset(), 4);
+    assert_eq!(rt; conditions[0].operator, Operator::AtLeast);
+    assert_eq!(rt; conditions[0].literal, 2);
+    Ok(())
+}
+
+#[test]
+fn reads_each_fold_and_operator(rt: HostRuntime) -> Result<(), Fail> {
+    let layout = item(rt.alloc())?;
+    check_record(&layout)?;
+    let text =
+        "min(.price),max(.#3[3:-1]) where .id=0 and .id!=-1 and .id<-9223372036854775808 and .id<=10 \
+                and .kind>9223372036854775807";
+    let query = parse_query(rt.alloc(), text, &layout)?;
+    let items = query.items();
+    assert!(rt; matches!(&items[0].asked, Asked::Of(Fold::Least, _)));
+    assert!(rt; matches!(&items[1].asked, Asked::Of(Fold::Greatest, _)));
+    let conditions = query.conditions();
+    for (k, text, operator, literal) in [
+        (0, ".id=0", Operator::Equal, 0),
+        (1, ".id!=-1", Operator::NotEqual, -1),
+        (2, ".id<-9223372036854775808", Operator::Below, i64::MIN),
+        (3, ".id<=10", Operator::AtMost, 10),
+        (4, ".kind>9223372036854775807", Operator::Above, i64::MAX),
+    ] {
+        assert_eq!(rt; conditions[k].text.as_str(), text);
+        assert_eq!(rt; conditions[k].operator, operator, "at {text}");
+        assert_eq!(rt; conditions[k].literal, literal, "at {text}");
+    }
+    Ok(())
+}
+
+const ITEMS_16: &str =
+    "count,count,count,count,count,count,count,count,count,count,count,count,count,count,count,count";
+
+const CONDITIONS_16: &str =
+    "count where .id=0 and .id=0 and .id=0 and .id=0 and .id=0 and .id=0 and .id=0 and .id=0 and .id=0 and .id=0 and .id=0 and .id=0 and .id=0 and .id=0 and .id=0 and .id=0";
+
+#[test]
+fn reads_sixteen_of_each(rt: HostRuntime) -> Result<(), Fail> {
+    let layout = item(rt.alloc())?;
+    check_record(&layout)?;
+    let items = parse_query(rt.alloc(), ITEMS_16, &layout)?;
+    assert_eq!(rt; items.items().len(), 16);
+    assert_eq!(rt; items.conditions().len(), 0);
+    let conditions = parse_query(rt.alloc(), CONDITIONS_16, &layout)?;
+    assert_eq!(rt; conditions.conditions().len(), 16);
+    Ok(())
+}
+
+#[test]
+fn refuses_at_the_longest_prefix(rt: HostRuntime) -> Result<(), Fail> {
+    for (text, at) in [
+        ("", 0),
+        ("count,", 6),
+        ("sum(.tags[01])", 11),
+        ("x", 0),
+        ("mon(.id)", 1),
+        ("maxi", 3),
+        ("count ", 6),
+        ("count where", 11),
+        ("count  where .id=0", 6),
+        ("count, sum(.id)", 6),
+        ("sum()", 4),
+        ("sum(.id", 7),
+        ("sum(.id))", 8),
+        ("sum(.id=", 7),
+        ("count where .id", 15),
+        ("count where .id)", 15),
+        ("count where .id!0", 16),
+        ("count where .id==0", 16),
+        ("count where .id<=", 17),
+        ("count where .id<==0", 17),
+        ("count where .id=+1", 16),
+        ("count where .id=-0", 17),
+        ("count where .id=-", 17),
+        ("count where .id=00", 17),
+        ("count where .id=9223372036854775808", 34),
+        ("count where .id=-9223372036854775809", 35),
+        ("count where .id=1 or .id=2", 18),
+        ("count where .id=1  and .id=2", 18),
+        ("count where .id=1 and ", 22),
+        ("count where .id=1 an", 20),
+        ("count where .id=1,count", 17),
+        ("count\u{e9}", 5),
+        (
+            "count,count,count,count,count,count,count,count,count,count,count,count,count,count,count,count,count",
+            95,
+        ),
+        (
+            "count where .id=0 and .id=0 and .id=0 and .id=0 and .id=0 and .id=0 and .id=0 and .id=0 and .id=0 and .id=0 and .id=0 and .id=0 and .id=0 and .id=0 and .id=0 and .id=0 and .id=0",
+            167,
+        ),
+    ] {
+        match refused(rt.alloc(), text)? {
+            Some(Refusal::BadQuery(found)) => assert_eq!(rt; found, at, "at {text}"),
+            _ => assert!(rt; false, "at {text}"),
+        }
+    }
+    Ok(())
+}
+
+#[test]
+fn refuses_paths_in_their_order(rt: HostRuntime) -> Result<(), Fail> {
+    for (text, refusal) in [
+        ("sum(.nope)", Refusal::NoMember(0)),
+        ("sum(.id.x)", Refusal::NotGroup(1)),
+        ("sum(.kind[0])", Refusal::NotSequence(1)),
+        ("sum(.tags[4])", Refusal::IndexOut(1)),
+        ("sum(.tags)", Refusal::NotValue),
+        ("sum(.tags[0:0])", Refusal::BadStep(1)),
+        ("count where .tags[]=1", Refusal::StillOpen(1)),
+        ("count where .tags[0:2]=1", Refusal::StillOpen(1)),
+        ("count where .tags[].x=1", Refusal::NotGroup(2)),
+        ("count where .tags[]=1 and .nope=1", Refusal::StillOpen(1)),
+        ("count where .nope=1 and .tags[]=1", Refusal::NoMember(0)),
+        (
+            "count,sum(.id.x),sum(.nope) where .tags[]=1",
+            Refusal::NotGroup(1),
+        ),
+        ("sum(.nope),count where .id=x", Refusal::BadQuery(27)),
+    ] {
+        let found = refused(rt.alloc(), text)?;
+        assert!(rt; found == Some(refusal), "at {text}");
+    }
+    Ok(())
+}
+
+#[test]
+fn checks_records(rt: HostRuntime) -> Result<(), Fail> {
+    assert!(rt; check_record(&item(rt.alloc())?).is_ok());
+    let empty = Layout::structure(Vec::new(rt.alloc()))?;
+    assert!(rt; matches!(check_record(&empty), Err(Refusal::NoSize)));
+    let ragged = Layout::value(ValueKind::Int).with_alignment(8)?;
+    assert!(rt; matches!(check_record(&ragged), Err(Refusal::ElementRagged)));
+    Ok(())
+}
