@@ -1,0 +1,6 @@
+pub mod Ends
+pub mod Indices
+pub mod Joining
+pub mod Lines
+pub mod Standing
+pub mod Steps

@@ -1,0 +1,6 @@
+pub mod Answers
+pub mod Joined
+pub mod Laws
+pub mod Records
+pub mod Texts
+pub mod Values

@@ -1,0 +1,97 @@
+ghost use Rattle.std.specs.Prelude.{◌≡◌, ◌++◌, [], ◌≤◌, length, take, drop, IfOk, OnOk, OnErr, IfErr};
+ghost use Rattle.fm_records.specs.Answers.{answer};
+ghost use Rattle.fm_records.specs.Joined.{CanJoin, joined};
+
+use crate::found::Found;
+use fm_base::Refusal;
+use fm_query::Query;
+use std::alloc::Global;
+use std::marker::Model;
+
+/// What a query answers: what each item finds, in the order of the items.
+#[derive(Debug, Drop)]
+pub struct Answer {
+    found: Vec<Found>,
+}
+
+impl Model for Answer {
+    ghost use Rattle.std.specs.Prelude.{List};
+    ghost use Rattle.fm_records.specs.declared.found.Found.{Found};
+
+    ghost Value = { List Found };
+
+    ghost view = { λ answer. answer.found.items };
+}
+
+impl Answer {
+    /// The answer of which each item found this.
+    pub(crate) fn of(found: Vec<Found>) -> Answer
+        ensures { result ≡ found.items }
+    {
+        Answer { found }
+    }
+
+    /// What was found, item by item.
+    pub fn found(&self) -> &[Found]
+        ensures { result.now ≡ self.now }
+    {
+        self.found.as_slice()
+    }
+
+    /// Adds the answer of the same query over the records behind: then it is the answer over both runs of records.
+    ///
+    /// Refused: `Memory`, which leaves it as it was.
+    pub fn join(&mut self, next: Answer) -> Result<(), Refusal>
+        requires { CanJoin self.old next }
+        ensures joined { OnOk result (self.new ≡ joined self.old next) }
+        ensures same { OnErr result (self.new ≡ self.old) }
+        ensures memory { IfErr result (λ refusal. refusal ≡ Refusal.Memory) }
+    {
+        join_from(&mut self.found, &next.found, 0)
+    }
+}
+
+/// What a query answers over no records. Refused: `Memory`.
+pub fn of_no_records(alloc: Global, q: &Query) -> Result<Answer, Refusal>
+    ensures answer { IfOk result (λ a. a ≡ answer q.now []) }
+    ensures memory { IfErr result (λ refusal. refusal ≡ Refusal.Memory) }
+{
+    let mut found = Vec::new(alloc);
+    for item in q.items() {
+        if found.push(Found::in_none(alloc, &item.asked)).is_err() {
+            return Err(Refusal::Memory);
+        }
+    }
+    Ok(Answer::of(found))
+}
+
+/// Joins what was found from item `k` on.
+///
+/// Numbers are listed on the way in, and counts and sums added on the way out: a want of memory comes before the first
+/// sum, and on the way out from there the numbers are taken away again.
+fn join_from(found: &mut Vec<Found>, next: &Vec<Found>, k: usize) -> Result<(), Refusal>
+    requires within { k ≤ length found.old.items }
+    requires join { CanJoin (drop k found.old.items) (drop k next.now.items) }
+    ensures joined { OnOk result (found.new.items
+        ≡ take k found.old.items ++ joined (drop k found.old.items) (drop k next.now.items)) }
+    ensures same { OnErr result (found.new.items ≡ found.old.items) }
+    ensures memory { IfErr result (λ refusal. refusal ≡ Refusal.Memory) }
+{
+    if k >= next.len() {
+        return Ok(());
+    }
+    match found[k].lengthen(&next[k]) {
+        Ok(()) => {}
+        Err(refusal) => return Err(refusal),
+    }
+    match join_from(found, next, k + 1) {
+        Ok(()) => {
+            found[k].add(&next[k]);
+            Ok(())
+        }
+        Err(refusal) => {
+            found[k].shorten(&next[k]);
+            Err(refusal)
+        }
+    }
+}

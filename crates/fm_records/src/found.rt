@@ -1,0 +1,118 @@
+ghost use Rattle.std.specs.Prelude.{◌≡◌, OnOk, OnErr, IfErr, []};
+ghost use Rattle.fm_records.specs.Answers as answers;
+ghost use Rattle.fm_records.specs.Answers.{found_in};
+ghost use Rattle.fm_records.specs.Joined.{CanJoinFound, lengthened, shortened, summed};
+
+use crate::numbers::Numbers;
+use fm_base::Refusal;
+use fm_query::{Asked, Fold};
+use std::alloc::Global;
+
+/// What an item of a query finds in the chosen records.
+#[derive(Debug, Drop)]
+pub enum Found {
+    /// How many there are.
+    Count(u64),
+    /// The sum of the path's values in them.
+    Sum(i128),
+    /// The least of the values, if there is one.
+    Least(Option<i64>),
+    /// The greatest of the values, if there is one.
+    Greatest(Option<i64>),
+    /// The values, in the order of records.
+    Listed(Numbers),
+}
+
+impl Found {
+    /// What is found in no records. Takes no memory.
+    pub(crate) fn in_none(alloc: Global, asked: &Asked) -> Found
+        ensures { result ≡ found_in [] asked.now }
+    {
+        match asked {
+            Asked::Count => Found::Count(0),
+            Asked::Of(fold, _) => match fold {
+                Fold::Sum => Found::Sum(0),
+                Fold::Least => Found::Least(None),
+                Fold::Greatest => Found::Greatest(None),
+                Fold::All => Found::Listed(Numbers::new(alloc)),
+            },
+        }
+    }
+
+    /// Puts listed numbers behind those listed here. Refused: `Memory`, which leaves them as they were.
+    pub(crate) fn lengthen(&mut self, next: &Found) -> Result<(), Refusal>
+        ensures ok { OnOk result (self.new ≡ lengthened self.old next.now) }
+        ensures same { OnErr result (self.new ≡ self.old) }
+        ensures memory { IfErr result (λ refusal. refusal ≡ Refusal.Memory) }
+    {
+        if let Found::Listed(more) = next {
+            if let Found::Listed(numbers) = self {
+                return numbers.append(more);
+            }
+        }
+        Ok(())
+    }
+
+    /// Takes the last listed numbers away again, as many as the next has.
+    pub(crate) fn shorten(&mut self, next: &Found)
+        ensures { self.new ≡ shortened self.old next.now }
+    {
+        if let Found::Listed(more) = next {
+            if let Found::Listed(numbers) = self {
+                numbers.shorten(more);
+            }
+        }
+    }
+
+    /// Adds what the next found, but for listed numbers.
+    pub(crate) fn add(&mut self, next: &Found)
+        requires { CanJoinFound self.old next.now }
+        ensures { self.new ≡ summed self.old next.now }
+    {
+        match next {
+            Found::Count(n) => {
+                if let Found::Count(count) = self {
+                    *count += *n;
+                }
+            }
+            Found::Sum(n) => {
+                if let Found::Sum(sum) = self {
+                    *sum += *n;
+                }
+            }
+            Found::Least(n) => {
+                if let Found::Least(least) = self {
+                    *least = lesser(*least, *n);
+                }
+            }
+            Found::Greatest(n) => {
+                if let Found::Greatest(greatest) = self {
+                    *greatest = greater(*greatest, *n);
+                }
+            }
+            Found::Listed(_) => {}
+        }
+    }
+}
+
+/// The lesser of two numbers, of which each may be missing.
+pub(crate) fn lesser(a: Option<i64>, b: Option<i64>) -> Option<i64>
+    ensures { result ≡ answers.lesser a b }
+{
+    match (a, b) {
+        (Some(x), Some(y)) => Some(x.min(y)),
+        (Some(x), None) => Some(x),
+        (None, o) => o,
+    }
+}
+
+/// The greater of two numbers, of which each may be missing.
+pub(crate) fn greater(a: Option<i64>, b: Option<i64>) -> Option<i64>
+    ensures { result ≡ answers.greater a b }
+{
+    match (a, b) {
+        (Some(x), Some(y)) => Some(x.max(y)),
+        (Some(x), None) => Some(x),
+        (None, o) => o,
+    }
+}

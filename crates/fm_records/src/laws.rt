@@ -1,0 +1,32 @@
+ghost use Rattle.fm_records.specs.Laws.{NumbersStandAtPlaces, ListsAdmitted, AnswersJoin, LeastIsLeast, GreatestIsGreatest, AnswersAreOfTheQuery};
+
+/// The number of a resolved path at admitted indices is that of the bytes of the place to which following the path
+/// comes, in the layout's list of all places.
+pub fn numbers_stand_at_places()
+    ensures { NumbersStandAtPlaces }
+{}
+
+/// The lists of indices over which an item's values go are those that its path admits.
+pub fn lists_admitted()
+    ensures { ListsAdmitted }
+{}
+
+/// The answer over whole records, joined with that over the bytes behind them, is the answer over both.
+pub fn answers_join()
+    ensures { AnswersJoin }
+{}
+
+/// The least of numbers is one of them, and none is below it.
+pub fn least_is_least()
+    ensures { LeastIsLeast }
+{}
+
+/// The greatest of numbers is one of them, and none is above it.
+pub fn greatest_is_greatest()
+    ensures { GreatestIsGreatest }
+{}
+
+/// The answer over any bytes has what each item asks for.
+pub fn answers_are_of_the_query()
+    ensures { AnswersAreOfTheQuery }
+{}

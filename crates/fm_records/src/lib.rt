@@ -1,0 +1,19 @@
+//! What queries over records answer: for each item a count, a sum, a least or greatest number, or all numbers.
+#![tactic(auto)]
+
+mod answer;
+mod found;
+mod laws;
+mod numbers;
+mod printing;
+#[cfg(test)]
+mod tests;
+
+pub use answer::{Answer, of_no_records};
+pub use found::Found;
+pub use laws::{
+    answers_are_of_the_query, answers_join, greatest_is_greatest, least_is_least, lists_admitted,
+    numbers_stand_at_places,
+};
+pub use numbers::Numbers;
+pub use printing::print_answer;
