@@ -22,4 +22,4 @@ mod segment;
 mod tests;
 
 pub use elements::Elements;
-pub use segment::Segment;
+pub use segment::{Segment, get_value, put_value};
