@@ -1,0 +1,5 @@
+pub mod Causes
+pub mod Places
+pub mod Looking
+pub mod Visiting
+pub mod Words

@@ -1,0 +1,4 @@
+pub mod Access
+pub mod Acts
+pub mod Causes
+pub mod Place

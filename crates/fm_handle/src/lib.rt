@@ -1,0 +1,33 @@
+//! Handles: accesses to the value that a path into a layout leads to (`VarHandle`, JEP 454, Java SE 22).
+//!
+//! A handle is made of a layout and a path, once, and then reads, puts and updates the value wherever the layout stands:
+//! a call takes a segment, a base, which is the layout's offset in it in bytes, and an index for each step that the
+//! path leaves open. Offsets are a sum over the indices; no call walks the layout or takes memory.
+//!
+//! In Java, adding to the amounts of a table of accounts:
+//!
+//! ```java
+//! MemoryLayout account = structLayout(JAVA_INT.withName("id"), JAVA_INT.withName("amount"));
+//! MemoryLayout accounts = sequenceLayout(3, account);
+//! VarHandle amount = accounts.varHandle(sequenceElement(), groupElement("amount"));
+//! int before = (int) amount.getAndAdd(segment, 0L, 2L, 100);
+//! ```
+//!
+//!
+//! ```
+//! let path = parse_path(alloc, "[].amount")?;
+//! let amount = VarHandle::of(resolve(alloc, &accounts, &path)?);
+//! let before = amount.get_and_add(rt, memory, &segment, 0, &[2], Value::Int(100))?;
+//! ```
+//!
+//! `get` and `set` work on every value. The updates work where the value lies in one word: an int or a long whose
+//! alignment is at least its size. Those with a `long` in their names wait for nobody; the others take `rt`, since they
+//! try again where another caller came between.
+#![tactic(auto)]
+
+mod handle;
+mod inside;
+mod visits;
+mod word;
+
+pub use handle::VarHandle;
