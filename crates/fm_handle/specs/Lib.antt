@@ -2,3 +2,4 @@ pub mod Access
 pub mod Acts
 pub mod Causes
 pub mod Place
+pub mod Touched

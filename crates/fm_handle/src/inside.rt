@@ -69,10 +69,11 @@ pub(crate) fn add_inside<R: Wait, M: Memory>(
     let at = (place % 8) as u32;
     let mut seen = m.load(word);
     'tries: for _ in rt.forever() {
-        let now = value_in(seen, at, delta.kind(), order);
-        let found = m.swap_if(word, seen, with_value(seen, at, order, sum_of(now, delta)));
+        let before = value_in(seen, at, delta.kind(), order);
+        let after = with_value(seen, at, order, sum_of(before, delta));
+        let found = m.swap_if(word, seen, after);
         if found == seen {
-            return now;
+            return before;
         }
         seen = found;
     }

@@ -4,20 +4,23 @@
 //! a call takes a segment, a base, which is the layout's offset in it in bytes, and an index for each step that the
 //! path leaves open. Offsets are a sum over the indices; no call walks the layout or takes memory.
 //!
-//! In Java, adding to the amounts of a table of accounts:
+//! In Java, adding 100 to an amount in a table of accounts behind their count:
 //!
 //! ```java
 //! MemoryLayout account = structLayout(JAVA_INT.withName("id"), JAVA_INT.withName("amount"));
-//! MemoryLayout accounts = sequenceLayout(3, account);
-//! VarHandle amount = accounts.varHandle(sequenceElement(), groupElement("amount"));
+//! MemoryLayout accounts =
+//!     structLayout(JAVA_LONG.withName("count"), sequenceLayout(3, account).withName("rows"));
+//! VarHandle amount =
+//!     accounts.varHandle(groupElement("rows"), sequenceElement(), groupElement("amount"));
 //! int before = (int) amount.getAndAdd(segment, 0L, 2L, 100);
 //! ```
 //!
+//! and here:
 //!
 //! ```
-//! let path = parse_path(alloc, "[].amount")?;
+//! let path = parse_path(alloc, ".rows[].amount")?;
 //! let amount = VarHandle::of(resolve(alloc, &accounts, &path)?);
-//! let before = amount.get_and_add(rt, memory, &segment, 0, &[2], Value::Int(100))?;
+//! let before = amount.get_and_add(&rt, &mut memory, &segment, 0, &[2], Value::Int(100))?;
 //! ```
 //!
 //! `get` and `set` work on every value. The updates work where the value lies in one word: an int or a long whose
@@ -27,7 +30,9 @@
 
 mod handle;
 mod inside;
+mod laws;
 mod visits;
 mod word;
 
 pub use handle::VarHandle;
+pub use laws::stands_at_its_path;
