@@ -1,17 +1,20 @@
 -- What the pass over a path comes to is what a resolved path is.
-use Rattle.std.proofs.Common.{◌≡◌, ap, ℕ, List, arith}
+use Rattle.std.proofs.Common.{◌≡◌, ap, ℕ, ◌%◌, List, arith}
+use Rattle.std.specs.Int.{IsPowerOfTwo}
 use Rattle.fm_lanes.specs.Kind.{width_of}
 use Rattle.fm_layout.specs.Tree.{Tree, Value, Padding, Sequence, Struct, Union, alignment_of}
 use Rattle.fm_layout.specs.Size.{size_of}
 use Rattle.fm_layout.specs.WellFormed.{IsWellFormed}
-use Rattle.fm_layout.proofs.Sound.{fit_of}
+use Rattle.fm_layout.proofs.Powers.{is_power_of_two-IsPowerOfTwo}
+use Rattle.fm_layout.proofs.Sound.{fit_of, positive_alignment}
 use Rattle.fm_steps.specs.declared.step.PathStep.{PathStep}
 use Rattle.fm_places.specs.declared.dim.Dim.{Dim}
 use Rattle.fm_places.specs.Found.{LeadsTo}
 use Rattle.fm_places.proofs.Dims.{leads_dims}
-use Rattle.fm_places.proofs.Walking.{leads_finds, leads_steady, leads_inside, leads_end}
+use Rattle.fm_places.proofs.Walking.{leads_finds, leads_steady, leads_inside, leads_aligned, leads_end}
 use Rattle.fm_path.specs.declared.value_spec.ValueSpec.{ValueSpec}
-use Rattle.fm_path.specs.Resolution.{resolution, StaysInside, IsSpecOf, IsResolved}
+use Rattle.fm_places.specs.Walk.{offset_at}
+use Rattle.fm_path.specs.Resolution.{resolution, StaysInside, StandsAligned, IsSpecOf, IsResolved}
 
 -- a value layout is as large as its kind is wide
 spec_size : (u : Tree) (v : ValueSpec) → IsSpecOf u v → width_of v.kind ≡ size_of u
@@ -21,12 +24,26 @@ spec_size (Sequence n e l) v s = absurd s
 spec_size (Struct ms l) v s = absurd s
 spec_size (Union ms l) v s = absurd s
 
+-- a value layout's alignment
+spec_alignment : (u : Tree) (v : ValueSpec) → IsSpecOf u v → v.alignment ≡ alignment_of u
+spec_alignment (Value k o l) v s = s.2
+spec_alignment (Padding n l) v s = absurd s
+spec_alignment (Sequence n e l) v s = absurd s
+spec_alignment (Struct ms l) v s = absurd s
+spec_alignment (Union ms l) v s = absurd s
+
+-- a value that stands aligned, whose layout's alignment is a power of two
+stands_aligned : (at n m a b : ℕ) → n ≡ a → m ≡ b → IsPowerOfTwo a × (at % a ≡ 0) × (b % a ≡ 0) → StandsAligned at n m
+stands_aligned at n m a b e d h = rw (e, d) (record { power = is_power_of_two-IsPowerOfTwo a h.0; offset = h.1; root = h.2 })
+
 -- what the pass comes to stays inside the root
-pub stays_inside : (path : List PathStep) (t : Tree) (offset : ℕ) (dims : List Dim) (u : Tree) (v : ValueSpec) (n a : ℕ) → IsWellFormed t → LeadsTo path t offset dims u → IsSpecOf u v → n ≡ size_of t → StaysInside (resolution offset dims v n a)
-stays_inside path t offset dims u v n a well l s e = record {
+pub stays_inside : (path : List PathStep) (t : Tree) (offset : ℕ) (dims : List Dim) (u : Tree) (v : ValueSpec) (n a : ℕ) → IsWellFormed t → LeadsTo path t offset dims u → IsSpecOf u v → n ≡ size_of t → a ≡ alignment_of t → StaysInside (resolution offset dims v n a)
+stays_inside path t offset dims u v n a well l s e d = record {
+  aligned = λ is h. stands_aligned (offset_at offset dims is) v.alignment a (alignment_of u) (alignment_of t) (spec_alignment u v s) d (leads_aligned path t offset dims u well l is h);
   steady = λ is h. leads_steady path t offset dims u well l is h;
   inside = λ is h. omega (arith, leads_inside path t offset dims u well l is h, spec_size u v s, e);
   small = omega (arith, e, (fit_of t well).size);
+  root_alignment = omega (arith, d, positive_alignment t well);
 }
 
 -- what the pass comes to is the resolved path

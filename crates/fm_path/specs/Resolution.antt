@@ -1,5 +1,6 @@
 -- What a resolved path is seen as.
-use Rattle.std.specs.Prelude.{◌≡◌, ℕ, ◌+◌, ◌^◌, ◌≤◌, List, Ok}
+use Rattle.std.specs.Prelude.{◌≡◌, ℕ, ◌+◌, ◌%◌, ◌^◌, ◌≤◌, true, List, Ok}
+use Rattle.std.specs.Int.{is_power_of_two}
 use Rattle.fm_lanes.specs.Kind.{width_of}
 use Rattle.fm_layout.specs.Tree.{Tree, Value, alignment_of}
 use Rattle.fm_layout.specs.Size.{size_of}
@@ -22,11 +23,19 @@ pub record Resolution : Type 0 where
 abbrev pub resolution : ℕ → List Dim → ValueSpec → ℕ → ℕ → Resolution
 resolution offset dims value root_size root_alignment = record { offset = offset; dims = dims; value = value; root_size = root_size; root_alignment = root_alignment }
 
--- at admitted indices no sum passes 64 bits or falls below 0, and the value lies inside the root
+-- a value at this offset stands at a multiple of its alignment, wherever the root stands at a multiple of its own
+pub record StandsAligned (at alignment root_alignment : ℕ) : Type 0 where
+  pub power : is_power_of_two alignment ≡ true
+  pub offset : at % alignment ≡ 0
+  pub root : root_alignment % alignment ≡ 0
+
+-- at admitted indices no sum passes 64 bits or falls below 0, and the value lies inside the root, aligned
 pub record StaysInside (r : Resolution) : Type 0 where
   pub steady : (is : List ℕ) → AreAdmitted r.dims is → IsSteady r.offset r.dims is
   pub inside : (is : List ℕ) → AreAdmitted r.dims is → offset_at r.offset r.dims is + width_of r.value.kind ≤ r.root_size
+  pub aligned : (is : List ℕ) → AreAdmitted r.dims is → StandsAligned (offset_at r.offset r.dims is) r.value.alignment r.root_alignment
   pub small : r.root_size ≤ 2 ^ 40
+  pub root_alignment : 1 ≤ r.root_alignment
 
 -- this is the value layout's kind, order and alignment
 abbrev pub IsSpecOf : Tree → ValueSpec → Type 0

@@ -59,7 +59,7 @@ pub divides_gives : (a b : ℕ) → 1 ≤ a → Divides a b → b % a ≡ 0
 divides_gives a b pos d = ap (λ x. x % a) (d.1 ∙ omega arith) ∙ mod-mul-add d.0 a 0 pos
 
 -- what divides two numbers divides their sum
-divides_add : (a b c : ℕ) → Divides a b → Divides a c → Divides a (b + c)
+pub divides_add : (a b c : ℕ) → Divides a b → Divides a c → Divides a (b + c)
 divides_add a b c d e = (d.0 + e.0, omega (arith, d.1, e.1))
 
 -- what divides a number divides its multiples
@@ -67,7 +67,7 @@ divides_times : (a b i : ℕ) → Divides a b → Divides a (i * b)
 divides_times a b i d = (i * d.0, ap (λ x. i * x) d.1 ∙ omega arith)
 
 -- divisors of divisors are divisors
-divides_trans : (a b c : ℕ) → Divides a b → Divides b c → Divides a c
+pub divides_trans : (a b c : ℕ) → Divides a b → Divides b c → Divides a c
 divides_trans a b c d e = (e.0 * d.0, e.1 ∙ ap (λ x. e.0 * x) d.1 ∙ omega arith)
 
 -- a power of two is a smaller one times the rest
@@ -75,7 +75,7 @@ pow_split : (n k : ℕ) → k ≤ n → 2 ^ n ≡ 2 ^ (n - k) * 2 ^ k
 pow_split n k h = let e : n ≡ (n - k) + k = omega arith in ap (λ x. 2 ^ x) e ∙ pow-add 2 (n - k) k
 
 -- the smaller of two powers of two divides the greater
-divides_powers : (a b : ℕ) → IsPowerOfTwo a → IsPowerOfTwo b → a ≤ b → Divides a b
+pub divides_powers : (a b : ℕ) → IsPowerOfTwo a → IsPowerOfTwo b → a ≤ b → Divides a b
 divides_powers a b p q le = elim (cases_lt q.0 p.0) [
   | inl h ↦ absurd (omega (arith, pow-lt h, p.1, q.1))
   | inr h ↦ (2 ^ (q.0 - p.0), q.1 ∙ pow_split q.0 p.0 h ∙ ap (λ x. 2 ^ (q.0 - p.0) * x) (sym p.1))
@@ -152,6 +152,12 @@ pub place_aligned : (ss : List Step) (t : Tree) (at : ℕ) (u : Tree) → IsWell
 place_aligned ss t at u w h =
     let p = aligned ss t at u w h in
     divides_gives (alignment_of u) at (positive_alignment u p.well) p.aligned
+
+-- a place's layout is well formed, and its alignment divides the whole's
+pub place_fits_root : (ss : List Step) (t : Tree) (at : ℕ) (u : Tree) → IsWellFormed t → IsAt ss t at u → IsWellFormed u × (alignment_of t % alignment_of u ≡ 0)
+place_fits_root ss t at u w h =
+    let p = aligned ss t at u w h in
+    (p.well, divides_gives (alignment_of u) (alignment_of t) (positive_alignment u p.well) p.divides)
 
 -- a value has no part
 value_no_part : (s : Step) (t : Tree) (a : ℕ) (c : Tree) → IsValue t → IsPart s t a c → ⊥

@@ -1,9 +1,10 @@
 -- The pass over a path, step by step, and what it comes to.
-use Rattle.std.proofs.Common.{◌≡◌, refl, sym, ap, subst, ℕ, ℤ, pos, negsuc, ◌+◌, ◌-◌, ◌*◌, ◌^◌, ◌<◌, ◌≤◌, min, Bool, true, false, nat_lt, if◌then◌else◌, Option, Some, None, Result, Ok, Err, List, [], ◌∷◌, ◌++◌, length, drop, get_or, arith, ◌∙◌}
+use Rattle.std.proofs.Common.{◌≡◌, refl, sym, ap, subst, ℕ, ℤ, pos, negsuc, ◌+◌, ◌-◌, ◌*◌, ◌%◌, ◌^◌, ◌<◌, ◌≤◌, min, Bool, true, false, nat_lt, if◌then◌else◌, Option, Some, None, Result, Ok, Err, List, [], ◌∷◌, ◌++◌, length, drop, get_or, arith, ◌∙◌}
 use Rattle.std.proofs.lemmas.List.{append_assoc, append-nil, drop_more, drop_all}
 use Rattle.fm_base.specs.declared.refusal.Refusal.{Refusal}
 use Rattle.fm_base.specs.declared.refusal.Refusal.TheVariants.{IndexOut}
-use Rattle.fm_layout.specs.Tree.{Tree, Trees, Value, Padding, Sequence, Struct, Union}
+use Rattle.std.specs.Int.{IsPowerOfTwo}
+use Rattle.fm_layout.specs.Tree.{Tree, Trees, Value, Padding, Sequence, Struct, Union, alignment_of}
 use Rattle.fm_layout.specs.Size.{size_of}
 use Rattle.fm_layout.specs.Parts.{tree_at}
 use Rattle.fm_layout.specs.WellFormed.{IsWellFormed}
@@ -18,7 +19,7 @@ use Rattle.fm_places.specs.Steady.{IsSteady}
 use Rattle.fm_places.specs.Walk.{Move, Moved, move_member, move_found, move, move_closed, Walk, with_dim, moved, walk_by, walk, walk_closed, reach, offset_at, AreAdmitted}
 use Rattle.fm_places.proofs.Agreeing.{Meets, StaysAbove, Agrees, agrees, agrees_closed}
 use Rattle.fm_places.proofs.Fitting.{Tells, Fits, fits}
-use Rattle.fm_places.proofs.Inside.{inside}
+use Rattle.fm_places.proofs.Inside.{inside, place_aligned, place_fits_root}
 use Rattle.fm_places.proofs.Listed.{listed}
 
 -- a walk behind an offset and dims
@@ -142,6 +143,15 @@ pub leads_inside : (path : List PathStep) (t : Tree) (offset : ℕ) (dims : List
 leads_inside path t offset dims u well l is h =
     let m = met path t l.whole dims u l.walked is h in
     subst (λ x. offset_at x dims is + size_of u ≤ size_of t) (same_offset path t offset dims u well l is h) (inside m.steps t _ u m.stands)
+
+-- that place stands at a multiple of its alignment, which is a power of two and divides the layout's
+pub leads_aligned : (path : List PathStep) (t : Tree) (offset : ℕ) (dims : List Dim) (u : Tree) → IsWellFormed t → LeadsTo path t offset dims u → (is : List ℕ) → AreAdmitted dims is
+    → IsPowerOfTwo (alignment_of u) × (offset_at offset dims is % alignment_of u ≡ 0) × (alignment_of t % alignment_of u ≡ 0)
+leads_aligned path t offset dims u well l is h =
+    let m = met path t l.whole dims u l.walked is h in
+    let fit = place_fits_root m.steps t (offset_at l.whole dims is) u well m.stands in
+    let same = same_offset path t offset dims u well l is h in
+    ((fit_of u fit.0).power, subst (λ x. offset_at x dims is % alignment_of u ≡ 0) same (place_aligned m.steps t (offset_at l.whole dims is) u well m.stands), fit.1)
 
 -- each offset on the way is that of a place
 keeps_inside : (at most : ℕ) (ds : List Dim) (is : List ℕ) → most < 2 ^ 64 → ((js : List ℕ) → AreAdmitted ds js → offset_at at ds js ≤ most) → StaysAbove at ds is → AreAdmitted ds is → IsSteady at ds is

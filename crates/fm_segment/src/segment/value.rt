@@ -16,7 +16,7 @@ use std::sync::Wait;
 /// The value of this kind whose bytes stand at `place` in this order.
 ///
 /// Refused, in this order: `WrongThread`, `Closed`.
-pub(super) fn get_value<M: Memory>(
+pub fn get_value<M: Memory>(
     m: &mut M,
     arena: ArenaId,
     place: u64,
@@ -40,7 +40,7 @@ pub(super) fn get_value<M: Memory>(
 /// Puts the bytes of `v` at `place` in this order. Other bytes stay.
 ///
 /// Refused, in this order: `WrongThread`, `Closed`.
-pub(super) fn put_value<R: Wait, M: Memory>(
+pub fn put_value<R: Wait, M: Memory>(
     rt: &R,
     m: &mut M,
     arena: ArenaId,

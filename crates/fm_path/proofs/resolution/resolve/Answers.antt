@@ -18,7 +18,7 @@ loop-k-preserved c =
 
 pub of-requires : goal.of-requires
 of-requires c =
-    stays_inside _ _ _ _ _ _ _ _ c.size-root_size.ensures.well_formed (on_way_leads _ _ _ _ _ _ c.loop-k.invariant c.loop-k-test.false) c.in-Some.ensures c.size-root_size.ensures.size
+    stays_inside _ _ _ _ _ _ _ _ c.size-root_size.ensures.well_formed (on_way_leads _ _ _ _ _ _ c.loop-k.invariant c.loop-k-test.false) c.in-Some.ensures c.size-root_size.ensures.size c.alignment.ensures.alignment
 
 pub returns-in-Some-clause-resolved : goal.returns-in-Some-clause-resolved
 returns-in-Some-clause-resolved c =

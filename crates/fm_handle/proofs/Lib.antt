@@ -1,0 +1,6 @@
+pub mod Causes
+pub mod Places
+pub mod Looking
+pub mod Touched
+pub mod Visiting
+pub mod Words

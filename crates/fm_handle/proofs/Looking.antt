@@ -1,0 +1,140 @@
+-- Tries on a word, as far as they have come.
+use Rattle.std.proofs.Common.{◌≡◌, ◌≢◌, ℕ, ◌/◌, ◌%◌, ◌<◌, arith, List, [], ◌∷◌, ◌++◌, refl, sym, ap, subst, ◌∙◌, append_assoc, Some}
+use Rattle.fm_base.specs.declared.arena_id.ArenaId.{ArenaId}
+use Rattle.fm_base.specs.Calls.{Call, Reply, Read, SwapIf, Found, Entry, entry_of}
+use Rattle.fm_base.specs.View.{View, Makes, Did, given_in}
+use Rattle.fm_base.specs.Does.{CanReach, DoesAct}
+use Rattle.fm_base.specs.Visits.{Acts, entries_of, Tries, looked, missed, hit}
+use Rattle.fm_base.proofs.Making.{Makes-then}
+use Rattle.fm_base.proofs.Outcomes.{Makes-lasts}
+use Rattle.fm_base.proofs.Visiting.{act_makes}
+use Rattle.fm_lanes.specs.declared.order.Order.{Order}
+use Rattle.fm_lanes.specs.declared.value.Value.{Value}
+use Rattle.fm_lanes.specs.Value.{kind_of}
+use Rattle.fm_handle.specs.Access.{DoesInside}
+use Rattle.fm_handle.specs.Acts as acts
+use Rattle.fm_handle.specs.Acts.{Adds, CutOff, Exchanges, sum_of, value_in, with_value}
+
+-- The entries of acts, one after the other.
+entries_of-append : (c : ℕ) (xs ys : Acts) → entries_of c (xs ++ ys) ≡ entries_of c xs ++ entries_of c ys
+entries_of-append c [] ys = refl
+entries_of-append c (x ∷ xs) ys = ap (λ (es : List Entry). entry_of c x.0 x.1 ∷ es) (entries_of-append c xs ys)
+
+-- Acts that are the beginning of tries, of which the last found `seen`: whatever completes them completes all
+pub record Looked (id : ArenaId) (word : ℕ) (GivesUp : ℕ → Type 0) (seen : ℕ) (so_far : Acts) : Type 0 where
+  pub onward : (change : ℕ → ℕ) (found : ℕ) (rest : Acts) → Tries id word change found rest → Tries id word change found (so_far ++ rest)
+  pub cuts : (found : ℕ) (rest : Acts) → CutOff id word GivesUp found rest → CutOff id word GivesUp found (so_far ++ rest)
+  pub cut : GivesUp seen → CutOff id word GivesUp seen so_far
+
+-- the word was looked at
+pub looked_once : (id : ArenaId) (word : ℕ) (GivesUp : ℕ → Type 0) (seen : ℕ) → Looked id word GivesUp seen ((Read id word, Found seen) ∷ [])
+looked_once id word GivesUp seen = record {
+  onward = λ change found rest t. looked seen rest t;
+  cuts = λ found rest t. acts.looked seen rest t;
+  cut = λ h. acts.at_read h;
+}
+
+-- one SwapIf more, that missed
+looked_more : (id : ArenaId) (word : ℕ) (GivesUp : ℕ → Type 0) (seen old new found : ℕ) (so_far : Acts) → ¬ (found ≡ old) → Looked id word GivesUp seen so_far
+    → Looked id word GivesUp found (so_far ++ (SwapIf id word old new, Found found) ∷ [])
+looked_more id word GivesUp seen old new found so_far n l =
+    let miss : Call × Reply = (SwapIf id word old new, Found found) in
+    record {
+      onward = λ change last rest t. rw append_assoc (l.onward change last (miss ∷ rest) (missed found old new rest n t));
+      cuts = λ last rest t. rw append_assoc (l.cuts last (miss ∷ rest) (acts.missed found old new rest n t));
+      cut = λ h. l.cuts found (miss ∷ []) (acts.at_swap old new n h);
+    }
+
+-- ---- the memory meanwhile
+
+-- from old to now the caller looked, and found `seen` last
+pub record IsTrying (old now : View) (id : ArenaId) (word : ℕ) (GivesUp : ℕ → Type 0) (seen : ℕ) : Type 0 where
+  pub inside : now.inside ≡ Some id
+  pub so_far : Acts
+  pub looks : Looked id word GivesUp seen so_far
+  pub makes : Makes old now (entries_of old.caller so_far)
+
+-- After a Read.
+pub trying_begins : (old now : View) (id : ArenaId) (word : ℕ) (GivesUp : ℕ → Type 0) (seen : ℕ) → old.inside ≡ Some id → now.inside ≡ old.inside
+    → Did old now (DoesAct old.inside old.caller (λ a. Read a word) (Found seen)) → IsTrying old now id word GivesUp seen
+trying_begins old now id word GivesUp seen inside stays d = record {
+  inside = stays ∙ inside;
+  so_far = (Read id word, Found seen) ∷ [];
+  looks = looked_once id word GivesUp seen;
+  makes = act_makes old now id old.caller (λ a. Read a word) (Found seen) inside refl d;
+}
+
+-- what one SwapIf more made
+swapped : (old now next : View) (id : ArenaId) (word : ℕ) (GivesUp : ℕ → Type 0) (seen swap_old swap_new found : ℕ) → (t : IsTrying old now id word GivesUp seen)
+    → Did now next (DoesAct now.inside now.caller (λ a. SwapIf a word swap_old swap_new) (Found found))
+    → Makes old next (entries_of old.caller (t.so_far ++ (SwapIf id word swap_old swap_new, Found found) ∷ []))
+swapped old now next id word GivesUp seen swap_old swap_new found t d =
+    let m = act_makes now next id old.caller (λ a. SwapIf a word swap_old swap_new) (Found found) t.inside t.makes.same_caller d in
+    subst (λ (es : List Entry). Makes old next es) (sym (entries_of-append old.caller t.so_far ((SwapIf id word swap_old swap_new, Found found) ∷ []))) (Makes-then old now next _ _ t.makes m)
+
+-- A SwapIf that missed.
+pub trying_goes_on : (old now next : View) (id : ArenaId) (word : ℕ) (GivesUp : ℕ → Type 0) (seen new found : ℕ) → IsTrying old now id word GivesUp seen → next.inside ≡ now.inside → ¬ (found ≡ seen)
+    → Did now next (DoesAct now.inside now.caller (λ a. SwapIf a word seen new) (Found found)) → IsTrying old next id word GivesUp found
+trying_goes_on old now next id word GivesUp seen new found t stays n d = record {
+  inside = stays ∙ t.inside;
+  so_far = t.so_far ++ (SwapIf id word seen new, Found found) ∷ [];
+  looks = looked_more id word GivesUp seen seen new found t.so_far n t.looks;
+  makes = swapped old now next id word GivesUp seen seen new found t d;
+}
+
+-- tries that made a change
+pub record Hit (old next : View) (id : ArenaId) (word : ℕ) (change : ℕ → ℕ) (found : ℕ) : Type 0 where
+  pub acts : Acts
+  pub tries : Tries id word change found acts
+  pub makes : Makes old next (entries_of old.caller acts)
+
+-- A SwapIf that hit.
+pub trying_hits : (old now next : View) (id : ArenaId) (word : ℕ) (GivesUp : ℕ → Type 0) (change : ℕ → ℕ) (seen new found : ℕ) → IsTrying old now id word GivesUp seen → found ≡ seen → new ≡ change seen
+    → Did now next (DoesAct now.inside now.caller (λ a. SwapIf a word seen new) (Found found)) → Hit old next id word change seen
+trying_hits old now next id word GivesUp change seen new found t f n d =
+    let Here : ℕ → ℕ → Type 0 = λ m k. Makes old next (entries_of old.caller (t.so_far ++ (SwapIf id word seen m, Found k) ∷ [])) in
+    let made = swapped old now next id word GivesUp seen seen new found t d in
+    record {
+      acts = t.so_far ++ (SwapIf id word seen (change seen), Found seen) ∷ [];
+      tries = t.looks.onward change seen ((SwapIf id word seen (change seen), Found seen) ∷ []) hit;
+      makes = subst (λ (k : ℕ). Here (change seen) k) f (subst (λ (m : ℕ). Here m found) n made);
+    }
+
+-- ---- where the word can be reached
+
+pub reaches : (v : View) (id : ArenaId) (place : ℕ) → v.inside ≡ Some id → place < given_in v id → CanReach v (place / 8)
+reaches v id place inside given = record { id = id; inside = inside; given = omega arith }
+
+pub still_reaches : (old now : View) (id : ArenaId) (place : ℕ) (GivesUp : ℕ → Type 0) (seen : ℕ) → IsTrying old now id (place / 8) GivesUp seen → place < given_in old id → CanReach now (place / 8)
+still_reaches old now id place GivesUp seen t given =
+    reaches now id place t.inside (let more = (Makes-lasts old now _ t.makes).given id in omega arith)
+
+-- ---- how the tries end
+
+module _ (old next : View) (id : ArenaId) (place : ℕ) (o : Order) where
+  -- Another value was found.
+  pub exchange_gives_up : (expected v : Value) (seen : ℕ) (found : Value) → IsTrying old next id (place / 8) (λ now. value_in (kind_of v) o (place % 8) now ≢ expected) seen
+      → found ≡ value_in (kind_of v) o (place % 8) seen → found ≢ expected → Did old next (DoesInside old.caller (Exchanges o id place expected v found))
+  exchange_gives_up expected v seen found t value other = record {
+    own = entries_of old.caller t.so_far;
+    does = record { acts = t.so_far; are = acts.finds_another seen found t.so_far value other (t.looks.cut (λ e. other (value ∙ e))); entries = refl };
+    makes = t.makes;
+  }
+
+  -- The value was exchanged.
+  pub exchange_hits : (expected v : Value) (seen : ℕ) → Hit old next id (place / 8) (with_value o v (place % 8)) seen → value_in (kind_of v) o (place % 8) seen ≡ expected
+      → Did old next (DoesInside old.caller (Exchanges o id place expected v expected))
+  exchange_hits expected v seen h value = record {
+    own = entries_of old.caller h.acts;
+    does = record { acts = h.acts; are = acts.puts seen h.acts value h.tries; entries = refl };
+    makes = h.makes;
+  }
+
+  -- The sum was put.
+  pub add_hits : (delta found : Value) (seen : ℕ) → Hit old next id (place / 8) (with_value o (sum_of found delta) (place % 8)) seen → found ≡ value_in (kind_of delta) o (place % 8) seen
+      → Did old next (DoesInside old.caller (Adds o id place delta found))
+  add_hits delta found seen h value = record {
+    own = entries_of old.caller h.acts;
+    does = record { acts = h.acts; are = record { word = seen; value = value; tries = h.tries }; entries = refl };
+    makes = h.makes;
+  }

@@ -1,0 +1,31 @@
+use Rattle.std.proofs.Common.{rules, sym, ap, ◌∙◌, Err}
+use Rattle.std.proofs.lemmas.Result.{err_from_is_err_and}
+use Rattle.fm_handle.specs.Access.{DoesVisit}
+use Rattle.fm_handle.specs.Acts.{AddsLong}
+use Rattle.fm_handle.specs.Place.{is_word, if_supported, update_place_of, writable_place_of}
+use Rattle.fm_handle.proofs.Causes.{update_cause}
+use Rattle.fm_handle.proofs.Visiting.{refused_before}
+use Rattle.fm_handle.proofs.handle.VarHandle.get_and_add_long.Goals as goal
+
+pub returns-in_err-place-clause-did : goal.returns-in_err-place-clause-did
+returns-in_err-place-clause-did g c =
+    let v = g.M.Memory.view c.args.m.now in
+    let p = err_from_is_err_and c.from_residual.result c.from_residual.ensures.1 in
+    let found = writable_place_of c.args.base c.args.indices.now c.args.self.now c.args.s.now in
+    refused_before v (update_place_of is_word c.args.base c.args.indices.now c.args.self.now c.args.s.now) (λ place. DoesVisit v.caller c.args.s.now.arena (AddsLong c.args.s.now.arena place c.args.delta)) c.in_err-place.field-0.0 c.from_residual.result
+    (ap (λ b. if_supported b found) (sym c.is_word.ensures) ∙ sym c.update_place_of.ensures.place ∙ c.in_err-place.was) (p.1 ∙ ap Err p.2)
+
+pub returns-in_err-place-clause-refused : goal.returns-in_err-place-clause-refused
+returns-in_err-place-clause-refused g c =
+    let v = g.M.Memory.view c.args.m.now in
+    update_cause v v is_word c.args.base c.args.indices.now c.args.self.now c.args.s.now (λ place. AddsLong c.args.s.now.arena place c.args.delta)
+    c.from_residual.result c.requires.indices (returns-in_err-place-clause-did g c)
+
+pub returns-in_err-found-clause-did : goal.returns-in_err-found-clause-did
+returns-in_err-found-clause-did g c = search rules
+
+pub returns-in_err-found-clause-refused : goal.returns-in_err-found-clause-refused
+returns-in_err-found-clause-refused g c =
+    let v = g.M.Memory.view in
+    update_cause (v c.args.m.now) (v c.add_at.new.m) is_word c.args.base c.args.indices.now c.args.self.now c.args.s.now (λ place. AddsLong c.args.s.now.arena place c.args.delta)
+    c.from_residual-in_err-found.result c.requires.indices (returns-in_err-found-clause-did g c)

@@ -1,0 +1,5 @@
+pub mod Access
+pub mod Acts
+pub mod Causes
+pub mod Place
+pub mod Touched
