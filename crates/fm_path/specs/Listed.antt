@@ -11,6 +11,10 @@ use Rattle.fm_path.specs.Listing.{value_text, dim_text, step_to}
 abbrev pub Adds : {Z : Type 0} → String Z → String Z → List ℕ → Type 0
 Adds old new bytes = string_bytes new ≡ string_bytes old ++ bytes
 
+-- a path that goes on from another by this piece
+abbrev pub Goes : {Z : Type 0} → List ℕ → List ℕ → String Z → Type 0
+Goes path piece longer = string_bytes longer ≡ path ++ piece
+
 -- the layout's own path is a dot
 abbrev pub shown : List ℕ → List ℕ
 shown [] = codes "."

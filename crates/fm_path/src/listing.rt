@@ -4,7 +4,7 @@ ghost use Rattle.fm_layout.specs.Parts.{form_of};
 ghost use Rattle.fm_places.specs.Follow.{members_of, count_in};
 ghost use Rattle.fm_steps.specs.Grammar.{piece_of};
 ghost use Rattle.fm_path.specs.Listing.{kind_text, order_text, value_text, step_to, list_text};
-ghost use Rattle.fm_path.specs.Listed.{Adds, shown, longer_dims, listed, extent_of};
+ghost use Rattle.fm_path.specs.Listed.{Adds, Goes, shown, longer_dims, listed, extent_of};
 
 use crate::moves::index_of;
 use fm_base::Refusal;
@@ -131,7 +131,7 @@ fn list_value(
 
 /// The path of a sequence's elements.
 fn element_path(alloc: Global, path: &str) -> Result<String, Refusal>
-    ensures text { IfOk result (λ inner. string_bytes inner ≡ path.now ++ codes "[]") }
+    ensures text { IfOk result (Goes path.now (codes "[]")) }
     ensures memory { IfErr result (λ refusal. refusal ≡ Refusal.Memory) }
 {
     match format!(in alloc; "{path}[]") {
@@ -159,7 +159,7 @@ fn member_path(
     i: u64,
     member: &Layout,
 ) -> Result<String, Refusal>
-    ensures text { IfOk result (λ inner. string_bytes inner ≡ path.now ++ piece_of (step_to group.now i member.now)) }
+    ensures text { IfOk result (Goes path.now (piece_of (step_to group.now i member.now))) }
     ensures longer { IfOk result (λ inner. length path.now < length (string_bytes inner)) }
     ensures memory { IfErr result (λ refusal. refusal ≡ Refusal.Memory) }
 {
@@ -176,7 +176,7 @@ fn member_path(
 }
 
 fn named_path(alloc: Global, path: &str, name: &str) -> Result<String, Refusal>
-    ensures text { IfOk result (λ inner. string_bytes inner ≡ path.now ++ (codes "." ++ name.now)) }
+    ensures text { IfOk result (Goes path.now (codes "." ++ name.now)) }
     ensures memory { IfErr result (λ refusal. refusal ≡ Refusal.Memory) }
 {
     match format!(in alloc; "{path}.{name}") {
@@ -186,7 +186,7 @@ fn named_path(alloc: Global, path: &str, name: &str) -> Result<String, Refusal>
 }
 
 fn numbered_path(alloc: Global, path: &str, i: u64) -> Result<String, Refusal>
-    ensures text { IfOk result (λ inner. string_bytes inner ≡ path.now ++ (codes ".#" ++ decimal i)) }
+    ensures text { IfOk result (Goes path.now (codes ".#" ++ decimal i)) }
     ensures memory { IfErr result (λ refusal. refusal ≡ Refusal.Memory) }
 {
     match format!(in alloc; "{path}.#{i}") {
