@@ -16,7 +16,7 @@ const SIZE: u64 = 67_108_864;
 pub fn fills<R: Wait>(rt: &R, alloc: Global, count: u64) -> Result<u64, Refusal> {
     let (mut memory, segment, _) = two(rt, alloc)?;
     for turn in 0..count {
-        segment.fill(rt, &mut memory, turn as u8)?;
+        segment.fill(rt, &mut memory, (turn % 256) as u8)?;
     }
     last(&mut memory, &segment)
 }
@@ -26,7 +26,7 @@ pub fn copies<R: Wait>(rt: &R, alloc: Global, count: u64) -> Result<u64, Refusal
     let (mut memory, source, target) = two(rt, alloc)?;
     let long = Layout::value(ValueKind::Long);
     for turn in 0..count {
-        source.set(rt, &mut memory, &long, SIZE - 8, Value::Long(turn as i64))?;
+        source.set(rt, &mut memory, &long, SIZE - 8, Value::Long((turn % 1_000) as i64))?;
         target.copy_from(rt, &mut memory, &source)?;
     }
     last(&mut memory, &target)
