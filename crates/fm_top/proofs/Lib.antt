@@ -1,5 +1,6 @@
 pub mod Causes
 pub mod Chunks
+pub mod FileBytes
 pub mod GivenBytes
 pub mod Holding
 pub mod Numbers

@@ -1,5 +1,5 @@
 -- Words that spell numbers.
-use Rattle.std.proofs.Common.{◌≡◌, ℕ, ◌<◌, ◌^◌, ◌≤◌, List, [], ◌∷◌, length, get_or, Bool, false, Result, Ok, Err, sym, ◌∙◌, ap, subst, arith, IsTrue}
+use Rattle.std.proofs.Common.{◌≡◌, ℕ, ◌<◌, ◌^◌, ◌≤◌, List, [], ◌∷◌, length, get_or, Bool, false, Option, None, Some, IfNone, Result, Ok, Err, sym, ◌∙◌, ap, subst, arith, IsTrue}
 use Rattle.std.specs.Fmt.{decimal}
 use Rattle.std.specs.Prelude.{String, string_bytes}
 use Rattle.std.specs.declared.alloc.Global.{Global}
@@ -11,7 +11,7 @@ use Rattle.std.proofs.lemmas.Slice.Eq.{bytes_eq-Decides}
 use Rattle.fm_path.specs.Listing.{kind_text}
 use Rattle.fm_top.proofs.TypeNames.{kind_text-injective}
 use Rattle.fm_lanes.specs.declared.value_kind.ValueKind.{ValueKind}
-use Rattle.fm_top.specs.Words.{Sum, AreFaulty, texts, HasValue, IsSum, five}
+use Rattle.fm_top.specs.Words.{Sum, Layout, AreFaulty, texts, HasValue, IsSum, IsLayout, five, two}
 
 -- what spells a number is read as that number
 read_spelled : {E : Type 0} (word : List ℕ) (r : Result ℕ E) (n : ℕ) → ParsesUnsigned 64 10 word r → n < 2 ^ 64 → word ≡ decimal n → r ≡ Ok n
@@ -59,11 +59,34 @@ five_texts (p ∷ q ∷ []) v w x y z a b c d e low high is_v is_w is_x is_y is_
 five_texts (p ∷ []) v w x y z a b c d e low high is_v is_w is_x is_y is_z is_a is_b is_c is_d is_e = absurd (omega arith)
 five_texts [] v w x y z a b c d e low high is_v is_w is_x is_y is_z is_a is_b is_c is_d is_e = absurd (omega arith)
 
--- where these words ask for no sum, they ask for nothing
-pub none_asked : (words other : List (List ℕ)) → words ≡ other
-    → ((size at : ℕ) (kind : ValueKind) (file : List ℕ) → IsSum other size at kind file → ⊥) → AreFaulty words
-none_asked words other same none (Sum size at kind file) asks =
+-- two words and their texts
+pub two_texts : (words : List (String Global)) (v w : String Global) (a b : List ℕ) → 2 ≤ length words → length words < 3
+    → v ≡ get_or words 0 v → w ≡ get_or words 1 w → a ≡ string_bytes v → b ≡ string_bytes w → texts words ≡ two a b
+two_texts (p ∷ q ∷ []) v w a b low high is_v is_w is_a is_b = cc
+two_texts (p ∷ q ∷ r ∷ more) v w a b low high is_v is_w is_a is_b = absurd (omega arith)
+two_texts (p ∷ []) v w a b low high is_v is_w is_a is_b = absurd (omega arith)
+two_texts [] v w a b low high is_v is_w is_a is_b = absurd (omega arith)
+
+-- words that are spelled so ask for no sum
+pub none_summed : (words other : List (List ℕ)) → words ≡ other
+    → ((size at : ℕ) (kind : ValueKind) (file : List ℕ) → IsSum other size at kind file → ⊥)
+    → (size at : ℕ) (kind : ValueKind) (file : List ℕ) → IsSum words size at kind file → ⊥
+none_summed words other same none size at kind file asks =
     none size at kind file (subst (λ (all : List (List ℕ)). IsSum all size at kind file) same asks)
+
+pub none_laid_out : (words other : List (List ℕ)) → words ≡ other → ((file : List ℕ) → IsLayout other file → ⊥) → (file : List ℕ) → IsLayout words file → ⊥
+none_laid_out words other same none file asks = none file (subst (λ (all : List (List ℕ)). IsLayout all file) same asks)
+
+-- where words ask for no layout and no sum, they ask for nothing
+pub none_asked : (words : List (List ℕ)) → ((file : List ℕ) → IsLayout words file → ⊥)
+    → ((size at : ℕ) (kind : ValueKind) (file : List ℕ) → IsSum words size at kind file → ⊥) → AreFaulty words
+none_asked words no_layout no_sum (Sum size at kind file) asks = no_sum size at kind file asks
+none_asked words no_layout no_sum (Layout file) asks = no_layout file asks
+
+-- what is known where nothing was found
+pub on_none : {A P Q : Type 0} (r : Option A) → (P → Q) → IfNone r P → IfNone r Q
+on_none None f h = f h
+on_none (Some x) f h = tt
 
 -- what is false isn't true
 pub no_true : (b : Bool) → b ≡ false → IsTrue b → ⊥

@@ -2,13 +2,16 @@
 use Rattle.std.proofs.Common.{◌≡◌, ◌≢◌, ℕ, ◌%◌, List, length, Option, None, Some, Result, Ok, Err, IfErr, Bool, true, false, refl, sym, ap, subst, ◌∙◌, ◌⊎◌, inl, inr, arith, append-nil}
 use Rattle.std.specs.Prelude.{nat_lt, ◌==◌, if◌then◌else◌}
 use Rattle.std.specs.FinMap.{empty}
+use Rattle.fm_base.specs.declared.refusal.Refusal.{Refusal}
 use Rattle.fm_io.specs.Count.{Rose}
 use Rattle.fm_io.specs.Files.{Contents, file_of}
 use Rattle.fm_io.specs.Sink.{AppendsPrefix}
 use Rattle.fm_lanes.specs.declared.value_kind.ValueKind.{ValueKind}
-use Rattle.fm_top.specs.Outcome.{Outcome, outcome_of, sum_outcome, sum_text, usage, too_long, answered, ragged, record_file_limit}
+use Rattle.fm_layout.specs.Tree.{Tree}
+use Rattle.fm_ljson.specs.Answer.{layout_of_json}
+use Rattle.fm_top.specs.Outcome.{Outcome, outcome_of, sum_outcome, sum_text, layout_outcome, listing, layout_file_limit, usage, too_long, answered, ragged, record_file_limit}
 use Rattle.fm_top.specs.Run.{HasOutcome, over, IsOutcome, faulty, asked, Traces, Ends, whole, unread, unwritten, no_memory, Stops, Prints, printed, failed, stopped, Runs, code_of, EndsWith}
-use Rattle.fm_top.specs.Words.{Request, Sum, Asks, CanBeAsked, AreFaulty}
+use Rattle.fm_top.specs.Words.{Request, Sum, Layout, Asks, CanBeAsked, AreFaulty}
 use Rattle.fm_top.specs.declared.status.Status.{Status}
 use Rattle.fm_top.specs.declared.status.Status.TheVariants.{Answered, Usage, Missing, Unread, LayoutRefused, QueryRefused, Ragged, TooLong, Unwritten, NoMemory, ScriptRefused}
 use Rattle.fm_top.specs.declared.stop.Stop.{Stop}
@@ -17,14 +20,16 @@ use Rattle.fm_top.specs.declared.stop.Stop.TheVariants.{Failed, Memory}
 -- what words ask for can be asked
 pub can_be_asked : (words : List (List ℕ)) (request : Request) → Asks words request → CanBeAsked request
 can_be_asked words (Sum size at kind file) asks = asks.has_value
+can_be_asked words (Layout file) asks = tt
 
--- the statuses of a sum's outcome
-abbrev IsSumStatus : Status → Type 0
-IsSumStatus Answered = Unit {0}
-IsSumStatus Missing = Unit {0}
-IsSumStatus Ragged = Unit {0}
-IsSumStatus TooLong = Unit {0}
-IsSumStatus other = ⊥
+-- the statuses of a request's outcome
+abbrev IsEarly : Status → Type 0
+IsEarly Answered = Unit {0}
+IsEarly Missing = Unit {0}
+IsEarly LayoutRefused = Unit {0}
+IsEarly Ragged = Unit {0}
+IsEarly TooLong = Unit {0}
+IsEarly other = ⊥
 
 -- what comes of a fault, or of want of memory
 abbrev pub IsLate : Status → Type 0
@@ -35,23 +40,34 @@ IsLate other = ⊥
 
 -- the status of a file that is cut into records
 cut_status : (long even : Bool) (size at : ℕ) (kind : ValueKind) (bytes text : List ℕ) (rest : ℕ)
-    → IsSumStatus (if long then too_long else if even then answered text else ragged rest).status
+    → IsEarly (if long then too_long else if even then answered text else ragged rest).status
 cut_status true even size at kind bytes text rest = tt
 cut_status false true size at kind bytes text rest = tt
 cut_status false false size at kind bytes text rest = tt
 
-sum_status : (size at : ℕ) (kind : ValueKind) (name : List ℕ) (found : Option (List ℕ)) → IsSumStatus (sum_outcome size at kind name found).status
+sum_status : (size at : ℕ) (kind : ValueKind) (name : List ℕ) (found : Option (List ℕ)) → IsEarly (sum_outcome size at kind name found).status
 sum_status size at kind name None = tt
 sum_status size at kind name (Some bytes) =
     cut_status (nat_lt record_file_limit (length bytes)) (length bytes % size == 0) size at kind bytes (sum_text size at kind bytes) (length bytes % size)
 
+-- the status of a layout's file
+listed_status : (long : Bool) (r : Result Tree Refusal) → IsEarly (if long then too_long else listing r).status
+listed_status true r = tt
+listed_status false (Ok layout) = tt
+listed_status false (Err refusal) = tt
+
+layout_status : (name : List ℕ) (found : Option (List ℕ)) → IsEarly (layout_outcome name found).status
+layout_status name None = tt
+layout_status name (Some bytes) = listed_status (nat_lt layout_file_limit (length bytes)) (layout_of_json bytes)
+
 -- a request's outcome has one of its statuses
-request_status : (request : Request) (contents : Contents) → IsSumStatus (outcome_of request contents).status
+request_status : (request : Request) (contents : Contents) → IsEarly (outcome_of request contents).status
 request_status (Sum size at kind file) contents = sum_status size at kind file (file_of contents file)
+request_status (Layout file) contents = layout_status file (file_of contents file)
 
 -- what a request stops with when a read failed isn't usage
 not_usage : (request : Request) (contents : Contents) → (outcome_of request contents).status ≢ Usage
-not_usage request contents is = subst IsSumStatus is (request_status request contents)
+not_usage request contents is = subst IsEarly is (request_status request contents)
 
 -- words that ask for something have an outcome, whatever hinders the answer
 pub stops-asked : (words : List (List ℕ)) (told : Option Contents) (request : Request) (stop : Stop) → Asks words request → Stops words told stop
@@ -134,19 +150,19 @@ whole_status o t status (unread asks rose same) = inr tt
 whole_status o t status (unwritten rose front) = inr tt
 whole_status o t status (no_memory front) = inr tt
 
--- a sum's outcome doesn't come of a fault
-early : (s : Status) → IsSumStatus s → IsLate s → ⊥
-early Answered of_sum late = late
-early Missing of_sum late = late
-early Ragged of_sum late = late
-early TooLong of_sum late = late
-early Usage of_sum late = late
-early Unread of_sum late = of_sum
-early LayoutRefused of_sum late = late
-early QueryRefused of_sum late = late
-early Unwritten of_sum late = of_sum
-early NoMemory of_sum late = of_sum
-early ScriptRefused of_sum late = late
+-- a request's outcome doesn't come of a fault
+early : (s : Status) → IsEarly s → IsLate s → ⊥
+early Answered early_one late = late
+early Missing early_one late = late
+early Ragged early_one late = late
+early TooLong early_one late = late
+early Usage early_one late = late
+early Unread early_one late = early_one
+early LayoutRefused early_one late = late
+early QueryRefused early_one late = late
+early Unwritten early_one late = early_one
+early NoMemory early_one late = early_one
+early ScriptRefused early_one late = late
 
 request_early : (request : Request) (told : Option Contents) (o : Outcome) → HasOutcome request told o → IsLate o.status → ⊥
 request_early request told o (over contents held) late = early (outcome_of request contents).status (request_status request contents) late

@@ -1,12 +1,17 @@
 -- How a run ends: its status, and all that it prints.
-use Rattle.std.specs.Prelude.{ℕ, ◌%◌, ◌==◌, nat_lt, if◌then◌else◌, List, [], ◌∷◌, ◌++◌, length, codes, Option, None, Some}
+use Rattle.std.specs.Prelude.{ℕ, ◌%◌, ◌==◌, nat_lt, if◌then◌else◌, List, [], ◌∷◌, ◌++◌, length, codes, Option, None, Some, Result, Ok, Err}
 use Rattle.std.specs.Fmt.{decimal, signed_decimal}
+use Rattle.fm_base.specs.Printed.{refusal_text}
+use Rattle.fm_base.specs.declared.refusal.Refusal.{Refusal}
 use Rattle.fm_io.specs.Files.{Contents, file_of}
 use Rattle.fm_lanes.specs.declared.value_kind.ValueKind.{ValueKind}
+use Rattle.fm_layout.specs.Tree.{Tree}
+use Rattle.fm_ljson.specs.Answer.{layout_of_json}
+use Rattle.fm_path.specs.Listing.{list_text}
 use Rattle.fm_top.specs.Records.{sum_of_values}
-use Rattle.fm_top.specs.Words.{Request, Sum}
+use Rattle.fm_top.specs.Words.{Request, Sum, Layout}
 use Rattle.fm_top.specs.declared.status.Status.{Status}
-use Rattle.fm_top.specs.declared.status.Status.TheVariants.{Answered, Usage, Missing, Ragged, TooLong}
+use Rattle.fm_top.specs.declared.status.Status.TheVariants.{Answered, Usage, Missing, LayoutRefused, Ragged, TooLong}
 
 pub record Outcome : Type 0 where
   pub status : Status
@@ -19,6 +24,15 @@ line text = text ++ 10 ∷ []
 -- the most bytes of a record file
 abbrev pub record_file_limit : ℕ
 record_file_limit = 67108864
+
+-- the most bytes of a layout's file
+abbrev pub layout_file_limit : ℕ
+layout_file_limit = 1048576
+
+-- the most bytes of the request's file
+abbrev pub file_limit : Request → ℕ
+file_limit (Sum size at kind file) = record_file_limit
+file_limit (Layout file) = layout_file_limit
 
 -- the words are no command
 abbrev pub usage : Outcome
@@ -35,6 +49,10 @@ too_long = record { status = TooLong; text = line (codes "too long") }
 -- the file's length leaves this rest when it is cut into records
 abbrev pub ragged : ℕ → Outcome
 ragged rest = record { status = Ragged; text = line (codes "ragged " ++ decimal rest) }
+
+-- the layout is refused
+abbrev pub layout_refused : Refusal → Outcome
+layout_refused refusal = record { status = LayoutRefused; text = line (codes "layout refused " ++ refusal_text refusal) }
 
 -- all else: the answer
 abbrev pub answered : List ℕ → Outcome
@@ -55,6 +73,22 @@ abbrev pub sum_outcome : ℕ → ℕ → ValueKind → List ℕ → Option (List
 sum_outcome size at kind file None = missing file
 sum_outcome size at kind file (Some bytes) = sum_of_file size at kind bytes
 
+-- what `layout` prints of a layout, or of its refusal
+abbrev pub listing : Result Tree Refusal → Outcome
+listing (Ok layout) = answered (list_text layout)
+listing (Err refusal) = layout_refused refusal
+
+-- how `layout` ends for a file of these bytes
+abbrev pub layout_of_file : List ℕ → Outcome
+layout_of_file bytes =
+    if nat_lt layout_file_limit (length bytes) then too_long
+    else listing (layout_of_json bytes)
+
+abbrev pub layout_outcome : List ℕ → Option (List ℕ) → Outcome
+layout_outcome file None = missing file
+layout_outcome file (Some bytes) = layout_of_file bytes
+
 -- how the request ends where these are the files
 abbrev pub outcome_of : Request → Contents → Outcome
 outcome_of (Sum size at kind file) contents = sum_outcome size at kind file (file_of contents file)
+outcome_of (Layout file) contents = layout_outcome file (file_of contents file)

@@ -3,11 +3,11 @@ use Rattle.std.specs.Prelude.{◌≡◌, ◌≢◌, ◌⊎◌, ℕ, List, Option
 use Rattle.fm_io.specs.Count.{Rose}
 use Rattle.fm_io.specs.Files.{Contents, IsAbsent}
 use Rattle.fm_io.specs.Sink.{Appends, AppendsPrefix}
-use Rattle.fm_top.specs.Outcome.{Outcome, outcome_of, usage, record_file_limit}
-use Rattle.fm_top.specs.Whole.{IsOver, IsRagged}
+use Rattle.fm_top.specs.Outcome.{Outcome, outcome_of, usage, file_limit}
+use Rattle.fm_top.specs.Whole.{IsOver, IsNoLayout, IsRagged}
 use Rattle.fm_top.specs.declared.stop.Stop.{Stop}
 use Rattle.fm_top.specs.declared.stop.Stop.TheVariants.{Failed}
-use Rattle.fm_top.specs.Words.{Request, Asks, AreFaulty, first_file, record_size}
+use Rattle.fm_top.specs.Words.{Request, Sum, Layout, Asks, AreFaulty, first_file, record_size}
 use Rattle.fm_top.specs.declared.status.Status.{Status}
 use Rattle.fm_top.specs.declared.status.Status.TheVariants.{Answered, Usage, Missing, Unread, LayoutRefused, QueryRefused, Ragged, TooLong, Unwritten, NoMemory, ScriptRefused}
 
@@ -97,7 +97,18 @@ pub record AsksAbsent (words : List (List ℕ)) (told : Option Contents) : Type 
 pub record AsksLong (words : List (List ℕ)) (told : Option Contents) : Type 0 where
   pub request : Request
   pub asks : Asks words request
-  pub long : IsOver told (first_file request) record_file_limit
+  pub long : IsOver told (first_file request) (file_limit request)
+
+-- the request's layout is refused, where the files tell; a sum has none
+abbrev pub HasNoLayout : Option Contents → Request → Type 0
+HasNoLayout told (Sum size at kind file) = ⊥
+HasNoLayout told (Layout file) = IsNoLayout told file
+
+-- The words ask for a layout that is refused.
+pub record AsksRefused (words : List (List ℕ)) (told : Option Contents) : Type 0 where
+  pub request : Request
+  pub asks : Asks words request
+  pub refused : HasNoLayout told request
 
 -- The words ask for records of a size by which the file's length can't be divided.
 pub record AsksRagged (words : List (List ℕ)) (told : Option Contents) : Type 0 where

@@ -1,6 +1,9 @@
 -- What files tell of a file that was read whole, or was too long.
-use Rattle.std.specs.Prelude.{◌≡◌, ◌≢◌, ℕ, ◌%◌, ◌<◌, ◌≤◌, List, ◌++◌, length, Bool, true, false, Option, Some, IfSome, IsSomeAnd}
+use Rattle.std.specs.Prelude.{◌≡◌, ◌≢◌, ℕ, ◌%◌, ◌<◌, ◌≤◌, List, ◌++◌, length, Bool, true, false, Option, Some, Result, Err, IfSome, IsSomeAnd}
 use Rattle.fm_io.specs.Files.{Contents, file_of, AreBytesFrom, EndsBefore}
+use Rattle.fm_base.specs.declared.refusal.Refusal.{Refusal}
+use Rattle.fm_layout.specs.Tree.{Tree}
+use Rattle.fm_ljson.specs.Answer.{layout_of_json}
 use Rattle.fm_top.specs.Outcome.{record_file_limit}
 
 -- where the files tell, these are the bytes of the file of that name
@@ -16,6 +19,24 @@ IsOver told name limit = IfSome told (λ contents.
 abbrev pub IsRagged : Option Contents → List ℕ → ℕ → Type 0
 IsRagged told name size = IfSome told (λ contents.
     IsSomeAnd (file_of contents name) (λ file. length file % size ≢ 0))
+
+-- it is refused
+abbrev pub IsRefused : Result Tree Refusal → Type 0
+IsRefused r = (refusal : Refusal) × (r ≡ Err refusal)
+
+-- where the files tell, the bytes of the file of that name are refused as a layout
+abbrev pub IsNoLayout : Option Contents → List ℕ → Type 0
+IsNoLayout told name = IfSome told (λ contents.
+    IsSomeAnd (file_of contents name) (λ file. IsRefused (layout_of_json file)))
+
+-- The next bytes of the file of that name, which may have so many, were put behind those of old; `ended` says that it ended with them.
+pub record TakesBytes (limit : ℕ) (told : Option Contents) (name old new : List ℕ) (ended : Bool) : Type 0 where
+  pub piece : List ℕ
+  pub appended : new ≡ old ++ piece
+  pub bytes : AreBytesFrom told name (length old) piece
+  pub short : length new ≤ limit
+  pub grows : ended ≡ false → length old < length new
+  pub ends : ended ≡ true → EndsBefore told name (length new)
 
 -- The next bytes of the file of that name were put behind those of old; `ended` says that it ended with them.
 pub record TakesChunk (told : Option Contents) (name old new : List ℕ) (ended : Bool) : Type 0 where

@@ -14,14 +14,18 @@ texts words = map string_bytes words
 pub data Request : Type 0 where
   -- the sum of the value of this kind at byte `at` of each record of `size` bytes
   Sum : (size at : ℕ) (kind : ValueKind) (file : List ℕ) → Request
+  -- what stands where in the layout that the file has
+  Layout : (file : List ℕ) → Request
 
 -- the file that is read first
 abbrev pub first_file : Request → List ℕ
 first_file (Sum size at kind file) = file
+first_file (Layout file) = file
 
--- the bytes of a record
+-- the bytes of a record; a file that has no records is cut into single bytes
 abbrev pub record_size : Request → ℕ
 record_size (Sum size at kind file) = size
+record_size (Layout file) = 1
 
 -- a word that names a file where options are looked for: it doesn't begin with a dash
 abbrev pub IsFileWord : List ℕ → Type 0
@@ -35,6 +39,9 @@ pub record HasValue (size at : ℕ) (kind : ValueKind) : Type 0 where
   pub at_whole : at % width_of kind ≡ 0
   pub within : at + width_of kind ≤ size
 
+abbrev pub two : List ℕ → List ℕ → List (List ℕ)
+two a b = a ∷ b ∷ []
+
 abbrev pub five : List ℕ → List ℕ → List ℕ → List ℕ → List ℕ → List (List ℕ)
 five a b c d e = a ∷ b ∷ c ∷ d ∷ e ∷ []
 
@@ -44,13 +51,20 @@ pub record IsSum (words : List (List ℕ)) (size at : ℕ) (kind : ValueKind) (f
   pub has_value : HasValue size at kind
   pub file_word : IsFileWord file
 
+-- `layout FILE`
+pub record IsLayout (words : List (List ℕ)) (file : List ℕ) : Type 0 where
+  pub spelled : words ≡ two (codes "layout") file
+  pub file_word : IsFileWord file
+
 -- the words ask for this
 abbrev pub Asks : List (List ℕ) → Request → Type 0
 Asks words (Sum size at kind file) = IsSum words size at kind file
+Asks words (Layout file) = IsLayout words file
 
 -- what some words ask for
 abbrev pub CanBeAsked : Request → Type 0
 CanBeAsked (Sum size at kind file) = HasValue size at kind
+CanBeAsked (Layout file) = Unit {0}
 
 -- the words ask for nothing that there is
 abbrev pub AreFaulty : List (List ℕ) → Type 0

@@ -1,9 +1,10 @@
 ghost use Rattle.std.specs.Prelude.{◌≡◌, ◌++◌, ◌∷◌, [], IfOk, string_bytes, codes};
 ghost use Rattle.std.specs.Fmt.{decimal, signed_decimal};
-ghost use Rattle.fm_top.specs.Outcome.{line, usage, missing, too_long, ragged, answered};
+ghost use Rattle.fm_top.specs.Outcome.{line, usage, missing, too_long, ragged, answered, layout_refused};
 ghost use Rattle.fm_top.specs.Ending.{shown};
 
 use crate::status::Status;
+use fm_base::Refusal;
 use itoa::Buffer;
 use std::alloc::{AllocError, Global};
 
@@ -53,6 +54,26 @@ impl Ending {
             status: Status::Ragged,
             text: text_line(alloc, "ragged ", Buffer::new().format(rest))?,
         })
+    }
+
+    /// The layout is refused.
+    pub fn layout_refused(alloc: Global, refusal: Refusal) -> Result<Ending, AllocError>
+        ensures { IfOk result (λ ending. shown ending ≡ layout_refused refusal) }
+    {
+        Ok(Ending {
+            status: Status::LayoutRefused,
+            text: format!(in alloc; "layout refused {refusal}\n")?,
+        })
+    }
+
+    /// The answer to `layout`, which is this text.
+    pub fn listing(text: String) -> Ending
+        ensures { shown result ≡ answered (string_bytes text) }
+    {
+        Ending {
+            status: Status::Answered,
+            text,
+        }
     }
 
     /// The answer to `sum`.

@@ -5,6 +5,7 @@ mod buffers;
 mod ending;
 mod held;
 mod kept;
+mod listing;
 mod loaded;
 mod loading;
 mod run;
@@ -14,6 +15,7 @@ mod sum;
 mod summing;
 #[cfg(test)]
 mod tests;
+mod whole_file;
 mod words;
 
 pub use held::RECORD_FILE_LIMIT;
@@ -22,4 +24,5 @@ pub use loaded::Loaded;
 pub use loading::{LoadFault, load};
 pub use run::run_tool;
 pub use status::Status;
-pub use words::{Command, SumCommand};
+pub use whole_file::{LAYOUT_FILE_LIMIT, read_whole};
+pub use words::{Command, LayoutCommand, SumCommand};

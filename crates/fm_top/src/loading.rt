@@ -13,7 +13,7 @@ use std::sync::Wait;
 /// The most bytes of one read.
 const CHUNK: usize = 65_536;
 
-/// Why a record file wasn't loaded.
+/// Why a file wasn't loaded.
 #[derive(Clone, Copy, Debug, PartialEq, Eq)]
 pub enum LoadFault {
     /// There is no file of that name.

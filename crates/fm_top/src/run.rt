@@ -4,12 +4,13 @@ ghost use Rattle.fm_top.specs.Asked.{request_of};
 ghost use Rattle.fm_top.specs.Ending.{shown};
 ghost use Rattle.fm_io.specs.Files.{Contents};
 ghost use Rattle.fm_top.specs.Outcome.{outcome_of};
-ghost use Rattle.fm_top.specs.Run.{HasOutcome, IsOutcome, Runs, Stops, Prints, traces_of, code_of, EndsWith, Answers, AsksAbsent, AsksLong, AsksRagged};
+ghost use Rattle.fm_top.specs.Run.{HasOutcome, IsOutcome, Runs, Stops, Prints, traces_of, code_of, EndsWith, Answers, AsksAbsent, AsksLong, AsksRagged, AsksRefused};
 ghost use Rattle.fm_top.specs.Words.{Request, texts, Asks, AreFaulty, CanBeAsked};
-ghost use Rattle.fm_top.specs.declared.status.Status.TheVariants.{Answered, Usage, Missing, Unread, Ragged, TooLong, Unwritten};
+ghost use Rattle.fm_top.specs.declared.status.Status.TheVariants.{Answered, Usage, Missing, Unread, LayoutRefused, Ragged, TooLong, Unwritten};
 
 use crate::ending::Ending;
 use crate::kept::Kept;
+use crate::listing::listing_ending;
 use crate::status::Status;
 use crate::stop::Stop;
 use crate::sum::sum_ending;
@@ -23,9 +24,9 @@ use std::thread::Threads;
 /// Runs the tool on its words, which exclude the program's own name, and answers its status.
 ///
 /// Everything is written after the answer is complete. The statuses are 0 for an answer, 1 for words that are no
-/// command, 2 for a missing file, 3 for a failed read, 6 for a file that is no whole number of records, 7 for a file
-/// over its limit, 8 for a failed write and 9 for want of memory; that is also the order in which they are tested,
-/// but for 7, which comes before 6, and for 9, which may come at any time.
+/// command, 2 for a missing file, 3 for a failed read, 4 for a refused layout, 6 for a file that is no whole number of
+/// records, 7 for a file over its limit, 8 for a failed write and 9 for want of memory; that is also the order in which
+/// they are tested, but for 7, which comes before 4 and 6, and for 9, which may come at any time.
 pub fn run_tool<R, F, O, G>(
     rt: &R,
     alloc: Global,
@@ -51,6 +52,7 @@ where
     ensures missing { result ≡ code_of Missing → AsksAbsent (texts words.now) (F.holds files.old) }
     ensures missed { result ≡ code_of Missing → Rose (F.misses files.old) (F.misses files.new) }
     ensures unread { result ≡ code_of Unread → Rose (F.faults files.old) (F.faults files.new) }
+    ensures refused { result ≡ code_of LayoutRefused → AsksRefused (texts words.now) (F.holds files.old) }
     ensures ragged { result ≡ code_of Ragged → AsksRagged (texts words.now) (F.holds files.old) }
     ensures too_long { result ≡ code_of TooLong → AsksLong (texts words.now) (F.holds files.old) }
     ensures unwritten { result ≡ code_of Unwritten → Rose (O.faults out.old) (O.faults out.new) }
@@ -124,6 +126,7 @@ fn command_ending<R: Wait, F: Files>(
 {
     match command {
         Command::Sum(sum) => sum_ending(rt, alloc, files, sum),
+        Command::Layout(layout) => listing_ending(alloc, files, layout.file),
     }
 }
 

@@ -1,3 +1,5 @@
+mod layouts;
+
 use crate::{Kept, run_tool};
 use fm_io::{Files, FreeGate, MemFiles, MemSink, Sink, SureFiles, SureSink};
 use std::alloc::{AllocError, AllocGlobal, Global};

@@ -3,7 +3,7 @@ ghost use Rattle.fm_lanes.specs.declared.value_kind.ValueKind.{ValueKind};
 ghost use Rattle.fm_path.specs.Listing.{kind_text};
 ghost use Rattle.std.specs.Fmt.{decimal};
 ghost use Rattle.fm_top.specs.Asked.{request_of};
-ghost use Rattle.fm_top.specs.Words.{texts, Asks, AreFaulty, HasValue, IsFileWord, IsSum, five};
+ghost use Rattle.fm_top.specs.Words.{texts, Asks, AreFaulty, HasValue, IsFileWord, IsLayout, IsSum, five, two};
 
 use fm_lanes::ValueKind;
 use itoa::Buffer;
@@ -12,6 +12,7 @@ use itoa::Buffer;
 #[derive(Clone, Copy, Debug)]
 pub enum Command<'a> {
     Sum(SumCommand<'a>),
+    Layout(LayoutCommand<'a>),
 }
 
 /// `sum SIZE AT TYPE FILE`: the sum of the value of this kind at byte `at` of each record of `size` bytes.
@@ -23,18 +24,59 @@ pub struct SumCommand<'a> {
     pub file: &'a str,
 }
 
+/// `layout FILE`: what stands where in the layout that the file has.
+#[derive(Clone, Copy, Debug)]
+pub struct LayoutCommand<'a> {
+    pub file: &'a str,
+}
+
 /// What the words ask for, and nothing where they are of no form.
 pub fn command_of(words: &[String]) -> Option<Command<'_>>
     ensures found { IfSome result (λ command. Asks (texts words.now) (request_of command)) }
     ensures none { IfNone result (AreFaulty (texts words.now)) }
 {
-    let [command, size, at, kind, file] = words else {
-        return None;
-    };
-    match sum_command(command, size, at, kind, file) {
+    if let Some(layout) = layout_words(words) {
+        return Some(Command::Layout(layout));
+    }
+    match sum_words(words) {
         Some(sum) => Some(Command::Sum(sum)),
         None => None,
     }
+}
+
+/// The layout that the words ask for.
+fn layout_words(words: &[String]) -> Option<LayoutCommand<'_>>
+    ensures found { IfSome result (λ layout. IsLayout (texts words.now) layout.file.now) }
+    ensures none { IfNone result ((file : List ℕ) → IsLayout (texts words.now) file → ⊥) }
+{
+    let [command, file] = words else {
+        return None;
+    };
+    layout_command(command, file)
+}
+
+/// The layout that these two words ask for.
+fn layout_command<'a>(command: &str, file: &'a str) -> Option<LayoutCommand<'a>>
+    ensures found { IfSome result (λ layout. IsLayout (two command.now file.now) layout.file.now) }
+    ensures none { IfNone result ((name : List ℕ) → IsLayout (two command.now file.now) name → ⊥) }
+{
+    if command == "layout" && is_file_word(file) {
+        Some(LayoutCommand { file })
+    } else {
+        None
+    }
+}
+
+/// The sum that the words ask for.
+fn sum_words(words: &[String]) -> Option<SumCommand<'_>>
+    ensures found { IfSome result (λ sum. IsSum (texts words.now) sum.size sum.at sum.kind sum.file.now) }
+    ensures none { IfNone result ((size at : ℕ) (kind : ValueKind) (file : List ℕ) →
+        IsSum (texts words.now) size at kind file → ⊥) }
+{
+    let [command, size, at, kind, file] = words else {
+        return None;
+    };
+    sum_command(command, size, at, kind, file)
 }
 
 /// The sum that these five words ask for.

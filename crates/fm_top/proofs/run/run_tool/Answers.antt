@@ -1,8 +1,8 @@
 use Rattle.std.proofs.Common.{sym, ◌∙◌}
 use Rattle.fm_top.specs.Run.{traces_of}
 use Rattle.fm_top.specs.Words.{texts}
-use Rattle.fm_top.specs.declared.status.Status.TheVariants.{Usage, Missing, Unread, Ragged, TooLong, Unwritten}
-use Rattle.fm_top.proofs.Causes.{only_missing, only_too_long, only_ragged, complete}
+use Rattle.fm_top.specs.declared.status.Status.TheVariants.{Usage, Missing, Unread, LayoutRefused, Ragged, TooLong, Unwritten}
+use Rattle.fm_top.proofs.Causes.{only_missing, only_too_long, only_ragged, only_refused, complete}
 use Rattle.fm_top.proofs.Runs.{code_of-injective, only_usage, only_unread, only_unwritten, faulty_ends}
 use Rattle.fm_top.proofs.run.run_tool.Goals as goal
 
@@ -35,6 +35,16 @@ returns-clause-unread g c =
     let told = files.holds c.args.files.now in
     let t = traces_of (files.faults c.args.files.now) (files.faults ran.new.files) (out.faults c.args.out.now) (out.faults ran.new.out) (out.written c.args.out.now) (out.written ran.new.out) in
     λ code. only_unread words told t ran.result ran.ensures.runs (code_of-injective ran.result Unread (sym c.code.ensures ∙ code))
+
+pub returns-clause-refused : goal.returns-clause-refused
+returns-clause-refused g c =
+    let files = g.F.Files in
+    let out = g.O.Sink in
+    let ran = c.run_words in
+    let words = texts c.args.words.now in
+    let told = files.holds c.args.files.now in
+    let t = traces_of (files.faults c.args.files.now) (files.faults ran.new.files) (out.faults c.args.out.now) (out.faults ran.new.out) (out.written c.args.out.now) (out.written ran.new.out) in
+    λ code. only_refused words told t ran.result ran.ensures.runs (code_of-injective ran.result LayoutRefused (sym c.code.ensures ∙ code))
 
 pub returns-clause-ragged : goal.returns-clause-ragged
 returns-clause-ragged g c =

@@ -1,0 +1,48 @@
+ghost use Rattle.std.specs.Prelude.{◌≡◌, ◌≤◌, IfOk, IfErr, IsErrOf, length};
+ghost use Rattle.fm_io.specs.Count.{Rose};
+ghost use Rattle.fm_top.specs.Ending.{shown};
+ghost use Rattle.fm_top.specs.Outcome.{layout_of_file};
+ghost use Rattle.fm_top.specs.Run.{HasOutcome};
+ghost use Rattle.fm_top.specs.Words.{Layout};
+ghost use Rattle.fm_top.specs.declared.status.Status.TheVariants.{Missing};
+
+use crate::ending::Ending;
+use crate::loading::LoadFault;
+use crate::stop::Stop;
+use crate::whole_file::{LAYOUT_FILE_LIMIT, read_whole};
+use fm_base::Refusal;
+use fm_io::Files;
+use fm_ljson::layout_from_json;
+use fm_path::list_places;
+use std::alloc::Global;
+
+/// Reads the file of a layout, and answers how the run ends.
+pub fn listing_ending<F: Files>(alloc: Global, files: &mut F, file: &str) -> Result<Ending, Stop>
+    ensures outcome { IfOk result (λ ending. HasOutcome (Layout file.now) (F.holds files.old) (shown ending)) }
+    ensures missing { IfOk result (λ ending. ending.status ≡ Missing → Rose (F.misses files.old) (F.misses files.new)) }
+    ensures failed { IsErrOf result Stop.Failed → Rose (F.faults files.old) (F.faults files.new) }
+{
+    match read_whole(alloc, files, file, LAYOUT_FILE_LIMIT) {
+        Ok(bytes) => bytes_ending(alloc, &bytes),
+        Err(LoadFault::Missing) => Ok(Ending::missing(alloc, file)?),
+        Err(LoadFault::TooLong) => Ok(Ending::too_long(alloc)?),
+        Err(LoadFault::Failed) => Err(Stop::Failed),
+        Err(LoadFault::Memory) => Err(Stop::Memory),
+    }
+}
+
+/// How the run ends for a file that was read whole.
+fn bytes_ending(alloc: Global, bytes: &[u8]) -> Result<Ending, Stop>
+    requires { length bytes.now ≤ LAYOUT_FILE_LIMIT }
+    ensures ending { IfOk result (λ ending. shown ending ≡ layout_of_file bytes.now) }
+    ensures memory { IfErr result (λ stop. stop ≡ Stop.Memory) }
+{
+    match layout_from_json(alloc, bytes) {
+        Ok(layout) => match list_places(alloc, &layout) {
+            Ok(text) => Ok(Ending::listing(text)),
+            Err(_) => Err(Stop::Memory),
+        },
+        Err(Refusal::Memory) => Err(Stop::Memory),
+        Err(refusal) => Ok(Ending::layout_refused(alloc, refusal)?),
+    }
+}

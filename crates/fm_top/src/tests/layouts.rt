@@ -1,0 +1,186 @@
+use super::{named, run_line, sink};
+use crate::LAYOUT_FILE_LIMIT;
+use fm_io::{MemFiles, SureFiles, SureSink};
+use std::alloc::{AllocError, Global};
+use std::test::Fail;
+
+/// A record of an id, a kind, a price and four tags, as a user writes it.
+const SALE: &str =
+    "{\"type\":\"struct\",\"members\":[{\"type\":\"int\",\"name\":\"id\"},{\"type\":\"short\",\"name\":\"kind\"},{\"type\":\"padding\",\"size\":2},{\"type\":\"long\",\"name\":\"price\"},{\"type\":\"sequence\",\"name\":\"tags\",\"count\":4,\"element\":{\"type\":\"byte\"}},{\"type\":\"padding\",\"size\":4}]}";
+
+/// What is printed of it.
+const LISTING: &str =
+    "size 24\nalignment 8\n.id 0 int little\n.kind 4 short little\n.price 8 long little\n.tags[] 16 byte little 1*4\n";
+
+/// The files where `L` has this text, the reads of these numbers fail, and each gives at most so many bytes.
+fn layout_file(
+    alloc: Global,
+    text: &str,
+    failing: &[u64],
+    most: usize,
+) -> Result<MemFiles, AllocError> {
+    let file = named(alloc, "L", text.as_bytes().to_vec(alloc)?)?;
+    Ok(MemFiles::new(vec![in alloc; file]?, failing.to_vec(alloc)?).with_piece(most.max(1)))
+}
+
+#[test]
+fn each_layout_is_listed_or_refused(rt: HostRuntime) -> Result<(), Fail> {
+    for (layout, status, text) in [
+        (SALE, 0, LISTING),
+        (
+            "{\"type\":\"long\",\"order\":\"big\",\"align\":1}",
+            0,
+            "size 8\nalignment 1\n. 0 long big\n",
+        ),
+        (
+            "{\"type\":\"padding\",\"size\":3}",
+            0,
+            "size 3\nalignment 1\n",
+        ),
+        (
+            "{\"type\":\"struct\",\"members\":[]}",
+            0,
+            "size 0\nalignment 1\n",
+        ),
+        (
+            "{\"type\":\"struct\",\"members\":[{\"type\":\"int\"},{\"type\":\"padding\",\"size\":4},{\"type\":\"long\"}]}",
+            0,
+            "size 16\nalignment 8\n.#0 0 int little\n.#2 8 long little\n",
+        ),
+        (
+            "{\"type\":\"union\",\"members\":[{\"type\":\"byte\",\"name\":\"a\"},{\"type\":\"long\",\"name\":\"a\"}]}",
+            0,
+            "size 8\nalignment 8\n.a 0 byte little\n.#1 0 long little\n",
+        ),
+        ("{\"type\":\"int\",\"align\":3}", 4, "layout refused 9\n"),
+        (
+            "{\"type\":\"sequence\",\"count\":1099511627776,\"element\":{\"type\":\"long\"}}",
+            4,
+            "layout refused 20\n",
+        ),
+        (
+            "{\"type\":\"struct\",\"members\":[{\"type\":\"int\"},{\"type\":\"long\"}]}",
+            4,
+            "layout refused 21 1 4\n",
+        ),
+        (
+            "{\"type\":\"sequence\",\"count\":2,\"element\":{\"type\":\"struct\",\"members\":[{\"type\":\"long\"},{\"type\":\"int\"}]}}",
+            4,
+            "layout refused 22\n",
+        ),
+        (
+            "{\"type\":\"padding\",\"size\":0}",
+            4,
+            "layout refused 23\n",
+        ),
+        (
+            "{\"type\":\"sequence\",\"count\":2,\"element\":{\"type\":\"long\"},\"align\":4}",
+            4,
+            "layout refused 24 8\n",
+        ),
+        ("{", 4, "layout refused 40\n"),
+        ("", 4, "layout refused 40\n"),
+        ("{\"type\":\"float\"}", 4, "layout refused 41 0\n"),
+        (
+            "{\"type\":\"struct\",\"members\":[{\"type\":\"int\"},7]}",
+            4,
+            "layout refused 41 2\n",
+        ),
+    ] {
+        for most in [1, 7, usize::MAX] {
+            let mut files = layout_file(rt.alloc(), layout, &[], most)?;
+            let mut out = sink(rt.alloc(), &[], most)?;
+            let code = run_line(&rt, "layout L", &mut files, &mut out)?;
+            assert_eq!(rt; code, status, "{layout}");
+            assert_eq!(rt; out.written(), text.as_bytes(), "{layout}");
+        }
+    }
+    Ok(())
+}
+
+#[test]
+fn words_that_ask_for_no_layout_are_usage(rt: HostRuntime) -> Result<(), Fail> {
+    for (line, status, text) in [
+        ("layout", 1, "usage\n"),
+        ("layout L L", 1, "usage\n"),
+        ("layout -L", 1, "usage\n"),
+        ("layout -", 1, "usage\n"),
+        ("Layout L", 1, "usage\n"),
+        ("list L", 1, "usage\n"),
+        ("layout nofile", 2, "missing nofile\n"),
+        ("layout ", 2, "missing \n"),
+    ] {
+        let mut files = layout_file(rt.alloc(), SALE, &[], 1)?;
+        let mut out = SureSink::new(rt.alloc());
+        let code = run_line(&rt, line, &mut files, &mut out)?;
+        assert_eq!(rt; code, status, "{line}");
+        assert_eq!(rt; out.written(), text.as_bytes(), "{line}");
+    }
+    Ok(())
+}
+
+#[test]
+fn a_part_of_a_layout_is_no_layout(rt: HostRuntime) -> Result<(), Fail> {
+    for k in 0..SALE.len() {
+        let part = std::str::from_utf8(&SALE.as_bytes()[..k]).unwrap_or("");
+        let mut files = layout_file(rt.alloc(), part, &[], usize::MAX)?;
+        let mut out = SureSink::new(rt.alloc());
+        let code = run_line(&rt, "layout L", &mut files, &mut out)?;
+        assert_eq!(rt; code, 4, "the first {k} bytes");
+        assert_eq!(rt;
+            out.written(),
+            b"layout refused 40\n".as_slice(),
+            "the first {k} bytes"
+        );
+    }
+    Ok(())
+}
+
+#[test]
+fn a_read_of_a_layout_that_fails_prints_nothing(rt: HostRuntime) -> Result<(), Fail> {
+    // Each 16 bytes are read by a call of their own, and then the end.
+    let reads = SALE.len().div_ceil(16) as u64;
+    for k in 0..=reads + 1 {
+        let mut files = layout_file(rt.alloc(), SALE, &[k], 16)?;
+        let mut out = SureSink::new(rt.alloc());
+        let code = run_line(&rt, "layout L", &mut files, &mut out)?;
+        let (status, text) = if k <= reads { (3, "") } else { (0, LISTING) };
+        assert_eq!(rt; code, status, "at read {k}");
+        assert_eq!(rt; out.written(), text.as_bytes(), "at read {k}");
+    }
+    Ok(())
+}
+
+#[test]
+fn a_write_of_a_listing_that_fails_leaves_a_prefix(rt: HostRuntime) -> Result<(), Fail> {
+    for (layout, status, text) in [(SALE, 0, LISTING), ("{", 4, "layout refused 40\n")] {
+        for k in 0..=text.len() {
+            let mut files = layout_file(rt.alloc(), layout, &[], usize::MAX)?;
+            let mut out = sink(rt.alloc(), &[k as u64], 1)?;
+            let code = run_line(&rt, "layout L", &mut files, &mut out)?;
+            let status = if k < text.len() { 8 } else { status };
+            assert_eq!(rt; code, status, "at write {k}");
+            assert_eq!(rt; out.written(), &text.as_bytes()[..k], "at write {k}");
+        }
+    }
+    Ok(())
+}
+
+#[test]
+fn a_layout_file_may_be_as_long_as_the_limit(rt: HostRuntime) -> Result<(), Fail> {
+    let limit = LAYOUT_FILE_LIMIT as usize;
+    for (length, status, text) in [(limit, 0, LISTING), (limit + 1, 7, "too long\n")] {
+        let alloc = rt.alloc();
+        let mut bytes = SALE.as_bytes().to_vec(alloc)?;
+        for _ in SALE.len()..length {
+            bytes.push(b' ')?;
+        }
+        let file = named(alloc, "L", bytes)?;
+        let mut files = SureFiles::new(vec![in alloc; file]?);
+        let mut out = SureSink::new(alloc);
+        let code = run_line(&rt, "layout L", &mut files, &mut out)?;
+        assert_eq!(rt; code, status, "{length} bytes");
+        assert_eq!(rt; out.written(), text.as_bytes(), "{length} bytes");
+    }
+    Ok(())
+}
