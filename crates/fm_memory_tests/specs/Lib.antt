@@ -1,3 +1,4 @@
 pub mod Braided
+pub mod Closing
 pub mod Heard
 pub mod Telling

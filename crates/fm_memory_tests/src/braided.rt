@@ -27,7 +27,7 @@ impl Model for Braided {
 }
 
 /// Whether every caller may use an arena of this kind.
-fn is_for_all(kind: Kind) -> bool
+pub fn is_for_all(kind: Kind) -> bool
     ensures { IsTrue result → kind ≢ Kind.Confined }
 {
     !matches!(kind, Kind::Confined)

@@ -1,4 +1,4 @@
-//! Two more implementations of `Memory`, for tests alone, and one test body over every implementation.
+//! Three more implementations of `Memory`, for tests alone, and one test body over every implementation.
 #![tactic(auto)]
 
 mod heard;
@@ -9,6 +9,8 @@ pub use heard::Heard;
 mod body;
 #[cfg(test)]
 mod braided;
+#[cfg(test)]
+mod closing;
 #[cfg(test)]
 mod ear;
 #[cfg(test)]

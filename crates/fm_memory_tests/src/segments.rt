@@ -64,3 +64,32 @@ pub fn use_values<R: Abort + Wait, M: Memory>(
     assert_eq!(rt; t.get(m, &long, 0), Ok(Value::Long(copied)));
     assert_eq!(rt; s.mismatch(m, &t), Ok(differs));
 }
+
+/// Two segments of 16 bytes, each of a fresh shared arena of its own.
+fn two_arenas<R: Abort + Wait, M: Memory>(rt: &R, m: &mut M) -> (Segment, Segment)
+    requires { (M.view m.old).inside ≡ None }
+    ensures outside { (M.view m.new).inside ≡ None }
+    ensures first { IsKnown (M.view m.new) result.0 }
+    ensures second { IsKnown (M.view m.new) result.1 }
+{
+    let a = m.open_arena(rt, Kind::Shared).expect(rt, "an arena");
+    let a_first = m.allocate(rt, a, 16, 8).expect(rt, "bytes");
+    let b = m.open_arena(rt, Kind::Shared).expect(rt, "an arena");
+    let b_first = m.allocate(rt, b, 16, 8).expect(rt, "bytes");
+    (Segment::of(a, a_first, 16), Segment::of(b, b_first, 16))
+}
+
+/// A copy whose source is closed by another caller before this one's fifth `enter`: what was copied before stays.
+pub fn copy_until_closed<R: Abort + Wait, M: Memory>(rt: &R, m: &mut M)
+    requires outside { (M.view m.old).inside ≡ None }
+    ensures { (M.view m.new).inside ≡ None }
+{
+    let (s, t) = two_arenas(rt, m);
+    let long = Layout::value(ValueKind::Long);
+    assert_eq!(rt; s.set(rt, m, &long, 0, Value::Long(7)), Ok(()));
+    assert_eq!(rt; s.set(rt, m, &long, 8, Value::Long(9)), Ok(()));
+    assert_eq!(rt; t.copy_from(rt, m, &s), Err(Refusal::Closed));
+    assert_eq!(rt; t.get(m, &long, 0), Ok(Value::Long(7)));
+    assert_eq!(rt; t.get(m, &long, 8), Ok(Value::Long(0)));
+    assert_eq!(rt; s.get(m, &long, 0), Err(Refusal::Closed));
+}

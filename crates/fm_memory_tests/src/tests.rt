@@ -1,6 +1,7 @@
 use crate::body::{close_an_arena, use_a_word};
 use crate::braided::Braided;
-use crate::segments::{use_ranges, use_values};
+use crate::closing::Closing;
+use crate::segments::{copy_until_closed, use_ranges, use_values};
 use crate::telling::Telling;
 use fm_base::{Kind, Memory, Refusal};
 use fm_mono::Mono;
@@ -30,6 +31,12 @@ fn with_a_history_that_is_told(rt: HostRuntime) {
     close_an_arena(&rt, &mut m);
     use_ranges(&rt, &mut m);
     use_values(&rt, &mut m, 7, 7, -1);
+}
+
+#[test]
+fn while_another_caller_closes(rt: HostRuntime) {
+    let mut m = Closing::new(&rt, Mono::make(rt.alloc(), 64), 5);
+    copy_until_closed(&rt, &mut m);
 }
 
 /// An arena of one thread, and a word of it, by the calls of `Memory` alone.
