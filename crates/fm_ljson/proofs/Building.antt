@@ -12,7 +12,7 @@ use Rattle.fm_layout.specs.Parts.{IsPadding}
 use Rattle.fm_layout.specs.Views.{trees}
 use Rattle.fm_ljson.specs.Node.{Content, Padding, Sequence, Struct, Union, Node, node_of}
 use Rattle.fm_ljson.specs.Node as said
-use Rattle.fm_ljson.specs.Built.{aligned, all_of, built, built_if_any, content_built, finished, named, node_built, OrMemory, then}
+use Rattle.fm_ljson.specs.Built.{aligned, all_of, built, built_if_any, content_built, named, node_built, OrMemory, then}
 use Rattle.fm_ljson.specs.Views.{IsPaddingContent, MayBeAligned}
 use Rattle.fm_ljson.proofs.Inside.{node_of-good}
 

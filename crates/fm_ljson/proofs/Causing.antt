@@ -7,11 +7,11 @@ use Rattle.std.proofs.lemmas.Option.{none-some}
 use Rattle.serde_json.specs.Data.{Data}
 use Rattle.serde_json.specs.Read.{read}
 use Rattle.fm_base.specs.declared.refusal.Refusal.{Refusal}
-use Rattle.fm_base.specs.declared.refusal.Refusal.TheVariants.{BadJson, BadShape, BadAlignment, Overflow, MemberMisaligned, ElementRagged, BadPadding, AlignmentBelow, Memory}
-use Rattle.fm_layout.specs.Tree.{Label, Tree, Trees, NoMore, More, alignment_of}
+use Rattle.fm_base.specs.declared.refusal.Refusal.TheVariants.{BadShape, BadAlignment, Overflow, MemberMisaligned, ElementRagged, BadPadding, AlignmentBelow, Memory}
+use Rattle.fm_layout.specs.Tree.{Tree, Trees, NoMore, More, alignment_of}
 use Rattle.fm_layout.specs.Size.{size_of, least_of}
 use Rattle.fm_layout.specs.WellFormed.{limit}
-use Rattle.fm_layout.specs.Made.{fault_of, made, padding_of, sequence_fault, sequence_of, struct_of, union_of, with_alignment}
+use Rattle.fm_layout.specs.Made.{fault_of, made, padding_of, sequence_fault, sequence_of, struct_of, with_alignment}
 use Rattle.fm_ljson.specs.Node.{Content, Padding, Sequence, Struct, Union, Node, node_of, parts_in, parts_of}
 use Rattle.fm_ljson.specs.Node as said
 use Rattle.fm_ljson.specs.Nodes.{first_broken, is_broken, most_levels, most_nodes, nodes}

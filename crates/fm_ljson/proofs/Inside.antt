@@ -1,5 +1,5 @@
 -- What is known of a node that breaks no rule.
-use Rattle.std.proofs.Common.{◌≡◌, ℕ, ◌≤◌, ◌&&◌, ◌||◌, Bool, true, false, cond, List, [], ◌∷◌, length, Option, Some, None, option_map, option_and_then, unwrap_or, refl, sym, ap, ◌∙◌, subst, arith, leb-true, le-leb}
+use Rattle.std.proofs.Common.{◌≡◌, ℕ, ◌&&◌, ◌||◌, Bool, true, false, cond, List, [], ◌∷◌, length, Option, Some, None, option_map, option_and_then, refl, sym, ap, subst, leb-true, le-leb}
 use Rattle.std.specs.Prelude.{nat_le, codes}
 use Rattle.std.specs.List.{list_all}
 use Rattle.std.specs.Bool.{Decides}
@@ -13,7 +13,7 @@ use Rattle.fm_layout.specs.Named.{IsNameIfAny}
 use Rattle.fm_layout.proofs.Names.{IsNameEnd-from_all, list_all-IsNameEnd}
 use Rattle.fm_ljson.specs.declared.type_name.TypeName.{TypeName}
 use Rattle.fm_ljson.specs.declared.type_name.TypeName.TheVariants as type_name
-use Rattle.fm_ljson.specs.Node.{Content, Value, Padding, Sequence, Struct, Union, Node, align_in, content_in, has_only, if_any, is_name, list_of, members_in, name_in, name_of, node, node_in, node_of, node_of_type, optional, order_in, required, type_of, whole_of}
+use Rattle.fm_ljson.specs.Node.{Content, Value, Sequence, Struct, Union, Node, align_in, content_in, has_only, if_any, is_name, list_of, members_in, name_in, name_of, node, node_in, node_of, node_of_type, optional, order_in, required, type_of, whole_of}
 use Rattle.fm_ljson.specs.Types.{keys_of}
 use Rattle.fm_ljson.specs.Views.{IsPaddingContent, MayBeAligned}
 

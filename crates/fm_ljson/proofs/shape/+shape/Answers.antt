@@ -1,5 +1,5 @@
 -- Nodes are counted from the first to the last, each with what stands below it.
-use Rattle.std.proofs.Common.{ℕ, ◌<◌, arith}
+use Rattle.std.proofs.Common.{◌<◌, arith}
 use Rattle.fm_ljson.specs.Nodes.{most_nodes}
 use Rattle.fm_ljson.specs.Views.{node_view}
 use Rattle.fm_ljson.proofs.Counting.{one_too_many, too_deep, no_node, all_sound, one_broken, counting_item, counting_broken, counting_more}
