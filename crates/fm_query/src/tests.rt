@@ -60,7 +60,7 @@ fn reads_each_fold_and_operator(rt: HostRuntime) -> Result<(), Fail> {
     let layout = item(rt.alloc())?;
     check_record(&layout)?;
     let text =
-        "min(.price),max(.#3[3:-1]) where .id=0 and .id!=-1 and .id<-9223372036854775808 and .id<=10 \
+        "min(.price),max(.#4[3:-1]) where .id=0 and .id!=-1 and .id<-9223372036854775808 and .id<=10 \
                 and .kind>9223372036854775807";
     let query = parse_query(rt.alloc(), text, &layout)?;
     let items = query.items();
