@@ -60,23 +60,26 @@ fn reads_each_fold_and_operator(rt: HostRuntime) -> Result<(), Fail> {
     let layout = item(rt.alloc())?;
     check_record(&layout)?;
     let text =
-        "min(.price),max(.#3[3:-1]) where .id=0 and .id!=-1 and .id<-9223372036854775808 and .id<=10 \
+        "min(.price),max(.#4[3:-1]) where .id=0 and .id!=-1 and .id<-9223372036854775808 and .id<=10 \
                 and .kind>9223372036854775807";
     let query = parse_query(rt.alloc(), text, &layout)?;
     let items = query.items();
+    assert_eq!(rt; items.len(), 2);
     assert!(rt; matches!(&items[0].asked, Asked::Of(Fold::Least, _)));
     assert!(rt; matches!(&items[1].asked, Asked::Of(Fold::Greatest, _)));
     let conditions = query.conditions();
-    for (k, text, operator, literal) in [
-        (0, ".id=0", Operator::Equal, 0),
-        (1, ".id!=-1", Operator::NotEqual, -1),
-        (2, ".id<-9223372036854775808", Operator::Below, i64::MIN),
-        (3, ".id<=10", Operator::AtMost, 10),
-        (4, ".kind>9223372036854775807", Operator::Above, i64::MAX),
-    ] {
-        assert_eq!(rt; conditions[k].text.as_str(), text);
-        assert_eq!(rt; conditions[k].operator, operator, "at {text}");
-        assert_eq!(rt; conditions[k].literal, literal, "at {text}");
+    assert_eq!(rt; conditions.len(), 5);
+    let wanted = [
+        (".id=0", Operator::Equal, 0),
+        (".id!=-1", Operator::NotEqual, -1),
+        (".id<-9223372036854775808", Operator::Below, i64::MIN),
+        (".id<=10", Operator::AtMost, 10),
+        (".kind>9223372036854775807", Operator::Above, i64::MAX),
+    ];
+    for (condition, (text, operator, literal)) in conditions.iter().zip(wanted) {
+        assert_eq!(rt; condition.text.as_str(), text);
+        assert_eq!(rt; condition.operator, operator, "at {text}");
+        assert_eq!(rt; condition.literal, literal, "at {text}");
     }
     Ok(())
 }
