@@ -12,7 +12,9 @@ use Rattle.fm_lanes.specs.declared.order.Order.TheVariants.{Little}
 use Rattle.fm_lanes.specs.declared.value_kind.ValueKind.{ValueKind}
 use Rattle.fm_lanes.specs.declared.value_kind.ValueKind.TheVariants.{Byte, Boolean, Char, Short, Int, Long}
 use Rattle.fm_lanes.specs.Kind.{width_of}
-use Rattle.fm_top.specs.Records.{number_at, pieces, sum_of}
+use Rattle.fm_records.specs.Answers.{sum_of}
+use Rattle.fm_records.specs.Records.{pieces}
+use Rattle.fm_top.specs.Records.{number_at}
 
 -- at most 2^63 from 0 for each of so many values
 pub record IsWithin (count : ℕ) (sum : ℤ) : Type 0 where
