@@ -17,7 +17,9 @@ use Rattle.fm_layout.specs.Size.{size_of}
 use Rattle.fm_layout.specs.Made.{value_of as natural}
 use Rattle.fm_segment.specs.Alone.{Means}
 use Rattle.fm_segment.proofs.Alone.{take-part}
-use Rattle.fm_top.specs.Records.{number_at, pieces, sum_of}
+use Rattle.fm_records.specs.Answers.{sum_of}
+use Rattle.fm_records.specs.Records.{pieces}
+use Rattle.fm_top.specs.Records.{number_at}
 
 -- at most 2^63 from 0 for each of so many values
 pub record IsWithin (count : ℕ) (sum : ℤ) : Type 0 where

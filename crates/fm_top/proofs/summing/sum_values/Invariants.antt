@@ -1,6 +1,8 @@
 use Rattle.std.proofs.Common.{◌≡◌, ◌-◌, ◌*◌, ◌/◌, length, drop, map}
 use Rattle.std.specs.Prelude.{◌+ℤ◌}
-use Rattle.fm_top.specs.Records.{number_at, pieces, sum_of, sum_of_values}
+use Rattle.fm_records.specs.Answers.{sum_of}
+use Rattle.fm_records.specs.Records.{pieces}
+use Rattle.fm_top.specs.Records.{number_at, sum_of_values}
 use Rattle.fm_top.proofs.Sums.{IsWithin}
 use Rattle.fm_top.proofs.summing.sum_values.Given as goal
 
