@@ -1,13 +1,16 @@
-//! Loops for the benchmarks: `visits COUNT` of an arena's words, `loads COUNT` from a plain vector, and `fills COUNT`,
-//! `copies COUNT` and `mismatches COUNT` of segments of 64 MiB.
+//! Loops for the benchmarks: `visits COUNT` of an arena's words, `loads COUNT` from a plain vector,
+//! `gets COUNT` of a segment, `handles COUNT` by a path, and `fills COUNT`, `copies COUNT` and `mismatches COUNT` of
+//! segments of 64 MiB.
 //!
 //! It prints what it found, so that the loops are run; the script that calls it takes the time.
 #![tactic(auto)]
 
+mod cells;
 mod loads;
 mod ranges;
 mod visits;
 
+use crate::cells::{gets, handles};
 use crate::loads::loads;
 use crate::ranges::{copies, fills, mismatches};
 use crate::visits::visits;
@@ -44,6 +47,8 @@ fn run<R: Wait>(rt: &R, alloc: Global, what: &str, count: u64) -> Option<u64> {
     match what {
         "visits" => visits(rt, alloc, count).ok(),
         "loads" => loads(alloc, count).ok(),
+        "gets" => gets(rt, alloc, count).ok(),
+        "handles" => handles(rt, alloc, count).ok(),
         "fills" => fills(rt, alloc, count).ok(),
         "copies" => copies(rt, alloc, count).ok(),
         "mismatches" => mismatches(rt, alloc, count).ok(),
