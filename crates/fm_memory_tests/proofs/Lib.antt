@@ -1,3 +1,4 @@
 pub mod Others
+pub mod Outside
 pub mod Told
 pub mod Shutting
