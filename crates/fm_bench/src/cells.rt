@@ -49,7 +49,7 @@ pub fn handles<R: Wait>(rt: &R, alloc: Global, count: u64) -> Result<u64, Refusa
     Ok(joined)
 }
 
-/// A table in an arena of its own; cell c holds c times a number.
+/// A table in an arena of its own; cell c holds c times a number, modulo a prime.
 fn table<R: Wait>(rt: &R, alloc: Global, times: u64) -> Result<(Mono, Segment), Refusal>
     ensures { IfOk result (λ made. CanAccess made.0 made.1) }
 {
@@ -59,7 +59,7 @@ fn table<R: Wait>(rt: &R, alloc: Global, times: u64) -> Result<(Mono, Segment), 
     let table = Segment::of(arena, first, 8 * ROWS * COLUMNS);
     let long = Layout::value(ValueKind::Long);
     for cell in 0..ROWS * COLUMNS {
-        let v = Value::Long((cell.wrapping_mul(times) % 1_000_000) as i64);
+        let v = Value::Long((cell.wrapping_mul(times) % 1_000_003) as i64);
         table.set(rt, &mut memory, &long, 8 * cell, v)?;
     }
     Ok((memory, table))
