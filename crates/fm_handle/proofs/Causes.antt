@@ -21,7 +21,7 @@ use Rattle.fm_places.specs.Found.{IsFirstOut}
 use Rattle.fm_places.specs.Walk.{AreAdmitted}
 use Rattle.fm_segment.specs.Access.{WriteCause, DoesGetValue}
 use Rattle.fm_segment.specs.Region.{Region}
-use Rattle.fm_segment.proofs.Causes.{Causes}
+use Rattle.fm_segment.proofs.Causes.{Causes, err_is, never}
 use Rattle.fm_handle.specs.Access.{DoesAt, DoesVisit, DoesGet, DoesSet}
 use Rattle.fm_handle.specs.Causes.{RootFits, RootIsAligned, RootCause, IndexCause, SupportCause, GetCause, SetCause, UpdateCause}
 use Rattle.fm_handle.specs.Place.{if_supported, if_admitted, if_writable, if_rooted, value_place, place_of, writable_place_of, update_place_of}
@@ -57,20 +57,6 @@ at_cause {X} c id (Ok p) Does Cause (Ok x) own h at d = tt
 at_cause {X} c id (Ok p) Does Cause (Err e) own h at d = by_arena c id Cause e (h.wrong_thread p refl) (h.closed p refl) (at p e d)
 
 -- ---- the tests
-
-refusal_in : Result ℕ Refusal → Refusal
-refusal_in (Ok n) = Closed
-refusal_in (Err e) = e
-
-abbrev refused : Refusal → Result ℕ Refusal
-refused e = Err e
-
-err_is : (a b : Refusal) (Cause : Refusal → Type 0) → refused a ≡ refused b → Cause a → Cause b
-unfolding refusal_in
-err_is a b Cause h x = subst Cause (ap refusal_in h) x
-
-pub never : {X : Type 0} (n : ℕ) (e : Refusal) → Ok n ≡ Err e → X
-never n e h = absurd (let no : ⊥ = cc in no)
 
 module _ (base : ℕ) (h : Resolution) (r : Region) (c at : ℕ) where
   root_on : (fits aligned : Bool) (e : Refusal) → nat_le (base + h.root_size) r.size ≡ fits → nat_eq ((r.first + base) % h.root_alignment) 0 ≡ aligned

@@ -1,5 +1,5 @@
 -- A handle comes to the bytes of its path's place.
-use Rattle.std.proofs.Common.{◌≡◌, ℕ, ◌+◌, ◌%◌, ◌≤◌, inl, inr, List, length, Result, Ok, Err, sym, subst, ◌∙◌}
+use Rattle.std.proofs.Common.{◌≡◌, ℕ, ◌+◌, ◌%◌, ◌≤◌, inl, inr, List, length, Ok, sym, subst, ◌∙◌}
 use Rattle.fm_base.specs.declared.refusal.Refusal.TheVariants.{IndexOut}
 use Rattle.fm_layout.specs.Tree.{Tree}
 use Rattle.fm_path.specs.Resolution.{Resolution, IsResolved}
@@ -8,7 +8,8 @@ use Rattle.fm_segment.specs.Region.{Region}
 use Rattle.fm_steps.specs.declared.step.PathStep.{PathStep}
 use Rattle.fm_handle.specs.Place.{if_rooted, place_of, value_place}
 use Rattle.fm_handle.specs.Touched.{StandsAtPath}
-use Rattle.fm_handle.proofs.Causes.{tested, rooted, never}
+use Rattle.fm_segment.proofs.Causes.{never}
+use Rattle.fm_handle.proofs.Causes.{tested, rooted}
 use Rattle.fm_handle.proofs.Places.{rooted_is}
 
 -- The place that a handle finds is the path's.

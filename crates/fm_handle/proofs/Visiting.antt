@@ -50,10 +50,6 @@ pub done_at : {X : Type 0} (old new : View) (found : Result ℕ Refusal) (Does :
     → Did old new (Does place result) → Did old new (DoesAt found Does result)
 done_at old new found Does place result f d = rw f d
 
--- What was done, said otherwise.
-pub said : (old new : View) (P Q : List Entry → Type 0) → ((own : List Entry) → P own → Q own) → Did old new P → Did old new Q
-said old new P Q f d = record { own = d.own; does = f d.own d.does; makes = d.makes }
-
 refusal_in : {X : Type 0} → Refusal → Result X Refusal → Refusal
 refusal_in e (Ok x) = e
 refusal_in e (Err r) = r

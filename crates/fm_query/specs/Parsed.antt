@@ -79,10 +79,16 @@ IsItemAdmitted t s = (item : Item) × IsItemOf t s item
 abbrev pub IsConditionAdmitted : Tree → ConditionSyntax → Type 0
 IsConditionAdmitted t s = (c : Condition) × IsConditionOf t s c
 
+abbrev pub AreItemsRefused : Tree → List ItemSyntax → Refusal → Type 0
+AreItemsRefused t items = IsFirstRefused (IsItemAdmitted t) (IsItemRefused t) items
+
+abbrev pub AreConditionsRefused : Tree → List ConditionSyntax → Refusal → Type 0
+AreConditionsRefused t conditions = IsFirstRefused (IsConditionAdmitted t) (IsConditionRefused t) conditions
+
 -- why a query is refused: the first of its items that is; else the first of its conditions that is
 pub data IsSyntaxRefused (t : Tree) (q : Syntax) (e : Refusal) : Type 0 where
-  at_item : IsFirstRefused (IsItemAdmitted t) (IsItemRefused t) q.items e → IsSyntaxRefused t q e
-  at_condition : AllByRecursion (IsItemAdmitted t) q.items → IsFirstRefused (IsConditionAdmitted t) (IsConditionRefused t) q.conditions e → IsSyntaxRefused t q e
+  at_item : AreItemsRefused t q.items e → IsSyntaxRefused t q e
+  at_condition : AllByRecursion (IsItemAdmitted t) q.items → AreConditionsRefused t q.conditions e → IsSyntaxRefused t q e
 
 -- the text is that of a query, which comes to this plan
 pub record IsParsed (text : List ℕ) (t : Tree) (p : Plan) : Type 0 where

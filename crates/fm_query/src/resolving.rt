@@ -1,6 +1,6 @@
 ghost use Rattle.std.specs.Prelude.{◌≡◌, IfOk, IfErr};
 ghost use Rattle.std.specs.List.{AllZip};
-ghost use Rattle.fm_query.specs.Parsed.{IsItemOf, IsItemRefused, IsItemAdmitted, IsConditionOf, IsConditionRefused, IsConditionAdmitted, IsFirstRefused, OrMemory, first_open, is_open};
+ghost use Rattle.fm_query.specs.Parsed.{AreItemsRefused, IsItemOf, IsItemRefused, AreConditionsRefused, IsConditionOf, IsConditionRefused, OrMemory, first_open, is_open};
 
 use crate::condition::Condition;
 use crate::item::{Asked, Item};
@@ -18,7 +18,7 @@ pub fn resolve_items(
     items: &[ItemSyntax],
 ) -> Result<Vec<Item>, Refusal>
     ensures resolved { IfOk result (λ found. AllZip (IsItemOf layout.now) items.now found.items) }
-    ensures refused { IfErr result (OrMemory (IsFirstRefused (IsItemAdmitted layout.now) (IsItemRefused layout.now) items.now)) }
+    ensures refused { IfErr result (OrMemory (AreItemsRefused layout.now items.now)) }
 {
     let mut found = Vec::new(alloc);
     for (k, item) in items.iter().enumerate() {
@@ -40,7 +40,7 @@ pub fn resolve_conditions(
     conditions: &[ConditionSyntax],
 ) -> Result<Vec<Condition>, Refusal>
     ensures resolved { IfOk result (λ found. AllZip (IsConditionOf layout.now) conditions.now found.items) }
-    ensures refused { IfErr result (OrMemory (IsFirstRefused (IsConditionAdmitted layout.now) (IsConditionRefused layout.now) conditions.now)) }
+    ensures refused { IfErr result (OrMemory (AreConditionsRefused layout.now conditions.now)) }
 {
     let mut found = Vec::new(alloc);
     for (k, condition) in conditions.iter().enumerate() {

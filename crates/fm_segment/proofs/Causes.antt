@@ -47,14 +47,16 @@ refusal_in : Result ℕ Refusal → Refusal
 refusal_in (Ok n) = Closed
 refusal_in (Err e) = e
 
-abbrev refused : Refusal → Result ℕ Refusal
+abbrev pub refused : Refusal → Result ℕ Refusal
 refused e = Err e
 
-err_is : (a b : Refusal) (Cause : Refusal → Type 0) → refused a ≡ refused b → Cause a → Cause b
+-- A cause of a refusal, by what was answered.
+pub err_is : (a b : Refusal) (Cause : Refusal → Type 0) → refused a ≡ refused b → Cause a → Cause b
 unfolding refusal_in
 err_is a b Cause h x = subst Cause (ap refusal_in h) x
 
-never : {X : Type 0} (n : ℕ) (e : Refusal) → Ok n ≡ Err e → X
+-- An answer is no refusal.
+pub never : {X : Type 0} (n : ℕ) (e : Refusal) → Ok n ≡ Err e → X
 never n e h = absurd (let no : ⊥ = cc in no)
 
 module _ (offset : ℕ) (t : Tree) (r : Region) (c : ℕ) where

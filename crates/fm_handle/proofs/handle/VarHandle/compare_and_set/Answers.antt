@@ -3,7 +3,8 @@ use Rattle.std.proofs.lemmas.Result.{err_from_is_err_and}
 use Rattle.fm_handle.specs.Access.{DoesAt, DoesVisit, Wins}
 use Rattle.fm_handle.specs.Acts.{Exchanges}
 use Rattle.fm_handle.specs.Place.{can_update, update_place_of}
-use Rattle.fm_handle.proofs.Visiting.{said, won, not_made}
+use Rattle.fm_segment.proofs.Access.{said}
+use Rattle.fm_handle.proofs.Visiting.{won, not_made}
 use Rattle.fm_handle.proofs.handle.VarHandle.compare_and_set.Goals as goal
 
 pub returns-in_err-found-clause-did : goal.returns-in_err-found-clause-did
