@@ -27,3 +27,7 @@ pub record HoldsThen (limit : ℕ) (m : Arenas) (inside : Option ArenaId) (a : A
   pub held : IsHeld limit m inside a
   pub given_is : given_at m a ≡ given
   pub words_are : words_at m a ≡ words
+
+-- it is held, and has given as much and has the same words as before
+abbrev pub HoldsStill : ℕ → Arenas → Arenas → Option ArenaId → ArenaId → Type 0
+HoldsStill limit old new inside a = HoldsThen limit new inside a (given_at old a) (words_at old a)

@@ -1,6 +1,6 @@
 ghost use Rattle.std.specs.Prelude.{◌≡◌, ◌+◌, ◌*◌, ◌<◌, ◌≤◌, ◌++◌, None, Some, length, take, drop, replicate, slice_set, IfOk, OnOk, OnErr};
 ghost use Rattle.fm_base.specs.Machine.{rounded_up, words_within};
-ghost use Rattle.fm_top.specs.Held.{IsHeld, HoldsThen, given_at, words_at};
+ghost use Rattle.fm_top.specs.Held.{IsHeld, HoldsStill, HoldsThen, given_at, words_at};
 ghost use Rattle.fm_top.specs.Outcome.{record_file_limit};
 
 use fm_base::{ArenaId, Kind, Memory};
@@ -26,7 +26,7 @@ pub fn open_held<R: Wait>(rt: &R, alloc: Global) -> Result<(Mono, ArenaId), Allo
 /// Enters the arena, which is alive.
 pub fn enter_held(memory: &mut Mono, arena: ArenaId)
     requires { IsHeld record_file_limit memory.old None arena }
-    ensures { HoldsThen record_file_limit memory.new (Some arena) arena (given_at memory.old arena) (words_at memory.old arena) }
+    ensures { HoldsStill record_file_limit memory.old memory.new (Some arena) arena }
 {
     match memory.enter(arena) {
         Ok(()) => {}
@@ -37,7 +37,7 @@ pub fn enter_held(memory: &mut Mono, arena: ArenaId)
 /// Leaves the arena.
 pub fn leave_held(memory: &mut Mono, arena: ArenaId)
     requires { IsHeld record_file_limit memory.old (Some arena) arena }
-    ensures { HoldsThen record_file_limit memory.new None arena (given_at memory.old arena) (words_at memory.old arena) }
+    ensures { HoldsStill record_file_limit memory.old memory.new None arena }
 {
     memory.leave();
 }
@@ -65,7 +65,7 @@ pub fn allocate_held<R: Wait>(
     ensures given { IfOk result (λ place.
         HoldsThen record_file_limit memory.new None arena (place + size) (words_at memory.old arena)) }
     ensures same { OnErr result
-        (HoldsThen record_file_limit memory.new None arena (given_at memory.old arena) (words_at memory.old arena)) }
+        (HoldsStill record_file_limit memory.old memory.new None arena) }
 {
     match memory.allocate(rt, arena, size, 8) {
         Ok(place) => Ok(place),

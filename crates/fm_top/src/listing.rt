@@ -1,6 +1,6 @@
 ghost use Rattle.std.specs.Prelude.{◌≡◌, ◌≤◌, IfOk, IfErr, IsErrOf, length};
 ghost use Rattle.fm_io.specs.Count.{Rose};
-ghost use Rattle.fm_top.specs.Ending.{shown};
+ghost use Rattle.fm_top.specs.Ending.{MissesOnly, shown};
 ghost use Rattle.fm_top.specs.Outcome.{layout_of_file};
 ghost use Rattle.fm_top.specs.Run.{HasOutcome};
 ghost use Rattle.fm_top.specs.Words.{Layout};
@@ -19,7 +19,7 @@ use std::alloc::Global;
 /// Reads the file of a layout, and answers how the run ends.
 pub fn listing_ending<F: Files>(alloc: Global, files: &mut F, file: &str) -> Result<Ending, Stop>
     ensures outcome { IfOk result (λ ending. HasOutcome (Layout file.now) (F.holds files.old) (shown ending)) }
-    ensures missing { IfOk result (λ ending. ending.status ≡ Missing → Rose (F.misses files.old) (F.misses files.new)) }
+    ensures missing { IfOk result (MissesOnly (F.misses files.old) (F.misses files.new)) }
     ensures failed { IsErrOf result Stop.Failed → Rose (F.faults files.old) (F.faults files.new) }
 {
     match read_whole(alloc, files, file, LAYOUT_FILE_LIMIT) {

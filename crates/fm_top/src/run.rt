@@ -1,7 +1,7 @@
 ghost use Rattle.std.specs.Prelude.{◌≡◌, IfOk, IfErr, IsErrOf, Some};
 ghost use Rattle.fm_io.specs.Count.{Rose};
 ghost use Rattle.fm_top.specs.Asked.{request_of};
-ghost use Rattle.fm_top.specs.Ending.{shown};
+ghost use Rattle.fm_top.specs.Ending.{MissesOnly, shown};
 ghost use Rattle.fm_io.specs.Files.{Contents};
 ghost use Rattle.fm_top.specs.Outcome.{outcome_of};
 ghost use Rattle.fm_top.specs.Run.{HasOutcome, IsOutcome, Runs, Stops, Prints, traces_of, code_of, EndsWith, Answers, AsksAbsent, AsksLong, AsksRagged, AsksRefused};
@@ -102,7 +102,7 @@ fn ending_of<R: Wait, F: Files>(
     ensures outcome { IfOk result (λ ending. IsOutcome (texts words.now) (F.holds files.old) (shown ending)) }
     ensures stops { IfErr result (Stops (texts words.now) (F.holds files.old)) }
     ensures reads_nothing { AreFaulty (texts words.now) → files.new ≡ files.old }
-    ensures missed { IfOk result (λ ending. ending.status ≡ Missing → Rose (F.misses files.old) (F.misses files.new)) }
+    ensures missed { IfOk result (MissesOnly (F.misses files.old) (F.misses files.new)) }
     ensures unread { IsErrOf result Stop.Failed → Rose (F.faults files.old) (F.faults files.new) }
 {
     match command_of(words) {
@@ -121,7 +121,7 @@ fn command_ending<R: Wait, F: Files>(
     requires { CanBeAsked (request_of command.now) }
     ensures outcome { IfOk result (λ ending.
         HasOutcome (request_of command.now) (F.holds files.old) (shown ending)) }
-    ensures missed { IfOk result (λ ending. ending.status ≡ Missing → Rose (F.misses files.old) (F.misses files.new)) }
+    ensures missed { IfOk result (MissesOnly (F.misses files.old) (F.misses files.new)) }
     ensures unread { IsErrOf result Stop.Failed → Rose (F.faults files.old) (F.faults files.new) }
 {
     match command {

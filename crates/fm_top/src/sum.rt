@@ -1,6 +1,6 @@
 ghost use Rattle.std.specs.Prelude.{◌≡◌, ◌≤◌, IfOk, IsErrOf, length};
 ghost use Rattle.fm_io.specs.Count.{Rose};
-ghost use Rattle.fm_top.specs.Ending.{shown};
+ghost use Rattle.fm_top.specs.Ending.{MissesOnly, shown};
 ghost use Rattle.fm_top.specs.Outcome.{sum_of_file};
 ghost use Rattle.fm_top.specs.Run.{HasOutcome};
 ghost use Rattle.fm_top.specs.Words.{Sum, HasValue};
@@ -27,7 +27,7 @@ pub fn sum_ending<R: Wait, F: Files>(
     requires { HasValue sum.now.size sum.now.at sum.now.kind }
     ensures outcome { IfOk result (λ ending.
         HasOutcome (Sum sum.now.size sum.now.at sum.now.kind sum.now.file.now) (F.holds files.old) (shown ending)) }
-    ensures missing { IfOk result (λ ending. ending.status ≡ Missing → Rose (F.misses files.old) (F.misses files.new)) }
+    ensures missing { IfOk result (MissesOnly (F.misses files.old) (F.misses files.new)) }
     ensures failed { IsErrOf result Stop.Failed → Rose (F.faults files.old) (F.faults files.new) }
 {
     match load(rt, alloc, files, sum.file) {
