@@ -1,5 +1,5 @@
 -- A handle comes to the bytes of its path's place.
-use Rattle.std.proofs.Common.{◌≡◌, ℕ, ◌+◌, ◌%◌, ◌≤◌, inl, inr, List, length, Result, Ok, Err, sym, subst, ◌∙◌}
+use Rattle.std.proofs.Common.{◌≡◌, ℕ, ◌+◌, ◌%◌, ◌≤◌, inl, inr, List, length, Ok, sym, subst, ◌∙◌}
 use Rattle.fm_base.specs.declared.refusal.Refusal.TheVariants.{IndexOut}
 use Rattle.fm_layout.specs.Tree.{Tree}
 use Rattle.fm_path.specs.Resolution.{Resolution, IsResolved}
