@@ -1,5 +1,6 @@
 pub mod Access
 pub mod Acts
+pub mod Alone
 pub mod Causes
 pub mod Place
 pub mod Touched

@@ -37,4 +37,4 @@ mod visits;
 mod word;
 
 pub use handle::VarHandle;
-pub use laws::stands_at_its_path;
+pub use laws::{sets_then_gets, stands_at_its_path};

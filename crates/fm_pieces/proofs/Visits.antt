@@ -17,7 +17,8 @@ use Rattle.fm_bytes.proofs.Words.{bytes_in-lane, bytes_in-set, bytes_in-replaced
 use Rattle.fm_pieces.specs.Alone.{bytes_of_arena, with_words}
 use Rattle.fm_pieces.specs.Pieces.{ReadsPiece, PutsBytes, whole, narrow, PutsPiece}
 
-not_same : (a b : ℕ) → ¬ (a ≡ b) → (a == b) ≡ false
+-- Numbers that differ, by the test.
+pub not_same : (a b : ℕ) → ¬ (a ≡ b) → (a == b) ≡ false
 not_same a b h = grind (arith, nat_tests)
 
 is_same : (a : ℕ) → (a == a) ≡ true
@@ -72,7 +73,7 @@ pub record VisitReads (s t : State) (id : ArenaId) (place width v : ℕ) : Type 
   pub same : t ≡ s
 
 -- The bytes of a lane of a word.
-lane_bytes : (words : List ℕ) (place width v word : ℕ) → place / 8 < length words → place % 8 + width ≤ 8 → word ≡ slice_index words (place / 8) → v ≡ lane word (place % 8) width
+pub lane_bytes : (words : List ℕ) (place width v word : ℕ) → place / 8 < length words → place % 8 + width ≤ 8 → word ≡ slice_index words (place / 8) → v ≡ lane word (place % 8) width
     → bytes_of width v ≡ take width (drop place (bytes_in words))
 lane_bytes words place width v word h fits e d =
     ap (bytes_of width) (d ∙ ap (λ n. lane n (place % 8) width) e)
@@ -113,14 +114,14 @@ pub record ActsPut (s t : State) (c : ℕ) (id : ArenaId) (place width v : ℕ) 
       ≡ take place (bytes_of_arena s id) ++ (bytes_of width v ++ drop (place + width) (bytes_of_arena s id))
 
 -- what tries leave
-record TriesLeave (s t : State) (c : ℕ) (id : ArenaId) (word found n : ℕ) : Type 0 where
+pub record TriesLeave (s t : State) (c : ℕ) (id : ArenaId) (word found n : ℕ) : Type 0 where
   pub known : has_arena s id ≡ true
   pub within : word < length (arena_of s id).words
   pub is : found ≡ word_in s id word
   pub after : t ≡ changed s id (written word n)
 
 -- Tries set the word once, at their last step.
-tries_leave : (limit c : ℕ) (s : State) (id : ArenaId) (word : ℕ) (f : ℕ → ℕ) (found : ℕ) (acts : Acts) → Tries id word f found acts
+pub tries_leave : (limit c : ℕ) (s : State) (id : ArenaId) (word : ℕ) (f : ℕ → ℕ) (found : ℕ) (acts : Acts) → Tries id word f found acts
     → IsLegal limit s (entries_of c acts) → TriesLeave s (state_after limit s (entries_of c acts)) c id word found (f found)
 tries_leave limit c s id word f found acts (looked now rest t) legal = tries_leave limit c s id word f found rest t legal.2
 tries_leave limit c s id word f found acts (missed now old new rest n t) legal =
@@ -142,7 +143,7 @@ tries_leave limit c s id word f found acts hit legal =
     }
 
 -- Eight bytes fill a word.
-whole_word : (words : List ℕ) (place v : ℕ) → place / 8 < length words → place % 8 + 8 ≤ 8
+pub whole_word : (words : List ℕ) (place v : ℕ) → place / 8 < length words → place % 8 + 8 ≤ 8
     → bytes_in (slice_set words (place / 8) v) ≡ take place (bytes_in words) ++ (bytes_of 8 v ++ drop (place + 8) (bytes_in words))
 whole_word words place v h fits =
     let e : 8 * (place / 8) ≡ place = omega arith in
@@ -157,6 +158,20 @@ part_of_word words place width v found h fits small e =
     let P : ℕ → Type 0 = λ n. bytes_in (slice_set words (place / 8) (replaced found (place % 8) width v)) ≡ take n (bytes_in words) ++ (bytes_of width v ++ drop (n + width) (bytes_in words)) in
     let put = bytes_in-replaced words (place / 8) (place % 8) width v h fits small in
     subst P (place_is place) (ap (λ n. bytes_in (slice_set words (place / 8) (replaced n (place % 8) width v))) e ∙ put)
+
+-- What tries that change just these bytes of a word do.
+pub tries_put : (limit c : ℕ) (s : State) (id : ArenaId) (place width v found : ℕ) (acts : Acts) → Tries id (place / 8) (λ word. replaced word (place % 8) width v) found acts
+    → place % 8 + width ≤ 8 → v < 2 ^ (8 * width) → IsLegal limit s (entries_of c acts) → ActsPut s (state_after limit s (entries_of c acts)) c id place width v
+tries_put limit c s id place width v found acts t fits small legal =
+    let n = replaced found (place % 8) width v in
+    let l = tries_leave limit c s id (place / 8) (λ word. replaced word (place % 8) width v) found acts t legal in
+    record {
+      word = n;
+      known = l.known;
+      within = l.within;
+      after = l.after;
+      bytes = part_of_word (arena_of s id).words place width v found l.within fits small l.is;
+    }
 
 -- What the acts of one visit do.
 acts_put : (limit c : ℕ) (s : State) (id : ArenaId) (place width v : ℕ) (acts : Acts) → PutsBytes id place width v acts → place % 8 + width ≤ 8 → v < 2 ^ (8 * width)
@@ -173,16 +188,7 @@ acts_put limit c s id place width v acts (whole e) fits small legal =
       after = refl;
       bytes = subst P (sym e) (whole_word words place v reach.within eight);
     }
-acts_put limit c s id place width v acts (narrow found tried few t) fits small legal =
-    let n = replaced found (place % 8) width v in
-    let l = tries_leave limit c s id (place / 8) (λ word. replaced word (place % 8) width v) found acts t legal in
-    record {
-      word = n;
-      known = l.known;
-      within = l.within;
-      after = l.after;
-      bytes = part_of_word (arena_of s id).words place width v found l.within fits small l.is;
-    }
+acts_put limit c s id place width v acts (narrow found tried few t) fits small legal = tries_put limit c s id place width v found acts t fits small legal
 
 -- a visit to an arena that is alive, whose bytes from the place on are put
 pub record VisitPuts (s t : State) (id : ArenaId) (place width v : ℕ) : Type 0 where
@@ -193,36 +199,52 @@ pub record VisitPuts (s t : State) (id : ArenaId) (place width v : ℕ) : Type 0
   pub known : has_arena s id ≡ true
   pub alive : (arena_of s id).life ≡ Alive
 
-put_visit : (limit c : ℕ) (s : State) (id : ArenaId) (place width v : ℕ) (acts : Acts) → PutsBytes id place width v acts → place % 8 + width ≤ 8 → v < 2 ^ (8 * width)
+-- A visit whose acts put bytes puts just these.
+pub acts_visit : (limit c : ℕ) (s : State) (id : ArenaId) (place width v : ℕ) (acts : Acts)
+    → (IsLegal limit (changed s id (entered c)) (entries_of c acts) → ActsPut (changed s id (entered c)) (state_after limit (changed s id (entered c)) (entries_of c acts)) c id place width v)
     → IsLegal limit s (visit c id acts) → VisitPuts s (state_after limit s (visit c id acts)) id place width v
-put_visit limit c s id place width v acts p fits small legal =
+acts_visit limit c s id place width v acts put legal =
     let s1 = changed s id (entered c) in
     let out = entry_of c (Leave id) Fine ∷ [] in
     let es = entries_of c acts in
     let parts = IsLegal-split limit (changed s id (entered c)) (entries_of c acts) (entry_of c (Leave id) Fine ∷ []) legal.2 in
-    let a = acts_put limit c (changed s id (entered c)) id place width v acts p fits small parts.0 in
+    let a = put parts.0 in
     let known = legal.0.0 in
     let same : (arena_of (changed s id (entered c)) id).words ≡ (arena_of s id).words = ap (λ (x : Arena). x.words) (lookup_changed s id (entered c) (λ x. refl) legal.0.0) in
-    let put = written (place / 8) a.word in
+    let set = written (place / 8) a.word in
     let words = slice_set (arena_of s id).words (place / 8) a.word in
     let P : List ℕ → Type 0 = λ ws. bytes_in (slice_set ws (place / 8) a.word) ≡ take place (bytes_in ws) ++ (bytes_of width v ++ drop (place + width) (bytes_in ws)) in
     let three : changed (changed (changed s id (entered c)) id (written (place / 8) a.word)) id (left c) ≡ changed s id (λ x. left c (written (place / 8) a.word (entered c x))) =
-    ap (λ (t : State). changed t id (left c)) (changed_twice s id (entered c) put (λ x. refl)) ∙ changed_twice s id (λ x. put (entered c x)) (left c) (λ x. refl) in
+    ap (λ (t : State). changed t id (left c)) (changed_twice s id (entered c) set (λ x. refl)) ∙ changed_twice s id (λ x. set (entered c x)) (left c) (λ x. refl) in
     record {
       words = words;
       state = state_after-append limit s1 es out
           ∙ ap (λ (t : State). changed t id (left c)) a.after
           ∙ three
-          ∙ changed_alike s id (λ x. left c (put (entered c x))) (with_words words) (around c words (arena_of s id) (legal.0.2 id));
+          ∙ changed_alike s id (λ x. left c (set (entered c x))) (with_words words) (around c words (arena_of s id) (legal.0.2 id));
       bytes = subst P same a.bytes;
       within = subst (λ (ws : List ℕ). place / 8 < length ws) same a.within;
       known = known;
       alive = alive_by (arena_of s id).life legal.1;
     }
 
+-- A visit whose acts leave the state leaves it.
+pub visit_stays : (limit c : ℕ) (s : State) (id : ArenaId) (acts : Acts)
+    → (IsLegal limit (changed s id (entered c)) (entries_of c acts) → state_after limit (changed s id (entered c)) (entries_of c acts) ≡ changed s id (entered c))
+    → IsLegal limit s (visit c id acts) → state_after limit s (visit c id acts) ≡ s
+visit_stays limit c s id acts stay legal =
+    let s1 = changed s id (entered c) in
+    let out = entry_of c (Leave id) Fine ∷ [] in
+    let es = entries_of c acts in
+    let parts = IsLegal-split limit (changed s id (entered c)) (entries_of c acts) (entry_of c (Leave id) Fine ∷ []) legal.2 in
+    state_after-append limit s1 es out
+    ∙ ap (λ (t : State). changed t id (left c)) (stay parts.0)
+    ∙ changed_twice s id (entered c) (left c) (λ a. refl)
+    ∙ changed_same s id (λ a. left c (entered c a)) (around c (arena_of s id).words (arena_of s id) (legal.0.2 id))
+
 -- A visit that puts bytes puts just these.
 pub visit_puts : (limit c : ℕ) (s : State) (id : ArenaId) (place width v : ℕ) (own : List Entry) → PutsPiece c id place width v own → place % 8 + width ≤ 8 → v < 2 ^ (8 * width)
     → IsLegal limit s own → VisitPuts s (state_after limit s own) id place width v
 visit_puts limit c s id place width v own p fits small legal =
     let Q : List Entry → Type 0 = λ es. VisitPuts s (state_after limit s es) id place width v in
-    subst Q (sym p.visits) (put_visit limit c s id place width v p.acts p.puts fits small (subst (λ (es : List Entry). IsLegal limit s es) p.visits legal))
+    subst Q (sym p.visits) (acts_visit limit c s id place width v p.acts (λ l. acts_put limit c (changed s id (entered c)) id place width v p.acts p.puts fits small l) (subst (λ (es : List Entry). IsLegal limit s es) p.visits legal))

@@ -121,10 +121,12 @@ AreBytes-lowest_first : (o : Order) (bytes : List ℕ) → AreBytes bytes → Ar
 AreBytes-lowest_first Little bytes h = h
 AreBytes-lowest_first Big bytes h = AreBytes-reverse bytes h
 
-AreBytes-value : (o : Order) (v : Value) → AreBytes (bytes_of_value o v)
+-- A value is put as bytes.
+pub AreBytes-value : (o : Order) (v : Value) → AreBytes (bytes_of_value o v)
 AreBytes-value o v = AreBytes-lowest_first o (bytes_of (width_of (kind_of v)) (encoded v)) (AreBytes-bytes_of (width_of (kind_of v)) (encoded v))
 
-length-value : (o : Order) (v : Value) → length (bytes_of_value o v) ≡ width_of (kind_of v)
+-- They are as many as its kind is wide.
+pub length-value : (o : Order) (v : Value) → length (bytes_of_value o v) ≡ width_of (kind_of v)
 length-value Little v = length-bytes_of (width_of (kind_of v)) (encoded v)
 length-value Big v = length-reverse (bytes_of (width_of (kind_of v)) (encoded v)) ∙ length-bytes_of (width_of (kind_of v)) (encoded v)
 
@@ -155,12 +157,13 @@ set_stays_out old now id t (Ok p) v (Err r) d alone = absurd d.does
 
 -- ---- what was set is got
 
-lowest_twice : (o : Order) (bytes : List ℕ) → lowest_first o (lowest_first o bytes) ≡ bytes
+-- An order turned twice.
+pub lowest_twice : (o : Order) (bytes : List ℕ) → lowest_first o (lowest_first o bytes) ≡ bytes
 lowest_twice Little bytes = refl
 lowest_twice Big bytes = reverse-reverse bytes
 
 -- The bytes that a value is put as mean it.
-means_itself : (k : ValueKind) (o : Order) (v : Value) → k ≡ kind_of v → encoded v < 2 ^ (8 * width_of (kind_of v)) → decoded (kind_of v) (encoded v) ≡ v
+pub means_itself : (k : ValueKind) (o : Order) (v : Value) → k ≡ kind_of v → encoded v < 2 ^ (8 * width_of (kind_of v)) → decoded (kind_of v) (encoded v) ≡ v
     → value_of k o (bytes_of_value o v) ≡ v
 means_itself k o v same small back =
     let w = width_of (kind_of v) in

@@ -1,11 +1,13 @@
-ghost use Rattle.std.specs.Prelude.{◌≡◌, length, None, IfErr};
+ghost use Rattle.std.specs.Prelude.{◌≡◌, length, true, None, IfErr, IfOk, OnOk, OnErr};
 ghost use Rattle.fm_base.specs.Outcomes.{Lasts};
 ghost use Rattle.fm_base.specs.View.{Did};
 ghost use Rattle.fm_lanes.specs.Value.{kind_of};
 ghost use Rattle.fm_segment.specs.Access.{IsKnown};
+ghost use Rattle.fm_segment.specs.Alone.{StaysOutOf};
 ghost use Rattle.fm_handle.specs.Access.{DoesGet, DoesSet};
+ghost use Rattle.fm_handle.specs.Alone.{FindsValue, PutsValue};
 ghost use Rattle.fm_handle.specs.Causes.{GetCause, SetCause};
-ghost use Rattle.fm_handle.specs.Place.{place_of, writable_place_of};
+ghost use Rattle.fm_handle.specs.Place.{place_of, value_place, writable_place_of};
 
 use super::VarHandle;
 use fm_base::{Memory, Refusal};
@@ -33,6 +35,12 @@ impl VarHandle {
             (place_of base indices.now self.now s.now) result) }
         ensures refused { IfErr result
             (GetCause base indices.now self.now s.now (M.view m.old).caller) }
+        ensures alone { (M.view m.old).alone ≡ true → IfOk result
+            (FindsValue (M.view m.old) (M.view m.new) self.now.value s.now.arena
+            (value_place base indices.now self.now s.now)) }
+        ensures shut { (M.view m.old).alone ≡ true → OnErr result
+            (StaysOutOf (M.view m.old) (M.view m.new) s.now.arena
+            (place_of base indices.now self.now s.now)) }
         ensures outside { (M.view m.new).inside ≡ None }
         ensures lasts { Lasts (M.view m.old) (M.view m.new) }
         ensures known { IsKnown (M.view m.new) s.now }
@@ -65,6 +73,12 @@ impl VarHandle {
             (writable_place_of base indices.now self.now s.now) v result) }
         ensures refused { IfErr result
             (SetCause base indices.now self.now s.now (M.view m.old).caller) }
+        ensures alone { (M.view m.old).alone ≡ true → OnOk result
+            (PutsValue (M.view m.old) (M.view m.new) self.now.value s.now.arena
+            (value_place base indices.now self.now s.now) v) }
+        ensures shut { (M.view m.old).alone ≡ true → OnErr result
+            (StaysOutOf (M.view m.old) (M.view m.new) s.now.arena
+            (writable_place_of base indices.now self.now s.now)) }
         ensures outside { (M.view m.new).inside ≡ None }
         ensures lasts { Lasts (M.view m.old) (M.view m.new) }
         ensures known { IsKnown (M.view m.new) s.now }

@@ -1,11 +1,13 @@
-ghost use Rattle.std.specs.Prelude.{◌≡◌, length, None, IfErr, IfOk};
+ghost use Rattle.std.specs.Prelude.{◌≡◌, length, true, None, IfErr, IfOk, OnErr};
 ghost use Rattle.fm_base.specs.Outcomes.{Lasts};
 ghost use Rattle.fm_base.specs.View.{Did};
 ghost use Rattle.fm_lanes.specs.Value.{kind_of};
 ghost use Rattle.fm_segment.specs.Access.{IsKnown};
+ghost use Rattle.fm_segment.specs.Alone.{StaysOutOf};
 ghost use Rattle.fm_handle.specs.Access.{DoesCompareAndSet, DoesExchange, DoesAdd};
+ghost use Rattle.fm_handle.specs.Alone.{AddsValue, ExchangesValue, SetsExpected};
 ghost use Rattle.fm_handle.specs.Causes.{UpdateCause};
-ghost use Rattle.fm_handle.specs.Place.{can_update, update_place_of};
+ghost use Rattle.fm_handle.specs.Place.{can_update, update_place_of, value_place};
 
 use super::VarHandle;
 use crate::visits::{add_value, exchange_value};
@@ -41,6 +43,12 @@ impl VarHandle {
             (update_place_of can_update base indices.now self.now s.now) expected v result) }
         ensures refused { IfErr result
             (UpdateCause can_update base indices.now self.now s.now (M.view m.old).caller) }
+        ensures alone { (M.view m.old).alone ≡ true → IfOk result
+            (SetsExpected (M.view m.old) (M.view m.new) self.now.value s.now.arena
+            (value_place base indices.now self.now s.now) expected v) }
+        ensures shut { (M.view m.old).alone ≡ true → OnErr result
+            (StaysOutOf (M.view m.old) (M.view m.new) s.now.arena
+            (update_place_of can_update base indices.now self.now s.now)) }
         ensures outside { (M.view m.new).inside ≡ None }
         ensures lasts { Lasts (M.view m.old) (M.view m.new) }
         ensures known { IsKnown (M.view m.new) s.now }
@@ -73,6 +81,12 @@ impl VarHandle {
         ensures kind { IfOk result (λ found. kind_of found ≡ self.now.value.kind) }
         ensures refused { IfErr result
             (UpdateCause can_update base indices.now self.now s.now (M.view m.old).caller) }
+        ensures alone { (M.view m.old).alone ≡ true → IfOk result
+            (ExchangesValue (M.view m.old) (M.view m.new) self.now.value s.now.arena
+            (value_place base indices.now self.now s.now) expected v) }
+        ensures shut { (M.view m.old).alone ≡ true → OnErr result
+            (StaysOutOf (M.view m.old) (M.view m.new) s.now.arena
+            (update_place_of can_update base indices.now self.now s.now)) }
         ensures outside { (M.view m.new).inside ≡ None }
         ensures lasts { Lasts (M.view m.old) (M.view m.new) }
         ensures known { IsKnown (M.view m.new) s.now }
@@ -104,6 +118,12 @@ impl VarHandle {
             (update_place_of can_update base indices.now self.now s.now) delta result) }
         ensures refused { IfErr result
             (UpdateCause can_update base indices.now self.now s.now (M.view m.old).caller) }
+        ensures alone { (M.view m.old).alone ≡ true → IfOk result
+            (AddsValue (M.view m.old) (M.view m.new) self.now.value s.now.arena
+            (value_place base indices.now self.now s.now) delta) }
+        ensures shut { (M.view m.old).alone ≡ true → OnErr result
+            (StaysOutOf (M.view m.old) (M.view m.new) s.now.arena
+            (update_place_of can_update base indices.now self.now s.now)) }
         ensures outside { (M.view m.new).inside ≡ None }
         ensures lasts { Lasts (M.view m.old) (M.view m.new) }
         ensures known { IsKnown (M.view m.new) s.now }

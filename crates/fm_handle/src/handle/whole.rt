@@ -1,10 +1,13 @@
-ghost use Rattle.std.specs.Prelude.{◌≡◌, length, None, IfErr};
+ghost use Rattle.std.specs.Prelude.{◌≡◌, length, true, None, IfErr, OnOk, OnErr};
 ghost use Rattle.fm_base.specs.Outcomes.{Lasts};
 ghost use Rattle.fm_base.specs.View.{Did};
+ghost use Rattle.fm_lanes.specs.declared.value.Value.TheVariants.{Long};
 ghost use Rattle.fm_segment.specs.Access.{IsKnown};
+ghost use Rattle.fm_segment.specs.Alone.{StaysOutOf};
 ghost use Rattle.fm_handle.specs.Access.{DoesSetLong, DoesExchangeLong, DoesAddLong};
+ghost use Rattle.fm_handle.specs.Alone.{PutsValue};
 ghost use Rattle.fm_handle.specs.Causes.{UpdateCause};
-ghost use Rattle.fm_handle.specs.Place.{fills_word, is_word, update_place_of};
+ghost use Rattle.fm_handle.specs.Place.{fills_word, is_word, update_place_of, value_place};
 
 use super::VarHandle;
 use crate::visits::{add_at, store_at, swap_at};
@@ -34,6 +37,12 @@ impl VarHandle {
             (update_place_of fills_word base indices.now self.now s.now) v result) }
         ensures refused { IfErr result
             (UpdateCause fills_word base indices.now self.now s.now (M.view m.old).caller) }
+        ensures alone { (M.view m.old).alone ≡ true → OnOk result
+            (PutsValue (M.view m.old) (M.view m.new) self.now.value s.now.arena
+            (value_place base indices.now self.now s.now) (Long v)) }
+        ensures shut { (M.view m.old).alone ≡ true → OnErr result
+            (StaysOutOf (M.view m.old) (M.view m.new) s.now.arena
+            (update_place_of fills_word base indices.now self.now s.now)) }
         ensures outside { (M.view m.new).inside ≡ None }
         ensures lasts { Lasts (M.view m.old) (M.view m.new) }
         ensures known { IsKnown (M.view m.new) s.now }

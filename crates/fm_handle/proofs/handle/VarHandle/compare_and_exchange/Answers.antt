@@ -4,10 +4,11 @@ use Rattle.fm_lanes.specs.declared.value_kind.ValueKind.{ValueKind}
 use Rattle.fm_lanes.specs.Kind.{width_of}
 use Rattle.fm_handle.specs.Access.{DoesVisit}
 use Rattle.fm_handle.specs.Acts.{Exchanges}
-use Rattle.fm_handle.specs.Place.{can_update, if_supported, update_place_of, writable_place_of}
+use Rattle.fm_handle.specs.Place.{can_update, if_supported, update_place_of, value_place, writable_place_of}
 use Rattle.fm_handle.proofs.Causes.{update_cause}
 use Rattle.fm_handle.proofs.Places.{in_one_word}
 use Rattle.fm_handle.proofs.Visiting.{refused_before, supported}
+use Rattle.fm_handle.proofs.Updating.{exchange_alone, fits_at, update_place_is, update_stays_out}
 use Rattle.fm_handle.proofs.handle.VarHandle.compare_and_exchange.Goals as goal
 
 pub returns-in_err-place-clause-did : goal.returns-in_err-place-clause-did
@@ -40,3 +41,30 @@ exchange_value-requires-clause-within g c =
     let yes = supported c.can_update.result _ place (sym c.update_place_of.ensures.place ∙ c.in_ok-place.was) in
     let within = in_one_word c.args.self.now c.args.s.now place c.in_ok-place.ensures.stands (sym c.can_update.ensures ∙ yes) in
     subst (λ (k : ValueKind). place % 8 + width_of k ≤ 8) (sym c.requires.value) within
+
+pub returns-in_err-place-clause-alone : goal.returns-in_err-place-clause-alone
+returns-in_err-place-clause-alone g c =
+    let p = err_from_is_err_and c.from_residual.result c.from_residual.ensures.1 in
+    rw p.1 (λ alone. tt)
+
+pub returns-in_err-place-clause-shut : goal.returns-in_err-place-clause-shut
+returns-in_err-place-clause-shut g c =
+    let v = g.M.Memory.view in
+    update_stays_out (v c.args.m.now) (v c.args.m.now) c.args.s.now.arena (update_place_of can_update c.args.base c.args.indices.now c.args.self.now c.args.s.now) (λ place. Exchanges c.args.self.now.value.order c.args.s.now.arena place c.args.expected c.args.v) c.from_residual.result (returns-in_err-place-clause-did g c)
+
+pub returns-clause-alone : goal.returns-clause-alone
+returns-clause-alone g c =
+    let v = g.M.Memory.view in
+    let is = c.args.indices.now in
+    let h = c.args.self.now in
+    let r = c.args.s.now in
+    let len = c.requires.indices in
+    let found = update_place_of can_update c.args.base is h r in
+    let at = ap (λ b. if_supported b (writable_place_of c.args.base is h r)) (sym c.can_update.ensures) ∙ sym c.update_place_of.ensures.place ∙ c.in_ok-place.was in
+    exchange_alone (v c.args.m.now) (v c.exchange_value.new.m) h.value r.arena (value_place c.args.base is h r) found c.args.expected c.args.v c.exchange_value.result (update_place_is c.args.base is h r len can_update)
+    c.requires.value (fits_at c.args.base is h r len c.in_ok-place.place at c.in_ok-place.ensures.stands) (returns-clause-did g c)
+
+pub returns-clause-shut : goal.returns-clause-shut
+returns-clause-shut g c =
+    let v = g.M.Memory.view in
+    update_stays_out (v c.args.m.now) (v c.exchange_value.new.m) c.args.s.now.arena (update_place_of can_update c.args.base c.args.indices.now c.args.self.now c.args.s.now) (λ place. Exchanges c.args.self.now.value.order c.args.s.now.arena place c.args.expected c.args.v) c.exchange_value.result (returns-clause-did g c)

@@ -4,6 +4,8 @@ use Rattle.fm_segment.specs.Access.{DoesGetValue}
 use Rattle.fm_handle.specs.Place.{place_of}
 use Rattle.fm_handle.proofs.Causes.{get_cause}
 use Rattle.fm_handle.proofs.Visiting.{refused_before}
+use Rattle.fm_handle.specs.Place.{value_place}
+use Rattle.fm_handle.proofs.Alone.{get_alone, get_stays_out, place_is}
 use Rattle.fm_handle.proofs.handle.VarHandle.get.Goals as goal
 
 pub returns-in_err-place-clause-did : goal.returns-in_err-place-clause-did
@@ -25,3 +27,29 @@ pub returns-clause-refused : goal.returns-clause-refused
 returns-clause-refused g c =
     let v = g.M.Memory.view in
     get_cause (v c.args.m.now) (v c.get_value.new.m) c.args.base c.args.indices.now c.args.self.now c.args.s.now c.get_value.result c.requires.indices (returns-clause-did g c)
+
+pub returns-in_err-place-clause-alone : goal.returns-in_err-place-clause-alone
+returns-in_err-place-clause-alone g c =
+    let v = g.M.Memory.view in
+    let h = c.args.self.now in
+    let r = c.args.s.now in
+    let place = value_place c.args.base c.args.indices.now h r in
+    get_alone (v c.args.m.now) (v c.args.m.now) h r place _ c.from_residual.result (place_is c.args.base c.args.indices.now h r c.requires.indices) (returns-in_err-place-clause-did g c)
+
+pub returns-in_err-place-clause-shut : goal.returns-in_err-place-clause-shut
+returns-in_err-place-clause-shut g c =
+    let v = g.M.Memory.view in
+    get_stays_out (v c.args.m.now) (v c.args.m.now) c.args.self.now c.args.s.now _ c.from_residual.result (returns-in_err-place-clause-did g c)
+
+pub returns-clause-alone : goal.returns-clause-alone
+returns-clause-alone g c =
+    let v = g.M.Memory.view in
+    let h = c.args.self.now in
+    let r = c.args.s.now in
+    let place = value_place c.args.base c.args.indices.now h r in
+    get_alone (v c.args.m.now) (v c.get_value.new.m) h r place _ c.get_value.result (place_is c.args.base c.args.indices.now h r c.requires.indices) (returns-clause-did g c)
+
+pub returns-clause-shut : goal.returns-clause-shut
+returns-clause-shut g c =
+    let v = g.M.Memory.view in
+    get_stays_out (v c.args.m.now) (v c.get_value.new.m) c.args.self.now c.args.s.now _ c.get_value.result (returns-clause-did g c)

@@ -1,0 +1,50 @@
+-- What the only caller of a memory sees of a handle's calls.
+use Rattle.std.specs.Prelude.{◌≡◌, ◌≢◌, ℕ, ◌+◌, ◌≤◌, Bool, true, false, length, take, drop}
+use Rattle.fm_base.specs.declared.arena_id.ArenaId.{ArenaId}
+use Rattle.fm_base.specs.Arenas.{State}
+use Rattle.fm_base.specs.View.{View}
+use Rattle.fm_lanes.specs.declared.value.Value.{Value}
+use Rattle.fm_lanes.specs.Coding.{value_of, bytes_of_value}
+use Rattle.fm_lanes.specs.Kind.{width_of}
+use Rattle.fm_path.specs.declared.value_spec.ValueSpec.{ValueSpec}
+use Rattle.fm_pieces.specs.Alone.{bytes_of_arena, ChangesBytes}
+use Rattle.fm_handle.specs.Acts.{sum_of}
+
+-- the value that the arena's bytes from the place on mean
+abbrev pub value_at : State → ValueSpec → ArenaId → ℕ → Value
+value_at s v id place = value_of v.kind v.order (take (width_of v.kind) (drop place (bytes_of_arena s id)))
+
+-- found is the value at the place, and the state stays
+pub record FindsValue (old new : View) (spec : ValueSpec) (id : ArenaId) (place : ℕ) (found : Value) : Type 0 where
+  pub value : found ≡ value_at old.state spec id place
+  pub same : new.state ≡ old.state
+
+-- The bytes from the place on are those of v, and the arena has room for them; all other bytes stay, and all else
+-- of the state
+pub record PutsValue (old new : View) (spec : ValueSpec) (id : ArenaId) (place : ℕ) (v : Value) : Type 0 where
+  pub bytes : ChangesBytes old new id place (bytes_of_value spec.order v)
+  pub within : place + width_of spec.kind ≤ length (bytes_of_arena old.state id)
+
+-- found is the value at the place. Where it is the one expected, v is put, else the state stays
+pub record ExchangesValue (old new : View) (spec : ValueSpec) (id : ArenaId) (place : ℕ) (expected v found : Value) : Type 0 where
+  pub value : found ≡ value_at old.state spec id place
+  pub puts : found ≡ expected → PutsValue old new spec id place v
+  pub stays : found ≢ expected → new.state ≡ old.state
+
+-- true: the value at the place is the one expected, and v is put. false: it is another, and the state stays
+abbrev pub SetsExpected : View → View → ValueSpec → ArenaId → ℕ → Value → Value → Bool → Type 0
+SetsExpected old new spec id place expected v true =
+    (expected ≡ value_at old.state spec id place) × PutsValue old new spec id place v
+SetsExpected old new spec id place expected v false =
+    (expected ≢ value_at old.state spec id place) × (new.state ≡ old.state)
+
+-- found is the value at the place, and its sum with delta is put
+pub record AddsValue (old new : View) (spec : ValueSpec) (id : ArenaId) (place : ℕ) (delta found : Value) : Type 0 where
+  pub value : found ≡ value_at old.state spec id place
+  pub puts : PutsValue old new spec id place (sum_of found delta)
+
+-- where v was set, and the value is got next, it is v
+abbrev pub SetsThenGets : ValueSpec → ArenaId → ℕ → Value → Type 0
+SetsThenGets spec id place v =
+    (old between new : View) (got : Value) → PutsValue old between spec id place v
+    → FindsValue between new spec id place got → got ≡ v
