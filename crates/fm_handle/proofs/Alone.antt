@@ -24,7 +24,8 @@ use Rattle.fm_segment.proofs.Alone.{AreBytes-value, length-value, means_itself}
 use Rattle.fm_handle.specs.Access.{DoesGet, DoesSet}
 use Rattle.fm_handle.specs.Alone.{FindsValue, PutsValue, SetsThenGets}
 use Rattle.fm_handle.specs.Place.{if_rooted, if_writable, place_of, writable_place_of, value_place}
-use Rattle.fm_handle.proofs.Causes.{tested, never}
+use Rattle.fm_segment.proofs.Causes.{never}
+use Rattle.fm_handle.proofs.Causes.{tested}
 use Rattle.fm_handle.proofs.Places.{rooted_is}
 
 -- ---- where the value stands

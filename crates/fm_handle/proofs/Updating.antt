@@ -40,7 +40,7 @@ use Rattle.fm_handle.specs.Acts.{CutOff, looked, missed, at_read, at_swap, Excha
 use Rattle.fm_handle.specs.Alone.{value_at, PutsValue, ExchangesValue, SetsExpected, AddsValue}
 use Rattle.fm_handle.specs.Place.{if_supported, update_place_of, value_place, can_update, fills_word, writable_place_of, ValueStands}
 use Rattle.fm_handle.proofs.Alone.{IsPlace, writable_place_is}
-use Rattle.fm_handle.proofs.Causes.{never}
+use Rattle.fm_segment.proofs.Causes.{never}
 use Rattle.fm_handle.proofs.Places.{in_one_word, whole_word}
 use Rattle.fm_handle.proofs.Visiting.{supported}
 
