@@ -1,6 +1,7 @@
 pub mod Alone
 pub mod Causes
 pub mod Places
+pub mod Longs
 pub mod Looking
 pub mod Touched
 pub mod Updating

@@ -104,7 +104,8 @@ module _ (base : ℕ) (is : List ℕ) (h : Resolution) (r : Region) where
 
 -- ---- in one word
 
-both_true : (a b : Bool) → (a && b) ≡ true → (a ≡ true) × (b ≡ true)
+-- Both of two tests.
+pub both_true : (a b : Bool) → (a && b) ≡ true → (a ≡ true) × (b ≡ true)
 both_true true true h = (refl, refl)
 both_true true false h = absurd (let no : ⊥ = cc in no)
 both_true false b h = absurd (let no : ⊥ = cc in no)

@@ -19,6 +19,7 @@ use Rattle.fm_bytes.specs.Words.{bytes_in}
 use Rattle.fm_bytes.proofs.Bytes.{bytes_of-lane, bytes_of-number_of, number_of-lt}
 use Rattle.fm_bytes.proofs.Words.{length-bytes_in}
 use Rattle.fm_lanes.specs.declared.order.Order.{Order}
+use Rattle.fm_lanes.specs.declared.order.Order.TheVariants.{Little, Big}
 use Rattle.fm_lanes.specs.declared.value.Value.{Value}
 use Rattle.fm_lanes.specs.declared.value.Value.TheVariants.{Int, Long}
 use Rattle.fm_lanes.specs.declared.value_kind.ValueKind.{ValueKind}
@@ -38,10 +39,10 @@ use Rattle.fm_segment.proofs.Alone.{AreBytes-value, length-value}
 use Rattle.fm_handle.specs.Access.{DoesAt, DoesVisit}
 use Rattle.fm_handle.specs.Acts.{CutOff, looked, missed, at_read, at_swap, Exchanges, puts, finds_another, Adds, Stores, value_in, with_value, word_of, sum_of}
 use Rattle.fm_handle.specs.Alone.{value_at, PutsValue, ExchangesValue, SetsExpected, AddsValue}
-use Rattle.fm_handle.specs.Place.{if_supported, update_place_of, value_place, can_update, fills_word, writable_place_of, ValueStands}
+use Rattle.fm_handle.specs.Place.{if_supported, update_place_of, value_place, can_update, fills_word, writable_place_of, ValueStands, is_word, is_little}
 use Rattle.fm_handle.proofs.Alone.{IsPlace, writable_place_is}
 use Rattle.fm_segment.proofs.Causes.{never}
-use Rattle.fm_handle.proofs.Places.{in_one_word, whole_word}
+use Rattle.fm_handle.proofs.Places.{both_true, in_one_word, whole_word}
 use Rattle.fm_handle.proofs.Visiting.{supported}
 
 -- ---- where the value stands
@@ -49,6 +50,10 @@ use Rattle.fm_handle.proofs.Visiting.{supported}
 when_supported : (b : Bool) (found : Result ℕ Refusal) (p : ℕ) → if_supported b found ≡ Ok p → found ≡ Ok p
 when_supported true found p h = h
 when_supported false found p h = never p Unsupported (sym h)
+
+little_is : (o : Order) → is_little o ≡ true → o ≡ Little
+little_is Little e = refl
+little_is Big e = absurd (let no : ⊥ = cc in no)
 
 -- a long fills the word at the place
 pub record LongAt (spec : ValueSpec) (place : ℕ) : Type 0 where
@@ -74,6 +79,15 @@ module _ (base : ℕ) (is : List ℕ) (h : Resolution) (r : Region) (len : lengt
       let w = whole_word h r p stands yes in
       let fits : p % 8 + 8 ≤ 8 = (let a = w.aligned in omega arith) in
       record { kind = w.kind; fits = subst (λ (n : ℕ). n % 8 + 8 ≤ 8) (update_place_is fills_word p e) fits }
+
+  -- A value that is a word fills one, in the word's order.
+  pub word_at : (p : ℕ) → update_place_of is_word base is h r ≡ Ok p → ValueStands h r p → LongAt h.value (value_place base is h r) × (h.value.order ≡ Little)
+  word_at p e stands =
+      let yes = supported (is_word h.value) (writable_place_of base is h r) p e in
+      let both = both_true (fills_word h.value) (is_little h.value.order) yes in
+      let w = whole_word h r p stands both.0 in
+      let fits : p % 8 + 8 ≤ 8 = (let a = w.aligned in omega arith) in
+      (record { kind = w.kind; fits = subst (λ (n : ℕ). n % 8 + 8 ≤ 8) (update_place_is is_word p e) fits }, little_is h.value.order both.1)
 
 -- ---- refusals
 
@@ -102,23 +116,28 @@ pub record Visited (old now : View) (id : ArenaId) (AreSo : Acts → Type 0) : T
   pub legal : IsLegal old.limit old.state (visit old.caller id acts)
   pub after : now.state ≡ state_after old.limit old.state (visit old.caller id acts)
 
-visited : {X : Type 0} (old now : View) (id : ArenaId) (found : Result ℕ Refusal) (place : ℕ) (Give : ℕ → X → Acts → Type 0) (x : X) → IsPlace found place → old.alone ≡ true
-    → Did old now (DoesAt found (λ p. DoesVisit old.caller id (Give p)) (Ok x)) → Visited old now id (Give place x)
-visited old now id (Err e) place Give x is alone d = absurd (let e : Ok x ≡ Err e = d.does.0 in let no : ⊥ = cc in no)
-visited old now id (Ok p) place Give x is alone d =
+pub visit_alone : {X : Type 0} (old now : View) (id : ArenaId) (Give : X → Acts → Type 0) (x : X) → old.alone ≡ true → Did old now (DoesVisit old.caller id Give (Ok x)) → Visited old now id (Give x)
+visit_alone old now id Give x alone d =
     let m = Makes-alone old now d.own alone d.makes in
     let one = d.does.1 in
     record {
       acts = one.acts;
-      are = subst (λ (n : ℕ). Give n x one.acts) (is p refl) one.are;
+      are = one.are;
       legal = subst (λ (es : List Entry). IsLegal old.limit old.state es) one.visits m.0;
       after = m.1 ∙ ap (λ (es : List Entry). state_after old.limit old.state es) one.visits;
     }
 
+visited : {X : Type 0} (old now : View) (id : ArenaId) (found : Result ℕ Refusal) (place : ℕ) (Give : ℕ → X → Acts → Type 0) (x : X) → IsPlace found place → old.alone ≡ true
+    → Did old now (DoesAt found (λ p. DoesVisit old.caller id (Give p)) (Ok x)) → Visited old now id (Give place x)
+visited old now id (Err e) place Give x is alone d = absurd (let e : Ok x ≡ Err e = d.does.0 in let no : ⊥ = cc in no)
+visited old now id (Ok p) place Give x is alone d =
+    let v = visit_alone old now id (Give p) x alone d in
+    record { acts = v.acts; are = subst (λ (n : ℕ). Give n x v.acts) (is p refl) v.are; legal = v.legal; after = v.after }
+
 -- ---- the value in the word
 
 -- A word means the value that the arena's bytes mean.
-value_there : (s : State) (c : ℕ) (id : ArenaId) (place : ℕ) (k : ValueKind) (o : Order) (word : ℕ) → has_arena s id ≡ true
+pub value_there : (s : State) (c : ℕ) (id : ArenaId) (place : ℕ) (k : ValueKind) (o : Order) (word : ℕ) → has_arena s id ≡ true
     → place / 8 < length (arena_of (changed s id (entered c)) id).words → place % 8 + width_of k ≤ 8 → word ≡ word_in (changed s id (entered c)) id (place / 8)
     → value_in k o (place % 8) word ≡ value_of k o (take (width_of k) (drop place (bytes_of_arena s id)))
 value_there s c id place k o word known within fits is =
@@ -135,7 +154,7 @@ small_value o v =
     subst (λ (n : ℕ). number_of (bytes_of_value o v) < 2 ^ (8 * n)) (length-value o v) (number_of-lt bytes (AreBytes-value o v))
 
 -- A visit that puts a value's number puts the value.
-puts_value : (old now : View) (spec : ValueSpec) (id : ArenaId) (place : ℕ) (v : Value) → kind_of v ≡ spec.kind → place % 8 + width_of spec.kind ≤ 8
+pub puts_value : (old now : View) (spec : ValueSpec) (id : ArenaId) (place : ℕ) (v : Value) → kind_of v ≡ spec.kind → place % 8 + width_of spec.kind ≤ 8
     → VisitPuts old.state now.state id place (width_of (kind_of v)) (number_of (bytes_of_value spec.order v)) → PutsValue old now spec id place v
 puts_value old now spec id place v kind fits put =
     let bytes = bytes_of_value spec.order v in

@@ -1,16 +1,20 @@
 -- Values in words, from the code's bits.
-use Rattle.std.proofs.Common.{◌≡◌, ◌≢◌, ◌==◌, Bool, true, false, MatchBool, ℕ, ◌+◌, ◌-◌, ◌*◌, ◌%◌, ◌^◌, ◌<◌, ◌≤◌, bit_and, bit_or, sym, ap, subst, ◌∙◌, arith}
+use Rattle.std.proofs.Common.{◌≡◌, ◌≢◌, ◌==◌, Bool, true, false, MatchBool, ℕ, ◌+◌, ◌-◌, ◌*◌, ◌%◌, ◌^◌, ◌<◌, ◌≤◌, bit_and, bit_or, length, take, drop, sym, ap, subst, ◌∙◌, arith}
 use Rattle.std.proofs.lemmas.Bool.{eqb-true, eqb-false}
-use Rattle.fm_bytes.specs.Bytes.{number_of, lane, replaced}
+use Rattle.std.proofs.lemmas.List.{take_all}
+use Rattle.fm_bytes.specs.Bytes.{bytes_of, number_of, lane, replaced}
+use Rattle.fm_bytes.proofs.Bytes.{bytes_of-number_of, length-bytes_of}
 use Rattle.fm_lanes.specs.declared.order.Order.{Order}
 use Rattle.fm_lanes.specs.declared.value.Value.{Value}
 use Rattle.fm_lanes.specs.declared.value_kind.ValueKind.{ValueKind}
-use Rattle.fm_lanes.specs.Coding.{decoded, encoded, turned, bytes_of_value}
+use Rattle.fm_lanes.specs.declared.value_kind.ValueKind.TheVariants as kind
+use Rattle.fm_lanes.specs.Coding.{decoded, encoded, turned, value_of, bytes_of_value}
 use Rattle.fm_lanes.specs.Kind.{width_of}
 use Rattle.fm_lanes.specs.Value.{kind_of}
 use Rattle.fm_lanes.proofs.Masks.{replaced-mask}
 use Rattle.fm_lanes.proofs.Meaning.{value_of-lane}
 use Rattle.fm_lanes.proofs.Turning.{turned_number, turned-lt_width}
+use Rattle.fm_segment.proofs.Alone.{AreBytes-value, length-value, means_itself}
 use Rattle.fm_handle.specs.Acts.{value_in, with_value}
 
 -- A lane that is turned and decoded.
@@ -69,3 +73,14 @@ when_not false P Q m e = m
 pub when : (b : Bool) (P Q : Type 0) → MatchBool b P Q → b ≡ true → P
 when true P Q m e = m
 when false P Q m e = absurd (let no : ⊥ = cc in no)
+
+-- The word of a long means it.
+pub word_means : (o : Order) (v : Value) → kind.Long ≡ kind_of v → encoded v < 2 ^ (8 * width_of (kind_of v)) → decoded (kind_of v) (encoded v) ≡ v
+    → value_in kind.Long o 0 (number_of (bytes_of_value o v)) ≡ v
+word_means o v long small back =
+    let bytes = bytes_of_value o v in
+    let n = number_of (bytes_of_value o v) in
+    let count : length (bytes_of_value o v) ≡ 8 = length-value o v ∙ ap width_of (sym long) in
+    let again : bytes_of 8 (number_of (bytes_of_value o v)) ≡ bytes_of_value o v = ap (λ k. bytes_of k n) (sym count) ∙ bytes_of-number_of bytes (AreBytes-value o v) in
+    let all : take 8 (drop 0 (bytes_of 8 n)) ≡ bytes_of 8 n = take_all 8 (bytes_of 8 n) (omega (arith, length-bytes_of 8 n)) in
+    ap (value_of kind.Long o) (all ∙ again) ∙ means_itself kind.Long o v long small back

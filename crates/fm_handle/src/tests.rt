@@ -308,3 +308,57 @@ fn calls_are_refused_in_order(rt: HostRuntime) -> Result<(), Fail> {
     assert_eq!(rt; long.get(&mut m, &kept, 0, &[0]), Err(Refusal::Closed));
     Ok(())
 }
+
+#[test]
+fn a_byte_of_a_union_is_read_as_a_long(rt: HostRuntime) -> Result<(), Fail> {
+    let mut m = Mono::make(rt.alloc(), 64);
+    let s = fresh(&rt, &mut m, 8);
+    let mut either = Vec::new(rt.alloc());
+    either.push(Layout::value(ValueKind::Byte).with_name(rt.alloc(), "low")?)?;
+    either.push(Layout::value(ValueKind::Long).with_name(rt.alloc(), "one")?)?;
+    let layout = Layout::union_of(either);
+    let low = handle(rt.alloc(), &layout, ".low")?;
+    let one = handle(rt.alloc(), &layout, ".one")?;
+    let b = Value::Byte(127);
+    takes(&rt, &low, &[]);
+    holds(&rt, &low, b);
+    takes(&rt, &one, &[]);
+    assert_eq!(rt; low.set(&rt, &mut m, &s, 0, &[], b), Ok(()));
+    assert_eq!(rt; one.get(&mut m, &s, 0, &[]), Ok(Value::Long(127)));
+    Ok(())
+}
+
+#[test]
+fn gets_are_refused_by_their_root(rt: HostRuntime) -> Result<(), Fail> {
+    let mut m = Mono::make(rt.alloc(), 64);
+    let s = fresh(&rt, &mut m, 8);
+    let long = value(rt.alloc(), ValueKind::Long, Order::Little)?;
+    let int = value(rt.alloc(), ValueKind::Int, Order::Little)?;
+    let count = handle(rt.alloc(), &accounts(rt.alloc())?, ".count")?;
+    takes(&rt, &long, &[]);
+    takes(&rt, &int, &[]);
+    takes(&rt, &count, &[]);
+    assert_eq!(rt; long.get(&mut m, &s, 0, &[]), Ok(Value::Long(0)));
+    assert_eq!(rt; long.get(&mut m, &s, 1, &[]), Err(Refusal::Bounds));
+    assert_eq!(rt; int.get(&mut m, &s, 1, &[]), Err(Refusal::Misaligned));
+    assert_eq!(rt; count.get(&mut m, &s, 0, &[]), Err(Refusal::Bounds));
+    Ok(())
+}
+
+#[test]
+fn a_short_is_not_added_to(rt: HostRuntime) -> Result<(), Fail> {
+    let mut m = Mono::make(rt.alloc(), 64);
+    let s = fresh(&rt, &mut m, 8);
+    let short = value(rt.alloc(), ValueKind::Short, Order::Little)?;
+    let one = Value::Short(1);
+    takes(&rt, &short, &[]);
+    holds(&rt, &short, one);
+    let added = short.get_and_add(&rt, &mut m, &s, 0, &[], one);
+    assert_eq!(rt; added, Err(Refusal::Unsupported));
+    let long = value(rt.alloc(), ValueKind::Long, Order::Little)?;
+    takes(&rt, &long, &[]);
+    let put = long.set_long(&mut m, &s.as_read_only(), 0, &[], 1);
+    assert_eq!(rt; put, Err(Refusal::ReadOnly));
+    assert_eq!(rt; s.as_slice(5, 4).err(), Some(Refusal::Bounds));
+    Ok(())
+}

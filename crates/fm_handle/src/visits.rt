@@ -1,4 +1,4 @@
-ghost use Rattle.std.specs.Prelude.{◌≡◌, ◌+◌, ◌%◌, ◌<◌, ◌≤◌, true, None, IfOk};
+ghost use Rattle.std.specs.Prelude.{◌≡◌, ◌+◌, ◌%◌, ◌^◌, ◌<◌, ◌≤◌, true, None, IfOk};
 ghost use Rattle.fm_base.specs.Arenas.{has_arena};
 ghost use Rattle.fm_base.specs.Outcomes.{Lasts};
 ghost use Rattle.fm_base.specs.View.{Did, given_in};
@@ -48,6 +48,7 @@ pub(crate) fn swap_at<M: Memory>(
     requires given { place < given_in (M.view m.old) arena }
     ensures did { Did (M.view m.old) (M.view m.new)
         (DoesVisit (M.view m.old).caller arena (Swaps arena place old new) result) }
+    ensures word { IfOk result (λ found. found < 2 ^ 64) }
     ensures outside { (M.view m.new).inside ≡ None }
     ensures lasts { Lasts (M.view m.old) (M.view m.new) }
 {

@@ -1,11 +1,11 @@
-ghost use Rattle.std.specs.Prelude.{◌≡◌, length, true, None, IfErr, OnOk, OnErr};
+ghost use Rattle.std.specs.Prelude.{◌≡◌, length, true, None, IfErr, IfOk, OnOk, OnErr};
 ghost use Rattle.fm_base.specs.Outcomes.{Lasts};
 ghost use Rattle.fm_base.specs.View.{Did};
 ghost use Rattle.fm_lanes.specs.declared.value.Value.TheVariants.{Long};
 ghost use Rattle.fm_segment.specs.Access.{IsKnown};
 ghost use Rattle.fm_segment.specs.Alone.{StaysOutOf};
 ghost use Rattle.fm_handle.specs.Access.{DoesSetLong, DoesExchangeLong, DoesAddLong};
-ghost use Rattle.fm_handle.specs.Alone.{PutsValue};
+ghost use Rattle.fm_handle.specs.Alone.{AddsValue, ExchangesValue, PutsValue};
 ghost use Rattle.fm_handle.specs.Causes.{UpdateCause};
 ghost use Rattle.fm_handle.specs.Place.{fills_word, is_word, update_place_of, value_place};
 
@@ -72,6 +72,12 @@ impl VarHandle {
             (update_place_of fills_word base indices.now self.now s.now) expected v result) }
         ensures refused { IfErr result
             (UpdateCause fills_word base indices.now self.now s.now (M.view m.old).caller) }
+        ensures alone { (M.view m.old).alone ≡ true → IfOk result (λ found.
+            ExchangesValue (M.view m.old) (M.view m.new) self.now.value s.now.arena
+            (value_place base indices.now self.now s.now) (Long expected) (Long v) (Long found)) }
+        ensures shut { (M.view m.old).alone ≡ true → OnErr result
+            (StaysOutOf (M.view m.old) (M.view m.new) s.now.arena
+            (update_place_of fills_word base indices.now self.now s.now)) }
         ensures outside { (M.view m.new).inside ≡ None }
         ensures lasts { Lasts (M.view m.old) (M.view m.new) }
         ensures known { IsKnown (M.view m.new) s.now }
@@ -109,6 +115,12 @@ impl VarHandle {
             (update_place_of is_word base indices.now self.now s.now) delta result) }
         ensures refused { IfErr result
             (UpdateCause is_word base indices.now self.now s.now (M.view m.old).caller) }
+        ensures alone { (M.view m.old).alone ≡ true → IfOk result (λ found.
+            AddsValue (M.view m.old) (M.view m.new) self.now.value s.now.arena
+            (value_place base indices.now self.now s.now) (Long delta) (Long found)) }
+        ensures shut { (M.view m.old).alone ≡ true → OnErr result
+            (StaysOutOf (M.view m.old) (M.view m.new) s.now.arena
+            (update_place_of is_word base indices.now self.now s.now)) }
         ensures outside { (M.view m.new).inside ≡ None }
         ensures lasts { Lasts (M.view m.old) (M.view m.new) }
         ensures known { IsKnown (M.view m.new) s.now }

@@ -1,0 +1,194 @@
+-- What a handle's exchanges of and additions to whole words do, where the caller is the only one.
+use Rattle.std.proofs.Common.{◌≡◌, ℕ, ℤ, ◌+◌, ◌*◌, ◌/◌, ◌%◌, ◌^◌, ◌<◌, ◌≤◌, ◌==◌, true, if◌then◌else◌, List, [], ◌∷◌, length, take, drop, Ok, refl, sym, ap, subst, ◌∙◌, arith}
+use Rattle.std.specs.Int.{w64, cast_unsigned}
+use Rattle.std.proofs.lemmas.Bool.Decides.{nat_tests}
+use Rattle.std.proofs.lemmas.List.{length-reverse, take_all}
+use Rattle.fm_base.specs.declared.arena_id.ArenaId.{ArenaId}
+use Rattle.fm_base.specs.Arenas.{State, arena_of, has_arena, changed, word_in}
+use Rattle.fm_base.specs.Calls.{SwapIf, Add, Leave, Fine, Found, entry_of}
+use Rattle.fm_base.specs.Histories.{IsLegal, state_after}
+use Rattle.fm_base.specs.Machine.{entered, written}
+use Rattle.fm_base.specs.View.{View, Did}
+use Rattle.fm_base.specs.Visits.{Acts, entries_of, visit}
+use Rattle.fm_base.proofs.Making.{IsLegal-split}
+use Rattle.fm_base.proofs.Placing.{there_by_way}
+use Rattle.fm_bytes.specs.Bytes.{AreBytes, bytes_of, number_of}
+use Rattle.fm_bytes.specs.Signed.{unsigned_of}
+use Rattle.fm_bytes.proofs.Bytes.{AreBytes-bytes_of, length-bytes_of, number_of-lt, number_of-bytes_of, number_of-bytes_of_mod, bytes_of-number_of}
+use Rattle.fm_bytes.proofs.Signed.{unsigned_of-signed_of, unsigned_of-eight}
+use Rattle.fm_lanes.specs.declared.order.Order.{Order}
+use Rattle.fm_lanes.specs.declared.order.Order.TheVariants.{Little, Big}
+use Rattle.fm_lanes.specs.declared.value.Value.{Value}
+use Rattle.fm_lanes.specs.declared.value.Value.TheVariants.{Long}
+use Rattle.fm_lanes.specs.declared.value_kind.ValueKind.{ValueKind}
+use Rattle.fm_lanes.specs.declared.value_kind.ValueKind.TheVariants as kind
+use Rattle.fm_lanes.specs.Coding.{encoded, lowest_first, value_of, bytes_of_value}
+use Rattle.fm_lanes.specs.Kind.{width_of}
+use Rattle.fm_lanes.proofs.Turning.{AreBytes-reverse}
+use Rattle.fm_path.specs.declared.value_spec.ValueSpec.{ValueSpec}
+use Rattle.fm_pieces.proofs.Visits.{VisitPuts, ActsPut, acts_visit, visit_stays, whole_word, not_same}
+use Rattle.fm_segment.proofs.Alone.{lowest_twice}
+use Rattle.fm_handle.specs.Access.{DoesVisit}
+use Rattle.fm_handle.specs.Acts.{Swaps, AddsTo, value_in, word_of, sum_of}
+use Rattle.fm_handle.specs.Alone.{value_at, ExchangesValue, AddsValue}
+use Rattle.fm_handle.proofs.Updating.{LongAt, visit_alone, value_there, puts_value}
+
+-- A long lies in one word.
+kind_fits : (spec : ValueSpec) (place : ℕ) → LongAt spec place → place % 8 + width_of spec.kind ≤ 8
+kind_fits spec place long = subst (λ (k : ValueKind). place % 8 + width_of k ≤ 8) (sym long.kind) long.fits
+
+-- ---- longs and their words
+
+-- eight bytes
+record AreEight (bytes : List ℕ) : Type 0 where
+  pub are : AreBytes bytes
+  pub count : length bytes ≡ 8
+
+eight : (o : Order) (word : ℕ) → AreEight (lowest_first o (bytes_of 8 word))
+eight Little word = record { are = AreBytes-bytes_of 8 word; count = length-bytes_of 8 word }
+eight Big word = record { are = AreBytes-reverse (bytes_of 8 word) (AreBytes-bytes_of 8 word); count = length-reverse (bytes_of 8 word) ∙ length-bytes_of 8 word }
+
+-- The two's complement of the long that a word means.
+long_number : (o : Order) (x : ℤ) (word : ℕ) → Long x ≡ value_in kind.Long o 0 word → unsigned_of 8 x ≡ number_of (lowest_first o (bytes_of 8 word))
+long_number o x word means =
+    let bytes = lowest_first o (bytes_of 8 word) in
+    let n = number_of (lowest_first o (bytes_of 8 word)) in
+    let e = eight o word in
+    let all : take 8 (drop 0 (bytes_of 8 word)) ≡ bytes_of 8 word = take_all 8 (bytes_of 8 word) (omega (arith, length-bytes_of 8 word)) in
+    let below : n < 2 ^ 64 = subst (λ (k : ℕ). n < 2 ^ (8 * k)) e.count (number_of-lt bytes e.are) in
+    let small : n % 2 ^ 64 < 2 ^ 64 = omega arith in
+    let keeps : n % 2 ^ 64 ≡ n = omega arith in
+    ap encoded means ∙ ap (λ bs. encoded (value_of kind.Long o bs)) all ∙ unsigned_of-signed_of 8 (n % 2 ^ 64) small ∙ keeps
+
+-- A word means a long whose word it is.
+word_again : (o : Order) (x : ℤ) (word : ℕ) → word < 2 ^ 64 → Long x ≡ value_in kind.Long o 0 word → word_of o x ≡ word
+word_again o x word small means =
+    let bytes = lowest_first o (bytes_of 8 word) in
+    let e = eight o word in
+    ap (λ n. number_of (lowest_first o (bytes_of 8 n))) (long_number o x word means)
+    ∙ ap (λ k. number_of (lowest_first o (bytes_of k (number_of bytes)))) (sym e.count)
+    ∙ ap (λ bs. number_of (lowest_first o bs)) (bytes_of-number_of bytes e.are)
+    ∙ ap number_of (lowest_twice o (bytes_of 8 word))
+    ∙ number_of-bytes_of 8 word small
+
+-- A sum of words is the word of the sum.
+sum_number : (x delta : ℤ) (word : ℕ) → Long x ≡ value_in kind.Long Little 0 word
+    → (word + word_of Little delta) % 2 ^ 64 ≡ number_of (bytes_of_value Little (sum_of (Long x) (Long delta)))
+sum_number x delta word means =
+    let u = unsigned_of 8 delta in
+    let m = (cast_unsigned w64 x + cast_unsigned w64 delta) % 2 ^ 64 in
+    let small : m < 2 ^ 64 = omega arith in
+    let left : cast_unsigned w64 x ≡ word % 2 ^ 64 = sym (unsigned_of-eight x) ∙ long_number Little x word means ∙ number_of-bytes_of_mod 8 word in
+    let right : cast_unsigned w64 delta ≡ unsigned_of 8 delta = sym (unsigned_of-eight delta) in
+    let d : word_of Little delta ≡ unsigned_of 8 delta % 2 ^ 64 = number_of-bytes_of_mod 8 (unsigned_of 8 delta) in
+    let s : number_of (bytes_of_value Little (sum_of (Long x) (Long delta))) ≡ m = number_of-bytes_of_mod 8 (encoded (sum_of (Long x) (Long delta)))
+    ∙ ap (λ n. n % 2 ^ 64) (unsigned_of-signed_of 8 m small) ∙ omega arith in
+    let two : (word + word_of Little delta) % 2 ^ 64 ≡ m = ap (λ n. (word + n) % 2 ^ 64) d
+    ∙ (let e : (word + unsigned_of 8 delta % 2 ^ 64) % 2 ^ 64 ≡ (word % 2 ^ 64 + unsigned_of 8 delta) % 2 ^ 64 = omega arith in e)
+    ∙ ap (λ n. (n + unsigned_of 8 delta) % 2 ^ 64) (sym left) ∙ ap (λ n. (cast_unsigned w64 x + n) % 2 ^ 64) (sym right) in
+    two ∙ sym s
+
+-- ---- one act on a whole word
+
+swap_puts : (limit c : ℕ) (s : State) (id : ArenaId) (place old new word : ℕ) → word ≡ old → place % 8 + 8 ≤ 8
+    → IsLegal limit s (entries_of c ((SwapIf id (place / 8) old new, Found word) ∷ []))
+    → ActsPut s (state_after limit s (entries_of c ((SwapIf id (place / 8) old new, Found word) ∷ []))) c id place 8 new
+swap_puts limit c s id place old new word e fits legal =
+    let reach = legal.0 in
+    let same : (word == old) ≡ true = grind (arith, nat_tests) in
+    record {
+      word = new;
+      known = there_by_way s c id reach.under_way;
+      within = reach.within;
+      after = ap (λ b. if b then changed s id (written (place / 8) new) else s) same;
+      bytes = whole_word (arena_of s id).words place new reach.within fits;
+    }
+
+swap_stays : (limit c : ℕ) (s : State) (id : ArenaId) (place old new word : ℕ) → ¬ (word ≡ old)
+    → state_after limit s (entries_of c ((SwapIf id (place / 8) old new, Found word) ∷ [])) ≡ s
+swap_stays limit c s id place old new word n =
+    ap (λ b. if b then changed s id (written (place / 8) new) else s) (not_same word old n)
+
+add_puts : (limit c : ℕ) (s : State) (id : ArenaId) (place n word : ℕ) → place % 8 + 8 ≤ 8
+    → IsLegal limit s (entries_of c ((Add id (place / 8) n, Found word) ∷ []))
+    → ActsPut s (state_after limit s (entries_of c ((Add id (place / 8) n, Found word) ∷ []))) c id place 8 ((word + n) % 2 ^ 64)
+add_puts limit c s id place n word fits legal =
+    let reach = legal.0 in
+    record {
+      word = (word + n) % 2 ^ 64;
+      known = there_by_way s c id reach.under_way;
+      within = reach.within;
+      after = refl;
+      bytes = whole_word (arena_of s id).words place ((word + n) % 2 ^ 64) reach.within fits;
+    }
+
+-- The long in a word is the value that the arena's bytes mean.
+long_there : (s : State) (c : ℕ) (spec : ValueSpec) (id : ArenaId) (place word : ℕ) → LongAt spec place → has_arena s id ≡ true
+    → place / 8 < length (arena_of (changed s id (entered c)) id).words → word ≡ word_in (changed s id (entered c)) id (place / 8)
+    → value_in kind.Long spec.order 0 word ≡ value_at s spec id place
+long_there s c spec id place word long known within is =
+    let fits = long.fits in
+    let even : 0 ≡ place % 8 = omega arith in
+    ap (λ n. value_in kind.Long spec.order n word) even
+    ∙ ap (λ (k : ValueKind). value_in k spec.order (place % 8) word) (sym long.kind)
+    ∙ value_there s c id place spec.kind spec.order word known within (kind_fits spec place long) is
+
+-- ---- the calls
+
+-- One SwapIf of the only caller.
+pub swap_alone : (old now : View) (spec : ValueSpec) (id : ArenaId) (place : ℕ) (expected v x : ℤ) (word : ℕ) → LongAt spec place → word < 2 ^ 64
+    → value_in kind.Long spec.order 0 (word_of spec.order expected) ≡ Long expected → Long x ≡ value_in kind.Long spec.order 0 word
+    → Did old now (DoesVisit old.caller id (Swaps id place (word_of spec.order expected) (word_of spec.order v)) (Ok word))
+    → old.alone ≡ true → ExchangesValue old now spec id place (Long expected) (Long v) (Long x)
+swap_alone old now spec id place expected v x word long small back means d alone =
+    let c = old.caller in
+    let s = old.state in
+    let s1 = changed old.state id (entered old.caller) in
+    let a = word_of spec.order expected in
+    let b = word_of spec.order v in
+    let act : Acts = (SwapIf id (place / 8) (word_of spec.order expected) (word_of spec.order v), Found word) ∷ [] in
+    let o = visit_alone old now id (Swaps id place (word_of spec.order expected) (word_of spec.order v)) word alone d in
+    let legal : IsLegal old.limit old.state (visit old.caller id act) = subst (λ (these : Acts). IsLegal old.limit old.state (visit old.caller id these)) o.are o.legal in
+    let after : now.state ≡ state_after old.limit old.state (visit old.caller id act) = o.after ∙ ap (λ (these : Acts). state_after old.limit old.state (visit old.caller id these)) o.are in
+    let parts = IsLegal-split old.limit s1 (entries_of c act) (entry_of c (Leave id) Fine ∷ []) legal.2 in
+    let reach = parts.0.0 in
+    let is : Found word ≡ Found (word_in (changed old.state id (entered old.caller)) id (place / 8)) = parts.0.1 in
+    record {
+      value = means ∙ long_there s c spec id place word long legal.0.0 reach.within (cc);
+      puts = λ e.
+          let same : word ≡ word_of spec.order expected =
+          sym (word_again spec.order x word small means) ∙ ap (λ (y : Value). number_of (bytes_of_value spec.order y)) e in
+          let put = acts_visit old.limit c s id place 8 b act (λ l. swap_puts old.limit c s1 id place a b word same long.fits l) legal in
+          puts_value old now spec id place (Long v) (sym long.kind) (kind_fits spec place long) (subst (λ (t : State). VisitPuts old.state t id place 8 b) (sym after) put);
+      stays = λ n.
+          let other : ¬ (word ≡ word_of spec.order expected) = λ q. n (means ∙ ap (value_in kind.Long spec.order 0) q ∙ back) in
+          after ∙ visit_stays old.limit c s id act (λ l. swap_stays old.limit c s1 id place a b word other) legal;
+    }
+
+-- One Add of the only caller.
+pub add_long_alone : (old now : View) (spec : ValueSpec) (id : ArenaId) (place : ℕ) (delta x : ℤ) (word : ℕ) → LongAt spec place → spec.order ≡ Little
+    → Long x ≡ value_in kind.Long Little 0 word
+    → Did old now (DoesVisit old.caller id (AddsTo id place (word_of Little delta)) (Ok word))
+    → old.alone ≡ true → AddsValue old now spec id place (Long delta) (Long x)
+add_long_alone old now spec id place delta x word long little means d alone =
+    let c = old.caller in
+    let s = old.state in
+    let s1 = changed old.state id (entered old.caller) in
+    let n = word_of Little delta in
+    let act : Acts = (Add id (place / 8) (word_of Little delta), Found word) ∷ [] in
+    let o = visit_alone old now id (AddsTo id place (word_of Little delta)) word alone d in
+    let legal : IsLegal old.limit old.state (visit old.caller id act) = subst (λ (these : Acts). IsLegal old.limit old.state (visit old.caller id these)) o.are o.legal in
+    let after : now.state ≡ state_after old.limit old.state (visit old.caller id act) = o.after ∙ ap (λ (these : Acts). state_after old.limit old.state (visit old.caller id these)) o.are in
+    let parts = IsLegal-split old.limit s1 (entries_of c act) (entry_of c (Leave id) Fine ∷ []) legal.2 in
+    let reach = parts.0.0 in
+    let is : Found word ≡ Found (word_in (changed old.state id (entered old.caller)) id (place / 8)) = parts.0.1 in
+    let there = means ∙ ap (λ (o : Order). value_in kind.Long o 0 word) (sym little) ∙ long_there s c spec id place word long legal.0.0 reach.within (cc) in
+    let sum : (word + word_of Little delta) % 2 ^ 64 ≡ number_of (bytes_of_value spec.order (sum_of (Long x) (Long delta))) =
+    sum_number x delta word means ∙ ap (λ (o : Order). number_of (bytes_of_value o (sum_of (Long x) (Long delta)))) (sym little) in
+    let put = acts_visit old.limit c s id place 8 ((word + n) % 2 ^ 64) act (λ l. add_puts old.limit c s1 id place n word long.fits l) legal in
+    let put_sum = subst (λ (k : ℕ). VisitPuts old.state (state_after old.limit old.state (visit old.caller id act)) id place 8 k) sum put in
+    record {
+      value = there;
+      puts = puts_value old now spec id place (sum_of (Long x) (Long delta)) (sym long.kind) (kind_fits spec place long)
+          (subst (λ (t : State). VisitPuts old.state t id place 8 (number_of (bytes_of_value spec.order (sum_of (Long x) (Long delta))))) (sym after) put_sum);
+    }
