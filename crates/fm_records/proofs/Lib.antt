@@ -4,3 +4,5 @@ pub mod Joining
 pub mod Lines
 pub mod Standing
 pub mod Steps
+pub mod Testing
+pub mod Visiting
