@@ -1,6 +1,6 @@
 -- The answers over two runs of records, joined, are the answer over both.
 use Rattle.std.proofs.Common.{◌≡◌, ℕ, zero, suc, ◌+◌, ◌*◌, ◌/◌, ◌%◌, ◌<◌, ◌≤◌, List, [], ◌∷◌, ◌++◌, length, take, drop, map, refl, sym, ap, ◌∙◌, arith, length-append, length-drop}
-use Rattle.std.specs.Prelude.{ℤ, pos, ◌+ℤ◌, filter}
+use Rattle.std.specs.Prelude.{ℤ, ◌+ℤ◌}
 use Rattle.std.specs.List.{flat_map, list_all, AllZip}
 use Rattle.std.proofs.Math.IntN.{+ℤ_assoc}
 use Rattle.std.proofs.Math.Nat.{mul-add-div_right}
@@ -10,14 +10,12 @@ use Rattle.std.proofs.lemmas.List.{take-append-le, drop-append-le}
 use Rattle.std.proofs.lemmas.List.Elements.{filter-append}
 use Rattle.std.proofs.lemmas.Grind.{flat_map-append}
 use Rattle.fm_query.specs.Plan.{Plan}
-use Rattle.fm_query.specs.declared.condition.Condition.{Condition}
 use Rattle.fm_query.specs.declared.fold.Fold.{Fold}
 use Rattle.fm_query.specs.declared.fold.Fold.TheVariants as fold
 use Rattle.fm_query.specs.declared.item.Asked.{Asked}
 use Rattle.fm_query.specs.declared.item.Asked.TheVariants as asked
 use Rattle.fm_query.specs.declared.item.Item.{Item}
-use Rattle.fm_records.specs.declared.found.Found.{Found}
-use Rattle.fm_records.specs.declared.found.Found.TheVariants.{Count, Sum, Least, Greatest, Listed}
+use Rattle.fm_records.specs.declared.found.Found.TheVariants.{Count, Sum, Least, Greatest}
 use Rattle.fm_records.specs.Records.{pieces, records}
 use Rattle.fm_records.specs.Values.{numbers_in}
 use Rattle.fm_records.specs.Answers.{holds, chosen, sum_of, folded, found_in, item_found, found_over, answer}

@@ -1,5 +1,5 @@
 -- The numbers of a resolved path are those of the places to which it leads.
-use Rattle.std.proofs.Common.{◌≡◌, ℕ, List, refl, sym, ap, ◌∙◌}
+use Rattle.std.proofs.Common.{ℕ, List, ap, ◌∙◌}
 use Rattle.fm_layout.specs.Tree.{Tree, Value, Padding, Sequence, Struct, Union}
 use Rattle.fm_places.specs.Walk.{AreAdmitted, offset_at}
 use Rattle.fm_path.specs.Resolution.{Resolution, IsResolved, IsSpecOf}

@@ -1,6 +1,5 @@
 -- Joining item by item: listed numbers on the way in, the rest on the way out.
 use Rattle.std.proofs.Common.{◌≡◌, ℕ, ◌+◌, ◌-◌, ◌<◌, ◌≤◌, List, [], ◌∷◌, ◌++◌, length, take, drop, get_or, set, refl, sym, ap, ◌∙◌, subst, append_assoc, length-append, length-drop, arith}
-use Rattle.std.specs.List.{AllZip}
 use Rattle.std.proofs.lemmas.List.{take_more_set, drop-set-lt, drop_more, set_at, get_or_at, take_at, set-set, set-get_or, get_or-set_same, get_or_default, length-take-le, nil_from_length, take-append-drop}
 use Rattle.std.proofs.lemmas.Slice.Zip.{AllZip-long}
 use Rattle.fm_records.specs.declared.found.Found.{Found}

@@ -1,5 +1,5 @@
 -- The answer over two runs of records, from the answers over each.
-use Rattle.std.specs.Prelude.{ℕ, ◌+◌, ◌^◌, ◌<◌, List, [], ◌∷◌, ◌++◌, length, take, ◌-◌, ◌+ℤ◌, FitsSigned, ⊤}
+use Rattle.std.specs.Prelude.{◌+◌, ◌^◌, ◌<◌, List, [], ◌∷◌, ◌++◌, length, take, ◌-◌, ◌+ℤ◌, FitsSigned, ⊤}
 use Rattle.std.specs.Int.{w128}
 use Rattle.std.specs.List.{AllZip}
 use Rattle.fm_records.specs.declared.found.Found.{Found}
