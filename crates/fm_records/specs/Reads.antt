@@ -10,12 +10,14 @@ use Rattle.fm_base.specs.Calls.{Read, Found as Found_word, Entry}
 use Rattle.fm_base.specs.View.{View}
 use Rattle.fm_base.specs.Visits.{visit, refused_visit}
 use Rattle.fm_lanes.specs.declared.value.Value.{Value}
+use Rattle.fm_lanes.specs.Kind.{width_of}
 use Rattle.fm_lanes.specs.Value.{number_of_value}
 use Rattle.fm_path.specs.Resolution.{StaysInside}
 use Rattle.fm_path.specs.declared.value_spec.ValueSpec.{ValueSpec}
 use Rattle.fm_places.specs.declared.dim.Dim.{Dim}
 use Rattle.fm_pieces.specs.Alone.{bytes_of_arena}
-use Rattle.fm_places.specs.Walk.{offset_at}
+use Rattle.fm_places.specs.Steady.{IsSteady}
+use Rattle.fm_places.specs.Walk.{AreAdmitted, offset_at}
 use Rattle.fm_segment.specs.Access.{ReadsValue}
 use Rattle.fm_segment.specs.Region.{Region}
 use Rattle.fm_query.specs.Plan.{Plan}
@@ -61,9 +63,9 @@ DoesRead c s P (Err r) own = ⊥
 
 -- ---- one record, whose first byte stands at the place
 
--- the places of a path's values, in the order of index lists
-abbrev pub value_places : ℕ → List Dim → List ℕ
-value_places at dims = map (offset_at at dims) (index_lists dims)
+-- the places of a path's values in the record at a place, in the order of index lists; `at` is the offset at index 0
+abbrev pub value_places : ℕ → ℕ → List Dim → List ℕ
+value_places place at dims = map (λ is. place + offset_at at dims is) (index_lists dims)
 
 -- the visits read the value at a place, whose number this is
 pub record ReadsNumber (c : ℕ) (id : ArenaId) (spec : ValueSpec) (place : ℕ) (own : List Entry) (n : ℤ) : Type 0 where
@@ -95,7 +97,7 @@ pub data TestsConditions (c : ℕ) (id : ArenaId) (place : ℕ) : List Condition
 abbrev pub FindsItem : ℕ → ArenaId → ℕ → Asked → List Entry → Found → Type 0
 FindsItem c id place asked.Count own found = (own ≡ []) × (found ≡ Count 1)
 FindsItem c id place (asked.Of f r) own found =
-    (ns : List ℤ) × ReadsNumbers c id r.value (value_places (place + r.offset) r.dims) own ns × (found ≡ folded f ns)
+    (ns : List ℤ) × ReadsNumbers c id r.value (value_places place r.offset r.dims) own ns × (found ≡ folded f ns)
 
 -- the items are gone through in order
 pub data FindsItems (c : ℕ) (id : ArenaId) (place : ℕ) : List Item → List Entry → List Found → Type 0 where
@@ -156,6 +158,21 @@ with_number (Least o) z = Least (lesser o (Some z))
 with_number (Greatest o) z = Greatest (greater o (Some z))
 with_number (Listed zs) z = Listed (zs ++ z ∷ [])
 
+abbrev pub with_numbers : Found → List ℤ → Found
+with_numbers found [] = found
+with_numbers found (n ∷ ns) = with_numbers (with_number found n) ns
+
+-- the visits read the values at these places, and their numbers were added to what was found
+pub record AddsNumbers (c : ℕ) (id : ArenaId) (spec : ValueSpec) (places : List ℕ) (old new : Found) (own : List Entry) : Type 0 where
+  pub numbers : List ℤ
+  pub reads : ReadsNumbers c id spec places own numbers
+  pub added : new ≡ with_numbers old numbers
+
+-- at admitted indices the values stand in the segment
+pub record ReachesInside (s : Region) (place at : ℕ) (dims : List Dim) (spec : ValueSpec) : Type 0 where
+  pub steady : (is : List ℕ) → AreAdmitted dims is → IsSteady at dims is
+  pub within : (is : List ℕ) → AreAdmitted dims is → place + offset_at at dims is + width_of spec.kind ≤ s.first + s.size
+
 -- a sum of at most `count` numbers of 64 bits
 pub record IsSumOf (count : ℕ) (x : ℤ) : Type 0 where
   pub low : negsuc (count * 2 ^ 63) ≤ℤ x
@@ -165,6 +182,10 @@ pub record IsSumOf (count : ℕ) (x : ℤ) : Type 0 where
 abbrev pub HasRoom : Found → ℕ → Type 0
 HasRoom (Sum x) more = (count : ℕ) × (count + more ≤ 2 ^ 62) × IsSumOf count x
 HasRoom found more = ⊤
+
+-- after so many numbers there is as much room as was left
+abbrev pub KeepsRoom : Found → Found → ℕ → Type 0
+KeepsRoom old new n = (more : ℕ) → HasRoom old (n + more) → HasRoom new more
 
 -- ---- queries whose sums fit
 

@@ -2,7 +2,7 @@ ghost use Rattle.std.specs.Prelude.{◌≡◌, OnOk, OnErr, IfErr, []};
 ghost use Rattle.fm_records.specs.Answers as answers;
 ghost use Rattle.fm_records.specs.Answers.{found_in};
 ghost use Rattle.fm_records.specs.Joined.{CanJoinFound, lengthened, shortened, summed};
-ghost use Rattle.fm_records.specs.Reads.{HasRoom, with_number};
+ghost use Rattle.fm_records.specs.Reads.{HasRoom, KeepsRoom, with_number};
 
 use crate::numbers::Numbers;
 use fm_base::Refusal;
@@ -106,6 +106,7 @@ impl Found {
     pub(crate) fn add_number(&mut self, number: i64) -> Result<(), Refusal>
         requires { HasRoom self.old 1 }
         ensures ok { OnOk result (self.new ≡ with_number self.old number) }
+        ensures room { OnOk result (KeepsRoom self.old self.new 1) }
         ensures same { OnErr result (self.new ≡ self.old) }
         ensures memory { IfErr result (λ refusal. refusal ≡ Refusal.Memory) }
     {
