@@ -1,12 +1,13 @@
+use crate::answer::of_no_records;
 use crate::found::Found;
-use crate::printing::lines;
-use crate::querying::add_records;
+use crate::printing::{lines, print_answer};
+use crate::querying::{add_records, query_segment};
 use fm_base::{ArenaId, Kind, Memory};
 use fm_lanes::ValueKind;
 use fm_layout::Layout;
 use fm_mono::Mono;
 use fm_path::{parse_path, resolve};
-use fm_query::{Asked, Condition, Fold, Item, Operator, Text};
+use fm_query::{Asked, Condition, Fold, Item, Operator, Text, parse_query};
 use fm_segment::Segment;
 use std::alloc::Global;
 use std::sync::Wait;
@@ -211,6 +212,48 @@ fn the_last_index_changes_fastest(rt: HostRuntime) -> Result<(), Fail> {
         let items = vec![in alloc; item(alloc, &layout, Some(Fold::All), path, "list")?]?;
         let found = answered(&rt, alloc, &layout, &words, &[], &items)?;
         assert_eq!(rt; found.as_str(), text, "at {path}");
+    }
+    Ok(())
+}
+
+#[test]
+fn answers_queries(rt: HostRuntime) -> Result<(), Fail> {
+    let alloc = rt.alloc();
+    let layout = goods(alloc)?;
+    for (text, answer) in [
+        (
+            "count,sum(.price),list(.tags[]) where .kind>=2",
+            "count 2\nsum(.price) 210\nlist(.tags[]) 1 2 3 4 5 0 0 -1\n",
+        ),
+        ("min(.price) where .kind=9", "min(.price) none\n"),
+        (
+            "max(.price),list(.id) where .kind<=2 and .id!=2",
+            "max(.price) 250\nlist(.id) 1\n",
+        ),
+    ] {
+        let mut m = Mono::make(alloc, 1024);
+        let arena = held(&rt, &mut m, &GOODS)?;
+        let q = parse_query(alloc, text, &layout)?;
+        let answered = query_segment(alloc, &mut m, &q, &Segment::of(arena, 0, 48))?;
+        let printed = print_answer(alloc, &q, &answered)?;
+        assert_eq!(rt; printed.as_str(), answer);
+        let mut first = query_segment(alloc, &mut m, &q, &Segment::of(arena, 0, 24))?;
+        first.join(query_segment(alloc, &mut m, &q, &Segment::of(arena, 24, 24))?)?;
+        let joined = print_answer(alloc, &q, &first)?;
+        assert_eq!(rt; joined.as_str(), answer);
+        let mut none = of_no_records(alloc, &q)?;
+        none.join(answered)?;
+        let same = print_answer(alloc, &q, &none)?;
+        assert_eq!(rt; same.as_str(), answer);
+        m.close(&rt, arena)?;
+        assert_eq!(rt;
+            query_segment(alloc, &mut m, &q, &Segment::of(arena, 0, 47)).is_err(),
+            true
+        );
+        assert_eq!(rt;
+            query_segment(alloc, &mut m, &q, &Segment::of(arena, 0, 48)).is_err(),
+            true
+        );
     }
     Ok(())
 }
