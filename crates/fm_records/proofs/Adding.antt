@@ -142,3 +142,15 @@ added_more old now next s place at d ds spec f g h i own u so_far did keeps =
           let e : suc i * n + more ≡ i * n + (n + more) = grind arith in
           keeps more (so_far.room (n + more) (subst (HasRoom f) e room));
     }
+
+-- the values at all first indices
+pub added_all : (old now : View) (s : Region) (place at : ℕ) (d : Dim) (ds all : List Dim) (spec : ValueSpec) (f g : Found) (i : ℕ) (own : List Entry) → AreAdded old now s place at d ds spec f g i own
+    → i ≡ d.bound → all ≡ d ∷ ds → Did old now (DoesRead old.caller s (λ (u : Unit {0}) es. AddsNumbers old.caller s.arena spec (value_places place at all) f g es) (Ok tt))
+added_all old now s place at d ds all spec f g i own a e whole = record {
+  own = own;
+  does = (a.reads, subst (λ (ps : List ℕ). AddsNumbers old.caller s.arena spec ps f g own) places a.adds);
+  makes = a.makes;
+}
+  where
+    places : flat_map (λ j. value_places place (reach at d.stride j) ds) (range_with_len 0 i) ≡ value_places place at all
+    places = ap (λ n. flat_map (λ j. value_places place (reach at d.stride j) ds) (range_with_len 0 n)) e ∙ sym (places_by_first place at d ds) ∙ sym (ap (value_places place at) whole)

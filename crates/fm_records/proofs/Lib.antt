@@ -3,6 +3,7 @@ pub mod Ends
 pub mod Indices
 pub mod Joining
 pub mod Lines
+pub mod Reaching
 pub mod Standing
 pub mod Steps
 pub mod Testing
