@@ -1,6 +1,10 @@
+pub mod Adding
 pub mod Ends
 pub mod Indices
 pub mod Joining
 pub mod Lines
+pub mod Reaching
 pub mod Standing
 pub mod Steps
+pub mod Testing
+pub mod Visiting
