@@ -1,9 +1,11 @@
 pub mod Adding
 pub mod Ends
 pub mod Indices
+pub mod ItemsAdding
 pub mod Joining
 pub mod Lines
 pub mod Reaching
+pub mod RecordsAdding
 pub mod Standing
 pub mod Steps
 pub mod Testing

@@ -2,6 +2,7 @@
 use Rattle.std.proofs.Common.{◌≡◌, ℕ, zero, suc, ◌+◌, ◌-◌, ◌*◌, ◌<◌, ◌≤◌, List, [], ◌∷◌, ◌++◌, length, map, take, drop, get_or, slice_index_or, refl, sym, ap, ◌∙◌, subst, ◌⊎◌, inl, inr, arith}
 use Rattle.std.specs.List.{flat_map, range_with_len}
 use Rattle.fm_lanes.specs.Kind.{width_of}
+use Rattle.fm_path.specs.Resolution.{Resolution, StaysInside}
 use Rattle.fm_path.specs.declared.value_spec.ValueSpec.{ValueSpec}
 use Rattle.fm_places.specs.declared.dim.Dim.{Dim}
 use Rattle.fm_places.specs.Steady.{IsInside, IsSteady}
@@ -91,7 +92,7 @@ closed_within s place at (d ∷ ds) spec h empty = absurd (omega arith)
 
 -- room for fewer
 pub room_less : (f : Found) (n m : ℕ) → m ≤ n → HasRoom f n → HasRoom f m
-room_less (Count k) n m less h = tt
+room_less (Count k) n m less h = omega arith
 room_less (Sum x) n m less h = (h.0, omega (arith, h.1), h.2)
 room_less (Least o) n m less h = tt
 room_less (Greatest o) n m less h = tt
@@ -100,3 +101,13 @@ room_less (Listed xs) n m less h = tt
 -- room for the values at one index
 pub room_at : (f : Found) (i bound n : ℕ) → i < bound → HasRoom f (bound * n) → HasRoom f (i * n + n)
 room_at f i bound n below h = room_less f (bound * n) (i * n + n) (let e : suc i * n ≤ bound * n = grind arith in grind (arith, e)) h
+
+-- a bound of 0 leaves no list of indices
+pub none_at : (k : ℕ) (ds : List Dim) (z : Dim) → k < length ds → (get_or ds k z).bound ≡ 0 → index_lists ds ≡ []
+none_at k [] z below e = absurd (omega arith)
+none_at zero (d ∷ ds) z below e = (none_first d ds e).listed
+none_at (suc k) (d ∷ ds) z below e = none_led (index_lists ds) (range_with_len 0 d.bound) (none_at k ds z (omega arith) e)
+
+-- a path that stays inside a record of the segment
+pub path_reaches : (s : Region) (place : ℕ) (r : Resolution) → StaysInside r → place + r.root_size ≤ s.first + s.size → ReachesInside s place r.offset r.dims r.value
+path_reaches s place r stays within = record { steady = stays.steady; within = λ is a. let i = stays.inside is a in omega (arith, i, within) }

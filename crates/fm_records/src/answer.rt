@@ -39,7 +39,9 @@ impl Answer {
     }
 
     /// The same, to be added to.
-    pub(crate) fn found_mut(&mut self) -> &mut Vec<Found> {
+    pub(crate) fn found_mut(&mut self) -> &mut Vec<Found>
+        ensures value { result.now.items ≡ self.old }
+    {
         &mut self.found
     }
 

@@ -1,4 +1,4 @@
-ghost use Rattle.std.specs.Prelude.{◌≡◌, ◌%◌, ◌≤◌, true, false, None, IfOk};
+ghost use Rattle.std.specs.Prelude.{◌≡◌, ◌+◌, ◌/◌, ◌%◌, ◌≤◌, [], true, false, None, IfOk, OnOk};
 ghost use Rattle.std.specs.List.{AllByRecursion};
 ghost use Rattle.fm_base.specs.Arenas.{MayUse};
 ghost use Rattle.fm_base.specs.Outcomes.{Lasts};
@@ -6,12 +6,16 @@ ghost use Rattle.fm_base.specs.View.{Did};
 ghost use Rattle.fm_segment.specs.Access.{IsKnown};
 ghost use Rattle.fm_records.specs.Answers as answers;
 ghost use Rattle.fm_records.specs.Answers.{answer};
-ghost use Rattle.fm_records.specs.Reads.{AreFew, DoesQuery, DoesRead, IsTestable, TestsConditions, bytes_of_segment};
+ghost use Rattle.fm_records.specs.Reads.{AddsItem, AddsItems, AddsRecord, AreFew, AreOpen, DoesQuery, DoesRead, HasRoom,
+    IsItemFew, IsItemReadable, IsReadable, IsTestable, KeepsRoom, ReadsRecords, StayOpen, TestsConditions, bytes_of_segment, how_many};
+ghost use Rattle.fm_records.specs.Texts.{IsFoundOf};
+ghost use Rattle.fm_records.specs.Values.{index_lists};
 
 use crate::answer::{Answer, of_no_records};
 use crate::found::Found;
 use crate::values::{add_values, number_of_value_at};
 use fm_base::{ArenaId, Kind, Memory, Refusal};
+use fm_path::Dim;
 use fm_query::{Asked, Condition, Item, Operator, Query};
 use fm_segment::Segment;
 use std::alloc::Global;
@@ -49,16 +53,7 @@ pub fn query_segment<M: Memory>(
         return Err(Refusal::WrongThread);
     }
     let mut answer = of_no_records(alloc, q)?;
-    let count = s.size() / q.record_size();
-    add_records(
-        m,
-        s,
-        q.record_size(),
-        count,
-        q.conditions(),
-        q.items(),
-        answer.found_mut(),
-    )?;
+    add_records(m, s, q, answer.found_mut())?;
     Ok(answer)
 }
 
@@ -73,18 +68,31 @@ fn may_use<M: Memory>(m: &M, arena: ArenaId) -> bool
     }
 }
 
-/// Adds what the items find in the chosen ones of the segment's first `count` records of `size` bytes.
+/// Adds what the items find in the chosen ones of the segment's records.
 pub(crate) fn add_records<M: Memory>(
     m: &mut M,
     s: &Segment,
-    size: u64,
-    count: u64,
-    conditions: &[Condition],
-    items: &[Item],
+    q: &Query,
     found: &mut Vec<Found>,
-) -> Result<(), Refusal> {
+) -> Result<(), Refusal>
+    requires outside { (M.view m.old).inside ≡ None }
+    requires known { IsKnown (M.view m.old) s.now }
+    requires may { MayUse s.now.arena (M.view m.old).caller }
+    requires few { AreFew q.now }
+    requires open { AreOpen s.now.size q.now.items found.old.items }
+    ensures did { Did (M.view m.old) (M.view m.new) (DoesRead (M.view m.old).caller s.now
+        (λ _ own. ReadsRecords (M.view m.old).caller s.now.arena q.now (s.now.size / q.now.size) s.now.first
+            found.old.items own found.new.items) result) }
+    ensures outside { (M.view m.new).inside ≡ None }
+    ensures lasts { Lasts (M.view m.old) (M.view m.new) }
+{
+    let count = s.size() / q.record_size();
     for k in 0..count {
-        add_record(m, s, s.first() + k * size, conditions, items, found)?;
+        let place = s.first() + k * q.record_size();
+        match add_record(m, s, place, q, found) {
+            Ok(()) => {}
+            Err(refusal) => return Err(refusal),
+        }
     }
     Ok(())
 }
@@ -94,15 +102,57 @@ fn add_record<M: Memory>(
     m: &mut M,
     s: &Segment,
     place: u64,
-    conditions: &[Condition],
+    q: &Query,
+    found: &mut Vec<Found>,
+) -> Result<(), Refusal>
+    requires outside { (M.view m.old).inside ≡ None }
+    requires known { IsKnown (M.view m.old) s.now }
+    requires may { MayUse s.now.arena (M.view m.old).caller }
+    requires from { s.now.first ≤ place }
+    requires within { place + q.now.size ≤ s.now.first + s.now.size }
+    requires few { AreFew q.now }
+    requires open { AreOpen q.now.size q.now.items found.old.items }
+    ensures did { Did (M.view m.old) (M.view m.new) (DoesRead (M.view m.old).caller s.now
+        (λ _ own. AddsRecord (M.view m.old).caller s.now.arena q.now place found.old.items found.new.items own) result) }
+    ensures open { OnOk result (StayOpen q.now.items found.old.items found.new.items q.now.size) }
+    ensures outside { (M.view m.new).inside ≡ None }
+    ensures lasts { Lasts (M.view m.old) (M.view m.new) }
+{
+    match is_chosen(m, s, place, q.conditions()) {
+        Ok(true) => add_items(m, s, place, q.record_size(), q.items(), found),
+        Ok(false) => Ok(()),
+        Err(refusal) => Err(refusal),
+    }
+}
+
+/// Adds what the items find in a chosen record of `size` bytes.
+fn add_items<M: Memory>(
+    m: &mut M,
+    s: &Segment,
+    place: u64,
+    size: u64,
     items: &[Item],
     found: &mut Vec<Found>,
-) -> Result<(), Refusal> {
-    if !is_chosen(m, s, place, conditions)? {
-        return Ok(());
-    }
-    for (k, item) in items.iter().enumerate() {
-        add_item(m, s, place, &item.asked, &mut found[k])?;
+) -> Result<(), Refusal>
+    requires outside { (M.view m.old).inside ≡ None }
+    requires known { IsKnown (M.view m.old) s.now }
+    requires may { MayUse s.now.arena (M.view m.old).caller }
+    requires from { s.now.first ≤ place }
+    requires readable { AllByRecursion (IsItemReadable s.now place) items.now }
+    requires few { AllByRecursion (IsItemFew size) items.now }
+    requires open { AreOpen size items.now found.old.items }
+    ensures did { Did (M.view m.old) (M.view m.new) (DoesRead (M.view m.old).caller s.now
+        (λ _ own. AddsItems (M.view m.old).caller s.now.arena place items.now found.old.items found.new.items own) result) }
+    ensures open { OnOk result (StayOpen items.now found.old.items found.new.items size) }
+    ensures outside { (M.view m.new).inside ≡ None }
+    ensures lasts { Lasts (M.view m.old) (M.view m.new) }
+{
+    let _size = size;
+    for k in 0..items.len() {
+        match add_item(m, s, place, &items[k].asked, &mut found[k]) {
+            Ok(()) => {}
+            Err(refusal) => return Err(refusal),
+        }
     }
     Ok(())
 }
@@ -151,6 +201,18 @@ fn compares(operator: Operator, x: i64, y: i64) -> bool
     }
 }
 
+/// Whether a bound is 0: then no index is admitted.
+fn has_no_values(dims: &[Dim]) -> bool
+    ensures { result ≡ true → index_lists dims.now ≡ [] }
+{
+    for dim in dims {
+        if dim.bound == 0 {
+            return true;
+        }
+    }
+    false
+}
+
 /// Adds what an item finds in a chosen record.
 fn add_item<M: Memory>(
     m: &mut M,
@@ -158,7 +220,20 @@ fn add_item<M: Memory>(
     place: u64,
     asked: &Asked,
     found: &mut Found,
-) -> Result<(), Refusal> {
+) -> Result<(), Refusal>
+    requires outside { (M.view m.old).inside ≡ None }
+    requires known { IsKnown (M.view m.old) s.now }
+    requires may { MayUse s.now.arena (M.view m.old).caller }
+    requires from { s.now.first ≤ place }
+    requires readable { IsReadable s.now place asked.now }
+    requires kind { IsFoundOf asked.now found.old }
+    requires room { HasRoom found.old (how_many asked.now) }
+    ensures did { Did (M.view m.old) (M.view m.new) (DoesRead (M.view m.old).caller s.now
+        (λ _ own. AddsItem (M.view m.old).caller s.now.arena place asked.now found.old found.new own) result) }
+    ensures room { OnOk result (KeepsRoom found.old found.new (how_many asked.now)) }
+    ensures outside { (M.view m.new).inside ≡ None }
+    ensures lasts { Lasts (M.view m.old) (M.view m.new) }
+{
     match asked {
         Asked::Count => {
             found.add_record();
@@ -166,7 +241,7 @@ fn add_item<M: Memory>(
         }
         Asked::Of(_, path) => {
             let dims = path.dims().as_slice();
-            if dims.iter().any(|dim| dim.bound == 0) {
+            if has_no_values(dims) {
                 return Ok(());
             }
             add_values(m, s, place, path.offset(), dims, *path.value(), found)
