@@ -1,5 +1,5 @@
 -- What items find in a record, added to what they found before.
-use Rattle.std.proofs.Common.{◌≡◌, ℕ, zero, suc, ◌+◌, ◌<◌, ◌≤◌, Result, Ok, Err, List, [], ◌∷◌, ◌++◌, length, drop, map, set, get_or, Option, None, Some, true, false, refl, sym, ap, ◌∙◌, subst, append_assoc, arith}
+use Rattle.std.proofs.Common.{◌≡◌, ℕ, zero, suc, ◌+◌, ◌<◌, ◌≤◌, Result, Ok, Err, List, [], ◌∷◌, ◌++◌, length, drop, map, set, get_or, Option, None, Some, refl, sym, ap, ◌∙◌, subst, append_assoc, arith}
 use Rattle.std.specs.Prelude.{ℤ, ◌+ℤ◌, pos}
 use Rattle.std.specs.List.{AllZip, AllByRecursion}
 use Rattle.std.proofs.lemmas.Int.{ints}
@@ -15,7 +15,6 @@ use Rattle.fm_path.specs.Resolution.{Resolution}
 use Rattle.fm_path.specs.declared.value_spec.ValueSpec.{ValueSpec}
 use Rattle.fm_places.specs.declared.dim.Dim.{Dim}
 use Rattle.fm_places.specs.Walk.{offset_at}
-use Rattle.fm_query.specs.Plan.{Plan}
 use Rattle.fm_query.specs.declared.fold.Fold.{Fold}
 use Rattle.fm_query.specs.declared.fold.Fold.TheVariants as fold
 use Rattle.fm_query.specs.declared.item.Asked.{Asked}
@@ -27,10 +26,10 @@ use Rattle.fm_records.specs.Answers.{folded, lesser, greater, sum_of, least_of, 
 use Rattle.fm_records.specs.Joined.{both, joined}
 use Rattle.fm_records.specs.Texts.{IsFolded, IsFoundOf, IsItemFound}
 use Rattle.fm_records.specs.Values.{index_lists}
-use Rattle.fm_records.specs.Reads.{AddsItem, AddsItems, AddsNumbers, AreOpen, AreReads, IsOpen, KeepsRoom, how_many, DoesRead, FindsItem, FindsItems, IsItemFew, TestsConditions, AddsRecord, chosen, passed_over, no_item, one_item, HasRoom, ReadsNumbers, no_more, value_places, with_number, with_numbers}
+use Rattle.fm_records.specs.Reads.{AddsItem, AddsItems, AddsNumbers, AreOpen, AreReads, IsOpen, KeepsRoom, how_many, DoesRead, FindsItem, FindsItems, IsItemFew, no_item, one_item, HasRoom, ReadsNumbers, no_more, value_places, with_number, with_numbers}
 use Rattle.fm_records.proofs.Reaching.{room_less}
 use Rattle.fm_records.proofs.Ends.{lesser-lesser, greater-greater}
-use Rattle.fm_records.proofs.Visiting.{AreReads-none, AreReads-append, stops_then}
+use Rattle.fm_records.proofs.Visiting.{AreReads-none, AreReads-append}
 
 -- ---- one item
 
@@ -298,41 +297,3 @@ pub few_at : (size k : ℕ) (items : List Item) (x : Item) → AllByRecursion (I
 few_at size k [] x h below = absurd (omega arith)
 few_at size zero (i ∷ is) x h below = h.0
 few_at size (suc k) (i ∷ is) x h below = few_at size k is x h.1 (omega arith)
-
--- ---- one record
-
-pub record_chosen : (old now next : View) (s : Region) (p : Plan) (place : ℕ) (fs gs : List Found) (result : Result (Unit {0}) Refusal)
-    → Did old now (DoesRead old.caller s (λ b es. TestsConditions old.caller s.arena place p.conditions es b) (Ok true))
-    → Did now next (DoesRead now.caller s (λ (u : Unit {0}) es. AddsItems now.caller s.arena place p.items fs gs es) result)
-    → Did old next (DoesRead old.caller s (λ (u : Unit {0}) es. AddsRecord old.caller s.arena p place fs gs es) result)
-record_chosen old now next s p place fs gs (Ok u) a b =
-    let here : AreReads old.caller s b.own × AddsItems old.caller s.arena place p.items fs gs b.own =
-    subst (λ (c : ℕ). AreReads c s b.own × AddsItems c s.arena place p.items fs gs b.own) a.makes.same_caller b.does in
-    record {
-      own = a.own ++ b.own;
-      does = (AreReads-append old.caller s a.own b.own a.does.0 here.0, record { seen = Some here.1.found; reads = chosen a.own b.own here.1.found a.does.1 here.1.finds; added = here.1.added });
-      makes = Makes-then old now next a.own b.own a.makes b.makes;
-    }
-record_chosen old now next s p place fs gs (Err r) a b =
-    stops_then (λ (u : Unit {0}) es. AddsItems now.caller s.arena place p.items fs gs es) (λ (u : Unit {0}) es. AddsRecord old.caller s.arena p place fs gs es) old now next s a.own r a.makes a.does.0 b
-
-pub record_passed : (old now : View) (s : Region) (p : Plan) (place : ℕ) (fs : List Found)
-    → Did old now (DoesRead old.caller s (λ b es. TestsConditions old.caller s.arena place p.conditions es b) (Ok false))
-    → Did old now (DoesRead old.caller s (λ (u : Unit {0}) es. AddsRecord old.caller s.arena p place fs fs es) (Ok tt))
-record_passed old now s p place fs a = record { own = a.own; does = (a.does.0, record { seen = None; reads = passed_over a.own a.does.1; added = refl }); makes = a.makes }
-
-pub refused_too : {X Y : Type 0} (P : X → List Entry → Type 0) (Q : Y → List Entry → Type 0) (old new : View) (s : Region) (r : Refusal)
-    → Did old new (DoesRead old.caller s P (Err r)) → Did old new (DoesRead old.caller s Q (Err r))
-refused_too P Q old new s r d = record { own = d.own; does = by r d.does; makes = d.makes }
-  where
-    by : (r : Refusal) → DoesRead old.caller s P (Err r) d.own → DoesRead old.caller s Q (Err r) d.own
-    by Closed h = h
-    by Memory h = h
-    by r h = absurd h
-
--- what was open stays so for fewer
-pub open_less : (n more : ℕ) (is : List Item) (fs : List Found) → AreOpen (n + more) is fs → AreOpen more is fs
-open_less n more [] [] h = tt
-open_less n more [] (f ∷ fs) h = h
-open_less n more (i ∷ is) [] h = h
-open_less n more (i ∷ is) (f ∷ fs) h = (record { kind = h.0.kind; room = room_less f (n + more) more (omega arith) h.0.room }, open_less n more is fs h.1)

@@ -5,7 +5,6 @@ pub mod ItemsAdding
 pub mod Joining
 pub mod Lines
 pub mod Reaching
-pub mod RecordsAdding
 pub mod Standing
 pub mod Steps
 pub mod Testing

@@ -2,7 +2,6 @@
 use Rattle.std.proofs.Common.{◌≡◌, ℕ, zero, suc, ◌+◌, ◌-◌, ◌*◌, ◌<◌, ◌≤◌, List, [], ◌∷◌, ◌++◌, length, map, take, drop, get_or, slice_index_or, refl, sym, ap, ◌∙◌, subst, ◌⊎◌, inl, inr, arith}
 use Rattle.std.specs.List.{flat_map, range_with_len}
 use Rattle.fm_lanes.specs.Kind.{width_of}
-use Rattle.fm_path.specs.Resolution.{Resolution, StaysInside}
 use Rattle.fm_path.specs.declared.value_spec.ValueSpec.{ValueSpec}
 use Rattle.fm_places.specs.declared.dim.Dim.{Dim}
 use Rattle.fm_places.specs.Steady.{IsInside, IsSteady}
@@ -107,7 +106,3 @@ pub none_at : (k : ℕ) (ds : List Dim) (z : Dim) → k < length ds → (get_or 
 none_at k [] z below e = absurd (omega arith)
 none_at zero (d ∷ ds) z below e = (none_first d ds e).listed
 none_at (suc k) (d ∷ ds) z below e = none_led (index_lists ds) (range_with_len 0 d.bound) (none_at k ds z (omega arith) e)
-
--- a path that stays inside a record of the segment
-pub path_reaches : (s : Region) (place : ℕ) (r : Resolution) → StaysInside r → place + r.root_size ≤ s.first + s.size → ReachesInside s place r.offset r.dims r.value
-path_reaches s place r stays within = record { steady = stays.steady; within = λ is a. let i = stays.inside is a in omega (arith, i, within) }

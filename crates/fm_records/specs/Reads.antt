@@ -7,7 +7,6 @@ use Rattle.fm_base.specs.declared.refusal.Refusal.{Refusal}
 use Rattle.fm_base.specs.declared.refusal.Refusal.TheVariants.{Ragged, WrongThread, Closed, Memory}
 use Rattle.fm_base.specs.Arenas.{MayUse}
 use Rattle.fm_base.specs.Calls.{Read, Found as Found_word, Entry}
-use Rattle.fm_base.specs.View.{View}
 use Rattle.fm_base.specs.Visits.{visit, refused_visit}
 use Rattle.fm_lanes.specs.declared.value.Value.{Value}
 use Rattle.fm_lanes.specs.Kind.{width_of}
@@ -15,7 +14,6 @@ use Rattle.fm_lanes.specs.Value.{number_of_value}
 use Rattle.fm_path.specs.Resolution.{StaysInside}
 use Rattle.fm_path.specs.declared.value_spec.ValueSpec.{ValueSpec}
 use Rattle.fm_places.specs.declared.dim.Dim.{Dim}
-use Rattle.fm_pieces.specs.Alone.{bytes_of_arena}
 use Rattle.fm_places.specs.Steady.{IsSteady}
 use Rattle.fm_places.specs.Walk.{AreAdmitted, offset_at}
 use Rattle.fm_segment.specs.Access.{ReadsValue}
@@ -138,11 +136,6 @@ DoesQuery c p s (Err Closed) own = (s.size % p.size ≡ 0) × MayUse s.arena c �
 DoesQuery c p s (Err Memory) own = (s.size % p.size ≡ 0) × MayUse s.arena c × AreReads c s own
 DoesQuery c p s (Err r) own = ⊥
 
--- ---- the only caller's view
-
-abbrev pub bytes_of_segment : View → Region → List ℕ
-bytes_of_segment v s = take s.size (drop s.first (bytes_of_arena v.state s.arena))
-
 -- ---- what reading asks of paths
 
 -- the condition's one value stands in the segment, where its record begins at the place
@@ -199,10 +192,6 @@ how_many (asked.Of f r) = length (index_lists r.dims)
 abbrev pub IsItemFew : ℕ → Item → Type 0
 IsItemFew size item = how_many item.asked ≤ size
 
--- no item has more values in a record than the record has bytes
-abbrev pub AreFew : Plan → Type 0
-AreFew p = AllByRecursion (IsItemFew p.size) p.items
-
 -- ---- one item, one record
 
 -- an item's values stand in the segment
@@ -224,12 +213,6 @@ pub record AddsItems (c : ℕ) (id : ArenaId) (place : ℕ) (items : List Item) 
   pub found : List Found
   pub finds : FindsItems c id place items own found
   pub added : new ≡ joined old found
-
--- the same for a record, if it is chosen
-pub record AddsRecord (c : ℕ) (id : ArenaId) (p : Plan) (place : ℕ) (old new : List Found) (own : List Entry) : Type 0 where
-  pub seen : Option (List Found)
-  pub reads : ReadsRecord c id p place own seen
-  pub added : new ≡ with_record old seen
 
 -- each item's find is of the kind that it asks for, and so many numbers can be added to it
 pub record IsOpen (more : ℕ) (item : Item) (found : Found) : Type 0 where
