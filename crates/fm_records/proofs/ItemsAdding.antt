@@ -1,10 +1,9 @@
 -- What items find in a record, added to what they found before.
 use Rattle.std.proofs.Common.{◌≡◌, ℕ, zero, suc, ◌+◌, ◌<◌, ◌≤◌, Result, Ok, Err, List, [], ◌∷◌, ◌++◌, length, drop, map, set, get_or, Option, None, Some, refl, sym, ap, ◌∙◌, subst, append_assoc, arith}
 use Rattle.std.specs.Prelude.{ℤ, ◌+ℤ◌, pos}
-use Rattle.std.specs.List.{AllZip, AllByRecursion}
+use Rattle.std.specs.List.{AllByRecursion}
 use Rattle.std.proofs.lemmas.Int.{ints}
 use Rattle.std.proofs.lemmas.List.{append-nil, drop_more, drop_all, length-append}
-use Rattle.fm_base.specs.declared.arena_id.ArenaId.{ArenaId}
 use Rattle.fm_base.specs.declared.refusal.Refusal.{Refusal}
 use Rattle.fm_base.specs.declared.refusal.Refusal.TheVariants.{Closed, Memory}
 use Rattle.fm_base.specs.Calls.{Entry}
@@ -26,7 +25,7 @@ use Rattle.fm_records.specs.Answers.{folded, lesser, greater, sum_of, least_of, 
 use Rattle.fm_records.specs.Joined.{both, joined}
 use Rattle.fm_records.specs.Texts.{IsFolded, IsFoundOf, IsItemFound}
 use Rattle.fm_records.specs.Values.{index_lists}
-use Rattle.fm_records.specs.Reads.{AddsItem, AddsItems, AddsNumbers, AreOpen, AreReads, IsOpen, KeepsRoom, how_many, DoesRead, FindsItem, FindsItems, IsItemFew, no_item, one_item, HasRoom, ReadsNumbers, no_more, value_places, with_number, with_numbers}
+use Rattle.fm_records.specs.Reads.{AddsItem, AddsItems, AddsNumbers, AreOpen, AreReads, IsOpen, KeepsRoom, how_many, DoesRead, FindsItems, IsItemFew, no_item, one_item, ReadsNumbers, no_more, value_places, with_numbers}
 use Rattle.fm_records.proofs.Reaching.{room_less}
 use Rattle.fm_records.proofs.Ends.{lesser-lesser, greater-greater}
 use Rattle.fm_records.proofs.Visiting.{AreReads-none, AreReads-append}
@@ -73,11 +72,14 @@ item_read old new s place f r a g h result is kind d = record { own = d.own; doe
   where
     by : (result : Result (Unit {0}) Refusal) → DoesRead old.caller s (λ u es. AddsNumbers old.caller s.arena r.value (value_places place r.offset r.dims) g h es) result d.own
         → DoesRead old.caller s (λ u es. AddsItem old.caller s.arena place a g h es) result d.own
-    by (Ok u) x = (x.0, subst (λ (b : Asked). AddsItem old.caller s.arena place b g h d.own) (sym is) (record {
-      found = folded f x.1.numbers;
-      finds = (x.1.numbers, x.1.reads, refl);
-      added = x.1.added ∙ with_numbers_both f g x.1.numbers kind;
-    }))
+    by (Ok u) x = (
+      x.0,
+      subst (λ (b : Asked). AddsItem old.caller s.arena place b g h d.own) (sym is) (record {
+        found = folded f x.1.numbers;
+        finds = (x.1.numbers, x.1.reads, refl);
+        added = x.1.added ∙ with_numbers_both f g x.1.numbers kind;
+      }),
+    )
     by (Err Closed) x = x
     by (Err Memory) x = x
     by (Err e) x = absurd x
@@ -87,11 +89,14 @@ pub item_empty : (old : View) (s : Region) (place : ℕ) (f : Fold) (r : Resolut
     → Did old old (DoesRead old.caller s (λ u es. AddsItem old.caller s.arena place a g g es) (Ok (tt {0})))
 item_empty old s place f r a g is kind none = record {
   own = [];
-  does = (AreReads-none old.caller s, subst (λ (b : Asked). AddsItem old.caller s.arena place b g g []) (sym is) (record {
-    found = folded f [];
-    finds = ([], subst (λ (ps : List ℕ). ReadsNumbers old.caller s.arena r.value ps [] []) (sym (ap (map (λ is. place + offset_at r.offset r.dims is)) none)) no_more, refl);
-    added = with_numbers_both f g [] kind;
-  }));
+  does = (
+    AreReads-none old.caller s,
+    subst (λ (b : Asked). AddsItem old.caller s.arena place b g g []) (sym is) (record {
+      found = folded f [];
+      finds = ([], subst (λ (ps : List ℕ). ReadsNumbers old.caller s.arena r.value ps [] []) (sym (ap (map (λ is. place + offset_at r.offset r.dims is)) none)) no_more, refl);
+      added = with_numbers_both f g [] kind;
+    }),
+  );
   makes = Makes-none old;
 }
 
@@ -254,13 +259,16 @@ pub items_all : (old now : View) (s : Region) (place size : ℕ) (items : List I
     → Did old now (DoesRead old.caller s (λ (u : Unit {0}) es. AddsItems old.caller s.arena place items fs gs es) (Ok tt))
 items_all old now s place size items fs gs k own a past = record {
   own = own;
-  does = (a.reads, record {
-    found = a.found;
-    finds = subst (λ (hs : List Found). FindsItems old.caller s.arena place items own hs) (append-nil a.found)
-        (subst (λ (es : List Entry). FindsItems old.caller s.arena place items es (a.found ++ [])) (append-nil own)
-        (a.rest [] [] (subst (λ (ys : List Item). FindsItems old.caller s.arena place ys [] []) (sym (drop_all k items past)) no_item)));
-    added = a.added;
-  });
+  does = (
+    a.reads,
+    record {
+      found = a.found;
+      finds = subst (λ (hs : List Found). FindsItems old.caller s.arena place items own hs) (append-nil a.found)
+          (subst (λ (es : List Entry). FindsItems old.caller s.arena place items es (a.found ++ [])) (append-nil own)
+          (a.rest [] [] (subst (λ (ys : List Item). FindsItems old.caller s.arena place ys [] []) (sym (drop_all k items past)) no_item)));
+      added = a.added;
+    },
+  );
   makes = a.makes;
 }
 
@@ -286,11 +294,13 @@ items_step old now next s place size items fs gs k own x f new u a n same few di
     let plus : suc k ≡ k + 1 = omega arith in
     let y : (z : Item) → z ≡ get_or items k x → Did now next (DoesRead now.caller s (λ (y : Unit {0}) es. AddsItem now.caller s.arena place z.asked f new es) (Ok u)) =
     λ z e. subst (λ (w : Item). Did now next (DoesRead now.caller s (λ (y : Unit {0}) es. AddsItem now.caller s.arena place w.asked f new es) (Ok u))) (sym e) did in
-    let d = subst (λ (g : Found). Did now next (DoesRead now.caller s (λ (y : Unit {0}) es. AddsItem now.caller s.arena place x.asked g new es) (Ok u))) n.found (y x n.item) in
-    (own ++ d.own, subst (λ (j : ℕ). AreItemsAdded old next s place size items fs (set gs k new) j (own ++ d.own)) plus
-    (items_more old now next s place size items fs gs k own x new f u a n.below same n.item
-    (subst (λ (w : Item). how_many w.asked ≤ size) (sym n.item) few) d
-    (subst (λ (g : Found). KeepsRoom g new (how_many x.asked)) n.found (subst (λ (w : Item). KeepsRoom f new (how_many w.asked)) (sym n.item) keeps))))
+    let d = subst (λ (g : Found). Did now next (DoesRead now.caller s (λ (y : Unit {0}) es. AddsItem now.caller s.arena place x.asked g new es) (Ok u))) n.found (y x n.item) in (
+      own ++ d.own,
+      subst (λ (j : ℕ). AreItemsAdded old next s place size items fs (set gs k new) j (own ++ d.own)) plus
+          (items_more old now next s place size items fs gs k own x new f u a n.below same n.item
+          (subst (λ (w : Item). how_many w.asked ≤ size) (sym n.item) few) d
+          (subst (λ (g : Found). KeepsRoom g new (how_many x.asked)) n.found (subst (λ (w : Item). KeepsRoom f new (how_many w.asked)) (sym n.item) keeps))),
+    )
 
 -- what holds of each item holds of the one at k
 pub few_at : (size k : ℕ) (items : List Item) (x : Item) → AllByRecursion (IsItemFew size) items → k < length items → how_many (get_or items k x).asked ≤ size

@@ -4,7 +4,7 @@ use Rattle.std.specs.List.{flat_map, range_with_len}
 use Rattle.fm_lanes.specs.Kind.{width_of}
 use Rattle.fm_path.specs.declared.value_spec.ValueSpec.{ValueSpec}
 use Rattle.fm_places.specs.declared.dim.Dim.{Dim}
-use Rattle.fm_places.specs.Steady.{IsInside, IsSteady}
+use Rattle.fm_places.specs.Steady.{IsInside}
 use Rattle.fm_places.specs.Walk.{AreAdmitted, offset_at, reach}
 use Rattle.fm_segment.specs.Region.{Region}
 use Rattle.fm_records.specs.declared.found.Found.{Found}
@@ -71,6 +71,7 @@ reached s place at next d ds spec i h below comes = elim (some_or_none ds) [ inl
   where
     there : ReachesInside s place (reach at d.stride i) ds spec
     there = record { steady = λ is a. (h.steady (i ∷ is) (below, a)).1; within = λ is a. h.within (i ∷ is) (below, a) }
+
     some : (is : List ℕ) × AreAdmitted ds is → Reached s place at next d ds spec i
     some is =
         let e : next ≡ reach at d.stride i = comes (h.steady (i ∷ is.0) (below, is.1)).0 in
@@ -78,6 +79,7 @@ reached s place at next d ds spec i h below comes = elim (some_or_none ds) [ inl
           inside = subst (λ (n : ℕ). ReachesInside s place n ds spec) (sym e) there;
           places = ap (λ n. value_places place n ds) e;
         }
+
     none : HasNone ds → Reached s place at next d ds spec i
     none n = record {
       inside = record { steady = λ is a. absurd (n.admitted is a); within = λ is a. absurd (n.admitted is a) };

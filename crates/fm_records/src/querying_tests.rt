@@ -19,7 +19,10 @@ fn a_chosen_record_is_counted(rt: HostRuntime) -> Result<(), Fail> {
         asked: Asked::Count,
     }];
     let mut found = vec![in alloc; Found::Count(2)]?;
-    assert_eq!(rt; add_items(&mut m, &s, first, 24, &items, &mut found), Ok(()));
+    assert_eq!(rt;
+        add_items(&mut m, &s, first, 24, &items, &mut found),
+        Ok(())
+    );
     match &found[0] {
         Found::Count(count) => assert_eq!(rt; *count, 3),
         _ => assert!(rt; false),

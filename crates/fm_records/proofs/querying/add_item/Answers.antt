@@ -1,5 +1,5 @@
 -- An item's values are read, or there are none.
-use Rattle.std.proofs.Common.{◌≡◌, refl, sym, ap, ◌∙◌, subst}
+use Rattle.std.proofs.Common.{refl, sym, ap, ◌∙◌, subst}
 use Rattle.fm_query.specs.declared.item.Asked.{Asked}
 use Rattle.fm_records.specs.Values.{index_lists}
 use Rattle.fm_records.specs.Texts.{IsFoundOf}

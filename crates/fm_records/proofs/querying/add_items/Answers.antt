@@ -1,10 +1,10 @@
 -- Items are gone through one by one.
-use Rattle.std.proofs.Common.{◌≡◌, ◌+◌, ◌<◌, ◌≤◌, ◌++◌, [], List, length, get_or, set, vec_len, ap, sym, ◌∙◌, subst, arith}
+use Rattle.std.proofs.Common.{◌≡◌, [], List, length, get_or, set, vec_len, arith}
 use Rattle.fm_base.proofs.Outcomes.{Makes-lasts, Did-lasts}
 use Rattle.fm_base.specs.Calls.{Entry}
 use Rattle.fm_segment.proofs.Access.{known_still}
 use Rattle.fm_records.specs.Reads.{AddsItem, AddsItems}
-use Rattle.fm_records.proofs.ItemsAdding.{Next, items_none, items_step, items_all, next_open, few_at, open_all, open_long}
+use Rattle.fm_records.proofs.ItemsAdding.{items_none, items_step, items_all, next_open, few_at, open_all, open_long}
 use Rattle.fm_records.proofs.Reaching.{room_less}
 use Rattle.fm_records.proofs.Visiting.{stops_then}
 use Rattle.fm_records.proofs.querying.add_items.Goals as goal
