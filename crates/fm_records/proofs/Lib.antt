@@ -1,6 +1,7 @@
 pub mod Adding
 pub mod Ends
 pub mod Indices
+pub mod ItemsAdding
 pub mod Joining
 pub mod Lines
 pub mod Reaching

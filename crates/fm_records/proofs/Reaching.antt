@@ -4,7 +4,7 @@ use Rattle.std.specs.List.{flat_map, range_with_len}
 use Rattle.fm_lanes.specs.Kind.{width_of}
 use Rattle.fm_path.specs.declared.value_spec.ValueSpec.{ValueSpec}
 use Rattle.fm_places.specs.declared.dim.Dim.{Dim}
-use Rattle.fm_places.specs.Steady.{IsInside, IsSteady}
+use Rattle.fm_places.specs.Steady.{IsInside}
 use Rattle.fm_places.specs.Walk.{AreAdmitted, offset_at, reach}
 use Rattle.fm_segment.specs.Region.{Region}
 use Rattle.fm_records.specs.declared.found.Found.{Found}
@@ -71,6 +71,7 @@ reached s place at next d ds spec i h below comes = elim (some_or_none ds) [ inl
   where
     there : ReachesInside s place (reach at d.stride i) ds spec
     there = record { steady = λ is a. (h.steady (i ∷ is) (below, a)).1; within = λ is a. h.within (i ∷ is) (below, a) }
+
     some : (is : List ℕ) × AreAdmitted ds is → Reached s place at next d ds spec i
     some is =
         let e : next ≡ reach at d.stride i = comes (h.steady (i ∷ is.0) (below, is.1)).0 in
@@ -78,6 +79,7 @@ reached s place at next d ds spec i h below comes = elim (some_or_none ds) [ inl
           inside = subst (λ (n : ℕ). ReachesInside s place n ds spec) (sym e) there;
           places = ap (λ n. value_places place n ds) e;
         }
+
     none : HasNone ds → Reached s place at next d ds spec i
     none n = record {
       inside = record { steady = λ is a. absurd (n.admitted is a); within = λ is a. absurd (n.admitted is a) };
@@ -91,7 +93,7 @@ closed_within s place at (d ∷ ds) spec h empty = absurd (omega arith)
 
 -- room for fewer
 pub room_less : (f : Found) (n m : ℕ) → m ≤ n → HasRoom f n → HasRoom f m
-room_less (Count k) n m less h = tt
+room_less (Count k) n m less h = omega arith
 room_less (Sum x) n m less h = (h.0, omega (arith, h.1), h.2)
 room_less (Least o) n m less h = tt
 room_less (Greatest o) n m less h = tt
@@ -100,3 +102,9 @@ room_less (Listed xs) n m less h = tt
 -- room for the values at one index
 pub room_at : (f : Found) (i bound n : ℕ) → i < bound → HasRoom f (bound * n) → HasRoom f (i * n + n)
 room_at f i bound n below h = room_less f (bound * n) (i * n + n) (let e : suc i * n ≤ bound * n = grind arith in grind (arith, e)) h
+
+-- a bound of 0 leaves no list of indices
+pub none_at : (k : ℕ) (ds : List Dim) (z : Dim) → k < length ds → (get_or ds k z).bound ≡ 0 → index_lists ds ≡ []
+none_at k [] z below e = absurd (omega arith)
+none_at zero (d ∷ ds) z below e = (none_first d ds e).listed
+none_at (suc k) (d ∷ ds) z below e = none_led (index_lists ds) (range_with_len 0 d.bound) (none_at k ds z (omega arith) e)

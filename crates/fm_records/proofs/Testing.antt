@@ -1,9 +1,8 @@
 -- Conditions that are tested in order, as far as they hold.
-use Rattle.std.proofs.Common.{◌≡◌, ℕ, zero, suc, ◌+◌, ◌<◌, ◌≤◌, Bool, true, false, Ok, Err, List, [], ◌∷◌, ◌++◌, length, drop, get_or, refl, sym, ap, ◌∙◌, subst, append_assoc, arith}
+use Rattle.std.proofs.Common.{◌≡◌, ℕ, zero, suc, ◌+◌, ◌<◌, ◌≤◌, Bool, true, false, Ok, Err, List, [], ◌∷◌, ◌++◌, length, drop, get_or, sym, ap, ◌∙◌, subst, append_assoc, arith}
 use Rattle.std.specs.Prelude.{ℤ}
 use Rattle.std.specs.List.{AllByRecursion}
 use Rattle.std.proofs.lemmas.List.{drop_more, drop_all, append-nil}
-use Rattle.fm_base.specs.declared.arena_id.ArenaId.{ArenaId}
 use Rattle.fm_base.specs.declared.refusal.Refusal.{Refusal}
 use Rattle.fm_base.specs.Calls.{Entry}
 use Rattle.fm_base.specs.View.{View, Makes, Did}
@@ -15,7 +14,7 @@ use Rattle.fm_segment.specs.Region.{Region}
 use Rattle.fm_lanes.specs.Kind.{width_of}
 use Rattle.fm_query.specs.declared.condition.Condition.{Condition}
 use Rattle.fm_records.specs.Answers.{compares}
-use Rattle.fm_records.specs.Reads.{AreReads, DoesRead, ReadsNumber, IsTestable, Tests, TestsConditions, all_hold, fails, holds}
+use Rattle.fm_records.specs.Reads.{AreReads, DoesRead, ReadsNumber, IsTestable, TestsConditions, all_hold, fails, holds}
 use Rattle.fm_records.proofs.Visiting.{AreReads-none, AreReads-append, stops_then}
 
 -- what holds of each holds of the one at an index

@@ -1,5 +1,5 @@
 -- Visits that read words of a segment, and the numbers that they give.
-use Rattle.std.proofs.Common.{◌≡◌, ℕ, ◌+◌, ◌*◌, ◌/◌, ◌<◌, ◌≤◌, Option, Some, None, Result, Ok, Err, List, [], ◌∷◌, ◌++◌, refl, sym, ap, ◌∙◌, subst, append_assoc, arith}
+use Rattle.std.proofs.Common.{◌≡◌, ℕ, ◌+◌, ◌/◌, ◌≤◌, Option, Some, None, Ok, Err, List, [], ◌∷◌, ◌++◌, refl, sym, ap, ◌∙◌, subst, append_assoc, arith}
 use Rattle.std.specs.Prelude.{ℤ}
 use Rattle.std.specs.List.{AllByRecursion, flat_map}
 use Rattle.std.proofs.lemmas.List.{append-nil}
@@ -10,15 +10,14 @@ use Rattle.fm_base.specs.declared.refusal.Refusal.TheVariants.{Closed, WrongThre
 use Rattle.fm_base.specs.Arenas.{MayUse}
 use Rattle.fm_base.specs.Calls.{Entry}
 use Rattle.fm_base.specs.View.{View, Makes, Did}
-use Rattle.fm_base.specs.Visits.{Run, ends, goes_on, piece_width, refused_visit}
+use Rattle.fm_base.specs.Visits.{Run, ends, goes_on, refused_visit}
 use Rattle.fm_base.proofs.Making.{Makes-then}
 use Rattle.fm_lanes.specs.declared.value.Value.{Value}
 use Rattle.fm_lanes.specs.Coding.{decoded, turned}
 use Rattle.fm_lanes.specs.Kind.{width_of}
 use Rattle.fm_lanes.specs.Value.{number_of_value}
 use Rattle.fm_path.specs.declared.value_spec.ValueSpec.{ValueSpec}
-use Rattle.fm_pieces.specs.Ranges.{Reading, ReadsOn, EndsReading, ReadsRange, DoesRefuse, DoesGet}
-use Rattle.fm_segment.specs.Access.{DoesGetValue}
+use Rattle.fm_pieces.specs.Ranges.{Reading, ReadsOn, EndsReading, DoesGet}
 use Rattle.fm_segment.specs.Region.{Region}
 use Rattle.fm_segment.proofs.Access.{got_value}
 use Rattle.fm_records.specs.Reads.{IsWordOf, read_visit, AreReads, StopsReading, DoesRead, ReadsNumber}

@@ -1,13 +1,12 @@
 -- What the visits of a query read of a segment, record by record, and what that comes to.
-use Rattle.std.specs.Prelude.{◌≡◌, ℕ, ◌+◌, ◌*◌, ◌/◌, ◌%◌, ◌<◌, ◌≤◌, List, [], ◌∷◌, ◌++◌, length, take, drop, map, Bool, true, false, ℤ, pos, negsuc, ◌+ℤ◌, ◌≤ℤ◌, ◌^◌, ⊤, Option, Some, None, Result, Ok, Err}
+use Rattle.std.specs.Prelude.{◌≡◌, ℕ, ◌+◌, ◌*◌, ◌/◌, ◌%◌, ◌<◌, ◌≤◌, List, [], ◌∷◌, ◌++◌, length, map, Bool, true, false, ℤ, pos, negsuc, ◌+ℤ◌, ◌≤ℤ◌, ◌^◌, ⊤, Option, Some, None, Result, Ok, Err}
 use Rattle.std.proofs.Common.{zero, suc}
-use Rattle.std.specs.List.{AllByRecursion, flat_map}
+use Rattle.std.specs.List.{AllByRecursion, AllZip, flat_map}
 use Rattle.fm_base.specs.declared.arena_id.ArenaId.{ArenaId}
 use Rattle.fm_base.specs.declared.refusal.Refusal.{Refusal}
 use Rattle.fm_base.specs.declared.refusal.Refusal.TheVariants.{Ragged, WrongThread, Closed, Memory}
 use Rattle.fm_base.specs.Arenas.{MayUse}
 use Rattle.fm_base.specs.Calls.{Read, Found as Found_word, Entry}
-use Rattle.fm_base.specs.View.{View}
 use Rattle.fm_base.specs.Visits.{visit, refused_visit}
 use Rattle.fm_lanes.specs.declared.value.Value.{Value}
 use Rattle.fm_lanes.specs.Kind.{width_of}
@@ -15,7 +14,6 @@ use Rattle.fm_lanes.specs.Value.{number_of_value}
 use Rattle.fm_path.specs.Resolution.{StaysInside}
 use Rattle.fm_path.specs.declared.value_spec.ValueSpec.{ValueSpec}
 use Rattle.fm_places.specs.declared.dim.Dim.{Dim}
-use Rattle.fm_pieces.specs.Alone.{bytes_of_arena}
 use Rattle.fm_places.specs.Steady.{IsSteady}
 use Rattle.fm_places.specs.Walk.{AreAdmitted, offset_at}
 use Rattle.fm_segment.specs.Access.{ReadsValue}
@@ -28,7 +26,8 @@ use Rattle.fm_query.specs.declared.item.Item.{Item}
 use Rattle.fm_records.specs.declared.found.Found.{Found}
 use Rattle.fm_records.specs.declared.found.Found.TheVariants.{Count, Sum, Least, Greatest, Listed}
 use Rattle.fm_records.specs.Answers.{compares, folded, found_over, lesser, greater}
-use Rattle.fm_records.specs.Joined.{joined}
+use Rattle.fm_records.specs.Joined.{both, joined}
+use Rattle.fm_records.specs.Texts.{IsItemFound}
 use Rattle.fm_records.specs.Values.{index_lists}
 
 -- ---- visits that read
@@ -137,11 +136,6 @@ DoesQuery c p s (Err Closed) own = (s.size % p.size ≡ 0) × MayUse s.arena c �
 DoesQuery c p s (Err Memory) own = (s.size % p.size ≡ 0) × MayUse s.arena c × AreReads c s own
 DoesQuery c p s (Err r) own = ⊥
 
--- ---- the only caller's view
-
-abbrev pub bytes_of_segment : View → Region → List ℕ
-bytes_of_segment v s = take s.size (drop s.first (bytes_of_arena v.state s.arena))
-
 -- ---- what reading asks of paths
 
 -- the condition's one value stands in the segment, where its record begins at the place
@@ -178,8 +172,9 @@ pub record IsSumOf (count : ℕ) (x : ℤ) : Type 0 where
   pub low : negsuc (count * 2 ^ 63) ≤ℤ x
   pub high : x ≤ℤ pos (count * 2 ^ 63)
 
--- so many numbers can be added
+-- so many numbers, or records, can be added
 abbrev pub HasRoom : Found → ℕ → Type 0
+HasRoom (Count n) more = n + more ≤ 2 ^ 62
 HasRoom (Sum x) more = (count : ℕ) × (count + more ≤ 2 ^ 62) × IsSumOf count x
 HasRoom found more = ⊤
 
@@ -189,13 +184,44 @@ KeepsRoom old new n = (more : ℕ) → HasRoom old (n + more) → HasRoom new mo
 
 -- ---- queries whose sums fit
 
-abbrev pub IsFew : ℕ → Asked → Type 0
-IsFew size asked.Count = Unit {0}
-IsFew size (asked.Of f r) = length (index_lists r.dims) ≤ size
+-- how many numbers an item adds in a record
+abbrev pub how_many : Asked → ℕ
+how_many asked.Count = 1
+how_many (asked.Of f r) = length (index_lists r.dims)
 
 abbrev pub IsItemFew : ℕ → Item → Type 0
-IsItemFew size item = IsFew size item.asked
+IsItemFew size item = how_many item.asked ≤ size
 
--- no item has more values in a record than the record has bytes
-abbrev pub AreFew : Plan → Type 0
-AreFew p = AllByRecursion (IsItemFew p.size) p.items
+-- ---- one item, one record
+
+-- an item's values stand in the segment
+abbrev pub IsReadable : Region → ℕ → Asked → Type 0
+IsReadable s place asked.Count = Unit {0}
+IsReadable s place (asked.Of f r) = ReachesInside s place r.offset r.dims r.value
+
+abbrev pub IsItemReadable : Region → ℕ → Item → Type 0
+IsItemReadable s place item = IsReadable s place item.asked
+
+-- what an item finds in a record is added to what it found before
+pub record AddsItem (c : ℕ) (id : ArenaId) (place : ℕ) (a : Asked) (old new : Found) (own : List Entry) : Type 0 where
+  pub found : Found
+  pub finds : FindsItem c id place a own found
+  pub added : new ≡ both old found
+
+-- the same for all items
+pub record AddsItems (c : ℕ) (id : ArenaId) (place : ℕ) (items : List Item) (old new : List Found) (own : List Entry) : Type 0 where
+  pub found : List Found
+  pub finds : FindsItems c id place items own found
+  pub added : new ≡ joined old found
+
+-- each item's find is of the kind that it asks for, and so many numbers can be added to it
+pub record IsOpen (more : ℕ) (item : Item) (found : Found) : Type 0 where
+  pub kind : IsItemFound item found
+  pub room : HasRoom found more
+
+abbrev pub AreOpen : ℕ → List Item → List Found → Type 0
+AreOpen more items fs = AllZip (IsOpen more) items fs
+
+-- after so many numbers they are as open as was left
+abbrev pub StayOpen : List Item → List Found → List Found → ℕ → Type 0
+StayOpen items old new n = (more : ℕ) → AreOpen (n + more) items old → AreOpen more items new

@@ -38,11 +38,6 @@ impl Answer {
         self.found.as_slice()
     }
 
-    /// The same, to be added to.
-    pub(crate) fn found_mut(&mut self) -> &mut Vec<Found> {
-        &mut self.found
-    }
-
     /// Adds the answer of the same query over the records behind: then it is the answer over both runs of records.
     ///
     /// Refused: `Memory`, which leaves it as it was.

@@ -1,7 +1,8 @@
 ghost use Rattle.std.specs.Prelude.{◌≡◌, OnOk, OnErr, IfErr, []};
 ghost use Rattle.fm_records.specs.Answers as answers;
 ghost use Rattle.fm_records.specs.Answers.{found_in};
-ghost use Rattle.fm_records.specs.Joined.{CanJoinFound, lengthened, shortened, summed};
+ghost use Rattle.fm_records.specs.Joined.{CanJoinFound, both, lengthened, shortened, summed};
+ghost use Rattle.fm_records.specs.declared.found.Found.TheVariants.{Count};
 ghost use Rattle.fm_records.specs.Reads.{HasRoom, KeepsRoom, with_number};
 
 use crate::numbers::Numbers;
@@ -96,7 +97,11 @@ impl Found {
     }
 
     /// Adds a chosen record to a count.
-    pub(crate) fn add_record(&mut self) {
+    pub(crate) fn add_record(&mut self)
+        requires { HasRoom self.old 1 }
+        ensures both { self.new ≡ both self.old (Count 1) }
+        ensures room { KeepsRoom self.old self.new 1 }
+    {
         if let Found::Count(count) = self {
             *count += 1;
         }

@@ -21,4 +21,4 @@ pub use laws::{
 };
 pub use numbers::Numbers;
 pub use printing::print_answer;
-pub use querying::query_segment;
+pub use querying::{add_items, is_chosen};

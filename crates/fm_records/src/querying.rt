@@ -1,114 +1,62 @@
-ghost use Rattle.std.specs.Prelude.{◌≡◌, ◌%◌, ◌≤◌, true, false, None, IfOk};
+ghost use Rattle.std.specs.Prelude.{◌≡◌, ◌≤◌, [], true, None, OnOk};
 ghost use Rattle.std.specs.List.{AllByRecursion};
 ghost use Rattle.fm_base.specs.Arenas.{MayUse};
 ghost use Rattle.fm_base.specs.Outcomes.{Lasts};
 ghost use Rattle.fm_base.specs.View.{Did};
 ghost use Rattle.fm_segment.specs.Access.{IsKnown};
 ghost use Rattle.fm_records.specs.Answers as answers;
-ghost use Rattle.fm_records.specs.Answers.{answer};
-ghost use Rattle.fm_records.specs.Reads.{AreFew, DoesQuery, DoesRead, IsTestable, TestsConditions, bytes_of_segment};
+ghost use Rattle.fm_records.specs.Reads.{AddsItem, AddsItems, AreOpen, DoesRead, HasRoom, IsItemFew, IsItemReadable};
+ghost use Rattle.fm_records.specs.Reads.{IsReadable, IsTestable, KeepsRoom, StayOpen, TestsConditions, how_many};
+ghost use Rattle.fm_records.specs.Texts.{IsFoundOf};
+ghost use Rattle.fm_records.specs.Values.{index_lists};
 
-use crate::answer::{Answer, of_no_records};
 use crate::found::Found;
 use crate::values::{add_values, number_of_value_at};
-use fm_base::{ArenaId, Kind, Memory, Refusal};
-use fm_query::{Asked, Condition, Item, Operator, Query};
+use fm_base::{Memory, Refusal};
+use fm_path::Dim;
+use fm_query::{Asked, Condition, Item, Operator};
 use fm_segment::Segment;
-use std::alloc::Global;
 
-/// The answer over the records of a segment: its bytes are cut into records from its first byte on.
+/// Adds what the items find in the record of `size` bytes that stands at a place: their values are read in the order of
+/// the items and of index lists. A value takes one visit of the arena a piece, and nothing is held between visits.
 ///
-/// Records are read in order. In each the conditions are tested in order, up to the first that fails; where all hold
-/// the items' values are read in their order. A value takes one visit of the arena a piece, and nothing is held between
-/// visits: others may write in between.
-///
-/// Refused, in this order: `Ragged` with the bytes behind the last record; `WrongThread`, also where no value is read;
-/// `Closed` at the first value that is read then, or `Memory` at the first number that can't be listed. A path one of
-/// whose bounds is 0 has no values, at once.
-pub fn query_segment<M: Memory>(
-    alloc: Global,
-    m: &mut M,
-    q: &Query,
-    s: &Segment,
-) -> Result<Answer, Refusal>
-    requires outside { (M.view m.old).inside ≡ None }
-    requires known { IsKnown (M.view m.old) s.now }
-    requires aligned { s.now.first % q.now.alignment ≡ 0 }
-    requires few { AreFew q.now }
-    ensures did { Did (M.view m.old) (M.view m.new) (DoesQuery (M.view m.old).caller q.now s.now result) }
-    ensures alone { (M.view m.old).alone ≡ true
-        → IfOk result (λ a. a ≡ answer q.now (bytes_of_segment (M.view m.old) s.now)) }
-    ensures outside { (M.view m.new).inside ≡ None }
-    ensures lasts { Lasts (M.view m.old) (M.view m.new) }
-{
-    let rest = s.size() % q.record_size();
-    if rest != 0 {
-        return Err(Refusal::Ragged(rest));
-    }
-    if !may_use(m, s.arena()) {
-        return Err(Refusal::WrongThread);
-    }
-    let mut answer = of_no_records(alloc, q)?;
-    let count = s.size() / q.record_size();
-    add_records(
-        m,
-        s,
-        q.record_size(),
-        count,
-        q.conditions(),
-        q.items(),
-        answer.found_mut(),
-    )?;
-    Ok(answer)
-}
-
-/// Whether the caller may use the arena: a confined one is used by its owner alone.
-fn may_use<M: Memory>(m: &M, arena: ArenaId) -> bool
-    ensures yes { result ≡ true → MayUse arena (M.view m.now).caller }
-    ensures no { result ≡ false → ¬ (MayUse arena (M.view m.now).caller) }
-{
-    match arena.kind {
-        Kind::Confined => arena.owner == m.caller(),
-        Kind::Global | Kind::Automatic | Kind::Shared => true,
-    }
-}
-
-/// Adds what the items find in the chosen ones of the segment's first `count` records of `size` bytes.
-pub(crate) fn add_records<M: Memory>(
-    m: &mut M,
-    s: &Segment,
-    size: u64,
-    count: u64,
-    conditions: &[Condition],
-    items: &[Item],
-    found: &mut Vec<Found>,
-) -> Result<(), Refusal> {
-    for k in 0..count {
-        add_record(m, s, s.first() + k * size, conditions, items, found)?;
-    }
-    Ok(())
-}
-
-/// Adds what the items find in the record at a place, if it is chosen.
-fn add_record<M: Memory>(
+/// Refused: `Closed` at the first value that is read then, or `Memory` at the first number that can't be listed. What
+/// was added before stays.
+pub fn add_items<M: Memory>(
     m: &mut M,
     s: &Segment,
     place: u64,
-    conditions: &[Condition],
+    size: u64,
     items: &[Item],
     found: &mut Vec<Found>,
-) -> Result<(), Refusal> {
-    if !is_chosen(m, s, place, conditions)? {
-        return Ok(());
-    }
-    for (k, item) in items.iter().enumerate() {
-        add_item(m, s, place, &item.asked, &mut found[k])?;
+) -> Result<(), Refusal>
+    requires outside { (M.view m.old).inside ≡ None }
+    requires known { IsKnown (M.view m.old) s.now }
+    requires may { MayUse s.now.arena (M.view m.old).caller }
+    requires from { s.now.first ≤ place }
+    requires readable { AllByRecursion (IsItemReadable s.now place) items.now }
+    requires few { AllByRecursion (IsItemFew size) items.now }
+    requires open { AreOpen size items.now found.old.items }
+    ensures did { Did (M.view m.old) (M.view m.new) (DoesRead (M.view m.old).caller s.now
+        (λ _ own. AddsItems (M.view m.old).caller s.now.arena place items.now found.old.items found.new.items own) result) }
+    ensures open { OnOk result (StayOpen items.now found.old.items found.new.items size) }
+    ensures outside { (M.view m.new).inside ≡ None }
+    ensures lasts { Lasts (M.view m.old) (M.view m.new) }
+{
+    let _size = size;
+    for k in 0..items.len() {
+        match add_item(m, s, place, &items[k].asked, &mut found[k]) {
+            Ok(()) => {}
+            Err(refusal) => return Err(refusal),
+        }
     }
     Ok(())
 }
 
 /// Whether all conditions hold for the record at a place. Those behind the first that fails aren't tested.
-fn is_chosen<M: Memory>(
+///
+/// Refused: `Closed` at the first value that is read then.
+pub fn is_chosen<M: Memory>(
     m: &mut M,
     s: &Segment,
     place: u64,
@@ -151,6 +99,18 @@ fn compares(operator: Operator, x: i64, y: i64) -> bool
     }
 }
 
+/// Whether a bound is 0: then no index is admitted.
+fn has_no_values(dims: &[Dim]) -> bool
+    ensures { result ≡ true → index_lists dims.now ≡ [] }
+{
+    for dim in dims {
+        if dim.bound == 0 {
+            return true;
+        }
+    }
+    false
+}
+
 /// Adds what an item finds in a chosen record.
 fn add_item<M: Memory>(
     m: &mut M,
@@ -158,7 +118,20 @@ fn add_item<M: Memory>(
     place: u64,
     asked: &Asked,
     found: &mut Found,
-) -> Result<(), Refusal> {
+) -> Result<(), Refusal>
+    requires outside { (M.view m.old).inside ≡ None }
+    requires known { IsKnown (M.view m.old) s.now }
+    requires may { MayUse s.now.arena (M.view m.old).caller }
+    requires from { s.now.first ≤ place }
+    requires readable { IsReadable s.now place asked.now }
+    requires kind { IsFoundOf asked.now found.old }
+    requires room { HasRoom found.old (how_many asked.now) }
+    ensures did { Did (M.view m.old) (M.view m.new) (DoesRead (M.view m.old).caller s.now
+        (λ _ own. AddsItem (M.view m.old).caller s.now.arena place asked.now found.old found.new own) result) }
+    ensures room { OnOk result (KeepsRoom found.old found.new (how_many asked.now)) }
+    ensures outside { (M.view m.new).inside ≡ None }
+    ensures lasts { Lasts (M.view m.old) (M.view m.new) }
+{
     match asked {
         Asked::Count => {
             found.add_record();
@@ -166,7 +139,7 @@ fn add_item<M: Memory>(
         }
         Asked::Of(_, path) => {
             let dims = path.dims().as_slice();
-            if dims.iter().any(|dim| dim.bound == 0) {
+            if has_no_values(dims) {
                 return Ok(());
             }
             add_values(m, s, place, path.offset(), dims, *path.value(), found)

@@ -1,5 +1,5 @@
 -- Conditions are read one by one, up to the first that fails.
-use Rattle.std.proofs.Common.{◌≡◌, ◌+◌, ◌<◌, ◌≤◌, ◌++◌, [], true, false, length, get_or, ap, sym, ◌∙◌, subst, arith, w64, rules}
+use Rattle.std.proofs.Common.{◌≡◌, ◌+◌, ◌++◌, [], true, false, ap, sym, ◌∙◌, subst, arith, w64, rules}
 use Rattle.std.proofs.lemmas.Int.{to_z-of_z}
 use mir.Val.{to_z, of_z}
 use Rattle.fm_base.proofs.Outcomes.{Makes-lasts, Did-lasts}
@@ -7,7 +7,7 @@ use Rattle.fm_lanes.specs.Kind.{width_of}
 use Rattle.fm_path.specs.declared.value_spec.ValueSpec.{ValueSpec}
 use Rattle.fm_segment.proofs.Access.{known_still}
 use Rattle.fm_records.specs.Answers.{compares}
-use Rattle.fm_records.specs.Reads.{IsTestable, DoesRead, ReadsNumber, TestsConditions}
+use Rattle.fm_records.specs.Reads.{IsTestable}
 use Rattle.fm_records.proofs.Testing.{all_at, none_tested, read_of, tested_more, tested_fails, tested_all, tested_stops, testable_within}
 use Rattle.fm_records.proofs.querying.is_chosen.Goals as goal
 

@@ -1,17 +1,14 @@
 -- The values are read and added index by index.
-use Rattle.std.proofs.Common.{◌≡◌, ◌+◌, ◌-◌, ◌*◌, ◌<◌, ◌≤◌, ◌++◌, ◌∷◌, [], ℕ, List, pos, length, take, drop, get_or, subst, sym, ap, ◌∙◌, arith, rules, suc, add-one, refl, Ok}
-use Rattle.std.specs.List.{flat_map, range_with_len}
-use Rattle.std.proofs.lemmas.List.{length-take, length-drop}
+use Rattle.std.proofs.Common.{◌≡◌, ◌+◌, ◌-◌, ◌*◌, ◌++◌, ◌∷◌, [], ℕ, List, pos, length, take, drop, get_or, subst, sym, ap, ◌∙◌, arith, suc, add-one, Ok}
 use Rattle.fm_base.proofs.Outcomes.{Makes-lasts, Did-lasts}
 use Rattle.fm_base.specs.Calls.{Entry}
 use Rattle.fm_base.specs.View.{Did}
 use Rattle.fm_places.specs.declared.dim.Dim.{Dim}
-use Rattle.fm_places.specs.Walk.{reach}
 use Rattle.fm_segment.proofs.Access.{known_still}
 use Rattle.fm_records.specs.Reads.{AddsNumbers, DoesRead, HasRoom, ReachesInside, value_places}
 use Rattle.fm_records.specs.Values.{index_lists}
 use Rattle.fm_records.proofs.Adding.{AreAdded, added_none, added_more, added_all, lists_by_first}
-use Rattle.fm_records.proofs.Reaching.{dims_split, Reached, reached, closed_within, room_at}
+use Rattle.fm_records.proofs.Reaching.{dims_split, reached, closed_within, room_at}
 use Rattle.fm_records.proofs.Visiting.{stops_then}
 use Rattle.fm_records.proofs.values.+add_values.Goals as goal
 
@@ -37,11 +34,22 @@ add_values-requires g t c κs within =
     let r = reached c.args.s.now c.args.place c.args.at c.reach_of-next.result d more c.args.value c.loop-i.i
     (subst (λ (xs : List Dim). ReachesInside c.args.s.now c.args.place c.args.at xs c.args.value) e c.requires.inside) c.loop-i-test.true c.reach_of-next.ensures in
     let room = subst (HasRoom c.args.found.now) (ap (λ (xs : List Dim). length (index_lists xs)) e ∙ lists_by_first d more) c.requires.room in
-    let long : length ds ≡ suc (length more) = ap length e in
-    (omega (arith, long, c.decreases), (within, (c.loop-i.invariant.outside,
-    (known_still _ _ c.args.s.now (Makes-lasts _ _ _ c.loop-i.invariant.added.makes) c.requires.known,
-    ((λ k. c.requires.may k ∙ sym c.loop-i.invariant.added.makes.same_caller),
-    (c.requires.from, (r.inside, c.loop-i.invariant.added.room (length (index_lists more)) (room_at c.args.found.now c.loop-i.i d.bound (length (index_lists more)) c.loop-i-test.true room))))))))
+    let long : length ds ≡ suc (length more) = ap length e in (
+      omega (arith, long, c.decreases),
+      (
+        within,
+        (
+          c.loop-i.invariant.outside,
+          (
+            known_still _ _ c.args.s.now (Makes-lasts _ _ _ c.loop-i.invariant.added.makes) c.requires.known,
+            (
+              (λ k. c.requires.may k ∙ sym c.loop-i.invariant.added.makes.same_caller),
+              (c.requires.from, (r.inside, c.loop-i.invariant.added.room (length (index_lists more)) (room_at c.args.found.now c.loop-i.i d.bound (length (index_lists more)) c.loop-i-test.true room))),
+            ),
+          ),
+        ),
+      ),
+    )
 
 pub returns-in-Err-clause-did : goal.returns-in-Err-clause-did
 returns-in-Err-clause-did g t c =

@@ -1,5 +1,5 @@
 -- A sum of one number more.
-use Rattle.std.proofs.Common.{◌≡◌, ◌+◌, arith, subst}
+use Rattle.std.proofs.Common.{◌+◌, arith, subst}
 use Rattle.std.proofs.lemmas.Int.{ints}
 use Rattle.fm_records.specs.declared.found.Found.{Found}
 use Rattle.fm_records.specs.declared.found.Found.TheVariants.{Sum}
