@@ -1,6 +1,12 @@
+pub mod Adding
 pub mod Ends
+pub mod Few
 pub mod Indices
+pub mod ItemsAdding
 pub mod Joining
 pub mod Lines
+pub mod Reaching
 pub mod Standing
 pub mod Steps
+pub mod Testing
+pub mod Visiting

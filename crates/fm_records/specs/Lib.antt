@@ -1,6 +1,7 @@
 pub mod Answers
 pub mod Joined
 pub mod Laws
+pub mod Reads
 pub mod Records
 pub mod Texts
 pub mod Values

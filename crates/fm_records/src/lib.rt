@@ -6,8 +6,12 @@ mod found;
 mod laws;
 mod numbers;
 mod printing;
+mod querying;
+#[cfg(test)]
+mod querying_tests;
 #[cfg(test)]
 mod tests;
+mod values;
 
 pub use answer::{Answer, of_no_records};
 pub use found::Found;
@@ -17,3 +21,4 @@ pub use laws::{
 };
 pub use numbers::Numbers;
 pub use printing::print_answer;
+pub use querying::{add_items, is_chosen};
