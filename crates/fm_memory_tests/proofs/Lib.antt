@@ -1,4 +1,3 @@
 pub mod Others
-pub mod Outside
 pub mod Told
 pub mod Shutting

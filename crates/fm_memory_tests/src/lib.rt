@@ -1,4 +1,4 @@
-//! Four more implementations of `Memory`, for tests alone, and test bodies over every implementation.
+//! Three more implementations of `Memory`, for tests alone, and one test body over every implementation.
 #![tactic(auto)]
 
 mod heard;
@@ -13,8 +13,6 @@ mod braided;
 mod closing;
 #[cfg(test)]
 mod ear;
-#[cfg(test)]
-mod guest;
 #[cfg(test)]
 mod segments;
 #[cfg(test)]

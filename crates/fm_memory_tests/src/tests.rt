@@ -1,10 +1,7 @@
-use crate::body::{close_an_arena, stay_out, use_a_word};
+use crate::body::{close_an_arena, use_a_word};
 use crate::braided::Braided;
 use crate::closing::Closing;
-use crate::guest::guest_of_one;
-use crate::segments::{
-    copy_until_closed, read_of_another, use_no_bytes, use_of_another, use_ranges, use_values,
-};
+use crate::segments::{copy_until_closed, use_ranges, use_values};
 use crate::telling::Telling;
 use fm_base::{Kind, Memory, Refusal};
 use fm_mono::Mono;
@@ -40,16 +37,6 @@ fn with_a_history_that_is_told(rt: HostRuntime) {
 fn while_another_caller_closes(rt: HostRuntime) {
     let mut m = Closing::new(&rt, Mono::make(rt.alloc(), 64), 5);
     copy_until_closed(&rt, &mut m);
-}
-
-#[test]
-fn in_an_arena_of_another_caller(rt: HostRuntime) {
-    let (mut m, s) = guest_of_one(&rt, Mono::make(rt.alloc(), 64));
-    assert_eq!(rt; m.open_arena(&rt, Kind::Confined), Err(Refusal::NoSlot));
-    use_of_another(&rt, &mut m, &s);
-    read_of_another(&rt, &mut m, &s);
-    use_no_bytes(&rt, &mut m, &s);
-    stay_out(&rt, &mut m, s.arena());
 }
 
 /// An arena of one thread, and a word of it, by the calls of `Memory` alone.
