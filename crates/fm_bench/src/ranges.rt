@@ -26,7 +26,13 @@ pub fn copies<R: Wait>(rt: &R, alloc: Global, count: u64) -> Result<u64, Refusal
     let (mut memory, source, target) = two(rt, alloc)?;
     let long = Layout::value(ValueKind::Long);
     for turn in 0..count {
-        source.set(rt, &mut memory, &long, SIZE - 8, Value::Long((turn % 1_000) as i64))?;
+        source.set(
+            rt,
+            &mut memory,
+            &long,
+            SIZE - 8,
+            Value::Long((turn % 1_000) as i64),
+        )?;
         target.copy_from(rt, &mut memory, &source)?;
     }
     last(&mut memory, &target)
