@@ -110,6 +110,17 @@ number_stopped old new s spec id place width r same w may low high d = record {
   makes = d.makes;
 }
 
+-- A caller that may use the arena is refused as it is closed, and not otherwise.
+get_closed : (c : ℕ) (id : ArenaId) (place width : ℕ) (r : Refusal) (own : List Entry) → MayUse id c → DoesGet c id place width (Err r) own → r ≡ Closed
+get_closed c id place width WrongThread own may d = absurd (d.0 may)
+get_closed c id place width Closed own may d = refl
+get_closed c id place width r own may d = absurd d
+
+pub number_closed : (old new : View) (s : Region) (id : ArenaId) (place width : ℕ) (r : Refusal) → id ≡ s.arena → MayUse s.arena old.caller
+    → Did old new (DoesGet old.caller id place width (Err r)) → r ≡ Closed
+number_closed old new s id place width r same may d =
+    get_closed old.caller s.arena place width r d.own may (subst (λ (a : ArenaId). DoesGet old.caller a place width (Err r) d.own) same d.does)
+
 -- ---- reading after reading
 
 -- Reads, and then a refusal.

@@ -1,4 +1,4 @@
-ghost use Rattle.std.specs.Prelude.{◌≡◌, ◌≤◌, [], true, None, OnOk};
+ghost use Rattle.std.specs.Prelude.{◌≡◌, ◌≤◌, [], true, None, OnOk, IfErr};
 ghost use Rattle.std.specs.List.{AllByRecursion};
 ghost use Rattle.fm_base.specs.Arenas.{MayUse};
 ghost use Rattle.fm_base.specs.Outcomes.{Lasts};
@@ -69,6 +69,7 @@ pub fn is_chosen<M: Memory>(
     requires conditions { AllByRecursion (IsTestable s.now place) conditions.now }
     ensures did { Did (M.view m.old) (M.view m.new) (DoesRead (M.view m.old).caller s.now
         (λ b own. TestsConditions (M.view m.old).caller s.now.arena place conditions.now own b) result) }
+    ensures closed { IfErr result (λ refusal. refusal ≡ Refusal.Closed) }
     ensures outside { (M.view m.new).inside ≡ None }
     ensures lasts { Lasts (M.view m.old) (M.view m.new) }
 {

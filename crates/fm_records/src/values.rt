@@ -1,4 +1,4 @@
-ghost use Rattle.std.specs.Prelude.{◌≡◌, ◌+◌, ◌≤◌, ◌∷◌, [], length, None, OnOk};
+ghost use Rattle.std.specs.Prelude.{◌≡◌, ◌+◌, ◌≤◌, ◌∷◌, [], length, None, OnOk, IfErr};
 ghost use Rattle.fm_base.specs.Arenas.{MayUse};
 ghost use Rattle.fm_base.specs.Outcomes.{Lasts};
 ghost use Rattle.fm_base.specs.View.{Did};
@@ -32,6 +32,7 @@ pub(crate) fn number_of_value_at<M: Memory>(
     requires within { place + width_of value.kind ≤ s.now.first + s.now.size }
     ensures did { Did (M.view m.old) (M.view m.new) (DoesRead (M.view m.old).caller s.now
         (λ n own. ReadsNumber (M.view m.old).caller s.now.arena value place own n) result) }
+    ensures closed { IfErr result (λ refusal. refusal ≡ Refusal.Closed) }
     ensures outside { (M.view m.new).inside ≡ None }
     ensures lasts { Lasts (M.view m.old) (M.view m.new) }
 {

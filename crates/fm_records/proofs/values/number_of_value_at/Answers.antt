@@ -2,7 +2,7 @@
 use Rattle.std.proofs.Common.{◌≡◌, ◌∙◌, w64, rules}
 use Rattle.std.proofs.lemmas.Int.{to_z-of_z}
 use mir.Val.{to_z, of_z}
-use Rattle.fm_records.proofs.Visiting.{number_done, number_stopped}
+use Rattle.fm_records.proofs.Visiting.{number_done, number_stopped, number_closed}
 use Rattle.fm_records.proofs.values.number_of_value_at.Goals as goal
 
 pub returns-in-Ok-clause-did : goal.returns-in-Ok-clause-did
@@ -18,3 +18,9 @@ returns-in-Err-clause-did g c =
     let v = g.M.Memory.view in
     number_stopped (v c.args.m.now) (v c.get_number.new.m) c.args.s.now c.args.value c.arena.result c.args.place c.width-width.result c.in-Err.refusal
     c.arena.ensures c.width-width.ensures c.requires.may c.requires.from c.requires.within c.in-Err.ensures.did
+
+pub returns-in-Err-clause-closed : goal.returns-in-Err-clause-closed
+returns-in-Err-clause-closed g c =
+    let v = g.M.Memory.view in
+    number_closed (v c.args.m.now) (v c.get_number.new.m) c.args.s.now c.arena.result c.args.place c.width-width.result c.in-Err.refusal
+    c.arena.ensures c.requires.may c.in-Err.ensures.did
