@@ -1,11 +1,10 @@
 ghost use Rattle.std.specs.Prelude.{◌≡◌, ◌+◌, ◌%◌, ◌^◌, ◌<◌, ◌≤◌, true, false};
-ghost use Rattle.fm_base.specs.Arenas.{MayUse};
 ghost use Rattle.fm_base.specs.Visits as visits;
 ghost use Rattle.fm_copies.specs.Sides as sides;
 ghost use Rattle.fm_copies.specs.Sides.{IsWay, IsPieceOf, IsForOthers, MayUseBoth};
 
-use fm_base::{ArenaId, Kind, Memory};
-use fm_pieces::piece_width;
+use fm_base::{ArenaId, Memory};
+use fm_pieces::{may_use, piece_width};
 
 /// One of two ranges: its bytes stand in the arena from the place `at` on.
 #[derive(Clone, Copy)]
@@ -28,17 +27,6 @@ pub enum Way {
 pub struct Piece {
     pub offset: u64,
     pub width: u32,
-}
-
-/// Whether the caller may use the arena: a confined one is used by its owner alone.
-fn may_use<M: Memory>(m: &M, arena: ArenaId) -> bool
-    ensures yes { result ≡ true → MayUse arena (M.view m.now).caller }
-    ensures no { result ≡ false → ¬ (MayUse arena (M.view m.now).caller) }
-{
-    match arena.kind {
-        Kind::Confined => arena.owner == m.caller(),
-        Kind::Global | Kind::Automatic | Kind::Shared => true,
-    }
 }
 
 /// Whether there is a byte, and the caller may not use both sides.

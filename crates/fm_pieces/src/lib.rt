@@ -2,11 +2,13 @@
 //! read or put in a visit of its own, the lowest place first.
 #![tactic(auto)]
 
+mod caller;
 mod laws;
 mod number;
 mod piece;
 mod range;
 
+pub use caller::may_use;
 pub use laws::{gets_what_was_put, keeps_bytes_elsewhere, keeps_length};
 pub use number::{get_number, put_number};
 pub use piece::{get_piece, piece_width, put_piece};
