@@ -136,6 +136,14 @@ DoesQuery c p s (Err Closed) own = (s.size % p.size ≡ 0) × MayUse s.arena c �
 DoesQuery c p s (Err Memory) own = (s.size % p.size ≡ 0) × MayUse s.arena c × AreReads c s own
 DoesQuery c p s (Err r) own = ⊥
 
+-- why there is no answer, the first cause that applies
+abbrev pub QueryCause : Plan → Region → ℕ → Refusal → Type 0
+QueryCause p s c (Ragged rest) = (rest ≡ s.size % p.size) × (0 < rest)
+QueryCause p s c WrongThread = (s.size % p.size ≡ 0) × ¬ (MayUse s.arena c)
+QueryCause p s c Closed = (s.size % p.size ≡ 0) × MayUse s.arena c
+QueryCause p s c Memory = (s.size % p.size ≡ 0) × MayUse s.arena c
+QueryCause p s c e = ⊥
+
 -- ---- what reading asks of paths
 
 -- the condition's one value stands in the segment, where its record begins at the place

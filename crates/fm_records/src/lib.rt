@@ -6,6 +6,7 @@ mod found;
 mod laws;
 mod numbers;
 mod printing;
+mod query;
 mod querying;
 #[cfg(test)]
 mod querying_tests;
@@ -21,4 +22,5 @@ pub use laws::{
 };
 pub use numbers::Numbers;
 pub use printing::print_answer;
+pub use query::query_segment;
 pub use querying::{add_items, is_chosen};
