@@ -5,6 +5,7 @@ pub mod Indices
 pub mod ItemsAdding
 pub mod Joining
 pub mod Lines
+pub mod Plans
 pub mod Reaching
 pub mod Standing
 pub mod Steps
