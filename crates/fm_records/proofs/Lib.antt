@@ -1,10 +1,10 @@
 pub mod Adding
 pub mod Ends
-pub mod Few
 pub mod Indices
 pub mod ItemsAdding
 pub mod Joining
 pub mod Lines
+pub mod Plans
 pub mod Reaching
 pub mod Standing
 pub mod Steps
