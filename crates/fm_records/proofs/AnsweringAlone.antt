@@ -1,10 +1,9 @@
 -- What the only caller sees of a query.
-use Rattle.std.proofs.Common.{◌≡◌, ℕ, zero, suc, ◌+◌, ◌-◌, ◌*◌, ◌/◌, ◌<◌, ◌≤◌, Bool, true, Option, Some, None, Ok, Err, List, [], ◌∷◌, ◌++◌, length, take, drop, get_or, refl, sym, ap, ◌∙◌, subst, arith}
+use Rattle.std.proofs.Common.{◌≡◌, ℕ, ◌+◌, ◌/◌, ◌<◌, Bool, true, Option, Some, None, Ok, Err, List, [], ◌∷◌, ◌++◌, length, get_or, refl, sym, ap, ◌∙◌, subst}
 use Rattle.std.specs.Prelude.{ℤ}
 use Rattle.std.specs.List.{flat_map, slice_get}
 use Rattle.std.proofs.lemmas.Grind.{flat_map-append}
-use Rattle.std.proofs.lemmas.List.{append-nil, drop-take}
-use Rattle.std.proofs.lemmas.Nat.{div-add-mod'}
+use Rattle.std.proofs.lemmas.List.{append-nil}
 use Rattle.std.proofs.lemmas.Option.{slice_get-get_or}
 use Rattle.fm_base.specs.declared.arena_id.ArenaId.{ArenaId}
 use Rattle.fm_base.specs.declared.refusal.Refusal.{Refusal}
@@ -24,19 +23,17 @@ use Rattle.fm_path.specs.declared.value_spec.ValueSpec.{ValueSpec}
 use Rattle.fm_segment.specs.Access.{IsKnown}
 use Rattle.fm_segment.specs.Alone.{bytes_of_region}
 use Rattle.fm_segment.specs.Region.{Region}
-use Rattle.fm_segment.proofs.Alone.{take-within}
 use Rattle.fm_query.specs.Plan.{Plan, IsPlan}
 use Rattle.fm_query.specs.declared.condition.Condition.{Condition}
 use Rattle.fm_query.specs.declared.item.Asked.{Asked}
 use Rattle.fm_query.specs.declared.item.Asked.TheVariants as asked
 use Rattle.fm_query.specs.declared.item.Item.{Item}
 use Rattle.fm_records.specs.declared.found.Found.{Found}
-use Rattle.fm_records.specs.Alone.{records_of_region, FindsAnswer, FindsNone}
+use Rattle.fm_records.specs.Alone.{FindsAnswer, FindsNone}
 use Rattle.fm_records.specs.Answers.{found_over}
 use Rattle.fm_records.specs.Reads.{read_visit, ReadsNumber, ReadsNumbers, no_more, one_more, Tests, TestsConditions, all_hold, fails, holds, FindsItem, FindsItems, no_item, one_item, ReadsRecord, chosen, passed_over, ReadsRecords, no_record, one_record, DoesQuery}
-use Rattle.fm_records.specs.Records.{pieces}
 use Rattle.fm_records.specs.Words.{FindAs}
-use Rattle.fm_records.proofs.ReadingWords.{records_of_words}
+use Rattle.fm_records.proofs.AnsweringWords.{answer_of_records, whole_records}
 use Rattle.fm_records.proofs.Visiting.{all_both}
 
 -- ---- a query's entries are visits with one Read each
@@ -161,34 +158,15 @@ run_leaves limit c s id own v legal =
 
 -- ---- the answer
 
--- pieces of a front that has them all
-pieces-take : (count size n : ℕ) (bytes : List ℕ) → count * size ≤ n → pieces count size (take n bytes) ≡ pieces count size bytes
-pieces-take zero size n bytes h = refl
-pieces-take (suc count) size n bytes h =
-    let first : size ≤ n = grind (arith, h) in
-    let rest : count * size ≤ n - size = grind (arith, h) in
-    let whole : n ≡ size + (n - size) = omega (arith, first) in
-    ap (λ xs. xs ∷ pieces count size (drop size (take n bytes))) (take-within size n bytes first)
-    ∙ ap (λ m. take size bytes ∷ pieces count size (drop size (take m bytes))) whole
-    ∙ ap (λ xs. take size bytes ∷ pieces count size xs) (drop-take size (n - size) bytes)
-    ∙ ap (λ xs. take size bytes ∷ xs) (pieces-take count size (n - size) (drop size bytes) rest)
-
--- the records of whole bytes
-whole_records : (p : Plan) (s : Region) (bytes : List ℕ) → length bytes ≡ s.size → pieces (s.size / p.size) p.size bytes ≡ pieces (length bytes / p.size) p.size bytes
-whole_records p s bytes e = ap (λ n. pieces (n / p.size) p.size bytes) (sym e)
-
 pub answered_alone : (old new : View) (p : Plan) (s : Region) (a : List Found) → old.alone ≡ true → IsPlan p → IsKnown old s → Did old new (DoesQuery old.caller p s (Ok a)) → FindsAnswer old new p s a
 answered_alone old new p s a alone plan known d =
     let m = Makes-alone old new d.own alone d.makes in
-    let reads = d.does.2 in
-    let all = run_leaves old.limit old.caller old.state s.arena d.own (visits_records old.caller s.arena p _ _ _ a d.own reads) m.0 in
-    let whole : s.size / p.size * p.size ≤ s.size = omega (arith, div-add-mod' s.size p.size) in
-    let value : a ≡ found_over p (records_of_region p.size old.state s) =
-    records_of_words old.caller s.arena (arena_of old.state s.arena).words p plan (s.size / p.size) s.first (found_over p []) a d.own [] reads all.found refl
-    ∙ ap (found_over p) (sym (pieces-take (s.size / p.size) p.size s.size _ whole)) in
+    let words = (arena_of old.state s.arena).words in
+    let all = run_leaves old.limit old.caller old.state s.arena d.own (visits_records old.caller s.arena p _ _ _ a d.own d.does.2) m.0 in
+    let value = answer_of_records old.caller p s words a d.own plan all.found d.does in
     record {
       records = value;
-      value = λ h. value ∙ ap (found_over p) (whole_records p s (bytes_of_region old.state s) h);
+      value = λ h. value ∙ ap (found_over p) (sym (whole_records p s (bytes_of_region old.state s) h));
       same = m.1 ∙ all.same;
     }
 

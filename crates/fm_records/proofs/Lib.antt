@@ -1,5 +1,7 @@
 pub mod Adding
 pub mod AnsweringAlone
+pub mod AnsweringWords
+pub mod Covering
 pub mod Ends
 pub mod Few
 pub mod Indices

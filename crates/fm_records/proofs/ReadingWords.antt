@@ -39,7 +39,7 @@ use Rattle.fm_records.specs.Words.{FindAs}
 use Rattle.fm_records.proofs.Indices.{listed_admitted}
 use Rattle.fm_records.proofs.Joining.{found_over-append}
 
-all_split : {X : Type 0} (P : X → Type 0) (xs ys : List X) → AllByRecursion P (xs ++ ys) → AllByRecursion P xs × AllByRecursion P ys
+pub all_split : {X : Type 0} (P : X → Type 0) (xs ys : List X) → AllByRecursion P (xs ++ ys) → AllByRecursion P xs × AllByRecursion P ys
 all_split P [] ys h = (tt, h)
 all_split P (x ∷ xs) ys h = let rest = all_split P xs ys h.1 in ((h.0, rest.0), rest.1)
 
@@ -153,7 +153,7 @@ module _ (c : ℕ) (id : ArenaId) (words : List ℕ) where
       ∙ within_record x.path size multiple place [] h.through none in
       ap (λ n. compares x.operator n x.literal) (sym number) ∙ t.compared
 
-  tests_of_words : (size multiple place : ℕ) (cs : List Condition) (own : List Entry) (b : Bool) → AllByRecursion (IsConditionIn size multiple) cs
+  pub tests_of_words : (size multiple place : ℕ) (cs : List Condition) (own : List Entry) (b : Bool) → AllByRecursion (IsConditionIn size multiple) cs
       → TestsConditions c id place cs own b → FindAs id words own → list_all (holds_for (record_at size place)) cs ≡ b
   tests_of_words size multiple place cs own b h all_hold w = refl
   tests_of_words size multiple place cs own b h (fails {x = x} {xs = xs} one t) w =
