@@ -1,5 +1,5 @@
 -- Each word of the values that a query asks for in a chosen record is read.
-use Rattle.std.proofs.Common.{◌≡◌, ℕ, zero, suc, ◌+◌, ◌*◌, ◌/◌, ◌<◌, ◌≤◌, true, false, Option, Some, None, List, [], ◌∷◌, ◌++◌, map, take, drop, refl, sym, ap, ◌∙◌, subst, inl, inr, arith}
+use Rattle.std.proofs.Common.{◌≡◌, ℕ, zero, suc, ◌+◌, ◌-◌, ◌*◌, ◌/◌, ◌<◌, ◌≤◌, true, false, Option, Some, None, List, [], ◌∷◌, ◌++◌, length, map, take, drop, refl, sym, ap, ◌∙◌, subst, inl, inr, arith}
 use Rattle.std.specs.Prelude.{ℤ}
 use Rattle.std.specs.List.{list_all, slice_get}
 use Rattle.std.proofs.lemmas.Bool.{cases_lt}
@@ -7,7 +7,6 @@ use Rattle.std.proofs.lemmas.List.{drop-drop}
 use Rattle.fm_base.specs.declared.arena_id.ArenaId.{ArenaId}
 use Rattle.fm_base.specs.Calls.{Read, Found as Found_word, Entry, entry_of}
 use Rattle.fm_base.specs.Visits.{piece_width, Run, ends, goes_on}
-use Rattle.fm_bytes.specs.Words.{bytes_in}
 use Rattle.fm_lanes.specs.Kind.{width_of}
 use Rattle.fm_lanes.proofs.Meaning.{width_of-bounds}
 use Rattle.fm_path.specs.Resolution.{Resolution}
@@ -24,14 +23,14 @@ use Rattle.fm_query.specs.declared.item.Item.{Item}
 use Rattle.fm_segment.specs.Region.{Region}
 use Rattle.fm_records.specs.declared.found.Found.{Found}
 use Rattle.fm_records.specs.Answers.{holds as holds_for}
+use Rattle.fm_records.specs.Bytes.{FindAs, HasRead, IsAnswered}
 use Rattle.fm_records.specs.Laws.{IsAsked, value_in}
 use Rattle.fm_records.specs.Reads.{IsWordOf, value_places, ReadsNumber, ReadsNumbers, no_more, one_more, FindsItem, FindsItems, no_item, one_item, ReadsRecord, chosen, passed_over, ReadsRecords, no_record, one_record}
-use Rattle.fm_records.specs.Records.{pieces, records}
+use Rattle.fm_records.specs.Records.{pieces}
 use Rattle.fm_records.specs.Values.{index_lists}
-use Rattle.fm_records.specs.Words.{FindAs, HasRead, bytes_by_words, IsAnswered}
-use Rattle.fm_records.proofs.AnsweringWords.{pieces-take, within_size, whole_records, whole_region}
+use Rattle.fm_records.proofs.AnsweringBytes.{records_lie}
 use Rattle.fm_records.proofs.Indices.{admitted_listed, among_left, among_right}
-use Rattle.fm_records.proofs.ReadingWords.{all_split, tests_of_words}
+use Rattle.fm_records.proofs.ReadingBytes.{all_split, LiesIn, tests_of_bytes}
 
 -- ---- words
 
@@ -119,42 +118,49 @@ module _ (c : ℕ) (id : ArenaId) (word : ℕ) where
       read_left one rest (item_is_read place f r is one found finds a b)
   items_are_read place items own fs item f r is (one_item {item = first} {items = left} found others one rest h more) (inr among) asks a b =
       read_right one rest (items_are_read place left rest others item f r is more among asks a b)
-
   -- ---- records
 
-  module _ (words : List ℕ) (p : Plan) (plan : IsPlan p) where
-    -- a chosen record
-    record_is_read : (place : ℕ) (own : List Entry) (seen : Option (List Found)) (item : Item) (f : Fold) (r : Resolution) (is : List ℕ) → ReadsRecord c id p place own seen
-        → FindAs id words own → list_all (holds_for (take p.size (drop place (bytes_in words)))) p.conditions ≡ true
-        → IsAmong item p.items → item.asked ≡ asked.Of f r → AreAdmitted r.dims is
-        → HasByte (place + offset_at r.offset r.dims is) (place + offset_at r.offset r.dims is + width_of r.value.kind) word → HasRead c id word own
-    record_is_read place own seen item f r is (chosen one rest fs t h) w all among asks a b =
-        read_right one rest (items_are_read place p.items rest fs item f r is h among asks a b)
-    record_is_read place own seen item f r is (passed_over one t) w all among asks a b =
-        let fails : list_all (holds_for (take p.size (drop place (bytes_in words)))) p.conditions ≡ false =
-        tests_of_words c id words p.size p.alignment place p.conditions one false plan.conditions t w in
-        let no : true ≡ false = sym all ∙ fails in
-        absurd (cc)
+module _ (c : ℕ) (s : Region) (word : ℕ) (bytes : List ℕ) (size : length bytes ≡ s.size) (p : Plan) (plan : IsPlan p) where
+  -- a chosen record
+  record_is_read : (place : ℕ) (own : List Entry) (seen : Option (List Found)) (item : Item) (f : Fold) (r : Resolution) (is : List ℕ) → LiesIn s place p.size
+      → ReadsRecord c s.arena p place own seen → FindAs s bytes own → list_all (holds_for (take p.size (drop (place - s.first) bytes))) p.conditions ≡ true
+      → IsAmong item p.items → item.asked ≡ asked.Of f r → AreAdmitted r.dims is
+      → HasByte (place + offset_at r.offset r.dims is) (place + offset_at r.offset r.dims is + width_of r.value.kind) word → HasRead c s.arena word own
+  record_is_read place own seen item f r is lies (chosen one rest fs t h) w all among asks a b =
+      read_right c s.arena word one rest (items_are_read c s.arena word place p.items rest fs item f r is h among asks a b)
+  record_is_read place own seen item f r is lies (passed_over one t) w all among asks a b =
+      let fails : list_all (holds_for (take p.size (drop (place - s.first) bytes))) p.conditions ≡ false =
+      tests_of_bytes c s bytes size p.size p.alignment place p.conditions one false plan.conditions lies t w in
+      let no : true ≡ false = sym all ∙ fails in
+      absurd (cc)
 
-    -- the chosen record of an index
-    records_are_read : (index count place : ℕ) (so_far all : List Found) (own : List Entry) (item : Item) (f : Fold) (r : Resolution) (is : List ℕ)
-        → ReadsRecords c id p count place so_far own all → FindAs id words own → index < count
-        → list_all (holds_for (take p.size (drop (place + index * p.size) (bytes_in words)))) p.conditions ≡ true
-        → IsAmong item p.items → item.asked ≡ asked.Of f r → AreAdmitted r.dims is
-        → HasByte (place + index * p.size + offset_at r.offset r.dims is) (place + index * p.size + offset_at r.offset r.dims is + width_of r.value.kind) word → HasRead c id word own
-    records_are_read index count place so_far all own item f r is no_record w below holds among asks a b = absurd (omega arith)
-    records_are_read zero count place so_far all own item f r is (one_record {count = left} one rest seen first more) w below holds among asks a b =
-        let at : place + 0 * p.size ≡ place = omega arith in
-        let parts = all_split _ one rest w in
-        read_left one rest (record_is_read place one seen item f r is first parts.0
-        (subst (λ (q : ℕ). list_all (holds_for (take p.size (drop q (bytes_in words)))) p.conditions ≡ true) at holds) among asks a
-        (subst (λ (q : ℕ). HasByte (q + offset_at r.offset r.dims is) (q + offset_at r.offset r.dims is + width_of r.value.kind) word) at b))
-    records_are_read (suc index) count place so_far all own item f r is (one_record {count = left} one rest seen first more) w below holds among asks a b =
-        let at : place + suc index * p.size ≡ place + p.size + index * p.size = grind arith in
-        let parts = all_split _ one rest w in
-        read_right one rest (records_are_read index left (place + p.size) _ all rest item f r is more parts.1 (omega (arith, below))
-        (subst (λ (q : ℕ). list_all (holds_for (take p.size (drop q (bytes_in words)))) p.conditions ≡ true) at holds) among asks a
-        (subst (λ (q : ℕ). HasByte (q + offset_at r.offset r.dims is) (q + offset_at r.offset r.dims is + width_of r.value.kind) word) at b))
+  -- the chosen record of an index
+  records_are_read : (index count place : ℕ) (so_far all : List Found) (own : List Entry) (item : Item) (f : Fold) (r : Resolution) (is : List ℕ) → LiesIn s place (count * p.size)
+      → ReadsRecords c s.arena p count place so_far own all → FindAs s bytes own → index < count
+      → list_all (holds_for (take p.size (drop (place - s.first + index * p.size) bytes))) p.conditions ≡ true
+      → IsAmong item p.items → item.asked ≡ asked.Of f r → AreAdmitted r.dims is
+      → HasByte (place + index * p.size + offset_at r.offset r.dims is) (place + index * p.size + offset_at r.offset r.dims is + width_of r.value.kind) word → HasRead c s.arena word own
+  records_are_read index count place so_far all own item f r is lies no_record w below holds among asks a b = absurd (omega arith)
+  records_are_read zero count place so_far all own item f r is lies (one_record {count = left} one rest seen first more) w below holds among asks a b =
+      let at : place + 0 * p.size ≡ place = omega arith in
+      let offset : place - s.first + 0 * p.size ≡ place - s.first = omega arith in
+      let sum : suc left * p.size ≡ p.size + left * p.size = grind arith in
+      let within = lies.within in
+      let parts = all_split _ one rest w in
+      read_left c s.arena word one rest (record_is_read place one seen item f r is (record { from = lies.from; within = omega (arith, within, sum) }) first parts.0
+      (subst (λ (q : ℕ). list_all (holds_for (take p.size (drop q bytes))) p.conditions ≡ true) offset holds) among asks a
+      (subst (λ (q : ℕ). HasByte (q + offset_at r.offset r.dims is) (q + offset_at r.offset r.dims is + width_of r.value.kind) word) at b))
+  records_are_read (suc index) count place so_far all own item f r is lies (one_record {count = left} one rest seen first more) w below holds among asks a b =
+      let from = lies.from in
+      let within = lies.within in
+      let sum : suc left * p.size ≡ p.size + left * p.size = grind arith in
+      let next : suc index * p.size ≡ p.size + index * p.size = grind arith in
+      let at : place + suc index * p.size ≡ place + p.size + index * p.size = omega (arith, next) in
+      let offset : place - s.first + suc index * p.size ≡ place + p.size - s.first + index * p.size = omega (arith, next, from) in
+      let parts = all_split _ one rest w in
+      read_right c s.arena word one rest (records_are_read index left (place + p.size) _ all rest item f r is (record { from = omega (arith, from); within = omega (arith, within, sum) }) more parts.1 (omega (arith, below))
+      (subst (λ (q : ℕ). list_all (holds_for (take p.size (drop q bytes))) p.conditions ≡ true) offset holds) among asks a
+      (subst (λ (q : ℕ). HasByte (q + offset_at r.offset r.dims is) (q + offset_at r.offset r.dims is + width_of r.value.kind) word) at b))
 
 -- ---- the record of an index
 
@@ -176,19 +182,16 @@ piece_there (suc index) (suc count) size bytes piece h =
       is = rest.is ∙ ap (take size) (drop-drop (index * size) size bytes) ∙ ap (λ n. take size (drop n bytes)) at;
     }
 
-pub asked_is_read : (c : ℕ) (p : Plan) (s : Region) (words : List ℕ) (a : List Found) (own : List Entry) (index : ℕ) (r : Resolution) (is : List ℕ) (word : ℕ)
-    → IsAnswered c p s words a own → IsAsked p (bytes_by_words words s) index r is → IsWordOf (value_in p s index r is) word → HasRead c s.arena word own
-asked_is_read c p s words a own index r is word h asks w =
-    let count = s.size / p.size in
-    let rest = drop s.first (bytes_in words) in
-    let all : records p.size (bytes_by_words words s) ≡ pieces (s.size / p.size) p.size (drop s.first (bytes_in words)) =
-    whole_records p s (bytes_by_words words s) (whole_region words s h.within) ∙ pieces-take count p.size s.size rest (within_size s.size p.size) in
-    let there = piece_there index count p.size rest asks.record_bytes (subst (λ (rs : List (List ℕ)). slice_get rs index ≡ Some asks.record_bytes) all asks.stands) in
-    let is_record : asks.record_bytes ≡ take p.size (drop (s.first + index * p.size) (bytes_in words)) =
-    there.is ∙ ap (take p.size) (drop-drop (index * p.size) s.first (bytes_in words)) in
+pub asked_is_read : (c : ℕ) (p : Plan) (s : Region) (bytes : List ℕ) (a : List Found) (own : List Entry) (index : ℕ) (r : Resolution) (is : List ℕ) (word : ℕ)
+    → IsAnswered c p s bytes a own → IsAsked p bytes index r is → IsWordOf (value_in p s index r is) word → HasRead c s.arena word own
+asked_is_read c p s bytes a own index r is word h asks w =
+    let there = piece_there index (length bytes / p.size) p.size bytes asks.record_bytes asks.stands in
+    let offset : s.first - s.first + index * p.size ≡ index * p.size = omega arith in
+    let all : list_all (holds_for (take p.size (drop (s.first - s.first + index * p.size) bytes))) p.conditions ≡ true =
+    ap (λ n. list_all (holds_for (take p.size (drop n bytes))) p.conditions) offset ∙ ap (λ bs. list_all (holds_for bs) p.conditions) (sym there.is) ∙ asks.chosen in
     let bounds = width_of-bounds r.value.kind in
     let at : s.first + (index * p.size + offset_at r.offset r.dims is) ≡ s.first + index * p.size + offset_at r.offset r.dims is = omega arith in
     let byte : HasByte (s.first + index * p.size + offset_at r.offset r.dims is) (s.first + index * p.size + offset_at r.offset r.dims is + width_of r.value.kind) word =
     subst (λ (q : ℕ). HasByte q (q + width_of r.value.kind) word) at (record { above = w.above; below = w.below; some = omega (arith, bounds.0) }) in
-    records_are_read c s.arena word words p h.plan index count s.first _ a own asks.item asks.fold r is h.does.2 h.finds there.below
-    (subst (λ (bytes : List ℕ). list_all (holds_for bytes) p.conditions ≡ true) is_record asks.chosen) asks.among asks.asks asks.admitted byte
+    records_are_read c s word bytes h.size p h.plan index (s.size / p.size) s.first _ a own asks.item asks.fold r is (records_lie p s) h.does.2 h.finds
+    (subst (λ (n : ℕ). index < n / p.size) h.size there.below) all asks.among asks.asks asks.admitted byte

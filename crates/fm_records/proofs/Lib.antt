@@ -1,6 +1,6 @@
 pub mod Adding
 pub mod AnsweringAlone
-pub mod AnsweringWords
+pub mod AnsweringBytes
 pub mod Covering
 pub mod Ends
 pub mod Few
@@ -9,7 +9,7 @@ pub mod ItemsAdding
 pub mod Joining
 pub mod Lines
 pub mod Reaching
-pub mod ReadingWords
+pub mod ReadingBytes
 pub mod Standing
 pub mod Steps
 pub mod Testing
