@@ -1,17 +1,15 @@
 -- What the only caller sees of a query.
-use Rattle.std.proofs.Common.{◌≡◌, ℕ, zero, suc, ◌+◌, ◌-◌, ◌*◌, ◌/◌, ◌<◌, ◌≤◌, Bool, true, Option, Some, None, Ok, Err, List, [], ◌∷◌, ◌++◌, length, take, drop, get_or, refl, sym, ap, ◌∙◌, subst, arith}
+use Rattle.std.proofs.Common.{◌≡◌, ℕ, ◌+◌, ◌/◌, Bool, true, Option, Some, None, Ok, Err, List, [], ◌∷◌, ◌++◌, get_or, refl, sym, ap, ◌∙◌, subst}
 use Rattle.std.specs.Prelude.{ℤ}
-use Rattle.std.specs.List.{flat_map, slice_get}
+use Rattle.std.specs.List.{flat_map}
 use Rattle.std.proofs.lemmas.Grind.{flat_map-append}
-use Rattle.std.proofs.lemmas.List.{append-nil, drop-take}
-use Rattle.std.proofs.lemmas.Nat.{div-add-mod'}
-use Rattle.std.proofs.lemmas.Option.{slice_get-get_or}
+use Rattle.std.proofs.lemmas.List.{append-nil}
 use Rattle.fm_base.specs.declared.arena_id.ArenaId.{ArenaId}
 use Rattle.fm_base.specs.declared.refusal.Refusal.{Refusal}
 use Rattle.fm_base.specs.declared.refusal.Refusal.TheVariants.{Ragged, WrongThread, Closed, Memory}
 use Rattle.fm_base.specs.Arenas.{State, Arena, arena_of, changed, word_in}
 use Rattle.fm_base.specs.Calls.{Enter, Read, Leave, Found as Found_word, Entry}
-use Rattle.fm_base.specs.Histories.{IsLegal, state_after}
+use Rattle.fm_base.specs.Histories.{IsLegal, state_after, byte_of}
 use Rattle.fm_base.specs.Machine.{entered}
 use Rattle.fm_base.specs.View.{View, Makes, Did}
 use Rattle.fm_base.specs.Visits.{Run, ends, goes_on, refused_visit}
@@ -22,21 +20,17 @@ use Rattle.fm_pieces.specs.Ranges.{Reading, ReadsOn, EndsReading}
 use Rattle.fm_pieces.proofs.Visits.{visit_stays, visit_refused}
 use Rattle.fm_path.specs.declared.value_spec.ValueSpec.{ValueSpec}
 use Rattle.fm_segment.specs.Access.{IsKnown}
-use Rattle.fm_segment.specs.Alone.{bytes_of_region}
 use Rattle.fm_segment.specs.Region.{Region}
-use Rattle.fm_segment.proofs.Alone.{take-within}
 use Rattle.fm_query.specs.Plan.{Plan, IsPlan}
 use Rattle.fm_query.specs.declared.condition.Condition.{Condition}
 use Rattle.fm_query.specs.declared.item.Asked.{Asked}
 use Rattle.fm_query.specs.declared.item.Asked.TheVariants as asked
 use Rattle.fm_query.specs.declared.item.Item.{Item}
 use Rattle.fm_records.specs.declared.found.Found.{Found}
-use Rattle.fm_records.specs.Alone.{records_of_region, FindsAnswer, FindsNone}
-use Rattle.fm_records.specs.Answers.{found_over}
+use Rattle.fm_records.specs.Alone.{bytes_at_places, FindsAnswer, FindsNone}
+use Rattle.fm_records.specs.Bytes.{FindAs}
 use Rattle.fm_records.specs.Reads.{read_visit, ReadsNumber, ReadsNumbers, no_more, one_more, Tests, TestsConditions, all_hold, fails, holds, FindsItem, FindsItems, no_item, one_item, ReadsRecord, chosen, passed_over, ReadsRecords, no_record, one_record, DoesQuery}
-use Rattle.fm_records.specs.Records.{pieces}
-use Rattle.fm_records.specs.Words.{FindAs}
-use Rattle.fm_records.proofs.ReadingWords.{records_of_words}
+use Rattle.fm_records.proofs.AnsweringBytes.{answer_of_bytes, length-places, word_at_places}
 use Rattle.fm_records.proofs.Visiting.{all_both}
 
 -- ---- a query's entries are visits with one Read each
@@ -110,85 +104,62 @@ module _ (c : ℕ) (id : ArenaId) where
 
 -- ---- which found what stood there, and left all as it was
 
-record LeavesAll (s t : State) (id : ArenaId) (own : List Entry) : Type 0 where
+record LeavesAll (s t : State) (r : Region) (own : List Entry) : Type 0 where
   same : t ≡ s
-  found : FindAs id (arena_of s id).words own
+  found : FindAs r (bytes_at_places s r) own
 
 -- one visit
-visit_leaves : (limit c : ℕ) (s : State) (id : ArenaId) (r : ℕ × ℕ) → IsLegal limit s (read_visit c id r) → LeavesAll s (state_after limit s (read_visit c id r)) id (read_visit c id r)
-visit_leaves limit c s id r legal =
-    let words = (arena_of s id).words in
+visit_leaves : (limit c : ℕ) (s : State) (r : Region) (w : ℕ × ℕ) → IsLegal limit s (read_visit c r.arena w) → LeavesAll s (state_after limit s (read_visit c r.arena w)) r (read_visit c r.arena w)
+visit_leaves limit c s r w legal =
+    let id = r.arena in
     let there : (arena_of (changed s id (entered c)) id).words ≡ (arena_of s id).words = ap (λ (a : Arena). a.words) (lookup_changed s id (entered c) (λ a. refl) legal.0.0) in
-    let within : r.0 < length (arena_of s id).words = subst (λ ws. r.0 < length ws) there legal.2.0.within in
-    let reply : Found_word r.1 ≡ Found_word (word_in (changed s id (entered c)) id r.0) = legal.2.1 in
-    let is : r.1 ≡ get_or (arena_of (changed s id (entered c)) id).words r.0 0 = cc in
-    let found : slice_get (arena_of s id).words r.0 ≡ Some r.1 =
-    slice_get-get_or words r.0 0 within ∙ sym (ap Some (is ∙ ap (λ ws. get_or ws r.0 0) there)) in
+    let reply : Found_word w.1 ≡ Found_word (word_in (changed s r.arena (entered c)) r.arena w.0) = legal.2.1 in
+    let is : w.1 ≡ get_or (arena_of (changed s r.arena (entered c)) r.arena).words w.0 0 = cc in
+    let found : w.1 ≡ get_or (arena_of s r.arena).words w.0 0 = is ∙ ap (λ ws. get_or ws w.0 0) there in
     record {
-      same = visit_stays limit c s id ((Read id r.0, Found_word r.1) ∷ []) (λ l. refl) legal;
+      same = visit_stays limit c s id ((Read id w.0, Found_word w.1) ∷ []) (λ l. refl) legal;
       found = (
-        (λ word f e a. let no : Enter id ≡ Read id word = e in absurd (cc)),
+        (λ word f at e a b. let no : Enter id ≡ Read id word = e in absurd (cc)),
         (
-          (λ word f e a.
-              let at : Read id r.0 ≡ Read id word = e in
-              let by : Found_word r.1 ≡ Found_word f = a in
-              let w : r.0 ≡ word = cc in
-              let v : r.1 ≡ f = cc in
-              subst (λ i. slice_get (arena_of s id).words i ≡ Some f) w (found ∙ ap Some v)),
-          ((λ word f e a. let no : Leave id ≡ Read id word = e in absurd (cc)), tt),
+          (λ word f at e a b.
+              let call : Read r.arena w.0 ≡ Read r.arena word = e in
+              let answer : Found_word w.1 ≡ Found_word f = a in
+              let same_word : w.0 ≡ word = cc in
+              let same_found : w.1 ≡ f = cc in
+              ap (λ n. byte_of n at) (sym same_found ∙ found ∙ ap (λ n. get_or (arena_of s r.arena).words n 0) same_word) ∙ word_at_places s r word at b),
+          ((λ word f at e a b. let no : Leave id ≡ Read id word = e in absurd (cc)), tt),
         ),
       );
     }
 
-visits_leave : (limit c : ℕ) (s : State) (id : ArenaId) (rs : List (ℕ × ℕ)) → IsLegal limit s (flat_map (read_visit c id) rs)
-    → LeavesAll s (state_after limit s (flat_map (read_visit c id) rs)) id (flat_map (read_visit c id) rs)
-visits_leave limit c s id [] legal = record { same = refl; found = tt }
-visits_leave limit c s id (r ∷ rs) legal =
-    let rest = flat_map (read_visit c id) rs in
-    let parts = IsLegal-split limit s (read_visit c id r) rest legal in
-    let one = visit_leaves limit c s id r parts.0 in
-    let more = visits_leave limit c s id rs (subst (λ (t : State). IsLegal limit t rest) one.same parts.1) in
+visits_leave : (limit c : ℕ) (s : State) (r : Region) (ws : List (ℕ × ℕ)) → IsLegal limit s (flat_map (read_visit c r.arena) ws)
+    → LeavesAll s (state_after limit s (flat_map (read_visit c r.arena) ws)) r (flat_map (read_visit c r.arena) ws)
+visits_leave limit c s r [] legal = record { same = refl; found = tt }
+visits_leave limit c s r (w ∷ ws) legal =
+    let first = read_visit c r.arena w in
+    let rest = flat_map (read_visit c r.arena) ws in
+    let parts = IsLegal-split limit s first rest legal in
+    let one = visit_leaves limit c s r w parts.0 in
+    let more = visits_leave limit c s r ws (subst (λ (t : State). IsLegal limit t rest) one.same parts.1) in
     record {
-      same = state_after-append limit s (read_visit c id r) rest ∙ ap (λ (t : State). state_after limit t rest) one.same ∙ more.same;
-      found = all_both _ (read_visit c id r) rest one.found more.found;
+      same = state_after-append limit s first rest ∙ ap (λ (t : State). state_after limit t rest) one.same ∙ more.same;
+      found = all_both _ first rest one.found more.found;
     }
 
 -- so of any run of such visits
-run_leaves : (limit c : ℕ) (s : State) (id : ArenaId) (own : List Entry) → AreVisits c id own → IsLegal limit s own → LeavesAll s (state_after limit s own) id own
-run_leaves limit c s id own v legal =
-    subst (λ (es : List Entry). LeavesAll s (state_after limit s es) id es) (sym v.visits)
-    (visits_leave limit c s id v.reads (subst (λ (es : List Entry). IsLegal limit s es) v.visits legal))
+run_leaves : (limit c : ℕ) (s : State) (r : Region) (own : List Entry) → AreVisits c r.arena own → IsLegal limit s own → LeavesAll s (state_after limit s own) r own
+run_leaves limit c s r own v legal =
+    subst (λ (es : List Entry). LeavesAll s (state_after limit s es) r es) (sym v.visits)
+    (visits_leave limit c s r v.reads (subst (λ (es : List Entry). IsLegal limit s es) v.visits legal))
 
 -- ---- the answer
-
--- pieces of a front that has them all
-pieces-take : (count size n : ℕ) (bytes : List ℕ) → count * size ≤ n → pieces count size (take n bytes) ≡ pieces count size bytes
-pieces-take zero size n bytes h = refl
-pieces-take (suc count) size n bytes h =
-    let first : size ≤ n = grind (arith, h) in
-    let rest : count * size ≤ n - size = grind (arith, h) in
-    let whole : n ≡ size + (n - size) = omega (arith, first) in
-    ap (λ xs. xs ∷ pieces count size (drop size (take n bytes))) (take-within size n bytes first)
-    ∙ ap (λ m. take size bytes ∷ pieces count size (drop size (take m bytes))) whole
-    ∙ ap (λ xs. take size bytes ∷ pieces count size xs) (drop-take size (n - size) bytes)
-    ∙ ap (λ xs. take size bytes ∷ xs) (pieces-take count size (n - size) (drop size bytes) rest)
-
--- the records of whole bytes
-whole_records : (p : Plan) (s : Region) (bytes : List ℕ) → length bytes ≡ s.size → pieces (s.size / p.size) p.size bytes ≡ pieces (length bytes / p.size) p.size bytes
-whole_records p s bytes e = ap (λ n. pieces (n / p.size) p.size bytes) (sym e)
 
 pub answered_alone : (old new : View) (p : Plan) (s : Region) (a : List Found) → old.alone ≡ true → IsPlan p → IsKnown old s → Did old new (DoesQuery old.caller p s (Ok a)) → FindsAnswer old new p s a
 answered_alone old new p s a alone plan known d =
     let m = Makes-alone old new d.own alone d.makes in
-    let reads = d.does.2 in
-    let all = run_leaves old.limit old.caller old.state s.arena d.own (visits_records old.caller s.arena p _ _ _ a d.own reads) m.0 in
-    let whole : s.size / p.size * p.size ≤ s.size = omega (arith, div-add-mod' s.size p.size) in
-    let value : a ≡ found_over p (records_of_region p.size old.state s) =
-    records_of_words old.caller s.arena (arena_of old.state s.arena).words p plan (s.size / p.size) s.first (found_over p []) a d.own [] reads all.found refl
-    ∙ ap (found_over p) (sym (pieces-take (s.size / p.size) p.size s.size _ whole)) in
+    let all = run_leaves old.limit old.caller old.state s d.own (visits_records old.caller s.arena p _ _ _ a d.own d.does.2) m.0 in
     record {
-      records = value;
-      value = λ h. value ∙ ap (found_over p) (whole_records p s (bytes_of_region old.state s) h);
+      value = answer_of_bytes old.caller p s (bytes_at_places old.state s) a d.own (record { plan = plan; size = length-places old.state s; finds = all.found; does = d.does });
       same = m.1 ∙ all.same;
     }
 
@@ -208,7 +179,7 @@ refused_alone old new p s Closed alone known d =
     let stop = d.does.2 in
     let last = refused_visit old.caller s.arena in
     let parts = IsLegal-split old.limit old.state stop.before last (subst (λ (es : List Entry). IsLegal old.limit old.state es) stop.stops m.0) in
-    let before = run_leaves old.limit old.caller old.state s.arena stop.before (record { reads = stop.reads.reads; visits = stop.reads.visits }) parts.0 in
+    let before = run_leaves old.limit old.caller old.state s stop.before (record { reads = stop.reads.reads; visits = stop.reads.visits }) parts.0 in
     let v = visit_refused old.limit old.caller old.state s.arena last refl (subst (λ (t : State). IsLegal old.limit t last) before.same parts.1) in
     record {
       shut = λ is. v.over;
@@ -217,6 +188,6 @@ refused_alone old new p s Closed alone known d =
     }
 refused_alone old new p s Memory alone known d =
     let m = Makes-alone old new d.own alone d.makes in
-    let all = run_leaves old.limit old.caller old.state s.arena d.own (record { reads = d.does.2.reads; visits = d.does.2.visits }) m.0 in
+    let all = run_leaves old.limit old.caller old.state s d.own (record { reads = d.does.2.reads; visits = d.does.2.visits }) m.0 in
     record { shut = λ is. absurd (cc); same = m.1 ∙ all.same }
 refused_alone old new p s e alone known d = absurd d.does

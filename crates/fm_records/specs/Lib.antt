@@ -1,9 +1,9 @@
 pub mod Alone
 pub mod Answers
+pub mod Bytes
 pub mod Joined
 pub mod Laws
 pub mod Reads
 pub mod Records
 pub mod Texts
 pub mod Values
-pub mod Words
