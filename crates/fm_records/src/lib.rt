@@ -2,6 +2,8 @@
 #![tactic(auto)]
 
 mod answer;
+#[cfg(test)]
+mod answer_tests;
 mod found;
 mod laws;
 mod numbers;
