@@ -5,7 +5,9 @@ pub mod Indices
 pub mod ItemsAdding
 pub mod Joining
 pub mod Lines
+pub mod Plans
 pub mod Reaching
+pub mod Recording
 pub mod Standing
 pub mod Steps
 pub mod Testing

@@ -10,6 +10,7 @@ mod query;
 mod querying;
 #[cfg(test)]
 mod querying_tests;
+mod record;
 #[cfg(test)]
 mod tests;
 mod values;
