@@ -1,13 +1,16 @@
 -- Records that are read one behind the other.
-use Rattle.std.proofs.Common.{◌≡◌, ℕ, zero, suc, ◌+◌, ◌*◌, ◌^◌, ◌≤◌, Bool, true, false, Option, Some, None, Result, Ok, Err, List, [], ◌∷◌, ◌++◌, map, refl, sym, ap, ◌∙◌, subst, append_assoc, arith}
+use Rattle.std.proofs.Common.{◌≡◌, ℕ, zero, suc, ◌+◌, ◌*◌, ◌/◌, ◌%◌, ◌^◌, ◌≤◌, Bool, true, false, Option, Some, None, Result, Ok, Err, List, [], ◌∷◌, ◌++◌, map, refl, sym, ap, ◌∙◌, subst, append_assoc, arith}
 use Rattle.std.specs.Prelude.{pos, negsuc, ◌≤ℤ◌}
 use Rattle.std.proofs.lemmas.Int.{ints}
 use Rattle.std.proofs.lemmas.List.{append-nil}
+use Rattle.std.proofs.Math.Nat.{div-mul-le_self}
 use Rattle.fm_base.specs.declared.refusal.Refusal.{Refusal}
+use Rattle.fm_base.specs.declared.refusal.Refusal.TheVariants.{Closed, Memory}
+use Rattle.fm_base.specs.Arenas.{MayUse}
 use Rattle.fm_base.specs.Calls.{Entry}
 use Rattle.fm_base.specs.View.{View, Makes, Did}
 use Rattle.fm_base.proofs.Making.{Makes-then, Makes-none}
-use Rattle.fm_segment.specs.Region.{Region}
+use Rattle.fm_segment.specs.Region.{EndsByLimit, Region}
 use Rattle.fm_query.specs.Plan.{Plan}
 use Rattle.fm_query.specs.declared.condition.Condition.{Condition}
 use Rattle.fm_query.specs.declared.fold.Fold.{Fold}
@@ -16,8 +19,9 @@ use Rattle.fm_query.specs.declared.item.Asked.{Asked}
 use Rattle.fm_query.specs.declared.item.Asked.TheVariants as asked
 use Rattle.fm_query.specs.declared.item.Item.{Item}
 use Rattle.fm_records.specs.declared.found.Found.{Found}
-use Rattle.fm_records.specs.Answers.{found_in, item_found}
-use Rattle.fm_records.specs.Reads.{AddsItems, AddsRecord, AreOpen, AreReads, DoesRead, FindsItems, HasRoom, IsOpen, ReadsRecord, chosen, passed_over, ReadsRecords, no_record, one_record, StayOpen, TestsConditions}
+use Rattle.fm_records.specs.Answers.{answer, found_in, found_over, item_found}
+use Rattle.fm_records.specs.Reads.{AddsItems, AddsRecord, AreOpen, AreReads, DoesQuery, DoesRead, FindsItems, HasRoom, IsOpen, ReadsRecord, chosen, passed_over, ReadsRecords, no_record, one_record, StayOpen, TestsConditions}
+use Rattle.fm_records.specs.Records.{pieces}
 use Rattle.fm_records.specs.Texts.{IsFoundOf}
 use Rattle.fm_records.proofs.Reaching.{room_less}
 use Rattle.fm_records.proofs.Visiting.{AreReads-none, AreReads-append, stops_then}
@@ -172,3 +176,44 @@ kind_none (asked.Of fold.All r) = tt
 pub open_none : (n : ℕ) (items : List Item) → n ≤ 2 ^ 62 → AreOpen n items (map (item_found []) items)
 open_none n [] few = tt
 open_none n (i ∷ is) few = (record { kind = kind_none i.asked; room = room_none n i.asked few }, open_none n is few)
+
+answer-none : (p : Plan) → answer p [] ≡ map (item_found []) p.items
+answer-none p = let none : 0 / p.size ≡ 0 = omega arith in ap (λ n. found_over p (pieces n p.size [])) none
+
+pub query_open : (p : Plan) (s : Region) (n k : ℕ) (fs : List Found) → n ≡ s.size → k ≡ p.size → fs ≡ answer p [] → EndsByLimit s.first s.size → AreOpen (n / k * p.size) p.items fs
+query_open p s n k fs is_size is_record is ends =
+    let bytes : n / k * p.size ≤ 2 ^ 62 =
+    subst (λ (m : ℕ). n / k * m ≤ 2 ^ 62) is_record (let whole : n / k * k ≤ n = div-mul-le_self n k in omega (arith, whole, is_size, ends)) in
+    subst (AreOpen (n / k * p.size) p.items) (sym (is ∙ answer-none p)) (open_none (n / k * p.size) p.items bytes)
+
+-- ---- the whole call
+
+pub query_wants : (old : View) (p : Plan) (s : Region) (e : Refusal) → s.size % p.size ≡ 0 → MayUse s.arena old.caller → e ≡ Memory → Did old old (DoesQuery old.caller p s (Err e))
+query_wants old p s e even may is = record {
+  own = [];
+  does = subst (λ (r : Refusal). DoesQuery old.caller p s (Err r) []) (sym is) (even, may, AreReads-none old.caller s);
+  makes = Makes-none old;
+}
+
+pub query_done : (old new : View) (p : Plan) (s : Region) (n k : ℕ) (fs gs a : List Found) (u : Unit {0}) → s.size % p.size ≡ 0 → MayUse s.arena old.caller → n ≡ s.size → k ≡ p.size
+    → fs ≡ answer p [] → a ≡ gs → Did old new (DoesRead old.caller s (λ (x : Unit {0}) es. ReadsRecords old.caller s.arena p (n / k) s.first fs es gs) (Ok u))
+    → Did old new (DoesQuery old.caller p s (Ok a))
+query_done old new p s n k fs gs a u even may is_size is_record is same d = record {
+  own = d.own;
+  does = (
+    even, may,
+    subst (λ (xs : List Found). ReadsRecords old.caller s.arena p (s.size / p.size) s.first (found_over p []) d.own xs) (sym same)
+        (subst (λ (xs : List Found). ReadsRecords old.caller s.arena p (s.size / p.size) s.first xs d.own gs) (is ∙ answer-none p)
+        (subst (λ (j : ℕ). ReadsRecords old.caller s.arena p j s.first fs d.own gs) (ap (λ m. m / k) is_size ∙ ap (λ m. s.size / m) is_record) d.does.1)),
+  );
+  makes = d.makes;
+}
+
+pub query_stopped : (old new : View) (p : Plan) (s : Region) (P : Unit {0} → List Entry → Type 0) (e : Refusal) → s.size % p.size ≡ 0 → MayUse s.arena old.caller
+    → Did old new (DoesRead old.caller s P (Err e)) → Did old new (DoesQuery old.caller p s (Err e))
+query_stopped old new p s P e even may d = record { own = d.own; does = by e d.does; makes = d.makes }
+  where
+    by : (r : Refusal) → DoesRead old.caller s P (Err r) d.own → DoesQuery old.caller p s (Err r) d.own
+    by Closed h = (even, may, h)
+    by Memory h = (even, may, h)
+    by r h = absurd h
