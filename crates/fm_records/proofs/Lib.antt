@@ -1,6 +1,5 @@
 pub mod Adding
 pub mod Ends
-pub mod Few
 pub mod Indices
 pub mod ItemsAdding
 pub mod Joining
