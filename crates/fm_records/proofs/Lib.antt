@@ -1,4 +1,5 @@
 pub mod Adding
+pub mod AnsweringAlone
 pub mod Ends
 pub mod Indices
 pub mod ItemsAdding
@@ -6,6 +7,7 @@ pub mod Joining
 pub mod Lines
 pub mod Plans
 pub mod Reaching
+pub mod ReadingWords
 pub mod Recording
 pub mod Standing
 pub mod Steps

@@ -6,3 +6,4 @@ pub mod Reads
 pub mod Records
 pub mod Texts
 pub mod Values
+pub mod Words
