@@ -1,9 +1,11 @@
 -- Records that are read one behind the other.
 use Rattle.std.proofs.Common.{◌≡◌, ℕ, zero, suc, ◌+◌, ◌*◌, ◌/◌, ◌%◌, ◌^◌, ◌≤◌, Bool, true, false, Option, Some, None, Result, Ok, Err, List, [], ◌∷◌, ◌++◌, map, refl, sym, ap, ◌∙◌, subst, append_assoc, arith}
 use Rattle.std.specs.Prelude.{pos, negsuc, ◌≤ℤ◌}
+use Rattle.std.specs.List.{AllZip}
 use Rattle.std.proofs.lemmas.Int.{ints}
 use Rattle.std.proofs.lemmas.List.{append-nil}
 use Rattle.std.proofs.Math.Nat.{div-mul-le_self}
+use Rattle.fm_base.specs.declared.arena_id.ArenaId.{ArenaId}
 use Rattle.fm_base.specs.declared.refusal.Refusal.{Refusal}
 use Rattle.fm_base.specs.declared.refusal.Refusal.TheVariants.{Closed, Memory}
 use Rattle.fm_base.specs.Arenas.{MayUse}
@@ -22,7 +24,7 @@ use Rattle.fm_records.specs.declared.found.Found.{Found}
 use Rattle.fm_records.specs.Answers.{answer, found_in, found_over, item_found}
 use Rattle.fm_records.specs.Reads.{AddsItems, AddsRecord, AreOpen, AreReads, DoesQuery, DoesRead, FindsItems, HasRoom, IsOpen, ReadsRecord, chosen, passed_over, ReadsRecords, no_record, one_record, StayOpen, TestsConditions}
 use Rattle.fm_records.specs.Records.{pieces}
-use Rattle.fm_records.specs.Texts.{IsFoundOf}
+use Rattle.fm_records.specs.Texts.{IsFoundOf, IsItemFound}
 use Rattle.fm_records.proofs.Reaching.{room_less}
 use Rattle.fm_records.proofs.Visiting.{AreReads-none, AreReads-append, stops_then}
 
@@ -62,7 +64,7 @@ record_chosen old now new s p place cs items fs gs b (Ok u) e f is t d =
         record {
           seen = Some here.1.found;
           reads = chosen t.own d.own here.1.found (subst (λ (x : Bool). TestsConditions old.caller s.arena place p.conditions t.own x) is
-                  (subst (λ (ys : List Condition). TestsConditions old.caller s.arena place ys t.own b) e t.does.1))
+              (subst (λ (ys : List Condition). TestsConditions old.caller s.arena place ys t.own b) e t.does.1))
               (subst (λ (ys : List Item). FindsItems old.caller s.arena place ys d.own here.1.found) f here.1.finds);
           added = here.1.added;
         },
@@ -87,6 +89,13 @@ open_less size more [] [] h = tt
 open_less size more [] (f ∷ fs) h = h
 open_less size more (i ∷ is) [] h = h
 open_less size more (i ∷ is) (f ∷ fs) h = (record { kind = h.0.kind; room = room_less f (size + more) more (omega arith) h.0.room }, open_less size more is fs h.1)
+
+-- what is open is an answer of the query
+pub open_answer : (n : ℕ) (items : List Item) (fs : List Found) → AreOpen n items fs → AllZip IsItemFound items fs
+open_answer n [] [] h = tt
+open_answer n [] (f ∷ fs) h = h
+open_answer n (i ∷ is) [] h = h
+open_answer n (i ∷ is) (f ∷ fs) h = (h.0.kind, open_answer n is fs h.1)
 
 -- ---- records in order
 
@@ -188,20 +197,33 @@ query_open p s n k fs is_size is_record is ends =
 
 -- ---- the whole call
 
-pub query_wants : (old : View) (p : Plan) (s : Region) (e : Refusal) → s.size % p.size ≡ 0 → MayUse s.arena old.caller → e ≡ Memory → Did old old (DoesQuery old.caller p s (Err e))
-query_wants old p s e even may is = record {
+-- what stands once the tests of the call have passed
+pub record IsTested (c : ℕ) (p : Plan) (s : Region) : Type 0 where
+  pub even : s.size % p.size ≡ 0
+  pub may : MayUse s.arena c
+
+pub tested : (c : ℕ) (p : Plan) (s : Region) (n k : ℕ) (id : ArenaId) → n ≡ s.size → k ≡ p.size → id ≡ s.arena → n % k ≡ 0 → MayUse id c → IsTested c p s
+tested c p s n k id is_size is_record is_arena even may = record {
+  even = subst (λ (m : ℕ). m % p.size ≡ 0) is_size (subst (λ (m : ℕ). n % m ≡ 0) is_record even);
+  may = subst (λ (a : ArenaId). MayUse a c) is_arena may;
+}
+
+-- no memory to begin with
+pub query_wants : (old : View) (p : Plan) (s : Region) (e : Refusal) → IsTested old.caller p s → e ≡ Memory → Did old old (DoesQuery old.caller p s (Err e))
+query_wants old p s e t is = record {
   own = [];
-  does = subst (λ (r : Refusal). DoesQuery old.caller p s (Err r) []) (sym is) (even, may, AreReads-none old.caller s);
+  does = subst (λ (r : Refusal). DoesQuery old.caller p s (Err r) []) (sym is) (t.even, t.may, AreReads-none old.caller s);
   makes = Makes-none old;
 }
 
-pub query_done : (old new : View) (p : Plan) (s : Region) (n k : ℕ) (fs gs a : List Found) (u : Unit {0}) → s.size % p.size ≡ 0 → MayUse s.arena old.caller → n ≡ s.size → k ≡ p.size
-    → fs ≡ answer p [] → a ≡ gs → Did old new (DoesRead old.caller s (λ (x : Unit {0}) es. ReadsRecords old.caller s.arena p (n / k) s.first fs es gs) (Ok u))
-    → Did old new (DoesQuery old.caller p s (Ok a))
-query_done old new p s n k fs gs a u even may is_size is_record is same d = record {
+-- all records were read
+pub query_done : (old new : View) (p : Plan) (s : Region) (n k : ℕ) (fs gs a : List Found) (u : Unit {0}) → IsTested old.caller p s → n ≡ s.size → k ≡ p.size → fs ≡ answer p [] → a ≡ gs
+    → Did old new (DoesRead old.caller s (λ (x : Unit {0}) es. ReadsRecords old.caller s.arena p (n / k) s.first fs es gs) (Ok u)) → Did old new (DoesQuery old.caller p s (Ok a))
+query_done old new p s n k fs gs a u t is_size is_record is same d = record {
   own = d.own;
   does = (
-    even, may,
+    t.even,
+    t.may,
     subst (λ (xs : List Found). ReadsRecords old.caller s.arena p (s.size / p.size) s.first (found_over p []) d.own xs) (sym same)
         (subst (λ (xs : List Found). ReadsRecords old.caller s.arena p (s.size / p.size) s.first xs d.own gs) (is ∙ answer-none p)
         (subst (λ (j : ℕ). ReadsRecords old.caller s.arena p j s.first fs d.own gs) (ap (λ m. m / k) is_size ∙ ap (λ m. s.size / m) is_record) d.does.1)),
@@ -209,11 +231,12 @@ query_done old new p s n k fs gs a u even may is_size is_record is same d = reco
   makes = d.makes;
 }
 
-pub query_stopped : (old new : View) (p : Plan) (s : Region) (P : Unit {0} → List Entry → Type 0) (e : Refusal) → s.size % p.size ≡ 0 → MayUse s.arena old.caller
-    → Did old new (DoesRead old.caller s P (Err e)) → Did old new (DoesQuery old.caller p s (Err e))
-query_stopped old new p s P e even may d = record { own = d.own; does = by e d.does; makes = d.makes }
+-- or it was refused on the way
+pub query_stopped : (old new : View) (p : Plan) (s : Region) (n : ℕ) (fs gs : List Found) (e : Refusal) → IsTested old.caller p s
+    → Did old new (DoesRead old.caller s (λ (x : Unit {0}) es. ReadsRecords old.caller s.arena p n s.first fs es gs) (Err e)) → Did old new (DoesQuery old.caller p s (Err e))
+query_stopped old new p s n fs gs e t d = record { own = d.own; does = by e d.does; makes = d.makes }
   where
-    by : (r : Refusal) → DoesRead old.caller s P (Err r) d.own → DoesQuery old.caller p s (Err r) d.own
-    by Closed h = (even, may, h)
-    by Memory h = (even, may, h)
+    by : (r : Refusal) → DoesRead old.caller s (λ (x : Unit {0}) es. ReadsRecords old.caller s.arena p n s.first fs es gs) (Err r) d.own → DoesQuery old.caller p s (Err r) d.own
+    by Closed h = (t.even, t.may, h)
+    by Memory h = (t.even, t.may, h)
     by r h = absurd h

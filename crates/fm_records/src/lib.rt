@@ -7,6 +7,8 @@ mod laws;
 mod numbers;
 mod printing;
 mod query;
+#[cfg(test)]
+mod query_tests;
 mod querying;
 #[cfg(test)]
 mod querying_tests;

@@ -1,10 +1,11 @@
-ghost use Rattle.std.specs.Prelude.{◌≡◌, ◌≤◌, ◌*◌, ◌^◌, ◌%◌, true, None, IfOk, IfErr};
+ghost use Rattle.std.specs.Prelude.{◌≡◌, ◌≤◌, ◌*◌, ◌^◌, ◌%◌, true, None, IfOk, OnOk, IfErr};
 ghost use Rattle.fm_base.specs.Arenas.{MayUse};
 ghost use Rattle.fm_base.specs.Outcomes.{Lasts};
 ghost use Rattle.fm_base.specs.View.{Did};
 ghost use Rattle.fm_segment.specs.Access.{IsKnown};
 ghost use Rattle.fm_records.specs.Alone.{FindsAnswer, FindsNone};
 ghost use Rattle.fm_records.specs.Reads.{AreOpen, DoesQuery, DoesRead, QueryCause, ReadsRecords};
+ghost use Rattle.fm_records.specs.Texts.{IsAnswerOf};
 
 use crate::answer::{Answer, of_no_records};
 use crate::found::Found;
@@ -32,6 +33,7 @@ pub fn query_segment<M: Memory>(
     requires aligned { s.now.first % q.now.alignment ≡ 0 }
     ensures did { Did (M.view m.old) (M.view m.new) (DoesQuery (M.view m.old).caller q.now s.now result) }
     ensures refused { IfErr result (QueryCause q.now s.now (M.view m.old).caller) }
+    ensures answer { IfOk result (IsAnswerOf q.now) }
     ensures alone { (M.view m.old).alone ≡ true → IfOk result (FindsAnswer (M.view m.old) (M.view m.new) q.now s.now) }
     ensures shut { (M.view m.old).alone ≡ true → IfErr result (FindsNone (M.view m.old) (M.view m.new) s.now) }
     ensures outside { (M.view m.new).inside ≡ None }
@@ -72,6 +74,7 @@ fn add_records<M: Memory>(
     requires open { AreOpen (count * q.now.size) q.now.items found.old.items }
     ensures did { Did (M.view m.old) (M.view m.new) (DoesRead (M.view m.old).caller s.now
         (λ _ own. ReadsRecords (M.view m.old).caller s.now.arena q.now count s.now.first found.old.items own found.new.items) result) }
+    ensures answer { OnOk result (IsAnswerOf q.now found.new.items) }
     ensures outside { (M.view m.new).inside ≡ None }
     ensures lasts { Lasts (M.view m.old) (M.view m.new) }
 {

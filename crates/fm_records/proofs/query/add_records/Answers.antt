@@ -3,7 +3,7 @@ use Rattle.std.proofs.Common.{◌≡◌, ◌≤◌, ◌+◌, ◌-◌, ◌*◌, �
 use Rattle.fm_base.proofs.Outcomes.{Makes-lasts, Did-lasts}
 use Rattle.fm_segment.proofs.Access.{known_still}
 use Rattle.fm_records.specs.Reads.{AreOpen}
-use Rattle.fm_records.proofs.Recording.{AreRecorded, next_open, next_within, recorded_all, recorded_more, recorded_none, recorded_stops}
+use Rattle.fm_records.proofs.Recording.{AreRecorded, next_open, next_within, open_answer, recorded_all, recorded_more, recorded_none, recorded_stops}
 use Rattle.fm_records.proofs.query.add_records.Goals as goal
 
 pub loop-init : goal.loop-init
@@ -53,7 +53,7 @@ loop-preserved g c =
       outside = c.add_record.ensures.outside;
       own = own;
       recorded = subst (λ (n : ℕ). AreRecorded (v c.args.m.now) (v c.add_record.new.m) c.args.s.now c.args.q.now c.args.count (c.args.count - (c.loop.counter + 1)) (c.loop.place + n)
-              c.args.found.now.items c.add_record.new.found.items own) (sym c.record_size-size.ensures.size)
+          c.args.found.now.items c.add_record.new.found.items own) (sym c.record_size-size.ensures.size)
           (recorded_more (v c.args.m.now) (v c.loop.m) (v c.add_record.new.m) c.args.s.now c.args.q.now c.args.count (c.args.count - (c.loop.counter + 1)) c.loop.place
           c.args.found.now.items c.loop.found.items c.add_record.new.found.items c.loop.invariant.own c.in-Ok.field-0 so_far did c.in-Ok.ensures.open);
     }
@@ -64,6 +64,9 @@ returns-clause-did g c =
     let none : c.args.count - c.loop.counter ≡ zero = omega (arith, c.loop-test.false) in
     recorded_all (v c.args.m.now) (v c.loop.m) c.args.s.now c.args.q.now c.args.count c.loop.place c.args.found.now.items c.loop.found.items c.loop.invariant.own
     (subst (λ (n : ℕ). AreRecorded (v c.args.m.now) (v c.loop.m) c.args.s.now c.args.q.now c.args.count n c.loop.place c.args.found.now.items c.loop.found.items c.loop.invariant.own) none c.loop.invariant.recorded)
+
+pub returns-clause-answer : goal.returns-clause-answer
+returns-clause-answer g c = open_answer ((c.args.count - c.loop.counter) * c.args.q.now.size) c.args.q.now.items c.loop.found.items c.loop.invariant.recorded.opens
 
 pub returns-clause-lasts : goal.returns-clause-lasts
 returns-clause-lasts g c = Makes-lasts _ _ _ c.loop.invariant.recorded.makes
