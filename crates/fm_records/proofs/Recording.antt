@@ -1,6 +1,5 @@
 -- Records that are read one behind the other.
-use Rattle.std.proofs.Common.{◌≡◌, ℕ, zero, suc, ◌+◌, ◌*◌, ◌/◌, ◌%◌, ◌^◌, ◌≤◌, Bool, true, false, Option, Some, None, Result, Ok, Err, List, [], ◌∷◌, ◌++◌, map, refl, sym, ap, ◌∙◌, subst, append_assoc, arith}
-use Rattle.std.specs.Prelude.{pos, negsuc, ◌≤ℤ◌}
+use Rattle.std.proofs.Common.{◌≡◌, ℕ, zero, suc, ◌+◌, ◌*◌, ◌/◌, ◌%◌, ◌^◌, ◌≤◌, Bool, true, false, Some, None, Result, Ok, Err, List, [], ◌∷◌, ◌++◌, map, refl, sym, ap, ◌∙◌, subst, append_assoc, arith}
 use Rattle.std.specs.List.{AllZip}
 use Rattle.std.proofs.lemmas.Int.{ints}
 use Rattle.std.proofs.lemmas.List.{append-nil}
@@ -15,14 +14,13 @@ use Rattle.fm_base.proofs.Making.{Makes-then, Makes-none}
 use Rattle.fm_segment.specs.Region.{EndsByLimit, Region}
 use Rattle.fm_query.specs.Plan.{Plan}
 use Rattle.fm_query.specs.declared.condition.Condition.{Condition}
-use Rattle.fm_query.specs.declared.fold.Fold.{Fold}
 use Rattle.fm_query.specs.declared.fold.Fold.TheVariants as fold
 use Rattle.fm_query.specs.declared.item.Asked.{Asked}
 use Rattle.fm_query.specs.declared.item.Asked.TheVariants as asked
 use Rattle.fm_query.specs.declared.item.Item.{Item}
 use Rattle.fm_records.specs.declared.found.Found.{Found}
 use Rattle.fm_records.specs.Answers.{answer, found_in, found_over, item_found}
-use Rattle.fm_records.specs.Reads.{AddsItems, AddsRecord, AreOpen, AreReads, DoesQuery, DoesRead, FindsItems, HasRoom, IsOpen, ReadsRecord, chosen, passed_over, ReadsRecords, no_record, one_record, StayOpen, TestsConditions}
+use Rattle.fm_records.specs.Reads.{AddsItems, AddsRecord, AreOpen, AreReads, DoesQuery, DoesRead, FindsItems, HasRoom, chosen, passed_over, ReadsRecords, no_record, one_record, StayOpen, TestsConditions}
 use Rattle.fm_records.specs.Records.{pieces}
 use Rattle.fm_records.specs.Texts.{IsFoundOf, IsItemFound}
 use Rattle.fm_records.proofs.Reaching.{room_less}
