@@ -1,4 +1,7 @@
 pub mod Adding
+pub mod AnsweringAlone
+pub mod AnsweringBytes
+pub mod Covering
 pub mod Ends
 pub mod Indices
 pub mod ItemsAdding
@@ -6,6 +9,7 @@ pub mod Joining
 pub mod Lines
 pub mod Plans
 pub mod Reaching
+pub mod ReadingBytes
 pub mod Standing
 pub mod Steps
 pub mod Testing
