@@ -10,6 +10,7 @@ pub mod Lines
 pub mod Plans
 pub mod Reaching
 pub mod ReadingBytes
+pub mod Recording
 pub mod Standing
 pub mod Steps
 pub mod Testing

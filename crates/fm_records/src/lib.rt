@@ -9,9 +9,12 @@ mod laws;
 mod numbers;
 mod printing;
 mod query;
+#[cfg(test)]
+mod query_tests;
 mod querying;
 #[cfg(test)]
 mod querying_tests;
+mod record;
 #[cfg(test)]
 mod tests;
 mod values;
