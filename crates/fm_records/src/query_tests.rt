@@ -15,7 +15,7 @@ use std::sync::Wait;
 use std::test::Fail;
 
 /// A struct of int `id`, short `kind`, padding, long `price`, four bytes `tags` and padding: 24 bytes.
-fn order(alloc: Global) -> Result<Layout, Fail> {
+pub(crate) fn order(alloc: Global) -> Result<Layout, Fail> {
     let mut members = Vec::new(alloc);
     members.push(Layout::value(ValueKind::Int).with_name(alloc, "id")?)?;
     members.push(Layout::value(ValueKind::Short).with_name(alloc, "kind")?)?;
@@ -58,7 +58,7 @@ fn asked<R: Abort, M: Memory>(
 
 /// A segment of a fresh shared arena with two records: the bytes 01000000 0200 0000 fa00000000000000 01020304 00000000,
 /// and 02000000 0300 0000 d8ffffffffffffff 050000ff 00000000.
-fn two_orders<R: Abort + Wait, M: Memory>(rt: &R, m: &mut M) -> Segment
+pub(crate) fn two_orders<R: Abort + Wait, M: Memory>(rt: &R, m: &mut M) -> Segment
     requires { (M.view m.old).inside ≡ None }
     ensures outside { (M.view m.new).inside ≡ None }
     ensures known { IsKnown (M.view m.new) result }
