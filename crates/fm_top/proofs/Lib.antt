@@ -1,3 +1,4 @@
+pub mod Asking
 pub mod Causes
 pub mod Chunks
 pub mod FileBytes
@@ -6,5 +7,6 @@ pub mod Holding
 pub mod Numbers
 pub mod Outcomes
 pub mod Runs
+pub mod Saying
 pub mod Sums
 pub mod TypeNames
