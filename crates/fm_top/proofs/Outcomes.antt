@@ -1,16 +1,20 @@
 -- Which outcome a request has.
-use Rattle.std.proofs.Common.{◌≡◌, ℕ, suc, ◌<◌, List, length, replicate, Option, None, Some, true, sym, ◌∙◌, subst, refl, arith}
+use Rattle.std.proofs.Common.{◌≡◌, ◌≢◌, ◌⊎◌, inl, inr, ℕ, suc, ◌<◌, List, length, replicate, Option, None, Some, true, sym, ◌∙◌, subst, refl, arith}
 use Rattle.std.proofs.lemmas.List.{length-replicate}
-use Rattle.std.specs.Prelude.{IsSomeAnd, nat_lt}
+use Rattle.std.specs.Prelude.{IsSomeAnd, nat_lt, Result, Ok, Err, IfOk}
 use Rattle.std.proofs.lemmas.Bool.Decides.{Decides-ltb}
 use Rattle.fm_io.specs.Files.{Contents, file_of, IsAbsent}
 use Rattle.fm_lanes.specs.declared.value_kind.ValueKind.{ValueKind}
+use Rattle.fm_layout.specs.Tree.{Tree}
+use Rattle.fm_base.specs.declared.refusal.Refusal.{Refusal}
+use Rattle.fm_base.specs.declared.refusal.Refusal.TheVariants.{Memory}
+use Rattle.fm_query.specs.Parsed.{IsParsed, IsNoQuery}
 use Rattle.fm_query.specs.Plan.{Plan}
 use Rattle.fm_records.specs.Answers.{answer}
 use Rattle.fm_records.specs.Texts.{answer_text}
 use Rattle.fm_top.specs.Found.{IsFound, OfFound}
-use Rattle.fm_top.specs.Outcome.{Outcome, of_records, sum_outcome, sum_of_file, layout_outcome, layout_of_file, missing, too_long, record_file_limit, layout_file_limit}
-use Rattle.fm_top.specs.Queries.{LayoutEnds, over_limit, answer_outcome}
+use Rattle.fm_top.specs.Outcome.{Outcome, of_records, sum_outcome, sum_of_file, layout_outcome, layout_of_file, missing, too_long, layout_refused, query_refused, record_file_limit, layout_file_limit}
+use Rattle.fm_top.specs.Queries.{IsRecordLayout, IsLayoutRefused, TextEnds, text_refused, answered_by, LayoutEnds, over_limit, no_layout, over_layout, answer_outcome}
 use Rattle.fm_top.specs.Run.{HasOutcome, EndsBy}
 use Rattle.fm_top.specs.Whole.{IsWhole, IsOver}
 use Rattle.fm_top.specs.Words.{Request, Sum, Layout, Query, first_file, last_file}
@@ -112,3 +116,32 @@ pub answer-over : (p : Plan) (file : List ℕ) (told : Option Contents) (o : Out
 answer-over p file told o over is =
     let long = long_found told file record_file_limit over in
     (Some long.0, long.1, is ∙ sym (long_records p.size (answer_text p (answer p long.0)) long.0 long.2))
+
+-- an end over a layout is one over its file
+pub over-layout : (told : Option Contents) (bytes text file : List ℕ) (t : Tree) (o : Outcome) → IsRecordLayout bytes t
+    → OfFound told file (λ found. TextEnds text t file found o) → OfFound told file (λ found. LayoutEnds bytes text file found o)
+over-layout told bytes text file t o is ends = (ends.0, ends.1, over_layout t is o ends.2)
+
+-- an answer is an end of its text
+pub by-answer : (told : Option Contents) (text file : List ℕ) (t : Tree) (p : Plan) (o : Outcome) → IsParsed text t p
+    → OfFound told file (λ found. o ≡ answer_outcome p file found) → OfFound told file (λ found. TextEnds text t file found o)
+by-answer told text file t p o parsed ends =
+    (ends.0, ends.1, subst (λ (x : Outcome). TextEnds text t file ends.0 x) (sym ends.2) (answered_by p parsed))
+
+pub refused-text : (told : Option Contents) (text file : List ℕ) (t : Tree) (e : Refusal) (o : Outcome) → IsNoQuery text t e → e ≢ Memory → o ≡ query_refused e
+    → OfFound told file (λ found. TextEnds text t file found o)
+refused-text told text file t e o denied other is =
+    some_end told file (λ found. TextEnds text t file found o)
+    (λ found. subst (λ (x : Outcome). TextEnds text t file found x) (sym is) (text_refused e (record { no_query = denied; refused = other })))
+
+pub refused-layout : (told : Option Contents) (bytes text file : List ℕ) (e : Refusal) (o : Outcome) → IsLayoutRefused bytes e ⊎ (e ≡ Memory) → e ≢ Memory → o ≡ layout_refused e
+    → OfFound told file (λ found. LayoutEnds bytes text file found o)
+refused-layout told bytes text file e o (inr memory) other is = absurd (other memory)
+refused-layout told bytes text file e o (inl denied) other is =
+    some_end told file (λ found. LayoutEnds bytes text file found o)
+    (λ found. subst (λ (x : Outcome). LayoutEnds bytes text file found x) (sym is) (no_layout e denied))
+
+-- what follows of two clauses of an answer
+pub both_ok : {T E : Type 0} (r : Result T E) (P Q R : T → Type 0) → ((x : T) → P x → Q x → R x) → IfOk r P → IfOk r Q → IfOk r R
+both_ok (Ok x) P Q R f p q = f x p q
+both_ok (Err e) P Q R f p q = tt

@@ -1,9 +1,9 @@
-ghost use Rattle.std.specs.Prelude.{◌≡◌, ◌≤◌, ◌⊎◌, length, IfOk, IfErr, IsErrOf};
+ghost use Rattle.std.specs.Prelude.{◌≡◌, ◌≢◌, ◌≤◌, ◌⊎◌, length, IfOk, IfErr, IsErrOf};
 ghost use Rattle.fm_io.specs.Count.{Rose};
-ghost use Rattle.fm_ljson.specs.Answer.{layout_of_json};
 ghost use Rattle.fm_query.specs.Records.{IsRecord};
 ghost use Rattle.fm_top.specs.Ending.{MissesOnly, shown};
 ghost use Rattle.fm_top.specs.Found.{OfFound};
+ghost use Rattle.fm_top.specs.Outcome.{layout_refused, query_refused};
 ghost use Rattle.fm_top.specs.Queries.{IsLayoutRefused, IsRecordLayout, LayoutEnds, TextEnds};
 ghost use Rattle.fm_top.specs.Run.{HasOutcome};
 ghost use Rattle.fm_top.specs.Words.{Query};
@@ -60,8 +60,7 @@ fn layout_ending<R: Wait, F: Files>(
 {
     match record_layout(alloc, bytes) {
         Ok(layout) => text_ending(rt, alloc, files, query, &layout),
-        Err(Refusal::Memory) => Err(Stop::Memory),
-        Err(refusal) => Ok(Ending::layout_refused(alloc, refusal)?),
+        Err(refusal) => layout_refusal(alloc, refusal),
     }
 }
 
@@ -97,7 +96,30 @@ fn text_ending<R: Wait, F: Files>(
 {
     match parse_query(alloc, query.query, layout) {
         Ok(asked) => answer_ending(rt, alloc, files, query.file, &asked),
-        Err(Refusal::Memory) => Err(Stop::Memory),
-        Err(refusal) => Ok(Ending::query_refused(alloc, refusal)?),
+        Err(refusal) => query_refusal(alloc, refusal),
+    }
+}
+
+/// How the run ends where the layout is refused, but for want of memory.
+fn layout_refusal(alloc: Global, refusal: Refusal) -> Result<Ending, Stop>
+    ensures ending { IfOk result (λ ending. shown ending ≡ layout_refused refusal) }
+    ensures other { IfOk result (λ _. refusal ≢ Refusal.Memory) }
+    ensures memory { IfErr result (λ stop. stop ≡ Stop.Memory) }
+{
+    match refusal {
+        Refusal::Memory => Err(Stop::Memory),
+        _ => Ok(Ending::layout_refused(alloc, refusal)?),
+    }
+}
+
+/// How the run ends where the query is refused, but for want of memory.
+fn query_refusal(alloc: Global, refusal: Refusal) -> Result<Ending, Stop>
+    ensures ending { IfOk result (λ ending. shown ending ≡ query_refused refusal) }
+    ensures other { IfOk result (λ _. refusal ≢ Refusal.Memory) }
+    ensures memory { IfErr result (λ stop. stop ≡ Stop.Memory) }
+{
+    match refusal {
+        Refusal::Memory => Err(Stop::Memory),
+        _ => Ok(Ending::query_refused(alloc, refusal)?),
     }
 }

@@ -1,4 +1,6 @@
-use Rattle.std.proofs.Common.{◌≡◌, ◌-◌, length, take, drop, ◌∷◌, ap, codes}
+use Rattle.std.proofs.Common.{◌≡◌, ◌-◌, ◌<◌, length, take, drop, ◌∷◌, ap, sym, subst, codes}
+use Rattle.std.specs.Prelude.{string_bytes}
+use Rattle.std.proofs.lemmas.List.{length-map}
 use Rattle.fm_top.specs.Names.{listed}
 use Rattle.fm_top.specs.Words.{texts}
 use Rattle.fm_top.proofs.Asking.{or_one, is_query, none_other, none_long, none_named, differs, is_same}
@@ -12,6 +14,14 @@ returns-then-ne-clause-none c =
     let behind = texts (take (length words - 1) (drop 1 words)) in
     let cut : texts words ≡ w ∷ behind = texts_cut words c.command-item.result w c.in-len1-up.len_at_least c.command-item.is c.as_str.ensures.value in
     none_other (texts words) behind w cut (differs w (codes "query") c.ne.result c.ne.ensures c.if-ne.true)
+
+pub returns-then-behind-gt-MOST_WORDS-clause-none : goal.returns-then-behind-gt-MOST_WORDS-clause-none
+returns-then-behind-gt-MOST_WORDS-clause-none c =
+    let words = c.args.words.now in
+    let w = c.as_str.result.now in
+    let behind = take (length words - 1) (drop 1 words) in
+    let cut : texts words ≡ w ∷ texts behind = texts_cut words c.command-item.result w c.in-len1-up.len_at_least c.command-item.is c.as_str.ensures.value in
+    none_long (texts words) (texts behind) w cut (subst (λ n. 6 < n) (sym (length-map behind string_bytes)) c.if-behind-gt-MOST_WORDS.true)
 
 pub returns-in-Three-clause-found : goal.returns-in-Three-clause-found
 returns-in-Three-clause-found c =
