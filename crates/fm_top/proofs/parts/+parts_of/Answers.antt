@@ -1,8 +1,4 @@
-use Rattle.std.proofs.Common.{◌≡◌, ◌≢◌, ◌-◌, length, take, drop, List, ℕ, codes, ◌∷◌, ◌++◌, sym, ap, ◌∙◌}
-use Rattle.std.specs.Str.{bytes_eq}
-use Rattle.std.proofs.lemmas.Slice.Eq.{bytes_eq-Decides}
-use Rattle.fm_top.specs.Options.{nothing}
-use Rattle.fm_top.specs.Parts.{SayThis}
+use Rattle.std.proofs.Common.{◌≡◌, ◌≢◌, ◌-◌, length, take, drop, List, ℕ, codes, ◌∷◌, sym, ap, ◌∙◌}
 use Rattle.fm_top.specs.Words.{texts}
 use Rattle.fm_top.proofs.Numbers.{on_none}
 use Rattle.fm_top.proofs.Saying.{texts_cut, texts_none, on_some, say_nothing, say_only, say_option, say_joined, say_name, none_option, none_joined, none_name, is_word, is_no_word, stripped, not_stripped}

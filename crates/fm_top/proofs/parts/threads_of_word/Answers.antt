@@ -1,4 +1,4 @@
-use Rattle.std.proofs.Common.{refl, arith}
+use Rattle.std.proofs.Common.{arith}
 use Rattle.fm_top.proofs.Numbers.{no_threads}
 use Rattle.fm_top.proofs.parts.threads_of_word.Goals as goal
 use Rattle.fm_top.proofs.parts.threads_of_word.Goals.{else-threads-ge1-via-then-threads-ge1+else-threads-le-MOST_THREADS, else-threads-ge1-via-else-threads-ge1}
