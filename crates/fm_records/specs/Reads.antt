@@ -233,3 +233,11 @@ AreOpen more items fs = AllZip (IsOpen more) items fs
 -- after so many numbers they are as open as was left
 abbrev pub StayOpen : List Item → List Found → List Found → ℕ → Type 0
 StayOpen items old new n = (more : ℕ) → AreOpen (n + more) items old → AreOpen more items new
+
+-- ---- one record and those before
+
+-- the visits read the record at a place, and what it gives is added to what was found before
+pub record AddsRecord (c : ℕ) (id : ArenaId) (p : Plan) (place : ℕ) (old new : List Found) (own : List Entry) : Type 0 where
+  pub seen : Option (List Found)
+  pub reads : ReadsRecord c id p place own seen
+  pub added : new ≡ with_record old seen
