@@ -1,5 +1,5 @@
 -- What each status of a run comes of.
-use Rattle.std.proofs.Common.{◌≡◌, ◌≢◌, ℕ, ◌%◌, ◌<◌, List, length, Option, None, Some, Result, Ok, Err, IfSome, Bool, true, false, refl, sym, ap, subst, ◌∙◌, ◌⊎◌, inl, inr, arith}
+use Rattle.std.proofs.Common.{◌≡◌, ◌≢◌, ℕ, ◌%◌, ◌<◌, List, length, Option, None, Some, Result, Ok, Err, IfSome, Bool, true, false, refl, sym, ap, subst, ◌∙◌, ◌⊎◌, inl, inr}
 use Rattle.std.specs.Prelude.{nat_lt, ◌==◌, if◌then◌else◌, IsSomeAnd}
 use Rattle.std.proofs.lemmas.Bool.Decides.{Decides-ltb, Decides-eqb, not_from_Decides}
 use Rattle.fm_base.specs.declared.refusal.Refusal.{Refusal}
@@ -16,7 +16,7 @@ use Rattle.fm_top.specs.Outcome.{Outcome, of_records, sum_outcome, sum_text, lay
 use Rattle.fm_top.specs.Queries.{IsRecordLayout, IsLayoutRefused, IsTextRefused, TextEnds, text_refused, answered_by, LayoutEnds, over_limit, no_layout, over_layout, QueryEnds, answer_outcome}
 use Rattle.fm_top.specs.Run.{EndsBy, HasOutcome, IsOutcomeOver, IsOutcome, faulty, asked, AskFor, Traces, Runs, AsksAbsent, AsksLong, AsksRagged, AsksRefused, AsksRefusedQuery}
 use Rattle.fm_top.specs.Whole.{IsRefused}
-use Rattle.fm_top.specs.Words.{Request, Sum, Layout, Query, first_file, last_file}
+use Rattle.fm_top.specs.Words.{Request, Sum, Layout, Query, last_file}
 use Rattle.fm_top.specs.declared.status.Status.{Status}
 use Rattle.fm_top.specs.declared.status.Status.TheVariants.{Answered, Usage, Missing, LayoutRefused, QueryRefused, Ragged, TooLong}
 use Rattle.fm_top.proofs.Runs.{HasStatus, with_status}

@@ -1,5 +1,5 @@
 -- Valid input is answered.
-use Rattle.std.proofs.Common.{◌≡◌, ◌≢◌, ℕ, ◌%◌, ◌<◌, ◌≤◌, List, length, Option, None, Some, Result, Ok, Err, refl, sym, ap, subst, ◌∙◌, inl, inr, arith}
+use Rattle.std.proofs.Common.{◌≡◌, ℕ, List, Option, None, Some, Result, refl, sym, ap, subst, ◌∙◌, inl, inr, arith}
 use Rattle.std.specs.Fmt.{decimal}
 use Rattle.std.proofs.lemmas.Fmt.{decimal_injective}
 use Rattle.fm_base.specs.declared.refusal.Refusal.{Refusal}
@@ -8,13 +8,12 @@ use Rattle.fm_io.specs.Count.{Rose}
 use Rattle.fm_io.specs.Files.{Contents, file_of}
 use Rattle.fm_lanes.specs.declared.value_kind.ValueKind.{ValueKind}
 use Rattle.fm_layout.specs.Tree.{Tree}
-use Rattle.fm_ljson.specs.Answer.{layout_of_json}
 use Rattle.fm_path.specs.Listing.{kind_text}
 use Rattle.fm_query.specs.Parsed.{IsParsed}
 use Rattle.fm_query.specs.Plan.{Plan}
 use Rattle.fm_query.specs.Records.{IsRecord, IsNoRecord}
 use Rattle.fm_top.specs.Options.{Say}
-use Rattle.fm_top.specs.Outcome.{Outcome, sum_outcome, layout_outcome, missing, layout_refused, query_refused}
+use Rattle.fm_top.specs.Outcome.{Outcome}
 use Rattle.fm_top.specs.Queries.{IsRecordLayout, IsNoRecordLayout, IsLayoutRefused, TextEnds, text_refused, answered_by, LayoutEnds, over_limit, no_layout, over_layout, QueryEnds, answer_outcome}
 use Rattle.fm_top.specs.Run.{HasOutcome, IsOutcomeOver, IsOutcome, faulty, asked, Traces, Runs, whole, unread, unwritten, no_memory, unknown, code_of, Answers}
 use Rattle.fm_top.specs.Words.{Request, Sum, Layout, Query, Asks, IsSum, IsLayout, IsQuery, three, threads_of}

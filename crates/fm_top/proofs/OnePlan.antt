@@ -1,20 +1,20 @@
 -- A text has one plan over a layout, and one that has a plan isn't refused.
-use Rattle.std.proofs.Common.{◌≡◌, ◌≢◌, ℕ, ℤ, ◌+◌, ◌-◌, ◌^◌, List, [], ◌∷◌, Option, None, Some, Result, Ok, Err, refl, sym, ap, subst, ◌∙◌, inl, inr}
+use Rattle.std.proofs.Common.{◌≡◌, ◌≢◌, ℕ, ℤ, ◌+◌, ◌-◌, ◌^◌, List, [], ◌∷◌, Result, Ok, Err, refl, sym, ap, subst, ◌∙◌, inl, inr}
 use Rattle.std.specs.Prelude.{min}
-use Rattle.std.specs.List.{AllByRecursion, AllZip}
+use Rattle.std.specs.List.{AllZip}
 use Rattle.fm_base.specs.declared.refusal.Refusal.{Refusal}
 use Rattle.fm_base.specs.declared.refusal.Refusal.TheVariants.{BadQuery, Memory}
 use Rattle.fm_layout.specs.Tree.{Tree, Value, Padding, Sequence, Struct, Union}
 use Rattle.fm_layout.specs.Parts.{IsValue}
 use Rattle.fm_steps.specs.declared.step.PathStep.{PathStep}
 use Rattle.fm_steps.specs.declared.step.PathStep.TheVariants.{Name, Group, At, Each, EachFrom}
-use Rattle.fm_places.specs.Follow.{Taken, taken, after, before, ◌>>=◌, follow, follow_by}
+use Rattle.fm_places.specs.Follow.{Taken, taken, after, before, ◌>>=◌, follow_by}
 use Rattle.fm_places.specs.Places.{Step}
 use Rattle.fm_places.specs.Walk.{Walk}
 use Rattle.fm_lanes.specs.declared.order.Order.{Order}
 use Rattle.fm_lanes.specs.declared.value_kind.ValueKind.{ValueKind}
 use Rattle.fm_query.specs.declared.operator.Operator.{Operator}
-use Rattle.fm_places.specs.Found.{end_from, end_of, IsRefused, EndsElsewhere}
+use Rattle.fm_places.specs.Found.{end_from}
 use Rattle.fm_path.specs.declared.value_spec.ValueSpec.{ValueSpec}
 use Rattle.fm_path.specs.Resolution.{Resolution, resolution, IsSpecOf, IsResolved, IsRefusal, at_step, no_value, no_memory}
 use Rattle.fm_query.specs.declared.syntax.ItemSyntax.{ItemSyntax}
@@ -26,8 +26,8 @@ use Rattle.fm_query.specs.declared.item.Item.{Item}
 use Rattle.fm_query.specs.declared.condition.Condition.{Condition}
 use Rattle.fm_query.specs.Grammar.{Syntax, IsTextOf}
 use Rattle.fm_query.specs.Plan.{Plan, plan}
-use Rattle.fm_query.specs.Parsed.{first_open, IsAskedOf, IsItemOf, IsConditionOf, IsPlanOf, IsItemRefused, IsConditionRefused, at_path, left_open, IsFirstRefused, IsSyntaxRefused, at_item, at_condition, IsParsed, IsNoQuery, no_text, refused}
-use Rattle.fm_query.specs.Grammar.{BeginsUpTo, IsNoText}
+use Rattle.fm_query.specs.Parsed.{IsAskedOf, IsItemOf, IsConditionOf, IsPlanOf, IsItemRefused, IsConditionRefused, at_path, left_open, IsFirstRefused, IsSyntaxRefused, at_item, at_condition, IsParsed, IsNoQuery, no_text, refused}
+use Rattle.fm_query.specs.Grammar.{IsNoText}
 use Rattle.fm_top.specs.Queries.{IsTextRefused}
 
 -- ---- one plan

@@ -1,13 +1,13 @@
 -- What words say is one thing.
-use Rattle.std.proofs.Common.{◌≡◌, ◌≢◌, ℕ, ◌+◌, ◌-◌, ◌<◌, ◌≤◌, List, [], ◌∷◌, ◌++◌, length, codes, slice_index, Option, None, Some, refl, sym, ap, subst, ◌∙◌, ◌⊎◌, inl, inr, arith}
+use Rattle.std.proofs.Common.{◌≡◌, ◌≢◌, ℕ, ◌+◌, ◌-◌, ◌<◌, ◌≤◌, List, [], ◌∷◌, ◌++◌, length, codes, slice_index, Option, None, Some, refl, sym, ap, subst, ◌∙◌, inl, inr, arith}
 use Rattle.std.specs.Fmt.{decimal}
 use Rattle.std.proofs.lemmas.Fmt.{decimal_injective}
-use Rattle.fm_top.specs.Options.{IsPlain, IsFileWord, AreThreads, Say, nothing, option, joined, name, only_names}
+use Rattle.fm_top.specs.Options.{IsPlain, AreThreads, Say, nothing, option, joined, name, only_names}
 use Rattle.fm_top.specs.Names.{listed}
 use Rattle.fm_top.specs.Parts.{SayThis, AddsThreads, AddsName}
 use Rattle.fm_top.specs.Words.{texts, threads_of}
 use Rattle.fm_top.specs.declared.parts.Parts.{Parts}
-use Rattle.std.specs.Prelude.{String, string_bytes, IfSome, IfNone, take, drop, get_or}
+use Rattle.std.specs.Prelude.{String, string_bytes, IfSome, take, drop, get_or}
 use Rattle.std.specs.declared.alloc.Global.{Global}
 use Rattle.std.proofs.lemmas.List.{take_all}
 use Rattle.std.proofs.Common.{Bool, true, false}

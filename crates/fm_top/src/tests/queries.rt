@@ -21,12 +21,7 @@ const ROW: [&str; 4] = ["query", "L1", "min(.price) where .kind=9", "R1"];
 const NONE: &str = "min(.price) none\n";
 
 /// Runs the tool on these words.
-fn run_words<R, F, O>(
-    rt: &R,
-    words: &[&str],
-    files: &mut F,
-    out: &mut O,
-) -> Result<u8, AllocError>
+fn run_words<R, F, O>(rt: &R, words: &[&str], files: &mut F, out: &mut O) -> Result<u8, AllocError>
 where
     R: Threads + Wait + RandomSource + AllocGlobal,
     F: Files,
@@ -105,10 +100,30 @@ fn each_query_is_answered_in_pieces_of_every_size(rt: HostRuntime) -> Result<(),
         ("list(.id) where .kind>2", "R1", 0, "list(.id) 2\n"),
         ("list(.id) where .kind>=4", "R1", 0, "list(.id)\n"),
         ("list(.id) where .kind>=3", "R1", 0, "list(.id) 2\n"),
-        ("list(.id) where .price=-40 and .tags[3]=-1", "R1", 0, "list(.id) 2\n"),
-        ("list(.id) where .price=-40 and .tags[3]=4", "R1", 0, "list(.id)\n"),
-        ("count where .price>-9223372036854775808", "R1", 0, "count 2\n"),
-        ("count where .price<=9223372036854775807", "R1", 0, "count 2\n"),
+        (
+            "list(.id) where .price=-40 and .tags[3]=-1",
+            "R1",
+            0,
+            "list(.id) 2\n",
+        ),
+        (
+            "list(.id) where .price=-40 and .tags[3]=4",
+            "R1",
+            0,
+            "list(.id)\n",
+        ),
+        (
+            "count where .price>-9223372036854775808",
+            "R1",
+            0,
+            "count 2\n",
+        ),
+        (
+            "count where .price<=9223372036854775807",
+            "R1",
+            0,
+            "count 2\n",
+        ),
         ("count,", "R1", 5, "query refused 50 6\n"),
         ("", "R1", 5, "query refused 50 0\n"),
         ("sum(.nope)", "R1", 5, "query refused 31 0\n"),
@@ -147,7 +162,12 @@ fn a_layout_of_no_records_is_refused(rt: HostRuntime) -> Result<(), Fail> {
         for query in ["count", "count,"] {
             let mut files = files(rt.alloc(), &[], usize::MAX)?;
             let mut out = SureSink::new(rt.alloc());
-            let code = run_words(&rt, &["query", layout, query, "nofile"], &mut files, &mut out)?;
+            let code = run_words(
+                &rt,
+                &["query", layout, query, "nofile"],
+                &mut files,
+                &mut out,
+            )?;
             assert_eq!(rt; code, status, "{layout} {query}");
             assert_eq!(rt; out.written(), text.as_bytes(), "{layout} {query}");
         }
@@ -194,7 +214,11 @@ fn the_option_stands_anywhere_and_once(rt: HostRuntime) -> Result<(), Fail> {
         ("query --threads=02 L1 count R1", 1, "usage\n"),
         ("query --threads +1 L1 count R1", 1, "usage\n"),
         ("query --threads -1 L1 count R1", 1, "usage\n"),
-        ("query --threads 18446744073709551617 L1 count R1", 1, "usage\n"),
+        (
+            "query --threads 18446744073709551617 L1 count R1",
+            1,
+            "usage\n",
+        ),
         ("query --threads 2 --threads 2 L1 count R1", 1, "usage\n"),
         ("query --threads=2 L1 count R1 --threads=2", 1, "usage\n"),
         ("query --threads 2 L1 count R1 --threads=2", 1, "usage\n"),
@@ -252,7 +276,11 @@ fn a_part_of_the_records_is_counted_or_ragged(rt: HostRuntime) -> Result<(), Fai
             (6, format!(in alloc; "ragged {rest}\n")?)
         };
         assert_eq!(rt; code, status, "the first {n} bytes");
-        assert_eq!(rt; out.written(), text.as_str().as_bytes(), "the first {n} bytes");
+        assert_eq!(rt;
+            out.written(),
+            text.as_str().as_bytes(),
+            "the first {n} bytes"
+        );
     }
     Ok(())
 }
@@ -308,7 +336,11 @@ fn each_file_has_a_limit_of_its_own(rt: HostRuntime) -> Result<(), Fail> {
         let mut out = SureSink::new(alloc);
         let code = run_words(&rt, &["query", "L", "count", "R"], &mut files, &mut out)?;
         assert_eq!(rt; code, status, "{blanks} and {zeros} bytes");
-        assert_eq!(rt; out.written(), text.as_bytes(), "{blanks} and {zeros} bytes");
+        assert_eq!(rt;
+            out.written(),
+            text.as_bytes(),
+            "{blanks} and {zeros} bytes"
+        );
     }
     Ok(())
 }
