@@ -1,5 +1,5 @@
 use Rattle.fm_top.proofs.Numbers.{unread, no_spelling}
-use Rattle.fm_top.proofs.words.number_of_word.Goals as goal
+use Rattle.fm_top.proofs.number.number_of_word.Goals as goal
 
 pub returns-in_default-clause-none : goal.returns-in_default-clause-none
 returns-in_default-clause-none c = unread c.args.word.now c.parse.result c.in_default.field-0 c.parse.ensures.value.0 c.in_default.is
