@@ -1,10 +1,10 @@
 use Rattle.std.proofs.Common.{◌≡◌, List, length, None}
 use Rattle.fm_base.specs.Calls.{Entry}
 use Rattle.fm_records.proofs.Adding.{AreAdded}
-use Rattle.fm_records.proofs.values.+add_values.Given as goal
+use Rattle.fm_records.proofs.values.+add_rows.Given as goal
 
-abbrev pub decreases-add_values : goal.decreases-add_values
-decreases-add_values g l = length l.dims.now
+abbrev pub decreases-add_rows : goal.decreases-add_rows
+decreases-add_rows g l = length l.dims.now
 
 abbrev pub invariant-loop-i : goal.invariant-loop-i
 invariant-loop-i g l =

@@ -10,7 +10,7 @@ use Rattle.fm_records.specs.Values.{index_lists}
 use Rattle.fm_records.proofs.Adding.{AreAdded, added_none, added_more, added_all, lists_by_first}
 use Rattle.fm_records.proofs.Reaching.{dims_split, reached, closed_within, room_at}
 use Rattle.fm_records.proofs.Visiting.{stops_then}
-use Rattle.fm_records.proofs.values.+add_values.Goals as goal
+use Rattle.fm_records.proofs.values.+add_rows.Goals as goal
 
 pub overflow_add-place : goal.overflow_add-place
 overflow_add-place g t c =
@@ -24,8 +24,8 @@ add_value-requires-clause-within g t c =
 pub loop-i-init : goal.loop-i-init
 loop-i-init g t c = record { outside = c.requires.outside; own = []; added = added_none _ _ _ _ _ _ _ _ }
 
-pub add_values-requires : goal.add_values-requires
-add_values-requires g t c κs within =
+pub add_rows-requires : goal.add_rows-requires
+add_rows-requires g t c κs within =
     let ds = c.args.dims.now in
     let z : Dim = record { stride = pos 0; bound = 0 } in
     let d = get_or ds 0 z in
@@ -57,9 +57,9 @@ returns-in-Err-clause-did g t c =
     let old = v c.args.m.now in
     let now = v c.loop-i.m in
     let more = take (length c.args.dims.now - 1) (drop 1 c.args.dims.now) in
-    stops_then (λ (x : Unit {0}) (own : List Entry). AddsNumbers now.caller c.args.s.now.arena c.args.value (value_places c.args.place c.reach_of-next.result more) c.loop-i.found c.add_values.new.found own)
-    (λ (x : Unit {0}) (own : List Entry). AddsNumbers old.caller c.args.s.now.arena c.args.value (value_places c.args.place c.args.at c.args.dims.now) c.args.found.now c.add_values.new.found own)
-    old now (v c.add_values.new.m) c.args.s.now c.loop-i.invariant.own c.in-Err.refusal c.loop-i.invariant.added.makes c.loop-i.invariant.added.reads c.in-Err.ensures.did
+    stops_then (λ (x : Unit {0}) (own : List Entry). AddsNumbers now.caller c.args.s.now.arena c.args.value (value_places c.args.place c.reach_of-next.result more) c.loop-i.found c.add_rows.new.found own)
+    (λ (x : Unit {0}) (own : List Entry). AddsNumbers old.caller c.args.s.now.arena c.args.value (value_places c.args.place c.args.at c.args.dims.now) c.args.found.now c.add_rows.new.found own)
+    old now (v c.add_rows.new.m) c.args.s.now c.loop-i.invariant.own c.in-Err.refusal c.loop-i.invariant.added.makes c.loop-i.invariant.added.reads c.in-Err.ensures.did
 
 pub returns-in-Err-clause-lasts : goal.returns-in-Err-clause-lasts
 returns-in-Err-clause-lasts g t c = Did-lasts _ _ _ (returns-in-Err-clause-did g t c)
@@ -69,7 +69,7 @@ loop-i-preserved g t c =
     let v = g.M.Memory.view in
     let old = v c.args.m.now in
     let now = v c.loop-i.m in
-    let next = v c.add_values.new.m in
+    let next = v c.add_rows.new.m in
     let s = c.args.s.now in
     let ds = c.args.dims.now in
     let z : Dim = record { stride = pos 0; bound = 0 } in
@@ -78,14 +78,14 @@ loop-i-preserved g t c =
     let e : ds ≡ d ∷ more = dims_split ds z c.in-len1-up.len_at_least in
     let r = reached s c.args.place c.args.at c.reach_of-next.result d more c.args.value c.loop-i.i
     (subst (λ (xs : List Dim). ReachesInside s c.args.place c.args.at xs c.args.value) e c.requires.inside) c.loop-i-test.true c.reach_of-next.ensures in
-    let did = subst (λ (ps : List ℕ). Did now next (DoesRead now.caller s (λ (x : Unit {0}) (es : List Entry). AddsNumbers now.caller s.arena c.args.value ps c.loop-i.found c.add_values.new.found es) (Ok c.in-Ok.field-0))) r.places c.in-Ok.ensures.did in
+    let did = subst (λ (ps : List ℕ). Did now next (DoesRead now.caller s (λ (x : Unit {0}) (es : List Entry). AddsNumbers now.caller s.arena c.args.value ps c.loop-i.found c.add_rows.new.found es) (Ok c.in-Ok.field-0))) r.places c.in-Ok.ensures.did in
     let own = c.loop-i.invariant.own ++ did.own in
-    let added = added_more old now next s c.args.place c.args.at d more c.args.value c.args.found.now c.loop-i.found c.add_values.new.found c.loop-i.i c.loop-i.invariant.own c.in-Ok.field-0
+    let added = added_more old now next s c.args.place c.args.at d more c.args.value c.args.found.now c.loop-i.found c.add_rows.new.found c.loop-i.i c.loop-i.invariant.own c.in-Ok.field-0
     c.loop-i.invariant.added did c.in-Ok.ensures.room in
     record {
-      outside = c.add_values.ensures.outside;
+      outside = c.add_rows.ensures.outside;
       own = own;
-      added = subst (λ (k : ℕ). AreAdded old next s c.args.place c.args.at d more c.args.value c.args.found.now c.add_values.new.found k own) (sym (add-one c.loop-i.i)) added;
+      added = subst (λ (k : ℕ). AreAdded old next s c.args.place c.args.at d more c.args.value c.args.found.now c.add_rows.new.found k own) (sym (add-one c.loop-i.i)) added;
     }
 
 pub returns-after-loop-i-clause-did : goal.returns-after-loop-i-clause-did
