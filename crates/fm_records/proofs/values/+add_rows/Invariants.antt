@@ -1,0 +1,17 @@
+use Rattle.std.proofs.Common.{◌≡◌, List, length, None}
+use Rattle.fm_base.specs.Calls.{Entry}
+use Rattle.fm_records.proofs.Adding.{AreAdded}
+use Rattle.fm_records.proofs.values.+add_rows.Given as goal
+
+abbrev pub decreases-add_rows : goal.decreases-add_rows
+decreases-add_rows g l = length l.dims.now
+
+abbrev pub invariant-loop-i : goal.invariant-loop-i
+invariant-loop-i g l =
+    let old = g.M.Memory.view l.fn.m in
+    let now = g.M.Memory.view l.m in
+    record {
+      outside : now.inside ≡ None;
+      own : List Entry;
+      added : AreAdded old now l.s l.place l.at l.dim l.rest l.value l.fn.found l.found l.i own;
+    }
