@@ -1,5 +1,5 @@
 -- Which words ask a query.
-use Rattle.std.proofs.Common.{◌≡◌, ◌≢◌, ℕ, ◌-◌, ◌≤◌, List, [], ◌∷◌, length, take, drop, get_or, codes, Option, None, Some, refl, sym, ap, subst, ◌∙◌, arith}
+use Rattle.std.proofs.Common.{◌≡◌, ℕ, ◌-◌, ◌≤◌, List, [], ◌∷◌, length, take, drop, get_or, codes, Option, None, Some, refl, sym, ap, subst, ◌∙◌, arith}
 use Rattle.std.specs.Prelude.{Bool, true, false, not, IfSome, IfNone, String, string_bytes}
 use Rattle.std.specs.Str.{bytes_eq}
 use Rattle.std.specs.declared.alloc.Global.{Global}
@@ -10,18 +10,11 @@ use Rattle.fm_options.proofs.Said.{one_saying}
 use Rattle.fm_options.specs.Options.{Say, texts}
 use Rattle.fm_top.specs.Words.{AreThreads, AreThreadsBy, IsQuery, three}
 
-not_true : (b : Bool) → not b ≡ true → b ≡ true → ⊥
-not_true true is same = cc
-not_true false is same = cc
-
 not_false : (b : Bool) → not b ≡ false → b ≡ true
 not_false true is = refl
 not_false false is = absurd (cc)
 
--- a word that was tested to differ, or not to
-pub differs : (w text : List ℕ) (other : Bool) → other ≡ not (bytes_eq w text) → other ≡ true → w ≢ text
-differs w text other is holds eq = not_true (bytes_eq w text) (sym is ∙ holds) ((bytes_eq-Decides w text).1 eq)
-
+-- a word that was tested not to differ
 pub is_same : (w text : List ℕ) (other : Bool) → other ≡ not (bytes_eq w text) → other ≡ false → w ≡ text
 is_same w text other is fails = (bytes_eq-Decides w text).0 (not_false (bytes_eq w text) (sym is ∙ fails))
 
@@ -74,12 +67,6 @@ behind_is words behind w threads layout query file is asks =
     let spelled = asks.spelled in
     let same : asks.behind ≡ behind = cc in
     subst (λ (ws : List (List ℕ)). Say ws asks.text (three layout query file)) same asks.says
-
-pub none_other : (words behind : List (List ℕ)) (w : List ℕ) → words ≡ w ∷ behind → w ≢ codes "query" → AskNoQuery words
-none_other words behind w is other threads layout query file asks =
-    let spelled = asks.spelled in
-    let same : w ≡ codes "query" = cc in
-    other same
 
 -- what the words behind `query` say is of no query
 abbrev pub IsOfNone : Option (List ℕ) → List (List ℕ) → Type 0
