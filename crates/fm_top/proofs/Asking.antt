@@ -1,16 +1,15 @@
 -- Which words ask a query.
-use Rattle.std.proofs.Common.{Bor, ◌≡◌, ◌≢◌, ℕ, ◌+◌, ◌≤◌, ◌<◌, List, ◌∷◌, length, codes, Option, None, Some, refl, sym, ap, subst, ◌∙◌, arith}
-use Rattle.std.specs.Prelude.{unwrap_or, Bool, true, false, not}
+use Rattle.std.proofs.Common.{◌≡◌, ◌≢◌, ℕ, ◌-◌, ◌≤◌, ◌<◌, List, [], ◌∷◌, length, take, drop, get_or, codes, Option, None, Some, refl, sym, ap, subst, ◌∙◌, arith}
+use Rattle.std.specs.Prelude.{Bool, true, false, not, IfSome, IfNone, String, string_bytes}
+use Rattle.std.specs.Fmt.{decimal}
 use Rattle.std.specs.Str.{bytes_eq}
+use Rattle.std.specs.declared.alloc.Global.{Global}
+use Rattle.std.proofs.lemmas.Fmt.{decimal_injective}
+use Rattle.std.proofs.lemmas.List.{take_all}
 use Rattle.std.proofs.lemmas.Slice.Eq.{bytes_eq-Decides}
-use Rattle.fm_top.specs.Names.{listed}
-use Rattle.fm_top.specs.Options.{Say}
-use Rattle.fm_top.specs.Parts.{SayThis}
-use Rattle.fm_top.specs.Words.{IsQuery, three, threads_of}
-use Rattle.fm_top.specs.declared.names.Names.{Names}
-use Rattle.fm_top.specs.declared.names.Names.TheVariants as names
-use Rattle.fm_top.specs.declared.parts.Parts.{Parts}
-use Rattle.fm_top.proofs.Saying.{said_once, few_said, SayNone}
+use Rattle.fm_options.proofs.Said.{one_saying}
+use Rattle.fm_options.specs.Options.{Say, texts}
+use Rattle.fm_top.specs.Words.{AreThreads, AreThreadsBy, IsQuery, three}
 
 not_true : (b : Bool) → not b ≡ true → b ≡ true → ⊥
 not_true true is same = cc
@@ -20,19 +19,49 @@ not_false : (b : Bool) → not b ≡ false → b ≡ true
 not_false true is = refl
 not_false false is = absurd (cc)
 
--- a number that may be missing, and is then 1
-pub or_one : (t : Option ℕ) (n : ℕ) → n ≡ unwrap_or t 1 → n ≡ threads_of t
-or_one None n is = is
-or_one (Some k) n is = is
+-- a word that was tested to differ, or not to
+pub differs : (w text : List ℕ) (other : Bool) → other ≡ not (bytes_eq w text) → other ≡ true → w ≢ text
+differs w text other is holds eq = not_true (bytes_eq w text) (sym is ∙ holds) ((bytes_eq-Decides w text).1 eq)
 
-pub is_query : (words behind : List (List ℕ)) (w : List ℕ) (p : Parts) (threads : ℕ) (layout query file : List ℕ) → words ≡ w ∷ behind → w ≡ codes "query"
-    → SayThis behind p → listed p.names ≡ three layout query file → threads ≡ threads_of p.threads → IsQuery words threads layout query file
-is_query words behind w p threads layout query file is is_w said names_are threads_are = record {
-  option = p.threads;
+pub is_same : (w text : List ℕ) (other : Bool) → other ≡ not (bytes_eq w text) → other ≡ false → w ≡ text
+is_same w text other is fails = (bytes_eq-Decides w text).0 (not_false (bytes_eq w text) (sym is ∙ fails))
+
+-- what is known of what was found, or where nothing was
+pub of_some : {X : Type 0} (r : Option X) (x : X) (P : X → Type 0) → r ≡ Some x → IfSome r P → P x
+of_some r x P is known = subst (λ o. IfSome o P) is known
+
+pub of_none : {X Q : Type 0} (r : Option X) → r ≡ None → IfNone r Q → Q
+of_none {X} {Q} r is known = subst (λ o. IfNone o Q) is known
+
+-- words and the text of the first of them
+pub texts_cut : (words : List (String Global)) (w : String Global) (text : List ℕ) → 1 ≤ length words → w ≡ get_or words 0 w → text ≡ string_bytes w
+    → texts words ≡ text ∷ texts (take (length words - 1) (drop 1 words))
+texts_cut [] w text some is_w is_text = absurd (omega arith)
+texts_cut (p ∷ more) w text some is_w is_text =
+    let first : w ≡ p = is_w in
+    let rest : take (length (p ∷ more) - 1) more ≡ more = take_all (length (p ∷ more) - 1) more (omega arith) in
+    ap (λ (x : List ℕ). x ∷ texts more) (sym (is_text ∙ ap string_bytes first)) ∙ ap (λ (ws : List (String Global)). text ∷ texts ws) (sym rest)
+
+-- a text asks for one number of threads
+pub one_count : (text : Option (List ℕ)) (n m : ℕ) → AreThreadsBy text n → AreThreadsBy text m → n ≡ m
+one_count None n m a b = a ∙ sym b
+one_count (Some text) n m a b = decimal_injective n m (omega (arith, a.0.few)) (omega (arith, b.0.few)) (sym a.1 ∙ b.1)
+
+-- every text asks for a number of threads that may be asked for
+pub are_threads : (text : Option (List ℕ)) (n : ℕ) → AreThreadsBy text n → AreThreads n
+are_threads None n is = subst AreThreads (sym is) (record { some = omega arith; few = omega arith })
+are_threads (Some text) n is = is.0
+
+-- what was said behind `query`
+pub is_query : (words behind : List (List ℕ)) (w : List ℕ) (text : Option (List ℕ)) (names : List (List ℕ)) (threads : ℕ) (layout query file : List ℕ)
+    → words ≡ w ∷ behind → w ≡ codes "query" → Say behind text names
+    → AreThreadsBy text threads × (names ≡ three layout query file) → IsQuery words threads layout query file
+is_query words behind w text names threads layout query file is is_w said asked = record {
   behind = behind;
+  text = text;
   spelled = is ∙ ap (λ (x : List ℕ). x ∷ behind) is_w;
-  says = subst (λ (ns : List (List ℕ)). Say behind p.threads ns) names_are said;
-  threads_are = threads_are;
+  says = subst (λ (ns : List (List ℕ)). Say behind text ns) asked.1 said;
+  are_threads = asked.0;
 }
 
 -- the words ask no query
@@ -41,11 +70,11 @@ AskNoQuery words = (threads : ℕ) (layout query file : List ℕ) → IsQuery wo
 
 -- the words behind the first
 behind_is : (words behind : List (List ℕ)) (w : List ℕ) (threads : ℕ) (layout query file : List ℕ) → words ≡ w ∷ behind → (asks : IsQuery words threads layout query file)
-    → Say behind asks.option (three layout query file)
+    → Say behind asks.text (three layout query file)
 behind_is words behind w threads layout query file is asks =
     let spelled = asks.spelled in
     let same : asks.behind ≡ behind = cc in
-    subst (λ (ws : List (List ℕ)). Say ws asks.option (three layout query file)) same asks.says
+    subst (λ (ws : List (List ℕ)). Say ws asks.text (three layout query file)) same asks.says
 
 pub none_other : (words behind : List (List ℕ)) (w : List ℕ) → words ≡ w ∷ behind → w ≢ codes "query" → AskNoQuery words
 none_other words behind w is other threads layout query file asks =
@@ -53,31 +82,17 @@ none_other words behind w is other threads layout query file asks =
     let same : w ≡ codes "query" = cc in
     other same
 
-pub none_long : (words behind : List (List ℕ)) (w : List ℕ) → words ≡ w ∷ behind → 6 < length behind → AskNoQuery words
-none_long words behind w is long threads layout query file asks =
-    let few : length behind ≤ 3 + 3 = few_said behind asks.option (three layout query file) (behind_is words behind w threads layout query file is asks) in
-    omega (arith, few, long)
+-- what the words behind `query` say is of no query
+abbrev pub IsOfNone : Option (List ℕ) → List (List ℕ) → Type 0
+IsOfNone text names = (threads : ℕ) (layout query file : List ℕ) → AreThreadsBy text threads → names ≡ three layout query file → ⊥
 
-pub none_unsaid : (words behind : List (List ℕ)) (w : List ℕ) → words ≡ w ∷ behind → SayNone behind → AskNoQuery words
+pub none_by : (words behind : List (List ℕ)) (w : List ℕ) (text : Option (List ℕ)) (names : List (List ℕ)) → words ≡ w ∷ behind
+    → Say behind text names → IsOfNone text names → AskNoQuery words
+none_by words behind w text names is said none threads layout query file asks =
+    let same = one_saying behind text asks.text names (three layout query file) said (behind_is words behind w threads layout query file is asks) in
+    none threads layout query file (subst (λ (t : Option (List ℕ)). AreThreadsBy t threads) (sym same.0) asks.are_threads) same.1
+
+pub none_unsaid : (words behind : List (List ℕ)) (w : List ℕ) → words ≡ w ∷ behind
+    → ((text : Option (List ℕ)) (names : List (List ℕ)) → Say behind text names → ⊥) → AskNoQuery words
 none_unsaid words behind w is none threads layout query file asks =
-    none asks.option (three layout query file) (omega arith) (behind_is words behind w threads layout query file is asks)
-
--- names that are not three
-not_three : (n : Names) (layout query file : List ℕ) → ((a b c : Bor (List ℕ)) → n ≡ names.Three a b c → ⊥) → listed n ≡ three layout query file → ⊥
-not_three names.None layout query file unlike is = cc
-not_three (names.One a) layout query file unlike is = cc
-not_three (names.Two a b) layout query file unlike is = cc
-not_three (names.Three a b c) layout query file unlike is = unlike a b c refl
-
-pub none_named : (words behind : List (List ℕ)) (w : List ℕ) (p : Parts) → words ≡ w ∷ behind → SayThis behind p
-    → ((a b c : Bor (List ℕ)) → p.names ≡ names.Three a b c → ⊥) → AskNoQuery words
-none_named words behind w p is said unlike threads layout query file asks =
-    let says = behind_is words behind w threads layout query file is asks in
-    not_three p.names layout query file unlike (said_once behind p.threads asks.option (listed p.names) (three layout query file) said says).1
-
--- a word that was tested to differ, or not to
-pub differs : (w text : List ℕ) (other : Bool) → other ≡ not (bytes_eq w text) → other ≡ true → w ≢ text
-differs w text other is holds eq = not_true (bytes_eq w text) (sym is ∙ holds) ((bytes_eq-Decides w text).1 eq)
-
-pub is_same : (w text : List ℕ) (other : Bool) → other ≡ not (bytes_eq w text) → other ≡ false → w ≡ text
-is_same w text other is fails = (bytes_eq-Decides w text).0 (not_false (bytes_eq w text) (sym is ∙ fails))
+    none asks.text (three layout query file) (behind_is words behind w threads layout query file is asks)

@@ -12,16 +12,17 @@ use Rattle.fm_path.specs.Listing.{kind_text}
 use Rattle.fm_query.specs.Parsed.{IsParsed}
 use Rattle.fm_query.specs.Plan.{Plan}
 use Rattle.fm_query.specs.Records.{IsRecord, IsNoRecord}
-use Rattle.fm_top.specs.Options.{Say}
+use Rattle.fm_options.proofs.Said.{one_saying}
+use Rattle.fm_options.specs.Options.{Say}
 use Rattle.fm_top.specs.Outcome.{Outcome}
 use Rattle.fm_top.specs.Queries.{IsRecordLayout, IsNoRecordLayout, IsLayoutRefused, TextEnds, text_refused, answered_by, LayoutEnds, over_limit, no_layout, over_layout, QueryEnds, answer_outcome}
 use Rattle.fm_top.specs.Run.{HasOutcome, IsOutcomeOver, IsOutcome, faulty, asked, Traces, Runs, whole, unread, unwritten, no_memory, unknown, code_of, Answers}
-use Rattle.fm_top.specs.Words.{Request, Sum, Layout, Query, Asks, IsSum, IsLayout, IsQuery, three, threads_of}
+use Rattle.fm_top.specs.Words.{Request, Sum, Layout, Query, Asks, IsSum, IsLayout, IsQuery, AreThreadsBy, three}
 use Rattle.fm_top.specs.declared.status.Status.{Status}
 use Rattle.fm_top.specs.declared.status.Status.TheVariants.{Answered}
 use Rattle.fm_top.proofs.Causes.{over_told}
 use Rattle.fm_top.proofs.OnePlan.{one_plan, not_text_refused}
-use Rattle.fm_top.proofs.Saying.{said_once}
+use Rattle.fm_top.proofs.Asking.{one_count}
 use Rattle.fm_top.proofs.TypeNames.{kind_text-injective}
 
 -- ---- words ask for one thing
@@ -52,10 +53,10 @@ same_query words threads threads' layout query file layout' query' file' a b =
     let one = a.spelled in
     let two = b.spelled in
     let behind : a.behind ≡ b.behind = cc in
-    let says : Say b.behind a.option (three layout query file) = subst (λ (ws : List (List ℕ)). Say ws a.option (three layout query file)) behind a.says in
-    let said = said_once b.behind a.option b.option (three layout query file) (three layout' query' file') says b.says in
+    let says : Say b.behind a.text (three layout query file) = subst (λ (ws : List (List ℕ)). Say ws a.text (three layout query file)) behind a.says in
+    let said = one_saying b.behind a.text b.text (three layout query file) (three layout' query' file') says b.says in
     let names = said.1 in
-    let count : threads ≡ threads' = a.threads_are ∙ ap threads_of said.0 ∙ sym b.threads_are in
+    let count : threads ≡ threads' = one_count b.text threads threads' (subst (λ (t : Option (List ℕ)). AreThreadsBy t threads) said.0 a.are_threads) b.are_threads in
     cc
 
 sum_or_layout : (words : List (List ℕ)) (n m : ℕ) (kind : ValueKind) (file file' : List ℕ) → IsSum words n m kind file → IsLayout words file' → ⊥

@@ -9,6 +9,5 @@ pub mod Numbers
 pub mod OnePlan
 pub mod Outcomes
 pub mod Runs
-pub mod Saying
 pub mod Sums
 pub mod TypeNames

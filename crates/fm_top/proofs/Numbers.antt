@@ -11,8 +11,8 @@ use Rattle.std.proofs.lemmas.Slice.Eq.{bytes_eq-Decides}
 use Rattle.fm_path.specs.Listing.{kind_text}
 use Rattle.fm_top.proofs.TypeNames.{kind_text-injective}
 use Rattle.fm_lanes.specs.declared.value_kind.ValueKind.{ValueKind}
-use Rattle.fm_top.specs.Options.{AreThreads}
-use Rattle.fm_top.specs.Words.{Sum, Layout, Query, AreFaulty, texts, HasValue, IsSum, IsLayout, IsQuery, five, two}
+use Rattle.fm_options.specs.Options.{texts}
+use Rattle.fm_top.specs.Words.{AreThreads, Sum, Layout, Query, AreFaulty, HasValue, IsSum, IsLayout, IsQuery, five, two}
 
 -- what spells a number is read as that number
 read_spelled : {E : Type 0} (word : List ℕ) (r : Result ℕ E) (n : ℕ) → ParsesUnsigned 64 10 word r → n < 2 ^ 64 → word ≡ decimal n → r ≡ Ok n

@@ -10,21 +10,19 @@ use Rattle.fm_ljson.specs.Answer.{layout_of_json}
 use Rattle.fm_query.specs.Plan.{Plan}
 use Rattle.fm_records.specs.Answers.{answer}
 use Rattle.fm_records.specs.Texts.{answer_text}
-use Rattle.fm_top.specs.Options.{AreThreads}
 use Rattle.fm_top.specs.Outcome.{Outcome, of_records, sum_outcome, sum_text, layout_outcome, listing, layout_file_limit, too_long, answered, ragged, record_file_limit}
 use Rattle.fm_top.specs.Queries.{TextEnds, text_refused, answered_by, LayoutEnds, over_limit, no_layout, over_layout, QueryEnds, answer_outcome}
 use Rattle.fm_top.specs.Run.{EndsBy, HasOutcome, IsOutcome, faulty, asked, Traces, Prints, printed, failed, stopped, Runs, whole, unread, unwritten, no_memory, unknown, code_of, EndsWith}
-use Rattle.fm_top.specs.Words.{Request, Sum, Layout, Query, Asks, CanBeAsked, AreFaulty, three}
+use Rattle.fm_top.specs.Words.{Request, Sum, Layout, Query, Asks, CanBeAsked, AreFaulty}
 use Rattle.fm_top.specs.declared.status.Status.{Status}
 use Rattle.fm_top.specs.declared.status.Status.TheVariants.{Answered, Usage, Missing, Unread, LayoutRefused, QueryRefused, Ragged, TooLong, Unwritten, NoMemory, ScriptRefused}
-use Rattle.fm_top.proofs.Saying.{threads_said}
+use Rattle.fm_top.proofs.Asking.{are_threads}
 
 -- what words ask for can be asked
 pub can_be_asked : (words : List (List ℕ)) (request : Request) → Asks words request → CanBeAsked request
 can_be_asked words (Sum size at kind file) asks = asks.has_value
 can_be_asked words (Layout file) asks = tt
-can_be_asked words (Query threads layout query file) asks =
-    subst AreThreads (sym asks.threads_are) (threads_said asks.behind asks.option (three layout query file) asks.says)
+can_be_asked words (Query threads layout query file) asks = are_threads asks.text threads asks.are_threads
 
 -- the statuses of a request's outcome
 abbrev IsEarly : Status → Type 0

@@ -4,10 +4,7 @@ pub mod Ending
 pub mod Found
 pub mod Held
 pub mod Loaded
-pub mod Names
-pub mod Options
 pub mod Outcome
-pub mod Parts
 pub mod Queries
 pub mod Records
 pub mod Run

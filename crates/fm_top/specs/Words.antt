@@ -1,15 +1,10 @@
 -- Which lists of words are a command, and what each asks for.
-use Rattle.std.specs.Prelude.{◌≡◌, ℕ, ◌+◌, ◌%◌, ◌<◌, ◌≤◌, List, [], ◌∷◌, map, codes, Option, None, Some, String, string_bytes}
+use Rattle.std.specs.Prelude.{◌≡◌, ℕ, ◌+◌, ◌%◌, ◌≢◌, ◌<◌, ◌≤◌, List, [], ◌∷◌, codes, slice_index, Option, None, Some}
 use Rattle.std.specs.Fmt.{decimal}
-use Rattle.std.specs.declared.alloc.Global.{Global}
 use Rattle.fm_lanes.specs.declared.value_kind.ValueKind.{ValueKind}
 use Rattle.fm_lanes.specs.Kind.{width_of}
 use Rattle.fm_path.specs.Listing.{kind_text}
-use Rattle.fm_top.specs.Options.{IsFileWord, AreThreads, Say}
-
--- the bytes of each word
-abbrev pub texts : List (String Global) → List (List ℕ)
-texts words = map string_bytes words
+use Rattle.fm_options.specs.Options.{Say}
 
 -- what a user asks for
 pub data Request : Type 0 where
@@ -49,6 +44,10 @@ three a b c = a ∷ b ∷ c ∷ []
 abbrev pub five : List ℕ → List ℕ → List ℕ → List ℕ → List ℕ → List (List ℕ)
 five a b c d e = a ∷ b ∷ c ∷ d ∷ e ∷ []
 
+-- a word that names a file where options are looked for: it doesn't begin with a dash
+abbrev pub IsFileWord : List ℕ → Type 0
+IsFileWord word = slice_index word 0 ≢ 45
+
 -- `sum SIZE AT TYPE FILE`, whose numbers are written in decimal digits, with no sign and no leading zero
 pub record IsSum (words : List (List ℕ)) (size at : ℕ) (kind : ValueKind) (file : List ℕ) : Type 0 where
   pub spelled : words ≡ five (codes "sum") (decimal size) (decimal at) (kind_text kind) file
@@ -60,18 +59,23 @@ pub record IsLayout (words : List (List ℕ)) (file : List ℕ) : Type 0 where
   pub spelled : words ≡ two (codes "layout") file
   pub file_word : IsFileWord file
 
--- how many threads there are, where the option gives this number, or isn't there
-abbrev pub threads_of : Option ℕ → ℕ
-threads_of None = 1
-threads_of (Some n) = n
+-- so many threads may be asked for
+pub record AreThreads (n : ℕ) : Type 0 where
+  pub some : 1 ≤ n
+  pub few : n ≤ 16
 
--- `query [--threads N] LAYOUT QUERY FILE`
+-- how many threads the option's text asks for: one, where the option doesn't stand there
+abbrev pub AreThreadsBy : Option (List ℕ) → ℕ → Type 0
+AreThreadsBy None n = n ≡ 1
+AreThreadsBy (Some text) n = AreThreads n × (text ≡ decimal n)
+
+-- `query [--threads N] LAYOUT QUERY FILE`, where the option stands at any place behind `query`
 pub record IsQuery (words : List (List ℕ)) (threads : ℕ) (layout query file : List ℕ) : Type 0 where
-  pub option : Option ℕ
   pub behind : List (List ℕ)
+  pub text : Option (List ℕ)
   pub spelled : words ≡ codes "query" ∷ behind
-  pub says : Say behind option (three layout query file)
-  pub threads_are : threads ≡ threads_of option
+  pub says : Say behind text (three layout query file)
+  pub are_threads : AreThreadsBy text threads
 
 -- the words ask for this
 abbrev pub Asks : List (List ℕ) → Request → Type 0

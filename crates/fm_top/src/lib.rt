@@ -9,9 +9,7 @@ mod kept;
 mod listing;
 mod loaded;
 mod loading;
-mod names;
 mod number;
-mod parts;
 mod plain;
 mod query;
 mod query_words;
@@ -22,6 +20,7 @@ mod sum;
 mod summing;
 #[cfg(test)]
 mod tests;
+mod threads;
 mod whole_file;
 mod words;
 

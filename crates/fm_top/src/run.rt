@@ -5,7 +5,8 @@ ghost use Rattle.fm_top.specs.Ending.{MissesOnly, shown};
 ghost use Rattle.fm_io.specs.Files.{Contents};
 ghost use Rattle.fm_top.specs.Outcome.{Outcome};
 ghost use Rattle.fm_top.specs.Run.{HasOutcome, IsOutcome, IsOutcomeOver, AskSome, Runs, Prints, traces_of, code_of, EndsWith, Answers, AsksAbsent, AsksLong, AsksRagged, AsksRefused, AsksRefusedQuery};
-ghost use Rattle.fm_top.specs.Words.{Request, texts, Asks, AreFaulty, CanBeAsked};
+ghost use Rattle.fm_options.specs.Options.{texts};
+ghost use Rattle.fm_top.specs.Words.{Request, Asks, AreFaulty, CanBeAsked};
 ghost use Rattle.fm_top.specs.declared.status.Status.TheVariants.{Answered, Usage, Missing, Unread, LayoutRefused, QueryRefused, Ragged, TooLong, Unwritten};
 
 use crate::ending::Ending;
@@ -108,7 +109,7 @@ fn ending_of<R: Wait, F: Files>(
     ensures missed { IfOk result (MissesOnly (F.misses files.old) (F.misses files.new)) }
     ensures unread { IsErrOf result Stop.Failed → Rose (F.faults files.old) (F.faults files.new) }
 {
-    match command_of(words) {
+    match command_of(alloc, words)? {
         Some(command) => command_ending(rt, alloc, files, &command),
         None => Ok(Ending::usage(alloc)?),
     }

@@ -1,13 +1,15 @@
-ghost use Rattle.std.specs.Prelude.{◌≡◌, ◌↔◌, IfSome, IfNone, IsTrue, List, ℕ};
+ghost use Rattle.std.specs.Prelude.{◌≡◌, ◌↔◌, IfOk, IfSome, IfNone, IsTrue, List, ℕ};
 ghost use Rattle.fm_lanes.specs.declared.value_kind.ValueKind.{ValueKind};
 ghost use Rattle.fm_path.specs.Listing.{kind_text};
 ghost use Rattle.fm_top.specs.Asked.{request_of};
-ghost use Rattle.fm_top.specs.Words.{texts, Asks, AreFaulty, HasValue, IsLayout, IsSum, five, two};
+ghost use Rattle.fm_options.specs.Options.{texts};
+ghost use Rattle.fm_top.specs.Words.{Asks, AreFaulty, HasValue, IsLayout, IsSum, five, two};
 
 use crate::number::number_of_word;
 use crate::plain::is_file_word;
 use crate::query_words::{QueryCommand, query_words};
 use fm_lanes::ValueKind;
+use std::alloc::{AllocError, Global};
 
 /// What the words ask for.
 #[derive(Clone, Copy, Debug)]
@@ -33,19 +35,23 @@ pub struct LayoutCommand<'a> {
 }
 
 /// What the words ask for, and nothing where they are of no form.
-pub fn command_of(words: &[String]) -> Option<Command<'_>>
-    ensures found { IfSome result (λ command. Asks (texts words.now) (request_of command)) }
-    ensures none { IfNone result (AreFaulty (texts words.now)) }
+pub fn command_of<'a>(
+    alloc: Global,
+    words: &'a [String],
+) -> Result<Option<Command<'a>>, AllocError>
+    ensures found { IfOk result (λ found.
+        IfSome found (λ command. Asks (texts words.now) (request_of command))) }
+    ensures none { IfOk result (λ found. IfNone found (AreFaulty (texts words.now))) }
 {
     if let Some(layout) = layout_words(words) {
-        return Some(Command::Layout(layout));
+        return Ok(Some(Command::Layout(layout)));
     }
-    if let Some(query) = query_words(words) {
-        return Some(Command::Query(query));
+    if let Some(sum) = sum_words(words) {
+        return Ok(Some(Command::Sum(sum)));
     }
-    match sum_words(words) {
-        Some(sum) => Some(Command::Sum(sum)),
-        None => None,
+    match query_words(alloc, words)? {
+        Some(query) => Ok(Some(Command::Query(query))),
+        None => Ok(None),
     }
 }
 

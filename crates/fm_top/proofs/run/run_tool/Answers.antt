@@ -1,6 +1,6 @@
 use Rattle.std.proofs.Common.{sym, ◌∙◌}
 use Rattle.fm_top.specs.Run.{traces_of}
-use Rattle.fm_top.specs.Words.{texts}
+use Rattle.fm_options.specs.Options.{texts}
 use Rattle.fm_top.specs.declared.status.Status.TheVariants.{Usage, Missing, Unread, LayoutRefused, QueryRefused, Ragged, TooLong, Unwritten}
 use Rattle.fm_top.proofs.Causes.{only_missing, only_too_long, only_ragged, only_refused, only_query_refused}
 use Rattle.fm_top.proofs.Complete.{complete}

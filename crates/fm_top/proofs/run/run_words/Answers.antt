@@ -1,7 +1,7 @@
 use Rattle.std.proofs.Common.{Err, ap, ◌∙◌, refl}
 use Rattle.fm_top.specs.Ending.{shown}
 use Rattle.fm_top.specs.Run.{traces_of, unread, unknown}
-use Rattle.fm_top.specs.Words.{texts}
+use Rattle.fm_options.specs.Options.{texts}
 use Rattle.fm_top.proofs.Runs.{runs-printed}
 use Rattle.fm_top.proofs.run.run_words.Goals as goal
 

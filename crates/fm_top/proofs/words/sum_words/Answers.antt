@@ -1,4 +1,5 @@
-use Rattle.fm_top.specs.Words.{texts, five}
+use Rattle.fm_options.specs.Options.{texts}
+use Rattle.fm_top.specs.Words.{five}
 use Rattle.fm_top.proofs.Numbers.{five_texts, none_summed, on_none}
 use Rattle.fm_top.proofs.words.sum_words.Goals as goal
 

@@ -1,7 +1,7 @@
 use Rattle.std.proofs.Common.{arith}
 use Rattle.fm_top.proofs.Numbers.{no_threads}
-use Rattle.fm_top.proofs.parts.threads_of_word.Goals as goal
-use Rattle.fm_top.proofs.parts.threads_of_word.Goals.{else-threads-ge1-via-then-threads-ge1+else-threads-le-MOST_THREADS, else-threads-ge1-via-else-threads-ge1}
+use Rattle.fm_top.proofs.threads.threads_of_word.Goals as goal
+use Rattle.fm_top.proofs.threads.threads_of_word.Goals.{else-threads-ge1-via-then-threads-ge1+else-threads-le-MOST_THREADS, else-threads-ge1-via-else-threads-ge1}
 
 pub returns-else-threads-ge1-clause-none : goal.returns-else-threads-ge1-clause-none
 returns-else-threads-ge1-clause-none c =
