@@ -1,5 +1,6 @@
 //! Loops for the benchmarks: `visits COUNT` of an arena's words, `loads COUNT` from a plain vector,
-//! `gets COUNT` of a segment, `handles COUNT` by a path, and `fills COUNT`, `copies COUNT` and `mismatches COUNT` of
+//! `known COUNT` of a segment by a layout that the compiler knows, `gets COUNT LAYOUT` and `handles COUNT LAYOUT` by a
+//! layout that is read as JSON, at offsets and by a path, and `fills COUNT`, `copies COUNT` and `mismatches COUNT` of
 //! segments of 64 MiB.
 //!
 //! It prints what it found, so that the loops are run; the script that calls it takes the time.
@@ -10,7 +11,7 @@ mod loads;
 mod ranges;
 mod visits;
 
-use crate::cells::{gets, handles};
+use crate::cells::{gets, handles, known};
 use crate::loads::loads;
 use crate::ranges::{copies, fills, mismatches};
 use crate::visits::visits;
@@ -21,7 +22,7 @@ use std::sync::Wait;
 
 fn main(rt: HostRuntime) -> ExitCode {
     let printed = match words(&rt) {
-        Some((what, count)) => match run(&rt, rt.alloc(), what.as_str(), count) {
+        Some((what, count, text)) => match run(&rt, rt.alloc(), &what, count, &text) {
             Some(joined) => println!(rt; "{joined}").is_ok(),
             None => false,
         },
@@ -34,21 +35,23 @@ fn main(rt: HostRuntime) -> ExitCode {
     }
 }
 
-/// The two words behind the program's name, where they are of the form.
-fn words(rt: &HostRuntime) -> Option<(String, u64)> {
+/// The words behind the program's name, where they are of the form; a third one may be left out.
+fn words(rt: &HostRuntime) -> Option<(String, u64, String)> {
     let mut words = env::args(rt).ok()?.skip(1);
     let what = words.next()?;
     let count = words.next()?.as_str().parse::<u64>().ok()?;
-    Some((what, count))
+    let text = words.next().unwrap_or(String::new(rt.alloc()));
+    Some((what, count, text))
 }
 
 /// Runs the loop of this name; none where there is no such loop, or memory ran out.
-fn run<R: Wait>(rt: &R, alloc: Global, what: &str, count: u64) -> Option<u64> {
+fn run<R: Wait>(rt: &R, alloc: Global, what: &str, count: u64, text: &str) -> Option<u64> {
     match what {
         "visits" => visits(rt, alloc, count).ok(),
         "loads" => loads(alloc, count).ok(),
-        "gets" => gets(rt, alloc, count).ok(),
-        "handles" => handles(rt, alloc, count).ok(),
+        "known" => known(rt, alloc, count).ok(),
+        "gets" => gets(rt, alloc, count, text).ok(),
+        "handles" => handles(rt, alloc, count, text).ok(),
         "fills" => fills(rt, alloc, count).ok(),
         "copies" => copies(rt, alloc, count).ok(),
         "mismatches" => mismatches(rt, alloc, count).ok(),

@@ -4,13 +4,44 @@ ghost use Rattle.fm_base.specs.Outcomes.{Lasts};
 ghost use Rattle.fm_base.specs.View.{Did, given_in};
 ghost use Rattle.fm_lanes.specs.Kind.{width_of};
 ghost use Rattle.fm_lanes.specs.Value.{kind_of};
+ghost use Rattle.fm_segment.specs.Access.{DoesGetValue};
 ghost use Rattle.fm_handle.specs.Access.{DoesVisit};
 ghost use Rattle.fm_handle.specs.Acts.{Adds, AddsTo, Exchanges, Stores, Swaps};
 
 use crate::inside::{add_inside, exchange_inside};
 use fm_base::{ArenaId, Memory, Refusal};
-use fm_lanes::{Order, Value};
+use fm_lanes::{Order, Value, ValueKind};
+use fm_segment::get_value;
 use std::sync::Wait;
+
+/// The same as `get_value`: each kind has a branch of its own, so that the branch's width is known when it is compiled.
+///
+/// Refused, in this order: `WrongThread`, `Closed`.
+pub(crate) fn read_value<M: Memory>(
+    m: &mut M,
+    arena: ArenaId,
+    place: u64,
+    kind: ValueKind,
+    order: Order,
+) -> Result<Value, Refusal>
+    requires outside { (M.view m.old).inside ≡ None }
+    requires known { has_arena (M.view m.old).state arena ≡ true }
+    requires given { place + width_of kind ≤ given_in (M.view m.old) arena }
+    requires small { place + width_of kind ≤ 2 ^ 40 }
+    ensures did { Did (M.view m.old) (M.view m.new)
+        (DoesGetValue (M.view m.old).caller kind order arena place result) }
+    ensures outside { (M.view m.new).inside ≡ None }
+    ensures lasts { Lasts (M.view m.old) (M.view m.new) }
+{
+    match kind {
+        ValueKind::Byte => get_value(m, arena, place, ValueKind::Byte, order),
+        ValueKind::Boolean => get_value(m, arena, place, ValueKind::Boolean, order),
+        ValueKind::Char => get_value(m, arena, place, ValueKind::Char, order),
+        ValueKind::Short => get_value(m, arena, place, ValueKind::Short, order),
+        ValueKind::Int => get_value(m, arena, place, ValueKind::Int, order),
+        ValueKind::Long => get_value(m, arena, place, ValueKind::Long, order),
+    }
+}
 
 /// Puts a word at `place` in one visit. Refused, in this order: `WrongThread`, `Closed`.
 pub(crate) fn store_at<M: Memory>(

@@ -98,27 +98,20 @@ impl Resolved {
         ensures out { IfErr result (IsFirstOut 0 self.now.dims indices.now) }
     {
         let dims = self.dims.as_slice();
+        let mut at = self.offset;
         for (k, dim) in dims.iter().enumerate() {
             if indices[k] >= dim.bound {
                 return Err(Refusal::IndexOut(k as u64));
             }
-        }
-        let mut at = self.offset;
-        for (k, dim) in dims.iter().enumerate() {
             at = moved_by(at, *dim, indices[k]);
         }
         Ok(at)
     }
 }
 
-/// The offset an index further on, or back.
+/// The offset an index further on, or back: a sum that wraps where an index after it isn't admitted, and nowhere else.
 fn moved_by(at: u64, dim: Dim, index: u64) -> u64
     ensures { IsInside at dim.stride index → result ≡ reach at dim.stride index }
 {
-    let bytes = dim.stride.unsigned_abs().wrapping_mul(index);
-    if dim.stride < 0 {
-        at.wrapping_sub(bytes)
-    } else {
-        at.wrapping_add(bytes)
-    }
+    at.wrapping_add(dim.stride.cast_unsigned().wrapping_mul(index))
 }

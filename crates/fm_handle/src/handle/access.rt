@@ -10,9 +10,10 @@ ghost use Rattle.fm_handle.specs.Causes.{GetCause, SetCause};
 ghost use Rattle.fm_handle.specs.Place.{place_of, value_place, writable_place_of};
 
 use super::VarHandle;
+use crate::visits::read_value;
 use fm_base::{Memory, Refusal};
 use fm_lanes::Value;
-use fm_segment::{Segment, get_value, put_value};
+use fm_segment::{Segment, put_value};
 use std::sync::Wait;
 
 impl VarHandle {
@@ -47,7 +48,7 @@ impl VarHandle {
     {
         let place = self.place_of(s, base, indices)?;
         let value = self.resolved.value();
-        get_value(m, s.arena(), place, value.kind, value.order)
+        read_value(m, s.arena(), place, value.kind, value.order)
     }
 
     /// Puts `v` as the value at these indices of the layout at the base (`VarHandle.set`). Other bytes stay.

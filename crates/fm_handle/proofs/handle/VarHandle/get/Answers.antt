@@ -26,7 +26,7 @@ returns-clause-did g c = search rules
 pub returns-clause-refused : goal.returns-clause-refused
 returns-clause-refused g c =
     let v = g.M.Memory.view in
-    get_cause (v c.args.m.now) (v c.get_value.new.m) c.args.base c.args.indices.now c.args.self.now c.args.s.now c.get_value.result c.requires.indices (returns-clause-did g c)
+    get_cause (v c.args.m.now) (v c.read_value.new.m) c.args.base c.args.indices.now c.args.self.now c.args.s.now c.read_value.result c.requires.indices (returns-clause-did g c)
 
 pub returns-in_err-place-clause-alone : goal.returns-in_err-place-clause-alone
 returns-in_err-place-clause-alone g c =
@@ -47,9 +47,9 @@ returns-clause-alone g c =
     let h = c.args.self.now in
     let r = c.args.s.now in
     let place = value_place c.args.base c.args.indices.now h r in
-    get_alone (v c.args.m.now) (v c.get_value.new.m) h r place _ c.get_value.result (place_is c.args.base c.args.indices.now h r c.requires.indices) (returns-clause-did g c)
+    get_alone (v c.args.m.now) (v c.read_value.new.m) h r place _ c.read_value.result (place_is c.args.base c.args.indices.now h r c.requires.indices) (returns-clause-did g c)
 
 pub returns-clause-shut : goal.returns-clause-shut
 returns-clause-shut g c =
     let v = g.M.Memory.view in
-    get_stays_out (v c.args.m.now) (v c.get_value.new.m) c.args.self.now c.args.s.now _ c.get_value.result (returns-clause-did g c)
+    get_stays_out (v c.args.m.now) (v c.read_value.new.m) c.args.self.now c.args.s.now _ c.read_value.result (returns-clause-did g c)

@@ -1,0 +1,11 @@
+use Rattle.std.proofs.Common.{rules, ◌≡◌, ap, ◌∙◌}
+use Rattle.std.specs.Int.{w64, cast_unsigned, cast_signed}
+use Rattle.std.proofs.lemmas.Int.{to_z-of_z}
+use Rattle.fm_path.proofs.Indices.{moves}
+use Rattle.fm_path.proofs.resolved.moved_by.Goals as goal
+
+pub returns : goal.returns
+returns c =
+    let s = c.args.dim.stride in
+    let read : cast_signed w64 (cast_unsigned w64 s) ≡ s = to_z-of_z w64 s (search rules) in
+    λ inside. moves c.args.at s c.args.index c.cast_unsigned.result c.ranges.at.fits (c.cast_unsigned.ensures ∙ ap (cast_unsigned w64) read) inside
