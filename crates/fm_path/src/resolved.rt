@@ -109,7 +109,7 @@ impl Resolved {
     }
 }
 
-/// The offset an index further on, or back: a sum that wraps where an index after it isn't admitted, and nowhere else.
+/// The offset an index further on, or back. The sum wraps only where another index isn't admitted, and is let go there.
 fn moved_by(at: u64, dim: Dim, index: u64) -> u64
     ensures { IsInside at dim.stride index → result ≡ reach at dim.stride index }
 {

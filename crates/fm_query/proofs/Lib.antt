@@ -1,5 +1,6 @@
 pub mod Accepting
 pub mod Completing
+pub mod Few
 pub mod Leaving
 pub mod Reading
 pub mod Plans

@@ -17,6 +17,8 @@ use Rattle.fm_steps.specs.Grammar.{piece_of, pieces_of, path_text}
 use Rattle.fm_steps.proofs.Reading.{pieces_snoc}
 use Rattle.fm_places.specs.declared.dim.Dim.{Dim}
 use Rattle.fm_places.specs.Found.{HasDims, no_step, closed_step, open_step}
+use Rattle.fm_path.specs.Resolution.{Resolution, IsResolved}
+use Rattle.fm_path.proofs.Resolving.{stays_inside}
 use Rattle.fm_query.specs.declared.syntax.ItemSyntax.{ItemSyntax}
 use Rattle.fm_query.specs.declared.syntax.ItemSyntax.TheVariants.{Count, Of}
 use Rattle.fm_query.specs.declared.syntax.ConditionSyntax.{ConditionSyntax}
@@ -24,8 +26,9 @@ use Rattle.fm_query.specs.declared.item.Item.{Item}
 use Rattle.fm_query.specs.declared.condition.Condition.{Condition}
 use Rattle.fm_query.specs.Grammar.{Syntax, IsTextOf, IsNoText}
 use Rattle.fm_query.specs.Records.{IsRecord}
-use Rattle.fm_query.specs.Plan.{plan, AsksOf, IsItemIn, IsConditionIn, IsPlan}
+use Rattle.fm_query.specs.Plan.{plan, IsThrough, AsksOf, IsItemIn, IsConditionIn, IsPlan}
 use Rattle.fm_query.specs.Parsed.{open_from, IsItemOf, IsItemAdmitted, IsItemRefused, IsConditionOf, IsConditionAdmitted, IsConditionRefused, IsFirstRefused, at_item, at_condition, IsParsed, IsNoQuery, no_text, refused, OrMemory}
+use Rattle.fm_query.proofs.Few.{values_are_few}
 
 -- one more pair
 zip_push : {A B : Type 0} (R : A → B → Type 0) (xs : List A) (ys : List B) (x : A) (y : B) → AllZip R xs ys → R x y → AllZip R (xs ++ x ∷ []) (ys ++ y ∷ [])
@@ -81,28 +84,37 @@ no_dims (At n ∷ ps) t ds k (open_step c el x d h) e = absurd d.stride
 no_dims (Each ∷ ps) t ds k h e = absurd (cc)
 no_dims (EachFrom f s ∷ ps) t ds k h e = absurd (cc)
 
+-- a resolved path is one through records of the layout
+through : (path : List PathStep) (t : Tree) (r : Resolution) → IsWellFormed t → IsResolved path t r → IsThrough (size_of t) (alignment_of t) r
+through path t r well h = record {
+  size = h.root_size;
+  alignment = h.root_alignment;
+  stays = stays_inside path t r.offset r.dims h.last r.value r.root_size r.root_alignment well h.leads h.value h.root_size h.root_alignment;
+  few = values_are_few path t r h;
+}
+
 -- each item is one on records of the layout
-items_in : (t : Tree) (xs : List ItemSyntax) (ys : List Item) → AllZip (IsItemOf t) xs ys → AllByRecursion (IsItemIn (size_of t) (alignment_of t)) ys
-items_in t [] [] h = tt
-items_in t [] (y ∷ ys) h = absurd h
-items_in t (x ∷ xs) [] h = absurd h
-items_in t (x ∷ xs) (y ∷ ys) h = (item_in x h.0, items_in t xs ys h.1)
+items_in : (t : Tree) (xs : List ItemSyntax) (ys : List Item) → IsWellFormed t → AllZip (IsItemOf t) xs ys → AllByRecursion (IsItemIn (size_of t) (alignment_of t)) ys
+items_in t [] [] well h = tt
+items_in t [] (y ∷ ys) well h = absurd h
+items_in t (x ∷ xs) [] well h = absurd h
+items_in t (x ∷ xs) (y ∷ ys) well h = (item_in x h.0, items_in t xs ys well h.1)
   where
     item_in : (x : ItemSyntax) → IsItemOf t x y → IsItemIn (size_of t) (alignment_of t) y
     item_in Count i = subst (AsksOf (size_of t) (alignment_of t)) (sym i.asked) tt
-    item_in (Of f p) i = subst (AsksOf (size_of t) (alignment_of t)) (sym i.asked.2) (record { size = i.asked.1.root_size; alignment = i.asked.1.root_alignment })
+    item_in (Of f p) i = subst (AsksOf (size_of t) (alignment_of t)) (sym i.asked.2) (through p t i.asked.0 well i.asked.1)
 
 -- each condition is one on one value of records of the layout
-conditions_in : (t : Tree) (xs : List ConditionSyntax) (ys : List Condition) → AllZip (IsConditionOf t) xs ys → AllByRecursion (IsConditionIn (size_of t) (alignment_of t)) ys
-conditions_in t [] [] h = tt
-conditions_in t [] (y ∷ ys) h = absurd h
-conditions_in t (x ∷ xs) [] h = absurd h
-conditions_in t (x ∷ xs) (y ∷ ys) h = (
+conditions_in : (t : Tree) (xs : List ConditionSyntax) (ys : List Condition) → IsWellFormed t → AllZip (IsConditionOf t) xs ys → AllByRecursion (IsConditionIn (size_of t) (alignment_of t)) ys
+conditions_in t [] [] well h = tt
+conditions_in t [] (y ∷ ys) well h = absurd h
+conditions_in t (x ∷ xs) [] well h = absurd h
+conditions_in t (x ∷ xs) (y ∷ ys) well h = (
   record {
-    through = record { size = h.0.path.root_size; alignment = h.0.path.root_alignment };
+    through = through x.path t y.path well h.0.path;
     closed = no_dims x.path t y.path.dims 0 h.0.path.dims h.0.closed;
   },
-  conditions_in t xs ys h.1,
+  conditions_in t xs ys well h.1,
 )
 
 -- what the parts come to is a plan
@@ -113,10 +125,10 @@ is_plan t text q n a xs cs items conditions well rec is ei ec en ea hi hc =
       sized = rec.sized;
       small = (fit_of t well).size;
       even = rec.even;
-      items = items_in t xs items hi;
+      items = items_in t xs items well hi;
       some_item = omega (arith, as_many (IsItemOf t) xs items hi, ap length ei, is.is_query.some_item);
       few_items = omega (arith, as_many (IsItemOf t) xs items hi, ap length ei, is.is_query.few_items);
-      conditions = conditions_in t cs conditions hc;
+      conditions = conditions_in t cs conditions well hc;
       few_conditions = omega (arith, as_many (IsConditionOf t) cs conditions hc, ap length ec, is.is_query.few_conditions);
     }))
 

@@ -1,7 +1,8 @@
 -- What a query is seen as: the record's size and alignment in bytes, its items and its conditions.
-use Rattle.std.specs.Prelude.{◌≡◌, ℕ, ◌%◌, ◌^◌, ◌<◌, ◌≤◌, List, [], length}
+use Rattle.std.specs.Prelude.{◌≡◌, ℕ, ◌*◌, ◌%◌, ◌^◌, ◌<◌, ◌≤◌, List, [], ◌∷◌, length}
 use Rattle.std.specs.List.{AllByRecursion}
-use Rattle.fm_path.specs.Resolution.{Resolution}
+use Rattle.fm_path.specs.Resolution.{Resolution, StaysInside}
+use Rattle.fm_places.specs.declared.dim.Dim.{Dim}
 use Rattle.fm_query.specs.Grammar.{most_parts}
 use Rattle.fm_query.specs.declared.item.Asked.{Asked}
 use Rattle.fm_query.specs.declared.item.Asked.TheVariants.{Count, Of}
@@ -17,10 +18,17 @@ pub record Plan : Type 0 where
 abbrev pub plan : ℕ → ℕ → List Item → List Condition → Plan
 plan size alignment items conditions = record { size = size; alignment = alignment; items = items; conditions = conditions }
 
--- the path is one through a record of this size and alignment
+-- how many values a path has: one for each list of indices below the bounds
+abbrev pub value_count : List Dim → ℕ
+value_count [] = 1
+value_count (d ∷ ds) = d.bound * value_count ds
+
+-- the path is one through a record of this size and alignment, and has no more values than the record has bytes
 pub record IsThrough (bytes multiple : ℕ) (r : Resolution) : Type 0 where
   pub size : r.root_size ≡ bytes
   pub alignment : r.root_alignment ≡ multiple
+  pub stays : StaysInside r
+  pub few : value_count r.dims ≤ bytes
 
 abbrev pub AsksOf : ℕ → ℕ → Asked → Type 0
 AsksOf size alignment Count = Unit {0}

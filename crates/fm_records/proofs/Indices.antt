@@ -7,12 +7,12 @@ use Rattle.fm_places.specs.Walk.{AreAdmitted}
 use Rattle.fm_places.specs.declared.dim.Dim.{Dim}
 use Rattle.fm_records.specs.Values.{index_lists}
 
-among_left : {A : Type 0} (x : A) (xs ys : List A) → IsAmong x xs → IsAmong x (xs ++ ys)
+pub among_left : {A : Type 0} (x : A) (xs ys : List A) → IsAmong x xs → IsAmong x (xs ++ ys)
 among_left x [] ys h = absurd h
 among_left x (y ∷ xs) ys (inl e) = inl e
 among_left x (y ∷ xs) ys (inr h) = inr (among_left x xs ys h)
 
-among_right : {A : Type 0} (x : A) (xs ys : List A) → IsAmong x ys → IsAmong x (xs ++ ys)
+pub among_right : {A : Type 0} (x : A) (xs ys : List A) → IsAmong x ys → IsAmong x (xs ++ ys)
 among_right x [] ys h = h
 among_right x (y ∷ xs) ys h = inr (among_right x xs ys h)
 

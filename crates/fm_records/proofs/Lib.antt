@@ -1,11 +1,16 @@
 pub mod Adding
+pub mod AnsweringAlone
+pub mod AnsweringBytes
+pub mod Covering
 pub mod Ends
-pub mod Few
 pub mod Indices
 pub mod ItemsAdding
 pub mod Joining
 pub mod Lines
+pub mod Plans
 pub mod Reaching
+pub mod ReadingBytes
+pub mod Recording
 pub mod Standing
 pub mod Steps
 pub mod Testing

@@ -25,7 +25,7 @@ use Rattle.fm_records.specs.Reads.{IsWordOf, read_visit, AreReads, StopsReading,
 pub AreReads-none : (c : ℕ) (s : Region) → AreReads c s []
 AreReads-none c s = record { reads = []; within = tt; visits = refl }
 
-all_both : {X : Type 0} (P : X → Type 0) (xs ys : List X) → AllByRecursion P xs → AllByRecursion P ys → AllByRecursion P (xs ++ ys)
+pub all_both : {X : Type 0} (P : X → Type 0) (xs ys : List X) → AllByRecursion P xs → AllByRecursion P ys → AllByRecursion P (xs ++ ys)
 all_both P [] ys p q = q
 all_both P (x ∷ xs) ys p q = (p.0, all_both P xs ys p.1 q)
 

@@ -1,16 +1,30 @@
 -- What holds of every answer.
-use Rattle.std.specs.Prelude.{◌≡◌, ℕ, ◌%◌, ◌<◌, ◌↔◌, List, [], ◌++◌, length, ℤ, ◌≤ℤ◌, MatchOption}
-use Rattle.std.specs.List.{AllByRecursion}
+use Rattle.std.specs.Prelude.{◌≡◌, ℕ, ◌+◌, ◌*◌, ◌%◌, ◌<◌, ◌≤◌, ◌↔◌, true, List, [], ◌++◌, length, ℤ, ◌≤ℤ◌, Some, MatchOption}
+use Rattle.std.specs.List.{AllByRecursion, list_all, slice_get}
+use Rattle.fm_base.specs.Arenas.{State}
+use Rattle.fm_base.specs.Calls.{Entry}
+use Rattle.fm_lanes.specs.Kind.{width_of}
 use Rattle.fm_layout.specs.Tree.{Tree, Value}
 use Rattle.fm_places.specs.Found.{Finds}
 use Rattle.fm_places.specs.Places.{IsAmong}
-use Rattle.fm_places.specs.Walk.{AreAdmitted}
+use Rattle.fm_places.specs.Walk.{AreAdmitted, offset_at}
 use Rattle.fm_places.specs.declared.dim.Dim.{Dim}
 use Rattle.fm_path.specs.Resolution.{Resolution, IsResolved}
 use Rattle.fm_steps.specs.declared.step.PathStep.{PathStep}
+use Rattle.fm_pieces.specs.Alone.{bytes_of_arena}
+use Rattle.fm_segment.specs.Alone.{bytes_of_region}
+use Rattle.fm_segment.specs.Region.{Region, part_of}
 use Rattle.fm_query.specs.Plan.{Plan}
-use Rattle.fm_records.specs.Answers.{answer, least_of, greatest_of}
+use Rattle.fm_query.specs.declared.fold.Fold.{Fold}
+use Rattle.fm_query.specs.declared.item.Asked.TheVariants as asked
+use Rattle.fm_query.specs.declared.item.Item.{Item}
+use Rattle.fm_records.specs.declared.found.Found.{Found}
+use Rattle.fm_records.specs.Alone.{bytes_at_places}
+use Rattle.fm_records.specs.Answers.{answer, holds, least_of, greatest_of}
+use Rattle.fm_records.specs.Bytes.{HasRead, IsAnswered}
 use Rattle.fm_records.specs.Joined.{joined}
+use Rattle.fm_records.specs.Reads.{IsWordOf}
+use Rattle.fm_records.specs.Records.{records}
 use Rattle.fm_records.specs.Texts.{IsAnswerOf}
 use Rattle.fm_records.specs.Values.{index_lists, number_there, number_at}
 
@@ -51,3 +65,40 @@ GreatestIsGreatest = (ns : List ℤ) → MatchOption (greatest_of ns) (ns ≡ []
 -- the answer over any bytes is one of the query
 abbrev pub AnswersAreOfTheQuery : Type 0
 AnswersAreOfTheQuery = (p : Plan) (bytes : List ℕ) → IsAnswerOf p (answer p bytes)
+
+-- ---- the bytes of a region
+
+-- where the arena has all bytes of the region, those at the region's places are its bytes
+abbrev pub PlacesHaveTheBytes : Type 0
+PlacesHaveTheBytes =
+    (s : State) (r : Region) → r.first + r.size ≤ length (bytes_of_arena s r.arena)
+    → bytes_at_places s r ≡ bytes_of_region s r
+
+-- where Reads found these bytes, the answer is that over them
+abbrev pub AnswersOverBytes : Type 0
+AnswersOverBytes =
+    (c : ℕ) (p : Plan) (s : Region) (bytes : List ℕ) (a : List Found) (own : List Entry)
+    → IsAnswered c p s bytes a own → a ≡ answer p bytes
+
+-- the record of this index is chosen, and an item asks for its value at these indices
+pub record IsAsked (p : Plan) (bytes : List ℕ) (index : ℕ) (r : Resolution) (is : List ℕ) : Type 0 where
+  pub record_bytes : List ℕ
+  pub stands : slice_get (records p.size bytes) index ≡ Some record_bytes
+  pub chosen : list_all (holds record_bytes) p.conditions ≡ true
+  pub item : Item
+  pub among : IsAmong item p.items
+  pub fold : Fold
+  pub asks : item.asked ≡ asked.Of fold r
+  pub admitted : AreAdmitted r.dims is
+
+-- where that value stands
+abbrev pub value_in : Plan → Region → ℕ → Resolution → List ℕ → Region
+value_in p s index r is = part_of (index * p.size + offset_at r.offset r.dims is) (width_of r.value.kind) s
+
+-- and each word of such a value is read
+abbrev pub ReadsWhatIsAsked : Type 0
+ReadsWhatIsAsked =
+    (c : ℕ) (p : Plan) (s : Region) (bytes : List ℕ) (a : List Found) (own : List Entry)
+    (index : ℕ) (r : Resolution) (is : List ℕ) (word : ℕ)
+    → IsAnswered c p s bytes a own → IsAsked p bytes index r is
+    → IsWordOf (value_in p s index r is) word → HasRead c s.arena word own

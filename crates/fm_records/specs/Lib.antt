@@ -1,4 +1,6 @@
+pub mod Alone
 pub mod Answers
+pub mod Bytes
 pub mod Joined
 pub mod Laws
 pub mod Reads

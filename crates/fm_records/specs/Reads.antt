@@ -136,6 +136,14 @@ DoesQuery c p s (Err Closed) own = (s.size % p.size ≡ 0) × MayUse s.arena c �
 DoesQuery c p s (Err Memory) own = (s.size % p.size ≡ 0) × MayUse s.arena c × AreReads c s own
 DoesQuery c p s (Err r) own = ⊥
 
+-- why there is no answer, the first cause that applies
+abbrev pub QueryCause : Plan → Region → ℕ → Refusal → Type 0
+QueryCause p s c (Ragged rest) = (rest ≡ s.size % p.size) × (0 < rest)
+QueryCause p s c WrongThread = (s.size % p.size ≡ 0) × ¬ (MayUse s.arena c)
+QueryCause p s c Closed = (s.size % p.size ≡ 0) × MayUse s.arena c
+QueryCause p s c Memory = (s.size % p.size ≡ 0) × MayUse s.arena c
+QueryCause p s c e = ⊥
+
 -- ---- what reading asks of paths
 
 -- the condition's one value stands in the segment, where its record begins at the place
@@ -225,3 +233,11 @@ AreOpen more items fs = AllZip (IsOpen more) items fs
 -- after so many numbers they are as open as was left
 abbrev pub StayOpen : List Item → List Found → List Found → ℕ → Type 0
 StayOpen items old new n = (more : ℕ) → AreOpen (n + more) items old → AreOpen more items new
+
+-- ---- one record and those before
+
+-- the visits read the record at a place, and what it gives is added to what was found before
+pub record AddsRecord (c : ℕ) (id : ArenaId) (p : Plan) (place : ℕ) (old new : List Found) (own : List Entry) : Type 0 where
+  pub seen : Option (List Found)
+  pub reads : ReadsRecord c id p place own seen
+  pub added : new ≡ with_record old seen

@@ -31,6 +31,13 @@ impl Answer {
         Answer { found }
     }
 
+    /// What each item found, as a vector again.
+    pub(crate) fn into_found(self) -> Vec<Found>
+        ensures { result.items ≡ self }
+    {
+        self.found
+    }
+
     /// What was found, item by item.
     pub fn found(&self) -> &[Found]
         ensures { result.now ≡ self.now }

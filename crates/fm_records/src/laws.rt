@@ -1,4 +1,4 @@
-ghost use Rattle.fm_records.specs.Laws.{NumbersStandAtPlaces, ListsAdmitted, AnswersJoin, LeastIsLeast, GreatestIsGreatest, AnswersAreOfTheQuery};
+ghost use Rattle.fm_records.specs.Laws.{NumbersStandAtPlaces, ListsAdmitted, AnswersJoin, LeastIsLeast, GreatestIsGreatest, AnswersAreOfTheQuery, PlacesHaveTheBytes, AnswersOverBytes, ReadsWhatIsAsked};
 
 /// The number of a resolved path at admitted indices is that of the bytes of the place to which following the path
 /// comes, in the layout's list of all places.
@@ -29,4 +29,19 @@ pub fn greatest_is_greatest()
 /// The answer over any bytes has what each item asks for.
 pub fn answers_are_of_the_query()
     ensures { AnswersAreOfTheQuery }
+{}
+
+/// Where an arena has all bytes of a region, those at the region's places are its bytes.
+pub fn places_have_the_bytes()
+    ensures { PlacesHaveTheBytes }
+{}
+
+/// The answer of a query whose Reads found the bytes of one list is that over these bytes.
+pub fn answers_over_bytes()
+    ensures { AnswersOverBytes }
+{}
+
+/// Such a query has read each word of each value that an item asks for in a chosen record.
+pub fn reads_what_is_asked()
+    ensures { ReadsWhatIsAsked }
 {}

@@ -2,13 +2,19 @@
 #![tactic(auto)]
 
 mod answer;
+#[cfg(test)]
+mod answer_tests;
 mod found;
 mod laws;
 mod numbers;
 mod printing;
+mod query;
+#[cfg(test)]
+mod query_tests;
 mod querying;
 #[cfg(test)]
 mod querying_tests;
+mod record;
 #[cfg(test)]
 mod tests;
 mod values;
@@ -16,9 +22,11 @@ mod values;
 pub use answer::{Answer, of_no_records};
 pub use found::Found;
 pub use laws::{
-    answers_are_of_the_query, answers_join, greatest_is_greatest, least_is_least, lists_admitted,
-    numbers_stand_at_places,
+    answers_are_of_the_query, answers_join, answers_over_bytes, greatest_is_greatest,
+    least_is_least, lists_admitted, numbers_stand_at_places, places_have_the_bytes,
+    reads_what_is_asked,
 };
 pub use numbers::Numbers;
 pub use printing::print_answer;
+pub use query::query_segment;
 pub use querying::{add_items, is_chosen};

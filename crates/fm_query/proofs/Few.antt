@@ -1,8 +1,6 @@
 -- A path has no more values in a record than the record has bytes.
-use Rattle.std.proofs.Common.{◌≡◌, ℕ, ℤ, pos, negsuc, zero, suc, ◌+◌, ◌-◌, ◌*◌, ◌<◌, ◌≤◌, Bool, true, false, nat_lt, if◌then◌else◌, Option, Some, None, Result, Ok, Err, List, [], ◌∷◌, length, map, refl, sym, ap, subst, arith}
-use Rattle.std.proofs.lemmas.List.{length-append, length-map}
+use Rattle.std.proofs.Common.{◌≡◌, ℕ, ℤ, pos, negsuc, zero, suc, ◌+◌, ◌-◌, ◌*◌, ◌<◌, ◌≤◌, Bool, true, false, nat_lt, if◌then◌else◌, Option, Some, None, Result, Ok, Err, List, [], ◌∷◌, refl, ap, subst, arith}
 use Rattle.std.proofs.Math.Nat.{div-le_self, mul-le-mul_left, mul-le-mul_right, mul_assoc}
-use Rattle.std.specs.List.{AllByRecursion, AllZip, flat_map, range_with_len}
 use Rattle.fm_base.specs.declared.refusal.Refusal.{Refusal}
 use Rattle.fm_base.specs.declared.refusal.Refusal.TheVariants.{IndexOut}
 use Rattle.fm_lanes.specs.Kind.{width_of}
@@ -11,48 +9,25 @@ use Rattle.fm_lanes.specs.declared.value_kind.ValueKind.TheVariants.{Byte, Boole
 use Rattle.fm_layout.specs.Parts.{tree_at}
 use Rattle.fm_layout.specs.Size.{size_of, sum_of, greatest_of}
 use Rattle.fm_layout.specs.Tree.{Tree, Trees, Value, Padding, Sequence, Struct, Union, NoMore, More}
-use Rattle.fm_path.specs.Resolution.{Resolution, IsResolved, IsSpecOf}
-use Rattle.fm_path.specs.declared.value_spec.ValueSpec.{ValueSpec}
+use Rattle.fm_steps.specs.declared.step.PathStep.{PathStep}
+use Rattle.fm_steps.specs.declared.step.PathStep.TheVariants.{Name, Group, At, Each, EachFrom}
 use Rattle.fm_places.proofs.Fitting.{lt_is}
 use Rattle.fm_places.specs.Follow.{index_named, ◌>>=◌}
 use Rattle.fm_places.specs.Found.{LeadsTo}
 use Rattle.fm_places.specs.Walk.{bound_of, dim_from, Move, Moved, move_member, move_found, move, Walk, with_dim, moved, walk_by}
 use Rattle.fm_places.specs.declared.dim.Dim.{Dim}
-use Rattle.fm_query.specs.Parsed.{IsAskedOf, IsItemOf, IsPlanOf}
-use Rattle.fm_query.specs.Grammar.{Syntax}
-use Rattle.fm_query.specs.Plan.{Plan}
-use Rattle.fm_query.specs.declared.item.Asked.{Asked}
-use Rattle.fm_query.specs.declared.item.Item.{Item}
-use Rattle.fm_query.specs.declared.syntax.ItemSyntax.{ItemSyntax}
-use Rattle.fm_query.specs.declared.syntax.ItemSyntax.TheVariants as syntax
-use Rattle.fm_steps.specs.declared.step.PathStep.{PathStep}
-use Rattle.fm_steps.specs.declared.step.PathStep.TheVariants.{Name, Group, At, Each, EachFrom}
-use Rattle.fm_records.specs.Reads.{how_many, IsItemFew}
-use Rattle.fm_records.specs.Values.{index_lists}
-
--- ---- how many lists of indices there are
-
--- one step's index before each list
-led_many : (iss : List (List ℕ)) (a n : ℕ) → length (flat_map (λ i. map (λ is. i ∷ is) iss) (range_with_len a n)) ≡ n * length iss
-led_many iss a zero = omega arith
-led_many iss a (suc n) =
-    let one : length (map (λ is. a ∷ is) iss) ≡ length iss = length-map iss (λ is. a ∷ is) in
-    let both = length-append (map (λ is. a ∷ is) iss) (flat_map (λ i. map (λ is. i ∷ is) iss) (range_with_len (a + 1) n)) in
-    let more : suc n * length iss ≡ length iss + n * length iss = grind arith in
-    omega (arith, both, one, more, led_many iss (a + 1) n)
-
--- each index below a dim's bound stands before each list of the others
-pub lists_more : (d : Dim) (ds : List Dim) → length (index_lists (d ∷ ds)) ≡ d.bound * length (index_lists ds)
-lists_more d ds = led_many (index_lists ds) 0 d.bound
+use Rattle.fm_path.specs.Resolution.{Resolution, IsResolved, IsSpecOf}
+use Rattle.fm_path.specs.declared.value_spec.ValueSpec.{ValueSpec}
+use Rattle.fm_query.specs.Plan.{value_count}
 
 -- how many indices a step has
 abbrev indices : Option Dim → ℕ
 indices None = 1
 indices (Some d) = d.bound
 
-lists_with : (o : Option Dim) (ds : List Dim) → length (index_lists (with_dim o ds)) ≡ indices o * length (index_lists ds)
-lists_with None ds = omega arith
-lists_with (Some d) ds = lists_more d ds
+counts_with : (o : Option Dim) (ds : List Dim) → value_count (with_dim o ds) ≡ indices o * value_count ds
+counts_with None ds = omega arith
+counts_with (Some d) ds = refl
 
 -- ---- what a step leads to fits into the layout, as often as it has indices
 
@@ -134,18 +109,18 @@ fits k (EachFrom f s) (Union ms l) = tt
 -- ---- and so does what a walk leads to
 
 abbrev FitIn : Tree → Result Walk Refusal → Type 0
-FitIn t (Ok w) = length (index_lists w.dims) * size_of w.last ≤ size_of t
+FitIn t (Ok w) = value_count w.dims * size_of w.last ≤ size_of t
 FitIn t (Err e) = Unit {0}
 
 -- so many times so many fit where each of the first holds the second
-times_fit : (lists many few bytes middle whole : ℕ) → lists ≡ many * few → few * bytes ≤ middle → many * middle ≤ whole → lists * bytes ≤ whole
-times_fit lists many few bytes middle whole e inner outer =
+times_fit : (count many few bytes middle whole : ℕ) → count ≡ many * few → few * bytes ≤ middle → many * middle ≤ whole → count * bytes ≤ whole
+times_fit count many few bytes middle whole e inner outer =
     omega (arith, ap (λ n. n * bytes) e, mul_assoc many few bytes, mul-le-mul_left {m = few * bytes} {n = middle} many inner, outer)
 
 -- a step before a walk
 fit_moved : (t : Tree) (m : Move) (r : Result Walk Refusal) → indices m.dim * size_of m.to ≤ size_of t → FitIn m.to r → FitIn t (moved m r)
 fit_moved t m (Ok w) f h =
-    times_fit (length (index_lists (with_dim m.dim w.dims))) (indices m.dim) (length (index_lists w.dims)) (size_of w.last) (size_of m.to) (size_of t) (lists_with m.dim w.dims) h f
+    times_fit (value_count (with_dim m.dim w.dims)) (indices m.dim) (value_count w.dims) (size_of w.last) (size_of m.to) (size_of t) (counts_with m.dim w.dims) h f
 fit_moved t m (Err e) f h = tt
 
 -- a step, and then the rest
@@ -159,7 +134,7 @@ fit_in [] k t = omega arith
 fit_in (p ∷ ps) k t = fit_join k ps t (move k p t) (fits k p t) (λ u. fit_in ps (k + 1) u)
 
 -- the layouts at a path's end fit into its root
-pub ends_fit : (path : List PathStep) (t : Tree) (offset : ℕ) (dims : List Dim) (u : Tree) → LeadsTo path t offset dims u → length (index_lists dims) * size_of u ≤ size_of t
+pub ends_fit : (path : List PathStep) (t : Tree) (offset : ℕ) (dims : List Dim) (u : Tree) → LeadsTo path t offset dims u → value_count dims * size_of u ≤ size_of t
 ends_fit path t offset dims u l = subst (FitIn t) l.walked (fit_in path 0 t)
 
 -- ---- values have bytes
@@ -183,23 +158,6 @@ at_least_one : (many bytes whole : ℕ) → 1 ≤ bytes → many * bytes ≤ who
 at_least_one many bytes whole some fit = omega (arith, mul-le-mul_left {m = 1} {n = bytes} many some, fit)
 
 -- a path has at most as many values in a layout as the layout has bytes
-pub values_are_few : (path : List PathStep) (t : Tree) (r : Resolution) → IsResolved path t r → length (index_lists r.dims) ≤ size_of t
+pub values_are_few : (path : List PathStep) (t : Tree) (r : Resolution) → IsResolved path t r → value_count r.dims ≤ size_of t
 values_are_few path t r h =
-    at_least_one (length (index_lists r.dims)) (size_of h.last) (size_of t) (has_bytes h.last r.value h.value) (ends_fit path t r.offset r.dims h.last h.leads)
-
--- ---- the items of a query
-
-asked_few : (t : Tree) (s : ItemSyntax) (a : Asked) → 0 < size_of t → IsAskedOf t s a → how_many a ≤ size_of t
-asked_few t syntax.Count a some h = subst (λ b. how_many b ≤ size_of t) (sym h) (omega (arith, some))
-asked_few t (syntax.Of fold path) a some h = subst (λ b. how_many b ≤ size_of t) (sym h.2) (values_are_few path t h.0 h.1)
-
-items_few : (t : Tree) (ss : List ItemSyntax) (items : List Item) → 0 < size_of t → AllZip (IsItemOf t) ss items → AllByRecursion (IsItemFew (size_of t)) items
-items_few t [] [] some h = tt
-items_few t [] (i ∷ is) some h = absurd h
-items_few t (s ∷ ss) [] some h = absurd h
-items_few t (s ∷ ss) (i ∷ is) some h = (asked_few t s i.asked some h.0.asked, items_few t ss is some h.1)
-
--- no item of a parsed query over records that have bytes adds more numbers in a record than it has bytes
-pub plan_few : (t : Tree) (q : Syntax) (p : Plan) → 0 < p.size → IsPlanOf t q p → AllByRecursion (IsItemFew p.size) p.items
-plan_few t q p some h =
-    subst (λ n. AllByRecursion (IsItemFew n) p.items) (sym h.size) (items_few t q.items p.items (subst (λ n. 0 < n) h.size some) h.items)
+    at_least_one (value_count r.dims) (size_of h.last) (size_of t) (has_bytes h.last r.value h.value) (ends_fit path t r.offset r.dims h.last h.leads)

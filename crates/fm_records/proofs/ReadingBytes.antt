@@ -1,0 +1,288 @@
+-- What visits read, where each found the region's bytes as a list has them.
+use Rattle.std.proofs.Common.{◌≡◌, ℕ, suc, ◌+◌, ◌-◌, ◌*◌, ◌/◌, ◌%◌, ◌<◌, ◌≤◌, Bool, true, false, Option, Some, None, List, [], ◌∷◌, ◌++◌, length, map, take, drop, get_or, refl, sym, ap, ◌∙◌, subst, append_assoc, inl, inr, arith}
+use Rattle.std.specs.Prelude.{ℤ, ◌&&◌, cond}
+use Rattle.std.specs.List.{AllByRecursion, list_all}
+use Rattle.std.proofs.lemmas.Grind.{same_number_lists}
+use Rattle.std.proofs.lemmas.List.{append-nil, drop-drop, length-drop, length-take-le, get_or-take, get_or-drop}
+use Rattle.std.proofs.lemmas.List.Elements.{filter-append}
+use Rattle.fm_base.specs.Calls.{Read, Found as Found_word, Entry, entry_of}
+use Rattle.fm_base.specs.Histories.{byte_of}
+use Rattle.fm_base.specs.Visits.{visit, piece_width, Run, ends, goes_on}
+use Rattle.fm_bytes.specs.Bytes.{bytes_of, lane}
+use Rattle.fm_bytes.proofs.Bytes.{bytes_of-lane, length-bytes_of}
+use Rattle.fm_bytes.proofs.Words.{take-add}
+use Rattle.fm_lanes.specs.Coding.{value_of}
+use Rattle.fm_lanes.specs.Kind.{width_of}
+use Rattle.fm_lanes.specs.Value.{number_of_value}
+use Rattle.fm_path.specs.Resolution.{Resolution}
+use Rattle.fm_path.specs.declared.value_spec.ValueSpec.{ValueSpec}
+use Rattle.fm_pieces.specs.Pieces.{ReadsPiece}
+use Rattle.fm_pieces.specs.Ranges.{Reading, ReadsOn, EndsReading, ReadsRange}
+use Rattle.fm_places.specs.Places.{IsAmong}
+use Rattle.fm_places.specs.Walk.{AreAdmitted, offset_at}
+use Rattle.fm_places.specs.declared.dim.Dim.{Dim}
+use Rattle.fm_query.specs.Plan.{Plan, IsPlan, IsThrough, AsksOf, IsItemIn, IsConditionIn}
+use Rattle.fm_query.specs.declared.condition.Condition.{Condition}
+use Rattle.fm_query.specs.declared.item.Asked.{Asked}
+use Rattle.fm_query.specs.declared.item.Asked.TheVariants as asked
+use Rattle.fm_query.specs.declared.item.Item.{Item}
+use Rattle.fm_segment.proofs.Alone.{take-part}
+use Rattle.fm_segment.specs.Region.{Region}
+use Rattle.fm_records.specs.declared.found.Found.{Found}
+use Rattle.fm_records.specs.Answers.{compares, folded, found_in, item_found, found_over}
+use Rattle.fm_records.specs.Answers.{holds as holds_for, chosen as chosen_of}
+use Rattle.fm_records.specs.Bytes.{FindsAs, FindAs}
+use Rattle.fm_records.specs.Joined.{joined}
+use Rattle.fm_records.specs.Reads.{value_places, ReadsNumber, ReadsNumbers, no_more, one_more, Tests, TestsConditions, all_hold, fails, holds, FindsItem, FindsItems, no_item, one_item, ReadsRecord, chosen, passed_over, with_record, ReadsRecords, no_record, one_record}
+use Rattle.fm_records.specs.Records.{pieces}
+use Rattle.fm_records.specs.Values.{index_lists, number_there, number_at, numbers_in}
+use Rattle.fm_records.proofs.Indices.{listed_admitted}
+use Rattle.fm_records.proofs.Joining.{found_over-append}
+
+pub all_split : {X : Type 0} (P : X → Type 0) (xs ys : List X) → AllByRecursion P (xs ++ ys) → AllByRecursion P xs × AllByRecursion P ys
+all_split P [] ys h = (tt, h)
+all_split P (x ∷ xs) ys h = let rest = all_split P xs ys h.1 in ((h.0, rest.0), rest.1)
+
+-- ---- one byte of a word
+
+first_byte : (n : ℕ) → get_or (bytes_of 1 n) 0 0 ≡ n % 256
+unfolding bytes_of
+first_byte n = refl
+
+pub get_or-bytes_of : (width word at : ℕ) → at < width → get_or (bytes_of width word) at 0 ≡ byte_of word at
+get_or-bytes_of width word at below =
+    let last : at + 0 ≡ at = omega arith in
+    let twice : byte_of word at % 256 ≡ byte_of word at = omega arith in
+    ap (λ k. get_or (bytes_of width word) k 0) (sym last)
+    ∙ sym (get_or-drop at (bytes_of width word) 0 0)
+    ∙ sym (get_or-take 1 (drop at (bytes_of width word)) 0 0 (omega arith))
+    ∙ sym (ap (λ bs. get_or bs 0 0) (bytes_of-lane width at 1 word (omega (arith, below))))
+    ∙ first_byte (lane word at 1) ∙ twice
+
+-- ---- runs of bytes of a region
+
+-- so many bytes from a place on are the region's
+pub record LiesIn (s : Region) (place width : ℕ) : Type 0 where
+  pub from : s.first ≤ place
+  pub within : place + width ≤ s.first + s.size
+
+module _ (c : ℕ) (s : Region) (bytes : List ℕ) (size : length bytes ≡ s.size) where
+  -- the bytes of a lane of a word that was found
+  lane_found : (place width word : ℕ) → FindsAs s bytes (entry_of c (Read s.arena (place / 8)) (Found_word word)) → place % 8 + width ≤ 8 → LiesIn s place width
+      → bytes_of width (lane word (place % 8) width) ≡ take width (drop (place - s.first) bytes)
+  lane_found place width word finds fits lies =
+      let at = place % 8 in
+      let from = lies.from in
+      let within = lies.within in
+      let left : width ≤ length (drop (place % 8) (bytes_of 8 word)) = omega (arith, fits, length-drop at (bytes_of 8 word), length-bytes_of 8 word) in
+      let right : width ≤ length (drop (place - s.first) bytes) = omega (arith, from, within, size, length-drop (place - s.first) bytes) in
+      let long : length (take width (drop (place % 8) (bytes_of 8 word))) ≡ width = length-take-le width (drop at (bytes_of 8 word)) left in
+      bytes_of-lane 8 at width word fits
+      ∙ same_number_lists (take width (drop at (bytes_of 8 word))) (take width (drop (place - s.first) bytes)) (long ∙ sym (length-take-le width (drop (place - s.first) bytes) right))
+      (λ k short.
+      let below : k < width = omega (arith, short, long) in
+      let there : 8 * (place / 8) + (place % 8 + k) ≡ place + k = omega arith in
+      let offset : 8 * (place / 8) + (place % 8 + k) - s.first ≡ place - s.first + k = omega (arith, from) in
+      get_or-take width (drop at (bytes_of 8 word)) k 0 below ∙ get_or-drop at (bytes_of 8 word) k 0
+      ∙ get_or-bytes_of 8 word (at + k) (omega (arith, below, fits))
+      ∙ finds (place / 8) word (at + k) refl refl (record { in_word = omega (arith, below, fits); from = omega (arith, from, there); below = omega (arith, below, within, there) })
+      ∙ ap (λ n. get_or bytes n 0) offset
+      ∙ sym (get_or-take width (drop (place - s.first) bytes) k 0 below ∙ get_or-drop (place - s.first) bytes k 0))
+
+  -- a piece has the region's bytes
+  piece_bytes : (place width v : ℕ) (own : List Entry) → ReadsPiece c s.arena place width v own → place % 8 + width ≤ 8 → LiesIn s place width → FindAs s bytes own
+      → bytes_of width v ≡ take width (drop (place - s.first) bytes)
+  piece_bytes place width v own p fits lies w =
+      let all : FindAs s bytes (visit c s.arena ((Read s.arena (place / 8), Found_word p.word) ∷ [])) = subst (FindAs s bytes) p.visits w in
+      ap (bytes_of width) p.value ∙ lane_found place width p.word all.1.0 fits lies
+
+  -- those up to the end stand behind those that were read
+  abbrev StandBehind : ℕ → Reading → Option (List ℕ) → Type 0
+  StandBehind end x (Some read) = read ≡ x.bytes ++ take (end - x.at) (drop (x.at - s.first) bytes)
+  StandBehind end x None = Unit {0}
+
+  stand_last : (end : ℕ) (x : Reading) (own : List Entry) (answer : Option (List ℕ)) → EndsReading c s.arena end x own answer → StandBehind end x answer
+  stand_last end x own (Some read) e =
+      let none : end - x.at ≡ 0 = (let h = e.0 in omega arith) in
+      e.1 ∙ sym (ap (λ n. x.bytes ++ take n (drop (x.at - s.first) bytes)) none ∙ append-nil x.bytes)
+  stand_last end x own None e = tt
+
+  stand_more : (end width v : ℕ) (x y : Reading) (answer : Option (List ℕ)) → width ≤ end - x.at → s.first ≤ x.at → bytes_of width v ≡ take width (drop (x.at - s.first) bytes)
+      → y.at ≡ x.at + width → y.bytes ≡ x.bytes ++ bytes_of width v → StandBehind end y answer → StandBehind end x answer
+  stand_more end width v x y None h from e at more rest = tt
+  stand_more end width v x y (Some all) h from e at more rest =
+      let d = drop (x.at - s.first) bytes in
+      let left = take (end - y.at) (drop (y.at - s.first) bytes) in
+      let sum : end - x.at ≡ width + (end - y.at) = omega arith in
+      let offset : x.at - s.first + width ≡ y.at - s.first = omega (arith, from, at) in
+      let past : drop width (drop (x.at - s.first) bytes) ≡ drop (y.at - s.first) bytes = drop-drop width (x.at - s.first) bytes ∙ ap (λ n. drop n bytes) offset in
+      let two : take (end - x.at) (drop (x.at - s.first) bytes) ≡ bytes_of width v ++ take (end - y.at) (drop (y.at - s.first) bytes) =
+      ap (λ n. take n d) sum ∙ take-add width (end - y.at) d ∙ ap (λ bs. bs ++ take (end - y.at) (drop width d)) (sym e) ∙ ap (λ bs. bytes_of width v ++ take (end - y.at) bs) past in
+      rest ∙ ap (λ bs. bs ++ left) more ∙ append_assoc x.bytes (bytes_of width v) left ∙ ap (λ bs. x.bytes ++ bs) (sym two)
+
+  -- a run of pieces has the region's bytes
+  run_bytes : (end : ℕ) (x : Reading) (own : List Entry) (answer : Option (List ℕ)) → Run (ReadsOn c s.arena end) (EndsReading c s.arena end) x own answer
+      → s.first ≤ x.at → end ≤ s.first + s.size → FindAs s bytes own → StandBehind end x answer
+  run_bytes end x own answer (ends e) from within w = stand_last end x own answer e
+  run_bytes end x own answer (goes_on y first rest step run) from within w =
+      let parts = all_split _ first rest w in
+      let more = step.more in
+      let at = step.at in
+      let fits : x.at % 8 + piece_width x.at end ≤ 8 = omega arith in
+      let part : piece_width x.at end ≤ end - x.at = omega arith in
+      let lies : LiesIn s x.at (piece_width x.at end) = record { from = from; within = omega (arith, part, more, within) } in
+      stand_more end (piece_width x.at end) step.v x y answer part from (piece_bytes x.at (piece_width x.at end) step.v first step.piece fits lies parts.0) step.at step.bytes
+      (run_bytes end y rest answer run (omega (arith, from, at)) within parts.1)
+
+  range_bytes : (place width : ℕ) (own : List Entry) (read : List ℕ) → ReadsRange c s.arena place (place + width) own (Some read) → LiesIn s place width → FindAs s bytes own
+      → read ≡ take width (drop (place - s.first) bytes)
+  range_bytes place width own read run lies w =
+      let all : place + width - place ≡ width = omega arith in
+      run_bytes (place + width) (record { at = place; bytes = [] }) own (Some read) run lies.from lies.within w ∙ ap (λ k. take k (drop (place - s.first) bytes)) all
+
+  -- ---- numbers
+
+  number_of_bytes : (spec : ValueSpec) (place : ℕ) (own : List Entry) (n : ℤ) → ReadsNumber c s.arena spec place own n → LiesIn s place (width_of spec.kind) → FindAs s bytes own
+      → n ≡ number_there spec.kind spec.order (place - s.first) bytes
+  number_of_bytes spec place own n r lies w =
+      r.number ∙ ap number_of_value (r.reads.value ∙ ap (value_of spec.kind spec.order) (range_bytes place (width_of spec.kind) own r.reads.bytes r.reads.visits lies w))
+
+  numbers_of_bytes : (spec : ValueSpec) (places : List ℕ) (own : List Entry) (ns : List ℤ) → ReadsNumbers c s.arena spec places own ns
+      → ((place : ℕ) → IsAmong place places → LiesIn s place (width_of spec.kind)) → FindAs s bytes own
+      → ns ≡ map (λ place. number_there spec.kind spec.order (place - s.first) bytes) places
+  numbers_of_bytes spec places own ns no_more lie w = refl
+  numbers_of_bytes spec places own ns (one_more {place = place} {places = rest} first more n left r h) lie w =
+      let parts = all_split _ first more w in
+      ap (λ m. m ∷ left) (number_of_bytes spec place first n r (lie place (inl refl)) parts.0)
+      ∙ ap (λ ms. number_there spec.kind spec.order (place - s.first) bytes ∷ ms) (numbers_of_bytes spec rest more left h (λ q a. lie q (inr a)) parts.1)
+
+  -- ---- one record of the region
+
+  -- its bytes, from its place on
+  abbrev record_at : ℕ → ℕ → List ℕ
+  record_at width place = take width (drop (place - s.first) bytes)
+
+  -- a value that lies within a record, by the record's bytes
+  within_record : (r : Resolution) (width multiple place : ℕ) (is : List ℕ) → IsThrough width multiple r → AreAdmitted r.dims is → LiesIn s place width
+      → number_there r.value.kind r.value.order (place + offset_at r.offset r.dims is - s.first) bytes ≡ number_at r is (record_at width place)
+  within_record r width multiple place is t a lies =
+      let at = offset_at r.offset r.dims is in
+      let from = lies.from in
+      let offset : place + offset_at r.offset r.dims is - s.first ≡ place - s.first + offset_at r.offset r.dims is = omega (arith, from) in
+      let inside : offset_at r.offset r.dims is + width_of r.value.kind ≤ width = subst (λ n. offset_at r.offset r.dims is + width_of r.value.kind ≤ n) t.size (t.stays.inside is a) in
+      ap (λ n. number_there r.value.kind r.value.order n bytes) offset
+      ∙ ap (λ bs. number_of_value (value_of r.value.kind r.value.order bs)) (sym (take-part (width_of r.value.kind) at width (place - s.first) bytes inside))
+
+  -- and it lies in the region
+  value_lies : (r : Resolution) (width multiple place : ℕ) (is : List ℕ) → IsThrough width multiple r → AreAdmitted r.dims is → LiesIn s place width
+      → LiesIn s (place + offset_at r.offset r.dims is) (width_of r.value.kind)
+  value_lies r width multiple place is t a lies =
+      let from = lies.from in
+      let within = lies.within in
+      let inside : offset_at r.offset r.dims is + width_of r.value.kind ≤ width = subst (λ n. offset_at r.offset r.dims is + width_of r.value.kind ≤ n) t.size (t.stays.inside is a) in
+      record { from = omega (arith, from); within = omega (arith, inside, within) }
+
+  map_among : {A B C : Type 0} (f : B → C) (g : A → B) (h : A → C) (xs : List A) → ((x : A) → IsAmong x xs → f (g x) ≡ h x) → map f (map g xs) ≡ map h xs
+  map_among f g h [] e = refl
+  map_among f g h (x ∷ xs) e = ap (λ y. y ∷ map f (map g xs)) (e x (inl refl)) ∙ ap (λ ys. h x ∷ ys) (map_among f g h xs (λ y a. e y (inr a)))
+
+  -- what holds at each list of indices holds of each of their places
+  each_mapped : {A B : Type 0} (P : B → Type 0) (f : A → B) (xs : List A) → ((x : A) → IsAmong x xs → P (f x)) → (y : B) → IsAmong y (map f xs) → P y
+  each_mapped P f [] h y a = absurd a
+  each_mapped P f (x ∷ xs) h y (inl e) = subst P (sym e) (h x (inl refl))
+  each_mapped P f (x ∷ xs) h y (inr a) = each_mapped P f xs (λ z b. h z (inr b)) y a
+
+  -- the numbers of a path's values
+  numbers_of_record : (r : Resolution) (width multiple place : ℕ) (own : List Entry) (ns : List ℤ) → IsThrough width multiple r → LiesIn s place width
+      → ReadsNumbers c s.arena r.value (value_places place r.offset r.dims) own ns → FindAs s bytes own → ns ≡ numbers_in r (record_at width place)
+  numbers_of_record r width multiple place own ns t lies reads w =
+      let F : List ℕ → ℕ = λ is. place + offset_at r.offset r.dims is in
+      numbers_of_bytes r.value (value_places place r.offset r.dims) own ns reads
+      (each_mapped (λ q. LiesIn s q (width_of r.value.kind)) F (index_lists r.dims) (λ is a. value_lies r width multiple place is t (listed_admitted r.dims is a) lies)) w
+      ∙ map_among (λ q. number_there r.value.kind r.value.order (q - s.first) bytes) F (λ is. number_at r is (record_at width place)) (index_lists r.dims)
+      (λ is a. within_record r width multiple place is t (listed_admitted r.dims is a) lies)
+
+  -- the offset of a path with no index open
+  offset_of_none : (at : ℕ) (ds : List Dim) → offset_at at ds [] ≡ at
+  offset_of_none at [] = refl
+  offset_of_none at (d ∷ ds) = refl
+
+  -- a condition that was tested
+  test_of_bytes : (x : Condition) (width multiple place : ℕ) (own : List Entry) (b : Bool) → IsConditionIn width multiple x → LiesIn s place width → Tests c s.arena place x own b
+      → FindAs s bytes own → holds_for (record_at width place) x ≡ b
+  test_of_bytes x width multiple place own b h lies t w =
+      let none : AreAdmitted x.path.dims [] = subst (λ ds. AreAdmitted ds []) (sym h.closed) tt in
+      let at = offset_of_none x.path.offset x.path.dims in
+      let there : LiesIn s (place + x.path.offset) (width_of x.path.value.kind) =
+      subst (λ n. LiesIn s (place + n) (width_of x.path.value.kind)) at (value_lies x.path width multiple place [] h.through none lies) in
+      let number : t.number ≡ number_at x.path [] (record_at width place) =
+      number_of_bytes x.path.value (place + x.path.offset) own t.number t.reads there w
+      ∙ ap (λ n. number_there x.path.value.kind x.path.value.order (place + n - s.first) bytes) (sym at)
+      ∙ within_record x.path width multiple place [] h.through none lies in
+      ap (λ n. compares x.operator n x.literal) (sym number) ∙ t.compared
+
+  pub tests_of_bytes : (width multiple place : ℕ) (cs : List Condition) (own : List Entry) (b : Bool) → AllByRecursion (IsConditionIn width multiple) cs → LiesIn s place width
+      → TestsConditions c s.arena place cs own b → FindAs s bytes own → list_all (holds_for (record_at width place)) cs ≡ b
+  tests_of_bytes width multiple place cs own b h lies all_hold w = refl
+  tests_of_bytes width multiple place cs own b h lies (fails {x = x} {xs = xs} one t) w =
+      ap (λ d. d && list_all (holds_for (record_at width place)) xs) (test_of_bytes x width multiple place one false h.0 lies t w)
+  tests_of_bytes width multiple place cs own b h lies (holds {x = x} {xs = xs} {all = all} one rest t more) w =
+      let parts = all_split _ one rest w in
+      ap (λ d. d && list_all (holds_for (record_at width place)) xs) (test_of_bytes x width multiple place one true h.0 lies t parts.0)
+      ∙ tests_of_bytes width multiple place xs rest all h.1 lies more parts.1
+
+  -- what an item finds
+  item_of_bytes : (a : Asked) (width multiple place : ℕ) (own : List Entry) (found : Found) → AsksOf width multiple a → LiesIn s place width → FindsItem c s.arena place a own found
+      → FindAs s bytes own → found ≡ found_in (record_at width place ∷ []) a
+  item_of_bytes asked.Count width multiple place own found t lies h w = h.1
+  item_of_bytes (asked.Of f r) width multiple place own found t lies h w =
+      h.2 ∙ ap (folded f) (numbers_of_record r width multiple place own h.0 t lies h.1 w ∙ sym (append-nil (numbers_in r (record_at width place))))
+
+  items_of_bytes : (width multiple place : ℕ) (items : List Item) (own : List Entry) (fs : List Found) → AllByRecursion (IsItemIn width multiple) items → LiesIn s place width
+      → FindsItems c s.arena place items own fs → FindAs s bytes own → fs ≡ map (item_found (record_at width place ∷ [])) items
+  items_of_bytes width multiple place items own fs t lies no_item w = refl
+  items_of_bytes width multiple place items own fs t lies (one_item {item = item} {items = more} found others one rest f h) w =
+      let parts = all_split _ one rest w in
+      ap (λ g. g ∷ others) (item_of_bytes item.asked width multiple place one found t.0 lies f parts.0)
+      ∙ ap (λ gs. item_found (record_at width place ∷ []) item ∷ gs) (items_of_bytes width multiple place more rest others t.1 lies h parts.1)
+
+  -- ---- records
+
+  module _ (p : Plan) (plan : IsPlan p) where
+    -- one record alone is chosen where all conditions hold
+    chosen_alone : (place : ℕ) (own : List Entry) (b : Bool) → LiesIn s place p.size → TestsConditions c s.arena place p.conditions own b → FindAs s bytes own
+        → chosen_of p.conditions (record_at p.size place ∷ []) ≡ cond b (record_at p.size place ∷ []) []
+    chosen_alone place own b lies t w =
+        ap (λ d. cond d (record_at p.size place ∷ []) []) (tests_of_bytes p.size p.alignment place p.conditions own b plan.conditions lies t w)
+
+    -- one record more
+    record_of_bytes : (place : ℕ) (own : List Entry) (seen : Option (List Found)) (so_far : List Found) (rs : List (List ℕ)) → LiesIn s place p.size
+        → ReadsRecord c s.arena p place own seen → FindAs s bytes own
+        → so_far ≡ found_over p rs → with_record so_far seen ≡ found_over p (rs ++ record_at p.size place ∷ [])
+    record_of_bytes place own seen so_far rs lies (chosen one rest fs t h) w e =
+        let parts = all_split _ one rest w in
+        let found : fs ≡ found_over p (record_at p.size place ∷ []) =
+        items_of_bytes p.size p.alignment place p.items rest fs plan.items lies h parts.1
+        ∙ ap (λ all. map (item_found all) p.items) (sym (chosen_alone place one true lies t parts.0)) in
+        ap (λ gs. joined gs fs) e ∙ ap (joined (found_over p rs)) found ∙ found_over-append p rs (record_at p.size place ∷ [])
+    record_of_bytes place own seen so_far rs lies (passed_over one t) w e =
+        e ∙ ap (λ all. map (item_found all) p.items)
+        (sym (filter-append (λ record_bytes. list_all (holds_for record_bytes) p.conditions) rs (record_at p.size place ∷ [])
+        ∙ ap (λ more. chosen_of p.conditions rs ++ more) (chosen_alone place one false lies t w) ∙ append-nil (chosen_of p.conditions rs)))
+
+    -- and all records, one behind the other
+    pub records_of_bytes : (count place : ℕ) (so_far a : List Found) (own : List Entry) (rs : List (List ℕ)) → LiesIn s place (count * p.size)
+        → ReadsRecords c s.arena p count place so_far own a → FindAs s bytes own
+        → so_far ≡ found_over p rs → a ≡ found_over p (rs ++ pieces count p.size (drop (place - s.first) bytes))
+    records_of_bytes count place so_far a own rs lies no_record w e = e ∙ ap (found_over p) (sym (append-nil rs))
+    records_of_bytes count place so_far a own rs lies (one_record {count = left} one rest seen r more) w e =
+        let parts = all_split _ one rest w in
+        let here = record_at p.size place ∷ [] in
+        let sum : suc left * p.size ≡ p.size + left * p.size = grind arith in
+        let from = lies.from in
+        let within = lies.within in
+        let offset : place - s.first + p.size ≡ place + p.size - s.first = omega (arith, from) in
+        records_of_bytes left (place + p.size) (with_record so_far seen) a rest (rs ++ here) (record { from = omega (arith, from); within = omega (arith, within, sum) }) more parts.1
+        (record_of_bytes place one seen so_far rs (record { from = from; within = omega (arith, within, sum) }) r parts.0 e)
+        ∙ ap (λ bs. found_over p ((rs ++ here) ++ pieces left p.size bs)) (sym (drop-drop p.size (place - s.first) bytes ∙ ap (λ n. drop n bytes) offset))
+        ∙ ap (found_over p) (append_assoc rs here (pieces left p.size (drop p.size (drop (place - s.first) bytes))))
