@@ -1,3 +1,4 @@
+pub mod Fencing
 pub mod Others
 pub mod Told
 pub mod Shutting

@@ -1,4 +1,5 @@
 pub mod Braided
 pub mod Closing
+pub mod Fenced
 pub mod Heard
 pub mod Telling

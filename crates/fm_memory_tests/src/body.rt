@@ -1,6 +1,7 @@
-ghost use Rattle.std.specs.Prelude.{◌≡◌, ◌≤◌, None};
+ghost use Rattle.std.specs.Prelude.{◌≡◌, ◌≤◌, true, None};
+ghost use Rattle.fm_base.specs.Arenas.{has_arena};
 
-use fm_base::{Kind, Memory, Refusal};
+use fm_base::{ArenaId, Kind, Memory, Refusal};
 use std::process::Abort;
 use std::sync::Wait;
 
@@ -33,4 +34,16 @@ pub fn close_an_arena<R: Abort + Wait, M: Memory>(rt: &R, m: &mut M)
     assert_eq!(rt; m.enter(a), Err(Refusal::Closed));
     assert_eq!(rt; m.allocate(rt, a, 1, 1), Err(Refusal::Closed));
     assert_eq!(rt; m.close(rt, a), Err(Refusal::Closed));
+}
+
+/// What every memory does with an arena that is confined to another caller.
+pub fn stay_out<R: Abort + Wait, M: Memory>(rt: &R, m: &mut M, a: ArenaId)
+    requires outside { (M.view m.old).inside ≡ None }
+    requires known { has_arena (M.view m.old).state a ≡ true }
+    ensures { (M.view m.new).inside ≡ None }
+{
+    assert_eq!(rt; m.enter(a), Err(Refusal::WrongThread));
+    assert_eq!(rt; m.allocate(rt, a, 1, 3), Err(Refusal::BadAlignment));
+    assert_eq!(rt; m.allocate(rt, a, 1, 1), Err(Refusal::WrongThread));
+    assert_eq!(rt; m.close(rt, a), Err(Refusal::WrongThread));
 }

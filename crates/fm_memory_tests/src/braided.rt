@@ -7,12 +7,15 @@ use std::sync::Wait;
 
 /// The arenas of a `Mono`, as one of two callers uses them.
 ///
-/// The other caller visits the arena and adds 1 to the word just before each call of this one on a word, where the
-/// arena may be used by every caller.
+/// The other caller visits the arena and adds `step` to the word just before calls of this one on a word, where the
+/// arena may be used by every caller: before each that has a 1 in `script`, which is read from its lowest bit on, and
+/// then from its lowest again.
 #[derive(Drop)]
 pub struct Braided {
     mono: Mono,
     inside: Option<ArenaId>,
+    script: u64,
+    step: u64,
 }
 
 impl Model for Braided {
@@ -40,13 +43,18 @@ impl Braided {
     ghost use Rattle.fm_memory_tests.specs.Braided.{braided_view};
 
     /// No arenas yet.
-    pub fn new(mono: Mono) -> Braided
+    pub fn new(mono: Mono, script: u64, step: u64) -> Braided
         requires outside { mono.inside ≡ None }
         requires empty { mono.state ≡ [] }
         requires small { mono.limit ≤ 2 ^ 40 }
         ensures { result ≡ mono }
     {
-        Braided { mono, inside: None }
+        Braided {
+            mono,
+            inside: None,
+            script,
+            step,
+        }
     }
 
     /// What the other caller does.
@@ -55,9 +63,11 @@ impl Braided {
         ensures makes { Makes (braided_view self.old) (braided_view self.new) [] }
         ensures small { self.new.limit ≤ 2 ^ 40 }
     {
+        let comes = self.script & 1 == 1;
+        self.script = self.script.rotate_right(1);
         if let Some(a) = self.inside {
-            if is_for_all(a.kind) {
-                let _ = self.mono.add(word, 1);
+            if comes && is_for_all(a.kind) {
+                let _ = self.mono.add(word, self.step);
             }
         }
     }

@@ -1,4 +1,4 @@
-//! Three more implementations of `Memory`, for tests alone, and one test body over every implementation.
+//! Four more implementations of `Memory`, for tests alone, and test bodies over every implementation.
 #![tactic(auto)]
 
 mod heard;
@@ -13,6 +13,10 @@ mod braided;
 mod closing;
 #[cfg(test)]
 mod ear;
+#[cfg(test)]
+mod fenced;
+#[cfg(test)]
+mod handles;
 #[cfg(test)]
 mod segments;
 #[cfg(test)]

@@ -93,3 +93,65 @@ pub fn copy_until_closed<R: Abort + Wait, M: Memory>(rt: &R, m: &mut M)
     assert_eq!(rt; t.get(m, &long, 8), Ok(Value::Long(0)));
     assert_eq!(rt; s.get(m, &long, 0), Err(Refusal::Closed));
 }
+
+/// What every memory does with a segment of 16 bytes of an arena that is confined to another caller.
+pub fn use_of_another<R: Abort + Wait, M: Memory>(rt: &R, m: &mut M, s: &Segment)
+    requires outside { (M.view m.old).inside ≡ None }
+    requires known { IsKnown (M.view m.old) s.now }
+    ensures outside { (M.view m.new).inside ≡ None }
+    ensures known { IsKnown (M.view m.new) s.now }
+{
+    let long = Layout::value(ValueKind::Long);
+    assert_eq!(rt; s.get(m, &long, 9), Err(Refusal::Bounds));
+    assert_eq!(rt; s.get(m, &long, 1), Err(Refusal::Misaligned));
+    assert_eq!(rt; s.get(m, &long, 0), Err(Refusal::WrongThread));
+    assert_eq!(rt;
+        s.set(rt, m, &long, 0, Value::Long(7)),
+        Err(Refusal::WrongThread)
+    );
+    assert_eq!(rt;
+        s.set(rt, m, &long, 1, Value::Long(7)),
+        Err(Refusal::Misaligned)
+    );
+    assert_eq!(rt; s.fill(rt, m, 255), Err(Refusal::WrongThread));
+    assert_eq!(rt; s.copy_from(rt, m, s), Err(Refusal::WrongThread));
+    assert_eq!(rt; Segment::copy(rt, m, s, 0, s, 9, 8), Err(Refusal::Bounds));
+    assert_eq!(rt;
+        Segment::copy(rt, m, s, 0, s, 8, 8),
+        Err(Refusal::WrongThread)
+    );
+    assert_eq!(rt; s.mismatch(m, s), Err(Refusal::WrongThread));
+}
+
+/// The same through a segment that is read-only.
+pub fn read_of_another<R: Abort + Wait, M: Memory>(rt: &R, m: &mut M, s: &Segment)
+    requires outside { (M.view m.old).inside ≡ None }
+    requires known { IsKnown (M.view m.old) s.now }
+    ensures outside { (M.view m.new).inside ≡ None }
+    ensures known { IsKnown (M.view m.new) s.now }
+{
+    let read = s.as_read_only();
+    let long = Layout::value(ValueKind::Long);
+    assert_eq!(rt;
+        read.set(rt, m, &long, 9, Value::Long(7)),
+        Err(Refusal::ReadOnly)
+    );
+    assert_eq!(rt; read.fill(rt, m, 255), Err(Refusal::ReadOnly));
+    assert_eq!(rt; read.copy_from(rt, m, s), Err(Refusal::ReadOnly));
+    assert_eq!(rt; read.get(m, &long, 0), Err(Refusal::WrongThread));
+}
+
+/// What every memory does with 0 bytes of any arena: no arena is entered.
+pub fn use_no_bytes<R: Abort + Wait, M: Memory>(rt: &R, m: &mut M, s: &Segment)
+    requires outside { (M.view m.old).inside ≡ None }
+    requires known { IsKnown (M.view m.old) s.now }
+    ensures outside { (M.view m.new).inside ≡ None }
+    ensures known { IsKnown (M.view m.new) s.now }
+{
+    let none = Segment::of(s.arena(), s.first(), 0);
+    assert_eq!(rt; none.fill(rt, m, 255), Ok(()));
+    assert_eq!(rt; none.copy_from(rt, m, &none), Ok(()));
+    assert_eq!(rt; none.copy_from(rt, m, s), Err(Refusal::Bounds));
+    assert_eq!(rt; Segment::copy(rt, m, s, 16, s, 16, 0), Ok(()));
+    assert_eq!(rt; none.mismatch(m, s), Ok(0));
+}

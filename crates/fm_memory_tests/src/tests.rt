@@ -1,7 +1,11 @@
-use crate::body::{close_an_arena, use_a_word};
+use crate::body::{close_an_arena, stay_out, use_a_word};
 use crate::braided::Braided;
 use crate::closing::Closing;
-use crate::segments::{copy_until_closed, use_ranges, use_values};
+use crate::fenced::Fenced;
+use crate::handles::{use_a_long_of_another, use_ints, use_longs, use_values_of_another};
+use crate::segments::{
+    copy_until_closed, read_of_another, use_no_bytes, use_of_another, use_ranges, use_values,
+};
 use crate::telling::Telling;
 use fm_base::{Kind, Memory, Refusal};
 use fm_mono::Mono;
@@ -13,15 +17,18 @@ fn one_thread(rt: HostRuntime) {
     close_an_arena(&rt, &mut m);
     use_ranges(&rt, &mut m);
     use_values(&rt, &mut m, 7, 7, -1);
+    use_ints(&rt, &mut m, rt.alloc(), 0, 0);
+    use_longs(&rt, &mut m, rt.alloc(), 0);
 }
 
 #[test]
 fn beside_another_caller(rt: HostRuntime) {
-    let mut m = Braided::new(Mono::make(rt.alloc(), 64));
+    let mut m = Braided::new(Mono::make(rt.alloc(), 64), u64::MAX, 1);
     use_a_word(&rt, &mut m, 1);
     close_an_arena(&rt, &mut m);
     use_ranges(&rt, &mut m);
     use_values(&rt, &mut m, 8, 10, 0);
+    use_longs(&rt, &mut m, rt.alloc(), 1);
 }
 
 #[test]
@@ -31,6 +38,34 @@ fn with_a_history_that_is_told(rt: HostRuntime) {
     close_an_arena(&rt, &mut m);
     use_ranges(&rt, &mut m);
     use_values(&rt, &mut m, 7, 7, -1);
+    use_ints(&rt, &mut m, rt.alloc(), 0, 0);
+    use_longs(&rt, &mut m, rt.alloc(), 0);
+}
+
+/// The other caller comes between the tries of an update, and changes the bytes above the value, or those below it.
+#[test]
+fn beside_a_neighbour_that_changes(rt: HostRuntime) {
+    for (index, step) in [(0, 1 << 32), (1, 1)] {
+        let mut m = Braided::new(Mono::make(rt.alloc(), 64), 0x4444_4444_4444_4444, step);
+        use_ints(&rt, &mut m, rt.alloc(), index, 3);
+    }
+}
+
+/// An arena of another caller, open and closed, beside those of this one.
+#[test]
+fn beside_an_arena_of_another_caller(rt: HostRuntime) {
+    for is_closed in [false, true] {
+        let mut m = Fenced::new(Mono::make(rt.alloc(), 64), is_closed);
+        let s = m.others();
+        use_of_another(&rt, &mut m, &s);
+        read_of_another(&rt, &mut m, &s);
+        use_no_bytes(&rt, &mut m, &s);
+        use_values_of_another(&rt, &mut m, rt.alloc(), &s);
+        use_a_long_of_another(&rt, &mut m, rt.alloc(), &s);
+        stay_out(&rt, &mut m, s.arena());
+        use_a_word(&rt, &mut m, 0);
+        use_ranges(&rt, &mut m);
+    }
 }
 
 #[test]

@@ -1,2 +1,3 @@
+pub mod Handling
 pub mod Staying
 pub mod Tidying

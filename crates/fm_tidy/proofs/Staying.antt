@@ -69,7 +69,7 @@ replaced_past word at width v k h past =
     λ n. ap (λ j. n / 2 ^ j) (sym sum) ∙ sym (shr-shr n (8 * (at + width)) (8 * k - 8 * (at + width))) in
     ap (λ n. n % 256) (split (replaced word at width v) ∙ ap (λ n. n / 2 ^ rest) (replaced_up word at width v h) ∙ sym (split word))
 
-tries_below : (id : ArenaId) (end place width v found : ℕ) (acts : Acts) → v < 2 ^ (8 * width) → place % 8 + width ≤ 8 → place + width ≤ end
+pub tries_below : (id : ArenaId) (end place width v found : ℕ) (acts : Acts) → v < 2 ^ (8 * width) → place % 8 + width ≤ 8 → place + width ≤ end
     → Tries id (place / 8) (λ word. replaced word (place % 8) width v) found acts → ActBelow id end acts
 tries_below id end place width v found acts h fits ends (looked now rest t) = (tt, tries_below id end place width v found rest h fits ends t)
 tries_below id end place width v found acts h fits ends (missed now old new rest n t) = ((λ e. absurd (n e)), tries_below id end place width v found rest h fits ends t)

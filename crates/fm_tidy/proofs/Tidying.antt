@@ -38,10 +38,10 @@ use Rattle.fm_tidy.specs.Accesses.{DoesAccess, gets, sets, sets_at_index, fills,
 use Rattle.fm_tidy.proofs.Staying.{StayBelow, stay_append, stay_reads, stay_puts, tidy_by, tidy_alone}
 
 -- No entry, and a visit that was refused.
-stay_none : (a : ArenaId) (end : ℕ) (own : List Entry) → own ≡ [] → StayBelow a end own
+pub stay_none : (a : ArenaId) (end : ℕ) (own : List Entry) → own ≡ [] → StayBelow a end own
 stay_none a end own e = subst (λ (es : List Entry). StayBelow a end es) (sym e) tt
 
-stay_refused : (a : ArenaId) (end c : ℕ) (id : ArenaId) (own : List Entry) → own ≡ refused_visit c id → StayBelow a end own
+pub stay_refused : (a : ArenaId) (end c : ℕ) (id : ArenaId) (own : List Entry) → own ≡ refused_visit c id → StayBelow a end own
 stay_refused a end c id own e = subst (λ (es : List Entry). StayBelow a end es) (sym e) (tt, tt)
 
 -- ---- reading
@@ -56,7 +56,7 @@ module _ (a : ArenaId) (bound c : ℕ) where
   read_run id end x own answer (goes_on y mine rest s r) =
       stay_append a bound mine rest (stay_reads a bound c id x.at (piece_width x.at end) s.v mine s.piece) (read_run id end y rest answer r)
 
-  get_stays : (id : ArenaId) (t : Tree) (place : Result ℕ Refusal) (result : Result Value Refusal) (own : List Entry) → DoesGetAt c id t place result own → StayBelow a bound own
+  pub get_stays : (id : ArenaId) (t : Tree) (place : Result ℕ Refusal) (result : Result Value Refusal) (own : List Entry) → DoesGetAt c id t place result own → StayBelow a bound own
   get_stays id t (Err e) result own d = stay_none a bound own d.1
   get_stays id (tree.Value k o l) (Ok p) (Ok v) own d = read_run id (p + width_of k) (record { at = p; bytes = [] }) own (Some d.1.bytes) d.1.visits
   get_stays id (tree.Value k o l) (Ok p) (Err WrongThread) own d = stay_none a bound own d.1
@@ -121,7 +121,7 @@ put_run c id bound x own done (goes_on y mine rest s r) are h =
     (stay_puts c id bound x.at (next_width x) (number_of (take (next_width x) x.bytes)) mine (next_fits x.bytes (next_width x) are within) fits (omega arith) s.piece)
     (put_run c id bound y rest done r still (omega arith))
 
-put_stays : (c : ℕ) (id : ArenaId) (bound place : ℕ) (bytes : List ℕ) (result : Result (Unit {0}) Refusal) (own : List Entry) → AreBytes bytes → place + length bytes ≤ bound
+pub put_stays : (c : ℕ) (id : ArenaId) (bound place : ℕ) (bytes : List ℕ) (result : Result (Unit {0}) Refusal) (own : List Entry) → AreBytes bytes → place + length bytes ≤ bound
     → DoesPut c id place bytes result own → StayBelow id bound own
 put_stays c id bound place bytes (Ok u) own are h d = put_run c id bound (record { at = place; bytes = bytes }) own true d.1 are h
 put_stays c id bound place bytes (Err WrongThread) own are h d = stay_none id bound own d.1
@@ -130,7 +130,7 @@ put_stays c id bound place bytes (Err e) own are h d = absurd d
 
 -- ---- a value
 
-value_bytes : (o : Order) (v : Value) → AreBytes (bytes_of_value o v) × (length (bytes_of_value o v) ≡ width_of (kind_of v))
+pub value_bytes : (o : Order) (v : Value) → AreBytes (bytes_of_value o v) × (length (bytes_of_value o v) ≡ width_of (kind_of v))
 value_bytes Little v = (AreBytes-bytes_of (width_of (kind_of v)) (encoded v), length-bytes_of (width_of (kind_of v)) (encoded v))
 value_bytes Big v =
     let bytes = bytes_of (width_of (kind_of v)) (encoded v) in

@@ -1,10 +1,14 @@
+pub mod Asking
 pub mod Causes
 pub mod Chunks
+pub mod Complete
 pub mod FileBytes
 pub mod GivenBytes
 pub mod Holding
 pub mod Numbers
+pub mod OnePlan
 pub mod Outcomes
 pub mod Runs
+pub mod Saying
 pub mod Sums
 pub mod TypeNames

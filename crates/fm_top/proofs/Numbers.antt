@@ -11,7 +11,8 @@ use Rattle.std.proofs.lemmas.Slice.Eq.{bytes_eq-Decides}
 use Rattle.fm_path.specs.Listing.{kind_text}
 use Rattle.fm_top.proofs.TypeNames.{kind_text-injective}
 use Rattle.fm_lanes.specs.declared.value_kind.ValueKind.{ValueKind}
-use Rattle.fm_top.specs.Words.{Sum, Layout, AreFaulty, texts, HasValue, IsSum, IsLayout, five, two}
+use Rattle.fm_top.specs.Options.{AreThreads}
+use Rattle.fm_top.specs.Words.{Sum, Layout, Query, AreFaulty, texts, HasValue, IsSum, IsLayout, IsQuery, five, two}
 
 -- what spells a number is read as that number
 read_spelled : {E : Type 0} (word : List ℕ) (r : Result ℕ E) (n : ℕ) → ParsesUnsigned 64 10 word r → n < 2 ^ 64 → word ≡ decimal n → r ≡ Ok n
@@ -77,11 +78,19 @@ none_summed words other same none size at kind file asks =
 pub none_laid_out : (words other : List (List ℕ)) → words ≡ other → ((file : List ℕ) → IsLayout other file → ⊥) → (file : List ℕ) → IsLayout words file → ⊥
 none_laid_out words other same none file asks = none file (subst (λ (all : List (List ℕ)). IsLayout all file) same asks)
 
--- where words ask for no layout and no sum, they ask for nothing
+-- where words ask for no layout, no query and no sum, they ask for nothing
 pub none_asked : (words : List (List ℕ)) → ((file : List ℕ) → IsLayout words file → ⊥)
+    → ((threads : ℕ) (layout query file : List ℕ) → IsQuery words threads layout query file → ⊥)
     → ((size at : ℕ) (kind : ValueKind) (file : List ℕ) → IsSum words size at kind file → ⊥) → AreFaulty words
-none_asked words no_layout no_sum (Sum size at kind file) asks = no_sum size at kind file asks
-none_asked words no_layout no_sum (Layout file) asks = no_layout file asks
+none_asked words lays_out queries sums (Sum size at kind file) asks = sums size at kind file asks
+none_asked words lays_out queries sums (Layout file) asks = lays_out file asks
+none_asked words lays_out queries sums (Query threads layout query file) asks = queries threads layout query file asks
+
+-- a word spells a number of threads that may not be asked for, so it spells none that may
+pub no_threads : (word : List ℕ) (n : ℕ) → word ≡ decimal n → n < 2 ^ 64 → (1 ≤ n → n ≤ 16 → ⊥) → (m : ℕ) → AreThreads m → word ≡ decimal m → ⊥
+no_threads word n is small not m are spelled =
+    let same : m ≡ n = decimal_injective m n (omega (arith, are.few)) small (sym spelled ∙ is) in
+    not (subst (λ (k : ℕ). 1 ≤ k) same are.some) (subst (λ (k : ℕ). k ≤ 16) same are.few)
 
 -- what is known where nothing was found
 pub on_none : {A P Q : Type 0} (r : Option A) → (P → Q) → IfNone r P → IfNone r Q

@@ -1,108 +1,81 @@
 -- Which outcome a request has.
-use Rattle.std.proofs.Common.{◌≡◌, ℕ, suc, ◌<◌, List, length, replicate, Option, None, Some, IfSome, cond, true, ap, sym, ◌∙◌, subst, refl, arith}
+use Rattle.std.proofs.Common.{◌≡◌, ◌≢◌, ◌⊎◌, inl, inr, ℕ, suc, ◌<◌, List, length, replicate, Option, None, Some, true, sym, ◌∙◌, subst, refl, arith}
 use Rattle.std.proofs.lemmas.List.{length-replicate}
-use Rattle.std.specs.Prelude.{IsSomeAnd, nat_lt}
-use Rattle.std.specs.Ordering.{nat_cmp}
-use Rattle.std.specs.Cmp.Lexicographic.{slice_cmp, nat_list_cmp_total}
-use Rattle.std.specs.FinMap.{empty, insert, get-empty, get-insert}
-use Rattle.std.specs.Str.{bytes_eq}
+use Rattle.std.specs.Prelude.{IsSomeAnd, nat_lt, Result, Ok, Err, IfOk}
 use Rattle.std.proofs.lemmas.Bool.Decides.{Decides-ltb}
-use Rattle.std.proofs.lemmas.Map.Text.{is_eq-slice_cmp}
-use Rattle.std.proofs.lemmas.Slice.Eq.{bytes_eq-Decides}
 use Rattle.fm_io.specs.Files.{Contents, file_of, IsAbsent}
 use Rattle.fm_lanes.specs.declared.value_kind.ValueKind.{ValueKind}
-use Rattle.fm_top.specs.Outcome.{Outcome, outcome_of, sum_outcome, sum_of_file, layout_outcome, layout_of_file, missing, too_long, record_file_limit, layout_file_limit}
-use Rattle.fm_top.specs.Run.{HasOutcome, over}
+use Rattle.fm_layout.specs.Tree.{Tree}
+use Rattle.fm_base.specs.declared.refusal.Refusal.{Refusal}
+use Rattle.fm_base.specs.declared.refusal.Refusal.TheVariants.{Memory}
+use Rattle.fm_query.specs.Parsed.{IsParsed, IsNoQuery}
+use Rattle.fm_query.specs.Plan.{Plan}
+use Rattle.fm_records.specs.Answers.{answer}
+use Rattle.fm_records.specs.Texts.{answer_text}
+use Rattle.fm_top.specs.Found.{IsFound, OfFound}
+use Rattle.fm_top.specs.Outcome.{Outcome, of_records, sum_outcome, sum_of_file, layout_of_file, missing, too_long, layout_refused, query_refused, record_file_limit, layout_file_limit}
+use Rattle.fm_top.specs.Queries.{IsRecordLayout, IsLayoutRefused, TextEnds, text_refused, answered_by, LayoutEnds, over_limit, no_layout, over_layout, answer_outcome}
+use Rattle.fm_top.specs.Run.{HasOutcome, EndsBy}
 use Rattle.fm_top.specs.Whole.{IsWhole, IsOver}
-use Rattle.fm_top.specs.Words.{Request, Sum, Layout}
+use Rattle.fm_top.specs.Words.{Request, Sum, Layout, Query, first_file, last_file}
 
--- there are files where the name has these bytes
-with_file : (name bytes : List ℕ) → (contents : Contents) × (file_of contents name ≡ Some bytes)
-with_file name bytes =
-    let same : bytes_eq name name ≡ true = (bytes_eq-Decides name name).1 refl in (
-      insert empty name bytes,
-      get-insert nat_list_cmp_total empty name bytes name
-          ∙ ap (λ b. cond b (Some bytes) (file_of empty name)) (is_eq-slice_cmp name name ∙ same),
-    )
+-- ---- what is found
 
--- there are files where the name is missing
-without_file : (name : List ℕ) → (contents : Contents) × (file_of contents name ≡ None)
-without_file name = (empty, get-empty (slice_cmp nat_cmp) name)
+-- something is found under every name, or nothing
+pub some_found : (told : Option Contents) (name : List ℕ) → (found : Option (List ℕ)) × IsFound told name found
+some_found None name = (None, tt)
+some_found (Some held) name = (file_of held name, refl)
 
 -- there are lists of every length
 long_list : (n : ℕ) → (bytes : List ℕ) × (n < length bytes)
 long_list n = (replicate (suc n) 0, omega (arith, length-replicate {A = ℕ} (suc n) 0))
 
--- over contents that are those told, the outcome is theirs
-by_contents : (request : Request) (told : Option Contents) (contents : Contents) (o : Outcome)
-    → IfSome told (λ held. contents ≡ held) → outcome_of request contents ≡ o → HasOutcome request told o
-by_contents request told contents o held is =
-    subst (λ (x : Outcome). HasOutcome request told x) is (over contents held)
+long_of : (limit : ℕ) (found : Option (List ℕ)) → IsSomeAnd found (λ bytes. limit < length bytes) → (bytes : List ℕ) × (found ≡ Some bytes) × (limit < length bytes)
+long_of limit None long = absurd long
+long_of limit (Some bytes) long = (bytes, refl, long)
 
--- the request ends by what is found under the name
-abbrev EndsBy : Request → List ℕ → (Option (List ℕ) → Outcome) → Type 0
-EndsBy request name ends = (contents : Contents) → outcome_of request contents ≡ ends (file_of contents name)
+-- a file over the limit is found
+pub long_found : (told : Option Contents) (name : List ℕ) (limit : ℕ) → IsOver told name limit → (bytes : List ℕ) × IsFound told name (Some bytes) × (limit < length bytes)
+long_found None name limit long = let made = long_list limit in (made.0, tt, made.1)
+long_found (Some held) name limit long = long_of limit (file_of held name) long
 
--- a file of these bytes was found
-found_whole : (request : Request) (name bytes : List ℕ) (ends : Option (List ℕ) → Outcome) (told : Option Contents) (o : Outcome)
-    → EndsBy request name ends → IsWhole told name bytes → o ≡ ends (Some bytes) → HasOutcome request told o
-found_whole request name bytes ends None o by whole is =
-    let made = with_file name bytes in
-    by_contents request None made.0 o tt (by made.0 ∙ ap ends made.1 ∙ sym is)
-found_whole request name bytes ends (Some held) o by whole is =
-    by_contents request (Some held) held o refl (by held ∙ ap ends whole ∙ sym is)
+-- a request that ends by what is found first, whatever is found last
+by_first : (request : Request) (told : Option Contents) (first : Option (List ℕ)) (o : Outcome) → IsFound told (first_file request) first
+    → ((last : Option (List ℕ)) → EndsBy request first last o) → HasOutcome request told o
+by_first request told first o is ends =
+    let last = some_found told (last_file request) in
+    (first, is, (last.0, last.1, ends last.0))
 
--- no file was found
-found_absent : (request : Request) (name : List ℕ) (ends : Option (List ℕ) → Outcome) (told : Option Contents) (o : Outcome)
-    → EndsBy request name ends → IsAbsent told name → o ≡ ends None → HasOutcome request told o
-found_absent request name ends None o by absent is =
-    let made = without_file name in
-    by_contents request None made.0 o tt (by made.0 ∙ ap ends made.1 ∙ sym is)
-found_absent request name ends (Some held) o by absent is =
-    by_contents request (Some held) held o refl (by held ∙ ap ends absent ∙ sym is)
-
-long_found : (limit : ℕ) (ends : Option (List ℕ) → Outcome) (found : Option (List ℕ)) → ((bytes : List ℕ) → limit < length bytes → ends (Some bytes) ≡ too_long)
-    → IsSomeAnd found (λ file. limit < length file) → ends found ≡ too_long
-long_found limit ends None past long = absurd long
-long_found limit ends (Some bytes) past long = past bytes long
-
--- a file over the limit was found
-found_over : (request : Request) (name : List ℕ) (limit : ℕ) (ends : Option (List ℕ) → Outcome) (told : Option Contents) (o : Outcome)
-    → EndsBy request name ends → ((bytes : List ℕ) → limit < length bytes → ends (Some bytes) ≡ too_long) → IsOver told name limit → o ≡ too_long → HasOutcome request told o
-found_over request name limit ends None o by past long is =
-    let bytes = long_list limit in
-    let made = with_file name bytes.0 in
-    by_contents request None made.0 o tt (by made.0 ∙ ap ends made.1 ∙ past bytes.0 bytes.1 ∙ sym is)
-found_over request name limit ends (Some held) o by past long is =
-    by_contents request (Some held) held o refl (by held ∙ long_found limit ends (file_of held name) past long ∙ sym is)
+-- the outcome over a file of records that is over the limit
+pub long_records : (size : ℕ) (text bytes : List ℕ) → record_file_limit < length bytes → of_records size text bytes ≡ too_long
+long_records size text bytes long =
+    let test : nat_lt record_file_limit (length bytes) ≡ true = (Decides-ltb record_file_limit (length bytes)).1 long in
+    rw test refl
 
 -- ---- sums
 
 pub outcome-whole : (size at : ℕ) (kind : ValueKind) (name bytes : List ℕ) (told : Option Contents) (o : Outcome)
     → IsWhole told name bytes → o ≡ sum_of_file size at kind bytes → HasOutcome (Sum size at kind name) told o
-outcome-whole size at kind name bytes told o = found_whole (Sum size at kind name) name bytes (sum_outcome size at kind name) told o (λ contents. refl)
+outcome-whole size at kind name bytes told o whole is = by_first (Sum size at kind name) told (Some bytes) o whole (λ last. is)
 
 pub outcome-absent : (size at : ℕ) (kind : ValueKind) (name : List ℕ) (told : Option Contents) (o : Outcome)
     → IsAbsent told name → o ≡ missing name → HasOutcome (Sum size at kind name) told o
-outcome-absent size at kind name told o = found_absent (Sum size at kind name) name (sum_outcome size at kind name) told o (λ contents. refl)
-
-over_limit : (size at : ℕ) (kind : ValueKind) (bytes : List ℕ) → record_file_limit < length bytes → sum_of_file size at kind bytes ≡ too_long
-over_limit size at kind bytes long =
-    let test : nat_lt record_file_limit (length bytes) ≡ true = (Decides-ltb record_file_limit (length bytes)).1 long in
-    rw test refl
+outcome-absent size at kind name told o absent is = by_first (Sum size at kind name) told None o absent (λ last. is)
 
 pub outcome-over : (size at : ℕ) (kind : ValueKind) (name : List ℕ) (told : Option Contents) (o : Outcome)
     → IsOver told name record_file_limit → o ≡ too_long → HasOutcome (Sum size at kind name) told o
-outcome-over size at kind name told o =
-    found_over (Sum size at kind name) name record_file_limit (sum_outcome size at kind name) told o (λ contents. refl) (over_limit size at kind)
+outcome-over size at kind name told o over is =
+    let long = long_found told name record_file_limit over in
+    let ends : sum_outcome size at kind name (Some long.0) ≡ too_long = long_records size _ long.0 long.2 in
+    by_first (Sum size at kind name) told (Some long.0) o long.1 (λ last. is ∙ sym ends)
 
 -- ---- layouts
 
 pub layout-whole : (name bytes : List ℕ) (told : Option Contents) (o : Outcome) → IsWhole told name bytes → o ≡ layout_of_file bytes → HasOutcome (Layout name) told o
-layout-whole name bytes told o = found_whole (Layout name) name bytes (layout_outcome name) told o (λ contents. refl)
+layout-whole name bytes told o whole is = by_first (Layout name) told (Some bytes) o whole (λ last. is)
 
 pub layout-absent : (name : List ℕ) (told : Option Contents) (o : Outcome) → IsAbsent told name → o ≡ missing name → HasOutcome (Layout name) told o
-layout-absent name told o = found_absent (Layout name) name (layout_outcome name) told o (λ contents. refl)
+layout-absent name told o absent is = by_first (Layout name) told None o absent (λ last. is)
 
 long_layout : (bytes : List ℕ) → layout_file_limit < length bytes → layout_of_file bytes ≡ too_long
 long_layout bytes long =
@@ -110,4 +83,65 @@ long_layout bytes long =
     rw test refl
 
 pub layout-over : (name : List ℕ) (told : Option Contents) (o : Outcome) → IsOver told name layout_file_limit → o ≡ too_long → HasOutcome (Layout name) told o
-layout-over name told o = found_over (Layout name) name layout_file_limit (layout_outcome name) told o (λ contents. refl) long_layout
+layout-over name told o over is =
+    let long = long_found told name layout_file_limit over in
+    by_first (Layout name) told (Some long.0) o long.1 (λ last. is ∙ sym (long_layout long.0 long.2))
+
+-- ---- queries
+
+-- the layout's file was read, and then the record file, of which the files still tell the same
+pub query-whole : (threads : ℕ) (layout text file bytes : List ℕ) (told later : Option Contents) (o : Outcome) → IsWhole told layout bytes → later ≡ told
+    → OfFound later file (λ found. LayoutEnds bytes text file found o) → HasOutcome (Query threads layout text file) told o
+query-whole threads layout text file bytes told later o whole held ends =
+    (Some bytes, whole, subst (λ (x : Option Contents). OfFound x file (λ found. LayoutEnds bytes text file found o)) held ends)
+
+pub query-absent : (threads : ℕ) (layout text file : List ℕ) (told : Option Contents) (o : Outcome) → IsAbsent told layout → o ≡ missing layout
+    → HasOutcome (Query threads layout text file) told o
+query-absent threads layout text file told o absent is = by_first (Query threads layout text file) told None o absent (λ last. is)
+
+pub query-over : (threads : ℕ) (layout text file : List ℕ) (told : Option Contents) (o : Outcome) → IsOver told layout layout_file_limit → o ≡ too_long
+    → HasOutcome (Query threads layout text file) told o
+query-over threads layout text file told o over is =
+    let long = long_found told layout layout_file_limit over in
+    by_first (Query threads layout text file) told (Some long.0) o long.1
+    (λ last. subst (λ (x : Outcome). LayoutEnds long.0 text file last x) (sym is) (over_limit long.2))
+
+-- what an outcome of all that may be found is, is one of what is found
+pub some_end : (told : Option Contents) (name : List ℕ) (P : Option (List ℕ) → Type 0) → ((found : Option (List ℕ)) → P found) → OfFound told name P
+some_end told name P each = let found = some_found told name in (found.0, found.1, each found.0)
+
+-- the record file was found too long
+pub answer-over : (p : Plan) (file : List ℕ) (told : Option Contents) (o : Outcome) → IsOver told file record_file_limit → o ≡ too_long
+    → OfFound told file (λ found. o ≡ answer_outcome p file found)
+answer-over p file told o over is =
+    let long = long_found told file record_file_limit over in
+    (Some long.0, long.1, is ∙ sym (long_records p.size (answer_text p (answer p long.0)) long.0 long.2))
+
+-- an end over a layout is one over its file
+pub over-layout : (told : Option Contents) (bytes text file : List ℕ) (t : Tree) (o : Outcome) → IsRecordLayout bytes t
+    → OfFound told file (λ found. TextEnds text t file found o) → OfFound told file (λ found. LayoutEnds bytes text file found o)
+over-layout told bytes text file t o is ends = (ends.0, ends.1, over_layout t is o ends.2)
+
+-- an answer is an end of its text
+pub by-answer : (told : Option Contents) (text file : List ℕ) (t : Tree) (p : Plan) (o : Outcome) → IsParsed text t p
+    → OfFound told file (λ found. o ≡ answer_outcome p file found) → OfFound told file (λ found. TextEnds text t file found o)
+by-answer told text file t p o parsed ends =
+    (ends.0, ends.1, subst (λ (x : Outcome). TextEnds text t file ends.0 x) (sym ends.2) (answered_by p parsed))
+
+pub refused-text : (told : Option Contents) (text file : List ℕ) (t : Tree) (e : Refusal) (o : Outcome) → IsNoQuery text t e → e ≢ Memory → o ≡ query_refused e
+    → OfFound told file (λ found. TextEnds text t file found o)
+refused-text told text file t e o denied other is =
+    some_end told file (λ found. TextEnds text t file found o)
+    (λ found. subst (λ (x : Outcome). TextEnds text t file found x) (sym is) (text_refused e (record { no_query = denied; refused = other })))
+
+pub refused-layout : (told : Option Contents) (bytes text file : List ℕ) (e : Refusal) (o : Outcome) → IsLayoutRefused bytes e ⊎ (e ≡ Memory) → e ≢ Memory → o ≡ layout_refused e
+    → OfFound told file (λ found. LayoutEnds bytes text file found o)
+refused-layout told bytes text file e o (inr memory) other is = absurd (other memory)
+refused-layout told bytes text file e o (inl denied) other is =
+    some_end told file (λ found. LayoutEnds bytes text file found o)
+    (λ found. subst (λ (x : Outcome). LayoutEnds bytes text file found x) (sym is) (no_layout e denied))
+
+-- what follows of two clauses of an answer
+pub both_ok : {T E : Type 0} (r : Result T E) (P Q R : T → Type 0) → ((x : T) → P x → Q x → R x) → IfOk r P → IfOk r Q → IfOk r R
+both_ok (Ok x) P Q R f p q = f x p q
+both_ok (Err e) P Q R f p q = tt

@@ -1,32 +1,37 @@
 -- How runs end.
-use Rattle.std.proofs.Common.{◌≡◌, ◌≢◌, ℕ, ◌%◌, List, length, Option, None, Some, Result, Ok, Err, IfErr, Bool, true, false, refl, sym, ap, subst, ◌∙◌, ◌⊎◌, inl, inr, arith, append-nil}
+use Rattle.std.proofs.Common.{◌≡◌, ℕ, ◌%◌, List, length, Option, None, Some, Result, Ok, Err, IfErr, Bool, true, false, refl, sym, ap, subst, ◌∙◌, inl, inr}
 use Rattle.std.specs.Prelude.{nat_lt, ◌==◌, if◌then◌else◌}
-use Rattle.std.specs.FinMap.{empty}
 use Rattle.fm_base.specs.declared.refusal.Refusal.{Refusal}
 use Rattle.fm_io.specs.Count.{Rose}
-use Rattle.fm_io.specs.Files.{Contents, file_of}
-use Rattle.fm_io.specs.Sink.{AppendsPrefix}
+use Rattle.fm_io.specs.Files.{Contents}
 use Rattle.fm_lanes.specs.declared.value_kind.ValueKind.{ValueKind}
 use Rattle.fm_layout.specs.Tree.{Tree}
 use Rattle.fm_ljson.specs.Answer.{layout_of_json}
-use Rattle.fm_top.specs.Outcome.{Outcome, outcome_of, sum_outcome, sum_text, layout_outcome, listing, layout_file_limit, usage, too_long, answered, ragged, record_file_limit}
-use Rattle.fm_top.specs.Run.{HasOutcome, over, IsOutcome, faulty, asked, Traces, Ends, whole, unread, unwritten, no_memory, Stops, Prints, printed, failed, stopped, Runs, code_of, EndsWith}
-use Rattle.fm_top.specs.Words.{Request, Sum, Layout, Asks, CanBeAsked, AreFaulty}
+use Rattle.fm_query.specs.Plan.{Plan}
+use Rattle.fm_records.specs.Answers.{answer}
+use Rattle.fm_records.specs.Texts.{answer_text}
+use Rattle.fm_top.specs.Options.{AreThreads}
+use Rattle.fm_top.specs.Outcome.{Outcome, of_records, sum_outcome, sum_text, layout_outcome, listing, layout_file_limit, too_long, answered, ragged, record_file_limit}
+use Rattle.fm_top.specs.Queries.{TextEnds, text_refused, answered_by, LayoutEnds, over_limit, no_layout, over_layout, QueryEnds, answer_outcome}
+use Rattle.fm_top.specs.Run.{EndsBy, HasOutcome, IsOutcome, faulty, asked, Traces, Prints, printed, failed, stopped, Runs, whole, unread, unwritten, no_memory, unknown, code_of, EndsWith}
+use Rattle.fm_top.specs.Words.{Request, Sum, Layout, Query, Asks, CanBeAsked, AreFaulty, three}
 use Rattle.fm_top.specs.declared.status.Status.{Status}
 use Rattle.fm_top.specs.declared.status.Status.TheVariants.{Answered, Usage, Missing, Unread, LayoutRefused, QueryRefused, Ragged, TooLong, Unwritten, NoMemory, ScriptRefused}
-use Rattle.fm_top.specs.declared.stop.Stop.{Stop}
-use Rattle.fm_top.specs.declared.stop.Stop.TheVariants.{Failed, Memory}
+use Rattle.fm_top.proofs.Saying.{threads_said}
 
 -- what words ask for can be asked
 pub can_be_asked : (words : List (List ℕ)) (request : Request) → Asks words request → CanBeAsked request
 can_be_asked words (Sum size at kind file) asks = asks.has_value
 can_be_asked words (Layout file) asks = tt
+can_be_asked words (Query threads layout query file) asks =
+    subst AreThreads (sym asks.threads_are) (threads_said asks.behind asks.option (three layout query file) asks.says)
 
 -- the statuses of a request's outcome
 abbrev IsEarly : Status → Type 0
 IsEarly Answered = Unit {0}
 IsEarly Missing = Unit {0}
 IsEarly LayoutRefused = Unit {0}
+IsEarly QueryRefused = Unit {0}
 IsEarly Ragged = Unit {0}
 IsEarly TooLong = Unit {0}
 IsEarly other = ⊥
@@ -39,16 +44,17 @@ IsLate NoMemory = Unit {0}
 IsLate other = ⊥
 
 -- the status of a file that is cut into records
-cut_status : (long even : Bool) (size at : ℕ) (kind : ValueKind) (bytes text : List ℕ) (rest : ℕ)
-    → IsEarly (if long then too_long else if even then answered text else ragged rest).status
-cut_status true even size at kind bytes text rest = tt
-cut_status false true size at kind bytes text rest = tt
-cut_status false false size at kind bytes text rest = tt
+cut_status : (long even : Bool) (text : List ℕ) (rest : ℕ) → IsEarly (if long then too_long else if even then answered text else ragged rest).status
+cut_status true even text rest = tt
+cut_status false true text rest = tt
+cut_status false false text rest = tt
+
+records_status : (size : ℕ) (text bytes : List ℕ) → IsEarly (of_records size text bytes).status
+records_status size text bytes = cut_status (nat_lt record_file_limit (length bytes)) (length bytes % size == 0) text (length bytes % size)
 
 sum_status : (size at : ℕ) (kind : ValueKind) (name : List ℕ) (found : Option (List ℕ)) → IsEarly (sum_outcome size at kind name found).status
 sum_status size at kind name None = tt
-sum_status size at kind name (Some bytes) =
-    cut_status (nat_lt record_file_limit (length bytes)) (length bytes % size == 0) size at kind bytes (sum_text size at kind bytes) (length bytes % size)
+sum_status size at kind name (Some bytes) = records_status size (sum_text size at kind bytes) bytes
 
 -- the status of a layout's file
 listed_status : (long : Bool) (r : Result Tree Refusal) → IsEarly (if long then too_long else listing r).status
@@ -60,35 +66,32 @@ layout_status : (name : List ℕ) (found : Option (List ℕ)) → IsEarly (layou
 layout_status name None = tt
 layout_status name (Some bytes) = listed_status (nat_lt layout_file_limit (length bytes)) (layout_of_json bytes)
 
+-- the status of a query
+answer_status : (p : Plan) (name : List ℕ) (found : Option (List ℕ)) → IsEarly (answer_outcome p name found).status
+answer_status p name None = tt
+answer_status p name (Some bytes) = records_status p.size (answer_text p (answer p bytes)) bytes
+
+text_status : (text : List ℕ) (t : Tree) (file : List ℕ) (found : Option (List ℕ)) (o : Outcome) → TextEnds text t file found o → IsEarly o.status
+text_status text t file found o (text_refused e refused) = tt
+text_status text t file found o (answered_by p parsed) = answer_status p file found
+
+bytes_status : (bytes text file : List ℕ) (found : Option (List ℕ)) (o : Outcome) → LayoutEnds bytes text file found o → IsEarly o.status
+bytes_status bytes text file found o (over_limit long) = tt
+bytes_status bytes text file found o (no_layout e refused) = tt
+bytes_status bytes text file found o (over_layout t is x ends) = text_status text t file found x ends
+
+query_status : (layout text file : List ℕ) (first last : Option (List ℕ)) (o : Outcome) → QueryEnds layout text file first last o → IsEarly o.status
+query_status layout text file None last o is = subst (λ (x : Outcome). IsEarly x.status) (sym is) tt
+query_status layout text file (Some bytes) last o ends = bytes_status bytes text file last o ends
+
 -- a request's outcome has one of its statuses
-request_status : (request : Request) (contents : Contents) → IsEarly (outcome_of request contents).status
-request_status (Sum size at kind file) contents = sum_status size at kind file (file_of contents file)
-request_status (Layout file) contents = layout_status file (file_of contents file)
+end_status : (request : Request) (first last : Option (List ℕ)) (o : Outcome) → EndsBy request first last o → IsEarly o.status
+end_status (Sum size at kind file) first last o is = subst (λ (x : Outcome). IsEarly x.status) (sym is) (sum_status size at kind file first)
+end_status (Layout file) first last o is = subst (λ (x : Outcome). IsEarly x.status) (sym is) (layout_status file first)
+end_status (Query threads layout query file) first last o ends = query_status layout query file first last o ends
 
--- what a request stops with when a read failed isn't usage
-not_usage : (request : Request) (contents : Contents) → (outcome_of request contents).status ≢ Usage
-not_usage request contents is = subst IsEarly is (request_status request contents)
-
--- words that ask for something have an outcome, whatever hinders the answer
-pub stops-asked : (words : List (List ℕ)) (told : Option Contents) (request : Request) (stop : Stop) → Asks words request → Stops words told stop
-stops-asked words None request stop asks = record {
-  outcome = outcome_of request empty;
-  is_outcome = asked request (outcome_of request empty) asks (over empty tt);
-  asked = λ reads. not_usage request empty;
-}
-stops-asked words (Some held) request stop asks = record {
-  outcome = outcome_of request held;
-  is_outcome = asked request (outcome_of request held) asks (over held refl);
-  asked = λ reads. not_usage request held;
-}
-
--- so have words that ask for nothing, where no read failed
-pub stops-faulty : (words : List (List ℕ)) (told : Option Contents) → AreFaulty words → Stops words told Memory
-stops-faulty words told none = record {
-  outcome = usage;
-  is_outcome = faulty none;
-  asked = λ reads. cc;
-}
+request_status : (request : Request) (told : Option Contents) (o : Outcome) → HasOutcome request told o → IsEarly o.status
+request_status request told o has = end_status request has.0 has.2.0 o has.2.2
 
 -- what holds of every error holds of an error
 pub on_every_err : {T E : Type 0} (r : Result T E) (P : E → Type 0) → ((e : E) → P e) → IfErr r P
@@ -98,24 +101,9 @@ on_every_err (Err e) P each = each e
 -- what is printed of an outcome that the words have is a run of them
 pub runs-printed : (words : List (List ℕ)) (told : Option Contents) (t : Traces) (o : Outcome) (status : Status)
     → IsOutcome words told o → Prints o t.writes_before t.writes_failed t.before t.after status → Runs words told t status
-runs-printed words told t o status is (printed all) = record { outcome = o; is_outcome = is; ends = whole all }
-runs-printed words told t o status is (failed rose front) = record { outcome = o; is_outcome = is; ends = unwritten rose front }
-runs-printed words told t o status is (stopped front) = record { outcome = o; is_outcome = is; ends = no_memory front }
-
--- nothing is a prefix of every text
-nothing : (before after : Option (List ℕ)) (text : List ℕ) → after ≡ before → AppendsPrefix before after text
-nothing None after text same = (0, omega arith, same)
-nothing (Some written) after text same = (0, omega arith, same ∙ ap Some (sym (append-nil written)))
-
--- a failed read stops the run before it writes
-pub runs-unread : (words : List (List ℕ)) (told : Option Contents) (t : Traces) → Stops words told Failed
-    → Rose t.reads_before t.reads_failed → t.after ≡ t.before → Runs words told t Unread
-runs-unread words told t stops rose same = record { outcome = stops.outcome; is_outcome = stops.is_outcome; ends = unread (stops.asked refl) rose same }
-
--- so does want of memory
-pub runs-stopped : (words : List (List ℕ)) (told : Option Contents) (t : Traces) → Stops words told Memory
-    → t.after ≡ t.before → Runs words told t NoMemory
-runs-stopped words told t stops same = record { outcome = stops.outcome; is_outcome = stops.is_outcome; ends = no_memory (nothing t.before t.after stops.outcome.text same) }
+runs-printed words told t o status is (printed all) = whole o is all
+runs-printed words told t o status is (failed rose front) = unwritten o is rose front
+runs-printed words told t o status is (stopped front) = no_memory o is front
 
 -- ---- which status means what
 
@@ -143,13 +131,6 @@ status_of-code_of ScriptRefused = refl
 pub code_of-injective : (r s : Status) → code_of r ≡ code_of s → r ≡ s
 code_of-injective r s same = sym (status_of-code_of r) ∙ ap status_of same ∙ status_of-code_of s
 
--- where the whole text was written, the status is the outcome's
-whole_status : (o : Outcome) (t : Traces) (status : Status) → Ends o t status → (status ≡ o.status) ⊎ (IsLate status)
-whole_status o t status (whole all) = inl refl
-whole_status o t status (unread asks rose same) = inr tt
-whole_status o t status (unwritten rose front) = inr tt
-whole_status o t status (no_memory front) = inr tt
-
 -- a request's outcome doesn't come of a fault
 early : (s : Status) → IsEarly s → IsLate s → ⊥
 early Answered early_one late = late
@@ -164,62 +145,64 @@ early Unwritten early_one late = early_one
 early NoMemory early_one late = early_one
 early ScriptRefused early_one late = late
 
-request_early : (request : Request) (told : Option Contents) (o : Outcome) → HasOutcome request told o → IsLate o.status → ⊥
-request_early request told o (over contents held) late = early (outcome_of request contents).status (request_status request contents) late
-
 outcome_early : (words : List (List ℕ)) (told : Option Contents) (o : Outcome) → IsOutcome words told o → IsLate o.status → ⊥
 outcome_early words told o (faulty none) late = late
-outcome_early words told o (asked request x asks has) late = request_early request told o has late
+outcome_early words told o (asked request x asks has) late = early o.status (request_status request told o has) late
 
 -- what comes of a failed read
-unread_rose : (o : Outcome) (t : Traces) (s : Status) → (IsLate o.status → ⊥) → Ends o t s → s ≡ Unread → Rose t.reads_before t.reads_failed
-unread_rose o t s not_late (whole all) is = absurd (not_late (subst IsLate (sym is) tt))
-unread_rose o t s not_late (unread asks rose same) is = rose
-unread_rose o t s not_late (unwritten rose front) is = absurd (cc)
-unread_rose o t s not_late (no_memory front) is = absurd (cc)
-
 pub only_unread : (words : List (List ℕ)) (told : Option Contents) (t : Traces) (s : Status) → Runs words told t s → s ≡ Unread → Rose t.reads_before t.reads_failed
-only_unread words told t s runs is = unread_rose runs.outcome t s (outcome_early words told runs.outcome runs.is_outcome) runs.ends is
+only_unread words told t s (whole o is_outcome all) is = absurd (outcome_early words told o is_outcome (subst IsLate (sym is) tt))
+only_unread words told t s (unread asks rose same) is = rose
+only_unread words told t s (unwritten o is_outcome rose front) is = absurd (cc)
+only_unread words told t s (no_memory o is_outcome front) is = absurd (cc)
+only_unread words told t s (unknown same) is = absurd (cc)
 
 -- what comes of a failed write
-unwritten_rose : (o : Outcome) (t : Traces) (s : Status) → (IsLate o.status → ⊥) → Ends o t s → s ≡ Unwritten → Rose t.writes_before t.writes_failed
-unwritten_rose o t s not_late (whole all) is = absurd (not_late (subst IsLate (sym is) tt))
-unwritten_rose o t s not_late (unread asks rose same) is = absurd (cc)
-unwritten_rose o t s not_late (unwritten rose front) is = rose
-unwritten_rose o t s not_late (no_memory front) is = absurd (cc)
-
 pub only_unwritten : (words : List (List ℕ)) (told : Option Contents) (t : Traces) (s : Status) → Runs words told t s → s ≡ Unwritten → Rose t.writes_before t.writes_failed
-only_unwritten words told t s runs is = unwritten_rose runs.outcome t s (outcome_early words told runs.outcome runs.is_outcome) runs.ends is
+only_unwritten words told t s (whole o is_outcome all) is = absurd (outcome_early words told o is_outcome (subst IsLate (sym is) tt))
+only_unwritten words told t s (unread asks rose same) is = absurd (cc)
+only_unwritten words told t s (unwritten o is_outcome rose front) is = rose
+only_unwritten words told t s (no_memory o is_outcome front) is = absurd (cc)
+only_unwritten words told t s (unknown same) is = absurd (cc)
+
+-- The words have an outcome of this status.
+pub record HasStatus (words : List (List ℕ)) (told : Option Contents) (s : Status) : Type 0 where
+  pub outcome : Outcome
+  pub is_outcome : IsOutcome words told outcome
+  pub status_is : outcome.status ≡ s
 
 -- a status that comes of no fault is the outcome's
-pub outcome_status : (words : List (List ℕ)) (told : Option Contents) (t : Traces) (s : Status) → (runs : Runs words told t s) → (IsLate s → ⊥) → s ≡ runs.outcome.status
-outcome_status words told t s runs not_late =
-    elim (whole_status runs.outcome t s runs.ends) [ inl same ↦ same | inr late ↦ absurd (not_late late) ]
+pub outcome_status : (words : List (List ℕ)) (told : Option Contents) (t : Traces) (s : Status) → Runs words told t s → (IsLate s → ⊥) → HasStatus words told s
+outcome_status words told t s (whole o is_outcome all) not_late = record { outcome = o; is_outcome = is_outcome; status_is = refl }
+outcome_status words told t s (unread asks rose same) not_late = absurd (not_late tt)
+outcome_status words told t s (unwritten o is_outcome rose front) not_late = absurd (not_late tt)
+outcome_status words told t s (no_memory o is_outcome front) not_late = absurd (not_late tt)
+outcome_status words told t s (unknown same) not_late = absurd (not_late tt)
+
+-- a status is one that comes of no fault
+pub with_status : (words : List (List ℕ)) (told : Option Contents) (t : Traces) (s r : Status) → Runs words told t s → s ≡ r → (IsLate r → ⊥) → HasStatus words told r
+with_status words told t s r runs is not_late =
+    subst (λ (x : Status). HasStatus words told x) is (outcome_status words told t s runs (λ late. not_late (subst IsLate is late)))
 
 -- usage comes of words that ask for nothing
-request_not_usage : (request : Request) (told : Option Contents) (o : Outcome) → HasOutcome request told o → o.status ≢ Usage
-request_not_usage request told o (over contents held) is = not_usage request contents is
-
 usage_faulty : (words : List (List ℕ)) (told : Option Contents) (o : Outcome) → IsOutcome words told o → o.status ≡ Usage → AreFaulty words
 usage_faulty words told o (faulty none) is = none
-usage_faulty words told o (asked request x asks has) is = absurd (request_not_usage request told o has is)
+usage_faulty words told o (asked request x asks has) is = absurd (subst IsEarly is (request_status request told o has))
 
 pub only_usage : (words : List (List ℕ)) (told : Option Contents) (t : Traces) (s : Status) → Runs words told t s → s ≡ Usage → AreFaulty words
 only_usage words told t s runs is =
-    usage_faulty words told runs.outcome runs.is_outcome (sym (outcome_status words told t s runs (λ late. subst IsLate is late)) ∙ is)
+    let has = with_status words told t s Usage runs is (λ late. late) in
+    usage_faulty words told has.outcome has.is_outcome has.status_is
 
 -- words that ask for nothing have no other outcome than usage
 faulty_outcome : (words : List (List ℕ)) (told : Option Contents) (o : Outcome) → AreFaulty words → IsOutcome words told o → o.status ≡ Usage
 faulty_outcome words told o none (faulty same) = refl
 faulty_outcome words told o none (asked request x asks has) = absurd (none request asks)
 
-ends_usage : (o : Outcome) (t : Traces) (s : Status) (code : ℕ) → o.status ≡ Usage → Ends o t s → code ≡ code_of s → EndsWith Usage code
-ends_usage o t s code is (whole all) same = inl (same ∙ ap code_of is)
-ends_usage o t s code is (unread asks rose kept) same = absurd (asks is)
-ends_usage o t s code is (unwritten rose front) same = inr (inl same)
-ends_usage o t s code is (no_memory front) same = inr (inr same)
-
 pub faulty_ends : (words : List (List ℕ)) (told : Option Contents) (t : Traces) (s : Status) (code : ℕ) → Runs words told t s → code ≡ code_of s
     → AreFaulty words → EndsWith Usage code
-faulty_ends words told t s code runs same none =
-    ends_usage runs.outcome t s code (faulty_outcome words told runs.outcome none runs.is_outcome) runs.ends same
+faulty_ends words told t s code (whole o is_outcome all) same none = inl (same ∙ ap code_of (faulty_outcome words told o none is_outcome))
+faulty_ends words told t s code (unread asks rose kept) same none = absurd (none asks.0 asks.1)
+faulty_ends words told t s code (unwritten o is_outcome rose front) same none = inr (inl same)
+faulty_ends words told t s code (no_memory o is_outcome front) same none = inr (inr same)
+faulty_ends words told t s code (unknown kept) same none = inr (inr same)

@@ -1,8 +1,14 @@
 pub mod Asked
+pub mod Causes
 pub mod Ending
+pub mod Found
 pub mod Held
 pub mod Loaded
+pub mod Names
+pub mod Options
 pub mod Outcome
+pub mod Parts
+pub mod Queries
 pub mod Records
 pub mod Run
 pub mod Whole

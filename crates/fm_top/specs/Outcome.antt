@@ -3,15 +3,13 @@ use Rattle.std.specs.Prelude.{ℕ, ◌%◌, ◌==◌, nat_lt, if◌then◌else�
 use Rattle.std.specs.Fmt.{decimal, signed_decimal}
 use Rattle.fm_base.specs.Printed.{refusal_text}
 use Rattle.fm_base.specs.declared.refusal.Refusal.{Refusal}
-use Rattle.fm_io.specs.Files.{Contents, file_of}
 use Rattle.fm_lanes.specs.declared.value_kind.ValueKind.{ValueKind}
 use Rattle.fm_layout.specs.Tree.{Tree}
 use Rattle.fm_ljson.specs.Answer.{layout_of_json}
 use Rattle.fm_path.specs.Listing.{list_text}
 use Rattle.fm_top.specs.Records.{sum_of_values}
-use Rattle.fm_top.specs.Words.{Request, Sum, Layout}
 use Rattle.fm_top.specs.declared.status.Status.{Status}
-use Rattle.fm_top.specs.declared.status.Status.TheVariants.{Answered, Usage, Missing, LayoutRefused, Ragged, TooLong}
+use Rattle.fm_top.specs.declared.status.Status.TheVariants.{Answered, Usage, Missing, LayoutRefused, QueryRefused, Ragged, TooLong}
 
 pub record Outcome : Type 0 where
   pub status : Status
@@ -28,11 +26,6 @@ record_file_limit = 67108864
 -- the most bytes of a layout's file
 abbrev pub layout_file_limit : ℕ
 layout_file_limit = 1048576
-
--- the most bytes of the request's file
-abbrev pub file_limit : Request → ℕ
-file_limit (Sum size at kind file) = record_file_limit
-file_limit (Layout file) = layout_file_limit
 
 -- the words are no command
 abbrev pub usage : Outcome
@@ -54,9 +47,20 @@ ragged rest = record { status = Ragged; text = line (codes "ragged " ++ decimal 
 abbrev pub layout_refused : Refusal → Outcome
 layout_refused refusal = record { status = LayoutRefused; text = line (codes "layout refused " ++ refusal_text refusal) }
 
+-- the query is refused
+abbrev pub query_refused : Refusal → Outcome
+query_refused refusal = record { status = QueryRefused; text = line (codes "query refused " ++ refusal_text refusal) }
+
 -- all else: the answer
 abbrev pub answered : List ℕ → Outcome
 answered text = record { status = Answered; text = text }
+
+-- how a command ends that prints this text for a file of these bytes, which it cuts into records of so many
+abbrev pub of_records : ℕ → List ℕ → List ℕ → Outcome
+of_records size text bytes =
+    if nat_lt record_file_limit (length bytes) then too_long
+    else if length bytes % size == 0 then answered text
+    else ragged (length bytes % size)
 
 -- what `sum` prints for a file
 abbrev pub sum_text : ℕ → ℕ → ValueKind → List ℕ → List ℕ
@@ -64,10 +68,7 @@ sum_text size at kind bytes = line (codes "sum " ++ signed_decimal (sum_of_value
 
 -- how `sum` ends for a file of these bytes
 abbrev pub sum_of_file : ℕ → ℕ → ValueKind → List ℕ → Outcome
-sum_of_file size at kind bytes =
-    if nat_lt record_file_limit (length bytes) then too_long
-    else if length bytes % size == 0 then answered (sum_text size at kind bytes)
-    else ragged (length bytes % size)
+sum_of_file size at kind bytes = of_records size (sum_text size at kind bytes) bytes
 
 abbrev pub sum_outcome : ℕ → ℕ → ValueKind → List ℕ → Option (List ℕ) → Outcome
 sum_outcome size at kind file None = missing file
@@ -87,8 +88,3 @@ layout_of_file bytes =
 abbrev pub layout_outcome : List ℕ → Option (List ℕ) → Outcome
 layout_outcome file None = missing file
 layout_outcome file (Some bytes) = layout_of_file bytes
-
--- how the request ends where these are the files
-abbrev pub outcome_of : Request → Contents → Outcome
-outcome_of (Sum size at kind file) contents = sum_outcome size at kind file (file_of contents file)
-outcome_of (Layout file) contents = layout_outcome file (file_of contents file)

@@ -1,13 +1,13 @@
 -- What a run of the tool does: the outcome that its words and files have, and how it may end.
-use Rattle.std.specs.Prelude.{◌≡◌, ◌≢◌, ◌⊎◌, ℕ, List, Option, IfSome}
+use Rattle.std.specs.Prelude.{◌≡◌, ◌⊎◌, ℕ, List, Option, IfSome}
 use Rattle.fm_io.specs.Count.{Rose}
-use Rattle.fm_io.specs.Files.{Contents, IsAbsent}
+use Rattle.fm_io.specs.Files.{Contents, file_of}
 use Rattle.fm_io.specs.Sink.{Appends, AppendsPrefix}
-use Rattle.fm_top.specs.Outcome.{Outcome, outcome_of, usage, file_limit}
-use Rattle.fm_top.specs.Whole.{IsOver, IsNoLayout, IsRagged}
-use Rattle.fm_top.specs.declared.stop.Stop.{Stop}
-use Rattle.fm_top.specs.declared.stop.Stop.TheVariants.{Failed}
-use Rattle.fm_top.specs.Words.{Request, Sum, Layout, Asks, AreFaulty, first_file, record_size}
+use Rattle.fm_top.specs.Causes.{LacksFile, HasLongFile, HasRefusedLayout, HasRefusedQuery, HasRaggedFile}
+use Rattle.fm_top.specs.Found.{OfFound}
+use Rattle.fm_top.specs.Outcome.{Outcome, sum_outcome, layout_outcome, usage}
+use Rattle.fm_top.specs.Queries.{QueryEnds}
+use Rattle.fm_top.specs.Words.{Request, Sum, Layout, Query, Asks, AreFaulty, first_file, last_file}
 use Rattle.fm_top.specs.declared.status.Status.{Status}
 use Rattle.fm_top.specs.declared.status.Status.TheVariants.{Answered, Usage, Missing, Unread, LayoutRefused, QueryRefused, Ragged, TooLong, Unwritten, NoMemory, ScriptRefused}
 
@@ -25,9 +25,25 @@ code_of Unwritten = 8
 code_of NoMemory = 9
 code_of ScriptRefused = 10
 
--- an outcome of the request: over the files that are told, or else over some files
-pub data HasOutcome (request : Request) (told : Option Contents) : Outcome → Type 0 where
-  over : (contents : Contents) → IfSome told (λ held. contents ≡ held) → HasOutcome request told (outcome_of request contents)
+-- how the request ends where this is found under the names of its first and its last file
+abbrev pub EndsBy : Request → Option (List ℕ) → Option (List ℕ) → Outcome → Type 0
+EndsBy (Sum size at kind file) first last o = o ≡ sum_outcome size at kind file first
+EndsBy (Layout file) first last o = o ≡ layout_outcome file first
+EndsBy (Query threads layout query file) first last o = QueryEnds layout query file first last o
+
+-- an outcome of the request: over the files that are told, or else over what some reads may find
+abbrev pub HasOutcome : Request → Option Contents → Outcome → Type 0
+HasOutcome request told o =
+    OfFound told (first_file request) (λ first. OfFound told (last_file request) (λ last. EndsBy request first last o))
+
+-- its outcome over these files
+abbrev pub IsOutcomeOver : Request → Contents → Outcome → Type 0
+IsOutcomeOver request contents o =
+    EndsBy request (file_of contents (first_file request)) (file_of contents (last_file request)) o
+
+-- the words are those of a request
+abbrev pub AskSome : List (List ℕ) → Type 0
+AskSome words = (request : Request) × Asks words request
 
 -- an outcome of the words: usage, where they ask for nothing that there is
 pub data IsOutcome (words : List (List ℕ)) (told : Option Contents) : Outcome → Type 0 where
@@ -53,68 +69,54 @@ traces_of reads_before reads_failed writes_before writes_failed before after = r
   after = after;
 }
 
--- with which status a run may end that has this outcome
-pub data Ends (o : Outcome) (t : Traces) : Status → Type 0 where
-  -- the whole text was written
-  whole : Appends t.before t.after o.text → Ends o t o.status
-  -- a read failed, and nothing was written
-  unread : o.status ≢ Usage → Rose t.reads_before t.reads_failed → t.after ≡ t.before → Ends o t Unread
-  -- a write failed, and a prefix was written
-  unwritten : Rose t.writes_before t.writes_failed → AppendsPrefix t.before t.after o.text → Ends o t Unwritten
-  -- memory ran out, and a prefix was written
-  no_memory : AppendsPrefix t.before t.after o.text → Ends o t NoMemory
-
 -- with which status the writing of an outcome's text may end
 pub data Prints (o : Outcome) (writes_before writes_failed : ℕ) (before after : Option (List ℕ)) : Status → Type 0 where
   printed : Appends before after o.text → Prints o writes_before writes_failed before after o.status
   failed : Rose writes_before writes_failed → AppendsPrefix before after o.text → Prints o writes_before writes_failed before after Unwritten
   stopped : AppendsPrefix before after o.text → Prints o writes_before writes_failed before after NoMemory
 
--- what a run of the words leaves, where the files tell this
-pub record Runs (words : List (List ℕ)) (told : Option Contents) (t : Traces) (status : Status) : Type 0 where
-  pub outcome : Outcome
-  pub is_outcome : IsOutcome words told outcome
-  pub ends : Ends outcome t status
-
--- why the answer isn't complete: there is an outcome all the same, which after a failed read isn't usage
-pub record Stops (words : List (List ℕ)) (told : Option Contents) (stop : Stop) : Type 0 where
-  pub outcome : Outcome
-  pub is_outcome : IsOutcome words told outcome
-  pub asked : stop ≡ Failed → outcome.status ≢ Usage
+-- what a run of the words leaves, where the files tell this, and with which status it may end
+pub data Runs (words : List (List ℕ)) (told : Option Contents) (t : Traces) : Status → Type 0 where
+  -- the whole text of their outcome was written
+  whole : (o : Outcome) → IsOutcome words told o → Appends t.before t.after o.text → Runs words told t o.status
+  -- a read failed, and nothing was written
+  unread : AskSome words → Rose t.reads_before t.reads_failed → t.after ≡ t.before → Runs words told t Unread
+  -- a write failed, and a prefix was written
+  unwritten : (o : Outcome) → IsOutcome words told o → Rose t.writes_before t.writes_failed
+      → AppendsPrefix t.before t.after o.text → Runs words told t Unwritten
+  -- memory ran out, and a prefix was written
+  no_memory : (o : Outcome) → IsOutcome words told o → AppendsPrefix t.before t.after o.text → Runs words told t NoMemory
+  -- memory ran out before the outcome was known, and nothing was written
+  unknown : t.after ≡ t.before → Runs words told t NoMemory
 
 -- the status, or an end in the writing of its text or for want of memory
 abbrev pub EndsWith : Status → ℕ → Type 0
 EndsWith status code =
     (code ≡ code_of status) ⊎ ((code ≡ code_of Unwritten) ⊎ (code ≡ code_of NoMemory))
 
--- The words ask for a file that is missing, where the files tell.
-pub record AsksAbsent (words : List (List ℕ)) (told : Option Contents) : Type 0 where
-  pub request : Request
-  pub asks : Asks words request
-  pub absent : IsAbsent told (first_file request)
+-- the words ask for this, where the files tell
+abbrev pub AskFor : List (List ℕ) → Option Contents → (Request → Contents → Type 0) → Type 0
+AskFor words told Has = (request : Request) × Asks words request × IfSome told (Has request)
+
+-- The words ask for a file that is missing: the layout's, or the record file where the layout and the query stand.
+abbrev pub AsksAbsent : List (List ℕ) → Option Contents → Type 0
+AsksAbsent words told = AskFor words told LacksFile
 
 -- The words ask for a file that is over its limit.
-pub record AsksLong (words : List (List ℕ)) (told : Option Contents) : Type 0 where
-  pub request : Request
-  pub asks : Asks words request
-  pub long : IsOver told (first_file request) (file_limit request)
-
--- the request's layout is refused, where the files tell; a sum has none
-abbrev pub HasNoLayout : Option Contents → Request → Type 0
-HasNoLayout told (Sum size at kind file) = ⊥
-HasNoLayout told (Layout file) = IsNoLayout told file
+abbrev pub AsksLong : List (List ℕ) → Option Contents → Type 0
+AsksLong words told = AskFor words told HasLongFile
 
 -- The words ask for a layout that is refused.
-pub record AsksRefused (words : List (List ℕ)) (told : Option Contents) : Type 0 where
-  pub request : Request
-  pub asks : Asks words request
-  pub refused : HasNoLayout told request
+abbrev pub AsksRefused : List (List ℕ) → Option Contents → Type 0
+AsksRefused words told = AskFor words told HasRefusedLayout
+
+-- The words ask a query that is refused.
+abbrev pub AsksRefusedQuery : List (List ℕ) → Option Contents → Type 0
+AsksRefusedQuery words told = AskFor words told HasRefusedQuery
 
 -- The words ask for records of a size by which the file's length can't be divided.
-pub record AsksRagged (words : List (List ℕ)) (told : Option Contents) : Type 0 where
-  pub request : Request
-  pub asks : Asks words request
-  pub ragged : IsRagged told (first_file request) (record_size request)
+abbrev pub AsksRagged : List (List ℕ) → Option Contents → Type 0
+AsksRagged words told = AskFor words told HasRaggedFile
 
 -- the run ends with the answer written whole, or for want of memory
 abbrev pub Answers : Outcome → ℕ → Option (List ℕ) → Option (List ℕ) → Type 0

@@ -1,9 +1,8 @@
 -- What files tell of a file that was read whole, or was too long.
-use Rattle.std.specs.Prelude.{◌≡◌, ◌≢◌, ℕ, ◌%◌, ◌<◌, ◌≤◌, List, ◌++◌, length, Bool, true, false, Option, Some, Result, Err, IfSome, IsSomeAnd}
+use Rattle.std.specs.Prelude.{◌≡◌, ℕ, ◌%◌, ◌<◌, ◌≤◌, List, ◌++◌, length, Bool, true, false, Option, Some, Result, Err, IfSome, IsSomeAnd}
 use Rattle.fm_io.specs.Files.{Contents, file_of, AreBytesFrom, EndsBefore}
 use Rattle.fm_base.specs.declared.refusal.Refusal.{Refusal}
 use Rattle.fm_layout.specs.Tree.{Tree}
-use Rattle.fm_ljson.specs.Answer.{layout_of_json}
 use Rattle.fm_top.specs.Outcome.{record_file_limit}
 
 -- where the files tell, these are the bytes of the file of that name
@@ -15,19 +14,9 @@ abbrev pub IsOver : Option Contents → List ℕ → ℕ → Type 0
 IsOver told name limit = IfSome told (λ contents.
     IsSomeAnd (file_of contents name) (λ file. limit < length file))
 
--- where the files tell, the length of the file of that name is no multiple of the size
-abbrev pub IsRagged : Option Contents → List ℕ → ℕ → Type 0
-IsRagged told name size = IfSome told (λ contents.
-    IsSomeAnd (file_of contents name) (λ file. length file % size ≢ 0))
-
 -- it is refused
 abbrev pub IsRefused : Result Tree Refusal → Type 0
 IsRefused r = (refusal : Refusal) × (r ≡ Err refusal)
-
--- where the files tell, the bytes of the file of that name are refused as a layout
-abbrev pub IsNoLayout : Option Contents → List ℕ → Type 0
-IsNoLayout told name = IfSome told (λ contents.
-    IsSomeAnd (file_of contents name) (λ file. IsRefused (layout_of_json file)))
 
 -- The next bytes of the file of that name, which may have so many, were put behind those of old; `ended` says that it ended with them.
 pub record TakesBytes (limit : ℕ) (told : Option Contents) (name old new : List ℕ) (ended : Bool) : Type 0 where

@@ -1,6 +1,6 @@
 ghost use Rattle.std.specs.Prelude.{◌≡◌, ◌++◌, ◌∷◌, [], IfOk, string_bytes, codes};
 ghost use Rattle.std.specs.Fmt.{decimal, signed_decimal};
-ghost use Rattle.fm_top.specs.Outcome.{line, usage, missing, too_long, ragged, answered, layout_refused};
+ghost use Rattle.fm_top.specs.Outcome.{line, usage, missing, too_long, ragged, answered, layout_refused, query_refused};
 ghost use Rattle.fm_top.specs.Ending.{shown};
 
 use crate::status::Status;
@@ -66,8 +66,18 @@ impl Ending {
         })
     }
 
-    /// The answer to `layout`, which is this text.
-    pub fn listing(text: String) -> Ending
+    /// The query is refused.
+    pub fn query_refused(alloc: Global, refusal: Refusal) -> Result<Ending, AllocError>
+        ensures { IfOk result (λ ending. shown ending ≡ query_refused refusal) }
+    {
+        Ok(Ending {
+            status: Status::QueryRefused,
+            text: format!(in alloc; "query refused {refusal}\n")?,
+        })
+    }
+
+    /// The answer, which is this text.
+    pub fn answered(text: String) -> Ending
         ensures { shown result ≡ answered (string_bytes text) }
     {
         Ending {

@@ -1,6 +1,7 @@
 //! The tool: what its words ask for, how a run ends, and what it prints.
 #![tactic(auto)]
 
+mod answering;
 mod buffers;
 mod ending;
 mod held;
@@ -8,6 +9,12 @@ mod kept;
 mod listing;
 mod loaded;
 mod loading;
+mod names;
+mod number;
+mod parts;
+mod plain;
+mod query;
+mod query_words;
 mod run;
 mod status;
 mod stop;
@@ -22,6 +29,7 @@ pub use held::RECORD_FILE_LIMIT;
 pub use kept::Kept;
 pub use loaded::Loaded;
 pub use loading::{LoadFault, load};
+pub use query_words::QueryCommand;
 pub use run::run_tool;
 pub use status::Status;
 pub use whole_file::{LAYOUT_FILE_LIMIT, read_whole};

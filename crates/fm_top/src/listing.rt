@@ -39,7 +39,7 @@ fn bytes_ending(alloc: Global, bytes: &[u8]) -> Result<Ending, Stop>
 {
     match layout_from_json(alloc, bytes) {
         Ok(layout) => match list_places(alloc, &layout) {
-            Ok(text) => Ok(Ending::listing(text)),
+            Ok(text) => Ok(Ending::answered(text)),
             Err(_) => Err(Stop::Memory),
         },
         Err(Refusal::Memory) => Err(Stop::Memory),

@@ -3,6 +3,7 @@ ghost use Rattle.fm_bytes.specs.Words.{word_count};
 ghost use Rattle.fm_layout.specs.Parts.{IsValue};
 ghost use Rattle.fm_layout.specs.Size.{size_of};
 ghost use Rattle.fm_layout.specs.Tree.{alignment_of};
+ghost use Rattle.fm_records.specs.Answers.{answer};
 ghost use Rattle.fm_segment.specs.Alone.{Means};
 ghost use Rattle.fm_top.specs.Held.{IsHeld, given_at, words_at};
 ghost use Rattle.fm_top.specs.Outcome.{record_file_limit};
@@ -12,6 +13,8 @@ use fm_base::ArenaId;
 use fm_lanes::{Value, words_of};
 use fm_layout::Layout;
 use fm_mono::Mono;
+use fm_query::Query;
+use fm_records::{Answer, query_segment};
 use fm_segment::Segment;
 use std::alloc::{AllocError, Global};
 use std::marker::Model;
@@ -91,6 +94,19 @@ impl Loaded {
             Ok(v) => v,
             // The arena is alive, its owner reads, and the value fits.
             Err(_) => unreachable!(),
+        }
+    }
+
+    /// What a query answers over the records, of which there is a whole number.
+    pub fn answer(&mut self, alloc: Global, q: &Query) -> Result<Answer, AllocError>
+        requires { length self.old % q.now.size ≡ 0 }
+        ensures answer { IfOk result (λ a. a ≡ answer q.now self.old) }
+        ensures same { self.new ≡ self.old }
+    {
+        match query_segment(alloc, &mut self.memory, q, &self.segment) {
+            Ok(a) => Ok(a),
+            // The arena is alive and its owner asks, so nothing but memory was wanting.
+            Err(_) => Err(AllocError),
         }
     }
 }

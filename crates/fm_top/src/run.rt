@@ -3,14 +3,15 @@ ghost use Rattle.fm_io.specs.Count.{Rose};
 ghost use Rattle.fm_top.specs.Asked.{request_of};
 ghost use Rattle.fm_top.specs.Ending.{MissesOnly, shown};
 ghost use Rattle.fm_io.specs.Files.{Contents};
-ghost use Rattle.fm_top.specs.Outcome.{outcome_of};
-ghost use Rattle.fm_top.specs.Run.{HasOutcome, IsOutcome, Runs, Stops, Prints, traces_of, code_of, EndsWith, Answers, AsksAbsent, AsksLong, AsksRagged, AsksRefused};
+ghost use Rattle.fm_top.specs.Outcome.{Outcome};
+ghost use Rattle.fm_top.specs.Run.{HasOutcome, IsOutcome, IsOutcomeOver, AskSome, Runs, Prints, traces_of, code_of, EndsWith, Answers, AsksAbsent, AsksLong, AsksRagged, AsksRefused, AsksRefusedQuery};
 ghost use Rattle.fm_top.specs.Words.{Request, texts, Asks, AreFaulty, CanBeAsked};
-ghost use Rattle.fm_top.specs.declared.status.Status.TheVariants.{Answered, Usage, Missing, Unread, LayoutRefused, Ragged, TooLong, Unwritten};
+ghost use Rattle.fm_top.specs.declared.status.Status.TheVariants.{Answered, Usage, Missing, Unread, LayoutRefused, QueryRefused, Ragged, TooLong, Unwritten};
 
 use crate::ending::Ending;
 use crate::kept::Kept;
 use crate::listing::listing_ending;
+use crate::query::query_ending;
 use crate::status::Status;
 use crate::stop::Stop;
 use crate::sum::sum_ending;
@@ -24,9 +25,10 @@ use std::thread::Threads;
 /// Runs the tool on its words, which exclude the program's own name, and answers its status.
 ///
 /// Everything is written after the answer is complete. The statuses are 0 for an answer, 1 for words that are no
-/// command, 2 for a missing file, 3 for a failed read, 4 for a refused layout, 6 for a file that is no whole number of
-/// records, 7 for a file over its limit, 8 for a failed write and 9 for want of memory; that is also the order in which
-/// they are tested, but for 7, which comes before 4 and 6, and for 9, which may come at any time.
+/// command, 2 for a missing file, 3 for a failed read, 4 for a refused layout, 5 for a refused query, 6 for a file that
+/// is no whole number of records, 7 for a file over its limit, 8 for a failed write and 9 for want of memory. They are
+/// tested in this order: 1; of the layout's file 2, 3 and 7; 4; 5; of the record file 2, 3, 7 and 6; 8. Want of memory
+/// may come at any time.
 pub fn run_tool<R, F, O, G>(
     rt: &R,
     alloc: Global,
@@ -53,6 +55,7 @@ where
     ensures missed { result ≡ code_of Missing → Rose (F.misses files.old) (F.misses files.new) }
     ensures unread { result ≡ code_of Unread → Rose (F.faults files.old) (F.faults files.new) }
     ensures refused { result ≡ code_of LayoutRefused → AsksRefused (texts words.now) (F.holds files.old) }
+    ensures query_refused { result ≡ code_of QueryRefused → AsksRefusedQuery (texts words.now) (F.holds files.old) }
     ensures ragged { result ≡ code_of Ragged → AsksRagged (texts words.now) (F.holds files.old) }
     ensures too_long { result ≡ code_of TooLong → AsksLong (texts words.now) (F.holds files.old) }
     ensures unwritten { result ≡ code_of Unwritten → Rose (O.faults out.old) (O.faults out.new) }
@@ -62,10 +65,10 @@ where
     ensures reads_nothing { AreFaulty (texts words.now) → files.new ≡ files.old }
 
     // Valid input is answered where files tell and no read or write failed.
-    ensures complete { (request : Request) (contents : Contents) → Asks (texts words.now) request
-        → F.holds files.old ≡ Some contents → (outcome_of request contents).status ≡ Answered
+    ensures complete { (request : Request) (contents : Contents) (o : Outcome) → Asks (texts words.now) request
+        → F.holds files.old ≡ Some contents → IsOutcomeOver request contents o → o.status ≡ Answered
         → ¬ (Rose (F.faults files.old) (F.faults files.new)) → ¬ (Rose (O.faults out.old) (O.faults out.new))
-        → Answers (outcome_of request contents) result (O.written out.old) (O.written out.new) }
+        → Answers o result (O.written out.old) (O.written out.new) }
 {
     *kept = Kept::new();
     run_words(rt, alloc, words, files, out).code()
@@ -100,7 +103,7 @@ fn ending_of<R: Wait, F: Files>(
     files: &mut F,
 ) -> Result<Ending, Stop>
     ensures outcome { IfOk result (λ ending. IsOutcome (texts words.now) (F.holds files.old) (shown ending)) }
-    ensures stops { IfErr result (Stops (texts words.now) (F.holds files.old)) }
+    ensures asked { IsErrOf result Stop.Failed → AskSome (texts words.now) }
     ensures reads_nothing { AreFaulty (texts words.now) → files.new ≡ files.old }
     ensures missed { IfOk result (MissesOnly (F.misses files.old) (F.misses files.new)) }
     ensures unread { IsErrOf result Stop.Failed → Rose (F.faults files.old) (F.faults files.new) }
@@ -127,6 +130,7 @@ fn command_ending<R: Wait, F: Files>(
     match command {
         Command::Sum(sum) => sum_ending(rt, alloc, files, sum),
         Command::Layout(layout) => listing_ending(alloc, files, layout.file),
+        Command::Query(query) => query_ending(rt, alloc, files, query),
     }
 }
 

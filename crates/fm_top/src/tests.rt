@@ -1,4 +1,5 @@
 mod layouts;
+mod queries;
 
 use crate::{Kept, run_tool};
 use fm_io::{Files, FreeGate, MemFiles, MemSink, Sink, SureFiles, SureSink};

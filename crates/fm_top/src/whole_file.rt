@@ -30,6 +30,9 @@ pub fn read_whole<F: Files>(
     ensures absent { IsErrOf result LoadFault.Missing → IsAbsent (F.holds files.old) name.now }
     ensures missing { IsErrOf result LoadFault.Missing → Rose (F.misses files.old) (F.misses files.new) }
     ensures failed { IsErrOf result LoadFault.Failed → Rose (F.faults files.old) (F.faults files.new) }
+    ensures held { F.holds files.new ≡ F.holds files.old }
+    ensures faults_stay { F.faults files.old ≤ F.faults files.new }
+    ensures misses_stay { F.misses files.old ≤ F.misses files.new }
 {
     let Ok(mut buffer) = zero_bytes(alloc, PIECE) else {
         return Err(LoadFault::Memory);

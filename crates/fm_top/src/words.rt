@@ -1,18 +1,20 @@
-ghost use Rattle.std.specs.Prelude.{◌≡◌, ◌^◌, ◌<◌, ◌↔◌, IfSome, IfNone, IsTrue, List, ℕ};
+ghost use Rattle.std.specs.Prelude.{◌≡◌, ◌↔◌, IfSome, IfNone, IsTrue, List, ℕ};
 ghost use Rattle.fm_lanes.specs.declared.value_kind.ValueKind.{ValueKind};
 ghost use Rattle.fm_path.specs.Listing.{kind_text};
-ghost use Rattle.std.specs.Fmt.{decimal};
 ghost use Rattle.fm_top.specs.Asked.{request_of};
-ghost use Rattle.fm_top.specs.Words.{texts, Asks, AreFaulty, HasValue, IsFileWord, IsLayout, IsSum, five, two};
+ghost use Rattle.fm_top.specs.Words.{texts, Asks, AreFaulty, HasValue, IsLayout, IsSum, five, two};
 
+use crate::number::number_of_word;
+use crate::plain::is_file_word;
+use crate::query_words::{QueryCommand, query_words};
 use fm_lanes::ValueKind;
-use itoa::Buffer;
 
 /// What the words ask for.
 #[derive(Clone, Copy, Debug)]
 pub enum Command<'a> {
     Sum(SumCommand<'a>),
     Layout(LayoutCommand<'a>),
+    Query(QueryCommand<'a>),
 }
 
 /// `sum SIZE AT TYPE FILE`: the sum of the value of this kind at byte `at` of each record of `size` bytes.
@@ -37,6 +39,9 @@ pub fn command_of(words: &[String]) -> Option<Command<'_>>
 {
     if let Some(layout) = layout_words(words) {
         return Some(Command::Layout(layout));
+    }
+    if let Some(query) = query_words(words) {
+        return Some(Command::Query(query));
     }
     match sum_words(words) {
         Some(sum) => Some(Command::Sum(sum)),
@@ -139,28 +144,5 @@ fn kind_of_word(word: &str) -> Option<ValueKind>
         "int" => Some(ValueKind::Int),
         "long" => Some(ValueKind::Long),
         _ => None,
-    }
-}
-
-fn is_file_word(word: &str) -> bool
-    ensures { IsTrue result ↔ IsFileWord word.now }
-{
-    !word.starts_with('-')
-}
-
-/// The number that a word spells in decimal digits, with no sign and no leading zero.
-fn number_of_word(word: &str) -> Option<u64>
-    ensures found { IfSome result (λ n. word.now ≡ decimal n) }
-    ensures fits { IfSome result (λ n. n < 2 ^ 64) }
-    ensures none { IfNone result ((n : ℕ) → n < 2 ^ 64 → word.now ≡ decimal n → ⊥) }
-{
-    let Ok(n) = word.parse::<u64>() else {
-        return None;
-    };
-    let mut buffer = Buffer::new();
-    if buffer.format(n) == word {
-        Some(n)
-    } else {
-        None
     }
 }

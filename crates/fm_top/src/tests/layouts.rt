@@ -5,7 +5,7 @@ use std::alloc::{AllocError, Global};
 use std::test::Fail;
 
 /// A record of an id, a kind, a price and four tags, as a user writes it.
-const SALE: &str =
+pub const SALE: &str =
     "{\"type\":\"struct\",\"members\":[{\"type\":\"int\",\"name\":\"id\"},{\"type\":\"short\",\"name\":\"kind\"},{\"type\":\"padding\",\"size\":2},{\"type\":\"long\",\"name\":\"price\"},{\"type\":\"sequence\",\"name\":\"tags\",\"count\":4,\"element\":{\"type\":\"byte\"}},{\"type\":\"padding\",\"size\":4}]}";
 
 /// What is printed of it.

@@ -1,8 +1,9 @@
 use Rattle.std.proofs.Common.{sym, ◌∙◌}
 use Rattle.fm_top.specs.Run.{traces_of}
 use Rattle.fm_top.specs.Words.{texts}
-use Rattle.fm_top.specs.declared.status.Status.TheVariants.{Usage, Missing, Unread, LayoutRefused, Ragged, TooLong, Unwritten}
-use Rattle.fm_top.proofs.Causes.{only_missing, only_too_long, only_ragged, only_refused, complete}
+use Rattle.fm_top.specs.declared.status.Status.TheVariants.{Usage, Missing, Unread, LayoutRefused, QueryRefused, Ragged, TooLong, Unwritten}
+use Rattle.fm_top.proofs.Causes.{only_missing, only_too_long, only_ragged, only_refused, only_query_refused}
+use Rattle.fm_top.proofs.Complete.{complete}
 use Rattle.fm_top.proofs.Runs.{code_of-injective, only_usage, only_unread, only_unwritten, faulty_ends}
 use Rattle.fm_top.proofs.run.run_tool.Goals as goal
 
@@ -45,6 +46,16 @@ returns-clause-refused g c =
     let told = files.holds c.args.files.now in
     let t = traces_of (files.faults c.args.files.now) (files.faults ran.new.files) (out.faults c.args.out.now) (out.faults ran.new.out) (out.written c.args.out.now) (out.written ran.new.out) in
     λ code. only_refused words told t ran.result ran.ensures.runs (code_of-injective ran.result LayoutRefused (sym c.code.ensures ∙ code))
+
+pub returns-clause-query_refused : goal.returns-clause-query_refused
+returns-clause-query_refused g c =
+    let files = g.F.Files in
+    let out = g.O.Sink in
+    let ran = c.run_words in
+    let words = texts c.args.words.now in
+    let told = files.holds c.args.files.now in
+    let t = traces_of (files.faults c.args.files.now) (files.faults ran.new.files) (out.faults c.args.out.now) (out.faults ran.new.out) (out.written c.args.out.now) (out.written ran.new.out) in
+    λ code. only_query_refused words told t ran.result ran.ensures.runs (code_of-injective ran.result QueryRefused (sym c.code.ensures ∙ code))
 
 pub returns-clause-ragged : goal.returns-clause-ragged
 returns-clause-ragged g c =

@@ -1,9 +1,8 @@
-use Rattle.std.proofs.Common.{Err, ap, ◌∙◌, refl, subst}
+use Rattle.std.proofs.Common.{Err, ap, ◌∙◌, refl}
 use Rattle.fm_top.specs.Ending.{shown}
-use Rattle.fm_top.specs.Run.{Stops, traces_of}
+use Rattle.fm_top.specs.Run.{traces_of, unread, unknown}
 use Rattle.fm_top.specs.Words.{texts}
-use Rattle.fm_top.specs.declared.stop.Stop.{Stop}
-use Rattle.fm_top.proofs.Runs.{runs-printed, runs-unread, runs-stopped}
+use Rattle.fm_top.proofs.Runs.{runs-printed}
 use Rattle.fm_top.proofs.run.run_words.Goals as goal
 
 pub returns-in-Ok-clause-runs : goal.returns-in-Ok-clause-runs
@@ -15,21 +14,8 @@ returns-in-Ok-clause-runs g c =
 
 pub returns-in-Err-Failed-clause-runs : goal.returns-in-Err-Failed-clause-runs
 returns-in-Err-Failed-clause-runs g c =
-    let files = g.F.Files in
-    let out = g.O.Sink in
-    let words = texts c.args.words.now in
-    let told = files.holds c.args.files.now in
-    let t = traces_of (files.faults c.args.files.now) (files.faults c.ending_of.new.files) (out.faults c.args.out.now) (out.faults c.args.out.now) (out.written c.args.out.now) (out.written c.args.out.now) in
-    runs-unread words told t
-    (subst (λ (stop : Stop). Stops words told stop) c.in-Err-Failed.field-0-is c.in-Err-Failed.ensures.stops)
-    (c.ending_of.ensures.unread (c.in-Err-Failed.is ∙ ap Err c.in-Err-Failed.field-0-is)) refl
+    let failed = c.in-Err-Failed.is ∙ ap Err c.in-Err-Failed.field-0-is in
+    unread (c.ending_of.ensures.asked failed) (c.ending_of.ensures.unread failed) (refl {a = g.O.Sink.written c.args.out.now})
 
 pub returns-in-Err-Memory-clause-runs : goal.returns-in-Err-Memory-clause-runs
-returns-in-Err-Memory-clause-runs g c =
-    let files = g.F.Files in
-    let out = g.O.Sink in
-    let words = texts c.args.words.now in
-    let told = files.holds c.args.files.now in
-    let t = traces_of (files.faults c.args.files.now) (files.faults c.ending_of.new.files) (out.faults c.args.out.now) (out.faults c.args.out.now) (out.written c.args.out.now) (out.written c.args.out.now) in
-    runs-stopped words told t
-    (subst (λ (stop : Stop). Stops words told stop) c.in-Err-Memory.field-0-is c.in-Err-Memory.ensures.stops) refl
+returns-in-Err-Memory-clause-runs g c = unknown (refl {a = g.O.Sink.written c.args.out.now})

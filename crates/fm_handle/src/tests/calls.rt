@@ -1,0 +1,217 @@
+ghost use Rattle.std.specs.Prelude.{◌≡◌, IsTrue, None, length};
+ghost use Rattle.fm_lanes.specs.Value.{kind_of};
+ghost use Rattle.fm_mono.specs.Shown.{view_of};
+ghost use Rattle.fm_segment.specs.Access.{IsKnown};
+
+use crate::VarHandle;
+use fm_base::{Kind, Memory, Refusal};
+use fm_lanes::{Value, ValueKind};
+use fm_mono::Mono;
+use fm_segment::Segment;
+use std::process::Abort;
+use std::sync::Wait;
+
+/// A segment of so many bytes of a fresh arena.
+pub(super) fn fresh<R: Abort + Wait>(rt: &R, m: &mut Mono, size: u64) -> Segment
+    requires { m.old.inside ≡ None }
+    ensures outside { m.new.inside ≡ None }
+    ensures known { IsKnown (view_of m.new) result }
+{
+    let arena = m.open_arena(rt, Kind::Shared).expect(rt, "an arena");
+    let first = m.allocate(rt, arena, size, 8).expect(rt, "bytes");
+    Segment::of(arena, first, size)
+}
+
+/// Stops where the path leaves another number of indices open.
+pub(super) fn takes<R: Abort>(rt: &R, h: &VarHandle, indices: &[u64])
+    ensures { length indices.now ≡ length h.now.dims }
+{
+    assert!(rt; indices.len() == h.resolved().dims().len());
+}
+
+fn is_of(v: Value, kind: ValueKind) -> bool
+    ensures { IsTrue result → kind_of v ≡ kind }
+{
+    match (v, kind) {
+        (Value::Byte(_), ValueKind::Byte) => true,
+        (Value::Boolean(_), ValueKind::Boolean) => true,
+        (Value::Char(_), ValueKind::Char) => true,
+        (Value::Short(_), ValueKind::Short) => true,
+        (Value::Int(_), ValueKind::Int) => true,
+        (Value::Long(_), ValueKind::Long) => true,
+        _ => false,
+    }
+}
+
+/// Stops where the handle's value is of another kind.
+pub(super) fn holds<R: Abort>(rt: &R, h: &VarHandle, v: Value)
+    ensures { kind_of v ≡ h.now.value.kind }
+{
+    assert!(rt; is_of(v, h.resolved().value().kind));
+}
+
+/// Stops where `set` doesn't answer so.
+pub(super) fn sets<R: Abort + Wait>(
+    rt: &R,
+    m: &mut Mono,
+    h: &VarHandle,
+    s: &Segment,
+    base: u64,
+    indices: &[u64],
+    v: Value,
+    answer: Result<(), Refusal>,
+)
+    requires known { IsKnown (view_of m.old) s.now }
+    requires outside { m.old.inside ≡ None }
+    ensures known { IsKnown (view_of m.new) s.now }
+    ensures outside { m.new.inside ≡ None }
+{
+    takes(rt, h, indices);
+    holds(rt, h, v);
+    assert_eq!(rt; h.set(rt, m, s, base, indices, v), answer);
+}
+
+/// Stops where `get` doesn't answer so.
+pub(super) fn gets<R: Abort>(
+    rt: &R,
+    m: &mut Mono,
+    h: &VarHandle,
+    s: &Segment,
+    base: u64,
+    indices: &[u64],
+    answer: Result<Value, Refusal>,
+)
+    requires known { IsKnown (view_of m.old) s.now }
+    requires outside { m.old.inside ≡ None }
+    ensures known { IsKnown (view_of m.new) s.now }
+    ensures outside { m.new.inside ≡ None }
+{
+    takes(rt, h, indices);
+    assert_eq!(rt; h.get(m, s, base, indices), answer);
+}
+
+/// Stops where `get_and_add` doesn't answer so.
+pub(super) fn adds<R: Abort + Wait>(
+    rt: &R,
+    m: &mut Mono,
+    h: &VarHandle,
+    s: &Segment,
+    base: u64,
+    indices: &[u64],
+    delta: Value,
+    answer: Result<Value, Refusal>,
+)
+    requires known { IsKnown (view_of m.old) s.now }
+    requires outside { m.old.inside ≡ None }
+    ensures known { IsKnown (view_of m.new) s.now }
+    ensures outside { m.new.inside ≡ None }
+{
+    takes(rt, h, indices);
+    holds(rt, h, delta);
+    assert_eq!(rt; h.get_and_add(rt, m, s, base, indices, delta), answer);
+}
+
+/// Stops where `compare_and_exchange` at the base doesn't find so.
+pub(super) fn exchanges<R: Abort + Wait>(
+    rt: &R,
+    m: &mut Mono,
+    h: &VarHandle,
+    s: &Segment,
+    expected: Value,
+    v: Value,
+    found: Value,
+)
+    requires known { IsKnown (view_of m.old) s.now }
+    requires outside { m.old.inside ≡ None }
+    ensures known { IsKnown (view_of m.new) s.now }
+    ensures outside { m.new.inside ≡ None }
+{
+    takes(rt, h, &[]);
+    holds(rt, h, expected);
+    holds(rt, h, v);
+    assert_eq!(rt;
+        h.compare_and_exchange(rt, m, s, 0, &[], expected, v),
+        Ok(found)
+    );
+}
+
+/// Stops where `compare_and_set` at the base doesn't win so.
+pub(super) fn wins<R: Abort + Wait>(
+    rt: &R,
+    m: &mut Mono,
+    h: &VarHandle,
+    s: &Segment,
+    expected: Value,
+    v: Value,
+    won: bool,
+)
+    requires known { IsKnown (view_of m.old) s.now }
+    requires outside { m.old.inside ≡ None }
+    ensures known { IsKnown (view_of m.new) s.now }
+    ensures outside { m.new.inside ≡ None }
+{
+    takes(rt, h, &[]);
+    holds(rt, h, expected);
+    holds(rt, h, v);
+    assert_eq!(rt; h.compare_and_set(rt, m, s, 0, &[], expected, v), Ok(won));
+}
+
+/// Stops where `set_long` doesn't answer so.
+pub(super) fn sets_long<R: Abort>(
+    rt: &R,
+    m: &mut Mono,
+    h: &VarHandle,
+    s: &Segment,
+    base: u64,
+    indices: &[u64],
+    v: i64,
+    answer: Result<(), Refusal>,
+)
+    requires known { IsKnown (view_of m.old) s.now }
+    requires outside { m.old.inside ≡ None }
+    ensures known { IsKnown (view_of m.new) s.now }
+    ensures outside { m.new.inside ≡ None }
+{
+    takes(rt, h, indices);
+    assert_eq!(rt; h.set_long(m, s, base, indices, v), answer);
+}
+
+/// Stops where `compare_and_exchange_long` at the base doesn't find so.
+pub(super) fn exchanges_long<R: Abort>(
+    rt: &R,
+    m: &mut Mono,
+    h: &VarHandle,
+    s: &Segment,
+    expected: i64,
+    v: i64,
+    found: i64,
+)
+    requires known { IsKnown (view_of m.old) s.now }
+    requires outside { m.old.inside ≡ None }
+    ensures known { IsKnown (view_of m.new) s.now }
+    ensures outside { m.new.inside ≡ None }
+{
+    takes(rt, h, &[]);
+    assert_eq!(rt;
+        h.compare_and_exchange_long(m, s, 0, &[], expected, v),
+        Ok(found)
+    );
+}
+
+/// Stops where `get_and_add_long` at the base doesn't answer so.
+pub(super) fn adds_long<R: Abort>(
+    rt: &R,
+    m: &mut Mono,
+    h: &VarHandle,
+    s: &Segment,
+    delta: i64,
+    answer: Result<i64, Refusal>,
+)
+    requires known { IsKnown (view_of m.old) s.now }
+    requires outside { m.old.inside ≡ None }
+    ensures known { IsKnown (view_of m.new) s.now }
+    ensures outside { m.new.inside ≡ None }
+{
+    takes(rt, h, &[]);
+    assert_eq!(rt; h.get_and_add_long(m, s, 0, &[], delta), answer);
+}

@@ -1,0 +1,69 @@
+ghost use Rattle.std.specs.Prelude.{◌≡◌};
+ghost use Rattle.fm_lanes.specs.Value.{kind_of};
+ghost use Rattle.fm_layout.specs.Name.{IsName};
+ghost use Rattle.fm_segment.specs.Access.{HasKind};
+
+use crate::VarHandle;
+use fm_lanes::{Order, Value, ValueKind};
+use fm_layout::Layout;
+use fm_path::{parse_path, resolve};
+use std::alloc::Global;
+use std::process::Abort;
+
+/// A handle for a path into a layout.
+pub(super) fn handle<R: Abort>(rt: &R, alloc: Global, layout: &Layout, text: &str) -> VarHandle {
+    let path = parse_path(alloc, text).expect(rt, "a path");
+    VarHandle::of(resolve(alloc, layout, &path).expect(rt, "a value"))
+}
+
+/// A handle for a value of its own, with nothing round it.
+pub(super) fn value<R: Abort>(rt: &R, alloc: Global, kind: ValueKind, order: Order) -> VarHandle {
+    handle(rt, alloc, &Layout::value(kind).with_order(order), ".")
+}
+
+fn named<R: Abort>(rt: &R, alloc: Global, layout: Layout, name: &str) -> Layout
+    requires { IsName name.now }
+{
+    layout.with_name(alloc, name).expect(rt, "a name")
+}
+
+fn pair<R: Abort>(rt: &R, alloc: Global, first: Layout, second: Layout) -> Vec<Layout> {
+    let mut members = Vec::new(alloc);
+    members.push(first).expect(rt, "memory");
+    members.push(second).expect(rt, "memory");
+    members
+}
+
+/// A layout of the value's kind, in this order, at any place.
+pub(super) fn anywhere<R: Abort>(rt: &R, v: Value, order: Order) -> Layout
+    ensures { HasKind result (kind_of v) }
+{
+    let layout = Layout::value(v.kind()).with_order(order);
+    layout.with_alignment(1).expect(rt, "an alignment")
+}
+
+/// A byte `low` and this layout, in one place.
+pub(super) fn either<R: Abort>(rt: &R, alloc: Global, one: Layout) -> Layout {
+    let low = named(rt, alloc, Layout::value(ValueKind::Byte), "low");
+    Layout::union_of(pair(rt, alloc, low, named(rt, alloc, one, "one")))
+}
+
+/// A row of four values and then one in a union with a byte, at any place.
+pub(super) fn table<R: Abort>(rt: &R, alloc: Global, v: Value, order: Order) -> Layout {
+    let items = Layout::sequence(alloc, 4, anywhere(rt, v, order)).expect(rt, "items");
+    let items = named(rt, alloc, items, "items");
+    let either = either(rt, alloc, anywhere(rt, v, order));
+    let either = named(rt, alloc, either, "either");
+    Layout::structure(pair(rt, alloc, items, either)).expect(rt, "a table")
+}
+
+/// Accounts of an int `id` and an int `amount`, behind a long that counts them: 32 bytes.
+pub(super) fn accounts<R: Abort>(rt: &R, alloc: Global) -> Layout {
+    let id = named(rt, alloc, Layout::value(ValueKind::Int), "id");
+    let amount = named(rt, alloc, Layout::value(ValueKind::Int), "amount");
+    let account = Layout::structure(pair(rt, alloc, id, amount)).expect(rt, "an account");
+    let rows = Layout::sequence(alloc, 3, account).expect(rt, "rows");
+    let count = named(rt, alloc, Layout::value(ValueKind::Long), "count");
+    let rows = named(rt, alloc, rows, "rows");
+    Layout::structure(pair(rt, alloc, count, rows)).expect(rt, "accounts")
+}

@@ -1,0 +1,10 @@
+//! The words of a command that has one option, `--threads`, and a number of positional words.
+#![tactic(auto)]
+
+mod command;
+mod matched;
+mod options;
+#[cfg(test)]
+mod tests;
+
+pub use options::{Options, options_of};

@@ -1,0 +1,189 @@
+-- A text has one plan over a layout, and one that has a plan isn't refused.
+use Rattle.std.proofs.Common.{◌≡◌, ◌≢◌, ℕ, ℤ, ◌+◌, ◌-◌, ◌^◌, List, [], ◌∷◌, Result, Ok, Err, refl, sym, ap, subst, ◌∙◌, inl, inr}
+use Rattle.std.specs.Prelude.{min}
+use Rattle.std.specs.List.{AllZip}
+use Rattle.fm_base.specs.declared.refusal.Refusal.{Refusal}
+use Rattle.fm_base.specs.declared.refusal.Refusal.TheVariants.{BadQuery, Memory}
+use Rattle.fm_layout.specs.Tree.{Tree, Value, Padding, Sequence, Struct, Union}
+use Rattle.fm_layout.specs.Parts.{IsValue}
+use Rattle.fm_steps.specs.declared.step.PathStep.{PathStep}
+use Rattle.fm_steps.specs.declared.step.PathStep.TheVariants.{Name, Group, At, Each, EachFrom}
+use Rattle.fm_places.specs.Follow.{Taken, taken, after, before, ◌>>=◌, follow_by}
+use Rattle.fm_places.specs.Places.{Step}
+use Rattle.fm_places.specs.Walk.{Walk}
+use Rattle.fm_lanes.specs.declared.order.Order.{Order}
+use Rattle.fm_lanes.specs.declared.value_kind.ValueKind.{ValueKind}
+use Rattle.fm_query.specs.declared.operator.Operator.{Operator}
+use Rattle.fm_places.specs.Found.{end_from}
+use Rattle.fm_path.specs.declared.value_spec.ValueSpec.{ValueSpec}
+use Rattle.fm_path.specs.Resolution.{Resolution, resolution, IsSpecOf, IsResolved, IsRefusal, at_step, no_value, no_memory}
+use Rattle.fm_query.specs.declared.syntax.ItemSyntax.{ItemSyntax}
+use Rattle.fm_query.specs.declared.syntax.ItemSyntax.TheVariants as syntax
+use Rattle.fm_query.specs.declared.syntax.ConditionSyntax.{ConditionSyntax}
+use Rattle.fm_query.specs.declared.item.Asked.{Asked}
+use Rattle.fm_query.specs.declared.item.Asked.TheVariants as asked
+use Rattle.fm_query.specs.declared.item.Item.{Item}
+use Rattle.fm_query.specs.declared.condition.Condition.{Condition}
+use Rattle.fm_query.specs.Grammar.{Syntax, IsTextOf}
+use Rattle.fm_query.specs.Plan.{Plan, plan}
+use Rattle.fm_query.specs.Parsed.{IsAskedOf, IsItemOf, IsConditionOf, IsPlanOf, IsItemRefused, IsConditionRefused, at_path, left_open, IsFirstRefused, IsSyntaxRefused, at_item, at_condition, IsParsed, IsNoQuery, no_text, refused}
+use Rattle.fm_query.specs.Grammar.{IsNoText}
+use Rattle.fm_top.specs.Queries.{IsTextRefused}
+
+-- ---- one plan
+
+same_ok : {A : Type 0} (r : Result A Refusal) (x y : A) → r ≡ Ok x → r ≡ Ok y → x ≡ y
+same_ok r x y a b = cc
+
+abbrev spec : ValueKind → Order → ℕ → ValueSpec
+spec kind order alignment = record { kind = kind; order = order; alignment = alignment }
+
+-- what a value layout is accessed as
+same_spec : (last : Tree) (v w : ValueSpec) → IsSpecOf last v → IsSpecOf last w → v ≡ w
+same_spec (Value k o l) v w a b =
+    ap (λ x. spec x v.order v.alignment) (a.0 ∙ sym b.0) ∙ ap (λ x. spec w.kind x v.alignment) (a.1 ∙ sym b.1) ∙ ap (spec w.kind w.order) (a.2 ∙ sym b.2)
+same_spec (Padding n l) v w a b = absurd a
+same_spec (Sequence n e l) v w a b = absurd a
+same_spec (Struct ms l) v w a b = absurd a
+same_spec (Union ms l) v w a b = absurd a
+
+one_resolution : (path : List PathStep) (t : Tree) (r s : Resolution) → IsResolved path t r → IsResolved path t s → r ≡ s
+one_resolution path t r s a b =
+    let walk = same_ok _ _ _ a.leads.walked b.leads.walked in
+    let last : a.last ≡ b.last = same_ok _ _ _ a.ends b.ends in
+    let offset : r.offset ≡ s.offset = a.leads.kept ∙ ap (λ (w : Walk). min w.offset (2 ^ 64 - 1)) walk ∙ sym b.leads.kept in
+    let dims : r.dims ≡ s.dims = ap (λ (w : Walk). w.dims) walk in
+    let value : r.value ≡ s.value = same_spec b.last r.value s.value (subst (λ (x : Tree). IsSpecOf x r.value) last a.value) b.value in
+    let size : r.root_size ≡ s.root_size = a.root_size ∙ sym b.root_size in
+    let alignment : r.root_alignment ≡ s.root_alignment = a.root_alignment ∙ sym b.root_alignment in
+    ap (λ x. resolution x r.dims r.value r.root_size r.root_alignment) offset
+    ∙ ap (λ x. resolution s.offset x r.value r.root_size r.root_alignment) dims
+    ∙ ap (λ x. resolution s.offset s.dims x r.root_size r.root_alignment) value
+    ∙ ap (λ x. resolution s.offset s.dims s.value x r.root_alignment) size
+    ∙ ap (resolution s.offset s.dims s.value s.root_size) alignment
+
+one_asked : (t : Tree) (s : ItemSyntax) (a b : Asked) → IsAskedOf t s a → IsAskedOf t s b → a ≡ b
+one_asked t syntax.Count a b is_a is_b = is_a ∙ sym is_b
+one_asked t (syntax.Of fold path) a b is_a is_b =
+    is_a.2 ∙ ap (asked.Of fold) (one_resolution path t is_a.0 is_b.0 is_a.1 is_b.1) ∙ sym is_b.2
+
+abbrev item : List ℕ → Asked → Item
+item text asked = record { text = text; asked = asked }
+
+one_item : (t : Tree) (s : ItemSyntax) (a b : Item) → IsItemOf t s a → IsItemOf t s b → a ≡ b
+one_item t s a b is_a is_b =
+    ap (λ x. item x a.asked) (is_a.text ∙ sym is_b.text) ∙ ap (item b.text) (one_asked t s a.asked b.asked is_a.asked is_b.asked)
+
+abbrev condition : List ℕ → Resolution → Operator → ℤ → Condition
+condition text path operator literal = record { text = text; path = path; operator = operator; literal = literal }
+
+one_condition : (t : Tree) (s : ConditionSyntax) (a b : Condition) → IsConditionOf t s a → IsConditionOf t s b → a ≡ b
+one_condition t s a b is_a is_b =
+    ap (λ x. condition x a.path a.operator a.literal) (is_a.text ∙ sym is_b.text)
+    ∙ ap (λ x. condition b.text x a.operator a.literal) (one_resolution s.path t a.path b.path is_a.path is_b.path)
+    ∙ ap (λ x. condition b.text b.path x a.literal) (is_a.operator ∙ sym is_b.operator)
+    ∙ ap (condition b.text b.path b.operator) (is_a.literal ∙ sym is_b.literal)
+
+one_each : {A B : Type 0} (R : A → B → Type 0) → ((x : A) (y z : B) → R x y → R x z → y ≡ z) → (xs : List A) (ys zs : List B) → AllZip R xs ys → AllZip R xs zs → ys ≡ zs
+one_each R one [] [] [] a b = refl
+one_each R one [] [] (z ∷ zs) a b = absurd b
+one_each R one [] (y ∷ ys) zs a b = absurd a
+one_each R one (x ∷ xs) [] zs a b = absurd a
+one_each R one (x ∷ xs) (y ∷ ys) [] a b = absurd b
+one_each R one (x ∷ xs) (y ∷ ys) (z ∷ zs) a b =
+    ap (λ v. v ∷ ys) (one x y z a.0 b.0) ∙ ap (λ vs. z ∷ vs) (one_each R one xs ys zs a.1 b.1)
+
+one_plan_of : (t : Tree) (q : Syntax) (p r : Plan) → IsPlanOf t q p → IsPlanOf t q r → p ≡ r
+one_plan_of t q p r a b =
+    let items : p.items ≡ r.items = one_each (IsItemOf t) (one_item t) q.items p.items r.items a.items b.items in
+    let conditions : p.conditions ≡ r.conditions = one_each (IsConditionOf t) (one_condition t) q.conditions p.conditions r.conditions a.conditions b.conditions in
+    ap (λ x. plan x p.alignment p.items p.conditions) (a.size ∙ sym b.size)
+    ∙ ap (λ x. plan r.size x p.items p.conditions) (a.alignment ∙ sym b.alignment)
+    ∙ ap (λ x. plan r.size r.alignment x p.conditions) items
+    ∙ ap (plan r.size r.alignment r.items) conditions
+
+-- the text is that of one query
+one_syntax : (text : List ℕ) (q r : Syntax) → IsTextOf text q → IsTextOf text r → q ≡ r
+one_syntax text q r a b = a.only r b.is_query b.spelled
+
+pub one_plan : (text : List ℕ) (t : Tree) (p r : Plan) → IsParsed text t p → IsParsed text t r → p ≡ r
+one_plan text t p r a b =
+    let same = one_syntax text a.syntax b.syntax a.is_text b.is_text in
+    one_plan_of t b.syntax p r (subst (λ (q : Syntax). IsPlanOf t q p) same a.is_plan) b.is_plan
+
+-- ---- a plan, or a refusal
+
+-- indices behind none
+after_none : (p : PathStep) → after p [] ≡ []
+after_none (Name name) = refl
+after_none (Group n) = refl
+after_none (At n) = refl
+after_none Each = refl
+after_none (EachFrom f s) = refl
+
+no_before : (s : Step) (r : Result (List Step) Refusal) (e : Refusal) → before s r ≡ Err e → r ≡ Err e
+no_before s (Ok ss) e is = absurd (cc)
+no_before s (Err x) e is = is
+
+-- one step, and then the rest
+step_follows : (r : Taken) (p : PathStep) (ps : List PathStep) (k : ℕ) (u : Tree) (e : Refusal)
+    → ((v : Tree) → end_from ps (k + 1) v ≡ Ok u → follow_by taken ps (k + 1) v [] ≡ Err e → ⊥)
+    → (r >>= λ c. end_from ps (k + 1) c.1) ≡ Ok u → (r >>= λ c. before c.0 (follow_by taken ps (k + 1) c.1 (after p []))) ≡ Err e → ⊥
+step_follows (Err x) p ps k u e rest ends fails = cc
+step_follows (Ok c) p ps k u e rest ends fails =
+    rest c.1 ends (ap (follow_by taken ps (k + 1) c.1) (sym (after_none p)) ∙ no_before c.0 (follow_by taken ps (k + 1) c.1 (after p [])) e fails)
+
+-- a path that ends somewhere is followed
+follows : (ps : List PathStep) (k : ℕ) (t u : Tree) (e : Refusal) → end_from ps k t ≡ Ok u → follow_by taken ps k t [] ≡ Err e → ⊥
+follows [] k t u e ends fails = cc
+follows (p ∷ ps) k t u e ends fails = step_follows (taken k p t 0) p ps k u e (λ v. follows ps (k + 1) v u e) ends fails
+
+-- what a value layout is accessed as, it has a value
+has_value : (last : Tree) (v : ValueSpec) → IsSpecOf last v → IsValue last
+has_value (Value k o l) v is = tt
+has_value (Padding n l) v is = absurd is
+has_value (Sequence n e l) v is = absurd is
+has_value (Struct ms l) v is = absurd is
+has_value (Union ms l) v is = absurd is
+
+not_refused : (path : List PathStep) (t : Tree) (r : Resolution) (e : Refusal) → IsResolved path t r → IsRefusal path t e → e ≢ Memory → ⊥
+not_refused path t r e a (at_step x is) other = follows path 0 t a.last e a.ends (is [])
+not_refused path t r e a (no_value elsewhere) other =
+    let last : a.last ≡ elsewhere.last = same_ok _ _ _ a.ends elsewhere.ends in
+    elsewhere.no_value (subst IsValue last (has_value a.last r.value a.value))
+not_refused path t r e a no_memory other = other refl
+
+item_not_refused : (t : Tree) (s : ItemSyntax) (item : Item) (e : Refusal) → IsItemOf t s item → IsItemRefused t s e → e ≢ Memory → ⊥
+item_not_refused t syntax.Count x e is denied other = denied
+item_not_refused t (syntax.Of fold path) x e is denied other = not_refused path t is.asked.0 e is.asked.1 denied other
+
+condition_not_refused : (t : Tree) (s : ConditionSyntax) (c : Condition) (e : Refusal) → IsConditionOf t s c → IsConditionRefused t s e → e ≢ Memory → ⊥
+condition_not_refused t s c e is (at_path x denied) other = not_refused s.path t c.path e is.path denied other
+condition_not_refused t s c e is (left_open k r has open_at) other = let closed = is.closed in cc
+
+none_first : {A B : Type 0} (R : A → B → Type 0) (Admits : A → Type 0) (Refuses : A → Refusal → Type 0) (e : Refusal)
+    → ((x : A) (y : B) → R x y → Refuses x e → ⊥) → (xs : List A) (ys : List B) → AllZip R xs ys → IsFirstRefused Admits Refuses xs e → ⊥
+none_first R Admits Refuses e never [] ys all first = first
+none_first R Admits Refuses e never (x ∷ xs) [] all first = all
+none_first R Admits Refuses e never (x ∷ xs) (y ∷ ys) all (inl refuses) = never x y all.0 refuses
+none_first R Admits Refuses e never (x ∷ xs) (y ∷ ys) all (inr later) = none_first R Admits Refuses e never xs ys all.1 later.1
+
+plan_not_refused : (t : Tree) (q : Syntax) (p : Plan) (e : Refusal) → IsPlanOf t q p → IsSyntaxRefused t q e → e ≢ Memory → ⊥
+plan_not_refused t q p e is (at_item first) other =
+    none_first (IsItemOf t) _ (IsItemRefused t) e (λ s item is_item denied. item_not_refused t s item e is_item denied other) q.items p.items is.items first
+plan_not_refused t q p e is (at_condition items first) other =
+    none_first (IsConditionOf t) _ (IsConditionRefused t) e (λ s c is_condition denied. condition_not_refused t s c e is_condition denied other) q.conditions p.conditions is.conditions first
+
+-- a text of a query leaves the grammar nowhere
+not_no_text : (text : List ℕ) (q : Syntax) (e : Refusal) → IsTextOf text q → IsNoText text e → e ≢ Memory → ⊥
+not_no_text text q (BadQuery at) is denied other = denied.none q is.is_query is.spelled
+not_no_text text q Memory is denied other = other refl
+not_no_text text q e is denied other = denied
+
+by_cause : (text : List ℕ) (t : Tree) (p : Plan) (e : Refusal) → IsParsed text t p → IsNoQuery text t e → e ≢ Memory → ⊥
+by_cause text t p e parsed (no_text denied) other = not_no_text text parsed.syntax e parsed.is_text denied other
+by_cause text t p e parsed (refused q is_text denied) other =
+    plan_not_refused t q p e (subst (λ (s : Syntax). IsPlanOf t s p) (one_syntax text parsed.syntax q parsed.is_text is_text) parsed.is_plan) denied other
+
+pub not_text_refused : (text : List ℕ) (t : Tree) (p : Plan) (e : Refusal) → IsParsed text t p → IsTextRefused text t e → ⊥
+not_text_refused text t p e parsed denied = by_cause text t p e parsed denied.no_query denied.refused

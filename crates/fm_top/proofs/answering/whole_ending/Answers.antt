@@ -1,0 +1,11 @@
+use Rattle.std.proofs.Common.{List, sym, subst}
+use Rattle.fm_records.specs.Records.{records}
+use Rattle.fm_records.specs.Texts.{IsAnswerOf}
+use Rattle.fm_records.specs.declared.found.Found.{Found}
+use Rattle.fm_records.proofs.Joining.{found_over_is}
+use Rattle.fm_top.proofs.answering.whole_ending.Goals as goal
+
+pub print_answer-requires : goal.print_answer-requires
+print_answer-requires c =
+    let q = c.args.q.now in
+    subst (λ (fs : List Found). IsAnswerOf q fs) (sym c.in_ok-found.ensures.answer) (found_over_is q (records q.size c.args.loaded.now))

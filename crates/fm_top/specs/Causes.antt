@@ -1,0 +1,61 @@
+-- For which files a request ends so, where the files tell: each cause where none before it applies.
+use Rattle.std.specs.Prelude.{◌≡◌, ◌≢◌, ℕ, ◌%◌, ◌<◌, ◌⊎◌, List, length, None, Option, IsSomeAnd}
+use Rattle.fm_base.specs.declared.refusal.Refusal.{Refusal}
+use Rattle.fm_io.specs.Files.{Contents, file_of}
+use Rattle.fm_layout.specs.Tree.{Tree}
+use Rattle.fm_ljson.specs.Answer.{layout_of_json}
+use Rattle.fm_query.specs.Parsed.{IsParsed}
+use Rattle.fm_query.specs.Plan.{Plan}
+use Rattle.fm_top.specs.Outcome.{record_file_limit, layout_file_limit}
+use Rattle.fm_top.specs.Queries.{IsRecordLayout, IsLayoutRefused, IsTextRefused}
+use Rattle.fm_top.specs.Whole.{IsRefused}
+use Rattle.fm_top.specs.Words.{Request, Sum, Layout, Query}
+
+-- the text is that of a query over records of the layout that was found, which comes to this plan
+abbrev pub IsAsked : Option (List ℕ) → List ℕ → Plan → Type 0
+IsAsked found text p = IsSomeAnd found (λ bytes. (t : Tree) × IsRecordLayout bytes t × IsParsed text t p)
+
+-- a file is missing
+abbrev pub LacksFile : Request → Contents → Type 0
+LacksFile (Sum size at kind file) contents = file_of contents file ≡ None
+LacksFile (Layout file) contents = file_of contents file ≡ None
+LacksFile (Query threads layout query file) contents =
+    (file_of contents layout ≡ None)
+    ⊎ ((p : Plan) × IsAsked (file_of contents layout) query p × (file_of contents file ≡ None))
+
+-- what was found has more bytes than the limit
+abbrev pub IsLong : Option (List ℕ) → ℕ → Type 0
+IsLong found limit = IsSomeAnd found (λ bytes. limit < length bytes)
+
+-- a file has more bytes than its limit
+abbrev pub HasLongFile : Request → Contents → Type 0
+HasLongFile (Sum size at kind file) contents = IsLong (file_of contents file) record_file_limit
+HasLongFile (Layout file) contents = IsLong (file_of contents file) layout_file_limit
+HasLongFile (Query threads layout query file) contents =
+    IsLong (file_of contents layout) layout_file_limit
+    ⊎ ((p : Plan) × IsAsked (file_of contents layout) query p × IsLong (file_of contents file) record_file_limit)
+
+-- the layout is refused
+abbrev pub HasRefusedLayout : Request → Contents → Type 0
+HasRefusedLayout (Sum size at kind file) contents = ⊥
+HasRefusedLayout (Layout file) contents = IsSomeAnd (file_of contents file) (λ bytes. IsRefused (layout_of_json bytes))
+HasRefusedLayout (Query threads layout query file) contents =
+    IsSomeAnd (file_of contents layout) (λ bytes. (e : Refusal) × IsLayoutRefused bytes e)
+
+-- the query is refused
+abbrev pub HasRefusedQuery : Request → Contents → Type 0
+HasRefusedQuery (Sum size at kind file) contents = ⊥
+HasRefusedQuery (Layout file) contents = ⊥
+HasRefusedQuery (Query threads layout query file) contents =
+    IsSomeAnd (file_of contents layout) (λ bytes. (t : Tree) × IsRecordLayout bytes t × (e : Refusal) × IsTextRefused query t e)
+
+-- what was found has a length that is no multiple of the size
+abbrev pub IsUneven : Option (List ℕ) → ℕ → Type 0
+IsUneven found size = IsSomeAnd found (λ bytes. length bytes % size ≢ 0)
+
+-- the record file is no whole number of records
+abbrev pub HasRaggedFile : Request → Contents → Type 0
+HasRaggedFile (Sum size at kind file) contents = IsUneven (file_of contents file) size
+HasRaggedFile (Layout file) contents = ⊥
+HasRaggedFile (Query threads layout query file) contents =
+    (p : Plan) × IsAsked (file_of contents layout) query p × IsUneven (file_of contents file) p.size

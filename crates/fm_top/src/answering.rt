@@ -1,0 +1,68 @@
+ghost use Rattle.std.specs.Prelude.{◌≡◌, ◌%◌, ◌≤◌, length, IfOk, IsErrOf};
+ghost use Rattle.fm_io.specs.Count.{Rose};
+ghost use Rattle.fm_records.specs.Answers.{answer};
+ghost use Rattle.fm_records.specs.Texts.{answer_text};
+ghost use Rattle.fm_top.specs.Ending.{MissesOnly, shown};
+ghost use Rattle.fm_top.specs.Found.{OfFound};
+ghost use Rattle.fm_top.specs.Outcome.{answered, of_records};
+ghost use Rattle.fm_top.specs.Queries.{answer_outcome};
+
+use crate::ending::Ending;
+use crate::held::RECORD_FILE_LIMIT;
+use crate::loaded::Loaded;
+use crate::loading::{LoadFault, load};
+use crate::stop::Stop;
+use fm_io::Files;
+use fm_query::Query;
+use fm_records::{answers_are_of_the_query, print_answer};
+use std::alloc::{AllocError, Global};
+use std::sync::Wait;
+
+/// Reads the record file, and answers how the run ends.
+pub fn answer_ending<R: Wait, F: Files>(
+    rt: &R,
+    alloc: Global,
+    files: &mut F,
+    file: &str,
+    q: &Query,
+) -> Result<Ending, Stop>
+    ensures outcome { IfOk result (λ ending. OfFound (F.holds files.old) file.now (λ found.
+        shown ending ≡ answer_outcome q.now file.now found)) }
+    ensures missing { IfOk result (MissesOnly (F.misses files.old) (F.misses files.new)) }
+    ensures failed { IsErrOf result Stop.Failed → Rose (F.faults files.old) (F.faults files.new) }
+{
+    match load(rt, alloc, files, file) {
+        Ok(mut loaded) => Ok(loaded_ending(alloc, &mut loaded, q)?),
+        Err(LoadFault::Missing) => Ok(Ending::missing(alloc, file)?),
+        Err(LoadFault::TooLong) => Ok(Ending::too_long(alloc)?),
+        Err(LoadFault::Failed) => Err(Stop::Failed),
+        Err(LoadFault::Memory) => Err(Stop::Memory),
+    }
+}
+
+/// How the run ends for a record file that was loaded whole.
+fn loaded_ending(alloc: Global, loaded: &mut Loaded, q: &Query) -> Result<Ending, AllocError>
+    requires { length loaded.old ≤ RECORD_FILE_LIMIT }
+    ensures { IfOk result (λ ending. shown ending
+        ≡ of_records q.now.size (answer_text q.now (answer q.now loaded.old)) loaded.old) }
+{
+    let rest = loaded.len() % q.record_size();
+    if rest == 0 {
+        whole_ending(alloc, loaded, q)
+    } else {
+        Ending::ragged(alloc, rest)
+    }
+}
+
+/// How the run ends for a whole number of records.
+fn whole_ending(alloc: Global, loaded: &mut Loaded, q: &Query) -> Result<Ending, AllocError>
+    requires { length loaded.old % q.now.size ≡ 0 }
+    ensures { IfOk result (λ ending. shown ending ≡ answered (answer_text q.now (answer q.now loaded.old))) }
+{
+    let found = loaded.answer(alloc, q)?;
+    match print_answer(alloc, q, &found) {
+        Ok(text) => Ok(Ending::answered(text)),
+        // It is refused for want of memory alone.
+        Err(_) => Err(AllocError),
+    }
+}

@@ -1,0 +1,21 @@
+ghost use Rattle.std.specs.Prelude.{◌≡◌, ◌^◌, ◌<◌, IfSome, IfNone, ℕ};
+ghost use Rattle.std.specs.Fmt.{decimal};
+
+use itoa::Buffer;
+
+/// The number that a word spells in decimal digits, with no sign and no leading zero.
+pub fn number_of_word(word: &str) -> Option<u64>
+    ensures found { IfSome result (λ n. word.now ≡ decimal n) }
+    ensures fits { IfSome result (λ n. n < 2 ^ 64) }
+    ensures none { IfNone result ((n : ℕ) → n < 2 ^ 64 → word.now ≡ decimal n → ⊥) }
+{
+    let Ok(n) = word.parse::<u64>() else {
+        return None;
+    };
+    let mut buffer = Buffer::new();
+    if buffer.format(n) == word {
+        Some(n)
+    } else {
+        None
+    }
+}

@@ -1,0 +1,125 @@
+ghost use Rattle.std.specs.Prelude.{◌≡◌, ◌≢◌, ◌≤◌, ◌⊎◌, length, IfOk, IfErr, IsErrOf};
+ghost use Rattle.fm_io.specs.Count.{Rose};
+ghost use Rattle.fm_query.specs.Records.{IsRecord};
+ghost use Rattle.fm_top.specs.Ending.{MissesOnly, shown};
+ghost use Rattle.fm_top.specs.Found.{OfFound};
+ghost use Rattle.fm_top.specs.Outcome.{layout_refused, query_refused};
+ghost use Rattle.fm_top.specs.Queries.{IsLayoutRefused, IsRecordLayout, LayoutEnds, TextEnds};
+ghost use Rattle.fm_top.specs.Run.{HasOutcome};
+ghost use Rattle.fm_top.specs.Words.{Query};
+
+use crate::answering::answer_ending;
+use crate::ending::Ending;
+use crate::loading::LoadFault;
+use crate::query_words::QueryCommand;
+use crate::stop::Stop;
+use crate::whole_file::{LAYOUT_FILE_LIMIT, read_whole};
+use fm_base::Refusal;
+use fm_io::Files;
+use fm_layout::Layout;
+use fm_ljson::layout_from_json;
+use fm_query::{check_record, parse_query};
+use std::alloc::Global;
+use std::sync::Wait;
+
+/// Reads the layout's file, then the query's text, then the record file, and answers how the run ends.
+pub fn query_ending<R: Wait, F: Files>(
+    rt: &R,
+    alloc: Global,
+    files: &mut F,
+    query: &QueryCommand<'_>,
+) -> Result<Ending, Stop>
+    ensures outcome { IfOk result (λ ending. HasOutcome
+        (Query query.now.threads query.now.layout.now query.now.query.now query.now.file.now)
+        (F.holds files.old) (shown ending)) }
+    ensures missing { IfOk result (MissesOnly (F.misses files.old) (F.misses files.new)) }
+    ensures failed { IsErrOf result Stop.Failed → Rose (F.faults files.old) (F.faults files.new) }
+{
+    match read_whole(alloc, files, query.layout, LAYOUT_FILE_LIMIT) {
+        Ok(bytes) => layout_ending(rt, alloc, files, query, &bytes),
+        Err(LoadFault::Missing) => Ok(Ending::missing(alloc, query.layout)?),
+        Err(LoadFault::TooLong) => Ok(Ending::too_long(alloc)?),
+        Err(LoadFault::Failed) => Err(Stop::Failed),
+        Err(LoadFault::Memory) => Err(Stop::Memory),
+    }
+}
+
+/// How the run ends for a layout's file of these bytes.
+fn layout_ending<R: Wait, F: Files>(
+    rt: &R,
+    alloc: Global,
+    files: &mut F,
+    query: &QueryCommand<'_>,
+    bytes: &[u8],
+) -> Result<Ending, Stop>
+    requires { length bytes.now ≤ LAYOUT_FILE_LIMIT }
+    ensures outcome { IfOk result (λ ending. OfFound (F.holds files.old) query.now.file.now (λ found.
+        LayoutEnds bytes.now query.now.query.now query.now.file.now found (shown ending))) }
+    ensures missing { IfOk result (MissesOnly (F.misses files.old) (F.misses files.new)) }
+    ensures failed { IsErrOf result Stop.Failed → Rose (F.faults files.old) (F.faults files.new) }
+{
+    match record_layout(alloc, bytes) {
+        Ok(layout) => text_ending(rt, alloc, files, query, &layout),
+        Err(refusal) => layout_refusal(alloc, refusal),
+    }
+}
+
+/// The layout of records for which the bytes stand. Refused: as `layout_from_json`, then as `check_record`.
+fn record_layout(alloc: Global, bytes: &[u8]) -> Result<Layout, Refusal>
+    requires { length bytes.now ≤ LAYOUT_FILE_LIMIT }
+    ensures layout { IfOk result (IsRecordLayout bytes.now) }
+    ensures refused { IfErr result (λ refusal. IsLayoutRefused bytes.now refusal ⊎ (refusal ≡ Refusal.Memory)) }
+{
+    let layout = match layout_from_json(alloc, bytes) {
+        Ok(layout) => layout,
+        Err(refusal) => return Err(refusal),
+    };
+    match check_record(&layout) {
+        Ok(()) => Ok(layout),
+        Err(refusal) => Err(refusal),
+    }
+}
+
+/// How the run ends for records of this layout.
+fn text_ending<R: Wait, F: Files>(
+    rt: &R,
+    alloc: Global,
+    files: &mut F,
+    query: &QueryCommand<'_>,
+    layout: &Layout,
+) -> Result<Ending, Stop>
+    requires { IsRecord layout.now }
+    ensures outcome { IfOk result (λ ending. OfFound (F.holds files.old) query.now.file.now (λ found.
+        TextEnds query.now.query.now layout.now query.now.file.now found (shown ending))) }
+    ensures missing { IfOk result (MissesOnly (F.misses files.old) (F.misses files.new)) }
+    ensures failed { IsErrOf result Stop.Failed → Rose (F.faults files.old) (F.faults files.new) }
+{
+    match parse_query(alloc, query.query, layout) {
+        Ok(asked) => answer_ending(rt, alloc, files, query.file, &asked),
+        Err(refusal) => query_refusal(alloc, refusal),
+    }
+}
+
+/// How the run ends where the layout is refused, but for want of memory.
+fn layout_refusal(alloc: Global, refusal: Refusal) -> Result<Ending, Stop>
+    ensures ending { IfOk result (λ ending. shown ending ≡ layout_refused refusal) }
+    ensures other { IfOk result (λ _. refusal ≢ Refusal.Memory) }
+    ensures memory { IfErr result (λ stop. stop ≡ Stop.Memory) }
+{
+    match refusal {
+        Refusal::Memory => Err(Stop::Memory),
+        _ => Ok(Ending::layout_refused(alloc, refusal)?),
+    }
+}
+
+/// How the run ends where the query is refused, but for want of memory.
+fn query_refusal(alloc: Global, refusal: Refusal) -> Result<Ending, Stop>
+    ensures ending { IfOk result (λ ending. shown ending ≡ query_refused refusal) }
+    ensures other { IfOk result (λ _. refusal ≢ Refusal.Memory) }
+    ensures memory { IfErr result (λ stop. stop ≡ Stop.Memory) }
+{
+    match refusal {
+        Refusal::Memory => Err(Stop::Memory),
+        _ => Ok(Ending::query_refused(alloc, refusal)?),
+    }
+}
