@@ -35,10 +35,7 @@ pub struct LayoutCommand<'a> {
 }
 
 /// What the words ask for, and nothing where they are of no form.
-pub fn command_of<'a>(
-    alloc: Global,
-    words: &'a [String],
-) -> Result<Option<Command<'a>>, AllocError>
+pub fn command_of<'a>(alloc: Global, words: &'a [String]) -> Result<Option<Command<'a>>, AllocError>
     ensures found { IfOk result (λ found.
         IfSome found (λ command. Asks (texts words.now) (request_of command))) }
     ensures none { IfOk result (λ found. IfNone found (AreFaulty (texts words.now))) }
