@@ -1,7 +1,6 @@
 -- Which words ask a query.
-use Rattle.std.proofs.Common.{◌≡◌, ◌≢◌, ℕ, ◌-◌, ◌≤◌, ◌<◌, List, [], ◌∷◌, length, take, drop, get_or, codes, Option, None, Some, refl, sym, ap, subst, ◌∙◌, arith}
+use Rattle.std.proofs.Common.{◌≡◌, ◌≢◌, ℕ, ◌-◌, ◌≤◌, List, [], ◌∷◌, length, take, drop, get_or, codes, Option, None, Some, refl, sym, ap, subst, ◌∙◌, arith}
 use Rattle.std.specs.Prelude.{Bool, true, false, not, IfSome, IfNone, String, string_bytes}
-use Rattle.std.specs.Fmt.{decimal}
 use Rattle.std.specs.Str.{bytes_eq}
 use Rattle.std.specs.declared.alloc.Global.{Global}
 use Rattle.std.proofs.lemmas.Fmt.{decimal_injective}
@@ -91,8 +90,3 @@ pub none_by : (words behind : List (List ℕ)) (w : List ℕ) (text : Option (Li
 none_by words behind w text names is said none threads layout query file asks =
     let same = one_saying behind text asks.text names (three layout query file) said (behind_is words behind w threads layout query file is asks) in
     none threads layout query file (subst (λ (t : Option (List ℕ)). AreThreadsBy t threads) (sym same.0) asks.are_threads) same.1
-
-pub none_unsaid : (words behind : List (List ℕ)) (w : List ℕ) → words ≡ w ∷ behind
-    → ((text : Option (List ℕ)) (names : List (List ℕ)) → Say behind text names → ⊥) → AskNoQuery words
-none_unsaid words behind w is none threads layout query file asks =
-    none asks.text (three layout query file) (behind_is words behind w threads layout query file is asks)

@@ -1,7 +1,7 @@
 use Rattle.std.proofs.Common.{◌≡◌, ◌-◌, ◌∷◌, length, take, drop, codes}
 use Rattle.std.proofs.lemmas.Option.{IfSome_then}
 use Rattle.fm_options.specs.Options.{lent, lent_one, texts}
-use Rattle.fm_top.proofs.Asking.{differs, is_query, is_same, none_by, of_some, texts_cut}
+use Rattle.fm_top.proofs.Asking.{is_query, is_same, none_by, of_some, texts_cut}
 use Rattle.fm_top.proofs.Numbers.{on_none}
 use Rattle.fm_top.proofs.query_words.query_words.Goals as goal
 
