@@ -13,7 +13,8 @@ use std::alloc::Global;
 use std::sync::Wait;
 
 /// The layout of an order: 24 bytes, with an int `id`, a short `kind`, a long `price` and four bytes `tags`.
-const ORDER: &str = "{\"type\":\"struct\",\"members\":[{\"type\":\"int\",\"name\":\"id\"},{\"type\":\"short\",\"name\":\"kind\"},{\"type\":\"padding\",\"size\":2},{\"type\":\"long\",\"name\":\"price\"},{\"type\":\"sequence\",\"name\":\"tags\",\"count\":4,\"element\":{\"type\":\"byte\"}},{\"type\":\"padding\",\"size\":4}]}";
+const ORDER: &str =
+    "{\"type\":\"struct\",\"members\":[{\"type\":\"int\",\"name\":\"id\"},{\"type\":\"short\",\"name\":\"kind\"},{\"type\":\"padding\",\"size\":2},{\"type\":\"long\",\"name\":\"price\"},{\"type\":\"sequence\",\"name\":\"tags\",\"count\":4,\"element\":{\"type\":\"byte\"}},{\"type\":\"padding\",\"size\":4}]}";
 
 /// How many orders there are: so many as fit in 64 MiB.
 const ORDERS: u64 = 2_796_202;
@@ -60,9 +61,27 @@ fn orders<R: Wait>(rt: &R, alloc: Global) -> Result<(Mono, Segment), Refusal>
         let kind = (k.wrapping_mul(2_654_435_761) >> 7) % 5;
         let tags = k.wrapping_mul(40_503) % 4_294_967_296;
         let price = (k.wrapping_mul(48_271) % 1_000_003) as i64;
-        segment.set(rt, &mut memory, &long, 24 * k, Value::Long((k + (kind << 32)) as i64))?;
-        segment.set(rt, &mut memory, &long, 24 * k + 8, Value::Long(price - 500_000))?;
-        segment.set(rt, &mut memory, &long, 24 * k + 16, Value::Long(tags as i64))?;
+        segment.set(
+            rt,
+            &mut memory,
+            &long,
+            24 * k,
+            Value::Long((k + (kind << 32)) as i64),
+        )?;
+        segment.set(
+            rt,
+            &mut memory,
+            &long,
+            24 * k + 8,
+            Value::Long(price - 500_000),
+        )?;
+        segment.set(
+            rt,
+            &mut memory,
+            &long,
+            24 * k + 16,
+            Value::Long(tags as i64),
+        )?;
     }
     Ok((memory, segment))
 }

@@ -1,18 +1,17 @@
 -- What the only caller did is done beside another caller's arena too.
-use Rattle.std.proofs.Common.{◌≡◌, ◌≢◌, ℕ, ◌+◌, ◌*◌, ◌%◌, ◌^◌, ◌<◌, ◌≤◌, ◌==◌, Bool, true, false, if◌then◌else◌, List, [], ◌∷◌, ◌++◌, refl, ap, sym, ◌∙◌, subst, arith, Option, Some, None, All, eqb-true, inl, Result, Ok, Err, IfOk}
-use Rattle.std.specs.Prelude.{Contains, filter, slice_index}
+use Rattle.std.proofs.Common.{◌≡◌, ◌≢◌, ℕ, ◌+◌, ◌*◌, ◌%◌, ◌^◌, ◌<◌, ◌≤◌, ◌==◌, Bool, true, false, if◌then◌else◌, List, [], ◌∷◌, ◌++◌, refl, ap, sym, ◌∙◌, subst, arith, Option, Some, All, eqb-true, inl, Result, Ok, Err, IfOk}
+use Rattle.std.specs.Prelude.{Contains, slice_index}
 use Rattle.std.proofs.lemmas.List.Elements.{All-head, All-tail, All-weaker, filter_passes}
 use Rattle.fm_base.specs.declared.arena_id.ArenaId.{ArenaId}
 use Rattle.fm_base.specs.declared.kind.Kind.{Kind}
 use Rattle.fm_base.specs.declared.refusal.Refusal.{Refusal}
-use Rattle.fm_base.specs.Arenas.{State, Arena, Life, Alive, Closing, Ended, has_arena, arena_of, changed, same_id, no_arena, IsUnderWay}
+use Rattle.fm_base.specs.Arenas.{State, Arena, Alive, Closing, Ended, has_arena, arena_of, changed, same_id, IsUnderWay}
 use Rattle.fm_base.specs.Calls.{Call, Open, Enter, Read, Write, SwapIf, Add, Allocate, Leave, Hold, Unhold, Shut, End, Lend, Back, Reply, Fine, Found, Given, Entry, entry_of}
 use Rattle.fm_base.specs.Machine.{MayCall, MayReach, IsUnderWayNowhere, enter_reply, allocate_reply, hold_reply, shut_reply, reply_to, state_by, after, opened, entered, left, written, given_up_to, held, released, closing, ended}
 use Rattle.fm_base.specs.Histories.{IsLegal, state_after, made_by}
 use Rattle.fm_base.specs.View.{Makes, Did, inside_next, inside_after, but_loans}
 use Rattle.fm_base.specs.Does.{CanReach, DoesOpen}
 use Rattle.fm_base.specs.Outcomes.{IsNew}
-use Rattle.fm_base.proofs.Faith.{Makes-alone}
 use Rattle.fm_base.proofs.Lookup.{changed_has, arena_of-none}
 use Rattle.fm_base.proofs.Names.{same_id-self, same_id-true}
 use Rattle.fm_base.proofs.Outcomes.{Has, opened_new}

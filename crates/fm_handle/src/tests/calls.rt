@@ -111,7 +111,7 @@ pub(super) fn adds<R: Abort + Wait>(
     assert_eq!(rt; h.get_and_add(rt, m, s, base, indices, delta), answer);
 }
 
-/// Stops where `compare_and_exchange` at the base doesn't find so.
+/// Stops where `compare_and_exchange` at base 0 doesn't answer so.
 pub(super) fn exchanges<R: Abort + Wait>(
     rt: &R,
     m: &mut Mono,
@@ -119,7 +119,7 @@ pub(super) fn exchanges<R: Abort + Wait>(
     s: &Segment,
     expected: Value,
     v: Value,
-    found: Value,
+    answer: Result<Value, Refusal>,
 )
     requires known { IsKnown (view_of m.old) s.now }
     requires outside { m.old.inside ≡ None }
@@ -131,11 +131,11 @@ pub(super) fn exchanges<R: Abort + Wait>(
     holds(rt, h, v);
     assert_eq!(rt;
         h.compare_and_exchange(rt, m, s, 0, &[], expected, v),
-        Ok(found)
+        answer
     );
 }
 
-/// Stops where `compare_and_set` at the base doesn't win so.
+/// Stops where `compare_and_set` at base 0 doesn't answer so.
 pub(super) fn wins<R: Abort + Wait>(
     rt: &R,
     m: &mut Mono,
@@ -143,7 +143,7 @@ pub(super) fn wins<R: Abort + Wait>(
     s: &Segment,
     expected: Value,
     v: Value,
-    won: bool,
+    answer: Result<bool, Refusal>,
 )
     requires known { IsKnown (view_of m.old) s.now }
     requires outside { m.old.inside ≡ None }
@@ -153,7 +153,7 @@ pub(super) fn wins<R: Abort + Wait>(
     takes(rt, h, &[]);
     holds(rt, h, expected);
     holds(rt, h, v);
-    assert_eq!(rt; h.compare_and_set(rt, m, s, 0, &[], expected, v), Ok(won));
+    assert_eq!(rt; h.compare_and_set(rt, m, s, 0, &[], expected, v), answer);
 }
 
 /// Stops where `set_long` doesn't answer so.
@@ -176,7 +176,7 @@ pub(super) fn sets_long<R: Abort>(
     assert_eq!(rt; h.set_long(m, s, base, indices, v), answer);
 }
 
-/// Stops where `compare_and_exchange_long` at the base doesn't find so.
+/// Stops where `compare_and_exchange_long` at base 0 doesn't find so.
 pub(super) fn exchanges_long<R: Abort>(
     rt: &R,
     m: &mut Mono,
@@ -198,7 +198,7 @@ pub(super) fn exchanges_long<R: Abort>(
     );
 }
 
-/// Stops where `get_and_add_long` at the base doesn't answer so.
+/// Stops where `get_and_add_long` at base 0 doesn't answer so.
 pub(super) fn adds_long<R: Abort>(
     rt: &R,
     m: &mut Mono,

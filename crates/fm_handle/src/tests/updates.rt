@@ -32,10 +32,10 @@ fn longs_are_exchanged(rt: HostRuntime) {
         sets_long(&rt, &mut m, &long, &s, 0, &[], 0, Ok(()));
         exchanges_long(&rt, &mut m, &long, &s, 0, 9, 0);
         exchanges_long(&rt, &mut m, &long, &s, 0, 3, 9);
-        exchanges(&rt, &mut m, &long, &s, zero, zero, nine);
-        exchanges(&rt, &mut m, &long, &s, nine, zero, nine);
-        wins(&rt, &mut m, &long, &s, zero, nine, true);
-        wins(&rt, &mut m, &long, &s, zero, nine, false);
+        exchanges(&rt, &mut m, &long, &s, zero, zero, Ok(nine));
+        exchanges(&rt, &mut m, &long, &s, nine, zero, Ok(nine));
+        wins(&rt, &mut m, &long, &s, zero, nine, Ok(true));
+        wins(&rt, &mut m, &long, &s, zero, nine, Ok(false));
         gets(&rt, &mut m, &long, &s, 0, &[], Ok(nine));
     }
 }

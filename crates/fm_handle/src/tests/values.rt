@@ -1,4 +1,4 @@
-use super::calls::{adds, fresh, gets, holds, sets, takes};
+use super::calls::{adds, exchanges, fresh, gets, holds, sets, takes, wins};
 use super::layouts::{accounts, anywhere, either, handle, table, value};
 use crate::VarHandle;
 use fm_base::{Memory, Refusal};
@@ -58,7 +58,10 @@ fn a_value_across_words_is_got_and_set_alone(rt: HostRuntime) {
     let int = handle(&rt, rt.alloc(), &anywhere(&rt, v, Order::Little), ".");
     sets(&rt, &mut m, &int, &s, 6, &[], v, Ok(()));
     gets(&rt, &mut m, &int, &s, 6, &[], Ok(v));
-    adds(&rt, &mut m, &int, &s, 6, &[], v, Err(Refusal::Unsupported));
+    let refused = Refusal::Unsupported;
+    adds(&rt, &mut m, &int, &s, 6, &[], v, Err(refused));
+    exchanges(&rt, &mut m, &int, &s, v, v, Err(refused));
+    wins(&rt, &mut m, &int, &s, v, v, Err(refused));
     let byte = value(&rt, rt.alloc(), ValueKind::Byte, Order::Little);
     for (place, b) in [(5, 0), (6, 4), (7, 3), (8, 2), (9, 1), (10, 0)] {
         gets(&rt, &mut m, &byte, &s, place, &[], Ok(Value::Byte(b)));

@@ -42,7 +42,7 @@ fn text_file(alloc: Global, name: &str, text: &str) -> Result<(String, Vec<u8>),
 
 /// The first bytes of the sales.
 fn sales(alloc: Global, count: usize) -> Result<Vec<u8>, AllocError> {
-    SALES[..count].to_vec(alloc)
+    SALES[..count.min(SALES.len())].to_vec(alloc)
 }
 
 /// `L1`, of which `R1` has two records, the empty file `E`, and `R1` with a byte more, which is named `Ragged`; and

@@ -1,5 +1,4 @@
-use Rattle.std.proofs.Common.{◌≡◌, ◌∙◌, true, false, refl, sym}
-use Rattle.fm_memory_tests.specs.Fenced.{others_id}
+use Rattle.std.proofs.Common.{◌≡◌, ◌∙◌, true, false, refl}
 use Rattle.fm_memory_tests.proofs.Fencing.{own_or}
 use Rattle.fm_memory_tests.proofs.fenced.Fenced.is_own.Goals as goal
 
