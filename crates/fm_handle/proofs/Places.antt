@@ -111,11 +111,12 @@ both_true true false h = absurd (let no : ⊥ = cc in no)
 both_true false b h = absurd (let no : ⊥ = cc in no)
 
 -- A place of an alignment is a multiple of each smaller power of two.
-multiple : (place width alignment : ℕ) → IsPowerOfTwo width → IsPowerOfTwo alignment → width ≤ alignment → place % alignment ≡ 0 → place % width ≡ 0
+pub multiple : (place width alignment : ℕ) → IsPowerOfTwo width → IsPowerOfTwo alignment → width ≤ alignment → place % alignment ≡ 0 → place % width ≡ 0
 multiple place width alignment w a le h =
     divides_gives width place (positive_power width w) (divides_trans width alignment place (divides_powers width alignment w a le) (divides_from alignment place h))
 
-word_by_kind : (k : ValueKind) (alignment place : ℕ) → IsPowerOfTwo alignment → place % alignment ≡ 0 → is_int_or_long k ≡ true → width_of k ≤ alignment → place % 8 + width_of k ≤ 8
+-- So an int or a long that is aligned to its width lies in one word.
+pub word_by_kind : (k : ValueKind) (alignment place : ℕ) → IsPowerOfTwo alignment → place % alignment ≡ 0 → is_int_or_long k ≡ true → width_of k ≤ alignment → place % 8 + width_of k ≤ 8
 word_by_kind Int alignment place a h is le = let e = multiple place 4 alignment (2, refl) a le h in omega arith
 word_by_kind Long alignment place a h is le = let e = multiple place 8 alignment (3, refl) a le h in omega arith
 word_by_kind Byte alignment place a h is le = absurd (let no : ⊥ = cc in no)

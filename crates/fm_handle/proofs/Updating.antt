@@ -270,7 +270,7 @@ expected_set old now spec id place expected v found false is e = ((λ q. is (e.v
 
 -- ---- sums
 
-kind_of-decoded : (k : ValueKind) (n : ℕ) → kind_of (decoded k n) ≡ k
+pub kind_of-decoded : (k : ValueKind) (n : ℕ) → kind_of (decoded k n) ≡ k
 kind_of-decoded kind.Byte n = refl
 kind_of-decoded kind.Boolean n = refl
 kind_of-decoded kind.Char n = refl
@@ -278,7 +278,7 @@ kind_of-decoded kind.Short n = refl
 kind_of-decoded kind.Int n = refl
 kind_of-decoded kind.Long n = refl
 
-kind_of-sum_of : (a b : Value) → kind_of (sum_of a b) ≡ kind_of a
+pub kind_of-sum_of : (a b : Value) → kind_of (sum_of a b) ≡ kind_of a
 kind_of-sum_of (Int a) (Int b) = refl
 kind_of-sum_of (Long a) (Long b) = refl
 kind_of-sum_of a b = refl

@@ -34,8 +34,10 @@ pub fn query_segment<M: Memory>(
     ensures did { Did (M.view m.old) (M.view m.new) (DoesQuery (M.view m.old).caller q.now s.now result) }
     ensures refused { IfErr result (QueryCause q.now s.now (M.view m.old).caller) }
     ensures answer { IfOk result (IsAnswerOf q.now) }
-    ensures alone { (M.view m.old).alone ≡ true → IfOk result (FindsAnswer (M.view m.old) (M.view m.new) q.now s.now) }
-    ensures shut { (M.view m.old).alone ≡ true → IfErr result (FindsNone (M.view m.old) (M.view m.new) s.now) }
+    ensures alone { (M.view m.old).alone ≡ true
+        → IfOk result (FindsAnswer (M.view m.old) (M.view m.new) q.now s.now) }
+    ensures shut { (M.view m.old).alone ≡ true
+        → IfErr result (FindsNone (M.view m.old) (M.view m.new) s.now) }
     ensures outside { (M.view m.new).inside ≡ None }
     ensures lasts { Lasts (M.view m.old) (M.view m.new) }
     ensures known { IsKnown (M.view m.new) s.now }

@@ -1,7 +1,7 @@
 -- Each call of a handle stays below the segment's end, and so is tidy.
 use Rattle.std.proofs.Common.{◌≡◌, ℕ, ◌+◌, ◌*◌, ◌/◌, ◌%◌, ◌^◌, ◌<◌, ◌≤◌, inl, inr, Bool, true, false, if◌then◌else◌, nat_le, None, Result, Ok, Err, List, length, refl, sym, ap, subst, ◌∙◌, arith}
 use Rattle.std.proofs.lemmas.Bool.{leb-true}
-use Rattle.std.specs.Int.{IsPowerOfTwo, is_power_of_two}
+use Rattle.std.specs.Int.{is_power_of_two}
 use Rattle.fm_base.specs.declared.arena_id.ArenaId.{ArenaId}
 use Rattle.fm_base.specs.declared.refusal.Refusal.{Refusal}
 use Rattle.fm_base.specs.declared.refusal.Refusal.TheVariants.{IndexOut, ReadOnly, Unsupported, WrongThread, Closed}
@@ -12,10 +12,9 @@ use Rattle.fm_bytes.specs.Bytes.{number_of}
 use Rattle.fm_bytes.proofs.Bytes.{number_of-lt}
 use Rattle.fm_lanes.specs.declared.order.Order.{Order}
 use Rattle.fm_lanes.specs.declared.value.Value.{Value}
-use Rattle.fm_lanes.specs.declared.value.Value.TheVariants.{Int, Long}
 use Rattle.fm_lanes.specs.declared.value_kind.ValueKind.{ValueKind}
 use Rattle.fm_lanes.specs.declared.value_kind.ValueKind.TheVariants as kind
-use Rattle.fm_lanes.specs.Coding.{bytes_of_value, decoded}
+use Rattle.fm_lanes.specs.Coding.{bytes_of_value}
 use Rattle.fm_lanes.specs.Kind.{width_of}
 use Rattle.fm_lanes.specs.Value.{kind_of}
 use Rattle.fm_layout.specs.Tree as tree
@@ -27,7 +26,7 @@ use Rattle.fm_path.specs.Resolution.{Resolution, IsResolved, StaysInside}
 use Rattle.fm_path.proofs.Resolving.{stays_inside}
 use Rattle.fm_path.specs.declared.value_spec.ValueSpec.{ValueSpec}
 use Rattle.fm_places.specs.Walk.{offset_at}
-use Rattle.fm_places.proofs.Inside.{divides_from, divides_gives, divides_add, divides_trans, divides_powers}
+use Rattle.fm_places.proofs.Inside.{divides_from, divides_gives, divides_add, divides_trans}
 use Rattle.fm_pieces.specs.Ranges.{DoesPut}
 use Rattle.fm_segment.specs.Region.{Region}
 use Rattle.fm_steps.specs.declared.step.PathStep.{PathStep}
@@ -36,7 +35,8 @@ use Rattle.fm_handle.specs.Access.{DoesAt, DoesVisit, Wins}
 use Rattle.fm_handle.specs.Acts.{Exchanges, puts, finds_another, CutOff, looked, missed, at_read, at_swap, with_value, sum_of}
 use Rattle.fm_handle.specs.Place.{if_writable, if_rooted, value_place, place_of, writable_place_of, update_place_of, can_update, fills_word, is_word, is_int_or_long, is_long, is_little}
 use Rattle.fm_handle.proofs.Causes.{tested, rooted}
-use Rattle.fm_handle.proofs.Places.{rooted_is, both_true}
+use Rattle.fm_handle.proofs.Places.{rooted_is, both_true, multiple, word_by_kind}
+use Rattle.fm_handle.proofs.Updating.{kind_of-decoded, kind_of-sum_of}
 use Rattle.fm_tidy.specs.Handles.{DoesCall, gets, sets, sets_long, compares_and_sets, exchanges, exchanges_long, adds, adds_long, HandlesAreTidy, LoneHandlesAreTidy}
 use Rattle.fm_tidy.proofs.Staying.{StayBelow, ActBelow, stay_visit, tries_below, tidy_by, tidy_alone}
 use Rattle.fm_tidy.proofs.Tidying.{stay_none, stay_refused, get_stays, put_stays, value_bytes}
@@ -79,18 +79,6 @@ lies base is h r p s len e =
 
 -- ---- in one word
 
-multiple : (place width alignment : ℕ) → IsPowerOfTwo width → IsPowerOfTwo alignment → width ≤ alignment → place % alignment ≡ 0 → place % width ≡ 0
-multiple place width alignment w a le h =
-    divides_gives width place (positive_power width w) (divides_trans width alignment place (divides_powers width alignment w a le) (divides_from alignment place h))
-
-in_word : (k : ValueKind) (alignment place : ℕ) → IsPowerOfTwo alignment → place % alignment ≡ 0 → is_int_or_long k ≡ true → width_of k ≤ alignment → place % 8 + width_of k ≤ 8
-in_word kind.Int alignment place a h is le = let e = multiple place 4 alignment (2, refl) a le h in omega arith
-in_word kind.Long alignment place a h is le = let e = multiple place 8 alignment (3, refl) a le h in omega arith
-in_word kind.Byte alignment place a h is le = absurd (let no : ⊥ = cc in no)
-in_word kind.Boolean alignment place a h is le = absurd (let no : ⊥ = cc in no)
-in_word kind.Char alignment place a h is le = absurd (let no : ⊥ = cc in no)
-in_word kind.Short alignment place a h is le = absurd (let no : ⊥ = cc in no)
-
 long_width : (k : ValueKind) → is_long k ≡ true → width_of k ≡ 8
 long_width kind.Long is = refl
 long_width kind.Byte is = absurd (let no : ⊥ = cc in no)
@@ -103,7 +91,7 @@ long_width kind.Int is = absurd (let no : ⊥ = cc in no)
 updated_in : (h : Resolution) (r : Region) (p : ℕ) → Lies h r p → can_update h.value ≡ true → p % 8 + width_of h.value.kind ≤ 8
 updated_in h r p l e =
     let both = both_true (is_int_or_long h.value.kind) (nat_le (width_of h.value.kind) h.value.alignment) e in
-    in_word h.value.kind h.value.alignment p (IsPowerOfTwo-from_test h.value.alignment l.power) l.aligned both.0 (leb-true (width_of h.value.kind) h.value.alignment both.1)
+    word_by_kind h.value.kind h.value.alignment p (IsPowerOfTwo-from_test h.value.alignment l.power) l.aligned both.0 (leb-true (width_of h.value.kind) h.value.alignment both.1)
 
 -- a long that fills a word
 fills_in : (h : Resolution) (r : Region) (p : ℕ) → Lies h r p → fills_word h.value ≡ true → 8 * (p / 8) + 8 ≤ r.first + r.size
@@ -155,19 +143,6 @@ wins_below : (a : ArenaId) (bound place : ℕ) (o : Order) (expected v : Value) 
 wins_below a bound place o expected v true acts fits ends w = exchange_below a bound place o expected v expected acts fits ends w
 wins_below a bound place o expected v false acts fits ends w = exchange_below a bound place o expected v w.0 acts fits ends w.2
 
-kind_of_decoded : (k : ValueKind) (n : ℕ) → kind_of (decoded k n) ≡ k
-kind_of_decoded kind.Byte n = refl
-kind_of_decoded kind.Boolean n = refl
-kind_of_decoded kind.Char n = refl
-kind_of_decoded kind.Short n = refl
-kind_of_decoded kind.Int n = refl
-kind_of_decoded kind.Long n = refl
-
-kind_of_sum : (a b : Value) → kind_of (sum_of a b) ≡ kind_of a
-kind_of_sum (Int a) (Int b) = refl
-kind_of_sum (Long a) (Long b) = refl
-kind_of_sum a b = refl
-
 -- ---- every call
 
 module _ (c : ℕ) (h : Resolution) (r : Region) (base : ℕ) (is : List ℕ) (s : StaysInside h) (len : length is ≡ length h.dims) where
@@ -214,7 +189,7 @@ module _ (c : ℕ) (h : Resolution) (r : Region) (base : ℕ) (is : List ℕ) (s
   call_stays own (adds delta result k d) = at_stays r.arena (r.first + r.size) (update_place_of can_update base is h r) _ result own
       (λ p e g. visit_stays r.arena (r.first + r.size) c _ result own
       (λ x acts a.
-      let same : kind_of (sum_of x delta) ≡ h.value.kind = kind_of_sum x delta ∙ (ap kind_of a.value ∙ (kind_of_decoded (kind_of delta) _ ∙ k)) in
+      let same : kind_of (sum_of x delta) ≡ h.value.kind = kind_of-sum_of x delta ∙ (ap kind_of a.value ∙ (kind_of-decoded (kind_of delta) _ ∙ k)) in
       let f = fits_at (sum_of x delta) p same e in value_below r.arena (r.first + r.size) p h.value.order (sum_of x delta) a.word acts f.0 f.1 a.tries) g) d
   call_stays own (adds_long delta result d) = at_stays r.arena (r.first + r.size) (update_place_of is_word base is h r) _ result own
       (λ p e g. visit_stays r.arena (r.first + r.size) c _ result own

@@ -21,7 +21,12 @@ const ROW: [&str; 4] = ["query", "L1", "min(.price) where .kind=9", "R1"];
 const NONE: &str = "min(.price) none\n";
 
 /// Runs the tool on these words.
-fn run_words<R, F, O>(rt: &R, words: &[&str], files: &mut F, out: &mut O) -> Result<u8, AllocError>
+pub(super) fn run_words<R, F, O>(
+    rt: &R,
+    words: &[&str],
+    files: &mut F,
+    out: &mut O,
+) -> Result<u8, AllocError>
 where
     R: Threads + Wait + RandomSource + AllocGlobal,
     F: Files,
@@ -36,7 +41,11 @@ where
 }
 
 /// A file of a text under its name.
-fn text_file(alloc: Global, name: &str, text: &str) -> Result<(String, Vec<u8>), AllocError> {
+pub(super) fn text_file(
+    alloc: Global,
+    name: &str,
+    text: &str,
+) -> Result<(String, Vec<u8>), AllocError> {
     named(alloc, name, text.as_bytes().to_vec(alloc)?)
 }
 
