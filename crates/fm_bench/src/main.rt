@@ -8,13 +8,11 @@
 
 mod cells;
 mod loads;
-mod queries;
 mod ranges;
 mod visits;
 
 use crate::cells::{gets, handles, known};
 use crate::loads::loads;
-use crate::queries::queries;
 use crate::ranges::{copies, fills, mismatches};
 use crate::visits::visits;
 use std::alloc::Global;
@@ -54,7 +52,6 @@ fn run<R: Wait>(rt: &R, alloc: Global, what: &str, count: u64, text: &str) -> Op
         "known" => known(rt, alloc, count).ok(),
         "gets" => gets(rt, alloc, count, text).ok(),
         "handles" => handles(rt, alloc, count, text).ok(),
-        "queries" => queries(rt, alloc, count, text).ok(),
         "fills" => fills(rt, alloc, count).ok(),
         "copies" => copies(rt, alloc, count).ok(),
         "mismatches" => mismatches(rt, alloc, count).ok(),
