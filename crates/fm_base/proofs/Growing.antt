@@ -1,17 +1,18 @@
 -- Arenas stay, what is given only grows, and what has ended is over.
-use Rattle.std.proofs.Common.{◌≡◌, ◌≢◌, ℕ, ◌+◌, ◌-◌, ◌*◌, ◌/◌, ◌%◌, ◌^◌, ◌<◌, ◌≤◌, Bool, true, false, List, [], ◌∷◌, ◌++◌, refl, ap, sym, ◌∙◌, arith, if◌then◌else◌, ◌==◌, filter, not, All}
-use Rattle.std.specs.Prelude.{count_ones, nat_le}
+use Rattle.std.proofs.Common.{◌≡◌, ◌≢◌, ℕ, ◌+◌, ◌-◌, ◌*◌, ◌/◌, ◌<◌, ◌≤◌, Bool, true, false, List, [], ◌∷◌, refl, ap, sym, ◌∙◌, arith, if◌then◌else◌, filter, not, All}
+use Rattle.std.specs.Prelude.{⊤, count_ones, nat_le}
 use Rattle.std.proofs.lemmas.Nat.{ones_le_self}
 use Rattle.std.proofs.lemmas.Bool.Decides.{nat_tests}
 use Rattle.std.proofs.lemmas.List.Elements.{All-nil, All-cons}
+use Rattle.fm_base.specs.declared.caller.Caller.{Caller}
 use Rattle.fm_base.specs.declared.arena_id.ArenaId.{ArenaId}
-use Rattle.fm_base.specs.Arenas.{State, Arena, Closing, Ended, arena_of, has_arena, changed}
-use Rattle.fm_base.specs.Calls.{Call, Open, Enter, Read, Write, SwapIf, Add, Allocate, Leave, Hold, Unhold, Shut, End, Lend, Back, Reply, Fine, Closed, Found, Given, NoRoom, Entry, entry_of}
-use Rattle.fm_base.specs.Machine.{MayCall, IsPower, reply_to, enter_reply, shut_reply, allocate_reply, rounded_up, state_by, after, opened, entered, left, written, given_up_to, held, released, closing, ended}
+use Rattle.fm_base.specs.Arenas.{State, Arena, Closing, Ended, arena_of, has_arena, changed, are_one}
+use Rattle.fm_base.specs.Calls.{Call, Open, Enter, Write, SwapIf, Add, Allocate, Leave, Hold, Unhold, Shut, End, Reply, Fine, Closed, Found, Given, NoRoom, Entry, entry_of}
+use Rattle.fm_base.specs.Machine.{MayCall, IsPower, reply_to, enter_reply, shut_reply, allocate_reply, rounded_up, Change, Opens, Alters, Rests, made, change_of, after, ended}
 use Rattle.fm_base.specs.Histories.{IsLegal, state_after}
 use Rattle.fm_base.specs.View.{View, Makes}
 use Rattle.fm_base.specs.Lasting.{StaysForEver, EndsForGood}
-use Rattle.fm_base.proofs.Lookup.{KeepsName, changed_lookup, changed_has, opened_lookup, has_arena-append, arena_of-append, lookup_changed, arena_of-none}
+use Rattle.fm_base.proofs.Lookup.{Relates, changed_lookup, changed_has, arena_of-append, lookup_changed, arena_of-none, made_lookup, made_has}
 use Rattle.fm_base.proofs.Making.{IsLegal-split, state_after-append}
 
 -- ---- Allocate
@@ -46,96 +47,61 @@ pub record IsOver (a : Arena) : Type 0 where
   pub empty : a.under_way ≡ []
 
 -- an arena before and after a step
-pub record Steps (IsThere : Type 0) (a b : Arena) : Type 0 where
+pub record Steps (a b : Arena) : Type 0 where
   pub given : a.given ≤ b.given
-  pub over : IsThere → IsOver a → IsOver b
+  pub over : IsOver a → IsOver b
 
-Steps-same : (T : Type 0) (a : Arena) → Steps T a a
-Steps-same T a = record { given = omega arith; over = λ t o. o }
+Steps-words : (a : Arena) (words : List ℕ) → Steps a (record a { words = words })
+Steps-words a words = record { given = omega arith; over = λ o. record { life = o.life; empty = o.empty } }
 
-Steps-words : (T : Type 0) (a : Arena) (words : List ℕ) → Steps T a (record a { words = words })
-Steps-words T a words = record { given = omega arith; over = λ t o. record { life = o.life; empty = o.empty } }
+Steps-holds : (a : Arena) (holds : ℕ) → Steps a (record a { holds = holds })
+Steps-holds a holds = record { given = omega arith; over = λ o. record { life = o.life; empty = o.empty } }
 
-Steps-holds : (T : Type 0) (a : Arena) (holds : ℕ) → Steps T a (record a { holds = holds })
-Steps-holds T a holds = record { given = omega arith; over = λ t o. record { life = o.life; empty = o.empty } }
+abbrev StepsBy : State → Change → Type 0
+StepsBy s (Opens o) = ⊤
+StepsBy s (Alters id f named) = Steps (arena_of s id) (f (arena_of s id))
+StepsBy s Rests = ⊤
 
-abbrev IsThere : State → ArenaId → Type 0
-IsThere s id = has_arena s id ≡ true
-
-same_steps : (s : State) (other : ArenaId) → Steps (IsThere s other) (arena_of s other) (arena_of s other)
-same_steps s other = Steps-same (IsThere s other) (arena_of s other)
-
-changed_steps : (f : Arena → Arena) → KeepsName f → (s : State) (id other : ArenaId) → Steps (IsThere s other) (arena_of s id) (f (arena_of s id))
-    → Steps (IsThere s other) (arena_of s other) (arena_of (changed s id f) other)
-changed_steps f named s id other made = changed_lookup (Steps (IsThere s other)) f named (Steps-same (IsThere s other)) s id made other
+-- what a legal call does to the arena that it alters
+steps_by : (limit : ℕ) (s : State) (c : Caller) (call : Call) (reply : Reply) → MayCall s c call → reply ≡ reply_to limit s call → StepsBy s (change_of limit c call reply)
+steps_by limit s c (Enter id) Fine may is = record { given = omega arith; over = λ o. let e : Fine ≡ Closed = is ∙ ap enter_reply o.life in absurd (cc) }
+steps_by limit s c (Write id word value) reply may is = Steps-words (arena_of s id) _
+steps_by limit s c (SwapIf id word old new) (Found found) may is = Steps-words (arena_of s id) _
+steps_by limit s c (Add id word n) (Found found) may is = Steps-words (arena_of s id) _
+steps_by limit s c (Allocate id size align) (Given place) may is =
+    let g = given_is limit (arena_of s id).given size align place is in
+    let up = le-rounded_up (arena_of s id).given align (power_pos align may.1) in
+    record { given = (let p = g.rounded in omega arith); over = λ o. record { life = o.life; empty = o.empty } }
+steps_by limit s c (Leave id) reply may is =
+    record { given = omega arith; over = λ o. record { life = o.life; empty = ap (λ (xs : List Caller). filter (λ x. not (are_one x c)) xs) o.empty } }
+steps_by limit s c (Hold id) Fine may is = Steps-holds (arena_of s id) _
+steps_by limit s c (Unhold id) reply may is = Steps-holds (arena_of s id) _
+steps_by limit s c (Shut id) Fine may is =
+    record { given = omega arith; over = λ o. let e : Fine ≡ Closed = is ∙ ap (λ l. shut_reply l (arena_of s id).holds) o.life in absurd (cc) }
+steps_by limit s c (End id) reply may is = record { given = omega arith; over = λ o. record { life = refl; empty = o.empty } }
+steps_by limit s c call reply may is = tt
 
 GivesMore : Arena → Arena → Type 0
 GivesMore a b = a.given ≤ b.given
 
-opened_steps : (s : State) (o : Arena) (other : ArenaId) → Steps (IsThere s other) (arena_of s other) (arena_of (s ++ o ∷ []) other)
+gives_more : (s : State) (h : Change) → StepsBy s h → Relates GivesMore s h
 unfolding GivesMore
-opened_steps s o other = record {
-  given = opened_lookup GivesMore (λ a. omega arith) s o (omega arith) other;
-  over = λ t w. rw (arena_of-append s (o ∷ []) other t) w;
-}
+gives_more s (Opens o) t = omega arith
+gives_more s (Alters id f named) t = t.given
+gives_more s Rests t = tt
 
--- what a legal call does to any arena
-steps_by : (limit : ℕ) (s : State) (c : ℕ) (call : Call) (reply : Reply) → MayCall s c call → reply ≡ reply_to limit s call → (other : ArenaId)
-    → Steps (IsThere s other) (arena_of s other) (arena_of (state_by limit s c call reply) other)
-steps_by limit s c (Open id) reply may is other = opened_steps s (opened limit id) other
-steps_by limit s c (Enter id) Fine may is other =
-    changed_steps (entered c) (λ a. refl) s id other (record { given = omega arith; over = λ t o. let e : Fine ≡ Closed = is ∙ ap enter_reply o.life in absurd (cc) })
-steps_by limit s c (Enter id) reply may is other = same_steps s other
-steps_by limit s c (Read id word) reply may is other = same_steps s other
-steps_by limit s c (Write id word value) reply may is other = changed_steps (written word value) (λ a. refl) s id other (Steps-words _ (arena_of s id) _)
-steps_by limit s c (SwapIf id word old new) (Found found) may is other =
-    elim (found == old) as (λ b. Steps (IsThere s other) (arena_of s other) (arena_of (if b then changed s id (written word new) else s) other)) [
-      | true ↦ changed_steps (written word new) (λ a. refl) s id other (Steps-words _ (arena_of s id) _)
-      | false ↦ same_steps s other
-    ]
-steps_by limit s c (SwapIf id word old new) reply may is other = same_steps s other
-steps_by limit s c (Add id word n) (Found found) may is other = changed_steps (written word ((found + n) % 2 ^ 64)) (λ a. refl) s id other (Steps-words _ (arena_of s id) _)
-steps_by limit s c (Add id word n) reply may is other = same_steps s other
-steps_by limit s c (Allocate id size align) (Given place) may is other =
-    let g = given_is limit (arena_of s id).given size align place is in
-    let up = le-rounded_up (arena_of s id).given align (power_pos align may.1) in
-    changed_steps (given_up_to (place + size)) (λ a. refl) s id other (record { given = (let p = g.rounded in omega arith); over = λ t o. record { life = o.life; empty = o.empty } })
-steps_by limit s c (Allocate id size align) reply may is other = same_steps s other
-steps_by limit s c (Leave id) reply may is other =
-    changed_steps (left c) (λ a. refl) s id other (record { given = omega arith; over = λ t o. record { life = o.life; empty = ap (λ (xs : List ℕ). filter (λ x. not (x == c)) xs) o.empty } })
-steps_by limit s c (Hold id) Fine may is other = changed_steps held (λ a. refl) s id other (Steps-holds _ (arena_of s id) _)
-steps_by limit s c (Hold id) reply may is other = same_steps s other
-steps_by limit s c (Unhold id) reply may is other = changed_steps released (λ a. refl) s id other (Steps-holds _ (arena_of s id) _)
-steps_by limit s c (Shut id) Fine may is other =
-    changed_steps closing (λ a. refl) s id other (record { given = omega arith; over = λ t o. let e : Fine ≡ Closed = is ∙ ap (λ l. shut_reply l (arena_of s id).holds) o.life in absurd (cc) })
-steps_by limit s c (Shut id) reply may is other = same_steps s other
-steps_by limit s c (End id) reply may is other = changed_steps ended (λ a. refl) s id other (record { given = omega arith; over = λ t o. record { life = refl; empty = o.empty } })
-steps_by limit s c (Lend block id part) reply may is other = same_steps s other
-steps_by limit s c (Back block) reply may is other = same_steps s other
+given_more : (s : State) (h : Change) → StepsBy s h → (other : ArenaId) → (arena_of s other).given ≤ (arena_of (made h s) other).given
+unfolding GivesMore
+given_more s h t other = made_lookup GivesMore (λ a. omega arith) s h (gives_more s h t) other
 
--- no call takes an arena out of the list
-has_by : (limit : ℕ) (s : State) (c : ℕ) (call : Call) (reply : Reply) (other : ArenaId) → has_arena s other ≡ true → has_arena (state_by limit s c call reply) other ≡ true
-has_by limit s c (Open id) reply other h = has_arena-append s (opened limit id ∷ []) other h
-has_by limit s c (Enter id) Fine other h = changed_has (entered c) (λ a. refl) s id other ∙ h
-has_by limit s c (Enter id) reply other h = h
-has_by limit s c (Read id word) reply other h = h
-has_by limit s c (Write id word value) reply other h = changed_has (written word value) (λ a. refl) s id other ∙ h
-has_by limit s c (SwapIf id word old new) (Found found) other h =
-    elim (found == old) as (λ b. has_arena (if b then changed s id (written word new) else s) other ≡ true) [ true ↦ changed_has (written word new) (λ a. refl) s id other ∙ h | false ↦ h ]
-has_by limit s c (SwapIf id word old new) reply other h = h
-has_by limit s c (Add id word n) (Found found) other h = changed_has (written word ((found + n) % 2 ^ 64)) (λ a. refl) s id other ∙ h
-has_by limit s c (Add id word n) reply other h = h
-has_by limit s c (Allocate id size align) (Given place) other h = changed_has (given_up_to (place + size)) (λ a. refl) s id other ∙ h
-has_by limit s c (Allocate id size align) reply other h = h
-has_by limit s c (Leave id) reply other h = changed_has (left c) (λ a. refl) s id other ∙ h
-has_by limit s c (Hold id) Fine other h = changed_has held (λ a. refl) s id other ∙ h
-has_by limit s c (Hold id) reply other h = h
-has_by limit s c (Unhold id) reply other h = changed_has released (λ a. refl) s id other ∙ h
-has_by limit s c (Shut id) Fine other h = changed_has closing (λ a. refl) s id other ∙ h
-has_by limit s c (Shut id) reply other h = h
-has_by limit s c (End id) reply other h = changed_has ended (λ a. refl) s id other ∙ h
-has_by limit s c (Lend block id part) reply other h = h
-has_by limit s c (Back block) reply other h = h
+StaysOver : Arena → Arena → Type 0
+StaysOver a b = IsOver a → IsOver b
+
+over_still : (s : State) (h : Change) → StepsBy s h → (other : ArenaId) → has_arena s other ≡ true → IsOver (arena_of s other) → IsOver (arena_of (made h s) other)
+unfolding StaysOver
+over_still s (Opens o) t other there w = rw (arena_of-append s (o ∷ []) other there) w
+over_still s (Alters id f named) t other there w = changed_lookup StaysOver f named (λ a o. o) s id t.over other w
+over_still s Rests t other there w = w
 
 -- ---- a history
 
@@ -155,12 +121,12 @@ Grows-trans s t u p q = record {
   over = λ id h o. q.over id (p.has id h) (p.over id h o);
 }
 
-Grows-after : (limit : ℕ) (s : State) (e : Entry) → MayCall s e.caller e.call → e.reply ≡ reply_to limit s e.call → Grows s (after limit s e)
-Grows-after limit s e may is = record {
-  has = λ id h. has_by limit s e.caller e.call e.reply id h;
-  given = λ id. (steps_by limit s e.caller e.call e.reply may is id).given;
-  over = λ id h o. (steps_by limit s e.caller e.call e.reply may is id).over h o;
-}
+-- a legal entry only adds
+pub Grows-after : (limit : ℕ) (s : State) (e : Entry) → MayCall s e.caller e.call → e.reply ≡ reply_to limit s e.call → Grows s (after limit s e)
+Grows-after limit s e may is =
+    let h = change_of limit e.caller e.call e.reply in
+    let t = steps_by limit s e.caller e.call e.reply may is in
+    record { has = λ id there. made_has s h id there; given = λ id. given_more s h t id; over = λ id there o. over_still s h t id there o }
 
 -- a legal history only adds
 pub Grows-state_after : (limit : ℕ) (s : State) (es : List Entry) → IsLegal limit s es → Grows s (state_after limit s es)

@@ -3,6 +3,7 @@ pub mod Lookup
 pub mod Making
 pub mod Growing
 pub mod Tidiness
+pub mod Wholeness
 pub mod Placing
 pub mod Listing
 pub mod Faith
@@ -10,3 +11,6 @@ pub mod Visiting
 pub mod Running
 pub mod Outcomes
 pub mod Alone
+pub mod Learning
+pub mod Untouched
+pub mod Counting

@@ -1,10 +1,12 @@
 -- The list of arenas, and the look-up by name.
-use Rattle.std.proofs.Common.{◌≡◌, ℕ, ◌+◌, ◌%◌, ◌^◌, ◌==◌, Bool, true, false, List, [], ◌∷◌, ◌++◌, refl, ap, sym, ◌∙◌, subst, if◌then◌else◌, All}
+use Rattle.std.proofs.Common.{◌≡◌, ℕ, Bool, true, false, List, [], ◌∷◌, ◌++◌, refl, ap, sym, ◌∙◌, subst, if◌then◌else◌, All}
+use Rattle.std.specs.Prelude.{⊤}
 use Rattle.std.proofs.lemmas.List.Elements.{All-nil, All-cons, All-weaker}
+use Rattle.fm_base.specs.declared.caller.Caller.{Caller}
 use Rattle.fm_base.specs.declared.arena_id.ArenaId.{ArenaId}
 use Rattle.fm_base.specs.Arenas.{State, Arena, arena_of, has_arena, changed, same_id}
-use Rattle.fm_base.specs.Calls.{Call, Open, Enter, Read, Write, SwapIf, Add, Allocate, Leave, Hold, Unhold, Shut, End, Lend, Back, Reply, Fine, Found, Given, Entry}
-use Rattle.fm_base.specs.Machine.{MayCall, state_by, after, opened, entered, left, written, given_up_to, held, released, closing, ended}
+use Rattle.fm_base.specs.Calls.{Call, Open, Enter, SwapIf, Add, Allocate, Hold, Shut, Reply, Fine, Found, Given, Entry}
+use Rattle.fm_base.specs.Machine.{MayCall, Change, Opens, Alters, Rests, made, change_of, after}
 use Rattle.fm_base.specs.Histories.{IsLegal, state_after}
 use Rattle.fm_base.specs.Lasting.{LooksUp}
 use Rattle.fm_base.proofs.Names.{same_id-self, same_id-true}
@@ -78,32 +80,30 @@ distinct_opened (a ∷ s) o d h =
     ] in
     go (same_id a.id o.id) refl h
 
-distinct_by : (limit : ℕ) (s : State) (c : ℕ) (call : Call) (reply : Reply) → MayCall s c call → AreDistinct s → AreDistinct (state_by limit s c call reply)
-distinct_by limit s c (Open id) reply may d = distinct_opened s (opened limit id) d may.0
-distinct_by limit s c (Enter id) Fine may d = distinct_changed (entered c) (λ a. refl) s id d
-distinct_by limit s c (Enter id) reply may d = d
-distinct_by limit s c (Read id word) reply may d = d
-distinct_by limit s c (Write id word value) reply may d = distinct_changed (written word value) (λ a. refl) s id d
-distinct_by limit s c (SwapIf id word old new) (Found found) may d =
-    elim (found == old) as (λ b. AreDistinct (if b then changed s id (written word new) else s)) [ true ↦ distinct_changed (written word new) (λ a. refl) s id d | false ↦ d ]
-distinct_by limit s c (SwapIf id word old new) reply may d = d
-distinct_by limit s c (Add id word n) (Found found) may d = distinct_changed (written word ((found + n) % 2 ^ 64)) (λ a. refl) s id d
-distinct_by limit s c (Add id word n) reply may d = d
-distinct_by limit s c (Allocate id size align) (Given place) may d = distinct_changed (given_up_to (place + size)) (λ a. refl) s id d
-distinct_by limit s c (Allocate id size align) reply may d = d
-distinct_by limit s c (Leave id) reply may d = distinct_changed (left c) (λ a. refl) s id d
-distinct_by limit s c (Hold id) Fine may d = distinct_changed held (λ a. refl) s id d
-distinct_by limit s c (Hold id) reply may d = d
-distinct_by limit s c (Unhold id) reply may d = distinct_changed released (λ a. refl) s id d
-distinct_by limit s c (Shut id) Fine may d = distinct_changed closing (λ a. refl) s id d
-distinct_by limit s c (Shut id) reply may d = d
-distinct_by limit s c (End id) reply may d = distinct_changed ended (λ a. refl) s id d
-distinct_by limit s c (Lend block id part) reply may d = d
-distinct_by limit s c (Back block) reply may d = d
+abbrev OpensNew : State → Change → Type 0
+OpensNew s (Opens o) = has_arena s o.id ≡ false
+OpensNew s (Alters id f named) = ⊤
+OpensNew s Rests = ⊤
+
+-- a legal call opens a new name alone
+opens_new : (limit : ℕ) (s : State) (c : Caller) (call : Call) (reply : Reply) → MayCall s c call → OpensNew s (change_of limit c call reply)
+opens_new limit s c (Open id) reply may = may.0
+opens_new limit s c (Enter id) Fine may = tt
+opens_new limit s c (SwapIf id word old new) (Found found) may = tt
+opens_new limit s c (Add id word n) (Found found) may = tt
+opens_new limit s c (Allocate id size align) (Given place) may = tt
+opens_new limit s c (Hold id) Fine may = tt
+opens_new limit s c (Shut id) Fine may = tt
+opens_new limit s c call reply may = tt
+
+distinct_by : (s : State) (h : Change) → OpensNew s h → AreDistinct s → AreDistinct (made h s)
+distinct_by s (Opens o) new d = distinct_opened s o d new
+distinct_by s (Alters id f named) new d = distinct_changed f named s id d
+distinct_by s Rests new d = d
 
 distinct_after : (limit : ℕ) (s : State) (es : List Entry) → IsLegal limit s es → AreDistinct s → AreDistinct (state_after limit s es)
 distinct_after limit s [] l d = d
-distinct_after limit s (e ∷ es) l d = distinct_after limit (after limit s e) es l.2 (distinct_by limit s e.caller e.call e.reply l.0 d)
+distinct_after limit s (e ∷ es) l d = distinct_after limit (after limit s e) es l.2 (distinct_by s (change_of limit e.caller e.call e.reply) (opens_new limit s e.caller e.call e.reply l.0) d)
 
 pub looked_up : LooksUp
 looked_up limit h l = listed (state_after limit [] h) (distinct_after limit [] h l tt)

@@ -1,8 +1,10 @@
 -- Arenas that are looked up after a change of one.
-use Rattle.std.proofs.Common.{◌≡◌, ◌∙◌, Bool, true, false, [], ◌∷◌, ◌++◌, refl, ap, sym, subst, if◌then◌else◌}
+use Rattle.std.proofs.Common.{◌≡◌, ℕ, ◌==◌, slice_set, ◌∙◌, Bool, true, false, [], ◌∷◌, ◌++◌, refl, ap, sym, subst, if◌then◌else◌}
+use Rattle.std.specs.Prelude.{⊤}
 use Rattle.fm_base.proofs.Names.{same_id-self, same_id-true}
 use Rattle.fm_base.specs.declared.arena_id.ArenaId.{ArenaId}
 use Rattle.fm_base.specs.Arenas.{State, Arena, arena_of, has_arena, changed, same_id, no_arena}
+use Rattle.fm_base.specs.Machine.{Change, Opens, Alters, Rests, made, written, swapped}
 
 -- a change of an arena leaves its name
 abbrev pub KeepsName : (Arena → Arena) → Type 0
@@ -70,6 +72,14 @@ arena_of-none (a ∷ s) id h =
     let go : (b : Bool) → P b = λ b. elim b as P [ true ↦ (λ e. absurd (cc)) | false ↦ (λ e. arena_of-none s id e) ] in
     go (same_id a.id id) h
 
+-- what is looked up has the name
+pub arena_of-id : (s : State) (id : ArenaId) → (arena_of s id).id ≡ id
+arena_of-id [] id = refl
+arena_of-id (a ∷ s) id =
+    let P : Bool → Type 0 = λ b. same_id a.id id ≡ b → (if b then a else arena_of s id).id ≡ id in
+    let go : (b : Bool) → P b = λ b. elim b as P [ true ↦ (λ e. same_id-true a.id id e) | false ↦ (λ e. arena_of-id s id) ] in
+    go (same_id a.id id) refl
+
 -- an arena that was opened is there
 pub has_arena-opened : (s : State) (o : Arena) → has_arena (s ++ o ∷ []) o.id ≡ true
 has_arena-opened [] o = ap (λ b. if b then true else false) (same_id-self o.id)
@@ -121,3 +131,58 @@ arena_of-opened (a ∷ s) o h =
     let P : Bool → Type 0 = λ b. (if b then true else has_arena s o.id) ≡ false → (if b then a else arena_of (s ++ o ∷ []) o.id) ≡ o in
     let go : (b : Bool) → P b = λ b. elim b as P [ true ↦ (λ e. absurd (cc)) | false ↦ (λ e. arena_of-opened s o e) ] in
     go (same_id a.id o.id) h
+
+-- ---- changes of the state
+
+-- the one arena that a change opens or alters is related to what was looked up before
+abbrev pub Relates : (Arena → Arena → Type 0) → State → Change → Type 0
+Relates P s (Opens o) = P (no_arena o.id) o
+Relates P s (Alters id f named) = P (arena_of s id) (f (arena_of s id))
+Relates P s Rests = ⊤
+
+-- and so each arena is
+pub made_lookup : (P : Arena → Arena → Type 0) → ((a : Arena) → P a a) → (s : State) (h : Change) → Relates P s h → (other : ArenaId) → P (arena_of s other) (arena_of (made h s) other)
+made_lookup P same s (Opens o) r other = opened_lookup P same s o r other
+made_lookup P same s (Alters id f named) r other = changed_lookup P f named same s id r other
+made_lookup P same s Rests r other = same (arena_of s other)
+
+-- what holds of the arenas that are known holds after a change, where it comes to hold of the one that it opens or alters
+abbrev pub Becomes : (Arena → Type 0) → State → Change → Type 0
+Becomes P s (Opens o) = P o
+Becomes P s (Alters id f named) = P (arena_of s id) → P (f (arena_of s id))
+Becomes P s Rests = ⊤
+
+opened_known : (P : Arena → Type 0) (s : State) (o : Arena) (id : ArenaId) → P o → (has_arena s id ≡ true → P (arena_of s id)) → has_arena (s ++ o ∷ []) id ≡ true → P (arena_of (s ++ o ∷ []) id)
+opened_known P [] o id p h =
+    elim (same_id o.id id) as (λ b. (if b then true else false) ≡ true → P (if b then o else no_arena id)) [ true ↦ (λ e. p) | false ↦ (λ e. absurd (cc)) ]
+opened_known P (a ∷ s) o id p h =
+    let Q : Bool → Type 0 = λ b. ((if b then true else has_arena s id) ≡ true → P (if b then a else arena_of s id)) → (if b then true else has_arena (s ++ o ∷ []) id) ≡ true → P (if b then a else arena_of (s ++ o ∷ []) id) in
+    let go : (b : Bool) → Q b = λ b. elim b as Q [ true ↦ (λ w e. w refl) | false ↦ (λ w e. opened_known P s o id p w e) ] in
+    go (same_id a.id id) h
+
+Passes : (Arena → Type 0) → Arena → Arena → Type 0
+Passes P a b = P a → P b
+
+altered_known : (P : Arena → Type 0) (f : Arena → Arena) → KeepsName f → (s : State) (id other : ArenaId) → (P (arena_of s id) → P (f (arena_of s id))) → P (arena_of s other) → P (arena_of (changed s id f) other)
+unfolding Passes
+altered_known P f named s id other made p = changed_lookup (Passes P) f named (λ a q. q) s id made other p
+
+pub made_known : (P : Arena → Type 0) (s : State) (h : Change) → Becomes P s h → (id : ArenaId) → (has_arena s id ≡ true → P (arena_of s id)) → has_arena (made h s) id ≡ true → P (arena_of (made h s) id)
+made_known P s (Opens o) b id p e = opened_known P s o id b p e
+made_known P s (Alters id f named) b other p e = altered_known P f named s id other b (p (sym (changed_has f named s id other) ∙ e))
+made_known P s Rests b id p e = p e
+
+-- no change takes an arena out of the list
+pub made_has : (s : State) (h : Change) (other : ArenaId) → has_arena s other ≡ true → has_arena (made h s) other ≡ true
+made_has s (Opens o) other t = has_arena-append s (o ∷ []) other t
+made_has s (Alters id f named) other t = changed_has f named s id other ∙ t
+made_has s Rests other t = t
+
+-- a swap that found its old word
+pub swapped_hit : (s : State) (id : ArenaId) (word old new found : ℕ) → (found == old) ≡ true → changed s id (swapped word old new found) ≡ changed s id (written word new)
+swapped_hit s id word old new found e = ap (λ b. changed s id (λ a. record a { words = if b then slice_set a.words word new else a.words })) e
+
+-- a swap that found another word
+pub swapped_miss : (s : State) (id : ArenaId) (word old new found : ℕ) → (found == old) ≡ false → changed s id (swapped word old new found) ≡ s
+swapped_miss s id word old new found e =
+    changed_same s id (swapped word old new found) (ap (λ b. record (arena_of s id) { words = if b then slice_set (arena_of s id).words word new else (arena_of s id).words }) e)

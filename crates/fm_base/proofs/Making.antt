@@ -1,14 +1,14 @@
 -- Histories put together, and calls one after another.
-use Rattle.std.proofs.Common.{◌≡◌, ℕ, false, List, [], ◌∷◌, ◌++◌, refl, ap, sym, ◌∙◌, subst, append_assoc, Option, Some, None}
+use Rattle.std.proofs.Common.{◌≡◌, ℕ, false, List, [], ◌∷◌, ◌++◌, refl, ap, sym, ◌∙◌, subst, append_assoc, Option, Some, None, inl, inr, All, get_or}
 use Rattle.std.proofs.lemmas.List.{append-nil}
 use Rattle.std.proofs.lemmas.List.Elements.{filter-append, All-append, All-nil}
 use Rattle.fm_base.specs.declared.arena_id.ArenaId.{ArenaId}
 use Rattle.fm_base.specs.Arenas.{State}
 use Rattle.fm_base.specs.Calls.{Entry}
 use Rattle.fm_base.specs.Machine.{after}
-use Rattle.fm_base.specs.Histories.{IsLegal, state_after}
-use Rattle.fm_base.specs.Finds.{Find, FindsMore, is_draw}
-use Rattle.fm_base.specs.View.{View, Told, Makes, TellsOn, inside_after, inside_next, but_loans}
+use Rattle.fm_base.specs.Histories.{IsLegal, state_after, made_by}
+use Rattle.fm_base.specs.Finds.{Find, Rest, FindsMore, is_draw}
+use Rattle.fm_base.specs.View.{View, Told, Makes, TellsOn, IsToldWhole, IsByItself, inside_after, inside_next, but_loans}
 
 -- the state after two histories, one after the other
 pub state_after-append : (limit : ℕ) (s : State) (es fs : List Entry) → state_after limit s (es ++ fs) ≡ state_after limit (state_after limit s es) fs
@@ -54,11 +54,25 @@ TellsOn-append (Some t) (Some u) (Some v) a b o p h k = record {
   mine = k.mine ∙ (ap (λ w. w ++ p) h.mine ∙ append_assoc t.mine o p);
   finds = FindsMore-trans t.finds u.finds v.finds h.finds k.finds;
   rest = k.rest ∙ h.rest;
+  quiet =
+      let next = subst (λ (r : Rest). All (λ g. made_by g.caller b ≡ []) r.gathered) h.rest k.quiet in
+      λ i g l. filter-append _ a b ∙ (ap (λ w. w ++ made_by (get_or t.rest.gathered i g).caller b) (h.quiet i g l) ∙ next i g l);
 }
 TellsOn-append None (Some u) v a b o p h k = absurd h
 TellsOn-append (Some t) None v a b o p h k = absurd h
 TellsOn-append None None (Some v) a b o p h k = absurd k
 TellsOn-append (Some t) (Some u) None a b o p h k = absurd k
+
+-- what is told to be whole is so after a call
+told_whole_still : (t u : Option Told) (a o : List Entry) → TellsOn t u a o → IsToldWhole t → IsToldWhole u
+told_whole_still None u a o h w = absurd w
+told_whole_still (Some t) None a o h w = absurd h
+told_whole_still (Some t) (Some u) a o h w = ap (λ r. r.whole) h.rest ∙ w
+
+-- who was by itself is so after a call
+pub by_itself_still : (x y : View) (es : List Entry) → Makes x y es → IsByItself x → IsByItself y
+by_itself_still x y es p (inl alone) = inl (p.same_alone ∙ alone)
+by_itself_still x y es p (inr whole) = inr (told_whole_still x.told y.told p.all es p.told whole)
 
 -- one call after another
 pub Makes-then : (x y z : View) (es fs : List Entry) → Makes x y es → Makes y z fs → Makes x z (es ++ fs)
@@ -67,7 +81,7 @@ Makes-then x y z es fs p q = record {
   legal = IsLegal-append x.limit x.state p.all q.all p.legal (subst (λ (l : ℕ). IsLegal l (state_after x.limit x.state p.all) q.all) p.same_limit (subst (λ (s : State). IsLegal y.limit s q.all) p.reached q.legal));
   reached = rw (state_after-append, ← p.reached, ← p.same_limit) q.reached;
   by_caller = rw filter-append (rw (p.by_caller, ← p.same_caller, q.by_caller) refl);
-  alone = λ h. rw (p.alone h, q.alone (p.same_alone ∙ h)) refl;
+  alone = λ h. rw (p.alone h, q.alone (by_itself_still x y es p h)) refl;
   inside = rw (inside_after-append, ← p.inside) q.inside;
   same_limit = q.same_limit ∙ p.same_limit;
   same_caller = q.same_caller ∙ p.same_caller;
@@ -77,7 +91,7 @@ Makes-then x y z es fs p q = record {
 
 TellsOn-none : (t : Option Told) → TellsOn t t [] []
 TellsOn-none None = tt
-TellsOn-none (Some t) = record { seen = sym (append-nil t.seen); mine = sym (append-nil t.mine); finds = FindsMore-none t.finds; rest = refl }
+TellsOn-none (Some t) = record { seen = sym (append-nil t.seen); mine = sym (append-nil t.mine); finds = FindsMore-none t.finds; rest = refl; quiet = λ i g l. refl }
 
 -- no call
 pub Makes-none : (x : View) → Makes x x []

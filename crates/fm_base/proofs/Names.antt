@@ -1,18 +1,43 @@
 -- When two names of arenas are one.
-use Rattle.std.proofs.Common.{◌≡◌, ◌≢◌, ℕ, ◌==◌, true, false, refl, arith}
+use Rattle.std.proofs.Common.{◌≡◌, ◌≢◌, ℕ, ◌==◌, Bool, true, false, refl, arith}
 use Rattle.std.proofs.lemmas.Bool.Decides.{nat_tests}
+use Rattle.fm_base.specs.declared.caller.Caller.{Caller}
 use Rattle.fm_base.specs.declared.arena_id.ArenaId.{ArenaId}
 use Rattle.fm_base.specs.declared.kind.Kind.{Kind}
 use Rattle.fm_base.specs.declared.kind.Kind.TheVariants.{Global, Automatic, Confined, Shared}
-use Rattle.fm_base.specs.Arenas.{same_id, kind_number}
+use Rattle.fm_base.specs.Arenas.{same_id, kind_number, are_one}
 
 eqb_same : (n : ℕ) → (n == n) ≡ true
 eqb_same n = grind (arith, nat_tests)
 
+-- a caller is the same as itself
+pub are_one-self : (c : Caller) → are_one c c ≡ true
+are_one-self c = rw (eqb_same c.number, eqb_same c.term) refl
+
+-- callers that pass the test are equal
+pub are_one-true : (c d : Caller) → are_one c d ≡ true → c ≡ d
+are_one-true c d h =
+    let n : c.number ≡ d.number = grind (arith, nat_tests) in
+    let t : c.term ≡ d.term = grind (arith, nat_tests) in
+    let made : ℕ → ℕ → Caller = λ x y. record { number = x; term = y } in
+    let e : made c.number c.term ≡ made d.number d.term = rw (n, t) refl in
+    e
+
+-- callers that differ don't pass the test
+pub are_one-not : (c d : Caller) → c ≢ d → are_one c d ≡ false
+are_one-not c d h =
+    let P : Bool → Type 0 = λ b. are_one c d ≡ b → are_one c d ≡ false in
+    let go : (b : Bool) → P b = λ b. elim b as P [ true ↦ (λ e. absurd (h (are_one-true c d e))) | false ↦ (λ e. e) ] in
+    go (are_one c d) refl
+
+-- callers that don't pass the test differ
+pub are_one-false : (c d : Caller) → are_one c d ≡ false → c ≢ d
+are_one-false c d h e = let s : are_one c d ≡ true = rw e (are_one-self d) in absurd (cc)
+
 -- a name is the same as itself
 pub same_id-self : (a : ArenaId) → same_id a a ≡ true
 unfolding same_id
-same_id-self a = rw (eqb_same a.slot, eqb_same a.generation, eqb_same a.owner, eqb_same (kind_number a.kind)) refl
+same_id-self a = rw (eqb_same a.slot, eqb_same a.generation, eqb_same a.owner, eqb_same a.term, eqb_same (kind_number a.kind)) refl
 
 -- names of two slots are two names
 pub same_id-slot : (a b : ArenaId) → a.slot ≢ b.slot → same_id a b ≡ false
@@ -34,7 +59,8 @@ same_id-true a b h =
     let s : a.slot ≡ b.slot = grind (arith, nat_tests) in
     let g : a.generation ≡ b.generation = grind (arith, nat_tests) in
     let o : a.owner ≡ b.owner = grind (arith, nat_tests) in
+    let t : a.term ≡ b.term = grind (arith, nat_tests) in
     let n : kind_number a.kind ≡ kind_number b.kind = grind (arith, nat_tests) in
-    let made : ℕ → ℕ → Kind → ℕ → ArenaId = λ w x y z. record { slot = w; generation = x; kind = y; owner = z } in
-    let e : made a.slot a.generation a.kind a.owner ≡ made b.slot b.generation b.kind b.owner = rw (s, g, o, kind_same a.kind b.kind n) refl in
+    let made : ℕ → ℕ → Kind → ℕ → ℕ → ArenaId = λ v w x y z. record { slot = v; generation = w; kind = x; owner = y; term = z } in
+    let e : made a.slot a.generation a.kind a.owner a.term ≡ made b.slot b.generation b.kind b.owner b.term = rw (s, g, o, t, kind_same a.kind b.kind n) refl in
     e

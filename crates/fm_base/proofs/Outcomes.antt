@@ -1,6 +1,8 @@
 -- What stands after calls that were answered so.
-use Rattle.std.proofs.Common.{◌≡◌, ℕ, ◌+◌, Bool, true, false, List, [], ◌∷◌, ◌++◌, refl, ap, sym, ◌∙◌, subst, arith, cond, ◌⊎◌, inl, inr}
-use Rattle.std.specs.Prelude.{filter}
+use Rattle.std.proofs.Common.{◌≡◌, ℕ, ◌+◌, Bool, true, false, List, [], ◌∷◌, ◌++◌, refl, ap, sym, ◌∙◌, subst, arith, inl, inr}
+use Rattle.fm_lists.specs.Among.{IsAmong}
+use Rattle.fm_lists.proofs.Among.{among_kept}
+use Rattle.fm_base.specs.declared.caller.Caller.{Caller}
 use Rattle.fm_base.specs.declared.arena_id.ArenaId.{ArenaId}
 use Rattle.fm_base.specs.Arenas.{State, Arena, Ended, has_arena, arena_of, changed}
 use Rattle.fm_base.specs.Calls.{Open, End, Allocate, Given, Reply, Fine, Entry, entry_of}
@@ -14,42 +16,26 @@ use Rattle.fm_base.proofs.Growing.{Makes-grows, Grows, Grows-state_after, given_
 use Rattle.fm_base.proofs.Placing.{there_by_way, rounded_even}
 
 -- a history with this entry of the caller somewhere in it
-pub record IsAmong (all : List Entry) (e : Entry) : Type 0 where
+pub record Parts (all : List Entry) (e : Entry) : Type 0 where
   pub before : List Entry
   pub later : List Entry
   pub is : all ≡ before ++ e ∷ later
 
-among_more : (all : List Entry) (e first : Entry) → IsAmong all e → IsAmong (first ∷ all) e
+among_more : (all : List Entry) (e first : Entry) → Parts all e → Parts (first ∷ all) e
 among_more all e first a = record { before = first ∷ a.before; later = a.later; is = ap (λ (es : List Entry). first ∷ es) a.is }
 
--- whether an entry stands in a list, by recursion
-abbrev pub Has : List Entry → Entry → Type 0
-Has [] e = ⊥
-Has (x ∷ xs) e = (x ≡ e) ⊎ Has xs e
-
--- what a filter kept was there
-kept : (p : Entry → Bool) (es : List Entry) (e : Entry) → Has (filter p es) e → Has es e
-kept p [] e h = h
-kept p (x ∷ xs) e h =
-    let P : Bool → Type 0 = λ b. Has (cond b (x ∷ filter p xs) (filter p xs)) e → Has (x ∷ xs) e in
-    let go : (b : Bool) → P b = λ b. elim b as P [
-      | true ↦ (λ w. elim w [ inl i ↦ inl i | inr r ↦ inr (kept p xs e r) ])
-      | false ↦ (λ w. inr (kept p xs e w))
-    ] in
-    go (p x) h
-
-among : (es : List Entry) (e : Entry) → Has es e → IsAmong es e
+among : (es : List Entry) (e : Entry) → IsAmong e es → Parts es e
 among [] e h = absurd h
 among (x ∷ xs) e h = elim h [
-  | inl i ↦ record { before = []; later = xs; is = ap (λ (y : Entry). y ∷ xs) i }
+  | inl i ↦ record { before = []; later = xs; is = ap (λ (y : Entry). y ∷ xs) (sym i) }
   | inr r ↦ among_more xs e x (among xs e r)
 ]
 
 -- an entry of the caller's own, but for loans, is an entry of the call
-pub made_among : (x y : View) (own : List Entry) (e : Entry) (m : Makes x y own) → Has (but_loans own) e → IsAmong m.all e
+pub made_among : (x y : View) (own : List Entry) (e : Entry) (m : Makes x y own) → IsAmong e (but_loans own) → Parts m.all e
 made_among x y own e m h =
-    let mine : Has (made_by x.caller m.all) e = rw m.by_caller (kept _ own e h) in
-    among m.all e (kept _ m.all e mine)
+    let mine : IsAmong e (made_by x.caller m.all) = rw m.by_caller (among_kept _ e own h) in
+    among m.all e (among_kept _ e m.all mine)
 
 -- the states just before and just after an entry of the call
 pub record IsAround (x y : View) (e : Entry) : Type 0 where
@@ -59,7 +45,7 @@ pub record IsAround (x y : View) (e : Entry) : Type 0 where
   pub reply : e.reply ≡ reply_to x.limit now e.call
   pub until : Grows (after x.limit now e) y.state
 
-pub around : (x y : View) (own : List Entry) (e : Entry) → Makes x y own → Has (but_loans own) e → IsAround x y e
+pub around : (x y : View) (own : List Entry) (e : Entry) → Makes x y own → IsAmong e (but_loans own) → IsAround x y e
 around x y own e m h =
     let a = made_among x y own e m h in
     let l : IsLegal x.limit x.state (a.before ++ e ∷ a.later) = rw a.is at m.legal in
@@ -83,7 +69,7 @@ unknown_before s t id g h =
     go (has_arena s id) refl
 
 -- an arena that a call opened is new
-pub opened_new : (x y : View) (own : List Entry) (c : ℕ) (id : ArenaId) → Makes x y own → Has (but_loans own) (entry_of c (Open id) Fine) → IsNew x y id
+pub opened_new : (x y : View) (own : List Entry) (c : Caller) (id : ArenaId) → Makes x y own → IsAmong (entry_of c (Open id) Fine) (but_loans own) → IsNew x y id
 opened_new x y own c id m h =
     let a = around x y own (entry_of c (Open id) Fine) m h in
     record {
@@ -94,7 +80,7 @@ opened_new x y own c id m h =
 -- ---- allocate
 
 -- bytes that a call was given are new, and are given now
-pub allocated_gives : (x y : View) (own : List Entry) (c : ℕ) (id : ArenaId) (size align place : ℕ) → Makes x y own → Has (but_loans own) (entry_of c (Allocate id size align) (Given place)) → Gives x y id size align place
+pub allocated_gives : (x y : View) (own : List Entry) (c : Caller) (id : ArenaId) (size align place : ℕ) → Makes x y own → IsAmong (entry_of c (Allocate id size align) (Given place)) (but_loans own) → Gives x y id size align place
 allocated_gives x y own c id size align place m h =
     let a = around x y own (entry_of c (Allocate id size align) (Given place)) m h in
     let given = (arena_of a.now id).given in
@@ -114,7 +100,7 @@ allocated_gives x y own c id size align place m h =
 -- ---- close
 
 -- an arena that a call ended has ended
-pub closed_ended : (x y : View) (own : List Entry) (c : ℕ) (id : ArenaId) (reply : Reply) → Makes x y own → Has (but_loans own) (entry_of c (End id) reply) → (arena_of y.state id).life ≡ Ended
+pub closed_ended : (x y : View) (own : List Entry) (c : Caller) (id : ArenaId) (reply : Reply) → Makes x y own → IsAmong (entry_of c (End id) reply) (but_loans own) → (arena_of y.state id).life ≡ Ended
 closed_ended x y own c id reply m h =
     let a = around x y own (entry_of c (End id) reply) m h in
     let o = over_at_end a.now id a.legal.0 a.legal.1 in

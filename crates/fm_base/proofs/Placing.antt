@@ -1,5 +1,6 @@
 -- The places that one arena gives.
 use Rattle.std.proofs.Common.{◌≡◌, ℕ, ◌+◌, ◌%◌, ◌<◌, Bool, true, false, [], ◌∷◌, ◌++◌, refl, ap, arith, append_assoc, length}
+use Rattle.fm_base.specs.declared.caller.Caller.{Caller}
 use Rattle.fm_base.specs.declared.arena_id.ArenaId.{ArenaId}
 use Rattle.fm_base.specs.Arenas.{State, Arena, arena_of, has_arena, changed, IsUnderWay}
 use Rattle.fm_base.specs.Calls.{Allocate, Given, entry_of}
@@ -15,7 +16,7 @@ pub rounded_even : (n align : ℕ) → 0 < align → rounded_up n align % align 
 rounded_even n align h = grind arith
 
 -- an arena with somebody under way is there
-pub there_by_way : (s : State) (c : ℕ) (id : ArenaId) → IsUnderWay s c id → has_arena s id ≡ true
+pub there_by_way : (s : State) (c : Caller) (id : ArenaId) → IsUnderWay s c id → has_arena s id ≡ true
 there_by_way s c id w =
     let P : Bool → Type 0 = λ b. has_arena s id ≡ b → has_arena s id ≡ true in
     let go : (b : Bool) → P b = λ b. elim b as P [

@@ -1,14 +1,16 @@
 -- Bytes past the given count, in legal and tidy histories.
-use Rattle.std.proofs.Common.{◌≡◌, ◌≢◌, ℕ, zero, suc, ◌+◌, ◌/◌, ◌%◌, ◌^◌, ◌<◌, ◌≤◌, ◌==◌, Bool, true, false, if◌then◌else◌, List, [], ◌∷◌, ◌++◌, length, replicate, slice_index, slice_set, refl, ap, sym, ◌∙◌, subst, arith, eqb-true}
+use Rattle.std.proofs.Common.{◌≡◌, ◌≢◌, ℕ, zero, suc, ◌+◌, ◌/◌, ◌%◌, ◌^◌, ◌<◌, ◌≤◌, ◌==◌, Bool, true, false, if◌then◌else◌, List, [], ◌∷◌, length, replicate, slice_index, slice_set, refl, ap, sym, ◌∙◌, subst, arith, eqb-true}
 use Rattle.std.proofs.lemmas.List.{get_or-set_same, get_or-set_other}
 use Rattle.std.proofs.lemmas.Bool.Decides.{nat_tests}
+use Rattle.fm_bytes.specs.Words.{byte_of, byte_at}
+use Rattle.fm_base.specs.declared.caller.Caller.{Caller}
 use Rattle.fm_base.specs.declared.arena_id.ArenaId.{ArenaId}
-use Rattle.fm_base.specs.Arenas.{State, Arena, arena_of, no_arena, changed, word_in}
+use Rattle.fm_base.specs.Arenas.{State, Arena, arena_of, no_arena, word_in}
 use Rattle.fm_base.specs.Calls.{Call, Open, Enter, Read, Write, SwapIf, Add, Allocate, Leave, Hold, Unhold, Shut, End, Lend, Back, Reply, Fine, Found, Given, Entry, entry_of}
-use Rattle.fm_base.specs.Machine.{MayCall, reply_to, state_by, after, opened, entered, left, written, given_up_to, held, released, closing, ended, words_within}
-use Rattle.fm_base.specs.Histories.{IsLegal, state_after, byte_of, byte_at, DifferBelow, IsTidyIn, IsTidy, StaysBelow}
+use Rattle.fm_base.specs.Machine.{MayCall, reply_to, change_of, after, opened, written, words_within}
+use Rattle.fm_base.specs.Histories.{IsLegal, state_after, DifferBelow, IsTidyIn, IsTidy, StaysBelow}
 use Rattle.fm_base.specs.Lasting.{ZeroPastGiven, GivesZeros}
-use Rattle.fm_base.proofs.Lookup.{KeepsName, changed_lookup, opened_lookup}
+use Rattle.fm_base.proofs.Lookup.{Relates, made_lookup}
 use Rattle.fm_base.proofs.Making.{IsLegal-split}
 use Rattle.fm_base.proofs.Growing.{given_is, le-rounded_up, power_pos}
 
@@ -16,7 +18,8 @@ use Rattle.fm_base.proofs.Growing.{given_is, le-rounded_up, power_pos}
 abbrev pub IsZeroPast : Arena → Type 0
 IsZeroPast a = (place : ℕ) → a.given ≤ place → byte_at a.words place ≡ 0
 
-zeros_at : (n i : ℕ) → slice_index (replicate n 0) i ≡ 0
+-- words of zeros
+pub zeros_at : (n i : ℕ) → slice_index (replicate n 0) i ≡ 0
 zeros_at zero i = refl
 zeros_at (suc n) zero = refl
 zeros_at (suc n) (suc i) = zeros_at n i
@@ -51,61 +54,47 @@ same_zero : (a : Arena) → KeepsZero a a
 unfolding KeepsZero
 same_zero a z = z
 
-changed_zero : (f : Arena → Arena) → KeepsName f → (s : State) (id other : ArenaId) → (IsZeroPast (arena_of s id) → IsZeroPast (f (arena_of s id))) → IsZeroPast (arena_of s other) → IsZeroPast (arena_of (changed s id f) other)
+-- a tidy call leaves the bytes past the given count
+zero_by : (limit : ℕ) (s : State) (c : Caller) (call : Call) (reply : Reply) → MayCall s c call → reply ≡ reply_to limit s call → IsTidyIn s call → Relates KeepsZero s (change_of limit c call reply)
 unfolding KeepsZero
-changed_zero f named s id other made z = changed_lookup KeepsZero f named same_zero s id made other z
-
-opened_zero_in : (limit : ℕ) (id : ArenaId) (s : State) (other : ArenaId) → IsZeroPast (arena_of s other) → IsZeroPast (arena_of (s ++ opened limit id ∷ []) other)
-unfolding KeepsZero
-opened_zero_in limit id s other z = opened_lookup KeepsZero same_zero s (opened limit id) (λ _. opened_zero limit id) other z
-
--- a tidy call leaves the bytes past the given counts
-zero_by : (limit : ℕ) (s : State) (c : ℕ) (call : Call) (reply : Reply) → MayCall s c call → reply ≡ reply_to limit s call → IsTidyIn s call → (other : ArenaId)
-    → IsZeroPast (arena_of s other) → IsZeroPast (arena_of (state_by limit s c call reply) other)
-zero_by limit s c (Open id) reply may is t other z = opened_zero_in limit id s other z
-zero_by limit s c (Enter id) Fine may is t other z = changed_zero (entered c) (λ a. refl) s id other (λ y. y) z
-zero_by limit s c (Enter id) reply may is t other z = z
-zero_by limit s c (Read id word) reply may is t other z = z
-zero_by limit s c (Write id word value) reply may is t other z =
-    changed_zero (written word value) (λ a. refl) s id other (written_zero (arena_of s id) word value may.within t) z
-zero_by limit s c (SwapIf id word old new) (Found found) may is t other z =
-    let P : Bool → Type 0 = λ b. (found == old) ≡ b → IsZeroPast (arena_of (if b then changed s id (written word new) else s) other) in
+zero_by limit s c (Open id) reply may is t = λ z. opened_zero limit id
+zero_by limit s c (Enter id) Fine may is t = λ z. z
+zero_by limit s c (Write id word value) reply may is t = written_zero (arena_of s id) word value may.within t
+zero_by limit s c (SwapIf id word old new) (Found found) may is t =
+    let a = arena_of s id in
+    let P : Bool → Type 0 = λ b. (found == old) ≡ b → IsZeroPast a → IsZeroPast (record a { words = if b then slice_set a.words word new else a.words }) in
     let go : (b : Bool) → P b = λ b. elim b as P [
       | true ↦ (λ e.
           let at : found ≡ old = eqb-true found old e in
           let now : found ≡ word_in s id word = cc in
-          let d : DifferBelow (arena_of s id).given word (word_in s id word) new = subst (λ (x : ℕ). DifferBelow (arena_of s id).given word x new) (sym at ∙ now) (t (sym now ∙ at)) in
-          changed_zero (written word new) (λ a. refl) s id other (written_zero (arena_of s id) word new may.within d) z)
-      | false ↦ (λ e. z)
+          written_zero a word new may.within (subst (λ (x : ℕ). DifferBelow a.given word x new) (sym at ∙ now) (t (sym now ∙ at))))
+      | false ↦ (λ e z. z)
     ] in
     go (found == old) refl
-zero_by limit s c (SwapIf id word old new) reply may is t other z = z
-zero_by limit s c (Add id word n) (Found found) may is t other z =
+zero_by limit s c (Add id word n) (Found found) may is t =
     let now : found ≡ word_in s id word = cc in
-    let d : DifferBelow (arena_of s id).given word (word_in s id word) ((found + n) % 2 ^ 64) = subst (λ (x : ℕ). DifferBelow (arena_of s id).given word (word_in s id word) ((x + n) % 2 ^ 64)) (sym now) t in
-    changed_zero (written word ((found + n) % 2 ^ 64)) (λ a. refl) s id other (written_zero (arena_of s id) word ((found + n) % 2 ^ 64) may.within d) z
-zero_by limit s c (Add id word n) reply may is t other z = z
-zero_by limit s c (Allocate id size align) (Given place) may is t other z =
+    written_zero (arena_of s id) word ((found + n) % 2 ^ 64) may.within (subst (λ (x : ℕ). DifferBelow (arena_of s id).given word (word_in s id word) ((x + n) % 2 ^ 64)) (sym now) t)
+zero_by limit s c (Allocate id size align) (Given place) may is t =
     let g = given_is limit (arena_of s id).given size align place is in
     let up = le-rounded_up (arena_of s id).given align (power_pos align may.1) in
     let more : (arena_of s id).given ≤ place + size = (let p = g.rounded in omega arith) in
-    changed_zero (given_up_to (place + size)) (λ a. refl) s id other (λ y p h. y p (omega arith)) z
-zero_by limit s c (Allocate id size align) reply may is t other z = z
-zero_by limit s c (Leave id) reply may is t other z = changed_zero (left c) (λ a. refl) s id other (λ y. y) z
-zero_by limit s c (Hold id) Fine may is t other z = changed_zero held (λ a. refl) s id other (λ y. y) z
-zero_by limit s c (Hold id) reply may is t other z = z
-zero_by limit s c (Unhold id) reply may is t other z = changed_zero released (λ a. refl) s id other (λ y. y) z
-zero_by limit s c (Shut id) Fine may is t other z = changed_zero closing (λ a. refl) s id other (λ y. y) z
-zero_by limit s c (Shut id) reply may is t other z = z
-zero_by limit s c (End id) reply may is t other z = changed_zero ended (λ a. refl) s id other (λ y. y) z
-zero_by limit s c (Lend block id part) reply may is t other z = z
-zero_by limit s c (Back block) reply may is t other z = z
+    λ z p h. z p (omega arith)
+zero_by limit s c (Leave id) reply may is t = λ z. z
+zero_by limit s c (Hold id) Fine may is t = λ z. z
+zero_by limit s c (Unhold id) reply may is t = λ z. z
+zero_by limit s c (Shut id) Fine may is t = λ z. z
+zero_by limit s c (End id) reply may is t = λ z. z
+zero_by limit s c call reply may is t = tt
+
+zero_still : (limit : ℕ) (s : State) (e : Entry) → MayCall s e.caller e.call → e.reply ≡ reply_to limit s e.call → IsTidyIn s e.call → (other : ArenaId) → IsZeroPast (arena_of s other) → IsZeroPast (arena_of (after limit s e) other)
+unfolding KeepsZero
+zero_still limit s e may is t other z = made_lookup KeepsZero same_zero s (change_of limit e.caller e.call e.reply) (zero_by limit s e.caller e.call e.reply may is t) other z
 
 -- a legal and tidy history leaves the bytes past the given counts
 pub zero_after : (limit : ℕ) (s : State) (es : List Entry) → IsLegal limit s es → IsTidy limit s es → ((id : ArenaId) → IsZeroPast (arena_of s id)) → (id : ArenaId) → IsZeroPast (arena_of (state_after limit s es) id)
 zero_after limit s [] l t z id = z id
 zero_after limit s (e ∷ es) l t z id =
-    zero_after limit (after limit s e) es l.2 t.1 (λ o. zero_by limit s e.caller e.call e.reply l.0 l.1 t.0 o (z o)) id
+    zero_after limit (after limit s e) es l.2 t.1 (λ o. zero_still limit s e l.0 l.1 t.0 o (z o)) id
 
 none_past : (id : ArenaId) → IsZeroPast (no_arena id)
 none_past id place h = zero_byte (place % 8)

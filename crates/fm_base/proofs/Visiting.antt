@@ -1,5 +1,6 @@
 -- A visit, put together from its calls.
 use Rattle.std.proofs.Common.{◌≡◌, ℕ, ◌*◌, ◌<◌, ◌≤◌, true, List, [], ◌∷◌, refl, ap, sym, ◌∙◌, subst, arith, Some, None}
+use Rattle.fm_base.specs.declared.caller.Caller.{Caller}
 use Rattle.fm_base.specs.declared.arena_id.ArenaId.{ArenaId}
 use Rattle.fm_base.specs.declared.refusal.Refusal.{Refusal}
 use Rattle.fm_base.specs.declared.refusal.Refusal.TheVariants as refusal
@@ -26,7 +27,7 @@ refused_makes x y id refusal.WrongThread may d = absurd (d.does.0 may)
 refused_makes x y id r may d = absurd d.does
 
 -- what one act inside an arena made
-pub act_makes : (x y : View) (id : ArenaId) (c : ℕ) (f : ArenaId → Call) (reply : Reply) → x.inside ≡ Some id → x.caller ≡ c → Did x y (DoesAct x.inside x.caller f reply)
+pub act_makes : (x y : View) (id : ArenaId) (c : Caller) (f : ArenaId → Call) (reply : Reply) → x.inside ≡ Some id → x.caller ≡ c → Did x y (DoesAct x.inside x.caller f reply)
     → Makes x y (entry_of c (f id) reply ∷ [])
 act_makes x y id c f reply i k d =
     let e : DoesAct (Some id) c f reply d.own = rw (i, k) at d.does in
@@ -50,7 +51,7 @@ pub can_reach : (x y : View) (id : ArenaId) (word : ℕ) → Makes x y (entry_of
 can_reach x y id word m h = record { id = id; inside = m.inside; given = (let g = (Makes-grows x y _ m).given id in omega arith) }
 
 -- acts of tries leave the caller inside
-pub tries_stay : (id : ArenaId) (word : ℕ) (f : ℕ → ℕ) (found c : ℕ) (acts : Acts) → Tries id word f found acts → inside_after (Some id) (entries_of c acts) ≡ Some id
+pub tries_stay : (id : ArenaId) (word : ℕ) (f : ℕ → ℕ) (found : ℕ) (c : Caller) (acts : Acts) → Tries id word f found acts → inside_after (Some id) (entries_of c acts) ≡ Some id
 tries_stay id word f found c acts (looked w rest t) = tries_stay id word f found c rest t
 tries_stay id word f found c acts (missed w old new rest n t) = tries_stay id word f found c rest t
 tries_stay id word f found c acts hit = refl
@@ -68,7 +69,7 @@ pub visit_of_inside : (x y u v : View) (id : ArenaId) (acts : Acts) → u.inside
     → Makes x y (entry_of x.caller (Enter id) Fine ∷ []) → Makes y u (entries_of y.caller acts) → Did u v (DoesAct u.inside u.caller Leave Fine)
     → Makes x v (visit x.caller id acts)
 visit_of_inside x y u v id acts u_in enter act leave =
-    let act' : Makes y u (entries_of x.caller acts) = subst (λ (c : ℕ). Makes y u (entries_of c acts)) enter.same_caller act in
+    let act' : Makes y u (entries_of x.caller acts) = subst (λ (c : Caller). Makes y u (entries_of c acts)) enter.same_caller act in
     let leave' = act_makes u v id x.caller Leave Fine u_in (act'.same_caller ∙ enter.same_caller) leave in
     Makes-then x u v _ _ (Makes-then x y u _ _ enter act') leave'
 
@@ -77,7 +78,7 @@ pub visit_of_acts : (x y u v : View) (id : ArenaId) (acts : Acts) → inside_aft
     → Makes x y (entry_of x.caller (Enter id) Fine ∷ []) → Makes y u (entries_of y.caller acts) → Did u v (DoesAct u.inside u.caller Leave Fine)
     → Makes x v (visit x.caller id acts)
 visit_of_acts x y u v id acts stays enter act leave =
-    let act' : Makes y u (entries_of x.caller acts) = subst (λ (c : ℕ). Makes y u (entries_of c acts)) enter.same_caller act in
+    let act' : Makes y u (entries_of x.caller acts) = subst (λ (c : Caller). Makes y u (entries_of c acts)) enter.same_caller act in
     visit_of_inside x y u v id acts (act'.inside ∙ (ap (λ i. inside_after i (entries_of x.caller acts)) enter.inside ∙ stays)) enter act leave
 
 -- one act between Enter and Leave

@@ -1,5 +1,6 @@
 -- The arenas of the one-thread machine, and how one is looked up (`Arena`, Java SE 22).
 use Rattle.std.specs.Prelude.{◌≡◌, ℕ, ◌==◌, ◌&&◌, Bool, true, false, if◌then◌else◌, List, [], ◌∷◌, Contains, slice_index}
+use Rattle.fm_base.specs.declared.caller.Caller.{Caller}
 use Rattle.fm_base.specs.declared.arena_id.ArenaId.{ArenaId}
 use Rattle.fm_base.specs.declared.kind.Kind.{Kind}
 use Rattle.fm_base.specs.declared.kind.Kind.TheVariants.{Global, Automatic, Confined, Shared}
@@ -18,7 +19,7 @@ pub record Arena : Type 0 where
   pub given : ℕ
   pub holds : ℕ
   -- the callers under way in it
-  pub under_way : List ℕ
+  pub under_way : List Caller
 
 -- the arenas in order of opening
 abbrev pub State : Type 0
@@ -31,10 +32,22 @@ kind_number Automatic = 1
 kind_number Confined = 2
 kind_number Shared = 3
 
+-- whether two callers are one
+abbrev pub are_one : Caller → Caller → Bool
+are_one a b = a.number == b.number && a.term == b.term
+
+-- the caller of a memory that has no other
+abbrev pub only_caller : Caller
+only_caller = record { number = 0; term = 0 }
+
+-- the caller that opened the arena
+abbrev pub owner_of : ArenaId → Caller
+owner_of id = record { number = id.owner; term = id.term }
+
 -- whether two names are one
 unfoldable pub same_id : ArenaId → ArenaId → Bool
 same_id a b =
-    a.slot == b.slot && a.generation == b.generation && a.owner == b.owner && kind_number a.kind == kind_number b.kind
+    a.slot == b.slot && a.generation == b.generation && a.owner == b.owner && a.term == b.term && kind_number a.kind == kind_number b.kind
 
 abbrev pub has_arena : State → ArenaId → Bool
 has_arena [] id = false
@@ -56,9 +69,9 @@ changed (a ∷ s) id change = if same_id a.id id then change a ∷ s else a ∷ 
 abbrev pub word_in : State → ArenaId → ℕ → ℕ
 word_in s id word = slice_index (arena_of s id).words word
 
-abbrev pub IsUnderWay : State → ℕ → ArenaId → Type 0
+abbrev pub IsUnderWay : State → Caller → ArenaId → Type 0
 IsUnderWay s caller id = Contains (arena_of s id).under_way caller
 
 -- a confined arena is used by its owner alone
-abbrev pub MayUse : ArenaId → ℕ → Type 0
-MayUse id caller = id.kind ≡ Confined → id.owner ≡ caller
+abbrev pub MayUse : ArenaId → Caller → Type 0
+MayUse id caller = id.kind ≡ Confined → owner_of id ≡ caller

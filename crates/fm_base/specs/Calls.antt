@@ -1,5 +1,6 @@
 -- The calls on the one-thread machine, its replies, and the entries of a history.
 use Rattle.std.specs.Prelude.{ℕ}
+use Rattle.fm_base.specs.declared.caller.Caller.{Caller}
 use Rattle.fm_base.specs.declared.arena_id.ArenaId.{ArenaId}
 
 pub data Call : Type 0 where
@@ -32,9 +33,9 @@ pub data Reply : Type 0 where
   NoRoom : (given : ℕ) → Reply
 
 pub record Entry : Type 0 where
-  pub caller : ℕ
+  pub caller : Caller
   pub call : Call
   pub reply : Reply
 
-abbrev pub entry_of : ℕ → Call → Reply → Entry
+abbrev pub entry_of : Caller → Call → Reply → Entry
 entry_of caller call reply = record { caller = caller; call = call; reply = reply }

@@ -1,14 +1,16 @@
 -- What a caller of a pool is told of beside the history: the words that certain steps found, and what it has.
-use Rattle.std.specs.Prelude.{◌≡◌, ℕ, Bool, true, false, List, ◌++◌, Contains, All}
+use Rattle.std.specs.Prelude.{◌≡◌, ℕ, Bool, true, false, List, ◌++◌, Option, Contains, All}
+use Rattle.fm_base.specs.declared.caller.Caller.{Caller}
 use Rattle.fm_base.specs.declared.arena_id.ArenaId.{ArenaId}
 
 -- the steps whose finds are kept, with their arguments
 pub data FindStep : Type 0 where
   Draws : (expected : ℕ) → FindStep
-  Visits : (id : ArenaId) (pass : ℕ) → FindStep
+  Visits : (id : ArenaId) (pass : Caller) → FindStep
   TakesSlot : (expected bit : ℕ) → FindStep
   TakesPage : (expected bit : ℕ) → FindStep
   Maps : (id : ArenaId) (part page : ℕ) → FindStep
+  TakesNumber : (group expected bit : ℕ) → FindStep
 
 pub record Find : Type 0 where
   pub step : FindStep
@@ -18,18 +20,26 @@ pub record Find : Type 0 where
   pub seen : ℕ
   -- whether the caller was clear before the step
   pub clear : Bool
+  -- the caller that a draw drew
+  pub drew : Option Caller
 
--- a number that was gathered into the caller's, with what its caller had found
+-- a caller that was gathered into this one, with what it had found
 pub record Gathered : Type 0 where
-  pub number : ℕ
+  pub caller : Caller
   pub finds : List Find
+
+-- a close that was begun and not finished, and how many marks it has visited
+pub record Close : Type 0 where
+  pub arena : ArenaId
+  pub visited : ℕ
 
 -- what a caller has, and what was gathered into it
 pub record Rest : Type 0 where
+  -- numbers that tell the pool and its shape
+  pub home : List ℕ
   pub holds : List ArenaId
   pub handles : List ArenaId
-  -- the arenas whose close was begun and not finished
-  pub closes : List ArenaId
+  pub closes : List Close
   -- the pages and slots in its hand
   pub pages : List ℕ
   pub slots : List ℕ
@@ -43,6 +53,7 @@ is_draw (Visits id pass) = false
 is_draw (TakesSlot expected bit) = false
 is_draw (TakesPage expected bit) = false
 is_draw (Maps id part page) = false
+is_draw (TakesNumber group expected bit) = false
 
 abbrev pub is_slot : FindStep → Bool
 is_slot (Draws expected) = false
@@ -50,6 +61,7 @@ is_slot (Visits id pass) = false
 is_slot (TakesSlot expected bit) = true
 is_slot (TakesPage expected bit) = false
 is_slot (Maps id part page) = false
+is_slot (TakesNumber group expected bit) = false
 
 abbrev pub is_page : FindStep → Bool
 is_page (Draws expected) = false
@@ -57,6 +69,7 @@ is_page (Visits id pass) = false
 is_page (TakesSlot expected bit) = false
 is_page (TakesPage expected bit) = true
 is_page (Maps id part page) = false
+is_page (TakesNumber group expected bit) = false
 
 -- the finds grow by these
 pub record FindsMore (old new : List Find) : Type 0 where

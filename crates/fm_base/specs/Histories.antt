@@ -1,9 +1,11 @@
 -- Histories: lists of entries in order. Which are legal and which tidy, and what state one leaves.
-use Rattle.std.specs.Prelude.{◌≡◌, ℕ, ◌+◌, ◌*◌, ◌/◌, ◌%◌, ◌^◌, ◌<◌, ◌≤◌, ◌==◌, List, [], ◌∷◌, filter, ⊤, slice_index}
+use Rattle.std.specs.Prelude.{◌≡◌, ℕ, ◌+◌, ◌*◌, ◌%◌, ◌^◌, ◌<◌, ◌≤◌, List, [], ◌∷◌, length, filter, ⊤}
+use Rattle.fm_bytes.specs.Words.{AreWords, byte_of}
+use Rattle.fm_base.specs.declared.caller.Caller.{Caller}
 use Rattle.fm_base.specs.declared.arena_id.ArenaId.{ArenaId}
-use Rattle.fm_base.specs.Arenas.{State, arena_of, word_in}
+use Rattle.fm_base.specs.Arenas.{Arena, State, arena_of, word_in, are_one}
 use Rattle.fm_base.specs.Calls.{Call, Write, SwapIf, Add, Entry}
-use Rattle.fm_base.specs.Machine.{MayCall, reply_to, after}
+use Rattle.fm_base.specs.Machine.{MayCall, reply_to, after, words_within}
 
 -- the state that entries leave
 abbrev pub state_after : ℕ → State → List Entry → State
@@ -17,18 +19,16 @@ IsLegal limit s (e ∷ es) =
     MayCall s e.caller e.call × (e.reply ≡ reply_to limit s e.call) × IsLegal limit (after limit s e) es
 
 -- the entries of one caller
-abbrev pub made_by : ℕ → List Entry → List Entry
-made_by caller es = filter (λ e. e.caller == caller) es
+abbrev pub made_by : Caller → List Entry → List Entry
+made_by caller es = filter (λ e. are_one e.caller caller) es
+
+-- an arena has all words of the limit, and gave no more bytes than the limit
+pub record IsWhole (limit : ℕ) (a : Arena) : Type 0 where
+  pub words : length a.words ≡ words_within limit
+  pub fit : AreWords a.words
+  pub given : a.given ≤ limit
 
 -- ---- which bytes an entry changes
-
--- byte `at` of a word, the lowest first
-abbrev pub byte_of : ℕ → ℕ → ℕ
-byte_of word at = word / 2 ^ (8 * at) % 256
-
--- the byte at a place of an arena
-abbrev pub byte_at : List ℕ → ℕ → ℕ
-byte_at words place = byte_of (slice_index words (place / 8)) (place % 8)
 
 -- the words `old` and `new`, at this index, differ only in bytes at places below `end`
 abbrev pub DifferBelow : ℕ → ℕ → ℕ → ℕ → Type 0

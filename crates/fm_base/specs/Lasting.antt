@@ -1,9 +1,11 @@
 -- What holds of every legal history.
 use Rattle.std.specs.Prelude.{◌≡◌, ◌≢◌, ℕ, ◌+◌, ◌%◌, ◌≤◌, true, List, [], ◌∷◌, ◌++◌, All, Some}
+use Rattle.fm_bytes.specs.Words.{byte_at}
+use Rattle.fm_base.specs.declared.caller.Caller.{Caller}
 use Rattle.fm_base.specs.declared.arena_id.ArenaId.{ArenaId}
 use Rattle.fm_base.specs.Arenas.{has_arena, arena_of}
 use Rattle.fm_base.specs.Calls.{Open, Enter, Allocate, End, Closed, Given, Reply, Entry, entry_of}
-use Rattle.fm_base.specs.Histories.{state_after, IsLegal, IsTidy, byte_at}
+use Rattle.fm_base.specs.Histories.{state_after, IsLegal, IsTidy, IsWhole}
 use Rattle.fm_base.specs.View.{View, Told, Makes, IsSound, KeepsFaith}
 
 -- where a history is legal and tidy, every byte at or past the given count is 0
@@ -16,14 +18,14 @@ ZeroPastGiven =
 -- and so every byte at or past the place that an Allocate gives is 0 then
 abbrev pub GivesZeros : Type 0
 GivesZeros =
-    (limit : ℕ) (h : List Entry) (caller : ℕ) (id : ArenaId) (size align given : ℕ)
+    (limit : ℕ) (h : List Entry) (caller : Caller) (id : ArenaId) (size align given : ℕ)
     → IsLegal limit [] (h ++ entry_of caller (Allocate id size align) (Given given) ∷ []) → IsTidy limit [] h
     → (place : ℕ) → given ≤ place → byte_at (arena_of (state_after limit [] h) id).words place ≡ 0
 
 -- after End nobody is under way in the arena, and no later Enter of it is Ok
 abbrev pub EndsForGood : Type 0
 EndsForGood =
-    (limit : ℕ) (before later : List Entry) (caller : ℕ) (id : ArenaId) (reply : Reply)
+    (limit : ℕ) (before later : List Entry) (caller : Caller) (id : ArenaId) (reply : Reply)
     → IsLegal limit [] (before ++ entry_of caller (End id) reply ∷ later)
     → ((arena_of (state_after limit [] (before ++ entry_of caller (End id) reply ∷ [])) id).under_way ≡ [])
     × All (λ e. e.call ≡ Enter id → e.reply ≡ Closed) later
@@ -31,7 +33,7 @@ EndsForGood =
 -- what one arena gave lies apart, at multiples of the alignments, within the limit
 abbrev pub PlacesApart : Type 0
 PlacesApart =
-    (limit : ℕ) (before between later : List Entry) (c d : ℕ) (id : ArenaId)
+    (limit : ℕ) (before between later : List Entry) (c d : Caller) (id : ArenaId)
     (size align place size2 align2 place2 : ℕ)
     → IsLegal limit [] (before ++ entry_of c (Allocate id size align) (Given place) ∷ between
     ++ entry_of d (Allocate id size2 align2) (Given place2) ∷ later)
@@ -49,6 +51,13 @@ abbrev pub LooksUp : Type 0
 LooksUp =
     (limit : ℕ) (h : List Entry) → IsLegal limit [] h
     → let s = state_after limit [] h in All (λ a. arena_of s a.id ≡ a) s
+
+-- each arena of a legal history has all words of the limit, and gave no more bytes than the limit
+abbrev pub StaysWhole : Type 0
+StaysWhole =
+    (limit : ℕ) (h : List Entry) → IsLegal limit [] h
+    → let s = state_after limit [] h in
+    (id : ArenaId) → has_arena s id ≡ true → IsWhole limit (arena_of s id)
 
 -- a call that makes these entries keeps faith with them, where the history is told
 abbrev pub AlwaysKeepsFaith : Type 0

@@ -8,6 +8,9 @@ pub mod Finds
 pub mod View
 pub mod Does
 pub mod Outcomes
+pub mod Learnt
 pub mod Lasting
+pub mod Untouched
+pub mod Counting
 pub mod Printed
 pub mod Listed

@@ -1,5 +1,6 @@
 -- What contracts see of a `Memory`, and what a call does to it.
-use Rattle.std.specs.Prelude.{◌≡◌, ℕ, ◌≤◌, ◌^◌, ◌++◌, Bool, true, List, [], ◌∷◌, Option, Some, None, false, filter, not, ⊤}
+use Rattle.std.specs.Prelude.{◌≡◌, ℕ, ◌≤◌, ◌^◌, ◌++◌, ◌⊎◌, Bool, true, List, [], ◌∷◌, Option, Some, None, false, filter, not, All, ⊤}
+use Rattle.fm_base.specs.declared.caller.Caller.{Caller}
 use Rattle.fm_base.specs.declared.arena_id.ArenaId.{ArenaId}
 use Rattle.fm_base.specs.Arenas.{State, arena_of}
 use Rattle.fm_base.specs.Calls.{Call, Enter, Leave, Lend, Back, Reply, Fine, Entry}
@@ -20,8 +21,7 @@ pub record View : Type 0 where
   pub limit : ℕ
   -- the machine's state as last seen
   pub state : State
-  -- the caller's number
-  pub caller : ℕ
+  pub caller : Caller
   -- the arena that the caller entered, or none
   pub inside : Option ArenaId
   -- whether no other caller exists
@@ -34,7 +34,7 @@ given_in v id = (arena_of v.state id).given
 -- ---- what holds at any time
 
 -- what is told is a legal history that leaves the state, and the caller's entries in it
-abbrev pub IsToldOf : ℕ → State → ℕ → Option Told → Type 0
+abbrev pub IsToldOf : ℕ → State → Caller → Option Told → Type 0
 IsToldOf limit s caller None = ⊤
 IsToldOf limit s caller (Some t) =
     IsLegal limit [] t.seen × (s ≡ state_after limit [] t.seen) × (t.mine ≡ made_by caller t.seen)
@@ -61,6 +61,8 @@ pub record MovesOn (old new : Told) (all own : List Entry) : Type 0 where
   pub mine : new.mine ≡ old.mine ++ own
   pub finds : FindsMore old.finds new.finds
   pub rest : new.rest ≡ old.rest
+  -- no gathered caller made one of them
+  pub quiet : All (λ g. made_by g.caller all ≡ []) old.rest.gathered
 
 -- whether anything is told stays as it is
 abbrev pub TellsOn : Option Told → Option Told → List Entry → List Entry → Type 0
@@ -69,6 +71,15 @@ TellsOn (Some t) (Some u) all own = MovesOn t u all own
 TellsOn None (Some u) all own = ⊥
 TellsOn (Some t) None all own = ⊥
 
+-- whether it is told that every drawn number but the caller's is gathered into it
+abbrev pub IsToldWhole : Option Told → Type 0
+IsToldWhole None = ⊥
+IsToldWhole (Some t) = t.rest.whole ≡ true
+
+-- nobody else can make an entry: no other caller exists, or it is known that all others were gathered
+abbrev pub IsByItself : View → Type 0
+IsByItself v = (v.alone ≡ true) ⊎ IsToldWhole v.told
+
 -- The memory goes from old to new by legal entries, and `own` are the caller's among them
 pub record Makes (old new : View) (own : List Entry) : Type 0 where
   -- the entries, those of others too
@@ -76,7 +87,7 @@ pub record Makes (old new : View) (own : List Entry) : Type 0 where
   pub legal : IsLegal old.limit old.state all
   pub reached : new.state ≡ state_after old.limit old.state all
   pub by_caller : made_by old.caller all ≡ own
-  pub alone : old.alone ≡ true → all ≡ own
+  pub alone : IsByItself old → all ≡ own
   pub inside : new.inside ≡ inside_after old.inside own
   pub same_limit : new.limit ≡ old.limit
   pub same_caller : new.caller ≡ old.caller

@@ -1,5 +1,6 @@
 -- Visits to an arena, tries on a word, pieces of a run of bytes, and calls that are a run of visits.
 use Rattle.std.specs.Prelude.{◌≡◌, ℕ, ◌+◌, ◌-◌, ◌%◌, min, List, [], ◌∷◌, ◌++◌}
+use Rattle.fm_base.specs.declared.caller.Caller.{Caller}
 use Rattle.fm_base.specs.declared.arena_id.ArenaId.{ArenaId}
 use Rattle.fm_base.specs.Calls.{Call, Enter, Read, SwapIf, Leave, Reply, Fine, Closed, Found, Entry, entry_of}
 
@@ -9,16 +10,16 @@ use Rattle.fm_base.specs.Calls.{Call, Enter, Read, SwapIf, Leave, Reply, Fine, C
 abbrev pub Acts : Type 0
 Acts = List (Call × Reply)
 
-abbrev pub entries_of : ℕ → Acts → List Entry
+abbrev pub entries_of : Caller → Acts → List Entry
 entries_of caller [] = []
 entries_of caller (act ∷ acts) = entry_of caller act.0 act.1 ∷ entries_of caller acts
 
 -- the caller entered, acted and left
-abbrev pub visit : ℕ → ArenaId → Acts → List Entry
+abbrev pub visit : Caller → ArenaId → Acts → List Entry
 visit caller id acts = entry_of caller (Enter id) Fine ∷ entries_of caller acts ++ entry_of caller (Leave id) Fine ∷ []
 
 -- the caller found the arena closed
-abbrev pub refused_visit : ℕ → ArenaId → List Entry
+abbrev pub refused_visit : Caller → ArenaId → List Entry
 refused_visit caller id = entry_of caller (Enter id) Closed ∷ []
 
 -- ---- tries

@@ -1,4 +1,4 @@
-use crate::{Kind, Refusal};
+use crate::{ArenaId, Caller, Kind, Refusal};
 use std::test::Fail;
 
 #[test]
@@ -17,4 +17,35 @@ fn refusals_print_their_number_and_arguments(rt: HostRuntime) -> Result<(), Fail
         assert_eq!(rt; printed.as_str(), text);
     }
     Ok(())
+}
+
+#[test]
+fn a_name_differs_in_each_part(rt: HostRuntime) {
+    let a = ArenaId {
+        slot: 1,
+        generation: 2,
+        kind: Kind::Shared,
+        owner: 3,
+        term: 4,
+    };
+    let others = [
+        ArenaId { slot: 0, ..a },
+        ArenaId { generation: 0, ..a },
+        ArenaId {
+            kind: Kind::Confined,
+            ..a
+        },
+        ArenaId { owner: 0, ..a },
+        ArenaId { term: 0, ..a },
+    ];
+    for other in others {
+        assert!(rt; a != other);
+    }
+}
+
+#[test]
+fn a_number_of_another_term_is_another_caller(rt: HostRuntime) {
+    let first = Caller { number: 3, term: 0 };
+    assert!(rt; first != Caller { term: 1, ..first });
+    assert_eq!(rt; first, Caller { number: 3, term: 0 });
 }

@@ -1,8 +1,11 @@
 -- Arenas and segments that can be accessed.
-use Rattle.std.specs.Prelude.{◌≡◌, ◌≤◌, ℕ, None}
+use Rattle.std.specs.Prelude.{◌≡◌, ◌≤◌, ℕ, List, None, All}
 use Rattle.fm_base.specs.declared.arena_id.ArenaId.{ArenaId}
 use Rattle.fm_base.specs.Arenas.{arena_of}
+use Rattle.fm_gate.specs.Standing.{IsOutside}
 use Rattle.fm_mono.specs.Shown.{Arenas, IsKnown, view_of}
+use Rattle.fm_pool_facts.specs.Views.{View, IsKnown as IsKnownTo, span}
+use Rattle.fm_rule.specs.declared.pool.Pool.{Pool}
 use Rattle.fm_segment.specs.Access as access
 use Rattle.fm_segment.specs.Region.{Region}
 
@@ -21,3 +24,9 @@ pub record CanAccess (m : Arenas) (r : Region) : Type 0 where
 pub record AreReady (m : Arenas) (a b : Region) : Type 0 where
   pub first : CanAccess m a
   pub second : CanAccess m b
+
+-- the pass is outside and knows the arenas, which have these words each
+pub record AreOpen (pool : Pool) (p : View) (arenas : List ArenaId) (words : ℕ) : Type 0 where
+  pub outside : IsOutside pool p
+  pub known : All (IsKnownTo p) arenas
+  pub wide : span pool.shape ≡ words

@@ -1,4 +1,5 @@
-//! Loops for the benchmarks: `visits COUNT` of an arena's words, `loads COUNT` from a plain vector,
+//! Loops for the benchmarks: `visits COUNT` of the words of a `Mono`'s arena, `gates COUNT` of a pool's arena and
+//! `hops COUNT` of 64 of its arenas, `closes POOLS` of the arenas of so many pools, `loads COUNT` from a plain vector,
 //! `known COUNT` of a segment by a layout that the compiler knows, `gets COUNT LAYOUT` and `handles COUNT LAYOUT` by a
 //! layout that is read as JSON, at offsets and by a path, and `fills COUNT`, `copies COUNT` and `mismatches COUNT` of
 //! segments of 64 MiB.
@@ -7,11 +8,13 @@
 #![tactic(auto)]
 
 mod cells;
+mod gates;
 mod loads;
 mod ranges;
 mod visits;
 
 use crate::cells::{gets, handles, known};
+use crate::gates::{closes, gates, hops};
 use crate::loads::loads;
 use crate::ranges::{copies, fills, mismatches};
 use crate::visits::visits;
@@ -48,6 +51,9 @@ fn words(rt: &HostRuntime) -> Option<(String, u64, String)> {
 fn run<R: Wait>(rt: &R, alloc: Global, what: &str, count: u64, text: &str) -> Option<u64> {
     match what {
         "visits" => visits(rt, alloc, count).ok(),
+        "gates" => gates(rt, alloc, count).ok(),
+        "hops" => hops(rt, alloc, count).ok(),
+        "closes" => closes(rt, alloc, count).ok(),
         "loads" => loads(alloc, count).ok(),
         "known" => known(rt, alloc, count).ok(),
         "gets" => gets(rt, alloc, count, text).ok(),

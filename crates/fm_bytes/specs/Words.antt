@@ -1,12 +1,20 @@
 -- Words of eight bytes, the lowest byte first: word w holds the bytes 8w to 8w + 7.
-use Rattle.std.specs.Prelude.{ℕ, ◌+◌, ◌/◌, ◌^◌, ◌<◌, List, [], ◌∷◌, ◌++◌, length, take, drop}
+use Rattle.std.specs.Prelude.{ℕ, ◌+◌, ◌/◌, ◌%◌, ◌^◌, ◌<◌, List, [], ◌∷◌, ◌++◌, length, take, drop, slice_index}
 use Rattle.std.specs.List.{All}
 use Rattle.std.proofs.Common.{zero, suc}
-use Rattle.fm_bytes.specs.Bytes.{bytes_of, number_of}
+use Rattle.fm_bytes.specs.Bytes.{bytes_of, number_of, lane}
 
 -- each number of the list is a word
 abbrev pub AreWords : List ℕ → Type 0
 AreWords words = All (λ w. w < 2 ^ 64) words
+
+-- byte `at` of a word
+abbrev pub byte_of : ℕ → ℕ → ℕ
+byte_of word at = lane word at 1
+
+-- the byte at a place of words
+abbrev pub byte_at : List ℕ → ℕ → ℕ
+byte_at words place = byte_of (slice_index words (place / 8)) (place % 8)
 
 -- the bytes of words
 unfoldable pub bytes_in : List ℕ → List ℕ

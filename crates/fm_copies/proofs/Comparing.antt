@@ -1,6 +1,7 @@
 -- A comparison, as far as it has come.
 use Rattle.std.proofs.Common.{◌≡◌, ℕ, ◌+◌, ◌-◌, ◌<◌, List, [], ◌++◌, refl, subst, Option, Some, None, Ok, Err}
 use Rattle.std.proofs.lemmas.List.{append-nil}
+use Rattle.fm_base.specs.declared.caller.Caller.{Caller}
 use Rattle.fm_base.specs.declared.refusal.Refusal.{Refusal}
 use Rattle.fm_base.specs.declared.refusal.Refusal.TheVariants.{Closed}
 use Rattle.fm_base.specs.Calls.{Entry}
@@ -8,7 +9,7 @@ use Rattle.fm_base.specs.View.{View, Makes, Did}
 use Rattle.fm_base.specs.Visits.{Run}
 use Rattle.fm_base.proofs.Making.{Makes-then, Makes-none}
 use Rattle.fm_base.proofs.Running.{Led, led_start, led_more, led_ends}
-use Rattle.fm_pieces.specs.Pieces.{ReadsPiece, DoesGetPiece}
+use Rattle.fm_access.specs.Pieces.{ReadsPiece, DoesGetPiece}
 use Rattle.fm_copies.specs.declared.side.Side.{Side}
 use Rattle.fm_copies.specs.declared.side.Piece.{Piece}
 use Rattle.fm_copies.specs.declared.side.Way.TheVariants.{Up}
@@ -35,7 +36,7 @@ compared x y z a b p v w found d e i = record {
     first = d.own;
     second = e.own;
     reads_first = d.does.1;
-    reads_second = subst (λ (c : ℕ). ReadsPiece c b.arena (b.at + p.offset) p.width w e.own) d.makes.same_caller e.does.1;
+    reads_second = subst (λ (c : Caller). ReadsPiece c b.arena (b.at + p.offset) p.width w e.own) d.makes.same_caller e.does.1;
     visits = refl;
     answer = i;
   };
@@ -58,7 +59,7 @@ compares_next : (old now next : View) (a b : Side) (count left : ℕ) (p : Piece
     → GoingCompare old now a b count left own → p ≡ next_piece Up a b count left
     → (d : Did now next (DoesComparePiece now.caller a b p (Ok found))) → ComparesPiece old.caller a b (next_piece Up a b count left) found d.own
 compares_next old now next a b count left p own found g e d =
-    let piece : ComparesPiece old.caller a b p found d.own = subst (λ (k : ℕ). ComparesPiece k a b p found d.own) g.makes.same_caller d.does in
+    let piece : ComparesPiece old.caller a b p found d.own = subst (λ (k : Caller). ComparesPiece k a b p found d.own) g.makes.same_caller d.does in
     subst (λ (q : Piece). ComparesPiece old.caller a b q found d.own) e piece
 
 -- One piece more agrees.
@@ -97,7 +98,7 @@ refused : (old now next : View) (a b : Side) (count left : ℕ) (p : Piece) (own
     → StopsAt now.caller a b p more → Makes now next more → Did old next (DoesCompare old.caller a b count (Err Closed))
 refused old now next a b count left p own more g may h e s m =
     let c = old.caller in
-    let in_caller : StopsAt c a b p more = subst (λ (k : ℕ). StopsAt k a b p more) g.makes.same_caller s in
+    let in_caller : StopsAt c a b p more = subst (λ (k : Caller). StopsAt k a b p more) g.makes.same_caller s in
     let stops : StopsAt c a b (next_piece Up a b count left) more = subst (λ (q : Piece). StopsAt c a b q more) e in_caller in
     record {
       own = own ++ more;

@@ -1,21 +1,22 @@
 -- What the only caller finds by a comparison.
-use Rattle.std.proofs.Common.{◌≡◌, ℕ, ◌+◌, ◌-◌, ◌≤◌, true, List, ◌++◌, length, take, drop, sym, ap, subst, ◌∙◌, arith, Option, Some, None, Result, Ok, Err, IfOk}
+use Rattle.std.proofs.Common.{◌≡◌, ℕ, ◌+◌, ◌-◌, ◌≤◌, List, ◌++◌, length, take, drop, sym, ap, subst, ◌∙◌, arith, Option, Some, None, Result, Ok, Err, IfOk}
 use Rattle.std.specs.Prelude.{OnErr}
 use Rattle.std.proofs.lemmas.List.{drop-drop}
+use Rattle.fm_base.specs.declared.caller.Caller.{Caller}
 use Rattle.fm_base.specs.declared.refusal.Refusal.{Refusal}
 use Rattle.fm_base.specs.declared.refusal.Refusal.TheVariants.{Closed, WrongThread}
 use Rattle.fm_base.specs.Arenas.{State}
 use Rattle.fm_base.specs.Calls.{Entry}
 use Rattle.fm_base.specs.Histories.{IsLegal, state_after}
-use Rattle.fm_base.specs.View.{View, Did}
+use Rattle.fm_base.specs.View.{View, Did, IsByItself}
 use Rattle.fm_base.specs.Visits.{Run, ends, goes_on}
 use Rattle.fm_base.proofs.Faith.{Makes-alone}
 use Rattle.fm_base.proofs.Making.{IsLegal-split, state_after-append}
 use Rattle.fm_bytes.specs.Bytes.{bytes_of}
 use Rattle.fm_bytes.proofs.Bytes.{length-bytes_of}
 use Rattle.fm_bytes.proofs.Words.{take-add}
-use Rattle.fm_pieces.specs.Alone.{bytes_of_arena}
-use Rattle.fm_pieces.proofs.Visits.{visit_reads}
+use Rattle.fm_access.specs.Alone.{bytes_of_arena}
+use Rattle.fm_access.proofs.Visits.{visit_reads}
 use Rattle.fm_copies.specs.declared.side.Side.{Side}
 use Rattle.fm_copies.specs.declared.side.Piece.{Piece}
 use Rattle.fm_copies.specs.declared.side.Way.TheVariants.{Up}
@@ -42,7 +43,8 @@ record IsCompared (s t : State) (a b : Side) (p : Piece) (found : Option ℕ) : 
   pub same : t ≡ s
 
 -- A piece that the only caller compares.
-piece_compared : (limit c : ℕ) (s : State) (a b : Side) (p : Piece) (found : Option ℕ) (own : List Entry) → ComparesPiece c a b p found own → IsPieceAt a b p
+piece_compared : (limit : ℕ) (c : Caller) (s : State) (a b : Side) (p : Piece) (found : Option ℕ) (own : List Entry) → ComparesPiece c a b p found own
+    → IsPieceAt a b p
     → IsLegal limit s own → IsCompared s (state_after limit s own) a b p found
 piece_compared limit c s a b p found own q fits legal =
     let at_a = a.at + p.offset in
@@ -120,7 +122,7 @@ agrees_next s a b offset left width v next h e first second =
     ∙ ap (λ bs. later next (first_difference (take rest (bytes_from s a next)) (take rest bs))) (past b)
 
 -- The end of a comparison.
-compare_ends : (limit c : ℕ) (a b : Side) (count : ℕ) (s : State) (left : ℕ) (own : List Entry) (answer : Option (Option ℕ)) → left ≤ count
+compare_ends : (limit : ℕ) (c : Caller) (a b : Side) (count : ℕ) (s : State) (left : ℕ) (own : List Entry) (answer : Option (Option ℕ)) → left ≤ count
     → EndsComparing c a b count left own answer → IsLegal limit s own → RunCompares s (state_after limit s own) a b count left answer
 compare_ends limit c a b count s left own None h e legal =
     let shut = piece_refused limit c s a b (next_piece Up a b count left) own e.1 (next_piece_fits Up a b count left e.0 h).at legal in
@@ -150,8 +152,9 @@ answers_on s a b count left next width v (Some found) h k e first second more =
     ∙ sym (agrees_next s a b (count - left) left width v (count - next) h sum first second)
 
 -- A comparison finds the first difference, and leaves the state.
-compare_run : (limit c : ℕ) (a b : Side) (count : ℕ) (s : State) (left : ℕ) (own : List Entry) (answer : Option (Option ℕ)) → left ≤ count
-    → Run (AgreesOn c a b count) (EndsComparing c a b count) left own answer → IsLegal limit s own → RunCompares s (state_after limit s own) a b count left answer
+compare_run : (limit : ℕ) (c : Caller) (a b : Side) (count : ℕ) (s : State) (left : ℕ) (own : List Entry) (answer : Option (Option ℕ)) → left ≤ count
+    → Run (AgreesOn c a b count) (EndsComparing c a b count) left own answer → IsLegal limit s own → RunCompares s
+    (state_after limit s own) a b count left answer
 compare_run limit c a b count s left own answer h (ends e) legal = compare_ends limit c a b count s left own answer h e legal
 compare_run limit c a b count s left own answer h (goes_on next one rest step run) legal =
     let p = next_piece Up a b count left in
@@ -170,7 +173,7 @@ compare_run limit c a b count s left own answer h (goes_on next one rest step ru
 -- ---- the call
 
 -- A comparison that was answered found the first difference.
-compare_finds : (old new : View) (a b : Side) (count : ℕ) (found : Option ℕ) → old.alone ≡ true → Did old new (DoesCompare old.caller a b count (Ok found))
+compare_finds : (old new : View) (a b : Side) (count : ℕ) (found : Option ℕ) → IsByItself old → Did old new (DoesCompare old.caller a b count (Ok found))
     → FindsDifference old new a b count found
 compare_finds old new a b count found alone d =
     let m = Makes-alone old new d.own alone d.makes in
@@ -188,13 +191,13 @@ compare_finds old new a b count found alone d =
 
 -- The only caller finds the first difference.
 pub compare_alone : (old new : View) (a b : Side) (count : ℕ) (result : Result (Option ℕ) Refusal) → Did old new (DoesCompare old.caller a b count result)
-    → old.alone ≡ true → IfOk result (λ found. FindsDifference old new a b count found)
+    → IsByItself old → IfOk result (λ found. FindsDifference old new a b count found)
 compare_alone old new a b count (Ok found) d alone = compare_finds old new a b count found alone d
 compare_alone old new a b count (Err r) d alone = tt
 
 -- The only caller is refused where one of the arenas isn't open to it.
 pub compare_shut : (old new : View) (a b : Side) (count : ℕ) (result : Result (Option ℕ) Refusal) → Did old new (DoesCompare old.caller a b count result)
-    → old.alone ≡ true → OnErr result (StaysOutOf old new a.arena b.arena)
+    → IsByItself old → OnErr result (StaysOutOf old new a.arena b.arena)
 compare_shut old new a b count (Ok found) d alone = tt
 compare_shut old new a b count (Err WrongThread) d alone =
     let m = Makes-alone old new d.own alone d.makes in

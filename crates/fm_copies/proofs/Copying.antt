@@ -1,6 +1,7 @@
 -- A copy, as far as it has come.
 use Rattle.std.proofs.Common.{◌≡◌, ℕ, ◌+◌, ◌-◌, ◌<◌, List, [], ◌++◌, refl, subst, true, false, Result, Ok, Err}
 use Rattle.std.proofs.lemmas.List.{append-nil}
+use Rattle.fm_base.specs.declared.caller.Caller.{Caller}
 use Rattle.fm_base.specs.declared.refusal.Refusal.{Refusal}
 use Rattle.fm_base.specs.declared.refusal.Refusal.TheVariants.{Closed}
 use Rattle.fm_base.specs.Arenas.{MayUse}
@@ -9,7 +10,7 @@ use Rattle.fm_base.specs.View.{View, Makes, Did}
 use Rattle.fm_base.specs.Visits.{Run}
 use Rattle.fm_base.proofs.Making.{Makes-then, Makes-none}
 use Rattle.fm_base.proofs.Running.{Led, led_start, led_more, led_ends}
-use Rattle.fm_pieces.specs.Pieces.{PutsPiece, DoesGetPiece, DoesPutPiece}
+use Rattle.fm_access.specs.Pieces.{PutsPiece, DoesGetPiece, DoesPutPiece}
 use Rattle.fm_copies.specs.declared.side.Side.{Side}
 use Rattle.fm_copies.specs.declared.side.Piece.{Piece}
 use Rattle.fm_copies.specs.declared.side.Way.{Way}
@@ -34,7 +35,7 @@ put_then x y z a b p v (Ok u) may d e = record {
     reading = d.own;
     putting = e.own;
     reads = d.does.1;
-    puts = subst (λ (c : ℕ). PutsPiece c b.arena (b.at + p.offset) p.width v e.own) d.makes.same_caller e.does.1;
+    puts = subst (λ (c : Caller). PutsPiece c b.arena (b.at + p.offset) p.width v e.own) d.makes.same_caller e.does.1;
     visits = refl;
   };
   makes = Makes-then x y z d.own e.own d.makes e.makes;
@@ -59,7 +60,7 @@ pub copy_goes_on : (old now next : View) (a b : Side) (count : ℕ) (way : Way) 
     → GoingCopy old next a b count way (left - p.width) (own ++ d.own)
 copy_goes_on old now next a b count way left p own g h e d =
     let c = old.caller in
-    let piece : CopiesPiece c a b p d.own = subst (λ (k : ℕ). CopiesPiece k a b p d.own) g.makes.same_caller d.does in
+    let piece : CopiesPiece c a b p d.own = subst (λ (k : Caller). CopiesPiece k a b p d.own) g.makes.same_caller d.does in
     let step : CopiesOn c a b count way left d.own (left - p.width) = rw e (record { more = h; piece = rw e at piece; then = refl }) in
     record {
       makes = Makes-then old now next own d.own g.makes d.makes;
@@ -71,7 +72,7 @@ refused : (old now next : View) (a b : Side) (count : ℕ) (way : Way) (left : �
     → StopsAt now.caller a b p more → Makes now next more → Did old next (DoesCopy old.caller a b count (Err Closed))
 refused old now next a b count way left p own more g may w h e s m =
     let c = old.caller in
-    let in_caller : StopsAt c a b p more = subst (λ (k : ℕ). StopsAt k a b p more) g.makes.same_caller s in
+    let in_caller : StopsAt c a b p more = subst (λ (k : Caller). StopsAt k a b p more) g.makes.same_caller s in
     let stops : StopsAt c a b (next_piece way a b count left) more = subst (λ (q : Piece). StopsAt c a b q more) e in_caller in
     record {
       own = own ++ more;

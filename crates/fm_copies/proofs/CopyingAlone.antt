@@ -1,17 +1,13 @@
 -- What the only caller leaves by a copy.
-use Rattle.std.proofs.Common.{◌≡◌, ◌≢◌, ◌⊎◌, inl, inr, ℕ, ◌+◌, ◌-◌, ◌*◌, ◌%◌, ◌^◌, ◌<◌, ◌≤◌, Bool, true, false, List, [], ◌++◌, length, take, drop, refl, sym, ap, subst, ◌∙◌, arith, Result, Ok, Err, IfOk}
-use Rattle.std.specs.Prelude.{OnErr}
+use Rattle.std.proofs.Common.{◌≡◌, ◌≢◌, ◌⊎◌, inl, inr, ℕ, ◌+◌, ◌-◌, ◌*◌, ◌%◌, ◌^◌, ◌<◌, ◌≤◌, Bool, true, false, List, [], ◌++◌, length, take, drop, refl, sym, ap, subst, ◌∙◌, arith}
 use Rattle.std.proofs.lemmas.Bool.{cases_lt}
 use Rattle.std.proofs.lemmas.List.{length-take, length-drop, length-take-le}
+use Rattle.fm_base.specs.declared.caller.Caller.{Caller}
 use Rattle.fm_base.specs.declared.arena_id.ArenaId.{ArenaId}
-use Rattle.fm_base.specs.declared.refusal.Refusal.{Refusal}
-use Rattle.fm_base.specs.declared.refusal.Refusal.TheVariants.{Closed, WrongThread}
-use Rattle.fm_base.specs.Arenas.{Alive, Arena, State, arena_of, has_arena, changed, same_id}
+use Rattle.fm_base.specs.Arenas.{Alive, Arena, State, arena_of, changed, same_id}
 use Rattle.fm_base.specs.Calls.{Entry}
 use Rattle.fm_base.specs.Histories.{IsLegal, state_after}
-use Rattle.fm_base.specs.View.{View, Did}
 use Rattle.fm_base.specs.Visits.{Run, ends, goes_on, first_width, last_width}
-use Rattle.fm_base.proofs.Faith.{Makes-alone}
 use Rattle.fm_base.proofs.Lookup.{changed_lookup, changed_twice}
 use Rattle.fm_base.proofs.Making.{IsLegal-split, state_after-append}
 use Rattle.fm_base.proofs.Names.{same_id-self, same_id-true}
@@ -19,19 +15,18 @@ use Rattle.fm_bytes.specs.Bytes.{bytes_of}
 use Rattle.fm_bytes.specs.Words.{bytes_in}
 use Rattle.fm_bytes.proofs.Bytes.{length-bytes_of, lane-lt}
 use Rattle.fm_bytes.proofs.Words.{length-bytes_in}
-use Rattle.fm_pieces.specs.Alone.{bytes_of_arena, with_bytes, with_words}
-use Rattle.fm_pieces.specs.Pieces.{ReadsPiece}
-use Rattle.fm_pieces.proofs.Alone.{RunPuts, puts_none, with_words_there, other_words, changes}
-use Rattle.fm_pieces.proofs.Putting.{putting}
-use Rattle.fm_pieces.proofs.Splicing.{keeps_elsewhere}
-use Rattle.fm_pieces.proofs.Visits.{alive_by, visit_reads, visit_puts}
+use Rattle.fm_access.specs.Alone.{bytes_of_arena, with_bytes, with_words}
+use Rattle.fm_access.specs.Pieces.{ReadsPiece}
+use Rattle.fm_access.proofs.Alone.{RunPuts, puts_none, with_words_there, other_words}
+use Rattle.fm_access.proofs.Putting.{putting}
+use Rattle.fm_access.proofs.Splicing.{keeps_elsewhere}
+use Rattle.fm_access.proofs.Visits.{alive_by, visit_reads, visit_puts}
 use Rattle.fm_copies.specs.declared.side.Side.{Side}
 use Rattle.fm_copies.specs.declared.side.Piece.{Piece}
 use Rattle.fm_copies.specs.declared.side.Way.{Way}
 use Rattle.fm_copies.specs.declared.side.Way.TheVariants.{Up, Down}
 use Rattle.fm_copies.specs.Sides.{IsWay, IsPieceAt, next_piece}
-use Rattle.fm_copies.specs.Copies.{CopiesPiece, CopiesOn, EndsCopy, DoesCopy}
-use Rattle.fm_copies.specs.Alone.{bytes_at, TakesBytes, StaysOutOf}
+use Rattle.fm_copies.specs.Copies.{CopiesPiece, CopiesOn, EndsCopy}
 use Rattle.fm_copies.proofs.Fitting.{next_piece_fits}
 use Rattle.fm_copies.proofs.Overlaps.{copied_up, copied_down}
 use Rattle.fm_copies.proofs.Refusing.{AreAlive, AreShut, piece_refused}
@@ -45,7 +40,8 @@ record IsCopied (s t : State) (a b : Side) (p : Piece) : Type 0 where
   pub room : a.at + p.offset + p.width ≤ length (bytes_of_arena s a.arena)
   pub within : b.at + p.offset + p.width ≤ length (bytes_of_arena s b.arena)
   pub count : length (take p.width (drop (a.at + p.offset) (bytes_of_arena s a.arena))) ≡ p.width
-  pub bytes : bytes_of_arena t b.arena ≡ with_bytes (bytes_of_arena s b.arena) (b.at + p.offset) (take p.width (drop (a.at + p.offset) (bytes_of_arena s a.arena)))
+  pub bytes : bytes_of_arena t b.arena ≡ with_bytes (bytes_of_arena s b.arena) (b.at + p.offset)
+      (take p.width (drop (a.at + p.offset) (bytes_of_arena s a.arena)))
   pub alive : AreAlive s a b
 
 -- Bytes that were found stand within.
@@ -65,7 +61,7 @@ all_found xs from width next left sum room rest =
     length-take-le left (drop from xs) (omega arith)
 
 -- What was read is put.
-piece_put : (limit c : ℕ) (s : State) (a b : Side) (p : Piece) (own : List Entry) (q : CopiesPiece c a b p own) → IsPieceAt a b p
+piece_put : (limit : ℕ) (c : Caller) (s : State) (a b : Side) (p : Piece) (own : List Entry) (q : CopiesPiece c a b p own) → IsPieceAt a b p
     → (arena_of s a.arena).life ≡ Alive → bytes_of p.width q.v ≡ take p.width (drop (a.at + p.offset) (bytes_of_arena s a.arena))
     → IsLegal limit s q.putting → IsCopied s (state_after limit s q.putting) a b p
 piece_put limit c s a b p own q fits alive value legal =
@@ -91,14 +87,16 @@ piece_put limit c s a b p own q fits alive value legal =
     }
 
 -- An arena that was read was alive.
-read_alive : (limit c : ℕ) (s : State) (id : ArenaId) (place width v : ℕ) (own : List Entry) → ReadsPiece c id place width v own → IsLegal limit s own
+read_alive : (limit : ℕ) (c : Caller) (s : State) (id : ArenaId) (place width v : ℕ) (own : List Entry) → ReadsPiece c id place width v own
+    → IsLegal limit s own
     → (arena_of s id).life ≡ Alive
 read_alive limit c s id place width v own p legal =
     let here = subst (λ (es : List Entry). IsLegal limit s es) p.visits legal in
     alive_by (arena_of s id).life here.1
 
 -- A piece that the only caller copies.
-piece_copied : (limit c : ℕ) (s : State) (a b : Side) (p : Piece) (own : List Entry) → CopiesPiece c a b p own → IsPieceAt a b p → IsLegal limit s own
+piece_copied : (limit : ℕ) (c : Caller) (s : State) (a b : Side) (p : Piece) (own : List Entry) → CopiesPiece c a b p own → IsPieceAt a b p
+    → IsLegal limit s own
     → IsCopied s (state_after limit s own) a b p
 piece_copied limit c s a b p own q fits legal =
     let from = a.at + p.offset in
@@ -126,7 +124,8 @@ still_alive s t a b p q =
     (stays a.arena ∙ q.alive.0, stays b.arena ∙ q.alive.1)
 
 -- The other arenas keep their bytes.
-other_bytes : (s t : State) (a b : Side) (p : Piece) → IsCopied s t a b p → (other : ArenaId) → other ≢ b.arena → bytes_of_arena t other ≡ bytes_of_arena s other
+other_bytes : (s t : State) (a b : Side) (p : Piece) → IsCopied s t a b p → (other : ArenaId) → other ≢ b.arena
+    → bytes_of_arena t other ≡ bytes_of_arena s other
 other_bytes s t a b p q other n =
     ap (λ (u : State). bytes_of_arena u other) q.state ∙ ap bytes_in (other_words (with_words q.words) (λ x. refl) s b.arena other n)
 
@@ -179,12 +178,12 @@ stays_below s t a b p size down h q =
 -- ---- all pieces
 
 -- all of so many bytes were put
-record AllPut (s t : State) (id : ArenaId) (place : ℕ) (bytes : List ℕ) (count : ℕ) : Type 0 where
+pub record AllPut (s t : State) (id : ArenaId) (place : ℕ) (bytes : List ℕ) (count : ℕ) : Type 0 where
   pub all : length bytes ≡ count
   pub puts : RunPuts s t id (putting place bytes)
 
 -- what a copy of the last or the first `left` bytes leaves
-abbrev Leaves : Way → State → State → Side → Side → ℕ → ℕ → Type 0
+abbrev pub Leaves : Way → State → State → Side → Side → ℕ → ℕ → Type 0
 Leaves Up s t a b count left = AllPut s t b.arena (b.at + (count - left)) (take left (drop (a.at + (count - left)) (bytes_of_arena s a.arena))) left
 Leaves Down s t a b count left = AllPut s t b.arena b.at (take left (drop a.at (bytes_of_arena s a.arena))) left
 
@@ -201,11 +200,14 @@ leaves_end Up s a b count left e = none_put s a b (b.at + (count - left)) (a.at 
 leaves_end Down s a b count left e = none_put s a b b.at a.at left e
 
 -- Words that were put twice.
-put_twice : (s t u : State) (id : ArenaId) (first last : List ℕ) → t ≡ changed s id (with_words first) → u ≡ changed t id (with_words last) → u ≡ changed s id (with_words last)
-put_twice s t u id first last e d = d ∙ ap (λ (x : State). changed x id (with_words last)) e ∙ changed_twice s id (with_words first) (with_words last) (λ x. refl)
+put_twice : (s t u : State) (id : ArenaId) (first last : List ℕ) → t ≡ changed s id (with_words first) → u ≡ changed t id (with_words last)
+    → u ≡ changed s id (with_words last)
+put_twice s t u id first last e d =
+    d ∙ ap (λ (x : State). changed x id (with_words last)) e ∙ changed_twice s id (with_words first) (with_words last) (λ x. refl)
 
 -- One piece more, and the rest.
-leaves_on : (way : Way) (s t u : State) (a b : Side) (count left next : ℕ) → IsWay a b way → 0 < left → left ≤ count → next ≡ left - (next_piece way a b count left).width
+leaves_on : (way : Way) (s t u : State) (a b : Side) (count left next : ℕ) → IsWay a b way → 0 < left → left ≤ count
+    → next ≡ left - (next_piece way a b count left).width
     → IsCopied s t a b (next_piece way a b count left) → Leaves way t u a b count next → Leaves way s u a b count left
 leaves_on Up s t u a b count left next way some h e q more =
     let w = first_width (a.at + (count - left)) (b.at + (count - left)) left in
@@ -261,12 +263,12 @@ leaves_on Down s t u a b count left next way some h e q more =
     }
 
 -- A copy is whole, or stops as one of the arenas isn't alive.
-abbrev Ends : Bool → Way → State → State → Side → Side → ℕ → ℕ → Type 0
+abbrev pub Ends : Bool → Way → State → State → Side → Side → ℕ → ℕ → Type 0
 Ends true way s t a b count left = Leaves way s t a b count left
 Ends false way s t a b count left = AreShut s t a b
 
 -- The end of a copy.
-copy_ends : (limit c : ℕ) (a b : Side) (count : ℕ) (way : Way) (s : State) (left : ℕ) (own : List Entry) (whole : Bool) → left ≤ count
+copy_ends : (limit : ℕ) (c : Caller) (a b : Side) (count : ℕ) (way : Way) (s : State) (left : ℕ) (own : List Entry) (whole : Bool) → left ≤ count
     → EndsCopy c a b count way left own whole → IsLegal limit s own → Ends whole way s (state_after limit s own) a b count left
 copy_ends limit c a b count way s left own false h e legal =
     piece_refused limit c s a b (next_piece way a b count left) own e.1 (next_piece_fits way a b count left e.0 h).at legal
@@ -274,13 +276,15 @@ copy_ends limit c a b count way s left own true h e legal =
     subst (λ (es : List Entry). Leaves way s (state_after limit s es) a b count left) (sym e.1) (leaves_end way s a b count left e.0)
 
 -- One piece more, and the end.
-ends_on : (whole : Bool) (way : Way) (s t u : State) (a b : Side) (count left next : ℕ) → IsWay a b way → 0 < left → left ≤ count → next ≡ left - (next_piece way a b count left).width
+ends_on : (whole : Bool) (way : Way) (s t u : State) (a b : Side) (count left next : ℕ) → IsWay a b way → 0 < left → left ≤ count
+    → next ≡ left - (next_piece way a b count left).width
     → IsCopied s t a b (next_piece way a b count left) → Ends whole way t u a b count next → Ends whole way s u a b count left
 ends_on true way s t u a b count left next is some h e q more = leaves_on way s t u a b count left next is some h e q more
 ends_on false way s t u a b count left next is some h e q more = absurd (more.over (still_alive s t a b (next_piece way a b count left) q))
 
 -- A copy leaves in the target what stood in the source before.
-copy_run : (limit c : ℕ) (a b : Side) (count : ℕ) (way : Way) → IsWay a b way → (s : State) (left : ℕ) (own : List Entry) (whole : Bool) → left ≤ count
+pub copy_run : (limit : ℕ) (c : Caller) (a b : Side) (count : ℕ) (way : Way) → IsWay a b way → (s : State) (left : ℕ) (own : List Entry) (whole : Bool)
+    → left ≤ count
     → Run (CopiesOn c a b count way) (EndsCopy c a b count way) left own whole → IsLegal limit s own
     → Ends whole way s (state_after limit s own) a b count left
 copy_run limit c a b count way is s left own whole h (ends e) legal = copy_ends limit c a b count way s left own whole h e legal
@@ -294,40 +298,3 @@ copy_run limit c a b count way is s left own whole h (goes_on next one rest step
     let more = copy_run limit c a b count way is (state_after limit s one) next rest whole below run parts.1 in
     let Here : State → Type 0 = λ u. Ends whole way s u a b count left in
     subst Here (sym (state_after-append limit s one rest)) (ends_on whole way s t (state_after limit t rest) a b count left next is step.more h step.then q more)
-
--- ---- the call
-
--- What a copy of all bytes leaves.
-all_put : (way : Way) (s t : State) (a b : Side) (count : ℕ) → Leaves way s t a b count count
-    → AllPut s t b.arena b.at (take count (drop a.at (bytes_of_arena s a.arena))) count
-all_put Down s t a b count l = l
-all_put Up s t a b count l =
-    let from : a.at + (count - count) ≡ a.at = omega arith in
-    let to : b.at + (count - count) ≡ b.at = omega arith in
-    let P : ℕ → ℕ → Type 0 = λ m n. AllPut s t b.arena n (take count (drop m (bytes_of_arena s a.arena))) count in
-    subst (P a.at) to (subst (λ (m : ℕ). P m (b.at + (count - count))) from l)
-
--- The only caller copies what stood in the source before.
-pub copy_alone : (old new : View) (a b : Side) (count : ℕ) (result : Result (Unit {0}) Refusal) → has_arena old.state b.arena ≡ true
-    → Did old new (DoesCopy old.caller a b count result) → old.alone ≡ true → IfOk result (λ u. TakesBytes old new a b count)
-copy_alone old new a b count (Err r) known d alone = tt
-copy_alone old new a b count (Ok u) known d alone =
-    let m = Makes-alone old new d.own alone d.makes in
-    let way = d.does.way in
-    let run = copy_run old.limit old.caller a b count way d.does.is_way old.state count d.own true (let e : count ≤ count = omega arith in e) d.does.visits m.0 in
-    let last = subst (λ (t : State). Leaves way old.state t a b count count) (sym m.1) run in
-    let all = all_put way old.state new.state a b count last in
-    record { all = all.all; bytes = changes old new b.arena b.at (bytes_at old.state a count) known all.puts }
-
--- The only caller is refused where one of the arenas isn't open to it.
-pub copy_shut : (old new : View) (a b : Side) (count : ℕ) (result : Result (Unit {0}) Refusal) → Did old new (DoesCopy old.caller a b count result)
-    → old.alone ≡ true → OnErr result (StaysOutOf old new a.arena b.arena)
-copy_shut old new a b count (Ok u) d alone = tt
-copy_shut old new a b count (Err WrongThread) d alone =
-    let m = Makes-alone old new d.own alone d.makes in
-    record { shut = λ both. d.does.0.1 (both.0.usable, both.1.usable); same = m.1 ∙ ap (λ (es : List Entry). state_after old.limit old.state es) d.does.1 }
-copy_shut old new a b count (Err Closed) d alone =
-    let m = Makes-alone old new d.own alone d.makes in
-    let all = copy_run old.limit old.caller a b count d.does.way d.does.is_way old.state count d.own false (let e : count ≤ count = omega arith in e) d.does.visits m.0 in
-    record { shut = λ both. all.over (both.0.alive, both.1.alive); same = m.1 ∙ all.same }
-copy_shut old new a b count (Err r) d alone = absurd d.does

@@ -2,8 +2,8 @@
 use Rattle.std.proofs.Common.{◌≡◌, ℕ, ◌+◌, ◌≤◌, inl, List, ◌++◌, length, take, drop, sym, ap, ◌∙◌, arith, append_assoc, length-append}
 use Rattle.std.proofs.lemmas.List.{drop_at, drop-drop, length-take-le}
 use Rattle.fm_bytes.proofs.Words.{take-add}
-use Rattle.fm_pieces.specs.Alone.{with_bytes}
-use Rattle.fm_pieces.proofs.Splicing.{with_bytes-twice, keeps_elsewhere}
+use Rattle.fm_access.specs.Alone.{with_bytes}
+use Rattle.fm_access.proofs.Splicing.{with_bytes-twice, keeps_elsewhere}
 
 -- Bytes that are put in two parts, the higher one first.
 with_bytes-below : (all : List ℕ) (place : ℕ) (p q : List ℕ) → place + length q + length p ≤ length all

@@ -1,11 +1,12 @@
 -- When the only caller is refused.
 use Rattle.std.proofs.Common.{◌≡◌, ℕ, ◌+◌, List, refl, ap, subst, ◌∙◌}
+use Rattle.fm_base.specs.declared.caller.Caller.{Caller}
 use Rattle.fm_base.specs.Arenas.{State, Alive, arena_of}
 use Rattle.fm_base.specs.Calls.{Entry}
 use Rattle.fm_base.specs.Histories.{IsLegal, state_after}
 use Rattle.fm_base.specs.Visits.{refused_visit}
 use Rattle.fm_base.proofs.Making.{IsLegal-split, state_after-append}
-use Rattle.fm_pieces.proofs.Visits.{visit_refused, visit_reads}
+use Rattle.fm_access.proofs.Visits.{visit_refused, visit_reads}
 use Rattle.fm_copies.specs.declared.side.Side.{Side}
 use Rattle.fm_copies.specs.declared.side.Piece.{Piece}
 use Rattle.fm_copies.specs.Sides.{IsPieceAt, StopsAt, first, second}
@@ -19,7 +20,8 @@ pub record AreShut (s t : State) (a b : Side) : Type 0 where
   pub same : t ≡ s
 
 -- A piece that was refused leaves the state, and one of its arenas isn't alive.
-pub piece_refused : (limit c : ℕ) (s : State) (a b : Side) (p : Piece) (own : List Entry) → StopsAt c a b p own → IsPieceAt a b p → IsLegal limit s own
+pub piece_refused : (limit : ℕ) (c : Caller) (s : State) (a b : Side) (p : Piece) (own : List Entry) → StopsAt c a b p own → IsPieceAt a b p
+    → IsLegal limit s own
     → AreShut s (state_after limit s own) a b
 piece_refused limit c s a b p own first fits legal =
     let v = visit_refused limit c s a.arena (refused_visit c a.arena) refl legal in

@@ -1,5 +1,6 @@
 -- A piece of two sides that was refused.
 use Rattle.std.proofs.Common.{◌≡◌, ℕ, ◌+◌, List, ◌++◌, sym, subst, Ok, Err}
+use Rattle.fm_base.specs.declared.caller.Caller.{Caller}
 use Rattle.fm_base.specs.declared.refusal.Refusal.{Refusal}
 use Rattle.fm_base.specs.declared.refusal.Refusal.TheVariants.{Closed}
 use Rattle.fm_base.specs.Arenas.{MayUse}
@@ -9,7 +10,7 @@ use Rattle.fm_base.specs.Visits.{refused_visit}
 use Rattle.fm_base.specs.Does.{DoesEnter}
 use Rattle.fm_base.proofs.Making.{Makes-then}
 use Rattle.fm_base.proofs.Visiting.{refused_makes}
-use Rattle.fm_pieces.specs.Pieces.{DoesGetPiece}
+use Rattle.fm_access.specs.Pieces.{DoesGetPiece}
 use Rattle.fm_copies.specs.declared.side.Side.{Side}
 use Rattle.fm_copies.specs.declared.side.Piece.{Piece}
 use Rattle.fm_copies.specs.Sides.{StopsAt, first, second}
@@ -22,7 +23,8 @@ pub record Stopped (x y : View) (a b : Side) (p : Piece) (r : Refusal) : Type 0 
   pub makes : Makes x y own
 
 -- The first visit was refused.
-pub stopped_first : (x y : View) (a b : Side) (p : Piece) (r : Refusal) → MayUse a.arena x.caller → Did x y (DoesEnter x.caller a.arena (Err r)) → Stopped x y a b p r
+pub stopped_first : (x y : View) (a b : Side) (p : Piece) (r : Refusal) → MayUse a.arena x.caller → Did x y (DoesEnter x.caller a.arena (Err r))
+    → Stopped x y a b p r
 stopped_first x y a b p r may d =
     let m = refused_makes x y a.arena r may d in
     record { closed = m.0; own = refused_visit x.caller a.arena; stops = first; makes = m.1 }
@@ -32,8 +34,8 @@ pub stopped_second : (x y z : View) (a b : Side) (p : Piece) (v : ℕ) (r : Refu
     → Did x y (DoesGetPiece x.caller a.arena (a.at + p.offset) p.width (Ok v)) → Did y z (DoesEnter y.caller b.arena (Err r)) → Stopped x z a b p r
 stopped_second x y z a b p v r may d e =
     let same = d.makes.same_caller in
-    let m = refused_makes y z b.arena r (subst (λ (c : ℕ). MayUse b.arena c) (sym same) may) e in
-    let last : Makes y z (refused_visit x.caller b.arena) = subst (λ (c : ℕ). Makes y z (refused_visit c b.arena)) same m.1 in
+    let m = refused_makes y z b.arena r (subst (λ (c : Caller). MayUse b.arena c) (sym same) may) e in
+    let last : Makes y z (refused_visit x.caller b.arena) = subst (λ (c : Caller). Makes y z (refused_visit c b.arena)) same m.1 in
     record {
       closed = m.0;
       own = d.own ++ refused_visit x.caller b.arena;

@@ -5,7 +5,7 @@ use Rattle.std.proofs.Common.{suc}
 use Rattle.fm_base.specs.declared.arena_id.ArenaId.{ArenaId}
 use Rattle.fm_base.specs.Arenas.{State}
 use Rattle.fm_base.specs.View.{View}
-use Rattle.fm_pieces.specs.Alone.{bytes_of_arena, ChangesBytes, IsOpen}
+use Rattle.fm_access.specs.Alone.{bytes_of_arena, ChangesBytes, IsOpen}
 use Rattle.fm_copies.specs.declared.side.Side.{Side}
 
 -- the first `count` bytes of the side

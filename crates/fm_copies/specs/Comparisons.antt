@@ -1,5 +1,6 @@
 -- Two ranges compared piece by piece, the lowest place first, up to the first piece that differs.
 use Rattle.std.specs.Prelude.{◌≡◌, ◌≢◌, ℕ, ◌+◌, ◌-◌, ◌<◌, List, [], ◌++◌, Option, Some, None, Result, Ok, Err}
+use Rattle.fm_base.specs.declared.caller.Caller.{Caller}
 use Rattle.fm_base.specs.declared.refusal.Refusal.{Refusal}
 use Rattle.fm_base.specs.declared.refusal.Refusal.TheVariants.{Closed, WrongThread}
 use Rattle.fm_base.specs.Calls.{Entry}
@@ -22,7 +23,7 @@ IsDifference width v w None = v ≡ w
 IsDifference width v w (Some at) = DiffersAt width v w at
 
 -- a visit to a reads the piece, and then one to b; `found` is the first byte in which they differ
-pub record ComparesPiece (c : ℕ) (a b : Side) (p : Piece) (found : Option ℕ) (own : List Entry) : Type 0 where
+pub record ComparesPiece (c : Caller) (a b : Side) (p : Piece) (found : Option ℕ) (own : List Entry) : Type 0 where
   pub v : ℕ
   pub w : ℕ
   pub first : List Entry
@@ -32,13 +33,13 @@ pub record ComparesPiece (c : ℕ) (a b : Side) (p : Piece) (found : Option ℕ)
   pub visits : own ≡ first ++ second
   pub answer : IsDifference p.width v w found
 
-abbrev pub DoesComparePiece : ℕ → Side → Side → Piece → Result (Option ℕ) Refusal → List Entry → Type 0
+abbrev pub DoesComparePiece : Caller → Side → Side → Piece → Result (Option ℕ) Refusal → List Entry → Type 0
 DoesComparePiece c a b p (Ok found) own = ComparesPiece c a b p found own
 DoesComparePiece c a b p (Err Closed) own = StopsAt c a b p own
 DoesComparePiece c a b p (Err r) own = ⊥
 
 -- a comparison of `count` bytes
-module _ (c : ℕ) (a b : Side) (count : ℕ) where
+module _ (c : Caller) (a b : Side) (count : ℕ) where
   -- of `left` bytes the next piece agrees
   pub record AgreesOn (left : ℕ) (own : List Entry) (left_then : ℕ) : Type 0 where
     pub more : 0 < left
@@ -59,12 +60,12 @@ module _ (c : ℕ) (a b : Side) (count : ℕ) where
   EndsComparing left own None = (0 < left) × StopsAt c a b (next_piece Up a b count left) own
 
 -- the visits of a comparison, up to its answer or a visit that was refused
-pub record Compares (c : ℕ) (a b : Side) (count : ℕ) (own : List Entry) (answer : Option (Option ℕ)) : Type 0 where
+pub record Compares (c : Caller) (a b : Side) (count : ℕ) (own : List Entry) (answer : Option (Option ℕ)) : Type 0 where
   pub may_use : 0 < count → MayUseBoth c a b
   pub visits : Run (AgreesOn c a b count) (EndsComparing c a b count) count own answer
 
 -- the offset of the first byte that differs, or None where all bytes agree
-abbrev pub DoesCompare : ℕ → Side → Side → ℕ → Result (Option ℕ) Refusal → List Entry → Type 0
+abbrev pub DoesCompare : Caller → Side → Side → ℕ → Result (Option ℕ) Refusal → List Entry → Type 0
 DoesCompare c a b count (Ok found) own = Compares c a b count own (Some found)
 DoesCompare c a b count (Err WrongThread) own = IsForOthers c a b count × (own ≡ [])
 DoesCompare c a b count (Err Closed) own = Compares c a b count own None

@@ -1,17 +1,18 @@
 -- A copy from one range to another: piece by piece, each read and then put.
 use Rattle.std.specs.Prelude.{◌≡◌, ℕ, ◌+◌, ◌-◌, ◌<◌, Bool, true, false, List, [], ◌++◌, Result, Ok, Err}
+use Rattle.fm_base.specs.declared.caller.Caller.{Caller}
 use Rattle.fm_base.specs.declared.refusal.Refusal.{Refusal}
 use Rattle.fm_base.specs.declared.refusal.Refusal.TheVariants.{Closed, WrongThread}
 use Rattle.fm_base.specs.Calls.{Entry}
 use Rattle.fm_base.specs.Visits.{Run}
-use Rattle.fm_pieces.specs.Pieces.{PutsPiece}
+use Rattle.fm_access.specs.Pieces.{PutsPiece}
 use Rattle.fm_copies.specs.declared.side.Side.{Side}
 use Rattle.fm_copies.specs.declared.side.Piece.{Piece}
 use Rattle.fm_copies.specs.declared.side.Way.{Way}
 use Rattle.fm_copies.specs.Sides.{MayUseBoth, IsForOthers, IsWay, next_piece, ReadsAt, StopsAt}
 
 -- a visit reads the piece, and then one puts what was read
-pub record CopiesPiece (c : ℕ) (a b : Side) (p : Piece) (own : List Entry) : Type 0 where
+pub record CopiesPiece (c : Caller) (a b : Side) (p : Piece) (own : List Entry) : Type 0 where
   pub v : ℕ
   pub reading : List Entry
   pub putting : List Entry
@@ -19,13 +20,13 @@ pub record CopiesPiece (c : ℕ) (a b : Side) (p : Piece) (own : List Entry) : T
   pub puts : PutsPiece c b.arena (b.at + p.offset) p.width v putting
   pub visits : own ≡ reading ++ putting
 
-abbrev pub DoesCopyPiece : ℕ → Side → Side → Piece → Result (Unit {0}) Refusal → List Entry → Type 0
+abbrev pub DoesCopyPiece : Caller → Side → Side → Piece → Result (Unit {0}) Refusal → List Entry → Type 0
 DoesCopyPiece c a b p (Ok u) own = CopiesPiece c a b p own
 DoesCopyPiece c a b p (Err Closed) own = StopsAt c a b p own
 DoesCopyPiece c a b p (Err r) own = ⊥
 
 -- a copy of `count` bytes, one way
-module _ (c : ℕ) (a b : Side) (count : ℕ) (way : Way) where
+module _ (c : Caller) (a b : Side) (count : ℕ) (way : Way) where
   -- of `left` bytes the next piece was copied
   pub record CopiesOn (left : ℕ) (own : List Entry) (left_then : ℕ) : Type 0 where
     pub more : 0 < left
@@ -38,13 +39,13 @@ module _ (c : ℕ) (a b : Side) (count : ℕ) (way : Way) where
   EndsCopy left own false = (0 < left) × StopsAt c a b (next_piece way a b count left) own
 
 -- the visits of a copy, whole or up to a visit that was refused
-pub record Copies (c : ℕ) (a b : Side) (count : ℕ) (own : List Entry) (whole : Bool) : Type 0 where
+pub record Copies (c : Caller) (a b : Side) (count : ℕ) (own : List Entry) (whole : Bool) : Type 0 where
   pub may_use : 0 < count → MayUseBoth c a b
   pub way : Way
   pub is_way : IsWay a b way
   pub visits : Run (CopiesOn c a b count way) (EndsCopy c a b count way) count own whole
 
-abbrev pub DoesCopy : ℕ → Side → Side → ℕ → Result (Unit {0}) Refusal → List Entry → Type 0
+abbrev pub DoesCopy : Caller → Side → Side → ℕ → Result (Unit {0}) Refusal → List Entry → Type 0
 DoesCopy c a b count (Ok u) own = Copies c a b count own true
 DoesCopy c a b count (Err WrongThread) own = IsForOthers c a b count × (own ≡ [])
 DoesCopy c a b count (Err Closed) own = Copies c a b count own false

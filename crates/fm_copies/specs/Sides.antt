@@ -1,11 +1,12 @@
 -- Two ranges of bytes, as long as each other, and the pieces in which they are gone through:
 -- a piece is a longest run of bytes that lies in one word of each side.
 use Rattle.std.specs.Prelude.{◌≡◌, ℕ, ◌+◌, ◌-◌, ◌%◌, ◌<◌, ◌≤◌, List, ◌++◌}
+use Rattle.fm_base.specs.declared.caller.Caller.{Caller}
 use Rattle.fm_base.specs.declared.arena_id.ArenaId.{ArenaId}
 use Rattle.fm_base.specs.Arenas.{MayUse}
 use Rattle.fm_base.specs.Calls.{Entry}
 use Rattle.fm_base.specs.Visits.{refused_visit, first_width, last_width}
-use Rattle.fm_pieces.specs.Pieces.{ReadsPiece}
+use Rattle.fm_access.specs.Pieces.{ReadsPiece}
 use Rattle.fm_copies.specs.declared.side.Side.{Side}
 use Rattle.fm_copies.specs.declared.side.Piece.{Piece}
 use Rattle.fm_copies.specs.declared.side.Way.{Way}
@@ -14,11 +15,11 @@ use Rattle.fm_copies.specs.declared.side.Way.TheVariants.{Up, Down}
 abbrev pub side : ArenaId → ℕ → Side
 side arena at = record { arena = arena; at = at }
 
-abbrev pub MayUseBoth : ℕ → Side → Side → Type 0
+abbrev pub MayUseBoth : Caller → Side → Side → Type 0
 MayUseBoth c a b = MayUse a.arena c × MayUse b.arena c
 
 -- there is a byte, and a side is confined to another caller
-abbrev pub IsForOthers : ℕ → Side → Side → ℕ → Type 0
+abbrev pub IsForOthers : Caller → Side → Side → ℕ → Type 0
 IsForOthers c a b count = (0 < count) × ¬ (MayUseBoth c a b)
 
 -- a piece has a byte or more, in one word of each side
@@ -50,10 +51,10 @@ IsWay a b Down = (a.arena ≡ b.arena) × (a.at < b.at)
 IsWay a b Up = ¬ ((a.arena ≡ b.arena) × (a.at < b.at))
 
 -- a visit reads these bytes of side a
-abbrev pub ReadsAt : ℕ → Side → Piece → ℕ → List Entry → Type 0
+abbrev pub ReadsAt : Caller → Side → Piece → ℕ → List Entry → Type 0
 ReadsAt c a p v own = ReadsPiece c a.arena (a.at + p.offset) p.width v own
 
 -- the visit to a was refused, or the one to b after a's bytes were read
-pub data StopsAt (c : ℕ) (a b : Side) (p : Piece) : List Entry → Type 0 where
+pub data StopsAt (c : Caller) (a b : Side) (p : Piece) : List Entry → Type 0 where
   first : StopsAt c a b p (refused_visit c a.arena)
   second : (v : ℕ) (own : List Entry) → ReadsAt c a p v own → StopsAt c a b p (own ++ refused_visit c b.arena)

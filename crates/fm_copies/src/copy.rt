@@ -1,14 +1,13 @@
-ghost use Rattle.std.specs.Prelude.{◌≡◌, ◌+◌, ◌^◌, ◌≤◌, true, None, OnOk, OnErr};
+ghost use Rattle.std.specs.Prelude.{◌≡◌, ◌+◌, ◌^◌, ◌≤◌, true, None};
 ghost use Rattle.fm_base.specs.Arenas.{has_arena};
-ghost use Rattle.fm_base.specs.Outcomes.{Lasts};
 ghost use Rattle.fm_base.specs.View.{Did, given_in};
 ghost use Rattle.fm_copies.specs.Sides.{side, IsPieceAt, MayUseBoth};
-ghost use Rattle.fm_copies.specs.Copies.{DoesCopyPiece, DoesCopy};
-ghost use Rattle.fm_copies.specs.Alone.{TakesBytes, StaysOutOf};
+ghost use Rattle.fm_copies.specs.Copies.{DoesCopyPiece};
+ghost use Rattle.fm_copies.specs.Learnt.{CanTouchBoth, AfterCopy};
 
 use crate::side::{Piece, Side, is_wrong_thread, next_piece, way_of};
+use fm_access::{get_piece, put_piece};
 use fm_base::{ArenaId, Memory, Refusal};
-use fm_pieces::{get_piece, put_piece};
 use std::sync::Wait;
 
 /// Reads a piece of the source, and then puts it.
@@ -50,21 +49,8 @@ pub fn copy_range<R: Wait, M: Memory>(
     dst_at: u64,
     n: u64,
 ) -> Result<(), Refusal>
-    requires outside { (M.view m.old).inside ≡ None }
-    requires source_known { has_arena (M.view m.old).state src ≡ true }
-    requires target_known { has_arena (M.view m.old).state dst ≡ true }
-    requires source_given { src_at + n ≤ given_in (M.view m.old) src }
-    requires target_given { dst_at + n ≤ given_in (M.view m.old) dst }
-    requires source_small { src_at + n ≤ 2 ^ 40 }
-    requires target_small { dst_at + n ≤ 2 ^ 40 }
-    ensures did { Did (M.view m.old) (M.view m.new)
-        (DoesCopy (M.view m.old).caller (side src src_at) (side dst dst_at) n result) }
-    ensures alone { (M.view m.old).alone ≡ true → OnOk result
-        (TakesBytes (M.view m.old) (M.view m.new) (side src src_at) (side dst dst_at) n) }
-    ensures shut { (M.view m.old).alone ≡ true
-        → OnErr result (StaysOutOf (M.view m.old) (M.view m.new) src dst) }
-    ensures outside { (M.view m.new).inside ≡ None }
-    ensures lasts { Lasts (M.view m.old) (M.view m.new) }
+    requires { CanTouchBoth (M.view m.old) (side src src_at) (side dst dst_at) n }
+    ensures { AfterCopy (M.view m.old) (M.view m.new) (side src src_at) (side dst dst_at) n result }
 {
     let from = Side {
         arena: src,

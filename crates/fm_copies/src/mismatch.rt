@@ -1,15 +1,14 @@
-ghost use Rattle.std.specs.Prelude.{◌≡◌, ◌+◌, ◌*◌, ◌^◌, ◌<◌, ◌≤◌, true, None, IfOk, OnErr};
+ghost use Rattle.std.specs.Prelude.{◌≡◌, ◌+◌, ◌*◌, ◌^◌, ◌<◌, ◌≤◌, true, None};
 ghost use Rattle.fm_base.specs.Arenas.{has_arena};
-ghost use Rattle.fm_base.specs.Outcomes.{Lasts};
 ghost use Rattle.fm_base.specs.View.{Did, given_in};
 ghost use Rattle.fm_copies.specs.Sides.{side, IsPieceAt, MayUseBoth};
-ghost use Rattle.fm_copies.specs.Comparisons.{IsDifference, DoesComparePiece, DoesCompare};
-ghost use Rattle.fm_copies.specs.Alone.{FindsDifference, StaysOutOf};
+ghost use Rattle.fm_copies.specs.Comparisons.{IsDifference, DoesComparePiece};
+ghost use Rattle.fm_copies.specs.Learnt.{CanTouchBoth, AfterCompare};
 
 use crate::side::{Piece, Side, Way, is_wrong_thread, next_piece};
+use fm_access::get_piece;
 use fm_base::{ArenaId, Memory, Refusal};
 use fm_lanes::read;
-use fm_pieces::get_piece;
 
 /// The lowest byte in which two numbers of `width` bytes differ.
 fn first_difference(v: u64, w: u64, width: u32) -> Option<u32>
@@ -67,21 +66,8 @@ pub fn mismatch_range<M: Memory>(
     b_at: u64,
     n: u64,
 ) -> Result<Option<u64>, Refusal>
-    requires outside { (M.view m.old).inside ≡ None }
-    requires first_known { has_arena (M.view m.old).state a ≡ true }
-    requires second_known { has_arena (M.view m.old).state b ≡ true }
-    requires first_given { a_at + n ≤ given_in (M.view m.old) a }
-    requires second_given { b_at + n ≤ given_in (M.view m.old) b }
-    requires first_small { a_at + n ≤ 2 ^ 40 }
-    requires second_small { b_at + n ≤ 2 ^ 40 }
-    ensures did { Did (M.view m.old) (M.view m.new)
-        (DoesCompare (M.view m.old).caller (side a a_at) (side b b_at) n result) }
-    ensures alone { (M.view m.old).alone ≡ true → IfOk result
-        (λ found. FindsDifference (M.view m.old) (M.view m.new) (side a a_at) (side b b_at) n found) }
-    ensures shut { (M.view m.old).alone ≡ true
-        → OnErr result (StaysOutOf (M.view m.old) (M.view m.new) a b) }
-    ensures outside { (M.view m.new).inside ≡ None }
-    ensures lasts { Lasts (M.view m.old) (M.view m.new) }
+    requires { CanTouchBoth (M.view m.old) (side a a_at) (side b b_at) n }
+    ensures { AfterCompare (M.view m.old) (M.view m.new) (side a a_at) (side b b_at) n result }
 {
     let first = Side { arena: a, at: a_at };
     let second = Side { arena: b, at: b_at };

@@ -3,8 +3,8 @@ ghost use Rattle.fm_base.specs.Visits as visits;
 ghost use Rattle.fm_copies.specs.Sides as sides;
 ghost use Rattle.fm_copies.specs.Sides.{IsWay, IsPieceOf, IsForOthers, MayUseBoth};
 
+use fm_access::{may_use, piece_width};
 use fm_base::{ArenaId, Memory};
-use fm_pieces::{may_use, piece_width};
 
 /// One of two ranges: its bytes stand in the arena from the place `at` on.
 #[derive(Clone, Copy)]

@@ -3,9 +3,9 @@ ghost use Rattle.fm_base.specs.Arenas.{has_arena};
 ghost use Rattle.fm_base.specs.View.{given_in};
 
 use crate::{copy_range, mismatch_range};
+use fm_access::{get_number, put_number};
 use fm_base::{ArenaId, Kind, Memory, Refusal};
 use fm_mono::Mono;
-use fm_pieces::{get_number, put_number};
 use std::process::Abort;
 use std::sync::Wait;
 

@@ -1,3 +1,4 @@
+pub mod Learning
 pub mod Alone
 pub mod Causes
 pub mod Places

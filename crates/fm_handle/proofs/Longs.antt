@@ -1,15 +1,17 @@
 -- What a handle's exchanges of and additions to whole words do, where the caller is the only one.
-use Rattle.std.proofs.Common.{◌≡◌, ℕ, ℤ, ◌+◌, ◌*◌, ◌/◌, ◌%◌, ◌^◌, ◌<◌, ◌≤◌, ◌==◌, true, if◌then◌else◌, List, [], ◌∷◌, length, take, drop, Ok, refl, sym, ap, subst, ◌∙◌, arith}
+use Rattle.std.proofs.Common.{◌≡◌, ℕ, ℤ, ◌+◌, ◌*◌, ◌/◌, ◌%◌, ◌^◌, ◌<◌, ◌≤◌, ◌==◌, true, List, [], ◌∷◌, length, take, drop, Ok, refl, sym, ap, subst, ◌∙◌, arith}
 use Rattle.std.specs.Int.{w64, cast_unsigned}
 use Rattle.std.proofs.lemmas.Bool.Decides.{nat_tests}
 use Rattle.std.proofs.lemmas.List.{length-reverse, take_all}
+use Rattle.fm_base.specs.declared.caller.Caller.{Caller}
 use Rattle.fm_base.specs.declared.arena_id.ArenaId.{ArenaId}
 use Rattle.fm_base.specs.Arenas.{State, arena_of, has_arena, changed, word_in}
 use Rattle.fm_base.specs.Calls.{SwapIf, Add, Leave, Fine, Found, entry_of}
 use Rattle.fm_base.specs.Histories.{IsLegal, state_after}
-use Rattle.fm_base.specs.Machine.{entered, written}
-use Rattle.fm_base.specs.View.{View, Did}
+use Rattle.fm_base.specs.Machine.{entered}
+use Rattle.fm_base.specs.View.{View, Did, IsByItself}
 use Rattle.fm_base.specs.Visits.{Acts, entries_of, visit}
+use Rattle.fm_base.proofs.Lookup.{swapped_hit, swapped_miss}
 use Rattle.fm_base.proofs.Making.{IsLegal-split}
 use Rattle.fm_base.proofs.Placing.{there_by_way}
 use Rattle.fm_bytes.specs.Bytes.{AreBytes, bytes_of, number_of}
@@ -26,10 +28,10 @@ use Rattle.fm_lanes.specs.Coding.{encoded, lowest_first, value_of, bytes_of_valu
 use Rattle.fm_lanes.specs.Kind.{width_of}
 use Rattle.fm_lanes.proofs.Turning.{AreBytes-reverse}
 use Rattle.fm_path.specs.declared.value_spec.ValueSpec.{ValueSpec}
-use Rattle.fm_pieces.proofs.Visits.{VisitPuts, ActsPut, acts_visit, visit_stays, whole_word, not_same}
-use Rattle.fm_segment.proofs.Alone.{lowest_twice}
+use Rattle.fm_access.proofs.Visits.{VisitPuts, ActsPut, acts_visit, visit_stays, whole_word, not_same}
+use Rattle.fm_access.proofs.Values.{lowest_twice}
 use Rattle.fm_handle.specs.Access.{DoesVisit}
-use Rattle.fm_handle.specs.Acts.{Swaps, AddsTo, value_in, word_of, sum_of}
+use Rattle.fm_handle.specs.Acts.{ExchangesLong, AddsLong, Swaps, AddsTo, value_in, word_of, sum_of}
 use Rattle.fm_handle.specs.Alone.{value_at, ExchangesValue, AddsValue}
 use Rattle.fm_handle.proofs.Updating.{LongAt, visit_alone, value_there, puts_value}
 
@@ -46,7 +48,8 @@ record AreEight (bytes : List ℕ) : Type 0 where
 
 eight : (o : Order) (word : ℕ) → AreEight (lowest_first o (bytes_of 8 word))
 eight Little word = record { are = AreBytes-bytes_of 8 word; count = length-bytes_of 8 word }
-eight Big word = record { are = AreBytes-reverse (bytes_of 8 word) (AreBytes-bytes_of 8 word); count = length-reverse (bytes_of 8 word) ∙ length-bytes_of 8 word }
+eight Big word =
+    record { are = AreBytes-reverse (bytes_of 8 word) (AreBytes-bytes_of 8 word); count = length-reverse (bytes_of 8 word) ∙ length-bytes_of 8 word }
 
 -- The two's complement of the long that a word means.
 long_number : (o : Order) (x : ℤ) (word : ℕ) → Long x ≡ value_in kind.Long o 0 word → unsigned_of 8 x ≡ number_of (lowest_first o (bytes_of 8 word))
@@ -90,7 +93,7 @@ sum_number x delta word means =
 
 -- ---- one act on a whole word
 
-swap_puts : (limit c : ℕ) (s : State) (id : ArenaId) (place old new word : ℕ) → word ≡ old → place % 8 + 8 ≤ 8
+swap_puts : (limit : ℕ) (c : Caller) (s : State) (id : ArenaId) (place old new word : ℕ) → word ≡ old → place % 8 + 8 ≤ 8
     → IsLegal limit s (entries_of c ((SwapIf id (place / 8) old new, Found word) ∷ []))
     → ActsPut s (state_after limit s (entries_of c ((SwapIf id (place / 8) old new, Found word) ∷ []))) c id place 8 new
 swap_puts limit c s id place old new word e fits legal =
@@ -100,16 +103,16 @@ swap_puts limit c s id place old new word e fits legal =
       word = new;
       known = there_by_way s c id reach.under_way;
       within = reach.within;
-      after = ap (λ b. if b then changed s id (written (place / 8) new) else s) same;
+      after = swapped_hit s id (place / 8) old new word same;
       bytes = whole_word (arena_of s id).words place new reach.within fits;
     }
 
-swap_stays : (limit c : ℕ) (s : State) (id : ArenaId) (place old new word : ℕ) → ¬ (word ≡ old)
+swap_stays : (limit : ℕ) (c : Caller) (s : State) (id : ArenaId) (place old new word : ℕ) → ¬ (word ≡ old)
     → state_after limit s (entries_of c ((SwapIf id (place / 8) old new, Found word) ∷ [])) ≡ s
 swap_stays limit c s id place old new word n =
-    ap (λ b. if b then changed s id (written (place / 8) new) else s) (not_same word old n)
+    swapped_miss s id (place / 8) old new word (not_same word old n)
 
-add_puts : (limit c : ℕ) (s : State) (id : ArenaId) (place n word : ℕ) → place % 8 + 8 ≤ 8
+add_puts : (limit : ℕ) (c : Caller) (s : State) (id : ArenaId) (place n word : ℕ) → place % 8 + 8 ≤ 8
     → IsLegal limit s (entries_of c ((Add id (place / 8) n, Found word) ∷ []))
     → ActsPut s (state_after limit s (entries_of c ((Add id (place / 8) n, Found word) ∷ []))) c id place 8 ((word + n) % 2 ^ 64)
 add_puts limit c s id place n word fits legal =
@@ -123,7 +126,7 @@ add_puts limit c s id place n word fits legal =
     }
 
 -- The long in a word is the value that the arena's bytes mean.
-long_there : (s : State) (c : ℕ) (spec : ValueSpec) (id : ArenaId) (place word : ℕ) → LongAt spec place → has_arena s id ≡ true
+long_there : (s : State) (c : Caller) (spec : ValueSpec) (id : ArenaId) (place word : ℕ) → LongAt spec place → has_arena s id ≡ true
     → place / 8 < length (arena_of (changed s id (entered c)) id).words → word ≡ word_in (changed s id (entered c)) id (place / 8)
     → value_in kind.Long spec.order 0 word ≡ value_at s spec id place
 long_there s c spec id place word long known within is =
@@ -136,10 +139,10 @@ long_there s c spec id place word long known within is =
 -- ---- the calls
 
 -- One SwapIf of the only caller.
-pub swap_alone : (old now : View) (spec : ValueSpec) (id : ArenaId) (place : ℕ) (expected v x : ℤ) (word : ℕ) → LongAt spec place → word < 2 ^ 64
+swap_alone : (old now : View) (spec : ValueSpec) (id : ArenaId) (place : ℕ) (expected v x : ℤ) (word : ℕ) → LongAt spec place → word < 2 ^ 64
     → value_in kind.Long spec.order 0 (word_of spec.order expected) ≡ Long expected → Long x ≡ value_in kind.Long spec.order 0 word
     → Did old now (DoesVisit old.caller id (Swaps id place (word_of spec.order expected) (word_of spec.order v)) (Ok word))
-    → old.alone ≡ true → ExchangesValue old now spec id place (Long expected) (Long v) (Long x)
+    → IsByItself old → ExchangesValue old now spec id place (Long expected) (Long v) (Long x)
 swap_alone old now spec id place expected v x word long small back means d alone =
     let c = old.caller in
     let s = old.state in
@@ -159,18 +162,19 @@ swap_alone old now spec id place expected v x word long small back means d alone
           let same : word ≡ word_of spec.order expected =
           sym (word_again spec.order x word small means) ∙ ap (λ (y : Value). number_of (bytes_of_value spec.order y)) e in
           let put = acts_visit old.limit c s id place 8 b act (λ l. swap_puts old.limit c s1 id place a b word same long.fits l) legal in
-          puts_value old now spec id place (Long v) (sym long.kind) (kind_fits spec place long) (subst (λ (t : State). VisitPuts old.state t id place 8 b) (sym after) put);
+          puts_value old now spec id place (Long v) (sym long.kind) (kind_fits spec place long)
+          (subst (λ (t : State). VisitPuts old.state t id place 8 b) (sym after) put);
       stays = λ n.
           let other : ¬ (word ≡ word_of spec.order expected) = λ q. n (means ∙ ap (value_in kind.Long spec.order 0) q ∙ back) in
           after ∙ visit_stays old.limit c s id act (λ l. swap_stays old.limit c s1 id place a b word other) legal;
     }
 
 -- One Add of the only caller.
-pub add_long_alone : (old now : View) (spec : ValueSpec) (id : ArenaId) (place : ℕ) (delta x : ℤ) (word : ℕ) → LongAt spec place → spec.order ≡ Little
+add_alone : (old now : View) (spec : ValueSpec) (id : ArenaId) (place : ℕ) (delta x : ℤ) (word : ℕ) → LongAt spec place → spec.order ≡ Little
     → Long x ≡ value_in kind.Long Little 0 word
     → Did old now (DoesVisit old.caller id (AddsTo id place (word_of Little delta)) (Ok word))
-    → old.alone ≡ true → AddsValue old now spec id place (Long delta) (Long x)
-add_long_alone old now spec id place delta x word long little means d alone =
+    → IsByItself old → AddsValue old now spec id place (Long delta) (Long x)
+add_alone old now spec id place delta x word long little means d alone =
     let c = old.caller in
     let s = old.state in
     let s1 = changed old.state id (entered old.caller) in
@@ -192,3 +196,21 @@ add_long_alone old now spec id place delta x word long little means d alone =
       puts = puts_value old now spec id place (sum_of (Long x) (Long delta)) (sym long.kind) (kind_fits spec place long)
           (subst (λ (t : State). VisitPuts old.state t id place 8 (number_of (bytes_of_value spec.order (sum_of (Long x) (Long delta))))) (sym after) put_sum);
     }
+
+-- An exchange of whole words.
+pub exchange_long_alone : (old now : View) (spec : ValueSpec) (id : ArenaId) (place : ℕ) (expected v x : ℤ) → LongAt spec place
+    → value_in kind.Long spec.order 0 (word_of spec.order expected) ≡ Long expected
+    → Did old now (DoesVisit old.caller id (ExchangesLong spec.order id place expected v) (Ok x)) → IsByItself old → ExchangesValue old now spec id place
+    (Long expected) (Long v) (Long x)
+exchange_long_alone old now spec id place expected v x long back d alone =
+    let one = d.does.1 in
+    swap_alone old now spec id place expected v x one.are.word long one.are.small back one.are.value
+    (record { own = d.own; does = (d.does.0, record { acts = one.acts; are = one.are.swaps; visits = one.visits }); makes = d.makes }) alone
+
+-- A sum of whole words.
+pub add_long_alone : (old now : View) (spec : ValueSpec) (id : ArenaId) (place : ℕ) (delta x : ℤ) → LongAt spec place → spec.order ≡ Little
+    → Did old now (DoesVisit old.caller id (AddsLong id place delta) (Ok x)) → IsByItself old → AddsValue old now spec id place (Long delta) (Long x)
+add_long_alone old now spec id place delta x long little d alone =
+    let one = d.does.1 in
+    add_alone old now spec id place delta x one.are.word long little one.are.value
+    (record { own = d.own; does = (d.does.0, record { acts = one.acts; are = one.are.adds; visits = one.visits }); makes = d.makes }) alone

@@ -1,5 +1,6 @@
 -- Tries on a word, as far as they have come.
 use Rattle.std.proofs.Common.{◌≡◌, ◌≢◌, ℕ, ◌/◌, ◌%◌, ◌<◌, arith, List, [], ◌∷◌, ◌++◌, refl, sym, ap, subst, ◌∙◌, append_assoc, Some}
+use Rattle.fm_base.specs.declared.caller.Caller.{Caller}
 use Rattle.fm_base.specs.declared.arena_id.ArenaId.{ArenaId}
 use Rattle.fm_base.specs.Calls.{Call, Reply, Read, SwapIf, Found, Entry, entry_of}
 use Rattle.fm_base.specs.View.{View, Makes, Did, given_in}
@@ -16,7 +17,7 @@ use Rattle.fm_handle.specs.Acts as acts
 use Rattle.fm_handle.specs.Acts.{Adds, CutOff, Exchanges, sum_of, value_in, with_value}
 
 -- The entries of acts, one after the other.
-entries_of-append : (c : ℕ) (xs ys : Acts) → entries_of c (xs ++ ys) ≡ entries_of c xs ++ entries_of c ys
+entries_of-append : (c : Caller) (xs ys : Acts) → entries_of c (xs ++ ys) ≡ entries_of c xs ++ entries_of c ys
 entries_of-append c [] ys = refl
 entries_of-append c (x ∷ xs) ys = ap (λ (es : List Entry). entry_of c x.0 x.1 ∷ es) (entries_of-append c xs ys)
 
@@ -65,15 +66,18 @@ trying_begins old now id word GivesUp seen inside stays d = record {
 }
 
 -- what one SwapIf more made
-swapped : (old now next : View) (id : ArenaId) (word : ℕ) (GivesUp : ℕ → Type 0) (seen swap_old swap_new found : ℕ) → (t : IsTrying old now id word GivesUp seen)
+swapped : (old now next : View) (id : ArenaId) (word : ℕ) (GivesUp : ℕ → Type 0) (seen swap_old swap_new found : ℕ)
+    → (t : IsTrying old now id word GivesUp seen)
     → Did now next (DoesAct now.inside now.caller (λ a. SwapIf a word swap_old swap_new) (Found found))
     → Makes old next (entries_of old.caller (t.so_far ++ (SwapIf id word swap_old swap_new, Found found) ∷ []))
 swapped old now next id word GivesUp seen swap_old swap_new found t d =
     let m = act_makes now next id old.caller (λ a. SwapIf a word swap_old swap_new) (Found found) t.inside t.makes.same_caller d in
-    subst (λ (es : List Entry). Makes old next es) (sym (entries_of-append old.caller t.so_far ((SwapIf id word swap_old swap_new, Found found) ∷ []))) (Makes-then old now next _ _ t.makes m)
+    subst (λ (es : List Entry). Makes old next es) (sym (entries_of-append old.caller t.so_far ((SwapIf id word swap_old swap_new, Found found) ∷ [])))
+    (Makes-then old now next _ _ t.makes m)
 
 -- A SwapIf that missed.
-pub trying_goes_on : (old now next : View) (id : ArenaId) (word : ℕ) (GivesUp : ℕ → Type 0) (seen new found : ℕ) → IsTrying old now id word GivesUp seen → next.inside ≡ now.inside → ¬ (found ≡ seen)
+pub trying_goes_on : (old now next : View) (id : ArenaId) (word : ℕ) (GivesUp : ℕ → Type 0) (seen new found : ℕ) → IsTrying old now id word GivesUp seen
+    → next.inside ≡ now.inside → ¬ (found ≡ seen)
     → Did now next (DoesAct now.inside now.caller (λ a. SwapIf a word seen new) (Found found)) → IsTrying old next id word GivesUp found
 trying_goes_on old now next id word GivesUp seen new found t stays n d = record {
   inside = stays ∙ t.inside;
@@ -89,7 +93,8 @@ pub record Hit (old next : View) (id : ArenaId) (word : ℕ) (change : ℕ → �
   pub makes : Makes old next (entries_of old.caller acts)
 
 -- A SwapIf that hit.
-pub trying_hits : (old now next : View) (id : ArenaId) (word : ℕ) (GivesUp : ℕ → Type 0) (change : ℕ → ℕ) (seen new found : ℕ) → IsTrying old now id word GivesUp seen → found ≡ seen → new ≡ change seen
+pub trying_hits : (old now next : View) (id : ArenaId) (word : ℕ) (GivesUp : ℕ → Type 0) (change : ℕ → ℕ) (seen new found : ℕ)
+    → IsTrying old now id word GivesUp seen → found ≡ seen → new ≡ change seen
     → Did now next (DoesAct now.inside now.caller (λ a. SwapIf a word seen new) (Found found)) → Hit old next id word change seen
 trying_hits old now next id word GivesUp change seen new found t f n d =
     let Here : ℕ → ℕ → Type 0 = λ m k. Makes old next (entries_of old.caller (t.so_far ++ (SwapIf id word seen m, Found k) ∷ [])) in
@@ -105,7 +110,8 @@ trying_hits old now next id word GivesUp change seen new found t f n d =
 pub reaches : (v : View) (id : ArenaId) (place : ℕ) → v.inside ≡ Some id → place < given_in v id → CanReach v (place / 8)
 reaches v id place inside given = record { id = id; inside = inside; given = omega arith }
 
-pub still_reaches : (old now : View) (id : ArenaId) (place : ℕ) (GivesUp : ℕ → Type 0) (seen : ℕ) → IsTrying old now id (place / 8) GivesUp seen → place < given_in old id → CanReach now (place / 8)
+pub still_reaches : (old now : View) (id : ArenaId) (place : ℕ) (GivesUp : ℕ → Type 0) (seen : ℕ) → IsTrying old now id (place / 8) GivesUp seen
+    → place < given_in old id → CanReach now (place / 8)
 still_reaches old now id place GivesUp seen t given =
     reaches now id place t.inside (let more = (Makes-lasts old now _ t.makes).given id in omega arith)
 
@@ -113,7 +119,8 @@ still_reaches old now id place GivesUp seen t given =
 
 module _ (old next : View) (id : ArenaId) (place : ℕ) (o : Order) where
   -- Another value was found.
-  pub exchange_gives_up : (expected v : Value) (seen : ℕ) (found : Value) → IsTrying old next id (place / 8) (λ now. value_in (kind_of v) o (place % 8) now ≢ expected) seen
+  pub exchange_gives_up : (expected v : Value) (seen : ℕ) (found : Value)
+      → IsTrying old next id (place / 8) (λ now. value_in (kind_of v) o (place % 8) now ≢ expected) seen
       → found ≡ value_in (kind_of v) o (place % 8) seen → found ≢ expected → Did old next (DoesInside old.caller (Exchanges o id place expected v found))
   exchange_gives_up expected v seen found t value other = record {
     own = entries_of old.caller t.so_far;
@@ -122,7 +129,8 @@ module _ (old next : View) (id : ArenaId) (place : ℕ) (o : Order) where
   }
 
   -- The value was exchanged.
-  pub exchange_hits : (expected v : Value) (seen : ℕ) → Hit old next id (place / 8) (with_value o v (place % 8)) seen → value_in (kind_of v) o (place % 8) seen ≡ expected
+  pub exchange_hits : (expected v : Value) (seen : ℕ) → Hit old next id (place / 8) (with_value o v (place % 8)) seen
+      → value_in (kind_of v) o (place % 8) seen ≡ expected
       → Did old next (DoesInside old.caller (Exchanges o id place expected v expected))
   exchange_hits expected v seen h value = record {
     own = entries_of old.caller h.acts;
@@ -131,7 +139,8 @@ module _ (old next : View) (id : ArenaId) (place : ℕ) (o : Order) where
   }
 
   -- The sum was put.
-  pub add_hits : (delta found : Value) (seen : ℕ) → Hit old next id (place / 8) (with_value o (sum_of found delta) (place % 8)) seen → found ≡ value_in (kind_of delta) o (place % 8) seen
+  pub add_hits : (delta found : Value) (seen : ℕ) → Hit old next id (place / 8) (with_value o (sum_of found delta) (place % 8)) seen
+      → found ≡ value_in (kind_of delta) o (place % 8) seen
       → Did old next (DoesInside old.caller (Adds o id place delta found))
   add_hits delta found seen h value = record {
     own = entries_of old.caller h.acts;

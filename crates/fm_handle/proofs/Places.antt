@@ -11,10 +11,10 @@ use Rattle.fm_lanes.specs.Kind.{width_of}
 use Rattle.fm_layout.proofs.Powers.{IsPowerOfTwo-from_test}
 use Rattle.fm_layout.proofs.Sound.{positive_power}
 use Rattle.fm_path.specs.Resolution.{Resolution, StaysInside}
-use Rattle.fm_places.specs.declared.dim.Dim.{Dim}
-use Rattle.fm_places.specs.Found.{IsFirstOut}
-use Rattle.fm_places.specs.Walk.{AreAdmitted, offset_at}
-use Rattle.fm_places.proofs.Inside.{divides_from, divides_gives, divides_add, divides_trans, divides_powers}
+use Rattle.fm_path_meaning.specs.declared.dim.Dim.{Dim}
+use Rattle.fm_path_meaning.specs.Found.{IsFirstOut}
+use Rattle.fm_path_meaning.specs.Walk.{AreAdmitted, offset_at}
+use Rattle.fm_path_meaning.proofs.Inside.{divides_from, divides_gives, divides_add, divides_trans, divides_powers}
 use Rattle.fm_segment.specs.Region.{Region}
 use Rattle.fm_handle.specs.Place.{if_admitted, if_rooted, root_place, place_of, writable_place_of, value_place, can_update, fills_word, is_int_or_long, is_long, RootStands, ValueStands}
 
@@ -66,14 +66,16 @@ module _ (base : ℕ) (is : List ℕ) (h : Resolution) (r : Region) where
       both.1 ∙ ap (λ n. Ok (n + offset_at h.offset h.dims is)) both.0
 
   pub rooted_is : (p : ℕ) → if_rooted base h r (Ok (value_place base is h r)) ≡ Ok p → value_place base is h r ≡ p
-  rooted_is p x = (ok_on (nat_le (base + h.root_size) r.size) (nat_eq ((r.first + base) % h.root_alignment) 0) (value_place base is h r) (value_place base is h r) p x).0
+  rooted_is p x =
+      (ok_on (nat_le (base + h.root_size) r.size) (nat_eq ((r.first + base) % h.root_alignment) 0) (value_place base is h r) (value_place base is h r) p x).0
 
   -- Where the root can't stand.
   pub root_refused : (e : Refusal) → AreAdmitted h.dims is → root_place base h r ≡ Err e → place_of base is h r ≡ Err e
   root_refused e a p = admitted 0 h.dims is _ a ∙ rooted_err e p
 
   pub writable_root_refused : (e : Refusal) → AreAdmitted h.dims is → r.read_only ≡ false → root_place base h r ≡ Err e → writable_place_of base is h r ≡ Err e
-  writable_root_refused e a w p = admitted 0 h.dims is _ a ∙ ap (λ b. if b then Err ReadOnly else if_rooted base h r (Ok (value_place base is h r))) w ∙ rooted_err e p
+  writable_root_refused e a w p =
+      admitted 0 h.dims is _ a ∙ ap (λ b. if b then Err ReadOnly else if_rooted base h r (Ok (value_place base is h r))) w ∙ rooted_err e p
 
   pub read_only_refused : AreAdmitted h.dims is → r.read_only ≡ true → writable_place_of base is h r ≡ Err ReadOnly
   read_only_refused a w = admitted 0 h.dims is _ a ∙ ap (λ b. if b then Err ReadOnly else if_rooted base h r (Ok (value_place base is h r))) w
@@ -82,8 +84,10 @@ module _ (base : ℕ) (is : List ℕ) (h : Resolution) (r : Region) where
   pub stands_at : (root : ℕ) → AreAdmitted h.dims is → root_place base h r ≡ Ok root → place_of base is h r ≡ Ok (root + offset_at h.offset h.dims is)
   stands_at root a p = admitted 0 h.dims is _ a ∙ rooted_ok root p
 
-  pub writable_stands_at : (root : ℕ) → AreAdmitted h.dims is → r.read_only ≡ false → root_place base h r ≡ Ok root → writable_place_of base is h r ≡ Ok (root + offset_at h.offset h.dims is)
-  writable_stands_at root a w p = admitted 0 h.dims is _ a ∙ ap (λ b. if b then Err ReadOnly else if_rooted base h r (Ok (value_place base is h r))) w ∙ rooted_ok root p
+  pub writable_stands_at : (root : ℕ) → AreAdmitted h.dims is → r.read_only ≡ false → root_place base h r ≡ Ok root
+      → writable_place_of base is h r ≡ Ok (root + offset_at h.offset h.dims is)
+  writable_stands_at root a w p =
+      admitted 0 h.dims is _ a ∙ ap (λ b. if b then Err ReadOnly else if_rooted base h r (Ok (value_place base is h r))) w ∙ rooted_ok root p
 
   -- A value in a root that lies in the region, aligned, does so too.
   pub value_stands : (root : ℕ) → StaysInside h → AreAdmitted h.dims is → RootStands h r root → ValueStands h r (root + offset_at h.offset h.dims is)
@@ -116,7 +120,8 @@ multiple place width alignment w a le h =
     divides_gives width place (positive_power width w) (divides_trans width alignment place (divides_powers width alignment w a le) (divides_from alignment place h))
 
 -- So an int or a long that is aligned to its width lies in one word.
-pub word_by_kind : (k : ValueKind) (alignment place : ℕ) → IsPowerOfTwo alignment → place % alignment ≡ 0 → is_int_or_long k ≡ true → width_of k ≤ alignment → place % 8 + width_of k ≤ 8
+pub word_by_kind : (k : ValueKind) (alignment place : ℕ) → IsPowerOfTwo alignment → place % alignment ≡ 0 → is_int_or_long k ≡ true → width_of k ≤ alignment
+    → place % 8 + width_of k ≤ 8
 word_by_kind Int alignment place a h is le = let e = multiple place 4 alignment (2, refl) a le h in omega arith
 word_by_kind Long alignment place a h is le = let e = multiple place 8 alignment (3, refl) a le h in omega arith
 word_by_kind Byte alignment place a h is le = absurd (let no : ⊥ = cc in no)
@@ -128,7 +133,8 @@ word_by_kind Short alignment place a h is le = absurd (let no : ⊥ = cc in no)
 pub in_one_word : (h : Resolution) (r : Region) (place : ℕ) → ValueStands h r place → can_update h.value ≡ true → place % 8 + width_of h.value.kind ≤ 8
 in_one_word h r place s e =
     let both = both_true (is_int_or_long h.value.kind) (nat_le (width_of h.value.kind) h.value.alignment) e in
-    word_by_kind h.value.kind h.value.alignment place (IsPowerOfTwo-from_test h.value.alignment s.power) s.aligned both.0 (leb-true (width_of h.value.kind) h.value.alignment both.1)
+    word_by_kind h.value.kind h.value.alignment place (IsPowerOfTwo-from_test h.value.alignment s.power) s.aligned both.0
+    (leb-true (width_of h.value.kind) h.value.alignment both.1)
 
 long_is : (k : ValueKind) → is_long k ≡ true → k ≡ Long
 long_is Long e = refl

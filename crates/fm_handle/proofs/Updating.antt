@@ -1,6 +1,6 @@
 -- What a handle's updates of the only caller do to the bytes of an arena.
-use Rattle.std.proofs.Common.{◌≡◌, ◌≢◌, ℕ, ℤ, ◌+◌, ◌*◌, ◌/◌, ◌%◌, ◌^◌, ◌<◌, ◌≤◌, ◌==◌, Bool, true, false, MatchBool, if◌then◌else◌, List, [], ◌∷◌, ◌++◌, length, take, drop, Result, Ok, Err, IfOk, refl, sym, ap, subst, ◌∙◌, arith}
-use Rattle.std.specs.Prelude.{OnErr, OnOk}
+use Rattle.std.proofs.Common.{◌≡◌, ◌≢◌, ℕ, ℤ, ◌+◌, ◌*◌, ◌/◌, ◌%◌, ◌^◌, ◌<◌, ◌≤◌, Bool, true, false, MatchBool, List, [], ◌∷◌, ◌++◌, length, take, drop, Result, Ok, Err, refl, sym, ap, subst, ◌∙◌, arith}
+use Rattle.fm_base.specs.declared.caller.Caller.{Caller}
 use Rattle.fm_base.specs.declared.arena_id.ArenaId.{ArenaId}
 use Rattle.fm_base.specs.declared.refusal.Refusal.{Refusal}
 use Rattle.fm_base.specs.declared.refusal.Refusal.TheVariants.{Closed, Unsupported, WrongThread}
@@ -8,11 +8,11 @@ use Rattle.fm_base.specs.Arenas.{Arena, State, arena_of, has_arena, changed, wor
 use Rattle.fm_base.specs.Calls.{Leave, Fine, Found, Entry, entry_of}
 use Rattle.fm_base.specs.Does.{DoesEnter}
 use Rattle.fm_base.specs.Histories.{IsLegal, state_after}
-use Rattle.fm_base.specs.Machine.{entered, written}
-use Rattle.fm_base.specs.View.{View, Did}
+use Rattle.fm_base.specs.Machine.{entered}
+use Rattle.fm_base.specs.View.{View, Did, IsByItself}
 use Rattle.fm_base.specs.Visits.{Acts, entries_of, visit, Tries}
 use Rattle.fm_base.proofs.Faith.{Makes-alone}
-use Rattle.fm_base.proofs.Lookup.{lookup_changed}
+use Rattle.fm_base.proofs.Lookup.{lookup_changed, swapped_miss}
 use Rattle.fm_base.proofs.Making.{IsLegal-split}
 use Rattle.fm_bytes.specs.Bytes.{bytes_of, number_of, lane}
 use Rattle.fm_bytes.specs.Words.{bytes_in}
@@ -24,30 +24,30 @@ use Rattle.fm_lanes.specs.declared.value.Value.{Value}
 use Rattle.fm_lanes.specs.declared.value.Value.TheVariants.{Int, Long}
 use Rattle.fm_lanes.specs.declared.value_kind.ValueKind.{ValueKind}
 use Rattle.fm_lanes.specs.declared.value_kind.ValueKind.TheVariants as kind
-use Rattle.fm_lanes.specs.Coding.{decoded, value_of, bytes_of_value}
+use Rattle.fm_lanes.specs.Coding.{value_of, bytes_of_value}
 use Rattle.fm_lanes.specs.Kind.{width_of}
 use Rattle.fm_lanes.specs.Value.{kind_of}
 use Rattle.fm_path.specs.declared.value_spec.ValueSpec.{ValueSpec}
 use Rattle.fm_path.specs.Resolution.{Resolution}
-use Rattle.fm_pieces.specs.Alone.{bytes_of_arena, StaysOut}
-use Rattle.fm_pieces.specs.Pieces.{PutsBytes, whole}
-use Rattle.fm_pieces.proofs.Alone.{changes}
-use Rattle.fm_pieces.proofs.Visits.{visit_refused, VisitPuts, acts_visit, visit_puts, tries_put, tries_leave, visit_stays, lane_bytes, not_same}
-use Rattle.fm_segment.specs.Alone.{StaysOutOf}
+use Rattle.fm_access.specs.Alone.{bytes_of_arena, StaysOut}
+use Rattle.fm_access.specs.Pieces.{PutsBytes, whole}
+use Rattle.fm_access.proofs.Alone.{changes}
+use Rattle.fm_access.proofs.Visits.{visit_refused, VisitPuts, acts_visit, visit_puts, tries_put, tries_leave, visit_stays, lane_bytes, not_same}
 use Rattle.fm_segment.specs.Region.{Region}
-use Rattle.fm_segment.proofs.Alone.{AreBytes-value, length-value}
-use Rattle.fm_handle.specs.Access.{DoesAt, DoesVisit}
+use Rattle.fm_access.proofs.Values.{AreBytes-value, length-value, kind_of-decoded}
+use Rattle.fm_handle.specs.Access.{DoesVisit}
 use Rattle.fm_handle.specs.Acts.{CutOff, looked, missed, at_read, at_swap, Exchanges, puts, finds_another, Adds, Stores, value_in, with_value, word_of, sum_of}
 use Rattle.fm_handle.specs.Alone.{value_at, PutsValue, ExchangesValue, SetsExpected, AddsValue}
 use Rattle.fm_handle.specs.Place.{if_supported, update_place_of, value_place, can_update, fills_word, writable_place_of, ValueStands, is_word, is_little}
 use Rattle.fm_handle.proofs.Alone.{IsPlace, writable_place_is}
-use Rattle.fm_segment.proofs.Causes.{never}
+use Rattle.fm_access.proofs.Causes.{never}
 use Rattle.fm_handle.proofs.Places.{both_true, in_one_word, whole_word}
 use Rattle.fm_handle.proofs.Visiting.{supported}
 
 -- ---- where the value stands
 
-when_supported : (b : Bool) (found : Result ℕ Refusal) (p : ℕ) → if_supported b found ≡ Ok p → found ≡ Ok p
+-- Where a place for an update is found, it is found.
+pub when_supported : (b : Bool) (found : Result ℕ Refusal) (p : ℕ) → if_supported b found ≡ Ok p → found ≡ Ok p
 when_supported true found p h = h
 when_supported false found p h = never p Unsupported (sym h)
 
@@ -91,7 +91,8 @@ module _ (base : ℕ) (is : List ℕ) (h : Resolution) (r : Region) (len : lengt
 
 -- ---- refusals
 
-visit_shut : (old now : View) (id : ArenaId) (r : Refusal) → old.alone ≡ true → Did old now (DoesEnter old.caller id (Err r)) → StaysOut old now id
+-- The only caller isn't let in where the arena isn't open to it.
+pub visit_shut : (old now : View) (id : ArenaId) (r : Refusal) → IsByItself old → Did old now (DoesEnter old.caller id (Err r)) → StaysOut old now id
 visit_shut old now id WrongThread alone d =
     let m = Makes-alone old now d.own alone d.makes in
     record { shut = λ o. d.does.0 o.usable; same = m.1 ∙ ap (state_after old.limit old.state) d.does.1 }
@@ -101,13 +102,6 @@ visit_shut old now id Closed alone d =
     record { shut = λ o. v.over o.alive; same = m.1 ∙ v.same }
 visit_shut old now id r alone d = absurd d.does
 
--- The only caller updates nothing where it is refused.
-pub update_stays_out : {X : Type 0} (old now : View) (id : ArenaId) (found : Result ℕ Refusal) (Give : ℕ → X → Acts → Type 0) (result : Result X Refusal)
-    → Did old now (DoesAt found (λ place. DoesVisit old.caller id (Give place)) result) → old.alone ≡ true → OnErr result (StaysOutOf old now id found)
-update_stays_out old now id found Give (Ok x) d alone = tt
-update_stays_out old now id (Err e) Give (Err r) d alone = let m = Makes-alone old now d.own alone d.makes in m.1 ∙ ap (state_after old.limit old.state) d.does.1
-update_stays_out old now id (Ok p) Give (Err r) d alone = visit_shut old now id r alone d
-
 -- ---- an update that was made is one visit at the place
 
 pub record Visited (old now : View) (id : ArenaId) (AreSo : Acts → Type 0) : Type 0 where
@@ -116,7 +110,8 @@ pub record Visited (old now : View) (id : ArenaId) (AreSo : Acts → Type 0) : T
   pub legal : IsLegal old.limit old.state (visit old.caller id acts)
   pub after : now.state ≡ state_after old.limit old.state (visit old.caller id acts)
 
-pub visit_alone : {X : Type 0} (old now : View) (id : ArenaId) (Give : X → Acts → Type 0) (x : X) → old.alone ≡ true → Did old now (DoesVisit old.caller id Give (Ok x)) → Visited old now id (Give x)
+pub visit_alone : {X : Type 0} (old now : View) (id : ArenaId) (Give : X → Acts → Type 0) (x : X) → IsByItself old
+    → Did old now (DoesVisit old.caller id Give (Ok x)) → Visited old now id (Give x)
 visit_alone old now id Give x alone d =
     let m = Makes-alone old now d.own alone d.makes in
     let one = d.does.1 in
@@ -127,17 +122,10 @@ visit_alone old now id Give x alone d =
       after = m.1 ∙ ap (λ (es : List Entry). state_after old.limit old.state es) one.visits;
     }
 
-visited : {X : Type 0} (old now : View) (id : ArenaId) (found : Result ℕ Refusal) (place : ℕ) (Give : ℕ → X → Acts → Type 0) (x : X) → IsPlace found place → old.alone ≡ true
-    → Did old now (DoesAt found (λ p. DoesVisit old.caller id (Give p)) (Ok x)) → Visited old now id (Give place x)
-visited old now id (Err e) place Give x is alone d = absurd (let e : Ok x ≡ Err e = d.does.0 in let no : ⊥ = cc in no)
-visited old now id (Ok p) place Give x is alone d =
-    let v = visit_alone old now id (Give p) x alone d in
-    record { acts = v.acts; are = subst (λ (n : ℕ). Give n x v.acts) (is p refl) v.are; legal = v.legal; after = v.after }
-
 -- ---- the value in the word
 
 -- A word means the value that the arena's bytes mean.
-pub value_there : (s : State) (c : ℕ) (id : ArenaId) (place : ℕ) (k : ValueKind) (o : Order) (word : ℕ) → has_arena s id ≡ true
+pub value_there : (s : State) (c : Caller) (id : ArenaId) (place : ℕ) (k : ValueKind) (o : Order) (word : ℕ) → has_arena s id ≡ true
     → place / 8 < length (arena_of (changed s id (entered c)) id).words → place % 8 + width_of k ≤ 8 → word ≡ word_in (changed s id (entered c)) id (place / 8)
     → value_in k o (place % 8) word ≡ value_of k o (take (width_of k) (drop place (bytes_of_arena s id)))
 value_there s c id place k o word known within fits is =
@@ -182,7 +170,8 @@ record Tried (old now : View) (spec : ValueSpec) (id : ArenaId) (place word : �
   pub value : value_in spec.kind spec.order (place % 8) word ≡ value_at old.state spec id place
   pub puts : PutsValue old now spec id place v
 
-tried : (old now : View) (spec : ValueSpec) (id : ArenaId) (place word : ℕ) (v : Value) (acts : Acts) → kind_of v ≡ spec.kind → place % 8 + width_of spec.kind ≤ 8
+tried : (old now : View) (spec : ValueSpec) (id : ArenaId) (place word : ℕ) (v : Value) (acts : Acts) → kind_of v ≡ spec.kind
+    → place % 8 + width_of spec.kind ≤ 8
     → Tries id (place / 8) (with_value spec.order v (place % 8)) word acts → IsLegal old.limit old.state (visit old.caller id acts)
     → now.state ≡ state_after old.limit old.state (visit old.caller id acts) → Tried old now spec id place word v
 tried old now spec id place word v acts kind fits t legal after =
@@ -206,15 +195,12 @@ record CutLeaves (s t : State) (id : ArenaId) (word found : ℕ) : Type 0 where
   pub is : found ≡ word_in s id word
   pub same : t ≡ s
 
-cut_leaves : (limit c : ℕ) (s : State) (id : ArenaId) (word : ℕ) (GivesUp : ℕ → Type 0) (found : ℕ) (acts : Acts) → CutOff id word GivesUp found acts
+cut_leaves : (limit : ℕ) (c : Caller) (s : State) (id : ArenaId) (word : ℕ) (GivesUp : ℕ → Type 0) (found : ℕ) (acts : Acts) → CutOff id word GivesUp found acts
     → IsLegal limit s (entries_of c acts) → CutLeaves s (state_after limit s (entries_of c acts)) id word found
 cut_leaves limit c s id word GivesUp found acts (looked now rest t) legal = cut_leaves limit c s id word GivesUp found rest t legal.2
 cut_leaves limit c s id word GivesUp found acts (missed now old new rest n t) legal =
-    let e = not_same now old n in
-    let Here : Bool → Type 0 = λ b. IsLegal limit (if b then changed s id (written word new) else s) (entries_of c rest)
-    → CutLeaves s (state_after limit (if b then changed s id (written word new) else s) (entries_of c rest)) id word found in
-    let go : Here (now == old) = subst Here (sym e) (λ l. cut_leaves limit c s id word GivesUp found rest t l) in
-    go legal.2
+    let Here : State → Type 0 = λ u. IsLegal limit u (entries_of c rest) → CutLeaves s (state_after limit u (entries_of c rest)) id word found in
+    subst Here (sym (swapped_miss s id word old new now (not_same now old n))) (λ l. cut_leaves limit c s id word GivesUp found rest t l) legal.2
 cut_leaves limit c s id word GivesUp found acts (at_read g) legal =
     let reach = legal.0 in
     let is : Found found ≡ Found (word_in s id word) = legal.1 in
@@ -222,12 +208,12 @@ cut_leaves limit c s id word GivesUp found acts (at_read g) legal =
 cut_leaves limit c s id word GivesUp found acts (at_swap old new n g) legal =
     let reach = legal.0 in
     let is : Found found ≡ Found (word_in s id word) = legal.1 in
-    let e = not_same found old n in
-    record { within = reach.within; is = (cc); same = ap (λ b. if b then changed s id (written word new) else s) e }
+    record { within = reach.within; is = (cc); same = swapped_miss s id word old new found (not_same found old n) }
 
 -- ---- exchanges
 
-exchanged : (old now : View) (spec : ValueSpec) (id : ArenaId) (place : ℕ) (expected v found : Value) (acts : Acts) → kind_of v ≡ spec.kind → place % 8 + width_of spec.kind ≤ 8
+exchanged : (old now : View) (spec : ValueSpec) (id : ArenaId) (place : ℕ) (expected v found : Value) (acts : Acts) → kind_of v ≡ spec.kind
+    → place % 8 + width_of spec.kind ≤ 8
     → Exchanges spec.order id place expected v found acts → IsLegal old.limit old.state (visit old.caller id acts)
     → now.state ≡ state_after old.limit old.state (visit old.caller id acts) → ExchangesValue old now spec id place expected v found
 exchanged old now spec id place expected v found acts kind fits (puts word these value t) legal after =
@@ -253,44 +239,34 @@ exchanged old now spec id place expected v found acts kind fits (finds_another w
     }
 
 -- An exchange of the only caller.
-pub exchange_alone : (old now : View) (spec : ValueSpec) (id : ArenaId) (place : ℕ) (found : Result ℕ Refusal) (expected v : Value) (result : Result Value Refusal) → IsPlace found place
-    → kind_of v ≡ spec.kind → place % 8 + width_of spec.kind ≤ 8
-    → Did old now (DoesAt found (λ p. DoesVisit old.caller id (Exchanges spec.order id p expected v)) result)
-    → old.alone ≡ true → IfOk result (ExchangesValue old now spec id place expected v)
-exchange_alone old now spec id place found expected v (Err e) is kind fits d alone = tt
-exchange_alone old now spec id place found expected v (Ok x) is kind fits d alone =
-    let o = visited old now id found place (λ p. Exchanges spec.order id p expected v) x is alone d in
+pub exchange_alone : (old now : View) (spec : ValueSpec) (id : ArenaId) (place : ℕ) (expected v x : Value) → kind_of v ≡ spec.kind
+    → place % 8 + width_of spec.kind ≤ 8
+    → Did old now (DoesVisit old.caller id (Exchanges spec.order id place expected v) (Ok x)) → IsByItself old → ExchangesValue old now spec id place expected v x
+exchange_alone old now spec id place expected v x kind fits d alone =
+    let o = visit_alone old now id (Exchanges spec.order id place expected v) x alone d in
     exchanged old now spec id place expected v x o.acts kind fits o.are o.legal o.after
 
 -- An exchange, seen by whether it won.
-pub expected_set : (old now : View) (spec : ValueSpec) (id : ArenaId) (place : ℕ) (expected v found : Value) (b : Bool) → MatchBool b (found ≡ expected) (found ≢ expected)
+pub expected_set : (old now : View) (spec : ValueSpec) (id : ArenaId) (place : ℕ) (expected v found : Value) (b : Bool)
+    → MatchBool b (found ≡ expected) (found ≢ expected)
     → ExchangesValue old now spec id place expected v found → SetsExpected old now spec id place expected v b
 expected_set old now spec id place expected v found true is e = (sym is ∙ e.value, e.puts is)
 expected_set old now spec id place expected v found false is e = ((λ q. is (e.value ∙ sym q)), e.stays is)
 
 -- ---- sums
 
-pub kind_of-decoded : (k : ValueKind) (n : ℕ) → kind_of (decoded k n) ≡ k
-kind_of-decoded kind.Byte n = refl
-kind_of-decoded kind.Boolean n = refl
-kind_of-decoded kind.Char n = refl
-kind_of-decoded kind.Short n = refl
-kind_of-decoded kind.Int n = refl
-kind_of-decoded kind.Long n = refl
-
+-- A sum is of its first value's kind.
 pub kind_of-sum_of : (a b : Value) → kind_of (sum_of a b) ≡ kind_of a
 kind_of-sum_of (Int a) (Int b) = refl
 kind_of-sum_of (Long a) (Long b) = refl
 kind_of-sum_of a b = refl
 
 -- A sum that the only caller puts.
-pub add_alone : (old now : View) (spec : ValueSpec) (id : ArenaId) (place : ℕ) (found : Result ℕ Refusal) (delta : Value) (result : Result Value Refusal) → IsPlace found place
-    → kind_of delta ≡ spec.kind → place % 8 + width_of spec.kind ≤ 8
-    → Did old now (DoesAt found (λ p. DoesVisit old.caller id (Adds spec.order id p delta)) result)
-    → old.alone ≡ true → IfOk result (AddsValue old now spec id place delta)
-add_alone old now spec id place found delta (Err e) is kind fits d alone = tt
-add_alone old now spec id place found delta (Ok x) is kind fits d alone =
-    let o = visited old now id found place (λ p. Adds spec.order id p delta) x is alone d in
+pub add_alone : (old now : View) (spec : ValueSpec) (id : ArenaId) (place : ℕ) (delta x : Value) → kind_of delta ≡ spec.kind
+    → place % 8 + width_of spec.kind ≤ 8
+    → Did old now (DoesVisit old.caller id (Adds spec.order id place delta) (Ok x)) → IsByItself old → AddsValue old now spec id place delta x
+add_alone old now spec id place delta x kind fits d alone =
+    let o = visit_alone old now id (Adds spec.order id place delta) x alone d in
     let a = o.are in
     let same : kind_of (sum_of x delta) ≡ spec.kind =
     kind_of-sum_of x delta ∙ ap kind_of a.value ∙ kind_of-decoded (kind_of delta) _ ∙ kind in
@@ -303,13 +279,10 @@ add_alone old now spec id place found delta (Ok x) is kind fits d alone =
 -- ---- longs
 
 -- A long that the only caller stores.
-pub store_alone : (old now : View) (spec : ValueSpec) (id : ArenaId) (place : ℕ) (found : Result ℕ Refusal) (z : ℤ) (result : Result (Unit {0}) Refusal) → IsPlace found place
-    → LongAt spec place
-    → Did old now (DoesAt found (λ p. DoesVisit old.caller id (λ u. Stores id p (word_of spec.order z))) result)
-    → old.alone ≡ true → OnOk result (PutsValue old now spec id place (Long z))
-store_alone old now spec id place found z (Err e) is long d alone = tt
-store_alone old now spec id place found z (Ok u) is long d alone =
-    let o = visited old now id found place (λ p u. Stores id p (word_of spec.order z)) u is alone d in
+pub store_alone : (old now : View) (spec : ValueSpec) (id : ArenaId) (place : ℕ) (z : ℤ) (u : Unit {0}) → LongAt spec place
+    → Did old now (DoesVisit old.caller id (λ u. Stores id place (word_of spec.order z)) (Ok u)) → IsByItself old → PutsValue old now spec id place (Long z)
+store_alone old now spec id place z u long d alone =
+    let o = visit_alone old now id (λ u. Stores id place (word_of spec.order z)) u alone d in
     let n = word_of spec.order z in
     let acts = o.acts in
     let fits : place % 8 + width_of spec.kind ≤ 8 = subst (λ (k : ValueKind). place % 8 + width_of k ≤ 8) (sym long.kind) long.fits in

@@ -1,15 +1,16 @@
 -- One visit, from its calls; and what is done at the place found.
 use Rattle.std.proofs.Common.{◌≡◌, ◌≢◌, ℕ, Bool, true, false, MatchBool, Result, Ok, Err, List, [], ◌∷◌, refl, subst, ap, Some}
+use Rattle.fm_base.specs.declared.caller.Caller.{Caller}
 use Rattle.fm_base.specs.declared.arena_id.ArenaId.{ArenaId}
 use Rattle.fm_base.specs.declared.refusal.Refusal.{Refusal}
 use Rattle.fm_base.specs.Calls.{Call, Reply, Leave, Fine, Entry}
 use Rattle.fm_base.specs.View.{View, Makes, Did, inside_next}
 use Rattle.fm_base.specs.Does.{DoesEnter, DoesAct}
 use Rattle.fm_base.specs.Visits.{Acts, visit}
-use Rattle.fm_base.proofs.Making.{Makes-none}
 use Rattle.fm_base.proofs.Visiting.{entered_makes, visit_of_one, visit_of_inside}
 use Rattle.fm_lanes.specs.declared.value.Value.{Value}
-use Rattle.fm_handle.specs.Access.{DoesAt, DoesInside, DoesVisit, Wins}
+use Rattle.fm_access.specs.Found.{DoesAt}
+use Rattle.fm_handle.specs.Access.{DoesInside, DoesVisit, Wins}
 use Rattle.fm_handle.specs.Place.{if_supported}
 
 module _ {X : Type 0} (x y u v : View) (id : ArenaId) (Give : X → Acts → Type 0) (r : X) (w : Unit {0}) where
@@ -27,7 +28,8 @@ module _ {X : Type 0} (x y u v : View) (id : ArenaId) (Give : X → Acts → Typ
       }
 
   -- Acts between Enter and Leave.
-  pub acts_inside : u.inside ≡ Some id → Did x y (DoesEnter x.caller id (Ok w)) → Did y u (DoesInside y.caller (Give r)) → Did u v (DoesAct u.inside u.caller Leave Fine)
+  pub acts_inside : u.inside ≡ Some id → Did x y (DoesEnter x.caller id (Ok w)) → Did y u (DoesInside y.caller (Give r))
+      → Did u v (DoesAct u.inside u.caller Leave Fine)
       → Did x v (DoesVisit x.caller id Give (Ok r))
   acts_inside inside enter d leave =
       let e = entered_makes x y id w enter in
@@ -40,22 +42,13 @@ module _ {X : Type 0} (x y u v : View) (id : ArenaId) (Give : X → Acts → Typ
 
 -- ---- at the place found
 
--- A refusal before.
-pub refused_before : {X : Type 0} (v : View) (found : Result ℕ Refusal) (Does : ℕ → Result X Refusal → List Entry → Type 0) (e : Refusal) (result : Result X Refusal) → found ≡ Err e → result ≡ Err e
-    → Did v v (DoesAt found Does result)
-refused_before v found Does e result f r = rw (f, r) (record { own = []; does = (refl, refl); makes = Makes-none v })
-
--- At the place.
-pub done_at : {X : Type 0} (old new : View) (found : Result ℕ Refusal) (Does : ℕ → Result X Refusal → List Entry → Type 0) (place : ℕ) (result : Result X Refusal) → found ≡ Ok place
-    → Did old new (Does place result) → Did old new (DoesAt found Does result)
-done_at old new found Does place result f d = rw f d
-
 refusal_in : {X : Type 0} → Refusal → Result X Refusal → Refusal
 refusal_in e (Ok x) = e
 refusal_in e (Err r) = r
 
 -- An exchange, seen by whether it won.
-pub won : (c : ℕ) (id : ArenaId) (found : Result ℕ Refusal) (Exchange : ℕ → Value → Acts → Type 0) (expected x : Value) (b : Bool) (own : List Entry) → MatchBool b (x ≡ expected) (x ≢ expected)
+pub won : (c : Caller) (id : ArenaId) (found : Result ℕ Refusal) (Exchange : ℕ → Value → Acts → Type 0) (expected x : Value) (b : Bool) (own : List Entry)
+    → MatchBool b (x ≡ expected) (x ≢ expected)
     → DoesAt found (λ place. DoesVisit c id (Exchange place)) (Ok x) own → DoesAt found (λ place. DoesVisit c id (Wins (Exchange place) expected)) (Ok b) own
 won c id (Err r) Exchange expected x b own is d = absurd (let e : Ok x ≡ Err r = d.0 in let no : ⊥ = cc in no)
 won c id (Ok place) Exchange expected x true own is d =
@@ -64,7 +57,7 @@ won c id (Ok place) Exchange expected x true own is d =
 won c id (Ok place) Exchange expected x false own is d = (d.0, record { acts = d.1.acts; are = (x, is, d.1.are); visits = d.1.visits })
 
 -- An exchange that was refused.
-pub not_made : (c : ℕ) (id : ArenaId) (found : Result ℕ Refusal) (Exchange : ℕ → Value → Acts → Type 0) (expected : Value) (e : Refusal) (own : List Entry)
+pub not_made : (c : Caller) (id : ArenaId) (found : Result ℕ Refusal) (Exchange : ℕ → Value → Acts → Type 0) (expected : Value) (e : Refusal) (own : List Entry)
     → DoesAt found (λ place. DoesVisit c id (Exchange place)) (Err e) own → DoesAt found (λ place. DoesVisit c id (Wins (Exchange place) expected)) (Err e) own
 unfolding refusal_in
 not_made c id (Err r) Exchange expected e own d = (let same : e ≡ r = ap (refusal_in {X = Value} e) d.0 in ap Err same, d.1)

@@ -14,11 +14,12 @@ use Rattle.fm_lanes.specs.Value.{kind_of}
 use Rattle.fm_lanes.proofs.Masks.{replaced-mask}
 use Rattle.fm_lanes.proofs.Meaning.{value_of-lane}
 use Rattle.fm_lanes.proofs.Turning.{turned_number, turned-lt_width}
-use Rattle.fm_segment.proofs.Alone.{AreBytes-value, length-value, means_itself}
+use Rattle.fm_access.proofs.Values.{AreBytes-value, length-value, means_itself}
 use Rattle.fm_handle.specs.Acts.{value_in, with_value}
 
 -- A lane that is turned and decoded.
-pub read_value : (k : ValueKind) (o : Order) (word at width n m : ℕ) (v : Value) → at + width_of k ≤ 8 → width ≡ width_of k → n ≡ lane word at width → m ≡ turned width n o → v ≡ decoded k m
+pub read_value : (k : ValueKind) (o : Order) (word at width n m : ℕ) (v : Value) → at + width_of k ≤ 8 → width ≡ width_of k → n ≡ lane word at width
+    → m ≡ turned width n o → v ≡ decoded k m
     → v ≡ value_in k o at word
 read_value k o word at width n m v fits w e t d =
     d ∙ ap (decoded k) (t ∙ ap (λ j. turned width j o) e ∙ ap (λ j. turned j (lane word at j) o) w) ∙ value_of-lane k o word at fits
@@ -33,7 +34,8 @@ number_is o v width n m w e fits t =
     (s ∙ turned_number k (encoded v) o small, subst (λ (j : ℕ). j < 2 ^ (8 * k)) (sym s) (turned-lt_width k (encoded v) o small))
 
 -- The word of a number of eight bytes.
-pub word_is : (o : Order) (v : Value) (n m : ℕ) → 8 ≡ width_of (kind_of v) → n ≡ encoded v → n < 2 ^ (8 * width_of (kind_of v)) → m ≡ turned 8 n o → m ≡ number_of (bytes_of_value o v)
+pub word_is : (o : Order) (v : Value) (n m : ℕ) → 8 ≡ width_of (kind_of v) → n ≡ encoded v → n < 2 ^ (8 * width_of (kind_of v)) → m ≡ turned 8 n o
+    → m ≡ number_of (bytes_of_value o v)
 word_is o v n m w e fits t = (number_is o v 8 n m w e fits t).0
 
 -- A word's bits outside a mask, with those of a value in them.
@@ -59,7 +61,8 @@ pub other_value : (a b : Value) (m n : ℕ) → m ≡ encoded a → n ≡ encode
 other_value a b m n p q h = λ e. h (p ∙ ap encoded e ∙ sym q)
 
 -- The test of codes is the test of values.
-pub tested_value : (a b : Value) (m n : ℕ) (t : Bool) → (m == n) ≡ t → kind_of a ≡ kind_of b → m ≡ encoded a → n ≡ encoded b → decoded (kind_of a) m ≡ a → decoded (kind_of b) n ≡ b
+pub tested_value : (a b : Value) (m n : ℕ) (t : Bool) → (m == n) ≡ t → kind_of a ≡ kind_of b → m ≡ encoded a → n ≡ encoded b → decoded (kind_of a) m ≡ a
+    → decoded (kind_of b) n ≡ b
     → MatchBool t (a ≡ b) (a ≢ b)
 tested_value a b m n true t k d e p q = same_value a b m n k p q (eqb-true m n t)
 tested_value a b m n false t k d e p q = other_value a b m n d e (eqb-false m n t)

@@ -1,5 +1,5 @@
 -- What the updates do to the word in which a value lies.
-use Rattle.std.specs.Prelude.{◌≡◌, ◌≢◌, ℕ, ℤ, ◌/◌, ◌%◌, [], ◌∷◌, take, drop}
+use Rattle.std.specs.Prelude.{◌≡◌, ◌≢◌, ℕ, ℤ, ◌/◌, ◌%◌, ◌^◌, ◌<◌, [], ◌∷◌, take, drop}
 use Rattle.std.specs.Int.{int_wrapping_add, w32, w64}
 use Rattle.fm_base.specs.declared.arena_id.ArenaId.{ArenaId}
 use Rattle.fm_base.specs.Calls.{Read, Write, SwapIf, Add, Fine, Found}
@@ -49,6 +49,7 @@ AddsTo id place n found acts = acts ≡ (Add id (place / 8) n, Found found) ∷ 
 -- one SwapIf of whole words, which found a word that means `found`
 pub record ExchangesLong (o : Order) (id : ArenaId) (place : ℕ) (expected v found : ℤ) (acts : Acts) : Type 0 where
   pub word : ℕ
+  pub small : word < 2 ^ 64
   pub swaps : Swaps id place (word_of o expected) (word_of o v) word acts
   pub value : Long found ≡ value_in kind.Long o 0 word
 

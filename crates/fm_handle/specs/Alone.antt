@@ -1,29 +1,24 @@
 -- What the only caller of a memory sees of a handle's calls.
-use Rattle.std.specs.Prelude.{◌≡◌, ◌≢◌, ℕ, ◌+◌, ◌≤◌, Bool, true, false, length, take, drop}
+use Rattle.std.specs.Prelude.{◌≡◌, ◌≢◌, ℕ, Bool, true, false}
 use Rattle.fm_base.specs.declared.arena_id.ArenaId.{ArenaId}
 use Rattle.fm_base.specs.Arenas.{State}
 use Rattle.fm_base.specs.View.{View}
 use Rattle.fm_lanes.specs.declared.value.Value.{Value}
-use Rattle.fm_lanes.specs.Coding.{value_of, bytes_of_value}
-use Rattle.fm_lanes.specs.Kind.{width_of}
 use Rattle.fm_path.specs.declared.value_spec.ValueSpec.{ValueSpec}
-use Rattle.fm_pieces.specs.Alone.{bytes_of_arena, ChangesBytes}
+use Rattle.fm_access.specs.Values as here
 use Rattle.fm_handle.specs.Acts.{sum_of}
 
 -- the value that the arena's bytes from the place on mean
 abbrev pub value_at : State → ValueSpec → ArenaId → ℕ → Value
-value_at s v id place = value_of v.kind v.order (take (width_of v.kind) (drop place (bytes_of_arena s id)))
+value_at s v = here.value_at s v.kind v.order
 
 -- found is the value at the place, and the state stays
-pub record FindsValue (old new : View) (spec : ValueSpec) (id : ArenaId) (place : ℕ) (found : Value) : Type 0 where
-  pub value : found ≡ value_at old.state spec id place
-  pub same : new.state ≡ old.state
+abbrev pub FindsValue : View → View → ValueSpec → ArenaId → ℕ → Value → Type 0
+FindsValue old new v = here.FindsValue old new v.kind v.order
 
--- The bytes from the place on are those of v, and the arena has room for them; all other bytes stay, and all else
--- of the state
-pub record PutsValue (old new : View) (spec : ValueSpec) (id : ArenaId) (place : ℕ) (v : Value) : Type 0 where
-  pub bytes : ChangesBytes old new id place (bytes_of_value spec.order v)
-  pub within : place + width_of spec.kind ≤ length (bytes_of_arena old.state id)
+-- v is put at the place, and all else stays
+abbrev pub PutsValue : View → View → ValueSpec → ArenaId → ℕ → Value → Type 0
+PutsValue old new v = here.PutsValue old new v.kind v.order
 
 -- found is the value at the place. Where it is the one expected, v is put, else the state stays
 pub record ExchangesValue (old new : View) (spec : ValueSpec) (id : ArenaId) (place : ℕ) (expected v found : Value) : Type 0 where
@@ -45,6 +40,4 @@ pub record AddsValue (old new : View) (spec : ValueSpec) (id : ArenaId) (place :
 
 -- where v was set, and the value is got next, it is v
 abbrev pub SetsThenGets : ValueSpec → ArenaId → ℕ → Value → Type 0
-SetsThenGets spec id place v =
-    (old between new : View) (got : Value) → PutsValue old between spec id place v
-    → FindsValue between new spec id place got → got ≡ v
+SetsThenGets v = here.PutsThenGets v.kind v.order

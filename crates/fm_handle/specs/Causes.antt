@@ -1,14 +1,14 @@
 -- Why a call is refused, the first cause that applies.
-use Rattle.std.specs.Prelude.{Bool, true, false, ◌≡◌, ℕ, ◌+◌, ◌%◌, ◌≤◌, List}
+use Rattle.std.specs.Prelude.{Bool, ◌≡◌, ℕ, ◌+◌, ◌%◌, ◌≤◌, List}
+use Rattle.fm_base.specs.declared.caller.Caller.{Caller}
 use Rattle.fm_base.specs.declared.refusal.Refusal.{Refusal}
-use Rattle.fm_base.specs.declared.refusal.Refusal.TheVariants.{Bounds, Closed, IndexOut, Misaligned, Unsupported, WrongThread}
-use Rattle.fm_base.specs.Arenas.{MayUse}
+use Rattle.fm_base.specs.declared.refusal.Refusal.TheVariants.{IndexOut}
 use Rattle.fm_path.specs.declared.value_spec.ValueSpec.{ValueSpec}
 use Rattle.fm_path.specs.Resolution.{Resolution}
-use Rattle.fm_places.specs.declared.dim.Dim.{Dim}
-use Rattle.fm_places.specs.Found.{IsFirstOut}
-use Rattle.fm_places.specs.Walk.{AreAdmitted}
-use Rattle.fm_segment.specs.Access.{WriteCause}
+use Rattle.fm_path_meaning.specs.declared.dim.Dim.{Dim}
+use Rattle.fm_path_meaning.specs.Found.{IsFirstOut}
+use Rattle.fm_path_meaning.specs.Walk.{AreAdmitted}
+use Rattle.fm_access.specs.Found.{PlaceCause, WriteCause, SupportCause}
 use Rattle.fm_segment.specs.Region.{Region}
 
 -- the whole root lies in the segment
@@ -18,28 +18,19 @@ RootFits base h r = base + h.root_size ≤ r.size
 abbrev pub RootIsAligned : ℕ → Resolution → Region → Type 0
 RootIsAligned base h r = (r.first + base) % h.root_alignment ≡ 0
 
-abbrev pub RootCause : ℕ → Resolution → Region → ℕ → Refusal → Type 0
-RootCause base h r c Bounds = ¬ (RootFits base h r)
-RootCause base h r c Misaligned = RootFits base h r × ¬ (RootIsAligned base h r)
-RootCause base h r c WrongThread = RootFits base h r × RootIsAligned base h r × ¬ (MayUse r.arena c)
-RootCause base h r c Closed = RootFits base h r × RootIsAligned base h r × MayUse r.arena c
-RootCause base h r c e = ⊥
+abbrev pub RootCause : ℕ → Resolution → Region → Caller → Refusal → Type 0
+RootCause base h r = PlaceCause base h.root_size h.root_alignment r.first r.size r.arena
 
 -- the indices are tested first
 abbrev pub IndexCause : List Dim → List ℕ → (Refusal → Type 0) → Refusal → Type 0
 IndexCause ds is Cause (IndexOut k) = IsFirstOut 0 ds is (IndexOut k)
 IndexCause ds is Cause e = AreAdmitted ds is × Cause e
 
--- before them, whether the call works on the value at all
-abbrev pub SupportCause : Bool → (Refusal → Type 0) → Refusal → Type 0
-SupportCause supported Cause Unsupported = supported ≡ false
-SupportCause supported Cause e = (supported ≡ true) × Cause e
-
-abbrev pub GetCause : ℕ → List ℕ → Resolution → Region → ℕ → Refusal → Type 0
+abbrev pub GetCause : ℕ → List ℕ → Resolution → Region → Caller → Refusal → Type 0
 GetCause base is h r c = IndexCause h.dims is (RootCause base h r c)
 
-abbrev pub SetCause : ℕ → List ℕ → Resolution → Region → ℕ → Refusal → Type 0
+abbrev pub SetCause : ℕ → List ℕ → Resolution → Region → Caller → Refusal → Type 0
 SetCause base is h r c = IndexCause h.dims is (WriteCause r.read_only (RootCause base h r c))
 
-abbrev pub UpdateCause : (ValueSpec → Bool) → ℕ → List ℕ → Resolution → Region → ℕ → Refusal → Type 0
+abbrev pub UpdateCause : (ValueSpec → Bool) → ℕ → List ℕ → Resolution → Region → Caller → Refusal → Type 0
 UpdateCause works_on base is h r c = SupportCause (works_on h.value) (SetCause base is h r c)

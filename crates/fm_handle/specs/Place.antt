@@ -1,8 +1,8 @@
 -- Where a handle's value stands in an arena, or the first refusal that applies before the arena is entered.
-use Rattle.std.specs.Prelude.{Bool, true, false, ◌&&◌, ◌≡◌, ℕ, ◌+◌, ◌%◌, ◌^◌, ◌≤◌, List, [], ◌∷◌, Result, Ok, Err, if◌then◌else◌, nat_eq, nat_le, nat_lt}
+use Rattle.std.specs.Prelude.{Bool, true, false, ◌&&◌, ◌≡◌, ℕ, ◌+◌, ◌%◌, ◌^◌, ◌≤◌, List, [], ◌∷◌, Result, Ok, Err, if◌then◌else◌, nat_le, nat_lt}
 use Rattle.std.specs.Int.{is_power_of_two}
 use Rattle.fm_base.specs.declared.refusal.Refusal.{Refusal}
-use Rattle.fm_base.specs.declared.refusal.Refusal.TheVariants.{Bounds, IndexOut, Misaligned, ReadOnly, Unsupported}
+use Rattle.fm_base.specs.declared.refusal.Refusal.TheVariants.{IndexOut, ReadOnly, Unsupported}
 use Rattle.fm_lanes.specs.declared.order.Order.{Order}
 use Rattle.fm_lanes.specs.declared.order.Order.TheVariants.{Little, Big}
 use Rattle.fm_lanes.specs.declared.value_kind.ValueKind.{ValueKind}
@@ -10,8 +10,9 @@ use Rattle.fm_lanes.specs.declared.value_kind.ValueKind.TheVariants.{Byte, Boole
 use Rattle.fm_lanes.specs.Kind.{width_of}
 use Rattle.fm_path.specs.declared.value_spec.ValueSpec.{ValueSpec}
 use Rattle.fm_path.specs.Resolution.{Resolution}
-use Rattle.fm_places.specs.declared.dim.Dim.{Dim}
-use Rattle.fm_places.specs.Walk.{offset_at}
+use Rattle.fm_path_meaning.specs.declared.dim.Dim.{Dim}
+use Rattle.fm_path_meaning.specs.Walk.{offset_at}
+use Rattle.fm_access.specs.Found.{if_placed}
 use Rattle.fm_segment.specs.Region.{Region}
 
 -- ---- on which values an update works
@@ -65,10 +66,7 @@ if_writable r found = if r.read_only then Err ReadOnly else found
 
 -- where the whole root fits at the base, and the base's place is a multiple of the root's alignment
 abbrev pub if_rooted : ℕ → Resolution → Region → Result ℕ Refusal → Result ℕ Refusal
-if_rooted base h r found =
-    if nat_le (base + h.root_size) r.size
-    then (if nat_eq ((r.first + base) % h.root_alignment) 0 then found else Err Misaligned)
-    else Err Bounds
+if_rooted base h r = if_placed base h.root_size h.root_alignment r.first r.size
 
 -- ---- where the value stands
 

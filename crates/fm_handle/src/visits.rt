@@ -4,89 +4,13 @@ ghost use Rattle.fm_base.specs.Outcomes.{Lasts};
 ghost use Rattle.fm_base.specs.View.{Did, given_in};
 ghost use Rattle.fm_lanes.specs.Kind.{width_of};
 ghost use Rattle.fm_lanes.specs.Value.{kind_of};
-ghost use Rattle.fm_pieces.specs.Ranges.{DoesGet};
-ghost use Rattle.fm_segment.specs.Access.{DoesGetValue};
 ghost use Rattle.fm_handle.specs.Access.{DoesVisit};
 ghost use Rattle.fm_handle.specs.Acts.{Adds, AddsTo, Exchanges, Stores, Swaps};
 
 use crate::inside::{add_inside, exchange_inside};
 use fm_base::{ArenaId, Memory, Refusal};
-use fm_lanes::{Order, Value, ValueKind, decode, turned};
-use fm_pieces::get_piece;
-use fm_segment::get_value;
+use fm_lanes::{Order, Value};
 use std::sync::Wait;
-
-/// The value of this kind whose bytes stand at `place` in this order, in one visit where they lie in one word.
-///
-/// Refused, in this order: `WrongThread`, `Closed`. Each kind has a branch of its own, so that the width is a constant
-/// in each.
-pub(crate) fn read_value<M: Memory>(
-    m: &mut M,
-    arena: ArenaId,
-    place: u64,
-    kind: ValueKind,
-    order: Order,
-) -> Result<Value, Refusal>
-    requires outside { (M.view m.old).inside ≡ None }
-    requires known { has_arena (M.view m.old).state arena ≡ true }
-    requires given { place + width_of kind ≤ given_in (M.view m.old) arena }
-    requires small { place + width_of kind ≤ 2 ^ 40 }
-    ensures did { Did (M.view m.old) (M.view m.new)
-        (DoesGetValue (M.view m.old).caller kind order arena place result) }
-    ensures outside { (M.view m.new).inside ≡ None }
-    ensures lasts { Lasts (M.view m.old) (M.view m.new) }
-{
-    match kind {
-        ValueKind::Byte => read_as(m, arena, place, ValueKind::Byte, order),
-        ValueKind::Boolean => read_as(m, arena, place, ValueKind::Boolean, order),
-        ValueKind::Char => read_as(m, arena, place, ValueKind::Char, order),
-        ValueKind::Short => read_as(m, arena, place, ValueKind::Short, order),
-        ValueKind::Int => read_as(m, arena, place, ValueKind::Int, order),
-        ValueKind::Long => read_as(m, arena, place, ValueKind::Long, order),
-    }
-}
-
-/// The same, for one of those branches.
-#[inline(always)]
-fn read_as<M: Memory>(
-    m: &mut M,
-    arena: ArenaId,
-    place: u64,
-    kind: ValueKind,
-    order: Order,
-) -> Result<Value, Refusal>
-    requires outside { (M.view m.old).inside ≡ None }
-    requires known { has_arena (M.view m.old).state arena ≡ true }
-    requires given { place + width_of kind ≤ given_in (M.view m.old) arena }
-    requires small { place + width_of kind ≤ 2 ^ 40 }
-    ensures did { Did (M.view m.old) (M.view m.new)
-        (DoesGetValue (M.view m.old).caller kind order arena place result) }
-    ensures outside { (M.view m.new).inside ≡ None }
-    ensures lasts { Lasts (M.view m.old) (M.view m.new) }
-{
-    let width = kind.width();
-    if place % 8 + u64::from(width) > 8 {
-        return get_value(m, arena, place, kind, order);
-    }
-    let number = read_piece(m, arena, place, width)?;
-    Ok(decode(kind, turned(width, number, order)))
-}
-
-/// The number that the bytes make, which lie in one word.
-#[inline(always)]
-fn read_piece<M: Memory>(m: &mut M, arena: ArenaId, place: u64, width: u32) -> Result<u64, Refusal>
-    requires outside { (M.view m.old).inside ≡ None }
-    requires known { has_arena (M.view m.old).state arena ≡ true }
-    requires some { 1 ≤ width }
-    requires within { place % 8 + width ≤ 8 }
-    requires given { place + width ≤ given_in (M.view m.old) arena }
-    ensures did { Did (M.view m.old) (M.view m.new)
-        (DoesGet (M.view m.old).caller arena place width result) }
-    ensures outside { (M.view m.new).inside ≡ None }
-    ensures lasts { Lasts (M.view m.old) (M.view m.new) }
-{
-    get_piece(m, arena, place, width)
-}
 
 /// Puts a word at `place` in one visit. Refused, in this order: `WrongThread`, `Closed`.
 pub(crate) fn store_at<M: Memory>(

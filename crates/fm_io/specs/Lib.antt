@@ -2,4 +2,5 @@ pub mod Count
 pub mod Failing
 pub mod Files
 pub mod InMemory
+pub mod Reads
 pub mod Sink

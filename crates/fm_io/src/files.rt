@@ -1,6 +1,7 @@
-ghost use Rattle.std.specs.Prelude.{◌≡◌, ◌<◌, ◌≤◌, ℕ, List, length, Option, IfOk, IfSome, IsErrOf};
+ghost use Rattle.std.specs.Prelude.{◌≡◌, ◌<◌, ◌≤◌, ℕ, List, length, Option, IfOk, IfSome, IsErrOf, ◌≢◌, Ok, Err, ◌∷◌, []};
 ghost use Rattle.fm_io.specs.Count.{Rose};
 ghost use Rattle.fm_io.specs.Files.{Contents, HasBytes, TellsPiece};
+ghost use Rattle.fm_io.specs.Reads.{Read, read, ReadsOn};
 
 use crate::fault::Fault;
 
@@ -19,7 +20,8 @@ pub enum Piece {
 ///
 /// An implementation may tell the bytes under each name, which no call changes. Whether or not it
 /// tells, it counts the reads that failed and those that found no file; a count stands still at the
-/// greatest `u64`. Code that is generic over the trait can't raise a count by itself.
+/// greatest `u64`. It may tell its reads too, which each call lengthens by just its own. Code that is
+/// generic over the trait can't raise a count by itself, and can't hide a read.
 pub trait Files {
     /// The files that are there, where they are told.
     ghost holds: { Self → Option Contents };
@@ -29,6 +31,9 @@ pub trait Files {
 
     /// How many reads found no file of their name.
     ghost misses: { Self → ℕ };
+
+    /// All reads so far, in their order, where they are told.
+    ghost reads: { Self → Option (List Read) };
 
     /// Reads bytes of the file `name` from the place `at` on, counted in bytes from its beginning.
     ///
@@ -41,9 +46,13 @@ pub trait Files {
             IfSome (holds self.old) (λ files. TellsPiece files name.now at buf.new piece)) }
         ensures held { holds self.new ≡ holds self.old }
 
-        // A fault or a missing file is answered only where its count shows it.
+        ensures noted { ReadsOn (reads self.old) (reads self.new) (read name.now at (length buf.old) result ∷ []) }
+
+        // A fault or a missing file is answered only where its count shows it, and no other answer changes the count.
         ensures failed { IsErrOf result Fault.Failed → Rose (faults self.old) (faults self.new) }
         ensures missing { result ≡ Ok Piece.Missing → Rose (misses self.old) (misses self.new) }
+        ensures quiet { result ≢ Err Fault.Failed → faults self.new ≡ faults self.old }
+        ensures found { result ≢ Ok Piece.Missing → misses self.new ≡ misses self.old }
         ensures faults_stay { faults self.old ≤ faults self.new }
         ensures misses_stay { misses self.old ≤ misses self.new };
 }

@@ -1,4 +1,6 @@
-ghost use Rattle.std.specs.Prelude.{◌≡◌, ◌≤◌, None, length, IfOk};
+ghost use Rattle.std.specs.Prelude.{◌≡◌, ◌≢◌, ◌+◌, ◌≤◌, ◌==◌, None, length, IfOk, IfErr, min, if◌then◌else◌, Ok, Err};
+ghost use Rattle.std.specs.IoError.{error_kind};
+ghost use Rattle.fm_io.specs.Count.{last_count};
 
 use crate::count::raised;
 use crate::fault::Fault;
@@ -45,15 +47,19 @@ fn read_host<R: rt::Files<File = File>>(
     File::open(rt, name)?.read_at(buf, at)
 }
 
-impl<R: rt::Files<File = File>> Files for HostFiles<R> {
-    ghost holds = { λ _. None };
-
-    ghost faults = { λ f. f.faults };
-
-    ghost misses = { λ f. f.misses };
-
-    fn read_at(&mut self, name: &str, at: u64, buf: &mut [u8]) -> Result<Piece, Fault> {
-        match read_host(&self.rt, name, at, buf) {
+impl<R: rt::Files<File = File>> HostFiles<R> {
+    /// What a read came to, as the answer, and counted.
+    fn answer_of(&mut self, read: io::Result<usize>) -> Result<Piece, Fault>
+        ensures got { IfOk read (λ n. result ≡ Ok (if n == 0 then Piece.End else Piece.Got n)) }
+        ensures quiet { IfOk read (λ _. self.new ≡ self.old) }
+        ensures missing { IfErr read (λ e. error_kind e ≡ ErrorKind.NotFound → (result ≡ Ok Piece.Missing)
+            × (self.new.misses ≡ min (self.old.misses + 1) last_count) × (self.new.faults ≡ self.old.faults)) }
+        ensures failed { IfErr read (λ e. error_kind e ≢ ErrorKind.NotFound → (result ≡ Err Fault.Failed)
+            × (self.new.faults ≡ min (self.old.faults + 1) last_count) × (self.new.misses ≡ self.old.misses)) }
+        ensures faults_stay { self.old.faults ≤ self.new.faults }
+        ensures misses_stay { self.old.misses ≤ self.new.misses }
+    {
+        match read {
             Ok(0) => Ok(Piece::End),
             Ok(n) => Ok(Piece::Got(n)),
             Err(e) if e.kind() == ErrorKind::NotFound => {
@@ -65,5 +71,20 @@ impl<R: rt::Files<File = File>> Files for HostFiles<R> {
                 Err(Fault::Failed)
             }
         }
+    }
+}
+
+impl<R: rt::Files<File = File>> Files for HostFiles<R> {
+    ghost holds = { λ _. None };
+
+    ghost faults = { λ f. f.faults };
+
+    ghost misses = { λ f. f.misses };
+
+    ghost reads = { λ _. None };
+
+    fn read_at(&mut self, name: &str, at: u64, buf: &mut [u8]) -> Result<Piece, Fault> {
+        let read = read_host(&self.rt, name, at, buf);
+        self.answer_of(read)
     }
 }

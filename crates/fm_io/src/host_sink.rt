@@ -1,4 +1,7 @@
-ghost use Rattle.std.specs.Prelude.{◌≡◌, None};
+ghost use Rattle.std.specs.Prelude.{◌≡◌, ◌≢◌, ◌+◌, ◌<◌, ◌≤◌, None, IfOk, IsErrOf, length, take, Err};
+ghost use Rattle.std.specs.Io.KnownBytes as known;
+ghost use Rattle.fm_io.specs.Count.{Rose};
+ghost use Rattle.fm_io.specs.Sink.{TookPiece};
 
 use crate::count::raised;
 use crate::fault::Fault;
@@ -28,7 +31,16 @@ impl<W: Write> Sink for HostSink<W> {
 
     ghost faults = { λ s. s.faults };
 
-    fn write(&mut self, piece: &[u8]) -> Result<usize, Fault> {
+    fn write(&mut self, piece: &[u8]) -> Result<usize, Fault>
+        requires { 0 < length piece.now }
+        ensures bytes { IfOk result (λ n. (0 < n) × (n ≤ length piece.now)) }
+        ensures took { TookPiece None None piece.now result }
+        ensures passed { IfOk result (λ n. known.Appends (W.contents self.old.writer) (W.contents self.new.writer) (take n piece.now)) }
+        ensures never_memory { result ≢ Err Fault.Memory }
+        ensures failed { IsErrOf result Fault.Failed → Rose self.old.faults self.new.faults }
+        ensures quiet { result ≢ Err Fault.Failed → self.new.faults ≡ self.old.faults }
+        ensures faults_stay { self.old.faults ≤ self.new.faults }
+    {
         match self.writer.write(piece) {
             Ok(n) if n > 0 => Ok(n),
             _ => {

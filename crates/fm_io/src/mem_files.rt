@@ -1,5 +1,5 @@
-ghost use Rattle.std.specs.Prelude.{◌≡◌, ◌≢◌, ◌≤◌, ◌<◌, Some, length, IfOk, is_err};
-ghost use Rattle.fm_io.specs.Count.{Rose};
+ghost use Rattle.std.specs.Prelude.{◌≡◌, ◌≢◌, ◌≤◌, ◌<◌, None, Some, length, IfOk, is_err, ◌+◌, min};
+ghost use Rattle.fm_io.specs.Count.{last_count};
 ghost use Rattle.fm_io.specs.Files.{contents_of, HasBytes, TellsPiece};
 
 use crate::count::raised;
@@ -71,6 +71,8 @@ impl Files for MemFiles {
 
     ghost misses = { mem_misses };
 
+    ghost reads = { λ _. None };
+
     fn read_at(&mut self, name: &str, at: u64, buf: &mut [u8]) -> Result<Piece, Fault>
         requires { 0 < length buf.old }
 
@@ -82,7 +84,8 @@ impl Files for MemFiles {
         ensures content { IfOk result (TellsPiece (mem_contents self.old) name.now at buf.new) }
         ensures held { mem_contents self.new ≡ mem_contents self.old }
         ensures limit { read_limit self.new ≡ read_limit self.old }
-        ensures missing { result ≡ Ok Piece.Missing → Rose (mem_misses self.old) (mem_misses self.new) }
+        ensures missing { result ≡ Ok Piece.Missing → mem_misses self.new ≡ min (mem_misses self.old + 1) last_count }
+        ensures found { result ≢ Ok Piece.Missing → mem_misses self.new ≡ mem_misses self.old }
         ensures misses_stay { mem_misses self.old ≤ mem_misses self.new }
     {
         if self.reads.counts_call() {

@@ -1,6 +1,7 @@
-ghost use Rattle.std.specs.Prelude.{◌≡◌, ◌+◌, ◌<◌, ◌≤◌, ◌^◌, length, take, IfOk, IfSome, IsErrOf, ◌≢◌};
+ghost use Rattle.std.specs.Prelude.{◌≡◌, ◌+◌, ◌<◌, ◌≤◌, ◌^◌, length, take, IfOk, IfSome, IsErrOf, ◌≢◌, Err};
 ghost use Rattle.fm_io.specs.Count.{Rose};
 ghost use Rattle.fm_io.specs.Files.{AreBytesFrom, EndsBefore, IsAbsent, HasBytes, TellsPiece};
+ghost use Rattle.fm_io.specs.Reads.{GoesOn, ReadsFile};
 
 use crate::fault::Fault;
 use crate::files::{Files, Piece};
@@ -34,9 +35,15 @@ pub fn fill<F: Files>(
     ensures ended { IfOk result (λ n. n ≢ length buf.old → EndsBefore (F.holds files.old) name.now (at + n)) }
     ensures held { F.holds files.new ≡ F.holds files.old }
 
+    // It reads where the bytes of its last read end, up to the buffer's end, and not again after another answer.
+    ensures reads { ReadsFile (F.reads files.old) (F.reads files.new) name.now (length buf.old) (at + length buf.old) at
+        (λ next. IfOk result (λ n. GoesOn at (length buf.old) n next)) }
+
     ensures missing { IsErrOf result ReadFault.Missing → Rose (F.misses files.old) (F.misses files.new) }
     ensures absent { IsErrOf result ReadFault.Missing → IsAbsent (F.holds files.old) name.now }
     ensures failed { IsErrOf result ReadFault.Failed → Rose (F.faults files.old) (F.faults files.new) }
+    ensures quiet { result ≢ Err ReadFault.Failed → F.faults files.new ≡ F.faults files.old }
+    ensures found { result ≢ Err ReadFault.Missing → F.misses files.new ≡ F.misses files.old }
     ensures faults_stay { F.faults files.old ≤ F.faults files.new }
     ensures misses_stay { F.misses files.old ≤ F.misses files.new }
 {

@@ -1,4 +1,4 @@
-ghost use Rattle.std.specs.Prelude.{◌≡◌, ◌<◌, ◌≤◌, ℕ, List, length, Option, IfOk, IsErrOf};
+ghost use Rattle.std.specs.Prelude.{◌≡◌, ◌<◌, ◌≤◌, ℕ, List, length, Option, IfOk, IsErrOf, ◌≢◌, Err};
 ghost use Rattle.fm_io.specs.Count.{Rose};
 ghost use Rattle.fm_io.specs.Sink.{TookPiece};
 
@@ -21,5 +21,6 @@ pub trait Sink {
         ensures bytes { IfOk result (λ n. (0 < n) × (n ≤ length piece.now)) }
         ensures took { TookPiece (written self.old) (written self.new) piece.now result }
         ensures failed { IsErrOf result Fault.Failed → Rose (faults self.old) (faults self.new) }
+        ensures quiet { result ≢ Err Fault.Failed → faults self.new ≡ faults self.old }
         ensures faults_stay { faults self.old ≤ faults self.new };
 }

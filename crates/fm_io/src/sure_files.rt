@@ -1,5 +1,5 @@
-ghost use Rattle.std.specs.Prelude.{◌≡◌, ◌≤◌, ◌<◌, Some, length, IfOk, IsOk};
-ghost use Rattle.fm_io.specs.Count.{Rose};
+ghost use Rattle.std.specs.Prelude.{◌≡◌, ◌≤◌, ◌<◌, None, Some, length, IfOk, IsOk, ◌≢◌, Ok, ◌+◌, min};
+ghost use Rattle.fm_io.specs.Count.{last_count};
 ghost use Rattle.fm_io.specs.Files.{contents_of, HasBytes, TellsPiece};
 
 use crate::count::raised;
@@ -35,13 +35,16 @@ impl Files for SureFiles {
 
     ghost misses = { sure_misses };
 
+    ghost reads = { λ _. None };
+
     fn read_at(&mut self, name: &str, at: u64, buf: &mut [u8]) -> Result<Piece, Fault>
         requires { 0 < length buf.old }
         ensures sure { IsOk result }
         ensures bytes { IfOk result (HasBytes (length buf.old)) }
         ensures content { IfOk result (TellsPiece (sure_contents self.old) name.now at buf.new) }
         ensures held { sure_contents self.new ≡ sure_contents self.old }
-        ensures missing { result ≡ Ok Piece.Missing → Rose (sure_misses self.old) (sure_misses self.new) }
+        ensures missing { result ≡ Ok Piece.Missing → sure_misses self.new ≡ min (sure_misses self.old + 1) last_count }
+        ensures found { result ≢ Ok Piece.Missing → sure_misses self.new ≡ sure_misses self.old }
         ensures misses_stay { sure_misses self.old ≤ sure_misses self.new }
     {
         let piece = read_listed(&self.files, name, at, buf, usize::MAX);

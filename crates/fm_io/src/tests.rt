@@ -4,6 +4,7 @@ use crate::{
 };
 use std::alloc::{AllocError, Global};
 use std::fs::{self, File};
+use std::io::{self, Write};
 use std::test::Fail;
 use std::{env, process};
 
@@ -100,6 +101,37 @@ fn a_text_is_written_whole_or_a_prefix_of_it(rt: HostRuntime) -> Result<(), Fail
         assert_eq!(rt; out.written(), &TEXT[..k], "at write {k}");
     }
     Ok(())
+}
+
+/// A writer that takes one byte of each write, if it is the next that it waits for.
+#[derive(Drop)]
+struct OneByte<'a> {
+    left: &'a [u8],
+}
+
+impl Write for OneByte<'_> {
+    fn write(&mut self, buf: &[u8]) -> io::Result<usize> {
+        match (buf, self.left) {
+            ([byte, ..], [next, rest @ ..]) if byte == next => {
+                self.left = rest;
+                Ok(1)
+            }
+            _ => Ok(0),
+        }
+    }
+
+    fn flush(&mut self) -> io::Result<()> {
+        Ok(())
+    }
+}
+
+#[test]
+fn a_host_sink_writes_on_where_a_writer_takes_one_byte(rt: HostRuntime) {
+    for (count, answer) in [(7, Ok(())), (3, Err(Fault::Failed))] {
+        let left = &TEXT[..count];
+        let mut out = HostSink::new(OneByte { left });
+        assert_eq!(rt; write_text(&mut out, TEXT), answer, "{count} bytes");
+    }
 }
 
 #[test]

@@ -1,4 +1,4 @@
-ghost use Rattle.std.specs.Prelude.{◌≡◌, ◌≤◌, IsErrOf, OnOk};
+ghost use Rattle.std.specs.Prelude.{◌≡◌, ◌≤◌, IsErrOf, OnOk, ◌≢◌, Err};
 ghost use Rattle.fm_io.specs.Count.{Rose};
 ghost use Rattle.fm_io.specs.Sink.{Appends, AppendsPrefix};
 
@@ -10,6 +10,7 @@ pub fn write_text<O: Sink>(out: &mut O, text: &[u8]) -> Result<(), Fault>
     ensures whole { OnOk result (Appends (O.written out.old) (O.written out.new) text.now) }
     ensures prefix { AppendsPrefix (O.written out.old) (O.written out.new) text.now }
     ensures failed { IsErrOf result Fault.Failed → Rose (O.faults out.old) (O.faults out.new) }
+    ensures quiet { result ≢ Err Fault.Failed → O.faults out.new ≡ O.faults out.old }
     ensures faults_stay { O.faults out.old ≤ O.faults out.new }
 {
     let mut taken = 0;

@@ -1,3 +1,4 @@
 pub mod Coding
 pub mod Kind
+pub mod Named
 pub mod Value

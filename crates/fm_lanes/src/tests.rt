@@ -74,3 +74,20 @@ fn the_last_word_is_filled_with_zeros(rt: HostRuntime) {
     words_of(&[], &mut words[..0]);
     assert_eq!(rt; words, [0x8000_0000_0000_0001, 258]);
 }
+
+#[test]
+fn names_read_back(rt: HostRuntime) {
+    for kind in [
+        ValueKind::Byte,
+        ValueKind::Boolean,
+        ValueKind::Char,
+        ValueKind::Short,
+        ValueKind::Int,
+        ValueKind::Long,
+    ] {
+        assert_eq!(rt; ValueKind::named(kind.name()), Some(kind));
+    }
+    assert_eq!(rt; ValueKind::named("Int"), None);
+    assert_eq!(rt; Order::named(Order::Big.name()), Some(Order::Big));
+    assert_eq!(rt; Order::named("middle"), None);
+}

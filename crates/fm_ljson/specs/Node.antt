@@ -8,7 +8,7 @@ use Rattle.fm_lanes.specs.declared.order.Order.TheVariants.{Little, Big}
 use Rattle.fm_lanes.specs.declared.value_kind.ValueKind.{ValueKind}
 use Rattle.fm_layout.specs.Name.{is_digit, is_letter}
 use Rattle.fm_layout.specs.WellFormed.{limit}
-use Rattle.fm_path.specs.Listing.{order_text}
+use Rattle.fm_lanes.specs.Named.{order_named}
 use Rattle.fm_ljson.specs.declared.type_name.TypeName.{TypeName}
 use Rattle.fm_ljson.specs.declared.type_name.TypeName.TheVariants as type_name
 use Rattle.fm_ljson.specs.Types.{keys_of, type_named}
@@ -45,9 +45,6 @@ name_in text = if is_name text then Some text else None
 
 abbrev pub name_of : Data → Option (List ℕ)
 name_of d = option_and_then name_in (as_str d)
-
-abbrev pub order_named : List ℕ → Option Order
-order_named text = find (λ o. bytes_eq text (order_text o)) (Little ∷ Big ∷ [])
 
 abbrev pub order_of : Data → Option Order
 order_of d = option_and_then order_named (as_str d)

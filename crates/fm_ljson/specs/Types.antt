@@ -1,7 +1,7 @@
 -- The types of layout objects, and the keys that an object of each may have.
 use Rattle.std.specs.Prelude.{ℕ, Option, List, [], ◌∷◌, codes, bytes_eq, find}
 use Rattle.fm_lanes.specs.declared.value_kind.ValueKind.TheVariants.{Byte, Boolean, Char, Short, Int, Long}
-use Rattle.fm_path.specs.Listing.{kind_text}
+use Rattle.fm_lanes.specs.Named.{kind_text}
 use Rattle.fm_ljson.specs.declared.type_name.TypeName.{TypeName}
 use Rattle.fm_ljson.specs.declared.type_name.TypeName.TheVariants.{Value, Padding, Sequence, Struct, Union}
 

@@ -16,17 +16,14 @@ pub enum TypeName {
 }
 
 /// The type that a text names.
-#[tactic(auto, unfolding(crate::specs::Types::type_named))]
+#[tactic(auto, unfolding(crate::specs::Types::type_named, fm_lanes::specs::Named::kind_named))]
 pub(crate) fn type_named(text: &str) -> Option<TypeName>
     ensures { result ≡ type_named text.now }
 {
+    if let Some(kind) = ValueKind::named(text) {
+        return Some(TypeName::Value(kind));
+    }
     match text {
-        "byte" => Some(TypeName::Value(ValueKind::Byte)),
-        "boolean" => Some(TypeName::Value(ValueKind::Boolean)),
-        "char" => Some(TypeName::Value(ValueKind::Char)),
-        "short" => Some(TypeName::Value(ValueKind::Short)),
-        "int" => Some(TypeName::Value(ValueKind::Int)),
-        "long" => Some(TypeName::Value(ValueKind::Long)),
         "padding" => Some(TypeName::Padding),
         "sequence" => Some(TypeName::Sequence),
         "struct" => Some(TypeName::Struct),

@@ -1,6 +1,6 @@
 ghost use Rattle.std.specs.Prelude.{◌≡◌, map, option_copied, option_map};
 ghost use Rattle.serde_json.specs.View.{view};
-ghost use Rattle.fm_ljson.specs.Node.{is_name, members_in, name_in, name_of, order_named, order_of, type_of, whole_of, within};
+ghost use Rattle.fm_ljson.specs.Node.{is_name, members_in, name_in, name_of, order_of, type_of, whole_of, within};
 
 use crate::type_name::{TypeName, type_named};
 use fm_lanes::Order;
@@ -52,18 +52,8 @@ pub(crate) fn order_of(value: &Value) -> Option<Order>
     ensures { result ≡ order_of (view value.now) }
 {
     match value.as_str() {
-        Some(text) => order_named(text),
+        Some(text) => Order::named(text),
         None => None,
-    }
-}
-
-fn order_named(text: &str) -> Option<Order>
-    ensures { result ≡ order_named text.now }
-{
-    match text {
-        "little" => Some(Order::Little),
-        "big" => Some(Order::Big),
-        _ => None,
     }
 }
 

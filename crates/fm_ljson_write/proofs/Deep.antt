@@ -8,7 +8,7 @@ use Rattle.fm_layout.specs.Depth.{deepest}
 use Rattle.fm_layout.specs.Depth as layout
 use Rattle.fm_layout.specs.Size.{greatest_alignment}
 use Rattle.fm_layout.specs.Tree.{Label, Tree, Trees, Value, Padding, Sequence, Struct, Union, NoMore, More, alignment_of}
-use Rattle.fm_path.specs.Listing.{kind_text}
+use Rattle.fm_lanes.specs.Named.{kind_text}
 use Rattle.fm_ljson_write.specs.Canonical.{align_of, all_json, if_any, json_of, name_of, order_of, typed, whole}
 
 -- what may stand there nests in nothing

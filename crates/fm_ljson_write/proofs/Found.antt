@@ -15,7 +15,7 @@ use Rattle.fm_layout.specs.Size.{greatest_alignment}
 use Rattle.fm_layout.specs.Tree.{Label, Tree, Value, Padding, Sequence, Struct, Union, alignment_of, label_of}
 use Rattle.fm_layout.specs.WellFormed.{limit, IsWellFormed}
 use Rattle.fm_layout.proofs.Names.{list_all-IsNameEnd}
-use Rattle.fm_path.specs.Listing.{kind_text}
+use Rattle.fm_lanes.specs.Named.{kind_text}
 use Rattle.fm_ljson.specs.Node as node
 use Rattle.fm_ljson.specs.Node.{Content, Node, node_of, content_in, align_in, optional, has_only, is_name, list_of, whole_of}
 use Rattle.fm_ljson.specs.Types.{type_named, type_text, keys_of}

@@ -7,7 +7,7 @@ use Rattle.fm_lanes.specs.declared.order.Order.TheVariants.{Little, Big}
 use Rattle.fm_lanes.specs.Kind.{width_of}
 use Rattle.fm_layout.specs.Tree.{Label, Tree, Trees, Value, Padding, Sequence, Struct, Union, NoMore, More, alignment_of}
 use Rattle.fm_layout.specs.Size.{greatest_alignment}
-use Rattle.fm_path.specs.Listing.{kind_text, order_text}
+use Rattle.fm_lanes.specs.Named.{kind_text, order_text}
 
 abbrev pub whole : ℕ → Data
 whole n = number (unsigned n)

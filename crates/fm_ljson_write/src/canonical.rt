@@ -4,7 +4,7 @@ ghost use Rattle.fm_layout.specs.Parts.{form_of, count_of, element_of};
 ghost use Rattle.fm_layout.specs.Size.{greatest_alignment};
 ghost use Rattle.fm_layout.specs.Tree.{label_of};
 ghost use Rattle.fm_ljson_write.specs.Canonical.{json_of as canonical, all_json};
-ghost use Rattle.fm_path.specs.Listing.{kind_text};
+ghost use Rattle.fm_lanes.specs.Named.{kind_text};
 ghost use Rattle.fm_ljson_write.specs.Groups.{group_json as group_data, members_of};
 
 use crate::members::{head_of, put_order};
@@ -36,7 +36,7 @@ fn value_json(
     requires { form_of layout.now ≡ Form.Value kind order }
     ensures { IfOk result (λ value. view value ≡ canonical layout.now) }
 {
-    let mut members = head_of(alloc, kind_word(kind), u64::from(kind.width()), layout)?;
+    let mut members = head_of(alloc, kind.name(), u64::from(kind.width()), layout)?;
     put_order(alloc, &mut members, order)?;
     Ok(Value::Object(members))
 }
@@ -108,17 +108,4 @@ fn greatest_of(layout: &Layout, count: u64) -> u64
         }
     }
     greatest
-}
-
-fn kind_word(kind: ValueKind) -> &'static str
-    ensures { result.now ≡ kind_text kind }
-{
-    match kind {
-        ValueKind::Byte => "byte",
-        ValueKind::Boolean => "boolean",
-        ValueKind::Char => "char",
-        ValueKind::Short => "short",
-        ValueKind::Int => "int",
-        ValueKind::Long => "long",
-    }
 }

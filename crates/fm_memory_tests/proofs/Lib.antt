@@ -1,4 +1,7 @@
+pub mod Hearing
 pub mod Fencing
-pub mod Others
-pub mod Told
-pub mod Shutting
+pub mod Zero
+pub mod Going
+pub mod Calling
+pub mod Beside
+pub mod Finding

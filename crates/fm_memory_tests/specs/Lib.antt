@@ -1,5 +1,3 @@
-pub mod Braided
-pub mod Closing
-pub mod Fenced
+pub mod Double
+pub mod Fence
 pub mod Heard
-pub mod Telling

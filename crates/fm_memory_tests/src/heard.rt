@@ -1,20 +1,19 @@
-use fm_base::ArenaId;
+use fm_base::{ArenaId, Caller, Refusal};
 
-/// An entry of the history, as the code keeps it.
+/// What a call made of entries, as the code keeps it.
 #[derive(Clone, Copy, Debug)]
 pub enum Heard {
-    Opened(ArenaId),
-    Entered(ArenaId),
-    Refused(ArenaId),
-    Loaded(ArenaId, u64, u64),
-    Stored(ArenaId, u64, u64),
-    Swapped(ArenaId, u64, u64, u64, u64),
-    Added(ArenaId, u64, u64, u64),
-    Gave(ArenaId, u64, u64, u64),
-    Full(ArenaId, u64, u64, u64),
-    Left(ArenaId),
-    Shut(ArenaId),
-    ShutClosed(ArenaId),
-    ShutHeld(ArenaId, u64),
-    Ended(ArenaId),
+    Enter(ArenaId, Result<(), Refusal>),
+    Load(ArenaId, u64, u64),
+    Store(ArenaId, u64, u64),
+    SwapIf(ArenaId, u64, u64, u64, u64),
+    Add(ArenaId, u64, u64, u64),
+    Leave(ArenaId),
+    Open(Result<ArenaId, Refusal>),
+    Allocate(ArenaId, u64, u64, Result<u64, Refusal>),
+    Close(Caller, ArenaId, Result<(), Refusal>),
+    /// This caller entered, added to a word, and left.
+    Visit(Caller, ArenaId, u64, u64, u64),
+    /// Another caller opened an arena that is confined to it, gave 16 bytes of it, and closed it or didn't.
+    Fence(bool),
 }

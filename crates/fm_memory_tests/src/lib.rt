@@ -1,25 +1,21 @@
-//! Four more implementations of `Memory`, for tests alone, and test bodies over every implementation.
+//! A double of `Memory`, for tests alone, and test bodies over every implementation.
 #![tactic(auto)]
 
+mod double;
 mod heard;
+mod others;
 
+pub use double::Double;
 pub use heard::Heard;
+pub use others::Others;
 
 #[cfg(test)]
 mod body;
 #[cfg(test)]
-mod braided;
-#[cfg(test)]
-mod closing;
-#[cfg(test)]
-mod ear;
-#[cfg(test)]
-mod fenced;
+mod exact;
 #[cfg(test)]
 mod handles;
 #[cfg(test)]
 mod segments;
-#[cfg(test)]
-mod telling;
 #[cfg(test)]
 mod tests;

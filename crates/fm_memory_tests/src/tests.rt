@@ -1,18 +1,17 @@
 use crate::body::{close_an_arena, stay_out, use_a_word};
-use crate::braided::Braided;
-use crate::closing::Closing;
-use crate::fenced::Fenced;
+use crate::exact::use_by_itself;
 use crate::handles::{use_a_long_of_another, use_ints, use_longs, use_values_of_another};
 use crate::segments::{
     copy_until_closed, read_of_another, use_no_bytes, use_of_another, use_ranges, use_values,
 };
-use crate::telling::Telling;
+use crate::{Double, Others};
 use fm_base::{Kind, Memory, Refusal};
 use fm_mono::Mono;
 
 #[test]
 fn one_thread(rt: HostRuntime) {
     let mut m = Mono::make(rt.alloc(), 64);
+    use_by_itself(&rt, &mut m);
     use_a_word(&rt, &mut m, 0);
     close_an_arena(&rt, &mut m);
     use_ranges(&rt, &mut m);
@@ -23,7 +22,11 @@ fn one_thread(rt: HostRuntime) {
 
 #[test]
 fn beside_another_caller(rt: HostRuntime) {
-    let mut m = Braided::new(Mono::make(rt.alloc(), 64), u64::MAX, 1);
+    let others = Others::Add {
+        script: u64::MAX,
+        step: 1,
+    };
+    let mut m = Double::new(&rt, rt.alloc(), Mono::make(rt.alloc(), 64), others);
     use_a_word(&rt, &mut m, 1);
     close_an_arena(&rt, &mut m);
     use_ranges(&rt, &mut m);
@@ -32,8 +35,10 @@ fn beside_another_caller(rt: HostRuntime) {
 }
 
 #[test]
-fn with_a_history_that_is_told(rt: HostRuntime) {
-    let mut m = Telling::new(&rt, rt.alloc(), Mono::make(rt.alloc(), 64));
+fn where_the_others_are_gathered(rt: HostRuntime) {
+    let mono = Mono::make(rt.alloc(), 64);
+    let mut m = Double::new(&rt, rt.alloc(), mono, Others::Gathered);
+    use_by_itself(&rt, &mut m);
     use_a_word(&rt, &mut m, 0);
     close_an_arena(&rt, &mut m);
     use_ranges(&rt, &mut m);
@@ -46,7 +51,11 @@ fn with_a_history_that_is_told(rt: HostRuntime) {
 #[test]
 fn beside_a_neighbour_that_changes(rt: HostRuntime) {
     for (index, step) in [(0, 1 << 32), (1, 1)] {
-        let mut m = Braided::new(Mono::make(rt.alloc(), 64), 0x4444_4444_4444_4444, step);
+        let others = Others::Add {
+            script: 0x4444_4444_4444_4444,
+            step,
+        };
+        let mut m = Double::new(&rt, rt.alloc(), Mono::make(rt.alloc(), 64), others);
         use_ints(&rt, &mut m, rt.alloc(), index, 3);
     }
 }
@@ -55,8 +64,9 @@ fn beside_a_neighbour_that_changes(rt: HostRuntime) {
 #[test]
 fn beside_an_arena_of_another_caller(rt: HostRuntime) {
     for is_closed in [false, true] {
-        let mut m = Fenced::new(Mono::make(rt.alloc(), 64), is_closed);
-        let s = m.others();
+        let others = Others::Stay { is_closed };
+        let mut m = Double::new(&rt, rt.alloc(), Mono::make(rt.alloc(), 64), others);
+        let s = m.theirs();
         use_of_another(&rt, &mut m, &s);
         read_of_another(&rt, &mut m, &s);
         use_no_bytes(&rt, &mut m, &s);
@@ -70,7 +80,8 @@ fn beside_an_arena_of_another_caller(rt: HostRuntime) {
 
 #[test]
 fn while_another_caller_closes(rt: HostRuntime) {
-    let mut m = Closing::new(&rt, Mono::make(rt.alloc(), 64), 5);
+    let mono = Mono::make(rt.alloc(), 64);
+    let mut m = Double::new(&rt, rt.alloc(), mono, Others::Close { left: 5 });
     copy_until_closed(&rt, &mut m);
 }
 

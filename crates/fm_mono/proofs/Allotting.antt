@@ -1,6 +1,6 @@
 -- An arena that gives more bytes, and one that ends.
 use Rattle.std.proofs.Common.{◌≡◌, ℕ, ◌+◌, ◌-◌, ◌<◌, ◌≤◌, true, false, List, ◌++◌, length, set, take, replicate, get_or, refl, ap, sym, ◌∙◌, subst, arith, append_assoc, length-append, Option, Some, None, slice_get}
-use Rattle.std.specs.Prelude.{nat_le}
+use Rattle.std.specs.Prelude.{nat_le, vec_capacity}
 use Rattle.std.proofs.lemmas.Bool.Decides.{nat_tests}
 use Rattle.std.proofs.lemmas.List.{length-set, length-replicate, replicate-append-replicate, set-get_or, take_all}
 use Rattle.fm_base.specs.declared.arena_id.ArenaId.{ArenaId}
@@ -84,7 +84,7 @@ module _ (limit : ℕ) (inside : Option ArenaId) (os : List MonoArena) (a : Aren
       let w : filled (words_within limit) o'.words.items ≡ filled (words_within limit) o.words.items = rw grown.words (fill_padded (words_within limit) k o.words.items (omega arith)) in
       let e : shown limit inside o' ≡ given_up_to end (shown limit inside o) = rw (id, alive, given, r.alive, w) refl in (
         subst (λ (x : ArenaId). shown_all limit inside (set os a.slot o') ≡ changed (shown_all limit inside os) x (given_up_to end)) r.id (change_shown limit inside (given_up_to end) 0 a.slot os o o' s.names r.place e),
-        sound_set limit inside os a.slot o o' s r.place id alive (record { given = omega arith; words = λ l. grown.count ∙ ap words_within (sym given) }),
+        sound_set limit inside os a.slot o o' s r.place id alive (record { given = omega arith; words = λ l. grown.count ∙ ap words_within (sym given); freed = λ l. absurd (cc (l, alive, r.alive)) }),
       )
 
   -- the arena as it was, written back
@@ -99,14 +99,14 @@ module _ (limit : ℕ) (inside : Option ArenaId) (os : List MonoArena) (a : Aren
   same_shown o' id alive given words =
       let e : shown limit inside o' ≡ shown limit inside o = rw (id, alive, given, r.alive, words) refl in
       let f = s.fit a.slot o r.place in (
-        sound_set limit inside os a.slot o o' s r.place id alive (record { given = rw given f.given; words = λ l. rw (words, given) (f.words r.alive) }),
+        sound_set limit inside os a.slot o o' s r.place id alive (record { given = rw given f.given; words = λ l. rw (words, given) (f.words r.alive); freed = λ l. absurd (cc (l, alive, r.alive)) }),
         change_shown limit inside (λ x. x) 0 a.slot os o o' s.names r.place e ∙ changed_same (shown_all limit inside os) o.id (λ x. x) refl,
       )
 
   -- an arena whose words are given back
-  pub ended_shown : (o' : MonoArena) → inside ≡ None → o'.id ≡ o.id → o'.is_alive ≡ false → o'.given ≡ o.given → o'.past.numbers ≡ o.words.items
+  pub ended_shown : (o' : MonoArena) → inside ≡ None → o'.id ≡ o.id → o'.is_alive ≡ false → o'.given ≡ o.given → o'.past.numbers ≡ o.words.items → vec_capacity o'.words ≡ 0
       → (shown_all limit inside (set os a.slot o') ≡ changed (shown_all limit inside os) a ended) × IsSoundMono limit inside (set os a.slot o')
-  ended_shown o' out id dead given past =
+  ended_shown o' out id dead given past freed =
       let e : shown limit inside o' ≡ ended (shown limit inside o) = rw (id, dead, given, past, r.alive) refl in
       let f = s.fit a.slot o r.place in (
         subst (λ (x : ArenaId). shown_all limit inside (set os a.slot o') ≡ changed (shown_all limit inside os) x ended) r.id (change_shown limit inside ended 0 a.slot os o o' s.names r.place e),
@@ -114,7 +114,7 @@ module _ (limit : ℕ) (inside : Option ArenaId) (os : List MonoArena) (a : Aren
           small = s.small;
           few = rw length-set s.few;
           names = CountFrom-set 0 a.slot os o o' s.names r.place id;
-          fit = fit_set limit os a.slot o' (record { given = rw given f.given; words = λ l. absurd (cc (l, dead)) }) s.fit;
+          fit = fit_set limit os a.slot o' (record { given = rw given f.given; words = λ l. absurd (cc (l, dead)); freed = λ l. freed }) s.fit;
           there = rw out tt;
         },
       )

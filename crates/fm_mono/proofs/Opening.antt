@@ -1,20 +1,21 @@
 -- One arena more.
 use Rattle.std.proofs.Common.{◌≡◌, ℕ, zero, suc, ◌+◌, ◌-◌, ◌≤◌, true, false, if◌then◌else◌, List, [], ◌∷◌, ◌++◌, length, refl, ap, sym, ◌∙◌, subst, arith, Option, Some, None, ◌⊎◌, inl, inr, slice_get, ◌<◌, length-append}
 use Rattle.fm_base.specs.declared.arena_id.ArenaId.{ArenaId}
-use Rattle.fm_base.specs.Arenas.{State, Arena, has_arena}
+use Rattle.fm_base.specs.Arenas.{owner_of, only_caller, State, Arena, has_arena}
 use Rattle.fm_base.specs.Calls.{Open, Fine, entry_of}
 use Rattle.fm_base.specs.View.{Makes}
 use Rattle.fm_base.specs.Machine.{words_within, opened}
 use Rattle.fm_mono.specs.declared.arena.MonoArena.{MonoArena}
-use Rattle.fm_mono.specs.Shown.{shown, shown_all, CountFrom, IsSoundMono, FitsIn, most_arenas, Arenas, view_of}
+use Rattle.fm_mono.specs.Shown.{shown, shown_all, CountFrom, IsSoundMono, FitsIn, most_arenas, view_of}
 use Rattle.fm_mono.proofs.Alone.{makes_one}
+use Rattle.fm_mono.proofs.Showing.{seen_of}
 use Rattle.fm_base.proofs.Names.{same_id-slot}
 
 pub shown_push : (limit : ℕ) (i : Option ArenaId) (os : List MonoArena) (o : MonoArena) → shown_all limit i (os ++ o ∷ []) ≡ shown_all limit i os ++ shown limit i o ∷ []
 shown_push limit i [] o = refl
 shown_push limit i (p ∷ os) o = ap (λ (s : State). shown limit i p ∷ s) (shown_push limit i os o)
 
-pub CountFrom-push : (n : ℕ) (os : List MonoArena) (o : MonoArena) → CountFrom n os → o.id.slot ≡ n + length os → o.id.owner ≡ 0 → CountFrom n (os ++ o ∷ [])
+pub CountFrom-push : (n : ℕ) (os : List MonoArena) (o : MonoArena) → CountFrom n os → o.id.slot ≡ n + length os → owner_of o.id ≡ only_caller → CountFrom n (os ++ o ∷ [])
 CountFrom-push n [] o c s w = (omega arith, w, tt)
 CountFrom-push n (p ∷ os) o c s w = (c.0, c.1, CountFrom-push (n + 1) os o c.2 (omega arith) w)
 
@@ -29,7 +30,7 @@ push_cases [] x (suc i) p h = absurd (cc)
 push_cases (y ∷ ys) x zero p h = inr h
 push_cases (y ∷ ys) x (suc i) p h = push_cases ys x i p h
 
-pub sound_push : (limit : ℕ) (inside : Option ArenaId) (os : List MonoArena) (o : MonoArena) → IsSoundMono limit inside os → inside ≡ None → o.id.slot ≡ length os → o.id.owner ≡ 0 → FitsIn limit o
+pub sound_push : (limit : ℕ) (inside : Option ArenaId) (os : List MonoArena) (o : MonoArena) → IsSoundMono limit inside os → inside ≡ None → o.id.slot ≡ length os → owner_of o.id ≡ only_caller → FitsIn limit o
     → length os < most_arenas → IsSoundMono limit inside (os ++ o ∷ [])
 sound_push limit inside os o s out slot owner fit few = record {
   small = s.small;
@@ -51,14 +52,10 @@ pub length-shown_all : (limit : ℕ) (i : Option ArenaId) (os : List MonoArena) 
 length-shown_all limit i [] = refl
 length-shown_all limit i (o ∷ os) = ap suc (length-shown_all limit i os)
 
--- the arenas that are seen
-abbrev pub seen_of : ℕ → Option ArenaId → List MonoArena → Arenas
-seen_of limit inside os = record { limit = limit; state = shown_all limit inside os; inside = inside }
-
 -- an arena that was pushed is one that was opened
 pub opens : (limit : ℕ) (inside : Option ArenaId) (os os' : List MonoArena) (o : MonoArena) → IsSoundMono limit inside os → inside ≡ None → os' ≡ os ++ o ∷ []
-    → o.is_alive ≡ true → o.given ≡ 0 → o.words.items ≡ [] → o.id.slot ≡ length os → o.id.owner ≡ 0
-    → Makes (view_of (seen_of limit inside os)) (view_of (seen_of limit inside os')) (entry_of 0 (Open o.id) Fine ∷ [])
+    → o.is_alive ≡ true → o.given ≡ 0 → o.words.items ≡ [] → o.id.slot ≡ length os → owner_of o.id ≡ only_caller
+    → Makes (view_of (seen_of limit inside os)) (view_of (seen_of limit inside os')) (entry_of only_caller (Open o.id) Fine ∷ [])
 opens limit inside os os' o s out e alive given words slot owner =
     let fresh = has_none limit inside 0 os o.id s.names (omega arith) in
     let state : shown_all limit inside os' ≡ shown_all limit inside os ++ opened limit o.id ∷ [] =

@@ -1,14 +1,18 @@
 -- The arenas that contracts see, looked up and changed.
 use Rattle.std.proofs.Common.{◌≡◌, ℕ, zero, suc, ◌+◌, ◌<◌, Bool, true, false, if◌then◌else◌, List, [], ◌∷◌, set, refl, ap, ◌∙◌, arith, Option, Some, None, slice_get}
 use Rattle.fm_base.specs.declared.arena_id.ArenaId.{ArenaId}
-use Rattle.fm_base.specs.Arenas.{State, Arena, arena_of, has_arena, changed, same_id}
+use Rattle.fm_base.specs.Arenas.{owner_of, only_caller, State, Arena, arena_of, has_arena, changed, same_id}
 use Rattle.fm_base.specs.Machine.{entered, left}
 use Rattle.fm_mono.specs.declared.arena.MonoArena.{MonoArena}
-use Rattle.fm_mono.specs.Shown.{shown, shown_all, CountFrom}
+use Rattle.fm_mono.specs.Shown.{Arenas, shown, shown_all, CountFrom}
 use Rattle.fm_base.proofs.Names.{same_id-self, same_id-slot, same_id-true}
 
+-- the arenas that are seen
+abbrev pub seen_of : ℕ → Option ArenaId → List MonoArena → Arenas
+seen_of limit inside os = record { limit = limit; state = shown_all limit inside os; inside = inside }
+
 -- the name of the arena at a place
-pub slot_at : (n k : ℕ) (os : List MonoArena) (o : MonoArena) → CountFrom n os → slice_get os k ≡ Some o → (o.id.slot ≡ n + k) × (o.id.owner ≡ 0)
+pub slot_at : (n k : ℕ) (os : List MonoArena) (o : MonoArena) → CountFrom n os → slice_get os k ≡ Some o → (o.id.slot ≡ n + k) × (owner_of o.id ≡ only_caller)
 slot_at n k [] o c h = absurd (cc)
 slot_at n zero (p ∷ os) o c h = let e : p ≡ o = cc in rw (← e) (omega (arith, c.0), c.1)
 slot_at n (suc k) (p ∷ os) o c h = let r = slot_at (n + 1) k os o c.2 h in (omega (arith, r.0), r.1)
@@ -78,7 +82,7 @@ behind limit n (p ∷ os) a c h =
     rw (e, behind limit (n + 1) os a c.2 (omega arith)) refl
 
 pub enter_shown : (limit : ℕ) (n k : ℕ) (os : List MonoArena) (o : MonoArena) → CountFrom n os → slice_get os k ≡ Some o → o.is_alive ≡ true
-    → shown_all limit (Some o.id) os ≡ changed (shown_all limit None os) o.id (entered 0)
+    → shown_all limit (Some o.id) os ≡ changed (shown_all limit None os) o.id (entered only_caller)
 enter_shown limit n k [] o c h l = absurd (cc)
 enter_shown limit n zero (p ∷ os) o c h l =
     let s : p ≡ o = cc in
@@ -87,7 +91,7 @@ enter_shown limit n (suc k) (p ∷ os) o c h l =
     rw (other_slot n k p os o c h) (ap (λ (s : State). shown limit None p ∷ s) (enter_shown limit (n + 1) k os o c.2 h l))
 
 pub leave_shown : (limit : ℕ) (n k : ℕ) (os : List MonoArena) (o : MonoArena) → CountFrom n os → slice_get os k ≡ Some o
-    → shown_all limit None os ≡ changed (shown_all limit (Some o.id) os) o.id (left 0)
+    → shown_all limit None os ≡ changed (shown_all limit (Some o.id) os) o.id (left only_caller)
 leave_shown limit n k [] o c h = absurd (cc)
 leave_shown limit n zero (p ∷ os) o c h =
     let s : p ≡ o = cc in

@@ -1,15 +1,18 @@
 -- What the fields say of the arena that a call names.
 use Rattle.std.proofs.Common.{◌≡◌, ℕ, zero, suc, ◌*◌, ◌<◌, Bool, true, false, if◌then◌else◌, List, [], ◌∷◌, length, set, get_or, refl, ap, sym, ◌∙◌, subst, arith, Option, Some, None, ◌⊎◌, inl, inr, slice_get, slice_index, length-append}
+use Rattle.std.specs.Prelude.{IsSome}
 use Rattle.std.proofs.lemmas.List.{get_or_append_left, set-append_left, length-set}
 use Rattle.std.proofs.lemmas.Option.{get_or_from_slice_get, slice_get_within}
 use Rattle.fm_base.specs.declared.arena_id.ArenaId.{ArenaId}
-use Rattle.fm_base.specs.Arenas.{Arena, Alive, Ended, arena_of, has_arena, changed, IsUnderWay}
+use Rattle.fm_base.specs.Arenas.{owner_of, only_caller, State, Arena, Alive, Ended, arena_of, has_arena, changed, IsUnderWay}
 use Rattle.fm_base.specs.Machine.{entered, left, written, words_within, MayReach}
 use Rattle.fm_mono.specs.declared.arena.MonoArena.{MonoArena}
-use Rattle.fm_mono.specs.Shown.{shown, shown_all, CountFrom, IsSoundMono, IsThere, FitsIn, filled}
+use Rattle.fm_mono.specs.Shown.{view_of, shown, shown_all, CountFrom, IsSoundMono, IsKept, IsThere, FitsIn, filled, GoesOut}
+use Rattle.fm_base.specs.Does.{CanReach}
 use Rattle.fm_base.proofs.Names.{same_id-self}
-use Rattle.fm_mono.proofs.Showing.{slot_at, lookup_shown, place_of, change_shown, CountFrom-set, enter_shown, leave_shown, nobody}
+use Rattle.fm_mono.proofs.Showing.{seen_of, slot_at, lookup_shown, place_of, change_shown, CountFrom-set, enter_shown, leave_shown, nobody}
 
+-- a word of the arena that was entered
 pub record AtWord (limit : ℕ) (inside : Option ArenaId) (os : List MonoArena) (a : ArenaId) (word : ℕ) (o : MonoArena) : Type 0 where
   pub id : o.id ≡ a
   pub alive : o.is_alive ≡ true
@@ -40,11 +43,24 @@ pub word_shown : (limit : ℕ) (inside : Option ArenaId) (os : List MonoArena) (
 word_shown limit inside os a word o w =
     rw (w.looked, words_shown limit inside o w.alive) (sym (get_or_append_left o.words.items _ 0 word w.within))
 
-pub reach_shown : (limit : ℕ) (os : List MonoArena) (a : ArenaId) (word : ℕ) (o : MonoArena) → AtWord limit (Some a) os a word o
-    → MayReach (shown_all limit (Some a) os) 0 a word
-reach_shown limit os a word o w = record {
-  under_way = rw (w.looked, w.id, same_id-self a) (0, omega arith, refl);
-  within = rw (w.looked, words_shown limit (Some a) o w.alive) (rw length-append (let x = w.within in omega arith));
+-- the arena that was entered, as an act reads it
+pub record IsActed (limit : ℕ) (inside : Option ArenaId) (current : ℕ) (os : List MonoArena) (word : ℕ) (o : MonoArena) : Type 0 where
+  pub id : ArenaId
+  pub inside_is : inside ≡ Some id
+  pub is_current : current ≡ id.slot
+  pub at : AtWord limit inside os id word o
+
+pub is_acted : (limit : ℕ) (inside : Option ArenaId) (current : ℕ) (os : List MonoArena) (word : ℕ) (o : MonoArena) → IsKept limit inside current os
+    → CanReach (view_of (seen_of limit inside os)) word → o ≡ get_or os current o → IsActed limit inside current os word o
+is_acted limit inside current os word o k r e =
+    let place : current ≡ r.id.slot = rw r.inside at k.place in
+    record { id = r.id; inside_is = r.inside; is_current = place; at = at_word limit inside os r.id word o k.arenas r.inside r.given (e ∙ ap (λ n. get_or os n o) place) }
+
+pub reach_shown : (limit : ℕ) (inside : Option ArenaId) (os : List MonoArena) (a : ArenaId) (word : ℕ) (o : MonoArena) → inside ≡ Some a → AtWord limit inside os a word o
+    → MayReach (shown_all limit inside os) only_caller a word
+reach_shown limit inside os a word o i w = record {
+  under_way = rw (w.looked, w.id, i, same_id-self a) (0, omega arith, refl);
+  within = rw (w.looked, words_shown limit inside o w.alive) (rw length-append (let x = w.within in omega arith));
 }
 
 -- a write of the word
@@ -95,13 +111,24 @@ sound_set limit inside os k o o' s h id alive fit = record {
   there = there_set inside os k o o' h id alive s.there;
 }
 
+-- a word is put in the arena that was entered
+pub put_kept : (limit : ℕ) (inside : Option ArenaId) (current : ℕ) (os : List MonoArena) (word v : ℕ) (o o' : MonoArena) → IsKept limit inside current os → (h : IsActed limit inside current os word o)
+    → o'.id ≡ o.id → o'.is_alive ≡ o.is_alive → o'.given ≡ o.given → o'.words.items ≡ set o.words.items word v
+    → (shown_all limit inside (set os current o') ≡ changed (shown_all limit inside os) h.id (written word v)) × IsKept limit inside current (set os current o')
+put_kept limit inside current os word v o o' k h id alive given words =
+    let f = k.arenas.fit h.id.slot o h.at.place in
+    let same : length o'.words.items ≡ length o.words.items = ap length words ∙ length-set o.words.items word v in
+    let fit : FitsIn limit o' = record { given = rw given f.given; words = λ l. same ∙ f.words h.at.alive ∙ ap words_within (sym given); freed = λ l. absurd (cc (l, alive, h.at.alive)) } in
+    let kept : IsSoundMono limit inside (set os h.id.slot o') = sound_set limit inside os h.id.slot o o' k.arenas h.at.place id alive fit in
+    rw h.is_current (put_shown limit inside os h.id word v o o' k.arenas h.at id alive given words, record { arenas = kept; place = rw (← h.is_current) k.place })
+
 -- the place of an arena that is known
 pub record IsPlaced (limit : ℕ) (inside : Option ArenaId) (os : List MonoArena) (a : ArenaId) : Type 0 where
   pub arena : MonoArena
   pub in_range : a.slot < length os
   pub place : slice_get os a.slot ≡ Some arena
   pub id : arena.id ≡ a
-  pub owner : a.owner ≡ 0
+  pub owner : owner_of a ≡ only_caller
   pub looked : arena_of (shown_all limit inside os) a ≡ shown limit inside arena
 
 pub placed : (limit : ℕ) (inside : Option ArenaId) (os : List MonoArena) (a : ArenaId) → CountFrom 0 os → has_arena (shown_all limit inside os) a ≡ true → IsPlaced limit inside os a
@@ -114,7 +141,7 @@ placed limit inside os a c h =
       in_range = slice_get_within os a.slot p.1 at;
       place = at;
       id = p.4;
-      owner = sym (ap (λ (x : ArenaId). x.owner) p.4) ∙ (slot_at 0 p.0 os p.1 c p.3).1;
+      owner = sym (ap (λ (x : ArenaId). owner_of x) p.4) ∙ (slot_at 0 p.0 os p.1 c p.3).1;
       looked = ap (λ x. arena_of (shown_all limit inside os) x) (sym p.4) ∙ lookup_shown limit inside 0 p.0 os p.1 c p.3;
     }
 
@@ -127,27 +154,31 @@ life_true false e = absurd (cc)
 
 pub enters_shown : (limit : ℕ) (inside : Option ArenaId) (os : List MonoArena) (a : ArenaId) → CountFrom 0 os → inside ≡ None → has_arena (shown_all limit inside os) a ≡ true
     → (arena_of (shown_all limit inside os) a).life ≡ Alive
-    → (shown_all limit (Some a) os ≡ changed (shown_all limit inside os) a (entered 0)) × IsThere (Some a) os
+    → (shown_all limit (Some a) os ≡ changed (shown_all limit inside os) a (entered only_caller)) × IsThere (Some a) os
 enters_shown limit inside os a c out h l =
     let p = placed limit inside os a c h in
     let alive : p.arena.is_alive ≡ true = life_true p.arena.is_alive (sym (ap (λ (x : Arena). x.life) p.looked) ∙ l) in (
-      rw out (subst (λ (x : ArenaId). shown_all limit (Some x) os ≡ changed (shown_all limit None os) x (entered 0)) p.id (enter_shown limit 0 a.slot os p.arena c p.place alive)),
+      rw out (subst (λ (x : ArenaId). shown_all limit (Some x) os ≡ changed (shown_all limit None os) x (entered only_caller)) p.id (enter_shown limit 0 a.slot os p.arena c p.place alive)),
       (p.arena, p.place, p.id, alive),
     )
 
-pub leaves_shown : (limit : ℕ) (inside : Option ArenaId) (os : List MonoArena) (a : ArenaId) → CountFrom 0 os → IsThere inside os → inside ≡ Some a
-    → shown_all limit None os ≡ changed (shown_all limit inside os) a (left 0)
-leaves_shown limit inside os a c t i =
-    let u : IsThere (Some a) os = rw i at t in
-    rw i (subst (λ (x : ArenaId). shown_all limit None os ≡ changed (shown_all limit (Some x) os) x (left 0)) u.2 (leave_shown limit 0 a.slot os u.0 c u.1))
+-- the arena that was entered is left
+pub goes_out : (limit : ℕ) (inside : Option ArenaId) (os : List MonoArena) → IsSoundMono limit inside os → IsSome inside → GoesOut (seen_of limit inside os) (seen_of limit None os)
+goes_out limit None os s is = absurd (cc)
+goes_out limit (Some a) os s is =
+    let u = s.there in
+    let looked : arena_of (shown_all limit (Some a) os) a ≡ shown limit (Some a) u.0 = ap (λ x. arena_of (shown_all limit (Some a) os) x) (sym u.2) ∙ lookup_shown limit (Some a) 0 a.slot os u.0 s.names u.1 in
+    let left_is : shown_all limit None os ≡ changed (shown_all limit (Some a) os) a (left only_caller) =
+    subst (λ (x : ArenaId). shown_all limit None os ≡ changed (shown_all limit (Some x) os) x (left only_caller)) u.2 (leave_shown limit 0 a.slot os u.0 s.names u.1) in
+    record {
+      id = a;
+      inside = refl;
+      under_way = rw (looked, u.2, same_id-self a) (0, omega arith, refl);
+      after = ap (λ (t : State). record { limit = limit; state = t; inside = None }) left_is;
+      small = s.small;
+    }
 
-pub under_way_shown : (limit : ℕ) (inside : Option ArenaId) (os : List MonoArena) (a : ArenaId) → CountFrom 0 os → IsThere inside os → inside ≡ Some a → IsUnderWay (shown_all limit inside os) 0 a
-under_way_shown limit inside os a c t i =
-    let u : IsThere (Some a) os = rw i at t in
-    let looked : arena_of (shown_all limit (Some a) os) a ≡ shown limit (Some a) u.0 = ap (λ x. arena_of (shown_all limit (Some a) os) x) (sym u.2) ∙ lookup_shown limit (Some a) 0 a.slot os u.0 c u.1 in
-    rw (i, looked, u.2, same_id-self a) (0, omega arith, refl)
-
-pub nobody_shown : (limit : ℕ) (inside : Option ArenaId) (os : List MonoArena) → inside ≡ None → (other : ArenaId) → ¬ (IsUnderWay (shown_all limit inside os) 0 other)
+pub nobody_shown : (limit : ℕ) (inside : Option ArenaId) (os : List MonoArena) → inside ≡ None → (other : ArenaId) → ¬ (IsUnderWay (shown_all limit inside os) only_caller other)
 nobody_shown limit inside os out other u =
     let e : (arena_of (shown_all limit inside os) other).under_way ≡ [] = rw out (nobody limit os other) in
     let n : length (arena_of (shown_all limit inside os) other).under_way ≡ 0 = rw e refl in

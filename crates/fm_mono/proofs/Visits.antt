@@ -1,11 +1,12 @@
 -- Whole calls of the only caller.
-use Rattle.std.proofs.Common.{◌≡◌, ℕ, ◌+◌, true, List, [], ◌∷◌, refl, sym, ap, ◌∙◌, arith, Some, None, Result, Ok, Err, inl, inr, ◌==◌, not}
+use Rattle.std.proofs.Common.{◌≡◌, ℕ, ◌+◌, true, List, [], ◌∷◌, refl, sym, ap, ◌∙◌, arith, Some, None, Result, Ok, Err, inl, inr, not}
 use Rattle.std.specs.Prelude.{filter, IfOk}
+use Rattle.fm_base.specs.declared.caller.Caller.{Caller}
 use Rattle.fm_base.specs.declared.arena_id.ArenaId.{ArenaId}
 use Rattle.fm_base.specs.declared.refusal.Refusal.{Refusal}
 use Rattle.fm_base.specs.declared.refusal.Refusal.TheVariants as refusal
 use Rattle.fm_base.specs.declared.kind.Kind.TheVariants.{Global}
-use Rattle.fm_base.specs.Arenas.{State, Arena, Alive, Closing, Ended, MayUse, arena_of, has_arena, changed, IsUnderWay}
+use Rattle.fm_base.specs.Arenas.{are_one, only_caller, State, Arena, Alive, Closing, Ended, MayUse, arena_of, has_arena, changed, IsUnderWay}
 use Rattle.fm_base.specs.Calls.{Enter, Allocate, Leave, Shut, End, Closed, Fine, Given, NoRoom, entry_of}
 use Rattle.fm_base.specs.Machine.{IsPower, IsUnderWayNowhere, reply_to, allocate_reply, entered, left, given_up_to, closing, ended, enter_reply}
 use Rattle.fm_base.specs.Visits.{visit, refused_visit}
@@ -22,85 +23,85 @@ use Rattle.fm_mono.proofs.Alone.{makes_one}
 pub record CanEnter (m : Arenas) (a : ArenaId) : Type 0 where
   pub outside : m.inside ≡ None
   pub known : has_arena m.state a ≡ true
-  pub may : MayUse a 0
-  pub nowhere : IsUnderWayNowhere m.state 0
+  pub may : MayUse a only_caller
+  pub nowhere : IsUnderWayNowhere m.state only_caller
   pub empty : (arena_of m.state a).under_way ≡ []
 
 -- a refused Enter
-pub enter_closed : (m : Arenas) (a : ArenaId) → CanEnter m a → (arena_of m.state a).life ≡ Ended → Makes (view_of m) (view_of m) (refused_visit 0 a)
+pub enter_closed : (m : Arenas) (a : ArenaId) → CanEnter m a → (arena_of m.state a).life ≡ Ended → Makes (view_of m) (view_of m) (refused_visit only_caller a)
 enter_closed m a c over = makes_one m m (Enter a) Closed (c.known, c.may, c.nowhere) (sym (ap enter_reply over)) refl refl refl
 
 -- ---- allocate
 
-gone : (callers : List ℕ) → callers ≡ [] → filter (λ x. not (x == 0)) callers ≡ callers
+gone : (callers : List Caller) → callers ≡ [] → filter (λ x. not (are_one x only_caller)) callers ≡ callers
 gone callers u = rw u refl
 
 -- coming in and going out leaves what is done in between
-around_given : (k : ℕ) (a : Arena) → a.under_way ≡ [] → left 0 (given_up_to k (entered 0 a)) ≡ given_up_to k a
-around_given k a u = ap (λ (w : List ℕ). record a { given = k; under_way = w }) (gone a.under_way u)
+around_given : (k : ℕ) (a : Arena) → a.under_way ≡ [] → left only_caller (given_up_to k (entered only_caller a)) ≡ given_up_to k a
+around_given k a u = ap (λ (w : List Caller). record a { given = k; under_way = w }) (gone a.under_way u)
 
-around_none : (a : Arena) → a.under_way ≡ [] → left 0 (entered 0 a) ≡ a
-around_none a u = ap (λ (w : List ℕ). record a { under_way = w }) (gone a.under_way u)
+around_none : (a : Arena) → a.under_way ≡ [] → left only_caller (entered only_caller a) ≡ a
+around_none a u = ap (λ (w : List Caller). record a { under_way = w }) (gone a.under_way u)
 
-entered_named : KeepsName (entered 0)
+entered_named : KeepsName (entered only_caller)
 entered_named a = refl
 
 module _ (m : Arenas) (a : ArenaId) (c : CanEnter m a) (alive : (arena_of m.state a).life ≡ Alive) where
   abbrev s1 : State
-  s1 = changed m.state a (entered 0)
+  s1 = changed m.state a (entered only_caller)
 
   abbrev m1 : Arenas
   m1 = record { limit = m.limit; state = s1; inside = Some a }
 
-  came_in : Makes (view_of m) (view_of m1) (entry_of 0 (Enter a) Fine ∷ [])
+  came_in : Makes (view_of m) (view_of m1) (entry_of only_caller (Enter a) Fine ∷ [])
   came_in = makes_one m m1 (Enter a) Fine (c.known, c.may, c.nowhere) (sym (ap enter_reply alive)) refl refl refl
 
-  looked_in : arena_of s1 a ≡ entered 0 (arena_of m.state a)
-  looked_in = lookup_changed m.state a (entered 0) entered_named c.known
+  looked_in : arena_of s1 a ≡ entered only_caller (arena_of m.state a)
+  looked_in = lookup_changed m.state a (entered only_caller) entered_named c.known
 
-  way_in : IsUnderWay s1 0 a
+  way_in : IsUnderWay s1 only_caller a
   way_in = rw looked_in (0, omega arith, refl)
 
   -- a visit whose Allocate gave a place
   pub visit_given : (n : Arenas) (size align place : ℕ) → IsPower align → Given place ≡ reply_to m.limit m.state (Allocate a size align)
-      → n ≡ record m { state = changed m.state a (given_up_to (place + size)) } → Makes (view_of m) (view_of n) (visit 0 a ((Allocate a size align, Given place) ∷ []))
+      → n ≡ record m { state = changed m.state a (given_up_to (place + size)) } → Makes (view_of m) (view_of n) (visit only_caller a ((Allocate a size align, Given place) ∷ []))
   visit_given n size align place power is e =
       let f = given_up_to (place + size) in
       let named : KeepsName f = λ x. refl in
       let s2 = changed s1 a f in
       let m2 : Arenas = record { limit = m.limit; state = s2; inside = Some a } in
-      let has1 : has_arena s1 a ≡ true = changed_has (entered 0) entered_named m.state a a ∙ c.known in
+      let has1 : has_arena s1 a ≡ true = changed_has (entered only_caller) entered_named m.state a a ∙ c.known in
       let look2 : arena_of s2 a ≡ f (arena_of s1 a) = lookup_changed s1 a f named has1 in
-      let way2 : IsUnderWay s2 0 a = rw (look2, looked_in) (0, omega arith, refl) in
+      let way2 : IsUnderWay s2 only_caller a = rw (look2, looked_in) (0, omega arith, refl) in
       let same : Given place ≡ allocate_reply m.limit (arena_of s1 a).given size align = is ∙ ap (λ (x : Arena). allocate_reply m.limit x.given size align) (sym looked_in) in
       let e2 = makes_one m1 m2 (Allocate a size align) (Given place) (way_in, power) same refl refl refl in
-      let joined : changed m.state a f ≡ changed s2 a (left 0) =
-      sym (changed_alike m.state a (λ x. left 0 (f (entered 0 x))) f (around_given (place + size) (arena_of m.state a) c.empty))
-      ∙ (sym (changed_twice m.state a (entered 0) (λ x. left 0 (f x)) entered_named) ∙ sym (changed_twice s1 a f (left 0) named)) in
+      let joined : changed m.state a f ≡ changed s2 a (left only_caller) =
+      sym (changed_alike m.state a (λ x. left only_caller (f (entered only_caller x))) f (around_given (place + size) (arena_of m.state a) c.empty))
+      ∙ (sym (changed_twice m.state a (entered only_caller) (λ x. left only_caller (f x)) entered_named) ∙ sym (changed_twice s1 a f (left only_caller) named)) in
       let e3 = makes_one m2 n (Leave a) Fine way2 refl (ap (λ (x : Arenas). x.state) e ∙ joined) (ap (λ (x : Arenas). x.inside) e ∙ c.outside) (ap (λ (x : Arenas). x.limit) e) in
       Makes-then (view_of m) (view_of m2) (view_of n) _ _ (Makes-then (view_of m) (view_of m1) (view_of m2) _ _ came_in e2) e3
 
   -- a visit whose Allocate found no room
   pub visit_full : (size align given : ℕ) → IsPower align → NoRoom given ≡ reply_to m.limit m.state (Allocate a size align)
-      → Makes (view_of m) (view_of m) (visit 0 a ((Allocate a size align, NoRoom given) ∷ []))
+      → Makes (view_of m) (view_of m) (visit only_caller a ((Allocate a size align, NoRoom given) ∷ []))
   visit_full size align given power is =
       let same : NoRoom given ≡ allocate_reply m.limit (arena_of s1 a).given size align = is ∙ ap (λ (x : Arena). allocate_reply m.limit x.given size align) (sym looked_in) in
       let e2 = makes_one m1 m1 (Allocate a size align) (NoRoom given) (way_in, power) same refl refl refl in
-      let joined : m.state ≡ changed s1 a (left 0) =
-      sym (changed_same m.state a (λ x. left 0 (entered 0 x)) (around_none (arena_of m.state a) c.empty)) ∙ sym (changed_twice m.state a (entered 0) (left 0) entered_named) in
+      let joined : m.state ≡ changed s1 a (left only_caller) =
+      sym (changed_same m.state a (λ x. left only_caller (entered only_caller x)) (around_none (arena_of m.state a) c.empty)) ∙ sym (changed_twice m.state a (entered only_caller) (left only_caller) entered_named) in
       let e3 = makes_one m1 m (Leave a) Fine way_in refl joined c.outside refl in
       Makes-then (view_of m) (view_of m1) (view_of m) _ _ (Makes-then (view_of m) (view_of m1) (view_of m1) _ _ came_in e2) e3
 
   -- what `allocate` does, from what Allocate does
   pub allocates : (n : Arenas) (size align : ℕ) (r : Result ℕ Refusal) → IsPower align → Allots m a size align r n
-      → Did (view_of m) (view_of n) (λ own. DoesAllocate 0 a size align r (but_loans own))
+      → Did (view_of m) (view_of n) (λ own. DoesAllocate only_caller a size align r (but_loans own))
   allocates n size align (Ok place) power h = record {
-    own = visit 0 a ((Allocate a size align, Given place) ∷ []);
+    own = visit only_caller a ((Allocate a size align, Given place) ∷ []);
     does = (power, c.may, refl);
     makes = visit_given n size align place power h.0 h.1;
   }
   allocates n size align (Err (refusal.NoRoom g)) power h = record {
-    own = visit 0 a ((Allocate a size align, NoRoom g) ∷ []);
+    own = visit only_caller a ((Allocate a size align, NoRoom g) ∷ []);
     does = (power, c.may, refl);
     makes = rw h.1 (visit_full size align g power h.0);
   }
@@ -110,14 +111,14 @@ module _ (m : Arenas) (a : ArenaId) (c : CanEnter m a) (alive : (arena_of m.stat
 -- bytes that an `allocate` gave
 pub allocates_gives : (m n : Arenas) (a : ArenaId) (c : CanEnter m a) (alive : (arena_of m.state a).life ≡ Alive) (size align : ℕ) (r : Result ℕ Refusal) → IsPower align → Allots m a size align r n
     → IfOk r (λ place. Gives (view_of m) (view_of n) a size align place)
-allocates_gives m n a c alive size align (Ok place) power h = allocated_gives (view_of m) (view_of n) _ 0 a size align place (visit_given m a c alive n size align place power h.0 h.1) (inr (inl refl))
+allocates_gives m n a c alive size align (Ok place) power h = allocated_gives (view_of m) (view_of n) _ only_caller a size align place (visit_given m a c alive n size align place power h.0 h.1) (inr (inl refl))
 allocates_gives m n a c alive size align (Err r) power h = tt
 
 -- ---- close
 
 -- Shut and End of an arena that is alive, where nobody is and nothing holds it
 pub closes : (m n : Arenas) (a : ArenaId) → CanEnter m a → ¬ (a.kind ≡ Global) → (arena_of m.state a).life ≡ Alive → (arena_of m.state a).holds ≡ 0
-    → n ≡ record m { state = changed m.state a ended } → Makes (view_of m) (view_of n) (entry_of 0 (Shut a) Fine ∷ entry_of 0 (End a) Fine ∷ [])
+    → n ≡ record m { state = changed m.state a ended } → Makes (view_of m) (view_of n) (entry_of only_caller (Shut a) Fine ∷ entry_of only_caller (End a) Fine ∷ [])
 closes m n a c kind alive holds e =
     let s1 = changed m.state a closing in
     let m1 : Arenas = record { limit = m.limit; state = s1; inside = m.inside } in
@@ -130,5 +131,5 @@ closes m n a c kind alive holds e =
     Makes-then (view_of m) (view_of m1) (view_of n) _ _ e1 e2
 
 -- a Shut of an arena that has ended
-pub shut_closed : (m : Arenas) (a : ArenaId) → CanEnter m a → ¬ (a.kind ≡ Global) → (arena_of m.state a).life ≡ Ended → Makes (view_of m) (view_of m) (entry_of 0 (Shut a) Closed ∷ [])
+pub shut_closed : (m : Arenas) (a : ArenaId) → CanEnter m a → ¬ (a.kind ≡ Global) → (arena_of m.state a).life ≡ Ended → Makes (view_of m) (view_of m) (entry_of only_caller (Shut a) Closed ∷ [])
 shut_closed m a c kind over = makes_one m m (Shut a) Closed (c.known, c.may, kind) (rw over refl) refl refl refl

@@ -1,11 +1,11 @@
 -- What contracts see of a `Mono`, and the machine's arena that each of its arenas is.
-use Rattle.std.specs.Prelude.{◌≡◌, ℕ, ◌+◌, ◌-◌, ◌*◌, ◌^◌, ◌<◌, ◌≤◌, Bool, true, false, if◌then◌else◌, List, [], ◌∷◌, ◌++◌, Option, Some, None, length, replicate, slice_get, Result, Ok, Err}
+use Rattle.std.specs.Prelude.{◌≡◌, ℕ, ◌+◌, ◌-◌, ◌^◌, ◌≤◌, Bool, true, false, if◌then◌else◌, List, [], ◌∷◌, ◌++◌, Option, Some, None, length, replicate, slice_get, Result, Ok, Err, vec_capacity}
 use Rattle.fm_base.specs.declared.arena_id.ArenaId.{ArenaId}
 use Rattle.fm_base.specs.declared.refusal.Refusal.{Refusal}
 use Rattle.fm_base.specs.declared.refusal.Refusal.TheVariants as refusal
-use Rattle.fm_base.specs.Arenas.{State, Arena, Alive, Ended, same_id, has_arena, arena_of, changed}
+use Rattle.fm_base.specs.Arenas.{owner_of, only_caller, State, Arena, Alive, Ended, same_id, has_arena, changed, word_in, IsUnderWay}
 use Rattle.fm_base.specs.Calls.{Allocate, Given, NoRoom}
-use Rattle.fm_base.specs.Machine.{words_within, reply_to, given_up_to}
+use Rattle.fm_base.specs.Machine.{words_within, reply_to, given_up_to, written, left, MayReach, MayPut}
 use Rattle.fm_base.specs.View.{View}
 use Rattle.fm_base.specs.Outcomes.{Nature}
 use Rattle.fm_mono.specs.declared.arena.MonoArena.{MonoArena}
@@ -20,7 +20,7 @@ pub record Arenas : Type 0 where
 
 -- alone, as caller 0, and telling nothing
 abbrev pub view_of : Arenas → View
-view_of m = record { limit = m.limit; state = m.state; caller = 0; inside = m.inside; alone = true; told = None }
+view_of m = record { limit = m.limit; state = m.state; caller = only_caller; inside = m.inside; alone = true; told = None }
 
 -- want of memory and NoSlot may come, PoolFull never
 abbrev pub nature_of_mono : Nature
@@ -46,7 +46,7 @@ shown limit inside o = record {
   words = filled (words_within limit) (if o.is_alive then o.words.items else o.past.numbers);
   given = o.given;
   holds = 0;
-  under_way = (if is_inside inside o.id then 0 ∷ [] else []);
+  under_way = (if is_inside inside o.id then only_caller ∷ [] else []);
 }
 
 abbrev pub shown_all : ℕ → Option ArenaId → List MonoArena → State
@@ -58,12 +58,14 @@ shown_all limit inside (o ∷ os) = shown limit inside o ∷ shown_all limit ins
 -- the slots count the places
 abbrev pub CountFrom : ℕ → List MonoArena → Type 0
 CountFrom n [] = Unit {0}
-CountFrom n (o ∷ os) = (o.id.slot ≡ n) × (o.id.owner ≡ 0) × CountFrom (n + 1) os
+CountFrom n (o ∷ os) = (o.id.slot ≡ n) × (owner_of o.id ≡ only_caller) × CountFrom (n + 1) os
 
 -- the given bytes are within the limit, and an arena that is alive has just their words
 pub record FitsIn (limit : ℕ) (o : MonoArena) : Type 0 where
   pub given : o.given ≤ limit
   pub words : o.is_alive ≡ true → length o.words.items ≡ words_within o.given
+  -- one that has ended has given its memory back
+  pub freed : o.is_alive ≡ false → vec_capacity o.words ≡ 0
 
 -- the arena that was entered is there, and is alive
 abbrev pub IsThere : Option ArenaId → List MonoArena → Type 0
@@ -77,15 +79,42 @@ pub record IsSoundMono (limit : ℕ) (inside : Option ArenaId) (os : List MonoAr
   pub fit : (i : ℕ) (o : MonoArena) → slice_get os i ≡ Some o → FitsIn limit o
   pub there : IsThere inside os
 
+-- the place of the arena that was entered
+abbrev pub IsPlaceOf : Option ArenaId → ℕ → Type 0
+IsPlaceOf None place = Unit {0}
+IsPlaceOf (Some a) place = place ≡ a.slot
+
+pub record IsKept (limit : ℕ) (inside : Option ArenaId) (current : ℕ) (os : List MonoArena) : Type 0 where
+  pub arenas : IsSoundMono limit inside os
+  pub place : IsPlaceOf inside current
+
 -- ---- what the steps of calls do
 
 abbrev pub IsKnown : Arenas → ArenaId → Type 0
 IsKnown m id = has_arena m.state id ≡ true
 
--- inside this arena, where the word has a given byte
-pub record IsAt (m : Arenas) (a : ArenaId) (word : ℕ) : Type 0 where
-  pub inside : m.inside ≡ Some a
-  pub given : 8 * word < (arena_of m.state a).given
+-- the word of the arena that was entered
+pub record Finds (m : Arenas) (word found : ℕ) : Type 0 where
+  pub id : ArenaId
+  pub inside : m.inside ≡ Some id
+  pub reach : MayReach m.state only_caller id word
+  pub is : found ≡ word_in m.state id word
+  pub small : m.limit ≤ 2 ^ 40
+
+-- a word is put in the arena that was entered
+pub record Puts (old new : Arenas) (word value : ℕ) : Type 0 where
+  pub id : ArenaId
+  pub inside : old.inside ≡ Some id
+  pub reach : MayPut old.state only_caller id word value
+  pub after : new ≡ record old { state = changed old.state id (written word value) }
+  pub small : old.limit ≤ 2 ^ 40
+
+pub record GoesOut (old new : Arenas) : Type 0 where
+  pub id : ArenaId
+  pub inside : old.inside ≡ Some id
+  pub under_way : IsUnderWay old.state only_caller id
+  pub after : new ≡ record old { state = changed old.state id (left only_caller); inside = None }
+  pub small : old.limit ≤ 2 ^ 40
 
 -- Allocate in an arena that is alive, or nothing where memory is wanting
 abbrev pub Allots : Arenas → ArenaId → ℕ → ℕ → Result ℕ Refusal → Arenas → Type 0

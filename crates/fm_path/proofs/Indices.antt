@@ -3,10 +3,10 @@ use Rattle.std.proofs.Common.{◌≡◌, ℕ, ℤ, pos, negsuc, zero, suc, ◌+�
 use Rattle.std.specs.Int.{w64, cast_unsigned}
 use Rattle.std.proofs.Math.Nat.{add-mod-mod, add-mul-mod_self_left, add-mul}
 use Rattle.fm_base.specs.declared.refusal.Refusal.{Refusal}
-use Rattle.fm_places.specs.declared.dim.Dim.{Dim}
-use Rattle.fm_places.specs.Found.{IsFirstOut}
-use Rattle.fm_places.specs.Steady.{IsInside, IsSteady}
-use Rattle.fm_places.specs.Walk.{offset_at, reach, AreAdmitted}
+use Rattle.fm_path_meaning.specs.declared.dim.Dim.{Dim}
+use Rattle.fm_path_meaning.specs.Found.{IsFirstOut}
+use Rattle.fm_path_meaning.specs.Steady.{IsInside, IsSteady}
+use Rattle.fm_path_meaning.specs.Walk.{offset_at, reach, AreAdmitted}
 
 -- the indices before k are admitted
 pub record IsChecked (k : ℕ) (ds : List Dim) (is : List ℕ) : Type 0 where

@@ -4,10 +4,10 @@ use Rattle.std.specs.Prelude.{codes}
 use Rattle.std.proofs.lemmas.List.{append_assoc, append-nil}
 use Rattle.fm_layout.specs.Tree.{Tree, Trees, Value, Padding, Sequence, Struct, Union, NoMore, More}
 use Rattle.fm_layout.specs.Size.{size_of, member_offset}
-use Rattle.fm_steps.specs.declared.step.PathStep.{PathStep}
-use Rattle.fm_steps.specs.declared.step.PathStep.TheVariants.{Name, Group, At, Each, EachFrom}
-use Rattle.fm_steps.specs.Grammar.{path_text, pieces_of, piece_of}
-use Rattle.fm_steps.proofs.Reading.{pieces_snoc}
+use Rattle.fm_path_text.specs.declared.step.PathStep.{PathStep}
+use Rattle.fm_path_text.specs.declared.step.PathStep.TheVariants.{Name, Group, At, Each, EachFrom}
+use Rattle.fm_path_text.specs.Grammar.{path_text, pieces_of, piece_of}
+use Rattle.fm_path_text.proofs.Reading.{pieces_snoc}
 use Rattle.fm_path.specs.Listing.{Line, step_to, lines, member_lines, dim_text, dims_text, value_text, line_text, lines_text}
 use Rattle.fm_path.specs.Listed.{shown, longer_dims, listed, listed_members}
 

@@ -7,13 +7,13 @@ use Rattle.fm_layout.specs.Size.{size_of}
 use Rattle.fm_layout.specs.WellFormed.{IsWellFormed}
 use Rattle.fm_layout.proofs.Powers.{is_power_of_two-IsPowerOfTwo}
 use Rattle.fm_layout.proofs.Sound.{fit_of, positive_alignment}
-use Rattle.fm_steps.specs.declared.step.PathStep.{PathStep}
-use Rattle.fm_places.specs.declared.dim.Dim.{Dim}
-use Rattle.fm_places.specs.Found.{LeadsTo}
-use Rattle.fm_places.proofs.Dims.{leads_dims}
-use Rattle.fm_places.proofs.Walking.{leads_finds, leads_steady, leads_inside, leads_aligned, leads_end}
+use Rattle.fm_path_text.specs.declared.step.PathStep.{PathStep}
+use Rattle.fm_path_meaning.specs.declared.dim.Dim.{Dim}
+use Rattle.fm_path_meaning.specs.Found.{LeadsTo}
+use Rattle.fm_path_meaning.proofs.Dims.{leads_dims}
+use Rattle.fm_path_meaning.proofs.Walking.{leads_finds, leads_steady, leads_inside, leads_aligned, leads_end}
 use Rattle.fm_path.specs.declared.value_spec.ValueSpec.{ValueSpec}
-use Rattle.fm_places.specs.Walk.{offset_at}
+use Rattle.fm_path_meaning.specs.Walk.{offset_at}
 use Rattle.fm_path.specs.Resolution.{resolution, StaysInside, StandsAligned, IsSpecOf, IsResolved}
 
 -- a value layout is as large as its kind is wide

@@ -6,9 +6,9 @@ use Rattle.fm_layout.specs.Size.{member_offset}
 use Rattle.fm_layout.specs.Parts.{tree_at, member_of, element_of}
 use Rattle.fm_layout.specs.WellFormed.{IsWellFormed}
 use Rattle.fm_layout.specs.Depth.{depth, deepest}
-use Rattle.fm_steps.specs.Grammar.{piece_of}
-use Rattle.fm_places.specs.Follow.{members_of, count_in}
-use Rattle.fm_places.proofs.Members.{skip, skip_none, skip_more, skip_past, skip_all, offset_more, offset_fits}
+use Rattle.fm_path_text.specs.Grammar.{piece_of}
+use Rattle.fm_path_meaning.specs.Follow.{members_of, count_in}
+use Rattle.fm_path_meaning.proofs.Members.{skip, skip_none, skip_more, skip_past, skip_all, offset_more, offset_fits}
 use Rattle.fm_path.specs.Listing.{step_to}
 use Rattle.fm_path.specs.Listed.{listed, listed_members, extent_of}
 

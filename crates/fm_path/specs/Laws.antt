@@ -3,7 +3,8 @@ use Rattle.std.specs.Prelude.{◌≡◌, ◌+◌, ◌%◌, ◌≤◌}
 use Rattle.fm_layout.specs.Tree.{Tree, alignment_of}
 use Rattle.fm_layout.specs.Size.{size_of}
 use Rattle.fm_layout.specs.Parts.{IsValue}
-use Rattle.fm_places.specs.Places.{Place, places, IsAmong, Apart}
+use Rattle.fm_lists.specs.Among.{IsAmong}
+use Rattle.fm_path_meaning.specs.Places.{Place, places, Apart}
 
 -- each place ends within the layout
 abbrev pub LieInside : Tree → Type 0

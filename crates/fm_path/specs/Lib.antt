@@ -4,3 +4,4 @@ pub mod Listed
 pub mod Listing
 pub mod Moving
 pub mod Resolution
+pub mod Wide

@@ -4,7 +4,7 @@ use Rattle.std.specs.String.{string_bytes}
 use Rattle.std.specs.Prelude.{◌≡◌, ℕ, ◌+◌, List, [], ◌∷◌, ◌++◌, codes}
 use Rattle.fm_layout.specs.Tree.{Tree, Trees, Value, Padding, Sequence, Struct, Union, NoMore, More}
 use Rattle.fm_layout.specs.Size.{size_of, member_offset}
-use Rattle.fm_steps.specs.Grammar.{piece_of}
+use Rattle.fm_path_text.specs.Grammar.{piece_of}
 use Rattle.fm_path.specs.Listing.{value_text, dim_text, step_to}
 
 -- the text grew by these bytes

@@ -1,27 +1,14 @@
 -- The text that lists the values of a layout.
 use Rattle.std.specs.Prelude.{ℕ, ◌+◌, Bool, false, Option, Some, None, List, [], ◌∷◌, ◌++◌, codes, decimal, nat_eq, if◌then◌else◌}
 use Rattle.fm_lanes.specs.declared.order.Order.{Order}
-use Rattle.fm_lanes.specs.declared.order.Order.TheVariants.{Little, Big}
 use Rattle.fm_lanes.specs.declared.value_kind.ValueKind.{ValueKind}
-use Rattle.fm_lanes.specs.declared.value_kind.ValueKind.TheVariants.{Byte, Boolean, Char, Short, Int, Long}
+use Rattle.fm_lanes.specs.Named.{kind_text, order_text}
 use Rattle.fm_layout.specs.Tree.{Tree, Trees, Value, Padding, Sequence, Struct, Union, NoMore, More, alignment_of, name_of}
 use Rattle.fm_layout.specs.Size.{size_of, member_offset}
-use Rattle.fm_steps.specs.declared.step.PathStep.{PathStep}
-use Rattle.fm_steps.specs.declared.step.PathStep.TheVariants.{Name, Group, Each}
-use Rattle.fm_steps.specs.Grammar.{path_text}
-use Rattle.fm_places.specs.Follow.{members_of, index_in}
-
-abbrev pub kind_text : ValueKind → List ℕ
-kind_text Byte = codes "byte"
-kind_text Boolean = codes "boolean"
-kind_text Char = codes "char"
-kind_text Short = codes "short"
-kind_text Int = codes "int"
-kind_text Long = codes "long"
-
-abbrev pub order_text : Order → List ℕ
-order_text Little = codes "little"
-order_text Big = codes "big"
+use Rattle.fm_path_text.specs.declared.step.PathStep.{PathStep}
+use Rattle.fm_path_text.specs.declared.step.PathStep.TheVariants.{Name, Group, Each}
+use Rattle.fm_path_text.specs.Grammar.{path_text}
+use Rattle.fm_path_meaning.specs.Follow.{members_of, index_in}
 
 abbrev pub newline : List ℕ
 newline = 10 ∷ []

@@ -2,7 +2,7 @@
 use Rattle.std.specs.Prelude.{Result}
 use Rattle.fm_base.specs.declared.refusal.Refusal.{Refusal}
 use Rattle.fm_path.specs.declared.moves.Move.{Move}
-use Rattle.fm_places.specs.Walk as walk
+use Rattle.fm_path_meaning.specs.Walk as walk
 use Rattle.fm_path.specs.Gives.{Gives}
 
 abbrev pub Moves : Result Move Refusal → walk.Moved → Type 0

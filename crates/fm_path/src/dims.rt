@@ -1,8 +1,9 @@
 ghost use Rattle.std.specs.Prelude.{◌≡◌, ◌+◌, ◌++◌, ◌∷◌, [], length, OnOk, OnErr, IfErr, IsTrue, ◌↔◌};
-ghost use Rattle.fm_places.specs.Walk.{with_dim};
+ghost use Rattle.fm_path_meaning.specs.Walk.{with_dim};
+ghost use Rattle.fm_path.specs.Wide.{wide_dims};
 
 use fm_base::Refusal;
-use fm_places::Dim;
+use fm_path_meaning::Dim;
 use std::alloc::Global;
 use std::marker::Model;
 
@@ -10,15 +11,20 @@ use std::marker::Model;
 #[derive(Debug, Drop)]
 pub struct Dims {
     items: Vec<Dim>,
+    /// Those that have other than one index.
+    wide: Vec<Dim>,
 }
 
 impl Model for Dims {
-    ghost use Rattle.std.specs.Prelude.{List};
-    ghost use Rattle.fm_places.specs.declared.dim.Dim.{Dim};
+    ghost use Rattle.std.specs.Prelude.{List, ◌≡◌};
+    ghost use Rattle.fm_path_meaning.specs.declared.dim.Dim.{Dim};
+    ghost use Rattle.fm_path.specs.Wide.{wide_dims};
 
     ghost Value = { List Dim };
 
     ghost view = { λ dims. dims.items.items };
+
+    ghost invariant = { λ dims. dims.wide.items ≡ wide_dims dims.items.items };
 }
 
 impl Dims {
@@ -28,6 +34,7 @@ impl Dims {
     {
         Dims {
             items: Vec::new(alloc),
+            wide: Vec::new(alloc),
         }
     }
 
@@ -37,10 +44,14 @@ impl Dims {
         ensures same { OnErr result (self.new ≡ self.old) }
         ensures memory { IfErr result (λ refusal. refusal ≡ Refusal.Memory) }
     {
-        match self.items.push(dim) {
-            Ok(()) => Ok(()),
-            Err(_) => Err(Refusal::Memory),
+        if self.items.push(dim).is_err() {
+            return Err(Refusal::Memory);
         }
+        if dim.bound != 1 && self.wide.push(dim).is_err() {
+            let _last = self.items.pop();
+            return Err(Refusal::Memory);
+        }
+        Ok(())
     }
 
     /// Adds the dim at the end, if there is one.
@@ -72,5 +83,12 @@ impl Dims {
         ensures { result.now ≡ self.now }
     {
         self.items.as_slice()
+    }
+
+    /// Those that have other than one index: the others lead nowhere, so whoever goes through all values needs these alone.
+    pub fn wide(&self) -> &[Dim]
+        ensures { result.now ≡ wide_dims self.now }
+    {
+        self.wide.as_slice()
     }
 }

@@ -12,8 +12,8 @@ mod tests;
 mod value_spec;
 
 pub use dims::Dims;
-pub use fm_places::Dim;
-pub use fm_steps::{NameText, PathStep, parse_path};
+pub use fm_path_meaning::Dim;
+pub use fm_path_text::{NameText, PathStep, parse_path};
 pub use laws::{places_lie_inside, values_lie_apart};
 pub use listing::list_places;
 pub use resolution::{byte_offset, resolve};

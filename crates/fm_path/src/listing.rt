@@ -1,9 +1,9 @@
 ghost use Rattle.std.specs.Prelude.{◌≡◌, ◌≤◌, ◌<◌, ◌*◌, ◌^◌, ◌++◌, length, codes, decimal, IfOk, IfErr, OnOk, Some};
 ghost use Rattle.std.specs.String.{string_bytes};
 ghost use Rattle.fm_layout.specs.Parts.{form_of};
-ghost use Rattle.fm_places.specs.Follow.{members_of, count_in};
-ghost use Rattle.fm_steps.specs.Grammar.{piece_of};
-ghost use Rattle.fm_path.specs.Listing.{kind_text, order_text, value_text, step_to, list_text};
+ghost use Rattle.fm_path_meaning.specs.Follow.{members_of, count_in};
+ghost use Rattle.fm_path_text.specs.Grammar.{piece_of};
+ghost use Rattle.fm_path.specs.Listing.{value_text, step_to, list_text};
 ghost use Rattle.fm_path.specs.Listed.{Adds, Goes, shown, longer_dims, listed, extent_of};
 
 use crate::moves::index_of;
@@ -118,8 +118,8 @@ fn list_value(
     ensures memory { IfErr result (λ refusal. refusal ≡ Refusal.Memory) }
 {
     let path = if path.is_empty() { "." } else { path };
-    let kind = kind_name(kind);
-    let order = order_name(order);
+    let kind = kind.name();
+    let order = order.name();
     let Ok(line) = format!(in alloc; "{path} {at} {kind} {order}{dims}\n") else {
         return Err(Refusal::Memory);
     };
@@ -203,27 +203,5 @@ fn extent(group: &Layout, member: &Layout) -> u64
     match group.form() {
         Form::Struct(_) => member.size(),
         _ => 0,
-    }
-}
-
-fn kind_name(kind: ValueKind) -> &'static str
-    ensures { result.now ≡ kind_text kind }
-{
-    match kind {
-        ValueKind::Byte => "byte",
-        ValueKind::Boolean => "boolean",
-        ValueKind::Char => "char",
-        ValueKind::Short => "short",
-        ValueKind::Int => "int",
-        ValueKind::Long => "long",
-    }
-}
-
-fn order_name(order: Order) -> &'static str
-    ensures { result.now ≡ order_text order }
-{
-    match order {
-        Order::Little => "little",
-        Order::Big => "big",
     }
 }

@@ -3,17 +3,17 @@ ghost use Rattle.std.specs.Option.{option_copied};
 ghost use Rattle.fm_layout.specs.Size.{size_of};
 ghost use Rattle.fm_layout.specs.WellFormed.{IsWellFormed};
 ghost use Rattle.fm_layout.specs.Tree.{name_of};
-ghost use Rattle.fm_places.specs.Follow.{members_of, row_of, is_name_of, index_in, count_in, IsStruct};
-ghost use Rattle.fm_places.specs.Steady.{IsShort, IsRow};
+ghost use Rattle.fm_path_meaning.specs.Follow.{members_of, row_of, is_name_of, index_in, count_in, IsStruct};
+ghost use Rattle.fm_path_meaning.specs.Steady.{IsShort, IsRow};
 ghost use Rattle.fm_layout.specs.Size.{member_offset};
-ghost use Rattle.fm_places.specs.Walk.{bound_of, stride_of, move, move_closed, move_group, move_name, move_from};
+ghost use Rattle.fm_path_meaning.specs.Walk.{bound_of, stride_of, move, move_closed, move_group, move_name, move_from};
 ghost use Rattle.fm_path.specs.Gives.{Gives, row_or};
 ghost use Rattle.fm_path.specs.Moving.{Moves};
 
 use fm_base::Refusal;
 use fm_layout::{Form, Layout};
-use fm_places::Dim;
-use fm_steps::{NameText, PathStep};
+use fm_path_meaning::Dim;
+use fm_path_text::{NameText, PathStep};
 
 /// Where one step leads: so many bytes on, with a dim where the step is left open.
 #[derive(Clone, Copy)]

@@ -2,8 +2,8 @@ ghost use Rattle.std.specs.Prelude.{◌≡◌, ◌≤◌, ◌+◌, Ok, Err, ℕ,
 ghost use Rattle.fm_layout.specs.Parts.{IsValue};
 ghost use Rattle.fm_layout.specs.Size.{size_of};
 ghost use Rattle.fm_layout.specs.Tree.{Tree};
-ghost use Rattle.fm_places.specs.Found.{FindsClosed, IsRefused, EndsElsewhere};
-ghost use Rattle.fm_places.specs.Follow.{follow_closed};
+ghost use Rattle.fm_path_meaning.specs.Found.{FindsClosed, IsRefused, EndsElsewhere};
+ghost use Rattle.fm_path_meaning.specs.Follow.{follow_closed};
 ghost use Rattle.fm_path.specs.Resolution.{IsResolved, IsRefusal, IsSpecOf};
 
 use crate::dims::Dims;
@@ -12,7 +12,7 @@ use crate::resolved::Resolved;
 use crate::value_spec::ValueSpec;
 use fm_base::Refusal;
 use fm_layout::{Form, Layout};
-use fm_steps::PathStep;
+use fm_path_text::PathStep;
 use std::alloc::Global;
 
 /// Where the path leads in the layout, in one pass (`MemoryLayout.varHandle`, Java SE 22).

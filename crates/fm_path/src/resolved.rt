@@ -1,13 +1,13 @@
 ghost use Rattle.std.specs.Prelude.{◌≡◌, length, IfOk, IfErr, ℕ, ◌^◌, ◌<◌, ◌≤◌};
-ghost use Rattle.fm_places.specs.Found.{IsFirstOut};
-ghost use Rattle.fm_places.specs.Walk.{AreAdmitted, offset_at, reach};
-ghost use Rattle.fm_places.specs.Steady.{IsInside};
+ghost use Rattle.fm_path_meaning.specs.Found.{IsFirstOut};
+ghost use Rattle.fm_path_meaning.specs.Walk.{AreAdmitted, offset_at, reach};
+ghost use Rattle.fm_path_meaning.specs.Steady.{IsInside};
 ghost use Rattle.fm_path.specs.Resolution.{StaysInside};
 
 use crate::dims::Dims;
 use crate::value_spec::ValueSpec;
 use fm_base::Refusal;
-use fm_places::Dim;
+use fm_path_meaning::Dim;
 use std::marker::Model;
 
 /// A path that was resolved against a layout, the root: where its value stands, and what an access by it must hold.

@@ -7,15 +7,15 @@ use Rattle.std.proofs.lemmas.Bool.Decides.{nat_tests}
 use Rattle.std.proofs.lemmas.List.{append_assoc, length-append}
 use Rattle.std.proofs.lemmas.Fmt.{decimal_by_steps}
 use Rattle.fm_layout.specs.Name.{is_digit}
-use Rattle.fm_steps.specs.declared.step.PathStep.{PathStep}
-use Rattle.fm_steps.specs.declared.part.Part.{Part}
-use Rattle.fm_steps.specs.declared.part.Part.TheVariants as part
-use Rattle.fm_steps.specs.declared.part.Move.TheVariants as move
-use Rattle.fm_steps.specs.declared.sign.Sign.TheVariants as sign
-use Rattle.fm_steps.specs.Grammar.{path_text}
-use Rattle.fm_steps.specs.Reader as path
-use Rattle.fm_steps.proofs.Reading.{lt_test}
-use Rattle.fm_steps.proofs.Accepting as path_accepting
+use Rattle.fm_path_text.specs.declared.step.PathStep.{PathStep}
+use Rattle.fm_path_text.specs.declared.part.Part.{Part}
+use Rattle.fm_path_text.specs.declared.part.Part.TheVariants as part
+use Rattle.fm_path_text.specs.declared.part.Move.TheVariants as move
+use Rattle.fm_path_text.specs.declared.sign.Sign.TheVariants as sign
+use Rattle.fm_path_text.specs.Grammar.{path_text}
+use Rattle.fm_path_text.specs.Reader as path
+use Rattle.fm_path_text.proofs.Reading.{lt_test}
+use Rattle.fm_path_text.proofs.Accepting as path_accepting
 use Rattle.fm_query.specs.declared.fold.Fold.{Fold}
 use Rattle.fm_query.specs.declared.fold.Fold.TheVariants.{Sum, Least, Greatest, All}
 use Rattle.fm_query.specs.declared.operator.Operator.{Operator}

@@ -4,8 +4,8 @@ use Rattle.std.specs.Prelude.{codes, decimal, pos, negsuc}
 use Rattle.std.specs.List.{AllByRecursion, join_by}
 use Rattle.std.proofs.lemmas.List.{append_assoc, append-nil, length-append, take-append-drop}
 use Rattle.std.proofs.lemmas.Fmt.{decimal_digit}
-use Rattle.fm_steps.specs.Grammar as path
-use Rattle.fm_steps.proofs.Accepting as path_accepting
+use Rattle.fm_path_text.specs.Grammar as path
+use Rattle.fm_path_text.proofs.Accepting as path_accepting
 use Rattle.fm_query.specs.declared.operator.Operator.TheVariants.{Equal, NotEqual}
 use Rattle.fm_query.specs.declared.syntax.ItemSyntax.{ItemSyntax}
 use Rattle.fm_query.specs.declared.syntax.ItemSyntax.TheVariants.{Count, Of}

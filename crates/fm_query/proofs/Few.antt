@@ -9,13 +9,13 @@ use Rattle.fm_lanes.specs.declared.value_kind.ValueKind.TheVariants.{Byte, Boole
 use Rattle.fm_layout.specs.Parts.{tree_at}
 use Rattle.fm_layout.specs.Size.{size_of, sum_of, greatest_of}
 use Rattle.fm_layout.specs.Tree.{Tree, Trees, Value, Padding, Sequence, Struct, Union, NoMore, More}
-use Rattle.fm_steps.specs.declared.step.PathStep.{PathStep}
-use Rattle.fm_steps.specs.declared.step.PathStep.TheVariants.{Name, Group, At, Each, EachFrom}
-use Rattle.fm_places.proofs.Fitting.{lt_is}
-use Rattle.fm_places.specs.Follow.{index_named, ◌>>=◌}
-use Rattle.fm_places.specs.Found.{LeadsTo}
-use Rattle.fm_places.specs.Walk.{bound_of, dim_from, Move, Moved, move_member, move_found, move, Walk, with_dim, moved, walk_by}
-use Rattle.fm_places.specs.declared.dim.Dim.{Dim}
+use Rattle.fm_path_text.specs.declared.step.PathStep.{PathStep}
+use Rattle.fm_path_text.specs.declared.step.PathStep.TheVariants.{Name, Group, At, Each, EachFrom}
+use Rattle.fm_path_meaning.proofs.Fitting.{lt_is}
+use Rattle.fm_path_meaning.specs.Follow.{index_named, ◌>>=◌}
+use Rattle.fm_path_meaning.specs.Found.{LeadsTo}
+use Rattle.fm_path_meaning.specs.Walk.{bound_of, dim_from, Move, Moved, move_member, move_found, move, Walk, with_dim, moved, walk_by}
+use Rattle.fm_path_meaning.specs.declared.dim.Dim.{Dim}
 use Rattle.fm_path.specs.Resolution.{Resolution, IsResolved, IsSpecOf}
 use Rattle.fm_path.specs.declared.value_spec.ValueSpec.{ValueSpec}
 use Rattle.fm_query.specs.Plan.{value_count}

@@ -7,14 +7,14 @@ use Rattle.std.proofs.lemmas.Bool.Decides.{nat_tests}
 use Rattle.std.proofs.lemmas.List.{append_assoc, append-nil, length-append, take_more, take_all}
 use Rattle.std.proofs.lemmas.Fmt.{decimal_step, decimal_digit}
 use Rattle.fm_layout.specs.Name.{is_digit}
-use Rattle.fm_steps.specs.declared.step.PathStep.{PathStep}
-use Rattle.fm_steps.specs.declared.part.Part.{Part}
-use Rattle.fm_steps.specs.declared.part.Part.TheVariants.{Between}
-use Rattle.fm_steps.specs.Grammar.{path_text, IsPath}
-use Rattle.fm_steps.specs.Reader as path
-use Rattle.fm_steps.proofs.Reading as path_reading
-use Rattle.fm_steps.proofs.Accepting as path_accepting
-use Rattle.fm_steps.proofs.Moves.{minus_text}
+use Rattle.fm_path_text.specs.declared.step.PathStep.{PathStep}
+use Rattle.fm_path_text.specs.declared.part.Part.{Part}
+use Rattle.fm_path_text.specs.declared.part.Part.TheVariants.{Between}
+use Rattle.fm_path_text.specs.Grammar.{path_text, IsPath}
+use Rattle.fm_path_text.specs.Reader as path
+use Rattle.fm_path_text.proofs.Reading as path_reading
+use Rattle.fm_path_text.proofs.Accepting as path_accepting
+use Rattle.fm_path_text.proofs.Moves.{minus_text}
 use Rattle.fm_query.specs.declared.fold.Fold.TheVariants.{Sum, Least, Greatest, All}
 use Rattle.fm_query.specs.declared.operator.Operator.{Operator}
 use Rattle.fm_query.specs.declared.operator.Operator.TheVariants.{Equal, NotEqual, Below, AtMost, Above, AtLeast}

@@ -11,12 +11,12 @@ use Rattle.fm_layout.specs.Size.{size_of}
 use Rattle.fm_layout.specs.Name.{is_letter, is_digit, IsName, IsNameEnd}
 use Rattle.fm_layout.specs.WellFormed.{IsWellFormed}
 use Rattle.fm_layout.proofs.Sound.{fit_of}
-use Rattle.fm_steps.specs.declared.step.PathStep.{PathStep}
-use Rattle.fm_steps.specs.declared.step.PathStep.TheVariants.{Name, Group, At, Each, EachFrom}
-use Rattle.fm_steps.specs.Grammar.{piece_of, pieces_of, path_text}
-use Rattle.fm_steps.proofs.Reading.{pieces_snoc}
-use Rattle.fm_places.specs.declared.dim.Dim.{Dim}
-use Rattle.fm_places.specs.Found.{HasDims, no_step, closed_step, open_step}
+use Rattle.fm_path_text.specs.declared.step.PathStep.{PathStep}
+use Rattle.fm_path_text.specs.declared.step.PathStep.TheVariants.{Name, Group, At, Each, EachFrom}
+use Rattle.fm_path_text.specs.Grammar.{piece_of, pieces_of, path_text}
+use Rattle.fm_path_text.proofs.Reading.{pieces_snoc}
+use Rattle.fm_path_meaning.specs.declared.dim.Dim.{Dim}
+use Rattle.fm_path_meaning.specs.Found.{HasDims, no_step, closed_step, open_step}
 use Rattle.fm_path.specs.Resolution.{Resolution, IsResolved}
 use Rattle.fm_path.proofs.Resolving.{stays_inside}
 use Rattle.fm_query.specs.declared.syntax.ItemSyntax.{ItemSyntax}

@@ -4,10 +4,10 @@ use Rattle.std.specs.Prelude.{codes}
 use Rattle.std.specs.List.{join_by}
 use Rattle.std.proofs.lemmas.Bool.Decides.{nat_tests}
 use Rattle.std.proofs.lemmas.List.{append_assoc, append-nil, length-append, take_more, take_all, take-append-drop}
-use Rattle.fm_steps.specs.declared.step.PathStep.{PathStep}
-use Rattle.fm_steps.specs.declared.part.Part.{Part}
-use Rattle.fm_steps.specs.Reader as path
-use Rattle.fm_steps.proofs.Parsing as path_parsing
+use Rattle.fm_path_text.specs.declared.step.PathStep.{PathStep}
+use Rattle.fm_path_text.specs.declared.part.Part.{Part}
+use Rattle.fm_path_text.specs.Reader as path
+use Rattle.fm_path_text.proofs.Parsing as path_parsing
 use Rattle.fm_query.specs.declared.syntax.ItemSyntax.{ItemSyntax}
 use Rattle.fm_query.specs.declared.syntax.ConditionSyntax.{ConditionSyntax}
 use Rattle.fm_query.specs.declared.stage.Role.TheVariants.{OfItem, OfCondition}

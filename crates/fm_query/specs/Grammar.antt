@@ -4,7 +4,7 @@ use Rattle.std.specs.Fmt.{signed_decimal}
 use Rattle.std.specs.List.{AllByRecursion, join_by}
 use Rattle.fm_base.specs.declared.refusal.Refusal.{Refusal}
 use Rattle.fm_base.specs.declared.refusal.Refusal.TheVariants.{BadQuery, Memory}
-use Rattle.fm_steps.specs.Grammar as path
+use Rattle.fm_path_text.specs.Grammar as path
 use Rattle.fm_query.specs.declared.fold.Fold.{Fold}
 use Rattle.fm_query.specs.declared.fold.Fold.TheVariants.{Sum, Least, Greatest, All}
 use Rattle.fm_query.specs.declared.operator.Operator.{Operator}

@@ -2,7 +2,7 @@
 use Rattle.std.specs.Prelude.{◌≡◌, ℕ, ◌*◌, ◌%◌, ◌^◌, ◌<◌, ◌≤◌, List, [], ◌∷◌, length}
 use Rattle.std.specs.List.{AllByRecursion}
 use Rattle.fm_path.specs.Resolution.{Resolution, StaysInside}
-use Rattle.fm_places.specs.declared.dim.Dim.{Dim}
+use Rattle.fm_path_meaning.specs.declared.dim.Dim.{Dim}
 use Rattle.fm_query.specs.Grammar.{most_parts}
 use Rattle.fm_query.specs.declared.item.Asked.{Asked}
 use Rattle.fm_query.specs.declared.item.Asked.TheVariants.{Count, Of}

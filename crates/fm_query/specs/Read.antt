@@ -1,6 +1,6 @@
 -- What the reader's answers are seen as.
 use Rattle.std.specs.Prelude.{Vec, Option, Some, None, List}
-use Rattle.fm_steps.specs.declared.step.PathStep.{PathStep}
+use Rattle.fm_path_text.specs.declared.step.PathStep.{PathStep}
 
 -- the steps of a path, where there is one
 abbrev pub steps_if_any : {Z : Type 0} → Option (Vec PathStep Z) → Option (List PathStep)

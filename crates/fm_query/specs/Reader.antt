@@ -1,10 +1,10 @@
 -- The reader of a query's text, byte by byte: how far an item or a condition has been read, and what a byte does there.
 use Rattle.std.specs.Prelude.{ℤ, pos, neg_ℤ, ℕ, ◌+◌, ◌-◌, ◌*◌, ◌^◌, ◌<◌, ◌≤◌, Bool, ◌&&◌, ◌||◌, not, Option, Some, None, List, [], ◌∷◌, ◌++◌, length, get_or, codes, if◌then◌else◌, nat_eq, nat_lt, nat_le}
 use Rattle.fm_layout.specs.Name.{is_digit}
-use Rattle.fm_steps.specs.declared.step.PathStep.{PathStep}
-use Rattle.fm_steps.specs.declared.part.Part.{Part}
-use Rattle.fm_steps.specs.declared.part.Part.TheVariants.{Between}
-use Rattle.fm_steps.specs.Reader as path
+use Rattle.fm_path_text.specs.declared.step.PathStep.{PathStep}
+use Rattle.fm_path_text.specs.declared.part.Part.{Part}
+use Rattle.fm_path_text.specs.declared.part.Part.TheVariants.{Between}
+use Rattle.fm_path_text.specs.Reader as path
 use Rattle.fm_query.specs.declared.fold.Fold.TheVariants.{Sum, Least, Greatest, All}
 use Rattle.fm_query.specs.declared.operator.Operator.{Operator}
 use Rattle.fm_query.specs.declared.operator.Operator.TheVariants.{Equal, NotEqual, Below, AtMost, Above, AtLeast}

@@ -1,6 +1,6 @@
 ghost use Rattle.std.specs.Prelude.{◌≡◌, IfOk, IfErr};
 ghost use Rattle.std.specs.String.{string_bytes};
-ghost use Rattle.fm_steps.specs.Grammar.{piece_of, path_text};
+ghost use Rattle.fm_path_text.specs.Grammar.{piece_of, path_text};
 ghost use Rattle.fm_query.specs.Grammar.{item_text, condition_text};
 
 use crate::syntax::{ConditionSyntax, ItemSyntax};

@@ -1,6 +1,6 @@
 ghost use Rattle.std.specs.Prelude.{◌≡◌, ℕ, ◌<◌, ◌≤◌, IfOk, IfErr, length, Option, List, [], get_or, nat_eq};
-ghost use Rattle.fm_steps.specs.Reader.{IsBounded};
-ghost use Rattle.fm_steps.specs.declared.step.PathStep.{PathStep};
+ghost use Rattle.fm_path_text.specs.Reader.{IsBounded};
+ghost use Rattle.fm_path_text.specs.declared.step.PathStep.{PathStep};
 ghost use Rattle.fm_query.specs.Reader.{starts, spelled, turns, spells, is_mark, marks, in_path, behind, or_equal, compares, negates, counts, in_literal, next, where_word, and_word, word_text, IsNumber, IsReady};
 ghost use Rattle.fm_query.specs.Read.{steps_if_any};
 
@@ -12,7 +12,7 @@ use crate::syntax::{ConditionSyntax, ItemSyntax};
 use crate::word::Word;
 use fm_base::Refusal;
 use fm_path::PathStep;
-use fm_steps::{Move, Part, Sign};
+use fm_path_text::{Move, Part, Sign};
 use std::alloc::Global;
 
 /// Whose path is read.

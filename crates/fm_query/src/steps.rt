@@ -13,7 +13,7 @@ pub struct Steps {
 
 impl Model for Steps {
     ghost use Rattle.std.specs.Prelude.{List};
-    ghost use Rattle.fm_steps.specs.declared.step.PathStep.{PathStep};
+    ghost use Rattle.fm_path_text.specs.declared.step.PathStep.{PathStep};
 
     ghost Value = { List PathStep };
 

@@ -5,12 +5,12 @@ use Rattle.std.proofs.lemmas.Grind.{same_number_lists}
 use Rattle.std.proofs.lemmas.List.{length-drop, length-map, length-take-le, get_or-map, get_or-take, get_or-drop}
 use Rattle.std.proofs.lemmas.List.FromFn.{get_or-range_with_len}
 use Rattle.std.proofs.lemmas.Nat.{div-add-mod'}
+use Rattle.fm_base.specs.declared.caller.Caller.{Caller}
 use Rattle.fm_base.specs.Arenas.{State, arena_of}
 use Rattle.fm_base.specs.Calls.{Entry}
-use Rattle.fm_base.specs.Histories.{byte_of, byte_at}
-use Rattle.fm_bytes.specs.Words.{bytes_in}
+use Rattle.fm_bytes.specs.Words.{bytes_in, byte_of, byte_at}
 use Rattle.fm_bytes.proofs.Words.{length-bytes_in, bytes_in-word}
-use Rattle.fm_pieces.specs.Alone.{bytes_of_arena}
+use Rattle.fm_access.specs.Alone.{bytes_of_arena}
 use Rattle.fm_segment.specs.Alone.{bytes_of_region}
 use Rattle.fm_segment.specs.Region.{Region}
 use Rattle.fm_query.specs.Plan.{Plan}
@@ -18,18 +18,19 @@ use Rattle.fm_records.specs.declared.found.Found.{Found}
 use Rattle.fm_records.specs.Alone.{bytes_at_places}
 use Rattle.fm_records.specs.Answers.{found_over, answer}
 use Rattle.fm_records.specs.Bytes.{IsByteOf, IsAnswered}
+use Rattle.fm_records.specs.Reads.{LiesIn}
 use Rattle.fm_records.specs.Records.{pieces}
 use Rattle.fm_records.proofs.Adding.{length-range}
-use Rattle.fm_records.proofs.ReadingBytes.{get_or-bytes_of, LiesIn, records_of_bytes}
+use Rattle.fm_records.proofs.ReadingBytes.{get_or-bytes_of, records_of_bytes}
 
 -- as many records as the size has are within it
 pub records_lie : (p : Plan) (s : Region) → LiesIn s s.first (s.size / p.size * p.size)
 records_lie p s = record { from = omega arith; within = omega (arith, div-add-mod' s.size p.size) }
 
-pub answer_of_bytes : (c : ℕ) (p : Plan) (s : Region) (bytes : List ℕ) (a : List Found) (own : List Entry) → IsAnswered c p s bytes a own → a ≡ answer p bytes
+pub answer_of_bytes : (c : Caller) (p : Plan) (s : Region) (bytes : List ℕ) (a : List Found) (own : List Entry) → IsAnswered c p s bytes a own → a ≡ answer p bytes
 answer_of_bytes c p s bytes a own h =
     let start : s.first - s.first ≡ 0 = omega arith in
-    records_of_bytes c s bytes h.size p h.plan (s.size / p.size) s.first (found_over p []) a own [] (records_lie p s) h.does.2 h.finds refl
+    records_of_bytes c s bytes h.size p h.plan (s.size / p.size) s.first (found_over p []) a own [] (records_lie p s) h.does.records h.finds refl
     ∙ ap (λ n. found_over p (pieces (s.size / p.size) p.size (drop n bytes))) start
     ∙ ap (λ n. found_over p (pieces (n / p.size) p.size bytes)) (sym h.size)
 

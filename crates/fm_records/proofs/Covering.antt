@@ -4,6 +4,7 @@ use Rattle.std.specs.Prelude.{ℤ}
 use Rattle.std.specs.List.{list_all, slice_get}
 use Rattle.std.proofs.lemmas.Bool.{cases_lt}
 use Rattle.std.proofs.lemmas.List.{drop-drop}
+use Rattle.fm_base.specs.declared.caller.Caller.{Caller}
 use Rattle.fm_base.specs.declared.arena_id.ArenaId.{ArenaId}
 use Rattle.fm_base.specs.Calls.{Read, Found as Found_word, Entry, entry_of}
 use Rattle.fm_base.specs.Visits.{piece_width, Run, ends, goes_on}
@@ -11,10 +12,10 @@ use Rattle.fm_lanes.specs.Kind.{width_of}
 use Rattle.fm_lanes.proofs.Meaning.{width_of-bounds}
 use Rattle.fm_path.specs.Resolution.{Resolution}
 use Rattle.fm_path.specs.declared.value_spec.ValueSpec.{ValueSpec}
-use Rattle.fm_pieces.specs.Pieces.{ReadsPiece}
-use Rattle.fm_pieces.specs.Ranges.{Reading, ReadsOn, EndsReading}
-use Rattle.fm_places.specs.Places.{IsAmong}
-use Rattle.fm_places.specs.Walk.{AreAdmitted, offset_at}
+use Rattle.fm_access.specs.Pieces.{ReadsPiece}
+use Rattle.fm_access.specs.Ranges.{Reading, ReadsOn, EndsReading}
+use Rattle.fm_lists.specs.Among.{IsAmong}
+use Rattle.fm_path_meaning.specs.Walk.{AreAdmitted, offset_at}
 use Rattle.fm_query.specs.Plan.{Plan, IsPlan}
 use Rattle.fm_query.specs.declared.fold.Fold.{Fold}
 use Rattle.fm_query.specs.declared.item.Asked.{Asked}
@@ -25,12 +26,13 @@ use Rattle.fm_records.specs.declared.found.Found.{Found}
 use Rattle.fm_records.specs.Answers.{holds as holds_for}
 use Rattle.fm_records.specs.Bytes.{FindAs, HasRead, IsAnswered}
 use Rattle.fm_records.specs.Laws.{IsAsked, value_in}
-use Rattle.fm_records.specs.Reads.{IsWordOf, value_places, ReadsNumber, ReadsNumbers, no_more, one_more, FindsItem, FindsItems, no_item, one_item, ReadsRecord, chosen, passed_over, ReadsRecords, no_record, one_record}
+use Rattle.fm_records.specs.Reads.{IsWordOf, LiesIn, value_places, ReadsNumber, ReadsNumbers, no_more, one_more, FindsItem, FindsItems, no_item, one_item, ReadsRecord, chosen, passed_over, ReadsRecords, no_record, one_record}
 use Rattle.fm_records.specs.Records.{pieces}
 use Rattle.fm_records.specs.Values.{index_lists}
 use Rattle.fm_records.proofs.AnsweringBytes.{records_lie}
 use Rattle.fm_records.proofs.Indices.{admitted_listed, among_left, among_right}
-use Rattle.fm_records.proofs.ReadingBytes.{all_split, LiesIn, tests_of_bytes}
+use Rattle.fm_records.proofs.ReadingBytes.{tests_of_bytes}
+use Rattle.fm_lists.proofs.Each.{all_split}
 
 -- ---- words
 
@@ -40,7 +42,7 @@ record HasByte (from end word : ℕ) : Type 0 where
   below : 8 * word < end
   some : from < end
 
-module _ (c : ℕ) (id : ArenaId) (word : ℕ) where
+module _ (c : Caller) (id : ArenaId) (word : ℕ) where
   read_left : (es fs : List Entry) → HasRead c id word es → HasRead c id word (es ++ fs)
   read_left es fs h = record { found = h.found; among = among_left _ es fs h.among }
 
@@ -120,7 +122,7 @@ module _ (c : ℕ) (id : ArenaId) (word : ℕ) where
       read_right one rest (items_are_read place left rest others item f r is more among asks a b)
   -- ---- records
 
-module _ (c : ℕ) (s : Region) (word : ℕ) (bytes : List ℕ) (size : length bytes ≡ s.size) (p : Plan) (plan : IsPlan p) where
+module _ (c : Caller) (s : Region) (word : ℕ) (bytes : List ℕ) (size : length bytes ≡ s.size) (p : Plan) (plan : IsPlan p) where
   -- a chosen record
   record_is_read : (place : ℕ) (own : List Entry) (seen : Option (List Found)) (item : Item) (f : Fold) (r : Resolution) (is : List ℕ) → LiesIn s place p.size
       → ReadsRecord c s.arena p place own seen → FindAs s bytes own → list_all (holds_for (take p.size (drop (place - s.first) bytes))) p.conditions ≡ true
@@ -182,7 +184,7 @@ piece_there (suc index) (suc count) size bytes piece h =
       is = rest.is ∙ ap (take size) (drop-drop (index * size) size bytes) ∙ ap (λ n. take size (drop n bytes)) at;
     }
 
-pub asked_is_read : (c : ℕ) (p : Plan) (s : Region) (bytes : List ℕ) (a : List Found) (own : List Entry) (index : ℕ) (r : Resolution) (is : List ℕ) (word : ℕ)
+pub asked_is_read : (c : Caller) (p : Plan) (s : Region) (bytes : List ℕ) (a : List Found) (own : List Entry) (index : ℕ) (r : Resolution) (is : List ℕ) (word : ℕ)
     → IsAnswered c p s bytes a own → IsAsked p bytes index r is → IsWordOf (value_in p s index r is) word → HasRead c s.arena word own
 asked_is_read c p s bytes a own index r is word h asks w =
     let there = piece_there index (length bytes / p.size) p.size bytes asks.record_bytes asks.stands in
@@ -193,5 +195,5 @@ asked_is_read c p s bytes a own index r is word h asks w =
     let at : s.first + (index * p.size + offset_at r.offset r.dims is) ≡ s.first + index * p.size + offset_at r.offset r.dims is = omega arith in
     let byte : HasByte (s.first + index * p.size + offset_at r.offset r.dims is) (s.first + index * p.size + offset_at r.offset r.dims is + width_of r.value.kind) word =
     subst (λ (q : ℕ). HasByte q (q + width_of r.value.kind) word) at (record { above = w.above; below = w.below; some = omega (arith, bounds.0) }) in
-    records_are_read c s word bytes h.size p h.plan index (s.size / p.size) s.first _ a own asks.item asks.fold r is (records_lie p s) h.does.2 h.finds
+    records_are_read c s word bytes h.size p h.plan index (s.size / p.size) s.first _ a own asks.item asks.fold r is (records_lie p s) h.does.records h.finds
     (subst (λ (n : ℕ). index < n / p.size) h.size there.below) all asks.among asks.asks asks.admitted byte

@@ -2,9 +2,9 @@
 use Rattle.std.proofs.Common.{◌≡◌, ℕ, zero, suc, ◌+◌, ◌<◌, ◌≤◌, List, [], ◌∷◌, ◌++◌, map, refl, ap, subst, inl, inr, arith, ◌⊎◌}
 use Rattle.std.proofs.lemmas.Bool.{cases_lt}
 use Rattle.std.specs.List.{flat_map, range_with_len}
-use Rattle.fm_places.specs.Places.{IsAmong}
-use Rattle.fm_places.specs.Walk.{AreAdmitted}
-use Rattle.fm_places.specs.declared.dim.Dim.{Dim}
+use Rattle.fm_lists.specs.Among.{IsAmong}
+use Rattle.fm_path_meaning.specs.Walk.{AreAdmitted}
+use Rattle.fm_path_meaning.specs.declared.dim.Dim.{Dim}
 use Rattle.fm_records.specs.Values.{index_lists}
 
 pub among_left : {A : Type 0} (x : A) (xs ys : List A) → IsAmong x xs → IsAmong x (xs ++ ys)

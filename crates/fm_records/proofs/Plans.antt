@@ -2,14 +2,15 @@
 use Rattle.std.proofs.Common.{◌≡◌, ℕ, zero, suc, ◌+◌, ◌*◌, ◌<◌, ◌≤◌, List, [], ◌∷◌, length, map, refl, ap, arith}
 use Rattle.std.proofs.lemmas.List.{length-append, length-map}
 use Rattle.std.specs.List.{AllByRecursion, flat_map, range_with_len}
-use Rattle.fm_places.specs.declared.dim.Dim.{Dim}
+use Rattle.fm_path_meaning.specs.declared.dim.Dim.{Dim}
 use Rattle.fm_segment.specs.Region.{Region}
 use Rattle.fm_query.specs.Plan.{Plan, value_count, AsksOf, IsItemIn, IsConditionIn, IsPlan}
 use Rattle.fm_query.specs.declared.condition.Condition.{Condition}
 use Rattle.fm_query.specs.declared.item.Asked.{Asked}
 use Rattle.fm_query.specs.declared.item.Asked.TheVariants as asked
 use Rattle.fm_query.specs.declared.item.Item.{Item}
-use Rattle.fm_records.specs.Reads.{how_many, IsItemFew, IsItemReadable, IsReadable, IsTestable}
+use Rattle.fm_records.specs.Few.{how_many}
+use Rattle.fm_records.specs.Reads.{IsItemReadable, IsReadable, IsTestable, LiesIn}
 use Rattle.fm_records.specs.Values.{index_lists}
 
 -- ---- how many lists of indices there are
@@ -30,6 +31,9 @@ length-index_lists (d ∷ ds) = omega (arith, led_many (index_lists ds) 0 d.boun
 
 -- ---- items
 
+abbrev pub IsItemFew : ℕ → Item → Type 0
+IsItemFew size item = how_many item.asked ≤ size
+
 asked_few : (size alignment : ℕ) (a : Asked) → 0 < size → AsksOf size alignment a → how_many a ≤ size
 asked_few size alignment asked.Count some h = omega (arith, some)
 asked_few size alignment (asked.Of f r) some h = omega (arith, length-index_lists r.dims, h.few)
@@ -42,30 +46,33 @@ items_few size alignment (i ∷ is) some h = (asked_few size alignment i.asked s
 pub plan_items_few : (p : Plan) → IsPlan p → AllByRecursion (IsItemFew p.size) p.items
 plan_items_few p h = items_few p.size p.alignment p.items h.sized h.items
 
-asked_readable : (s : Region) (place size alignment : ℕ) (a : Asked) → place + size ≤ s.first + s.size → AsksOf size alignment a → IsReadable s place a
-asked_readable s place size alignment asked.Count within h = tt
-asked_readable s place size alignment (asked.Of f r) within h = record {
-  steady = h.stays.steady;
-  within = λ is admitted. omega (arith, h.stays.inside is admitted, h.size, within);
-}
+asked_readable : (s : Region) (place size alignment : ℕ) (a : Asked) → LiesIn s place size → AsksOf size alignment a → IsReadable s place a
+asked_readable s place size alignment asked.Count lies h = tt
+asked_readable s place size alignment (asked.Of f r) lies h =
+    let from = lies.from in
+    let within = lies.within in
+    record {
+      steady = h.stays.steady;
+      lies = λ is admitted. record { from = omega (arith, from); within = omega (arith, h.stays.inside is admitted, h.size, within) };
+    }
 
-items_readable : (s : Region) (place size alignment : ℕ) (items : List Item) → place + size ≤ s.first + s.size → AllByRecursion (IsItemIn size alignment) items → AllByRecursion (IsItemReadable s place) items
+items_readable : (s : Region) (place size alignment : ℕ) (items : List Item) → LiesIn s place size → AllByRecursion (IsItemIn size alignment) items → AllByRecursion (IsItemReadable s place) items
 items_readable s place size alignment [] within h = tt
 items_readable s place size alignment (i ∷ is) within h = (asked_readable s place size alignment i.asked within h.0, items_readable s place size alignment is within h.1)
 
 -- where a record stands in the segment, so do its items' values
-pub plan_items_readable : (s : Region) (place : ℕ) (p : Plan) → IsPlan p → place + p.size ≤ s.first + s.size → AllByRecursion (IsItemReadable s place) p.items
+pub plan_items_readable : (s : Region) (place : ℕ) (p : Plan) → IsPlan p → LiesIn s place p.size → AllByRecursion (IsItemReadable s place) p.items
 plan_items_readable s place p h within = items_readable s place p.size p.alignment p.items within h.items
 
 -- ---- conditions
 
-conditions_testable : (s : Region) (place size alignment : ℕ) (cs : List Condition) → place + size ≤ s.first + s.size → AllByRecursion (IsConditionIn size alignment) cs → AllByRecursion (IsTestable s place) cs
+conditions_testable : (s : Region) (place size alignment : ℕ) (cs : List Condition) → LiesIn s place size → AllByRecursion (IsConditionIn size alignment) cs → AllByRecursion (IsTestable s place) cs
 conditions_testable s place size alignment [] within h = tt
 conditions_testable s place size alignment (c ∷ cs) within h = (
-  record { closed = h.0.closed; stays = h.0.through.stays; within = omega (arith, h.0.through.size, within) },
+  record { closed = h.0.closed; stays = h.0.through.stays; lies = record { from = within.from; within = (let w = within.within in omega (arith, h.0.through.size, w)) } },
   conditions_testable s place size alignment cs within h.1,
 )
 
 -- and the values that its conditions test
-pub plan_conditions_testable : (s : Region) (place : ℕ) (p : Plan) → IsPlan p → place + p.size ≤ s.first + s.size → AllByRecursion (IsTestable s place) p.conditions
+pub plan_conditions_testable : (s : Region) (place : ℕ) (p : Plan) → IsPlan p → LiesIn s place p.size → AllByRecursion (IsTestable s place) p.conditions
 plan_conditions_testable s place p h within = conditions_testable s place p.size p.alignment p.conditions within h.conditions

@@ -5,8 +5,11 @@ use Rattle.std.specs.List.{AllByRecursion, list_all}
 use Rattle.std.proofs.lemmas.Grind.{same_number_lists}
 use Rattle.std.proofs.lemmas.List.{append-nil, drop-drop, length-drop, length-take-le, get_or-take, get_or-drop}
 use Rattle.std.proofs.lemmas.List.Elements.{filter-append}
+use Rattle.fm_base.specs.declared.caller.Caller.{Caller}
 use Rattle.fm_base.specs.Calls.{Read, Found as Found_word, Entry, entry_of}
-use Rattle.fm_base.specs.Histories.{byte_of}
+use Rattle.fm_lists.proofs.Among.{each_mapped, map_among}
+use Rattle.fm_lists.proofs.Each.{all_split}
+use Rattle.fm_bytes.specs.Words.{byte_of}
 use Rattle.fm_base.specs.Visits.{visit, piece_width, Run, ends, goes_on}
 use Rattle.fm_bytes.specs.Bytes.{bytes_of, lane}
 use Rattle.fm_bytes.proofs.Bytes.{bytes_of-lane, length-bytes_of}
@@ -16,11 +19,11 @@ use Rattle.fm_lanes.specs.Kind.{width_of}
 use Rattle.fm_lanes.specs.Value.{number_of_value}
 use Rattle.fm_path.specs.Resolution.{Resolution}
 use Rattle.fm_path.specs.declared.value_spec.ValueSpec.{ValueSpec}
-use Rattle.fm_pieces.specs.Pieces.{ReadsPiece}
-use Rattle.fm_pieces.specs.Ranges.{Reading, ReadsOn, EndsReading, ReadsRange}
-use Rattle.fm_places.specs.Places.{IsAmong}
-use Rattle.fm_places.specs.Walk.{AreAdmitted, offset_at}
-use Rattle.fm_places.specs.declared.dim.Dim.{Dim}
+use Rattle.fm_access.specs.Pieces.{ReadsPiece}
+use Rattle.fm_access.specs.Ranges.{Reading, ReadsOn, EndsReading, ReadsRange}
+use Rattle.fm_lists.specs.Among.{IsAmong}
+use Rattle.fm_path_meaning.specs.Walk.{AreAdmitted, offset_at}
+use Rattle.fm_path_meaning.specs.declared.dim.Dim.{Dim}
 use Rattle.fm_query.specs.Plan.{Plan, IsPlan, IsThrough, AsksOf, IsItemIn, IsConditionIn}
 use Rattle.fm_query.specs.declared.condition.Condition.{Condition}
 use Rattle.fm_query.specs.declared.item.Asked.{Asked}
@@ -33,15 +36,11 @@ use Rattle.fm_records.specs.Answers.{compares, folded, found_in, item_found, fou
 use Rattle.fm_records.specs.Answers.{holds as holds_for, chosen as chosen_of}
 use Rattle.fm_records.specs.Bytes.{FindsAs, FindAs}
 use Rattle.fm_records.specs.Joined.{joined}
-use Rattle.fm_records.specs.Reads.{value_places, ReadsNumber, ReadsNumbers, no_more, one_more, Tests, TestsConditions, all_hold, fails, holds, FindsItem, FindsItems, no_item, one_item, ReadsRecord, chosen, passed_over, with_record, ReadsRecords, no_record, one_record}
+use Rattle.fm_records.specs.Reads.{LiesIn, value_places, ReadsNumber, ReadsNumbers, no_more, one_more, Tests, TestsConditions, all_hold, fails, holds, FindsItem, FindsItems, no_item, one_item, ReadsRecord, chosen, passed_over, with_record, ReadsRecords, no_record, one_record}
 use Rattle.fm_records.specs.Records.{pieces}
 use Rattle.fm_records.specs.Values.{index_lists, number_there, number_at, numbers_in}
 use Rattle.fm_records.proofs.Indices.{listed_admitted}
 use Rattle.fm_records.proofs.Joining.{found_over-append}
-
-pub all_split : {X : Type 0} (P : X → Type 0) (xs ys : List X) → AllByRecursion P (xs ++ ys) → AllByRecursion P xs × AllByRecursion P ys
-all_split P [] ys h = (tt, h)
-all_split P (x ∷ xs) ys h = let rest = all_split P xs ys h.1 in ((h.0, rest.0), rest.1)
 
 -- ---- one byte of a word
 
@@ -61,12 +60,7 @@ get_or-bytes_of width word at below =
 
 -- ---- runs of bytes of a region
 
--- so many bytes from a place on are the region's
-pub record LiesIn (s : Region) (place width : ℕ) : Type 0 where
-  pub from : s.first ≤ place
-  pub within : place + width ≤ s.first + s.size
-
-module _ (c : ℕ) (s : Region) (bytes : List ℕ) (size : length bytes ≡ s.size) where
+module _ (c : Caller) (s : Region) (bytes : List ℕ) (size : length bytes ≡ s.size) where
   -- the bytes of a lane of a word that was found
   lane_found : (place width word : ℕ) → FindsAs s bytes (entry_of c (Read s.arena (place / 8)) (Found_word word)) → place % 8 + width ≤ 8 → LiesIn s place width
       → bytes_of width (lane word (place % 8) width) ≡ take width (drop (place - s.first) bytes)
@@ -181,16 +175,6 @@ module _ (c : ℕ) (s : Region) (bytes : List ℕ) (size : length bytes ≡ s.si
       let within = lies.within in
       let inside : offset_at r.offset r.dims is + width_of r.value.kind ≤ width = subst (λ n. offset_at r.offset r.dims is + width_of r.value.kind ≤ n) t.size (t.stays.inside is a) in
       record { from = omega (arith, from); within = omega (arith, inside, within) }
-
-  map_among : {A B C : Type 0} (f : B → C) (g : A → B) (h : A → C) (xs : List A) → ((x : A) → IsAmong x xs → f (g x) ≡ h x) → map f (map g xs) ≡ map h xs
-  map_among f g h [] e = refl
-  map_among f g h (x ∷ xs) e = ap (λ y. y ∷ map f (map g xs)) (e x (inl refl)) ∙ ap (λ ys. h x ∷ ys) (map_among f g h xs (λ y a. e y (inr a)))
-
-  -- what holds at each list of indices holds of each of their places
-  each_mapped : {A B : Type 0} (P : B → Type 0) (f : A → B) (xs : List A) → ((x : A) → IsAmong x xs → P (f x)) → (y : B) → IsAmong y (map f xs) → P y
-  each_mapped P f [] h y a = absurd a
-  each_mapped P f (x ∷ xs) h y (inl e) = subst P (sym e) (h x (inl refl))
-  each_mapped P f (x ∷ xs) h y (inr a) = each_mapped P f xs (λ z b. h z (inr b)) y a
 
   -- the numbers of a path's values
   numbers_of_record : (r : Resolution) (width multiple place : ℕ) (own : List Entry) (ns : List ℤ) → IsThrough width multiple r → LiesIn s place width

@@ -1,206 +1,159 @@
--- Records that are read one behind the other.
-use Rattle.std.proofs.Common.{◌≡◌, ℕ, zero, suc, ◌+◌, ◌*◌, ◌/◌, ◌%◌, ◌^◌, ◌≤◌, Bool, true, false, Some, None, Result, Ok, Err, List, [], ◌∷◌, ◌++◌, map, refl, sym, ap, ◌∙◌, subst, append_assoc, arith}
-use Rattle.std.specs.List.{AllZip}
-use Rattle.std.proofs.lemmas.Int.{ints}
+-- Records that are read in order, and the whole call.
+use Rattle.std.proofs.Common.{◌≡◌, ℕ, zero, suc, ◌+◌, ◌*◌, ◌/◌, ◌%◌, ◌≤◌, Bool, true, false, Some, None, Result, Ok, Err, List, [], ◌++◌, length, take, refl, sym, ap, ◌∙◌, subst, append_assoc, arith}
 use Rattle.std.proofs.lemmas.List.{append-nil}
-use Rattle.std.proofs.Math.Nat.{div-mul-le_self}
+use Rattle.std.proofs.Math.Nat.{zero-div}
+use Rattle.std.proofs.Math.Seq.{take-append_seam}
+use Rattle.fm_base.specs.declared.caller.Caller.{Caller}
 use Rattle.fm_base.specs.declared.arena_id.ArenaId.{ArenaId}
 use Rattle.fm_base.specs.declared.refusal.Refusal.{Refusal}
 use Rattle.fm_base.specs.declared.refusal.Refusal.TheVariants.{Closed, Memory}
 use Rattle.fm_base.specs.Arenas.{MayUse}
 use Rattle.fm_base.specs.Calls.{Entry}
-use Rattle.fm_base.specs.View.{View, Makes, Did}
-use Rattle.fm_base.proofs.Making.{Makes-then, Makes-none}
+use Rattle.fm_base.specs.View.{View, Did}
+use Rattle.fm_base.proofs.Making.{Makes-none}
 use Rattle.fm_segment.specs.Region.{EndsByLimit, Region}
-use Rattle.fm_query.specs.Plan.{Plan}
+use Rattle.fm_query.specs.Plan.{Plan, IsPlan}
 use Rattle.fm_query.specs.declared.condition.Condition.{Condition}
-use Rattle.fm_query.specs.declared.fold.Fold.TheVariants as fold
-use Rattle.fm_query.specs.declared.item.Asked.{Asked}
-use Rattle.fm_query.specs.declared.item.Asked.TheVariants as asked
 use Rattle.fm_query.specs.declared.item.Item.{Item}
 use Rattle.fm_records.specs.declared.found.Found.{Found}
-use Rattle.fm_records.specs.Answers.{answer, found_in, found_over, item_found}
-use Rattle.fm_records.specs.Reads.{AddsItems, AddsRecord, AreOpen, AreReads, DoesQuery, DoesRead, FindsItems, HasRoom, chosen, passed_over, ReadsRecords, no_record, one_record, StayOpen, TestsConditions}
+use Rattle.fm_records.specs.Answers.{answer, found_over}
+use Rattle.fm_records.specs.Few.{AreFew, HaveRoom}
+use Rattle.fm_records.specs.Reads.{AddsItems, AddsRecord, AreReads, DoesQuery, DoesStop, DoesRead, FindsItems, LiesIn, chosen, passed_over, ReadsRecords, no_record, one_record, StopsItems, StopsRecord, at_condition, when_chosen, StopsRecords, at_record, next_record, StopsTests, TestsConditions}
 use Rattle.fm_records.specs.Records.{pieces}
-use Rattle.fm_records.specs.Texts.{IsFoundOf, IsItemFound}
-use Rattle.fm_records.proofs.Reaching.{room_less}
-use Rattle.fm_records.proofs.Visiting.{AreReads-none, AreReads-append, stops_then}
+use Rattle.fm_records.proofs.Few.{record_few}
+use Rattle.fm_records.proofs.Visiting.{AreReads-none, SoFar, none_so_far, first_so_far, more, ended, stopped}
 
 -- ---- one record
 
--- one that isn't chosen
-pub record_passed : (old new : View) (s : Region) (p : Plan) (place : ℕ) (cs : List Condition) (fs : List Found) (b : Bool) → cs ≡ p.conditions → b ≡ false
-    → Did old new (DoesRead old.caller s (λ x es. TestsConditions old.caller s.arena place cs es x) (Ok b))
-    → Did old new (DoesRead old.caller s (λ (u : Unit {0}) es. AddsRecord old.caller s.arena p place fs fs es) (Ok tt))
-record_passed old new s p place cs fs b e is d = record {
-  own = d.own;
-  does = (
-    d.does.0,
-    record {
-      seen = None;
-      reads = passed_over d.own (subst (λ (x : Bool). TestsConditions old.caller s.arena place p.conditions d.own x) is
-          (subst (λ (ys : List Condition). TestsConditions old.caller s.arena place ys d.own b) e d.does.1));
-      added = refl;
-    },
-  );
-  makes = d.makes;
-}
+module _ (s : Region) (p : Plan) (place : ℕ) (cs : List Condition) (conditions : cs ≡ p.conditions) where
+  abbrev TestedTo : View → View → Result Bool Refusal → Type 0
+  TestedTo old now result = Did old now (DoesRead old.caller s (λ b es. TestsConditions old.caller s.arena place cs es b) (StopsTests old.caller s.arena place cs) result)
 
--- one that is chosen: its items are read, up to a refusal
-pub record_chosen : (old now new : View) (s : Region) (p : Plan) (place : ℕ) (cs : List Condition) (items : List Item) (fs gs : List Found) (b : Bool) (result : Result (Unit {0}) Refusal)
-    → cs ≡ p.conditions → items ≡ p.items → b ≡ true
-    → Did old now (DoesRead old.caller s (λ x es. TestsConditions old.caller s.arena place cs es x) (Ok b))
-    → Did now new (DoesRead now.caller s (λ u es. AddsItems now.caller s.arena place items fs gs es) result)
-    → Did old new (DoesRead old.caller s (λ u es. AddsRecord old.caller s.arena p place fs gs es) result)
-record_chosen old now new s p place cs items fs gs b (Ok u) e f is t d =
-    let here : AreReads old.caller s d.own × AddsItems old.caller s.arena place items fs gs d.own =
-    subst (λ (c : ℕ). AreReads c s d.own × AddsItems c s.arena place items fs gs d.own) t.makes.same_caller d.does in
-    record {
-      own = t.own ++ d.own;
-      does = (
-        AreReads-append old.caller s t.own d.own t.does.0 here.0,
-        record {
-          seen = Some here.1.found;
-          reads = chosen t.own d.own here.1.found (subst (λ (x : Bool). TestsConditions old.caller s.arena place p.conditions t.own x) is
-              (subst (λ (ys : List Condition). TestsConditions old.caller s.arena place ys t.own b) e t.does.1))
-              (subst (λ (ys : List Item). FindsItems old.caller s.arena place ys d.own here.1.found) f here.1.finds);
-          added = here.1.added;
-        },
-      );
-      makes = Makes-then old now new t.own d.own t.makes d.makes;
-    }
-record_chosen old now new s p place cs items fs gs b (Err r) e f is t d =
-    stops_then (λ (u : Unit {0}) es. AddsItems now.caller s.arena place items fs gs es) (λ (u : Unit {0}) es. AddsRecord old.caller s.arena p place fs gs es)
-    old now new s t.own r t.makes t.does.0 d
+  abbrev RecordedTo : View → View → List Found → List Found → Result (Unit {0}) Refusal → Type 0
+  RecordedTo old now fs gs result = Did old now (DoesRead old.caller s (λ u es. AddsRecord old.caller s.arena p place fs gs es) (StopsRecord old.caller s.arena p place) result)
 
--- its conditions came to an end
-pub record_stopped : (old new : View) (s : Region) (p : Plan) (place : ℕ) (cs : List Condition) (fs gs : List Found) (r : Refusal)
-    → Did old new (DoesRead old.caller s (λ (x : Bool) es. TestsConditions old.caller s.arena place cs es x) (Err r))
-    → Did old new (DoesRead old.caller s (λ (u : Unit {0}) es. AddsRecord old.caller s.arena p place fs gs es) (Err r))
-record_stopped old new s p place cs fs gs r d =
-    stops_then (λ x es. TestsConditions old.caller s.arena place cs es x) (λ (u : Unit {0}) es. AddsRecord old.caller s.arena p place fs gs es)
-    old old new s [] r (Makes-none old) (AreReads-none old.caller s) d
+  all_test : (c : Caller) (own : List Entry) (b d : Bool) → b ≡ d → TestsConditions c s.arena place cs own b → TestsConditions c s.arena place p.conditions own d
+  all_test c own b d e t =
+      subst (λ (x : Bool). TestsConditions c s.arena place p.conditions own x) e (subst (λ (ys : List Condition). TestsConditions c s.arena place ys own b) conditions t)
 
--- what is open for more is open for less
-pub open_less : (size more : ℕ) (items : List Item) (fs : List Found) → AreOpen (size + more) items fs → AreOpen more items fs
-open_less size more [] [] h = tt
-open_less size more [] (f ∷ fs) h = h
-open_less size more (i ∷ is) [] h = h
-open_less size more (i ∷ is) (f ∷ fs) h = (record { kind = h.0.kind; room = room_less f (size + more) more (omega arith) h.0.room }, open_less size more is fs h.1)
+  -- one that isn't chosen
+  pub record_passed : (old new : View) (fs : List Found) (b : Bool) → b ≡ false → TestedTo old new (Ok b) → RecordedTo old new fs fs (Ok tt)
+  record_passed old new fs b is d =
+      ended (λ (es : List Entry). AddsRecord old.caller s.arena p place fs fs es) (first_so_far d)
+      (record { seen = None; reads = passed_over d.own (all_test old.caller d.own b false is d.does.1); added = refl })
 
--- what is open is an answer of the query
-pub open_answer : (n : ℕ) (items : List Item) (fs : List Found) → AreOpen n items fs → AllZip IsItemFound items fs
-open_answer n [] [] h = tt
-open_answer n [] (f ∷ fs) h = h
-open_answer n (i ∷ is) [] h = h
-open_answer n (i ∷ is) (f ∷ fs) h = (h.0.kind, open_answer n is fs h.1)
+  -- one that is chosen: its items are read, up to a refusal
+  pub record_chosen : (old now new : View) (items : List Item) (fs gs : List Found) (b : Bool) (result : Result (Unit {0}) Refusal) → items ≡ p.items → b ≡ true → TestedTo old now (Ok b)
+      → Did now new (DoesRead now.caller s (λ u es. AddsItems now.caller s.arena place items fs gs es) (StopsItems now.caller s.arena place items) result) → RecordedTo old new fs gs result
+  record_chosen old now new items fs gs b (Ok u) same is t d =
+      let m = more (λ (c : Caller) (es : List Entry). AddsItems c s.arena place items fs gs es) (first_so_far t) d in
+      let a = m.does in
+      ended (λ (es : List Entry). AddsRecord old.caller s.arena p place fs gs es) m.so_far (record {
+        seen = Some a.found;
+        reads = chosen t.own d.own a.found (all_test old.caller t.own b true is t.does.1)
+            (subst (λ (ys : List Item). FindsItems old.caller s.arena place ys d.own a.found) same a.finds);
+        added = a.added;
+      })
+  record_chosen old now new items fs gs b (Err r) same is t d =
+      stopped r (λ (c : Caller). StopsItems c s.arena place items) (StopsRecord old.caller s.arena p place) (first_so_far t)
+      (λ es h. when_chosen t.own es (all_test old.caller t.own b true is t.does.1) (subst (λ (ys : List Item). StopsItems old.caller s.arena place ys es) same h)) d
+
+  -- one whose conditions came to no end
+  pub record_stopped : (old new : View) (fs gs : List Found) (r : Refusal) → TestedTo old new (Err r) → RecordedTo old new fs gs (Err r)
+  record_stopped old new fs gs r d =
+      stopped r (λ (c : Caller). StopsTests c s.arena place cs) (StopsRecord old.caller s.arena p place) (none_so_far old s)
+      (λ es h. at_condition es (subst (λ (ys : List Condition). StopsTests old.caller s.arena place ys es) conditions h)) d
 
 -- ---- records in order
 
 -- the records before the place were read, and `left` are left
 pub record AreRecorded (old now : View) (s : Region) (p : Plan) (count left place : ℕ) (fs gs : List Found) (own : List Entry) : Type 0 where
-  pub makes : Makes old now own
-  pub reads : AreReads old.caller s own
+  pub so_far : SoFar old now s own
   pub rest : (es : List Entry) (all : List Found) → ReadsRecords old.caller s.arena p left place gs es all → ReadsRecords old.caller s.arena p count s.first fs (own ++ es) all
+  pub stops : (es : List Entry) → StopsRecords old.caller s.arena p left place es → StopsRecords old.caller s.arena p count s.first (own ++ es)
   pub from : s.first ≤ place
   pub within : place + left * p.size ≤ s.first + s.size
-  pub opens : AreOpen (left * p.size) p.items gs
+  pub room : HaveRoom p gs (left * p.size)
 
-pub recorded_none : (old : View) (s : Region) (p : Plan) (count place : ℕ) (fs : List Found) → place ≡ s.first → count * p.size ≤ s.size → AreOpen (count * p.size) p.items fs
-    → AreRecorded old old s p count count place fs fs []
-recorded_none old s p count place fs e within room = record {
-  makes = Makes-none old;
-  reads = AreReads-none old.caller s;
-  rest = λ es all r. subst (λ (n : ℕ). ReadsRecords old.caller s.arena p count n fs es all) e r;
-  from = omega (arith, e);
-  within = grind (arith, e, within);
-  opens = room;
-}
+module _ {s : Region} {p : Plan} {count : ℕ} {fs : List Found} where
+  pub recorded_none : (old : View) (place : ℕ) → place ≡ s.first → count * p.size ≤ s.size → EndsByLimit s.first s.size → AreFew 0 p fs → AreRecorded old old s p count count place fs fs []
+  recorded_none old place e within ends few = record {
+    so_far = none_so_far old s;
+    rest = λ es all r. subst (λ (n : ℕ). ReadsRecords old.caller s.arena p count n fs es all) e r;
+    stops = λ es r. subst (λ (n : ℕ). StopsRecords old.caller s.arena p count n es) e r;
+    from = omega (arith, e);
+    within = grind (arith, e, within);
+    room = (0, omega (arith, within, ends), few);
+  }
 
--- the next one
-pub recorded_more : (old now next : View) (s : Region) (p : Plan) (count left place : ℕ) (fs gs hs : List Found) (own : List Entry) (u : Unit {0}) → AreRecorded old now s p count (suc left) place fs gs own
-    → (did : Did now next (DoesRead now.caller s (λ (x : Unit {0}) es. AddsRecord now.caller s.arena p place gs hs es) (Ok u))) → StayOpen p.items gs hs p.size
-    → AreRecorded old next s p count left (place + p.size) fs hs (own ++ did.own)
-recorded_more old now next s p count left place fs gs hs own u so_far did stay =
-    let here : AreReads old.caller s did.own × AddsRecord old.caller s.arena p place gs hs did.own =
-    subst (λ (c : ℕ). AreReads c s did.own × AddsRecord c s.arena p place gs hs did.own) so_far.makes.same_caller did.does in
-    let bytes : suc left * p.size ≡ p.size + left * p.size = grind arith in
-    record {
-      makes = Makes-then old now next own did.own so_far.makes did.makes;
-      reads = AreReads-append old.caller s own did.own so_far.reads here.0;
-      rest = λ es all r.
-          let one : ReadsRecords old.caller s.arena p (suc left) place gs (did.own ++ es) all =
-          one_record did.own es here.1.seen here.1.reads (subst (λ (xs : List Found). ReadsRecords old.caller s.arena p left (place + p.size) xs es all) here.1.added r) in
-          subst (λ (xs : List Entry). ReadsRecords old.caller s.arena p count s.first fs xs all) (sym (append_assoc own did.own es)) (so_far.rest (did.own ++ es) all one);
-      from = omega (arith, so_far.from);
-      within = grind (arith, bytes, so_far.within);
-      opens = stay (left * p.size) (subst (λ (n : ℕ). AreOpen n p.items gs) bytes so_far.opens);
-    }
+  -- the next one lies in the segment, and has room
+  pub next_lies : {old now : View} {left place : ℕ} {gs : List Found} {own : List Entry} → AreRecorded old now s p count (suc left) place fs gs own → LiesIn s place p.size
+  next_lies {old} {now} {left} {place} {gs} {own} a =
+      let bytes : suc left * p.size ≡ p.size + left * p.size = grind arith in
+      let within = a.within in
+      record { from = a.from; within = omega (arith, bytes, within) }
 
--- all
-pub recorded_all : (old now : View) (s : Region) (p : Plan) (count place : ℕ) (fs gs : List Found) (own : List Entry) → AreRecorded old now s p count zero place fs gs own
-    → Did old now (DoesRead old.caller s (λ (u : Unit {0}) es. ReadsRecords old.caller s.arena p count s.first fs es gs) (Ok tt))
-recorded_all old now s p count place fs gs own a = record {
-  own = own;
-  does = (a.reads, subst (λ (es : List Entry). ReadsRecords old.caller s.arena p count s.first fs es gs) (append-nil own) (a.rest [] gs no_record));
-  makes = a.makes;
-}
+  pub next_room : {old now : View} {left place : ℕ} {gs : List Found} {own : List Entry} → AreRecorded old now s p count (suc left) place fs gs own → HaveRoom p gs p.size
+  next_room {old} {now} {left} {place} {gs} {own} a =
+      let bytes : suc left * p.size ≡ p.size + left * p.size = grind arith in
+      (a.room.0, omega (arith, bytes, a.room.1), a.room.2)
 
--- or up to a refusal
-pub recorded_stops : (old now next : View) (s : Region) (p : Plan) (count left place : ℕ) (fs gs hs : List Found) (own : List Entry) (r : Refusal) → AreRecorded old now s p count left place fs gs own
-    → Did now next (DoesRead now.caller s (λ (x : Unit {0}) es. AddsRecord now.caller s.arena p place gs hs es) (Err r))
-    → Did old next (DoesRead old.caller s (λ (u : Unit {0}) es. ReadsRecords old.caller s.arena p count s.first fs es hs) (Err r))
-recorded_stops old now next s p count left place fs gs hs own r a d =
-    stops_then (λ (x : Unit {0}) es. AddsRecord now.caller s.arena p place gs hs es) (λ (u : Unit {0}) es. ReadsRecords old.caller s.arena p count s.first fs es hs)
-    old now next s own r a.makes a.reads d
+  -- it is read
+  pub recorded_more : {old now next : View} {left place : ℕ} {gs hs : List Found} {own : List Entry} → IsPlan p → AreRecorded old now s p count (suc left) place fs gs own
+      → (did : Did now next (λ es. AreReads now.caller s es × AddsRecord now.caller s.arena p place gs hs es)) → AreRecorded old next s p count left (place + p.size) fs hs (own ++ did.own)
+  recorded_more {old} {now} {next} {left} {place} {gs} {hs} {own} plan a did =
+      let m = more (λ (c : Caller) (es : List Entry). AddsRecord c s.arena p place gs hs es) a.so_far did in
+      let seen = m.does.seen in
+      let bytes : suc left * p.size ≡ p.size + left * p.size = grind arith in
+      let from = a.from in
+      let within = a.within in
+      let n = a.room.0 in
+      record {
+        so_far = m.so_far;
+        rest = λ es all r.
+            subst (λ (xs : List Entry). ReadsRecords old.caller s.arena p count s.first fs xs all) (sym (append_assoc own did.own es))
+            (a.rest (did.own ++ es) all (one_record did.own es seen m.does.reads (subst (λ (xs : List Found). ReadsRecords old.caller s.arena p left (place + p.size) xs es all) m.does.added r)));
+        stops = λ es r.
+            subst (λ (xs : List Entry). StopsRecords old.caller s.arena p count s.first xs) (sym (append_assoc own did.own es))
+            (a.stops (did.own ++ es) (next_record did.own es seen m.does.reads r));
+        from = omega (arith, from);
+        within = omega (arith, bytes, within);
+        room = (
+          n + p.size,
+          omega (arith, bytes, a.room.1),
+          subst (AreFew (n + p.size) p) (sym m.does.added) (record_few old.caller s.arena p place n did.own seen gs plan m.does.reads a.room.2),
+        );
+      }
 
--- the next record lies in the segment
-pub next_within : (s : Region) (size left place : ℕ) → place + suc left * size ≤ s.first + s.size → place + size ≤ s.first + s.size
-next_within s size left place h = let bytes : suc left * size ≡ size + left * size = grind arith in grind (arith, bytes, h)
+  -- all are
+  pub recorded_all : {old now : View} {place : ℕ} {gs : List Found} {own : List Entry} → AreRecorded old now s p count zero place fs gs own
+      → Did old now (λ es. AreReads old.caller s es × ReadsRecords old.caller s.arena p count s.first fs es gs)
+  recorded_all {old} {now} {place} {gs} {own} a =
+      ended (λ (es : List Entry). ReadsRecords old.caller s.arena p count s.first fs es gs) a.so_far
+      (subst (λ (es : List Entry). ReadsRecords old.caller s.arena p count s.first fs es gs) (append-nil own) (a.rest [] gs no_record))
 
-pub next_open : (size left : ℕ) (items : List Item) (fs : List Found) → AreOpen (suc left * size) items fs → AreOpen size items fs
-next_open size left items fs h =
-    let bytes : suc left * size ≡ left * size + size = grind arith in
-    open_less (left * size) size items fs (subst (λ (n : ℕ). AreOpen n items fs) bytes h)
+  -- or up to a refusal
+  pub recorded_stops : {old now next : View} {left place : ℕ} {gs : List Found} {own : List Entry} (r : Refusal) → AreRecorded old now s p count (suc left) place fs gs own
+      → Did now next (DoesStop now.caller s (StopsRecord now.caller s.arena p place) r) → Did old next (DoesStop old.caller s (StopsRecords old.caller s.arena p count s.first) r)
+  recorded_stops {old} {now} {next} {left} {place} {gs} {own} r a d =
+      stopped r (λ (c : Caller). StopsRecord c s.arena p place) (StopsRecords old.caller s.arena p count s.first) a.so_far
+      (λ es h. a.stops es (at_record es h)) d
 
--- ---- what is found in no records
-
-room_none : (n : ℕ) (a : Asked) → n ≤ 2 ^ 62 → HasRoom (found_in [] a) n
-room_none n asked.Count few = omega arith
-room_none n (asked.Of fold.Sum r) few = (0, omega (arith, few), record { low = omega (arith, ints); high = omega (arith, ints) })
-room_none n (asked.Of fold.Least r) few = tt
-room_none n (asked.Of fold.Greatest r) few = tt
-room_none n (asked.Of fold.All r) few = tt
-
-kind_none : (a : Asked) → IsFoundOf a (found_in [] a)
-kind_none asked.Count = tt
-kind_none (asked.Of fold.Sum r) = tt
-kind_none (asked.Of fold.Least r) = tt
-kind_none (asked.Of fold.Greatest r) = tt
-kind_none (asked.Of fold.All r) = tt
-
--- it is open
-pub open_none : (n : ℕ) (items : List Item) → n ≤ 2 ^ 62 → AreOpen n items (map (item_found []) items)
-open_none n [] few = tt
-open_none n (i ∷ is) few = (record { kind = kind_none i.asked; room = room_none n i.asked few }, open_none n is few)
-
-answer-none : (p : Plan) → answer p [] ≡ map (item_found []) p.items
-answer-none p = let none : 0 / p.size ≡ 0 = omega arith in ap (λ n. found_over p (pieces n p.size [])) none
-
-pub query_open : (p : Plan) (s : Region) (n k : ℕ) (fs : List Found) → n ≡ s.size → k ≡ p.size → fs ≡ answer p [] → EndsByLimit s.first s.size → AreOpen (n / k * p.size) p.items fs
-query_open p s n k fs is_size is_record is ends =
-    let bytes : n / k * p.size ≤ 2 ^ 62 =
-    subst (λ (m : ℕ). n / k * m ≤ 2 ^ 62) is_record (let whole : n / k * k ≤ n = div-mul-le_self n k in omega (arith, whole, is_size, ends)) in
-    subst (AreOpen (n / k * p.size) p.items) (sym (is ∙ answer-none p)) (open_none (n / k * p.size) p.items bytes)
+-- what a slice of a vector is written back as
+pub back : {X : Type 0} (n : ℕ) (xs ys : List X) → length xs ≡ n → take n (xs ++ ys) ≡ xs
+back n xs ys e = ap (λ k. take k (xs ++ ys)) (sym e) ∙ take-append_seam xs ys
 
 -- ---- the whole call
 
+pub answer-none : (p : Plan) → answer p [] ≡ found_over p []
+answer-none p = ap (λ n. found_over p (pieces n p.size [])) (zero-div p.size)
+
 -- what stands once the tests of the call have passed
-pub record IsTested (c : ℕ) (p : Plan) (s : Region) : Type 0 where
+pub record IsTested (c : Caller) (p : Plan) (s : Region) : Type 0 where
   pub even : s.size % p.size ≡ 0
   pub may : MayUse s.arena c
 
-pub tested : (c : ℕ) (p : Plan) (s : Region) (n k : ℕ) (id : ArenaId) → n ≡ s.size → k ≡ p.size → id ≡ s.arena → n % k ≡ 0 → MayUse id c → IsTested c p s
+pub tested : (c : Caller) (p : Plan) (s : Region) (n k : ℕ) (id : ArenaId) → n ≡ s.size → k ≡ p.size → id ≡ s.arena → n % k ≡ 0 → MayUse id c → IsTested c p s
 tested c p s n k id is_size is_record is_arena even may = record {
   even = subst (λ (m : ℕ). m % p.size ≡ 0) is_size (subst (λ (m : ℕ). n % m ≡ 0) is_record even);
   may = subst (λ (a : ArenaId). MayUse a c) is_arena may;
@@ -214,27 +167,31 @@ query_wants old p s e t is = record {
   makes = Makes-none old;
 }
 
--- all records were read
-pub query_done : (old new : View) (p : Plan) (s : Region) (n k : ℕ) (fs gs a : List Found) (u : Unit {0}) → IsTested old.caller p s → n ≡ s.size → k ≡ p.size → fs ≡ answer p [] → a ≡ gs
-    → Did old new (DoesRead old.caller s (λ (x : Unit {0}) es. ReadsRecords old.caller s.arena p (n / k) s.first fs es gs) (Ok u)) → Did old new (DoesQuery old.caller p s (Ok a))
-query_done old new p s n k fs gs a u t is_size is_record is same d = record {
-  own = d.own;
-  does = (
-    t.even,
-    t.may,
-    subst (λ (xs : List Found). ReadsRecords old.caller s.arena p (s.size / p.size) s.first (found_over p []) d.own xs) (sym same)
-        (subst (λ (xs : List Found). ReadsRecords old.caller s.arena p (s.size / p.size) s.first xs d.own gs) (is ∙ answer-none p)
-        (subst (λ (j : ℕ). ReadsRecords old.caller s.arena p j s.first fs d.own gs) (ap (λ m. m / k) is_size ∙ ap (λ m. s.size / m) is_record) d.does.1)),
-  );
-  makes = d.makes;
-}
+module _ (old new : View) {p : Plan} {s : Region} (t : IsTested old.caller p s) (count : ℕ) (fs : List Found) (is_count : count ≡ s.size / p.size) where
+  abbrev AllReadTo : List Found → Result (Unit {0}) Refusal → Type 0
+  AllReadTo gs result =
+      Did old new (DoesRead old.caller s (λ u es. ReadsRecords old.caller s.arena p count s.first fs es gs) (StopsRecords old.caller s.arena p count s.first) result)
 
--- or it was refused on the way
-pub query_stopped : (old new : View) (p : Plan) (s : Region) (n : ℕ) (fs gs : List Found) (e : Refusal) → IsTested old.caller p s
-    → Did old new (DoesRead old.caller s (λ (x : Unit {0}) es. ReadsRecords old.caller s.arena p n s.first fs es gs) (Err e)) → Did old new (DoesQuery old.caller p s (Err e))
-query_stopped old new p s n fs gs e t d = record { own = d.own; does = by e d.does; makes = d.makes }
-  where
-    by : (r : Refusal) → DoesRead old.caller s (λ (x : Unit {0}) es. ReadsRecords old.caller s.arena p n s.first fs es gs) (Err r) d.own → DoesQuery old.caller p s (Err r) d.own
-    by Closed h = (t.even, t.may, h)
-    by Memory h = (t.even, t.may, h)
-    by r h = absurd h
+  -- all records were read
+  pub query_done : (gs a : List Found) (u : Unit {0}) → fs ≡ answer p [] → a ≡ gs → AllReadTo gs (Ok u) → Did old new (DoesQuery old.caller p s (Ok a))
+  query_done gs a u is same d = record {
+    own = d.own;
+    does = record {
+      even = t.even;
+      may = t.may;
+      records = subst (λ (xs : List Found). ReadsRecords old.caller s.arena p (s.size / p.size) s.first (found_over p []) d.own xs) (sym same)
+          (subst (λ (xs : List Found). ReadsRecords old.caller s.arena p (s.size / p.size) s.first xs d.own gs) (is ∙ answer-none p)
+          (subst (λ (j : ℕ). ReadsRecords old.caller s.arena p j s.first fs d.own gs) is_count d.does.1));
+      reads = d.does.0;
+    };
+    makes = d.makes;
+  }
+
+  -- or it was refused on the way
+  pub query_stopped : (gs : List Found) (e : Refusal) → AllReadTo gs (Err e) → Did old new (DoesQuery old.caller p s (Err e))
+  query_stopped gs e d = record { own = d.own; does = by e d.does; makes = d.makes }
+    where
+      by : (r : Refusal) → DoesStop old.caller s (StopsRecords old.caller s.arena p count s.first) r d.own → DoesQuery old.caller p s (Err r) d.own
+      by Closed h = (t.even, t.may, h.0, subst (λ (j : ℕ). StopsRecords old.caller s.arena p j s.first d.own) is_count h.1)
+      by Memory h = (t.even, t.may, h)
+      by r h = absurd h

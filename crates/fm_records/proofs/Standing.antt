@@ -1,10 +1,10 @@
 -- The numbers of a resolved path are those of the places to which it leads.
 use Rattle.std.proofs.Common.{ℕ, List, ap, ◌∙◌}
 use Rattle.fm_layout.specs.Tree.{Tree, Value, Padding, Sequence, Struct, Union}
-use Rattle.fm_places.specs.Walk.{AreAdmitted, offset_at}
+use Rattle.fm_path_meaning.specs.Walk.{AreAdmitted, offset_at}
 use Rattle.fm_path.specs.Resolution.{Resolution, IsResolved, IsSpecOf}
 use Rattle.fm_path.specs.declared.value_spec.ValueSpec.{ValueSpec}
-use Rattle.fm_steps.specs.declared.step.PathStep.{PathStep}
+use Rattle.fm_path_text.specs.declared.step.PathStep.{PathStep}
 use Rattle.fm_records.specs.Laws.{IsNumberOf, StandsAt}
 use Rattle.fm_records.specs.Values.{number_there, number_at}
 

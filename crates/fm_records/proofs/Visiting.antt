@@ -1,35 +1,34 @@
 -- Visits that read words of a segment, and the numbers that they give.
 use Rattle.std.proofs.Common.{◌≡◌, ℕ, ◌+◌, ◌/◌, ◌≤◌, Option, Some, None, Ok, Err, List, [], ◌∷◌, ◌++◌, refl, sym, ap, ◌∙◌, subst, append_assoc, arith}
 use Rattle.std.specs.Prelude.{ℤ}
-use Rattle.std.specs.List.{AllByRecursion, flat_map}
+use Rattle.std.specs.List.{flat_map}
 use Rattle.std.proofs.lemmas.List.{append-nil}
 use Rattle.std.proofs.lemmas.Grind.{flat_map-append}
+use Rattle.fm_lists.proofs.Each.{all_both}
+use Rattle.fm_base.specs.declared.caller.Caller.{Caller}
 use Rattle.fm_base.specs.declared.arena_id.ArenaId.{ArenaId}
 use Rattle.fm_base.specs.declared.refusal.Refusal.{Refusal}
 use Rattle.fm_base.specs.declared.refusal.Refusal.TheVariants.{Closed, WrongThread, Memory}
 use Rattle.fm_base.specs.Arenas.{MayUse}
 use Rattle.fm_base.specs.Calls.{Entry}
-use Rattle.fm_base.specs.View.{View, Makes, Did}
+use Rattle.fm_base.specs.View.{View, Makes, Did, inside_after}
 use Rattle.fm_base.specs.Visits.{Run, ends, goes_on, refused_visit}
-use Rattle.fm_base.proofs.Making.{Makes-then}
+use Rattle.fm_base.proofs.Making.{Makes-none, Makes-then}
+use Rattle.fm_base.proofs.Outcomes.{Makes-lasts}
 use Rattle.fm_lanes.specs.declared.value.Value.{Value}
-use Rattle.fm_lanes.specs.Coding.{decoded, turned}
 use Rattle.fm_lanes.specs.Kind.{width_of}
 use Rattle.fm_lanes.specs.Value.{number_of_value}
 use Rattle.fm_path.specs.declared.value_spec.ValueSpec.{ValueSpec}
-use Rattle.fm_pieces.specs.Ranges.{Reading, ReadsOn, EndsReading, DoesGet}
+use Rattle.fm_access.specs.Ranges.{Reading, ReadsOn, EndsReading}
+use Rattle.fm_access.specs.Values.{DoesGetValue}
 use Rattle.fm_segment.specs.Region.{Region}
-use Rattle.fm_segment.proofs.Access.{got_value}
-use Rattle.fm_records.specs.Reads.{IsWordOf, read_visit, AreReads, StopsReading, DoesRead, ReadsNumber}
+use Rattle.fm_segment.proofs.Access.{known_still}
+use Rattle.fm_records.specs.Reads.{CanRead, IsWordOf, LiesIn, read_visit, AreReads, StopsReading, DoesStop, DoesRead, ReadsNumber, StopsNumber}
 
-pub AreReads-none : (c : ℕ) (s : Region) → AreReads c s []
+pub AreReads-none : (c : Caller) (s : Region) → AreReads c s []
 AreReads-none c s = record { reads = []; within = tt; visits = refl }
 
-pub all_both : {X : Type 0} (P : X → Type 0) (xs ys : List X) → AllByRecursion P xs → AllByRecursion P ys → AllByRecursion P (xs ++ ys)
-all_both P [] ys p q = q
-all_both P (x ∷ xs) ys p q = (p.0, all_both P xs ys p.1 q)
-
-pub AreReads-append : (c : ℕ) (s : Region) (es fs : List Entry) → AreReads c s es → AreReads c s fs → AreReads c s (es ++ fs)
+pub AreReads-append : (c : Caller) (s : Region) (es fs : List Entry) → AreReads c s es → AreReads c s fs → AreReads c s (es ++ fs)
 AreReads-append c s es fs p q = record {
   reads = p.reads ++ q.reads;
   within = all_both (λ r. IsWordOf s r.0) p.reads q.reads p.within q.within;
@@ -38,7 +37,7 @@ AreReads-append c s es fs p q = record {
 }
 
 -- reads before those up to a closed arena
-pub StopsReading-after : (c : ℕ) (s : Region) (es fs : List Entry) → AreReads c s es → StopsReading c s fs → StopsReading c s (es ++ fs)
+pub StopsReading-after : (c : Caller) (s : Region) (es fs : List Entry) → AreReads c s es → StopsReading c s fs → StopsReading c s (es ++ fs)
 StopsReading-after c s es fs p q = record {
   before = es ++ q.before;
   reads = AreReads-append c s es q.before p q.reads;
@@ -46,27 +45,27 @@ StopsReading-after c s es fs p q = record {
 }
 
 -- what a run of visits to a range is
-abbrev pub RangeIs : ℕ → Region → List Entry → Option (List ℕ) → Type 0
+abbrev pub RangeIs : Caller → Region → List Entry → Option (List ℕ) → Type 0
 RangeIs c s own (Some bytes) = AreReads c s own
 RangeIs c s own None = StopsReading c s own
 
-range_ends : (c : ℕ) (s : Region) (end : ℕ) (x : Reading) (own : List Entry) (answer : Option (List ℕ)) → EndsReading c s.arena end x own answer → RangeIs c s own answer
+range_ends : (c : Caller) (s : Region) (end : ℕ) (x : Reading) (own : List Entry) (answer : Option (List ℕ)) → EndsReading c s.arena end x own answer → RangeIs c s own answer
 range_ends c s end x own (Some bytes) e = subst (AreReads c s) (sym e.2) (AreReads-none c s)
 range_ends c s end x own None e = record { before = []; reads = AreReads-none c s; stops = e.1 }
 
-range_after : (c : ℕ) (s : Region) (es fs : List Entry) (answer : Option (List ℕ)) → AreReads c s es → RangeIs c s fs answer → RangeIs c s (es ++ fs) answer
+range_after : (c : Caller) (s : Region) (es fs : List Entry) (answer : Option (List ℕ)) → AreReads c s es → RangeIs c s fs answer → RangeIs c s (es ++ fs) answer
 range_after c s es fs (Some bytes) p q = AreReads-append c s es fs p q
 range_after c s es fs None p q = StopsReading-after c s es fs p q
 
 -- a piece is one read of a word of the segment
-piece_read : (c : ℕ) (s : Region) (end : ℕ) (x y : Reading) (own : List Entry) → ReadsOn c s.arena end x own y → s.first ≤ x.at → end ≤ s.first + s.size → AreReads c s own
+piece_read : (c : Caller) (s : Region) (end : ℕ) (x y : Reading) (own : List Entry) → ReadsOn c s.arena end x own y → s.first ≤ x.at → end ≤ s.first + s.size → AreReads c s own
 piece_read c s end x y own r low high = record {
   reads = (x.at / 8, r.piece.word) ∷ [];
   within = (record { above = omega arith; below = omega (arith, r.more) }, tt);
   visits = r.piece.visits ∙ sym (append-nil _);
 }
 
-pub range_read : (c : ℕ) (s : Region) (end : ℕ) (x : Reading) (own : List Entry) (answer : Option (List ℕ)) → Run (ReadsOn c s.arena end) (EndsReading c s.arena end) x own answer
+pub range_read : (c : Caller) (s : Region) (end : ℕ) (x : Reading) (own : List Entry) (answer : Option (List ℕ)) → Run (ReadsOn c s.arena end) (EndsReading c s.arena end) x own answer
     → s.first ≤ x.at → end ≤ s.first + s.size → RangeIs c s own answer
 range_read c s end x own answer (ends e) low high = range_ends c s end x own answer e
 range_read c s end x own answer (goes_on y more rest p r) low high =
@@ -74,65 +73,102 @@ range_read c s end x own answer (goes_on y more rest p r) low high =
 
 -- ---- one number
 
--- a number that was got, turned and decoded
-pub number_read : (c : ℕ) (s : Region) (spec : ValueSpec) (place width n m : ℕ) (v : Value) (z : ℤ) (own : List Entry)
-    → width ≡ width_of spec.kind → m ≡ turned width n spec.order → v ≡ decoded spec.kind m → z ≡ number_of_value v
-    → s.first ≤ place → place + width ≤ s.first + s.size
-    → DoesGet c s.arena place width (Ok n) own → DoesRead c s (λ k es. ReadsNumber c s.arena spec place es k) (Ok z) own
-number_read c s spec place width n m v z own w t e is low high d =
-    let got = got_value c s.arena place width spec.kind spec.order n m v own w t e d in
-    (range_read c s (place + width) (record { at = place; bytes = [] }) own (Some d.1.bytes) d.1.visits low high, record { value = v; reads = got.1; number = is })
+module _ (c : Caller) (s : Region) (spec : ValueSpec) (place : ℕ) where
+  -- what was got is read of the segment
+  number_read : (v : Value) (z : ℤ) (own : List Entry) → z ≡ number_of_value v → LiesIn s place (width_of spec.kind) → DoesGetValue c spec.kind spec.order s.arena place (Ok v) own
+      → DoesRead c s (λ n es. ReadsNumber c s.arena spec place es n) (StopsNumber c s.arena spec place) (Ok z) own
+  number_read v z own is lies d =
+      (range_read c s (place + width_of spec.kind) (record { at = place; bytes = [] }) own (Some d.1.bytes) d.1.visits lies.from lies.within, record { value = v; reads = d.1; number = is })
 
-pub number_refused : (c : ℕ) (s : Region) (spec : ValueSpec) (place width : ℕ) (r : Refusal) (own : List Entry) → MayUse s.arena c
-    → s.first ≤ place → place + width ≤ s.first + s.size
-    → DoesGet c s.arena place width (Err r) own → DoesRead c s (λ k es. ReadsNumber c s.arena spec place es k) (Err r) own
-number_refused c s spec place width Closed own may low high d = range_read c s (place + width) (record { at = place; bytes = [] }) own None d.1 low high
-number_refused c s spec place width WrongThread own may low high d = absurd (d.0 may)
-number_refused c s spec place width r own may low high d = absurd d
+  number_stops : (r : Refusal) (own : List Entry) → MayUse s.arena c → LiesIn s place (width_of spec.kind) → DoesGetValue c spec.kind spec.order s.arena place (Err r) own
+      → DoesStop c s (StopsNumber c s.arena spec place) r own
+  number_stops Closed own may lies d =
+      (range_read c s (place + width_of spec.kind) (record { at = place; bytes = [] }) own None d.1 lies.from lies.within, d.1)
+  number_stops WrongThread own may lies d = absurd (d.0 may)
+  number_stops r own may lies d = absurd d
 
 -- the same of what was done
-pub number_done : (old new : View) (s : Region) (spec : ValueSpec) (id : ArenaId) (place width n m : ℕ) (v : Value) (z : ℤ)
-    → id ≡ s.arena → width ≡ width_of spec.kind → m ≡ turned width n spec.order → v ≡ decoded spec.kind m → z ≡ number_of_value v
-    → s.first ≤ place → place + width_of spec.kind ≤ s.first + s.size
-    → Did old new (DoesGet old.caller id place width (Ok n)) → Did old new (DoesRead old.caller s (λ k es. ReadsNumber old.caller s.arena spec place es k) (Ok z))
-number_done old new s spec id place width n m v z same w t e is low high d = record {
+pub number_done : (old new : View) (s : Region) (spec : ValueSpec) (place : ℕ) (id : ArenaId) (v : Value) (z : ℤ) → id ≡ s.arena → z ≡ number_of_value v → LiesIn s place (width_of spec.kind)
+    → Did old new (DoesGetValue old.caller spec.kind spec.order id place (Ok v))
+    → Did old new (DoesRead old.caller s (λ n es. ReadsNumber old.caller s.arena spec place es n) (StopsNumber old.caller s.arena spec place) (Ok z))
+number_done old new s spec place id v z same is lies d = record {
   own = d.own;
-  does = number_read old.caller s spec place width n m v z d.own w t e is low (omega (arith, high, w)) (subst (λ (a : ArenaId). DoesGet old.caller a place width (Ok n) d.own) same d.does);
+  does = number_read old.caller s spec place v z d.own is lies (subst (λ (a : ArenaId). DoesGetValue old.caller spec.kind spec.order a place (Ok v) d.own) same d.does);
   makes = d.makes;
 }
 
-pub number_stopped : (old new : View) (s : Region) (spec : ValueSpec) (id : ArenaId) (place width : ℕ) (r : Refusal)
-    → id ≡ s.arena → width ≡ width_of spec.kind → MayUse s.arena old.caller → s.first ≤ place → place + width_of spec.kind ≤ s.first + s.size
-    → Did old new (DoesGet old.caller id place width (Err r)) → Did old new (DoesRead old.caller s (λ k es. ReadsNumber old.caller s.arena spec place es k) (Err r))
-number_stopped old new s spec id place width r same w may low high d = record {
+pub number_stopped : (old new : View) (s : Region) (spec : ValueSpec) (place : ℕ) (id : ArenaId) (r : Refusal) → id ≡ s.arena → CanRead old s → LiesIn s place (width_of spec.kind)
+    → Did old new (DoesGetValue old.caller spec.kind spec.order id place (Err r))
+    → Did old new (DoesRead old.caller s (λ (n : ℤ) es. ReadsNumber old.caller s.arena spec place es n) (StopsNumber old.caller s.arena spec place) (Err r))
+number_stopped old new s spec place id r same can lies d = record {
   own = d.own;
-  does = number_refused old.caller s spec place width r d.own may low (omega (arith, high, w)) (subst (λ (a : ArenaId). DoesGet old.caller a place width (Err r) d.own) same d.does);
+  does = number_stops old.caller s spec place r d.own can.may lies (subst (λ (a : ArenaId). DoesGetValue old.caller spec.kind spec.order a place (Err r) d.own) same d.does);
   makes = d.makes;
 }
-
--- A caller that may use the arena is refused as it is closed, and not otherwise.
-get_closed : (c : ℕ) (id : ArenaId) (place width : ℕ) (r : Refusal) (own : List Entry) → MayUse id c → DoesGet c id place width (Err r) own → r ≡ Closed
-get_closed c id place width WrongThread own may d = absurd (d.0 may)
-get_closed c id place width Closed own may d = refl
-get_closed c id place width r own may d = absurd d
-
-pub number_closed : (old new : View) (s : Region) (id : ArenaId) (place width : ℕ) (r : Refusal) → id ≡ s.arena → MayUse s.arena old.caller
-    → Did old new (DoesGet old.caller id place width (Err r)) → r ≡ Closed
-number_closed old new s id place width r same may d =
-    get_closed old.caller s.arena place width r d.own may (subst (λ (a : ArenaId). DoesGet old.caller a place width (Err r) d.own) same d.does)
 
 -- ---- reading after reading
 
--- Reads, and then a refusal.
-pub stops_then : {X Y : Type 0} (P : X → List Entry → Type 0) (Q : Y → List Entry → Type 0) (old now next : View) (s : Region) (own : List Entry) (r : Refusal)
-    → Makes old now own → AreReads old.caller s own → Did now next (DoesRead now.caller s P (Err r)) → Did old next (DoesRead old.caller s Q (Err r))
-stops_then P Q old now next s own r makes reads d = record {
+-- the memory went from old to now by reads of the segment
+pub record SoFar (old now : View) (s : Region) (own : List Entry) : Type 0 where
+  pub makes : Makes old now own
+  pub reads : AreReads old.caller s own
+
+pub none_so_far : (old : View) (s : Region) → SoFar old old s []
+none_so_far old s = record { makes = Makes-none old; reads = AreReads-none old.caller s }
+
+-- what one call read
+pub first_so_far : {old now : View} {s : Region} {Q : List Entry → Type 0} → (d : Did old now (λ es. AreReads old.caller s es × Q es)) → SoFar old now s d.own
+first_so_far {old} {now} {s} {Q} d = record { makes = d.makes; reads = d.does.0 }
+
+-- reads end outside
+reads_before : (c : Caller) (id : ArenaId) (reads : List (ℕ × ℕ)) (es : List Entry) → inside_after None (flat_map (read_visit c id) reads ++ es) ≡ inside_after None es
+reads_before c id [] es = refl
+reads_before c id (r ∷ reads) es = reads_before c id reads es
+
+pub reads_outside : {c : Caller} {s : Region} {own : List Entry} → AreReads c s own → inside_after None own ≡ None
+reads_outside {c} {s} {own} h = ap (inside_after None) (h.visits ∙ sym (append-nil _)) ∙ reads_before c s.arena h.reads []
+
+pub stops_outside : {c : Caller} {s : Region} {own : List Entry} → StopsReading c s own → inside_after None own ≡ None
+stops_outside {c} {s} {own} h =
+    ap (inside_after None) (h.stops ∙ ap (λ es. es ++ refused_visit c s.arena) h.reads.visits) ∙ reads_before c s.arena h.reads.reads (refused_visit c s.arena)
+
+-- so that reading can go on
+pub can_still : {old now : View} {s : Region} {own : List Entry} → CanRead old s → SoFar old now s own → CanRead now s
+can_still {old} {now} {s} {own} can h = record {
+  outside = h.makes.inside ∙ ap (λ i. inside_after i own) can.outside ∙ reads_outside h.reads;
+  known = known_still old now s (Makes-lasts old now own h.makes) can.known;
+  may = subst (MayUse s.arena) (sym h.makes.same_caller) can.may;
+  ends = can.ends;
+}
+
+-- more was read, said of the caller at the start
+pub record More (old next : View) (s : Region) (before own : List Entry) (Q : List Entry → Type 0) : Type 0 where
+  pub so_far : SoFar old next s (before ++ own)
+  pub does : Q own
+
+pub more : {old now next : View} {s : Region} {own : List Entry} (P : Caller → List Entry → Type 0) → SoFar old now s own
+    → (d : Did now next (λ es. AreReads now.caller s es × P now.caller es)) → More old next s own d.own (P old.caller)
+more {old} {now} {next} {s} {own} P h d =
+    let here : AreReads old.caller s d.own × P old.caller d.own = subst (λ (c : Caller). AreReads c s d.own × P c d.own) h.makes.same_caller d.does in
+    record {
+      so_far = record { makes = Makes-then old now next own d.own h.makes d.makes; reads = AreReads-append old.caller s own d.own h.reads here.0 };
+      does = here.1;
+    }
+
+-- it came to its end
+pub ended : {old now : View} {s : Region} {own : List Entry} (Q : List Entry → Type 0) → SoFar old now s own → Q own → Did old now (λ es. AreReads old.caller s es × Q es)
+ended {old} {now} {s} {own} Q h q = record { own = own; does = (h.reads, q); makes = h.makes }
+
+-- or to a refusal
+pub stopped : {old now next : View} {s : Region} {own : List Entry} (r : Refusal) (S : Caller → List Entry → Type 0) (T : List Entry → Type 0) → SoFar old now s own
+    → ((es : List Entry) → S old.caller es → T (own ++ es)) → Did now next (DoesStop now.caller s (S now.caller) r) → Did old next (DoesStop old.caller s T r)
+stopped {old} {now} {next} {s} {own} r S T h on d = record {
   own = own ++ d.own;
-  does = both r (subst (λ (c : ℕ). DoesRead c s P (Err r) d.own) makes.same_caller d.does);
-  makes = Makes-then old now next own d.own makes d.makes;
+  does = both r (subst (λ (c : Caller). DoesStop c s (S c) r d.own) h.makes.same_caller d.does);
+  makes = Makes-then old now next own d.own h.makes d.makes;
 }
   where
-    both : (r : Refusal) → DoesRead old.caller s P (Err r) d.own → DoesRead old.caller s Q (Err r) (own ++ d.own)
-    both Closed h = StopsReading-after old.caller s own d.own reads h
-    both Memory h = AreReads-append old.caller s own d.own reads h
-    both r h = absurd h
+    both : (e : Refusal) → DoesStop old.caller s (S old.caller) e d.own → DoesStop old.caller s T e (own ++ d.own)
+    both Closed g = (StopsReading-after old.caller s own d.own h.reads g.0, on d.own g.1)
+    both Memory g = AreReads-append old.caller s own d.own h.reads g
+    both e g = absurd g

@@ -4,7 +4,7 @@ use Rattle.std.specs.List.{range_with_len}
 use Rattle.fm_base.specs.declared.refusal.Refusal.{Refusal}
 use Rattle.fm_base.specs.declared.refusal.Refusal.TheVariants.{Closed}
 use Rattle.fm_base.specs.Arenas.{Alive, State, arena_of}
-use Rattle.fm_base.specs.Histories.{byte_at}
+use Rattle.fm_bytes.specs.Words.{byte_at}
 use Rattle.fm_base.specs.View.{View}
 use Rattle.fm_segment.specs.Region.{Region}
 use Rattle.fm_query.specs.Plan.{Plan}

@@ -1,10 +1,11 @@
 -- Reads that find the bytes of a region as a list has them.
 use Rattle.std.specs.Prelude.{◌≡◌, ℕ, ◌+◌, ◌-◌, ◌*◌, ◌<◌, ◌≤◌, List, length, slice_index, Ok}
 use Rattle.std.specs.List.{AllByRecursion}
+use Rattle.fm_base.specs.declared.caller.Caller.{Caller}
 use Rattle.fm_base.specs.declared.arena_id.ArenaId.{ArenaId}
 use Rattle.fm_base.specs.Calls.{Read, Found as Found_word, Entry, entry_of}
-use Rattle.fm_base.specs.Histories.{byte_of}
-use Rattle.fm_places.specs.Places.{IsAmong}
+use Rattle.fm_bytes.specs.Words.{byte_of}
+use Rattle.fm_lists.specs.Among.{IsAmong}
 use Rattle.fm_query.specs.Plan.{Plan, IsPlan}
 use Rattle.fm_segment.specs.Region.{Region}
 use Rattle.fm_records.specs.declared.found.Found.{Found}
@@ -26,12 +27,12 @@ abbrev pub FindAs : Region → List ℕ → List Entry → Type 0
 FindAs s bytes own = AllByRecursion (FindsAs s bytes) own
 
 -- one of the entries is the caller's Read of the word
-pub record HasRead (c : ℕ) (id : ArenaId) (word : ℕ) (own : List Entry) : Type 0 where
+pub record HasRead (c : Caller) (id : ArenaId) (word : ℕ) (own : List Entry) : Type 0 where
   pub found : ℕ
   pub among : IsAmong (entry_of c (Read id word) (Found_word found)) own
 
 -- the query was answered over the region by Reads that found these bytes
-pub record IsAnswered (c : ℕ) (p : Plan) (s : Region) (bytes : List ℕ) (a : List Found) (own : List Entry) : Type 0 where
+pub record IsAnswered (c : Caller) (p : Plan) (s : Region) (bytes : List ℕ) (a : List Found) (own : List Entry) : Type 0 where
   pub plan : IsPlan p
   pub size : length bytes ≡ s.size
   pub finds : FindAs s bytes own

@@ -1,17 +1,18 @@
 -- What holds of every answer.
 use Rattle.std.specs.Prelude.{◌≡◌, ℕ, ◌+◌, ◌*◌, ◌%◌, ◌<◌, ◌≤◌, ◌↔◌, true, List, [], ◌++◌, length, ℤ, ◌≤ℤ◌, Some, MatchOption}
 use Rattle.std.specs.List.{AllByRecursion, list_all, slice_get}
+use Rattle.fm_base.specs.declared.caller.Caller.{Caller}
 use Rattle.fm_base.specs.Arenas.{State}
 use Rattle.fm_base.specs.Calls.{Entry}
 use Rattle.fm_lanes.specs.Kind.{width_of}
 use Rattle.fm_layout.specs.Tree.{Tree, Value}
-use Rattle.fm_places.specs.Found.{Finds}
-use Rattle.fm_places.specs.Places.{IsAmong}
-use Rattle.fm_places.specs.Walk.{AreAdmitted, offset_at}
-use Rattle.fm_places.specs.declared.dim.Dim.{Dim}
+use Rattle.fm_path_meaning.specs.Found.{Finds}
+use Rattle.fm_lists.specs.Among.{IsAmong}
+use Rattle.fm_path_meaning.specs.Walk.{AreAdmitted, offset_at}
+use Rattle.fm_path_meaning.specs.declared.dim.Dim.{Dim}
 use Rattle.fm_path.specs.Resolution.{Resolution, IsResolved}
-use Rattle.fm_steps.specs.declared.step.PathStep.{PathStep}
-use Rattle.fm_pieces.specs.Alone.{bytes_of_arena}
+use Rattle.fm_path_text.specs.declared.step.PathStep.{PathStep}
+use Rattle.fm_access.specs.Alone.{bytes_of_arena}
 use Rattle.fm_segment.specs.Alone.{bytes_of_region}
 use Rattle.fm_segment.specs.Region.{Region, part_of}
 use Rattle.fm_query.specs.Plan.{Plan}
@@ -77,7 +78,7 @@ PlacesHaveTheBytes =
 -- where Reads found these bytes, the answer is that over them
 abbrev pub AnswersOverBytes : Type 0
 AnswersOverBytes =
-    (c : ℕ) (p : Plan) (s : Region) (bytes : List ℕ) (a : List Found) (own : List Entry)
+    (c : Caller) (p : Plan) (s : Region) (bytes : List ℕ) (a : List Found) (own : List Entry)
     → IsAnswered c p s bytes a own → a ≡ answer p bytes
 
 -- the record of this index is chosen, and an item asks for its value at these indices
@@ -98,7 +99,7 @@ value_in p s index r is = part_of (index * p.size + offset_at r.offset r.dims is
 -- and each word of such a value is read
 abbrev pub ReadsWhatIsAsked : Type 0
 ReadsWhatIsAsked =
-    (c : ℕ) (p : Plan) (s : Region) (bytes : List ℕ) (a : List Found) (own : List Entry)
+    (c : Caller) (p : Plan) (s : Region) (bytes : List ℕ) (a : List Found) (own : List Entry)
     (index : ℕ) (r : Resolution) (is : List ℕ) (word : ℕ)
     → IsAnswered c p s bytes a own → IsAsked p bytes index r is
     → IsWordOf (value_in p s index r is) word → HasRead c s.arena word own

@@ -1,9 +1,12 @@
 pub mod Alone
 pub mod Answers
 pub mod Bytes
+pub mod Few
 pub mod Joined
 pub mod Laws
+pub mod Learnt
 pub mod Reads
 pub mod Records
+pub mod Shares
 pub mod Texts
 pub mod Values

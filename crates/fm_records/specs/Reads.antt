@@ -1,23 +1,27 @@
 -- What the visits of a query read of a segment, record by record, and what that comes to.
-use Rattle.std.specs.Prelude.{◌≡◌, ℕ, ◌+◌, ◌*◌, ◌/◌, ◌%◌, ◌<◌, ◌≤◌, List, [], ◌∷◌, ◌++◌, length, map, Bool, true, false, ℤ, pos, negsuc, ◌+ℤ◌, ◌≤ℤ◌, ◌^◌, ⊤, Option, Some, None, Result, Ok, Err}
+use Rattle.std.specs.Prelude.{◌≡◌, ℕ, ◌+◌, ◌*◌, ◌/◌, ◌%◌, ◌<◌, ◌≤◌, List, [], ◌∷◌, ◌++◌, map, Bool, true, false, ℤ, ◌+ℤ◌, Option, Some, None, Result, Ok, Err}
 use Rattle.std.proofs.Common.{zero, suc}
-use Rattle.std.specs.List.{AllByRecursion, AllZip, flat_map}
+use Rattle.std.specs.List.{AllByRecursion, flat_map}
+use Rattle.fm_base.specs.declared.caller.Caller.{Caller}
 use Rattle.fm_base.specs.declared.arena_id.ArenaId.{ArenaId}
 use Rattle.fm_base.specs.declared.refusal.Refusal.{Refusal}
 use Rattle.fm_base.specs.declared.refusal.Refusal.TheVariants.{Ragged, WrongThread, Closed, Memory}
 use Rattle.fm_base.specs.Arenas.{MayUse}
 use Rattle.fm_base.specs.Calls.{Read, Found as Found_word, Entry}
+use Rattle.fm_base.specs.View.{View}
 use Rattle.fm_base.specs.Visits.{visit, refused_visit}
 use Rattle.fm_lanes.specs.declared.value.Value.{Value}
 use Rattle.fm_lanes.specs.Kind.{width_of}
 use Rattle.fm_lanes.specs.Value.{number_of_value}
 use Rattle.fm_path.specs.Resolution.{StaysInside}
 use Rattle.fm_path.specs.declared.value_spec.ValueSpec.{ValueSpec}
-use Rattle.fm_places.specs.declared.dim.Dim.{Dim}
-use Rattle.fm_places.specs.Steady.{IsSteady}
-use Rattle.fm_places.specs.Walk.{AreAdmitted, offset_at}
-use Rattle.fm_segment.specs.Access.{ReadsValue}
-use Rattle.fm_segment.specs.Region.{Region}
+use Rattle.fm_path_meaning.specs.declared.dim.Dim.{Dim}
+use Rattle.fm_path_meaning.specs.Steady.{IsSteady}
+use Rattle.fm_path_meaning.specs.Walk.{AreAdmitted, offset_at}
+use Rattle.fm_access.specs.Ranges.{ReadsRange}
+use Rattle.fm_access.specs.Values.{ReadsValue}
+use Rattle.fm_segment.specs.Access.{IsKnown}
+use Rattle.fm_segment.specs.Region.{EndsByLimit, Region}
 use Rattle.fm_query.specs.Plan.{Plan}
 use Rattle.fm_query.specs.declared.condition.Condition.{Condition}
 use Rattle.fm_query.specs.declared.item.Asked.{Asked}
@@ -27,10 +31,21 @@ use Rattle.fm_records.specs.declared.found.Found.{Found}
 use Rattle.fm_records.specs.declared.found.Found.TheVariants.{Count, Sum, Least, Greatest, Listed}
 use Rattle.fm_records.specs.Answers.{compares, folded, found_over, lesser, greater}
 use Rattle.fm_records.specs.Joined.{both, joined}
-use Rattle.fm_records.specs.Texts.{IsItemFound}
 use Rattle.fm_records.specs.Values.{index_lists}
 
 -- ---- visits that read
+
+-- in no arena, and the segment is known to the memory and open to the caller
+pub record CanRead (v : View) (s : Region) : Type 0 where
+  pub outside : v.inside ≡ None
+  pub known : IsKnown v s
+  pub may : MayUse s.arena v.caller
+  pub ends : EndsByLimit s.first s.size
+
+-- so many bytes from a place on are the segment's
+pub record LiesIn (s : Region) (place width : ℕ) : Type 0 where
+  pub from : s.first ≤ place
+  pub within : place + width ≤ s.first + s.size
 
 -- a word that has a byte of the segment
 pub record IsWordOf (s : Region) (word : ℕ) : Type 0 where
@@ -38,27 +53,31 @@ pub record IsWordOf (s : Region) (word : ℕ) : Type 0 where
   pub below : 8 * word < s.first + s.size
 
 -- one visit with one Read of a word, and what was found there
-abbrev pub read_visit : ℕ → ArenaId → ℕ × ℕ → List Entry
+abbrev pub read_visit : Caller → ArenaId → ℕ × ℕ → List Entry
 read_visit c id r = visit c id ((Read id r.0, Found_word r.1) ∷ [])
 
 -- visits, each with one Read of a word of the segment
-pub record AreReads (c : ℕ) (s : Region) (own : List Entry) : Type 0 where
+pub record AreReads (c : Caller) (s : Region) (own : List Entry) : Type 0 where
   pub reads : List (ℕ × ℕ)
   pub within : AllByRecursion (λ r. IsWordOf s r.0) reads
   pub visits : own ≡ flat_map (read_visit c s.arena) reads
 
 -- such visits, and then one that found the arena closed
-pub record StopsReading (c : ℕ) (s : Region) (own : List Entry) : Type 0 where
+pub record StopsReading (c : Caller) (s : Region) (own : List Entry) : Type 0 where
   pub before : List Entry
   pub reads : AreReads c s before
   pub stops : own ≡ before ++ refused_visit c s.arena
 
--- what reading does: such visits, which give x as P says; or up to the first refusal
-abbrev pub DoesRead : {X : Type 0} → ℕ → Region → (X → List Entry → Type 0) → Result X Refusal → List Entry → Type 0
-DoesRead c s P (Ok x) own = AreReads c s own × P x own
-DoesRead c s P (Err Closed) own = StopsReading c s own
-DoesRead c s P (Err Memory) own = AreReads c s own
-DoesRead c s P (Err r) own = ⊥
+-- Why reading stops: the arena was found closed at a value that was asked for, as S says; or memory was wanting
+abbrev pub DoesStop : Caller → Region → (List Entry → Type 0) → Refusal → List Entry → Type 0
+DoesStop c s S Closed own = StopsReading c s own × S own
+DoesStop c s S Memory own = AreReads c s own
+DoesStop c s S r own = ⊥
+
+-- what reading does: such visits, which give x as P says; or it stops
+abbrev pub DoesRead : {X : Type 0} → Caller → Region → (X → List Entry → Type 0) → (List Entry → Type 0) → Result X Refusal → List Entry → Type 0
+DoesRead c s P S (Ok x) own = AreReads c s own × P x own
+DoesRead c s P S (Err r) own = DoesStop c s S r own
 
 -- ---- one record, whose first byte stands at the place
 
@@ -67,46 +86,46 @@ abbrev pub value_places : ℕ → ℕ → List Dim → List ℕ
 value_places place at dims = map (λ is. place + offset_at at dims is) (index_lists dims)
 
 -- the visits read the value at a place, whose number this is
-pub record ReadsNumber (c : ℕ) (id : ArenaId) (spec : ValueSpec) (place : ℕ) (own : List Entry) (n : ℤ) : Type 0 where
+pub record ReadsNumber (c : Caller) (id : ArenaId) (spec : ValueSpec) (place : ℕ) (own : List Entry) (n : ℤ) : Type 0 where
   pub value : Value
   pub reads : ReadsValue c spec.kind spec.order id place value own
   pub number : n ≡ number_of_value value
 
 -- the visits read the values at these places, in their order
-pub data ReadsNumbers (c : ℕ) (id : ArenaId) (spec : ValueSpec) : List ℕ → List Entry → List ℤ → Type 0 where
+pub data ReadsNumbers (c : Caller) (id : ArenaId) (spec : ValueSpec) : List ℕ → List Entry → List ℤ → Type 0 where
   no_more : ReadsNumbers c id spec [] [] []
   one_more : {place : ℕ} {places : List ℕ} → (own rest : List Entry) (n : ℤ) (ns : List ℤ)
       → ReadsNumber c id spec place own n → ReadsNumbers c id spec places rest ns
       → ReadsNumbers c id spec (place ∷ places) (own ++ rest) (n ∷ ns)
 
 -- the visits read a condition's value, and it compares so
-pub record Tests (c : ℕ) (id : ArenaId) (place : ℕ) (x : Condition) (own : List Entry) (holds : Bool) : Type 0 where
+pub record Tests (c : Caller) (id : ArenaId) (place : ℕ) (x : Condition) (own : List Entry) (holds : Bool) : Type 0 where
   pub number : ℤ
   pub reads : ReadsNumber c id x.path.value (place + x.path.offset) own number
   pub compared : compares x.operator number x.literal ≡ holds
 
 -- the conditions are tested in order, up to the first that fails
-pub data TestsConditions (c : ℕ) (id : ArenaId) (place : ℕ) : List Condition → List Entry → Bool → Type 0 where
+pub data TestsConditions (c : Caller) (id : ArenaId) (place : ℕ) : List Condition → List Entry → Bool → Type 0 where
   all_hold : TestsConditions c id place [] [] true
   fails : {x : Condition} {xs : List Condition} → (own : List Entry) → Tests c id place x own false → TestsConditions c id place (x ∷ xs) own false
   holds : {x : Condition} {xs : List Condition} {all : Bool} → (own rest : List Entry) → Tests c id place x own true
       → TestsConditions c id place xs rest all → TestsConditions c id place (x ∷ xs) (own ++ rest) all
 
 -- what an item finds in one chosen record, by the numbers read
-abbrev pub FindsItem : ℕ → ArenaId → ℕ → Asked → List Entry → Found → Type 0
+abbrev pub FindsItem : Caller → ArenaId → ℕ → Asked → List Entry → Found → Type 0
 FindsItem c id place asked.Count own found = (own ≡ []) × (found ≡ Count 1)
 FindsItem c id place (asked.Of f r) own found =
     (ns : List ℤ) × ReadsNumbers c id r.value (value_places place r.offset r.dims) own ns × (found ≡ folded f ns)
 
 -- the items are gone through in order
-pub data FindsItems (c : ℕ) (id : ArenaId) (place : ℕ) : List Item → List Entry → List Found → Type 0 where
+pub data FindsItems (c : Caller) (id : ArenaId) (place : ℕ) : List Item → List Entry → List Found → Type 0 where
   no_item : FindsItems c id place [] [] []
   one_item : {item : Item} {items : List Item} → (found : Found) (fs : List Found) (own rest : List Entry)
       → FindsItem c id place item.asked own found → FindsItems c id place items rest fs
       → FindsItems c id place (item ∷ items) (own ++ rest) (found ∷ fs)
 
 -- Some: the record is chosen, and its items find these. None: it isn't
-pub data ReadsRecord (c : ℕ) (id : ArenaId) (p : Plan) (place : ℕ) : List Entry → Option (List Found) → Type 0 where
+pub data ReadsRecord (c : Caller) (id : ArenaId) (p : Plan) (place : ℕ) : List Entry → Option (List Found) → Type 0 where
   chosen : (own rest : List Entry) (fs : List Found) → TestsConditions c id place p.conditions own true
       → FindsItems c id place p.items rest fs → ReadsRecord c id p place (own ++ rest) (Some fs)
   passed_over : (own : List Entry) → TestsConditions c id place p.conditions own false → ReadsRecord c id p place own None
@@ -118,26 +137,70 @@ with_record so_far None = so_far
 with_record so_far (Some fs) = joined so_far fs
 
 -- so many records from the place on, and what they and those before come to
-pub data ReadsRecords (c : ℕ) (id : ArenaId) (p : Plan) : ℕ → ℕ → List Found → List Entry → List Found → Type 0 where
+pub data ReadsRecords (c : Caller) (id : ArenaId) (p : Plan) : ℕ → ℕ → List Found → List Entry → List Found → Type 0 where
   no_record : {place : ℕ} {so_far : List Found} → ReadsRecords c id p zero place so_far [] so_far
   one_record : {count place : ℕ} {so_far all : List Found} → (own rest : List Entry) (seen : Option (List Found))
       → ReadsRecord c id p place own seen → ReadsRecords c id p count (place + p.size) (with_record so_far seen) rest all
       → ReadsRecords c id p (suc count) place so_far (own ++ rest) all
 
+-- ---- the same up to a value whose visits found the arena closed
+
+abbrev pub StopsNumber : Caller → ArenaId → ValueSpec → ℕ → List Entry → Type 0
+StopsNumber c id spec place own = ReadsRange c id place (place + width_of spec.kind) own None
+
+pub data StopsNumbers (c : Caller) (id : ArenaId) (spec : ValueSpec) : List ℕ → List Entry → Type 0 where
+  at_number : {place : ℕ} {places : List ℕ} → (own : List Entry) → StopsNumber c id spec place own → StopsNumbers c id spec (place ∷ places) own
+  next_number : {place : ℕ} {places : List ℕ} → (own rest : List Entry) (n : ℤ)
+      → ReadsNumber c id spec place own n → StopsNumbers c id spec places rest → StopsNumbers c id spec (place ∷ places) (own ++ rest)
+
+abbrev pub StopsTest : Caller → ArenaId → ℕ → Condition → List Entry → Type 0
+StopsTest c id place x own = StopsNumber c id x.path.value (place + x.path.offset) own
+
+pub data StopsTests (c : Caller) (id : ArenaId) (place : ℕ) : List Condition → List Entry → Type 0 where
+  at_test : {x : Condition} {xs : List Condition} → (own : List Entry) → StopsTest c id place x own → StopsTests c id place (x ∷ xs) own
+  next_test : {x : Condition} {xs : List Condition} → (own rest : List Entry)
+      → Tests c id place x own true → StopsTests c id place xs rest → StopsTests c id place (x ∷ xs) (own ++ rest)
+
+abbrev pub StopsItem : Caller → ArenaId → ℕ → Asked → List Entry → Type 0
+StopsItem c id place asked.Count own = ⊥
+StopsItem c id place (asked.Of f r) own = StopsNumbers c id r.value (value_places place r.offset r.dims) own
+
+pub data StopsItems (c : Caller) (id : ArenaId) (place : ℕ) : List Item → List Entry → Type 0 where
+  at_item : {item : Item} {items : List Item} → (own : List Entry) → StopsItem c id place item.asked own → StopsItems c id place (item ∷ items) own
+  next_item : {item : Item} {items : List Item} → (found : Found) (own rest : List Entry)
+      → FindsItem c id place item.asked own found → StopsItems c id place items rest → StopsItems c id place (item ∷ items) (own ++ rest)
+
+pub data StopsRecord (c : Caller) (id : ArenaId) (p : Plan) (place : ℕ) : List Entry → Type 0 where
+  at_condition : (own : List Entry) → StopsTests c id place p.conditions own → StopsRecord c id p place own
+  when_chosen : (own rest : List Entry) → TestsConditions c id place p.conditions own true
+      → StopsItems c id place p.items rest → StopsRecord c id p place (own ++ rest)
+
+pub data StopsRecords (c : Caller) (id : ArenaId) (p : Plan) : ℕ → ℕ → List Entry → Type 0 where
+  at_record : {count place : ℕ} → (own : List Entry) → StopsRecord c id p place own → StopsRecords c id p (suc count) place own
+  next_record : {count place : ℕ} → (own rest : List Entry) (seen : Option (List Found))
+      → ReadsRecord c id p place own seen → StopsRecords c id p count (place + p.size) rest → StopsRecords c id p (suc count) place (own ++ rest)
+
 -- ---- the whole call
 
+-- all records were read, and their finds joined
+pub record ReadsAll (c : Caller) (p : Plan) (s : Region) (a : List Found) (own : List Entry) : Type 0 where
+  pub even : s.size % p.size ≡ 0
+  pub may : MayUse s.arena c
+  pub records : ReadsRecords c s.arena p (s.size / p.size) s.first (found_over p []) own a
+  pub reads : AreReads c s own
+
 -- what a query does, the refusals in the order of the checks
-abbrev pub DoesQuery : ℕ → Plan → Region → Result (List Found) Refusal → List Entry → Type 0
-DoesQuery c p s (Ok a) own =
-    (s.size % p.size ≡ 0) × MayUse s.arena c × ReadsRecords c s.arena p (s.size / p.size) s.first (found_over p []) own a
+abbrev pub DoesQuery : Caller → Plan → Region → Result (List Found) Refusal → List Entry → Type 0
+DoesQuery c p s (Ok a) own = ReadsAll c p s a own
 DoesQuery c p s (Err (Ragged rest)) own = (rest ≡ s.size % p.size) × (0 < rest) × (own ≡ [])
 DoesQuery c p s (Err WrongThread) own = (s.size % p.size ≡ 0) × ¬ (MayUse s.arena c) × (own ≡ [])
-DoesQuery c p s (Err Closed) own = (s.size % p.size ≡ 0) × MayUse s.arena c × StopsReading c s own
+DoesQuery c p s (Err Closed) own =
+    (s.size % p.size ≡ 0) × MayUse s.arena c × StopsReading c s own × StopsRecords c s.arena p (s.size / p.size) s.first own
 DoesQuery c p s (Err Memory) own = (s.size % p.size ≡ 0) × MayUse s.arena c × AreReads c s own
 DoesQuery c p s (Err r) own = ⊥
 
 -- why there is no answer, the first cause that applies
-abbrev pub QueryCause : Plan → Region → ℕ → Refusal → Type 0
+abbrev pub QueryCause : Plan → Region → Caller → Refusal → Type 0
 QueryCause p s c (Ragged rest) = (rest ≡ s.size % p.size) × (0 < rest)
 QueryCause p s c WrongThread = (s.size % p.size ≡ 0) × ¬ (MayUse s.arena c)
 QueryCause p s c Closed = (s.size % p.size ≡ 0) × MayUse s.arena c
@@ -150,7 +213,7 @@ QueryCause p s c e = ⊥
 pub record IsTestable (s : Region) (place : ℕ) (x : Condition) : Type 0 where
   pub closed : x.path.dims ≡ []
   pub stays : StaysInside x.path
-  pub within : place + x.path.root_size ≤ s.first + s.size
+  pub lies : LiesIn s place x.path.root_size
 
 -- one number more
 abbrev pub with_number : Found → ℤ → Found
@@ -165,7 +228,7 @@ with_numbers found [] = found
 with_numbers found (n ∷ ns) = with_numbers (with_number found n) ns
 
 -- the visits read the values at these places, and their numbers were added to what was found
-pub record AddsNumbers (c : ℕ) (id : ArenaId) (spec : ValueSpec) (places : List ℕ) (old new : Found) (own : List Entry) : Type 0 where
+pub record AddsNumbers (c : Caller) (id : ArenaId) (spec : ValueSpec) (places : List ℕ) (old new : Found) (own : List Entry) : Type 0 where
   pub numbers : List ℤ
   pub reads : ReadsNumbers c id spec places own numbers
   pub added : new ≡ with_numbers old numbers
@@ -173,32 +236,7 @@ pub record AddsNumbers (c : ℕ) (id : ArenaId) (spec : ValueSpec) (places : Lis
 -- at admitted indices the values stand in the segment
 pub record ReachesInside (s : Region) (place at : ℕ) (dims : List Dim) (spec : ValueSpec) : Type 0 where
   pub steady : (is : List ℕ) → AreAdmitted dims is → IsSteady at dims is
-  pub within : (is : List ℕ) → AreAdmitted dims is → place + offset_at at dims is + width_of spec.kind ≤ s.first + s.size
-
--- a sum of at most `count` numbers of 64 bits
-pub record IsSumOf (count : ℕ) (x : ℤ) : Type 0 where
-  pub low : negsuc (count * 2 ^ 63) ≤ℤ x
-  pub high : x ≤ℤ pos (count * 2 ^ 63)
-
--- so many numbers, or records, can be added
-abbrev pub HasRoom : Found → ℕ → Type 0
-HasRoom (Count n) more = n + more ≤ 2 ^ 62
-HasRoom (Sum x) more = (count : ℕ) × (count + more ≤ 2 ^ 62) × IsSumOf count x
-HasRoom found more = ⊤
-
--- after so many numbers there is as much room as was left
-abbrev pub KeepsRoom : Found → Found → ℕ → Type 0
-KeepsRoom old new n = (more : ℕ) → HasRoom old (n + more) → HasRoom new more
-
--- ---- queries whose sums fit
-
--- how many numbers an item adds in a record
-abbrev pub how_many : Asked → ℕ
-how_many asked.Count = 1
-how_many (asked.Of f r) = length (index_lists r.dims)
-
-abbrev pub IsItemFew : ℕ → Item → Type 0
-IsItemFew size item = how_many item.asked ≤ size
+  pub lies : (is : List ℕ) → AreAdmitted dims is → LiesIn s (place + offset_at at dims is) (width_of spec.kind)
 
 -- ---- one item, one record
 
@@ -211,33 +249,21 @@ abbrev pub IsItemReadable : Region → ℕ → Item → Type 0
 IsItemReadable s place item = IsReadable s place item.asked
 
 -- what an item finds in a record is added to what it found before
-pub record AddsItem (c : ℕ) (id : ArenaId) (place : ℕ) (a : Asked) (old new : Found) (own : List Entry) : Type 0 where
+pub record AddsItem (c : Caller) (id : ArenaId) (place : ℕ) (a : Asked) (old new : Found) (own : List Entry) : Type 0 where
   pub found : Found
   pub finds : FindsItem c id place a own found
   pub added : new ≡ both old found
 
 -- the same for all items
-pub record AddsItems (c : ℕ) (id : ArenaId) (place : ℕ) (items : List Item) (old new : List Found) (own : List Entry) : Type 0 where
+pub record AddsItems (c : Caller) (id : ArenaId) (place : ℕ) (items : List Item) (old new : List Found) (own : List Entry) : Type 0 where
   pub found : List Found
   pub finds : FindsItems c id place items own found
   pub added : new ≡ joined old found
 
--- each item's find is of the kind that it asks for, and so many numbers can be added to it
-pub record IsOpen (more : ℕ) (item : Item) (found : Found) : Type 0 where
-  pub kind : IsItemFound item found
-  pub room : HasRoom found more
-
-abbrev pub AreOpen : ℕ → List Item → List Found → Type 0
-AreOpen more items fs = AllZip (IsOpen more) items fs
-
--- after so many numbers they are as open as was left
-abbrev pub StayOpen : List Item → List Found → List Found → ℕ → Type 0
-StayOpen items old new n = (more : ℕ) → AreOpen (n + more) items old → AreOpen more items new
-
 -- ---- one record and those before
 
 -- the visits read the record at a place, and what it gives is added to what was found before
-pub record AddsRecord (c : ℕ) (id : ArenaId) (p : Plan) (place : ℕ) (old new : List Found) (own : List Entry) : Type 0 where
+pub record AddsRecord (c : Caller) (id : ArenaId) (p : Plan) (place : ℕ) (old new : List Found) (own : List Entry) : Type 0 where
   pub seen : Option (List Found)
   pub reads : ReadsRecord c id p place own seen
   pub added : new ≡ with_record old seen

@@ -6,8 +6,8 @@ use Rattle.fm_lanes.specs.Kind.{width_of}
 use Rattle.fm_lanes.specs.Value.{number_of_value}
 use Rattle.fm_lanes.specs.declared.order.Order.{Order}
 use Rattle.fm_lanes.specs.declared.value_kind.ValueKind.{ValueKind}
-use Rattle.fm_places.specs.Walk.{offset_at}
-use Rattle.fm_places.specs.declared.dim.Dim.{Dim}
+use Rattle.fm_path_meaning.specs.Walk.{offset_at}
+use Rattle.fm_path_meaning.specs.declared.dim.Dim.{Dim}
 use Rattle.fm_path.specs.Resolution.{Resolution}
 
 -- The lists of indices below the bounds, in their order: the last index changes fastest. A bound of 0 leaves none

@@ -1,5 +1,6 @@
 ghost use Rattle.std.specs.Prelude.{◌≡◌, ◌++◌, [], ◌≤◌, length, take, drop, IfOk, OnOk, OnErr, IfErr};
 ghost use Rattle.fm_records.specs.Answers.{answer};
+ghost use Rattle.fm_records.specs.Few.{AreFew};
 ghost use Rattle.fm_records.specs.Joined.{CanJoin, joined};
 
 use crate::found::Found;
@@ -61,6 +62,7 @@ impl Answer {
 /// What a query answers over no records. Refused: `Memory`.
 pub fn of_no_records(alloc: Global, q: &Query) -> Result<Answer, Refusal>
     ensures answer { IfOk result (λ a. a ≡ answer q.now []) }
+    ensures few { IfOk result (AreFew 0 q.now) }
     ensures memory { IfErr result (λ refusal. refusal ≡ Refusal.Memory) }
 {
     let mut found = Vec::new(alloc);

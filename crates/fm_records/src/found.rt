@@ -3,7 +3,8 @@ ghost use Rattle.fm_records.specs.Answers as answers;
 ghost use Rattle.fm_records.specs.Answers.{found_in};
 ghost use Rattle.fm_records.specs.Joined.{CanJoinFound, both, lengthened, shortened, summed};
 ghost use Rattle.fm_records.specs.declared.found.Found.TheVariants.{Count};
-ghost use Rattle.fm_records.specs.Reads.{HasRoom, KeepsRoom, with_number};
+ghost use Rattle.fm_records.specs.Few.{HasRoom};
+ghost use Rattle.fm_records.specs.Reads.{with_number};
 
 use crate::numbers::Numbers;
 use fm_base::Refusal;
@@ -99,8 +100,7 @@ impl Found {
     /// Adds a chosen record to a count.
     pub(crate) fn add_record(&mut self)
         requires { HasRoom self.old 1 }
-        ensures both { self.new ≡ both self.old (Count 1) }
-        ensures room { KeepsRoom self.old self.new 1 }
+        ensures { self.new ≡ both self.old (Count 1) }
     {
         if let Found::Count(count) = self {
             *count += 1;
@@ -108,10 +108,10 @@ impl Found {
     }
 
     /// Adds the number of a value. Refused: `Memory`, which leaves it as it was.
+    #[inline(always)]
     pub(crate) fn add_number(&mut self, number: i64) -> Result<(), Refusal>
         requires { HasRoom self.old 1 }
         ensures ok { OnOk result (self.new ≡ with_number self.old number) }
-        ensures room { OnOk result (KeepsRoom self.old self.new 1) }
         ensures same { OnErr result (self.new ≡ self.old) }
         ensures memory { IfErr result (λ refusal. refusal ≡ Refusal.Memory) }
     {

@@ -1,4 +1,6 @@
 ghost use Rattle.fm_records.specs.Laws.{NumbersStandAtPlaces, ListsAdmitted, AnswersJoin, LeastIsLeast, GreatestIsGreatest, AnswersAreOfTheQuery, PlacesHaveTheBytes, AnswersOverBytes, ReadsWhatIsAsked};
+ghost use Rattle.fm_records.specs.Few.{AnswersAreFew, FewCanJoin};
+ghost use Rattle.fm_records.specs.Shares.{SparedAreFound, SharesJoin, SharesAnswer, SharesRead};
 
 /// The number of a resolved path at admitted indices is that of the bytes of the place to which following the path
 /// comes, in the layout's list of all places.
@@ -44,4 +46,36 @@ pub fn answers_over_bytes()
 /// Such a query has read each word of each value that an item asks for in a chosen record.
 pub fn reads_what_is_asked()
     ensures { ReadsWhatIsAsked }
+{}
+
+/// An answer over a segment comes from no more numbers than the segment has bytes.
+pub fn answers_are_few()
+    ensures { AnswersAreFew }
+{}
+
+/// Answers of one query that come from so few numbers can be joined.
+pub fn few_can_join()
+    ensures { FewCanJoin }
+{}
+
+// ---- shares of a segment, each answered by the Reads of one caller
+
+/// Each Read of a caller finds the bytes of a region that all entries spare.
+pub fn spared_are_found()
+    ensures { SparedAreFound }
+{}
+
+/// Whatever the Reads found, the answers of shares can be joined.
+pub fn shares_join()
+    ensures { SharesJoin }
+{}
+
+/// Where the entries spare the segment, its shares come to the answer over its bytes.
+pub fn shares_answer()
+    ensures { SharesAnswer }
+{}
+
+/// And each word of each value that is asked for in a chosen record was read.
+pub fn shares_read()
+    ensures { SharesRead }
 {}

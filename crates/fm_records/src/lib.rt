@@ -12,21 +12,20 @@ mod query;
 #[cfg(test)]
 mod query_tests;
 mod querying;
-#[cfg(test)]
-mod querying_tests;
 mod record;
 #[cfg(test)]
 mod tests;
 mod values;
 
 pub use answer::{Answer, of_no_records};
+pub use fm_query::{Query, check_record, parse_query};
 pub use found::Found;
 pub use laws::{
-    answers_are_of_the_query, answers_join, answers_over_bytes, greatest_is_greatest,
-    least_is_least, lists_admitted, numbers_stand_at_places, places_have_the_bytes,
-    reads_what_is_asked,
+    answers_are_few, answers_are_of_the_query, answers_join, answers_over_bytes, few_can_join,
+    greatest_is_greatest, least_is_least, lists_admitted, numbers_stand_at_places,
+    places_have_the_bytes, reads_what_is_asked, shares_answer, shares_join, shares_read,
+    spared_are_found,
 };
 pub use numbers::Numbers;
 pub use printing::print_answer;
 pub use query::query_segment;
-pub use querying::{add_items, is_chosen};

@@ -1,17 +1,14 @@
-ghost use Rattle.std.specs.Prelude.{◌≡◌, ◌≤◌, ◌*◌, ◌^◌, ◌%◌, true, None, IfOk, OnOk, IfErr};
-ghost use Rattle.fm_base.specs.Arenas.{MayUse};
-ghost use Rattle.fm_base.specs.Outcomes.{Lasts};
+ghost use Rattle.std.specs.Prelude.{◌*◌, ◌≤◌};
 ghost use Rattle.fm_base.specs.View.{Did};
-ghost use Rattle.fm_segment.specs.Access.{IsKnown};
-ghost use Rattle.fm_records.specs.Alone.{FindsAnswer, FindsNone};
-ghost use Rattle.fm_records.specs.Reads.{AreOpen, DoesQuery, DoesRead, QueryCause, ReadsRecords};
-ghost use Rattle.fm_records.specs.Texts.{IsAnswerOf};
+ghost use Rattle.fm_records.specs.Few.{AreFew};
+ghost use Rattle.fm_records.specs.Learnt.{CanQuery, Queried};
+ghost use Rattle.fm_records.specs.Reads.{CanRead, DoesRead, ReadsRecords, StopsRecords};
 
 use crate::answer::{Answer, of_no_records};
 use crate::found::Found;
 use crate::record::add_record;
+use fm_access::may_use;
 use fm_base::{Memory, Refusal};
-use fm_pieces::may_use;
 use fm_query::Query;
 use fm_segment::Segment;
 use std::alloc::Global;
@@ -21,26 +18,15 @@ use std::alloc::Global;
 /// visits: others may write between them.
 ///
 /// Refused, in this order: `Ragged` with the number of bytes behind the last whole record; `WrongThread`, also where no
-/// value would be read; then, at the first value that is read so, `Closed`, or `Memory`.
+/// value would be read; then `Closed` at the first value that is asked for then, or `Memory`.
 pub fn query_segment<M: Memory>(
     alloc: Global,
     m: &mut M,
     q: &Query,
     s: &Segment,
 ) -> Result<Answer, Refusal>
-    requires outside { (M.view m.old).inside ≡ None }
-    requires known { IsKnown (M.view m.old) s.now }
-    requires aligned { s.now.first % q.now.alignment ≡ 0 }
-    ensures did { Did (M.view m.old) (M.view m.new) (DoesQuery (M.view m.old).caller q.now s.now result) }
-    ensures refused { IfErr result (QueryCause q.now s.now (M.view m.old).caller) }
-    ensures answer { IfOk result (IsAnswerOf q.now) }
-    ensures alone { (M.view m.old).alone ≡ true
-        → IfOk result (FindsAnswer (M.view m.old) (M.view m.new) q.now s.now) }
-    ensures shut { (M.view m.old).alone ≡ true
-        → IfErr result (FindsNone (M.view m.old) (M.view m.new) s.now) }
-    ensures outside { (M.view m.new).inside ≡ None }
-    ensures lasts { Lasts (M.view m.old) (M.view m.new) }
-    ensures known { IsKnown (M.view m.new) s.now }
+    requires { CanQuery (M.view m.old) q.now s.now }
+    ensures { Queried (M.view m.old) (M.view m.new) q.now s.now result }
 {
     let rest = s.size() % q.record_size();
     if rest != 0 {
@@ -53,7 +39,7 @@ pub fn query_segment<M: Memory>(
         Ok(none) => none.into_found(),
         Err(refusal) => return Err(refusal),
     };
-    match add_records(m, s, s.size() / q.record_size(), q, &mut found) {
+    match add_records(m, s, s.size() / q.record_size(), q, found.as_mut_slice()) {
         Ok(()) => Ok(Answer::of(found)),
         Err(refusal) => Err(refusal),
     }
@@ -67,18 +53,14 @@ fn add_records<M: Memory>(
     s: &Segment,
     count: u64,
     q: &Query,
-    found: &mut Vec<Found>,
+    found: &mut [Found],
 ) -> Result<(), Refusal>
-    requires outside { (M.view m.old).inside ≡ None }
-    requires known { IsKnown (M.view m.old) s.now }
-    requires may { MayUse s.now.arena (M.view m.old).caller }
+    requires can { CanRead (M.view m.old) s.now }
     requires within { count * q.now.size ≤ s.now.size }
-    requires open { AreOpen (count * q.now.size) q.now.items found.old.items }
-    ensures did { Did (M.view m.old) (M.view m.new) (DoesRead (M.view m.old).caller s.now
-        (λ _ own. ReadsRecords (M.view m.old).caller s.now.arena q.now count s.now.first found.old.items own found.new.items) result) }
-    ensures answer { OnOk result (IsAnswerOf q.now found.new.items) }
-    ensures outside { (M.view m.new).inside ≡ None }
-    ensures lasts { Lasts (M.view m.old) (M.view m.new) }
+    requires few { AreFew 0 q.now found.old }
+    ensures { Did (M.view m.old) (M.view m.new) (DoesRead (M.view m.old).caller s.now
+        (λ _ own. ReadsRecords (M.view m.old).caller s.now.arena q.now count s.now.first found.old own found.new)
+        (StopsRecords (M.view m.old).caller s.now.arena q.now count s.now.first) result) }
 {
     let size = q.record_size();
     let mut place = s.first();

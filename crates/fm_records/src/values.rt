@@ -1,117 +1,40 @@
-ghost use Rattle.fm_base.specs.Arenas.{has_arena};
-ghost use Rattle.fm_base.specs.View.{given_in};
-ghost use Rattle.fm_pieces.specs.Ranges.{DoesGet};
-ghost use Rattle.std.specs.Prelude.{◌≡◌, ◌+◌, ◌%◌, ◌^◌, ◌≤◌, true, ◌∷◌, [], length, None, OnOk, IfErr};
-ghost use Rattle.fm_base.specs.Arenas.{MayUse};
-ghost use Rattle.fm_base.specs.Outcomes.{Lasts};
+ghost use Rattle.std.specs.Prelude.{◌≡◌, ◌+◌, ◌∷◌, [], length};
 ghost use Rattle.fm_base.specs.View.{Did};
 ghost use Rattle.fm_lanes.specs.Kind.{width_of};
-ghost use Rattle.fm_segment.specs.Access.{IsKnown};
-ghost use Rattle.fm_places.specs.Steady.{IsInside};
-ghost use Rattle.fm_places.specs.Walk.{reach};
-ghost use Rattle.fm_records.specs.Reads.{AddsNumbers, DoesRead, HasRoom, KeepsRoom, ReachesInside, ReadsNumber, value_places};
+ghost use Rattle.fm_path_meaning.specs.Steady.{IsInside};
+ghost use Rattle.fm_path_meaning.specs.Walk.{reach};
+ghost use Rattle.fm_records.specs.Few.{HasRoom};
+ghost use Rattle.fm_records.specs.Reads.{AddsNumbers, CanRead, DoesRead, LiesIn, ReachesInside, ReadsNumber, StopsNumber, StopsNumbers, value_places};
 ghost use Rattle.fm_records.specs.Values.{index_lists};
 
 use crate::found::Found;
-use fm_base::{ArenaId, Memory, Refusal};
-use fm_lanes::{ValueKind, decode, turned};
+use fm_access::get_value;
+use fm_base::{Memory, Refusal};
+use fm_lanes::ValueKind;
 use fm_path::{Dim, ValueSpec};
-use fm_pieces::{get_number, get_piece};
 use fm_segment::Segment;
 
-/// The number of the segment's value that stands at a place.
-///
-/// Refused: `Closed`. Each kind has a branch of its own, so that the width is a constant in each.
+/// The number of the segment's value that stands at a place. Refused: `Closed`.
 #[inline(always)]
-pub(crate) fn number_of_value_at<M: Memory>(
+pub(crate) fn number_at<M: Memory>(
     m: &mut M,
     s: &Segment,
     place: u64,
     value: ValueSpec,
 ) -> Result<i64, Refusal>
-    requires outside { (M.view m.old).inside ≡ None }
-    requires known { IsKnown (M.view m.old) s.now }
-    requires may { MayUse s.now.arena (M.view m.old).caller }
-    requires from { s.now.first ≤ place }
-    requires within { place + width_of value.kind ≤ s.now.first + s.now.size }
-    ensures did { Did (M.view m.old) (M.view m.new) (DoesRead (M.view m.old).caller s.now
-        (λ n own. ReadsNumber (M.view m.old).caller s.now.arena value place own n) result) }
-    ensures closed { IfErr result (λ refusal. refusal ≡ Refusal.Closed) }
-    ensures outside { (M.view m.new).inside ≡ None }
-    ensures lasts { Lasts (M.view m.old) (M.view m.new) }
+    requires can { CanRead (M.view m.old) s.now }
+    requires lies { LiesIn s.now place (width_of value.kind) }
+    ensures { Did (M.view m.old) (M.view m.new) (DoesRead (M.view m.old).caller s.now
+        (λ n own. ReadsNumber (M.view m.old).caller s.now.arena value place own n)
+        (StopsNumber (M.view m.old).caller s.now.arena value place) result) }
 {
-    match value.kind {
-        ValueKind::Byte => number_as(m, s, place, with_kind(value, ValueKind::Byte)),
-        ValueKind::Boolean => number_as(m, s, place, with_kind(value, ValueKind::Boolean)),
-        ValueKind::Char => number_as(m, s, place, with_kind(value, ValueKind::Char)),
-        ValueKind::Short => number_as(m, s, place, with_kind(value, ValueKind::Short)),
-        ValueKind::Int => number_as(m, s, place, with_kind(value, ValueKind::Int)),
-        ValueKind::Long => number_as(m, s, place, with_kind(value, ValueKind::Long)),
-    }
-}
-
-/// The same value, of the kind that it has.
-#[inline(always)]
-fn with_kind(value: ValueSpec, kind: ValueKind) -> ValueSpec
-    requires { kind ≡ value.kind }
-    ensures { result ≡ value }
-{
-    ValueSpec {
-        kind,
-        order: value.order,
-        alignment: value.alignment,
-    }
-}
-
-/// The same as `number_of_value_at`, for one of its branches.
-#[inline(always)]
-fn number_as<M: Memory>(
-    m: &mut M,
-    s: &Segment,
-    place: u64,
-    value: ValueSpec,
-) -> Result<i64, Refusal>
-    requires outside { (M.view m.old).inside ≡ None }
-    requires known { IsKnown (M.view m.old) s.now }
-    requires may { MayUse s.now.arena (M.view m.old).caller }
-    requires from { s.now.first ≤ place }
-    requires within { place + width_of value.kind ≤ s.now.first + s.now.size }
-    ensures did { Did (M.view m.old) (M.view m.new) (DoesRead (M.view m.old).caller s.now
-        (λ n own. ReadsNumber (M.view m.old).caller s.now.arena value place own n) result) }
-    ensures closed { IfErr result (λ refusal. refusal ≡ Refusal.Closed) }
-    ensures outside { (M.view m.new).inside ≡ None }
-    ensures lasts { Lasts (M.view m.old) (M.view m.new) }
-{
-    let width = value.kind.width();
-    let _end = s.first();
-    match read_number(m, s.arena(), place, width) {
-        Ok(number) => Ok(decode(value.kind, turned(width, number, value.order)).number()),
+    match get_value(m, s.arena(), place, value.kind, value.order) {
+        Ok(value) => Ok(value.number()),
         Err(refusal) => Err(refusal),
     }
 }
 
-/// The same as `get_number`, without a call where the number lies in one word.
-#[inline(always)]
-fn read_number<M: Memory>(m: &mut M, arena: ArenaId, place: u64, width: u32) -> Result<u64, Refusal>
-    requires outside { (M.view m.old).inside ≡ None }
-    requires known { has_arena (M.view m.old).state arena ≡ true }
-    requires some { 1 ≤ width }
-    requires width { width ≤ 8 }
-    requires given { place + width ≤ given_in (M.view m.old) arena }
-    requires small { place + width ≤ 2 ^ 40 }
-    ensures did { Did (M.view m.old) (M.view m.new)
-        (DoesGet (M.view m.old).caller arena place width result) }
-    ensures outside { (M.view m.new).inside ≡ None }
-    ensures lasts { Lasts (M.view m.old) (M.view m.new) }
-{
-    if place % 8 + u64::from(width) <= 8 {
-        get_piece(m, arena, place, width)
-    } else {
-        get_number(m, arena, place, width)
-    }
-}
-
-/// Adds the number of the value at a place.
+/// Adds the number of the value at a place. Refused: `Closed`; `Memory` where it can't be listed.
 #[inline(always)]
 fn add_value<M: Memory>(
     m: &mut M,
@@ -120,19 +43,14 @@ fn add_value<M: Memory>(
     value: ValueSpec,
     found: &mut Found,
 ) -> Result<(), Refusal>
-    requires outside { (M.view m.old).inside ≡ None }
-    requires known { IsKnown (M.view m.old) s.now }
-    requires may { MayUse s.now.arena (M.view m.old).caller }
-    requires from { s.now.first ≤ place }
-    requires within { place + width_of value.kind ≤ s.now.first + s.now.size }
+    requires can { CanRead (M.view m.old) s.now }
+    requires lies { LiesIn s.now place (width_of value.kind) }
     requires room { HasRoom found.old 1 }
-    ensures did { Did (M.view m.old) (M.view m.new) (DoesRead (M.view m.old).caller s.now
-        (λ _ own. AddsNumbers (M.view m.old).caller s.now.arena value (place ∷ []) found.old found.new own) result) }
-    ensures room { OnOk result (KeepsRoom found.old found.new 1) }
-    ensures outside { (M.view m.new).inside ≡ None }
-    ensures lasts { Lasts (M.view m.old) (M.view m.new) }
+    ensures { Did (M.view m.old) (M.view m.new) (DoesRead (M.view m.old).caller s.now
+        (λ _ own. AddsNumbers (M.view m.old).caller s.now.arena value (place ∷ []) found.old found.new own)
+        (StopsNumbers (M.view m.old).caller s.now.arena value (place ∷ [])) result) }
 {
-    match number_of_value_at(m, s, place, value) {
+    match number_at(m, s, place, value) {
         Ok(number) => found.add_number(number),
         Err(refusal) => Err(refusal),
     }
@@ -147,6 +65,8 @@ fn reach_of(at: u64, dim: Dim, index: u64) -> u64
 
 /// Adds the numbers of a path's values in the record at a place: one for each list of indices, the last index changing
 /// fastest. `at` is the offset that the indices before came to.
+///
+/// Refused: `Closed` at the first value that is read then, or `Memory` at the first number that can't be listed.
 pub(crate) fn add_values<M: Memory>(
     m: &mut M,
     s: &Segment,
@@ -156,27 +76,29 @@ pub(crate) fn add_values<M: Memory>(
     value: ValueSpec,
     found: &mut Found,
 ) -> Result<(), Refusal>
-    requires outside { (M.view m.old).inside ≡ None }
-    requires known { IsKnown (M.view m.old) s.now }
-    requires may { MayUse s.now.arena (M.view m.old).caller }
-    requires from { s.now.first ≤ place }
+    requires can { CanRead (M.view m.old) s.now }
     requires inside { ReachesInside s.now place at dims.now value }
     requires room { HasRoom found.old (length (index_lists dims.now)) }
-    ensures did { Did (M.view m.old) (M.view m.new) (DoesRead (M.view m.old).caller s.now
-        (λ _ own. AddsNumbers (M.view m.old).caller s.now.arena value (value_places place at dims.now) found.old found.new own) result) }
-    ensures room { OnOk result (KeepsRoom found.old found.new (length (index_lists dims.now))) }
-    ensures outside { (M.view m.new).inside ≡ None }
-    ensures lasts { Lasts (M.view m.old) (M.view m.new) }
+    ensures { Did (M.view m.old) (M.view m.new) (DoesRead (M.view m.old).caller s.now
+        (λ _ own. AddsNumbers (M.view m.old).caller s.now.arena value (value_places place at dims.now) found.old found.new own)
+        (StopsNumbers (M.view m.old).caller s.now.arena value (value_places place at dims.now)) result) }
 {
-    let _first = s.first();
     match dims {
         [] => add_value(m, s, place + at, value, found),
         [dim] => add_row(m, s, place, at, *dim, value, found),
-        _ => add_rows(m, s, place, at, dims, value, found),
+        [dim, rest @ ..] => {
+            for i in 0..dim.bound {
+                match add_values(m, s, place, reach_of(at, *dim, i), rest, value, found) {
+                    Ok(()) => {}
+                    Err(refusal) => return Err(refusal),
+                }
+            }
+            Ok(())
+        }
     }
 }
 
-/// The same for one dim: the values side by side.
+/// The same for one dim: the values side by side. Each kind has a loop of its own, so that the width is a constant there.
 fn add_row<M: Memory>(
     m: &mut M,
     s: &Segment,
@@ -186,19 +108,70 @@ fn add_row<M: Memory>(
     value: ValueSpec,
     found: &mut Found,
 ) -> Result<(), Refusal>
-    requires outside { (M.view m.old).inside ≡ None }
-    requires known { IsKnown (M.view m.old) s.now }
-    requires may { MayUse s.now.arena (M.view m.old).caller }
-    requires from { s.now.first ≤ place }
+    requires can { CanRead (M.view m.old) s.now }
     requires inside { ReachesInside s.now place at (dim ∷ []) value }
     requires room { HasRoom found.old (length (index_lists (dim ∷ []))) }
-    ensures did { Did (M.view m.old) (M.view m.new) (DoesRead (M.view m.old).caller s.now
-        (λ _ own. AddsNumbers (M.view m.old).caller s.now.arena value (value_places place at (dim ∷ [])) found.old found.new own) result) }
-    ensures room { OnOk result (KeepsRoom found.old found.new (length (index_lists (dim ∷ [])))) }
-    ensures outside { (M.view m.new).inside ≡ None }
-    ensures lasts { Lasts (M.view m.old) (M.view m.new) }
+    ensures { Did (M.view m.old) (M.view m.new) (DoesRead (M.view m.old).caller s.now
+        (λ _ own. AddsNumbers (M.view m.old).caller s.now.arena value (value_places place at (dim ∷ [])) found.old found.new own)
+        (StopsNumbers (M.view m.old).caller s.now.arena value (value_places place at (dim ∷ []))) result) }
 {
-    let _first = s.first();
+    match value.kind {
+        ValueKind::Byte => row_of(m, s, place, at, dim, as_kind(value, ValueKind::Byte), found),
+        ValueKind::Boolean => row_of(
+            m,
+            s,
+            place,
+            at,
+            dim,
+            as_kind(value, ValueKind::Boolean),
+            found,
+        ),
+        ValueKind::Char => row_of(m, s, place, at, dim, as_kind(value, ValueKind::Char), found),
+        ValueKind::Short => row_of(
+            m,
+            s,
+            place,
+            at,
+            dim,
+            as_kind(value, ValueKind::Short),
+            found,
+        ),
+        ValueKind::Int => row_of(m, s, place, at, dim, as_kind(value, ValueKind::Int), found),
+        ValueKind::Long => row_of(m, s, place, at, dim, as_kind(value, ValueKind::Long), found),
+    }
+}
+
+/// The same value, of the kind that it has.
+#[inline(always)]
+fn as_kind(value: ValueSpec, kind: ValueKind) -> ValueSpec
+    requires { kind ≡ value.kind }
+    ensures { result ≡ value }
+{
+    ValueSpec {
+        kind,
+        order: value.order,
+        alignment: value.alignment,
+    }
+}
+
+/// The same as `add_row`, for one of its kinds.
+#[inline(always)]
+fn row_of<M: Memory>(
+    m: &mut M,
+    s: &Segment,
+    place: u64,
+    at: u64,
+    dim: Dim,
+    value: ValueSpec,
+    found: &mut Found,
+) -> Result<(), Refusal>
+    requires can { CanRead (M.view m.old) s.now }
+    requires inside { ReachesInside s.now place at (dim ∷ []) value }
+    requires room { HasRoom found.old (length (index_lists (dim ∷ []))) }
+    ensures { Did (M.view m.old) (M.view m.new) (DoesRead (M.view m.old).caller s.now
+        (λ _ own. AddsNumbers (M.view m.old).caller s.now.arena value (value_places place at (dim ∷ [])) found.old found.new own)
+        (StopsNumbers (M.view m.old).caller s.now.arena value (value_places place at (dim ∷ []))) result) }
+{
     for i in 0..dim.bound {
         let next = reach_of(at, dim, i);
         match add_value(m, s, place + next, value, found) {
@@ -207,42 +180,4 @@ fn add_row<M: Memory>(
         }
     }
     Ok(())
-}
-
-/// The same, dim by dim.
-fn add_rows<M: Memory>(
-    m: &mut M,
-    s: &Segment,
-    place: u64,
-    at: u64,
-    dims: &[Dim],
-    value: ValueSpec,
-    found: &mut Found,
-) -> Result<(), Refusal>
-    requires outside { (M.view m.old).inside ≡ None }
-    requires known { IsKnown (M.view m.old) s.now }
-    requires may { MayUse s.now.arena (M.view m.old).caller }
-    requires from { s.now.first ≤ place }
-    requires inside { ReachesInside s.now place at dims.now value }
-    requires room { HasRoom found.old (length (index_lists dims.now)) }
-    ensures did { Did (M.view m.old) (M.view m.new) (DoesRead (M.view m.old).caller s.now
-        (λ _ own. AddsNumbers (M.view m.old).caller s.now.arena value (value_places place at dims.now) found.old found.new own) result) }
-    ensures room { OnOk result (KeepsRoom found.old found.new (length (index_lists dims.now))) }
-    ensures outside { (M.view m.new).inside ≡ None }
-    ensures lasts { Lasts (M.view m.old) (M.view m.new) }
-{
-    let _first = s.first();
-    match dims {
-        [] => add_value(m, s, place + at, value, found),
-        [dim, rest @ ..] => {
-            for i in 0..dim.bound {
-                let next = reach_of(at, *dim, i);
-                match add_rows(m, s, place, next, rest, value, found) {
-                    Ok(()) => {}
-                    Err(refusal) => return Err(refusal),
-                }
-            }
-            Ok(())
-        }
-    }
 }

@@ -2,4 +2,4 @@ pub mod Access
 pub mod Alone
 pub mod Causes
 pub mod Checking
-pub mod Comparing
+pub mod Learning

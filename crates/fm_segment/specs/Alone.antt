@@ -1,6 +1,5 @@
 -- What the only caller of a memory sees of accesses to a segment.
 use Rattle.std.specs.Prelude.{◌≡◌, ℕ, ℤ, ◌+◌, ◌≤◌, List, [], length, take, drop, replicate, Result, Ok, Err}
-use Rattle.fm_base.specs.declared.arena_id.ArenaId.{ArenaId}
 use Rattle.fm_base.specs.declared.refusal.Refusal.{Refusal}
 use Rattle.fm_base.specs.Arenas.{State}
 use Rattle.fm_base.specs.View.{View}
@@ -9,7 +8,7 @@ use Rattle.fm_lanes.specs.Coding.{value_of, bytes_of_value}
 use Rattle.fm_layout.specs.Tree as tree
 use Rattle.fm_layout.specs.Tree.{Tree}
 use Rattle.fm_layout.specs.Size.{size_of}
-use Rattle.fm_pieces.specs.Alone.{bytes_of_arena, ChangesBytes, StaysOut}
+use Rattle.fm_access.specs.Alone.{bytes_of_arena, ChangesBytes}
 use Rattle.fm_copies.specs.Sides.{side}
 use Rattle.fm_copies.specs.Alone.{bytes_at, first_difference, TakesBytes}
 use Rattle.fm_segment.specs.Access.{Fits}
@@ -40,12 +39,6 @@ pub record FindsValue (old new : View) (r : Region) (t : Tree) (offset : ℕ) (v
 pub record PutsValue (old new : View) (r : Region) (t : Tree) (offset : ℕ) (v : Value) : Type 0 where
   pub bytes : ChangesBytes old new r.arena (r.first + offset) (bytes_by t v)
   pub within : r.first + offset + size_of t ≤ length (bytes_of_arena old.state r.arena)
-
--- Why an access that was to go to this place, or finds none, is refused: the arena isn't open to the caller,
--- or the arguments are at fault. The state stays
-abbrev pub StaysOutOf : View → View → ArenaId → Result ℕ Refusal → Type 0
-StaysOutOf old new id (Ok place) = StaysOut old new id
-StaysOutOf old new id (Err r) = new.state ≡ old.state
 
 -- where v was set, and a value is got next, it is v
 abbrev pub SetsThenGets : Region → Tree → ℕ → Value → Type 0

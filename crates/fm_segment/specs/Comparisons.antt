@@ -1,11 +1,11 @@
 -- What a comparison of segments does (`mismatch` of `MemorySegment`, Java SE 22), and why it is refused.
-use Rattle.std.specs.Prelude.{◌≡◌, ℕ, ℤ, pos, negsuc, ◌<◌, ◌==◌, min, Option, Some, None, Result, Ok, Err, if◌then◌else◌, List}
+use Rattle.std.specs.Prelude.{◌≡◌, ℕ, ℤ, pos, negsuc, ◌==◌, min, Option, Some, None, Result, Ok, Err, if◌then◌else◌, List}
+use Rattle.fm_base.specs.declared.caller.Caller.{Caller}
 use Rattle.fm_base.specs.declared.refusal.Refusal.{Refusal}
-use Rattle.fm_base.specs.declared.refusal.Refusal.TheVariants.{WrongThread, Closed}
 use Rattle.fm_base.specs.Calls.{Entry}
 use Rattle.fm_copies.specs.Sides.{side}
 use Rattle.fm_copies.specs.Comparisons.{DoesCompare}
-use Rattle.fm_segment.specs.Copies.{MayUseArenas}
+use Rattle.fm_copies.specs.Learnt.{BothCause}
 use Rattle.fm_segment.specs.Region.{Region}
 
 -- how many bytes are compared
@@ -18,7 +18,7 @@ abbrev pub mismatch_of : ℕ → ℕ → Option ℕ → ℤ
 mismatch_of size other (Some offset) = pos offset
 mismatch_of size other None = if size == other then negsuc 0 else pos (min size other)
 
-abbrev pub DoesMismatch : ℕ → Region → Region → Result ℤ Refusal → List Entry → Type 0
+abbrev pub DoesMismatch : Caller → Region → Region → Result ℤ Refusal → List Entry → Type 0
 DoesMismatch c a b (Ok z) own =
     (found : Option ℕ)
     × DoesCompare c (side a.arena a.first) (side b.arena b.first) (common_size a b) (Ok found) own
@@ -26,7 +26,5 @@ DoesMismatch c a b (Ok z) own =
 DoesMismatch c a b (Err r) own =
     DoesCompare c (side a.arena a.first) (side b.arena b.first) (common_size a b) (Err r) own
 
-abbrev pub MismatchCause : Region → Region → ℕ → Refusal → Type 0
-MismatchCause a b c WrongThread = (0 < common_size a b) × ¬ (MayUseArenas a.arena b.arena c)
-MismatchCause a b c Closed = (0 < common_size a b) × MayUseArenas a.arena b.arena c
-MismatchCause a b c e = ⊥
+abbrev pub MismatchCause : Region → Region → Caller → Refusal → Type 0
+MismatchCause a b = BothCause (side a.arena a.first) (side b.arena b.first) (common_size a b)

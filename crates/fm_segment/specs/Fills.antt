@@ -1,12 +1,11 @@
 -- What filling a segment does (`fill` of `MemorySegment`, Java SE 22), and why it is refused.
 use Rattle.std.specs.Prelude.{◌≡◌, ℕ, ◌<◌, ◌&&◌, nat_lt, Result, Ok, Err, if◌then◌else◌, List, []}
-use Rattle.fm_base.specs.declared.arena_id.ArenaId.{ArenaId}
+use Rattle.fm_base.specs.declared.caller.Caller.{Caller}
 use Rattle.fm_base.specs.declared.refusal.Refusal.{Refusal}
-use Rattle.fm_base.specs.declared.refusal.Refusal.TheVariants.{ReadOnly, WrongThread, Closed}
-use Rattle.fm_base.specs.Arenas.{MayUse}
+use Rattle.fm_base.specs.declared.refusal.Refusal.TheVariants.{ReadOnly}
 use Rattle.fm_base.specs.Calls.{Entry}
-use Rattle.fm_pieces.specs.Ranges.{DoesFill}
-use Rattle.fm_segment.specs.Access.{WriteCause}
+use Rattle.fm_access.specs.Found.{UseCause, WriteCause}
+use Rattle.fm_access.specs.Ranges.{DoesFill}
 use Rattle.fm_segment.specs.Region.{Region}
 
 -- a write of so many bytes is refused where there is a byte, and the segment is read-only
@@ -19,15 +18,9 @@ DoesAfter (Err r) Does result own = (result ≡ Err r) × (own ≡ [])
 DoesAfter (Ok u) Does result own = Does result own
 
 -- each byte is put to this one
-abbrev pub DoesFillSegment : ℕ → Region → ℕ → Result (Unit {0}) Refusal → List Entry → Type 0
+abbrev pub DoesFillSegment : Caller → Region → ℕ → Result (Unit {0}) Refusal → List Entry → Type 0
 DoesFillSegment c r byte result own =
     DoesAfter (checked_write r.size r) (DoesFill c r.arena r.first r.size byte) result own
 
--- a call that was checked is refused by the arena
-abbrev pub UseCause : ArenaId → ℕ → Refusal → Type 0
-UseCause id c WrongThread = ¬ (MayUse id c)
-UseCause id c Closed = MayUse id c
-UseCause id c e = ⊥
-
-abbrev pub FillCause : Region → ℕ → Refusal → Type 0
+abbrev pub FillCause : Region → Caller → Refusal → Type 0
 FillCause r c e = (0 < r.size) × WriteCause r.read_only (UseCause r.arena c) e

@@ -4,6 +4,8 @@ pub mod Comparisons
 pub mod Copies
 pub mod Elements
 pub mod Fills
+pub mod Learnt
 pub mod Overlap
+pub mod Puts
 pub mod Region
 pub mod Slices

@@ -25,4 +25,4 @@ mod tests;
 
 pub use elements::Elements;
 pub use laws::sets_then_gets;
-pub use segment::{Segment, get_value, put_value};
+pub use segment::Segment;

@@ -1,17 +1,16 @@
 mod access;
+mod bytes;
 mod copy;
 mod fill;
 mod mismatch;
 mod overlap;
 mod slices;
-mod value;
 
 ghost use Rattle.std.specs.Prelude.{◌≡◌, ◌+◌, ◌≤◌, ◌^◌};
 ghost use Rattle.fm_segment.specs.Region.{EndsByLimit, part_of, read_only_of, region_of};
 
 use fm_base::ArenaId;
 use std::marker::Model;
-pub use value::{get_value, put_value};
 
 /// A run of bytes of one arena, all below place 2^40. Contracts see it as a region.
 #[derive(Clone, Copy, Debug, PartialEq, Eq)]

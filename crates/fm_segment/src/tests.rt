@@ -20,6 +20,7 @@ fn arena(slot: u32) -> ArenaId {
         generation: 0,
         kind: Kind::Shared,
         owner: 0,
+        term: 0,
     }
 }
 

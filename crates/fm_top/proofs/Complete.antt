@@ -1,5 +1,5 @@
--- Valid input is answered.
-use Rattle.std.proofs.Common.{◌≡◌, ℕ, List, Option, None, Some, Result, refl, sym, ap, subst, ◌∙◌, inl, inr, arith}
+-- Words have one outcome, and valid input is answered.
+use Rattle.std.proofs.Common.{◌≡◌, ℕ, List, Option, None, Some, IfSome, Result, refl, sym, ap, subst, ◌∙◌, arith}
 use Rattle.std.specs.Fmt.{decimal}
 use Rattle.std.proofs.lemmas.Fmt.{decimal_injective}
 use Rattle.fm_base.specs.declared.refusal.Refusal.{Refusal}
@@ -8,22 +8,26 @@ use Rattle.fm_io.specs.Count.{Rose}
 use Rattle.fm_io.specs.Files.{Contents, file_of}
 use Rattle.fm_lanes.specs.declared.value_kind.ValueKind.{ValueKind}
 use Rattle.fm_layout.specs.Tree.{Tree}
-use Rattle.fm_path.specs.Listing.{kind_text}
-use Rattle.fm_query.specs.Parsed.{IsParsed}
+use Rattle.fm_lanes.specs.Named.{kind_text}
 use Rattle.fm_query.specs.Plan.{Plan}
 use Rattle.fm_query.specs.Records.{IsRecord, IsNoRecord}
 use Rattle.fm_options.proofs.Said.{one_saying}
 use Rattle.fm_options.specs.Options.{Say}
-use Rattle.fm_top.specs.Outcome.{Outcome}
-use Rattle.fm_top.specs.Queries.{IsRecordLayout, IsNoRecordLayout, IsLayoutRefused, TextEnds, text_refused, answered_by, LayoutEnds, over_limit, no_layout, over_layout, QueryEnds, answer_outcome}
-use Rattle.fm_top.specs.Run.{HasOutcome, IsOutcomeOver, IsOutcome, faulty, asked, Traces, Runs, whole, unread, unwritten, no_memory, unknown, code_of, Answers}
+use Rattle.fm_top.specs.Causes.{LacksFile, HasLongFile, HasRefusedLayout, HasRefusedQuery, HasRaggedFile}
+use Rattle.fm_top.specs.Keeps.{Keeps}
+use Rattle.fm_top.specs.Laws.{HaveOneOutcome}
+use Rattle.fm_top.specs.Outcome.{Outcome, layout_refused, query_refused}
+use Rattle.fm_top.specs.Queries.{IsRecordLayout, IsNoRecordLayout, IsLayoutRefused, TextEnds, text_refused, answered_by, LayoutEnds, over_limit, no_layout, over_layout, QueryText, QueryEnds, answer_outcome}
+use Rattle.fm_top.specs.Run.{HasOutcome, IsOutcomeOver, IsOutcome, faulty, asked, AskFor, Traces, Runs, whole, unread, unwritten, no_memory, unknown, code_of, IsValid, Answers, is_answered, wants_memory}
 use Rattle.fm_top.specs.Words.{Request, Sum, Layout, Query, Asks, IsSum, IsLayout, IsQuery, AreThreadsBy, three}
 use Rattle.fm_top.specs.declared.status.Status.{Status}
-use Rattle.fm_top.specs.declared.status.Status.TheVariants.{Answered}
-use Rattle.fm_top.proofs.Causes.{over_told}
+use Rattle.fm_top.specs.declared.status.Status.TheVariants.{Answered, Usage, Missing, Unread, LayoutRefused, QueryRefused, Ragged, TooLong, Unwritten, NoMemory, ScriptRefused}
+use Rattle.fm_top.proofs.Comes.{over_told, outcome_missing, outcome_too_long, outcome_ragged, outcome_refused, outcome_query_refused}
 use Rattle.fm_top.proofs.OnePlan.{one_plan, not_text_refused}
+use Rattle.fm_top.proofs.OneRefusal.{one_layout_refusal, one_text_refusal}
 use Rattle.fm_top.proofs.Asking.{one_count}
-use Rattle.fm_top.proofs.TypeNames.{kind_text-injective}
+use Rattle.fm_top.proofs.Runs.{IsLate, usage_faulty, outcome_early, not_refused_script}
+use Rattle.fm_lanes.proofs.Naming.{kind_text-injective}
 
 -- ---- words ask for one thing
 
@@ -77,7 +81,7 @@ layout_or_query words threads file layout query file' a b =
     let two = b.spelled in
     cc
 
-same_request : (words : List (List ℕ)) (r s : Request) → Asks words r → Asks words s → r ≡ s
+pub same_request : (words : List (List ℕ)) (r s : Request) → Asks words r → Asks words s → r ≡ s
 same_request words (Sum n m kind file) (Sum n' m' kind' file') a b = same_sum words n m n' m' kind kind' file file' a b
 same_request words (Sum n m kind file) (Layout file') a b = absurd (sum_or_layout words n m kind file file' a b)
 same_request words (Sum n m kind file) (Query threads layout query file') a b = absurd (sum_or_query words n m threads kind file layout query file' a b)
@@ -88,7 +92,7 @@ same_request words (Query threads layout query file) (Sum n m kind file') a b = 
 same_request words (Query threads layout query file) (Layout file') a b = absurd (layout_or_query words threads file' layout query file b a)
 same_request words (Query threads layout query file) (Query threads' layout' query' file') a b = same_query words threads threads' layout query file layout' query' file' a b
 
--- ---- where there is an answer there is no other outcome
+-- ---- one end
 
 -- a layout of records isn't refused
 not_no_record : (t : Tree) (e : Refusal) → IsRecord t → IsNoRecord t e → ⊥
@@ -105,61 +109,83 @@ same_layouts bytes t u a b =
     let two = b.read in
     cc
 
-one_text_end : (text : List ℕ) (t : Tree) (file : List ℕ) (found : Option (List ℕ)) (p : Plan) (o : Outcome) → IsParsed text t p → TextEnds text t file found o → o ≡ answer_outcome p file found
-one_text_end text t file found p o parsed (text_refused e denied) = absurd (not_text_refused text t p e parsed denied)
-one_text_end text t file found p o parsed (answered_by r other) = ap (λ (x : Plan). answer_outcome x file found) (one_plan text t r p other parsed)
+text_once : (text : List ℕ) (t : Tree) (file : List ℕ) (found : Option (List ℕ)) (j k : Keeps) (o x : Outcome) → TextEnds text t file found j o → TextEnds text t file found k x → o ≡ x
+text_once text t file found j k o x (text_refused e a) (text_refused f b) = ap query_refused (one_text_refusal text t e f a b)
+text_once text t file found j k o x (text_refused e a) (answered_by p b) = absurd (not_text_refused text t p e b a)
+text_once text t file found j k o x (answered_by p a) (text_refused f b) = absurd (not_text_refused text t p f a b)
+text_once text t file found j k o x (answered_by p a) (answered_by r b) = ap (λ (y : Plan). answer_outcome y file found) (one_plan text t p r a b)
 
--- the end of a layout's file over which the text is parsed
-one_bytes_end : (bytes text file : List ℕ) (found : Option (List ℕ)) (t : Tree) (p : Plan) (o : Outcome) → IsRecordLayout bytes t → IsParsed text t p
-    → LayoutEnds bytes text file found o → o ≡ answer_outcome p file found
-one_bytes_end bytes text file found t p o is parsed (over_limit long) = absurd (omega (arith, is.short, long))
-one_bytes_end bytes text file found t p o is parsed (no_layout e denied) = absurd (not_layout_refused bytes t e is denied)
-one_bytes_end bytes text file found t p o is parsed (over_layout u has x ends) =
-    one_text_end text t file found p x parsed (subst (λ (v : Tree). TextEnds text v file found x) (same_layouts bytes u t has is) ends)
+layout_once : (bytes text file : List ℕ) (found : Option (List ℕ)) (j k : Keeps) (o x : Outcome) → LayoutEnds bytes (QueryText text file found) j o
+    → LayoutEnds bytes (QueryText text file found) k x → o ≡ x
+layout_once bytes text file found j k o x (over_limit a) (over_limit b) = refl
+layout_once bytes text file found j k o x (over_limit a) (no_layout f b) = absurd (omega (arith, a, b.short))
+layout_once bytes text file found j k o x (over_limit a) (over_layout u b k' x' ends) = absurd (omega (arith, a, b.short))
+layout_once bytes text file found j k o x (no_layout e a) (over_limit b) = absurd (omega (arith, b, a.short))
+layout_once bytes text file found j k o x (no_layout e a) (no_layout f b) = ap layout_refused (one_layout_refusal bytes e f a b)
+layout_once bytes text file found j k o x (no_layout e a) (over_layout u b k' x' ends) = absurd (not_layout_refused bytes u e b a)
+layout_once bytes text file found j k o x (over_layout t a j' o' ends) (over_limit b) = absurd (omega (arith, b, a.short))
+layout_once bytes text file found j k o x (over_layout t a j' o' ends) (no_layout f b) = absurd (not_layout_refused bytes t f a b)
+layout_once bytes text file found j k o x (over_layout t a j' o' ends) (over_layout u b k' x' other) =
+    text_once text u file found j k o x (subst (λ (v : Tree). TextEnds text v file found j o) (same_layouts bytes t u a b) ends) other
 
--- which plan is answered
-text_answered : (text : List ℕ) (t : Tree) (file : List ℕ) (found : Option (List ℕ)) (o : Outcome) → TextEnds text t file found o → o.status ≡ Answered
-    → (p : Plan) × IsParsed text t p × (o ≡ answer_outcome p file found)
-text_answered text t file found o (text_refused e denied) is = absurd (cc)
-text_answered text t file found o (answered_by p parsed) is = (p, parsed, refl)
+query_once : (layout text file : List ℕ) (first last : Option (List ℕ)) (j k : Keeps) (o x : Outcome) → QueryEnds layout text file first last j o
+    → QueryEnds layout text file first last k x → o ≡ x
+query_once layout text file None last j k o x a b = a.1 ∙ sym b.1
+query_once layout text file (Some bytes) last j k o x a b = layout_once bytes text file last j k o x a b
 
-bytes_answered : (bytes text file : List ℕ) (found : Option (List ℕ)) (o : Outcome) → LayoutEnds bytes text file found o → o.status ≡ Answered
-    → (t : Tree) × (p : Plan) × IsRecordLayout bytes t × IsParsed text t p × (o ≡ answer_outcome p file found)
-bytes_answered bytes text file found o (over_limit long) is = absurd (cc)
-bytes_answered bytes text file found o (no_layout e denied) is = absurd (cc)
-bytes_answered bytes text file found o (over_layout t has x ends) is =
-    let a = text_answered text t file found x ends is in
-    (t, a.0, has, a.1, a.2)
+request_once : (request : Request) (contents : Contents) (j k : Keeps) (o x : Outcome) → IsOutcomeOver request contents j o → IsOutcomeOver request contents k x → o ≡ x
+request_once (Sum size at kind file) contents j k o x a b = a.1 ∙ sym b.1
+request_once (Layout file) contents j k o x a b = a.1 ∙ sym b.1
+request_once (Query threads layout query file) contents j k o x a b =
+    query_once layout query file (file_of contents layout) (file_of contents file) j k o x a b
 
-one_query_end : (layout text file : List ℕ) (first last : Option (List ℕ)) (o x : Outcome) → QueryEnds layout text file first last o → o.status ≡ Answered
-    → QueryEnds layout text file first last x → x ≡ o
-one_query_end layout text file None last o x ends is other = other ∙ sym ends
-one_query_end layout text file (Some bytes) last o x ends is other =
-    let a = bytes_answered bytes text file last o ends is in
-    one_bytes_end bytes text file last a.0 a.1 x a.2 a.3 other ∙ sym a.4
+-- words have one outcome over files that tell
+pub one_outcome : HaveOneOutcome
+one_outcome words contents j k o x (faulty a) (faulty b) = refl
+one_outcome words contents j k o x (faulty a) (asked r k' x' asks has) = absurd (a r asks)
+one_outcome words contents j k o x (asked r j' o' asks has) (faulty b) = absurd (b r asks)
+one_outcome words contents j k o x (asked r j' o' asks has) (asked s k' x' asks' has') =
+    request_once r contents j k o x (over_told r contents j o has)
+    (over_told r contents k x (subst (λ (y : Request). HasOutcome y (Some contents) k x) (same_request words s r asks' asks) has'))
 
-one_outcome : (request : Request) (contents : Contents) (o x : Outcome) → IsOutcomeOver request contents o → o.status ≡ Answered → IsOutcomeOver request contents x → x ≡ o
-one_outcome (Sum size at kind file) contents o x ends is other = other ∙ sym ends
-one_outcome (Layout file) contents o x ends is other = other ∙ sym ends
-one_outcome (Query threads layout query file) contents o x ends is other =
-    one_query_end layout query file (file_of contents layout) (file_of contents file) o x ends is other
+-- ---- valid input
 
--- ---- the run
+-- no cause applies to a request that the words ask
+never : (words : List (List ℕ)) (told : Option Contents) (Has : Request → Contents → Type 0) (request : Request) (contents : Contents) → Asks words request → told ≡ Some contents
+    → (Has request contents → ⊥) → AskFor words told Has → ⊥
+never words told Has request contents asks tells none ask =
+    let has : IfSome (Some contents) (Has ask.0) = subst (λ (h : Option Contents). IfSome h (Has ask.0)) tells ask.2 in
+    none (subst (λ (r : Request). Has r contents) (same_request words ask.0 request ask.1 asks) has)
 
-told_outcome : (words : List (List ℕ)) (contents : Contents) (request : Request) (o x : Outcome) → Asks words request → IsOutcomeOver request contents o → o.status ≡ Answered
-    → IsOutcome words (Some contents) x → x ≡ o
-told_outcome words contents request o x asks ends is (faulty none) = absurd (none request asks)
-told_outcome words contents request o x asks ends is (asked other y asks' has) =
-    one_outcome request contents o y ends is
-    (over_told request contents y (subst (λ (r : Request). HasOutcome r (Some contents) y) (same_request words other request asks' asks) has))
+-- of valid input the one status is that of an answer
+valid_status : (words : List (List ℕ)) (told : Option Contents) (k : Keeps) (o : Outcome) (s : Status) (request : Request) (contents : Contents) → IsOutcome words told k o → o.status ≡ s
+    → Asks words request → told ≡ Some contents → IsValid request contents → s ≡ Answered
+valid_status words told k o Answered request contents is status asks tells v = refl
+valid_status words told k o Usage request contents is status asks tells v = absurd (usage_faulty words told k o is status request asks)
+valid_status words told k o Missing request contents is status asks tells v = absurd (never words told LacksFile request contents asks tells v.there (outcome_missing words told k o is status))
+valid_status words told k o Unread request contents is status asks tells v = absurd (outcome_early words told k o is (subst IsLate (sym status) tt))
+valid_status words told k o LayoutRefused request contents is status asks tells v = absurd (never words told HasRefusedLayout request contents asks tells v.layout (outcome_refused words told k o is status))
+valid_status words told k o QueryRefused request contents is status asks tells v = absurd (never words told HasRefusedQuery request contents asks tells v.query (outcome_query_refused words told k o is status))
+valid_status words told k o Ragged request contents is status asks tells v = absurd (never words told HasRaggedFile request contents asks tells v.records (outcome_ragged words told k o is status))
+valid_status words told k o TooLong request contents is status asks tells v = absurd (never words told HasLongFile request contents asks tells v.short (outcome_too_long words told k o is status))
+valid_status words told k o Unwritten request contents is status asks tells v = absurd (outcome_early words told k o is (subst IsLate (sym status) tt))
+valid_status words told k o NoMemory request contents is status asks tells v = absurd (outcome_early words told k o is (subst IsLate (sym status) tt))
+valid_status words told k o ScriptRefused request contents is status asks tells v = absurd (not_refused_script words told k o is status)
 
-pub complete : (words : List (List ℕ)) (told : Option Contents) (t : Traces) (s : Status) (code : ℕ) → Runs words told t s → code ≡ code_of s
-    → (request : Request) (contents : Contents) (o : Outcome) → Asks words request → told ≡ Some contents → IsOutcomeOver request contents o → o.status ≡ Answered
-    → (Rose t.reads_before t.reads_failed → ⊥) → (Rose t.writes_before t.writes_failed → ⊥) → Answers o code t.before t.after
-complete words told t s code (whole x is_outcome all) same request contents o asks tells ends valid no_read no_write =
-    let is : x ≡ o = told_outcome words contents request o x asks ends valid (subst (λ (h : Option Contents). IsOutcome words h x) tells is_outcome) in
-    subst (λ (y : Outcome). Answers y code t.before t.after) is (inl (same ∙ ap code_of (ap (λ (y : Outcome). y.status) is ∙ valid), all))
-complete words told t s code (unread asks' rose kept) same request contents o asks tells ends valid no_read no_write = absurd (no_read rose)
-complete words told t s code (unwritten x is_outcome rose front) same request contents o asks tells ends valid no_read no_write = absurd (no_write rose)
-complete words told t s code (no_memory x is_outcome front) same request contents o asks tells ends valid no_read no_write = inr same
-complete words told t s code (unknown kept) same request contents o asks tells ends valid no_read no_write = inr same
+-- valid input is answered, where no read or write failed
+ran : (words : List (List ℕ)) (told : Option Contents) (t : Traces) (k : Keeps) (s : Status) → Runs words told t k s
+    → (request : Request) (contents : Contents) → Asks words request → told ≡ Some contents → IsValid request contents
+    → (Rose t.reads_before t.reads_failed → ⊥) → (Rose t.writes_before t.writes_failed → ⊥) → Answers words told k t.before t.after (code_of s)
+ran words told t k s (whole x o is all) request contents asks tells valid no_read no_write =
+    let status = valid_status words told k o o.status request contents is refl asks tells valid in
+    subst (λ (r : Status). Answers words told k t.before t.after (code_of r)) (sym status) (is_answered o is status all)
+ran words told t k s (unread ask rose same) request contents asks tells valid no_read no_write = absurd (no_read rose)
+ran words told t k s (unwritten x o is rose front) request contents asks tells valid no_read no_write = absurd (no_write rose)
+ran words told t k s (no_memory x o is front) request contents asks tells valid no_read no_write = wants_memory
+ran words told t k s (unknown x same) request contents asks tells valid no_read no_write = wants_memory
+
+pub complete : (words : List (List ℕ)) (told : Option Contents) (t : Traces) (k : Keeps) (s : Status) (code : ℕ) → Runs words told t k s → code ≡ code_of s
+    → (request : Request) (contents : Contents) → Asks words request → told ≡ Some contents → IsValid request contents
+    → (Rose t.reads_before t.reads_failed → ⊥) → (Rose t.writes_before t.writes_failed → ⊥) → Answers words told k t.before t.after code
+complete words told t k s code runs same request contents asks tells valid no_read no_write =
+    subst (λ (n : ℕ). Answers words told k t.before t.after n) (sym same) (ran words told t k s runs request contents asks tells valid no_read no_write)

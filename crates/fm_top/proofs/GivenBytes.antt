@@ -7,7 +7,7 @@ use Rattle.fm_base.specs.Machine.{rounded_up}
 use Rattle.fm_bytes.specs.Bytes.{AreBytes}
 use Rattle.fm_bytes.specs.Words.{word_count, bytes_in, words_of}
 use Rattle.fm_bytes.proofs.Words.{length-bytes_in, bytes_in-append, bytes_in-words_from, take-bytes_in}
-use Rattle.fm_pieces.specs.Alone.{bytes_of_arena}
+use Rattle.fm_access.specs.Alone.{bytes_of_arena}
 use Rattle.fm_segment.specs.Alone.{bytes_of_region}
 use Rattle.fm_segment.specs.Region.{Region}
 use Rattle.fm_top.specs.Loaded.{first_bytes}

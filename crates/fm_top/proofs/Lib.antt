@@ -1,13 +1,16 @@
 pub mod Asking
 pub mod Causes
+pub mod Comes
 pub mod Chunks
 pub mod Complete
 pub mod FileBytes
 pub mod GivenBytes
 pub mod Holding
+pub mod NamedKinds
 pub mod Numbers
 pub mod OnePlan
+pub mod OneRefusal
 pub mod Outcomes
+pub mod ReadFor
 pub mod Runs
 pub mod Sums
-pub mod TypeNames

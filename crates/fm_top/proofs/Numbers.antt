@@ -8,8 +8,8 @@ use Rattle.std.specs.Str.Parse.{ParsesUnsigned}
 use Rattle.std.proofs.lemmas.Bool.Decides.{not_from_Decides}
 use Rattle.std.proofs.lemmas.Fmt.{parse-decimal, decimal_injective}
 use Rattle.std.proofs.lemmas.Slice.Eq.{bytes_eq-Decides}
-use Rattle.fm_path.specs.Listing.{kind_text}
-use Rattle.fm_top.proofs.TypeNames.{kind_text-injective}
+use Rattle.fm_lanes.specs.Named.{kind_text}
+use Rattle.fm_lanes.proofs.Naming.{kind_text-injective}
 use Rattle.fm_lanes.specs.declared.value_kind.ValueKind.{ValueKind}
 use Rattle.fm_options.specs.Options.{texts}
 use Rattle.fm_top.specs.Words.{AreThreads, Sum, Layout, Query, AreFaulty, HasValue, IsSum, IsLayout, IsQuery, five, two}

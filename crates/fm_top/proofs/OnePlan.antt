@@ -6,15 +6,15 @@ use Rattle.fm_base.specs.declared.refusal.Refusal.{Refusal}
 use Rattle.fm_base.specs.declared.refusal.Refusal.TheVariants.{BadQuery, Memory}
 use Rattle.fm_layout.specs.Tree.{Tree, Value, Padding, Sequence, Struct, Union}
 use Rattle.fm_layout.specs.Parts.{IsValue}
-use Rattle.fm_steps.specs.declared.step.PathStep.{PathStep}
-use Rattle.fm_steps.specs.declared.step.PathStep.TheVariants.{Name, Group, At, Each, EachFrom}
-use Rattle.fm_places.specs.Follow.{Taken, taken, after, before, ◌>>=◌, follow_by}
-use Rattle.fm_places.specs.Places.{Step}
-use Rattle.fm_places.specs.Walk.{Walk}
+use Rattle.fm_path_text.specs.declared.step.PathStep.{PathStep}
+use Rattle.fm_path_text.specs.declared.step.PathStep.TheVariants.{Name, Group, At, Each, EachFrom}
+use Rattle.fm_path_meaning.specs.Follow.{Taken, taken, after, before, ◌>>=◌, follow_by}
+use Rattle.fm_path_meaning.specs.Places.{Step}
+use Rattle.fm_path_meaning.specs.Walk.{Walk}
 use Rattle.fm_lanes.specs.declared.order.Order.{Order}
 use Rattle.fm_lanes.specs.declared.value_kind.ValueKind.{ValueKind}
 use Rattle.fm_query.specs.declared.operator.Operator.{Operator}
-use Rattle.fm_places.specs.Found.{end_from}
+use Rattle.fm_path_meaning.specs.Found.{end_from}
 use Rattle.fm_path.specs.declared.value_spec.ValueSpec.{ValueSpec}
 use Rattle.fm_path.specs.Resolution.{Resolution, resolution, IsSpecOf, IsResolved, IsRefusal, at_step, no_value, no_memory}
 use Rattle.fm_query.specs.declared.syntax.ItemSyntax.{ItemSyntax}
@@ -103,7 +103,7 @@ one_plan_of t q p r a b =
     ∙ ap (plan r.size r.alignment r.items) conditions
 
 -- the text is that of one query
-one_syntax : (text : List ℕ) (q r : Syntax) → IsTextOf text q → IsTextOf text r → q ≡ r
+pub one_syntax : (text : List ℕ) (q r : Syntax) → IsTextOf text q → IsTextOf text r → q ≡ r
 one_syntax text q r a b = a.only r b.is_query b.spelled
 
 pub one_plan : (text : List ℕ) (t : Tree) (p r : Plan) → IsParsed text t p → IsParsed text t r → p ≡ r
@@ -134,7 +134,7 @@ step_follows (Ok c) p ps k u e rest ends fails =
     rest c.1 ends (ap (follow_by taken ps (k + 1) c.1) (sym (after_none p)) ∙ no_before c.0 (follow_by taken ps (k + 1) c.1 (after p [])) e fails)
 
 -- a path that ends somewhere is followed
-follows : (ps : List PathStep) (k : ℕ) (t u : Tree) (e : Refusal) → end_from ps k t ≡ Ok u → follow_by taken ps k t [] ≡ Err e → ⊥
+pub follows : (ps : List PathStep) (k : ℕ) (t u : Tree) (e : Refusal) → end_from ps k t ≡ Ok u → follow_by taken ps k t [] ≡ Err e → ⊥
 follows [] k t u e ends fails = cc
 follows (p ∷ ps) k t u e ends fails = step_follows (taken k p t 0) p ps k u e (λ v. follows ps (k + 1) v u e) ends fails
 
@@ -146,18 +146,18 @@ has_value (Sequence n e l) v is = absurd is
 has_value (Struct ms l) v is = absurd is
 has_value (Union ms l) v is = absurd is
 
-not_refused : (path : List PathStep) (t : Tree) (r : Resolution) (e : Refusal) → IsResolved path t r → IsRefusal path t e → e ≢ Memory → ⊥
+pub not_refused : (path : List PathStep) (t : Tree) (r : Resolution) (e : Refusal) → IsResolved path t r → IsRefusal path t e → e ≢ Memory → ⊥
 not_refused path t r e a (at_step x is) other = follows path 0 t a.last e a.ends (is [])
 not_refused path t r e a (no_value elsewhere) other =
     let last : a.last ≡ elsewhere.last = same_ok _ _ _ a.ends elsewhere.ends in
     elsewhere.no_value (subst IsValue last (has_value a.last r.value a.value))
 not_refused path t r e a no_memory other = other refl
 
-item_not_refused : (t : Tree) (s : ItemSyntax) (item : Item) (e : Refusal) → IsItemOf t s item → IsItemRefused t s e → e ≢ Memory → ⊥
+pub item_not_refused : (t : Tree) (s : ItemSyntax) (item : Item) (e : Refusal) → IsItemOf t s item → IsItemRefused t s e → e ≢ Memory → ⊥
 item_not_refused t syntax.Count x e is denied other = denied
 item_not_refused t (syntax.Of fold path) x e is denied other = not_refused path t is.asked.0 e is.asked.1 denied other
 
-condition_not_refused : (t : Tree) (s : ConditionSyntax) (c : Condition) (e : Refusal) → IsConditionOf t s c → IsConditionRefused t s e → e ≢ Memory → ⊥
+pub condition_not_refused : (t : Tree) (s : ConditionSyntax) (c : Condition) (e : Refusal) → IsConditionOf t s c → IsConditionRefused t s e → e ≢ Memory → ⊥
 condition_not_refused t s c e is (at_path x denied) other = not_refused s.path t c.path e is.path denied other
 condition_not_refused t s c e is (left_open k r has open_at) other = let closed = is.closed in cc
 
@@ -175,7 +175,7 @@ plan_not_refused t q p e is (at_condition items first) other =
     none_first (IsConditionOf t) _ (IsConditionRefused t) e (λ s c is_condition denied. condition_not_refused t s c e is_condition denied other) q.conditions p.conditions is.conditions first
 
 -- a text of a query leaves the grammar nowhere
-not_no_text : (text : List ℕ) (q : Syntax) (e : Refusal) → IsTextOf text q → IsNoText text e → e ≢ Memory → ⊥
+pub not_no_text : (text : List ℕ) (q : Syntax) (e : Refusal) → IsTextOf text q → IsNoText text e → e ≢ Memory → ⊥
 not_no_text text q (BadQuery at) is denied other = denied.none q is.is_query is.spelled
 not_no_text text q Memory is denied other = other refl
 not_no_text text q e is denied other = denied

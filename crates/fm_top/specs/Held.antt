@@ -1,7 +1,7 @@
 -- An arena that the only caller holds.
 use Rattle.std.specs.Prelude.{◌≡◌, ℕ, ◌≤◌, true, List, Option, length}
 use Rattle.fm_base.specs.declared.arena_id.ArenaId.{ArenaId}
-use Rattle.fm_base.specs.Arenas.{Alive, arena_of, has_arena, MayUse}
+use Rattle.fm_base.specs.Arenas.{only_caller, Alive, arena_of, has_arena, MayUse}
 use Rattle.fm_base.specs.Machine.{words_within}
 use Rattle.fm_mono.specs.Shown.{Arenas}
 
@@ -17,7 +17,7 @@ pub record IsHeld (limit : ℕ) (m : Arenas) (inside : Option ArenaId) (a : Aren
   pub limit_is : m.limit ≡ limit
   pub inside_is : m.inside ≡ inside
   pub known : has_arena m.state a ≡ true
-  pub usable : MayUse a 0
+  pub usable : MayUse a only_caller
   pub alive : (arena_of m.state a).life ≡ Alive
   pub size : length (words_at m a) ≡ words_within limit
   pub within : given_at m a ≤ limit

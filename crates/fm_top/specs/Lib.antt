@@ -3,9 +3,12 @@ pub mod Causes
 pub mod Ending
 pub mod Found
 pub mod Held
+pub mod Keeps
+pub mod Laws
 pub mod Loaded
 pub mod Outcome
 pub mod Queries
+pub mod Reading
 pub mod Records
 pub mod Run
 pub mod Whole

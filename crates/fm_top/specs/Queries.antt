@@ -1,4 +1,4 @@
--- How a query ends, by what is found under the names of its two files.
+-- How a query ends, and what it keeps, by what is found under the names of its two files.
 use Rattle.std.specs.Prelude.{◌≡◌, ◌≢◌, ℕ, ◌<◌, ◌≤◌, List, length, Option, None, Some, Result, Ok, Err}
 use Rattle.fm_base.specs.declared.refusal.Refusal.{Refusal}
 use Rattle.fm_base.specs.declared.refusal.Refusal.TheVariants.{Memory}
@@ -9,6 +9,7 @@ use Rattle.fm_query.specs.Plan.{Plan}
 use Rattle.fm_query.specs.Records.{IsRecord, IsNoRecord}
 use Rattle.fm_records.specs.Answers.{answer}
 use Rattle.fm_records.specs.Texts.{answer_text}
+use Rattle.fm_top.specs.Keeps.{Keeps, Nothing}
 use Rattle.fm_top.specs.Outcome.{Outcome, missing, too_long, layout_refused, query_refused, of_records, layout_file_limit}
 
 -- ---- the layout
@@ -42,18 +43,26 @@ abbrev pub answer_outcome : Plan → List ℕ → Option (List ℕ) → Outcome
 answer_outcome p file None = missing file
 answer_outcome p file (Some bytes) = of_records p.size (answer_text p (answer p bytes)) bytes
 
--- how the text ends over records of this layout
-pub data TextEnds (text : List ℕ) (t : Tree) (file : List ℕ) (found : Option (List ℕ)) : Outcome → Type 0 where
-  text_refused : (e : Refusal) → IsTextRefused text t e → TextEnds text t file found (query_refused e)
-  answered_by : (p : Plan) → IsParsed text t p → TextEnds text t file found (answer_outcome p file found)
+-- how the text ends over records of this layout, and what it keeps
+pub data TextEnds (text : List ℕ) (t : Tree) (file : List ℕ) (found : Option (List ℕ)) : Keeps → Outcome → Type 0 where
+  text_refused : (e : Refusal) → IsTextRefused text t e → TextEnds text t file found Nothing (query_refused e)
+  answered_by : (p : Plan) → IsParsed text t p → TextEnds text t file found Nothing (answer_outcome p file found)
 
--- how it ends where the layout's file has these bytes
-pub data LayoutEnds (bytes text file : List ℕ) (found : Option (List ℕ)) : Outcome → Type 0 where
-  over_limit : layout_file_limit < length bytes → LayoutEnds bytes text file found too_long
-  no_layout : (e : Refusal) → IsLayoutRefused bytes e → LayoutEnds bytes text file found (layout_refused e)
-  over_layout : (t : Tree) → IsRecordLayout bytes t → (o : Outcome) → TextEnds text t file found o → LayoutEnds bytes text file found o
+-- how it ends where the layout's file has these bytes, and `Ends` says how over records of the layout
+pub data LayoutEnds (bytes : List ℕ) (Ends : Tree → Keeps → Outcome → Type 0) : Keeps → Outcome → Type 0 where
+  over_limit : layout_file_limit < length bytes → LayoutEnds bytes Ends Nothing too_long
+  no_layout : (e : Refusal) → IsLayoutRefused bytes e → LayoutEnds bytes Ends Nothing (layout_refused e)
+  over_layout : (t : Tree) → IsRecordLayout bytes t → (k : Keeps) → (o : Outcome) → Ends t k o → LayoutEnds bytes Ends k o
 
--- how it ends where this is found under the layout's name
-abbrev pub QueryEnds : List ℕ → List ℕ → List ℕ → Option (List ℕ) → Option (List ℕ) → Outcome → Type 0
-QueryEnds layout text file None found o = o ≡ missing layout
-QueryEnds layout text file (Some bytes) found o = LayoutEnds bytes text file found o
+-- how a command with a layout ends where this is found under the layout's name
+abbrev pub WithLayout : List ℕ → (Tree → Keeps → Outcome → Type 0) → Option (List ℕ) → Keeps → Outcome → Type 0
+WithLayout layout Ends None k o = (k ≡ Nothing) × (o ≡ missing layout)
+WithLayout layout Ends (Some bytes) k o = LayoutEnds bytes Ends k o
+
+-- how a query ends over each layout, where this is found under the record file's name
+abbrev pub QueryText : List ℕ → List ℕ → Option (List ℕ) → Tree → Keeps → Outcome → Type 0
+QueryText text file found t k o = TextEnds text t file found k o
+
+-- how a query ends where this is found under the layout's name, and this under the record file's
+abbrev pub QueryEnds : List ℕ → List ℕ → List ℕ → Option (List ℕ) → Option (List ℕ) → Keeps → Outcome → Type 0
+QueryEnds layout text file first found k o = WithLayout layout (QueryText text file found) first k o

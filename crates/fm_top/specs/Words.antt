@@ -3,7 +3,7 @@ use Rattle.std.specs.Prelude.{◌≡◌, ℕ, ◌+◌, ◌%◌, ◌≢◌, ◌<�
 use Rattle.std.specs.Fmt.{decimal}
 use Rattle.fm_lanes.specs.declared.value_kind.ValueKind.{ValueKind}
 use Rattle.fm_lanes.specs.Kind.{width_of}
-use Rattle.fm_path.specs.Listing.{kind_text}
+use Rattle.fm_lanes.specs.Named.{kind_text}
 use Rattle.fm_options.specs.Options.{Say}
 
 -- what a user asks for
@@ -15,17 +15,17 @@ pub data Request : Type 0 where
   -- what the query of this text answers over the records of the file, by the layout that its file has, on so many threads
   Query : (threads : ℕ) (layout query file : List ℕ) → Request
 
--- the file that is read first
-abbrev pub first_file : Request → List ℕ
-first_file (Sum size at kind file) = file
-first_file (Layout file) = file
-first_file (Query threads layout query file) = layout
+-- the name of the file that is read first, if one is read
+abbrev pub first_file : Request → Option (List ℕ)
+first_file (Sum size at kind file) = Some file
+first_file (Layout file) = Some file
+first_file (Query threads layout query file) = Some layout
 
--- the file that is read last
-abbrev pub last_file : Request → List ℕ
-last_file (Sum size at kind file) = file
-last_file (Layout file) = file
-last_file (Query threads layout query file) = file
+-- the name of the file that is read behind it, if a second one is read
+abbrev pub last_file : Request → Option (List ℕ)
+last_file (Sum size at kind file) = None
+last_file (Layout file) = None
+last_file (Query threads layout query file) = Some file
 
 -- a value of this kind stands at byte `at` of each record of `size` bytes, aligned to its width in each record
 pub record HasValue (size at : ℕ) (kind : ValueKind) : Type 0 where
@@ -69,13 +69,17 @@ abbrev pub AreThreadsBy : Option (List ℕ) → ℕ → Type 0
 AreThreadsBy None n = n ≡ 1
 AreThreadsBy (Some text) n = AreThreads n × (text ≡ decimal n)
 
--- `query [--threads N] LAYOUT QUERY FILE`, where the option stands at any place behind `query`
-pub record IsQuery (words : List (List ℕ)) (threads : ℕ) (layout query file : List ℕ) : Type 0 where
+-- the command's word, and behind it these, and at any place behind the command the option
+pub record IsThreaded (words : List (List ℕ)) (command : List ℕ) (threads : ℕ) (named : List (List ℕ)) : Type 0 where
   pub behind : List (List ℕ)
   pub text : Option (List ℕ)
-  pub spelled : words ≡ codes "query" ∷ behind
-  pub says : Say behind text (three layout query file)
+  pub spelled : words ≡ command ∷ behind
+  pub says : Say behind text named
   pub are_threads : AreThreadsBy text threads
+
+-- `query [--threads N] LAYOUT QUERY FILE`
+abbrev pub IsQuery : List (List ℕ) → ℕ → List ℕ → List ℕ → List ℕ → Type 0
+IsQuery words threads layout query file = IsThreaded words (codes "query") threads (three layout query file)
 
 -- the words ask for this
 abbrev pub Asks : List (List ℕ) → Request → Type 0

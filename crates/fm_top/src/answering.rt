@@ -1,10 +1,11 @@
-ghost use Rattle.std.specs.Prelude.{◌≡◌, ◌%◌, ◌≤◌, length, IfOk, IsErrOf};
+ghost use Rattle.std.specs.Prelude.{◌≡◌, ◌%◌, ◌≤◌, length, IfOk, IsErrOf, ◌≢◌, Err};
 ghost use Rattle.fm_io.specs.Count.{Rose};
 ghost use Rattle.fm_records.specs.Answers.{answer};
 ghost use Rattle.fm_records.specs.Texts.{answer_text};
 ghost use Rattle.fm_top.specs.Ending.{MissesOnly, shown};
 ghost use Rattle.fm_top.specs.Found.{OfFound};
 ghost use Rattle.fm_top.specs.Outcome.{answered, of_records};
+ghost use Rattle.fm_top.specs.Reading.{ReadsSome};
 ghost use Rattle.fm_top.specs.Queries.{answer_outcome};
 
 use crate::ending::Ending;
@@ -30,6 +31,11 @@ pub fn answer_ending<R: Wait, F: Files>(
         shown ending ≡ answer_outcome q.now file.now found)) }
     ensures missing { IfOk result (MissesOnly (F.misses files.old) (F.misses files.new)) }
     ensures failed { IsErrOf result Stop.Failed → Rose (F.faults files.old) (F.faults files.new) }
+    ensures reads { ReadsSome (F.reads files.old) (F.reads files.new) file.now RECORD_FILE_LIMIT }
+    ensures quiet { result ≢ Err Stop.Failed → F.faults files.new ≡ F.faults files.old }
+    ensures held { F.holds files.new ≡ F.holds files.old }
+    ensures faults_stay { F.faults files.old ≤ F.faults files.new }
+    ensures misses_stay { F.misses files.old ≤ F.misses files.new }
 {
     match load(rt, alloc, files, file) {
         Ok(mut loaded) => Ok(loaded_ending(alloc, &mut loaded, q)?),

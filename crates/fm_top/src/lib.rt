@@ -6,6 +6,7 @@ mod buffers;
 mod ending;
 mod held;
 mod kept;
+mod laws;
 mod listing;
 mod loaded;
 mod loading;
@@ -26,6 +27,7 @@ mod words;
 
 pub use held::RECORD_FILE_LIMIT;
 pub use kept::Kept;
+pub use laws::words_have_one_outcome;
 pub use loaded::Loaded;
 pub use loading::{LoadFault, load};
 pub use query_words::QueryCommand;

@@ -1,6 +1,8 @@
-ghost use Rattle.std.specs.Prelude.{◌≡◌, ◌≤◌, ◌*◌, ◌%◌, length, IfOk, IsErrOf};
+ghost use Rattle.std.specs.Prelude.{◌≡◌, ◌≤◌, ◌*◌, ◌%◌, length, IfOk, IsErrOf, ◌≢◌, Err, ◌+◌};
 ghost use Rattle.fm_io.specs.Count.{Rose};
 ghost use Rattle.fm_io.specs.Files.{IsAbsent};
+ghost use Rattle.fm_io.specs.Reads.{ReadsFile};
+ghost use Rattle.fm_top.specs.Reading.{GoesBy, ReadsSome, piece_limit};
 ghost use Rattle.fm_top.specs.Whole.{IsWhole, IsOver, TakesChunk};
 
 use crate::buffers::{zero_bytes, zero_words};
@@ -42,6 +44,14 @@ pub fn load<R: Wait, F: Files>(
     ensures absent { IsErrOf result LoadFault.Missing → IsAbsent (F.holds files.old) name.now }
     ensures missing { IsErrOf result LoadFault.Missing → Rose (F.misses files.old) (F.misses files.new) }
     ensures failed { IsErrOf result LoadFault.Failed → Rose (F.faults files.old) (F.faults files.new) }
+
+    // It reads on where the bytes of its last read end, in pieces, and up to the first byte past the limit at most.
+    ensures reads { ReadsSome (F.reads files.old) (F.reads files.new) name.now RECORD_FILE_LIMIT }
+    ensures quiet { result ≢ Err LoadFault.Failed → F.faults files.new ≡ F.faults files.old }
+    ensures found { result ≢ Err LoadFault.Missing → F.misses files.new ≡ F.misses files.old }
+    ensures held { F.holds files.new ≡ F.holds files.old }
+    ensures faults_stay { F.faults files.old ≤ F.faults files.new }
+    ensures misses_stay { F.misses files.old ≤ F.misses files.new }
 {
     let Ok(mut bytes) = zero_bytes(alloc, CHUNK) else {
         return Err(LoadFault::Memory);
@@ -81,6 +91,10 @@ fn load_chunk<R: Wait, F: Files>(
     ensures absent { IsErrOf result LoadFault.Missing → IsAbsent (F.holds files.old) name.now }
     ensures missing { IsErrOf result LoadFault.Missing → Rose (F.misses files.old) (F.misses files.new) }
     ensures failed { IsErrOf result LoadFault.Failed → Rose (F.faults files.old) (F.faults files.new) }
+    ensures reads { ReadsFile (F.reads files.old) (F.reads files.new) name.now piece_limit (RECORD_FILE_LIMIT + 1) (length loaded.old)
+        (λ next. IfOk result (λ ended. GoesBy ended (length loaded.new) next)) }
+    ensures quiet { result ≢ Err LoadFault.Failed → F.faults files.new ≡ F.faults files.old }
+    ensures found { result ≢ Err LoadFault.Missing → F.misses files.new ≡ F.misses files.old }
     ensures held { F.holds files.new ≡ F.holds files.old }
     ensures faults_stay { F.faults files.old ≤ F.faults files.new }
     ensures misses_stay { F.misses files.old ≤ F.misses files.new }

@@ -1,10 +1,15 @@
-ghost use Rattle.std.specs.Prelude.{◌≡◌, ◌≢◌, ◌≤◌, ◌⊎◌, length, IfOk, IfErr, IsErrOf};
+ghost use Rattle.std.specs.Prelude.{◌≡◌, ◌≢◌, ◌≤◌, ◌⊎◌, length, IfOk, IfErr, IsErrOf, Err, Some};
 ghost use Rattle.fm_io.specs.Count.{Rose};
+ghost use Rattle.fm_query.specs.Parsed.{IsParsed};
+ghost use Rattle.fm_query.specs.Plan.{Plan};
 ghost use Rattle.fm_query.specs.Records.{IsRecord};
+ghost use Rattle.fm_top.specs.Causes.{IsAsked};
 ghost use Rattle.fm_top.specs.Ending.{MissesOnly, shown};
 ghost use Rattle.fm_top.specs.Found.{OfFound};
-ghost use Rattle.fm_top.specs.Outcome.{layout_refused, query_refused};
-ghost use Rattle.fm_top.specs.Queries.{IsLayoutRefused, IsRecordLayout, LayoutEnds, TextEnds};
+ghost use Rattle.fm_top.specs.Keeps.{Nothing};
+ghost use Rattle.fm_top.specs.Outcome.{layout_refused, query_refused, record_file_limit};
+ghost use Rattle.fm_top.specs.Queries.{IsLayoutRefused, IsRecordLayout, LayoutEnds, QueryText, TextEnds};
+ghost use Rattle.fm_top.specs.Reading.{ReadsFor, ReadsIf};
 ghost use Rattle.fm_top.specs.Run.{HasOutcome};
 ghost use Rattle.fm_top.specs.Words.{Query};
 
@@ -31,9 +36,16 @@ pub fn query_ending<R: Wait, F: Files>(
 ) -> Result<Ending, Stop>
     ensures outcome { IfOk result (λ ending. HasOutcome
         (Query query.now.threads query.now.layout.now query.now.query.now query.now.file.now)
-        (F.holds files.old) (shown ending)) }
+        (F.holds files.old) Nothing (shown ending)) }
     ensures missing { IfOk result (MissesOnly (F.misses files.old) (F.misses files.new)) }
     ensures failed { IsErrOf result Stop.Failed → Rose (F.faults files.old) (F.faults files.new) }
+    ensures reads { ReadsFor
+        (Query query.now.threads query.now.layout.now query.now.query.now query.now.file.now)
+        (F.holds files.old) (F.reads files.old) (F.reads files.new) }
+    ensures quiet { result ≢ Err Stop.Failed → F.faults files.new ≡ F.faults files.old }
+    ensures held { F.holds files.new ≡ F.holds files.old }
+    ensures faults_stay { F.faults files.old ≤ F.faults files.new }
+    ensures misses_stay { F.misses files.old ≤ F.misses files.new }
 {
     match read_whole(alloc, files, query.layout, LAYOUT_FILE_LIMIT) {
         Ok(bytes) => layout_ending(rt, alloc, files, query, &bytes),
@@ -54,9 +66,16 @@ fn layout_ending<R: Wait, F: Files>(
 ) -> Result<Ending, Stop>
     requires { length bytes.now ≤ LAYOUT_FILE_LIMIT }
     ensures outcome { IfOk result (λ ending. OfFound (F.holds files.old) query.now.file.now (λ found.
-        LayoutEnds bytes.now query.now.query.now query.now.file.now found (shown ending))) }
+        LayoutEnds bytes.now (QueryText query.now.query.now query.now.file.now found) Nothing (shown ending))) }
     ensures missing { IfOk result (MissesOnly (F.misses files.old) (F.misses files.new)) }
     ensures failed { IsErrOf result Stop.Failed → Rose (F.faults files.old) (F.faults files.new) }
+    // The record file is read only where the query is one over records of the layout.
+    ensures reads { ReadsIf (F.reads files.old) (F.reads files.new) query.now.file.now record_file_limit
+        ((p : Plan) × IsAsked (Some bytes.now) query.now.query.now p) }
+    ensures quiet { result ≢ Err Stop.Failed → F.faults files.new ≡ F.faults files.old }
+    ensures held { F.holds files.new ≡ F.holds files.old }
+    ensures faults_stay { F.faults files.old ≤ F.faults files.new }
+    ensures misses_stay { F.misses files.old ≤ F.misses files.new }
 {
     match record_layout(alloc, bytes) {
         Ok(layout) => text_ending(rt, alloc, files, query, &layout),
@@ -90,9 +109,15 @@ fn text_ending<R: Wait, F: Files>(
 ) -> Result<Ending, Stop>
     requires { IsRecord layout.now }
     ensures outcome { IfOk result (λ ending. OfFound (F.holds files.old) query.now.file.now (λ found.
-        TextEnds query.now.query.now layout.now query.now.file.now found (shown ending))) }
+        TextEnds query.now.query.now layout.now query.now.file.now found Nothing (shown ending))) }
     ensures missing { IfOk result (MissesOnly (F.misses files.old) (F.misses files.new)) }
     ensures failed { IsErrOf result Stop.Failed → Rose (F.faults files.old) (F.faults files.new) }
+    ensures reads { ReadsIf (F.reads files.old) (F.reads files.new) query.now.file.now record_file_limit
+        ((p : Plan) × IsParsed query.now.query.now layout.now p) }
+    ensures quiet { result ≢ Err Stop.Failed → F.faults files.new ≡ F.faults files.old }
+    ensures held { F.holds files.new ≡ F.holds files.old }
+    ensures faults_stay { F.faults files.old ≤ F.faults files.new }
+    ensures misses_stay { F.misses files.old ≤ F.misses files.new }
 {
     match parse_query(alloc, query.query, layout) {
         Ok(asked) => answer_ending(rt, alloc, files, query.file, &asked),

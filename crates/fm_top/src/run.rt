@@ -1,16 +1,17 @@
-ghost use Rattle.std.specs.Prelude.{◌≡◌, IfOk, IfErr, IsErrOf, Some};
+ghost use Rattle.std.specs.Prelude.{◌≡◌, IfOk, IfErr, IsErrOf, Some, ◌≢◌, ◌≤◌, Err};
 ghost use Rattle.fm_io.specs.Count.{Rose};
 ghost use Rattle.fm_top.specs.Asked.{request_of};
 ghost use Rattle.fm_top.specs.Ending.{MissesOnly, shown};
 ghost use Rattle.fm_io.specs.Files.{Contents};
-ghost use Rattle.fm_top.specs.Outcome.{Outcome};
-ghost use Rattle.fm_top.specs.Run.{HasOutcome, IsOutcome, IsOutcomeOver, AskSome, Runs, Prints, traces_of, code_of, EndsWith, Answers, AsksAbsent, AsksLong, AsksRagged, AsksRefused, AsksRefusedQuery};
+ghost use Rattle.fm_top.specs.Keeps.{Nothing, kept_in};
+ghost use Rattle.fm_top.specs.Reading.{ReadsFor};
+ghost use Rattle.fm_top.specs.Run.{HasOutcome, IsOutcome, IsValid, AskSome, Runs, Prints, traces_of, code_of, EndsWith, Answers, AsksAbsent, AsksLong, AsksRagged, AsksRefused, AsksRefusedQuery};
 ghost use Rattle.fm_options.specs.Options.{texts};
 ghost use Rattle.fm_top.specs.Words.{Request, Asks, AreFaulty, CanBeAsked};
-ghost use Rattle.fm_top.specs.declared.status.Status.TheVariants.{Answered, Usage, Missing, Unread, LayoutRefused, QueryRefused, Ragged, TooLong, Unwritten};
+ghost use Rattle.fm_top.specs.declared.status.Status.TheVariants.{Usage, Missing, Unread, LayoutRefused, QueryRefused, Ragged, TooLong, Unwritten};
 
 use crate::ending::Ending;
-use crate::kept::Kept;
+use crate::kept::{Keep, Kept};
 use crate::listing::listing_ending;
 use crate::query::query_ending;
 use crate::status::Status;
@@ -44,11 +45,11 @@ where
     F: Files,
     O: Sink,
     G: Gate,
-    // The status is that of an outcome of the words and the files, or of what hindered it; what was written too.
+    // The status is that of an outcome of the words and the files, or of what hindered it; so are what was written and what is kept.
     ensures runs { (status : Status) × (result ≡ code_of status)
         × Runs (texts words.now) (F.holds files.old)
         (traces_of (F.faults files.old) (F.faults files.new) (O.faults out.old) (O.faults out.new)
-        (O.written out.old) (O.written out.new)) status }
+        (O.written out.old) (O.written out.new)) (kept_in kept.new) status }
 
     // Each status has its cause.
     ensures usage { result ≡ code_of Usage → AreFaulty (texts words.now) }
@@ -65,14 +66,54 @@ where
     ensures faulty { AreFaulty (texts words.now) → EndsWith Usage result }
     ensures reads_nothing { AreFaulty (texts words.now) → files.new ≡ files.old }
 
+    // Where a read failed the status is 3, and where a write failed it is 8: any other leaves the count.
+    ensures read_well { result ≢ code_of Unread → F.faults files.new ≡ F.faults files.old }
+    ensures written_well { result ≢ code_of Unwritten → O.faults out.new ≡ O.faults out.old }
+
     // Valid input is answered where files tell and no read or write failed.
-    ensures complete { (request : Request) (contents : Contents) (o : Outcome) → Asks (texts words.now) request
-        → F.holds files.old ≡ Some contents → IsOutcomeOver request contents o → o.status ≡ Answered
+    ensures complete { (request : Request) (contents : Contents) → Asks (texts words.now) request
+        → F.holds files.old ≡ Some contents → IsValid request contents
         → ¬ (Rose (F.faults files.old) (F.faults files.new)) → ¬ (Rose (O.faults out.old) (O.faults out.new))
-        → Answers o result (O.written out.old) (O.written out.new) }
+        → Answers (texts words.now) (F.holds files.old) (kept_in kept.new) (O.written out.old) (O.written out.new) result }
+
+    // The first file is read, and then the last one where that needs it, each in pieces, and no read follows on another answer than bytes.
+    ensures reads { (request : Request) → Asks (texts words.now) request
+        → ReadsFor request (F.holds files.old) (F.reads files.old) (F.reads files.new) }
+
+    // What the files hold stays, and no count falls, so that another run may follow.
+    ensures held { F.holds files.new ≡ F.holds files.old }
+    ensures faults_stay { F.faults files.old ≤ F.faults files.new }
+    ensures misses_stay { F.misses files.old ≤ F.misses files.new }
+    ensures writes_stay { O.faults out.old ≤ O.faults out.new }
 {
-    *kept = Kept::new();
-    run_words(rt, alloc, words, files, out).code()
+    run_kept(rt, alloc, words, files, out, kept).code()
+}
+
+/// Runs the words, and keeps nothing of what was kept before.
+fn run_kept<R: Wait, F: Files, O: Sink, K: Keep>(
+    rt: &R,
+    alloc: Global,
+    words: &[String],
+    files: &mut F,
+    out: &mut O,
+    kept: &mut K,
+) -> Status
+    ensures runs { Runs (texts words.now) (F.holds files.old)
+        (traces_of (F.faults files.old) (F.faults files.new) (O.faults out.old) (O.faults out.new)
+        (O.written out.old) (O.written out.new)) (K.keeps kept.new) result }
+    ensures missed { result ≡ Missing → Rose (F.misses files.old) (F.misses files.new) }
+    ensures reads_nothing { AreFaulty (texts words.now) → files.new ≡ files.old }
+    ensures reads { (request : Request) → Asks (texts words.now) request
+        → ReadsFor request (F.holds files.old) (F.reads files.old) (F.reads files.new) }
+    ensures read_well { result ≢ Unread → F.faults files.new ≡ F.faults files.old }
+    ensures written_well { result ≢ Unwritten → O.faults out.new ≡ O.faults out.old }
+    ensures held { F.holds files.new ≡ F.holds files.old }
+    ensures faults_stay { F.faults files.old ≤ F.faults files.new }
+    ensures misses_stay { F.misses files.old ≤ F.misses files.new }
+    ensures writes_stay { O.faults out.old ≤ O.faults out.new }
+{
+    kept.clear();
+    run_words(rt, alloc, words, files, out)
 }
 
 /// Runs the words, and answers the status that this leaves.
@@ -85,9 +126,17 @@ fn run_words<R: Wait, F: Files, O: Sink>(
 ) -> Status
     ensures runs { Runs (texts words.now) (F.holds files.old)
         (traces_of (F.faults files.old) (F.faults files.new) (O.faults out.old) (O.faults out.new)
-        (O.written out.old) (O.written out.new)) result }
+        (O.written out.old) (O.written out.new)) Nothing result }
     ensures missed { result ≡ Missing → Rose (F.misses files.old) (F.misses files.new) }
     ensures reads_nothing { AreFaulty (texts words.now) → files.new ≡ files.old }
+    ensures reads { (request : Request) → Asks (texts words.now) request
+        → ReadsFor request (F.holds files.old) (F.reads files.old) (F.reads files.new) }
+    ensures read_well { result ≢ Unread → F.faults files.new ≡ F.faults files.old }
+    ensures written_well { result ≢ Unwritten → O.faults out.new ≡ O.faults out.old }
+    ensures held { F.holds files.new ≡ F.holds files.old }
+    ensures faults_stay { F.faults files.old ≤ F.faults files.new }
+    ensures misses_stay { F.misses files.old ≤ F.misses files.new }
+    ensures writes_stay { O.faults out.old ≤ O.faults out.new }
 {
     match ending_of(rt, alloc, words, files) {
         Ok(ending) => print(&ending, out),
@@ -103,11 +152,17 @@ fn ending_of<R: Wait, F: Files>(
     words: &[String],
     files: &mut F,
 ) -> Result<Ending, Stop>
-    ensures outcome { IfOk result (λ ending. IsOutcome (texts words.now) (F.holds files.old) (shown ending)) }
+    ensures outcome { IfOk result (λ ending. IsOutcome (texts words.now) (F.holds files.old) Nothing (shown ending)) }
     ensures asked { IsErrOf result Stop.Failed → AskSome (texts words.now) }
     ensures reads_nothing { AreFaulty (texts words.now) → files.new ≡ files.old }
     ensures missed { IfOk result (MissesOnly (F.misses files.old) (F.misses files.new)) }
     ensures unread { IsErrOf result Stop.Failed → Rose (F.faults files.old) (F.faults files.new) }
+    ensures reads { (request : Request) → Asks (texts words.now) request
+        → ReadsFor request (F.holds files.old) (F.reads files.old) (F.reads files.new) }
+    ensures quiet { result ≢ Err Stop.Failed → F.faults files.new ≡ F.faults files.old }
+    ensures held { F.holds files.new ≡ F.holds files.old }
+    ensures faults_stay { F.faults files.old ≤ F.faults files.new }
+    ensures misses_stay { F.misses files.old ≤ F.misses files.new }
 {
     match command_of(alloc, words)? {
         Some(command) => command_ending(rt, alloc, files, &command),
@@ -124,9 +179,14 @@ fn command_ending<R: Wait, F: Files>(
 ) -> Result<Ending, Stop>
     requires { CanBeAsked (request_of command.now) }
     ensures outcome { IfOk result (λ ending.
-        HasOutcome (request_of command.now) (F.holds files.old) (shown ending)) }
+        HasOutcome (request_of command.now) (F.holds files.old) Nothing (shown ending)) }
     ensures missed { IfOk result (MissesOnly (F.misses files.old) (F.misses files.new)) }
     ensures unread { IsErrOf result Stop.Failed → Rose (F.faults files.old) (F.faults files.new) }
+    ensures reads { ReadsFor (request_of command.now) (F.holds files.old) (F.reads files.old) (F.reads files.new) }
+    ensures quiet { result ≢ Err Stop.Failed → F.faults files.new ≡ F.faults files.old }
+    ensures held { F.holds files.new ≡ F.holds files.old }
+    ensures faults_stay { F.faults files.old ≤ F.faults files.new }
+    ensures misses_stay { F.misses files.old ≤ F.misses files.new }
 {
     match command {
         Command::Sum(sum) => sum_ending(rt, alloc, files, sum),
@@ -140,6 +200,8 @@ fn print<O: Sink>(ending: &Ending, out: &mut O) -> Status
     ensures prints { Prints (shown ending.now) (O.faults out.old) (O.faults out.new)
         (O.written out.old) (O.written out.new) result }
     ensures missing { result ≡ Missing → ending.now.status ≡ Missing }
+    ensures quiet { result ≢ Unwritten → O.faults out.new ≡ O.faults out.old }
+    ensures faults_stay { O.faults out.old ≤ O.faults out.new }
 {
     match write_text(out, ending.text.as_str().as_bytes()) {
         Ok(()) => ending.status,

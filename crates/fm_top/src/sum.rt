@@ -1,7 +1,9 @@
-ghost use Rattle.std.specs.Prelude.{◌≡◌, ◌≤◌, IfOk, IsErrOf, length};
+ghost use Rattle.std.specs.Prelude.{◌≡◌, ◌≤◌, IfOk, IsErrOf, length, ◌≢◌, Err};
 ghost use Rattle.fm_io.specs.Count.{Rose};
 ghost use Rattle.fm_top.specs.Ending.{MissesOnly, shown};
+ghost use Rattle.fm_top.specs.Keeps.{Nothing};
 ghost use Rattle.fm_top.specs.Outcome.{sum_of_file};
+ghost use Rattle.fm_top.specs.Reading.{ReadsSome};
 ghost use Rattle.fm_top.specs.Run.{HasOutcome};
 ghost use Rattle.fm_top.specs.Words.{Sum, HasValue};
 ghost use Rattle.fm_top.specs.declared.status.Status.TheVariants.{Missing};
@@ -26,9 +28,14 @@ pub fn sum_ending<R: Wait, F: Files>(
 ) -> Result<Ending, Stop>
     requires { HasValue sum.now.size sum.now.at sum.now.kind }
     ensures outcome { IfOk result (λ ending.
-        HasOutcome (Sum sum.now.size sum.now.at sum.now.kind sum.now.file.now) (F.holds files.old) (shown ending)) }
+        HasOutcome (Sum sum.now.size sum.now.at sum.now.kind sum.now.file.now) (F.holds files.old) Nothing (shown ending)) }
     ensures missing { IfOk result (MissesOnly (F.misses files.old) (F.misses files.new)) }
     ensures failed { IsErrOf result Stop.Failed → Rose (F.faults files.old) (F.faults files.new) }
+    ensures reads { ReadsSome (F.reads files.old) (F.reads files.new) sum.now.file.now RECORD_FILE_LIMIT }
+    ensures quiet { result ≢ Err Stop.Failed → F.faults files.new ≡ F.faults files.old }
+    ensures held { F.holds files.new ≡ F.holds files.old }
+    ensures faults_stay { F.faults files.old ≤ F.faults files.new }
+    ensures misses_stay { F.misses files.old ≤ F.misses files.new }
 {
     match load(rt, alloc, files, sum.file) {
         Ok(mut loaded) => Ok(loaded_ending(alloc, &mut loaded, sum)?),

@@ -1,6 +1,8 @@
-ghost use Rattle.std.specs.Prelude.{◌≡◌, ◌≤◌, ◌<◌, ◌^◌, length, IfOk, IsErrOf};
+ghost use Rattle.std.specs.Prelude.{◌≡◌, ◌≤◌, ◌<◌, ◌^◌, length, IfOk, IsErrOf, ◌≢◌, Err, ◌+◌};
 ghost use Rattle.fm_io.specs.Count.{Rose};
 ghost use Rattle.fm_io.specs.Files.{IsAbsent};
+ghost use Rattle.fm_io.specs.Reads.{Ended, ReadsFile};
+ghost use Rattle.fm_top.specs.Reading.{GoesBy, ReadsSome, ReadsUpTo, piece_limit};
 ghost use Rattle.fm_top.specs.Whole.{IsWhole, IsOver, TakesBytes};
 
 use crate::buffers::zero_bytes;
@@ -30,6 +32,13 @@ pub fn read_whole<F: Files>(
     ensures absent { IsErrOf result LoadFault.Missing → IsAbsent (F.holds files.old) name.now }
     ensures missing { IsErrOf result LoadFault.Missing → Rose (F.misses files.old) (F.misses files.new) }
     ensures failed { IsErrOf result LoadFault.Failed → Rose (F.faults files.old) (F.faults files.new) }
+
+    // It reads on where the bytes of its last read end, in pieces, and up to the first byte past the limit at most.
+    ensures reads { ReadsSome (F.reads files.old) (F.reads files.new) name.now limit }
+    ensures reads_whole { ReadsUpTo (F.reads files.old) (F.reads files.new) name.now limit
+        (λ next. IfOk result (λ _. next ≡ Ended)) }
+    ensures quiet { result ≢ Err LoadFault.Failed → F.faults files.new ≡ F.faults files.old }
+    ensures found { result ≢ Err LoadFault.Missing → F.misses files.new ≡ F.misses files.old }
     ensures held { F.holds files.new ≡ F.holds files.old }
     ensures faults_stay { F.faults files.old ≤ F.faults files.new }
     ensures misses_stay { F.misses files.old ≤ F.misses files.new }
@@ -64,6 +73,10 @@ fn read_more<F: Files>(
     ensures absent { IsErrOf result LoadFault.Missing → IsAbsent (F.holds files.old) name.now }
     ensures missing { IsErrOf result LoadFault.Missing → Rose (F.misses files.old) (F.misses files.new) }
     ensures failed { IsErrOf result LoadFault.Failed → Rose (F.faults files.old) (F.faults files.new) }
+    ensures reads { ReadsFile (F.reads files.old) (F.reads files.new) name.now piece_limit (limit + 1) (length bytes.old.items)
+        (λ next. IfOk result (λ ended. GoesBy ended (length bytes.new.items) next)) }
+    ensures quiet { result ≢ Err LoadFault.Failed → F.faults files.new ≡ F.faults files.old }
+    ensures found { result ≢ Err LoadFault.Missing → F.misses files.new ≡ F.misses files.old }
     ensures held { F.holds files.new ≡ F.holds files.old }
     ensures faults_stay { F.faults files.old ≤ F.faults files.new }
     ensures misses_stay { F.misses files.old ≤ F.misses files.new }

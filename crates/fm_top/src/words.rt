@@ -1,6 +1,6 @@
 ghost use Rattle.std.specs.Prelude.{◌≡◌, ◌↔◌, IfOk, IfSome, IfNone, IsTrue, List, ℕ};
 ghost use Rattle.fm_lanes.specs.declared.value_kind.ValueKind.{ValueKind};
-ghost use Rattle.fm_path.specs.Listing.{kind_text};
+ghost use Rattle.fm_lanes.specs.Named.{kind_text};
 ghost use Rattle.fm_top.specs.Asked.{request_of};
 ghost use Rattle.fm_options.specs.Options.{texts};
 ghost use Rattle.fm_top.specs.Words.{Asks, AreFaulty, HasValue, IsLayout, IsSum, five, two};
@@ -106,7 +106,7 @@ fn sum_command<'a>(
     let (Some(size), Some(at)) = (number_of_word(size), number_of_word(at)) else {
         return None;
     };
-    let Some(kind) = kind_of_word(kind) else {
+    let Some(kind) = ValueKind::named(kind) else {
         return None;
     };
     if has_value(size, at, kind) {
@@ -132,20 +132,4 @@ fn has_value(size: u64, at: u64, kind: ValueKind) -> bool
         && at % width == 0
         && at <= size
         && width <= size - at
-}
-
-/// The kind of value that a word names.
-fn kind_of_word(word: &str) -> Option<ValueKind>
-    ensures found { IfSome result (λ kind. word.now ≡ kind_text kind) }
-    ensures none { IfNone result ((kind : ValueKind) → word.now ≡ kind_text kind → ⊥) }
-{
-    match word {
-        "byte" => Some(ValueKind::Byte),
-        "boolean" => Some(ValueKind::Boolean),
-        "char" => Some(ValueKind::Char),
-        "short" => Some(ValueKind::Short),
-        "int" => Some(ValueKind::Int),
-        "long" => Some(ValueKind::Long),
-        _ => None,
-    }
 }

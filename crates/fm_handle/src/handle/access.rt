@@ -1,19 +1,10 @@
-ghost use Rattle.std.specs.Prelude.{◌≡◌, length, true, None, IfErr, IfOk, OnOk, OnErr};
-ghost use Rattle.fm_base.specs.Outcomes.{Lasts};
-ghost use Rattle.fm_base.specs.View.{Did};
-ghost use Rattle.fm_lanes.specs.Value.{kind_of};
-ghost use Rattle.fm_segment.specs.Access.{IsKnown};
-ghost use Rattle.fm_segment.specs.Alone.{StaysOutOf};
-ghost use Rattle.fm_handle.specs.Access.{DoesGet, DoesSet};
-ghost use Rattle.fm_handle.specs.Alone.{FindsValue, PutsValue};
-ghost use Rattle.fm_handle.specs.Causes.{GetCause, SetCause};
-ghost use Rattle.fm_handle.specs.Place.{place_of, value_place, writable_place_of};
+ghost use Rattle.fm_handle.specs.Learnt.{CanCall, CanPut, AfterGet, AfterSet};
 
 use super::VarHandle;
-use crate::visits::read_value;
+use fm_access::{get_value, put_value};
 use fm_base::{Memory, Refusal};
 use fm_lanes::Value;
-use fm_segment::{Segment, put_value};
+use fm_segment::Segment;
 use std::sync::Wait;
 
 impl VarHandle {
@@ -28,27 +19,12 @@ impl VarHandle {
         base: u64,
         indices: &[u64],
     ) -> Result<Value, Refusal>
-        requires known { IsKnown (M.view m.old) s.now }
-        requires outside { (M.view m.old).inside ≡ None }
-        requires indices { length indices.now ≡ length self.now.dims }
-        ensures did { Did (M.view m.old) (M.view m.new)
-            (DoesGet (M.view m.old).caller self.now s.now
-            (place_of base indices.now self.now s.now) result) }
-        ensures refused { IfErr result
-            (GetCause base indices.now self.now s.now (M.view m.old).caller) }
-        ensures alone { (M.view m.old).alone ≡ true → IfOk result
-            (FindsValue (M.view m.old) (M.view m.new) self.now.value s.now.arena
-            (value_place base indices.now self.now s.now)) }
-        ensures shut { (M.view m.old).alone ≡ true → OnErr result
-            (StaysOutOf (M.view m.old) (M.view m.new) s.now.arena
-            (place_of base indices.now self.now s.now)) }
-        ensures outside { (M.view m.new).inside ≡ None }
-        ensures lasts { Lasts (M.view m.old) (M.view m.new) }
-        ensures known { IsKnown (M.view m.new) s.now }
+        requires { CanCall (M.view m.old) self.now s.now indices.now }
+        ensures { AfterGet (M.view m.old) (M.view m.new) self.now s.now base indices.now result }
     {
         let place = self.place_of(s, base, indices)?;
         let value = self.resolved.value();
-        read_value(m, s.arena(), place, value.kind, value.order)
+        get_value(m, s.arena(), place, value.kind, value.order)
     }
 
     /// Puts `v` as the value at these indices of the layout at the base (`VarHandle.set`). Other bytes stay.
@@ -65,24 +41,8 @@ impl VarHandle {
         indices: &[u64],
         v: Value,
     ) -> Result<(), Refusal>
-        requires known { IsKnown (M.view m.old) s.now }
-        requires outside { (M.view m.old).inside ≡ None }
-        requires indices { length indices.now ≡ length self.now.dims }
-        requires value { kind_of v ≡ self.now.value.kind }
-        ensures did { Did (M.view m.old) (M.view m.new)
-            (DoesSet (M.view m.old).caller self.now s.now
-            (writable_place_of base indices.now self.now s.now) v result) }
-        ensures refused { IfErr result
-            (SetCause base indices.now self.now s.now (M.view m.old).caller) }
-        ensures alone { (M.view m.old).alone ≡ true → OnOk result
-            (PutsValue (M.view m.old) (M.view m.new) self.now.value s.now.arena
-            (value_place base indices.now self.now s.now) v) }
-        ensures shut { (M.view m.old).alone ≡ true → OnErr result
-            (StaysOutOf (M.view m.old) (M.view m.new) s.now.arena
-            (writable_place_of base indices.now self.now s.now)) }
-        ensures outside { (M.view m.new).inside ≡ None }
-        ensures lasts { Lasts (M.view m.old) (M.view m.new) }
-        ensures known { IsKnown (M.view m.new) s.now }
+        requires { CanPut (M.view m.old) self.now s.now indices.now v }
+        ensures { AfterSet (M.view m.old) (M.view m.new) self.now s.now base indices.now v result }
     {
         let place = self.writable_place_of(s, base, indices)?;
         put_value(rt, m, s.arena(), place, self.resolved.value().order, v)

@@ -1,13 +1,4 @@
-ghost use Rattle.std.specs.Prelude.{◌≡◌, length, true, None, IfErr, IfOk, OnOk, OnErr};
-ghost use Rattle.fm_base.specs.Outcomes.{Lasts};
-ghost use Rattle.fm_base.specs.View.{Did};
-ghost use Rattle.fm_lanes.specs.declared.value.Value.TheVariants.{Long};
-ghost use Rattle.fm_segment.specs.Access.{IsKnown};
-ghost use Rattle.fm_segment.specs.Alone.{StaysOutOf};
-ghost use Rattle.fm_handle.specs.Access.{DoesSetLong, DoesExchangeLong, DoesAddLong};
-ghost use Rattle.fm_handle.specs.Alone.{AddsValue, ExchangesValue, PutsValue};
-ghost use Rattle.fm_handle.specs.Causes.{UpdateCause};
-ghost use Rattle.fm_handle.specs.Place.{fills_word, is_word, update_place_of, value_place};
+ghost use Rattle.fm_handle.specs.Learnt.{CanCall, AfterSetLong, AfterExchangeLong, AfterAddLong};
 
 use super::VarHandle;
 use crate::visits::{add_at, store_at, swap_at};
@@ -29,23 +20,8 @@ impl VarHandle {
         indices: &[u64],
         v: i64,
     ) -> Result<(), Refusal>
-        requires known { IsKnown (M.view m.old) s.now }
-        requires outside { (M.view m.old).inside ≡ None }
-        requires indices { length indices.now ≡ length self.now.dims }
-        ensures did { Did (M.view m.old) (M.view m.new)
-            (DoesSetLong (M.view m.old).caller self.now s.now
-            (update_place_of fills_word base indices.now self.now s.now) v result) }
-        ensures refused { IfErr result
-            (UpdateCause fills_word base indices.now self.now s.now (M.view m.old).caller) }
-        ensures alone { (M.view m.old).alone ≡ true → OnOk result
-            (PutsValue (M.view m.old) (M.view m.new) self.now.value s.now.arena
-            (value_place base indices.now self.now s.now) (Long v)) }
-        ensures shut { (M.view m.old).alone ≡ true → OnErr result
-            (StaysOutOf (M.view m.old) (M.view m.new) s.now.arena
-            (update_place_of fills_word base indices.now self.now s.now)) }
-        ensures outside { (M.view m.new).inside ≡ None }
-        ensures lasts { Lasts (M.view m.old) (M.view m.new) }
-        ensures known { IsKnown (M.view m.new) s.now }
+        requires { CanCall (M.view m.old) self.now s.now indices.now }
+        ensures { AfterSetLong (M.view m.old) (M.view m.new) self.now s.now base indices.now v result }
     {
         let place = self.update_place_of(self.fills_word(), s, base, indices)?;
         store_at(m, s.arena(), place, word_of(self.resolved.value().order, v))
@@ -64,23 +40,8 @@ impl VarHandle {
         expected: i64,
         v: i64,
     ) -> Result<i64, Refusal>
-        requires known { IsKnown (M.view m.old) s.now }
-        requires outside { (M.view m.old).inside ≡ None }
-        requires indices { length indices.now ≡ length self.now.dims }
-        ensures did { Did (M.view m.old) (M.view m.new)
-            (DoesExchangeLong (M.view m.old).caller self.now s.now
-            (update_place_of fills_word base indices.now self.now s.now) expected v result) }
-        ensures refused { IfErr result
-            (UpdateCause fills_word base indices.now self.now s.now (M.view m.old).caller) }
-        ensures alone { (M.view m.old).alone ≡ true → IfOk result (λ found.
-            ExchangesValue (M.view m.old) (M.view m.new) self.now.value s.now.arena
-            (value_place base indices.now self.now s.now) (Long expected) (Long v) (Long found)) }
-        ensures shut { (M.view m.old).alone ≡ true → OnErr result
-            (StaysOutOf (M.view m.old) (M.view m.new) s.now.arena
-            (update_place_of fills_word base indices.now self.now s.now)) }
-        ensures outside { (M.view m.new).inside ≡ None }
-        ensures lasts { Lasts (M.view m.old) (M.view m.new) }
-        ensures known { IsKnown (M.view m.new) s.now }
+        requires { CanCall (M.view m.old) self.now s.now indices.now }
+        ensures { AfterExchangeLong (M.view m.old) (M.view m.new) self.now s.now base indices.now expected v result }
     {
         let place = self.update_place_of(self.fills_word(), s, base, indices)?;
         let order = self.resolved.value().order;
@@ -107,23 +68,8 @@ impl VarHandle {
         indices: &[u64],
         delta: i64,
     ) -> Result<i64, Refusal>
-        requires known { IsKnown (M.view m.old) s.now }
-        requires outside { (M.view m.old).inside ≡ None }
-        requires indices { length indices.now ≡ length self.now.dims }
-        ensures did { Did (M.view m.old) (M.view m.new)
-            (DoesAddLong (M.view m.old).caller self.now s.now
-            (update_place_of is_word base indices.now self.now s.now) delta result) }
-        ensures refused { IfErr result
-            (UpdateCause is_word base indices.now self.now s.now (M.view m.old).caller) }
-        ensures alone { (M.view m.old).alone ≡ true → IfOk result (λ found.
-            AddsValue (M.view m.old) (M.view m.new) self.now.value s.now.arena
-            (value_place base indices.now self.now s.now) (Long delta) (Long found)) }
-        ensures shut { (M.view m.old).alone ≡ true → OnErr result
-            (StaysOutOf (M.view m.old) (M.view m.new) s.now.arena
-            (update_place_of is_word base indices.now self.now s.now)) }
-        ensures outside { (M.view m.new).inside ≡ None }
-        ensures lasts { Lasts (M.view m.old) (M.view m.new) }
-        ensures known { IsKnown (M.view m.new) s.now }
+        requires { CanCall (M.view m.old) self.now s.now indices.now }
+        ensures { AfterAddLong (M.view m.old) (M.view m.new) self.now s.now base indices.now delta result }
     {
         let place = self.update_place_of(self.is_word(), s, base, indices)?;
         let found = add_at(m, s.arena(), place, word_of(Order::Little, delta))?;

@@ -1,14 +1,10 @@
-ghost use Rattle.std.specs.Prelude.{◌≡◌, ◌*◌, true, None, IfErr, IfOk, OnOk, OnErr};
-ghost use Rattle.fm_base.specs.Outcomes.{Lasts};
-ghost use Rattle.fm_base.specs.View.{Did};
-ghost use Rattle.fm_lanes.specs.Value.{kind_of};
+ghost use Rattle.std.specs.Prelude.{◌≡◌};
 ghost use Rattle.fm_layout.specs.Parts.{IsValue, form_of};
-ghost use Rattle.fm_layout.specs.Size.{size_of};
-ghost use Rattle.fm_segment.specs.Alone.{FindsValue, PutsValue, StaysOutOf};
-ghost use Rattle.fm_segment.specs.Access.{GetCause, SetCause, IndexCause, DoesGetAt, DoesSetAt, HasKind, IsKnown, offset_of_index, place_at_index, place_of, writable_place_at_index, writable_place_of};
+ghost use Rattle.fm_segment.specs.Access.{offset_of_index, place_of, writable_place_of};
+ghost use Rattle.fm_segment.specs.Learnt.{CanGet, CanSet, AfterGet, AfterSet, AfterGetIndex, AfterSetIndex};
 
 use super::Segment;
-use super::value::{get_value, put_value};
+use fm_access::{get_value, put_value};
 use fm_base::{Memory, Refusal};
 use fm_lanes::{Order, Value, ValueKind};
 use fm_layout::{Form, Layout};
@@ -19,22 +15,10 @@ impl Segment {
     ///
     /// Refused, in this order: `Bounds`, `Misaligned`, `WrongThread`, `Closed`. A refused read changes nothing.
     /// A value that crosses a word is read piece by piece, each in a visit of its own; others may write between.
+    #[inline(always)]
     pub fn get<M: Memory>(&self, m: &mut M, layout: &Layout, offset: u64) -> Result<Value, Refusal>
-        requires known { IsKnown (M.view m.old) self.now }
-        requires outside { (M.view m.old).inside ≡ None }
-        requires value { IsValue layout.now }
-        ensures did { Did (M.view m.old) (M.view m.new)
-            (DoesGetAt (M.view m.old).caller self.now.arena layout.now
-            (place_of offset layout.now self.now) result) }
-        ensures refused { IfErr result (GetCause offset layout.now self.now (M.view m.old).caller) }
-        ensures alone { (M.view m.old).alone ≡ true → IfOk result
-            (FindsValue (M.view m.old) (M.view m.new) self.now layout.now offset) }
-        ensures shut { (M.view m.old).alone ≡ true → OnErr result
-            (StaysOutOf (M.view m.old) (M.view m.new) self.now.arena
-            (place_of offset layout.now self.now)) }
-        ensures outside { (M.view m.new).inside ≡ None }
-        ensures lasts { Lasts (M.view m.old) (M.view m.new) }
-        ensures known { IsKnown (M.view m.new) self.now }
+        requires { CanGet (M.view m.old) self.now layout.now }
+        ensures { AfterGet (M.view m.old) (M.view m.new) self.now layout.now offset result }
     {
         let place = self.place_of(layout, offset)?;
         let (kind, order) = coding_of(layout);
@@ -54,21 +38,8 @@ impl Segment {
         offset: u64,
         v: Value,
     ) -> Result<(), Refusal>
-        requires known { IsKnown (M.view m.old) self.now }
-        requires outside { (M.view m.old).inside ≡ None }
-        requires value { HasKind layout.now (kind_of v) }
-        ensures did { Did (M.view m.old) (M.view m.new)
-            (DoesSetAt (M.view m.old).caller self.now.arena layout.now
-            (writable_place_of offset layout.now self.now) v result) }
-        ensures refused { IfErr result (SetCause offset layout.now self.now (M.view m.old).caller) }
-        ensures alone { (M.view m.old).alone ≡ true → OnOk result
-            (PutsValue (M.view m.old) (M.view m.new) self.now layout.now offset v) }
-        ensures shut { (M.view m.old).alone ≡ true → OnErr result
-            (StaysOutOf (M.view m.old) (M.view m.new) self.now.arena
-            (writable_place_of offset layout.now self.now)) }
-        ensures outside { (M.view m.new).inside ≡ None }
-        ensures lasts { Lasts (M.view m.old) (M.view m.new) }
-        ensures known { IsKnown (M.view m.new) self.now }
+        requires { CanSet (M.view m.old) self.now layout.now v }
+        ensures { AfterSet (M.view m.old) (M.view m.new) self.now layout.now offset v result }
     {
         let place = self.writable_place_of(layout, offset)?;
         let (_, order) = coding_of(layout);
@@ -85,23 +56,8 @@ impl Segment {
         layout: &Layout,
         index: u64,
     ) -> Result<Value, Refusal>
-        requires known { IsKnown (M.view m.old) self.now }
-        requires outside { (M.view m.old).inside ≡ None }
-        requires value { IsValue layout.now }
-        ensures did { Did (M.view m.old) (M.view m.new)
-            (DoesGetAt (M.view m.old).caller self.now.arena layout.now
-            (place_at_index index layout.now self.now) result) }
-        ensures refused { IfErr result (IndexCause layout.now
-            (GetCause (index * size_of layout.now) layout.now self.now (M.view m.old).caller)) }
-        ensures alone { (M.view m.old).alone ≡ true → IfOk result
-            (FindsValue (M.view m.old) (M.view m.new) self.now layout.now
-            (index * size_of layout.now)) }
-        ensures shut { (M.view m.old).alone ≡ true → OnErr result
-            (StaysOutOf (M.view m.old) (M.view m.new) self.now.arena
-            (place_at_index index layout.now self.now)) }
-        ensures outside { (M.view m.new).inside ≡ None }
-        ensures lasts { Lasts (M.view m.old) (M.view m.new) }
-        ensures known { IsKnown (M.view m.new) self.now }
+        requires { CanGet (M.view m.old) self.now layout.now }
+        ensures { AfterGetIndex (M.view m.old) (M.view m.new) self.now layout.now index result }
     {
         let offset = self.offset_of_index(layout, index)?;
         self.get(m, layout, offset)
@@ -120,23 +76,8 @@ impl Segment {
         index: u64,
         v: Value,
     ) -> Result<(), Refusal>
-        requires known { IsKnown (M.view m.old) self.now }
-        requires outside { (M.view m.old).inside ≡ None }
-        requires value { HasKind layout.now (kind_of v) }
-        ensures did { Did (M.view m.old) (M.view m.new)
-            (DoesSetAt (M.view m.old).caller self.now.arena layout.now
-            (writable_place_at_index index layout.now self.now) v result) }
-        ensures refused { IfErr result (IndexCause layout.now
-            (SetCause (index * size_of layout.now) layout.now self.now (M.view m.old).caller)) }
-        ensures alone { (M.view m.old).alone ≡ true → OnOk result
-            (PutsValue (M.view m.old) (M.view m.new) self.now layout.now
-            (index * size_of layout.now) v) }
-        ensures shut { (M.view m.old).alone ≡ true → OnErr result
-            (StaysOutOf (M.view m.old) (M.view m.new) self.now.arena
-            (writable_place_at_index index layout.now self.now)) }
-        ensures outside { (M.view m.new).inside ≡ None }
-        ensures lasts { Lasts (M.view m.old) (M.view m.new) }
-        ensures known { IsKnown (M.view m.new) self.now }
+        requires { CanSet (M.view m.old) self.now layout.now v }
+        ensures { AfterSetIndex (M.view m.old) (M.view m.new) self.now layout.now index v result }
     {
         let offset = self.offset_of_index(layout, index)?;
         self.set(rt, m, layout, offset, v)
@@ -156,6 +97,7 @@ impl Segment {
     }
 
     /// The place in the arena of a layout at an offset. Refused, in this order: `Bounds`, `Misaligned`.
+    #[inline(always)]
     fn place_of(&self, layout: &Layout, offset: u64) -> Result<u64, Refusal>
         ensures { result ≡ place_of offset layout.now self.now }
     {
@@ -178,6 +120,7 @@ impl Segment {
 }
 
 /// What a value layout's bytes mean.
+#[inline(always)]
 fn coding_of(layout: &Layout) -> (ValueKind, Order)
     requires { IsValue layout.now }
     ensures { form_of layout.now ≡ Form.Value result.0 result.1 }

@@ -1,10 +1,6 @@
-ghost use Rattle.std.specs.Prelude.{◌≡◌, true, None, IfErr, OnOk, OnErr};
-ghost use Rattle.fm_base.specs.Outcomes.{Lasts};
-ghost use Rattle.fm_base.specs.View.{Did};
-ghost use Rattle.fm_copies.specs.Alone.{StaysOutOf};
-ghost use Rattle.fm_segment.specs.Access.{IsKnown};
-ghost use Rattle.fm_segment.specs.Alone.{CopiesBytes, StaysOutAfter};
-ghost use Rattle.fm_segment.specs.Copies.{CopyCause, DoesCopySegment, checked_copy};
+ghost use Rattle.std.specs.Prelude.{◌≡◌};
+ghost use Rattle.fm_segment.specs.Copies.{checked_copy};
+ghost use Rattle.fm_segment.specs.Learnt.{CanUseBoth, AfterCopy};
 
 use super::Segment;
 use fm_base::{Memory, Refusal};
@@ -21,22 +17,8 @@ impl Segment {
         m: &mut M,
         src: &Segment,
     ) -> Result<(), Refusal>
-        requires source_known { IsKnown (M.view m.old) src.now }
-        requires target_known { IsKnown (M.view m.old) self.now }
-        requires outside { (M.view m.old).inside ≡ None }
-        ensures did { Did (M.view m.old) (M.view m.new)
-            (DoesCopySegment src.now 0 self.now 0 src.now.size (M.view m.old).caller result) }
-        ensures refused { IfErr result
-            (CopyCause src.now 0 self.now 0 src.now.size (M.view m.old).caller) }
-        ensures alone { (M.view m.old).alone ≡ true → OnOk result
-            (CopiesBytes (M.view m.old) (M.view m.new) src.now 0 self.now 0 src.now.size) }
-        ensures shut { (M.view m.old).alone ≡ true → OnErr result
-            (StaysOutAfter (M.view m.old) (M.view m.new) (checked_copy src.now 0 self.now 0 src.now.size)
-            (StaysOutOf (M.view m.old) (M.view m.new) src.now.arena self.now.arena)) }
-        ensures outside { (M.view m.new).inside ≡ None }
-        ensures lasts { Lasts (M.view m.old) (M.view m.new) }
-        ensures source_known { IsKnown (M.view m.new) src.now }
-        ensures target_known { IsKnown (M.view m.new) self.now }
+        requires { CanUseBoth (M.view m.old) src.now self.now }
+        ensures { AfterCopy (M.view m.old) (M.view m.new) src.now 0 self.now 0 src.now.size result }
     {
         Segment::copy(rt, m, src, 0, self, 0, src.size())
     }
@@ -57,22 +39,8 @@ impl Segment {
         dst_at: u64,
         n: u64,
     ) -> Result<(), Refusal>
-        requires source_known { IsKnown (M.view m.old) src.now }
-        requires target_known { IsKnown (M.view m.old) dst.now }
-        requires outside { (M.view m.old).inside ≡ None }
-        ensures did { Did (M.view m.old) (M.view m.new)
-            (DoesCopySegment src.now src_at dst.now dst_at n (M.view m.old).caller result) }
-        ensures refused { IfErr result
-            (CopyCause src.now src_at dst.now dst_at n (M.view m.old).caller) }
-        ensures alone { (M.view m.old).alone ≡ true → OnOk result
-            (CopiesBytes (M.view m.old) (M.view m.new) src.now src_at dst.now dst_at n) }
-        ensures shut { (M.view m.old).alone ≡ true → OnErr result
-            (StaysOutAfter (M.view m.old) (M.view m.new) (checked_copy src.now src_at dst.now dst_at n)
-            (StaysOutOf (M.view m.old) (M.view m.new) src.now.arena dst.now.arena)) }
-        ensures outside { (M.view m.new).inside ≡ None }
-        ensures lasts { Lasts (M.view m.old) (M.view m.new) }
-        ensures source_known { IsKnown (M.view m.new) src.now }
-        ensures target_known { IsKnown (M.view m.new) dst.now }
+        requires { CanUseBoth (M.view m.old) src.now dst.now }
+        ensures { AfterCopy (M.view m.old) (M.view m.new) src.now src_at dst.now dst_at n result }
     {
         check_copy(src, src_at, dst, dst_at, n)?;
         let from = src.part(src_at, n);

@@ -1,11 +1,7 @@
-ghost use Rattle.std.specs.Prelude.{◌≡◌, ◌^◌, ◌<◌, ◌≤◌, true, None, IfErr, IfOk, OnErr};
+ghost use Rattle.std.specs.Prelude.{◌≡◌, ◌^◌, ◌<◌, ◌≤◌};
 ghost use Rattle.std.specs.Option.{ForSome};
-ghost use Rattle.fm_base.specs.Outcomes.{Lasts};
-ghost use Rattle.fm_base.specs.View.{Did};
-ghost use Rattle.fm_copies.specs.Alone.{StaysOutOf};
-ghost use Rattle.fm_segment.specs.Access.{IsKnown};
-ghost use Rattle.fm_segment.specs.Alone.{FindsMismatch};
-ghost use Rattle.fm_segment.specs.Comparisons.{DoesMismatch, MismatchCause, mismatch_of};
+ghost use Rattle.fm_segment.specs.Comparisons.{mismatch_of};
+ghost use Rattle.fm_segment.specs.Learnt.{CanUseBoth, AfterMismatch};
 
 use super::Segment;
 use fm_base::{Memory, Refusal};
@@ -19,20 +15,8 @@ impl Segment {
     /// 0 bytes, neither, and no arena is entered. Pieces are read one by one, the lowest first and each in visits of
     /// its own, its own before those of `other`, and none after the first that differs.
     pub fn mismatch<M: Memory>(&self, m: &mut M, other: &Segment) -> Result<i64, Refusal>
-        requires known { IsKnown (M.view m.old) self.now }
-        requires other_known { IsKnown (M.view m.old) other.now }
-        requires outside { (M.view m.old).inside ≡ None }
-        ensures did { Did (M.view m.old) (M.view m.new)
-            (DoesMismatch (M.view m.old).caller self.now other.now result) }
-        ensures refused { IfErr result (MismatchCause self.now other.now (M.view m.old).caller) }
-        ensures alone { (M.view m.old).alone ≡ true → IfOk result
-            (FindsMismatch (M.view m.old) (M.view m.new) self.now other.now) }
-        ensures shut { (M.view m.old).alone ≡ true → OnErr result
-            (StaysOutOf (M.view m.old) (M.view m.new) self.now.arena other.now.arena) }
-        ensures outside { (M.view m.new).inside ≡ None }
-        ensures lasts { Lasts (M.view m.old) (M.view m.new) }
-        ensures known { IsKnown (M.view m.new) self.now }
-        ensures other_known { IsKnown (M.view m.new) other.now }
+        requires { CanUseBoth (M.view m.old) self.now other.now }
+        ensures { AfterMismatch (M.view m.old) (M.view m.new) self.now other.now result }
     {
         let n = self.size().min(other.size());
         let found = mismatch_range(

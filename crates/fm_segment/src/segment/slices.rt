@@ -6,6 +6,7 @@ use fm_base::Refusal;
 
 impl Segment {
     /// So many bytes from an offset on (`asSlice`). Refused: `Bounds` where they pass the end.
+    #[inline(always)]
     pub fn as_slice(&self, offset: u64, size: u64) -> Result<Segment, Refusal>
         ensures { result ≡ slice_of offset size self.now }
     {
@@ -43,6 +44,7 @@ impl Segment {
     }
 
     /// Whether it has so many bytes from an offset on.
+    #[inline(always)]
     pub(super) fn has(&self, offset: u64, size: u64) -> bool
         ensures { IsTrue result ↔ (offset + size ≤ self.now.size) }
     {

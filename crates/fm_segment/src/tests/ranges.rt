@@ -42,6 +42,23 @@ fn segments_are_filled_copied_and_compared(rt: HostRuntime) {
 }
 
 #[test]
+fn bytes_are_put_among_others(rt: HostRuntime) {
+    let mut m = Mono::make(rt.alloc(), 64);
+    let (s, _) = two_of_eight(&rt, &mut m);
+    assert_eq!(rt; s.fill(&rt, &mut m, 1), Ok(()));
+    assert_eq!(rt; s.put_bytes(&rt, &mut m, 3, &[2, 3, 4]), Ok(()));
+    let long = Layout::value(ValueKind::Long);
+    assert_eq!(rt;
+        s.get(&mut m, &long, 0),
+        Ok(Value::Long(0x0101_0403_0201_0101))
+    );
+    assert_eq!(rt;
+        s.put_bytes(&rt, &mut m, 6, &[2, 3, 4]),
+        Err(Refusal::Bounds)
+    );
+}
+
+#[test]
 fn a_copy_to_its_own_next_place_reads_before_it_writes(rt: HostRuntime) {
     let mut m = Mono::make(rt.alloc(), 64);
     let (s, _) = two_of_eight(&rt, &mut m);

@@ -310,6 +310,48 @@ fn a_read_of_either_file_that_fails_prints_nothing(rt: HostRuntime) -> Result<()
 }
 
 #[test]
+fn nothing_is_read_past_what_is_needed(rt: HostRuntime) -> Result<(), Fail> {
+    // Each file that is there takes one read for its bytes and one for its end.
+    for (layout, query, file, reads, status, text) in [
+        ("nolayout", "count", "R1", 1, 2, "missing nolayout\n"),
+        ("Broken", "count", "R1", 2, 4, "layout refused 40\n"),
+        ("Void", "count", "R1", 2, 4, "layout refused 25\n"),
+        ("L1", "count,", "R1", 2, 5, "query refused 50 6\n"),
+        ("L1", "count", "nofile", 3, 2, "missing nofile\n"),
+        ("L1", "count", "Ragged", 4, 6, "ragged 1\n"),
+        ("L1", "count", "R1", 4, 0, "count 2\n"),
+    ] {
+        // The last read that is needed fails, or else each one past it.
+        for (failing, status, text) in [(&[reads - 1], 3, ""), (&[reads], status, text)] {
+            let mut files = files(rt.alloc(), failing, usize::MAX)?;
+            let mut out = SureSink::new(rt.alloc());
+            let words = ["query", layout, query, file];
+            let code = run_words(&rt, &words, &mut files, &mut out)?;
+            assert_eq!(rt; code, status, "{layout} {query} {file}");
+            assert_eq!(rt; out.written(), text.as_bytes(), "{layout} {query} {file}");
+        }
+    }
+    Ok(())
+}
+
+#[test]
+fn one_run_follows_another(rt: HostRuntime) -> Result<(), Fail> {
+    let mut files = files(rt.alloc(), &[0], usize::MAX)?;
+    let mut out = SureSink::new(rt.alloc());
+    for (words, status) in [
+        (ROW, 3),
+        (ROW, 0),
+        (["query", "L1", "count", "nofile"], 2),
+        (ROW, 0),
+    ] {
+        assert_eq!(rt; run_words(&rt, &words, &mut files, &mut out)?, status);
+    }
+    let text = "min(.price) none\nmissing nofile\nmin(.price) none\n";
+    assert_eq!(rt; out.written(), text.as_bytes());
+    Ok(())
+}
+
+#[test]
 fn a_write_of_an_answer_that_fails_leaves_a_prefix(rt: HostRuntime) -> Result<(), Fail> {
     for (query, status, text) in [(ROW[2], 0, NONE), ("count,", 5, "query refused 50 6\n")] {
         for k in 0..=text.len() {

@@ -1,11 +1,11 @@
 use Rattle.std.proofs.Common.{◌≡◌, ◌+◌, ◌++◌, [], arith, ap, Some, None, Ok}
 use Rattle.std.proofs.lemmas.Result.{err_from_is_err_and}
 use Rattle.fm_base.specs.View.{Did}
-use Rattle.fm_base.proofs.Outcomes.{Makes-lasts, Did-lasts}
+use Rattle.fm_base.proofs.Outcomes.{Makes-lasts}
 use Rattle.fm_copies.specs.Sides.{side}
 use Rattle.fm_copies.specs.Comparisons.{DoesComparePiece}
 use Rattle.fm_copies.proofs.Comparing.{compare_begins, compare_goes_on, compare_differs, compare_stops, compare_done}
-use Rattle.fm_copies.proofs.ComparingAlone.{compare_alone, compare_shut}
+use Rattle.fm_copies.proofs.Learning.{after_compare}
 use Rattle.fm_copies.proofs.mismatch.mismatch_range.Goals as goal
 
 pub loop-left-init : goal.loop-left-init
@@ -36,35 +36,24 @@ compare_piece-requires-clause-second_given g c =
     let k = c.requires.second_given in
     omega arith
 
-pub returns-in_err-at-clause-did : goal.returns-in_err-at-clause-did
-returns-in_err-at-clause-did g c =
+pub returns-in_err-at : goal.returns-in_err-at
+returns-in_err-at g c =
     let v = g.M.Memory.view in
     let i = c.loop-left.invariant in
     let p = err_from_is_err_and c.from_residual.result c.from_residual.ensures.1 in
-    rw (p.1, p.2) (compare_stops (v c.args.m.now) (v c.loop-left.m) (v c.compare_piece.new.m) (side c.args.a c.args.a_at) (side c.args.b c.args.b_at) c.args.n c.loop-left.left c.next_piece-piece.result
-    i.own c.in_err-at.field-0.0 i.going (c.is_wrong_thread.ensures.no c.if-is_wrong_thread.false) c.loop-left-test.true c.next_piece-piece.ensures.value c.in_err-at.ensures.did)
+    after_compare c.requires (rw (p.1, p.2) (compare_stops (v c.args.m.now) (v c.loop-left.m) (v c.compare_piece.new.m) (side c.args.a c.args.a_at) (side c.args.b c.args.b_at) c.args.n c.loop-left.left c.next_piece-piece.result
+    i.own c.in_err-at.field-0.0 i.going (c.is_wrong_thread.ensures.no c.if-is_wrong_thread.false) c.loop-left-test.true c.next_piece-piece.ensures.value c.in_err-at.ensures.did))
 
-pub returns-in_err-at-clause-lasts : goal.returns-in_err-at-clause-lasts
-returns-in_err-at-clause-lasts g c = Did-lasts _ _ _ (returns-in_err-at-clause-did g c)
-
-pub returns-in_err-at-clause-shut : goal.returns-in_err-at-clause-shut
-returns-in_err-at-clause-shut g c = compare_shut _ _ (side c.args.a c.args.a_at) (side c.args.b c.args.b_at) c.args.n _ (returns-in_err-at-clause-did g c)
-
-pub returns-in-Some-clause-did : goal.returns-in-Some-clause-did
-returns-in-Some-clause-did g c =
+pub returns-in-Some : goal.returns-in-Some
+returns-in-Some g c =
     let v = g.M.Memory.view in
     let i = c.loop-left.invariant in
     let d : Did (v c.loop-left.m) (v c.compare_piece.new.m) (DoesComparePiece (v c.loop-left.m).caller (side c.args.a c.args.a_at) (side c.args.b c.args.b_at) c.next_piece-piece.result (Ok (Some c.in-Some.at))) =
     rw c.in-Some.is at c.in_ok-at.ensures.did in
-    compare_differs (v c.args.m.now) (v c.loop-left.m) (v c.compare_piece.new.m) (side c.args.a c.args.a_at) (side c.args.b c.args.b_at) c.args.n c.loop-left.left c.next_piece-piece.result
-    i.own c.in-Some.at (c.next_piece-piece.result.offset + c.from.result) i.going (c.is_wrong_thread.ensures.no c.if-is_wrong_thread.false) c.loop-left-test.true c.next_piece-piece.ensures.value
-    (ap (λ n. c.next_piece-piece.result.offset + n) c.from.ensures) d
-
-pub returns-in-Some-clause-lasts : goal.returns-in-Some-clause-lasts
-returns-in-Some-clause-lasts g c = Did-lasts _ _ _ (returns-in-Some-clause-did g c)
-
-pub returns-in-Some-clause-alone : goal.returns-in-Some-clause-alone
-returns-in-Some-clause-alone g c = compare_alone _ _ (side c.args.a c.args.a_at) (side c.args.b c.args.b_at) c.args.n (Ok (Some (c.next_piece-piece.result.offset + c.from.result))) (returns-in-Some-clause-did g c)
+    after_compare c.requires (compare_differs (v c.args.m.now) (v c.loop-left.m) (v c.compare_piece.new.m) (side c.args.a c.args.a_at) (side c.args.b c.args.b_at) c.args.n c.loop-left.left c.next_piece-piece.result
+    i.own c.in-Some.at (c.next_piece-piece.result.offset + c.from.result) i.going
+    (c.is_wrong_thread.ensures.no c.if-is_wrong_thread.false) c.loop-left-test.true c.next_piece-piece.ensures.value
+    (ap (λ n. c.next_piece-piece.result.offset + n) c.from.ensures) d)
 
 pub loop-left-preserved : goal.loop-left-preserved
 loop-left-preserved g c =
@@ -81,15 +70,9 @@ loop-left-preserved g c =
           i.own i.going c.loop-left-test.true c.next_piece-piece.ensures.value d;
     })
 
-pub returns-clause-did : goal.returns-clause-did
-returns-clause-did g c =
+pub returns : goal.returns
+returns g c =
     let v = g.M.Memory.view in
     let i = c.loop-left.invariant in
-    compare_done (v c.args.m.now) (v c.loop-left.m) (side c.args.a c.args.a_at) (side c.args.b c.args.b_at) c.args.n c.loop-left.left
-    i.own i.going (c.is_wrong_thread.ensures.no c.if-is_wrong_thread.false) (let t = c.loop-left-test.false in omega arith)
-
-pub returns-clause-lasts : goal.returns-clause-lasts
-returns-clause-lasts g c = Makes-lasts _ _ _ c.loop-left.invariant.going.makes
-
-pub returns-clause-alone : goal.returns-clause-alone
-returns-clause-alone g c = compare_alone _ _ (side c.args.a c.args.a_at) (side c.args.b c.args.b_at) c.args.n (Ok None) (returns-clause-did g c)
+    after_compare c.requires (compare_done (v c.args.m.now) (v c.loop-left.m) (side c.args.a c.args.a_at) (side c.args.b c.args.b_at) c.args.n c.loop-left.left
+    i.own i.going (c.is_wrong_thread.ensures.no c.if-is_wrong_thread.false) (let t = c.loop-left-test.false in omega arith))

@@ -7,7 +7,8 @@ use Rattle.fm_handle.proofs.inside.add_inside.Goals as goal
 pub tries-init : goal.tries-init
 tries-init g c =
     let v = g.M.Memory.view in
-    trying_begins (v c.args.m.now) (v c.load-seen.new.self) c.args.arena (c.args.place / 8) (λ now. ⊥) c.load-seen.result c.requires.inside c.load-seen.ensures.inside c.load-seen.ensures.did
+    trying_begins (v c.args.m.now) (v c.load-seen.new.self) c.args.arena (c.args.place / 8)
+    (λ now. ⊥) c.load-seen.result c.requires.inside c.load-seen.ensures.inside c.load-seen.ensures.did
 
 pub swap_if-found-requires : goal.swap_if-found-requires
 swap_if-found-requires g c =
@@ -17,7 +18,8 @@ swap_if-found-requires g c =
 pub tries-preserved : goal.tries-preserved
 tries-preserved g c =
     let v = g.M.Memory.view in
-    trying_goes_on (v c.args.m.now) (v c.tries.m) (v c.swap_if-found.new.self) c.args.arena (c.args.place / 8) (λ now. ⊥) c.tries.seen c.with_value-after.result c.swap_if-found.result
+    trying_goes_on (v c.args.m.now) (v c.tries.m) (v c.swap_if-found.new.self) c.args.arena (c.args.place / 8)
+    (λ now. ⊥) c.tries.seen c.with_value-after.result c.swap_if-found.result
     c.tries.invariant c.swap_if-found.ensures.inside c.if-found-seen.false c.swap_if-found.ensures.did
 
 pub returns-then-found-seen-clause-did : goal.returns-then-found-seen-clause-did
@@ -29,4 +31,5 @@ returns-then-found-seen-clause-did g c =
     let seen = c.tries.seen in
     let hit = trying_hits (v c.args.m.now) (v c.tries.m) (v c.swap_if-found.new.self) c.args.arena (c.args.place / 8) (λ now. ⊥) (with_value o (sum_of now c.args.delta) (c.args.place % 8)) c.tries.seen c.with_value-after.result c.swap_if-found.result
     c.tries.invariant c.if-found-seen.true (c.with_value-after.ensures ∙ ap (λ (x : Value). with_value o x at seen) c.sum_of.ensures) c.swap_if-found.ensures.did in
-    add_hits (v c.args.m.now) (v c.swap_if-found.new.self) c.args.arena c.args.place o c.args.delta now c.tries.seen hit (c.value_in-before.ensures.value ∙ ap (λ k. value_in k o at seen) c.kind.ensures)
+    add_hits (v c.args.m.now) (v c.swap_if-found.new.self) c.args.arena c.args.place o c.args.delta now c.tries.seen hit
+    (c.value_in-before.ensures.value ∙ ap (λ k. value_in k o at seen) c.kind.ensures)

@@ -8,17 +8,20 @@ use Rattle.fm_handle.proofs.inside.exchange_inside.Goals as goal
 pub tries-init : goal.tries-init
 tries-init g c =
     let v = g.M.Memory.view in
-    trying_begins (v c.args.m.now) (v c.load-seen.new.self) c.args.arena (c.args.place / 8) (λ now. value_in (kind_of c.args.v) c.args.order (c.args.place % 8) now ≢ c.args.expected) c.load-seen.result c.requires.inside c.load-seen.ensures.inside c.load-seen.ensures.did
+    trying_begins (v c.args.m.now) (v c.load-seen.new.self) c.args.arena (c.args.place / 8)
+    (λ now. value_in (kind_of c.args.v) c.args.order (c.args.place % 8) now ≢ c.args.expected) c.load-seen.result c.requires.inside c.load-seen.ensures.inside c.load-seen.ensures.did
 
 pub swap_if-found-requires : goal.swap_if-found-requires
 swap_if-found-requires g c =
     let v = g.M.Memory.view in
-    still_reaches (v c.args.m.now) (v c.tries.m) c.args.arena c.args.place (λ now. value_in (kind_of c.args.v) c.args.order (c.args.place % 8) now ≢ c.args.expected) c.tries.seen c.tries.invariant c.requires.given
+    still_reaches (v c.args.m.now) (v c.tries.m) c.args.arena c.args.place
+    (λ now. value_in (kind_of c.args.v) c.args.order (c.args.place % 8) now ≢ c.args.expected) c.tries.seen c.tries.invariant c.requires.given
 
 pub tries-preserved : goal.tries-preserved
 tries-preserved g c =
     let v = g.M.Memory.view in
-    trying_goes_on (v c.args.m.now) (v c.tries.m) (v c.swap_if-found.new.self) c.args.arena (c.args.place / 8) (λ now. value_in (kind_of c.args.v) c.args.order (c.args.place % 8) now ≢ c.args.expected) c.tries.seen c.with_value.result c.swap_if-found.result
+    trying_goes_on (v c.args.m.now) (v c.tries.m) (v c.swap_if-found.new.self) c.args.arena (c.args.place / 8)
+    (λ now. value_in (kind_of c.args.v) c.args.order (c.args.place % 8) now ≢ c.args.expected) c.tries.seen c.with_value.result c.swap_if-found.result
     c.tries.invariant c.swap_if-found.ensures.inside c.if-found-seen.false c.swap_if-found.ensures.did
 
 pub returns-then-not-is_same-clause-did : goal.returns-then-not-is_same-clause-did

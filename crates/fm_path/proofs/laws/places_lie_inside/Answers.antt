@@ -1,6 +1,6 @@
 -- Each place of the list stands at its steps, so it lies inside and aligned.
-use Rattle.fm_places.proofs.Listed.{stands}
-use Rattle.fm_places.proofs.Inside.{inside, place_aligned}
+use Rattle.fm_path_meaning.proofs.Listed.{stands}
+use Rattle.fm_path_meaning.proofs.Inside.{inside, place_aligned}
 use Rattle.fm_path.proofs.laws.places_lie_inside.Goals as goal
 
 pub returns-clause-inside : goal.returns-clause-inside

@@ -1,6 +1,6 @@
 -- Steps that differ first below a struct or sequence lead to ranges one behind the other.
-use Rattle.fm_places.proofs.Listed.{stands}
-use Rattle.fm_places.proofs.Inside.{apart}
+use Rattle.fm_path_meaning.proofs.Listed.{stands}
+use Rattle.fm_path_meaning.proofs.Inside.{apart}
 use Rattle.fm_path.proofs.laws.values_lie_apart.Goals as goal
 
 pub returns : goal.returns

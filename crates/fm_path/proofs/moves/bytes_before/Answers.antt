@@ -1,6 +1,6 @@
 -- Each member before the wanted one adds its size.
 use Rattle.std.proofs.Common.{◌∙◌, sym, arith}
-use Rattle.fm_places.proofs.Members.{offset_more, offset_end, offset_fits, offset_none}
+use Rattle.fm_path_meaning.proofs.Members.{offset_more, offset_end, offset_fits, offset_none}
 use Rattle.fm_path.proofs.moves.bytes_before.Goals as goal
 
 pub loop-i-init : goal.loop-i-init

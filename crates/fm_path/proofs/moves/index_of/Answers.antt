@@ -1,6 +1,6 @@
 -- Members are sought in their order.
 use Rattle.std.proofs.Common.{◌∙◌, sym}
-use Rattle.fm_places.proofs.Members.{seek_start, seek_more, seek_found, seek_past, seek_end}
+use Rattle.fm_path_meaning.proofs.Members.{seek_start, seek_more, seek_found, seek_past, seek_end}
 use Rattle.fm_path.proofs.moves.index_of.Goals as goal
 
 pub loop-i-init : goal.loop-i-init

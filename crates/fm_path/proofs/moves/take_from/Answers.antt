@@ -1,9 +1,9 @@
 -- Where there is a second index, a step stays in the sequence.
 use Rattle.std.proofs.Common.{arith, subst, sym, ap, ◌∙◌, ◌*◌, w64, of_z}
 use Rattle.std.proofs.lemmas.Int.{to_z-of_z}
-use Rattle.fm_places.specs.Steady.{IsShort}
-use Rattle.fm_places.specs.Walk.{bound_of}
-use Rattle.fm_places.proofs.Bounds.{is_short}
+use Rattle.fm_path_meaning.specs.Steady.{IsShort}
+use Rattle.fm_path_meaning.specs.Walk.{bound_of}
+use Rattle.fm_path_meaning.proofs.Bounds.{is_short}
 use Rattle.fm_path.proofs.moves.take_from.Goals as goal
 
 pub stride-stride-requires-clause-fits : goal.stride-stride-requires-clause-fits

@@ -1,7 +1,7 @@
 -- With no step left open the pass comes to one place.
 use Rattle.std.proofs.Common.{arith}
-use Rattle.fm_places.specs.Walk.{move_closed}
-use Rattle.fm_places.proofs.Walking.{on_way_closed, on_way_err, on_way_finds, refused_closed}
+use Rattle.fm_path_meaning.specs.Walk.{move_closed}
+use Rattle.fm_path_meaning.proofs.Walking.{on_way_closed, on_way_err, on_way_finds, refused_closed}
 use Rattle.fm_path.proofs.resolution.byte_offset.Goals as goal
 
 pub returns-in-Err-clause-refused : goal.returns-in-Err-clause-refused

@@ -1,6 +1,6 @@
 use Rattle.std.proofs.Common.{◌≡◌, take}
 use Rattle.std.specs.String.{string_bytes}
-use Rattle.fm_steps.specs.Grammar.{pieces_of}
+use Rattle.fm_path_text.specs.Grammar.{pieces_of}
 use Rattle.fm_query.proofs.printing.path_text.Given as goal
 
 abbrev pub invariant-loop-k : goal.invariant-loop-k

@@ -1,23 +1,47 @@
 -- An item's values are read, or there are none.
-use Rattle.std.proofs.Common.{refl, sym, ap, ◌∙◌, subst}
+use Rattle.std.proofs.Common.{◌≡◌, refl, sym, ap, ◌∙◌, subst, length}
+use Rattle.fm_path.specs.Wide.{wide_dims}
+use Rattle.fm_path.specs.declared.value_spec.ValueSpec.{ValueSpec}
+use Rattle.fm_path_meaning.specs.declared.dim.Dim.{Dim}
+use Rattle.std.proofs.Common.{List, ℕ}
 use Rattle.fm_query.specs.declared.item.Asked.{Asked}
+use Rattle.fm_records.specs.Few.{HasRoom, how_many}
+use Rattle.fm_records.specs.Reads.{IsReadable, ReachesInside, value_places}
 use Rattle.fm_records.specs.Values.{index_lists}
-use Rattle.fm_records.specs.Texts.{IsFoundOf}
-use Rattle.fm_records.proofs.ItemsAdding.{item_counted, item_empty, item_read_by}
+use Rattle.fm_records.proofs.Items.{item_counted, item_empty, item_read}
+use Rattle.fm_records.proofs.Reaching.{wide_inside, wide_many, wide_none, wide_places}
 use Rattle.fm_records.proofs.querying.add_item.Goals as goal
 
-pub returns-then-has_no_values-clause-did : goal.returns-then-has_no_values-clause-did
-returns-then-has_no_values-clause-did g c =
-    item_empty (g.M.Memory.view c.args.m.now) c.args.s.now c.args.place c.in-Of.field-0 c.in-Of.path c.args.asked.now c.args.found.now c.in-Of.is
-    (subst (λ (b : Asked). IsFoundOf b c.args.found.now) c.in-Of.is c.requires.kind)
-    (sym (ap index_lists (c.as_slice-dims.ensures ∙ c.dims.ensures)) ∙ c.if-has_no_values.ensures refl)
+pub returns-in-Count : goal.returns-in-Count
+returns-in-Count g c =
+    item_counted (g.M.Memory.view c.args.m.now) c.args.s.now c.args.place c.args.asked.now c.args.found.now c.add_record.new.self c.in-Count.is c.add_record.ensures
 
-pub returns-in-Count-clause-did : goal.returns-in-Count-clause-did
-returns-in-Count-clause-did g c =
-    item_counted (g.M.Memory.view c.args.m.now) c.args.s.now c.args.place c.args.asked.now c.args.found.now c.add_record.new.self c.in-Count.is c.add_record.ensures.both
+pub returns-then-has_no_values : goal.returns-then-has_no_values
+returns-then-has_no_values g c =
+    let r = c.in-Of.path in
+    let e : c.wide-dims.result.now ≡ wide_dims c.in-Of.path.dims = c.wide-dims.ensures ∙ ap wide_dims c.dims.ensures in
+    item_empty c.args.s.now c.args.place c.args.asked.now c.in-Of.is (g.M.Memory.view c.args.m.now) c.args.found.now c.requires.kind
+    (wide_none c.args.place r.offset r.dims (sym (ap index_lists e) ∙ c.if-has_no_values.ensures refl))
 
-pub returns-else-has_no_values-clause-did : goal.returns-else-has_no_values-clause-did
-returns-else-has_no_values-clause-did g c =
-    let v = g.M.Memory.view in
-    item_read_by (v c.args.m.now) (v c.add_values.new.m) c.args.s.now c.args.place c.offset.result c.as_slice-dims.result.now c.value.result.now c.in-Of.field-0 c.in-Of.path c.args.asked.now
-    c.args.found.now c.add_values.new.found c.add_values.result c.in-Of.is c.requires.kind c.offset.ensures (c.as_slice-dims.ensures ∙ c.dims.ensures) c.value.ensures c.add_values.ensures.did
+pub add_values-requires-clause-inside : goal.add_values-requires-clause-inside
+add_values-requires-clause-inside g c =
+    let r = c.in-Of.path in
+    let s = c.args.s.now in
+    let e : c.wide-dims.result.now ≡ wide_dims c.in-Of.path.dims = c.wide-dims.ensures ∙ ap wide_dims c.dims.ensures in
+    let readable = subst (λ (a : Asked). IsReadable c.args.s.now c.args.place a) c.in-Of.is c.requires.readable in
+    subst (λ (v : ValueSpec). ReachesInside s c.args.place c.offset.result c.wide-dims.result.now v) (sym c.value.ensures)
+    (subst (λ (n : ℕ). ReachesInside s c.args.place n c.wide-dims.result.now r.value) (sym c.offset.ensures)
+    (subst (λ (ds : List Dim). ReachesInside s c.args.place r.offset ds r.value) (sym e) (wide_inside s c.args.place r.offset r.dims r.value readable)))
+
+pub add_values-requires-clause-room : goal.add_values-requires-clause-room
+add_values-requires-clause-room g c =
+    let r = c.in-Of.path in
+    let e : c.wide-dims.result.now ≡ wide_dims c.in-Of.path.dims = c.wide-dims.ensures ∙ ap wide_dims c.dims.ensures in
+    subst (HasRoom c.args.found.now) (ap how_many c.in-Of.is ∙ sym (ap (λ (ds : List Dim). length (index_lists ds)) e ∙ wide_many r.dims)) c.requires.room
+
+pub returns-else-has_no_values : goal.returns-else-has_no_values
+returns-else-has_no_values g c =
+    let r = c.in-Of.path in
+    let e : c.wide-dims.result.now ≡ wide_dims c.in-Of.path.dims = c.wide-dims.ensures ∙ ap wide_dims c.dims.ensures in
+    let places = ap (λ n. value_places c.args.place n c.wide-dims.result.now) c.offset.ensures ∙ ap (value_places c.args.place r.offset) e ∙ wide_places c.args.place r.offset r.dims in
+    item_read c.args.s.now c.args.place c.args.asked.now c.in-Of.is c.args.found.now c.add_values.new.found _ c.value.result.now c.add_values.result c.requires.kind places c.value.ensures c.add_values.ensures

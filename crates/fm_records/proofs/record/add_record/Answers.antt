@@ -1,40 +1,42 @@
 -- A record's conditions are tested, and then its items are read.
-use Rattle.std.proofs.Common.{ℕ, List, sym, subst}
-use Rattle.std.specs.List.{AllByRecursion}
+use Rattle.std.proofs.Common.{List, sym, subst}
+use Rattle.std.specs.List.{AllByRecursion, AllZip}
 use Rattle.fm_query.specs.declared.condition.Condition.{Condition}
 use Rattle.fm_query.specs.declared.item.Item.{Item}
-use Rattle.fm_records.specs.Reads.{IsItemFew, IsItemReadable, IsTestable}
-use Rattle.fm_records.proofs.Plans.{plan_items_few, plan_items_readable, plan_conditions_testable}
-use Rattle.fm_records.proofs.Recording.{open_less, record_chosen, record_passed}
+use Rattle.fm_records.specs.Few.{IsOpen}
+use Rattle.fm_records.specs.Reads.{IsItemReadable, IsTestable}
+use Rattle.fm_records.proofs.Few.{plan_items_open}
+use Rattle.fm_records.proofs.Plans.{plan_items_readable, plan_conditions_testable}
+use Rattle.fm_records.proofs.Recording.{record_chosen, record_passed, record_stopped}
+use Rattle.fm_records.proofs.Visiting.{can_still, first_so_far}
 use Rattle.fm_records.proofs.record.add_record.Goals as goal
 
-pub is_chosen-requires-clause-conditions : goal.is_chosen-requires-clause-conditions
-is_chosen-requires-clause-conditions g c =
+pub is_chosen-requires-clause-testable : goal.is_chosen-requires-clause-testable
+is_chosen-requires-clause-testable g c =
     subst (λ (xs : List Condition). AllByRecursion (IsTestable c.args.s.now c.args.place) xs) (sym c.conditions.ensures.conditions)
-    (plan_conditions_testable c.args.s.now c.args.place c.args.q.now c.conditions.ensures.plan c.requires.within)
+    (plan_conditions_testable c.args.s.now c.args.place c.args.q.now c.conditions.ensures.plan c.requires.lies)
+
+pub add_items-requires-clause-can : goal.add_items-requires-clause-can
+add_items-requires-clause-can g c = can_still c.requires.can (first_so_far c.in-Ok-true.ensures)
 
 pub add_items-requires-clause-readable : goal.add_items-requires-clause-readable
 add_items-requires-clause-readable g c =
     subst (λ (xs : List Item). AllByRecursion (IsItemReadable c.args.s.now c.args.place) xs) (sym c.items.ensures.items)
-    (plan_items_readable c.args.s.now c.args.place c.args.q.now c.items.ensures.plan c.requires.within)
+    (plan_items_readable c.args.s.now c.args.place c.args.q.now c.items.ensures.plan c.requires.lies)
 
-pub add_items-requires-clause-few : goal.add_items-requires-clause-few
-add_items-requires-clause-few g c =
-    subst (λ (n : ℕ). AllByRecursion (IsItemFew n) c.items.result.now) (sym c.record_size.ensures.size)
-    (subst (λ (xs : List Item). AllByRecursion (IsItemFew c.args.q.now.size) xs) (sym c.items.ensures.items) (plan_items_few c.args.q.now c.items.ensures.plan))
+pub add_items-requires-clause-open : goal.add_items-requires-clause-open
+add_items-requires-clause-open g c =
+    subst (λ (xs : List Item). AllZip IsOpen xs c.args.found.now) (sym c.items.ensures.items) (plan_items_open c.args.q.now c.args.found.now c.items.ensures.plan c.requires.room)
 
-pub returns-in-Ok-true-clause-did : goal.returns-in-Ok-true-clause-did
-returns-in-Ok-true-clause-did g c =
-    let v = g.M.Memory.view in
-    record_chosen (v c.args.m.now) (v c.is_chosen.new.m) (v c.add_items.new.m) c.args.s.now c.args.q.now c.args.place c.conditions.result.now c.items.result.now
-    c.args.found.now.items c.add_items.new.found.items c.in-Ok-true.field-0 c.add_items.result
-    c.conditions.ensures.conditions c.items.ensures.items c.in-Ok-true.field-0-test c.in-Ok-true.ensures.did c.add_items.ensures.did
+pub returns-in-Ok-true : goal.returns-in-Ok-true
+returns-in-Ok-true g c =
+    record_chosen c.args.s.now c.args.q.now c.args.place c.conditions.result.now c.conditions.ensures.conditions (g.M.Memory.view c.args.m.now) (g.M.Memory.view c.is_chosen.new.m) (g.M.Memory.view c.add_items.new.m) c.items.result.now c.args.found.now c.add_items.new.found c.in-Ok-true.field-0 c.add_items.result
+    c.items.ensures.items c.in-Ok-true.field-0-test c.in-Ok-true.ensures c.add_items.ensures
 
-pub returns-in-Ok-false-clause-did : goal.returns-in-Ok-false-clause-did
-returns-in-Ok-false-clause-did g c =
-    let v = g.M.Memory.view in
-    record_passed (v c.args.m.now) (v c.is_chosen.new.m) c.args.s.now c.args.q.now c.args.place c.conditions.result.now c.args.found.now.items
-    c.in-Ok-false.field-0 c.conditions.ensures.conditions c.in-Ok-false.field-0-test c.in-Ok-false.ensures.did
+pub returns-in-Ok-false : goal.returns-in-Ok-false
+returns-in-Ok-false g c =
+    record_passed c.args.s.now c.args.q.now c.args.place c.conditions.result.now c.conditions.ensures.conditions (g.M.Memory.view c.args.m.now) (g.M.Memory.view c.is_chosen.new.m) c.args.found.now c.in-Ok-false.field-0 c.in-Ok-false.field-0-test c.in-Ok-false.ensures
 
-pub returns-in-Ok-false-clause-open : goal.returns-in-Ok-false-clause-open
-returns-in-Ok-false-clause-open g c more h = open_less c.args.q.now.size more c.args.q.now.items c.args.found.now.items h
+pub returns-in-Err : goal.returns-in-Err
+returns-in-Err g c =
+    record_stopped c.args.s.now c.args.q.now c.args.place c.conditions.result.now c.conditions.ensures.conditions (g.M.Memory.view c.args.m.now) (g.M.Memory.view c.is_chosen.new.m) c.args.found.now c.args.found.now c.in-Err.refusal c.in-Err.ensures

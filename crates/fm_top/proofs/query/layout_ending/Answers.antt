@@ -1,6 +1,10 @@
 use Rattle.std.proofs.lemmas.Result.{IfOk-weaker}
 use Rattle.fm_top.specs.Ending.{shown}
 use Rattle.fm_top.proofs.Outcomes.{over-layout, refused-layout, both_ok}
+use Rattle.fm_query.specs.Parsed.{IsParsed}
+use Rattle.fm_query.specs.Plan.{Plan}
+use Rattle.fm_top.specs.Outcome.{record_file_limit}
+use Rattle.fm_top.proofs.ReadFor.{not_read, read_since}
 use Rattle.fm_top.proofs.query.layout_ending.Goals as goal
 
 pub returns-in-Ok-clause-outcome : goal.returns-in-Ok-clause-outcome
@@ -16,3 +20,13 @@ returns-in-Err-clause-outcome g c =
     both_ok c.layout_refusal.result _ _ _
     (λ ending is other. refused-layout (g.F.Files.holds c.args.files.now) c.args.bytes.now q.query.now q.file.now c.in-Err.refusal (shown ending) c.in-Err.ensures.refused other is)
     c.layout_refusal.ensures.ending c.layout_refusal.ensures.other
+
+pub returns-in-Ok-clause-reads : goal.returns-in-Ok-clause-reads
+returns-in-Ok-clause-reads g c =
+    let q = c.args.query.now in
+    let reads = g.F.Files.reads in
+    read_since (reads c.args.files.now) (reads c.text_ending.new.files) q.file.now record_file_limit _ _
+    (λ (asks : (p : Plan) × IsParsed q.query.now c.in-Ok.layout p). (asks.0, (c.in-Ok.layout, c.in-Ok.ensures.layout, asks.1))) c.text_ending.ensures.reads
+
+pub returns-in-Err-clause-reads : goal.returns-in-Err-clause-reads
+returns-in-Err-clause-reads g c = not_read (g.F.Files.reads c.args.files.now) c.args.query.now.file.now record_file_limit _

@@ -1,5 +1,7 @@
 use Rattle.std.proofs.Common.{◌≡◌, ◌≤◌, ◌-◌, length, vec_len}
 use Rattle.fm_io.specs.Files.{AreBytesFrom}
+use Rattle.fm_io.specs.Reads.{At}
+use Rattle.fm_top.specs.Reading.{ReadsUpTo}
 use Rattle.fm_top.proofs.whole_file.read_whole.Given as goal
 
 -- the bytes so far are the file's first ones
@@ -11,6 +13,9 @@ invariant-loop-bytes g l =
       bytes : AreBytesFrom (files.holds l.fn.files) l.name 0 l.bytes.items;
       short : length l.bytes.items ≤ l.limit;
       held : files.holds l.files ≡ files.holds l.fn.files;
+      quiet : files.faults l.files ≡ files.faults l.fn.files;
+      found : files.misses l.files ≡ files.misses l.fn.files;
+      reads : ReadsUpTo (files.reads l.fn.files) (files.reads l.files) l.name l.limit (λ next. next ≡ At (length l.bytes.items));
       faults_stay : files.faults l.fn.files ≤ files.faults l.files;
       misses_stay : files.misses l.fn.files ≤ files.misses l.files;
     }

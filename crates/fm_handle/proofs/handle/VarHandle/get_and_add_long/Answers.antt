@@ -1,78 +1,35 @@
-use Rattle.std.proofs.Common.{ℤ, w64, ◌≡◌, ℕ, Ok, subst, rules, sym, ap, ◌∙◌, Err}
+use Rattle.std.proofs.Common.{rules, w64, sym, ap, ◌∙◌, Ok, Err}
 use Rattle.std.proofs.lemmas.Int.{to_z-of_z}
 use Rattle.std.proofs.lemmas.Result.{err_from_is_err_and}
-use Rattle.fm_handle.specs.Alone.{AddsValue}
-use Rattle.fm_handle.specs.Access.{DoesVisit}
-use Rattle.fm_handle.specs.Acts.{AddsLong, AddsTo, value_in, word_of}
-use Rattle.fm_handle.specs.Place.{is_word, if_supported, update_place_of, value_place, writable_place_of}
-use Rattle.fm_handle.proofs.Causes.{update_cause}
-use Rattle.fm_handle.proofs.Visiting.{refused_before}
-use Rattle.fm_lanes.specs.declared.order.Order.TheVariants.{Little}
-use Rattle.fm_handle.proofs.Longs.{add_long_alone}
-use Rattle.fm_handle.proofs.Updating.{update_place_is, update_stays_out, word_at}
 use Rattle.fm_base.specs.View.{Did}
-use Rattle.fm_lanes.specs.declared.value.Value.TheVariants.{Long}
-use Rattle.fm_lanes.specs.declared.value_kind.ValueKind.TheVariants as kind
+use Rattle.fm_handle.specs.Access.{DoesVisit, DoesAddLong}
+use Rattle.fm_handle.specs.Acts.{AddsLong}
+use Rattle.fm_handle.proofs.Updating.{word_at}
+use Rattle.fm_access.proofs.Causes.{never}
+use Rattle.fm_access.proofs.Learning.{refused_at}
+use Rattle.fm_handle.specs.Place.{is_word, if_supported, update_place_of, writable_place_of}
+use Rattle.fm_handle.proofs.Learning.{after_add_long}
 use Rattle.fm_handle.proofs.handle.VarHandle.get_and_add_long.Goals as goal
 
-pub returns-in_err-place-clause-did : goal.returns-in_err-place-clause-did
-returns-in_err-place-clause-did g c =
+pub returns-in_err-place : goal.returns-in_err-place
+returns-in_err-place g c =
     let v = g.M.Memory.view c.args.m.now in
     let p = err_from_is_err_and c.from_residual.result c.from_residual.ensures.1 in
-    let found = writable_place_of c.args.base c.args.indices.now c.args.self.now c.args.s.now in
-    refused_before v (update_place_of is_word c.args.base c.args.indices.now c.args.self.now c.args.s.now) (λ place. DoesVisit v.caller c.args.s.now.arena (AddsLong c.args.s.now.arena place c.args.delta)) c.in_err-place.field-0.0 c.from_residual.result
-    (ap (λ b. if_supported b found) (sym c.is_word.ensures) ∙ sym c.update_place_of.ensures.place ∙ c.in_err-place.was) (p.1 ∙ ap Err p.2)
+    let none = ap (λ b. if_supported b (writable_place_of c.args.base c.args.indices.now c.args.self.now c.args.s.now)) (sym c.is_word.ensures) ∙ sym c.update_place_of.ensures.place ∙ c.in_err-place.was in
+    after_add_long c.args.base c.requires (λ n e. never n c.in_err-place.field-0.0 (sym e ∙ none))
+    (refused_at v (update_place_of is_word c.args.base c.args.indices.now c.args.self.now c.args.s.now) (λ place. DoesVisit v.caller c.args.s.now.arena (AddsLong c.args.s.now.arena place c.args.delta)) c.in_err-place.field-0.0 c.from_residual.result none (p.1 ∙ ap Err p.2))
 
-pub returns-in_err-place-clause-refused : goal.returns-in_err-place-clause-refused
-returns-in_err-place-clause-refused g c =
-    let v = g.M.Memory.view c.args.m.now in
-    update_cause v v is_word c.args.base c.args.indices.now c.args.self.now c.args.s.now (λ place. AddsLong c.args.s.now.arena place c.args.delta)
-    c.from_residual.result c.requires.indices (returns-in_err-place-clause-did g c)
-
-pub returns-in_err-found-clause-did : goal.returns-in_err-found-clause-did
-returns-in_err-found-clause-did g c = search rules
-
-pub returns-in_err-found-clause-refused : goal.returns-in_err-found-clause-refused
-returns-in_err-found-clause-refused g c =
+pub returns-in_err-found : goal.returns-in_err-found
+returns-in_err-found g c =
     let v = g.M.Memory.view in
-    update_cause (v c.args.m.now) (v c.add_at.new.m) is_word c.args.base c.args.indices.now c.args.self.now c.args.s.now (λ place. AddsLong c.args.s.now.arena place c.args.delta)
-    c.from_residual-in_err-found.result c.requires.indices (returns-in_err-found-clause-did g c)
+    let d : Did (v c.args.m.now) (v c.add_at.new.m) (DoesAddLong (v c.args.m.now).caller c.args.self.now c.args.s.now (update_place_of is_word c.args.base c.args.indices.now c.args.self.now c.args.s.now) c.args.delta c.from_residual-in_err-found.result) = search rules in
+    let at = ap (λ b. if_supported b (writable_place_of c.args.base c.args.indices.now c.args.self.now c.args.s.now)) (sym c.is_word.ensures) ∙ sym c.update_place_of.ensures.place ∙ c.in_ok-place.was in
+    after_add_long c.args.base c.requires (λ p e. word_at c.args.base c.args.indices.now c.args.self.now c.args.s.now c.requires.indices c.in_ok-place.place at c.in_ok-place.ensures.stands) d
 
-pub returns-in_err-place-clause-alone : goal.returns-in_err-place-clause-alone
-returns-in_err-place-clause-alone g c =
-    let p = err_from_is_err_and c.from_residual.result c.from_residual.ensures.1 in
-    rw p.1 (λ alone. tt)
-
-pub returns-in_err-place-clause-shut : goal.returns-in_err-place-clause-shut
-returns-in_err-place-clause-shut g c =
+pub returns : goal.returns
+returns g c =
     let v = g.M.Memory.view in
-    update_stays_out (v c.args.m.now) (v c.args.m.now) c.args.s.now.arena (update_place_of is_word c.args.base c.args.indices.now c.args.self.now c.args.s.now) (λ place. AddsLong c.args.s.now.arena place c.args.delta) c.from_residual.result (returns-in_err-place-clause-did g c)
-
-pub returns-in_err-found-clause-alone : goal.returns-in_err-found-clause-alone
-returns-in_err-found-clause-alone g c =
-    let p = err_from_is_err_and c.from_residual-in_err-found.result c.from_residual-in_err-found.ensures.1 in
-    rw p.1 (λ alone. tt)
-
-pub returns-in_err-found-clause-shut : goal.returns-in_err-found-clause-shut
-returns-in_err-found-clause-shut g c =
-    let v = g.M.Memory.view in
-    update_stays_out (v c.args.m.now) (v c.add_at.new.m) c.args.s.now.arena (update_place_of is_word c.args.base c.args.indices.now c.args.self.now c.args.s.now) (λ place. AddsLong c.args.s.now.arena place c.args.delta) c.from_residual-in_err-found.result (returns-in_err-found-clause-did g c)
-
-pub returns-clause-alone : goal.returns-clause-alone
-returns-clause-alone g c =
-    let v = g.M.Memory.view in
-    let is = c.args.indices.now in
-    let h = c.args.self.now in
-    let r = c.args.s.now in
-    let len = c.requires.indices in
-    let place = c.in_ok-place.place in
-    let word = c.in_ok-found.found in
-    let at = ap (λ b. if_supported b (writable_place_of c.args.base is h r)) (sym c.is_word.ensures) ∙ sym c.update_place_of.ensures.place ∙ c.in_ok-place.was in
-    let long = word_at c.args.base is h r len place at c.in_ok-place.ensures.stands in
-    let means : Long c.long_in.result ≡ value_in kind.Long Little 0 c.in_ok-found.found = search rules in
-    let d : Did (g.M.Memory.view c.args.m.now) (g.M.Memory.view c.add_at.new.m) (DoesVisit (g.M.Memory.view c.args.m.now).caller c.args.s.now.arena (AddsTo c.args.s.now.arena c.in_ok-place.place (word_of Little c.args.delta)) (Ok c.in_ok-found.found)) = search rules in
-    let place_at = value_place c.args.base is h r in
-    let here : Did (v c.args.m.now) (v c.add_at.new.m) (DoesVisit (v c.args.m.now).caller r.arena (AddsTo r.arena (value_place c.args.base is h r) (word_of Little c.args.delta)) (Ok word)) =
-    subst (λ (n : ℕ). Did (v c.args.m.now) (v c.add_at.new.m) (DoesVisit (v c.args.m.now).caller r.arena (AddsTo r.arena n (word_of Little c.args.delta)) (Ok word))) (update_place_is c.args.base is h r len is_word place at) d in
-    λ alone. subst (λ (z : ℤ). AddsValue (v c.args.m.now) (v c.add_at.new.m) h.value r.arena place_at (Long c.args.delta) (Long z)) (sym (to_z-of_z w64 c.long_in.result (record { sfits = c.long_in.type_inv })))
-    (add_long_alone (v c.args.m.now) (v c.add_at.new.m) h.value r.arena place_at c.args.delta c.long_in.result word long.0 long.1 means here alone)
+    let d : Did (v c.args.m.now) (v c.add_at.new.m) (DoesAddLong (v c.args.m.now).caller c.args.self.now c.args.s.now (update_place_of is_word c.args.base c.args.indices.now c.args.self.now c.args.s.now) c.args.delta (Ok c.long_in.result)) = search rules in
+    let at = ap (λ b. if_supported b (writable_place_of c.args.base c.args.indices.now c.args.self.now c.args.s.now)) (sym c.is_word.ensures) ∙ sym c.update_place_of.ensures.place ∙ c.in_ok-place.was in
+    rw (to_z-of_z w64 c.long_in.result (record { sfits = c.long_in.type_inv }))
+    (after_add_long c.args.base c.requires (λ p e. word_at c.args.base c.args.indices.now c.args.self.now c.args.s.now c.requires.indices c.in_ok-place.place at c.in_ok-place.ensures.stands) d)

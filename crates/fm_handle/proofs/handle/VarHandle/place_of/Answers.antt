@@ -1,8 +1,8 @@
 use Rattle.std.proofs.Common.{sym, ap, subst, ◌∙◌, Err}
 use Rattle.std.proofs.lemmas.Result.{err_from_is_err_and}
 use Rattle.fm_path.specs.Resolution.{Resolution, StaysInside}
-use Rattle.fm_places.specs.Found.{IsFirstOut}
-use Rattle.fm_places.specs.Walk.{AreAdmitted}
+use Rattle.fm_path_meaning.specs.Found.{IsFirstOut}
+use Rattle.fm_path_meaning.specs.Walk.{AreAdmitted}
 use Rattle.fm_handle.proofs.Places.{out, root_refused, stands_at, value_stands}
 use Rattle.fm_handle.proofs.handle.VarHandle.place_of.Goals as goal
 

@@ -6,7 +6,7 @@ use Rattle.fm_mono.proofs.mono.Mono.is_alive.Goals as goal
 use Rattle.fm_mono.proofs.mono.Mono.is_alive.Goals.{After-struct_known-1}
 
 here : (c : After-struct_known-1) → IsPlaced c.self.inside.limit c.self.inside.inside c.self.inside.arenas.items c.args.a
-here c = placed c.self.inside.limit c.self.inside.inside c.self.inside.arenas.items c.args.a c.self.invariant.names (rw (← c.self.view_is) at c.requires)
+here c = placed c.self.inside.limit c.self.inside.inside c.self.inside.arenas.items c.args.a c.self.invariant.arenas.names (rw (← c.self.view_is) at c.requires)
 
 pub index-requires : goal.index-requires
 index-requires c = omega (arith, (here c).in_range, c.self.inside.arenas.ok.0)

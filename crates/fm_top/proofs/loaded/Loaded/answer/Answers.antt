@@ -1,6 +1,6 @@
-use Rattle.std.proofs.Common.{◌+◌, ◌≤◌, ◌∙◌, length, ap, refl, arith}
+use Rattle.std.proofs.Common.{◌+◌, ◌≤◌, ◌∙◌, length, ap, refl, arith, inl}
 use Rattle.fm_bytes.proofs.Words.{length-bytes_in}
-use Rattle.fm_pieces.specs.Alone.{bytes_of_arena}
+use Rattle.fm_access.specs.Alone.{bytes_of_arena}
 use Rattle.fm_records.specs.Answers.{answer}
 use Rattle.fm_records.proofs.AnsweringBytes.{places_have}
 use Rattle.fm_top.specs.Held.{words_at}
@@ -16,6 +16,6 @@ returns-clause-answer c =
     let room : r.first + r.size ≤ length (bytes_of_arena l.memory.state r.arena) =
     omega (arith, length-bytes_in words, ready.whole, ready.held.size, ready.within) in
     elim c.match-query_segment.branch [
-      | in-Ok w ↦ rw w.result-is ((w.in-Ok.ensures.alone refl).value ∙ ap (answer c.args.q.now) (places_have l.memory.state r room ∙ c.self.view_is))
+      | in-Ok w ↦ rw w.result-is ((w.in-Ok.ensures.alone (inl refl)).value ∙ ap (answer c.args.q.now) (places_have l.memory.state r room ∙ c.self.view_is))
       | in-Err w ↦ rw w.result-is tt
     ]

@@ -1,0 +1,279 @@
+-- What runs of visits of the only caller do to the bytes of an arena.
+use Rattle.std.proofs.Common.{◌≡◌, ◌≢◌, ℕ, ◌+◌, ◌-◌, ◌*◌, ◌%◌, ◌^◌, ◌<◌, ◌≤◌, Bool, true, false, List, [], ◌++◌, length, take, drop, refl, sym, ap, subst, ◌∙◌, arith, append_assoc, Option, Some, None, Result, Ok, Err, IfOk}
+use Rattle.std.specs.Prelude.{OnErr}
+use Rattle.std.proofs.lemmas.List.{append-nil, drop-drop, length-take-le, take-append-drop}
+use Rattle.std.proofs.lemmas.List.Elements.{All-take, All-drop}
+use Rattle.fm_base.specs.declared.caller.Caller.{Caller}
+use Rattle.fm_base.specs.declared.arena_id.ArenaId.{ArenaId}
+use Rattle.fm_base.specs.declared.refusal.Refusal.{Refusal}
+use Rattle.fm_base.specs.declared.refusal.Refusal.TheVariants.{Closed, WrongThread}
+use Rattle.fm_base.specs.Arenas.{Alive, Arena, State, arena_of, has_arena, changed}
+use Rattle.fm_base.specs.Calls.{Entry}
+use Rattle.fm_base.specs.Histories.{IsLegal, state_after}
+use Rattle.fm_base.specs.View.{View, Makes, Did, IsByItself}
+use Rattle.fm_base.specs.Visits.{Run, ends, goes_on, piece_width}
+use Rattle.fm_base.proofs.Faith.{Makes-alone}
+use Rattle.fm_base.proofs.Lookup.{KeepsName, arena_of-id, changed_lookup, changed_same, changed_twice, lookup_changed}
+use Rattle.fm_base.proofs.Making.{IsLegal-split, state_after-append}
+use Rattle.fm_bytes.specs.Bytes.{AreBytes, bytes_of, number_of}
+use Rattle.fm_bytes.specs.Words.{bytes_in}
+use Rattle.fm_bytes.proofs.Bytes.{bytes_of-number_of, number_of-lt}
+use Rattle.fm_bytes.proofs.Words.{take-add, length-bytes_in}
+use Rattle.fm_access.specs.Alone.{bytes_of_arena, with_bytes, with_words, FindsNumber, ChangesBytes, StaysOut}
+use Rattle.fm_access.specs.Ranges.{Reading, ReadsOn, EndsReading, ReadsRange, Putting, PutsOn, EndsPutting, next_width, DoesRefuse, DoesGet, DoesPut}
+use Rattle.fm_access.proofs.Splicing.{with_none, with_bytes-twice}
+use Rattle.fm_access.proofs.Visits.{VisitRefused, visit_refused, VisitPuts, visit_reads, visit_puts}
+
+-- ---- refusals
+
+-- A call that is refused, where a run that stops shows that the arena isn't alive and changes nothing.
+shut_out : (old now : View) (id : ArenaId) (Stops : List Entry → Type 0) (r : Refusal) → IsByItself old
+    → ((own : List Entry) → Stops own → IsLegal old.limit old.state own → VisitRefused old.state (state_after old.limit old.state own) id)
+    → Did old now (DoesRefuse old.caller id Stops r) → StaysOut old now id
+shut_out old now id Stops WrongThread alone refused d =
+    let m = Makes-alone old now d.own alone d.makes in
+    record { shut = λ o. d.does.0 o.usable; same = m.1 ∙ ap (state_after old.limit old.state) d.does.1 }
+shut_out old now id Stops Closed alone refused d =
+    let m = Makes-alone old now d.own alone d.makes in
+    let v = refused d.own d.does.1 m.0 in
+    record { shut = λ o. v.over o.alive; same = m.1 ∙ v.same }
+shut_out old now id Stops r alone refused d = absurd d.does
+
+-- ---- reading
+
+-- A run of reads answers the bytes that stand there, or stops as the arena isn't alive.
+abbrev Answers : State → ArenaId → ℕ → Reading → Option (List ℕ) → Type 0
+Answers s id end x (Some bytes) = bytes ≡ x.bytes ++ take (end - x.at) (drop x.at (bytes_of_arena s id))
+Answers s id end x None = ¬ ((arena_of s id).life ≡ Alive)
+
+pub record RunReads (s t : State) (id : ArenaId) (end : ℕ) (x : Reading) (answer : Option (List ℕ)) : Type 0 where
+  pub answers : Answers s id end x answer
+  pub same : t ≡ s
+
+-- The end of a run of reads.
+reads_end : (limit : ℕ) (c : Caller) (id : ArenaId) (end : ℕ) (s : State) (x : Reading) (own : List Entry) (answer : Option (List ℕ))
+    → EndsReading c id end x own answer → IsLegal limit s own → RunReads s (state_after limit s own) id end x answer
+reads_end limit c id end s x own (Some bytes) e legal =
+    let none : end - x.at ≡ 0 = (let h = e.0 in omega arith) in
+    let rest : take (end - x.at) (drop x.at (bytes_of_arena s id)) ≡ [] = ap (λ n. take n (drop x.at (bytes_of_arena s id))) none in
+    record {
+      answers = e.1 ∙ sym (ap (λ bs. x.bytes ++ bs) rest ∙ append-nil x.bytes);
+      same = ap (state_after limit s) e.2;
+    }
+reads_end limit c id end s x own None e legal =
+    let v = visit_refused limit c s id own e.1 legal in
+    record { answers = v.over; same = v.same }
+
+-- One piece more, and the rest.
+answers_on : (s : State) (id : ArenaId) (end width v : ℕ) (x y : Reading) (answer : Option (List ℕ)) → width ≤ end - x.at
+    → bytes_of width v ≡ take width (drop x.at (bytes_of_arena s id))
+    → y.at ≡ x.at + width → y.bytes ≡ x.bytes ++ bytes_of width v → Answers s id end y answer → Answers s id end x answer
+answers_on s id end width v x y None h e at bytes a = a
+answers_on s id end width v x y (Some all) h e at bytes a =
+    let b = bytes_of_arena s id in
+    let d = drop x.at b in
+    let sum : end - x.at ≡ width + (end - y.at) = omega arith in
+    let past : drop width (drop x.at (bytes_of_arena s id)) ≡ drop y.at (bytes_of_arena s id) =
+    drop-drop width x.at (bytes_of_arena s id) ∙ ap (λ n. drop n (bytes_of_arena s id)) (sym at) in
+    let two : take (end - x.at) (drop x.at (bytes_of_arena s id)) ≡ bytes_of width v ++ take (end - y.at) (drop y.at (bytes_of_arena s id)) =
+    ap (λ n. take n d) sum ∙ take-add width (end - y.at) d ∙ ap (λ bs. bs ++ take (end - y.at) (drop width d)) (sym e) ∙ ap (λ bs. bytes_of width v ++ take (end - y.at) bs) past in
+    a ∙ ap (λ bs. bs ++ take (end - y.at) (drop y.at b)) bytes
+    ∙ append_assoc x.bytes (bytes_of width v) (take (end - y.at) (drop y.at b))
+    ∙ ap (λ bs. x.bytes ++ bs) (sym two)
+
+-- A run of reads finds the bytes that stand there, and changes nothing.
+reads_run : (limit : ℕ) (c : Caller) (id : ArenaId) (end : ℕ) (s : State) (x : Reading) (own : List Entry) (answer : Option (List ℕ))
+    → Run (ReadsOn c id end) (EndsReading c id end) x own answer → IsLegal limit s own → RunReads s (state_after limit s own) id end x answer
+reads_run limit c id end s x own answer (ends e) legal = reads_end limit c id end s x own answer e legal
+reads_run limit c id end s x own answer (goes_on y first rest step run) legal =
+    let parts = IsLegal-split limit s first rest legal in
+    let fits : x.at % 8 + piece_width x.at end ≤ 8 = omega arith in
+    let part : piece_width x.at end ≤ end - x.at = omega arith in
+    let v = visit_reads limit c s id x.at (piece_width x.at end) step.v first step.piece fits parts.0 in
+    let left : IsLegal limit s rest = subst (λ (t : State). IsLegal limit t rest) v.same parts.1 in
+    let more = reads_run limit c id end s y rest answer run left in
+    record {
+      answers = answers_on s id end (piece_width x.at end) step.v x y answer part v.value step.at step.bytes more.answers;
+      same = state_after-append limit s first rest ∙ ap (λ (t : State). state_after limit t rest) v.same ∙ more.same;
+    }
+
+pub record FindsBytes (old now : View) (id : ArenaId) (place width : ℕ) (bytes : List ℕ) : Type 0 where
+  pub are : bytes ≡ take width (drop place (bytes_of_arena old.state id))
+  pub same : now.state ≡ old.state
+
+-- Bytes that the only caller reads are those that stand there.
+pub reads_alone : (old now : View) (id : ArenaId) (place width : ℕ) (bytes : List ℕ) (own : List Entry) → IsByItself old
+    → ReadsRange old.caller id place (place + width) own (Some bytes) → Makes old now own → FindsBytes old now id place width bytes
+reads_alone old now id place width bytes own alone run makes =
+    let m = Makes-alone old now own alone makes in
+    let all = reads_run old.limit old.caller id (place + width) old.state (record { at = place; bytes = [] }) own (Some bytes) run m.0 in
+    let size : place + width - place ≡ width = omega arith in
+    record { are = all.answers ∙ ap (λ k. take k (drop place (bytes_of_arena old.state id))) size; same = m.1 ∙ all.same }
+
+get_finds : (old now : View) (id : ArenaId) (place width n : ℕ) → IsByItself old → Did old now (DoesGet old.caller id place width (Ok n))
+    → FindsNumber old now id place width n
+get_finds old now id place width n alone d =
+    let r = d.does.1 in
+    let f = reads_alone old now id place width r.bytes d.own alone r.visits d.makes in
+    record { value = r.value ∙ ap number_of f.are; same = f.same }
+
+-- A number that the only caller gets is that of the bytes that stand there.
+pub get_alone : (old now : View) (id : ArenaId) (place width : ℕ) (result : Result ℕ Refusal) → Did old now (DoesGet old.caller id place width result)
+    → IsByItself old → IfOk result (λ n. FindsNumber old now id place width n)
+get_alone old now id place width (Ok n) d alone = get_finds old now id place width n alone d
+get_alone old now id place width (Err r) d alone = tt
+
+-- The only caller is refused where the arena isn't open to it.
+pub get_shut : (old now : View) (id : ArenaId) (place width : ℕ) (result : Result ℕ Refusal) → Did old now (DoesGet old.caller id place width result)
+    → IsByItself old → OnErr result (StaysOut old now id)
+get_shut old now id place width (Ok n) d alone = tt
+get_shut old now id place width (Err r) d alone =
+    let c = old.caller in
+    let end = place + width in
+    let first : Reading = record { at = place; bytes = [] } in
+    shut_out old now id (λ es. Run (ReadsOn c id end) (EndsReading c id end) first es None) r alone
+    (λ own run legal. let all = reads_run old.limit c id end old.state first own None run legal in record { over = all.answers; same = all.same }) d
+
+-- ---- putting
+
+pub record RunPuts (s t : State) (id : ArenaId) (x : Putting) : Type 0 where
+  pub words : List ℕ
+  pub state : t ≡ changed s id (with_words words)
+  pub bytes : bytes_in words ≡ with_bytes (bytes_of_arena s id) x.at x.bytes
+
+-- A run of puts changes the bytes, or stops as the arena isn't alive.
+abbrev Leaves : State → State → ArenaId → Putting → Bool → Type 0
+Leaves s t id x true = RunPuts s t id x
+Leaves s t id x false = VisitRefused s t id
+
+pub puts_none : (s t : State) (id : ArenaId) (x : Putting) → x.bytes ≡ [] → t ≡ s → RunPuts s t id x
+puts_none s t id x none same =
+    let words = (arena_of s id).words in
+    record {
+      words = words;
+      state = same ∙ sym (changed_same s id (with_words words) refl);
+      bytes = sym (ap (with_bytes (bytes_of_arena s id) x.at) none ∙ with_none (bytes_of_arena s id) x.at);
+    }
+
+-- The end of a run of puts.
+puts_end : (limit : ℕ) (c : Caller) (id : ArenaId) (s : State) (x : Putting) (own : List Entry) (done : Bool)
+    → EndsPutting c id x own done → IsLegal limit s own → Leaves s (state_after limit s own) id x done
+puts_end limit c id s x own false e legal = visit_refused limit c s id own e.1 legal
+puts_end limit c id s x own true e legal = puts_none s (state_after limit s own) id x e.0 (ap (state_after limit s) e.1)
+
+-- the bytes of a piece, as a number
+pub record IsPart (bytes : List ℕ) (width v : ℕ) : Type 0 where
+  pub count : length (take width bytes) ≡ width
+  pub small : v < 2 ^ (8 * width)
+  pub are : bytes_of width v ≡ take width bytes
+
+-- The first bytes of a list are a piece.
+pub is_part : (bytes : List ℕ) (width v : ℕ) → AreBytes bytes → width ≤ length bytes → v ≡ number_of (take width bytes) → IsPart bytes width v
+is_part bytes width v h fits e =
+    let part = take width bytes in
+    let are : AreBytes part = All-take (λ b. b < 256) width bytes h in
+    let count : length (take width bytes) ≡ width = length-take-le width bytes fits in
+    let Small : ℕ → Type 0 = λ k. number_of (take width bytes) < 2 ^ (8 * k) in
+    let small : number_of (take width bytes) < 2 ^ (8 * width) = subst Small count (number_of-lt part are) in
+    record {
+      count = count;
+      small = rw e small;
+      are = ap (bytes_of width) e ∙ ap (λ k. bytes_of k (number_of part)) (sym count) ∙ bytes_of-number_of part are;
+    }
+
+-- The arena after its words were changed.
+pub with_words_there : (s t : State) (id : ArenaId) (words : List ℕ) → has_arena s id ≡ true → t ≡ changed s id (with_words words)
+    → arena_of t id ≡ with_words words (arena_of s id)
+with_words_there s t id words known state = ap (λ (u : State). arena_of u id) state ∙ lookup_changed s id (with_words words) (λ a. refl) known
+
+-- One piece more, and the rest.
+puts_on : (s t u : State) (id : ArenaId) (width v : ℕ) (x y : Putting) (done : Bool) → IsPart x.bytes width v → VisitPuts s t id x.at width v
+    → y.at ≡ x.at + width → y.bytes ≡ drop width x.bytes → Leaves t u id y done → Leaves s u id x done
+puts_on s t u id width v x y false p put at bytes more =
+    let there = with_words_there s t id put.words put.known put.state in
+    absurd (more.over (ap (λ (a : Arena). a.life) there ∙ put.alive))
+puts_on s t u id width v x y true p put at bytes more =
+    let all = bytes_of_arena s id in
+    let part = take width x.bytes in
+    let rest = drop width x.bytes in
+    let n = p.count in
+    let there = with_words_there s t id put.words put.known put.state in
+    let first : bytes_of_arena t id ≡ with_bytes (bytes_of_arena s id) x.at (take width x.bytes) =
+    ap (λ (a : Arena). bytes_in a.words) there ∙ put.bytes ∙ ap (λ bs. take x.at all ++ (bs ++ drop (x.at + width) all)) p.are ∙ ap (λ k. take x.at all ++ (part ++ drop (x.at + k) all)) (sym n) in
+    let next : y.at ≡ x.at + length (take width x.bytes) = at ∙ ap (λ k. x.at + k) (sym n) in
+    let within = put.within in
+    let room : x.at ≤ length (bytes_of_arena s id) = omega (arith, length-bytes_in (arena_of s id).words) in
+    record {
+      words = more.words;
+      state = more.state ∙ ap (λ (r : State). changed r id (with_words more.words)) put.state ∙ changed_twice s id (with_words put.words) (with_words more.words) (λ a. refl);
+      bytes = more.bytes
+          ∙ ap (λ k. with_bytes (bytes_of_arena t id) k y.bytes) next
+          ∙ ap (λ bs. with_bytes (bytes_of_arena t id) (x.at + length part) bs) bytes
+          ∙ ap (λ bs. with_bytes bs (x.at + length part) rest) first
+          ∙ with_bytes-twice all x.at part rest room
+          ∙ ap (with_bytes all x.at) (take-append-drop width x.bytes);
+    }
+
+-- A run of puts puts just these bytes.
+puts_run : (limit : ℕ) (c : Caller) (id : ArenaId) (s : State) (x : Putting) (own : List Entry) (done : Bool) → AreBytes x.bytes
+    → Run (PutsOn c id) (EndsPutting c id) x own done → IsLegal limit s own → Leaves s (state_after limit s own) id x done
+puts_run limit c id s x own done are (ends e) legal = puts_end limit c id s x own done e legal
+puts_run limit c id s x own done are (goes_on y first rest step run) legal =
+    let width = next_width x in
+    let parts = IsLegal-split limit s first rest legal in
+    let fits : x.at % 8 + next_width x ≤ 8 = omega arith in
+    let some : next_width x ≤ length x.bytes = omega arith in
+    let t = state_after limit s first in
+    let v = number_of (take width x.bytes) in
+    let p = is_part x.bytes (next_width x) (number_of (take (next_width x) x.bytes)) are some refl in
+    let left : AreBytes y.bytes = subst AreBytes (sym step.bytes) (All-drop (λ b. b < 256) width x.bytes are) in
+    let put = visit_puts limit c s id x.at (next_width x) (number_of (take (next_width x) x.bytes)) first step.piece fits p.small parts.0 in
+    let more = puts_run limit c id (state_after limit s first) y rest done left run parts.1 in
+    let Here : State → Type 0 = λ u. Leaves s u id x done in
+    subst Here (sym (state_after-append limit s first rest)) (puts_on s t (state_after limit t rest) id width v x y done p put step.at step.bytes more)
+
+-- A change of one arena leaves the words of the others.
+pub other_words : (f : Arena → Arena) → KeepsName f → (s : State) (id other : ArenaId) → other ≢ id
+    → (arena_of (changed s id f) other).words ≡ (arena_of s other).words
+other_words f named s id other n =
+    let P : Arena → Arena → Type 0 = λ a b. a.id ≢ id → b.words ≡ a.words in
+    let here : P (arena_of s id) (f (arena_of s id)) = λ m. absurd (m (arena_of-id s id)) in
+    let at : P (arena_of s other) (arena_of (changed s id f) other) = changed_lookup P f named (λ a m. refl) s id here other in
+    at (λ e. n (sym (arena_of-id s other) ∙ e))
+
+pub changes : (old now : View) (id : ArenaId) (place : ℕ) (bytes : List ℕ) → has_arena old.state id ≡ true
+    → RunPuts old.state now.state id (record { at = place; bytes = bytes }) → ChangesBytes old now id place bytes
+changes old now id place bytes known r =
+    let there = with_words_there old.state now.state id r.words known r.state in
+    let words : (arena_of now.state id).words ≡ r.words = ap (λ (a : Arena). a.words) there in
+    record {
+      changed = ap bytes_in words ∙ r.bytes;
+      others = λ other n. ap (λ (s : State). bytes_of_arena s other) r.state ∙ ap bytes_in (other_words (with_words r.words) (λ a. refl) old.state id other n);
+      rest = r.state ∙ ap (λ ws. changed old.state id (with_words ws)) (sym words);
+    }
+
+-- Bytes that the only caller puts stand there, and all others stay.
+pub put_alone : (old now : View) (id : ArenaId) (place : ℕ) (bytes : List ℕ) (result : Result (Unit {0}) Refusal) → AreBytes bytes
+    → has_arena old.state id ≡ true
+    → Did old now (DoesPut old.caller id place bytes result) → IsByItself old → IfOk result (λ u. ChangesBytes old now id place bytes)
+put_alone old now id place bytes (Err r) are known d alone = tt
+put_alone old now id place bytes (Ok u) are known d alone =
+    let m = Makes-alone old now d.own alone d.makes in
+    let all = puts_run old.limit old.caller id old.state (record { at = place; bytes = bytes }) d.own true are d.does.1 m.0 in
+    changes old now id place bytes known (record { words = all.words; state = m.1 ∙ all.state; bytes = all.bytes })
+
+-- The only caller puts nothing where the arena isn't open to it.
+pub put_shut : (old now : View) (id : ArenaId) (place : ℕ) (bytes : List ℕ) (result : Result (Unit {0}) Refusal) → AreBytes bytes
+    → Did old now (DoesPut old.caller id place bytes result) → IsByItself old → OnErr result (StaysOut old now id)
+put_shut old now id place bytes (Ok u) are d alone = tt
+put_shut old now id place bytes (Err r) are d alone =
+    let c = old.caller in
+    let first : Putting = record { at = place; bytes = bytes } in
+    shut_out old now id (λ es. Run (PutsOn c id) (EndsPutting c id) first es false) r alone
+    (λ own run legal. puts_run old.limit c id old.state first own false are run legal) d
+
+-- Where no byte is put, all stays.
+pub put_none : (old : View) (id : ArenaId) (place : ℕ) (bytes : List ℕ) → bytes ≡ [] → has_arena old.state id ≡ true → ChangesBytes old old id place bytes
+put_none old id place bytes none known =
+    let first : Putting = record { at = place; bytes = bytes } in
+    changes old old id place bytes known (puts_none old.state old.state id first none refl)

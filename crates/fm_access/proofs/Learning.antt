@@ -1,0 +1,174 @@
+-- What a caller learns of an access, from what it did.
+use Rattle.std.proofs.Common.{◌≡◌, ℕ, ◌+◌, true, false, List, [], refl, ap, ◌∙◌, None, Result, Ok, Err, IfOk, IfErr}
+use Rattle.std.specs.Prelude.{OnErr, ⊤}
+use Rattle.fm_base.specs.declared.caller.Caller.{Caller}
+use Rattle.fm_base.specs.declared.arena_id.ArenaId.{ArenaId}
+use Rattle.fm_base.specs.declared.refusal.Refusal.{Refusal}
+use Rattle.fm_base.specs.Arenas.{has_arena}
+use Rattle.fm_base.specs.Calls.{Entry}
+use Rattle.fm_base.specs.Histories.{state_after}
+use Rattle.fm_base.specs.Outcomes.{Lasts}
+use Rattle.fm_base.specs.View.{View, Did, IsByItself}
+use Rattle.fm_base.proofs.Faith.{Makes-alone}
+use Rattle.fm_base.proofs.Making.{Makes-none}
+use Rattle.fm_base.proofs.Outcomes.{Did-lasts}
+use Rattle.fm_base.proofs.Running.{stays_outside}
+use Rattle.fm_lanes.specs.declared.order.Order.{Order}
+use Rattle.fm_lanes.specs.declared.value.Value.{Value}
+use Rattle.fm_lanes.specs.declared.value_kind.ValueKind.{ValueKind}
+use Rattle.fm_lanes.specs.Coding.{bytes_of_value}
+use Rattle.fm_lanes.specs.Kind.{width_of}
+use Rattle.fm_lanes.specs.Value.{kind_of}
+use Rattle.fm_access.specs.Alone.{StaysOut}
+use Rattle.fm_access.specs.Found.{DoesAt, UseCause, StaysOutOf}
+use Rattle.fm_access.specs.Learnt.{After}
+use Rattle.fm_access.specs.Ranges.{ReadsRange, DoesPut, PutsRange}
+use Rattle.fm_access.specs.Values.{DoesGetValue, FindsValue, PutsValue}
+use Rattle.fm_access.proofs.Alone.{get_shut, put_shut}
+use Rattle.fm_access.proofs.Causes.{Causes, at_cause, going}
+use Rattle.fm_access.proofs.Outside.{EndsOutside, at_outside, put_outside, value_outside}
+use Rattle.fm_access.proofs.Values.{AreBytes-value, finds_value, puts_value, got_kind}
+
+-- ---- at the place that was found
+
+-- what is so of a call, whatever the memory is: a refusal is the arena's, and it ends outside
+pub record IsCall {X : Type 0} (c : Caller) (id : ArenaId) (Does : Result X Refusal → List Entry → Type 0) : Type 0 where
+  pub refuses : (e : Refusal) (own : List Entry) → Does (Err e) own → UseCause id c e
+  pub outside : (result : Result X Refusal) (own : List Entry) → Does result own → EndsOutside own
+
+-- what the only caller learns where a place was found: of an answer, and of a refusal
+pub record IsLearnt {X : Type 0} (old new : View) (id : ArenaId) (found : Result ℕ Refusal) (Does : ℕ → Result X Refusal → List Entry → Type 0) (Alone Kind : X → Type 0) : Type 0 where
+  pub alone : (p : ℕ) (x : X) → found ≡ Ok p → Did old new (Does p (Ok x)) → IsByItself old → Alone x
+  pub shut : (p : ℕ) (e : Refusal) → Did old new (Does p (Err e)) → IsByItself old → StaysOut old new id
+  pub kind : (p : ℕ) (x : X) (own : List Entry) → Does p (Ok x) own → Kind x
+
+module _ {X : Type 0} (old new : View) (id : ArenaId) (Does : ℕ → Result X Refusal → List Entry → Type 0) (Alone Kind : X → Type 0) where
+  alone_at : (found : Result ℕ Refusal) (result : Result X Refusal) → IsLearnt old new id found Does Alone Kind → Did old new (DoesAt found Does result)
+      → IsByItself old → IfOk result Alone
+  alone_at found (Err e) h d alone = tt
+  alone_at (Err r) (Ok x) h d alone = absurd (let e : Ok x ≡ Err r = d.does.0 in let no : ⊥ = cc in no)
+  alone_at (Ok p) (Ok x) h d alone = h.alone p x refl d alone
+
+  shut_at : (found : Result ℕ Refusal) (result : Result X Refusal) → IsLearnt old new id found Does Alone Kind → Did old new (DoesAt found Does result)
+      → IsByItself old → OnErr result (StaysOutOf old new id found)
+  shut_at found (Ok x) h d alone = tt
+  shut_at (Err r) (Err e) h d alone = let m = Makes-alone old new d.own alone d.makes in m.1 ∙ ap (state_after old.limit old.state) d.does.1
+  shut_at (Ok p) (Err e) h d alone = h.shut p e d alone
+
+  kind_at : (found : Result ℕ Refusal) (result : Result X Refusal) → IsLearnt old new id found Does Alone Kind → Did old new (DoesAt found Does result)
+      → IfOk result Kind
+  kind_at found (Err e) h d = tt
+  kind_at (Err r) (Ok x) h d = absurd (let e : Ok x ≡ Err r = d.does.0 in let no : ⊥ = cc in no)
+  kind_at (Ok p) (Ok x) h d = h.kind p x d.own d.does
+
+  -- All that is learnt of an access at the place that was found.
+  pub after_at : (found : Result ℕ Refusal) (Cause : Refusal → Type 0) (Known : View → Type 0) (result : Result X Refusal) → old.inside ≡ None
+      → Causes found id old.caller Cause
+      → ((p : ℕ) → IsCall old.caller id (Does p)) → IsLearnt old new id found Does Alone Kind → (Lasts old new → Known new)
+      → Did old new (DoesAt found Does result) → After old new (DoesAt found Does) Cause Alone (StaysOutOf old new id found) Known Kind result
+  after_at found Cause Known result out causes call learnt known d =
+      let lasts = Did-lasts old new _ d in
+      record {
+        did = d;
+        refused = at_cause old.caller id found Does Cause result d.own causes (λ p e x. (call p).refuses e d.own x) d.does;
+        alone = alone_at found result learnt d;
+        shut = shut_at found result learnt d;
+        outside = stays_outside old new (DoesAt found Does result) (λ own x. at_outside found Does result own (λ p y. (call p).outside result own y) x) out d;
+        lasts = lasts;
+        known = known lasts;
+        kind = kind_at found result learnt d;
+      }
+
+-- A refusal has another cause where its cause gives that one.
+pub if_err : {X : Type 0} (C D : Refusal → Type 0) (x : Result X Refusal) → ((e : Refusal) → C e → D e) → IfErr x C → IfErr x D
+if_err C D (Ok x) f h = tt
+if_err C D (Err e) f h = f e h
+
+-- What was learnt, said otherwise.
+pub after_said : {X Y : Type 0} {old new : View} {Does : Result X Refusal → List Entry → Type 0} {Cause : Refusal → Type 0} {Alone : X → Type 0} {Shut : Type 0} {Known : View → Type 0} {Kind : X → Type 0} {x : Result X Refusal}
+    → (More : Result Y Refusal → List Entry → Type 0) (Why : Refusal → Type 0) (Sees : Y → Type 0) (Stays : Type 0) (Knows : View → Type 0) (Is : Y → Type 0)
+    (y : Result Y Refusal)
+    → After old new Does Cause Alone Shut Known Kind x → ((own : List Entry) → Does x own → More y own) → (IfErr x Cause → IfErr y Why) →
+    (IsByItself old → IfOk x Alone → IfOk y Sees) → (IsByItself old → OnErr x Shut → OnErr y Stays)
+    → Knows new → (IfOk x Kind → IfOk y Is) → After old new More Why Sees Stays Knows Is y
+after_said More Why Sees Stays Knows Is y a does cause sees shut knows kind =
+    let d = a.did in
+    record {
+      did = record { own = d.own; does = does d.own d.does; makes = d.makes };
+      refused = cause a.refused;
+      alone = λ h. sees h (a.alone h);
+      shut = λ h. shut h (a.shut h);
+      outside = a.outside;
+      lasts = a.lasts;
+      known = knows;
+      kind = kind a.kind;
+    }
+
+-- What is learnt of a call that was refused before it went to an arena.
+pub after_none : {X : Type 0} {old : View} (Does : Result X Refusal → List Entry → Type 0) (Cause : Refusal → Type 0) (Alone : X → Type 0) (Shut : Type 0) (Known : View → Type 0) (Kind : X → Type 0) (e : Refusal)
+    → old.inside ≡ None → Does (Err e) [] → Cause e → Shut → Known old → After old old Does Cause Alone Shut Known Kind (Err e)
+after_none {X} {old} Does Cause Alone Shut Known Kind e out does cause shut known =
+    let d : Did old old (Does (Err e)) = record { own = []; does = does; makes = Makes-none old } in
+    record {
+      did = d;
+      refused = cause;
+      alone = λ h. tt;
+      shut = λ h. shut;
+      outside = out;
+      lasts = Did-lasts old old _ d;
+      known = known;
+      kind = tt;
+    }
+
+-- A refusal before a place was found.
+pub refused_at : {X : Type 0} (v : View) (found : Result ℕ Refusal) (Does : ℕ → Result X Refusal → List Entry → Type 0) (e : Refusal) (result : Result X Refusal) → found ≡ Err e → result ≡ Err e
+    → Did v v (DoesAt found Does result)
+refused_at v found Does e result f r = rw (f, r) (record { own = []; does = (refl, refl); makes = Makes-none v })
+
+-- ---- values
+
+pub gets : (c : Caller) (k : ValueKind) (o : Order) (id : ArenaId) (p : ℕ) → IsCall c id (DoesGetValue c k o id p)
+gets c k o id p = record {
+  refuses = λ e own d. going c id (λ es. ReadsRange c id p (p + width_of k) es None) e own d;
+  outside = λ result own d. value_outside c id k o p result own d;
+}
+
+pub puts : (c : Caller) (id : ArenaId) (bytes : List ℕ) (p : ℕ) → IsCall c id (DoesPut c id p bytes)
+puts c id bytes p = record {
+  refuses = λ e own d. going c id (λ es. PutsRange c id p bytes es false) e own d;
+  outside = λ result own d. put_outside c id p bytes result own d;
+}
+
+-- The value that was found, or why none.
+get_value_shut : (old new : View) (k : ValueKind) (o : Order) (id : ArenaId) (p : ℕ) (e : Refusal) → Did old new (DoesGetValue old.caller k o id p (Err e))
+    → IsByItself old → StaysOut old new id
+get_value_shut old new k o id p e d alone = get_shut old new id p (width_of k) (Err e) d alone
+
+-- All that is learnt of getting a value at the place that was found.
+pub after_get_at : (old new : View) (k : ValueKind) (o : Order) (id : ArenaId) (found : Result ℕ Refusal) (Cause : Refusal → Type 0) (Known : View → Type 0) (Alone : Value → Type 0) (result : Result Value Refusal)
+    → old.inside ≡ None → Causes found id old.caller Cause → (Lasts old new → Known new)
+    → ((p : ℕ) (v : Value) → found ≡ Ok p → FindsValue old new k o id p v → Alone v)
+    → Did old new (DoesAt found (DoesGetValue old.caller k o id) result)
+    → After old new (DoesAt found (DoesGetValue old.caller k o id)) Cause Alone (StaysOutOf old new id found) Known (λ v. kind_of v ≡ k) result
+after_get_at old new k o id found Cause Known Alone result out causes known there d =
+    after_at old new id (DoesGetValue old.caller k o id) Alone (λ v. kind_of v ≡ k) found Cause Known result out causes (gets old.caller k o id)
+    (record {
+      alone = λ p v e d alone. there p v e (finds_value old new k o id p v d alone);
+      shut = λ p e d alone. get_value_shut old new k o id p e d alone;
+      kind = λ p v own d. got_kind old.caller k o id p v own d;
+    }) known d
+
+-- All that is learnt of putting a value at the place that was found.
+pub after_put_at : (old new : View) (k : ValueKind) (o : Order) (id : ArenaId) (v : Value) (found : Result ℕ Refusal) (Cause : Refusal → Type 0) (Known : View → Type 0) (Alone : Type 0) (result : Result (Unit {0}) Refusal)
+    → old.inside ≡ None → Causes found id old.caller Cause → (Lasts old new → Known new) → kind_of v ≡ k → has_arena old.state id ≡ true
+    → ((p : ℕ) → found ≡ Ok p → PutsValue old new k o id p v → Alone)
+    → Did old new (DoesAt found (λ p. DoesPut old.caller id p (bytes_of_value o v)) result)
+    → After old new (DoesAt found (λ p. DoesPut old.caller id p (bytes_of_value o v))) Cause (λ u. Alone) (StaysOutOf old new id found) Known (λ u. ⊤) result
+after_put_at old new k o id v found Cause Known Alone result out causes known kind has there d =
+    let bytes = bytes_of_value o v in
+    after_at old new id (λ p. DoesPut old.caller id p (bytes_of_value o v)) (λ u. Alone) (λ u. ⊤) found Cause Known result out causes (puts old.caller id bytes)
+    (record {
+      alone = λ p u e d alone. there p e (puts_value old new k o id p v u kind has d alone);
+      shut = λ p e d alone. put_shut old new id p bytes (Err e) (AreBytes-value o v) d alone;
+      kind = λ p u own d. tt;
+    }) known d

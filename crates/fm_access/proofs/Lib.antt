@@ -1,0 +1,15 @@
+pub mod Alone
+pub mod Causes
+pub mod Filling
+pub mod Getting
+pub mod Going
+pub mod Learning
+pub mod Learnt
+pub mod Numbers
+pub mod Outside
+pub mod Patching
+pub mod Putting
+pub mod Splicing
+pub mod Values
+pub mod Visits
+pub mod Within

@@ -1,0 +1,185 @@
+-- Values of a kind, from accesses to their bytes.
+use Rattle.std.proofs.Common.{◌≡◌, ℕ, ◌+◌, ◌*◌, ◌^◌, ◌<◌, ◌≤◌, true, Option, Some, None, Ok, List, [], length, take, drop, refl, sym, ap, subst, ◌∙◌, arith, length-append}
+use Rattle.std.proofs.lemmas.List.{length-reverse, reverse-reverse}
+use Rattle.std.proofs.lemmas.List.Elements.{All-append, All-nil}
+use Rattle.fm_base.specs.declared.caller.Caller.{Caller}
+use Rattle.fm_base.specs.declared.arena_id.ArenaId.{ArenaId}
+use Rattle.fm_base.specs.Arenas.{has_arena}
+use Rattle.fm_base.specs.Calls.{Entry}
+use Rattle.fm_base.specs.View.{View, Did, IsByItself}
+use Rattle.fm_base.specs.Visits.{Run, ends, goes_on, piece_width}
+use Rattle.fm_bytes.specs.Bytes.{AreBytes, bytes_of, number_of}
+use Rattle.fm_bytes.proofs.Bytes.{AreBytes-bytes_of, length-bytes_of, bytes_of-number_of, number_of-bytes_of, number_of-lt}
+use Rattle.fm_lanes.specs.declared.order.Order.{Order}
+use Rattle.fm_lanes.specs.declared.order.Order.TheVariants.{Little, Big}
+use Rattle.fm_lanes.specs.declared.value.Value.{Value}
+use Rattle.fm_lanes.specs.declared.value_kind.ValueKind.{ValueKind}
+use Rattle.fm_lanes.specs.declared.value_kind.ValueKind.TheVariants as kind
+use Rattle.fm_lanes.specs.Coding.{decoded, encoded, turned, lowest_first, value_of, bytes_of_value}
+use Rattle.fm_lanes.specs.Kind.{width_of}
+use Rattle.fm_lanes.specs.Value.{kind_of}
+use Rattle.fm_lanes.proofs.Meaning.{width_of-bounds}
+use Rattle.fm_lanes.proofs.Turning.{AreBytes-reverse, turned_number, bytes_of-turned_order}
+use Rattle.fm_access.specs.Alone.{bytes_of_arena, with_bytes}
+use Rattle.fm_access.specs.Ranges.{Reading, ReadsOn, EndsReading, ReadsRange, DoesGet, DoesPut}
+use Rattle.fm_access.specs.Values.{DoesGetValue, FindsValue, PutsValue, PutsThenGets}
+use Rattle.fm_access.proofs.Alone.{reads_alone, put_alone}
+use Rattle.fm_access.proofs.Splicing.{takes_put}
+use Rattle.fm_access.proofs.Within.{put_within}
+
+-- What was done, said otherwise.
+pub said : (old new : View) (P Q : List Entry → Type 0) → ((own : List Entry) → P own → Q own) → Did old new P → Did old new Q
+said old new P Q f d = record { own = d.own; does = f d.own d.does; makes = d.makes }
+
+-- ---- the bytes that were read
+
+-- bytes from the first place up to the end
+abbrev AreRead : ℕ → ℕ → Option (List ℕ) → Type 0
+AreRead first end (Some bytes) = AreBytes bytes × (first + length bytes ≡ end)
+AreRead first end None = Unit {0}
+
+ends_read : (c : Caller) (id : ArenaId) (first end : ℕ) (x : Reading) (own : List Entry) (answer : Option (List ℕ)) → EndsReading c id end x own answer
+    → AreBytes x.bytes → first + length x.bytes ≡ x.at → AreRead first end answer
+ends_read c id first end x own (Some bytes) e are n =
+    (subst (λ (bs : List ℕ). AreBytes bs) (sym e.1) are, ap (λ (bs : List ℕ). first + length bs) e.1 ∙ n ∙ e.0)
+ends_read c id first end x own None e are n = tt
+
+run_read : (c : Caller) (id : ArenaId) (first end : ℕ) (x : Reading) (own : List Entry) (answer : Option (List ℕ))
+    → Run (ReadsOn c id end) (EndsReading c id end) x own answer
+    → AreBytes x.bytes → first + length x.bytes ≡ x.at → AreRead first end answer
+run_read c id first end x own answer (ends e) are n = ends_read c id first end x own answer e are n
+run_read c id first end x own answer (goes_on y more rest s r) are n =
+    let width = piece_width x.at end in
+    let both : AreBytes y.bytes =
+    subst (λ (bs : List ℕ). AreBytes bs) (sym s.bytes) (All-append (λ b. b < 256) x.bytes (bytes_of width s.v) are (AreBytes-bytes_of width s.v)) in
+    let len : length y.bytes ≡ length x.bytes + width = ap length s.bytes ∙ length-append x.bytes (bytes_of width s.v) ∙ ap (λ n. length x.bytes + n) (length-bytes_of width s.v) in
+    run_read c id first end y rest answer r both (let at = s.at in omega arith)
+
+-- As many bytes are read as were asked for.
+pub bytes_read : (c : Caller) (id : ArenaId) (place width : ℕ) (own : List Entry) (bytes : List ℕ) → ReadsRange c id place (place + width) own (Some bytes)
+    → AreBytes bytes × (length bytes ≡ width)
+bytes_read c id place width own bytes r =
+    let all = run_read c id place (place + width) (record { at = place; bytes = [] }) own (Some bytes) r (All-nil (λ b. b < 256)) (omega arith) in
+    (all.0, let n = all.1 in omega arith)
+
+-- A number fits the bytes that it was got from.
+pub got_fits : (c : Caller) (id : ArenaId) (place width n : ℕ) (own : List Entry) → DoesGet c id place width (Ok n) own → n < 2 ^ (8 * width)
+got_fits c id place width n own d =
+    let r = d.1 in
+    let are = bytes_read c id place width own r.bytes r.visits in
+    subst (λ (m : ℕ). n < 2 ^ (8 * m)) are.1 (subst (λ (m : ℕ). m < 2 ^ (8 * length r.bytes)) (sym r.value) (number_of-lt r.bytes are.0))
+
+-- The bytes of the number that bytes make.
+bytes_of-number : (bytes : List ℕ) (width n : ℕ) → AreBytes bytes → length bytes ≡ width → n ≡ number_of bytes → bytes_of width n ≡ bytes
+bytes_of-number bytes width n are len e = ap (λ k. bytes_of k n) (sym len) ∙ ap (bytes_of (length bytes)) e ∙ bytes_of-number_of bytes are
+
+-- A number that is turned and decoded is the value of its bytes.
+value_of-number : (k : ValueKind) (o : Order) (bytes : List ℕ) (n : ℕ) → AreBytes bytes → length bytes ≡ width_of k → n ≡ number_of bytes
+    → decoded k (turned (width_of k) n o) ≡ value_of k o bytes
+value_of-number k o bytes n are len e =
+    let Small : ℕ → Type 0 = λ m. n < 2 ^ (8 * m) in
+    let below : n < 2 ^ (8 * length bytes) = rw e (number_of-lt bytes are) in
+    ap (decoded k) (turned_number (width_of k) n o (subst Small len below)
+    ∙ ap (λ bs. number_of (lowest_first o bs)) (bytes_of-number bytes (width_of k) n are len e))
+
+got : (c : Caller) (id : ArenaId) (place : ℕ) (k : ValueKind) (o : Order) (n : ℕ) (v : Value) (own : List Entry) → v ≡ decoded k (turned (width_of k) n o)
+    → DoesGet c id place (width_of k) (Ok n) own → DoesGetValue c k o id place (Ok v) own
+got c id place k o n v own e d =
+    let r = d.1 in
+    let are = bytes_read c id place (width_of k) own r.bytes r.visits in
+    (d.0, record { bytes = r.bytes; visits = r.visits; value = e ∙ value_of-number k o r.bytes n are.0 are.1 r.value })
+
+-- A number that was got, turned and decoded.
+pub got_value : (c : Caller) (id : ArenaId) (place width : ℕ) (k : ValueKind) (o : Order) (n m : ℕ) (v : Value) (own : List Entry)
+    → width ≡ width_of k → m ≡ turned width n o → v ≡ decoded k m
+    → DoesGet c id place width (Ok n) own → DoesGetValue c k o id place (Ok v) own
+got_value c id place width k o n m v own w t e d =
+    let P : ℕ → Type 0 = λ (j : ℕ). DoesGet c id place j (Ok n) own in
+    got c id place k o n v own (e ∙ ap (decoded k) (t ∙ ap (λ j. turned j n o) w)) (subst P w d)
+
+-- The bytes that a value is put as.
+pub put_bytes : (v : Value) (o : Order) (width n m : ℕ) → width ≡ width_of (kind_of v) → m ≡ encoded v → n ≡ turned width m o
+    → bytes_of width n ≡ bytes_of_value o v
+put_bytes v o width n m w e t =
+    ap (bytes_of width) (t ∙ ap (λ j. turned width j o) e) ∙ bytes_of-turned_order width (encoded v) o ∙ ap (λ j. lowest_first o (bytes_of j (encoded v))) w
+
+-- ---- the bytes of a value
+
+pub kind_of-decoded : (k : ValueKind) (n : ℕ) → kind_of (decoded k n) ≡ k
+kind_of-decoded kind.Byte n = refl
+kind_of-decoded kind.Boolean n = refl
+kind_of-decoded kind.Char n = refl
+kind_of-decoded kind.Short n = refl
+kind_of-decoded kind.Int n = refl
+kind_of-decoded kind.Long n = refl
+
+-- A value that was got is of the kind.
+pub got_kind : (c : Caller) (k : ValueKind) (o : Order) (id : ArenaId) (place : ℕ) (v : Value) (own : List Entry) → DoesGetValue c k o id place (Ok v) own
+    → kind_of v ≡ k
+got_kind c k o id place v own d = ap kind_of d.1.value ∙ kind_of-decoded k (number_of (lowest_first o d.1.bytes))
+
+AreBytes-lowest_first : (o : Order) (bytes : List ℕ) → AreBytes bytes → AreBytes (lowest_first o bytes)
+AreBytes-lowest_first Little bytes h = h
+AreBytes-lowest_first Big bytes h = AreBytes-reverse bytes h
+
+-- A value is put as bytes.
+pub AreBytes-value : (o : Order) (v : Value) → AreBytes (bytes_of_value o v)
+AreBytes-value o v = AreBytes-lowest_first o (bytes_of (width_of (kind_of v)) (encoded v)) (AreBytes-bytes_of (width_of (kind_of v)) (encoded v))
+
+-- They are as many as its kind is wide.
+pub length-value : (o : Order) (v : Value) → length (bytes_of_value o v) ≡ width_of (kind_of v)
+length-value Little v = length-bytes_of (width_of (kind_of v)) (encoded v)
+length-value Big v = length-reverse (bytes_of (width_of (kind_of v)) (encoded v)) ∙ length-bytes_of (width_of (kind_of v)) (encoded v)
+
+-- An order turned twice.
+pub lowest_twice : (o : Order) (bytes : List ℕ) → lowest_first o (lowest_first o bytes) ≡ bytes
+lowest_twice Little bytes = refl
+lowest_twice Big bytes = reverse-reverse bytes
+
+-- The bytes that a value is put as mean it.
+pub means_itself : (k : ValueKind) (o : Order) (v : Value) → k ≡ kind_of v → encoded v < 2 ^ (8 * width_of (kind_of v)) → decoded (kind_of v) (encoded v) ≡ v
+    → value_of k o (bytes_of_value o v) ≡ v
+means_itself k o v same small back =
+    let w = width_of (kind_of v) in
+    ap (λ j. value_of j o (bytes_of_value o v)) same
+    ∙ ap (λ bs. decoded (kind_of v) (number_of bs)) (lowest_twice o (bytes_of w (encoded v)))
+    ∙ ap (decoded (kind_of v)) (number_of-bytes_of w (encoded v) small)
+    ∙ back
+
+-- ---- of the only caller
+
+-- A value that it gets is that of the bytes that stand there.
+pub finds_value : (old new : View) (k : ValueKind) (o : Order) (id : ArenaId) (place : ℕ) (v : Value)
+    → Did old new (DoesGetValue old.caller k o id place (Ok v)) → IsByItself old → FindsValue old new k o id place v
+finds_value old new k o id place v d alone =
+    let read = d.does.1 in
+    let f = reads_alone old new id place (width_of k) read.bytes d.own alone read.visits d.makes in
+    record { value = read.value ∙ ap (value_of k o) f.are; same = f.same }
+
+-- A value that it puts stands there, and all else stays.
+pub puts_value : (old new : View) (k : ValueKind) (o : Order) (id : ArenaId) (place : ℕ) (v : Value) (u : Unit {0}) → kind_of v ≡ k
+    → has_arena old.state id ≡ true
+    → Did old new (DoesPut old.caller id place (bytes_of_value o v) (Ok u)) → IsByItself old → PutsValue old new k o id place v
+puts_value old new k o id place v u kind known d alone =
+    let width : length (bytes_of_value o v) ≡ width_of k = length-value o v ∙ ap width_of kind in
+    let some : 0 < length (bytes_of_value o v) = (let bounds = width_of-bounds k in let least = bounds.0 in omega arith) in
+    let within = put_within old new id place (bytes_of_value o v) u (AreBytes-value o v) d alone some in
+    record {
+      bytes = put_alone old new id place (bytes_of_value o v) (Ok u) (AreBytes-value o v) known d alone;
+      within = omega arith;
+    }
+
+-- What was put is got.
+pub puts_then_gets : (k : ValueKind) (o : Order) (id : ArenaId) (place : ℕ) (v : Value) → kind_of v ≡ k
+    → encoded v < 2 ^ (8 * width_of (kind_of v)) → decoded (kind_of v) (encoded v) ≡ v → PutsThenGets k o id place v
+puts_then_gets k o id place v kind small back old between new got put found =
+    let bytes = bytes_of_value o v in
+    let all = bytes_of_arena old.state id in
+    let width : length (bytes_of_value o v) ≡ width_of k = length-value o v ∙ ap width_of kind in
+    let within = put.within in
+    let room : place ≤ length (bytes_of_arena old.state id) = omega arith in
+    let read : take (width_of k) (drop place (bytes_of_arena between.state id)) ≡ bytes_of_value o v =
+    ap (λ bs. take (width_of k) (drop place bs)) put.bytes.changed
+    ∙ ap (λ n. take n (drop place (with_bytes all place bytes))) (sym width)
+    ∙ takes_put all place bytes room in
+    found.value ∙ ap (value_of k o) read ∙ means_itself k o v (sym kind) small back

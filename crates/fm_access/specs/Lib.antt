@@ -1,0 +1,6 @@
+pub mod Alone
+pub mod Found
+pub mod Learnt
+pub mod Pieces
+pub mod Ranges
+pub mod Values

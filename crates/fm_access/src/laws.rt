@@ -1,0 +1,16 @@
+ghost use Rattle.fm_access.specs.Alone.{GetsWhatWasPut, KeepsBytesElsewhere, KeepsLength};
+
+/// A number that was put among bytes is got from them, in as many bytes as were put.
+pub fn gets_what_was_put()
+    ensures { GetsWhatWasPut }
+{}
+
+/// Bytes that lie before or behind those that were put stay.
+pub fn keeps_bytes_elsewhere()
+    ensures { KeepsBytesElsewhere }
+{}
+
+/// There are as many bytes after bytes were put as before.
+pub fn keeps_length()
+    ensures { KeepsLength }
+{}

@@ -1,0 +1,269 @@
+-- Each access to a segment stays below its end, and so is tidy.
+use Rattle.std.proofs.Common.{◌≡◌, ℕ, ℤ, ◌+◌, ◌-◌, ◌*◌, ◌%◌, ◌^◌, ◌<◌, ◌≤◌, ◌==◌, ◌&&◌, Bool, true, false, if◌then◌else◌, nat_le, nat_lt, nat_eq, MatchBool, Option, Some, None, Result, Ok, Err, List, [], length, take, replicate, refl, sym, ap, subst, ◌∙◌, arith, length-drop}
+use Rattle.std.proofs.lemmas.Bool.{leb-true}
+use Rattle.std.proofs.lemmas.List.{length-take-le, length-reverse, length-replicate}
+use Rattle.std.proofs.lemmas.List.Elements.{All-take, All-drop, All-replicate}
+use Rattle.fm_base.specs.declared.caller.Caller.{Caller}
+use Rattle.fm_base.specs.declared.arena_id.ArenaId.{ArenaId}
+use Rattle.fm_base.specs.declared.refusal.Refusal.{Refusal}
+use Rattle.fm_base.specs.declared.refusal.Refusal.TheVariants.{Bounds, Misaligned, ReadOnly, Unsupported, WrongThread, Closed}
+use Rattle.fm_base.specs.Calls.{Entry}
+use Rattle.fm_base.specs.Visits.{Run, ends, goes_on, refused_visit, piece_width, first_width, last_width}
+use Rattle.fm_base.proofs.Faith.{Makes-alone}
+use Rattle.fm_bytes.specs.Bytes.{AreBytes, bytes_of, number_of}
+use Rattle.fm_bytes.proofs.Bytes.{number_of-lt, lane-lt, length-bytes_of, AreBytes-bytes_of}
+use Rattle.fm_lanes.specs.declared.order.Order.{Order}
+use Rattle.fm_lanes.specs.declared.order.Order.TheVariants.{Little, Big}
+use Rattle.fm_lanes.specs.declared.value.Value.{Value}
+use Rattle.fm_lanes.specs.Coding.{encoded, bytes_of_value}
+use Rattle.fm_lanes.specs.Kind.{width_of}
+use Rattle.fm_lanes.specs.Value.{kind_of}
+use Rattle.fm_layout.specs.Tree as tree
+use Rattle.fm_layout.specs.Tree.{Tree, alignment_of}
+use Rattle.fm_layout.specs.Size.{size_of}
+use Rattle.fm_access.proofs.Causes.{never}
+use Rattle.fm_access.proofs.Values.{AreBytes-value, length-value}
+use Rattle.fm_access.specs.Ranges.{Reading, ReadsOn, EndsReading, Putting, next_width, PutsOn, EndsPutting, DoesPut, DoesFill}
+use Rattle.fm_copies.specs.declared.side.Side.{Side}
+use Rattle.fm_copies.specs.declared.side.Piece.{Piece}
+use Rattle.fm_copies.specs.declared.side.Way.{Way}
+use Rattle.fm_copies.specs.declared.side.Way.TheVariants.{Up, Down}
+use Rattle.fm_copies.specs.Sides.{side, next_piece, StopsAt, first, second}
+use Rattle.fm_copies.specs.Copies.{CopiesPiece, CopiesOn, EndsCopy, DoesCopy}
+use Rattle.fm_copies.specs.Comparisons.{ComparesPiece, AgreesOn, EndsComparing, DoesCompare}
+use Rattle.fm_segment.specs.Access.{HasKind, DoesGetAt, DoesSetAt, writable_place_of, writable_place_at_index}
+use Rattle.fm_segment.specs.Comparisons.{DoesMismatch, common_size}
+use Rattle.fm_segment.specs.Copies.{checked_copy}
+use Rattle.fm_segment.specs.Fills.{DoesAfter, checked_write}
+use Rattle.fm_segment.specs.Region.{Region}
+use Rattle.fm_access_laws.specs.Accesses.{DoesAccess, gets, sets, sets_at_index, fills, copies, compares, AccessesAreTidy, LoneAccessesAreTidy}
+use Rattle.fm_access_laws.proofs.Staying.{StayBelow, stay_append, stay_reads, stay_puts, tidy_by, tidy_alone}
+
+-- No entry, and a visit that was refused.
+pub stay_none : (a : ArenaId) (end : ℕ) (own : List Entry) → own ≡ [] → StayBelow a end own
+stay_none a end own e = subst (λ (es : List Entry). StayBelow a end es) (sym e) tt
+
+pub stay_refused : (a : ArenaId) (end : ℕ) (c : Caller) (id : ArenaId) (own : List Entry) → own ≡ refused_visit c id → StayBelow a end own
+stay_refused a end c id own e = subst (λ (es : List Entry). StayBelow a end es) (sym e) (tt, tt)
+
+-- ---- reading
+
+module _ (a : ArenaId) (bound : ℕ) (c : Caller) where
+  read_end : (id : ArenaId) (end : ℕ) (x : Reading) (own : List Entry) (answer : Option (List ℕ)) → EndsReading c id end x own answer → StayBelow a bound own
+  read_end id end x own (Some bytes) e = stay_none a bound own e.2
+  read_end id end x own None e = stay_refused a bound c id own e.1
+
+  read_run : (id : ArenaId) (end : ℕ) (x : Reading) (own : List Entry) (answer : Option (List ℕ)) → Run (ReadsOn c id end) (EndsReading c id end) x own answer → StayBelow a bound own
+  read_run id end x own answer (ends e) = read_end id end x own answer e
+  read_run id end x own answer (goes_on y mine rest s r) =
+      stay_append a bound mine rest (stay_reads a bound c id x.at (piece_width x.at end) s.v mine s.piece) (read_run id end y rest answer r)
+
+  pub get_stays : (id : ArenaId) (t : Tree) (place : Result ℕ Refusal) (result : Result Value Refusal) (own : List Entry) → DoesGetAt c id t place result own → StayBelow a bound own
+  get_stays id t (Err e) result own d = stay_none a bound own d.1
+  get_stays id (tree.Value k o l) (Ok p) (Ok v) own d = read_run id (p + width_of k) (record { at = p; bytes = [] }) own (Some d.1.bytes) d.1.visits
+  get_stays id (tree.Value k o l) (Ok p) (Err WrongThread) own d = stay_none a bound own d.1
+  get_stays id (tree.Value k o l) (Ok p) (Err Closed) own d = read_run id (p + width_of k) (record { at = p; bytes = [] }) own None d.1
+  get_stays id (tree.Value k o l) (Ok p) (Err e) own d = absurd d
+  get_stays id t (Ok p) result own d = absurd d
+
+  -- ---- two sides
+
+  stop_stays : (x y : Side) (p : Piece) (own : List Entry) → StopsAt c x y p own → StayBelow a bound own
+  stop_stays x y p own first = (tt, tt)
+  stop_stays x y p own (second v mine r) =
+      stay_append a bound mine (refused_visit c y.arena) (stay_reads a bound c x.arena (x.at + p.offset) p.width v mine r) (tt, tt)
+
+  both_stay : (x y : Side) (p : Piece) (found : Option ℕ) (own : List Entry) → ComparesPiece c x y p found own → StayBelow a bound own
+  both_stay x y p found own d =
+      subst (λ (es : List Entry). StayBelow a bound es) (sym d.visits)
+      (stay_append a bound d.first d.second (stay_reads a bound c x.arena (x.at + p.offset) p.width d.v d.first d.reads_first)
+      (stay_reads a bound c y.arena (y.at + p.offset) p.width d.w d.second d.reads_second))
+
+  compare_end : (x y : Side) (count left : ℕ) (own : List Entry) (answer : Option (Option ℕ)) → EndsComparing c x y count left own answer → StayBelow a bound own
+  compare_end x y count left own (Some None) e = stay_none a bound own e.1
+  compare_end x y count left own (Some (Some offset)) e = both_stay x y (next_piece Up x y count left) (Some e.at) own e.piece
+  compare_end x y count left own None e = stop_stays x y (next_piece Up x y count left) own e.1
+
+  compare_run : (x y : Side) (count left : ℕ) (own : List Entry) (answer : Option (Option ℕ)) → Run (AgreesOn c x y count) (EndsComparing c x y count) left own answer → StayBelow a bound own
+  compare_run x y count left own answer (ends e) = compare_end x y count left own answer e
+  compare_run x y count left own answer (goes_on now mine rest s r) =
+      stay_append a bound mine rest (both_stay x y (next_piece Up x y count left) None mine s.piece) (compare_run x y count now rest answer r)
+
+  compare_stays : (x y : Side) (count : ℕ) (result : Result (Option ℕ) Refusal) (own : List Entry) → DoesCompare c x y count result own → StayBelow a bound own
+  compare_stays x y count (Ok found) own d = compare_run x y count count own (Some found) d.visits
+  compare_stays x y count (Err WrongThread) own d = stay_none a bound own d.1
+  compare_stays x y count (Err Closed) own d = compare_run x y count count own None d.visits
+  compare_stays x y count (Err e) own d = absurd d
+
+  mismatch_stays : (r other : Region) (result : Result ℤ Refusal) (own : List Entry) → DoesMismatch c r other result own → StayBelow a bound own
+  mismatch_stays r other (Ok z) own d = compare_stays (side r.arena r.first) (side other.arena other.first) (common_size r other) (Ok d.0) own d.1
+  mismatch_stays r other (Err e) own d = compare_stays (side r.arena r.first) (side other.arena other.first) (common_size r other) (Err e) own d
+
+-- ---- putting
+
+put_end : (c : Caller) (id : ArenaId) (bound : ℕ) (x : Putting) (own : List Entry) (done : Bool) → EndsPutting c id x own done → StayBelow id bound own
+put_end c id bound x own true e = stay_none id bound own e.1
+put_end c id bound x own false e = stay_refused id bound c id own e.1
+
+-- The number of the next bytes fits their width.
+next_fits : (bytes : List ℕ) (width : ℕ) → AreBytes bytes → width ≤ length bytes → number_of (take width bytes) < 2 ^ (8 * width)
+next_fits bytes width are h =
+    subst (λ (n : ℕ). number_of (take width bytes) < 2 ^ (8 * n)) (length-take-le width bytes h) (number_of-lt (take width bytes) (All-take (λ b. b < 256) width bytes are))
+
+put_run : (c : Caller) (id : ArenaId) (bound : ℕ) (x : Putting) (own : List Entry) (done : Bool) → Run (PutsOn c id) (EndsPutting c id) x own done
+    → AreBytes x.bytes → x.at + length x.bytes ≤ bound → StayBelow id bound own
+put_run c id bound x own done (ends e) are h = put_end c id bound x own done e
+put_run c id bound x own done (goes_on y mine rest s r) are h =
+    let fits : x.at % 8 + next_width x ≤ 8 = omega arith in
+    let within : next_width x ≤ length x.bytes = omega arith in
+    let left : length y.bytes ≡ length x.bytes - next_width x = ap length s.bytes ∙ length-drop (next_width x) x.bytes in
+    let at = s.at in
+    let still : AreBytes y.bytes = subst (λ (bs : List ℕ). AreBytes bs) (sym s.bytes) (All-drop (λ b. b < 256) (next_width x) x.bytes are) in
+    stay_append id bound mine rest
+    (stay_puts c id bound x.at (next_width x) (number_of (take (next_width x) x.bytes)) mine (next_fits x.bytes (next_width x) are within) fits (omega arith) s.piece)
+    (put_run c id bound y rest done r still (omega arith))
+
+pub put_stays : (c : Caller) (id : ArenaId) (bound place : ℕ) (bytes : List ℕ) (result : Result (Unit {0}) Refusal) (own : List Entry) → AreBytes bytes → place + length bytes ≤ bound
+    → DoesPut c id place bytes result own → StayBelow id bound own
+put_stays c id bound place bytes (Ok u) own are h d = put_run c id bound (record { at = place; bytes = bytes }) own true d.1 are h
+put_stays c id bound place bytes (Err WrongThread) own are h d = stay_none id bound own d.1
+put_stays c id bound place bytes (Err Closed) own are h d = put_run c id bound (record { at = place; bytes = bytes }) own false d.1 are h
+put_stays c id bound place bytes (Err e) own are h d = absurd d
+
+-- ---- a value
+
+set_stays : (c : Caller) (id : ArenaId) (bound : ℕ) (t : Tree) (found : Result ℕ Refusal) (v : Value) (result : Result (Unit {0}) Refusal) (own : List Entry)
+    → ((p : ℕ) → found ≡ Ok p → p + size_of t ≤ bound) → HasKind t (kind_of v) → DoesSetAt c id t found v result own → StayBelow id bound own
+set_stays c id bound t (Err e) v result own h k d = stay_none id bound own d.1
+set_stays c id bound (tree.Value kind o l) (Ok p) v result own h k d =
+    let same : width_of (kind_of v) ≡ width_of kind = ap width_of k in
+    let len : length (bytes_of_value o v) ≡ width_of (kind_of v) = length-value o v in
+    let within : p + width_of kind ≤ bound = h p refl in
+    put_stays c id bound p (bytes_of_value o v) result own (AreBytes-value o v) (omega arith) d
+set_stays c id bound t (Ok p) v result own h k d = absurd d
+
+module _ (offset : ℕ) (t : Tree) (r : Region) (p : ℕ) where
+  place_on : (kept fits even : Bool) → nat_le (offset + size_of t) r.size ≡ fits
+      → (if kept then Err ReadOnly else (if fits then (if even then Ok (r.first + offset) else Err Misaligned) else Err Bounds)) ≡ Ok p
+      → p + size_of t ≤ r.first + r.size
+  place_on true fits even f h = never p ReadOnly (sym h)
+  place_on false false even f h = never p Bounds (sym h)
+  place_on false true false f h = never p Misaligned (sym h)
+  place_on false true true f h =
+      let at : r.first + offset ≡ p = cc in
+      let within = leb-true (offset + size_of t) r.size f in
+      omega arith
+
+  -- A value that may be put ends in the segment.
+  value_ends : writable_place_of offset t r ≡ Ok p → p + size_of t ≤ r.first + r.size
+  value_ends h = place_on r.read_only (nat_le (offset + size_of t) r.size) (nat_eq ((r.first + offset) % alignment_of t) 0) refl h
+
+element_on : (tiles : Bool) (found : Result ℕ Refusal) (p : ℕ) → (if tiles then found else Err Unsupported) ≡ Ok p → found ≡ Ok p
+element_on true found p h = h
+element_on false found p h = never p Unsupported (sym h)
+
+-- ---- a fill
+
+fill_on : (c : Caller) (r : Region) (byte : ℕ) (none : Bool) (result : Result (Unit {0}) Refusal) (own : List Entry) → byte < 256
+    → MatchBool none ((result ≡ Ok tt) × (own ≡ [])) (DoesPut c r.arena r.first (replicate r.size byte) result own) → StayBelow r.arena (r.first + r.size) own
+fill_on c r byte true result own b d = stay_none r.arena (r.first + r.size) own d.1
+fill_on c r byte false result own b d =
+    let len : length (replicate r.size byte) ≡ r.size = length-replicate r.size byte in
+    put_stays c r.arena (r.first + r.size) r.first (replicate r.size byte) result own (All-replicate (λ n. n < 256) r.size byte b) (omega arith) d
+
+fill_stays : (c : Caller) (r : Region) (byte : ℕ) (checked : Result (Unit {0}) Refusal) (result : Result (Unit {0}) Refusal) (own : List Entry) → byte < 256
+    → DoesAfter checked (DoesFill c r.arena r.first r.size byte) result own → StayBelow r.arena (r.first + r.size) own
+fill_stays c r byte (Err e) result own b d = stay_none r.arena (r.first + r.size) own d.1
+fill_stays c r byte (Ok u) result own b d = fill_on c r byte (r.size == 0) result own b d
+
+-- ---- a copy
+
+-- the piece lies in one word of the target, inside the range
+record IsInside (b : Side) (count : ℕ) (p : Piece) : Type 0 where
+  fits : (b.at + p.offset) % 8 + p.width ≤ 8
+  ends_by : p.offset + p.width ≤ count
+
+last_fits : (at left width : ℕ) → 1 ≤ width → width ≤ left → width ≤ (at + left - 1) % 8 + 1 → (at + (left - width)) % 8 + width ≤ 8
+last_fits at left width s h k = omega arith
+
+piece_inside : (way : Way) (a b : Side) (count left : ℕ) → 0 < left → left ≤ count → IsInside b count (next_piece way a b count left)
+piece_inside Up a b count left s h = record {
+  fits = (let w : first_width (a.at + (count - left)) (b.at + (count - left)) left ≤ 8 - (b.at + (count - left)) % 8 = omega arith in omega arith);
+  ends_by = (let w : first_width (a.at + (count - left)) (b.at + (count - left)) left ≤ left = omega arith in omega arith);
+}
+piece_inside Down a b count left s h =
+    let within : last_width a.at b.at left ≤ left = omega arith in
+    let some : 1 ≤ last_width a.at b.at left = omega arith in
+    let word : last_width a.at b.at left ≤ (b.at + left - 1) % 8 + 1 = omega arith in
+    record {
+      fits = last_fits b.at left (last_width a.at b.at left) some within word;
+      ends_by = omega arith;
+    }
+
+copied_stays : (c : Caller) (a b : Side) (bound : ℕ) (p : Piece) (count : ℕ) (own : List Entry) → b.at + count ≤ bound → IsInside b count p → CopiesPiece c a b p own → StayBelow b.arena bound own
+copied_stays c a b bound p count own h i d =
+    let small : d.v < 2 ^ (8 * p.width) = subst (λ (n : ℕ). n < 2 ^ (8 * p.width)) (sym d.reads.value) (lane-lt d.reads.word ((a.at + p.offset) % 8) p.width) in
+    let inside = i.ends_by in
+    subst (λ (es : List Entry). StayBelow b.arena bound es) (sym d.visits)
+    (stay_append b.arena bound d.reading d.putting (stay_reads b.arena bound c a.arena (a.at + p.offset) p.width d.v d.reading d.reads)
+    (stay_puts c b.arena bound (b.at + p.offset) p.width d.v d.putting small i.fits (omega arith) d.puts))
+
+module _ (c : Caller) (a b : Side) (bound count : ℕ) (way : Way) (h : b.at + count ≤ bound) where
+  copy_end : (left : ℕ) (own : List Entry) (whole : Bool) → EndsCopy c a b count way left own whole → StayBelow b.arena bound own
+  copy_end left own true e = stay_none b.arena bound own e.1
+  copy_end left own false e = stop_stays b.arena bound c a b (next_piece way a b count left) own e.1
+
+  copy_run : (left : ℕ) (own : List Entry) (whole : Bool) → left ≤ count → Run (CopiesOn c a b count way) (EndsCopy c a b count way) left own whole → StayBelow b.arena bound own
+  copy_run left own whole l (ends e) = copy_end left own whole e
+  copy_run left own whole l (goes_on now mine rest s r) =
+      let after = s.then in
+      stay_append b.arena bound mine rest
+      (copied_stays c a b bound (next_piece way a b count left) count mine h (piece_inside way a b count left s.more l) s.piece)
+      (copy_run now rest whole (omega arith) r)
+
+copies_stay : (c : Caller) (a b : Side) (bound count : ℕ) (result : Result (Unit {0}) Refusal) (own : List Entry) → b.at + count ≤ bound → DoesCopy c a b count result own → StayBelow b.arena bound own
+copies_stay c a b bound count (Ok u) own h d = copy_run c a b bound count d.way h count own true (omega arith) d.visits
+copies_stay c a b bound count (Err WrongThread) own h d = stay_none b.arena bound own d.1
+copies_stay c a b bound count (Err Closed) own h d = copy_run c a b bound count d.way h count own false (omega arith) d.visits
+copies_stay c a b bound count (Err e) own h d = absurd d
+
+abbrev done : Result (Unit {0}) Refusal
+done = Ok tt
+
+target_on : (kept source target : Bool) (end size : ℕ) → nat_le end size ≡ target → (if kept then Err ReadOnly else (if source && target then Ok tt else Err Bounds)) ≡ done → end ≤ size
+target_on true source target end size e h = absurd (let no : ⊥ = cc in no)
+target_on false false target end size e h = absurd (let no : ⊥ = cc in no)
+target_on false true false end size e h = absurd (let no : ⊥ = cc in no)
+target_on false true true end size e h = leb-true end size e
+
+copy_stays : (c : Caller) (src : Region) (src_at : ℕ) (r : Region) (dst_at n : ℕ) (checked : Result (Unit {0}) Refusal) (result : Result (Unit {0}) Refusal) (own : List Entry)
+    → checked_copy src src_at r dst_at n ≡ checked
+    → DoesAfter checked (DoesCopy c (side src.arena (src.first + src_at)) (side r.arena (r.first + dst_at)) n) result own → StayBelow r.arena (r.first + r.size) own
+copy_stays c src src_at r dst_at n (Err e) result own h d = stay_none r.arena (r.first + r.size) own d.1
+copy_stays c src src_at r dst_at n (Ok u) result own h d =
+    let within : dst_at + n ≤ r.size = target_on (nat_lt 0 n && r.read_only) (nat_le (src_at + n) src.size) (nat_le (dst_at + n) r.size) (dst_at + n) r.size refl h in
+    copies_stay c (side src.arena (src.first + src_at)) (side r.arena (r.first + dst_at)) (r.first + r.size) n result own (omega arith) d
+
+-- ---- every access
+
+access_stays : (c : Caller) (r : Region) (own : List Entry) → DoesAccess c r own → StayBelow r.arena (r.first + r.size) own
+access_stays c r own (gets t place result d) = get_stays r.arena (r.first + r.size) c r.arena t place result own d
+access_stays c r own (sets t offset v result k d) =
+    set_stays c r.arena (r.first + r.size) t (writable_place_of offset t r) v result own (λ p h. value_ends offset t r p h) k d
+access_stays c r own (sets_at_index t index v result k d) =
+    set_stays c r.arena (r.first + r.size) t (writable_place_at_index index t r) v result own
+    (λ p h. value_ends (index * size_of t) t r p (element_on (nat_le (alignment_of t) (size_of t)) (writable_place_of (index * size_of t) t r) p h)) k d
+access_stays c r own (fills byte result b d) = fill_stays c r byte (checked_write r.size r) result own b d
+access_stays c r own (copies src src_at dst_at n result d) = copy_stays c src src_at r dst_at n (checked_copy src src_at r dst_at n) result own refl d
+access_stays c r own (compares other result d) = mismatch_stays r.arena (r.first + r.size) c r other result own d
+
+pub tidy : AccessesAreTidy
+tidy old new r own makes known access =
+    let below : StayBelow r.arena (r.first + r.size) own = access_stays old.caller r own access in
+    tidy_by old.caller old.limit (r.first + r.size) r.arena old.state makes.all makes.legal known.given
+    (subst (λ (es : List Entry). StayBelow r.arena (r.first + r.size) es) (sym makes.by_caller) below)
+
+pub alone_tidy : LoneAccessesAreTidy
+alone_tidy old new r own makes alone known access =
+    let legal = (Makes-alone old new own alone makes).0 in
+    tidy_alone old.limit (r.first + r.size) r.arena old.state own legal known.given (access_stays old.caller r own access)

@@ -1,0 +1,43 @@
+-- Words that are only added to.
+use Rattle.std.specs.Prelude.{◌≡◌, ℕ, ◌+◌, ◌%◌, ◌^◌, ◌<◌, ◌==◌, ◌&&◌, if◌then◌else◌, List, [], ◌∷◌, ⊤}
+use Rattle.std.specs.List.{AllByRecursion}
+use Rattle.fm_lists.specs.Among.{IsAmong, AreApart}
+use Rattle.fm_base.specs.declared.caller.Caller.{Caller}
+use Rattle.fm_base.specs.declared.arena_id.ArenaId.{ArenaId}
+use Rattle.fm_base.specs.Arenas.{State, same_id, word_in}
+use Rattle.fm_base.specs.Calls.{Call, Write, SwapIf, Add, Entry}
+use Rattle.fm_base.specs.Histories.{IsLegal, state_after, made_by}
+
+-- what the call adds to the word
+abbrev pub adds_to : ArenaId → ℕ → Call → ℕ
+adds_to id word (Add a w n) = if same_id a id && w == word then n else 0
+adds_to id word call = 0
+
+abbrev pub all_added : ArenaId → ℕ → List Entry → ℕ
+all_added id word [] = 0
+all_added id word (e ∷ es) = adds_to id word e.call + all_added id word es
+
+-- the call leaves the word, or adds to it
+abbrev pub OnlyAdds : ArenaId → ℕ → Call → Type 0
+OnlyAdds id word (Write a w v) = ¬ ((a ≡ id) × (w ≡ word))
+OnlyAdds id word (SwapIf a w old new) = ¬ ((a ≡ id) × (w ≡ word))
+OnlyAdds id word call = ⊤
+
+-- a word that is only added to grows by what was added, wrapping at 2^64
+abbrev pub AddsCount : Type 0
+AddsCount =
+    (limit : ℕ) (s : State) (es : List Entry) (id : ArenaId) (word : ℕ) → IsLegal limit s es
+    → word_in s id word < 2 ^ 64 → AllByRecursion (λ e. OnlyAdds id word e.call) es
+    → word_in (state_after limit s es) id word ≡ (word_in s id word + all_added id word es) % 2 ^ 64
+
+-- the sum of what f is of each
+abbrev pub total : (Caller → ℕ) → List Caller → ℕ
+total f [] = 0
+total f (c ∷ cs) = f c + total f cs
+
+-- what was added is the sum of what each of the callers added
+abbrev pub AddsByCallers : Type 0
+AddsByCallers =
+    (id : ArenaId) (word : ℕ) (es : List Entry) (cs : List Caller) → AreApart cs
+    → AllByRecursion (λ e. IsAmong e.caller cs) es
+    → all_added id word es ≡ total (λ c. all_added id word (made_by c es)) cs

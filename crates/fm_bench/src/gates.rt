@@ -1,0 +1,151 @@
+ghost use Rattle.std.specs.Prelude.{◌≡◌, ◌*◌, ◌<◌, ◌≤◌, length, IfOk};
+ghost use Rattle.fm_pool_facts.specs.Views.{span};
+ghost use Rattle.fm_calls.specs.Kept.{Lasts};
+ghost use Rattle.fm_gate.specs.Standing.{CanVisit, IsOutside};
+ghost use Rattle.fm_bench.specs.Ready.{AreOpen};
+
+use fm_base::{ArenaId, Kind, Refusal};
+use fm_close::close;
+use fm_gate::{enter, leave, load, open_arena, store};
+use fm_rule::{Pass, Pool};
+use fm_words::Shape;
+use std::alloc::Global;
+use std::sync::Wait;
+
+/// The words of the arena that is visited, or of all arenas together.
+const WORDS: u64 = 8_192;
+
+/// The slots of a pool with many arenas.
+const SLOTS: u32 = 64;
+
+/// The words of each of these.
+const SHARE: u64 = 128;
+
+/// Visits words of an arena of a pool, so often, and answers them joined by exclusive or; what was found says which is
+/// next.
+///
+/// Each visit enters the arena, loads one word and leaves. Word w holds w times `count`, wrapping.
+pub fn gates<R: Wait>(rt: &R, alloc: Global, count: u64) -> Result<u64, Refusal> {
+    let (pool, mut pass) = made(alloc, 1, 8_192)?;
+    let arena = open_arena(rt, &pool, &mut pass, Kind::Shared)?;
+    for word in 0..WORDS {
+        put(&pool, &mut pass, arena, word, word.wrapping_mul(count))?;
+    }
+    let mut joined: u64 = 0;
+    for turn in 0..count {
+        joined ^= visit(&pool, &mut pass, arena, joined.wrapping_add(turn) % WORDS)?;
+    }
+    Ok(joined)
+}
+
+/// The same of 64 arenas, whose words follow one another: what was found says which arena is next, too.
+pub fn hops<R: Wait>(rt: &R, alloc: Global, count: u64) -> Result<u64, Refusal> {
+    let (pool, mut pass) = made(alloc, SLOTS, 128)?;
+    let arenas = opened(rt, alloc, &pool, &mut pass, count)?;
+    let mut joined: u64 = 0;
+    for turn in 0..count {
+        joined ^= hop(&pool, &mut pass, &arenas, joined.wrapping_add(turn) % WORDS)?;
+    }
+    Ok(joined)
+}
+
+/// Opens and closes arenas in pools of 16 passes, so many pools of 64 arenas, and answers how many were closed.
+pub fn closes<R: Wait>(rt: &R, alloc: Global, pools: u64) -> Result<u64, Refusal> {
+    let mut closed: u64 = 0;
+    for _ in 0..pools {
+        let (pool, mut pass) = made(alloc, SLOTS, 1)?;
+        for _ in 0..SLOTS {
+            let arena = open_arena(rt, &pool, &mut pass, Kind::Shared)?;
+            close(rt, &pool, &mut pass, arena)?;
+            closed = closed.wrapping_add(1);
+        }
+    }
+    Ok(closed)
+}
+
+/// A pool of 16 passes, whose arenas have so many words.
+fn made(alloc: Global, slots: u32, words: u32) -> Result<(Pool, Pass), Refusal>
+    requires some { 0 < slots }
+    requires slots { slots ≤ 64 }
+    requires word { 0 < words }
+    requires words { words ≤ 8192 }
+    ensures outside { IfOk result (λ r. IsOutside r.0 r.1) }
+    ensures wide { IfOk result (λ r. span r.0.shape ≡ words) }
+{
+    let shape = Shape {
+        passes: 16,
+        slots,
+        pages: slots,
+        page_words: words,
+        reach: 1,
+        generations: 1,
+    };
+    Pool::make(alloc, shape)
+}
+
+/// Arenas in all slots. Word w of all of them holds w times a number, wrapping.
+fn opened<R: Wait>(
+    rt: &R,
+    alloc: Global,
+    pool: &Pool,
+    pass: &mut Pass,
+    times: u64,
+) -> Result<Vec<ArenaId>, Refusal>
+    requires outside { IsOutside pool.now pass.old }
+    requires wide { span pool.now.shape ≡ 128 }
+    ensures arenas { IfOk result (λ arenas. AreOpen pool.now pass.new arenas.items 128) }
+    ensures many { IfOk result (λ arenas. length arenas.items ≡ 64) }
+{
+    let mut arenas: Vec<ArenaId> = Vec::new(alloc);
+    for slot in 0..u64::from(SLOTS) {
+        let arena = open_arena(rt, pool, pass, Kind::Shared)?;
+        for word in 0..SHARE {
+            put(
+                pool,
+                pass,
+                arena,
+                word,
+                (SHARE * slot + word).wrapping_mul(times),
+            )?;
+        }
+        if arenas.push(arena).is_err() {
+            return Err(Refusal::Memory);
+        }
+    }
+    Ok(arenas)
+}
+
+/// Loads a word of the arenas in a visit of its own.
+fn hop(pool: &Pool, pass: &mut Pass, arenas: &[ArenaId], word: u64) -> Result<u64, Refusal>
+    requires ready { AreOpen pool.now pass.old arenas.now 128 }
+    requires within { word < length arenas.now * 128 }
+    ensures { AreOpen pool.now pass.new arenas.now 128 }
+{
+    visit(pool, pass, arenas[(word / SHARE) as usize], word % SHARE)
+}
+
+/// Loads a word in a visit of its own.
+fn visit(pool: &Pool, pass: &mut Pass, arena: ArenaId, word: u64) -> Result<u64, Refusal>
+    requires ready { CanVisit pool.now pass.old arena }
+    requires within { word < span pool.now.shape }
+    ensures outside { IsOutside pool.now pass.new }
+    ensures lasts { Lasts pass.old pass.new }
+{
+    enter(pool, pass, arena)?;
+    let found = load(pool, pass, word);
+    leave(pool, pass);
+    Ok(found)
+}
+
+/// Stores a word in a visit of its own.
+fn put(pool: &Pool, pass: &mut Pass, arena: ArenaId, word: u64, v: u64) -> Result<(), Refusal>
+    requires ready { CanVisit pool.now pass.old arena }
+    requires within { word < span pool.now.shape }
+    ensures outside { IsOutside pool.now pass.new }
+    ensures lasts { Lasts pass.old pass.new }
+{
+    enter(pool, pass, arena)?;
+    store(pool, pass, word, v);
+    leave(pool, pass);
+    Ok(())
+}

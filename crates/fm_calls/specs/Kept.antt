@@ -1,0 +1,72 @@
+-- How a pass goes on by the entries of one of its calls.
+use Rattle.std.specs.Prelude.{◌≡◌, true, List, [], ◌∷◌, ◌++◌, All, ℕ}
+use Rattle.fm_base.specs.declared.arena_id.ArenaId.{ArenaId}
+use Rattle.fm_base.specs.Calls.{Call, Open, Entry}
+use Rattle.fm_base.specs.Histories.{made_by}
+use Rattle.fm_base.specs.Finds.{Close, Rest, FindsMore}
+use Rattle.fm_base.specs.View.{inside_after}
+use Rattle.fm_words.specs.declared.shape.Shape.{Shape}
+use Rattle.fm_pool_facts.specs.declared.slot.Slot.{Slot}
+use Rattle.fm_pool_facts.specs.Views.{View, IsKnown, IsSound}
+use Rattle.fm_pool_facts.specs.Steps.{but_first}
+
+-- the slots in hand: an arena is opened in the first one
+abbrev pub hand_next : List Slot → Call → List Slot
+hand_next hand (Open id) = but_first hand
+hand_next hand call = hand
+
+-- the slots in hand after its own entries
+abbrev pub hand_after : List Slot → List Entry → List Slot
+hand_after hand [] = hand
+hand_after hand (e ∷ es) = hand_after (hand_next hand e.call) es
+
+-- The pass goes on by entries, of which these are its own, wholly after all that it had seen
+pub record Goes (old new : View) (own : List Entry) : Type 0 where
+  -- the entries, those of others too
+  pub more : List Entry
+  pub seen : new.seen ≡ old.seen ++ more
+  pub by_pass : made_by old.caller more ≡ own
+  -- no gathered caller made one of them, and where the pass is known to be whole nobody else did
+  pub apart : All (λ g. made_by g.caller more ≡ []) old.gathered
+  pub alone : old.whole ≡ true → more ≡ own
+  pub inside : new.inside ≡ inside_after old.inside own
+  pub hand : new.hand ≡ hand_after old.hand own
+  pub finds : FindsMore old.finds new.finds
+  pub same_shape : new.shape ≡ old.shape
+  pub same_home : new.home ≡ old.home
+  pub same_caller : new.caller ≡ old.caller
+  pub same_gathered : new.gathered ≡ old.gathered
+  pub same_whole : new.whole ≡ old.whole
+  pub same_drawn : new.drawn ≡ old.drawn
+  pub sound : IsSound new
+
+abbrev pub shape_numbers : Shape → List ℕ
+shape_numbers z = z.passes ∷ z.slots ∷ z.pages ∷ z.page_words ∷ z.reach ∷ z.generations ∷ []
+
+-- what a pass has, and what was gathered into it; until slots come back none was taken to be given back
+abbrev pub rest_of : View → Rest
+rest_of p = record {
+  home = shape_numbers p.shape ++ p.home;
+  holds = p.holds;
+  handles = p.handles;
+  closes = p.closes;
+  pages = p.pages;
+  slots = [];
+  gathered = p.gathered;
+  whole = p.whole;
+}
+
+-- The pass keeps faith with own entries that are as P says, and has what it had, but for these closes
+pub record KeptBut (old new : View) (closes : List Close) (P : List Entry → Type 0) : Type 0 where
+  pub own : List Entry
+  pub does : P own
+  pub goes : Goes old new own
+  pub rest : rest_of new ≡ record (rest_of old) { closes = closes }
+
+-- the same, and it has all that it had
+abbrev pub Kept : View → View → (List Entry → Type 0) → Type 0
+Kept old new P = KeptBut old new old.closes P
+
+-- what was known is known
+abbrev pub Lasts : View → View → Type 0
+Lasts old new = (id : ArenaId) → IsKnown old id → IsKnown new id

@@ -1,0 +1,4 @@
+pub mod Closes
+pub mod Shuts
+pub mod Looks
+pub mod Walks

@@ -1,0 +1,183 @@
+-- One visit of a mark.
+use Rattle.std.proofs.Common.{◌≡◌, ◌≢◌, ℕ, ◌+◌, ◌<◌, ◌==◌, true, false, List, [], ◌∷◌, ◌++◌, length, refl, ap, sym, ◌∙◌, subst, Some, None, arith, eq-eqb, inl}
+use Rattle.std.proofs.lemmas.Bool.Decides.{nat_tests}
+use Rattle.std.proofs.lemmas.List.Elements.{All-nil, All-cons}
+use Rattle.fm_base.specs.declared.arena_id.ArenaId.{ArenaId}
+use Rattle.fm_base.specs.Calls.{End, Fine, Entry, entry_of}
+use Rattle.fm_base.specs.Finds.{Visits, is_draw}
+use Rattle.fm_base.proofs.Outcomes.{closed_ended}
+use Rattle.fm_words.specs.Marks.{mark_word}
+use Rattle.fm_pool_facts.specs.Views.{View}
+use Rattle.fm_pool_facts.specs.Words.{mark_of, own_word}
+use Rattle.fm_pool_facts.specs.Closes as closes
+use Rattle.fm_pool_facts.specs.Closes.{visit_by, visit_found, closes_after, visit_entries, visited_of, visited}
+use Rattle.fm_pool_facts.specs.Steps.{Stepped, note_of, pass_of}
+use Rattle.fm_rule.specs.declared.pool.Pool.{Pool}
+use Rattle.fm_calls.specs.Kept.{Goes}
+use Rattle.fm_calls.specs.Told.{silent_view}
+use Rattle.fm_calls.proofs.Going.{goes_of, made_by-one, NoDraws, rest_is, inside_is, mark_is, closes_is, known_on}
+use Rattle.fm_calls.proofs.Telling.{silent_makes}
+use Rattle.fm_gate.specs.Standing.{IsOutside}
+use Rattle.fm_gate.proofs.Standing.{stands_outside}
+use Rattle.fm_close.specs.declared.shutting.Shutting.{Shutting}
+use Rattle.fm_close.specs.declared.outcome.Visit.TheVariants.{Next, Inside, Ended}
+use Rattle.fm_close.specs.Does.{visit_answer}
+use Rattle.fm_close.specs.Learnt.{CanWalk, Looked, HasEnded, AfterVisit}
+use Rattle.fm_close.proofs.Closes.{visited_of-visited}
+
+-- No arena has the mark 0.
+mark_of-positive : (a : ArenaId) → 0 < mark_of a
+unfolding mark_of mark_word
+mark_of-positive a = grind (arith, nat_tests)
+
+-- What a visit notes is no draw.
+no_draw : (p : View) (a : ArenaId) (k found : ℕ) → NoDraws (note_of (Visits a (pass_of k)) found p)
+no_draw p a k found n = All-cons (λ f. is_draw f.step ≡ false) _ [] refl (All-nil (λ f. is_draw f.step ≡ false))
+
+module _ {pool : Pool} {p q : View} {s : Shutting} (found : ℕ) (can : CanWalk pool p s) (own : s.next ≡ p.caller.number → found ≡ own_word p.mark)
+    (step : Stepped p q (record p { closes = closes_after s.arena (visit_found p.shape s.arena s.next found) p.closes })
+    (visit_entries s.arena (visit_found p.shape s.arena s.next found) p.caller) (note_of (Visits s.arena (pass_of s.next)) found p)) where
+  step_as : (v : closes.Visit) → visit_found p.shape s.arena s.next found ≡ v
+      → Stepped p q (record p { closes = closes_after s.arena v p.closes }) (visit_entries s.arena v p.caller) (note_of (Visits s.arena
+      (pass_of s.next)) found p)
+  step_as v e = subst (λ (x : closes.Visit). Stepped p q
+      (record p { closes = closes_after s.arena x p.closes }) (visit_entries s.arena x p.caller) (note_of (Visits s.arena (pass_of s.next)) found p)) e step
+
+  -- The mark was loaded once, and it is the one noted.
+  looked : Looked p q s
+  looked = record {
+    find = record {
+      step = Visits s.arena (pass_of s.next);
+      found = found;
+      seen = length (p.seen ++ step.others);
+      clear = _;
+      drew = None;
+    };
+    step = refl;
+    grown = ap (λ (x : View). x.finds) step.is_part;
+  }
+
+  goes_as : (v : closes.Visit) → visit_found p.shape s.arena s.next found ≡ v → Goes p q (visit_entries s.arena v p.caller)
+  goes_as closes.Inside e = goes_of (step_as closes.Inside e) (record {
+    shape = refl;
+    home = refl;
+    caller = refl;
+    gathered = refl;
+    whole = refl;
+    drawn = refl;
+    inside = refl;
+    hand = refl;
+  }) refl (no_draw p s.arena s.next found)
+  goes_as closes.Next e = goes_of (step_as closes.Next e) (record {
+    shape = refl;
+    home = refl;
+    caller = refl;
+    gathered = refl;
+    whole = refl;
+    drawn = refl;
+    inside = refl;
+    hand = refl;
+  }) refl (no_draw p s.arena s.next found)
+  goes_as closes.Ended e = goes_of (step_as closes.Ended e) (record {
+    shape = refl;
+    home = refl;
+    caller = refl;
+    gathered = refl;
+    whole = refl;
+    drawn = refl;
+    inside = refl;
+    hand = refl;
+  })
+      (made_by-one p.caller (End s.arena) Fine) (no_draw p s.arena s.next found)
+
+  -- The arena has a slot of the pool.
+  pub slot_low : s.arena.slot < 64
+  slot_low =
+      let f = step.sound.fits s.arena (known_on (goes_as (visit_found p.shape s.arena s.next found) refl) s.arena can.walks.known) in
+      let l = f.slot in
+      let m = step.sound.valid.slots.1 in
+      omega arith
+
+  outside_by : {es : List Entry} → Goes p q es → IsOutside pool q
+  outside_by g = stands_outside g can.outside.of can.outside.no_number (inside_is step ∙ can.outside.outside) (mark_is step ∙ can.outside.unmarked)
+
+  -- What is learnt where the mark names the arena.
+  pub after_inside : found ≡ mark_of s.arena → AfterVisit pool p q s s (Inside s.next)
+  unfolding looked
+  after_inside f =
+      let names : (found == mark_of s.arena) ≡ true = eq-eqb found (mark_of s.arena) f in
+      let e : visit_found p.shape s.arena s.next found ≡ closes.Inside = ap (λ b. visit_by b (s.next + 1 == p.shape.passes)) names in
+      let t = step_as closes.Inside e in
+      let g = goes_as closes.Inside e in
+      record {
+        did = record { own = []; does = refl; goes = g; rest = rest_is t };
+        looked = looked;
+        answer = sym (ap (λ b. visit_answer s.next b (s.next + 1 == p.shape.passes)) names);
+        close = refl;
+        stands = (
+          record {
+            unfinished = can.walks.unfinished;
+            known = known_on g s.arena can.walks.known;
+            at = ap (λ cs. visited_of cs s.arena) (closes_is t) ∙ can.walks.at;
+            low = rw g.same_shape can.walks.low;
+          },
+          λ mine.
+              let zero : found ≡ 0 = own (mine ∙ ap (λ c. c.number) g.same_caller) ∙ ap own_word can.outside.unmarked in
+              let positive = mark_of-positive s.arena in
+              omega arith,
+        );
+        outside = outside_by g;
+        lasts = known_on g;
+      }
+
+  module _ (other : found ≢ mark_of s.arena) where
+    names_not : (found == mark_of s.arena) ≡ false
+    names_not = grind (arith, nat_tests)
+
+    -- What is learnt where it doesn't, and isn't the last one.
+    pub after_next : s.next + 1 ≢ p.shape.passes → AfterVisit pool p q s (record s { next = s.next + 1 }) Next
+    unfolding looked
+    after_next more =
+        let last : (s.next + 1 == p.shape.passes) ≡ false = grind (arith, nat_tests) in
+        let e : visit_found p.shape s.arena s.next found ≡ closes.Next = ap (λ b. visit_by b (s.next + 1 == p.shape.passes)) names_not
+        ∙ ap (visit_by false) last in
+        let t = step_as closes.Next e in
+        let g = goes_as closes.Next e in
+        let z = g.same_shape in
+        let at : visited_of q.closes s.arena ≡ Some (s.next + 1) = ap (λ cs. visited_of cs s.arena) (closes_is t)
+        ∙ visited_of-visited p.closes s.arena s.next can.walks.at in
+        record {
+          did = record { own = []; does = refl; goes = g; rest = rest_is t };
+          looked = looked;
+          answer = sym (ap (λ b. visit_answer s.next b (s.next + 1 == p.shape.passes)) names_not ∙ ap (visit_answer s.next false) last);
+          close = refl;
+          stands = record {
+            unfinished = can.walks.unfinished;
+            known = known_on g s.arena can.walks.known;
+            at = at;
+            low = rw z (let l = can.walks.low in omega arith);
+          };
+          outside = outside_by g;
+          lasts = known_on g;
+        }
+
+    -- What is learnt where it doesn't, and is the last one: the arena ends at this step.
+    pub after_last : s.next + 1 ≡ p.shape.passes → AfterVisit pool p q s (record s { ended = true }) Ended
+    unfolding looked
+    after_last end =
+        let last : (s.next + 1 == p.shape.passes) ≡ true = eq-eqb (s.next + 1) p.shape.passes end in
+        let e : visit_found p.shape s.arena s.next found ≡ closes.Ended = ap (λ b. visit_by b (s.next + 1 == p.shape.passes)) names_not
+        ∙ ap (visit_by false) last in
+        let t = step_as closes.Ended e in
+        let mine = entry_of p.caller (End s.arena) Fine ∷ [] in
+        let g : Goes p q mine = goes_as closes.Ended e in
+        let over : HasEnded q s.arena = closed_ended (silent_view p) (silent_view q) mine p.caller s.arena Fine (silent_makes g) (inl refl) in
+        record {
+          did = record { own = mine; does = refl; goes = g; rest = rest_is t };
+          looked = looked;
+          answer = sym (ap (λ b. visit_answer s.next b (s.next + 1 == p.shape.passes)) names_not ∙ ap (visit_answer s.next false) last);
+          close = refl;
+          stands = over;
+          outside = outside_by g;
+          lasts = known_on g;
+        }

@@ -1,0 +1,123 @@
+-- The walk over the marks, and a close.
+use Rattle.std.proofs.Common.{◌≡◌, ◌≢◌, List, [], ◌∷◌, refl, ap, ◌∙◌, subst}
+use Rattle.std.specs.Prelude.{Ok, Err}
+use Rattle.fm_base.specs.declared.caller.Caller.{Caller}
+use Rattle.fm_base.specs.declared.arena_id.ArenaId.{ArenaId}
+use Rattle.fm_base.specs.declared.refusal.Refusal.{Refusal}
+use Rattle.fm_base.specs.declared.refusal.Refusal.TheVariants as refusal
+use Rattle.fm_base.specs.Calls.{Shut, End, Fine, Entry, entry_of}
+use Rattle.fm_base.specs.Finds.{Close, Rest}
+use Rattle.fm_base.specs.Does.{DoesClose}
+use Rattle.fm_base.specs.View.{but_loans}
+use Rattle.fm_pool_facts.specs.Views.{View}
+use Rattle.fm_pool_facts.specs.Closes.{close_of, visited, dropped}
+use Rattle.fm_rule.specs.declared.pool.Pool.{Pool}
+use Rattle.fm_calls.specs.Kept.{Goes, rest_of}
+use Rattle.fm_calls.proofs.Going.{goes_then, known_on}
+use Rattle.fm_close.specs.declared.shutting.Shutting.{Shutting}
+use Rattle.fm_close.specs.declared.outcome.Visit.{Visit}
+use Rattle.fm_close.specs.declared.outcome.Visit.TheVariants.{Next, Inside, Ended}
+use Rattle.fm_close.specs.Does.{DoesShut}
+use Rattle.fm_close.specs.Learnt.{CanWalk, HasEnded, AfterShut, AfterVisit, Walked, AfterClose}
+use Rattle.fm_close.proofs.Closes.{dropped-visited, dropped-begun}
+
+-- ---- the walk
+
+-- One visit more at the head of a walk.
+more : {pool : Pool} {p q r : View} {s t u : Shutting} (cs : List Close) → Goes p q [] → rest_of q ≡ record (rest_of p) { closes = cs }
+    → dropped s.arena cs ≡ dropped s.arena p.closes → t.arena ≡ s.arena → Walked pool q r t u → Walked pool p r s u
+more {p = p} {q = q} {r = r} {s = s} {t = t} cs g rest drops arena w =
+    let closes : q.closes ≡ cs = ap (λ (x : Rest). x.closes) rest in
+    let end : Goes q r (entry_of p.caller (End s.arena) Fine ∷ []) = subst
+    (λ (a : ArenaId). Goes q r (entry_of p.caller (End a) Fine ∷ [])) arena (subst
+    (λ (c : Caller). Goes q r (entry_of c (End t.arena) Fine ∷ [])) g.same_caller w.goes) in
+    let left : dropped t.arena q.closes ≡ dropped s.arena p.closes = ap (λ (a : ArenaId). dropped a q.closes) arena ∙ (ap (dropped s.arena) closes ∙ drops) in
+    record {
+      goes = goes_then g end;
+      rest = w.rest ∙ (ap (λ (x : Rest). record x { closes = dropped t.arena q.closes }) rest
+          ∙ ap (λ (xs : List Close). record (rest_of p) { closes = xs }) left);
+      swept = w.swept;
+      over = subst (λ (a : ArenaId). HasEnded r a) arena w.over;
+    }
+
+-- A visit that isn't the last, and a walk.
+pub visit_then : {pool : Pool} {p q r : View} {s t u : Shutting} (v : Visit) → AfterVisit pool p q s t v → v ≢ Ended → Walked pool q r t u → Walked pool p r s u
+visit_then {p = p} {q = q} {s = s} Next a goes_on w =
+    more (visited s.arena p.closes) (subst
+    (λ (es : List Entry). Goes p q es) a.did.does a.did.goes) a.did.rest (dropped-visited p.closes s.arena) (ap (λ (x : Shutting). x.arena) a.close) w
+visit_then {p = p} {q = q} (Inside k) a goes_on w =
+    more p.closes (subst (λ (es : List Entry). Goes p q es) a.did.does a.did.goes) a.did.rest refl (ap (λ (x : Shutting). x.arena) a.close) w
+visit_then Ended a goes_on w = absurd (goes_on refl)
+
+-- The last visit is a walk.
+pub visit_last : {pool : Pool} {p r : View} {s u : Shutting} → AfterVisit pool p r s u Ended → Walked pool p r s u
+visit_last {p = p} {r = r} a =
+    let arena = ap (λ (x : Shutting). x.arena) a.close in
+    record {
+      goes = subst (λ (es : List Entry). Goes p r es) a.did.does a.did.goes;
+      rest = a.did.rest;
+      swept = record { outside = a.outside; ended = ap (λ (x : Shutting). x.ended) a.close; over = a.stands };
+      over = subst (λ (i : ArenaId). HasEnded r i) arena a.stands;
+    }
+
+-- The walk has come from p to q, and its close from s to t: whatever ends it from there ends it from p
+pub record Walking (pool : Pool) (p q : View) (s t : Shutting) : Type 0 where
+  pub can : CanWalk pool q t
+  pub onward : (r : View) (u : Shutting) → Walked pool q r t u → Walked pool p r s u
+
+-- It begins where it is.
+pub walk_starts : {pool : Pool} {p : View} {s : Shutting} → CanWalk pool p s → Walking pool p p s s
+walk_starts can = record { can = can; onward = λ r u w. w }
+
+walks_on : {pool : Pool} {p q : View} {s t : Shutting} (v : Visit) → AfterVisit pool p q s t v → v ≢ Ended → CanWalk pool q t
+walks_on Next a goes_on = record { outside = a.outside; walks = a.stands }
+walks_on (Inside k) a goes_on = record { outside = a.outside; walks = a.stands.0 }
+walks_on Ended a goes_on = absurd (goes_on refl)
+
+-- It goes on by a visit that isn't the last.
+pub walk_goes_on : {pool : Pool} {o p q : View} {b s t : Shutting} (v : Visit) → Walking pool o p b s → AfterVisit pool p q s t v → v ≢ Ended
+    → Walking pool o q b t
+walk_goes_on v w a goes_on = record { can = walks_on v a goes_on; onward = λ r u end. w.onward r u (visit_then v a goes_on end) }
+
+-- ---- the close
+
+-- What is learnt where all marks were visited.
+pub after_walk : {pool : Pool} {p q r : View} {a : ArenaId} {s t : Shutting} (u : Unit {0}) → AfterShut pool p q a (Ok s) → Walked pool q r s t
+    → AfterClose pool p r a (Ok u)
+after_walk {p = p} {q = q} {r = r} {a = a} {s = s} u h w =
+    let does = h.did.does in
+    let arena : s.arena ≡ a = ap (λ (x : Shutting). x.arena) does.2 in
+    let g : Goes p q (entry_of p.caller (Shut a) Fine ∷ []) = subst (λ (es : List Entry). Goes p q es) does.3 h.did.goes in
+    let end : Goes q r (entry_of p.caller (End a) Fine ∷ []) = subst (λ (i : ArenaId). Goes q r (entry_of p.caller (End i) Fine ∷ [])) arena
+    (subst (λ (c : Caller). Goes q r (entry_of c (End s.arena) Fine ∷ [])) g.same_caller w.goes) in
+    let closes : q.closes ≡ close_of a 0 ∷ p.closes = ap (λ (x : Rest). x.closes) h.did.rest in
+    let left : dropped s.arena q.closes ≡ p.closes = ap (λ (i : ArenaId). dropped i q.closes) arena ∙ (ap (dropped a) closes ∙ dropped-begun p.closes a) in
+    let all = goes_then g end in
+    record {
+      did = record {
+        own = entry_of p.caller (Shut a) Fine ∷ entry_of p.caller (End a) Fine ∷ [];
+        does = (does.0, does.1, refl);
+        goes = all;
+        rest = w.rest ∙ (ap (λ (x : Rest). record x { closes = dropped s.arena q.closes }) h.did.rest
+            ∙ ap (λ (xs : List Close). record (rest_of p) { closes = xs }) left);
+      };
+      ended = subst (λ (i : ArenaId). HasEnded r i) arena w.over;
+      outside = w.swept.outside;
+      lasts = known_on all;
+    }
+
+refused_does : (c : Caller) (a : ArenaId) (refusal : Refusal) (own : List Entry) → DoesShut c a (Err refusal) own → DoesClose c a (Err refusal) (but_loans own)
+refused_does c a (refusal.CannotClose kind) own d = (d.0, d.1, rw d.2 refl)
+refused_does c a refusal.WrongThread own d = (d.0, d.1, rw d.2 refl)
+refused_does c a refusal.Closed own d = (d.0, d.1, rw d.2 refl)
+refused_does c a (refusal.Held holds) own d = (d.0, d.1, d.2, rw d.3 refl)
+refused_does c a r own d = absurd d
+
+-- What is learnt where the arena couldn't be shut.
+pub after_refused : {pool : Pool} {p q : View} {a : ArenaId} (refusal : Refusal) → AfterShut pool p q a (Err refusal) → AfterClose pool p q a (Err refusal)
+after_refused {p = p} {a = a} refusal h = record {
+  did = record { own = h.did.own; does = refused_does p.caller a refusal h.did.own h.did.does; goes = h.did.goes; rest = h.did.rest };
+  ended = tt;
+  outside = h.outside;
+  lasts = h.lasts;
+}

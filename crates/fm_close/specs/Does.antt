@@ -1,0 +1,47 @@
+-- What shutting and one visit do: the caller's own entries and the answer.
+use Rattle.std.specs.Prelude.{◌≡◌, ℕ, ◌+◌, ◌<◌, Bool, true, false, List, [], ◌∷◌, Result, Ok, Err}
+use Rattle.fm_base.specs.declared.caller.Caller.{Caller}
+use Rattle.fm_base.specs.declared.arena_id.ArenaId.{ArenaId}
+use Rattle.fm_base.specs.declared.refusal.Refusal.{Refusal}
+use Rattle.fm_base.specs.declared.refusal.Refusal.TheVariants.{WrongThread, CannotClose, Held, Closed}
+use Rattle.fm_base.specs.Arenas.{MayUse}
+use Rattle.fm_base.specs.Calls as machine
+use Rattle.fm_base.specs.Calls.{Entry, entry_of}
+use Rattle.fm_base.specs.Does.{IsClosable}
+use Rattle.fm_close.specs.declared.shutting.Shutting.{Shutting}
+use Rattle.fm_close.specs.declared.outcome.Visit.{Visit}
+use Rattle.fm_close.specs.declared.outcome.Visit.TheVariants.{Next, Inside, Ended}
+
+-- the close of an arena whose marks are all to be visited
+abbrev pub begun : ArenaId → Shutting
+begun id = record { arena = id; next = 0; ended = false }
+
+-- cases in the order of the checks
+abbrev pub DoesShut : Caller → ArenaId → Result Shutting Refusal → List Entry → Type 0
+DoesShut c id (Ok s) own =
+    IsClosable id.kind × MayUse id c × (s ≡ begun id) × (own ≡ entry_of c (machine.Shut id) machine.Fine ∷ [])
+DoesShut c id (Err (CannotClose kind)) own = ¬ (IsClosable id.kind) × (kind ≡ id.kind) × (own ≡ [])
+DoesShut c id (Err WrongThread) own = IsClosable id.kind × ¬ (MayUse id c) × (own ≡ [])
+DoesShut c id (Err Closed) own =
+    IsClosable id.kind × MayUse id c × (own ≡ entry_of c (machine.Shut id) machine.Closed ∷ [])
+DoesShut c id (Err (Held holds)) own =
+    IsClosable id.kind × MayUse id c × (0 < holds)
+    × (own ≡ entry_of c (machine.Shut id) (machine.Held holds) ∷ [])
+DoesShut c id (Err r) own = ⊥
+
+-- What the visit of mark k answers: whether the mark names the arena, and whether it is the last one
+abbrev pub visit_answer : ℕ → Bool → Bool → Visit
+visit_answer k true last = Inside k
+visit_answer k false true = Ended
+visit_answer k false false = Next
+
+-- the close after a visit that was answered so
+abbrev pub after_visit : Shutting → Visit → Shutting
+after_visit s Next = record s { next = s.next + 1 }
+after_visit s (Inside k) = s
+after_visit s Ended = record s { ended = true }
+
+abbrev pub DoesVisit : Caller → ArenaId → Visit → List Entry → Type 0
+DoesVisit c id Next own = own ≡ []
+DoesVisit c id (Inside k) own = own ≡ []
+DoesVisit c id Ended own = own ≡ entry_of c (machine.End id) machine.Fine ∷ []

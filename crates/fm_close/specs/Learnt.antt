@@ -1,0 +1,98 @@
+-- What each call of a close asks for, and what its caller learns: one record each.
+use Rattle.std.specs.Prelude.{◌≡◌, ◌≢◌, ◌+◌, ◌<◌, ◌==◌, true, false, List, [], ◌∷◌, ◌++◌, Some, Result, Ok, Err, IfOk}
+use Rattle.fm_base.specs.declared.arena_id.ArenaId.{ArenaId}
+use Rattle.fm_base.specs.declared.refusal.Refusal.{Refusal}
+use Rattle.fm_base.specs.Arenas.{Ended as IsOver, arena_of}
+use Rattle.fm_base.specs.Calls.{End, Fine, entry_of}
+use Rattle.fm_base.specs.Does.{DoesClose}
+use Rattle.fm_base.specs.Finds.{Close, Find, Visits}
+use Rattle.fm_base.specs.View.{but_loans}
+use Rattle.fm_pool_facts.specs.Views.{View, IsKnown, state_in}
+use Rattle.fm_pool_facts.specs.Closes.{close_of, visited_of, visited, dropped}
+use Rattle.fm_pool_facts.specs.Steps.{pass_of}
+use Rattle.fm_pool_facts.specs.Words.{mark_of}
+use Rattle.fm_rule.specs.declared.pool.Pool.{Pool}
+use Rattle.fm_calls.specs.Kept.{Goes, KeptBut, Kept, rest_of, Lasts}
+use Rattle.fm_gate.specs.Standing.{IsOutside}
+use Rattle.fm_close.specs.declared.shutting.Shutting.{Shutting}
+use Rattle.fm_close.specs.declared.outcome.Visit.{Visit}
+use Rattle.fm_close.specs.declared.outcome.Visit.TheVariants.{Next, Inside, Ended}
+use Rattle.fm_close.specs.Does.{DoesShut, DoesVisit, visit_answer, after_visit}
+
+-- ---- what is asked for
+
+-- The close is one of this pass, and its next mark is to be visited
+pub record IsUnderWay (p : View) (s : Shutting) : Type 0 where
+  pub unfinished : s.ended ≡ false
+  pub known : IsKnown p s.arena
+  pub at : visited_of p.closes s.arena ≡ Some s.next
+  pub low : s.next < p.shape.passes
+
+pub record CanWalk (pool : Pool) (p : View) (s : Shutting) : Type 0 where
+  pub outside : IsOutside pool p
+  pub walks : IsUnderWay p s
+
+-- the arena has ended
+abbrev pub HasEnded : View → ArenaId → Type 0
+HasEnded p id = (arena_of (state_in p) id).life ≡ IsOver
+
+pub record CanSweep (pool : Pool) (p : View) (s : Shutting) : Type 0 where
+  pub outside : IsOutside pool p
+  pub ended : s.ended ≡ true
+  pub over : HasEnded p s.arena
+
+-- ---- what is learnt
+
+-- the closes of a pass after `shut`
+abbrev pub closes_shut : ArenaId → Result Shutting Refusal → List Close → List Close
+closes_shut id (Ok s) cs = close_of id 0 ∷ cs
+closes_shut id (Err r) cs = cs
+
+-- of `shut`
+pub record AfterShut (pool : Pool) (old new : View) (id : ArenaId) (result : Result Shutting Refusal) : Type 0 where
+  pub did : KeptBut old new (closes_shut id result old.closes) (DoesShut old.caller id result)
+  pub walks : IfOk result (λ s. IsUnderWay new s)
+  pub outside : IsOutside pool new
+  pub lasts : Lasts old new
+
+-- the closes of a pass after a visit
+abbrev pub closes_visited : ArenaId → Visit → List Close → List Close
+closes_visited id Next cs = visited id cs
+closes_visited id (Inside k) cs = cs
+closes_visited id Ended cs = dropped id cs
+
+-- what stands of the close after a visit
+abbrev pub StandsAfter : View → Shutting → Visit → Type 0
+StandsAfter p s Next = IsUnderWay p s
+StandsAfter p s (Inside k) = IsUnderWay p s × (k ≢ p.caller.number)
+StandsAfter p s Ended = HasEnded p s.arena
+
+-- The one mark that the visit loaded, of the walk's next number
+pub record Looked (old new : View) (s : Shutting) : Type 0 where
+  pub find : Find
+  pub step : find.step ≡ Visits s.arena (pass_of s.next)
+  pub grown : new.finds ≡ old.finds ++ find ∷ []
+
+-- of `visit`: its answer is by the mark that it loaded
+pub record AfterVisit (pool : Pool) (old new : View) (s t : Shutting) (result : Visit) : Type 0 where
+  pub did : KeptBut old new (closes_visited s.arena result old.closes) (DoesVisit old.caller s.arena result)
+  pub looked : Looked old new s
+  pub answer : result ≡ visit_answer s.next (looked.find.found == mark_of s.arena) (s.next + 1 == old.shape.passes)
+  pub close : t ≡ after_visit s result
+  pub stands : StandsAfter new t result
+  pub outside : IsOutside pool new
+  pub lasts : Lasts old new
+
+-- of the visits of all marks that were left: the last one is the entry End
+pub record Walked (pool : Pool) (old new : View) (s t : Shutting) : Type 0 where
+  pub goes : Goes old new (entry_of old.caller (End s.arena) Fine ∷ [])
+  pub rest : rest_of new ≡ record (rest_of old) { closes = dropped s.arena old.closes }
+  pub swept : CanSweep pool new t
+  pub over : HasEnded new s.arena
+
+-- of `close`
+pub record AfterClose (pool : Pool) (old new : View) (id : ArenaId) (result : Result (Unit {0}) Refusal) : Type 0 where
+  pub did : Kept old new (λ own. DoesClose old.caller id result (but_loans own))
+  pub ended : IfOk result (λ _. HasEnded new id)
+  pub outside : IsOutside pool new
+  pub lasts : Lasts old new

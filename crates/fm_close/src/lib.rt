@@ -1,0 +1,24 @@
+//! Closing an arena of a pool while others may use it.
+//!
+//! [`shut`] lets nobody in from now on. [`visit`] looks at one mark after another, from number 0: a pass that is inside
+//! has its mark set. So a number whose mark doesn't name the arena is done with for good, and the arena ends at the
+//! last one. [`sweep`] spends the close; [`close`] does all of it, and waits while a mark names the arena.
+//!
+//! No call takes memory. Only `close` waits.
+#![tactic(auto)]
+
+mod closable;
+mod closing;
+mod outcome;
+mod shutting;
+mod sweeping;
+mod visiting;
+
+pub use closing::close;
+pub use outcome::Visit;
+pub use shutting::{Shutting, shut};
+pub use sweeping::sweep;
+pub use visiting::visit;
+
+#[cfg(test)]
+mod tests;

@@ -1,0 +1,170 @@
+-- What a caller learns of calls on two ranges, from what they did.
+use Rattle.std.proofs.Common.{◌≡◌, ℕ, ◌+◌, ◌/◌, ◌<◌, ◌≤◌, Bool, true, false, List, [], ◌∷◌, ◌++◌, refl, ap, subst, ◌∙◌, arith, Option, Some, None, Result, Ok, Err, IfOk, IfErr}
+use Rattle.std.specs.Prelude.{⊤}
+use Rattle.std.specs.Option.{ForSome}
+use Rattle.fm_base.specs.declared.arena_id.ArenaId.{ArenaId}
+use Rattle.fm_base.specs.declared.caller.Caller.{Caller}
+use Rattle.fm_base.specs.declared.refusal.Refusal.{Refusal}
+use Rattle.fm_base.specs.declared.refusal.Refusal.TheVariants.{Closed, WrongThread}
+use Rattle.fm_base.specs.Calls.{Read, Found, Entry}
+use Rattle.fm_base.specs.View.{View, Did, inside_after}
+use Rattle.fm_base.specs.Visits.{refused_visit, Run, ends, goes_on}
+use Rattle.fm_base.proofs.Making.{inside_after-append}
+use Rattle.fm_base.proofs.Outcomes.{Did-lasts}
+use Rattle.fm_base.proofs.Running.{visit_ends_outside, run_outside, stays_outside}
+use Rattle.fm_access.specs.Pieces.{ReadsPiece}
+use Rattle.fm_access.proofs.Outside.{EndsOutside}
+use Rattle.fm_copies.specs.declared.side.Piece.{Piece}
+use Rattle.fm_copies.specs.declared.side.Side.{Side}
+use Rattle.fm_copies.specs.declared.side.Way.{Way}
+use Rattle.fm_copies.specs.declared.side.Way.TheVariants.{Up}
+use Rattle.fm_copies.specs.Comparisons.{AgreesOn, EndsComparing, DoesCompare}
+use Rattle.fm_copies.specs.Copies.{CopiesOn, EndsCopy, DoesCopy}
+use Rattle.fm_copies.specs.Learnt.{CanTouchBoth, BothCause, AfterCopy, AfterCompare}
+use Rattle.fm_copies.specs.Sides.{StopsAt, first, second, next_piece}
+use Rattle.fm_copies.proofs.ComparingAlone.{compare_alone, compare_shut}
+use Rattle.fm_copies.proofs.Copied.{copy_alone, copy_shut}
+
+-- ---- all visits end outside
+
+read_outside : (c : Caller) (id : ArenaId) (place width v : ℕ) (own : List Entry) → ReadsPiece c id place width v own → EndsOutside own
+read_outside c id place width v own r = ap (inside_after None) r.visits ∙ visit_ends_outside None c id ((Read id (place / 8), Found r.word) ∷ [])
+
+both_outside : (own one two : List Entry) → own ≡ one ++ two → EndsOutside one → EndsOutside two → EndsOutside own
+both_outside own one two e f s = ap (inside_after None) e ∙ inside_after-append None one two ∙ ap (λ i. inside_after i two) f ∙ s
+
+module _ (c : Caller) (a b : Side) (count : ℕ) where
+  stops_outside : (p : Piece) (own : List Entry) → StopsAt c a b p own → EndsOutside own
+  stops_outside p own first = refl
+  stops_outside p own (second v one r) =
+      both_outside (one ++ refused_visit c b.arena) one (refused_visit c b.arena) refl (read_outside c a.arena (a.at + p.offset) p.width v one r) refl
+
+  copy_ends_outside : (way : Way) (left : ℕ) (own : List Entry) (whole : Bool) → EndsCopy c a b count way left own whole → EndsOutside own
+  copy_ends_outside way left own true e = ap (inside_after None) e.1
+  copy_ends_outside way left own false e = stops_outside (next_piece way a b count left) own e.1
+
+  copy_run_outside : (way : Way) (left : ℕ) (own : List Entry) (whole : Bool) → Run (CopiesOn c a b count way) (EndsCopy c a b count way) left own whole
+      → EndsOutside own
+  copy_run_outside way left own whole run =
+      run_outside (CopiesOn c a b count way) (EndsCopy c a b count way)
+      (λ x es y s. let p = next_piece way a b count x in let one = s.piece in both_outside es one.reading one.putting one.visits (read_outside c a.arena (a.at + p.offset) p.width one.v one.reading one.reads) (ap (inside_after None) one.puts.visits ∙ visit_ends_outside None c b.arena one.puts.acts))
+      (copy_ends_outside way) left own whole run
+
+  copy_outside : (result : Result (Unit {0}) Refusal) (own : List Entry) → DoesCopy c a b count result own → EndsOutside own
+  copy_outside (Ok u) own d = copy_run_outside d.way count own true d.visits
+  copy_outside (Err WrongThread) own d = ap (inside_after None) d.1
+  copy_outside (Err Closed) own d = copy_run_outside d.way count own false d.visits
+  copy_outside (Err r) own d = absurd d
+
+  compare_ends_outside : (left : ℕ) (own : List Entry) (answer : Option (Option ℕ)) → EndsComparing c a b count left own answer → EndsOutside own
+  compare_ends_outside left own (Some None) e = ap (inside_after None) e.1
+  compare_ends_outside left own (Some (Some offset)) e =
+      let p = next_piece Up a b count left in
+      let one = e.piece in
+      both_outside own one.first one.second one.visits (read_outside c a.arena (a.at + p.offset) p.width one.v one.first one.reads_first)
+      (read_outside c b.arena (b.at + p.offset) p.width one.w one.second one.reads_second)
+  compare_ends_outside left own None e = stops_outside (next_piece Up a b count left) own e.1
+
+  compare_run_outside : (left : ℕ) (own : List Entry) (answer : Option (Option ℕ)) → Run (AgreesOn c a b count) (EndsComparing c a b count) left own answer
+      → EndsOutside own
+  compare_run_outside left own answer run =
+      run_outside (AgreesOn c a b count) (EndsComparing c a b count)
+      (λ x es y s. let p = next_piece Up a b count x in let one = s.piece in both_outside es one.first one.second one.visits (read_outside c a.arena (a.at + p.offset) p.width one.v one.first one.reads_first) (read_outside c b.arena (b.at + p.offset) p.width one.w one.second one.reads_second))
+      compare_ends_outside left own answer run
+
+  compare_outside : (result : Result (Option ℕ) Refusal) (own : List Entry) → DoesCompare c a b count result own → EndsOutside own
+  compare_outside (Ok found) own d = compare_run_outside count own (Some found) d.visits
+  compare_outside (Err WrongThread) own d = ap (inside_after None) d.1
+  compare_outside (Err Closed) own d = compare_run_outside count own None d.visits
+  compare_outside (Err r) own d = absurd d
+
+  -- ---- a refusal has its cause, and an offset that is found is one of the bytes
+
+  copy_some : (way : Way) (left : ℕ) (own : List Entry) (whole : Bool) → Run (CopiesOn c a b count way) (EndsCopy c a b count way) left own whole
+      → whole ≡ false → 0 < left
+  copy_some way left own true (ends e) f = absurd (let no : ⊥ = cc in no)
+  copy_some way left own false (ends e) f = e.0
+  copy_some way left own whole (goes_on next one rest step run) f = step.more
+
+  copy_cause : (result : Result (Unit {0}) Refusal) (own : List Entry) → DoesCopy c a b count result own → IfErr result (BothCause a b count c)
+  copy_cause (Ok u) own d = tt
+  copy_cause (Err WrongThread) own d = d.0
+  copy_cause (Err Closed) own d = let some = copy_some d.way count own false d.visits refl in (some, d.may_use some)
+  copy_cause (Err r) own d = absurd d
+
+  compare_some : (left : ℕ) (own : List Entry) (answer : Option (Option ℕ)) → Run (AgreesOn c a b count) (EndsComparing c a b count) left own answer
+      → answer ≡ None → 0 < left
+  compare_some left own None (ends e) f = e.0
+  compare_some left own (Some found) (ends e) f = absurd (let no : ⊥ = cc in no)
+  compare_some left own answer (goes_on next one rest step run) f = step.more
+
+  compare_cause : (result : Result (Option ℕ) Refusal) (own : List Entry) → DoesCompare c a b count result own → IfErr result (BothCause a b count c)
+  compare_cause (Ok found) own d = tt
+  compare_cause (Err WrongThread) own d = d.0
+  compare_cause (Err Closed) own d = let some = compare_some count own None d.visits refl in (some, d.may_use some)
+  compare_cause (Err r) own d = absurd d
+
+  -- what an answer of a comparison says of the bytes
+  abbrev IsAnswer : Option (Option ℕ) → Type 0
+  IsAnswer (Some (Some offset)) = offset < count
+  IsAnswer (Some None) = Unit {0}
+  IsAnswer None = Unit {0}
+
+  answer_at_end : (left : ℕ) (own : List Entry) (answer : Option (Option ℕ)) → left ≤ count → EndsComparing c a b count left own answer → IsAnswer answer
+  answer_at_end left own (Some (Some offset)) h d =
+      let some = d.more in
+      let at = d.piece.answer.within in
+      let is = d.offset_is in
+      omega arith
+  answer_at_end left own (Some None) h d = tt
+  answer_at_end left own None h d = tt
+
+  answer_of_run : (left : ℕ) (own : List Entry) (answer : Option (Option ℕ)) → left ≤ count
+      → Run (AgreesOn c a b count) (EndsComparing c a b count) left own answer → IsAnswer answer
+  answer_of_run left own answer h (ends e) = answer_at_end left own answer h e
+  answer_of_run left own answer h (goes_on now more rest s r) = answer_of_run now rest answer (let t = s.then in omega arith) r
+
+  compare_within : (result : Result (Option ℕ) Refusal) (own : List Entry) → DoesCompare c a b count result own
+      → IfOk result (λ found. ForSome found (λ offset. offset < count))
+  compare_within (Err r) own d = tt
+  compare_within (Ok found) own d = λ offset e.
+      let run : Run (AgreesOn c a b count) (EndsComparing c a b count) count own (Some (Some offset)) = subst (λ (x : Option ℕ). Run (AgreesOn c a b count) (EndsComparing c a b count) count own (Some x)) e d.visits in
+      answer_of_run count own (Some (Some offset)) (let h : count ≤ count = omega arith in h) run
+
+-- ---- all that is learnt
+
+unit_kind : (result : Result (Unit {0}) Refusal) → IfOk result (λ u. ⊤)
+unit_kind (Ok u) = tt
+unit_kind (Err e) = tt
+
+-- Of a copy.
+pub after_copy : {old new : View} {a b : Side} {count : ℕ} {result : Result (Unit {0}) Refusal} → CanTouchBoth old a b count
+    → Did old new (DoesCopy old.caller a b count result) → AfterCopy old new a b count result
+after_copy {old} {new} {a} {b} {count} {result} can d =
+    let lasts = Did-lasts old new _ d in
+    record {
+      did = d;
+      refused = copy_cause old.caller a b count result d.own d.does;
+      alone = copy_alone old new a b count result can.second_known d;
+      shut = copy_shut old new a b count result d;
+      outside = stays_outside old new (DoesCopy old.caller a b count result) (copy_outside old.caller a b count result) can.outside d;
+      lasts = lasts;
+      known = record { first = lasts.known a.arena can.first_known; second = lasts.known b.arena can.second_known };
+      kind = unit_kind result;
+    }
+
+-- Of a comparison.
+pub after_compare : {old new : View} {a b : Side} {count : ℕ} {result : Result (Option ℕ) Refusal} → CanTouchBoth old a b count
+    → Did old new (DoesCompare old.caller a b count result) → AfterCompare old new a b count result
+after_compare {old} {new} {a} {b} {count} {result} can d =
+    let lasts = Did-lasts old new _ d in
+    record {
+      did = d;
+      refused = compare_cause old.caller a b count result d.own d.does;
+      alone = compare_alone old new a b count result d;
+      shut = compare_shut old new a b count result d;
+      outside = stays_outside old new (DoesCompare old.caller a b count result) (compare_outside old.caller a b count result) can.outside d;
+      lasts = lasts;
+      known = record { first = lasts.known a.arena can.first_known; second = lasts.known b.arena can.second_known };
+      kind = compare_within old.caller a b count result d.own d.does;
+    }

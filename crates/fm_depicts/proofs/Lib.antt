@@ -1,0 +1,4 @@
+pub mod Putting
+pub mod Depicting
+pub mod Allowing
+pub mod GoingOn

@@ -1,0 +1,4 @@
+pub mod Standing
+pub mod Acts
+pub mod Enters
+pub mod Opens

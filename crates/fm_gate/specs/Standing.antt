@@ -1,0 +1,42 @@
+-- Where a pass of a pool stands between two calls, and what a call asks for.
+use Rattle.std.specs.Prelude.{◌≡◌, ◌≢◌, ◌<◌, ℕ, Some, None}
+use Rattle.fm_base.specs.declared.arena_id.ArenaId.{ArenaId}
+use Rattle.fm_base.specs.declared.kind.Kind.{Kind}
+use Rattle.fm_base.specs.declared.kind.Kind.TheVariants.{Automatic}
+use Rattle.fm_pool_facts.specs.Views.{View, IsKnown, span}
+use Rattle.fm_rule.specs.declared.pool.Pool.{Pool}
+use Rattle.fm_rule.specs.Passes.{IsOf}
+
+-- in no arena; it publishes no mark, and has no number in its hand
+pub record IsOutside (pool : Pool) (p : View) : Type 0 where
+  pub of : IsOf pool p
+  pub outside : p.inside ≡ None
+  pub unmarked : p.mark ≡ None
+  pub no_number : p.drawn ≡ None
+
+-- inside the arena
+pub record IsInside (pool : Pool) (p : View) (id : ArenaId) : Type 0 where
+  pub of : IsOf pool p
+  pub inside : p.inside ≡ Some id
+  pub no_number : p.drawn ≡ None
+
+-- outside, and the arena is known
+pub record CanVisit (pool : Pool) (p : View) (id : ArenaId) : Type 0 where
+  pub outside : IsOutside pool p
+  pub known : IsKnown p id
+
+-- inside an arena that has the word
+pub record CanAct (pool : Pool) (p : View) (word : ℕ) : Type 0 where
+  pub id : ArenaId
+  pub inside : IsInside pool p id
+  pub within : word < span p.shape
+
+-- inside an arena
+pub record CanLeave (pool : Pool) (p : View) : Type 0 where
+  pub id : ArenaId
+  pub inside : IsInside pool p id
+
+-- outside, and arenas of this kind aren't opened otherwise
+pub record CanOpen (pool : Pool) (p : View) (kind : Kind) : Type 0 where
+  pub outside : IsOutside pool p
+  pub by_hand : kind ≢ Automatic

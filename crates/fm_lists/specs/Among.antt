@@ -1,0 +1,11 @@
+-- What stands in a list.
+use Rattle.std.specs.Prelude.{◌≡◌, ◌⊎◌, List, [], ◌∷◌, ⊤}
+
+abbrev pub IsAmong : {A : Type 0} → A → List A → Type 0
+IsAmong x [] = ⊥
+IsAmong x (y ∷ ys) = (x ≡ y) ⊎ IsAmong x ys
+
+-- nothing stands twice
+abbrev pub AreApart : {A : Type 0} → List A → Type 0
+AreApart [] = ⊤
+AreApart (x ∷ xs) = ¬ (IsAmong x xs) × AreApart xs

@@ -1,5 +1,0 @@
-use Rattle.fm_memory_tests.proofs.Fencing.{fenced_still}
-use Rattle.fm_memory_tests.proofs.fenced.FencedMemory.store.Goals as goal
-
-pub invariant_of-self : goal.invariant_of-self
-invariant_of-self c = fenced_still c.self.inside.mono c.store.new.self _ c.self.invariant c.store.ensures.did

@@ -1,0 +1,299 @@
+ghost use Rattle.std.specs.Prelude.{◌≡◌, ◌≢◌, ◌++◌, ◌∷◌, [], IsTrue};
+ghost use Rattle.fm_memory_tests.specs.Fence.{others_id};
+ghost use Rattle.fm_memory_tests.specs.Heard.{inside_by, heard_before};
+
+use crate::heard::Heard;
+use crate::others::Others;
+use fm_base::{ArenaId, Caller, Kind, Memory, Refusal};
+use fm_mono::Mono;
+use fm_segment::Segment;
+use std::alloc::Global;
+use std::marker::Model;
+use std::sync::Wait;
+
+/// The arenas of a `Mono`, as one of several callers uses them, and the whole history: each entry is kept, those of
+/// the others too. A call that finds no memory for its entries never returns.
+#[derive(Drop)]
+pub struct Double<'a, H: Wait> {
+    rt: &'a H,
+    mono: Mono,
+    others: Others,
+    heard: Vec<Heard>,
+    inside: Option<ArenaId>,
+    turn: u32,
+}
+
+impl<'a, H: Wait> Model for Double<'a, H> {
+    ghost use Rattle.fm_memory_tests.specs.Double.{Doubled, doubled, IsDouble};
+
+    ghost Value = { Doubled };
+
+    ghost view = { λ d. doubled d.mono d.others d.heard.items };
+
+    ghost invariant = { λ d. IsDouble (doubled d.mono d.others d.heard.items) d.inside };
+}
+
+/// Keeps what a call made. Where memory is wanting it never returns.
+fn hear<R: Wait>(rt: &R, heard: &mut Vec<Heard>, what: Heard)
+    ensures { heard.new.items ≡ heard.old.items ++ what ∷ [] }
+{
+    if heard.push(what).is_err() {
+        for _ in rt.forever() {}
+        unreachable!()
+    }
+}
+
+/// What the others made before this caller's first call.
+fn hear_first<R: Wait>(rt: &R, alloc: Global, others: Others) -> Vec<Heard>
+    ensures { result.items ≡ heard_before others }
+{
+    let mut heard = Vec::new(alloc);
+    if let Others::Stay { is_closed } = others {
+        hear(rt, &mut heard, Heard::Fence(is_closed));
+    }
+    heard
+}
+
+/// The arena that the caller is inside after an `enter`.
+fn entered_by(a: ArenaId, answer: Result<(), Refusal>) -> Option<ArenaId>
+    ensures { result ≡ inside_by a answer }
+{
+    match answer {
+        Ok(()) => Some(a),
+        Err(_) => None,
+    }
+}
+
+/// Whether every caller may use an arena of this kind.
+fn is_for_all(kind: Kind) -> bool
+    ensures { IsTrue result → kind ≢ Kind.Confined }
+{
+    !matches!(kind, Kind::Confined)
+}
+
+/// The arena that is confined to another caller.
+fn others_arena() -> ArenaId
+    ensures { result ≡ others_id }
+{
+    ArenaId {
+        slot: 4_294_967_295,
+        generation: 0,
+        kind: Kind::Confined,
+        owner: 1,
+        term: 0,
+    }
+}
+
+impl<'a, H: Wait> Double<'a, H> {
+    ghost use Rattle.std.specs.Prelude.{◌≡◌, ◌≤◌, ◌^◌, [], true, None, Some, IsSome, MatchBool};
+    ghost use Rattle.fm_base.specs.Arenas.{has_arena};
+    ghost use Rattle.fm_base.specs.Does.{CanReach};
+    ghost use Rattle.fm_base.specs.Learnt.{CanVisit};
+    ghost use Rattle.fm_base.specs.View.{Makes, IsSound};
+    ghost use Rattle.fm_mono.specs.Shown.{view_of};
+    ghost use Rattle.fm_segment.specs.Access.{IsKnown};
+    ghost use Rattle.fm_memory_tests.specs.Double.{double_view, IsFenced};
+
+    /// No arenas yet but the others'.
+    pub fn new(rt: &'a H, alloc: Global, mono: Mono, others: Others) -> Double<'a, H>
+        requires outside { mono.inside ≡ None }
+        requires empty { mono.state ≡ [] }
+        requires room { 16 ≤ mono.limit }
+        requires small { mono.limit ≤ 2 ^ 40 }
+        ensures outside { result.mono.inside ≡ None }
+        ensures others { result.others ≡ others }
+    {
+        let heard = hear_first(rt, alloc, others);
+        Double {
+            rt,
+            mono,
+            others,
+            heard,
+            inside: None,
+            turn: 0,
+        }
+    }
+
+    /// The 16 bytes of the arena that is confined to another caller.
+    pub fn theirs(&self) -> Segment
+        requires { IsFenced self.now.others }
+        ensures { IsKnown (double_view self.now) result }
+    {
+        let _ = &self.others;
+        Segment::of(others_arena(), 0, 16)
+    }
+
+    /// The arena that was entered.
+    fn entered(&self) -> ArenaId
+        requires { IsSome self.now.mono.inside }
+        ensures { self.now.mono.inside ≡ Some result }
+    {
+        match self.inside {
+            Some(a) => a,
+            None => unreachable!(),
+        }
+    }
+
+    /// Whether the arena isn't confined to another caller.
+    fn is_own(&self, a: ArenaId) -> bool
+        requires { has_arena (double_view self.now).state a ≡ true }
+        ensures whose { MatchBool result (has_arena self.now.mono.state a ≡ true) (a ≡ others_id) }
+        ensures sound { IsSound (double_view self.now) }
+    {
+        let _ = &self.others;
+        if a == others_arena() {
+            return false;
+        }
+        true
+    }
+
+    /// What another does before this caller's call on a word.
+    fn come_to(&mut self, word: u64)
+        requires { CanReach (double_view self.old) word }
+        ensures makes { Makes (double_view self.old) (double_view self.new) [] }
+        ensures reach { CanReach (view_of self.new.mono) word }
+        ensures sound { IsSound (double_view self.old) }
+    {
+        let a = self.entered();
+        let turn = self.turn;
+        self.turn = turn.wrapping_add(1);
+        if let Others::Add { script, step } = self.others {
+            if script.rotate_right(turn) & 1 == 1 {
+                if is_for_all(a.kind) {
+                    let visitor = Caller { number: 1, term: 0 };
+                    let found = self.mono.add(word, step);
+                    let visit = Heard::Visit(visitor, a, word, step, found);
+                    hear(self.rt, &mut self.heard, visit);
+                }
+            }
+        }
+    }
+
+    /// What another does before this caller enters the arena.
+    fn come_before(&mut self, a: ArenaId)
+        requires { CanVisit (view_of self.old.mono) a }
+        ensures makes { Makes (double_view self.old) (double_view self.new) [] }
+        ensures can { CanVisit (view_of self.new.mono) a }
+    {
+        self.turn = self.turn.wrapping_add(1);
+        if let Others::Close { left } = self.others {
+            if self.turn == left {
+                if is_for_all(a.kind) {
+                    let closer = Caller { number: 1, term: 0 };
+                    let answer = self.mono.end(a);
+                    let close = Heard::Close(closer, a, answer);
+                    hear(self.rt, &mut self.heard, close);
+                }
+            }
+        }
+    }
+}
+
+impl<'a, H: Wait> Memory for Double<'a, H> {
+    ghost use Rattle.std.specs.Prelude.{refl};
+    ghost use Rattle.fm_memory_tests.specs.Double.{double_view, nature_of_double};
+
+    ghost nature = { nature_of_double };
+
+    ghost view = { double_view };
+
+    fn caller(&self) -> Caller {
+        self.mono.caller()
+    }
+
+    fn enter(&mut self, a: ArenaId) -> Result<(), Refusal> {
+        if !self.is_own(a) {
+            return Err(Refusal::WrongThread);
+        }
+        self.come_before(a);
+        let answer = self.mono.enter(a);
+        hear(self.rt, &mut self.heard, Heard::Enter(a, answer));
+        self.inside = entered_by(a, answer);
+        answer
+    }
+
+    fn load(&mut self, word: u64) -> u64 {
+        self.come_to(word);
+        let a = self.entered();
+        let found = self.mono.load(word);
+        hear(self.rt, &mut self.heard, Heard::Load(a, word, found));
+        found
+    }
+
+    fn store(&mut self, word: u64, v: u64) {
+        self.come_to(word);
+        let a = self.entered();
+        self.mono.store(word, v);
+        hear(self.rt, &mut self.heard, Heard::Store(a, word, v));
+    }
+
+    fn swap_if(&mut self, word: u64, old: u64, new: u64) -> u64 {
+        self.come_to(word);
+        let a = self.entered();
+        let found = self.mono.swap_if(word, old, new);
+        let swap = Heard::SwapIf(a, word, old, new, found);
+        hear(self.rt, &mut self.heard, swap);
+        found
+    }
+
+    fn add(&mut self, word: u64, n: u64) -> u64 {
+        self.come_to(word);
+        let a = self.entered();
+        let found = self.mono.add(word, n);
+        hear(self.rt, &mut self.heard, Heard::Add(a, word, n, found));
+        found
+    }
+
+    fn patch<R: Wait>(&mut self, rt: &R, word: u64, mask: u64, bits: u64) -> u64 {
+        self.come_to(word);
+        let a = self.entered();
+        let found = self.mono.patch(rt, word, mask, bits);
+        let swap = Heard::SwapIf(a, word, found, found & !mask | bits, found);
+        hear(self.rt, &mut self.heard, swap);
+        found
+    }
+
+    fn leave(&mut self) {
+        let a = self.entered();
+        self.mono.leave();
+        hear(self.rt, &mut self.heard, Heard::Leave(a));
+        self.inside = None;
+    }
+
+    fn open_arena<R: Wait>(&mut self, rt: &R, kind: Kind) -> Result<ArenaId, Refusal> {
+        let answer = self.mono.open_arena(rt, kind);
+        hear(self.rt, &mut self.heard, Heard::Open(answer));
+        answer
+    }
+
+    fn allocate<R: Wait>(
+        &mut self,
+        rt: &R,
+        a: ArenaId,
+        size: u64,
+        align: u64,
+    ) -> Result<u64, Refusal> {
+        if !self.is_own(a) {
+            if align.is_power_of_two() {
+                return Err(Refusal::WrongThread);
+            }
+            return Err(Refusal::BadAlignment);
+        }
+        let answer = self.mono.allocate(rt, a, size, align);
+        let given = Heard::Allocate(a, size, align, answer);
+        hear(self.rt, &mut self.heard, given);
+        answer
+    }
+
+    fn close<R: Wait>(&mut self, rt: &R, a: ArenaId) -> Result<(), Refusal> {
+        if !self.is_own(a) {
+            return Err(Refusal::WrongThread);
+        }
+        let answer = self.mono.close(rt, a);
+        let caller = self.mono.caller();
+        hear(self.rt, &mut self.heard, Heard::Close(caller, a, answer));
+        answer
+    }
+
+    ghost alone_is = { λ m. refl };
+}

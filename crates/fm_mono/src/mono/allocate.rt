@@ -1,0 +1,58 @@
+ghost use Rattle.std.specs.Prelude.{◌≡◌, ◌<◌, None, true};
+ghost use Rattle.fm_base.specs.Arenas.{Alive, has_arena, arena_of};
+ghost use Rattle.fm_base.specs.Learnt.{CanVisit, AfterAllocate};
+ghost use Rattle.fm_base.specs.Machine.{rounded_up, IsPower};
+ghost use Rattle.fm_mono.specs.Shown.{Allots, view_of, nature_of_mono};
+
+use super::Mono;
+use fm_base::{ArenaId, Refusal};
+
+/// The least multiple of `align` that is at least `given`.
+fn rounded(given: u64, align: u64) -> u128
+    requires { 0 < align }
+    ensures { result ≡ rounded_up given align }
+{
+    let align = u128::from(align);
+    (u128::from(given) + (align - 1)) / align * align
+}
+
+impl Mono {
+    /// Gives `size` bytes at the next place that is a multiple of `align`, as `allocate` does. It waits for nobody.
+    ///
+    /// Refused, in this order: `BadAlignment`, `Closed`, `NoRoom`, `Memory`. A refused call gives nothing.
+    pub fn allot(&mut self, a: ArenaId, size: u64, align: u64) -> Result<u64, Refusal>
+        requires { CanVisit (view_of self.old) a }
+        ensures { AfterAllocate nature_of_mono (view_of self.old) (view_of self.new) a size align result }
+    {
+        let alive = self.is_alive(a);
+        if !align.is_power_of_two() {
+            return Err(Refusal::BadAlignment);
+        }
+        if !alive {
+            return Err(Refusal::Closed);
+        }
+        self.grow(a, size, align)
+    }
+
+    /// Gives bytes of an arena that is alive. Each word is zeroed once, when its first byte is given.
+    fn grow(&mut self, a: ArenaId, size: u64, align: u64) -> Result<u64, Refusal>
+        requires outside { self.old.inside ≡ None }
+        requires known { has_arena self.old.state a ≡ true }
+        requires alive { (arena_of self.old.state a).life ≡ Alive }
+        requires power { IsPower align }
+        ensures { Allots self.old a size align result self.new }
+    {
+        let limit = self.limit;
+        let arena = &mut self.arenas[a.slot as usize];
+        let given = arena.given;
+        let place = rounded(given, align);
+        let end = place + u128::from(size);
+        if end > u128::from(limit) {
+            return Err(Refusal::NoRoom(given));
+        }
+        let end = end as u64;
+        arena.words.resize(((end + 7) / 8) as usize, 0)?;
+        arena.given = end;
+        Ok(place as u64)
+    }
+}

@@ -1,0 +1,77 @@
+ghost use Rattle.std.specs.Prelude.{refl};
+ghost use Rattle.fm_mono.specs.Shown.{view_of, nature_of_mono};
+
+use super::Mono;
+use fm_base::{ArenaId, Caller, Kind, Memory, Refusal};
+use std::sync::Wait;
+
+/// No call waits: those that may are handed on to calls of `Mono` without a runtime.
+impl Memory for Mono {
+    ghost nature = { nature_of_mono };
+
+    ghost view = { view_of };
+
+    fn caller(&self) -> Caller {
+        let _ = &self.limit;
+        Caller { number: 0, term: 0 }
+    }
+
+    fn enter(&mut self, a: ArenaId) -> Result<(), Refusal> {
+        if self.is_alive(a) {
+            self.come_in(a);
+            Ok(())
+        } else {
+            Err(Refusal::Closed)
+        }
+    }
+
+    fn load(&mut self, word: u64) -> u64 {
+        self.word(word)
+    }
+
+    fn store(&mut self, word: u64, v: u64) {
+        self.put(word, v);
+    }
+
+    fn swap_if(&mut self, word: u64, old: u64, new: u64) -> u64 {
+        let found = self.word(word);
+        if found == old {
+            self.put(word, new);
+        }
+        found
+    }
+
+    fn add(&mut self, word: u64, n: u64) -> u64 {
+        let found = self.word(word);
+        self.put(word, found.wrapping_add(n));
+        found
+    }
+
+    fn patch<R: Wait>(&mut self, rt: &R, word: u64, mask: u64, bits: u64) -> u64 {
+        self.put_bits(word, mask, bits)
+    }
+
+    fn leave(&mut self) {
+        self.go_out();
+    }
+
+    fn open_arena<R: Wait>(&mut self, rt: &R, kind: Kind) -> Result<ArenaId, Refusal> {
+        self.open(kind)
+    }
+
+    fn allocate<R: Wait>(
+        &mut self,
+        rt: &R,
+        a: ArenaId,
+        size: u64,
+        align: u64,
+    ) -> Result<u64, Refusal> {
+        self.allot(a, size, align)
+    }
+
+    fn close<R: Wait>(&mut self, rt: &R, a: ArenaId) -> Result<(), Refusal> {
+        self.end(a)
+    }
+
+    ghost alone_is = { λ m. refl };
+}

@@ -1,0 +1,268 @@
+-- The pass over a path, step by step, and what it comes to.
+use Rattle.std.proofs.Common.{◌≡◌, refl, sym, ap, subst, ℕ, ℤ, pos, negsuc, ◌+◌, ◌-◌, ◌*◌, ◌%◌, ◌^◌, ◌<◌, ◌≤◌, min, Bool, true, false, nat_lt, if◌then◌else◌, Option, Some, None, Result, Ok, Err, List, [], ◌∷◌, ◌++◌, length, drop, get_or, arith, ◌∙◌}
+use Rattle.std.proofs.lemmas.List.{append_assoc, append-nil, drop_more, drop_all}
+use Rattle.fm_base.specs.declared.refusal.Refusal.{Refusal}
+use Rattle.fm_base.specs.declared.refusal.Refusal.TheVariants.{IndexOut}
+use Rattle.std.specs.Int.{IsPowerOfTwo}
+use Rattle.fm_layout.specs.Tree.{Tree, Trees, Value, Padding, Sequence, Struct, Union, alignment_of}
+use Rattle.fm_layout.specs.Size.{size_of}
+use Rattle.fm_layout.specs.Parts.{tree_at}
+use Rattle.fm_layout.specs.WellFormed.{IsWellFormed}
+use Rattle.fm_layout.proofs.Sound.{fit_of}
+use Rattle.fm_path_text.specs.declared.step.PathStep.{PathStep}
+use Rattle.fm_path_text.specs.declared.step.PathStep.TheVariants.{Name, Group, At, Each, EachFrom}
+use Rattle.fm_path_meaning.specs.declared.dim.Dim.{Dim}
+use Rattle.fm_path_meaning.specs.Places.{Step}
+use Rattle.fm_path_meaning.specs.Follow.{index_named, taken, taken_closed, ◌>>=◌, follow_closed}
+use Rattle.fm_path_meaning.specs.Found.{LeadsTo, Finds, FindsClosed, end_from, end_of, IsRefused}
+use Rattle.fm_path_meaning.specs.Steady.{IsSteady}
+use Rattle.fm_path_meaning.specs.Walk.{Move, Moved, move_member, move_found, move, move_closed, Walk, with_dim, moved, walk_by, walk, walk_closed, reach, offset_at, AreAdmitted}
+use Rattle.fm_path_meaning.proofs.Agreeing.{Meets, StaysAbove, Agrees, agrees, agrees_closed}
+use Rattle.fm_path_meaning.proofs.Fitting.{Tells, Fits, fits}
+use Rattle.fm_path_meaning.proofs.Inside.{inside, place_aligned, place_fits_root}
+use Rattle.fm_path_meaning.proofs.Listed.{listed}
+
+-- a walk behind an offset and dims
+abbrev pub onto : ℕ → List Dim → Result Walk Refusal → Result Walk Refusal
+onto a ds (Ok w) = Ok (record { offset = a + w.offset; dims = ds ++ w.dims; last = w.last })
+onto a ds (Err e) = Err e
+
+-- a dim at the end of the first list stands before the second
+with_dim_append : (ds es : List Dim) (o : Option Dim) → ds ++ with_dim o es ≡ (ds ++ with_dim o []) ++ es
+with_dim_append ds es None = ap (λ x. x ++ es) (sym (append-nil ds))
+with_dim_append ds es (Some d) = sym (append_assoc ds (d ∷ []) es)
+
+abbrev pub made : ℕ → List Dim → Tree → Result Walk Refusal
+made a ds u = Ok (record { offset = a; dims = ds; last = u })
+
+-- walks of equal parts are equal
+made_like : (a b : ℕ) (ds es : List Dim) (u : Tree) → a ≡ b → ds ≡ es → made a ds u ≡ made b es u
+made_like a b ds es u e f = ap (λ x. made x ds u) e ∙ ap (λ x. made b x u) f
+
+-- a move goes onto the way so far
+onto_moved : (a : ℕ) (ds : List Dim) (m : Move) (r : Result Walk Refusal) → onto a ds (moved m r) ≡ onto (a + m.by) (ds ++ with_dim m.dim []) r
+onto_moved a ds m (Err e) = refl
+onto_moved a ds m (Ok w) = made_like (a + (m.by + w.offset)) (a + m.by + w.offset) (ds ++ with_dim m.dim w.dims) ((ds ++ with_dim m.dim []) ++ w.dims) w.last (omega arith) (with_dim_append ds w.dims m.dim)
+
+-- a walk behind nothing is itself
+onto_nothing : (r : Result Walk Refusal) → onto 0 [] r ≡ r
+onto_nothing (Ok w) = made_like (0 + w.offset) w.offset w.dims w.dims w.last (omega arith) refl
+onto_nothing (Err e) = refl
+
+-- what the loop keeps: the way so far, and then the rest, is the whole way
+pub record IsOnWay (go : ℕ → PathStep → Tree → Moved) (path : List PathStep) (t : Tree) (k offset : ℕ) (dims : List Dim) (here : Tree) : Type 0 where
+  pub true_offset : ℕ
+  pub kept : offset ≡ min true_offset (2 ^ 64 - 1)
+  pub way : onto true_offset dims (walk_by go (drop k path) k here) ≡ walk_by go path 0 t
+
+-- before the first step nothing was walked
+pub on_way_start : (go : ℕ → PathStep → Tree → Moved) (path : List PathStep) (t : Tree) → IsOnWay go path t 0 0 [] t
+on_way_start go path t = record { true_offset = 0; kept = omega arith; way = onto_nothing (walk_by go path 0 t) }
+
+-- one more step
+pub on_way_more : (go : ℕ → PathStep → Tree → Moved) (path : List PathStep) (t : Tree) (k offset : ℕ) (dims : List Dim) (here : Tree) (p : PathStep) (m : Move) (offset' : ℕ) (dims' : List Dim)
+    → IsOnWay go path t k offset dims here → k < length path → p ≡ get_or path k p → go k p here ≡ Ok m
+    → offset' ≡ min (offset + m.by) (2 ^ 64 - 1) → dims' ≡ dims ++ with_dim m.dim [] → IsOnWay go path t (k + 1) offset' dims' m.to
+on_way_more go path t k offset dims here p m offset' dims' w lt is e eo ed = record {
+  true_offset = w.true_offset + m.by;
+  kept = omega (arith, w.kept, eo);
+  way = ap (λ x. onto (w.true_offset + m.by) x (walk_by go (drop (k + 1) path) (k + 1) m.to)) ed
+      ∙ sym (onto_moved w.true_offset dims m (walk_by go (drop (k + 1) path) (k + 1) m.to))
+      ∙ ap (λ r. onto w.true_offset dims (r >>= λ m. moved m (walk_by go (drop (k + 1) path) (k + 1) m.to))) (sym e ∙ ap (λ s. go k s here) is)
+      ∙ ap (λ ps. onto w.true_offset dims (walk_by go ps k here)) (sym (drop_more path k p lt))
+      ∙ w.way;
+}
+
+-- a refused step refuses the path
+pub on_way_err : (go : ℕ → PathStep → Tree → Moved) (path : List PathStep) (t : Tree) (k offset : ℕ) (dims : List Dim) (here : Tree) (p : PathStep) (e : Refusal)
+    → IsOnWay go path t k offset dims here → k < length path → p ≡ get_or path k p → go k p here ≡ Err e → walk_by go path 0 t ≡ Err e
+on_way_err go path t k offset dims here p e w lt is m =
+    sym w.way ∙ ap (λ ps. onto w.true_offset dims (walk_by go ps k here)) (drop_more path k p lt)
+    ∙ ap (λ r. onto w.true_offset dims (r >>= λ m. moved m (walk_by go (drop (k + 1) path) (k + 1) m.to))) (sym (ap (λ s. go k s here) is) ∙ m)
+
+-- behind the last step the way is the whole walk
+pub on_way_end : (go : ℕ → PathStep → Tree → Moved) (path : List PathStep) (t : Tree) (k offset : ℕ) (dims : List Dim) (here : Tree) → IsOnWay go path t k offset dims here → length path ≤ k
+    → (a : ℕ) × (offset ≡ min a (2 ^ 64 - 1)) × (walk_by go path 0 t ≡ made a dims here)
+on_way_end go path t k offset dims here w le =
+    (w.true_offset, w.kept, sym w.way ∙ ap (λ ps. onto w.true_offset dims (walk_by go ps k here)) (drop_all k path le) ∙ made_like (w.true_offset + 0) w.true_offset (dims ++ []) dims here (omega arith) (append-nil dims))
+
+-- a refused walk is a refused path, whatever the indices
+pub refused : (path : List PathStep) (t : Tree) (e : Refusal) → walk path t ≡ Err e → IsRefused path t e
+refused path t e h = subst (Agrees taken path 0 t) h (agrees path 0 t)
+
+-- the same where no step may be left open
+pub refused_closed : (path : List PathStep) (t : Tree) (e : Refusal) → walk_closed path t ≡ Err e → follow_closed path t ≡ Err e
+refused_closed path t e h = let g : Agrees taken_closed path 0 t (Err e) = subst (Agrees taken_closed path 0 t) h (agrees_closed path 0 t) in g []
+
+-- index 0 everywhere
+abbrev pub zeros : List ℕ → List ℕ
+zeros [] = []
+zeros (i ∷ is) = 0 ∷ zeros is
+
+-- where some indices are admitted, index 0 is
+zeros_admitted : (ds : List Dim) (is : List ℕ) → AreAdmitted ds is → AreAdmitted ds (zeros is)
+zeros_admitted [] [] a = tt
+zeros_admitted (d ∷ ds) (i ∷ is) a = (omega (arith, a.0), zeros_admitted ds is a.1)
+zeros_admitted [] (i ∷ is) a = absurd a
+zeros_admitted (d ∷ ds) [] a = absurd a
+
+-- index 0 stays where it is
+reach_zero : (at : ℕ) (z : ℤ) → reach at z 0 ≡ at
+reach_zero at (pos s) = omega arith
+reach_zero at (negsuc s) = omega arith
+
+-- so do all of them
+at_zeros : (at : ℕ) (ds : List Dim) (is : List ℕ) → offset_at at ds (zeros is) ≡ at
+at_zeros at [] is = refl
+at_zeros at (d ∷ ds) [] = refl
+at_zeros at (d ∷ ds) (i ∷ is) = ap (λ x. offset_at x ds (zeros is)) (reach_zero at d.stride) ∙ at_zeros at ds is
+
+-- at these indices the walk meets following
+met : (path : List PathStep) (t : Tree) (a : ℕ) (dims : List Dim) (u : Tree) → walk path t ≡ made a dims u → (is : List ℕ) → AreAdmitted dims is → Meets taken path 0 t (record { offset = a; dims = dims; last = u }) is
+met path t a dims u w is h = let g : Agrees taken path 0 t (made a dims u) = subst (Agrees taken path 0 t) w (agrees path 0 t) in g is h
+
+-- where some indices are admitted, the offset is that of a place
+small_offset : (path : List PathStep) (t : Tree) (a : ℕ) (dims : List Dim) (u : Tree) → walk path t ≡ made a dims u → (is : List ℕ) → AreAdmitted dims is → a + size_of u ≤ size_of t
+small_offset path t a dims u w is h =
+    let m = met path t a dims u w (zeros is) (zeros_admitted dims is h) in
+    omega (arith, inside m.steps t _ u m.stands, at_zeros a dims is)
+
+-- and then it was kept whole
+same_offset : (path : List PathStep) (t : Tree) (offset : ℕ) (dims : List Dim) (u : Tree) → IsWellFormed t → (l : LeadsTo path t offset dims u) → (is : List ℕ) → AreAdmitted dims is → l.whole ≡ offset
+same_offset path t offset dims u well l is h = omega (arith, l.kept, small_offset path t l.whole dims u l.walked is h, (fit_of t well).size)
+
+-- at admitted indices the offset is that of the place that following the path finds
+pub leads_finds : (path : List PathStep) (t : Tree) (offset : ℕ) (dims : List Dim) (u : Tree) → IsWellFormed t → LeadsTo path t offset dims u → (is : List ℕ) → AreAdmitted dims is → Finds path t is (offset_at offset dims is) u
+leads_finds path t offset dims u well l is h =
+    let m = met path t l.whole dims u l.walked is h in
+    subst (λ x. Finds path t is (offset_at x dims is) u) (same_offset path t offset dims u well l is h)
+    (record { steps = m.steps; follows = m.follows; listed = listed t m.steps (offset_at l.whole dims is) u m.stands })
+
+-- and that place lies inside the layout
+pub leads_inside : (path : List PathStep) (t : Tree) (offset : ℕ) (dims : List Dim) (u : Tree) → IsWellFormed t → LeadsTo path t offset dims u → (is : List ℕ) → AreAdmitted dims is → offset_at offset dims is + size_of u ≤ size_of t
+leads_inside path t offset dims u well l is h =
+    let m = met path t l.whole dims u l.walked is h in
+    subst (λ x. offset_at x dims is + size_of u ≤ size_of t) (same_offset path t offset dims u well l is h) (inside m.steps t _ u m.stands)
+
+-- that place stands at a multiple of its alignment, which is a power of two and divides the layout's
+pub leads_aligned : (path : List PathStep) (t : Tree) (offset : ℕ) (dims : List Dim) (u : Tree) → IsWellFormed t → LeadsTo path t offset dims u → (is : List ℕ) → AreAdmitted dims is
+    → IsPowerOfTwo (alignment_of u) × (offset_at offset dims is % alignment_of u ≡ 0) × (alignment_of t % alignment_of u ≡ 0)
+leads_aligned path t offset dims u well l is h =
+    let m = met path t l.whole dims u l.walked is h in
+    let fit = place_fits_root m.steps t (offset_at l.whole dims is) u well m.stands in
+    let same = same_offset path t offset dims u well l is h in
+    ((fit_of u fit.0).power, subst (λ x. offset_at x dims is % alignment_of u ≡ 0) same (place_aligned m.steps t (offset_at l.whole dims is) u well m.stands), fit.1)
+
+-- each offset on the way is that of a place
+keeps_inside : (at most : ℕ) (ds : List Dim) (is : List ℕ) → most < 2 ^ 64 → ((js : List ℕ) → AreAdmitted ds js → offset_at at ds js ≤ most) → StaysAbove at ds is → AreAdmitted ds is → IsSteady at ds is
+keeps_inside at most [] is lt f s a = tt
+keeps_inside at most (d ∷ ds) [] lt f s a = tt
+keeps_inside at most (d ∷ ds) (i ∷ is) lt f s a =
+    let e = f (i ∷ zeros is) (a.0, zeros_admitted ds is a.1) in (
+      record { back = s.0; on = omega (arith, e, at_zeros (reach at d.stride i) ds is) },
+      keeps_inside (reach at d.stride i) most ds is lt (λ js b. f (i ∷ js) (a.0, b)) s.1 a.1,
+    )
+
+-- so no sum over admitted indices passes 64 bits or falls below 0
+pub leads_steady : (path : List PathStep) (t : Tree) (offset : ℕ) (dims : List Dim) (u : Tree) → IsWellFormed t → LeadsTo path t offset dims u → (is : List ℕ) → AreAdmitted dims is → IsSteady offset dims is
+leads_steady path t offset dims u well l is h =
+    subst (λ x. IsSteady x dims is) (same_offset path t offset dims u well l is h)
+    (keeps_inside l.whole (size_of t) dims is (omega (arith, (fit_of t well).size))
+    (λ js b. let m = met path t l.whole dims u l.walked js b in omega (arith, inside m.steps t _ u m.stands))
+    (met path t l.whole dims u l.walked is h).steady h)
+
+-- the layout at the walk's end is the one at the path's end
+ends_by_dim : (k : ℕ) (p : PathStep) (t : Tree) (o : Option Dim) (by : ℕ) (u : Tree) → Tells (taken k p t) p t o by u → (s : Step) × (taken k p t 0 ≡ Ok (s, u))
+ends_by_dim k p t None by u f = ((f.1 0).0, (f.1 0).1)
+ends_by_dim k p t (Some d) by u f = ((f.1 0).0, (f.1 0).1)
+
+abbrev Ends : List PathStep → ℕ → Tree → Result Walk Refusal → Type 0
+Ends ps k t (Ok w) = end_from ps k t ≡ Ok w.last
+Ends ps k t (Err e) = end_from ps k t ≡ Err e
+
+-- a move changes no end
+ends_moved : (ps : List PathStep) (k : ℕ) (m : Move) (r : Result Walk Refusal) → Ends ps k m.to r → Ends ps k m.to (moved m r)
+ends_moved ps k m (Ok w) h = h
+ends_moved ps k m (Err e) h = h
+
+-- equal ways have equal ends
+ends_like : (ps qs : List PathStep) (j k : ℕ) (t u : Tree) (r : Result Walk Refusal) → end_from ps j t ≡ end_from qs k u → Ends qs k u r → Ends ps j t r
+ends_like ps qs j k t u (Ok w) e h = e ∙ h
+ends_like ps qs j k t u (Err x) e h = e ∙ h
+
+-- a step, and then the rest
+ends_join : (p : PathStep) (ps : List PathStep) (k : ℕ) (t : Tree) (r : Moved) → Fits (taken k p t) p t r → ((u : Tree) → Ends ps (k + 1) u (walk_by move ps (k + 1) u)) → Ends (p ∷ ps) k t (r >>= λ m. moved m (walk_by move ps (k + 1) m.to))
+ends_join p ps k t (Err e) f ih = ap (λ c. c >>= λ c. end_from ps (k + 1) c.1) (f 0)
+ends_join p ps k t (Ok m) f ih =
+    let e = ends_by_dim k p t m.dim m.by m.to f in
+    ends_like (p ∷ ps) ps k (k + 1) t m.to (moved m (walk_by move ps (k + 1) m.to)) (ap (λ c. c >>= λ c. end_from ps (k + 1) c.1) e.1) (ends_moved ps (k + 1) m (walk_by move ps (k + 1) m.to) (ih m.to))
+
+-- the walk ends where the path does
+ends : (ps : List PathStep) (k : ℕ) (t : Tree) → Ends ps k t (walk_by move ps k t)
+ends [] k t = refl
+ends (p ∷ ps) k t = ends_join p ps k t (move k p t) (fits k p t) (λ u. ends ps (k + 1) u)
+
+-- so does what the path leads to
+pub leads_end : (path : List PathStep) (t : Tree) (offset : ℕ) (dims : List Dim) (u : Tree) → LeadsTo path t offset dims u → end_of path t ≡ Ok u
+leads_end path t offset dims u l = subst (Ends path 0 t) l.walked (ends path 0 t)
+
+-- where no step is left open, the walk's offset is that of the place that following finds
+pub closed_finds : (path : List PathStep) (t : Tree) (a : ℕ) (u : Tree) → walk_closed path t ≡ made a [] u → FindsClosed path t a u × (a + size_of u ≤ size_of t)
+closed_finds path t a u w =
+    let g : Agrees taken_closed path 0 t (made a [] u) = subst (Agrees taken_closed path 0 t) w (agrees_closed path 0 t) in
+    let m = g [] tt in
+    (record { steps = m.steps; follows = m.follows; listed = listed t m.steps a u m.stands }, inside m.steps t a u m.stands)
+
+-- where the path ends, what was kept of the walk is where it leads
+pub on_way_leads : (path : List PathStep) (t : Tree) (k offset : ℕ) (dims : List Dim) (here : Tree) → IsOnWay move path t k offset dims here → length path ≤ k → LeadsTo path t offset dims here
+on_way_leads path t k offset dims here w le = let e = on_way_end move path t k offset dims here w le in record { whole = e.0; kept = e.1; walked = e.2 }
+
+-- the same where no step may be left open: the offset is that of the place
+pub on_way_finds : (path : List PathStep) (t : Tree) (k offset : ℕ) (here : Tree) → IsWellFormed t → IsOnWay move_closed path t k offset [] here → length path ≤ k → FindsClosed path t offset here
+on_way_finds path t k offset here well w le =
+    let e = on_way_end move_closed path t k offset [] here w le in
+    let f = closed_finds path t e.0 here e.2 in
+    let same : e.0 ≡ offset = omega (arith, e.1, f.1, (fit_of t well).size) in
+    subst (λ x. FindsClosed path t x here) same f.0
+
+-- a step to a member, found or not, has no dim
+member_no_dim : (k n : ℕ) (t : Tree) (o : Option Tree) (m : Move) → move_member k n t o ≡ Ok m → m.dim ≡ None
+member_no_dim k n t None m e = absurd (cc)
+member_no_dim k n t (Some u) m e = cc
+
+-- a step by name has no dim
+found_no_dim : (k : ℕ) (t : Tree) (ms : Trees) (o : Option ℕ) (m : Move) → move_found k t ms o ≡ Ok m → m.dim ≡ None
+found_no_dim k t ms None m e = absurd (cc)
+found_no_dim k t ms (Some n) m e = member_no_dim k n t (tree_at n ms) m e
+
+-- a step to an element has no dim
+at_no_dim : (k n : ℕ) (u : Tree) (b : Bool) (m : Move) → (if b then Ok (record { by = n * size_of u; dim = None; to = u }) else Err (IndexOut k)) ≡ Ok m → m.dim ≡ None
+at_no_dim k n u true m e = cc
+at_no_dim k n u false m e = absurd (cc)
+
+-- no step that may be taken where none is left open has a dim
+closed_no_dim : (k : ℕ) (p : PathStep) (t : Tree) (m : Move) → move_closed k p t ≡ Ok m → m.dim ≡ None
+closed_no_dim k (Name name) (Struct ms l) m e = found_no_dim k (Struct ms l) ms (index_named name 0 ms) m e
+closed_no_dim k (Name name) (Union ms l) m e = found_no_dim k (Union ms l) ms (index_named name 0 ms) m e
+closed_no_dim k (Name name) (Value v o l) m e = absurd (cc)
+closed_no_dim k (Name name) (Padding n l) m e = absurd (cc)
+closed_no_dim k (Name name) (Sequence c x l) m e = absurd (cc)
+closed_no_dim k (Group n) (Struct ms l) m e = member_no_dim k n (Struct ms l) (tree_at n ms) m e
+closed_no_dim k (Group n) (Union ms l) m e = member_no_dim k n (Union ms l) (tree_at n ms) m e
+closed_no_dim k (Group n) (Value v o l) m e = absurd (cc)
+closed_no_dim k (Group n) (Padding c l) m e = absurd (cc)
+closed_no_dim k (Group n) (Sequence c x l) m e = absurd (cc)
+closed_no_dim k (At n) (Sequence c x l) m e = at_no_dim k n x (nat_lt n c) m e
+closed_no_dim k (At n) (Value v o l) m e = absurd (cc)
+closed_no_dim k (At n) (Padding c l) m e = absurd (cc)
+closed_no_dim k (At n) (Struct ms l) m e = absurd (cc)
+closed_no_dim k (At n) (Union ms l) m e = absurd (cc)
+closed_no_dim k Each t m e = absurd (cc)
+closed_no_dim k (EachFrom f s) t m e = absurd (cc)
+
+-- one more step where none may be left open
+pub on_way_closed : (path : List PathStep) (t : Tree) (k offset : ℕ) (here : Tree) (p : PathStep) (m : Move) (offset' : ℕ)
+    → IsOnWay move_closed path t k offset [] here → k < length path → p ≡ get_or path k p → move_closed k p here ≡ Ok m
+    → offset' ≡ min (offset + m.by) (2 ^ 64 - 1) → IsOnWay move_closed path t (k + 1) offset' [] m.to
+on_way_closed path t k offset here p m offset' w lt is e eo =
+    on_way_more move_closed path t k offset [] here p m offset' [] w lt is e eo (ap (λ o. with_dim o []) (sym (closed_no_dim k p here m e)))

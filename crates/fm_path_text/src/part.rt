@@ -1,0 +1,301 @@
+ghost use Rattle.std.specs.Prelude.{◌≡◌, ℕ, ◌<◌, ◌≤◌, ◌++◌, ◌∷◌, ◌||◌, [], pos, neg_ℤ, IfOk, IfErr, IsTrue, length};
+ghost use Rattle.fm_layout.specs.Name.{is_letter, is_digit};
+ghost use Rattle.fm_path_text.specs.Grammar.{most_number, most_pieces};
+ghost use Rattle.fm_path_text.specs.Reader.{longer_number, next, opens, closes, spells, IsSound, IsBounded, whole, Holds};
+
+use crate::name_text::NameText;
+use crate::sign::Sign;
+use crate::step::PathStep;
+use fm_base::Refusal;
+
+/// What has been read of a piece of a path's text.
+#[derive(Debug, Drop)]
+pub enum Part {
+    /// Nothing: the last piece has ended, or none has begun.
+    Between,
+    /// `.`
+    Dot,
+    /// `.NAME`
+    Word(NameText),
+    /// `.#`
+    Hash,
+    /// `.#N`
+    Number(u64),
+    /// `[`
+    Open,
+    /// `[N`
+    Index(u64),
+    /// `[F:`
+    Colon(u64),
+    /// `[F:-`
+    Minus(u64),
+    /// `[F:S`
+    Up(u64, u64),
+    /// `[F:-S`
+    Down(u64, u64),
+}
+
+/// What a byte does to the part that has been read.
+#[derive(Debug, Drop)]
+pub enum Move {
+    /// No path's text goes on so.
+    Dead,
+    /// The piece goes on.
+    Stay(Part),
+    /// The piece has ended, and the next one has begun as far as this part.
+    Finish(PathStep, Part),
+}
+
+const MOST_NUMBER: u64 = 1 << 40;
+
+const MOST_PIECES: usize = 64;
+
+impl Part {
+    /// What a sign does here, behind so many whole pieces.
+    pub fn next(self, pieces: usize, sign: Sign) -> Move
+        requires pieces { pieces ≤ most_pieces }
+        requires sound { IsSound sign }
+        requires bounded { IsBounded self }
+        ensures { result ≡ next self pieces sign }
+    {
+        match self {
+            Part::Between => between(pieces, sign),
+            Part::Dot => behind_dot(sign),
+            Part::Word(name) => in_name(name, pieces, sign),
+            Part::Hash => behind_hash(sign),
+            Part::Number(n) => in_number(n, pieces, sign),
+            Part::Open => behind_open(sign),
+            Part::Index(n) => in_index(n, sign),
+            Part::Colon(first) => behind_colon(first, sign),
+            Part::Minus(first) => behind_minus(first, sign),
+            Part::Up(first, n) => in_stride(first, n, sign),
+            Part::Down(first, n) => in_stride_back(first, n, sign),
+        }
+    }
+
+    /// The path of these whole pieces and this part of one more, if the text may end here.
+    pub fn finish(self, path: Vec<PathStep>) -> Result<Option<Vec<PathStep>>, Refusal>
+        ensures whole { IfOk result (λ found. Holds found (whole path.items self)) }
+        ensures memory { IfErr result (λ refusal. refusal ≡ Refusal.Memory) }
+    {
+        match self {
+            Part::Dot => Ok(if path.is_empty() { Some(path) } else { None }),
+            Part::Between => Ok(if path.is_empty() { None } else { Some(path) }),
+            Part::Word(name) => with_step(path, PathStep::Name(name)),
+            Part::Number(n) => with_step(path, PathStep::Group(n)),
+            _ => Ok(None),
+        }
+    }
+}
+
+/// The path with one step more.
+fn with_step(mut path: Vec<PathStep>, step: PathStep) -> Result<Option<Vec<PathStep>>, Refusal>
+    ensures longer { IfOk result (λ found. Holds found (Some (path.items ++ step ∷ []))) }
+    ensures memory { IfErr result (λ refusal. refusal ≡ Refusal.Memory) }
+{
+    match path.push(step) {
+        Ok(()) => Ok(Some(path)),
+        Err(_) => Err(Refusal::Memory),
+    }
+}
+
+fn between(pieces: usize, sign: Sign) -> Move
+    ensures { result ≡ next Part.Between pieces sign }
+{
+    match sign {
+        Sign::Dot => opens(pieces, Part::Dot),
+        Sign::Open => opens(pieces, Part::Open),
+        _ => Move::Dead,
+    }
+}
+
+fn behind_dot(sign: Sign) -> Move
+    requires { IsSound sign }
+    ensures { (pieces : ℕ) → result ≡ next Part.Dot pieces sign }
+{
+    match sign {
+        Sign::Hash => Move::Stay(Part::Hash),
+        Sign::Letter(byte) => Move::Stay(Part::Word(NameText::of_letter(byte))),
+        _ => Move::Dead,
+    }
+}
+
+fn in_name(name: NameText, pieces: usize, sign: Sign) -> Move
+    requires pieces { pieces ≤ most_pieces }
+    requires sound { IsSound sign }
+    ensures { result ≡ next (Part.Word name) pieces sign }
+{
+    match sign {
+        Sign::Letter(byte) => spells(name, byte),
+        Sign::Digit(digit) => spells(name, b'0' + digit),
+        Sign::Dot => closes(pieces, PathStep::Name(name), Part::Dot),
+        Sign::Open => closes(pieces, PathStep::Name(name), Part::Open),
+        _ => Move::Dead,
+    }
+}
+
+fn behind_hash(sign: Sign) -> Move
+    ensures { (pieces : ℕ) → result ≡ next Part.Hash pieces sign }
+{
+    match sign {
+        Sign::Digit(digit) => Move::Stay(Part::Number(u64::from(digit))),
+        _ => Move::Dead,
+    }
+}
+
+fn in_number(n: u64, pieces: usize, sign: Sign) -> Move
+    requires pieces { pieces ≤ most_pieces }
+    requires sound { IsSound sign }
+    ensures { result ≡ next (Part.Number n) pieces sign }
+{
+    match sign {
+        Sign::Digit(digit) => longer_number(n, digit).map_or(
+            Move::Dead,
+            |n| Move::Stay(Part::Number(n)),
+        ),
+        Sign::Dot => closes(pieces, PathStep::Group(n), Part::Dot),
+        Sign::Open => closes(pieces, PathStep::Group(n), Part::Open),
+        _ => Move::Dead,
+    }
+}
+
+fn behind_open(sign: Sign) -> Move
+    ensures { (pieces : ℕ) → result ≡ next Part.Open pieces sign }
+{
+    match sign {
+        Sign::Close => Move::Finish(PathStep::Each, Part::Between),
+        Sign::Digit(digit) => Move::Stay(Part::Index(u64::from(digit))),
+        _ => Move::Dead,
+    }
+}
+
+fn in_index(n: u64, sign: Sign) -> Move
+    requires { IsSound sign }
+    ensures { (pieces : ℕ) → result ≡ next (Part.Index n) pieces sign }
+{
+    match sign {
+        Sign::Digit(digit) => longer_number(n, digit).map_or(
+            Move::Dead,
+            |n| Move::Stay(Part::Index(n)),
+        ),
+        Sign::Close => Move::Finish(PathStep::At(n), Part::Between),
+        Sign::Colon => Move::Stay(Part::Colon(n)),
+        _ => Move::Dead,
+    }
+}
+
+fn behind_colon(first: u64, sign: Sign) -> Move
+    ensures { (pieces : ℕ) → result ≡ next (Part.Colon first) pieces sign }
+{
+    match sign {
+        Sign::Minus => Move::Stay(Part::Minus(first)),
+        Sign::Digit(digit) => Move::Stay(Part::Up(first, u64::from(digit))),
+        _ => Move::Dead,
+    }
+}
+
+fn behind_minus(first: u64, sign: Sign) -> Move
+    ensures { (pieces : ℕ) → result ≡ next (Part.Minus first) pieces sign }
+{
+    match sign {
+        Sign::Digit(0) => Move::Dead,
+        Sign::Digit(digit) => Move::Stay(Part::Down(first, u64::from(digit))),
+        _ => Move::Dead,
+    }
+}
+
+fn in_stride(first: u64, n: u64, sign: Sign) -> Move
+    requires sound { IsSound sign }
+    requires bounded { n ≤ most_number }
+    ensures { (pieces : ℕ) → result ≡ next (Part.Up first n) pieces sign }
+{
+    match sign {
+        Sign::Digit(digit) => longer_number(n, digit).map_or(
+            Move::Dead,
+            |n| Move::Stay(Part::Up(first, n)),
+        ),
+        Sign::Close => Move::Finish(PathStep::EachFrom(first, up(n)), Part::Between),
+        _ => Move::Dead,
+    }
+}
+
+fn in_stride_back(first: u64, n: u64, sign: Sign) -> Move
+    requires sound { IsSound sign }
+    requires bounded { n ≤ most_number }
+    ensures { (pieces : ℕ) → result ≡ next (Part.Down first n) pieces sign }
+{
+    match sign {
+        Sign::Digit(digit) => longer_number(n, digit).map_or(
+            Move::Dead,
+            |n| Move::Stay(Part::Down(first, n)),
+        ),
+        Sign::Close => Move::Finish(PathStep::EachFrom(first, down(n)), Part::Between),
+        _ => Move::Dead,
+    }
+}
+
+/// The first byte of a piece, if there may be one more piece.
+fn opens(pieces: usize, part: Part) -> Move
+    ensures { result ≡ opens pieces part }
+{
+    if pieces < MOST_PIECES {
+        Move::Stay(part)
+    } else {
+        Move::Dead
+    }
+}
+
+/// The end of a piece where the next one begins, if there may be one more.
+fn closes(pieces: usize, step: PathStep, part: Part) -> Move
+    requires { pieces ≤ most_pieces }
+    ensures { result ≡ closes pieces step part }
+{
+    if pieces + 1 < MOST_PIECES {
+        Move::Finish(step, part)
+    } else {
+        Move::Dead
+    }
+}
+
+/// One more byte of a name, if there is room.
+fn spells(mut name: NameText, byte: u8) -> Move
+    requires { IsTrue (is_letter byte || is_digit byte) }
+    ensures { result ≡ spells name byte }
+{
+    if name.len() < 64 {
+        name.push(byte);
+        Move::Stay(Part::Word(name))
+    } else {
+        Move::Dead
+    }
+}
+
+/// A number with one more digit, if there is one: no zero leads, and the number isn't too great.
+fn longer_number(n: u64, digit: u8) -> Option<u64>
+    requires { digit < 10 }
+    ensures { result ≡ longer_number n digit }
+{
+    if n == 0 || n > MOST_NUMBER {
+        return None;
+    }
+    let longer = 10 * n + u64::from(digit);
+    if longer <= MOST_NUMBER {
+        Some(longer)
+    } else {
+        None
+    }
+}
+
+fn up(n: u64) -> i64
+    requires { n ≤ most_number }
+    ensures { result ≡ pos n }
+{
+    n as i64
+}
+
+fn down(n: u64) -> i64
+    requires { n ≤ most_number }
+    ensures { result ≡ neg_ℤ (pos n) }
+{
+    -up(n)
+}

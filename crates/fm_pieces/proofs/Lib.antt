@@ -1,9 +1,0 @@
-pub mod Alone
-pub mod Filling
-pub mod Getting
-pub mod Going
-pub mod Numbers
-pub mod Patching
-pub mod Putting
-pub mod Splicing
-pub mod Visits

@@ -1,0 +1,233 @@
+-- A step keeps the rule, and tells its caller what others did.
+use Rattle.std.proofs.Common.{◌≡◌, ◌≢◌, ℕ, zero, suc, ◌<◌, true, List, [], ◌∷◌, ◌++◌, set, sym, refl, ap, ◌∙◌, subst, arith, inl, inr, ⊎_elim, append_assoc}
+use Rattle.std.proofs.lemmas.List.{append-nil}
+use Rattle.std.proofs.lemmas.List.Elements.{filter-append}
+use mathlib.Core.Logic.{dite}
+use native.Mathlib.Decide.{ℕ_discrete}
+use mathlib.Core.Option.{some, some-injective, some-ne-none}
+use lib.ListN.{get_elem?}
+use Rattle.atomic_table.proofs.Lists.{set_else}
+use Rattle.fm_words.specs.declared.shape.Shape.{Shape}
+use Rattle.fm_base.specs.declared.caller.Caller.{Caller}
+use Rattle.fm_base.specs.Calls.{Entry}
+use Rattle.fm_base.specs.Histories.{made_by}
+use Rattle.fm_base.specs.Finds.{Find, Close}
+use Rattle.fm_depicts.specs.Functions.{Machine}
+use Rattle.fm_depicts.specs.Steps.{moved_by}
+use Rattle.fm_pool_facts.specs.Views.{View, In, HasSlot, IsSound, limit_of}
+use Rattle.fm_pool_facts.specs.Facts.{Memory, Owners, IsClosing, IsSilent, WasOpened, Begins, Somewhere, Owns, Knows}
+use Rattle.fm_pool_facts.specs.Moves.{MayMake, NoEnd, Moved, Same, Part, told, Gives}
+use Rattle.fm_pool_facts.proofs.Frame.{others_stay, none_come, still_closing, still_known, made_by-other}
+
+-- ---- lists
+
+-- what is added to a list that stays as it is is nothing
+pub none_added : {A : Type 0} (xs ys : List A) → xs ++ ys ≡ xs → ys ≡ []
+none_added [] ys e = e
+none_added (x ∷ xs) ys e = none_added xs ys (cc)
+
+pub set_there : {A : Type 0} (l : List A) (i : ℕ) (a b : A) → get_elem? l i ≡ some a → get_elem? (set l i b) i ≡ some b
+set_there [] i a b e = absurd (some-ne-none a (sym e))
+set_there (x ∷ xs) zero a b e = refl
+set_there (x ∷ xs) (suc i) a b e = set_there xs i a b e
+
+pub in_left : {A : Type 0} (x : A) (xs ys : List A) → In x xs → In x (xs ++ ys)
+in_left x [] ys i = absurd i
+in_left x (y ∷ xs) ys (inl e) = inl e
+in_left x (y ∷ xs) ys (inr i) = inr (in_left x xs ys i)
+
+pub stays_somewhere : (vs : List View) (me : ℕ) (v w : View) (i : ℕ) (P : View → Type 0) → get_elem? vs me ≡ some v → (P v → P w) → Somewhere vs i P
+    → Somewhere (set vs me w) i P
+stays_somewhere vs me v w i P at f s = dite (ℕ_discrete i me)
+    (λ e. record {
+      view = w;
+      there = ap (get_elem? (set vs me w)) e ∙ set_there vs me v w at;
+      holds = f (subst P (some-injective s.view v (sym s.there
+          ∙ (ap (get_elem? vs) e ∙ at))) s.holds);
+    })
+    (λ n. record { view = s.view; there = set_else vs me i w n ∙ s.there; holds = s.holds })
+
+pub begins_on : (xs h es : List Entry) → Begins xs h → Begins xs (h ++ es)
+begins_on xs h es b = (b.0 ++ es, ap (λ (l : List Entry). l ++ es) b.1 ∙ append_assoc xs b.0 es)
+
+-- ---- other views
+
+module _ (limit : ℕ) (h : List Entry) (c : Caller) (m : Memory) (t : Machine) (es : List Entry) (m' : Memory) (ok : MayMake limit t c es) where
+  made_by-on : (k : Caller) → k ≢ c → made_by k (h ++ es) ≡ made_by k h
+  made_by-on k n = filter-append _ h es ∙ (ap (λ (l : List Entry). made_by k h ++ l) (made_by-other limit c k es t n ok) ∙ append-nil (made_by k h))
+
+  pub silent_on : (k : ℕ) → k ≢ c.number → m'.marks k ≡ m.marks k → IsSilent k h m t → IsSilent k (h ++ es) m' (moved_by t es)
+  silent_on k n mk s = record {
+    calls = λ d e. made_by-on d (λ q. n (sym e ∙ ap (λ (x : Caller). x.number) q)) ∙ s.calls d e;
+    outside = λ d e. others_stay limit c d es t (λ q. n (sym e ∙ ap (λ (x : Caller). x.number) q)) ok ∙ s.outside d e;
+    mark = mk ∙ s.mark;
+  }
+
+  pub closing_on : (j : ℕ) (o o' : Owners) (x : Close) → IsClosing t o j x → o'.closer x.arena ≡ o.closer x.arena → NoEnd es x.arena
+      → IsClosing (moved_by t es) o' j x
+  closing_on j o o' x k e z = record {
+    owner = e ∙ k.owner;
+    life = still_closing limit c x.arena es t ok k.life z;
+    visited = λ i l. none_come limit c i x.arena es t ok k.life z (k.visited i l);
+  }
+
+  pub opened_on : (s : ℕ) → WasOpened t s → WasOpened (moved_by t es) s
+  opened_on s w = (w.0, w.1, still_known w.0 es t w.2)
+
+module _ (z : Shape) (h : List Entry) (me : ℕ) (c : Caller) (m : Memory) (t : Machine) (o : Owners) (es : List Entry) (m' : Memory) (o' : Owners)
+    (d : Moved me (limit_of z) c m t o es m' o') (own : o.number c.number ≡ me) (low : c.number < m.draw) where
+  abbrev t' : Machine
+  t' = moved_by t es
+
+  abbrev h' : List Entry
+  h' = h ++ es
+
+  drawn_still : (n : ℕ) → n < m.draw → n < m'.draw
+  drawn_still n l = let e = d.draw in omega arith
+
+  drawn_before : (n : ℕ) → n < m'.draw → n < m.draw
+  drawn_before n l = let e = d.draw in omega arith
+
+  others_own : (j : ℕ) (v : View) → j ≢ me → Owns z h m t o j v → Owns z h' m' t' o' j v
+  others_own j v other k = record {
+    number = drawn_still v.caller.number k.number;
+    term = k.term ∙ sym (d.terms v.caller.number);
+    seated = d.numbers v.caller.number ∙ k.seated;
+    mine = made_by-on (limit_of z) h c m t es m' d.allowed v.caller apart ∙ k.mine;
+    inside = others_stay (limit_of z) c v.caller es t apart d.allowed ∙ k.inside;
+    mark = d.marks v.caller.number (away v.caller.number k.seated) ∙ k.mark;
+    closes = λ x i.
+        let y = k.closes x i in
+        let w = d.closers x.arena y.life (λ e. other (sym y.owner ∙ e)) in
+        closing_on (limit_of z) h c m t es m' d.allowed j o o' x y w.0 w.1;
+    once = k.once;
+    hand = λ s i.
+        let y = k.hand s i in
+        let w = d.holders s.slot s.generation y.session (λ e. other (sym y.owner ∙ e)) in
+        record { owner = w.0 ∙ y.owner; slot = y.slot; generation = y.generation; session = w.1 };
+    apart = k.apart;
+    only = k.only;
+    slots = λ e s l. ⊎_elim (λ (i : HasSlot s v). inl i) (λ (w : WasOpened t s). inr (opened_on (limit_of z) h c m t es m' d.allowed s w)) (k.slots e s l);
+    gathered = λ g i.
+        let y = k.gathered g i in
+        let far = away g.caller.number y.seated in
+        let apart' : g.caller ≢ c = λ q. far (ap (λ (x : Caller). x.number) q) in
+        record {
+          number = drawn_still g.caller.number y.number;
+          seated = d.numbers g.caller.number ∙ y.seated;
+          apart = y.apart;
+          outside = others_stay (limit_of z) c g.caller es t apart' d.allowed ∙ y.outside;
+          mark = d.marks g.caller.number far ∙ y.mark;
+          quiet = made_by-on (limit_of z) h c m t es m' d.allowed g.caller apart' ∙ y.quiet;
+        };
+    drawn = λ n e.
+        let y = k.drawn n e in
+        let far = away n y.seated in
+        record {
+          number = drawn_still n y.number;
+          seated = d.numbers n ∙ y.seated;
+          apart = y.apart;
+          ungathered = y.ungathered;
+          silent = silent_on (limit_of z) h c m t es m' d.allowed n far (d.marks n far) y.silent;
+        };
+    whole = λ e. absurd (lone e);
+    seen_all = λ e. absurd (lone e);
+  }
+    where
+      away : (n : ℕ) → o.number n ≡ j → n ≢ c.number
+      away n s q = other (sym s ∙ (ap o.number q ∙ own))
+
+      apart : v.caller ≢ c
+      apart q = away v.caller.number k.seated (ap (λ (x : Caller). x.number) q)
+
+      -- a view that is known to be whole is the only one with a number
+      lone : v.whole ≡ true → ⊥
+      lone e = let g = k.whole e c.number low (λ q. away v.caller.number k.seated (sym q)) in away g.0.caller.number (k.gathered g.0 g.1).seated g.2
+
+  pub others_know : (j : ℕ) (v : View) → j ≢ me → Knows z h m t o j v → Knows z (h ++ es) m' (moved_by t es) o' j v
+  others_know j v other k = record {
+    shape = k.shape;
+    begins = begins_on v.seen h es k.begins;
+    met = λ xs i. begins_on xs h es (k.met xs i);
+    owns = λ l. others_own j v other (k.owns l);
+  }
+
+-- ---- the caller's own view
+
+module _ (z : Shape) (h zs : List Entry) (me : ℕ) (m m' : Memory) (t : Machine) (o o' : Owners) (es : List Entry) (fs : ℕ → List Find) (v p : View)
+    (k : Knows z h m t o me v) (l : v.live ≡ true) (d : Moved me (limit_of z) v.caller m t o es m' o') (is : h ≡ v.seen ++ zs) (s : Same v p) where
+  abbrev pub w : View
+  w = told p zs es fs
+
+  seen_is : w.seen ≡ h ++ es
+  seen_is = ap (λ (xs : List Entry). (xs ++ zs) ++ es) s.seen ∙ ap (λ (xs : List Entry). xs ++ es) (sym is)
+
+  pub own_view : Part z m' (moved_by t es) o' me p → Knows z (h ++ es) m' (moved_by t es) o' me w
+  own_view q =
+      let u = k.owns l in
+      let ok = d.allowed in
+      let num : p.caller.number ≡ v.caller.number = ap (λ (x : Caller). x.number) s.caller in
+      record {
+        shape = λ e. s.shape ∙ k.shape l;
+        begins = ([], sym (append-nil w.seen ∙ seen_is));
+        met = λ xs i. absurd i;
+        owns = λ e. record {
+          number = (let a = u.number in let b = d.draw in let c = num in omega arith);
+          term = ap (λ (x : Caller). x.term) s.caller ∙ (u.term ∙ (sym (d.terms v.caller.number) ∙ ap m'.terms (sym num)));
+          seated = ap o'.number num ∙ (d.numbers v.caller.number ∙ u.seated);
+          mine = ap (made_by p.caller) (sym seen_is);
+          inside = q.inside;
+          mark = q.mark;
+          closes = q.closes;
+          once = q.once;
+          hand = q.hand;
+          apart = q.apart;
+          only = q.only;
+          slots = q.slots;
+          gathered = λ g i.
+              let y = u.gathered g (subst (In g) s.gathered i) in
+              let far : g.caller ≢ v.caller = λ e. y.apart (ap (λ (x : Caller). x.number) e) in
+              record {
+                number = (let a = y.number in let b = d.draw in omega arith);
+                seated = d.numbers g.caller.number ∙ y.seated;
+                apart = λ e. y.apart (e ∙ num);
+                outside = others_stay (limit_of z) v.caller g.caller es t far ok ∙ y.outside;
+                mark = d.marks g.caller.number y.apart ∙ y.mark;
+                quiet = ap (made_by g.caller) (sym seen_is);
+              };
+          drawn = λ n e.
+              let y = u.drawn n (sym s.drawn ∙ e) in
+              record {
+                number = (let a = y.number in let b = d.draw in omega arith);
+                seated = d.numbers n ∙ y.seated;
+                apart = λ e. y.apart (e ∙ num);
+                ungathered = λ g i. y.ungathered g (subst (In g) s.gathered i);
+                silent = silent_on (limit_of z) h v.caller m t es m' ok n y.apart (d.marks n y.apart) y.silent;
+              };
+          whole = λ e n lt ne.
+              let g = u.whole (sym s.whole ∙ e) n (let b = d.draw in omega arith) (λ q. ne (q ∙ sym num)) in
+              (g.0, subst (In g.0) (sym s.gathered) g.1, g.2);
+          seen_all = λ e. seen_is;
+        };
+      }
+
+  -- what the step tells
+  pub gives_by : IsSound w → Gives v p es fs w
+  gives_by sound =
+      let u = k.owns l in
+      record {
+        others = zs;
+        is = refl;
+        quiet = none_added (made_by v.caller v.seen) (made_by v.caller zs) (sym (filter-append _ v.seen zs) ∙ (ap (made_by v.caller) (sym is) ∙ u.mine));
+        apart = λ g i.
+            let y = u.gathered g i in
+            let far : g.caller ≢ v.caller = λ e. y.apart (ap (λ (x : Caller). x.number) e) in
+            let none =
+            none_added (made_by g.caller v.seen) (made_by g.caller zs) (sym (filter-append _ v.seen zs) ∙ (ap (made_by g.caller) (sym is) ∙ y.quiet)) in
+            filter-append _ zs es ∙ (λ j. none j ++ made_by-other (limit_of z) v.caller g.caller es t far d.allowed j);
+        alone = λ e. none_added v.seen zs (sym is ∙ sym (u.seen_all e));
+        met = λ xs i.
+            let b = begins_on xs h es (k.met xs i) in
+            (b.0, seen_is ∙ b.1);
+        sound = sound;
+      }

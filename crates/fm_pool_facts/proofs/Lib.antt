@@ -1,0 +1,7 @@
+pub mod Frame
+pub mod Standing
+pub mod Worlds
+pub mod Shown
+pub mod Keeping
+pub mod Lending
+pub mod Ruling

@@ -1,0 +1,162 @@
+-- The rule after a step, and that a view that has seen all is sound.
+use Rattle.std.proofs.Common.{◌≡◌, ◌≢◌, ℕ, ◌*◌, ◌^◌, ◌<◌, ◌≤◌, Bool, true, false, List, [], ◌++◌, length, set, sym, refl, ap, ◌∙◌, subst, arith, inl, inr, ⊎_elim, mul-le-mul_right}
+use mathlib.Core.Option.{some}
+use lib.ListN.{get_elem?}
+use Rattle.atomic_table.proofs.Lists.{at_set}
+use Rattle.fm_words.specs.declared.shape.Shape.{Shape}
+use Rattle.fm_words.specs.Shapes.{IsValid}
+use Rattle.fm_base.specs.declared.caller.Caller.{Caller}
+use Rattle.fm_base.specs.declared.arena_id.ArenaId.{ArenaId}
+use Rattle.fm_base.specs.Arenas.{Life, Alive, Closing, Ended, State, IsUnderWay, has_arena, arena_of}
+use Rattle.fm_base.specs.Calls.{Entry}
+use Rattle.fm_base.specs.Histories.{IsLegal, state_after}
+use Rattle.fm_base.specs.Finds.{Find}
+use Rattle.fm_depicts.specs.Functions.{Fresh, Closes, Machine, stage_of}
+use Rattle.fm_depicts.specs.Steps.{moved_by}
+use Rattle.fm_pool_facts.specs.Views.{span, View, Fits, In, HasSlot, IsSpent, IsSound, IsKnown, limit_of, state_in}
+use Rattle.fm_pool_facts.specs.Facts.{Memory, Owners, Shows, World, HasNumber, HasDraw, HasClose, WasOpened, Somewhere, Knows, Rule}
+use Rattle.fm_pool_facts.specs.Moves.{Moved, Same, Part, KeepsCloses, told, Gives}
+use Rattle.fm_base.specs.Loans.{Loan, lent, loans_after, IsRightlyLent}
+use Rattle.fm_pool_facts.specs.Facts.{Loans}
+use Rattle.fm_pool_facts.specs.Moves.{MayLend}
+use Rattle.fm_pool_facts.proofs.Lending.{loans_after-append, lent-append, lent_on}
+use Rattle.fm_pool_facts.proofs.Frame.{legal_on}
+use Rattle.fm_pool_facts.proofs.Keeping.{set_there, in_left, stays_somewhere, silent_on, others_know, own_view, gives_by}
+
+-- ---- soundness
+
+-- an arena of the list was opened
+pub opened_life : (b : Bool) (l : Life) → b ≡ true → stage_of b l ≢ Fresh
+opened_life true Alive h e = absurd (cc)
+opened_life true Closing h e = absurd (cc)
+opened_life true Ended h e = absurd (cc)
+opened_life false l h e = absurd (cc)
+
+life_opened : (b : Bool) (l : Life) → stage_of b l ≢ Fresh → b ≡ true
+life_opened true l n = refl
+life_opened false l n = absurd (n refl)
+
+-- an arena gives at most 2^40 bytes
+limit_below : (z : Shape) → IsValid z → limit_of z ≤ 2 ^ 40
+limit_below z v =
+    let a : z.reach * z.page_words ≤ z.pages * z.page_words = mul-le-mul_right z.page_words v.reach.1 in
+    let x : ℕ = z.reach * z.page_words in
+    let y : ℕ = z.pages * z.page_words in
+    let b : x ≤ y = a in
+    let c : y ≤ 16777216 = v.words in
+    let d : x * 8 ≤ 2 ^ 40 = omega arith in
+    d
+
+-- a pass that has seen the whole history is sound
+pub sound_of : (z : Shape) (ws : List ℕ) (vs : List View) (r : Rule z ws vs) (me : ℕ) (v : View) → get_elem? vs me ≡ some v → v.live ≡ true
+    → v.seen ≡ r.history → IsSound v
+sound_of z ws vs r me v at l q =
+    let k = r.each me v at in
+    let u = k.owns l in
+    let e : v.shape ≡ z = k.shape l in
+    let s : State = state_after (limit_of z) [] r.history in
+    let st : state_in v ≡ s = λ i. state_after (limit_of (e i)) [] (q i) in
+    let valid = subst IsValid (sym e) r.valid in
+    let known : (a : ArenaId) → IsKnown v a → r.machine.life a ≢ Fresh = λ a h f.
+    opened_life (has_arena s a) (arena_of s a).life (ap (λ (x : State). has_arena x a) (sym st) ∙ h) (sym (r.depicts.life a) ∙ f) in
+    let opened : (a : ArenaId) → r.machine.life a ≢ Fresh → IsKnown v a = λ a n.
+    ap (λ (x : State). has_arena x a) st ∙ life_opened (has_arena s a) (arena_of s a).life (λ f. n (r.depicts.life a ∙ f)) in
+    record {
+      valid = valid;
+      limit = limit_below v.shape valid;
+      legal = subst (λ (x : Shape × List Entry). IsLegal (limit_of x.0) [] x.1) (λ i. (sym e i, sym q i)) r.legal;
+      lent = subst (λ (x : Shape × List Entry). IsRightlyLent (span x.0) (limit_of x.0) x.1) (λ i. (sym e i, sym q i)) r.rightly;
+      number = (let a = u.number in let b = r.few in let c : v.shape.passes ≡ z.passes = ap (λ (x : Shape). x.passes) e in omega arith);
+      inside = λ a i. subst (λ (x : State). IsUnderWay x v.caller a) (sym st) (r.depicts.listed v.caller a (u.inside ∙ i));
+      outside = λ a w. sym u.inside ∙ r.depicts.under v.caller a (subst (λ (x : State). IsUnderWay x v.caller a) st w);
+      fits = λ a h. subst (λ (x : Shape). Fits x a) (sym e) (r.world.sessions.fits a (known a h));
+      hand = λ x i.
+          let y = u.hand x i in
+          let o = u.only x i in (
+            o.0,
+            subst (λ (y : Shape). x.slot < y.slots) (sym e) y.slot,
+            (λ (w : IsSpent v x.slot).
+                known w.arena w.known (r.world.sessions.free_is x.slot x.generation y.session w.arena w.in_slot (let g = o.1 in omega arith))),
+          );
+      slots = λ n s l. ⊎_elim
+          (λ (i : HasSlot s v). inl i)
+          (λ (w : WasOpened r.machine s). inr (record { arena = w.0; in_slot = w.1; known = opened w.0 w.2 }))
+          (u.slots n s (subst (λ (x : Shape). s < x.slots) e l));
+    }
+
+-- ---- the rule
+
+-- what one view has by its number, it has after a step
+number_still : (v p : View) (zs es : List Entry) (fs : ℕ → List Find) (s : Same v p) (n : ℕ) → HasNumber n v → HasNumber n (told p zs es fs)
+number_still v p zs es fs s n (inl h) = inl (s.live ∙ h.0, ap (λ (x : Caller). x.number) s.caller ∙ h.1)
+number_still v p zs es fs s n (inr (inl d)) = inr (inl (s.drawn ∙ d))
+number_still v p zs es fs s n (inr (inr g)) = inr (inr (g.0, subst (In g.0) (sym s.gathered) g.1, g.2))
+
+draw_still : (v p : View) (zs es : List Entry) (fs : ℕ → List Find) (s : Same v p) (d n : ℕ) → HasDraw d n v → HasDraw d n (told p zs es fs)
+draw_still v p zs es fs s d n (inl h) =
+    let f = h.2 in
+    inl (
+      s.live ∙ h.0,
+      ap (λ (x : Caller). x.number) s.caller
+          ∙ h.1,
+      (f.0, in_left f.0 p.finds (fs (length (p.seen ++ zs))) (subst (In f.0) (sym s.finds) f.1), f.2),
+    )
+draw_still v p zs es fs s d n (inr g) = inr (g.0, subst (In g.0) (sym s.gathered) g.1, g.2, g.3)
+
+-- the rule and what is told after a step of the seat me: what the words, the memory and the caller's part are is the step's own business
+pub keeps : (z : Shape) (ws ws' : List ℕ) (vs : List View) (r : Rule z ws vs) (me : ℕ) (v p : View) (es : List Entry) (fs : ℕ → List Find) (m' : Memory)
+    (o' : Owners)
+    → get_elem? vs me ≡ some v → v.live ≡ true → Moved me (limit_of z) v.caller r.memory r.machine r.owners es m' o' → Same v p
+    → MayLend (span z) r.machine (lent r.history) es → Loans (loans_after (lent r.history) es) m'.sessions (moved_by r.machine es).life
+    → KeepsCloses me v p r.machine r.owners (moved_by r.machine es) o' → Shows z ws' m' → World z m' (moved_by r.machine es)
+    → Part z m' (moved_by r.machine es) o' me p
+    → (w : View) × Rule z ws' (set vs me w) × Gives v p es fs w
+keeps z ws ws' vs r me v p es fs m' o' at l d s lends loans kc shows world q =
+    let k = r.each me v at in
+    let u = k.owns l in
+    let zs : List Entry = k.begins.0 in
+    let is : r.history ≡ v.seen ++ zs = k.begins.1 in
+    let w : View = told p zs es fs in
+    let t' : Machine = moved_by r.machine es in
+    let on = legal_on (limit_of z) v.caller r.history es r.machine r.legal r.depicts d.allowed in
+    let here : (n : ℕ) (P : View → Type 0) → (P v → P w) → Somewhere vs (r.owners.number n) P → Somewhere (set vs me w) (o'.number n) P =
+    (λ n P f y. subst (λ (i : ℕ). Somewhere (set vs me w) i P) (sym (d.numbers n)) (stays_somewhere vs me v w (r.owners.number n) P at f y)) in
+    let rule : Rule z ws' (set vs me w) = record {
+      history = r.history ++ es;
+      memory = m';
+      machine = t';
+      owners = o';
+      valid = r.valid;
+      legal = on.0;
+      rightly =
+          lent-append (span z) (limit_of z) [] [] r.history es r.rightly
+          (lent_on (span z) (limit_of z) v.caller r.history (lent r.history) es r.machine r.legal r.depicts d.allowed lends);
+      loans = subst (λ (ls : List Loan). Loans ls m'.sessions t'.life) (sym (loans_after-append [] r.history es)) loans;
+      depicts = on.1;
+      shows = shows;
+      world = world;
+      few = (let a = r.few in let b = d.draw in omega arith);
+      later = λ i j.
+          let a = u.number in let b = d.draw in
+          let away : i ≢ v.caller.number = (λ x. omega arith) in
+          silent_on (limit_of z) r.history v.caller r.memory r.machine es m' d.allowed i away (d.marks i away) (r.later i (omega arith));
+      numbers = λ n h. here n (HasNumber n) (number_still v p zs es fs s n) (r.numbers n (let b = d.draw in omega arith));
+      drawers = λ n i h.
+          let y = r.drawers n i (let b = d.draw in omega arith) in
+          (y.0, y.1, here y.0 (HasDraw y.0 n) (draw_still v p zs es fs s y.0 n) y.2);
+      closed = λ a h. ⊎_elim
+          (λ (x : (o'.closer a ≡ me) × HasClose a p). record { view = w; there = ap (get_elem? (set vs me w)) x.0 ∙ set_there vs me v w at; holds = x.1 })
+          (λ (x : (r.machine.life a ≡ Closes) × (o'.closer a ≡ r.owners.closer a) × (HasClose a v → HasClose a p)).
+          subst (λ (i : ℕ). Somewhere (set vs me w) i (HasClose a)) (sym x.1)
+          (stays_somewhere vs me v w (r.owners.closer a) (HasClose a) at x.2 (r.closed a x.0)))
+          (kc a h);
+      each = λ j y at'. ⊎_elim
+          (λ (e : (j ≡ me) × (w ≡ y)). subst (λ (x : ℕ × View). Knows z (r.history ++ es) m' t' o' x.0 x.1) (λ i. (sym e.0 i, e.1 i))
+          (own_view z r.history zs me r.memory m' r.machine r.owners o' es fs v p k l d is s q))
+          (λ (e : (j ≢ me) × (get_elem? vs j ≡ some y)). others_know z r.history me v.caller r.memory r.machine r.owners es m' o' d u.seated u.number j y e.0
+          (r.each j y e.1))
+          (at_set vs me j w y at');
+    } in
+    let seen : w.seen ≡ r.history ++ es = ap (λ (xs : List Entry). (xs ++ zs) ++ es) s.seen ∙ ap (λ (xs : List Entry). xs ++ es) (sym is) in
+    let sound = sound_of z ws' (set vs me w) rule me w (set_there vs me v w at) (s.live ∙ l) seen in
+    (w, rule, gives_by z r.history zs me r.memory m' r.machine r.owners o' es fs v p k l d is s sound)

@@ -1,0 +1,222 @@
+-- The memory stays beside the machine over each kind of entry.
+use Rattle.std.proofs.Common.{◌≡◌, ◌≢◌, ℕ, ◌<◌, Option, Some, None, sym, refl, ap, ◌∙◌, subst, inl, inr, ⊎_elim}
+use Rattle.fm_words.specs.declared.shape.Shape.{Shape}
+use Rattle.fm_base.specs.declared.caller.Caller.{Caller}
+use Rattle.fm_base.specs.declared.arena_id.ArenaId.{ArenaId}
+use Rattle.fm_depicts.specs.Functions.{Stage, Fresh, Lives, Closes, Over, Machine, put, put_at, put_by}
+use Rattle.fm_depicts.proofs.Putting.{put_here, put_else, put_cases, at_cases, by_cases}
+use Rattle.fm_pool_facts.specs.Views.{Fits, span}
+use Rattle.fm_pool_facts.specs.Facts.{Session, free, live, shut, Memory, IsStanding, IsMarked, Counts, Givens, Cells, World}
+use Rattle.fm_pool_facts.proofs.Standing.{caller_is, standing_known, one_standing, free_apart, sessions_shut, sessions_end, open_new, sessions_open}
+
+-- ---- holds, given bytes and words
+
+-- an arena that was shut, apart from those that stand
+module _ (counts : ℕ → ℕ) (life : ArenaId → Stage) (holds : ArenaId → ℕ) (r : Counts counts life holds) (a : ArenaId) where
+  pub counts_shut : ((b : ArenaId) → life b ≡ Lives → b ≢ a → b.slot ≢ a.slot) → Counts (put counts a.slot 0) (put_at life a Closes) holds
+  counts_shut apart = record {
+    shown = λ b. at_cases life a Closes b (λ (x : Stage). x ≡ Lives → put counts a.slot 0 b.slot ≡ holds b)
+        (λ e q. absurd (cc))
+        (λ n q. put_else counts a.slot 0 b.slot (apart b q n) ∙ r.shown b q);
+    none = λ b. at_cases life a Closes b (λ (x : Stage). x ≡ Fresh → holds b ≡ 0) (λ e q. absurd (cc)) (λ n q. r.none b q);
+    few = r.few;
+  }
+
+  pub counts_end : Counts counts (put_at life a Over) holds
+  counts_end = record {
+    shown = λ b. at_cases life a Over b (λ (x : Stage). x ≡ Lives → counts b.slot ≡ holds b) (λ e q. absurd (cc)) (λ n q. r.shown b q);
+    none = λ b. at_cases life a Over b (λ (x : Stage). x ≡ Fresh → holds b ≡ 0) (λ e q. absurd (cc)) (λ n q. r.none b q);
+    few = r.few;
+  }
+
+  pub counts_open : life a ≡ Fresh → ((b : ArenaId) → life b ≡ Lives → b.slot ≢ a.slot) → Counts (put counts a.slot 0) (put_at life a Lives) holds
+  counts_open new apart = record {
+    shown = λ b. at_cases life a Lives b (λ (x : Stage). x ≡ Lives → put counts a.slot 0 b.slot ≡ holds b)
+        (λ e q. (λ j. put counts a.slot 0 (e j).slot) ∙ (put_here counts a.slot 0 ∙ sym (ap holds e ∙ r.none a new)))
+        (λ n q. put_else counts a.slot 0 b.slot (apart b q) ∙ r.shown b q);
+    none = λ b. at_cases life a Lives b (λ (x : Stage). x ≡ Fresh → holds b ≡ 0) (λ e q. absurd (cc)) (λ n q. r.none b q);
+    few = r.few;
+  }
+
+module _ (sessions : ℕ → Session) (words : ℕ → ℕ) (life : ArenaId → Stage) (given : ArenaId → ℕ) (r : Givens sessions words life given) (a : ArenaId) where
+  pub givens_shut : life a ≡ Lives → Givens (put sessions a.slot (shut a)) words (put_at life a Closes) given
+  givens_shut l = record {
+    shown = λ b. at_cases life a Closes b (λ (x : Stage). IsStanding x → words b.slot ≡ given b) (λ e q. r.shown b (inl (ap life e ∙ l))) (λ n q. r.shown b q);
+    none = λ b. at_cases life a Closes b (λ (x : Stage). x ≡ Fresh → given b ≡ 0) (λ e q. absurd (cc)) (λ n q. r.none b q);
+    clean = λ s g. put_cases sessions a.slot (shut a) s (λ (x : Session). x ≡ free g → words s ≡ 0) (λ e q. absurd (cc)) (λ n q. r.clean s g q);
+  }
+
+  pub givens_end : Givens sessions words (put_at life a Over) given
+  givens_end = record {
+    shown =
+        λ b. at_cases life a Over b (λ (x : Stage). IsStanding x → words b.slot ≡ given b) (λ e. ⊎_elim (λ q. absurd (cc)) (λ q. absurd (cc)))
+        (λ n q. r.shown b q);
+    none = λ b. at_cases life a Over b (λ (x : Stage). x ≡ Fresh → given b ≡ 0) (λ e q. absurd (cc)) (λ n q. r.none b q);
+    clean = r.clean;
+  }
+
+  pub givens_open : sessions a.slot ≡ free a.generation → life a ≡ Fresh → Givens (put sessions a.slot (live a)) words (put_at life a Lives) given
+  givens_open f new = record {
+    shown = λ b. at_cases life a Lives b (λ (x : Stage). IsStanding x → words b.slot ≡ given b)
+        (λ e q. (λ j. words (e j).slot) ∙ (r.clean a.slot a.generation f ∙ sym (ap given e ∙ r.none a new)))
+        (λ n q. r.shown b q);
+    none = λ b. at_cases life a Lives b (λ (x : Stage). x ≡ Fresh → given b ≡ 0) (λ e q. absurd (cc)) (λ n q. r.none b q);
+    clean = λ s g. put_cases sessions a.slot (live a) s (λ (x : Session). x ≡ free g → words s ≡ 0) (λ e q. absurd (cc)) (λ n q. r.clean s g q);
+  }
+
+module _ (z : Shape) (sessions : ℕ → Session) (cells : ℕ → ℕ → ℕ) (life : ArenaId → Stage) (word : ArenaId → ℕ → ℕ) (r : Cells z sessions cells life word)
+    (a : ArenaId) where
+  pub cells_shut : life a ≡ Lives → Cells z (put sessions a.slot (shut a)) cells (put_at life a Closes) word
+  cells_shut l = record {
+    shown =
+        λ b w. at_cases life a Closes b (λ (x : Stage). IsStanding x → w < span z → word b w ≡ cells b.slot w) (λ e q. r.shown b w (inl (ap life e
+        ∙ l))) (λ n q. r.shown b w q);
+    none = λ b w. at_cases life a Closes b (λ (x : Stage). x ≡ Fresh → word b w ≡ 0) (λ e q. absurd (cc)) (λ n q. r.none b w q);
+    clean =
+        λ s g w. put_cases sessions a.slot (shut a) s (λ (x : Session). x ≡ free g → w < span z → cells s w ≡ 0) (λ e q. absurd (cc)) (λ n q. r.clean s g w q);
+  }
+
+  pub cells_end : Cells z sessions cells (put_at life a Over) word
+  cells_end = record {
+    shown =
+        λ b w. at_cases life a Over b (λ (x : Stage). IsStanding x → w < span z → word b w ≡ cells b.slot w)
+        (λ e. ⊎_elim (λ q. absurd (cc)) (λ q. absurd (cc))) (λ n q. r.shown b w q);
+    none = λ b w. at_cases life a Over b (λ (x : Stage). x ≡ Fresh → word b w ≡ 0) (λ e q. absurd (cc)) (λ n q. r.none b w q);
+    clean = r.clean;
+  }
+
+  pub cells_open : sessions a.slot ≡ free a.generation → life a ≡ Fresh → Cells z (put sessions a.slot (live a)) cells (put_at life a Lives) word
+  cells_open f new = record {
+    shown = λ b w. at_cases life a Lives b (λ (x : Stage). IsStanding x → w < span z → word b w ≡ cells b.slot w)
+        (λ e q h. r.none b w (ap life e ∙ new) ∙ sym ((λ j. cells (e j).slot w) ∙ r.clean a.slot a.generation w f h))
+        (λ n q h. r.shown b w q h);
+    none = λ b w. at_cases life a Lives b (λ (x : Stage). x ≡ Fresh → word b w ≡ 0) (λ e q. absurd (cc)) (λ n q. r.none b w q);
+    clean =
+        λ s g w. put_cases sessions a.slot (live a) s (λ (x : Session). x ≡ free g → w < span z → cells s w ≡ 0) (λ e q. absurd (cc)) (λ n q. r.clean s g w q);
+  }
+
+-- ---- each kind of entry
+
+module _ (z : Shape) (m : Memory) (t : Machine) (r : World z m t) where
+  -- the mark of a caller that is outside
+  pub world_mark : (c : Caller) (x : Option ArenaId) → c.term ≡ m.terms c.number → t.inside c ≡ None → World z (record m { marks = put m.marks c.number x }) t
+  world_mark c x term out = record {
+    marked = λ d a i.
+        let w = r.marked d a i in
+        let away : d.number ≢ c.number =
+        λ e. (let one = caller_is d c e (w.term ∙ (ap m.terms e ∙ sym term)) in let f : None ≡ Some a = sym (ap t.inside one ∙ out) ∙ i in absurd (cc)) in
+        record { number = w.number; term = w.term; mark = put_else m.marks c.number x d.number away ∙ w.mark; stands = w.stands };
+    sessions = r.sessions;
+    counts = r.counts;
+    givens = r.givens;
+    cells = r.cells;
+  }
+
+  pub world_enter : (c : Caller) (a : ArenaId) → c.number < z.passes → c.term ≡ m.terms c.number → m.marks c.number ≡ Some a → t.life a ≡ Lives
+      → World z m (record t { inside = put_by t.inside c (Some a) })
+  world_enter c a low term mark l = record {
+    marked = λ d b. by_cases t.inside c (Some a) d (λ (x : Option ArenaId). x ≡ Some b → IsMarked z m.marks m.terms t.life d b)
+        (λ e i. let same : a ≡ b = cc in subst (λ (y : Caller). IsMarked z m.marks m.terms t.life y b) (sym e)
+        (record { number = low; term = term; mark = mark ∙ i; stands = inl (ap t.life (sym same) ∙ l) }))
+        (λ n i. r.marked d b i);
+    sessions = r.sessions;
+    counts = r.counts;
+    givens = r.givens;
+    cells = r.cells;
+  }
+
+  pub world_leave : (c : Caller) → c.term ≡ m.terms c.number
+      → World z (record m { marks = put m.marks c.number None }) (record t { inside = put_by t.inside c None })
+  world_leave c term = record {
+    marked = λ d b. by_cases t.inside c None d (λ (x : Option ArenaId). x ≡ Some b → IsMarked z (put m.marks c.number None) m.terms t.life d b)
+        (λ e i. absurd (cc))
+        (λ n i.
+        let w = r.marked d b i in
+        let away : d.number ≢ c.number = λ e. n (caller_is d c e (w.term ∙ (ap m.terms e ∙ sym term))) in
+        record { number = w.number; term = w.term; mark = put_else m.marks c.number None d.number away ∙ w.mark; stands = w.stands });
+    sessions = r.sessions;
+    counts = r.counts;
+    givens = r.givens;
+    cells = r.cells;
+  }
+
+  pub world_write : (a : ArenaId) (w x : ℕ) → IsStanding (t.life a)
+      → World z (record m { cells = put m.cells a.slot (put (m.cells a.slot) w x) }) (record t { word = put_at t.word a (put (t.word a) w x) })
+  world_write a w x s = record {
+    marked = r.marked;
+    sessions = r.sessions;
+    counts = r.counts;
+    givens = r.givens;
+    cells = record {
+      shown = λ b v l h. at_cases t.word a (put (t.word a) w x) b (λ (f : ℕ → ℕ). f v ≡ put m.cells a.slot (put (m.cells a.slot) w x) b.slot v)
+          (λ e. put_cases (t.word a) w x v (λ (y : ℕ). y ≡ put m.cells a.slot (put (m.cells a.slot) w x) b.slot v)
+          (λ q. sym ((λ j. put m.cells a.slot (put (m.cells a.slot) w x) (e j).slot (q j))
+          ∙ ((λ j. put_here m.cells a.slot (put (m.cells a.slot) w x) j w) ∙ put_here (m.cells a.slot) w x)))
+          (λ n. r.cells.shown a v s h ∙ sym ((λ j. put m.cells a.slot (put (m.cells a.slot) w x) (e j).slot v)
+          ∙ ((λ j. put_here m.cells a.slot (put (m.cells a.slot) w x) j v) ∙ put_else (m.cells a.slot) w x v n))))
+          (λ n. r.cells.shown b v l h
+          ∙ (λ j. sym (put_else m.cells a.slot (put (m.cells a.slot) w x) b.slot (λ q. n (one_standing z m.sessions t.life r.sessions b a l s q))) j v));
+      none = λ b v l. at_cases t.word a (put (t.word a) w x) b (λ (f : ℕ → ℕ). f v ≡ 0)
+          (λ e. absurd (standing_known (t.life a) s (ap t.life (sym e) ∙ l)))
+          (λ n. r.cells.none b v l);
+      clean =
+          λ k g v f h. (λ j. put_else m.cells a.slot (put (m.cells a.slot) w x) k (free_apart z m.sessions t.life r.sessions k g a f s) j v)
+          ∙ r.cells.clean k g v f h;
+    };
+  }
+
+  pub world_shut : (a : ArenaId) → t.life a ≡ Lives
+      → World z (record m { sessions = put m.sessions a.slot (shut a); counts = put m.counts a.slot 0 }) (record t { life = put_at t.life a Closes })
+  world_shut a l = record {
+    marked =
+        λ c b i. let w =
+        r.marked c b i in record {
+          number = w.number;
+          term = w.term;
+          mark = w.mark;
+          stands = at_cases t.life a Closes b IsStanding (λ e. inr refl)
+              (λ n. w.stands);
+        };
+    sessions = sessions_shut z m.sessions t.life r.sessions a l;
+    counts = counts_shut m.counts t.life t.holds r.counts a (λ b q n e. n (one_standing z m.sessions t.life r.sessions b a (inl q) (inl l) e));
+    givens = givens_shut m.sessions m.given t.life t.given r.givens a l;
+    cells = cells_shut z m.sessions m.cells t.life t.word r.cells a l;
+  }
+
+  pub world_end : (a : ArenaId) → t.life a ≡ Closes → ((k : Caller) → t.inside k ≢ Some a) → World z m (record t { life = put_at t.life a Over })
+  world_end a l nobody = record {
+    marked =
+        λ c b i. let w =
+        r.marked c b i in record {
+          number = w.number;
+          term = w.term;
+          mark = w.mark;
+          stands = at_cases t.life a Over b IsStanding
+              (λ e. absurd (nobody c (i ∙ ap Some e))) (λ n. w.stands);
+        };
+    sessions = sessions_end z m.sessions t.life r.sessions a l;
+    counts = counts_end m.counts t.life t.holds r.counts a;
+    givens = givens_end m.sessions m.given t.life t.given r.givens a;
+    cells = cells_end z m.sessions m.cells t.life t.word r.cells a;
+  }
+
+  pub world_open : (a : ArenaId) → m.sessions a.slot ≡ free a.generation → Fits z a
+      → World z (record m { sessions = put m.sessions a.slot (live a); counts = put m.counts a.slot 0 }) (record t { life = put_at t.life a Lives })
+  world_open a f fit =
+      let new = open_new z m.sessions t.life r.sessions a f in
+      record {
+        marked =
+            λ c b i. let w =
+            r.marked c b i in record {
+              number = w.number;
+              term = w.term;
+              mark = w.mark;
+              stands = at_cases t.life a Lives b IsStanding (λ e. inl refl)
+                  (λ n. w.stands);
+            };
+        sessions = sessions_open z m.sessions t.life r.sessions a f fit;
+        counts =
+            counts_open m.counts t.life t.holds r.counts a new (λ b q e. free_apart z m.sessions t.life r.sessions a.slot a.generation b f (inl q) (sym e));
+        givens = givens_open m.sessions m.given t.life t.given r.givens a f new;
+        cells = cells_open z m.sessions m.cells t.life t.word r.cells a f new;
+      }

@@ -1,0 +1,249 @@
+-- The facts that a pool keeps between any two steps: of its words, of the history, and of all views.
+use Rattle.std.specs.Prelude.{◌≡◌, ◌≢◌, ◌⊎◌, ℕ, ◌+◌, ◌*◌, ◌<◌, ◌≤◌, true, List, [], ◌∷◌, ◌++◌, length, slice_index, Contains, Option, Some, None}
+use mathlib.Core.Option.{some}
+use lib.ListN.{get_elem?}
+use Rattle.fm_words.specs.declared.shape.Shape.{Shape}
+use Rattle.fm_words.specs.Shapes.{IsValid}
+use Rattle.fm_words.specs.Places.{at, draw as draw_place, mark, session, given as given_place, words as word_count, pages_from}
+use Rattle.fm_words.specs.Sessions.{session_word, free as is_free}
+use Rattle.fm_base.specs.declared.caller.Caller.{Caller}
+use Rattle.fm_base.specs.declared.arena_id.ArenaId.{ArenaId}
+use Rattle.fm_base.specs.Calls.{Entry}
+use Rattle.fm_base.specs.Histories.{IsLegal, state_after, made_by}
+use Rattle.fm_base.specs.Loans.{Loan, loan_of, lent, IsFree, HasPart, IsRightlyLent}
+use Rattle.fm_base.specs.Finds.{Find, Gathered, Close}
+use Rattle.fm_depicts.specs.Functions.{Stage, Fresh, Lives, Closes, Machine, Depicts}
+use Rattle.fm_pool_facts.specs.declared.slot.Slot.{Slot}
+use Rattle.fm_pool_facts.specs.Views.{View, Fits, In, HasSlot, span, limit_of}
+use Rattle.fm_pool_facts.specs.Words.{alive_word, closing_word, own_word}
+
+-- ---- the words, decoded
+
+pub data Session : Type 0 where
+  -- no arena of this generation was opened yet
+  free : ℕ → Session
+  live : ArenaId → Session
+  shut : ArenaId → Session
+
+pub record Memory : Type 0 where
+  -- how many numbers were drawn
+  pub draw : ℕ
+  -- the term of a number
+  pub terms : ℕ → ℕ
+  pub marks : ℕ → Option ArenaId
+  pub sessions : ℕ → Session
+  -- the holds that a session word counts
+  pub counts : ℕ → ℕ
+  pub given : ℕ → ℕ
+  -- the words of a slot
+  pub cells : ℕ → ℕ → ℕ
+
+abbrev pub session_code : Session → ℕ → ℕ
+session_code (free g) count = session_word (record { generation = g; life = is_free; kind = 0; owner = 0; holds = 0 })
+session_code (live a) count = alive_word a count
+session_code (shut a) count = closing_word a
+
+-- the place of a word of a slot: slot k owns the pages from k times `reach` on
+unfoldable pub cell_at : Shape → ℕ → ℕ → ℕ
+cell_at z s w = pages_from z + (s * span z + w)
+
+pub record Shows (z : Shape) (words : List ℕ) (m : Memory) : Type 0 where
+  pub wide : length words ≡ word_count z
+  pub draw : slice_index words (at z draw_place) ≡ m.draw
+  -- until numbers come back
+  pub terms : (k : ℕ) → m.terms k ≡ 0
+  pub marks : (k : ℕ) → k < z.passes → slice_index words (at z (mark k)) ≡ own_word (m.marks k)
+  pub sessions : (s : ℕ) → s < z.slots → slice_index words (at z (session s)) ≡ session_code (m.sessions s) (m.counts s)
+  pub given : (s : ℕ) → s < z.slots → slice_index words (at z (given_place s)) ≡ m.given s
+  pub cells : (s w : ℕ) → s < z.slots → w < span z → slice_index words (cell_at z s w) ≡ m.cells s w
+
+-- ---- the memory beside the machine
+
+-- alive, or shut and not ended
+abbrev pub IsStanding : Stage → Type 0
+IsStanding l = (l ≡ Lives) ⊎ (l ≡ Closes)
+
+-- a caller under way has its number's term, and the number's mark names the arena
+pub record IsMarked (z : Shape) (marks : ℕ → Option ArenaId) (terms : ℕ → ℕ) (life : ArenaId → Stage) (c : Caller) (a : ArenaId) : Type 0 where
+  pub number : c.number < z.passes
+  pub term : c.term ≡ terms c.number
+  pub mark : marks c.number ≡ Some a
+  pub stands : IsStanding (life a)
+
+-- session words show the arenas
+pub record Sessions (z : Shape) (sessions : ℕ → Session) (life : ArenaId → Stage) : Type 0 where
+  pub alive_shown : (a : ArenaId) → life a ≡ Lives → sessions a.slot ≡ live a
+  pub closing_shown : (a : ArenaId) → life a ≡ Closes → sessions a.slot ≡ shut a
+  pub live_is : (s : ℕ) (a : ArenaId) → sessions s ≡ live a → (a.slot ≡ s) × (life a ≡ Lives)
+  pub shut_is : (s : ℕ) (a : ArenaId) → sessions s ≡ shut a → (a.slot ≡ s) × (life a ≢ Fresh)
+  -- a free generation and those after it are new
+  pub free_is : (s g : ℕ) → sessions s ≡ free g → (a : ArenaId) → a.slot ≡ s → g ≤ a.generation → life a ≡ Fresh
+  -- no other arena of the slot has this generation or a greater one
+  pub newest : (s : ℕ) (a : ArenaId) → (sessions s ≡ live a) ⊎ (sessions s ≡ shut a) → (b : ArenaId) → b.slot ≡ s → a.generation ≤ b.generation → b ≢ a
+      → life b ≡ Fresh
+  pub fits : (a : ArenaId) → life a ≢ Fresh → Fits z a
+
+-- session words count the holds
+pub record Counts (counts : ℕ → ℕ) (life : ArenaId → Stage) (holds : ArenaId → ℕ) : Type 0 where
+  pub shown : (a : ArenaId) → life a ≡ Lives → counts a.slot ≡ holds a
+  pub none : (a : ArenaId) → life a ≡ Fresh → holds a ≡ 0
+  pub few : (a : ArenaId) → holds a ≤ 65535
+
+-- given words show the given bytes
+pub record Givens (sessions : ℕ → Session) (words : ℕ → ℕ) (life : ArenaId → Stage) (given : ArenaId → ℕ) : Type 0 where
+  pub shown : (a : ArenaId) → IsStanding (life a) → words a.slot ≡ given a
+  pub none : (a : ArenaId) → life a ≡ Fresh → given a ≡ 0
+  pub clean : (s g : ℕ) → sessions s ≡ free g → words s ≡ 0
+
+-- the words of a slot are those of its arena, until that ends
+pub record Cells (z : Shape) (sessions : ℕ → Session) (cells : ℕ → ℕ → ℕ) (life : ArenaId → Stage) (word : ArenaId → ℕ → ℕ) : Type 0 where
+  pub shown : (a : ArenaId) (w : ℕ) → IsStanding (life a) → w < span z → word a w ≡ cells a.slot w
+  pub none : (a : ArenaId) (w : ℕ) → life a ≡ Fresh → word a w ≡ 0
+  pub clean : (s g w : ℕ) → sessions s ≡ free g → w < span z → cells s w ≡ 0
+
+-- the words of a slot are lent to each arena that was opened there, as its only part, and to none before
+pub record Loans (loans : List Loan) (sessions : ℕ → Session) (life : ArenaId → Stage) : Type 0 where
+  pub part : (a : ArenaId) → life a ≢ Fresh → Contains loans (loan_of a.slot a 0)
+  pub none : (a : ArenaId) (part : ℕ) → life a ≡ Fresh → ¬ (HasPart loans a part)
+  pub clean : (s g : ℕ) → sessions s ≡ free g → IsFree loans s
+
+pub record World (z : Shape) (m : Memory) (t : Machine) : Type 0 where
+  pub marked : (c : Caller) (a : ArenaId) → t.inside c ≡ Some a → IsMarked z m.marks m.terms t.life c a
+  pub sessions : Sessions z m.sessions t.life
+  pub counts : Counts m.counts t.life t.holds
+  pub givens : Givens m.sessions m.given t.life t.given
+  pub cells : Cells z m.sessions m.cells t.life t.word
+
+-- ---- which seat has what
+
+pub record Owners : Type 0 where
+  -- a drawn number
+  pub number : ℕ → ℕ
+  -- the close of an arena
+  pub closer : ArenaId → ℕ
+  -- a slot that is free
+  pub holder : ℕ → ℕ
+
+-- an unfinished close at the seat j
+pub record IsClosing (t : Machine) (o : Owners) (j : ℕ) (c : Close) : Type 0 where
+  pub owner : o.closer c.arena ≡ j
+  pub life : t.life c.arena ≡ Closes
+  pub visited : (k : Caller) → k.number < c.visited → t.inside k ≢ Some c.arena
+
+-- a slot in the hand of the seat j
+pub record IsHeld (z : Shape) (m : Memory) (o : Owners) (j : ℕ) (s : Slot) : Type 0 where
+  pub owner : o.holder s.slot ≡ j
+  pub slot : s.slot < z.slots
+  pub generation : s.generation < z.generations
+  pub session : m.sessions s.slot ≡ free s.generation
+
+-- no caller of the number has made an entry or is under way, and its mark is 0
+pub record IsSilent (k : ℕ) (h : List Entry) (m : Memory) (t : Machine) : Type 0 where
+  pub calls : (c : Caller) → c.number ≡ k → made_by c h ≡ []
+  pub outside : (c : Caller) → c.number ≡ k → t.inside c ≡ None
+  pub mark : m.marks k ≡ None
+
+-- a caller that is gathered into the view v at the seat j
+pub record IsGathered (h : List Entry) (m : Memory) (t : Machine) (o : Owners) (j : ℕ) (v : View) (g : Gathered) : Type 0 where
+  pub number : g.caller.number < m.draw
+  pub seated : o.number g.caller.number ≡ j
+  pub apart : g.caller.number ≢ v.caller.number
+  pub outside : t.inside g.caller ≡ None
+  pub mark : m.marks g.caller.number ≡ None
+  pub quiet : made_by g.caller h ≡ made_by g.caller v.seen
+
+-- a number that was drawn at the seat j and isn't split off
+pub record IsDrawn (h : List Entry) (m : Memory) (t : Machine) (o : Owners) (j : ℕ) (v : View) (d : ℕ) : Type 0 where
+  pub number : d < m.draw
+  pub seated : o.number d ≡ j
+  pub apart : d ≢ v.caller.number
+  pub ungathered : (g : Gathered) → In g v.gathered → g.caller.number ≢ d
+  pub silent : IsSilent d h m t
+
+-- no two of the list have one f
+abbrev pub IsOnce : {A B : Type 0} → (A → B) → List A → Type 0
+IsOnce f [] = Unit {0}
+IsOnce {A} f (x ∷ xs) = ((y : A) → In y xs → f y ≢ f x) × IsOnce f xs
+
+-- ---- what a view says
+
+-- an arena was opened in the slot
+abbrev pub WasOpened : Machine → ℕ → Type 0
+WasOpened t s = (a : ArenaId) × (a.slot ≡ s) × (t.life a ≢ Fresh)
+
+abbrev pub HasGathered : ℕ → View → Type 0
+HasGathered n v = (g : Gathered) × In g v.gathered × (g.caller.number ≡ n)
+
+-- the second history goes on from the first
+abbrev pub Begins : List Entry → List Entry → Type 0
+Begins xs ys = (zs : List Entry) × (ys ≡ xs ++ zs)
+
+pub record Owns (z : Shape) (h : List Entry) (m : Memory) (t : Machine) (o : Owners) (j : ℕ) (v : View) : Type 0 where
+  pub number : v.caller.number < m.draw
+  pub term : v.caller.term ≡ m.terms v.caller.number
+  pub seated : o.number v.caller.number ≡ j
+  pub mine : made_by v.caller h ≡ made_by v.caller v.seen
+  pub inside : t.inside v.caller ≡ v.inside
+  pub mark : m.marks v.caller.number ≡ v.mark
+  pub closes : (c : Close) → In c v.closes → IsClosing t o j c
+  pub once : IsOnce (λ (c : Close). c.arena) v.closes
+  pub hand : (s : Slot) → In s v.hand → IsHeld z m o j s
+  pub apart : IsOnce (λ (s : Slot). s.slot) v.hand
+  -- the first pass alone has slots in its hand, and all whose first arena is to come
+  pub only : (s : Slot) → In s v.hand → (v.caller.number ≡ 0) × (s.generation ≡ 0)
+  pub slots : v.caller.number ≡ 0 → (s : ℕ) → s < z.slots → HasSlot s v ⊎ WasOpened t s
+  pub gathered : (g : Gathered) → In g v.gathered → IsGathered h m t o j v g
+  pub drawn : (d : ℕ) → v.drawn ≡ Some d → IsDrawn h m t o j v d
+  pub whole : v.whole ≡ true → (n : ℕ) → n < m.draw → n ≢ v.caller.number → HasGathered n v
+  pub seen_all : v.whole ≡ true → v.seen ≡ h
+
+pub record Knows (z : Shape) (h : List Entry) (m : Memory) (t : Machine) (o : Owners) (j : ℕ) (v : View) : Type 0 where
+  pub shape : v.live ≡ true → v.shape ≡ z
+  pub begins : Begins v.seen h
+  pub met : (xs : List Entry) → In xs v.met → Begins xs h
+  pub owns : v.live ≡ true → Owns z h m t o j v
+
+-- ---- what some view has
+
+-- the seat i has a view of which P holds
+pub record Somewhere (views : List View) (i : ℕ) (P : View → Type 0) : Type 0 where
+  pub view : View
+  pub there : get_elem? views i ≡ some view
+  pub holds : P view
+
+-- the number is the view's own, in its hand, or gathered into it
+abbrev pub HasNumber : ℕ → View → Type 0
+HasNumber n v = ((v.live ≡ true) × (v.caller.number ≡ n)) ⊎ ((v.drawn ≡ Some n) ⊎ HasGathered n v)
+
+-- among the finds is the drawing of n
+abbrev pub DrewIn : ℕ → List Find → Type 0
+DrewIn n fs = (f : Find) × In f fs × ((c : Caller) × (c.number ≡ n) × (f.drew ≡ Some c))
+
+-- the view has the finds of d, among them the drawing of n
+abbrev pub HasDraw : ℕ → ℕ → View → Type 0
+HasDraw d n v = ((v.live ≡ true) × (v.caller.number ≡ d) × DrewIn n v.finds)
+    ⊎ ((g : Gathered) × In g v.gathered × (g.caller.number ≡ d) × DrewIn n g.finds)
+
+abbrev pub HasClose : ArenaId → View → Type 0
+HasClose a v = (v.live ≡ true) × ((c : Close) × In c v.closes × (c.arena ≡ a))
+
+-- ---- the rule
+
+pub record Rule (z : Shape) (words : List ℕ) (views : List View) : Type 0 where
+  pub history : List Entry
+  pub memory : Memory
+  pub machine : Machine
+  pub owners : Owners
+  pub valid : IsValid z
+  pub legal : IsLegal (limit_of z) [] history
+  pub rightly : IsRightlyLent (span z) (limit_of z) history
+  pub loans : Loans (lent history) memory.sessions machine.life
+  pub depicts : Depicts (limit_of z) (state_after (limit_of z) [] history) machine
+  pub shows : Shows z words memory
+  pub world : World z memory machine
+  pub few : memory.draw ≤ z.passes
+  pub later : (k : ℕ) → memory.draw ≤ k → IsSilent k history memory machine
+  pub numbers : (n : ℕ) → n < memory.draw → Somewhere views (owners.number n) (HasNumber n)
+  pub drawers : (n : ℕ) → 0 < n → n < memory.draw → (d : ℕ) × (d < n) × Somewhere views (owners.number d) (HasDraw d n)
+  pub closed : (a : ArenaId) → machine.life a ≡ Closes → Somewhere views (owners.closer a) (HasClose a)
+  pub each : (j : ℕ) (v : View) → get_elem? views j ≡ some v → Knows z history memory machine owners j v

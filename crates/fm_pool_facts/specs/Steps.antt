@@ -1,0 +1,104 @@
+-- The steps of a pass: what each does to its view, and its entries.
+use Rattle.std.specs.Prelude.{◌≡◌, ℕ, ◌<◌, Bool, true, false, if◌then◌else◌, List, [], ◌∷◌, ◌++◌, length, All, Option, Some, None}
+use Rattle.fm_base.specs.declared.caller.Caller.{Caller}
+use Rattle.fm_base.specs.declared.arena_id.ArenaId.{ArenaId}
+use Rattle.fm_base.specs.Calls.{Call, Open, Enter, Read, Write, Leave, Shut, Lend, Reply, Fine, Found, Entry, entry_of}
+use Rattle.fm_base.specs.Histories.{made_by}
+use Rattle.fm_base.specs.Finds.{Find, FindStep, Visits as Visiting}
+use Rattle.fm_pool_facts.specs.declared.slot.Slot.{Slot}
+use Rattle.fm_pool_facts.specs.declared.step.Step.{Step}
+use Rattle.fm_pool_facts.specs.declared.step.Step.TheVariants.{Marks, Checks, Loads, Stores, Unmarks, Shuts, Visits, Opens, Looks}
+use Rattle.fm_pool_facts.specs.Views.{View, IsSound, span}
+use Rattle.fm_pool_facts.specs.Words.{alive_holds, enter_found, inside_found, shut_found}
+use Rattle.fm_pool_facts.specs.Closes.{begun, visit_found, closes_after, visit_entries}
+
+-- ---- what a step does
+
+-- Others made entries, and then the pass made its own and became `part`
+pub record Stepped (old new part : View) (own : List Entry) (noted : ℕ → List Find) : Type 0 where
+  pub others : List Entry
+  pub quiet : made_by old.caller others ≡ []
+  -- no gathered caller made one of them, and there are none where the pass is known to be whole
+  pub apart : All (λ g. made_by g.caller (others ++ own) ≡ []) old.gathered
+  pub alone : old.whole ≡ true → others ≡ []
+  pub seen : new.seen ≡ (old.seen ++ others) ++ own
+  pub is_part : new ≡ record part { seen = new.seen; finds = old.finds ++ noted (length (old.seen ++ others)) }
+  pub sound : IsSound new
+
+-- ---- finds
+
+abbrev pub none_noted : ℕ → List Find
+none_noted n = []
+
+abbrev pub is_empty : {A : Type 0} → List A → Bool
+is_empty [] = true
+is_empty (x ∷ xs) = false
+
+-- known to be whole, no slot or page in its hand, no unfinished close
+abbrev pub is_clear : View → Bool
+is_clear v = if v.whole then (if is_empty v.hand then (if is_empty v.pages then is_empty v.closes else false) else false) else false
+
+abbrev pub note_of : FindStep → ℕ → View → ℕ → List Find
+note_of step found v n = record { step = step; found = found; seen = n; clear = is_clear v; drew = None } ∷ []
+
+-- ---- entries
+
+-- the entry of one act in the arena that the pass is inside
+abbrev pub acted : Option ArenaId → Caller → (ArenaId → Call) → Reply → List Entry
+acted None c f reply = []
+acted (Some a) c f reply = entry_of c (f a) reply ∷ []
+
+-- the entries of opening: the slot's words are lent at once
+abbrev pub open_entries : ArenaId → Caller → List Entry
+open_entries a c = entry_of c (Open a) Fine ∷ entry_of c (Lend a.slot a 0) Fine ∷ []
+
+-- the pass is inside an arena, which has the word
+pub record CanAct (v : View) (word : ℕ) : Type 0 where
+  pub id : ArenaId
+  pub inside : v.inside ≡ Some id
+  pub within : word < span v.shape
+
+-- ---- slots in the hand
+
+abbrev pub first_slot : List Slot → Option Slot
+first_slot [] = None
+first_slot (s ∷ ss) = Some s
+
+abbrev pub but_first : List Slot → List Slot
+but_first [] = []
+but_first (s ∷ ss) = ss
+
+-- the pass with this number, in its first term
+abbrev pub pass_of : ℕ → Caller
+pass_of k = record { number = k; term = 0 }
+
+-- ---- each step
+
+-- the view after a step that found the word x, but for what it has seen and found
+unfoldable pub part : Step → View → ℕ → View
+part (Marks a) v x = record v { mark = Some a }
+part (Checks a) v x = record v { inside = inside_found a (alive_holds a x) }
+part (Loads w) v x = v
+part (Stores w y) v x = v
+part Unmarks v x = record v { inside = None; mark = None }
+part (Shuts a) v x = record v { closes = begun a (shut_found (alive_holds a x)) v.closes }
+part (Visits a k) v x = record v { closes = closes_after a (visit_found v.shape a k x) v.closes }
+part (Opens a) v x = record v { hand = but_first v.hand }
+part Looks v x = v
+
+-- the entries that it makes
+unfoldable pub entries : Step → View → ℕ → List Entry
+entries (Marks a) v x = []
+entries (Checks a) v x = entry_of v.caller (Enter a) (enter_found (alive_holds a x)) ∷ []
+entries (Loads w) v x = acted v.inside v.caller (λ a. Read a w) (Found x)
+entries (Stores w y) v x = acted v.inside v.caller (λ a. Write a w y) Fine
+entries Unmarks v x = acted v.inside v.caller Leave Fine
+entries (Shuts a) v x = entry_of v.caller (Shut a) (shut_found (alive_holds a x)) ∷ []
+entries (Visits a k) v x = visit_entries a (visit_found v.shape a k x) v.caller
+entries (Opens a) v x = open_entries a v.caller
+entries Looks v x = []
+
+-- what it adds to the finds, where so many entries were seen before
+unfoldable pub noted : Step → View → ℕ → ℕ → List Find
+noted (Visits a k) v x = note_of (Visiting a (pass_of k)) x v
+noted step v x = none_noted

@@ -1,0 +1,87 @@
+-- What contracts see of a pass.
+use Rattle.std.specs.Prelude.{◌≡◌, ◌⊎◌, ℕ, ◌*◌, ◌<◌, ◌≤◌, ◌^◌, Bool, true, List, [], ◌∷◌, Option, Some}
+use Rattle.fm_words.specs.declared.shape.Shape.{Shape}
+use Rattle.fm_words.specs.Shapes.{IsValid}
+use Rattle.fm_base.specs.declared.caller.Caller.{Caller}
+use Rattle.fm_base.specs.declared.arena_id.ArenaId.{ArenaId}
+use Rattle.fm_base.specs.Arenas.{State, IsUnderWay, has_arena}
+use Rattle.fm_base.specs.Calls.{Entry}
+use Rattle.fm_base.specs.Histories.{IsLegal, state_after}
+use Rattle.fm_base.specs.Loans.{IsRightlyLent}
+use Rattle.fm_base.specs.Finds.{Find, Gathered, Close}
+use Rattle.fm_pool_facts.specs.declared.slot.Slot.{Slot}
+
+pub record View : Type 0 where
+  -- numbers that tell the pool
+  pub home : List ℕ
+  pub shape : Shape
+  -- a pass has it, and not a note
+  pub live : Bool
+  pub caller : Caller
+  -- the history at the pass's last step
+  pub seen : List Entry
+  pub inside : Option ArenaId
+  -- the mark that it publishes
+  pub mark : Option ArenaId
+  pub closes : List Close
+  -- the slots that it has to open arenas in
+  pub hand : List Slot
+  -- the number that it drew and hasn't split off
+  pub drawn : Option ℕ
+  -- what those had seen that it has met since its last step
+  pub met : List (List Entry)
+  pub finds : List Find
+  pub gathered : List Gathered
+  -- it is known that every drawn number but its own is gathered into it
+  pub whole : Bool
+  pub holds : List ArenaId
+  pub handles : List ArenaId
+  pub pages : List ℕ
+
+-- how many words an arena has
+abbrev pub span : Shape → ℕ
+span z = z.reach * z.page_words
+
+-- how many bytes an arena can give
+abbrev pub limit_of : Shape → ℕ
+limit_of z = span z * 8
+
+abbrev pub state_in : View → State
+state_in v = state_after (limit_of v.shape) [] v.seen
+
+abbrev pub IsKnown : View → ArenaId → Type 0
+IsKnown v a = has_arena (state_in v) a ≡ true
+
+-- the pool has a slot for the arena, and a pass of its owner's number
+pub record Fits (z : Shape) (a : ArenaId) : Type 0 where
+  pub slot : a.slot < z.slots
+  pub owner : a.owner < z.passes
+  pub generation : a.generation < z.generations
+
+-- an arena was opened in the slot
+pub record IsSpent (v : View) (slot : ℕ) : Type 0 where
+  pub arena : ArenaId
+  pub in_slot : arena.slot ≡ slot
+  pub known : IsKnown v arena
+
+abbrev pub In : {A : Type 0} → A → List A → Type 0
+In x [] = ⊥
+In x (y ∷ ys) = (x ≡ y) ⊎ In x ys
+
+-- the slot is in the hand
+abbrev pub HasSlot : ℕ → View → Type 0
+HasSlot s v = (g : ℕ) × In (record { slot = s; generation = g }) v.hand
+
+-- what holds of a pass at any time
+pub record IsSound (v : View) : Type 0 where
+  pub valid : IsValid v.shape
+  pub limit : limit_of v.shape ≤ 2 ^ 40
+  pub legal : IsLegal (limit_of v.shape) [] v.seen
+  pub lent : IsRightlyLent (span v.shape) (limit_of v.shape) v.seen
+  pub number : v.caller.number < v.shape.passes
+  pub inside : (a : ArenaId) → v.inside ≡ Some a → IsUnderWay (state_in v) v.caller a
+  pub outside : (a : ArenaId) → IsUnderWay (state_in v) v.caller a → v.inside ≡ Some a
+  pub fits : (a : ArenaId) → IsKnown v a → Fits v.shape a
+  -- the first pass alone has slots in its hand: just those in which no arena was opened
+  pub hand : (s : Slot) → In s v.hand → (v.caller.number ≡ 0) × (s.slot < v.shape.slots) × ¬ (IsSpent v s.slot)
+  pub slots : v.caller.number ≡ 0 → (s : ℕ) → s < v.shape.slots → HasSlot s v ⊎ IsSpent v s

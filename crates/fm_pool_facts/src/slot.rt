@@ -1,0 +1,6 @@
+/// A slot in a pass's hand, and the generation of the arena that is opened there next.
+#[derive(Clone, Copy, Debug, PartialEq, Eq)]
+pub struct Slot {
+    pub slot: u32,
+    pub generation: u32,
+}

@@ -1,0 +1,10 @@
+pub mod Reading
+pub mod Plain
+pub mod Acting
+pub mod Reaching
+pub mod Closes
+pub mod Shutting
+pub mod Visiting
+pub mod Opening
+pub mod Splitting
+pub mod First

@@ -1,0 +1,139 @@
+-- The rule over the making of notes and their being met.
+use Rattle.std.proofs.Common.{◌≡◌, ◌≢◌, ◌⊎◌, ℕ, zero, suc, List, [], ◌∷◌, ◌++◌, length, set, sym, refl, ap, subst, inl, inr, ⊎_elim}
+use mathlib.Core.Option.{some, some-injective, some-ne-none}
+use lib.ListN.{get_elem?}
+use Rattle.atomic_table.proofs.Lists.{at_set, at_longer}
+use Rattle.fm_words.specs.declared.shape.Shape.{Shape}
+use Rattle.fm_base.specs.declared.arena_id.ArenaId.{ArenaId}
+use Rattle.fm_base.specs.Calls.{Entry}
+use Rattle.fm_pool_facts.specs.Views.{View, In}
+use Rattle.fm_pool_facts.specs.Splits.{note, met, nothing_seen, IsBare}
+use Rattle.fm_pool_facts.specs.Facts.{HasNumber, HasDraw, HasClose, Somewhere, Begins, Knows, Rule}
+use Rattle.fm_pool_facts.proofs.Keeping.{stays_somewhere}
+
+at_end : {A : Type 0} (l : List A) (a b : A) (j : ℕ) → get_elem? (l ++ a ∷ []) j ≡ some b → (get_elem? l j ≡ some b) ⊎ ((j ≡ length l) × (a ≡ b))
+at_end [] a b zero e = inr (refl, some-injective a b e)
+at_end [] a b (suc j) e = absurd (some-ne-none b (sym e))
+at_end (x ∷ xs) a b zero e = inl e
+at_end (x ∷ xs) a b (suc j) e = ⊎_elim inl (λ (t : (j ≡ length xs) × (a ≡ b)). inr (ap suc t.0, t.1)) (at_end xs a b j e)
+
+-- what holds of each view after one was changed
+views_set : (vs : List View) (i : ℕ) (w : View) (P : ℕ → View → Type 0) → P i w → ((j : ℕ) (u : View) → j ≢ i → get_elem? vs j ≡ some u → P j u)
+    → (j : ℕ) (u : View) → get_elem? (set vs i w) j ≡ some u → P j u
+views_set vs i w P here others j u e = ⊎_elim
+    (λ (s : (j ≡ i) × (w ≡ u)). subst (λ (x : ℕ × View). P x.0 x.1) (λ k. (sym s.0 k, s.1 k)) here)
+    (λ (s : (j ≢ i) × (get_elem? vs j ≡ some u)). others j u s.0 s.1)
+    (at_set vs i j w u e)
+
+-- and after one was added
+views_on : (vs : List View) (w : View) (P : ℕ → View → Type 0) → P (length vs) w → ((j : ℕ) (u : View) → get_elem? vs j ≡ some u → P j u) → (j : ℕ) (u : View)
+    → get_elem? (vs ++ w ∷ []) j ≡ some u → P j u
+views_on vs w P here others j u e = ⊎_elim
+    (others j u)
+    (λ (s : (j ≡ length vs) × (w ≡ u)). subst (λ (x : ℕ × View). P x.0 x.1) (λ k. (sym s.0 k, s.1 k)) here)
+    (at_end vs w u j e)
+
+on_longer : (vs : List View) (w : View) (i : ℕ) (P : View → Type 0) → Somewhere vs i P → Somewhere (vs ++ w ∷ []) i P
+on_longer vs w i P s = record { view = s.view; there = at_longer vs (w ∷ []) i s.view s.there; holds = s.holds }
+
+-- what the rule says somewhere of
+pub data Said : (View → Type 0) → Type 1 where
+  number : (n : ℕ) → Said (HasNumber n)
+  draw : (d n : ℕ) → Said (HasDraw d n)
+  close : (a : ArenaId) → Said (HasClose a)
+
+-- the rule with other views, which say all that the views before said
+with_views : (z : Shape) (ws : List ℕ) (vs us : List View) (r : Rule z ws vs) → ((i : ℕ) (P : View → Type 0) → Said P → Somewhere vs i P → Somewhere us i P)
+    → ((j : ℕ) (u : View) → get_elem? us j ≡ some u → Knows z r.history r.memory r.machine r.owners j u) → Rule z ws us
+with_views z ws vs us r on each = record {
+  history = r.history;
+  memory = r.memory;
+  machine = r.machine;
+  owners = r.owners;
+  valid = r.valid;
+  legal = r.legal;
+  rightly = r.rightly;
+  loans = r.loans;
+  depicts = r.depicts;
+  shows = r.shows;
+  world = r.world;
+  few = r.few;
+  later = r.later;
+  numbers = λ n h. on (r.owners.number n) (HasNumber n) (number n) (r.numbers n h);
+  drawers = λ n i h. let y = r.drawers n i h in (y.0, y.1, on (r.owners.number y.0) (HasDraw y.0 n) (draw y.0 n) y.2);
+  closed = λ a h. on (r.owners.closer a) (HasClose a) (close a) (r.closed a h);
+  each = each;
+}
+
+-- a note of a view is made
+pub note_splits : (z : Shape) (ws : List ℕ) (vs : List View) (r : Rule z ws vs) (id : ℕ) (v : View) → get_elem? vs id ≡ some v
+    → Rule z ws (set vs id v ++ note v ∷ [])
+note_splits z ws vs r id v at =
+    let k = r.each id v at in
+    let K : ℕ → View → Type 0 = Knows z r.history r.memory r.machine r.owners in
+    with_views z ws vs (set vs id v ++ note v ∷ []) r
+    (λ i P s y. on_longer (set vs id v) (note v) i P (stays_somewhere vs id v v i P at (λ q. q) y))
+    (views_on (set vs id v) (note v) K
+    (record { shape = λ q. absurd (cc); begins = k.begins; met = λ xs i. absurd i; owns = λ q. absurd (cc) })
+    (views_set vs id v K k (λ j u n e. r.each j u e)))
+
+there_before : (vs : List View) (id other : ℕ) (b w : View) → ¬ (other ≡ id) → get_elem? (set vs id b) other ≡ some w → get_elem? vs other ≡ some w
+there_before vs id other b w n e =
+    ⊎_elim (λ (s : (other ≡ id) × (b ≡ w)). absurd (n s.0)) (λ (s : (other ≢ id) × (get_elem? vs other ≡ some w)). s.1) (at_set vs id other b w e)
+
+-- a bare view says nothing
+bare_says : (w u : View) → IsBare w → (P : View → Type 0) → Said P → P w → P u
+bare_says w u b _ (number n) (inl h) = let l = b.live in let q = h.0 in absurd (cc)
+bare_says w u b _ (number n) (inr (inl h)) = let l = b.drawn in absurd (cc)
+bare_says w u b _ (number n) (inr (inr h)) = absurd (subst (In h.0) b.gathered h.1)
+bare_says w u b _ (draw d n) (inl h) = let l = b.live in let q = h.0 in absurd (cc)
+bare_says w u b _ (draw d n) (inr h) = absurd (subst (In h.0) b.gathered h.1)
+bare_says w u b _ (close a) h = let l = b.live in let q = h.0 in absurd (cc)
+
+-- having met another changes nothing that is said
+met_says : (v w : View) (P : View → Type 0) → Said P → P v → P (met v w)
+met_says v w _ (number n) h = h
+met_says v w _ (draw d n) h = h
+met_says v w _ (close a) h = h
+
+-- a note is met
+pub meet_joins : (z : Shape) (ws : List ℕ) (vs : List View) (r : Rule z ws vs) (id : ℕ) (v : View) (other : ℕ) (w : View) → get_elem? vs id ≡ some v
+    → ¬ (other ≡ id) → get_elem? (set vs id (met v w)) other ≡ some w
+    → IsBare w → Rule z ws (set (set vs id (met v w)) other nothing_seen)
+meet_joins z ws vs r id v other w at n at' bare =
+    let k = r.each id v at in
+    let there = there_before vs id other (met v w) w n at' in
+    let kw = r.each other w there in
+    let K : ℕ → View → Type 0 = Knows z r.history r.memory r.machine r.owners in
+    with_views z ws vs (set (set vs id (met v w)) other nothing_seen) r
+    (λ i P s y. stays_somewhere (set vs id (met v w)) other w nothing_seen i P at' (bare_says w nothing_seen bare P s)
+    (stays_somewhere vs id v (met v w) i P at (met_says v w P s) y))
+    (views_set (set vs id (met v w)) other nothing_seen K
+    (record { shape = λ q. absurd (cc); begins = (r.history, refl); met = λ xs i. absurd i; owns = λ q. absurd (cc) })
+    (λ j u far e. views_set vs id (met v w) K
+    (record {
+      shape = k.shape;
+      begins = k.begins;
+      met = λ xs. ⊎_elim (λ (p : xs ≡ w.seen). subst (λ (q : List Entry). Begins q r.history) (sym p) kw.begins) (λ (p : In xs v.met). k.met xs p);
+      owns = λ q. let x = k.owns q in record {
+        number = x.number;
+        term = x.term;
+        seated = x.seated;
+        mine = x.mine;
+        inside = x.inside;
+        mark = x.mark;
+        closes = x.closes;
+        once = x.once;
+        hand = x.hand;
+        apart = x.apart;
+        only = x.only;
+        slots = x.slots;
+        gathered =
+            λ g i. let y =
+            x.gathered g i in record { number = y.number; seated = y.seated; apart = y.apart; outside = y.outside; mark = y.mark; quiet = y.quiet };
+        drawn = λ d e. let y = x.drawn d e in record { number = y.number; seated = y.seated; apart = y.apart; ungathered = y.ungathered; silent = y.silent };
+        whole = x.whole;
+        seen_all = x.seen_all;
+      };
+    })
+    (λ j' u' n' e'. r.each j' u' e') j u e))

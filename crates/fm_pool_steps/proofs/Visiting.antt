@@ -1,0 +1,212 @@
+-- The step that visits a mark for a close.
+use Rattle.std.proofs.Common.{◌≡◌, ◌≢◌, ◌⊎◌, ℕ, ◌+◌, ◌<◌, ◌==◌, Bool, true, false, List, [], ◌∷◌, set, get_or, sym, refl, ap, ◌∙◌, subst, arith, inl, inr, ⊎_elim, Some}
+use mathlib.Core.Option.{some}
+use mathlib.Core.Logic.{dite}
+use native.Mathlib.Decide.{ℕ_discrete}
+use lib.ListN.{get_elem?}
+use Rattle.fm_words.specs.declared.shape.Shape.{Shape}
+use Rattle.fm_words.specs.Places.{at as place_at, mark}
+use Rattle.fm_base.specs.declared.caller.Caller.{Caller}
+use Rattle.fm_base.specs.declared.arena_id.ArenaId.{ArenaId}
+use Rattle.fm_base.specs.Calls.{End, Fine, Entry, entry_of}
+use Rattle.fm_base.specs.Finds.{Find, Close, Visits as Visiting}
+use Rattle.fm_depicts.specs.Functions.{Fresh, Closes, Over, put_at}
+use Rattle.fm_depicts.proofs.Putting.{at_other, at_cases}
+use Rattle.fm_pool_facts.specs.declared.step.Step.TheVariants.{Visits}
+use Rattle.fm_pool_facts.specs.Views.{View, In, HasSlot, limit_of}
+use Rattle.fm_pool_facts.specs.Words.{mark_of, own_word}
+use Rattle.fm_pool_facts.specs.Closes.{visited_of, visited, dropped, one_more, visit_by, closes_after, visit_entries}
+use Rattle.fm_pool_facts.specs.Steps.{part, entries, noted, note_of, pass_of}
+use Rattle.fm_pool_facts.specs.Facts.{IsClosing, HasClose, WasOpened, Owns, Rule}
+use Rattle.fm_pool_facts.specs.Moves.{MayMake, Moved, Same, MayStep}
+use Rattle.fm_pool_facts.proofs.Keeping.{closing_on, opened_on}
+use Rattle.fm_pool_facts.proofs.Worlds.{world_end}
+use Rattle.fm_base.specs.Loans.{lent}
+use Rattle.fm_pool_facts.proofs.Lending.{loans_still}
+use Rattle.fm_pool_facts.proofs.Shown.{shows_same}
+use Rattle.fm_pool_facts.proofs.Ruling.{keeps}
+use Rattle.fm_pool_steps.proofs.Reading.{eqb_true, eqb_false}
+use Rattle.fm_pool_steps.proofs.Closes.{Found, visited_of-found, count_of, in_visited, visited_in, once_visited, in_dropped, dropped_in, once_dropped}
+use Rattle.fm_pool_steps.proofs.Plain.{same_none, own, Made, plain}
+
+module _ (z : Shape) (me : ℕ) (v : View) (l : v.live ≡ true) (sh : v.shape ≡ z) (a : ArenaId) (k : ℕ) (has : visited_of v.closes a ≡ Some k)
+    (low : k < z.passes)
+    (ws : List ℕ) (vs : List View) (r : Rule z ws vs) (at : get_elem? vs me ≡ some v) where
+  abbrev i : ℕ
+  i = place_at z (mark k)
+
+  abbrev found : ℕ
+  found = get_or ws i 0
+
+  abbrev fs : ℕ → List Find
+  fs = note_of (Visiting a (pass_of k)) found v
+
+  abbrev mine : Owns z r.history r.memory r.machine r.owners me v
+  mine = own z ws vs r me v at l
+
+  -- the close of the arena
+  its : Found a k v.closes
+  its = visited_of-found v.closes a k has
+
+  its_closing : IsClosing r.machine r.owners me its.close
+  its_closing = mine.closes its.close its.there
+
+  closes_now : r.machine.life a ≡ Closes
+  closes_now = ap r.machine.life (sym its.arena) ∙ its_closing.life
+
+  -- a mark that doesn't name the arena is of callers that are elsewhere
+  elsewhere : found ≢ mark_of a → (c : Caller) → c.number ≡ k → r.machine.inside c ≢ Some a
+  elsewhere n c e w = n (r.shows.marks k low ∙ (ap (λ (x : ℕ). own_word (r.memory.marks x)) (sym e) ∙ ap own_word (r.world.marked c a w).mark))
+
+  -- the mark names the arena
+  stays : Made z ws vs me v i found v [] fs
+  stays = plain z ws vs r me v at l i found v [] fs r.memory (record {
+    may = tt;
+    ends = λ b. tt;
+    marks = λ k h. refl;
+    terms = λ k. refl;
+    draw = refl;
+    still = λ s g f. f;
+    same = same_none v;
+    closes = refl;
+    hand = refl;
+    was = λ b h. h;
+    lends = tt;
+    loans = r.loans;
+    shows = shows_same z r.valid ws r.memory r.shows i;
+    world = r.world;
+    inside = mine.inside;
+    mark = mine.mark;
+  })
+
+  -- the close has visited one mark more
+  walks : found ≢ mark_of a → Made z ws vs me v i found (record v { closes = visited a v.closes }) [] fs
+  walks n =
+      let p : View = record v { closes = visited a v.closes } in
+      let same : Same v p = record {
+        home = refl;
+        shape = refl;
+        live = refl;
+        caller = refl;
+        seen = refl;
+        drawn = refl;
+        met = refl;
+        finds = refl;
+        gathered = refl;
+        whole = refl;
+      } in
+      let d : Moved me (limit_of z) v.caller r.memory r.machine r.owners [] r.memory r.owners = record {
+        allowed = tt;
+        marks = λ k h. refl;
+        terms = λ k. refl;
+        draw = refl;
+        numbers = λ k. refl;
+        closers = λ b f h. (refl, tt);
+        holders = λ s g f h. (refl, f);
+      } in
+      keeps z ws (set ws i found) vs r me v p [] fs r.memory r.owners at l d same
+      tt r.loans
+      (λ b h. inr (h, refl, (λ (y : HasClose b v). let w = visited_in a y.1.0 v.closes y.1.1 in (y.0, (w.0, w.1, w.2 ∙ y.1.2)))))
+      (shows_same z r.valid ws r.memory r.shows i) r.world
+      (record {
+        inside = mine.inside;
+        mark = mine.mark;
+        closes = λ c j. let w = in_visited a c v.closes j in onward c w.before (mine.closes w.before w.there) w.there w.how;
+        once = once_visited a v.closes mine.once;
+        hand = mine.hand;
+        apart = mine.apart;
+        only = mine.only;
+        slots = mine.slots;
+      })
+    where
+      -- the close of an arena is the one that was found
+      its_count : (b : Close) → In b v.closes → b.arena ≡ a → b.visited ≡ k
+      its_count b j e = count_of v.closes a k b j e has mine.once
+
+      onward : (c b : Close) → IsClosing r.machine r.owners me b → In b v.closes → ((b.arena ≡ a) × (c ≡ one_more b)) ⊎ (c ≡ b)
+          → IsClosing r.machine r.owners me c
+      onward c b s j (inr e) = subst (IsClosing r.machine r.owners me) (sym e) s
+      onward c b s j (inl q) = subst (IsClosing r.machine r.owners me) (sym q.1) (record {
+        owner = s.owner;
+        life = s.life;
+        visited = λ w h. dite (ℕ_discrete w.number k)
+            (λ e p. elsewhere n w e (p ∙ ap Some q.0))
+            (λ far. s.visited w (let g = its_count b j q.0 in omega arith));
+      })
+
+  -- it was the last: nobody is under way, and the arena ends
+  ends : found ≢ mark_of a → k + 1 ≡ z.passes → Made z ws vs me v i found (record v { closes = dropped a v.closes }) (entry_of v.caller (End a) Fine ∷ []) fs
+  ends n top =
+      let nobody : (c : Caller) → r.machine.inside c ≢ Some a = (λ c p.
+      let below = (r.world.marked c a p).number in
+      dite (ℕ_discrete c.number k)
+      (λ e. elsewhere n c e p)
+      (λ far. its_closing.visited c (let g = its.visited in omega arith) (p ∙ ap Some (sym its.arena)))) in
+      let es : List Entry = entry_of v.caller (End a) Fine ∷ [] in
+      let p : View = record v { closes = dropped a v.closes } in
+      let ok : MayMake (limit_of z) r.machine v.caller es = (refl, (closes_now, nobody), refl, tt) in
+      let same : Same v p = record {
+        home = refl;
+        shape = refl;
+        live = refl;
+        caller = refl;
+        seen = refl;
+        drawn = refl;
+        met = refl;
+        finds = refl;
+        gathered = refl;
+        whole = refl;
+      } in
+      let d : Moved me (limit_of z) v.caller r.memory r.machine r.owners es r.memory r.owners = record {
+        allowed = ok;
+        marks = λ k h. refl;
+        terms = λ k. refl;
+        draw = refl;
+        numbers = λ k. refl;
+        closers = λ b f h. (refl, ((λ e. h (ap r.owners.closer (sym e ∙ sym its.arena) ∙ its_closing.owner)), tt));
+        holders = λ s g f h. (refl, f);
+      } in
+      let other : (b : ArenaId) → put_at r.machine.life a Over b ≡ Closes → b ≢ a =
+      (λ b. at_cases r.machine.life a Over b (λ x. x ≡ Closes → b ≢ a) (λ e q. absurd (cc)) (λ ne q. ne)) in
+      keeps z ws (set ws i found) vs r me v p es fs r.memory r.owners at l d same
+      (tt, tt)
+      (loans_still (lent r.history) r.memory.sessions r.machine.life r.loans a Over r.memory.sessions (λ f. let g : Closes ≡ Fresh = sym closes_now
+      ∙ f in absurd (cc)) (λ e. absurd (cc)) (λ s g f. f))
+      (λ b h. let ne = other b h in inr (
+        sym (at_other r.machine.life a Over b ne)
+            ∙ h,
+        refl,
+        (λ (y : HasClose b v). (y.0, (y.1.0, dropped_in a y.1.0 v.closes y.1.1 (λ e. ne (sym y.1.2 ∙ e)), y.1.2))),
+      ))
+      (shows_same z r.valid ws r.memory r.shows i) (world_end z r.memory r.machine r.world a closes_now nobody)
+      (record {
+        inside = mine.inside;
+        mark = mine.mark;
+        closes = λ c j.
+            let y = in_dropped a c v.closes mine.once j in
+            closing_on (limit_of z) r.history v.caller r.memory r.machine es r.memory ok me r.owners r.owners c (mine.closes c y.0) refl
+            ((λ e. y.1 (sym e)), tt);
+        once = once_dropped a v.closes mine.once;
+        hand = λ s j. let y = mine.hand s j in record { owner = y.owner; slot = y.slot; generation = y.generation; session = y.session };
+        apart = mine.apart;
+        only = mine.only;
+        slots =
+            λ e s h. ⊎_elim (λ (j : HasSlot s v). inl j)
+            (λ (w : WasOpened r.machine s). inr (opened_on (limit_of z) r.history v.caller r.memory r.machine es r.memory ok s w)) (mine.slots e s h);
+      })
+
+  visits : (b c : Bool) → (found == mark_of a) ≡ b → (k + 1 == v.shape.passes) ≡ c
+      → Made z ws vs me v i found (record v { closes = closes_after a (visit_by b c) v.closes }) (visit_entries a (visit_by b c) v.caller) fs
+  visits true c e q = stays
+  visits false true e q = ends (eqb_false found (mark_of a) e) (eqb_true (k + 1) v.shape.passes q ∙ ap (λ (x : Shape). x.passes) sh)
+  visits false false e q = walks (eqb_false found (mark_of a) e)
+
+pub visit_steps : (z : Shape) (me : ℕ) (v : View) (a : ArenaId) (k : ℕ) → v.live ≡ true → v.shape ≡ z → visited_of v.closes a ≡ Some k → k < z.passes
+    → MayStep z (Visits a k) me v (place_at z (mark k)) (λ n. n)
+unfolding part entries noted
+visit_steps z me v a k l sh has low = record {
+  may = λ ws vs r at.
+      let x : ℕ = get_or ws (place_at z (mark k)) 0 in
+      let g = visits z me v l sh a k has low ws vs r at (x == mark_of a) (k + 1 == v.shape.passes) refl refl in
+      (g.0, g.1, record { gives = g.2; learns = λ e. r.shows.marks k low ∙ ap own_word (ap r.memory.marks e ∙ ((r.each me v at).owns l).mark) });
+}

@@ -1,0 +1,270 @@
+-- How far the counts and sums of an answer can come.
+use Rattle.std.proofs.Common.{◌≡◌, ℕ, suc, ◌+◌, ◌*◌, ◌/◌, ◌%◌, ◌^◌, ◌≤◌, ◌-◌, Bool, true, false, Option, List, [], ◌∷◌, length, map, refl, sym, ap, ◌∙◌, subst, arith}
+use Rattle.std.specs.Prelude.{◌==◌, not, ℤ, pos, negsuc, ◌+ℤ◌, FitsSigned}
+use Rattle.std.specs.Int.{w128}
+use Rattle.std.specs.List.{AllByRecursion, AllZip}
+use Rattle.std.proofs.lemmas.Int.{ints}
+use Rattle.std.proofs.lemmas.List.{length-map}
+use Rattle.std.proofs.Math.Nat.{div-mul-le_self}
+use Rattle.fm_base.specs.declared.caller.Caller.{Caller}
+use Rattle.fm_base.specs.declared.arena_id.ArenaId.{ArenaId}
+use Rattle.fm_base.specs.Calls.{Entry}
+use Rattle.fm_bytes.specs.Signed.{FitsBytes}
+use Rattle.fm_bytes.proofs.Signed.{FitsBytes-signed_of}
+use Rattle.fm_lanes.specs.Coding.{decoded}
+use Rattle.fm_lanes.specs.Value.{number_of_value}
+use Rattle.fm_lanes.specs.declared.value.Value.TheVariants.{Boolean}
+use Rattle.fm_lanes.specs.declared.value_kind.ValueKind.{ValueKind}
+use Rattle.fm_lanes.specs.declared.value_kind.ValueKind.TheVariants as kind
+use Rattle.fm_path.specs.declared.value_spec.ValueSpec.{ValueSpec}
+use Rattle.fm_path_meaning.specs.Walk.{offset_at}
+use Rattle.fm_query.specs.Plan.{Plan, IsPlan}
+use Rattle.fm_query.specs.declared.fold.Fold.{Fold}
+use Rattle.fm_query.specs.declared.fold.Fold.TheVariants as fold
+use Rattle.fm_query.specs.declared.item.Asked.{Asked}
+use Rattle.fm_query.specs.declared.item.Asked.TheVariants as asked
+use Rattle.fm_query.specs.declared.item.Item.{Item}
+use Rattle.fm_records.specs.declared.found.Found.{Found}
+use Rattle.fm_records.specs.declared.found.Found.TheVariants.{Count, Sum, Least, Greatest, Listed}
+use Rattle.fm_records.specs.Answers.{sum_of, folded, found_in, item_found, found_over}
+use Rattle.fm_records.specs.Few.{IsSumBy, IsFoundBy, IsFew, AreFew, AnswersAreFew, FewCanJoin, HasRoom, HaveRoom, IsOpen, how_many}
+use Rattle.fm_records.specs.Joined.{CanJoinFound, CanJoin, both, joined}
+use Rattle.fm_records.specs.Reads.{ReadsNumber, ReadsNumbers, no_more, one_more, FindsItem, FindsItems, no_item, one_item, ReadsRecord, chosen, passed_over, with_record, ReadsRecords, no_record, one_record, with_number, with_numbers, AddsNumbers}
+use Rattle.fm_records.specs.Texts.{IsFolded, IsFoundOf, IsItemFound}
+use Rattle.fm_records.specs.Values.{index_lists}
+use Rattle.fm_records.proofs.Plans.{IsItemFew, plan_items_few}
+
+-- ---- sums
+
+pub no_sum : IsSumBy 0 (pos 0)
+no_sum = record { low = omega (arith, ints); high = omega (arith, ints) }
+
+pub sum_more : (m n : ℕ) (x y : ℤ) → IsSumBy m x → IsSumBy n y → IsSumBy (m + n) (x +ℤ y)
+sum_more m n x y h k = record {
+  low = (let a = h.low in let b = k.low in omega (arith, ints));
+  high = (let a = h.high in let b = k.high in omega (arith, ints));
+}
+
+sum_less : (m n : ℕ) (x : ℤ) → m ≤ n → IsSumBy m x → IsSumBy n x
+sum_less m n x less h = record {
+  low = (let a = h.low in omega (arith, ints));
+  high = (let a = h.high in omega (arith, ints));
+}
+
+-- a signed number of at most 64 bits
+fits_one : (z : ℤ) → FitsBytes 8 z → IsSumBy 1 z
+fits_one (pos n) h = record { low = omega (arith, ints); high = omega (arith, ints) }
+fits_one (negsuc n) h = record { low = omega (arith, ints); high = omega (arith, ints) }
+
+fits_more : (width : ℕ) (z : ℤ) → 2 ^ (8 * width - 1) ≤ 2 ^ 63 → FitsBytes width z → FitsBytes 8 z
+fits_more width (pos n) less h = omega arith
+fits_more width (negsuc n) less h = omega arith
+
+one_truth : (b : Bool) → IsSumBy 1 (number_of_value (Boolean b))
+one_truth true = fits_one (pos 1) (omega arith)
+one_truth false = fits_one (pos 0) (omega arith)
+
+one_decoded : (k : ValueKind) (n : ℕ) → IsSumBy 1 (number_of_value (decoded k n))
+one_decoded kind.Byte n = fits_one _ (fits_more 1 _ (omega arith) (FitsBytes-signed_of 1 (n % 2 ^ 8) (omega arith) (omega arith)))
+one_decoded kind.Boolean n = one_truth (not (n % 2 ^ 8 == 0))
+one_decoded kind.Char n = fits_one (pos (n % 2 ^ 16)) (omega arith)
+one_decoded kind.Short n = fits_one _ (fits_more 2 _ (omega arith) (FitsBytes-signed_of 2 (n % 2 ^ 16) (omega arith) (omega arith)))
+one_decoded kind.Int n = fits_one _ (fits_more 4 _ (omega arith) (FitsBytes-signed_of 4 (n % 2 ^ 32) (omega arith) (omega arith)))
+one_decoded kind.Long n = fits_one _ (FitsBytes-signed_of 8 (n % 2 ^ 64) (omega arith) (omega arith))
+
+-- ---- what one record comes to
+
+-- a number that was read has at most 64 bits
+pub one_number : (c : Caller) (id : ArenaId) (spec : ValueSpec) (place : ℕ) (own : List Entry) (n : ℤ) → ReadsNumber c id spec place own n → IsSumBy 1 n
+one_number c id spec place own n r = subst (IsSumBy 1) (sym (r.number ∙ ap number_of_value r.reads.value)) (one_decoded spec.kind _)
+
+-- as many numbers as places
+record AreSummed (places : List ℕ) (ns : List ℤ) : Type 0 where
+  long : length ns ≡ length places
+  sum : IsSumBy (length ns) (sum_of ns)
+
+numbers_summed : (c : Caller) (id : ArenaId) (spec : ValueSpec) (places : List ℕ) (own : List Entry) (ns : List ℤ) → ReadsNumbers c id spec places own ns → AreSummed places ns
+numbers_summed c id spec places own ns no_more = record { long = refl; sum = no_sum }
+numbers_summed c id spec places own ns (one_more {place = place} {places = left} first rest n more r h) =
+    let behind = numbers_summed c id spec left rest more h in
+    let plus : 1 + length more ≡ suc (length more) = omega arith in
+    record {
+      long = ap suc behind.long;
+      sum = subst (λ (k : ℕ). IsSumBy k (n +ℤ sum_of more)) plus (sum_more 1 (length more) n (sum_of more) (one_number c id spec place first n r) behind.sum);
+    }
+
+-- one number more
+number_few : (n : ℕ) (f : Found) (z : ℤ) → IsSumBy 1 z → IsFoundBy n f → IsFoundBy (n + 1) (with_number f z)
+number_few n (Count k) z one h = omega arith
+number_few n (Sum x) z one h = sum_more n 1 x z h one
+number_few n (Least o) z one h = tt
+number_few n (Greatest o) z one h = tt
+number_few n (Listed zs) z one h = tt
+
+numbers_few : (c : Caller) (id : ArenaId) (spec : ValueSpec) (places : List ℕ) (own : List Entry) (ns : List ℤ) (n : ℕ) (f : Found) → ReadsNumbers c id spec places own ns → IsFoundBy n f
+    → IsFoundBy (n + length places) (with_numbers f ns)
+numbers_few c id spec places own ns n f no_more h = let e : n ≡ n + 0 = omega arith in subst (λ (k : ℕ). IsFoundBy k f) e h
+numbers_few c id spec places own ns n f (one_more {place = place} {places = left} first rest z more r more_read) h =
+    let e : n + 1 + length left ≡ n + suc (length left) = omega arith in
+    subst (λ (k : ℕ). IsFoundBy k (with_numbers (with_number f z) more)) e
+    (numbers_few c id spec left rest more (n + 1) (with_number f z) more_read (number_few n f z (one_number c id spec place first z r) h))
+
+-- so there is room for those that are left
+pub adds_room : {c : Caller} {id : ArenaId} {spec : ValueSpec} {places : List ℕ} {f g : Found} {own : List Entry} (more : ℕ) → AddsNumbers c id spec places f g own → HasRoom f (length places + more) → HasRoom g more
+adds_room {c} {id} {spec} {places} {f} {g} {own} more a room = (
+  room.0 + length places,
+  omega (arith, room.1),
+  subst (IsFoundBy (room.0 + length places)) (sym a.added) (numbers_few c id spec places own a.numbers room.0 f a.reads room.2),
+)
+
+-- room for fewer
+pub room_less : (f : Found) (n m : ℕ) → m ≤ n → HasRoom f n → HasRoom f m
+room_less f n m less h = (h.0, omega (arith, h.1), h.2)
+
+-- a find of the kind that is asked for, from so few numbers
+record IsFewOf (n : ℕ) (a : Asked) (found : Found) : Type 0 where
+  kind : IsFoundOf a found
+  by : IsFoundBy n found
+
+folded_few : (f : Fold) (r : _) (n : ℕ) (ns : List ℤ) → IsSumBy n (sum_of ns) → IsFewOf n (asked.Of f r) (folded f ns)
+folded_few fold.Sum r n ns h = record { kind = tt; by = h }
+folded_few fold.Least r n ns h = record { kind = tt; by = tt }
+folded_few fold.Greatest r n ns h = record { kind = tt; by = tt }
+folded_few fold.All r n ns h = record { kind = tt; by = tt }
+
+item_few : (c : Caller) (id : ArenaId) (place size : ℕ) (a : Asked) (own : List Entry) (found : Found) → how_many a ≤ size → FindsItem c id place a own found → IsFewOf size a found
+item_few c id place size asked.Count own found few h = subst (IsFewOf size asked.Count) (sym h.1) (record { kind = tt; by = few })
+item_few c id place size (asked.Of f r) own found few h =
+    let s = numbers_summed c id r.value _ own h.0 h.1 in
+    let long : length h.0 ≤ size = omega (arith, few, s.long, length-map (index_lists r.dims) (λ is. place + offset_at r.offset r.dims is)) in
+    subst (IsFewOf size (asked.Of f r)) (sym h.2) (folded_few f r size h.0 (sum_less (length h.0) size (sum_of h.0) long s.sum))
+
+-- the same of an item
+of_item : (n : ℕ) (item : Item) (found : Found) → IsFewOf n item.asked found → IsFew n item found
+of_item n item found h = record { kind = h.kind; by = h.by }
+
+items_few : (c : Caller) (id : ArenaId) (place size : ℕ) (items : List Item) (own : List Entry) (fs : List Found)
+    → AllByRecursion (IsItemFew size) items → FindsItems c id place items own fs → AllZip (IsFew size) items fs
+items_few c id place size items own fs few no_item = tt
+items_few c id place size items own fs few (one_item {item = item} {items = left} found more one rest f h) =
+    (of_item size item found (item_few c id place size item.asked one found few.0 f), items_few c id place size left rest more few.1 h)
+
+-- ---- two finds of one item
+
+fits_128 : (n : ℕ) (z : ℤ) → n ≤ 2 ^ 62 → IsSumBy n z → FitsSigned w128 z
+fits_128 n (pos k) less h = let a = h.high in omega (arith, ints)
+fits_128 n (negsuc k) less h = let a = h.low in omega (arith, ints)
+
+-- they can be joined, and then come from as many together
+record AreBoth (n : ℕ) (a : Asked) (f g : Found) : Type 0 where
+  can : n ≤ 2 ^ 62 → CanJoinFound f g
+  few : IsFewOf n a (both f g)
+
+folds_few : (m n : ℕ) (o : Fold) (r : _) (f g : Found) → IsFolded o f → IsFolded o g → IsFoundBy m f → IsFoundBy n g → AreBoth (m + n) (asked.Of o r) f g
+folds_few m n fold.Sum r (Sum x) (Sum y) i j h k =
+    let sum = sum_more m n x y h k in
+    record { can = λ less. fits_128 (m + n) (x +ℤ y) less sum; few = record { kind = tt; by = sum } }
+folds_few m n fold.Least r (Least x) (Least y) i j h k = record { can = λ less. tt; few = record { kind = tt; by = tt } }
+folds_few m n fold.Greatest r (Greatest x) (Greatest y) i j h k = record { can = λ less. tt; few = record { kind = tt; by = tt } }
+folds_few m n fold.All r (Listed x) (Listed y) i j h k = record { can = λ less. tt; few = record { kind = tt; by = tt } }
+folds_few m n fold.Sum r (Sum x) g i j h k = absurd j
+folds_few m n fold.Least r (Least x) g i j h k = absurd j
+folds_few m n fold.Greatest r (Greatest x) g i j h k = absurd j
+folds_few m n fold.All r (Listed x) g i j h k = absurd j
+folds_few m n o r f g i j h k = absurd i
+
+two_few : (m n : ℕ) (a : Asked) (f g : Found) → IsFewOf m a f → IsFewOf n a g → AreBoth (m + n) a f g
+two_few m n asked.Count (Count x) (Count y) h k =
+    let p = h.by in let q = k.by in record { can = λ less. omega arith; few = record { kind = tt; by = omega arith } }
+two_few m n asked.Count (Count x) g h k = absurd k.kind
+two_few m n asked.Count f g h k = absurd h.kind
+two_few m n (asked.Of o r) f g h k = folds_few m n o r f g h.kind k.kind h.by k.by
+
+record AreAllBoth (n : ℕ) (items : List Item) (fs gs : List Found) : Type 0 where
+  can : n ≤ 2 ^ 62 → CanJoin fs gs
+  few : AllZip (IsFew n) items (joined fs gs)
+
+by_item : (n : ℕ) (item : Item) (found : Found) → IsFew n item found → IsFewOf n item.asked found
+by_item n item found h = record { kind = h.kind; by = h.by }
+
+all_few : (m n : ℕ) (items : List Item) (fs gs : List Found) → AllZip (IsFew m) items fs → AllZip (IsFew n) items gs → AreAllBoth (m + n) items fs gs
+all_few m n [] [] [] h k = record { can = λ less. tt; few = tt }
+all_few m n [] [] (g ∷ gs) h k = absurd k
+all_few m n [] (f ∷ fs) gs h k = absurd h
+all_few m n (i ∷ is) [] gs h k = absurd h
+all_few m n (i ∷ is) (f ∷ fs) [] h k = absurd k
+all_few m n (i ∷ is) (f ∷ fs) (g ∷ gs) h k =
+    let one = two_few m n i.asked f g (by_item m i f h.0) (by_item n i g k.0) in
+    let rest = all_few m n is fs gs h.1 k.1 in
+    record { can = λ less. (one.can less, rest.can less); few = (of_item (m + n) i (both f g) one.few, rest.few) }
+
+-- what comes from few comes from no more than more
+found_less : (m n : ℕ) (f : Found) → m ≤ n → IsFoundBy m f → IsFoundBy n f
+found_less m n (Count k) less h = omega arith
+found_less m n (Sum x) less h = sum_less m n x less h
+found_less m n (Least o) less h = tt
+found_less m n (Greatest o) less h = tt
+found_less m n (Listed xs) less h = tt
+
+few_less : (m n : ℕ) (items : List Item) (fs : List Found) → m ≤ n → AllZip (IsFew m) items fs → AllZip (IsFew n) items fs
+few_less m n [] [] less h = tt
+few_less m n [] (f ∷ fs) less h = absurd h
+few_less m n (i ∷ is) [] less h = absurd h
+few_less m n (i ∷ is) (f ∷ fs) less h = (record { kind = h.0.kind; by = found_less m n f less h.0.by }, few_less m n is fs less h.1)
+
+-- they are an answer of the query
+pub few_answer : (n : ℕ) (items : List Item) (fs : List Found) → AllZip (IsFew n) items fs → AllZip IsItemFound items fs
+few_answer n [] [] h = tt
+few_answer n [] (f ∷ fs) h = absurd h
+few_answer n (i ∷ is) [] h = absurd h
+few_answer n (i ∷ is) (f ∷ fs) h = (h.0.kind, few_answer n is fs h.1)
+
+-- ---- records
+
+none_few : (a : Asked) → IsFewOf 0 a (found_in [] a)
+none_few asked.Count = record { kind = tt; by = omega arith }
+none_few (asked.Of f r) = folded_few f r 0 [] no_sum
+
+pub nothing_few : (items : List Item) → AllZip (IsFew 0) items (map (item_found []) items)
+nothing_few [] = tt
+nothing_few (i ∷ is) = (of_item 0 i (found_in [] i.asked) (none_few i.asked), nothing_few is)
+
+pub record_few : (c : Caller) (id : ArenaId) (p : Plan) (place m : ℕ) (own : List Entry) (seen : Option (List Found)) (so_far : List Found) → IsPlan p → ReadsRecord c id p place own seen
+    → AreFew m p so_far → AreFew (m + p.size) p (with_record so_far seen)
+record_few c id p place m own seen so_far plan (chosen one rest fs t h) few =
+    (all_few m p.size p.items so_far fs few (items_few c id place p.size p.items rest fs (plan_items_few p plan) h)).few
+record_few c id p place m own seen so_far plan (passed_over one t) few = few_less m (m + p.size) p.items so_far (omega arith) few
+
+records_few : (c : Caller) (id : ArenaId) (p : Plan) (count place m : ℕ) (own : List Entry) (so_far all : List Found) → IsPlan p → ReadsRecords c id p count place so_far own all
+    → AreFew m p so_far → AreFew (m + count * p.size) p all
+records_few c id p count place m own so_far all plan no_record few = few_less m _ p.items all (omega arith) few
+records_few c id p count place m own so_far all plan (one_record {count = left} one rest seen r more) few =
+    let bytes : suc left * p.size ≡ p.size + left * p.size = grind arith in
+    let sum : m + p.size + left * p.size ≡ m + suc left * p.size = omega (arith, bytes) in
+    subst (λ (n : ℕ). AreFew n p all) sum
+    (records_few c id p left (place + p.size) (m + p.size) rest (with_record so_far seen) all plan more (record_few c id p place m one seen so_far plan r few))
+
+pub answers_few : AnswersAreFew
+answers_few c p s a own plan does =
+    few_less (0 + s.size / p.size * p.size) s.size p.items a (omega (arith, div-mul-le_self s.size p.size))
+    (records_few c s.arena p (s.size / p.size) s.first 0 own (found_over p []) a plan does.records (nothing_few p.items))
+
+pub few_join : FewCanJoin
+few_join p m n a b h k less =
+    let all = all_few m n p.items a b h k in
+    record { can = all.can less; few = all.few; answer = few_answer (m + n) p.items (joined a b) all.few }
+
+-- ---- room for a record
+
+items_open : (n size : ℕ) (items : List Item) (fs : List Found) → n + size ≤ 2 ^ 62 → AllByRecursion (IsItemFew size) items → AllZip (IsFew n) items fs → AllZip IsOpen items fs
+items_open n size [] [] less few h = tt
+items_open n size [] (f ∷ fs) less few h = h
+items_open n size (i ∷ is) [] less few h = h
+items_open n size (i ∷ is) (f ∷ fs) less few h = (
+  record { kind = h.0.kind; room = (n, omega (arith, few.0, less), h.0.by) },
+  items_open n size is fs less few.1 h.1,
+)
+
+-- where a record has room, its items have
+pub plan_items_open : (p : Plan) (fs : List Found) → IsPlan p → HaveRoom p fs p.size → AllZip IsOpen p.items fs
+plan_items_open p fs plan h = items_open h.0 p.size p.items fs h.1 (plan_items_few p plan) h.2

@@ -1,0 +1,138 @@
+-- What items find in a record, added to what they found before.
+use Rattle.std.proofs.Common.{◌≡◌, ℕ, Result, Ok, Err, List, [], ◌∷◌, ◌++◌, Option, None, Some, refl, sym, ap, ◌∙◌, subst, append_assoc, arith}
+use Rattle.std.specs.Prelude.{ℤ, ◌+ℤ◌, pos}
+use Rattle.std.proofs.lemmas.Int.{ints}
+use Rattle.std.proofs.lemmas.List.{append-nil}
+use Rattle.fm_base.specs.declared.caller.Caller.{Caller}
+use Rattle.fm_base.specs.declared.refusal.Refusal.{Refusal}
+use Rattle.fm_base.specs.Calls.{Entry}
+use Rattle.fm_base.specs.View.{View, Did}
+use Rattle.fm_segment.specs.Region.{Region}
+use Rattle.fm_path.specs.Resolution.{Resolution}
+use Rattle.fm_path.specs.declared.value_spec.ValueSpec.{ValueSpec}
+use Rattle.fm_query.specs.declared.fold.Fold.{Fold}
+use Rattle.fm_query.specs.declared.fold.Fold.TheVariants as fold
+use Rattle.fm_query.specs.declared.item.Asked.{Asked}
+use Rattle.fm_query.specs.declared.item.Asked.TheVariants as asked
+use Rattle.fm_query.specs.declared.item.Item.{Item}
+use Rattle.fm_records.specs.declared.found.Found.{Found}
+use Rattle.fm_records.specs.declared.found.Found.TheVariants.{Count, Sum, Least, Greatest, Listed}
+use Rattle.fm_records.specs.Answers.{folded, lesser, greater, sum_of, least_of, greatest_of}
+use Rattle.fm_records.specs.Joined.{both, joined}
+use Rattle.fm_records.specs.Reads.{AddsItem, AddsItems, AddsNumbers, AreReads, DoesStop, DoesRead, no_item, one_item, ReadsNumbers, no_more, StopsNumbers, StopsItem, StopsItems, at_item, next_item, value_places, with_numbers}
+use Rattle.fm_records.specs.Texts.{IsFolded, IsFoundOf}
+use Rattle.fm_records.proofs.Ends.{lesser-lesser, greater-greater}
+use Rattle.fm_records.proofs.Visiting.{none_so_far, first_so_far, more, ended, stopped}
+
+-- ---- one item
+
+sums : (x : ℤ) (ns : List ℤ) → with_numbers (Sum x) ns ≡ Sum (x +ℤ sum_of ns)
+sums x [] = let e : x ≡ x +ℤ pos 0 = omega (arith, ints) in ap Sum e
+sums x (n ∷ ns) = let e : x +ℤ n +ℤ sum_of ns ≡ x +ℤ (n +ℤ sum_of ns) = omega (arith, ints) in sums (x +ℤ n) ns ∙ ap Sum e
+
+lesser-none : (o : Option ℤ) → lesser o None ≡ o
+lesser-none None = refl
+lesser-none (Some x) = refl
+
+leasts : (o : Option ℤ) (ns : List ℤ) → with_numbers (Least o) ns ≡ Least (lesser o (least_of ns))
+leasts o [] = ap Least (sym (lesser-none o))
+leasts o (n ∷ ns) = leasts (lesser o (Some n)) ns ∙ ap Least (lesser-lesser o (Some n) (least_of ns))
+
+greater-none : (o : Option ℤ) → greater o None ≡ o
+greater-none None = refl
+greater-none (Some x) = refl
+
+greatests : (o : Option ℤ) (ns : List ℤ) → with_numbers (Greatest o) ns ≡ Greatest (greater o (greatest_of ns))
+greatests o [] = ap Greatest (sym (greater-none o))
+greatests o (n ∷ ns) = greatests (greater o (Some n)) ns ∙ ap Greatest (greater-greater o (Some n) (greatest_of ns))
+
+lists : (zs ns : List ℤ) → with_numbers (Listed zs) ns ≡ Listed (zs ++ ns)
+lists zs [] = ap Listed (sym (append-nil zs))
+lists zs (n ∷ ns) = lists (zs ++ n ∷ []) ns ∙ ap Listed (append_assoc zs (n ∷ []) ns)
+
+-- one by one, or folded first
+pub with_numbers_both : (f : Fold) (found : Found) (ns : List ℤ) → IsFolded f found → with_numbers found ns ≡ both found (folded f ns)
+with_numbers_both fold.Sum (Sum x) ns is = sums x ns
+with_numbers_both fold.Least (Least o) ns is = leasts o ns
+with_numbers_both fold.Greatest (Greatest o) ns is = greatests o ns
+with_numbers_both fold.All (Listed zs) ns is = lists zs ns
+with_numbers_both f found ns is = absurd is
+
+module _ (s : Region) (place : ℕ) {f : Fold} {r : Resolution} (a : Asked) (is : a ≡ asked.Of f r) where
+  -- a path's values were read, by what calls gave of it
+  pub item_read : {old new : View} (g h : Found) (places : List ℕ) (v : ValueSpec) (result : Result (Unit {0}) Refusal) → IsFoundOf a g → places ≡ value_places place r.offset r.dims → v ≡ r.value
+      → Did old new (DoesRead old.caller s (λ u es. AddsNumbers old.caller s.arena v places g h es) (StopsNumbers old.caller s.arena v places) result)
+      → Did old new (DoesRead old.caller s (λ u es. AddsItem old.caller s.arena place a g h es) (StopsItem old.caller s.arena place a) result)
+  item_read {old} {new} g h places v result kind same spec d = record { own = d.own; does = by result d.does; makes = d.makes }
+    where
+      by : (result : Result (Unit {0}) Refusal) → DoesRead old.caller s (λ u es. AddsNumbers old.caller s.arena v places g h es) (StopsNumbers old.caller s.arena v places) result d.own
+          → DoesRead old.caller s (λ u es. AddsItem old.caller s.arena place a g h es) (StopsItem old.caller s.arena place a) result d.own
+      by (Ok u) x =
+          let ns = x.1.numbers in
+          let reads : ReadsNumbers old.caller s.arena r.value (value_places place r.offset r.dims) d.own x.1.numbers =
+          subst (λ (w : ValueSpec). ReadsNumbers old.caller s.arena w (value_places place r.offset r.dims) d.own x.1.numbers) spec
+          (subst (λ (ps : List ℕ). ReadsNumbers old.caller s.arena v ps d.own x.1.numbers) same x.1.reads) in (
+            x.0,
+            subst (λ (b : Asked). AddsItem old.caller s.arena place b g h d.own) (sym is) (record {
+              found = folded f ns;
+              finds = (ns, reads, refl);
+              added = x.1.added ∙ with_numbers_both f g ns (subst (λ (b : Asked). IsFoundOf b g) is kind);
+            }),
+          )
+      by (Err e) x =
+          subst (λ (b : Asked). DoesStop old.caller s (StopsItem old.caller s.arena place b) e d.own) (sym is)
+          (subst (λ (w : ValueSpec). DoesStop old.caller s (StopsNumbers old.caller s.arena w (value_places place r.offset r.dims)) e d.own) spec
+          (subst (λ (ps : List ℕ). DoesStop old.caller s (StopsNumbers old.caller s.arena v ps) e d.own) same x))
+
+  -- a path has no values
+  pub item_empty : (old : View) (g : Found) → IsFoundOf a g → value_places place r.offset r.dims ≡ []
+      → Did old old (DoesRead old.caller s (λ u es. AddsItem old.caller s.arena place a g g es) (StopsItem old.caller s.arena place a) (Ok (tt {0})))
+  item_empty old g kind none =
+      item_read g g [] r.value (Ok (tt {0})) kind (sym none) refl
+      (ended (λ (es : List Entry). AddsNumbers old.caller s.arena r.value [] g g es) (none_so_far old s) (record { numbers = []; reads = no_more; added = refl }))
+
+-- a count
+pub item_counted : (old : View) (s : Region) (place : ℕ) (a : Asked) (g h : Found) → a ≡ asked.Count → h ≡ both g (Count 1)
+    → Did old old (DoesRead old.caller s (λ u es. AddsItem old.caller s.arena place a g h es) (StopsItem old.caller s.arena place a) (Ok (tt {0})))
+item_counted old s place a g h is e =
+    ended (λ (es : List Entry). AddsItem old.caller s.arena place a g h es) (none_so_far old s)
+    (subst (λ (b : Asked). AddsItem old.caller s.arena place b g h []) (sym is) (record { found = Count 1; finds = (refl, refl); added = e }))
+
+-- ---- items in order
+
+joined-none : (fs : List Found) → joined fs [] ≡ fs
+joined-none [] = refl
+joined-none (f ∷ fs) = refl
+
+-- none is left
+pub no_items : (old : View) (s : Region) (place : ℕ) (items : List Item) (fs : List Found) → items ≡ []
+    → Did old old (DoesRead old.caller s (λ (u : Unit {0}) es. AddsItems old.caller s.arena place items fs fs es) (StopsItems old.caller s.arena place items) (Ok tt))
+no_items old s place items fs e =
+    ended (λ (es : List Entry). AddsItems old.caller s.arena place items fs fs es) (none_so_far old s)
+    (subst (λ (is : List Item). AddsItems old.caller s.arena place is fs fs []) (sym e) (record { found = []; finds = no_item; added = sym (joined-none fs) }))
+
+module _ (s : Region) (place : ℕ) {x : Item} {xs : List Item} {f : Found} {fs : List Found} (items : List Item) (old_found : List Found) (is : items ≡ x ∷ xs) (are : old_found ≡ f ∷ fs) where
+  -- the first stops
+  pub item_stops : {old now : View} (r : Refusal) → Did old now (DoesStop old.caller s (StopsItem old.caller s.arena place x.asked) r) → Did old now (DoesStop old.caller s (StopsItems old.caller s.arena place items) r)
+  item_stops {old} {now} r d =
+      stopped r (λ (c : Caller). StopsItem c s.arena place x.asked) (StopsItems old.caller s.arena place items) (none_so_far old s)
+      (λ es h. subst (λ (ys : List Item). StopsItems old.caller s.arena place ys es) (sym is) (at_item es h)) d
+
+  -- the first is added, and the others are gone through
+  pub item_added : {old now next : View} {g : Found} {gs new : List Found} (result : Result (Unit {0}) Refusal) → new ≡ g ∷ gs
+      → Did old now (λ es. AreReads old.caller s es × AddsItem old.caller s.arena place x.asked f g es)
+      → Did now next (DoesRead now.caller s (λ (v : Unit {0}) es. AddsItems now.caller s.arena place xs fs gs es) (StopsItems now.caller s.arena place xs) result)
+      → Did old next (DoesRead old.caller s (λ (v : Unit {0}) es. AddsItems old.caller s.arena place items old_found new es) (StopsItems old.caller s.arena place items) result)
+  item_added {old} {now} {next} {g} {gs} {new} (Ok v) e t d =
+      let m = more (λ (c : Caller) (es : List Entry). AddsItems c s.arena place xs fs gs es) (first_so_far t) d in
+      let a = t.does.1 in
+      let b = m.does in
+      ended (λ (es : List Entry). AddsItems old.caller s.arena place items old_found new es) m.so_far
+      (subst (λ (ys : List Item). AddsItems old.caller s.arena place ys old_found new (t.own ++ d.own)) (sym is) (record {
+        found = a.found ∷ b.found;
+        finds = one_item a.found b.found t.own d.own a.finds b.finds;
+        added = e ∙ ap (λ y. y ∷ gs) a.added ∙ ap (λ ys. both f a.found ∷ ys) b.added ∙ ap (λ ys. joined ys (a.found ∷ b.found)) (sym are);
+      }))
+  item_added {old} {now} {next} {g} {gs} {new} (Err r) e t d =
+      stopped r (λ (c : Caller). StopsItems c s.arena place xs) (StopsItems old.caller s.arena place items) (first_so_far t)
+      (λ es h. subst (λ (ys : List Item). StopsItems old.caller s.arena place ys (t.own ++ es)) (sym is) (next_item t.does.1.found t.own es t.does.1.finds h)) d

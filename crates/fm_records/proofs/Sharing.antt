@@ -1,0 +1,216 @@
+-- Shares of a segment, each answered by the Reads of one caller.
+use Rattle.std.proofs.Common.{◌≡◌, ℕ, zero, suc, ◌+◌, ◌-◌, ◌*◌, ◌/◌, ◌%◌, ◌<◌, ◌≤◌, Bool, true, false, Some, List, [], ◌∷◌, ◌++◌, length, map, refl, sym, ap, ◌∙◌, subst, inl, inr, arith}
+use Rattle.std.specs.Prelude.{◌⊎◌, cond, filter}
+use Rattle.std.specs.List.{AllByRecursion, range_with_len, slice_get}
+use Rattle.std.proofs.Math.Nat.{zero-div}
+use Rattle.std.proofs.lemmas.List.{map-append}
+use Rattle.std.proofs.lemmas.Nat.{div-add-mod'}
+use Rattle.fm_base.specs.Arenas.{State, arena_of}
+use Rattle.fm_base.specs.Calls.{Read, Entry}
+use Rattle.fm_base.specs.Histories.{made_by}
+use Rattle.fm_bytes.specs.Words.{byte_at, byte_of}
+use Rattle.fm_path.specs.Resolution.{Resolution}
+use Rattle.fm_query.specs.Plan.{Plan, IsPlan}
+use Rattle.fm_segment.specs.Region.{Region, part_of}
+use Rattle.fm_base.specs.Untouched.{FindsByte}
+use Rattle.fm_base.proofs.Untouched.{spared_found as byte_found}
+use Rattle.fm_records.specs.Alone.{bytes_at_places}
+use Rattle.fm_records.specs.Answers.{answer, found_over}
+use Rattle.fm_records.specs.Bytes.{HasRead, FindsAs, FindAs, IsAnswered}
+use Rattle.fm_records.specs.Few.{AreFew}
+use Rattle.fm_records.specs.Joined.{joined}
+use Rattle.fm_records.specs.Laws.{IsAsked}
+use Rattle.fm_records.specs.Records.{records, pieces}
+use Rattle.fm_records.specs.Shares.{IsSpared, SparedAreFound, Share, IsDone, behind, IsFirst, all_joined, SharesJoin, SharesAnswer, SharesRead}
+use Rattle.fm_records.proofs.AnsweringBytes.{answer_of_bytes, length-places, get_or-places}
+use Rattle.fm_records.proofs.Covering.{asked_is_read}
+use Rattle.fm_records.proofs.Few.{answers_few, few_join, nothing_few}
+use Rattle.fm_records.proofs.Joining.{records-append, answer-append}
+
+-- ---- Reads of bytes that all spare
+
+all_filtered : {X : Type 0} (P : X → Type 0) (q : X → Bool) (xs : List X) → AllByRecursion P xs → AllByRecursion P (filter q xs)
+all_filtered P q [] h = tt
+all_filtered P q (x ∷ xs) h =
+    elim (q x) as (λ b. AllByRecursion P (cond b (x ∷ filter q xs) (filter q xs))) [ true ↦ (h.0, all_filtered P q xs h.1) | false ↦ all_filtered P q xs h.1 ]
+
+-- found byte by byte, and so entry by entry
+by_entry : (now : State) (s : Region) (es : List Entry)
+    → ((place : ℕ) → s.first ≤ place → place < s.first + s.size → AllByRecursion (FindsByte s.arena place (byte_at (arena_of now s.arena).words place)) es)
+    → FindAs s (bytes_at_places now s) es
+by_entry now s [] h = tt
+by_entry now s (e ∷ es) h = (
+  λ word n at call reply is.
+      let place = 8 * word + at in
+      let in_word = is.in_word in
+      let from : s.first ≤ 8 * word + at = is.from in
+      let by_word : (8 * word + at) / 8 ≡ word = omega (arith, in_word) in
+      let by_byte : (8 * word + at) % 8 ≡ at = omega (arith, in_word) in
+      let below : 8 * word + at - s.first < s.size = omega (arith, from, is.below) in
+      let back : s.first + (8 * word + at - s.first) ≡ 8 * word + at = omega (arith, from) in
+      let here = (h place from is.below).0 n (call ∙ ap (Read s.arena) (sym by_word)) reply in
+      ap (byte_of n) (sym by_byte) ∙ here
+      ∙ sym (get_or-places now s (8 * word + at - s.first) below ∙ ap (byte_at (arena_of now s.arena).words) back),
+  by_entry now s es (λ place from below. (h place from below).1),
+)
+
+pub spared_found : SparedAreFound
+spared_found limit now es s c h =
+    all_filtered (FindsAs s (bytes_at_places now s)) _ es
+    (by_entry now s es (λ place from below. byte_found limit now es s.arena place h.legal (h.spared place from below)))
+
+-- ---- the segment's bytes, cut in two
+
+range_append : (a m n : ℕ) → range_with_len a (m + n) ≡ range_with_len a m ++ range_with_len (a + m) n
+range_append a zero n = let e : 0 + n ≡ n = omega arith in let f : a ≡ a + 0 = omega arith in ap (range_with_len a) e ∙ ap (λ x. range_with_len x n) f
+range_append a (suc m) n =
+    let e : suc m + n ≡ suc (m + n) = omega arith in
+    let f : a + 1 + m ≡ a + suc m = omega arith in
+    ap (range_with_len a) e ∙ ap (λ xs. a ∷ xs) (range_append (a + 1) m n) ∙ ap (λ x. a ∷ (range_with_len (a + 1) m ++ range_with_len x n)) f
+
+bytes_cut : (now : State) (s : Region) (n : ℕ) → n ≤ s.size → bytes_at_places now s ≡ bytes_at_places now (part_of 0 n s) ++ bytes_at_places now (behind n s)
+bytes_cut now s n within =
+    let b = byte_at (arena_of now s.arena).words in
+    let sum : s.size ≡ n + (s.size - n) = omega (arith, within) in
+    let start : s.first ≡ s.first + 0 = omega arith in
+    ap (λ k. map b (range_with_len s.first k)) sum
+    ∙ ap (map b) (range_append s.first n (s.size - n))
+    ∙ map-append b (range_with_len s.first n) (range_with_len (s.first + n) (s.size - n))
+    ∙ ap (λ k. map b (range_with_len k n) ++ map b (range_with_len (s.first + n) (s.size - n))) start
+
+-- no bytes have no records
+records_none : (p : Plan) (bytes : List ℕ) → bytes ≡ [] → answer p bytes ≡ found_over p []
+records_none p bytes e = ap (answer p) e ∙ ap (λ k. found_over p (pieces k p.size [])) (zero-div p.size)
+
+places_none : (now : State) (s : Region) → s.size ≡ 0 → bytes_at_places now s ≡ []
+places_none now s e = ap (λ n. map (byte_at (arena_of now s.arena).words) (range_with_len s.first n)) e
+
+-- ---- the shares' answers
+
+pub shares_join : SharesJoin
+shares_join p s es [] plan cut done small = record {
+  can = tt;
+  few = subst (AreFew s.size p) (sym (records_none p [] refl)) (subst (λ (n : ℕ). AreFew n p (found_over p [])) (sym cut) (nothing_few p.items));
+}
+shares_join p s es (w ∷ ws) plan cut done small =
+    let n = w.region.size in
+    let within = cut.0.within in
+    let rest = shares_join p (behind w.region.size s) es ws plan cut.1 done.1 (omega (arith, small)) in
+    let one = answers_few w.caller p w.region w.found (made_by w.caller es) plan done.0.does in
+    let sum : w.region.size + (s.size - w.region.size) ≡ s.size = omega (arith, within) in
+    let joins = few_join p n (s.size - n) w.found (all_joined p ws) one rest.few (omega (arith, sum, small)) in
+    record { can = (joins.can, rest.can); few = subst (λ (k : ℕ). AreFew k p (joined w.found (all_joined p ws))) sum joins.few }
+
+-- a share of a segment that is spared
+record IsShare (limit : ℕ) (now : State) (es : List Entry) (p : Plan) (w : Share) : Type 0 where
+  spared : IsSpared limit now es w.region
+  answered : IsAnswered w.caller p w.region (bytes_at_places now w.region) w.found (made_by w.caller es)
+
+-- so is each part of it
+spared_part : (limit : ℕ) (now : State) (es : List Entry) (s : Region) (at n : ℕ) → at + n ≤ s.size → IsSpared limit now es s → IsSpared limit now es (part_of at n s)
+spared_part limit now es s at n within h = record {
+  legal = h.legal;
+  spared = λ place from below. h.spared place (omega (arith, from)) (omega (arith, below, within));
+}
+
+-- its first share
+first_share : (limit : ℕ) (now : State) (es : List Entry) (p : Plan) (s : Region) (w : Share) → IsPlan p → IsSpared limit now es s → IsFirst p s w → IsDone p es w → IsShare limit now es p w
+first_share limit now es p s w plan h cut done =
+    let mine = subst (IsSpared limit now es) (sym cut.region) (spared_part limit now es s 0 w.region.size (omega (arith, cut.within)) h) in
+    record {
+      spared = mine;
+      answered = record { plan = plan; size = length-places now w.region; finds = spared_found limit now es w.region w.caller mine; does = done.does };
+    }
+
+pub shares_answer : SharesAnswer
+shares_answer limit now es p s [] plan h cut done = sym (ap (answer p) (places_none now s cut))
+shares_answer limit now es p s (w ∷ ws) plan h cut done =
+    let n = w.region.size in
+    let within = cut.0.within in
+    let a = bytes_at_places now (part_of 0 n s) in
+    let b = bytes_at_places now (behind n s) in
+    let one : w.found ≡ answer p (bytes_at_places now (part_of 0 w.region.size s)) =
+    answer_of_bytes w.caller p w.region _ w.found _ (first_share limit now es p s w plan h cut.0 done.0).answered
+    ∙ ap (λ (r : Region). answer p (bytes_at_places now r)) cut.0.region in
+    let rest = shares_answer limit now es p (behind n s) ws plan (spared_part limit now es s n (s.size - n) (omega (arith, within)) h) cut.1 done.1 in
+    ap (λ f. joined f (all_joined p ws)) one ∙ ap (joined (answer p a)) rest
+    ∙ answer-append p a b plan.sized (ap (λ k. k % p.size) (length-places now (part_of 0 n s)) ∙ cut.0.whole)
+    ∙ ap (answer p) (sym (bytes_cut now s n within))
+
+-- ---- what was read
+
+record StandsBehind {X : Type 0} (xs ys : List X) (i : ℕ) (x : X) : Type 0 where
+  past : length xs ≤ i
+  stands : slice_get ys (i - length xs) ≡ Some x
+
+get_split : {X : Type 0} (xs ys : List X) (i : ℕ) (x : X) → slice_get (xs ++ ys) i ≡ Some x → (slice_get xs i ≡ Some x) ⊎ StandsBehind xs ys i x
+get_split [] ys i x h = let e : i ≡ i - 0 = omega arith in inr (record { past = omega arith; stands = ap (slice_get ys) (sym e) ∙ h })
+get_split (y ∷ xs) ys zero x h = inl h
+get_split (y ∷ xs) ys (suc i) x h = elim (get_split xs ys i x h) [
+  | inl a ↦ inl a
+  | inr b ↦
+      let past = b.past in
+      let e : suc i - suc (length xs) ≡ i - length xs = omega arith in
+      inr (record { past = omega arith; stands = ap (slice_get ys) e ∙ b.stands })
+]
+
+length-pieces : (count size : ℕ) (bytes : List ℕ) → length (pieces count size bytes) ≡ count
+length-pieces zero size bytes = refl
+length-pieces (suc count) size bytes = ap suc (length-pieces count size _)
+
+less_times : (i k n : ℕ) → k ≤ i → (i - k) * n + k * n ≡ i * n
+less_times i k n h = let e : i - k + k ≡ i = omega (arith, h) in times_sum (i - k) k n ∙ ap (λ m. m * n) e
+  where
+    times_sum : (j k n : ℕ) → j * n + k * n ≡ (j + k) * n
+    times_sum j k n = grind arith
+
+-- what is asked for of bytes is asked for of a part of them in which the record stands
+asked_of : (p : Plan) (all part : List ℕ) (i j : ℕ) (r : Resolution) (is : List ℕ) → (h : IsAsked p all i r is) → slice_get (records p.size part) j ≡ Some h.record_bytes → IsAsked p part j r is
+asked_of p all part i j r is h e = record {
+  record_bytes = h.record_bytes;
+  stands = e;
+  chosen = h.chosen;
+  item = h.item;
+  among = h.among;
+  fold = h.fold;
+  asks = h.asks;
+  admitted = h.admitted;
+}
+
+pub shares_read : SharesRead
+shares_read limit now es p s [] index r is word plan h cut done asks w =
+    let none : records p.size (bytes_at_places now s) ≡ [] = ap (records p.size) (places_none now s cut) ∙ ap (λ k. pieces k p.size []) (zero-div p.size) in
+    let no : slice_get [] index ≡ Some asks.record_bytes = ap (λ rs. slice_get rs index) (sym none) ∙ asks.stands in
+    absurd (cc)
+shares_read limit now es p s (w ∷ ws) index r is word plan h cut done asks is_word =
+    let n = w.region.size in
+    let within = cut.0.within in
+    let a = bytes_at_places now (part_of 0 n s) in
+    let b = bytes_at_places now (behind n s) in
+    let long = length-places now (part_of 0 n s) in
+    let whole : length (bytes_at_places now (part_of 0 w.region.size s)) % p.size ≡ 0 = ap (λ k. k % p.size) long ∙ cut.0.whole in
+    let split : slice_get (records p.size a ++ records p.size b) index ≡ Some asks.record_bytes =
+    ap (λ rs. slice_get rs index) (sym (ap (records p.size) (bytes_cut now s n within) ∙ records-append p.size a b plan.sized whole)) ∙ asks.stands in
+    let start : w.region.first ≡ s.first + 0 = ap (λ (x : Region). x.first) cut.0.region in
+    let same_arena : w.region.arena ≡ s.arena = ap (λ (x : Region). x.arena) cut.0.region in
+    let above = is_word.above in
+    let below = is_word.below in
+    elim (get_split (records p.size a) (records p.size b) index asks.record_bytes split) [
+      | inl here ↦
+          let same : bytes_at_places now (part_of 0 w.region.size s) ≡ bytes_at_places now w.region = ap (bytes_at_places now) (sym cut.0.region) in
+          let mine = asked_of p _ (bytes_at_places now w.region) index index r is asks (ap (λ bs. slice_get (records p.size bs) index) (sym same) ∙ here) in
+          let read = asked_is_read w.caller p w.region _ w.found _ index r is word (first_share limit now es p s w plan h cut.0 done.0).answered mine
+          (record { above = omega (arith, above, start); below = omega (arith, below, start) }) in
+          record { share = w; among = inl refl; read = subst (λ (id : _). HasRead w.caller id word (made_by w.caller es)) same_arena read }
+      | inr there_behind ↦
+          let count : length (records p.size a) ≡ w.region.size / p.size = length-pieces (length a / p.size) p.size a ∙ ap (λ k. k / p.size) long in
+          let exact : w.region.size / p.size * p.size ≡ w.region.size = omega (arith, div-add-mod' w.region.size p.size, cut.0.whole) in
+          let past : w.region.size / p.size ≤ index = omega (arith, count, there_behind.past) in
+          let left : (index - w.region.size / p.size) * p.size + w.region.size / p.size * p.size ≡ index * p.size = less_times index (w.region.size / p.size) p.size past in
+          let theirs = asked_of p _ (bytes_at_places now (behind w.region.size s)) index (index - w.region.size / p.size) r is asks
+          (ap (λ k. slice_get (records p.size b) (index - k)) (sym count) ∙ there_behind.stands) in
+          let rest = shares_read limit now es p (behind n s) ws (index - w.region.size / p.size) r is word plan
+          (spared_part limit now es s n (s.size - n) (omega (arith, within)) h) cut.1 done.1 theirs
+          (record { above = omega (arith, above, left, exact); below = omega (arith, below, left, exact) }) in
+          record { share = rest.share; among = inr rest.among; read = rest.read }
+    ]

@@ -1,0 +1,217 @@
+-- What a step needs is what the table asks, and what a step tells is that it stepped.
+use Rattle.std.proofs.Common.{◌≡◌, ℕ, List, [], ◌∷◌, ◌++◌, length, set, slice_index, All, Option, inl, inr, ⊎_elim, sym, refl, ap, ◌∙◌, subst}
+use Rattle.std.proofs.lemmas.List.Elements.{All-nil, All-cons}
+use Rattle.atomic_table.specs.Table.{State, Me, keeps, Allows}
+use Rattle.fm_words.specs.declared.shape.Shape.{Shape}
+use Rattle.fm_base.specs.declared.caller.Caller.{Caller}
+use Rattle.fm_base.specs.declared.arena_id.ArenaId.{ArenaId}
+use Rattle.fm_base.specs.Calls.{Entry}
+use Rattle.fm_base.specs.Histories.{made_by}
+use Rattle.fm_base.specs.Finds.{Find, Gathered}
+use Rattle.fm_pool_facts.specs.declared.step.Step.{Step}
+use Rattle.fm_pool_facts.specs.declared.step.Step.TheVariants.{Marks, Checks, Loads, Stores, Unmarks, Shuts, Visits, Opens, Looks}
+use Rattle.fm_pool_facts.specs.Views.{View, In, IsSound}
+use Rattle.fm_pool_facts.specs.Steps.{Stepped, part}
+use Rattle.fm_pool_facts.specs.Facts.{Rule, cell_at}
+use Rattle.fm_pool_facts.specs.Moves.{Same, Gives, Tells, MayStep, MayStore}
+use Rattle.fm_rule.specs.Views.{homed, Keeps}
+
+abbrev Holds : Shape → State (Unit {0}) View → Type 0
+Holds z s = Rule z s.words s.views
+
+-- a step that may be made is allowed
+pub allow : (y z : Shape) (j k : Step) (slots id : ℕ) (m : Me (Unit {0}) View) (i : ℕ) (f : ℕ → ℕ) → y ≡ z → j ≡ k → MayStep y k id m.0 i f
+    → Allows (Holds z) slots id m i f (λ found n. Tells j m.0 found n.0 × (n.1 ≡ m.1))
+allow y z j k slots id m i f e' e may s h deep at fits =
+    let d = may.may s.words s.views (subst (λ (x : Shape). Rule x s.words s.views) (sym e') h) at in (
+      d.0,
+      keeps,
+      tt,
+      subst (λ (x : Shape). Rule x (set s.words i (f (slice_index s.words i))) (set s.views id d.0)) e' d.1,
+      (subst (λ (q : Step). Tells q m.0 (slice_index s.words i) d.0) (sym e) d.2, refl),
+    )
+
+-- and a store
+pub allow_store : (y z : Shape) (j k : Step) (slots id : ℕ) (m : Me (Unit {0}) View) (i x : ℕ) → y ≡ z → j ≡ k → MayStore y k id m.0 i x
+    → Allows (Holds z) slots id m i (λ _. x) (λ _ n. Tells j m.0 x n.0 × (n.1 ≡ m.1))
+allow_store y z j k slots id m i x e' e may s h deep at fits =
+    let d = may.may s.words s.views (subst (λ (c : Shape). Rule c s.words s.views) (sym e') h) at in
+    (d.0, keeps, tt, subst (λ (c : Shape). Rule c (set s.words i x) (set s.views id d.0)) e' d.1, (subst (λ (q : Step). Tells q m.0 x d.0) (sym e) d.2, refl))
+
+pub told_as : (j k : Step) (v w : View) (x : ℕ) → j ≡ k → Tells j v x w → Tells k v x w
+told_as j k v w x e t = subst (λ (q : Step). Tells q v x w) e t
+
+-- ---- a step was made
+
+-- no step changes these by itself
+pub same_part : (s : Step) (v : View) (x : ℕ) → Same v (part s v x)
+unfolding part
+same_part (Marks a) v x = record {
+  home = refl;
+  shape = refl;
+  live = refl;
+  caller = refl;
+  seen = refl;
+  drawn = refl;
+  met = refl;
+  finds = refl;
+  gathered = refl;
+  whole = refl;
+}
+same_part (Checks a) v x = record {
+  home = refl;
+  shape = refl;
+  live = refl;
+  caller = refl;
+  seen = refl;
+  drawn = refl;
+  met = refl;
+  finds = refl;
+  gathered = refl;
+  whole = refl;
+}
+same_part (Loads w) v x = record {
+  home = refl;
+  shape = refl;
+  live = refl;
+  caller = refl;
+  seen = refl;
+  drawn = refl;
+  met = refl;
+  finds = refl;
+  gathered = refl;
+  whole = refl;
+}
+same_part (Stores w y) v x = record {
+  home = refl;
+  shape = refl;
+  live = refl;
+  caller = refl;
+  seen = refl;
+  drawn = refl;
+  met = refl;
+  finds = refl;
+  gathered = refl;
+  whole = refl;
+}
+same_part Unmarks v x = record {
+  home = refl;
+  shape = refl;
+  live = refl;
+  caller = refl;
+  seen = refl;
+  drawn = refl;
+  met = refl;
+  finds = refl;
+  gathered = refl;
+  whole = refl;
+}
+same_part (Shuts a) v x = record {
+  home = refl;
+  shape = refl;
+  live = refl;
+  caller = refl;
+  seen = refl;
+  drawn = refl;
+  met = refl;
+  finds = refl;
+  gathered = refl;
+  whole = refl;
+}
+same_part (Visits a k) v x = record {
+  home = refl;
+  shape = refl;
+  live = refl;
+  caller = refl;
+  seen = refl;
+  drawn = refl;
+  met = refl;
+  finds = refl;
+  gathered = refl;
+  whole = refl;
+}
+same_part (Opens a) v x = record {
+  home = refl;
+  shape = refl;
+  live = refl;
+  caller = refl;
+  seen = refl;
+  drawn = refl;
+  met = refl;
+  finds = refl;
+  gathered = refl;
+  whole = refl;
+}
+same_part Looks v x = record {
+  home = refl;
+  shape = refl;
+  live = refl;
+  caller = refl;
+  seen = refl;
+  drawn = refl;
+  met = refl;
+  finds = refl;
+  gathered = refl;
+  whole = refl;
+}
+
+all_of_in : {A : Type 0} (P : A → Type 0) (xs : List A) → ((x : A) → In x xs → P x) → All P xs
+all_of_in P [] f = All-nil P
+all_of_in P (x ∷ xs) f = All-cons P x xs (f x (inl refl)) (all_of_in P xs (λ y i. f y (inr i)))
+
+-- a view is as sound in one pool as in another
+pub sound_homed : (home : List ℕ) (v : View) → IsSound v → IsSound (homed home v)
+sound_homed home v s = record {
+  valid = s.valid;
+  limit = s.limit;
+  legal = s.legal;
+  lent = s.lent;
+  number = s.number;
+  inside = s.inside;
+  outside = s.outside;
+  fits = s.fits;
+  hand = λ x i. let y = s.hand x i in (y.0, y.1, (λ w. y.2 (record { arena = w.arena; in_slot = w.in_slot; known = w.known })));
+  slots = λ e x h. ⊎_elim inl (λ w. inr (record { arena = w.arena; in_slot = w.in_slot; known = w.known })) (s.slots e x h);
+}
+
+pub sound_now : (now v : View) (home : List ℕ) → homed home v ≡ now → IsSound v → IsSound now
+sound_now now v home is s = subst IsSound is (sound_homed home v s)
+
+-- what a step gives is that it stepped
+pub stepped : (home : List ℕ) (v p w : View) (es : List Entry) (fs : ℕ → List Find) → Same v p → v.met ≡ [] → Gives v p es fs w
+    → Stepped (homed home v) (homed home w) (homed home p) es fs
+stepped home v p w es fs s m g =
+    let seen : w.seen ≡ (v.seen ++ g.others) ++ es = ap (λ (x : View). x.seen) g.is ∙ ap (λ (xs : List Entry). (xs ++ g.others) ++ es) s.seen in
+    let seen' : w.seen ≡ (p.seen ++ g.others) ++ es = ap (λ (x : View). x.seen) g.is in
+    let met : p.met ≡ [] = s.met ∙ m in
+    record {
+      others = g.others;
+      quiet = g.quiet;
+      apart = all_of_in (λ (x : Gathered). made_by x.caller (g.others ++ es) ≡ []) v.gathered g.apart;
+      alone = g.alone;
+      seen = seen;
+      is_part =
+          ap (homed home) g.is ∙ (λ j. record (homed home p) { seen = sym seen' j; finds = s.finds j ++ fs (length (s.seen j ++ g.others)); met = sym met j });
+      sound = sound_homed home w g.sound;
+    }
+
+-- ---- what a pass keeps
+
+-- after a step that leaves the arena that it is inside, and its hand
+pub keeps_on : (c : Caller) (i : Option ArenaId) (from next : ℕ) (v p w : View) (es : List Entry) (fs : ℕ → List Find) (held held' : List (ℕ × Unit {0}))
+    → Keeps c i from next (v, held) → Same v p → p.inside ≡ v.inside → p.hand ≡ v.hand
+    → Gives v p es fs w → held' ≡ held → Keeps c i from next (w, held')
+keeps_on c i from next v p w es fs held held' k s ins hd g e =
+    let inside : w.inside ≡ v.inside = ap (λ (x : View). x.inside) g.is ∙ ins in
+    let shape : w.shape ≡ v.shape = ap (λ (x : View). x.shape) g.is ∙ s.shape in
+    let hand : w.hand ≡ v.hand = ap (λ (x : View). x.hand) g.is ∙ hd in
+    record {
+      live = ap (λ (x : View). x.live) g.is ∙ (s.live ∙ k.live);
+      caller = k.caller ∙ sym (ap (λ (x : View). x.caller) g.is ∙ s.caller);
+      inside = k.inside ∙ sym inside;
+      cells = λ a q. k.cells a (sym inside ∙ q) ∙ ap (λ (z : Shape). cell_at z a.slot 0) (sym shape);
+      hand = record { left = k.hand.left; is = hand ∙ k.hand.is; all = k.hand.all ∙ ap (λ (z : Shape). z.slots) (sym shape) };
+      met = ap (λ (x : View). x.met) g.is;
+      sound = g.sound;
+      empty = e ∙ k.empty;
+    }

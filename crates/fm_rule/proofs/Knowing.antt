@@ -1,0 +1,125 @@
+-- What a pass of a pool knows at the call of a step, and which steps it may make.
+use Rattle.std.proofs.Common.{◌≡◌, ◌≢◌, ℕ, ◌+◌, ◌*◌, ◌^◌, ◌<◌, ◌≤◌, ◌==◌, true, List, Some, None, sym, ap, ◌∙◌, subst, arith}
+use prog.Atomic.{either}
+use Rattle.fm_words.specs.declared.shape.Shape.{Shape}
+use Rattle.fm_words.specs.Shapes.{IsValid}
+use Rattle.fm_words.specs.Places.{at, mark, session, words, front}
+use Rattle.fm_words.proofs.Tables.{at-within}
+use Rattle.fm_base.specs.declared.caller.Caller.{Caller}
+use Rattle.fm_base.specs.declared.arena_id.ArenaId.{ArenaId}
+use Rattle.fm_base.specs.declared.kind.Kind.TheVariants.{Global}
+use Rattle.fm_base.specs.Arenas.{MayUse, owner_of}
+use Rattle.fm_pool_facts.specs.declared.slot.Slot.{Slot}
+use Rattle.fm_pool_facts.specs.declared.step.Step.TheVariants.{Marks, Checks, Loads, Stores, Unmarks, Shuts, Visits, Opens, Looks}
+use Rattle.fm_pool_facts.specs.Views.{View, Fits, IsKnown, IsSound, span}
+use Rattle.fm_pool_facts.specs.Words.{alive_word, closing_word, mark_of}
+use Rattle.fm_pool_facts.specs.Closes.{visited_of}
+use Rattle.fm_pool_facts.specs.Steps.{first_slot}
+use Rattle.fm_pool_facts.specs.Facts.{cell_at}
+use Rattle.fm_pool_facts.specs.Moves.{MayStep, MayStore}
+use Rattle.fm_pool_facts.proofs.Shown.{cell_below}
+use Rattle.fm_pool_steps.proofs.Acting.{mark_steps, check_steps, unmark_steps, look_steps}
+use Rattle.fm_pool_steps.proofs.Reaching.{load_steps, store_steps}
+use Rattle.fm_pool_steps.proofs.Shutting.{shut_steps}
+use Rattle.fm_pool_steps.proofs.Visiting.{visit_steps}
+use Rattle.fm_pool_steps.proofs.Opening.{open_steps}
+use Rattle.fm_rule.specs.Views.{homed}
+
+-- ---- places
+
+pub mark_below : (z : Shape) (k i : ℕ) → k < z.passes → i ≡ at z (mark k) → i < words z
+mark_below z k i h e = subst (λ (n : ℕ). n < words z) (sym e) (at-within z (mark k) h)
+
+pub session_below : (z : Shape) (s i : ℕ) → s < z.slots → i ≡ at z (session s) → i < words z
+session_below z s i h e = subst (λ (n : ℕ). n < words z) (sym e) (at-within z (session s) h)
+
+pub front_below : (z : Shape) (i : ℕ) → i ≡ at z front → i < words z
+front_below z i e = subst (λ (n : ℕ). n < words z) (sym e) (at-within z front tt)
+
+-- a table is small
+pub words_small : (z : Shape) → IsValid z → words z < 2 ^ 32
+unfolding words
+words_small z v =
+    let p : z.passes ≤ 4096 = v.passes.1 in
+    let s : z.slots ≤ 64 = v.slots.1 in
+    let all : ℕ = z.pages * z.page_words in
+    let w : all ≤ 16777216 = v.words in
+    omega arith
+
+-- a word of a slot stands so far from its first
+pub cell_from : (z : Shape) (s w : ℕ) → cell_at z s 0 + w ≡ cell_at z s w
+unfolding cell_at
+cell_from z s w = let x : ℕ = s * span z in omega arith
+
+-- ---- a pass of a pool
+
+module _ (now v : View) (home : List ℕ) (z : Shape) (is : homed home v ≡ now) (of : now.shape ≡ z) where
+  pub shape_is : v.shape ≡ z
+  shape_is = ap (λ (x : View). x.shape) is ∙ of
+
+  pub is_outside : now.inside ≡ None → v.inside ≡ None
+  is_outside e = ap (λ (x : View). x.inside) is ∙ e
+
+  pub knows : (a : ArenaId) → IsKnown now a → IsKnown v a
+  knows a k = subst (λ (x : View). IsKnown x a) (sym is) k
+
+  module _ (sound : IsSound v) where
+    pub fits : (a : ArenaId) → IsKnown now a → Fits z a
+    fits a k = subst (λ (x : Shape). Fits x a) shape_is (sound.fits a (knows a k))
+
+    pub valid : IsValid z
+    valid = subst IsValid shape_is sound.valid
+
+    pub owner_below : (a : ArenaId) → IsKnown now a → a.owner < 4096
+    owner_below a k = let f = (fits a k).owner in let p = valid.passes.1 in omega arith
+
+    pub number_below : v.caller.number < z.passes
+    number_below = subst (λ (x : Shape). v.caller.number < x.passes) shape_is sound.number
+
+    -- the word of the arena that it is inside lies in the table
+    pub cell_in : (a : ArenaId) (w : ℕ) → v.inside ≡ Some a → w < span z → (a.slot < z.slots) × (cell_at z a.slot w < words z)
+    cell_in a w i h =
+        let k : IsKnown v a = Rattle.fm_base.proofs.Placing.there_by_way _ _ _ (sound.inside a i) in
+        let f : Fits z a = subst (λ (x : Shape). Fits x a) shape_is (sound.fits a k) in
+        (f.slot, cell_below z a.slot w valid f.slot h)
+
+-- ---- the steps that it may make
+
+module _ (z : Shape) (id : ℕ) (v : View) (l : v.live ≡ true) (i : ℕ) where
+  pub may_mark : (a : ArenaId) (c : Caller) (y : ℕ) → v.inside ≡ None → c ≡ v.caller → i ≡ at z (mark c.number) → y ≡ mark_of a → MayStore z (Marks a) id v i y
+  may_mark a c y o e p q =
+      subst (λ (x : ℕ × ℕ). MayStore z (Marks a) id v x.0 x.1) (λ j. (
+        sym (p
+            ∙ ap (λ (d : Caller). at z (mark d.number)) e) j,
+        sym q j,
+      )) (mark_steps z id v l a o)
+
+  pub may_check : (a : ArenaId) → v.inside ≡ None → v.mark ≡ Some a → IsKnown v a → MayUse a v.caller → i ≡ at z (session a.slot)
+      → MayStep z (Checks a) id v i (λ n. n)
+  may_check a o m k u p = subst (λ (x : ℕ). MayStep z (Checks a) id v x (λ n. n)) (sym p) (check_steps z id v l a o m k u)
+
+  pub may_load : (a : ArenaId) (w : ℕ) → v.inside ≡ Some a → w < span z → i ≡ cell_at z a.slot w → MayStep z (Loads w) id v i (λ n. n)
+  may_load a w o h p = subst (λ (x : ℕ). MayStep z (Loads w) id v x (λ n. n)) (sym p) (load_steps z id v l a w o h)
+
+  pub may_store : (a : ArenaId) (w y : ℕ) → v.inside ≡ Some a → w < span z → y < 2 ^ 64 → i ≡ cell_at z a.slot w → MayStore z (Stores w y) id v i y
+  may_store a w y o h f p = subst (λ (x : ℕ). MayStore z (Stores w y) id v x y) (sym p) (store_steps z id v l a w y o h f)
+
+  pub may_unmark : (c : Caller) → c ≡ v.caller → i ≡ at z (mark c.number) → MayStore z Unmarks id v i 0
+  may_unmark c e p = subst (λ (x : ℕ). MayStore z Unmarks id v x 0) (sym (p ∙ ap (λ (d : Caller). at z (mark d.number)) e)) (unmark_steps z id v l)
+
+  pub may_shut : (a : ArenaId) (o n : ℕ) → IsKnown v a → MayUse a v.caller → a.kind ≢ Global → i ≡ at z (session a.slot) → o ≡ alive_word a 0
+      → n ≡ closing_word a → MayStep z (Shuts a) id v i (λ x. either (x == o) n x)
+  may_shut a o n k u h p q r =
+      subst (λ (x : ℕ × ℕ × ℕ). MayStep z (Shuts a) id v x.0 (λ y. either (y == x.1) x.2 y)) (λ j. (sym p j, sym q j, sym r j)) (shut_steps z id v a l k u h)
+
+  pub may_visit : (a : ArenaId) (k : ℕ) → v.shape ≡ z → visited_of v.closes a ≡ Some k → k < z.passes → i ≡ at z (mark k)
+      → MayStep z (Visits a k) id v i (λ n. n)
+  may_visit a k s h low p = subst (λ (x : ℕ). MayStep z (Visits a k) id v x (λ n. n)) (sym p) (visit_steps z id v a k l s h low)
+
+  pub may_open : (slot : Slot) (a : ArenaId) (y : ℕ) → first_slot v.hand ≡ Some slot → a.slot ≡ slot.slot → a.generation ≡ slot.generation
+      → owner_of a ≡ v.caller → i ≡ at z (session a.slot) → y ≡ alive_word a 0
+      → MayStore z (Opens a) id v i y
+  may_open slot a y h s g o p q = subst (λ (x : ℕ × ℕ). MayStore z (Opens a) id v x.0 x.1) (λ j. (sym p j, sym q j)) (open_steps z id v slot a l h s g o)
+
+  pub may_look : MayStep z Looks id v i (λ n. n)
+  may_look = look_steps z id v l i

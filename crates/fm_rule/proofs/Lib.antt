@@ -1,0 +1,5 @@
+pub mod Allowed
+pub mod Knowing
+pub mod Stepping
+pub mod Keeping
+pub mod Noting

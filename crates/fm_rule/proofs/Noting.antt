@@ -1,0 +1,84 @@
+-- Notes are made and met.
+use Rattle.std.proofs.Common.{◌≡◌, ◌≢◌, ℕ, ◌%◌, ◌^◌, ◌<◌, ◌==◌, Bool, true, false, if◌then◌else◌, bit_and, List, [], Option, Some, None, inr, sym, ap, ◌∙◌, subst, arith, eq-eqb, ne_eqb}
+use Rattle.std.proofs.lemmas.Nat.{and_mask}
+use Rattle.atomic_table.specs.Seated.{TableId}
+use Rattle.fm_words.specs.declared.shape.Shape.{Shape}
+use Rattle.fm_words.specs.Places.{words}
+use Rattle.fm_base.specs.declared.caller.Caller.{Caller}
+use Rattle.fm_base.specs.declared.arena_id.ArenaId.{ArenaId}
+use Rattle.fm_pool_facts.specs.declared.step.Step.TheVariants.{Looks}
+use Rattle.fm_pool_facts.specs.Views.{View}
+use Rattle.fm_pool_facts.specs.Words.{alive_word, alive_holds}
+use Rattle.fm_pool_facts.specs.Splits.{met}
+use Rattle.fm_pool_facts.specs.Steps.{Stepped, part, entries, noted, none_noted}
+use Rattle.fm_pool_facts.specs.Facts.{cell_at}
+use Rattle.fm_pool_facts.specs.Moves.{Gives, Tells}
+use Rattle.fm_pool_steps.proofs.First.{two_words}
+use Rattle.fm_pool_steps.proofs.Plain.{same_none}
+use Rattle.fm_rule.specs.Views.{numbers_of, homed, Keeps}
+use Rattle.fm_rule.proofs.Allowed.{stepped}
+
+-- numbers tell one table
+pub one_table : (s t : TableId) → numbers_of s ≡ numbers_of t → s ≡ t
+one_table s t e =
+    let a : s.words ≡ t.words = cc in
+    let b : s.slots ≡ t.slots = cc in
+    let c : s.views_name ≡ t.views_name = cc in
+    let d : s.atom ≡ t.atom = cc in
+    let f : s.block ≡ t.block = cc in
+    let g : s.offset ≡ t.offset = cc in
+    let h : s.slot_names ≡ t.slot_names = cc in
+    λ i. record { words = a i; slots = b i; views_name = c i; atom = d i; block = f i; offset = g i; slot_names = h i }
+
+-- a table has words
+pub some_words : (z : Shape) (n : ℕ) → n ≡ words z → 0 < n
+some_words z n e = let t = two_words z in omega arith
+
+-- ---- meeting
+
+-- the look after a note was put to what a pass has met is a look of the pass
+met_gives : (v n w : View) (x : ℕ) → Tells Looks (met v n) x w → Gives v v [] none_noted w
+unfolding part entries noted
+met_gives v n w x t =
+    let g = t.gives in
+    record { others = g.others; is = g.is; quiet = g.quiet; apart = g.apart; alone = g.alone; met = λ xs i. g.met xs (inr i); sound = g.sound }
+
+pub meet_stepped : (now v n u w : View) (home home' : List ℕ) (x : ℕ) → homed home v ≡ now → home' ≡ home → v.met ≡ [] → u ≡ met v n → Tells Looks u x w
+    → Stepped now (homed home' w) now [] none_noted
+meet_stepped now v n u w home home' x is stays m e t =
+    subst (λ (y : View × List ℕ). Stepped y.0 (homed y.1 w) y.0 [] none_noted) (λ j. (is j, sym stays j))
+    (stepped home v v w [] none_noted (same_none v) m (met_gives v n w x (subst (λ (y : View). Tells Looks y x w) e t)))
+
+pub meet_keeps : (c : Caller) (i : Option ArenaId) (from next : ℕ) (v n u w : View) (held held' : List (ℕ × Unit {0})) (x : ℕ) → Keeps c i from next (v, held)
+    → u ≡ met v n → Tells Looks u x w → held' ≡ held → Keeps c i from next (w, held')
+meet_keeps c i from next v n u w held held' x k e t h =
+    let g = met_gives v n w x (subst (λ (y : View). Tells Looks y x w) e t) in
+    let inside : w.inside ≡ v.inside = ap (λ (y : View). y.inside) g.is in
+    let shape : w.shape ≡ v.shape = ap (λ (y : View). y.shape) g.is in
+    record {
+      live = ap (λ (y : View). y.live) g.is ∙ k.live;
+      caller = k.caller ∙ sym (ap (λ (y : View). y.caller) g.is);
+      inside = k.inside ∙ sym inside;
+      cells = λ a q. k.cells a (sym inside ∙ q) ∙ ap (λ (z : Shape). cell_at z a.slot 0) (sym shape);
+      hand = record { left = k.hand.left; is = ap (λ (y : View). y.hand) g.is ∙ k.hand.is; all = k.hand.all ∙ ap (λ (z : Shape). z.slots) (sym shape) };
+      met = ap (λ (y : View). y.met) g.is;
+      sound = g.sound;
+      empty = h ∙ k.empty;
+    }
+
+-- ---- session words
+
+low_bits : (w : ℕ) → bit_and w 65535 ≡ w % 2 ^ 16
+low_bits w = and_mask w 16
+
+pub holds_hit : (a : ArenaId) (w : ℕ) → w ≡ alive_word a (bit_and w 65535) → Some (bit_and w 65535) ≡ alive_holds a w
+unfolding alive_holds
+holds_hit a w e =
+    let t : (w == alive_word a (w % 2 ^ 16)) ≡ true = eq-eqb w (alive_word a (w % 2 ^ 16)) (e ∙ ap (alive_word a) (low_bits w)) in
+    ap Some (low_bits w) ∙ sym (ap (λ (b : Bool). if b then Some (w % 2 ^ 16) else None) t)
+
+pub holds_miss : (a : ArenaId) (w : ℕ) → w ≢ alive_word a (bit_and w 65535) → None ≡ alive_holds a w
+unfolding alive_holds
+holds_miss a w n =
+    let t : (w == alive_word a (w % 2 ^ 16)) ≡ false = ne_eqb w (alive_word a (w % 2 ^ 16)) (λ e. n (e ∙ sym (ap (alive_word a) (low_bits w)))) in
+    sym (ap (λ (b : Bool). if b then Some (w % 2 ^ 16) else None) t)

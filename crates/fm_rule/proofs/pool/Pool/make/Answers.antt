@@ -1,0 +1,43 @@
+use Rattle.std.proofs.Common.{rules, arith, ap, sym, ◌∙◌, subst, ◌≡◌, ◌<◌, ℕ, List, [], ◌∷◌, replicate, length, None}
+use lib.ListN.{set, length-replicate}
+use Rattle.fm_words.specs.declared.shape.Shape.{Shape}
+use Rattle.fm_words.specs.Places.{at, draw}
+use Rattle.fm_base.specs.Arenas.{only_caller}
+use Rattle.fm_pool_facts.specs.Views.{IsSound}
+use Rattle.fm_pool_facts.specs.Splits.{first_view}
+use Rattle.fm_pool_facts.specs.Facts.{Rule}
+use Rattle.fm_pool_steps.proofs.First.{two_words, first_rule, first_sound}
+use Rattle.fm_rule.specs.Views.{Keeps}
+use Rattle.fm_rule.proofs.Allowed.{sound_homed}
+use Rattle.fm_rule.proofs.Keeping.{first_keeps}
+use Rattle.fm_rule.proofs.pool.Pool.make.Goals as goal
+
+draw_is : (z : Shape) (i : ℕ) → i ≡ at z draw → i ≡ 1
+unfolding at
+draw_is z i e = e
+
+below : {i k n m : ℕ} → i ≡ 1 → k ≡ n → n ≡ m → 1 < m → i < k
+below a e f h = omega arith
+
+pub index_mut-requires : goal.index_mut-requires
+index_mut-requires c =
+    let v = c.in_ok-words.ensures.items_if_clones_equal (λ y e. e) in
+    let p = two_words c.args.shape in
+    let l : length c.in_ok-words.words.items ≡ c.words.result = ap length v ∙ length-replicate c.words.result 0 in
+    let k = c.in_ok-words.words.len in
+    let b = below (draw_is _ _ c.draw_place.ensures) l c.words.ensures p in
+    search (rules, b, k)
+
+pub of_words-requires : goal.of_words-requires
+of_words-requires c =
+    let z : Shape = c.args.shape in
+    let is = c.deref.ensures.value
+    ∙ ((λ j. set (c.in_ok-words.ensures.items_if_clones_equal (λ y e. e) j) (draw_is _ _ c.draw_place.ensures j) 1)
+    ∙ (λ j. set (replicate (c.words.ensures j) 0) 1 1)) in
+    subst (λ (ws : List ℕ). Rule z ws (first_view z ∷ [])) (sym is) (first_rule z c.requires)
+
+pub invariant_of-pass : goal.invariant_of-pass
+invariant_of-pass c = subst (Keeps only_caller None 0 0) (sym c.in_ok-table.ensures.4) (first_keeps c.args.shape c.requires)
+
+pub returns-clause-sound : goal.returns-clause-sound
+returns-clause-sound c = sound_homed _ c.in_ok-table.seat.me.0 (subst IsSound (λ j. (sym c.in_ok-table.ensures.4 j).0) (first_sound c.args.shape c.requires))

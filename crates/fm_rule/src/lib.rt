@@ -1,0 +1,28 @@
+//! The pool's words, shared by passes, and the steps of a pass: each is one atomic step on one word.
+//!
+//! A pass publishes which arena it uses in its mark, before it looks whether the arena lives; a closer shuts the arena,
+//! then looks at every mark. All words change by the functions of this crate alone. Whatever the interleaving, the
+//! facts of `fm_pool_facts` hold between any two steps, so every step tells its pass the whole history: what others
+//! did since its last step, and then its own entries.
+//!
+//! All memory is taken in [`Pool::make`]. No step waits.
+#![tactic(auto)]
+
+mod acts;
+mod notes;
+mod pass;
+mod pool;
+mod seen;
+mod steps;
+mod words;
+
+pub use notes::Note;
+pub use pass::Pass;
+pub use pool::Pool;
+pub use steps::{
+    step_check, step_load, step_mark, step_open, step_shut, step_store, step_unmark, step_visit,
+};
+pub use words::{alive_holds, mark_of};
+
+#[cfg(test)]
+mod tests;

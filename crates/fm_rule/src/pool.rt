@@ -1,0 +1,109 @@
+ghost use Rattle.std.specs.Prelude.{◌≡◌, ◌<◌, IfOk, IfErr, length};
+ghost use Rattle.fm_words.specs.Shapes.{IsValid};
+ghost use Rattle.fm_words.specs.Places.{words};
+ghost use Rattle.fm_base.specs.declared.refusal.Refusal.TheVariants.{Memory};
+ghost use Rattle.fm_pool_facts.specs.declared.step.Step.TheVariants.{Looks};
+ghost use Rattle.fm_pool_facts.specs.Views.{IsSound};
+ghost use Rattle.fm_pool_facts.specs.Moves.{Tells};
+ghost use Rattle.fm_pool_facts.specs.Facts.{cell_at};
+ghost use Rattle.fm_rule.specs.Views.{first_pass, numbers_of};
+
+use crate::pass::Pass;
+use crate::seen::Seen;
+use atomic_table::{Play, Table, TableRule};
+use fm_base::{Caller, Refusal};
+use fm_words::Shape;
+use std::alloc::Global;
+use std::marker::{Brand, PhantomData};
+
+/// The rule of a pool's words.
+pub struct Law;
+
+impl TableRule<(), Seen, Shape> for Law {
+    ghost use Rattle.fm_pool_facts.specs.Facts.{Rule};
+    ghost use Rattle.fm_pool_facts.specs.Splits.{first_view};
+
+    ghost holds = { λ z s. Rule z s.words s.views };
+
+    ghost first = { first_view };
+}
+
+/// Which step a call makes. Each call picks it.
+pub trait Aim {
+    ghost use Rattle.fm_pool_facts.specs.declared.step.Step.{Step};
+
+    ghost step: { Step };
+}
+
+impl Aim for Brand {
+    ghost step = { Looks };
+}
+
+/// What a step tells its caller.
+pub struct Told<J> {
+    of: PhantomData<J>,
+}
+
+impl<J: Aim> Play<(), Seen> for Told<J> {
+    ghost use Rattle.std.specs.Prelude.{◌≡◌};
+
+    ghost then = { λ st m found n. Tells J.step m.0 found n.0 × (n.1 ≡ m.1) };
+}
+
+/// Words that passes share.
+#[derive(Drop)]
+pub struct Pool {
+    pub(crate) table: Table<(), Seen, Shape, Law, Global>,
+    pub(crate) shape: Shape,
+    ghost shape_is: { shape ≡ table.shared.key },
+    ghost sized: { table.shared.table_id.words ≡ words shape },
+    ghost valid: { IsValid shape },
+}
+
+impl Pool {
+    /// A pool of this shape and its first pass, which has number 0 and every slot in its hand.
+    ///
+    /// All memory is taken here. Refused: `Memory`.
+    pub fn make(alloc: Global, shape: Shape) -> Result<(Pool, Pass), Refusal>
+        requires { IsValid shape }
+        ensures pool { IfOk result (λ r. r.0.shape ≡ shape) }
+        ensures pass { IfOk result (λ r. r.1 ≡ first_pass (numbers_of r.0.table.shared.table_id) shape) }
+        ensures sound { IfOk result (λ r. IsSound r.1) }
+        ensures memory { IfErr result (λ e. e ≡ Memory) }
+    {
+        let mut words = vec![in alloc; 0u64; shape.words() as usize]?;
+        words[shape.draw_place() as usize] = 1;
+        let (table, seat) = Table::of_words(alloc, &words, &shape)?;
+        let pass = Pass {
+            seat,
+            caller: Caller { number: 0, term: 0 },
+            inside: None,
+            cells_from: 0,
+            next_slot: 0,
+        };
+        Ok((Pool { table, shape }, pass))
+    }
+
+    /// The shape that it was made in.
+    pub fn shape(&self) -> Shape
+        ensures shape { result ≡ self.now.shape }
+        ensures valid { IsValid result }
+    {
+        self.shape
+    }
+
+    /// Where the words of a slot begin.
+    pub(crate) fn cells_from(&self, slot: u32) -> u64
+        requires { slot < self.now.shape.slots }
+        ensures { result ≡ cell_at self.now.shape slot 0 }
+    {
+        self.shape.page_place(slot * self.shape.reach, 0)
+    }
+
+    /// A load of the word at this place. It tells nothing.
+    pub fn peek(&self, place: u64) -> u64
+        requires { place < words self.now.shape }
+    {
+        self.table.shared.peek(place as usize)
+    }
+}

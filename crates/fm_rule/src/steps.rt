@@ -1,0 +1,144 @@
+//! The steps of a pass, one function for each kind. None of them takes memory or waits.
+ghost use Rattle.std.specs.Prelude.{◌≡◌, ◌≢◌, ◌<◌, [], ◌∷◌, None, Some};
+ghost use Rattle.fm_base.specs.Arenas.{MayUse};
+ghost use Rattle.fm_base.specs.Calls as machine;
+ghost use Rattle.fm_base.specs.Calls.{entry_of};
+ghost use Rattle.fm_base.specs.Finds.{Visits as Visiting};
+ghost use Rattle.fm_pool_facts.specs.Views.{IsKnown};
+ghost use Rattle.fm_pool_facts.specs.Words.{alive_holds, enter_found, inside_found, own_word, shut_found};
+ghost use Rattle.fm_pool_facts.specs.Closes.{begun, visited_of, visit_found, closes_after, visit_entries};
+ghost use Rattle.fm_pool_facts.specs.Steps.{Stepped, CanAct, none_noted, note_of, acted, open_entries, first_slot, but_first, pass_of};
+ghost use Rattle.fm_rule.specs.Passes.{IsOf};
+
+use crate::acts::{exchange_as, load_as, store_as};
+use crate::pass::Pass;
+use crate::pool::Pool;
+use crate::words::{alive_word, closing_word, inside_found, mark_of};
+use fm_base::{ArenaId, Kind};
+use fm_pool_facts::{Slot, Step};
+use std::marker::Brand;
+
+/// Publishes that the pass is about to use the arena: a closer that looks from now on finds it.
+pub fn step_mark(pool: &Pool, pass: &mut Pass, a: ArenaId)
+    requires of { IsOf pool.now pass.old }
+    requires outside { pass.old.inside ≡ None }
+    requires known { IsKnown pass.old a }
+    ensures { Stepped pass.old pass.new (record pass.old { mark = Some a }) [] none_noted }
+{
+    let place = pool.shape.mark_place(pass.caller.number);
+    store_as::<Brand>(pool, &mut pass.seat, place, mark_of(a), Step::Marks(a));
+}
+
+/// Answers the arena's session word. Where it shows the arena alive, the pass is inside from this step on.
+///
+/// The mark stands before this step: a closer that shuts the arena after it finds the mark.
+pub fn step_check(pool: &Pool, pass: &mut Pass, a: ArenaId) -> u64
+    requires of { IsOf pool.now pass.old }
+    requires outside { pass.old.inside ≡ None }
+    requires marked { pass.old.mark ≡ Some a }
+    requires known { IsKnown pass.old a }
+    requires may { MayUse a pass.old.caller }
+    ensures { Stepped pass.old pass.new
+        (record pass.old { inside = inside_found a (alive_holds a result) })
+        (entry_of pass.old.caller (machine.Enter a) (enter_found (alive_holds a result)) ∷ []) none_noted }
+{
+    let seat = &mut pass.seat;
+    let place = pool.shape.session_place(a.slot);
+    let word = load_as::<Brand>(pool, seat, place, Step::Checks(a));
+    pass.inside = inside_found(a, word);
+    pass.cells_from = pool.cells_from(a.slot);
+    word
+}
+
+/// The word of this index of the arena that the pass is inside.
+pub fn step_load(pool: &Pool, pass: &mut Pass, word: u64) -> u64
+    requires of { IsOf pool.now pass.old }
+    requires act { CanAct pass.old word }
+    ensures { Stepped pass.old pass.new pass.old
+        (acted pass.old.inside pass.old.caller (λ a. machine.Read a word) (machine.Found result)) none_noted }
+{
+    let place = pass.cells_from + word;
+    load_as::<Brand>(pool, &mut pass.seat, place, Step::Loads(word))
+}
+
+/// Puts `v` into the word of this index of the arena that the pass is inside.
+pub fn step_store(pool: &Pool, pass: &mut Pass, word: u64, v: u64)
+    requires of { IsOf pool.now pass.old }
+    requires act { CanAct pass.old word }
+    ensures { Stepped pass.old pass.new pass.old
+        (acted pass.old.inside pass.old.caller (λ a. machine.Write a word v) machine.Fine) none_noted }
+{
+    let place = pass.cells_from + word;
+    store_as::<Brand>(pool, &mut pass.seat, place, v, Step::Stores(word, v));
+}
+
+/// Publishes nothing any more. A pass that was inside is outside from this step on.
+pub fn step_unmark(pool: &Pool, pass: &mut Pass)
+    requires of { IsOf pool.now pass.old }
+    ensures { Stepped pass.old pass.new (record pass.old { inside = None; mark = None })
+        (acted pass.old.inside pass.old.caller machine.Leave machine.Fine) none_noted }
+{
+    let place = pool.shape.mark_place(pass.caller.number);
+    store_as::<Brand>(pool, &mut pass.seat, place, 0, Step::Unmarks);
+    pass.inside = None;
+}
+
+/// Answers the arena's session word. Where it shows the arena alive with no holds, the arena is Closing from this step
+/// on: nobody comes into it again. A close is begun, which has visited no mark.
+pub fn step_shut(pool: &Pool, pass: &mut Pass, a: ArenaId) -> u64
+    requires of { IsOf pool.now pass.old }
+    requires known { IsKnown pass.old a }
+    requires may { MayUse a pass.old.caller }
+    requires by_hand { (a.kind ≢ Kind.Global) × (a.kind ≢ Kind.Automatic) }
+    ensures { Stepped pass.old pass.new
+        (record pass.old { closes = begun a (shut_found (alive_holds a result)) pass.old.closes })
+        (entry_of pass.old.caller (machine.Shut a) (shut_found (alive_holds a result)) ∷ []) none_noted }
+{
+    let seat = &mut pass.seat;
+    let place = pool.shape.session_place(a.slot);
+    let (alive, closing) = (alive_word(a, 0), closing_word(a));
+    exchange_as::<Brand>(pool, seat, place, alive, closing, Step::Shuts(a))
+}
+
+/// Answers the mark of number `k`, the next that the close of the arena visits. Where it doesn't name the arena, the
+/// close has visited it; where it was the last one, nobody is under way, and the arena ends at this step.
+pub fn step_visit(pool: &Pool, pass: &mut Pass, a: ArenaId, k: u32) -> u64
+    requires of { IsOf pool.now pass.old }
+    requires close { visited_of pass.old.closes a ≡ Some k }
+    requires low { k < pass.old.shape.passes }
+    ensures own { k ≡ pass.old.caller.number → result ≡ own_word pass.old.mark }
+    ensures stepped { Stepped pass.old pass.new
+        (record pass.old { closes = closes_after a (visit_found pass.old.shape a k result) pass.old.closes })
+        (visit_entries a (visit_found pass.old.shape a k result) pass.old.caller)
+        (note_of (Visiting a (pass_of k)) result pass.old) }
+{
+    let place = pool.shape.mark_place(k);
+    load_as::<Brand>(pool, &mut pass.seat, place, Step::Visits(a, k))
+}
+
+/// Opens an arena of this kind in the first slot of the hand. The slot's words are lent to it at this step.
+pub fn step_open(pool: &Pool, pass: &mut Pass, slot: Slot, kind: Kind) -> ArenaId
+    requires of { IsOf pool.now pass.old }
+    requires hand { first_slot pass.old.hand ≡ Some slot }
+    ensures arena { result ≡ record { slot = slot.slot; generation = slot.generation; kind = kind; owner = pass.old.caller.number; term = pass.old.caller.term } }
+    ensures stepped { Stepped pass.old pass.new (record pass.old { hand = but_first pass.old.hand })
+        (open_entries result pass.old.caller) none_noted }
+{
+    let a = ArenaId {
+        slot: slot.slot,
+        generation: slot.generation,
+        kind,
+        owner: pass.caller.number,
+        term: pass.caller.term,
+    };
+    let place = pool.shape.session_place(a.slot);
+    store_as::<Brand>(
+        pool,
+        &mut pass.seat,
+        place,
+        alive_word(a, 0),
+        Step::Opens(a),
+    );
+    pass.next_slot += 1;
+    a
+}

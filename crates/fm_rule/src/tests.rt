@@ -1,0 +1,85 @@
+ghost use Rattle.fm_words.specs.Shapes.{IsValid};
+
+use crate::{Pool, alive_holds, mark_of, step_unmark};
+use fm_base::{ArenaId, Kind};
+use fm_words::Shape;
+use std::alloc::AllocGlobal;
+use std::process::Abort;
+
+const LEAST: Shape = Shape {
+    passes: 1,
+    slots: 1,
+    pages: 1,
+    page_words: 1,
+    reach: 1,
+    generations: 1,
+};
+
+const LARGER: Shape = Shape {
+    passes: 3,
+    slots: 2,
+    pages: 4,
+    page_words: 8,
+    reach: 2,
+    generations: 5,
+};
+
+/// The word at the place, where the table has one.
+fn word_at(pool: &Pool, place: u64) -> Option<u64> {
+    if place < pool.shape().words() {
+        Some(pool.peek(place))
+    } else {
+        None
+    }
+}
+
+/// All words are 0 but the count of numbers.
+fn check_words<R: Abort + AllocGlobal>(rt: &R, shape: Shape, words: u64)
+    requires { IsValid shape }
+{
+    let (pool, _) = Pool::make(rt.alloc(), shape).expect(rt, "words");
+    for place in 0..words {
+        assert_eq!(rt; word_at(&pool, place), Some(u64::from(place == 1)));
+    }
+    assert_eq!(rt; word_at(&pool, words), None);
+}
+
+#[test]
+fn pools_begin_with_zeros_and_one_number(rt: HostRuntime) {
+    check_words(&rt, LEAST, 7);
+    check_words(&rt, LARGER, 42);
+}
+
+#[test]
+fn the_first_pass_is_outside_with_every_slot(rt: HostRuntime) {
+    let (pool, mut pass) = Pool::make(rt.alloc(), LARGER).expect(&rt, "words");
+    assert_eq!(rt; pass.number(), 0);
+    assert_eq!(rt; pass.inside(), None);
+    let note = pool.note(&mut pass);
+    pool.meet(&mut pass, note);
+    step_unmark(&pool, &mut pass);
+    assert_eq!(rt; pass.inside(), None);
+}
+
+#[test]
+fn session_words_show_arenas_that_are_alive(rt: HostRuntime) {
+    let a = ArenaId {
+        slot: 2,
+        generation: 5,
+        kind: Kind::Confined,
+        owner: 3,
+        term: 0,
+    };
+    let rows = [
+        (0x0000_0005_6003_0002, Some(2)),
+        (0x0000_0005_6003_0000, Some(0)),
+        (0x0000_0005_a003_0000, None),
+        (0x0000_0004_6003_0002, None),
+        (0x0000_0005_6002_0002, None),
+        (0x0000_0005_0000_0000, None),
+    ];
+    for (word, holds) in rows {
+        assert_eq!(rt; alive_holds(a, word), holds);
+    }
+    assert_eq!(rt; mark_of(a), 0x0000_0003_0000_0005);
+}

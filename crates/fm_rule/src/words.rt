@@ -1,0 +1,66 @@
+ghost use Rattle.std.specs.Prelude.{◌≡◌, ◌<◌};
+ghost use Rattle.fm_pool_facts.specs.Words as words;
+
+use fm_base::ArenaId;
+use fm_words::{ALIVE, CLOSING, Session, mark_word, session_word};
+
+const HOLDS: u64 = 0xffff;
+
+/// The number of holds, where a session word shows the arena alive.
+pub fn alive_holds(a: ArenaId, word: u64) -> Option<u64>
+    requires { a.owner < 4096 }
+    ensures { result ≡ words.alive_holds a word }
+{
+    let holds = word & HOLDS;
+    if word == alive_word(a, holds as u32) {
+        Some(holds)
+    } else {
+        None
+    }
+}
+
+/// The mark of an arena.
+pub fn mark_of(a: ArenaId) -> u64
+    requires { a.slot < 64 }
+    ensures { result ≡ words.mark_of a }
+{
+    mark_word(a.slot, a.generation)
+}
+
+/// The arena, where its session word shows it alive.
+pub(crate) fn inside_found(a: ArenaId, word: u64) -> Option<ArenaId>
+    requires { a.owner < 4096 }
+    ensures { result ≡ words.inside_found a (words.alive_holds a word) }
+{
+    match alive_holds(a, word) {
+        Some(_) => Some(a),
+        None => None,
+    }
+}
+
+pub(crate) fn alive_word(a: ArenaId, holds: u32) -> u64
+    requires owner { a.owner < 4096 }
+    requires holds { holds < 65536 }
+    ensures { result ≡ words.alive_word a holds }
+{
+    session_word(Session {
+        generation: a.generation,
+        life: ALIVE,
+        kind: a.kind.number() as u32,
+        owner: a.owner,
+        holds,
+    })
+}
+
+pub(crate) fn closing_word(a: ArenaId) -> u64
+    requires { a.owner < 4096 }
+    ensures { result ≡ words.closing_word a }
+{
+    session_word(Session {
+        generation: a.generation,
+        life: CLOSING,
+        kind: a.kind.number() as u32,
+        owner: a.owner,
+        holds: 0,
+    })
+}

@@ -1,5 +1,0 @@
-use Rattle.fm_steps.proofs.Parsing.{IsReading}
-use Rattle.fm_steps.proofs.parse.parse_path.Given as goal
-
-abbrev pub invariant-loop-at : goal.invariant-loop-at
-invariant-loop-at l = IsReading l.text l.at l.path.items l.part

@@ -1,5 +1,0 @@
-use Rattle.fm_tidy.proofs.Tidying.{alone_tidy}
-use Rattle.fm_tidy.proofs.lone_accesses_are_tidy.Goals as goal
-
-pub returns : goal.returns
-returns c = alone_tidy

@@ -1,0 +1,122 @@
+-- What is read for a request.
+use Rattle.std.proofs.Common.{◌≡◌, ℕ, ◌+◌, ◌≤◌, ◌<◌, List, [], ◌∷◌, ◌++◌, true, false, Option, None, Some, refl, sym, ap, subst, ◌∙◌, arith}
+use Rattle.std.specs.Prelude.{nat_lt}
+use Rattle.std.proofs.lemmas.Bool.Decides.{Decides-ltb, not_from_Decides}
+use Rattle.fm_io.specs.Files.{Contents}
+use Rattle.fm_io.specs.Reads.{Read, ReadsOn, Next, At, Ended, ReadsFile, GoesOn}
+use Rattle.fm_io.proofs.Followed.{ReadsOn-none, ReadsOn-append, ReadsFile-wider}
+use Rattle.fm_lanes.specs.declared.value_kind.ValueKind.{ValueKind}
+use Rattle.fm_query.specs.Plan.{Plan}
+use Rattle.fm_top.specs.Causes.{IsAsked}
+use Rattle.fm_top.specs.Outcome.{record_file_limit, layout_file_limit}
+use Rattle.fm_top.specs.Reading.{piece_limit, GoesBy, ReadsUpTo, ReadsIf, AreReadsOf, first_limit, ReadsFor}
+use Rattle.fm_top.specs.Whole.{IsWhole}
+use Rattle.fm_top.specs.Words.{Request, Sum, Layout, Query, first_file, last_file}
+
+-- a piece was asked for, which came whole or up to the file's end
+pub goes_by : (at asked room n place : ℕ) (next : Next) → asked ≡ room → n ≤ room → place ≡ at + n → GoesOn at asked n next → GoesBy (nat_lt n room) place next
+goes_by at asked room n place next all fits is goes =
+    let less = Decides-ltb n room in (
+      λ ended. let below : n < room = less.0 ended in goes.1 (λ same. omega (arith, below, same, all)),
+      λ whole. let past : n < room → ⊥ = not_from_Decides (nat_lt n room) less whole in
+          let same : n ≡ asked = omega (arith, past, fits, all) in goes.0 same ∙ ap At (sym is),
+    )
+
+append_nil : (xs : List Read) → xs ++ [] ≡ xs
+append_nil [] = refl
+append_nil (x ∷ xs) = ap (λ ys. x ∷ ys) (append_nil xs)
+
+none_of : (name : Option (List ℕ)) (limit : ℕ) → AreReadsOf name limit []
+none_of None limit = refl
+none_of (Some name) limit = tt
+
+-- nothing was read
+pub no_reads : (request : Request) (told : Option Contents) (reads : Option (List Read)) → ReadsFor request told reads reads
+no_reads request told reads = record {
+  first = [];
+  last = [];
+  noted = ReadsOn-none reads;
+  first_is = none_of (first_file request) (first_limit request);
+  last_is = none_of (last_file request) record_file_limit;
+  in_place = λ some. absurd (some refl);
+}
+
+pub not_read : (reads : Option (List Read)) (name : List ℕ) (limit : ℕ) (P : Type 0) → ReadsIf reads reads name limit P
+not_read reads name limit P = record { reads = []; noted = ReadsOn-none reads; follow = tt; needed = λ some. absurd (some refl) }
+
+-- a file was read, for a reason
+pub read_for : (old new : Option (List Read)) (name : List ℕ) (limit : ℕ) (Goes : Next → Type 0) (P : Type 0) → ReadsUpTo old new name limit Goes → P → ReadsIf old new name limit P
+read_for old new name limit Goes P reads reason = record { reads = reads.reads; noted = reads.noted; follow = reads.follow; needed = λ some. reason }
+
+pub read_since : (old new : Option (List Read)) (name : List ℕ) (limit : ℕ) (P Q : Type 0) → (P → Q) → ReadsIf old new name limit P → ReadsIf old new name limit Q
+read_since old new name limit P Q so reads = record { reads = reads.reads; noted = reads.noted; follow = reads.follow; needed = λ some. so (reads.needed some) }
+
+-- one file was read
+only_first : (old new : Option (List Read)) (reads : List Read) → ReadsOn old new reads → ReadsOn old new (reads ++ [])
+only_first old new reads noted = subst (λ (rs : List Read). ReadsOn old new rs) (sym (append_nil reads)) noted
+
+pub sum_reads : (size at : ℕ) (kind : ValueKind) (file : List ℕ) (told : Option Contents) (old new : Option (List Read)) (Goes : Next → Type 0)
+    → ReadsUpTo old new file record_file_limit Goes → ReadsFor (Sum size at kind file) told old new
+sum_reads size at kind file told old new Goes reads = record {
+  first = reads.reads;
+  last = [];
+  noted = only_first old new reads.reads reads.noted;
+  first_is = reads.follow;
+  last_is = refl;
+  in_place = λ some. absurd (some refl);
+}
+
+pub layout_reads : (file : List ℕ) (told : Option Contents) (old new : Option (List Read)) (Goes : Next → Type 0)
+    → ReadsUpTo old new file layout_file_limit Goes → ReadsFor (Layout file) told old new
+layout_reads file told old new Goes reads = record {
+  first = reads.reads;
+  last = [];
+  noted = only_first old new reads.reads reads.noted;
+  first_is = reads.follow;
+  last_is = refl;
+  in_place = λ some. absurd (some refl);
+}
+
+pub query_first : (threads : ℕ) (layout text file : List ℕ) (told : Option Contents) (old new : Option (List Read)) (Goes : Next → Type 0)
+    → ReadsUpTo old new layout layout_file_limit Goes → ReadsFor (Query threads layout text file) told old new
+query_first threads layout text file told old new Goes reads = record {
+  first = reads.reads;
+  last = [];
+  noted = only_first old new reads.reads reads.noted;
+  first_is = reads.follow;
+  last_is = tt;
+  in_place = λ some. absurd (some refl);
+}
+
+-- both files were read, the second for what was found in the first
+pub query_both : (threads : ℕ) (layout text file bytes : List ℕ) (told : Option Contents) (old mid new : Option (List Read)) → IsWhole told layout bytes
+    → ReadsUpTo old mid layout layout_file_limit (λ next. next ≡ Ended) → ReadsIf mid new file record_file_limit ((p : Plan) × IsAsked (Some bytes) text p)
+    → ReadsFor (Query threads layout text file) told old new
+query_both threads layout text file bytes told old mid new whole first last = record {
+  first = first.reads;
+  last = last.reads;
+  noted = ReadsOn-append old mid new first.reads last.reads first.noted last.noted;
+  first_is = first.follow;
+  last_is = last.follow;
+  in_place = λ some. (first.goes, (Some bytes, whole, last.needed some));
+}
+
+-- one piece of a file was read, and what followed on it
+pub any_goes : (old new : Option (List Read)) (name : List ℕ) (end from : ℕ) (Goes : Next → Type 0) → ReadsFile old new name piece_limit end from Goes
+    → ReadsFile old new name piece_limit end from (λ next. Unit {0})
+any_goes old new name end from Goes reads = record { reads = reads.reads; noted = reads.noted; follow = reads.follow; goes = tt }
+
+pub chunk_goes : (old new : Option (List Read)) (name : List ℕ) (end from place : ℕ) → ReadsFile old new name piece_limit end from (λ next. GoesBy false place next)
+    → ReadsFile old new name piece_limit end from (λ next. next ≡ At place)
+chunk_goes old new name end from place reads = record { reads = reads.reads; noted = reads.noted; follow = reads.follow; goes = reads.goes.1 refl }
+
+pub chunk_ends : (old new : Option (List Read)) (name : List ℕ) (end from place : ℕ) → ReadsFile old new name piece_limit end from (λ next. GoesBy true place next)
+    → ReadsFile old new name piece_limit end from (λ next. next ≡ Ended)
+chunk_ends old new name end from place reads = record { reads = reads.reads; noted = reads.noted; follow = reads.follow; goes = reads.goes.0 refl }
+
+-- what was read of a file into a buffer with room for no more than a piece
+pub filled_reads : (old new : Option (List Read)) (name : List ℕ) (at from room end : ℕ) (Goes Says : Next → Type 0) → ReadsFile old new name room (at + room) at Goes
+    → at ≡ from → room ≤ piece_limit → at + room ≤ end → ((next : Next) → Goes next → Says next) → ReadsFile old new name piece_limit end from Says
+filled_reads old new name at from room end Goes Says reads same small within says =
+    subst (λ (k : ℕ). ReadsFile old new name piece_limit end k Says) same
+    (ReadsFile-wider old new name room (at + room) piece_limit end at Goes Says small within says reads)

@@ -1,0 +1,58 @@
+-- What is read for a request, and in which order.
+use Rattle.std.specs.Prelude.{◌≡◌, ◌≢◌, ℕ, ◌+◌, List, [], ◌++◌, Bool, true, false, Option, None, Some}
+use Rattle.fm_io.specs.Files.{Contents}
+use Rattle.fm_io.specs.Reads.{Read, ReadsOn, Next, At, Ended, Follow, next_after, ReadsFile}
+use Rattle.fm_query.specs.Plan.{Plan}
+use Rattle.fm_top.specs.Causes.{IsAsked}
+use Rattle.fm_top.specs.Found.{OfFile}
+use Rattle.fm_top.specs.Outcome.{record_file_limit, layout_file_limit}
+use Rattle.fm_top.specs.Words.{Request, Sum, Layout, Query, first_file, last_file}
+
+-- the most bytes of one read
+abbrev pub piece_limit : ℕ
+piece_limit = 65536
+
+-- what follows on a piece of a file: nothing, where the file ended with it, and else a read behind it
+abbrev pub GoesBy : Bool → ℕ → Next → Type 0
+GoesBy ended place next = (ended ≡ true → next ≡ Ended) × (ended ≡ false → next ≡ At place)
+
+-- A file was read from its beginning, in pieces, and up to the first byte past the limit at most; `Goes` is said of what may follow.
+abbrev pub ReadsUpTo : Option (List Read) → Option (List Read) → List ℕ → ℕ → (Next → Type 0) → Type 0
+ReadsUpTo old new name limit Goes = ReadsFile old new name piece_limit (limit + 1) 0 Goes
+
+-- the same, whatever may follow
+abbrev pub ReadsSome : Option (List Read) → Option (List Read) → List ℕ → ℕ → Type 0
+ReadsSome old new name limit = ReadsUpTo old new name limit (λ next. Unit {0})
+
+-- A file was read so, if at all; where it was, this holds.
+pub record ReadsIf (old new : Option (List Read)) (name : List ℕ) (limit : ℕ) (P : Type 0) : Type 0 where
+  pub reads : List Read
+  pub noted : ReadsOn old new reads
+  pub follow : Follow name piece_limit (limit + 1) (At 0) reads
+  pub needed : reads ≢ [] → P
+
+-- the reads are of the file of this name, from its beginning, in pieces, and up to the first byte past the limit; of no name there are none
+abbrev pub AreReadsOf : Option (List ℕ) → ℕ → List Read → Type 0
+AreReadsOf None limit reads = reads ≡ []
+AreReadsOf (Some name) limit reads = Follow name piece_limit (limit + 1) (At 0) reads
+
+-- the most bytes of the file that is read first
+abbrev pub first_limit : Request → ℕ
+first_limit (Sum size at kind file) = record_file_limit
+first_limit (Layout file) = layout_file_limit
+first_limit (Query threads layout query file) = layout_file_limit
+
+-- for this that was found first, a second file is read: the layout and the query stand
+abbrev pub NeedsLast : Request → Option (List ℕ) → Type 0
+NeedsLast (Sum size at kind file) first = ⊥
+NeedsLast (Layout file) first = ⊥
+NeedsLast (Query threads layout query file) first = (p : Plan) × IsAsked first query p
+
+-- What was read for a request: its first file, and behind that its last one, which is read only where the first was read to its end and needs it.
+pub record ReadsFor (request : Request) (told : Option Contents) (old new : Option (List Read)) : Type 0 where
+  pub first : List Read
+  pub last : List Read
+  pub noted : ReadsOn old new (first ++ last)
+  pub first_is : AreReadsOf (first_file request) (first_limit request) first
+  pub last_is : AreReadsOf (last_file request) record_file_limit last
+  pub in_place : last ≢ [] → (next_after (At 0) first ≡ Ended) × OfFile told (first_file request) (NeedsLast request)

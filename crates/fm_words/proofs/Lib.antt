@@ -1,0 +1,5 @@
+pub mod Maps
+pub mod Marks
+pub mod Sessions
+pub mod Shifts
+pub mod Tables

@@ -1,0 +1,110 @@
+-- Each word of a table is that of one place.
+use Rattle.std.proofs.Common.{◌≡◌, ◌≢◌, ℕ, zero, suc, ◌+◌, ◌-◌, ◌*◌, ◌/◌, ◌%◌, ◌<◌, ◌≤◌, List, length, set, slice_index, refl, ap, arith, inl, inr, get_or-set_other, get_or-set_same}
+use mathlib.Core.Logic.{dite}
+use native.Mathlib.Decide.{ℕ_discrete}
+use Rattle.std.proofs.lemmas.Bool.{cases_lt}
+use Rattle.std.proofs.lemmas.Nat.{mul-add-lt, same_from_place, div-add-mod', mod_below, div_below}
+use Rattle.fm_words.specs.declared.shape.Shape.{Shape}
+use Rattle.fm_words.specs.Shapes.{IsValid}
+use Rattle.fm_words.specs.Places.{Place, front, draw, slot_bits, mark, session, given, page_word, IsPlace, marks_from, sessions_from, given_from, pages_from, at, words, NamesEachWordOnce}
+
+-- Places lie within the table.
+pub at-within : (z : Shape) (p : Place) → IsPlace z p → at z p < words z
+unfolding at words
+at-within z front h = omega arith
+at-within z draw h = omega arith
+at-within z slot_bits h = omega arith
+at-within z (mark k) h = omega arith
+at-within z (session s) h = omega arith
+at-within z (given s) h = omega arith
+at-within z (page_word k w) h =
+    let row = mul-add-lt k z.page_words w z.pages h.0 h.1 in
+    let below : k * z.page_words + w < z.pages * z.page_words = omega (arith, row) in
+    omega arith
+
+-- Two places are never one word.
+pub at-apart : (z : Shape) (p q : Place) → IsPlace z p → IsPlace z q → at z p ≡ at z q → p ≡ q
+unfolding at
+at-apart z front front a b e = refl
+at-apart z draw draw a b e = refl
+at-apart z slot_bits slot_bits a b e = refl
+at-apart z (mark k) (mark i) a b e = let h : k ≡ i = omega arith in ap mark h
+at-apart z (session s) (session t) a b e = let h : s ≡ t = omega arith in ap session h
+at-apart z (given s) (given t) a b e = let h : s ≡ t = omega arith in ap given h
+at-apart z (page_word k w) (page_word i v) a b e =
+    let place : k * z.page_words + w ≡ i * z.page_words + v = omega arith in
+    let same = same_from_place k w i v z.page_words a.1 b.1 place in
+    λ j. page_word (same.0 j) (same.1 j)
+at-apart z _ _ a b e = absurd (omega arith)
+
+-- A product above a number has no factor 0.
+positive : (a b n : ℕ) → n < a * b → 0 < b
+positive a zero n h = absurd (omega arith)
+positive a (suc b) n h = omega arith
+
+-- A place at this word.
+abbrev pub PlaceAt : Shape → ℕ → Type 0
+PlaceAt z i = (p : Place) × IsPlace z p × (at z p ≡ i)
+
+-- Where each kind of words begins, a word is of this kind or of a later one.
+named_from_pages : (z : Shape) (i : ℕ) → pages_from z ≤ i → i < words z → PlaceAt z i
+unfolding at words
+named_from_pages z i h below =
+    let n = i - pages_from z in
+    let inside : i - pages_from z < z.pages * z.page_words = omega arith in
+    let some : 0 < z.page_words = positive z.pages z.page_words n inside in
+    let whole = div-add-mod' n z.page_words in
+    let page = div_below n z.page_words z.pages some inside in
+    (page_word (n / z.page_words) (n % z.page_words), (page, mod_below n z.page_words some), omega (arith, whole))
+
+named_from_given : (z : Shape) (i : ℕ) → given_from z ≤ i → i < words z → PlaceAt z i
+unfolding at
+named_from_given z i h below = elim (cases_lt i (pages_from z)) [
+  | inl l ↦ (given (i - given_from z), omega arith, omega arith)
+  | inr l ↦ named_from_pages z i l below
+]
+
+named_from_sessions : (z : Shape) (i : ℕ) → sessions_from z ≤ i → i < words z → PlaceAt z i
+unfolding at
+named_from_sessions z i h below = elim (cases_lt i (given_from z)) [
+  | inl l ↦ (session (i - sessions_from z), omega arith, omega arith)
+  | inr l ↦ named_from_given z i l below
+]
+
+named_from_marks : (z : Shape) (i : ℕ) → marks_from z ≤ i → i < words z → PlaceAt z i
+unfolding at
+named_from_marks z i h below = elim (cases_lt i (sessions_from z)) [
+  | inl l ↦ (mark (i - marks_from z), omega arith, omega arith)
+  | inr l ↦ named_from_sessions z i l below
+]
+
+-- Each word of the table has a place.
+pub at-named : (z : Shape) (i : ℕ) → i < words z → PlaceAt z i
+unfolding at
+at-named z zero h = (front, tt, refl)
+at-named z (suc zero) h = (draw, tt, refl)
+at-named z (suc (suc zero)) h = (slot_bits, tt, refl)
+at-named z (suc (suc (suc i))) h = named_from_marks z (suc (suc (suc i))) (omega arith) h
+
+-- So the places name each word once.
+pub every_word : (z : Shape) → NamesEachWordOnce z
+every_word z = record { within = at-within z; apart = at-apart z; named = at-named z }
+
+-- Whether two places of the table are one.
+pub same_place : (z : Shape) (p q : Place) → IsPlace z p → IsPlace z q → Dec (p ≡ q)
+same_place z p q a b = dite (ℕ_discrete (at z p) (at z q)) (λ e. yes (at-apart z p q a b e)) (λ ne. no (λ e. ne (ap (at z) e)))
+
+-- Where the word of a place is set, it is found there.
+pub at-set_here : (z : Shape) (table : List ℕ) (p : Place) (x : ℕ) → length table ≡ words z → IsPlace z p
+    → slice_index (set table (at z p) x) (at z p) ≡ x
+at-set_here z table p x wide h = get_or-set_same table (at z p) x 0 (let below = at-within z p h in omega arith)
+
+-- Every other place keeps its word.
+pub at-set_other : (z : Shape) (table : List ℕ) (p q : Place) (x : ℕ) → IsPlace z p → IsPlace z q → q ≢ p
+    → slice_index (set table (at z p) x) (at z q) ≡ slice_index table (at z q)
+at-set_other z table p q x a b ne = get_or-set_other table (at z p) (at z q) x 0 (λ e. ne (at-apart z q p b a e))
+
+-- A table has at most 3 + 4,096 + 128 + 2^24 words.
+pub words-le : (z : Shape) → IsValid z → words z ≤ 16781443
+unfolding words
+words-le z v = let passes = v.passes.1 in let slots = v.slots.1 in let pages = v.words in omega arith

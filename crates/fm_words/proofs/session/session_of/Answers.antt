@@ -1,0 +1,16 @@
+use Rattle.std.proofs.Common.{ap, ◌∙◌}
+use Rattle.fm_words.specs.Sessions.{session_word}
+use Rattle.fm_words.proofs.Sessions.{session_word-session_of}
+use Rattle.fm_words.proofs.Shifts.{masked_is}
+use Rattle.fm_words.proofs.session.session_of.Goals as goal
+
+pub returns-clause-session : goal.returns-clause-session
+returns-clause-session c =
+    let is = c.halves-generation.ensures in
+    masked_is c.args.word c.halves-generation.result.0 c.halves-generation.result.1 is.high is.low
+
+pub returns-clause-back : goal.returns-clause-back
+returns-clause-back c =
+    let is = c.halves-generation.ensures in
+    ap session_word (masked_is c.args.word c.halves-generation.result.0 c.halves-generation.result.1 is.high is.low)
+    ∙ session_word-session_of c.args.word

@@ -1,0 +1,66 @@
+-- The places of a pool's words in their one table.
+use Rattle.std.specs.Prelude.{◌≡◌, ℕ, ◌+◌, ◌*◌, ◌<◌}
+use Rattle.fm_words.specs.declared.shape.Shape.{Shape}
+
+-- what a word is for, in the order of the table
+pub data Place : Type 0 where
+  -- always 0
+  front : Place
+  -- the count of drawn pass numbers
+  draw : Place
+  -- bit k is 1 where slot k can be lent
+  slot_bits : Place
+  -- the mark of a pass
+  mark : ℕ → Place
+  -- the session of a slot
+  session : ℕ → Place
+  -- the count of bytes that the arena in a slot has given
+  given : ℕ → Place
+  -- of a page, one of its words
+  page_word : ℕ → ℕ → Place
+
+-- a pool of this shape has the place
+abbrev pub IsPlace : Shape → Place → Type 0
+IsPlace z front = Unit {0}
+IsPlace z draw = Unit {0}
+IsPlace z slot_bits = Unit {0}
+IsPlace z (mark k) = k < z.passes
+IsPlace z (session s) = s < z.slots
+IsPlace z (given s) = s < z.slots
+IsPlace z (page_word k w) = (k < z.pages) × (w < z.page_words)
+
+-- where the words of each kind begin: where those of the kind before end
+abbrev pub marks_from : Shape → ℕ
+marks_from z = 3
+
+abbrev pub sessions_from : Shape → ℕ
+sessions_from z = marks_from z + z.passes
+
+abbrev pub given_from : Shape → ℕ
+given_from z = sessions_from z + z.slots
+
+abbrev pub pages_from : Shape → ℕ
+pages_from z = given_from z + z.slots
+
+-- how many words the table has
+unfoldable pub words : Shape → ℕ
+words z = pages_from z + z.pages * z.page_words
+
+-- the word at which a place lies
+unfoldable pub at : Shape → Place → ℕ
+at z front = 0
+at z draw = 1
+at z slot_bits = 2
+at z (mark k) = marks_from z + k
+at z (session s) = sessions_from z + s
+at z (given s) = given_from z + s
+at z (page_word k w) = pages_from z + (k * z.page_words + w)
+
+-- each place lies in the table, no two at the same word, and each word of the table has a place
+pub record NamesEachWordOnce (z : Shape) : Type 0 where
+  pub within : (p : Place) → IsPlace z p → at z p < words z
+  pub apart : (p q : Place) → IsPlace z p → IsPlace z q → at z p ≡ at z q → p ≡ q
+  pub named : (i : ℕ) → i < words z → (p : Place) × IsPlace z p × (at z p ≡ i)
+
+abbrev pub EveryWordHasOnePlace : Type 0
+EveryWordHasOnePlace = (z : Shape) → NamesEachWordOnce z

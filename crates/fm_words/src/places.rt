@@ -1,0 +1,106 @@
+use crate::shape::Shape;
+
+/// The words before the marks: front, draw and slot bits.
+const SINGLE_WORDS: u64 = 3;
+
+/// Places of words in the table, from 0. It has the single words first, then a mark for each pass, a session for each
+/// slot, a count of given bytes for each slot, and last the pages, one after another.
+impl Shape {
+    ghost use Rattle.std.specs.Prelude.{◌≡◌};
+    ghost use Rattle.fm_words.specs.Shapes.{IsValid};
+    ghost use Rattle.fm_words.specs.Places.{
+      IsPlace,
+      at,
+      draw,
+      front,
+      given,
+      mark,
+      page_word,
+      session,
+      slot_bits,
+      words,
+      sessions_from,
+      given_from,
+      pages_from,
+    };
+
+    /// How many words the table has.
+    pub fn words(&self) -> u64
+        requires { IsValid self.now }
+        ensures { result ≡ words self.now }
+    {
+        self.pages_from() + u64::from(self.pages) * u64::from(self.page_words)
+    }
+
+    /// The place of the front word, which is always 0.
+    pub fn front_place(&self) -> u64
+        ensures { result ≡ at self.now front }
+    {
+        0
+    }
+
+    /// The place of the count of drawn pass numbers.
+    pub fn draw_place(&self) -> u64
+        ensures { result ≡ at self.now draw }
+    {
+        1
+    }
+
+    /// The place of the word whose bit k is 1 where slot k can be lent.
+    pub fn slot_bits_place(&self) -> u64
+        ensures { result ≡ at self.now slot_bits }
+    {
+        2
+    }
+
+    /// The place of a pass's mark.
+    pub fn mark_place(&self, pass: u32) -> u64
+        requires { IsPlace self.now (mark pass) }
+        ensures { result ≡ at self.now (mark pass) }
+    {
+        SINGLE_WORDS + u64::from(pass)
+    }
+
+    /// The place of a slot's session.
+    pub fn session_place(&self, slot: u32) -> u64
+        requires { IsPlace self.now (session slot) }
+        ensures { result ≡ at self.now (session slot) }
+    {
+        self.sessions_from() + u64::from(slot)
+    }
+
+    /// The place of the count of bytes that the arena in a slot has given.
+    pub fn given_place(&self, slot: u32) -> u64
+        requires { IsPlace self.now (given slot) }
+        ensures { result ≡ at self.now (given slot) }
+    {
+        self.given_from() + u64::from(slot)
+    }
+
+    /// The place of a word of a page.
+    pub fn page_place(&self, page: u32, word: u32) -> u64
+        requires valid { IsValid self.now }
+        requires place { IsPlace self.now (page_word page word) }
+        ensures { result ≡ at self.now (page_word page word) }
+    {
+        self.pages_from() + u64::from(page) * u64::from(self.page_words) + u64::from(word)
+    }
+
+    fn sessions_from(&self) -> u64
+        ensures { result ≡ sessions_from self.now }
+    {
+        SINGLE_WORDS + u64::from(self.passes)
+    }
+
+    fn given_from(&self) -> u64
+        ensures { result ≡ given_from self.now }
+    {
+        self.sessions_from() + u64::from(self.slots)
+    }
+
+    fn pages_from(&self) -> u64
+        ensures { result ≡ pages_from self.now }
+    {
+        self.given_from() + u64::from(self.slots)
+    }
+}

@@ -1,0 +1,259 @@
+ghost use Rattle.fm_words.specs.Sessions.{IsSession};
+
+use crate::{
+    ALIVE, CLOSING, FREE, Session, Shape, every_word_has_one_place, map_of, map_word, mark_of,
+    mark_word, session_of, session_word,
+};
+use std::process::Abort;
+
+const LEAST: Shape = Shape {
+    passes: 1,
+    slots: 1,
+    pages: 1,
+    page_words: 1,
+    reach: 1,
+    generations: 1,
+};
+
+const GREATEST: Shape = Shape {
+    passes: 4_096,
+    slots: 64,
+    pages: 64,
+    page_words: 262_144,
+    reach: 1,
+    generations: u32::MAX,
+};
+
+const SMALL: Shape = Shape {
+    passes: 3,
+    slots: 2,
+    pages: 8,
+    page_words: 16,
+    reach: 4,
+    generations: 7,
+};
+
+const ZERO: Session = Session {
+    generation: 0,
+    life: FREE,
+    kind: 0,
+    owner: 0,
+    holds: 0,
+};
+
+fn is_coded<R: Abort>(rt: &R, session: Session, word: u64)
+    requires { IsSession session }
+{
+    assert_eq!(rt; session_word(session), word);
+    assert_eq!(rt; session_of(word), session);
+}
+
+#[test]
+fn a_session_is_a_word(rt: HostRuntime) {
+    let held = Session {
+        generation: 5,
+        life: ALIVE,
+        kind: 2,
+        owner: 3,
+        holds: 2,
+    };
+    is_coded(&rt, held, 23_085_645_826);
+    is_coded(&rt, held, 0x0000_0005_6003_0002);
+    let shut = Session {
+        life: CLOSING,
+        holds: 0,
+        ..held
+    };
+    is_coded(&rt, shut, 0x0000_0005_a003_0000);
+}
+
+#[test]
+fn fields_lie_apart_in_a_word(rt: HostRuntime) {
+    is_coded(&rt, ZERO, 0);
+    is_coded(
+        &rt,
+        Session {
+            generation: u32::MAX,
+            ..ZERO
+        },
+        0xffff_ffff_0000_0000,
+    );
+    is_coded(
+        &rt,
+        Session {
+            life: CLOSING,
+            ..ZERO
+        },
+        0x8000_0000,
+    );
+    is_coded(&rt, Session { kind: 3, ..ZERO }, 0x3000_0000);
+    is_coded(
+        &rt,
+        Session {
+            owner: 4_095,
+            ..ZERO
+        },
+        0x0fff_0000,
+    );
+    is_coded(
+        &rt,
+        Session {
+            holds: 65_535,
+            ..ZERO
+        },
+        0xffff,
+    );
+    let all = Session {
+        generation: u32::MAX,
+        life: CLOSING,
+        kind: 3,
+        owner: 4_095,
+        holds: 65_535,
+    };
+    is_coded(&rt, all, 0xffff_ffff_bfff_ffff);
+}
+
+#[test]
+fn a_life_of_3_is_read(rt: HostRuntime) {
+    let all = Session {
+        generation: u32::MAX,
+        life: 3,
+        kind: 3,
+        owner: 4_095,
+        holds: 65_535,
+    };
+    assert_eq!(rt; session_of(u64::MAX), all);
+}
+
+#[test]
+fn marks_are_words(rt: HostRuntime) {
+    for (slot, generation, word) in [
+        (0, 0, 0x0000_0001_0000_0000),
+        (0, u32::MAX, 0x0000_0001_ffff_ffff),
+        (2, 5, 0x0000_0003_0000_0005),
+        (63, 0, 0x0000_0040_0000_0000),
+        (63, u32::MAX, 0x0000_0040_ffff_ffff),
+    ] {
+        assert_eq!(rt; mark_word(slot, generation), word);
+        assert_eq!(rt; mark_of(word), Some((slot, generation)));
+    }
+    assert_eq!(rt; mark_of(0), None);
+    assert_eq!(rt; mark_of(0xffff_ffff), None);
+    assert_eq!(rt; mark_of(u64::MAX), Some((u32::MAX - 1, u32::MAX)));
+}
+
+#[test]
+fn pages_are_mapped_by_words(rt: HostRuntime) {
+    for (page, word) in [(0, 1), (7, 8), (4_095, 4_096)] {
+        assert_eq!(rt; map_word(page), word);
+        assert_eq!(rt; map_of(word), Some(page));
+    }
+    assert_eq!(rt; map_of(0), None);
+    assert_eq!(rt; map_of(0xffff_ffff), Some(u32::MAX - 1));
+}
+
+#[test]
+fn the_least_shape_has_one_of_each(rt: HostRuntime) {
+    assert!(rt; LEAST.is_valid());
+    assert_eq!(rt; LEAST.front_place(), 0);
+    assert_eq!(rt; LEAST.draw_place(), 1);
+    assert_eq!(rt; LEAST.slot_bits_place(), 2);
+    assert_eq!(rt; LEAST.mark_place(0), 3);
+    assert_eq!(rt; LEAST.session_place(0), 4);
+    assert_eq!(rt; LEAST.given_place(0), 5);
+    assert_eq!(rt; LEAST.page_place(0, 0), 6);
+    assert_eq!(rt; LEAST.words(), 7);
+}
+
+#[test]
+fn the_greatest_shape_has_128_mebibytes(rt: HostRuntime) {
+    assert!(rt; GREATEST.is_valid());
+    assert_eq!(rt; GREATEST.mark_place(4_095), 4_098);
+    assert_eq!(rt; GREATEST.session_place(0), 4_099);
+    assert_eq!(rt; GREATEST.session_place(63), 4_162);
+    assert_eq!(rt; GREATEST.given_place(0), 4_163);
+    assert_eq!(rt; GREATEST.given_place(63), 4_226);
+    assert_eq!(rt; GREATEST.page_place(0, 0), 4_227);
+    assert_eq!(rt; GREATEST.page_place(63, 262_143), 16_781_442);
+    assert_eq!(rt; GREATEST.words(), 16_781_443);
+}
+
+#[test]
+fn pages_lie_one_after_another(rt: HostRuntime) {
+    every_word_has_one_place();
+    assert!(rt; SMALL.is_valid());
+    assert_eq!(rt; SMALL.mark_place(2), 5);
+    assert_eq!(rt; SMALL.session_place(1), 7);
+    assert_eq!(rt; SMALL.given_place(1), 9);
+    assert_eq!(rt; SMALL.page_place(0, 15), 25);
+    assert_eq!(rt; SMALL.page_place(1, 0), 26);
+    assert_eq!(rt; SMALL.page_place(7, 15), 137);
+    assert_eq!(rt; SMALL.words(), 138);
+}
+
+/// Each row breaks one rule of `SMALL`. By now pages are counted by slots and reach, so a number of slots, pages or
+/// `reach` out of its limits breaks the rule on their product as well, or a limit of another.
+#[test]
+fn shapes_beyond_a_limit_are_refused(rt: HostRuntime) {
+    for shape in [
+        Shape { passes: 0, ..SMALL },
+        Shape {
+            passes: 4_097,
+            ..SMALL
+        },
+        Shape {
+            slots: 0,
+            pages: 0,
+            ..SMALL
+        },
+        Shape { slots: 0, ..SMALL },
+        Shape {
+            slots: 65,
+            pages: 65,
+            reach: 1,
+            ..SMALL
+        },
+        Shape {
+            pages: 0,
+            reach: 0,
+            ..SMALL
+        },
+        Shape {
+            pages: 66,
+            reach: 33,
+            ..SMALL
+        },
+        Shape {
+            page_words: 0,
+            ..SMALL
+        },
+        Shape {
+            page_words: 1_048_577,
+            pages: 1,
+            slots: 1,
+            reach: 1,
+            ..SMALL
+        },
+        Shape { reach: 0, ..SMALL },
+        Shape {
+            pages: 1,
+            slots: 1,
+            ..SMALL
+        },
+        Shape {
+            generations: 0,
+            ..SMALL
+        },
+        Shape {
+            pages: 64,
+            reach: 32,
+            page_words: 262_145,
+            ..SMALL
+        },
+        Shape { pages: 7, ..SMALL },
+        Shape { pages: 9, ..SMALL },
+        Shape { reach: 3, ..SMALL },
+    ] {
+        assert!(rt; !shape.is_valid());
+    }
+}
