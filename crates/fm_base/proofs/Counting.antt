@@ -30,18 +30,21 @@ SameWord : ArenaId → ℕ → Arena → Arena → Type 0
 SameWord id word a b = a.id ≡ id → slice_index b.words word ≡ slice_index a.words word
 
 -- Another word is put.
-other_word : (s : State) (a id : ArenaId) (w v word : ℕ) → ¬ ((a ≡ id) × (w ≡ word)) → (arena_of s a).id ≡ id → slice_index (slice_set (arena_of s a).words w v) word ≡ slice_index (arena_of s a).words word
+other_word : (s : State) (a id : ArenaId) (w v word : ℕ) → ¬ ((a ≡ id) × (w ≡ word)) → (arena_of s a).id ≡ id
+    → slice_index (slice_set (arena_of s a).words w v) word ≡ slice_index (arena_of s a).words word
 other_word s a id w v word other e =
     let apart : word ≢ w = (λ is. other (sym (arena_of-id s a) ∙ e, sym is)) in get_or-set_other (arena_of s a).words w word v 0 apart
 
 -- A call that leaves the word.
-word_by : (limit : ℕ) (s : State) (c : Caller) (call : Call) (reply : Reply) (id : ArenaId) (word : ℕ) → Leaves id word call → Relates (SameWord id word) s (change_of limit c call reply)
+word_by : (limit : ℕ) (s : State) (c : Caller) (call : Call) (reply : Reply) (id : ArenaId) (word : ℕ) → Leaves id word call
+    → Relates (SameWord id word) s (change_of limit c call reply)
 unfolding SameWord
 word_by limit s c (Open a) reply id word leaves = λ e. zeros_at (words_within limit) word
 word_by limit s c (Enter a) Fine id word leaves = λ e. refl
 word_by limit s c (Write a w v) reply id word leaves = other_word s a id w v word leaves
 word_by limit s c (SwapIf a w old new) (Found found) id word leaves =
-    elim (found == old) as (λ b. (arena_of s a).id ≡ id → slice_index (if b then slice_set (arena_of s a).words w new else (arena_of s a).words) word ≡ slice_index (arena_of s a).words word) [
+    elim (found == old) as (λ b. (arena_of s a).id ≡ id
+    → slice_index (if b then slice_set (arena_of s a).words w new else (arena_of s a).words) word ≡ slice_index (arena_of s a).words word) [
       | true ↦ other_word s a id w new word leaves
       | false ↦ (λ e. refl)
     ]
@@ -55,7 +58,8 @@ word_by limit s c (End a) reply id word leaves = λ e. refl
 word_by limit s c call reply id word leaves = tt
 
 -- So it stays where it is looked up.
-word_still : (limit : ℕ) (s : State) (c : Caller) (call : Call) (reply : Reply) (id : ArenaId) (word : ℕ) → Leaves id word call → word_in (state_by limit s c call reply) id word ≡ word_in s id word
+word_still : (limit : ℕ) (s : State) (c : Caller) (call : Call) (reply : Reply) (id : ArenaId) (word : ℕ) → Leaves id word call
+    → word_in (state_by limit s c call reply) id word ≡ word_in s id word
 unfolding SameWord
 word_still limit s c call reply id word leaves =
     made_lookup (SameWord id word) (λ a e. refl) s (change_of limit c call reply) (word_by limit s c call reply id word leaves) id (arena_of-id s id)
@@ -69,11 +73,13 @@ leaves_or_adds : (id : ArenaId) (word : ℕ) (call : Call) → OnlyAdds id word 
 leaves_or_adds id word (Write a w v) only = inl (refl, only)
 leaves_or_adds id word (SwapIf a w old new) only = inl (refl, only)
 leaves_or_adds id word (Add a w n) only =
-    let Q : Bool → Bool → Type 0 = λ b d. (((if b && d then n else 0) ≡ 0) × ¬ ((a ≡ id) × (w ≡ word))) ⊎ ((m : ℕ) × (Add a w n ≡ Add id word m) × ((if b && d then n else 0) ≡ m)) in
+    let Q : Bool → Bool → Type 0 = λ b d. (((if b && d then n else 0) ≡ 0) × ¬ ((a ≡ id) × (w ≡ word)))
+    ⊎ ((m : ℕ) × (Add a w n ≡ Add id word m) × ((if b && d then n else 0) ≡ m)) in
     let P : Bool → Type 0 = λ b. same_id a id ≡ b → Q b (w == word) in
     let R : Bool → Type 0 = λ d. (w == word) ≡ d → same_id a id ≡ true → Q true d in
     let here : (d : Bool) → R d = λ d. elim d as R [
-      | true ↦ (λ t e. let at : w ≡ word = grind (arith, nat_tests) in inr (n, ap (λ (i : ArenaId). Add i w n) (same_id-true a id e) ∙ ap (λ v. Add id v n) at, refl))
+      | true ↦ (λ t e. let at : w ≡ word = grind (arith, nat_tests) in
+          inr (n, ap (λ (i : ArenaId). Add i w n) (same_id-true a id e) ∙ ap (λ v. Add id v n) at, refl))
       | false ↦ (λ t e. let off : w ≢ word = grind (arith, nat_tests) in inl (refl, λ both. off both.1))
     ] in
     let go : (b : Bool) → P b = λ b. elim b as P [
@@ -88,7 +94,8 @@ abbrev Counts : ℕ → State → Caller → Reply → ArenaId → ℕ → Call 
 Counts limit s c reply id word call k = word_in (state_by limit s c call reply) id word ≡ (word_in s id word + k) % 2 ^ 64
 
 -- An Add to this word.
-added : (limit : ℕ) (s : State) (c : Caller) (reply : Reply) (id : ArenaId) (word n : ℕ) → MayCall s c (Add id word n) → reply ≡ reply_to limit s (Add id word n) → Counts limit s c reply id word (Add id word n) n
+added : (limit : ℕ) (s : State) (c : Caller) (reply : Reply) (id : ArenaId) (word n : ℕ) → MayCall s c (Add id word n)
+    → reply ≡ reply_to limit s (Add id word n) → Counts limit s c reply id word (Add id word n) n
 added limit s c (Found found) id word n may is =
     let was : found ≡ word_in s id word = cc in
     let v = (found + n) % 2 ^ 64 in
@@ -97,7 +104,8 @@ added limit s c (Found found) id word n may is =
 added limit s c reply id word n may is = let no : reply ≡ Found (word_in s id word) = is in absurd (cc)
 
 -- Any call that only adds.
-counts_by : (limit : ℕ) (s : State) (e : Entry) (id : ArenaId) (word : ℕ) → MayCall s e.caller e.call → e.reply ≡ reply_to limit s e.call → word_in s id word < 2 ^ 64 → OnlyAdds id word e.call
+counts_by : (limit : ℕ) (s : State) (e : Entry) (id : ArenaId) (word : ℕ) → MayCall s e.caller e.call → e.reply ≡ reply_to limit s e.call
+    → word_in s id word < 2 ^ 64 → OnlyAdds id word e.call
     → Counts limit s e.caller e.reply id word e.call (adds_to id word e.call)
 counts_by limit s e id word may is small only = elim (leaves_or_adds id word e.call only) [
   | inl none ↦ word_still limit s e.caller e.call e.reply id word none.1 ∙ (let z = none.0 in omega (arith, small, z))
@@ -153,9 +161,11 @@ one_of c k (d ∷ ds) (inr i) apart =
     let first : part c k d ≡ 0 = ap (λ b. if b then k else 0) (are_one-not c d other) in
     omega (arith, first, one_of c k ds i apart.1)
 
-added_first : (id : ArenaId) (word : ℕ) (c : Caller) (e : Entry) (es : List Entry) → all_added id word (made_by c (e ∷ es)) ≡ part e.caller (adds_to id word e.call) c + all_added id word (made_by c es)
+added_first : (id : ArenaId) (word : ℕ) (c : Caller) (e : Entry) (es : List Entry)
+    → all_added id word (made_by c (e ∷ es)) ≡ part e.caller (adds_to id word e.call) c + all_added id word (made_by c es)
 added_first id word c e es =
-    elim (are_one e.caller c) as (λ b. all_added id word (cond b (e ∷ made_by c es) (made_by c es)) ≡ (if b then adds_to id word e.call else 0) + all_added id word (made_by c es)) [
+    elim (are_one e.caller c) as (λ b. all_added id word (cond b (e ∷ made_by c es) (made_by c es))
+    ≡ (if b then adds_to id word e.call else 0) + all_added id word (made_by c es)) [
       | true ↦ refl
       | false ↦ omega arith
     ]

@@ -9,7 +9,8 @@ use Rattle.fm_base.specs.View.{View, Told, Makes, TellsOn, IsToldOf, IsSound, Ke
 use Rattle.fm_base.specs.Lasting.{AlwaysKeepsFaith}
 use Rattle.fm_base.proofs.Making.{state_after-append, IsLegal-append}
 
-told_on : (limit : ℕ) (c : Caller) (s u : State) (t v : Option Told) (all own : List Entry) → TellsOn t v all own → IsLegal limit s all → u ≡ state_after limit s all → made_by c all ≡ own
+told_on : (limit : ℕ) (c : Caller) (s u : State) (t v : Option Told) (all own : List Entry) → TellsOn t v all own → IsLegal limit s all
+    → u ≡ state_after limit s all → made_by c all ≡ own
     → IsToldOf limit s c t → IsToldOf limit u c v
 told_on limit c s u None None all own h l e m f = tt
 told_on limit c s u (Some t) (Some v) all own h l e m f = (
@@ -27,7 +28,8 @@ Makes-sound x y own m i = record {
   told = rw (m.same_limit, m.same_caller) (told_on x.limit x.caller x.state y.state x.told y.told m.all own m.told m.legal m.reached m.by_caller i.told);
 }
 
-keeps : (limit : ℕ) (c : Caller) (s : State) (t u : Told) (all own : List Entry) → TellsOn (Some t) (Some u) all own → IsToldOf limit s c (Some u) → KeepsFaith limit t u own
+keeps : (limit : ℕ) (c : Caller) (s : State) (t u : Told) (all own : List Entry) → TellsOn (Some t) (Some u) all own → IsToldOf limit s c (Some u)
+    → KeepsFaith limit t u own
 keeps limit c s t u all own h f = record { legal = f.0; more = all; seen = h.seen; mine = h.mine }
 
 pub keeps_faith : AlwaysKeepsFaith
@@ -40,4 +42,8 @@ keeps_faith old new own t u sound makes was is =
 -- alone, the state is what the caller's entries leave
 pub Makes-alone : (x y : View) (own : List Entry) → IsByItself x → Makes x y own → IsLegal x.limit x.state own × (y.state ≡ state_after x.limit x.state own)
 Makes-alone x y own h m =
-    let e = m.alone h in (subst (λ (es : List Entry). IsLegal x.limit x.state es) e m.legal, m.reached ∙ ap (λ (es : List Entry). state_after x.limit x.state es) e)
+    let e = m.alone h in (
+      subst (λ (es : List Entry). IsLegal x.limit x.state es) e m.legal,
+      m.reached
+          ∙ ap (λ (es : List Entry). state_after x.limit x.state es) e,
+    )

@@ -32,9 +32,11 @@ pub record IsGiven (limit given size align place : ℕ) : Type 0 where
 
 pub given_is : (limit given size align place : ℕ) → Given place ≡ allocate_reply limit given size align → IsGiven limit given size align place
 given_is limit given size align place h =
-    let P : Bool → Type 0 = λ b. nat_le (rounded_up given align + size) limit ≡ b → Given place ≡ (if b then Given (rounded_up given align) else NoRoom given) → IsGiven limit given size align place in
+    let P : Bool → Type 0 = λ b. nat_le (rounded_up given align + size) limit ≡ b → Given place ≡ (if b then Given (rounded_up given align) else NoRoom given)
+    → IsGiven limit given size align place in
     let go : (b : Bool) → P b = λ b. elim b as P [
-      | true ↦ (λ e r. let p : place ≡ rounded_up given align = cc in record { rounded = p; within = (let l : rounded_up given align + size ≤ limit = grind (arith, nat_tests) in omega arith) })
+      | true ↦ (λ e r. let p : place ≡ rounded_up given align = cc in
+          record { rounded = p; within = (let l : rounded_up given align + size ≤ limit = grind (arith, nat_tests) in omega arith) })
       | false ↦ (λ e r. absurd (cc))
     ] in
     go (nat_le (rounded_up given align + size) limit) refl h
@@ -63,7 +65,8 @@ StepsBy s (Alters id f named) = Steps (arena_of s id) (f (arena_of s id))
 StepsBy s Rests = ⊤
 
 -- what a legal call does to the arena that it alters
-steps_by : (limit : ℕ) (s : State) (c : Caller) (call : Call) (reply : Reply) → MayCall s c call → reply ≡ reply_to limit s call → StepsBy s (change_of limit c call reply)
+steps_by : (limit : ℕ) (s : State) (c : Caller) (call : Call) (reply : Reply) → MayCall s c call → reply ≡ reply_to limit s call
+    → StepsBy s (change_of limit c call reply)
 steps_by limit s c (Enter id) Fine may is = record { given = omega arith; over = λ o. let e : Fine ≡ Closed = is ∙ ap enter_reply o.life in absurd (cc) }
 steps_by limit s c (Write id word value) reply may is = Steps-words (arena_of s id) _
 steps_by limit s c (SwapIf id word old new) (Found found) may is = Steps-words (arena_of s id) _
@@ -97,7 +100,8 @@ given_more s h t other = made_lookup GivesMore (λ a. omega arith) s h (gives_mo
 StaysOver : Arena → Arena → Type 0
 StaysOver a b = IsOver a → IsOver b
 
-over_still : (s : State) (h : Change) → StepsBy s h → (other : ArenaId) → has_arena s other ≡ true → IsOver (arena_of s other) → IsOver (arena_of (made h s) other)
+over_still : (s : State) (h : Change) → StepsBy s h → (other : ArenaId) → has_arena s other ≡ true → IsOver (arena_of s other)
+    → IsOver (arena_of (made h s) other)
 unfolding StaysOver
 over_still s (Opens o) t other there w = rw (arena_of-append s (o ∷ []) other there) w
 over_still s (Alters id f named) t other there w = changed_lookup StaysOver f named (λ a o. o) s id t.over other w
@@ -156,7 +160,8 @@ stays limit before later id l h =
     )
 
 -- nobody comes into an arena that is over
-shut_out : (limit : ℕ) (s : State) (es : List Entry) (id : ArenaId) → IsLegal limit s es → has_arena s id ≡ true → IsOver (arena_of s id) → All (λ e. e.call ≡ Enter id → e.reply ≡ Closed) es
+shut_out : (limit : ℕ) (s : State) (es : List Entry) (id : ArenaId) → IsLegal limit s es → has_arena s id ≡ true → IsOver (arena_of s id)
+    → All (λ e. e.call ≡ Enter id → e.reply ≡ Closed) es
 shut_out limit s [] id l h o = All-nil (λ e. e.call ≡ Enter id → e.reply ≡ Closed)
 shut_out limit s (e ∷ es) id l h o =
     let first : e.call ≡ Enter id → e.reply ≡ Closed = λ is. l.1 ∙ (ap (λ c. reply_to limit s c) is ∙ ap enter_reply o.life) in
@@ -171,7 +176,8 @@ there_by_life s id h =
     go (has_arena s id) refl
 
 -- after End the arena is there, and over
-pub over_at_end : (s : State) (id : ArenaId) → (arena_of s id).life ≡ Closing → (arena_of s id).under_way ≡ [] → (has_arena (changed s id ended) id ≡ true) × IsOver (arena_of (changed s id ended) id)
+pub over_at_end : (s : State) (id : ArenaId) → (arena_of s id).life ≡ Closing → (arena_of s id).under_way ≡ []
+    → (has_arena (changed s id ended) id ≡ true) × IsOver (arena_of (changed s id ended) id)
 over_at_end s id l u =
     let h = there_by_life s id (λ e. let c : Closing ≡ Ended = sym l ∙ e in absurd (cc)) in
     let look = lookup_changed s id ended (λ a. refl) h in

@@ -28,24 +28,28 @@ enter_inside : (x y : View) (id : ArenaId) (result : Result (Unit {0}) Refusal) 
 enter_inside x y id (Ok u) d = along x y _ d.own d.makes d.does.1
 enter_inside x y id (Err r) d = tt
 
-enter_outside : (x y : View) (id : ArenaId) (result : Result (Unit {0}) Refusal) → x.inside ≡ None → DidEnter x y id result → IfErr result (λ _. y.inside ≡ None)
+enter_outside : (x y : View) (id : ArenaId) (result : Result (Unit {0}) Refusal) → x.inside ≡ None → DidEnter x y id result
+    → IfErr result (λ _. y.inside ≡ None)
 enter_outside x y id (Ok u) out d = tt
 enter_outside x y id (Err refusal.WrongThread) out d = along x y [] d.own d.makes d.does.1 ∙ out
 enter_outside x y id (Err refusal.Closed) out d = along x y _ d.own d.makes d.does.1 ∙ out
 enter_outside x y id (Err r) out d = absurd d.does
 
-act_on : (x y : View) (i : Option ArenaId) (call : ArenaId → Call) (reply : Reply) (own : List Entry) → x.inside ≡ i → Makes x y own → DoesAct i x.caller call reply own
+act_on : (x y : View) (i : Option ArenaId) (call : ArenaId → Call) (reply : Reply) (own : List Entry) → x.inside ≡ i → Makes x y own
+    → DoesAct i x.caller call reply own
     → (id : ArenaId) × (i ≡ Some id) × (y.inside ≡ inside_next (Some id) (call id) reply)
 act_on x y None call reply own e m d = absurd d
 act_on x y (Some id) call reply own e m d = (id, refl, along x y _ own m d ∙ ap (λ j. inside_next j (call id) reply) e)
 
-act_inside : (x y : View) (call : ArenaId → Call) (reply : Reply) → ((id : ArenaId) → inside_next (Some id) (call id) reply ≡ Some id) → DidAct x y call reply → y.inside ≡ x.inside
+act_inside : (x y : View) (call : ArenaId → Call) (reply : Reply) → ((id : ArenaId) → inside_next (Some id) (call id) reply ≡ Some id) → DidAct x y call reply
+    → y.inside ≡ x.inside
 act_inside x y call reply stays d = let a = act_on x y x.inside call reply d.own refl d.makes d.does in a.2 ∙ stays a.0 ∙ sym a.1
 
 leave_outside : (x y : View) → DidAct x y Leave Fine → y.inside ≡ None
 leave_outside x y d = let a = act_on x y x.inside Leave Fine d.own refl d.makes d.does in a.2
 
-patch_on : (x y : View) (i : Option ArenaId) (word mask bits found : ℕ) (own : List Entry) → x.inside ≡ i → Makes x y own → DoesPatch i x.caller word mask bits found own → y.inside ≡ i
+patch_on : (x y : View) (i : Option ArenaId) (word mask bits found : ℕ) (own : List Entry) → x.inside ≡ i → Makes x y own
+    → DoesPatch i x.caller word mask bits found own → y.inside ≡ i
 patch_on x y None word mask bits found own e m d = absurd d
 patch_on x y (Some id) word mask bits found own e m d =
     along x y _ own m d.2 ∙ ap (λ j. inside_after j (entries_of x.caller d.0)) e ∙ tries_stay id word (patched mask bits) found x.caller d.0 d.1
@@ -89,7 +93,8 @@ open_outside x y kind (Err refusal.NoSlot) out d = along_but x y [] d.own d.make
 open_outside x y kind (Err refusal.Memory) out d = along_but x y [] d.own d.makes d.does ∙ out
 open_outside x y kind (Err r) out d = absurd d.does
 
-allocate_outside : (x y : View) (id : ArenaId) (size align : ℕ) (result : Result ℕ Refusal) → x.inside ≡ None → DidAllocate x y id size align result → y.inside ≡ None
+allocate_outside : (x y : View) (id : ArenaId) (size align : ℕ) (result : Result ℕ Refusal) → x.inside ≡ None → DidAllocate x y id size align result
+    → y.inside ≡ None
 allocate_outside x y id size align (Ok place) out d = along_but x y _ d.own d.makes d.does.2
 allocate_outside x y id size align (Err refusal.BadAlignment) out d = along_but x y [] d.own d.makes d.does.1 ∙ out
 allocate_outside x y id size align (Err refusal.WrongThread) out d = along_but x y [] d.own d.makes d.does.2 ∙ out
@@ -115,18 +120,21 @@ open_is_new x y kind (Ok id) d = opened_new x y d.own x.caller id d.makes (rw d.
 open_is_new x y kind (Err r) d = tt
 
 -- Bytes that were allocated are given.
-pub allocate_gives : (x y : View) (id : ArenaId) (size align : ℕ) (result : Result ℕ Refusal) → DidAllocate x y id size align result → IfOk result (λ place. Gives x y id size align place)
+pub allocate_gives : (x y : View) (id : ArenaId) (size align : ℕ) (result : Result ℕ Refusal) → DidAllocate x y id size align result
+    → IfOk result (λ place. Gives x y id size align place)
 allocate_gives x y id size align (Ok place) d = allocated_gives x y d.own x.caller id size align place d.makes (rw d.does.2 (inr (inl refl)))
 allocate_gives x y id size align (Err r) d = tt
 
 -- An arena that was closed has ended.
-pub close_ends : (x y : View) (id : ArenaId) (result : Result (Unit {0}) Refusal) → DidClose x y id result → IfOk result (λ _. (arena_of y.state id).life ≡ Ended)
+pub close_ends : (x y : View) (id : ArenaId) (result : Result (Unit {0}) Refusal) → DidClose x y id result
+    → IfOk result (λ _. (arena_of y.state id).life ≡ Ended)
 close_ends x y id (Ok u) d = closed_ended x y d.own x.caller id Fine d.makes (rw d.does.2 (inr (inl refl)))
 close_ends x y id (Err r) d = tt
 
 -- ---- the records
 
-pub after_enter : {x y : View} {id : ArenaId} {result : Result (Unit {0}) Refusal} → CanVisit x id → IsSound x → DidEnter x y id result → AfterEnter x y id result
+pub after_enter : {x y : View} {id : ArenaId} {result : Result (Unit {0}) Refusal} → CanVisit x id → IsSound x → DidEnter x y id result
+    → AfterEnter x y id result
 after_enter {x} {y} {id} {result} at sound d = record {
   did = d;
   inside = enter_inside x y id result d;
@@ -135,7 +143,8 @@ after_enter {x} {y} {id} {result} at sound d = record {
   sound = Makes-sound x y d.own d.makes sound;
 }
 
-pub after_act : {x y : View} {call : ArenaId → Call} {reply : Reply} → ((id : ArenaId) → inside_next (Some id) (call id) reply ≡ Some id) → IsSound x → DidAct x y call reply → AfterAct x y call reply
+pub after_act : {x y : View} {call : ArenaId → Call} {reply : Reply} → ((id : ArenaId) → inside_next (Some id) (call id) reply ≡ Some id) → IsSound x
+    → DidAct x y call reply → AfterAct x y call reply
 after_act {x} {y} {call} {reply} stays sound d = record {
   did = d;
   inside = act_inside x y call reply stays d;
@@ -171,7 +180,8 @@ after_open {nature} {x} {y} {kind} {result} out sound comes found d = record {
   sound = Makes-sound x y d.own d.makes sound;
 }
 
-pub after_allocate : {nature : Nature} {x y : View} {id : ArenaId} {size align : ℕ} {result : Result ℕ Refusal} → CanVisit x id → IsSound x → MayCome nature result
+pub after_allocate : {nature : Nature} {x y : View} {id : ArenaId} {size align : ℕ} {result : Result ℕ Refusal} → CanVisit x id → IsSound x
+    → MayCome nature result
     → (result ≡ Err PoolFull → FoundNoneFree is_page x.told y.told) → DidAllocate x y id size align result → AfterAllocate nature x y id size align result
 after_allocate {nature} {x} {y} {id} {size} {align} {result} at sound comes found d = record {
   did = d;
@@ -183,7 +193,8 @@ after_allocate {nature} {x} {y} {id} {size} {align} {result} at sound comes foun
   sound = Makes-sound x y d.own d.makes sound;
 }
 
-pub after_close : {x y : View} {id : ArenaId} {result : Result (Unit {0}) Refusal} → CanVisit x id → IsSound x → DidClose x y id result → AfterClose x y id result
+pub after_close : {x y : View} {id : ArenaId} {result : Result (Unit {0}) Refusal} → CanVisit x id → IsSound x → DidClose x y id result
+    → AfterClose x y id result
 after_close {x} {y} {id} {result} at sound d = record {
   did = d;
   ended = close_ends x y id result d;

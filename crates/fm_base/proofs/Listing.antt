@@ -43,7 +43,8 @@ listed (a ∷ s) d =
     let other : (x : Arena) → (same_id x.id a.id ≡ false) × (arena_of s x.id ≡ x) → arena_of (a ∷ s) x.id ≡ x = λ x h.
     ap (λ b. if b then a else arena_of s x.id) (other_way a.id x.id h.0) ∙ h.1 in
     let both : All (λ x. (same_id x.id a.id ≡ false) × (arena_of s x.id ≡ x)) s = λ i x l. (none_named s a.id d.0 i x l, listed s d.1 i x l) in
-    All-cons (λ x. arena_of (a ∷ s) x.id ≡ x) a s (ap (λ b. if b then a else arena_of s a.id) (same_id-self a.id)) (All-weaker (λ x. (same_id x.id a.id ≡ false) × (arena_of s x.id ≡ x)) (λ x. arena_of (a ∷ s) x.id ≡ x) other s both)
+    All-cons (λ x. arena_of (a ∷ s) x.id ≡ x) a s (ap (λ b. if b then a else arena_of s a.id) (same_id-self a.id))
+    (All-weaker (λ x. (same_id x.id a.id ≡ false) × (arena_of s x.id ≡ x)) (λ x. arena_of (a ∷ s) x.id ≡ x) other s both)
 
 -- ---- names stay apart
 
@@ -103,7 +104,8 @@ distinct_by s Rests new d = d
 
 distinct_after : (limit : ℕ) (s : State) (es : List Entry) → IsLegal limit s es → AreDistinct s → AreDistinct (state_after limit s es)
 distinct_after limit s [] l d = d
-distinct_after limit s (e ∷ es) l d = distinct_after limit (after limit s e) es l.2 (distinct_by s (change_of limit e.caller e.call e.reply) (opens_new limit s e.caller e.call e.reply l.0) d)
+distinct_after limit s (e ∷ es) l d =
+    distinct_after limit (after limit s e) es l.2 (distinct_by s (change_of limit e.caller e.call e.reply) (opens_new limit s e.caller e.call e.reply l.0) d)
 
 pub looked_up : LooksUp
 looked_up limit h l = listed (state_after limit [] h) (distinct_after limit [] h l tt)

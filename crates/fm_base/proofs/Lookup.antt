@@ -21,9 +21,15 @@ changed_lookup P f named same (a ∷ s) id made other =
       | true ↦ (λ here.
           subst (λ (b : Bool). P (if same_id a.id other then a else arena_of s other) (if b then f a else arena_of s other))
           (ap (λ i. same_id i other) (sym (named a)))
-          (elim (same_id a.id other) as (λ c. P (if c then a else arena_of s other) (if c then f a else arena_of s other)) [ true ↦ here | false ↦ same (arena_of s other) ]))
+          (elim (same_id a.id other) as (λ c. P (if c then a else arena_of s other) (if c then f a else arena_of s other)) [
+            | true ↦ here
+            | false ↦ same (arena_of s other)
+          ]))
       | false ↦ (λ here.
-          elim (same_id a.id other) as (λ c. P (if c then a else arena_of s other) (if c then a else arena_of (changed s id f) other)) [ true ↦ same a | false ↦ changed_lookup P f named same s id here other ])
+          elim (same_id a.id other) as (λ c. P (if c then a else arena_of s other) (if c then a else arena_of (changed s id f) other)) [
+            | true ↦ same a
+            | false ↦ changed_lookup P f named same s id here other
+          ])
     ] in
     go (same_id a.id id) made
 
@@ -38,7 +44,10 @@ opened_lookup P same [] o made other =
     ] in
     go (same_id o.id other) refl
 opened_lookup P same (a ∷ s) o made other =
-    elim (same_id a.id other) as (λ b. P (if b then a else arena_of s other) (if b then a else arena_of (s ++ o ∷ []) other)) [ true ↦ same a | false ↦ opened_lookup P same s o made other ]
+    elim (same_id a.id other) as (λ b. P (if b then a else arena_of s other) (if b then a else arena_of (s ++ o ∷ []) other)) [
+      | true ↦ same a
+      | false ↦ opened_lookup P same s o made other
+    ]
 
 -- a change of an arena changes no name
 pub changed_has : (f : Arena → Arena) → KeepsName f → (s : State) (id other : ArenaId) → has_arena (changed s id f) other ≡ has_arena s other
@@ -90,7 +99,8 @@ has_arena-opened (a ∷ s) o =
 pub lookup_changed : (s : State) (id : ArenaId) (f : Arena → Arena) → KeepsName f → has_arena s id ≡ true → arena_of (changed s id f) id ≡ f (arena_of s id)
 lookup_changed [] id f named h = absurd (cc)
 lookup_changed (a ∷ s) id f named h =
-    let P : Bool → Type 0 = λ b. same_id a.id id ≡ b → (if b then true else has_arena s id) ≡ true → arena_of (if b then f a ∷ s else a ∷ changed s id f) id ≡ f (if b then a else arena_of s id) in
+    let P : Bool → Type 0 = λ b. same_id a.id id ≡ b → (if b then true else has_arena s id) ≡ true
+    → arena_of (if b then f a ∷ s else a ∷ changed s id f) id ≡ f (if b then a else arena_of s id) in
     let go : (b : Bool) → P b = λ b. elim b as P [
       | true ↦ (λ e w. ap (λ c. if c then f a else arena_of s id) (ap (λ i. same_id i id) (named a) ∙ e))
       | false ↦ (λ e w. ap (λ c. if c then a else arena_of (changed s id f) id) e ∙ lookup_changed s id f named w)
@@ -101,10 +111,12 @@ lookup_changed (a ∷ s) id f named h =
 pub changed_twice : (s : State) (id : ArenaId) (f g : Arena → Arena) → KeepsName f → changed (changed s id f) id g ≡ changed s id (λ a. g (f a))
 changed_twice [] id f g named = refl
 changed_twice (a ∷ s) id f g named =
-    let P : Bool → Type 0 = λ b. same_id a.id id ≡ b → changed (if b then f a ∷ s else a ∷ changed s id f) id g ≡ (if b then g (f a) ∷ s else a ∷ changed s id (λ x. g (f x))) in
+    let P : Bool → Type 0 = λ b. same_id a.id id ≡ b
+    → changed (if b then f a ∷ s else a ∷ changed s id f) id g ≡ (if b then g (f a) ∷ s else a ∷ changed s id (λ x. g (f x))) in
     let go : (b : Bool) → P b = λ b. elim b as P [
       | true ↦ (λ e. ap (λ c. if c then g (f a) ∷ s else f a ∷ changed s id g) (ap (λ i. same_id i id) (named a) ∙ e))
-      | false ↦ (λ e. ap (λ c. if c then g a ∷ changed s id f else a ∷ changed (changed s id f) id g) e ∙ ap (λ (t : State). a ∷ t) (changed_twice s id f g named))
+      | false ↦ (λ e. ap (λ c. if c then g a ∷ changed s id f else a ∷ changed (changed s id f) id g) e
+          ∙ ap (λ (t : State). a ∷ t) (changed_twice s id f g named))
     ] in
     go (same_id a.id id) refl
 
@@ -113,15 +125,22 @@ pub changed_same : (s : State) (id : ArenaId) (f : Arena → Arena) → f (arena
 changed_same [] id f h = refl
 changed_same (a ∷ s) id f h =
     let P : Bool → Type 0 = λ b. f (if b then a else arena_of s id) ≡ (if b then a else arena_of s id) → (if b then f a ∷ s else a ∷ changed s id f) ≡ a ∷ s in
-    let go : (b : Bool) → P b = λ b. elim b as P [ true ↦ (λ e. ap (λ (x : Arena). x ∷ s) e) | false ↦ (λ e. ap (λ (x : State). a ∷ x) (changed_same s id f e)) ] in
+    let go : (b : Bool) → P b = λ b. elim b as P [
+      | true ↦ (λ e. ap (λ (x : Arena). x ∷ s) e)
+      | false ↦ (λ e. ap (λ (x : State). a ∷ x) (changed_same s id f e))
+    ] in
     go (same_id a.id id) h
 
 -- a change by another function that gives the same at the arena that is found
 pub changed_alike : (s : State) (id : ArenaId) (f g : Arena → Arena) → f (arena_of s id) ≡ g (arena_of s id) → changed s id f ≡ changed s id g
 changed_alike [] id f g h = refl
 changed_alike (a ∷ s) id f g h =
-    let P : Bool → Type 0 = λ b. f (if b then a else arena_of s id) ≡ g (if b then a else arena_of s id) → (if b then f a ∷ s else a ∷ changed s id f) ≡ (if b then g a ∷ s else a ∷ changed s id g) in
-    let go : (b : Bool) → P b = λ b. elim b as P [ true ↦ (λ e. ap (λ (x : Arena). x ∷ s) e) | false ↦ (λ e. ap (λ (x : State). a ∷ x) (changed_alike s id f g e)) ] in
+    let P : Bool → Type 0 = λ b. f (if b then a else arena_of s id) ≡ g (if b then a else arena_of s id)
+    → (if b then f a ∷ s else a ∷ changed s id f) ≡ (if b then g a ∷ s else a ∷ changed s id g) in
+    let go : (b : Bool) → P b = λ b. elim b as P [
+      | true ↦ (λ e. ap (λ (x : Arena). x ∷ s) e)
+      | false ↦ (λ e. ap (λ (x : State). a ∷ x) (changed_alike s id f g e))
+    ] in
     go (same_id a.id id) h
 
 -- an arena that was opened is looked up
@@ -141,7 +160,8 @@ Relates P s (Alters id f named) = P (arena_of s id) (f (arena_of s id))
 Relates P s Rests = ⊤
 
 -- and so each arena is
-pub made_lookup : (P : Arena → Arena → Type 0) → ((a : Arena) → P a a) → (s : State) (h : Change) → Relates P s h → (other : ArenaId) → P (arena_of s other) (arena_of (made h s) other)
+pub made_lookup : (P : Arena → Arena → Type 0) → ((a : Arena) → P a a) → (s : State) (h : Change) → Relates P s h → (other : ArenaId)
+    → P (arena_of s other) (arena_of (made h s) other)
 made_lookup P same s (Opens o) r other = opened_lookup P same s o r other
 made_lookup P same s (Alters id f named) r other = changed_lookup P f named same s id r other
 made_lookup P same s Rests r other = same (arena_of s other)
@@ -152,22 +172,26 @@ Becomes P s (Opens o) = P o
 Becomes P s (Alters id f named) = P (arena_of s id) → P (f (arena_of s id))
 Becomes P s Rests = ⊤
 
-opened_known : (P : Arena → Type 0) (s : State) (o : Arena) (id : ArenaId) → P o → (has_arena s id ≡ true → P (arena_of s id)) → has_arena (s ++ o ∷ []) id ≡ true → P (arena_of (s ++ o ∷ []) id)
+opened_known : (P : Arena → Type 0) (s : State) (o : Arena) (id : ArenaId) → P o → (has_arena s id ≡ true → P (arena_of s id))
+    → has_arena (s ++ o ∷ []) id ≡ true → P (arena_of (s ++ o ∷ []) id)
 opened_known P [] o id p h =
     elim (same_id o.id id) as (λ b. (if b then true else false) ≡ true → P (if b then o else no_arena id)) [ true ↦ (λ e. p) | false ↦ (λ e. absurd (cc)) ]
 opened_known P (a ∷ s) o id p h =
-    let Q : Bool → Type 0 = λ b. ((if b then true else has_arena s id) ≡ true → P (if b then a else arena_of s id)) → (if b then true else has_arena (s ++ o ∷ []) id) ≡ true → P (if b then a else arena_of (s ++ o ∷ []) id) in
+    let Q : Bool → Type 0 = λ b. ((if b then true else has_arena s id) ≡ true → P (if b then a else arena_of s id))
+    → (if b then true else has_arena (s ++ o ∷ []) id) ≡ true → P (if b then a else arena_of (s ++ o ∷ []) id) in
     let go : (b : Bool) → Q b = λ b. elim b as Q [ true ↦ (λ w e. w refl) | false ↦ (λ w e. opened_known P s o id p w e) ] in
     go (same_id a.id id) h
 
 Passes : (Arena → Type 0) → Arena → Arena → Type 0
 Passes P a b = P a → P b
 
-altered_known : (P : Arena → Type 0) (f : Arena → Arena) → KeepsName f → (s : State) (id other : ArenaId) → (P (arena_of s id) → P (f (arena_of s id))) → P (arena_of s other) → P (arena_of (changed s id f) other)
+altered_known : (P : Arena → Type 0) (f : Arena → Arena) → KeepsName f → (s : State) (id other : ArenaId) → (P (arena_of s id) → P (f (arena_of s id)))
+    → P (arena_of s other) → P (arena_of (changed s id f) other)
 unfolding Passes
 altered_known P f named s id other made p = changed_lookup (Passes P) f named (λ a q. q) s id made other p
 
-pub made_known : (P : Arena → Type 0) (s : State) (h : Change) → Becomes P s h → (id : ArenaId) → (has_arena s id ≡ true → P (arena_of s id)) → has_arena (made h s) id ≡ true → P (arena_of (made h s) id)
+pub made_known : (P : Arena → Type 0) (s : State) (h : Change) → Becomes P s h → (id : ArenaId) → (has_arena s id ≡ true → P (arena_of s id))
+    → has_arena (made h s) id ≡ true → P (arena_of (made h s) id)
 made_known P s (Opens o) b id p e = opened_known P s o id b p e
 made_known P s (Alters id f named) b other p e = altered_known P f named s id other b (p (sym (changed_has f named s id other) ∙ e))
 made_known P s Rests b id p e = p e
@@ -179,10 +203,12 @@ made_has s (Alters id f named) other t = changed_has f named s id other ∙ t
 made_has s Rests other t = t
 
 -- a swap that found its old word
-pub swapped_hit : (s : State) (id : ArenaId) (word old new found : ℕ) → (found == old) ≡ true → changed s id (swapped word old new found) ≡ changed s id (written word new)
+pub swapped_hit : (s : State) (id : ArenaId) (word old new found : ℕ) → (found == old) ≡ true
+    → changed s id (swapped word old new found) ≡ changed s id (written word new)
 swapped_hit s id word old new found e = ap (λ b. changed s id (λ a. record a { words = if b then slice_set a.words word new else a.words })) e
 
 -- a swap that found another word
 pub swapped_miss : (s : State) (id : ArenaId) (word old new found : ℕ) → (found == old) ≡ false → changed s id (swapped word old new found) ≡ s
 swapped_miss s id word old new found e =
-    changed_same s id (swapped word old new found) (ap (λ b. record (arena_of s id) { words = if b then slice_set (arena_of s id).words word new else (arena_of s id).words }) e)
+    changed_same s id (swapped word old new found)
+    (ap (λ b. record (arena_of s id) { words = if b then slice_set (arena_of s id).words word new else (arena_of s id).words }) e)

@@ -78,7 +78,9 @@ by_itself_still x y es p (inr whole) = inr (told_whole_still x.told y.told p.all
 pub Makes-then : (x y z : View) (es fs : List Entry) → Makes x y es → Makes y z fs → Makes x z (es ++ fs)
 Makes-then x y z es fs p q = record {
   all = p.all ++ q.all;
-  legal = IsLegal-append x.limit x.state p.all q.all p.legal (subst (λ (l : ℕ). IsLegal l (state_after x.limit x.state p.all) q.all) p.same_limit (subst (λ (s : State). IsLegal y.limit s q.all) p.reached q.legal));
+  legal = IsLegal-append x.limit x.state p.all q.all p.legal
+      (subst (λ (l : ℕ). IsLegal l (state_after x.limit x.state p.all) q.all) p.same_limit
+      (subst (λ (s : State). IsLegal y.limit s q.all) p.reached q.legal));
   reached = rw (state_after-append, ← p.reached, ← p.same_limit) q.reached;
   by_caller = rw filter-append (rw (p.by_caller, ← p.same_caller, q.by_caller) refl);
   alone = λ h. rw (p.alone h, q.alone (by_itself_still x y es p h)) refl;
@@ -91,7 +93,13 @@ Makes-then x y z es fs p q = record {
 
 TellsOn-none : (t : Option Told) → TellsOn t t [] []
 TellsOn-none None = tt
-TellsOn-none (Some t) = record { seen = sym (append-nil t.seen); mine = sym (append-nil t.mine); finds = FindsMore-none t.finds; rest = refl; quiet = λ i g l. refl }
+TellsOn-none (Some t) = record {
+  seen = sym (append-nil t.seen);
+  mine = sym (append-nil t.mine);
+  finds = FindsMore-none t.finds;
+  rest = refl;
+  quiet = λ i g l. refl;
+}
 
 -- no call
 pub Makes-none : (x : View) → Makes x x []

@@ -51,7 +51,8 @@ around x y own e m h =
     let l : IsLegal x.limit x.state (a.before ++ e ∷ a.later) = rw a.is at m.legal in
     let parts = IsLegal-split x.limit x.state a.before (e ∷ a.later) l in
     let now = state_after x.limit x.state a.before in
-    let reached : y.state ≡ state_after x.limit (after x.limit now e) a.later = m.reached ∙ (ap (λ (es : List Entry). state_after x.limit x.state es) a.is ∙ state_after-append x.limit x.state a.before (e ∷ a.later)) in
+    let reached : y.state ≡ state_after x.limit (after x.limit now e) a.later = m.reached
+    ∙ (ap (λ (es : List Entry). state_after x.limit x.state es) a.is ∙ state_after-append x.limit x.state a.before (e ∷ a.later)) in
     record {
       now = now;
       since = Grows-state_after x.limit x.state a.before parts.0;
@@ -69,7 +70,8 @@ unknown_before s t id g h =
     go (has_arena s id) refl
 
 -- an arena that a call opened is new
-pub opened_new : (x y : View) (own : List Entry) (c : Caller) (id : ArenaId) → Makes x y own → IsAmong (entry_of c (Open id) Fine) (but_loans own) → IsNew x y id
+pub opened_new : (x y : View) (own : List Entry) (c : Caller) (id : ArenaId) → Makes x y own → IsAmong (entry_of c (Open id) Fine) (but_loans own)
+    → IsNew x y id
 opened_new x y own c id m h =
     let a = around x y own (entry_of c (Open id) Fine) m h in
     record {
@@ -80,7 +82,8 @@ opened_new x y own c id m h =
 -- ---- allocate
 
 -- bytes that a call was given are new, and are given now
-pub allocated_gives : (x y : View) (own : List Entry) (c : Caller) (id : ArenaId) (size align place : ℕ) → Makes x y own → IsAmong (entry_of c (Allocate id size align) (Given place)) (but_loans own) → Gives x y id size align place
+pub allocated_gives : (x y : View) (own : List Entry) (c : Caller) (id : ArenaId) (size align place : ℕ) → Makes x y own
+    → IsAmong (entry_of c (Allocate id size align) (Given place)) (but_loans own) → Gives x y id size align place
 allocated_gives x y own c id size align place m h =
     let a = around x y own (entry_of c (Allocate id size align) (Given place)) m h in
     let given = (arena_of a.now id).given in
@@ -88,7 +91,8 @@ allocated_gives x y own c id size align place m h =
     let pos = power_pos align a.legal.1 in
     let up = le-rounded_up given align pos in
     let before = a.since.given id in
-    let now : (arena_of (changed a.now id (given_up_to (place + size))) id).given ≡ place + size = ap (λ (o : Arena). o.given) (lookup_changed a.now id (given_up_to (place + size)) (λ o. refl) (there_by_way a.now c id a.legal.0)) in
+    let now : (arena_of (changed a.now id (given_up_to (place + size))) id).given ≡ place + size =
+    ap (λ (o : Arena). o.given) (lookup_changed a.now id (given_up_to (place + size)) (λ o. refl) (there_by_way a.now c id a.legal.0)) in
     let later = a.until.given id in
     record {
       aligned = rw g.rounded (rounded_even given align pos);
@@ -100,7 +104,8 @@ allocated_gives x y own c id size align place m h =
 -- ---- close
 
 -- an arena that a call ended has ended
-pub closed_ended : (x y : View) (own : List Entry) (c : Caller) (id : ArenaId) (reply : Reply) → Makes x y own → IsAmong (entry_of c (End id) reply) (but_loans own) → (arena_of y.state id).life ≡ Ended
+pub closed_ended : (x y : View) (own : List Entry) (c : Caller) (id : ArenaId) (reply : Reply) → Makes x y own
+    → IsAmong (entry_of c (End id) reply) (but_loans own) → (arena_of y.state id).life ≡ Ended
 closed_ended x y own c id reply m h =
     let a = around x y own (entry_of c (End id) reply) m h in
     let o = over_at_end a.now id a.legal.0 a.legal.1 in

@@ -21,7 +21,8 @@ there_by_way s c id w =
     let P : Bool → Type 0 = λ b. has_arena s id ≡ b → has_arena s id ≡ true in
     let go : (b : Bool) → P b = λ b. elim b as P [
       | true ↦ (λ e. e)
-      | false ↦ (λ e. let n : length (arena_of s id).under_way ≡ 0 = ap (λ (a : Arena). length a.under_way) (arena_of-none s id e) in let l = w.1 in absurd (omega arith))
+      | false ↦ (λ e. let n : length (arena_of s id).under_way ≡ 0 = ap (λ (a : Arena). length a.under_way) (arena_of-none s id e) in let l = w.1 in
+          absurd (omega arith))
     ] in
     go (has_arena s id) refl
 
@@ -37,7 +38,8 @@ apart limit before between later c d id size align place size2 align2 place2 l =
     let u = state_after limit t between in
     let g = given_is limit (arena_of s id).given size align place first.1 in
     let g2 = given_is limit (arena_of u id).given size2 align2 place2 later_on.1.1 in
-    let now : (arena_of t id).given ≡ place + size = ap (λ (a : Arena). a.given) (lookup_changed s id (given_up_to (place + size)) (λ a. refl) (there_by_way s c id first.0.0)) in
+    let now : (arena_of t id).given ≡ place + size =
+    ap (λ (a : Arena). a.given) (lookup_changed s id (given_up_to (place + size)) (λ a. refl) (there_by_way s c id first.0.0)) in
     let more = (Grows-state_after limit t between later_on.0).given id in
     let up = le-rounded_up (arena_of u id).given align2 (power_pos align2 later_on.1.0.1) in (
       rw g.rounded (rounded_even (arena_of s id).given align (power_pos align first.0.1)),

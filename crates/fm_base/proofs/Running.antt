@@ -18,7 +18,8 @@ module _ {X Y : Type 0} (Step : X → List Entry → X → Type 0) (Ends : X →
 
   -- one step more
   pub led_more : (first x y : X) (own more : List Entry) → Led first x own → Step x more y → Led first y (own ++ more)
-  led_more first x y own more l s = record { onward = λ rest answer r. rw (append_assoc own more rest) (l.onward (more ++ rest) answer (goes_on y more rest s r)) }
+  led_more first x y own more l s =
+      record { onward = λ rest answer r. rw (append_assoc own more rest) (l.onward (more ++ rest) answer (goes_on y more rest s r)) }
 
   -- the end of the run
   pub led_ends : (first x : X) (own last : List Entry) (answer : Y) → Led first x own → Ends x last answer → Run Step Ends first (own ++ last) answer
@@ -40,5 +41,6 @@ run_outside Step Ends steps last x own answer (goes_on y first rest step run) =
     inside_after-append None first rest ∙ ap (λ i. inside_after i rest) (steps x first y step) ∙ run_outside Step Ends steps last y rest answer run
 
 -- What ends outside, from outside.
-pub stays_outside : (x y : View) (P : List Entry → Type 0) → ((own : List Entry) → P own → inside_after None own ≡ None) → x.inside ≡ None → Did x y P → y.inside ≡ None
+pub stays_outside : (x y : View) (P : List Entry → Type 0) → ((own : List Entry) → P own → inside_after None own ≡ None) → x.inside ≡ None → Did x y P
+    → y.inside ≡ None
 stays_outside x y P f out d = d.makes.inside ∙ ap (λ i. inside_after i d.own) out ∙ f d.own d.does

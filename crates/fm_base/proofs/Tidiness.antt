@@ -32,7 +32,8 @@ opened_zero limit id place h =
     ap (λ w. byte_of w (place % 8)) (zeros_at (words_within limit) (place / 8)) ∙ zero_byte (place % 8)
 
 -- a word that differs only below the given count leaves the bytes past it
-written_zero : (a : Arena) (word value : ℕ) → word < length a.words → DifferBelow a.given word (slice_index a.words word) value → IsZeroPast a → IsZeroPast (written word value a)
+written_zero : (a : Arena) (word value : ℕ) → word < length a.words → DifferBelow a.given word (slice_index a.words word) value → IsZeroPast a
+    → IsZeroPast (written word value a)
 written_zero a word value l d z place h =
     let P : Bool → Type 0 = λ b. (place / 8 == word) ≡ b → byte_at (slice_set a.words word value) place ≡ 0 in
     let go : (b : Bool) → P b = λ b. elim b as P [
@@ -55,7 +56,8 @@ unfolding KeepsZero
 same_zero a z = z
 
 -- a tidy call leaves the bytes past the given count
-zero_by : (limit : ℕ) (s : State) (c : Caller) (call : Call) (reply : Reply) → MayCall s c call → reply ≡ reply_to limit s call → IsTidyIn s call → Relates KeepsZero s (change_of limit c call reply)
+zero_by : (limit : ℕ) (s : State) (c : Caller) (call : Call) (reply : Reply) → MayCall s c call → reply ≡ reply_to limit s call → IsTidyIn s call
+    → Relates KeepsZero s (change_of limit c call reply)
 unfolding KeepsZero
 zero_by limit s c (Open id) reply may is t = λ z. opened_zero limit id
 zero_by limit s c (Enter id) Fine may is t = λ z. z
@@ -73,7 +75,8 @@ zero_by limit s c (SwapIf id word old new) (Found found) may is t =
     go (found == old) refl
 zero_by limit s c (Add id word n) (Found found) may is t =
     let now : found ≡ word_in s id word = cc in
-    written_zero (arena_of s id) word ((found + n) % 2 ^ 64) may.within (subst (λ (x : ℕ). DifferBelow (arena_of s id).given word (word_in s id word) ((x + n) % 2 ^ 64)) (sym now) t)
+    written_zero (arena_of s id) word ((found + n) % 2 ^ 64) may.within
+    (subst (λ (x : ℕ). DifferBelow (arena_of s id).given word (word_in s id word) ((x + n) % 2 ^ 64)) (sym now) t)
 zero_by limit s c (Allocate id size align) (Given place) may is t =
     let g = given_is limit (arena_of s id).given size align place is in
     let up = le-rounded_up (arena_of s id).given align (power_pos align may.1) in
@@ -86,12 +89,15 @@ zero_by limit s c (Shut id) Fine may is t = λ z. z
 zero_by limit s c (End id) reply may is t = λ z. z
 zero_by limit s c call reply may is t = tt
 
-zero_still : (limit : ℕ) (s : State) (e : Entry) → MayCall s e.caller e.call → e.reply ≡ reply_to limit s e.call → IsTidyIn s e.call → (other : ArenaId) → IsZeroPast (arena_of s other) → IsZeroPast (arena_of (after limit s e) other)
+zero_still : (limit : ℕ) (s : State) (e : Entry) → MayCall s e.caller e.call → e.reply ≡ reply_to limit s e.call → IsTidyIn s e.call → (other : ArenaId)
+    → IsZeroPast (arena_of s other) → IsZeroPast (arena_of (after limit s e) other)
 unfolding KeepsZero
-zero_still limit s e may is t other z = made_lookup KeepsZero same_zero s (change_of limit e.caller e.call e.reply) (zero_by limit s e.caller e.call e.reply may is t) other z
+zero_still limit s e may is t other z =
+    made_lookup KeepsZero same_zero s (change_of limit e.caller e.call e.reply) (zero_by limit s e.caller e.call e.reply may is t) other z
 
 -- a legal and tidy history leaves the bytes past the given counts
-pub zero_after : (limit : ℕ) (s : State) (es : List Entry) → IsLegal limit s es → IsTidy limit s es → ((id : ArenaId) → IsZeroPast (arena_of s id)) → (id : ArenaId) → IsZeroPast (arena_of (state_after limit s es) id)
+pub zero_after : (limit : ℕ) (s : State) (es : List Entry) → IsLegal limit s es → IsTidy limit s es → ((id : ArenaId) → IsZeroPast (arena_of s id))
+    → (id : ArenaId) → IsZeroPast (arena_of (state_after limit s es) id)
 zero_after limit s [] l t z id = z id
 zero_after limit s (e ∷ es) l t z id =
     zero_after limit (after limit s e) es l.2 t.1 (λ o. zero_still limit s e l.0 l.1 t.0 o (z o)) id
@@ -117,9 +123,12 @@ pub tidy_of : (s : State) (id : ArenaId) (end : ℕ) (call : Call) → end ≤ (
 tidy_of s id end (Open a) h b = tt
 tidy_of s id end (Enter a) h b = tt
 tidy_of s id end (Read a word) h b = tt
-tidy_of s id end (Write a word value) h b = λ at l p. let e : (arena_of s a).given ≡ (arena_of s id).given = ap (λ (x : ArenaId). (arena_of s x).given) b.0 in let k = b.1 in absurd (omega arith)
-tidy_of s id end (SwapIf a word old new) h b = λ is at l p. let e : (arena_of s a).given ≡ (arena_of s id).given = ap (λ (x : ArenaId). (arena_of s x).given) b.0 in b.1 at l (omega arith)
-tidy_of s id end (Add a word n) h b = λ at l p. let e : (arena_of s a).given ≡ (arena_of s id).given = ap (λ (x : ArenaId). (arena_of s x).given) b.0 in let k = b.1 in absurd (omega arith)
+tidy_of s id end (Write a word value) h b = λ at l p. let e : (arena_of s a).given ≡ (arena_of s id).given = ap (λ (x : ArenaId). (arena_of s x).given) b.0 in
+    let k = b.1 in absurd (omega arith)
+tidy_of s id end (SwapIf a word old new) h b = λ is at l p. let e : (arena_of s a).given ≡ (arena_of s id).given =
+    ap (λ (x : ArenaId). (arena_of s x).given) b.0 in b.1 at l (omega arith)
+tidy_of s id end (Add a word n) h b = λ at l p. let e : (arena_of s a).given ≡ (arena_of s id).given = ap (λ (x : ArenaId). (arena_of s x).given) b.0 in
+    let k = b.1 in absurd (omega arith)
 tidy_of s id end (Allocate a size align) h b = tt
 tidy_of s id end (Leave a) h b = tt
 tidy_of s id end (Hold a) h b = tt

@@ -37,15 +37,18 @@ put_byte words word v place within same =
     go (word == place / 8) refl
 
 -- A call that spares the byte leaves it.
-byte_by : (limit : ℕ) (s : State) (c : Caller) (call : Call) (reply : Reply) (id : ArenaId) (place : ℕ) → MayCall s c call → reply ≡ reply_to limit s call → Spares id place call
+byte_by : (limit : ℕ) (s : State) (c : Caller) (call : Call) (reply : Reply) (id : ArenaId) (place : ℕ) → MayCall s c call → reply ≡ reply_to limit s call
+    → Spares id place call
     → Relates (SameByte id place) s (change_of limit c call reply)
 unfolding SameByte
 byte_by limit s c (Open a) reply id place may is spares = λ e. ap (λ n. byte_of n (place % 8)) (zeros_at (words_within limit) (place / 8))
 byte_by limit s c (Enter a) Fine id place may is spares = λ e. refl
-byte_by limit s c (Write a word v) reply id place may is spares = λ e. put_byte (arena_of s a).words word v place may.within (λ at. absurd (spares (sym (arena_of-id s a) ∙ e, at)))
+byte_by limit s c (Write a word v) reply id place may is spares =
+    λ e. put_byte (arena_of s a).words word v place may.within (λ at. absurd (spares (sym (arena_of-id s a) ∙ e, at)))
 byte_by limit s c (SwapIf a word old new) (Found found) id place may is spares =
     let words = (arena_of s a).words in
-    let P : Bool → Type 0 = λ b. (found == old) ≡ b → (arena_of s a).id ≡ id → byte_at (if b then slice_set words word new else words) place ≡ byte_at words place in
+    let P : Bool → Type 0 = λ b. (found == old) ≡ b → (arena_of s a).id ≡ id
+    → byte_at (if b then slice_set words word new else words) place ≡ byte_at words place in
     let go : (b : Bool) → P b = λ b. elim b as P [
       | true ↦ (λ t e.
           let same : found ≡ old = grind (arith, nat_tests) in
@@ -66,11 +69,13 @@ byte_by limit s c (End a) reply id place may is spares = λ e. refl
 byte_by limit s c call reply id place may is spares = tt
 
 -- So it stays where it is looked up.
-byte_still : (limit : ℕ) (s : State) (e : Entry) (id : ArenaId) (place : ℕ) → MayCall s e.caller e.call → e.reply ≡ reply_to limit s e.call → Spares id place e.call
+byte_still : (limit : ℕ) (s : State) (e : Entry) (id : ArenaId) (place : ℕ) → MayCall s e.caller e.call → e.reply ≡ reply_to limit s e.call
+    → Spares id place e.call
     → byte_at (arena_of (after limit s e) id).words place ≡ byte_at (arena_of s id).words place
 unfolding SameByte
 byte_still limit s e id place may is spares =
-    made_lookup (SameByte id place) (λ a n. refl) s (change_of limit e.caller e.call e.reply) (byte_by limit s e.caller e.call e.reply id place may is spares) id (arena_of-id s id)
+    made_lookup (SameByte id place) (λ a n. refl) s (change_of limit e.caller e.call e.reply) (byte_by limit s e.caller e.call e.reply id place may is spares)
+    id (arena_of-id s id)
 
 -- A byte that all entries spare stays.
 pub spared : SparedStays

@@ -17,17 +17,20 @@ use Rattle.fm_base.proofs.Growing.{Makes-grows}
 -- ---- what single calls made
 
 -- what an `enter` that was Ok made
-pub entered_makes : (x y : View) (id : ArenaId) (u : Unit {0}) → Did x y (DoesEnter x.caller id (Ok u)) → MayUse id x.caller × Makes x y (entry_of x.caller (Enter id) Fine ∷ [])
+pub entered_makes : (x y : View) (id : ArenaId) (u : Unit {0}) → Did x y (DoesEnter x.caller id (Ok u))
+    → MayUse id x.caller × Makes x y (entry_of x.caller (Enter id) Fine ∷ [])
 entered_makes x y id u d = (d.does.0, subst (λ (es : List Entry). Makes x y es) d.does.1 d.makes)
 
 -- where the arena may be used, an `enter` is refused because the arena is closed
-pub refused_makes : (x y : View) (id : ArenaId) (r : Refusal) → MayUse id x.caller → Did x y (DoesEnter x.caller id (Err r)) → (r ≡ refusal.Closed) × Makes x y (refused_visit x.caller id)
+pub refused_makes : (x y : View) (id : ArenaId) (r : Refusal) → MayUse id x.caller → Did x y (DoesEnter x.caller id (Err r))
+    → (r ≡ refusal.Closed) × Makes x y (refused_visit x.caller id)
 refused_makes x y id refusal.Closed may d = (refl, subst (λ (es : List Entry). Makes x y es) d.does.1 d.makes)
 refused_makes x y id refusal.WrongThread may d = absurd (d.does.0 may)
 refused_makes x y id r may d = absurd d.does
 
 -- what one act inside an arena made
-pub act_makes : (x y : View) (id : ArenaId) (c : Caller) (f : ArenaId → Call) (reply : Reply) → x.inside ≡ Some id → x.caller ≡ c → Did x y (DoesAct x.inside x.caller f reply)
+pub act_makes : (x y : View) (id : ArenaId) (c : Caller) (f : ArenaId → Call) (reply : Reply) → x.inside ≡ Some id → x.caller ≡ c
+    → Did x y (DoesAct x.inside x.caller f reply)
     → Makes x y (entry_of c (f id) reply ∷ [])
 act_makes x y id c f reply i k d =
     let e : DoesAct (Some id) c f reply d.own = rw (i, k) at d.does in
@@ -39,7 +42,8 @@ pub record Patched (x y : View) (id : ArenaId) (word mask bits found : ℕ) : Ty
   pub tries : Tries id word (patched mask bits) found acts
   pub makes : Makes x y (entries_of x.caller acts)
 
-pub patch_makes : (x y : View) (id : ArenaId) (word mask bits found : ℕ) → x.inside ≡ Some id → Did x y (DoesPatch x.inside x.caller word mask bits found) → Patched x y id word mask bits found
+pub patch_makes : (x y : View) (id : ArenaId) (word mask bits found : ℕ) → x.inside ≡ Some id → Did x y (DoesPatch x.inside x.caller word mask bits found)
+    → Patched x y id word mask bits found
 patch_makes x y id word mask bits found i d =
     let e : DoesPatch (Some id) x.caller word mask bits found d.own = rw i at d.does in
     record { acts = e.0; tries = e.1; makes = subst (λ (es : List Entry). Makes x y es) e.2 d.makes }
@@ -51,13 +55,15 @@ pub can_reach : (x y : View) (id : ArenaId) (word : ℕ) → Makes x y (entry_of
 can_reach x y id word m h = record { id = id; inside = m.inside; given = (let g = (Makes-grows x y _ m).given id in omega arith) }
 
 -- acts of tries leave the caller inside
-pub tries_stay : (id : ArenaId) (word : ℕ) (f : ℕ → ℕ) (found : ℕ) (c : Caller) (acts : Acts) → Tries id word f found acts → inside_after (Some id) (entries_of c acts) ≡ Some id
+pub tries_stay : (id : ArenaId) (word : ℕ) (f : ℕ → ℕ) (found : ℕ) (c : Caller) (acts : Acts) → Tries id word f found acts
+    → inside_after (Some id) (entries_of c acts) ≡ Some id
 tries_stay id word f found c acts (looked w rest t) = tries_stay id word f found c rest t
 tries_stay id word f found c acts (missed w old new rest n t) = tries_stay id word f found c rest t
 tries_stay id word f found c acts hit = refl
 
 -- a change that gives the same at the word found
-pub Tries-alike : (id : ArenaId) (word : ℕ) (f g : ℕ → ℕ) (found : ℕ) (acts : Acts) → f found ≡ g found → Tries id word f found acts → Tries id word g found acts
+pub Tries-alike : (id : ArenaId) (word : ℕ) (f g : ℕ → ℕ) (found : ℕ) (acts : Acts) → f found ≡ g found → Tries id word f found acts
+    → Tries id word g found acts
 Tries-alike id word f g found acts e (looked w rest t) = looked w rest (Tries-alike id word f g found rest e t)
 Tries-alike id word f g found acts e (missed w old new rest n t) = missed w old new rest n (Tries-alike id word f g found rest e t)
 Tries-alike id word f g found acts e hit = subst (λ (n : ℕ). Tries id word g found ((SwapIf id word found n, Found found) ∷ [])) (sym e) hit

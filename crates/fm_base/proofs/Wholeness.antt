@@ -21,7 +21,8 @@ put limit a word value fits w = record { words = length-set _ _ _ ∙ w.words; f
 alike : (limit : ℕ) (a b : Arena) → b.words ≡ a.words → b.given ≡ a.given → IsWhole limit a → IsWhole limit b
 alike limit a b words given w = record { words = rw words w.words; fit = rw words w.fit; given = rw given w.given }
 
-whole_by : (limit : ℕ) (s : State) (c : Caller) (call : Call) (reply : Reply) → MayCall s c call → reply ≡ reply_to limit s call → Becomes (IsWhole limit) s (change_of limit c call reply)
+whole_by : (limit : ℕ) (s : State) (c : Caller) (call : Call) (reply : Reply) → MayCall s c call → reply ≡ reply_to limit s call
+    → Becomes (IsWhole limit) s (change_of limit c call reply)
 whole_by limit s c (Open id) reply may is = record {
   words = length-replicate {A = ℕ} (words_within limit) 0;
   fit = All-replicate (λ n. n < 2 ^ 64) (words_within limit) 0 (omega arith);
@@ -30,12 +31,14 @@ whole_by limit s c (Open id) reply may is = record {
 whole_by limit s c (Enter id) Fine may is = alike limit _ _ refl refl
 whole_by limit s c (Write id word value) reply may is = put limit (arena_of s id) word value may.fits
 whole_by limit s c (SwapIf id word old new) (Found found) may is =
-    elim (found == old) as (λ b. IsWhole limit (arena_of s id) → IsWhole limit (record (arena_of s id) { words = if b then slice_set (arena_of s id).words word new else (arena_of s id).words })) [
+    elim (found == old) as (λ b. IsWhole limit (arena_of s id)
+    → IsWhole limit (record (arena_of s id) { words = if b then slice_set (arena_of s id).words word new else (arena_of s id).words })) [
       | true ↦ put limit (arena_of s id) word new may.fits
       | false ↦ alike limit _ _ refl refl
     ]
 whole_by limit s c (Add id word n) (Found found) may is = put limit (arena_of s id) word ((found + n) % 2 ^ 64) (omega arith)
-whole_by limit s c (Allocate id size align) (Given place) may is = λ w. record { words = w.words; fit = w.fit; given = (given_is limit (arena_of s id).given size align place is).within }
+whole_by limit s c (Allocate id size align) (Given place) may is =
+    λ w. record { words = w.words; fit = w.fit; given = (given_is limit (arena_of s id).given size align place is).within }
 whole_by limit s c (Leave id) reply may is = alike limit _ _ refl refl
 whole_by limit s c (Hold id) Fine may is = alike limit _ _ refl refl
 whole_by limit s c (Unhold id) reply may is = alike limit _ _ refl refl
@@ -60,7 +63,8 @@ whole_always limit h l = whole_after limit [] h l (λ id k. absurd (cc))
 pub told_whole : (v : View) (t : Told) → IsSound v → v.told ≡ Some t → (id : ArenaId) → has_arena v.state id ≡ true → IsWhole v.limit (arena_of v.state id)
 told_whole v t sound is id h =
     let told : IsToldOf v.limit v.state v.caller (Some t) = rw is at sound.told in
-    subst (λ (s : State). IsWhole v.limit (arena_of s id)) (sym told.1) (whole_always v.limit t.seen told.0 id (subst (λ (s : State). has_arena s id ≡ true) told.1 h))
+    subst (λ (s : State). IsWhole v.limit (arena_of s id)) (sym told.1)
+    (whole_always v.limit t.seen told.0 id (subst (λ (s : State). has_arena s id ≡ true) told.1 h))
 
 -- No arena gave more bytes than the limit.
 pub given_within : (limit : ℕ) (h : List Entry) → IsLegal limit [] h → (id : ArenaId) → (arena_of (state_after limit [] h) id).given ≤ limit

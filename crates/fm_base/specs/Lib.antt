@@ -2,7 +2,6 @@ pub mod Arenas
 pub mod Calls
 pub mod Machine
 pub mod Histories
-pub mod Loans
 pub mod Visits
 pub mod Finds
 pub mod View

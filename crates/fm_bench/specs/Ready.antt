@@ -4,7 +4,7 @@ use Rattle.fm_base.specs.declared.arena_id.ArenaId.{ArenaId}
 use Rattle.fm_base.specs.Arenas.{arena_of}
 use Rattle.fm_gate.specs.Standing.{IsOutside}
 use Rattle.fm_mono.specs.Shown.{Arenas, IsKnown, view_of}
-use Rattle.fm_pool_facts.specs.Views.{View, IsKnown as IsKnownTo, span}
+use Rattle.fm_pool_facts.specs.Views.{View, IsKnown as IsKnownTo, given_of}
 use Rattle.fm_rule.specs.declared.pool.Pool.{Pool}
 use Rattle.fm_segment.specs.Access as access
 use Rattle.fm_segment.specs.Region.{Region}
@@ -25,8 +25,12 @@ pub record AreReady (m : Arenas) (a b : Region) : Type 0 where
   pub first : CanAccess m a
   pub second : CanAccess m b
 
--- the pass is outside and knows the arenas, which have these words each
-pub record AreOpen (pool : Pool) (p : View) (arenas : List ArenaId) (words : ℕ) : Type 0 where
+-- the pass knows the arena, which has given these bytes
+pub record IsOpen (p : View) (bytes : ℕ) (a : ArenaId) : Type 0 where
+  pub known : IsKnownTo p a
+  pub given : bytes ≤ given_of p a
+
+-- the pass is outside, and the arenas are open so
+pub record AreOpen (pool : Pool) (p : View) (arenas : List ArenaId) (bytes : ℕ) : Type 0 where
   pub outside : IsOutside pool p
-  pub known : All (IsKnownTo p) arenas
-  pub wide : span pool.shape ≡ words
+  pub each : All (IsOpen p bytes) arenas

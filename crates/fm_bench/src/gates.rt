@@ -1,12 +1,12 @@
 ghost use Rattle.std.specs.Prelude.{◌≡◌, ◌*◌, ◌<◌, ◌≤◌, length, IfOk};
-ghost use Rattle.fm_pool_facts.specs.Views.{span};
+ghost use Rattle.fm_pool_facts.specs.Views.{given_of};
 ghost use Rattle.fm_calls.specs.Kept.{Lasts};
 ghost use Rattle.fm_gate.specs.Standing.{CanVisit, IsOutside};
-ghost use Rattle.fm_bench.specs.Ready.{AreOpen};
+ghost use Rattle.fm_bench.specs.Ready.{AreOpen, IsOpen};
 
 use fm_base::{ArenaId, Kind, Refusal};
 use fm_close::close;
-use fm_gate::{enter, leave, load, open_arena, store};
+use fm_gate::{allocate, enter, leave, load, open_arena, store};
 use fm_rule::{Pass, Pool};
 use fm_words::Shape;
 use std::alloc::Global;
@@ -27,7 +27,7 @@ const SHARE: u64 = 128;
 /// Each visit enters the arena, loads one word and leaves. Word w holds w times `count`, wrapping.
 pub fn gates<R: Wait>(rt: &R, alloc: Global, count: u64) -> Result<u64, Refusal> {
     let (pool, mut pass) = made(alloc, 1, 8_192)?;
-    let arena = open_arena(rt, &pool, &mut pass, Kind::Shared)?;
+    let arena = given(rt, &pool, &mut pass, WORDS * 8)?;
     for word in 0..WORDS {
         put(&pool, &mut pass, arena, word, word.wrapping_mul(count))?;
     }
@@ -70,7 +70,6 @@ fn made(alloc: Global, slots: u32, words: u32) -> Result<(Pool, Pass), Refusal>
     requires word { 0 < words }
     requires words { words ≤ 8192 }
     ensures outside { IfOk result (λ r. IsOutside r.0 r.1) }
-    ensures wide { IfOk result (λ r. span r.0.shape ≡ words) }
 {
     let shape = Shape {
         passes: 16,
@@ -83,6 +82,18 @@ fn made(alloc: Global, slots: u32, words: u32) -> Result<(Pool, Pass), Refusal>
     Pool::make(alloc, shape)
 }
 
+/// Opens an arena that gives so many bytes.
+fn given<R: Wait>(rt: &R, pool: &Pool, pass: &mut Pass, bytes: u64) -> Result<ArenaId, Refusal>
+    requires { IsOutside pool.now pass.old }
+    ensures outside { IsOutside pool.now pass.new }
+    ensures open { IfOk result (λ a. IsOpen pass.new bytes a) }
+    ensures lasts { Lasts pass.old pass.new }
+{
+    let arena = open_arena(rt, pool, pass, Kind::Shared)?;
+    allocate(rt, pool, pass, arena, bytes, 8)?;
+    Ok(arena)
+}
+
 /// Arenas in all slots. Word w of all of them holds w times a number, wrapping.
 fn opened<R: Wait>(
     rt: &R,
@@ -92,13 +103,12 @@ fn opened<R: Wait>(
     times: u64,
 ) -> Result<Vec<ArenaId>, Refusal>
     requires outside { IsOutside pool.now pass.old }
-    requires wide { span pool.now.shape ≡ 128 }
-    ensures arenas { IfOk result (λ arenas. AreOpen pool.now pass.new arenas.items 128) }
+    ensures arenas { IfOk result (λ arenas. AreOpen pool.now pass.new arenas.items 1024) }
     ensures many { IfOk result (λ arenas. length arenas.items ≡ 64) }
 {
     let mut arenas: Vec<ArenaId> = Vec::new(alloc);
     for slot in 0..u64::from(SLOTS) {
-        let arena = open_arena(rt, pool, pass, Kind::Shared)?;
+        let arena = given(rt, pool, pass, SHARE * 8)?;
         for word in 0..SHARE {
             put(
                 pool,
@@ -117,9 +127,9 @@ fn opened<R: Wait>(
 
 /// Loads a word of the arenas in a visit of its own.
 fn hop(pool: &Pool, pass: &mut Pass, arenas: &[ArenaId], word: u64) -> Result<u64, Refusal>
-    requires ready { AreOpen pool.now pass.old arenas.now 128 }
+    requires ready { AreOpen pool.now pass.old arenas.now 1024 }
     requires within { word < length arenas.now * 128 }
-    ensures { AreOpen pool.now pass.new arenas.now 128 }
+    ensures { AreOpen pool.now pass.new arenas.now 1024 }
 {
     visit(pool, pass, arenas[(word / SHARE) as usize], word % SHARE)
 }
@@ -127,7 +137,7 @@ fn hop(pool: &Pool, pass: &mut Pass, arenas: &[ArenaId], word: u64) -> Result<u6
 /// Loads a word in a visit of its own.
 fn visit(pool: &Pool, pass: &mut Pass, arena: ArenaId, word: u64) -> Result<u64, Refusal>
     requires ready { CanVisit pool.now pass.old arena }
-    requires within { word < span pool.now.shape }
+    requires within { 8 * word < given_of pass.old arena }
     ensures outside { IsOutside pool.now pass.new }
     ensures lasts { Lasts pass.old pass.new }
 {
@@ -140,7 +150,7 @@ fn visit(pool: &Pool, pass: &mut Pass, arena: ArenaId, word: u64) -> Result<u64,
 /// Stores a word in a visit of its own.
 fn put(pool: &Pool, pass: &mut Pass, arena: ArenaId, word: u64, v: u64) -> Result<(), Refusal>
     requires ready { CanVisit pool.now pass.old arena }
-    requires within { word < span pool.now.shape }
+    requires within { 8 * word < given_of pass.old arena }
     ensures outside { IsOutside pool.now pass.new }
     ensures lasts { Lasts pass.old pass.new }
 {

@@ -191,7 +191,8 @@ replaced_bytes at width rest word v h =
     bytes_of-add at (width + rest) (replaced word at width v)
     ∙ ap (λ bs. bs ++ bytes_of (width + rest) (replaced word at width v / 2 ^ (8 * at))) low
     ∙ ap (λ n. bytes_of at word ++ bytes_of (width + rest) n) parts.1
-    ∙ ap (λ bs. bytes_of at word ++ bs) (bytes_of-add width rest (hi * 2 ^ (8 * width) + v) ∙ ap (λ bs. bs ++ bytes_of rest ((hi * 2 ^ (8 * width) + v) / 2 ^ (8 * width))) mid ∙ ap (λ bs. bytes_of width v ++ bs) high)
+    ∙ ap (λ bs. bytes_of at word ++ bs) (bytes_of-add width rest (hi * 2 ^ (8 * width) + v)
+    ∙ ap (λ bs. bs ++ bytes_of rest ((hi * 2 ^ (8 * width) + v) / 2 ^ (8 * width))) mid ∙ ap (λ bs. bytes_of width v ++ bs) high)
 
 replaced_cut : (at width rest word v : ℕ) → v < 2 ^ (8 * width)
     → bytes_of (at + (width + rest)) (replaced word at width v)
@@ -208,7 +209,8 @@ replaced_cut at width rest word v h =
 pub bytes_of-replaced : (n at width word v : ℕ) → at + width ≤ n → v < 2 ^ (8 * width)
     → bytes_of n (replaced word at width v) ≡ take at (bytes_of n word) ++ (bytes_of width v ++ drop (at + width) (bytes_of n word))
 bytes_of-replaced n at width word v fits h =
-    let Cut : ℕ → Type 0 = λ m. bytes_of m (replaced word at width v) ≡ take at (bytes_of m word) ++ (bytes_of width v ++ drop (at + width) (bytes_of m word)) in
+    let Cut : ℕ → Type 0 = λ m. bytes_of m (replaced word at width v)
+    ≡ take at (bytes_of m word) ++ (bytes_of width v ++ drop (at + width) (bytes_of m word)) in
     subst Cut (filled n at width fits) (replaced_cut at width (n - at - width) word v h)
 
 -- The lane that was replaced is what was put there.

@@ -226,7 +226,8 @@ bytes_in-words_from zero bytes h fits =
 bytes_in-words_from (suc count) bytes h fits =
     let ih = bytes_in-words_from count (drop 8 bytes) (All-drop (λ b. b < 256) 8 bytes h) (omega (arith, length-drop 8 bytes)) in
     ap (λ bs. bytes_of 8 (number_of (take 8 bytes)) ++ bs) ih
-    ∙ elim (cases_lt (length bytes) 8) as (λ _. bytes_of 8 (number_of (take 8 bytes)) ++ (drop 8 bytes ++ replicate (8 * count - length (drop 8 bytes)) 0) ≡ bytes ++ replicate (8 * suc count - length bytes) 0) [
+    ∙ elim (cases_lt (length bytes) 8) as (λ _. bytes_of 8 (number_of (take 8 bytes)) ++ (drop 8 bytes ++ replicate (8 * count - length (drop 8 bytes)) 0)
+    ≡ bytes ++ replicate (8 * suc count - length bytes) 0) [
       | inl short ↦
           let all : take 8 bytes ≡ bytes = take_all 8 bytes (omega arith) in
           let none : drop 8 bytes ≡ [] = drop_all 8 bytes (omega arith) in
@@ -280,4 +281,9 @@ words_from-bytes_in [] h = refl
 words_from-bytes_in (w ∷ words) h =
     let first = All-head (λ w. w < 2 ^ 64) w words h in
     let eight = length-bytes_of 8 w in
-    rw (take_at (bytes_of 8 w) (bytes_in words) 8 eight, drop_at (bytes_of 8 w) (bytes_in words) 8 eight, number_of-bytes_of 8 w first, words_from-bytes_in words (All-tail (λ w. w < 2 ^ 64) w words h)) refl
+    rw (
+      take_at (bytes_of 8 w) (bytes_in words) 8 eight,
+      drop_at (bytes_of 8 w) (bytes_in words) 8 eight,
+      number_of-bytes_of 8 w first,
+      words_from-bytes_in words (All-tail (λ w. w < 2 ^ 64) w words h),
+    ) refl

@@ -1,10 +1,10 @@
 -- Steps put together into calls.
-use Rattle.std.proofs.Common.{◌≡◌, ℕ, false, List, [], ◌∷◌, ◌++◌, refl, ap, sym, ◌∙◌, subst, append_assoc, length, Option, Some, None, eq-eqb, All, get_or}
+use Rattle.std.proofs.Common.{◌≡◌, ◌≤◌, ℕ, false, List, [], ◌∷◌, ◌++◌, refl, ap, sym, ◌∙◌, subst, append_assoc, length, Option, Some, None, eq-eqb, All, get_or}
 use Rattle.std.proofs.lemmas.List.{append-nil}
 use Rattle.std.proofs.lemmas.List.Elements.{filter-append, All-nil}
 use Rattle.fm_base.specs.declared.caller.Caller.{Caller}
 use Rattle.fm_base.specs.declared.arena_id.ArenaId.{ArenaId}
-use Rattle.fm_base.specs.Arenas.{State, has_arena}
+use Rattle.fm_base.specs.Arenas.{State, has_arena, arena_of}
 use Rattle.fm_base.specs.Calls.{Call, Reply, Entry, entry_of}
 use Rattle.fm_base.specs.Histories.{IsLegal, state_after, made_by}
 use Rattle.fm_base.specs.Finds.{Find, Gathered, is_draw}
@@ -13,9 +13,10 @@ use Rattle.fm_base.proofs.Making.{state_after-append, IsLegal-split, inside_afte
 use Rattle.fm_base.proofs.Growing.{Grows-state_after}
 use Rattle.fm_words.specs.declared.shape.Shape.{Shape}
 use Rattle.fm_pool_facts.specs.declared.slot.Slot.{Slot}
-use Rattle.fm_pool_facts.specs.Views.{View, limit_of, state_in, IsSound}
+use Rattle.fm_pool_facts.specs.Views.{View, IsKnown, given_of, limit_of, state_in, IsSound}
 use Rattle.fm_pool_facts.specs.Steps.{Stepped, none_noted, acted}
-use Rattle.fm_calls.specs.Kept.{hand_next, hand_after, Goes, rest_of, Kept, Lasts}
+use Rattle.fm_calls.specs.Kept.{hand_next, hand_after, Goes, rest_of, Kept, HasEnded, Lasts}
+use Rattle.fm_calls.proofs.Lasting.{ended_after}
 
 -- ---- one step
 
@@ -153,7 +154,26 @@ reached {p = p} {q = q} g =
     }
 
 -- What was known is known.
-pub known_on : {p q : View} {own : List Entry} → Goes p q own → Lasts p q
+pub known_on : {p q : View} {own : List Entry} → Goes p q own → (a : ArenaId) → IsKnown p a → IsKnown q a
 known_on {p = p} {q = q} g a h =
     let r = reached g in
     ap (λ (s : State). has_arena s a) r.state ∙ (Grows-state_after (limit_of p.shape) (state_in p) g.more r.legal).has a h
+
+-- What had ended has ended.
+ended_on : {p q : View} {own : List Entry} → Goes p q own → (a : ArenaId) → HasEnded p a → HasEnded q a
+ended_on {p = p} {q = q} g a h =
+    let r = reached g in
+    record {
+      known = known_on g a h.known;
+      life = ap (λ (s : State). (arena_of s a).life) r.state ∙ ended_after (limit_of p.shape) (state_in p) g.more r.legal a h.known h.life;
+    }
+
+-- What was given is given.
+given_on : {p q : View} {own : List Entry} → Goes p q own → (a : ArenaId) → given_of p a ≤ given_of q a
+given_on {p = p} {q = q} g a =
+    let r = reached g in
+    subst (λ (s : State). given_of p a ≤ (arena_of s a).given) (sym r.state)
+    ((Grows-state_after (limit_of p.shape) (state_in p) g.more r.legal).given a)
+
+pub lasts_on : {p q : View} {own : List Entry} → Goes p q own → Lasts p q
+lasts_on g = record { given = given_on g; known = known_on g; ended = ended_on g }

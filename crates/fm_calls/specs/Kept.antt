@@ -1,13 +1,14 @@
 -- How a pass goes on by the entries of one of its calls.
-use Rattle.std.specs.Prelude.{◌≡◌, true, List, [], ◌∷◌, ◌++◌, All, ℕ}
+use Rattle.std.specs.Prelude.{◌≡◌, ◌≤◌, true, List, [], ◌∷◌, ◌++◌, All, ℕ}
 use Rattle.fm_base.specs.declared.arena_id.ArenaId.{ArenaId}
+use Rattle.fm_base.specs.Arenas.{Ended, arena_of}
 use Rattle.fm_base.specs.Calls.{Call, Open, Entry}
 use Rattle.fm_base.specs.Histories.{made_by}
 use Rattle.fm_base.specs.Finds.{Close, Rest, FindsMore}
 use Rattle.fm_base.specs.View.{inside_after}
 use Rattle.fm_words.specs.declared.shape.Shape.{Shape}
 use Rattle.fm_pool_facts.specs.declared.slot.Slot.{Slot}
-use Rattle.fm_pool_facts.specs.Views.{View, IsKnown, IsSound}
+use Rattle.fm_pool_facts.specs.Views.{View, IsKnown, IsSound, given_of, state_in}
 use Rattle.fm_pool_facts.specs.Steps.{but_first}
 
 -- the slots in hand: an arena is opened in the first one
@@ -56,17 +57,32 @@ rest_of p = record {
   whole = p.whole;
 }
 
--- The pass keeps faith with own entries that are as P says, and has what it had, but for these closes
-pub record KeptBut (old new : View) (closes : List Close) (P : List Entry → Type 0) : Type 0 where
+-- The pass keeps faith with own entries that are as P says, and has these
+pub record KeptAs (old new : View) (things : Rest) (P : List Entry → Type 0) : Type 0 where
   pub own : List Entry
   pub does : P own
   pub goes : Goes old new own
-  pub rest : rest_of new ≡ record (rest_of old) { closes = closes }
+  pub rest : rest_of new ≡ things
 
--- the same, and it has all that it had
+-- the same, and it has what it had, but for these closes
+abbrev pub KeptBut : View → View → List Close → (List Entry → Type 0) → Type 0
+KeptBut old new closes P = KeptAs old new (record (rest_of old) { closes = closes }) P
+
+-- but for these holds
+abbrev pub KeptHolding : View → View → List ArenaId → (List Entry → Type 0) → Type 0
+KeptHolding old new holds P = KeptAs old new (record (rest_of old) { holds = holds }) P
+
+-- and it has all that it had
 abbrev pub Kept : View → View → (List Entry → Type 0) → Type 0
 Kept old new P = KeptBut old new old.closes P
 
--- what was known is known
-abbrev pub Lasts : View → View → Type 0
-Lasts old new = (id : ArenaId) → IsKnown old id → IsKnown new id
+-- the arena is known, and it has ended
+pub record HasEnded (p : View) (id : ArenaId) : Type 0 where
+  pub known : IsKnown p id
+  pub life : (arena_of (state_in p) id).life ≡ Ended
+
+-- what was known is known, what was given is given, and what had ended has ended
+pub record Lasts (old new : View) : Type 0 where
+  pub given : (id : ArenaId) → given_of old id ≤ given_of new id
+  pub known : (id : ArenaId) → IsKnown old id → IsKnown new id
+  pub ended : (id : ArenaId) → HasEnded old id → HasEnded new id

@@ -2,3 +2,4 @@ pub mod Closes
 pub mod Shuts
 pub mod Looks
 pub mod Walks
+pub mod Lasting

@@ -1,6 +1,7 @@
 -- One visit of a mark.
 use Rattle.std.proofs.Common.{◌≡◌, ◌≢◌, ℕ, ◌+◌, ◌<◌, ◌==◌, true, false, List, [], ◌∷◌, ◌++◌, length, refl, ap, sym, ◌∙◌, subst, Some, None, arith, eq-eqb, inl}
 use Rattle.std.proofs.lemmas.Bool.Decides.{nat_tests}
+use Rattle.std.proofs.lemmas.List.{length-append}
 use Rattle.std.proofs.lemmas.List.Elements.{All-nil, All-cons}
 use Rattle.fm_base.specs.declared.arena_id.ArenaId.{ArenaId}
 use Rattle.fm_base.specs.Calls.{End, Fine, Entry, entry_of}
@@ -11,18 +12,18 @@ use Rattle.fm_pool_facts.specs.Views.{View}
 use Rattle.fm_pool_facts.specs.Words.{mark_of, own_word}
 use Rattle.fm_pool_facts.specs.Closes as closes
 use Rattle.fm_pool_facts.specs.Closes.{visit_by, visit_found, closes_after, visit_entries, visited_of, visited}
-use Rattle.fm_pool_facts.specs.Steps.{Stepped, note_of, pass_of}
+use Rattle.fm_pool_facts.specs.Steps.{Stepped, note_of, pass_of, is_clear}
 use Rattle.fm_rule.specs.declared.pool.Pool.{Pool}
-use Rattle.fm_calls.specs.Kept.{Goes}
+use Rattle.fm_calls.specs.Kept.{Goes, HasEnded}
 use Rattle.fm_calls.specs.Told.{silent_view}
-use Rattle.fm_calls.proofs.Going.{goes_of, made_by-one, NoDraws, rest_is, inside_is, mark_is, closes_is, known_on}
+use Rattle.fm_calls.proofs.Going.{goes_of, made_by-one, NoDraws, rest_is, inside_is, mark_is, closes_is, known_on, lasts_on}
 use Rattle.fm_calls.proofs.Telling.{silent_makes}
 use Rattle.fm_gate.specs.Standing.{IsOutside}
 use Rattle.fm_gate.proofs.Standing.{stands_outside}
 use Rattle.fm_close.specs.declared.shutting.Shutting.{Shutting}
 use Rattle.fm_close.specs.declared.outcome.Visit.TheVariants.{Next, Inside, Ended}
 use Rattle.fm_close.specs.Does.{visit_answer}
-use Rattle.fm_close.specs.Learnt.{CanWalk, Looked, HasEnded, AfterVisit}
+use Rattle.fm_close.specs.Learnt.{CanWalk, Looked, AfterVisit}
 use Rattle.fm_close.proofs.Closes.{visited_of-visited}
 
 -- No arena has the mark 0.
@@ -44,18 +45,26 @@ module _ {pool : Pool} {p q : View} {s : Shutting} (found : ℕ) (can : CanWalk 
       (record p { closes = closes_after s.arena x p.closes }) (visit_entries s.arena x p.caller) (note_of (Visits s.arena (pass_of s.next)) found p)) e step
 
   -- The mark was loaded once, and it is the one noted.
-  looked : Looked p q s
-  looked = record {
-    find = record {
-      step = Visits s.arena (pass_of s.next);
-      found = found;
-      seen = length (p.seen ++ step.others);
-      clear = _;
-      drew = None;
-    };
-    step = refl;
-    grown = ap (λ (x : View). x.finds) step.is_part;
-  }
+  looked : (v : closes.Visit) → visit_found p.shape s.arena s.next found ≡ v → Looked p q s (visit_entries s.arena v p.caller)
+  looked v e =
+      let before = p.seen ++ step.others in
+      let all : length q.seen ≡ length before + length (visit_entries s.arena v p.caller) = ap (λ (es : List Entry). length es) step.seen
+      ∙ (length-append before (visit_entries s.arena (visit_found p.shape s.arena s.next found) p.caller)
+      ∙ ap (λ (x : closes.Visit). length before + length (visit_entries s.arena x p.caller)) e) in
+      record {
+        find = record {
+          step = Visits s.arena (pass_of s.next);
+          found = found;
+          seen = length before;
+          clear = is_clear p;
+          drew = None;
+        };
+        step = refl;
+        seen = sym all;
+        clear = refl;
+        drew = refl;
+        grown = ap (λ (x : View). x.finds) step.is_part;
+      }
 
   goes_as : (v : closes.Visit) → visit_found p.shape s.arena s.next found ≡ v → Goes p q (visit_entries s.arena v p.caller)
   goes_as closes.Inside e = goes_of (step_as closes.Inside e) (record {
@@ -111,7 +120,7 @@ module _ {pool : Pool} {p q : View} {s : Shutting} (found : ℕ) (can : CanWalk 
       let g = goes_as closes.Inside e in
       record {
         did = record { own = []; does = refl; goes = g; rest = rest_is t };
-        looked = looked;
+        looked = looked closes.Inside e;
         answer = sym (ap (λ b. visit_answer s.next b (s.next + 1 == p.shape.passes)) names);
         close = refl;
         stands = (
@@ -127,7 +136,7 @@ module _ {pool : Pool} {p q : View} {s : Shutting} (found : ℕ) (can : CanWalk 
               omega arith,
         );
         outside = outside_by g;
-        lasts = known_on g;
+        lasts = lasts_on g;
       }
 
   module _ (other : found ≢ mark_of s.arena) where
@@ -148,7 +157,7 @@ module _ {pool : Pool} {p q : View} {s : Shutting} (found : ℕ) (can : CanWalk 
         ∙ visited_of-visited p.closes s.arena s.next can.walks.at in
         record {
           did = record { own = []; does = refl; goes = g; rest = rest_is t };
-          looked = looked;
+          looked = looked closes.Next e;
           answer = sym (ap (λ b. visit_answer s.next b (s.next + 1 == p.shape.passes)) names_not ∙ ap (visit_answer s.next false) last);
           close = refl;
           stands = record {
@@ -158,7 +167,7 @@ module _ {pool : Pool} {p q : View} {s : Shutting} (found : ℕ) (can : CanWalk 
             low = rw z (let l = can.walks.low in omega arith);
           };
           outside = outside_by g;
-          lasts = known_on g;
+          lasts = lasts_on g;
         }
 
     -- What is learnt where it doesn't, and is the last one: the arena ends at this step.
@@ -171,13 +180,16 @@ module _ {pool : Pool} {p q : View} {s : Shutting} (found : ℕ) (can : CanWalk 
         let t = step_as closes.Ended e in
         let mine = entry_of p.caller (End s.arena) Fine ∷ [] in
         let g : Goes p q mine = goes_as closes.Ended e in
-        let over : HasEnded q s.arena = closed_ended (silent_view p) (silent_view q) mine p.caller s.arena Fine (silent_makes g) (inl refl) in
+        let over : HasEnded q s.arena = record {
+          known = known_on g s.arena can.walks.known;
+          life = closed_ended (silent_view p) (silent_view q) mine p.caller s.arena Fine (silent_makes g) (inl refl);
+        } in
         record {
           did = record { own = mine; does = refl; goes = g; rest = rest_is t };
-          looked = looked;
+          looked = looked closes.Ended e;
           answer = sym (ap (λ b. visit_answer s.next b (s.next + 1 == p.shape.passes)) names_not ∙ ap (visit_answer s.next false) last);
           close = refl;
           stands = over;
           outside = outside_by g;
-          lasts = known_on g;
+          lasts = lasts_on g;
         }

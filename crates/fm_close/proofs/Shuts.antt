@@ -13,7 +13,7 @@ use Rattle.fm_pool_facts.specs.Closes.{begun, visited_of}
 use Rattle.fm_pool_facts.specs.Steps.{Stepped, none_noted}
 use Rattle.fm_rule.specs.declared.pool.Pool.{Pool}
 use Rattle.fm_calls.specs.Kept.{Goes}
-use Rattle.fm_calls.proofs.Going.{goes_of, goes_none, kept_none, made_by-one, no_draws, rest_is, inside_is, mark_is, closes_is, known_on}
+use Rattle.fm_calls.proofs.Going.{goes_of, goes_none, kept_none, made_by-one, no_draws, rest_is, inside_is, mark_is, closes_is, known_on, lasts_on}
 use Rattle.fm_gate.specs.Standing.{IsOutside, CanVisit}
 use Rattle.fm_gate.proofs.Standing.{stands_outside}
 use Rattle.fm_close.specs.Does as does
@@ -23,7 +23,14 @@ use Rattle.fm_close.proofs.Closes.{visited_of-begun}
 -- What is learnt where the kind isn't closed by hand: no step was made.
 pub after_kind : {pool : Pool} {p : View} {a : ArenaId} → CanVisit pool p a → IsSound p → ¬ (IsClosable a.kind)
     → AfterShut pool p p a (Err (refusal.CannotClose a.kind))
-after_kind can s kind = record { did = kept_none _ _ s (kind, refl, refl); walks = tt; outside = can.outside; lasts = known_on (goes_none s) }
+after_kind can s kind = record {
+  did = kept_none _ _ s (kind, refl, refl);
+  walks = tt;
+  outside = can.outside;
+  wrong_thread = λ e. refl;
+  cannot_close = λ k e. refl;
+  lasts = lasts_on (goes_none s);
+}
 
 -- And where the pass may not use the arena.
 pub after_wrong_thread : {pool : Pool} {p : View} {a : ArenaId} → CanVisit pool p a → IsSound p → IsClosable a.kind → ¬ (MayUse a p.caller)
@@ -32,7 +39,9 @@ after_wrong_thread can s kind not_his = record {
   did = kept_none _ _ s (kind, not_his, refl);
   walks = tt;
   outside = can.outside;
-  lasts = known_on (goes_none s);
+  wrong_thread = λ e. refl;
+  cannot_close = λ k e. refl;
+  lasts = lasts_on (goes_none s);
 }
 
 shut_held : (holds : ℕ) → 0 < holds → shut_by holds ≡ Held holds
@@ -69,7 +78,9 @@ module _ {pool : Pool} {p q : View} {a : ArenaId} (word : ℕ) (can : CanVisit p
         did = record { own = entry_of p.caller (Shut a) Closed ∷ []; does = (kind, may, refl); goes = shut_goes Closed r; rest = rest_is (shut_as Closed r) };
         walks = tt;
         outside = still_outside Closed r;
-        lasts = known_on (shut_goes Closed r);
+        wrong_thread = λ e. absurd (cc);
+        cannot_close = λ k e. absurd (cc);
+        lasts = lasts_on (shut_goes Closed r);
       }
 
   -- What is learnt where it has holds.
@@ -85,7 +96,9 @@ module _ {pool : Pool} {p q : View} {a : ArenaId} (word : ℕ) (can : CanVisit p
         };
         walks = tt;
         outside = still_outside (Held holds) r;
-        lasts = known_on (shut_goes (Held holds) r);
+        wrong_thread = λ e. absurd (cc);
+        cannot_close = λ k e. absurd (cc);
+        lasts = lasts_on (shut_goes (Held holds) r);
       }
 
   -- What is learnt where it is shut now: the close has visited no mark.
@@ -103,5 +116,7 @@ module _ {pool : Pool} {p q : View} {a : ArenaId} (word : ℕ) (can : CanVisit p
           low = (let n = g.sound.number in omega arith);
         };
         outside = still_outside Fine r;
-        lasts = known_on g;
+        wrong_thread = λ e. absurd (cc);
+        cannot_close = λ k e. absurd (cc);
+        lasts = lasts_on g;
       }

@@ -12,13 +12,13 @@ use Rattle.fm_base.specs.View.{but_loans}
 use Rattle.fm_pool_facts.specs.Views.{View}
 use Rattle.fm_pool_facts.specs.Closes.{close_of, visited, dropped}
 use Rattle.fm_rule.specs.declared.pool.Pool.{Pool}
-use Rattle.fm_calls.specs.Kept.{Goes, rest_of}
-use Rattle.fm_calls.proofs.Going.{goes_then, known_on}
+use Rattle.fm_calls.specs.Kept.{Goes, rest_of, HasEnded}
+use Rattle.fm_calls.proofs.Going.{goes_then, lasts_on}
 use Rattle.fm_close.specs.declared.shutting.Shutting.{Shutting}
 use Rattle.fm_close.specs.declared.outcome.Visit.{Visit}
 use Rattle.fm_close.specs.declared.outcome.Visit.TheVariants.{Next, Inside, Ended}
 use Rattle.fm_close.specs.Does.{DoesShut}
-use Rattle.fm_close.specs.Learnt.{CanWalk, HasEnded, AfterShut, AfterVisit, Walked, AfterClose}
+use Rattle.fm_close.specs.Learnt.{CanWalk, AfterShut, AfterVisit, Walked, AfterClose}
 use Rattle.fm_close.proofs.Closes.{dropped-visited, dropped-begun}
 
 -- ---- the walk
@@ -56,7 +56,7 @@ visit_last {p = p} {r = r} a =
     record {
       goes = subst (λ (es : List Entry). Goes p r es) a.did.does a.did.goes;
       rest = a.did.rest;
-      swept = record { outside = a.outside; ended = ap (λ (x : Shutting). x.ended) a.close; over = a.stands };
+      swept = record { outside = a.outside; ended = ap (λ (x : Shutting). x.ended) a.close };
       over = subst (λ (i : ArenaId). HasEnded r i) arena a.stands;
     }
 
@@ -103,7 +103,9 @@ after_walk {p = p} {q = q} {r = r} {a = a} {s = s} u h w =
       };
       ended = subst (λ (i : ArenaId). HasEnded r i) arena w.over;
       outside = w.swept.outside;
-      lasts = known_on all;
+      wrong_thread = λ e. absurd (cc);
+      cannot_close = λ k e. absurd (cc);
+      lasts = lasts_on all;
     }
 
 refused_does : (c : Caller) (a : ArenaId) (refusal : Refusal) (own : List Entry) → DoesShut c a (Err refusal) own → DoesClose c a (Err refusal) (but_loans own)
@@ -114,10 +116,12 @@ refused_does c a (refusal.Held holds) own d = (d.0, d.1, d.2, rw d.3 refl)
 refused_does c a r own d = absurd d
 
 -- What is learnt where the arena couldn't be shut.
-pub after_refused : {pool : Pool} {p q : View} {a : ArenaId} (refusal : Refusal) → AfterShut pool p q a (Err refusal) → AfterClose pool p q a (Err refusal)
-after_refused {p = p} {a = a} refusal h = record {
-  did = record { own = h.did.own; does = refused_does p.caller a refusal h.did.own h.did.does; goes = h.did.goes; rest = h.did.rest };
+pub after_refused : {pool : Pool} {p q : View} {a : ArenaId} (why : Refusal) → AfterShut pool p q a (Err why) → AfterClose pool p q a (Err why)
+after_refused {p = p} {a = a} why h = record {
+  did = record { own = h.did.own; does = refused_does p.caller a why h.did.own h.did.does; goes = h.did.goes; rest = h.did.rest };
   ended = tt;
   outside = h.outside;
+  wrong_thread = λ e. let same : why ≡ refusal.WrongThread = cc in h.wrong_thread (ap (λ (r : Refusal). Err r) same);
+  cannot_close = λ k e. let same : why ≡ refusal.CannotClose k = cc in h.cannot_close k (ap (λ (r : Refusal). Err r) same);
   lasts = h.lasts;
 }

@@ -1,18 +1,19 @@
 -- What each call of a close asks for, and what its caller learns: one record each.
-use Rattle.std.specs.Prelude.{◌≡◌, ◌≢◌, ◌+◌, ◌<◌, ◌==◌, true, false, List, [], ◌∷◌, ◌++◌, Some, Result, Ok, Err, IfOk}
+use Rattle.std.specs.Prelude.{◌≡◌, ◌≢◌, ◌+◌, ◌<◌, ◌==◌, true, false, List, [], ◌∷◌, ◌++◌, length, Some, None, Result, Ok, Err, IfOk}
 use Rattle.fm_base.specs.declared.arena_id.ArenaId.{ArenaId}
+use Rattle.fm_base.specs.declared.kind.Kind.{Kind}
 use Rattle.fm_base.specs.declared.refusal.Refusal.{Refusal}
-use Rattle.fm_base.specs.Arenas.{Ended as IsOver, arena_of}
-use Rattle.fm_base.specs.Calls.{End, Fine, entry_of}
+use Rattle.fm_base.specs.declared.refusal.Refusal.TheVariants.{WrongThread, CannotClose}
+use Rattle.fm_base.specs.Calls.{End, Fine, Entry, entry_of}
 use Rattle.fm_base.specs.Does.{DoesClose}
 use Rattle.fm_base.specs.Finds.{Close, Find, Visits}
 use Rattle.fm_base.specs.View.{but_loans}
-use Rattle.fm_pool_facts.specs.Views.{View, IsKnown, state_in}
+use Rattle.fm_pool_facts.specs.Views.{View, IsKnown}
 use Rattle.fm_pool_facts.specs.Closes.{close_of, visited_of, visited, dropped}
-use Rattle.fm_pool_facts.specs.Steps.{pass_of}
+use Rattle.fm_pool_facts.specs.Steps.{pass_of, is_clear}
 use Rattle.fm_pool_facts.specs.Words.{mark_of}
 use Rattle.fm_rule.specs.declared.pool.Pool.{Pool}
-use Rattle.fm_calls.specs.Kept.{Goes, KeptBut, Kept, rest_of, Lasts}
+use Rattle.fm_calls.specs.Kept.{Goes, KeptBut, Kept, rest_of, HasEnded, Lasts}
 use Rattle.fm_gate.specs.Standing.{IsOutside}
 use Rattle.fm_close.specs.declared.shutting.Shutting.{Shutting}
 use Rattle.fm_close.specs.declared.outcome.Visit.{Visit}
@@ -32,14 +33,9 @@ pub record CanWalk (pool : Pool) (p : View) (s : Shutting) : Type 0 where
   pub outside : IsOutside pool p
   pub walks : IsUnderWay p s
 
--- the arena has ended
-abbrev pub HasEnded : View → ArenaId → Type 0
-HasEnded p id = (arena_of (state_in p) id).life ≡ IsOver
-
 pub record CanSweep (pool : Pool) (p : View) (s : Shutting) : Type 0 where
   pub outside : IsOutside pool p
   pub ended : s.ended ≡ true
-  pub over : HasEnded p s.arena
 
 -- ---- what is learnt
 
@@ -53,6 +49,9 @@ pub record AfterShut (pool : Pool) (old new : View) (id : ArenaId) (result : Res
   pub did : KeptBut old new (closes_shut id result old.closes) (DoesShut old.caller id result)
   pub walks : IfOk result (λ s. IsUnderWay new s)
   pub outside : IsOutside pool new
+  -- then the pass is as it was
+  pub wrong_thread : result ≡ Err WrongThread → new ≡ old
+  pub cannot_close : (kind : Kind) → result ≡ Err (CannotClose kind) → new ≡ old
   pub lasts : Lasts old new
 
 -- the closes of a pass after a visit
@@ -67,16 +66,19 @@ StandsAfter p s Next = IsUnderWay p s
 StandsAfter p s (Inside k) = IsUnderWay p s × (k ≢ p.caller.number)
 StandsAfter p s Ended = HasEnded p s.arena
 
--- The one mark that the visit loaded, of the walk's next number
-pub record Looked (old new : View) (s : Shutting) : Type 0 where
+-- The one mark that the visit loaded, of the walk's next number, as the finds keep it; these are the visit's own entries
+pub record Looked (old new : View) (s : Shutting) (own : List Entry) : Type 0 where
   pub find : Find
   pub step : find.step ≡ Visits s.arena (pass_of s.next)
+  pub seen : find.seen + length own ≡ length new.seen
+  pub clear : find.clear ≡ is_clear old
+  pub drew : find.drew ≡ None
   pub grown : new.finds ≡ old.finds ++ find ∷ []
 
 -- of `visit`: its answer is by the mark that it loaded
 pub record AfterVisit (pool : Pool) (old new : View) (s t : Shutting) (result : Visit) : Type 0 where
   pub did : KeptBut old new (closes_visited s.arena result old.closes) (DoesVisit old.caller s.arena result)
-  pub looked : Looked old new s
+  pub looked : Looked old new s did.own
   pub answer : result ≡ visit_answer s.next (looked.find.found == mark_of s.arena) (s.next + 1 == old.shape.passes)
   pub close : t ≡ after_visit s result
   pub stands : StandsAfter new t result
@@ -95,4 +97,7 @@ pub record AfterClose (pool : Pool) (old new : View) (id : ArenaId) (result : Re
   pub did : Kept old new (λ own. DoesClose old.caller id result (but_loans own))
   pub ended : IfOk result (λ _. HasEnded new id)
   pub outside : IsOutside pool new
+  -- then the pass is as it was
+  pub wrong_thread : result ≡ Err WrongThread → new ≡ old
+  pub cannot_close : (kind : Kind) → result ≡ Err (CannotClose kind) → new ≡ old
   pub lasts : Lasts old new

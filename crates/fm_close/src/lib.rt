@@ -9,12 +9,14 @@
 
 mod closable;
 mod closing;
+mod laws;
 mod outcome;
 mod shutting;
 mod sweeping;
 mod visiting;
 
 pub use closing::close;
+pub use laws::a_close_lasts;
 pub use outcome::Visit;
 pub use shutting::{Shutting, shut};
 pub use sweeping::sweep;

@@ -1,14 +1,20 @@
-ghost use Rattle.std.specs.Prelude.{◌≡◌, ◌<◌};
+ghost use Rattle.std.specs.Prelude.{◌≡◌, ◌≢◌, ◌<◌, IfOk, IfSome};
 ghost use Rattle.fm_pool_facts.specs.Views.{span};
-ghost use Rattle.fm_gate.specs.Standing.{IsOutside};
+ghost use Rattle.fm_pool_facts.specs.Views.{IsKnown};
+ghost use Rattle.fm_gate.specs.Standing.{CanVisit, IsOutside};
+ghost use Rattle.fm_close.specs.Learnt.{CanWalk, IsUnderWay, StandsAfter};
+ghost use Rattle.fm_close.specs.Does.{after_visit};
 
-use crate::{Visit, close, shut, sweep, visit};
-use fm_base::{Kind, Refusal};
-use fm_gate::{enter, is_alive, leave, load, open_arena, store};
+use crate::{Shutting, Visit, a_close_lasts, close, shut, sweep, visit};
+use fm_base::{ArenaId, Kind, Refusal};
+use fm_gate::{
+    a_hold_stands, allocate, enter, hold, is_alive, leave, load, open_arena, store, unhold,
+};
 use fm_rule::{Pass, Pool};
 use fm_words::Shape;
 use std::alloc::AllocGlobal;
 use std::process::Abort;
+use std::sync::Wait;
 
 /// A pool of three passes, whose slots have one word each.
 fn made<R: Abort + AllocGlobal>(rt: &R, slots: u32) -> (Pool, Pass)
@@ -33,6 +39,7 @@ fn made<R: Abort + AllocGlobal>(rt: &R, slots: u32) -> (Pool, Pass)
 fn one_pass_uses_the_only_slot_and_closes_it(rt: HostRuntime) {
     let (pool, mut pass) = made(&rt, 1);
     let a = open_arena(&rt, &pool, &mut pass, Kind::Shared).expect(&rt, "a slot");
+    assert_eq!(rt; allocate(&rt, &pool, &mut pass, a, 8, 8), Ok(0));
     assert_eq!(rt; enter(&pool, &mut pass, a), Ok(()));
     store(&pool, &mut pass, 0, 9);
     assert_eq!(rt; load(&pool, &mut pass, 0), 9);
@@ -63,4 +70,146 @@ fn refused_closes_leave_what_was_there(rt: HostRuntime) {
     assert_eq!(rt; close(&rt, &pool, &mut pass, a), Err(Refusal::Closed));
     assert_eq!(rt; is_alive(&pool, &mut pass, a), Ok(false));
     assert_eq!(rt; is_alive(&pool, &mut pass, global), Ok(true));
+}
+
+/// Tries to close an arena that is held, and answers what came of it.
+fn close_held<R: Wait>(
+    rt: &R,
+    pool: &Pool,
+    pass: &mut Pass,
+    a: ArenaId,
+) -> Result<Result<(), Refusal>, Refusal>
+    requires { CanVisit pool.now pass.old a }
+    ensures { CanVisit pool.now pass.new a }
+{
+    let held = hold(rt, pool, pass, a)?;
+    let answer = close(rt, pool, pass, a);
+    a_hold_stands();
+    unhold(pool, pass, held);
+    Ok(answer)
+}
+
+/// The arena takes no hold, and gives nothing.
+fn is_over<R: Wait>(rt: &R, pool: &Pool, pass: &mut Pass, a: ArenaId) -> bool
+    requires { CanVisit pool.now pass.old a }
+    ensures { CanVisit pool.now pass.new a }
+{
+    let answer = close_held(rt, pool, pass, a);
+    let given = allocate(rt, pool, pass, a, 1, 1);
+    answer == Err(Refusal::Closed) && given == Err(Refusal::Closed)
+}
+
+#[test]
+fn an_arena_is_closed_once_its_holds_are_spent(rt: HostRuntime) {
+    let (pool, mut pass) = made(&rt, 1);
+    let a = open_arena(&rt, &pool, &mut pass, Kind::Shared).expect(&rt, "a slot");
+    let refused = Ok(Err(Refusal::Held(1)));
+    assert_eq!(rt; close_held(&rt, &pool, &mut pass, a), refused);
+    assert_eq!(rt; is_over(&rt, &pool, &mut pass, a), false);
+    assert_eq!(rt; close(&rt, &pool, &mut pass, a), Ok(()));
+    assert_eq!(rt; is_over(&rt, &pool, &mut pass, a), true);
+}
+
+/// Visits another arena in the midst of a close.
+fn look_beside(pool: &Pool, pass: &mut Pass, other: ArenaId, s: &Shutting) -> Result<bool, Refusal>
+    requires walk { CanWalk pool.now pass.old s.now }
+    requires known { IsKnown pass.old other }
+    ensures walk { CanWalk pool.now pass.new s.now }
+    ensures known { IsKnown pass.new other }
+{
+    a_close_lasts();
+    is_alive(pool, pass, other)
+}
+
+/// Visits another arena and then a mark.
+fn step_beside(pool: &Pool, pass: &mut Pass, other: ArenaId, s: &mut Shutting) -> Option<Visit>
+    requires walk { CanWalk pool.now pass.old s.old }
+    requires known { IsKnown pass.old other }
+    ensures outside { IsOutside pool.now pass.new }
+    ensures known { IsKnown pass.new other }
+    ensures stands { IfSome result (λ v. StandsAfter pass.new s.new v) }
+    ensures close { IfSome result (λ v. s.new ≡ after_visit s.old v) }
+{
+    match look_beside(pool, pass, other, s) {
+        Ok(true) => Some(visit(pool, pass, s)),
+        Ok(false) | Err(_) => None,
+    }
+}
+
+#[test]
+fn another_arena_is_used_in_the_midst_of_a_close(rt: HostRuntime) {
+    let (pool, mut pass) = made(&rt, 2);
+    let a = open_arena(&rt, &pool, &mut pass, Kind::Shared).expect(&rt, "a slot");
+    let b = open_arena(&rt, &pool, &mut pass, Kind::Confined).expect(&rt, "a slot");
+    let mut s = shut(&pool, &mut pass, a).expect(&rt, "alive");
+    assert_eq!(rt; step_beside(&pool, &mut pass, b, &mut s), Some(Visit::Next));
+    assert_eq!(rt; step_beside(&pool, &mut pass, b, &mut s), Some(Visit::Next));
+    assert_eq!(rt;
+        step_beside(&pool, &mut pass, b, &mut s),
+        Some(Visit::Ended)
+    );
+    assert_eq!(rt; is_alive(&pool, &mut pass, b), Ok(true));
+    sweep(&pool, &mut pass, s);
+    assert_eq!(rt; close(&rt, &pool, &mut pass, b), Ok(()));
+}
+
+/// Two arenas.
+fn opened<R: Abort + Wait>(rt: &R, pool: &Pool, pass: &mut Pass) -> (ArenaId, ArenaId)
+    requires outside { IsOutside pool.now pass.old }
+    ensures outside { IsOutside pool.now pass.new }
+    ensures known { IsKnown pass.new result.0 × IsKnown pass.new result.1 }
+    ensures apart { result.0 ≢ result.1 }
+{
+    let a = open_arena(rt, pool, pass, Kind::Shared).expect(rt, "a slot");
+    let b = open_arena(rt, pool, pass, Kind::Shared).expect(rt, "a slot");
+    (a, b)
+}
+
+/// Shuts an arena in the midst of a close.
+fn shut_beside(
+    pool: &Pool,
+    pass: &mut Pass,
+    arena: ArenaId,
+    other: &Shutting,
+) -> Result<Shutting, Refusal>
+    requires other { CanWalk pool.now pass.old other.now }
+    requires known { IsKnown pass.old arena }
+    requires apart { arena ≢ other.now.arena }
+    ensures outside { IsOutside pool.now pass.new }
+    ensures other { IsUnderWay pass.new other.now }
+    ensures walks { IfOk result (λ s. IsUnderWay pass.new s) }
+    ensures arena { IfOk result (λ s. s.arena ≡ arena) }
+{
+    a_close_lasts();
+    shut(pool, pass, arena)
+}
+
+/// Visits a mark for one close in the midst of another.
+fn visit_beside(pool: &Pool, pass: &mut Pass, s: &mut Shutting, other: &Shutting) -> Visit
+    requires walk { CanWalk pool.now pass.old s.old }
+    requires other { IsUnderWay pass.old other.now }
+    requires apart { s.old.arena ≢ other.now.arena }
+    ensures outside { IsOutside pool.now pass.new }
+    ensures other { IsUnderWay pass.new other.now }
+    ensures stands { StandsAfter pass.new s.new result }
+    ensures close { s.new ≡ after_visit s.old result }
+{
+    a_close_lasts();
+    visit(pool, pass, s)
+}
+
+#[test]
+fn two_arenas_are_closed_side_by_side(rt: HostRuntime) {
+    let (pool, mut pass) = made(&rt, 2);
+    let (a, b) = opened(&rt, &pool, &mut pass);
+    let mut s = shut(&pool, &mut pass, a).expect(&rt, "alive");
+    let mut t = shut_beside(&pool, &mut pass, b, &s).expect(&rt, "alive");
+    assert_eq!(rt; visit_beside(&pool, &mut pass, &mut s, &t), Visit::Next);
+    assert_eq!(rt; visit_beside(&pool, &mut pass, &mut t, &s), Visit::Next);
+    assert_eq!(rt; visit_beside(&pool, &mut pass, &mut s, &t), Visit::Next);
+    assert_eq!(rt; visit_beside(&pool, &mut pass, &mut s, &t), Visit::Ended);
+    sweep(&pool, &mut pass, s);
+    assert_eq!(rt; visit(&pool, &mut pass, &mut t), Visit::Next);
+    assert_eq!(rt; visit(&pool, &mut pass, &mut t), Visit::Ended);
+    sweep(&pool, &mut pass, t);
 }

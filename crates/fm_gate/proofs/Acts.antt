@@ -10,8 +10,8 @@ use Rattle.fm_pool_facts.specs.Views.{View}
 use Rattle.fm_pool_facts.specs.Steps.{Stepped, none_noted, acted}
 use Rattle.fm_rule.specs.declared.pool.Pool.{Pool}
 use Rattle.fm_calls.specs.Kept.{hand_next, hand_after, Goes}
-use Rattle.fm_calls.proofs.Going.{goes_of, made_by-acted, no_draws, rest_is, inside_is, mark_is, known_on}
-use Rattle.fm_gate.specs.Standing.{CanAct, CanLeave}
+use Rattle.fm_calls.proofs.Going.{goes_of, made_by-acted, no_draws, rest_is, inside_is, mark_is, lasts_on}
+use Rattle.fm_gate.specs.Standing.{CanReach, CanLeave}
 use Rattle.fm_gate.specs.Learnt.{AfterAct, AfterLeave}
 use Rattle.fm_gate.proofs.Standing.{stands_outside, stands_inside}
 
@@ -35,7 +35,7 @@ does_act i id c f reply e = subst (λ (x : Option ArenaId). DoesAct x c f reply 
 -- ---- an act
 
 module _ {p q : View} {f : ArenaId → Call} {reply : Reply} (is : IsAct f reply) (s : Stepped p q p (acted p.inside p.caller f reply) none_noted) where
-  act_goes : Goes p q (acted p.inside p.caller f reply)
+  pub act_goes : Goes p q (acted p.inside p.caller f reply)
   act_goes = goes_of s (record {
     shape = refl;
     home = refl;
@@ -49,7 +49,7 @@ module _ {p q : View} {f : ArenaId → Call} {reply : Reply} (is : IsAct f reply
       (made_by-acted p.inside p.caller f reply) no_draws
 
   -- What is learnt of one act.
-  pub after_act : {pool : Pool} {word : ℕ} → CanAct pool p word → AfterAct pool p q f reply
+  pub after_act : {pool : Pool} {word : ℕ} → CanReach pool p word → AfterAct pool p q f reply
   after_act can = record {
     did = record {
       own = acted p.inside p.caller f reply;
@@ -58,7 +58,7 @@ module _ {p q : View} {f : ArenaId → Call} {reply : Reply} (is : IsAct f reply
       rest = rest_is s;
     };
     inside = λ id now. stands_inside act_goes now.of now.no_number (inside_is s ∙ now.inside);
-    lasts = known_on act_goes;
+    lasts = lasts_on act_goes;
   }
 
 -- ---- leaving
@@ -92,5 +92,5 @@ module _ {p q : View} (s : Stepped p q (record p { inside = None; mark = None })
       rest = rest_is s;
     };
     outside = stands_outside unmark_goes can.inside.of can.inside.no_number (inside_is s) (mark_is s);
-    lasts = known_on unmark_goes;
+    lasts = lasts_on unmark_goes;
   }

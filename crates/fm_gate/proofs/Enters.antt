@@ -13,7 +13,7 @@ use Rattle.fm_pool_facts.specs.Words.{alive_holds, enter_found, inside_found}
 use Rattle.fm_pool_facts.specs.Steps.{Stepped, none_noted, acted}
 use Rattle.fm_rule.specs.declared.pool.Pool.{Pool}
 use Rattle.fm_calls.specs.Kept.{Goes, rest_of}
-use Rattle.fm_calls.proofs.Going.{IsOn, goes_of, goes_then, goes_none, kept_none, made_by-one, no_draws, rest_is, inside_is, mark_is, known_on}
+use Rattle.fm_calls.proofs.Going.{IsOn, goes_of, goes_then, goes_none, kept_none, made_by-one, no_draws, rest_is, inside_is, mark_is, lasts_on}
 use Rattle.fm_gate.specs.Standing.{CanVisit}
 use Rattle.fm_gate.specs.Learnt.{AfterEnter}
 use Rattle.fm_gate.proofs.Standing.{stands_outside, stands_inside}
@@ -22,7 +22,13 @@ use Rattle.fm_gate.proofs.Acts.{unmark_goes}
 -- What is learnt where the pass may not use the arena: no step was made.
 pub after_wrong_thread : {pool : Pool} {p : View} {a : ArenaId} → CanVisit pool p a → IsSound p → ¬ (MayUse a p.caller)
     → AfterEnter pool p p a (Err refusal.WrongThread)
-after_wrong_thread can s not_his = record { did = kept_none _ _ s (not_his, refl); inside = tt; outside = can.outside; lasts = known_on (goes_none s) }
+after_wrong_thread can s not_his = record {
+  did = kept_none _ _ s (not_his, refl);
+  inside = tt;
+  outside = can.outside;
+  wrong_thread = λ e. refl;
+  lasts = lasts_on (goes_none s);
+}
 
 -- To publish a mark makes no entry.
 pub mark_goes : {p q : View} {a : ArenaId} → Stepped p q (record p { mark = Some a }) [] none_noted → Goes p q []
@@ -79,7 +85,8 @@ module _ {pool : Pool} {p q r : View} {a : ArenaId} (word : ℕ) (can : CanVisit
         did = record { own = entry_of p.caller (Enter a) Fine ∷ []; does = (may, refl); goes = g; rest = same_rest };
         inside = stands_inside g can.outside.of can.outside.no_number (inside_is checks ∙ ap (inside_found a) e);
         outside = tt;
-        lasts = known_on g;
+        wrong_thread = λ e. absurd (cc);
+        lasts = lasts_on g;
       }
 
   module _ {s : View} (unmarks : Stepped r s (record r {
@@ -102,5 +109,6 @@ module _ {pool : Pool} {p q r : View} {a : ArenaId} (word : ℕ) (can : CanVisit
       did = record { own = entry_of p.caller (Enter a) Closed ∷ []; does = (may, refl); goes = refused; rest = rest_is unmarks ∙ same_rest };
       inside = tt;
       outside = stands_outside refused can.outside.of can.outside.no_number (inside_is unmarks) (mark_is unmarks);
-      lasts = known_on refused;
+      wrong_thread = λ e. absurd (cc);
+      lasts = lasts_on refused;
     }

@@ -14,7 +14,7 @@ use Rattle.fm_pool_facts.specs.Steps.{Stepped, none_noted, open_entries, first_s
 use Rattle.fm_rule.specs.declared.pool.Pool.{Pool}
 use Rattle.fm_calls.specs.Kept.{Goes}
 use Rattle.fm_calls.specs.Told.{silent_view}
-use Rattle.fm_calls.proofs.Going.{goes_of, goes_none, kept_none, no_draws, rest_is, inside_is, mark_is, known_on}
+use Rattle.fm_calls.proofs.Going.{goes_of, goes_none, kept_none, no_draws, rest_is, inside_is, mark_is, lasts_on}
 use Rattle.fm_calls.proofs.Telling.{silent_makes}
 use Rattle.fm_gate.specs.Standing.{CanOpen}
 use Rattle.fm_gate.specs.Learnt.{HasNoSlot, IsNew, AfterOpen}
@@ -41,9 +41,9 @@ after_no_slot can s e = record {
   did = kept_none _ _ s refl;
   is_new = tt;
   slot = tt;
-  no_slot = (refl, has_no_slot s e);
+  no_slot = (refl, has_no_slot s e, refl);
   outside = can.outside;
-  lasts = known_on (goes_none s);
+  lasts = lasts_on (goes_none s);
 }
 
 -- ---- with a slot
@@ -88,5 +88,5 @@ module _ {p q : View} {a : ArenaId} (s : Stepped p q (record p { hand = but_firs
     slot = has_slot slot sound e;
     no_slot = tt;
     outside = stands_outside opened can.outside.of can.outside.no_number (inside_is s ∙ can.outside.outside) (mark_is s ∙ can.outside.unmarked);
-    lasts = known_on opened;
+    lasts = lasts_on opened;
   }

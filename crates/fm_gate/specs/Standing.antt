@@ -1,11 +1,12 @@
 -- Where a pass of a pool stands between two calls, and what a call asks for.
-use Rattle.std.specs.Prelude.{◌≡◌, ◌≢◌, ◌<◌, ℕ, Some, None}
+use Rattle.std.specs.Prelude.{◌≡◌, ◌≢◌, ◌<◌, ◌*◌, ℕ, bit_and, Some, None}
 use Rattle.fm_base.specs.declared.arena_id.ArenaId.{ArenaId}
 use Rattle.fm_base.specs.declared.kind.Kind.{Kind}
 use Rattle.fm_base.specs.declared.kind.Kind.TheVariants.{Automatic}
-use Rattle.fm_pool_facts.specs.Views.{View, IsKnown, span}
+use Rattle.fm_pool_facts.specs.Views.{View, In, IsKnown, given_of}
 use Rattle.fm_rule.specs.declared.pool.Pool.{Pool}
 use Rattle.fm_rule.specs.Passes.{IsOf}
+use Rattle.fm_gate.specs.declared.held.Hold.{Hold}
 
 -- in no arena; it publishes no mark, and has no number in its hand
 pub record IsOutside (pool : Pool) (p : View) : Type 0 where
@@ -25,11 +26,16 @@ pub record CanVisit (pool : Pool) (p : View) (id : ArenaId) : Type 0 where
   pub outside : IsOutside pool p
   pub known : IsKnown p id
 
--- inside an arena that has the word
-pub record CanAct (pool : Pool) (p : View) (word : ℕ) : Type 0 where
+-- inside an arena, where the word has a given byte
+pub record CanReach (pool : Pool) (p : View) (word : ℕ) : Type 0 where
   pub id : ArenaId
   pub inside : IsInside pool p id
-  pub within : word < span p.shape
+  pub given : 8 * word < given_of p id
+
+-- the word can be reached, and the bits lie under the mask
+pub record CanPatch (pool : Pool) (p : View) (word mask bits : ℕ) : Type 0 where
+  pub reach : CanReach pool p word
+  pub under : bit_and bits mask ≡ bits
 
 -- inside an arena
 pub record CanLeave (pool : Pool) (p : View) : Type 0 where
@@ -40,3 +46,10 @@ pub record CanLeave (pool : Pool) (p : View) : Type 0 where
 pub record CanOpen (pool : Pool) (p : View) (kind : Kind) : Type 0 where
   pub outside : IsOutside pool p
   pub by_hand : kind ≢ Automatic
+
+-- the pass took the hold, and may stand anywhere
+pub record CanUnhold (pool : Pool) (p : View) (hold : Hold) : Type 0 where
+  pub of : IsOf pool p
+  pub known : IsKnown p hold.arena
+  pub held : In hold.arena p.holds
+  pub by_hand : hold.arena.kind ≢ Automatic

@@ -1,12 +1,12 @@
 ghost use Rattle.fm_base.specs.Calls as machine;
-ghost use Rattle.fm_gate.specs.Standing.{CanAct};
+ghost use Rattle.fm_gate.specs.Standing.{CanReach};
 ghost use Rattle.fm_gate.specs.Learnt.{AfterAct};
 
-use fm_rule::{Pass, Pool, step_load, step_store};
+use fm_rule::{Pass, Pool, step_add, step_load, step_store, step_swap_if};
 
 /// The word of this index of the arena that the pass is inside.
 pub fn load(pool: &Pool, pass: &mut Pass, word: u64) -> u64
-    requires { CanAct pool.now pass.old word }
+    requires { CanReach pool.now pass.old word }
     ensures { AfterAct pool.now pass.old pass.new (λ a. machine.Read a word) (machine.Found result) }
 {
     step_load(pool, pass, word)
@@ -14,8 +14,24 @@ pub fn load(pool: &Pool, pass: &mut Pass, word: u64) -> u64
 
 /// Puts `v` into the word of this index of the arena that the pass is inside.
 pub fn store(pool: &Pool, pass: &mut Pass, word: u64, v: u64)
-    requires { CanAct pool.now pass.old word }
+    requires { CanReach pool.now pass.old word }
     ensures { AfterAct pool.now pass.old pass.new (λ a. machine.Write a word v) machine.Fine }
 {
     step_store(pool, pass, word, v);
+}
+
+/// Puts `new` into the word of this index where it is `old`, and answers the word found.
+pub fn swap_if(pool: &Pool, pass: &mut Pass, word: u64, old: u64, new: u64) -> u64
+    requires { CanReach pool.now pass.old word }
+    ensures { AfterAct pool.now pass.old pass.new (λ a. machine.SwapIf a word old new) (machine.Found result) }
+{
+    step_swap_if(pool, pass, word, old, new)
+}
+
+/// Adds `n` to the word of this index, wrapping at 2^64, and answers the word found.
+pub fn add(pool: &Pool, pass: &mut Pass, word: u64, n: u64) -> u64
+    requires { CanReach pool.now pass.old word }
+    ensures { AfterAct pool.now pass.old pass.new (λ a. machine.Add a word n) (machine.Found result) }
+{
+    step_add(pool, pass, word, n)
 }

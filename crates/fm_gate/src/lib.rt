@@ -3,22 +3,33 @@
 //! A pass publishes the arena in its mark, and only then looks whether the arena lives; it clears the mark after its
 //! last act. A closer shuts the arena, and only then looks at the marks. So at most one of the two can miss the other.
 //!
-//! No call takes memory, and none but `open_arena` takes a runtime: they wait for nobody. Where a call is refused, the
+//! No call takes memory. A call that takes a runtime may try again while other passes change the same word; the others
+//! wait for nobody. Where a call is refused, the
 //! pass is outside and publishes no mark.
 #![tactic(auto)]
 
 mod acting;
 mod alive;
+mod allocating;
 mod entering;
+mod held;
+mod holding;
+mod laws;
 mod leaving;
 mod opening;
+mod patching;
 mod usable;
 
-pub use acting::{load, store};
+pub use acting::{add, load, store, swap_if};
 pub use alive::is_alive;
+pub use allocating::allocate;
 pub use entering::enter;
+pub use held::Hold;
+pub use holding::{hold, unhold};
+pub use laws::a_hold_stands;
 pub use leaving::leave;
 pub use opening::open_arena;
+pub use patching::patch;
 pub use usable::may_use;
 
 #[cfg(test)]

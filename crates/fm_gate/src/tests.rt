@@ -1,13 +1,18 @@
-ghost use Rattle.std.specs.Prelude.{◌≡◌, ◌≢◌, ◌<◌};
-ghost use Rattle.fm_pool_facts.specs.Views.{span};
-ghost use Rattle.fm_gate.specs.Standing.{IsOutside};
+ghost use Rattle.std.specs.Prelude.{◌≡◌, ◌≢◌, ◌<◌, ◌≤◌, ◌*◌};
+ghost use Rattle.fm_pool_facts.specs.Views.{given_of, span};
+ghost use Rattle.fm_calls.specs.Kept.{Lasts};
+ghost use Rattle.fm_gate.specs.Standing.{CanPatch, CanReach, CanVisit, IsOutside};
 
-use crate::{enter, is_alive, leave, load, open_arena, store};
-use fm_base::{Kind, Refusal};
+use crate::{
+    Hold, add, allocate, enter, hold, is_alive, leave, load, open_arena, patch, store, swap_if,
+    unhold,
+};
+use fm_base::{ArenaId, Kind, Refusal};
 use fm_rule::{Pass, Pool};
 use fm_words::Shape;
 use std::alloc::AllocGlobal;
 use std::process::Abort;
+use std::sync::Wait;
 
 /// A pool of three passes, whose slots have eight words each.
 fn made<R: Abort + AllocGlobal>(rt: &R, slots: u32) -> (Pool, Pass)
@@ -27,10 +32,23 @@ fn made<R: Abort + AllocGlobal>(rt: &R, slots: u32) -> (Pool, Pass)
     Pool::make(rt.alloc(), shape).expect(rt, "words")
 }
 
+/// Opens an arena, and gives all its 64 bytes.
+fn given<R: Abort + Wait>(rt: &R, pool: &Pool, pass: &mut Pass, kind: Kind) -> ArenaId
+    requires outside { IsOutside pool.now pass.old }
+    requires by_hand { kind ≢ Kind.Automatic }
+    ensures visit { CanVisit pool.now pass.new result }
+    ensures lasts { Lasts pass.old pass.new }
+    ensures given { 64 ≤ given_of pass.new result }
+{
+    let a = open_arena(rt, pool, pass, kind).expect(rt, "a slot");
+    assert_eq!(rt; allocate(rt, pool, pass, a, 64, 8), Ok(0));
+    a
+}
+
 #[test]
 fn a_pass_enters_acts_and_leaves(rt: HostRuntime) {
     let (pool, mut pass) = made(&rt, 1);
-    let a = open_arena(&rt, &pool, &mut pass, Kind::Shared).expect(&rt, "a slot");
+    let a = given(&rt, &pool, &mut pass, Kind::Shared);
     assert_eq!(rt; enter(&pool, &mut pass, a), Ok(()));
     store(&pool, &mut pass, 0, 9);
     store(&pool, &mut pass, 7, u64::MAX);
@@ -39,6 +57,179 @@ fn a_pass_enters_acts_and_leaves(rt: HostRuntime) {
     assert_eq!(rt; load(&pool, &mut pass, 7), u64::MAX);
     leave(&pool, &mut pass);
     assert_eq!(rt; is_alive(&pool, &mut pass, a), Ok(true));
+    assert_eq!(rt;
+        open_arena(&rt, &pool, &mut pass, Kind::Shared),
+        Err(Refusal::NoSlot)
+    );
+}
+
+#[test]
+fn words_are_changed_by_what_is_found(rt: HostRuntime) {
+    let (pool, mut pass) = made(&rt, 1);
+    let a = given(&rt, &pool, &mut pass, Kind::Confined);
+    assert_eq!(rt; enter(&pool, &mut pass, a), Ok(()));
+    store(&pool, &mut pass, 1, 7);
+    assert_eq!(rt; swap_if(&pool, &mut pass, 1, 6, 5), 7);
+    assert_eq!(rt; swap_if(&pool, &mut pass, 1, 7, u64::MAX), 7);
+    assert_eq!(rt; add(&pool, &mut pass, 1, 3), u64::MAX);
+    assert_eq!(rt; load(&pool, &mut pass, 1), 2);
+    leave(&pool, &mut pass);
+}
+
+/// Patches a word, which can still be reached.
+fn put_bits<R: Wait>(rt: &R, pool: &Pool, pass: &mut Pass, word: u64, mask: u64, bits: u64) -> u64
+    requires { CanPatch pool.now pass.old word mask bits }
+    ensures { CanReach pool.now pass.new word }
+{
+    patch(rt, pool, pass, word, mask, bits)
+}
+
+#[test]
+fn bits_are_put_beside_others(rt: HostRuntime) {
+    let (pool, mut pass) = made(&rt, 1);
+    let a = given(&rt, &pool, &mut pass, Kind::Shared);
+    assert_eq!(rt; enter(&pool, &mut pass, a), Ok(()));
+    store(&pool, &mut pass, 7, 2);
+    assert_eq!(rt; put_bits(&rt, &pool, &mut pass, 7, 0xff00, 0x4200), 2);
+    assert_eq!(rt; load(&pool, &mut pass, 7), 0x4202);
+    leave(&pool, &mut pass);
+}
+
+/// Allocates, and says what became of it.
+fn give<R: Wait>(
+    rt: &R,
+    pool: &Pool,
+    pass: &mut Pass,
+    a: ArenaId,
+    size: u64,
+    align: u64,
+) -> Result<u64, Refusal>
+    requires { CanVisit pool.now pass.old a }
+    ensures { CanVisit pool.now pass.new a }
+{
+    allocate(rt, pool, pass, a, size, align)
+}
+
+#[test]
+fn bytes_are_given_up_to_the_limit(rt: HostRuntime) {
+    let (pool, mut pass) = made(&rt, 1);
+    let a = open_arena(&rt, &pool, &mut pass, Kind::Shared).expect(&rt, "a slot");
+    assert_eq!(rt; give(&rt, &pool, &mut pass, a, 60, 4), Ok(0));
+    assert_eq!(rt;
+        give(&rt, &pool, &mut pass, a, 8, 8),
+        Err(Refusal::NoRoom(60))
+    );
+    assert_eq!(rt; give(&rt, &pool, &mut pass, a, 3, 4), Ok(60));
+    assert_eq!(rt;
+        give(&rt, &pool, &mut pass, a, 4, 3),
+        Err(Refusal::BadAlignment)
+    );
+    assert_eq!(rt;
+        give(&rt, &pool, &mut pass, a, 0, 1 << 40),
+        Err(Refusal::NoRoom(63))
+    );
+    assert_eq!(rt;
+        give(&rt, &pool, &mut pass, a, u64::MAX, 1),
+        Err(Refusal::NoRoom(63))
+    );
+    assert_eq!(rt; give(&rt, &pool, &mut pass, a, 0, 8), Ok(64));
+}
+
+/// Takes so many holds, which stay.
+fn take_holds<R: Wait>(
+    rt: &R,
+    pool: &Pool,
+    pass: &mut Pass,
+    a: ArenaId,
+    times: u32,
+) -> Result<(), Refusal>
+    requires { CanVisit pool.now pass.old a }
+    ensures { CanVisit pool.now pass.new a }
+{
+    if times > 1 {
+        take_holds(rt, pool, pass, a, times / 2)?;
+        take_holds(rt, pool, pass, a, times - times / 2)
+    } else {
+        let Hold { arena: _ } = hold(rt, pool, pass, a)?;
+        Ok(())
+    }
+}
+
+#[test]
+fn an_arena_has_65535_holds_at_most(rt: HostRuntime) {
+    let (pool, mut pass) = made(&rt, 1);
+    let a = open_arena(&rt, &pool, &mut pass, Kind::Global).expect(&rt, "a slot");
+    assert_eq!(rt; take_holds(&rt, &pool, &mut pass, a, 65_535), Ok(()));
+    assert_eq!(rt;
+        take_holds(&rt, &pool, &mut pass, a, 1),
+        Err(Refusal::TooManyHolds)
+    );
+    assert_eq!(rt; is_alive(&pool, &mut pass, a), Ok(true));
+}
+
+#[test]
+fn a_hold_is_taken_again_once_it_is_spent(rt: HostRuntime) {
+    let (pool, mut pass) = made(&rt, 1);
+    let a = open_arena(&rt, &pool, &mut pass, Kind::Shared).expect(&rt, "a slot");
+    let once = hold(&rt, &pool, &mut pass, a).expect(&rt, "a hold");
+    assert_eq!(rt; once.arena(), a);
+    unhold(&pool, &mut pass, once);
+    let again = hold(&rt, &pool, &mut pass, a).expect(&rt, "a hold");
+    unhold(&pool, &mut pass, again);
+}
+
+/// Stores a word in a visit of its own.
+fn put(pool: &Pool, pass: &mut Pass, arena: ArenaId, word: u64, v: u64) -> Result<(), Refusal>
+    requires ready { CanVisit pool.now pass.old arena }
+    requires within { 8 * word < given_of pass.old arena }
+    ensures outside { IsOutside pool.now pass.new }
+    ensures lasts { Lasts pass.old pass.new }
+{
+    enter(pool, pass, arena)?;
+    store(pool, pass, word, v);
+    leave(pool, pass);
+    Ok(())
+}
+
+/// Loads a word in a visit of its own.
+fn word_of(pool: &Pool, pass: &mut Pass, arena: ArenaId, word: u64) -> Result<u64, Refusal>
+    requires ready { CanVisit pool.now pass.old arena }
+    requires within { 8 * word < given_of pass.old arena }
+    ensures outside { IsOutside pool.now pass.new }
+    ensures lasts { Lasts pass.old pass.new }
+{
+    enter(pool, pass, arena)?;
+    let found = load(pool, pass, word);
+    leave(pool, pass);
+    Ok(found)
+}
+
+/// Stores into the last word of one arena and the first of the other, and answers these and two that nobody stored to.
+fn words_of_both(pool: &Pool, pass: &mut Pass, a: ArenaId, b: ArenaId) -> Result<[u64; 4], Refusal>
+    requires first { CanVisit pool.now pass.old a }
+    requires second { CanVisit pool.now pass.old b }
+    requires first_given { 64 ≤ given_of pass.old a }
+    requires second_given { 64 ≤ given_of pass.old b }
+    ensures outside { IsOutside pool.now pass.new }
+    ensures lasts { Lasts pass.old pass.new }
+{
+    put(pool, pass, a, 7, 1)?;
+    put(pool, pass, b, 0, 2)?;
+    Ok([
+        word_of(pool, pass, a, 0)?,
+        word_of(pool, pass, a, 7)?,
+        word_of(pool, pass, b, 0)?,
+        word_of(pool, pass, b, 7)?,
+    ])
+}
+
+#[test]
+fn arenas_of_two_slots_have_words_of_their_own(rt: HostRuntime) {
+    let (pool, mut pass) = made(&rt, 2);
+    let a = given(&rt, &pool, &mut pass, Kind::Shared);
+    let b = given(&rt, &pool, &mut pass, Kind::Confined);
+    assert_eq!(rt; a == b, false);
+    assert_eq!(rt; words_of_both(&pool, &mut pass, a, b), Ok([0, 1, 2, 0]));
     assert_eq!(rt;
         open_arena(&rt, &pool, &mut pass, Kind::Shared),
         Err(Refusal::NoSlot)

@@ -9,7 +9,7 @@ use Rattle.fm_base.specs.Arenas.{Life, Alive, Closing, Ended, State, has_arena, 
 use Rattle.fm_base.specs.Calls.{Call, Open, Enter, Read, Write, SwapIf, Add, Allocate, Leave, Hold, Unhold, Shut, End, Lend, Back, Entry}
 use Rattle.fm_base.specs.Machine.{after}
 use Rattle.fm_base.specs.Histories.{IsLegal, state_after}
-use Rattle.fm_base.specs.Loans.{Loan, loan_of, loans_by, loans_after, IsFree, HasPart, IsRightlyLentIn, IsRightlyLentFrom}
+use Rattle.fm_pool_facts.specs.Loans.{Loan, loan_of, loans_by, loans_after, IsFree, HasPart, IsRightlyLentIn, IsRightlyLentFrom}
 use Rattle.fm_base.proofs.Making.{state_after-append}
 use Rattle.fm_depicts.specs.Functions.{put, put_at, Stage, Fresh, Lives, Over, stage_of, Machine, Depicts, moved}
 use Rattle.fm_depicts.proofs.Putting.{put_cases, at_cases}

@@ -15,12 +15,14 @@ use Rattle.fm_depicts.specs.Functions.{Fresh, Closes, Machine, stage_of}
 use Rattle.fm_depicts.specs.Steps.{moved_by}
 use Rattle.fm_pool_facts.specs.Views.{span, View, Fits, In, HasSlot, IsSpent, IsSound, IsKnown, limit_of, state_in}
 use Rattle.fm_pool_facts.specs.Facts.{Memory, Owners, Shows, World, HasNumber, HasDraw, HasClose, WasOpened, Somewhere, Knows, Rule}
-use Rattle.fm_pool_facts.specs.Moves.{Moved, Same, Part, KeepsCloses, told, Gives}
-use Rattle.fm_base.specs.Loans.{Loan, lent, loans_after, IsRightlyLent}
+use Rattle.fm_pool_facts.specs.Moves.{Moved, Same, Part, KeepsCloses, KeepsHolds, told, Gives}
+use Rattle.fm_pool_facts.specs.Holds.{holds_of}
+use Rattle.fm_pool_facts.specs.Loans.{Loan, lent, loans_after, IsRightlyLent}
 use Rattle.fm_pool_facts.specs.Facts.{Loans}
 use Rattle.fm_pool_facts.specs.Moves.{MayLend}
 use Rattle.fm_pool_facts.proofs.Lending.{loans_after-append, lent-append, lent_on}
 use Rattle.fm_pool_facts.proofs.Frame.{legal_on}
+use Rattle.fm_pool_facts.proofs.Summing.{total-set}
 use Rattle.fm_pool_facts.proofs.Keeping.{set_there, in_left, stays_somewhere, silent_on, others_know, own_view, gives_by}
 
 -- ---- soundness
@@ -108,10 +110,11 @@ pub keeps : (z : Shape) (ws ws' : List ℕ) (vs : List View) (r : Rule z ws vs) 
     (o' : Owners)
     → get_elem? vs me ≡ some v → v.live ≡ true → Moved me (limit_of z) v.caller r.memory r.machine r.owners es m' o' → Same v p
     → MayLend (span z) r.machine (lent r.history) es → Loans (loans_after (lent r.history) es) m'.sessions (moved_by r.machine es).life
-    → KeepsCloses me v p r.machine r.owners (moved_by r.machine es) o' → Shows z ws' m' → World z m' (moved_by r.machine es)
+    → KeepsCloses me v p r.machine r.owners (moved_by r.machine es) o' → KeepsHolds v p r.machine (moved_by r.machine es)
+    → Shows z ws' m' → World z m' (moved_by r.machine es)
     → Part z m' (moved_by r.machine es) o' me p
     → (w : View) × Rule z ws' (set vs me w) × Gives v p es fs w
-keeps z ws ws' vs r me v p es fs m' o' at l d s lends loans kc shows world q =
+keeps z ws ws' vs r me v p es fs m' o' at l d s lends loans kc kh shows world q =
     let k = r.each me v at in
     let u = k.owns l in
     let zs : List Entry = k.begins.0 in
@@ -150,6 +153,12 @@ keeps z ws ws' vs r me v p es fs m' o' at l d s lends loans kc shows world q =
           subst (λ (i : ℕ). Somewhere (set vs me w) i (HasClose a)) (sym x.1)
           (stays_somewhere vs me v w (r.owners.closer a) (HasClose a) at x.2 (r.closed a x.0)))
           (kc a h);
+      held = λ a na.
+          let x = total-set (holds_of a) vs me v w at in
+          let y = r.held a na in
+          let h = kh a na in
+          let same : holds_of a w ≡ holds_of a p = refl in
+          omega arith;
       each = λ j y at'. ⊎_elim
           (λ (e : (j ≡ me) × (w ≡ y)). subst (λ (x : ℕ × View). Knows z (r.history ++ es) m' t' o' x.0 x.1) (λ i. (sym e.0 i, e.1 i))
           (own_view z r.history zs me r.memory m' r.machine r.owners o' es fs v p k l d is s q))

@@ -6,7 +6,7 @@ use Rattle.std.proofs.lemmas.Nat.{mul-add-lt, same_from_place}
 use lib.Seq.{set-get_or}
 use Rattle.fm_words.specs.declared.shape.Shape.{Shape}
 use Rattle.fm_words.specs.Shapes.{IsValid}
-use Rattle.fm_words.specs.Places.{at, draw as draw_place, mark, session, given as given_place, words as word_count}
+use Rattle.fm_words.specs.Places.{at, front as front_place, draw as draw_place, slot_bits as bits_place, mark, session, given as given_place, words as word_count}
 use Rattle.fm_base.specs.declared.arena_id.ArenaId.{ArenaId}
 use Rattle.fm_depicts.specs.Functions.{put}
 use Rattle.fm_depicts.proofs.Putting.{put_here, put_else}
@@ -18,28 +18,36 @@ use Rattle.fm_pool_facts.specs.Facts.{Memory, Session, session_code, cell_at, Sh
 
 -- what of the memory a word has
 data Spot : Type 0 where
+  fronted : Spot
   drawn : Spot
+  bits : Spot
   marked : ℕ → Spot
   seated : ℕ → Spot
   counted : ℕ → Spot
   cell : ℕ → ℕ → Spot
 
 spot_at : Shape → Spot → ℕ
+spot_at z fronted = at z front_place
 spot_at z drawn = at z draw_place
+spot_at z bits = at z bits_place
 spot_at z (marked k) = at z (mark k)
 spot_at z (seated s) = at z (session s)
 spot_at z (counted s) = at z (given_place s)
 spot_at z (cell s w) = cell_at z s w
 
 IsSpot : Shape → Spot → Type 0
+IsSpot z fronted = Unit {0}
 IsSpot z drawn = Unit {0}
+IsSpot z bits = Unit {0}
 IsSpot z (marked k) = k < z.passes
 IsSpot z (seated s) = s < z.slots
 IsSpot z (counted s) = s < z.slots
 IsSpot z (cell s w) = (s < z.slots) × (w < span z)
 
 word_of : Memory → Spot → ℕ
+word_of m fronted = 0
 word_of m drawn = m.draw
+word_of m bits = 0
 word_of m (marked k) = own_word (m.marks k)
 word_of m (seated s) = session_code (m.sessions s) (m.counts s)
 word_of m (counted s) = m.given s
@@ -47,7 +55,9 @@ word_of m (cell s w) = m.cells s w
 
 spot_one : (z : Shape) (p q : Spot) → IsSpot z p → IsSpot z q → spot_at z p ≡ spot_at z q → p ≡ q
 unfolding spot_at IsSpot at cell_at
+spot_one z fronted fronted a b e = refl
 spot_one z drawn drawn a b e = refl
+spot_one z bits bits a b e = refl
 spot_one z (marked k) (marked i) a b e = let h : k ≡ i = omega arith in ap marked h
 spot_one z (seated k) (seated i) a b e = let h : k ≡ i = omega arith in ap seated h
 spot_one z (counted k) (counted i) a b e = let h : k ≡ i = omega arith in ap counted h
@@ -74,7 +84,9 @@ cell_below z s w v h l =
 
 spot_below : (z : Shape) (p : Spot) → IsValid z → IsSpot z p → spot_at z p < word_count z
 unfolding spot_at IsSpot at word_count
+spot_below z fronted v h = omega arith
 spot_below z drawn v h = omega arith
+spot_below z bits v h = omega arith
 spot_below z (marked k) v h = omega arith
 spot_below z (seated s) v h = omega arith
 spot_below z (counted s) v h = omega arith
@@ -87,7 +99,9 @@ same_spot z p q a b = dite (ℕ_discrete (spot_at z q) (spot_at z p)) (λ e. yes
 
 shown : (z : Shape) (ws : List ℕ) (m : Memory) → Shows z ws m → (p : Spot) → IsSpot z p → get_or ws (spot_at z p) 0 ≡ word_of m p
 unfolding spot_at IsSpot word_of
+shown z ws m r fronted h = r.front
 shown z ws m r drawn h = r.draw
+shown z ws m r bits h = r.slot_bits
 shown z ws m r (marked k) h = r.marks k h
 shown z ws m r (seated s) h = r.sessions s h
 shown z ws m r (counted s) h = r.given s h
@@ -98,7 +112,9 @@ shows_by : (z : Shape) (ws : List ℕ) (m : Memory) → length ws ≡ word_count
 unfolding spot_at IsSpot word_of
 shows_by z ws m w t f = record {
   wide = w;
+  front = f fronted tt;
   draw = f drawn tt;
+  slot_bits = f bits tt;
   terms = t;
   marks = λ k h. f (marked k) h;
   sessions = λ s h. f (seated s) h;
@@ -125,7 +141,9 @@ module _ (z : Shape) (v : IsValid z) (ws : List ℕ) (m : Memory) (r : Shows z w
     where
       others : (q : Spot) → q ≢ marked k → word_of (record m { marks = put m.marks k x }) q ≡ word_of m q
       others (marked i) n = ap own_word (put_else m.marks k x i (λ e. n (ap marked e)))
+      others fronted n = refl
       others drawn n = refl
+      others bits n = refl
       others (seated s) n = refl
       others (counted s) n = refl
       others (cell s w) n = refl
@@ -138,7 +156,9 @@ module _ (z : Shape) (v : IsValid z) (ws : List ℕ) (m : Memory) (r : Shows z w
     where
       others : (q : Spot) → q ≢ seated k → word_of (record m { sessions = put m.sessions k x; counts = put m.counts k c }) q ≡ word_of m q
       others (seated i) n = λ j. session_code (put_else m.sessions k x i (λ e. n (ap seated e)) j) (put_else m.counts k c i (λ e. n (ap seated e)) j)
+      others fronted n = refl
       others drawn n = refl
+      others bits n = refl
       others (marked i) n = refl
       others (counted s) n = refl
       others (cell s w) n = refl
@@ -153,7 +173,37 @@ module _ (z : Shape) (v : IsValid z) (ws : List ℕ) (m : Memory) (r : Shows z w
           (λ e. (λ j. put m.cells k (put (m.cells k) c x) (e j) w) ∙ ((λ j. put_here m.cells k (put (m.cells k) c x) j w)
           ∙ (put_else (m.cells k) c x w (λ f. n (λ j. cell (e j) (f j))) ∙ (λ j. m.cells (sym e j) w))))
           (λ e. (λ j. put_else m.cells k (put (m.cells k) c x) s e j w))
+      others fronted n = refl
       others drawn n = refl
+      others bits n = refl
       others (marked i) n = refl
       others (seated s) n = refl
       others (counted s) n = refl
+
+  pub shows_count : (k c : ℕ) → k < z.slots
+      → Shows z (set ws (at z (session k)) (session_code (m.sessions k) c)) (record m { counts = put m.counts k c })
+  unfolding spot_at IsSpot word_of
+  shows_count k c h = one_set (record m { counts = put m.counts k c }) (seated k) (session_code (m.sessions k) c) h r.terms
+      (ap (session_code (m.sessions k)) (put_here m.counts k c)) others
+    where
+      others : (q : Spot) → q ≢ seated k → word_of (record m { counts = put m.counts k c }) q ≡ word_of m q
+      others (seated i) n = ap (session_code (m.sessions i)) (put_else m.counts k c i (λ e. n (ap seated e)))
+      others fronted n = refl
+      others drawn n = refl
+      others bits n = refl
+      others (marked i) n = refl
+      others (counted s) n = refl
+      others (cell s w) n = refl
+
+  pub shows_given : (k c : ℕ) → k < z.slots → Shows z (set ws (at z (given_place k)) c) (record m { given = put m.given k c })
+  unfolding spot_at IsSpot word_of
+  shows_given k c h = one_set (record m { given = put m.given k c }) (counted k) c h r.terms (put_here m.given k c) others
+    where
+      others : (q : Spot) → q ≢ counted k → word_of (record m { given = put m.given k c }) q ≡ word_of m q
+      others (counted i) n = put_else m.given k c i (λ e. n (ap counted e))
+      others fronted n = refl
+      others drawn n = refl
+      others bits n = refl
+      others (marked i) n = refl
+      others (seated i) n = refl
+      others (cell s w) n = refl

@@ -1,5 +1,5 @@
 -- The memory stays beside the machine over each kind of entry.
-use Rattle.std.proofs.Common.{◌≡◌, ◌≢◌, ℕ, ◌<◌, Option, Some, None, sym, refl, ap, ◌∙◌, subst, inl, inr, ⊎_elim}
+use Rattle.std.proofs.Common.{◌≡◌, ◌≢◌, ℕ, ◌<◌, ◌≤◌, Option, Some, None, sym, refl, ap, ◌∙◌, subst, inl, inr, ⊎_elim}
 use Rattle.fm_words.specs.declared.shape.Shape.{Shape}
 use Rattle.fm_base.specs.declared.caller.Caller.{Caller}
 use Rattle.fm_base.specs.declared.arena_id.ArenaId.{ArenaId}
@@ -13,28 +13,31 @@ use Rattle.fm_pool_facts.proofs.Standing.{caller_is, standing_known, one_standin
 
 -- an arena that was shut, apart from those that stand
 module _ (counts : ℕ → ℕ) (life : ArenaId → Stage) (holds : ArenaId → ℕ) (r : Counts counts life holds) (a : ArenaId) where
-  pub counts_shut : ((b : ArenaId) → life b ≡ Lives → b ≢ a → b.slot ≢ a.slot) → Counts (put counts a.slot 0) (put_at life a Closes) holds
-  counts_shut apart = record {
+  pub counts_shut : holds a ≡ 0 → ((b : ArenaId) → life b ≡ Lives → b ≢ a → b.slot ≢ a.slot) → Counts (put counts a.slot 0) (put_at life a Closes) holds
+  counts_shut no_holds apart = record {
     shown = λ b. at_cases life a Closes b (λ (x : Stage). x ≡ Lives → put counts a.slot 0 b.slot ≡ holds b)
         (λ e q. absurd (cc))
         (λ n q. put_else counts a.slot 0 b.slot (apart b q n) ∙ r.shown b q);
-    none = λ b. at_cases life a Closes b (λ (x : Stage). x ≡ Fresh → holds b ≡ 0) (λ e q. absurd (cc)) (λ n q. r.none b q);
+    only = λ b. at_cases life a Closes b (λ (x : Stage). x ≢ Lives → holds b ≡ 0) (λ e q. ap holds e ∙ no_holds) (λ n q. r.only b q);
     few = r.few;
   }
 
-  pub counts_end : Counts counts (put_at life a Over) holds
-  counts_end = record {
+  pub counts_end : life a ≡ Closes → Counts counts (put_at life a Over) holds
+  counts_end l = record {
     shown = λ b. at_cases life a Over b (λ (x : Stage). x ≡ Lives → counts b.slot ≡ holds b) (λ e q. absurd (cc)) (λ n q. r.shown b q);
-    none = λ b. at_cases life a Over b (λ (x : Stage). x ≡ Fresh → holds b ≡ 0) (λ e q. absurd (cc)) (λ n q. r.none b q);
+    only = λ b. at_cases life a Over b (λ (x : Stage). x ≢ Lives → holds b ≡ 0)
+        (λ e q. ap holds e ∙ r.only a (λ f. let g : Closes ≡ Lives = sym l ∙ f in absurd (cc)))
+        (λ n q. r.only b q);
     few = r.few;
   }
 
   pub counts_open : life a ≡ Fresh → ((b : ArenaId) → life b ≡ Lives → b.slot ≢ a.slot) → Counts (put counts a.slot 0) (put_at life a Lives) holds
   counts_open new apart = record {
     shown = λ b. at_cases life a Lives b (λ (x : Stage). x ≡ Lives → put counts a.slot 0 b.slot ≡ holds b)
-        (λ e q. (λ j. put counts a.slot 0 (e j).slot) ∙ (put_here counts a.slot 0 ∙ sym (ap holds e ∙ r.none a new)))
+        (λ e q. (λ j. put counts a.slot 0 (e j).slot) ∙ (put_here counts a.slot 0 ∙ sym (ap holds e ∙ r.only a (λ f.
+        let g : Fresh ≡ Lives = sym new ∙ f in absurd (cc)))))
         (λ n q. put_else counts a.slot 0 b.slot (apart b q) ∙ r.shown b q);
-    none = λ b. at_cases life a Lives b (λ (x : Stage). x ≡ Fresh → holds b ≡ 0) (λ e q. absurd (cc)) (λ n q. r.none b q);
+    only = λ b. at_cases life a Lives b (λ (x : Stage). x ≢ Lives → holds b ≡ 0) (λ e q. absurd (q refl)) (λ n q. r.only b q);
     few = r.few;
   }
 
@@ -165,9 +168,9 @@ module _ (z : Shape) (m : Memory) (t : Machine) (r : World z m t) where
     };
   }
 
-  pub world_shut : (a : ArenaId) → t.life a ≡ Lives
+  pub world_shut : (a : ArenaId) → t.life a ≡ Lives → t.holds a ≡ 0
       → World z (record m { sessions = put m.sessions a.slot (shut a); counts = put m.counts a.slot 0 }) (record t { life = put_at t.life a Closes })
-  world_shut a l = record {
+  world_shut a l no_holds = record {
     marked =
         λ c b i. let w =
         r.marked c b i in record {
@@ -178,7 +181,7 @@ module _ (z : Shape) (m : Memory) (t : Machine) (r : World z m t) where
               (λ n. w.stands);
         };
     sessions = sessions_shut z m.sessions t.life r.sessions a l;
-    counts = counts_shut m.counts t.life t.holds r.counts a (λ b q n e. n (one_standing z m.sessions t.life r.sessions b a (inl q) (inl l) e));
+    counts = counts_shut m.counts t.life t.holds r.counts a no_holds (λ b q n e. n (one_standing z m.sessions t.life r.sessions b a (inl q) (inl l) e));
     givens = givens_shut m.sessions m.given t.life t.given r.givens a l;
     cells = cells_shut z m.sessions m.cells t.life t.word r.cells a l;
   }
@@ -195,7 +198,7 @@ module _ (z : Shape) (m : Memory) (t : Machine) (r : World z m t) where
               (λ e. absurd (nobody c (i ∙ ap Some e))) (λ n. w.stands);
         };
     sessions = sessions_end z m.sessions t.life r.sessions a l;
-    counts = counts_end m.counts t.life t.holds r.counts a;
+    counts = counts_end m.counts t.life t.holds r.counts a l;
     givens = givens_end m.sessions m.given t.life t.given r.givens a;
     cells = cells_end z m.sessions m.cells t.life t.word r.cells a;
   }
@@ -220,3 +223,39 @@ module _ (z : Shape) (m : Memory) (t : Machine) (r : World z m t) where
         givens = givens_open m.sessions m.given t.life t.given r.givens a f new;
         cells = cells_open z m.sessions m.cells t.life t.word r.cells a f new;
       }
+
+  -- an arena that is alive has this many holds
+  pub world_count : (a : ArenaId) (n : ℕ) → t.life a ≡ Lives → n ≤ 65535
+      → World z (record m { counts = put m.counts a.slot n }) (record t { holds = put_at t.holds a n })
+  world_count a n l few = record {
+    marked = λ c b i. let w = r.marked c b i in record { number = w.number; term = w.term; mark = w.mark; stands = w.stands };
+    sessions = r.sessions;
+    counts = record {
+      shown = λ b q. at_cases t.holds a n b (λ (x : ℕ). put m.counts a.slot n b.slot ≡ x)
+          (λ e. (λ j. put m.counts a.slot n (e j).slot) ∙ put_here m.counts a.slot n)
+          (λ ne. put_else m.counts a.slot n b.slot (λ e. ne (one_standing z m.sessions t.life r.sessions b a (inl q) (inl l) e)) ∙ r.counts.shown b q);
+      only = λ b q. at_cases t.holds a n b (λ (x : ℕ). x ≡ 0) (λ e. absurd (q (ap t.life e ∙ l))) (λ ne. r.counts.only b q);
+      few = λ b. at_cases t.holds a n b (λ (x : ℕ). x ≤ 65535) (λ e. few) (λ ne. r.counts.few b);
+    };
+    givens = r.givens;
+    cells = r.cells;
+  }
+
+  -- an arena that stands has given so many bytes
+  pub world_given : (a : ArenaId) (n : ℕ) → IsStanding (t.life a)
+      → World z (record m { given = put m.given a.slot n }) (record t { given = put_at t.given a n })
+  world_given a n s = record {
+    marked = λ c b i. let w = r.marked c b i in record { number = w.number; term = w.term; mark = w.mark; stands = w.stands };
+    sessions = r.sessions;
+    counts = r.counts;
+    givens = record {
+      shown = λ b q. at_cases t.given a n b (λ (x : ℕ). put m.given a.slot n b.slot ≡ x)
+          (λ e. (λ j. put m.given a.slot n (e j).slot) ∙ put_here m.given a.slot n)
+          (λ ne. put_else m.given a.slot n b.slot (λ e. ne (one_standing z m.sessions t.life r.sessions b a q s e)) ∙ r.givens.shown b q);
+      none = λ b q. at_cases t.given a n b (λ (x : ℕ). x ≡ 0)
+          (λ e. absurd (standing_known (t.life a) s (ap t.life (sym e) ∙ q)))
+          (λ ne. r.givens.none b q);
+      clean = λ k g f. put_else m.given a.slot n k (free_apart z m.sessions t.life r.sessions k g a f s) ∙ r.givens.clean k g f;
+    };
+    cells = r.cells;
+  }

@@ -4,18 +4,20 @@ use mathlib.Core.Option.{some}
 use lib.ListN.{get_elem?}
 use Rattle.fm_words.specs.declared.shape.Shape.{Shape}
 use Rattle.fm_words.specs.Shapes.{IsValid}
-use Rattle.fm_words.specs.Places.{at, draw as draw_place, mark, session, given as given_place, words as word_count, pages_from}
+use Rattle.fm_words.specs.Places.{at, front, draw as draw_place, slot_bits, mark, session, given as given_place, words as word_count, pages_from}
 use Rattle.fm_words.specs.Sessions.{session_word, free as is_free}
 use Rattle.fm_base.specs.declared.caller.Caller.{Caller}
 use Rattle.fm_base.specs.declared.arena_id.ArenaId.{ArenaId}
+use Rattle.fm_base.specs.declared.kind.Kind.TheVariants.{Automatic}
 use Rattle.fm_base.specs.Calls.{Entry}
 use Rattle.fm_base.specs.Histories.{IsLegal, state_after, made_by}
-use Rattle.fm_base.specs.Loans.{Loan, loan_of, lent, IsFree, HasPart, IsRightlyLent}
+use Rattle.fm_pool_facts.specs.Loans.{Loan, loan_of, lent, IsFree, HasPart, IsRightlyLent}
 use Rattle.fm_base.specs.Finds.{Find, Gathered, Close}
 use Rattle.fm_depicts.specs.Functions.{Stage, Fresh, Lives, Closes, Machine, Depicts}
 use Rattle.fm_pool_facts.specs.declared.slot.Slot.{Slot}
 use Rattle.fm_pool_facts.specs.Views.{View, Fits, In, HasSlot, span, limit_of}
 use Rattle.fm_pool_facts.specs.Words.{alive_word, closing_word, own_word}
+use Rattle.fm_pool_facts.specs.Holds.{holds_of, total}
 
 -- ---- the words, decoded
 
@@ -49,7 +51,10 @@ cell_at z s w = pages_from z + (s * span z + w)
 
 pub record Shows (z : Shape) (words : List ℕ) (m : Memory) : Type 0 where
   pub wide : length words ≡ word_count z
+  pub front : slice_index words (at z front) ≡ 0
   pub draw : slice_index words (at z draw_place) ≡ m.draw
+  -- until slots come back none can be lent: each is in a hand, or was opened
+  pub slot_bits : slice_index words (at z slot_bits) ≡ 0
   -- until numbers come back
   pub terms : (k : ℕ) → m.terms k ≡ 0
   pub marks : (k : ℕ) → k < z.passes → slice_index words (at z (mark k)) ≡ own_word (m.marks k)
@@ -86,7 +91,7 @@ pub record Sessions (z : Shape) (sessions : ℕ → Session) (life : ArenaId →
 -- session words count the holds
 pub record Counts (counts : ℕ → ℕ) (life : ArenaId → Stage) (holds : ArenaId → ℕ) : Type 0 where
   pub shown : (a : ArenaId) → life a ≡ Lives → counts a.slot ≡ holds a
-  pub none : (a : ArenaId) → life a ≡ Fresh → holds a ≡ 0
+  pub only : (a : ArenaId) → life a ≢ Lives → holds a ≡ 0
   pub few : (a : ArenaId) → holds a ≤ 65535
 
 -- given words show the given bytes
@@ -246,4 +251,6 @@ pub record Rule (z : Shape) (words : List ℕ) (views : List View) : Type 0 wher
   pub numbers : (n : ℕ) → n < memory.draw → Somewhere views (owners.number n) (HasNumber n)
   pub drawers : (n : ℕ) → 0 < n → n < memory.draw → (d : ℕ) × (d < n) × Somewhere views (owners.number d) (HasDraw d n)
   pub closed : (a : ArenaId) → machine.life a ≡ Closes → Somewhere views (owners.closer a) (HasClose a)
+  -- an arena that isn't automatic is held as often as views have a hold of it
+  pub held : (a : ArenaId) → a.kind ≢ Automatic → total (holds_of a) views ≡ machine.holds a
   pub each : (j : ℕ) (v : View) → get_elem? views j ≡ some v → Knows z history memory machine owners j v

@@ -1,6 +1,8 @@
+pub mod Loans
 pub mod Views
 pub mod Words
 pub mod Closes
+pub mod Holds
 pub mod Steps
 pub mod Facts
 pub mod Moves

@@ -1,13 +1,14 @@
 -- What one step changes, and what the rule allows.
-use Rattle.std.specs.Prelude.{◌/◌, ◌≡◌, ◌≢◌, ◌⊎◌, ℕ, ◌<◌, true, List, [], ◌∷◌, ◌++◌, length, slice_index, slice_set, ⊤}
+use Rattle.std.specs.Prelude.{◌/◌, ◌≡◌, ◌≢◌, ◌⊎◌, ℕ, ◌+◌, ◌<◌, true, List, [], ◌∷◌, ◌++◌, length, slice_index, slice_set, ⊤}
 use mathlib.Core.Option.{some}
 use lib.ListN.{get_elem?}
 use Rattle.fm_words.specs.declared.shape.Shape.{Shape}
 use Rattle.fm_base.specs.declared.caller.Caller.{Caller}
 use Rattle.fm_base.specs.declared.arena_id.ArenaId.{ArenaId}
+use Rattle.fm_base.specs.declared.kind.Kind.TheVariants.{Automatic}
 use Rattle.fm_base.specs.Calls.{Call, Read, Write, SwapIf, Add, End, Lend, Back, Entry}
 use Rattle.fm_base.specs.Histories.{made_by}
-use Rattle.fm_base.specs.Loans.{Loan, loans_by, IsFree, HasPart}
+use Rattle.fm_pool_facts.specs.Loans.{Loan, loans_by, IsFree, HasPart}
 use Rattle.fm_base.specs.Finds.{Find, Gathered, Close}
 use Rattle.fm_depicts.specs.Functions.{Fresh, Closes, Over, Machine, moved, MayBy, reply_by}
 use Rattle.fm_pool_facts.specs.declared.slot.Slot.{Slot}
@@ -16,6 +17,7 @@ use Rattle.fm_pool_facts.specs.declared.step.Step.TheVariants.{Visits}
 use Rattle.fm_pool_facts.specs.Views.{View, In, HasSlot, IsSound}
 use Rattle.fm_pool_facts.specs.Steps.{part, entries, noted}
 use Rattle.fm_pool_facts.specs.Words.{own_word}
+use Rattle.fm_pool_facts.specs.Holds.{holds_of}
 use Rattle.fm_pool_facts.specs.Facts.{Memory, free, Owners, IsClosing, IsOnce, IsHeld, HasClose, WasOpened, Begins, Rule}
 
 -- entries of one caller that the functions allow
@@ -84,6 +86,10 @@ pub record Part (z : Shape) (m : Memory) (t : Machine) (o : Owners) (j : ℕ) (p
 abbrev pub KeepsCloses : (me : ℕ) (v p : View) (t : Machine) (o : Owners) (t' : Machine) (o' : Owners) → Type 0
 KeepsCloses me v p t o t' o' = (a : ArenaId) → t'.life a ≡ Closes
     → ((o'.closer a ≡ me) × HasClose a p) ⊎ ((t.life a ≡ Closes) × (o'.closer a ≡ o.closer a) × (HasClose a v → HasClose a p))
+
+-- the pass has as many holds more as the arenas that aren't automatic
+abbrev pub KeepsHolds : (v p : View) (t t' : Machine) → Type 0
+KeepsHolds v p t t' = (a : ArenaId) → a.kind ≢ Automatic → holds_of a p + t.holds a ≡ holds_of a v + t'.holds a
 
 -- the view after a step: it has seen all, and the caller's own entries are the last
 abbrev pub told : View → List Entry → List Entry → (ℕ → List Find) → View

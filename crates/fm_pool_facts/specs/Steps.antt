@@ -1,15 +1,17 @@
 -- The steps of a pass: what each does to its view, and its entries.
-use Rattle.std.specs.Prelude.{◌≡◌, ℕ, ◌<◌, Bool, true, false, if◌then◌else◌, List, [], ◌∷◌, ◌++◌, length, All, Option, Some, None}
+use Rattle.std.specs.Prelude.{◌≡◌, ℕ, ◌+◌, ◌*◌, ◌<◌, nat_le, ◌==◌, Bool, true, false, if◌then◌else◌, List, [], ◌∷◌, ◌++◌, length, All, Option, Some, None}
 use Rattle.fm_base.specs.declared.caller.Caller.{Caller}
 use Rattle.fm_base.specs.declared.arena_id.ArenaId.{ArenaId}
-use Rattle.fm_base.specs.Calls.{Call, Open, Enter, Read, Write, Leave, Shut, Lend, Reply, Fine, Found, Entry, entry_of}
+use Rattle.fm_base.specs.Calls.{Call, Open, Enter, Read, Write, SwapIf, Add, Allocate, Leave, Hold, Unhold, Shut, Lend, Reply, Fine, Found, Entry, entry_of}
+use Rattle.fm_base.specs.Machine.{allocate_reply, rounded_up}
 use Rattle.fm_base.specs.Histories.{made_by}
 use Rattle.fm_base.specs.Finds.{Find, FindStep, Visits as Visiting}
 use Rattle.fm_pool_facts.specs.declared.slot.Slot.{Slot}
 use Rattle.fm_pool_facts.specs.declared.step.Step.{Step}
-use Rattle.fm_pool_facts.specs.declared.step.Step.TheVariants.{Marks, Checks, Loads, Stores, Unmarks, Shuts, Visits, Opens, Looks}
-use Rattle.fm_pool_facts.specs.Views.{View, IsSound, span}
-use Rattle.fm_pool_facts.specs.Words.{alive_holds, enter_found, inside_found, shut_found}
+use Rattle.fm_pool_facts.specs.declared.step.Step.TheVariants.{Marks, Checks, Loads, Stores, SwapsIf, Adds, Allocates, Holds, Unholds, Unmarks, Shuts, Visits, Opens, Looks}
+use Rattle.fm_pool_facts.specs.Views.{View, IsSound, given_of, limit_of}
+use Rattle.fm_pool_facts.specs.Words.{alive_holds, enter_found, inside_found, shut_found, hold_found}
+use Rattle.fm_pool_facts.specs.Holds.{holds_after, released}
 use Rattle.fm_pool_facts.specs.Closes.{begun, visit_found, closes_after, visit_entries}
 
 -- ---- what a step does
@@ -48,15 +50,29 @@ abbrev pub acted : Option ArenaId → Caller → (ArenaId → Call) → Reply �
 acted None c f reply = []
 acted (Some a) c f reply = entry_of c (f a) reply ∷ []
 
+-- entries that are made where the expected word was found
+abbrev pub where_found : Bool → List Entry → List Entry
+where_found true es = es
+where_found false es = []
+
+-- where the next bytes of this size and alignment stand in an arena that has given so many
+abbrev pub room : (limit given size align : ℕ) → Option ℕ
+room limit given size align = if nat_le (rounded_up given align + size) limit then Some (rounded_up given align) else None
+
+-- the count of given bytes after an Allocate that found this count
+abbrev pub given_next : (limit given size align : ℕ) → ℕ
+given_next limit given size align =
+    if nat_le (rounded_up given align + size) limit then rounded_up given align + size else given
+
 -- the entries of opening: the slot's words are lent at once
 abbrev pub open_entries : ArenaId → Caller → List Entry
 open_entries a c = entry_of c (Open a) Fine ∷ entry_of c (Lend a.slot a 0) Fine ∷ []
 
--- the pass is inside an arena, which has the word
-pub record CanAct (v : View) (word : ℕ) : Type 0 where
+-- the pass is inside an arena, where the word has a given byte
+pub record CanReach (v : View) (word : ℕ) : Type 0 where
   pub id : ArenaId
   pub inside : v.inside ≡ Some id
-  pub within : word < span v.shape
+  pub given : 8 * word < given_of v id
 
 -- ---- slots in the hand
 
@@ -80,6 +96,11 @@ part (Marks a) v x = record v { mark = Some a }
 part (Checks a) v x = record v { inside = inside_found a (alive_holds a x) }
 part (Loads w) v x = v
 part (Stores w y) v x = v
+part (SwapsIf w old y) v x = v
+part (Adds w n) v x = v
+part (Allocates given size align) v x = v
+part (Holds a word) v x = record v { holds = holds_after (x == word) a (hold_found (alive_holds a word)) v.holds }
+part (Unholds a) v x = record v { holds = released a v.holds }
 part Unmarks v x = record v { inside = None; mark = None }
 part (Shuts a) v x = record v { closes = begun a (shut_found (alive_holds a x)) v.closes }
 part (Visits a k) v x = record v { closes = closes_after a (visit_found v.shape a k x) v.closes }
@@ -92,6 +113,12 @@ entries (Marks a) v x = []
 entries (Checks a) v x = entry_of v.caller (Enter a) (enter_found (alive_holds a x)) ∷ []
 entries (Loads w) v x = acted v.inside v.caller (λ a. Read a w) (Found x)
 entries (Stores w y) v x = acted v.inside v.caller (λ a. Write a w y) Fine
+entries (SwapsIf w old y) v x = acted v.inside v.caller (λ a. SwapIf a w old y) (Found x)
+entries (Adds w n) v x = acted v.inside v.caller (λ a. Add a w n) (Found x)
+entries (Allocates given size align) v x =
+    where_found (x == given) (acted v.inside v.caller (λ a. Allocate a size align) (allocate_reply (limit_of v.shape) given size align))
+entries (Holds a word) v x = where_found (x == word) (entry_of v.caller (Hold a) (hold_found (alive_holds a word)) ∷ [])
+entries (Unholds a) v x = entry_of v.caller (Unhold a) Fine ∷ []
 entries Unmarks v x = acted v.inside v.caller Leave Fine
 entries (Shuts a) v x = entry_of v.caller (Shut a) (shut_found (alive_holds a x)) ∷ []
 entries (Visits a k) v x = visit_entries a (visit_found v.shape a k x) v.caller

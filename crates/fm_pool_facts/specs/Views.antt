@@ -4,10 +4,10 @@ use Rattle.fm_words.specs.declared.shape.Shape.{Shape}
 use Rattle.fm_words.specs.Shapes.{IsValid}
 use Rattle.fm_base.specs.declared.caller.Caller.{Caller}
 use Rattle.fm_base.specs.declared.arena_id.ArenaId.{ArenaId}
-use Rattle.fm_base.specs.Arenas.{State, IsUnderWay, has_arena}
+use Rattle.fm_base.specs.Arenas.{State, IsUnderWay, has_arena, arena_of}
 use Rattle.fm_base.specs.Calls.{Entry}
 use Rattle.fm_base.specs.Histories.{IsLegal, state_after}
-use Rattle.fm_base.specs.Loans.{IsRightlyLent}
+use Rattle.fm_pool_facts.specs.Loans.{IsRightlyLent}
 use Rattle.fm_base.specs.Finds.{Find, Gathered, Close}
 use Rattle.fm_pool_facts.specs.declared.slot.Slot.{Slot}
 
@@ -51,6 +51,10 @@ state_in v = state_after (limit_of v.shape) [] v.seen
 
 abbrev pub IsKnown : View → ArenaId → Type 0
 IsKnown v a = has_arena (state_in v) a ≡ true
+
+-- how many bytes the arena has given
+abbrev pub given_of : View → ArenaId → ℕ
+given_of v a = (arena_of (state_in v) a).given
 
 -- the pool has a slot for the arena, and a pass of its owner's number
 pub record Fits (z : Shape) (a : ArenaId) : Type 0 where

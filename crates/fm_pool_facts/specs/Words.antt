@@ -1,8 +1,9 @@
 -- What session and mark words show of an arena.
-use Rattle.std.specs.Prelude.{ℕ, ◌%◌, ◌^◌, ◌==◌, if◌then◌else◌, Option, Some, None}
+use Rattle.std.specs.Prelude.{ℕ, ◌+◌, ◌%◌, ◌^◌, ◌==◌, if◌then◌else◌, Option, Some, None}
 use Rattle.fm_base.specs.declared.arena_id.ArenaId.{ArenaId}
 use Rattle.fm_base.specs.Arenas.{kind_number}
-use Rattle.fm_base.specs.Calls.{Reply, Fine, Closed, Held}
+use Rattle.fm_base.specs.Calls.{Reply, Fine, Closed, Held, TooManyHolds}
+use Rattle.fm_base.specs.Machine.{most_holds}
 use Rattle.fm_words.specs.Marks.{mark_word}
 use Rattle.fm_words.specs.Sessions.{alive, closing, session_word}
 
@@ -42,3 +43,19 @@ shut_by holds = if holds == 0 then Fine else Held holds
 abbrev pub shut_found : Option ℕ → Reply
 shut_found None = Closed
 shut_found (Some holds) = shut_by holds
+
+abbrev pub hold_by : ℕ → Reply
+hold_by holds = if holds == most_holds then TooManyHolds else Fine
+
+-- what Hold answers by what was found
+abbrev pub hold_found : Option ℕ → Reply
+hold_found None = Closed
+hold_found (Some holds) = hold_by holds
+
+abbrev pub held_by : ℕ → Reply → ℕ
+held_by word Fine = word + 1
+held_by word reply = word
+
+-- the session word that Hold leaves
+unfoldable pub held_word : ArenaId → ℕ → ℕ
+held_word a word = held_by word (hold_found (alive_holds a word))

@@ -11,6 +11,16 @@ pub enum Step {
     Loads(u64),
     /// Puts the second into the word of the first index.
     Stores(u64, u64),
+    /// Puts the third into the word of the first index, where that is the second.
+    SwapsIf(u64, u64, u64),
+    /// Adds the second to the word of the first index.
+    Adds(u64, u64),
+    /// Where so many bytes were given, gives bytes of this size and alignment.
+    Allocates(u64, u64, u64),
+    /// Where the session word is this one, takes a hold of the arena.
+    Holds(ArenaId, u64),
+    /// Drops a hold of the arena.
+    Unholds(ArenaId),
     /// Publishes nothing any more.
     Unmarks,
     /// Lets nobody into the arena from now on.

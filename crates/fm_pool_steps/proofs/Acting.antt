@@ -1,26 +1,22 @@
 -- The steps that mark, check, unmark and look.
-use Rattle.std.proofs.Common.{◌≡◌, ℕ, ◌*◌, ◌^◌, ◌<◌, true, List, [], ◌∷◌, get_or, sym, refl, ap, ◌∙◌, subst, arith, Option, Some, None}
+use Rattle.std.proofs.Common.{◌≡◌, ℕ, true, List, [], ◌∷◌, get_or, refl, ◌∙◌, Option, Some, None}
 use mathlib.Core.Option.{some}
 use lib.ListN.{get_elem?}
 use Rattle.fm_words.specs.declared.shape.Shape.{Shape}
 use Rattle.fm_words.specs.Places.{at as place_at, mark, session}
 use Rattle.fm_base.specs.declared.arena_id.ArenaId.{ArenaId}
 use Rattle.fm_base.specs.Arenas.{MayUse}
-use Rattle.fm_base.specs.Calls.{Enter, Read, Write, Leave, Fine, Closed, Found, entry_of}
-use Rattle.fm_base.specs.Machine.{words_within}
+use Rattle.fm_base.specs.Calls.{Enter, Leave, Fine, Closed, entry_of}
 use Rattle.fm_depicts.specs.Functions.{put}
 use Rattle.fm_depicts.proofs.Putting.{put_here, put_else, by_here}
-use Rattle.fm_pool_facts.specs.declared.step.Step.TheVariants.{Marks, Checks, Loads, Stores, Unmarks, Looks}
-use Rattle.fm_pool_facts.specs.Views.{View, IsKnown, span, limit_of}
+use Rattle.fm_pool_facts.specs.declared.step.Step.TheVariants.{Marks, Checks, Unmarks, Looks}
+use Rattle.fm_pool_facts.specs.Views.{View, IsKnown}
 use Rattle.fm_pool_facts.specs.Words.{mark_of, alive_holds, enter_found, inside_found}
 use Rattle.fm_pool_facts.specs.Steps.{part, entries, noted, acted, none_noted}
-use Rattle.fm_pool_facts.specs.Facts.{Memory, cell_at, Rule}
+use Rattle.fm_pool_facts.specs.Facts.{Memory, Rule}
 use Rattle.fm_pool_facts.specs.Moves.{MayStep, MayStore}
-use Rattle.fm_pool_facts.proofs.Standing.{standing_known}
-use Rattle.fm_pool_facts.proofs.Worlds.{world_mark, world_enter, world_leave, world_write}
-use Rattle.fm_base.specs.Loans.{lent}
-use Rattle.fm_pool_facts.proofs.Lending.{word_lent}
-use Rattle.fm_pool_facts.proofs.Shown.{shows_same, shows_mark, shows_cell}
+use Rattle.fm_pool_facts.proofs.Worlds.{world_mark, world_enter, world_leave}
+use Rattle.fm_pool_facts.proofs.Shown.{shows_same, shows_mark}
 use Rattle.fm_pool_steps.proofs.Reading.{Says, says, enter_says}
 use Rattle.fm_pool_steps.proofs.Plain.{same_none, own, low, known_now, Made, plain}
 
@@ -56,6 +52,7 @@ module _ (z : Shape) (me : ℕ) (v : View) (l : v.live ≡ true) where
           closes = refl;
           hand = refl;
           was = λ b h. h;
+          holds = λ a n. refl;
           lends = tt;
           loans = r.loans;
           shows = shows_mark z r.valid ws r.memory r.shows n (Some a) (low z ws vs r me v at l);
@@ -110,6 +107,7 @@ module _ (z : Shape) (me : ℕ) (v : View) (l : v.live ≡ true) where
             closes = refl;
             hand = refl;
             was = λ b h. h;
+            holds = λ a n. refl;
             lends = (tt, tt);
             loans = r.loans;
             shows = shows_same z r.valid ws r.memory r.shows (place_at z (session a.slot));
@@ -143,6 +141,7 @@ module _ (z : Shape) (me : ℕ) (v : View) (l : v.live ≡ true) where
             closes = refl;
             hand = refl;
             was = λ b h. h;
+            holds = λ a n. refl;
             lends = (tt, tt);
             loans = r.loans;
             shows = shows_same z r.valid ws r.memory r.shows (place_at z (session a.slot));
@@ -184,6 +183,7 @@ module _ (z : Shape) (me : ℕ) (v : View) (l : v.live ≡ true) where
             closes = refl;
             hand = refl;
             was = λ b h. h;
+            holds = λ a n. refl;
             lends = tt;
             loans = r.loans;
             shows = shows_mark z r.valid ws r.memory r.shows n None (low z ws vs r me v at l);
@@ -217,6 +217,7 @@ module _ (z : Shape) (me : ℕ) (v : View) (l : v.live ≡ true) where
             closes = refl;
             hand = refl;
             was = λ b h. h;
+            holds = λ a n. refl;
             lends = (tt, tt);
             loans = r.loans;
             shows = shows_mark z r.valid ws r.memory r.shows n None (low z ws vs r me v at l);
@@ -242,6 +243,7 @@ module _ (z : Shape) (me : ℕ) (v : View) (l : v.live ≡ true) where
           closes = refl;
           hand = refl;
           was = λ b h. h;
+          holds = λ a n. refl;
           lends = tt;
           loans = r.loans;
           shows = shows_same z r.valid ws r.memory r.shows i;

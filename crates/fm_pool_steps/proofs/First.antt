@@ -6,7 +6,7 @@ use Rattle.std.proofs.lemmas.Bool.{cases_lt}
 use Rattle.std.proofs.lemmas.List.Elements.{All-nil}
 use Rattle.fm_words.specs.declared.shape.Shape.{Shape}
 use Rattle.fm_words.specs.Shapes.{IsValid}
-use Rattle.fm_words.specs.Places.{at as place_at, mark, session, given as given_place, words as word_count}
+use Rattle.fm_words.specs.Places.{at as place_at, front, slot_bits, mark, session, given as given_place, words as word_count}
 use Rattle.fm_words.specs.Sessions.{session_word}
 use Rattle.fm_depicts.specs.Steps.{opening}
 use Rattle.fm_depicts.proofs.Depicting.{always}
@@ -73,9 +73,11 @@ shows_blank : (z : Shape) → Shows z (words_of z) blank
 unfolding blank place_at cell_at
 shows_blank z = record {
   wide = length-set (replicate (word_count z) 0) 1 1 ∙ length-replicate (word_count z) 0;
+  front = zero_at (word_count z) (place_at z front) (λ e. omega arith);
   draw =
       get_or-set_same (replicate (word_count z) 0) 1 1 0
       (let a = two_words z in let b : length (zeros_of (word_count z)) ≡ word_count z = length-replicate (word_count z) 0 in omega arith);
+  slot_bits = zero_at (word_count z) (place_at z slot_bits) (λ e. omega arith);
   terms = λ k. refl;
   marks = λ k h. zero_at (word_count z) (place_at z (mark k)) (λ e. omega arith);
   sessions = λ s h. zero_at (word_count z) (place_at z (session s)) (λ e. omega arith) ∙ free_code;
@@ -146,7 +148,7 @@ first_rule z valid = record {
       newest = λ s a. ⊎_elim (λ e. absurd (cc)) (λ e. absurd (cc));
       fits = λ a n. absurd (n refl);
     };
-    counts = record { shown = λ a e. absurd (cc); none = λ a e. refl; few = λ a. omega arith };
+    counts = record { shown = λ a e. absurd (cc); only = λ a e. refl; few = λ a. omega arith };
     givens = record { shown = λ a. ⊎_elim (λ e. absurd (cc)) (λ e. absurd (cc)); none = λ a e. refl; clean = λ s g e. refl };
     cells = record { shown = λ a w. ⊎_elim (λ e. absurd (cc)) (λ e. absurd (cc)); none = λ a w e. refl; clean = λ s g w e h. refl };
   };
@@ -155,6 +157,7 @@ first_rule z valid = record {
   numbers = λ n h. record { view = first_view z; there = refl; holds = inl (refl, omega arith) };
   drawers = λ n a b. absurd (omega arith);
   closed = λ a e. absurd (cc);
+  held = λ a n. refl;
   each = go;
 }
   where

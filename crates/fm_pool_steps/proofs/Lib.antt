@@ -2,6 +2,7 @@ pub mod Reading
 pub mod Plain
 pub mod Acting
 pub mod Reaching
+pub mod Holding
 pub mod Closes
 pub mod Shutting
 pub mod Visiting

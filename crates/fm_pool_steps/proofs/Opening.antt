@@ -20,7 +20,7 @@ use Rattle.fm_pool_facts.specs.Moves.{MayMake, Moved, Same, MayStore}
 use Rattle.fm_pool_facts.proofs.Keeping.{closing_on, opened_on}
 use Rattle.fm_pool_facts.proofs.Standing.{open_new}
 use Rattle.fm_pool_facts.proofs.Worlds.{world_open}
-use Rattle.fm_base.specs.Loans.{lent}
+use Rattle.fm_pool_facts.specs.Loans.{lent}
 use Rattle.fm_pool_facts.proofs.Lending.{loans_open}
 use Rattle.fm_pool_facts.proofs.Shown.{shows_session}
 use Rattle.fm_pool_facts.proofs.Ruling.{keeps}
@@ -127,6 +127,7 @@ module _ (z : Shape) (me : ℕ) (v : View) (l : v.live ≡ true) (slot : Slot) (
       ((r.machine.life b ≡ Closes) × (r.owners.closer b ≡ r.owners.closer b) × (HasClose b v → HasClose b p)))
       (λ e q. absurd (cc))
       (λ n q. inr (q, refl, (λ y. y))))
+      (λ b n. refl)
       (shows_session z r.valid ws r.memory r.shows a.slot (live a) 0 fit.slot)
       (world_open z r.memory r.machine r.world a free_now fit)
       (record {

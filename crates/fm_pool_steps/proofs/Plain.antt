@@ -14,12 +14,12 @@ use Rattle.fm_depicts.specs.Steps.{moved_by}
 use Rattle.fm_pool_facts.specs.declared.slot.Slot.{Slot}
 use Rattle.fm_pool_facts.specs.Views.{View, In, HasSlot, IsKnown, limit_of}
 use Rattle.fm_pool_facts.specs.Facts.{Memory, free, Shows, World, IsOnce, HasClose, WasOpened, Owns, Rule}
-use Rattle.fm_pool_facts.specs.Moves.{MayMake, NoEnd, Moved, Same, Part, KeepsCloses, Gives}
+use Rattle.fm_pool_facts.specs.Moves.{MayMake, NoEnd, Moved, Same, Part, KeepsCloses, KeepsHolds, Gives}
 use Rattle.fm_base.specs.Histories.{IsLegal}
 use Rattle.fm_base.proofs.Making.{state_after-append, IsLegal-split}
 use Rattle.fm_base.proofs.Growing.{Grows-state_after}
 use Rattle.fm_pool_facts.proofs.Keeping.{closing_on, opened_on}
-use Rattle.fm_base.specs.Loans.{lent, loans_after}
+use Rattle.fm_pool_facts.specs.Loans.{lent, loans_after}
 use Rattle.fm_pool_facts.specs.Facts.{Loans}
 use Rattle.fm_pool_facts.specs.Moves.{MayLend}
 use Rattle.fm_pool_facts.specs.Views.{span}
@@ -123,6 +123,7 @@ pub record Plain (z : Shape) (ws : List ℕ) (vs : List View) (r : Rule z ws vs)
   pub closes : p.closes ≡ v.closes
   pub hand : p.hand ≡ v.hand
   pub was : (a : ArenaId) → (moved_by r.machine es).life a ≡ Closes → r.machine.life a ≡ Closes
+  pub holds : KeepsHolds v p r.machine (moved_by r.machine es)
   pub lends : MayLend (span z) r.machine (lent r.history) es
   pub loans : Loans (loans_after (lent r.history) es) m'.sessions (moved_by r.machine es).life
   pub shows : Shows z (set ws i x) m'
@@ -137,6 +138,6 @@ plain z ws vs r me v at l i x p es fs m' q =
     keeps z ws (set ws i x) vs r me v p es fs m' r.owners at l
     (plain_moved z ws vs r me v at l es m' p q.may q.ends q.marks q.terms q.draw q.still)
     q.same q.lends q.loans
-    (plain_closes z ws vs r me v at l es m' p q.same q.closes q.was)
+    (plain_closes z ws vs r me v at l es m' p q.same q.closes q.was) q.holds
     q.shows q.world
     (plain_part z ws vs r me v at l es m' p q.may q.ends q.same q.closes q.hand q.still q.inside q.mark)

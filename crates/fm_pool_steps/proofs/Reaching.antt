@@ -1,28 +1,27 @@
--- The steps that load and store a word of an arena.
-use Rattle.std.proofs.Common.{◌≡◌, ℕ, ◌*◌, ◌^◌, ◌<◌, true, List, [], ◌∷◌, get_or, sym, refl, ap, ◌∙◌, subst, arith, Option, Some, None}
+-- The steps that act on a word of the arena that the pass is inside, or give bytes of it.
+use Rattle.std.proofs.Common.{◌≡◌, ℕ, ◌+◌, ◌*◌, ◌%◌, ◌^◌, ◌<◌, ◌==◌, nat_le, Bool, true, false, if◌then◌else◌, List, [], ◌∷◌, get_or, set, sym, refl, ap, ◌∙◌, subst, arith, Option, Some}
 use mathlib.Core.Option.{some}
 use lib.ListN.{get_elem?}
+use prog.Atomic.{either}
 use Rattle.fm_words.specs.declared.shape.Shape.{Shape}
-use Rattle.fm_words.specs.Places.{at as place_at, mark, session}
+use Rattle.fm_words.specs.Places.{at as place_at, given as given_place}
 use Rattle.fm_base.specs.declared.arena_id.ArenaId.{ArenaId}
-use Rattle.fm_base.specs.Arenas.{MayUse}
-use Rattle.fm_base.specs.Calls.{Enter, Read, Write, Leave, Fine, Closed, Found, entry_of}
-use Rattle.fm_base.specs.Machine.{words_within}
-use Rattle.fm_depicts.specs.Functions.{put}
-use Rattle.fm_depicts.proofs.Putting.{put_here, put_else, by_here}
-use Rattle.fm_pool_facts.specs.declared.step.Step.TheVariants.{Marks, Checks, Loads, Stores, Unmarks, Looks}
-use Rattle.fm_pool_facts.specs.Views.{View, IsKnown, span, limit_of}
-use Rattle.fm_pool_facts.specs.Words.{mark_of, alive_holds, enter_found, inside_found}
-use Rattle.fm_pool_facts.specs.Steps.{part, entries, noted, acted, none_noted}
-use Rattle.fm_pool_facts.specs.Facts.{Memory, cell_at, Rule}
-use Rattle.fm_pool_facts.specs.Moves.{MayStep, MayStore}
+use Rattle.fm_base.specs.Calls.{Call, Read, Write, SwapIf, Add, Allocate, Reply, Fine, Found, Given, NoRoom, entry_of}
+use Rattle.fm_base.specs.Machine.{words_within, IsPower, rounded_up, allocate_reply}
+use Rattle.fm_depicts.specs.Functions.{Machine, put, put_at, moved, MayBy, reply_by}
+use Rattle.fm_pool_facts.specs.declared.step.Step.TheVariants.{Loads, Stores, SwapsIf, Adds, Allocates}
+use Rattle.fm_pool_facts.specs.Views.{View, Fits, span, limit_of}
+use Rattle.fm_pool_facts.specs.Loans.{Loan, loans_by, lent}
+use Rattle.fm_pool_facts.specs.Holds.{holds_of}
+use Rattle.fm_pool_facts.specs.Steps.{part, entries, noted, acted, none_noted, where_found, given_next}
+use Rattle.fm_pool_facts.specs.Facts.{Memory, Loans, IsStanding, Shows, World, cell_at, Rule}
+use Rattle.fm_pool_facts.specs.Moves.{Ends, LendsBy, MayStep, MayStore}
 use Rattle.fm_pool_facts.proofs.Standing.{standing_known}
-use Rattle.fm_pool_facts.proofs.Worlds.{world_mark, world_enter, world_leave, world_write}
-use Rattle.fm_base.specs.Loans.{lent}
+use Rattle.fm_pool_facts.proofs.Worlds.{world_write, world_given}
 use Rattle.fm_pool_facts.proofs.Lending.{word_lent}
-use Rattle.fm_pool_facts.proofs.Shown.{shows_same, shows_mark, shows_cell}
-use Rattle.fm_pool_steps.proofs.Reading.{Says, says, enter_says}
-use Rattle.fm_pool_steps.proofs.Plain.{same_none, own, low, known_now, Made, plain}
+use Rattle.fm_pool_facts.proofs.Shown.{shows_same, shows_cell, shows_given}
+use Rattle.fm_pool_steps.proofs.Reading.{eqb_true}
+use Rattle.fm_pool_steps.proofs.Plain.{same_none, own, Made, plain}
 
 -- an arena has the words of its slot
 span_within : (z : Shape) (w : ℕ) → w < span z → w < words_within (limit_of z)
@@ -31,31 +30,187 @@ span_within z w h = subst (λ (n : ℕ). w < n) (sym (all (span z))) h
     all : (x : ℕ) → words_within (x * 8) ≡ x
     all x = omega arith
 
-module _ (z : Shape) (me : ℕ) (v : View) (l : v.live ≡ true) where
-  -- a word of the arena that the caller is inside
-  pub load_steps : (a : ArenaId) (w : ℕ) → v.inside ≡ Some a → w < span z → MayStep z (Loads w) me v (cell_at z a.slot w) (λ n. n)
-  unfolding part entries noted
-  load_steps a w ins h = record {
-    may = λ ws vs r at.
-        let x : ℕ = get_or ws (cell_at z a.slot w) 0 in
-        let g =
-        subst (λ (i : Option ArenaId). Made z ws vs me v (cell_at z a.slot w) x v (acted i v.caller (λ b. Read b w) (Found x)) none_noted) (sym ins)
-        (go ws vs r at) in
-        (g.0, g.1, record { gives = g.2; learns = tt });
-  }
-    where
-      go : (ws : List ℕ) (vs : List View) (r : Rule z ws vs) (at : get_elem? vs me ≡ some v) → let x = get_or ws (cell_at z a.slot w) 0 in
-          Made z ws vs me v (cell_at z a.slot w) x v (entry_of v.caller (Read a w) (Found x) ∷ []) none_noted
-      go ws vs r at =
+module _ (z : Shape) (me : ℕ) (v : View) (l : v.live ≡ true) (a : ArenaId) (ins : v.inside ≡ Some a) where
+  module _ (ws : List ℕ) (vs : List View) (r : Rule z ws vs) (at : get_elem? vs me ≡ some v) where
+    here : r.machine.inside v.caller ≡ Some a
+    here = (own z ws vs r me v at l).inside ∙ ins
+
+    stands : IsStanding (r.machine.life a)
+    stands = (r.world.marked v.caller a here).stands
+
+    fit : Fits z a
+    fit = r.world.sessions.fits a (standing_known (r.machine.life a) stands)
+
+    -- the step that makes this one entry, and leaves the words and the given bytes so
+    act : (i x : ℕ) (call : Call) (reply : Reply) (m' : ℕ → ℕ → ℕ) (g' : ℕ → ℕ) (f : ArenaId → ℕ → ℕ) (g : ArenaId → ℕ)
+        → moved r.machine v.caller call reply ≡ record r.machine { word = f; given = g } → MayBy (limit_of z) r.machine v.caller call
+        → reply ≡ reply_by (limit_of z) r.machine call → ((b : ArenaId) → ¬ (Ends call b)) → LendsBy (span z) r.machine (lent r.history) call
+        → loans_by (lent r.history) call ≡ lent r.history → Shows z (set ws i x) (record r.memory { cells = m'; given = g' })
+        → World z (record r.memory { cells = m'; given = g' }) (record r.machine { word = f; given = g })
+        → Made z ws vs me v i x v (entry_of v.caller call reply ∷ []) none_noted
+    act i x call reply m' g' f g is may answer ends lends same shows world =
+        let k = own z ws vs r me v at l in
+        let m : Memory = record r.memory { cells = m'; given = g' } in
+        plain z ws vs r me v at l i x v (entry_of v.caller call reply ∷ []) none_noted m (record {
+          may = (refl, may, answer, tt);
+          ends = λ b. (ends b, tt);
+          marks = λ k h. refl;
+          terms = λ k. refl;
+          draw = refl;
+          still = λ s g f. f;
+          same = same_none v;
+          closes = refl;
+          hand = refl;
+          was = λ b h. ap (λ (t : Machine). t.life b) (sym is) ∙ h;
+          holds = λ b n. ap (λ (t : Machine). holds_of b v + t.holds b) (sym is);
+          lends = (lends, tt);
+          loans = subst (λ (x : List Loan × Machine). Loans x.0 r.memory.sessions x.1.life) (λ j. (sym same j, sym is j)) r.loans;
+          shows = shows;
+          world = subst (World z m) (sym is) world;
+          inside = ap (λ (t : Machine). t.inside v.caller) is ∙ k.inside;
+          mark = k.mark;
+        })
+
+  module _ (w : ℕ) (h : w < span z) where
+    abbrev i : ℕ
+    i = cell_at z a.slot w
+
+    abbrev found : List ℕ → ℕ
+    found ws = get_or ws i 0
+
+    module _ (ws : List ℕ) (vs : List View) (r : Rule z ws vs) (at : get_elem? vs me ≡ some v) where
+      -- what is found is the machine's word
+      is_word : found ws ≡ r.machine.word a w
+      is_word = r.shows.cells a.slot w (fit ws vs r at).slot h ∙ sym (r.world.cells.shown a w (stands ws vs r at) h)
+
+      lends : LendsBy (span z) r.machine (lent r.history) (Read a w)
+      lends = word_lent (lent r.history) r.memory.sessions r.machine.life r.loans a (span z) w (standing_known (r.machine.life a) (stands ws vs r at)) h
+
+      -- the word is left as it was
+      looks : (call : Call) (reply : Reply) → moved r.machine v.caller call reply ≡ r.machine → MayBy (limit_of z) r.machine v.caller call
+          → reply ≡ reply_by (limit_of z) r.machine call → ((b : ArenaId) → ¬ (Ends call b)) → LendsBy (span z) r.machine (lent r.history) call
+          → loans_by (lent r.history) call ≡ lent r.history → Made z ws vs me v i (found ws) v (entry_of v.caller call reply ∷ []) none_noted
+      looks call reply is may answer ends lends same =
+          act ws vs r at i (found ws) call reply r.memory.cells r.memory.given r.machine.word r.machine.given is may answer ends lends same
+          (shows_same z r.valid ws r.memory r.shows i) r.world
+
+      -- the word becomes y
+      puts : (y : ℕ) (call : Call) (reply : Reply)
+          → moved r.machine v.caller call reply ≡ record r.machine { word = put_at r.machine.word a (put (r.machine.word a) w y) }
+          → MayBy (limit_of z) r.machine v.caller call → reply ≡ reply_by (limit_of z) r.machine call → ((b : ArenaId) → ¬ (Ends call b))
+          → LendsBy (span z) r.machine (lent r.history) call → loans_by (lent r.history) call ≡ lent r.history
+          → Made z ws vs me v i y v (entry_of v.caller call reply ∷ []) none_noted
+      puts y call reply is may answer ends lends same =
+          act ws vs r at i y call reply (put r.memory.cells a.slot (put (r.memory.cells a.slot) w y)) r.memory.given
+          (put_at r.machine.word a (put (r.machine.word a) w y)) r.machine.given is may answer ends lends same
+          (shows_cell z r.valid ws r.memory r.shows a.slot w y (fit ws vs r at).slot h)
+          (world_write z r.memory r.machine r.world a w y (stands ws vs r at))
+
+      load : Made z ws vs me v i (found ws) v (entry_of v.caller (Read a w) (Found (found ws)) ∷ []) none_noted
+      load = looks (Read a w) (Found (found ws)) refl (here ws vs r at, span_within z w h) (ap Found is_word) (λ b n. n) lends refl
+
+      store : (y : ℕ) → y < 2 ^ 64 → Made z ws vs me v i y v (entry_of v.caller (Write a w y) Fine ∷ []) none_noted
+      store y fits = puts y (Write a w y) Fine refl ((here ws vs r at, span_within z w h), fits) refl (λ b n. n) lends refl
+
+      swap : (old y : ℕ) → y < 2 ^ 64 → (b : Bool) → (found ws == old) ≡ b
+          → Made z ws vs me v i (either b y (found ws)) v (entry_of v.caller (SwapIf a w old y) (Found (found ws)) ∷ []) none_noted
+      swap old y fits true e = puts y (SwapIf a w old y) (Found (found ws))
+          (ap (λ (c : Bool). if c then record r.machine { word = put_at r.machine.word a (put (r.machine.word a) w y) } else r.machine) e)
+          ((here ws vs r at, span_within z w h), fits) (ap Found is_word) (λ b n. n) lends refl
+      swap old y fits false e = looks (SwapIf a w old y) (Found (found ws))
+          (ap (λ (c : Bool). if c then record r.machine { word = put_at r.machine.word a (put (r.machine.word a) w y) } else r.machine) e)
+          ((here ws vs r at, span_within z w h), fits) (ap Found is_word) (λ b n. n) lends refl
+
+      add : (n : ℕ) → Made z ws vs me v i ((found ws + n) % 2 ^ 64) v (entry_of v.caller (Add a w n) (Found (found ws)) ∷ []) none_noted
+      add n = puts ((found ws + n) % 2 ^ 64) (Add a w n) (Found (found ws)) refl (here ws vs r at, span_within z w h) (ap Found is_word) (λ b n. n) lends refl
+
+    -- a word of the arena that the caller is inside
+    pub load_steps : MayStep z (Loads w) me v i (λ n. n)
+    unfolding part entries noted
+    load_steps = record {
+      may = λ ws vs r at.
+          let g =
+          subst (λ (o : Option ArenaId). Made z ws vs me v i (found ws) v (acted o v.caller (λ b. Read b w) (Found (found ws))) none_noted) (sym ins)
+          (load ws vs r at) in
+          (g.0, g.1, record { gives = g.2; learns = tt });
+    }
+
+    pub store_steps : (y : ℕ) → y < 2 ^ 64 → MayStore z (Stores w y) me v i y
+    unfolding part entries noted
+    store_steps y fits = record {
+      may = λ ws vs r at.
+          let g =
+          subst (λ (o : Option ArenaId). Made z ws vs me v i y v (acted o v.caller (λ b. Write b w y) Fine) none_noted) (sym ins)
+          (store ws vs r at y fits) in
+          (g.0, g.1, record { gives = g.2; learns = tt });
+    }
+
+    pub swap_steps : (old y : ℕ) → y < 2 ^ 64 → MayStep z (SwapsIf w old y) me v i (λ n. either (n == old) y n)
+    unfolding part entries noted
+    swap_steps old y fits = record {
+      may = λ ws vs r at.
+          let g =
+          subst (λ (o : Option ArenaId). Made z ws vs me v i (either (found ws == old) y (found ws)) v
+          (acted o v.caller (λ b. SwapIf b w old y) (Found (found ws))) none_noted) (sym ins)
+          (swap ws vs r at old y fits (found ws == old) refl) in
+          (g.0, g.1, record { gives = g.2; learns = tt });
+    }
+
+    pub add_steps : (k : ℕ) → MayStep z (Adds w k) me v i (λ n. (n + k) % 2 ^ 64)
+    unfolding part entries noted
+    add_steps k = record {
+      may = λ ws vs r at.
+          let g =
+          subst (λ (o : Option ArenaId). Made z ws vs me v i ((found ws + k) % 2 ^ 64) v
+          (acted o v.caller (λ b. Add b w k) (Found (found ws))) none_noted) (sym ins)
+          (add ws vs r at k) in
+          (g.0, g.1, record { gives = g.2; learns = tt });
+    }
+
+  -- ---- bytes are given
+
+  module _ (count size align : ℕ) (power : IsPower align) where
+    abbrev place : ℕ
+    place = place_at z (given_place a.slot)
+
+    abbrev round : ℕ
+    round = rounded_up count align
+
+    module _ (ws : List ℕ) (vs : List View) (r : Rule z ws vs) (at : get_elem? vs me ≡ some v) where
+      is_given : get_or ws place 0 ≡ r.machine.given a
+      is_given = r.shows.given a.slot (fit ws vs r at).slot ∙ r.world.givens.shown a (stands ws vs r at)
+
+      -- where the count was the expected one, the range fits or it doesn't
+      gives : get_or ws place 0 ≡ count → (b : Bool) → nat_le (round + size) (limit_of z) ≡ b
+          → Made z ws vs me v place (if b then round + size else count) v
+          (entry_of v.caller (Allocate a size align) (if b then Given round else NoRoom count) ∷ []) none_noted
+      gives e true fits =
+          act ws vs r at place (round + size) (Allocate a size align) (Given round) r.memory.cells (put r.memory.given a.slot (round + size))
+          r.machine.word (put_at r.machine.given a (round + size)) refl (here ws vs r at, power) (answer true fits) (λ b n. n) tt refl
+          (shows_given z r.valid ws r.memory r.shows a.slot (round + size) (fit ws vs r at).slot)
+          (world_given z r.memory r.machine r.world a (round + size) (stands ws vs r at))
+        where
+          answer : (b : Bool) → nat_le (round + size) (limit_of z) ≡ b
+              → (if b then Given round else NoRoom count) ≡ allocate_reply (limit_of z) (r.machine.given a) size align
+          answer b q = ap (λ (c : Bool). if c then Given round else NoRoom count) (sym q)
+              ∙ ap (λ (n : ℕ). allocate_reply (limit_of z) n size align) (sym e ∙ is_given)
+      gives e false fits =
+          act ws vs r at place count (Allocate a size align) (NoRoom count) r.memory.cells r.memory.given
+          r.machine.word r.machine.given refl (here ws vs r at, power) (answer false fits) (λ b n. n) tt refl
+          (subst (λ (x : ℕ). Shows z (set ws place x) r.memory) e (shows_same z r.valid ws r.memory r.shows place)) r.world
+        where
+          answer : (b : Bool) → nat_le (round + size) (limit_of z) ≡ b
+              → (if b then Given round else NoRoom count) ≡ allocate_reply (limit_of z) (r.machine.given a) size align
+          answer b q = ap (λ (c : Bool). if c then Given round else NoRoom count) (sym q)
+              ∙ ap (λ (n : ℕ). allocate_reply (limit_of z) n size align) (sym e ∙ is_given)
+
+      -- another count was found
+      misses : Made z ws vs me v place (get_or ws place 0) v [] none_noted
+      misses =
           let k = own z ws vs r me v at l in
-          let x : ℕ = get_or ws (cell_at z a.slot w) 0 in
-          let here = k.inside ∙ ins in
-          let stands = (r.world.marked v.caller a here).stands in
-          let fit = r.world.sessions.fits a (standing_known (r.machine.life a) stands) in
-          let is : x ≡ r.machine.word a w = r.shows.cells a.slot w fit.slot h ∙ sym (r.world.cells.shown a w stands h) in
-          plain z ws vs r me v at l (cell_at z a.slot w) x v (entry_of v.caller (Read a w) (Found x) ∷ []) none_noted r.memory (record {
-            may = (refl, (here, span_within z w h), ap Found is, tt);
-            ends = λ b. ((λ h. h), tt);
+          plain z ws vs r me v at l place (get_or ws place 0) v [] none_noted r.memory (record {
+            may = tt;
+            ends = λ b. tt;
             marks = λ k h. refl;
             terms = λ k. refl;
             draw = refl;
@@ -64,47 +219,31 @@ module _ (z : Shape) (me : ℕ) (v : View) (l : v.live ≡ true) where
             closes = refl;
             hand = refl;
             was = λ b h. h;
-            lends = (word_lent (lent r.history) r.memory.sessions r.machine.life r.loans a (span z) w (standing_known (r.machine.life a) stands) h, tt);
+            holds = λ b n. refl;
+            lends = tt;
             loans = r.loans;
-            shows = shows_same z r.valid ws r.memory r.shows (cell_at z a.slot w);
+            shows = shows_same z r.valid ws r.memory r.shows place;
             world = r.world;
             inside = k.inside;
             mark = k.mark;
           })
 
-  pub store_steps : (a : ArenaId) (w y : ℕ) → v.inside ≡ Some a → w < span z → y < 2 ^ 64 → MayStore z (Stores w y) me v (cell_at z a.slot w) y
-  unfolding part entries noted
-  store_steps a w y ins h fits = record {
-    may = λ ws vs r at.
-        let g =
-        subst (λ (i : Option ArenaId). Made z ws vs me v (cell_at z a.slot w) y v (acted i v.caller (λ b. Write b w y) Fine) none_noted) (sym ins)
-        (go ws vs r at) in
-        (g.0, g.1, record { gives = g.2; learns = tt });
-  }
-    where
-      go : (ws : List ℕ) (vs : List View) (r : Rule z ws vs) (at : get_elem? vs me ≡ some v)
-          → Made z ws vs me v (cell_at z a.slot w) y v (entry_of v.caller (Write a w y) Fine ∷ []) none_noted
-      go ws vs r at =
-          let k = own z ws vs r me v at l in
-          let here = k.inside ∙ ins in
-          let stands = (r.world.marked v.caller a here).stands in
-          let fit = r.world.sessions.fits a (standing_known (r.machine.life a) stands) in
-          plain z ws vs r me v at l (cell_at z a.slot w) y v (entry_of v.caller (Write a w y) Fine ∷ []) none_noted
-          (record r.memory { cells = put r.memory.cells a.slot (put (r.memory.cells a.slot) w y) }) (record {
-            may = (refl, ((here, span_within z w h), fits), refl, tt);
-            ends = λ b. ((λ h. h), tt);
-            marks = λ k h. refl;
-            terms = λ k. refl;
-            draw = refl;
-            still = λ s g f. f;
-            same = same_none v;
-            closes = refl;
-            hand = refl;
-            was = λ b h. h;
-            lends = (word_lent (lent r.history) r.memory.sessions r.machine.life r.loans a (span z) w (standing_known (r.machine.life a) stands) h, tt);
-            loans = r.loans;
-            shows = shows_cell z r.valid ws r.memory r.shows a.slot w y fit.slot h;
-            world = world_write z r.memory r.machine r.world a w y stands;
-            inside = k.inside;
-            mark = k.mark;
-          })
+      exchanged : (b : Bool) → (get_or ws place 0 == count) ≡ b
+          → Made z ws vs me v place (either b (given_next (limit_of z) count size align) (get_or ws place 0)) v
+          (where_found b (entry_of v.caller (Allocate a size align) (allocate_reply (limit_of z) count size align) ∷ [])) none_noted
+      exchanged true e = gives (eqb_true (get_or ws place 0) count e) (nat_le (round + size) (limit_of z)) refl
+      exchanged false e = misses
+
+    -- bytes are given where the count was the expected one
+    pub allocate_steps : v.shape ≡ z → MayStep z (Allocates count size align) me v place (λ n. either (n == count) (given_next (limit_of z) count size align) n)
+    unfolding part entries noted
+    allocate_steps sh = record {
+      may = λ ws vs r at.
+          let x : ℕ = get_or ws place 0 in
+          let g =
+          subst (λ (o : Option ArenaId × Shape). Made z ws vs me v place (either (x == count) (given_next (limit_of z) count size align) x) v
+          (where_found (x == count) (acted o.0 v.caller (λ b. Allocate b size align) (allocate_reply (limit_of o.1) count size align))) none_noted)
+          (λ j. (sym ins j, sym sh j))
+          (exchanged ws vs r at (x == count) refl) in
+          (g.0, g.1, record { gives = g.2; learns = tt });
+    }

@@ -9,12 +9,12 @@ use Rattle.fm_base.specs.declared.kind.Kind.{Kind}
 use Rattle.fm_base.specs.declared.kind.Kind.TheVariants.{Global, Automatic, Confined, Shared}
 use Rattle.fm_base.specs.Arenas.{kind_number}
 use Rattle.fm_base.specs.Calls.{Closed}
-use Rattle.fm_depicts.specs.Functions.{Stage, Fresh, Lives, Closes, Over, Machine, enter_stage, shut_stage}
+use Rattle.fm_depicts.specs.Functions.{Stage, Fresh, Lives, Closes, Over, Machine, enter_stage, hold_stage, shut_stage}
 use Rattle.fm_depicts.proofs.Putting.{one_arena}
-use Rattle.fm_pool_facts.specs.Words.{alive_word, closing_word, alive_holds, enter_found, shut_found, shut_by}
+use Rattle.fm_pool_facts.specs.Words.{alive_word, closing_word, alive_holds, enter_found, hold_found, hold_by, shut_found, shut_by}
 use Rattle.fm_pool_facts.specs.Facts.{Session, free, live, shut, Memory, session_code, World}
 
-kind_below : (k : Kind) → kind_number k ≤ 3
+pub kind_below : (k : Kind) → kind_number k ≤ 3
 kind_below Global = omega arith
 kind_below Automatic = omega arith
 kind_below Confined = omega arith
@@ -126,3 +126,13 @@ shut_says t a None s = go (t.life a) s
     go Closes n = refl
     go Over n = refl
 shut_says t a (Some n) s = ap shut_by s.1 ∙ ap (λ (l : Stage). shut_stage l (t.holds a)) (sym s.0)
+
+pub hold_says : (t : Machine) (a : ArenaId) (o : Option ℕ) → Says t a o → hold_found o ≡ hold_stage (t.life a) (t.holds a)
+hold_says t a None s = go (t.life a) s
+  where
+    go : (l : Stage) → l ≢ Lives → Closed ≡ hold_stage l (t.holds a)
+    go Fresh n = refl
+    go Lives n = absurd (n refl)
+    go Closes n = refl
+    go Over n = refl
+hold_says t a (Some n) s = ap hold_by s.1 ∙ ap (λ (l : Stage). hold_stage l (t.holds a)) (sym s.0)

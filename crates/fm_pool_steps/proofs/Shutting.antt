@@ -1,5 +1,5 @@
 -- The step that shuts an arena.
-use Rattle.std.proofs.Common.{◌≡◌, ◌≢◌, ℕ, ◌==◌, Bool, true, false, if◌then◌else◌, List, [], ◌∷◌, set, get_or, sym, refl, ap, ◌∙◌, subst, arith, inl, inr, ⊎_elim, Option, Some, None, eq-eqb, ne_eqb}
+use Rattle.std.proofs.Common.{◌≡◌, ◌≢◌, ℕ, ◌+◌, ◌==◌, Bool, true, false, if◌then◌else◌, List, [], ◌∷◌, set, get_or, sym, refl, ap, ◌∙◌, subst, arith, inl, inr, ⊎_elim, Option, Some, None, eq-eqb, ne_eqb}
 use mathlib.Core.Option.{some}
 use mathlib.Core.Logic.{dite}
 use lib.ListN.{get_elem?}
@@ -17,6 +17,7 @@ use Rattle.fm_depicts.proofs.Putting.{put_else, at_here, at_other, one_arena}
 use Rattle.fm_pool_facts.specs.declared.step.Step.TheVariants.{Shuts}
 use Rattle.fm_pool_facts.specs.Views.{View, In, HasSlot, IsKnown, limit_of}
 use Rattle.fm_pool_facts.specs.Words.{alive_word, closing_word, alive_holds, shut_found}
+use Rattle.fm_pool_facts.specs.Holds.{holds_of}
 use Rattle.fm_pool_facts.specs.Closes.{begun, close_of}
 use Rattle.fm_pool_facts.specs.Steps.{part, entries, noted, none_noted}
 use Rattle.fm_pool_facts.specs.Facts.{Memory, free, shut, Owners, World, IsClosing, HasClose, WasOpened, Rule}
@@ -24,7 +25,7 @@ use Rattle.fm_pool_facts.specs.Moves.{MayMake, Moved, Same, MayStep}
 use Rattle.fm_pool_facts.proofs.Keeping.{closing_on, opened_on}
 use Rattle.fm_pool_facts.proofs.Standing.{free_apart}
 use Rattle.fm_pool_facts.proofs.Worlds.{world_shut}
-use Rattle.fm_base.specs.Loans.{lent, loans_after}
+use Rattle.fm_pool_facts.specs.Loans.{lent, loans_after}
 use Rattle.fm_pool_facts.specs.Facts.{Loans}
 use Rattle.fm_depicts.proofs.Putting.{put_cases}
 use Rattle.fm_pool_facts.proofs.Lending.{loans_still}
@@ -62,6 +63,7 @@ module _ (z : Shape) (me : ℕ) (v : View) (l : v.live ≡ true) (a : ArenaId) (
         closes = refl;
         hand = refl;
         was = λ b h. ap (λ (t : Machine). t.life b) (sym stays) ∙ h;
+        holds = λ b n. ap (λ (t : Machine). holds_of b v + t.holds b) (sym stays);
         lends = (tt, tt);
         loans =
             subst (λ (t : Machine). Loans (loans_after (lent r.history) (entry_of v.caller (Shut a) reply ∷ [])) r.memory.sessions t.life) (sym stays) r.loans;
@@ -118,8 +120,9 @@ module _ (z : Shape) (me : ℕ) (v : View) (l : v.live ≡ true) (a : ArenaId) (
       (λ b h. dite (one_arena b a)
       (λ e. inl (ap (put_at r.owners.closer a me) e ∙ at_here r.owners.closer a me, (l, (close_of a 0, inl refl, sym e))))
       (λ n. inr (sym (at_other r.machine.life a Closes b n) ∙ h, at_other r.owners.closer a me b n, (λ (y : HasClose b v). (y.0, (y.1.0, inr y.1.1, y.1.2))))))
+      (λ b n. refl)
       (shows_session z r.valid ws r.memory r.shows a.slot (shut a) 0 fit.slot)
-      (world_shut z r.memory r.machine r.world a al)
+      (world_shut z r.memory r.machine r.world a al none)
       (record {
         inside = k.inside;
         mark = k.mark;

@@ -1,5 +1,5 @@
 -- The rule over the making of notes and their being met.
-use Rattle.std.proofs.Common.{◌≡◌, ◌≢◌, ◌⊎◌, ℕ, zero, suc, List, [], ◌∷◌, ◌++◌, length, set, sym, refl, ap, subst, inl, inr, ⊎_elim}
+use Rattle.std.proofs.Common.{◌≡◌, ◌≢◌, ◌⊎◌, ℕ, zero, suc, Bool, if◌then◌else◌, arith, ◌∙◌, List, [], ◌∷◌, ◌++◌, length, set, sym, refl, ap, subst, inl, inr, ⊎_elim}
 use mathlib.Core.Option.{some, some-injective, some-ne-none}
 use lib.ListN.{get_elem?}
 use Rattle.atomic_table.proofs.Lists.{at_set, at_longer}
@@ -9,7 +9,9 @@ use Rattle.fm_base.specs.Calls.{Entry}
 use Rattle.fm_pool_facts.specs.Views.{View, In}
 use Rattle.fm_pool_facts.specs.Splits.{note, met, nothing_seen, IsBare}
 use Rattle.fm_pool_facts.specs.Facts.{HasNumber, HasDraw, HasClose, Somewhere, Begins, Knows, Rule}
+use Rattle.fm_pool_facts.specs.Holds.{holds_of, how_many, total}
 use Rattle.fm_pool_facts.proofs.Keeping.{stays_somewhere}
+use Rattle.fm_pool_facts.proofs.Summing.{total-set, total-snoc}
 
 at_end : {A : Type 0} (l : List A) (a b : A) (j : ℕ) → get_elem? (l ++ a ∷ []) j ≡ some b → (get_elem? l j ≡ some b) ⊎ ((j ≡ length l) × (a ≡ b))
 at_end [] a b zero e = inr (refl, some-injective a b e)
@@ -44,8 +46,9 @@ pub data Said : (View → Type 0) → Type 1 where
 
 -- the rule with other views, which say all that the views before said
 with_views : (z : Shape) (ws : List ℕ) (vs us : List View) (r : Rule z ws vs) → ((i : ℕ) (P : View → Type 0) → Said P → Somewhere vs i P → Somewhere us i P)
-    → ((j : ℕ) (u : View) → get_elem? us j ≡ some u → Knows z r.history r.memory r.machine r.owners j u) → Rule z ws us
-with_views z ws vs us r on each = record {
+    → ((j : ℕ) (u : View) → get_elem? us j ≡ some u → Knows z r.history r.memory r.machine r.owners j u)
+    → ((a : ArenaId) → total (holds_of a) us ≡ total (holds_of a) vs) → Rule z ws us
+with_views z ws vs us r on each same = record {
   history = r.history;
   memory = r.memory;
   machine = r.machine;
@@ -62,6 +65,7 @@ with_views z ws vs us r on each = record {
   numbers = λ n h. on (r.owners.number n) (HasNumber n) (number n) (r.numbers n h);
   drawers = λ n i h. let y = r.drawers n i h in (y.0, y.1, on (r.owners.number y.0) (HasDraw y.0 n) (draw y.0 n) y.2);
   closed = λ a h. on (r.owners.closer a) (HasClose a) (close a) (r.closed a h);
+  held = λ a n. same a ∙ r.held a n;
   each = each;
 }
 
@@ -76,6 +80,11 @@ note_splits z ws vs r id v at =
     (views_on (set vs id v) (note v) K
     (record { shape = λ q. absurd (cc); begins = k.begins; met = λ xs i. absurd i; owns = λ q. absurd (cc) })
     (views_set vs id v K k (λ j u n e. r.each j u e)))
+    (λ a.
+    let x = total-snoc (holds_of a) (set vs id v) (note v) in
+    let y = total-set (holds_of a) vs id v v at in
+    let none : holds_of a (note v) ≡ 0 = refl in
+    omega arith)
 
 there_before : (vs : List View) (id other : ℕ) (b w : View) → ¬ (other ≡ id) → get_elem? (set vs id b) other ≡ some w → get_elem? vs other ≡ some w
 there_before vs id other b w n e =
@@ -137,3 +146,10 @@ meet_joins z ws vs r id v other w at n at' bare =
       };
     })
     (λ j' u' n' e'. r.each j' u' e') j u e))
+    (λ a.
+    let x = total-set (holds_of a) vs id v (met v w) at in
+    let y = total-set (holds_of a) (set vs id (met v w)) other w nothing_seen at' in
+    let here : holds_of a (met v w) ≡ holds_of a v = refl in
+    let there : holds_of a w ≡ 0 = ap (λ (b : Bool). if b then how_many a w.holds else 0) bare.live in
+    let none : holds_of a nothing_seen ≡ 0 = refl in
+    omega arith)

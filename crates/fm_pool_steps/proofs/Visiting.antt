@@ -21,7 +21,7 @@ use Rattle.fm_pool_facts.specs.Facts.{IsClosing, HasClose, WasOpened, Owns, Rule
 use Rattle.fm_pool_facts.specs.Moves.{MayMake, Moved, Same, MayStep}
 use Rattle.fm_pool_facts.proofs.Keeping.{closing_on, opened_on}
 use Rattle.fm_pool_facts.proofs.Worlds.{world_end}
-use Rattle.fm_base.specs.Loans.{lent}
+use Rattle.fm_pool_facts.specs.Loans.{lent}
 use Rattle.fm_pool_facts.proofs.Lending.{loans_still}
 use Rattle.fm_pool_facts.proofs.Shown.{shows_same}
 use Rattle.fm_pool_facts.proofs.Ruling.{keeps}
@@ -71,6 +71,7 @@ module _ (z : Shape) (me : ℕ) (v : View) (l : v.live ≡ true) (sh : v.shape �
     closes = refl;
     hand = refl;
     was = λ b h. h;
+    holds = λ a n. refl;
     lends = tt;
     loans = r.loans;
     shows = shows_same z r.valid ws r.memory r.shows i;
@@ -107,6 +108,7 @@ module _ (z : Shape) (me : ℕ) (v : View) (l : v.live ≡ true) (sh : v.shape �
       keeps z ws (set ws i found) vs r me v p [] fs r.memory r.owners at l d same
       tt r.loans
       (λ b h. inr (h, refl, (λ (y : HasClose b v). let w = visited_in a y.1.0 v.closes y.1.1 in (y.0, (w.0, w.1, w.2 ∙ y.1.2)))))
+      (λ b n. refl)
       (shows_same z r.valid ws r.memory r.shows i) r.world
       (record {
         inside = mine.inside;
@@ -178,6 +180,7 @@ module _ (z : Shape) (me : ℕ) (v : View) (l : v.live ≡ true) (sh : v.shape �
         refl,
         (λ (y : HasClose b v). (y.0, (y.1.0, dropped_in a y.1.0 v.closes y.1.1 (λ e. ne (sym y.1.2 ∙ e)), y.1.2))),
       ))
+      (λ b n. refl)
       (shows_same z r.valid ws r.memory r.shows i) (world_end z r.memory r.machine r.world a closes_now nobody)
       (record {
         inside = mine.inside;

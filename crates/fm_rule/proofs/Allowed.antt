@@ -9,19 +9,19 @@ use Rattle.fm_base.specs.Calls.{Entry}
 use Rattle.fm_base.specs.Histories.{made_by}
 use Rattle.fm_base.specs.Finds.{Find, Gathered}
 use Rattle.fm_pool_facts.specs.declared.step.Step.{Step}
-use Rattle.fm_pool_facts.specs.declared.step.Step.TheVariants.{Marks, Checks, Loads, Stores, Unmarks, Shuts, Visits, Opens, Looks}
+use Rattle.fm_pool_facts.specs.declared.step.Step.TheVariants.{Marks, Checks, Loads, Stores, SwapsIf, Adds, Allocates, Holds, Unholds, Unmarks, Shuts, Visits, Opens, Looks}
 use Rattle.fm_pool_facts.specs.Views.{View, In, IsSound}
 use Rattle.fm_pool_facts.specs.Steps.{Stepped, part}
 use Rattle.fm_pool_facts.specs.Facts.{Rule, cell_at}
 use Rattle.fm_pool_facts.specs.Moves.{Same, Gives, Tells, MayStep, MayStore}
 use Rattle.fm_rule.specs.Views.{homed, Keeps}
 
-abbrev Holds : Shape → State (Unit {0}) View → Type 0
-Holds z s = Rule z s.words s.views
+abbrev Keeping : Shape → State (Unit {0}) View → Type 0
+Keeping z s = Rule z s.words s.views
 
 -- a step that may be made is allowed
 pub allow : (y z : Shape) (j k : Step) (slots id : ℕ) (m : Me (Unit {0}) View) (i : ℕ) (f : ℕ → ℕ) → y ≡ z → j ≡ k → MayStep y k id m.0 i f
-    → Allows (Holds z) slots id m i f (λ found n. Tells j m.0 found n.0 × (n.1 ≡ m.1))
+    → Allows (Keeping z) slots id m i f (λ found n. Tells j m.0 found n.0 × (n.1 ≡ m.1))
 allow y z j k slots id m i f e' e may s h deep at fits =
     let d = may.may s.words s.views (subst (λ (x : Shape). Rule x s.words s.views) (sym e') h) at in (
       d.0,
@@ -33,7 +33,7 @@ allow y z j k slots id m i f e' e may s h deep at fits =
 
 -- and a store
 pub allow_store : (y z : Shape) (j k : Step) (slots id : ℕ) (m : Me (Unit {0}) View) (i x : ℕ) → y ≡ z → j ≡ k → MayStore y k id m.0 i x
-    → Allows (Holds z) slots id m i (λ _. x) (λ _ n. Tells j m.0 x n.0 × (n.1 ≡ m.1))
+    → Allows (Keeping z) slots id m i (λ _. x) (λ _ n. Tells j m.0 x n.0 × (n.1 ≡ m.1))
 allow_store y z j k slots id m i x e' e may s h deep at fits =
     let d = may.may s.words s.views (subst (λ (c : Shape). Rule c s.words s.views) (sym e') h) at in
     (d.0, keeps, tt, subst (λ (c : Shape). Rule c (set s.words i x) (set s.views id d.0)) e' d.1, (subst (λ (q : Step). Tells q m.0 x d.0) (sym e) d.2, refl))
@@ -83,6 +83,66 @@ same_part (Loads w) v x = record {
   whole = refl;
 }
 same_part (Stores w y) v x = record {
+  home = refl;
+  shape = refl;
+  live = refl;
+  caller = refl;
+  seen = refl;
+  drawn = refl;
+  met = refl;
+  finds = refl;
+  gathered = refl;
+  whole = refl;
+}
+same_part (SwapsIf w o y) v x = record {
+  home = refl;
+  shape = refl;
+  live = refl;
+  caller = refl;
+  seen = refl;
+  drawn = refl;
+  met = refl;
+  finds = refl;
+  gathered = refl;
+  whole = refl;
+}
+same_part (Adds w n) v x = record {
+  home = refl;
+  shape = refl;
+  live = refl;
+  caller = refl;
+  seen = refl;
+  drawn = refl;
+  met = refl;
+  finds = refl;
+  gathered = refl;
+  whole = refl;
+}
+same_part (Allocates g n a) v x = record {
+  home = refl;
+  shape = refl;
+  live = refl;
+  caller = refl;
+  seen = refl;
+  drawn = refl;
+  met = refl;
+  finds = refl;
+  gathered = refl;
+  whole = refl;
+}
+same_part (Holds a w) v x = record {
+  home = refl;
+  shape = refl;
+  live = refl;
+  caller = refl;
+  seen = refl;
+  drawn = refl;
+  met = refl;
+  finds = refl;
+  gathered = refl;
+  whole = refl;
+}
+same_part (Unholds a) v x = record {
   home = refl;
   shape = refl;
   live = refl;

@@ -6,7 +6,7 @@ use Rattle.fm_base.specs.Arenas.{only_caller}
 use Rattle.fm_base.specs.declared.caller.Caller.{Caller}
 use Rattle.fm_base.specs.declared.arena_id.ArenaId.{ArenaId}
 use Rattle.fm_pool_facts.specs.declared.slot.Slot.{Slot}
-use Rattle.fm_pool_facts.specs.declared.step.Step.TheVariants.{Marks, Checks, Loads, Stores, Unmarks, Shuts, Visits, Opens}
+use Rattle.fm_pool_facts.specs.declared.step.Step.TheVariants.{Marks, Checks, Loads, Stores, SwapsIf, Adds, Allocates, Holds, Unholds, Unmarks, Shuts, Visits, Opens}
 use Rattle.fm_pool_facts.specs.Views.{View}
 use Rattle.fm_pool_facts.specs.Splits.{slots_from, first_view}
 use Rattle.fm_pool_facts.specs.Words.{alive_holds, inside_found}
@@ -36,6 +36,36 @@ module _ (c : Caller) (i : Option ArenaId) (from next : ℕ) (v w : View) (held 
   store_keeps b y x t =
       keeps_on c i from next v (part (Stores b y) v x) w (entries (Stores b y) v x) (noted (Stores b y) v x) held held' k
       (same_part (Stores b y) v x) refl refl t.gives e
+
+  pub swap_keeps : (b o y x : ℕ) → Tells (SwapsIf b o y) v x w → Keeps c i from next (w, held')
+  unfolding part entries noted
+  swap_keeps b o y x t =
+      keeps_on c i from next v (part (SwapsIf b o y) v x) w (entries (SwapsIf b o y) v x) (noted (SwapsIf b o y) v x) held held' k
+      (same_part (SwapsIf b o y) v x) refl refl t.gives e
+
+  pub add_keeps : (b n x : ℕ) → Tells (Adds b n) v x w → Keeps c i from next (w, held')
+  unfolding part entries noted
+  add_keeps b n x t =
+      keeps_on c i from next v (part (Adds b n) v x) w (entries (Adds b n) v x) (noted (Adds b n) v x) held held' k
+      (same_part (Adds b n) v x) refl refl t.gives e
+
+  pub allocate_keeps : (b n y x : ℕ) → Tells (Allocates b n y) v x w → Keeps c i from next (w, held')
+  unfolding part entries noted
+  allocate_keeps b n y x t =
+      keeps_on c i from next v (part (Allocates b n y) v x) w (entries (Allocates b n y) v x) (noted (Allocates b n y) v x) held held' k
+      (same_part (Allocates b n y) v x) refl refl t.gives e
+
+  pub hold_keeps : (a : ArenaId) (b x : ℕ) → Tells (Holds a b) v x w → Keeps c i from next (w, held')
+  unfolding part entries noted
+  hold_keeps a b x t =
+      keeps_on c i from next v (part (Holds a b) v x) w (entries (Holds a b) v x) (noted (Holds a b) v x) held held' k
+      (same_part (Holds a b) v x) refl refl t.gives e
+
+  pub unhold_keeps : (a : ArenaId) (x : ℕ) → Tells (Unholds a) v x w → Keeps c i from next (w, held')
+  unfolding part entries noted
+  unhold_keeps a x t =
+      keeps_on c i from next v (part (Unholds a) v x) w (entries (Unholds a) v x) (noted (Unholds a) v x) held held' k
+      (same_part (Unholds a) v x) refl refl t.gives e
 
   pub shut_keeps : (a : ArenaId) (x : ℕ) → Tells (Shuts a) v x w → Keeps c i from next (w, held')
   unfolding part entries noted

@@ -1,25 +1,28 @@
 -- What a pass of a pool knows at the call of a step, and which steps it may make.
-use Rattle.std.proofs.Common.{◌≡◌, ◌≢◌, ℕ, ◌+◌, ◌*◌, ◌^◌, ◌<◌, ◌≤◌, ◌==◌, true, List, Some, None, sym, ap, ◌∙◌, subst, arith}
+use Rattle.std.proofs.Common.{◌≡◌, ◌≢◌, ℕ, ◌+◌, ◌-◌, ◌*◌, ◌%◌, ◌^◌, ◌<◌, ◌≤◌, ◌==◌, true, List, Some, None, sym, ap, ◌∙◌, subst, arith}
 use prog.Atomic.{either}
 use Rattle.fm_words.specs.declared.shape.Shape.{Shape}
 use Rattle.fm_words.specs.Shapes.{IsValid}
-use Rattle.fm_words.specs.Places.{at, mark, session, words, front}
+use Rattle.fm_words.specs.Places.{at, mark, session, given, words, front}
 use Rattle.fm_words.proofs.Tables.{at-within}
 use Rattle.fm_base.specs.declared.caller.Caller.{Caller}
 use Rattle.fm_base.specs.declared.arena_id.ArenaId.{ArenaId}
-use Rattle.fm_base.specs.declared.kind.Kind.TheVariants.{Global}
+use Rattle.fm_base.specs.declared.kind.Kind.TheVariants.{Global, Automatic}
+use Rattle.fm_base.specs.Machine.{IsPower}
 use Rattle.fm_base.specs.Arenas.{MayUse, owner_of}
+use Rattle.fm_base.proofs.Wholeness.{given_within}
 use Rattle.fm_pool_facts.specs.declared.slot.Slot.{Slot}
-use Rattle.fm_pool_facts.specs.declared.step.Step.TheVariants.{Marks, Checks, Loads, Stores, Unmarks, Shuts, Visits, Opens, Looks}
-use Rattle.fm_pool_facts.specs.Views.{View, Fits, IsKnown, IsSound, span}
-use Rattle.fm_pool_facts.specs.Words.{alive_word, closing_word, mark_of}
+use Rattle.fm_pool_facts.specs.declared.step.Step.TheVariants.{Marks, Checks, Loads, Stores, SwapsIf, Adds, Allocates, Holds, Unholds, Unmarks, Shuts, Visits, Opens, Looks}
+use Rattle.fm_pool_facts.specs.Views.{View, Fits, In, IsKnown, IsSound, span, given_of, limit_of}
+use Rattle.fm_pool_facts.specs.Words.{alive_word, closing_word, held_word, mark_of}
 use Rattle.fm_pool_facts.specs.Closes.{visited_of}
-use Rattle.fm_pool_facts.specs.Steps.{first_slot}
+use Rattle.fm_pool_facts.specs.Steps.{CanReach, first_slot, given_next}
 use Rattle.fm_pool_facts.specs.Facts.{cell_at}
 use Rattle.fm_pool_facts.specs.Moves.{MayStep, MayStore}
 use Rattle.fm_pool_facts.proofs.Shown.{cell_below}
 use Rattle.fm_pool_steps.proofs.Acting.{mark_steps, check_steps, unmark_steps, look_steps}
-use Rattle.fm_pool_steps.proofs.Reaching.{load_steps, store_steps}
+use Rattle.fm_pool_steps.proofs.Reaching.{load_steps, store_steps, swap_steps, add_steps, allocate_steps}
+use Rattle.fm_pool_steps.proofs.Holding.{hold_steps, unhold_steps}
 use Rattle.fm_pool_steps.proofs.Shutting.{shut_steps}
 use Rattle.fm_pool_steps.proofs.Visiting.{visit_steps}
 use Rattle.fm_pool_steps.proofs.Opening.{open_steps}
@@ -32,6 +35,9 @@ mark_below z k i h e = subst (λ (n : ℕ). n < words z) (sym e) (at-within z (m
 
 pub session_below : (z : Shape) (s i : ℕ) → s < z.slots → i ≡ at z (session s) → i < words z
 session_below z s i h e = subst (λ (n : ℕ). n < words z) (sym e) (at-within z (session s) h)
+
+pub given_below : (z : Shape) (s i : ℕ) → s < z.slots → i ≡ at z (given s) → i < words z
+given_below z s i h e = subst (λ (n : ℕ). n < words z) (sym e) (at-within z (given s) h)
 
 pub front_below : (z : Shape) (i : ℕ) → i ≡ at z front → i < words z
 front_below z i e = subst (λ (n : ℕ). n < words z) (sym e) (at-within z front tt)
@@ -50,6 +56,24 @@ words_small z v =
 pub cell_from : (z : Shape) (s w : ℕ) → cell_at z s 0 + w ≡ cell_at z s w
 unfolding cell_at
 cell_from z s w = let x : ℕ = s * span z in omega arith
+
+-- the place of a word of the arena a
+pub record WordPlace (z : Shape) (v : View) (a : ArenaId) (w from : ℕ) : Type 0 where
+  pub inside : v.inside ≡ Some a
+  pub within : w < span z
+  pub place : from + w ≡ cell_at z a.slot w
+  pub low : from + w < words z
+  pub fits : from + w < 2 ^ 64
+
+-- a word with a given byte is one of the arena's
+word_within : (v : View) (w : ℕ) (a : ArenaId) → IsSound v → (z : Shape) → v.shape ≡ z → 8 * w < given_of v a → w < span z
+word_within v w a sound z e h =
+    let g : ℕ = given_of v a in
+    let most : g ≤ limit_of v.shape = given_within (limit_of v.shape) v.seen sound.legal a in
+    let n : ℕ = span v.shape in
+    let few : g ≤ n * 8 = most in
+    let below : 8 * w < g = h in
+    subst (λ (x : Shape). w < span x) e (let q : w < n = omega arith in q)
 
 -- ---- a pass of a pool
 
@@ -83,6 +107,24 @@ module _ (now v : View) (home : List ℕ) (z : Shape) (is : homed home v ≡ now
         let f : Fits z a = subst (λ (x : Shape). Fits x a) shape_is (sound.fits a k) in
         (f.slot, cell_below z a.slot w valid f.slot h)
 
+    -- the arena that it is inside has a slot
+    pub inside_slot : (a : ArenaId) → now.inside ≡ Some a → a.slot < z.slots
+    inside_slot a i =
+        let here : v.inside ≡ Some a = ap (λ (x : View). x.inside) is ∙ i in
+        let k : IsKnown v a = Rattle.fm_base.proofs.Placing.there_by_way _ _ _ (sound.inside a here) in
+        (subst (λ (x : Shape). Fits x a) shape_is (sound.fits a k)).slot
+
+    -- where the word stands of the arena that it is inside, whose words begin at `from`
+    pub word_place : (w from : ℕ) (can : CanReach now w) → ((a : ArenaId) → v.inside ≡ Some a → from ≡ cell_at v.shape a.slot 0) → WordPlace z v can.id w from
+    word_place w from can begins =
+        let here : v.inside ≡ Some can.id = ap (λ (x : View). x.inside) is ∙ can.inside in
+        let within = word_within v w can.id sound z shape_is (subst (λ (x : View). 8 * w < given_of x can.id) (sym is) can.given) in
+        let e : from + w ≡ cell_at z can.id.slot w =
+        ap (λ (n : ℕ). n + w) (begins can.id here ∙ ap (λ (x : Shape). cell_at x can.id.slot 0) shape_is) ∙ cell_from z can.id.slot w in
+        let low = (cell_in can.id w here within).1 in
+        let small = words_small z valid in
+        record { inside = here; within = within; place = e; low = omega arith; fits = omega arith }
+
 -- ---- the steps that it may make
 
 module _ (z : Shape) (id : ℕ) (v : View) (l : v.live ≡ true) (i : ℕ) where
@@ -98,11 +140,36 @@ module _ (z : Shape) (id : ℕ) (v : View) (l : v.live ≡ true) (i : ℕ) where
       → MayStep z (Checks a) id v i (λ n. n)
   may_check a o m k u p = subst (λ (x : ℕ). MayStep z (Checks a) id v x (λ n. n)) (sym p) (check_steps z id v l a o m k u)
 
+  pub may_swap : (a : ArenaId) (w o y : ℕ) → v.inside ≡ Some a → w < span z → y < 2 ^ 64 → i ≡ cell_at z a.slot w
+      → MayStep z (SwapsIf w o y) id v i (λ n. either (n == o) y n)
+  may_swap a w o y e h f p =
+      subst (λ (x : ℕ). MayStep z (SwapsIf w o y) id v x (λ n. either (n == o) y n)) (sym p) (swap_steps z id v l a e w h o y f)
+
+  pub may_add : (a : ArenaId) (w k : ℕ) → v.inside ≡ Some a → w < span z → i ≡ cell_at z a.slot w → MayStep z (Adds w k) id v i (λ n. (n + k) % 2 ^ 64)
+  may_add a w k e h p = subst (λ (x : ℕ). MayStep z (Adds w k) id v x (λ n. (n + k) % 2 ^ 64)) (sym p) (add_steps z id v l a e w h k)
+
+  pub may_allocate : (a : ArenaId) (count size align limit next : ℕ) → v.inside ≡ Some a → IsPower align → v.shape ≡ z → i ≡ at z (given a.slot)
+      → limit ≡ limit_of z → next ≡ given_next limit count size align
+      → MayStep z (Allocates count size align) id v i (λ n. either (n == count) next n)
+  may_allocate a count size align limit next e q s p lim is =
+      subst (λ (x : ℕ × ℕ). MayStep z (Allocates count size align) id v x.0 (λ n. either (n == count) x.1 n))
+      (λ j. (sym p j, sym (is ∙ ap (λ (k : ℕ). given_next k count size align) lim) j))
+      (allocate_steps z id v l a e count size align q s)
+
+  pub may_hold : (a : ArenaId) (word next : ℕ) → IsKnown v a → MayUse a v.caller → i ≡ at z (session a.slot) → next ≡ held_word a word
+      → MayStep z (Holds a word) id v i (λ n. either (n == word) next n)
+  may_hold a word next k u p is =
+      subst (λ (x : ℕ × ℕ). MayStep z (Holds a word) id v x.0 (λ n. either (n == word) x.1 n)) (λ j. (sym p j, sym is j)) (hold_steps z id v l a word k u)
+
+  pub may_unhold : (a : ArenaId) → In a v.holds → a.kind ≢ Automatic → i ≡ at z (session a.slot)
+      → MayStep z (Unholds a) id v i (λ n. (n + (2 ^ 64 - 1)) % 2 ^ 64)
+  may_unhold a h k p = subst (λ (x : ℕ). MayStep z (Unholds a) id v x (λ n. (n + (2 ^ 64 - 1)) % 2 ^ 64)) (sym p) (unhold_steps z id v l a h k)
+
   pub may_load : (a : ArenaId) (w : ℕ) → v.inside ≡ Some a → w < span z → i ≡ cell_at z a.slot w → MayStep z (Loads w) id v i (λ n. n)
-  may_load a w o h p = subst (λ (x : ℕ). MayStep z (Loads w) id v x (λ n. n)) (sym p) (load_steps z id v l a w o h)
+  may_load a w o h p = subst (λ (x : ℕ). MayStep z (Loads w) id v x (λ n. n)) (sym p) (load_steps z id v l a o w h)
 
   pub may_store : (a : ArenaId) (w y : ℕ) → v.inside ≡ Some a → w < span z → y < 2 ^ 64 → i ≡ cell_at z a.slot w → MayStore z (Stores w y) id v i y
-  may_store a w y o h f p = subst (λ (x : ℕ). MayStore z (Stores w y) id v x y) (sym p) (store_steps z id v l a w y o h f)
+  may_store a w y o h f p = subst (λ (x : ℕ). MayStore z (Stores w y) id v x y) (sym p) (store_steps z id v l a o w h y f)
 
   pub may_unmark : (c : Caller) → c ≡ v.caller → i ≡ at z (mark c.number) → MayStore z Unmarks id v i 0
   may_unmark c e p = subst (λ (x : ℕ). MayStore z Unmarks id v x 0) (sym (p ∙ ap (λ (d : Caller). at z (mark d.number)) e)) (unmark_steps z id v l)

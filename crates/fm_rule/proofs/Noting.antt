@@ -1,14 +1,15 @@
 -- Notes are made and met.
-use Rattle.std.proofs.Common.{◌≡◌, ◌≢◌, ℕ, ◌%◌, ◌^◌, ◌<◌, ◌==◌, Bool, true, false, if◌then◌else◌, bit_and, List, [], Option, Some, None, inr, sym, ap, ◌∙◌, subst, arith, eq-eqb, ne_eqb}
+use Rattle.std.proofs.Common.{◌≡◌, ◌≢◌, ℕ, ◌+◌, ◌%◌, ◌^◌, ◌<◌, ◌≤◌, ◌==◌, Bool, true, false, if◌then◌else◌, bit_and, List, [], Option, Some, None, inr, sym, ap, ◌∙◌, subst, arith, eq-eqb, ne_eqb}
 use Rattle.std.proofs.lemmas.Nat.{and_mask}
 use Rattle.atomic_table.specs.Seated.{TableId}
 use Rattle.fm_words.specs.declared.shape.Shape.{Shape}
 use Rattle.fm_words.specs.Places.{words}
 use Rattle.fm_base.specs.declared.caller.Caller.{Caller}
 use Rattle.fm_base.specs.declared.arena_id.ArenaId.{ArenaId}
+use Rattle.fm_base.specs.Calls.{Fine, TooManyHolds}
 use Rattle.fm_pool_facts.specs.declared.step.Step.TheVariants.{Looks}
 use Rattle.fm_pool_facts.specs.Views.{View}
-use Rattle.fm_pool_facts.specs.Words.{alive_word, alive_holds}
+use Rattle.fm_pool_facts.specs.Words.{held_by, held_word, hold_found, alive_word, alive_holds}
 use Rattle.fm_pool_facts.specs.Splits.{met}
 use Rattle.fm_pool_facts.specs.Steps.{Stepped, part, entries, noted, none_noted}
 use Rattle.fm_pool_facts.specs.Facts.{cell_at}
@@ -82,3 +83,34 @@ unfolding alive_holds
 holds_miss a w n =
     let t : (w == alive_word a (w % 2 ^ 16)) ≡ false = ne_eqb w (alive_word a (w % 2 ^ 16)) (λ e. n (e ∙ sym (ap (alive_word a) (low_bits w)))) in
     sym (ap (λ (b : Bool). if b then Some (w % 2 ^ 16) else None) t)
+
+-- ---- a hold more
+
+holds_low : (a : ArenaId) (w n : ℕ) → alive_holds a w ≡ Some n → w % 2 ^ 16 ≡ n
+unfolding alive_holds
+holds_low a w n e = go (w == alive_word a (w % 2 ^ 16)) e
+  where
+    go : (b : Bool) → (if b then Some (w % 2 ^ 16) else None) ≡ Some n → w % 2 ^ 16 ≡ n
+    go true q = cc
+    go false q = absurd (cc)
+
+-- a word that shows fewer holds than the most isn't the last one
+pub hold_fits : (a : ArenaId) (w n : ℕ) → Some n ≡ alive_holds a w → n < 65535 → w < 2 ^ 64 → w + 1 < 2 ^ 64
+hold_fits a w n e l f = let q = holds_low a w n (sym e) in omega arith
+
+pub hold_taken : (a : ArenaId) (w n : ℕ) → Some n ≡ alive_holds a w → n < 65535 → w + 1 ≡ held_word a w
+unfolding held_word
+hold_taken a w n e l =
+    let few : (n == 65535) ≡ false = ne_eqb n 65535 (λ q. omega arith) in
+    sym (ap (λ (o : Option ℕ). held_by w (hold_found o)) (sym e) ∙ ap (λ (b : Bool). held_by w (if b then TooManyHolds else Fine)) few)
+
+pub hold_refused : (a : ArenaId) (w n : ℕ) → Some n ≡ alive_holds a w → 65535 ≤ n → w ≡ held_word a w
+unfolding held_word
+hold_refused a w n e l =
+    let q = holds_low a w n (sym e) in
+    let all : (n == 65535) ≡ true = eq-eqb n 65535 (omega arith) in
+    sym (ap (λ (o : Option ℕ). held_by w (hold_found o)) (sym e) ∙ ap (λ (b : Bool). held_by w (if b then TooManyHolds else Fine)) all)
+
+pub hold_closed : (a : ArenaId) (w : ℕ) → None ≡ alive_holds a w → w ≡ held_word a w
+unfolding held_word
+hold_closed a w e = sym (ap (λ (o : Option ℕ). held_by w (hold_found o)) (sym e))

@@ -1,13 +1,15 @@
 -- What each step tells is that the pass stepped.
-use Rattle.std.proofs.Common.{◌≡◌, ℕ, List, [], ◌∷◌, Some, None, sym, subst}
+use Rattle.std.proofs.Common.{◌≡◌, ℕ, ◌==◌, List, [], ◌∷◌, Some, None, sym, subst}
 use Rattle.fm_base.specs.declared.arena_id.ArenaId.{ArenaId}
-use Rattle.fm_base.specs.Calls.{Enter, Read, Write, Leave, Shut, Fine, Found, Entry, entry_of}
+use Rattle.fm_base.specs.Calls.{Enter, Read, Write, SwapIf, Add, Allocate, Leave, Hold, Unhold, Shut, Fine, Found, Entry, entry_of}
+use Rattle.fm_base.specs.Machine.{allocate_reply}
 use Rattle.fm_base.specs.Finds.{Find, Visits as Visiting}
-use Rattle.fm_pool_facts.specs.declared.step.Step.TheVariants.{Marks, Checks, Loads, Stores, Unmarks, Shuts, Visits, Opens}
-use Rattle.fm_pool_facts.specs.Views.{View}
-use Rattle.fm_pool_facts.specs.Words.{alive_holds, enter_found, inside_found, shut_found}
+use Rattle.fm_pool_facts.specs.declared.step.Step.TheVariants.{Marks, Checks, Loads, Stores, SwapsIf, Adds, Allocates, Holds, Unholds, Unmarks, Shuts, Visits, Opens}
+use Rattle.fm_pool_facts.specs.Views.{View, limit_of}
+use Rattle.fm_pool_facts.specs.Words.{alive_holds, enter_found, inside_found, hold_found, shut_found}
+use Rattle.fm_pool_facts.specs.Holds.{holds_after, released}
 use Rattle.fm_pool_facts.specs.Closes.{begun, visit_found, closes_after, visit_entries}
-use Rattle.fm_pool_facts.specs.Steps.{Stepped, part, entries, noted, acted, none_noted, note_of, open_entries, but_first, pass_of}
+use Rattle.fm_pool_facts.specs.Steps.{Stepped, part, entries, noted, acted, none_noted, where_found, note_of, open_entries, but_first, pass_of}
 use Rattle.fm_pool_facts.specs.Moves.{Tells}
 use Rattle.fm_rule.specs.Views.{homed}
 use Rattle.fm_rule.proofs.Allowed.{same_part, stepped}
@@ -42,6 +44,45 @@ module _ (now v w : View) (home home' : List ℕ) (is : homed home v ≡ now) (s
   unfolding part entries noted
   store_stepped c y x t = stepped_as (λ u. u) (λ (u : View). acted u.inside u.caller (λ a. Write a c y) Fine) (λ u. none_noted)
       (stepped home v (part (Stores c y) v x) w (entries (Stores c y) v x) none_noted (same_part (Stores c y) v x) met t.gives)
+
+  pub swap_stepped : (c o y x : ℕ) → Tells (SwapsIf c o y) v x w
+      → Stepped now (homed home' w) now (acted now.inside now.caller (λ a. SwapIf a c o y) (Found x)) none_noted
+  unfolding part entries noted
+  swap_stepped c o y x t = stepped_as (λ u. u) (λ (u : View). acted u.inside u.caller (λ a. SwapIf a c o y) (Found x)) (λ u. none_noted)
+      (stepped home v (part (SwapsIf c o y) v x) w (entries (SwapsIf c o y) v x) none_noted (same_part (SwapsIf c o y) v x) met t.gives)
+
+  pub add_stepped : (c n x : ℕ) → Tells (Adds c n) v x w
+      → Stepped now (homed home' w) now (acted now.inside now.caller (λ a. Add a c n) (Found x)) none_noted
+  unfolding part entries noted
+  add_stepped c n x t = stepped_as (λ u. u) (λ (u : View). acted u.inside u.caller (λ a. Add a c n) (Found x)) (λ u. none_noted)
+      (stepped home v (part (Adds c n) v x) w (entries (Adds c n) v x) none_noted (same_part (Adds c n) v x) met t.gives)
+
+  pub allocate_stepped : (given size align x : ℕ) → Tells (Allocates given size align) v x w
+      → Stepped now (homed home' w) now
+      (where_found (x == given) (acted now.inside now.caller (λ a. Allocate a size align) (allocate_reply (limit_of now.shape) given size align))) none_noted
+  unfolding part entries noted
+  allocate_stepped given size align x t =
+      stepped_as (λ u. u)
+      (λ (u : View). where_found (x == given) (acted u.inside u.caller (λ a. Allocate a size align) (allocate_reply (limit_of u.shape) given size align)))
+      (λ u. none_noted)
+      (stepped home v (part (Allocates given size align) v x) w (entries (Allocates given size align) v x) none_noted
+      (same_part (Allocates given size align) v x) met t.gives)
+
+  pub hold_stepped : (a : ArenaId) (word x : ℕ) → Tells (Holds a word) v x w
+      → Stepped now (homed home' w) (record now { holds = holds_after (x == word) a (hold_found (alive_holds a word)) now.holds })
+      (where_found (x == word) (entry_of now.caller (Hold a) (hold_found (alive_holds a word)) ∷ [])) none_noted
+  unfolding part entries noted
+  hold_stepped a word x t =
+      stepped_as (λ (y : View). record y { holds = holds_after (x == word) a (hold_found (alive_holds a word)) y.holds })
+      (λ (y : View). where_found (x == word) (entry_of y.caller (Hold a) (hold_found (alive_holds a word)) ∷ [])) (λ y. none_noted)
+      (stepped home v (part (Holds a word) v x) w (entries (Holds a word) v x) none_noted (same_part (Holds a word) v x) met t.gives)
+
+  pub unhold_stepped : (a : ArenaId) (x : ℕ) → Tells (Unholds a) v x w
+      → Stepped now (homed home' w) (record now { holds = released a now.holds }) (entry_of now.caller (Unhold a) Fine ∷ []) none_noted
+  unfolding part entries noted
+  unhold_stepped a x t =
+      stepped_as (λ (y : View). record y { holds = released a y.holds }) (λ (y : View). entry_of y.caller (Unhold a) Fine ∷ []) (λ y. none_noted)
+      (stepped home v (part (Unholds a) v x) w (entries (Unholds a) v x) none_noted (same_part (Unholds a) v x) met t.gives)
 
   pub unmark_stepped : (x : ℕ) → Tells Unmarks v x w
       → Stepped now (homed home' w) (record now { inside = None; mark = None }) (acted now.inside now.caller Leave Fine) none_noted

@@ -1,5 +1,5 @@
 //! One atomic step each, of the kind that the caller picks.
-ghost use Rattle.std.specs.Prelude.{◌≡◌, ◌<◌, ◌==◌};
+ghost use Rattle.std.specs.Prelude.{◌≡◌, ◌<◌, ◌==◌, ◌+◌, ◌-◌, ◌%◌, ◌^◌};
 ghost use prog.Atomic.{either};
 ghost use Rattle.fm_words.specs.Places.{words};
 ghost use Rattle.fm_pool_facts.specs.Moves.{Tells, MayStep, MayStore};
@@ -69,4 +69,50 @@ pub(crate) fn exchange_as<J: Aim>(
     pool.table
         .shared
         .compare_exchange::<Told<J>>(seat, place as usize, old, new)
+}
+
+/// Adds `n` to the word at the place, wrapping at 2^64, and answers the word found.
+pub(crate) fn add_as<J: Aim>(
+    pool: &Pool,
+    seat: &mut Seat<(), Seen>,
+    place: u64,
+    n: u64,
+    step: Step,
+) -> u64
+    requires step { J.step ≡ step }
+    requires table { seat.old.table_id ≡ pool.now.table.shared.table_id }
+    requires place { place < words pool.now.shape }
+    requires may { MayStep pool.now.shape step seat.old.id seat.old.me.0 place (λ w. (w + n) % 2 ^ 64) }
+    ensures table { seat.new.table_id ≡ seat.old.table_id }
+    ensures id { seat.new.id ≡ seat.old.id }
+    ensures slots { seat.new.me.1 ≡ seat.old.me.1 }
+    ensures tells { Tells step seat.old.me.0 result seat.new.me.0 }
+{
+    let _ = step;
+    pool.table
+        .shared
+        .fetch_add::<Told<J>>(seat, place as usize, n)
+}
+
+/// Subtracts `n` from the word at the place, wrapping at 0, and answers the word found.
+pub(crate) fn subtract_as<J: Aim>(
+    pool: &Pool,
+    seat: &mut Seat<(), Seen>,
+    place: u64,
+    n: u64,
+    step: Step,
+) -> u64
+    requires step { J.step ≡ step }
+    requires table { seat.old.table_id ≡ pool.now.table.shared.table_id }
+    requires place { place < words pool.now.shape }
+    requires may { MayStep pool.now.shape step seat.old.id seat.old.me.0 place (λ w. (w + (2 ^ 64 - n)) % 2 ^ 64) }
+    ensures table { seat.new.table_id ≡ seat.old.table_id }
+    ensures id { seat.new.id ≡ seat.old.id }
+    ensures slots { seat.new.me.1 ≡ seat.old.me.1 }
+    ensures tells { Tells step seat.old.me.0 result seat.new.me.0 }
+{
+    let _ = step;
+    pool.table
+        .shared
+        .fetch_sub::<Told<J>>(seat, place as usize, n)
 }

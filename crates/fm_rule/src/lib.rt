@@ -9,20 +9,26 @@
 #![tactic(auto)]
 
 mod acts;
+mod fitting;
+mod holding;
 mod notes;
 mod pass;
 mod pool;
 mod seen;
 mod steps;
+mod updates;
 mod words;
 
+pub use fitting::room;
+pub use holding::{step_hold, step_unhold};
 pub use notes::Note;
 pub use pass::Pass;
 pub use pool::Pool;
 pub use steps::{
     step_check, step_load, step_mark, step_open, step_shut, step_store, step_unmark, step_visit,
 };
-pub use words::{alive_holds, mark_of};
+pub use updates::{guess_given, step_add, step_allocate, step_swap_if};
+pub use words::{MOST_HOLDS, alive_holds, mark_of};
 
 #[cfg(test)]
 mod tests;

@@ -3,7 +3,7 @@ ghost use Rattle.fm_words.specs.Shapes.{IsValid};
 ghost use Rattle.fm_words.specs.Places.{words};
 ghost use Rattle.fm_base.specs.declared.refusal.Refusal.TheVariants.{Memory};
 ghost use Rattle.fm_pool_facts.specs.declared.step.Step.TheVariants.{Looks};
-ghost use Rattle.fm_pool_facts.specs.Views.{IsSound};
+ghost use Rattle.fm_pool_facts.specs.Views.{IsSound, limit_of};
 ghost use Rattle.fm_pool_facts.specs.Moves.{Tells};
 ghost use Rattle.fm_pool_facts.specs.Facts.{cell_at};
 ghost use Rattle.fm_rule.specs.Views.{first_pass, numbers_of};
@@ -92,12 +92,28 @@ impl Pool {
         self.shape
     }
 
+    /// How many bytes an arena can give.
+    pub fn limit(&self) -> u64
+        ensures { result ≡ limit_of self.now.shape }
+    {
+        u64::from(self.shape.reach) * u64::from(self.shape.page_words) * 8
+    }
+
     /// Where the words of a slot begin.
     pub(crate) fn cells_from(&self, slot: u32) -> u64
         requires { slot < self.now.shape.slots }
         ensures { result ≡ cell_at self.now.shape slot 0 }
     {
         self.shape.page_place(slot * self.shape.reach, 0)
+    }
+
+    /// A guess at the session word of a slot; 0 where there is no such slot. It tells nothing.
+    pub fn guess_session(&self, slot: u32) -> u64 {
+        if slot < self.shape.slots {
+            self.peek(self.shape.session_place(slot))
+        } else {
+            0
+        }
     }
 
     /// A load of the word at this place. It tells nothing.

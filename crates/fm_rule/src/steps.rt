@@ -7,7 +7,7 @@ ghost use Rattle.fm_base.specs.Finds.{Visits as Visiting};
 ghost use Rattle.fm_pool_facts.specs.Views.{IsKnown};
 ghost use Rattle.fm_pool_facts.specs.Words.{alive_holds, enter_found, inside_found, own_word, shut_found};
 ghost use Rattle.fm_pool_facts.specs.Closes.{begun, visited_of, visit_found, closes_after, visit_entries};
-ghost use Rattle.fm_pool_facts.specs.Steps.{Stepped, CanAct, none_noted, note_of, acted, open_entries, first_slot, but_first, pass_of};
+ghost use Rattle.fm_pool_facts.specs.Steps.{Stepped, CanReach, none_noted, note_of, acted, open_entries, first_slot, but_first, pass_of};
 ghost use Rattle.fm_rule.specs.Passes.{IsOf};
 
 use crate::acts::{exchange_as, load_as, store_as};
@@ -53,7 +53,7 @@ pub fn step_check(pool: &Pool, pass: &mut Pass, a: ArenaId) -> u64
 /// The word of this index of the arena that the pass is inside.
 pub fn step_load(pool: &Pool, pass: &mut Pass, word: u64) -> u64
     requires of { IsOf pool.now pass.old }
-    requires act { CanAct pass.old word }
+    requires act { CanReach pass.old word }
     ensures { Stepped pass.old pass.new pass.old
         (acted pass.old.inside pass.old.caller (λ a. machine.Read a word) (machine.Found result)) none_noted }
 {
@@ -64,7 +64,7 @@ pub fn step_load(pool: &Pool, pass: &mut Pass, word: u64) -> u64
 /// Puts `v` into the word of this index of the arena that the pass is inside.
 pub fn step_store(pool: &Pool, pass: &mut Pass, word: u64, v: u64)
     requires of { IsOf pool.now pass.old }
-    requires act { CanAct pass.old word }
+    requires act { CanReach pass.old word }
     ensures { Stepped pass.old pass.new pass.old
         (acted pass.old.inside pass.old.caller (λ a. machine.Write a word v) machine.Fine) none_noted }
 {
@@ -120,7 +120,13 @@ pub fn step_visit(pool: &Pool, pass: &mut Pass, a: ArenaId, k: u32) -> u64
 pub fn step_open(pool: &Pool, pass: &mut Pass, slot: Slot, kind: Kind) -> ArenaId
     requires of { IsOf pool.now pass.old }
     requires hand { first_slot pass.old.hand ≡ Some slot }
-    ensures arena { result ≡ record { slot = slot.slot; generation = slot.generation; kind = kind; owner = pass.old.caller.number; term = pass.old.caller.term } }
+    ensures arena { result ≡ record {
+      slot = slot.slot;
+      generation = slot.generation;
+      kind = kind;
+      owner = pass.old.caller.number;
+      term = pass.old.caller.term;
+    } }
     ensures stepped { Stepped pass.old pass.new (record pass.old { hand = but_first pass.old.hand })
         (open_entries result pass.old.caller) none_noted }
 {

@@ -24,6 +24,32 @@ const LARGER: Shape = Shape {
     generations: 5,
 };
 
+/// The most passes, slots, pages, words and generations. Pages of the most words are fewer, and an arena of many pages
+/// leaves fewer slots.
+const GREATEST: Shape = Shape {
+    passes: 4_096,
+    slots: 64,
+    pages: 64,
+    page_words: 262_144,
+    reach: 1,
+    generations: u32::MAX,
+};
+
+/// One slot that has all pages.
+const FARTHEST: Shape = Shape {
+    slots: 1,
+    reach: 64,
+    ..GREATEST
+};
+
+/// Pages of the most words.
+const WIDEST: Shape = Shape {
+    slots: 16,
+    pages: 16,
+    page_words: 1_048_576,
+    ..GREATEST
+};
+
 /// The word at the place, where the table has one.
 fn word_at(pool: &Pool, place: u64) -> Option<u64> {
     if place < pool.shape().words() {
@@ -48,6 +74,13 @@ fn check_words<R: Abort + AllocGlobal>(rt: &R, shape: Shape, words: u64)
 fn pools_begin_with_zeros_and_one_number(rt: HostRuntime) {
     check_words(&rt, LEAST, 7);
     check_words(&rt, LARGER, 42);
+}
+
+#[test]
+fn pools_of_the_greatest_shapes_can_be_had(rt: HostRuntime) {
+    check_words(&rt, GREATEST, 16_781_443);
+    check_words(&rt, FARTHEST, 16_781_317);
+    check_words(&rt, WIDEST, 16_781_347);
 }
 
 #[test]

@@ -5,6 +5,8 @@ use fm_base::ArenaId;
 use fm_words::{ALIVE, CLOSING, Session, mark_word, session_word};
 
 const HOLDS: u64 = 0xffff;
+/// How often an arena can be held at a time.
+pub const MOST_HOLDS: u64 = 65535;
 
 /// The number of holds, where a session word shows the arena alive.
 pub fn alive_holds(a: ArenaId, word: u64) -> Option<u64>
@@ -63,4 +65,16 @@ pub(crate) fn closing_word(a: ArenaId) -> u64
         owner: a.owner,
         holds: 0,
     })
+}
+
+/// The session word that a hold leaves where it finds this one: one hold more, where the arena is alive and has room
+/// for it.
+pub(crate) fn held_word(a: ArenaId, word: u64) -> u64
+    requires { a.owner < 4096 }
+    ensures { result ≡ words.held_word a word }
+{
+    match alive_holds(a, word) {
+        Some(holds) if holds < MOST_HOLDS => word + 1,
+        _ => word,
+    }
 }

@@ -1,41 +1,25 @@
-use Rattle.std.proofs.Common.{ap, ◌∙◌, ◌+◌, ◌<◌, ◌≡◌, ℕ, subst, arith}
-use Rattle.fm_words.specs.declared.shape.Shape.{Shape}
-use Rattle.fm_pool_facts.specs.Views.{View, span}
-use Rattle.fm_pool_facts.specs.Facts.{cell_at}
+use Rattle.std.proofs.Common.{ap, arith}
 use Rattle.fm_rule.specs.Views.{numbers_of}
-use Rattle.fm_rule.proofs.Knowing.{words_small, cell_from, shape_is, valid, cell_in, may_store}
+use Rattle.fm_rule.proofs.Knowing.{WordPlace, word_place, may_store}
 use Rattle.fm_rule.proofs.Stepping.{store_stepped}
 use Rattle.fm_rule.proofs.Keeping.{store_keeps}
 use Rattle.fm_rule.proofs.steps.step_store.Goals as goal
+use Rattle.fm_rule.proofs.steps.step_store.Goals.{After-pass}
+
+here : (c : After-pass)
+    → WordPlace c.args.pool.now.shape c.pass.inside.seat.me.0 c.requires.act.id c.args.word c.pass.inside.cells_from
+here c = word_place _ c.pass.inside.seat.me.0 _ _ c.pass.view_is c.requires.of.1 c.pass.invariant.sound c.args.word _ c.requires.act c.pass.invariant.cells
 
 pub overflow_add-place : goal.overflow_add-place
-overflow_add-place c =
-    let e : c.pass.inside.cells_from + c.args.word ≡ cell_at c.args.pool.now.shape c.requires.act.id.slot c.args.word =
-    ((ap (λ (n : ℕ). n + c.args.word) (c.pass.invariant.cells c.requires.act.id (ap (λ (x : View). x.inside) c.pass.view_is ∙ c.requires.act.inside)
-    ∙ ap (λ (x : Shape). cell_at x c.requires.act.id.slot 0) (shape_is _ c.pass.inside.seat.me.0 _ _ c.pass.view_is c.requires.of.1)))
-    ∙ cell_from _ _ _) in let h =
-    (cell_in _ c.pass.inside.seat.me.0 _ _ c.pass.view_is c.requires.of.1 c.pass.invariant.sound c.requires.act.id c.args.word
-    (ap (λ (x : View). x.inside) c.pass.view_is
-    ∙ c.requires.act.inside) (subst (λ (x : Shape). c.args.word < span x) c.requires.of.1 c.requires.act.within)).1 in let s =
-    words_small c.args.pool.now.shape (valid _ c.pass.inside.seat.me.0 _ _ c.pass.view_is c.requires.of.1 c.pass.invariant.sound) in omega arith
+overflow_add-place c = let p = (here c).fits in omega arith
 
 pub store_as-requires-clause-place : goal.store_as-requires-clause-place
-store_as-requires-clause-place c =
-    let e : c.pass.inside.cells_from + c.args.word ≡ cell_at c.args.pool.now.shape c.requires.act.id.slot c.args.word =
-    ((ap (λ (n : ℕ). n + c.args.word) (c.pass.invariant.cells c.requires.act.id (ap (λ (x : View). x.inside) c.pass.view_is ∙ c.requires.act.inside)
-    ∙ ap (λ (x : Shape). cell_at x c.requires.act.id.slot 0) (shape_is _ c.pass.inside.seat.me.0 _ _ c.pass.view_is c.requires.of.1)))
-    ∙ cell_from _ _ _) in let h =
-    (cell_in _ c.pass.inside.seat.me.0 _ _ c.pass.view_is c.requires.of.1 c.pass.invariant.sound c.requires.act.id c.args.word
-    (ap (λ (x : View). x.inside) c.pass.view_is
-    ∙ c.requires.act.inside) (subst (λ (x : Shape). c.args.word < span x) c.requires.of.1 c.requires.act.within)).1 in omega arith
+store_as-requires-clause-place c = (here (goal.at.store_as-requires-clause-place c).After-pass).low
 
 pub store_as-requires-clause-may : goal.store_as-requires-clause-may
 store_as-requires-clause-may c =
-    may_store _ _ c.pass.inside.seat.me.0 c.pass.invariant.live _ c.requires.act.id c.args.word c.args.v (ap (λ (x : View). x.inside) c.pass.view_is
-    ∙ c.requires.act.inside) (subst (λ (x : Shape). c.args.word < span x) c.requires.of.1 c.requires.act.within) c.ranges.v.fits
-    ((ap (λ (n : ℕ). n + c.args.word) (c.pass.invariant.cells c.requires.act.id (ap (λ (x : View). x.inside) c.pass.view_is ∙ c.requires.act.inside)
-    ∙ ap (λ (x : Shape). cell_at x c.requires.act.id.slot 0) (shape_is _ c.pass.inside.seat.me.0 _ _ c.pass.view_is c.requires.of.1)))
-    ∙ cell_from _ _ _)
+    let p = here (goal.at.store_as-requires-clause-may c).After-pass in
+    may_store _ _ c.pass.inside.seat.me.0 c.pass.invariant.live _ c.requires.act.id c.args.word c.args.v p.inside p.within c.ranges.v.fits p.place
 
 pub invariant_of-pass : goal.invariant_of-pass
 invariant_of-pass c = store_keeps _ _ _ _ _ _ _ _ c.pass.invariant c.store_as.ensures.slots c.args.word c.args.v _ c.store_as.ensures.tells

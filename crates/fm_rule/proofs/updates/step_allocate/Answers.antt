@@ -1,0 +1,34 @@
+use Rattle.std.proofs.Common.{ap, ◌∙◌}
+use Rattle.fm_base.proofs.Growing.{power_pos}
+use Rattle.fm_pool_facts.specs.Views.{View}
+use Rattle.fm_rule.specs.Views.{numbers_of}
+use Rattle.fm_rule.proofs.Knowing.{given_below, inside_slot, shape_is, may_allocate}
+use Rattle.fm_rule.proofs.Stepping.{allocate_stepped}
+use Rattle.fm_rule.proofs.Keeping.{allocate_keeps}
+use Rattle.fm_rule.proofs.updates.step_allocate.Goals as goal
+
+pub given_place-place-requires : goal.given_place-place-requires
+given_place-place-requires c = inside_slot _ c.pass.inside.seat.me.0 _ _ c.pass.view_is c.requires.of.1 c.pass.invariant.sound c.args.a c.requires.inside
+
+pub given_next-next-requires : goal.given_next-next-requires
+given_next-next-requires c = power_pos c.args.align c.requires.power
+
+pub exchange_as-requires-clause-place : goal.exchange_as-requires-clause-place
+exchange_as-requires-clause-place c =
+    given_below _ _ _ (inside_slot _ c.pass.inside.seat.me.0 _ _ c.pass.view_is c.requires.of.1 c.pass.invariant.sound c.args.a c.requires.inside)
+    c.given_place-place.ensures
+
+pub exchange_as-requires-clause-may : goal.exchange_as-requires-clause-may
+exchange_as-requires-clause-may c =
+    may_allocate _ _ c.pass.inside.seat.me.0 c.pass.invariant.live _ c.args.a c.args.given c.args.size c.args.align _ _
+    (ap (λ (x : View). x.inside) c.pass.view_is ∙ c.requires.inside) c.requires.power
+    (shape_is _ c.pass.inside.seat.me.0 _ _ c.pass.view_is c.requires.of.1) c.given_place-place.ensures c.limit.ensures c.given_next-next.ensures
+
+pub invariant_of-pass : goal.invariant_of-pass
+invariant_of-pass c =
+    allocate_keeps _ _ _ _ _ _ _ _ c.pass.invariant c.exchange_as.ensures.slots c.args.given c.args.size c.args.align _ c.exchange_as.ensures.tells
+
+pub returns : goal.returns
+returns c =
+    allocate_stepped _ _ _ _ _ c.pass.view_is (ap numbers_of c.exchange_as.ensures.table) c.pass.invariant.met c.args.given c.args.size c.args.align _
+    c.exchange_as.ensures.tells

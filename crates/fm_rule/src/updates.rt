@@ -1,0 +1,76 @@
+ghost use Rattle.std.specs.Prelude.{◌≡◌, ◌<◌, ◌==◌, ◌∷◌, [], Some};
+ghost use Rattle.fm_base.specs.Calls as machine;
+ghost use Rattle.fm_base.specs.Machine.{IsPower, allocate_reply};
+ghost use Rattle.fm_pool_facts.specs.Views.{limit_of};
+ghost use Rattle.fm_pool_facts.specs.Steps.{Stepped, CanReach, none_noted, acted, where_found};
+ghost use Rattle.fm_rule.specs.Passes.{IsOf};
+
+use crate::acts::{add_as, exchange_as};
+use crate::fitting::given_next;
+use crate::pass::Pass;
+use crate::pool::Pool;
+use fm_base::ArenaId;
+use fm_pool_facts::Step;
+use std::marker::Brand;
+
+/// Puts `new` into the word of this index where it is `old`, and answers the word found.
+pub fn step_swap_if(pool: &Pool, pass: &mut Pass, word: u64, old: u64, new: u64) -> u64
+    requires of { IsOf pool.now pass.old }
+    requires act { CanReach pass.old word }
+    ensures { Stepped pass.old pass.new pass.old
+        (acted pass.old.inside pass.old.caller (λ a. machine.SwapIf a word old new) (machine.Found result)) none_noted }
+{
+    let place = pass.cells_from + word;
+    exchange_as::<Brand>(
+        pool,
+        &mut pass.seat,
+        place,
+        old,
+        new,
+        Step::SwapsIf(word, old, new),
+    )
+}
+
+/// Adds `n` to the word of this index, wrapping at 2^64, and answers the word found.
+pub fn step_add(pool: &Pool, pass: &mut Pass, word: u64, n: u64) -> u64
+    requires of { IsOf pool.now pass.old }
+    requires act { CanReach pass.old word }
+    ensures { Stepped pass.old pass.new pass.old
+        (acted pass.old.inside pass.old.caller (λ a. machine.Add a word n) (machine.Found result)) none_noted }
+{
+    let place = pass.cells_from + word;
+    add_as::<Brand>(pool, &mut pass.seat, place, n, Step::Adds(word, n))
+}
+
+/// Gives bytes of the arena that the pass is inside where so many were given, and answers the count found.
+pub fn step_allocate(
+    pool: &Pool,
+    pass: &mut Pass,
+    a: ArenaId,
+    given: u64,
+    size: u64,
+    align: u64,
+) -> u64
+    requires of { IsOf pool.now pass.old }
+    requires inside { pass.old.inside ≡ Some a }
+    requires power { IsPower align }
+    ensures { Stepped pass.old pass.new pass.old
+        (where_found (result == given) (acted pass.old.inside pass.old.caller (λ b. machine.Allocate b size align)
+        (allocate_reply (limit_of pass.old.shape) given size align))) none_noted }
+{
+    let seat = &mut pass.seat;
+    let place = pool.shape.given_place(a.slot);
+    let next = given_next(pool.limit(), given, size, align);
+    let step = Step::Allocates(given, size, align);
+    exchange_as::<Brand>(pool, seat, place, given, next, step)
+}
+
+/// A guess at how many bytes the arena has given that the pass is inside. It tells nothing.
+pub fn guess_given(pool: &Pool, pass: &Pass) -> u64
+    requires { IsOf pool.now pass.now }
+{
+    match pass.inside {
+        Some(a) => pool.peek(pool.shape.given_place(a.slot)),
+        None => 0,
+    }
+}
