@@ -1,0 +1,83 @@
+-- Lines are taken one after the other.
+use Rattle.std.proofs.Common.{◌≡◌, refl, sym, ap, subst, ◌∙◌, ◌+◌, max, Bool, true, false, not, Some, None, List, [], ◌∷◌, ◌++◌, map, arith, append_assoc}
+use Rattle.std.specs.Prelude.{find}
+use Rattle.std.specs.List.{AllByRecursion}
+use Rattle.std.proofs.lemmas.Bool.{cond_both, not-true, not-false}
+use Rattle.std.proofs.lemmas.List.{append-nil}
+use Rattle.std.proofs.lemmas.Option.{same_Some}
+use Rattle.fm_script.specs.declared.line.Line.{Line}
+use Rattle.fm_script.specs.Rules.{IsAdmitted, pass_of, passes_of}
+use Rattle.fm_script.specs.Scripts.{AreAdmitted, AreLines, IsSaid, Source, source_of}
+
+-- ---- one line more
+
+-- what holds of all and of one more holds of all with it
+all_more : {A : Type 0} (P : A → Type 0) (xs : List A) (x : A) → AllByRecursion P xs → P x → AllByRecursion P (xs ++ x ∷ [])
+all_more P [] x h p = (p, tt)
+all_more P (y ∷ ys) x h p = (h.0, all_more P ys x h.1 p)
+
+-- lines and one more that is admitted behind them are admitted
+admitted_more : (before ls : List Line) (l : Line) → AreAdmitted before ls → IsAdmitted (before ++ ls) l.who l.command → AreAdmitted before (ls ++ l ∷ [])
+admitted_more before [] l h p = (subst (λ (b : List Line). IsAdmitted b l.who l.command) (append-nil before) p, tt)
+admitted_more before (m ∷ ls) l h p =
+    (h.0, admitted_more (before ++ m ∷ []) ls l h.1 (subst (λ (b : List Line). IsAdmitted b l.who l.command) (sym (append_assoc before (m ∷ []) ls)) p))
+
+-- lines and one more break no rule
+pub lines_more : (ls : List Line) (l : Line) → AreLines (map source_of ls) ls → IsSaid l → IsAdmitted ls l.who l.command
+    → AreLines (map source_of (ls ++ l ∷ [])) (ls ++ l ∷ [])
+lines_more ls l lines said admitted = record {
+  are = refl;
+  said = all_more IsSaid ls l lines.said said;
+  admitted = admitted_more [] ls l lines.admitted admitted;
+}
+
+-- the sources that are left behind one line more
+pub left_more : (all : List Source) (ls : List Line) (l : Line) (s : Source) (left more : List Source) → all ≡ map source_of ls ++ left → left ≡ s ∷ more
+    → source_of l ≡ s → all ≡ map source_of (ls ++ l ∷ []) ++ more
+left_more all ls l s left more e f g =
+    e ∙ ap (λ t. map source_of ls ++ t) (f ∙ ap (λ t. t ∷ more) (sym g)) ∙ sym (append_assoc (map source_of ls) (source_of l ∷ []) more)
+    ∙ ap (λ t. t ++ more) (sym (mapped ls l))
+  where
+    mapped : (ls : List Line) (l : Line) → map source_of (ls ++ l ∷ []) ≡ map source_of ls ++ source_of l ∷ []
+    mapped [] l = refl
+    mapped (m ∷ ls) l = ap (λ t. source_of m ∷ t) (mapped ls l)
+
+-- ---- the passes
+
+-- a line more needs the passes up to its own
+pub passes_more : (ls : List Line) (l : Line) → passes_of (ls ++ l ∷ []) ≡ max (passes_of ls) (pass_of l.who + 1)
+passes_more [] l = omega arith
+passes_more (m ∷ ls) l = ap (max (pass_of m.who + 1)) (passes_more ls l) ∙ omega arith
+
+-- ---- what isn't given back
+
+-- what passes a test fails the other
+pub found_none : {A : Type 0} (p : A → Bool) (xs : List A) → find (λ x. not (p x)) xs ≡ None → AllByRecursion (λ x. p x ≡ true) xs
+found_none p [] e = tt
+found_none p (x ∷ xs) e =
+    cond_both (not (p x)) (Some x) (find (λ x. not (p x)) xs) (λ o. o ≡ None → AllByRecursion (λ x. p x ≡ true) (x ∷ xs))
+    (λ t f. absurd (cc)) (λ t f. (not-false (p x) t, found_none p xs f)) e
+
+-- the first that fails a test, behind those that pass it
+pub record IsFirst {A : Type 0} (p : A → Bool) (xs : List A) (x : A) : Type 0 where
+  pub before : List A
+  pub after : List A
+  pub parts : xs ≡ before ++ x ∷ after
+  pub pass : AllByRecursion (λ y. p y ≡ true) before
+  pub fails : p x ≡ false
+
+-- what is found is the first that fails it
+pub found_first : {A : Type 0} (p : A → Bool) (xs : List A) (x : A) → find (λ y. not (p y)) xs ≡ Some x → IsFirst p xs x
+found_first p [] x e = absurd (cc)
+found_first p (y ∷ ys) x e =
+    cond_both (not (p y)) (Some y) (find (λ z. not (p z)) ys) (λ o. o ≡ Some x → IsFirst p (y ∷ ys) x)
+    (λ t f. subst (IsFirst p (y ∷ ys)) (same_Some y x f) (record { before = []; after = ys; parts = refl; pass = tt; fails = not-true (p y) t }))
+    (λ t f.
+    let r = found_first p ys x f in
+    record {
+      before = y ∷ r.before;
+      after = r.after;
+      parts = ap (λ zs. y ∷ zs) r.parts;
+      pass = (not-false (p y) t, r.pass);
+      fails = r.fails;
+    }) e

@@ -1,0 +1,218 @@
+use crate::{Command, Who, parse_script};
+use fm_base::{Kind, Refusal};
+use fm_lanes::{Order, ValueKind};
+use std::alloc::Global;
+use std::test::Fail;
+
+/// The line at which the text is refused; 0 where it is a script.
+fn refused_at(alloc: Global, text: &str) -> Option<u64> {
+    match parse_script(alloc, text.as_bytes()) {
+        Ok(_) => Some(0),
+        Err(Refusal::BadScript(line)) => Some(line),
+        Err(_) => None,
+    }
+}
+
+const WORKED: [&str; 12] = [
+    "pool 1 1 8 1000 1\nfirst open a shared\nfirst alloc a s 8 8\nfirst set s long 0 7\nfirst close a\n\
+     first open b shared\nfirst alloc b t 8 8\nfirst get t long 0\nfirst get s long 0\n",
+    "pool 1 1 8 1000 1\nfirst open a shared\nfirst alloc a s 8 8\n1 add s long 0 5\n2 add s long 0 7\nlast get s long 0\n",
+    "pool 1 1 8 1000 1\nfirst open a shared\nfirst alloc a s 8 8\nfirst set s int 0 2147483647\nfirst set s int 4 9\n\
+     first add s int 0 1\nfirst get s int 0\n",
+    "pool 1 1 8 1000 1\nfirst open a shared\nfirst alloc a s 8 8\nfirst readonly s r\nfirst set r long 0 1\n\
+     first slice s u 5 4\nfirst get u byte 0\n",
+    "pool 1 1 8 1000 1\nfirst open a shared\nfirst hold a h\nfirst hold a k\nfirst close a\nfirst unhold h\nfirst unhold k\n\
+     first close a\nfirst close a\n",
+    "pool 1 1 8 1000 1\nfirst open a confined\nfirst alloc a s 8 8\nfirst close a\n1 get s long 0\n",
+    "pool 1 1 8 1000 1\nfirst open g global\nfirst close g\n",
+    "pool 1 1 8 1000 1\nfirst open a auto\nfirst alloc a s 8 8\nfirst again a h\nfirst back a\nfirst get s long 0\nfirst back h\n\
+     first get s long 0\n",
+    "pool 1 1 8 1000 1\nfirst open a shared\nfirst open b shared\nfirst alloc b t 8 8\n",
+    "pool 1 1 8 1000 1\nfirst open a shared\nfirst alloc a s 60 4\nfirst alloc a t 8 8\nfirst alloc a u 4 4\nfirst alloc a v 4 3\n\
+     first alloc a w 0 1\n",
+    "pool 1 1 8 1000 1\nfirst open a shared\nfirst alloc a s 8 8\nfirst cas s long 0 0 9\nfirst cas s long 0 0 3\nfirst get s long 0\n\
+     first set s int-be 0 1\nfirst get s int 0\n",
+    "pool 1 1 8 1000 1\nfirst open a shared\nfirst alloc a s 8 8\nfirst alloc a t 8 8\nfirst fill s 255\nfirst mismatch s t\n\
+     first copy s t\nfirst slice s u 0 4\nfirst mismatch u s\nfirst copy s u\nfirst alive a\n",
+];
+
+#[test]
+fn reads_worked_scripts(rt: HostRuntime) {
+    for text in WORKED {
+        assert!(rt; refused_at(rt.alloc(), text) == Some(0), "at {text}");
+    }
+}
+
+#[test]
+fn reads_lines(rt: HostRuntime) -> Result<(), Fail> {
+    let text =
+        "# counts\n\npool 1 1 8 1000 1\nfirst open a shared\n\nfirst alloc a s 8 16\n#\n2 set s int-be 4 -1\nlast close a";
+    let script = parse_script(rt.alloc(), text.as_bytes())?;
+    assert_eq!(rt; script.shape().passes, 3);
+    assert_eq!(rt; script.shape().page_words, 8);
+    assert_eq!(rt; script.shape().generations, 1000);
+    let lines = script.lines();
+    assert_eq!(rt; lines.len(), 4);
+    assert_eq!(rt; lines[0].number, 4);
+    assert_eq!(rt; lines[0].text.as_str(), "first open a shared");
+    assert_eq!(rt; lines[0].who, Who::First);
+    assert!(rt;
+        matches!(&lines[0].command, Command::Open { name, kind: Kind::Shared } if name.as_bytes() == b"a".as_slice())
+    );
+    assert_eq!(rt; lines[1].number, 6);
+    assert!(rt;
+        matches!(&lines[1].command, Command::Alloc { name, size: 8, align: 16, .. } if name.as_bytes() == b"s".as_slice())
+    );
+    assert_eq!(rt; lines[2].number, 8);
+    assert_eq!(rt; lines[2].who, Who::Worker(2));
+    assert!(rt;
+        matches!(&lines[2].command, Command::Set(cell, -1)
+        if cell.kind == ValueKind::Int && cell.order == Order::Big && cell.offset == 4)
+    );
+    assert_eq!(rt; lines[3].number, 9);
+    assert_eq!(rt; lines[3].who, Who::Last);
+    assert_eq!(rt; lines[3].text.as_str(), "last close a");
+    Ok(())
+}
+
+const POOL: &str = "pool 1 1 8 1000 1\n";
+
+/// Lines behind a pool's line and `first open a shared`, `first alloc a s 8 8`, and where they are refused.
+const BEHIND: [(&str, u64); 81] = [
+    ("", 0),
+    ("\n#\n# \u{7f}\n", 0),
+    ("# \u{e9}\n", 4),
+    ("first get s long 0", 0),
+    ("first  get s long 0\n", 4),
+    (" first get s long 0\n", 4),
+    ("first get s long 0 \n", 4),
+    ("first get s long\n", 4),
+    ("first get s long 0 0\n", 4),
+    ("first got s long 0\n", 4),
+    ("first get s longer 0\n", 4),
+    ("first get s long-le 0\n", 4),
+    ("first get s long 00\n", 4),
+    ("first get s long +0\n", 4),
+    ("first get s long 1099511627776\n", 0),
+    ("first get s long 1099511627777\n", 4),
+    ("first get s long 0\r\n", 4),
+    ("16 get s long 0\n", 0),
+    ("17 get s long 0\n", 4),
+    ("0 get s long 0\n", 4),
+    ("01 get s long 0\n", 4),
+    ("first set s byte 0 127\n", 0),
+    ("first set s byte 0 128\n", 4),
+    ("first set s byte 0 -128\n", 0),
+    ("first set s byte 0 -129\n", 4),
+    ("first set s boolean 0 1\n", 0),
+    ("first set s boolean 0 2\n", 4),
+    ("first set s boolean 0 -1\n", 4),
+    ("first set s char 0 65535\n", 0),
+    ("first set s char 0 65536\n", 4),
+    ("first set s short 0 -32768\n", 0),
+    ("first set s short 0 32768\n", 4),
+    ("first set s int 0 2147483647\n", 0),
+    ("first set s int 0 2147483648\n", 4),
+    ("first set s long 0 9223372036854775807\n", 0),
+    ("first set s long 0 9223372036854775808\n", 4),
+    ("first set s long 0 -9223372036854775808\n", 0),
+    ("first set s long 0 -0\n", 4),
+    ("first fill s 255\n", 0),
+    ("first fill s 256\n", 4),
+    ("first open 1b shared\n", 4),
+    ("first open b share\n", 4),
+    ("first open a shared\n", 4),
+    ("first open s shared\n", 4),
+    ("first alloc s t 8 8\n", 4),
+    ("first alloc b t 8 8\n", 4),
+    ("first get a long 0\n", 4),
+    ("first get t long 0\n1 alloc a t 8 8\n", 4),
+    ("1 alloc a t 8 8\n1 get t long 0\nlast get t long 0\n", 0),
+    ("1 alloc a t 8 8\n2 get t long 0\n", 5),
+    ("1 get s long 0\nfirst get s long 0\n", 5),
+    ("last get s long 0\n1 get s long 0\n", 5),
+    ("first hold a h\n1 unhold h\n", 5),
+    ("first hold a h\nlast unhold h\n", 0),
+    ("first hold a h\nfirst unhold h\nfirst unhold h\n", 6),
+    ("first hold a h\nfirst hold a k\nfirst unhold h\n", 5),
+    ("first again a h\n", 4),
+    ("first open b auto\nfirst back b\nfirst again b h\n", 6),
+    ("first open b auto\nfirst back b\nfirst alive b\n", 0),
+    ("first open b auto\nfirst again b h\nfirst back b\n", 5),
+    ("first alloc a t 1099511627776 1099511627776\n", 0),
+    ("first alloc a t 1099511627777 8\n", 4),
+    ("first alloc a t 8 1099511627777\n", 4),
+    ("first slice s t 1099511627776 1099511627776\n", 0),
+    ("first slice s t 1099511627777 8\n", 4),
+    ("first slice s t 8 1099511627777\n", 4),
+    ("first set s int 0 -2147483648\n", 0),
+    ("first set s int 0 -2147483649\n", 4),
+    ("first cas s byte 0 0 128\n", 4),
+    ("first cas s byte 0 128 0\n", 4),
+    ("first hold a h\nfirst back h\n", 5),
+    ("first open b auto\nfirst unhold b\n", 5),
+    ("first open b auto\n1 again b h\n", 5),
+    ("first open b auto\n1 back b\n", 5),
+    (
+        "first open b auto\nlast again b h\nlast back b\nlast back h\n",
+        0,
+    ),
+    ("first open b auto\n", 4),
+    ("1 hold a h\n1 unhold h\n", 0),
+    ("1 hold a h\nlast unhold h\n", 5),
+    ("# a\n\nfirst get s long 0\n\n#", 0),
+    (
+        "first open aaaaaaaaaaaaaaaaaaaaaaaaaaaaaaaaaaaaaaaaaaaaaaaaaaaaaaaaaaaaaaaa shared",
+        0,
+    ),
+    (
+        "first open aaaaaaaaaaaaaaaaaaaaaaaaaaaaaaaaaaaaaaaaaaaaaaaaaaaaaaaaaaaaaaaaa shared",
+        4,
+    ),
+];
+
+#[test]
+fn refuses_the_first_line_that_breaks_a_rule(rt: HostRuntime) -> Result<(), Fail> {
+    for (lines, at) in BEHIND {
+        let text = format!(in rt.alloc();
+            "{POOL}first open a shared\nfirst alloc a s 8 8\n{lines}"
+        )?;
+        assert!(rt;
+            refused_at(rt.alloc(), text.as_str()) == Some(at),
+            "at {lines}"
+        );
+    }
+    Ok(())
+}
+
+#[test]
+fn refuses_pools(rt: HostRuntime) {
+    for (text, at) in [
+        ("", 1),
+        ("\n", 2),
+        ("#", 2),
+        ("#\n\n", 3),
+        ("# \u{e9}\n", 1),
+        ("first open a shared\n", 1),
+        ("\npool 1 1 8 1 2\n", 2),
+        ("pool 1 1 8 1\n", 1),
+        ("pool 1 1 8 1 1 1\n", 1),
+        ("pool 1 1 8 1 1", 0),
+        ("pool 64 1 65536 4294967295 64\n", 0),
+        ("pool 64 1 65537 1 64\n", 1),
+        ("pool 65 1 8 1 65\n", 1),
+        ("pool 1 64 8 1 64\n", 0),
+        ("pool 1 65 8 1 65\n", 1),
+        ("pool 1 1 1048576 1 1\n", 0),
+        ("pool 1 1 1048577 1 1\n", 1),
+        ("pool 01 1 8 1 1\n", 1),
+        ("Pool 1 1 8 1 1\n", 1),
+        ("pool 0 1 8 1 0\n", 1),
+        ("pool 1 1 0 1 1\n", 1),
+        ("pool 1 1 8 0 1\n", 1),
+        ("pool 1 1 8 4294967296 1\n", 1),
+        ("pool 1 1 8 1 1\npool 1 1 8 1 1\n", 2),
+    ] {
+        assert!(rt; refused_at(rt.alloc(), text) == Some(at), "at {text}");
+    }
+}
