@@ -76,7 +76,8 @@ answers_on s id end width v x y (Some all) h e at bytes a =
     let past : drop width (drop x.at (bytes_of_arena s id)) ≡ drop y.at (bytes_of_arena s id) =
     drop-drop width x.at (bytes_of_arena s id) ∙ ap (λ n. drop n (bytes_of_arena s id)) (sym at) in
     let two : take (end - x.at) (drop x.at (bytes_of_arena s id)) ≡ bytes_of width v ++ take (end - y.at) (drop y.at (bytes_of_arena s id)) =
-    ap (λ n. take n d) sum ∙ take-add width (end - y.at) d ∙ ap (λ bs. bs ++ take (end - y.at) (drop width d)) (sym e) ∙ ap (λ bs. bytes_of width v ++ take (end - y.at) bs) past in
+    ap (λ n. take n d) sum ∙ take-add width (end - y.at) d ∙ ap (λ bs. bs ++ take (end - y.at) (drop width d)) (sym e)
+    ∙ ap (λ bs. bytes_of width v ++ take (end - y.at) bs) past in
     a ∙ ap (λ bs. bs ++ take (end - y.at) (drop y.at b)) bytes
     ∙ append_assoc x.bytes (bytes_of width v) (take (end - y.at) (drop y.at b))
     ∙ ap (λ bs. x.bytes ++ bs) (sym two)
@@ -199,13 +200,15 @@ puts_on s t u id width v x y true p put at bytes more =
     let n = p.count in
     let there = with_words_there s t id put.words put.known put.state in
     let first : bytes_of_arena t id ≡ with_bytes (bytes_of_arena s id) x.at (take width x.bytes) =
-    ap (λ (a : Arena). bytes_in a.words) there ∙ put.bytes ∙ ap (λ bs. take x.at all ++ (bs ++ drop (x.at + width) all)) p.are ∙ ap (λ k. take x.at all ++ (part ++ drop (x.at + k) all)) (sym n) in
+    ap (λ (a : Arena). bytes_in a.words) there ∙ put.bytes ∙ ap (λ bs. take x.at all ++ (bs ++ drop (x.at + width) all)) p.are
+    ∙ ap (λ k. take x.at all ++ (part ++ drop (x.at + k) all)) (sym n) in
     let next : y.at ≡ x.at + length (take width x.bytes) = at ∙ ap (λ k. x.at + k) (sym n) in
     let within = put.within in
     let room : x.at ≤ length (bytes_of_arena s id) = omega (arith, length-bytes_in (arena_of s id).words) in
     record {
       words = more.words;
-      state = more.state ∙ ap (λ (r : State). changed r id (with_words more.words)) put.state ∙ changed_twice s id (with_words put.words) (with_words more.words) (λ a. refl);
+      state = more.state ∙ ap (λ (r : State). changed r id (with_words more.words)) put.state
+          ∙ changed_twice s id (with_words put.words) (with_words more.words) (λ a. refl);
       bytes = more.bytes
           ∙ ap (λ k. with_bytes (bytes_of_arena t id) k y.bytes) next
           ∙ ap (λ bs. with_bytes (bytes_of_arena t id) (x.at + length part) bs) bytes
@@ -214,23 +217,38 @@ puts_on s t u id width v x y true p put at bytes more =
           ∙ ap (with_bytes all x.at) (take-append-drop width x.bytes);
     }
 
+-- what a step of a run of puts is: its first bytes are a piece, the visit puts them, and bytes are left
+pub record StepPuts (s t : State) (id : ArenaId) (x y : Putting) : Type 0 where
+  pub part : IsPart x.bytes (next_width x) (number_of (take (next_width x) x.bytes))
+  pub put : VisitPuts s t id x.at (next_width x) (number_of (take (next_width x) x.bytes))
+  pub left : AreBytes y.bytes
+
+pub step_puts : (limit : ℕ) (c : Caller) (id : ArenaId) (s : State) (x y : Putting) (own : List Entry) → AreBytes x.bytes → PutsOn c id x own y
+    → IsLegal limit s own → StepPuts s (state_after limit s own) id x y
+step_puts limit c id s x y own are step legal =
+    let width = next_width x in
+    let v = number_of (take width x.bytes) in
+    let fits : x.at % 8 + next_width x ≤ 8 = omega arith in
+    let some : next_width x ≤ length x.bytes = omega arith in
+    let part = is_part x.bytes width v are some refl in
+    record {
+      part = part;
+      put = visit_puts limit c s id x.at width v own step.piece fits part.small legal;
+      left = subst AreBytes (sym step.bytes) (All-drop (λ b. b < 256) width x.bytes are);
+    }
+
 -- A run of puts puts just these bytes.
 puts_run : (limit : ℕ) (c : Caller) (id : ArenaId) (s : State) (x : Putting) (own : List Entry) (done : Bool) → AreBytes x.bytes
     → Run (PutsOn c id) (EndsPutting c id) x own done → IsLegal limit s own → Leaves s (state_after limit s own) id x done
 puts_run limit c id s x own done are (ends e) legal = puts_end limit c id s x own done e legal
 puts_run limit c id s x own done are (goes_on y first rest step run) legal =
-    let width = next_width x in
     let parts = IsLegal-split limit s first rest legal in
-    let fits : x.at % 8 + next_width x ≤ 8 = omega arith in
-    let some : next_width x ≤ length x.bytes = omega arith in
     let t = state_after limit s first in
-    let v = number_of (take width x.bytes) in
-    let p = is_part x.bytes (next_width x) (number_of (take (next_width x) x.bytes)) are some refl in
-    let left : AreBytes y.bytes = subst AreBytes (sym step.bytes) (All-drop (λ b. b < 256) width x.bytes are) in
-    let put = visit_puts limit c s id x.at (next_width x) (number_of (take (next_width x) x.bytes)) first step.piece fits p.small parts.0 in
-    let more = puts_run limit c id (state_after limit s first) y rest done left run parts.1 in
+    let p = step_puts limit c id s x y first are step parts.0 in
+    let more = puts_run limit c id t y rest done p.left run parts.1 in
     let Here : State → Type 0 = λ u. Leaves s u id x done in
-    subst Here (sym (state_after-append limit s first rest)) (puts_on s t (state_after limit t rest) id width v x y done p put step.at step.bytes more)
+    subst Here (sym (state_after-append limit s first rest))
+    (puts_on s t (state_after limit t rest) id (next_width x) (number_of (take (next_width x) x.bytes)) x y done p.part p.put step.at step.bytes more)
 
 -- A change of one arena leaves the words of the others.
 pub other_words : (f : Arena → Arena) → KeepsName f → (s : State) (id other : ArenaId) → other ≢ id

@@ -55,7 +55,8 @@ by_arena c id Cause Closed w k a = k a
 by_arena c id Cause e w k a = absurd a
 
 -- A refused call has its cause.
-pub at_cause : {X : Type 0} (c : Caller) (id : ArenaId) (found : Result ℕ Refusal) (Does : ℕ → Result X Refusal → List Entry → Type 0) (Cause : Refusal → Type 0) (result : Result X Refusal) (own : List Entry)
+pub at_cause : {X : Type 0} (c : Caller) (id : ArenaId) (found : Result ℕ Refusal) (Does : ℕ → Result X Refusal → List Entry → Type 0) (Cause : Refusal
+    → Type 0) (result : Result X Refusal) (own : List Entry)
     → Causes found id c Cause → ((place : ℕ) (e : Refusal) → Does place (Err e) own → UseCause id c e) → DoesAt found Does result own → IfErr result Cause
 at_cause {X} c id (Err e) Does Cause result own h at d = let P : Result X Refusal → Type 0 = λ x. IfErr x Cause in subst P (sym d.0) (h.before e refl)
 at_cause {X} c id (Ok p) Does Cause (Ok x) own h at d = tt
@@ -142,7 +143,9 @@ module _ (offset size align first room : ℕ) where
       let inner = if aligned then found else Err Misaligned in
       let Cause = PlaceCause offset size align first room id c in
       let Given : Refusal → Type 0 = λ e. fits ≡ true → Cause e in
-      let one : Causes inner id c Given = tested_causes (aligned ≡ true) (aligned ≡ false) inner found Misaligned id c (UseCause id c) Given (if_tested aligned found Misaligned) h (λ a f. (within f, odd a)) (λ a e x f. lift id c f a e x) in
+      let one : Causes inner id c Given =
+      tested_causes (aligned ≡ true) (aligned ≡ false) inner found Misaligned id c (UseCause id c) Given (if_tested aligned found Misaligned) h (λ a f.
+      (within f, odd a)) (λ a e x f. lift id c f a e x) in
       tested_causes (fits ≡ true) (fits ≡ false) (if fits then inner else Err Bounds) inner Bounds id c Given Cause (if_tested fits inner Bounds) one
       (λ f in_bounds. let past = leb-false (offset + size) room f in omega arith) (λ f e x. x f)
 

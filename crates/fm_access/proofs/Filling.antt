@@ -1,7 +1,7 @@
 -- A range that is filled with one byte.
-use Rattle.std.proofs.Common.{◌≡◌, ℕ, ◌+◌, ◌-◌, ◌*◌, ◌<◌, ◌≤◌, ◌==◌, Bool, true, false, MatchBool, List, [], length, take, drop, replicate, refl, sym, ap, subst, ◌∙◌, arith, Result, Ok}
+use Rattle.std.proofs.Common.{◌≡◌, ℕ, ◌+◌, ◌-◌, ◌*◌, ◌<◌, ◌≤◌, ◌==◌, Bool, true, false, MatchBool, List, [], take, drop, replicate, refl, sym, ap, subst, ◌∙◌, arith, Result, Ok}
 use Rattle.std.proofs.lemmas.Bool.Decides.{nat_tests}
-use Rattle.std.proofs.lemmas.List.{take-replicate, drop-replicate, length-replicate}
+use Rattle.std.proofs.lemmas.List.{take-replicate, drop-replicate}
 use Rattle.std.proofs.lemmas.List.Elements.{All-replicate}
 use Rattle.fm_base.specs.declared.arena_id.ArenaId.{ArenaId}
 use Rattle.fm_base.specs.declared.refusal.Refusal.{Refusal}
@@ -14,7 +14,6 @@ use Rattle.fm_base.specs.Arenas.{has_arena}
 use Rattle.fm_access.specs.Alone.{ChangesBytes}
 use Rattle.fm_access.proofs.Alone.{put_none}
 use Rattle.fm_access.specs.Ranges.{DoesPut, DoesFill}
-use Rattle.fm_access.proofs.Putting.{GoingPut, put_done}
 
 -- Copies of a byte are bytes.
 pub AreBytes-replicate : (n byte : ℕ) → byte < 256 → AreBytes (replicate n byte)
@@ -58,13 +57,3 @@ no_fill old id place size byte none =
 pub none_alone : (old : View) (id : ArenaId) (place size byte : ℕ) → size ≡ 0 → has_arena old.state id ≡ true
     → ChangesBytes old old id place (replicate size byte)
 none_alone old id place size byte none known = put_none old id place (replicate size byte) (ap (λ n. replicate n byte) none) known
-
--- All is filled.
-pub fill_done : (old now : View) (id : ArenaId) (place size byte at : ℕ) (own : List Entry)
-    → GoingPut old now id place (replicate size byte) at own → at ≡ place + size → 0 < size
-    → Did old now (DoesPut old.caller id place (replicate size byte) (Ok tt))
-fill_done old now id place size byte at own g h some =
-    let len : length (replicate size byte) ≡ size = length-replicate size byte in
-    let end : at ≡ place + length (replicate size byte) = omega arith in
-    let more : 0 < length (replicate size byte) = omega arith in
-    put_done old now id place at (replicate size byte) own g end more

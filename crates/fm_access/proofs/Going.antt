@@ -47,7 +47,8 @@ module _ {X Y : Type 0} (Step : X → List Entry → X → Type 0) (Ends : X →
       subst (λ (es : List Entry). Run Step Ends first es answer) (append-nil own) (led_ends Step Ends first x own [] answer g.led e)
 
   closed : (old now next : View) (id : ArenaId) (first x : X) (own more : List Entry) (answer : Y)
-      → Going old now id first x own → Ends x (refused_visit old.caller id) answer → MayUse id now.caller → more ≡ refused_visit now.caller id → Makes now next more
+      → Going old now id first x own → Ends x (refused_visit old.caller id) answer → MayUse id now.caller → more ≡ refused_visit now.caller id
+      → Makes now next more
       → Did old next (λ es. MayUse id old.caller × Run Step Ends first es answer)
   closed old now next id first x own more answer g e may d m =
       let same = g.makes.same_caller in

@@ -37,7 +37,8 @@ pub record IsCall {X : Type 0} (c : Caller) (id : ArenaId) (Does : Result X Refu
   pub outside : (result : Result X Refusal) (own : List Entry) → Does result own → EndsOutside own
 
 -- what the only caller learns where a place was found: of an answer, and of a refusal
-pub record IsLearnt {X : Type 0} (old new : View) (id : ArenaId) (found : Result ℕ Refusal) (Does : ℕ → Result X Refusal → List Entry → Type 0) (Alone Kind : X → Type 0) : Type 0 where
+pub record IsLearnt {X : Type 0} (old new : View) (id : ArenaId) (found : Result ℕ Refusal) (Does : ℕ → Result X Refusal → List Entry
+    → Type 0) (Alone Kind : X → Type 0) : Type 0 where
   pub alone : (p : ℕ) (x : X) → found ≡ Ok p → Did old new (Does p (Ok x)) → IsByItself old → Alone x
   pub shut : (p : ℕ) (e : Refusal) → Did old new (Does p (Err e)) → IsByItself old → StaysOut old new id
   pub kind : (p : ℕ) (x : X) (own : List Entry) → Does p (Ok x) own → Kind x
@@ -85,7 +86,8 @@ if_err C D (Ok x) f h = tt
 if_err C D (Err e) f h = f e h
 
 -- What was learnt, said otherwise.
-pub after_said : {X Y : Type 0} {old new : View} {Does : Result X Refusal → List Entry → Type 0} {Cause : Refusal → Type 0} {Alone : X → Type 0} {Shut : Type 0} {Known : View → Type 0} {Kind : X → Type 0} {x : Result X Refusal}
+pub after_said : {X Y : Type 0} {old new : View} {Does : Result X Refusal → List Entry → Type 0} {Cause : Refusal → Type 0} {Alone : X
+    → Type 0} {Shut : Type 0} {Known : View → Type 0} {Kind : X → Type 0} {x : Result X Refusal}
     → (More : Result Y Refusal → List Entry → Type 0) (Why : Refusal → Type 0) (Sees : Y → Type 0) (Stays : Type 0) (Knows : View → Type 0) (Is : Y → Type 0)
     (y : Result Y Refusal)
     → After old new Does Cause Alone Shut Known Kind x → ((own : List Entry) → Does x own → More y own) → (IfErr x Cause → IfErr y Why) →
@@ -105,7 +107,8 @@ after_said More Why Sees Stays Knows Is y a does cause sees shut knows kind =
     }
 
 -- What is learnt of a call that was refused before it went to an arena.
-pub after_none : {X : Type 0} {old : View} (Does : Result X Refusal → List Entry → Type 0) (Cause : Refusal → Type 0) (Alone : X → Type 0) (Shut : Type 0) (Known : View → Type 0) (Kind : X → Type 0) (e : Refusal)
+pub after_none : {X : Type 0} {old : View} (Does : Result X Refusal → List Entry → Type 0) (Cause : Refusal → Type 0) (Alone : X
+    → Type 0) (Shut : Type 0) (Known : View → Type 0) (Kind : X → Type 0) (e : Refusal)
     → old.inside ≡ None → Does (Err e) [] → Cause e → Shut → Known old → After old old Does Cause Alone Shut Known Kind (Err e)
 after_none {X} {old} Does Cause Alone Shut Known Kind e out does cause shut known =
     let d : Did old old (Does (Err e)) = record { own = []; does = does; makes = Makes-none old } in
@@ -121,7 +124,8 @@ after_none {X} {old} Does Cause Alone Shut Known Kind e out does cause shut know
     }
 
 -- A refusal before a place was found.
-pub refused_at : {X : Type 0} (v : View) (found : Result ℕ Refusal) (Does : ℕ → Result X Refusal → List Entry → Type 0) (e : Refusal) (result : Result X Refusal) → found ≡ Err e → result ≡ Err e
+pub refused_at : {X : Type 0} (v : View) (found : Result ℕ Refusal) (Does : ℕ → Result X Refusal → List Entry
+    → Type 0) (e : Refusal) (result : Result X Refusal) → found ≡ Err e → result ≡ Err e
     → Did v v (DoesAt found Does result)
 refused_at v found Does e result f r = rw (f, r) (record { own = []; does = (refl, refl); makes = Makes-none v })
 
@@ -145,7 +149,8 @@ get_value_shut : (old new : View) (k : ValueKind) (o : Order) (id : ArenaId) (p 
 get_value_shut old new k o id p e d alone = get_shut old new id p (width_of k) (Err e) d alone
 
 -- All that is learnt of getting a value at the place that was found.
-pub after_get_at : (old new : View) (k : ValueKind) (o : Order) (id : ArenaId) (found : Result ℕ Refusal) (Cause : Refusal → Type 0) (Known : View → Type 0) (Alone : Value → Type 0) (result : Result Value Refusal)
+pub after_get_at : (old new : View) (k : ValueKind) (o : Order) (id : ArenaId) (found : Result ℕ Refusal) (Cause : Refusal → Type 0) (Known : View
+    → Type 0) (Alone : Value → Type 0) (result : Result Value Refusal)
     → old.inside ≡ None → Causes found id old.caller Cause → (Lasts old new → Known new)
     → ((p : ℕ) (v : Value) → found ≡ Ok p → FindsValue old new k o id p v → Alone v)
     → Did old new (DoesAt found (DoesGetValue old.caller k o id) result)
@@ -159,7 +164,8 @@ after_get_at old new k o id found Cause Known Alone result out causes known ther
     }) known d
 
 -- All that is learnt of putting a value at the place that was found.
-pub after_put_at : (old new : View) (k : ValueKind) (o : Order) (id : ArenaId) (v : Value) (found : Result ℕ Refusal) (Cause : Refusal → Type 0) (Known : View → Type 0) (Alone : Type 0) (result : Result (Unit {0}) Refusal)
+pub after_put_at : (old new : View) (k : ValueKind) (o : Order) (id : ArenaId) (v : Value) (found : Result ℕ Refusal) (Cause : Refusal → Type 0) (Known : View
+    → Type 0) (Alone : Type 0) (result : Result (Unit {0}) Refusal)
     → old.inside ≡ None → Causes found id old.caller Cause → (Lasts old new → Known new) → kind_of v ≡ k → has_arena old.state id ≡ true
     → ((p : ℕ) → found ≡ Ok p → PutsValue old new k o id p v → Alone)
     → Did old new (DoesAt found (λ p. DoesPut old.caller id p (bytes_of_value o v)) result)

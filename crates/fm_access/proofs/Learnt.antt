@@ -82,6 +82,14 @@ all_some c id place bytes result own e d =
     let P : Bool → Type 0 = λ b. MatchBool b ((result ≡ Ok tt) × (own ≡ [])) (DoesPut c id place bytes result own) in
     subst P (sym e) d
 
+-- A put of all bytes, one or more, is a put of these bytes.
+pub some_put : (old new : View) (id : ArenaId) (place : ℕ) (bytes all : List ℕ) (result : Result (Unit {0}) Refusal) → bytes ≡ all → 0 < length all
+    → Did old new (DoesPutAll old.caller id place bytes result) → Did old new (DoesPut old.caller id place all result)
+some_put old new id place bytes all result same some d =
+    let e : (length all == 0) ≡ false = grind (arith, nat_tests) in
+    let P : Bool → Type 0 = λ b. MatchBool b ((result ≡ Ok tt) × (d.own ≡ [])) (DoesPut old.caller id place all result d.own) in
+    record { own = d.own; does = subst P e (rw same at d.does); makes = d.makes }
+
 all_none : (old : View) (id : ArenaId) (place : ℕ) (bytes : List ℕ) → (length bytes == 0) ≡ true → Did old old (DoesPutAll old.caller id place bytes (Ok tt))
 all_none old id place bytes e =
     let own : List Entry = [] in
@@ -90,7 +98,8 @@ all_none old id place bytes e =
     let both : (result ≡ Ok tt) × (own ≡ []) = (refl, refl) in
     record { own = []; does = subst P (sym e) both; makes = Makes-none old }
 
-trivial_kind : (result : Result (Unit {0}) Refusal) → IfOk result (λ u. ⊤)
+-- Any answer of a call that answers nothing is of its kind.
+pub trivial_kind : (result : Result (Unit {0}) Refusal) → IfOk result (λ u. ⊤)
 trivial_kind (Ok u) = tt
 trivial_kind (Err e) = tt
 
@@ -137,7 +146,8 @@ after_put_all {old} {new} {id} {place} {bytes} {result} can some are d =
     after_said (DoesPutAll old.caller id place bytes) (λ e. (0 < length bytes) × UseCause id old.caller e) (λ u. ChangesBytes old new id place bytes)
     (StaysOut old new id) (λ v. has_arena v.state id ≡ true) (λ u. ⊤) result
     (after_put can.outside can.known are d)
-    (λ own x. all_some old.caller id place bytes result own e x) (if_err (UseCause id old.caller) (λ e. (0 < length bytes) × UseCause id old.caller e) result (λ e x. (some, x))) (λ h x. x) (λ h x. x)
+    (λ own x. all_some old.caller id place bytes result own e x)
+    (if_err (UseCause id old.caller) (λ e. (0 < length bytes) × UseCause id old.caller e) result (λ e x. (some, x))) (λ h x. x) (λ h x. x)
     ((Did-lasts old new _ d).known id can.known) (λ x. x)
 
 -- All that is learnt of a fill of no bytes.

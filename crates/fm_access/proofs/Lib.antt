@@ -10,6 +10,7 @@ pub mod Outside
 pub mod Patching
 pub mod Putting
 pub mod Splicing
+pub mod Touching
 pub mod Values
 pub mod Visits
 pub mod Within

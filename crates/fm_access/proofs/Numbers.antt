@@ -1,9 +1,15 @@
--- The number of the bytes that were read so far.
-use Rattle.std.proofs.Common.{◌≡◌, ℕ, ◌+◌, ◌-◌, ◌*◌, ◌%◌, ◌^◌, ◌<◌, ◌≤◌, List, [], ◌++◌, length, refl, ◌∙◌, arith, length-append}
+-- The number of the bytes that were read so far, and the bytes of a number.
+use Rattle.std.proofs.Common.{◌≡◌, ℕ, ◌+◌, ◌-◌, ◌*◌, ◌%◌, ◌^◌, ◌<◌, ◌≤◌, List, [], ◌++◌, length, take, get_or, inl, inr, refl, sym, ap, ◌∙◌, arith, length-append}
 use Rattle.std.proofs.Math.Pow.{pow_mono}
-use Rattle.std.proofs.lemmas.Nat.{shl_whole}
-use Rattle.fm_bytes.specs.Bytes.{bytes_of, number_of}
-use Rattle.fm_bytes.proofs.Bytes.{length-bytes_of, number_of-append, number_of-bytes_of, pow_bytes}
+use Rattle.std.proofs.lemmas.Bool.{cases_lt}
+use Rattle.std.proofs.lemmas.List.{get_or_past, take_all}
+use Rattle.std.proofs.lemmas.List.Elements.{All-get_or}
+use Rattle.std.proofs.lemmas.Nat.{shl_whole, le_bytes_8}
+use Rattle.std.specs.Int.{w64, from_le_bytes, to_le_bytes}
+use Rattle.byteorder.specs.Endian.{little_number}
+use Rattle.fm_bytes.specs.Bytes.{AreBytes, bytes_of, number_of}
+use Rattle.fm_bytes.proofs.Bytes.{AreBytes-bytes_of, length-bytes_of, number_of-append, number_of-bytes_of, pow_bytes, take-bytes_of}
+use Rattle.fm_lanes.proofs.Reading.{little_number-number_of}
 
 -- `value` is the number of the bytes from `first` up to `at`
 pub record IsSoFar (bytes : List ℕ) (first at value : ℕ) : Type 0 where
@@ -51,3 +57,25 @@ placed bytes first at value width v s h room =
       whole = shl_whole v (8 * width) (8 * (at - first)) 64 h (omega arith);
       fits = omega arith;
     }
+
+byte_lt : (bytes : List ℕ) → AreBytes bytes → (i : ℕ) → get_or bytes i 0 < 256
+byte_lt bytes are i =
+    elim (cases_lt i (length bytes)) [
+      | inl h ↦ All-get_or (λ b. b < 256) bytes i 0 h are
+      | inr h ↦ rw (get_or_past bytes i 0 h) (omega arith)
+    ]
+
+-- The bytes of a word, as std writes them.
+word_bytes : (n : ℕ) → n < 2 ^ 64 → to_le_bytes w64 n ≡ bytes_of 8 n
+word_bytes n h =
+    let read : from_le_bytes w64 (bytes_of 8 n) ≡ little_number 8 (bytes_of 8 n) = omega arith in
+    let whole : take 8 (bytes_of 8 n) ≡ bytes_of 8 n = take_all 8 (bytes_of 8 n) (omega (arith, length-bytes_of 8 n)) in
+    let number : number_of (bytes_of 8 n) ≡ n = number_of-bytes_of 8 n h in
+    le_bytes_8 (bytes_of 8 n) n (length-bytes_of 8 n) (byte_lt (bytes_of 8 n) (AreBytes-bytes_of 8 n))
+    (sym (read ∙ little_number-number_of 8 (bytes_of 8 n) ∙ ap number_of whole ∙ number))
+
+-- The lowest of them.
+pub low_bytes : (n width : ℕ) (word : List ℕ) → word ≡ to_le_bytes w64 n → n < 2 ^ 64 → width ≤ 8 → take width word ≡ bytes_of width n
+low_bytes n width word is h few =
+    let e : 8 ≡ width + (8 - width) = omega arith in
+    ap (take width) (is ∙ word_bytes n h ∙ ap (λ k. bytes_of k n) e) ∙ take-bytes_of width (8 - width) n

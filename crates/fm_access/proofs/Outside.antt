@@ -47,7 +47,8 @@ module _ (c : Caller) (id : ArenaId) where
   pub reading_outside : (end : ℕ) (x : Reading) (own : List Entry) (answer : Option (List ℕ)) → Run (ReadsOn c id end) (EndsReading c id end) x own answer
       → EndsOutside own
   reading_outside end x own answer run =
-      run_outside (ReadsOn c id end) (EndsReading c id end) (λ x es y s. ap (inside_after None) s.piece.visits ∙ visit_ends_outside None c id ((Read id (x.at / 8), Found s.piece.word) ∷ [])) (reading_ends end) x own answer run
+      run_outside (ReadsOn c id end) (EndsReading c id end) (λ x es y s. ap (inside_after None) s.piece.visits
+      ∙ visit_ends_outside None c id ((Read id (x.at / 8), Found s.piece.word) ∷ [])) (reading_ends end) x own answer run
 
   stopped_outside : (place end : ℕ) (r : Refusal) (own : List Entry) → DoesRefuse c id
       (λ es. Run (ReadsOn c id end) (EndsReading c id end) (record { at = place; bytes = [] }) es None) r own → EndsOutside own
@@ -72,7 +73,8 @@ module _ (c : Caller) (id : ArenaId) where
 
   putting_outside : (x : Putting) (own : List Entry) (done : Bool) → Run (PutsOn c id) (EndsPutting c id) x own done → EndsOutside own
   putting_outside x own done run =
-      run_outside (PutsOn c id) (EndsPutting c id) (λ x es y s. ap (inside_after None) s.piece.visits ∙ visit_ends_outside None c id s.piece.acts) putting_ends x own done run
+      run_outside (PutsOn c id) (EndsPutting c id) (λ x es y s. ap (inside_after None) s.piece.visits
+      ∙ visit_ends_outside None c id s.piece.acts) putting_ends x own done run
 
   -- Bytes that were put.
   pub put_outside : (place : ℕ) (bytes : List ℕ) (result : Result (Unit {0}) Refusal) (own : List Entry) → DoesPut c id place bytes result own → EndsOutside own

@@ -1,13 +1,15 @@
 -- Bytes that are put, as far as it has come.
-use Rattle.std.proofs.Common.{◌≡◌, inl, inr, ℕ, ◌+◌, ◌-◌, ◌%◌, ◌<◌, ◌≤◌, List, [], ◌++◌, length, take, drop, refl, ap, subst, arith, true, false, Result, Ok, Err, ◌∙◌, sym}
+use Rattle.std.proofs.Common.{◌≡◌, inl, inr, ℕ, ◌+◌, ◌-◌, ◌%◌, ◌<◌, ◌≤◌, List, [], ◌++◌, length, take, drop, refl, ap, subst, arith, true, false, None, Result, Ok, Err, ◌∙◌, sym}
 use Rattle.std.proofs.lemmas.List.{length-drop, drop_all, drop-drop}
 use Rattle.fm_base.specs.declared.caller.Caller.{Caller}
 use Rattle.fm_base.specs.declared.arena_id.ArenaId.{ArenaId}
 use Rattle.fm_base.specs.declared.refusal.Refusal.{Refusal}
 use Rattle.fm_base.specs.Arenas.{MayUse}
 use Rattle.fm_base.specs.Calls.{Entry}
+use Rattle.fm_base.specs.Outcomes.{Lasts}
 use Rattle.fm_base.specs.View.{View, Did}
 use Rattle.fm_base.specs.Visits.{piece_width}
+use Rattle.fm_base.proofs.Outcomes.{Makes-lasts}
 use Rattle.fm_bytes.specs.Bytes.{bytes_of, number_of, lane}
 use Rattle.fm_bytes.proofs.Bytes.{length-bytes_of, lane-number_of}
 use Rattle.fm_access.specs.Pieces.{PutsPiece, DoesPutPiece}
@@ -85,6 +87,49 @@ put_done old now id place at all own g h some =
       | inr may ↦ may
     ] in
     record { own = own; does = (may, run); makes = g.makes }
+
+-- ---- a loop that puts bytes
+
+-- all up to `at` were put
+pub record IsPutting (old now : View) (id : ArenaId) (place end : ℕ) (all : List ℕ) (at : ℕ) : Type 0 where
+  pub below : at ≤ end
+  pub above : place ≤ at
+  pub outside : now.inside ≡ None
+  pub own : List Entry
+  pub going : GoingPut old now id place all at own
+
+module _ {old now : View} {id : ArenaId} {place end at : ℕ} {all : List ℕ} (p : IsPutting old now id place end all at) where
+  -- What was put keeps the arena, and what it has given.
+  pub put_lasts : Lasts old now
+  put_lasts = Makes-lasts old now p.own p.going.makes
+
+  -- One piece more.
+  pub puts_on : (next : View) (width v : ℕ) → end ≡ place + length all → at < end → width ≡ piece_width at end
+      → v ≡ number_of (take width (drop (at - place) all)) → next.inside ≡ None → Did now next (DoesPutPiece now.caller id at width v (Ok tt))
+      → IsPutting old next id place end all (at + width)
+  puts_on next width v e h w is out d =
+      let above = p.above in
+      record {
+        below = omega arith;
+        above = omega arith;
+        outside = out;
+        own = p.own ++ d.own;
+        going = put_goes_on old now next id place at width v all p.own p.going p.above (rw e at h) (w ∙ ap (piece_width at) e) is d;
+      }
+
+  -- A piece that is refused.
+  pub put_refused : (next : View) (width v : ℕ) (r : Refusal) → end ≡ place + length all → at < end
+      → Did now next (DoesPutPiece now.caller id at width v (Err r)) → Did old next (DoesPut old.caller id place all (Err r))
+  put_refused next width v r e h d = put_stops old now next id place at width v all p.own r p.going p.above (rw e at h) d
+
+  -- No piece is left.
+  pub puts_all : end ≡ place + length all → ¬ (at < end) → 0 < length all → Did old now (DoesPut old.caller id place all (Ok tt))
+  puts_all e h some = let below = p.below in put_done old now id place at all p.own p.going (omega arith) some
+
+-- No piece was put.
+pub put_starts : (old : View) (id : ArenaId) (place end : ℕ) (all : List ℕ) → place ≤ end → old.inside ≡ None → IsPutting old old id place end all place
+put_starts old id place end all h out =
+    record { below = h; above = omega arith; outside = out; own = []; going = put_begin old id place all }
 
 -- A number that lies in one word is put as one piece.
 pub put_one : (old now : View) (id : ArenaId) (place width number v : ℕ) (result : Result (Unit {0}) Refusal) → 0 < width → place % 8 + width ≤ 8

@@ -13,7 +13,8 @@ with_none all place = ap (λ n. take place all ++ drop n all) (let e : place + 0
 put_past : (all : List ℕ) (place : ℕ) (p : List ℕ) → place ≤ length all → drop (place + length p) (with_bytes all place p) ≡ drop (place + length p) all
 put_past all place p h =
     let rest = drop (place + length p) all in
-    let split : with_bytes all place p ≡ (take place all ++ p) ++ drop (place + length p) all = sym (append_assoc (take place all) p (drop (place + length p) all)) in
+    let split : with_bytes all place p ≡ (take place all ++ p) ++ drop (place + length p) all =
+    sym (append_assoc (take place all) p (drop (place + length p) all)) in
     let len : length (take place all ++ p) ≡ place + length p = length-append (take place all) p ∙ ap (λ n. n + length p) (length-take-le place all h) in
     ap (drop (place + length p)) split ∙ drop_at (take place all ++ p) rest (place + length p) len
 
@@ -34,7 +35,8 @@ with_bytes-twice all place p q h =
     let before = take place all in
     let rest = drop (place + length p) all in
     let once = with_bytes all place p in
-    let split : with_bytes all place p ≡ (take place all ++ p) ++ drop (place + length p) all = sym (append_assoc (take place all) p (drop (place + length p) all)) in
+    let split : with_bytes all place p ≡ (take place all ++ p) ++ drop (place + length p) all =
+    sym (append_assoc (take place all) p (drop (place + length p) all)) in
     let len : length (take place all ++ p) ≡ place + length p = length-append (take place all) p ∙ ap (λ n. n + length p) (length-take-le place all h) in
     let low : take (place + length p) (with_bytes all place p) ≡ take place all ++ p =
     ap (take (place + length p)) split ∙ take_at (take place all ++ p) rest (place + length p) len in

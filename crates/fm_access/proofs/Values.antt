@@ -52,7 +52,8 @@ run_read c id first end x own answer (goes_on y more rest s r) are n =
     let width = piece_width x.at end in
     let both : AreBytes y.bytes =
     subst (λ (bs : List ℕ). AreBytes bs) (sym s.bytes) (All-append (λ b. b < 256) x.bytes (bytes_of width s.v) are (AreBytes-bytes_of width s.v)) in
-    let len : length y.bytes ≡ length x.bytes + width = ap length s.bytes ∙ length-append x.bytes (bytes_of width s.v) ∙ ap (λ n. length x.bytes + n) (length-bytes_of width s.v) in
+    let len : length y.bytes ≡ length x.bytes + width = ap length s.bytes ∙ length-append x.bytes (bytes_of width s.v)
+    ∙ ap (λ n. length x.bytes + n) (length-bytes_of width s.v) in
     run_read c id first end y rest answer r both (let at = s.at in omega arith)
 
 -- As many bytes are read as were asked for.

@@ -39,7 +39,10 @@ gone c (x ∷ xs) h =
 -- A visit leaves an arena as it was but for its words.
 around : (c : Caller) (words : List ℕ) (a : Arena) → ¬ (Contains a.under_way c) → left c (with_words words (entered c a)) ≡ with_words words a
 around c words a h =
-    ap (λ b. record a { words = words; under_way = cond (not b) (c ∷ filter (λ x. not (are_one x c)) a.under_way) (filter (λ x. not (are_one x c)) a.under_way) }) (are_one-self c)
+    ap (λ b. record a {
+      words = words;
+      under_way = cond (not b) (c ∷ filter (λ x. not (are_one x c)) a.under_way) (filter (λ x. not (are_one x c)) a.under_way);
+    }) (are_one-self c)
     ∙ ap (λ (w : List Caller). record a { words = words; under_way = w }) (gone c a.under_way h)
 
 -- Who comes in finds the arena alive, and who is refused doesn't.
@@ -96,7 +99,8 @@ read_visit limit c s id place width v word d fits legal =
     let value = lane_bytes (arena_of (changed s id (entered c)) id).words place width v word reach.within fits found d in
     record {
       value = value ∙ ap (λ ws. take width (drop place (bytes_in ws))) same;
-      same = changed_twice s id (entered c) (left c) (λ a. refl) ∙ changed_same s id (λ a. left c (entered c a)) (around c (arena_of s id).words (arena_of s id) (legal.0.2 id));
+      same = changed_twice s id (entered c) (left c) (λ a. refl)
+          ∙ changed_same s id (λ a. left c (entered c a)) (around c (arena_of s id).words (arena_of s id) (legal.0.2 id));
     }
 
 -- A visit with one Read finds the bytes that stand there, and changes nothing.
@@ -157,7 +161,8 @@ part_of_word : (words : List ℕ) (place width v found : ℕ) → place / 8 < le
     (bytes_of width v ++ drop (place + width) (bytes_in words))
 part_of_word words place width v found h fits small e =
     let w = place / 8 in
-    let P : ℕ → Type 0 = λ n. bytes_in (slice_set words (place / 8) (replaced found (place % 8) width v)) ≡ take n (bytes_in words) ++ (bytes_of width v ++ drop (n + width) (bytes_in words)) in
+    let P : ℕ → Type 0 = λ n. bytes_in (slice_set words (place / 8) (replaced found (place % 8) width v))
+    ≡ take n (bytes_in words) ++ (bytes_of width v ++ drop (n + width) (bytes_in words)) in
     let put = bytes_in-replaced words (place / 8) (place % 8) width v h fits small in
     subst P (place_is place) (ap (λ n. bytes_in (slice_set words (place / 8) (replaced n (place % 8) width v))) e ∙ put)
 
@@ -184,7 +189,8 @@ acts_put limit c s id place width v acts (whole e) fits small legal =
     let reach = legal.0 in
     let eight : place % 8 + 8 ≤ 8 = omega arith in
     let words = (arena_of s id).words in
-    let P : ℕ → Type 0 = λ n. bytes_in (slice_set (arena_of s id).words (place / 8) v) ≡ take place (bytes_of_arena s id) ++ (bytes_of n v ++ drop (place + n) (bytes_of_arena s id)) in
+    let P : ℕ → Type 0 = λ n. bytes_in (slice_set (arena_of s id).words (place / 8) v)
+    ≡ take place (bytes_of_arena s id) ++ (bytes_of n v ++ drop (place + n) (bytes_of_arena s id)) in
     record {
       word = v;
       known = there_by_way s c id reach.under_way;
@@ -205,7 +211,8 @@ pub record VisitPuts (s t : State) (id : ArenaId) (place width v : ℕ) : Type 0
 
 -- A visit whose acts put bytes puts just these.
 pub acts_visit : (limit : ℕ) (c : Caller) (s : State) (id : ArenaId) (place width v : ℕ) (acts : Acts)
-    → (IsLegal limit (changed s id (entered c)) (entries_of c acts) → ActsPut (changed s id (entered c)) (state_after limit (changed s id (entered c)) (entries_of c acts)) c id place width v)
+    → (IsLegal limit (changed s id (entered c)) (entries_of c acts)
+    → ActsPut (changed s id (entered c)) (state_after limit (changed s id (entered c)) (entries_of c acts)) c id place width v)
     → IsLegal limit s (visit c id acts) → VisitPuts s (state_after limit s (visit c id acts)) id place width v
 acts_visit limit c s id place width v acts put legal =
     let s1 = changed s id (entered c) in
@@ -214,12 +221,16 @@ acts_visit limit c s id place width v acts put legal =
     let parts = IsLegal-split limit (changed s id (entered c)) (entries_of c acts) (entry_of c (Leave id) Fine ∷ []) legal.2 in
     let a = put parts.0 in
     let known = legal.0.0 in
-    let same : (arena_of (changed s id (entered c)) id).words ≡ (arena_of s id).words = ap (λ (x : Arena). x.words) (lookup_changed s id (entered c) (λ x. refl) legal.0.0) in
+    let same : (arena_of (changed s id (entered c)) id).words ≡ (arena_of s id).words =
+    ap (λ (x : Arena). x.words) (lookup_changed s id (entered c) (λ x. refl) legal.0.0) in
     let set = written (place / 8) a.word in
     let words = slice_set (arena_of s id).words (place / 8) a.word in
-    let P : List ℕ → Type 0 = λ ws. bytes_in (slice_set ws (place / 8) a.word) ≡ take place (bytes_in ws) ++ (bytes_of width v ++ drop (place + width) (bytes_in ws)) in
-    let three : changed (changed (changed s id (entered c)) id (written (place / 8) a.word)) id (left c) ≡ changed s id (λ x. left c (written (place / 8) a.word (entered c x))) =
-    ap (λ (t : State). changed t id (left c)) (changed_twice s id (entered c) set (λ x. refl)) ∙ changed_twice s id (λ x. set (entered c x)) (left c) (λ x. refl) in
+    let P : List ℕ → Type 0 = λ ws. bytes_in (slice_set ws (place / 8) a.word)
+    ≡ take place (bytes_in ws) ++ (bytes_of width v ++ drop (place + width) (bytes_in ws)) in
+    let three : changed (changed (changed s id (entered c)) id (written (place / 8) a.word)) id (left c)
+    ≡ changed s id (λ x. left c (written (place / 8) a.word (entered c x))) =
+    ap (λ (t : State). changed t id (left c)) (changed_twice s id (entered c) set (λ x. refl))
+    ∙ changed_twice s id (λ x. set (entered c x)) (left c) (λ x. refl) in
     record {
       words = words;
       state = state_after-append limit s1 es out
@@ -234,7 +245,8 @@ acts_visit limit c s id place width v acts put legal =
 
 -- A visit whose acts leave the state leaves it.
 pub visit_stays : (limit : ℕ) (c : Caller) (s : State) (id : ArenaId) (acts : Acts)
-    → (IsLegal limit (changed s id (entered c)) (entries_of c acts) → state_after limit (changed s id (entered c)) (entries_of c acts) ≡ changed s id (entered c))
+    → (IsLegal limit (changed s id (entered c)) (entries_of c acts)
+    → state_after limit (changed s id (entered c)) (entries_of c acts) ≡ changed s id (entered c))
     → IsLegal limit s (visit c id acts) → state_after limit s (visit c id acts) ≡ s
 visit_stays limit c s id acts stay legal =
     let s1 = changed s id (entered c) in
@@ -252,4 +264,6 @@ pub visit_puts : (limit : ℕ) (c : Caller) (s : State) (id : ArenaId) (place wi
     → IsLegal limit s own → VisitPuts s (state_after limit s own) id place width v
 visit_puts limit c s id place width v own p fits small legal =
     let Q : List Entry → Type 0 = λ es. VisitPuts s (state_after limit s es) id place width v in
-    subst Q (sym p.visits) (acts_visit limit c s id place width v p.acts (λ l. acts_put limit c (changed s id (entered c)) id place width v p.acts p.puts fits small l) (subst (λ (es : List Entry). IsLegal limit s es) p.visits legal))
+    subst Q (sym p.visits) (acts_visit limit c s id place width v p.acts (λ l.
+    acts_put limit c (changed s id (entered c)) id place width v p.acts p.puts fits small l)
+    (subst (λ (es : List Entry). IsLegal limit s es) p.visits legal))

@@ -1,8 +1,7 @@
 -- Bytes that the only caller puts lie within the arena.
-use Rattle.std.proofs.Common.{◌≡◌, ℕ, ◌+◌, ◌-◌, ◌%◌, ◌<◌, ◌≤◌, Bool, true, false, List, ◌++◌, length, take, drop, refl, sym, ap, subst, ◌∙◌, arith, length-append, length-drop, inl, inr, Ok}
+use Rattle.std.proofs.Common.{◌≡◌, ℕ, ◌+◌, ◌-◌, ◌%◌, ◌<◌, ◌≤◌, Bool, true, false, List, ◌++◌, length, take, drop, refl, ap, ◌∙◌, arith, length-append, length-drop, inl, inr, Ok}
 use Rattle.std.proofs.lemmas.Bool.{cases_lt}
 use Rattle.std.proofs.lemmas.List.{length-take-le}
-use Rattle.std.proofs.lemmas.List.Elements.{All-drop}
 use Rattle.fm_base.specs.declared.caller.Caller.{Caller}
 use Rattle.fm_base.specs.declared.arena_id.ArenaId.{ArenaId}
 use Rattle.fm_base.specs.Arenas.{Arena, State, arena_of}
@@ -18,8 +17,7 @@ use Rattle.fm_bytes.proofs.Bytes.{length-bytes_of}
 use Rattle.fm_bytes.proofs.Words.{length-bytes_in}
 use Rattle.fm_access.specs.Alone.{bytes_of_arena}
 use Rattle.fm_access.specs.Ranges.{Putting, PutsOn, EndsPutting, next_width, DoesPut}
-use Rattle.fm_access.proofs.Visits.{visit_puts}
-use Rattle.fm_access.proofs.Alone.{is_part, with_words_there}
+use Rattle.fm_access.proofs.Alone.{step_puts, with_words_there}
 
 -- A put leaves as many bytes as there were.
 same_count : (all next bytes : List ℕ) (at width v : ℕ) → at + width ≤ length all → next ≡ take at all ++ (bytes_of width v ++ drop (at + width) all)
@@ -48,20 +46,19 @@ puts_within limit c id s x own true are (ends e) legal all_done some = (let empt
 puts_within limit c id s x own done are (goes_on y first rest step run) legal all_done some =
     let width = next_width x in
     let parts = IsLegal-split limit s first rest legal in
-    let fits : x.at % 8 + next_width x ≤ 8 = omega arith in
     let few : next_width x ≤ length x.bytes = omega arith in
     let t = state_after limit s first in
     let v = number_of (take width x.bytes) in
-    let p = is_part x.bytes (next_width x) (number_of (take (next_width x) x.bytes)) are few refl in
-    let left : AreBytes y.bytes = subst AreBytes (sym step.bytes) (All-drop (λ b. b < 256) width x.bytes are) in
-    let put = visit_puts limit c s id x.at (next_width x) (number_of (take (next_width x) x.bytes)) first step.piece fits p.small parts.0 in
+    let p = step_puts limit c id s x y first are step parts.0 in
+    let put = p.put in
     let all = bytes_of_arena s id in
     let there = with_words_there s t id put.words put.known put.state in
     let in_word = put.within in
+    let fits : x.at % 8 + next_width x ≤ 8 = omega arith in
     let x_fits : x.at + next_width x ≤ length (bytes_of_arena s id) = omega (arith, length-bytes_in (arena_of s id).words) in
     let same : length (bytes_of_arena t id) ≡ length (bytes_of_arena s id) =
     same_count all (bytes_of_arena t id) x.bytes x.at width v x_fits (ap (λ (a : Arena). bytes_in a.words) there ∙ put.bytes) in
-    ends_within x y width all (bytes_of_arena t id) x_fits same few step.at step.bytes (puts_within limit c id t y rest done left run parts.1 all_done)
+    ends_within x y width all (bytes_of_arena t id) x_fits same few step.at step.bytes (puts_within limit c id t y rest done p.left run parts.1 all_done)
 
 -- Bytes that the only caller puts lie within the arena.
 pub put_within : (old now : View) (id : ArenaId) (place : ℕ) (bytes : List ℕ) (u : Unit {0}) → AreBytes bytes

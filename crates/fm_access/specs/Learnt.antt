@@ -1,5 +1,5 @@
 -- What accesses ask for, and what their caller learns: one record each.
-use Rattle.std.specs.Prelude.{◌≡◌, ℕ, ◌+◌, ◌*◌, ◌^◌, ◌<◌, ◌≤◌, true, None, Result, IfOk, IfErr, OnErr, List, length, replicate, ⊤}
+use Rattle.std.specs.Prelude.{◌≡◌, ℕ, ◌+◌, ◌*◌, ◌%◌, ◌^◌, ◌<◌, ◌≤◌, true, None, Result, IfOk, IfErr, OnErr, List, length, replicate, ⊤}
 use Rattle.fm_base.specs.declared.arena_id.ArenaId.{ArenaId}
 use Rattle.fm_base.specs.declared.refusal.Refusal.{Refusal}
 use Rattle.fm_base.specs.Arenas.{has_arena}
@@ -31,8 +31,23 @@ pub record CanTouchNumber (v : View) (id : ArenaId) (place width : ℕ) : Type 0
   pub given : place + width ≤ given_in v id
   pub small : place + width ≤ 2 ^ 40
 
+-- in no arena; the arena is known, and has given these bytes, which lie in one word
+pub record CanTouchPiece (v : View) (id : ArenaId) (place width : ℕ) : Type 0 where
+  pub outside : v.inside ≡ None
+  pub known : has_arena v.state id ≡ true
+  pub some : 1 ≤ width
+  pub within : place % 8 + width ≤ 8
+  pub given : place + width ≤ given_in v id
+
+-- What is learnt of a visit, or of two
+pub record Visited (old new : View) (Does : List Entry → Type 0) : Type 0 where
+  pub did : Did old new Does
+  pub outside : new.inside ≡ None
+  pub lasts : Lasts old new
+
 -- What is learnt of a call that goes to arenas
-pub record After {X : Type 0} (old new : View) (Does : Result X Refusal → List Entry → Type 0) (Cause : Refusal → Type 0) (Alone : X → Type 0) (Shut : Type 0) (Known : View → Type 0) (Kind : X → Type 0) (result : Result X Refusal) : Type 0 where
+pub record After {X : Type 0} (old new : View) (Does : Result X Refusal → List Entry → Type 0) (Cause : Refusal → Type 0) (Alone : X
+    → Type 0) (Shut : Type 0) (Known : View → Type 0) (Kind : X → Type 0) (result : Result X Refusal) : Type 0 where
   -- the caller's own acts, and the answer
   pub did : Did old new (Does result)
   -- why it is refused, the first cause that applies

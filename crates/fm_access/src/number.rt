@@ -4,6 +4,7 @@ ghost use Rattle.fm_bytes.specs.Bytes.{bytes_of};
 ghost use Rattle.fm_access.specs.Learnt.{CanTouchNumber, AfterGet, AfterPut};
 ghost use Rattle.fm_access.specs.Ranges.{DoesGet, DoesPut};
 
+use crate::bytes::put_bytes;
 use crate::piece::{get_piece, piece_width, put_piece};
 use fm_base::{ArenaId, Memory, Refusal};
 use fm_lanes::read;
@@ -82,13 +83,5 @@ fn put_across<R: Wait, M: Memory>(
     ensures { Did (M.view m.old) (M.view m.new)
         (DoesPut (M.view m.old).caller arena place (bytes_of width number) result) }
 {
-    let end = place + u64::from(width);
-    let mut at = place;
-    while at < end {
-        let piece = piece_width(at, end);
-        let part = read(number, (at - place) as u32, piece);
-        put_piece(rt, m, arena, at, piece, part)?;
-        at += u64::from(piece);
-    }
-    Ok(())
+    put_bytes(rt, m, arena, place, &number.to_le_bytes()[..width as usize])
 }

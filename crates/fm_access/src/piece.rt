@@ -1,9 +1,8 @@
-ghost use Rattle.std.specs.Prelude.{◌≡◌, ◌+◌, ◌*◌, ◌/◌, ◌%◌, ◌^◌, ◌<◌, ◌≤◌, true, Some, None};
-ghost use Rattle.fm_base.specs.Arenas.{has_arena};
-ghost use Rattle.fm_base.specs.Outcomes.{Lasts};
-ghost use Rattle.fm_base.specs.View.{Did, given_in};
+ghost use Rattle.std.specs.Prelude.{◌≡◌, ◌+◌, ◌*◌, ◌/◌, ◌%◌, ◌^◌, ◌<◌, ◌≤◌, Some};
+ghost use Rattle.fm_base.specs.View.{Did};
 ghost use Rattle.fm_base.specs.Visits as visits;
 ghost use Rattle.fm_base.specs.Does.{CanReach};
+ghost use Rattle.fm_access.specs.Learnt.{CanTouchPiece, Visited};
 ghost use Rattle.fm_access.specs.Pieces.{DoesGetPiece, DoesPutPiece, DoesPutInside};
 
 use fm_base::{ArenaId, Memory, Refusal};
@@ -31,15 +30,9 @@ pub fn get_piece<M: Memory>(
     place: u64,
     width: u32,
 ) -> Result<u64, Refusal>
-    requires outside { (M.view m.old).inside ≡ None }
-    requires known { has_arena (M.view m.old).state arena ≡ true }
-    requires some { 1 ≤ width }
-    requires within { place % 8 + width ≤ 8 }
-    requires given { place + width ≤ given_in (M.view m.old) arena }
-    ensures did { Did (M.view m.old) (M.view m.new)
+    requires { CanTouchPiece (M.view m.old) arena place width }
+    ensures { Visited (M.view m.old) (M.view m.new)
         (DoesGetPiece (M.view m.old).caller arena place width result) }
-    ensures outside { (M.view m.new).inside ≡ None }
-    ensures lasts { Lasts (M.view m.old) (M.view m.new) }
 {
     m.enter(arena)?;
     let word = m.load(place / 8);
@@ -77,16 +70,10 @@ pub fn put_piece<R: Wait, M: Memory>(
     width: u32,
     v: u64,
 ) -> Result<(), Refusal>
-    requires outside { (M.view m.old).inside ≡ None }
-    requires known { has_arena (M.view m.old).state arena ≡ true }
-    requires some { 1 ≤ width }
-    requires within { place % 8 + width ≤ 8 }
-    requires given { place + width ≤ given_in (M.view m.old) arena }
+    requires piece { CanTouchPiece (M.view m.old) arena place width }
     requires fits { v < 2 ^ (8 * width) }
-    ensures did { Did (M.view m.old) (M.view m.new)
+    ensures { Visited (M.view m.old) (M.view m.new)
         (DoesPutPiece (M.view m.old).caller arena place width v result) }
-    ensures outside { (M.view m.new).inside ≡ None }
-    ensures lasts { Lasts (M.view m.old) (M.view m.new) }
 {
     m.enter(arena)?;
     put_inside(rt, m, arena, place, width, v);

@@ -1,6 +1,5 @@
-ghost use Rattle.std.specs.Prelude.{◌≡◌, ◌+◌, ◌≤◌, true, None};
-ghost use Rattle.fm_base.specs.Arenas.{has_arena};
-ghost use Rattle.fm_base.specs.View.{given_in};
+ghost use Rattle.std.specs.Prelude.{◌≡◌, ◌+◌, ◌≤◌, None};
+ghost use Rattle.fm_access.specs.Learnt.{CanTouch};
 
 use crate::{fill, get_number, put_number};
 use fm_base::{ArenaId, Kind, Memory, Refusal};
@@ -11,9 +10,7 @@ use std::sync::Wait;
 /// A shared arena with three words.
 fn three_words<R: Abort + Wait, M: Memory>(rt: &R, m: &mut M) -> ArenaId
     requires { (M.view m.old).inside ≡ None }
-    ensures outside { (M.view m.new).inside ≡ None }
-    ensures known { has_arena (M.view m.new).state result ≡ true }
-    ensures given { 24 ≤ given_in (M.view m.new) result }
+    ensures { CanTouch (M.view m.new) result 0 24 }
 {
     let arena = m.open_arena(rt, Kind::Shared).expect(rt, "an arena");
     let place = m.allocate(rt, arena, 24, 8).expect(rt, "three words");
@@ -29,15 +26,11 @@ fn put<R: Wait, M: Memory>(
     width: u32,
     number: u64,
 ) -> Result<(), Refusal>
-    requires outside { (M.view m.old).inside ≡ None }
-    requires known { has_arena (M.view m.old).state arena ≡ true }
-    requires given { 24 ≤ given_in (M.view m.old) arena }
+    requires words { CanTouch (M.view m.old) arena 0 24 }
     requires some { 1 ≤ width }
     requires width { width ≤ 8 }
     requires within { place + width ≤ 24 }
-    ensures outside { (M.view m.new).inside ≡ None }
-    ensures known { has_arena (M.view m.new).state arena ≡ true }
-    ensures given { 24 ≤ given_in (M.view m.new) arena }
+    ensures { CanTouch (M.view m.new) arena 0 24 }
 {
     put_number(rt, m, arena, place, width, number)
 }
@@ -50,27 +43,19 @@ fn fill_bytes<R: Wait, M: Memory>(
     size: u64,
     byte: u8,
 ) -> Result<(), Refusal>
-    requires outside { (M.view m.old).inside ≡ None }
-    requires known { has_arena (M.view m.old).state arena ≡ true }
-    requires given { 24 ≤ given_in (M.view m.old) arena }
+    requires words { CanTouch (M.view m.old) arena 0 24 }
     requires within { place + size ≤ 24 }
-    ensures outside { (M.view m.new).inside ≡ None }
-    ensures known { has_arena (M.view m.new).state arena ≡ true }
-    ensures given { 24 ≤ given_in (M.view m.new) arena }
+    ensures { CanTouch (M.view m.new) arena 0 24 }
 {
     fill(rt, m, arena, place, size, byte)
 }
 
 fn get<M: Memory>(m: &mut M, arena: ArenaId, place: u64, width: u32) -> Result<u64, Refusal>
-    requires outside { (M.view m.old).inside ≡ None }
-    requires known { has_arena (M.view m.old).state arena ≡ true }
-    requires given { 24 ≤ given_in (M.view m.old) arena }
+    requires words { CanTouch (M.view m.old) arena 0 24 }
     requires some { 1 ≤ width }
     requires width { width ≤ 8 }
     requires within { place + width ≤ 24 }
-    ensures outside { (M.view m.new).inside ≡ None }
-    ensures known { has_arena (M.view m.new).state arena ≡ true }
-    ensures given { 24 ≤ given_in (M.view m.new) arena }
+    ensures { CanTouch (M.view m.new) arena 0 24 }
 {
     get_number(m, arena, place, width)
 }
@@ -95,15 +80,11 @@ fn put_among_ones<R: Abort + Wait, M: Memory>(
     width: u32,
     number: u64,
 )
-    requires outside { (M.view m.old).inside ≡ None }
-    requires known { has_arena (M.view m.old).state arena ≡ true }
-    requires given { 24 ≤ given_in (M.view m.old) arena }
+    requires words { CanTouch (M.view m.old) arena 0 24 }
     requires some { 1 ≤ width }
     requires width { width ≤ 8 }
     requires within { place + width ≤ 24 }
-    ensures outside { (M.view m.new).inside ≡ None }
-    ensures known { has_arena (M.view m.new).state arena ≡ true }
-    ensures given { 24 ≤ given_in (M.view m.new) arena }
+    ensures { CanTouch (M.view m.new) arena 0 24 }
 {
     assert_eq!(rt; put(rt, m, arena, 0, 8, u64::MAX), Ok(()));
     assert_eq!(rt; put(rt, m, arena, 8, 8, u64::MAX), Ok(()));

@@ -24,14 +24,13 @@ use Rattle.fm_layout.specs.Tree.{Tree}
 use Rattle.fm_layout.specs.WellFormed.{IsWellFormed}
 use Rattle.fm_layout.proofs.Powers.{IsPowerOfTwo-from_test}
 use Rattle.fm_layout.proofs.Sound.{positive_power}
-use Rattle.fm_path.specs.Resolution.{Resolution, IsResolved, StaysInside}
+use Rattle.fm_path.specs.Resolution.{Resolution, StaysInside}
 use Rattle.fm_path.proofs.Resolving.{stays_inside}
 use Rattle.fm_path.specs.declared.value_spec.ValueSpec.{ValueSpec}
 use Rattle.fm_path_meaning.specs.Walk.{offset_at}
 use Rattle.fm_path_meaning.proofs.Inside.{divides_from, divides_gives, divides_add, divides_trans}
 use Rattle.fm_access.specs.Ranges.{DoesPut}
 use Rattle.fm_segment.specs.Region.{Region}
-use Rattle.fm_path_text.specs.declared.step.PathStep.{PathStep}
 use Rattle.fm_access.specs.Found.{DoesAt}
 use Rattle.fm_access.proofs.Causes.{never}
 use Rattle.fm_access.proofs.Values.{kind_of-decoded, AreBytes-value, length-value}
@@ -61,7 +60,8 @@ supported_on : (works : Bool) (found : Result ℕ Refusal) (p : ℕ) → (if wor
 supported_on true found p e = (refl, e)
 supported_on false found p e = never p Unsupported (sym e)
 
-lies : (base : ℕ) (is : List ℕ) (h : Resolution) (r : Region) (p : ℕ) → StaysInside h → length is ≡ length h.dims → writable_place_of base is h r ≡ Ok p → Lies h r p
+lies : (base : ℕ) (is : List ℕ) (h : Resolution) (r : Region) (p : ℕ) → StaysInside h → length is ≡ length h.dims → writable_place_of base is h r ≡ Ok p
+    → Lies h r p
 lies base is h r p s len e =
     elim (tested 0 h.dims is (if_writable r (if_rooted base h r (Ok (value_place base is h r)))) len) [
       | inl all ↦
@@ -71,12 +71,15 @@ lies base is h r p s len e =
           let inside = s.inside is all.0 in
           let fits = s.aligned is all.0 in
           let pos = positive_power h.value.alignment (IsPowerOfTwo-from_test h.value.alignment fits.power) in
-          let of_root = divides_trans h.value.alignment h.root_alignment (r.first + base) (divides_from h.value.alignment h.root_alignment fits.root) (divides_from h.root_alignment (r.first + base) f.1) in
+          let of_root = divides_trans h.value.alignment h.root_alignment (r.first + base) (divides_from h.value.alignment h.root_alignment fits.root)
+          (divides_from h.root_alignment (r.first + base) f.1) in
           let of_value = divides_from h.value.alignment (offset_at h.offset h.dims is) fits.offset in
           record {
             inside = (let i = f.0 in omega arith);
             power = fits.power;
-            aligned = subst (λ (n : ℕ). n % h.value.alignment ≡ 0) at (divides_gives h.value.alignment (r.first + base + offset_at h.offset h.dims is) pos (divides_add h.value.alignment (r.first + base) (offset_at h.offset h.dims is) of_root of_value));
+            aligned = subst (λ (n : ℕ). n % h.value.alignment ≡ 0) at
+                (divides_gives h.value.alignment (r.first + base + offset_at h.offset h.dims is) pos
+                (divides_add h.value.alignment (r.first + base) (offset_at h.offset h.dims is) of_root of_value));
           }
       | inr some ↦ never p (IndexOut some.0) (sym e ∙ some.2)
     ]
@@ -95,7 +98,8 @@ long_width kind.Int is = absurd (let no : ⊥ = cc in no)
 updated_in : (h : Resolution) (r : Region) (p : ℕ) → Lies h r p → can_update h.value ≡ true → p % 8 + width_of h.value.kind ≤ 8
 updated_in h r p l e =
     let both = both_true (is_int_or_long h.value.kind) (nat_le (width_of h.value.kind) h.value.alignment) e in
-    word_by_kind h.value.kind h.value.alignment p (IsPowerOfTwo-from_test h.value.alignment l.power) l.aligned both.0 (leb-true (width_of h.value.kind) h.value.alignment both.1)
+    word_by_kind h.value.kind h.value.alignment p (IsPowerOfTwo-from_test h.value.alignment l.power) l.aligned both.0
+    (leb-true (width_of h.value.kind) h.value.alignment both.1)
 
 -- a long that fills a word
 fills_in : (h : Resolution) (r : Region) (p : ℕ) → Lies h r p → fills_word h.value ≡ true → 8 * (p / 8) + 8 ≤ r.first + r.size
@@ -108,14 +112,16 @@ fills_in h r p l e =
 
 -- ---- calls at a place
 
-at_stays : {X : Type 0} (a : ArenaId) (bound : ℕ) (found : Result ℕ Refusal) (Does : ℕ → Result X Refusal → List Entry → Type 0) (result : Result X Refusal) (own : List Entry)
+at_stays : {X : Type 0} (a : ArenaId) (bound : ℕ) (found : Result ℕ Refusal) (Does : ℕ → Result X Refusal → List Entry
+    → Type 0) (result : Result X Refusal) (own : List Entry)
     → ((p : ℕ) → found ≡ Ok p → Does p result own → StayBelow a bound own) → DoesAt found Does result own → StayBelow a bound own
 at_stays a bound (Err e) Does result own k d = stay_none a bound own d.1
 at_stays a bound (Ok p) Does result own k d = k p refl d
 
 visit_stays : {X : Type 0} (a : ArenaId) (bound : ℕ) (c : Caller) (Give : X → Acts → Type 0) (result : Result X Refusal) (own : List Entry)
     → ((x : X) (acts : Acts) → Give x acts → ActBelow a bound acts) → DoesVisit c a Give result own → StayBelow a bound own
-visit_stays a bound c Give (Ok x) own k d = subst (λ (es : List Entry). StayBelow a bound es) (sym d.1.visits) (stay_visit a bound c a d.1.acts (k x d.1.acts d.1.are))
+visit_stays a bound c Give (Ok x) own k d =
+    subst (λ (es : List Entry). StayBelow a bound es) (sym d.1.visits) (stay_visit a bound c a d.1.acts (k x d.1.acts d.1.are))
 visit_stays a bound c Give (Err WrongThread) own k d = stay_none a bound own d.1
 visit_stays a bound c Give (Err Closed) own k d = stay_refused a bound c a own d.1
 visit_stays a bound c Give (Err e) own k d = absurd d
@@ -130,18 +136,22 @@ cut_below a bound word GivesUp found acts (at_read g) = (tt, tt)
 cut_below a bound word GivesUp found acts (at_swap old new n g) = ((λ e. absurd (n e)), tt)
 
 -- tries that put a value
-value_below : (a : ArenaId) (bound place : ℕ) (o : Order) (v : Value) (word : ℕ) (acts : Acts) → place % 8 + width_of (kind_of v) ≤ 8 → place + width_of (kind_of v) ≤ bound
+value_below : (a : ArenaId) (bound place : ℕ) (o : Order) (v : Value) (word : ℕ) (acts : Acts) → place % 8 + width_of (kind_of v) ≤ 8
+    → place + width_of (kind_of v) ≤ bound
     → Tries a (place / 8) (with_value o v (place % 8)) word acts → ActBelow a bound acts
 value_below a bound place o v word acts fits ends t =
-    let small : number_of (bytes_of_value o v) < 2 ^ (8 * width_of (kind_of v)) = subst (λ (n : ℕ). number_of (bytes_of_value o v) < 2 ^ (8 * n)) (length-value o v) (number_of-lt (bytes_of_value o v) (AreBytes-value o v)) in
+    let small : number_of (bytes_of_value o v) < 2 ^ (8 * width_of (kind_of v)) =
+    subst (λ (n : ℕ). number_of (bytes_of_value o v) < 2 ^ (8 * n)) (length-value o v) (number_of-lt (bytes_of_value o v) (AreBytes-value o v)) in
     tries_below a bound place (width_of (kind_of v)) (number_of (bytes_of_value o v)) word acts small fits ends t
 
-exchange_below : (a : ArenaId) (bound place : ℕ) (o : Order) (expected v found : Value) (acts : Acts) → place % 8 + width_of (kind_of v) ≤ 8 → place + width_of (kind_of v) ≤ bound
+exchange_below : (a : ArenaId) (bound place : ℕ) (o : Order) (expected v found : Value) (acts : Acts) → place % 8 + width_of (kind_of v) ≤ 8
+    → place + width_of (kind_of v) ≤ bound
     → Exchanges o a place expected v found acts → ActBelow a bound acts
 exchange_below a bound place o expected v found acts fits ends (puts word tried e t) = value_below a bound place o v word tried fits ends t
 exchange_below a bound place o expected v found acts fits ends (finds_another word x tried e n d) = cut_below a bound (place / 8) _ word tried d
 
-wins_below : (a : ArenaId) (bound place : ℕ) (o : Order) (expected v : Value) (won : Bool) (acts : Acts) → place % 8 + width_of (kind_of v) ≤ 8 → place + width_of (kind_of v) ≤ bound
+wins_below : (a : ArenaId) (bound place : ℕ) (o : Order) (expected v : Value) (won : Bool) (acts : Acts) → place % 8 + width_of (kind_of v) ≤ 8
+    → place + width_of (kind_of v) ≤ bound
     → Wins (Exchanges o a place expected v) expected won acts → ActBelow a bound acts
 wins_below a bound place o expected v true acts fits ends w = exchange_below a bound place o expected v expected acts fits ends w
 wins_below a bound place o expected v false acts fits ends w = exchange_below a bound place o expected v w.0 acts fits ends w.2
@@ -154,7 +164,8 @@ module _ (c : Caller) (h : Resolution) (r : Region) (base : ℕ) (is : List ℕ)
   update_at works p e = let both = supported_on (works h.value) (writable_place_of base is h r) p e in (both.0, lies base is h r p s len both.1)
 
   -- a value of the handle's kind that is put in tries
-  fits_at : (v : Value) (p : ℕ) → kind_of v ≡ h.value.kind → update_place_of can_update base is h r ≡ Ok p → (p % 8 + width_of (kind_of v) ≤ 8) × (p + width_of (kind_of v) ≤ r.first + r.size)
+  fits_at : (v : Value) (p : ℕ) → kind_of v ≡ h.value.kind → update_place_of can_update base is h r ≡ Ok p
+      → (p % 8 + width_of (kind_of v) ≤ 8) × (p + width_of (kind_of v) ≤ r.first + r.size)
   fits_at v p k e =
       let u = update_at can_update p e in
       let same : width_of (kind_of v) ≡ width_of h.value.kind = ap width_of k in
@@ -173,11 +184,13 @@ module _ (c : Caller) (h : Resolution) (r : Region) (base : ℕ) (is : List ℕ)
 
   call_stays : (own : List Entry) → DoesCall c h r base is own → StayBelow r.arena (r.first + r.size) own
   call_stays own (gets result d) = at_stays r.arena (r.first + r.size) (place_of base is h r) _ result own
-      (λ p e g. get_stays r.arena (r.first + r.size) c r.arena (tree.Value h.value.kind h.value.order (record { alignment = 1; name = None })) (Ok p) result own g) d
+      (λ p e g. get_stays r.arena (r.first + r.size) c r.arena (tree.Value h.value.kind h.value.order (record { alignment = 1; name = None })) (Ok p) result
+      own g) d
   call_stays own (sets v result k d) = at_stays r.arena (r.first + r.size) (writable_place_of base is h r) _ result own (λ p e g. set_at v result own p k e g) d
   call_stays own (sets_long v result d) = at_stays r.arena (r.first + r.size) (update_place_of fills_word base is h r) _ result own
       (λ p e g. visit_stays r.arena (r.first + r.size) c _ result own
-      (λ x acts a. let u = update_at fills_word p e in let fits = fills_in h r p u.1 u.0 in subst (λ (xs : Acts). ActBelow r.arena (r.first + r.size) xs) (sym a) ((refl, fits), tt)) g) d
+      (λ x acts a. let u = update_at fills_word p e in let fits = fills_in h r p u.1 u.0 in
+      subst (λ (xs : Acts). ActBelow r.arena (r.first + r.size) xs) (sym a) ((refl, fits), tt)) g) d
   call_stays own (compares_and_sets expected v result k d) = at_stays r.arena (r.first + r.size) (update_place_of can_update base is h r) _ result own
       (λ p e g. visit_stays r.arena (r.first + r.size) c _ result own
       (λ x acts a. let f = fits_at v p k e in wins_below r.arena (r.first + r.size) p h.value.order expected v x acts f.0 f.1 a) g) d

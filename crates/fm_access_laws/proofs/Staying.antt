@@ -1,7 +1,6 @@
 -- Entries that change only bytes of one arena below a place.
-use Rattle.std.proofs.Common.{◌≡◌, ℕ, ◌+◌, ◌-◌, ◌*◌, ◌/◌, ◌%◌, ◌^◌, ◌<◌, ◌≤◌, ◌==◌, Bool, true, false, cond, List, [], ◌∷◌, ◌++◌, refl, sym, ap, subst, ◌∙◌, arith}
+use Rattle.std.proofs.Common.{◌≡◌, ℕ, ◌+◌, ◌-◌, ◌*◌, ◌/◌, ◌%◌, ◌^◌, ◌<◌, ◌≤◌, Bool, true, false, cond, List, [], ◌∷◌, ◌++◌, refl, sym, ap, subst, ◌∙◌, arith}
 use Rattle.std.specs.Prelude.{⊤}
-use Rattle.std.proofs.lemmas.Bool.Decides.{nat_tests}
 use Rattle.std.proofs.lemmas.Nat.{pow_pos, mod_below, shr-shr, shr_high}
 use Rattle.fm_bytes.specs.Words.{byte_of}
 use Rattle.fm_base.specs.declared.caller.Caller.{Caller}
@@ -47,8 +46,10 @@ pub stay_visit : (a : ArenaId) (end : ℕ) (c : Caller) (id : ArenaId) (acts : A
 stay_visit a end c id acts h = (tt, stay_append a end (entries_of c acts) (entry_of c (Leave id) Fine ∷ []) (stay_of_acts a end c acts h) (tt, tt))
 
 -- A visit that reads changes nothing.
-pub stay_reads : (a : ArenaId) (end : ℕ) (c : Caller) (id : ArenaId) (place width v : ℕ) (own : List Entry) → ReadsPiece c id place width v own → StayBelow a end own
-stay_reads a end c id place width v own r = subst (λ (es : List Entry). StayBelow a end es) (sym r.visits) (stay_visit a end c id ((Read id (place / 8), Found r.word) ∷ []) (tt, tt))
+pub stay_reads : (a : ArenaId) (end : ℕ) (c : Caller) (id : ArenaId) (place width v : ℕ) (own : List Entry) → ReadsPiece c id place width v own
+    → StayBelow a end own
+stay_reads a end c id place width v own r =
+    subst (λ (es : List Entry). StayBelow a end es) (sym r.visits) (stay_visit a end c id ((Read id (place / 8), Found r.word) ∷ []) (tt, tt))
 
 -- ---- bytes that are put
 
@@ -75,7 +76,8 @@ replaced_past word at width v k h past =
 pub tries_below : (id : ArenaId) (end place width v found : ℕ) (acts : Acts) → v < 2 ^ (8 * width) → place % 8 + width ≤ 8 → place + width ≤ end
     → Tries id (place / 8) (λ word. replaced word (place % 8) width v) found acts → ActBelow id end acts
 tries_below id end place width v found acts h fits ends (looked now rest t) = (tt, tries_below id end place width v found rest h fits ends t)
-tries_below id end place width v found acts h fits ends (missed now old new rest n t) = ((λ e. absurd (n e)), tries_below id end place width v found rest h fits ends t)
+tries_below id end place width v found acts h fits ends (missed now old new rest n t) =
+    ((λ e. absurd (n e)), tries_below id end place width v found rest h fits ends t)
 tries_below id end place width v found acts h fits ends hit =
     ((λ e. (refl, λ at l p. replaced_past found (place % 8) width v at h (omega arith))), tt)
 
@@ -92,7 +94,8 @@ stay_puts c id end place width v own h fits ends p =
 
 -- ---- tidy in a state
 
-tidy_here : (limit : ℕ) (s : State) (a : ArenaId) (end : ℕ) (call : Call) → end ≤ (arena_of s a).given → ChangesBelow a end call (reply_to limit s call) → IsTidyIn s call
+tidy_here : (limit : ℕ) (s : State) (a : ArenaId) (end : ℕ) (call : Call) → end ≤ (arena_of s a).given → ChangesBelow a end call (reply_to limit s call)
+    → IsTidyIn s call
 tidy_here limit s a end (Open id) h b = tt
 tidy_here limit s a end (Enter id) h b = tt
 tidy_here limit s a end (Read id word) h b = tt
@@ -118,7 +121,8 @@ tidy_here limit s a end (Lend block id part) h b = tt
 tidy_here limit s a end (Back block) h b = tt
 
 -- A caller's entries that stay below a count that was given are tidy.
-pub tidy_by : (c : Caller) (limit end : ℕ) (a : ArenaId) (s : State) (all : List Entry) → IsLegal limit s all → end ≤ (arena_of s a).given → StayBelow a end (made_by c all) → IsTidyBy c limit s all
+pub tidy_by : (c : Caller) (limit end : ℕ) (a : ArenaId) (s : State) (all : List Entry) → IsLegal limit s all → end ≤ (arena_of s a).given
+    → StayBelow a end (made_by c all) → IsTidyBy c limit s all
 tidy_by c limit end a s [] legal h b = tt
 tidy_by c limit end a s (e ∷ es) legal h b =
     let next = after limit s e in
@@ -134,7 +138,8 @@ tidy_by c limit end a s (e ∷ es) legal h b =
     go (are_one e.caller c) refl b
 
 -- Entries that stay below a count that was given are tidy.
-pub tidy_alone : (limit end : ℕ) (a : ArenaId) (s : State) (own : List Entry) → IsLegal limit s own → end ≤ (arena_of s a).given → StayBelow a end own → IsTidy limit s own
+pub tidy_alone : (limit end : ℕ) (a : ArenaId) (s : State) (own : List Entry) → IsLegal limit s own → end ≤ (arena_of s a).given → StayBelow a end own
+    → IsTidy limit s own
 tidy_alone limit end a s [] legal h b = tt
 tidy_alone limit end a s (e ∷ es) legal h b =
     let grown = (Grows-state_after limit s (e ∷ []) (legal.0, legal.1, tt)).given a in

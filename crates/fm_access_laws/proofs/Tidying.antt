@@ -1,7 +1,7 @@
 -- Each access to a segment stays below its end, and so is tidy.
 use Rattle.std.proofs.Common.{◌≡◌, ℕ, ℤ, ◌+◌, ◌-◌, ◌*◌, ◌%◌, ◌^◌, ◌<◌, ◌≤◌, ◌==◌, ◌&&◌, Bool, true, false, if◌then◌else◌, nat_le, nat_lt, nat_eq, MatchBool, Option, Some, None, Result, Ok, Err, List, [], length, take, replicate, refl, sym, ap, subst, ◌∙◌, arith, length-drop}
 use Rattle.std.proofs.lemmas.Bool.{leb-true}
-use Rattle.std.proofs.lemmas.List.{length-take-le, length-reverse, length-replicate}
+use Rattle.std.proofs.lemmas.List.{length-take-le, length-replicate}
 use Rattle.std.proofs.lemmas.List.Elements.{All-take, All-drop, All-replicate}
 use Rattle.fm_base.specs.declared.caller.Caller.{Caller}
 use Rattle.fm_base.specs.declared.arena_id.ArenaId.{ArenaId}
@@ -10,12 +10,10 @@ use Rattle.fm_base.specs.declared.refusal.Refusal.TheVariants.{Bounds, Misaligne
 use Rattle.fm_base.specs.Calls.{Entry}
 use Rattle.fm_base.specs.Visits.{Run, ends, goes_on, refused_visit, piece_width, first_width, last_width}
 use Rattle.fm_base.proofs.Faith.{Makes-alone}
-use Rattle.fm_bytes.specs.Bytes.{AreBytes, bytes_of, number_of}
-use Rattle.fm_bytes.proofs.Bytes.{number_of-lt, lane-lt, length-bytes_of, AreBytes-bytes_of}
-use Rattle.fm_lanes.specs.declared.order.Order.{Order}
-use Rattle.fm_lanes.specs.declared.order.Order.TheVariants.{Little, Big}
+use Rattle.fm_bytes.specs.Bytes.{AreBytes, number_of}
+use Rattle.fm_bytes.proofs.Bytes.{number_of-lt, lane-lt}
 use Rattle.fm_lanes.specs.declared.value.Value.{Value}
-use Rattle.fm_lanes.specs.Coding.{encoded, bytes_of_value}
+use Rattle.fm_lanes.specs.Coding.{bytes_of_value}
 use Rattle.fm_lanes.specs.Kind.{width_of}
 use Rattle.fm_lanes.specs.Value.{kind_of}
 use Rattle.fm_layout.specs.Tree as tree
@@ -53,12 +51,14 @@ module _ (a : ArenaId) (bound : ℕ) (c : Caller) where
   read_end id end x own (Some bytes) e = stay_none a bound own e.2
   read_end id end x own None e = stay_refused a bound c id own e.1
 
-  read_run : (id : ArenaId) (end : ℕ) (x : Reading) (own : List Entry) (answer : Option (List ℕ)) → Run (ReadsOn c id end) (EndsReading c id end) x own answer → StayBelow a bound own
+  read_run : (id : ArenaId) (end : ℕ) (x : Reading) (own : List Entry) (answer : Option (List ℕ)) → Run (ReadsOn c id end) (EndsReading c id end) x own answer
+      → StayBelow a bound own
   read_run id end x own answer (ends e) = read_end id end x own answer e
   read_run id end x own answer (goes_on y mine rest s r) =
       stay_append a bound mine rest (stay_reads a bound c id x.at (piece_width x.at end) s.v mine s.piece) (read_run id end y rest answer r)
 
-  pub get_stays : (id : ArenaId) (t : Tree) (place : Result ℕ Refusal) (result : Result Value Refusal) (own : List Entry) → DoesGetAt c id t place result own → StayBelow a bound own
+  pub get_stays : (id : ArenaId) (t : Tree) (place : Result ℕ Refusal) (result : Result Value Refusal) (own : List Entry) → DoesGetAt c id t place result own
+      → StayBelow a bound own
   get_stays id t (Err e) result own d = stay_none a bound own d.1
   get_stays id (tree.Value k o l) (Ok p) (Ok v) own d = read_run id (p + width_of k) (record { at = p; bytes = [] }) own (Some d.1.bytes) d.1.visits
   get_stays id (tree.Value k o l) (Ok p) (Err WrongThread) own d = stay_none a bound own d.1
@@ -79,12 +79,14 @@ module _ (a : ArenaId) (bound : ℕ) (c : Caller) where
       (stay_append a bound d.first d.second (stay_reads a bound c x.arena (x.at + p.offset) p.width d.v d.first d.reads_first)
       (stay_reads a bound c y.arena (y.at + p.offset) p.width d.w d.second d.reads_second))
 
-  compare_end : (x y : Side) (count left : ℕ) (own : List Entry) (answer : Option (Option ℕ)) → EndsComparing c x y count left own answer → StayBelow a bound own
+  compare_end : (x y : Side) (count left : ℕ) (own : List Entry) (answer : Option (Option ℕ)) → EndsComparing c x y count left own answer
+      → StayBelow a bound own
   compare_end x y count left own (Some None) e = stay_none a bound own e.1
   compare_end x y count left own (Some (Some offset)) e = both_stay x y (next_piece Up x y count left) (Some e.at) own e.piece
   compare_end x y count left own None e = stop_stays x y (next_piece Up x y count left) own e.1
 
-  compare_run : (x y : Side) (count left : ℕ) (own : List Entry) (answer : Option (Option ℕ)) → Run (AgreesOn c x y count) (EndsComparing c x y count) left own answer → StayBelow a bound own
+  compare_run : (x y : Side) (count left : ℕ) (own : List Entry) (answer : Option (Option ℕ))
+      → Run (AgreesOn c x y count) (EndsComparing c x y count) left own answer → StayBelow a bound own
   compare_run x y count left own answer (ends e) = compare_end x y count left own answer e
   compare_run x y count left own answer (goes_on now mine rest s r) =
       stay_append a bound mine rest (both_stay x y (next_piece Up x y count left) None mine s.piece) (compare_run x y count now rest answer r)
@@ -108,7 +110,8 @@ put_end c id bound x own false e = stay_refused id bound c id own e.1
 -- The number of the next bytes fits their width.
 next_fits : (bytes : List ℕ) (width : ℕ) → AreBytes bytes → width ≤ length bytes → number_of (take width bytes) < 2 ^ (8 * width)
 next_fits bytes width are h =
-    subst (λ (n : ℕ). number_of (take width bytes) < 2 ^ (8 * n)) (length-take-le width bytes h) (number_of-lt (take width bytes) (All-take (λ b. b < 256) width bytes are))
+    subst (λ (n : ℕ). number_of (take width bytes) < 2 ^ (8 * n)) (length-take-le width bytes h)
+    (number_of-lt (take width bytes) (All-take (λ b. b < 256) width bytes are))
 
 put_run : (c : Caller) (id : ArenaId) (bound : ℕ) (x : Putting) (own : List Entry) (done : Bool) → Run (PutsOn c id) (EndsPutting c id) x own done
     → AreBytes x.bytes → x.at + length x.bytes ≤ bound → StayBelow id bound own
@@ -120,10 +123,12 @@ put_run c id bound x own done (goes_on y mine rest s r) are h =
     let at = s.at in
     let still : AreBytes y.bytes = subst (λ (bs : List ℕ). AreBytes bs) (sym s.bytes) (All-drop (λ b. b < 256) (next_width x) x.bytes are) in
     stay_append id bound mine rest
-    (stay_puts c id bound x.at (next_width x) (number_of (take (next_width x) x.bytes)) mine (next_fits x.bytes (next_width x) are within) fits (omega arith) s.piece)
+    (stay_puts c id bound x.at (next_width x) (number_of (take (next_width x) x.bytes)) mine (next_fits x.bytes (next_width x) are within) fits (omega arith)
+    s.piece)
     (put_run c id bound y rest done r still (omega arith))
 
-pub put_stays : (c : Caller) (id : ArenaId) (bound place : ℕ) (bytes : List ℕ) (result : Result (Unit {0}) Refusal) (own : List Entry) → AreBytes bytes → place + length bytes ≤ bound
+pub put_stays : (c : Caller) (id : ArenaId) (bound place : ℕ) (bytes : List ℕ) (result : Result (Unit {0}) Refusal) (own : List Entry) → AreBytes bytes
+    → place + length bytes ≤ bound
     → DoesPut c id place bytes result own → StayBelow id bound own
 put_stays c id bound place bytes (Ok u) own are h d = put_run c id bound (record { at = place; bytes = bytes }) own true d.1 are h
 put_stays c id bound place bytes (Err WrongThread) own are h d = stay_none id bound own d.1
@@ -200,7 +205,8 @@ piece_inside Down a b count left s h =
       ends_by = omega arith;
     }
 
-copied_stays : (c : Caller) (a b : Side) (bound : ℕ) (p : Piece) (count : ℕ) (own : List Entry) → b.at + count ≤ bound → IsInside b count p → CopiesPiece c a b p own → StayBelow b.arena bound own
+copied_stays : (c : Caller) (a b : Side) (bound : ℕ) (p : Piece) (count : ℕ) (own : List Entry) → b.at + count ≤ bound → IsInside b count p
+    → CopiesPiece c a b p own → StayBelow b.arena bound own
 copied_stays c a b bound p count own h i d =
     let small : d.v < 2 ^ (8 * p.width) = subst (λ (n : ℕ). n < 2 ^ (8 * p.width)) (sym d.reads.value) (lane-lt d.reads.word ((a.at + p.offset) % 8) p.width) in
     let inside = i.ends_by in
@@ -213,7 +219,8 @@ module _ (c : Caller) (a b : Side) (bound count : ℕ) (way : Way) (h : b.at + c
   copy_end left own true e = stay_none b.arena bound own e.1
   copy_end left own false e = stop_stays b.arena bound c a b (next_piece way a b count left) own e.1
 
-  copy_run : (left : ℕ) (own : List Entry) (whole : Bool) → left ≤ count → Run (CopiesOn c a b count way) (EndsCopy c a b count way) left own whole → StayBelow b.arena bound own
+  copy_run : (left : ℕ) (own : List Entry) (whole : Bool) → left ≤ count → Run (CopiesOn c a b count way) (EndsCopy c a b count way) left own whole
+      → StayBelow b.arena bound own
   copy_run left own whole l (ends e) = copy_end left own whole e
   copy_run left own whole l (goes_on now mine rest s r) =
       let after = s.then in
@@ -221,7 +228,8 @@ module _ (c : Caller) (a b : Side) (bound count : ℕ) (way : Way) (h : b.at + c
       (copied_stays c a b bound (next_piece way a b count left) count mine h (piece_inside way a b count left s.more l) s.piece)
       (copy_run now rest whole (omega arith) r)
 
-copies_stay : (c : Caller) (a b : Side) (bound count : ℕ) (result : Result (Unit {0}) Refusal) (own : List Entry) → b.at + count ≤ bound → DoesCopy c a b count result own → StayBelow b.arena bound own
+copies_stay : (c : Caller) (a b : Side) (bound count : ℕ) (result : Result (Unit {0}) Refusal) (own : List Entry) → b.at + count ≤ bound
+    → DoesCopy c a b count result own → StayBelow b.arena bound own
 copies_stay c a b bound count (Ok u) own h d = copy_run c a b bound count d.way h count own true (omega arith) d.visits
 copies_stay c a b bound count (Err WrongThread) own h d = stay_none b.arena bound own d.1
 copies_stay c a b bound count (Err Closed) own h d = copy_run c a b bound count d.way h count own false (omega arith) d.visits
@@ -230,18 +238,22 @@ copies_stay c a b bound count (Err e) own h d = absurd d
 abbrev done : Result (Unit {0}) Refusal
 done = Ok tt
 
-target_on : (kept source target : Bool) (end size : ℕ) → nat_le end size ≡ target → (if kept then Err ReadOnly else (if source && target then Ok tt else Err Bounds)) ≡ done → end ≤ size
+target_on : (kept source target : Bool) (end size : ℕ) → nat_le end size ≡ target
+    → (if kept then Err ReadOnly else (if source && target then Ok tt else Err Bounds)) ≡ done → end ≤ size
 target_on true source target end size e h = absurd (let no : ⊥ = cc in no)
 target_on false false target end size e h = absurd (let no : ⊥ = cc in no)
 target_on false true false end size e h = absurd (let no : ⊥ = cc in no)
 target_on false true true end size e h = leb-true end size e
 
-copy_stays : (c : Caller) (src : Region) (src_at : ℕ) (r : Region) (dst_at n : ℕ) (checked : Result (Unit {0}) Refusal) (result : Result (Unit {0}) Refusal) (own : List Entry)
+copy_stays : (c : Caller) (src : Region) (src_at : ℕ) (r : Region) (dst_at n : ℕ) (checked : Result (Unit {0}) Refusal) (result : Result (Unit {0}) Refusal)
+    (own : List Entry)
     → checked_copy src src_at r dst_at n ≡ checked
-    → DoesAfter checked (DoesCopy c (side src.arena (src.first + src_at)) (side r.arena (r.first + dst_at)) n) result own → StayBelow r.arena (r.first + r.size) own
+    → DoesAfter checked (DoesCopy c (side src.arena (src.first + src_at)) (side r.arena (r.first + dst_at)) n) result own
+    → StayBelow r.arena (r.first + r.size) own
 copy_stays c src src_at r dst_at n (Err e) result own h d = stay_none r.arena (r.first + r.size) own d.1
 copy_stays c src src_at r dst_at n (Ok u) result own h d =
-    let within : dst_at + n ≤ r.size = target_on (nat_lt 0 n && r.read_only) (nat_le (src_at + n) src.size) (nat_le (dst_at + n) r.size) (dst_at + n) r.size refl h in
+    let within : dst_at + n ≤ r.size =
+    target_on (nat_lt 0 n && r.read_only) (nat_le (src_at + n) src.size) (nat_le (dst_at + n) r.size) (dst_at + n) r.size refl h in
     copies_stay c (side src.arena (src.first + src_at)) (side r.arena (r.first + dst_at)) (r.first + r.size) n result own (omega arith) d
 
 -- ---- every access

@@ -88,7 +88,12 @@ compare_differs old now next a b count left p own at offset g may h e o d =
       own = own ++ d.own;
       does = record {
         may_use = may;
-        visits = led_ends (AgreesOn c a b count) (EndsComparing c a b count) count left own d.own (Some (Some offset)) g.led (record { more = h; at = at; piece = piece; offset_is = rw e at o });
+        visits = led_ends (AgreesOn c a b count) (EndsComparing c a b count) count left own d.own (Some (Some offset)) g.led (record {
+          more = h;
+          at = at;
+          piece = piece;
+          offset_is = rw e at o;
+        });
       };
       makes = Makes-then old now next own d.own g.makes d.makes;
     }
@@ -122,6 +127,10 @@ compare_done old now a b count left own g may h =
     let all = led_ends (AgreesOn c a b count) (EndsComparing c a b count) count left own [] (Some None) g.led (h, refl) in
     record {
       own = own;
-      does = record { may_use = may; visits = subst (λ (es : List Entry). Run (AgreesOn c a b count) (EndsComparing c a b count) count es (Some None)) (append-nil own) all };
+      does = record {
+        may_use = may;
+        visits =
+            subst (λ (es : List Entry). Run (AgreesOn c a b count) (EndsComparing c a b count) count es (Some None)) (append-nil own) all;
+      };
       makes = g.makes;
     }

@@ -25,7 +25,7 @@ use Rattle.fm_copies.specs.Comparisons.{IsDifference, ComparesPiece, AgreesOn, E
 use Rattle.fm_copies.specs.Alone.{first_difference, FindsDifference, StaysOutOf}
 use Rattle.fm_copies.proofs.Differences.{later, later-none, later-later, first_difference-append, differs_at}
 use Rattle.fm_copies.proofs.Fitting.{next_piece_fits}
-use Rattle.fm_copies.proofs.Refusing.{AreAlive, piece_refused}
+use Rattle.fm_copies.proofs.Refusing.{AreAlive, piece_refused, stays_out, stays_out_of_others}
 
 -- the bytes of the side from this offset on
 abbrev bytes_from : State → Side → ℕ → List ℕ
@@ -183,7 +183,8 @@ compare_finds old new a b count found alone d =
     λ x. ap (λ n. drop n (bytes_of_arena old.state x.arena)) (let e : x.at + (count - count) ≡ x.at = omega arith in e) in
     record {
       first = all.answers
-          ∙ later-none (count - count) (first_difference (take count (bytes_from old.state a (count - count))) (take count (bytes_from old.state b (count - count)))) none
+          ∙ later-none (count - count) (first_difference (take count (bytes_from old.state a (count - count)))
+          (take count (bytes_from old.state b (count - count)))) none
           ∙ ap (λ bs. first_difference (take count bs) (take count (bytes_from old.state b (count - count)))) (from a)
           ∙ ap (λ bs. first_difference (take count (drop a.at (bytes_of_arena old.state a.arena))) (take count bs)) (from b);
       same = m.1 ∙ all.same;
@@ -199,11 +200,9 @@ compare_alone old new a b count (Err r) d alone = tt
 pub compare_shut : (old new : View) (a b : Side) (count : ℕ) (result : Result (Option ℕ) Refusal) → Did old new (DoesCompare old.caller a b count result)
     → IsByItself old → OnErr result (StaysOutOf old new a.arena b.arena)
 compare_shut old new a b count (Ok found) d alone = tt
-compare_shut old new a b count (Err WrongThread) d alone =
-    let m = Makes-alone old new d.own alone d.makes in
-    record { shut = λ both. d.does.0.1 (both.0.usable, both.1.usable); same = m.1 ∙ ap (λ (es : List Entry). state_after old.limit old.state es) d.does.1 }
+compare_shut old new a b count (Err WrongThread) d alone = stays_out_of_others old new a b count alone d
 compare_shut old new a b count (Err Closed) d alone =
     let m = Makes-alone old new d.own alone d.makes in
     let all = compare_run old.limit old.caller a b count old.state count d.own None (let e : count ≤ count = omega arith in e) d.does.visits m.0 in
-    record { shut = λ both. all.answers (both.0.alive, both.1.alive); same = m.1 ∙ all.same }
+    stays_out old new a b (state_after old.limit old.state d.own) m.1 (record { over = all.answers; same = all.same })
 compare_shut old new a b count (Err r) d alone = absurd d.does

@@ -1,10 +1,9 @@
 -- What a copy of the only caller leaves.
-use Rattle.std.proofs.Common.{◌≡◌, ℕ, ◌+◌, ◌-◌, ◌≤◌, true, false, List, take, drop, sym, ap, subst, ◌∙◌, arith, Result, Ok, Err, IfOk}
+use Rattle.std.proofs.Common.{◌≡◌, ℕ, ◌+◌, ◌-◌, ◌≤◌, true, false, take, drop, sym, subst, arith, Result, Ok, Err, IfOk}
 use Rattle.std.specs.Prelude.{OnErr}
 use Rattle.fm_base.specs.declared.refusal.Refusal.{Refusal}
 use Rattle.fm_base.specs.declared.refusal.Refusal.TheVariants.{Closed, WrongThread}
 use Rattle.fm_base.specs.Arenas.{State, has_arena}
-use Rattle.fm_base.specs.Calls.{Entry}
 use Rattle.fm_base.specs.Histories.{state_after}
 use Rattle.fm_base.specs.View.{View, Did, IsByItself}
 use Rattle.fm_base.proofs.Faith.{Makes-alone}
@@ -16,6 +15,7 @@ use Rattle.fm_copies.specs.declared.side.Way.TheVariants.{Up, Down}
 use Rattle.fm_copies.specs.Copies.{DoesCopy}
 use Rattle.fm_copies.specs.Alone.{bytes_at, TakesBytes, StaysOutOf}
 use Rattle.fm_copies.proofs.CopyingAlone.{AllPut, Leaves, copy_run}
+use Rattle.fm_copies.proofs.Refusing.{stays_out, stays_out_of_others}
 
 -- What a copy of all bytes leaves.
 all_put : (way : Way) (s t : State) (a b : Side) (count : ℕ) → Leaves way s t a b count count
@@ -34,7 +34,8 @@ copy_alone old new a b count (Err r) known d alone = tt
 copy_alone old new a b count (Ok u) known d alone =
     let m = Makes-alone old new d.own alone d.makes in
     let way = d.does.way in
-    let run = copy_run old.limit old.caller a b count way d.does.is_way old.state count d.own true (let e : count ≤ count = omega arith in e) d.does.visits m.0 in
+    let run = copy_run old.limit old.caller a b count way d.does.is_way old.state count d.own true (let e : count ≤ count = omega arith in
+    e) d.does.visits m.0 in
     let last = subst (λ (t : State). Leaves way old.state t a b count count) (sym m.1) run in
     let all = all_put way old.state new.state a b count last in
     record { all = all.all; bytes = changes old new b.arena b.at (bytes_at old.state a count) known all.puts }
@@ -43,11 +44,10 @@ copy_alone old new a b count (Ok u) known d alone =
 pub copy_shut : (old new : View) (a b : Side) (count : ℕ) (result : Result (Unit {0}) Refusal) → Did old new (DoesCopy old.caller a b count result)
     → IsByItself old → OnErr result (StaysOutOf old new a.arena b.arena)
 copy_shut old new a b count (Ok u) d alone = tt
-copy_shut old new a b count (Err WrongThread) d alone =
-    let m = Makes-alone old new d.own alone d.makes in
-    record { shut = λ both. d.does.0.1 (both.0.usable, both.1.usable); same = m.1 ∙ ap (λ (es : List Entry). state_after old.limit old.state es) d.does.1 }
+copy_shut old new a b count (Err WrongThread) d alone = stays_out_of_others old new a b count alone d
 copy_shut old new a b count (Err Closed) d alone =
     let m = Makes-alone old new d.own alone d.makes in
-    let all = copy_run old.limit old.caller a b count d.does.way d.does.is_way old.state count d.own false (let e : count ≤ count = omega arith in e) d.does.visits m.0 in
-    record { shut = λ both. all.over (both.0.alive, both.1.alive); same = m.1 ∙ all.same }
+    let all = copy_run old.limit old.caller a b count d.does.way d.does.is_way old.state count d.own false (let e : count ≤ count = omega arith in
+    e) d.does.visits m.0 in
+    stays_out old new a b (state_after old.limit old.state d.own) m.1 all
 copy_shut old new a b count (Err r) d alone = absurd d.does

@@ -102,6 +102,12 @@ copy_done old now a b count way left own g may w h =
     let all = led_ends (CopiesOn c a b count way) (EndsCopy c a b count way) count left own [] true g.led (h, refl) in
     record {
       own = own;
-      does = record { may_use = may; way = way; is_way = w; visits = subst (λ (es : List Entry). Run (CopiesOn c a b count way) (EndsCopy c a b count way) count es true) (append-nil own) all };
+      does = record {
+        may_use = may;
+        way = way;
+        is_way = w;
+        visits =
+            subst (λ (es : List Entry). Run (CopiesOn c a b count way) (EndsCopy c a b count way) count es true) (append-nil own) all;
+      };
       makes = g.makes;
     }

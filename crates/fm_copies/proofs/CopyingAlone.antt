@@ -1,7 +1,7 @@
 -- What the only caller leaves by a copy.
 use Rattle.std.proofs.Common.{◌≡◌, ◌≢◌, ◌⊎◌, inl, inr, ℕ, ◌+◌, ◌-◌, ◌*◌, ◌%◌, ◌^◌, ◌<◌, ◌≤◌, Bool, true, false, List, [], ◌++◌, length, take, drop, refl, sym, ap, subst, ◌∙◌, arith}
 use Rattle.std.proofs.lemmas.Bool.{cases_lt}
-use Rattle.std.proofs.lemmas.List.{length-take, length-drop, length-take-le}
+use Rattle.std.proofs.lemmas.List.{length-drop, length-take-le}
 use Rattle.fm_base.specs.declared.caller.Caller.{Caller}
 use Rattle.fm_base.specs.declared.arena_id.ArenaId.{ArenaId}
 use Rattle.fm_base.specs.Arenas.{Alive, Arena, State, arena_of, changed, same_id}
@@ -28,7 +28,7 @@ use Rattle.fm_copies.specs.declared.side.Way.TheVariants.{Up, Down}
 use Rattle.fm_copies.specs.Sides.{IsWay, IsPieceAt, next_piece}
 use Rattle.fm_copies.specs.Copies.{CopiesPiece, CopiesOn, EndsCopy}
 use Rattle.fm_copies.proofs.Fitting.{next_piece_fits}
-use Rattle.fm_copies.proofs.Overlaps.{copied_up, copied_down}
+use Rattle.fm_copies.proofs.Overlaps.{all_found, copied_up, copied_down, found_within}
 use Rattle.fm_copies.proofs.Refusing.{AreAlive, AreShut, piece_refused}
 
 -- ---- one piece
@@ -43,22 +43,6 @@ record IsCopied (s t : State) (a b : Side) (p : Piece) : Type 0 where
   pub bytes : bytes_of_arena t b.arena ≡ with_bytes (bytes_of_arena s b.arena) (b.at + p.offset)
       (take p.width (drop (a.at + p.offset) (bytes_of_arena s a.arena)))
   pub alive : AreAlive s a b
-
--- Bytes that were found stand within.
-found_within : (xs : List ℕ) (from width : ℕ) → 1 ≤ width → length (take width (drop from xs)) ≡ width → from + width ≤ length xs
-found_within xs from width h e =
-    let t = length-take width (drop from xs) in
-    let d = length-drop from xs in
-    omega arith
-
--- Bytes of a piece and those behind it are all found.
-all_found : (xs : List ℕ) (from width next left : ℕ) → width + next ≡ left → from + width ≤ length xs → length (take next (drop (from + width) xs)) ≡ next
-    → length (take left (drop from xs)) ≡ left
-all_found xs from width next left sum room rest =
-    let t = length-take next (drop (from + width) xs) in
-    let d = length-drop (from + width) xs in
-    let e = length-drop from xs in
-    length-take-le left (drop from xs) (omega arith)
 
 -- What was read is put.
 piece_put : (limit : ℕ) (c : Caller) (s : State) (a b : Side) (p : Piece) (own : List Entry) (q : CopiesPiece c a b p own) → IsPieceAt a b p
@@ -106,7 +90,8 @@ piece_copied limit c s a b p own q fits legal =
     let alive = read_alive limit c s a.arena from p.width q.v q.reading q.reads parts.0 in
     let legal_put = subst (λ (t : State). IsLegal limit t q.putting) read.same parts.1 in
     let after : state_after limit s own ≡ state_after limit s q.putting =
-    ap (λ (es : List Entry). state_after limit s es) q.visits ∙ state_after-append limit s q.reading q.putting ∙ ap (λ (t : State). state_after limit t q.putting) read.same in
+    ap (λ (es : List Entry). state_after limit s es) q.visits ∙ state_after-append limit s q.reading q.putting
+    ∙ ap (λ (t : State). state_after limit t q.putting) read.same in
     subst (λ (t : State). IsCopied s t a b p) (sym after) (piece_put limit c s a b p own q fits alive read.value legal_put)
 
 SameLife : Arena → Arena → Type 0
@@ -120,7 +105,8 @@ same_life s id other words = changed_lookup SameLife (with_words words) (λ x. r
 -- Arenas between which a piece was copied are alive after it.
 still_alive : (s t : State) (a b : Side) (p : Piece) → IsCopied s t a b p → AreAlive t a b
 still_alive s t a b p q =
-    let stays : (id : ArenaId) → (arena_of t id).life ≡ (arena_of s id).life = λ id. ap (λ (u : State). (arena_of u id).life) q.state ∙ same_life s b.arena id q.words in
+    let stays : (id : ArenaId) → (arena_of t id).life ≡ (arena_of s id).life = λ id. ap (λ (u : State). (arena_of u id).life) q.state
+    ∙ same_life s b.arena id q.words in
     (stays a.arena ∙ q.alive.0, stays b.arena ∙ q.alive.1)
 
 -- The other arenas keep their bytes.
@@ -222,7 +208,8 @@ leaves_on Up s t u a b count left next way some h e q more =
     let behind = stays_behind s t a b (next_piece Up a b count left) next way q in
     let rest : length (take next (drop (a.at + (count - left) + w) (bytes_of_arena s a.arena))) ≡ next =
     ap (λ (bs : List ℕ). length bs) (sym behind) ∙ ap (λ n. length (take next (drop n (bytes_of_arena t a.arena)))) (sym e_from) ∙ more.all in
-    let last : bytes_in more.puts.words ≡ with_bytes (bytes_of_arena t b.arena) (b.at + (count - left) + w) (take next (drop (a.at + (count - left) + w) (bytes_of_arena t a.arena))) =
+    let last : bytes_in more.puts.words ≡ with_bytes (bytes_of_arena t b.arena) (b.at + (count - left) + w)
+    (take next (drop (a.at + (count - left) + w) (bytes_of_arena t a.arena))) =
     more.puts.bytes
     ∙ ap (λ n. with_bytes (bytes_of_arena t b.arena) n (take next (drop (a.at + (count - next)) (bytes_of_arena t a.arena)))) e_to
     ∙ ap (λ n. with_bytes (bytes_of_arena t b.arena) (to + w) (take next (drop n (bytes_of_arena t a.arena)))) e_from in
@@ -243,7 +230,8 @@ leaves_on Down s t u a b count left next way some h e q more =
     let fits = next_piece_fits Down a b count left some h in
     let room : w ≤ left = fits.room in
     let sum : next + w ≡ left = omega arith in
-    let P : ℕ → Type 0 = λ n. bytes_of_arena t b.arena ≡ with_bytes (bytes_of_arena s b.arena) (b.at + n) (take w (drop (a.at + n) (bytes_of_arena s a.arena))) in
+    let P : ℕ → Type 0 = λ n. bytes_of_arena t b.arena ≡ with_bytes (bytes_of_arena s b.arena) (b.at + n)
+    (take w (drop (a.at + n) (bytes_of_arena s a.arena))) in
     let R : ℕ → Type 0 = λ n. length (take w (drop (a.at + n) (bytes_of_arena s a.arena))) ≡ w in
     let first : P next = subst P (sym e) q.bytes in
     let wide : R next = subst R (sym e) q.count in
@@ -297,4 +285,5 @@ copy_run limit c a b count way is s left own whole h (goes_on next one rest step
     let below : next ≤ count = (let e = step.then in omega arith) in
     let more = copy_run limit c a b count way is (state_after limit s one) next rest whole below run parts.1 in
     let Here : State → Type 0 = λ u. Ends whole way s u a b count left in
-    subst Here (sym (state_after-append limit s one rest)) (ends_on whole way s t (state_after limit t rest) a b count left next is step.more h step.then q more)
+    subst Here (sym (state_after-append limit s one rest))
+    (ends_on whole way s t (state_after limit t rest) a b count left next is step.more h step.then q more)

@@ -1,18 +1,19 @@
 -- What a caller learns of calls on two ranges, from what they did.
 use Rattle.std.proofs.Common.{◌≡◌, ℕ, ◌+◌, ◌/◌, ◌<◌, ◌≤◌, Bool, true, false, List, [], ◌∷◌, ◌++◌, refl, ap, subst, ◌∙◌, arith, Option, Some, None, Result, Ok, Err, IfOk, IfErr}
-use Rattle.std.specs.Prelude.{⊤}
 use Rattle.std.specs.Option.{ForSome}
 use Rattle.fm_base.specs.declared.arena_id.ArenaId.{ArenaId}
 use Rattle.fm_base.specs.declared.caller.Caller.{Caller}
 use Rattle.fm_base.specs.declared.refusal.Refusal.{Refusal}
 use Rattle.fm_base.specs.declared.refusal.Refusal.TheVariants.{Closed, WrongThread}
 use Rattle.fm_base.specs.Calls.{Read, Found, Entry}
+use Rattle.fm_base.specs.Outcomes.{Lasts}
 use Rattle.fm_base.specs.View.{View, Did, inside_after}
 use Rattle.fm_base.specs.Visits.{refused_visit, Run, ends, goes_on}
 use Rattle.fm_base.proofs.Making.{inside_after-append}
 use Rattle.fm_base.proofs.Outcomes.{Did-lasts}
 use Rattle.fm_base.proofs.Running.{visit_ends_outside, run_outside, stays_outside}
 use Rattle.fm_access.specs.Pieces.{ReadsPiece}
+use Rattle.fm_access.proofs.Learnt.{trivial_kind}
 use Rattle.fm_access.proofs.Outside.{EndsOutside}
 use Rattle.fm_copies.specs.declared.side.Piece.{Piece}
 use Rattle.fm_copies.specs.declared.side.Side.{Side}
@@ -20,7 +21,7 @@ use Rattle.fm_copies.specs.declared.side.Way.{Way}
 use Rattle.fm_copies.specs.declared.side.Way.TheVariants.{Up}
 use Rattle.fm_copies.specs.Comparisons.{AgreesOn, EndsComparing, DoesCompare}
 use Rattle.fm_copies.specs.Copies.{CopiesOn, EndsCopy, DoesCopy}
-use Rattle.fm_copies.specs.Learnt.{CanTouchBoth, BothCause, AfterCopy, AfterCompare}
+use Rattle.fm_copies.specs.Learnt.{CanTouchBoth, KnowsBoth, BothCause, AfterCopy, AfterCompare}
 use Rattle.fm_copies.specs.Sides.{StopsAt, first, second, next_piece}
 use Rattle.fm_copies.proofs.ComparingAlone.{compare_alone, compare_shut}
 use Rattle.fm_copies.proofs.Copied.{copy_alone, copy_shut}
@@ -47,7 +48,9 @@ module _ (c : Caller) (a b : Side) (count : ℕ) where
       → EndsOutside own
   copy_run_outside way left own whole run =
       run_outside (CopiesOn c a b count way) (EndsCopy c a b count way)
-      (λ x es y s. let p = next_piece way a b count x in let one = s.piece in both_outside es one.reading one.putting one.visits (read_outside c a.arena (a.at + p.offset) p.width one.v one.reading one.reads) (ap (inside_after None) one.puts.visits ∙ visit_ends_outside None c b.arena one.puts.acts))
+      (λ x es y s. let p = next_piece way a b count x in let one = s.piece in
+      both_outside es one.reading one.putting one.visits (read_outside c a.arena (a.at + p.offset) p.width one.v one.reading one.reads)
+      (ap (inside_after None) one.puts.visits ∙ visit_ends_outside None c b.arena one.puts.acts))
       (copy_ends_outside way) left own whole run
 
   copy_outside : (result : Result (Unit {0}) Refusal) (own : List Entry) → DoesCopy c a b count result own → EndsOutside own
@@ -69,7 +72,9 @@ module _ (c : Caller) (a b : Side) (count : ℕ) where
       → EndsOutside own
   compare_run_outside left own answer run =
       run_outside (AgreesOn c a b count) (EndsComparing c a b count)
-      (λ x es y s. let p = next_piece Up a b count x in let one = s.piece in both_outside es one.first one.second one.visits (read_outside c a.arena (a.at + p.offset) p.width one.v one.first one.reads_first) (read_outside c b.arena (b.at + p.offset) p.width one.w one.second one.reads_second))
+      (λ x es y s. let p = next_piece Up a b count x in let one = s.piece in
+      both_outside es one.first one.second one.visits (read_outside c a.arena (a.at + p.offset) p.width one.v one.first one.reads_first)
+      (read_outside c b.arena (b.at + p.offset) p.width one.w one.second one.reads_second))
       compare_ends_outside left own answer run
 
   compare_outside : (result : Result (Option ℕ) Refusal) (own : List Entry) → DoesCompare c a b count result own → EndsOutside own
@@ -128,14 +133,14 @@ module _ (c : Caller) (a b : Side) (count : ℕ) where
       → IfOk result (λ found. ForSome found (λ offset. offset < count))
   compare_within (Err r) own d = tt
   compare_within (Ok found) own d = λ offset e.
-      let run : Run (AgreesOn c a b count) (EndsComparing c a b count) count own (Some (Some offset)) = subst (λ (x : Option ℕ). Run (AgreesOn c a b count) (EndsComparing c a b count) count own (Some x)) e d.visits in
+      let run : Run (AgreesOn c a b count) (EndsComparing c a b count) count own (Some (Some offset)) =
+      subst (λ (x : Option ℕ). Run (AgreesOn c a b count) (EndsComparing c a b count) count own (Some x)) e d.visits in
       answer_of_run count own (Some (Some offset)) (let h : count ≤ count = omega arith in h) run
 
 -- ---- all that is learnt
 
-unit_kind : (result : Result (Unit {0}) Refusal) → IfOk result (λ u. ⊤)
-unit_kind (Ok u) = tt
-unit_kind (Err e) = tt
+know_both : {old new : View} {a b : Side} {count : ℕ} → CanTouchBoth old a b count → Lasts old new → KnowsBoth a.arena b.arena new
+know_both {a = a} {b = b} can lasts = record { first = lasts.known a.arena can.first_known; second = lasts.known b.arena can.second_known }
 
 -- Of a copy.
 pub after_copy : {old new : View} {a b : Side} {count : ℕ} {result : Result (Unit {0}) Refusal} → CanTouchBoth old a b count
@@ -149,8 +154,8 @@ after_copy {old} {new} {a} {b} {count} {result} can d =
       shut = copy_shut old new a b count result d;
       outside = stays_outside old new (DoesCopy old.caller a b count result) (copy_outside old.caller a b count result) can.outside d;
       lasts = lasts;
-      known = record { first = lasts.known a.arena can.first_known; second = lasts.known b.arena can.second_known };
-      kind = unit_kind result;
+      known = know_both can lasts;
+      kind = trivial_kind result;
     }
 
 -- Of a comparison.
@@ -165,6 +170,6 @@ after_compare {old} {new} {a} {b} {count} {result} can d =
       shut = compare_shut old new a b count result d;
       outside = stays_outside old new (DoesCompare old.caller a b count result) (compare_outside old.caller a b count result) can.outside d;
       lasts = lasts;
-      known = record { first = lasts.known a.arena can.first_known; second = lasts.known b.arena can.second_known };
+      known = know_both can lasts;
       kind = compare_within old.caller a b count result d.own d.does;
     }

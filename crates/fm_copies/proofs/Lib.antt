@@ -10,3 +10,4 @@ pub mod Learning
 pub mod Overlaps
 pub mod Refusing
 pub mod Stopping
+pub mod Touching

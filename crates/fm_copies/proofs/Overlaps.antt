@@ -1,6 +1,6 @@
 -- Bytes that are copied piece by piece, beside bytes that are still to be read.
 use Rattle.std.proofs.Common.{◌≡◌, ℕ, ◌+◌, ◌≤◌, inl, List, ◌++◌, length, take, drop, sym, ap, ◌∙◌, arith, append_assoc, length-append}
-use Rattle.std.proofs.lemmas.List.{drop_at, drop-drop, length-take-le}
+use Rattle.std.proofs.lemmas.List.{drop_at, drop-drop, length-drop, length-take, length-take-le}
 use Rattle.fm_bytes.proofs.Words.{take-add}
 use Rattle.fm_access.specs.Alone.{with_bytes}
 use Rattle.fm_access.proofs.Splicing.{with_bytes-twice, keeps_elsewhere}
@@ -21,6 +21,22 @@ with_bytes-below all place p q h =
     ∙ ap (λ bs. take place all ++ (q ++ bs)) past
     ∙ ap (λ bs. take place all ++ bs) (sym (append_assoc q p rest))
     ∙ ap (λ n. take place all ++ ((q ++ p) ++ drop n all)) sum
+
+-- Bytes that were found stand within.
+pub found_within : (xs : List ℕ) (from width : ℕ) → 1 ≤ width → length (take width (drop from xs)) ≡ width → from + width ≤ length xs
+found_within xs from width h e =
+    let t = length-take width (drop from xs) in
+    let d = length-drop from xs in
+    omega arith
+
+-- Bytes of a piece and those behind it are all found.
+pub all_found : (xs : List ℕ) (from width next left : ℕ) → width + next ≡ left → from + width ≤ length xs → length (take next (drop (from + width) xs)) ≡ next
+    → length (take left (drop from xs)) ≡ left
+all_found xs from width next left sum room rest =
+    let t = length-take next (drop (from + width) xs) in
+    let d = length-drop (from + width) xs in
+    let e = length-drop from xs in
+    length-take-le left (drop from xs) (omega arith)
 
 -- The lowest piece first: the bytes behind it still stand in the source.
 pub copied_up : (S S' T T' U : List ℕ) (from to w y : ℕ) → to ≤ length T → length (take w (drop from S)) ≡ w

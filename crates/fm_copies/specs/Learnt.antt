@@ -7,7 +7,8 @@ use Rattle.fm_base.specs.declared.refusal.Refusal.{Refusal}
 use Rattle.fm_base.specs.declared.refusal.Refusal.TheVariants.{Closed, WrongThread}
 use Rattle.fm_base.specs.Arenas.{has_arena}
 use Rattle.fm_base.specs.View.{View, given_in}
-use Rattle.fm_access.specs.Learnt.{After}
+use Rattle.fm_access.specs.Learnt.{After, CanTouchPiece}
+use Rattle.fm_copies.specs.declared.side.Piece.{Piece}
 use Rattle.fm_copies.specs.declared.side.Side.{Side}
 use Rattle.fm_copies.specs.Alone.{TakesBytes, FindsDifference, StaysOutOf}
 use Rattle.fm_copies.specs.Comparisons.{DoesCompare}
@@ -23,6 +24,14 @@ pub record CanTouchBoth (v : View) (a b : Side) (count : ℕ) : Type 0 where
   pub second_given : b.at + count ≤ given_in v b.arena
   pub first_small : a.at + count ≤ 2 ^ 40
   pub second_small : b.at + count ≤ 2 ^ 40
+
+-- in no arena; the caller may use both arenas, which are known and have given this piece
+pub record CanTouchPieces (v : View) (a b : Side) (p : Piece) : Type 0 where
+  pub may_use : MayUseBoth v.caller a b
+  pub first : CanTouchPiece v a.arena (a.at + p.offset) p.width
+  pub second : CanTouchPiece v b.arena (b.at + p.offset) p.width
+  pub first_small : a.at + p.offset ≤ 2 ^ 40
+  pub second_small : b.at + p.offset ≤ 2 ^ 40
 
 -- why a call is refused: by the arenas, where there is a byte
 abbrev pub BothCause : Side → Side → ℕ → Caller → Refusal → Type 0

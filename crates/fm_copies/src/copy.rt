@@ -1,9 +1,7 @@
-ghost use Rattle.std.specs.Prelude.{◌≡◌, ◌+◌, ◌^◌, ◌≤◌, true, None};
-ghost use Rattle.fm_base.specs.Arenas.{has_arena};
-ghost use Rattle.fm_base.specs.View.{Did, given_in};
-ghost use Rattle.fm_copies.specs.Sides.{side, IsPieceAt, MayUseBoth};
+ghost use Rattle.fm_access.specs.Learnt.{Visited};
+ghost use Rattle.fm_copies.specs.Sides.{side};
 ghost use Rattle.fm_copies.specs.Copies.{DoesCopyPiece};
-ghost use Rattle.fm_copies.specs.Learnt.{CanTouchBoth, AfterCopy};
+ghost use Rattle.fm_copies.specs.Learnt.{CanTouchBoth, CanTouchPieces, AfterCopy};
 
 use crate::side::{Piece, Side, is_wrong_thread, next_piece, way_of};
 use fm_access::{get_piece, put_piece};
@@ -18,18 +16,9 @@ fn copy_piece<R: Wait, M: Memory>(
     to: Side,
     piece: Piece,
 ) -> Result<(), Refusal>
-    requires outside { (M.view m.old).inside ≡ None }
-    requires source_known { has_arena (M.view m.old).state from.arena ≡ true }
-    requires target_known { has_arena (M.view m.old).state to.arena ≡ true }
-    requires may_use { MayUseBoth (M.view m.old).caller from to }
-    requires piece { IsPieceAt from to piece }
-    requires source_small { from.at + piece.offset ≤ 2 ^ 40 }
-    requires target_small { to.at + piece.offset ≤ 2 ^ 40 }
-    requires source_given { from.at + piece.offset + piece.width ≤ given_in (M.view m.old) from.arena }
-    requires target_given { to.at + piece.offset + piece.width ≤ given_in (M.view m.old) to.arena }
-    ensures did { Did (M.view m.old) (M.view m.new)
+    requires { CanTouchPieces (M.view m.old) from to piece }
+    ensures { Visited (M.view m.old) (M.view m.new)
         (DoesCopyPiece (M.view m.old).caller from to piece result) }
-    ensures outside { (M.view m.new).inside ≡ None }
 {
     let v = get_piece(m, from.arena, from.at + piece.offset, piece.width)?;
     put_piece(rt, m, to.arena, to.at + piece.offset, piece.width, v)

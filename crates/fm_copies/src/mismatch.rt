@@ -1,9 +1,8 @@
-ghost use Rattle.std.specs.Prelude.{◌≡◌, ◌+◌, ◌*◌, ◌^◌, ◌<◌, ◌≤◌, true, None};
-ghost use Rattle.fm_base.specs.Arenas.{has_arena};
-ghost use Rattle.fm_base.specs.View.{Did, given_in};
-ghost use Rattle.fm_copies.specs.Sides.{side, IsPieceAt, MayUseBoth};
+ghost use Rattle.std.specs.Prelude.{◌*◌, ◌^◌, ◌<◌, ◌≤◌};
+ghost use Rattle.fm_access.specs.Learnt.{Visited};
+ghost use Rattle.fm_copies.specs.Sides.{side};
 ghost use Rattle.fm_copies.specs.Comparisons.{IsDifference, DoesComparePiece};
-ghost use Rattle.fm_copies.specs.Learnt.{CanTouchBoth, AfterCompare};
+ghost use Rattle.fm_copies.specs.Learnt.{CanTouchBoth, CanTouchPieces, AfterCompare};
 
 use crate::side::{Piece, Side, Way, is_wrong_thread, next_piece};
 use fm_access::get_piece;
@@ -35,19 +34,9 @@ fn compare_piece<M: Memory>(
     second: Side,
     piece: Piece,
 ) -> Result<Option<u32>, Refusal>
-    requires outside { (M.view m.old).inside ≡ None }
-    requires first_known { has_arena (M.view m.old).state first.arena ≡ true }
-    requires second_known { has_arena (M.view m.old).state second.arena ≡ true }
-    requires may_use { MayUseBoth (M.view m.old).caller first second }
-    requires piece { IsPieceAt first second piece }
-    requires first_small { first.at + piece.offset ≤ 2 ^ 40 }
-    requires second_small { second.at + piece.offset ≤ 2 ^ 40 }
-    requires first_given { first.at + piece.offset + piece.width ≤ given_in (M.view m.old) first.arena }
-    requires second_given { second.at + piece.offset + piece.width
-        ≤ given_in (M.view m.old) second.arena }
-    ensures did { Did (M.view m.old) (M.view m.new)
+    requires { CanTouchPieces (M.view m.old) first second piece }
+    ensures { Visited (M.view m.old) (M.view m.new)
         (DoesComparePiece (M.view m.old).caller first second piece result) }
-    ensures outside { (M.view m.new).inside ≡ None }
 {
     let v = get_piece(m, first.arena, first.at + piece.offset, piece.width)?;
     let w = get_piece(m, second.arena, second.at + piece.offset, piece.width)?;

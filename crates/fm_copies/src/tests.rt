@@ -1,6 +1,5 @@
-ghost use Rattle.std.specs.Prelude.{◌≡◌, ◌+◌, ◌<◌, ◌≤◌, true, None};
-ghost use Rattle.fm_base.specs.Arenas.{has_arena};
-ghost use Rattle.fm_base.specs.View.{given_in};
+ghost use Rattle.std.specs.Prelude.{◌≡◌, ◌+◌, ◌<◌, ◌≤◌, None};
+ghost use Rattle.fm_access.specs.Learnt.{CanTouch};
 
 use crate::{copy_range, mismatch_range};
 use fm_access::{get_number, put_number};
@@ -11,10 +10,8 @@ use std::sync::Wait;
 
 /// An arena with 48 bytes: each of the first 24 is its place, and the others are zeros.
 fn open<R: Abort + Wait, M: Memory>(rt: &R, m: &mut M) -> ArenaId
-    requires outside { (M.view m.old).inside ≡ None }
-    ensures outside { (M.view m.new).inside ≡ None }
-    ensures known { has_arena (M.view m.new).state result ≡ true }
-    ensures given { 48 ≤ given_in (M.view m.new) result }
+    requires { (M.view m.old).inside ≡ None }
+    ensures { CanTouch (M.view m.new) result 0 48 }
 {
     let a = m.open_arena(rt, Kind::Shared).expect(rt, "an arena");
     assert_eq!(rt; m.allocate(rt, a, 48, 8), Ok(0));

@@ -58,8 +58,10 @@ index_causes : (ds : List Dim) (is : List ℕ) (found : Result ℕ Refusal) (id 
     → ((k : ℕ) → Cause (IndexOut k) → ⊥) → length is ≡ length ds
     → Causes found id c Cause → Causes (if_admitted 0 ds is found) id c (IndexCause ds is Cause)
 index_causes ds is found id c Cause none len h = elim (tested 0 ds is found len) [
-  | inl all ↦ tested_causes (AreAdmitted ds is) ⊥ (if_admitted 0 ds is found) found Closed id c Cause (IndexCause ds is Cause) (inl (all.0, all.1)) h (λ n. absurd n) (index_lift ds is Cause none)
-  | inr some ↦ tested_causes ⊥ (IsFirstOut 0 ds is (IndexOut some.0)) (if_admitted 0 ds is found) found (IndexOut some.0) id c Cause (IndexCause ds is Cause) (inr (some.1, some.2)) h (λ x. x) (λ n. absurd n)
+  | inl all ↦ tested_causes (AreAdmitted ds is) ⊥ (if_admitted 0 ds is found) found Closed id c Cause (IndexCause ds is Cause) (inl (all.0, all.1)) h (λ n.
+      absurd n) (index_lift ds is Cause none)
+  | inr some ↦ tested_causes ⊥ (IsFirstOut 0 ds is (IndexOut some.0)) (if_admitted 0 ds is found) found (IndexOut some.0) id c Cause (IndexCause ds is Cause)
+      (inr (some.1, some.2)) h (λ x. x) (λ n. absurd n)
 ]
 
 -- ---- of each kind of call

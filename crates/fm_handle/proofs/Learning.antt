@@ -70,10 +70,12 @@ visits c id Give = record {
   outside = λ result own d. visit_ends c id Give result own d;
 }
 
-module _ {X : Type 0} (old new : View) (h : Resolution) (r : Region) (base : ℕ) (is : List ℕ) (works_on : ValueSpec → Bool) (Give : ℕ → X → Acts → Type 0) (Alone Kind : X → Type 0) where
+module _ {X : Type 0} (old new : View) (h : Resolution) (r : Region) (base : ℕ) (is : List ℕ) (works_on : ValueSpec → Bool) (Give : ℕ → X → Acts
+    → Type 0) (Alone Kind : X → Type 0) where
   -- All that is learnt of one visit to the place that an update found.
   pub after_update : (result : Result X Refusal) → CanCall old h r is
-      → ((p : ℕ) → update_place_of works_on base is h r ≡ Ok p → (x : X) → Did old new (DoesVisit old.caller r.arena (Give (value_place base is h r)) (Ok x)) → IsByItself old → Alone x)
+      → ((p : ℕ) → update_place_of works_on base is h r ≡ Ok p → (x : X) → Did old new (DoesVisit old.caller r.arena (Give (value_place base is h r)) (Ok x))
+      → IsByItself old → Alone x)
       → ((p : ℕ) (x : X) (acts : Acts) → Give p x acts → Kind x)
       → Did old new (DoesAt (update_place_of works_on base is h r) (λ place. DoesVisit old.caller r.arena (Give place)) result)
       → After old new (DoesAt (update_place_of works_on base is h r) (λ place. DoesVisit old.caller r.arena (Give place)))
@@ -85,7 +87,8 @@ module _ {X : Type 0} (old new : View) (h : Resolution) (r : Region) (base : ℕ
       (λ v. IsKnown v r) result
       can.outside (update_causes base is h r old.caller can.indices works_on) (λ p. visits old.caller r.arena (Give p))
       (record {
-        alone = λ p x e d alone. there p e x (subst (λ (n : ℕ). Did old new (DoesVisit old.caller r.arena (Give n) (Ok x))) (update_place_is base is h r can.indices works_on p e) d) alone;
+        alone = λ p x e d alone. there p e x
+            (subst (λ (n : ℕ). Did old new (DoesVisit old.caller r.arena (Give n) (Ok x))) (update_place_is base is h r can.indices works_on p e) d) alone;
         shut = λ p e d alone. visit_shut old new r.arena e alone d;
         kind = λ p x own d. kind p x d.1.acts d.1.are;
       })
@@ -139,7 +142,8 @@ after_set_long {old} {new} {h} {r} base {is} {n} {result} can fits d =
 pub after_exchange_long : {old new : View} {h : Resolution} {r : Region} (base : ℕ) {is : List ℕ} {expected n : ℤ} {result : Result ℤ Refusal}
     → CanCall old h r is → FillsWord fills_word base is h r
     → ((p : ℕ) → update_place_of fills_word base is h r ≡ Ok p → value_in kind.Long h.value.order 0 (word_of h.value.order expected) ≡ Long expected)
-    → Did old new (DoesExchangeLong old.caller h r (update_place_of fills_word base is h r) expected n result) → AfterExchangeLong old new h r base is expected n result
+    → Did old new (DoesExchangeLong old.caller h r (update_place_of fills_word base is h r) expected n result)
+    → AfterExchangeLong old new h r base is expected n result
 after_exchange_long {old} {new} {h} {r} base {is} {expected} {n} {result} can fits back d =
     after_update old new h r base is fills_word (λ place. ExchangesLong h.value.order r.arena place expected n)
     (λ x. ExchangesValue old new h.value r.arena (value_place base is h r) (Long expected) (Long n) (Long x)) (λ x. ⊤) result can
@@ -152,4 +156,5 @@ pub after_add_long : {old new : View} {h : Resolution} {r : Region} (base : ℕ)
 after_add_long {old} {new} {h} {r} base {is} {delta} {result} can fits d =
     after_update old new h r base is is_word (λ place. AddsLong r.arena place delta)
     (λ x. AddsValue old new h.value r.arena (value_place base is h r) (Long delta) (Long x)) (λ x. ⊤) result can
-    (λ p e x d alone. let long = fits p e in add_long_alone old new h.value r.arena (value_place base is h r) delta x long.0 long.1 d alone) (λ p x acts g. tt) d
+    (λ p e x d alone. let long = fits p e in
+    add_long_alone old new h.value r.arena (value_place base is h r) delta x long.0 long.1 d alone) (λ p x acts g. tt) d

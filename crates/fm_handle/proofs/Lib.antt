@@ -5,6 +5,7 @@ pub mod Places
 pub mod Longs
 pub mod Looking
 pub mod Touched
+pub mod Touching
 pub mod Updating
 pub mod Visiting
 pub mod Words

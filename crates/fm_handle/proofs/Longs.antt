@@ -151,8 +151,10 @@ swap_alone old now spec id place expected v x word long small back means d alone
     let b = word_of spec.order v in
     let act : Acts = (SwapIf id (place / 8) (word_of spec.order expected) (word_of spec.order v), Found word) ∷ [] in
     let o = visit_alone old now id (Swaps id place (word_of spec.order expected) (word_of spec.order v)) word alone d in
-    let legal : IsLegal old.limit old.state (visit old.caller id act) = subst (λ (these : Acts). IsLegal old.limit old.state (visit old.caller id these)) o.are o.legal in
-    let after : now.state ≡ state_after old.limit old.state (visit old.caller id act) = o.after ∙ ap (λ (these : Acts). state_after old.limit old.state (visit old.caller id these)) o.are in
+    let legal : IsLegal old.limit old.state (visit old.caller id act) =
+    subst (λ (these : Acts). IsLegal old.limit old.state (visit old.caller id these)) o.are o.legal in
+    let after : now.state ≡ state_after old.limit old.state (visit old.caller id act) = o.after
+    ∙ ap (λ (these : Acts). state_after old.limit old.state (visit old.caller id these)) o.are in
     let parts = IsLegal-split old.limit s1 (entries_of c act) (entry_of c (Leave id) Fine ∷ []) legal.2 in
     let reach = parts.0.0 in
     let is : Found word ≡ Found (word_in (changed old.state id (entered old.caller)) id (place / 8)) = parts.0.1 in
@@ -181,8 +183,10 @@ add_alone old now spec id place delta x word long little means d alone =
     let n = word_of Little delta in
     let act : Acts = (Add id (place / 8) (word_of Little delta), Found word) ∷ [] in
     let o = visit_alone old now id (AddsTo id place (word_of Little delta)) word alone d in
-    let legal : IsLegal old.limit old.state (visit old.caller id act) = subst (λ (these : Acts). IsLegal old.limit old.state (visit old.caller id these)) o.are o.legal in
-    let after : now.state ≡ state_after old.limit old.state (visit old.caller id act) = o.after ∙ ap (λ (these : Acts). state_after old.limit old.state (visit old.caller id these)) o.are in
+    let legal : IsLegal old.limit old.state (visit old.caller id act) =
+    subst (λ (these : Acts). IsLegal old.limit old.state (visit old.caller id these)) o.are o.legal in
+    let after : now.state ≡ state_after old.limit old.state (visit old.caller id act) = o.after
+    ∙ ap (λ (these : Acts). state_after old.limit old.state (visit old.caller id these)) o.are in
     let parts = IsLegal-split old.limit s1 (entries_of c act) (entry_of c (Leave id) Fine ∷ []) legal.2 in
     let reach = parts.0.0 in
     let is : Found word ≡ Found (word_in (changed old.state id (entered old.caller)) id (place / 8)) = parts.0.1 in

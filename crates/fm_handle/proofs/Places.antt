@@ -62,7 +62,8 @@ module _ (base : ℕ) (is : List ℕ) (h : Resolution) (r : Region) where
 
   rooted_ok : (root : ℕ) → root_place base h r ≡ Ok root → if_rooted base h r (Ok (value_place base is h r)) ≡ Ok (root + offset_at h.offset h.dims is)
   rooted_ok root p =
-      let both = ok_on (nat_le (base + h.root_size) r.size) (nat_eq ((r.first + base) % h.root_alignment) 0) (r.first + base) (value_place base is h r) root p in
+      let both = ok_on (nat_le (base + h.root_size) r.size) (nat_eq ((r.first + base) % h.root_alignment) 0) (r.first + base) (value_place base is h r) root p
+      in
       both.1 ∙ ap (λ n. Ok (n + offset_at h.offset h.dims is)) both.0
 
   pub rooted_is : (p : ℕ) → if_rooted base h r (Ok (value_place base is h r)) ≡ Ok p → value_place base is h r ≡ p
@@ -97,13 +98,15 @@ module _ (base : ℕ) (is : List ℕ) (h : Resolution) (r : Region) where
       let fits = s.aligned is a in
       let align = h.value.alignment in
       let pos = positive_power h.value.alignment (IsPowerOfTwo-from_test h.value.alignment fits.power) in
-      let of_root = divides_trans h.value.alignment h.root_alignment root (divides_from h.value.alignment h.root_alignment fits.root) (divides_from h.root_alignment root rooted.aligned) in
+      let of_root = divides_trans h.value.alignment h.root_alignment root (divides_from h.value.alignment h.root_alignment fits.root)
+      (divides_from h.root_alignment root rooted.aligned) in
       let of_value = divides_from h.value.alignment (offset_at h.offset h.dims is) fits.offset in
       record {
         inside = (let i = rooted.inside in omega arith);
         small = (let i = rooted.small in omega arith);
         power = fits.power;
-        aligned = divides_gives h.value.alignment (root + offset_at h.offset h.dims is) pos (divides_add h.value.alignment root (offset_at h.offset h.dims is) of_root of_value);
+        aligned = divides_gives h.value.alignment (root + offset_at h.offset h.dims is) pos
+            (divides_add h.value.alignment root (offset_at h.offset h.dims is) of_root of_value);
       }
 
 -- ---- in one word
@@ -117,7 +120,8 @@ both_true false b h = absurd (let no : ⊥ = cc in no)
 -- A place of an alignment is a multiple of each smaller power of two.
 pub multiple : (place width alignment : ℕ) → IsPowerOfTwo width → IsPowerOfTwo alignment → width ≤ alignment → place % alignment ≡ 0 → place % width ≡ 0
 multiple place width alignment w a le h =
-    divides_gives width place (positive_power width w) (divides_trans width alignment place (divides_powers width alignment w a le) (divides_from alignment place h))
+    divides_gives width place (positive_power width w)
+    (divides_trans width alignment place (divides_powers width alignment w a le) (divides_from alignment place h))
 
 -- So an int or a long that is aligned to its width lies in one word.
 pub word_by_kind : (k : ValueKind) (alignment place : ℕ) → IsPowerOfTwo alignment → place % alignment ≡ 0 → is_int_or_long k ≡ true → width_of k ≤ alignment

@@ -130,7 +130,8 @@ pub value_there : (s : State) (c : Caller) (id : ArenaId) (place : ℕ) (k : Val
     → value_in k o (place % 8) word ≡ value_of k o (take (width_of k) (drop place (bytes_of_arena s id)))
 value_there s c id place k o word known within fits is =
     let words = (arena_of (changed s id (entered c)) id).words in
-    let same : (arena_of (changed s id (entered c)) id).words ≡ (arena_of s id).words = ap (λ (a : Arena). a.words) (lookup_changed s id (entered c) (λ a. refl) known) in
+    let same : (arena_of (changed s id (entered c)) id).words ≡ (arena_of s id).words =
+    ap (λ (a : Arena). a.words) (lookup_changed s id (entered c) (λ a. refl) known) in
     ap (value_of k o)
     (sym (bytes_of-lane 8 (place % 8) (width_of k) word fits)
     ∙ lane_bytes words place (width_of k) (lane word (place % 8) (width_of k)) word within fits is refl
@@ -241,7 +242,8 @@ exchanged old now spec id place expected v found acts kind fits (finds_another w
 -- An exchange of the only caller.
 pub exchange_alone : (old now : View) (spec : ValueSpec) (id : ArenaId) (place : ℕ) (expected v x : Value) → kind_of v ≡ spec.kind
     → place % 8 + width_of spec.kind ≤ 8
-    → Did old now (DoesVisit old.caller id (Exchanges spec.order id place expected v) (Ok x)) → IsByItself old → ExchangesValue old now spec id place expected v x
+    → Did old now (DoesVisit old.caller id (Exchanges spec.order id place expected v) (Ok x)) → IsByItself old
+    → ExchangesValue old now spec id place expected v x
 exchange_alone old now spec id place expected v x kind fits d alone =
     let o = visit_alone old now id (Exchanges spec.order id place expected v) x alone d in
     exchanged old now spec id place expected v x o.acts kind fits o.are o.legal o.after

@@ -1,5 +1,5 @@
 -- One visit, from its calls; and what is done at the place found.
-use Rattle.std.proofs.Common.{◌≡◌, ◌≢◌, ℕ, Bool, true, false, MatchBool, Result, Ok, Err, List, [], ◌∷◌, refl, subst, ap, Some}
+use Rattle.std.proofs.Common.{◌≡◌, ◌≢◌, ℕ, Bool, true, false, MatchBool, Result, Ok, Err, List, [], ◌∷◌, refl, sym, subst, ap, ◌∙◌, Some}
 use Rattle.fm_base.specs.declared.caller.Caller.{Caller}
 use Rattle.fm_base.specs.declared.arena_id.ArenaId.{ArenaId}
 use Rattle.fm_base.specs.declared.refusal.Refusal.{Refusal}
@@ -9,9 +9,12 @@ use Rattle.fm_base.specs.Does.{DoesEnter, DoesAct}
 use Rattle.fm_base.specs.Visits.{Acts, visit}
 use Rattle.fm_base.proofs.Visiting.{entered_makes, visit_of_one, visit_of_inside}
 use Rattle.fm_lanes.specs.declared.value.Value.{Value}
+use Rattle.fm_path.specs.declared.value_spec.ValueSpec.{ValueSpec}
+use Rattle.fm_path.specs.Resolution.{Resolution}
 use Rattle.fm_access.specs.Found.{DoesAt}
+use Rattle.fm_segment.specs.Region.{Region}
 use Rattle.fm_handle.specs.Access.{DoesInside, DoesVisit, Wins}
-use Rattle.fm_handle.specs.Place.{if_supported}
+use Rattle.fm_handle.specs.Place.{if_supported, update_place_of, writable_place_of}
 
 module _ {X : Type 0} (x y u v : View) (id : ArenaId) (Give : X → Acts → Type 0) (r : X) (w : Unit {0}) where
   -- One act between Enter and Leave.
@@ -67,3 +70,13 @@ not_made c id (Ok place) Exchange expected e own d = d
 pub supported : (b : Bool) (found : Result ℕ Refusal) (place : ℕ) → if_supported b found ≡ Ok place → b ≡ true
 supported true found place h = refl
 supported false found place h = absurd (let no : ⊥ = cc in no)
+
+module _ (works_on : ValueSpec → Bool) (base : ℕ) (is : List ℕ) (h : Resolution) (r : Region) where
+  -- What the code found is the update's place, or its refusal.
+  pub found_by : {b : Bool} {x y : Result ℕ Refusal} → b ≡ works_on h.value → x ≡ if_supported b (writable_place_of base is h r) → x ≡ y
+      → update_place_of works_on base is h r ≡ y
+  found_by e p was = ap (λ b. if_supported b (writable_place_of base is h r)) (sym e) ∙ sym p ∙ was
+
+  -- Where it is found, the call works on the value.
+  pub works : (p : ℕ) → update_place_of works_on base is h r ≡ Ok p → works_on h.value ≡ true
+  works p e = supported (works_on h.value) (writable_place_of base is h r) p e

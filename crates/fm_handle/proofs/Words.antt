@@ -84,6 +84,7 @@ word_means o v long small back =
     let bytes = bytes_of_value o v in
     let n = number_of (bytes_of_value o v) in
     let count : length (bytes_of_value o v) ≡ 8 = length-value o v ∙ ap width_of (sym long) in
-    let again : bytes_of 8 (number_of (bytes_of_value o v)) ≡ bytes_of_value o v = ap (λ k. bytes_of k n) (sym count) ∙ bytes_of-number_of bytes (AreBytes-value o v) in
+    let again : bytes_of 8 (number_of (bytes_of_value o v)) ≡ bytes_of_value o v = ap (λ k. bytes_of k n) (sym count)
+    ∙ bytes_of-number_of bytes (AreBytes-value o v) in
     let all : take 8 (drop 0 (bytes_of 8 n)) ≡ bytes_of 8 n = take_all 8 (bytes_of 8 n) (omega (arith, length-bytes_of 8 n)) in
     ap (value_of kind.Long o) (all ∙ again) ∙ means_itself kind.Long o v long small back

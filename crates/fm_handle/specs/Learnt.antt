@@ -59,7 +59,8 @@ module _ (old new : View) (h : Resolution) (r : Region) (base : ℕ) (is : List 
       (StaysOutOf old new r.arena (writable_place_of base is h r)) (KnowsSegment r) (λ u. ⊤)
 
   -- of a call that works on such values alone
-  abbrev pub AfterUpdate : {X : Type 0} → (ValueSpec → Bool) → (Result ℕ Refusal → Result X Refusal → List Entry → Type 0) → (X → Type 0) → (X → Type 0) → Result X Refusal → Type 0
+  abbrev pub AfterUpdate : {X : Type 0} → (ValueSpec → Bool) → (Result ℕ Refusal → Result X Refusal → List Entry → Type 0) → (X → Type 0) → (X → Type 0)
+      → Result X Refusal → Type 0
   AfterUpdate works_on Does Alone Kind =
       After old new (Does (update_place_of works_on base is h r)) (UpdateCause works_on base is h r old.caller) Alone
       (StaysOutOf old new r.arena (update_place_of works_on base is h r)) (KnowsSegment r) Kind

@@ -1,9 +1,7 @@
-ghost use Rattle.std.specs.Prelude.{◌≡◌, ◌+◌, ◌%◌, ◌^◌, ◌<◌, ◌≤◌, true, None, IfOk};
-ghost use Rattle.fm_base.specs.Arenas.{has_arena};
-ghost use Rattle.fm_base.specs.Outcomes.{Lasts};
-ghost use Rattle.fm_base.specs.View.{Did, given_in};
+ghost use Rattle.std.specs.Prelude.{◌≡◌, ◌^◌, ◌<◌, IfOk};
 ghost use Rattle.fm_lanes.specs.Kind.{width_of};
 ghost use Rattle.fm_lanes.specs.Value.{kind_of};
+ghost use Rattle.fm_access.specs.Learnt.{CanTouchPiece, Visited};
 ghost use Rattle.fm_handle.specs.Access.{DoesVisit};
 ghost use Rattle.fm_handle.specs.Acts.{Adds, AddsTo, Exchanges, Stores, Swaps};
 
@@ -19,13 +17,9 @@ pub(crate) fn store_at<M: Memory>(
     place: u64,
     word: u64,
 ) -> Result<(), Refusal>
-    requires outside { (M.view m.old).inside ≡ None }
-    requires known { has_arena (M.view m.old).state arena ≡ true }
-    requires given { place < given_in (M.view m.old) arena }
-    ensures did { Did (M.view m.old) (M.view m.new)
+    requires { CanTouchPiece (M.view m.old) arena place 8 }
+    ensures { Visited (M.view m.old) (M.view m.new)
         (DoesVisit (M.view m.old).caller arena (λ u. Stores arena place word) result) }
-    ensures outside { (M.view m.new).inside ≡ None }
-    ensures lasts { Lasts (M.view m.old) (M.view m.new) }
 {
     m.enter(arena)?;
     m.store(place / 8, word);
@@ -43,14 +37,10 @@ pub(crate) fn swap_at<M: Memory>(
     old: u64,
     new: u64,
 ) -> Result<u64, Refusal>
-    requires outside { (M.view m.old).inside ≡ None }
-    requires known { has_arena (M.view m.old).state arena ≡ true }
-    requires given { place < given_in (M.view m.old) arena }
-    ensures did { Did (M.view m.old) (M.view m.new)
+    requires { CanTouchPiece (M.view m.old) arena place 8 }
+    ensures visit { Visited (M.view m.old) (M.view m.new)
         (DoesVisit (M.view m.old).caller arena (Swaps arena place old new) result) }
     ensures word { IfOk result (λ found. found < 2 ^ 64) }
-    ensures outside { (M.view m.new).inside ≡ None }
-    ensures lasts { Lasts (M.view m.old) (M.view m.new) }
 {
     m.enter(arena)?;
     let found = m.swap_if(place / 8, old, new);
@@ -67,13 +57,9 @@ pub(crate) fn add_at<M: Memory>(
     place: u64,
     n: u64,
 ) -> Result<u64, Refusal>
-    requires outside { (M.view m.old).inside ≡ None }
-    requires known { has_arena (M.view m.old).state arena ≡ true }
-    requires given { place < given_in (M.view m.old) arena }
-    ensures did { Did (M.view m.old) (M.view m.new)
+    requires { CanTouchPiece (M.view m.old) arena place 8 }
+    ensures { Visited (M.view m.old) (M.view m.new)
         (DoesVisit (M.view m.old).caller arena (AddsTo arena place n) result) }
-    ensures outside { (M.view m.new).inside ≡ None }
-    ensures lasts { Lasts (M.view m.old) (M.view m.new) }
 {
     m.enter(arena)?;
     let found = m.add(place / 8, n);
@@ -93,16 +79,11 @@ pub(crate) fn exchange_value<R: Wait, M: Memory>(
     expected: Value,
     v: Value,
 ) -> Result<Value, Refusal>
-    requires outside { (M.view m.old).inside ≡ None }
-    requires known { has_arena (M.view m.old).state arena ≡ true }
-    requires given { place < given_in (M.view m.old) arena }
-    requires within { place % 8 + width_of (kind_of v) ≤ 8 }
+    requires piece { CanTouchPiece (M.view m.old) arena place (width_of (kind_of v)) }
     requires kind { kind_of expected ≡ kind_of v }
-    ensures did { Did (M.view m.old) (M.view m.new)
+    ensures visit { Visited (M.view m.old) (M.view m.new)
         (DoesVisit (M.view m.old).caller arena (Exchanges order arena place expected v) result) }
     ensures kind { IfOk result (λ found. kind_of found ≡ kind_of v) }
-    ensures outside { (M.view m.new).inside ≡ None }
-    ensures lasts { Lasts (M.view m.old) (M.view m.new) }
 {
     m.enter(arena)?;
     let found = exchange_inside(rt, m, arena, place, order, expected, v);
@@ -121,14 +102,9 @@ pub(crate) fn add_value<R: Wait, M: Memory>(
     order: Order,
     delta: Value,
 ) -> Result<Value, Refusal>
-    requires outside { (M.view m.old).inside ≡ None }
-    requires known { has_arena (M.view m.old).state arena ≡ true }
-    requires given { place < given_in (M.view m.old) arena }
-    requires within { place % 8 + width_of (kind_of delta) ≤ 8 }
-    ensures did { Did (M.view m.old) (M.view m.new)
+    requires { CanTouchPiece (M.view m.old) arena place (width_of (kind_of delta)) }
+    ensures { Visited (M.view m.old) (M.view m.new)
         (DoesVisit (M.view m.old).caller arena (Adds order arena place delta) result) }
-    ensures outside { (M.view m.new).inside ≡ None }
-    ensures lasts { Lasts (M.view m.old) (M.view m.new) }
 {
     m.enter(arena)?;
     let found = add_inside(rt, m, arena, place, order, delta);

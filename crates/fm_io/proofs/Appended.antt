@@ -11,13 +11,15 @@ Appends-append (Some w) mid new xs ys first second =
     second ∙ ap (option_map (λ written. written ++ ys)) first ∙ ap Some (append_assoc w xs ys)
 
 -- the text's first n bytes, and then m of the rest
-Appends-more : (old mid new : Option (List ℕ)) (text : List ℕ) (n m : ℕ) → Appends old mid (take n text) → Appends mid new (take m (drop n text)) → Appends old new (take (n + m) text)
+Appends-more : (old mid new : Option (List ℕ)) (text : List ℕ) (n m : ℕ) → Appends old mid (take n text) → Appends mid new (take m (drop n text))
+    → Appends old new (take (n + m) text)
 Appends-more old mid new text n m first second =
     Appends-append old mid new (take n text) (take m (drop n text)) first second
     ∙ ap (λ bytes. option_map (λ written. written ++ bytes) old) (sym (take-add n m text))
 
 -- the same, where the rest is the slice from n to the text's end
-pub Appends-rest : (old mid new : Option (List ℕ)) (text : List ℕ) (n m : ℕ) → Appends old mid (take n text) → Appends mid new (take m (take (length text - n) (drop n text))) → Appends old new (take (n + m) text)
+pub Appends-rest : (old mid new : Option (List ℕ)) (text : List ℕ) (n m : ℕ) → Appends old mid (take n text)
+    → Appends mid new (take m (take (length text - n) (drop n text))) → Appends old new (take (n + m) text)
 Appends-rest old mid new text n m first second =
     let whole : take (length text - n) (drop n text) ≡ drop n text =
     ap (λ k. take k (drop n text)) (sym (length-drop n text)) ∙ take-length (drop n text) in

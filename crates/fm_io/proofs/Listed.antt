@@ -21,7 +21,8 @@ file_of-nil : (q : List ℕ) → file_of (contents_of []) q ≡ None
 file_of-nil q = get-empty (slice_cmp nat_cmp) q
 
 -- the files from the i-th on are the i-th and those behind it
-from_index : (fs : List (String Global × Vec ℕ Global)) (i : ℕ) (f : String Global × Vec ℕ Global) → i < length fs → f ≡ get_or fs i f → drop i fs ≡ f ∷ drop (i + 1) fs
+from_index : (fs : List (String Global × Vec ℕ Global)) (i : ℕ) (f : String Global × Vec ℕ Global) → i < length fs → f ≡ get_or fs i f
+    → drop i fs ≡ f ∷ drop (i + 1) fs
 from_index fs i f below is = rw add-one (drop-cons fs i f below ∙ ap (λ g. g ∷ drop (suc i) fs) (sym is))
 
 -- of the files from the i-th on, the i-th has the name, or those behind it decide

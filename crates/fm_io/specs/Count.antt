@@ -1,5 +1,5 @@
 -- Counts that never fall, and stand still at their last value.
-use Rattle.std.specs.Prelude.{ℕ, ◌+◌, ◌≤◌, min}
+use Rattle.std.specs.Prelude.{◌≡◌, ℕ, ◌+◌, ◌≤◌, min}
 
 -- the greatest u64
 abbrev pub last_count : ℕ
@@ -8,3 +8,7 @@ last_count = 18446744073709551615
 -- the count rose in this call, or stands at its last value
 abbrev pub Rose : ℕ → ℕ → Type 0
 Rose before now = min (before + 1) last_count ≤ now
+
+-- the count rose by one, or stands at its last value
+abbrev pub Raised : ℕ → ℕ → Type 0
+Raised before now = now ≡ min (before + 1) last_count

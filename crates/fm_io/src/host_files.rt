@@ -1,80 +1,92 @@
-ghost use Rattle.std.specs.Prelude.{◌≡◌, ◌≢◌, ◌+◌, ◌≤◌, ◌==◌, None, length, IfOk, IfErr, min, if◌then◌else◌, Ok, Err};
-ghost use Rattle.std.specs.IoError.{error_kind};
-ghost use Rattle.fm_io.specs.Count.{last_count};
+ghost use Rattle.std.specs.Prelude.{◌≡◌, ◌≢◌, ◌≤◌, ◌<◌, None, length, IfOk, OnOk, OnErr, IsErrOf, Ok, Err, string_bytes};
+ghost use Rattle.fm_io.specs.Count.{Raised};
+ghost use Rattle.fm_io.specs.Files.{HasBytes};
+ghost use Rattle.fm_io.specs.Host.{Asks, ComesTo, EndsAt, way_to};
 
 use crate::count::raised;
 use crate::fault::Fault;
 use crate::files::{Files, Piece};
-use std::fs::File;
-use std::io::ErrorKind;
-use std::os::unix::fs::FileExt;
-use std::{io, rt};
+use crate::system::{System, Way};
+use std::alloc::{AllocError, Global};
+use std::io::{self, ErrorKind};
 
-/// The files of the host, by their paths. It tells nothing of them.
+/// The files of a system, by their paths. It tells nothing of what they hold.
 ///
-/// Each read opens the file anew and makes one call of the system on it, so what others write
-/// between two reads shows. A folder, a file that may not be read and a path that leads through a
-/// file are faults; only a name that doesn't exist is missing.
+/// A name is opened once and read on where the last read ended, until another name is read or a read
+/// fails. So a file that is renamed, removed or replaced meanwhile is still read as one file, and a
+/// pipe can be read, though not twice. A folder, a file that may not be read and a path that leads
+/// through a file are faults; only a name that doesn't exist is missing.
 #[derive(Drop)]
-pub struct HostFiles<R: rt::Files<File = File>> {
-    rt: R,
+pub struct HostFiles<S: System> {
+    system: S,
+    name: String,
+    next: Option<u64>,
     faults: u64,
     misses: u64,
 }
 
-impl<R: rt::Files<File = File>> HostFiles<R> {
-    /// No read has failed yet, and none has missed.
-    pub fn new(rt: R) -> HostFiles<R>
+impl<S: System> HostFiles<S> {
+    /// No file is open yet, no read has failed, and none has missed.
+    pub fn new(alloc: Global, system: S) -> HostFiles<S>
+        ensures system { result.system ≡ system }
+        ensures closed { result.next ≡ None }
         ensures faults { result.faults ≡ 0 }
         ensures misses { result.misses ≡ 0 }
     {
         HostFiles {
-            rt,
+            system,
+            name: String::new(alloc),
+            next: None,
             faults: 0,
             misses: 0,
         }
     }
-}
 
-fn read_host<R: rt::Files<File = File>>(
-    rt: &R,
-    name: &str,
-    at: u64,
-    buf: &mut [u8],
-) -> io::Result<usize>
-    ensures { IfOk result (λ n. n ≤ length buf.old) }
-{
-    File::open(rt, name)?.read_at(buf, at)
-}
-
-impl<R: rt::Files<File = File>> HostFiles<R> {
-    /// What a read came to, as the answer, and counted.
-    fn answer_of(&mut self, read: io::Result<usize>) -> Result<Piece, Fault>
-        ensures got { IfOk read (λ n. result ≡ Ok (if n == 0 then Piece.End else Piece.Got n)) }
-        ensures quiet { IfOk read (λ _. self.new ≡ self.old) }
-        ensures missing { IfErr read (λ e. error_kind e ≡ ErrorKind.NotFound → (result ≡ Ok Piece.Missing)
-            × (self.new.misses ≡ min (self.old.misses + 1) last_count) × (self.new.faults ≡ self.old.faults)) }
-        ensures failed { IfErr read (λ e. error_kind e ≢ ErrorKind.NotFound → (result ≡ Err Fault.Failed)
-            × (self.new.faults ≡ min (self.old.faults + 1) last_count) × (self.new.misses ≡ self.old.misses)) }
-        ensures faults_stay { self.old.faults ≤ self.new.faults }
-        ensures misses_stay { self.old.misses ≤ self.new.misses }
+    /// How the next read comes by its place. A name that is opened is kept, which may want memory.
+    fn way_to(&mut self, name: &str, at: u64) -> Result<Way, AllocError>
+        ensures way { IfOk result (λ way. way ≡ way_to self.old.next (string_bytes self.old.name) name.now at) }
+        ensures kept { OnOk result (string_bytes self.new.name ≡ name.now) }
+        ensures opens { OnErr result (way_to self.old.next (string_bytes self.old.name) name.now at ≡ Way.Open) }
+        ensures closed { OnErr result (self.new.next ≡ None) }
+        ensures system { self.new.system ≡ self.old.system }
+        ensures faults { self.new.faults ≡ self.old.faults }
+        ensures misses { self.new.misses ≡ self.old.misses }
     {
-        match read {
-            Ok(0) => Ok(Piece::End),
-            Ok(n) => Ok(Piece::Got(n)),
-            Err(e) if e.kind() == ErrorKind::NotFound => {
-                self.misses = raised(self.misses);
-                Ok(Piece::Missing)
-            }
-            Err(_) => {
-                self.faults = raised(self.faults);
-                Err(Fault::Failed)
+        if let Some(next) = self.next {
+            if self.name.as_str() == name {
+                return Ok(if next == at { Way::Follow } else { Way::Seek });
             }
         }
+        self.next = None;
+        self.name.clear();
+        self.name.push_str(name)?;
+        Ok(Way::Open)
     }
 }
 
-impl<R: rt::Files<File = File>> Files for HostFiles<R> {
+/// Where the next read would follow.
+fn end_of(at: u64, read: &io::Result<usize>) -> Option<u64>
+    ensures { EndsAt at read.now result }
+{
+    match read {
+        Ok(n) => at.checked_add(*n as u64),
+        Err(_) => None,
+    }
+}
+
+/// What a read came to.
+fn piece_of(read: io::Result<usize>) -> Result<Piece, Fault>
+    ensures { ComesTo read result }
+{
+    match read {
+        Ok(0) => Ok(Piece::End),
+        Ok(n) => Ok(Piece::Got(n)),
+        Err(e) if e.kind() == ErrorKind::NotFound => Ok(Piece::Missing),
+        Err(_) => Err(Fault::Failed),
+    }
+}
+
+impl<S: System> Files for HostFiles<S> {
     ghost holds = { λ _. None };
 
     ghost faults = { λ f. f.faults };
@@ -83,8 +95,38 @@ impl<R: rt::Files<File = File>> Files for HostFiles<R> {
 
     ghost reads = { λ _. None };
 
-    fn read_at(&mut self, name: &str, at: u64, buf: &mut [u8]) -> Result<Piece, Fault> {
-        let read = read_host(&self.rt, name, at, buf);
-        self.answer_of(read)
+    fn read_at(&mut self, name: &str, at: u64, buf: &mut [u8]) -> Result<Piece, Fault>
+        requires { 0 < length buf.old }
+        ensures bytes { IfOk result (HasBytes (length buf.old)) }
+
+        // One question is put to the system, and its answer is handed on, unless the name of a file that is to be opened couldn't be kept.
+        ensures asked { result ≢ Err Fault.Memory → Asks (S.asked self.old.system) (S.asked self.new.system)
+            (way_to self.old.next (string_bytes self.old.name) name.now at) name.now at (length buf.old) result self.new.next }
+        ensures kept { result ≢ Err Fault.Memory → string_bytes self.new.name ≡ name.now }
+        ensures opens { result ≡ Err Fault.Memory → way_to self.old.next (string_bytes self.old.name) name.now at ≡ Way.Open }
+        ensures unasked { result ≡ Err Fault.Memory → self.new.system ≡ self.old.system }
+        ensures closed { result ≡ Err Fault.Memory → self.new.next ≡ None }
+
+        ensures failed { IsErrOf result Fault.Failed → Raised self.old.faults self.new.faults }
+        ensures missing { result ≡ Ok Piece.Missing → Raised self.old.misses self.new.misses }
+        ensures quiet { result ≢ Err Fault.Failed → self.new.faults ≡ self.old.faults }
+        ensures found { result ≢ Ok Piece.Missing → self.new.misses ≡ self.old.misses }
+        ensures faults_stay { self.old.faults ≤ self.new.faults }
+        ensures misses_stay { self.old.misses ≤ self.new.misses }
+    {
+        let way = self.way_to(name, at)?;
+        let read = self.system.read_by(way, name, at, buf);
+        self.next = end_of(at, &read);
+        match piece_of(read) {
+            Ok(Piece::Missing) => {
+                self.misses = raised(self.misses);
+                Ok(Piece::Missing)
+            }
+            Err(Fault::Failed) => {
+                self.faults = raised(self.faults);
+                Err(Fault::Failed)
+            }
+            piece => piece,
+        }
     }
 }

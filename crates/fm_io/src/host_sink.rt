@@ -1,6 +1,6 @@
-ghost use Rattle.std.specs.Prelude.{◌≡◌, ◌≢◌, ◌+◌, ◌<◌, ◌≤◌, None, IfOk, IsErrOf, length, take, Err};
-ghost use Rattle.std.specs.Io.KnownBytes as known;
-ghost use Rattle.fm_io.specs.Count.{Rose};
+ghost use Rattle.std.specs.Prelude.{◌≡◌, ◌≢◌, ◌<◌, ◌≤◌, None, IfOk, IsErrOf, length, Err};
+ghost use Rattle.std.specs.Io.KnownBytes.{WriteAppends};
+ghost use Rattle.fm_io.specs.Count.{Raised};
 ghost use Rattle.fm_io.specs.Sink.{TookPiece};
 
 use crate::count::raised;
@@ -35,9 +35,9 @@ impl<W: Write> Sink for HostSink<W> {
         requires { 0 < length piece.now }
         ensures bytes { IfOk result (λ n. (0 < n) × (n ≤ length piece.now)) }
         ensures took { TookPiece None None piece.now result }
-        ensures passed { IfOk result (λ n. known.Appends (W.contents self.old.writer) (W.contents self.new.writer) (take n piece.now)) }
+        ensures passed { WriteAppends (W.contents self.old.writer) (W.contents self.new.writer) result piece.now }
         ensures never_memory { result ≢ Err Fault.Memory }
-        ensures failed { IsErrOf result Fault.Failed → Rose self.old.faults self.new.faults }
+        ensures failed { IsErrOf result Fault.Failed → Raised self.old.faults self.new.faults }
         ensures quiet { result ≢ Err Fault.Failed → self.new.faults ≡ self.old.faults }
         ensures faults_stay { self.old.faults ≤ self.new.faults }
     {

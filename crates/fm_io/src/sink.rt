@@ -1,13 +1,13 @@
 ghost use Rattle.std.specs.Prelude.{◌≡◌, ◌<◌, ◌≤◌, ℕ, List, length, Option, IfOk, IsErrOf, ◌≢◌, Err};
-ghost use Rattle.fm_io.specs.Count.{Rose};
+ghost use Rattle.fm_io.specs.Count.{Raised};
 ghost use Rattle.fm_io.specs.Sink.{TookPiece};
 
 use crate::fault::Fault;
 
 /// Where bytes are written, one after another.
 ///
-/// An implementation may tell what was written. It counts the writes that failed; the count stands
-/// still at the greatest `u64`. Code that is generic over the trait can't raise it by itself.
+/// An implementation may tell what was written. It counts the writes that failed, each once;
+/// the count stands still at the greatest `u64`. Code that is generic over the trait can't raise it by itself.
 pub trait Sink {
     /// What was written, where it is told.
     ghost written: { Self → Option (List ℕ) };
@@ -20,7 +20,7 @@ pub trait Sink {
         requires { 0 < length piece.now }
         ensures bytes { IfOk result (λ n. (0 < n) × (n ≤ length piece.now)) }
         ensures took { TookPiece (written self.old) (written self.new) piece.now result }
-        ensures failed { IsErrOf result Fault.Failed → Rose (faults self.old) (faults self.new) }
+        ensures failed { IsErrOf result Fault.Failed → Raised (faults self.old) (faults self.new) }
         ensures quiet { result ≢ Err Fault.Failed → faults self.new ≡ faults self.old }
         ensures faults_stay { faults self.old ≤ faults self.new };
 }

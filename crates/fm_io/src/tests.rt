@@ -1,10 +1,12 @@
+use crate::host_system::read_uninterrupted;
 use crate::{
-    Fault, Files, FreeGate, Gate, HostFiles, HostSink, MemFiles, MemSink, Piece, ReadFault, Sink,
-    SureFiles, SureSink, fill, write_text,
+    Fault, Files, FreeGate, Gate, HostFiles, HostSink, HostSystem, MemFiles, MemSink, Piece,
+    ReadFault, Sink, SureFiles, SureSink, fill, write_text,
 };
 use std::alloc::{AllocError, Global};
 use std::fs::{self, File};
-use std::io::{self, Write};
+use std::io::{self, ErrorKind, Read, Write};
+use std::path::PathBuf;
 use std::test::Fail;
 use std::{env, process};
 
@@ -140,34 +142,116 @@ fn the_free_gate_holds_nobody(rt: HostRuntime) {
     FreeGate.after(1, 0);
 }
 
+/// A reader that a signal interrupts before it gives a byte, and then fails.
+#[derive(Drop)]
+struct Signalled {
+    interrupts: u32,
+    left: u32,
+}
+
+impl Read for Signalled {
+    fn read(&mut self, buf: &mut [u8]) -> io::Result<usize> {
+        if self.interrupts > 0 {
+            self.interrupts -= 1;
+            return Err(ErrorKind::Interrupted.into());
+        }
+        match buf {
+            [byte, ..] if self.left > 0 => {
+                self.left -= 1;
+                *byte = b'b';
+                Ok(1)
+            }
+            _ => Err(ErrorKind::Other.into()),
+        }
+    }
+}
+
+#[test]
+fn a_read_that_is_interrupted_is_made_again(rt: HostRuntime) {
+    let mut buf = [0; 4];
+    for interrupts in [0, 1, 3] {
+        let left = 1;
+        let mut reader = Signalled { interrupts, left };
+        assert_eq!(rt; read_uninterrupted(&mut reader, &mut buf).ok(), Some(1));
+        assert_eq!(rt; buf[0], b'b');
+        let failed = read_uninterrupted(&mut reader, &mut buf).map_err(|e| e.kind());
+        assert_eq!(rt; failed, Err(ErrorKind::Other));
+    }
+}
+
+/// A path that no other test has, in the folder for such.
+fn own_path(rt: &HostRuntime, label: &str) -> Result<PathBuf, Fail> {
+    let folder = env::temp_dir(rt)?;
+    let name = format!(in rt.alloc(); "fm_io-{label}-{}", process::id(rt.process()))?;
+    Ok(folder.join(rt.alloc(), name.as_str())?)
+}
+
 #[test]
 fn host_files_and_a_host_sink_reach_a_real_file(rt: HostRuntime) -> Result<(), Fail> {
-    let folder = env::temp_dir(&rt)?;
-    let name = format!(in rt.alloc(); "fm_io-test-{}", process::id(rt.process()))?;
-    let path = folder.join(rt.alloc(), name.as_str())?;
-    let mut out = HostSink::new(File::create(&rt, path.as_path())?);
-    assert_eq!(rt; write_text(&mut out, TEXT), Ok(()));
-
-    let mut files = HostFiles::new(&rt);
+    let path = own_path(&rt, "reached")?;
+    assert!(rt; put_file(&rt, path.as_str(), TEXT)?);
+    let inside = path.join(rt.alloc(), "f")?;
+    let mut files = HostFiles::new(rt.alloc(), HostSystem::new(&rt));
     let mut buf = [0; 9];
     assert_eq!(rt; fill(&mut files, path.as_str(), 2, &mut buf), Ok(5));
     assert_eq!(rt; &buf[..5], b"ven b".as_slice());
-    assert_eq!(rt; files.read_at(path.as_str(), 7, &mut buf), Ok(Piece::End));
     assert_eq!(rt;
-        files.read_at(folder.as_str(), 0, &mut buf),
-        Err(Fault::Failed)
-    );
-    let inside = path.join(rt.alloc(), "f")?;
-    assert_eq!(rt;
-        files.read_at(inside.as_str(), 0, &mut buf),
+        read_four(&mut files, inside.as_str(), 0).0,
         Err(Fault::Failed)
     );
 
     fs::remove_file(&rt, path.as_path())?;
     assert_eq!(rt;
-        files.read_at(path.as_str(), 0, &mut buf),
+        read_four(&mut files, path.as_str(), 0).0,
         Ok(Piece::Missing)
     );
+    fs::create_dir(&rt, path.as_path())?;
+    assert_eq!(rt;
+        read_four(&mut files, path.as_str(), 0).0,
+        Err(Fault::Failed)
+    );
+    fs::remove_dir(&rt, path.as_path())?;
+    Ok(())
+}
+
+/// What a read answers, and four bytes, blanks behind those that it gave.
+fn read_four<F: Files>(files: &mut F, name: &str, at: u64) -> (Result<Piece, Fault>, [u8; 4]) {
+    let mut buf = [b' '; 4];
+    let answer = files.read_at(name, at, &mut buf);
+    (answer, buf)
+}
+
+/// Puts a file with this text under the path, and answers whether that went well.
+fn put_file(rt: &HostRuntime, path: &str, text: &[u8]) -> io::Result<bool> {
+    let mut out = HostSink::new(File::create(rt, path)?);
+    Ok(write_text(&mut out, text).is_ok())
+}
+
+#[test]
+fn a_file_that_is_replaced_is_read_on(rt: HostRuntime) -> Result<(), Fail> {
+    let path = own_path(&rt, "replaced")?;
+    let path = path.as_str();
+    assert!(rt; put_file(&rt, path, TEXT)?);
+    let mut files = HostFiles::new(rt.alloc(), HostSystem::new(&rt));
+    assert_eq!(rt;
+        read_four(&mut files, path, 0),
+        (Ok(Piece::Got(4)), *b"seve")
+    );
+
+    fs::remove_file(&rt, path)?;
+    assert!(rt; put_file(&rt, path, b"new")?);
+    for (at, piece, bytes) in [
+        (4, Piece::Got(3), *b"n b "),
+        (7, Piece::End, *b"    "),
+        (5, Piece::Got(2), *b" b  "),
+    ] {
+        assert_eq!(rt;
+            read_four(&mut files, path, at),
+            (Ok(piece), bytes),
+            "at {at}"
+        );
+    }
+    fs::remove_file(&rt, path)?;
     Ok(())
 }
 

@@ -75,4 +75,6 @@ bits-under_mask at width v h =
     let z = pow_pos (8 * at) in
     let a : v * 2 ^ (8 * at) ≡ v * 2 ^ (8 * at) + 0 = omega arith in
     let b : (2 ^ (8 * width) - 1) * 2 ^ (8 * at) ≡ (2 ^ (8 * width) - 1) * 2 ^ (8 * at) + 0 = omega arith in
-    ap (λ t. bit_and t ((2 ^ (8 * width) - 1) * 2 ^ (8 * at))) a ∙ (ap (λ t. bit_and (v * 2 ^ (8 * at) + 0) t) b ∙ (and_block (8 * at) v (2 ^ (8 * width) - 1) 0 0 z z ∙ rw (kept_by_mask v (8 * width) h) (omega arith)))
+    ap (λ t. bit_and t ((2 ^ (8 * width) - 1) * 2 ^ (8 * at))) a
+    ∙ (ap (λ t. bit_and (v * 2 ^ (8 * at) + 0) t) b
+    ∙ (and_block (8 * at) v (2 ^ (8 * width) - 1) 0 0 z z ∙ rw (kept_by_mask v (8 * width) h) (omega arith)))

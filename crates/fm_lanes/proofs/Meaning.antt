@@ -39,5 +39,6 @@ value_of-words kind order words w at h fits =
     ∙ ap (λ bs. number_of (lowest_first order bs)) (sym (bytes_in-lane words w at (width_of kind) h fits)))
 
 -- The bytes of a value that is encoded and turned are those that it is written as.
-pub bytes_of_value-encoded : (order : Order) (v : Value) (width : ℕ) → bytes_of width (turned width (encoded v) order) ≡ lowest_first order (bytes_of width (encoded v))
+pub bytes_of_value-encoded : (order : Order) (v : Value) (width : ℕ)
+    → bytes_of width (turned width (encoded v) order) ≡ lowest_first order (bytes_of width (encoded v))
 bytes_of_value-encoded order v width = bytes_of-turned_order width (encoded v) order

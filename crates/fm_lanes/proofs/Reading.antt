@@ -55,7 +55,8 @@ one_left (x ∷ []) e = refl
 one_left (x ∷ y ∷ xs) e = absurd (omega arith)
 
 -- Whole words and a last one of fewer bytes.
-pub words_odd : (dst bytes into : List ℕ) (last : ℕ) → length dst ≡ length bytes / 8 → dst ≡ words_from (length bytes / 8) bytes → length into ≡ word_count (length bytes) → 0 < length bytes % 8
+pub words_odd : (dst bytes into : List ℕ) (last : ℕ) → length dst ≡ length bytes / 8 → dst ≡ words_from (length bytes / 8) bytes
+    → length into ≡ word_count (length bytes) → 0 < length bytes % 8
     → last ≡ little_number (length bytes % 8) (drop (8 * (length bytes / 8)) bytes)
     → set (dst ++ drop (length bytes / 8) into) (length bytes / 8) last ≡ words_of bytes
 words_odd dst bytes into last len e into_len odd is =
@@ -77,5 +78,7 @@ words_odd dst bytes into last len e into_len odd is =
     ∙ ap (λ n. words_from n bytes) (sym count)
 
 -- The bytes past the whole words, as the code cuts them.
-pub little_tail : (bytes : List ℕ) → little_number (length bytes % 8) (take (length bytes - 8 * (length bytes / 8)) (drop (8 * (length bytes / 8)) bytes)) ≡ little_number (length bytes % 8) (drop (8 * (length bytes / 8)) bytes)
+pub little_tail : (bytes : List ℕ)
+    → little_number (length bytes % 8) (take (length bytes - 8 * (length bytes / 8)) (drop (8 * (length bytes / 8)) bytes))
+    ≡ little_number (length bytes % 8) (drop (8 * (length bytes / 8)) bytes)
 little_tail bytes = ap (little_number (length bytes % 8)) (take_rest bytes (8 * (length bytes / 8)))

@@ -1,6 +1,8 @@
 pub mod Names
 pub mod Refused
 pub mod Sound
+pub mod Groups
+pub mod Indexed
 pub mod Powers
 pub mod Deep
 pub mod Nodes

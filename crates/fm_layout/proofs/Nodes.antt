@@ -34,4 +34,5 @@ pub realigned_node : (size n : ℕ) (l m : Label) (inside : Node) → IsSound si
     → l.alignment ≡ n → l.name ≡ m.name → is_power_of_two n ≡ true → n ≤ limit → least_of (tree_of size m inside) ≤ n → IsSound size (tree_of size l inside)
 realigned_node size n l m inside s other e same p h least =
     subst (IsSound size) (sym (tree_of-relabelled size l m inside))
-    (realigned_sound size n l (tree_of size m inside) s other e (subst IsNameIfAny (sym same) (name_kept size m inside s.named)) (IsPowerOfTwo-from_test n p) h least)
+    (realigned_sound size n l (tree_of size m inside) s other e (subst IsNameIfAny (sym same) (name_kept size m inside s.named)) (IsPowerOfTwo-from_test n p)
+    h least)

@@ -7,7 +7,8 @@ use Rattle.fm_layout.specs.Tree.{Label, Tree, Trees, Value, Padding, Sequence, S
 use Rattle.fm_layout.specs.Size.{size_of, sum_of, greatest_alignment, least_of}
 use Rattle.fm_layout.specs.WellFormed.{limit, IsWellFormed, AreLaidOut}
 use Rattle.fm_layout.specs.Made.{plain, made, padding_of, sequence_fault, sequence_of, fault_of, struct_of, with_alignment}
-use Rattle.fm_layout.proofs.Sound.{fault_of-more, fit_of}
+use Rattle.fm_layout.proofs.Groups.{fault_of-more}
+use Rattle.fm_layout.proofs.Sound.{fit_of}
 use Rattle.fm_layout.proofs.Powers.{is_power_of_two-IsPowerOfTwo}
 
 -- Members that are laid out and end within the limit break no rule.
@@ -53,7 +54,8 @@ least_of-relabelled l (Struct ms m) = refl
 least_of-relabelled l (Union ms m) = refl
 
 -- A layout under an alignment that is refused would not be well formed.
-pub with_alignment-refused : (n : ℕ) (t : Tree) (r : Refusal) → with_alignment n t ≡ Err r → ¬ (IsWellFormed (relabelled (record { alignment = n; name = name_of t }) t))
+pub with_alignment-refused : (n : ℕ) (t : Tree) (r : Refusal) → with_alignment n t ≡ Err r
+    → ¬ (IsWellFormed (relabelled (record { alignment = n; name = name_of t }) t))
 with_alignment-refused n t r h w =
     let l : Label = record { alignment = n; name = name_of t } in
     let f = fit_of (relabelled l t) w in

@@ -31,7 +31,8 @@ token_itself : (a : Token) → same_token a a ≡ true
 token_itself a =
     and_from (nat_eq a.0 a.0 && nat_eq a.1.0 a.1.0) (nat_eq a.1.1.alignment a.1.1.alignment && same_name a.1.1.name a.1.1.name)
     (and_from (nat_eq a.0 a.0) (nat_eq a.1.0 a.1.0) ((Decides-eqb a.0 a.0).1 refl) ((Decides-eqb a.1.0 a.1.0).1 refl))
-    (and_from (nat_eq a.1.1.alignment a.1.1.alignment) (same_name a.1.1.name a.1.1.name) ((Decides-eqb a.1.1.alignment a.1.1.alignment).1 refl) ((name_decides a.1.1.name a.1.1.name).1 refl))
+    (and_from (nat_eq a.1.1.alignment a.1.1.alignment) (same_name a.1.1.name a.1.1.name) ((Decides-eqb a.1.1.alignment a.1.1.alignment).1 refl)
+    ((name_decides a.1.1.name a.1.1.name).1 refl))
 
 token_decides : (a b : Token) → Decides (same_token a b) (a ≡ b)
 token_decides a b = (token_same a b, λ e. ap (same_token a) (sym e) ∙ token_itself a)
@@ -47,6 +48,9 @@ same_tree-Decides t u =
 pub same_tree-equivalence : IsEquivalence same_tree
 same_tree-equivalence = record {
   refl = λ x. (same_tree-Decides x x).1 refl;
-  symm = λ x y. one_answer (same_tree x y) (same_tree y x) (same_tree-Decides x y) ((λ h. sym ((same_tree-Decides y x).0 h)), (λ e. (same_tree-Decides y x).1 (sym e)));
+  symm = λ x y. one_answer (same_tree x y) (same_tree y x) (same_tree-Decides x y) (
+    (λ h. sym ((same_tree-Decides y x).0 h)),
+    (λ e. (same_tree-Decides y x).1 (sym e)),
+  );
   congr = λ x y z h. ap (λ w. same_tree w z) ((same_tree-Decides x y).0 h);
 }

@@ -34,7 +34,10 @@ kind_again Int = refl
 kind_again Long = refl
 
 abbrev coded_label : Coded Label
-coded_label = code_by (ℕ × Option (List ℕ)) (coded× coded_ℕ (coded_option (coded_list coded_ℕ))) (λ l. (l.alignment, l.name)) (λ p. record { alignment = p.0; name = p.1 }) (λ _. refl)
+coded_label = code_by (ℕ × Option (List ℕ)) (coded× coded_ℕ (coded_option (coded_list coded_ℕ))) (λ l. (l.alignment, l.name)) (λ p. record {
+  alignment = p.0;
+  name = p.1;
+}) (λ _. refl)
 
 -- a token: what it makes, its number, its label
 abbrev pub Token : Type 0

@@ -147,7 +147,8 @@ built_aligned build d x t is h =
 -- ---- at a value
 
 -- The next of the values is the first of those left.
-pub building_item : (build : Data → Result Tree Refusal) (done : List Tree) (all : Result Trees Refusal) (vs : List Value) (i : ℕ) (v : Value) → i < length vs → v ≡ get_or vs i v
+pub building_item : (build : Data → Result Tree Refusal) (done : List Tree) (all : Result Trees Refusal) (vs : List Value) (i : ℕ) (v : Value) → i < length vs
+    → v ≡ get_or vs i v
     → IsBuilding done all (all_of (map build (map view (drop i vs)))) → IsBuilding done all (all_of (build (view v) ∷ map build (map view (drop (i + 1) vs))))
 building_item build done all vs i v here is h =
     let next : drop i vs ≡ v ∷ drop (i + 1) vs = drop_more vs i v here ∙ ap (λ (w : Value). w ∷ drop (i + 1) vs) (sym is) in
@@ -160,14 +161,18 @@ building_done build done all vs i past h =
     building_end done all (subst (λ (ws : List Value). IsBuilding done all (all_of (map build (map view ws)))) (drop_all i vs past) h)
 
 -- The refusal of the next is that of all, unless memory ran out.
-pub building_stopped : (build : Data → Result Tree Refusal) (done : List Tree) (all : Result Trees Refusal) (vs : List Value) (i : ℕ) (v : Value) (e : Refusal) → i < length vs → v ≡ get_or vs i v
+pub building_stopped : (build : Data
+    → Result Tree Refusal) (done : List Tree) (all : Result Trees Refusal) (vs : List Value) (i : ℕ) (v : Value) (e : Refusal) → i < length vs
+    → v ≡ get_or vs i v
     → IsBuilding done all (all_of (map build (map view (drop i vs)))) → OrMemory (Err e) (build (view v)) → (e ≡ Memory) ⊎ (Err e ≡ all)
 building_stopped build done all vs i v e here is h (inl m) = inl (cc)
 building_stopped build done all vs i v e here is h (inr r) =
     inr (building_refused done e all (build (view v)) (map build (map view (drop (i + 1) vs))) (building_item build done all vs i v here is h) r)
 
 -- The layout of the next value is there too.
-pub building_pushed : (build : Data → Result Tree Refusal) (done pushed : List Tree) (t : Tree) (all : Result Trees Refusal) (vs : List Value) (i : ℕ) (v : Value) → i < length vs → v ≡ get_or vs i v
+pub building_pushed : (build : Data
+    → Result Tree Refusal) (done pushed : List Tree) (t : Tree) (all : Result Trees Refusal) (vs : List Value) (i : ℕ) (v : Value) → i < length vs
+    → v ≡ get_or vs i v
     → IsBuilding done all (all_of (map build (map view (drop i vs)))) → OrMemory (Ok t) (build (view v)) → pushed ≡ done ++ t ∷ []
     → IsBuilding pushed all (all_of (map build (map view (drop (i + 1) vs))))
 building_pushed build done pushed t all vs i v here is h made longer =

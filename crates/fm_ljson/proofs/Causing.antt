@@ -91,14 +91,16 @@ split n (x ∷ xs) ys h =
 abbrev PartsRefuseSo : ℕ → Type 0
 PartsRefuseSo levels = (d : Data) (n : ℕ) → first_broken n (nodes levels d) ≡ None → RefusesSo (built levels d)
 
-all_refuse : (levels : ℕ) → PartsRefuseSo levels → (ds : List Data) (n : ℕ) → first_broken n (flat_map (nodes levels) ds) ≡ None → RefusesSo (all_of (map (built levels) ds))
+all_refuse : (levels : ℕ) → PartsRefuseSo levels → (ds : List Data) (n : ℕ) → first_broken n (flat_map (nodes levels) ds) ≡ None
+    → RefusesSo (all_of (map (built levels) ds))
 all_refuse levels part [] n h = tt
 all_refuse levels part (d ∷ ds) n h =
     let p = split n (nodes levels d) (flat_map (nodes levels) ds) h in
     then_refuses _ (built levels d) (part d n p.0)
     (λ t. then_refuses _ (all_of (map (built levels) ds)) (all_refuse levels part ds (n + length (nodes levels d)) p.1) (λ ts. tt))
 
-content_refuses : (levels : ℕ) → PartsRefuseSo levels → (x : Content) (n : ℕ) → first_broken n (flat_map (nodes levels) (parts_in x)) ≡ None → RefusesSo (content_built (built levels) x)
+content_refuses : (levels : ℕ) → PartsRefuseSo levels → (x : Content) (n : ℕ) → first_broken n (flat_map (nodes levels) (parts_in x)) ≡ None
+    → RefusesSo (content_built (built levels) x)
 content_refuses levels part (said.Value k o) n h = tt
 content_refuses levels part (Padding m) n h = padding_refuses m
 content_refuses levels part (Sequence m e) n h =
@@ -106,7 +108,8 @@ content_refuses levels part (Sequence m e) n h =
 content_refuses levels part (Struct ds) n h = then_refuses struct_of (all_of (map (built levels) ds)) (all_refuse levels part ds n h) struct_refuses
 content_refuses levels part (Union ds) n h = then_refuses _ (all_of (map (built levels) ds)) (all_refuse levels part ds n h) (λ ts. tt)
 
-node_refuses : (levels : ℕ) → PartsRefuseSo levels → (x : Node) (n : ℕ) → first_broken n (flat_map (nodes levels) (parts_in x.content)) ≡ None → RefusesSo (node_built (built levels) x)
+node_refuses : (levels : ℕ) → PartsRefuseSo levels → (x : Node) (n : ℕ) → first_broken n (flat_map (nodes levels) (parts_in x.content)) ≡ None
+    → RefusesSo (node_built (built levels) x)
 node_refuses levels part x n h =
     then_refuses _ (content_built (built levels) x.content) (content_refuses levels part x.content n h)
     (λ t. then_refuses _ (aligned x.align t) (aligned_refuses x.align t) (λ u. tt))
@@ -117,7 +120,8 @@ unfolding nodes
 below n levels d x is h (inl few) = sym (whole_here n levels d x few is) ∙ h
 below n levels d x is h (inr many) = absurd (none-some n (sym h ∙ one_too_many n (suc levels) d many))
 
-if_any_refuses : (levels : ℕ) → PartsRefuseSo levels → (d : Data) (n : ℕ) (o : Option Node) → o ≡ node_of d → first_broken n (nodes (suc levels) d) ≡ None → RefusesSo (built_if_any (built levels) o)
+if_any_refuses : (levels : ℕ) → PartsRefuseSo levels → (d : Data) (n : ℕ) (o : Option Node) → o ≡ node_of d → first_broken n (nodes (suc levels) d) ≡ None
+    → RefusesSo (built_if_any (built levels) o)
 if_any_refuses levels part d n None is h = absurd (none-some n (sym h ∙ no_node n (suc levels) d is))
 if_any_refuses levels part d n (Some x) is h =
     let few : (n < most_nodes) ⊎ (most_nodes ≤ n) = cases_lt n most_nodes in
@@ -139,7 +143,8 @@ cause_of_layouts bytes BadPadding h k = k
 cause_of_layouts bytes (AlignmentBelow n) h k = k
 cause_of_layouts bytes _ h k = absurd h
 
-cause_by_shape : (bytes : List ℕ) (d : Data) (e : Refusal) (o : Option ℕ) → IsJsonOf bytes d → first_broken 0 (nodes most_levels d) ≡ o → Err e ≡ shaped o (built most_levels d) → IsCause bytes e
+cause_by_shape : (bytes : List ℕ) (d : Data) (e : Refusal) (o : Option ℕ) → IsJsonOf bytes d → first_broken 0 (nodes most_levels d) ≡ o
+    → Err e ≡ shaped o (built most_levels d) → IsCause bytes e
 cause_by_shape bytes d e (Some n) is shape h =
     let same : BadShape n ≡ e = cc in
     let cause : IsBadAt bytes n = record { value = d; json = is; broken = shape } in
@@ -153,7 +158,8 @@ cause_of bytes d e is (inl h) = let same : Memory ≡ e = cc in subst (IsCause b
 cause_of bytes d e is (inr h) = cause_by_shape bytes d e (first_broken 0 (nodes most_levels d)) is refl h
 
 -- Each refusal of bytes that have a reading has its cause.
-pub refused_read : (bytes : List ℕ) (d : Data) (r : Result Tree Refusal) → IsUtf8 bytes × (read bytes ≡ Some d) → OrMemory r (layout_of_data d) → IfErr r (IsCause bytes)
+pub refused_read : (bytes : List ℕ) (d : Data) (r : Result Tree Refusal) → IsUtf8 bytes × (read bytes ≡ Some d) → OrMemory r (layout_of_data d)
+    → IfErr r (IsCause bytes)
 refused_read bytes d (Ok t) is h = tt
 refused_read bytes d (Err e) is h = cause_of bytes d e (record { utf8 = is.0; reading = is.1 }) h
 

@@ -44,7 +44,8 @@ counting_more n k m all first rest c s = record {
   few = s.few;
 }
 
-pub counting_broken : (n k m : ℕ) (all first rest : List (ℕ × Data)) → IsCounting n k all (first ++ rest) → first_broken k first ≡ Some m → first_broken n all ≡ Some m
+pub counting_broken : (n k m : ℕ) (all first rest : List (ℕ × Data)) → IsCounting n k all (first ++ rest) → first_broken k first ≡ Some m
+    → first_broken n all ≡ Some m
 counting_broken n k m all first rest c h = c.same ∙ first_broken-front k m first rest h
 
 pub counting_end : (n k : ℕ) (all : List (ℕ × Data)) → IsCounting n k all [] → AreSound n k all
@@ -86,7 +87,8 @@ pub whole_here : (n levels : ℕ) (d : Data) (x : Node) → n < most_nodes → S
     → first_broken n ((suc levels, d) ∷ flat_map (nodes levels) (parts_of d)) ≡ first_broken (n + 1) (flat_map (nodes levels) (parts_in x.content))
 whole_here n levels d x few is =
     ap (λ b. cond b (Some n) (first_broken (n + 1) (flat_map (nodes levels) (parts_of d))))
-    (all_false (nat_le most_nodes n) (nat_eq (suc levels) 0) (is_none (node_of d)) (lt-leb most_nodes n few) (ne_eqb (suc levels) 0 (λ e. absurd (omega (arith, e)))) (ap is_none (sym is)))
+    (all_false (nat_le most_nodes n) (nat_eq (suc levels) 0) (is_none (node_of d)) (lt-leb most_nodes n few)
+    (ne_eqb (suc levels) 0 (λ e. absurd (omega (arith, e)))) (ap is_none (sym is)))
     ∙ ap (λ ds. first_broken (n + 1) (flat_map (nodes levels) ds)) (ap parts_of_node (sym is))
 
 pub sound_node : (n m levels : ℕ) (d : Data) (x : Node) → n < most_nodes → 0 < levels → Some x ≡ node_of d
@@ -115,7 +117,8 @@ broken_below n m (suc levels) d x few deep is h =
 
 -- The next of the values is the first of those left.
 pub counting_item : (levels n k : ℕ) (all : List (ℕ × Data)) (vs : List Value) (i : ℕ) (v : Value) → i < length vs → v ≡ get_or vs i v
-    → IsCounting n k all (flat_map (nodes levels) (map view (drop i vs))) → IsCounting n k all (nodes levels (view v) ++ flat_map (nodes levels) (map view (drop (i + 1) vs)))
+    → IsCounting n k all (flat_map (nodes levels) (map view (drop i vs)))
+    → IsCounting n k all (nodes levels (view v) ++ flat_map (nodes levels) (map view (drop (i + 1) vs)))
 counting_item levels n k all vs i v here is c =
     let next : drop i vs ≡ v ∷ drop (i + 1) vs = drop_more vs i v here ∙ ap (λ (w : Value). w ∷ drop (i + 1) vs) (sym is) in
     subst (λ (ws : List Value). IsCounting n k all (flat_map (nodes levels) (map view ws))) next c
@@ -127,13 +130,15 @@ counting_done levels n k all vs i past c =
     counting_end n k all (subst (λ (ws : List Value). IsCounting n k all (flat_map (nodes levels) (map view ws))) (drop_all i vs past) c)
 
 -- What is found below a node is found from it down.
-pub all_sound : (n levels : ℕ) (d : Data) (x : Node) (parts : List Data) (r : Result ℕ ℕ) → n < most_nodes → 0 < levels → Some x ≡ node_of d → parts ≡ parts_in x.content
+pub all_sound : (n levels : ℕ) (d : Data) (x : Node) (parts : List Data) (r : Result ℕ ℕ) → n < most_nodes → 0 < levels → Some x ≡ node_of d
+    → parts ≡ parts_in x.content
     → IfOk r (λ m. AreSound (n + 1) m (flat_map (nodes (levels - 1)) parts)) → IfOk r (λ m. AreSound n m (nodes levels d))
 all_sound n levels d x parts (Ok m) few deep is same h =
     sound_node n m levels d x few deep is (subst (λ ds. AreSound (n + 1) m (flat_map (nodes (levels - 1)) ds)) same h)
 all_sound n levels d x parts (Err e) few deep is same h = tt
 
-pub one_broken : (n levels : ℕ) (d : Data) (x : Node) (parts : List Data) (r : Result ℕ ℕ) → n < most_nodes → 0 < levels → Some x ≡ node_of d → parts ≡ parts_in x.content
+pub one_broken : (n levels : ℕ) (d : Data) (x : Node) (parts : List Data) (r : Result ℕ ℕ) → n < most_nodes → 0 < levels → Some x ≡ node_of d
+    → parts ≡ parts_in x.content
     → IfErr r (λ m. first_broken (n + 1) (flat_map (nodes (levels - 1)) parts) ≡ Some m) → IfErr r (λ m. first_broken n (nodes levels d) ≡ Some m)
 one_broken n levels d x parts (Ok m) few deep is same h = tt
 one_broken n levels d x parts (Err e) few deep is same h =

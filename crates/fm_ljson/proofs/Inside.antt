@@ -35,7 +35,8 @@ is_name-Decides (c ∷ cs) =
           (p.0, IsNameEnd-from_all cs q.0, leb-true (length (c ∷ cs)) 64 q.1)),
       (λ h.
           and_from (is_letter c) rest h.0
-          (and_from (list_all (λ c. is_letter c || is_digit c) cs) (nat_le (length (c ∷ cs)) 64) (list_all-IsNameEnd cs h.1) (le-leb (length (c ∷ cs)) 64 h.2))),
+          (and_from (list_all (λ c. is_letter c || is_digit c) cs) (nat_le (length (c ∷ cs)) 64) (list_all-IsNameEnd cs h.1)
+          (le-leb (length (c ∷ cs)) 64 h.2))),
     )
 
 name_tested : (b : Bool) (text : List ℕ) (name : Option (List ℕ)) → is_name text ≡ b → option_map Some (cond b (Some text) None) ≡ Some name → IsNameIfAny name
@@ -56,7 +57,8 @@ aligned_other : (align : Option ℕ) (P : Type 0) → ¬ P → MayBeAligned alig
 aligned_other None P h = tt
 aligned_other (Some n) P h = h
 
-mapped_other : {A : Type 0} (f : A → Content) (o : Option A) (c : Content) → ((a : A) → ¬ (IsPaddingContent (f a))) → option_map f o ≡ Some c → ¬ (IsPaddingContent c)
+mapped_other : {A : Type 0} (f : A → Content) (o : Option A) (c : Content) → ((a : A) → ¬ (IsPaddingContent (f a))) → option_map f o ≡ Some c
+    → ¬ (IsPaddingContent c)
 mapped_other f None c k h = absurd (none-some c h)
 mapped_other f (Some a) c k h = λ p. k a (subst IsPaddingContent (sym (same_Some (f a) c h)) p)
 
@@ -64,7 +66,8 @@ sequence_other : (o : Option ℕ) (e : Option Data) (c : Content) → option_and
 sequence_other None e c h = absurd (none-some c h)
 sequence_other (Some n) e c h = mapped_other (Sequence n) e c (λ d p. p) h
 
-aligned_of : (t : TypeName) (ms : Members) (c : Content) (align : Option ℕ) → content_in t ms ≡ Some c → align_in t ms ≡ Some align → MayBeAligned align (IsPaddingContent c)
+aligned_of : (t : TypeName) (ms : Members) (c : Content) (align : Option ℕ) → content_in t ms ≡ Some c → align_in t ms ≡ Some align
+    → MayBeAligned align (IsPaddingContent c)
 aligned_of (type_name.Value k) ms c align h e = aligned_other align _ (mapped_other (Value k) (order_in ms) c (λ o p. p) h)
 aligned_of type_name.Padding ms c align h e = subst (λ a. MayBeAligned a (IsPaddingContent c)) (same_Some None align e) tt
 aligned_of type_name.Sequence ms c align h e =

@@ -12,12 +12,14 @@ use Rattle.fm_ljson.specs.Built.{OrMemory}
 use Rattle.fm_ljson.proofs.Building.{or_memory}
 
 -- What has a reading is answered as its value is.
-pub value_read : (bytes : List ℕ) (d : Data) (r : Result Tree Refusal) → IsUtf8 bytes × (read bytes ≡ Some d) → OrMemory r (layout_of_data d) → OrMemory r (layout_of_json bytes)
+pub value_read : (bytes : List ℕ) (d : Data) (r : Result Tree Refusal) → IsUtf8 bytes × (read bytes ≡ Some d) → OrMemory r (layout_of_data d)
+    → OrMemory r (layout_of_json bytes)
 value_read bytes d r is h =
     or_memory r _ _
     (sym (ap (λ b. cond b (layout_if_read (read bytes)) (Err BadJson)) (is_utf8-from_IsUtf8 bytes is.0) ∙ ap layout_if_read is.1)) h
 
-unread_by : (bytes : List ℕ) (b : Bool) → is_utf8 bytes ≡ b → (IsUtf8 bytes → read bytes ≡ None) → Err BadJson ≡ cond b (layout_if_read (read bytes)) (Err BadJson)
+unread_by : (bytes : List ℕ) (b : Bool) → is_utf8 bytes ≡ b → (IsUtf8 bytes → read bytes ≡ None)
+    → Err BadJson ≡ cond b (layout_if_read (read bytes)) (Err BadJson)
 unread_by bytes true e none = sym (ap layout_if_read (none (IsUtf8-from_is_utf8 bytes e)))
 unread_by bytes false e none = refl
 

@@ -48,7 +48,8 @@ one_more f d ds rest = ap (λ x. x ++ rest) (flat_map-cons f d ds) ∙ append_as
 
 mutual
   -- the nodes of a layout break no rule
-  sound_nodes : (t : Tree) (levels n : ℕ) (rest : List (ℕ × Data)) → IsWellFormed t → HasNames t → AreCountsSmall t → depth t ≤ levels → n + node_count t ≤ most_nodes
+  sound_nodes : (t : Tree) (levels n : ℕ) (rest : List (ℕ × Data)) → IsWellFormed t → HasNames t → AreCountsSmall t → depth t ≤ levels
+      → n + node_count t ≤ most_nodes
       → first_broken n (nodes levels (json_of t) ++ rest) ≡ first_broken (n + node_count t) rest
   sound_nodes (Value k o l) zero n rest w names small deep few = absurd (omega (arith, deep))
   sound_nodes (Value k o l) (suc levels) n rest w names small deep few =
@@ -76,7 +77,8 @@ mutual
       ∙ sound_all ms levels (n + 1) rest w.1 names.1 small (omega (arith, deep)) (omega (arith, few))
       ∙ ap (λ m. first_broken m rest) next
 
-  sound_all : (ts : Trees) (levels n : ℕ) (rest : List (ℕ × Data)) → AreWellFormed ts → HaveNames ts → AreAllCountsSmall ts → deepest ts ≤ levels → n + node_counts ts ≤ most_nodes
+  sound_all : (ts : Trees) (levels n : ℕ) (rest : List (ℕ × Data)) → AreWellFormed ts → HaveNames ts → AreAllCountsSmall ts → deepest ts ≤ levels
+      → n + node_counts ts ≤ most_nodes
       → first_broken n (flat_map (nodes levels) (list_of (all_json ts)) ++ rest) ≡ first_broken (n + node_counts ts) rest
   sound_all NoMore levels n rest w names small deep few =
       let none : n ≡ n + 0 = omega arith in
@@ -183,10 +185,12 @@ mutual
   rebuilt (Union ms l) zero w names small deep = absurd (omega (arith, deep))
   rebuilt (Union ms l) (suc levels) w names small deep =
       build_step levels (json_of (Union ms l)) (Union ms l) (said (Union ms l) w names small)
-      ∙ ap (λ r. then_labelled (greatest_alignment ms) l (then (λ ts. Ok (Union ts (plain (greatest_alignment ts)))) r)) (rebuilt_all ms levels w.1 names.1 small (omega (arith, deep)))
+      ∙ ap (λ r. then_labelled (greatest_alignment ms) l (then (λ ts. Ok (Union ts (plain (greatest_alignment ts)))) r))
+      (rebuilt_all ms levels w.1 names.1 small (omega (arith, deep)))
       ∙ labelled (greatest_alignment ms) l (Union ms l) (Union ms (plain (greatest_alignment ms))) w.0 refl refl refl
 
-  rebuilt_all : (ts : Trees) (levels : ℕ) → AreWellFormed ts → HaveNames ts → AreAllCountsSmall ts → deepest ts ≤ levels → all_of (map (built levels) (list_of (all_json ts))) ≡ Ok ts
+  rebuilt_all : (ts : Trees) (levels : ℕ) → AreWellFormed ts → HaveNames ts → AreAllCountsSmall ts → deepest ts ≤ levels
+      → all_of (map (built levels) (list_of (all_json ts))) ≡ Ok ts
   rebuilt_all NoMore levels w names small deep = refl
   rebuilt_all (More t ts) levels w names small deep =
       rw (rebuilt t levels w.0 names.0 small.0 (omega (arith, deep)), rebuilt_all ts levels w.1 names.1 small.1 (omega (arith, deep))) refl
@@ -199,6 +203,7 @@ none_broken t w names within =
     ∙ sound_nodes t most_levels 0 [] w names within.counts within.levels (omega (arith, within.nodes))
 
 -- What reads as the canonical JSON of a layout within the limits is that layout.
-pub layout_again : (t : Tree) (bytes : List ℕ) → IsWellFormed t → HasNames t → IsWithinLimits t → is_utf8 bytes ≡ true → read bytes ≡ Some (json_of t) → layout_of_json bytes ≡ Ok t
+pub layout_again : (t : Tree) (bytes : List ℕ) → IsWellFormed t → HasNames t → IsWithinLimits t → is_utf8 bytes ≡ true → read bytes ≡ Some (json_of t)
+    → layout_of_json bytes ≡ Ok t
 layout_again t bytes w names within utf8 reads =
     rw (utf8, reads, none_broken t w names within) (rebuilt t most_levels w names within.counts within.levels)

@@ -42,7 +42,8 @@ group_depth : (ms : Trees) (word : List ℕ) (l : Label) → members_depth (if_a
     (member (codes "members") (array (all_json ms)) (if_any (codes "name") (name_of l) (typed word)))) ≡ suc (items_depth (all_json ms))
 group_depth ms word l =
     let inner : members_depth (if_any (codes "name") (name_of l) (typed word)) ≡ 0 = flat_if_any (codes "name") (name_of l) (typed word) (flat_name l) in
-    let outer = flat_if_any (codes "align") (align_of (greatest_alignment ms) l) (member (codes "members") (array (all_json ms)) (if_any (codes "name") (name_of l) (typed word))) (flat_align (greatest_alignment ms) l) in
+    let outer = flat_if_any (codes "align") (align_of (greatest_alignment ms) l)
+    (member (codes "members") (array (all_json ms)) (if_any (codes "name") (name_of l) (typed word))) (flat_align (greatest_alignment ms) l) in
     omega (arith, inner, outer)
 
 mutual
@@ -51,7 +52,8 @@ mutual
   json_depth (Value k o l) =
       let orders = flat_if_any (codes "order") (order_of o) (typed (kind_text k)) (flat_order o) in
       let names = flat_if_any (codes "name") (name_of l) (if_any (codes "order") (order_of o) (typed (kind_text k))) (flat_name l) in
-      let aligns = flat_if_any (codes "align") (align_of (width_of k) l) (if_any (codes "name") (name_of l) (if_any (codes "order") (order_of o) (typed (kind_text k)))) (flat_align (width_of k) l) in
+      let aligns = flat_if_any (codes "align") (align_of (width_of k) l)
+      (if_any (codes "name") (name_of l) (if_any (codes "order") (order_of o) (typed (kind_text k)))) (flat_align (width_of k) l) in
       omega (arith, orders, names, aligns)
   json_depth (Padding n l) =
       let names = flat_if_any (codes "name") (name_of l) (member (codes "size") (whole n) (typed (codes "padding"))) (flat_name l) in
@@ -59,7 +61,8 @@ mutual
   json_depth (Sequence n e l) =
       let names = flat_if_any (codes "name") (name_of l) (typed (codes "sequence")) (flat_name l) in
       let aligns = flat_if_any (codes "align") (align_of (alignment_of e) l)
-      (member (codes "count") (whole n) (member (codes "element") (json_of e) (if_any (codes "name") (name_of l) (typed (codes "sequence"))))) (flat_align (alignment_of e) l) in
+      (member (codes "count") (whole n) (member (codes "element") (json_of e) (if_any (codes "name") (name_of l) (typed (codes "sequence")))))
+      (flat_align (alignment_of e) l) in
       omega (arith, names, aligns, json_depth e)
   json_depth (Struct ms l) = omega (arith, group_depth ms (codes "struct") l, jsons_depth ms)
   json_depth (Union ms l) = omega (arith, group_depth ms (codes "union") l, jsons_depth ms)

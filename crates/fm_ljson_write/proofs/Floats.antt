@@ -14,7 +14,8 @@ abbrev HasNone : Option Data → Type 0
 HasNone None = Unit {0}
 HasNone (Some d) = has_float d ≡ false
 
-none_if_any : (key : List ℕ) (o : Option Data) (later : Members) → HasNone o → members_have_float later ≡ false → members_have_float (if_any key o later) ≡ false
+none_if_any : (key : List ℕ) (o : Option Data) (later : Members) → HasNone o → members_have_float later ≡ false
+    → members_have_float (if_any key o later) ≡ false
 none_if_any key None later none rest = rest
 none_if_any key (Some d) later none rest = rw (none, rest) refl
 
@@ -36,10 +37,12 @@ none_order : (o : Order) → HasNone (order_of o)
 none_order Little = tt
 none_order Big = refl
 
-none_member : (key : List ℕ) (d : Data) (later : Members) → has_float d ≡ false → members_have_float later ≡ false → members_have_float (member key d later) ≡ false
+none_member : (key : List ℕ) (d : Data) (later : Members) → has_float d ≡ false → members_have_float later ≡ false
+    → members_have_float (member key d later) ≡ false
 none_member key d later none rest = rw (none, rest) refl
 
-none_group : (ms : Trees) (word : List ℕ) (l : Label) → items_have_float (all_json ms) ≡ false → members_have_float (if_any (codes "align") (align_of (greatest_alignment ms) l)
+none_group : (ms : Trees) (word : List ℕ) (l : Label) → items_have_float (all_json ms) ≡ false
+    → members_have_float (if_any (codes "align") (align_of (greatest_alignment ms) l)
     (member (codes "members") (Data.array (all_json ms)) (if_any (codes "name") (name_of l) (typed word)))) ≡ false
 none_group ms word l none =
     none_if_any (codes "align") (align_of (greatest_alignment ms) l)
@@ -50,14 +53,16 @@ none_group ms word l none =
 mutual
   pub no_float : (t : Tree) → has_float (json_of t) ≡ false
   no_float (Value k o l) =
-      none_if_any (codes "align") (align_of (width_of k) l) (if_any (codes "name") (name_of l) (if_any (codes "order") (order_of o) (typed (kind_text k)))) (none_align (width_of k) l)
+      none_if_any (codes "align") (align_of (width_of k) l) (if_any (codes "name") (name_of l) (if_any (codes "order") (order_of o) (typed (kind_text k))))
+      (none_align (width_of k) l)
       (none_if_any (codes "name") (name_of l) (if_any (codes "order") (order_of o) (typed (kind_text k))) (none_name l)
       (none_if_any (codes "order") (order_of o) (typed (kind_text k)) (none_order o) refl))
   no_float (Padding n l) =
       none_if_any (codes "name") (name_of l) (member (codes "size") (whole n) (typed (codes "padding"))) (none_name l) refl
   no_float (Sequence n e l) =
       none_if_any (codes "align") (align_of (alignment_of e) l)
-      (member (codes "count") (whole n) (member (codes "element") (json_of e) (if_any (codes "name") (name_of l) (typed (codes "sequence"))))) (none_align (alignment_of e) l)
+      (member (codes "count") (whole n) (member (codes "element") (json_of e) (if_any (codes "name") (name_of l) (typed (codes "sequence")))))
+      (none_align (alignment_of e) l)
       (none_member (codes "element") (json_of e) (if_any (codes "name") (name_of l) (typed (codes "sequence"))) (no_float e)
       (none_if_any (codes "name") (name_of l) (typed (codes "sequence")) (none_name l) refl))
   no_float (Struct ms l) = none_group ms (codes "struct") l (no_floats ms)

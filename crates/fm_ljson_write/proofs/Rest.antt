@@ -4,6 +4,7 @@ use Rattle.serde_json.specs.Data.{Data, Items, no_items, item}
 use Rattle.std.proofs.lemmas.List.{map-append}
 use Rattle.serde_json.specs.View.{items_of, view}
 use Rattle.serde_json.specs.declared.value.Value.{Value as Json}
+use Rattle.fm_layout.proofs.Groups.{greatest_positive}
 use Rattle.fm_layout.specs.Tree.{Tree, Trees, Value, Padding, Sequence, Struct, Union, NoMore, More, alignment_of}
 use Rattle.fm_layout.specs.Depth.{depth, deepest}
 use Rattle.fm_layout.specs.Parts.{count_of, element_of, member_of, tree_at}
@@ -76,10 +77,6 @@ deep_element (Union ms l) t e = cc
 
 -- ---- the greatest alignment
 
-greatest_positive : (ts : Trees) → 1 ≤ greatest_alignment ts
-greatest_positive NoMore = omega arith
-greatest_positive (More t ts) = omega (arith, greatest_positive ts)
-
 -- the greatest so far and that of what is left give the whole
 pub record IsRising (g i : ℕ) (t : Tree) : Type 0 where
   pub some : 1 ≤ g
@@ -115,7 +112,8 @@ before-none (d ∷ ds) = ap (item d) (before-none ds)
 abbrev pub IsFilling : List Data → ℕ → Tree → Type 0
 IsFilling ds i t = before ds (all_json (rest i (members_of t))) ≡ all_json (members_of t)
 
-pub filling_more : (ds : List Data) (d : Data) (i : ℕ) (t m : Tree) → IsFilling ds i t → Some m ≡ member_of i t → d ≡ json_of m → IsFilling (ds ++ d ∷ []) (i + 1) t
+pub filling_more : (ds : List Data) (d : Data) (i : ℕ) (t m : Tree) → IsFilling ds i t → Some m ≡ member_of i t → d ≡ json_of m
+    → IsFilling (ds ++ d ∷ []) (i + 1) t
 filling_more ds d i t m f e is =
     let here = ap all_json (rest_here i (members_of t) m (sym (e ∙ member_of-members i t))) in
     before-last ds d _ ∙ ap (λ x. before ds (item x (all_json (rest (i + 1) (members_of t))))) is ∙ sym (ap (before ds) here) ∙ f

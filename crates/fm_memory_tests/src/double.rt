@@ -20,6 +20,7 @@ pub struct Double<'a, H: Wait> {
     others: Others,
     heard: Vec<Heard>,
     inside: Option<ArenaId>,
+    // how many of the calls came between which the others may come
     turn: u32,
 }
 
@@ -155,9 +156,9 @@ impl<'a, H: Wait> Double<'a, H> {
         ensures sound { IsSound (double_view self.old) }
     {
         let a = self.entered();
-        let turn = self.turn;
-        self.turn = turn.wrapping_add(1);
         if let Others::Add { script, step } = self.others {
+            let turn = self.turn;
+            self.turn = turn.wrapping_add(1);
             if script.rotate_right(turn) & 1 == 1 {
                 if is_for_all(a.kind) {
                     let visitor = Caller { number: 1, term: 0 };
@@ -175,8 +176,8 @@ impl<'a, H: Wait> Double<'a, H> {
         ensures makes { Makes (double_view self.old) (double_view self.new) [] }
         ensures can { CanVisit (view_of self.new.mono) a }
     {
-        self.turn = self.turn.wrapping_add(1);
         if let Others::Close { left } = self.others {
+            self.turn = self.turn.wrapping_add(1);
             if self.turn == left {
                 if is_for_all(a.kind) {
                     let closer = Caller { number: 1, term: 0 };

@@ -56,15 +56,18 @@ is_grown old new n h e =
       count = rw (words, length-append, length-replicate) (omega arith);
     }
 
-module _ (limit : ℕ) (inside : Option ArenaId) (os : List MonoArena) (a : ArenaId) (o : MonoArena) (s : IsSoundMono limit inside os) (r : IsRead limit inside os a o) where
+module _ (limit : ℕ) (inside : Option ArenaId) (os : List MonoArena) (a : ArenaId) (o : MonoArena) (s : IsSoundMono limit inside os)
+    (r : IsRead limit inside os a o) where
   -- there is no room
-  pub no_room : (size align : ℕ) → limit < rounded_up o.given align + size → NoRoom o.given ≡ allocate_reply limit (arena_of (shown_all limit inside os) a).given size align
+  pub no_room : (size align : ℕ) → limit < rounded_up o.given align + size
+      → NoRoom o.given ≡ allocate_reply limit (arena_of (shown_all limit inside os) a).given size align
   no_room size align h =
       let no : nat_le (rounded_up o.given align + size) limit ≡ false = grind (arith, nat_tests) in
       rw (r.looked, no) refl
 
   -- the place that is given
-  pub gives_place : (size align : ℕ) → rounded_up o.given align + size ≤ limit → Given (rounded_up o.given align) ≡ allocate_reply limit (arena_of (shown_all limit inside os) a).given size align
+  pub gives_place : (size align : ℕ) → rounded_up o.given align + size ≤ limit
+      → Given (rounded_up o.given align) ≡ allocate_reply limit (arena_of (shown_all limit inside os) a).given size align
   gives_place size align h =
       let yes : nat_le (rounded_up o.given align + size) limit ≡ true = grind (arith, nat_tests) in
       rw (r.looked, yes) refl
@@ -77,14 +80,22 @@ module _ (limit : ℕ) (inside : Option ArenaId) (os : List MonoArena) (a : Aren
       omega arith
 
   -- bytes are given
-  pub allotted_shown : (end : ℕ) (o' : MonoArena) → end ≤ limit → o'.id ≡ o.id → o'.is_alive ≡ o.is_alive → o'.given ≡ end → length o.words.items ≤ words_within end
-      → IsGrown o.words.items o'.words.items (words_within end) → (shown_all limit inside (set os a.slot o') ≡ changed (shown_all limit inside os) a (given_up_to end)) × IsSoundMono limit inside (set os a.slot o')
+  pub allotted_shown : (end : ℕ) (o' : MonoArena) → end ≤ limit → o'.id ≡ o.id → o'.is_alive ≡ o.is_alive → o'.given ≡ end
+      → length o.words.items ≤ words_within end
+      → IsGrown o.words.items o'.words.items (words_within end)
+      → (shown_all limit inside (set os a.slot o') ≡ changed (shown_all limit inside os) a (given_up_to end)) × IsSoundMono limit inside (set os a.slot o')
   allotted_shown end o' f id alive given fewer grown =
       let k = words_within end - length o.words.items in
-      let w : filled (words_within limit) o'.words.items ≡ filled (words_within limit) o.words.items = rw grown.words (fill_padded (words_within limit) k o.words.items (omega arith)) in
+      let w : filled (words_within limit) o'.words.items ≡ filled (words_within limit) o.words.items =
+      rw grown.words (fill_padded (words_within limit) k o.words.items (omega arith)) in
       let e : shown limit inside o' ≡ given_up_to end (shown limit inside o) = rw (id, alive, given, r.alive, w) refl in (
-        subst (λ (x : ArenaId). shown_all limit inside (set os a.slot o') ≡ changed (shown_all limit inside os) x (given_up_to end)) r.id (change_shown limit inside (given_up_to end) 0 a.slot os o o' s.names r.place e),
-        sound_set limit inside os a.slot o o' s r.place id alive (record { given = omega arith; words = λ l. grown.count ∙ ap words_within (sym given); freed = λ l. absurd (cc (l, alive, r.alive)) }),
+        subst (λ (x : ArenaId). shown_all limit inside (set os a.slot o') ≡ changed (shown_all limit inside os) x (given_up_to end)) r.id
+            (change_shown limit inside (given_up_to end) 0 a.slot os o o' s.names r.place e),
+        sound_set limit inside os a.slot o o' s r.place id alive (record {
+          given = omega arith;
+          words = λ l. grown.count ∙ ap words_within (sym given);
+          freed = λ l. absurd (cc (l, alive, r.alive));
+        }),
       )
 
   -- the arena as it was, written back
@@ -99,17 +110,23 @@ module _ (limit : ℕ) (inside : Option ArenaId) (os : List MonoArena) (a : Aren
   same_shown o' id alive given words =
       let e : shown limit inside o' ≡ shown limit inside o = rw (id, alive, given, r.alive, words) refl in
       let f = s.fit a.slot o r.place in (
-        sound_set limit inside os a.slot o o' s r.place id alive (record { given = rw given f.given; words = λ l. rw (words, given) (f.words r.alive); freed = λ l. absurd (cc (l, alive, r.alive)) }),
+        sound_set limit inside os a.slot o o' s r.place id alive (record {
+          given = rw given f.given;
+          words = λ l. rw (words, given) (f.words r.alive);
+          freed = λ l. absurd (cc (l, alive, r.alive));
+        }),
         change_shown limit inside (λ x. x) 0 a.slot os o o' s.names r.place e ∙ changed_same (shown_all limit inside os) o.id (λ x. x) refl,
       )
 
   -- an arena whose words are given back
-  pub ended_shown : (o' : MonoArena) → inside ≡ None → o'.id ≡ o.id → o'.is_alive ≡ false → o'.given ≡ o.given → o'.past.numbers ≡ o.words.items → vec_capacity o'.words ≡ 0
+  pub ended_shown : (o' : MonoArena) → inside ≡ None → o'.id ≡ o.id → o'.is_alive ≡ false → o'.given ≡ o.given → o'.past.numbers ≡ o.words.items
+      → vec_capacity o'.words ≡ 0
       → (shown_all limit inside (set os a.slot o') ≡ changed (shown_all limit inside os) a ended) × IsSoundMono limit inside (set os a.slot o')
   ended_shown o' out id dead given past freed =
       let e : shown limit inside o' ≡ ended (shown limit inside o) = rw (id, dead, given, past, r.alive) refl in
       let f = s.fit a.slot o r.place in (
-        subst (λ (x : ArenaId). shown_all limit inside (set os a.slot o') ≡ changed (shown_all limit inside os) x ended) r.id (change_shown limit inside ended 0 a.slot os o o' s.names r.place e),
+        subst (λ (x : ArenaId). shown_all limit inside (set os a.slot o') ≡ changed (shown_all limit inside os) x ended) r.id
+            (change_shown limit inside ended 0 a.slot os o o' s.names r.place e),
         record {
           small = s.small;
           few = rw length-set s.few;

@@ -15,7 +15,8 @@ pub sound_of : (m : Arenas) → m.limit ≤ 2 ^ 40 → IsSound (view_of m)
 sound_of m h = record { limit = h; told = tt }
 
 -- one entry, legal where the arenas stood
-pub makes_one : (m n : Arenas) (call : Call) (reply : Reply) → MayCall m.state only_caller call → reply ≡ reply_to m.limit m.state call → n.state ≡ state_by m.limit m.state only_caller call reply
+pub makes_one : (m n : Arenas) (call : Call) (reply : Reply) → MayCall m.state only_caller call → reply ≡ reply_to m.limit m.state call
+    → n.state ≡ state_by m.limit m.state only_caller call reply
     → n.inside ≡ inside_next m.inside call reply → n.limit ≡ m.limit → Makes (view_of m) (view_of n) (entry_of only_caller call reply ∷ [])
 makes_one m n call reply may is state inside limit = record {
   all = entry_of only_caller call reply ∷ [];
@@ -31,8 +32,10 @@ makes_one m n call reply may is state inside limit = record {
 }
 
 -- one act inside an arena
-pub did_act : (m n : Arenas) (a : ArenaId) (f : ArenaId → Call) (reply : Reply) → m.inside ≡ Some a → MayCall m.state only_caller (f a) → reply ≡ reply_to m.limit m.state (f a)
-    → n.state ≡ state_by m.limit m.state only_caller (f a) reply → n.inside ≡ inside_next (Some a) (f a) reply → n.limit ≡ m.limit → Did (view_of m) (view_of n) (DoesAct m.inside only_caller f reply)
+pub did_act : (m n : Arenas) (a : ArenaId) (f : ArenaId → Call) (reply : Reply) → m.inside ≡ Some a → MayCall m.state only_caller (f a)
+    → reply ≡ reply_to m.limit m.state (f a)
+    → n.state ≡ state_by m.limit m.state only_caller (f a) reply → n.inside ≡ inside_next (Some a) (f a) reply → n.limit ≡ m.limit
+    → Did (view_of m) (view_of n) (DoesAct m.inside only_caller f reply)
 did_act m n a f reply i may is state inside limit = record {
   own = entry_of only_caller (f a) reply ∷ [];
   does = rw i refl;
@@ -52,7 +55,8 @@ swaps_not s id word old new found h =
     sym (swapped_miss s id word old new found t)
 
 -- the word that was found, at the arena that was entered
-pub found_at : (m : Arenas) (word found : ℕ) (id : ArenaId) → m.inside ≡ Some id → Finds m word found → MayReach m.state only_caller id word × (found ≡ word_in m.state id word)
+pub found_at : (m : Arenas) (word found : ℕ) (id : ArenaId) → m.inside ≡ Some id → Finds m word found
+    → MayReach m.state only_caller id word × (found ≡ word_in m.state id word)
 found_at m word found id i f =
     let same : f.id ≡ id = cc in
     subst (λ (a : ArenaId). MayReach m.state only_caller a word × (found ≡ word_in m.state a word)) same (f.reach, f.is)

@@ -11,18 +11,22 @@ use Rattle.fm_mono.proofs.Alone.{makes_one}
 use Rattle.fm_mono.proofs.Showing.{seen_of}
 use Rattle.fm_base.proofs.Names.{same_id-slot}
 
-pub shown_push : (limit : ℕ) (i : Option ArenaId) (os : List MonoArena) (o : MonoArena) → shown_all limit i (os ++ o ∷ []) ≡ shown_all limit i os ++ shown limit i o ∷ []
+pub shown_push : (limit : ℕ) (i : Option ArenaId) (os : List MonoArena) (o : MonoArena)
+    → shown_all limit i (os ++ o ∷ []) ≡ shown_all limit i os ++ shown limit i o ∷ []
 shown_push limit i [] o = refl
 shown_push limit i (p ∷ os) o = ap (λ (s : State). shown limit i p ∷ s) (shown_push limit i os o)
 
-pub CountFrom-push : (n : ℕ) (os : List MonoArena) (o : MonoArena) → CountFrom n os → o.id.slot ≡ n + length os → owner_of o.id ≡ only_caller → CountFrom n (os ++ o ∷ [])
+pub CountFrom-push : (n : ℕ) (os : List MonoArena) (o : MonoArena) → CountFrom n os → o.id.slot ≡ n + length os → owner_of o.id ≡ only_caller
+    → CountFrom n (os ++ o ∷ [])
 CountFrom-push n [] o c s w = (omega arith, w, tt)
 CountFrom-push n (p ∷ os) o c s w = (c.0, c.1, CountFrom-push (n + 1) os o c.2 (omega arith) w)
 
-pub has_none : (limit : ℕ) (i : Option ArenaId) (n : ℕ) (os : List MonoArena) (a : ArenaId) → CountFrom n os → n + length os ≤ a.slot → has_arena (shown_all limit i os) a ≡ false
+pub has_none : (limit : ℕ) (i : Option ArenaId) (n : ℕ) (os : List MonoArena) (a : ArenaId) → CountFrom n os → n + length os ≤ a.slot
+    → has_arena (shown_all limit i os) a ≡ false
 has_none limit i n [] a c h = refl
 has_none limit i n (p ∷ os) a c h =
-    ap (λ b. if b then true else has_arena (shown_all limit i os) a) (same_id-slot p.id a (let e = c.0 in omega arith)) ∙ has_none limit i (n + 1) os a c.2 (omega arith)
+    ap (λ b. if b then true else has_arena (shown_all limit i os) a) (same_id-slot p.id a (let e = c.0 in omega arith))
+    ∙ has_none limit i (n + 1) os a c.2 (omega arith)
 
 push_cases : {X : Type 0} (xs : List X) (x : X) (i : ℕ) (p : X) → slice_get (xs ++ x ∷ []) i ≡ Some p → (p ≡ x) ⊎ (slice_get xs i ≡ Some p)
 push_cases [] x zero p h = inl (cc)
@@ -30,7 +34,8 @@ push_cases [] x (suc i) p h = absurd (cc)
 push_cases (y ∷ ys) x zero p h = inr h
 push_cases (y ∷ ys) x (suc i) p h = push_cases ys x i p h
 
-pub sound_push : (limit : ℕ) (inside : Option ArenaId) (os : List MonoArena) (o : MonoArena) → IsSoundMono limit inside os → inside ≡ None → o.id.slot ≡ length os → owner_of o.id ≡ only_caller → FitsIn limit o
+pub sound_push : (limit : ℕ) (inside : Option ArenaId) (os : List MonoArena) (o : MonoArena) → IsSoundMono limit inside os → inside ≡ None
+    → o.id.slot ≡ length os → owner_of o.id ≡ only_caller → FitsIn limit o
     → length os < most_arenas → IsSoundMono limit inside (os ++ o ∷ [])
 sound_push limit inside os o s out slot owner fit few = record {
   small = s.small;
@@ -59,5 +64,6 @@ pub opens : (limit : ℕ) (inside : Option ArenaId) (os os' : List MonoArena) (o
 opens limit inside os os' o s out e alive given words slot owner =
     let fresh = has_none limit inside 0 os o.id s.names (omega arith) in
     let state : shown_all limit inside os' ≡ shown_all limit inside os ++ opened limit o.id ∷ [] =
-    ap (λ (x : List MonoArena). shown_all limit inside x) e ∙ (shown_push limit inside os o ∙ ap (λ (a : Arena). shown_all limit inside os ++ a ∷ []) (shown_fresh limit inside o out alive given words)) in
+    ap (λ (x : List MonoArena). shown_all limit inside x) e
+    ∙ (shown_push limit inside os o ∙ ap (λ (a : Arena). shown_all limit inside os ++ a ∷ []) (shown_fresh limit inside o out alive given words)) in
     makes_one (seen_of limit inside os) (seen_of limit inside os') (Open o.id) Fine (fresh, owner) refl state refl refl

@@ -53,7 +53,8 @@ place_of limit i n (p ∷ os) a c h =
     go (same_id p.id a) refl h
 
 -- a change of the arena at a place
-pub change_shown : (limit : ℕ) (i : Option ArenaId) (f : Arena → Arena) (n k : ℕ) (os : List MonoArena) (o o' : MonoArena) → CountFrom n os → slice_get os k ≡ Some o
+pub change_shown : (limit : ℕ) (i : Option ArenaId) (f : Arena → Arena) (n k : ℕ) (os : List MonoArena) (o o' : MonoArena) → CountFrom n os
+    → slice_get os k ≡ Some o
     → shown limit i o' ≡ f (shown limit i o) → shown_all limit i (set os k o') ≡ changed (shown_all limit i os) o.id f
 change_shown limit i f n k [] o o' c h e = absurd (cc)
 change_shown limit i f n zero (p ∷ os) o o' c h e =
@@ -72,7 +73,10 @@ CountFrom-set n (suc k) (p ∷ os) o o' c h e = (c.0, c.1, CountFrom-set (n + 1)
 pub nobody : (limit : ℕ) (os : List MonoArena) (a : ArenaId) → (arena_of (shown_all limit None os) a).under_way ≡ []
 nobody limit [] a = refl
 nobody limit (p ∷ os) a =
-    elim (same_id p.id a) as (λ b. (if b then shown limit None p else arena_of (shown_all limit None os) a).under_way ≡ []) [ true ↦ refl | false ↦ nobody limit os a ]
+    elim (same_id p.id a) as (λ b. (if b then shown limit None p else arena_of (shown_all limit None os) a).under_way ≡ []) [
+      | true ↦ refl
+      | false ↦ nobody limit os a
+    ]
 
 -- those behind are not the arena that is entered
 behind : (limit : ℕ) (n : ℕ) (os : List MonoArena) (a : ArenaId) → CountFrom n os → a.slot < n → shown_all limit (Some a) os ≡ shown_all limit None os

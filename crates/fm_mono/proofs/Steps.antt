@@ -20,7 +20,8 @@ pub record AtWord (limit : ℕ) (inside : Option ArenaId) (os : List MonoArena) 
   pub place : slice_get os a.slot ≡ Some o
   pub looked : arena_of (shown_all limit inside os) a ≡ shown limit inside o
 
-pub at_word : (limit : ℕ) (inside : Option ArenaId) (os : List MonoArena) (a : ArenaId) (word : ℕ) (o : MonoArena) → IsSoundMono limit inside os → inside ≡ Some a
+pub at_word : (limit : ℕ) (inside : Option ArenaId) (os : List MonoArena) (a : ArenaId) (word : ℕ) (o : MonoArena) → IsSoundMono limit inside os
+    → inside ≡ Some a
     → 8 * word < (arena_of (shown_all limit inside os) a).given → o ≡ get_or os a.slot o → AtWord limit inside os a word o
 at_word limit inside os a word o s i g r =
     let t : IsThere (Some a) os = rw i at s.there in
@@ -28,14 +29,16 @@ at_word limit inside os a word o s i g r =
     let h : slice_get os a.slot ≡ Some o = t.1 ∙ ap Some same in
     let id : o.id ≡ a = rw same at t.2 in
     let alive : o.is_alive ≡ true = rw same at t.3 in
-    let looked : arena_of (shown_all limit inside os) a ≡ shown limit inside o = ap (λ x. arena_of (shown_all limit inside os) x) (sym id) ∙ lookup_shown limit inside 0 a.slot os o s.names h in
+    let looked : arena_of (shown_all limit inside os) a ≡ shown limit inside o = ap (λ x. arena_of (shown_all limit inside os) x) (sym id)
+    ∙ lookup_shown limit inside 0 a.slot os o s.names h in
     let given : 8 * word < o.given = rw looked at g in
     let fit = s.fit a.slot o h in
     let words = fit.words alive in
     record { id = id; alive = alive; place = h; within = omega arith; looked = looked }
 
 -- the words of an arena that is alive
-pub words_shown : (limit : ℕ) (inside : Option ArenaId) (o : MonoArena) → o.is_alive ≡ true → (shown limit inside o).words ≡ filled (words_within limit) o.words.items
+pub words_shown : (limit : ℕ) (inside : Option ArenaId) (o : MonoArena) → o.is_alive ≡ true
+    → (shown limit inside o).words ≡ filled (words_within limit) o.words.items
 words_shown limit inside o h = rw h refl
 
 pub word_shown : (limit : ℕ) (inside : Option ArenaId) (os : List MonoArena) (a : ArenaId) (word : ℕ) (o : MonoArena) → AtWord limit inside os a word o
@@ -54,9 +57,15 @@ pub is_acted : (limit : ℕ) (inside : Option ArenaId) (current : ℕ) (os : Lis
     → CanReach (view_of (seen_of limit inside os)) word → o ≡ get_or os current o → IsActed limit inside current os word o
 is_acted limit inside current os word o k r e =
     let place : current ≡ r.id.slot = rw r.inside at k.place in
-    record { id = r.id; inside_is = r.inside; is_current = place; at = at_word limit inside os r.id word o k.arenas r.inside r.given (e ∙ ap (λ n. get_or os n o) place) }
+    record {
+      id = r.id;
+      inside_is = r.inside;
+      is_current = place;
+      at = at_word limit inside os r.id word o k.arenas r.inside r.given (e ∙ ap (λ n. get_or os n o) place);
+    }
 
-pub reach_shown : (limit : ℕ) (inside : Option ArenaId) (os : List MonoArena) (a : ArenaId) (word : ℕ) (o : MonoArena) → inside ≡ Some a → AtWord limit inside os a word o
+pub reach_shown : (limit : ℕ) (inside : Option ArenaId) (os : List MonoArena) (a : ArenaId) (word : ℕ) (o : MonoArena) → inside ≡ Some a
+    → AtWord limit inside os a word o
     → MayReach (shown_all limit inside os) only_caller a word
 reach_shown limit inside os a word o i w = record {
   under_way = rw (w.looked, w.id, i, same_id-self a) (0, omega arith, refl);
@@ -64,14 +73,16 @@ reach_shown limit inside os a word o i w = record {
 }
 
 -- a write of the word
-pub put_shown : (limit : ℕ) (inside : Option ArenaId) (os : List MonoArena) (a : ArenaId) (word v : ℕ) (o o' : MonoArena) → IsSoundMono limit inside os → AtWord limit inside os a word o
+pub put_shown : (limit : ℕ) (inside : Option ArenaId) (os : List MonoArena) (a : ArenaId) (word v : ℕ) (o o' : MonoArena) → IsSoundMono limit inside os
+    → AtWord limit inside os a word o
     → o'.id ≡ o.id → o'.is_alive ≡ o.is_alive → o'.given ≡ o.given → o'.words.items ≡ set o.words.items word v
     → shown_all limit inside (set os a.slot o') ≡ changed (shown_all limit inside os) a (written word v)
 put_shown limit inside os a word v o o' s w id alive given words =
     let n = words_within limit in
     let fills : filled n o'.words.items ≡ set (filled n o.words.items) word v = rw (words, length-set, set-append_left o.words.items _ word v w.within) refl in
     let e : shown limit inside o' ≡ written word v (shown limit inside o) = rw (id, alive, given, w.alive, fills) refl in
-    subst (λ (x : ArenaId). shown_all limit inside (set os a.slot o') ≡ changed (shown_all limit inside os) x (written word v)) w.id (change_shown limit inside (written word v) 0 a.slot os o o' s.names w.place e)
+    subst (λ (x : ArenaId). shown_all limit inside (set os a.slot o') ≡ changed (shown_all limit inside os) x (written word v)) w.id
+    (change_shown limit inside (written word v) 0 a.slot os o o' s.names w.place e)
 
 -- an element after a write
 set_cases : {X : Type 0} (xs : List X) (k i : ℕ) (x p : X) → slice_get (set xs k x) i ≡ Some p → (p ≡ x) ⊎ (slice_get xs i ≡ Some p)
@@ -81,19 +92,22 @@ set_cases (y ∷ ys) zero (suc i) x p h = inr h
 set_cases (y ∷ ys) (suc k) zero x p h = inr h
 set_cases (y ∷ ys) (suc k) (suc i) x p h = set_cases ys k i x p h
 
-pub fit_set : (limit : ℕ) (os : List MonoArena) (k : ℕ) (o' : MonoArena) → FitsIn limit o' → ((i : ℕ) (o : MonoArena) → slice_get os i ≡ Some o → FitsIn limit o)
+pub fit_set : (limit : ℕ) (os : List MonoArena) (k : ℕ) (o' : MonoArena) → FitsIn limit o'
+    → ((i : ℕ) (o : MonoArena) → slice_get os i ≡ Some o → FitsIn limit o)
     → (i : ℕ) (p : MonoArena) → slice_get (set os k o') i ≡ Some p → FitsIn limit p
 fit_set limit os k o' fit all i p h = elim (set_cases os k i o' p h) [ inl e ↦ subst (λ x. FitsIn limit x) (sym e) fit | inr e ↦ all i p e ]
 
 -- an arena that is looked for after a write
-set_there : {X : Type 0} (xs : List X) (k i : ℕ) (o x p : X) → slice_get xs k ≡ Some o → slice_get xs i ≡ Some p → ((slice_get (set xs k x) i ≡ Some x) × (p ≡ o)) ⊎ (slice_get (set xs k x) i ≡ Some p)
+set_there : {X : Type 0} (xs : List X) (k i : ℕ) (o x p : X) → slice_get xs k ≡ Some o → slice_get xs i ≡ Some p
+    → ((slice_get (set xs k x) i ≡ Some x) × (p ≡ o)) ⊎ (slice_get (set xs k x) i ≡ Some p)
 set_there [] k i o x p h g = absurd (cc)
 set_there (y ∷ ys) zero zero o x p h g = inl (refl, cc)
 set_there (y ∷ ys) zero (suc i) o x p h g = inr g
 set_there (y ∷ ys) (suc k) zero o x p h g = inr g
 set_there (y ∷ ys) (suc k) (suc i) o x p h g = set_there ys k i o x p h g
 
-there_set : (inside : Option ArenaId) (os : List MonoArena) (k : ℕ) (o o' : MonoArena) → slice_get os k ≡ Some o → o'.id ≡ o.id → o'.is_alive ≡ o.is_alive → IsThere inside os → IsThere inside (set os k o')
+there_set : (inside : Option ArenaId) (os : List MonoArena) (k : ℕ) (o o' : MonoArena) → slice_get os k ≡ Some o → o'.id ≡ o.id → o'.is_alive ≡ o.is_alive
+    → IsThere inside os → IsThere inside (set os k o')
 there_set None os k o o' h id alive t = tt
 there_set (Some a) os k o o' h id alive t = elim (set_there os k a.slot o o' t.0 h t.1) [
   | inl e ↦ (o', e.0, id ∙ (ap (λ (x : MonoArena). x.id) (sym e.1) ∙ t.2), alive ∙ (ap (λ (x : MonoArena). x.is_alive) (sym e.1) ∙ t.3))
@@ -112,15 +126,23 @@ sound_set limit inside os k o o' s h id alive fit = record {
 }
 
 -- a word is put in the arena that was entered
-pub put_kept : (limit : ℕ) (inside : Option ArenaId) (current : ℕ) (os : List MonoArena) (word v : ℕ) (o o' : MonoArena) → IsKept limit inside current os → (h : IsActed limit inside current os word o)
+pub put_kept : (limit : ℕ) (inside : Option ArenaId) (current : ℕ) (os : List MonoArena) (word v : ℕ) (o o' : MonoArena) → IsKept limit inside current os
+    → (h : IsActed limit inside current os word o)
     → o'.id ≡ o.id → o'.is_alive ≡ o.is_alive → o'.given ≡ o.given → o'.words.items ≡ set o.words.items word v
     → (shown_all limit inside (set os current o') ≡ changed (shown_all limit inside os) h.id (written word v)) × IsKept limit inside current (set os current o')
 put_kept limit inside current os word v o o' k h id alive given words =
     let f = k.arenas.fit h.id.slot o h.at.place in
     let same : length o'.words.items ≡ length o.words.items = ap length words ∙ length-set o.words.items word v in
-    let fit : FitsIn limit o' = record { given = rw given f.given; words = λ l. same ∙ f.words h.at.alive ∙ ap words_within (sym given); freed = λ l. absurd (cc (l, alive, h.at.alive)) } in
+    let fit : FitsIn limit o' = record {
+      given = rw given f.given;
+      words = λ l. same ∙ f.words h.at.alive ∙ ap words_within (sym given);
+      freed = λ l. absurd (cc (l, alive, h.at.alive));
+    } in
     let kept : IsSoundMono limit inside (set os h.id.slot o') = sound_set limit inside os h.id.slot o o' k.arenas h.at.place id alive fit in
-    rw h.is_current (put_shown limit inside os h.id word v o o' k.arenas h.at id alive given words, record { arenas = kept; place = rw (← h.is_current) k.place })
+    rw h.is_current (
+      put_shown limit inside os h.id word v o o' k.arenas h.at id alive given words,
+      record { arenas = kept; place = rw (← h.is_current) k.place },
+    )
 
 -- the place of an arena that is known
 pub record IsPlaced (limit : ℕ) (inside : Option ArenaId) (os : List MonoArena) (a : ArenaId) : Type 0 where
@@ -131,7 +153,8 @@ pub record IsPlaced (limit : ℕ) (inside : Option ArenaId) (os : List MonoArena
   pub owner : owner_of a ≡ only_caller
   pub looked : arena_of (shown_all limit inside os) a ≡ shown limit inside arena
 
-pub placed : (limit : ℕ) (inside : Option ArenaId) (os : List MonoArena) (a : ArenaId) → CountFrom 0 os → has_arena (shown_all limit inside os) a ≡ true → IsPlaced limit inside os a
+pub placed : (limit : ℕ) (inside : Option ArenaId) (os : List MonoArena) (a : ArenaId) → CountFrom 0 os → has_arena (shown_all limit inside os) a ≡ true
+    → IsPlaced limit inside os a
 placed limit inside os a c h =
     let p = place_of limit inside 0 os a c h in
     let k : p.0 ≡ a.slot = (let e = p.2 in omega arith) in
@@ -152,24 +175,29 @@ pub life_true : (b : Bool) → (if b then Alive else Ended) ≡ Alive → b ≡ 
 life_true true e = refl
 life_true false e = absurd (cc)
 
-pub enters_shown : (limit : ℕ) (inside : Option ArenaId) (os : List MonoArena) (a : ArenaId) → CountFrom 0 os → inside ≡ None → has_arena (shown_all limit inside os) a ≡ true
+pub enters_shown : (limit : ℕ) (inside : Option ArenaId) (os : List MonoArena) (a : ArenaId) → CountFrom 0 os → inside ≡ None
+    → has_arena (shown_all limit inside os) a ≡ true
     → (arena_of (shown_all limit inside os) a).life ≡ Alive
     → (shown_all limit (Some a) os ≡ changed (shown_all limit inside os) a (entered only_caller)) × IsThere (Some a) os
 enters_shown limit inside os a c out h l =
     let p = placed limit inside os a c h in
     let alive : p.arena.is_alive ≡ true = life_true p.arena.is_alive (sym (ap (λ (x : Arena). x.life) p.looked) ∙ l) in (
-      rw out (subst (λ (x : ArenaId). shown_all limit (Some x) os ≡ changed (shown_all limit None os) x (entered only_caller)) p.id (enter_shown limit 0 a.slot os p.arena c p.place alive)),
+      rw out (subst (λ (x : ArenaId). shown_all limit (Some x) os ≡ changed (shown_all limit None os) x (entered only_caller)) p.id
+          (enter_shown limit 0 a.slot os p.arena c p.place alive)),
       (p.arena, p.place, p.id, alive),
     )
 
 -- the arena that was entered is left
-pub goes_out : (limit : ℕ) (inside : Option ArenaId) (os : List MonoArena) → IsSoundMono limit inside os → IsSome inside → GoesOut (seen_of limit inside os) (seen_of limit None os)
+pub goes_out : (limit : ℕ) (inside : Option ArenaId) (os : List MonoArena) → IsSoundMono limit inside os → IsSome inside
+    → GoesOut (seen_of limit inside os) (seen_of limit None os)
 goes_out limit None os s is = absurd (cc)
 goes_out limit (Some a) os s is =
     let u = s.there in
-    let looked : arena_of (shown_all limit (Some a) os) a ≡ shown limit (Some a) u.0 = ap (λ x. arena_of (shown_all limit (Some a) os) x) (sym u.2) ∙ lookup_shown limit (Some a) 0 a.slot os u.0 s.names u.1 in
+    let looked : arena_of (shown_all limit (Some a) os) a ≡ shown limit (Some a) u.0 = ap (λ x. arena_of (shown_all limit (Some a) os) x) (sym u.2)
+    ∙ lookup_shown limit (Some a) 0 a.slot os u.0 s.names u.1 in
     let left_is : shown_all limit None os ≡ changed (shown_all limit (Some a) os) a (left only_caller) =
-    subst (λ (x : ArenaId). shown_all limit None os ≡ changed (shown_all limit (Some x) os) x (left only_caller)) u.2 (leave_shown limit 0 a.slot os u.0 s.names u.1) in
+    subst (λ (x : ArenaId). shown_all limit None os ≡ changed (shown_all limit (Some x) os) x (left only_caller)) u.2
+    (leave_shown limit 0 a.slot os u.0 s.names u.1) in
     record {
       id = a;
       inside = refl;
@@ -178,7 +206,8 @@ goes_out limit (Some a) os s is =
       small = s.small;
     }
 
-pub nobody_shown : (limit : ℕ) (inside : Option ArenaId) (os : List MonoArena) → inside ≡ None → (other : ArenaId) → ¬ (IsUnderWay (shown_all limit inside os) only_caller other)
+pub nobody_shown : (limit : ℕ) (inside : Option ArenaId) (os : List MonoArena) → inside ≡ None → (other : ArenaId)
+    → ¬ (IsUnderWay (shown_all limit inside os) only_caller other)
 nobody_shown limit inside os out other u =
     let e : (arena_of (shown_all limit inside os) other).under_way ≡ [] = rw out (nobody limit os other) in
     let n : length (arena_of (shown_all limit inside os) other).under_way ≡ 0 = rw e refl in

@@ -64,7 +64,8 @@ module _ (m : Arenas) (a : ArenaId) (c : CanEnter m a) (alive : (arena_of m.stat
 
   -- a visit whose Allocate gave a place
   pub visit_given : (n : Arenas) (size align place : ℕ) → IsPower align → Given place ≡ reply_to m.limit m.state (Allocate a size align)
-      → n ≡ record m { state = changed m.state a (given_up_to (place + size)) } → Makes (view_of m) (view_of n) (visit only_caller a ((Allocate a size align, Given place) ∷ []))
+      → n ≡ record m { state = changed m.state a (given_up_to (place + size)) }
+      → Makes (view_of m) (view_of n) (visit only_caller a ((Allocate a size align, Given place) ∷ []))
   visit_given n size align place power is e =
       let f = given_up_to (place + size) in
       let named : KeepsName f = λ x. refl in
@@ -73,22 +74,27 @@ module _ (m : Arenas) (a : ArenaId) (c : CanEnter m a) (alive : (arena_of m.stat
       let has1 : has_arena s1 a ≡ true = changed_has (entered only_caller) entered_named m.state a a ∙ c.known in
       let look2 : arena_of s2 a ≡ f (arena_of s1 a) = lookup_changed s1 a f named has1 in
       let way2 : IsUnderWay s2 only_caller a = rw (look2, looked_in) (0, omega arith, refl) in
-      let same : Given place ≡ allocate_reply m.limit (arena_of s1 a).given size align = is ∙ ap (λ (x : Arena). allocate_reply m.limit x.given size align) (sym looked_in) in
+      let same : Given place ≡ allocate_reply m.limit (arena_of s1 a).given size align = is
+      ∙ ap (λ (x : Arena). allocate_reply m.limit x.given size align) (sym looked_in) in
       let e2 = makes_one m1 m2 (Allocate a size align) (Given place) (way_in, power) same refl refl refl in
       let joined : changed m.state a f ≡ changed s2 a (left only_caller) =
       sym (changed_alike m.state a (λ x. left only_caller (f (entered only_caller x))) f (around_given (place + size) (arena_of m.state a) c.empty))
-      ∙ (sym (changed_twice m.state a (entered only_caller) (λ x. left only_caller (f x)) entered_named) ∙ sym (changed_twice s1 a f (left only_caller) named)) in
-      let e3 = makes_one m2 n (Leave a) Fine way2 refl (ap (λ (x : Arenas). x.state) e ∙ joined) (ap (λ (x : Arenas). x.inside) e ∙ c.outside) (ap (λ (x : Arenas). x.limit) e) in
+      ∙ (sym (changed_twice m.state a (entered only_caller) (λ x. left only_caller (f x)) entered_named)
+      ∙ sym (changed_twice s1 a f (left only_caller) named)) in
+      let e3 = makes_one m2 n (Leave a) Fine way2 refl (ap (λ (x : Arenas). x.state) e ∙ joined) (ap (λ (x : Arenas). x.inside) e
+      ∙ c.outside) (ap (λ (x : Arenas). x.limit) e) in
       Makes-then (view_of m) (view_of m2) (view_of n) _ _ (Makes-then (view_of m) (view_of m1) (view_of m2) _ _ came_in e2) e3
 
   -- a visit whose Allocate found no room
   pub visit_full : (size align given : ℕ) → IsPower align → NoRoom given ≡ reply_to m.limit m.state (Allocate a size align)
       → Makes (view_of m) (view_of m) (visit only_caller a ((Allocate a size align, NoRoom given) ∷ []))
   visit_full size align given power is =
-      let same : NoRoom given ≡ allocate_reply m.limit (arena_of s1 a).given size align = is ∙ ap (λ (x : Arena). allocate_reply m.limit x.given size align) (sym looked_in) in
+      let same : NoRoom given ≡ allocate_reply m.limit (arena_of s1 a).given size align = is
+      ∙ ap (λ (x : Arena). allocate_reply m.limit x.given size align) (sym looked_in) in
       let e2 = makes_one m1 m1 (Allocate a size align) (NoRoom given) (way_in, power) same refl refl refl in
       let joined : m.state ≡ changed s1 a (left only_caller) =
-      sym (changed_same m.state a (λ x. left only_caller (entered only_caller x)) (around_none (arena_of m.state a) c.empty)) ∙ sym (changed_twice m.state a (entered only_caller) (left only_caller) entered_named) in
+      sym (changed_same m.state a (λ x. left only_caller (entered only_caller x)) (around_none (arena_of m.state a) c.empty))
+      ∙ sym (changed_twice m.state a (entered only_caller) (left only_caller) entered_named) in
       let e3 = makes_one m1 m (Leave a) Fine way_in refl joined c.outside refl in
       Makes-then (view_of m) (view_of m1) (view_of m) _ _ (Makes-then (view_of m) (view_of m1) (view_of m1) _ _ came_in e2) e3
 
@@ -109,16 +115,19 @@ module _ (m : Arenas) (a : ArenaId) (c : CanEnter m a) (alive : (arena_of m.stat
   allocates n size align (Err r) power h = absurd h
 
 -- bytes that an `allocate` gave
-pub allocates_gives : (m n : Arenas) (a : ArenaId) (c : CanEnter m a) (alive : (arena_of m.state a).life ≡ Alive) (size align : ℕ) (r : Result ℕ Refusal) → IsPower align → Allots m a size align r n
+pub allocates_gives : (m n : Arenas) (a : ArenaId) (c : CanEnter m a) (alive : (arena_of m.state a).life ≡ Alive) (size align : ℕ) (r : Result ℕ Refusal)
+    → IsPower align → Allots m a size align r n
     → IfOk r (λ place. Gives (view_of m) (view_of n) a size align place)
-allocates_gives m n a c alive size align (Ok place) power h = allocated_gives (view_of m) (view_of n) _ only_caller a size align place (visit_given m a c alive n size align place power h.0 h.1) (inr (inl refl))
+allocates_gives m n a c alive size align (Ok place) power h =
+    allocated_gives (view_of m) (view_of n) _ only_caller a size align place (visit_given m a c alive n size align place power h.0 h.1) (inr (inl refl))
 allocates_gives m n a c alive size align (Err r) power h = tt
 
 -- ---- close
 
 -- Shut and End of an arena that is alive, where nobody is and nothing holds it
 pub closes : (m n : Arenas) (a : ArenaId) → CanEnter m a → ¬ (a.kind ≡ Global) → (arena_of m.state a).life ≡ Alive → (arena_of m.state a).holds ≡ 0
-    → n ≡ record m { state = changed m.state a ended } → Makes (view_of m) (view_of n) (entry_of only_caller (Shut a) Fine ∷ entry_of only_caller (End a) Fine ∷ [])
+    → n ≡ record m { state = changed m.state a ended }
+    → Makes (view_of m) (view_of n) (entry_of only_caller (Shut a) Fine ∷ entry_of only_caller (End a) Fine ∷ [])
 closes m n a c kind alive holds e =
     let s1 = changed m.state a closing in
     let m1 : Arenas = record { limit = m.limit; state = s1; inside = m.inside } in
@@ -127,9 +136,11 @@ closes m n a c kind alive holds e =
     let life1 : (arena_of s1 a).life ≡ Closing = ap (λ (x : Arena). x.life) look1 in
     let way1 : (arena_of s1 a).under_way ≡ [] = ap (λ (x : Arena). x.under_way) look1 ∙ c.empty in
     let e1 = makes_one m m1 (Shut a) Fine (c.known, c.may, kind) (rw (alive, holds) refl) refl refl refl in
-    let e2 = makes_one m1 n (End a) Fine (life1, way1) refl (ap (λ (x : Arenas). x.state) e ∙ sym (changed_twice m.state a closing ended named)) (ap (λ (x : Arenas). x.inside) e) (ap (λ (x : Arenas). x.limit) e) in
+    let e2 = makes_one m1 n (End a) Fine (life1, way1) refl (ap (λ (x : Arenas). x.state) e
+    ∙ sym (changed_twice m.state a closing ended named)) (ap (λ (x : Arenas). x.inside) e) (ap (λ (x : Arenas). x.limit) e) in
     Makes-then (view_of m) (view_of m1) (view_of n) _ _ e1 e2
 
 -- a Shut of an arena that has ended
-pub shut_closed : (m : Arenas) (a : ArenaId) → CanEnter m a → ¬ (a.kind ≡ Global) → (arena_of m.state a).life ≡ Ended → Makes (view_of m) (view_of m) (entry_of only_caller (Shut a) Closed ∷ [])
+pub shut_closed : (m : Arenas) (a : ArenaId) → CanEnter m a → ¬ (a.kind ≡ Global) → (arena_of m.state a).life ≡ Ended
+    → Makes (view_of m) (view_of m) (entry_of only_caller (Shut a) Closed ∷ [])
 shut_closed m a c kind over = makes_one m m (Shut a) Closed (c.known, c.may, kind) (rw over refl) refl refl refl

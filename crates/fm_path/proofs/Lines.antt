@@ -23,7 +23,8 @@ shown_path (EachFrom f s ∷ ps) = refl
 -- one more dim
 dims_snoc : (dims : List (ℕ × ℕ)) (stride bound : ℕ) → dims_text (dims ++ (stride, bound) ∷ []) ≡ longer_dims (dims_text dims) stride bound
 dims_snoc [] stride bound = append-nil (dim_text stride bound)
-dims_snoc (d ∷ ds) stride bound = ap (λ x. dim_text d.0 d.1 ++ x) (dims_snoc ds stride bound) ∙ sym (append_assoc (dim_text d.0 d.1) (dims_text ds) (dim_text stride bound))
+dims_snoc (d ∷ ds) stride bound = ap (λ x. dim_text d.0 d.1 ++ x) (dims_snoc ds stride bound)
+    ∙ sym (append_assoc (dim_text d.0 d.1) (dims_text ds) (dim_text stride bound))
 
 -- the text of two lists of lines
 lines_text_append : (xs ys : List Line) → lines_text (xs ++ ys) ≡ lines_text xs ++ lines_text ys
@@ -32,8 +33,10 @@ lines_text_append (x ∷ xs) ys = ap (λ t. line_text x ++ t) (lines_text_append
 
 mutual
   -- the text of a layout's lines
-  pub lines_listed : (t : Tree) (path : List PathStep) (at : ℕ) (dims : List (ℕ × ℕ)) → lines_text (lines path at dims t) ≡ listed (pieces_of path) at (dims_text dims) t
-  lines_listed (Value k o l) path at dims = append-nil (value_text (path_text path) at k o (dims_text dims)) ∙ ap (λ p. value_text p at k o (dims_text dims)) (shown_path path)
+  pub lines_listed : (t : Tree) (path : List PathStep) (at : ℕ) (dims : List (ℕ × ℕ))
+      → lines_text (lines path at dims t) ≡ listed (pieces_of path) at (dims_text dims) t
+  lines_listed (Value k o l) path at dims = append-nil (value_text (path_text path) at k o (dims_text dims))
+      ∙ ap (λ p. value_text p at k o (dims_text dims)) (shown_path path)
   lines_listed (Padding n l) path at dims = refl
   lines_listed (Sequence n e l) path at dims =
       lines_listed e (path ++ Each ∷ []) at (dims ++ (size_of e, n) ∷ [])
@@ -43,10 +46,13 @@ mutual
   lines_listed (Union ms l) path at dims = members_listed ms path at dims (Union ms l) 0
 
   -- the same of the members of a group
-  members_listed : (ts : Trees) (path : List PathStep) (at : ℕ) (dims : List (ℕ × ℕ)) (group : Tree) (i : ℕ) → lines_text (member_lines path at dims group i ts) ≡ listed_members (pieces_of path) at (dims_text dims) group i ts
+  members_listed : (ts : Trees) (path : List PathStep) (at : ℕ) (dims : List (ℕ × ℕ)) (group : Tree) (i : ℕ)
+      → lines_text (member_lines path at dims group i ts) ≡ listed_members (pieces_of path) at (dims_text dims) group i ts
   members_listed NoMore path at dims group i = refl
   members_listed (More t ts) path at dims group i =
       lines_text_append (lines (path ++ step_to group i t ∷ []) (at + member_offset i group) dims t) (member_lines path at dims group (i + 1) ts)
       ∙ ap (λ x. x ++ lines_text (member_lines path at dims group (i + 1) ts))
-      (lines_listed t (path ++ step_to group i t ∷ []) (at + member_offset i group) dims ∙ ap (λ p. listed p (at + member_offset i group) (dims_text dims) t) (pieces_snoc path (step_to group i t)))
-      ∙ ap (λ x. listed (pieces_of path ++ piece_of (step_to group i t)) (at + member_offset i group) (dims_text dims) t ++ x) (members_listed ts path at dims group (i + 1))
+      (lines_listed t (path ++ step_to group i t ∷ []) (at + member_offset i group) dims
+      ∙ ap (λ p. listed p (at + member_offset i group) (dims_text dims) t) (pieces_snoc path (step_to group i t)))
+      ∙ ap (λ x. listed (pieces_of path ++ piece_of (step_to group i t)) (at + member_offset i group) (dims_text dims) t ++ x)
+      (members_listed ts path at dims group (i + 1))

@@ -37,9 +37,11 @@ stands_aligned : (at n m a b : ℕ) → n ≡ a → m ≡ b → IsPowerOfTwo a �
 stands_aligned at n m a b e d h = rw (e, d) (record { power = is_power_of_two-IsPowerOfTwo a h.0; offset = h.1; root = h.2 })
 
 -- what the pass comes to stays inside the root
-pub stays_inside : (path : List PathStep) (t : Tree) (offset : ℕ) (dims : List Dim) (u : Tree) (v : ValueSpec) (n a : ℕ) → IsWellFormed t → LeadsTo path t offset dims u → IsSpecOf u v → n ≡ size_of t → a ≡ alignment_of t → StaysInside (resolution offset dims v n a)
+pub stays_inside : (path : List PathStep) (t : Tree) (offset : ℕ) (dims : List Dim) (u : Tree) (v : ValueSpec) (n a : ℕ) → IsWellFormed t
+    → LeadsTo path t offset dims u → IsSpecOf u v → n ≡ size_of t → a ≡ alignment_of t → StaysInside (resolution offset dims v n a)
 stays_inside path t offset dims u v n a well l s e d = record {
-  aligned = λ is h. stands_aligned (offset_at offset dims is) v.alignment a (alignment_of u) (alignment_of t) (spec_alignment u v s) d (leads_aligned path t offset dims u well l is h);
+  aligned = λ is h. stands_aligned (offset_at offset dims is) v.alignment a (alignment_of u) (alignment_of t) (spec_alignment u v s) d
+      (leads_aligned path t offset dims u well l is h);
   steady = λ is h. leads_steady path t offset dims u well l is h;
   inside = λ is h. omega (arith, leads_inside path t offset dims u well l is h, spec_size u v s, e);
   small = omega (arith, e, (fit_of t well).size);
@@ -47,7 +49,8 @@ stays_inside path t offset dims u v n a well l s e d = record {
 }
 
 -- what the pass comes to is the resolved path
-pub is_resolved : (path : List PathStep) (t : Tree) (offset : ℕ) (dims : List Dim) (u : Tree) (v : ValueSpec) (n a : ℕ) → IsWellFormed t → LeadsTo path t offset dims u → IsSpecOf u v → n ≡ size_of t → a ≡ alignment_of t → IsResolved path t (resolution offset dims v n a)
+pub is_resolved : (path : List PathStep) (t : Tree) (offset : ℕ) (dims : List Dim) (u : Tree) (v : ValueSpec) (n a : ℕ) → IsWellFormed t
+    → LeadsTo path t offset dims u → IsSpecOf u v → n ≡ size_of t → a ≡ alignment_of t → IsResolved path t (resolution offset dims v n a)
 is_resolved path t offset dims u v n a well l s en ea = record {
   last = u;
   ends = leads_end path t offset dims u l;

@@ -8,7 +8,7 @@ use Rattle.fm_layout.specs.WellFormed.{IsWellFormed}
 use Rattle.fm_layout.specs.Depth.{depth, deepest}
 use Rattle.fm_path_text.specs.Grammar.{piece_of}
 use Rattle.fm_path_meaning.specs.Follow.{members_of, count_in}
-use Rattle.fm_path_meaning.proofs.Members.{skip, skip_none, skip_more, skip_past, skip_all, offset_more, offset_fits}
+use Rattle.fm_path_meaning.proofs.Members.{skip, skip_none, skip_more, skip_past, skip_all, offset_more, offset_fits, offset_none}
 use Rattle.fm_path.specs.Listing.{step_to}
 use Rattle.fm_path.specs.Listed.{listed, listed_members, extent_of}
 
@@ -23,40 +23,36 @@ pub record IsListing (before text path : List ℕ) (at : ℕ) (dims : List ℕ) 
   pub offset : inner ≡ at + member_offset i t
 
 -- before the first member the text left is all
-starts : (path : List ℕ) (at : ℕ) (dims : List ℕ) (t : Tree) (count : ℕ) → Some count ≡ count_in (members_of t) → text_past path at dims t 0 (members_of t) ≡ listed path at dims t
+starts : (path : List ℕ) (at : ℕ) (dims : List ℕ) (t : Tree) (count : ℕ) → Some count ≡ count_in (members_of t)
+    → text_past path at dims t 0 (members_of t) ≡ listed path at dims t
 starts path at dims (Struct ms l) count e = ap (listed_members path at dims (Struct ms l) 0) (skip_none ms)
 starts path at dims (Union ms l) count e = ap (listed_members path at dims (Union ms l) 0) (skip_none ms)
 starts path at dims (Value k o l) count e = absurd (cc)
 starts path at dims (Padding n l) count e = absurd (cc)
 starts path at dims (Sequence n x l) count e = absurd (cc)
 
--- the first member stands at the start
-offset_start : (t : Tree) → member_offset 0 t ≡ 0
-offset_start (Struct NoMore l) = refl
-offset_start (Struct (More t ts) l) = refl
-offset_start (Union ms l) = refl
-offset_start (Value k o l) = refl
-offset_start (Padding n l) = refl
-offset_start (Sequence n x l) = refl
-
 -- before the first member nothing was listed
-pub list_start : (before path : List ℕ) (at : ℕ) (dims : List ℕ) (t : Tree) (count : ℕ) → Some count ≡ count_in (members_of t) → IsListing before before path at dims t 0 at
+pub list_start : (before path : List ℕ) (at : ℕ) (dims : List ℕ) (t : Tree) (count : ℕ) → Some count ≡ count_in (members_of t)
+    → IsListing before before path at dims t 0 at
 list_start before path at dims t count e = record {
   rest = ap (λ x. before ++ x) (starts path at dims t count e);
-  offset = omega (arith, offset_start t);
+  offset = omega (arith, offset_none t);
 }
 
 -- the text left is that of the next member, and then of those behind it
 goes_on : (path : List ℕ) (at : ℕ) (dims : List ℕ) (t u : Tree) (i : ℕ) → member_of i t ≡ Some u
-    → text_past path at dims t i (members_of t) ≡ listed (path ++ piece_of (step_to t i u)) (at + member_offset i t) dims u ++ text_past path at dims t (i + 1) (members_of t)
+    → text_past path at dims t i (members_of t) ≡ listed (path ++ piece_of (step_to t i u)) (at + member_offset i t) dims u ++ text_past path at dims t
+    (i + 1) (members_of t)
 goes_on path at dims (Struct ms l) u i e =
     let s : suc i ≡ i + 1 = omega arith in
     ap (listed_members path at dims (Struct ms l) i) (skip_more i ms u e)
-    ∙ ap (λ n. listed (path ++ piece_of (step_to (Struct ms l) i u)) (at + member_offset i (Struct ms l)) dims u ++ listed_members path at dims (Struct ms l) (i + 1) (skip n ms)) s
+    ∙ ap (λ n. listed (path ++ piece_of (step_to (Struct ms l) i u)) (at + member_offset i (Struct ms l)) dims u ++ listed_members path at dims (Struct ms l)
+    (i + 1) (skip n ms)) s
 goes_on path at dims (Union ms l) u i e =
     let s : suc i ≡ i + 1 = omega arith in
     ap (listed_members path at dims (Union ms l) i) (skip_more i ms u e)
-    ∙ ap (λ n. listed (path ++ piece_of (step_to (Union ms l) i u)) (at + member_offset i (Union ms l)) dims u ++ listed_members path at dims (Union ms l) (i + 1) (skip n ms)) s
+    ∙ ap (λ n. listed (path ++ piece_of (step_to (Union ms l) i u)) (at + member_offset i (Union ms l)) dims u ++ listed_members path at dims (Union ms l)
+    (i + 1) (skip n ms)) s
 goes_on path at dims (Value k o l) u i e = absurd (cc)
 goes_on path at dims (Padding n l) u i e = absurd (cc)
 goes_on path at dims (Sequence n x l) u i e = absurd (cc)
@@ -74,7 +70,8 @@ pub list_more : (before text next path to : List ℕ) (at : ℕ) (dims : List �
     → IsWellFormed t → IsListing before text path at dims t i inner → member_of i t ≡ Some u → to ≡ path ++ piece_of (step_to t i u)
     → next ≡ text ++ listed to inner dims u → extent ≡ extent_of t u → IsListing before next path at dims t (i + 1) (inner + extent)
 list_more before text next path to at dims t u i inner extent w s e et en ee = record {
-  rest = ap (λ x. x ++ text_past path at dims t (i + 1) (members_of t)) (en ∙ ap (λ p. text ++ listed p inner dims u) et ∙ ap (λ n. text ++ listed (path ++ piece_of (step_to t i u)) n dims u) s.offset)
+  rest = ap (λ x. x ++ text_past path at dims t (i + 1) (members_of t)) (en ∙ ap (λ p. text ++ listed p inner dims u) et
+      ∙ ap (λ n. text ++ listed (path ++ piece_of (step_to t i u)) n dims u) s.offset)
       ∙ append_assoc text (listed (path ++ piece_of (step_to t i u)) (at + member_offset i t) dims u) (text_past path at dims t (i + 1) (members_of t))
       ∙ ap (λ x. text ++ x) (sym (goes_on path at dims t u i e))
       ∙ s.rest;
@@ -90,12 +87,15 @@ past_end path at dims (Padding n l) i e = refl
 past_end path at dims (Sequence n x l) i e = refl
 
 -- behind all members no text is left
-past_all : (path : List ℕ) (at : ℕ) (dims : List ℕ) (t : Tree) (i count : ℕ) → Some count ≡ count_in (members_of t) → count ≤ i → text_past path at dims t i (members_of t) ≡ []
-past_all path at dims (Struct ms l) i count e le = ap (listed_members path at dims (Struct ms l) i) (skip_all i ms (let c : _ ≡ count = sym (some e) in omega (arith, c)))
+past_all : (path : List ℕ) (at : ℕ) (dims : List ℕ) (t : Tree) (i count : ℕ) → Some count ≡ count_in (members_of t) → count ≤ i
+    → text_past path at dims t i (members_of t) ≡ []
+past_all path at dims (Struct ms l) i count e le =
+    ap (listed_members path at dims (Struct ms l) i) (skip_all i ms (let c : _ ≡ count = sym (some e) in omega (arith, c)))
   where
     some : {a b : ℕ} → Some a ≡ Some b → a ≡ b
     some e = cc
-past_all path at dims (Union ms l) i count e le = ap (listed_members path at dims (Union ms l) i) (skip_all i ms (let c : _ ≡ count = sym (some e) in omega (arith, c)))
+past_all path at dims (Union ms l) i count e le =
+    ap (listed_members path at dims (Union ms l) i) (skip_all i ms (let c : _ ≡ count = sym (some e) in omega (arith, c)))
   where
     some : {a b : ℕ} → Some a ≡ Some b → a ≡ b
     some e = cc
@@ -104,15 +104,18 @@ past_all path at dims (Padding n l) i count e le = refl
 past_all path at dims (Sequence n x l) i count e le = refl
 
 -- where no text is left, all was listed
-ended : (before text path : List ℕ) (at : ℕ) (dims : List ℕ) (t : Tree) (i inner : ℕ) → IsListing before text path at dims t i inner → text_past path at dims t i (members_of t) ≡ [] → text ≡ before ++ listed path at dims t
+ended : (before text path : List ℕ) (at : ℕ) (dims : List ℕ) (t : Tree) (i inner : ℕ) → IsListing before text path at dims t i inner
+    → text_past path at dims t i (members_of t) ≡ [] → text ≡ before ++ listed path at dims t
 ended before text path at dims t i inner s e = sym (append-nil text) ∙ ap (λ x. text ++ x) (sym e) ∙ s.rest
 
 -- no member is left
-pub list_past : (before text path : List ℕ) (at : ℕ) (dims : List ℕ) (t : Tree) (i inner : ℕ) → IsListing before text path at dims t i inner → member_of i t ≡ None → text ≡ before ++ listed path at dims t
+pub list_past : (before text path : List ℕ) (at : ℕ) (dims : List ℕ) (t : Tree) (i inner : ℕ) → IsListing before text path at dims t i inner
+    → member_of i t ≡ None → text ≡ before ++ listed path at dims t
 list_past before text path at dims t i inner s e = ended before text path at dims t i inner s (past_end path at dims t i e)
 
 -- behind all members all was listed
-pub list_end : (before text path : List ℕ) (at : ℕ) (dims : List ℕ) (t : Tree) (i inner count : ℕ) → IsListing before text path at dims t i inner → Some count ≡ count_in (members_of t) → count ≤ i → text ≡ before ++ listed path at dims t
+pub list_end : (before text path : List ℕ) (at : ℕ) (dims : List ℕ) (t : Tree) (i inner count : ℕ) → IsListing before text path at dims t i inner
+    → Some count ≡ count_in (members_of t) → count ≤ i → text ≡ before ++ listed path at dims t
 list_end before text path at dims t i inner count s e le = ended before text path at dims t i inner s (past_all path at dims t i count e le)
 
 -- a member is less deep than its group, an element than its sequence
@@ -137,5 +140,6 @@ deep_element (Value k o l) u e = absurd (cc)
 deep_element (Padding n l) u e = absurd (cc)
 
 -- the offset of a member is bounded by the length of the path to it
-pub inner_fits : (before text path : List ℕ) (at : ℕ) (dims : List ℕ) (t : Tree) (i inner : ℕ) → IsWellFormed t → IsListing before text path at dims t i inner → at ≤ 2 ^ 40 * length path → inner ≤ 2 ^ 40 * (length path + 1)
+pub inner_fits : (before text path : List ℕ) (at : ℕ) (dims : List ℕ) (t : Tree) (i inner : ℕ) → IsWellFormed t → IsListing before text path at dims t i inner
+    → at ≤ 2 ^ 40 * length path → inner ≤ 2 ^ 40 * (length path + 1)
 inner_fits before text path at dims t i inner w s le = omega (arith, s.offset, offset_fits t i w)

@@ -21,11 +21,11 @@ pub record Line : Type 0 where
   pub kind : ValueKind
   pub order : Order
 
-abbrev is_index : ℕ → Option ℕ → Bool
+abbrev pub is_index : ℕ → Option ℕ → Bool
 is_index i None = false
 is_index i (Some j) = nat_eq i j
 
-abbrev step_named : Tree → ℕ → Option (List ℕ) → PathStep
+abbrev pub step_named : Tree → ℕ → Option (List ℕ) → PathStep
 step_named group i None = Group i
 step_named group i (Some name) = if is_index i (index_in name (members_of group)) then Name name else Group i
 

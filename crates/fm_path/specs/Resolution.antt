@@ -21,7 +21,13 @@ pub record Resolution : Type 0 where
   pub root_alignment : ℕ
 
 abbrev pub resolution : ℕ → List Dim → ValueSpec → ℕ → ℕ → Resolution
-resolution offset dims value root_size root_alignment = record { offset = offset; dims = dims; value = value; root_size = root_size; root_alignment = root_alignment }
+resolution offset dims value root_size root_alignment = record {
+  offset = offset;
+  dims = dims;
+  value = value;
+  root_size = root_size;
+  root_alignment = root_alignment;
+}
 
 -- a value at this offset stands at a multiple of its alignment, wherever the root stands at a multiple of its own
 pub record StandsAligned (at alignment root_alignment : ℕ) : Type 0 where

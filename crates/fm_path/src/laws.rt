@@ -1,4 +1,4 @@
-ghost use Rattle.fm_path.specs.Laws.{LieInside, LieAligned, LieApart};
+ghost use Rattle.fm_path.specs.Laws.{LieInside, LieAligned, LieApart, LinesResolve, StandOnce, ValuesHaveLines};
 
 use fm_layout::Layout;
 
@@ -15,6 +15,23 @@ pub fn places_lie_inside(layout: &Layout)
 /// step in which their places differ is at a union.
 pub fn values_lie_apart(layout: &Layout)
     ensures { LieApart layout.now }
+{
+    let _size = layout.size();
+}
+
+/// Does nothing. What it promises holds of every layout: two of its places with the same steps are one.
+pub fn places_stand_once(layout: &Layout)
+    ensures { StandOnce layout.now }
+{
+    let _size = layout.size();
+}
+
+/// Does nothing. What it promises holds of every layout: the path of each line that `list_places` writes is resolved to
+/// the offset, the type, the order, the strides and the bounds that stand in the line, and each value of the layout is
+/// what some line's path comes to at some indices.
+pub fn lines_are_of_values(layout: &Layout)
+    ensures resolve { LinesResolve layout.now }
+    ensures values { ValuesHaveLines layout.now }
 {
     let _size = layout.size();
 }

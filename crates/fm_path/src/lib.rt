@@ -14,7 +14,7 @@ mod value_spec;
 pub use dims::Dims;
 pub use fm_path_meaning::Dim;
 pub use fm_path_text::{NameText, PathStep, parse_path};
-pub use laws::{places_lie_inside, values_lie_apart};
+pub use laws::{lines_are_of_values, places_lie_inside, places_stand_once, values_lie_apart};
 pub use listing::list_places;
 pub use resolution::{byte_offset, resolve};
 pub use resolved::Resolved;

@@ -3,14 +3,16 @@ ghost use Rattle.std.specs.String.{string_bytes};
 ghost use Rattle.fm_layout.specs.Parts.{form_of};
 ghost use Rattle.fm_path_meaning.specs.Follow.{members_of, count_in};
 ghost use Rattle.fm_path_text.specs.Grammar.{piece_of};
-ghost use Rattle.fm_path.specs.Listing.{value_text, step_to, list_text};
+ghost use Rattle.fm_layout.specs.Tree.{name_of};
+ghost use Rattle.fm_path.specs.Listing.{value_text, list_text};
 ghost use Rattle.fm_path.specs.Listed.{Adds, Goes, shown, longer_dims, listed, extent_of};
+ghost use Rattle.fm_path.specs.Noted.{is_new, Notes, step_by};
 
-use crate::moves::index_of;
 use fm_base::Refusal;
 use fm_lanes::{Order, ValueKind};
 use fm_layout::{Form, Layout};
 use std::alloc::Global;
+use std::collections::BTreeSet;
 
 /// The layout's size and alignment in bytes, and then a line for each of its values in their order: the path to it,
 /// its offset in bytes, its type, its byte order, and the stride and bound of each open step of the path.
@@ -92,12 +94,14 @@ fn list_members(
     ensures memory { IfErr result (λ refusal. refusal ≡ Refusal.Memory) }
 {
     let _size = layout.size();
+    let mut names = BTreeSet::new(alloc);
     let mut inner = at;
     for i in 0..count {
         let Some(member) = layout.member(i) else {
             return Ok(());
         };
-        let to = member_path(alloc, path, layout, i, member)?;
+        let first = note(&mut names, member)?;
+        let to = member_path(alloc, path, i, member, first)?;
         list(alloc, text, &to, inner, dims, member)?;
         inner += u128::from(extent(layout, member));
     }
@@ -151,21 +155,36 @@ fn element_dims(alloc: Global, dims: &str, stride: u64, bound: u64) -> Result<St
     }
 }
 
-/// The path of a group's member.
+/// Notes the member's name, and tells whether it is the first of that name.
+fn note<'a>(names: &mut BTreeSet<&'a str, Global>, member: &'a Layout) -> Result<bool, Refusal>
+    ensures first { IfOk result (λ first. first ≡ is_new names.old (name_of member.now)) }
+    ensures noted { OnOk result (Notes names.old names.new (name_of member.now)) }
+    ensures memory { IfErr result (λ refusal. refusal ≡ Refusal.Memory) }
+{
+    match member.name() {
+        Some(name) => match names.insert(name) {
+            Ok(first) => Ok(first),
+            Err(_) => Err(Refusal::Memory),
+        },
+        None => Ok(false),
+    }
+}
+
+/// The path of a group's member, by its name where it is the first of that name.
 fn member_path(
     alloc: Global,
     path: &str,
-    group: &Layout,
     i: u64,
     member: &Layout,
+    first: bool,
 ) -> Result<String, Refusal>
-    ensures text { IfOk result (Goes path.now (piece_of (step_to group.now i member.now))) }
+    ensures text { IfOk result (Goes path.now (piece_of (step_by first i (name_of member.now)))) }
     ensures longer { IfOk result (λ inner. length path.now < length (string_bytes inner)) }
     ensures memory { IfErr result (λ refusal. refusal ≡ Refusal.Memory) }
 {
     match member.name() {
         Some(name) => {
-            if index_of(group, name.as_bytes()) == Some(i) {
+            if first {
                 named_path(alloc, path, name)
             } else {
                 numbered_path(alloc, path, i)

@@ -46,7 +46,8 @@ then_err : (s : Step) (e : Refusal) (r : Result (List Step) Refusal) → r ≡ E
 then_err s e r h = ap (before s) h
 
 -- a step that takes no index, and then the rest
-plain_join : (take : ℕ → PathStep → Tree → ℕ → Taken) (p : PathStep) (ps : List PathStep) (k : ℕ) (t : Tree) (by : ℕ) (u : Tree) (r : Result Walk Refusal) → Tells (take k p t) p t None by u → Agrees take ps (k + 1) u r → Agrees take (p ∷ ps) k t (moved (record { by = by; dim = None; to = u }) r)
+plain_join : (take : ℕ → PathStep → Tree → ℕ → Taken) (p : PathStep) (ps : List PathStep) (k : ℕ) (t : Tree) (by : ℕ) (u : Tree) (r : Result Walk Refusal)
+    → Tells (take k p t) p t None by u → Agrees take ps (k + 1) u r → Agrees take (p ∷ ps) k t (moved (record { by = by; dim = None; to = u }) r)
 plain_join take p ps k t by u (Err e) f ih = λ is.
     let l = f.1 (first is) in
     ap (λ c. c >>= λ c. before c.0 (follow_by take ps (k + 1) c.1 (after p is))) l.1 ∙ ap (before l.0) (ih (after p is))
@@ -56,13 +57,16 @@ plain_join take p ps k t by u (Ok w) f ih = λ is a.
     let g = steady_more by w.offset w.dims is m.steady in
     record {
       steps = l.0 ∷ m.steps;
-      follows = ap (λ c. c >>= λ c. before c.0 (follow_by take ps (k + 1) c.1 (after p is))) l.1 ∙ ap (λ js. before l.0 (follow_by take ps (k + 1) u js)) (f.0 is) ∙ ap (before l.0) m.follows;
+      follows = ap (λ c. c >>= λ c. before c.0 (follow_by take ps (k + 1) c.1 (after p is))) l.1
+          ∙ ap (λ js. before l.0 (follow_by take ps (k + 1) u js)) (f.0 is) ∙ ap (before l.0) m.follows;
       stands = (by, offset_at w.offset w.dims is, u, l.2, m.stands, g.1);
       steady = g.0;
     }
 
 -- a step that takes an index, and then the rest
-each_join : (take : ℕ → PathStep → Tree → ℕ → Taken) (p : PathStep) (ps : List PathStep) (k : ℕ) (t : Tree) (by : ℕ) (d : Dim) (u : Tree) (r : Result Walk Refusal) → Tells (take k p t) p t (Some d) by u → Agrees take ps (k + 1) u r → Agrees take (p ∷ ps) k t (moved (record { by = by; dim = Some d; to = u }) r)
+each_join : (take : ℕ → PathStep → Tree → ℕ
+    → Taken) (p : PathStep) (ps : List PathStep) (k : ℕ) (t : Tree) (by : ℕ) (d : Dim) (u : Tree) (r : Result Walk Refusal)
+    → Tells (take k p t) p t (Some d) by u → Agrees take ps (k + 1) u r → Agrees take (p ∷ ps) k t (moved (record { by = by; dim = Some d; to = u }) r)
 each_join take p ps k t by d u (Err e) f ih = λ is.
     let l = f.1 (first is) in
     ap (λ c. c >>= λ c. before c.0 (follow_by take ps (k + 1) c.1 (after p is))) l.1 ∙ ap (before l.0) (ih (after p is))
@@ -75,25 +79,32 @@ each_join take p ps k t by d u (Ok w) f ih = at_indices
         let q = l.2 a.0 in
         let m = ih is a.1 in
         let g = steady_more (reach by d.stride i) w.offset w.dims is m.steady in
-        let e : reach (by + w.offset) d.stride i ≡ reach by d.stride i + w.offset = ap (λ x. reach x d.stride i) (omega arith) ∙ reach_more w.offset by d.stride i q.1 ∙ omega arith in
+        let e : reach (by + w.offset) d.stride i ≡ reach by d.stride i + w.offset = ap (λ x. reach x d.stride i) (omega arith)
+        ∙ reach_more w.offset by d.stride i q.1 ∙ omega arith in
         record {
           steps = l.0 ∷ m.steps;
-          follows = ap (λ c. c >>= λ c. before c.0 (follow_by take ps (k + 1) c.1 (after p (i ∷ is)))) l.1 ∙ ap (λ js. before l.0 (follow_by take ps (k + 1) u js)) (f.0 (i ∷ is)) ∙ ap (before l.0) m.follows;
+          follows = ap (λ c. c >>= λ c. before c.0 (follow_by take ps (k + 1) c.1 (after p (i ∷ is)))) l.1
+              ∙ ap (λ js. before l.0 (follow_by take ps (k + 1) u js)) (f.0 (i ∷ is)) ∙ ap (before l.0) m.follows;
           stands = (reach by d.stride i, offset_at w.offset w.dims is, u, q.0, m.stands, ap (λ x. offset_at x w.dims is) e ∙ g.1);
           steady = (omega (arith, q.1), subst (λ x. StaysAbove x w.dims is) (sym e) g.0);
         }
 
 -- a step, and then the rest
-join : (take : ℕ → PathStep → Tree → ℕ → Taken) (go : ℕ → PathStep → Tree → Moved) (p : PathStep) (ps : List PathStep) (k : ℕ) (t : Tree) (r : Moved) → Fits (take k p t) p t r → ((u : Tree) → Agrees take ps (k + 1) u (walk_by go ps (k + 1) u)) → Agrees take (p ∷ ps) k t (r >>= λ m. moved m (walk_by go ps (k + 1) m.to))
+join : (take : ℕ → PathStep → Tree → ℕ → Taken) (go : ℕ → PathStep → Tree → Moved) (p : PathStep) (ps : List PathStep) (k : ℕ) (t : Tree) (r : Moved)
+    → Fits (take k p t) p t r → ((u : Tree) → Agrees take ps (k + 1) u (walk_by go ps (k + 1) u))
+    → Agrees take (p ∷ ps) k t (r >>= λ m. moved m (walk_by go ps (k + 1) m.to))
 join take go p ps k t (Err e) f ih = λ is. ap (λ c. c >>= λ c. before c.0 (follow_by take ps (k + 1) c.1 (after p is))) (f (first is))
 join take go p ps k t (Ok m) f ih = by_dim m.dim f
   where
-    by_dim : (o : Option Dim) → Tells (take k p t) p t o m.by m.to → Agrees take (p ∷ ps) k t (moved (record { by = m.by; dim = o; to = m.to }) (walk_by go ps (k + 1) m.to))
+    by_dim : (o : Option Dim) → Tells (take k p t) p t o m.by m.to
+        → Agrees take (p ∷ ps) k t (moved (record { by = m.by; dim = o; to = m.to }) (walk_by go ps (k + 1) m.to))
     by_dim None f = plain_join take p ps k t m.by m.to (walk_by go ps (k + 1) m.to) f (ih m.to)
     by_dim (Some d) f = each_join take p ps k t m.by d m.to (walk_by go ps (k + 1) m.to) f (ih m.to)
 
 -- where each step's move says what the step does, the walk and following agree: on each refusal, and on the place at admitted indices
-pub agrees_by : (take : ℕ → PathStep → Tree → ℕ → Taken) (go : ℕ → PathStep → Tree → Moved) → ((k : ℕ) (p : PathStep) (t : Tree) → Fits (take k p t) p t (go k p t)) → (ps : List PathStep) (k : ℕ) (t : Tree) → Agrees take ps k t (walk_by go ps k t)
+pub agrees_by : (take : ℕ → PathStep → Tree → ℕ → Taken) (go : ℕ → PathStep → Tree → Moved)
+    → ((k : ℕ) (p : PathStep) (t : Tree) → Fits (take k p t) p t (go k p t)) → (ps : List PathStep) (k : ℕ) (t : Tree)
+    → Agrees take ps k t (walk_by go ps k t)
 agrees_by take go fs [] k t = λ is a. record { steps = []; follows = refl; stands = (refl, refl); steady = tt }
 agrees_by take go fs (p ∷ ps) k t = join take go p ps k t (go k p t) (fs k p t) (λ u. agrees_by take go fs ps (k + 1) u)
 

@@ -1,6 +1,6 @@
 -- Each open step has its dim, and its bound is the number of the indices that are admitted.
 use Rattle.std.proofs.Common.{◌≡◌, refl, ap, subst, ℕ, ℤ, pos, negsuc, zero, suc, ◌+◌, ◌-◌, ◌*◌, ◌/◌, ◌<◌, ◌≤◌, Bool, true, false, nat_lt, if◌then◌else◌, Option, Some, None, Result, Ok, Err, List, [], ◌∷◌, inl, inr, arith, ◌∙◌}
-use Rattle.std.proofs.lemmas.Bool.{cases_lt}
+use Rattle.std.proofs.lemmas.Bool.{cases_lt, ltb-true}
 use Rattle.std.proofs.lemmas.Nat.{div-add-mod'}
 use Rattle.std.proofs.Math.Nat.{mul-le-mul_right}
 use Rattle.fm_base.specs.declared.refusal.Refusal.{Refusal}
@@ -15,7 +15,7 @@ use Rattle.fm_path_meaning.specs.Places.{Step, Element, Member}
 use Rattle.fm_path_meaning.specs.Follow.{row_of, members_of, index_named, take_member, take_found, take_name, taken_closed, ◌>>=◌}
 use Rattle.fm_path_meaning.specs.Walk.{dim_from, Move, Moved, move_member, move_found, move, Walk, with_dim, moved, walk_by}
 use Rattle.fm_path_meaning.specs.Found.{IsDimOf, HasDims, no_step, closed_step, open_step, LeadsTo}
-use Rattle.fm_path_meaning.proofs.Fitting.{ups, downs, lt_is}
+use Rattle.fm_path_meaning.proofs.Fitting.{ups, downs}
 
 -- a quotient is at least each number whose multiple fits
 quotient_above : (x m i : ℕ) → i * suc m ≤ x → i ≤ x / suc m
@@ -55,19 +55,22 @@ member_told k n p t None e = tt
 member_told k n p t (Some u) e = (Member n, e)
 
 -- a step by name
-found_told : (k : ℕ) (name : List ℕ) (t : Tree) (ms : Trees) (o : Option ℕ) → members_of t ≡ Some ms → index_named name 0 ms ≡ o → Told k (Name name) t (move_found k t ms o)
+found_told : (k : ℕ) (name : List ℕ) (t : Tree) (ms : Trees) (o : Option ℕ) → members_of t ≡ Some ms → index_named name 0 ms ≡ o
+    → Told k (Name name) t (move_found k t ms o)
 found_told k name t ms None em eo = tt
 found_told k name t ms (Some n) em eo = member_told k n (Name name) t (tree_at n ms) (ap (take_name k name) em ∙ ap (take_found k ms) eo)
 
 -- a step to an element
-at_told : (k n c : ℕ) (e : Tree) (l : _) (b : Bool) → nat_lt n c ≡ b → Told k (At n) (Sequence c e l) (if b then Ok (record { by = n * size_of e; dim = None; to = e }) else Err (IndexOut k))
+at_told : (k n c : ℕ) (e : Tree) (l : _) (b : Bool) → nat_lt n c ≡ b
+    → Told k (At n) (Sequence c e l) (if b then Ok (record { by = n * size_of e; dim = None; to = e }) else Err (IndexOut k))
 at_told k n c e l true h = (Element n, ap (λ b. if b then Ok (Element n, e) else Err (IndexOut k)) h)
 at_told k n c e l false h = tt
 
 -- a step that is open from an element on
 from_told : (k f c : ℕ) (z : ℤ) (e : Tree) (l : _) (b : Bool) → nat_lt f c ≡ b → (f < c → IsDimOf (EachFrom f z) c e (dim_from f z c (size_of e)))
-    → Told k (EachFrom f z) (Sequence c e l) (if b then Ok (record { by = f * size_of e; dim = Some (dim_from f z c (size_of e)); to = e }) else Err (IndexOut k))
-from_told k f c z e l true h g = (c, refl, g (lt_is f c h))
+    → Told k (EachFrom f z) (Sequence c e l)
+    (if b then Ok (record { by = f * size_of e; dim = Some (dim_from f z c (size_of e)); to = e }) else Err (IndexOut k))
+from_told k f c z e l true h g = (c, refl, g (ltb-true f c h))
 from_told k f c z e l false h g = tt
 
 -- each move that succeeds says so of its step
@@ -105,17 +108,20 @@ HaveDims ps t (Ok w) = HasDims ps t w.dims
 HaveDims ps t (Err e) = Unit {0}
 
 -- the dim of a step, and then the others
-join_dim : (k : ℕ) (p : PathStep) (ps : List PathStep) (t : Tree) (o : Option Dim) (u : Tree) (ds : List Dim) → HasDim k p t o u → HasDims ps u ds → HasDims (p ∷ ps) t (with_dim o ds)
+join_dim : (k : ℕ) (p : PathStep) (ps : List PathStep) (t : Tree) (o : Option Dim) (u : Tree) (ds : List Dim) → HasDim k p t o u → HasDims ps u ds
+    → HasDims (p ∷ ps) t (with_dim o ds)
 join_dim k p ps t None u ds f h = closed_step k f.0 u f.1 h
 join_dim k p ps t (Some d) u ds f h = open_step f.0 u f.1 f.2 h
 
 -- the same of a whole walk
-join_moved : (k : ℕ) (p : PathStep) (ps : List PathStep) (t : Tree) (m : Move) (r : Result Walk Refusal) → HasDim k p t m.dim m.to → HaveDims ps m.to r → HaveDims (p ∷ ps) t (moved m r)
+join_moved : (k : ℕ) (p : PathStep) (ps : List PathStep) (t : Tree) (m : Move) (r : Result Walk Refusal) → HasDim k p t m.dim m.to → HaveDims ps m.to r
+    → HaveDims (p ∷ ps) t (moved m r)
 join_moved k p ps t m (Ok w) f h = join_dim k p ps t m.dim m.to w.dims f h
 join_moved k p ps t m (Err e) f h = tt
 
 -- a step, and then the rest
-join : (k : ℕ) (p : PathStep) (ps : List PathStep) (t : Tree) (r : Moved) → Told k p t r → ((u : Tree) → HaveDims ps u (walk_by move ps (k + 1) u)) → HaveDims (p ∷ ps) t (r >>= λ m. moved m (walk_by move ps (k + 1) m.to))
+join : (k : ℕ) (p : PathStep) (ps : List PathStep) (t : Tree) (r : Moved) → Told k p t r → ((u : Tree) → HaveDims ps u (walk_by move ps (k + 1) u))
+    → HaveDims (p ∷ ps) t (r >>= λ m. moved m (walk_by move ps (k + 1) m.to))
 join k p ps t (Err e) f ih = tt
 join k p ps t (Ok m) f ih = join_moved k p ps t m (walk_by move ps (k + 1) m.to) f (ih m.to)
 

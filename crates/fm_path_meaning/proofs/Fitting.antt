@@ -1,5 +1,6 @@
 -- What one step does to the offset is what it does among the places.
 use Rattle.std.proofs.Common.{◌≡◌, refl, sym, ap, ℕ, pos, negsuc, zero, suc, ◌+◌, ◌-◌, ◌*◌, ◌/◌, ◌<◌, ◌≤◌, Bool, true, false, nat_lt, nat_eq, if◌then◌else◌, Option, Some, None, Ok, Err, List, arith, ◌∙◌}
+use Rattle.std.proofs.lemmas.Bool.{cond_both, ltb-true}
 use Rattle.std.proofs.lemmas.Bool.Decides.{nat_tests}
 use Rattle.std.proofs.Math.Nat.{mul-le-mul_right}
 use Rattle.std.proofs.lemmas.Nat.{div-add-mod'}
@@ -23,7 +24,8 @@ Lands take t i by u = (s : Step) × (take i ≡ Ok (s, u)) × IsPart s t by u
 -- what a move says of the step at each index
 abbrev pub Tells : (ℕ → Taken) → PathStep → Tree → Option Dim → ℕ → Tree → Type 0
 Tells take p t None by u = ((is : List ℕ) → after p is ≡ is) × ((i : ℕ) → Lands take t i by u)
-Tells take p t (Some d) by u = ((is : List ℕ) → after p is ≡ others is) × ((i : ℕ) → (s : Step) × (take i ≡ Ok (s, u)) × (i < d.bound → IsPart s t (reach by d.stride i) u × (dip d.stride i ≤ by)))
+Tells take p t (Some d) by u = ((is : List ℕ) → after p is ≡ others is)
+    × ((i : ℕ) → (s : Step) × (take i ≡ Ok (s, u)) × (i < d.bound → IsPart s t (reach by d.stride i) u × (dip d.stride i ≤ by)))
 
 -- a member's place
 stands_at : (n : ℕ) (ms : Trees) (u : Tree) → tree_at n ms ≡ Some u → Stands n ms (sum_before n ms) u
@@ -43,23 +45,18 @@ Fits take p t (Ok m) = Tells take p t m.dim m.by m.to
 Fits take p t (Err e) = (i : ℕ) → take i ≡ Err e
 
 -- a member that is there, or isn't
-member_fits : (take : ℕ → Taken) (p : PathStep) (k n : ℕ) (t : Tree) (o : Option Tree) → ((i : ℕ) → take i ≡ take_member k n o) → ((is : List ℕ) → after p is ≡ is) → ((u : Tree) → o ≡ Some u → IsPart (Member n) t (member_offset n t) u) → Fits take p t (move_member k n t o)
+member_fits : (take : ℕ → Taken) (p : PathStep) (k n : ℕ) (t : Tree) (o : Option Tree) → ((i : ℕ) → take i ≡ take_member k n o)
+    → ((is : List ℕ) → after p is ≡ is) → ((u : Tree) → o ≡ Some u → IsPart (Member n) t (member_offset n t) u) → Fits take p t (move_member k n t o)
 member_fits take p k n t None et ea f = et
 member_fits take p k n t (Some u) et ea f = (ea, λ i. (Member n, et i, f u refl))
 
 -- a name that is a member's, or isn't
-name_fits : (k : ℕ) (name : List ℕ) (t : Tree) (ms : Trees) (o : Option ℕ) → members_of t ≡ Some ms → index_named name 0 ms ≡ o → ((n : ℕ) (u : Tree) → tree_at n ms ≡ Some u → IsPart (Member n) t (member_offset n t) u) → Fits (taken k (Name name) t) (Name name) t (move_found k t ms o)
+name_fits : (k : ℕ) (name : List ℕ) (t : Tree) (ms : Trees) (o : Option ℕ) → members_of t ≡ Some ms → index_named name 0 ms ≡ o
+    → ((n : ℕ) (u : Tree) → tree_at n ms ≡ Some u → IsPart (Member n) t (member_offset n t) u)
+    → Fits (taken k (Name name) t) (Name name) t (move_found k t ms o)
 name_fits k name t ms None em eo f = λ i. ap (take_name k name) em ∙ ap (take_found k ms) eo
-name_fits k name t ms (Some n) em eo f = member_fits (taken k (Name name) t) (Name name) k n t (tree_at n ms) (λ i. ap (take_name k name) em ∙ ap (take_found k ms) eo) (λ is. refl) (f n)
-
--- what holds of both values holds of the one that a test picks
-pub choose : {A : Type 0} (P : A → Type 0) (c : Bool) (x y : A) → (c ≡ true → P x) → (c ≡ false → P y) → P (if c then x else y)
-choose P true x y f g = f refl
-choose P false x y f g = g refl
-
--- a number that the test finds smaller is smaller
-pub lt_is : (a b : ℕ) → nat_lt a b ≡ true → a < b
-lt_is a b h = grind (arith, nat_tests)
+name_fits k name t ms (Some n) em eo f =
+    member_fits (taken k (Name name) t) (Name name) k n t (tree_at n ms) (λ i. ap (take_name k name) em ∙ ap (take_found k ms) eo) (λ is. refl) (f n)
 
 -- a step forward or back, at an index below the bound
 pub ups : (f s n i : ℕ) → f < n → i < (n - f - 1) / suc s + 1 → f + i * suc s < n
@@ -80,28 +77,40 @@ dip_below zero i = omega arith
 dip_below (suc n) i = refl
 
 -- an element index fits
-at_fits : (k n c : ℕ) (e : Tree) (l : _) (b : Bool) → nat_lt n c ≡ b → Fits (taken k (At n) (Sequence c e l)) (At n) (Sequence c e l) (if b then Ok (record { by = n * size_of e; dim = None; to = e }) else Err (IndexOut k))
-at_fits k n c e l true h = ((λ is. refl), λ i. (Element n, ap (λ b. if b then Ok (Element n, e) else Err (IndexOut k)) h, (lt_is n c h, refl, refl)))
+at_fits : (k n c : ℕ) (e : Tree) (l : _) (b : Bool) → nat_lt n c ≡ b
+    → Fits (taken k (At n) (Sequence c e l)) (At n) (Sequence c e l) (if b then Ok (record { by = n * size_of e; dim = None; to = e }) else Err (IndexOut k))
+at_fits k n c e l true h = ((λ is. refl), λ i. (Element n, ap (λ b. if b then Ok (Element n, e) else Err (IndexOut k)) h, (ltb-true n c h, refl, refl)))
 at_fits k n c e l false h = λ i. ap (λ b. if b then Ok (Element n, e) else Err (IndexOut k)) h
 
 -- an index forward comes to the element it means
 up_reach : (f s z b i : ℕ) → i < b → (reach (f * z) (stride_of (pos (suc s)) z b) i ≡ (f + i * suc s) * z) × (dip (stride_of (pos (suc s)) z b) i ≤ f * z)
-up_reach f s z b i h = choose (λ d. (reach (f * z) d i ≡ (f + i * suc s) * z) × (dip d i ≤ f * z)) (nat_eq b 1) (pos 0) (pos (suc s * z))
+up_reach f s z b i h = cond_both (nat_eq b 1) (pos 0) (pos (suc s * z)) (λ d. (reach (f * z) d i ≡ (f + i * suc s) * z) × (dip d i ≤ f * z))
     (λ t. let one : b ≡ 1 = grind (arith, nat_tests) in let e : i ≡ 0 = omega arith in (omega arith ∙ ap (λ x. (f + x * suc s) * z) (sym e), omega arith))
     (λ _. (omega arith, omega arith))
 
 -- an index back comes to the element it means
-down_reach : (f s z b i : ℕ) → i < b → i * suc s ≤ f → (reach (f * z) (stride_of (negsuc s) z b) i ≡ (f - i * suc s) * z) × (dip (stride_of (negsuc s) z b) i ≤ f * z)
-down_reach f s z b i h le = choose (λ d. (reach (f * z) d i ≡ (f - i * suc s) * z) × (dip d i ≤ f * z)) (nat_eq b 1) (pos 0) (below (suc s * z))
-    (λ t. let one : b ≡ 1 = grind (arith, nat_tests) in let e : i ≡ 0 = omega arith in ((let g : f ≡ f - 0 * suc s = omega arith in let k : f * z + 0 * i ≡ f * z = omega arith in k ∙ ap (λ x. x * z) g ∙ ap (λ x. (f - x * suc s) * z) (sym e)), omega arith))
+down_reach : (f s z b i : ℕ) → i < b → i * suc s ≤ f → (reach (f * z) (stride_of (negsuc s) z b) i ≡ (f - i * suc s) * z)
+    × (dip (stride_of (negsuc s) z b) i ≤ f * z)
+down_reach f s z b i h le = cond_both (nat_eq b 1) (pos 0) (below (suc s * z)) (λ d. (reach (f * z) d i ≡ (f - i * suc s) * z) × (dip d i ≤ f * z))
+    (λ t. let one : b ≡ 1 = grind (arith, nat_tests) in let e : i ≡ 0 = omega arith in (
+      (let g : f ≡ f - 0 * suc s = omega arith in let k : f * z + 0 * i ≡ f * z = omega arith in
+          k ∙ ap (λ x. x * z) g ∙ ap (λ x. (f - x * suc s) * z) (sym e)),
+      omega arith,
+    ))
     (λ _.
     let g : f ≡ (f - i * suc s) + i * suc s = omega arith in
     let m : f * z ≡ ((f - i * suc s) + i * suc s) * z = ap (λ x. x * z) g in
     (reach_below (f * z) (suc s * z) i ∙ omega (arith, m), omega (arith, dip_below (suc s * z) i, m)))
 
 -- a step forward fits
-up_fits : (k f s c : ℕ) (e : Tree) (l : _) (b : Bool) → nat_lt f c ≡ b → Fits (taken k (EachFrom f (pos (suc s))) (Sequence c e l)) (EachFrom f (pos (suc s))) (Sequence c e l)
-    (if b then Ok (record { by = f * size_of e; dim = Some (record { stride = stride_of (pos (suc s)) (size_of e) (bound_of f (pos (suc s)) c); bound = bound_of f (pos (suc s)) c }); to = e }) else Err (IndexOut k))
+up_fits : (k f s c : ℕ) (e : Tree) (l : _) (b : Bool) → nat_lt f c ≡ b
+    → Fits (taken k (EachFrom f (pos (suc s))) (Sequence c e l)) (EachFrom f (pos (suc s))) (Sequence c e l)
+    (if b then Ok (record {
+      by = f * size_of e;
+      dim = Some (record { stride = stride_of (pos (suc s)) (size_of e) (bound_of f (pos (suc s)) c); bound = bound_of f (pos (suc s)) c });
+      to = e;
+    }) else
+    Err (IndexOut k))
 up_fits k f s c e l true h = (
   (λ is. refl),
   λ i. (
@@ -109,14 +118,20 @@ up_fits k f s c e l true h = (
     ap (λ b. if b then Ok (Element (f + i * suc s), e) else Err (IndexOut k)) h,
     λ lt.
         let r = up_reach f s (size_of e) (bound_of f (pos (suc s)) c) i lt in
-        ((ups f s c i (lt_is f c h) lt, r.0, refl), r.1),
+        ((ups f s c i (ltb-true f c h) lt, r.0, refl), r.1),
   ),
 )
 up_fits k f s c e l false h = λ i. ap (λ b. if b then Ok (Element (f + i * suc s), e) else Err (IndexOut k)) h
 
 -- a step back fits
-down_fits : (k f s c : ℕ) (e : Tree) (l : _) (b : Bool) → nat_lt f c ≡ b → Fits (taken k (EachFrom f (negsuc s)) (Sequence c e l)) (EachFrom f (negsuc s)) (Sequence c e l)
-    (if b then Ok (record { by = f * size_of e; dim = Some (record { stride = stride_of (negsuc s) (size_of e) (bound_of f (negsuc s) c); bound = bound_of f (negsuc s) c }); to = e }) else Err (IndexOut k))
+down_fits : (k f s c : ℕ) (e : Tree) (l : _) (b : Bool) → nat_lt f c ≡ b
+    → Fits (taken k (EachFrom f (negsuc s)) (Sequence c e l)) (EachFrom f (negsuc s)) (Sequence c e l)
+    (if b then Ok (record {
+      by = f * size_of e;
+      dim = Some (record { stride = stride_of (negsuc s) (size_of e) (bound_of f (negsuc s) c); bound = bound_of f (negsuc s) c });
+      to = e;
+    }) else Err
+    (IndexOut k))
 down_fits k f s c e l true h = (
   (λ is. refl),
   λ i. (
@@ -124,7 +139,7 @@ down_fits k f s c e l true h = (
     ap (λ b. if b then Ok (Element (f - i * suc s), e) else Err (IndexOut k)) h,
     λ lt.
         let r = down_reach f s (size_of e) (bound_of f (negsuc s) c) i lt (downs f s i lt) in
-        let fc = lt_is f c h in
+        let fc = ltb-true f c h in
         ((omega arith, r.0, refl), r.1),
   ),
 )
@@ -137,8 +152,10 @@ fits k (Name name) (Union ms l) = name_fits k name (Union ms l) ms (index_named 
 fits k (Name name) (Value v o l) = λ i. refl
 fits k (Name name) (Padding m l) = λ i. refl
 fits k (Name name) (Sequence c e l) = λ i. refl
-fits k (Group n) (Struct ms l) = member_fits (taken k (Group n) (Struct ms l)) (Group n) k n (Struct ms l) (tree_at n ms) (λ i. refl) (λ is. refl) (λ u e. stands_at n ms u e)
-fits k (Group n) (Union ms l) = member_fits (taken k (Group n) (Union ms l)) (Group n) k n (Union ms l) (tree_at n ms) (λ i. refl) (λ is. refl) (λ u e. stands_first n ms u e)
+fits k (Group n) (Struct ms l) =
+    member_fits (taken k (Group n) (Struct ms l)) (Group n) k n (Struct ms l) (tree_at n ms) (λ i. refl) (λ is. refl) (λ u e. stands_at n ms u e)
+fits k (Group n) (Union ms l) =
+    member_fits (taken k (Group n) (Union ms l)) (Group n) k n (Union ms l) (tree_at n ms) (λ i. refl) (λ is. refl) (λ u e. stands_first n ms u e)
 fits k (Group n) (Value v o l) = λ i. refl
 fits k (Group n) (Padding m l) = λ i. refl
 fits k (Group n) (Sequence c e l) = λ i. refl

@@ -93,14 +93,19 @@ member_sits : (i : ℕ) (ms : Trees) (from a : ℕ) (c : Tree) → AreLaidOut fr
 member_sits i NoMore from a c w s = absurd s
 member_sits zero (More t ts) from a c w s =
     let e : from + a ≡ from = omega (arith, s.0) in
-    subst (λ c. Sits c (from + a) (greatest_alignment (More t ts))) (sym s.1) (record { well = w.1; below = omega arith; aligned = ap (λ x. x % alignment_of t) e ∙ w.0 })
+    subst (λ c. Sits c (from + a) (greatest_alignment (More t ts))) (sym s.1) (record {
+      well = w.1;
+      below = omega arith;
+      aligned = ap (λ x. x % alignment_of t) e ∙ w.0;
+    })
 member_sits (suc i) (More t ts) from a c w s =
     let r = member_sits i ts (from + size_of t) s.0 c w.2 s.1 in
     let e : from + a ≡ from + size_of t + s.0 = omega (arith, s.2) in
     record { well = r.well; below = omega (arith, r.below); aligned = ap (λ x. x % alignment_of c) e ∙ r.aligned }
 
 -- a member of a well-formed union is well formed and at the start
-first_sits : (i : ℕ) (ms : Trees) (a : ℕ) (c : Tree) → AreWellFormed ms → StandsFirst i ms a c → IsWellFormed c × (alignment_of c ≤ greatest_alignment ms) × (a ≡ 0)
+first_sits : (i : ℕ) (ms : Trees) (a : ℕ) (c : Tree) → AreWellFormed ms → StandsFirst i ms a c
+    → IsWellFormed c × (alignment_of c ≤ greatest_alignment ms) × (a ≡ 0)
 first_sits i NoMore a c w s = absurd s
 first_sits zero (More t ts) a c w s = (subst IsWellFormed (sym s.1) w.0, omega (arith, ap alignment_of s.1), s.0)
 first_sits (suc i) (More t ts) a c w s = let r = first_sits i ts a c w.1 s in (r.0, omega (arith, r.1), r.2)
@@ -114,16 +119,22 @@ record Part (c : Tree) (a : ℕ) (t : Tree) : Type 0 where
 
 -- a well-formed part with a smaller alignment
 part_from : (c : Tree) (a : ℕ) (t : Tree) → IsWellFormed t → IsWellFormed c → alignment_of c ≤ alignment_of t → Divides (alignment_of c) a → Part c a t
-part_from c a t wt wc le d = record { well = wc; divides = divides_powers (alignment_of c) (alignment_of t) (fit_of c wc).power (fit_of t wt).power le; aligned = d }
+part_from c a t wt wc le d = record {
+  well = wc;
+  divides = divides_powers (alignment_of c) (alignment_of t) (fit_of c wc).power (fit_of t wt).power le;
+  aligned = d;
+}
 
 -- each part of a well-formed layout sits so
 part_of : (s : Step) (t : Tree) (a : ℕ) (c : Tree) → IsWellFormed t → IsPart s t a c → Part c a t
 part_of (Element i) (Sequence n e l) a c w p =
     subst (λ c. Part c a (Sequence n e l)) (sym p.2)
-    (part_from e a (Sequence n e l) w w.2 w.0.least (subst (Divides (alignment_of e)) (sym p.1) (divides_times (alignment_of e) (size_of e) i (divides_from (alignment_of e) (size_of e) w.1))))
+    (part_from e a (Sequence n e l) w w.2 w.0.least
+    (subst (Divides (alignment_of e)) (sym p.1) (divides_times (alignment_of e) (size_of e) i (divides_from (alignment_of e) (size_of e) w.1))))
 part_of (Member i) (Struct ms l) a c w p =
     let r = member_sits i ms 0 a c w.1 p in
-    part_from c a (Struct ms l) w r.well (omega (arith, r.below, w.0.least)) (divides_from (alignment_of c) a (ap (λ x. x % alignment_of c) (omega arith) ∙ r.aligned))
+    part_from c a (Struct ms l) w r.well (omega (arith, r.below, w.0.least))
+    (divides_from (alignment_of c) a (ap (λ x. x % alignment_of c) (omega arith) ∙ r.aligned))
 part_of (Member i) (Union ms l) a c w p =
     let r = first_sits i ms a c w.1 p in
     part_from c a (Union ms l) w r.0 (omega (arith, r.1, w.0.least)) (0, omega (arith, r.2))
@@ -169,13 +180,13 @@ value_no_part s (Struct ms l) a c v p = absurd v
 value_no_part s (Union ms l) a c v p = absurd v
 
 -- a struct has one member of an index
-stands_once : (i : ℕ) (ms : Trees) (a b : ℕ) (c d : Tree) → Stands i ms a c → Stands i ms b d → (a ≡ b) × (c ≡ d)
+pub stands_once : (i : ℕ) (ms : Trees) (a b : ℕ) (c d : Tree) → Stands i ms a c → Stands i ms b d → (a ≡ b) × (c ≡ d)
 stands_once i NoMore a b c d s r = absurd s
 stands_once zero (More t ts) a b c d s r = (s.0 ∙ sym r.0, s.1 ∙ sym r.1)
 stands_once (suc i) (More t ts) a b c d s r = let e = stands_once i ts s.0 r.0 c d s.1 r.1 in (omega (arith, s.2, r.2, e.0), e.1)
 
 -- a union has one member of an index
-first_once : (i : ℕ) (ms : Trees) (a b : ℕ) (c d : Tree) → StandsFirst i ms a c → StandsFirst i ms b d → (a ≡ b) × (c ≡ d)
+pub first_once : (i : ℕ) (ms : Trees) (a b : ℕ) (c d : Tree) → StandsFirst i ms a c → StandsFirst i ms b d → (a ≡ b) × (c ≡ d)
 first_once i NoMore a b c d s r = absurd s
 first_once zero (More t ts) a b c d s r = (s.0 ∙ sym r.0, s.1 ∙ sym r.1)
 first_once (suc i) (More t ts) a b c d s r = first_once i ts a b c d s r
@@ -234,14 +245,16 @@ pair (Member i) (Element j) (Struct ms l) a b c d p q = absurd q
 pair (Member i) (Element j) (Union ms l) a b c d p q = absurd q
 
 -- what lies apart in a part lies apart in the whole
-deeper : (s r : Step) (ss rs : List Step) (t c : Tree) (o a m b n : ℕ) → s ≡ r → IsPart s t o c → Apart ss rs c a m b n → Apart (s ∷ ss) (r ∷ rs) t (o + a) m (o + b) n
+deeper : (s r : Step) (ss rs : List Step) (t c : Tree) (o a m b n : ℕ) → s ≡ r → IsPart s t o c → Apart ss rs c a m b n
+    → Apart (s ∷ ss) (r ∷ rs) t (o + a) m (o + b) n
 deeper s r ss rs t c o a m b n e p (One h) = One (ap (λ x. x ∷ ss) e ∙ ap (λ xs. r ∷ xs) h)
 deeper s r ss rs t c o a m b n e p (In_union h) = In_union (inr (e, o, c, p, h))
 deeper s r ss rs t c o a m b n e p (First h) = First (omega arith)
 deeper s r ss rs t c o a m b n e p (Second h) = Second (omega arith)
 
 -- two values of a layout lie apart, or are parted by a union
-pub apart : (ss rs : List Step) (t : Tree) (a b : ℕ) (u v : Tree) → IsAt ss t a u → IsAt rs t b v → IsValue u → IsValue v → Apart ss rs t a (size_of u) b (size_of v)
+pub apart : (ss rs : List Step) (t : Tree) (a b : ℕ) (u v : Tree) → IsAt ss t a u → IsAt rs t b v → IsValue u → IsValue v
+    → Apart ss rs t a (size_of u) b (size_of v)
 apart [] [] t a b u v h k x y = One refl
 apart [] (r ∷ rs) t a b u v h k x y = absurd (value_no_part r t k.0 k.2 (subst IsValue h.1 x) k.3)
 apart (s ∷ ss) [] t a b u v h k x y = absurd (value_no_part s t h.0 h.2 (subst IsValue k.1 y) h.3)

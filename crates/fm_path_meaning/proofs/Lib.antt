@@ -5,4 +5,5 @@ pub mod Fitting
 pub mod Inside
 pub mod Listed
 pub mod Members
+pub mod Once
 pub mod Walking

@@ -8,7 +8,8 @@ use Rattle.fm_path_meaning.specs.Follow.{IsStruct, members_of, is_name_of, index
 use Rattle.fm_layout.specs.Size.{sum_before, member_offset}
 
 -- one more member lies before the next one
-before_more : (n : ℕ) (ms : Trees) (u : Tree) → tree_at n ms ≡ Some u → (sum_before (suc n) ms ≡ sum_before n ms + size_of u) × (sum_before n ms + size_of u ≤ sum_of ms)
+before_more : (n : ℕ) (ms : Trees) (u : Tree) → tree_at n ms ≡ Some u
+    → (sum_before (suc n) ms ≡ sum_before n ms + size_of u) × (sum_before n ms + size_of u ≤ sum_of ms)
 before_more n NoMore u e = absurd (cc)
 before_more zero (More t ts) u e = let is : t ≡ u = cc in let s = ap size_of is in (omega (arith, s, before_none ts), omega (arith, s))
   where
@@ -31,7 +32,8 @@ before_end zero (suc i) (More t ts) e le = absurd (omega arith)
 before_end (suc n) (suc i) (More t ts) e le = ap (λ x. size_of t + x) (before_end n i ts e (omega arith))
 
 -- one more member
-pub offset_more : (t : Tree) (n : ℕ) (u : Tree) → IsStruct t → IsWellFormed t → member_of n t ≡ Some u → (member_offset (n + 1) t ≡ member_offset n t + size_of u) × (member_offset n t + size_of u ≤ limit)
+pub offset_more : (t : Tree) (n : ℕ) (u : Tree) → IsStruct t → IsWellFormed t → member_of n t ≡ Some u
+    → (member_offset (n + 1) t ≡ member_offset n t + size_of u) × (member_offset n t + size_of u ≤ limit)
 offset_more (Struct ms l) n u k w e = let r = before_more n ms u e in (ap (λ m. sum_before m ms) (omega arith) ∙ r.0, omega (arith, r.1, w.0.size))
 offset_more (Value v o l) n u k w e = absurd k
 offset_more (Padding m l) n u k w e = absurd k
@@ -110,13 +112,16 @@ seek_start name (Padding n l) = record { rest = refl }
 seek_start name (Sequence n e l) = record { rest = refl }
 
 -- the member at an index has the name, or the search goes on
-here_or : (name : List ℕ) (i : ℕ) (ms : Trees) (u : Tree) (b : Bool) → tree_at i ms ≡ Some u → is_name_of (name_of u) name ≡ b → index_named name i (skip i ms) ≡ (if b then Some i else index_named name (i + 1) (skip (i + 1) ms))
+here_or : (name : List ℕ) (i : ℕ) (ms : Trees) (u : Tree) (b : Bool) → tree_at i ms ≡ Some u → is_name_of (name_of u) name ≡ b
+    → index_named name i (skip i ms) ≡ (if b then Some i else index_named name (i + 1) (skip (i + 1) ms))
 here_or name i ms u b e h =
     let s : suc i ≡ i + 1 = omega arith in
-    ap (index_named name i) (skip_more i ms u e) ∙ ap (λ b. if b then Some i else index_named name (i + 1) (skip (suc i) ms)) h ∙ ap (λ n. if b then Some i else index_named name (i + 1) (skip n ms)) s
+    ap (index_named name i) (skip_more i ms u e) ∙ ap (λ b. if b then Some i else index_named name (i + 1) (skip (suc i) ms)) h
+    ∙ ap (λ n. if b then Some i else index_named name (i + 1) (skip n ms)) s
 
 -- a member of another name
-pub seek_more : (name : List ℕ) (i : ℕ) (t u : Tree) → IsSeeking name i t → member_of i t ≡ Some u → is_name_of (name_of u) name ≡ false → IsSeeking name (i + 1) t
+pub seek_more : (name : List ℕ) (i : ℕ) (t u : Tree) → IsSeeking name i t → member_of i t ≡ Some u → is_name_of (name_of u) name ≡ false
+    → IsSeeking name (i + 1) t
 seek_more name i (Struct ms l) u s e h = record { rest = s.rest ∙ here_or name i ms u false e h }
 seek_more name i (Union ms l) u s e h = record { rest = s.rest ∙ here_or name i ms u false e h }
 seek_more name i (Value k o l) u s e h = absurd (cc)
@@ -124,7 +129,8 @@ seek_more name i (Padding n l) u s e h = absurd (cc)
 seek_more name i (Sequence n x l) u s e h = absurd (cc)
 
 -- a member of the name
-pub seek_found : (name : List ℕ) (i : ℕ) (t u : Tree) → IsSeeking name i t → member_of i t ≡ Some u → is_name_of (name_of u) name ≡ true → index_in name (members_of t) ≡ Some i
+pub seek_found : (name : List ℕ) (i : ℕ) (t u : Tree) → IsSeeking name i t → member_of i t ≡ Some u → is_name_of (name_of u) name ≡ true
+    → index_in name (members_of t) ≡ Some i
 seek_found name i (Struct ms l) u s e h = s.rest ∙ here_or name i ms u true e h
 seek_found name i (Union ms l) u s e h = s.rest ∙ here_or name i ms u true e h
 seek_found name i (Value k o l) u s e h = absurd (cc)
@@ -139,7 +145,8 @@ seek_past name i (Value k o l) s e = s.rest
 seek_past name i (Padding n l) s e = s.rest
 seek_past name i (Sequence n x l) s e = s.rest
 
-pub seek_end : (name : List ℕ) (i count : ℕ) (t : Tree) → IsSeeking name i t → count_in (members_of t) ≡ Some count → count ≤ i → index_in name (members_of t) ≡ None
+pub seek_end : (name : List ℕ) (i count : ℕ) (t : Tree) → IsSeeking name i t → count_in (members_of t) ≡ Some count → count ≤ i
+    → index_in name (members_of t) ≡ None
 seek_end name i count (Struct ms l) s e le = let c : count_of ms ≡ count = cc in s.rest ∙ ap (index_named name i) (skip_all i ms (omega arith))
 seek_end name i count (Union ms l) s e le = let c : count_of ms ≡ count = cc in s.rest ∙ ap (index_named name i) (skip_all i ms (omega arith))
 seek_end name i count (Value k o l) s e le = absurd (cc)

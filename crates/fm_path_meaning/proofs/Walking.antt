@@ -42,7 +42,8 @@ made_like a b ds es u e f = ap (λ x. made x ds u) e ∙ ap (λ x. made b x u) f
 -- a move goes onto the way so far
 onto_moved : (a : ℕ) (ds : List Dim) (m : Move) (r : Result Walk Refusal) → onto a ds (moved m r) ≡ onto (a + m.by) (ds ++ with_dim m.dim []) r
 onto_moved a ds m (Err e) = refl
-onto_moved a ds m (Ok w) = made_like (a + (m.by + w.offset)) (a + m.by + w.offset) (ds ++ with_dim m.dim w.dims) ((ds ++ with_dim m.dim []) ++ w.dims) w.last (omega arith) (with_dim_append ds w.dims m.dim)
+onto_moved a ds m (Ok w) = made_like (a + (m.by + w.offset)) (a + m.by + w.offset) (ds ++ with_dim m.dim w.dims) ((ds ++ with_dim m.dim []) ++ w.dims) w.last
+    (omega arith) (with_dim_append ds w.dims m.dim)
 
 -- a walk behind nothing is itself
 onto_nothing : (r : Result Walk Refusal) → onto 0 [] r ≡ r
@@ -60,7 +61,8 @@ pub on_way_start : (go : ℕ → PathStep → Tree → Moved) (path : List PathS
 on_way_start go path t = record { true_offset = 0; kept = omega arith; way = onto_nothing (walk_by go path 0 t) }
 
 -- one more step
-pub on_way_more : (go : ℕ → PathStep → Tree → Moved) (path : List PathStep) (t : Tree) (k offset : ℕ) (dims : List Dim) (here : Tree) (p : PathStep) (m : Move) (offset' : ℕ) (dims' : List Dim)
+pub on_way_more : (go : ℕ → PathStep → Tree
+    → Moved) (path : List PathStep) (t : Tree) (k offset : ℕ) (dims : List Dim) (here : Tree) (p : PathStep) (m : Move) (offset' : ℕ) (dims' : List Dim)
     → IsOnWay go path t k offset dims here → k < length path → p ≡ get_or path k p → go k p here ≡ Ok m
     → offset' ≡ min (offset + m.by) (2 ^ 64 - 1) → dims' ≡ dims ++ with_dim m.dim [] → IsOnWay go path t (k + 1) offset' dims' m.to
 on_way_more go path t k offset dims here p m offset' dims' w lt is e eo ed = record {
@@ -74,17 +76,23 @@ on_way_more go path t k offset dims here p m offset' dims' w lt is e eo ed = rec
 }
 
 -- a refused step refuses the path
-pub on_way_err : (go : ℕ → PathStep → Tree → Moved) (path : List PathStep) (t : Tree) (k offset : ℕ) (dims : List Dim) (here : Tree) (p : PathStep) (e : Refusal)
+pub on_way_err : (go : ℕ → PathStep → Tree
+    → Moved) (path : List PathStep) (t : Tree) (k offset : ℕ) (dims : List Dim) (here : Tree) (p : PathStep) (e : Refusal)
     → IsOnWay go path t k offset dims here → k < length path → p ≡ get_or path k p → go k p here ≡ Err e → walk_by go path 0 t ≡ Err e
 on_way_err go path t k offset dims here p e w lt is m =
     sym w.way ∙ ap (λ ps. onto w.true_offset dims (walk_by go ps k here)) (drop_more path k p lt)
     ∙ ap (λ r. onto w.true_offset dims (r >>= λ m. moved m (walk_by go (drop (k + 1) path) (k + 1) m.to))) (sym (ap (λ s. go k s here) is) ∙ m)
 
 -- behind the last step the way is the whole walk
-pub on_way_end : (go : ℕ → PathStep → Tree → Moved) (path : List PathStep) (t : Tree) (k offset : ℕ) (dims : List Dim) (here : Tree) → IsOnWay go path t k offset dims here → length path ≤ k
+pub on_way_end : (go : ℕ → PathStep → Tree → Moved) (path : List PathStep) (t : Tree) (k offset : ℕ) (dims : List Dim) (here : Tree)
+    → IsOnWay go path t k offset dims here → length path ≤ k
     → (a : ℕ) × (offset ≡ min a (2 ^ 64 - 1)) × (walk_by go path 0 t ≡ made a dims here)
-on_way_end go path t k offset dims here w le =
-    (w.true_offset, w.kept, sym w.way ∙ ap (λ ps. onto w.true_offset dims (walk_by go ps k here)) (drop_all k path le) ∙ made_like (w.true_offset + 0) w.true_offset (dims ++ []) dims here (omega arith) (append-nil dims))
+on_way_end go path t k offset dims here w le = (
+  w.true_offset,
+  w.kept,
+  sym w.way ∙ ap (λ ps. onto w.true_offset dims (walk_by go ps k here)) (drop_all k path le)
+      ∙ made_like (w.true_offset + 0) w.true_offset (dims ++ []) dims here (omega arith) (append-nil dims),
+)
 
 -- a refused walk is a refused path, whatever the indices
 pub refused : (path : List PathStep) (t : Tree) (e : Refusal) → walk path t ≡ Err e → IsRefused path t e
@@ -118,43 +126,53 @@ at_zeros at (d ∷ ds) [] = refl
 at_zeros at (d ∷ ds) (i ∷ is) = ap (λ x. offset_at x ds (zeros is)) (reach_zero at d.stride) ∙ at_zeros at ds is
 
 -- at these indices the walk meets following
-met : (path : List PathStep) (t : Tree) (a : ℕ) (dims : List Dim) (u : Tree) → walk path t ≡ made a dims u → (is : List ℕ) → AreAdmitted dims is → Meets taken path 0 t (record { offset = a; dims = dims; last = u }) is
+met : (path : List PathStep) (t : Tree) (a : ℕ) (dims : List Dim) (u : Tree) → walk path t ≡ made a dims u → (is : List ℕ) → AreAdmitted dims is
+    → Meets taken path 0 t (record { offset = a; dims = dims; last = u }) is
 met path t a dims u w is h = let g : Agrees taken path 0 t (made a dims u) = subst (Agrees taken path 0 t) w (agrees path 0 t) in g is h
 
 -- where some indices are admitted, the offset is that of a place
-small_offset : (path : List PathStep) (t : Tree) (a : ℕ) (dims : List Dim) (u : Tree) → walk path t ≡ made a dims u → (is : List ℕ) → AreAdmitted dims is → a + size_of u ≤ size_of t
+small_offset : (path : List PathStep) (t : Tree) (a : ℕ) (dims : List Dim) (u : Tree) → walk path t ≡ made a dims u → (is : List ℕ) → AreAdmitted dims is
+    → a + size_of u ≤ size_of t
 small_offset path t a dims u w is h =
     let m = met path t a dims u w (zeros is) (zeros_admitted dims is h) in
     omega (arith, inside m.steps t _ u m.stands, at_zeros a dims is)
 
 -- and then it was kept whole
-same_offset : (path : List PathStep) (t : Tree) (offset : ℕ) (dims : List Dim) (u : Tree) → IsWellFormed t → (l : LeadsTo path t offset dims u) → (is : List ℕ) → AreAdmitted dims is → l.whole ≡ offset
+same_offset : (path : List PathStep) (t : Tree) (offset : ℕ) (dims : List Dim) (u : Tree) → IsWellFormed t → (l : LeadsTo path t offset dims u)
+    → (is : List ℕ) → AreAdmitted dims is → l.whole ≡ offset
 same_offset path t offset dims u well l is h = omega (arith, l.kept, small_offset path t l.whole dims u l.walked is h, (fit_of t well).size)
 
 -- at admitted indices the offset is that of the place that following the path finds
-pub leads_finds : (path : List PathStep) (t : Tree) (offset : ℕ) (dims : List Dim) (u : Tree) → IsWellFormed t → LeadsTo path t offset dims u → (is : List ℕ) → AreAdmitted dims is → Finds path t is (offset_at offset dims is) u
+pub leads_finds : (path : List PathStep) (t : Tree) (offset : ℕ) (dims : List Dim) (u : Tree) → IsWellFormed t → LeadsTo path t offset dims u → (is : List ℕ)
+    → AreAdmitted dims is → Finds path t is (offset_at offset dims is) u
 leads_finds path t offset dims u well l is h =
     let m = met path t l.whole dims u l.walked is h in
     subst (λ x. Finds path t is (offset_at x dims is) u) (same_offset path t offset dims u well l is h)
     (record { steps = m.steps; follows = m.follows; listed = listed t m.steps (offset_at l.whole dims is) u m.stands })
 
 -- and that place lies inside the layout
-pub leads_inside : (path : List PathStep) (t : Tree) (offset : ℕ) (dims : List Dim) (u : Tree) → IsWellFormed t → LeadsTo path t offset dims u → (is : List ℕ) → AreAdmitted dims is → offset_at offset dims is + size_of u ≤ size_of t
+pub leads_inside : (path : List PathStep) (t : Tree) (offset : ℕ) (dims : List Dim) (u : Tree) → IsWellFormed t → LeadsTo path t offset dims u → (is : List ℕ)
+    → AreAdmitted dims is → offset_at offset dims is + size_of u ≤ size_of t
 leads_inside path t offset dims u well l is h =
     let m = met path t l.whole dims u l.walked is h in
     subst (λ x. offset_at x dims is + size_of u ≤ size_of t) (same_offset path t offset dims u well l is h) (inside m.steps t _ u m.stands)
 
 -- that place stands at a multiple of its alignment, which is a power of two and divides the layout's
-pub leads_aligned : (path : List PathStep) (t : Tree) (offset : ℕ) (dims : List Dim) (u : Tree) → IsWellFormed t → LeadsTo path t offset dims u → (is : List ℕ) → AreAdmitted dims is
+pub leads_aligned : (path : List PathStep) (t : Tree) (offset : ℕ) (dims : List Dim) (u : Tree) → IsWellFormed t → LeadsTo path t offset dims u
+    → (is : List ℕ) → AreAdmitted dims is
     → IsPowerOfTwo (alignment_of u) × (offset_at offset dims is % alignment_of u ≡ 0) × (alignment_of t % alignment_of u ≡ 0)
 leads_aligned path t offset dims u well l is h =
     let m = met path t l.whole dims u l.walked is h in
     let fit = place_fits_root m.steps t (offset_at l.whole dims is) u well m.stands in
-    let same = same_offset path t offset dims u well l is h in
-    ((fit_of u fit.0).power, subst (λ x. offset_at x dims is % alignment_of u ≡ 0) same (place_aligned m.steps t (offset_at l.whole dims is) u well m.stands), fit.1)
+    let same = same_offset path t offset dims u well l is h in (
+      (fit_of u fit.0).power,
+      subst (λ x. offset_at x dims is % alignment_of u ≡ 0) same (place_aligned m.steps t (offset_at l.whole dims is) u well m.stands),
+      fit.1,
+    )
 
 -- each offset on the way is that of a place
-keeps_inside : (at most : ℕ) (ds : List Dim) (is : List ℕ) → most < 2 ^ 64 → ((js : List ℕ) → AreAdmitted ds js → offset_at at ds js ≤ most) → StaysAbove at ds is → AreAdmitted ds is → IsSteady at ds is
+keeps_inside : (at most : ℕ) (ds : List Dim) (is : List ℕ) → most < 2 ^ 64 → ((js : List ℕ) → AreAdmitted ds js → offset_at at ds js ≤ most)
+    → StaysAbove at ds is → AreAdmitted ds is → IsSteady at ds is
 keeps_inside at most [] is lt f s a = tt
 keeps_inside at most (d ∷ ds) [] lt f s a = tt
 keeps_inside at most (d ∷ ds) (i ∷ is) lt f s a =
@@ -164,7 +182,8 @@ keeps_inside at most (d ∷ ds) (i ∷ is) lt f s a =
     )
 
 -- so no sum over admitted indices passes 64 bits or falls below 0
-pub leads_steady : (path : List PathStep) (t : Tree) (offset : ℕ) (dims : List Dim) (u : Tree) → IsWellFormed t → LeadsTo path t offset dims u → (is : List ℕ) → AreAdmitted dims is → IsSteady offset dims is
+pub leads_steady : (path : List PathStep) (t : Tree) (offset : ℕ) (dims : List Dim) (u : Tree) → IsWellFormed t → LeadsTo path t offset dims u → (is : List ℕ)
+    → AreAdmitted dims is → IsSteady offset dims is
 leads_steady path t offset dims u well l is h =
     subst (λ x. IsSteady x dims is) (same_offset path t offset dims u well l is h)
     (keeps_inside l.whole (size_of t) dims is (omega (arith, (fit_of t well).size))
@@ -191,11 +210,13 @@ ends_like ps qs j k t u (Ok w) e h = e ∙ h
 ends_like ps qs j k t u (Err x) e h = e ∙ h
 
 -- a step, and then the rest
-ends_join : (p : PathStep) (ps : List PathStep) (k : ℕ) (t : Tree) (r : Moved) → Fits (taken k p t) p t r → ((u : Tree) → Ends ps (k + 1) u (walk_by move ps (k + 1) u)) → Ends (p ∷ ps) k t (r >>= λ m. moved m (walk_by move ps (k + 1) m.to))
+ends_join : (p : PathStep) (ps : List PathStep) (k : ℕ) (t : Tree) (r : Moved) → Fits (taken k p t) p t r
+    → ((u : Tree) → Ends ps (k + 1) u (walk_by move ps (k + 1) u)) → Ends (p ∷ ps) k t (r >>= λ m. moved m (walk_by move ps (k + 1) m.to))
 ends_join p ps k t (Err e) f ih = ap (λ c. c >>= λ c. end_from ps (k + 1) c.1) (f 0)
 ends_join p ps k t (Ok m) f ih =
     let e = ends_by_dim k p t m.dim m.by m.to f in
-    ends_like (p ∷ ps) ps k (k + 1) t m.to (moved m (walk_by move ps (k + 1) m.to)) (ap (λ c. c >>= λ c. end_from ps (k + 1) c.1) e.1) (ends_moved ps (k + 1) m (walk_by move ps (k + 1) m.to) (ih m.to))
+    ends_like (p ∷ ps) ps k (k + 1) t m.to (moved m (walk_by move ps (k + 1) m.to)) (ap (λ c. c >>= λ c. end_from ps (k + 1) c.1) e.1)
+    (ends_moved ps (k + 1) m (walk_by move ps (k + 1) m.to) (ih m.to))
 
 -- the walk ends where the path does
 ends : (ps : List PathStep) (k : ℕ) (t : Tree) → Ends ps k t (walk_by move ps k t)
@@ -207,18 +228,21 @@ pub leads_end : (path : List PathStep) (t : Tree) (offset : ℕ) (dims : List Di
 leads_end path t offset dims u l = subst (Ends path 0 t) l.walked (ends path 0 t)
 
 -- where no step is left open, the walk's offset is that of the place that following finds
-pub closed_finds : (path : List PathStep) (t : Tree) (a : ℕ) (u : Tree) → walk_closed path t ≡ made a [] u → FindsClosed path t a u × (a + size_of u ≤ size_of t)
+pub closed_finds : (path : List PathStep) (t : Tree) (a : ℕ) (u : Tree) → walk_closed path t ≡ made a [] u
+    → FindsClosed path t a u × (a + size_of u ≤ size_of t)
 closed_finds path t a u w =
     let g : Agrees taken_closed path 0 t (made a [] u) = subst (Agrees taken_closed path 0 t) w (agrees_closed path 0 t) in
     let m = g [] tt in
     (record { steps = m.steps; follows = m.follows; listed = listed t m.steps a u m.stands }, inside m.steps t a u m.stands)
 
 -- where the path ends, what was kept of the walk is where it leads
-pub on_way_leads : (path : List PathStep) (t : Tree) (k offset : ℕ) (dims : List Dim) (here : Tree) → IsOnWay move path t k offset dims here → length path ≤ k → LeadsTo path t offset dims here
+pub on_way_leads : (path : List PathStep) (t : Tree) (k offset : ℕ) (dims : List Dim) (here : Tree) → IsOnWay move path t k offset dims here → length path ≤ k
+    → LeadsTo path t offset dims here
 on_way_leads path t k offset dims here w le = let e = on_way_end move path t k offset dims here w le in record { whole = e.0; kept = e.1; walked = e.2 }
 
 -- the same where no step may be left open: the offset is that of the place
-pub on_way_finds : (path : List PathStep) (t : Tree) (k offset : ℕ) (here : Tree) → IsWellFormed t → IsOnWay move_closed path t k offset [] here → length path ≤ k → FindsClosed path t offset here
+pub on_way_finds : (path : List PathStep) (t : Tree) (k offset : ℕ) (here : Tree) → IsWellFormed t → IsOnWay move_closed path t k offset [] here
+    → length path ≤ k → FindsClosed path t offset here
 on_way_finds path t k offset here well w le =
     let e = on_way_end move_closed path t k offset [] here w le in
     let f = closed_finds path t e.0 here e.2 in
@@ -236,7 +260,8 @@ found_no_dim k t ms None m e = absurd (cc)
 found_no_dim k t ms (Some n) m e = member_no_dim k n t (tree_at n ms) m e
 
 -- a step to an element has no dim
-at_no_dim : (k n : ℕ) (u : Tree) (b : Bool) (m : Move) → (if b then Ok (record { by = n * size_of u; dim = None; to = u }) else Err (IndexOut k)) ≡ Ok m → m.dim ≡ None
+at_no_dim : (k n : ℕ) (u : Tree) (b : Bool) (m : Move) → (if b then Ok (record { by = n * size_of u; dim = None; to = u }) else Err (IndexOut k)) ≡ Ok m
+    → m.dim ≡ None
 at_no_dim k n u true m e = cc
 at_no_dim k n u false m e = absurd (cc)
 

@@ -44,8 +44,10 @@ pub record IsDimOf (p : PathStep) (count : ℕ) (element : Tree) (d : Dim) : Typ
 -- a dim for each step of the path that is left open, in their order
 pub data HasDims : List PathStep → Tree → List Dim → Type 0 where
   no_step : {t : Tree} → HasDims [] t []
-  closed_step : {p : PathStep} {ps : List PathStep} {t : Tree} {ds : List Dim} → (k : ℕ) → (s : Step) → (u : Tree) → taken_closed k p t 0 ≡ Ok (s, u) → HasDims ps u ds → HasDims (p ∷ ps) t ds
-  open_step : {p : PathStep} {ps : List PathStep} {t : Tree} {d : Dim} {ds : List Dim} → (count : ℕ) → (e : Tree) → row_of t ≡ Some (count, e) → IsDimOf p count e d → HasDims ps e ds → HasDims (p ∷ ps) t (d ∷ ds)
+  closed_step : {p : PathStep} {ps : List PathStep} {t : Tree} {ds : List Dim} → (k : ℕ) → (s : Step) → (u : Tree) → taken_closed k p t 0 ≡ Ok (s, u)
+      → HasDims ps u ds → HasDims (p ∷ ps) t ds
+  open_step : {p : PathStep} {ps : List PathStep} {t : Tree} {d : Dim} {ds : List Dim} → (count : ℕ) → (e : Tree) → row_of t ≡ Some (count, e)
+      → IsDimOf p count e d → HasDims ps e ds → HasDims (p ∷ ps) t (d ∷ ds)
 
 -- one pass over the path comes to this offset, as far as 64 bits go, to these dims and to this layout
 pub record LeadsTo (path : List PathStep) (t : Tree) (offset : ℕ) (dims : List Dim) (u : Tree) : Type 0 where

@@ -1,7 +1,8 @@
 -- The machine reads each text of a path.
-use Rattle.std.proofs.Common.{◌≡◌, refl, sym, ap, subst, ℕ, ◌+◌, ◌-◌, ◌*◌, ◌/◌, ◌%◌, ◌<◌, ◌≤◌, suc, Bool, true, false, ◌||◌, if◌then◌else◌, nat_eq, Some, None, List, [], ◌∷◌, ◌++◌, length, arith, ◌∙◌}
+use Rattle.std.proofs.Common.{◌≡◌, refl, sym, ap, subst, ℕ, ◌+◌, ◌-◌, ◌*◌, ◌/◌, ◌%◌, ◌<◌, ◌≤◌, suc, Bool, true, false, ◌||◌, if◌then◌else◌, Some, None, List, [], ◌∷◌, ◌++◌, length, arith, ◌∙◌}
 use Rattle.std.specs.Prelude.{IsTrue, decimal, pos, negsuc}
 use Rattle.std.specs.List.{AllByRecursion}
+use Rattle.std.proofs.lemmas.Bool.{lt-ltb, ne_eqb}
 use Rattle.std.proofs.lemmas.Bool.Decides.{nat_tests}
 use Rattle.std.proofs.lemmas.List.{append_assoc, append-nil, length-append}
 use Rattle.std.proofs.lemmas.Fmt.{decimal_by_steps}
@@ -9,26 +10,27 @@ use Rattle.fm_path_text.specs.declared.step.PathStep.{PathStep}
 use Rattle.fm_path_text.specs.declared.step.PathStep.TheVariants.{Name, Group, At, Each, EachFrom}
 use Rattle.fm_layout.specs.Name.{is_letter, is_digit, IsNameEnd}
 use Rattle.fm_path_text.specs.Grammar.{piece_of, pieces_of, path_text, most_number, HasPiece, IsPath, Begins}
-use Rattle.fm_path_text.specs.Reader.{sign_of, longer_number, spells, next, Spot, spot, moved, onward, run, start, whole}
+use Rattle.fm_path_text.specs.Reader.{sign_of, longer_number, spells, next, Spot, spot, moved, reads, onward, run, start, whole, whole_at}
 use Rattle.fm_path_text.specs.declared.part.Part.{Part}
 use Rattle.fm_path_text.specs.declared.part.Part.TheVariants.{Between, Dot, Word, Hash, Number, Open, Index, Colon, Minus, Up, Down}
 use Rattle.fm_path_text.specs.declared.sign.Sign.TheVariants as sign
 use Rattle.fm_path_text.specs.declared.part.Move.TheVariants.{Dead, Stay}
-use Rattle.fm_path_text.proofs.Reading.{MayHaveRead, has_read, read_nothing, can_end, is_whole, IsSettled, By_end, By_word, By_number, dot_next, open_next, run_append, digit_sign, lt_test}
-
--- a refused text stays refused
-run_none : (bs : List ℕ) → run bs None ≡ None
-run_none [] = refl
-run_none (b ∷ bs) = run_none bs
-
--- two different numbers fail the test
-no : (a b : ℕ) → (a ≡ b → ⊥) → nat_eq a b ≡ false
-no a b f = grind (arith, nat_tests)
+use Rattle.fm_path_text.proofs.Machine.{run_append, Accepts, stops_short, reads_none, reads_one}
+use Rattle.fm_path_text.proofs.Reading.{MayHaveRead, has_read, read_nothing, can_end, is_whole, IsSettled, By_end, By_word, By_number, dot_next, open_next, digit_sign}
 
 -- the sign of a letter is the letter
 letter_sign : (c : ℕ) → IsTrue (is_letter c) → sign_of c ≡ sign.Letter c
 letter_sign c h =
-    rw (no c 46 (λ x. let k : false ≡ true = other c 46 h x in cc), no c 35 (λ x. let k : false ≡ true = other c 35 h x in cc), no c 91 (λ x. let k : false ≡ true = other c 91 h x in cc), no c 93 (λ x. let k : false ≡ true = other c 93 h x in cc), no c 58 (λ x. let k : false ≡ true = other c 58 h x in cc), no c 45 (λ x. let k : false ≡ true = other c 45 h x in cc), no_digit c h, h) refl
+    rw (
+      ne_eqb c 46 (λ x. let k : false ≡ true = other c 46 h x in cc),
+      ne_eqb c 35 (λ x. let k : false ≡ true = other c 35 h x in cc),
+      ne_eqb c 91 (λ x. let k : false ≡ true = other c 91 h x in cc),
+      ne_eqb c 93 (λ x. let k : false ≡ true = other c 93 h x in cc),
+      ne_eqb c 58 (λ x. let k : false ≡ true = other c 58 h x in cc),
+      ne_eqb c 45 (λ x. let k : false ≡ true = other c 45 h x in cc),
+      no_digit c h,
+      h,
+    ) refl
   where
     other : (c b : ℕ) → IsTrue (is_letter c) → c ≡ b → IsTrue (is_letter b)
     other c b h e = subst (λ x. IsTrue (is_letter x)) e h
@@ -38,14 +40,15 @@ letter_sign c h =
 
 -- one more byte of a name leads on where there is room
 spelled : (ds : List PathStep) (w : List ℕ) (c : ℕ) → length w < 64 → moved ds (spells w c) ≡ Some (spot ds (Word (w ++ c ∷ [])))
-spelled ds w c lt = ap (λ b. moved ds (if b then Stay (Word (w ++ c ∷ [])) else Dead)) (lt_test (length w) 64 lt)
+spelled ds w c lt = ap (λ b. moved ds (if b then Stay (Word (w ++ c ∷ [])) else Dead)) (lt-ltb (length w) 64 lt)
 
 -- a digit is 48 and a number below ten
 digit_byte : (c : ℕ) → is_digit c ≡ true → (d : ℕ) × (d < 10) × (c ≡ 48 + d)
 digit_byte c h = (c - 48, grind (arith, nat_tests), grind (arith, nat_tests))
 
 -- the part after one more byte of a name
-name_step : (ds : List PathStep) (w : List ℕ) (c : ℕ) → IsTrue (is_letter c || is_digit c) → length w < 64 → onward (Some (spot ds (Word w))) c ≡ Some (spot ds (Word (w ++ c ∷ [])))
+name_step : (ds : List PathStep) (w : List ℕ) (c : ℕ) → IsTrue (is_letter c || is_digit c) → length w < 64
+    → onward (Some (spot ds (Word w))) c ≡ Some (spot ds (Word (w ++ c ∷ [])))
 name_step ds w c h lt = go (is_letter c) refl
   where
     go : (b : Bool) → is_letter c ≡ b → onward (Some (spot ds (Word w))) c ≡ Some (spot ds (Word (w ++ c ∷ [])))
@@ -62,7 +65,8 @@ name_step ds w c h lt = go (is_letter c) refl
 run_name : (ds : List PathStep) (cs w : List ℕ) → IsNameEnd cs → length w + length cs ≤ 64 → run cs (Some (spot ds (Word w))) ≡ Some (spot ds (Word (w ++ cs)))
 run_name ds [] w n le = ap (λ x. Some (spot ds (Word x))) (sym (append-nil w))
 run_name ds (c ∷ cs) w n le =
-    ap (run cs) (name_step ds w c n.0 (omega arith)) ∙ run_name ds cs (w ++ c ∷ []) n.1 (omega (arith, length-append w (c ∷ []))) ∙ ap (λ x. Some (spot ds (Word x))) (append_assoc w (c ∷ []) cs)
+    ap (run cs) (name_step ds w c n.0 (omega arith)) ∙ run_name ds cs (w ++ c ∷ []) n.1 (omega (arith, length-append w (c ∷ [])))
+    ∙ ap (λ x. Some (spot ds (Word x))) (append_assoc w (c ∷ []) cs)
 
 -- a digit behind a number that is not 0 leads on within the limit
 more_is : (n d : ℕ) → 0 < n → 10 * n + d ≤ most_number → longer_number n d ≡ Some (10 * n + d)
@@ -77,11 +81,13 @@ first_index : (ds : List PathStep) (d : ℕ) → d < 10 → onward (Some (spot d
 first_index ds d h = rw (digit_sign d h) refl
 
 -- a further digit of a member index
-next_number : (ds : List PathStep) (n d : ℕ) → d < 10 → 0 < n → 10 * n + d ≤ most_number → onward (Some (spot ds (Number n))) (48 + d) ≡ Some (spot ds (Number (10 * n + d)))
+next_number : (ds : List PathStep) (n d : ℕ) → d < 10 → 0 < n → 10 * n + d ≤ most_number
+    → onward (Some (spot ds (Number n))) (48 + d) ≡ Some (spot ds (Number (10 * n + d)))
 next_number ds n d h gt le = rw (digit_sign d h, more_is n d gt le) refl
 
 -- a further digit of an element index
-next_index : (ds : List PathStep) (n d : ℕ) → d < 10 → 0 < n → 10 * n + d ≤ most_number → onward (Some (spot ds (Index n))) (48 + d) ≡ Some (spot ds (Index (10 * n + d)))
+next_index : (ds : List PathStep) (n d : ℕ) → d < 10 → 0 < n → 10 * n + d ≤ most_number
+    → onward (Some (spot ds (Index n))) (48 + d) ≡ Some (spot ds (Index (10 * n + d)))
 next_index ds n d h gt le = rw (digit_sign d h, more_is n d gt le) refl
 
 -- reading a number's digits from a part, where digits lead on so
@@ -94,7 +100,7 @@ run_digits ds from at one again n le =
     (λ n small _. one n small)
     (λ n text big ih le.
     let e : 10 * (n / 10) + n % 10 ≡ n = omega arith in
-    run_append text ((48 + n % 10) ∷ []) (Some (spot ds from))
+    run_append reads text ((48 + n % 10) ∷ []) (Some (spot ds from))
     ∙ ap (λ o. onward o (48 + n % 10)) (ih (omega arith))
     ∙ again (n / 10) (n % 10) (omega arith) (omega arith) (omega arith)
     ∙ ap (λ m. Some (spot ds (at m))) e)
@@ -116,7 +122,7 @@ run_positive ds from at one again n gt le =
     (λ n small gt _. one n small gt)
     (λ n text big ih gt le.
     let e : 10 * (n / 10) + n % 10 ≡ n = omega arith in
-    run_append text ((48 + n % 10) ∷ []) (Some (spot ds from))
+    run_append reads text ((48 + n % 10) ∷ []) (Some (spot ds from))
     ∙ ap (λ o. onward o (48 + n % 10)) (ih (omega arith) (omega arith))
     ∙ again (n / 10) (n % 10) (omega arith) (omega arith) (omega arith)
     ∙ ap (λ m. Some (spot ds (at m))) e)
@@ -127,21 +133,24 @@ first_up : (ds : List PathStep) (f d : ℕ) → d < 10 → onward (Some (spot ds
 first_up ds f d h = rw (digit_sign d h) refl
 
 -- a further digit of a stride
-next_up : (ds : List PathStep) (f n d : ℕ) → d < 10 → 0 < n → 10 * n + d ≤ most_number → onward (Some (spot ds (Up f n))) (48 + d) ≡ Some (spot ds (Up f (10 * n + d)))
+next_up : (ds : List PathStep) (f n d : ℕ) → d < 10 → 0 < n → 10 * n + d ≤ most_number
+    → onward (Some (spot ds (Up f n))) (48 + d) ≡ Some (spot ds (Up f (10 * n + d)))
 next_up ds f n d h gt le = rw (digit_sign d h, more_is n d gt le) refl
 
 -- the first digit of a stride back
 first_down : (ds : List PathStep) (f d : ℕ) → d < 10 → 0 < d → onward (Some (spot ds (Minus f))) (48 + d) ≡ Some (spot ds (Down f d))
-first_down ds f d h gt = rw (digit_sign d h, no d 0 (λ x. omega arith)) refl
+first_down ds f d h gt = rw (digit_sign d h, ne_eqb d 0 (λ x. omega arith)) refl
 
 -- a further digit of a stride back
-next_down : (ds : List PathStep) (f n d : ℕ) → d < 10 → 0 < n → 10 * n + d ≤ most_number → onward (Some (spot ds (Down f n))) (48 + d) ≡ Some (spot ds (Down f (10 * n + d)))
+next_down : (ds : List PathStep) (f n d : ℕ) → d < 10 → 0 < n → 10 * n + d ≤ most_number
+    → onward (Some (spot ds (Down f n))) (48 + d) ≡ Some (spot ds (Down f (10 * n + d)))
 next_down ds f n d h gt le = rw (digit_sign d h, more_is n d gt le) refl
 
 -- reading [F: and then more
-first_of : (ds : List PathStep) (s : Spot) (f : ℕ) (rest : List ℕ) → IsSettled ds s → length ds < 64 → f ≤ most_number → run (91 ∷ decimal f ++ 58 ∷ rest) (Some s) ≡ run rest (Some (spot ds (Colon f)))
+first_of : (ds : List PathStep) (s : Spot) (f : ℕ) (rest : List ℕ) → IsSettled ds s → length ds < 64 → f ≤ most_number
+    → run (91 ∷ decimal f ++ 58 ∷ rest) (Some s) ≡ run rest (Some (spot ds (Colon f)))
 first_of ds s f rest h lt le =
-    ap (run (decimal f ++ 58 ∷ rest)) (open_next ds s h lt) ∙ run_append (decimal f) (58 ∷ rest) (Some (spot ds Open))
+    ap (run (decimal f ++ 58 ∷ rest)) (open_next ds s h lt) ∙ run_append reads (decimal f) (58 ∷ rest) (Some (spot ds Open))
     ∙ ap (λ o. run rest (onward o 58)) (run_digits ds Open (λ m. Index m) (first_index ds) (next_index ds) f le)
 
 -- each piece is read to its step
@@ -159,7 +168,8 @@ reads_piece ds s (Group n) h lt a = record {
 }
 reads_piece ds s (At n) h lt a = record {
   to = spot (ds ++ At n ∷ []) Between;
-  by = ap (run (decimal n ++ 93 ∷ [])) (open_next ds s h lt) ∙ run_append (decimal n) (93 ∷ []) (Some (spot ds Open)) ∙ ap (λ o. onward o 93) (run_digits ds Open (λ m. Index m) (first_index ds) (next_index ds) n a);
+  by = ap (run (decimal n ++ 93 ∷ [])) (open_next ds s h lt) ∙ run_append reads (decimal n) (93 ∷ []) (Some (spot ds Open))
+      ∙ ap (λ o. onward o 93) (run_digits ds Open (λ m. Index m) (first_index ds) (next_index ds) n a);
   settled = By_end;
 }
 reads_piece ds s Each h lt a = record {
@@ -170,14 +180,14 @@ reads_piece ds s Each h lt a = record {
 reads_piece ds s (EachFrom f (pos n)) h lt a = record {
   to = spot (ds ++ EachFrom f (pos n) ∷ []) Between;
   by = first_of ds s f (decimal n ++ 93 ∷ []) h lt a.0
-      ∙ run_append (decimal n) (93 ∷ []) (Some (spot ds (Colon f)))
+      ∙ run_append reads (decimal n) (93 ∷ []) (Some (spot ds (Colon f)))
       ∙ ap (λ o. onward o 93) (run_digits ds (Colon f) (Up f) (first_up ds f) (next_up ds f) n a.1);
   settled = By_end;
 }
 reads_piece ds s (EachFrom f (negsuc n)) h lt a = record {
   to = spot (ds ++ EachFrom f (negsuc n) ∷ []) Between;
   by = first_of ds s f (45 ∷ decimal (suc n) ++ 93 ∷ []) h lt a.0
-      ∙ run_append (decimal (suc n)) (93 ∷ []) (Some (spot ds (Minus f)))
+      ∙ run_append reads (decimal (suc n)) (93 ∷ []) (Some (spot ds (Minus f)))
       ∙ ap (λ o. onward o 93) (run_positive ds (Minus f) (Down f) (first_down ds f) (next_down ds f) (suc n) (omega arith) a.1);
   settled = By_end;
 }
@@ -190,7 +200,7 @@ reads_pieces (p ∷ ps) ds s h a le =
     let r = reads_pieces ps (ds ++ p ∷ []) g.to g.settled a.1 (omega (arith, length-append ds (p ∷ []))) in
     record {
       to = r.to;
-      by = run_append (piece_of p) (pieces_of ps) (Some s) ∙ ap (run (pieces_of ps)) g.by ∙ r.by;
+      by = run_append reads (piece_of p) (pieces_of ps) (Some s) ∙ ap (run (pieces_of ps)) g.by ∙ r.by;
       settled = subst (λ x. IsSettled x r.to) (append_assoc ds (p ∷ []) ps) r.settled;
     }
 
@@ -201,7 +211,7 @@ settled_whole d ds s (By_word es w e) = ap Some (sym e)
 settled_whole d ds s (By_number es n e) = ap Some (sym e)
 
 -- each text of a path is read, to that path
-pub accepts : (ps : List PathStep) → IsPath ps → (s : Spot) × (run (path_text ps) start ≡ Some s) × (whole s.done s.part ≡ Some ps)
+pub accepts : (ps : List PathStep) → IsPath ps → Accepts reads start whole_at (path_text ps) ps
 accepts [] h = (spot [] Dot, refl, refl)
 accepts (p ∷ ps) h =
     let g = reads_pieces (p ∷ ps) [] (spot [] Between) By_end h.each (omega (arith, h.short)) in
@@ -209,10 +219,7 @@ accepts (p ∷ ps) h =
 
 -- where the machine stops, no text goes on
 pub stops : (text : List ℕ) → run text start ≡ None → Begins text → ⊥
-stops text e b =
-    let a = accepts b.1 b.2 in
-    let f : None ≡ Some a.0 = sym (run_none b.0) ∙ ap (run b.0) (sym e) ∙ sym (run_append text b.0 start) ∙ ap (λ t. run t start) b.3 ∙ a.1 in
-    absurd (cc)
+stops text e b = stops_short reads start whole_at text b.0 (path_text b.1) b.1 e b.3 (accepts b.1 b.2)
 
 -- what was read begins a text
 pub begins : (text : List ℕ) (ds : List PathStep) (p : Part) → run text start ≡ Some (spot ds p) → Begins text
@@ -223,18 +230,11 @@ pub found : (text : List ℕ) (ds ps : List PathStep) (p : Part) → run text st
 found text ds ps p e w = is_whole text ds ps p (subst (MayHaveRead text) e (has_read text [] start read_nothing)) w
 
 -- what was not read whole is no text
-pub no_text : (text : List ℕ) (ds : List PathStep) (p : Part) → run text start ≡ Some (spot ds p) → whole ds p ≡ None → (ps : List PathStep) → IsPath ps → text ≡ path_text ps → ⊥
-no_text text ds p e w ps h t =
-    let a = accepts ps h in
-    let f : Some (spot ds p) ≡ Some a.0 = sym e ∙ ap (λ x. run x start) t ∙ a.1 in
-    let g : whole ds p ≡ whole a.0.done a.0.part = cc in
-    absurd (cc)
+pub no_text : (text : List ℕ) (ds : List PathStep) (p : Part) → run text start ≡ Some (spot ds p) → whole ds p ≡ None → (ps : List PathStep) → IsPath ps
+    → text ≡ path_text ps → ⊥
+no_text text ds p e w ps h t = reads_none reads start whole_at text (spot ds p) ps e w (subst (λ x. Accepts reads start whole_at x ps) (sym t) (accepts ps h))
 
 -- and the path of a text is the one that was read
-pub only : (text : List ℕ) (ds qs : List PathStep) (p : Part) → run text start ≡ Some (spot ds p) → whole ds p ≡ Some qs → (ps : List PathStep) → IsPath ps → text ≡ path_text ps → qs ≡ ps
-only text ds qs p e w ps h t =
-    let a = accepts ps h in
-    let f : Some (spot ds p) ≡ Some a.0 = sym e ∙ ap (λ x. run x start) t ∙ a.1 in
-    let g : whole ds p ≡ whole a.0.done a.0.part = cc in
-    let k : Some qs ≡ Some ps = sym w ∙ g ∙ a.2 in
-    cc
+pub only : (text : List ℕ) (ds qs : List PathStep) (p : Part) → run text start ≡ Some (spot ds p) → whole ds p ≡ Some qs → (ps : List PathStep) → IsPath ps
+    → text ≡ path_text ps → qs ≡ ps
+only text ds qs p e w ps h t = reads_one reads start whole_at text (spot ds p) qs ps e w (subst (λ x. Accepts reads start whole_at x ps) (sym t) (accepts ps h))

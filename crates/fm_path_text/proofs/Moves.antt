@@ -1,7 +1,8 @@
 -- What the machine has read, and how it can go on.
-use Rattle.std.proofs.Common.{◌≡◌, refl, sym, ap, ℕ, ◌+◌, ◌-◌, ◌*◌, ◌/◌, ◌%◌, ◌<◌, ◌≤◌, zero, suc, Bool, true, false, ◌||◌, if◌then◌else◌, nat_eq, nat_lt, nat_le, Some, None, List, [], ◌∷◌, ◌++◌, length, arith, ◌∙◌}
+use Rattle.std.proofs.Common.{◌≡◌, refl, sym, ap, ℕ, ◌+◌, ◌-◌, ◌*◌, ◌/◌, ◌%◌, ◌<◌, ◌≤◌, zero, suc, true, ◌||◌, if◌then◌else◌, nat_eq, nat_lt, nat_le, Some, None, List, [], ◌∷◌, ◌++◌, length, arith, ◌∙◌}
 use Rattle.std.specs.Prelude.{IsTrue, decimal, pos, neg_ℤ}
 use Rattle.std.specs.Fmt.{signed_decimal}
+use Rattle.std.proofs.lemmas.Bool.{cond_both, eqb-true, ltb-true, leb-true}
 use Rattle.std.proofs.lemmas.Bool.Decides.{nat_tests}
 use Rattle.std.proofs.lemmas.List.{append_assoc, append-nil}
 use Rattle.std.proofs.lemmas.Fmt.{decimal_step, decimal_digit}
@@ -58,30 +59,21 @@ Writes (sign.Digit d) b = (b ≡ 48 + d) × (d < 10)
 Writes (sign.Letter c) b = (b ≡ c) × IsTrue (is_letter c)
 Writes sign.Other b = Unit {0}
 
--- what holds of both values holds of the one that a test picks
-choose : {A : Type 0} (P : A → Type 0) (c : Bool) (x y : A) → (c ≡ true → P x) → (c ≡ false → P y) → P (if c then x else y)
-choose P true x y f g = f refl
-choose P false x y f g = g refl
-
 -- a digit is 48 and its value
 digit_is : (b : ℕ) → is_digit b ≡ true → Writes (sign.Digit (b - 48)) b
 digit_is b h = (grind (arith, nat_tests), grind (arith, nat_tests))
 
--- two numbers that the test finds equal are equal
-eqb_is : (a b : ℕ) → nat_eq a b ≡ true → a ≡ b
-eqb_is a b h = grind (arith, nat_tests)
-
 -- the sign of a byte says which byte it is
 pub told : (b : ℕ) → Writes (sign_of b) b
 told b =
-    choose (λ s. Writes s b) (nat_eq b 46) _ _ (λ h. eqb_is b 46 h) (λ _.
-    choose (λ s. Writes s b) (nat_eq b 35) _ _ (λ h. eqb_is b 35 h) (λ _.
-    choose (λ s. Writes s b) (nat_eq b 91) _ _ (λ h. eqb_is b 91 h) (λ _.
-    choose (λ s. Writes s b) (nat_eq b 93) _ _ (λ h. eqb_is b 93 h) (λ _.
-    choose (λ s. Writes s b) (nat_eq b 58) _ _ (λ h. eqb_is b 58 h) (λ _.
-    choose (λ s. Writes s b) (nat_eq b 45) _ _ (λ h. eqb_is b 45 h) (λ _.
-    choose (λ s. Writes s b) (is_digit b) _ _ (λ h. digit_is b h) (λ _.
-    choose (λ s. Writes s b) (is_letter b) _ _ (λ h. (refl, h)) (λ _. tt))))))))
+    cond_both (nat_eq b 46) _ _ (λ s. Writes s b) (λ h. eqb-true b 46 h) (λ _.
+    cond_both (nat_eq b 35) _ _ (λ s. Writes s b) (λ h. eqb-true b 35 h) (λ _.
+    cond_both (nat_eq b 91) _ _ (λ s. Writes s b) (λ h. eqb-true b 91 h) (λ _.
+    cond_both (nat_eq b 93) _ _ (λ s. Writes s b) (λ h. eqb-true b 93 h) (λ _.
+    cond_both (nat_eq b 58) _ _ (λ s. Writes s b) (λ h. eqb-true b 58 h) (λ _.
+    cond_both (nat_eq b 45) _ _ (λ s. Writes s b) (λ h. eqb-true b 45 h) (λ _.
+    cond_both (is_digit b) _ _ (λ s. Writes s b) (λ h. digit_is b h) (λ _.
+    cond_both (is_letter b) _ _ (λ s. Writes s b) (λ h. (refl, h)) (λ _. tt))))))))
 
 -- the text of a number with one more digit
 decimal_more : (n d : ℕ) → 0 < n → d < 10 → 10 * n + d ≤ most_number → decimal (10 * n + d) ≡ decimal n ++ (48 + d) ∷ []
@@ -96,31 +88,26 @@ Leaves p k b Dead = Unit {0}
 Leaves p k b (Stay q) = (shown p ++ b ∷ [] ≡ shown q) × IsLive k q
 Leaves p k b (Finish s q) = (shown p ++ b ∷ [] ≡ piece_of s ++ shown q) × HasPiece s × IsLive (k + 1) q
 
--- a number that the test finds smaller is smaller
-lt_is : (a b : ℕ) → nat_lt a b ≡ true → a < b
-lt_is a b h = grind (arith, nat_tests)
-
--- a number that the test finds at most another is at most it
-le_is : (a b : ℕ) → nat_le a b ≡ true → a ≤ b
-le_is a b h = grind (arith, nat_tests)
-
 -- a first byte leaves what its part shows, where there may be one more piece
 opens_leaves : (p q : Part) (k b : ℕ) → (k < 64 → Leaves p k b (Stay q)) → Leaves p k b (opens k q)
-opens_leaves p q k b f = choose (Leaves p k b) (nat_lt k 64) (Stay q) Dead (λ h. f (lt_is k 64 h)) (λ _. tt)
+opens_leaves p q k b f = cond_both (nat_lt k 64) (Stay q) Dead (Leaves p k b) (λ h. f (ltb-true k 64 h)) (λ _. tt)
 
 -- a byte that ends a piece leaves the piece, where there may be one more
 closes_leaves : (p q : Part) (s : PathStep) (k b : ℕ) → (k + 1 < 64 → Leaves p k b (Finish s q)) → Leaves p k b (closes k s q)
-closes_leaves p q s k b f = choose (Leaves p k b) (nat_lt (k + 1) 64) (Finish s q) Dead (λ h. f (lt_is (k + 1) 64 h)) (λ _. tt)
+closes_leaves p q s k b f = cond_both (nat_lt (k + 1) 64) (Finish s q) Dead (Leaves p k b) (λ h. f (ltb-true (k + 1) 64 h)) (λ _. tt)
 
 -- a letter or digit leaves a longer name
 spells_leaves : (s : List ℕ) (c k b : ℕ) → b ≡ c → IsTrue (is_letter c || is_digit c) → IsLive k (Word s) → Leaves (Word s) k b (spells s c)
-spells_leaves s c k b e h live = choose (Leaves (Word s) k b) (nat_lt (length s) 64) (Stay (Word (s ++ c ∷ []))) Dead
-    (λ lt. (ap (λ x. 46 ∷ s ++ x ∷ []) e, (live.0, name_more s c live.1 (lt_is _ _ lt) h))) (λ _. tt)
+spells_leaves s c k b e h live = cond_both (nat_lt (length s) 64) (Stay (Word (s ++ c ∷ []))) Dead (Leaves (Word s) k b)
+    (λ lt. (ap (λ x. 46 ∷ s ++ x ∷ []) e, (live.0, name_more s c live.1 (ltb-true _ _ lt) h))) (λ _. tt)
 
 -- a digit leaves a longer number
-counts_leaves : (p : Part) (f : ℕ → Part) (n d k b : ℕ) → (0 < n → 10 * n + d ≤ most_number → Leaves p k b (Stay (f (10 * n + d)))) → Leaves p k b (counts f (longer_number n d))
-counts_leaves p f n d k b g = choose (λ o. Leaves p k b (counts f o)) (nat_eq n 0) None (if nat_le (10 * n + d) most_number then Some (10 * n + d) else None) (λ _. tt) (λ h.
-    choose (λ o. Leaves p k b (counts f o)) (nat_le (10 * n + d) most_number) (Some (10 * n + d)) None (λ le. g (grind (arith, nat_tests)) (le_is _ _ le)) (λ _. tt))
+counts_leaves : (p : Part) (f : ℕ → Part) (n d k b : ℕ) → (0 < n → 10 * n + d ≤ most_number → Leaves p k b (Stay (f (10 * n + d))))
+    → Leaves p k b (counts f (longer_number n d))
+counts_leaves p f n d k b g = cond_both (nat_eq n 0) None (if nat_le (10 * n + d) most_number then Some (10 * n + d) else None) (λ o. Leaves p k b (counts f o))
+    (λ _. tt) (λ h.
+    cond_both (nat_le (10 * n + d) most_number) (Some (10 * n + d)) None (λ o. Leaves p k b (counts f o)) (λ le. g (grind (arith, nat_tests)) (leb-true _ _ le))
+    (λ _. tt))
 
 -- a letter may stand anywhere in a name
 letter_or : (c : ℕ) → IsTrue (is_letter c) → IsTrue (is_letter c || is_digit c)
@@ -155,26 +142,53 @@ leaves (Word s) k (sign.Digit d) b w live = spells_leaves s (48 + d) k b w.0 (di
 leaves (Word s) k sign.Dot b w live = closes_leaves (Word s) Dot (Name s) k b (λ h. (ap (λ x. 46 ∷ s ++ x ∷ []) w, live.1, h))
 leaves (Word s) k sign.Open b w live = closes_leaves (Word s) Open (Name s) k b (λ h. (ap (λ x. 46 ∷ s ++ x ∷ []) w, live.1, h))
 leaves Hash k (sign.Digit d) b w live = (ap (λ x. 46 ∷ 35 ∷ x ∷ []) w.0 ∙ ap (λ xs. 46 ∷ 35 ∷ xs) (sym (decimal_digit d w.1)), (live, omega (arith, w.1)))
-leaves (Number n) k (sign.Digit d) b w live = counts_leaves (Number n) Number n d k b (λ gt le. (ap (λ x. 46 ∷ 35 ∷ decimal n ++ x ∷ []) w.0 ∙ ap (λ xs. 46 ∷ 35 ∷ xs) (sym (decimal_more n d gt w.1 le)), (live.0, le)))
+leaves (Number n) k (sign.Digit d) b w live =
+    counts_leaves (Number n) Number n d k b (λ gt le. (
+      ap (λ x. 46 ∷ 35 ∷ decimal n ++ x ∷ []) w.0
+          ∙ ap (λ xs. 46 ∷ 35 ∷ xs) (sym (decimal_more n d gt w.1 le)),
+      (live.0, le),
+    ))
 leaves (Number n) k sign.Dot b w live = closes_leaves (Number n) Dot (Group n) k b (λ h. (ap (λ x. 46 ∷ 35 ∷ decimal n ++ x ∷ []) w, live.1, h))
 leaves (Number n) k sign.Open b w live = closes_leaves (Number n) Open (Group n) k b (λ h. (ap (λ x. 46 ∷ 35 ∷ decimal n ++ x ∷ []) w, live.1, h))
 leaves Open k sign.Close b w live = (ap (λ x. 91 ∷ x ∷ []) w, tt, omega arith)
 leaves Open k (sign.Digit d) b w live = (ap (λ x. 91 ∷ x ∷ []) w.0 ∙ ap (λ xs. 91 ∷ xs) (sym (decimal_digit d w.1)), (live, omega (arith, w.1)))
-leaves (Index n) k (sign.Digit d) b w live = counts_leaves (Index n) Index n d k b (λ gt le. (ap (λ x. 91 ∷ decimal n ++ x ∷ []) w.0 ∙ ap (λ xs. 91 ∷ xs) (sym (decimal_more n d gt w.1 le)), (live.0, le)))
+leaves (Index n) k (sign.Digit d) b w live =
+    counts_leaves (Index n) Index n d k b (λ gt le. (
+      ap (λ x. 91 ∷ decimal n ++ x ∷ []) w.0
+          ∙ ap (λ xs. 91 ∷ xs) (sym (decimal_more n d gt w.1 le)),
+      (live.0, le),
+    ))
 leaves (Index n) k sign.Close b w live = (ap (λ x. 91 ∷ decimal n ++ x ∷ []) w ∙ sym (append-nil (91 ∷ decimal n ++ 93 ∷ [])), live.1, omega arith)
 leaves (Index n) k sign.Colon b w live = (ap (λ x. 91 ∷ decimal n ++ x ∷ []) w, live)
 leaves (Colon f) k sign.Minus b w live = (longer f 58 b (58 ∷ []) (58 ∷ 45 ∷ []) (ap (λ x. 58 ∷ x ∷ []) w), live)
-leaves (Colon f) k (sign.Digit d) b w live = (longer f 58 b (58 ∷ []) (58 ∷ decimal d) (ap (λ x. 58 ∷ x ∷ []) w.0 ∙ ap (λ xs. 58 ∷ xs) (sym (decimal_digit d w.1))), (live.0, live.1, omega (arith, w.1)))
-leaves (Minus f) k (sign.Digit d) b w live = choose (Leaves (Minus f) k b) (nat_eq d 0) Dead (Stay (Down f d)) (λ _. tt) (λ h.
-    (longer f 58 b (58 ∷ 45 ∷ []) (58 ∷ 45 ∷ decimal d) (ap (λ x. 58 ∷ 45 ∷ x ∷ []) w.0 ∙ ap (λ xs. 58 ∷ 45 ∷ xs) (sym (decimal_digit d w.1))), (live.0, live.1, omega (arith, w.1), grind (arith, nat_tests))))
-leaves (Up f n) k (sign.Digit d) b w live = counts_leaves (Up f n) (Up f) n d k b (λ gt le.
-    (longer f 58 b (58 ∷ decimal n) (58 ∷ decimal (10 * n + d)) (ap (λ x. 58 ∷ decimal n ++ x ∷ []) w.0 ∙ ap (λ xs. 58 ∷ xs) (sym (decimal_more n d gt w.1 le))), (live.0, live.1, le)))
-leaves (Down f n) k (sign.Digit d) b w live = counts_leaves (Down f n) (Down f) n d k b (λ gt le.
-    (longer f 58 b (58 ∷ 45 ∷ decimal n) (58 ∷ 45 ∷ decimal (10 * n + d)) (ap (λ x. 58 ∷ 45 ∷ decimal n ++ x ∷ []) w.0 ∙ ap (λ xs. 58 ∷ 45 ∷ xs) (sym (decimal_more n d gt w.1 le))), (live.0, live.1, le, omega arith)))
-leaves (Up f n) k sign.Close b w live = (longer f 58 b (58 ∷ decimal n) (58 ∷ decimal n ++ 93 ∷ []) (ap (λ x. 58 ∷ decimal n ++ x ∷ []) w) ∙ sym (append-nil (91 ∷ decimal f ++ (58 ∷ decimal n ++ 93 ∷ []))), (live.1, live.2), omega arith)
+leaves (Colon f) k (sign.Digit d) b w live = (
+  longer f 58 b (58 ∷ []) (58 ∷ decimal d) (ap (λ x. 58 ∷ x ∷ []) w.0 ∙ ap (λ xs. 58 ∷ xs) (sym (decimal_digit d w.1))),
+  (live.0, live.1, omega (arith, w.1)),
+)
+leaves (Minus f) k (sign.Digit d) b w live = cond_both (nat_eq d 0) Dead (Stay (Down f d)) (Leaves (Minus f) k b) (λ _. tt) (λ h. (
+  longer f 58 b (58 ∷ 45 ∷ []) (58 ∷ 45 ∷ decimal d) (ap (λ x. 58 ∷ 45 ∷ x ∷ []) w.0 ∙ ap (λ xs. 58 ∷ 45 ∷ xs) (sym (decimal_digit d w.1))),
+  (live.0, live.1, omega (arith, w.1), grind (arith, nat_tests)),
+))
+leaves (Up f n) k (sign.Digit d) b w live = counts_leaves (Up f n) (Up f) n d k b (λ gt le. (
+  longer f 58 b (58 ∷ decimal n) (58 ∷ decimal (10 * n + d)) (ap (λ x. 58 ∷ decimal n ++ x ∷ []) w.0
+      ∙ ap (λ xs. 58 ∷ xs) (sym (decimal_more n d gt w.1 le))),
+  (live.0, live.1, le),
+))
+leaves (Down f n) k (sign.Digit d) b w live = counts_leaves (Down f n) (Down f) n d k b (λ gt le. (
+  longer f 58 b (58 ∷ 45 ∷ decimal n) (58 ∷ 45 ∷ decimal (10 * n + d)) (ap (λ x. 58 ∷ 45 ∷ decimal n ++ x ∷ []) w.0
+      ∙ ap (λ xs. 58 ∷ 45 ∷ xs) (sym (decimal_more n d gt w.1 le))),
+  (live.0, live.1, le, omega arith),
+))
+leaves (Up f n) k sign.Close b w live = (
+  longer f 58 b (58 ∷ decimal n) (58 ∷ decimal n ++ 93 ∷ []) (ap (λ x. 58 ∷ decimal n ++ x ∷ []) w)
+      ∙ sym (append-nil (91 ∷ decimal f ++ (58 ∷ decimal n ++ 93 ∷ []))),
+  (live.1, live.2),
+  omega arith,
+)
 leaves (Down f n) k sign.Close b w live = (
   longer f 58 b (58 ∷ 45 ∷ decimal n) (58 ∷ 45 ∷ decimal n ++ 93 ∷ []) (ap (λ x. 58 ∷ 45 ∷ decimal n ++ x ∷ []) w)
-      ∙ ap (λ t. 91 ∷ decimal f ++ (58 ∷ t ++ 93 ∷ [])) (sym (minus_text n live.3)) ∙ sym (append-nil (91 ∷ decimal f ++ (58 ∷ signed_decimal (neg_ℤ (pos n)) ++ 93 ∷ []))),
+      ∙ ap (λ t. 91 ∷ decimal f ++ (58 ∷ t ++ 93 ∷ [])) (sym (minus_text n live.3))
+      ∙ sym (append-nil (91 ∷ decimal f ++ (58 ∷ signed_decimal (neg_ℤ (pos n)) ++ 93 ∷ []))),
   (live.1, minus_mag n live.2),
   omega arith,
 )

@@ -16,6 +16,7 @@ name_more [] c n lt h = absurd n
 name_more (x ∷ s) c n lt h = (n.0, bytes_more s c n.1 h, omega (arith, length-append s (c ∷ [])))
 
 -- one more byte written behind a name's bytes
-pub name_written : (bytes : List ℕ) (len c : ℕ) → length bytes ≡ 64 → len < 64 → IsName (take len bytes) → IsTrue (is_letter c || is_digit c) → IsName (take (len + 1) (set bytes len c))
+pub name_written : (bytes : List ℕ) (len c : ℕ) → length bytes ≡ 64 → len < 64 → IsName (take len bytes) → IsTrue (is_letter c || is_digit c)
+    → IsName (take (len + 1) (set bytes len c))
 name_written bytes len c size lt n h =
     subst IsName (sym (take_more_set bytes len c (omega arith))) (name_more (take len bytes) c n (omega (arith, length-take len bytes)) h)

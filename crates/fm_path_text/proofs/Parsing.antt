@@ -1,16 +1,17 @@
 -- Steps of the loop over the bytes.
 use Rattle.std.proofs.Common.{◌≡◌, sym, ap, subst, ℕ, ◌+◌, ◌<◌, ◌≤◌, Some, None, List, [], ◌∷◌, ◌++◌, length, take, drop, get_or, arith, ◌∙◌}
-use Rattle.std.proofs.lemmas.List.{take_more, take-append-drop, take_all}
+use Rattle.std.proofs.lemmas.List.{take-append-drop, take_all}
 use Rattle.fm_path_text.specs.declared.step.PathStep.{PathStep}
 use Rattle.fm_path_text.specs.Grammar.{IsTextOf, Begins, BeginsUpTo}
-use Rattle.fm_path_text.specs.Reader.{sign_of, next, spot, moved, onward, run, start, whole, IsBounded}
+use Rattle.fm_path_text.specs.Reader.{sign_of, next, spot, moved, reads, onward, run, start, whole, IsBounded}
 use Rattle.fm_path_text.specs.declared.part.Part.{Part}
 use Rattle.fm_path_text.specs.declared.part.Part.TheVariants.{Between, Dot, Word, Hash, Number, Open, Index, Colon, Minus, Up, Down}
 use Rattle.fm_path_text.specs.declared.sign.Sign.{Sign}
 use Rattle.fm_path_text.specs.declared.part.Move.{Move}
 use Rattle.fm_path_text.specs.declared.part.Move.TheVariants.{Stay, Finish}
+use Rattle.fm_path_text.proofs.Machine.{run_more}
 use Rattle.fm_path_text.proofs.Moves.{IsLive}
-use Rattle.fm_path_text.proofs.Reading.{HasRead, MayHaveRead, has_read, read_nothing, run_append}
+use Rattle.fm_path_text.proofs.Reading.{HasRead, MayHaveRead, has_read, read_nothing}
 use Rattle.fm_path_text.proofs.Accepting.{begins, stops, found, no_text, only}
 
 -- what the loop keeps
@@ -46,25 +47,28 @@ reading text i ds p e =
     record { short = few (length ds) p h.live; bounded = bounds (length ds) p h.live; there = e }
 
 -- where the next byte leads
-pub goes_on : (text : List ℕ) (i : ℕ) (ds : List PathStep) (p : Part) (k : ℕ) (sg : Sign) (m : Move) → IsReading text i ds p → i < length text → k ≡ length ds → sg ≡ sign_of (get_or text i 0) → m ≡ next p k sg → run (take (i + 1) text) start ≡ moved ds m
+pub goes_on : (text : List ℕ) (i : ℕ) (ds : List PathStep) (p : Part) (k : ℕ) (sg : Sign) (m : Move) → IsReading text i ds p → i < length text → k ≡ length ds
+    → sg ≡ sign_of (get_or text i 0) → m ≡ next p k sg → run (take (i + 1) text) start ≡ moved ds m
 goes_on text i ds p k sg m h lt ek es em =
-    ap (λ t. run t start) (take_more text i 0 lt)
-    ∙ run_append (take i text) (get_or text i 0 ∷ []) start
+    run_more reads text i start lt
     ∙ ap (λ o. onward o (get_or text i 0)) h.there
     ∙ ap (λ s. moved ds (next p (length ds) s)) (sym es)
     ∙ ap (λ n. moved ds (next p n sg)) (sym ek)
     ∙ ap (moved ds) (sym em)
 
 -- the loop after a byte inside a piece
-pub stays : (text : List ℕ) (i : ℕ) (ds es : List PathStep) (q r : Part) → run (take (i + 1) text) start ≡ moved ds (Stay q) → es ≡ ds → r ≡ q → IsReading text (i + 1) es r
+pub stays : (text : List ℕ) (i : ℕ) (ds es : List PathStep) (q r : Part) → run (take (i + 1) text) start ≡ moved ds (Stay q) → es ≡ ds → r ≡ q
+    → IsReading text (i + 1) es r
 stays text i ds es q r h e f = reading text (i + 1) es r (h ∙ ap (λ x. Some (spot x q)) (sym e) ∙ ap (λ x. Some (spot es x)) (sym f))
 
 -- the loop after a byte that ends a piece
-pub finishes : (text : List ℕ) (i : ℕ) (ds es : List PathStep) (d : PathStep) (q r : Part) → run (take (i + 1) text) start ≡ moved ds (Finish d q) → es ≡ ds ++ d ∷ [] → r ≡ q → IsReading text (i + 1) es r
+pub finishes : (text : List ℕ) (i : ℕ) (ds es : List PathStep) (d : PathStep) (q r : Part) → run (take (i + 1) text) start ≡ moved ds (Finish d q)
+    → es ≡ ds ++ d ∷ [] → r ≡ q → IsReading text (i + 1) es r
 finishes text i ds es d q r h e f = reading text (i + 1) es r (h ∙ ap (λ x. Some (spot x q)) (sym e) ∙ ap (λ x. Some (spot es x)) (sym f))
 
 -- where the reader dies the longest prefix ends
-pub ends_at : (text : List ℕ) (i : ℕ) (ds : List PathStep) (p : Part) → IsReading text i ds p → i < length text → run (take (i + 1) text) start ≡ None → BeginsUpTo i text
+pub ends_at : (text : List ℕ) (i : ℕ) (ds : List PathStep) (p : Part) → IsReading text i ds p → i < length text → run (take (i + 1) text) start ≡ None
+    → BeginsUpTo i text
 ends_at text i ds p h lt e = record {
   within = omega arith;
   begins = begins (take i text) ds p h.there;
@@ -84,7 +88,8 @@ is_found text i ds qs p h le w =
     record { is_path = f.0; spelled = f.1; only = only text ds qs p e w }
 
 -- a text whose last piece isn't whole begins a path's text as far as it goes
-pub ends_all : (text : List ℕ) (i : ℕ) (ds : List PathStep) (p : Part) → IsReading text i ds p → length text ≤ i → whole ds p ≡ None → BeginsUpTo (length text) text
+pub ends_all : (text : List ℕ) (i : ℕ) (ds : List PathStep) (p : Part) → IsReading text i ds p → length text ≤ i → whole ds p ≡ None
+    → BeginsUpTo (length text) text
 ends_all text i ds p h le w =
     let e = at_end text i ds p h le in
     record {

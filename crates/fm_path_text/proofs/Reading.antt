@@ -1,7 +1,9 @@
 -- What the machine has read begins a text, and it reads each text.
-use Rattle.std.proofs.Common.{◌≡◌, refl, sym, ap, subst, ℕ, ◌+◌, ◌-◌, ◌<◌, zero, suc, true, false, if◌then◌else◌, nat_eq, nat_lt, Option, Some, None, List, [], ◌∷◌, ◌++◌, length, arith, ◌∙◌}
+use Rattle.std.proofs.Common.{◌≡◌, refl, sym, ap, subst, ℕ, ◌+◌, ◌-◌, ◌<◌, zero, suc, true, if◌then◌else◌, Option, Some, List, [], ◌∷◌, ◌++◌, length, arith, ◌∙◌}
 use Rattle.std.specs.Prelude.{IsTrue, decimal, pos, negsuc}
 use Rattle.std.specs.List.{AllByRecursion}
+use Rattle.std.specs.Option.{IfSome}
+use Rattle.std.proofs.lemmas.Bool.{lt-ltb, ne_eqb}
 use Rattle.std.proofs.lemmas.Bool.Decides.{nat_tests}
 use Rattle.std.proofs.lemmas.List.{append_assoc, append-nil, length-append}
 use Rattle.std.proofs.lemmas.Fmt.{decimal_digit}
@@ -10,12 +12,13 @@ use Rattle.fm_path_text.specs.declared.step.PathStep.{PathStep}
 use Rattle.fm_path_text.specs.declared.step.PathStep.TheVariants.{Name, Group, At, Each, EachFrom}
 use Rattle.fm_layout.specs.Name.{is_letter, is_digit}
 use Rattle.fm_path_text.specs.Grammar.{piece_of, pieces_of, path_text, HasPiece, IsPath, Begins}
-use Rattle.fm_path_text.specs.Reader.{sign_of, closes, opens, next, Spot, spot, moved, onward, run, whole}
+use Rattle.fm_path_text.specs.Reader.{sign_of, closes, opens, next, Spot, spot, moved, reads, onward, run, whole}
 use Rattle.fm_path_text.specs.declared.part.Part.{Part}
 use Rattle.fm_path_text.specs.declared.part.Part.TheVariants.{Between, Dot, Word, Hash, Number, Open, Index, Colon, Minus, Up, Down}
 use Rattle.fm_path_text.specs.declared.sign.Sign.TheVariants as sign
 use Rattle.fm_path_text.specs.declared.part.Move.{Move}
 use Rattle.fm_path_text.specs.declared.part.Move.TheVariants.{Dead, Stay, Finish}
+use Rattle.fm_path_text.proofs.Machine.{run_keeps}
 use Rattle.fm_path_text.proofs.Moves.{shown, IsLive, Leaves, leaves, told}
 
 -- the text so far is that of the whole pieces and of the part
@@ -31,11 +34,11 @@ pieces_snoc (d ∷ ds) p = ap (λ xs. piece_of d ++ xs) (pieces_snoc ds p) ∙ s
 
 -- the same, where the machine may have stopped
 abbrev pub MayHaveRead : List ℕ → Option Spot → Type 0
-MayHaveRead text None = Unit {0}
-MayHaveRead text (Some s) = HasRead text s
+MayHaveRead text o = IfSome o (HasRead text)
 
 -- what was read after one more move
-after : (text : List ℕ) (ds : List PathStep) (p : Part) (b : ℕ) (m : Move) → HasRead text (spot ds p) → Leaves p (length ds) b m → MayHaveRead (text ++ b ∷ []) (moved ds m)
+after : (text : List ℕ) (ds : List PathStep) (p : Part) (b : ℕ) (m : Move) → HasRead text (spot ds p) → Leaves p (length ds) b m
+    → MayHaveRead (text ++ b ∷ []) (moved ds m)
 after text ds p b Dead h l = tt
 after text ds p b (Stay q) h l = record {
   spelled = ap (λ t. t ++ b ∷ []) h.spelled ∙ append_assoc (pieces_of ds) (shown p) (b ∷ []) ∙ ap (λ t. pieces_of ds ++ t) l.0;
@@ -43,20 +46,16 @@ after text ds p b (Stay q) h l = record {
   live = l.1;
 }
 after text ds p b (Finish d q) h l = record {
-  spelled = ap (λ t. t ++ b ∷ []) h.spelled ∙ append_assoc (pieces_of ds) (shown p) (b ∷ []) ∙ ap (λ t. pieces_of ds ++ t) l.0 ∙ sym (append_assoc (pieces_of ds) (piece_of d) (shown q)) ∙ ap (λ t. t ++ shown q) (sym (pieces_snoc ds d));
+  spelled = ap (λ t. t ++ b ∷ []) h.spelled ∙ append_assoc (pieces_of ds) (shown p) (b ∷ []) ∙ ap (λ t. pieces_of ds ++ t) l.0
+      ∙ sym (append_assoc (pieces_of ds) (piece_of d) (shown q)) ∙ ap (λ t. t ++ shown q) (sym (pieces_snoc ds d));
   each = all_snoc HasPiece ds d h.each l.1;
   live = subst (λ k. IsLive k q) (sym (length-append ds (d ∷ []))) l.2;
 }
 
--- what was read after one more byte
-onward_read : (text : List ℕ) (o : Option Spot) (b : ℕ) → MayHaveRead text o → MayHaveRead (text ++ b ∷ []) (onward o b)
-onward_read text None b h = tt
-onward_read text (Some s) b h = after text s.done s.part b (next s.part (length s.done) (sign_of b)) h (leaves s.part (length s.done) (sign_of b) b (told b) h.live)
-
 -- what the machine has read
 pub has_read : (bs text : List ℕ) (o : Option Spot) → MayHaveRead text o → MayHaveRead (text ++ bs) (run bs o)
-has_read [] text o h = subst (λ x. MayHaveRead x o) (sym (append-nil text)) h
-has_read (b ∷ bs) text o h = subst (λ x. MayHaveRead x (run bs (onward o b))) (append_assoc text (b ∷ []) bs) (has_read bs (text ++ b ∷ []) (onward o b) (onward_read text o b h))
+has_read = run_keeps reads HasRead (λ text s b h.
+    after text s.done s.part b (next s.part (length s.done) (sign_of b)) h (leaves s.part (length s.done) (sign_of b) b (told b) h.live))
 
 -- before the first byte nothing was read
 pub read_nothing : HasRead [] (spot [] Between)
@@ -68,7 +67,8 @@ text_snoc [] p = refl
 text_snoc (d ∷ ds) p = refl
 
 -- what was read is completed by the rest of a piece
-ends : (text : List ℕ) (ds : List PathStep) (p : Part) (d : PathStep) (rest : List ℕ) → HasRead text (spot ds p) → shown p ++ rest ≡ piece_of d → HasPiece d → length ds < 64 → Begins text
+ends : (text : List ℕ) (ds : List PathStep) (p : Part) (d : PathStep) (rest : List ℕ) → HasRead text (spot ds p) → shown p ++ rest ≡ piece_of d → HasPiece d
+    → length ds < 64 → Begins text
 ends text ds p d rest h e a lt = (
   rest,
   ds ++ d ∷ [],
@@ -90,11 +90,20 @@ can_end text ds Hash h = ends text ds Hash (Group 0) (48 ∷ []) h (ap (λ t. 46
 can_end text ds (Number n) h = ends text ds (Number n) (Group n) [] h (ap (λ t. 46 ∷ 35 ∷ t) (append-nil (decimal n))) h.live.1 h.live.0
 can_end text ds Open h = ends text ds Open Each (93 ∷ []) h refl tt h.live
 can_end text ds (Index n) h = ends text ds (Index n) (At n) (93 ∷ []) h refl h.live.1 h.live.0
-can_end text ds (Colon f) h = ends text ds (Colon f) (EachFrom f (pos 0)) (48 ∷ 93 ∷ []) h (append_assoc (91 ∷ decimal f) (58 ∷ []) (48 ∷ 93 ∷ []) ∙ ap (λ t. 91 ∷ decimal f ++ (58 ∷ t ++ 93 ∷ [])) (sym (decimal_digit 0 (omega arith)))) (h.live.1, omega arith) h.live.0
-can_end text ds (Minus f) h = ends text ds (Minus f) (EachFrom f (negsuc 0)) (49 ∷ 93 ∷ []) h (append_assoc (91 ∷ decimal f) (58 ∷ 45 ∷ []) (49 ∷ 93 ∷ []) ∙ ap (λ t. 91 ∷ decimal f ++ (58 ∷ 45 ∷ t ++ 93 ∷ [])) (sym (decimal_digit 1 (omega arith)))) (h.live.1, omega arith) h.live.0
-can_end text ds (Up f n) h = ends text ds (Up f n) (EachFrom f (pos n)) (93 ∷ []) h (append_assoc (91 ∷ decimal f) (58 ∷ decimal n) (93 ∷ [])) (h.live.1, h.live.2) h.live.0
+can_end text ds (Colon f) h = ends text ds (Colon f) (EachFrom f (pos 0)) (48 ∷ 93 ∷ []) h (append_assoc (91 ∷ decimal f) (58 ∷ []) (48 ∷ 93 ∷ [])
+    ∙ ap (λ t. 91 ∷ decimal f ++ (58 ∷ t ++ 93 ∷ [])) (sym (decimal_digit 0 (omega arith)))) (h.live.1, omega arith) h.live.0
+can_end text ds (Minus f) h = ends text ds (Minus f) (EachFrom f (negsuc 0)) (49 ∷ 93 ∷ []) h (append_assoc (91 ∷ decimal f) (58 ∷ 45 ∷ []) (49 ∷ 93 ∷ [])
+    ∙ ap (λ t. 91 ∷ decimal f ++ (58 ∷ 45 ∷ t ++ 93 ∷ [])) (sym (decimal_digit 1 (omega arith)))) (h.live.1, omega arith) h.live.0
+can_end text ds (Up f n) h = ends text ds (Up f n) (EachFrom f (pos n)) (93 ∷ []) h (append_assoc (91 ∷ decimal f) (58 ∷ decimal n) (93 ∷ [])) (
+  h.live.1,
+  h.live.2,
+) h.live.0
 can_end text ds (Down f zero) h = absurd (omega (arith, h.live.3))
-can_end text ds (Down f (suc n)) h = ends text ds (Down f (suc n)) (EachFrom f (negsuc n)) (93 ∷ []) h (append_assoc (91 ∷ decimal f) (58 ∷ 45 ∷ decimal (suc n)) (93 ∷ [])) (h.live.1, h.live.2) h.live.0
+can_end text ds (Down f (suc n)) h =
+    ends text ds (Down f (suc n)) (EachFrom f (negsuc n)) (93 ∷ []) h (append_assoc (91 ∷ decimal f) (58 ∷ 45 ∷ decimal (suc n)) (93 ∷ [])) (
+      h.live.1,
+      h.live.2,
+    ) h.live.0
 
 -- a whole path has this text
 some_of : {A : Type 0} {x y : A} → Some x ≡ Some y → x ≡ y
@@ -105,8 +114,13 @@ was : (text : List ℕ) (ps qs : List PathStep) → qs ≡ ps → IsPath qs × (
 was text ps qs e h = subst (λ ps. IsPath ps × (text ≡ path_text ps)) e h
 
 -- a text whose last part is a whole piece is that of the path with it
-at_end : (text : List ℕ) (ds : List PathStep) (p : Part) (d : PathStep) → HasRead text (spot ds p) → shown p ≡ piece_of d → HasPiece d → length ds < 64 → IsPath (ds ++ d ∷ []) × (text ≡ path_text (ds ++ d ∷ []))
-at_end text ds p d h e a lt = (record { each = all_snoc HasPiece ds d h.each a; short = omega (arith, length-append ds (d ∷ [])) }, h.spelled ∙ ap (λ t. pieces_of ds ++ t) e ∙ sym (pieces_snoc ds d) ∙ sym (text_snoc ds d))
+at_end : (text : List ℕ) (ds : List PathStep) (p : Part) (d : PathStep) → HasRead text (spot ds p) → shown p ≡ piece_of d → HasPiece d → length ds < 64
+    → IsPath (ds ++ d ∷ []) × (text ≡ path_text (ds ++ d ∷ []))
+at_end text ds p d h e a lt = (
+  record { each = all_snoc HasPiece ds d h.each a; short = omega (arith, length-append ds (d ∷ [])) },
+  h.spelled
+      ∙ ap (λ t. pieces_of ds ++ t) e ∙ sym (pieces_snoc ds d) ∙ sym (text_snoc ds d),
+)
 
 -- a text that may end is that of the path which was read
 pub is_whole : (text : List ℕ) (ds ps : List PathStep) (p : Part) → HasRead text (spot ds p) → whole ds p ≡ Some ps → IsPath ps × (text ≡ path_text ps)
@@ -130,10 +144,6 @@ pub data IsSettled (ds : List PathStep) : Spot → Type 0 where
   By_word : (es : List PathStep) (w : List ℕ) → ds ≡ es ++ Name w ∷ [] → IsSettled ds (spot es (Word w))
   By_number : (es : List PathStep) (n : ℕ) → ds ≡ es ++ Group n ∷ [] → IsSettled ds (spot es (Number n))
 
--- a smaller number passes the test
-pub lt_test : (a b : ℕ) → a < b → nat_lt a b ≡ true
-lt_test a b h = grind (arith, nat_tests)
-
 -- a list with one more element is longer by one
 shorter : (ds es : List PathStep) (d : PathStep) → ds ≡ es ++ d ∷ [] → length ds ≡ length es + 1
 shorter ds es d e = ap length e ∙ length-append es (d ∷ [])
@@ -142,11 +152,11 @@ shorter ds es d e = ap length e ∙ length-append es (d ∷ [])
 closed : (ds es : List PathStep) (d : PathStep) (q : Part) → ds ≡ es ++ d ∷ [] → length ds < 64 → moved es (closes (length es) d q) ≡ Some (spot ds q)
 closed ds es d q e lt =
     let k : length es + 1 < 64 = omega (arith, shorter ds es d e) in
-    ap (λ c. moved es (if c then Finish d q else Dead)) (lt_test (length es + 1) 64 k) ∙ ap (λ x. Some (spot x q)) (sym e)
+    ap (λ c. moved es (if c then Finish d q else Dead)) (lt-ltb (length es + 1) 64 k) ∙ ap (λ x. Some (spot x q)) (sym e)
 
 -- a first byte leads on to its part
 opened : (ds : List PathStep) (q : Part) → length ds < 64 → moved ds (opens (length ds) q) ≡ Some (spot ds q)
-opened ds q lt = ap (λ c. moved ds (if c then Stay q else Dead)) (lt_test (length ds) 64 lt)
+opened ds q lt = ap (λ c. moved ds (if c then Stay q else Dead)) (lt-ltb (length ds) 64 lt)
 
 -- a dot goes on behind whole pieces
 pub dot_next : (ds : List PathStep) (s : Spot) → IsSettled ds s → length ds < 64 → onward (Some s) 46 ≡ Some (spot ds Dot)
@@ -160,19 +170,19 @@ open_next ds s By_end lt = opened ds Open lt
 open_next ds s (By_word es w e) lt = closed ds es (Name w) Open e lt
 open_next ds s (By_number es n e) lt = closed ds es (Group n) Open e lt
 
--- reading two texts is reading one and then the other
-pub run_append : (xs ys : List ℕ) (o : Option Spot) → run (xs ++ ys) o ≡ run ys (run xs o)
-run_append [] ys o = refl
-run_append (x ∷ xs) ys o = run_append xs ys (onward o x)
-
 -- the sign of a digit is its value
 pub digit_sign : (d : ℕ) → d < 10 → sign_of (48 + d) ≡ sign.Digit d
 digit_sign d h =
     let e : 48 + d - 48 ≡ d = omega arith in
-    rw (no (48 + d) 46 (λ x. omega arith), no (48 + d) 35 (λ x. omega arith), no (48 + d) 91 (λ x. omega arith), no (48 + d) 93 (λ x. omega arith), no (48 + d) 58 (λ x. omega arith), no (48 + d) 45 (λ x. omega arith), yes_digit d h) (ap sign.Digit e)
+    rw (
+      ne_eqb (48 + d) 46 (λ x. omega arith),
+      ne_eqb (48 + d) 35 (λ x. omega arith),
+      ne_eqb (48 + d) 91 (λ x. omega arith),
+      ne_eqb (48 + d) 93 (λ x. omega arith),
+      ne_eqb (48 + d) 58 (λ x. omega arith),
+      ne_eqb (48 + d) 45 (λ x. omega arith),
+      yes_digit d h,
+    ) (ap sign.Digit e)
   where
-    no : (a b : ℕ) → (a ≡ b → ⊥) → nat_eq a b ≡ false
-    no a b f = grind (arith, nat_tests)
-
     yes_digit : (d : ℕ) → d < 10 → is_digit (48 + d) ≡ true
     yes_digit d h = grind (arith, nat_tests)

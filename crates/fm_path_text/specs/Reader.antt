@@ -10,6 +10,7 @@ use Rattle.fm_path_text.specs.declared.part.Move.{Move}
 use Rattle.fm_path_text.specs.declared.part.Move.TheVariants.{Dead, Stay, Finish}
 use Rattle.fm_layout.specs.Name.{is_letter, is_digit}
 use Rattle.fm_path_text.specs.Grammar.{most_number, most_pieces}
+use Rattle.fm_path_text.specs.Machine as machine
 
 -- what a byte is to a path: . # [ ] : - a digit, a letter, or another byte
 abbrev pub sign_of : ℕ → Sign
@@ -87,14 +88,16 @@ moved done Dead = None
 moved done (Stay part) = Some (spot done part)
 moved done (Finish step part) = Some (spot (done ++ step ∷ []) part)
 
+-- where a byte leads from here
+abbrev pub reads : Spot → ℕ → Option Spot
+reads s byte = moved s.done (next s.part (length s.done) (sign_of byte))
+
 abbrev pub onward : Option Spot → ℕ → Option Spot
-onward None byte = None
-onward (Some s) byte = moved s.done (next s.part (length s.done) (sign_of byte))
+onward = machine.onward reads
 
 -- where the bytes lead, unless one of them is refused
 abbrev pub run : List ℕ → Option Spot → Option Spot
-run [] s = s
-run (b ∷ bs) s = run bs (onward s b)
+run = machine.run reads
 
 abbrev pub start : Option Spot
 start = Some (spot [] Between)
@@ -115,6 +118,9 @@ whole done (Word name) = Some (done ++ Name name ∷ [])
 whole done (Number n) = Some (done ++ Group n ∷ [])
 whole done Between = where_any done
 whole done _ = None
+
+abbrev pub whole_at : Spot → Option (List PathStep)
+whole_at s = whole s.done s.part
 
 -- a digit is below ten, a letter is one
 abbrev pub IsSound : Sign → Type 0

@@ -1,12 +1,9 @@
 -- The text of each query is read to its end, to that query.
-use Rattle.std.proofs.Common.{◌≡◌, refl, sym, ap, subst, ℕ, ◌+◌, ◌-◌, ◌*◌, ◌/◌, ◌%◌, ◌^◌, ◌<◌, ◌≤◌, suc, Bool, true, false, ◌||◌, ◌⊎◌, inl, inr, if◌then◌else◌, nat_eq, nat_le, Option, Some, None, List, [], ◌∷◌, ◌++◌, length, arith, ◌∙◌}
-use Rattle.std.specs.Prelude.{codes, decimal, ℤ, pos, negsuc}
+use Rattle.std.proofs.Common.{◌≡◌, refl, sym, ap, subst, ℕ, ◌+◌, ◌<◌, ◌≤◌, Bool, true, false, inl, inr, if◌then◌else◌, nat_eq, nat_lt, Option, Some, None, List, [], ◌∷◌, ◌++◌, length, arith, ◌∙◌}
+use Rattle.std.specs.Prelude.{codes}
 use Rattle.std.specs.Fmt.{signed_decimal}
 use Rattle.std.specs.List.{AllByRecursion, join_by, flat_map}
-use Rattle.std.proofs.lemmas.Bool.Decides.{nat_tests}
 use Rattle.std.proofs.lemmas.List.{append_assoc, length-append}
-use Rattle.std.proofs.lemmas.Fmt.{decimal_by_steps}
-use Rattle.fm_layout.specs.Name.{is_digit}
 use Rattle.fm_path_text.specs.declared.step.PathStep.{PathStep}
 use Rattle.fm_path_text.specs.declared.part.Part.{Part}
 use Rattle.fm_path_text.specs.declared.part.Part.TheVariants as part
@@ -14,7 +11,7 @@ use Rattle.fm_path_text.specs.declared.part.Move.TheVariants as move
 use Rattle.fm_path_text.specs.declared.sign.Sign.TheVariants as sign
 use Rattle.fm_path_text.specs.Grammar.{path_text}
 use Rattle.fm_path_text.specs.Reader as path
-use Rattle.fm_path_text.proofs.Reading.{lt_test}
+use Rattle.fm_path_text.proofs.Machine.{run_append, run_none, Accepts}
 use Rattle.fm_path_text.proofs.Accepting as path_accepting
 use Rattle.fm_query.specs.declared.fold.Fold.{Fold}
 use Rattle.fm_query.specs.declared.fold.Fold.TheVariants.{Sum, Least, Greatest, All}
@@ -24,34 +21,18 @@ use Rattle.fm_query.specs.declared.syntax.ItemSyntax.{ItemSyntax}
 use Rattle.fm_query.specs.declared.syntax.ItemSyntax.TheVariants.{Count, Of}
 use Rattle.fm_query.specs.declared.syntax.ConditionSyntax.{ConditionSyntax}
 use Rattle.fm_query.specs.declared.word.Word.TheVariants.{Folding}
-use Rattle.fm_query.specs.declared.number.Number.{Number}
-use Rattle.fm_query.specs.declared.number.Number.TheVariants.{Up, Down}
 use Rattle.fm_query.specs.declared.stage.Role.{Role}
 use Rattle.fm_query.specs.declared.stage.Role.TheVariants.{OfItem, OfCondition}
-use Rattle.fm_query.specs.declared.stage.Stage.TheVariants.{Start, InPath, Behind, Compare, Minus, Literal}
+use Rattle.fm_query.specs.declared.stage.Stage.TheVariants.{Start, InPath, Behind, Compare, Literal}
 use Rattle.fm_query.specs.declared.stage.Turn.TheVariants.{Dead, NextItem}
-use Rattle.fm_query.specs.Grammar.{Syntax, syntax, fold_text, item_text, condition_text, operator_text, where_text, query_text, IsItem, IsCondition, IsLiteral, IsQuery}
-use Rattle.fm_query.specs.Reader.{word_text, and_word, is_mark, marks, goes, value_of, condition, Spot, spot, moved, onward, run, start, whole}
-
--- reading two texts is reading one and then the other
-pub run_append : (xs ys : List ℕ) (o : Option Spot) → run (xs ++ ys) o ≡ run ys (run xs o)
-run_append [] ys o = refl
-run_append (x ∷ xs) ys o = run_append xs ys (onward o x)
-
--- a refused text stays refused
-pub run_none : (bs : List ℕ) → run bs None ≡ None
-run_none [] = refl
-run_none (b ∷ bs) = run_none bs
+use Rattle.fm_query.specs.Grammar.{syntax, fold_text, item_text, condition_text, operator_text, where_text, query_text, IsItem, IsCondition, IsQuery}
+use Rattle.fm_query.specs.Reader.{word_text, and_word, is_mark, marks, goes, condition, Spot, spot, moved, reads, onward, run, start, whole}
+use Rattle.fm_query.proofs.AcceptingNumbers.{number_of, value_number, reads_literal}
+use Rattle.std.proofs.lemmas.Bool.{eqb-true, lt-ltb, or_cases}
 
 -- a path that was refused isn't read
 path_none : (bs : List ℕ) (s : path.Spot) → path.run bs None ≡ Some s → ⊥
-path_none [] s e = absurd (cc)
-path_none (b ∷ bs) s e = path_none bs s e
-
--- one of two tests passes
-either : (x y : Bool) → (x || y) ≡ true → (x ≡ true) ⊎ (y ≡ true)
-either true y h = inl refl
-either false y h = inr h
+path_none bs s e = let f : None ≡ Some s = sym (run_none path.reads bs) ∙ e in cc
 
 -- no path goes on with a byte that has no part in paths
 other_dead : (p : Part) (k : ℕ) → path.next p k sign.Other ≡ move.Dead
@@ -67,20 +48,17 @@ other_dead (part.Minus f) k = refl
 other_dead (part.Up f n) k = refl
 other_dead (part.Down f n) k = refl
 
-eq_is : (a b : ℕ) → nat_eq a b ≡ true → a ≡ b
-eq_is a b h = grind (arith, nat_tests)
-
 -- the bytes that end a path have no part in paths
 mark_sign : (b : ℕ) → is_mark b ≡ true → path.sign_of b ≡ sign.Other
-mark_sign b h = elim (either (nat_eq b 33) _ h) [
-  | inl e ↦ subst (λ x. path.sign_of x ≡ sign.Other) (sym (eq_is b 33 e)) refl
-  | inr h ↦ elim (either (nat_eq b 41) _ h) [
-    | inl e ↦ subst (λ x. path.sign_of x ≡ sign.Other) (sym (eq_is b 41 e)) refl
-    | inr h ↦ elim (either (nat_eq b 60) _ h) [
-      | inl e ↦ subst (λ x. path.sign_of x ≡ sign.Other) (sym (eq_is b 60 e)) refl
-      | inr h ↦ elim (either (nat_eq b 61) _ h) [
-        | inl e ↦ subst (λ x. path.sign_of x ≡ sign.Other) (sym (eq_is b 61 e)) refl
-        | inr e ↦ subst (λ x. path.sign_of x ≡ sign.Other) (sym (eq_is b 62 e)) refl
+mark_sign b h = elim (or_cases (nat_eq b 33) _ h) [
+  | inl e ↦ subst (λ x. path.sign_of x ≡ sign.Other) (sym (eqb-true b 33 e)) refl
+  | inr h ↦ elim (or_cases (nat_eq b 41) _ h) [
+    | inl e ↦ subst (λ x. path.sign_of x ≡ sign.Other) (sym (eqb-true b 41 e)) refl
+    | inr h ↦ elim (or_cases (nat_eq b 60) _ h) [
+      | inl e ↦ subst (λ x. path.sign_of x ≡ sign.Other) (sym (eqb-true b 60 e)) refl
+      | inr h ↦ elim (or_cases (nat_eq b 61) _ h) [
+        | inl e ↦ subst (λ x. path.sign_of x ≡ sign.Other) (sym (eqb-true b 61 e)) refl
+        | inr e ↦ subst (λ x. path.sign_of x ≡ sign.Other) (sym (eqb-true b 62 e)) refl
       ]
     ]
   ]
@@ -103,7 +81,8 @@ reads_bytes r is cs [] d p s e = ap (λ o. moved is cs (goes r o)) e
 reads_bytes r is cs (b ∷ bs) d p s e = go (λ t q. reads_bytes r is cs bs t.done t.part s q) (path.onward (Some (path.spot d p)) b) refl
   where
     go : ((t : path.Spot) → path.run bs (Some t) ≡ Some s → run bs (Some (spot is cs (InPath r t.done t.part))) ≡ Some (spot is cs (InPath r s.done s.part)))
-        → (o : Option path.Spot) → path.onward (Some (path.spot d p)) b ≡ o → run (b ∷ bs) (Some (spot is cs (InPath r d p))) ≡ Some (spot is cs (InPath r s.done s.part))
+        → (o : Option path.Spot) → path.onward (Some (path.spot d p)) b ≡ o
+        → run (b ∷ bs) (Some (spot is cs (InPath r d p))) ≡ Some (spot is cs (InPath r s.done s.part))
     go again None q = absurd (path_none bs s (ap (path.run bs) (sym q) ∙ e))
     go again (Some t) q =
         ap (λ c. run bs (moved is cs (if c then marks r b (path.whole d p) else goes r (path.onward (Some (path.spot d p)) b)))) (no_mark d p b t q)
@@ -123,9 +102,9 @@ reads_item is Count h = refl
 reads_item is (Of f ps) h =
     let a = path_accepting.accepts ps h in
     ap (λ t. run t (Some (spot is [] Start))) (sym (append_assoc (fold_text f) (codes "(") (path_text ps ++ codes ")")))
-    ∙ run_append (word_text (Folding f)) (path_text ps ++ codes ")") (Some (spot is [] Start))
+    ∙ run_append reads (word_text (Folding f)) (path_text ps ++ codes ")") (Some (spot is [] Start))
     ∙ ap (run (path_text ps ++ codes ")")) (reads_word is f)
-    ∙ run_append (path_text ps) (codes ")") (Some (spot is [] (InPath (OfItem f) [] part.Between)))
+    ∙ run_append reads (path_text ps) (codes ")") (Some (spot is [] (InPath (OfItem f) [] part.Between)))
     ∙ ap (run (codes ")")) (reads_bytes (OfItem f) is [] (path_text ps) [] part.Between a.0 a.1)
     ∙ ap (λ o. moved is [] (marks (OfItem f) 41 o)) a.2
 
@@ -147,8 +126,8 @@ reads_items (j ∷ js) is i all few =
       others = r.others;
       last = r.last;
       is = sym (append_assoc is (i ∷ []) (j ∷ js)) ∙ r.is;
-      there = run_append (codes "," ++ item_text j) rest (Some (spot is [] (Behind i 0)))
-          ∙ ap (λ c. run rest (run (item_text j) (moved is [] (if c then NextItem i Start else Dead)))) (lt_test (length is + 1) 16 (omega arith))
+      there = run_append reads (codes "," ++ item_text j) rest (Some (spot is [] (Behind i 0)))
+          ∙ ap (λ c. run rest (run (item_text j) (moved is [] (if c then NextItem i Start else Dead)))) (lt-ltb (length is + 1) 16 (omega arith))
           ∙ ap (run rest) (reads_item (is ++ i ∷ []) j all.0)
           ∙ r.there;
     }
@@ -163,89 +142,14 @@ reads_operator is cs d p ps AtMost w = ap (λ x. onward (moved is cs (marks OfCo
 reads_operator is cs d p ps Above w = ap (λ x. moved is cs (marks OfCondition 62 x)) w
 reads_operator is cs d p ps AtLeast w = ap (λ x. onward (moved is cs (marks OfCondition 62 x)) 61) w
 
--- two different numbers fail the test
-no : (a b : ℕ) → (a ≡ b → ⊥) → nat_eq a b ≡ false
-no a b f = grind (arith, nat_tests)
-
-yes_digit : (d : ℕ) → d < 10 → is_digit (48 + d) ≡ true
-yes_digit d h = grind (arith, nat_tests)
-
-le_test : (a b : ℕ) → a ≤ b → nat_le a b ≡ true
-le_test a b h = grind (arith, nat_tests)
-
-value_back : (d : ℕ) → 48 + d - 48 ≡ d
-value_back d = omega arith
-
--- the first digit of a number from 0 up
-first_up : (is : List ItemSyntax) (cs : List ConditionSyntax) (p : List PathStep) (o : Operator) (d : ℕ) → d < 10 → onward (Some (spot is cs (Compare p o))) (48 + d) ≡ Some (spot is cs (Literal p o (Up d) 0))
-first_up is cs p o d h =
-    rw (no (48 + d) 61 (λ x. omega arith), no (48 + d) 45 (λ x. omega arith), yes_digit d h) (ap (λ n. Some (spot is cs (Literal p o (Up n) 0))) (value_back d))
-
--- a further digit
-next_up : (is : List ItemSyntax) (cs : List ConditionSyntax) (p : List PathStep) (o : Operator) (n d : ℕ) → d < 10 → 0 < n → 10 * n + d < 2 ^ 63
-    → onward (Some (spot is cs (Literal p o (Up n) 0))) (48 + d) ≡ Some (spot is cs (Literal p o (Up (10 * n + d)) 0))
-next_up is cs p o n d h gt lt =
-    rw (yes_digit d h, value_back d, no n 0 (λ x. omega arith), lt_test (10 * n + d) (2 ^ 63) lt) refl
-
--- the first digit of a number below 0
-first_down : (is : List ItemSyntax) (cs : List ConditionSyntax) (p : List PathStep) (o : Operator) (d : ℕ) → d < 10 → 0 < d → onward (Some (spot is cs (Minus p o))) (48 + d) ≡ Some (spot is cs (Literal p o (Down d) 0))
-first_down is cs p o d h gt =
-    rw (yes_digit d h, no (48 + d) 48 (λ x. omega arith)) (ap (λ n. Some (spot is cs (Literal p o (Down n) 0))) (value_back d))
-
--- a further digit
-next_down : (is : List ItemSyntax) (cs : List ConditionSyntax) (p : List PathStep) (o : Operator) (n d : ℕ) → d < 10 → 0 < n → 10 * n + d ≤ 2 ^ 63
-    → onward (Some (spot is cs (Literal p o (Down n) 0))) (48 + d) ≡ Some (spot is cs (Literal p o (Down (10 * n + d)) 0))
-next_down is cs p o n d h gt le =
-    rw (yes_digit d h, value_back d, le_test (10 * n + d) (2 ^ 63) le) refl
-
--- the digits of a number from 0 up
-reads_up : (is : List ItemSyntax) (cs : List ConditionSyntax) (p : List PathStep) (o : Operator) (n : ℕ) → n < 2 ^ 63 → run (decimal n) (Some (spot is cs (Compare p o))) ≡ Some (spot is cs (Literal p o (Up n) 0))
-reads_up is cs p o n lt =
-    decimal_by_steps (λ n text. n < 2 ^ 63 → run text (Some (spot is cs (Compare p o))) ≡ Some (spot is cs (Literal p o (Up n) 0)))
-    (λ n small _. first_up is cs p o n small)
-    (λ n text big ih lt.
-    let e : 10 * (n / 10) + n % 10 ≡ n = omega arith in
-    run_append text ((48 + n % 10) ∷ []) (Some (spot is cs (Compare p o)))
-    ∙ ap (λ x. onward x (48 + n % 10)) (ih (omega arith))
-    ∙ next_up is cs p o (n / 10) (n % 10) (omega arith) (omega arith) (omega arith)
-    ∙ ap (λ m. Some (spot is cs (Literal p o (Up m) 0))) e)
-    n (omega arith) lt
-
--- the digits of a number below 0
-reads_down : (is : List ItemSyntax) (cs : List ConditionSyntax) (p : List PathStep) (o : Operator) (n : ℕ) → 0 < n → n ≤ 2 ^ 63 → run (decimal n) (Some (spot is cs (Minus p o))) ≡ Some (spot is cs (Literal p o (Down n) 0))
-reads_down is cs p o n gt le =
-    decimal_by_steps (λ n text. 0 < n → n ≤ 2 ^ 63 → run text (Some (spot is cs (Minus p o))) ≡ Some (spot is cs (Literal p o (Down n) 0)))
-    (λ n small gt _. first_down is cs p o n small gt)
-    (λ n text big ih gt le.
-    let e : 10 * (n / 10) + n % 10 ≡ n = omega arith in
-    run_append text ((48 + n % 10) ∷ []) (Some (spot is cs (Minus p o)))
-    ∙ ap (λ x. onward x (48 + n % 10)) (ih (omega arith) (omega arith))
-    ∙ next_down is cs p o (n / 10) (n % 10) (omega arith) (omega arith) (omega arith)
-    ∙ ap (λ m. Some (spot is cs (Literal p o (Down m) 0))) e)
-    n (omega arith) gt le
-
--- the number as it is read
-abbrev pub number_of : ℤ → Number
-number_of (pos n) = Up n
-number_of (negsuc n) = Down (suc n)
-
-value_number : (z : ℤ) → value_of (number_of z) ≡ z
-value_number (pos n) = refl
-value_number (negsuc n) = refl
-
--- a number behind an operator
-reads_literal : (is : List ItemSyntax) (cs : List ConditionSyntax) (p : List PathStep) (o : Operator) (z : ℤ) → IsLiteral z → run (signed_decimal z) (Some (spot is cs (Compare p o))) ≡ Some (spot is cs (Literal p o (number_of z) 0))
-reads_literal is cs p o (pos n) h = reads_up is cs p o n h
-reads_literal is cs p o (negsuc n) h = reads_down is cs p o (suc n) (omega arith) (omega (arith, h))
-
 -- a condition
 reads_condition : (is : List ItemSyntax) (cs : List ConditionSyntax) (c : ConditionSyntax) → IsCondition c
     → run (condition_text c) (Some (spot is cs (InPath OfCondition [] part.Between))) ≡ Some (spot is cs (Literal c.path c.operator (number_of c.literal) 0))
 reads_condition is cs c h =
     let a = path_accepting.accepts c.path h.is_path in
-    run_append (path_text c.path) (operator_text c.operator ++ signed_decimal c.literal) (Some (spot is cs (InPath OfCondition [] part.Between)))
+    run_append reads (path_text c.path) (operator_text c.operator ++ signed_decimal c.literal) (Some (spot is cs (InPath OfCondition [] part.Between)))
     ∙ ap (run (operator_text c.operator ++ signed_decimal c.literal)) (reads_bytes OfCondition is cs (path_text c.path) [] part.Between a.0 a.1)
-    ∙ run_append (operator_text c.operator) (signed_decimal c.literal) (Some (spot is cs (InPath OfCondition a.0.done a.0.part)))
+    ∙ run_append reads (operator_text c.operator) (signed_decimal c.literal) (Some (spot is cs (InPath OfCondition a.0.done a.0.part)))
     ∙ ap (run (signed_decimal c.literal)) (reads_operator is cs a.0.done a.0.part c.path c.operator a.2)
     ∙ reads_literal is cs c.path c.operator c.literal h.is_literal
 
@@ -257,28 +161,8 @@ same_condition c = ap (λ z. record { path = c.path; operator = c.operator; lite
 reads_and : (is : List ItemSyntax) (cs : List ConditionSyntax) (c : ConditionSyntax) → length cs + 1 < 16
     → run and_word (Some (spot is cs (Literal c.path c.operator (number_of c.literal) 0))) ≡ Some (spot is (cs ++ c ∷ []) (InPath OfCondition [] part.Between))
 reads_and is cs c few =
-    ap (λ x. onward (onward (onward (onward x 97) 110) 100) 32) (one is cs c.path c.operator (number_of c.literal) few)
-    ∙ ap (λ x. onward (onward (onward x 110) 100) 32) (two is cs c.path c.operator (number_of c.literal) few)
-    ∙ ap (λ x. onward (onward x 100) 32) (three is cs c.path c.operator (number_of c.literal) few)
-    ∙ ap (λ x. onward x 32) (four is cs c.path c.operator (number_of c.literal) few)
-    ∙ five is cs c.path c.operator (number_of c.literal) few
-    ∙ ap (λ x. Some (spot is (cs ++ x ∷ []) (InPath OfCondition [] part.Between))) (same_condition c)
-  where
-    one : (is : List ItemSyntax) (cs : List ConditionSyntax) (p : List PathStep) (o : Operator) (m : Number) → length cs + 1 < 16 → onward (Some (spot is cs (Literal p o m 0))) 32 ≡ Some (spot is cs (Literal p o m 1))
-    one is cs p o m few = rw (lt_test (length cs + 1) 16 few) refl
-
-    two : (is : List ItemSyntax) (cs : List ConditionSyntax) (p : List PathStep) (o : Operator) (m : Number) → length cs + 1 < 16 → onward (Some (spot is cs (Literal p o m 1))) 97 ≡ Some (spot is cs (Literal p o m 2))
-    two is cs p o m few = rw (lt_test (length cs + 1) 16 few) refl
-
-    three : (is : List ItemSyntax) (cs : List ConditionSyntax) (p : List PathStep) (o : Operator) (m : Number) → length cs + 1 < 16 → onward (Some (spot is cs (Literal p o m 2))) 110 ≡ Some (spot is cs (Literal p o m 3))
-    three is cs p o m few = rw (lt_test (length cs + 1) 16 few) refl
-
-    four : (is : List ItemSyntax) (cs : List ConditionSyntax) (p : List PathStep) (o : Operator) (m : Number) → length cs + 1 < 16 → onward (Some (spot is cs (Literal p o m 3))) 100 ≡ Some (spot is cs (Literal p o m 4))
-    four is cs p o m few = rw (lt_test (length cs + 1) 16 few) refl
-
-    five : (is : List ItemSyntax) (cs : List ConditionSyntax) (p : List PathStep) (o : Operator) (m : Number) → length cs + 1 < 16
-        → onward (Some (spot is cs (Literal p o m 4))) 32 ≡ Some (spot is (cs ++ condition p o m ∷ []) (InPath OfCondition [] part.Between))
-    five is cs p o m few = rw (lt_test (length cs + 1) 16 few) refl
+    let room : nat_lt (length cs + 1) 16 ≡ true = lt-ltb (length cs + 1) 16 few in
+    rw (room, room, room, room, room) (ap (λ x. Some (spot is (cs ++ x ∷ []) (InPath OfCondition [] part.Between))) (same_condition c))
 
 -- the last condition, whole, behind the others
 pub record LastCondition (is : List ItemSyntax) (conditions : List ConditionSyntax) (o : Option Spot) : Type 0 where
@@ -289,7 +173,8 @@ pub record LastCondition (is : List ItemSyntax) (conditions : List ConditionSynt
 
 -- conditions that each have and before them
 reads_conditions : (is : List ItemSyntax) (ds cs : List ConditionSyntax) (c : ConditionSyntax) → AllByRecursion IsCondition ds → length cs + 1 + length ds ≤ 16
-    → LastCondition is (cs ++ c ∷ ds) (run (flat_map (λ y. codes " and " ++ condition_text y) ds) (Some (spot is cs (Literal c.path c.operator (number_of c.literal) 0))))
+    → LastCondition is (cs ++ c ∷ ds)
+    (run (flat_map (λ y. codes " and " ++ condition_text y) ds) (Some (spot is cs (Literal c.path c.operator (number_of c.literal) 0))))
 reads_conditions is [] cs c all few = record { others = cs; last = c; all = refl; there = refl }
 reads_conditions is (d ∷ ds) cs c all few =
     let r = reads_conditions is ds (cs ++ c ∷ []) d all.1 (omega (arith, length-append cs (c ∷ []))) in
@@ -299,28 +184,24 @@ reads_conditions is (d ∷ ds) cs c all few =
       others = r.others;
       last = r.last;
       all = sym (append_assoc cs (c ∷ []) (d ∷ ds)) ∙ r.all;
-      there = run_append (codes " and " ++ condition_text d) rest here
-          ∙ ap (run rest) (run_append (codes " and ") (condition_text d) here
+      there = run_append reads (codes " and " ++ condition_text d) rest here
+          ∙ ap (run rest) (run_append reads (codes " and ") (condition_text d) here
           ∙ ap (run (condition_text d)) (reads_and is cs c (omega arith))
           ∙ reads_condition is (cs ++ c ∷ []) d all.0)
           ∙ r.there;
     }
 
--- where a text leads, and to which query
-pub record Accepts (text : List ℕ) (q : Syntax) : Type 0 where
-  pub to : Spot
-  pub by : run text start ≡ Some to
-  pub whole : whole to ≡ Some q
-
 -- the items of a query
-reads_all_items : (i : ItemSyntax) (js : List ItemSyntax) → AllByRecursion IsItem (i ∷ js) → length (i ∷ js) ≤ 16 → LastItem (i ∷ js) (run (join_by item_text (codes ",") (i ∷ js)) start)
+reads_all_items : (i : ItemSyntax) (js : List ItemSyntax) → AllByRecursion IsItem (i ∷ js) → length (i ∷ js) ≤ 16
+    → LastItem (i ∷ js) (run (join_by item_text (codes ",") (i ∷ js)) start)
 reads_all_items i js all few =
     let r = reads_items js [] i all.1 (omega arith) in
     let rest = flat_map (λ y. codes "," ++ item_text y) js in
-    record { others = r.others; last = r.last; is = r.is; there = run_append (item_text i) rest start ∙ ap (run rest) (reads_item [] i all.0) ∙ r.there }
+    record { others = r.others; last = r.last; is = r.is; there = run_append reads (item_text i) rest start ∙ ap (run rest) (reads_item [] i all.0) ∙ r.there }
 
 -- the conditions of a query behind its last item
-reads_where : (es : List ItemSyntax) (l : ItemSyntax) (c : ConditionSyntax) (ds : List ConditionSyntax) → AllByRecursion IsCondition (c ∷ ds) → length (c ∷ ds) ≤ 16
+reads_where : (es : List ItemSyntax) (l : ItemSyntax) (c : ConditionSyntax) (ds : List ConditionSyntax) → AllByRecursion IsCondition (c ∷ ds)
+    → length (c ∷ ds) ≤ 16
     → LastCondition (es ++ l ∷ []) (c ∷ ds) (run (where_text (c ∷ ds)) (Some (spot es [] (Behind l 0))))
 reads_where es l c ds all few =
     let is = es ++ l ∷ [] in
@@ -330,26 +211,26 @@ reads_where es l c ds all few =
       others = r.others;
       last = r.last;
       all = r.all;
-      there = run_append (condition_text c) rest (Some (spot is [] (InPath OfCondition [] part.Between)))
+      there = run_append reads (condition_text c) rest (Some (spot is [] (InPath OfCondition [] part.Between)))
           ∙ ap (run rest) (reads_condition is [] c all.0)
           ∙ r.there;
     }
 
 -- each query's text is read, to that query
-pub accepts : (is : List ItemSyntax) (cs : List ConditionSyntax) → IsQuery (syntax is cs) → Accepts (query_text (syntax is cs)) (syntax is cs)
+pub accepts : (is : List ItemSyntax) (cs : List ConditionSyntax) → IsQuery (syntax is cs)
+    → Accepts reads start whole (query_text (syntax is cs)) (syntax is cs)
 accepts [] cs h = absurd (omega (arith, h.some_item))
 accepts (i ∷ js) [] h =
-    let r = reads_all_items i js h.items h.few_items in
-    record {
-      to = spot r.others [] (Behind r.last 0);
-      by = run_append (join_by item_text (codes ",") (i ∷ js)) [] start ∙ r.there;
-      whole = ap (λ x. Some (syntax x [])) (sym r.is);
-    }
+    let r = reads_all_items i js h.items h.few_items in (
+      spot r.others [] (Behind r.last 0),
+      run_append reads (join_by item_text (codes ",") (i ∷ js)) [] start ∙ r.there,
+      ap (λ x. Some (syntax x [])) (sym r.is),
+    )
 accepts (i ∷ js) (c ∷ ds) h =
     let r = reads_all_items i js h.items h.few_items in
-    let w = reads_where r.others r.last c ds h.conditions h.few_conditions in
-    record {
-      to = spot (r.others ++ r.last ∷ []) w.others (Literal w.last.path w.last.operator (number_of w.last.literal) 0);
-      by = run_append (join_by item_text (codes ",") (i ∷ js)) (where_text (c ∷ ds)) start ∙ ap (run (where_text (c ∷ ds))) r.there ∙ w.there;
-      whole = ap (λ x. Some (syntax (r.others ++ r.last ∷ []) (w.others ++ x ∷ []))) (same_condition w.last) ∙ ap (λ x. Some (syntax x (w.others ++ w.last ∷ []))) (sym r.is) ∙ ap (λ x. Some (syntax (i ∷ js) x)) (sym w.all);
-    }
+    let w = reads_where r.others r.last c ds h.conditions h.few_conditions in (
+      spot (r.others ++ r.last ∷ []) w.others (Literal w.last.path w.last.operator (number_of w.last.literal) 0),
+      run_append reads (join_by item_text (codes ",") (i ∷ js)) (where_text (c ∷ ds)) start ∙ ap (run (where_text (c ∷ ds))) r.there ∙ w.there,
+      ap (λ x. Some (syntax (r.others ++ r.last ∷ []) (w.others ++ x ∷ []))) (same_condition w.last)
+          ∙ ap (λ x. Some (syntax x (w.others ++ w.last ∷ []))) (sym r.is) ∙ ap (λ x. Some (syntax (i ∷ js) x)) (sym w.all),
+    )

@@ -4,6 +4,7 @@ use Rattle.std.specs.Prelude.{codes, decimal, pos, negsuc}
 use Rattle.std.specs.List.{AllByRecursion, join_by}
 use Rattle.std.proofs.lemmas.List.{append_assoc, append-nil, length-append, take-append-drop}
 use Rattle.std.proofs.lemmas.Fmt.{decimal_digit}
+use Rattle.fm_lists.proofs.Each.{all_snoc}
 use Rattle.fm_path_text.specs.Grammar as path
 use Rattle.fm_path_text.proofs.Accepting as path_accepting
 use Rattle.fm_query.specs.declared.operator.Operator.TheVariants.{Equal, NotEqual}
@@ -17,24 +18,21 @@ use Rattle.fm_query.specs.declared.stage.Stage.TheVariants.{Start, Spelling, InP
 use Rattle.fm_query.specs.Grammar.{syntax, fold_text, item_text, condition_text, operator_text, where_text, IsItem, IsCondition, Begins}
 use Rattle.fm_query.specs.Reader.{word_text, where_word, and_word, condition}
 use Rattle.fm_query.proofs.Shown.{so_far, items_led, conditions_led, led, join_led, conditions_more, IsAtItem, IsAtCondition, HasRead}
-use Rattle.fm_query.proofs.Leaving.{literal_of}
-
--- what holds of each of some things and of one more holds of each
-pub all_snoc : {A : Type 0} (P : A → Type 0) (xs : List A) (x : A) → AllByRecursion P xs → P x → AllByRecursion P (xs ++ x ∷ [])
-all_snoc P [] x h p = (p, tt)
-all_snoc P (y ∷ ys) x h p = (h.0, all_snoc P ys x h.1 p)
+use Rattle.fm_query.proofs.LeavingConditions.{literal_of}
 
 -- conditions behind where, the last one apart
-pub where_led : (cs : List ConditionSyntax) (c : ConditionSyntax) → where_text (cs ++ c ∷ []) ≡ codes " where " ++ (led condition_text (codes " and ") cs ++ condition_text c)
+pub where_led : (cs : List ConditionSyntax) (c : ConditionSyntax)
+    → where_text (cs ++ c ∷ []) ≡ codes " where " ++ (led condition_text (codes " and ") cs ++ condition_text c)
 where_led [] c = ap (λ t. codes " where " ++ t) (join_led condition_text (codes " and ") [] c)
 where_led (d ∷ ds) c = ap (λ t. codes " where " ++ t) (join_led condition_text (codes " and ") (d ∷ ds) c)
 
 -- a text begins what a longer one begins
-shorter : (text more : List ℕ) → Begins (text ++ more) → Begins text
+pub shorter : (text more : List ℕ) → Begins (text ++ more) → Begins text
 shorter text more b = (more ++ b.0, b.1, b.2, sym (append_assoc text more b.0) ∙ b.3)
 
 -- an item as far as it goes is completed by the rest of it
-ends_item : (text own rest : List ℕ) (is : List ItemSyntax) (cs : List ConditionSyntax) (i : ItemSyntax) → text ≡ items_led is ++ own → own ++ rest ≡ item_text i → AllByRecursion IsItem is → IsItem i → IsAtItem is cs → Begins text
+ends_item : (text own rest : List ℕ) (is : List ItemSyntax) (cs : List ConditionSyntax) (i : ItemSyntax) → text ≡ items_led is ++ own
+    → own ++ rest ≡ item_text i → AllByRecursion IsItem is → IsItem i → IsAtItem is cs → Begins text
 ends_item text own rest is cs i e w all item at = (
   rest,
   syntax (is ++ i ∷ []) [],
@@ -53,7 +51,8 @@ ends_item text own rest is cs i e w all item at = (
 )
 
 -- a condition as far as it goes is completed by the rest of it
-ends_condition : (text own rest : List ℕ) (is : List ItemSyntax) (cs : List ConditionSyntax) (c : ConditionSyntax) → text ≡ conditions_led is cs ++ own → own ++ rest ≡ condition_text c
+ends_condition : (text own rest : List ℕ) (is : List ItemSyntax) (cs : List ConditionSyntax) (c : ConditionSyntax) → text ≡ conditions_led is cs ++ own
+    → own ++ rest ≡ condition_text c
     → AllByRecursion IsItem is → AllByRecursion IsCondition cs → IsCondition c → IsAtCondition is cs 1 → Begins text
 ends_condition text own rest is cs c e w all each one at = (
   rest,
@@ -69,7 +68,8 @@ ends_condition text own rest is cs c e w all each one at = (
       ∙ append_assoc (conditions_led is cs) own rest
       ∙ ap (λ t. conditions_led is cs ++ t) w
       ∙ append_assoc (join_by item_text (codes ",") is) (codes " where " ++ led condition_text (codes " and ") cs) (condition_text c)
-      ∙ ap (λ t. join_by item_text (codes ",") is ++ t) (append_assoc (codes " where ") (led condition_text (codes " and ") cs) (condition_text c) ∙ sym (where_led cs c)),
+      ∙ ap (λ t. join_by item_text (codes ",") is ++ t) (append_assoc (codes " where ") (led condition_text (codes " and ") cs) (condition_text c)
+      ∙ sym (where_led cs c)),
 )
 
 -- the condition .=0
@@ -80,8 +80,10 @@ least_is : IsCondition least
 least_is = record { is_path = record { each = tt; short = omega arith }; is_literal = omega arith }
 
 -- where a condition may begin, a text may go on
-may_begin : (text : List ℕ) (is : List ItemSyntax) (cs : List ConditionSyntax) → text ≡ conditions_led is cs → AllByRecursion IsItem is → AllByRecursion IsCondition cs → IsAtCondition is cs 1 → Begins text
-may_begin text is cs e all each at = ends_condition text [] (condition_text least) is cs least (e ∙ sym (append-nil (conditions_led is cs))) refl all each least_is at
+may_begin : (text : List ℕ) (is : List ItemSyntax) (cs : List ConditionSyntax) → text ≡ conditions_led is cs → AllByRecursion IsItem is
+    → AllByRecursion IsCondition cs → IsAtCondition is cs 1 → Begins text
+may_begin text is cs e all each at =
+    ends_condition text [] (condition_text least) is cs least (e ∙ sym (append-nil (conditions_led is cs))) refl all each least_is at
 
 -- the text of 0 and of 1
 zero_text : decimal 0 ≡ 48 ∷ []
@@ -93,11 +95,13 @@ one_text = decimal_digit 1 (omega arith)
 -- what has been read begins a text
 pub can_end : (text : List ℕ) (is : List ItemSyntax) (cs : List ConditionSyntax) (s : Stage) → HasRead text is cs s → Begins text
 can_end text is cs Start h = ends_item text [] (item_text Count) is cs Count h.spelled refl h.items tt h.counted
-can_end text is cs (Spelling Counting n) h = ends_item text (take n (codes "count")) (drop n (codes "count")) is cs Count h.spelled (take-append-drop n (codes "count")) h.items tt h.counted
+can_end text is cs (Spelling Counting n) h =
+    ends_item text (take n (codes "count")) (drop n (codes "count")) is cs Count h.spelled (take-append-drop n (codes "count")) h.items tt h.counted
 can_end text is cs (Spelling (Folding f) n) h =
     let w = word_text (Folding f) in
     ends_item text (take n w) (drop n w ++ codes ".)") is cs (Of f []) h.spelled
-    (sym (append_assoc (take n w) (drop n w) (codes ".)")) ∙ ap (λ t. t ++ codes ".)") (take-append-drop n w) ∙ append_assoc (fold_text f) (codes "(") (codes ".)"))
+    (sym (append_assoc (take n w) (drop n w) (codes ".)")) ∙ ap (λ t. t ++ codes ".)") (take-append-drop n w)
+    ∙ append_assoc (fold_text f) (codes "(") (codes ".)"))
     h.items (record { each = tt; short = omega arith }) h.counted
 can_end text is cs (InPath (OfItem f) d p) h =
     let b = path_accepting.begins (so_far d p) d p h.live in
@@ -115,7 +119,8 @@ can_end text is cs (Behind i n) h =
     shorter text (drop n where_word) (may_begin (text ++ drop n where_word) (is ++ i ∷ []) cs
     (ap (λ t. t ++ drop n where_word) h.spelled
     ∙ append_assoc (items_led is) (item_text i ++ take n where_word) (drop n where_word)
-    ∙ ap (λ t. items_led is ++ t) (append_assoc (item_text i) (take n where_word) (drop n where_word) ∙ ap (λ t. item_text i ++ t) (take-append-drop n where_word))
+    ∙ ap (λ t. items_led is ++ t) (append_assoc (item_text i) (take n where_word) (drop n where_word)
+    ∙ ap (λ t. item_text i ++ t) (take-append-drop n where_word))
     ∙ sym (append_assoc (items_led is) (item_text i) where_word)
     ∙ ap (λ t. t ++ where_word) (sym (join_led item_text (codes ",") is i))
     ∙ ap (λ t. join_by item_text (codes ",") (is ++ i ∷ []) ++ t) (sym (append-nil where_word))
@@ -150,7 +155,8 @@ can_end text is cs (Literal p o m (suc n)) h =
     shorter text (drop (suc n) and_word) (may_begin (text ++ drop (suc n) and_word) is (cs ++ c ∷ [])
     (ap (λ t. t ++ drop (suc n) and_word) h.spelled
     ∙ append_assoc (conditions_led is cs) (condition_text c ++ take (suc n) and_word) (drop (suc n) and_word)
-    ∙ ap (λ t. conditions_led is cs ++ t) (append_assoc (condition_text c) (take (suc n) and_word) (drop (suc n) and_word) ∙ ap (λ t. condition_text c ++ t) (take-append-drop (suc n) and_word))
+    ∙ ap (λ t. conditions_led is cs ++ t) (append_assoc (condition_text c) (take (suc n) and_word) (drop (suc n) and_word)
+    ∙ ap (λ t. condition_text c ++ t) (take-append-drop (suc n) and_word))
     ∙ conditions_more is cs c)
     h.items
     (all_snoc IsCondition cs c h.conditions (record { is_path = h.live.0; is_literal = literal_of m h.live.1 }))

@@ -11,7 +11,7 @@ use Rattle.fm_layout.specs.Size.{size_of, sum_of, greatest_of}
 use Rattle.fm_layout.specs.Tree.{Tree, Trees, Value, Padding, Sequence, Struct, Union, NoMore, More}
 use Rattle.fm_path_text.specs.declared.step.PathStep.{PathStep}
 use Rattle.fm_path_text.specs.declared.step.PathStep.TheVariants.{Name, Group, At, Each, EachFrom}
-use Rattle.fm_path_meaning.proofs.Fitting.{lt_is}
+use Rattle.std.proofs.lemmas.Bool.{ltb-true}
 use Rattle.fm_path_meaning.specs.Follow.{index_named, ◌>>=◌}
 use Rattle.fm_path_meaning.specs.Found.{LeadsTo}
 use Rattle.fm_path_meaning.specs.Walk.{bound_of, dim_from, Move, Moved, move_member, move_found, move, Walk, with_dim, moved, walk_by}
@@ -51,7 +51,8 @@ member_fits k n t None f = tt
 member_fits k n t (Some u) f = omega (arith, f u refl)
 
 -- a step by name
-found_fits : (k : ℕ) (t : Tree) (ms : Trees) (o : Option ℕ) → ((n : ℕ) (u : Tree) → tree_at n ms ≡ Some u → size_of u ≤ size_of t) → Fits t (move_found k t ms o)
+found_fits : (k : ℕ) (t : Tree) (ms : Trees) (o : Option ℕ) → ((n : ℕ) (u : Tree) → tree_at n ms ≡ Some u → size_of u ≤ size_of t)
+    → Fits t (move_found k t ms o)
 found_fits k t ms None f = tt
 found_fits k t ms (Some n) f = member_fits k n t (tree_at n ms) (f n)
 
@@ -60,8 +61,9 @@ elements_fit : (bound count : ℕ) (e : Tree) → bound ≤ count → bound * si
 elements_fit bound count e le = mul-le-mul_right {m = bound} {n = count} (size_of e) le
 
 -- a step to an element
-at_fits : (k n c : ℕ) (e : Tree) (l : _) (b : Bool) → nat_lt n c ≡ b → Fits (Sequence c e l) (if b then Ok (record { by = n * size_of e; dim = None; to = e }) else Err (IndexOut k))
-at_fits k n c e l true h = elements_fit 1 c e (omega (arith, lt_is n c h))
+at_fits : (k n c : ℕ) (e : Tree) (l : _) (b : Bool) → nat_lt n c ≡ b
+    → Fits (Sequence c e l) (if b then Ok (record { by = n * size_of e; dim = None; to = e }) else Err (IndexOut k))
+at_fits k n c e l true h = elements_fit 1 c e (omega (arith, ltb-true n c h))
 at_fits k n c e l false h = tt
 
 -- from an element on there are at most as many as in all
@@ -73,7 +75,7 @@ bound_fits f c (negsuc s) lt = omega (arith, lt, div-le_self f (suc s))
 -- a step that is open from an element on
 from_fits : (k f c : ℕ) (z : ℤ) (e : Tree) (l : _) (b : Bool) → nat_lt f c ≡ b
     → Fits (Sequence c e l) (if b then Ok (record { by = f * size_of e; dim = Some (dim_from f z c (size_of e)); to = e }) else Err (IndexOut k))
-from_fits k f c z e l true h = elements_fit (bound_of f z c) c e (bound_fits f c z (lt_is f c h))
+from_fits k f c z e l true h = elements_fit (bound_of f z c) c e (bound_fits f c z (ltb-true f c h))
 from_fits k f c z e l false h = tt
 
 -- each move
@@ -120,11 +122,13 @@ times_fit count many few bytes middle whole e inner outer =
 -- a step before a walk
 fit_moved : (t : Tree) (m : Move) (r : Result Walk Refusal) → indices m.dim * size_of m.to ≤ size_of t → FitIn m.to r → FitIn t (moved m r)
 fit_moved t m (Ok w) f h =
-    times_fit (value_count (with_dim m.dim w.dims)) (indices m.dim) (value_count w.dims) (size_of w.last) (size_of m.to) (size_of t) (counts_with m.dim w.dims) h f
+    times_fit (value_count (with_dim m.dim w.dims)) (indices m.dim) (value_count w.dims) (size_of w.last) (size_of m.to) (size_of t)
+    (counts_with m.dim w.dims) h f
 fit_moved t m (Err e) f h = tt
 
 -- a step, and then the rest
-fit_join : (k : ℕ) (ps : List PathStep) (t : Tree) (r : Moved) → Fits t r → ((u : Tree) → FitIn u (walk_by move ps (k + 1) u)) → FitIn t (r >>= λ m. moved m (walk_by move ps (k + 1) m.to))
+fit_join : (k : ℕ) (ps : List PathStep) (t : Tree) (r : Moved) → Fits t r → ((u : Tree) → FitIn u (walk_by move ps (k + 1) u))
+    → FitIn t (r >>= λ m. moved m (walk_by move ps (k + 1) m.to))
 fit_join k ps t (Err e) f ih = tt
 fit_join k ps t (Ok m) f ih = fit_moved t m (walk_by move ps (k + 1) m.to) f (ih m.to)
 
@@ -134,7 +138,8 @@ fit_in [] k t = omega arith
 fit_in (p ∷ ps) k t = fit_join k ps t (move k p t) (fits k p t) (λ u. fit_in ps (k + 1) u)
 
 -- the layouts at a path's end fit into its root
-pub ends_fit : (path : List PathStep) (t : Tree) (offset : ℕ) (dims : List Dim) (u : Tree) → LeadsTo path t offset dims u → value_count dims * size_of u ≤ size_of t
+pub ends_fit : (path : List PathStep) (t : Tree) (offset : ℕ) (dims : List Dim) (u : Tree) → LeadsTo path t offset dims u
+    → value_count dims * size_of u ≤ size_of t
 ends_fit path t offset dims u l = subst (FitIn t) l.walked (fit_in path 0 t)
 
 -- ---- values have bytes

@@ -1,7 +1,12 @@
 pub mod Accepting
+pub mod AcceptingNumbers
 pub mod Completing
 pub mod Few
 pub mod Leaving
-pub mod Reading
+pub mod LeavingConditions
+pub mod LeavingItems
+pub mod OnePlan
+pub mod OneRefusal
 pub mod Plans
+pub mod Reading
 pub mod Shown

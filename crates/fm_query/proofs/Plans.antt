@@ -38,8 +38,10 @@ zip_push R (a ∷ xs) [] x y h r = absurd h
 zip_push R (a ∷ xs) (b ∷ ys) x y h r = (h.0, zip_push R xs ys x y h.1 r)
 
 -- the next of the first k
-pub zip_more : {A B : Type 0} (R : A → B → Type 0) (xs : List A) (ys : List B) (k : ℕ) (x : A) (y : B) → AllZip R (take k xs) ys → k < length xs → x ≡ get_or xs k x → R x y → AllZip R (take (k + 1) xs) (ys ++ y ∷ [])
-zip_more R xs ys k x y h lt is r = subst (λ l. AllZip R l (ys ++ y ∷ [])) (ap (λ z. take k xs ++ z ∷ []) is ∙ sym (take_more xs k x lt)) (zip_push R (take k xs) ys x y h r)
+pub zip_more : {A B : Type 0} (R : A → B → Type 0) (xs : List A) (ys : List B) (k : ℕ) (x : A) (y : B) → AllZip R (take k xs) ys → k < length xs
+    → x ≡ get_or xs k x → R x y → AllZip R (take (k + 1) xs) (ys ++ y ∷ [])
+zip_more R xs ys k x y h lt is r =
+    subst (λ l. AllZip R l (ys ++ y ∷ [])) (ap (λ z. take k xs ++ z ∷ []) is ∙ sym (take_more xs k x lt)) (zip_push R (take k xs) ys x y h r)
 
 -- all of them
 pub zip_all : {A B : Type 0} (R : A → B → Type 0) (xs : List A) (ys : List B) (k : ℕ) → AllZip R (take k xs) ys → length xs ≤ k → AllZip R xs ys
@@ -94,7 +96,8 @@ through path t r well h = record {
 }
 
 -- each item is one on records of the layout
-items_in : (t : Tree) (xs : List ItemSyntax) (ys : List Item) → IsWellFormed t → AllZip (IsItemOf t) xs ys → AllByRecursion (IsItemIn (size_of t) (alignment_of t)) ys
+items_in : (t : Tree) (xs : List ItemSyntax) (ys : List Item) → IsWellFormed t → AllZip (IsItemOf t) xs ys
+    → AllByRecursion (IsItemIn (size_of t) (alignment_of t)) ys
 items_in t [] [] well h = tt
 items_in t [] (y ∷ ys) well h = absurd h
 items_in t (x ∷ xs) [] well h = absurd h
@@ -105,7 +108,8 @@ items_in t (x ∷ xs) (y ∷ ys) well h = (item_in x h.0, items_in t xs ys well 
     item_in (Of f p) i = subst (AsksOf (size_of t) (alignment_of t)) (sym i.asked.2) (through p t i.asked.0 well i.asked.1)
 
 -- each condition is one on one value of records of the layout
-conditions_in : (t : Tree) (xs : List ConditionSyntax) (ys : List Condition) → IsWellFormed t → AllZip (IsConditionOf t) xs ys → AllByRecursion (IsConditionIn (size_of t) (alignment_of t)) ys
+conditions_in : (t : Tree) (xs : List ConditionSyntax) (ys : List Condition) → IsWellFormed t → AllZip (IsConditionOf t) xs ys
+    → AllByRecursion (IsConditionIn (size_of t) (alignment_of t)) ys
 conditions_in t [] [] well h = tt
 conditions_in t [] (y ∷ ys) well h = absurd h
 conditions_in t (x ∷ xs) [] well h = absurd h
@@ -118,8 +122,10 @@ conditions_in t (x ∷ xs) (y ∷ ys) well h = (
 )
 
 -- what the parts come to is a plan
-pub is_plan : (t : Tree) (text : List ℕ) (q : Syntax) (n a : ℕ) (xs : List ItemSyntax) (cs : List ConditionSyntax) (items : List Item) (conditions : List Condition)
-    → IsWellFormed t → IsRecord t → IsTextOf text q → xs ≡ q.items → cs ≡ q.conditions → n ≡ size_of t → a ≡ alignment_of t → AllZip (IsItemOf t) xs items → AllZip (IsConditionOf t) cs conditions → IsPlan (plan n a items conditions)
+pub is_plan : (t : Tree) (text : List ℕ) (q : Syntax) (n a : ℕ) (xs : List ItemSyntax) (cs : List ConditionSyntax) (items : List Item)
+    (conditions : List Condition)
+    → IsWellFormed t → IsRecord t → IsTextOf text q → xs ≡ q.items → cs ≡ q.conditions → n ≡ size_of t → a ≡ alignment_of t → AllZip (IsItemOf t) xs items
+    → AllZip (IsConditionOf t) cs conditions → IsPlan (plan n a items conditions)
 is_plan t text q n a xs cs items conditions well rec is ei ec en ea hi hc =
     subst (λ n. IsPlan (plan n a items conditions)) (sym en) (subst (λ a. IsPlan (plan (size_of t) a items conditions)) (sym ea) (record {
       sized = rec.sized;
@@ -133,12 +139,19 @@ is_plan t text q n a xs cs items conditions well rec is ei ec en ea hi hc =
     }))
 
 -- and it is what the text asks
-pub is_parsed : (t : Tree) (text : List ℕ) (q : Syntax) (n a : ℕ) (xs : List ItemSyntax) (cs : List ConditionSyntax) (items : List Item) (conditions : List Condition)
-    → IsTextOf text q → xs ≡ q.items → cs ≡ q.conditions → n ≡ size_of t → a ≡ alignment_of t → AllZip (IsItemOf t) xs items → AllZip (IsConditionOf t) cs conditions → IsParsed text t (plan n a items conditions)
+pub is_parsed : (t : Tree) (text : List ℕ) (q : Syntax) (n a : ℕ) (xs : List ItemSyntax) (cs : List ConditionSyntax) (items : List Item)
+    (conditions : List Condition)
+    → IsTextOf text q → xs ≡ q.items → cs ≡ q.conditions → n ≡ size_of t → a ≡ alignment_of t → AllZip (IsItemOf t) xs items
+    → AllZip (IsConditionOf t) cs conditions → IsParsed text t (plan n a items conditions)
 is_parsed t text q n a xs cs items conditions is ei ec en ea hi hc = record {
   syntax = q;
   is_text = is;
-  is_plan = record { size = en; alignment = ea; items = subst (λ xs. AllZip (IsItemOf t) xs items) ei hi; conditions = subst (λ cs. AllZip (IsConditionOf t) cs conditions) ec hc };
+  is_plan = record {
+    size = en;
+    alignment = ea;
+    items = subst (λ xs. AllZip (IsItemOf t) xs items) ei hi;
+    conditions = subst (λ cs. AllZip (IsConditionOf t) cs conditions) ec hc;
+  };
 }
 
 -- memory may run out at any text
@@ -146,19 +159,23 @@ out_of_memory : (t : Tree) (text : List ℕ) (e : Refusal) → e ≡ Memory → 
 out_of_memory t text e m = no_text (subst (IsNoText text) (sym m) tt)
 
 -- a query is refused by the first of its items that is
-pub item_refused : (t : Tree) (text : List ℕ) (q : Syntax) (xs : List ItemSyntax) (e : Refusal) → IsTextOf text q → xs ≡ q.items → OrMemory (IsFirstRefused (IsItemAdmitted t) (IsItemRefused t) xs) e → IsNoQuery text t e
+pub item_refused : (t : Tree) (text : List ℕ) (q : Syntax) (xs : List ItemSyntax) (e : Refusal) → IsTextOf text q → xs ≡ q.items
+    → OrMemory (IsFirstRefused (IsItemAdmitted t) (IsItemRefused t) xs) e → IsNoQuery text t e
 item_refused t text q xs e is ei (inl h) = refused q is (at_item (subst (λ xs. IsFirstRefused (IsItemAdmitted t) (IsItemRefused t) xs e) ei h))
 item_refused t text q xs e is ei (inr m) = out_of_memory t text e m
 
 -- and else by the first of its conditions that is
 pub condition_refused : (t : Tree) (text : List ℕ) (q : Syntax) (xs : List ItemSyntax) (cs : List ConditionSyntax) (items : List Item) (e : Refusal)
-    → IsTextOf text q → xs ≡ q.items → cs ≡ q.conditions → AllZip (IsItemOf t) xs items → OrMemory (IsFirstRefused (IsConditionAdmitted t) (IsConditionRefused t) cs) e → IsNoQuery text t e
+    → IsTextOf text q → xs ≡ q.items → cs ≡ q.conditions → AllZip (IsItemOf t) xs items
+    → OrMemory (IsFirstRefused (IsConditionAdmitted t) (IsConditionRefused t) cs) e → IsNoQuery text t e
 condition_refused t text q xs cs items e is ei ec hi (inl h) =
-    refused q is (at_condition (all_admitted (IsItemOf t) q.items items (subst (λ xs. AllZip (IsItemOf t) xs items) ei hi)) (subst (λ cs. IsFirstRefused (IsConditionAdmitted t) (IsConditionRefused t) cs e) ec h))
+    refused q is (at_condition (all_admitted (IsItemOf t) q.items items (subst (λ xs. AllZip (IsItemOf t) xs items) ei hi))
+    (subst (λ cs. IsFirstRefused (IsConditionAdmitted t) (IsConditionRefused t) cs e) ec h))
 condition_refused t text q xs cs items e is ei ec hi (inr m) = out_of_memory t text e m
 
 -- the pieces of the first k + 1 steps
-pub pieces_more : (path : List PathStep) (k : ℕ) (p : PathStep) (text piece more : List ℕ) → text ≡ pieces_of (take k path) → k < length path → p ≡ get_or path k p → piece ≡ piece_of p → more ≡ text ++ piece → more ≡ pieces_of (take (k + 1) path)
+pub pieces_more : (path : List PathStep) (k : ℕ) (p : PathStep) (text piece more : List ℕ) → text ≡ pieces_of (take k path) → k < length path
+    → p ≡ get_or path k p → piece ≡ piece_of p → more ≡ text ++ piece → more ≡ pieces_of (take (k + 1) path)
 pieces_more path k p text piece more e lt is ep em =
     em ∙ ap (λ t. t ++ piece) e ∙ ap (λ t. pieces_of (take k path) ++ t) ep ∙ sym (pieces_snoc (take k path) p)
     ∙ ap (λ z. pieces_of (take k path ++ z ∷ [])) is ∙ ap pieces_of (sym (take_more path k p lt))
@@ -187,7 +204,8 @@ ascii_at (c ∷ cs) zero h lt = letter c h.0
 ascii_at (c ∷ cs) (suc k) h lt = ascii_end cs k h.1 (omega arith)
 
 -- the first k + 1 bytes of a name behind a dot
-pub name_more : (name : List ℕ) (k ch : ℕ) (text coded more : List ℕ) → text ≡ 46 ∷ take k name → k < length name → IsName name → ch ≡ get_or name k 0 → (ch < 128 → coded ≡ ch ∷ []) → more ≡ text ++ coded → more ≡ 46 ∷ take (k + 1) name
+pub name_more : (name : List ℕ) (k ch : ℕ) (text coded more : List ℕ) → text ≡ 46 ∷ take k name → k < length name → IsName name → ch ≡ get_or name k 0
+    → (ch < 128 → coded ≡ ch ∷ []) → more ≡ text ++ coded → more ≡ 46 ∷ take (k + 1) name
 name_more name k ch text coded more e lt is ec ascii em =
     em ∙ ap (λ t. t ++ coded) e ∙ ap (λ t. 46 ∷ take k name ++ t) (ascii (omega (arith, ec, ascii_at name k is lt)))
     ∙ ap (λ x. 46 ∷ take k name ++ x ∷ []) ec ∙ ap (λ t. 46 ∷ t) (sym (take_more name k 0 lt))

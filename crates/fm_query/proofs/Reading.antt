@@ -2,11 +2,14 @@
 use Rattle.std.proofs.Common.{◌≡◌, refl, sym, ap, subst, ℕ, ◌+◌, ◌<◌, ◌≤◌, zero, suc, false, if◌then◌else◌, nat_eq, Option, Some, None, List, [], ◌∷◌, ◌++◌, length, take, drop, get_or, arith, ◌∙◌}
 use Rattle.std.specs.Prelude.{codes}
 use Rattle.std.specs.List.{join_by}
+use Rattle.std.specs.Option.{IfSome}
 use Rattle.std.proofs.lemmas.Bool.Decides.{nat_tests}
-use Rattle.std.proofs.lemmas.List.{append_assoc, append-nil, length-append, take_more, take_all, take-append-drop}
+use Rattle.std.proofs.lemmas.List.{append_assoc, append-nil, length-append, take_all, take-append-drop}
+use Rattle.fm_lists.proofs.Each.{all_snoc}
 use Rattle.fm_path_text.specs.declared.step.PathStep.{PathStep}
 use Rattle.fm_path_text.specs.declared.part.Part.{Part}
 use Rattle.fm_path_text.specs.Reader as path
+use Rattle.fm_path_text.proofs.Machine.{run_keeps, run_more, Accepts, stops_short, reads_none, reads_one}
 use Rattle.fm_path_text.proofs.Parsing as path_parsing
 use Rattle.fm_query.specs.declared.syntax.ItemSyntax.{ItemSyntax}
 use Rattle.fm_query.specs.declared.syntax.ConditionSyntax.{ConditionSyntax}
@@ -16,14 +19,16 @@ use Rattle.fm_query.specs.declared.stage.Stage.TheVariants.{Start, Spelling, InP
 use Rattle.fm_query.specs.declared.stage.Turn.{Turn}
 use Rattle.fm_query.specs.declared.stage.Turn.TheVariants.{Dead, Stay, NextItem, NextCondition}
 use Rattle.fm_query.specs.Grammar.{Syntax, syntax, item_text, condition_text, where_text, query_text, IsItem, IsCondition, IsQuery, IsTextOf, Begins, BeginsUpTo}
-use Rattle.fm_query.specs.Reader.{condition, next, Spot, spot, moved, onward, run, start, whole, whole_at, IsReadySpot}
-use Rattle.fm_query.proofs.Shown.{so_far, items_led, conditions_led, led, join_led, base, own, HasRead, MayHaveRead}
-use Rattle.fm_query.proofs.Leaving.{Leaves, leaves, literal_of}
-use Rattle.fm_query.proofs.Completing.{all_snoc, where_led, can_end}
-use Rattle.fm_query.proofs.Accepting.{run_append, run_none, accepts}
+use Rattle.fm_query.specs.Reader.{condition, next, Spot, spot, moved, reads, onward, run, start, whole, whole_at, IsReadySpot}
+use Rattle.fm_query.proofs.Shown.{so_far, items_led, conditions_led, led, join_led, base, own, HasRead, HasReadTo, Leaves}
+use Rattle.fm_query.proofs.Leaving.{leaves}
+use Rattle.fm_query.proofs.LeavingConditions.{literal_of}
+use Rattle.fm_query.proofs.Completing.{where_led, can_end}
+use Rattle.fm_query.proofs.Accepting.{accepts}
 
 -- what was read after one more turn
-after : (text : List ℕ) (is : List ItemSyntax) (cs : List ConditionSyntax) (s : Stage) (b : ℕ) (m : Turn) → HasRead text is cs s → Leaves is cs s b m → MayHaveRead (text ++ b ∷ []) (moved is cs m)
+after : (text : List ℕ) (is : List ItemSyntax) (cs : List ConditionSyntax) (s : Stage) (b : ℕ) (m : Turn) → HasRead text is cs s → Leaves is cs s b m
+    → IfSome (moved is cs m) (HasReadTo (text ++ b ∷ []))
 after text is cs s b Dead h l = tt
 after text is cs s b (Stay t) h l = record {
   spelled = ap (λ x. x ++ b ∷ []) h.spelled ∙ append_assoc (base is cs s) (own s) (b ∷ []) ∙ ap (λ x. base is cs s ++ x) l.1 ∙ ap (λ x. x ++ own t) l.0;
@@ -47,23 +52,19 @@ after text is cs s b (NextCondition c t) h l = record {
   live = l.3;
 }
 
--- what was read after one more byte
-onward_read : (text : List ℕ) (o : Option Spot) (b : ℕ) → MayHaveRead text o → MayHaveRead (text ++ b ∷ []) (onward o b)
-onward_read text None b h = tt
-onward_read text (Some s) b h = after text s.items s.conditions s.stage b (next (length s.items) (length s.conditions) s.stage b) h (leaves s.items s.conditions s.stage b h.counted h.live)
-
 -- what the reader has read
-has_read : (bs text : List ℕ) (o : Option Spot) → MayHaveRead text o → MayHaveRead (text ++ bs) (run bs o)
-has_read [] text o h = subst (λ x. MayHaveRead x o) (sym (append-nil text)) h
-has_read (b ∷ bs) text o h = subst (λ x. MayHaveRead x (run bs (onward o b))) (append_assoc text (b ∷ []) bs) (has_read bs (text ++ b ∷ []) (onward o b) (onward_read text o b h))
+has_read : (bs text : List ℕ) (o : Option Spot) → IfSome o (HasReadTo text) → IfSome (run bs o) (HasReadTo (text ++ bs))
+has_read = run_keeps reads HasReadTo (λ text s b h.
+    after text s.items s.conditions s.stage b (next (length s.items) (length s.conditions) s.stage b) h
+    (leaves s.items s.conditions s.stage b h.counted h.live))
 
 -- before the first byte nothing was read
-read_nothing : MayHaveRead [] start
+read_nothing : IfSome start (HasReadTo [])
 read_nothing = record { spelled = refl; items = tt; conditions = tt; counted = record { few = omega arith; no_condition = refl }; live = tt }
 
 -- where the reader stands, it has read what it shows
 there_read : (text : List ℕ) (s : Spot) → run text start ≡ Some s → HasRead text s.items s.conditions s.stage
-there_read text s e = subst (MayHaveRead text) e (has_read text [] start read_nothing)
+there_read text s e = subst (λ o. IfSome o (HasReadTo text)) e (has_read text [] start read_nothing)
 
 some_of : {A : Type 0} {x y : A} → Some x ≡ Some y → x ≡ y
 some_of e = cc
@@ -72,7 +73,8 @@ not_zero : (n : ℕ) → nat_eq (suc n) 0 ≡ false
 not_zero n = grind (arith, nat_tests)
 
 -- a text that may end is that of the query which was read
-is_whole : (text : List ℕ) (is : List ItemSyntax) (cs : List ConditionSyntax) (s : Stage) (q : Syntax) → HasRead text is cs s → whole_at is cs s ≡ Some q → IsQuery q × (text ≡ query_text q)
+is_whole : (text : List ℕ) (is : List ItemSyntax) (cs : List ConditionSyntax) (s : Stage) (q : Syntax) → HasRead text is cs s → whole_at is cs s ≡ Some q
+    → IsQuery q × (text ≡ query_text q)
 is_whole text is cs Start q h e = absurd (cc)
 is_whole text is cs (Spelling w n) q h e = absurd (cc)
 is_whole text is cs (InPath r d p) q h e = absurd (cc)
@@ -110,7 +112,8 @@ is_whole text is cs (Literal p o m zero) q h e =
       h.spelled
           ∙ ap (λ t. conditions_led is cs ++ t) (append-nil (condition_text c))
           ∙ append_assoc (join_by item_text (codes ",") is) (codes " where " ++ led condition_text (codes " and ") cs) (condition_text c)
-          ∙ ap (λ t. join_by item_text (codes ",") is ++ t) (append_assoc (codes " where ") (led condition_text (codes " and ") cs) (condition_text c) ∙ sym (where_led cs c)),
+          ∙ ap (λ t. join_by item_text (codes ",") is ++ t) (append_assoc (codes " where ") (led condition_text (codes " and ") cs) (condition_text c)
+          ∙ sym (where_led cs c)),
     )
 is_whole text is cs (Literal p o m (suc n)) q h e =
     let f : None ≡ Some q = sym (ap (λ c. if c then Some (syntax is (cs ++ condition p o m ∷ [])) else None) (not_zero n)) ∙ e in
@@ -118,27 +121,20 @@ is_whole text is cs (Literal p o m (suc n)) q h e =
 
 -- where the reader stops, no text goes on
 stops : (text : List ℕ) → run text start ≡ None → Begins text → ⊥
-stops text e b =
-    let a = accepts b.1.items b.1.conditions b.2 in
-    let f : None ≡ Some a.to = sym (run_none b.0) ∙ ap (run b.0) (sym e) ∙ sym (run_append text b.0 start) ∙ ap (λ t. run t start) b.3 ∙ a.by in
-    absurd (cc)
+stops text e b = stops_short reads start whole text b.0 (query_text b.1) b.1 e b.3 (accepts b.1.items b.1.conditions b.2)
+
+-- a query's text is read to its end
+read_out : (text : List ℕ) (q : Syntax) → IsQuery q → text ≡ query_text q → Accepts reads start whole text q
+read_out text q h t = subst (λ x. Accepts reads start whole x q) (sym t) (accepts q.items q.conditions h)
 
 -- what was not read whole is no text
 no_text : (text : List ℕ) (s : Spot) → run text start ≡ Some s → whole s ≡ None → (q : Syntax) → IsQuery q → text ≡ query_text q → ⊥
-no_text text s e w q h t =
-    let a = accepts q.items q.conditions h in
-    let f : Some s ≡ Some a.to = sym e ∙ ap (λ x. run x start) t ∙ a.by in
-    let g : whole s ≡ whole a.to = ap whole (some_of f) in
-    let k : None ≡ Some q = sym w ∙ g ∙ a.whole in
-    absurd (cc)
+no_text text s e w q h t = reads_none reads start whole text s q e w (read_out text q h t)
 
 -- and the query of a text is the one that was read
-only : (text : List ℕ) (s : Spot) (q : Syntax) → run text start ≡ Some s → whole s ≡ Some q → (other : Syntax) → IsQuery other → text ≡ query_text other → q ≡ other
-only text s q e w other h t =
-    let a = accepts other.items other.conditions h in
-    let f : Some s ≡ Some a.to = sym e ∙ ap (λ x. run x start) t ∙ a.by in
-    let k : Some q ≡ Some other = sym w ∙ ap whole (some_of f) ∙ a.whole in
-    some_of k
+only : (text : List ℕ) (s : Spot) (q : Syntax) → run text start ≡ Some s → whole s ≡ Some q → (other : Syntax) → IsQuery other → text ≡ query_text other
+    → q ≡ other
+only text s q e w other h t = reads_one reads start whole text s q other e w (read_out text other h t)
 
 -- a path that is read may be read on
 path_ready : (d : List PathStep) (p : Part) → path.run (so_far d p) path.start ≡ Some (path.spot d p) → (length d ≤ 64) × path.IsBounded p
@@ -150,10 +146,22 @@ path_ready d p e =
 -- wherever the reader stands, it may read on
 ready : (text : List ℕ) (is : List ItemSyntax) (cs : List ConditionSyntax) (s : Stage) → HasRead text is cs s → IsReadySpot (spot is cs s)
 ready text is cs Start h = record { items = omega (arith, h.counted.few); conditions = omega (arith, ap length h.counted.no_condition); stage = tt }
-ready text is cs (Spelling w n) h = record { items = omega (arith, h.counted.few); conditions = omega (arith, ap length h.counted.no_condition); stage = h.live }
-ready text is cs (InPath (OfItem f) d p) h = record { items = omega (arith, h.counted.few); conditions = omega (arith, ap length h.counted.no_condition); stage = path_ready d p h.live }
+ready text is cs (Spelling w n) h = record {
+  items = omega (arith, h.counted.few);
+  conditions = omega (arith, ap length h.counted.no_condition);
+  stage = h.live;
+}
+ready text is cs (InPath (OfItem f) d p) h = record {
+  items = omega (arith, h.counted.few);
+  conditions = omega (arith, ap length h.counted.no_condition);
+  stage = path_ready d p h.live;
+}
 ready text is cs (InPath OfCondition d p) h = record { items = h.counted.few_items; conditions = omega (arith, h.counted.few); stage = path_ready d p h.live }
-ready text is cs (Behind i n) h = record { items = omega (arith, h.counted.few); conditions = omega (arith, ap length h.counted.no_condition); stage = h.live.1 }
+ready text is cs (Behind i n) h = record {
+  items = omega (arith, h.counted.few);
+  conditions = omega (arith, ap length h.counted.no_condition);
+  stage = h.live.1;
+}
 ready text is cs (Bang p) h = record { items = h.counted.few_items; conditions = omega (arith, h.counted.few); stage = tt }
 ready text is cs (Compare p o) h = record { items = h.counted.few_items; conditions = omega (arith, h.counted.few); stage = tt }
 ready text is cs (Minus p o) h = record { items = h.counted.few_items; conditions = omega (arith, h.counted.few); stage = tt }
@@ -172,19 +180,19 @@ pub begun : (text : List ℕ) (s : Spot) → Some s ≡ start → IsReading text
 begun text s e = reading text 0 s (sym e)
 
 -- where the next byte leads
-goes_on : (text : List ℕ) (i : ℕ) (s : Spot) (b : ℕ) → IsReading text i s → i < length text → b ≡ get_or text i 0 → run (take (i + 1) text) start ≡ onward (Some s) b
+goes_on : (text : List ℕ) (i : ℕ) (s : Spot) (b : ℕ) → IsReading text i s → i < length text → b ≡ get_or text i 0
+    → run (take (i + 1) text) start ≡ onward (Some s) b
 goes_on text i s b h lt e =
-    ap (λ t. run t start) (take_more text i 0 lt)
-    ∙ run_append (take i text) (get_or text i 0 ∷ []) start
-    ∙ ap (λ o. onward o (get_or text i 0)) h.there
-    ∙ ap (λ x. onward (Some s) x) (sym e)
+    run_more reads text i start lt ∙ ap (λ o. onward o (get_or text i 0)) h.there ∙ ap (λ x. onward (Some s) x) (sym e)
 
 -- the loop after a byte
-pub stays : (text : List ℕ) (i : ℕ) (s t : Spot) (b : ℕ) → IsReading text i s → i < length text → b ≡ get_or text i 0 → Some t ≡ onward (Some s) b → IsReading text (i + 1) t
+pub stays : (text : List ℕ) (i : ℕ) (s t : Spot) (b : ℕ) → IsReading text i s → i < length text → b ≡ get_or text i 0 → Some t ≡ onward (Some s) b
+    → IsReading text (i + 1) t
 stays text i s t b h lt e m = reading text (i + 1) t (goes_on text i s b h lt e ∙ sym m)
 
 -- where the reader dies the longest prefix ends
-pub ends_at : (text : List ℕ) (i : ℕ) (s : Spot) (b : ℕ) → IsReading text i s → i < length text → b ≡ get_or text i 0 → None ≡ onward (Some s) b → BeginsUpTo i text
+pub ends_at : (text : List ℕ) (i : ℕ) (s : Spot) (b : ℕ) → IsReading text i s → i < length text → b ≡ get_or text i 0 → None ≡ onward (Some s) b
+    → BeginsUpTo i text
 ends_at text i s b h lt e m =
     let dead = goes_on text i s b h lt e ∙ sym m in
     record {

@@ -1,8 +1,9 @@
 -- The text that a stage of the reader shows, and what holds there.
-use Rattle.std.proofs.Common.{◌≡◌, sym, ap, ℕ, ◌+◌, ◌<◌, ◌≤◌, Option, Some, None, List, [], ◌∷◌, ◌++◌, length, take, ◌∙◌}
+use Rattle.std.proofs.Common.{◌≡◌, sym, ap, ℕ, ◌+◌, ◌<◌, ◌≤◌, Some, true, nat_eq, List, [], ◌∷◌, ◌++◌, length, take, get_or, arith, ◌∙◌}
 use Rattle.std.specs.Prelude.{codes}
 use Rattle.std.specs.List.{AllByRecursion, join_by, flat_map}
-use Rattle.std.proofs.lemmas.List.{append_assoc, append-nil}
+use Rattle.std.proofs.lemmas.Bool.{eqb-true}
+use Rattle.std.proofs.lemmas.List.{append_assoc, append-nil, take_more, take_all}
 use Rattle.fm_path_text.specs.declared.step.PathStep.{PathStep}
 use Rattle.fm_path_text.specs.declared.part.Part.{Part}
 use Rattle.fm_path_text.specs.Grammar as path
@@ -14,6 +15,8 @@ use Rattle.fm_query.specs.declared.word.Word.TheVariants.{Folding}
 use Rattle.fm_query.specs.declared.stage.Role.TheVariants.{OfItem, OfCondition}
 use Rattle.fm_query.specs.declared.stage.Stage.{Stage}
 use Rattle.fm_query.specs.declared.stage.Stage.TheVariants.{Start, Spelling, InPath, Behind, Bang, Compare, Minus, Literal}
+use Rattle.fm_query.specs.declared.stage.Turn.{Turn}
+use Rattle.fm_query.specs.declared.stage.Turn.TheVariants.{Dead, Stay, NextItem, NextCondition}
 use Rattle.fm_query.specs.Grammar.{item_text, condition_text, operator_text, IsItem, IsCondition}
 use Rattle.fm_query.specs.Reader.{word_text, where_word, and_word, condition, IsNumber, Spot}
 
@@ -58,7 +61,8 @@ abbrev pub conditions_led : List ItemSyntax → List ConditionSyntax → List �
 conditions_led is cs = join_by item_text (codes ",") is ++ (codes " where " ++ led condition_text (codes " and ") cs)
 
 -- one more condition with and behind it
-pub conditions_more : (is : List ItemSyntax) (cs : List ConditionSyntax) (c : ConditionSyntax) → conditions_led is cs ++ (condition_text c ++ and_word) ≡ conditions_led is (cs ++ c ∷ [])
+pub conditions_more : (is : List ItemSyntax) (cs : List ConditionSyntax) (c : ConditionSyntax)
+    → conditions_led is cs ++ (condition_text c ++ and_word) ≡ conditions_led is (cs ++ c ∷ [])
 conditions_more is cs c =
     append_assoc (join_by item_text (codes ",") is) (codes " where " ++ led condition_text (codes " and ") cs) (condition_text c ++ and_word)
     ∙ ap (λ t. join_by item_text (codes ",") is ++ t) (append_assoc (codes " where ") (led condition_text (codes " and ") cs) (condition_text c ++ and_word))
@@ -128,7 +132,21 @@ pub record HasRead (text : List ℕ) (is : List ItemSyntax) (cs : List Condition
   pub counted : IsCounted is cs s
   pub live : IsLive s
 
--- the same, where the reader may have stopped
-abbrev pub MayHaveRead : List ℕ → Option Spot → Type 0
-MayHaveRead text None = Unit {0}
-MayHaveRead text (Some s) = HasRead text s.items s.conditions s.stage
+abbrev pub HasReadTo : List ℕ → Spot → Type 0
+HasReadTo text s = HasRead text s.items s.conditions s.stage
+
+-- what a turn leaves, where byte b was read
+abbrev pub Leaves : List ItemSyntax → List ConditionSyntax → Stage → ℕ → Turn → Type 0
+Leaves is cs s b Dead = Unit {0}
+Leaves is cs s b (Stay t) = (base is cs s ≡ base is cs t) × (own s ++ b ∷ [] ≡ own t) × IsCounted is cs t × IsLive t
+Leaves is cs s b (NextItem i t) = (base is cs s ++ (own s ++ b ∷ []) ≡ base (is ++ i ∷ []) cs t ++ own t) × IsItem i × IsCounted (is ++ i ∷ []) cs t × IsLive t
+Leaves is cs s b (NextCondition c t) = (base is cs s ++ (own s ++ b ∷ []) ≡ base is (cs ++ c ∷ []) t ++ own t) × IsCondition c × IsCounted is (cs ++ c ∷ []) t
+    × IsLive t
+
+-- one more byte of a text
+pub longer_take : (xs : List ℕ) (n b : ℕ) → n < length xs → nat_eq (get_or xs n 0) b ≡ true → take n xs ++ b ∷ [] ≡ take (n + 1) xs
+longer_take xs n b lt h = ap (λ x. take n xs ++ x ∷ []) (sym (eqb-true (get_or xs n 0) b h)) ∙ sym (take_more xs n 0 lt)
+
+-- a word with its last byte
+pub whole_take : (xs : List ℕ) (n b : ℕ) → n < length xs → nat_eq (get_or xs n 0) b ≡ true → nat_eq (n + 1) (length xs) ≡ true → take n xs ++ b ∷ [] ≡ xs
+whole_take xs n b lt h e = longer_take xs n b lt h ∙ take_all (n + 1) xs (omega (arith, eqb-true (n + 1) (length xs) e))

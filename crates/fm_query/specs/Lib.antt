@@ -1,4 +1,5 @@
 pub mod Grammar
+pub mod Laws
 pub mod Parsed
 pub mod Plan
 pub mod Read

@@ -4,6 +4,7 @@ use Rattle.fm_layout.specs.Name.{is_digit}
 use Rattle.fm_path_text.specs.declared.step.PathStep.{PathStep}
 use Rattle.fm_path_text.specs.declared.part.Part.{Part}
 use Rattle.fm_path_text.specs.declared.part.Part.TheVariants.{Between}
+use Rattle.fm_path_text.specs.Machine as machine
 use Rattle.fm_path_text.specs.Reader as path
 use Rattle.fm_query.specs.declared.fold.Fold.TheVariants.{Sum, Least, Greatest, All}
 use Rattle.fm_query.specs.declared.operator.Operator.{Operator}
@@ -155,14 +156,16 @@ moved items conditions (Stay to) = Some (spot items conditions to)
 moved items conditions (NextItem i to) = Some (spot (items ++ i ∷ []) conditions to)
 moved items conditions (NextCondition c to) = Some (spot items (conditions ++ c ∷ []) to)
 
+-- where a byte leads from here
+abbrev pub reads : Spot → ℕ → Option Spot
+reads s byte = moved s.items s.conditions (next (length s.items) (length s.conditions) s.stage byte)
+
 abbrev pub onward : Option Spot → ℕ → Option Spot
-onward None byte = None
-onward (Some s) byte = moved s.items s.conditions (next (length s.items) (length s.conditions) s.stage byte)
+onward = machine.onward reads
 
 -- where the bytes lead, unless one of them is refused
 abbrev pub run : List ℕ → Option Spot → Option Spot
-run [] s = s
-run (b ∷ bs) s = run bs (onward s b)
+run = machine.run reads
 
 abbrev pub start : Option Spot
 start = Some (spot [] [] Start)

@@ -4,6 +4,7 @@
 mod condition;
 mod fold;
 mod item;
+mod laws;
 mod number;
 mod operator;
 mod parse;
@@ -23,6 +24,10 @@ mod word;
 pub use condition::Condition;
 pub use fold::Fold;
 pub use item::{Asked, Item};
+pub use laws::{
+    layouts_have_one_refusal, refused_texts_have_no_plan, texts_have_one_plan,
+    texts_have_one_refusal,
+};
 pub use operator::Operator;
 pub use parse::parse_query;
 pub use query::Query;

@@ -27,15 +27,21 @@ fn refused(alloc: Global, text: &str) -> Result<Option<Refusal>, Fail> {
     Ok(parse_query(alloc, text, &layout).err())
 }
 
-#[test]
-fn reads_items_and_conditions(rt: HostRuntime) -> Result<(), Fail> {
-    let layout = item(rt.alloc())?;
+/// Whether the text is refused so.
+fn is_refused(alloc: Global, text: &str, refusal: Refusal) -> Result<bool, Fail> {
+    Ok(refused(alloc, text)? == Some(refusal))
+}
+
+/// The query of this text over the items.
+fn read(alloc: Global, text: &str) -> Result<Query, Fail> {
+    let layout = item(alloc)?;
     check_record(&layout)?;
-    let query = parse_query(
-        rt.alloc(),
-        "count,sum(.price),list(.tags[]) where .kind>=2",
-        &layout,
-    )?;
+    Ok(parse_query(alloc, text, &layout)?)
+}
+
+#[test]
+fn reads_items(rt: HostRuntime) -> Result<(), Fail> {
+    let query = read(rt.alloc(), "count,sum(.price),list(.tags[]) where .kind>=2")?;
     assert_eq!(rt; query.record_size(), 24);
     assert_eq!(rt; query.record_alignment(), 8);
     let items = query.items();
@@ -46,6 +52,12 @@ fn reads_items_and_conditions(rt: HostRuntime) -> Result<(), Fail> {
     assert!(rt; matches!(&items[1].asked, Asked::Of(Fold::Sum, path) if path.offset() == 8));
     assert_eq!(rt; items[2].text.as_str(), "list(.tags[])");
     assert!(rt; matches!(&items[2].asked, Asked::Of(Fold::All, path) if path.dims().len() == 1));
+    Ok(())
+}
+
+#[test]
+fn reads_conditions(rt: HostRuntime) -> Result<(), Fail> {
+    let query = read(rt.alloc(), "count where .kind>=2")?;
     let conditions = query.conditions();
     assert_eq!(rt; conditions.len(), 1);
     assert_eq!(rt; conditions[0].text.as_str(), ".kind>=2");
@@ -55,28 +67,28 @@ fn reads_items_and_conditions(rt: HostRuntime) -> Result<(), Fail> {
     Ok(())
 }
 
+/// Conditions, and what they say.
+const CONDITIONS: [(&str, Operator, i64); 5] = [
+    (".id=0", Operator::Equal, 0),
+    (".id!=-1", Operator::NotEqual, -1),
+    (".id<-9223372036854775808", Operator::Below, i64::MIN),
+    (".id<=10", Operator::AtMost, 10),
+    (".kind>9223372036854775807", Operator::Above, i64::MAX),
+];
+
 #[test]
 fn reads_each_fold_and_operator(rt: HostRuntime) -> Result<(), Fail> {
-    let layout = item(rt.alloc())?;
-    check_record(&layout)?;
-    let text =
+    let query = read(
+        rt.alloc(),
         "min(.price),max(.#4[3:-1]) where .id=0 and .id!=-1 and .id<-9223372036854775808 and .id<=10 \
-                and .kind>9223372036854775807";
-    let query = parse_query(rt.alloc(), text, &layout)?;
+         and .kind>9223372036854775807",
+    )?;
     let items = query.items();
     assert_eq!(rt; items.len(), 2);
     assert!(rt; matches!(&items[0].asked, Asked::Of(Fold::Least, _)));
     assert!(rt; matches!(&items[1].asked, Asked::Of(Fold::Greatest, _)));
-    let conditions = query.conditions();
-    assert_eq!(rt; conditions.len(), 5);
-    let wanted = [
-        (".id=0", Operator::Equal, 0),
-        (".id!=-1", Operator::NotEqual, -1),
-        (".id<-9223372036854775808", Operator::Below, i64::MIN),
-        (".id<=10", Operator::AtMost, 10),
-        (".kind>9223372036854775807", Operator::Above, i64::MAX),
-    ];
-    for (condition, (text, operator, literal)) in conditions.iter().zip(wanted) {
+    assert_eq!(rt; query.conditions().len(), 5);
+    for (condition, (text, operator, literal)) in query.conditions().iter().zip(CONDITIONS) {
         assert_eq!(rt; condition.text.as_str(), text);
         assert_eq!(rt; condition.operator, operator, "at {text}");
         assert_eq!(rt; condition.literal, literal, "at {text}");
@@ -88,94 +100,99 @@ const ITEMS_16: &str =
     "count,count,count,count,count,count,count,count,count,count,count,count,count,count,count,count";
 
 const CONDITIONS_16: &str =
-    "count where .id=0 and .id=0 and .id=0 and .id=0 and .id=0 and .id=0 and .id=0 and .id=0 and .id=0 and .id=0 and .id=0 and .id=0 and .id=0 and .id=0 and .id=0 and .id=0";
+    "count where .id=0 and .id=0 and .id=0 and .id=0 and .id=0 and .id=0 and .id=0 and .id=0 \
+     and .id=0 and .id=0 and .id=0 and .id=0 and .id=0 and .id=0 and .id=0 and .id=0";
 
 #[test]
 fn reads_sixteen_of_each(rt: HostRuntime) -> Result<(), Fail> {
-    let layout = item(rt.alloc())?;
-    check_record(&layout)?;
-    let items = parse_query(rt.alloc(), ITEMS_16, &layout)?;
+    let items = read(rt.alloc(), ITEMS_16)?;
     assert_eq!(rt; items.items().len(), 16);
     assert_eq!(rt; items.conditions().len(), 0);
-    let conditions = parse_query(rt.alloc(), CONDITIONS_16, &layout)?;
+    let conditions = read(rt.alloc(), CONDITIONS_16)?;
     assert_eq!(rt; conditions.conditions().len(), 16);
     Ok(())
 }
 
+/// Texts that are none, and how many bytes of each some query's text begins with.
+const NO_TEXTS: [(&str, u64); 34] = [
+    ("", 0),
+    ("count,", 6),
+    ("sum(.tags[01])", 11),
+    ("x", 0),
+    ("mon(.id)", 1),
+    ("maxi", 3),
+    ("count ", 6),
+    ("count where", 11),
+    ("count  where .id=0", 6),
+    ("count, sum(.id)", 6),
+    ("sum()", 4),
+    ("sum(.id", 7),
+    ("sum(.id))", 8),
+    ("sum(.id=", 7),
+    ("count where .id", 15),
+    ("count where .id)", 15),
+    ("count where .id!0", 16),
+    ("count where .id==0", 16),
+    ("count where .id<=", 17),
+    ("count where .id<==0", 17),
+    ("count where .id=+1", 16),
+    ("count where .id=-0", 17),
+    ("count where .id=-", 17),
+    ("count where .id=00", 17),
+    ("count where .id=9223372036854775808", 34),
+    ("count where .id=-9223372036854775809", 35),
+    ("count where .id=1 or .id=2", 18),
+    ("count where .id=1  and .id=2", 18),
+    ("count where .id=1 and ", 22),
+    ("count where .id=1 an", 20),
+    ("count where .id=1,count", 17),
+    ("count\u{e9}", 5),
+    (
+        "count,count,count,count,count,count,count,count,count,count,count,count,count,count,count,count,count",
+        95,
+    ),
+    (
+        "count where .id=0 and .id=0 and .id=0 and .id=0 and .id=0 and .id=0 and .id=0 and .id=0 \
+         and .id=0 and .id=0 and .id=0 and .id=0 and .id=0 and .id=0 and .id=0 and .id=0 and .id=0",
+        167,
+    ),
+];
+
 #[test]
 fn refuses_at_the_longest_prefix(rt: HostRuntime) -> Result<(), Fail> {
-    for (text, at) in [
-        ("", 0),
-        ("count,", 6),
-        ("sum(.tags[01])", 11),
-        ("x", 0),
-        ("mon(.id)", 1),
-        ("maxi", 3),
-        ("count ", 6),
-        ("count where", 11),
-        ("count  where .id=0", 6),
-        ("count, sum(.id)", 6),
-        ("sum()", 4),
-        ("sum(.id", 7),
-        ("sum(.id))", 8),
-        ("sum(.id=", 7),
-        ("count where .id", 15),
-        ("count where .id)", 15),
-        ("count where .id!0", 16),
-        ("count where .id==0", 16),
-        ("count where .id<=", 17),
-        ("count where .id<==0", 17),
-        ("count where .id=+1", 16),
-        ("count where .id=-0", 17),
-        ("count where .id=-", 17),
-        ("count where .id=00", 17),
-        ("count where .id=9223372036854775808", 34),
-        ("count where .id=-9223372036854775809", 35),
-        ("count where .id=1 or .id=2", 18),
-        ("count where .id=1  and .id=2", 18),
-        ("count where .id=1 and ", 22),
-        ("count where .id=1 an", 20),
-        ("count where .id=1,count", 17),
-        ("count\u{e9}", 5),
-        (
-            "count,count,count,count,count,count,count,count,count,count,count,count,count,count,count,count,count",
-            95,
-        ),
-        (
-            "count where .id=0 and .id=0 and .id=0 and .id=0 and .id=0 and .id=0 and .id=0 and .id=0 and .id=0 and .id=0 and .id=0 and .id=0 and .id=0 and .id=0 and .id=0 and .id=0 and .id=0",
-            167,
-        ),
-    ] {
-        match refused(rt.alloc(), text)? {
-            Some(Refusal::BadQuery(found)) => assert_eq!(rt; found, at, "at {text}"),
-            _ => assert!(rt; false, "at {text}"),
-        }
+    for (text, at) in NO_TEXTS.iter() {
+        assert!(rt;
+            is_refused(rt.alloc(), text, Refusal::BadQuery(*at))?,
+            "at {text}"
+        );
     }
     Ok(())
 }
 
+/// Queries whose paths are refused, and the refusal that comes first.
+const BAD_PATHS: [(&str, Refusal); 13] = [
+    ("sum(.nope)", Refusal::NoMember(0)),
+    ("sum(.id.x)", Refusal::NotGroup(1)),
+    ("sum(.kind[0])", Refusal::NotSequence(1)),
+    ("sum(.tags[4])", Refusal::IndexOut(1)),
+    ("sum(.tags)", Refusal::NotValue),
+    ("sum(.tags[0:0])", Refusal::BadStep(1)),
+    ("count where .tags[]=1", Refusal::StillOpen(1)),
+    ("count where .tags[0:2]=1", Refusal::StillOpen(1)),
+    ("count where .tags[].x=1", Refusal::NotGroup(2)),
+    ("count where .tags[]=1 and .nope=1", Refusal::StillOpen(1)),
+    ("count where .nope=1 and .tags[]=1", Refusal::NoMember(0)),
+    (
+        "count,sum(.id.x),sum(.nope) where .tags[]=1",
+        Refusal::NotGroup(1),
+    ),
+    ("sum(.nope),count where .id=x", Refusal::BadQuery(27)),
+];
+
 #[test]
 fn refuses_paths_in_their_order(rt: HostRuntime) -> Result<(), Fail> {
-    for (text, refusal) in [
-        ("sum(.nope)", Refusal::NoMember(0)),
-        ("sum(.id.x)", Refusal::NotGroup(1)),
-        ("sum(.kind[0])", Refusal::NotSequence(1)),
-        ("sum(.tags[4])", Refusal::IndexOut(1)),
-        ("sum(.tags)", Refusal::NotValue),
-        ("sum(.tags[0:0])", Refusal::BadStep(1)),
-        ("count where .tags[]=1", Refusal::StillOpen(1)),
-        ("count where .tags[0:2]=1", Refusal::StillOpen(1)),
-        ("count where .tags[].x=1", Refusal::NotGroup(2)),
-        ("count where .tags[]=1 and .nope=1", Refusal::StillOpen(1)),
-        ("count where .nope=1 and .tags[]=1", Refusal::NoMember(0)),
-        (
-            "count,sum(.id.x),sum(.nope) where .tags[]=1",
-            Refusal::NotGroup(1),
-        ),
-        ("sum(.nope),count where .id=x", Refusal::BadQuery(27)),
-    ] {
-        let found = refused(rt.alloc(), text)?;
-        assert!(rt; found == Some(refusal), "at {text}");
+    for (text, refusal) in BAD_PATHS.iter() {
+        assert!(rt; is_refused(rt.alloc(), text, *refusal)?, "at {text}");
     }
     Ok(())
 }

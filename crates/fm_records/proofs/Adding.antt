@@ -1,6 +1,6 @@
 -- Numbers that are read and added, as far as they have come.
 use Rattle.std.proofs.Common.{◌≡◌, ℕ, zero, suc, ◌+◌, ◌-◌, ◌*◌, ◌<◌, ◌≤◌, Result, Ok, Err, List, [], ◌∷◌, ◌++◌, length, map, refl, sym, ap, ◌∙◌, subst, append_assoc, arith}
-use Rattle.std.specs.Prelude.{ℤ, OnOk, IfErr}
+use Rattle.std.specs.Prelude.{ℤ, OnOk, OnErr, IfErr}
 use Rattle.std.specs.List.{flat_map, range_with_len}
 use Rattle.std.proofs.lemmas.List.{append-nil, length-map, length-append}
 use Rattle.std.proofs.lemmas.Grind.{flat_map-append}
@@ -18,7 +18,9 @@ use Rattle.fm_path.specs.declared.value_spec.ValueSpec.{ValueSpec}
 use Rattle.fm_records.specs.declared.found.Found.{Found}
 use Rattle.fm_records.specs.Values.{index_lists}
 use Rattle.fm_records.specs.Few.{HasRoom}
-use Rattle.fm_records.specs.Reads.{ReadsNumber, ReadsNumbers, no_more, one_more, AddsNumbers, value_places, with_number, with_numbers, AreReads, DoesStop, DoesRead, StopsNumber, StopsNumbers, at_number, next_number}
+use Rattle.fm_records.specs.Adds.{AddsNumbers, with_number, with_numbers, StopsAdding}
+use Rattle.fm_records.specs.Reads.{ReadsNumber, ReadsNumbers, no_more, one_more, value_places, AreReads, DoesStop, DoesRead}
+use Rattle.fm_records.specs.Stops.{StopsNumber, StopsNumbers, at_number, next_number}
 use Rattle.fm_records.proofs.Few.{adds_room, room_less}
 use Rattle.fm_records.proofs.Visiting.{SoFar, none_so_far, more, ended, stopped}
 
@@ -81,33 +83,37 @@ lists_by_first d ds = length-led (index_lists ds) (range_with_len 0 d.bound) ∙
 
 -- one value's number is read, and then added or refused
 pub value_added : {old new : View} {s : Region} (spec : ValueSpec) (place : ℕ) (n : ℤ) (f g : Found) (result : Result (Unit {0}) Refusal)
-    → OnOk result (g ≡ with_number f n) → IfErr result (λ e. e ≡ Memory)
+    → OnOk result (g ≡ with_number f n) → OnErr result (g ≡ f) → IfErr result (λ e. e ≡ Memory)
     → Did old new (DoesRead old.caller s (λ z es. ReadsNumber old.caller s.arena spec place es z) (StopsNumber old.caller s.arena spec place) (Ok n))
-    → Did old new (DoesRead old.caller s (λ u es. AddsNumbers old.caller s.arena spec (place ∷ []) f g es) (StopsNumbers old.caller s.arena spec (place ∷ [])) result)
-value_added {old} {new} {s} spec place n f g (Ok u) ok err d = record {
+    → Did old new (DoesRead old.caller s (λ u es. AddsNumbers old.caller s.arena spec (place ∷ []) f g es)
+    (StopsAdding old.caller s.arena spec (place ∷ []) f g) result)
+value_added {old} {new} {s} spec place n f g (Ok u) ok same err d = record {
   own = d.own;
   does = (d.does.0, adds_one old.caller s.arena spec place f g n d.own d.does.1 ok);
   makes = d.makes;
 }
-value_added {old} {new} {s} spec place n f g (Err r) ok err d = record {
+value_added {old} {new} {s} spec place n f g (Err r) ok same err d = record {
   own = d.own;
-  does = subst (λ (e : Refusal). DoesStop old.caller s (StopsNumbers old.caller s.arena spec (place ∷ [])) e d.own) (sym err) d.does.0;
+  does = subst (λ (e : Refusal). DoesStop old.caller s (StopsAdding old.caller s.arena spec (place ∷ []) f g) e d.own) (sym err)
+      (d.does.0, record { numbers = []; stops = at_number d.own (n, d.does.1); added = same });
   makes = d.makes;
 }
 
 -- ---- stops
 
 -- a stop behind places that were read, and before others
-pub stops_behind : (c : Caller) (id : ArenaId) (spec : ValueSpec) (ps qs : List ℕ) (es fs : List Entry) (ns : List ℤ)
-    → ReadsNumbers c id spec ps es ns → StopsNumbers c id spec qs fs → StopsNumbers c id spec (ps ++ qs) (es ++ fs)
-stops_behind c id spec ps qs es fs ns no_more q = q
-stops_behind c id spec ps qs es fs ns (one_more {place = p} {places = rest} own more n left r h) q =
-    subst (λ (gs : List Entry). StopsNumbers c id spec (p ∷ (rest ++ qs)) gs) (sym (append_assoc own more fs))
-    (next_number own (more ++ fs) n r (stops_behind c id spec rest qs more fs left h q))
+pub stops_behind : (c : Caller) (id : ArenaId) (spec : ValueSpec) (ps qs : List ℕ) (e : Refusal) (es fs : List Entry) (ns ms : List ℤ)
+    → ReadsNumbers c id spec ps es ns → StopsNumbers c id spec qs e fs ms → StopsNumbers c id spec (ps ++ qs) e (es ++ fs) (ns ++ ms)
+stops_behind c id spec ps qs e es fs ns ms no_more q = q
+stops_behind c id spec ps qs e es fs ns ms (one_more {place = p} {places = rest} own more n left r h) q =
+    subst (λ (gs : List Entry). StopsNumbers c id spec (p ∷ (rest ++ qs)) e gs (n ∷ (left ++ ms))) (sym (append_assoc own more fs))
+    (next_number own (more ++ fs) n (left ++ ms) r (stops_behind c id spec rest qs e more fs left ms h q))
 
-stops_before : (c : Caller) (id : ArenaId) (spec : ValueSpec) (ps qs : List ℕ) (es : List Entry) → StopsNumbers c id spec ps es → StopsNumbers c id spec (ps ++ qs) es
-stops_before c id spec ps qs es (at_number own h) = at_number own h
-stops_before c id spec ps qs es (next_number {places = left} own rest n r h) = next_number own rest n r (stops_before c id spec left qs rest h)
+stops_before : (c : Caller) (id : ArenaId) (spec : ValueSpec) (ps qs : List ℕ) (e : Refusal) (es : List Entry) (ns : List ℤ)
+    → StopsNumbers c id spec ps e es ns → StopsNumbers c id spec (ps ++ qs) e es ns
+stops_before c id spec ps qs e es ns (at_number own h) = at_number own h
+stops_before c id spec ps qs e es ns (next_number {places = left} own rest n more r h) =
+    next_number own rest n more r (stops_before c id spec left qs e rest more h)
 
 -- ---- index by index of the first open step
 
@@ -115,7 +121,8 @@ stops_before c id spec ps qs es (next_number {places = left} own rest n r h) = n
 abbrev pub places_below : ℕ → ℕ → Dim → List Dim → ℕ → List ℕ
 places_below place at d ds i = flat_map (λ j. value_places place (reach at d.stride j) ds) (range_with_len 0 i)
 
-below_more : (place at : ℕ) (d : Dim) (ds : List Dim) (i : ℕ) → places_below place at d ds i ++ value_places place (reach at d.stride i) ds ≡ places_below place at d ds (suc i)
+below_more : (place at : ℕ) (d : Dim) (ds : List Dim) (i : ℕ)
+    → places_below place at d ds i ++ value_places place (reach at d.stride i) ds ≡ places_below place at d ds (suc i)
 below_more place at d ds i =
     let F : ℕ → List ℕ = λ j. value_places place (reach at d.stride j) ds in
     let e : i ≡ 0 + i = omega arith in
@@ -134,7 +141,8 @@ below_first place at d ds i (suc k) =
     )
 
 -- the values at the first indices below i were read and added
-pub record AreAdded (old now : View) (s : Region) (place at : ℕ) (d : Dim) (ds : List Dim) (spec : ValueSpec) (f g : Found) (i : ℕ) (own : List Entry) : Type 0 where
+pub record AreAdded (old now : View) (s : Region) (place at : ℕ) (d : Dim) (ds : List Dim) (spec : ValueSpec) (f g : Found) (i : ℕ) (own : List Entry) : Type
+    0 where
   pub so_far : SoFar old now s own
   pub adds : AddsNumbers old.caller s.arena spec (places_below place at d ds i) f g own
 
@@ -153,12 +161,14 @@ module _ {s : Region} {place at : ℕ} {d : Dim} {ds : List Dim} {spec : ValueSp
       let plus : suc i ≡ i + 1 = omega arith in
       record {
         so_far = m.so_far;
-        adds = subst (λ (qs : List ℕ). AddsNumbers old.caller s.arena spec qs f h (own ++ did.own)) (below_more place at d ds i ∙ ap (places_below place at d ds) plus)
+        adds = subst (λ (qs : List ℕ). AddsNumbers old.caller s.arena spec qs f h (own ++ did.own)) (below_more place at d ds i
+            ∙ ap (places_below place at d ds) plus)
             (adds-append old.caller s.arena spec (places_below place at d ds i) ps f g h own did.own a.adds m.does);
       }
 
   -- the values at all first indices
-  pub added_all : {old now : View} {g : Found} {i : ℕ} {own : List Entry} (all : List Dim) → AreAdded old now s place at d ds spec f g i own → i ≡ d.bound → all ≡ d ∷ ds
+  pub added_all : {old now : View} {g : Found} {i : ℕ} {own : List Entry} (all : List Dim) → AreAdded old now s place at d ds spec f g i own → i ≡ d.bound
+      → all ≡ d ∷ ds
       → Did old now (λ es. AreReads old.caller s es × AddsNumbers old.caller s.arena spec (value_places place at all) f g es)
   added_all {old} {now} {g} {i} {own} all a e whole =
       ended (λ (es : List Entry). AddsNumbers old.caller s.arena spec (value_places place at all) f g es) a.so_far
@@ -166,10 +176,11 @@ module _ {s : Region} {place at : ℕ} {d : Dim} {ds : List Dim} {spec : ValueSp
       (ap (places_below place at d ds) e ∙ sym (places_by_first place at d ds) ∙ sym (ap (value_places place at) whole)) a.adds)
 
   -- or up to a refusal
-  pub added_stops : {old now next : View} {g : Found} {i : ℕ} {own : List Entry} (r : Refusal) (all : List Dim) → AreAdded old now s place at d ds spec f g i own → i < d.bound → all ≡ d ∷ ds
-      → Did now next (DoesStop now.caller s (StopsNumbers now.caller s.arena spec (value_places place (reach at d.stride i) ds)) r)
-      → Did old next (DoesStop old.caller s (StopsNumbers old.caller s.arena spec (value_places place at all)) r)
-  added_stops {old} {now} {next} {g} {i} {own} r all a below whole did =
+  pub added_stops : {old now next : View} {g : Found} {i : ℕ} {own : List Entry} (h : Found) (r : Refusal) (all : List Dim)
+      → AreAdded old now s place at d ds spec f g i own → i < d.bound → all ≡ d ∷ ds
+      → Did now next (DoesStop now.caller s (StopsAdding now.caller s.arena spec (value_places place (reach at d.stride i) ds) g h) r)
+      → Did old next (DoesStop old.caller s (StopsAdding old.caller s.arena spec (value_places place at all) f h) r)
+  added_stops {old} {now} {next} {g} {i} {own} h r all a below whole did =
       let c = old.caller in
       let ps = value_places place (reach at d.stride i) ds in
       let left = below_first place at d ds (suc i) (d.bound - suc i) in
@@ -177,13 +188,19 @@ module _ {s : Region} {place at : ℕ} {d : Dim} {ds : List Dim} {spec : ValueSp
       let places : (places_below place at d ds i ++ value_places place (reach at d.stride i) ds) ++ left.0 ≡ value_places place at all =
       ap (λ xs. xs ++ left.0) (below_more place at d ds i) ∙ sym left.1 ∙ ap (places_below place at d ds) bound
       ∙ sym (places_by_first place at d ds) ∙ sym (ap (value_places place at) whole) in
-      stopped r (λ (x : Caller). StopsNumbers x s.arena spec ps) (StopsNumbers c s.arena spec (value_places place at all)) a.so_far
-      (λ es h. subst (λ (qs : List ℕ). StopsNumbers c s.arena spec qs (own ++ es)) places
-      (stops_before c s.arena spec (places_below place at d ds i ++ ps) left.0 (own ++ es) (stops_behind c s.arena spec (places_below place at d ds i) ps own es a.adds.numbers a.adds.reads h)))
-      did
+      let ns = a.adds.numbers in
+      stopped r (λ (x : Caller). StopsAdding x s.arena spec ps g h) (StopsAdding c s.arena spec (value_places place at all) f h) a.so_far
+      (λ es q. record {
+        numbers = ns ++ q.numbers;
+        stops = subst (λ (qs : List ℕ). StopsNumbers c s.arena spec qs r (own ++ es) (ns ++ q.numbers)) places
+            (stops_before c s.arena spec (places_below place at d ds i ++ ps) left.0 r (own ++ es) (ns ++ q.numbers)
+            (stops_behind c s.arena spec (places_below place at d ds i) ps r own es ns q.numbers a.adds.reads q.stops));
+        added = q.added ∙ ap (λ x. with_numbers x q.numbers) a.adds.added ∙ sym (with_numbers-append f ns q.numbers);
+      }) did
 
   -- there is room for the values at the next one
-  pub added_room : {old now : View} {g : Found} {i : ℕ} {own : List Entry} → AreAdded old now s place at d ds spec f g i own → i < d.bound → HasRoom f (d.bound * length (index_lists ds))
+  pub added_room : {old now : View} {g : Found} {i : ℕ} {own : List Entry} → AreAdded old now s place at d ds spec f g i own → i < d.bound
+      → HasRoom f (d.bound * length (index_lists ds))
       → HasRoom g (length (index_lists ds))
   added_room {old} {now} {g} {i} {own} a below room =
       let n = length (index_lists ds) in
@@ -201,4 +218,5 @@ module _ {s : Region} {place at : ℕ} {d : Dim} {ds : List Dim} {spec : ValueSp
           let one = length-places (reach at d.stride k) in
           let front = length-below k in
           let sum : suc k * length (index_lists ds) ≡ k * length (index_lists ds) + length (index_lists ds) = grind arith in
-          ap length (sym (below_more place at d ds k)) ∙ length-append (places_below place at d ds k) (value_places place (reach at d.stride k) ds) ∙ omega (arith, one, front, sum)
+          ap length (sym (below_more place at d ds k)) ∙ length-append (places_below place at d ds k) (value_places place (reach at d.stride k) ds)
+          ∙ omega (arith, one, front, sum)

@@ -21,7 +21,8 @@ use Rattle.fm_query.specs.Plan.{Plan, IsPlan}
 use Rattle.fm_records.specs.declared.found.Found.{Found}
 use Rattle.fm_records.specs.Alone.{bytes_at_places, FindsAnswer, FindsNone}
 use Rattle.fm_records.specs.Bytes.{FindAs}
-use Rattle.fm_records.specs.Reads.{AreReads, read_visit, DoesQuery}
+use Rattle.fm_records.specs.Query.{DoesQuery}
+use Rattle.fm_records.specs.Reads.{AreReads, read_visit}
 use Rattle.fm_records.proofs.AnsweringBytes.{answer_of_bytes, length-places, word_at_places}
 use Rattle.fm_lists.proofs.Each.{all_both}
 
@@ -32,10 +33,12 @@ record LeavesAll (s t : State) (r : Region) (own : List Entry) : Type 0 where
   found : FindAs r (bytes_at_places s r) own
 
 -- one visit
-visit_leaves : (limit : ℕ) (c : Caller) (s : State) (r : Region) (w : ℕ × ℕ) → IsLegal limit s (read_visit c r.arena w) → LeavesAll s (state_after limit s (read_visit c r.arena w)) r (read_visit c r.arena w)
+visit_leaves : (limit : ℕ) (c : Caller) (s : State) (r : Region) (w : ℕ × ℕ) → IsLegal limit s (read_visit c r.arena w)
+    → LeavesAll s (state_after limit s (read_visit c r.arena w)) r (read_visit c r.arena w)
 visit_leaves limit c s r w legal =
     let id = r.arena in
-    let there : (arena_of (changed s id (entered c)) id).words ≡ (arena_of s id).words = ap (λ (a : Arena). a.words) (lookup_changed s id (entered c) (λ a. refl) legal.0.0) in
+    let there : (arena_of (changed s id (entered c)) id).words ≡ (arena_of s id).words =
+    ap (λ (a : Arena). a.words) (lookup_changed s id (entered c) (λ a. refl) legal.0.0) in
     let reply : Found_word w.1 ≡ Found_word (word_in (changed s r.arena (entered c)) r.arena w.0) = legal.2.1 in
     let is : w.1 ≡ get_or (arena_of (changed s r.arena (entered c)) r.arena).words w.0 0 = cc in
     let found : w.1 ≡ get_or (arena_of s r.arena).words w.0 0 = is ∙ ap (λ ws. get_or ws w.0 0) there in
@@ -70,19 +73,26 @@ visits_leave limit c s r (w ∷ ws) legal =
     }
 
 -- so do all reads
-run_leaves : (limit : ℕ) (c : Caller) (s : State) (r : Region) (own : List Entry) → AreReads c r own → IsLegal limit s own → LeavesAll s (state_after limit s own) r own
+run_leaves : (limit : ℕ) (c : Caller) (s : State) (r : Region) (own : List Entry) → AreReads c r own → IsLegal limit s own
+    → LeavesAll s (state_after limit s own) r own
 run_leaves limit c s r own v legal =
     subst (λ (es : List Entry). LeavesAll s (state_after limit s es) r es) (sym v.visits)
     (visits_leave limit c s r v.reads (subst (λ (es : List Entry). IsLegal limit s es) v.visits legal))
 
 -- ---- the answer
 
-pub answered_alone : (old new : View) (p : Plan) (s : Region) (a : List Found) → IsByItself old → IsPlan p → IsKnown old s → Did old new (DoesQuery old.caller p s (Ok a)) → FindsAnswer old new p s a
+pub answered_alone : (old new : View) (p : Plan) (s : Region) (a : List Found) → IsByItself old → IsPlan p → IsKnown old s
+    → Did old new (DoesQuery old.caller p s (Ok a)) → FindsAnswer old new p s a
 answered_alone old new p s a alone plan known d =
     let m = Makes-alone old new d.own alone d.makes in
     let all = run_leaves old.limit old.caller old.state s d.own d.does.reads m.0 in
     record {
-      value = answer_of_bytes old.caller p s (bytes_at_places old.state s) a d.own (record { plan = plan; size = length-places old.state s; finds = all.found; does = d.does });
+      value = answer_of_bytes old.caller p s (bytes_at_places old.state s) a d.own (record {
+        plan = plan;
+        size = length-places old.state s;
+        finds = all.found;
+        does = d.does;
+      });
       same = m.1 ∙ all.same;
     }
 
@@ -92,7 +102,8 @@ answered_alone old new p s a alone plan known d =
 none_done : (old new : View) (s : Region) (e : Refusal) → IsByItself old → Makes old new [] → (e ≡ Closed → ⊥) → FindsNone old new s e
 none_done old new s e alone makes other = record { shut = λ is. absurd (other is); same = (Makes-alone old new [] alone makes).1 }
 
-pub refused_alone : (old new : View) (p : Plan) (s : Region) (e : Refusal) → IsByItself old → IsKnown old s → Did old new (DoesQuery old.caller p s (Err e)) → FindsNone old new s e
+pub refused_alone : (old new : View) (p : Plan) (s : Region) (e : Refusal) → IsByItself old → IsKnown old s → Did old new (DoesQuery old.caller p s (Err e))
+    → FindsNone old new s e
 refused_alone old new p s (Ragged rest) alone known d =
     none_done old new s (Ragged rest) alone (subst (λ (es : List Entry). Makes old new es) d.does.2 d.makes) (λ is. cc)
 refused_alone old new p s WrongThread alone known d =

@@ -27,7 +27,8 @@ use Rattle.fm_records.proofs.ReadingBytes.{get_or-bytes_of, records_of_bytes}
 pub records_lie : (p : Plan) (s : Region) → LiesIn s s.first (s.size / p.size * p.size)
 records_lie p s = record { from = omega arith; within = omega (arith, div-add-mod' s.size p.size) }
 
-pub answer_of_bytes : (c : Caller) (p : Plan) (s : Region) (bytes : List ℕ) (a : List Found) (own : List Entry) → IsAnswered c p s bytes a own → a ≡ answer p bytes
+pub answer_of_bytes : (c : Caller) (p : Plan) (s : Region) (bytes : List ℕ) (a : List Found) (own : List Entry) → IsAnswered c p s bytes a own
+    → a ≡ answer p bytes
 answer_of_bytes c p s bytes a own h =
     let start : s.first - s.first ≡ 0 = omega arith in
     records_of_bytes c s bytes h.size p h.plan (s.size / p.size) s.first (found_over p []) a own [] (records_lie p s) h.does.records h.finds refl
@@ -46,7 +47,8 @@ get_or-places s r k below =
     ∙ ap (byte_at words) (get_or-range_with_len r.first r.size k 0 below)
 
 -- those in a word are the word's
-pub word_at_places : (s : State) (r : Region) (word at : ℕ) → IsByteOf r word at → byte_of (get_or (arena_of s r.arena).words word 0) at ≡ get_or (bytes_at_places s r) (8 * word + at - r.first) 0
+pub word_at_places : (s : State) (r : Region) (word at : ℕ) → IsByteOf r word at
+    → byte_of (get_or (arena_of s r.arena).words word 0) at ≡ get_or (bytes_at_places s r) (8 * word + at - r.first) 0
 word_at_places s r word at is =
     let words = (arena_of s r.arena).words in
     let from = is.from in

@@ -70,16 +70,22 @@ module _ (c : Caller) (id : ArenaId) (word : ℕ) where
   if_right (Some bytes) es fs h = read_right es fs h
   if_right None es fs h = tt
 
-  range_ends : (end : ℕ) (x : Reading) (own : List Entry) (answer : Option (List ℕ)) → EndsReading c id end x own answer → HasByte x.at end word → IsReadIf answer own
+  range_ends : (end : ℕ) (x : Reading) (own : List Entry) (answer : Option (List ℕ)) → EndsReading c id end x own answer → HasByte x.at end word
+      → IsReadIf answer own
   range_ends end x own (Some bytes) e h = absurd (omega (arith, e.0, h.some))
   range_ends end x own None e h = tt
 
-  range_is_read : (end : ℕ) (x : Reading) (own : List Entry) (answer : Option (List ℕ)) → Run (ReadsOn c id end) (EndsReading c id end) x own answer → HasByte x.at end word → IsReadIf answer own
+  range_is_read : (end : ℕ) (x : Reading) (own : List Entry) (answer : Option (List ℕ)) → Run (ReadsOn c id end) (EndsReading c id end) x own answer
+      → HasByte x.at end word → IsReadIf answer own
   range_is_read end x own answer (ends e) h = range_ends end x own answer e h
   range_is_read end x own answer (goes_on y first rest step run) h = elim (cases_lt (x.at / 8) word) [
     | inl further ↦
         let from : y.at ≤ 8 * word = omega (arith, step.at, further) in
-        if_right answer first rest (range_is_read end y rest answer run (record { above = omega (arith, from); below = h.below; some = omega (arith, from, h.below) }))
+        if_right answer first rest (range_is_read end y rest answer run (record {
+          above = omega (arith, from);
+          below = h.below;
+          some = omega (arith, from, h.below);
+        }))
     | inr here ↦
         let at : x.at / 8 ≡ word = omega (arith, here, h.above) in
         if_read answer (first ++ rest) (read_left first rest (piece_is_read x.at (piece_width x.at end) step.v first step.piece at))
@@ -87,11 +93,13 @@ module _ (c : Caller) (id : ArenaId) (word : ℕ) where
 
   -- ---- values
 
-  number_is_read : (spec : ValueSpec) (place : ℕ) (own : List Entry) (n : ℤ) → ReadsNumber c id spec place own n → HasByte place (place + width_of spec.kind) word → HasRead c id word own
+  number_is_read : (spec : ValueSpec) (place : ℕ) (own : List Entry) (n : ℤ) → ReadsNumber c id spec place own n
+      → HasByte place (place + width_of spec.kind) word → HasRead c id word own
   number_is_read spec place own n r h = range_is_read (place + width_of spec.kind) (record { at = place; bytes = [] }) own (Some r.reads.bytes) r.reads.visits h
 
   -- one of the values at these places
-  numbers_are_read : (spec : ValueSpec) (places : List ℕ) (own : List Entry) (ns : List ℤ) (place : ℕ) → ReadsNumbers c id spec places own ns → IsAmong place places
+  numbers_are_read : (spec : ValueSpec) (places : List ℕ) (own : List Entry) (ns : List ℤ) (place : ℕ) → ReadsNumbers c id spec places own ns
+      → IsAmong place places
       → HasByte place (place + width_of spec.kind) word → HasRead c id word own
   numbers_are_read spec places own ns place no_more a h = absurd a
   numbers_are_read spec places own ns place (one_more {place = first} {places = left} one rest n more r others) (inl e) h =
@@ -105,18 +113,21 @@ module _ (c : Caller) (id : ArenaId) (word : ℕ) where
   among_map f x (y ∷ xs) (inr a) = inr (among_map f x xs a)
 
   -- what an item asks for
-  item_is_read : (place : ℕ) (f : Fold) (r : Resolution) (is : List ℕ) (own : List Entry) (found : Found) → FindsItem c id place (asked.Of f r) own found → AreAdmitted r.dims is
+  item_is_read : (place : ℕ) (f : Fold) (r : Resolution) (is : List ℕ) (own : List Entry) (found : Found) → FindsItem c id place (asked.Of f r) own found
+      → AreAdmitted r.dims is
       → HasByte (place + offset_at r.offset r.dims is) (place + offset_at r.offset r.dims is + width_of r.value.kind) word → HasRead c id word own
   item_is_read place f r is own found h a b =
       numbers_are_read r.value (value_places place r.offset r.dims) own h.0 (place + offset_at r.offset r.dims is) h.1
       (among_map (λ js. place + offset_at r.offset r.dims js) is (index_lists r.dims) (admitted_listed r.dims is a)) b
 
-  items_are_read : (place : ℕ) (items : List Item) (own : List Entry) (fs : List Found) (item : Item) (f : Fold) (r : Resolution) (is : List ℕ) → FindsItems c id place items own fs
+  items_are_read : (place : ℕ) (items : List Item) (own : List Entry) (fs : List Found) (item : Item) (f : Fold) (r : Resolution) (is : List ℕ)
+      → FindsItems c id place items own fs
       → IsAmong item items → item.asked ≡ asked.Of f r → AreAdmitted r.dims is
       → HasByte (place + offset_at r.offset r.dims is) (place + offset_at r.offset r.dims is + width_of r.value.kind) word → HasRead c id word own
   items_are_read place items own fs item f r is no_item among asks a b = absurd among
   items_are_read place items own fs item f r is (one_item {item = first} {items = left} found others one rest h more) (inl e) asks a b =
-      let finds : FindsItem c id place (asked.Of f r) one found = subst (λ (q : Asked). FindsItem c id place q one found) (sym (ap (λ (i : Item). i.asked) e) ∙ asks) h in
+      let finds : FindsItem c id place (asked.Of f r) one found =
+      subst (λ (q : Asked). FindsItem c id place q one found) (sym (ap (λ (i : Item). i.asked) e) ∙ asks) h in
       read_left one rest (item_is_read place f r is one found finds a b)
   items_are_read place items own fs item f r is (one_item {item = first} {items = left} found others one rest h more) (inr among) asks a b =
       read_right one rest (items_are_read place left rest others item f r is more among asks a b)
@@ -137,11 +148,13 @@ module _ (c : Caller) (s : Region) (word : ℕ) (bytes : List ℕ) (size : lengt
       absurd (cc)
 
   -- the chosen record of an index
-  records_are_read : (index count place : ℕ) (so_far all : List Found) (own : List Entry) (item : Item) (f : Fold) (r : Resolution) (is : List ℕ) → LiesIn s place (count * p.size)
+  records_are_read : (index count place : ℕ) (so_far all : List Found) (own : List Entry) (item : Item) (f : Fold) (r : Resolution) (is : List ℕ)
+      → LiesIn s place (count * p.size)
       → ReadsRecords c s.arena p count place so_far own all → FindAs s bytes own → index < count
       → list_all (holds_for (take p.size (drop (place - s.first + index * p.size) bytes))) p.conditions ≡ true
       → IsAmong item p.items → item.asked ≡ asked.Of f r → AreAdmitted r.dims is
-      → HasByte (place + index * p.size + offset_at r.offset r.dims is) (place + index * p.size + offset_at r.offset r.dims is + width_of r.value.kind) word → HasRead c s.arena word own
+      → HasByte (place + index * p.size + offset_at r.offset r.dims is) (place + index * p.size + offset_at r.offset r.dims is + width_of r.value.kind) word
+      → HasRead c s.arena word own
   records_are_read index count place so_far all own item f r is lies no_record w below holds among asks a b = absurd (omega arith)
   records_are_read zero count place so_far all own item f r is lies (one_record {count = left} one rest seen first more) w below holds among asks a b =
       let at : place + 0 * p.size ≡ place = omega arith in
@@ -149,7 +162,8 @@ module _ (c : Caller) (s : Region) (word : ℕ) (bytes : List ℕ) (size : lengt
       let sum : suc left * p.size ≡ p.size + left * p.size = grind arith in
       let within = lies.within in
       let parts = all_split _ one rest w in
-      read_left c s.arena word one rest (record_is_read place one seen item f r is (record { from = lies.from; within = omega (arith, within, sum) }) first parts.0
+      read_left c s.arena word one rest
+      (record_is_read place one seen item f r is (record { from = lies.from; within = omega (arith, within, sum) }) first parts.0
       (subst (λ (q : ℕ). list_all (holds_for (take p.size (drop q bytes))) p.conditions ≡ true) offset holds) among asks a
       (subst (λ (q : ℕ). HasByte (q + offset_at r.offset r.dims is) (q + offset_at r.offset r.dims is + width_of r.value.kind) word) at b))
   records_are_read (suc index) count place so_far all own item f r is lies (one_record {count = left} one rest seen first more) w below holds among asks a b =
@@ -160,7 +174,9 @@ module _ (c : Caller) (s : Region) (word : ℕ) (bytes : List ℕ) (size : lengt
       let at : place + suc index * p.size ≡ place + p.size + index * p.size = omega (arith, next) in
       let offset : place - s.first + suc index * p.size ≡ place + p.size - s.first + index * p.size = omega (arith, next, from) in
       let parts = all_split _ one rest w in
-      read_right c s.arena word one rest (records_are_read index left (place + p.size) _ all rest item f r is (record { from = omega (arith, from); within = omega (arith, within, sum) }) more parts.1 (omega (arith, below))
+      read_right c s.arena word one rest
+      (records_are_read index left (place + p.size) _ all rest item f r is (record { from = omega (arith, from); within = omega (arith, within, sum) })
+      more parts.1 (omega (arith, below))
       (subst (λ (q : ℕ). list_all (holds_for (take p.size (drop q bytes))) p.conditions ≡ true) offset holds) among asks a
       (subst (λ (q : ℕ). HasByte (q + offset_at r.offset r.dims is) (q + offset_at r.offset r.dims is + width_of r.value.kind) word) at b))
 
@@ -184,16 +200,19 @@ piece_there (suc index) (suc count) size bytes piece h =
       is = rest.is ∙ ap (take size) (drop-drop (index * size) size bytes) ∙ ap (λ n. take size (drop n bytes)) at;
     }
 
-pub asked_is_read : (c : Caller) (p : Plan) (s : Region) (bytes : List ℕ) (a : List Found) (own : List Entry) (index : ℕ) (r : Resolution) (is : List ℕ) (word : ℕ)
+pub asked_is_read : (c : Caller) (p : Plan) (s : Region) (bytes : List ℕ) (a : List Found) (own : List Entry) (index : ℕ) (r : Resolution) (is : List ℕ)
+    (word : ℕ)
     → IsAnswered c p s bytes a own → IsAsked p bytes index r is → IsWordOf (value_in p s index r is) word → HasRead c s.arena word own
 asked_is_read c p s bytes a own index r is word h asks w =
     let there = piece_there index (length bytes / p.size) p.size bytes asks.record_bytes asks.stands in
     let offset : s.first - s.first + index * p.size ≡ index * p.size = omega arith in
     let all : list_all (holds_for (take p.size (drop (s.first - s.first + index * p.size) bytes))) p.conditions ≡ true =
-    ap (λ n. list_all (holds_for (take p.size (drop n bytes))) p.conditions) offset ∙ ap (λ bs. list_all (holds_for bs) p.conditions) (sym there.is) ∙ asks.chosen in
+    ap (λ n. list_all (holds_for (take p.size (drop n bytes))) p.conditions) offset ∙ ap (λ bs. list_all (holds_for bs) p.conditions) (sym there.is)
+    ∙ asks.chosen in
     let bounds = width_of-bounds r.value.kind in
     let at : s.first + (index * p.size + offset_at r.offset r.dims is) ≡ s.first + index * p.size + offset_at r.offset r.dims is = omega arith in
-    let byte : HasByte (s.first + index * p.size + offset_at r.offset r.dims is) (s.first + index * p.size + offset_at r.offset r.dims is + width_of r.value.kind) word =
+    let byte : HasByte (s.first + index * p.size + offset_at r.offset r.dims is)
+    (s.first + index * p.size + offset_at r.offset r.dims is + width_of r.value.kind) word =
     subst (λ (q : ℕ). HasByte q (q + width_of r.value.kind) word) at (record { above = w.above; below = w.below; some = omega (arith, bounds.0) }) in
     records_are_read c s word bytes h.size p h.plan index (s.size / p.size) s.first _ a own asks.item asks.fold r is (records_lie p s) h.does.records h.finds
     (subst (λ (n : ℕ). index < n / p.size) h.size there.below) all asks.among asks.asks asks.admitted byte

@@ -29,7 +29,8 @@ use Rattle.fm_records.specs.declared.found.Found.TheVariants.{Count, Sum, Least,
 use Rattle.fm_records.specs.Answers.{sum_of, folded, found_in, item_found, found_over}
 use Rattle.fm_records.specs.Few.{IsSumBy, IsFoundBy, IsFew, AreFew, AnswersAreFew, FewCanJoin, HasRoom, HaveRoom, IsOpen, how_many}
 use Rattle.fm_records.specs.Joined.{CanJoinFound, CanJoin, both, joined}
-use Rattle.fm_records.specs.Reads.{ReadsNumber, ReadsNumbers, no_more, one_more, FindsItem, FindsItems, no_item, one_item, ReadsRecord, chosen, passed_over, with_record, ReadsRecords, no_record, one_record, with_number, with_numbers, AddsNumbers}
+use Rattle.fm_records.specs.Adds.{with_number, with_numbers, AddsNumbers}
+use Rattle.fm_records.specs.Reads.{ReadsNumber, ReadsNumbers, no_more, one_more, FindsItem, FindsItems, no_item, one_item, ReadsRecord, chosen, passed_over, with_record, ReadsRecords, no_record, one_record}
 use Rattle.fm_records.specs.Texts.{IsFolded, IsFoundOf, IsItemFound}
 use Rattle.fm_records.specs.Values.{index_lists}
 use Rattle.fm_records.proofs.Plans.{IsItemFew, plan_items_few}
@@ -83,7 +84,8 @@ record AreSummed (places : List ℕ) (ns : List ℤ) : Type 0 where
   long : length ns ≡ length places
   sum : IsSumBy (length ns) (sum_of ns)
 
-numbers_summed : (c : Caller) (id : ArenaId) (spec : ValueSpec) (places : List ℕ) (own : List Entry) (ns : List ℤ) → ReadsNumbers c id spec places own ns → AreSummed places ns
+numbers_summed : (c : Caller) (id : ArenaId) (spec : ValueSpec) (places : List ℕ) (own : List Entry) (ns : List ℤ) → ReadsNumbers c id spec places own ns
+    → AreSummed places ns
 numbers_summed c id spec places own ns no_more = record { long = refl; sum = no_sum }
 numbers_summed c id spec places own ns (one_more {place = place} {places = left} first rest n more r h) =
     let behind = numbers_summed c id spec left rest more h in
@@ -101,7 +103,8 @@ number_few n (Least o) z one h = tt
 number_few n (Greatest o) z one h = tt
 number_few n (Listed zs) z one h = tt
 
-numbers_few : (c : Caller) (id : ArenaId) (spec : ValueSpec) (places : List ℕ) (own : List Entry) (ns : List ℤ) (n : ℕ) (f : Found) → ReadsNumbers c id spec places own ns → IsFoundBy n f
+numbers_few : (c : Caller) (id : ArenaId) (spec : ValueSpec) (places : List ℕ) (own : List Entry) (ns : List ℤ) (n : ℕ) (f : Found)
+    → ReadsNumbers c id spec places own ns → IsFoundBy n f
     → IsFoundBy (n + length places) (with_numbers f ns)
 numbers_few c id spec places own ns n f no_more h = let e : n ≡ n + 0 = omega arith in subst (λ (k : ℕ). IsFoundBy k f) e h
 numbers_few c id spec places own ns n f (one_more {place = place} {places = left} first rest z more r more_read) h =
@@ -110,7 +113,8 @@ numbers_few c id spec places own ns n f (one_more {place = place} {places = left
     (numbers_few c id spec left rest more (n + 1) (with_number f z) more_read (number_few n f z (one_number c id spec place first z r) h))
 
 -- so there is room for those that are left
-pub adds_room : {c : Caller} {id : ArenaId} {spec : ValueSpec} {places : List ℕ} {f g : Found} {own : List Entry} (more : ℕ) → AddsNumbers c id spec places f g own → HasRoom f (length places + more) → HasRoom g more
+pub adds_room : {c : Caller} {id : ArenaId} {spec : ValueSpec} {places : List ℕ} {f g : Found} {own : List Entry} (more : ℕ)
+    → AddsNumbers c id spec places f g own → HasRoom f (length places + more) → HasRoom g more
 adds_room {c} {id} {spec} {places} {f} {g} {own} more a room = (
   room.0 + length places,
   omega (arith, room.1),
@@ -132,7 +136,8 @@ folded_few fold.Least r n ns h = record { kind = tt; by = tt }
 folded_few fold.Greatest r n ns h = record { kind = tt; by = tt }
 folded_few fold.All r n ns h = record { kind = tt; by = tt }
 
-item_few : (c : Caller) (id : ArenaId) (place size : ℕ) (a : Asked) (own : List Entry) (found : Found) → how_many a ≤ size → FindsItem c id place a own found → IsFewOf size a found
+item_few : (c : Caller) (id : ArenaId) (place size : ℕ) (a : Asked) (own : List Entry) (found : Found) → how_many a ≤ size → FindsItem c id place a own found
+    → IsFewOf size a found
 item_few c id place size asked.Count own found few h = subst (IsFewOf size asked.Count) (sym h.1) (record { kind = tt; by = few })
 item_few c id place size (asked.Of f r) own found few h =
     let s = numbers_summed c id r.value _ own h.0 h.1 in
@@ -229,13 +234,15 @@ pub nothing_few : (items : List Item) → AllZip (IsFew 0) items (map (item_foun
 nothing_few [] = tt
 nothing_few (i ∷ is) = (of_item 0 i (found_in [] i.asked) (none_few i.asked), nothing_few is)
 
-pub record_few : (c : Caller) (id : ArenaId) (p : Plan) (place m : ℕ) (own : List Entry) (seen : Option (List Found)) (so_far : List Found) → IsPlan p → ReadsRecord c id p place own seen
+pub record_few : (c : Caller) (id : ArenaId) (p : Plan) (place m : ℕ) (own : List Entry) (seen : Option (List Found)) (so_far : List Found) → IsPlan p
+    → ReadsRecord c id p place own seen
     → AreFew m p so_far → AreFew (m + p.size) p (with_record so_far seen)
 record_few c id p place m own seen so_far plan (chosen one rest fs t h) few =
     (all_few m p.size p.items so_far fs few (items_few c id place p.size p.items rest fs (plan_items_few p plan) h)).few
 record_few c id p place m own seen so_far plan (passed_over one t) few = few_less m (m + p.size) p.items so_far (omega arith) few
 
-records_few : (c : Caller) (id : ArenaId) (p : Plan) (count place m : ℕ) (own : List Entry) (so_far all : List Found) → IsPlan p → ReadsRecords c id p count place so_far own all
+records_few : (c : Caller) (id : ArenaId) (p : Plan) (count place m : ℕ) (own : List Entry) (so_far all : List Found) → IsPlan p
+    → ReadsRecords c id p count place so_far own all
     → AreFew m p so_far → AreFew (m + count * p.size) p all
 records_few c id p count place m own so_far all plan no_record few = few_less m _ p.items all (omega arith) few
 records_few c id p count place m own so_far all plan (one_record {count = left} one rest seen r more) few =
@@ -256,7 +263,8 @@ few_join p m n a b h k less =
 
 -- ---- room for a record
 
-items_open : (n size : ℕ) (items : List Item) (fs : List Found) → n + size ≤ 2 ^ 62 → AllByRecursion (IsItemFew size) items → AllZip (IsFew n) items fs → AllZip IsOpen items fs
+items_open : (n size : ℕ) (items : List Item) (fs : List Found) → n + size ≤ 2 ^ 62 → AllByRecursion (IsItemFew size) items → AllZip (IsFew n) items fs
+    → AllZip IsOpen items fs
 items_open n size [] [] less few h = tt
 items_open n size [] (f ∷ fs) less few h = h
 items_open n size (i ∷ is) [] less few h = h

@@ -5,6 +5,7 @@ use Rattle.std.proofs.lemmas.Int.{ints}
 use Rattle.std.proofs.lemmas.List.{append-nil}
 use Rattle.fm_base.specs.declared.caller.Caller.{Caller}
 use Rattle.fm_base.specs.declared.refusal.Refusal.{Refusal}
+use Rattle.fm_base.specs.declared.refusal.Refusal.TheVariants.{Closed, Memory}
 use Rattle.fm_base.specs.Calls.{Entry}
 use Rattle.fm_base.specs.View.{View, Did}
 use Rattle.fm_segment.specs.Region.{Region}
@@ -19,7 +20,9 @@ use Rattle.fm_records.specs.declared.found.Found.{Found}
 use Rattle.fm_records.specs.declared.found.Found.TheVariants.{Count, Sum, Least, Greatest, Listed}
 use Rattle.fm_records.specs.Answers.{folded, lesser, greater, sum_of, least_of, greatest_of}
 use Rattle.fm_records.specs.Joined.{both, joined}
-use Rattle.fm_records.specs.Reads.{AddsItem, AddsItems, AddsNumbers, AreReads, DoesStop, DoesRead, no_item, one_item, ReadsNumbers, no_more, StopsNumbers, StopsItem, StopsItems, at_item, next_item, value_places, with_numbers}
+use Rattle.fm_records.specs.Adds.{AddsItem, AddsItems, AddsNumbers, StopsAdding, StopsAddingItem, StopsAddingItems, with_numbers}
+use Rattle.fm_records.specs.Reads.{AreReads, DoesStop, DoesRead, no_item, one_item, ReadsNumbers, no_more, value_places}
+use Rattle.fm_records.specs.Stops.{StopsNumbers, StopsItems, at_item, next_item}
 use Rattle.fm_records.specs.Texts.{IsFolded, IsFoundOf}
 use Rattle.fm_records.proofs.Ends.{lesser-lesser, greater-greater}
 use Rattle.fm_records.proofs.Visiting.{none_so_far, first_so_far, more, ended, stopped}
@@ -60,13 +63,34 @@ with_numbers_both f found ns is = absurd is
 
 module _ (s : Region) (place : ℕ) {f : Fold} {r : Resolution} (a : Asked) (is : a ≡ asked.Of f r) where
   -- a path's values were read, by what calls gave of it
-  pub item_read : {old new : View} (g h : Found) (places : List ℕ) (v : ValueSpec) (result : Result (Unit {0}) Refusal) → IsFoundOf a g → places ≡ value_places place r.offset r.dims → v ≡ r.value
-      → Did old new (DoesRead old.caller s (λ u es. AddsNumbers old.caller s.arena v places g h es) (StopsNumbers old.caller s.arena v places) result)
-      → Did old new (DoesRead old.caller s (λ u es. AddsItem old.caller s.arena place a g h es) (StopsItem old.caller s.arena place a) result)
+  pub item_read : {old new : View} (g h : Found) (places : List ℕ) (v : ValueSpec) (result : Result (Unit {0}) Refusal) → IsFoundOf a g
+      → places ≡ value_places place r.offset r.dims → v ≡ r.value
+      → Did old new (DoesRead old.caller s (λ u es. AddsNumbers old.caller s.arena v places g h es) (StopsAdding old.caller s.arena v places g h) result)
+      → Did old new (DoesRead old.caller s (λ u es. AddsItem old.caller s.arena place a g h es) (StopsAddingItem old.caller s.arena place a g h) result)
   item_read {old} {new} g h places v result kind same spec d = record { own = d.own; does = by result d.does; makes = d.makes }
     where
-      by : (result : Result (Unit {0}) Refusal) → DoesRead old.caller s (λ u es. AddsNumbers old.caller s.arena v places g h es) (StopsNumbers old.caller s.arena v places) result d.own
-          → DoesRead old.caller s (λ u es. AddsItem old.caller s.arena place a g h es) (StopsItem old.caller s.arena place a) result d.own
+      -- the item's find before the value is what its numbers come to
+      found_before : (e : Refusal) → StopsAdding old.caller s.arena v places g h e d.own → StopsAddingItem old.caller s.arena place a g h e d.own
+      found_before e x =
+          let ns = x.numbers in
+          let stops : StopsNumbers old.caller s.arena r.value (value_places place r.offset r.dims) e d.own x.numbers =
+          subst (λ (w : ValueSpec). StopsNumbers old.caller s.arena w (value_places place r.offset r.dims) e d.own x.numbers) spec
+          (subst (λ (ps : List ℕ). StopsNumbers old.caller s.arena v ps e d.own x.numbers) same x.stops) in
+          subst (λ (b : Asked). StopsAddingItem old.caller s.arena place b g h e d.own) (sym is) (record {
+            found = folded f ns;
+            stops = (ns, stops, refl);
+            added = x.added ∙ with_numbers_both f g ns (subst (λ (b : Asked). IsFoundOf b g) is kind);
+          })
+
+      stops_so : (e : Refusal) → DoesStop old.caller s (StopsAdding old.caller s.arena v places g h) e d.own
+          → DoesStop old.caller s (StopsAddingItem old.caller s.arena place a g h) e d.own
+      stops_so Closed x = (x.0, found_before Closed x.1)
+      stops_so Memory x = (x.0, found_before Memory x.1)
+      stops_so e x = absurd x
+
+      by : (result : Result (Unit {0}) Refusal)
+          → DoesRead old.caller s (λ u es. AddsNumbers old.caller s.arena v places g h es) (StopsAdding old.caller s.arena v places g h) result d.own
+          → DoesRead old.caller s (λ u es. AddsItem old.caller s.arena place a g h es) (StopsAddingItem old.caller s.arena place a g h) result d.own
       by (Ok u) x =
           let ns = x.1.numbers in
           let reads : ReadsNumbers old.caller s.arena r.value (value_places place r.offset r.dims) d.own x.1.numbers =
@@ -79,50 +103,62 @@ module _ (s : Region) (place : ℕ) {f : Fold} {r : Resolution} (a : Asked) (is 
               added = x.1.added ∙ with_numbers_both f g ns (subst (λ (b : Asked). IsFoundOf b g) is kind);
             }),
           )
-      by (Err e) x =
-          subst (λ (b : Asked). DoesStop old.caller s (StopsItem old.caller s.arena place b) e d.own) (sym is)
-          (subst (λ (w : ValueSpec). DoesStop old.caller s (StopsNumbers old.caller s.arena w (value_places place r.offset r.dims)) e d.own) spec
-          (subst (λ (ps : List ℕ). DoesStop old.caller s (StopsNumbers old.caller s.arena v ps) e d.own) same x))
+      by (Err e) x = stops_so e x
 
   -- a path has no values
   pub item_empty : (old : View) (g : Found) → IsFoundOf a g → value_places place r.offset r.dims ≡ []
-      → Did old old (DoesRead old.caller s (λ u es. AddsItem old.caller s.arena place a g g es) (StopsItem old.caller s.arena place a) (Ok (tt {0})))
+      → Did old old (DoesRead old.caller s (λ u es. AddsItem old.caller s.arena place a g g es) (StopsAddingItem old.caller s.arena place a g g) (Ok (tt {0})))
   item_empty old g kind none =
       item_read g g [] r.value (Ok (tt {0})) kind (sym none) refl
-      (ended (λ (es : List Entry). AddsNumbers old.caller s.arena r.value [] g g es) (none_so_far old s) (record { numbers = []; reads = no_more; added = refl }))
+      (ended (λ (es : List Entry). AddsNumbers old.caller s.arena r.value [] g g es) (none_so_far old s) (record {
+        numbers = [];
+        reads = no_more;
+        added = refl;
+      }))
 
 -- a count
 pub item_counted : (old : View) (s : Region) (place : ℕ) (a : Asked) (g h : Found) → a ≡ asked.Count → h ≡ both g (Count 1)
-    → Did old old (DoesRead old.caller s (λ u es. AddsItem old.caller s.arena place a g h es) (StopsItem old.caller s.arena place a) (Ok (tt {0})))
+    → Did old old (DoesRead old.caller s (λ u es. AddsItem old.caller s.arena place a g h es) (StopsAddingItem old.caller s.arena place a g h) (Ok (tt {0})))
 item_counted old s place a g h is e =
     ended (λ (es : List Entry). AddsItem old.caller s.arena place a g h es) (none_so_far old s)
     (subst (λ (b : Asked). AddsItem old.caller s.arena place b g h []) (sym is) (record { found = Count 1; finds = (refl, refl); added = e }))
 
 -- ---- items in order
 
-joined-none : (fs : List Found) → joined fs [] ≡ fs
+pub joined-none : (fs : List Found) → joined fs [] ≡ fs
 joined-none [] = refl
 joined-none (f ∷ fs) = refl
 
 -- none is left
 pub no_items : (old : View) (s : Region) (place : ℕ) (items : List Item) (fs : List Found) → items ≡ []
-    → Did old old (DoesRead old.caller s (λ (u : Unit {0}) es. AddsItems old.caller s.arena place items fs fs es) (StopsItems old.caller s.arena place items) (Ok tt))
+    → Did old old (DoesRead old.caller s (λ (u : Unit {0}) es. AddsItems old.caller s.arena place items fs fs es)
+    (StopsAddingItems old.caller s.arena place items fs fs) (Ok tt))
 no_items old s place items fs e =
     ended (λ (es : List Entry). AddsItems old.caller s.arena place items fs fs es) (none_so_far old s)
     (subst (λ (is : List Item). AddsItems old.caller s.arena place is fs fs []) (sym e) (record { found = []; finds = no_item; added = sym (joined-none fs) }))
 
-module _ (s : Region) (place : ℕ) {x : Item} {xs : List Item} {f : Found} {fs : List Found} (items : List Item) (old_found : List Found) (is : items ≡ x ∷ xs) (are : old_found ≡ f ∷ fs) where
+module _ (s : Region) (place : ℕ) {x : Item} {xs : List Item} {f : Found} {fs : List Found} (items : List Item) (old_found : List Found) (is : items ≡ x ∷ xs)
+    (are : old_found ≡ f ∷ fs) where
   -- the first stops
-  pub item_stops : {old now : View} (r : Refusal) → Did old now (DoesStop old.caller s (StopsItem old.caller s.arena place x.asked) r) → Did old now (DoesStop old.caller s (StopsItems old.caller s.arena place items) r)
-  item_stops {old} {now} r d =
-      stopped r (λ (c : Caller). StopsItem c s.arena place x.asked) (StopsItems old.caller s.arena place items) (none_so_far old s)
-      (λ es h. subst (λ (ys : List Item). StopsItems old.caller s.arena place ys es) (sym is) (at_item es h)) d
+  pub item_stops : {old now : View} {g : Found} {new : List Found} (r : Refusal) → new ≡ g ∷ fs
+      → Did old now (DoesStop old.caller s (StopsAddingItem old.caller s.arena place x.asked f g) r)
+      → Did old now (DoesStop old.caller s (StopsAddingItems old.caller s.arena place items old_found new) r)
+  item_stops {old} {now} {g} {new} r e d =
+      stopped r (λ (c : Caller). StopsAddingItem c s.arena place x.asked f g) (StopsAddingItems old.caller s.arena place items old_found new)
+      (none_so_far old s)
+      (λ es h. record {
+        found = h.found ∷ [];
+        stops = subst (λ (ys : List Item). StopsItems old.caller s.arena place ys r es (h.found ∷ [])) (sym is) (at_item h.found es h.stops);
+        added = e ∙ ap (λ y. y ∷ fs) h.added ∙ ap (λ ys. both f h.found ∷ ys) (sym (joined-none fs)) ∙ ap (λ ys. joined ys (h.found ∷ [])) (sym are);
+      }) d
 
   -- the first is added, and the others are gone through
   pub item_added : {old now next : View} {g : Found} {gs new : List Found} (result : Result (Unit {0}) Refusal) → new ≡ g ∷ gs
       → Did old now (λ es. AreReads old.caller s es × AddsItem old.caller s.arena place x.asked f g es)
-      → Did now next (DoesRead now.caller s (λ (v : Unit {0}) es. AddsItems now.caller s.arena place xs fs gs es) (StopsItems now.caller s.arena place xs) result)
-      → Did old next (DoesRead old.caller s (λ (v : Unit {0}) es. AddsItems old.caller s.arena place items old_found new es) (StopsItems old.caller s.arena place items) result)
+      → Did now next (DoesRead now.caller s (λ (v : Unit {0}) es. AddsItems now.caller s.arena place xs fs gs es)
+      (StopsAddingItems now.caller s.arena place xs fs gs) result)
+      → Did old next (DoesRead old.caller s (λ (v : Unit {0}) es. AddsItems old.caller s.arena place items old_found new es)
+      (StopsAddingItems old.caller s.arena place items old_found new) result)
   item_added {old} {now} {next} {g} {gs} {new} (Ok v) e t d =
       let m = more (λ (c : Caller) (es : List Entry). AddsItems c s.arena place xs fs gs es) (first_so_far t) d in
       let a = t.does.1 in
@@ -134,5 +170,11 @@ module _ (s : Region) (place : ℕ) {x : Item} {xs : List Item} {f : Found} {fs 
         added = e ∙ ap (λ y. y ∷ gs) a.added ∙ ap (λ ys. both f a.found ∷ ys) b.added ∙ ap (λ ys. joined ys (a.found ∷ b.found)) (sym are);
       }))
   item_added {old} {now} {next} {g} {gs} {new} (Err r) e t d =
-      stopped r (λ (c : Caller). StopsItems c s.arena place xs) (StopsItems old.caller s.arena place items) (first_so_far t)
-      (λ es h. subst (λ (ys : List Item). StopsItems old.caller s.arena place ys (t.own ++ es)) (sym is) (next_item t.does.1.found t.own es t.does.1.finds h)) d
+      let a = t.does.1 in
+      stopped r (λ (c : Caller). StopsAddingItems c s.arena place xs fs gs) (StopsAddingItems old.caller s.arena place items old_found new) (first_so_far t)
+      (λ es h. record {
+        found = a.found ∷ h.found;
+        stops = subst (λ (ys : List Item). StopsItems old.caller s.arena place ys r (t.own ++ es) (a.found ∷ h.found)) (sym is)
+            (next_item a.found h.found t.own es a.finds h.stops);
+        added = e ∙ ap (λ y. y ∷ gs) a.added ∙ ap (λ ys. both f a.found ∷ ys) h.added ∙ ap (λ ys. joined ys (a.found ∷ h.found)) (sym are);
+      }) d

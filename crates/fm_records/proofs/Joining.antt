@@ -60,7 +60,8 @@ found_in-append rs ss (asked.Of f r) =
     folded-append f (flat_map (numbers_in r) rs) (flat_map (numbers_in r) ss) ∙ ap (folded f) (sym (flat_map-append (numbers_in r) rs ss))
 
 -- item by item
-pub items-append : (rs ss : List (List ℕ)) (items : List Item) → joined (map (item_found rs) items) (map (item_found ss) items) ≡ map (item_found (rs ++ ss)) items
+pub items-append : (rs ss : List (List ℕ)) (items : List Item)
+    → joined (map (item_found rs) items) (map (item_found ss) items) ≡ map (item_found (rs ++ ss)) items
 items-append rs ss [] = refl
 items-append rs ss (item ∷ items) =
     ap (λ f. f ∷ joined (map (item_found rs) items) (map (item_found ss) items)) (found_in-append rs ss item.asked)

@@ -10,7 +10,8 @@ pub record IsPrinted (text : List ℕ) (k : ℕ) (items : List Item) (found : Li
   pub rest : text ++ lines_text (drop k items) (drop k found) ≡ lines_text items found
 
 -- one more line
-pub printed_more : (text next : List ℕ) (k : ℕ) (items : List Item) (found : List Found) (item : Item) (f : Found) → IsPrinted text k items found → k < length items → k < length found
+pub printed_more : (text next : List ℕ) (k : ℕ) (items : List Item) (found : List Found) (item : Item) (f : Found) → IsPrinted text k items found
+    → k < length items → k < length found
     → item ≡ get_or items k item → f ≡ get_or found k f → next ≡ text ++ line_text item f → IsPrinted next (k + 1) items found
 printed_more text next k items found item f so_far one other is_item is_f is_next = record {
   rest =
@@ -24,6 +25,7 @@ printed_more text next k items found item f so_far one other is_item is_f is_nex
 }
 
 -- no line is left
-pub printed_all : (text : List ℕ) (k : ℕ) (items : List Item) (found : List Found) → IsPrinted text k items found → length items ≤ k → text ≡ lines_text items found
+pub printed_all : (text : List ℕ) (k : ℕ) (items : List Item) (found : List Found) → IsPrinted text k items found → length items ≤ k
+    → text ≡ lines_text items found
 printed_all text k items found so_far past =
     sym (append-nil text) ∙ ap (λ is. text ++ lines_text is (drop k found)) (sym (drop_all k items past)) ∙ so_far.rest

@@ -10,7 +10,8 @@ use Rattle.fm_query.specs.declared.item.Asked.{Asked}
 use Rattle.fm_query.specs.declared.item.Asked.TheVariants as asked
 use Rattle.fm_query.specs.declared.item.Item.{Item}
 use Rattle.fm_records.specs.Few.{how_many}
-use Rattle.fm_records.specs.Reads.{IsItemReadable, IsReadable, IsTestable, LiesIn}
+use Rattle.fm_records.specs.Adds.{IsItemReadable, IsReadable, IsTestable}
+use Rattle.fm_records.specs.Reads.{LiesIn}
 use Rattle.fm_records.specs.Values.{index_lists}
 
 -- ---- how many lists of indices there are
@@ -56,9 +57,11 @@ asked_readable s place size alignment (asked.Of f r) lies h =
       lies = λ is admitted. record { from = omega (arith, from); within = omega (arith, h.stays.inside is admitted, h.size, within) };
     }
 
-items_readable : (s : Region) (place size alignment : ℕ) (items : List Item) → LiesIn s place size → AllByRecursion (IsItemIn size alignment) items → AllByRecursion (IsItemReadable s place) items
+items_readable : (s : Region) (place size alignment : ℕ) (items : List Item) → LiesIn s place size → AllByRecursion (IsItemIn size alignment) items
+    → AllByRecursion (IsItemReadable s place) items
 items_readable s place size alignment [] within h = tt
-items_readable s place size alignment (i ∷ is) within h = (asked_readable s place size alignment i.asked within h.0, items_readable s place size alignment is within h.1)
+items_readable s place size alignment (i ∷ is) within h =
+    (asked_readable s place size alignment i.asked within h.0, items_readable s place size alignment is within h.1)
 
 -- where a record stands in the segment, so do its items' values
 pub plan_items_readable : (s : Region) (place : ℕ) (p : Plan) → IsPlan p → LiesIn s place p.size → AllByRecursion (IsItemReadable s place) p.items
@@ -66,10 +69,16 @@ plan_items_readable s place p h within = items_readable s place p.size p.alignme
 
 -- ---- conditions
 
-conditions_testable : (s : Region) (place size alignment : ℕ) (cs : List Condition) → LiesIn s place size → AllByRecursion (IsConditionIn size alignment) cs → AllByRecursion (IsTestable s place) cs
+conditions_testable : (s : Region) (place size alignment : ℕ) (cs : List Condition) → LiesIn s place size → AllByRecursion (IsConditionIn size alignment) cs
+    → AllByRecursion (IsTestable s place) cs
 conditions_testable s place size alignment [] within h = tt
 conditions_testable s place size alignment (c ∷ cs) within h = (
-  record { closed = h.0.closed; stays = h.0.through.stays; lies = record { from = within.from; within = (let w = within.within in omega (arith, h.0.through.size, w)) } },
+  record {
+    closed = h.0.closed;
+    stays = h.0.through.stays;
+    lies =
+        record { from = within.from; within = (let w = within.within in omega (arith, h.0.through.size, w)) };
+  },
   conditions_testable s place size alignment cs within h.1,
 )
 

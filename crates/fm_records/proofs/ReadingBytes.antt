@@ -72,19 +72,25 @@ module _ (c : Caller) (s : Region) (bytes : List ℕ) (size : length bytes ≡ s
       let right : width ≤ length (drop (place - s.first) bytes) = omega (arith, from, within, size, length-drop (place - s.first) bytes) in
       let long : length (take width (drop (place % 8) (bytes_of 8 word))) ≡ width = length-take-le width (drop at (bytes_of 8 word)) left in
       bytes_of-lane 8 at width word fits
-      ∙ same_number_lists (take width (drop at (bytes_of 8 word))) (take width (drop (place - s.first) bytes)) (long ∙ sym (length-take-le width (drop (place - s.first) bytes) right))
+      ∙ same_number_lists (take width (drop at (bytes_of 8 word))) (take width (drop (place - s.first) bytes)) (long
+      ∙ sym (length-take-le width (drop (place - s.first) bytes) right))
       (λ k short.
       let below : k < width = omega (arith, short, long) in
       let there : 8 * (place / 8) + (place % 8 + k) ≡ place + k = omega arith in
       let offset : 8 * (place / 8) + (place % 8 + k) - s.first ≡ place - s.first + k = omega (arith, from) in
       get_or-take width (drop at (bytes_of 8 word)) k 0 below ∙ get_or-drop at (bytes_of 8 word) k 0
       ∙ get_or-bytes_of 8 word (at + k) (omega (arith, below, fits))
-      ∙ finds (place / 8) word (at + k) refl refl (record { in_word = omega (arith, below, fits); from = omega (arith, from, there); below = omega (arith, below, within, there) })
+      ∙ finds (place / 8) word (at + k) refl refl (record {
+        in_word = omega (arith, below, fits);
+        from = omega (arith, from, there);
+        below = omega (arith, below, within, there);
+      })
       ∙ ap (λ n. get_or bytes n 0) offset
       ∙ sym (get_or-take width (drop (place - s.first) bytes) k 0 below ∙ get_or-drop (place - s.first) bytes k 0))
 
   -- a piece has the region's bytes
-  piece_bytes : (place width v : ℕ) (own : List Entry) → ReadsPiece c s.arena place width v own → place % 8 + width ≤ 8 → LiesIn s place width → FindAs s bytes own
+  piece_bytes : (place width v : ℕ) (own : List Entry) → ReadsPiece c s.arena place width v own → place % 8 + width ≤ 8 → LiesIn s place width
+      → FindAs s bytes own
       → bytes_of width v ≡ take width (drop (place - s.first) bytes)
   piece_bytes place width v own p fits lies w =
       let all : FindAs s bytes (visit c s.arena ((Read s.arena (place / 8), Found_word p.word) ∷ [])) = subst (FindAs s bytes) p.visits w in
@@ -101,7 +107,8 @@ module _ (c : Caller) (s : Region) (bytes : List ℕ) (size : length bytes ≡ s
       e.1 ∙ sym (ap (λ n. x.bytes ++ take n (drop (x.at - s.first) bytes)) none ∙ append-nil x.bytes)
   stand_last end x own None e = tt
 
-  stand_more : (end width v : ℕ) (x y : Reading) (answer : Option (List ℕ)) → width ≤ end - x.at → s.first ≤ x.at → bytes_of width v ≡ take width (drop (x.at - s.first) bytes)
+  stand_more : (end width v : ℕ) (x y : Reading) (answer : Option (List ℕ)) → width ≤ end - x.at → s.first ≤ x.at
+      → bytes_of width v ≡ take width (drop (x.at - s.first) bytes)
       → y.at ≡ x.at + width → y.bytes ≡ x.bytes ++ bytes_of width v → StandBehind end y answer → StandBehind end x answer
   stand_more end width v x y None h from e at more rest = tt
   stand_more end width v x y (Some all) h from e at more rest =
@@ -109,9 +116,11 @@ module _ (c : Caller) (s : Region) (bytes : List ℕ) (size : length bytes ≡ s
       let left = take (end - y.at) (drop (y.at - s.first) bytes) in
       let sum : end - x.at ≡ width + (end - y.at) = omega arith in
       let offset : x.at - s.first + width ≡ y.at - s.first = omega (arith, from, at) in
-      let past : drop width (drop (x.at - s.first) bytes) ≡ drop (y.at - s.first) bytes = drop-drop width (x.at - s.first) bytes ∙ ap (λ n. drop n bytes) offset in
+      let past : drop width (drop (x.at - s.first) bytes) ≡ drop (y.at - s.first) bytes = drop-drop width (x.at - s.first) bytes
+      ∙ ap (λ n. drop n bytes) offset in
       let two : take (end - x.at) (drop (x.at - s.first) bytes) ≡ bytes_of width v ++ take (end - y.at) (drop (y.at - s.first) bytes) =
-      ap (λ n. take n d) sum ∙ take-add width (end - y.at) d ∙ ap (λ bs. bs ++ take (end - y.at) (drop width d)) (sym e) ∙ ap (λ bs. bytes_of width v ++ take (end - y.at) bs) past in
+      ap (λ n. take n d) sum ∙ take-add width (end - y.at) d ∙ ap (λ bs. bs ++ take (end - y.at) (drop width d)) (sym e)
+      ∙ ap (λ bs. bytes_of width v ++ take (end - y.at) bs) past in
       rest ∙ ap (λ bs. bs ++ left) more ∙ append_assoc x.bytes (bytes_of width v) left ∙ ap (λ bs. x.bytes ++ bs) (sym two)
 
   -- a run of pieces has the region's bytes
@@ -125,21 +134,26 @@ module _ (c : Caller) (s : Region) (bytes : List ℕ) (size : length bytes ≡ s
       let fits : x.at % 8 + piece_width x.at end ≤ 8 = omega arith in
       let part : piece_width x.at end ≤ end - x.at = omega arith in
       let lies : LiesIn s x.at (piece_width x.at end) = record { from = from; within = omega (arith, part, more, within) } in
-      stand_more end (piece_width x.at end) step.v x y answer part from (piece_bytes x.at (piece_width x.at end) step.v first step.piece fits lies parts.0) step.at step.bytes
+      stand_more end (piece_width x.at end) step.v x y answer part from (piece_bytes x.at (piece_width x.at end) step.v first step.piece fits lies parts.0)
+      step.at step.bytes
       (run_bytes end y rest answer run (omega (arith, from, at)) within parts.1)
 
-  range_bytes : (place width : ℕ) (own : List Entry) (read : List ℕ) → ReadsRange c s.arena place (place + width) own (Some read) → LiesIn s place width → FindAs s bytes own
+  range_bytes : (place width : ℕ) (own : List Entry) (read : List ℕ) → ReadsRange c s.arena place (place + width) own (Some read) → LiesIn s place width
+      → FindAs s bytes own
       → read ≡ take width (drop (place - s.first) bytes)
   range_bytes place width own read run lies w =
       let all : place + width - place ≡ width = omega arith in
-      run_bytes (place + width) (record { at = place; bytes = [] }) own (Some read) run lies.from lies.within w ∙ ap (λ k. take k (drop (place - s.first) bytes)) all
+      run_bytes (place + width) (record { at = place; bytes = [] }) own (Some read) run lies.from lies.within w
+      ∙ ap (λ k. take k (drop (place - s.first) bytes)) all
 
   -- ---- numbers
 
-  number_of_bytes : (spec : ValueSpec) (place : ℕ) (own : List Entry) (n : ℤ) → ReadsNumber c s.arena spec place own n → LiesIn s place (width_of spec.kind) → FindAs s bytes own
+  number_of_bytes : (spec : ValueSpec) (place : ℕ) (own : List Entry) (n : ℤ) → ReadsNumber c s.arena spec place own n → LiesIn s place (width_of spec.kind)
+      → FindAs s bytes own
       → n ≡ number_there spec.kind spec.order (place - s.first) bytes
   number_of_bytes spec place own n r lies w =
-      r.number ∙ ap number_of_value (r.reads.value ∙ ap (value_of spec.kind spec.order) (range_bytes place (width_of spec.kind) own r.reads.bytes r.reads.visits lies w))
+      r.number ∙ ap number_of_value (r.reads.value
+      ∙ ap (value_of spec.kind spec.order) (range_bytes place (width_of spec.kind) own r.reads.bytes r.reads.visits lies w))
 
   numbers_of_bytes : (spec : ValueSpec) (places : List ℕ) (own : List Entry) (ns : List ℤ) → ReadsNumbers c s.arena spec places own ns
       → ((place : ℕ) → IsAmong place places → LiesIn s place (width_of spec.kind)) → FindAs s bytes own
@@ -163,7 +177,8 @@ module _ (c : Caller) (s : Region) (bytes : List ℕ) (size : length bytes ≡ s
       let at = offset_at r.offset r.dims is in
       let from = lies.from in
       let offset : place + offset_at r.offset r.dims is - s.first ≡ place - s.first + offset_at r.offset r.dims is = omega (arith, from) in
-      let inside : offset_at r.offset r.dims is + width_of r.value.kind ≤ width = subst (λ n. offset_at r.offset r.dims is + width_of r.value.kind ≤ n) t.size (t.stays.inside is a) in
+      let inside : offset_at r.offset r.dims is + width_of r.value.kind ≤ width =
+      subst (λ n. offset_at r.offset r.dims is + width_of r.value.kind ≤ n) t.size (t.stays.inside is a) in
       ap (λ n. number_there r.value.kind r.value.order n bytes) offset
       ∙ ap (λ bs. number_of_value (value_of r.value.kind r.value.order bs)) (sym (take-part (width_of r.value.kind) at width (place - s.first) bytes inside))
 
@@ -173,7 +188,8 @@ module _ (c : Caller) (s : Region) (bytes : List ℕ) (size : length bytes ≡ s
   value_lies r width multiple place is t a lies =
       let from = lies.from in
       let within = lies.within in
-      let inside : offset_at r.offset r.dims is + width_of r.value.kind ≤ width = subst (λ n. offset_at r.offset r.dims is + width_of r.value.kind ≤ n) t.size (t.stays.inside is a) in
+      let inside : offset_at r.offset r.dims is + width_of r.value.kind ≤ width =
+      subst (λ n. offset_at r.offset r.dims is + width_of r.value.kind ≤ n) t.size (t.stays.inside is a) in
       record { from = omega (arith, from); within = omega (arith, inside, within) }
 
   -- the numbers of a path's values
@@ -182,7 +198,8 @@ module _ (c : Caller) (s : Region) (bytes : List ℕ) (size : length bytes ≡ s
   numbers_of_record r width multiple place own ns t lies reads w =
       let F : List ℕ → ℕ = λ is. place + offset_at r.offset r.dims is in
       numbers_of_bytes r.value (value_places place r.offset r.dims) own ns reads
-      (each_mapped (λ q. LiesIn s q (width_of r.value.kind)) F (index_lists r.dims) (λ is a. value_lies r width multiple place is t (listed_admitted r.dims is a) lies)) w
+      (each_mapped (λ q. LiesIn s q (width_of r.value.kind)) F (index_lists r.dims) (λ is a.
+      value_lies r width multiple place is t (listed_admitted r.dims is a) lies)) w
       ∙ map_among (λ q. number_there r.value.kind r.value.order (q - s.first) bytes) F (λ is. number_at r is (record_at width place)) (index_lists r.dims)
       (λ is a. within_record r width multiple place is t (listed_admitted r.dims is a) lies)
 
@@ -192,7 +209,8 @@ module _ (c : Caller) (s : Region) (bytes : List ℕ) (size : length bytes ≡ s
   offset_of_none at (d ∷ ds) = refl
 
   -- a condition that was tested
-  test_of_bytes : (x : Condition) (width multiple place : ℕ) (own : List Entry) (b : Bool) → IsConditionIn width multiple x → LiesIn s place width → Tests c s.arena place x own b
+  test_of_bytes : (x : Condition) (width multiple place : ℕ) (own : List Entry) (b : Bool) → IsConditionIn width multiple x → LiesIn s place width
+      → Tests c s.arena place x own b
       → FindAs s bytes own → holds_for (record_at width place) x ≡ b
   test_of_bytes x width multiple place own b h lies t w =
       let none : AreAdmitted x.path.dims [] = subst (λ ds. AreAdmitted ds []) (sym h.closed) tt in
@@ -205,7 +223,8 @@ module _ (c : Caller) (s : Region) (bytes : List ℕ) (size : length bytes ≡ s
       ∙ within_record x.path width multiple place [] h.through none lies in
       ap (λ n. compares x.operator n x.literal) (sym number) ∙ t.compared
 
-  pub tests_of_bytes : (width multiple place : ℕ) (cs : List Condition) (own : List Entry) (b : Bool) → AllByRecursion (IsConditionIn width multiple) cs → LiesIn s place width
+  pub tests_of_bytes : (width multiple place : ℕ) (cs : List Condition) (own : List Entry) (b : Bool) → AllByRecursion (IsConditionIn width multiple) cs
+      → LiesIn s place width
       → TestsConditions c s.arena place cs own b → FindAs s bytes own → list_all (holds_for (record_at width place)) cs ≡ b
   tests_of_bytes width multiple place cs own b h lies all_hold w = refl
   tests_of_bytes width multiple place cs own b h lies (fails {x = x} {xs = xs} one t) w =
@@ -216,13 +235,15 @@ module _ (c : Caller) (s : Region) (bytes : List ℕ) (size : length bytes ≡ s
       ∙ tests_of_bytes width multiple place xs rest all h.1 lies more parts.1
 
   -- what an item finds
-  item_of_bytes : (a : Asked) (width multiple place : ℕ) (own : List Entry) (found : Found) → AsksOf width multiple a → LiesIn s place width → FindsItem c s.arena place a own found
+  item_of_bytes : (a : Asked) (width multiple place : ℕ) (own : List Entry) (found : Found) → AsksOf width multiple a → LiesIn s place width
+      → FindsItem c s.arena place a own found
       → FindAs s bytes own → found ≡ found_in (record_at width place ∷ []) a
   item_of_bytes asked.Count width multiple place own found t lies h w = h.1
   item_of_bytes (asked.Of f r) width multiple place own found t lies h w =
       h.2 ∙ ap (folded f) (numbers_of_record r width multiple place own h.0 t lies h.1 w ∙ sym (append-nil (numbers_in r (record_at width place))))
 
-  items_of_bytes : (width multiple place : ℕ) (items : List Item) (own : List Entry) (fs : List Found) → AllByRecursion (IsItemIn width multiple) items → LiesIn s place width
+  items_of_bytes : (width multiple place : ℕ) (items : List Item) (own : List Entry) (fs : List Found) → AllByRecursion (IsItemIn width multiple) items
+      → LiesIn s place width
       → FindsItems c s.arena place items own fs → FindAs s bytes own → fs ≡ map (item_found (record_at width place ∷ [])) items
   items_of_bytes width multiple place items own fs t lies no_item w = refl
   items_of_bytes width multiple place items own fs t lies (one_item {item = item} {items = more} found others one rest f h) w =
@@ -266,7 +287,10 @@ module _ (c : Caller) (s : Region) (bytes : List ℕ) (size : length bytes ≡ s
         let from = lies.from in
         let within = lies.within in
         let offset : place - s.first + p.size ≡ place + p.size - s.first = omega (arith, from) in
-        records_of_bytes left (place + p.size) (with_record so_far seen) a rest (rs ++ here) (record { from = omega (arith, from); within = omega (arith, within, sum) }) more parts.1
+        records_of_bytes left (place + p.size) (with_record so_far seen) a rest (rs ++ here) (record {
+          from = omega (arith, from);
+          within = omega (arith, within, sum);
+        }) more parts.1
         (record_of_bytes place one seen so_far rs (record { from = from; within = omega (arith, within, sum) }) r parts.0 e)
         ∙ ap (λ bs. found_over p ((rs ++ here) ++ pieces left p.size bs)) (sym (drop-drop p.size (place - s.first) bytes ∙ ap (λ n. drop n bytes) offset))
         ∙ ap (found_over p) (append_assoc rs here (pieces left p.size (drop p.size (drop (place - s.first) bytes))))

@@ -107,14 +107,16 @@ record IsShare (limit : ℕ) (now : State) (es : List Entry) (p : Plan) (w : Sha
   answered : IsAnswered w.caller p w.region (bytes_at_places now w.region) w.found (made_by w.caller es)
 
 -- so is each part of it
-spared_part : (limit : ℕ) (now : State) (es : List Entry) (s : Region) (at n : ℕ) → at + n ≤ s.size → IsSpared limit now es s → IsSpared limit now es (part_of at n s)
+spared_part : (limit : ℕ) (now : State) (es : List Entry) (s : Region) (at n : ℕ) → at + n ≤ s.size → IsSpared limit now es s
+    → IsSpared limit now es (part_of at n s)
 spared_part limit now es s at n within h = record {
   legal = h.legal;
   spared = λ place from below. h.spared place (omega (arith, from)) (omega (arith, below, within));
 }
 
 -- its first share
-first_share : (limit : ℕ) (now : State) (es : List Entry) (p : Plan) (s : Region) (w : Share) → IsPlan p → IsSpared limit now es s → IsFirst p s w → IsDone p es w → IsShare limit now es p w
+first_share : (limit : ℕ) (now : State) (es : List Entry) (p : Plan) (s : Region) (w : Share) → IsPlan p → IsSpared limit now es s → IsFirst p s w
+    → IsDone p es w → IsShare limit now es p w
 first_share limit now es p s w plan h cut done =
     let mine = subst (IsSpared limit now es) (sym cut.region) (spared_part limit now es s 0 w.region.size (omega (arith, cut.within)) h) in
     record {
@@ -165,7 +167,8 @@ less_times i k n h = let e : i - k + k ≡ i = omega (arith, h) in times_sum (i 
     times_sum j k n = grind arith
 
 -- what is asked for of bytes is asked for of a part of them in which the record stands
-asked_of : (p : Plan) (all part : List ℕ) (i j : ℕ) (r : Resolution) (is : List ℕ) → (h : IsAsked p all i r is) → slice_get (records p.size part) j ≡ Some h.record_bytes → IsAsked p part j r is
+asked_of : (p : Plan) (all part : List ℕ) (i j : ℕ) (r : Resolution) (is : List ℕ) → (h : IsAsked p all i r is)
+    → slice_get (records p.size part) j ≡ Some h.record_bytes → IsAsked p part j r is
 asked_of p all part i j r is h e = record {
   record_bytes = h.record_bytes;
   stands = e;
@@ -206,7 +209,8 @@ shares_read limit now es p s (w ∷ ws) index r is word plan h cut done asks is_
           let count : length (records p.size a) ≡ w.region.size / p.size = length-pieces (length a / p.size) p.size a ∙ ap (λ k. k / p.size) long in
           let exact : w.region.size / p.size * p.size ≡ w.region.size = omega (arith, div-add-mod' w.region.size p.size, cut.0.whole) in
           let past : w.region.size / p.size ≤ index = omega (arith, count, there_behind.past) in
-          let left : (index - w.region.size / p.size) * p.size + w.region.size / p.size * p.size ≡ index * p.size = less_times index (w.region.size / p.size) p.size past in
+          let left : (index - w.region.size / p.size) * p.size + w.region.size / p.size * p.size ≡ index * p.size =
+          less_times index (w.region.size / p.size) p.size past in
           let theirs = asked_of p _ (bytes_at_places now (behind w.region.size s)) index (index - w.region.size / p.size) r is asks
           (ap (λ k. slice_get (records p.size b) (index - k)) (sym count) ∙ there_behind.stands) in
           let rest = shares_read limit now es p (behind n s) ws (index - w.region.size / p.size) r is word plan

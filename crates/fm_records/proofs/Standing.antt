@@ -16,7 +16,8 @@ number_of_spec (Sequence n e l) v at bytes is = is
 number_of_spec (Struct ms l) v at bytes is = is
 number_of_spec (Union ms l) v at bytes is = is
 
-pub number_stands : (path : List PathStep) (t : Tree) (r : Resolution) (is bytes : List ℕ) → IsResolved path t r → AreAdmitted r.dims is → StandsAt path t is bytes (number_at r is bytes)
+pub number_stands : (path : List PathStep) (t : Tree) (r : Resolution) (is bytes : List ℕ) → IsResolved path t r → AreAdmitted r.dims is
+    → StandsAt path t is bytes (number_at r is bytes)
 number_stands path t r is bytes resolved admitted = record {
   at = offset_at r.offset r.dims is;
   layout = resolved.last;

@@ -128,7 +128,8 @@ adds k xs ys zs f g l m h can mine theirs is_f is_g is_l is_zs is_m is_h =
     let same : h ≡ g = is_h ∙ get_or_default ys k h g theirs ∙ sym is_g in
     let lay = behind k xs ys zs l mine is_zs in
     let there : m ≡ l = at_place k xs (joined (drop (k + 1) xs) (drop (k + 1) ys)) l m mine (is_m ∙ ap (λ n. get_or n k m) lay) in
-    subst (λ x. CanJoinFound m x) (sym same) (subst (λ x. CanJoinFound x g) (sym (there ∙ is_l)) (CanJoin-lengthened f g (first_left k xs ys f g can mine theirs is_f is_g).0))
+    subst (λ x. CanJoinFound m x) (sym same)
+    (subst (λ x. CanJoinFound x g) (sym (there ∙ is_l)) (CanJoin-lengthened f g (first_left k xs ys f g can mine theirs is_f is_g).0))
 
 -- and then all items from it on are joined
 pub joins : (k : ℕ) (xs ys zs : List Found) (f g l m h s : Found) → k < length xs → k < length ys

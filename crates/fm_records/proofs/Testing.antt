@@ -12,7 +12,9 @@ use Rattle.fm_path_meaning.specs.declared.dim.Dim.{Dim}
 use Rattle.fm_segment.specs.Region.{Region}
 use Rattle.fm_query.specs.declared.condition.Condition.{Condition}
 use Rattle.fm_records.specs.Answers.{compares}
-use Rattle.fm_records.specs.Reads.{AreReads, DoesRead, DoesStop, LiesIn, ReadsNumber, StopsNumber, IsTestable, Tests, TestsConditions, all_hold, fails, holds, StopsTest, StopsTests, at_test, next_test}
+use Rattle.fm_records.specs.Adds.{IsTestable}
+use Rattle.fm_records.specs.Reads.{AreReads, DoesRead, DoesStop, LiesIn, ReadsNumber, Tests, TestsConditions, all_hold, fails, holds}
+use Rattle.fm_records.specs.Stops.{StopsNumber, StopsTest, StopsTests, at_test, next_test}
 use Rattle.fm_records.proofs.Visiting.{none_so_far, first_so_far, more, ended, stopped}
 
 -- a condition's value stands in the segment
@@ -63,13 +65,21 @@ module _ (s : Region) (place : ℕ) {x : Condition} {xs : List Condition} (all :
       → Did old now (DoesRead old.caller s (λ b es. TestsConditions old.caller s.arena place all es b) (StopsTests old.caller s.arena place all) (Ok false))
   first_fails {old} {now} b e d =
       let t = subst (λ (c : Bool). Tests old.caller s.arena place x d.own c) e d.does.1 in
-      record { own = d.own; does = (d.does.0, subst (λ (ys : List Condition). TestsConditions old.caller s.arena place ys d.own false) (sym is) (fails d.own t)); makes = d.makes }
+      record {
+        own = d.own;
+        does = (
+          d.does.0,
+          subst (λ (ys : List Condition). TestsConditions old.caller s.arena place ys d.own false) (sym is) (fails d.own t),
+        );
+        makes = d.makes;
+      }
 
   -- it can't be read
-  pub first_stops : {old now : View} (r : Refusal) → Did old now (DoesStop old.caller s (StopsTest old.caller s.arena place x) r) → Did old now (DoesStop old.caller s (StopsTests old.caller s.arena place all) r)
+  pub first_stops : {old now : View} (r : Refusal) → Did old now (DoesStop old.caller s (StopsTest old.caller s.arena place x) r)
+      → Did old now (DoesStop old.caller s (StopsTests old.caller s.arena place all) r)
   first_stops {old} {now} r d =
       stopped r (λ (c : Caller). StopsTest c s.arena place x) (StopsTests old.caller s.arena place all) (none_so_far old s)
-      (λ es h. subst (λ (ys : List Condition). StopsTests old.caller s.arena place ys es) (sym is) (at_test es h)) d
+      (λ es h. subst (λ (ys : List Condition). StopsTests old.caller s.arena place ys r es) (sym is) (at_test es h)) d
 
   -- it holds, and the others are tested
   pub first_holds : {old now next : View} (d : Bool) (result : Result Bool Refusal) → d ≡ true → TestOf old now d
@@ -84,10 +94,11 @@ module _ (s : Region) (place : ℕ) {x : Condition} {xs : List Condition} (all :
   first_holds {old} {now} {next} z (Err r) e t d =
       let tested = subst (λ (c : Bool). Tests old.caller s.arena place x t.own c) e t.does.1 in
       stopped r (λ (c : Caller). StopsTests c s.arena place xs) (StopsTests old.caller s.arena place all) (first_so_far t)
-      (λ es h. subst (λ (ys : List Condition). StopsTests old.caller s.arena place ys (t.own ++ es)) (sym is) (next_test t.own es tested h)) d
+      (λ es h. subst (λ (ys : List Condition). StopsTests old.caller s.arena place ys r (t.own ++ es)) (sym is) (next_test t.own es tested h)) d
 
 -- none is left
 pub none_tested : (old : View) (s : Region) (place : ℕ) (cs : List Condition) → cs ≡ []
     → Did old old (DoesRead old.caller s (λ b es. TestsConditions old.caller s.arena place cs es b) (StopsTests old.caller s.arena place cs) (Ok true))
 none_tested old s place cs e =
-    ended (λ (es : List Entry). TestsConditions old.caller s.arena place cs es true) (none_so_far old s) (subst (λ (ys : List Condition). TestsConditions old.caller s.arena place ys [] true) (sym e) all_hold)
+    ended (λ (es : List Entry). TestsConditions old.caller s.arena place cs es true) (none_so_far old s)
+    (subst (λ (ys : List Condition). TestsConditions old.caller s.arena place ys [] true) (sym e) all_hold)

@@ -23,7 +23,8 @@ use Rattle.fm_access.specs.Ranges.{Reading, ReadsOn, EndsReading}
 use Rattle.fm_access.specs.Values.{DoesGetValue}
 use Rattle.fm_segment.specs.Region.{Region}
 use Rattle.fm_segment.proofs.Access.{known_still}
-use Rattle.fm_records.specs.Reads.{CanRead, IsWordOf, LiesIn, read_visit, AreReads, StopsReading, DoesStop, DoesRead, ReadsNumber, StopsNumber}
+use Rattle.fm_records.specs.Reads.{CanRead, IsWordOf, LiesIn, read_visit, AreReads, StopsReading, DoesStop, DoesRead, ReadsNumber}
+use Rattle.fm_records.specs.Stops.{StopsNumber}
 
 pub AreReads-none : (c : Caller) (s : Region) → AreReads c s []
 AreReads-none c s = record { reads = []; within = tt; visits = refl }
@@ -49,23 +50,27 @@ abbrev pub RangeIs : Caller → Region → List Entry → Option (List ℕ) → 
 RangeIs c s own (Some bytes) = AreReads c s own
 RangeIs c s own None = StopsReading c s own
 
-range_ends : (c : Caller) (s : Region) (end : ℕ) (x : Reading) (own : List Entry) (answer : Option (List ℕ)) → EndsReading c s.arena end x own answer → RangeIs c s own answer
+range_ends : (c : Caller) (s : Region) (end : ℕ) (x : Reading) (own : List Entry) (answer : Option (List ℕ)) → EndsReading c s.arena end x own answer
+    → RangeIs c s own answer
 range_ends c s end x own (Some bytes) e = subst (AreReads c s) (sym e.2) (AreReads-none c s)
 range_ends c s end x own None e = record { before = []; reads = AreReads-none c s; stops = e.1 }
 
-range_after : (c : Caller) (s : Region) (es fs : List Entry) (answer : Option (List ℕ)) → AreReads c s es → RangeIs c s fs answer → RangeIs c s (es ++ fs) answer
+range_after : (c : Caller) (s : Region) (es fs : List Entry) (answer : Option (List ℕ)) → AreReads c s es → RangeIs c s fs answer
+    → RangeIs c s (es ++ fs) answer
 range_after c s es fs (Some bytes) p q = AreReads-append c s es fs p q
 range_after c s es fs None p q = StopsReading-after c s es fs p q
 
 -- a piece is one read of a word of the segment
-piece_read : (c : Caller) (s : Region) (end : ℕ) (x y : Reading) (own : List Entry) → ReadsOn c s.arena end x own y → s.first ≤ x.at → end ≤ s.first + s.size → AreReads c s own
+piece_read : (c : Caller) (s : Region) (end : ℕ) (x y : Reading) (own : List Entry) → ReadsOn c s.arena end x own y → s.first ≤ x.at → end ≤ s.first + s.size
+    → AreReads c s own
 piece_read c s end x y own r low high = record {
   reads = (x.at / 8, r.piece.word) ∷ [];
   within = (record { above = omega arith; below = omega (arith, r.more) }, tt);
   visits = r.piece.visits ∙ sym (append-nil _);
 }
 
-pub range_read : (c : Caller) (s : Region) (end : ℕ) (x : Reading) (own : List Entry) (answer : Option (List ℕ)) → Run (ReadsOn c s.arena end) (EndsReading c s.arena end) x own answer
+pub range_read : (c : Caller) (s : Region) (end : ℕ) (x : Reading) (own : List Entry) (answer : Option (List ℕ))
+    → Run (ReadsOn c s.arena end) (EndsReading c s.arena end) x own answer
     → s.first ≤ x.at → end ≤ s.first + s.size → RangeIs c s own answer
 range_read c s end x own answer (ends e) low high = range_ends c s end x own answer e
 range_read c s end x own answer (goes_on y more rest p r) low high =
@@ -75,12 +80,16 @@ range_read c s end x own answer (goes_on y more rest p r) low high =
 
 module _ (c : Caller) (s : Region) (spec : ValueSpec) (place : ℕ) where
   -- what was got is read of the segment
-  number_read : (v : Value) (z : ℤ) (own : List Entry) → z ≡ number_of_value v → LiesIn s place (width_of spec.kind) → DoesGetValue c spec.kind spec.order s.arena place (Ok v) own
+  number_read : (v : Value) (z : ℤ) (own : List Entry) → z ≡ number_of_value v → LiesIn s place (width_of spec.kind)
+      → DoesGetValue c spec.kind spec.order s.arena place (Ok v) own
       → DoesRead c s (λ n es. ReadsNumber c s.arena spec place es n) (StopsNumber c s.arena spec place) (Ok z) own
-  number_read v z own is lies d =
-      (range_read c s (place + width_of spec.kind) (record { at = place; bytes = [] }) own (Some d.1.bytes) d.1.visits lies.from lies.within, record { value = v; reads = d.1; number = is })
+  number_read v z own is lies d = (
+    range_read c s (place + width_of spec.kind) (record { at = place; bytes = [] }) own (Some d.1.bytes) d.1.visits lies.from lies.within,
+    record { value = v; reads = d.1; number = is },
+  )
 
-  number_stops : (r : Refusal) (own : List Entry) → MayUse s.arena c → LiesIn s place (width_of spec.kind) → DoesGetValue c spec.kind spec.order s.arena place (Err r) own
+  number_stops : (r : Refusal) (own : List Entry) → MayUse s.arena c → LiesIn s place (width_of spec.kind)
+      → DoesGetValue c spec.kind spec.order s.arena place (Err r) own
       → DoesStop c s (StopsNumber c s.arena spec place) r own
   number_stops Closed own may lies d =
       (range_read c s (place + width_of spec.kind) (record { at = place; bytes = [] }) own None d.1 lies.from lies.within, d.1)
@@ -88,21 +97,25 @@ module _ (c : Caller) (s : Region) (spec : ValueSpec) (place : ℕ) where
   number_stops r own may lies d = absurd d
 
 -- the same of what was done
-pub number_done : (old new : View) (s : Region) (spec : ValueSpec) (place : ℕ) (id : ArenaId) (v : Value) (z : ℤ) → id ≡ s.arena → z ≡ number_of_value v → LiesIn s place (width_of spec.kind)
+pub number_done : (old new : View) (s : Region) (spec : ValueSpec) (place : ℕ) (id : ArenaId) (v : Value) (z : ℤ) → id ≡ s.arena → z ≡ number_of_value v
+    → LiesIn s place (width_of spec.kind)
     → Did old new (DoesGetValue old.caller spec.kind spec.order id place (Ok v))
     → Did old new (DoesRead old.caller s (λ n es. ReadsNumber old.caller s.arena spec place es n) (StopsNumber old.caller s.arena spec place) (Ok z))
 number_done old new s spec place id v z same is lies d = record {
   own = d.own;
-  does = number_read old.caller s spec place v z d.own is lies (subst (λ (a : ArenaId). DoesGetValue old.caller spec.kind spec.order a place (Ok v) d.own) same d.does);
+  does = number_read old.caller s spec place v z d.own is lies
+      (subst (λ (a : ArenaId). DoesGetValue old.caller spec.kind spec.order a place (Ok v) d.own) same d.does);
   makes = d.makes;
 }
 
-pub number_stopped : (old new : View) (s : Region) (spec : ValueSpec) (place : ℕ) (id : ArenaId) (r : Refusal) → id ≡ s.arena → CanRead old s → LiesIn s place (width_of spec.kind)
+pub number_stopped : (old new : View) (s : Region) (spec : ValueSpec) (place : ℕ) (id : ArenaId) (r : Refusal) → id ≡ s.arena → CanRead old s
+    → LiesIn s place (width_of spec.kind)
     → Did old new (DoesGetValue old.caller spec.kind spec.order id place (Err r))
     → Did old new (DoesRead old.caller s (λ (n : ℤ) es. ReadsNumber old.caller s.arena spec place es n) (StopsNumber old.caller s.arena spec place) (Err r))
 number_stopped old new s spec place id r same can lies d = record {
   own = d.own;
-  does = number_stops old.caller s spec place r d.own can.may lies (subst (λ (a : ArenaId). DoesGetValue old.caller spec.kind spec.order a place (Err r) d.own) same d.does);
+  does = number_stops old.caller s spec place r d.own can.may lies
+      (subst (λ (a : ArenaId). DoesGetValue old.caller spec.kind spec.order a place (Err r) d.own) same d.does);
   makes = d.makes;
 }
 
@@ -121,7 +134,8 @@ pub first_so_far : {old now : View} {s : Region} {Q : List Entry → Type 0} →
 first_so_far {old} {now} {s} {Q} d = record { makes = d.makes; reads = d.does.0 }
 
 -- reads end outside
-reads_before : (c : Caller) (id : ArenaId) (reads : List (ℕ × ℕ)) (es : List Entry) → inside_after None (flat_map (read_visit c id) reads ++ es) ≡ inside_after None es
+reads_before : (c : Caller) (id : ArenaId) (reads : List (ℕ × ℕ)) (es : List Entry)
+    → inside_after None (flat_map (read_visit c id) reads ++ es) ≡ inside_after None es
 reads_before c id [] es = refl
 reads_before c id (r ∷ reads) es = reads_before c id reads es
 
@@ -156,19 +170,23 @@ more {old} {now} {next} {s} {own} P h d =
     }
 
 -- it came to its end
-pub ended : {old now : View} {s : Region} {own : List Entry} (Q : List Entry → Type 0) → SoFar old now s own → Q own → Did old now (λ es. AreReads old.caller s es × Q es)
+pub ended : {old now : View} {s : Region} {own : List Entry} (Q : List Entry → Type 0) → SoFar old now s own → Q own
+    → Did old now (λ es. AreReads old.caller s es × Q es)
 ended {old} {now} {s} {own} Q h q = record { own = own; does = (h.reads, q); makes = h.makes }
 
 -- or to a refusal
-pub stopped : {old now next : View} {s : Region} {own : List Entry} (r : Refusal) (S : Caller → List Entry → Type 0) (T : List Entry → Type 0) → SoFar old now s own
-    → ((es : List Entry) → S old.caller es → T (own ++ es)) → Did now next (DoesStop now.caller s (S now.caller) r) → Did old next (DoesStop old.caller s T r)
+pub stopped : {old now next : View} {s : Region} {own : List Entry} (r : Refusal) (S : Caller → Refusal → List Entry → Type 0)
+    (T : Refusal → List Entry → Type 0) → SoFar old now s own
+    → ((es : List Entry) → S old.caller r es → T r (own ++ es)) → Did now next (DoesStop now.caller s (S now.caller) r)
+    → Did old next (DoesStop old.caller s T r)
 stopped {old} {now} {next} {s} {own} r S T h on d = record {
   own = own ++ d.own;
-  does = both r (subst (λ (c : Caller). DoesStop c s (S c) r d.own) h.makes.same_caller d.does);
+  does = both r (on d.own) (subst (λ (c : Caller). DoesStop c s (S c) r d.own) h.makes.same_caller d.does);
   makes = Makes-then old now next own d.own h.makes d.makes;
 }
   where
-    both : (e : Refusal) → DoesStop old.caller s (S old.caller) e d.own → DoesStop old.caller s T e (own ++ d.own)
-    both Closed g = (StopsReading-after old.caller s own d.own h.reads g.0, on d.own g.1)
-    both Memory g = AreReads-append old.caller s own d.own h.reads g
-    both e g = absurd g
+    both : (e : Refusal) → (S old.caller e d.own → T e (own ++ d.own)) → DoesStop old.caller s (S old.caller) e d.own
+        → DoesStop old.caller s T e (own ++ d.own)
+    both Closed on g = (StopsReading-after old.caller s own d.own h.reads g.0, on g.1)
+    both Memory on g = (AreReads-append old.caller s own d.own h.reads g.0, on g.1)
+    both e on g = absurd g

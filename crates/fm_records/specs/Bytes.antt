@@ -9,7 +9,7 @@ use Rattle.fm_lists.specs.Among.{IsAmong}
 use Rattle.fm_query.specs.Plan.{Plan, IsPlan}
 use Rattle.fm_segment.specs.Region.{Region}
 use Rattle.fm_records.specs.declared.found.Found.{Found}
-use Rattle.fm_records.specs.Reads.{DoesQuery}
+use Rattle.fm_records.specs.Query.{DoesQuery}
 
 -- byte `at` of the word, the lowest first, is one of the region
 pub record IsByteOf (s : Region) (word at : ℕ) : Type 0 where

@@ -11,7 +11,7 @@ use Rattle.fm_segment.specs.Region.{Region}
 use Rattle.fm_records.specs.declared.found.Found.{Found}
 use Rattle.fm_records.specs.declared.found.Found.TheVariants.{Count, Sum, Least, Greatest, Listed}
 use Rattle.fm_records.specs.Joined.{CanJoin, joined}
-use Rattle.fm_records.specs.Reads.{DoesQuery}
+use Rattle.fm_records.specs.Query.{DoesQuery}
 use Rattle.fm_records.specs.Texts.{IsItemFound, IsAnswerOf}
 use Rattle.fm_records.specs.Values.{index_lists}
 

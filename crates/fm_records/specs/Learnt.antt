@@ -9,7 +9,7 @@ use Rattle.fm_segment.specs.Region.{Region}
 use Rattle.fm_records.specs.declared.found.Found.{Found}
 use Rattle.fm_records.specs.Alone.{FindsAnswer, FindsNone}
 use Rattle.fm_records.specs.Few.{AreFew}
-use Rattle.fm_records.specs.Reads.{DoesQuery, QueryCause}
+use Rattle.fm_records.specs.Query.{DoesQuery, QueryCause}
 use Rattle.fm_records.specs.Texts.{IsAnswerOf}
 
 -- in no arena; the memory knows the segment, and its first record is aligned

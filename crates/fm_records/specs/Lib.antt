@@ -1,3 +1,4 @@
+pub mod Adds
 pub mod Alone
 pub mod Answers
 pub mod Bytes
@@ -5,8 +6,11 @@ pub mod Few
 pub mod Joined
 pub mod Laws
 pub mod Learnt
+pub mod Query
 pub mod Reads
 pub mod Records
 pub mod Shares
+pub mod Stops
+pub mod Stored
 pub mod Texts
 pub mod Values

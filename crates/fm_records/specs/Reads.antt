@@ -1,24 +1,20 @@
 -- What the visits of a query read of a segment, record by record, and what that comes to.
-use Rattle.std.specs.Prelude.{◌≡◌, ℕ, ◌+◌, ◌*◌, ◌/◌, ◌%◌, ◌<◌, ◌≤◌, List, [], ◌∷◌, ◌++◌, map, Bool, true, false, ℤ, ◌+ℤ◌, Option, Some, None, Result, Ok, Err}
+use Rattle.std.specs.Prelude.{◌≡◌, ℕ, ◌+◌, ◌*◌, ◌<◌, ◌≤◌, List, [], ◌∷◌, ◌++◌, map, Bool, true, false, ℤ, Option, Some, None, Result, Ok, Err}
 use Rattle.std.proofs.Common.{zero, suc}
 use Rattle.std.specs.List.{AllByRecursion, flat_map}
 use Rattle.fm_base.specs.declared.caller.Caller.{Caller}
 use Rattle.fm_base.specs.declared.arena_id.ArenaId.{ArenaId}
 use Rattle.fm_base.specs.declared.refusal.Refusal.{Refusal}
-use Rattle.fm_base.specs.declared.refusal.Refusal.TheVariants.{Ragged, WrongThread, Closed, Memory}
+use Rattle.fm_base.specs.declared.refusal.Refusal.TheVariants.{Closed, Memory}
 use Rattle.fm_base.specs.Arenas.{MayUse}
 use Rattle.fm_base.specs.Calls.{Read, Found as Found_word, Entry}
 use Rattle.fm_base.specs.View.{View}
 use Rattle.fm_base.specs.Visits.{visit, refused_visit}
 use Rattle.fm_lanes.specs.declared.value.Value.{Value}
-use Rattle.fm_lanes.specs.Kind.{width_of}
 use Rattle.fm_lanes.specs.Value.{number_of_value}
-use Rattle.fm_path.specs.Resolution.{StaysInside}
 use Rattle.fm_path.specs.declared.value_spec.ValueSpec.{ValueSpec}
 use Rattle.fm_path_meaning.specs.declared.dim.Dim.{Dim}
-use Rattle.fm_path_meaning.specs.Steady.{IsSteady}
-use Rattle.fm_path_meaning.specs.Walk.{AreAdmitted, offset_at}
-use Rattle.fm_access.specs.Ranges.{ReadsRange}
+use Rattle.fm_path_meaning.specs.Walk.{offset_at}
 use Rattle.fm_access.specs.Values.{ReadsValue}
 use Rattle.fm_segment.specs.Access.{IsKnown}
 use Rattle.fm_segment.specs.Region.{EndsByLimit, Region}
@@ -28,9 +24,9 @@ use Rattle.fm_query.specs.declared.item.Asked.{Asked}
 use Rattle.fm_query.specs.declared.item.Asked.TheVariants as asked
 use Rattle.fm_query.specs.declared.item.Item.{Item}
 use Rattle.fm_records.specs.declared.found.Found.{Found}
-use Rattle.fm_records.specs.declared.found.Found.TheVariants.{Count, Sum, Least, Greatest, Listed}
-use Rattle.fm_records.specs.Answers.{compares, folded, found_over, lesser, greater}
-use Rattle.fm_records.specs.Joined.{both, joined}
+use Rattle.fm_records.specs.declared.found.Found.TheVariants.{Count}
+use Rattle.fm_records.specs.Answers.{compares, folded}
+use Rattle.fm_records.specs.Joined.{joined}
 use Rattle.fm_records.specs.Values.{index_lists}
 
 -- ---- visits that read
@@ -68,14 +64,14 @@ pub record StopsReading (c : Caller) (s : Region) (own : List Entry) : Type 0 wh
   pub reads : AreReads c s before
   pub stops : own ≡ before ++ refused_visit c s.arena
 
--- Why reading stops: the arena was found closed at a value that was asked for, as S says; or memory was wanting
-abbrev pub DoesStop : Caller → Region → (List Entry → Type 0) → Refusal → List Entry → Type 0
-DoesStop c s S Closed own = StopsReading c s own × S own
-DoesStop c s S Memory own = AreReads c s own
+-- Why reading stops, as S says of each cause: the arena was found closed at a value that was asked for; or a number couldn't be listed
+abbrev pub DoesStop : Caller → Region → (Refusal → List Entry → Type 0) → Refusal → List Entry → Type 0
+DoesStop c s S Closed own = StopsReading c s own × S Closed own
+DoesStop c s S Memory own = AreReads c s own × S Memory own
 DoesStop c s S r own = ⊥
 
 -- what reading does: such visits, which give x as P says; or it stops
-abbrev pub DoesRead : {X : Type 0} → Caller → Region → (X → List Entry → Type 0) → (List Entry → Type 0) → Result X Refusal → List Entry → Type 0
+abbrev pub DoesRead : {X : Type 0} → Caller → Region → (X → List Entry → Type 0) → (Refusal → List Entry → Type 0) → Result X Refusal → List Entry → Type 0
 DoesRead c s P S (Ok x) own = AreReads c s own × P x own
 DoesRead c s P S (Err r) own = DoesStop c s S r own
 
@@ -142,128 +138,3 @@ pub data ReadsRecords (c : Caller) (id : ArenaId) (p : Plan) : ℕ → ℕ → L
   one_record : {count place : ℕ} {so_far all : List Found} → (own rest : List Entry) (seen : Option (List Found))
       → ReadsRecord c id p place own seen → ReadsRecords c id p count (place + p.size) (with_record so_far seen) rest all
       → ReadsRecords c id p (suc count) place so_far (own ++ rest) all
-
--- ---- the same up to a value whose visits found the arena closed
-
-abbrev pub StopsNumber : Caller → ArenaId → ValueSpec → ℕ → List Entry → Type 0
-StopsNumber c id spec place own = ReadsRange c id place (place + width_of spec.kind) own None
-
-pub data StopsNumbers (c : Caller) (id : ArenaId) (spec : ValueSpec) : List ℕ → List Entry → Type 0 where
-  at_number : {place : ℕ} {places : List ℕ} → (own : List Entry) → StopsNumber c id spec place own → StopsNumbers c id spec (place ∷ places) own
-  next_number : {place : ℕ} {places : List ℕ} → (own rest : List Entry) (n : ℤ)
-      → ReadsNumber c id spec place own n → StopsNumbers c id spec places rest → StopsNumbers c id spec (place ∷ places) (own ++ rest)
-
-abbrev pub StopsTest : Caller → ArenaId → ℕ → Condition → List Entry → Type 0
-StopsTest c id place x own = StopsNumber c id x.path.value (place + x.path.offset) own
-
-pub data StopsTests (c : Caller) (id : ArenaId) (place : ℕ) : List Condition → List Entry → Type 0 where
-  at_test : {x : Condition} {xs : List Condition} → (own : List Entry) → StopsTest c id place x own → StopsTests c id place (x ∷ xs) own
-  next_test : {x : Condition} {xs : List Condition} → (own rest : List Entry)
-      → Tests c id place x own true → StopsTests c id place xs rest → StopsTests c id place (x ∷ xs) (own ++ rest)
-
-abbrev pub StopsItem : Caller → ArenaId → ℕ → Asked → List Entry → Type 0
-StopsItem c id place asked.Count own = ⊥
-StopsItem c id place (asked.Of f r) own = StopsNumbers c id r.value (value_places place r.offset r.dims) own
-
-pub data StopsItems (c : Caller) (id : ArenaId) (place : ℕ) : List Item → List Entry → Type 0 where
-  at_item : {item : Item} {items : List Item} → (own : List Entry) → StopsItem c id place item.asked own → StopsItems c id place (item ∷ items) own
-  next_item : {item : Item} {items : List Item} → (found : Found) (own rest : List Entry)
-      → FindsItem c id place item.asked own found → StopsItems c id place items rest → StopsItems c id place (item ∷ items) (own ++ rest)
-
-pub data StopsRecord (c : Caller) (id : ArenaId) (p : Plan) (place : ℕ) : List Entry → Type 0 where
-  at_condition : (own : List Entry) → StopsTests c id place p.conditions own → StopsRecord c id p place own
-  when_chosen : (own rest : List Entry) → TestsConditions c id place p.conditions own true
-      → StopsItems c id place p.items rest → StopsRecord c id p place (own ++ rest)
-
-pub data StopsRecords (c : Caller) (id : ArenaId) (p : Plan) : ℕ → ℕ → List Entry → Type 0 where
-  at_record : {count place : ℕ} → (own : List Entry) → StopsRecord c id p place own → StopsRecords c id p (suc count) place own
-  next_record : {count place : ℕ} → (own rest : List Entry) (seen : Option (List Found))
-      → ReadsRecord c id p place own seen → StopsRecords c id p count (place + p.size) rest → StopsRecords c id p (suc count) place (own ++ rest)
-
--- ---- the whole call
-
--- all records were read, and their finds joined
-pub record ReadsAll (c : Caller) (p : Plan) (s : Region) (a : List Found) (own : List Entry) : Type 0 where
-  pub even : s.size % p.size ≡ 0
-  pub may : MayUse s.arena c
-  pub records : ReadsRecords c s.arena p (s.size / p.size) s.first (found_over p []) own a
-  pub reads : AreReads c s own
-
--- what a query does, the refusals in the order of the checks
-abbrev pub DoesQuery : Caller → Plan → Region → Result (List Found) Refusal → List Entry → Type 0
-DoesQuery c p s (Ok a) own = ReadsAll c p s a own
-DoesQuery c p s (Err (Ragged rest)) own = (rest ≡ s.size % p.size) × (0 < rest) × (own ≡ [])
-DoesQuery c p s (Err WrongThread) own = (s.size % p.size ≡ 0) × ¬ (MayUse s.arena c) × (own ≡ [])
-DoesQuery c p s (Err Closed) own =
-    (s.size % p.size ≡ 0) × MayUse s.arena c × StopsReading c s own × StopsRecords c s.arena p (s.size / p.size) s.first own
-DoesQuery c p s (Err Memory) own = (s.size % p.size ≡ 0) × MayUse s.arena c × AreReads c s own
-DoesQuery c p s (Err r) own = ⊥
-
--- why there is no answer, the first cause that applies
-abbrev pub QueryCause : Plan → Region → Caller → Refusal → Type 0
-QueryCause p s c (Ragged rest) = (rest ≡ s.size % p.size) × (0 < rest)
-QueryCause p s c WrongThread = (s.size % p.size ≡ 0) × ¬ (MayUse s.arena c)
-QueryCause p s c Closed = (s.size % p.size ≡ 0) × MayUse s.arena c
-QueryCause p s c Memory = (s.size % p.size ≡ 0) × MayUse s.arena c
-QueryCause p s c e = ⊥
-
--- ---- what reading asks of paths
-
--- the condition's one value stands in the segment, where its record begins at the place
-pub record IsTestable (s : Region) (place : ℕ) (x : Condition) : Type 0 where
-  pub closed : x.path.dims ≡ []
-  pub stays : StaysInside x.path
-  pub lies : LiesIn s place x.path.root_size
-
--- one number more
-abbrev pub with_number : Found → ℤ → Found
-with_number (Count n) z = Count n
-with_number (Sum x) z = Sum (x +ℤ z)
-with_number (Least o) z = Least (lesser o (Some z))
-with_number (Greatest o) z = Greatest (greater o (Some z))
-with_number (Listed zs) z = Listed (zs ++ z ∷ [])
-
-abbrev pub with_numbers : Found → List ℤ → Found
-with_numbers found [] = found
-with_numbers found (n ∷ ns) = with_numbers (with_number found n) ns
-
--- the visits read the values at these places, and their numbers were added to what was found
-pub record AddsNumbers (c : Caller) (id : ArenaId) (spec : ValueSpec) (places : List ℕ) (old new : Found) (own : List Entry) : Type 0 where
-  pub numbers : List ℤ
-  pub reads : ReadsNumbers c id spec places own numbers
-  pub added : new ≡ with_numbers old numbers
-
--- at admitted indices the values stand in the segment
-pub record ReachesInside (s : Region) (place at : ℕ) (dims : List Dim) (spec : ValueSpec) : Type 0 where
-  pub steady : (is : List ℕ) → AreAdmitted dims is → IsSteady at dims is
-  pub lies : (is : List ℕ) → AreAdmitted dims is → LiesIn s (place + offset_at at dims is) (width_of spec.kind)
-
--- ---- one item, one record
-
--- an item's values stand in the segment
-abbrev pub IsReadable : Region → ℕ → Asked → Type 0
-IsReadable s place asked.Count = Unit {0}
-IsReadable s place (asked.Of f r) = ReachesInside s place r.offset r.dims r.value
-
-abbrev pub IsItemReadable : Region → ℕ → Item → Type 0
-IsItemReadable s place item = IsReadable s place item.asked
-
--- what an item finds in a record is added to what it found before
-pub record AddsItem (c : Caller) (id : ArenaId) (place : ℕ) (a : Asked) (old new : Found) (own : List Entry) : Type 0 where
-  pub found : Found
-  pub finds : FindsItem c id place a own found
-  pub added : new ≡ both old found
-
--- the same for all items
-pub record AddsItems (c : Caller) (id : ArenaId) (place : ℕ) (items : List Item) (old new : List Found) (own : List Entry) : Type 0 where
-  pub found : List Found
-  pub finds : FindsItems c id place items own found
-  pub added : new ≡ joined old found
-
--- ---- one record and those before
-
--- the visits read the record at a place, and what it gives is added to what was found before
-pub record AddsRecord (c : Caller) (id : ArenaId) (p : Plan) (place : ℕ) (old new : List Found) (own : List Entry) : Type 0 where
-  pub seen : Option (List Found)
-  pub reads : ReadsRecord c id p place own seen
-  pub added : new ≡ with_record old seen

@@ -17,7 +17,8 @@ use Rattle.fm_records.specs.Bytes.{HasRead, FindAs}
 use Rattle.fm_records.specs.Few.{AreFew}
 use Rattle.fm_records.specs.Joined.{CanJoin, joined}
 use Rattle.fm_records.specs.Laws.{IsAsked, value_in}
-use Rattle.fm_records.specs.Reads.{DoesQuery, IsWordOf}
+use Rattle.fm_records.specs.Query.{DoesQuery}
+use Rattle.fm_records.specs.Reads.{IsWordOf}
 
 -- all entries spare the region's bytes
 abbrev pub AreSpared : Region → List Entry → Type 0

@@ -4,7 +4,7 @@ ghost use Rattle.fm_records.specs.Answers.{found_in};
 ghost use Rattle.fm_records.specs.Joined.{CanJoinFound, both, lengthened, shortened, summed};
 ghost use Rattle.fm_records.specs.declared.found.Found.TheVariants.{Count};
 ghost use Rattle.fm_records.specs.Few.{HasRoom};
-ghost use Rattle.fm_records.specs.Reads.{with_number};
+ghost use Rattle.fm_records.specs.Adds.{with_number};
 
 use crate::numbers::Numbers;
 use fm_base::Refusal;
@@ -33,11 +33,11 @@ impl Found {
     {
         match asked {
             Asked::Count => Found::Count(0),
-            Asked::Of(fold, _) => match fold {
+            Asked::Of(fold, path) => match fold {
                 Fold::Sum => Found::Sum(0),
                 Fold::Least => Found::Least(None),
                 Fold::Greatest => Found::Greatest(None),
-                Fold::All => Found::Listed(Numbers::new(alloc)),
+                Fold::All => Found::Listed(Numbers::new(alloc, path.value().kind)),
             },
         }
     }

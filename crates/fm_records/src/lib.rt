@@ -13,6 +13,7 @@ mod query;
 mod query_tests;
 mod querying;
 mod record;
+mod stored;
 #[cfg(test)]
 mod tests;
 mod values;

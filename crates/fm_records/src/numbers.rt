@@ -1,63 +1,111 @@
-ghost use Rattle.std.specs.Prelude.{◌≡◌, ◌++◌, ◌∷◌, [], ◌-◌, length, take, OnOk, OnErr, IfErr};
+ghost use Rattle.std.specs.Prelude.{◌≡◌, ◌++◌, ◌∷◌, [], ◌<◌, ◌-◌, length, slice_index_or, take, pos, IfOk, OnOk, OnErr, IfErr};
 
+use crate::stored::Stored;
 use fm_base::Refusal;
+use fm_lanes::ValueKind;
 use std::alloc::Global;
 use std::marker::Model;
 
 /// Listed numbers, seen as their list.
+///
+/// They stand in the width of a kind, so that a list of bytes takes a byte a number; where a number is wider, all of them
+/// become longs.
 #[derive(Debug, Drop)]
 pub struct Numbers {
-    items: Vec<i64>,
+    alloc: Global,
+    stored: Stored,
 }
 
 impl Model for Numbers {
     ghost use Rattle.std.specs.Prelude.{List, ℤ};
+    ghost use Rattle.fm_records.specs.Stored.{numbers_of};
 
     ghost Value = { List ℤ };
 
-    ghost view = { λ numbers. numbers.items.items };
+    ghost view = { λ numbers. numbers_of numbers.stored };
 }
 
 impl Numbers {
-    /// No numbers. Takes no memory.
-    pub fn new(alloc: Global) -> Numbers
+    /// No numbers yet, of this kind. Takes no memory.
+    pub fn new(alloc: Global, kind: ValueKind) -> Numbers
         ensures { result ≡ [] }
     {
         Numbers {
-            items: Vec::new(alloc),
+            alloc,
+            stored: Stored::new(alloc, kind),
         }
     }
 
     /// These numbers.
-    pub fn of(items: Vec<i64>) -> Numbers
+    pub fn of(alloc: Global, items: Vec<i64>) -> Numbers
         ensures { result ≡ items.items }
     {
-        Numbers { items }
+        Numbers {
+            alloc,
+            stored: Stored::Longs(items),
+        }
     }
 
-    /// The numbers as a vector again.
-    pub fn into_vec(self) -> Vec<i64>
-        ensures { result.items ≡ self }
+    /// How many there are.
+    pub fn len(&self) -> usize
+        ensures { result ≡ length self.now }
     {
-        self.items
+        self.stored.len()
     }
 
-    pub fn as_slice(&self) -> &[i64]
-        ensures { result.now ≡ self.now }
+    /// The number of this index.
+    pub fn at(&self, k: usize) -> i64
+        requires { k < length self.now }
+        ensures { result ≡ slice_index_or self.now k (pos 0) }
     {
-        self.items.as_slice()
+        self.stored.at(k)
     }
 
     /// Adds a number at the end. Refused: `Memory`, which leaves them as they were.
+    #[inline(always)]
     pub(crate) fn push(&mut self, number: i64) -> Result<(), Refusal>
         ensures ok { OnOk result (self.new ≡ self.old ++ number ∷ []) }
         ensures same { OnErr result (self.new ≡ self.old) }
         ensures memory { IfErr result (λ refusal. refusal ≡ Refusal.Memory) }
     {
-        match self.items.push(number) {
-            Ok(()) => Ok(()),
+        match self.stored.put(number) {
+            Ok(true) => Ok(()),
+            Ok(false) => self.widen(number),
             Err(_) => Err(Refusal::Memory),
         }
+    }
+
+    /// Makes all of them longs, and adds one more.
+    fn widen(&mut self, number: i64) -> Result<(), Refusal>
+        ensures ok { OnOk result (self.new ≡ self.old ++ number ∷ []) }
+        ensures same { OnErr result (self.new ≡ self.old) }
+        ensures memory { IfErr result (λ refusal. refusal ≡ Refusal.Memory) }
+    {
+        let mut longs = match self.longs() {
+            Ok(longs) => longs,
+            Err(refusal) => return Err(refusal),
+        };
+        match longs.push(number) {
+            Ok(()) => {
+                self.stored = Stored::Longs(longs);
+                Ok(())
+            }
+            Err(_) => Err(Refusal::Memory),
+        }
+    }
+
+    /// The same numbers as longs. Refused: `Memory`.
+    fn longs(&self) -> Result<Vec<i64>, Refusal>
+        ensures ok { IfOk result (λ longs. longs.items ≡ self.now) }
+        ensures memory { IfErr result (λ refusal. refusal ≡ Refusal.Memory) }
+    {
+        let mut longs = Vec::new(self.alloc);
+        for k in 0..self.len() {
+            if longs.push(self.at(k)).is_err() {
+                return Err(Refusal::Memory);
+            }
+        }
+        Ok(longs)
     }
 
     /// Adds numbers at the end. Refused: `Memory`, which leaves them as they were.
@@ -66,17 +114,34 @@ impl Numbers {
         ensures same { OnErr result (self.new ≡ self.old) }
         ensures memory { IfErr result (λ refusal. refusal ≡ Refusal.Memory) }
     {
-        match self.items.extend_from_slice(more.items.as_slice()) {
-            Ok(()) => Ok(()),
+        match self.stored.extend(&more.stored) {
+            Ok(true) => Ok(()),
+            Ok(false) => self.append_each(more),
             Err(_) => Err(Refusal::Memory),
         }
+    }
+
+    /// The same one by one, for those of another width.
+    fn append_each(&mut self, more: &Numbers) -> Result<(), Refusal>
+        ensures ok { OnOk result (self.new ≡ self.old ++ more.now) }
+        ensures same { OnErr result (self.new ≡ self.old) }
+        ensures memory { IfErr result (λ refusal. refusal ≡ Refusal.Memory) }
+    {
+        let len = self.len();
+        for k in 0..more.len() {
+            if self.push(more.at(k)).is_err() {
+                self.stored.truncate(len);
+                return Err(Refusal::Memory);
+            }
+        }
+        Ok(())
     }
 
     /// Takes away as many numbers from the end as these are.
     pub(crate) fn shorten(&mut self, more: &Numbers)
         ensures { self.new ≡ take (length self.old - length more.now) self.old }
     {
-        let len = self.items.len().saturating_sub(more.items.len());
-        self.items.truncate(len);
+        let len = self.len().saturating_sub(more.len());
+        self.stored.truncate(len);
     }
 }

@@ -72,8 +72,8 @@ fn push_end(text: &mut String, end: Option<i64>) -> Result<(), AllocError>
 fn push_numbers(text: &mut String, numbers: &Numbers) -> Result<(), AllocError>
     ensures { OnOk result (string_bytes text.new ≡ string_bytes text.old ++ flat_map number_text numbers.now) }
 {
-    for n in numbers.as_slice() {
-        push_spaced(text, Buffer::new().format(*n))?;
+    for k in 0..numbers.len() {
+        push_spaced(text, Buffer::new().format(numbers.at(k)))?;
     }
     Ok(())
 }

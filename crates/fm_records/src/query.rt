@@ -2,7 +2,8 @@ ghost use Rattle.std.specs.Prelude.{◌*◌, ◌≤◌};
 ghost use Rattle.fm_base.specs.View.{Did};
 ghost use Rattle.fm_records.specs.Few.{AreFew};
 ghost use Rattle.fm_records.specs.Learnt.{CanQuery, Queried};
-ghost use Rattle.fm_records.specs.Reads.{CanRead, DoesRead, ReadsRecords, StopsRecords};
+ghost use Rattle.fm_records.specs.Reads.{CanRead, DoesRead, ReadsRecords};
+ghost use Rattle.fm_records.specs.Stops.{StopsRecords};
 
 use crate::answer::{Answer, of_no_records};
 use crate::found::Found;
@@ -47,7 +48,8 @@ pub fn query_segment<M: Memory>(
 
 /// Adds what the items find in the chosen ones of the segment's first `count` records.
 ///
-/// Refused: `Closed` at the first value that is read then, or `Memory` at the first number that can't be listed.
+/// Refused: `Closed` at the first value that is read then, or `Memory` at the first number that can't be listed. Then what
+/// the values before it come to is added.
 fn add_records<M: Memory>(
     m: &mut M,
     s: &Segment,
@@ -60,7 +62,7 @@ fn add_records<M: Memory>(
     requires few { AreFew 0 q.now found.old }
     ensures { Did (M.view m.old) (M.view m.new) (DoesRead (M.view m.old).caller s.now
         (λ _ own. ReadsRecords (M.view m.old).caller s.now.arena q.now count s.now.first found.old own found.new)
-        (StopsRecords (M.view m.old).caller s.now.arena q.now count s.now.first) result) }
+        (λ r own. StopsRecords (M.view m.old).caller s.now.arena q.now count s.now.first found.old r own found.new) result) }
 {
     let size = q.record_size();
     let mut place = s.first();

@@ -56,8 +56,18 @@ fn asked<R: Abort, M: Memory>(
     }
 }
 
-/// A segment of a fresh shared arena with two records: the bytes 01000000 0200 0000 fa00000000000000 01020304 00000000,
-/// and 02000000 0300 0000 d8ffffffffffffff 050000ff 00000000.
+/// The words of two orders, by their offset: 01000000 0200 0000 fa00000000000000 01020304 00000000, and
+/// 02000000 0300 0000 d8ffffffffffffff 050000ff 00000000.
+const WORDS: [(u64, i64); 6] = [
+    (0, 0x0000_0002_0000_0001),
+    (8, 0xfa),
+    (16, 0x0403_0201),
+    (24, 0x0000_0003_0000_0002),
+    (32, -40),
+    (40, 0xff00_0005),
+];
+
+/// A segment of a fresh shared arena with those two records.
 pub(crate) fn two_orders<R: Abort + Wait, M: Memory>(rt: &R, m: &mut M) -> Segment
     requires { (M.view m.old).inside ≡ None }
     ensures outside { (M.view m.new).inside ≡ None }
@@ -68,20 +78,39 @@ pub(crate) fn two_orders<R: Abort + Wait, M: Memory>(rt: &R, m: &mut M) -> Segme
     let first = m.allocate(rt, arena, 48, 8).expect(rt, "two records");
     let s = Segment::of(arena, first, 48);
     let word = Layout::value(ValueKind::Long);
-    assert_eq!(rt;
-        s.set(rt, m, &word, 0, Value::Long(0x0000_0002_0000_0001)),
-        Ok(())
-    );
-    assert_eq!(rt; s.set(rt, m, &word, 8, Value::Long(0xfa)), Ok(()));
-    assert_eq!(rt; s.set(rt, m, &word, 16, Value::Long(0x0403_0201)), Ok(()));
-    assert_eq!(rt;
-        s.set(rt, m, &word, 24, Value::Long(0x0000_0003_0000_0002)),
-        Ok(())
-    );
-    assert_eq!(rt; s.set(rt, m, &word, 32, Value::Long(-40)), Ok(()));
-    assert_eq!(rt; s.set(rt, m, &word, 40, Value::Long(0xff00_0005)), Ok(()));
+    for (at, n) in WORDS.iter() {
+        assert_eq!(rt; s.set(rt, m, &word, *at, Value::Long(*n)), Ok(()));
+    }
     s
 }
+
+/// Queries over those two orders, and what they answer.
+const ANSWERS: [(&str, &str); 18] = [
+    (
+        "count,sum(.price),list(.tags[]) where .kind>=2",
+        "count 2\nsum(.price) 210\nlist(.tags[]) 1 2 3 4 5 0 0 -1\n",
+    ),
+    (
+        "min(.price),max(.tags[])",
+        "min(.price) -40\nmax(.tags[]) 5\n",
+    ),
+    ("min(.price) where .kind=9", "min(.price) none\n"),
+    ("sum(.id) where .kind>2 and .price<0", "sum(.id) 2\n"),
+    ("list(.id) where .kind=2", "list(.id) 1\n"),
+    ("list(.id) where .kind=1", "list(.id)\n"),
+    ("list(.id) where .kind!=2", "list(.id) 2\n"),
+    ("list(.id) where .kind!=4", "list(.id) 1 2\n"),
+    ("list(.id) where .kind<2", "list(.id)\n"),
+    ("list(.id) where .kind<3", "list(.id) 1\n"),
+    ("list(.id) where .kind<=2", "list(.id) 1\n"),
+    ("list(.id) where .kind<=1", "list(.id)\n"),
+    ("list(.id) where .kind>2", "list(.id) 2\n"),
+    ("list(.id) where .kind>3", "list(.id)\n"),
+    ("list(.id) where .kind>=3", "list(.id) 2\n"),
+    ("list(.id) where .kind>=4", "list(.id)\n"),
+    ("list(.id) where .price>=-40", "list(.id) 1 2\n"),
+    ("list(.id) where .price>-40", "list(.id) 1\n"),
+];
 
 #[test]
 fn answers_over_two_records(rt: HostRuntime) -> Result<(), Fail> {
@@ -89,58 +118,9 @@ fn answers_over_two_records(rt: HostRuntime) -> Result<(), Fail> {
     let mut m = Mono::make(alloc, 1024);
     let s = two_orders(&rt, &mut m);
     let layout = order(alloc)?;
-    let both = asked(
-        alloc,
-        &rt,
-        &mut m,
-        &layout,
-        &s,
-        "count,sum(.price),list(.tags[]) where .kind>=2",
-    )?;
-    assert_eq!(rt;
-        both.as_str(),
-        "count 2\nsum(.price) 210\nlist(.tags[]) 1 2 3 4 5 0 0 -1\n"
-    );
-    let ends = asked(alloc, &rt, &mut m, &layout, &s, "min(.price),max(.tags[])")?;
-    assert_eq!(rt; ends.as_str(), "min(.price) -40\nmax(.tags[]) 5\n");
-    let none = asked(alloc, &rt, &mut m, &layout, &s, "min(.price) where .kind=9")?;
-    assert_eq!(rt; none.as_str(), "min(.price) none\n");
-    let second = asked(
-        alloc,
-        &rt,
-        &mut m,
-        &layout,
-        &s,
-        "sum(.id) where .kind>2 and .price<0",
-    )?;
-    assert_eq!(rt; second.as_str(), "sum(.id) 2\n");
-    Ok(())
-}
-
-#[test]
-fn compares_at_each_operators_edge(rt: HostRuntime) -> Result<(), Fail> {
-    let alloc = rt.alloc();
-    let mut m = Mono::make(alloc, 1024);
-    let s = two_orders(&rt, &mut m);
-    let layout = order(alloc)?;
-    for (text, answer) in [
-        ("list(.id) where .kind=2", "list(.id) 1\n"),
-        ("list(.id) where .kind=1", "list(.id)\n"),
-        ("list(.id) where .kind!=2", "list(.id) 2\n"),
-        ("list(.id) where .kind!=4", "list(.id) 1 2\n"),
-        ("list(.id) where .kind<2", "list(.id)\n"),
-        ("list(.id) where .kind<3", "list(.id) 1\n"),
-        ("list(.id) where .kind<=2", "list(.id) 1\n"),
-        ("list(.id) where .kind<=1", "list(.id)\n"),
-        ("list(.id) where .kind>2", "list(.id) 2\n"),
-        ("list(.id) where .kind>3", "list(.id)\n"),
-        ("list(.id) where .kind>=3", "list(.id) 2\n"),
-        ("list(.id) where .kind>=4", "list(.id)\n"),
-        ("list(.id) where .price>=-40", "list(.id) 1 2\n"),
-        ("list(.id) where .price>-40", "list(.id) 1\n"),
-    ] {
+    for (text, answer) in ANSWERS.iter() {
         let found = asked(alloc, &rt, &mut m, &layout, &s, text)?;
-        assert_eq!(rt; found.as_str(), answer);
+        assert_eq!(rt; found.as_str(), *answer);
     }
     Ok(())
 }

@@ -3,22 +3,47 @@ ghost use Rattle.std.specs.List.{AllByRecursion, AllZip};
 ghost use Rattle.fm_base.specs.View.{Did};
 ghost use Rattle.fm_records.specs.Answers as answers;
 ghost use Rattle.fm_records.specs.Few.{HasRoom, IsOpen, how_many};
-ghost use Rattle.fm_records.specs.Reads.{AddsItem, AddsItems, CanRead, DoesRead, IsItemReadable, IsReadable, IsTestable};
-ghost use Rattle.fm_records.specs.Reads.{StopsItem, StopsItems, StopsTest, StopsTests, Tests, TestsConditions};
+ghost use Rattle.fm_records.specs.Adds.{AddsItem, AddsItems, IsItemReadable, IsReadable, IsTestable};
+ghost use Rattle.fm_records.specs.Reads.{CanRead, DoesRead};
+ghost use Rattle.fm_records.specs.Adds.{StopsAddingItem, StopsAddingItems};
+ghost use Rattle.fm_records.specs.Reads.{Tests, TestsConditions};
+ghost use Rattle.fm_records.specs.Stops.{StopsTest, StopsTests};
 ghost use Rattle.fm_records.specs.Texts.{IsFoundOf};
 ghost use Rattle.fm_records.specs.Values.{index_lists};
 
 use crate::found::Found;
-use crate::values::{add_values, number_at};
+use crate::values::{add_all, number_at};
 use fm_base::{Memory, Refusal};
 use fm_path::Dim;
 use fm_query::{Asked, Condition, Item, Operator};
 use fm_segment::Segment;
 
+/// Whether all conditions hold for the record at a place, with no call where there are none.
+///
+/// Refused: `Closed` at the first value that is read then.
+#[inline(always)]
+pub(crate) fn chooses<M: Memory>(
+    m: &mut M,
+    s: &Segment,
+    place: u64,
+    conditions: &[Condition],
+) -> Result<bool, Refusal>
+    requires can { CanRead (M.view m.old) s.now }
+    requires testable { AllByRecursion (IsTestable s.now place) conditions.now }
+    ensures { Did (M.view m.old) (M.view m.new) (DoesRead (M.view m.old).caller s.now
+        (λ b own. TestsConditions (M.view m.old).caller s.now.arena place conditions.now own b)
+        (StopsTests (M.view m.old).caller s.now.arena place conditions.now) result) }
+{
+    match conditions {
+        [] => Ok(true),
+        _ => is_chosen(m, s, place, conditions),
+    }
+}
+
 /// Whether all conditions hold for the record at a place. Those behind the first that fails aren't tested.
 ///
 /// Refused: `Closed` at the first value that is read then.
-pub(crate) fn is_chosen<M: Memory>(
+fn is_chosen<M: Memory>(
     m: &mut M,
     s: &Segment,
     place: u64,
@@ -76,7 +101,8 @@ fn compares(operator: Operator, x: i64, y: i64) -> bool
 /// Adds what the items find in the record at a place: their values are read in the order of the items and of index
 /// lists. A value takes one visit of the arena a piece, and nothing is held between visits.
 ///
-/// Refused: `Closed` at the first value that is read then, or `Memory` at the first number that can't be listed.
+/// Refused: `Closed` at the first value that is read then, or `Memory` at the first number that can't be listed. Then what
+/// the values before it come to is added.
 pub(crate) fn add_items<M: Memory>(
     m: &mut M,
     s: &Segment,
@@ -89,7 +115,7 @@ pub(crate) fn add_items<M: Memory>(
     requires open { AllZip IsOpen items.now found.old }
     ensures { Did (M.view m.old) (M.view m.new) (DoesRead (M.view m.old).caller s.now
         (λ _ own. AddsItems (M.view m.old).caller s.now.arena place items.now found.old found.new own)
-        (StopsItems (M.view m.old).caller s.now.arena place items.now) result) }
+        (StopsAddingItems (M.view m.old).caller s.now.arena place items.now found.old found.new) result) }
 {
     let [item, items @ ..] = items else {
         return Ok(());
@@ -100,6 +126,9 @@ pub(crate) fn add_items<M: Memory>(
     match add_item(m, s, place, &item.asked, one) {
         Ok(()) => {}
         Err(refusal) => return Err(refusal),
+    }
+    if items.is_empty() {
+        return Ok(());
     }
     add_items(m, s, place, items, rest)
 }
@@ -118,7 +147,7 @@ fn add_item<M: Memory>(
     requires room { HasRoom found.old (how_many asked.now) }
     ensures { Did (M.view m.old) (M.view m.new) (DoesRead (M.view m.old).caller s.now
         (λ _ own. AddsItem (M.view m.old).caller s.now.arena place asked.now found.old found.new own)
-        (StopsItem (M.view m.old).caller s.now.arena place asked.now) result) }
+        (StopsAddingItem (M.view m.old).caller s.now.arena place asked.now found.old found.new) result) }
 {
     match asked {
         Asked::Count => {
@@ -130,7 +159,7 @@ fn add_item<M: Memory>(
             if has_no_values(dims) {
                 return Ok(());
             }
-            add_values(m, s, place, path.offset(), dims, *path.value(), found)
+            add_all(m, s, place, path.offset(), dims, *path.value(), found)
         }
     }
 }

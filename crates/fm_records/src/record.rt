@@ -1,16 +1,18 @@
 ghost use Rattle.fm_base.specs.View.{Did};
 ghost use Rattle.fm_records.specs.Few.{HaveRoom};
-ghost use Rattle.fm_records.specs.Reads.{AddsRecord, CanRead, DoesRead, LiesIn, StopsRecord};
+ghost use Rattle.fm_records.specs.Adds.{AddsRecord, StopsAddingRecord};
+ghost use Rattle.fm_records.specs.Reads.{CanRead, DoesRead, LiesIn};
 
 use crate::found::Found;
-use crate::querying::{add_items, is_chosen};
+use crate::querying::{add_items, chooses};
 use fm_base::{Memory, Refusal};
 use fm_query::Query;
 use fm_segment::Segment;
 
 /// Adds what the items find in the record at a place, where all conditions hold for it.
 ///
-/// Refused: `Closed` at the first value that is read then, or `Memory` at the first number that can't be listed.
+/// Refused: `Closed` at the first value that is read then, or `Memory` at the first number that can't be listed. Then what
+/// the values before it come to is added.
 pub(crate) fn add_record<M: Memory>(
     m: &mut M,
     s: &Segment,
@@ -23,9 +25,9 @@ pub(crate) fn add_record<M: Memory>(
     requires room { HaveRoom q.now found.old q.now.size }
     ensures { Did (M.view m.old) (M.view m.new) (DoesRead (M.view m.old).caller s.now
         (λ _ own. AddsRecord (M.view m.old).caller s.now.arena q.now place found.old found.new own)
-        (StopsRecord (M.view m.old).caller s.now.arena q.now place) result) }
+        (StopsAddingRecord (M.view m.old).caller s.now.arena q.now place found.old found.new) result) }
 {
-    match is_chosen(m, s, place, q.conditions()) {
+    match chooses(m, s, place, q.conditions()) {
         Ok(true) => add_items(m, s, place, q.items(), found),
         Ok(false) => Ok(()),
         Err(refusal) => Err(refusal),

@@ -27,7 +27,7 @@ fn line(alloc: Global, text: &str, fold: Fold, found: Found) -> Result<String, F
 }
 
 fn numbers(alloc: Global, items: &[i64]) -> Result<Found, Fail> {
-    Ok(Found::Listed(Numbers::of(Vec::from_slice(alloc, items)?)))
+    Ok(Found::Listed(Numbers::of(alloc, Vec::from_slice(alloc, items)?)))
 }
 
 #[test]
@@ -68,12 +68,12 @@ fn joins_what_both_found(rt: HostRuntime) -> Result<(), Fail> {
     let mut mine = Answer::of(vec![in alloc;
         Found::Count(2),
         Found::Sum(9_223_372_036_854_775_807),
-        Found::Listed(Numbers::of(vec![in alloc; 3, -1]?)),
+        Found::Listed(Numbers::of(alloc, vec![in alloc; 3, -1]?)),
     ]?);
     mine.join(Answer::of(vec![in alloc;
         Found::Count(3),
         Found::Sum(9_223_372_036_854_775_807),
-        Found::Listed(Numbers::of(vec![in alloc; 0]?)),
+        Found::Listed(Numbers::of(alloc, vec![in alloc; 0]?)),
     ]?))?;
     let items = vec![in alloc;
         item(alloc, "count", Fold::All)?,
@@ -88,21 +88,39 @@ fn joins_what_both_found(rt: HostRuntime) -> Result<(), Fail> {
     Ok(())
 }
 
+/// Ends of two runs, and the least and the greatest of both.
+const ENDS: [[Option<i64>; 4]; 5] = [
+    [None, None, None, None],
+    [None, Some(-3), Some(-3), Some(-3)],
+    [Some(0), None, Some(0), Some(0)],
+    [Some(5), Some(-7), Some(-7), Some(5)],
+    [
+        Some(i64::MIN),
+        Some(i64::MAX),
+        Some(i64::MIN),
+        Some(i64::MAX),
+    ],
+];
+
 #[test]
 fn joins_ends(rt: HostRuntime) {
-    for (a, b, least, greatest) in [
-        (None, None, None, None),
-        (None, Some(-3), Some(-3), Some(-3)),
-        (Some(0), None, Some(0), Some(0)),
-        (Some(5), Some(-7), Some(-7), Some(5)),
-        (
-            Some(i64::MIN),
-            Some(i64::MAX),
-            Some(i64::MIN),
-            Some(i64::MAX),
-        ),
-    ] {
-        assert_eq!(rt; lesser(a, b), least);
-        assert_eq!(rt; greater(a, b), greatest);
+    for [a, b, least, greatest] in ENDS.iter() {
+        assert_eq!(rt; lesser(*a, *b), *least);
+        assert_eq!(rt; greater(*a, *b), *greatest);
     }
+}
+
+#[test]
+fn widens_bytes_that_get_a_long(rt: HostRuntime) -> Result<(), Fail> {
+    let mut mine = Numbers::new(rt.alloc(), ValueKind::Byte);
+    for n in [-128, 127, 128, -1] {
+        mine.push(n)?;
+    }
+    let more = Numbers::of(rt.alloc(), vec![in rt.alloc(); i64::MIN]?);
+    mine.append(&more)?;
+    assert_eq!(rt; mine.len(), 5);
+    assert_eq!(rt; mine.at(0), -128);
+    assert_eq!(rt; mine.at(3), -1);
+    assert_eq!(rt; mine.at(4), i64::MIN);
+    Ok(())
 }

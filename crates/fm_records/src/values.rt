@@ -4,7 +4,9 @@ ghost use Rattle.fm_lanes.specs.Kind.{width_of};
 ghost use Rattle.fm_path_meaning.specs.Steady.{IsInside};
 ghost use Rattle.fm_path_meaning.specs.Walk.{reach};
 ghost use Rattle.fm_records.specs.Few.{HasRoom};
-ghost use Rattle.fm_records.specs.Reads.{AddsNumbers, CanRead, DoesRead, LiesIn, ReachesInside, ReadsNumber, StopsNumber, StopsNumbers, value_places};
+ghost use Rattle.fm_records.specs.Adds.{DoesAdd, ReachesInside};
+ghost use Rattle.fm_records.specs.Reads.{CanRead, DoesRead, LiesIn, ReadsNumber, value_places};
+ghost use Rattle.fm_records.specs.Stops.{StopsNumber};
 ghost use Rattle.fm_records.specs.Values.{index_lists};
 
 use crate::found::Found;
@@ -34,7 +36,7 @@ pub(crate) fn number_at<M: Memory>(
     }
 }
 
-/// Adds the number of the value at a place. Refused: `Closed`; `Memory` where it can't be listed.
+/// Adds the number of the value at a place. Refused: `Closed`; `Memory` where it can't be listed. Then nothing is added.
 #[inline(always)]
 fn add_value<M: Memory>(
     m: &mut M,
@@ -46,9 +48,8 @@ fn add_value<M: Memory>(
     requires can { CanRead (M.view m.old) s.now }
     requires lies { LiesIn s.now place (width_of value.kind) }
     requires room { HasRoom found.old 1 }
-    ensures { Did (M.view m.old) (M.view m.new) (DoesRead (M.view m.old).caller s.now
-        (λ _ own. AddsNumbers (M.view m.old).caller s.now.arena value (place ∷ []) found.old found.new own)
-        (StopsNumbers (M.view m.old).caller s.now.arena value (place ∷ [])) result) }
+    ensures { Did (M.view m.old) (M.view m.new)
+        (DoesAdd (M.view m.old).caller s.now value (place ∷ []) found.old found.new result) }
 {
     match number_at(m, s, place, value) {
         Ok(number) => found.add_number(number),
@@ -66,8 +67,9 @@ fn reach_of(at: u64, dim: Dim, index: u64) -> u64
 /// Adds the numbers of a path's values in the record at a place: one for each list of indices, the last index changing
 /// fastest. `at` is the offset that the indices before came to.
 ///
-/// Refused: `Closed` at the first value that is read then, or `Memory` at the first number that can't be listed.
-pub(crate) fn add_values<M: Memory>(
+/// Refused: `Closed` at the first value that is read then, or `Memory` at the first number that can't be listed. Then the
+/// numbers before it are added.
+fn add_values<M: Memory>(
     m: &mut M,
     s: &Segment,
     place: u64,
@@ -79,9 +81,8 @@ pub(crate) fn add_values<M: Memory>(
     requires can { CanRead (M.view m.old) s.now }
     requires inside { ReachesInside s.now place at dims.now value }
     requires room { HasRoom found.old (length (index_lists dims.now)) }
-    ensures { Did (M.view m.old) (M.view m.new) (DoesRead (M.view m.old).caller s.now
-        (λ _ own. AddsNumbers (M.view m.old).caller s.now.arena value (value_places place at dims.now) found.old found.new own)
-        (StopsNumbers (M.view m.old).caller s.now.arena value (value_places place at dims.now)) result) }
+    ensures { Did (M.view m.old) (M.view m.new)
+        (DoesAdd (M.view m.old).caller s.now value (value_places place at dims.now) found.old found.new result) }
 {
     match dims {
         [] => add_value(m, s, place + at, value, found),
@@ -98,6 +99,30 @@ pub(crate) fn add_values<M: Memory>(
     }
 }
 
+/// The same, with no call for a value or a row.
+#[inline(always)]
+pub(crate) fn add_all<M: Memory>(
+    m: &mut M,
+    s: &Segment,
+    place: u64,
+    at: u64,
+    dims: &[Dim],
+    value: ValueSpec,
+    found: &mut Found,
+) -> Result<(), Refusal>
+    requires can { CanRead (M.view m.old) s.now }
+    requires inside { ReachesInside s.now place at dims.now value }
+    requires room { HasRoom found.old (length (index_lists dims.now)) }
+    ensures { Did (M.view m.old) (M.view m.new)
+        (DoesAdd (M.view m.old).caller s.now value (value_places place at dims.now) found.old found.new result) }
+{
+    match dims {
+        [] => add_value(m, s, place + at, value, found),
+        [dim] => add_row(m, s, place, at, *dim, value, found),
+        _ => add_values(m, s, place, at, dims, value, found),
+    }
+}
+
 /// The same for one dim: the values side by side. Each kind has a loop of its own, so that the width is a constant there.
 fn add_row<M: Memory>(
     m: &mut M,
@@ -111,9 +136,8 @@ fn add_row<M: Memory>(
     requires can { CanRead (M.view m.old) s.now }
     requires inside { ReachesInside s.now place at (dim ∷ []) value }
     requires room { HasRoom found.old (length (index_lists (dim ∷ []))) }
-    ensures { Did (M.view m.old) (M.view m.new) (DoesRead (M.view m.old).caller s.now
-        (λ _ own. AddsNumbers (M.view m.old).caller s.now.arena value (value_places place at (dim ∷ [])) found.old found.new own)
-        (StopsNumbers (M.view m.old).caller s.now.arena value (value_places place at (dim ∷ []))) result) }
+    ensures { Did (M.view m.old) (M.view m.new)
+        (DoesAdd (M.view m.old).caller s.now value (value_places place at (dim ∷ [])) found.old found.new result) }
 {
     match value.kind {
         ValueKind::Byte => row_of(m, s, place, at, dim, as_kind(value, ValueKind::Byte), found),
@@ -168,9 +192,8 @@ fn row_of<M: Memory>(
     requires can { CanRead (M.view m.old) s.now }
     requires inside { ReachesInside s.now place at (dim ∷ []) value }
     requires room { HasRoom found.old (length (index_lists (dim ∷ []))) }
-    ensures { Did (M.view m.old) (M.view m.new) (DoesRead (M.view m.old).caller s.now
-        (λ _ own. AddsNumbers (M.view m.old).caller s.now.arena value (value_places place at (dim ∷ [])) found.old found.new own)
-        (StopsNumbers (M.view m.old).caller s.now.arena value (value_places place at (dim ∷ []))) result) }
+    ensures { Did (M.view m.old) (M.view m.new)
+        (DoesAdd (M.view m.old).caller s.now value (value_places place at (dim ∷ [])) found.old found.new result) }
 {
     for i in 0..dim.bound {
         let next = reach_of(at, dim, i);

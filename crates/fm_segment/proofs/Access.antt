@@ -48,7 +48,8 @@ get_at c id (tree.Value k1 o1 l) k o place result own i e d =
 get_at c id t k o place result own i e d = absurd i
 
 -- The value of a layout was put.
-pub set_at : (c : Caller) (id : ArenaId) (t : Tree) (k : ValueKind) (o : Order) (place : ℕ) (v : Value) (result : Result (Unit {0}) Refusal) (own : List Entry) → IsValue t → form_of t ≡ form.Value k o
+pub set_at : (c : Caller) (id : ArenaId) (t : Tree) (k : ValueKind) (o : Order) (place : ℕ) (v : Value) (result : Result (Unit {0}) Refusal)
+    (own : List Entry) → IsValue t → form_of t ≡ form.Value k o
     → DoesPut c id place (bytes_of_value o v) result own → DoesSetAt c id t (Ok place) v result own
 unfolding order_in
 set_at c id (tree.Value k1 o1 l) k o place v result own i e d =
@@ -63,17 +64,21 @@ is_value t k h = absurd h
 
 -- ---- at the place that was found
 
-pub got_at : (old new : View) (mine id : ArenaId) (t : Tree) (k : ValueKind) (o : Order) (found : Result ℕ Refusal) (place : ℕ) (result : Result Value Refusal) → mine ≡ id → IsValue t → form_of t ≡ form.Value k o → found ≡ Ok place
+pub got_at : (old new : View) (mine id : ArenaId) (t : Tree) (k : ValueKind) (o : Order) (found : Result ℕ Refusal) (place : ℕ)
+    (result : Result Value Refusal) → mine ≡ id → IsValue t → form_of t ≡ form.Value k o → found ≡ Ok place
     → Did old new (DoesGetValue old.caller k o mine place result) → Did old new (DoesGetAt old.caller id t found result)
 got_at old new mine id t k o found place result same i f e d =
     let P : ArenaId → Type 0 = λ a. Did old new (DoesGetValue old.caller k o a place result) in
-    rw e (said old new (DoesGetValue old.caller k o id place result) (DoesGetAt old.caller id t (Ok place) result) (λ own d. get_at old.caller id t k o place result own i f d) (subst P same d))
+    rw e (said old new (DoesGetValue old.caller k o id place result) (DoesGetAt old.caller id t (Ok place) result) (λ own d.
+    get_at old.caller id t k o place result own i f d) (subst P same d))
 
-pub put_at : (old new : View) (mine id : ArenaId) (t : Tree) (k : ValueKind) (o : Order) (found : Result ℕ Refusal) (place : ℕ) (v : Value) (result : Result (Unit {0}) Refusal) → mine ≡ id → IsValue t → form_of t ≡ form.Value k o → found ≡ Ok place
+pub put_at : (old new : View) (mine id : ArenaId) (t : Tree) (k : ValueKind) (o : Order) (found : Result ℕ Refusal) (place : ℕ) (v : Value)
+    (result : Result (Unit {0}) Refusal) → mine ≡ id → IsValue t → form_of t ≡ form.Value k o → found ≡ Ok place
     → Did old new (DoesPut old.caller mine place (bytes_of_value o v) result) → Did old new (DoesSetAt old.caller id t found v result)
 put_at old new mine id t k o found place v result same i f e d =
     let P : ArenaId → Type 0 = λ a. Did old new (DoesPut old.caller a place (bytes_of_value o v) result) in
-    rw e (said old new (DoesPut old.caller id place (bytes_of_value o v) result) (DoesSetAt old.caller id t (Ok place) v result) (λ own d. set_at old.caller id t k o place v result own i f d) (subst P same d))
+    rw e (said old new (DoesPut old.caller id place (bytes_of_value o v) result) (DoesSetAt old.caller id t (Ok place) v result) (λ own d.
+    set_at old.caller id t k o place v result own i f d) (subst P same d))
 
 -- ---- what stays known
 
@@ -125,11 +130,13 @@ writable_index_err i t r e h =
 
 pub index_ok : (i : ℕ) (t : Tree) (r : Region) (n : ℕ) → offset_of_index i t r ≡ Ok n → place_of n t r ≡ place_at_index i t r
 index_ok i t r n h =
-    sym (tested_ok (nat_le (alignment_of t) (size_of t)) (min (i * size_of t) (r.size + 1)) n (λ k. place_of k t r) Unsupported h) ∙ ap (if_tiling t) (capped (i * size_of t) t r)
+    sym (tested_ok (nat_le (alignment_of t) (size_of t)) (min (i * size_of t) (r.size + 1)) n (λ k. place_of k t r) Unsupported h)
+    ∙ ap (if_tiling t) (capped (i * size_of t) t r)
 
 pub writable_index_ok : (i : ℕ) (t : Tree) (r : Region) (n : ℕ) → offset_of_index i t r ≡ Ok n → writable_place_of n t r ≡ writable_place_at_index i t r
 writable_index_ok i t r n h =
-    sym (tested_ok (nat_le (alignment_of t) (size_of t)) (min (i * size_of t) (r.size + 1)) n (λ k. writable_place_of k t r) Unsupported h) ∙ ap (if_tiling t) (writable_capped (i * size_of t) t r)
+    sym (tested_ok (nat_le (alignment_of t) (size_of t)) (min (i * size_of t) (r.size + 1)) n (λ k. writable_place_of k t r) Unsupported h)
+    ∙ ap (if_tiling t) (writable_capped (i * size_of t) t r)
 
 pub got_there : (old new : View) (id : ArenaId) (t : Tree) (p q : Result ℕ Refusal) (result : Result Value Refusal) → p ≡ q
     → Did old new (DoesGetAt old.caller id t p result) → Did old new (DoesGetAt old.caller id t q result)

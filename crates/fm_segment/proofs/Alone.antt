@@ -1,7 +1,8 @@
 -- Where a value stands in a segment, and what its only caller sees there.
-use Rattle.std.proofs.Common.{◌≡◌, ℕ, ◌+◌, ◌-◌, ◌*◌, ◌%◌, ◌^◌, ◌<◌, ◌≤◌, true, nat_eq, nat_le, zero, suc, List, [], ◌∷◌, take, drop, Result, Ok, Err, refl, sym, ap, subst, ◌∙◌, arith}
+use Rattle.std.proofs.Common.{◌≡◌, ℕ, ◌+◌, ◌-◌, ◌*◌, ◌%◌, ◌^◌, ◌<◌, ◌≤◌, true, nat_eq, nat_le, List, take, drop, Result, Ok, Err, refl, sym, ap, subst, ◌∙◌, arith}
 use Rattle.std.proofs.lemmas.Bool.{le-leb}
 use Rattle.std.proofs.lemmas.List.{drop-drop, drop-take}
+use Rattle.fm_lists.proofs.Taken.{take-within}
 use Rattle.fm_base.specs.declared.refusal.Refusal.{Refusal}
 use Rattle.fm_base.specs.View.{View}
 use Rattle.fm_lanes.specs.declared.order.Order.{Order}
@@ -66,13 +67,6 @@ tiled_stands found offset t r s p h = s p (when_tiling t found p h).1
 
 -- ---- bytes of a part
 
--- A front of a longer front.
-pub take-within : {X : Type 0} (n m : ℕ) (xs : List X) → n ≤ m → take n (take m xs) ≡ take n xs
-take-within zero m xs h = refl
-take-within (suc n) zero xs h = absurd (omega arith)
-take-within (suc n) (suc m) [] h = refl
-take-within (suc n) (suc m) (x ∷ xs) h = ap (λ rest. x ∷ rest) (take-within n m xs (omega arith))
-
 -- Bytes of a part, by the whole's.
 pub take-part : (width at size place : ℕ) (all : List ℕ) → at + width ≤ size
     → take width (drop at (take size (drop place all))) ≡ take width (drop (place + at) all)
@@ -107,7 +101,8 @@ pub sets_then_gets : (r : Region) (t : Tree) (offset : ℕ) (v : Value) → HasK
     → encoded v < 2 ^ (8 * width_of (kind_of v)) → decoded (kind_of v) (encoded v) ≡ v → SetsThenGets r t offset v
 sets_then_gets r (tree.Value k o l) offset v kind small back old between new got fits put found =
     let all = bytes_of_arena between.state r.arena in
-    let read : take (width_of k) (drop offset (bytes_of_region between.state r)) ≡ take (width_of k) (drop (r.first + offset) (bytes_of_arena between.state r.arena)) =
+    let read : take (width_of k) (drop offset (bytes_of_region between.state r))
+    ≡ take (width_of k) (drop (r.first + offset) (bytes_of_arena between.state r.arena)) =
     take-part (width_of k) offset r.size r.first all fits in
     puts_then_gets k o r.arena (r.first + offset) v kind small back old between new got
     (record { bytes = put.bytes; within = put.within }) (record { value = found.value ∙ ap (value_of k o) read; same = found.same })

@@ -19,7 +19,8 @@ use Rattle.fm_segment.specs.Puts.{checked_put, MayPutAt, PutCause}
 use Rattle.fm_segment.specs.Region.{Region}
 
 -- A call that its checks refuse.
-pub refused_before : (v : View) (checked : Result (Unit {0}) Refusal) (Does : Result (Unit {0}) Refusal → List Entry → Type 0) (Cause : Refusal → Type 0) (Alone Shut : Type 0) (Known : View → Type 0) (e : Refusal)
+pub refused_before : (v : View) (checked : Result (Unit {0}) Refusal) (Does : Result (Unit {0}) Refusal → List Entry → Type 0) (Cause : Refusal
+    → Type 0) (Alone Shut : Type 0) (Known : View → Type 0) (e : Refusal)
     → v.inside ≡ None → checked ≡ Err e → Cause e → Known v → After v v (DoesAfter checked Does) Cause (λ u. Alone) (StaysOutAfter v v checked Shut) Known
     (λ u. ⊤) (Err e)
 refused_before v checked Does Cause Alone Shut Known e out p cause known =
@@ -27,14 +28,17 @@ refused_before v checked Does Cause Alone Shut Known e out p cause known =
     subst Q (sym p) (after_none (DoesAfter (Err e) Does) Cause (λ u. Alone) (v.state ≡ v.state) Known (λ u. ⊤) e out (refl, refl) cause refl known)
 
 -- A call that passes its checks.
-pub passed : {old new : View} {Does : Result (Unit {0}) Refusal → List Entry → Type 0} {First : Refusal → Type 0} {Alone Shut : Type 0} {Knew : View → Type 0} {result : Result (Unit {0}) Refusal}
+pub passed : {old new : View} {Does : Result (Unit {0}) Refusal → List Entry → Type 0} {First : Refusal → Type 0} {Alone Shut : Type 0} {Knew : View
+    → Type 0} {result : Result (Unit {0}) Refusal}
     → (checked : Result (Unit {0}) Refusal) (Cause : Refusal → Type 0) (Known : View → Type 0) → checked ≡ Ok tt → After old new Does First
     (λ u. Alone) Shut Knew (λ u. ⊤) result
     → ((e : Refusal) → First e → Cause e) → Known new → After old new (DoesAfter checked Does) Cause (λ u. Alone) (StaysOutAfter old new checked Shut) Known
     (λ u. ⊤) result
 passed {old} {new} {Does} {First} {Alone} {Shut} {Knew} {result} checked Cause Known p a why known =
-    let Q : Result (Unit {0}) Refusal → Type 0 = λ x. After old new (DoesAfter x Does) Cause (λ u. Alone) (StaysOutAfter old new x Shut) Known (λ u. ⊤) result in
-    subst Q (sym p) (after_said (DoesAfter (Ok tt) Does) Cause (λ u. Alone) Shut Known (λ u. ⊤) result a (λ own d. d) (if_err First Cause result why) (λ h x. x) (λ h x. x) known (λ x. x))
+    let Q : Result (Unit {0}) Refusal
+    → Type 0 = λ x. After old new (DoesAfter x Does) Cause (λ u. Alone) (StaysOutAfter old new x Shut) Known (λ u. ⊤) result in
+    subst Q (sym p) (after_said (DoesAfter (Ok tt) Does) Cause (λ u. Alone) Shut Known (λ u. ⊤) result a (λ own d. d) (if_err First Cause result why) (λ h x.
+    x) (λ h x. x) known (λ x. x))
 
 -- ---- a write of so many bytes
 
@@ -97,7 +101,8 @@ fill_cause r c h e x = absurd x.1
 module _ (src : Region) (src_at : ℕ) (dst : Region) (dst_at n : ℕ) where
   fit : (nat_le (src_at + n) src.size && nat_le (dst_at + n) dst.size) ≡ true → FitBoth src src_at dst dst_at n
   fit h =
-      let both = and_both (nat_le (src_at + n) src.size) (nat_le (dst_at + n) dst.size) h in record { source = leb-true (src_at + n) src.size both.0; target = leb-true (dst_at + n) dst.size both.1 }
+      let both = and_both (nat_le (src_at + n) src.size) (nat_le (dst_at + n) dst.size) h in
+      record { source = leb-true (src_at + n) src.size both.0; target = leb-true (dst_at + n) dst.size both.1 }
 
   unfit : (nat_le (src_at + n) src.size && nat_le (dst_at + n) dst.size) ≡ false → ¬ (FitBoth src src_at dst dst_at n)
   unfit h = λ f.
@@ -140,7 +145,8 @@ module _ (r : Region) (offset n : ℕ) where
       let Cause = PutCause r offset n c in
       elim (tested (nat_lt 0 n && r.read_only) ReadOnly (if wide then Ok tt else Err Bounds) e h) [
         | inl first ↦ (let both = and_both (nat_lt 0 n) r.read_only first.0 in subst Cause first.1 (ltb-true 0 n both.0, both.1))
-        | inr more ↦ (let out = bounds_of wide e more.1 in let past = leb-false (offset + n) r.size out.0 in subst Cause out.1 (writable n r more.0, λ fit. absurd (omega arith)))
+        | inr more ↦ (let out = bounds_of wide e more.1 in let past = leb-false (offset + n) r.size out.0 in
+            subst Cause out.1 (writable n r more.0, λ fit. absurd (omega arith)))
       ]
 
   may_put : checked_put r offset n ≡ Ok tt → 0 < n → MayPutAt r offset n

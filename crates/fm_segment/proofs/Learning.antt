@@ -33,7 +33,8 @@ got_at_found old new r (tree.Value k o l) offset found Cause result known out va
     (λ p v e f. finds_there old new r k o l offset p v (stands p e) f) d
 got_at_found old new r t offset found Cause result known out value causes stands d = absurd value
 
-put_at_found : (old new : View) (r : Region) (t : Tree) (offset : ℕ) (found : Result ℕ Refusal) (Cause : Refusal → Type 0) (x : Value) (result : Result (Unit {0}) Refusal) → IsKnown old r → old.inside ≡ None → HasKind t (kind_of x)
+put_at_found : (old new : View) (r : Region) (t : Tree) (offset : ℕ) (found : Result ℕ Refusal) (Cause : Refusal
+    → Type 0) (x : Value) (result : Result (Unit {0}) Refusal) → IsKnown old r → old.inside ≡ None → HasKind t (kind_of x)
     → Causes found r.arena old.caller Cause → StandsIf found offset t r → Did old new
     (DoesSetAt old.caller r.arena t found x result) → AfterSetAt old new r t offset found Cause x result
 put_at_found old new r (tree.Value k o l) offset found Cause x result known out value causes stands d =
@@ -63,7 +64,8 @@ after_get_index {old} {new} {r} {t} index {result} can d =
     let offset = index * size_of t in
     let Cause = GetCause offset t r old.caller in
     got_at_found old new r t offset (place_at_index index t r) (IndexCause t Cause) result can.known can.outside can.value
-    (index_causes t (place_of offset t r) r.arena old.caller Cause (λ none. none) (get_causes offset t r old.caller)) (tiled_stands (place_of offset t r) offset t r (place_stands offset t r)) d
+    (index_causes t (place_of offset t r) r.arena old.caller Cause (λ none. none) (get_causes offset t r old.caller))
+    (tiled_stands (place_of offset t r) offset t r (place_stands offset t r)) d
 
 -- All that is learnt of `set_at_index`.
 pub after_set_index : {old new : View} {r : Region} {t : Tree} (index : ℕ) {x : Value} {result : Result (Unit {0}) Refusal} → CanSet old r t x
@@ -72,7 +74,8 @@ after_set_index {old} {new} {r} {t} index {x} {result} can d =
     let offset = index * size_of t in
     let Cause = SetCause offset t r old.caller in
     put_at_found old new r t offset (writable_place_at_index index t r) (IndexCause t Cause) x result can.known can.outside can.value
-    (index_causes t (writable_place_of offset t r) r.arena old.caller Cause (λ none. none.1) (set_causes offset t r old.caller)) (tiled_stands (writable_place_of offset t r) offset t r (writable_stands offset t r)) d
+    (index_causes t (writable_place_of offset t r) r.arena old.caller Cause (λ none. none.1) (set_causes offset t r old.caller))
+    (tiled_stands (writable_place_of offset t r) offset t r (writable_stands offset t r)) d
 
 -- All that is learnt of `mismatch`, from what is learnt of the two ranges: of a refusal
 pub after_no_mismatch : {old new : View} {a b : Region} (e : Refusal) → CanUseBoth old a b
@@ -92,7 +95,8 @@ after_mismatch {old} {new} {a} {b} found z can is l =
     (KnowsSegments a b) (λ z. ⊤) (Ok z) l
     (λ own d. (found, d, is)) (λ x. x)
     (λ h x. record {
-      first = is ∙ ap (mismatch_of a.size b.size) (x.first ∙ ap (λ n. first_difference (common_bytes old.state a b) (bytes_at old.state (side b.arena b.first) n)) same);
+      first = is ∙ ap (mismatch_of a.size b.size) (x.first
+          ∙ ap (λ n. first_difference (common_bytes old.state a b) (bytes_at old.state (side b.arena b.first) n)) same);
       same = x.same;
     })
     (λ h x. x)

@@ -17,12 +17,14 @@
 //! An alignment is that of a byte's place in its arena, and not of its offset in the segment.
 #![tactic(auto)]
 
+mod alignment;
 mod elements;
 mod laws;
 mod segment;
 #[cfg(test)]
 mod tests;
 
+pub use alignment::is_aligned;
 pub use elements::Elements;
 pub use laws::sets_then_gets;
 pub use segment::Segment;

@@ -4,7 +4,7 @@ mod access;
 mod ranges;
 mod story;
 
-use crate::Segment;
+use crate::{Segment, is_aligned};
 use fm_base::{ArenaId, Kind, Refusal};
 use fm_lanes::ValueKind;
 use fm_layout::Layout;
@@ -38,6 +38,13 @@ fn a_segment_has_its_parts(rt: HostRuntime) {
     assert_eq!(rt; segment.arena(), arena(3));
     assert_eq!(rt; (segment.first(), segment.size()), (8, 24));
     assert!(rt; !segment.is_read_only());
+}
+
+#[test]
+fn places_are_aligned(rt: HostRuntime) {
+    assert!(rt; is_aligned(24, 8));
+    assert!(rt; !is_aligned(20, 8));
+    assert!(rt; is_aligned(7, 1));
 }
 
 #[test]

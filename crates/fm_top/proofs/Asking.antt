@@ -61,7 +61,8 @@ abbrev pub AskNoQuery : List (List ℕ) → Type 0
 AskNoQuery words = (threads : ℕ) (layout query file : List ℕ) → IsQuery words threads layout query file → ⊥
 
 -- the words behind the first
-behind_is : (words behind : List (List ℕ)) (w : List ℕ) (threads : ℕ) (layout query file : List ℕ) → words ≡ w ∷ behind → (asks : IsQuery words threads layout query file)
+behind_is : (words behind : List (List ℕ)) (w : List ℕ) (threads : ℕ) (layout query file : List ℕ) → words ≡ w ∷ behind
+    → (asks : IsQuery words threads layout query file)
     → Say behind asks.text (three layout query file)
 behind_is words behind w threads layout query file is asks =
     let spelled = asks.spelled in

@@ -1,5 +1,5 @@
 -- What each status of an end comes of, command by command.
-use Rattle.std.proofs.Common.{◌≡◌, ◌≢◌, ℕ, ◌%◌, ◌<◌, List, length, Option, None, Some, Result, Ok, Err, Bool, true, false, refl, sym, ap, ◌∙◌, ◌⊎◌, inl, inr}
+use Rattle.std.proofs.Common.{◌≡◌, ◌≢◌, ℕ, ◌%◌, ◌<◌, ◌≤◌, List, length, Option, None, Some, Result, Ok, Err, Bool, true, false, refl, sym, ap, ◌∙◌, ◌⊎◌, inl, inr, arith}
 use Rattle.std.specs.Prelude.{nat_lt, ◌==◌, if◌then◌else◌, IsSomeAnd}
 use Rattle.std.proofs.lemmas.Bool.Decides.{Decides-ltb, Decides-eqb, not_from_Decides}
 use Rattle.fm_base.specs.declared.refusal.Refusal.{Refusal}
@@ -34,35 +34,53 @@ cut_ragged true even text rest is = absurd (cc)
 cut_ragged false true text rest is = absurd (cc)
 cut_ragged false false text rest is = refl
 
+cut_short : (long even : Bool) (text : List ℕ) (rest : ℕ) → (cut long even text rest).status ≡ Ragged → long ≡ false
+cut_short true even text rest is = absurd (cc)
+cut_short false even text rest is = refl
+
+-- what isn't over a limit is within it
+within : (limit n : ℕ) → nat_lt limit n ≡ false → n ≤ limit
+within limit n test = let over = not_from_Decides (nat_lt limit n) (Decides-ltb limit n) test in omega (arith, over)
+
 -- what is no status of a file that is cut
-cut_other : (long even : Bool) (text : List ℕ) (rest : ℕ) (s : Status) → (cut long even text rest).status ≡ s → (Answered ≡ s → ⊥) → (TooLong ≡ s → ⊥) → (Ragged ≡ s → ⊥) → ⊥
+cut_other : (long even : Bool) (text : List ℕ) (rest : ℕ) (s : Status) → (cut long even text rest).status ≡ s → (Answered ≡ s → ⊥) → (TooLong ≡ s → ⊥)
+    → (Ragged ≡ s → ⊥) → ⊥
 cut_other true even text rest s is a b c = b is
 cut_other false true text rest s is a b c = a is
 cut_other false false text rest s is a b c = c is
 
-records_other : (size : ℕ) (text bytes : List ℕ) (s : Status) → (of_records size text bytes).status ≡ s → (Answered ≡ s → ⊥) → (TooLong ≡ s → ⊥) → (Ragged ≡ s → ⊥) → ⊥
+records_other : (size : ℕ) (text bytes : List ℕ) (s : Status) → (of_records size text bytes).status ≡ s → (Answered ≡ s → ⊥) → (TooLong ≡ s → ⊥)
+    → (Ragged ≡ s → ⊥) → ⊥
 records_other size text bytes = cut_other (nat_lt record_file_limit (length bytes)) (length bytes % size == 0) text (length bytes % size)
 
 records_long : (size : ℕ) (text bytes : List ℕ) → (of_records size text bytes).status ≡ TooLong → record_file_limit < length bytes
 records_long size text bytes is =
-    (Decides-ltb record_file_limit (length bytes)).0 (cut_long (nat_lt record_file_limit (length bytes)) (length bytes % size == 0) text (length bytes % size) is)
+    (Decides-ltb record_file_limit (length bytes)).0
+    (cut_long (nat_lt record_file_limit (length bytes)) (length bytes % size == 0) text (length bytes % size) is)
 
-records_ragged : (size : ℕ) (text bytes : List ℕ) → (of_records size text bytes).status ≡ Ragged → length bytes % size ≢ 0
+records_ragged : (size : ℕ) (text bytes : List ℕ) → (of_records size text bytes).status ≡ Ragged
+    → (length bytes ≤ record_file_limit) × (length bytes % size ≢ 0)
 records_ragged size text bytes is =
-    not_from_Decides (length bytes % size == 0) (Decides-eqb (length bytes % size) 0)
-    (cut_ragged (nat_lt record_file_limit (length bytes)) (length bytes % size == 0) text (length bytes % size) is)
+    let long = nat_lt record_file_limit (length bytes) in
+    let even = length bytes % size == 0 in (
+      within record_file_limit (length bytes) (cut_short long even text (length bytes % size) is),
+      not_from_Decides even (Decides-eqb (length bytes % size) 0) (cut_ragged long even text (length bytes % size) is),
+    )
 
 -- ---- sums
 
-pub sum_missing : (size at : ℕ) (kind : ValueKind) (name : List ℕ) (found : Option (List ℕ)) → (sum_outcome size at kind name found).status ≡ Missing → found ≡ None
+pub sum_missing : (size at : ℕ) (kind : ValueKind) (name : List ℕ) (found : Option (List ℕ)) → (sum_outcome size at kind name found).status ≡ Missing
+    → found ≡ None
 sum_missing size at kind name None is = refl
 sum_missing size at kind name (Some bytes) is = absurd (records_other size (sum_text size at kind bytes) bytes Missing is (λ e. cc) (λ e. cc) (λ e. cc))
 
-pub sum_long : (size at : ℕ) (kind : ValueKind) (name : List ℕ) (found : Option (List ℕ)) → (sum_outcome size at kind name found).status ≡ TooLong → IsLong found record_file_limit
+pub sum_long : (size at : ℕ) (kind : ValueKind) (name : List ℕ) (found : Option (List ℕ)) → (sum_outcome size at kind name found).status ≡ TooLong
+    → IsLong found record_file_limit
 sum_long size at kind name None is = absurd (cc)
 sum_long size at kind name (Some bytes) is = records_long size (sum_text size at kind bytes) bytes is
 
-pub sum_ragged : (size at : ℕ) (kind : ValueKind) (name : List ℕ) (found : Option (List ℕ)) → (sum_outcome size at kind name found).status ≡ Ragged → IsUneven found size
+pub sum_ragged : (size at : ℕ) (kind : ValueKind) (name : List ℕ) (found : Option (List ℕ)) → (sum_outcome size at kind name found).status ≡ Ragged
+    → IsUneven found size
 sum_ragged size at kind name None is = absurd (cc)
 sum_ragged size at kind name (Some bytes) is = records_ragged size (sum_text size at kind bytes) bytes is
 
@@ -92,7 +110,12 @@ listed_refused true r is = absurd (cc)
 listed_refused false (Ok layout) is = absurd (cc)
 listed_refused false (Err refusal) is = (refusal, refl)
 
-listed_other : (long : Bool) (r : Result Tree Refusal) (s : Status) → (listed long r).status ≡ s → (Answered ≡ s → ⊥) → (TooLong ≡ s → ⊥) → (LayoutRefused ≡ s → ⊥) → ⊥
+listed_short : (long : Bool) (r : Result Tree Refusal) → (listed long r).status ≡ LayoutRefused → long ≡ false
+listed_short true r is = absurd (cc)
+listed_short false r is = refl
+
+listed_other : (long : Bool) (r : Result Tree Refusal) (s : Status) → (listed long r).status ≡ s → (Answered ≡ s → ⊥) → (TooLong ≡ s → ⊥)
+    → (LayoutRefused ≡ s → ⊥) → ⊥
 listed_other true r s is a b c = b is
 listed_other false (Ok layout) s is a b c = a is
 listed_other false (Err refusal) s is a b c = c is
@@ -106,9 +129,12 @@ layout_long name None is = absurd (cc)
 layout_long name (Some bytes) is =
     (Decides-ltb layout_file_limit (length bytes)).0 (listed_long (nat_lt layout_file_limit (length bytes)) (layout_of_json bytes) is)
 
-pub layout_refused : (name : List ℕ) (found : Option (List ℕ)) → (layout_outcome name found).status ≡ LayoutRefused → IsSomeAnd found (λ bytes. IsRefused (layout_of_json bytes))
+pub layout_refused : (name : List ℕ) (found : Option (List ℕ)) → (layout_outcome name found).status ≡ LayoutRefused
+    → IsSomeAnd found (λ bytes. (length bytes ≤ layout_file_limit) × IsRefused (layout_of_json bytes))
 layout_refused name None is = absurd (cc)
-layout_refused name (Some bytes) is = listed_refused (nat_lt layout_file_limit (length bytes)) (layout_of_json bytes) is
+layout_refused name (Some bytes) is =
+    let long = nat_lt layout_file_limit (length bytes) in
+    (within layout_file_limit (length bytes) (listed_short long (layout_of_json bytes) is), listed_refused long (layout_of_json bytes) is)
 
 -- what is no status of a layout
 pub layout_other : (name : List ℕ) (found : Option (List ℕ)) (s : Status) → (layout_outcome name found).status ≡ s
@@ -139,7 +165,8 @@ answer_other : (p : Plan) (name : List ℕ) (found : Option (List ℕ)) (s : Sta
 answer_other p name None s is m a b c = m is
 answer_other p name (Some bytes) s is m a b c = records_other p.size (answer_text p (answer p bytes)) bytes s is a b c
 
-text_missing : (text : List ℕ) (t : Tree) (file : List ℕ) (found : Option (List ℕ)) (k : Keeps) (o : Outcome) → TextEnds text t file found k o → o.status ≡ Missing
+text_missing : (text : List ℕ) (t : Tree) (file : List ℕ) (found : Option (List ℕ)) (k : Keeps) (o : Outcome) → TextEnds text t file found k o
+    → o.status ≡ Missing
     → (p : Plan) × IsParsed text t p × (found ≡ None)
 text_missing text t file found k o (text_refused e refused) is = absurd (cc)
 text_missing text t file found k o (answered_by p parsed) is = (p, parsed, answer_missing p file found is)
@@ -149,21 +176,25 @@ text_long : (text : List ℕ) (t : Tree) (file : List ℕ) (found : Option (List
 text_long text t file found k o (text_refused e refused) is = absurd (cc)
 text_long text t file found k o (answered_by p parsed) is = (p, parsed, answer_long p file found is)
 
-text_ragged : (text : List ℕ) (t : Tree) (file : List ℕ) (found : Option (List ℕ)) (k : Keeps) (o : Outcome) → TextEnds text t file found k o → o.status ≡ Ragged
+text_ragged : (text : List ℕ) (t : Tree) (file : List ℕ) (found : Option (List ℕ)) (k : Keeps) (o : Outcome) → TextEnds text t file found k o
+    → o.status ≡ Ragged
     → (p : Plan) × IsParsed text t p × IsUneven found p.size
 text_ragged text t file found k o (text_refused e refused) is = absurd (cc)
 text_ragged text t file found k o (answered_by p parsed) is = (p, parsed, answer_ragged p file found is)
 
-text_layout : (text : List ℕ) (t : Tree) (file : List ℕ) (found : Option (List ℕ)) (k : Keeps) (o : Outcome) → TextEnds text t file found k o → o.status ≡ LayoutRefused → ⊥
+text_layout : (text : List ℕ) (t : Tree) (file : List ℕ) (found : Option (List ℕ)) (k : Keeps) (o : Outcome) → TextEnds text t file found k o
+    → o.status ≡ LayoutRefused → ⊥
 text_layout text t file found k o (text_refused e refused) is = cc
 text_layout text t file found k o (answered_by p parsed) is = answer_other p file found LayoutRefused is (λ e. cc) (λ e. cc) (λ e. cc) (λ e. cc)
 
-text_query : (text : List ℕ) (t : Tree) (file : List ℕ) (found : Option (List ℕ)) (k : Keeps) (o : Outcome) → TextEnds text t file found k o → o.status ≡ QueryRefused
+text_query : (text : List ℕ) (t : Tree) (file : List ℕ) (found : Option (List ℕ)) (k : Keeps) (o : Outcome) → TextEnds text t file found k o
+    → o.status ≡ QueryRefused
     → (e : Refusal) × IsTextRefused text t e
 text_query text t file found k o (text_refused e refused) is = (e, refused)
 text_query text t file found k o (answered_by p parsed) is = absurd (answer_other p file found QueryRefused is (λ e. cc) (λ e. cc) (λ e. cc) (λ e. cc))
 
-bytes_missing : (bytes text file : List ℕ) (found : Option (List ℕ)) (k : Keeps) (o : Outcome) → LayoutEnds bytes (QueryText text file found) k o → o.status ≡ Missing
+bytes_missing : (bytes text file : List ℕ) (found : Option (List ℕ)) (k : Keeps) (o : Outcome) → LayoutEnds bytes (QueryText text file found) k o
+    → o.status ≡ Missing
     → OfAsked text (Some bytes) (λ p. found ≡ None)
 bytes_missing bytes text file found k o (over_limit long) is = absurd (cc)
 bytes_missing bytes text file found k o (no_layout e refused) is = absurd (cc)
@@ -171,7 +202,8 @@ bytes_missing bytes text file found k o (over_layout t has j x ends) is =
     let asks = text_missing text t file found j x ends is in
     (asks.0, (t, has, asks.1), asks.2)
 
-bytes_long : (bytes text file : List ℕ) (found : Option (List ℕ)) (k : Keeps) (o : Outcome) → LayoutEnds bytes (QueryText text file found) k o → o.status ≡ TooLong
+bytes_long : (bytes text file : List ℕ) (found : Option (List ℕ)) (k : Keeps) (o : Outcome) → LayoutEnds bytes (QueryText text file found) k o
+    → o.status ≡ TooLong
     → (layout_file_limit < length bytes) ⊎ OfAsked text (Some bytes) (λ p. IsLong found record_file_limit)
 bytes_long bytes text file found k o (over_limit long) is = inl long
 bytes_long bytes text file found k o (no_layout e refused) is = absurd (cc)
@@ -179,7 +211,8 @@ bytes_long bytes text file found k o (over_layout t has j x ends) is =
     let asks = text_long text t file found j x ends is in
     inr (asks.0, (t, has, asks.1), asks.2)
 
-bytes_ragged : (bytes text file : List ℕ) (found : Option (List ℕ)) (k : Keeps) (o : Outcome) → LayoutEnds bytes (QueryText text file found) k o → o.status ≡ Ragged
+bytes_ragged : (bytes text file : List ℕ) (found : Option (List ℕ)) (k : Keeps) (o : Outcome) → LayoutEnds bytes (QueryText text file found) k o
+    → o.status ≡ Ragged
     → OfAsked text (Some bytes) (λ p. IsUneven found p.size)
 bytes_ragged bytes text file found k o (over_limit long) is = absurd (cc)
 bytes_ragged bytes text file found k o (no_layout e refused) is = absurd (cc)
@@ -187,13 +220,15 @@ bytes_ragged bytes text file found k o (over_layout t has j x ends) is =
     let asks = text_ragged text t file found j x ends is in
     (asks.0, (t, has, asks.1), asks.2)
 
-bytes_layout : (bytes text file : List ℕ) (found : Option (List ℕ)) (k : Keeps) (o : Outcome) → LayoutEnds bytes (QueryText text file found) k o → o.status ≡ LayoutRefused
+bytes_layout : (bytes text file : List ℕ) (found : Option (List ℕ)) (k : Keeps) (o : Outcome) → LayoutEnds bytes (QueryText text file found) k o
+    → o.status ≡ LayoutRefused
     → (e : Refusal) × IsLayoutRefused bytes e
 bytes_layout bytes text file found k o (over_limit long) is = absurd (cc)
 bytes_layout bytes text file found k o (no_layout e refused) is = (e, refused)
 bytes_layout bytes text file found k o (over_layout t has j x ends) is = absurd (text_layout text t file found j x ends is)
 
-bytes_query : (bytes text file : List ℕ) (found : Option (List ℕ)) (k : Keeps) (o : Outcome) → LayoutEnds bytes (QueryText text file found) k o → o.status ≡ QueryRefused
+bytes_query : (bytes text file : List ℕ) (found : Option (List ℕ)) (k : Keeps) (o : Outcome) → LayoutEnds bytes (QueryText text file found) k o
+    → o.status ≡ QueryRefused
     → (t : Tree) × IsRecordLayout bytes t × (e : Refusal) × IsTextRefused text t e
 bytes_query bytes text file found k o (over_limit long) is = absurd (cc)
 bytes_query bytes text file found k o (no_layout e refused) is = absurd (cc)
@@ -201,7 +236,8 @@ bytes_query bytes text file found k o (over_layout t has j x ends) is =
     let refused = text_query text t file found j x ends is in
     (t, has, refused.0, refused.1)
 
-pub query_missing : (layout text file : List ℕ) (first last : Option (List ℕ)) (k : Keeps) (o : Outcome) → QueryEnds layout text file first last k o → o.status ≡ Missing
+pub query_missing : (layout text file : List ℕ) (first last : Option (List ℕ)) (k : Keeps) (o : Outcome) → QueryEnds layout text file first last k o
+    → o.status ≡ Missing
     → (first ≡ None) ⊎ OfAsked text first (λ p. last ≡ None)
 query_missing layout text file None last k o ends is = inl refl
 query_missing layout text file (Some bytes) last k o ends is = inr (bytes_missing bytes text file last k o ends is)
@@ -210,22 +246,26 @@ query_missing layout text file (Some bytes) last k o ends is = inr (bytes_missin
 no_first : (layout : List ℕ) (o : Outcome) (s : Status) → o ≡ missing layout → o.status ≡ s → Missing ≡ s
 no_first layout o s ends is = ap (λ (x : Outcome). x.status) (sym ends) ∙ is
 
-pub query_long : (layout text file : List ℕ) (first last : Option (List ℕ)) (k : Keeps) (o : Outcome) → QueryEnds layout text file first last k o → o.status ≡ TooLong
+pub query_long : (layout text file : List ℕ) (first last : Option (List ℕ)) (k : Keeps) (o : Outcome) → QueryEnds layout text file first last k o
+    → o.status ≡ TooLong
     → IsLong first layout_file_limit ⊎ OfAsked text first (λ p. IsLong last record_file_limit)
 query_long layout text file None last k o ends is = let same = no_first layout o TooLong ends.1 is in absurd (cc)
 query_long layout text file (Some bytes) last k o ends is = bytes_long bytes text file last k o ends is
 
-pub query_ragged : (layout text file : List ℕ) (first last : Option (List ℕ)) (k : Keeps) (o : Outcome) → QueryEnds layout text file first last k o → o.status ≡ Ragged
+pub query_ragged : (layout text file : List ℕ) (first last : Option (List ℕ)) (k : Keeps) (o : Outcome) → QueryEnds layout text file first last k o
+    → o.status ≡ Ragged
     → OfAsked text first (λ p. IsUneven last p.size)
 query_ragged layout text file None last k o ends is = let same = no_first layout o Ragged ends.1 is in absurd (cc)
 query_ragged layout text file (Some bytes) last k o ends is = bytes_ragged bytes text file last k o ends is
 
-pub query_layout : (layout text file : List ℕ) (first last : Option (List ℕ)) (k : Keeps) (o : Outcome) → QueryEnds layout text file first last k o → o.status ≡ LayoutRefused
+pub query_layout : (layout text file : List ℕ) (first last : Option (List ℕ)) (k : Keeps) (o : Outcome) → QueryEnds layout text file first last k o
+    → o.status ≡ LayoutRefused
     → IsSomeAnd first (λ bytes. (e : Refusal) × IsLayoutRefused bytes e)
 query_layout layout text file None last k o ends is = let same = no_first layout o LayoutRefused ends.1 is in absurd (cc)
 query_layout layout text file (Some bytes) last k o ends is = bytes_layout bytes text file last k o ends is
 
-pub query_query : (layout text file : List ℕ) (first last : Option (List ℕ)) (k : Keeps) (o : Outcome) → QueryEnds layout text file first last k o → o.status ≡ QueryRefused
+pub query_query : (layout text file : List ℕ) (first last : Option (List ℕ)) (k : Keeps) (o : Outcome) → QueryEnds layout text file first last k o
+    → o.status ≡ QueryRefused
     → IsSomeAnd first (λ bytes. (t : Tree) × IsRecordLayout bytes t × (e : Refusal) × IsTextRefused text t e)
 query_query layout text file None last k o ends is = let same = no_first layout o QueryRefused ends.1 is in absurd (cc)
 query_query layout text file (Some bytes) last k o ends is = bytes_query bytes text file last k o ends is

@@ -18,7 +18,8 @@ use Rattle.fm_top.proofs.Runs.{with_status}
 status_as : (o x : Outcome) (s : Status) → o ≡ x → o.status ≡ s → x.status ≡ s
 status_as o x s same is = ap (λ (y : Outcome). y.status) (sym same) ∙ is
 
-lacks_file : (request : Request) (contents : Contents) (k : Keeps) (o : Outcome) → IsOutcomeOver request contents k o → o.status ≡ Missing → LacksFile request contents
+lacks_file : (request : Request) (contents : Contents) (k : Keeps) (o : Outcome) → IsOutcomeOver request contents k o → o.status ≡ Missing
+    → LacksFile request contents
 lacks_file (Sum size at kind file) contents k o ends is =
     sum_missing size at kind file (file_of contents file) (status_as o (sum_outcome size at kind file (file_of contents file)) Missing ends.1 is)
 lacks_file (Layout file) contents k o ends is =
@@ -26,7 +27,8 @@ lacks_file (Layout file) contents k o ends is =
 lacks_file (Query threads layout query file) contents k o ends is =
     query_missing layout query file (file_of contents layout) (file_of contents file) k o ends is
 
-has_long_file : (request : Request) (contents : Contents) (k : Keeps) (o : Outcome) → IsOutcomeOver request contents k o → o.status ≡ TooLong → HasLongFile request contents
+has_long_file : (request : Request) (contents : Contents) (k : Keeps) (o : Outcome) → IsOutcomeOver request contents k o → o.status ≡ TooLong
+    → HasLongFile request contents
 has_long_file (Sum size at kind file) contents k o ends is =
     sum_long size at kind file (file_of contents file) (status_as o (sum_outcome size at kind file (file_of contents file)) TooLong ends.1 is)
 has_long_file (Layout file) contents k o ends is =
@@ -34,27 +36,34 @@ has_long_file (Layout file) contents k o ends is =
 has_long_file (Query threads layout query file) contents k o ends is =
     query_long layout query file (file_of contents layout) (file_of contents file) k o ends is
 
-has_ragged_file : (request : Request) (contents : Contents) (k : Keeps) (o : Outcome) → IsOutcomeOver request contents k o → o.status ≡ Ragged → HasRaggedFile request contents
+has_ragged_file : (request : Request) (contents : Contents) (k : Keeps) (o : Outcome) → IsOutcomeOver request contents k o → o.status ≡ Ragged
+    → HasRaggedFile request contents
 has_ragged_file (Sum size at kind file) contents k o ends is =
     sum_ragged size at kind file (file_of contents file) (status_as o (sum_outcome size at kind file (file_of contents file)) Ragged ends.1 is)
 has_ragged_file (Layout file) contents k o ends is =
-    layout_other file (file_of contents file) Ragged (status_as o (layout_outcome file (file_of contents file)) Ragged ends.1 is) (λ e. cc) (λ e. cc) (λ e. cc) (λ e. cc)
+    layout_other file (file_of contents file) Ragged (status_as o (layout_outcome file (file_of contents file)) Ragged ends.1 is) (λ e. cc) (λ e. cc) (λ e.
+    cc) (λ e. cc)
 has_ragged_file (Query threads layout query file) contents k o ends is =
     query_ragged layout query file (file_of contents layout) (file_of contents file) k o ends is
 
-has_refused_layout : (request : Request) (contents : Contents) (k : Keeps) (o : Outcome) → IsOutcomeOver request contents k o → o.status ≡ LayoutRefused → HasRefusedLayout request contents
+has_refused_layout : (request : Request) (contents : Contents) (k : Keeps) (o : Outcome) → IsOutcomeOver request contents k o → o.status ≡ LayoutRefused
+    → HasRefusedLayout request contents
 has_refused_layout (Sum size at kind file) contents k o ends is =
-    sum_other size at kind file (file_of contents file) LayoutRefused (status_as o (sum_outcome size at kind file (file_of contents file)) LayoutRefused ends.1 is) (λ e. cc) (λ e. cc) (λ e. cc) (λ e. cc)
+    sum_other size at kind file (file_of contents file) LayoutRefused
+    (status_as o (sum_outcome size at kind file (file_of contents file)) LayoutRefused ends.1 is) (λ e. cc) (λ e. cc) (λ e. cc) (λ e. cc)
 has_refused_layout (Layout file) contents k o ends is =
     layout_refused file (file_of contents file) (status_as o (layout_outcome file (file_of contents file)) LayoutRefused ends.1 is)
 has_refused_layout (Query threads layout query file) contents k o ends is =
     query_layout layout query file (file_of contents layout) (file_of contents file) k o ends is
 
-has_refused_query : (request : Request) (contents : Contents) (k : Keeps) (o : Outcome) → IsOutcomeOver request contents k o → o.status ≡ QueryRefused → HasRefusedQuery request contents
+has_refused_query : (request : Request) (contents : Contents) (k : Keeps) (o : Outcome) → IsOutcomeOver request contents k o → o.status ≡ QueryRefused
+    → HasRefusedQuery request contents
 has_refused_query (Sum size at kind file) contents k o ends is =
-    sum_other size at kind file (file_of contents file) QueryRefused (status_as o (sum_outcome size at kind file (file_of contents file)) QueryRefused ends.1 is) (λ e. cc) (λ e. cc) (λ e. cc) (λ e. cc)
+    sum_other size at kind file (file_of contents file) QueryRefused
+    (status_as o (sum_outcome size at kind file (file_of contents file)) QueryRefused ends.1 is) (λ e. cc) (λ e. cc) (λ e. cc) (λ e. cc)
 has_refused_query (Layout file) contents k o ends is =
-    layout_other file (file_of contents file) QueryRefused (status_as o (layout_outcome file (file_of contents file)) QueryRefused ends.1 is) (λ e. cc) (λ e. cc) (λ e. cc) (λ e. cc)
+    layout_other file (file_of contents file) QueryRefused (status_as o (layout_outcome file (file_of contents file)) QueryRefused ends.1 is) (λ e. cc) (λ e.
+    cc) (λ e. cc) (λ e. cc)
 has_refused_query (Query threads layout query file) contents k o ends is =
     query_query layout query file (file_of contents layout) (file_of contents file) k o ends is
 
@@ -66,7 +75,8 @@ of_told contents None P has = has
 of_told contents (Some name) P has = subst P (sym has.1) has.2
 
 -- so an outcome of the request is one over them
-pub over_told : (request : Request) (contents : Contents) (k : Keeps) (o : Outcome) → HasOutcome request (Some contents) k o → IsOutcomeOver request contents k o
+pub over_told : (request : Request) (contents : Contents) (k : Keeps) (o : Outcome) → HasOutcome request (Some contents) k o
+    → IsOutcomeOver request contents k o
 over_told request contents k o has =
     of_told contents (last_file request) (λ last. EndsBy request (file_under contents (first_file request)) last k o)
     (of_told contents (first_file request) (λ first. OfFile (Some contents) (last_file request) (λ last. EndsBy request first last k o)) has)
@@ -88,44 +98,54 @@ asks_for words told s Has no_usage each k o (faulty none) is = absurd (no_usage 
 asks_for words told s Has no_usage each k o (asked request j x asks has) is =
     (request, asks, told_too request told k o Has (λ contents ends. each request contents k o ends is) has)
 
-pub outcome_missing : (words : List (List ℕ)) (told : Option Contents) (k : Keeps) (o : Outcome) → IsOutcome words told k o → o.status ≡ Missing → AsksAbsent words told
+pub outcome_missing : (words : List (List ℕ)) (told : Option Contents) (k : Keeps) (o : Outcome) → IsOutcome words told k o → o.status ≡ Missing
+    → AsksAbsent words told
 outcome_missing words told = asks_for words told Missing LacksFile (λ e. cc) lacks_file
 
-pub outcome_too_long : (words : List (List ℕ)) (told : Option Contents) (k : Keeps) (o : Outcome) → IsOutcome words told k o → o.status ≡ TooLong → AsksLong words told
+pub outcome_too_long : (words : List (List ℕ)) (told : Option Contents) (k : Keeps) (o : Outcome) → IsOutcome words told k o → o.status ≡ TooLong
+    → AsksLong words told
 outcome_too_long words told = asks_for words told TooLong HasLongFile (λ e. cc) has_long_file
 
-pub outcome_ragged : (words : List (List ℕ)) (told : Option Contents) (k : Keeps) (o : Outcome) → IsOutcome words told k o → o.status ≡ Ragged → AsksRagged words told
+pub outcome_ragged : (words : List (List ℕ)) (told : Option Contents) (k : Keeps) (o : Outcome) → IsOutcome words told k o → o.status ≡ Ragged
+    → AsksRagged words told
 outcome_ragged words told = asks_for words told Ragged HasRaggedFile (λ e. cc) has_ragged_file
 
-pub outcome_refused : (words : List (List ℕ)) (told : Option Contents) (k : Keeps) (o : Outcome) → IsOutcome words told k o → o.status ≡ LayoutRefused → AsksRefused words told
+pub outcome_refused : (words : List (List ℕ)) (told : Option Contents) (k : Keeps) (o : Outcome) → IsOutcome words told k o → o.status ≡ LayoutRefused
+    → AsksRefused words told
 outcome_refused words told = asks_for words told LayoutRefused HasRefusedLayout (λ e. cc) has_refused_layout
 
-pub outcome_query_refused : (words : List (List ℕ)) (told : Option Contents) (k : Keeps) (o : Outcome) → IsOutcome words told k o → o.status ≡ QueryRefused → AsksRefusedQuery words told
+pub outcome_query_refused : (words : List (List ℕ)) (told : Option Contents) (k : Keeps) (o : Outcome) → IsOutcome words told k o → o.status ≡ QueryRefused
+    → AsksRefusedQuery words told
 outcome_query_refused words told = asks_for words told QueryRefused HasRefusedQuery (λ e. cc) has_refused_query
 
 -- ---- the run
 
-pub only_missing : (words : List (List ℕ)) (told : Option Contents) (t : Traces) (k : Keeps) (s : Status) → Runs words told t k s → s ≡ Missing → AsksAbsent words told
+pub only_missing : (words : List (List ℕ)) (told : Option Contents) (t : Traces) (k : Keeps) (s : Status) → Runs words told t k s → s ≡ Missing
+    → AsksAbsent words told
 only_missing words told t k s runs is =
     let has = with_status words told t k s Missing runs is (λ late. late) in
     outcome_missing words told has.keeps has.outcome has.is_outcome has.status_is
 
-pub only_too_long : (words : List (List ℕ)) (told : Option Contents) (t : Traces) (k : Keeps) (s : Status) → Runs words told t k s → s ≡ TooLong → AsksLong words told
+pub only_too_long : (words : List (List ℕ)) (told : Option Contents) (t : Traces) (k : Keeps) (s : Status) → Runs words told t k s → s ≡ TooLong
+    → AsksLong words told
 only_too_long words told t k s runs is =
     let has = with_status words told t k s TooLong runs is (λ late. late) in
     outcome_too_long words told has.keeps has.outcome has.is_outcome has.status_is
 
-pub only_ragged : (words : List (List ℕ)) (told : Option Contents) (t : Traces) (k : Keeps) (s : Status) → Runs words told t k s → s ≡ Ragged → AsksRagged words told
+pub only_ragged : (words : List (List ℕ)) (told : Option Contents) (t : Traces) (k : Keeps) (s : Status) → Runs words told t k s → s ≡ Ragged
+    → AsksRagged words told
 only_ragged words told t k s runs is =
     let has = with_status words told t k s Ragged runs is (λ late. late) in
     outcome_ragged words told has.keeps has.outcome has.is_outcome has.status_is
 
-pub only_refused : (words : List (List ℕ)) (told : Option Contents) (t : Traces) (k : Keeps) (s : Status) → Runs words told t k s → s ≡ LayoutRefused → AsksRefused words told
+pub only_refused : (words : List (List ℕ)) (told : Option Contents) (t : Traces) (k : Keeps) (s : Status) → Runs words told t k s → s ≡ LayoutRefused
+    → AsksRefused words told
 only_refused words told t k s runs is =
     let has = with_status words told t k s LayoutRefused runs is (λ late. late) in
     outcome_refused words told has.keeps has.outcome has.is_outcome has.status_is
 
-pub only_query_refused : (words : List (List ℕ)) (told : Option Contents) (t : Traces) (k : Keeps) (s : Status) → Runs words told t k s → s ≡ QueryRefused → AsksRefusedQuery words told
+pub only_query_refused : (words : List (List ℕ)) (told : Option Contents) (t : Traces) (k : Keeps) (s : Status) → Runs words told t k s → s ≡ QueryRefused
+    → AsksRefusedQuery words told
 only_query_refused words told t k s runs is =
     let has = with_status words told t k s QueryRefused runs is (λ late. late) in
     outcome_query_refused words told has.keeps has.outcome has.is_outcome has.status_is

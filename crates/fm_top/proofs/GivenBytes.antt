@@ -11,7 +11,7 @@ use Rattle.fm_access.specs.Alone.{bytes_of_arena}
 use Rattle.fm_segment.specs.Alone.{bytes_of_region}
 use Rattle.fm_segment.specs.Region.{Region}
 use Rattle.fm_top.specs.Loaded.{first_bytes}
-use Rattle.fm_segment.proofs.Alone.{take-within}
+use Rattle.fm_lists.proofs.Taken.{take-within}
 
 -- the bytes of a segment from the arena's start on
 pub bytes_from_start : (s : State) (r : Region) → r.first ≡ 0 → bytes_of_region s r ≡ first_bytes r.size (arena_of s r.arena).words

@@ -136,7 +136,8 @@ left_held limit m n a h inside did =
 
 -- a word was stored
 pub stored_held : (limit : ℕ) (m n : Arenas) (a : ArenaId) (word v : ℕ) → IsHeld limit m (Some a) a → n.inside ≡ m.inside
-    → Did (view_of m) (view_of n) (DoesAct m.inside only_caller (λ b. Write b word v) Fine) → HoldsThen limit n (Some a) a (given_at m a) (slice_set (words_at m a) word v)
+    → Did (view_of m) (view_of n) (DoesAct m.inside only_caller (λ b. Write b word v) Fine)
+    → HoldsThen limit n (Some a) a (given_at m a) (slice_set (words_at m a) word v)
 stored_held limit m n a word v h inside did =
     held_changed limit m n (Some a) (Some a) a (given_at m a) (slice_set (words_at m a) word v) (written word v) (λ x. refl) h
     (only_act (view_of m) (view_of n) a (λ b. Write b word v) Fine (inl refl) h.inside_is did).state did.makes.same_limit (inside ∙ h.inside_is) refl refl refl
@@ -147,7 +148,8 @@ pub opened_held : (limit : ℕ) (n : Arenas) (a : ArenaId) (kind : Kind) → n.i
     → Did (view_of (record { limit = limit; state = []; inside = None })) (view_of n) (λ own. DoesOpen only_caller kind (Ok a) (but_loans own))
     → IsHeld limit n None a × (given_at n a ≡ 0)
 opened_held limit n a kind inside did =
-    let only = did_only (view_of (record { limit = limit; state = []; inside = None })) (view_of n) did.own (entry_of only_caller (Open a) Fine ∷ []) (inl refl) did.makes did.does.2 in
+    let only = did_only (view_of (record { limit = limit; state = []; inside = None })) (view_of n) did.own (entry_of only_caller (Open a) Fine ∷ [])
+    (inl refl) did.makes did.does.2 in
     let none : State = [] in
     let is : arena_of n.state a ≡ opened limit a =
     ap (λ (s : State). arena_of s a) only.state ∙ arena_of-opened none (opened limit a) only.legal.0.0 in (
@@ -178,7 +180,8 @@ allocated_held limit m n a size place h inside did =
     ∙ ap (λ (s : State). changed s a (left only_caller)) (changed_twice m.state a (entered only_caller) (given_up_to (place + size)) (λ x. refl))
     ∙ changed_twice m.state a (λ x. given_up_to (place + size) (entered only_caller x)) (left only_caller) (λ x. refl) in (
       gave.rounded ∙ ap (λ (x : Arena). rounded_up x.given 8) there,
-      held_changed limit m n None None a (place + size) (words_at m a) f (λ x. refl) h state did.makes.same_limit inside refl refl refl refl (subst (λ k. place + size ≤ k) h.limit_is gave.within),
+      held_changed limit m n None None a (place + size) (words_at m a) f (λ x. refl) h state did.makes.same_limit inside refl refl refl refl
+          (subst (λ k. place + size ≤ k) h.limit_is gave.within),
     )
 
 -- no memory was left to give them
@@ -191,7 +194,8 @@ short_held limit m n a size h inside did =
 
 -- an allocation that fits is refused for want of memory alone
 pub only_memory : (limit : ℕ) (m n : Arenas) (a : ArenaId) (size : ℕ) (r : Refusal) → IsHeld limit m None a → rounded_up (given_at m a) 8 + size ≤ limit
-    → MayCome {X = ℕ} nature_of_mono (Err r) → Did (view_of m) (view_of n) (λ own. DoesAllocate only_caller a size 8 (Err r) (but_loans own)) → r ≡ refusal.Memory
+    → MayCome {X = ℕ} nature_of_mono (Err r) → Did (view_of m) (view_of n) (λ own. DoesAllocate only_caller a size 8 (Err r) (but_loans own))
+    → r ≡ refusal.Memory
 unfolding ones
 only_memory limit m n a size refusal.Memory h room comes did = refl
 only_memory limit m n a size refusal.BadAlignment h room comes did = absurd (did.does.0 refl)
@@ -202,9 +206,11 @@ only_memory limit m n a size refusal.Closed h room comes did =
     absurd (cc)
 only_memory limit m n a size (refusal.NoRoom given) h room comes did =
     let only = did_only (view_of m) (view_of n) did.own (visit only_caller a ((Allocate a size 8, NoRoom given) ∷ [])) (inl refl) did.makes did.does.2 in
-    let there : arena_of (changed m.state a (entered only_caller)) a ≡ entered only_caller (arena_of m.state a) = lookup_changed m.state a (entered only_caller) (λ x. refl) h.known in
+    let there : arena_of (changed m.state a (entered only_caller)) a ≡ entered only_caller (arena_of m.state a) =
+    lookup_changed m.state a (entered only_caller) (λ x. refl) h.known in
     let reply : NoRoom given ≡ allocate_reply limit (given_at m a) size 8 =
-    only.legal.2.1 ∙ (ap (λ k. allocate_reply k (arena_of (changed m.state a (entered only_caller)) a).given size 8) h.limit_is ∙ ap (λ (x : Arena). allocate_reply limit x.given size 8) there) in
+    only.legal.2.1 ∙ (ap (λ k. allocate_reply k (arena_of (changed m.state a (entered only_caller)) a).given size 8) h.limit_is
+    ∙ ap (λ (x : Arena). allocate_reply limit x.given size 8) there) in
     let fits : nat_le (rounded_up (given_at m a) 8 + size) limit ≡ true = le-leb (rounded_up (given_at m a) 8 + size) limit room in
     let gives : NoRoom given ≡ Given (rounded_up (given_at m a) 8) =
     reply ∙ ap (λ b. if b then Given (rounded_up (given_at m a) 8) else NoRoom (given_at m a)) fits in

@@ -8,9 +8,8 @@ pub mod GivenBytes
 pub mod Holding
 pub mod NamedKinds
 pub mod Numbers
-pub mod OnePlan
-pub mod OneRefusal
 pub mod Outcomes
 pub mod ReadFor
 pub mod Runs
 pub mod Sums
+pub mod Unloaded

@@ -19,7 +19,8 @@ read_spelled : {E : Type 0} (word : List ℕ) (r : Result ℕ E) (n : ℕ) → P
 read_spelled word r n parsed small spelled = parse-decimal 64 n word r small small spelled parsed
 
 -- a word that isn't read as a number spells none
-pub unread : {E : Type 0} (word : List ℕ) (r : Result ℕ E) (fault : E) → ParsesUnsigned 64 10 word r → r ≡ Err fault → (n : ℕ) → n < 2 ^ 64 → word ≡ decimal n → ⊥
+pub unread : {E : Type 0} (word : List ℕ) (r : Result ℕ E) (fault : E) → ParsesUnsigned 64 10 word r → r ≡ Err fault → (n : ℕ) → n < 2 ^ 64 → word ≡ decimal n
+    → ⊥
 unread {E} word r fault parsed failed n small spelled =
     let both : ◌≡◌ {A = Result ℕ E} (Err fault) (Ok n) = sym failed ∙ read_spelled word r n parsed small spelled in
     cc

@@ -31,12 +31,14 @@ some_found (Some held) name = (file_of held name, refl)
 long_list : (n : ℕ) → (bytes : List ℕ) × (n < length bytes)
 long_list n = (replicate (suc n) 0, omega (arith, length-replicate {A = ℕ} (suc n) 0))
 
-long_of : (limit : ℕ) (found : Option (List ℕ)) → IsSomeAnd found (λ bytes. limit < length bytes) → (bytes : List ℕ) × (found ≡ Some bytes) × (limit < length bytes)
+long_of : (limit : ℕ) (found : Option (List ℕ)) → IsSomeAnd found (λ bytes. limit < length bytes)
+    → (bytes : List ℕ) × (found ≡ Some bytes) × (limit < length bytes)
 long_of limit None long = absurd long
 long_of limit (Some bytes) long = (bytes, refl, long)
 
 -- a file over the limit is found
-pub long_found : (told : Option Contents) (name : List ℕ) (limit : ℕ) → IsOver told name limit → (bytes : List ℕ) × IsFound told name (Some bytes) × (limit < length bytes)
+pub long_found : (told : Option Contents) (name : List ℕ) (limit : ℕ) → IsOver told name limit
+    → (bytes : List ℕ) × IsFound told name (Some bytes) × (limit < length bytes)
 long_found None name limit long = let made = long_list limit in (made.0, tt, made.1)
 long_found (Some held) name limit long = long_of limit (file_of held name) long
 
@@ -65,7 +67,8 @@ outcome-over size at kind name told o over is =
 
 -- ---- layouts
 
-pub layout-whole : (name bytes : List ℕ) (told : Option Contents) (o : Outcome) → IsWhole told name bytes → o ≡ layout_of_file bytes → HasOutcome (Layout name) told Nothing o
+pub layout-whole : (name bytes : List ℕ) (told : Option Contents) (o : Outcome) → IsWhole told name bytes → o ≡ layout_of_file bytes
+    → HasOutcome (Layout name) told Nothing o
 layout-whole name bytes told o whole is = (Some bytes, whole, (refl, is))
 
 pub layout-absent : (name : List ℕ) (told : Option Contents) (o : Outcome) → IsAbsent told name → o ≡ missing name → HasOutcome (Layout name) told Nothing o
@@ -76,7 +79,8 @@ long_layout bytes long =
     let test : nat_lt layout_file_limit (length bytes) ≡ true = (Decides-ltb layout_file_limit (length bytes)).1 long in
     rw test refl
 
-pub layout-over : (name : List ℕ) (told : Option Contents) (o : Outcome) → IsOver told name layout_file_limit → o ≡ too_long → HasOutcome (Layout name) told Nothing o
+pub layout-over : (name : List ℕ) (told : Option Contents) (o : Outcome) → IsOver told name layout_file_limit → o ≡ too_long
+    → HasOutcome (Layout name) told Nothing o
 layout-over name told o over is =
     let long = long_found told name layout_file_limit over in
     (Some long.0, long.1, (refl, is ∙ sym (long_layout long.0 long.2)))
@@ -129,7 +133,8 @@ refused-text told text file t e o denied other is =
     some_end told file (λ found. TextEnds text t file found Nothing o)
     (λ found. subst (λ (x : Outcome). TextEnds text t file found Nothing x) (sym is) (text_refused e (record { no_query = denied; refused = other })))
 
-pub refused-layout : (told : Option Contents) (bytes text file : List ℕ) (e : Refusal) (o : Outcome) → IsLayoutRefused bytes e ⊎ (e ≡ Memory) → e ≢ Memory → o ≡ layout_refused e
+pub refused-layout : (told : Option Contents) (bytes text file : List ℕ) (e : Refusal) (o : Outcome) → IsLayoutRefused bytes e ⊎ (e ≡ Memory) → e ≢ Memory
+    → o ≡ layout_refused e
     → OfFound told file (λ found. LayoutEnds bytes (QueryText text file found) Nothing o)
 refused-layout told bytes text file e o (inr memory) other is = absurd (other memory)
 refused-layout told bytes text file e o (inl denied) other is =

@@ -45,10 +45,12 @@ pub not_read : (reads : Option (List Read)) (name : List ℕ) (limit : ℕ) (P :
 not_read reads name limit P = record { reads = []; noted = ReadsOn-none reads; follow = tt; needed = λ some. absurd (some refl) }
 
 -- a file was read, for a reason
-pub read_for : (old new : Option (List Read)) (name : List ℕ) (limit : ℕ) (Goes : Next → Type 0) (P : Type 0) → ReadsUpTo old new name limit Goes → P → ReadsIf old new name limit P
+pub read_for : (old new : Option (List Read)) (name : List ℕ) (limit : ℕ) (Goes : Next → Type 0) (P : Type 0) → ReadsUpTo old new name limit Goes → P
+    → ReadsIf old new name limit P
 read_for old new name limit Goes P reads reason = record { reads = reads.reads; noted = reads.noted; follow = reads.follow; needed = λ some. reason }
 
-pub read_since : (old new : Option (List Read)) (name : List ℕ) (limit : ℕ) (P Q : Type 0) → (P → Q) → ReadsIf old new name limit P → ReadsIf old new name limit Q
+pub read_since : (old new : Option (List Read)) (name : List ℕ) (limit : ℕ) (P Q : Type 0) → (P → Q) → ReadsIf old new name limit P
+    → ReadsIf old new name limit Q
 read_since old new name limit P Q so reads = record { reads = reads.reads; noted = reads.noted; follow = reads.follow; needed = λ some. so (reads.needed some) }
 
 -- one file was read
@@ -106,16 +108,19 @@ pub any_goes : (old new : Option (List Read)) (name : List ℕ) (end from : ℕ)
     → ReadsFile old new name piece_limit end from (λ next. Unit {0})
 any_goes old new name end from Goes reads = record { reads = reads.reads; noted = reads.noted; follow = reads.follow; goes = tt }
 
-pub chunk_goes : (old new : Option (List Read)) (name : List ℕ) (end from place : ℕ) → ReadsFile old new name piece_limit end from (λ next. GoesBy false place next)
+pub chunk_goes : (old new : Option (List Read)) (name : List ℕ) (end from place : ℕ)
+    → ReadsFile old new name piece_limit end from (λ next. GoesBy false place next)
     → ReadsFile old new name piece_limit end from (λ next. next ≡ At place)
 chunk_goes old new name end from place reads = record { reads = reads.reads; noted = reads.noted; follow = reads.follow; goes = reads.goes.1 refl }
 
-pub chunk_ends : (old new : Option (List Read)) (name : List ℕ) (end from place : ℕ) → ReadsFile old new name piece_limit end from (λ next. GoesBy true place next)
+pub chunk_ends : (old new : Option (List Read)) (name : List ℕ) (end from place : ℕ)
+    → ReadsFile old new name piece_limit end from (λ next. GoesBy true place next)
     → ReadsFile old new name piece_limit end from (λ next. next ≡ Ended)
 chunk_ends old new name end from place reads = record { reads = reads.reads; noted = reads.noted; follow = reads.follow; goes = reads.goes.0 refl }
 
 -- what was read of a file into a buffer with room for no more than a piece
-pub filled_reads : (old new : Option (List Read)) (name : List ℕ) (at from room end : ℕ) (Goes Says : Next → Type 0) → ReadsFile old new name room (at + room) at Goes
+pub filled_reads : (old new : Option (List Read)) (name : List ℕ) (at from room end : ℕ) (Goes Says : Next → Type 0)
+    → ReadsFile old new name room (at + room) at Goes
     → at ≡ from → room ≤ piece_limit → at + room ≤ end → ((next : Next) → Goes next → Says next) → ReadsFile old new name piece_limit end from Says
 filled_reads old new name at from room end Goes Says reads same small within says =
     subst (λ (k : ℕ). ReadsFile old new name piece_limit end k Says) same

@@ -2,7 +2,7 @@
 use Rattle.std.proofs.Common.{◌≡◌, ℕ, ◌%◌, List, length, Option, None, Some, Result, Ok, Err, IfErr, Bool, true, false, refl, sym, ap, subst, ◌∙◌, inl, inr}
 use Rattle.std.specs.Prelude.{nat_lt, ◌==◌, if◌then◌else◌}
 use Rattle.fm_base.specs.declared.refusal.Refusal.{Refusal}
-use Rattle.fm_io.specs.Count.{Rose}
+use Rattle.fm_io.specs.Count.{Rose, Raised}
 use Rattle.fm_io.specs.Files.{Contents}
 use Rattle.fm_lanes.specs.declared.value_kind.ValueKind.{ValueKind}
 use Rattle.fm_layout.specs.Tree.{Tree}
@@ -75,12 +75,14 @@ text_status : (text : List ℕ) (t : Tree) (file : List ℕ) (found : Option (Li
 text_status text t file found k o (text_refused e refused) = tt
 text_status text t file found k o (answered_by p parsed) = answer_status p file found
 
-bytes_status : (bytes text file : List ℕ) (found : Option (List ℕ)) (k : Keeps) (o : Outcome) → LayoutEnds bytes (QueryText text file found) k o → IsEarly o.status
+bytes_status : (bytes text file : List ℕ) (found : Option (List ℕ)) (k : Keeps) (o : Outcome) → LayoutEnds bytes (QueryText text file found) k o
+    → IsEarly o.status
 bytes_status bytes text file found k o (over_limit long) = tt
 bytes_status bytes text file found k o (no_layout e refused) = tt
 bytes_status bytes text file found k o (over_layout t is j x ends) = text_status text t file found j x ends
 
-query_status : (layout text file : List ℕ) (first last : Option (List ℕ)) (k : Keeps) (o : Outcome) → QueryEnds layout text file first last k o → IsEarly o.status
+query_status : (layout text file : List ℕ) (first last : Option (List ℕ)) (k : Keeps) (o : Outcome) → QueryEnds layout text file first last k o
+    → IsEarly o.status
 query_status layout text file None last k o is = subst (λ (x : Outcome). IsEarly x.status) (sym is.1) tt
 query_status layout text file (Some bytes) last k o ends = bytes_status bytes text file last k o ends
 
@@ -158,7 +160,8 @@ outcome_early words told k o (faulty none) late = late
 outcome_early words told k o (asked request j x asks has) late = early o.status (request_status request told k o has) late
 
 -- what comes of a failed read
-pub only_unread : (words : List (List ℕ)) (told : Option Contents) (t : Traces) (k : Keeps) (s : Status) → Runs words told t k s → s ≡ Unread → Rose t.reads_before t.reads_failed
+pub only_unread : (words : List (List ℕ)) (told : Option Contents) (t : Traces) (k : Keeps) (s : Status) → Runs words told t k s → s ≡ Unread
+    → Rose t.reads_before t.reads_failed
 only_unread words told t k s (whole x o is_outcome all) is = absurd (outcome_early words told x o is_outcome (subst IsLate (sym is) tt))
 only_unread words told t k s (unread asks rose same) is = rose
 only_unread words told t k s (unwritten x o is_outcome rose front) is = absurd (cc)
@@ -166,7 +169,8 @@ only_unread words told t k s (no_memory x o is_outcome front) is = absurd (cc)
 only_unread words told t k s (unknown x same) is = absurd (cc)
 
 -- what comes of a failed write
-pub only_unwritten : (words : List (List ℕ)) (told : Option Contents) (t : Traces) (k : Keeps) (s : Status) → Runs words told t k s → s ≡ Unwritten → Rose t.writes_before t.writes_failed
+pub only_unwritten : (words : List (List ℕ)) (told : Option Contents) (t : Traces) (k : Keeps) (s : Status) → Runs words told t k s → s ≡ Unwritten
+    → Raised t.writes_before t.writes_failed
 only_unwritten words told t k s (whole x o is_outcome all) is = absurd (outcome_early words told x o is_outcome (subst IsLate (sym is) tt))
 only_unwritten words told t k s (unread asks rose same) is = absurd (cc)
 only_unwritten words told t k s (unwritten x o is_outcome rose front) is = rose
@@ -181,7 +185,8 @@ pub record HasStatus (words : List (List ℕ)) (told : Option Contents) (s : Sta
   pub status_is : outcome.status ≡ s
 
 -- a status that comes of no fault is the outcome's
-pub outcome_status : (words : List (List ℕ)) (told : Option Contents) (t : Traces) (k : Keeps) (s : Status) → Runs words told t k s → (IsLate s → ⊥) → HasStatus words told s
+pub outcome_status : (words : List (List ℕ)) (told : Option Contents) (t : Traces) (k : Keeps) (s : Status) → Runs words told t k s → (IsLate s → ⊥)
+    → HasStatus words told s
 outcome_status words told t k s (whole x o is_outcome all) not_late = record { keeps = x; outcome = o; is_outcome = is_outcome; status_is = refl }
 outcome_status words told t k s (unread asks rose same) not_late = absurd (not_late tt)
 outcome_status words told t k s (unwritten x o is_outcome rose front) not_late = absurd (not_late tt)
@@ -189,7 +194,8 @@ outcome_status words told t k s (no_memory x o is_outcome front) not_late = absu
 outcome_status words told t k s (unknown x same) not_late = absurd (not_late tt)
 
 -- a status is one that comes of no fault
-pub with_status : (words : List (List ℕ)) (told : Option Contents) (t : Traces) (k : Keeps) (s r : Status) → Runs words told t k s → s ≡ r → (IsLate r → ⊥) → HasStatus words told r
+pub with_status : (words : List (List ℕ)) (told : Option Contents) (t : Traces) (k : Keeps) (s r : Status) → Runs words told t k s → s ≡ r → (IsLate r → ⊥)
+    → HasStatus words told r
 with_status words told t k s r runs is not_late =
     subst (λ (x : Status). HasStatus words told x) is (outcome_status words told t k s runs (λ late. not_late (subst IsLate is late)))
 

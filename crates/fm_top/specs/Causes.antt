@@ -1,5 +1,5 @@
 -- For which files a request ends so, where the files tell: each cause where none before it applies.
-use Rattle.std.specs.Prelude.{◌≡◌, ◌≢◌, ℕ, ◌%◌, ◌<◌, ◌⊎◌, List, length, None, Option, IsSomeAnd}
+use Rattle.std.specs.Prelude.{◌≡◌, ◌≢◌, ℕ, ◌%◌, ◌<◌, ◌≤◌, ◌⊎◌, List, length, None, Option, IsSomeAnd}
 use Rattle.fm_base.specs.declared.refusal.Refusal.{Refusal}
 use Rattle.fm_io.specs.Files.{Contents, file_of}
 use Rattle.fm_layout.specs.Tree.{Tree}
@@ -38,7 +38,8 @@ HasLongFile (Query threads layout query file) contents =
 -- the layout is refused
 abbrev pub HasRefusedLayout : Request → Contents → Type 0
 HasRefusedLayout (Sum size at kind file) contents = ⊥
-HasRefusedLayout (Layout file) contents = IsSomeAnd (file_of contents file) (λ bytes. IsRefused (layout_of_json bytes))
+HasRefusedLayout (Layout file) contents =
+    IsSomeAnd (file_of contents file) (λ bytes. (length bytes ≤ layout_file_limit) × IsRefused (layout_of_json bytes))
 HasRefusedLayout (Query threads layout query file) contents =
     IsSomeAnd (file_of contents layout) (λ bytes. (e : Refusal) × IsLayoutRefused bytes e)
 
@@ -49,9 +50,9 @@ HasRefusedQuery (Layout file) contents = ⊥
 HasRefusedQuery (Query threads layout query file) contents =
     IsSomeAnd (file_of contents layout) (λ bytes. (t : Tree) × IsRecordLayout bytes t × (e : Refusal) × IsTextRefused query t e)
 
--- what was found has a length that is no multiple of the size
+-- what was found is within the limit of record files, and its length is no multiple of the size
 abbrev pub IsUneven : Option (List ℕ) → ℕ → Type 0
-IsUneven found size = IsSomeAnd found (λ bytes. length bytes % size ≢ 0)
+IsUneven found size = IsSomeAnd found (λ bytes. (length bytes ≤ record_file_limit) × (length bytes % size ≢ 0))
 
 -- the record file is no whole number of records
 abbrev pub HasRaggedFile : Request → Contents → Type 0

@@ -11,5 +11,6 @@ pub mod Queries
 pub mod Reading
 pub mod Records
 pub mod Run
+pub mod Unloaded
 pub mod Whole
 pub mod Words

@@ -1,6 +1,6 @@
 -- What a run of the tool does: the outcome that its words and files have, and how it may end.
 use Rattle.std.specs.Prelude.{◌≡◌, ◌⊎◌, ℕ, List, Option, IfSome}
-use Rattle.fm_io.specs.Count.{Rose}
+use Rattle.fm_io.specs.Count.{Rose, Raised}
 use Rattle.fm_io.specs.Files.{Contents}
 use Rattle.fm_io.specs.Sink.{Appends, AppendsPrefix}
 use Rattle.fm_top.specs.Causes.{LacksFile, HasLongFile, HasRefusedLayout, HasRefusedQuery, HasRaggedFile}
@@ -73,7 +73,7 @@ traces_of reads_before reads_failed writes_before writes_failed before after = r
 -- with which status the writing of an outcome's text may end
 pub data Prints (o : Outcome) (writes_before writes_failed : ℕ) (before after : Option (List ℕ)) : Status → Type 0 where
   printed : Appends before after o.text → Prints o writes_before writes_failed before after o.status
-  failed : Rose writes_before writes_failed → AppendsPrefix before after o.text → Prints o writes_before writes_failed before after Unwritten
+  failed : Raised writes_before writes_failed → AppendsPrefix before after o.text → Prints o writes_before writes_failed before after Unwritten
   stopped : AppendsPrefix before after o.text → Prints o writes_before writes_failed before after NoMemory
 
 -- what a run of the words leaves and keeps, where the files tell this, and with which status it may end
@@ -83,7 +83,7 @@ pub data Runs (words : List (List ℕ)) (told : Option Contents) (t : Traces) : 
   -- a read failed, and nothing was written
   unread : AskSome words → Rose t.reads_before t.reads_failed → t.after ≡ t.before → Runs words told t Nothing Unread
   -- a write failed, and a prefix was written
-  unwritten : (k : Keeps) (o : Outcome) → IsOutcome words told k o → Rose t.writes_before t.writes_failed
+  unwritten : (k : Keeps) (o : Outcome) → IsOutcome words told k o → Raised t.writes_before t.writes_failed
       → AppendsPrefix t.before t.after o.text → Runs words told t k Unwritten
   -- memory ran out, and a prefix was written
   no_memory : (k : Keeps) (o : Outcome) → IsOutcome words told k o → AppendsPrefix t.before t.after o.text → Runs words told t k NoMemory

@@ -10,8 +10,9 @@ ghost use Rattle.fm_top.specs.Queries.{answer_outcome};
 
 use crate::ending::Ending;
 use crate::held::RECORD_FILE_LIMIT;
+use crate::load_fault::unloaded_ending;
 use crate::loaded::Loaded;
-use crate::loading::{LoadFault, load};
+use crate::loading::load;
 use crate::stop::Stop;
 use fm_io::Files;
 use fm_query::Query;
@@ -38,19 +39,16 @@ pub fn answer_ending<R: Wait, F: Files>(
     ensures misses_stay { F.misses files.old ≤ F.misses files.new }
 {
     match load(rt, alloc, files, file) {
-        Ok(mut loaded) => Ok(loaded_ending(alloc, &mut loaded, q)?),
-        Err(LoadFault::Missing) => Ok(Ending::missing(alloc, file)?),
-        Err(LoadFault::TooLong) => Ok(Ending::too_long(alloc)?),
-        Err(LoadFault::Failed) => Err(Stop::Failed),
-        Err(LoadFault::Memory) => Err(Stop::Memory),
+        Ok(loaded) => Ok(loaded_ending(alloc, loaded, q)?),
+        Err(fault) => unloaded_ending(alloc, file, fault),
     }
 }
 
 /// How the run ends for a record file that was loaded whole.
-fn loaded_ending(alloc: Global, loaded: &mut Loaded, q: &Query) -> Result<Ending, AllocError>
-    requires { length loaded.old ≤ RECORD_FILE_LIMIT }
+fn loaded_ending(alloc: Global, loaded: Loaded, q: &Query) -> Result<Ending, AllocError>
+    requires { length loaded ≤ RECORD_FILE_LIMIT }
     ensures { IfOk result (λ ending. shown ending
-        ≡ of_records q.now.size (answer_text q.now (answer q.now loaded.old)) loaded.old) }
+        ≡ of_records q.now.size (answer_text q.now (answer q.now loaded)) loaded) }
 {
     let rest = loaded.len() % q.record_size();
     if rest == 0 {
@@ -60,12 +58,13 @@ fn loaded_ending(alloc: Global, loaded: &mut Loaded, q: &Query) -> Result<Ending
     }
 }
 
-/// How the run ends for a whole number of records.
-fn whole_ending(alloc: Global, loaded: &mut Loaded, q: &Query) -> Result<Ending, AllocError>
-    requires { length loaded.old % q.now.size ≡ 0 }
-    ensures { IfOk result (λ ending. shown ending ≡ answered (answer_text q.now (answer q.now loaded.old))) }
+/// How the run ends for a whole number of records. They are given back before the text is made.
+fn whole_ending(alloc: Global, mut loaded: Loaded, q: &Query) -> Result<Ending, AllocError>
+    requires { length loaded % q.now.size ≡ 0 }
+    ensures { IfOk result (λ ending. shown ending ≡ answered (answer_text q.now (answer q.now loaded))) }
 {
     let found = loaded.answer(alloc, q)?;
+    drop(loaded);
     match print_answer(alloc, q, &found) {
         Ok(text) => Ok(Ending::answered(text)),
         // It is refused for want of memory alone.

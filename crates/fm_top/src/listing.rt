@@ -9,7 +9,7 @@ ghost use Rattle.fm_top.specs.Words.{Layout};
 ghost use Rattle.fm_top.specs.declared.status.Status.TheVariants.{Missing};
 
 use crate::ending::Ending;
-use crate::loading::LoadFault;
+use crate::load_fault::unloaded_ending;
 use crate::stop::Stop;
 use crate::whole_file::{LAYOUT_FILE_LIMIT, read_whole};
 use fm_base::Refusal;
@@ -31,10 +31,7 @@ pub fn listing_ending<F: Files>(alloc: Global, files: &mut F, file: &str) -> Res
 {
     match read_whole(alloc, files, file, LAYOUT_FILE_LIMIT) {
         Ok(bytes) => bytes_ending(alloc, &bytes),
-        Err(LoadFault::Missing) => Ok(Ending::missing(alloc, file)?),
-        Err(LoadFault::TooLong) => Ok(Ending::too_long(alloc)?),
-        Err(LoadFault::Failed) => Err(Stop::Failed),
-        Err(LoadFault::Memory) => Err(Stop::Memory),
+        Err(fault) => unloaded_ending(alloc, file, fault),
     }
 }
 

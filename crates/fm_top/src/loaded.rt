@@ -83,6 +83,7 @@ impl Loaded {
     }
 
     /// The value of this layout that stands at a place, which is aligned for it.
+    #[inline(always)]
     pub fn value(&mut self, layout: &Layout, place: u64) -> Value
         requires value { IsValue layout.now }
         requires aligned { place % alignment_of layout.now ≡ 0 }

@@ -7,6 +7,7 @@ ghost use Rattle.fm_top.specs.Whole.{IsWhole, IsOver, TakesChunk};
 
 use crate::buffers::{zero_bytes, zero_words};
 use crate::held::RECORD_FILE_LIMIT;
+use crate::load_fault::LoadFault;
 use crate::loaded::Loaded;
 use fm_io::{Files, ReadFault, fill};
 use std::alloc::Global;
@@ -14,19 +15,6 @@ use std::sync::Wait;
 
 /// The most bytes of one read.
 const CHUNK: usize = 65_536;
-
-/// Why a file wasn't loaded.
-#[derive(Clone, Copy, Debug, PartialEq, Eq)]
-pub enum LoadFault {
-    /// There is no file of that name.
-    Missing,
-    /// A read failed.
-    Failed,
-    /// The file has more bytes than the limit.
-    TooLong,
-    /// Memory ran out.
-    Memory,
-}
 
 /// Reads a whole record file into an arena.
 ///

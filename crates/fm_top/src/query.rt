@@ -15,7 +15,7 @@ ghost use Rattle.fm_top.specs.Words.{Query};
 
 use crate::answering::answer_ending;
 use crate::ending::Ending;
-use crate::loading::LoadFault;
+use crate::load_fault::unloaded_ending;
 use crate::query_words::QueryCommand;
 use crate::stop::Stop;
 use crate::whole_file::{LAYOUT_FILE_LIMIT, read_whole};
@@ -49,10 +49,7 @@ pub fn query_ending<R: Wait, F: Files>(
 {
     match read_whole(alloc, files, query.layout, LAYOUT_FILE_LIMIT) {
         Ok(bytes) => layout_ending(rt, alloc, files, query, &bytes),
-        Err(LoadFault::Missing) => Ok(Ending::missing(alloc, query.layout)?),
-        Err(LoadFault::TooLong) => Ok(Ending::too_long(alloc)?),
-        Err(LoadFault::Failed) => Err(Stop::Failed),
-        Err(LoadFault::Memory) => Err(Stop::Memory),
+        Err(fault) => unloaded_ending(alloc, query.layout, fault),
     }
 }
 

@@ -1,5 +1,5 @@
 ghost use Rattle.std.specs.Prelude.{◌≡◌, IfOk, IfErr, IsErrOf, Some, ◌≢◌, ◌≤◌, Err};
-ghost use Rattle.fm_io.specs.Count.{Rose};
+ghost use Rattle.fm_io.specs.Count.{Rose, Raised};
 ghost use Rattle.fm_top.specs.Asked.{request_of};
 ghost use Rattle.fm_top.specs.Ending.{MissesOnly, shown};
 ghost use Rattle.fm_io.specs.Files.{Contents};
@@ -60,7 +60,7 @@ where
     ensures query_refused { result ≡ code_of QueryRefused → AsksRefusedQuery (texts words.now) (F.holds files.old) }
     ensures ragged { result ≡ code_of Ragged → AsksRagged (texts words.now) (F.holds files.old) }
     ensures too_long { result ≡ code_of TooLong → AsksLong (texts words.now) (F.holds files.old) }
-    ensures unwritten { result ≡ code_of Unwritten → Rose (O.faults out.old) (O.faults out.new) }
+    ensures unwritten { result ≡ code_of Unwritten → Raised (O.faults out.old) (O.faults out.new) }
 
     // Words that are no command are told so, and read no file.
     ensures faulty { AreFaulty (texts words.now) → EndsWith Usage result }
@@ -73,7 +73,7 @@ where
     // Valid input is answered where files tell and no read or write failed.
     ensures complete { (request : Request) (contents : Contents) → Asks (texts words.now) request
         → F.holds files.old ≡ Some contents → IsValid request contents
-        → ¬ (Rose (F.faults files.old) (F.faults files.new)) → ¬ (Rose (O.faults out.old) (O.faults out.new))
+        → ¬ (Rose (F.faults files.old) (F.faults files.new)) → ¬ (Raised (O.faults out.old) (O.faults out.new))
         → Answers (texts words.now) (F.holds files.old) (kept_in kept.new) (O.written out.old) (O.written out.new) result }
 
     // The first file is read, and then the last one where that needs it, each in pieces, and no read follows on another answer than bytes.

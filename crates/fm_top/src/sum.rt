@@ -10,8 +10,9 @@ ghost use Rattle.fm_top.specs.declared.status.Status.TheVariants.{Missing};
 
 use crate::ending::Ending;
 use crate::held::RECORD_FILE_LIMIT;
+use crate::load_fault::unloaded_ending;
 use crate::loaded::Loaded;
-use crate::loading::{LoadFault, load};
+use crate::loading::load;
 use crate::stop::Stop;
 use crate::summing::sum_values;
 use crate::words::SumCommand;
@@ -39,10 +40,7 @@ pub fn sum_ending<R: Wait, F: Files>(
 {
     match load(rt, alloc, files, sum.file) {
         Ok(mut loaded) => Ok(loaded_ending(alloc, &mut loaded, sum)?),
-        Err(LoadFault::Missing) => Ok(Ending::missing(alloc, sum.file)?),
-        Err(LoadFault::TooLong) => Ok(Ending::too_long(alloc)?),
-        Err(LoadFault::Failed) => Err(Stop::Failed),
-        Err(LoadFault::Memory) => Err(Stop::Memory),
+        Err(fault) => unloaded_ending(alloc, sum.file, fault),
     }
 }
 

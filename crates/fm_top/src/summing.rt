@@ -15,6 +15,24 @@ pub fn sum_values(loaded: &mut Loaded, size: u64, at: u64, kind: ValueKind) -> i
     requires short { length loaded.old ≤ RECORD_FILE_LIMIT }
     ensures { result ≡ sum_of_values kind size at loaded.old }
 {
+    // Each kind has a loop of its own, which the compiler makes for that kind alone.
+    match kind {
+        ValueKind::Boolean => sum_as(loaded, size, at, ValueKind::Boolean),
+        ValueKind::Byte => sum_as(loaded, size, at, ValueKind::Byte),
+        ValueKind::Char => sum_as(loaded, size, at, ValueKind::Char),
+        ValueKind::Short => sum_as(loaded, size, at, ValueKind::Short),
+        ValueKind::Int => sum_as(loaded, size, at, ValueKind::Int),
+        ValueKind::Long => sum_as(loaded, size, at, ValueKind::Long),
+    }
+}
+
+/// The sum of values of a kind that the caller names.
+#[inline(always)]
+fn sum_as(loaded: &mut Loaded, size: u64, at: u64, kind: ValueKind) -> i128
+    requires value { HasValue size at kind }
+    requires short { length loaded.old ≤ RECORD_FILE_LIMIT }
+    ensures { result ≡ sum_of_values kind size at loaded.old }
+{
     let layout = Layout::value(kind);
     let mut sum = 0;
     for record in 0..loaded.len() / size {

@@ -5,6 +5,7 @@ mod queries;
 use crate::{Kept, run_tool};
 use fm_io::{Files, FreeGate, MemFiles, MemSink, Sink, SureFiles, SureSink};
 use std::alloc::{AllocError, AllocGlobal, Global};
+use std::process::Abort;
 use std::random::RandomSource;
 use std::sync::Wait;
 use std::test::Fail;
@@ -25,19 +26,69 @@ const ROW: &str = "sum 16 8 long F1";
 /// What this row prints.
 const SUM: &str = "sum 2\n";
 
-/// Runs the tool on the words of a line, which single blanks part.
-fn run_line<R, F, O>(rt: &R, line: &str, files: &mut F, out: &mut O) -> Result<u8, AllocError>
+/// Runs the tool on these words.
+fn run<R, F, O>(rt: &R, words: &[&str], files: &mut F, out: &mut O) -> Result<u8, AllocError>
 where
     R: Threads + Wait + RandomSource + AllocGlobal,
     F: Files,
     O: Sink,
 {
     let alloc = rt.alloc();
-    let mut words = Vec::new(alloc);
-    for word in line.split(' ') {
-        words.push(String::from_str(alloc, word)?)?;
+    let mut owned = Vec::new(alloc);
+    for word in words {
+        owned.push(String::from_str(alloc, word)?)?;
     }
-    Ok(run_tool(rt, alloc, &words, files, out, &FreeGate, &mut Kept::new()))
+    Ok(run_tool(rt, alloc, &owned, files, out, &FreeGate, &mut Kept::new()))
+}
+
+/// Compares how a run on these words ends, and all that it writes, with what is wanted.
+fn ends<R, F>(rt: &R, files: &mut F, words: &[&str], status: u8, text: &str) -> Result<(), Fail>
+where
+    R: Threads + Wait + RandomSource + AllocGlobal + Abort,
+    F: Files,
+{
+    let mut out = SureSink::new(rt.alloc());
+    let code = run(rt, words, files, &mut out)?;
+    assert_eq!(rt; code, status, "{words:?}");
+    assert_eq!(rt; out.written(), text.as_bytes(), "{words:?}");
+    Ok(())
+}
+
+/// The same for the words of a line, which single blanks part.
+fn line_ends<R, F>(rt: &R, files: &mut F, line: &str, status: u8, text: &str) -> Result<(), Fail>
+where
+    R: Threads + Wait + RandomSource + AllocGlobal + Abort,
+    F: Files,
+{
+    let words: Vec<&str> = line.split(' ').collect(rt.alloc())?;
+    ends(rt, files, &words, status, text)
+}
+
+/// The same where each byte is written by a call of its own, and each of these calls fails in turn.
+fn ends_at_each_write<R, F>(
+    rt: &R,
+    files: &mut F,
+    words: &[&str],
+    status: u8,
+    text: &str,
+) -> Result<(), Fail>
+where
+    R: Threads + Wait + RandomSource + AllocGlobal + Abort,
+    F: Files,
+{
+    for k in 0..=text.len() {
+        let failing = vec![in rt.alloc(); k as u64]?;
+        let mut out = MemSink::new(rt.alloc(), failing).with_piece(1);
+        let code = run(rt, words, files, &mut out)?;
+        let status = if k < text.len() { 8 } else { status };
+        assert_eq!(rt; code, status, "{words:?} at write {k}");
+        assert_eq!(rt;
+            out.written(),
+            &text.as_bytes()[..k],
+            "{words:?} at write {k}"
+        );
+    }
+    Ok(())
 }
 
 /// A file under its name.
@@ -59,11 +110,6 @@ fn small_files(alloc: Global) -> Result<Vec<(String, Vec<u8>)>, AllocError> {
 /// The small files, where the reads of these numbers fail and each gives at most so many bytes.
 fn files(alloc: Global, failing: &[u64], most: usize) -> Result<MemFiles, AllocError> {
     Ok(MemFiles::new(small_files(alloc)?, failing.to_vec(alloc)?).with_piece(most.max(1)))
-}
-
-/// A sink whose writes of these numbers fail, and each of which takes at most so many bytes.
-fn sink(alloc: Global, failing: &[u64], most: usize) -> Result<MemSink, AllocError> {
-    Ok(MemSink::new(alloc, failing.to_vec(alloc)?).with_piece(most.max(1)))
 }
 
 fn zeros(alloc: Global, count: usize) -> Result<Vec<u8>, AllocError> {
@@ -93,11 +139,7 @@ fn each_row_is_answered_in_pieces_of_every_size(rt: HostRuntime) -> Result<(), F
         ("sum 24 8 long F1", 6, "ragged 8\n"),
     ] {
         for most in [1, 7, usize::MAX] {
-            let mut files = files(rt.alloc(), &[], most)?;
-            let mut out = sink(rt.alloc(), &[], most)?;
-            let code = run_line(&rt, line, &mut files, &mut out)?;
-            assert_eq!(rt; code, status, "{line}");
-            assert_eq!(rt; out.written(), text.as_bytes(), "{line}");
+            line_ends(&rt, &mut files(rt.alloc(), &[], most)?, line, status, text)?;
         }
     }
     Ok(())
@@ -139,11 +181,7 @@ fn words_of_no_form_read_no_file(rt: HostRuntime) -> Result<(), Fail> {
         "sum 16 18446744073709551608 long F1",
         "sum 16 18446744073709551624 long F1",
     ] {
-        let mut files = files(rt.alloc(), &[0], 1)?;
-        let mut out = SureSink::new(rt.alloc());
-        let code = run_line(&rt, line, &mut files, &mut out)?;
-        assert_eq!(rt; code, 1, "{line}");
-        assert_eq!(rt; out.written(), b"usage\n".as_slice(), "{line}");
+        line_ends(&rt, &mut files(rt.alloc(), &[0], 1)?, line, 1, "usage\n")?;
     }
     Ok(())
 }
@@ -152,32 +190,23 @@ fn words_of_no_form_read_no_file(rt: HostRuntime) -> Result<(), Fail> {
 fn a_read_that_fails_prints_nothing(rt: HostRuntime) -> Result<(), Fail> {
     // Each byte is read by a call of its own, and then the end.
     for k in 0..=33_u64 {
-        let mut files = files(rt.alloc(), &[k], 1)?;
-        let mut out = SureSink::new(rt.alloc());
-        let code = run_line(&rt, ROW, &mut files, &mut out)?;
         let (status, text) = if k < 33 { (3, "") } else { (0, SUM) };
-        assert_eq!(rt; code, status, "at read {k}");
-        assert_eq!(rt; out.written(), text.as_bytes(), "at read {k}");
+        line_ends(&rt, &mut files(rt.alloc(), &[k], 1)?, ROW, status, text)?;
     }
     Ok(())
 }
 
 #[test]
 fn a_write_that_fails_leaves_a_prefix(rt: HostRuntime) -> Result<(), Fail> {
+    let mut files = files(rt.alloc(), &[], usize::MAX)?;
     for (line, status, text) in [
         (ROW, 0, SUM),
         ("sum", 1, "usage\n"),
         ("sum 16 8 long nofile", 2, "missing nofile\n"),
         ("sum 16 8 long Ragged", 6, "ragged 1\n"),
     ] {
-        for k in 0..=text.len() {
-            let mut files = files(rt.alloc(), &[], usize::MAX)?;
-            let mut out = sink(rt.alloc(), &[k as u64], 1)?;
-            let code = run_line(&rt, line, &mut files, &mut out)?;
-            let status = if k < text.len() { 8 } else { status };
-            assert_eq!(rt; code, status, "{line} at write {k}");
-            assert_eq!(rt; out.written(), &text.as_bytes()[..k], "{line} at write {k}");
-        }
+        let words: Vec<&str> = line.split(' ').collect(rt.alloc())?;
+        ends_at_each_write(&rt, &mut files, &words, status, text)?;
     }
     Ok(())
 }
@@ -193,10 +222,7 @@ fn a_file_may_be_as_long_as_the_limit(rt: HostRuntime) -> Result<(), Fail> {
         let alloc = rt.alloc();
         let file = named(alloc, "Z", zeros(alloc, LIMIT + over)?)?;
         let mut files = SureFiles::new(vec![in alloc; file]?);
-        let mut out = SureSink::new(alloc);
-        let code = run_line(&rt, line, &mut files, &mut out)?;
-        assert_eq!(rt; code, status, "{over} over");
-        assert_eq!(rt; out.written(), text.as_bytes(), "{over} over");
+        line_ends(&rt, &mut files, line, status, text)?;
     }
     Ok(())
 }

@@ -6,7 +6,7 @@ ghost use Rattle.fm_top.specs.Reading.{GoesBy, ReadsSome, ReadsUpTo, piece_limit
 ghost use Rattle.fm_top.specs.Whole.{IsWhole, IsOver, TakesBytes};
 
 use crate::buffers::zero_bytes;
-use crate::loading::LoadFault;
+use crate::load_fault::LoadFault;
 use fm_io::{Files, ReadFault, fill};
 use std::alloc::Global;
 

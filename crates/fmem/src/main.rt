@@ -1,7 +1,7 @@
 //! The program `fmem`: the tool over the host's files and its standard output.
 #![tactic(auto)]
 
-use fm_io::{FreeGate, HostFiles, HostSink};
+use fm_io::{FreeGate, HostFiles, HostSink, HostSystem};
 use fm_top::{Kept, Status, run_tool};
 use std::io::ErrorKind;
 use std::process::ExitCode;
@@ -12,7 +12,7 @@ fn main(rt: HostRuntime) -> ExitCode {
         Ok(words) => words,
         Err(_) => return ExitCode::from(Status::NoMemory.code()),
     };
-    let mut files = HostFiles::new(&rt);
+    let mut files = HostFiles::new(rt.alloc(), HostSystem::new(&rt));
     let mut out = HostSink::new(rt.stdout());
     let mut kept = Kept::new();
     let status = run_tool(

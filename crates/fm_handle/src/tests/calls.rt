@@ -1,7 +1,7 @@
 ghost use Rattle.std.specs.Prelude.{◌≡◌, IsTrue, None, length};
 ghost use Rattle.fm_lanes.specs.Value.{kind_of};
 ghost use Rattle.fm_mono.specs.Shown.{view_of};
-ghost use Rattle.fm_segment.specs.Access.{IsKnown};
+ghost use Rattle.fm_segment.specs.Learnt.{CanUse};
 
 use crate::VarHandle;
 use fm_base::{Kind, Memory, Refusal};
@@ -14,8 +14,7 @@ use std::sync::Wait;
 /// A segment of so many bytes of a fresh arena.
 pub(super) fn fresh<R: Abort + Wait>(rt: &R, m: &mut Mono, size: u64) -> Segment
     requires { m.old.inside ≡ None }
-    ensures outside { m.new.inside ≡ None }
-    ensures known { IsKnown (view_of m.new) result }
+    ensures { CanUse (view_of m.new) result }
 {
     let arena = m.open_arena(rt, Kind::Shared).expect(rt, "an arena");
     let first = m.allocate(rt, arena, size, 8).expect(rt, "bytes");
@@ -61,10 +60,8 @@ pub(super) fn sets<R: Abort + Wait>(
     v: Value,
     answer: Result<(), Refusal>,
 )
-    requires known { IsKnown (view_of m.old) s.now }
-    requires outside { m.old.inside ≡ None }
-    ensures known { IsKnown (view_of m.new) s.now }
-    ensures outside { m.new.inside ≡ None }
+    requires { CanUse (view_of m.old) s.now }
+    ensures { CanUse (view_of m.new) s.now }
 {
     takes(rt, h, indices);
     holds(rt, h, v);
@@ -81,10 +78,8 @@ pub(super) fn gets<R: Abort>(
     indices: &[u64],
     answer: Result<Value, Refusal>,
 )
-    requires known { IsKnown (view_of m.old) s.now }
-    requires outside { m.old.inside ≡ None }
-    ensures known { IsKnown (view_of m.new) s.now }
-    ensures outside { m.new.inside ≡ None }
+    requires { CanUse (view_of m.old) s.now }
+    ensures { CanUse (view_of m.new) s.now }
 {
     takes(rt, h, indices);
     assert_eq!(rt; h.get(m, s, base, indices), answer);
@@ -101,10 +96,8 @@ pub(super) fn adds<R: Abort + Wait>(
     delta: Value,
     answer: Result<Value, Refusal>,
 )
-    requires known { IsKnown (view_of m.old) s.now }
-    requires outside { m.old.inside ≡ None }
-    ensures known { IsKnown (view_of m.new) s.now }
-    ensures outside { m.new.inside ≡ None }
+    requires { CanUse (view_of m.old) s.now }
+    ensures { CanUse (view_of m.new) s.now }
 {
     takes(rt, h, indices);
     holds(rt, h, delta);
@@ -121,10 +114,8 @@ pub(super) fn exchanges<R: Abort + Wait>(
     v: Value,
     answer: Result<Value, Refusal>,
 )
-    requires known { IsKnown (view_of m.old) s.now }
-    requires outside { m.old.inside ≡ None }
-    ensures known { IsKnown (view_of m.new) s.now }
-    ensures outside { m.new.inside ≡ None }
+    requires { CanUse (view_of m.old) s.now }
+    ensures { CanUse (view_of m.new) s.now }
 {
     takes(rt, h, &[]);
     holds(rt, h, expected);
@@ -145,10 +136,8 @@ pub(super) fn wins<R: Abort + Wait>(
     v: Value,
     answer: Result<bool, Refusal>,
 )
-    requires known { IsKnown (view_of m.old) s.now }
-    requires outside { m.old.inside ≡ None }
-    ensures known { IsKnown (view_of m.new) s.now }
-    ensures outside { m.new.inside ≡ None }
+    requires { CanUse (view_of m.old) s.now }
+    ensures { CanUse (view_of m.new) s.now }
 {
     takes(rt, h, &[]);
     holds(rt, h, expected);
@@ -167,10 +156,8 @@ pub(super) fn sets_long<R: Abort>(
     v: i64,
     answer: Result<(), Refusal>,
 )
-    requires known { IsKnown (view_of m.old) s.now }
-    requires outside { m.old.inside ≡ None }
-    ensures known { IsKnown (view_of m.new) s.now }
-    ensures outside { m.new.inside ≡ None }
+    requires { CanUse (view_of m.old) s.now }
+    ensures { CanUse (view_of m.new) s.now }
 {
     takes(rt, h, indices);
     assert_eq!(rt; h.set_long(m, s, base, indices, v), answer);
@@ -186,10 +173,8 @@ pub(super) fn exchanges_long<R: Abort>(
     v: i64,
     found: i64,
 )
-    requires known { IsKnown (view_of m.old) s.now }
-    requires outside { m.old.inside ≡ None }
-    ensures known { IsKnown (view_of m.new) s.now }
-    ensures outside { m.new.inside ≡ None }
+    requires { CanUse (view_of m.old) s.now }
+    ensures { CanUse (view_of m.new) s.now }
 {
     takes(rt, h, &[]);
     assert_eq!(rt;
@@ -207,10 +192,8 @@ pub(super) fn adds_long<R: Abort>(
     delta: i64,
     answer: Result<i64, Refusal>,
 )
-    requires known { IsKnown (view_of m.old) s.now }
-    requires outside { m.old.inside ≡ None }
-    ensures known { IsKnown (view_of m.new) s.now }
-    ensures outside { m.new.inside ≡ None }
+    requires { CanUse (view_of m.old) s.now }
+    ensures { CanUse (view_of m.new) s.now }
 {
     takes(rt, h, &[]);
     assert_eq!(rt; h.get_and_add_long(m, s, 0, &[], delta), answer);

@@ -4,6 +4,7 @@ ghost use Rattle.fm_segment.specs.Access.{offset_of_index, place_of, writable_pl
 ghost use Rattle.fm_segment.specs.Learnt.{CanGet, CanSet, AfterGet, AfterSet, AfterGetIndex, AfterSetIndex};
 
 use super::Segment;
+use crate::alignment::is_aligned;
 use fm_access::{get_value, put_value};
 use fm_base::{Memory, Refusal};
 use fm_lanes::{Order, Value, ValueKind};
@@ -102,7 +103,7 @@ impl Segment {
         ensures { result ≡ place_of offset layout.now self.now }
     {
         let slice = self.as_slice(offset, layout.size())?;
-        if slice.first % layout.alignment() != 0 {
+        if !is_aligned(slice.first, layout.alignment()) {
             return Err(Refusal::Misaligned);
         }
         Ok(slice.first)

@@ -2,6 +2,7 @@ ghost use Rattle.std.specs.Prelude.{◌≡◌, ◌+◌, ◌≤◌, ◌↔◌, Is
 ghost use Rattle.fm_segment.specs.Slices.{aligned_slice_of, rest_of, slice_of};
 
 use super::Segment;
+use crate::alignment::is_aligned;
 use fm_base::Refusal;
 
 impl Segment {
@@ -37,7 +38,7 @@ impl Segment {
             return Err(Refusal::BadAlignment);
         }
         let slice = self.as_slice(offset, size)?;
-        if slice.first % align != 0 {
+        if !is_aligned(slice.first, align) {
             return Err(Refusal::Misaligned);
         }
         Ok(slice)

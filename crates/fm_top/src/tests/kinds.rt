@@ -1,6 +1,6 @@
-use super::named;
-use super::queries::{run_words, text_file};
-use fm_io::{SureFiles, SureSink};
+use super::queries::text_file;
+use super::{ends, named};
+use fm_io::SureFiles;
 use std::alloc::Global;
 use std::test::Fail;
 
@@ -32,6 +32,7 @@ fn files(alloc: Global) -> Result<SureFiles, Fail> {
 
 #[test]
 fn each_kind_counts_as_its_number(rt: HostRuntime) -> Result<(), Fail> {
+    let mut files = files(rt.alloc())?;
     for (query, text) in [
         (
             "list(.open),sum(.open)",
@@ -57,28 +58,21 @@ fn each_kind_counts_as_its_number(rt: HostRuntime) -> Result<(), Fail> {
             "list(.grade) -128\n",
         ),
     ] {
-        let mut files = files(rt.alloc())?;
-        let mut out = SureSink::new(rt.alloc());
-        let code = run_words(&rt, &["query", "K", query, "V"], &mut files, &mut out)?;
-        assert_eq!(rt; code, 0, "{query}");
-        assert_eq!(rt; out.written(), text.as_bytes(), "{query}");
+        ends(&rt, &mut files, &["query", "K", query, "V"], 0, text)?;
     }
     Ok(())
 }
 
 #[test]
 fn the_last_index_changes_fastest(rt: HostRuntime) -> Result<(), Fail> {
+    let mut files = files(rt.alloc())?;
     for (query, text) in [
         ("list([][])", "list([][]) 1 2 3 4 5 6 7 8\n"),
         ("list([1:-1][])", "list([1:-1][]) 3 4 1 2 7 8 5 6\n"),
         ("list([][1:-1])", "list([][1:-1]) 2 1 4 3 6 5 8 7\n"),
         ("list([][1]) where [0][0]>1", "list([][1]) 6 8\n"),
     ] {
-        let mut files = files(rt.alloc())?;
-        let mut out = SureSink::new(rt.alloc());
-        let code = run_words(&rt, &["query", "S", query, "B"], &mut files, &mut out)?;
-        assert_eq!(rt; code, 0, "{query}");
-        assert_eq!(rt; out.written(), text.as_bytes(), "{query}");
+        ends(&rt, &mut files, &["query", "S", query, "B"], 0, text)?;
     }
     Ok(())
 }

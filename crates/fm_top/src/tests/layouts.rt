@@ -1,6 +1,6 @@
-use super::{named, run_line, sink};
+use super::{ends_at_each_write, line_ends, named};
 use crate::LAYOUT_FILE_LIMIT;
-use fm_io::{MemFiles, SureFiles, SureSink};
+use fm_io::{MemFiles, SureFiles};
 use std::alloc::{AllocError, Global};
 use std::test::Fail;
 
@@ -89,10 +89,7 @@ fn each_layout_is_listed_or_refused(rt: HostRuntime) -> Result<(), Fail> {
     ] {
         for most in [1, 7, usize::MAX] {
             let mut files = layout_file(rt.alloc(), layout, &[], most)?;
-            let mut out = sink(rt.alloc(), &[], most)?;
-            let code = run_line(&rt, "layout L", &mut files, &mut out)?;
-            assert_eq!(rt; code, status, "{layout}");
-            assert_eq!(rt; out.written(), text.as_bytes(), "{layout}");
+            line_ends(&rt, &mut files, "layout L", status, text)?;
         }
     }
     Ok(())
@@ -111,10 +108,7 @@ fn words_that_ask_for_no_layout_are_usage(rt: HostRuntime) -> Result<(), Fail> {
         ("layout ", 2, "missing \n"),
     ] {
         let mut files = layout_file(rt.alloc(), SALE, &[], 1)?;
-        let mut out = SureSink::new(rt.alloc());
-        let code = run_line(&rt, line, &mut files, &mut out)?;
-        assert_eq!(rt; code, status, "{line}");
-        assert_eq!(rt; out.written(), text.as_bytes(), "{line}");
+        line_ends(&rt, &mut files, line, status, text)?;
     }
     Ok(())
 }
@@ -124,14 +118,7 @@ fn a_part_of_a_layout_is_no_layout(rt: HostRuntime) -> Result<(), Fail> {
     for k in 0..SALE.len() {
         let part = std::str::from_utf8(&SALE.as_bytes()[..k]).unwrap_or("");
         let mut files = layout_file(rt.alloc(), part, &[], usize::MAX)?;
-        let mut out = SureSink::new(rt.alloc());
-        let code = run_line(&rt, "layout L", &mut files, &mut out)?;
-        assert_eq!(rt; code, 4, "the first {k} bytes");
-        assert_eq!(rt;
-            out.written(),
-            b"layout refused 40\n".as_slice(),
-            "the first {k} bytes"
-        );
+        line_ends(&rt, &mut files, "layout L", 4, "layout refused 40\n")?;
     }
     Ok(())
 }
@@ -142,11 +129,8 @@ fn a_read_of_a_layout_that_fails_prints_nothing(rt: HostRuntime) -> Result<(), F
     let reads = SALE.len().div_ceil(16) as u64;
     for k in 0..=reads + 1 {
         let mut files = layout_file(rt.alloc(), SALE, &[k], 16)?;
-        let mut out = SureSink::new(rt.alloc());
-        let code = run_line(&rt, "layout L", &mut files, &mut out)?;
         let (status, text) = if k <= reads { (3, "") } else { (0, LISTING) };
-        assert_eq!(rt; code, status, "at read {k}");
-        assert_eq!(rt; out.written(), text.as_bytes(), "at read {k}");
+        line_ends(&rt, &mut files, "layout L", status, text)?;
     }
     Ok(())
 }
@@ -154,14 +138,8 @@ fn a_read_of_a_layout_that_fails_prints_nothing(rt: HostRuntime) -> Result<(), F
 #[test]
 fn a_write_of_a_listing_that_fails_leaves_a_prefix(rt: HostRuntime) -> Result<(), Fail> {
     for (layout, status, text) in [(SALE, 0, LISTING), ("{", 4, "layout refused 40\n")] {
-        for k in 0..=text.len() {
-            let mut files = layout_file(rt.alloc(), layout, &[], usize::MAX)?;
-            let mut out = sink(rt.alloc(), &[k as u64], 1)?;
-            let code = run_line(&rt, "layout L", &mut files, &mut out)?;
-            let status = if k < text.len() { 8 } else { status };
-            assert_eq!(rt; code, status, "at write {k}");
-            assert_eq!(rt; out.written(), &text.as_bytes()[..k], "at write {k}");
-        }
+        let mut files = layout_file(rt.alloc(), layout, &[], usize::MAX)?;
+        ends_at_each_write(&rt, &mut files, &["layout", "L"], status, text)?;
     }
     Ok(())
 }
@@ -177,10 +155,7 @@ fn a_layout_file_may_be_as_long_as_the_limit(rt: HostRuntime) -> Result<(), Fail
         }
         let file = named(alloc, "L", bytes)?;
         let mut files = SureFiles::new(vec![in alloc; file]?);
-        let mut out = SureSink::new(alloc);
-        let code = run_line(&rt, "layout L", &mut files, &mut out)?;
-        assert_eq!(rt; code, status, "{length} bytes");
-        assert_eq!(rt; out.written(), text.as_bytes(), "{length} bytes");
+        line_ends(&rt, &mut files, "layout L", status, text)?;
     }
     Ok(())
 }

@@ -1,12 +1,9 @@
 use super::layouts::SALE;
-use super::{named, sink};
-use crate::{Kept, LAYOUT_FILE_LIMIT, RECORD_FILE_LIMIT, run_tool};
-use fm_io::{Files, FreeGate, MemFiles, Sink, SureFiles, SureSink};
-use std::alloc::{AllocError, AllocGlobal, Global};
-use std::random::RandomSource;
-use std::sync::Wait;
+use super::{ends, ends_at_each_write, line_ends, named, run};
+use crate::{LAYOUT_FILE_LIMIT, RECORD_FILE_LIMIT};
+use fm_io::{MemFiles, SureFiles, SureSink};
+use std::alloc::{AllocError, Global};
 use std::test::Fail;
-use std::thread::Threads;
 
 /// Two sales: of ids 1 and 2, kinds 2 and 3, and prices 250 and -40, with four tags each.
 const SALES: [u8; 48] = [
@@ -19,26 +16,6 @@ const ROW: [&str; 4] = ["query", "L1", "min(.price) where .kind=9", "R1"];
 
 /// What it prints.
 const NONE: &str = "min(.price) none\n";
-
-/// Runs the tool on these words.
-pub(super) fn run_words<R, F, O>(
-    rt: &R,
-    words: &[&str],
-    files: &mut F,
-    out: &mut O,
-) -> Result<u8, AllocError>
-where
-    R: Threads + Wait + RandomSource + AllocGlobal,
-    F: Files,
-    O: Sink,
-{
-    let alloc = rt.alloc();
-    let mut owned = Vec::new(alloc);
-    for word in words {
-        owned.push(String::from_str(alloc, word)?)?;
-    }
-    Ok(run_tool(rt, alloc, &owned, files, out, &FreeGate, &mut Kept::new()))
-}
 
 /// A file of a text under its name.
 pub(super) fn text_file(
@@ -75,85 +52,85 @@ fn files(alloc: Global, failing: &[u64], most: usize) -> Result<MemFiles, AllocE
     Ok(MemFiles::new(all, failing.to_vec(alloc)?).with_piece(most.max(1)))
 }
 
+/// Queries over records of sales, the record file, and how they end.
+const QUERIES: [(&str, &str, u8, &str); 33] = [
+    (
+        "count,sum(.price),list(.tags[]) where .kind>=2",
+        "R1",
+        0,
+        "count 2\nsum(.price) 210\nlist(.tags[]) 1 2 3 4 5 0 0 -1\n",
+    ),
+    ("min(.price) where .kind=9", "R1", 0, "min(.price) none\n"),
+    (
+        "max(.price),min(.tags[]),sum(.tags[1:2]),list(.id)",
+        "R1",
+        0,
+        "max(.price) 250\nmin(.tags[]) -1\nsum(.tags[1:2]) 5\nlist(.id) 1 2\n",
+    ),
+    (
+        "count,sum(.price),min(.price),max(.price),list(.tags[])",
+        "E",
+        0,
+        "count 0\nsum(.price) 0\nmin(.price) none\nmax(.price) none\nlist(.tags[])\n",
+    ),
+    ("list(.id) where .id>2", "R1", 0, "list(.id)\n"),
+    ("list(.id) where .kind=2", "R1", 0, "list(.id) 1\n"),
+    ("list(.id) where .kind=1", "R1", 0, "list(.id)\n"),
+    ("list(.id) where .kind!=2", "R1", 0, "list(.id) 2\n"),
+    ("list(.id) where .kind<2", "R1", 0, "list(.id)\n"),
+    ("list(.id) where .kind<3", "R1", 0, "list(.id) 1\n"),
+    ("list(.id) where .kind<=1", "R1", 0, "list(.id)\n"),
+    ("list(.id) where .kind<=2", "R1", 0, "list(.id) 1\n"),
+    ("list(.id) where .kind>3", "R1", 0, "list(.id)\n"),
+    ("list(.id) where .kind>2", "R1", 0, "list(.id) 2\n"),
+    ("list(.id) where .kind>=4", "R1", 0, "list(.id)\n"),
+    ("list(.id) where .kind>=3", "R1", 0, "list(.id) 2\n"),
+    (
+        "list(.id) where .price=-40 and .tags[3]=-1",
+        "R1",
+        0,
+        "list(.id) 2\n",
+    ),
+    (
+        "list(.id) where .price=-40 and .tags[3]=4",
+        "R1",
+        0,
+        "list(.id)\n",
+    ),
+    (
+        "count where .price>-9223372036854775808",
+        "R1",
+        0,
+        "count 2\n",
+    ),
+    (
+        "count where .price<=9223372036854775807",
+        "R1",
+        0,
+        "count 2\n",
+    ),
+    ("count,", "R1", 5, "query refused 50 6\n"),
+    ("", "R1", 5, "query refused 50 0\n"),
+    ("sum(.nope)", "R1", 5, "query refused 31 0\n"),
+    ("sum(.id.x)", "R1", 5, "query refused 30 1\n"),
+    ("sum(.kind[0])", "R1", 5, "query refused 32 1\n"),
+    ("sum(.tags[4])", "R1", 5, "query refused 33 1\n"),
+    ("sum(.tags)", "R1", 5, "query refused 35\n"),
+    ("sum(.tags[0:0])", "R1", 5, "query refused 36 1\n"),
+    ("count where .tags[]=1", "R1", 5, "query refused 34 1\n"),
+    ("sum(.tags[01])", "R1", 5, "query refused 50 11\n"),
+    // The text is refused before the record file is read.
+    ("count,", "nofile", 5, "query refused 50 6\n"),
+    ("count", "nofile", 2, "missing nofile\n"),
+    ("count", "Ragged", 6, "ragged 1\n"),
+];
+
 #[test]
 fn each_query_is_answered_in_pieces_of_every_size(rt: HostRuntime) -> Result<(), Fail> {
-    for (query, file, status, text) in [
-        (
-            "count,sum(.price),list(.tags[]) where .kind>=2",
-            "R1",
-            0,
-            "count 2\nsum(.price) 210\nlist(.tags[]) 1 2 3 4 5 0 0 -1\n",
-        ),
-        (ROW[2], "R1", 0, NONE),
-        (
-            "max(.price),min(.tags[]),sum(.tags[1:2]),list(.id)",
-            "R1",
-            0,
-            "max(.price) 250\nmin(.tags[]) -1\nsum(.tags[1:2]) 5\nlist(.id) 1 2\n",
-        ),
-        (
-            "count,sum(.price),min(.price),max(.price),list(.tags[])",
-            "E",
-            0,
-            "count 0\nsum(.price) 0\nmin(.price) none\nmax(.price) none\nlist(.tags[])\n",
-        ),
-        ("list(.id) where .id>2", "R1", 0, "list(.id)\n"),
-        ("list(.id) where .kind=2", "R1", 0, "list(.id) 1\n"),
-        ("list(.id) where .kind=1", "R1", 0, "list(.id)\n"),
-        ("list(.id) where .kind!=2", "R1", 0, "list(.id) 2\n"),
-        ("list(.id) where .kind<2", "R1", 0, "list(.id)\n"),
-        ("list(.id) where .kind<3", "R1", 0, "list(.id) 1\n"),
-        ("list(.id) where .kind<=1", "R1", 0, "list(.id)\n"),
-        ("list(.id) where .kind<=2", "R1", 0, "list(.id) 1\n"),
-        ("list(.id) where .kind>3", "R1", 0, "list(.id)\n"),
-        ("list(.id) where .kind>2", "R1", 0, "list(.id) 2\n"),
-        ("list(.id) where .kind>=4", "R1", 0, "list(.id)\n"),
-        ("list(.id) where .kind>=3", "R1", 0, "list(.id) 2\n"),
-        (
-            "list(.id) where .price=-40 and .tags[3]=-1",
-            "R1",
-            0,
-            "list(.id) 2\n",
-        ),
-        (
-            "list(.id) where .price=-40 and .tags[3]=4",
-            "R1",
-            0,
-            "list(.id)\n",
-        ),
-        (
-            "count where .price>-9223372036854775808",
-            "R1",
-            0,
-            "count 2\n",
-        ),
-        (
-            "count where .price<=9223372036854775807",
-            "R1",
-            0,
-            "count 2\n",
-        ),
-        ("count,", "R1", 5, "query refused 50 6\n"),
-        ("", "R1", 5, "query refused 50 0\n"),
-        ("sum(.nope)", "R1", 5, "query refused 31 0\n"),
-        ("sum(.id.x)", "R1", 5, "query refused 30 1\n"),
-        ("sum(.kind[0])", "R1", 5, "query refused 32 1\n"),
-        ("sum(.tags[4])", "R1", 5, "query refused 33 1\n"),
-        ("sum(.tags)", "R1", 5, "query refused 35\n"),
-        ("sum(.tags[0:0])", "R1", 5, "query refused 36 1\n"),
-        ("count where .tags[]=1", "R1", 5, "query refused 34 1\n"),
-        ("sum(.tags[01])", "R1", 5, "query refused 50 11\n"),
-        // The text is refused before the record file is read.
-        ("count,", "nofile", 5, "query refused 50 6\n"),
-        ("count", "nofile", 2, "missing nofile\n"),
-        ("count", "Ragged", 6, "ragged 1\n"),
-    ] {
+    for (query, file, status, text) in QUERIES {
         for most in [1, 7, usize::MAX] {
             let mut files = files(rt.alloc(), &[], most)?;
-            let mut out = sink(rt.alloc(), &[], most)?;
-            let code = run_words(&rt, &["query", "L1", query, file], &mut files, &mut out)?;
-            assert_eq!(rt; code, status, "{query} {file}");
-            assert_eq!(rt; out.written(), text.as_bytes(), "{query} {file}");
+            ends(&rt, &mut files, &["query", "L1", query, file], status, text)?;
         }
     }
     Ok(())
@@ -161,6 +138,7 @@ fn each_query_is_answered_in_pieces_of_every_size(rt: HostRuntime) -> Result<(),
 
 #[test]
 fn a_layout_of_no_records_is_refused(rt: HostRuntime) -> Result<(), Fail> {
+    let mut files = files(rt.alloc(), &[], usize::MAX)?;
     for (layout, status, text) in [
         ("nolayout", 2, "missing nolayout\n"),
         ("Broken", 4, "layout refused 40\n"),
@@ -169,87 +147,82 @@ fn a_layout_of_no_records_is_refused(rt: HostRuntime) -> Result<(), Fail> {
     ] {
         // The layout is refused before the text, and the record file isn't read.
         for query in ["count", "count,"] {
-            let mut files = files(rt.alloc(), &[], usize::MAX)?;
-            let mut out = SureSink::new(rt.alloc());
-            let code = run_words(
+            ends(
                 &rt,
-                &["query", layout, query, "nofile"],
                 &mut files,
-                &mut out,
+                &["query", layout, query, "nofile"],
+                status,
+                text,
             )?;
-            assert_eq!(rt; code, status, "{layout} {query}");
-            assert_eq!(rt; out.written(), text.as_bytes(), "{layout} {query}");
         }
     }
     Ok(())
 }
 
+/// Words with the option in each place, and how they end.
+const OPTIONS: [(&str, u8, &str); 51] = [
+    ("query L1 count R1", 0, "count 2\n"),
+    ("query --threads 1 L1 count R1", 0, "count 2\n"),
+    ("query L1 --threads 2 count R1", 0, "count 2\n"),
+    ("query L1 count --threads 9 R1", 0, "count 2\n"),
+    ("query L1 count R1 --threads 16", 0, "count 2\n"),
+    ("query --threads=1 L1 count R1", 0, "count 2\n"),
+    ("query L1 count R1 --threads=16", 0, "count 2\n"),
+    ("query --threads 2 -- L1 count R1", 0, "count 2\n"),
+    ("query -- L1 count R1", 0, "count 2\n"),
+    ("query L1 -- count R1", 0, "count 2\n"),
+    ("query L1 count R1 --", 0, "count 2\n"),
+    ("query -- --threads count R1", 2, "missing --threads\n"),
+    ("query L1 count -- -R1", 2, "missing -R1\n"),
+    ("query L1 -- -- R1", 5, "query refused 50 0\n"),
+    ("query - count R1", 2, "missing -\n"),
+    ("query L1 - R1", 5, "query refused 50 0\n"),
+    ("query L1 count -", 2, "missing -\n"),
+    ("query  count R1", 2, "missing \n"),
+    ("query", 1, "usage\n"),
+    ("query L1 count", 1, "usage\n"),
+    ("query L1 count R1 R1", 1, "usage\n"),
+    ("query L1 count R1 -- R1", 1, "usage\n"),
+    ("query L1 count R1 -- --threads 2", 1, "usage\n"),
+    ("query --threads L1 count R1", 1, "usage\n"),
+    ("query L1 count R1 --threads", 1, "usage\n"),
+    ("query --threads -- L1 count R1", 1, "usage\n"),
+    ("query --threads=  L1 count R1", 1, "usage\n"),
+    ("query --threads= L1 count R1", 1, "usage\n"),
+    ("query --threads 0 L1 count R1", 1, "usage\n"),
+    ("query --threads 17 L1 count R1", 1, "usage\n"),
+    ("query --threads=17 L1 count R1", 1, "usage\n"),
+    ("query --threads 01 L1 count R1", 1, "usage\n"),
+    ("query --threads=02 L1 count R1", 1, "usage\n"),
+    ("query --threads +1 L1 count R1", 1, "usage\n"),
+    ("query --threads -1 L1 count R1", 1, "usage\n"),
+    (
+        "query --threads 18446744073709551617 L1 count R1",
+        1,
+        "usage\n",
+    ),
+    ("query --threads 2 --threads 2 L1 count R1", 1, "usage\n"),
+    ("query --threads=2 L1 count R1 --threads=2", 1, "usage\n"),
+    ("query --threads 2 L1 count R1 --threads=2", 1, "usage\n"),
+    ("query --thread 2 L1 count R1", 1, "usage\n"),
+    ("query --Threads 2 L1 count R1", 1, "usage\n"),
+    ("query --threads2 L1 count R1", 1, "usage\n"),
+    ("query -t 2 L1 count R1", 1, "usage\n"),
+    ("query L1 count -R1", 1, "usage\n"),
+    ("query --help", 1, "usage\n"),
+    ("query -h", 1, "usage\n"),
+    ("query --version", 1, "usage\n"),
+    ("query --help L1 count R1", 1, "usage\n"),
+    ("--threads 2 query L1 count R1", 1, "usage\n"),
+    ("Query L1 count R1", 1, "usage\n"),
+    ("tally L1 .id R1", 1, "usage\n"),
+];
+
 #[test]
 fn the_option_stands_anywhere_and_once(rt: HostRuntime) -> Result<(), Fail> {
-    let alloc = rt.alloc();
-    for (line, status, text) in [
-        ("query L1 count R1", 0, "count 2\n"),
-        ("query --threads 1 L1 count R1", 0, "count 2\n"),
-        ("query L1 --threads 2 count R1", 0, "count 2\n"),
-        ("query L1 count --threads 9 R1", 0, "count 2\n"),
-        ("query L1 count R1 --threads 16", 0, "count 2\n"),
-        ("query --threads=1 L1 count R1", 0, "count 2\n"),
-        ("query L1 count R1 --threads=16", 0, "count 2\n"),
-        ("query --threads 2 -- L1 count R1", 0, "count 2\n"),
-        ("query -- L1 count R1", 0, "count 2\n"),
-        ("query L1 -- count R1", 0, "count 2\n"),
-        ("query L1 count R1 --", 0, "count 2\n"),
-        ("query -- --threads count R1", 2, "missing --threads\n"),
-        ("query L1 count -- -R1", 2, "missing -R1\n"),
-        ("query L1 -- -- R1", 5, "query refused 50 0\n"),
-        ("query - count R1", 2, "missing -\n"),
-        ("query L1 - R1", 5, "query refused 50 0\n"),
-        ("query L1 count -", 2, "missing -\n"),
-        ("query  count R1", 2, "missing \n"),
-        ("query", 1, "usage\n"),
-        ("query L1 count", 1, "usage\n"),
-        ("query L1 count R1 R1", 1, "usage\n"),
-        ("query L1 count R1 -- R1", 1, "usage\n"),
-        ("query L1 count R1 -- --threads 2", 1, "usage\n"),
-        ("query --threads L1 count R1", 1, "usage\n"),
-        ("query L1 count R1 --threads", 1, "usage\n"),
-        ("query --threads -- L1 count R1", 1, "usage\n"),
-        ("query --threads=  L1 count R1", 1, "usage\n"),
-        ("query --threads= L1 count R1", 1, "usage\n"),
-        ("query --threads 0 L1 count R1", 1, "usage\n"),
-        ("query --threads 17 L1 count R1", 1, "usage\n"),
-        ("query --threads=17 L1 count R1", 1, "usage\n"),
-        ("query --threads 01 L1 count R1", 1, "usage\n"),
-        ("query --threads=02 L1 count R1", 1, "usage\n"),
-        ("query --threads +1 L1 count R1", 1, "usage\n"),
-        ("query --threads -1 L1 count R1", 1, "usage\n"),
-        (
-            "query --threads 18446744073709551617 L1 count R1",
-            1,
-            "usage\n",
-        ),
-        ("query --threads 2 --threads 2 L1 count R1", 1, "usage\n"),
-        ("query --threads=2 L1 count R1 --threads=2", 1, "usage\n"),
-        ("query --threads 2 L1 count R1 --threads=2", 1, "usage\n"),
-        ("query --thread 2 L1 count R1", 1, "usage\n"),
-        ("query --Threads 2 L1 count R1", 1, "usage\n"),
-        ("query --threads2 L1 count R1", 1, "usage\n"),
-        ("query -t 2 L1 count R1", 1, "usage\n"),
-        ("query L1 count -R1", 1, "usage\n"),
-        ("query --help", 1, "usage\n"),
-        ("query -h", 1, "usage\n"),
-        ("query --version", 1, "usage\n"),
-        ("query --help L1 count R1", 1, "usage\n"),
-        ("--threads 2 query L1 count R1", 1, "usage\n"),
-        ("Query L1 count R1", 1, "usage\n"),
-        ("tally L1 .id R1", 1, "usage\n"),
-    ] {
-        let mut files = files(alloc, &[], usize::MAX)?;
-        let mut out = SureSink::new(alloc);
-        let words: Vec<&str> = line.split(' ').collect(alloc)?;
-        let code = run_words(&rt, &words, &mut files, &mut out)?;
-        assert_eq!(rt; code, status, "{line}");
-        assert_eq!(rt; out.written(), text.as_bytes(), "{line}");
+    let mut files = files(rt.alloc(), &[], usize::MAX)?;
+    for (line, status, text) in OPTIONS {
+        line_ends(&rt, &mut files, line, status, text)?;
     }
     Ok(())
 }
@@ -258,13 +231,10 @@ fn the_option_stands_anywhere_and_once(rt: HostRuntime) -> Result<(), Fail> {
 fn as_many_threads_as_one_likes_answer_the_same(rt: HostRuntime) -> Result<(), Fail> {
     let query = "count,sum(.price),list(.tags[]) where .kind>=2";
     let text = "count 2\nsum(.price) 210\nlist(.tags[]) 1 2 3 4 5 0 0 -1\n";
+    let mut files = files(rt.alloc(), &[], usize::MAX)?;
     for threads in ["1", "2", "16"] {
-        let mut files = files(rt.alloc(), &[], usize::MAX)?;
-        let mut out = SureSink::new(rt.alloc());
         let words = ["query", "--threads", threads, "L1", query, "R1"];
-        let code = run_words(&rt, &words, &mut files, &mut out)?;
-        assert_eq!(rt; code, 0, "{threads} threads");
-        assert_eq!(rt; out.written(), text.as_bytes(), "{threads} threads");
+        ends(&rt, &mut files, &words, 0, text)?;
     }
     Ok(())
 }
@@ -276,20 +246,19 @@ fn a_part_of_the_records_is_counted_or_ragged(rt: HostRuntime) -> Result<(), Fai
         let layout = text_file(alloc, "L1", SALE)?;
         let records = named(alloc, "R", sales(alloc, n)?)?;
         let mut files = SureFiles::new(vec![in alloc; layout, records]?);
-        let mut out = SureSink::new(alloc);
-        let code = run_words(&rt, &["query", "L1", "count", "R"], &mut files, &mut out)?;
         let (count, rest) = (n / 24, n % 24);
         let (status, text) = if rest == 0 {
             (0, format!(in alloc; "count {count}\n")?)
         } else {
             (6, format!(in alloc; "ragged {rest}\n")?)
         };
-        assert_eq!(rt; code, status, "the first {n} bytes");
-        assert_eq!(rt;
-            out.written(),
-            text.as_str().as_bytes(),
-            "the first {n} bytes"
-        );
+        ends(
+            &rt,
+            &mut files,
+            &["query", "L1", "count", "R"],
+            status,
+            &text,
+        )?;
     }
     Ok(())
 }
@@ -299,12 +268,8 @@ fn a_read_of_either_file_that_fails_prints_nothing(rt: HostRuntime) -> Result<()
     // Each 16 bytes are read by a call of their own, and then the end, of the layout and then of the records.
     let reads = SALE.len().div_ceil(16) as u64 + 1 + 3 + 1;
     for k in 0..=reads {
-        let mut files = files(rt.alloc(), &[k], 16)?;
-        let mut out = SureSink::new(rt.alloc());
-        let code = run_words(&rt, &ROW, &mut files, &mut out)?;
         let (status, text) = if k < reads { (3, "") } else { (0, NONE) };
-        assert_eq!(rt; code, status, "at read {k}");
-        assert_eq!(rt; out.written(), text.as_bytes(), "at read {k}");
+        ends(&rt, &mut files(rt.alloc(), &[k], 16)?, &ROW, status, text)?;
     }
     Ok(())
 }
@@ -324,11 +289,13 @@ fn nothing_is_read_past_what_is_needed(rt: HostRuntime) -> Result<(), Fail> {
         // The last read that is needed fails, or else each one past it.
         for (failing, status, text) in [(&[reads - 1], 3, ""), (&[reads], status, text)] {
             let mut files = files(rt.alloc(), failing, usize::MAX)?;
-            let mut out = SureSink::new(rt.alloc());
-            let words = ["query", layout, query, file];
-            let code = run_words(&rt, &words, &mut files, &mut out)?;
-            assert_eq!(rt; code, status, "{layout} {query} {file}");
-            assert_eq!(rt; out.written(), text.as_bytes(), "{layout} {query} {file}");
+            ends(
+                &rt,
+                &mut files,
+                &["query", layout, query, file],
+                status,
+                text,
+            )?;
         }
     }
     Ok(())
@@ -344,7 +311,7 @@ fn one_run_follows_another(rt: HostRuntime) -> Result<(), Fail> {
         (["query", "L1", "count", "nofile"], 2),
         (ROW, 0),
     ] {
-        assert_eq!(rt; run_words(&rt, &words, &mut files, &mut out)?, status);
+        assert_eq!(rt; run(&rt, &words, &mut files, &mut out)?, status);
     }
     let text = "min(.price) none\nmissing nofile\nmin(.price) none\n";
     assert_eq!(rt; out.written(), text.as_bytes());
@@ -353,15 +320,9 @@ fn one_run_follows_another(rt: HostRuntime) -> Result<(), Fail> {
 
 #[test]
 fn a_write_of_an_answer_that_fails_leaves_a_prefix(rt: HostRuntime) -> Result<(), Fail> {
+    let mut files = files(rt.alloc(), &[], usize::MAX)?;
     for (query, status, text) in [(ROW[2], 0, NONE), ("count,", 5, "query refused 50 6\n")] {
-        for k in 0..=text.len() {
-            let mut files = files(rt.alloc(), &[], usize::MAX)?;
-            let mut out = sink(rt.alloc(), &[k as u64], 1)?;
-            let code = run_words(&rt, &["query", "L1", query, "R1"], &mut files, &mut out)?;
-            let status = if k < text.len() { 8 } else { status };
-            assert_eq!(rt; code, status, "at write {k}");
-            assert_eq!(rt; out.written(), &text.as_bytes()[..k], "at write {k}");
-        }
+        ends_at_each_write(&rt, &mut files, &["query", "L1", query, "R1"], status, text)?;
     }
     Ok(())
 }
@@ -384,14 +345,7 @@ fn each_file_has_a_limit_of_its_own(rt: HostRuntime) -> Result<(), Fail> {
         let layout = named(alloc, "L", layout)?;
         let records = named(alloc, "R", super::zeros(alloc, zeros)?)?;
         let mut files = SureFiles::new(vec![in alloc; layout, records]?);
-        let mut out = SureSink::new(alloc);
-        let code = run_words(&rt, &["query", "L", "count", "R"], &mut files, &mut out)?;
-        assert_eq!(rt; code, status, "{blanks} and {zeros} bytes");
-        assert_eq!(rt;
-            out.written(),
-            text.as_bytes(),
-            "{blanks} and {zeros} bytes"
-        );
+        ends(&rt, &mut files, &["query", "L", "count", "R"], status, text)?;
     }
     Ok(())
 }

@@ -10,7 +10,10 @@ use Rattle.fm_access.proofs.piece.put_inside.Goals as goal
 
 pub patch-requires : goal.patch-requires
 patch-requires g c =
-    record { reach = c.requires.reach; under = under (c.args.place % 8) c.args.width c.args.v c.mask.result c.bits.result c.requires.fits c.mask.ensures c.bits.ensures }
+    record {
+      reach = c.requires.reach;
+      under = under (c.args.place % 8) c.args.width c.args.v c.mask.result c.bits.result c.requires.fits c.mask.ensures c.bits.ensures;
+    }
 
 pub returns-then-width-eq8-clause-did : goal.returns-then-width-eq8-clause-did
 returns-then-width-eq8-clause-did g c =
@@ -33,13 +36,15 @@ returns-else-width-eq8-clause-did g c =
     let at = c.args.place % 8 in
     let found = c.patch.result in
     let p = patch_makes (v c.args.m.now) (v c.patch.new.self) id word c.mask.result c.bits.result found c.requires.inside c.patch.ensures.did in
-    let same = patched_is at c.args.width c.args.v c.mask.result c.bits.result found c.requires.within c.requires.fits c.patch.type_inv c.mask.ensures c.bits.ensures in
+    let same = patched_is at c.args.width c.args.v c.mask.result c.bits.result found c.requires.within c.requires.fits c.patch.type_inv c.mask.ensures
+    c.bits.ensures in
     let few : c.args.width < 8 = omega arith in
     record {
       own = entries_of (v c.args.m.now).caller p.acts;
       does = record {
         acts = p.acts;
-        puts = narrow found p.acts few (Tries-alike id word (patched c.mask.result c.bits.result) (λ w. replaced w at c.args.width c.args.v) found p.acts same p.tries);
+        puts = narrow found p.acts few (Tries-alike id word (patched c.mask.result c.bits.result) (λ w. replaced w at c.args.width c.args.v) found p.acts same
+            p.tries);
         entries = refl;
       };
       makes = p.makes;

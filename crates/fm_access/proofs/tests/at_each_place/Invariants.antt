@@ -1,9 +1,5 @@
-use Rattle.std.proofs.Common.{◌≡◌, ◌≤◌, true, None}
-use Rattle.fm_base.specs.Arenas.{has_arena}
-use Rattle.fm_base.specs.View.{given_in}
+use Rattle.fm_access.specs.Learnt.{CanTouch}
 use Rattle.fm_access.proofs.tests.at_each_place.Given as goal
 
 abbrev pub invariant-loop-place : goal.invariant-loop-place
-invariant-loop-place g l =
-    let now = g.M.Memory.view l.m in
-    record { outside : now.inside ≡ None; known : has_arena now.state l.arena ≡ true; given : 24 ≤ given_in now l.arena }
+invariant-loop-place g l = CanTouch (g.M.Memory.view l.m) l.arena 0 24

@@ -1,13 +1,5 @@
-use Rattle.std.proofs.Common.{◌≡◌, ◌≤◌, true, None}
-use Rattle.fm_base.specs.Arenas.{has_arena}
-use Rattle.fm_base.specs.View.{given_in}
+use Rattle.fm_access.specs.Learnt.{CanTouch}
 use Rattle.fm_copies.proofs.tests.copy_inside.Given as goal
 
 abbrev pub invariant-loop-place : goal.invariant-loop-place
-invariant-loop-place g l =
-    let now = g.M.Memory.view l.m in
-    record {
-      outside : now.inside ≡ None;
-      known : has_arena now.state l.a ≡ true;
-      given : 48 ≤ given_in now l.a;
-    }
+invariant-loop-place g l = CanTouch (g.M.Memory.view l.m) l.a 0 48

@@ -29,7 +29,9 @@ returns-then-found-seen-clause-did g c =
     let o = c.args.order in
     let at = c.args.place % 8 in
     let seen = c.tries.seen in
-    let hit = trying_hits (v c.args.m.now) (v c.tries.m) (v c.swap_if-found.new.self) c.args.arena (c.args.place / 8) (λ now. ⊥) (with_value o (sum_of now c.args.delta) (c.args.place % 8)) c.tries.seen c.with_value-after.result c.swap_if-found.result
-    c.tries.invariant c.if-found-seen.true (c.with_value-after.ensures ∙ ap (λ (x : Value). with_value o x at seen) c.sum_of.ensures) c.swap_if-found.ensures.did in
+    let hit = trying_hits (v c.args.m.now) (v c.tries.m) (v c.swap_if-found.new.self) c.args.arena (c.args.place / 8) (λ now. ⊥)
+    (with_value o (sum_of now c.args.delta) (c.args.place % 8)) c.tries.seen c.with_value-after.result c.swap_if-found.result
+    c.tries.invariant c.if-found-seen.true (c.with_value-after.ensures
+    ∙ ap (λ (x : Value). with_value o x at seen) c.sum_of.ensures) c.swap_if-found.ensures.did in
     add_hits (v c.args.m.now) (v c.swap_if-found.new.self) c.args.arena c.args.place o c.args.delta now c.tries.seen hit
     (c.value_in-before.ensures.value ∙ ap (λ k. value_in k o at seen) c.kind.ensures)

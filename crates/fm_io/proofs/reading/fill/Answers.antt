@@ -27,7 +27,8 @@ loop-n-preserved g c =
       within = filled-le n more buffer rest c.loop-n.invariant.within room;
       bytes = subst (λ (bytes : List ℕ). AreBytesFrom told name c.args.at bytes)
           (sym (take-filled n more buffer rest c.loop-n.invariant.within room))
-          (AreBytesFrom-more told name (take n buffer) rest c.args.at n more (length-take-le n buffer c.loop-n.invariant.within) room c.loop-n.invariant.bytes piece);
+          (AreBytesFrom-more told name (take n buffer) rest c.args.at n more (length-take-le n buffer c.loop-n.invariant.within) room c.loop-n.invariant.bytes
+          piece);
       held = c.in-Ok-Got.ensures.held ∙ c.loop-n.invariant.held;
       quiet = c.in-Ok-Got.ensures.quiet (λ e. absurd (cc)) ∙ c.loop-n.invariant.quiet;
       found = c.in-Ok-Got.ensures.found (λ e. absurd (let got = c.in-Ok-Got.field-0-is in cc)) ∙ c.loop-n.invariant.found;
@@ -48,7 +49,11 @@ returns-in-Ok-End-clause-reads g c =
     ReadsFile-on (files.reads c.args.files.now) (files.reads c.loop-n.files) (files.reads c.read_at.new.self) c.args.name.now (length c.args.buf.now)
     (c.args.at + length c.args.buf.now) c.args.at (c.args.at + n) (length (take (length buffer - n) (drop n buffer))) (Ok End)
     (GoesOn c.args.at (length c.args.buf.now) n) c.loop-n.invariant.reads (rw c.in-Ok-End.field-0-is at c.in-Ok-End.ensures.noted)
-    (omega (arith, left, c.loop-n.auto.buf)) (omega (arith, left, c.loop-n.auto.buf, c.loop-n.invariant.within)) (λ full. absurd (omega (arith, full, c.loop-n-test.true, c.loop-n.auto.buf)), λ short. refl)
+    (omega (arith, left, c.loop-n.auto.buf)) (omega (arith, left, c.loop-n.auto.buf, c.loop-n.invariant.within)) (
+      λ full.
+          absurd (omega (arith, full, c.loop-n-test.true, c.loop-n.auto.buf)),
+      λ short. refl,
+    )
 
 pub returns-in-Ok-Missing-clause-reads : goal.returns-in-Ok-Missing-clause-reads
 returns-in-Ok-Missing-clause-reads g c =
@@ -86,4 +91,9 @@ returns-in-Err-Memory-clause-reads g c =
 pub returns-clause-reads : goal.returns-clause-reads
 returns-clause-reads g c =
     let told = c.loop-n.invariant.reads in
-    record { reads = told.reads; noted = told.noted; follow = told.follow; goes = (λ full. told.goes, λ short. absurd (short (omega (arith, c.loop-n-test.false, c.loop-n.auto.buf, c.loop-n.invariant.within)))) }
+    record {
+      reads = told.reads;
+      noted = told.noted;
+      follow = told.follow;
+      goes = (λ full. told.goes, λ short. absurd (short (omega (arith, c.loop-n-test.false, c.loop-n.auto.buf, c.loop-n.invariant.within))));
+    }

@@ -32,7 +32,8 @@ build-returns-in-None t c = inr (sym (built_none _ _ c.in-None.ensures))
 
 pub build_all-loop-value-preserved : goal.build_all-loop-value-preserved
 build_all-loop-value-preserved t c =
-    building_pushed (built c.args.levels) c.loop-value.layouts.items c.push.new.self.items c.in-Ok.layout _ c.args.values.now c.loop-value.value-index c.value-item.result
+    building_pushed (built c.args.levels) c.loop-value.layouts.items c.push.new.self.items c.in-Ok.layout _ c.args.values.now c.loop-value.value-index
+    c.value-item.result
     c.loop-value-test.true c.value-item.is c.loop-value.invariant c.in-Ok.ensures c.in-Ok-push.ensures.items
 
 pub build_all-returns-clause-ok : goal.build_all-returns-clause-ok

@@ -21,7 +21,8 @@ items_of-loop-i-preserved t c =
     (filling_more items (json_of member) c.loop-i.i layout member c.loop-i.invariant c.in-Some.ensures refl)
 
 pub items_of-returns : goal.items_of-returns
-items_of-returns t c = filling_end (map view c.loop-i.items.items) c.loop-i.i c.args.layout.now c.loop-i.invariant (omega (arith, c.requires, c.loop-i-test.false))
+items_of-returns t c = filling_end (map view c.loop-i.items.items) c.loop-i.i c.args.layout.now c.loop-i.invariant
+    (omega (arith, c.requires, c.loop-i-test.false))
 
 pub sequence_json-json_of-requires : goal.sequence_json-json_of-requires
 sequence_json-json_of-requires t c = (omega (arith, deep_element c.args.layout.now c.in-Some.element.now c.in-Some.ensures, c.decreases), tt)

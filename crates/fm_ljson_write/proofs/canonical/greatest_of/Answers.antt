@@ -17,7 +17,13 @@ loop-i-preserved c =
     let new = c.if-greatest-alignment.greatest in
     let greater : new ≡ max old.greatest (alignment_of member) =
     elim c.if-greatest-alignment.branch [
-      | then-greatest-alignment w ↦ omega (arith, w.greatest-is, w.alignment-greatest.ensures.alignment, w.if-greatest-alignment.true, c.alignment.ensures.alignment)
+      | then-greatest-alignment w ↦ omega (
+        arith,
+        w.greatest-is,
+        w.alignment-greatest.ensures.alignment,
+        w.if-greatest-alignment.true,
+        c.alignment.ensures.alignment,
+      )
       | else-greatest-alignment w ↦ omega (arith, w.greatest-is, w.if-greatest-alignment.false, c.alignment.ensures.alignment)
     ] in
     rising_more old.greatest new old.i c.args.layout.now member old.invariant c.in-Some.ensures greater

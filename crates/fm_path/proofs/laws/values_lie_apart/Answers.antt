@@ -4,4 +4,5 @@ use Rattle.fm_path_meaning.proofs.Inside.{apart}
 use Rattle.fm_path.proofs.laws.values_lie_apart.Goals as goal
 
 pub returns : goal.returns
-returns c p q h k x y = apart p.steps q.steps c.args.layout.now p.offset q.offset p.layout q.layout (stands c.args.layout.now p h) (stands c.args.layout.now q k) x y
+returns c p q h k x y = apart p.steps q.steps c.args.layout.now p.offset q.offset p.layout q.layout (stands c.args.layout.now p h)
+    (stands c.args.layout.now q k) x y

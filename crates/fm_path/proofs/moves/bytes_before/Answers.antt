@@ -17,7 +17,8 @@ loop-i-preserved c =
     omega (arith, r.0, c.loop-i.invariant, c.size-by.ensures.size)
 
 pub returns-in-None-clause-offset : goal.returns-in-None-clause-offset
-returns-in-None-clause-offset c = c.loop-i.invariant ∙ sym (offset_end c.args.layout.now c.args.n c.loop-i.i c.requires.kind (sym c.in-None.ensures) (omega arith))
+returns-in-None-clause-offset c = c.loop-i.invariant
+    ∙ sym (offset_end c.args.layout.now c.args.n c.loop-i.i c.requires.kind (sym c.in-None.ensures) (omega arith))
 
 pub returns-in-None-clause-fits : goal.returns-in-None-clause-fits
 returns-in-None-clause-fits c = omega (arith, c.loop-i.invariant, offset_fits c.args.layout.now c.loop-i.i c.requires.well)

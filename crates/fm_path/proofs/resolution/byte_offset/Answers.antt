@@ -6,7 +6,8 @@ use Rattle.fm_path.proofs.resolution.byte_offset.Goals as goal
 
 pub returns-in-Err-clause-refused : goal.returns-in-Err-clause-refused
 returns-in-Err-clause-refused c =
-    refused_closed c.args.path.now c.args.layout.now _ (on_way_err move_closed _ _ _ _ _ _ c.index-path-k.result c.in-Err.refused c.loop-k.invariant c.loop-k-test.true c.index-path-k.is c.in-Err.ensures)
+    refused_closed c.args.path.now c.args.layout.now _
+    (on_way_err move_closed _ _ _ _ _ _ c.index-path-k.result c.in-Err.refused c.loop-k.invariant c.loop-k-test.true c.index-path-k.is c.in-Err.ensures)
 
 pub loop-k-preserved : goal.loop-k-preserved
 loop-k-preserved c =

@@ -9,7 +9,8 @@ use Rattle.fm_path.proofs.resolution.resolve.Goals as goal
 
 pub returns-in-Err-clause-refused : goal.returns-in-Err-clause-refused
 returns-in-Err-clause-refused c = at_step c.in-Err.refusal
-    (refused c.args.path.now c.args.layout.now _ (on_way_err move _ _ _ _ _ _ c.index-path-k.result c.in-Err.refusal c.loop-k.invariant c.loop-k-test.true c.index-path-k.is c.in-Err.ensures))
+    (refused c.args.path.now c.args.layout.now _
+    (on_way_err move _ _ _ _ _ _ c.index-path-k.result c.in-Err.refusal c.loop-k.invariant c.loop-k-test.true c.index-path-k.is c.in-Err.ensures))
 
 pub loop-k-preserved : goal.loop-k-preserved
 loop-k-preserved c =
@@ -18,12 +19,14 @@ loop-k-preserved c =
 
 pub of-requires : goal.of-requires
 of-requires c =
-    stays_inside _ _ _ _ _ _ _ _ c.size-root_size.ensures.well_formed (on_way_leads _ _ _ _ _ _ c.loop-k.invariant c.loop-k-test.false) c.in-Some.ensures c.size-root_size.ensures.size c.alignment.ensures.alignment
+    stays_inside _ _ _ _ _ _ _ _ c.size-root_size.ensures.well_formed (on_way_leads _ _ _ _ _ _ c.loop-k.invariant c.loop-k-test.false) c.in-Some.ensures
+    c.size-root_size.ensures.size c.alignment.ensures.alignment
 
 pub returns-in-Some-clause-resolved : goal.returns-in-Some-clause-resolved
 returns-in-Some-clause-resolved c =
     subst (IsResolved c.args.path.now c.args.layout.now) (sym c.of.ensures)
-    (is_resolved _ _ _ _ _ _ _ _ c.size-root_size.ensures.well_formed (on_way_leads _ _ _ _ _ _ c.loop-k.invariant c.loop-k-test.false) c.in-Some.ensures c.size-root_size.ensures.size c.alignment.ensures.alignment)
+    (is_resolved _ _ _ _ _ _ _ _ c.size-root_size.ensures.well_formed (on_way_leads _ _ _ _ _ _ c.loop-k.invariant c.loop-k-test.false) c.in-Some.ensures
+    c.size-root_size.ensures.size c.alignment.ensures.alignment)
 
 pub returns-in-None-clause-refused : goal.returns-in-None-clause-refused
 returns-in-None-clause-refused c =
@@ -31,4 +34,5 @@ returns-in-None-clause-refused c =
     no_value (record { last = c.loop-k.here.now; ends = leads_end _ _ _ _ _ l; no_value = c.in-None.ensures })
 
 pub returns-in_err-add-clause-refused : goal.returns-in_err-add-clause-refused
-returns-in_err-add-clause-refused c = let p = err_from_is_err_and c.from_residual.result c.from_residual.ensures.1 in rw (p.1, p.2, c.in_err-add.ensures.memory) no_memory
+returns-in_err-add-clause-refused c = let p = err_from_is_err_and c.from_residual.result c.from_residual.ensures.1 in
+    rw (p.1, p.2, c.in_err-add.ensures.memory) no_memory

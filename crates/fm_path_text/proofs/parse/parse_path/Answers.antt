@@ -9,17 +9,20 @@ pub returns-in-Dead-clause-refused : goal.returns-in-Dead-clause-refused
 returns-in-Dead-clause-refused c =
     let e = c.as_bytes-byte-items.ensures.value in
     ends_at _ _ _ _ c.loop-at.invariant (omega (arith, ap length e))
-    (goes_on _ _ _ _ _ _ _ c.loop-at.invariant (omega (arith, ap length e)) (c.len.ensures ∙ c.loop-at.path.ok.0) (c.of.ensures.sign ∙ ap (λ t. sign_of (get_or t c.loop-at.at 0)) e) c.in-Dead.ensures)
+    (goes_on _ _ _ _ _ _ _ c.loop-at.invariant (omega (arith, ap length e)) (c.len.ensures ∙ c.loop-at.path.ok.0) (c.of.ensures.sign
+    ∙ ap (λ t. sign_of (get_or t c.loop-at.at 0)) e) c.in-Dead.ensures)
 
 pub loop-at-preserved : goal.loop-at-preserved
 loop-at-preserved c =
     let e = c.as_bytes-byte-items.ensures.value in
     elim c.match-next.branch [
       | in-Stay w ↦ stays _ _ _ _ _ _
-          (goes_on _ _ _ _ _ _ _ c.loop-at.invariant (omega (arith, ap length e)) (c.len.ensures ∙ c.loop-at.path.ok.0) (c.of.ensures.sign ∙ ap (λ t. sign_of (get_or t c.loop-at.at 0)) e) w.in-Stay.ensures)
+          (goes_on _ _ _ _ _ _ _ c.loop-at.invariant (omega (arith, ap length e)) (c.len.ensures ∙ c.loop-at.path.ok.0) (c.of.ensures.sign
+          ∙ ap (λ t. sign_of (get_or t c.loop-at.at 0)) e) w.in-Stay.ensures)
           (ap (λ v. v.items) w.path-is) w.part-is
       | in-Finish+in-Ok w ↦ finishes _ _ _ _ _ _ _
-          (goes_on _ _ _ _ _ _ _ c.loop-at.invariant (omega (arith, ap length e)) (c.len.ensures ∙ c.loop-at.path.ok.0) (c.of.ensures.sign ∙ ap (λ t. sign_of (get_or t c.loop-at.at 0)) e) w.in-Finish.ensures)
+          (goes_on _ _ _ _ _ _ _ c.loop-at.invariant (omega (arith, ap length e)) (c.len.ensures ∙ c.loop-at.path.ok.0) (c.of.ensures.sign
+          ∙ ap (λ t. sign_of (get_or t c.loop-at.at 0)) e) w.in-Finish.ensures)
           (ap (λ v. v.items) w.path-is ∙ w.in-Ok.ensures.items) w.part-is
     ]
 

@@ -7,7 +7,8 @@ use Rattle.fm_query.proofs.resolving.resolve_conditions.Goals as goal
 
 pub returns-in-Err-clause-refused : goal.returns-in-Err-clause-refused
 returns-in-Err-clause-refused c =
-    refused_or (IsConditionOf c.args.layout.now) (IsConditionRefused c.args.layout.now) _ _ _ _ _ c.loop-k.invariant c.loop-k-test.true c.index-conditions-k.is c.in-Err.ensures.refused
+    refused_or (IsConditionOf c.args.layout.now) (IsConditionRefused c.args.layout.now) _ _ _ _ _ c.loop-k.invariant c.loop-k-test.true
+    c.index-conditions-k.is c.in-Err.ensures.refused
 
 pub loop-k-preserved : goal.loop-k-preserved
 loop-k-preserved c =

@@ -7,7 +7,8 @@ use Rattle.fm_query.proofs.resolving.resolve_items.Goals as goal
 
 pub returns-in-Err-clause-refused : goal.returns-in-Err-clause-refused
 returns-in-Err-clause-refused c =
-    refused_or (IsItemOf c.args.layout.now) (IsItemRefused c.args.layout.now) _ _ _ _ _ c.loop-k.invariant c.loop-k-test.true c.index-items-k.is c.in-Err.ensures.refused
+    refused_or (IsItemOf c.args.layout.now) (IsItemRefused c.args.layout.now) _ _ _ _ _ c.loop-k.invariant c.loop-k-test.true c.index-items-k.is
+    c.in-Err.ensures.refused
 
 pub loop-k-preserved : goal.loop-k-preserved
 loop-k-preserved c =

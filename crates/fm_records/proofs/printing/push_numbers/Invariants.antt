@@ -4,5 +4,5 @@ use Rattle.std.specs.String.{string_bytes}
 use Rattle.fm_records.specs.Texts.{number_text}
 use Rattle.fm_records.proofs.printing.push_numbers.Given as goal
 
-abbrev pub invariant-loop-n : goal.invariant-loop-n
-invariant-loop-n l = string_bytes l.text ≡ string_bytes l.initial.text ++ flat_map number_text (take l.n-index l.n-items)
+abbrev pub invariant-loop-k : goal.invariant-loop-k
+invariant-loop-k l = string_bytes l.text ≡ string_bytes l.initial.text ++ flat_map number_text (take l.k l.numbers)

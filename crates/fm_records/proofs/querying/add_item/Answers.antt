@@ -6,7 +6,8 @@ use Rattle.fm_path_meaning.specs.declared.dim.Dim.{Dim}
 use Rattle.std.proofs.Common.{List, ℕ}
 use Rattle.fm_query.specs.declared.item.Asked.{Asked}
 use Rattle.fm_records.specs.Few.{HasRoom, how_many}
-use Rattle.fm_records.specs.Reads.{IsReadable, ReachesInside, value_places}
+use Rattle.fm_records.specs.Adds.{IsReadable, ReachesInside}
+use Rattle.fm_records.specs.Reads.{value_places}
 use Rattle.fm_records.specs.Values.{index_lists}
 use Rattle.fm_records.proofs.Items.{item_counted, item_empty, item_read}
 use Rattle.fm_records.proofs.Reaching.{wide_inside, wide_many, wide_none, wide_places}
@@ -14,7 +15,8 @@ use Rattle.fm_records.proofs.querying.add_item.Goals as goal
 
 pub returns-in-Count : goal.returns-in-Count
 returns-in-Count g c =
-    item_counted (g.M.Memory.view c.args.m.now) c.args.s.now c.args.place c.args.asked.now c.args.found.now c.add_record.new.self c.in-Count.is c.add_record.ensures
+    item_counted (g.M.Memory.view c.args.m.now) c.args.s.now c.args.place c.args.asked.now c.args.found.now c.add_record.new.self c.in-Count.is
+    c.add_record.ensures
 
 pub returns-then-has_no_values : goal.returns-then-has_no_values
 returns-then-has_no_values g c =
@@ -23,8 +25,8 @@ returns-then-has_no_values g c =
     item_empty c.args.s.now c.args.place c.args.asked.now c.in-Of.is (g.M.Memory.view c.args.m.now) c.args.found.now c.requires.kind
     (wide_none c.args.place r.offset r.dims (sym (ap index_lists e) ∙ c.if-has_no_values.ensures refl))
 
-pub add_values-requires-clause-inside : goal.add_values-requires-clause-inside
-add_values-requires-clause-inside g c =
+pub add_all-requires-clause-inside : goal.add_all-requires-clause-inside
+add_all-requires-clause-inside g c =
     let r = c.in-Of.path in
     let s = c.args.s.now in
     let e : c.wide-dims.result.now ≡ wide_dims c.in-Of.path.dims = c.wide-dims.ensures ∙ ap wide_dims c.dims.ensures in
@@ -33,8 +35,8 @@ add_values-requires-clause-inside g c =
     (subst (λ (n : ℕ). ReachesInside s c.args.place n c.wide-dims.result.now r.value) (sym c.offset.ensures)
     (subst (λ (ds : List Dim). ReachesInside s c.args.place r.offset ds r.value) (sym e) (wide_inside s c.args.place r.offset r.dims r.value readable)))
 
-pub add_values-requires-clause-room : goal.add_values-requires-clause-room
-add_values-requires-clause-room g c =
+pub add_all-requires-clause-room : goal.add_all-requires-clause-room
+add_all-requires-clause-room g c =
     let r = c.in-Of.path in
     let e : c.wide-dims.result.now ≡ wide_dims c.in-Of.path.dims = c.wide-dims.ensures ∙ ap wide_dims c.dims.ensures in
     subst (HasRoom c.args.found.now) (ap how_many c.in-Of.is ∙ sym (ap (λ (ds : List Dim). length (index_lists ds)) e ∙ wide_many r.dims)) c.requires.room
@@ -43,5 +45,7 @@ pub returns-else-has_no_values : goal.returns-else-has_no_values
 returns-else-has_no_values g c =
     let r = c.in-Of.path in
     let e : c.wide-dims.result.now ≡ wide_dims c.in-Of.path.dims = c.wide-dims.ensures ∙ ap wide_dims c.dims.ensures in
-    let places = ap (λ n. value_places c.args.place n c.wide-dims.result.now) c.offset.ensures ∙ ap (value_places c.args.place r.offset) e ∙ wide_places c.args.place r.offset r.dims in
-    item_read c.args.s.now c.args.place c.args.asked.now c.in-Of.is c.args.found.now c.add_values.new.found _ c.value.result.now c.add_values.result c.requires.kind places c.value.ensures c.add_values.ensures
+    let places = ap (λ n. value_places c.args.place n c.wide-dims.result.now) c.offset.ensures ∙ ap (value_places c.args.place r.offset) e
+    ∙ wide_places c.args.place r.offset r.dims in
+    item_read c.args.s.now c.args.place c.args.asked.now c.in-Of.is c.args.found.now c.add_all.new.found _ c.value.result.now c.add_all.result
+    c.requires.kind places c.value.ensures c.add_all.ensures

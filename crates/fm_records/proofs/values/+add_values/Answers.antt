@@ -1,13 +1,11 @@
 -- The values are read and added index by index.
-use Rattle.std.proofs.Common.{◌≡◌, ◌-◌, ◌++◌, ◌∷◌, [], ℕ, List, pos, length, take, drop, slice_index_or, subst, ap, ◌∙◌, arith, suc, Ok, Err}
-use Rattle.fm_base.specs.Calls.{Entry}
-use Rattle.fm_base.specs.View.{Did}
+use Rattle.std.proofs.Common.{◌≡◌, ◌-◌, ◌++◌, ◌∷◌, [], List, pos, length, take, drop, slice_index_or, subst, ap, ◌∙◌, arith, suc, Ok, Err}
 use Rattle.fm_path_meaning.specs.declared.dim.Dim.{Dim}
 use Rattle.fm_records.specs.Few.{HasRoom}
-use Rattle.fm_records.specs.Reads.{AddsNumbers, DoesRead, ReachesInside, StopsNumbers}
+use Rattle.fm_records.specs.Adds.{ReachesInside}
 use Rattle.fm_records.specs.Values.{index_lists}
 use Rattle.fm_records.proofs.Adding.{added_none, added_more, added_all, added_stops, added_room, lists_by_first}
-use Rattle.fm_records.proofs.Reaching.{split, reached, closed_lies}
+use Rattle.fm_records.proofs.Reaching.{split, reached, reached_did, closed_lies}
 use Rattle.fm_records.proofs.Visiting.{can_still}
 use Rattle.fm_records.proofs.values.+add_values.Goals as goal
 
@@ -41,8 +39,6 @@ add_values-requires g t c κs within =
 
 pub returns-in-Err : goal.returns-in-Err
 returns-in-Err g t c =
-    let v = g.M.Memory.view in
-    let now = v c.loop-i.m in
     let s = c.args.s.now in
     let ds = c.args.dims.now in
     let z : Dim = record { stride = pos 0; bound = 0 } in
@@ -51,14 +47,11 @@ returns-in-Err g t c =
     let e : ds ≡ d ∷ more = split ds z (omega (arith, c.in-len1-up.len_at_least)) in
     let r = reached s c.args.place c.args.at c.reach_of.result d more c.args.value c.loop-i.i
     (subst (λ (xs : List Dim). ReachesInside s c.args.place c.args.at xs c.args.value) e c.requires.inside) c.loop-i-test.true c.reach_of.ensures in
-    added_stops c.in-Err.refusal ds c.loop-i.invariant.added c.loop-i-test.true e
-    (subst (λ (ps : List ℕ). Did now (v c.add_values.new.m) (DoesRead now.caller s (λ (x : Unit {0}) (es : List Entry). AddsNumbers now.caller s.arena c.args.value ps c.loop-i.found c.add_values.new.found es) (StopsNumbers now.caller s.arena c.args.value ps) (Err c.in-Err.refusal)))
-    r.places c.in-Err.ensures)
+    added_stops c.add_values.new.found c.in-Err.refusal ds c.loop-i.invariant.added c.loop-i-test.true e
+    (reached_did c.loop-i.found c.add_values.new.found (Err c.in-Err.refusal) r c.in-Err.ensures)
 
 pub loop-i-preserved : goal.loop-i-preserved
 loop-i-preserved g t c =
-    let v = g.M.Memory.view in
-    let now = v c.loop-i.m in
     let s = c.args.s.now in
     let ds = c.args.dims.now in
     let z : Dim = record { stride = pos 0; bound = 0 } in
@@ -67,8 +60,7 @@ loop-i-preserved g t c =
     let e : ds ≡ d ∷ more = split ds z (omega (arith, c.in-len1-up.len_at_least)) in
     let r = reached s c.args.place c.args.at c.reach_of.result d more c.args.value c.loop-i.i
     (subst (λ (xs : List Dim). ReachesInside s c.args.place c.args.at xs c.args.value) e c.requires.inside) c.loop-i-test.true c.reach_of.ensures in
-    let did = subst (λ (ps : List ℕ). Did now (v c.add_values.new.m) (DoesRead now.caller s (λ (x : Unit {0}) (es : List Entry). AddsNumbers now.caller s.arena c.args.value ps c.loop-i.found c.add_values.new.found es) (StopsNumbers now.caller s.arena c.args.value ps) (Ok c.in-Ok.field-0)))
-    r.places c.in-Ok.ensures in
+    let did = reached_did c.loop-i.found c.add_values.new.found (Ok c.in-Ok.field-0) r c.in-Ok.ensures in
     record { own = c.loop-i.invariant.own ++ did.own; added = added_more c.loop-i.invariant.added did }
 
 pub returns-after-loop-i : goal.returns-after-loop-i

@@ -28,9 +28,11 @@ returns-in-Ok g c =
     let v = g.M.Memory.view in
     let z = c.number.result in
     let read : to_z w64 (of_z w64 z) ≡ z = to_z-of_z w64 z (search (rules, c.number.type_inv)) in
-    number_done (v c.args.m.now) (v c.get_value.new.m) c.args.s.now c.args.value c.args.place c.arena.result c.in-Ok.value _ c.arena.ensures (read ∙ c.number.ensures) c.requires.lies c.in-Ok.ensures.did
+    number_done (v c.args.m.now) (v c.get_value.new.m) c.args.s.now c.args.value c.args.place c.arena.result c.in-Ok.value _ c.arena.ensures (read
+    ∙ c.number.ensures) c.requires.lies c.in-Ok.ensures.did
 
 pub returns-in-Err : goal.returns-in-Err
 returns-in-Err g c =
     let v = g.M.Memory.view in
-    number_stopped (v c.args.m.now) (v c.get_value.new.m) c.args.s.now c.args.value c.args.place c.arena.result c.in-Err.refusal c.arena.ensures c.requires.can c.requires.lies c.in-Err.ensures.did
+    number_stopped (v c.args.m.now) (v c.get_value.new.m) c.args.s.now c.args.value c.args.place c.arena.result c.in-Err.refusal c.arena.ensures
+    c.requires.can c.requires.lies c.in-Err.ensures.did

@@ -1,11 +1,8 @@
 -- The values of one row are read and added index by index.
-use Rattle.std.proofs.Common.{◌++◌, ◌∷◌, [], ◌<◌, ℕ, List, subst, refl, arith, Ok, Err}
-use Rattle.fm_base.specs.Calls.{Entry}
-use Rattle.fm_base.specs.View.{Did}
+use Rattle.std.proofs.Common.{◌++◌, ◌∷◌, [], ◌<◌, subst, refl, arith, Ok, Err}
 use Rattle.fm_records.specs.Few.{HasRoom}
-use Rattle.fm_records.specs.Reads.{AddsNumbers, DoesRead, StopsNumbers}
 use Rattle.fm_records.proofs.Adding.{added_none, added_more, added_all, added_stops, added_room, lists_by_first}
-use Rattle.fm_records.proofs.Reaching.{reached, closed_lies}
+use Rattle.fm_records.proofs.Reaching.{reached, reached_did, closed_lies}
 use Rattle.fm_records.proofs.Visiting.{can_still}
 use Rattle.fm_records.proofs.values.row_of.Goals as goal
 
@@ -15,7 +12,8 @@ loop-i-init g c = record { own = []; added = added_none _ }
 pub overflow_add-place : goal.overflow_add-place
 overflow_add-place g c =
     let none : 0 < 1 = omega arith in
-    let r = reached c.args.s.now c.args.place c.args.at c.reach_of-next.result c.args.dim [] c.args.value c.loop-i.i c.requires.inside c.loop-i-test.true c.reach_of-next.ensures in
+    let r = reached c.args.s.now c.args.place c.args.at c.reach_of-next.result c.args.dim [] c.args.value c.loop-i.i c.requires.inside c.loop-i-test.true
+    c.reach_of-next.ensures in
     let lies = closed_lies c.args.s.now c.args.place c.reach_of-next.result [] c.args.value r.inside none in
     let within = lies.within in
     let ends = c.requires.can.ends in
@@ -27,7 +25,8 @@ add_value-requires-clause-can g c = can_still c.requires.can c.loop-i.invariant.
 pub add_value-requires-clause-lies : goal.add_value-requires-clause-lies
 add_value-requires-clause-lies g c =
     let none : 0 < 1 = omega arith in
-    let r = reached c.args.s.now c.args.place c.args.at c.reach_of-next.result c.args.dim [] c.args.value c.loop-i.i c.requires.inside c.loop-i-test.true c.reach_of-next.ensures in
+    let r = reached c.args.s.now c.args.place c.args.at c.reach_of-next.result c.args.dim [] c.args.value c.loop-i.i c.requires.inside c.loop-i-test.true
+    c.reach_of-next.ensures in
     closed_lies c.args.s.now c.args.place c.reach_of-next.result [] c.args.value r.inside none
 
 pub add_value-requires-clause-room : goal.add_value-requires-clause-room
@@ -36,22 +35,18 @@ add_value-requires-clause-room g c =
 
 pub returns-in-Err : goal.returns-in-Err
 returns-in-Err g c =
-    let v = g.M.Memory.view in
-    let now = v c.loop-i.m in
     let s = c.args.s.now in
-    let r = reached s c.args.place c.args.at c.reach_of-next.result c.args.dim [] c.args.value c.loop-i.i c.requires.inside c.loop-i-test.true c.reach_of-next.ensures in
-    added_stops c.in-Err.refusal (c.args.dim ∷ []) c.loop-i.invariant.added c.loop-i-test.true refl
-    (subst (λ (ps : List ℕ). Did now (v c.add_value.new.m) (DoesRead now.caller s (λ (x : Unit {0}) (es : List Entry). AddsNumbers now.caller s.arena c.args.value ps c.loop-i.found c.add_value.new.found es) (StopsNumbers now.caller s.arena c.args.value ps) (Err c.in-Err.refusal)))
-    r.places c.in-Err.ensures)
+    let r = reached s c.args.place c.args.at c.reach_of-next.result c.args.dim [] c.args.value c.loop-i.i c.requires.inside c.loop-i-test.true
+    c.reach_of-next.ensures in
+    added_stops c.add_value.new.found c.in-Err.refusal (c.args.dim ∷ []) c.loop-i.invariant.added c.loop-i-test.true refl
+    (reached_did c.loop-i.found c.add_value.new.found (Err c.in-Err.refusal) r c.in-Err.ensures)
 
 pub loop-i-preserved : goal.loop-i-preserved
 loop-i-preserved g c =
-    let v = g.M.Memory.view in
-    let now = v c.loop-i.m in
     let s = c.args.s.now in
-    let r = reached s c.args.place c.args.at c.reach_of-next.result c.args.dim [] c.args.value c.loop-i.i c.requires.inside c.loop-i-test.true c.reach_of-next.ensures in
-    let did = subst (λ (ps : List ℕ). Did now (v c.add_value.new.m) (DoesRead now.caller s (λ (x : Unit {0}) (es : List Entry). AddsNumbers now.caller s.arena c.args.value ps c.loop-i.found c.add_value.new.found es) (StopsNumbers now.caller s.arena c.args.value ps) (Ok c.in-Ok.field-0)))
-    r.places c.in-Ok.ensures in
+    let r = reached s c.args.place c.args.at c.reach_of-next.result c.args.dim [] c.args.value c.loop-i.i c.requires.inside c.loop-i-test.true
+    c.reach_of-next.ensures in
+    let did = reached_did c.loop-i.found c.add_value.new.found (Ok c.in-Ok.field-0) r c.in-Ok.ensures in
     record { own = c.loop-i.invariant.own ++ did.own; added = added_more c.loop-i.invariant.added did }
 
 pub returns : goal.returns

@@ -1,13 +1,35 @@
-use Rattle.std.proofs.Common.{Some, Err, ap, ◌∙◌}
+use Rattle.std.proofs.Common.{Some}
+use Rattle.std.proofs.lemmas.Result.{IfOk-weaker}
 use Rattle.fm_top.specs.Ending.{shown}
-use Rattle.fm_top.proofs.Outcomes.{answer-over}
+use Rattle.fm_top.specs.declared.load_fault.LoadFault.TheVariants.{Missing, TooLong}
+use Rattle.fm_top.proofs.Unloaded.{fault_of, misses_only, failed_load, unfailed_load, answer_unloaded}
 use Rattle.fm_top.proofs.answering.answer_ending.Goals as goal
 
 pub returns-in_ok-loaded_ending-in-Ok-clause-outcome : goal.returns-in_ok-loaded_ending-in-Ok-clause-outcome
 returns-in_ok-loaded_ending-in-Ok-clause-outcome g c = (Some c.in-Ok.loaded, c.in-Ok.ensures.whole, c.in_ok-loaded_ending-in-Ok.ensures)
 
-pub returns-in_ok-too_long-in-Err-TooLong-clause-outcome : goal.returns-in_ok-too_long-in-Err-TooLong-clause-outcome
-returns-in_ok-too_long-in-Err-TooLong-clause-outcome g c =
-    let ending = c.in_ok-too_long-in-Err-TooLong in
-    answer-over c.args.q.now c.args.file.now (g.F.Files.holds c.args.files.now) (shown ending.field-0)
-    (c.load.ensures.too_long (c.in-Err-TooLong.is ∙ ap Err c.in-Err-TooLong.field-0-is)) ending.ensures
+pub returns-in-Err-clause-outcome : goal.returns-in-Err-clause-outcome
+returns-in-Err-clause-outcome g c =
+    let load = c.load in
+    let fault = c.in-Err.fault in
+    IfOk-weaker c.unloaded_ending.result _ _
+    (λ ending ends. answer_unloaded c.args.q.now c.args.file.now (g.F.Files.holds c.args.files.now) fault (shown ending)
+    (λ is. load.ensures.absent (fault_of load.result fault Missing c.in-Err.is is))
+    (λ is. load.ensures.too_long (fault_of load.result fault TooLong c.in-Err.is is)) ends) c.unloaded_ending.ensures.ending
+
+pub returns-in-Err-clause-missing : goal.returns-in-Err-clause-missing
+returns-in-Err-clause-missing g c =
+    let load = c.load in
+    let fault = c.in-Err.fault in
+    misses_only c.unloaded_ending.result fault _ _ _ (λ is. load.ensures.missing (fault_of load.result fault Missing c.in-Err.is is))
+    c.unloaded_ending.ensures.ending
+
+pub returns-in-Err-clause-failed : goal.returns-in-Err-clause-failed
+returns-in-Err-clause-failed g c =
+    let load = c.load in
+    λ failed. load.ensures.failed (failed_load load.result c.in-Err.fault c.unloaded_ending.result c.in-Err.is c.unloaded_ending.ensures.failed failed)
+
+pub returns-in-Err-clause-quiet : goal.returns-in-Err-clause-quiet
+returns-in-Err-clause-quiet g c =
+    let load = c.load in
+    λ other. load.ensures.quiet (unfailed_load load.result c.in-Err.fault c.unloaded_ending.result c.in-Err.is c.unloaded_ending.ensures.failed other)

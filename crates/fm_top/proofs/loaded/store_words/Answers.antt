@@ -9,7 +9,9 @@ loop-k-preserved c =
     let stored = c.store_held.ensures in
     let before = c.loop-k.invariant in
     record {
-      front = store_next old (words_at c.store_held.new.memory c.args.arena) c.args.words.now (take c.args.first (words_at c.args.memory.now c.args.arena)) c.args.first c.loop-k.k (omega (arith, c.requires.given, before.given, before.held.size, before.held.within)) c.loop-k-test.true stored.words_are before.front;
+      front = store_next old (words_at c.store_held.new.memory c.args.arena) c.args.words.now (take c.args.first (words_at c.args.memory.now c.args.arena))
+          c.args.first c.loop-k.k (omega (arith, c.requires.given, before.given, before.held.size, before.held.within)) c.loop-k-test.true stored.words_are
+          before.front;
       held = stored.held;
       given = stored.given_is ∙ before.given;
     }

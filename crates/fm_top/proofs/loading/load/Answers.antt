@@ -27,9 +27,11 @@ loop-loaded-preserved g c =
       quiet = step.quiet (λ e. absurd (cc)) ∙ old.quiet;
       found = step.found (λ e. absurd (cc)) ∙ old.found;
       reads = let files = g.F.Files in
-          ReadsFile-append (files.reads c.args.files.now) (files.reads c.loop-loaded.files) (files.reads c.load_chunk.new.files) c.args.name.now piece_limit (record_file_limit + 1) 0 (length c.loop-loaded.loaded)
+          ReadsFile-append (files.reads c.args.files.now) (files.reads c.loop-loaded.files) (files.reads c.load_chunk.new.files) c.args.name.now piece_limit
+          (record_file_limit + 1) 0 (length c.loop-loaded.loaded)
           (λ next. next ≡ At (length c.load_chunk.new.loaded)) c.loop-loaded.invariant.reads
-          (chunk_goes _ _ c.args.name.now (record_file_limit + 1) (length c.loop-loaded.loaded) (length c.load_chunk.new.loaded) (rw c.in-Ok-false.field-0-test at step.reads));
+          (chunk_goes _ _ c.args.name.now (record_file_limit + 1) (length c.loop-loaded.loaded) (length c.load_chunk.new.loaded)
+          (rw c.in-Ok-false.field-0-test at step.reads));
       faults_stay = omega (arith, step.faults_stay, old.faults_stay);
       misses_stay = omega (arith, step.misses_stay, old.misses_stay);
     }
@@ -47,13 +49,15 @@ returns-in-Ok-true-clause-whole g c =
 pub returns-in-Ok-true-clause-reads : goal.returns-in-Ok-true-clause-reads
 returns-in-Ok-true-clause-reads g c =
     let files = g.F.Files in
-    ReadsFile-append (files.reads c.args.files.now) (files.reads c.loop-loaded.files) (files.reads c.load_chunk.new.files) c.args.name.now piece_limit (record_file_limit + 1) 0 (length c.loop-loaded.loaded)
+    ReadsFile-append (files.reads c.args.files.now) (files.reads c.loop-loaded.files) (files.reads c.load_chunk.new.files) c.args.name.now piece_limit
+    (record_file_limit + 1) 0 (length c.loop-loaded.loaded)
     (λ next. Unit {0}) c.loop-loaded.invariant.reads
     (any_goes _ _ c.args.name.now (record_file_limit + 1) (length c.loop-loaded.loaded) _ c.in-Ok-true.ensures.reads)
 
 pub returns-in-Err-clause-reads : goal.returns-in-Err-clause-reads
 returns-in-Err-clause-reads g c =
     let files = g.F.Files in
-    ReadsFile-append (files.reads c.args.files.now) (files.reads c.loop-loaded.files) (files.reads c.load_chunk.new.files) c.args.name.now piece_limit (record_file_limit + 1) 0 (length c.loop-loaded.loaded)
+    ReadsFile-append (files.reads c.args.files.now) (files.reads c.loop-loaded.files) (files.reads c.load_chunk.new.files) c.args.name.now piece_limit
+    (record_file_limit + 1) 0 (length c.loop-loaded.loaded)
     (λ next. Unit {0}) c.loop-loaded.invariant.reads
     (any_goes _ _ c.args.name.now (record_file_limit + 1) (length c.loop-loaded.loaded) _ c.in-Err.ensures.reads)

@@ -8,29 +8,36 @@ use Rattle.fm_top.proofs.loading.load_chunk.Goals as goal
 
 pub returns-in-Err-Missing-clause-reads : goal.returns-in-Err-Missing-clause-reads
 returns-in-Err-Missing-clause-reads g c =
-    filled_reads _ _ _ _ (length c.args.loaded.now) _ (record_file_limit + 1) _ (λ next. Unit {0}) c.fill.ensures.reads (omega arith) (omega (arith, length-take {A = ℕ})) (omega (arith, length-take {A = ℕ})) (λ next goes. tt)
+    filled_reads _ _ _ _ (length c.args.loaded.now) _ (record_file_limit + 1) _ (λ next. Unit {0}) c.fill.ensures.reads (omega arith)
+    (omega (arith, length-take {A = ℕ})) (omega (arith, length-take {A = ℕ})) (λ next goes. tt)
 
 pub returns-in-Err-Failed-clause-reads : goal.returns-in-Err-Failed-clause-reads
 returns-in-Err-Failed-clause-reads g c =
-    filled_reads _ _ _ _ (length c.args.loaded.now) _ (record_file_limit + 1) _ (λ next. Unit {0}) c.fill.ensures.reads (omega arith) (omega (arith, length-take {A = ℕ})) (omega (arith, length-take {A = ℕ})) (λ next goes. tt)
+    filled_reads _ _ _ _ (length c.args.loaded.now) _ (record_file_limit + 1) _ (λ next. Unit {0}) c.fill.ensures.reads (omega arith)
+    (omega (arith, length-take {A = ℕ})) (omega (arith, length-take {A = ℕ})) (λ next goes. tt)
 
 pub returns-in-Err-Memory-clause-reads : goal.returns-in-Err-Memory-clause-reads
 returns-in-Err-Memory-clause-reads g c =
-    filled_reads _ _ _ _ (length c.args.loaded.now) _ (record_file_limit + 1) _ (λ next. Unit {0}) c.fill.ensures.reads (omega arith) (omega (arith, length-take {A = ℕ})) (omega (arith, length-take {A = ℕ})) (λ next goes. tt)
+    filled_reads _ _ _ _ (length c.args.loaded.now) _ (record_file_limit + 1) _ (λ next. Unit {0}) c.fill.ensures.reads (omega arith)
+    (omega (arith, length-take {A = ℕ})) (omega (arith, length-take {A = ℕ})) (λ next goes. tt)
 
 pub returns-then-n-rest-clause-reads : goal.returns-then-n-rest-clause-reads
 returns-then-n-rest-clause-reads g c =
-    filled_reads _ _ _ _ (length c.args.loaded.now) _ (record_file_limit + 1) _ (λ next. Unit {0}) c.fill.ensures.reads (omega arith) (omega (arith, length-take {A = ℕ})) (omega (arith, length-take {A = ℕ})) (λ next goes. tt)
+    filled_reads _ _ _ _ (length c.args.loaded.now) _ (record_file_limit + 1) _ (λ next. Unit {0}) c.fill.ensures.reads (omega arith)
+    (omega (arith, length-take {A = ℕ})) (omega (arith, length-take {A = ℕ})) (λ next goes. tt)
 
 pub returns-in-Err-clause-reads : goal.returns-in-Err-clause-reads
 returns-in-Err-clause-reads g c =
-    filled_reads _ _ _ _ (length c.args.loaded.now) _ (record_file_limit + 1) _ (λ next. Unit {0}) c.fill.ensures.reads (omega arith) (omega (arith, length-take {A = ℕ})) (omega (arith, length-take {A = ℕ})) (λ next goes. tt)
+    filled_reads _ _ _ _ (length c.args.loaded.now) _ (record_file_limit + 1) _ (λ next. Unit {0}) c.fill.ensures.reads (omega arith)
+    (omega (arith, length-take {A = ℕ})) (omega (arith, length-take {A = ℕ})) (λ next goes. tt)
 
 pub returns-in-Ok-push-clause-reads : goal.returns-in-Ok-push-clause-reads
 returns-in-Ok-push-clause-reads g c =
     let n = c.in-Ok.n in
     let room = c.min-room.result in
     let pushed = ap length c.in-Ok-push.ensures.ok in
-    filled_reads _ _ _ _ (length c.args.loaded.now) _ (record_file_limit + 1) _ (GoesBy (nat_lt n room) (length c.push.new.self)) c.in-Ok.ensures.reads (omega arith) (omega (arith, length-take {A = ℕ})) (omega (arith, length-take {A = ℕ}))
-    (λ next goes. goes_by _ _ room n (length c.push.new.self) next (omega (arith, length-take {A = ℕ})) (omega (arith, length-take {A = ℕ}, c.in-Ok.ensures.count))
+    filled_reads _ _ _ _ (length c.args.loaded.now) _ (record_file_limit + 1) _ (GoesBy (nat_lt n room) (length c.push.new.self)) c.in-Ok.ensures.reads
+    (omega arith) (omega (arith, length-take {A = ℕ})) (omega (arith, length-take {A = ℕ}))
+    (λ next goes. goes_by _ _ room n (length c.push.new.self) next (omega (arith, length-take {A = ℕ}))
+    (omega (arith, length-take {A = ℕ}, c.in-Ok.ensures.count))
     (omega (arith, pushed, length-append {A = ℕ}, length-take {A = ℕ}, c.in-Ok.ensures.count, c.fill.auto.buf)) goes)

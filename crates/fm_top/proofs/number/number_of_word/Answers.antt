@@ -6,4 +6,5 @@ returns-in_default-clause-none c = unread c.args.word.now c.parse.result c.in_de
 
 pub returns-else-eq-clause-none : goal.returns-else-eq-clause-none
 returns-else-eq-clause-none c =
-    no_spelling c.args.word.now c.format.result.now c.parse.result c.in-Ok.n c.eq.result c.parse.ensures.value.0 c.in-Ok.is c.format.ensures.text c.eq.ensures c.if-eq.false
+    no_spelling c.args.word.now c.format.result.now c.parse.result c.in-Ok.n c.eq.result c.parse.ensures.value.0 c.in-Ok.is c.format.ensures.text c.eq.ensures
+    c.if-eq.false

@@ -1,10 +1,12 @@
-use Rattle.std.proofs.Common.{Some, ℕ, List, Err, ap, subst, ◌∙◌}
+use Rattle.std.proofs.Common.{Some, ℕ, List, subst}
 use Rattle.std.proofs.lemmas.Result.{IfOk-weaker}
 use Rattle.fm_top.specs.Ending.{shown}
 use Rattle.fm_top.specs.Found.{OfFound}
 use Rattle.fm_top.specs.Keeps.{Nothing}
 use Rattle.fm_top.specs.Queries.{LayoutEnds, QueryText}
-use Rattle.fm_top.proofs.Outcomes.{query-whole, query-absent, query-over}
+use Rattle.fm_top.proofs.Outcomes.{query-whole}
+use Rattle.fm_top.specs.declared.load_fault.LoadFault.TheVariants.{Missing, TooLong}
+use Rattle.fm_top.proofs.Unloaded.{fault_of, misses_only, failed_load, unfailed_load, query_unloaded}
 use Rattle.fm_query.specs.Plan.{Plan}
 use Rattle.fm_top.specs.Causes.{IsAsked}
 use Rattle.fm_top.specs.Outcome.{record_file_limit}
@@ -17,24 +19,22 @@ returns-in-Ok-clause-outcome g c =
     let q = c.args.query.now in
     let held = g.F.Files.holds in
     IfOk-weaker c.layout_ending.result _ _
-    (λ ending ends. query-whole q.threads q.layout.now q.query.now q.file.now c.in-Ok.bytes.items (held c.args.files.now) (held c.read_whole.new.files) (shown ending)
+    (λ ending ends. query-whole q.threads q.layout.now q.query.now q.file.now c.in-Ok.bytes.items (held c.args.files.now) (held c.read_whole.new.files)
+    (shown ending)
     c.in-Ok.ensures.whole c.in-Ok.ensures.held
-    (subst (λ (bytes : List ℕ). OfFound (held c.read_whole.new.files) q.file.now (λ found. LayoutEnds bytes (QueryText q.query.now q.file.now found) Nothing (shown ending))) c.deref.ensures.value ends))
+    (subst (λ (bytes : List ℕ). OfFound (held c.read_whole.new.files) q.file.now (λ found.
+    LayoutEnds bytes (QueryText q.query.now q.file.now found) Nothing (shown ending))) c.deref.ensures.value ends))
     c.layout_ending.ensures.outcome
 
-pub returns-in_ok-missing-in-Err-Missing-clause-outcome : goal.returns-in_ok-missing-in-Err-Missing-clause-outcome
-returns-in_ok-missing-in-Err-Missing-clause-outcome g c =
+pub returns-in-Err-clause-outcome : goal.returns-in-Err-clause-outcome
+returns-in-Err-clause-outcome g c =
     let q = c.args.query.now in
-    let ending = c.in_ok-missing-in-Err-Missing in
-    query-absent q.threads q.layout.now q.query.now q.file.now (g.F.Files.holds c.args.files.now) (shown ending.field-0)
-    (c.read_whole.ensures.absent (c.in-Err-Missing.is ∙ ap Err c.in-Err-Missing.field-0-is)) ending.ensures
-
-pub returns-in_ok-too_long-in-Err-TooLong-clause-outcome : goal.returns-in_ok-too_long-in-Err-TooLong-clause-outcome
-returns-in_ok-too_long-in-Err-TooLong-clause-outcome g c =
-    let q = c.args.query.now in
-    let ending = c.in_ok-too_long-in-Err-TooLong in
-    query-over q.threads q.layout.now q.query.now q.file.now (g.F.Files.holds c.args.files.now) (shown ending.field-0)
-    (c.read_whole.ensures.too_long (c.in-Err-TooLong.is ∙ ap Err c.in-Err-TooLong.field-0-is)) ending.ensures
+    let load = c.read_whole in
+    let fault = c.in-Err.fault in
+    IfOk-weaker c.unloaded_ending.result _ _
+    (λ ending ends. query_unloaded q.threads q.layout.now q.query.now q.file.now (g.F.Files.holds c.args.files.now) fault (shown ending)
+    (λ is. load.ensures.absent (fault_of load.result fault Missing c.in-Err.is is))
+    (λ is. load.ensures.too_long (fault_of load.result fault TooLong c.in-Err.is is)) ends) c.unloaded_ending.ensures.ending
 
 pub returns-in-Ok-clause-reads : goal.returns-in-Ok-clause-reads
 returns-in-Ok-clause-reads g c =
@@ -45,40 +45,29 @@ returns-in-Ok-clause-reads g c =
     let new = files.reads c.layout_ending.new.files in
     query_both q.threads q.layout.now q.query.now q.file.now c.in-Ok.bytes.items told (files.reads c.args.files.now) mid new
     c.in-Ok.ensures.whole c.in-Ok.ensures.reads_whole
-    (subst (λ (bytes : List ℕ). ReadsIf mid new q.file.now record_file_limit ((p : Plan) × IsAsked (Some bytes) q.query.now p)) c.deref.ensures.value c.layout_ending.ensures.reads)
+    (subst (λ (bytes : List ℕ). ReadsIf mid new q.file.now record_file_limit ((p : Plan) × IsAsked (Some bytes) q.query.now p)) c.deref.ensures.value
+    c.layout_ending.ensures.reads)
 
-pub returns-in_ok-missing-in-Err-Missing-clause-reads : goal.returns-in_ok-missing-in-Err-Missing-clause-reads
-returns-in_ok-missing-in-Err-Missing-clause-reads g c =
+pub returns-in-Err-clause-reads : goal.returns-in-Err-clause-reads
+returns-in-Err-clause-reads g c =
     let q = c.args.query.now in
     let files = g.F.Files in
-    query_first q.threads q.layout.now q.query.now q.file.now (files.holds c.args.files.now) (files.reads c.args.files.now) (files.reads c.read_whole.new.files) _ c.read_whole.ensures.reads
+    query_first q.threads q.layout.now q.query.now q.file.now (files.holds c.args.files.now) (files.reads c.args.files.now)
+    (files.reads c.read_whole.new.files) _ c.read_whole.ensures.reads
 
-pub returns-in_err-missing-in-Err-Missing-clause-reads : goal.returns-in_err-missing-in-Err-Missing-clause-reads
-returns-in_err-missing-in-Err-Missing-clause-reads g c =
-    let q = c.args.query.now in
-    let files = g.F.Files in
-    query_first q.threads q.layout.now q.query.now q.file.now (files.holds c.args.files.now) (files.reads c.args.files.now) (files.reads c.read_whole.new.files) _ c.read_whole.ensures.reads
+pub returns-in-Err-clause-missing : goal.returns-in-Err-clause-missing
+returns-in-Err-clause-missing g c =
+    let load = c.read_whole in
+    let fault = c.in-Err.fault in
+    misses_only c.unloaded_ending.result fault _ _ _ (λ is. load.ensures.missing (fault_of load.result fault Missing c.in-Err.is is))
+    c.unloaded_ending.ensures.ending
 
-pub returns-in_ok-too_long-in-Err-TooLong-clause-reads : goal.returns-in_ok-too_long-in-Err-TooLong-clause-reads
-returns-in_ok-too_long-in-Err-TooLong-clause-reads g c =
-    let q = c.args.query.now in
-    let files = g.F.Files in
-    query_first q.threads q.layout.now q.query.now q.file.now (files.holds c.args.files.now) (files.reads c.args.files.now) (files.reads c.read_whole.new.files) _ c.read_whole.ensures.reads
+pub returns-in-Err-clause-failed : goal.returns-in-Err-clause-failed
+returns-in-Err-clause-failed g c =
+    let load = c.read_whole in
+    λ failed. load.ensures.failed (failed_load load.result c.in-Err.fault c.unloaded_ending.result c.in-Err.is c.unloaded_ending.ensures.failed failed)
 
-pub returns-in_err-too_long-in-Err-TooLong-clause-reads : goal.returns-in_err-too_long-in-Err-TooLong-clause-reads
-returns-in_err-too_long-in-Err-TooLong-clause-reads g c =
-    let q = c.args.query.now in
-    let files = g.F.Files in
-    query_first q.threads q.layout.now q.query.now q.file.now (files.holds c.args.files.now) (files.reads c.args.files.now) (files.reads c.read_whole.new.files) _ c.read_whole.ensures.reads
-
-pub returns-in-Err-Failed-clause-reads : goal.returns-in-Err-Failed-clause-reads
-returns-in-Err-Failed-clause-reads g c =
-    let q = c.args.query.now in
-    let files = g.F.Files in
-    query_first q.threads q.layout.now q.query.now q.file.now (files.holds c.args.files.now) (files.reads c.args.files.now) (files.reads c.read_whole.new.files) _ c.read_whole.ensures.reads
-
-pub returns-in-Err-Memory-clause-reads : goal.returns-in-Err-Memory-clause-reads
-returns-in-Err-Memory-clause-reads g c =
-    let q = c.args.query.now in
-    let files = g.F.Files in
-    query_first q.threads q.layout.now q.query.now q.file.now (files.holds c.args.files.now) (files.reads c.args.files.now) (files.reads c.read_whole.new.files) _ c.read_whole.ensures.reads
+pub returns-in-Err-clause-quiet : goal.returns-in-Err-clause-quiet
+returns-in-Err-clause-quiet g c =
+    let load = c.read_whole in
+    λ other. load.ensures.quiet (unfailed_load load.result c.in-Err.fault c.unloaded_ending.result c.in-Err.is c.unloaded_ending.ensures.failed other)

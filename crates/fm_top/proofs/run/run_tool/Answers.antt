@@ -15,7 +15,8 @@ returns-clause-usage g c =
     let ran = c.run_kept in
     let words = texts c.args.words.now in
     let told = files.holds c.args.files.now in
-    let t = traces_of (files.faults c.args.files.now) (files.faults ran.new.files) (out.faults c.args.out.now) (out.faults ran.new.out) (out.written c.args.out.now) (out.written ran.new.out) in
+    let t = traces_of (files.faults c.args.files.now) (files.faults ran.new.files) (out.faults c.args.out.now) (out.faults ran.new.out)
+    (out.written c.args.out.now) (out.written ran.new.out) in
     λ code. only_usage words told t (kept_in ran.new.kept) ran.result ran.ensures.runs (code_of-injective ran.result Usage (sym c.code.ensures ∙ code))
 
 pub returns-clause-missing : goal.returns-clause-missing
@@ -25,7 +26,8 @@ returns-clause-missing g c =
     let ran = c.run_kept in
     let words = texts c.args.words.now in
     let told = files.holds c.args.files.now in
-    let t = traces_of (files.faults c.args.files.now) (files.faults ran.new.files) (out.faults c.args.out.now) (out.faults ran.new.out) (out.written c.args.out.now) (out.written ran.new.out) in
+    let t = traces_of (files.faults c.args.files.now) (files.faults ran.new.files) (out.faults c.args.out.now) (out.faults ran.new.out)
+    (out.written c.args.out.now) (out.written ran.new.out) in
     λ code. only_missing words told t (kept_in ran.new.kept) ran.result ran.ensures.runs (code_of-injective ran.result Missing (sym c.code.ensures ∙ code))
 
 pub returns-clause-unread : goal.returns-clause-unread
@@ -35,7 +37,8 @@ returns-clause-unread g c =
     let ran = c.run_kept in
     let words = texts c.args.words.now in
     let told = files.holds c.args.files.now in
-    let t = traces_of (files.faults c.args.files.now) (files.faults ran.new.files) (out.faults c.args.out.now) (out.faults ran.new.out) (out.written c.args.out.now) (out.written ran.new.out) in
+    let t = traces_of (files.faults c.args.files.now) (files.faults ran.new.files) (out.faults c.args.out.now) (out.faults ran.new.out)
+    (out.written c.args.out.now) (out.written ran.new.out) in
     λ code. only_unread words told t (kept_in ran.new.kept) ran.result ran.ensures.runs (code_of-injective ran.result Unread (sym c.code.ensures ∙ code))
 
 pub returns-clause-refused : goal.returns-clause-refused
@@ -45,8 +48,10 @@ returns-clause-refused g c =
     let ran = c.run_kept in
     let words = texts c.args.words.now in
     let told = files.holds c.args.files.now in
-    let t = traces_of (files.faults c.args.files.now) (files.faults ran.new.files) (out.faults c.args.out.now) (out.faults ran.new.out) (out.written c.args.out.now) (out.written ran.new.out) in
-    λ code. only_refused words told t (kept_in ran.new.kept) ran.result ran.ensures.runs (code_of-injective ran.result LayoutRefused (sym c.code.ensures ∙ code))
+    let t = traces_of (files.faults c.args.files.now) (files.faults ran.new.files) (out.faults c.args.out.now) (out.faults ran.new.out)
+    (out.written c.args.out.now) (out.written ran.new.out) in
+    λ code. only_refused words told t (kept_in ran.new.kept) ran.result ran.ensures.runs
+    (code_of-injective ran.result LayoutRefused (sym c.code.ensures ∙ code))
 
 pub returns-clause-query_refused : goal.returns-clause-query_refused
 returns-clause-query_refused g c =
@@ -55,8 +60,10 @@ returns-clause-query_refused g c =
     let ran = c.run_kept in
     let words = texts c.args.words.now in
     let told = files.holds c.args.files.now in
-    let t = traces_of (files.faults c.args.files.now) (files.faults ran.new.files) (out.faults c.args.out.now) (out.faults ran.new.out) (out.written c.args.out.now) (out.written ran.new.out) in
-    λ code. only_query_refused words told t (kept_in ran.new.kept) ran.result ran.ensures.runs (code_of-injective ran.result QueryRefused (sym c.code.ensures ∙ code))
+    let t = traces_of (files.faults c.args.files.now) (files.faults ran.new.files) (out.faults c.args.out.now) (out.faults ran.new.out)
+    (out.written c.args.out.now) (out.written ran.new.out) in
+    λ code. only_query_refused words told t (kept_in ran.new.kept) ran.result ran.ensures.runs
+    (code_of-injective ran.result QueryRefused (sym c.code.ensures ∙ code))
 
 pub returns-clause-ragged : goal.returns-clause-ragged
 returns-clause-ragged g c =
@@ -65,7 +72,8 @@ returns-clause-ragged g c =
     let ran = c.run_kept in
     let words = texts c.args.words.now in
     let told = files.holds c.args.files.now in
-    let t = traces_of (files.faults c.args.files.now) (files.faults ran.new.files) (out.faults c.args.out.now) (out.faults ran.new.out) (out.written c.args.out.now) (out.written ran.new.out) in
+    let t = traces_of (files.faults c.args.files.now) (files.faults ran.new.files) (out.faults c.args.out.now) (out.faults ran.new.out)
+    (out.written c.args.out.now) (out.written ran.new.out) in
     λ code. only_ragged words told t (kept_in ran.new.kept) ran.result ran.ensures.runs (code_of-injective ran.result Ragged (sym c.code.ensures ∙ code))
 
 pub returns-clause-too_long : goal.returns-clause-too_long
@@ -75,7 +83,8 @@ returns-clause-too_long g c =
     let ran = c.run_kept in
     let words = texts c.args.words.now in
     let told = files.holds c.args.files.now in
-    let t = traces_of (files.faults c.args.files.now) (files.faults ran.new.files) (out.faults c.args.out.now) (out.faults ran.new.out) (out.written c.args.out.now) (out.written ran.new.out) in
+    let t = traces_of (files.faults c.args.files.now) (files.faults ran.new.files) (out.faults c.args.out.now) (out.faults ran.new.out)
+    (out.written c.args.out.now) (out.written ran.new.out) in
     λ code. only_too_long words told t (kept_in ran.new.kept) ran.result ran.ensures.runs (code_of-injective ran.result TooLong (sym c.code.ensures ∙ code))
 
 pub returns-clause-unwritten : goal.returns-clause-unwritten
@@ -85,7 +94,8 @@ returns-clause-unwritten g c =
     let ran = c.run_kept in
     let words = texts c.args.words.now in
     let told = files.holds c.args.files.now in
-    let t = traces_of (files.faults c.args.files.now) (files.faults ran.new.files) (out.faults c.args.out.now) (out.faults ran.new.out) (out.written c.args.out.now) (out.written ran.new.out) in
+    let t = traces_of (files.faults c.args.files.now) (files.faults ran.new.files) (out.faults c.args.out.now) (out.faults ran.new.out)
+    (out.written c.args.out.now) (out.written ran.new.out) in
     λ code. only_unwritten words told t (kept_in ran.new.kept) ran.result ran.ensures.runs (code_of-injective ran.result Unwritten (sym c.code.ensures ∙ code))
 
 pub returns-clause-missed : goal.returns-clause-missed
@@ -104,7 +114,8 @@ returns-clause-faulty g c =
     let ran = c.run_kept in
     let words = texts c.args.words.now in
     let told = files.holds c.args.files.now in
-    let t = traces_of (files.faults c.args.files.now) (files.faults ran.new.files) (out.faults c.args.out.now) (out.faults ran.new.out) (out.written c.args.out.now) (out.written ran.new.out) in
+    let t = traces_of (files.faults c.args.files.now) (files.faults ran.new.files) (out.faults c.args.out.now) (out.faults ran.new.out)
+    (out.written c.args.out.now) (out.written ran.new.out) in
     faulty_ends words told t (kept_in ran.new.kept) ran.result c.code.result ran.ensures.runs c.code.ensures
 
 pub returns-clause-complete : goal.returns-clause-complete
@@ -114,5 +125,6 @@ returns-clause-complete g c =
     let ran = c.run_kept in
     let words = texts c.args.words.now in
     let told = files.holds c.args.files.now in
-    let t = traces_of (files.faults c.args.files.now) (files.faults ran.new.files) (out.faults c.args.out.now) (out.faults ran.new.out) (out.written c.args.out.now) (out.written ran.new.out) in
+    let t = traces_of (files.faults c.args.files.now) (files.faults ran.new.files) (out.faults c.args.out.now) (out.faults ran.new.out)
+    (out.written c.args.out.now) (out.written ran.new.out) in
     complete words told t (kept_in ran.new.kept) ran.result c.code.result ran.ensures.runs c.code.ensures

@@ -10,8 +10,10 @@ pub returns-in-Ok-clause-runs : goal.returns-in-Ok-clause-runs
 returns-in-Ok-clause-runs g c =
     let files = g.F.Files in
     let out = g.O.Sink in
-    let t = traces_of (files.faults c.args.files.now) (files.faults c.ending_of.new.files) (out.faults c.args.out.now) (out.faults c.print.new.out) (out.written c.args.out.now) (out.written c.print.new.out) in
-    runs-printed (texts c.args.words.now) (files.holds c.args.files.now) t Nothing (shown c.in-Ok.ending) c.print.result c.in-Ok.ensures.outcome c.print.ensures.prints
+    let t = traces_of (files.faults c.args.files.now) (files.faults c.ending_of.new.files) (out.faults c.args.out.now) (out.faults c.print.new.out)
+    (out.written c.args.out.now) (out.written c.print.new.out) in
+    runs-printed (texts c.args.words.now) (files.holds c.args.files.now) t Nothing (shown c.in-Ok.ending) c.print.result c.in-Ok.ensures.outcome
+    c.print.ensures.prints
 
 pub returns-in-Err-Failed-clause-runs : goal.returns-in-Err-Failed-clause-runs
 returns-in-Err-Failed-clause-runs g c =

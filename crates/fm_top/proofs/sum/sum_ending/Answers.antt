@@ -1,24 +1,40 @@
-use Rattle.std.proofs.Common.{Err, ap, ◌∙◌}
+use Rattle.std.proofs.lemmas.Result.{IfOk-weaker}
 use Rattle.fm_top.specs.Ending.{shown}
-use Rattle.fm_top.proofs.Outcomes.{outcome-whole, outcome-absent, outcome-over}
+use Rattle.fm_top.proofs.Outcomes.{outcome-whole}
+use Rattle.fm_top.specs.declared.load_fault.LoadFault.TheVariants.{Missing, TooLong}
+use Rattle.fm_top.proofs.Unloaded.{fault_of, misses_only, failed_load, unfailed_load, sum_unloaded}
 use Rattle.fm_top.proofs.sum.sum_ending.Goals as goal
 
 pub returns-in_ok-loaded_ending-in-Ok-clause-outcome : goal.returns-in_ok-loaded_ending-in-Ok-clause-outcome
 returns-in_ok-loaded_ending-in-Ok-clause-outcome g c =
     let sum = c.args.sum.now in
     let ending = c.in_ok-loaded_ending-in-Ok in
-    outcome-whole sum.size sum.at sum.kind sum.file.now c.in-Ok.loaded (g.F.Files.holds c.args.files.now) (shown ending.field-0) c.in-Ok.ensures.whole ending.ensures
+    outcome-whole sum.size sum.at sum.kind sum.file.now c.in-Ok.loaded (g.F.Files.holds c.args.files.now) (shown ending.field-0) c.in-Ok.ensures.whole
+    ending.ensures
 
-pub returns-in_ok-missing-in-Err-Missing-clause-outcome : goal.returns-in_ok-missing-in-Err-Missing-clause-outcome
-returns-in_ok-missing-in-Err-Missing-clause-outcome g c =
+pub returns-in-Err-clause-outcome : goal.returns-in-Err-clause-outcome
+returns-in-Err-clause-outcome g c =
     let sum = c.args.sum.now in
-    let ending = c.in_ok-missing-in-Err-Missing in
-    outcome-absent sum.size sum.at sum.kind sum.file.now (g.F.Files.holds c.args.files.now) (shown ending.field-0)
-    (c.load.ensures.absent (c.in-Err-Missing.is ∙ ap Err c.in-Err-Missing.field-0-is)) ending.ensures
+    let load = c.load in
+    let fault = c.in-Err.fault in
+    IfOk-weaker c.unloaded_ending.result _ _
+    (λ ending ends. sum_unloaded sum.size sum.at sum.kind sum.file.now (g.F.Files.holds c.args.files.now) fault (shown ending)
+    (λ is. load.ensures.absent (fault_of load.result fault Missing c.in-Err.is is))
+    (λ is. load.ensures.too_long (fault_of load.result fault TooLong c.in-Err.is is)) ends) c.unloaded_ending.ensures.ending
 
-pub returns-in_ok-too_long-in-Err-TooLong-clause-outcome : goal.returns-in_ok-too_long-in-Err-TooLong-clause-outcome
-returns-in_ok-too_long-in-Err-TooLong-clause-outcome g c =
-    let sum = c.args.sum.now in
-    let ending = c.in_ok-too_long-in-Err-TooLong in
-    outcome-over sum.size sum.at sum.kind sum.file.now (g.F.Files.holds c.args.files.now) (shown ending.field-0)
-    (c.load.ensures.too_long (c.in-Err-TooLong.is ∙ ap Err c.in-Err-TooLong.field-0-is)) ending.ensures
+pub returns-in-Err-clause-missing : goal.returns-in-Err-clause-missing
+returns-in-Err-clause-missing g c =
+    let load = c.load in
+    let fault = c.in-Err.fault in
+    misses_only c.unloaded_ending.result fault _ _ _ (λ is. load.ensures.missing (fault_of load.result fault Missing c.in-Err.is is))
+    c.unloaded_ending.ensures.ending
+
+pub returns-in-Err-clause-failed : goal.returns-in-Err-clause-failed
+returns-in-Err-clause-failed g c =
+    let load = c.load in
+    λ failed. load.ensures.failed (failed_load load.result c.in-Err.fault c.unloaded_ending.result c.in-Err.is c.unloaded_ending.ensures.failed failed)
+
+pub returns-in-Err-clause-quiet : goal.returns-in-Err-clause-quiet
+returns-in-Err-clause-quiet g c =
+    let load = c.load in
+    λ other. load.ensures.quiet (unfailed_load load.result c.in-Err.fault c.unloaded_ending.result c.in-Err.is c.unloaded_ending.ensures.failed other)

@@ -24,9 +24,11 @@ loop-bytes-preserved g c =
       quiet = step.quiet (λ e. absurd (cc)) ∙ old.quiet;
       found = step.found (λ e. absurd (cc)) ∙ old.found;
       reads = let files = g.F.Files in
-          ReadsFile-append (files.reads c.args.files.now) (files.reads c.loop-bytes.files) (files.reads c.read_more.new.files) c.args.name.now piece_limit (c.args.limit + 1) 0 (length c.loop-bytes.bytes.items)
+          ReadsFile-append (files.reads c.args.files.now) (files.reads c.loop-bytes.files) (files.reads c.read_more.new.files) c.args.name.now piece_limit
+          (c.args.limit + 1) 0 (length c.loop-bytes.bytes.items)
           (λ next. next ≡ At (length c.read_more.new.bytes.items)) c.loop-bytes.invariant.reads
-          (chunk_goes _ _ c.args.name.now (c.args.limit + 1) (length c.loop-bytes.bytes.items) (length c.read_more.new.bytes.items) (rw c.in-Ok-false.field-0-test at step.reads));
+          (chunk_goes _ _ c.args.name.now (c.args.limit + 1) (length c.loop-bytes.bytes.items) (length c.read_more.new.bytes.items)
+          (rw c.in-Ok-false.field-0-test at step.reads));
       faults_stay = omega (arith, step.faults_stay, old.faults_stay);
       misses_stay = omega (arith, step.misses_stay, old.misses_stay);
     }
@@ -34,27 +36,32 @@ loop-bytes-preserved g c =
 pub returns-in-Ok-true-clause-reads : goal.returns-in-Ok-true-clause-reads
 returns-in-Ok-true-clause-reads g c =
     let files = g.F.Files in
-    ReadsFile-append (files.reads c.args.files.now) (files.reads c.loop-bytes.files) (files.reads c.read_more.new.files) c.args.name.now piece_limit (c.args.limit + 1) 0 (length c.loop-bytes.bytes.items)
+    ReadsFile-append (files.reads c.args.files.now) (files.reads c.loop-bytes.files) (files.reads c.read_more.new.files) c.args.name.now piece_limit
+    (c.args.limit + 1) 0 (length c.loop-bytes.bytes.items)
     (λ next. Unit {0}) c.loop-bytes.invariant.reads
     (any_goes _ _ c.args.name.now (c.args.limit + 1) (length c.loop-bytes.bytes.items) _ c.in-Ok-true.ensures.reads)
 
 pub returns-in-Err-clause-reads : goal.returns-in-Err-clause-reads
 returns-in-Err-clause-reads g c =
     let files = g.F.Files in
-    ReadsFile-append (files.reads c.args.files.now) (files.reads c.loop-bytes.files) (files.reads c.read_more.new.files) c.args.name.now piece_limit (c.args.limit + 1) 0 (length c.loop-bytes.bytes.items)
+    ReadsFile-append (files.reads c.args.files.now) (files.reads c.loop-bytes.files) (files.reads c.read_more.new.files) c.args.name.now piece_limit
+    (c.args.limit + 1) 0 (length c.loop-bytes.bytes.items)
     (λ next. Unit {0}) c.loop-bytes.invariant.reads
     (any_goes _ _ c.args.name.now (c.args.limit + 1) (length c.loop-bytes.bytes.items) _ c.in-Err.ensures.reads)
 
 pub returns-in-Ok-true-clause-reads_whole : goal.returns-in-Ok-true-clause-reads_whole
 returns-in-Ok-true-clause-reads_whole g c =
     let files = g.F.Files in
-    ReadsFile-append (files.reads c.args.files.now) (files.reads c.loop-bytes.files) (files.reads c.read_more.new.files) c.args.name.now piece_limit (c.args.limit + 1) 0 (length c.loop-bytes.bytes.items)
+    ReadsFile-append (files.reads c.args.files.now) (files.reads c.loop-bytes.files) (files.reads c.read_more.new.files) c.args.name.now piece_limit
+    (c.args.limit + 1) 0 (length c.loop-bytes.bytes.items)
     (λ next. next ≡ Ended) c.loop-bytes.invariant.reads
-    (chunk_ends _ _ c.args.name.now (c.args.limit + 1) (length c.loop-bytes.bytes.items) (length c.read_more.new.bytes.items) (rw c.in-Ok-true.field-0-test at c.in-Ok-true.ensures.reads))
+    (chunk_ends _ _ c.args.name.now (c.args.limit + 1) (length c.loop-bytes.bytes.items) (length c.read_more.new.bytes.items)
+    (rw c.in-Ok-true.field-0-test at c.in-Ok-true.ensures.reads))
 
 pub returns-in-Err-clause-reads_whole : goal.returns-in-Err-clause-reads_whole
 returns-in-Err-clause-reads_whole g c =
     let files = g.F.Files in
-    ReadsFile-append (files.reads c.args.files.now) (files.reads c.loop-bytes.files) (files.reads c.read_more.new.files) c.args.name.now piece_limit (c.args.limit + 1) 0 (length c.loop-bytes.bytes.items)
+    ReadsFile-append (files.reads c.args.files.now) (files.reads c.loop-bytes.files) (files.reads c.read_more.new.files) c.args.name.now piece_limit
+    (c.args.limit + 1) 0 (length c.loop-bytes.bytes.items)
     (λ next. Unit {0}) c.loop-bytes.invariant.reads
     (any_goes _ _ c.args.name.now (c.args.limit + 1) (length c.loop-bytes.bytes.items) _ c.in-Err.ensures.reads)

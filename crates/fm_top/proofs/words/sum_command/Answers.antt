@@ -23,6 +23,8 @@ returns-then-has_value-clause-found c =
 
 pub returns-else-has_value-clause-none : goal.returns-else-has_value-clause-none
 returns-else-has_value-clause-none c = λ n' m' kind' name sum.
-    no_sum c.args.command.now c.args.size.now c.args.at.now c.args.kind.now c.args.file.now name c.in-Some-Some.size c.in-Some-Some.at n' m' c.in-Some.kind kind'
-    c.in-Some-Some.ensures.fits c.in-Some-Some.ensures'.fits c.in-Some-Some.ensures.found c.in-Some-Some.ensures'.found (kind_is_named c.args.kind.now c.in-Some.kind c.in-Some.ensures)
+    no_sum c.args.command.now c.args.size.now c.args.at.now c.args.kind.now c.args.file.now name c.in-Some-Some.size c.in-Some-Some.at n' m' c.in-Some.kind
+    kind'
+    c.in-Some-Some.ensures.fits c.in-Some-Some.ensures'.fits c.in-Some-Some.ensures.found c.in-Some-Some.ensures'.found
+    (kind_is_named c.args.kind.now c.in-Some.kind c.in-Some.ensures)
     (λ has. no_true c.has_value.result c.if-has_value.false (c.has_value.ensures.1 has)) sum

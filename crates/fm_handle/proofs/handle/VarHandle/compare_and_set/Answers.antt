@@ -23,9 +23,12 @@ returns-in_err-found g c =
     let p = err_from_is_err_and c.from_residual.result c.from_residual.ensures.1 in
     let e = c.in_err-found.field-0.0 in
     let a = c.in_err-found.ensures in
-    rw (p.1, p.2) (after_said (DoesCompareAndSet old.caller h r at c.args.expected c.args.v) (UpdateCause can_update c.args.base c.args.indices.now h r old.caller)
-    (SetsExpected old new h.value r.arena (value_place c.args.base c.args.indices.now h r) c.args.expected c.args.v) (StaysOutOf old new r.arena at) (KnowsSegment r) (λ b. ⊤) (Err e) a
-    (λ own d. not_made old.caller r.arena at (λ (place : ℕ). Exchanges h.value.order r.arena place c.args.expected c.args.v) c.args.expected e own d) (λ x. x) (λ w x. tt) (λ w x. x) a.known (λ x. tt))
+    rw (p.1, p.2) (after_said (DoesCompareAndSet old.caller h r at c.args.expected c.args.v)
+    (UpdateCause can_update c.args.base c.args.indices.now h r old.caller)
+    (SetsExpected old new h.value r.arena (value_place c.args.base c.args.indices.now h r) c.args.expected c.args.v) (StaysOutOf old new r.arena at)
+    (KnowsSegment r) (λ b. ⊤) (Err e) a
+    (λ own d. not_made old.caller r.arena at (λ (place : ℕ). Exchanges h.value.order r.arena place c.args.expected c.args.v) c.args.expected e own d) (λ x. x)
+    (λ w x. tt) (λ w x. x) a.known (λ x. tt))
 
 pub returns : goal.returns
 returns g c =
@@ -39,5 +42,6 @@ returns g c =
     let a = c.in_ok-found.ensures in
     after_said (DoesCompareAndSet old.caller h r at c.args.expected c.args.v) (UpdateCause can_update c.args.base c.args.indices.now h r old.caller)
     (SetsExpected old new h.value r.arena place c.args.expected c.args.v) (StaysOutOf old new r.arena at) (KnowsSegment r) (λ b. ⊤) (Ok c.is_same.result) a
-    (λ own d. won old.caller r.arena at (λ (place : ℕ). Exchanges h.value.order r.arena place c.args.expected c.args.v) c.args.expected found c.is_same.result own c.is_same.ensures d) (λ x. x)
+    (λ own d. won old.caller r.arena at (λ (place : ℕ). Exchanges h.value.order r.arena place c.args.expected c.args.v) c.args.expected found c.is_same.result
+    own c.is_same.ensures d) (λ x. x)
     (λ w x. expected_set old new h.value r.arena place c.args.expected c.args.v found c.is_same.result c.is_same.ensures x) (λ w x. x) a.known (λ x. tt)

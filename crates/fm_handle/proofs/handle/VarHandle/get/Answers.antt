@@ -13,11 +13,15 @@ returns-in_err-place g c =
     let v = g.M.Memory.view c.args.m.now in
     let h = c.args.self.now in
     let p = err_from_is_err_and c.from_residual.result c.from_residual.ensures.1 in
-    after_get c.args.base c.requires (refused_at v (place_of c.args.base c.args.indices.now c.args.self.now c.args.s.now) (DoesGetValue v.caller h.value.kind h.value.order c.args.s.now.arena) c.in_err-place.field-0.0 c.from_residual.result
+    after_get c.args.base c.requires
+    (refused_at v (place_of c.args.base c.args.indices.now c.args.self.now c.args.s.now)
+    (DoesGetValue v.caller h.value.kind h.value.order c.args.s.now.arena) c.in_err-place.field-0.0 c.from_residual.result
     (sym c.place_of.ensures.place ∙ c.in_err-place.was) (p.1 ∙ ap Err p.2))
 
 pub returns : goal.returns
 returns g c =
     let v = g.M.Memory.view in
-    let d : Did (v c.args.m.now) (v c.get_value.new.m) (DoesGet (v c.args.m.now).caller c.args.self.now c.args.s.now (place_of c.args.base c.args.indices.now c.args.self.now c.args.s.now) c.get_value.result) = search rules in
+    let d : Did (v c.args.m.now) (v c.get_value.new.m)
+    (DoesGet (v c.args.m.now).caller c.args.self.now c.args.s.now (place_of c.args.base c.args.indices.now c.args.self.now c.args.s.now)
+    c.get_value.result) = search rules in
     after_get c.args.base c.requires d

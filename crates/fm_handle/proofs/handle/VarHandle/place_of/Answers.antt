@@ -9,17 +9,30 @@ use Rattle.fm_handle.proofs.handle.VarHandle.place_of.Goals as goal
 pub returns-in_err-offset-clause-place : goal.returns-in_err-offset-clause-place
 returns-in_err-offset-clause-place c =
     let p = err_from_is_err_and c.from_residual.result c.from_residual.ensures.1 in
-    p.1 ∙ ap Err p.2 ∙ sym (out 0 c.args.self.now.dims c.args.indices.now _ c.in_err-offset.field-0.0 (subst (λ (h : Resolution). IsFirstOut 0 h.dims c.args.indices.now c.in_err-offset.field-0.0) c.self.view_is c.in_err-offset.ensures.out))
+    p.1 ∙ ap Err p.2 ∙ sym (out 0 c.args.self.now.dims c.args.indices.now _ c.in_err-offset.field-0.0
+    (subst (λ (h : Resolution). IsFirstOut 0 h.dims c.args.indices.now c.in_err-offset.field-0.0) c.self.view_is c.in_err-offset.ensures.out))
 
 pub returns-in_err-root-clause-place : goal.returns-in_err-root-clause-place
 returns-in_err-root-clause-place c =
     let p = err_from_is_err_and c.from_residual-in_err-root.result c.from_residual-in_err-root.ensures.1 in
-    p.1 ∙ ap Err p.2 ∙ sym (root_refused c.args.base c.args.indices.now c.args.self.now c.args.s.now c.in_err-root.field-0.0 (subst (λ (h : Resolution). AreAdmitted h.dims c.args.indices.now) c.self.view_is c.in_ok-offset.ensures.admitted) (sym c.root_place.ensures.place ∙ c.in_err-root.was))
+    p.1 ∙ ap Err p.2 ∙ sym (root_refused c.args.base c.args.indices.now c.args.self.now c.args.s.now c.in_err-root.field-0.0
+    (subst (λ (h : Resolution). AreAdmitted h.dims c.args.indices.now) c.self.view_is c.in_ok-offset.ensures.admitted) (sym c.root_place.ensures.place
+    ∙ c.in_err-root.was))
 
 pub returns-clause-place : goal.returns-clause-place
 returns-clause-place c =
-    rw (c.in_ok-offset.ensures.offset, c.self.view_is) (sym (stands_at c.args.base c.args.indices.now c.args.self.now c.args.s.now c.in_ok-root.root (subst (λ (h : Resolution). AreAdmitted h.dims c.args.indices.now) c.self.view_is c.in_ok-offset.ensures.admitted) (sym c.root_place.ensures.place ∙ c.in_ok-root.was)))
+    rw (
+      c.in_ok-offset.ensures.offset,
+      c.self.view_is,
+    ) (sym (stands_at c.args.base c.args.indices.now c.args.self.now c.args.s.now c.in_ok-root.root
+    (subst (λ (h : Resolution). AreAdmitted h.dims c.args.indices.now) c.self.view_is c.in_ok-offset.ensures.admitted) (sym c.root_place.ensures.place
+    ∙ c.in_ok-root.was)))
 
 pub returns-clause-stands : goal.returns-clause-stands
 returns-clause-stands c =
-    rw (c.in_ok-offset.ensures.offset, c.self.view_is) (value_stands c.args.base c.args.indices.now c.args.self.now c.args.s.now c.in_ok-root.root (subst StaysInside c.self.view_is c.in_ok-offset.ensures.inside) (subst (λ (h : Resolution). AreAdmitted h.dims c.args.indices.now) c.self.view_is c.in_ok-offset.ensures.admitted) c.in_ok-root.ensures.stands)
+    rw (
+      c.in_ok-offset.ensures.offset,
+      c.self.view_is,
+    ) (value_stands c.args.base c.args.indices.now c.args.self.now c.args.s.now c.in_ok-root.root
+    (subst StaysInside c.self.view_is c.in_ok-offset.ensures.inside)
+    (subst (λ (h : Resolution). AreAdmitted h.dims c.args.indices.now) c.self.view_is c.in_ok-offset.ensures.admitted) c.in_ok-root.ensures.stands)

@@ -6,21 +6,37 @@ use Rattle.fm_handle.specs.Acts.{Stores, word_of}
 use Rattle.fm_handle.proofs.Updating.{long_at}
 use Rattle.fm_access.proofs.Causes.{never}
 use Rattle.fm_access.proofs.Learning.{refused_at}
-use Rattle.fm_handle.specs.Place.{fills_word, if_supported, update_place_of, writable_place_of}
+use Rattle.fm_handle.specs.Place.{fills_word, update_place_of}
 use Rattle.fm_handle.proofs.Learning.{after_set_long}
+use Rattle.fm_handle.proofs.Touching.{touches_word}
+use Rattle.fm_handle.proofs.Visiting.{found_by, works}
 use Rattle.fm_handle.proofs.handle.VarHandle.set_long.Goals as goal
 
 pub returns-in_err-place : goal.returns-in_err-place
 returns-in_err-place g c =
     let v = g.M.Memory.view c.args.m.now in
     let p = err_from_is_err_and c.from_residual.result c.from_residual.ensures.1 in
-    let none = ap (λ b. if_supported b (writable_place_of c.args.base c.args.indices.now c.args.self.now c.args.s.now)) (sym c.fills_word.ensures) ∙ sym c.update_place_of.ensures.place ∙ c.in_err-place.was in
+    let none = found_by fills_word c.args.base c.args.indices.now c.args.self.now c.args.s.now c.fills_word.ensures c.update_place_of.ensures.place
+    c.in_err-place.was in
     after_set_long c.args.base c.requires (λ n e. never n c.in_err-place.field-0.0 (sym e ∙ none))
-    (refused_at v (update_place_of fills_word c.args.base c.args.indices.now c.args.self.now c.args.s.now) (λ place. DoesVisit v.caller c.args.s.now.arena (λ u. Stores c.args.s.now.arena place (word_of c.args.self.now.value.order c.args.v))) c.in_err-place.field-0.0 c.from_residual.result none (p.1 ∙ ap Err p.2))
+    (refused_at v (update_place_of fills_word c.args.base c.args.indices.now c.args.self.now c.args.s.now) (λ place.
+    DoesVisit v.caller c.args.s.now.arena (λ u. Stores c.args.s.now.arena place (word_of c.args.self.now.value.order c.args.v))) c.in_err-place.field-0.0
+    c.from_residual.result none (p.1 ∙ ap Err p.2))
 
 pub returns : goal.returns
 returns g c =
     let v = g.M.Memory.view in
-    let d : Did (v c.args.m.now) (v c.store_at.new.m) (DoesSetLong (v c.args.m.now).caller c.args.self.now c.args.s.now (update_place_of fills_word c.args.base c.args.indices.now c.args.self.now c.args.s.now) c.args.v c.store_at.result) = search rules in
-    let at = ap (λ b. if_supported b (writable_place_of c.args.base c.args.indices.now c.args.self.now c.args.s.now)) (sym c.fills_word.ensures) ∙ sym c.update_place_of.ensures.place ∙ c.in_ok-place.was in
-    after_set_long c.args.base c.requires (λ p e. long_at c.args.base c.args.indices.now c.args.self.now c.args.s.now c.requires.indices c.in_ok-place.place at c.in_ok-place.ensures.stands) d
+    let d : Did (v c.args.m.now) (v c.store_at.new.m)
+    (DoesSetLong (v c.args.m.now).caller c.args.self.now c.args.s.now
+    (update_place_of fills_word c.args.base c.args.indices.now c.args.self.now c.args.s.now) c.args.v c.store_at.result) = search rules in
+    let at = found_by fills_word c.args.base c.args.indices.now c.args.self.now c.args.s.now c.fills_word.ensures c.update_place_of.ensures.place
+    c.in_ok-place.was in
+    after_set_long c.args.base c.requires (λ p e.
+    long_at c.args.base c.args.indices.now c.args.self.now c.args.s.now c.requires.indices c.in_ok-place.place at c.in_ok-place.ensures.stands) d
+
+pub store_at-requires : goal.store_at-requires
+store_at-requires g c =
+    let at = found_by fills_word c.args.base c.args.indices.now c.args.self.now c.args.s.now c.fills_word.ensures c.update_place_of.ensures.place
+    c.in_ok-place.was in
+    rw c.arena.ensures (touches_word c.requires.known c.requires.outside c.in_ok-place.ensures.stands
+    (works fills_word c.args.base c.args.indices.now c.args.self.now c.args.s.now c.in_ok-place.place at))

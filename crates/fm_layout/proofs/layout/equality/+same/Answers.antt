@@ -11,7 +11,8 @@ same-same_all-requires t c = (omega (arith, ap (λ ts. deepest (trees ts)) c.chi
 
 pub same-returns-then-same_head : goal.same-returns-then-same_head
 same-returns-then-same_head t c = (
-  (λ is. whole c.args.a.now c.args.b.now (c.same_head.ensures.0 c.if-same_head.true) (sym c.children.ensures ∙ c.same_all.ensures.0 is ∙ c.children-then-same_head.ensures)),
+  (λ is. whole c.args.a.now c.args.b.now (c.same_head.ensures.0 c.if-same_head.true) (sym c.children.ensures ∙ c.same_all.ensures.0 is
+      ∙ c.children-then-same_head.ensures)),
   (λ e. c.same_all.ensures.1 (c.children.ensures ∙ ap children_of e ∙ sym c.children-then-same_head.ensures)),
 )
 

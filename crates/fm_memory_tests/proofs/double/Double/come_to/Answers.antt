@@ -24,4 +24,4 @@ pub returns-in_default-clause-makes : goal.returns-in_default-clause-makes
 returns-in_default-clause-makes g c = rw (← c.self.view_is) (Makes-none _)
 
 pub returns-in_default-clause-reach : goal.returns-in_default-clause-reach
-returns-in_default-clause-reach g c = reach_own c.self.invariant (rw (← c.self.view_is) at c.requires)
+returns-in_default-clause-reach g c = rw (← c.self.view_is) (reach_own c.self.invariant (rw (← c.self.view_is) at c.requires))

@@ -10,7 +10,13 @@ use Rattle.fm_mono.proofs.mono.Mono.end.Goals as goal
 pub returns-then-not-alive : goal.returns-then-not-alive
 returns-then-not-alive c =
     let s = c.is_alive-alive.ensures in
-    let can : CanEnter c.args.self.now c.args.a = record { outside = c.requires.outside; known = c.requires.known; may = λ k. s.owner; nowhere = s.nowhere c.requires.outside; empty = s.empty c.requires.outside } in
+    let can : CanEnter c.args.self.now c.args.a = record {
+      outside = c.requires.outside;
+      known = c.requires.known;
+      may = λ k. s.owner;
+      nowhere = s.nowhere c.requires.outside;
+      empty = s.empty c.requires.outside;
+    } in
     let over = s.life ∙ ap (λ (b : Bool). if b then Alive else Ended) c.if-not-alive.true in
     let kind : IsClosable c.args.a.kind = rw c.if-not-is_closable.false at c.is_closable.ensures in
     after_close c.requires (sound_of c.args.self.now s.small) (record {
@@ -22,7 +28,13 @@ returns-then-not-alive c =
 pub returns : goal.returns
 returns c =
     let s = c.is_alive-alive.ensures in
-    let can : CanEnter c.args.self.now c.args.a = record { outside = c.requires.outside; known = c.requires.known; may = λ k. s.owner; nowhere = s.nowhere c.requires.outside; empty = s.empty c.requires.outside } in
+    let can : CanEnter c.args.self.now c.args.a = record {
+      outside = c.requires.outside;
+      known = c.requires.known;
+      may = λ k. s.owner;
+      nowhere = s.nowhere c.requires.outside;
+      empty = s.empty c.requires.outside;
+    } in
     let alive = s.life ∙ ap (λ (b : Bool). if b then Alive else Ended) c.if-not-alive.false in
     let kind : IsClosable c.args.a.kind = rw c.if-not-is_closable.false at c.is_closable.ensures in
     after_close c.requires (sound_of c.args.self.now s.small) (record {

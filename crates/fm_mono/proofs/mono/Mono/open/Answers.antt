@@ -14,7 +14,8 @@ use Rattle.fm_mono.proofs.mono.Mono.open.Goals.{In-Ok}
 pub returns-then-slot-eq-MOST_ARENAS-clause-full : goal.returns-then-slot-eq-MOST_ARENAS-clause-full
 returns-then-slot-eq-MOST_ARENAS-clause-full c =
     let f = c.self.inside in
-    let n : length (shown_all f.limit f.inside f.arenas.items) ≡ most_arenas = length-shown_all f.limit f.inside f.arenas.items ∙ omega (arith, c.len-slot.ensures, f.arenas.ok.0, c.if-slot-eq-MOST_ARENAS.true) in
+    let n : length (shown_all f.limit f.inside f.arenas.items) ≡ most_arenas = length-shown_all f.limit f.inside f.arenas.items
+    ∙ omega (arith, c.len-slot.ensures, f.arenas.ok.0, c.if-slot-eq-MOST_ARENAS.true) in
     (λ _. rw (← c.self.view_is) n, λ _. refl)
 
 pub overflow_cast-id : goal.overflow_cast-id
@@ -34,7 +35,8 @@ invariant_of-self-2 c =
     let r = rw (← c.self.view_is) at c.requires in
     record {
       arenas = rw c.in-Ok.ensures.items
-          (sound_push c.self.inside.limit c.self.inside.inside c.self.inside.arenas.items _ c.self.invariant.arenas r.outside (omega (arith, c.len-slot.ensures, c.self.inside.arenas.ok.0)) refl
+          (sound_push c.self.inside.limit c.self.inside.inside c.self.inside.arenas.items _ c.self.invariant.arenas r.outside
+          (omega (arith, c.len-slot.ensures, c.self.inside.arenas.ok.0)) refl
           (record { given = omega arith; words = λ _. rw c.new.ensures.items (omega arith); freed = λ _. c.new.ensures.capacity })
           (omega (arith, c.len-slot.ensures, c.self.inside.arenas.ok.0, c.self.invariant.arenas.few, c.if-slot-eq-MOST_ARENAS.false)));
       place = c.self.invariant.place;
@@ -50,7 +52,8 @@ returns-clause-got c =
     rw (← c.self.view_is) (after_open r.outside (sound_of (seen_of f.limit f.inside f.arenas.items) c.self.invariant.arenas.small) tt (λ e. tt) (record {
       own = entry_of only_caller (Open id) Fine ∷ [];
       does = (refl, refl, refl);
-      makes = opens f.limit f.inside f.arenas.items c.push.new.self.items o c.self.invariant.arenas r.outside c.in-Ok.ensures.items refl refl c.new.ensures.items slot refl;
+      makes = opens f.limit f.inside f.arenas.items c.push.new.self.items o c.self.invariant.arenas r.outside c.in-Ok.ensures.items refl refl
+          c.new.ensures.items slot refl;
     }))
 
 pub returns-clause-full : goal.returns-clause-full

@@ -5,7 +5,8 @@ use Rattle.fm_mono.proofs.mono.Mono.word.Goals as goal
 use Rattle.fm_mono.proofs.mono.Mono.word.Goals.{After-index}
 
 here : (c : After-index) → IsActed c.self.inside.limit c.self.inside.inside c.self.inside.current c.self.inside.arenas.items c.args.word c.index.result.now
-here c = is_acted c.self.inside.limit c.self.inside.inside c.self.inside.current c.self.inside.arenas.items c.args.word c.index.result.now c.self.invariant (rw (← c.self.view_is) at c.requires) c.index.ensures
+here c = is_acted c.self.inside.limit c.self.inside.inside c.self.inside.current c.self.inside.arenas.items c.args.word c.index.result.now c.self.invariant
+    (rw (← c.self.view_is) at c.requires) c.index.ensures
 
 pub index-requires-2 : goal.index-requires-2
 index-requires-2 c = omega (arith, (here c).at.within, c.index.result.now.words.ok.0)

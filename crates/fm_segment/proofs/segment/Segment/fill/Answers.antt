@@ -16,7 +16,8 @@ returns-in_err-check_write g c =
     let e = c.in_err-check_write.field-0.0 in
     let p = err_from_is_err_and c.from_residual.result c.from_residual.ensures.1 in
     let checked = ap (λ n. checked_write n r) (sym c.size.ensures.size) ∙ sym c.check_write.ensures ∙ c.in_err-check_write.was in
-    rw (p.1, p.2) (refused_before v (checked_write r.size r) (DoesFill v.caller r.arena r.first r.size c.args.byte) (FillCause r v.caller) (FillsBytes v v r c.args.byte) (StaysOut v v r.arena) (KnowsSegment r) e
+    rw (p.1, p.2) (refused_before v (checked_write r.size r) (DoesFill v.caller r.arena r.first r.size c.args.byte) (FillCause r v.caller)
+    (FillsBytes v v r c.args.byte) (StaysOut v v r.arena) (KnowsSegment r) e
     c.requires.outside checked (fill_refused r v.caller e checked) c.requires.known)
 
 pub returns : goal.returns

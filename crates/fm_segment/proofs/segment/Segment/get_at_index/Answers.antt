@@ -22,5 +22,6 @@ returns g c =
     let t = c.args.layout.now in
     let r = c.args.self.now in
     let n = c.in_ok-offset.offset in
-    after_get_index c.args.index c.requires (got_there (v c.args.m.now) (v c.get.new.m) c.args.self.now.arena t (place_of n t r) (place_at_index c.args.index t r) c.get.result
+    after_get_index c.args.index c.requires
+    (got_there (v c.args.m.now) (v c.get.new.m) c.args.self.now.arena t (place_of n t r) (place_at_index c.args.index t r) c.get.result
     (index_ok c.args.index t r n (sym c.offset_of_index.ensures ∙ c.in_ok-offset.was)) c.get.ensures.did)

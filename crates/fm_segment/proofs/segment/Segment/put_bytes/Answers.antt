@@ -17,8 +17,10 @@ returns-in_err-check_put g c =
     let p = err_from_is_err_and c.from_residual.result c.from_residual.ensures.1 in
     let first = checked_put r c.args.offset n in
     let checked = sym {b = first} c.check_put.ensures ∙ c.in_err-check_put.was in
-    rw (p.1, p.2) (refused_before v (checked_put r c.args.offset (length c.args.bytes.now)) (DoesPutAll v.caller r.arena (r.first + c.args.offset) c.args.bytes.now) (PutCause r c.args.offset n v.caller)
-    (ChangesBytes v v r.arena (r.first + c.args.offset) c.args.bytes.now) (StaysOut v v r.arena) (KnowsSegment r) e c.requires.outside checked (put_refused r c.args.offset n v.caller e checked) c.requires.known)
+    rw (p.1, p.2) (refused_before v (checked_put r c.args.offset (length c.args.bytes.now))
+    (DoesPutAll v.caller r.arena (r.first + c.args.offset) c.args.bytes.now) (PutCause r c.args.offset n v.caller)
+    (ChangesBytes v v r.arena (r.first + c.args.offset) c.args.bytes.now) (StaysOut v v r.arena) (KnowsSegment r) e c.requires.outside checked
+    (put_refused r c.args.offset n v.caller e checked) c.requires.known)
 
 pub returns : goal.returns
 returns g c =

@@ -13,7 +13,8 @@ returns-in_err-offset g c =
     let r = c.args.self.now in
     let e = c.in_err-offset.field-0.0 in
     let p = err_from_is_err_and c.from_residual.result c.from_residual.ensures.1 in
-    after_set_index c.args.index c.requires (refused_at v (writable_place_at_index c.args.index t r) (DoesSetHere v.caller r.arena t c.args.v) e c.from_residual.result
+    after_set_index c.args.index c.requires
+    (refused_at v (writable_place_at_index c.args.index t r) (DoesSetHere v.caller r.arena t c.args.v) e c.from_residual.result
     (writable_index_err c.args.index t r e (sym c.offset_of_index.ensures ∙ c.in_err-offset.was)) (p.1 ∙ ap Err p.2))
 
 pub returns : goal.returns
@@ -22,5 +23,7 @@ returns g c =
     let t = c.args.layout.now in
     let r = c.args.self.now in
     let n = c.in_ok-offset.offset in
-    after_set_index c.args.index c.requires (put_there (v c.args.m.now) (v c.set.new.m) c.args.self.now.arena t (writable_place_of n t r) (writable_place_at_index c.args.index t r) c.args.v c.set.result
+    after_set_index c.args.index c.requires
+    (put_there (v c.args.m.now) (v c.set.new.m) c.args.self.now.arena t (writable_place_of n t r) (writable_place_at_index c.args.index t r) c.args.v
+    c.set.result
     (writable_index_ok c.args.index t r n (sym c.offset_of_index.ensures ∙ c.in_ok-offset.was)) c.set.ensures.did)

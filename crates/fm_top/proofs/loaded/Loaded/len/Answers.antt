@@ -9,4 +9,5 @@ returns c =
     let ready = c.self.invariant in
     let words = words_at l.memory l.segment.arena in
     let fit : l.segment.size ≤ 8 * length words = omega (arith, ready.held.size, ready.within) in
-    c.size.ensures.size ∙ sym (length-first_bytes l.segment.size words fit) ∙ ap length (sym (bytes_from_start l.memory.state l.segment ready.whole) ∙ c.self.view_is)
+    c.size.ensures.size ∙ sym (length-first_bytes l.segment.size words fit)
+    ∙ ap length (sym (bytes_from_start l.memory.state l.segment ready.whole) ∙ c.self.view_is)

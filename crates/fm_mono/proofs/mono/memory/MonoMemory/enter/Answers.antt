@@ -18,7 +18,11 @@ returns-then-is_alive c =
     after_enter c.requires (sound_of c.args.self.now s.small) (record {
       own = entry_of only_caller (Enter c.args.a) Fine ∷ [];
       does = (may, refl);
-      makes = makes_one c.args.self.now c.come_in.new.self (Enter c.args.a) Fine (c.requires.known, may, s.nowhere c.requires.outside) (sym (ap enter_reply alive))
+      makes = makes_one c.args.self.now c.come_in.new.self (Enter c.args.a) Fine (
+        c.requires.known,
+        may,
+        s.nowhere c.requires.outside,
+      ) (sym (ap enter_reply alive))
           (ap (λ (x : Arenas). x.state) e) (ap (λ (x : Arenas). x.inside) e) (ap (λ (x : Arenas). x.limit) e);
     })
 
@@ -30,5 +34,11 @@ returns-else-is_alive c =
     after_enter c.requires (sound_of c.args.self.now s.small) (record {
       own = refused_visit only_caller c.args.a;
       does = (may, refl);
-      makes = enter_closed c.args.self.now c.args.a (record { outside = c.requires.outside; known = c.requires.known; may = may; nowhere = s.nowhere c.requires.outside; empty = s.empty c.requires.outside }) over;
+      makes = enter_closed c.args.self.now c.args.a (record {
+        outside = c.requires.outside;
+        known = c.requires.known;
+        may = may;
+        nowhere = s.nowhere c.requires.outside;
+        empty = s.empty c.requires.outside;
+      }) over;
     })

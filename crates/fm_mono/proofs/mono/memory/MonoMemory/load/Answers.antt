@@ -8,4 +8,5 @@ pub returns : goal.returns
 returns c =
     let m = c.args.self.now in
     let w = c.word.ensures in
-    after_act (λ id. refl) (sound_of m w.small) (did_act m m w.id (λ a. Read a c.args.word) (Found c.word.result) w.inside w.reach (ap Found w.is) refl w.inside refl)
+    after_act (λ id. refl) (sound_of m w.small)
+    (did_act m m w.id (λ a. Read a c.args.word) (Found c.word.result) w.inside w.reach (ap Found w.is) refl w.inside refl)

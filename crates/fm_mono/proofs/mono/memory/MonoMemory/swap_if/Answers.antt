@@ -12,7 +12,8 @@ returns-then-found-old c =
     let e = p.after in
     let found = c.word-found.result in
     let w = found_at m c.args.word found p.id p.inside c.word-found.ensures in
-    after_act (λ id. refl) (sound_of m p.small) (did_act m c.put.new.self p.id (λ a. SwapIf a c.args.word c.args.old c.args.new) (Found found) p.inside p.reach (ap Found w.1)
+    after_act (λ id. refl) (sound_of m p.small)
+    (did_act m c.put.new.self p.id (λ a. SwapIf a c.args.word c.args.old c.args.new) (Found found) p.inside p.reach (ap Found w.1)
     (ap (λ (x : Arenas). x.state) e ∙ swaps m.state p.id c.args.word c.args.old c.args.new found c.if-found-old.true)
     (ap (λ (x : Arenas). x.inside) e ∙ p.inside) (ap (λ (x : Arenas). x.limit) e))
 

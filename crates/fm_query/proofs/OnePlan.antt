@@ -1,7 +1,7 @@
 -- A text has one plan over a layout, and one that has a plan isn't refused.
 use Rattle.std.proofs.Common.{◌≡◌, ◌≢◌, ℕ, ℤ, ◌+◌, ◌-◌, ◌^◌, List, [], ◌∷◌, Result, Ok, Err, refl, sym, ap, subst, ◌∙◌, inl, inr}
 use Rattle.std.specs.Prelude.{min}
-use Rattle.std.specs.List.{AllZip}
+use Rattle.std.specs.List.{AllByRecursion, AllZip}
 use Rattle.fm_base.specs.declared.refusal.Refusal.{Refusal}
 use Rattle.fm_base.specs.declared.refusal.Refusal.TheVariants.{BadQuery, Memory}
 use Rattle.fm_layout.specs.Tree.{Tree, Value, Padding, Sequence, Struct, Union}
@@ -13,10 +13,10 @@ use Rattle.fm_path_meaning.specs.Places.{Step}
 use Rattle.fm_path_meaning.specs.Walk.{Walk}
 use Rattle.fm_lanes.specs.declared.order.Order.{Order}
 use Rattle.fm_lanes.specs.declared.value_kind.ValueKind.{ValueKind}
-use Rattle.fm_query.specs.declared.operator.Operator.{Operator}
 use Rattle.fm_path_meaning.specs.Found.{end_from}
 use Rattle.fm_path.specs.declared.value_spec.ValueSpec.{ValueSpec}
 use Rattle.fm_path.specs.Resolution.{Resolution, resolution, IsSpecOf, IsResolved, IsRefusal, at_step, no_value, no_memory}
+use Rattle.fm_query.specs.declared.operator.Operator.{Operator}
 use Rattle.fm_query.specs.declared.syntax.ItemSyntax.{ItemSyntax}
 use Rattle.fm_query.specs.declared.syntax.ItemSyntax.TheVariants as syntax
 use Rattle.fm_query.specs.declared.syntax.ConditionSyntax.{ConditionSyntax}
@@ -24,11 +24,10 @@ use Rattle.fm_query.specs.declared.item.Asked.{Asked}
 use Rattle.fm_query.specs.declared.item.Asked.TheVariants as asked
 use Rattle.fm_query.specs.declared.item.Item.{Item}
 use Rattle.fm_query.specs.declared.condition.Condition.{Condition}
-use Rattle.fm_query.specs.Grammar.{Syntax, IsTextOf}
+use Rattle.fm_query.specs.Grammar.{Syntax, IsTextOf, IsNoText}
 use Rattle.fm_query.specs.Plan.{Plan, plan}
-use Rattle.fm_query.specs.Parsed.{IsAskedOf, IsItemOf, IsConditionOf, IsPlanOf, IsItemRefused, IsConditionRefused, at_path, left_open, IsFirstRefused, IsSyntaxRefused, at_item, at_condition, IsParsed, IsNoQuery, no_text, refused}
-use Rattle.fm_query.specs.Grammar.{IsNoText}
-use Rattle.fm_top.specs.Queries.{IsTextRefused}
+use Rattle.fm_query.specs.Parsed.{IsAskedOf, IsItemOf, IsConditionOf, IsPlanOf, IsItemRefused, IsConditionRefused, at_path, left_open, IsFirstRefused, IsItemAdmitted, IsConditionAdmitted, IsSyntaxRefused, at_item, at_condition, IsParsed, IsNoQuery, no_text, refused}
+use Rattle.fm_query.proofs.Plans.{all_admitted}
 
 -- ---- one plan
 
@@ -47,6 +46,7 @@ same_spec (Sequence n e l) v w a b = absurd a
 same_spec (Struct ms l) v w a b = absurd a
 same_spec (Union ms l) v w a b = absurd a
 
+-- what a path is resolved to
 one_resolution : (path : List PathStep) (t : Tree) (r s : Resolution) → IsResolved path t r → IsResolved path t s → r ≡ s
 one_resolution path t r s a b =
     let walk = same_ok _ _ _ a.leads.walked b.leads.walked in
@@ -84,7 +84,9 @@ one_condition t s a b is_a is_b =
     ∙ ap (λ x. condition b.text b.path x a.literal) (is_a.operator ∙ sym is_b.operator)
     ∙ ap (condition b.text b.path b.operator) (is_a.literal ∙ sym is_b.literal)
 
-one_each : {A B : Type 0} (R : A → B → Type 0) → ((x : A) (y z : B) → R x y → R x z → y ≡ z) → (xs : List A) (ys zs : List B) → AllZip R xs ys → AllZip R xs zs → ys ≡ zs
+-- where each comes to one thing, all come to one list
+one_each : {A B : Type 0} (R : A → B → Type 0) → ((x : A) (y z : B) → R x y → R x z → y ≡ z) → (xs : List A) (ys zs : List B) → AllZip R xs ys
+    → AllZip R xs zs → ys ≡ zs
 one_each R one [] [] [] a b = refl
 one_each R one [] [] (z ∷ zs) a b = absurd b
 one_each R one [] (y ∷ ys) zs a b = absurd a
@@ -96,7 +98,8 @@ one_each R one (x ∷ xs) (y ∷ ys) (z ∷ zs) a b =
 one_plan_of : (t : Tree) (q : Syntax) (p r : Plan) → IsPlanOf t q p → IsPlanOf t q r → p ≡ r
 one_plan_of t q p r a b =
     let items : p.items ≡ r.items = one_each (IsItemOf t) (one_item t) q.items p.items r.items a.items b.items in
-    let conditions : p.conditions ≡ r.conditions = one_each (IsConditionOf t) (one_condition t) q.conditions p.conditions r.conditions a.conditions b.conditions in
+    let conditions : p.conditions ≡ r.conditions =
+    one_each (IsConditionOf t) (one_condition t) q.conditions p.conditions r.conditions a.conditions b.conditions in
     ap (λ x. plan x p.alignment p.items p.conditions) (a.size ∙ sym b.size)
     ∙ ap (λ x. plan r.size x p.items p.conditions) (a.alignment ∙ sym b.alignment)
     ∙ ap (λ x. plan r.size r.alignment x p.conditions) items
@@ -146,6 +149,7 @@ has_value (Sequence n e l) v is = absurd is
 has_value (Struct ms l) v is = absurd is
 has_value (Union ms l) v is = absurd is
 
+-- a path that is resolved isn't refused
 pub not_refused : (path : List PathStep) (t : Tree) (r : Resolution) (e : Refusal) → IsResolved path t r → IsRefusal path t e → e ≢ Memory → ⊥
 not_refused path t r e a (at_step x is) other = follows path 0 t a.last e a.ends (is [])
 not_refused path t r e a (no_value elsewhere) other =
@@ -153,26 +157,28 @@ not_refused path t r e a (no_value elsewhere) other =
     elsewhere.no_value (subst IsValue last (has_value a.last r.value a.value))
 not_refused path t r e a no_memory other = other refl
 
-pub item_not_refused : (t : Tree) (s : ItemSyntax) (item : Item) (e : Refusal) → IsItemOf t s item → IsItemRefused t s e → e ≢ Memory → ⊥
-item_not_refused t syntax.Count x e is denied other = denied
-item_not_refused t (syntax.Of fold path) x e is denied other = not_refused path t is.asked.0 e is.asked.1 denied other
+-- nor are an item and a condition that are admitted
+pub item_clash : (t : Tree) (e : Refusal) → e ≢ Memory → (s : ItemSyntax) → IsItemAdmitted t s → IsItemRefused t s e → ⊥
+item_clash t e other syntax.Count has denied = denied
+item_clash t e other (syntax.Of fold path) has denied = not_refused path t has.1.asked.0 e has.1.asked.1 denied other
 
-pub condition_not_refused : (t : Tree) (s : ConditionSyntax) (c : Condition) (e : Refusal) → IsConditionOf t s c → IsConditionRefused t s e → e ≢ Memory → ⊥
-condition_not_refused t s c e is (at_path x denied) other = not_refused s.path t c.path e is.path denied other
-condition_not_refused t s c e is (left_open k r has open_at) other = let closed = is.closed in cc
+pub condition_clash : (t : Tree) (e : Refusal) → e ≢ Memory → (s : ConditionSyntax) → IsConditionAdmitted t s → IsConditionRefused t s e → ⊥
+condition_clash t e other s has (at_path x denied) = not_refused s.path t has.0.path e has.1.path denied other
+condition_clash t e other s has (left_open k r resolved open_at) = let closed = has.1.closed in cc
 
-none_first : {A B : Type 0} (R : A → B → Type 0) (Admits : A → Type 0) (Refuses : A → Refusal → Type 0) (e : Refusal)
-    → ((x : A) (y : B) → R x y → Refuses x e → ⊥) → (xs : List A) (ys : List B) → AllZip R xs ys → IsFirstRefused Admits Refuses xs e → ⊥
-none_first R Admits Refuses e never [] ys all first = first
-none_first R Admits Refuses e never (x ∷ xs) [] all first = all
-none_first R Admits Refuses e never (x ∷ xs) (y ∷ ys) all (inl refuses) = never x y all.0 refuses
-none_first R Admits Refuses e never (x ∷ xs) (y ∷ ys) all (inr later) = none_first R Admits Refuses e never xs ys all.1 later.1
+-- where all are admitted none is refused
+pub none_first : {A : Type 0} (Admits : A → Type 0) (Refuses : A → Refusal → Type 0) (e : Refusal) → ((x : A) → Admits x → Refuses x e → ⊥)
+    → (xs : List A) → AllByRecursion Admits xs → IsFirstRefused Admits Refuses xs e → ⊥
+none_first Admits Refuses e never [] all first = first
+none_first Admits Refuses e never (x ∷ xs) all (inl a) = never x all.0 a
+none_first Admits Refuses e never (x ∷ xs) all (inr a) = none_first Admits Refuses e never xs all.1 a.1
 
 plan_not_refused : (t : Tree) (q : Syntax) (p : Plan) (e : Refusal) → IsPlanOf t q p → IsSyntaxRefused t q e → e ≢ Memory → ⊥
 plan_not_refused t q p e is (at_item first) other =
-    none_first (IsItemOf t) _ (IsItemRefused t) e (λ s item is_item denied. item_not_refused t s item e is_item denied other) q.items p.items is.items first
+    none_first (IsItemAdmitted t) (IsItemRefused t) e (item_clash t e other) q.items (all_admitted (IsItemOf t) q.items p.items is.items) first
 plan_not_refused t q p e is (at_condition items first) other =
-    none_first (IsConditionOf t) _ (IsConditionRefused t) e (λ s c is_condition denied. condition_not_refused t s c e is_condition denied other) q.conditions p.conditions is.conditions first
+    none_first (IsConditionAdmitted t) (IsConditionRefused t) e (condition_clash t e other) q.conditions
+    (all_admitted (IsConditionOf t) q.conditions p.conditions is.conditions) first
 
 -- a text of a query leaves the grammar nowhere
 pub not_no_text : (text : List ℕ) (q : Syntax) (e : Refusal) → IsTextOf text q → IsNoText text e → e ≢ Memory → ⊥
@@ -180,10 +186,8 @@ not_no_text text q (BadQuery at) is denied other = denied.none q is.is_query is.
 not_no_text text q Memory is denied other = other refl
 not_no_text text q e is denied other = denied
 
-by_cause : (text : List ℕ) (t : Tree) (p : Plan) (e : Refusal) → IsParsed text t p → IsNoQuery text t e → e ≢ Memory → ⊥
-by_cause text t p e parsed (no_text denied) other = not_no_text text parsed.syntax e parsed.is_text denied other
-by_cause text t p e parsed (refused q is_text denied) other =
+-- a text that is refused has no plan
+pub refused_has_none : (text : List ℕ) (t : Tree) (p : Plan) (e : Refusal) → IsNoQuery text t e → e ≢ Memory → IsParsed text t p → ⊥
+refused_has_none text t p e (no_text denied) other parsed = not_no_text text parsed.syntax e parsed.is_text denied other
+refused_has_none text t p e (refused q is_text denied) other parsed =
     plan_not_refused t q p e (subst (λ (s : Syntax). IsPlanOf t s p) (one_syntax text parsed.syntax q parsed.is_text is_text) parsed.is_plan) denied other
-
-pub not_text_refused : (text : List ℕ) (t : Tree) (p : Plan) (e : Refusal) → IsParsed text t p → IsTextRefused text t e → ⊥
-not_text_refused text t p e parsed denied = by_cause text t p e parsed denied.no_query denied.refused

@@ -1,0 +1,91 @@
+-- What follows where a file wasn't loaded.
+use Rattle.std.proofs.Common.{◌≡◌, ◌≢◌, ℕ, List, Option, None, Result, Ok, Err, refl, ap, sym, ◌∙◌}
+use Rattle.std.specs.Prelude.{IfOk, ◌↔◌}
+use Rattle.fm_io.specs.Count.{Rose}
+use Rattle.fm_io.specs.Files.{Contents, IsAbsent}
+use Rattle.fm_lanes.specs.declared.value_kind.ValueKind.{ValueKind}
+use Rattle.fm_query.specs.Plan.{Plan}
+use Rattle.fm_top.specs.Ending.{MissesOnly, shown}
+use Rattle.fm_top.specs.Found.{OfFound}
+use Rattle.fm_top.specs.Keeps.{Nothing}
+use Rattle.fm_top.specs.Outcome.{Outcome, record_file_limit, layout_file_limit}
+use Rattle.fm_top.specs.Queries.{answer_outcome}
+use Rattle.fm_top.specs.Run.{HasOutcome}
+use Rattle.fm_top.specs.Unloaded.{EndsUnloaded}
+use Rattle.fm_top.specs.Whole.{IsOver}
+use Rattle.fm_top.specs.Words.{Sum, Layout, Query}
+use Rattle.fm_top.specs.declared.ending.Ending.{Ending}
+use Rattle.fm_top.specs.declared.load_fault.LoadFault.{LoadFault}
+use Rattle.fm_top.specs.declared.load_fault.LoadFault.TheVariants.{Missing, Failed, TooLong, Memory}
+use Rattle.fm_top.specs.declared.status.Status.TheVariants as status
+use Rattle.fm_top.specs.declared.stop.Stop.{Stop}
+use Rattle.fm_top.specs.declared.stop.Stop.TheVariants as stop
+use Rattle.fm_top.proofs.Outcomes.{outcome-absent, outcome-over, layout-absent, layout-over, query-absent, query-over, answer-over}
+
+-- a fault is that of a load which had it, and is of this kind where that was
+pub fault_of : {X : Type 0} (r : Result X LoadFault) (fault kind : LoadFault) → r ≡ Err fault → fault ≡ kind → r ≡ Err kind
+fault_of r fault kind had is = had ∙ ap Err is
+
+-- a load failed where the run stops for that
+pub failed_load : {X : Type 0} (r : Result X LoadFault) (fault : LoadFault) (end : Result Ending Stop) → r ≡ Err fault
+    → (end ≡ Err stop.Failed) ↔ (fault ≡ Failed) → end ≡ Err stop.Failed → r ≡ Err Failed
+failed_load r fault end had same failed = had ∙ ap Err (same.0 failed)
+
+-- a load has one fault
+one_fault : {X : Type 0} (r : Result X LoadFault) (a b : LoadFault) → r ≡ Err a → r ≡ Err b → a ≡ b
+one_fault r a b one two = cc
+
+-- and it didn't, where the run doesn't
+pub unfailed_load : {X : Type 0} (r : Result X LoadFault) (fault : LoadFault) (end : Result Ending Stop) → r ≡ Err fault
+    → (end ≡ Err stop.Failed) ↔ (fault ≡ Failed) → end ≢ Err stop.Failed → r ≢ Err Failed
+unfailed_load r fault end had same other failed = other (same.1 (one_fault r fault Failed had failed))
+
+-- only a missing file is told as missing
+missed : (fault : LoadFault) (name : List ℕ) (o : Outcome) → EndsUnloaded fault name o → o.status ≡ status.Missing → fault ≡ Missing
+missed Missing name o ends is = refl
+missed TooLong name o ends is =
+    let late : status.TooLong ≡ status.Missing = sym (ap (λ (x : Outcome). x.status) ends) ∙ is in
+    absurd (cc)
+missed Failed name o ends is = absurd ends
+missed Memory name o ends is = absurd ends
+
+pub misses_only : (end : Result Ending Stop) (fault : LoadFault) (name : List ℕ) (before now : ℕ) → (fault ≡ Missing → Rose before now)
+    → IfOk end (λ ending. EndsUnloaded fault name (shown ending)) → IfOk end (MissesOnly before now)
+misses_only (Ok ending) fault name before now rose ends = λ is. rose (missed fault name (shown ending) ends is)
+misses_only (Err e) fault name before now rose ends = tt
+
+-- a sum of a file that wasn't loaded
+pub sum_unloaded : (size at : ℕ) (kind : ValueKind) (name : List ℕ) (told : Option Contents) (fault : LoadFault) (o : Outcome)
+    → (fault ≡ Missing → IsAbsent told name) → (fault ≡ TooLong → IsOver told name record_file_limit) → EndsUnloaded fault name o
+    → HasOutcome (Sum size at kind name) told Nothing o
+sum_unloaded size at kind name told Missing o absent over ends = outcome-absent size at kind name told o (absent refl) ends
+sum_unloaded size at kind name told TooLong o absent over ends = outcome-over size at kind name told o (over refl) ends
+sum_unloaded size at kind name told Failed o absent over ends = absurd ends
+sum_unloaded size at kind name told Memory o absent over ends = absurd ends
+
+-- a layout that wasn't loaded
+pub layout_unloaded : (name : List ℕ) (told : Option Contents) (fault : LoadFault) (o : Outcome)
+    → (fault ≡ Missing → IsAbsent told name) → (fault ≡ TooLong → IsOver told name layout_file_limit) → EndsUnloaded fault name o
+    → HasOutcome (Layout name) told Nothing o
+layout_unloaded name told Missing o absent over ends = layout-absent name told o (absent refl) ends
+layout_unloaded name told TooLong o absent over ends = layout-over name told o (over refl) ends
+layout_unloaded name told Failed o absent over ends = absurd ends
+layout_unloaded name told Memory o absent over ends = absurd ends
+
+-- a query whose layout wasn't loaded
+pub query_unloaded : (threads : ℕ) (layout text file : List ℕ) (told : Option Contents) (fault : LoadFault) (o : Outcome)
+    → (fault ≡ Missing → IsAbsent told layout) → (fault ≡ TooLong → IsOver told layout layout_file_limit) → EndsUnloaded fault layout o
+    → HasOutcome (Query threads layout text file) told Nothing o
+query_unloaded threads layout text file told Missing o absent over ends = query-absent threads layout text file told o (absent refl) ends
+query_unloaded threads layout text file told TooLong o absent over ends = query-over threads layout text file told o (over refl) ends
+query_unloaded threads layout text file told Failed o absent over ends = absurd ends
+query_unloaded threads layout text file told Memory o absent over ends = absurd ends
+
+-- an answer over a record file that wasn't loaded
+pub answer_unloaded : (p : Plan) (file : List ℕ) (told : Option Contents) (fault : LoadFault) (o : Outcome)
+    → (fault ≡ Missing → IsAbsent told file) → (fault ≡ TooLong → IsOver told file record_file_limit) → EndsUnloaded fault file o
+    → OfFound told file (λ found. o ≡ answer_outcome p file found)
+answer_unloaded p file told Missing o absent over ends = (None, absent refl, ends)
+answer_unloaded p file told TooLong o absent over ends = answer-over p file told o (over refl) ends
+answer_unloaded p file told Failed o absent over ends = absurd ends
+answer_unloaded p file told Memory o absent over ends = absurd ends
