@@ -31,6 +31,15 @@ pub fn gates<R: Wait>(rt: &R, alloc: Global, count: u64) -> Result<u64, Refusal>
     for word in 0..WORDS {
         put(&pool, &mut pass, arena, word, word.wrapping_mul(count))?;
     }
+    visits(pool, pass, arena, count)
+}
+
+/// The visits alone. The pool and the pass are moved here, so that the compiler knows that nothing else has a name for
+/// them.
+fn visits(pool: Pool, mut pass: Pass, arena: ArenaId, count: u64) -> Result<u64, Refusal>
+    requires outside { IsOutside pool pass }
+    requires open { IsOpen pass 65536 arena }
+{
     let mut joined: u64 = 0;
     for turn in 0..count {
         joined ^= visit(&pool, &mut pass, arena, joined.wrapping_add(turn) % WORDS)?;
@@ -42,9 +51,17 @@ pub fn gates<R: Wait>(rt: &R, alloc: Global, count: u64) -> Result<u64, Refusal>
 pub fn hops<R: Wait>(rt: &R, alloc: Global, count: u64) -> Result<u64, Refusal> {
     let (pool, mut pass) = made(alloc, SLOTS, 128)?;
     let arenas = opened(rt, alloc, &pool, &mut pass, count)?;
+    leaps(pool, pass, &arenas, count)
+}
+
+/// The visits of many arenas alone.
+fn leaps(pool: Pool, mut pass: Pass, arenas: &[ArenaId], count: u64) -> Result<u64, Refusal>
+    requires ready { AreOpen pool pass arenas.now 1024 }
+    requires many { length arenas.now ≡ 64 }
+{
     let mut joined: u64 = 0;
     for turn in 0..count {
-        joined ^= hop(&pool, &mut pass, &arenas, joined.wrapping_add(turn) % WORDS)?;
+        joined ^= hop(&pool, &mut pass, arenas, joined.wrapping_add(turn) % WORDS)?;
     }
     Ok(joined)
 }

@@ -142,38 +142,40 @@ pub record Reached (p q : View) (more : List Entry) : Type 0 where
   pub legal : IsLegal (limit_of p.shape) (state_in p) more
   pub state : state_in q ≡ state_after (limit_of p.shape) (state_in p) more
 
-pub reached : {p q : View} {own : List Entry} (g : Goes p q own) → Reached p q g.more
-reached {p = p} {q = q} g =
+-- a later view of the same shape has reached it by the entries between
+pub reached_by : {p q : View} (more : List Entry) → q.seen ≡ p.seen ++ more → q.shape ≡ p.shape → IsSound q → Reached p q more
+reached_by {p = p} {q = q} more seen shape sound =
     let n = limit_of p.shape in
-    let l : IsLegal n [] (p.seen ++ g.more) = subst (λ (es : List Entry). IsLegal n [] es) g.seen (subst
-    (λ (z : Shape). IsLegal (limit_of z) [] q.seen) g.same_shape g.sound.legal) in
+    let l : IsLegal n [] (p.seen ++ more) = subst (λ (es : List Entry). IsLegal n [] es) seen (subst
+    (λ (z : Shape). IsLegal (limit_of z) [] q.seen) shape sound.legal) in
     record {
-      legal = (IsLegal-split n [] p.seen g.more l).1;
-      state = ap (λ (z : Shape). state_after (limit_of z) [] q.seen) g.same_shape ∙ (ap (λ (es : List Entry). state_after n [] es) g.seen
-          ∙ state_after-append n [] p.seen g.more);
+      legal = (IsLegal-split n [] p.seen more l).1;
+      state = ap (λ (z : Shape). state_after (limit_of z) [] q.seen) shape ∙ (ap (λ (es : List Entry). state_after n [] es) seen
+          ∙ state_after-append n [] p.seen more);
     }
+
+pub reached : {p q : View} {own : List Entry} (g : Goes p q own) → Reached p q g.more
+reached g = reached_by g.more g.seen g.same_shape g.sound
 
 -- What was known is known.
-pub known_on : {p q : View} {own : List Entry} → Goes p q own → (a : ArenaId) → IsKnown p a → IsKnown q a
-known_on {p = p} {q = q} g a h =
-    let r = reached g in
-    ap (λ (s : State). has_arena s a) r.state ∙ (Grows-state_after (limit_of p.shape) (state_in p) g.more r.legal).has a h
+known_by : {p q : View} {more : List Entry} → Reached p q more → (a : ArenaId) → IsKnown p a → IsKnown q a
+known_by {p = p} {q = q} {more = more} r a h =
+    ap (λ (s : State). has_arena s a) r.state ∙ (Grows-state_after (limit_of p.shape) (state_in p) more r.legal).has a h
 
--- What had ended has ended.
-ended_on : {p q : View} {own : List Entry} → Goes p q own → (a : ArenaId) → HasEnded p a → HasEnded q a
-ended_on {p = p} {q = q} g a h =
-    let r = reached g in
-    record {
-      known = known_on g a h.known;
-      life = ap (λ (s : State). (arena_of s a).life) r.state ∙ ended_after (limit_of p.shape) (state_in p) g.more r.legal a h.known h.life;
-    }
-
--- What was given is given.
-given_on : {p q : View} {own : List Entry} → Goes p q own → (a : ArenaId) → given_of p a ≤ given_of q a
-given_on {p = p} {q = q} g a =
-    let r = reached g in
-    subst (λ (s : State). given_of p a ≤ (arena_of s a).given) (sym r.state)
-    ((Grows-state_after (limit_of p.shape) (state_in p) g.more r.legal).given a)
+-- What was known is known, what had ended has ended, and what was given is given.
+pub lasts_by : {p q : View} {more : List Entry} → Reached p q more → Lasts p q
+lasts_by {p = p} {q = q} {more = more} r = record {
+  given = λ a. subst (λ (s : State). given_of p a ≤ (arena_of s a).given) (sym r.state)
+      ((Grows-state_after (limit_of p.shape) (state_in p) more r.legal).given a);
+  known = known_by r;
+  ended = λ a h. record {
+    known = known_by r a h.known;
+    life = ap (λ (s : State). (arena_of s a).life) r.state ∙ ended_after (limit_of p.shape) (state_in p) more r.legal a h.known h.life;
+  };
+}
 
 pub lasts_on : {p q : View} {own : List Entry} → Goes p q own → Lasts p q
-lasts_on g = record { given = given_on g; known = known_on g; ended = ended_on g }
+lasts_on g = lasts_by (reached g)
+
+pub known_on : {p q : View} {own : List Entry} → Goes p q own → (a : ArenaId) → IsKnown p a → IsKnown q a
+known_on g = (lasts_on g).known

@@ -8,11 +8,11 @@ use Rattle.fm_base.specs.Calls.{End, Fine, Entry, entry_of}
 use Rattle.fm_base.specs.Finds.{Visits, is_draw}
 use Rattle.fm_base.proofs.Outcomes.{closed_ended}
 use Rattle.fm_words.specs.Marks.{mark_word}
-use Rattle.fm_pool_facts.specs.Views.{View}
+use Rattle.fm_pool_facts.specs.Views.{View, pass_of}
 use Rattle.fm_pool_facts.specs.Words.{mark_of, own_word}
 use Rattle.fm_pool_facts.specs.Closes as closes
 use Rattle.fm_pool_facts.specs.Closes.{visit_by, visit_found, closes_after, visit_entries, visited_of, visited}
-use Rattle.fm_pool_facts.specs.Steps.{Stepped, note_of, pass_of, is_clear}
+use Rattle.fm_pool_facts.specs.Steps.{Stepped, note_of, is_clear}
 use Rattle.fm_rule.specs.declared.pool.Pool.{Pool}
 use Rattle.fm_calls.specs.Kept.{Goes, HasEnded}
 use Rattle.fm_calls.specs.Told.{silent_view}

@@ -8,9 +8,9 @@ use Rattle.fm_base.specs.Calls.{End, Fine, Entry, entry_of}
 use Rattle.fm_base.specs.Does.{DoesClose}
 use Rattle.fm_base.specs.Finds.{Close, Find, Visits}
 use Rattle.fm_base.specs.View.{but_loans}
-use Rattle.fm_pool_facts.specs.Views.{View, IsKnown}
+use Rattle.fm_pool_facts.specs.Views.{View, IsKnown, pass_of}
 use Rattle.fm_pool_facts.specs.Closes.{close_of, visited_of, visited, dropped}
-use Rattle.fm_pool_facts.specs.Steps.{pass_of, is_clear}
+use Rattle.fm_pool_facts.specs.Steps.{is_clear}
 use Rattle.fm_pool_facts.specs.Words.{mark_of}
 use Rattle.fm_rule.specs.declared.pool.Pool.{Pool}
 use Rattle.fm_calls.specs.Kept.{Goes, KeptBut, Kept, rest_of, HasEnded, Lasts}

@@ -1,5 +1,5 @@
 -- A step keeps the rule, and tells its caller what others did.
-use Rattle.std.proofs.Common.{◌≡◌, ◌≢◌, ℕ, zero, suc, ◌<◌, true, List, [], ◌∷◌, ◌++◌, set, sym, refl, ap, ◌∙◌, subst, arith, inl, inr, ⊎_elim, append_assoc}
+use Rattle.std.proofs.Common.{◌≡◌, ◌≢◌, ◌⊎◌, ℕ, zero, suc, ◌<◌, true, List, [], ◌∷◌, ◌++◌, set, sym, refl, ap, ◌∙◌, subst, arith, inl, inr, ⊎_elim, append_assoc}
 use Rattle.std.proofs.lemmas.List.{append-nil}
 use Rattle.std.proofs.lemmas.List.Elements.{filter-append}
 use mathlib.Core.Logic.{dite}
@@ -11,11 +11,11 @@ use Rattle.fm_words.specs.declared.shape.Shape.{Shape}
 use Rattle.fm_base.specs.declared.caller.Caller.{Caller}
 use Rattle.fm_base.specs.Calls.{Entry}
 use Rattle.fm_base.specs.Histories.{made_by}
-use Rattle.fm_base.specs.Finds.{Find, Close}
+use Rattle.fm_base.specs.Finds.{Find, Gathered, Close}
 use Rattle.fm_depicts.specs.Functions.{Machine}
 use Rattle.fm_depicts.specs.Steps.{moved_by}
-use Rattle.fm_pool_facts.specs.Views.{View, In, HasSlot, IsSound, limit_of}
-use Rattle.fm_pool_facts.specs.Facts.{Memory, Owners, IsClosing, IsSilent, WasOpened, Begins, Somewhere, Owns, Knows}
+use Rattle.fm_pool_facts.specs.Views.{Met, View, In, HasSlot, IsSound, all_gathered, brought, limit_of}
+use Rattle.fm_pool_facts.specs.Facts.{Memory, Owners, IsClosing, IsGathered, IsOnce, IsSilent, WasOpened, Begins, Somewhere, Owns, Knows}
 use Rattle.fm_pool_facts.specs.Moves.{MayMake, NoEnd, Moved, Same, Part, told, Gives}
 use Rattle.fm_pool_facts.proofs.Frame.{others_stay, none_come, still_closing, still_known, made_by-other}
 
@@ -50,10 +50,40 @@ stays_somewhere vs me v w i P at f s = dite (ℕ_discrete i me)
 pub begins_on : (xs h es : List Entry) → Begins xs h → Begins xs (h ++ es)
 begins_on xs h es b = (b.0 ++ es, ap (λ (l : List Entry). l ++ es) b.1 ∙ append_assoc xs b.0 es)
 
+-- ---- gathered callers
+
+pub in_append : {A : Type 0} (x : A) (xs ys : List A) → In x (xs ++ ys) → In x xs ⊎ In x ys
+in_append x [] ys i = inr i
+in_append x (y ∷ xs) ys (inl e) = inl (inl e)
+in_append x (y ∷ xs) ys (inr i) = ⊎_elim (λ j. inl (inr j)) inr (in_append x xs ys i)
+
+pub in_right : {A : Type 0} (x : A) (xs ys : List A) → In x ys → In x (xs ++ ys)
+in_right x [] ys i = i
+in_right x (y ∷ xs) ys i = inr (in_right x xs ys i)
+
+-- a caller that was brought came with one that was met
+pub in_brought : (g : Gathered) (xs : List Met) → In g (brought xs) → (x : Met) × In x xs × In g x.gathered
+in_brought g [] i = absurd i
+in_brought g (x ∷ xs) i = ⊎_elim
+    (λ (j : In g x.gathered). (x, inl refl, j))
+    (λ (j : In g (brought xs)). let y = in_brought g xs j in (y.0, inr y.1, y.2))
+    (in_append g x.gathered (brought xs) i)
+
+module _ (z : Shape) (h : List Entry) (m : Memory) (t : Machine) (o : Owners) (j : ℕ) (v : View) (k : Owns z h m t o j v) where
+  -- each of them was gathered when something was seen
+  pub gathered_all : (g : Gathered) → In g (all_gathered v) → (xs : List Entry) × IsGathered h m t o j v xs g
+  gathered_all g i = ⊎_elim
+      (λ (i : In g v.gathered). (v.seen, k.gathered g i))
+      (λ (i : In g (brought v.met)). let y = in_brought g v.met i in (y.0.seen, k.coming y.0 y.1 g y.2))
+      (in_append g v.gathered (brought v.met) i)
+
+  pub seated_all : (g : Gathered) → In g (all_gathered v) → o.number g.caller.number ≡ j
+  seated_all g i = (gathered_all g i).1.seated
+
 -- ---- other views
 
 module _ (limit : ℕ) (h : List Entry) (c : Caller) (m : Memory) (t : Machine) (es : List Entry) (m' : Memory) (ok : MayMake limit t c es) where
-  made_by-on : (k : Caller) → k ≢ c → made_by k (h ++ es) ≡ made_by k h
+  pub made_by-on : (k : Caller) → k ≢ c → made_by k (h ++ es) ≡ made_by k h
   made_by-on k n = filter-append _ h es ∙ (ap (λ (l : List Entry). made_by k h ++ l) (made_by-other limit c k es t n ok) ∙ append-nil (made_by k h))
 
   pub silent_on : (k : ℕ) → k ≢ c.number → m'.marks k ≡ m.marks k → IsSilent k h m t → IsSilent k (h ++ es) m' (moved_by t es)
@@ -108,23 +138,15 @@ module _ (z : Shape) (h : List Entry) (me : ℕ) (c : Caller) (m : Memory) (t : 
     apart = k.apart;
     only = k.only;
     slots = λ e s l. ⊎_elim (λ (i : HasSlot s v). inl i) (λ (w : WasOpened t s). inr (opened_on (limit_of z) h c m t es m' d.allowed s w)) (k.slots e s l);
-    gathered = λ g i.
-        let y = k.gathered g i in
-        let far = away g.caller.number y.seated in
-        let apart' : g.caller ≢ c = λ q. far (ap (λ (x : Caller). x.number) q) in
-        record {
-          number = drawn_still g.caller.number y.number;
-          seated = d.numbers g.caller.number ∙ y.seated;
-          apart = y.apart;
-          outside = others_stay (limit_of z) c g.caller es t apart' d.allowed ∙ y.outside;
-          mark = d.marks g.caller.number far ∙ y.mark;
-          quiet = made_by-on (limit_of z) h c m t es m' d.allowed g.caller apart' ∙ y.quiet;
-        };
+    gathered = λ g i. still v.seen g (k.gathered g i);
+    coming = λ x j g i. still x.seen g (k.coming x j g i);
+    one_each = k.one_each;
     drawn = λ n e.
         let y = k.drawn n e in
         let far = away n y.seated in
         record {
           number = drawn_still n y.number;
+          later = y.later;
           seated = d.numbers n ∙ y.seated;
           apart = y.apart;
           ungathered = y.ungathered;
@@ -140,15 +162,31 @@ module _ (z : Shape) (h : List Entry) (me : ℕ) (c : Caller) (m : Memory) (t : 
       apart : v.caller ≢ c
       apart q = away v.caller.number k.seated (ap (λ (x : Caller). x.number) q)
 
+      -- a caller that is gathered is so still
+      still : (xs : List Entry) (g : Gathered) → IsGathered h m t o j v xs g → IsGathered h' m' t' o' j v xs g
+      still xs g y =
+          let far = away g.caller.number y.seated in
+          let apart' : g.caller ≢ c = λ q. far (ap (λ (x : Caller). x.number) q) in
+          record {
+            number = drawn_still g.caller.number y.number;
+            seated = d.numbers g.caller.number ∙ y.seated;
+            apart = y.apart;
+            outside = others_stay (limit_of z) c g.caller es t apart' d.allowed ∙ y.outside;
+            mark = d.marks g.caller.number far ∙ y.mark;
+            quiet = made_by-on (limit_of z) h c m t es m' d.allowed g.caller apart' ∙ y.quiet;
+          }
+
       -- a view that is known to be whole is the only one with a number
       lone : v.whole ≡ true → ⊥
-      lone e = let g = k.whole e c.number low (λ q. away v.caller.number k.seated (sym q)) in away g.0.caller.number (k.gathered g.0 g.1).seated g.2
+      lone e =
+          let g = k.whole e c.number low (λ q. away v.caller.number k.seated (sym q)) in
+          away g.0.caller.number (seated_all z h m t o j v k g.0 g.1) g.2
 
   pub others_know : (j : ℕ) (v : View) → j ≢ me → Knows z h m t o j v → Knows z (h ++ es) m' (moved_by t es) o' j v
   others_know j v other k = record {
     shape = k.shape;
     begins = begins_on v.seen h es k.begins;
-    met = λ xs i. begins_on xs h es (k.met xs i);
+    met = λ x i. begins_on x.seen h es (k.met x i);
     owns = λ l. others_own j v other (k.owns l);
   }
 
@@ -158,6 +196,9 @@ module _ (z : Shape) (h zs : List Entry) (me : ℕ) (m m' : Memory) (t : Machine
     (k : Knows z h m t o me v) (l : v.live ≡ true) (d : Moved me (limit_of z) v.caller m t o es m' o') (is : h ≡ v.seen ++ zs) (s : Same v p) where
   abbrev pub w : View
   w = told p zs es fs
+
+  same_all : all_gathered p ≡ all_gathered v
+  same_all = λ j. s.gathered j ++ brought (s.met j)
 
   seen_is : w.seen ≡ h ++ es
   seen_is = ap (λ (xs : List Entry). (xs ++ zs) ++ es) s.seen ∙ ap (λ (xs : List Entry). xs ++ es) (sym is)
@@ -170,7 +211,7 @@ module _ (z : Shape) (h zs : List Entry) (me : ℕ) (m m' : Memory) (t : Machine
       record {
         shape = λ e. s.shape ∙ k.shape l;
         begins = ([], sym (append-nil w.seen ∙ seen_is));
-        met = λ xs i. absurd i;
+        met = λ x i. absurd i;
         owns = λ e. record {
           number = (let a = u.number in let b = d.draw in let c = num in omega arith);
           term = ap (λ (x : Caller). x.term) s.caller ∙ (u.term ∙ (sym (d.terms v.caller.number) ∙ ap m'.terms (sym num)));
@@ -184,8 +225,10 @@ module _ (z : Shape) (h zs : List Entry) (me : ℕ) (m m' : Memory) (t : Machine
           apart = q.apart;
           only = q.only;
           slots = q.slots;
+          coming = λ x i. absurd i;
+          one_each = subst (IsOnce (λ (g : Gathered). g.caller.number)) (sym (append-nil (all_gathered p) ∙ same_all)) u.one_each;
           gathered = λ g i.
-              let y = u.gathered g (subst (In g) s.gathered i) in
+              let y = (gathered_all z h m t o me v u g (subst (In g) same_all i)).1 in
               let far : g.caller ≢ v.caller = λ e. y.apart (ap (λ (x : Caller). x.number) e) in
               record {
                 number = (let a = y.number in let b = d.draw in omega arith);
@@ -199,14 +242,15 @@ module _ (z : Shape) (h zs : List Entry) (me : ℕ) (m m' : Memory) (t : Machine
               let y = u.drawn n (sym s.drawn ∙ e) in
               record {
                 number = (let a = y.number in let b = d.draw in omega arith);
+                later = y.later;
                 seated = d.numbers n ∙ y.seated;
                 apart = λ e. y.apart (e ∙ num);
-                ungathered = λ g i. y.ungathered g (subst (In g) s.gathered i);
+                ungathered = λ g i. y.ungathered g (subst (In g) (append-nil (all_gathered p) ∙ same_all) i);
                 silent = silent_on (limit_of z) h v.caller m t es m' ok n y.apart (d.marks n y.apart) y.silent;
               };
           whole = λ e n lt ne.
               let g = u.whole (sym s.whole ∙ e) n (let b = d.draw in omega arith) (λ q. ne (q ∙ sym num)) in
-              (g.0, subst (In g.0) (sym s.gathered) g.1, g.2);
+              (g.0, subst (In g.0) (sym (append-nil (all_gathered p) ∙ same_all)) g.1, g.2);
           seen_all = λ e. seen_is;
         };
       }
@@ -226,8 +270,12 @@ module _ (z : Shape) (h zs : List Entry) (me : ℕ) (m m' : Memory) (t : Machine
             none_added (made_by g.caller v.seen) (made_by g.caller zs) (sym (filter-append _ v.seen zs) ∙ (ap (made_by g.caller) (sym is) ∙ y.quiet)) in
             filter-append _ zs es ∙ (λ j. none j ++ made_by-other (limit_of z) v.caller g.caller es t far d.allowed j);
         alone = λ e. none_added v.seen zs (sym is ∙ sym (u.seen_all e));
-        met = λ xs i.
-            let b = begins_on xs h es (k.met xs i) in
+        met = λ x i.
+            let b = begins_on x.seen h es (k.met x i) in
             (b.0, seen_is ∙ b.1);
+        came = λ x j g i.
+            let y = u.coming x j g i in
+            let far : g.caller ≢ v.caller = λ e. y.apart (ap (λ (x : Caller). x.number) e) in
+            ap (made_by g.caller) seen_is ∙ (made_by-on (limit_of z) h v.caller m t es m' d.allowed g.caller far ∙ y.quiet);
         sound = sound;
       }

@@ -4,5 +4,7 @@ pub mod Worlds
 pub mod Shown
 pub mod Keeping
 pub mod Summing
+pub mod Counting
+pub mod Callers
 pub mod Lending
 pub mod Ruling

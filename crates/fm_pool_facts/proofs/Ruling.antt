@@ -1,5 +1,5 @@
 -- The rule after a step, and that a view that has seen all is sound.
-use Rattle.std.proofs.Common.{◌≡◌, ◌≢◌, ℕ, ◌*◌, ◌^◌, ◌<◌, ◌≤◌, Bool, true, false, List, [], ◌++◌, length, set, sym, refl, ap, ◌∙◌, subst, arith, inl, inr, ⊎_elim, mul-le-mul_right}
+use Rattle.std.proofs.Common.{◌≡◌, ◌≢◌, ℕ, ◌*◌, ◌^◌, ◌<◌, ◌≤◌, Bool, true, false, List, [], ◌++◌, length, set, sym, refl, ap, ◌∙◌, subst, arith, inl, inr, ⊎_elim, mul-le-mul_right, Some, None}
 use mathlib.Core.Option.{some}
 use lib.ListN.{get_elem?}
 use Rattle.atomic_table.proofs.Lists.{at_set}
@@ -9,11 +9,11 @@ use Rattle.fm_base.specs.declared.caller.Caller.{Caller}
 use Rattle.fm_base.specs.declared.arena_id.ArenaId.{ArenaId}
 use Rattle.fm_base.specs.Arenas.{Life, Alive, Closing, Ended, State, IsUnderWay, has_arena, arena_of}
 use Rattle.fm_base.specs.Calls.{Entry}
-use Rattle.fm_base.specs.Histories.{IsLegal, state_after}
-use Rattle.fm_base.specs.Finds.{Find}
+use Rattle.fm_base.specs.Histories.{IsLegal, state_after, made_by}
+use Rattle.fm_base.specs.Finds.{Find, Gathered}
 use Rattle.fm_depicts.specs.Functions.{Fresh, Closes, Machine, stage_of}
 use Rattle.fm_depicts.specs.Steps.{moved_by}
-use Rattle.fm_pool_facts.specs.Views.{span, View, Fits, In, HasSlot, IsSpent, IsSound, IsKnown, limit_of, state_in}
+use Rattle.fm_pool_facts.specs.Views.{span, all_gathered, brought, View, Fits, In, HasSlot, IsSpent, IsSound, IsKnown, limit_of, state_in, pass_of}
 use Rattle.fm_pool_facts.specs.Facts.{Memory, Owners, Shows, World, HasNumber, HasDraw, HasClose, WasOpened, Somewhere, Knows, Rule}
 use Rattle.fm_pool_facts.specs.Moves.{Moved, Same, Part, KeepsCloses, KeepsHolds, told, Gives}
 use Rattle.fm_pool_facts.specs.Holds.{holds_of}
@@ -21,6 +21,7 @@ use Rattle.fm_pool_facts.specs.Loans.{Loan, lent, loans_after, IsRightlyLent}
 use Rattle.fm_pool_facts.specs.Facts.{Loans}
 use Rattle.fm_pool_facts.specs.Moves.{MayLend}
 use Rattle.fm_pool_facts.proofs.Lending.{loans_after-append, lent-append, lent_on}
+use Rattle.fm_pool_facts.proofs.Callers.{few_gathered, knows_callers}
 use Rattle.fm_pool_facts.proofs.Frame.{legal_on}
 use Rattle.fm_pool_facts.proofs.Summing.{total-set}
 use Rattle.fm_pool_facts.proofs.Keeping.{set_there, in_left, stays_somewhere, silent_on, others_know, own_view, gives_by}
@@ -51,8 +52,8 @@ limit_below z v =
 
 -- a pass that has seen the whole history is sound
 pub sound_of : (z : Shape) (ws : List ℕ) (vs : List View) (r : Rule z ws vs) (me : ℕ) (v : View) → get_elem? vs me ≡ some v → v.live ≡ true
-    → v.seen ≡ r.history → IsSound v
-sound_of z ws vs r me v at l q =
+    → v.met ≡ [] → v.seen ≡ r.history → IsSound v
+sound_of z ws vs r me v at l lone q =
     let k = r.each me v at in
     let u = k.owns l in
     let e : v.shape ≡ z = k.shape l in
@@ -84,15 +85,36 @@ sound_of z ws vs r me v at l q =
           (λ (i : HasSlot s v). inl i)
           (λ (w : WasOpened r.machine s). inr (record { arena = w.0; in_slot = w.1; known = opened w.0 w.2 }))
           (u.slots n s (subst (λ (x : Shape). s < x.slots) e l));
+      drawn = λ n i.
+          let y = u.drawn n i in
+          record {
+            later = y.later;
+            number = (let a = y.number in let b = r.few in let c : v.shape.passes ≡ z.passes = ap (λ (x : Shape). x.passes) e in omega arith);
+            other = ⊎_elim y.apart (λ (g : (g : Gathered) × In g v.gathered × (g.caller.number ≡ n)).
+                y.ungathered g.0 (in_left g.0 v.gathered (brought v.met) g.1) g.2);
+            silent = ap (made_by (pass_of n)) q ∙ y.silent.calls (pass_of n) refl;
+            outside = λ a w.
+                let none : None ≡ Some a = sym (y.silent.outside (pass_of n) refl)
+                ∙ r.depicts.under (pass_of n) a (subst (λ (x : State). IsUnderWay x (pass_of n) a) st w) in absurd (cc);
+          };
+      few =
+          let a = few_gathered z r.history r.memory r.machine r.owners me v lone u in
+          let b = r.few in
+          let c : v.shape.passes ≡ z.passes = ap (λ (x : Shape). x.passes) e in omega arith;
+      knows = knows_callers z r.history r.memory r.machine r.owners me v lone u r.later q;
     }
 
 -- ---- the rule
+
+still_gathered : (v p : View) (zs es : List Entry) (fs : ℕ → List Find) (s : Same v p) (g : Gathered) → In g (all_gathered v)
+    → In g (all_gathered (told p zs es fs))
+still_gathered v p zs es fs s g i = in_left g (all_gathered p) [] (subst (In g) (λ j. sym s.gathered j ++ brought (sym s.met j)) i)
 
 -- what one view has by its number, it has after a step
 number_still : (v p : View) (zs es : List Entry) (fs : ℕ → List Find) (s : Same v p) (n : ℕ) → HasNumber n v → HasNumber n (told p zs es fs)
 number_still v p zs es fs s n (inl h) = inl (s.live ∙ h.0, ap (λ (x : Caller). x.number) s.caller ∙ h.1)
 number_still v p zs es fs s n (inr (inl d)) = inr (inl (s.drawn ∙ d))
-number_still v p zs es fs s n (inr (inr g)) = inr (inr (g.0, subst (In g.0) (sym s.gathered) g.1, g.2))
+number_still v p zs es fs s n (inr (inr g)) = inr (inr (g.0, still_gathered v p zs es fs s g.0 g.1, g.2))
 
 draw_still : (v p : View) (zs es : List Entry) (fs : ℕ → List Find) (s : Same v p) (d n : ℕ) → HasDraw d n v → HasDraw d n (told p zs es fs)
 draw_still v p zs es fs s d n (inl h) =
@@ -103,7 +125,7 @@ draw_still v p zs es fs s d n (inl h) =
           ∙ h.1,
       (f.0, in_left f.0 p.finds (fs (length (p.seen ++ zs))) (subst (In f.0) (sym s.finds) f.1), f.2),
     )
-draw_still v p zs es fs s d n (inr g) = inr (g.0, subst (In g.0) (sym s.gathered) g.1, g.2, g.3)
+draw_still v p zs es fs s d n (inr g) = inr (g.0, still_gathered v p zs es fs s g.0 g.1, g.2, g.3)
 
 -- the rule and what is told after a step of the seat me: what the words, the memory and the caller's part are is the step's own business
 pub keeps : (z : Shape) (ws ws' : List ℕ) (vs : List View) (r : Rule z ws vs) (me : ℕ) (v p : View) (es : List Entry) (fs : ℕ → List Find) (m' : Memory)
@@ -167,5 +189,5 @@ keeps z ws ws' vs r me v p es fs m' o' at l d s lends loans kc kh shows world q 
           (at_set vs me j w y at');
     } in
     let seen : w.seen ≡ r.history ++ es = ap (λ (xs : List Entry). (xs ++ zs) ++ es) s.seen ∙ ap (λ (xs : List Entry). xs ++ es) (sym is) in
-    let sound = sound_of z ws' (set vs me w) rule me w (set_there vs me v w at) (s.live ∙ l) seen in
+    let sound = sound_of z ws' (set vs me w) rule me w (set_there vs me v w at) (s.live ∙ l) refl seen in
     (w, rule, gives_by z r.history zs me r.memory m' r.machine r.owners o' es fs v p k l d is s sound)

@@ -207,3 +207,16 @@ module _ (z : Shape) (v : IsValid z) (ws : List ℕ) (m : Memory) (r : Shows z w
       others (marked i) n = refl
       others (seated i) n = refl
       others (cell s w) n = refl
+
+  pub shows_draw : (n : ℕ) → Shows z (set ws (at z draw_place) n) (record m { draw = n })
+  unfolding spot_at IsSpot word_of
+  shows_draw n = one_set (record m { draw = n }) drawn n tt r.terms refl others
+    where
+      others : (q : Spot) → q ≢ drawn → word_of (record m { draw = n }) q ≡ word_of m q
+      others drawn ne = absurd (ne refl)
+      others fronted ne = refl
+      others bits ne = refl
+      others (marked i) ne = refl
+      others (seated i) ne = refl
+      others (counted i) ne = refl
+      others (cell s w) ne = refl

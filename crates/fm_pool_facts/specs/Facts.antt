@@ -15,7 +15,7 @@ use Rattle.fm_pool_facts.specs.Loans.{Loan, loan_of, lent, IsFree, HasPart, IsRi
 use Rattle.fm_base.specs.Finds.{Find, Gathered, Close}
 use Rattle.fm_depicts.specs.Functions.{Stage, Fresh, Lives, Closes, Machine, Depicts}
 use Rattle.fm_pool_facts.specs.declared.slot.Slot.{Slot}
-use Rattle.fm_pool_facts.specs.Views.{View, Fits, In, HasSlot, span, limit_of}
+use Rattle.fm_pool_facts.specs.Views.{Met, View, Fits, In, HasSlot, all_gathered, span, limit_of}
 use Rattle.fm_pool_facts.specs.Words.{alive_word, closing_word, own_word}
 use Rattle.fm_pool_facts.specs.Holds.{holds_of, total}
 
@@ -148,21 +148,22 @@ pub record IsSilent (k : ℕ) (h : List Entry) (m : Memory) (t : Machine) : Type
   pub outside : (c : Caller) → c.number ≡ k → t.inside c ≡ None
   pub mark : m.marks k ≡ None
 
--- a caller that is gathered into the view v at the seat j
-pub record IsGathered (h : List Entry) (m : Memory) (t : Machine) (o : Owners) (j : ℕ) (v : View) (g : Gathered) : Type 0 where
+-- a caller that is gathered into the view v at the seat j, and was so when xs was seen
+pub record IsGathered (h : List Entry) (m : Memory) (t : Machine) (o : Owners) (j : ℕ) (v : View) (xs : List Entry) (g : Gathered) : Type 0 where
   pub number : g.caller.number < m.draw
   pub seated : o.number g.caller.number ≡ j
   pub apart : g.caller.number ≢ v.caller.number
   pub outside : t.inside g.caller ≡ None
   pub mark : m.marks g.caller.number ≡ None
-  pub quiet : made_by g.caller h ≡ made_by g.caller v.seen
+  pub quiet : made_by g.caller h ≡ made_by g.caller xs
 
 -- a number that was drawn at the seat j and isn't split off
 pub record IsDrawn (h : List Entry) (m : Memory) (t : Machine) (o : Owners) (j : ℕ) (v : View) (d : ℕ) : Type 0 where
   pub number : d < m.draw
+  pub later : 0 < d
   pub seated : o.number d ≡ j
   pub apart : d ≢ v.caller.number
-  pub ungathered : (g : Gathered) → In g v.gathered → g.caller.number ≢ d
+  pub ungathered : (g : Gathered) → In g (all_gathered v) → g.caller.number ≢ d
   pub silent : IsSilent d h m t
 
 -- no two of the list have one f
@@ -177,7 +178,7 @@ abbrev pub WasOpened : Machine → ℕ → Type 0
 WasOpened t s = (a : ArenaId) × (a.slot ≡ s) × (t.life a ≢ Fresh)
 
 abbrev pub HasGathered : ℕ → View → Type 0
-HasGathered n v = (g : Gathered) × In g v.gathered × (g.caller.number ≡ n)
+HasGathered n v = (g : Gathered) × In g (all_gathered v) × (g.caller.number ≡ n)
 
 -- the second history goes on from the first
 abbrev pub Begins : List Entry → List Entry → Type 0
@@ -197,7 +198,9 @@ pub record Owns (z : Shape) (h : List Entry) (m : Memory) (t : Machine) (o : Own
   -- the first pass alone has slots in its hand, and all whose first arena is to come
   pub only : (s : Slot) → In s v.hand → (v.caller.number ≡ 0) × (s.generation ≡ 0)
   pub slots : v.caller.number ≡ 0 → (s : ℕ) → s < z.slots → HasSlot s v ⊎ WasOpened t s
-  pub gathered : (g : Gathered) → In g v.gathered → IsGathered h m t o j v g
+  pub gathered : (g : Gathered) → In g v.gathered → IsGathered h m t o j v v.seen g
+  pub coming : (x : Met) → In x v.met → (g : Gathered) → In g x.gathered → IsGathered h m t o j v x.seen g
+  pub one_each : IsOnce (λ (g : Gathered). g.caller.number) (all_gathered v)
   pub drawn : (d : ℕ) → v.drawn ≡ Some d → IsDrawn h m t o j v d
   pub whole : v.whole ≡ true → (n : ℕ) → n < m.draw → n ≢ v.caller.number → HasGathered n v
   pub seen_all : v.whole ≡ true → v.seen ≡ h
@@ -205,7 +208,7 @@ pub record Owns (z : Shape) (h : List Entry) (m : Memory) (t : Machine) (o : Own
 pub record Knows (z : Shape) (h : List Entry) (m : Memory) (t : Machine) (o : Owners) (j : ℕ) (v : View) : Type 0 where
   pub shape : v.live ≡ true → v.shape ≡ z
   pub begins : Begins v.seen h
-  pub met : (xs : List Entry) → In xs v.met → Begins xs h
+  pub met : (x : Met) → In x v.met → Begins x.seen h
   pub owns : v.live ≡ true → Owns z h m t o j v
 
 -- ---- what some view has
@@ -227,7 +230,7 @@ DrewIn n fs = (f : Find) × In f fs × ((c : Caller) × (c.number ≡ n) × (f.d
 -- the view has the finds of d, among them the drawing of n
 abbrev pub HasDraw : ℕ → ℕ → View → Type 0
 HasDraw d n v = ((v.live ≡ true) × (v.caller.number ≡ d) × DrewIn n v.finds)
-    ⊎ ((g : Gathered) × In g v.gathered × (g.caller.number ≡ d) × DrewIn n g.finds)
+    ⊎ ((g : Gathered) × In g (all_gathered v) × (g.caller.number ≡ d) × DrewIn n g.finds)
 
 abbrev pub HasClose : ArenaId → View → Type 0
 HasClose a v = (v.live ≡ true) × ((c : Close) × In c v.closes × (c.arena ≡ a))

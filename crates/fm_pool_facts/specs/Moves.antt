@@ -1,5 +1,5 @@
 -- What one step changes, and what the rule allows.
-use Rattle.std.specs.Prelude.{◌/◌, ◌≡◌, ◌≢◌, ◌⊎◌, ℕ, ◌+◌, ◌<◌, true, List, [], ◌∷◌, ◌++◌, length, slice_index, slice_set, ⊤}
+use Rattle.std.specs.Prelude.{◌/◌, ◌≡◌, ◌≢◌, ◌⊎◌, ℕ, ◌+◌, ◌<◌, ◌≤◌, true, List, [], ◌∷◌, ◌++◌, length, slice_index, slice_set, ⊤}
 use mathlib.Core.Option.{some}
 use lib.ListN.{get_elem?}
 use Rattle.fm_words.specs.declared.shape.Shape.{Shape}
@@ -13,8 +13,8 @@ use Rattle.fm_base.specs.Finds.{Find, Gathered, Close}
 use Rattle.fm_depicts.specs.Functions.{Fresh, Closes, Over, Machine, moved, MayBy, reply_by}
 use Rattle.fm_pool_facts.specs.declared.slot.Slot.{Slot}
 use Rattle.fm_pool_facts.specs.declared.step.Step.{Step}
-use Rattle.fm_pool_facts.specs.declared.step.Step.TheVariants.{Visits}
-use Rattle.fm_pool_facts.specs.Views.{View, In, HasSlot, IsSound}
+use Rattle.fm_pool_facts.specs.declared.step.Step.TheVariants.{Visits, Draws}
+use Rattle.fm_pool_facts.specs.Views.{Met, View, In, HasSlot, IsSound, all_gathered}
 use Rattle.fm_pool_facts.specs.Steps.{part, entries, noted}
 use Rattle.fm_pool_facts.specs.Words.{own_word}
 use Rattle.fm_pool_facts.specs.Holds.{holds_of}
@@ -91,9 +91,14 @@ KeepsCloses me v p t o t' o' = (a : ArenaId) → t'.life a ≡ Closes
 abbrev pub KeepsHolds : (v p : View) (t t' : Machine) → Type 0
 KeepsHolds v p t t' = (a : ArenaId) → a.kind ≢ Automatic → holds_of a p + t.holds a ≡ holds_of a v + t'.holds a
 
--- the view after a step: it has seen all, and the caller's own entries are the last
+-- the view after a step: it has seen all, whom it met is gathered, and the caller's own entries are the last
 abbrev pub told : View → List Entry → List Entry → (ℕ → List Find) → View
-told p others own noted = record p { seen = (p.seen ++ others) ++ own; finds = p.finds ++ noted (length (p.seen ++ others)); met = [] }
+told p others own noted = record p {
+  seen = (p.seen ++ others) ++ own;
+  finds = p.finds ++ noted (length (p.seen ++ others));
+  gathered = all_gathered p;
+  met = [];
+}
 
 -- the view w is what a step gives that makes p of v and these entries
 pub record Gives (v p : View) (own : List Entry) (noted : ℕ → List Find) (w : View) : Type 0 where
@@ -102,12 +107,21 @@ pub record Gives (v p : View) (own : List Entry) (noted : ℕ → List Find) (w 
   pub quiet : made_by v.caller others ≡ []
   pub apart : (g : Gathered) → In g v.gathered → made_by g.caller (others ++ own) ≡ []
   pub alone : v.whole ≡ true → others ≡ []
-  pub met : (xs : List Entry) → In xs v.met → Begins xs w.seen
+  pub met : (x : Met) → In x v.met → Begins x.seen w.seen
+  -- nor did those that came, since they were seen last
+  pub came : (x : Met) → In x v.met → (g : Gathered) → In g x.gathered → made_by g.caller w.seen ≡ made_by g.caller x.seen
   pub sound : IsSound w
+
+-- what is learnt by the count x of drawn numbers: its own is one of them, and a whole pass has them all
+pub record LearnsCount (v : View) (x : ℕ) : Type 0 where
+  pub own : v.caller.number < x
+  pub few : x ≤ v.shape.passes
+  pub whole : v.whole ≡ true → x ≡ length v.gathered + 1
 
 -- what is learnt by the word x that a step found: the mark of its own number is what its view says
 abbrev pub Learns : Step → View → ℕ → Type 0
 Learns (Visits a k) v x = k ≡ v.caller.number → x ≡ own_word v.mark
+Learns (Draws expected) v x = LearnsCount v x
 Learns step v x = ⊤
 
 -- what a step tells its caller that found the word x

@@ -1,8 +1,9 @@
 -- The first view, and how views are cut in two and put together.
-use Rattle.std.specs.Prelude.{◌≡◌, ℕ, zero, suc, Bool, true, false, List, [], ◌∷◌, None}
+use Rattle.std.specs.Prelude.{◌≡◌, ℕ, zero, suc, Bool, true, false, List, [], ◌∷◌, Option, Some, None}
 use Rattle.fm_words.specs.declared.shape.Shape.{Shape}
 use Rattle.fm_base.specs.Arenas.{only_caller}
 use Rattle.fm_base.specs.Calls.{Entry}
+use Rattle.fm_base.specs.Finds.{Gathered}
 use Rattle.fm_pool_facts.specs.declared.slot.Slot.{Slot}
 use Rattle.fm_pool_facts.specs.Views.{View}
 
@@ -42,7 +43,26 @@ note v = view_of v.shape false v.seen
 
 -- the pass has met what the other had seen
 abbrev pub met : View → View → View
-met v w = record v { met = w.seen ∷ v.met }
+met v w = record v { met = record { seen = w.seen; gathered = [] } ∷ v.met }
+
+abbrev pub as_gathered : View → Gathered
+as_gathered w = record { caller = w.caller; finds = w.finds }
+
+-- the pass has met the other, and all that were gathered into it
+abbrev pub gather : View → View → View
+gather v w = record v { met = record { seen = w.seen; gathered = as_gathered w ∷ w.gathered } ∷ v.met }
+
+abbrev pub number_or : Option ℕ → ℕ
+number_or None = 0
+number_or (Some n) = n
+
+-- a pass whose number was split off
+abbrev pub drawn_left : View → View
+drawn_left v = record v { drawn = None }
+
+-- the pass of that number, which has seen what the drawer has
+abbrev pub drawn_right : View → View
+drawn_right v = record (view_of v.shape true v.seen) { caller = record { number = number_or v.drawn; term = 0 } }
 
 abbrev pub nothing_seen : View
 nothing_seen = view_of (record { passes = 0; slots = 0; pages = 0; page_words = 0; reach = 0; generations = 0 }) false []
@@ -52,3 +72,15 @@ pub record IsBare (v : View) : Type 0 where
   pub live : v.live ≡ false
   pub drawn : v.drawn ≡ None
   pub gathered : v.gathered ≡ []
+  pub met : v.met ≡ []
+
+-- a pass that can be gathered
+pub record IsAtRest (w : View) : Type 0 where
+  pub live : w.live ≡ true
+  pub inside : w.inside ≡ None
+  pub mark : w.mark ≡ None
+  pub drawn : w.drawn ≡ None
+  pub hand : w.hand ≡ []
+  pub closes : w.closes ≡ []
+  pub holds : w.holds ≡ []
+  pub met : w.met ≡ []

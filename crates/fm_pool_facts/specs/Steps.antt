@@ -5,11 +5,12 @@ use Rattle.fm_base.specs.declared.arena_id.ArenaId.{ArenaId}
 use Rattle.fm_base.specs.Calls.{Call, Open, Enter, Read, Write, SwapIf, Add, Allocate, Leave, Hold, Unhold, Shut, Lend, Reply, Fine, Found, Entry, entry_of}
 use Rattle.fm_base.specs.Machine.{allocate_reply, rounded_up}
 use Rattle.fm_base.specs.Histories.{made_by}
-use Rattle.fm_base.specs.Finds.{Find, FindStep, Visits as Visiting}
+use Rattle.fm_base.specs.Finds.{Find, FindStep, Draws as Drawing, Visits as Visiting}
+use Rattle.fm_words.specs.declared.shape.Shape.{Shape}
 use Rattle.fm_pool_facts.specs.declared.slot.Slot.{Slot}
 use Rattle.fm_pool_facts.specs.declared.step.Step.{Step}
-use Rattle.fm_pool_facts.specs.declared.step.Step.TheVariants.{Marks, Checks, Loads, Stores, SwapsIf, Adds, Allocates, Holds, Unholds, Unmarks, Shuts, Visits, Opens, Looks}
-use Rattle.fm_pool_facts.specs.Views.{View, IsSound, given_of, limit_of}
+use Rattle.fm_pool_facts.specs.declared.step.Step.TheVariants.{Draws, Marks, Checks, Loads, Stores, SwapsIf, Adds, Allocates, Holds, Unholds, Unmarks, Shuts, Visits, Opens, Looks}
+use Rattle.fm_pool_facts.specs.Views.{View, IsSound, given_of, limit_of, pass_of}
 use Rattle.fm_pool_facts.specs.Words.{alive_holds, enter_found, inside_found, shut_found, hold_found}
 use Rattle.fm_pool_facts.specs.Holds.{holds_after, released}
 use Rattle.fm_pool_facts.specs.Closes.{begun, visit_found, closes_after, visit_entries}
@@ -84,9 +85,33 @@ abbrev pub but_first : List Slot → List Slot
 but_first [] = []
 but_first (s ∷ ss) = ss
 
--- the pass with this number, in its first term
-abbrev pub pass_of : ℕ → Caller
-pass_of k = record { number = k; term = 0 }
+-- ---- numbers
+
+-- the number that was drawn where so many were expected and found
+abbrev pub number_drawn : Shape → (expected found : ℕ) → Option ℕ
+number_drawn z expected found = if found == expected then (if nat_le (expected + 1) z.passes then Some found else None) else None
+
+-- the count of drawn numbers after a draw that finds so many
+abbrev pub draw_next : (drawn passes : ℕ) → ℕ
+draw_next drawn passes = if nat_le (drawn + 1) passes then drawn + 1 else drawn
+
+-- a pass that drew is not known to be whole any more; one that found as many numbers as it has is
+abbrev pub draws : Option ℕ → (found : ℕ) → View → View
+draws (Some n) found v = record v { drawn = Some n; whole = false }
+draws None found v = record v { whole = if v.whole then true else (length v.gathered + 1 == found) }
+
+abbrev pub caller_drawn : Option ℕ → Option Caller
+caller_drawn None = None
+caller_drawn (Some n) = Some (pass_of n)
+
+abbrev pub note_draw : (expected found : ℕ) → View → ℕ → List Find
+note_draw expected found v n = record {
+  step = Drawing expected;
+  found = found;
+  seen = n;
+  clear = is_clear v;
+  drew = caller_drawn (number_drawn v.shape expected found);
+} ∷ []
 
 -- ---- each step
 
@@ -105,6 +130,7 @@ part Unmarks v x = record v { inside = None; mark = None }
 part (Shuts a) v x = record v { closes = begun a (shut_found (alive_holds a x)) v.closes }
 part (Visits a k) v x = record v { closes = closes_after a (visit_found v.shape a k x) v.closes }
 part (Opens a) v x = record v { hand = but_first v.hand }
+part (Draws expected) v x = draws (number_drawn v.shape expected x) x v
 part Looks v x = v
 
 -- the entries that it makes
@@ -123,9 +149,11 @@ entries Unmarks v x = acted v.inside v.caller Leave Fine
 entries (Shuts a) v x = entry_of v.caller (Shut a) (shut_found (alive_holds a x)) ∷ []
 entries (Visits a k) v x = visit_entries a (visit_found v.shape a k x) v.caller
 entries (Opens a) v x = open_entries a v.caller
+entries (Draws expected) v x = []
 entries Looks v x = []
 
 -- what it adds to the finds, where so many entries were seen before
 unfoldable pub noted : Step → View → ℕ → ℕ → List Find
 noted (Visits a k) v x = note_of (Visiting a (pass_of k)) x v
+noted (Draws expected) v x = note_draw expected x v
 noted step v x = none_noted

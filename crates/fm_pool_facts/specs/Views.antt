@@ -1,15 +1,24 @@
 -- What contracts see of a pass.
-use Rattle.std.specs.Prelude.{◌≡◌, ◌⊎◌, ℕ, ◌*◌, ◌<◌, ◌≤◌, ◌^◌, Bool, true, List, [], ◌∷◌, Option, Some}
+use Rattle.std.specs.Prelude.{◌≡◌, ◌⊎◌, ℕ, ◌*◌, ◌<◌, ◌≤◌, ◌^◌, Bool, true, List, [], ◌∷◌, ◌++◌, length, Option, Some}
 use Rattle.fm_words.specs.declared.shape.Shape.{Shape}
 use Rattle.fm_words.specs.Shapes.{IsValid}
 use Rattle.fm_base.specs.declared.caller.Caller.{Caller}
 use Rattle.fm_base.specs.declared.arena_id.ArenaId.{ArenaId}
 use Rattle.fm_base.specs.Arenas.{State, IsUnderWay, has_arena, arena_of}
 use Rattle.fm_base.specs.Calls.{Entry}
-use Rattle.fm_base.specs.Histories.{IsLegal, state_after}
+use Rattle.fm_base.specs.Histories.{IsLegal, state_after, made_by}
 use Rattle.fm_pool_facts.specs.Loans.{IsRightlyLent}
 use Rattle.fm_base.specs.Finds.{Find, Gathered, Close}
 use Rattle.fm_pool_facts.specs.declared.slot.Slot.{Slot}
+
+-- what another had seen that a pass has met, and the callers that it brought
+pub record Met : Type 0 where
+  pub seen : List Entry
+  pub gathered : List Gathered
+
+abbrev pub brought : List Met → List Gathered
+brought [] = []
+brought (x ∷ xs) = x.gathered ++ brought xs
 
 pub record View : Type 0 where
   -- numbers that tell the pool
@@ -28,8 +37,8 @@ pub record View : Type 0 where
   pub hand : List Slot
   -- the number that it drew and hasn't split off
   pub drawn : Option ℕ
-  -- what those had seen that it has met since its last step
-  pub met : List (List Entry)
+  -- those that it has met since its last step
+  pub met : List Met
   pub finds : List Find
   pub gathered : List Gathered
   -- it is known that every drawn number but its own is gathered into it
@@ -37,6 +46,10 @@ pub record View : Type 0 where
   pub holds : List ArenaId
   pub handles : List ArenaId
   pub pages : List ℕ
+
+-- the callers that are gathered into it, those of its last meetings too
+abbrev pub all_gathered : View → List Gathered
+all_gathered v = v.gathered ++ brought v.met
 
 -- how many words an arena has
 abbrev pub span : Shape → ℕ
@@ -76,6 +89,26 @@ In x (y ∷ ys) = (x ≡ y) ⊎ In x ys
 abbrev pub HasSlot : ℕ → View → Type 0
 HasSlot s v = (g : ℕ) × In (record { slot = s; generation = g }) v.hand
 
+-- the caller of that number, in its first term
+abbrev pub pass_of : ℕ → Caller
+pass_of k = record { number = k; term = 0 }
+
+-- the number is the pass's own, or that of a caller that is gathered into it
+abbrev pub HasCaller : View → ℕ → Type 0
+HasCaller v n = (n ≡ v.caller.number) ⊎ ((g : Gathered) × In g v.gathered × (g.caller.number ≡ n))
+
+-- every entry that was seen is by a caller that the pass has
+abbrev pub KnowsCallers : View → Type 0
+KnowsCallers v = (e : Entry) → In e v.seen → HasCaller v e.caller.number
+
+-- no entry is by the number's caller, and the pass hasn't it yet
+pub record IsNew (v : View) (n : ℕ) : Type 0 where
+  pub later : 0 < n
+  pub number : n < v.shape.passes
+  pub other : ¬ (HasCaller v n)
+  pub silent : made_by (pass_of n) v.seen ≡ []
+  pub outside : (a : ArenaId) → ¬ (IsUnderWay (state_in v) (pass_of n) a)
+
 -- what holds of a pass at any time
 pub record IsSound (v : View) : Type 0 where
   pub valid : IsValid v.shape
@@ -89,3 +122,8 @@ pub record IsSound (v : View) : Type 0 where
   -- the first pass alone has slots in its hand: just those in which no arena was opened
   pub hand : (s : Slot) → In s v.hand → (v.caller.number ≡ 0) × (s.slot < v.shape.slots) × ¬ (IsSpent v s.slot)
   pub slots : v.caller.number ≡ 0 → (s : ℕ) → s < v.shape.slots → HasSlot s v ⊎ IsSpent v s
+  -- the number that it drew and hasn't split off
+  pub drawn : (n : ℕ) → v.drawn ≡ Some n → IsNew v n
+  pub few : length v.gathered < v.shape.passes
+  -- a pass that is known to be whole has the callers of the whole history
+  pub knows : v.whole ≡ true → KnowsCallers v

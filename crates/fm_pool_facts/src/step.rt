@@ -29,6 +29,8 @@ pub enum Step {
     Visits(ArenaId, u32),
     /// Opens an arena of this name.
     Opens(ArenaId),
+    /// Where so many numbers were drawn, draws the next one; sees how many were drawn.
+    Draws(u64),
     /// Sees what others did.
     Looks,
 }

@@ -118,6 +118,8 @@ first_knows z valid = record {
     only = λ s i. (refl, (in_slots 0 z.slots s i).2);
     slots = λ e s h. inl (0, each_slot 0 z.slots s (omega arith) (omega arith));
     gathered = λ g i. absurd i;
+    coming = λ x i. absurd i;
+    one_each = tt;
     drawn = λ d p. absurd (cc);
     whole = λ e n h ne. absurd (ne (omega arith));
     seen_all = λ e. refl;
@@ -168,4 +170,4 @@ first_rule z valid = record {
 -- the first pass is sound
 pub first_sound : (z : Shape) → IsValid z → IsSound (first_view z)
 unfolding first_rule
-first_sound z valid = sound_of z (words_of z) (first_view z ∷ []) (first_rule z valid) 0 (first_view z) refl refl refl
+first_sound z valid = sound_of z (words_of z) (first_view z ∷ []) (first_rule z valid) 0 (first_view z) refl refl refl refl

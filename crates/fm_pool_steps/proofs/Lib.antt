@@ -3,9 +3,13 @@ pub mod Plain
 pub mod Acting
 pub mod Reaching
 pub mod Holding
+pub mod Counting
+pub mod Drawing
 pub mod Closes
 pub mod Shutting
 pub mod Visiting
 pub mod Opening
 pub mod Splitting
+pub mod Halving
+pub mod Gathering
 pub mod First

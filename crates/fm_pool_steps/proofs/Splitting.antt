@@ -1,12 +1,12 @@
 -- The rule over the making of notes and their being met.
-use Rattle.std.proofs.Common.{◌≡◌, ◌≢◌, ◌⊎◌, ℕ, zero, suc, Bool, if◌then◌else◌, arith, ◌∙◌, List, [], ◌∷◌, ◌++◌, length, set, sym, refl, ap, subst, inl, inr, ⊎_elim}
+use Rattle.std.proofs.Common.{◌<◌, ◌≡◌, ◌≢◌, ◌⊎◌, ℕ, zero, suc, Bool, if◌then◌else◌, arith, ◌∙◌, List, [], ◌∷◌, ◌++◌, length, set, sym, refl, ap, subst, inl, inr, ⊎_elim}
 use mathlib.Core.Option.{some, some-injective, some-ne-none}
 use lib.ListN.{get_elem?}
 use Rattle.atomic_table.proofs.Lists.{at_set, at_longer}
 use Rattle.fm_words.specs.declared.shape.Shape.{Shape}
 use Rattle.fm_base.specs.declared.arena_id.ArenaId.{ArenaId}
-use Rattle.fm_base.specs.Calls.{Entry}
-use Rattle.fm_pool_facts.specs.Views.{View, In}
+use Rattle.fm_depicts.specs.Functions.{Closes}
+use Rattle.fm_pool_facts.specs.Views.{Met, View, In, all_gathered, brought}
 use Rattle.fm_pool_facts.specs.Splits.{note, met, nothing_seen, IsBare}
 use Rattle.fm_pool_facts.specs.Facts.{HasNumber, HasDraw, HasClose, Somewhere, Begins, Knows, Rule}
 use Rattle.fm_pool_facts.specs.Holds.{holds_of, how_many, total}
@@ -20,7 +20,7 @@ at_end (x ∷ xs) a b zero e = inl e
 at_end (x ∷ xs) a b (suc j) e = ⊎_elim inl (λ (t : (j ≡ length xs) × (a ≡ b)). inr (ap suc t.0, t.1)) (at_end xs a b j e)
 
 -- what holds of each view after one was changed
-views_set : (vs : List View) (i : ℕ) (w : View) (P : ℕ → View → Type 0) → P i w → ((j : ℕ) (u : View) → j ≢ i → get_elem? vs j ≡ some u → P j u)
+pub views_set : (vs : List View) (i : ℕ) (w : View) (P : ℕ → View → Type 0) → P i w → ((j : ℕ) (u : View) → j ≢ i → get_elem? vs j ≡ some u → P j u)
     → (j : ℕ) (u : View) → get_elem? (set vs i w) j ≡ some u → P j u
 views_set vs i w P here others j u e = ⊎_elim
     (λ (s : (j ≡ i) × (w ≡ u)). subst (λ (x : ℕ × View). P x.0 x.1) (λ k. (sym s.0 k, s.1 k)) here)
@@ -28,14 +28,14 @@ views_set vs i w P here others j u e = ⊎_elim
     (at_set vs i j w u e)
 
 -- and after one was added
-views_on : (vs : List View) (w : View) (P : ℕ → View → Type 0) → P (length vs) w → ((j : ℕ) (u : View) → get_elem? vs j ≡ some u → P j u) → (j : ℕ) (u : View)
-    → get_elem? (vs ++ w ∷ []) j ≡ some u → P j u
+pub views_on : (vs : List View) (w : View) (P : ℕ → View → Type 0) → P (length vs) w → ((j : ℕ) (u : View) → get_elem? vs j ≡ some u → P j u)
+    → (j : ℕ) (u : View) → get_elem? (vs ++ w ∷ []) j ≡ some u → P j u
 views_on vs w P here others j u e = ⊎_elim
     (others j u)
     (λ (s : (j ≡ length vs) × (w ≡ u)). subst (λ (x : ℕ × View). P x.0 x.1) (λ k. (sym s.0 k, s.1 k)) here)
     (at_end vs w u j e)
 
-on_longer : (vs : List View) (w : View) (i : ℕ) (P : View → Type 0) → Somewhere vs i P → Somewhere (vs ++ w ∷ []) i P
+pub on_longer : (vs : List View) (w : View) (i : ℕ) (P : View → Type 0) → Somewhere vs i P → Somewhere (vs ++ w ∷ []) i P
 on_longer vs w i P s = record { view = s.view; there = at_longer vs (w ∷ []) i s.view s.there; holds = s.holds }
 
 -- what the rule says somewhere of
@@ -44,15 +44,18 @@ pub data Said : (View → Type 0) → Type 1 where
   draw : (d n : ℕ) → Said (HasDraw d n)
   close : (a : ArenaId) → Said (HasClose a)
 
--- the rule with other views, which say all that the views before said
-with_views : (z : Shape) (ws : List ℕ) (vs us : List View) (r : Rule z ws vs) → ((i : ℕ) (P : View → Type 0) → Said P → Somewhere vs i P → Somewhere us i P)
-    → ((j : ℕ) (u : View) → get_elem? us j ≡ some u → Knows z r.history r.memory r.machine r.owners j u)
+-- the rule with other views, and other seats for the numbers
+pub with_owners : (z : Shape) (ws : List ℕ) (vs us : List View) (r : Rule z ws vs) (f : ℕ → ℕ)
+    → ((n : ℕ) → n < r.memory.draw → Somewhere us (f n) (HasNumber n))
+    → ((n : ℕ) → 0 < n → n < r.memory.draw → (d : ℕ) × (d < n) × Somewhere us (f d) (HasDraw d n))
+    → ((a : ArenaId) → r.machine.life a ≡ Closes → Somewhere us (r.owners.closer a) (HasClose a))
+    → ((j : ℕ) (u : View) → get_elem? us j ≡ some u → Knows z r.history r.memory r.machine (record r.owners { number = f }) j u)
     → ((a : ArenaId) → total (holds_of a) us ≡ total (holds_of a) vs) → Rule z ws us
-with_views z ws vs us r on each same = record {
+with_owners z ws vs us r f numbers drawers closed each same = record {
   history = r.history;
   memory = r.memory;
   machine = r.machine;
-  owners = r.owners;
+  owners = record r.owners { number = f };
   valid = r.valid;
   legal = r.legal;
   rightly = r.rightly;
@@ -62,12 +65,23 @@ with_views z ws vs us r on each same = record {
   world = r.world;
   few = r.few;
   later = r.later;
-  numbers = λ n h. on (r.owners.number n) (HasNumber n) (number n) (r.numbers n h);
-  drawers = λ n i h. let y = r.drawers n i h in (y.0, y.1, on (r.owners.number y.0) (HasDraw y.0 n) (draw y.0 n) y.2);
-  closed = λ a h. on (r.owners.closer a) (HasClose a) (close a) (r.closed a h);
+  numbers = numbers;
+  drawers = drawers;
+  closed = closed;
   held = λ a n. same a ∙ r.held a n;
   each = each;
 }
+
+-- the rule with other views, which say all that the views before said
+with_views : (z : Shape) (ws : List ℕ) (vs us : List View) (r : Rule z ws vs) → ((i : ℕ) (P : View → Type 0) → Said P → Somewhere vs i P → Somewhere us i P)
+    → ((j : ℕ) (u : View) → get_elem? us j ≡ some u → Knows z r.history r.memory r.machine r.owners j u)
+    → ((a : ArenaId) → total (holds_of a) us ≡ total (holds_of a) vs) → Rule z ws us
+with_views z ws vs us r on each same =
+    with_owners z ws vs us r r.owners.number
+    (λ n h. on (r.owners.number n) (HasNumber n) (number n) (r.numbers n h))
+    (λ n i h. let y = r.drawers n i h in (y.0, y.1, on (r.owners.number y.0) (HasDraw y.0 n) (draw y.0 n) y.2))
+    (λ a h. on (r.owners.closer a) (HasClose a) (close a) (r.closed a h))
+    each same
 
 -- a note of a view is made
 pub note_splits : (z : Shape) (ws : List ℕ) (vs : List View) (r : Rule z ws vs) (id : ℕ) (v : View) → get_elem? vs id ≡ some v
@@ -86,17 +100,20 @@ note_splits z ws vs r id v at =
     let none : holds_of a (note v) ≡ 0 = refl in
     omega arith)
 
-there_before : (vs : List View) (id other : ℕ) (b w : View) → ¬ (other ≡ id) → get_elem? (set vs id b) other ≡ some w → get_elem? vs other ≡ some w
+pub there_before : (vs : List View) (id other : ℕ) (b w : View) → ¬ (other ≡ id) → get_elem? (set vs id b) other ≡ some w → get_elem? vs other ≡ some w
 there_before vs id other b w n e =
     ⊎_elim (λ (s : (other ≡ id) × (b ≡ w)). absurd (n s.0)) (λ (s : (other ≢ id) × (get_elem? vs other ≡ some w)). s.1) (at_set vs id other b w e)
+
+bare_none : (w : View) → IsBare w → all_gathered w ≡ []
+bare_none w b = λ j. b.gathered j ++ brought (b.met j)
 
 -- a bare view says nothing
 bare_says : (w u : View) → IsBare w → (P : View → Type 0) → Said P → P w → P u
 bare_says w u b _ (number n) (inl h) = let l = b.live in let q = h.0 in absurd (cc)
 bare_says w u b _ (number n) (inr (inl h)) = let l = b.drawn in absurd (cc)
-bare_says w u b _ (number n) (inr (inr h)) = absurd (subst (In h.0) b.gathered h.1)
+bare_says w u b _ (number n) (inr (inr h)) = absurd (subst (In h.0) (bare_none w b) h.1)
 bare_says w u b _ (draw d n) (inl h) = let l = b.live in let q = h.0 in absurd (cc)
-bare_says w u b _ (draw d n) (inr h) = absurd (subst (In h.0) b.gathered h.1)
+bare_says w u b _ (draw d n) (inr h) = absurd (subst (In h.0) (bare_none w b) h.1)
 bare_says w u b _ (close a) h = let l = b.live in let q = h.0 in absurd (cc)
 
 -- having met another changes nothing that is said
@@ -123,7 +140,9 @@ meet_joins z ws vs r id v other w at n at' bare =
     (record {
       shape = k.shape;
       begins = k.begins;
-      met = λ xs. ⊎_elim (λ (p : xs ≡ w.seen). subst (λ (q : List Entry). Begins q r.history) (sym p) kw.begins) (λ (p : In xs v.met). k.met xs p);
+      met = λ x. ⊎_elim
+          (λ (p : x ≡ record { seen = w.seen; gathered = [] }). subst (λ (q : Met). Begins q.seen r.history) (sym p) kw.begins)
+          (λ (p : In x v.met). k.met x p);
       owns = λ q. let x = k.owns q in record {
         number = x.number;
         term = x.term;
@@ -140,7 +159,20 @@ meet_joins z ws vs r id v other w at n at' bare =
         gathered =
             λ g i. let y =
             x.gathered g i in record { number = y.number; seated = y.seated; apart = y.apart; outside = y.outside; mark = y.mark; quiet = y.quiet };
-        drawn = λ d e. let y = x.drawn d e in record { number = y.number; seated = y.seated; apart = y.apart; ungathered = y.ungathered; silent = y.silent };
+        coming = λ c. ⊎_elim
+            (λ (p : c ≡ record { seen = w.seen; gathered = [] }) g i. absurd (subst (λ (q : Met). In g q.gathered) p i))
+            (λ (p : In c v.met) g i.
+            let y = x.coming c p g i in
+            record { number = y.number; seated = y.seated; apart = y.apart; outside = y.outside; mark = y.mark; quiet = y.quiet });
+        one_each = x.one_each;
+        drawn = λ d e. let y = x.drawn d e in record {
+          number = y.number;
+          later = y.later;
+          seated = y.seated;
+          apart = y.apart;
+          ungathered = y.ungathered;
+          silent = y.silent;
+        };
         whole = x.whole;
         seen_all = x.seen_all;
       };

@@ -13,10 +13,10 @@ use Rattle.fm_base.specs.Finds.{Find, Close, Visits as Visiting}
 use Rattle.fm_depicts.specs.Functions.{Fresh, Closes, Over, put_at}
 use Rattle.fm_depicts.proofs.Putting.{at_other, at_cases}
 use Rattle.fm_pool_facts.specs.declared.step.Step.TheVariants.{Visits}
-use Rattle.fm_pool_facts.specs.Views.{View, In, HasSlot, limit_of}
+use Rattle.fm_pool_facts.specs.Views.{View, In, HasSlot, limit_of, pass_of}
 use Rattle.fm_pool_facts.specs.Words.{mark_of, own_word}
 use Rattle.fm_pool_facts.specs.Closes.{visited_of, visited, dropped, one_more, visit_by, closes_after, visit_entries}
-use Rattle.fm_pool_facts.specs.Steps.{part, entries, noted, note_of, pass_of}
+use Rattle.fm_pool_facts.specs.Steps.{part, entries, noted, note_of}
 use Rattle.fm_pool_facts.specs.Facts.{IsClosing, HasClose, WasOpened, Owns, Rule}
 use Rattle.fm_pool_facts.specs.Moves.{MayMake, Moved, Same, MayStep}
 use Rattle.fm_pool_facts.proofs.Keeping.{closing_on, opened_on}

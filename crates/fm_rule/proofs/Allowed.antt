@@ -1,5 +1,6 @@
 -- What a step needs is what the table asks, and what a step tells is that it stepped.
-use Rattle.std.proofs.Common.{◌≡◌, ℕ, List, [], ◌∷◌, ◌++◌, length, set, slice_index, All, Option, inl, inr, ⊎_elim, sym, refl, ap, ◌∙◌, subst}
+use Rattle.std.proofs.Common.{◌≡◌, ℕ, List, [], ◌∷◌, ◌++◌, length, set, slice_index, All, Option, Some, None, inl, inr, ⊎_elim, sym, refl, ap, ◌∙◌, subst}
+use Rattle.std.proofs.lemmas.List.{append-nil}
 use Rattle.std.proofs.lemmas.List.Elements.{All-nil, All-cons}
 use Rattle.atomic_table.specs.Table.{State, Me, keeps, Allows}
 use Rattle.fm_words.specs.declared.shape.Shape.{Shape}
@@ -9,11 +10,11 @@ use Rattle.fm_base.specs.Calls.{Entry}
 use Rattle.fm_base.specs.Histories.{made_by}
 use Rattle.fm_base.specs.Finds.{Find, Gathered}
 use Rattle.fm_pool_facts.specs.declared.step.Step.{Step}
-use Rattle.fm_pool_facts.specs.declared.step.Step.TheVariants.{Marks, Checks, Loads, Stores, SwapsIf, Adds, Allocates, Holds, Unholds, Unmarks, Shuts, Visits, Opens, Looks}
-use Rattle.fm_pool_facts.specs.Views.{View, In, IsSound}
-use Rattle.fm_pool_facts.specs.Steps.{Stepped, part}
+use Rattle.fm_pool_facts.specs.declared.step.Step.TheVariants.{Draws, Marks, Checks, Loads, Stores, SwapsIf, Adds, Allocates, Holds, Unholds, Unmarks, Shuts, Visits, Opens, Looks}
+use Rattle.fm_pool_facts.specs.Views.{Met, View, In, IsSound, all_gathered, brought}
+use Rattle.fm_pool_facts.specs.Steps.{Stepped, part, number_drawn, draws}
 use Rattle.fm_pool_facts.specs.Facts.{Rule, cell_at}
-use Rattle.fm_pool_facts.specs.Moves.{Same, Gives, Tells, MayStep, MayStore}
+use Rattle.fm_pool_facts.specs.Moves.{Gives, Tells, MayStep, MayStore}
 use Rattle.fm_rule.specs.Views.{homed, Keeps}
 
 abbrev Keeping : Shape → State (Unit {0}) View → Type 0
@@ -43,8 +44,25 @@ told_as j k v w x e t = subst (λ (q : Step). Tells q v x w) e t
 
 -- ---- a step was made
 
--- no step changes these by itself
-pub same_part : (s : Step) (v : View) (x : ℕ) → Same v (part s v x)
+-- what no step changes by itself
+pub record Alike (v p : View) : Type 0 where
+  pub home : p.home ≡ v.home
+  pub shape : p.shape ≡ v.shape
+  pub live : p.live ≡ v.live
+  pub caller : p.caller ≡ v.caller
+  pub seen : p.seen ≡ v.seen
+  pub met : p.met ≡ v.met
+  pub finds : p.finds ≡ v.finds
+  pub gathered : p.gathered ≡ v.gathered
+
+pub alike_none : (v : View) → Alike v v
+alike_none v = record { home = refl; shape = refl; live = refl; caller = refl; seen = refl; met = refl; finds = refl; gathered = refl }
+
+alike_draws : (o : Option ℕ) (x : ℕ) (v : View) → Alike v (draws o x v)
+alike_draws None x v = record { home = refl; shape = refl; live = refl; caller = refl; seen = refl; met = refl; finds = refl; gathered = refl }
+alike_draws (Some n) x v = record { home = refl; shape = refl; live = refl; caller = refl; seen = refl; met = refl; finds = refl; gathered = refl }
+
+pub same_part : (s : Step) (v : View) (x : ℕ) → Alike v (part s v x)
 unfolding part
 same_part (Marks a) v x = record {
   home = refl;
@@ -52,11 +70,9 @@ same_part (Marks a) v x = record {
   live = refl;
   caller = refl;
   seen = refl;
-  drawn = refl;
   met = refl;
   finds = refl;
   gathered = refl;
-  whole = refl;
 }
 same_part (Checks a) v x = record {
   home = refl;
@@ -64,11 +80,9 @@ same_part (Checks a) v x = record {
   live = refl;
   caller = refl;
   seen = refl;
-  drawn = refl;
   met = refl;
   finds = refl;
   gathered = refl;
-  whole = refl;
 }
 same_part (Loads w) v x = record {
   home = refl;
@@ -76,11 +90,9 @@ same_part (Loads w) v x = record {
   live = refl;
   caller = refl;
   seen = refl;
-  drawn = refl;
   met = refl;
   finds = refl;
   gathered = refl;
-  whole = refl;
 }
 same_part (Stores w y) v x = record {
   home = refl;
@@ -88,11 +100,9 @@ same_part (Stores w y) v x = record {
   live = refl;
   caller = refl;
   seen = refl;
-  drawn = refl;
   met = refl;
   finds = refl;
   gathered = refl;
-  whole = refl;
 }
 same_part (SwapsIf w o y) v x = record {
   home = refl;
@@ -100,11 +110,9 @@ same_part (SwapsIf w o y) v x = record {
   live = refl;
   caller = refl;
   seen = refl;
-  drawn = refl;
   met = refl;
   finds = refl;
   gathered = refl;
-  whole = refl;
 }
 same_part (Adds w n) v x = record {
   home = refl;
@@ -112,11 +120,9 @@ same_part (Adds w n) v x = record {
   live = refl;
   caller = refl;
   seen = refl;
-  drawn = refl;
   met = refl;
   finds = refl;
   gathered = refl;
-  whole = refl;
 }
 same_part (Allocates g n a) v x = record {
   home = refl;
@@ -124,11 +130,9 @@ same_part (Allocates g n a) v x = record {
   live = refl;
   caller = refl;
   seen = refl;
-  drawn = refl;
   met = refl;
   finds = refl;
   gathered = refl;
-  whole = refl;
 }
 same_part (Holds a w) v x = record {
   home = refl;
@@ -136,11 +140,9 @@ same_part (Holds a w) v x = record {
   live = refl;
   caller = refl;
   seen = refl;
-  drawn = refl;
   met = refl;
   finds = refl;
   gathered = refl;
-  whole = refl;
 }
 same_part (Unholds a) v x = record {
   home = refl;
@@ -148,11 +150,9 @@ same_part (Unholds a) v x = record {
   live = refl;
   caller = refl;
   seen = refl;
-  drawn = refl;
   met = refl;
   finds = refl;
   gathered = refl;
-  whole = refl;
 }
 same_part Unmarks v x = record {
   home = refl;
@@ -160,11 +160,9 @@ same_part Unmarks v x = record {
   live = refl;
   caller = refl;
   seen = refl;
-  drawn = refl;
   met = refl;
   finds = refl;
   gathered = refl;
-  whole = refl;
 }
 same_part (Shuts a) v x = record {
   home = refl;
@@ -172,11 +170,9 @@ same_part (Shuts a) v x = record {
   live = refl;
   caller = refl;
   seen = refl;
-  drawn = refl;
   met = refl;
   finds = refl;
   gathered = refl;
-  whole = refl;
 }
 same_part (Visits a k) v x = record {
   home = refl;
@@ -184,11 +180,9 @@ same_part (Visits a k) v x = record {
   live = refl;
   caller = refl;
   seen = refl;
-  drawn = refl;
   met = refl;
   finds = refl;
   gathered = refl;
-  whole = refl;
 }
 same_part (Opens a) v x = record {
   home = refl;
@@ -196,11 +190,9 @@ same_part (Opens a) v x = record {
   live = refl;
   caller = refl;
   seen = refl;
-  drawn = refl;
   met = refl;
   finds = refl;
   gathered = refl;
-  whole = refl;
 }
 same_part Looks v x = record {
   home = refl;
@@ -208,14 +200,13 @@ same_part Looks v x = record {
   live = refl;
   caller = refl;
   seen = refl;
-  drawn = refl;
   met = refl;
   finds = refl;
   gathered = refl;
-  whole = refl;
 }
+same_part (Draws e) v x = alike_draws (number_drawn v.shape e x) x v
 
-all_of_in : {A : Type 0} (P : A → Type 0) (xs : List A) → ((x : A) → In x xs → P x) → All P xs
+pub all_of_in : {A : Type 0} (P : A → Type 0) (xs : List A) → ((x : A) → In x xs → P x) → All P xs
 all_of_in P [] f = All-nil P
 all_of_in P (x ∷ xs) f = All-cons P x xs (f x (inl refl)) (all_of_in P xs (λ y i. f y (inr i)))
 
@@ -232,18 +223,23 @@ sound_homed home v s = record {
   fits = s.fits;
   hand = λ x i. let y = s.hand x i in (y.0, y.1, (λ w. y.2 (record { arena = w.arena; in_slot = w.in_slot; known = w.known })));
   slots = λ e x h. ⊎_elim inl (λ w. inr (record { arena = w.arena; in_slot = w.in_slot; known = w.known })) (s.slots e x h);
+  drawn = λ n e.
+      let y = s.drawn n e in record { later = y.later; number = y.number; other = y.other; silent = y.silent; outside = y.outside };
+  few = s.few;
+  knows = s.knows;
 }
 
 pub sound_now : (now v : View) (home : List ℕ) → homed home v ≡ now → IsSound v → IsSound now
 sound_now now v home is s = subst IsSound is (sound_homed home v s)
 
 -- what a step gives is that it stepped
-pub stepped : (home : List ℕ) (v p w : View) (es : List Entry) (fs : ℕ → List Find) → Same v p → v.met ≡ [] → Gives v p es fs w
+pub stepped : (home : List ℕ) (v p w : View) (es : List Entry) (fs : ℕ → List Find) → Alike v p → v.met ≡ [] → Gives v p es fs w
     → Stepped (homed home v) (homed home w) (homed home p) es fs
 stepped home v p w es fs s m g =
     let seen : w.seen ≡ (v.seen ++ g.others) ++ es = ap (λ (x : View). x.seen) g.is ∙ ap (λ (xs : List Entry). (xs ++ g.others) ++ es) s.seen in
     let seen' : w.seen ≡ (p.seen ++ g.others) ++ es = ap (λ (x : View). x.seen) g.is in
     let met : p.met ≡ [] = s.met ∙ m in
+    let all : all_gathered p ≡ p.gathered = ap (λ (xs : List Met). p.gathered ++ brought xs) met ∙ append-nil p.gathered in
     record {
       others = g.others;
       quiet = g.quiet;
@@ -251,17 +247,27 @@ stepped home v p w es fs s m g =
       alone = g.alone;
       seen = seen;
       is_part =
-          ap (homed home) g.is ∙ (λ j. record (homed home p) { seen = sym seen' j; finds = s.finds j ++ fs (length (s.seen j ++ g.others)); met = sym met j });
+          ap (homed home) g.is ∙ (λ j. record (homed home p) {
+            seen = sym seen' j;
+            finds = s.finds j ++ fs (length (s.seen j ++ g.others));
+            gathered = all j;
+            met = sym met j;
+          });
       sound = sound_homed home w g.sound;
     }
 
 -- ---- what a pass keeps
 
+-- as many are gathered after a step of a pass that has met nobody
+pub still_counted : (count : ℕ) (v w : View) → count ≡ length v.gathered → v.met ≡ [] → w.gathered ≡ all_gathered v → count ≡ length w.gathered
+still_counted count v w e m g =
+    e ∙ ap (λ (gs : List Gathered). length gs) (sym (g ∙ (ap (λ (xs : List Met). v.gathered ++ brought xs) m ∙ append-nil v.gathered)))
+
 -- after a step that leaves the arena that it is inside, and its hand
-pub keeps_on : (c : Caller) (i : Option ArenaId) (from next : ℕ) (v p w : View) (es : List Entry) (fs : ℕ → List Find) (held held' : List (ℕ × Unit {0}))
-    → Keeps c i from next (v, held) → Same v p → p.inside ≡ v.inside → p.hand ≡ v.hand
-    → Gives v p es fs w → held' ≡ held → Keeps c i from next (w, held')
-keeps_on c i from next v p w es fs held held' k s ins hd g e =
+pub keeps_on : (c : Caller) (i : Option ArenaId) (from next count : ℕ) (v p w : View) (es : List Entry) (fs : ℕ → List Find) (held held' : List (ℕ × Unit {0}))
+    → Keeps c i from next count (v, held) → Alike v p → p.inside ≡ v.inside → p.hand ≡ v.hand
+    → Gives v p es fs w → held' ≡ held → Keeps c i from next count (w, held')
+keeps_on c i from next count v p w es fs held held' k s ins hd g e =
     let inside : w.inside ≡ v.inside = ap (λ (x : View). x.inside) g.is ∙ ins in
     let shape : w.shape ≡ v.shape = ap (λ (x : View). x.shape) g.is ∙ s.shape in
     let hand : w.hand ≡ v.hand = ap (λ (x : View). x.hand) g.is ∙ hd in
@@ -272,6 +278,7 @@ keeps_on c i from next v p w es fs held held' k s ins hd g e =
       cells = λ a q. k.cells a (sym inside ∙ q) ∙ ap (λ (z : Shape). cell_at z a.slot 0) (sym shape);
       hand = record { left = k.hand.left; is = hand ∙ k.hand.is; all = k.hand.all ∙ ap (λ (z : Shape). z.slots) (sym shape) };
       met = ap (λ (x : View). x.met) g.is;
+      counted = still_counted count v w k.counted k.met (ap (λ (x : View). x.gathered) g.is ∙ (λ j. s.gathered j ++ brought (s.met j)));
       sound = g.sound;
       empty = e ∙ k.empty;
     }

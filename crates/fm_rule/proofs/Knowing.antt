@@ -1,9 +1,9 @@
 -- What a pass of a pool knows at the call of a step, and which steps it may make.
-use Rattle.std.proofs.Common.{◌≡◌, ◌≢◌, ℕ, ◌+◌, ◌-◌, ◌*◌, ◌%◌, ◌^◌, ◌<◌, ◌≤◌, ◌==◌, true, List, Some, None, sym, ap, ◌∙◌, subst, arith}
+use Rattle.std.proofs.Common.{◌≡◌, ◌≢◌, ℕ, ◌+◌, ◌-◌, ◌*◌, ◌%◌, ◌^◌, ◌<◌, ◌≤◌, ◌==◌, true, List, [], Some, None, sym, ap, ◌∙◌, subst, arith}
 use prog.Atomic.{either}
 use Rattle.fm_words.specs.declared.shape.Shape.{Shape}
 use Rattle.fm_words.specs.Shapes.{IsValid}
-use Rattle.fm_words.specs.Places.{at, mark, session, given, words, front}
+use Rattle.fm_words.specs.Places.{at, draw, mark, session, given, words, front}
 use Rattle.fm_words.proofs.Tables.{at-within}
 use Rattle.fm_base.specs.declared.caller.Caller.{Caller}
 use Rattle.fm_base.specs.declared.arena_id.ArenaId.{ArenaId}
@@ -12,17 +12,18 @@ use Rattle.fm_base.specs.Machine.{IsPower}
 use Rattle.fm_base.specs.Arenas.{MayUse, owner_of}
 use Rattle.fm_base.proofs.Wholeness.{given_within}
 use Rattle.fm_pool_facts.specs.declared.slot.Slot.{Slot}
-use Rattle.fm_pool_facts.specs.declared.step.Step.TheVariants.{Marks, Checks, Loads, Stores, SwapsIf, Adds, Allocates, Holds, Unholds, Unmarks, Shuts, Visits, Opens, Looks}
+use Rattle.fm_pool_facts.specs.declared.step.Step.TheVariants.{Draws, Marks, Checks, Loads, Stores, SwapsIf, Adds, Allocates, Holds, Unholds, Unmarks, Shuts, Visits, Opens, Looks}
 use Rattle.fm_pool_facts.specs.Views.{View, Fits, In, IsKnown, IsSound, span, given_of, limit_of}
 use Rattle.fm_pool_facts.specs.Words.{alive_word, closing_word, held_word, mark_of}
 use Rattle.fm_pool_facts.specs.Closes.{visited_of}
-use Rattle.fm_pool_facts.specs.Steps.{CanReach, first_slot, given_next}
+use Rattle.fm_pool_facts.specs.Steps.{draw_next, CanReach, first_slot, given_next}
 use Rattle.fm_pool_facts.specs.Facts.{cell_at}
 use Rattle.fm_pool_facts.specs.Moves.{MayStep, MayStore}
 use Rattle.fm_pool_facts.proofs.Shown.{cell_below}
 use Rattle.fm_pool_steps.proofs.Acting.{mark_steps, check_steps, unmark_steps, look_steps}
 use Rattle.fm_pool_steps.proofs.Reaching.{load_steps, store_steps, swap_steps, add_steps, allocate_steps}
 use Rattle.fm_pool_steps.proofs.Holding.{hold_steps, unhold_steps}
+use Rattle.fm_pool_steps.proofs.Drawing.{draw_steps}
 use Rattle.fm_pool_steps.proofs.Shutting.{shut_steps}
 use Rattle.fm_pool_steps.proofs.Visiting.{visit_steps}
 use Rattle.fm_pool_steps.proofs.Opening.{open_steps}
@@ -38,6 +39,9 @@ session_below z s i h e = subst (λ (n : ℕ). n < words z) (sym e) (at-within z
 
 pub given_below : (z : Shape) (s i : ℕ) → s < z.slots → i ≡ at z (given s) → i < words z
 given_below z s i h e = subst (λ (n : ℕ). n < words z) (sym e) (at-within z (given s) h)
+
+pub draw_below : (z : Shape) (i : ℕ) → i ≡ at z draw → i < words z
+draw_below z i e = subst (λ (n : ℕ). n < words z) (sym e) (at-within z draw tt)
 
 pub front_below : (z : Shape) (i : ℕ) → i ≡ at z front → i < words z
 front_below z i e = subst (λ (n : ℕ). n < words z) (sym e) (at-within z front tt)
@@ -155,6 +159,12 @@ module _ (z : Shape) (id : ℕ) (v : View) (l : v.live ≡ true) (i : ℕ) where
       subst (λ (x : ℕ × ℕ). MayStep z (Allocates count size align) id v x.0 (λ n. either (n == count) x.1 n))
       (λ j. (sym p j, sym (is ∙ ap (λ (k : ℕ). given_next k count size align) lim) j))
       (allocate_steps z id v l a e count size align q s)
+
+  pub may_draw : (e next : ℕ) → v.met ≡ [] → v.drawn ≡ None → v.shape ≡ z → i ≡ at z draw → next ≡ draw_next e z.passes
+      → MayStep z (Draws e) id v i (λ n. either (n == e) next n)
+  may_draw e next m d s p is =
+      subst (λ (x : ℕ × ℕ). MayStep z (Draws e) id v x.0 (λ n. either (n == e) x.1 n))
+      (λ j. (sym p j, (ap (λ (y : Shape). draw_next e y.passes) s ∙ sym is) j)) (draw_steps z id v e l m d s)
 
   pub may_hold : (a : ArenaId) (word next : ℕ) → IsKnown v a → MayUse a v.caller → i ≡ at z (session a.slot) → next ≡ held_word a word
       → MayStep z (Holds a word) id v i (λ n. either (n == word) next n)

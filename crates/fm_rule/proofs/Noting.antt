@@ -1,12 +1,12 @@
 -- Notes are made and met.
-use Rattle.std.proofs.Common.{◌≡◌, ◌≢◌, ℕ, ◌+◌, ◌%◌, ◌^◌, ◌<◌, ◌≤◌, ◌==◌, Bool, true, false, if◌then◌else◌, bit_and, List, [], Option, Some, None, inr, sym, ap, ◌∙◌, subst, arith, eq-eqb, ne_eqb}
+use Rattle.std.proofs.Common.{◌≡◌, ◌≢◌, ℕ, ◌+◌, ◌%◌, ◌^◌, ◌<◌, ◌≤◌, ◌==◌, Bool, true, false, if◌then◌else◌, bit_and, List, [], Option, Some, None, inl, inr, refl, ◌++◌, sym, ap, ◌∙◌, subst, arith, eq-eqb, ne_eqb}
 use Rattle.std.proofs.lemmas.Nat.{and_mask}
 use Rattle.atomic_table.specs.Seated.{TableId}
 use Rattle.fm_words.specs.declared.shape.Shape.{Shape}
 use Rattle.fm_words.specs.Places.{words}
 use Rattle.fm_base.specs.declared.caller.Caller.{Caller}
 use Rattle.fm_base.specs.declared.arena_id.ArenaId.{ArenaId}
-use Rattle.fm_base.specs.Calls.{Fine, TooManyHolds}
+use Rattle.fm_base.specs.Calls.{Entry, Fine, TooManyHolds}
 use Rattle.fm_pool_facts.specs.declared.step.Step.TheVariants.{Looks}
 use Rattle.fm_pool_facts.specs.Views.{View}
 use Rattle.fm_pool_facts.specs.Words.{held_by, held_word, hold_found, alive_word, alive_holds}
@@ -15,9 +15,8 @@ use Rattle.fm_pool_facts.specs.Steps.{Stepped, part, entries, noted, none_noted}
 use Rattle.fm_pool_facts.specs.Facts.{cell_at}
 use Rattle.fm_pool_facts.specs.Moves.{Gives, Tells}
 use Rattle.fm_pool_steps.proofs.First.{two_words}
-use Rattle.fm_pool_steps.proofs.Plain.{same_none}
 use Rattle.fm_rule.specs.Views.{numbers_of, homed, Keeps}
-use Rattle.fm_rule.proofs.Allowed.{stepped}
+use Rattle.fm_rule.proofs.Allowed.{stepped, still_counted, alike_none}
 
 -- numbers tell one table
 pub one_table : (s t : TableId) → numbers_of s ≡ numbers_of t → s ≡ t
@@ -42,17 +41,33 @@ met_gives : (v n w : View) (x : ℕ) → Tells Looks (met v n) x w → Gives v v
 unfolding part entries noted
 met_gives v n w x t =
     let g = t.gives in
-    record { others = g.others; is = g.is; quiet = g.quiet; apart = g.apart; alone = g.alone; met = λ xs i. g.met xs (inr i); sound = g.sound }
+    record {
+      others = g.others;
+      is = g.is;
+      quiet = g.quiet;
+      apart = g.apart;
+      alone = g.alone;
+      met = λ x i. g.met x (inr i);
+      came = λ x i. g.came x (inr i);
+      sound = g.sound;
+    }
+
+-- and it has seen what the note has
+pub meet_met : (v n u w : View) (x : ℕ) → u ≡ met v n → Tells Looks u x w → (more : List Entry) × (w.seen ≡ n.seen ++ more)
+unfolding part entries noted
+meet_met v n u w x e t =
+    let s = subst (λ (y : View). Tells Looks y x w) e t in s.gives.met (record { seen = n.seen; gathered = [] }) (inl refl)
 
 pub meet_stepped : (now v n u w : View) (home home' : List ℕ) (x : ℕ) → homed home v ≡ now → home' ≡ home → v.met ≡ [] → u ≡ met v n → Tells Looks u x w
     → Stepped now (homed home' w) now [] none_noted
 meet_stepped now v n u w home home' x is stays m e t =
     subst (λ (y : View × List ℕ). Stepped y.0 (homed y.1 w) y.0 [] none_noted) (λ j. (is j, sym stays j))
-    (stepped home v v w [] none_noted (same_none v) m (met_gives v n w x (subst (λ (y : View). Tells Looks y x w) e t)))
+    (stepped home v v w [] none_noted (alike_none v) m (met_gives v n w x (subst (λ (y : View). Tells Looks y x w) e t)))
 
-pub meet_keeps : (c : Caller) (i : Option ArenaId) (from next : ℕ) (v n u w : View) (held held' : List (ℕ × Unit {0})) (x : ℕ) → Keeps c i from next (v, held)
-    → u ≡ met v n → Tells Looks u x w → held' ≡ held → Keeps c i from next (w, held')
-meet_keeps c i from next v n u w held held' x k e t h =
+pub meet_keeps : (c : Caller) (i : Option ArenaId) (from next count : ℕ) (v n u w : View) (held held' : List (ℕ × Unit {0})) (x : ℕ)
+    → Keeps c i from next count (v, held)
+    → u ≡ met v n → Tells Looks u x w → held' ≡ held → Keeps c i from next count (w, held')
+meet_keeps c i from next count v n u w held held' x k e t h =
     let g = met_gives v n w x (subst (λ (y : View). Tells Looks y x w) e t) in
     let inside : w.inside ≡ v.inside = ap (λ (y : View). y.inside) g.is in
     let shape : w.shape ≡ v.shape = ap (λ (y : View). y.shape) g.is in
@@ -63,6 +78,7 @@ meet_keeps c i from next v n u w held held' x k e t h =
       cells = λ a q. k.cells a (sym inside ∙ q) ∙ ap (λ (z : Shape). cell_at z a.slot 0) (sym shape);
       hand = record { left = k.hand.left; is = ap (λ (y : View). y.hand) g.is ∙ k.hand.is; all = k.hand.all ∙ ap (λ (z : Shape). z.slots) (sym shape) };
       met = ap (λ (y : View). y.met) g.is;
+      counted = still_counted count v w k.counted k.met (ap (λ (y : View). y.gathered) g.is);
       sound = g.sound;
       empty = h ∙ k.empty;
     }

@@ -1,18 +1,26 @@
 -- What each step tells is that the pass stepped.
-use Rattle.std.proofs.Common.{◌≡◌, ℕ, ◌==◌, List, [], ◌∷◌, Some, None, sym, subst}
+use Rattle.std.proofs.Common.{◌≡◌, ℕ, ◌==◌, List, [], ◌∷◌, Option, Some, None, refl, sym, subst}
 use Rattle.fm_base.specs.declared.arena_id.ArenaId.{ArenaId}
 use Rattle.fm_base.specs.Calls.{Enter, Read, Write, SwapIf, Add, Allocate, Leave, Hold, Unhold, Shut, Fine, Found, Entry, entry_of}
 use Rattle.fm_base.specs.Machine.{allocate_reply}
 use Rattle.fm_base.specs.Finds.{Find, Visits as Visiting}
-use Rattle.fm_pool_facts.specs.declared.step.Step.TheVariants.{Marks, Checks, Loads, Stores, SwapsIf, Adds, Allocates, Holds, Unholds, Unmarks, Shuts, Visits, Opens}
-use Rattle.fm_pool_facts.specs.Views.{View, limit_of}
+use Rattle.fm_pool_facts.specs.declared.step.Step.TheVariants.{Draws, Marks, Checks, Loads, Stores, SwapsIf, Adds, Allocates, Holds, Unholds, Unmarks, Shuts, Visits, Opens}
+use Rattle.fm_pool_facts.specs.Views.{View, limit_of, pass_of}
 use Rattle.fm_pool_facts.specs.Words.{alive_holds, enter_found, inside_found, hold_found, shut_found}
 use Rattle.fm_pool_facts.specs.Holds.{holds_after, released}
 use Rattle.fm_pool_facts.specs.Closes.{begun, visit_found, closes_after, visit_entries}
-use Rattle.fm_pool_facts.specs.Steps.{Stepped, part, entries, noted, acted, none_noted, where_found, note_of, open_entries, but_first, pass_of}
-use Rattle.fm_pool_facts.specs.Moves.{Tells}
+use Rattle.fm_pool_facts.specs.Steps.{Stepped, number_drawn, draws, note_draw, part, entries, noted, acted, none_noted, where_found, note_of, open_entries, but_first}
+use Rattle.fm_pool_facts.specs.Moves.{LearnsCount, Tells}
 use Rattle.fm_rule.specs.Views.{homed}
 use Rattle.fm_rule.proofs.Allowed.{same_part, stepped}
+
+homed_draws : (o : Option ℕ) (x : ℕ) (home : List ℕ) (v : View) → homed home (draws o x v) ≡ draws o x (homed home v)
+homed_draws None x home v = refl
+homed_draws (Some n) x home v = refl
+
+-- what a count tells is the same in every pool
+pub count_learnt : (now v : View) (home : List ℕ) (x : ℕ) → homed home v ≡ now → LearnsCount v x → LearnsCount now x
+count_learnt now v home x is l = subst (λ (y : View). LearnsCount y x) is (record { own = l.own; few = l.few; whole = l.whole })
 
 module _ (now v w : View) (home home' : List ℕ) (is : homed home v ≡ now) (stays : home' ≡ home) (met : v.met ≡ []) where
   -- the step of the views in the table is one of the views that contracts see
@@ -89,6 +97,14 @@ module _ (now v w : View) (home home' : List ℕ) (is : homed home v ≡ now) (s
   unfolding part entries noted
   unmark_stepped x t = stepped_as (λ (y : View). record y { inside = None; mark = None }) (λ (y : View). acted y.inside y.caller Leave Fine) (λ y. none_noted)
       (stepped home v (part Unmarks v x) w (entries Unmarks v x) none_noted (same_part Unmarks v x) met t.gives)
+
+  pub draw_stepped : (e x : ℕ) → Tells (Draws e) v x w
+      → Stepped now (homed home' w) (draws (number_drawn now.shape e x) x now) [] (note_draw e x now)
+  unfolding part entries noted
+  draw_stepped e x t =
+      stepped_as (λ (y : View). draws (number_drawn y.shape e x) x y) (λ y. []) (λ (y : View). note_draw e x y)
+      (subst (λ (p : View). Stepped (homed home v) (homed home w) p [] (note_draw e x v)) (homed_draws (number_drawn v.shape e x) x home v)
+      (stepped home v (part (Draws e) v x) w (entries (Draws e) v x) (noted (Draws e) v x) (same_part (Draws e) v x) met t.gives))
 
   pub shut_stepped : (a : ArenaId) (x : ℕ) → Tells (Shuts a) v x w
       → Stepped now (homed home' w) (record now { closes = begun a (shut_found (alive_holds a x)) now.closes })

@@ -1,5 +1,5 @@
 -- Views of the passes and notes of a pool, and what a pass keeps beside its seat.
-use Rattle.std.specs.Prelude.{◌≡◌, ℕ, ◌+◌, true, List, [], ◌∷◌, Option, Some}
+use Rattle.std.specs.Prelude.{◌≡◌, ℕ, ◌+◌, true, List, [], ◌∷◌, length, Option, Some}
 use Rattle.atomic_table.specs.Seated.{TableId}
 use Rattle.atomic_table.specs.Table.{Me}
 use Rattle.fm_words.specs.declared.shape.Shape.{Shape}
@@ -32,13 +32,15 @@ pub record IsRest (hand : List Slot) (next slots : ℕ) : Type 0 where
   pub is : hand ≡ slots_from next left
   pub all : next + left ≡ slots
 
--- what a pass keeps beside its seat: its caller, the arena that it is inside, where that arena's words begin, and the next slot of its hand
-pub record Keeps (c : Caller) (i : Option ArenaId) (from next : ℕ) (me : Me (Unit {0}) View) : Type 0 where
+-- what a pass keeps beside its seat: its caller, the arena that it is inside, where that arena's words begin, the next slot of its hand, and how many
+-- callers are gathered into it
+pub record Keeps (c : Caller) (i : Option ArenaId) (from next count : ℕ) (me : Me (Unit {0}) View) : Type 0 where
   pub live : me.0.live ≡ true
   pub caller : c ≡ me.0.caller
   pub inside : i ≡ me.0.inside
   pub cells : (a : ArenaId) → me.0.inside ≡ Some a → from ≡ cell_at me.0.shape a.slot 0
   pub hand : IsRest me.0.hand next me.0.shape.slots
   pub met : me.0.met ≡ []
+  pub counted : count ≡ length me.0.gathered
   pub sound : IsSound me.0
   pub empty : me.1 ≡ []

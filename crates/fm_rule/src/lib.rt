@@ -9,7 +9,9 @@
 #![tactic(auto)]
 
 mod acts;
+mod drawing;
 mod fitting;
+mod gathering;
 mod holding;
 mod notes;
 mod pass;
@@ -19,6 +21,7 @@ mod steps;
 mod updates;
 mod words;
 
+pub use drawing::step_draw;
 pub use fitting::room;
 pub use holding::{step_hold, step_unhold};
 pub use notes::Note;

@@ -14,6 +14,8 @@ pub struct Pass {
     pub(crate) cells_from: u64,
     /// The first of the slots in its hand. All after it are there too.
     pub(crate) next_slot: u32,
+    /// How many callers are gathered into it.
+    pub(crate) gathered: u32,
 }
 
 impl Model for Pass {
@@ -24,7 +26,7 @@ impl Model for Pass {
 
     ghost view = { λ p. homed (numbers_of p.seat.table_id) p.seat.me.0 };
 
-    ghost invariant = { λ p. Keeps p.caller p.inside p.cells_from p.next_slot p.seat.me };
+    ghost invariant = { λ p. Keeps p.caller p.inside p.cells_from p.next_slot p.gathered p.seat.me };
 }
 
 impl Pass {

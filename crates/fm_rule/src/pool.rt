@@ -80,6 +80,7 @@ impl Pool {
             inside: None,
             cells_from: 0,
             next_slot: 0,
+            gathered: 0,
         };
         Ok((Pool { table, shape }, pass))
     }

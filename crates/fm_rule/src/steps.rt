@@ -4,10 +4,10 @@ ghost use Rattle.fm_base.specs.Arenas.{MayUse};
 ghost use Rattle.fm_base.specs.Calls as machine;
 ghost use Rattle.fm_base.specs.Calls.{entry_of};
 ghost use Rattle.fm_base.specs.Finds.{Visits as Visiting};
-ghost use Rattle.fm_pool_facts.specs.Views.{IsKnown};
+ghost use Rattle.fm_pool_facts.specs.Views.{IsKnown, pass_of};
 ghost use Rattle.fm_pool_facts.specs.Words.{alive_holds, enter_found, inside_found, own_word, shut_found};
 ghost use Rattle.fm_pool_facts.specs.Closes.{begun, visited_of, visit_found, closes_after, visit_entries};
-ghost use Rattle.fm_pool_facts.specs.Steps.{Stepped, CanReach, none_noted, note_of, acted, open_entries, first_slot, but_first, pass_of};
+ghost use Rattle.fm_pool_facts.specs.Steps.{Stepped, CanReach, none_noted, note_of, acted, open_entries, first_slot, but_first};
 ghost use Rattle.fm_rule.specs.Passes.{IsOf};
 
 use crate::acts::{exchange_as, load_as, store_as};

@@ -25,7 +25,7 @@ exchange_as-requires-clause-may c =
     (subst (λ (x : View). MayUse c.args.a x.caller) (sym c.pass.view_is) c.requires.may) c.session_place-place.ensures c.held_word-next.ensures
 
 pub invariant_of-pass : goal.invariant_of-pass
-invariant_of-pass c = hold_keeps _ _ _ _ _ _ _ _ c.pass.invariant c.exchange_as.ensures.slots c.args.a c.args.word _ c.exchange_as.ensures.tells
+invariant_of-pass c = hold_keeps _ _ _ _ _ _ _ _ _ c.pass.invariant c.exchange_as.ensures.slots c.args.a c.args.word _ c.exchange_as.ensures.tells
 
 pub returns : goal.returns
 returns c =

@@ -36,7 +36,7 @@ store_as-requires-clause-may c =
 
 pub invariant_of-pass : goal.invariant_of-pass
 invariant_of-pass c =
-    open_keeps _ _ _ _ c.pass.inside.seat.me.0 _ _ _ c.pass.invariant c.store_as.ensures.slots _ _ c.args.slot c.store_as.ensures.tells
+    open_keeps _ _ _ _ _ c.pass.inside.seat.me.0 _ _ _ c.pass.invariant c.store_as.ensures.slots _ _ c.args.slot c.store_as.ensures.tells
     (ap (λ (x : View). first_slot x.hand) c.pass.view_is ∙ c.requires.hand)
 
 pub returns-clause-stepped : goal.returns-clause-stepped

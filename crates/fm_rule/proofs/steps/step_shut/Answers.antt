@@ -30,7 +30,7 @@ exchange_as-requires-clause-may c =
     (sym c.pass.view_is) c.requires.may) c.requires.by_hand.0 c.session_place-place.ensures c.alive_word-alive.ensures c.closing_word-closing.ensures
 
 pub invariant_of-pass : goal.invariant_of-pass
-invariant_of-pass c = shut_keeps _ _ _ _ _ _ _ _ c.pass.invariant c.exchange_as.ensures.slots c.args.a _ c.exchange_as.ensures.tells
+invariant_of-pass c = shut_keeps _ _ _ _ _ _ _ _ _ c.pass.invariant c.exchange_as.ensures.slots c.args.a _ c.exchange_as.ensures.tells
 
 pub returns : goal.returns
 returns c = shut_stepped _ _ _ _ _ c.pass.view_is (ap numbers_of c.exchange_as.ensures.table) c.pass.invariant.met c.args.a _ c.exchange_as.ensures.tells

@@ -1,9 +1,10 @@
-use Rattle.std.proofs.Common.{ap, ◌∙◌}
+use Rattle.std.proofs.Common.{ap, ◌∙◌, subst}
 use Rattle.fm_pool_facts.specs.Views.{View}
 use Rattle.fm_pool_steps.proofs.Splitting.{meet_joins}
+use Rattle.fm_rule.specs.Passes.{GoesOnFrom}
 use Rattle.fm_rule.specs.Views.{NoteView, numbers_of}
 use Rattle.fm_rule.proofs.Knowing.{front_below, may_look}
-use Rattle.fm_rule.proofs.Noting.{one_table, some_words, meet_stepped, meet_keeps}
+use Rattle.fm_rule.proofs.Noting.{one_table, some_words, meet_met, meet_stepped, meet_keeps}
 use Rattle.fm_rule.proofs.pool.Pool.meet.Goals as goal
 
 pub join_seat-requires : goal.join_seat-requires
@@ -23,10 +24,15 @@ load_as-requires-clause-may c = may_look _ _ _ ((λ j. (c.join_seat.ensures.2 j)
 
 pub invariant_of-pass : goal.invariant_of-pass
 invariant_of-pass c =
-    meet_keeps _ _ _ _ _ c.note.inside.seat.me.0 _ _ _ _ _ c.pass.invariant (λ j. (c.join_seat.ensures.2 j).0) c.load_as.ensures.tells
+    meet_keeps _ _ _ _ _ _ c.note.inside.seat.me.0 _ _ _ _ _ c.pass.invariant (λ j. (c.join_seat.ensures.2 j).0) c.load_as.ensures.tells
     (c.load_as.ensures.slots ∙ (λ j. (c.join_seat.ensures.2 j).1))
 
 pub returns-clause-stepped : goal.returns-clause-stepped
 returns-clause-stepped c =
     meet_stepped _ _ c.note.inside.seat.me.0 _ _ _ _ _ c.pass.view_is (ap numbers_of (c.load_as.ensures.table
     ∙ c.join_seat.ensures.0)) c.pass.invariant.met (λ j. (c.join_seat.ensures.2 j).0) c.load_as.ensures.tells
+
+pub returns-clause-met : goal.returns-clause-met
+returns-clause-met c =
+    subst (λ (y : NoteView). GoesOnFrom y.seen c.load_as.new.seat.me.0.seen) c.note.view_is
+    (meet_met _ c.note.inside.seat.me.0 _ _ _ (λ j. (c.join_seat.ensures.2 j).0) c.load_as.ensures.tells)

@@ -1,0 +1,103 @@
+-- How many numbers a list of distinct ones has.
+use Rattle.std.proofs.Common.{◌≡◌, ◌≢◌, ℕ, zero, suc, ◌+◌, ◌<◌, ◌≤◌, List, [], ◌∷◌, length, sym, refl, ap, ◌∙◌, subst, arith, inl, inr, ⊎_elim}
+use native.Mathlib.Decide.{ℕ_discrete}
+use Rattle.fm_base.specs.Finds.{Gathered}
+use Rattle.fm_pool_facts.specs.Views.{In}
+use Rattle.fm_pool_facts.specs.Facts.{IsOnce}
+
+abbrev pub Distinct : List ℕ → Type 0
+Distinct [] = Unit {0}
+Distinct (x ∷ xs) = (¬ In x xs) × Distinct xs
+
+in_dec : (n : ℕ) (xs : List ℕ) → Dec (In n xs)
+in_dec n [] = no (λ i. i)
+in_dec n (x ∷ xs) = go (ℕ_discrete n x) (in_dec n xs)
+  where
+    go : Dec (n ≡ x) → Dec (In n xs) → Dec (In n (x ∷ xs))
+    go (yes e) d = yes (inl e)
+    go (no ne) (yes i) = yes (inr i)
+    go (no ne) (no ni) = no (⊎_elim ne ni)
+
+-- the list without one of its numbers is shorter
+record Less (n : ℕ) (xs : List ℕ) : Type 0 where
+  left : List ℕ
+  shorter : length xs ≡ length left + 1
+  others : (m : ℕ) → In m xs → m ≢ n → In m left
+  among : (m : ℕ) → In m left → In m xs
+  distinct : Distinct xs → Distinct left × (¬ In n left)
+
+less : (n : ℕ) (xs : List ℕ) → In n xs → Less n xs
+less n [] i = absurd i
+less n (x ∷ xs) (inl e) = record {
+  left = xs;
+  shorter = omega arith;
+  others = λ m. ⊎_elim (λ q ne. absurd (ne (q ∙ sym e))) (λ j ne. j);
+  among = λ m j. inr j;
+  distinct = λ d. (d.1, (λ j. d.0 (subst (λ (k : ℕ). In k xs) e j)));
+}
+less n (x ∷ xs) (inr i) =
+    let y = less n xs i in
+    record {
+      left = x ∷ y.left;
+      shorter = (let a = y.shorter in omega arith);
+      others = λ m. ⊎_elim (λ q ne. inl q) (λ j ne. inr (y.others m j ne));
+      among = λ m. ⊎_elim (λ q. inl q) (λ j. inr (y.among m j));
+      distinct = λ d. (((λ j. d.0 (y.among x j)), (y.distinct d.1).0), ⊎_elim (λ q. d.0 (subst (λ (k : ℕ). In k xs) q i)) (y.distinct d.1).1);
+    }
+
+-- no more than n distinct numbers are below n
+pub at_most : (n : ℕ) (xs : List ℕ) → Distinct xs → ((m : ℕ) → In m xs → m < n) → length xs ≤ n
+at_most zero [] d b = omega arith
+at_most zero (x ∷ xs) d b = let h = b x (inl refl) in absurd (omega arith)
+at_most (suc n) xs d b = go (in_dec n xs) (at_most n)
+  where
+    go : Dec (In n xs) → ((xs : List ℕ) → Distinct xs → ((m : ℕ) → In m xs → m < n) → length xs ≤ n) → length xs ≤ suc n
+    go (yes i) ih =
+        let y = less n xs i in
+        let h = ih y.left (y.distinct d).0 (λ m j.
+        let c = b m (y.among m j) in
+        let ne : m ≢ n = (λ e. (y.distinct d).1 (subst (λ (k : ℕ). In k y.left) e j)) in
+        omega arith) in
+        let l = y.shorter in omega arith
+    go (no ni) ih =
+        let h = ih xs d (λ m j. let c = b m j in let ne : m ≢ n = (λ e. ni (subst (λ (k : ℕ). In k xs) e j)) in omega arith) in omega arith
+
+-- a list that has all numbers below n has no fewer
+pub at_least : (n : ℕ) (xs : List ℕ) → ((m : ℕ) → m < n → In m xs) → n ≤ length xs
+at_least zero xs f = omega arith
+at_least (suc n) xs f =
+    let y = less n xs (f n (omega arith)) in
+    let h = at_least n y.left (λ m l. y.others m (f m (omega arith)) (λ e. omega arith)) in
+    let l = y.shorter in omega arith
+
+-- as many distinct numbers below n as there are: all of them
+pub all_below : (n : ℕ) (xs : List ℕ) → Distinct xs → ((m : ℕ) → In m xs → m < n) → length xs ≡ n → (m : ℕ) → m < n → In m xs
+all_below n xs d b e m l = go (in_dec m xs)
+  where
+    go : Dec (In m xs) → In m xs
+    go (yes i) = i
+    go (no ni) = let h = at_most n (m ∷ xs) (ni, d) (λ k. ⊎_elim (λ q. omega arith) (b k)) in absurd (omega arith)
+
+-- ---- the numbers of gathered callers
+
+abbrev pub numbers : List Gathered → List ℕ
+numbers [] = []
+numbers (g ∷ gs) = g.caller.number ∷ numbers gs
+
+pub numbers_long : (gs : List Gathered) → length (numbers gs) ≡ length gs
+numbers_long [] = refl
+numbers_long (g ∷ gs) = let h = numbers_long gs in omega arith
+
+pub has_number : (n : ℕ) (gs : List Gathered) → In n (numbers gs) → (g : Gathered) × In g gs × (g.caller.number ≡ n)
+has_number n [] i = absurd i
+has_number n (g ∷ gs) (inl e) = (g, inl refl, sym e)
+has_number n (g ∷ gs) (inr i) = let y = has_number n gs i in (y.0, inr y.1, y.2)
+
+pub in_numbers : (g : Gathered) (gs : List Gathered) → In g gs → In g.caller.number (numbers gs)
+in_numbers g [] i = absurd i
+in_numbers g (x ∷ gs) (inl e) = inl (ap (λ (y : Gathered). y.caller.number) e)
+in_numbers g (x ∷ gs) (inr i) = inr (in_numbers g gs i)
+
+pub numbers_apart : (gs : List Gathered) → IsOnce (λ (g : Gathered). g.caller.number) gs → Distinct (numbers gs)
+numbers_apart [] o = tt
+numbers_apart (g ∷ gs) o = ((λ i. let y = has_number g.caller.number gs i in o.0 y.0 y.1 y.2), numbers_apart gs o.1)

@@ -1,0 +1,242 @@
+-- A pass asks how many numbers were drawn, until it draws one or all are drawn.
+use Rattle.std.proofs.Common.{◌≡◌, ◌≢◌, ℕ, ◌+◌, ◌<◌, ◌≤◌, ◌==◌, nat_le, Bool, true, false, if◌then◌else◌, List, [], ◌++◌, length, All, get_or, sym, refl, ap, ◌∙◌, subst, arith, inl, inr, ⊎_elim, append_assoc, Option, Some, None, eq-eqb, ne_eqb}
+use Rattle.std.proofs.lemmas.List.{append-nil}
+use Rattle.std.proofs.lemmas.List.Elements.{filter-append}
+use Rattle.std.proofs.lemmas.Bool.{leb-true, leb-false}
+use Rattle.fm_words.specs.declared.shape.Shape.{Shape}
+use Rattle.fm_base.specs.declared.caller.Caller.{Caller}
+use Rattle.fm_base.specs.Calls.{Entry}
+use Rattle.fm_base.specs.Histories.{made_by}
+use Rattle.fm_base.specs.Finds.{Find, Gathered, Draws as Drawing, is_draw}
+use Rattle.fm_pool_facts.specs.Views.{View, In}
+use Rattle.fm_pool_facts.specs.Steps.{Stepped, number_drawn, draws, caller_drawn, note_draw, is_clear}
+use Rattle.fm_pool_facts.specs.Moves.{LearnsCount}
+use Rattle.fm_pool_facts.proofs.Keeping.{in_append, in_right}
+use Rattle.fm_pool_steps.proofs.Reading.{eqb_true, eqb_false}
+use Rattle.fm_rule.specs.Passes.{IsOf}
+use Rattle.fm_rule.specs.Draws.{Asked, Takes, NoneDrawn, Looked}
+use Rattle.fm_rule.specs.declared.pool.Pool.{Pool}
+
+-- no step
+asked_none : (p : View) → p.drawn ≡ None → Asked p p [] None
+asked_none p e = record {
+  more = [];
+  seen = sym (append-nil p.seen);
+  quiet = refl;
+  apart = λ i g l. refl;
+  alone = λ w. refl;
+  finds = sym (append-nil p.finds);
+  only_draws = λ f i. absurd i;
+  is = λ i. record p { drawn = e i };
+}
+
+-- a pass that has the number d in its hand, or none, and is known to be whole or not
+abbrev with_number : View → Option ℕ → Bool → View
+with_number v d w = record v { drawn = d; whole = w }
+
+module _ (old now new : View) (ds : List Find) (a : Asked old now ds None) where
+  same_caller : now.caller ≡ old.caller
+  same_caller = ap (λ (x : View). x.caller) a.is
+
+  same_gathered : now.gathered ≡ old.gathered
+  same_gathered = ap (λ (x : View). x.gathered) a.is
+
+  same_shape : now.shape ≡ old.shape
+  same_shape = ap (λ (x : View). x.shape) a.is
+
+  -- one more step
+  asked_then : (kept : old.whole ≡ true → now.whole ≡ true) (d : Option ℕ) (w : Bool) (nd : ℕ → List Find)
+      → ((n : ℕ) (f : Find) → In f (nd n) → is_draw f.step ≡ true) → (s : Stepped now new (with_number now d w) [] nd)
+      → Asked old new (ds ++ nd (length (now.seen ++ s.others))) d
+  asked_then kept d w nd only s =
+      let es : List Entry = s.others in
+      let fs : List Find = nd (length (now.seen ++ es)) in
+      let whole : new.whole ≡ w = ap (λ (x : View). x.whole) s.is_part in
+      let finds : new.finds ≡ now.finds ++ fs = ap (λ (x : View). x.finds) s.is_part in
+      let next = subst (λ (gs : List Gathered). All (λ g. made_by g.caller (es ++ []) ≡ []) gs) same_gathered s.apart in
+      record {
+        more = a.more ++ es;
+        seen = s.seen ∙ (append-nil (now.seen ++ es) ∙ (ap (λ (xs : List Entry). xs ++ es) a.seen ∙ append_assoc old.seen a.more es));
+        quiet = filter-append _ a.more es ∙ (ap (λ (xs : List Entry). xs ++ made_by old.caller es) a.quiet
+            ∙ (ap (λ (c : Caller). made_by c es) (sym same_caller) ∙ s.quiet));
+        apart = λ i g l. filter-append _ a.more es ∙ (ap (λ (xs : List Entry). xs ++ made_by (get_or old.gathered i g).caller es) (a.apart i g l)
+            ∙ (ap (made_by (get_or old.gathered i g).caller) (sym (append-nil es)) ∙ next i g l));
+        alone = λ o. ap (λ (xs : List Entry). xs ++ es) (a.alone o) ∙ s.alone (kept o);
+        finds = finds ∙ (ap (λ (xs : List Find). xs ++ fs) a.finds ∙ append_assoc old.finds ds fs);
+        only_draws = λ f i. ⊎_elim (a.only_draws f) (only (length (now.seen ++ es)) f) (in_append f ds fs i);
+        is = s.is_part ∙ ((λ i. record (with_number now d w) { seen = new.seen; finds = sym finds i })
+            ∙ (λ i. record (a.is i) { drawn = d; whole = sym whole i; seen = new.seen; finds = new.finds }));
+      }
+
+-- ---- which number a step draws
+
+none_missed : (z : Shape) (e x : ℕ) → x ≢ e → number_drawn z e x ≡ None
+none_missed z e x n = ap (λ (b : Bool). if b then (if nat_le (e + 1) z.passes then Some x else None) else None) (ne_eqb x e n)
+
+none_all : (z : Shape) (e x : ℕ) → x ≡ z.passes → number_drawn z e x ≡ None
+none_all z e x all = go (x == e) refl (nat_le (e + 1) z.passes) refl
+  where
+    go : (b : Bool) → (x == e) ≡ b → (c : Bool) → nat_le (e + 1) z.passes ≡ c → (if b then (if c then Some x else None) else None) ≡ None
+    go false p c q = refl
+    go true p false q = refl
+    go true p true q =
+        let p' : ℕ = z.passes in
+        let same : x ≡ e = eqb_true x e p in let l : e + 1 ≤ p' = leb-true (e + 1) p' q in absurd (omega arith)
+
+one_drawn : (z : Shape) (e x : ℕ) → x ≡ e → x < z.passes → number_drawn z e x ≡ Some x
+one_drawn z e x same few = go (nat_le (e + 1) z.passes) refl
+  where
+    hit : (c : Bool) → (if x == e then (if c then Some x else None) else None) ≡ (if c then Some x else None)
+    hit c = ap (λ (b : Bool). if b then (if c then Some x else None) else None) (eq-eqb x e same)
+
+    go : (c : Bool) → nat_le (e + 1) z.passes ≡ c → (if x == e then (if c then Some x else None) else None) ≡ Some x
+    go true q = hit true
+    go false q = let p : ℕ = z.passes in let n = leb-false (e + 1) p q in absurd (omega arith)
+
+-- ---- the loop
+
+-- the pass has come from `old` to `now` by draws that found another count than they expected
+pub record Asking (pool : Pool) (old now : View) (expected : ℕ) : Type 0 where
+  pub draws : List Find
+  pub asked : Asked old now draws None
+  pub none : (f : Find) → In f draws → f.drew ≡ None
+  pub kept : old.whole ≡ true → now.whole ≡ true
+  pub some : 0 < expected
+  pub of : IsOf pool now
+
+pub asking_begins : {pool : Pool} (p : View) (e : ℕ) → IsOf pool p → p.drawn ≡ None → 0 < e → Asking pool p p e
+asking_begins p e of d some = record { draws = []; asked = asked_none p d; none = λ f i. absurd i; kept = λ w. w; some = some; of = of }
+
+abbrev Draw : View → View → ℕ → ℕ → Type 0
+Draw p q e x = Stepped p q (draws (number_drawn p.shape e x) x p) [] (note_draw e x p)
+
+abbrev whole_after : View → ℕ → Bool
+whole_after p x = if p.whole then true else (length p.gathered + 1 == x)
+
+-- the step where it drew nothing
+drew_none : (p q : View) (e x : ℕ) → p.drawn ≡ None → number_drawn p.shape e x ≡ None → Draw p q e x
+    → Stepped p q (with_number p None (whole_after p x)) [] (note_draw e x p)
+drew_none p q e x d n s = subst (λ (v : View). Stepped p q v [] (note_draw e x p))
+    (ap (λ (o : Option ℕ). draws o x p) n ∙ (λ i. record p { drawn = d i; whole = whole_after p x })) s
+
+draws_only : (p : View) (e x n : ℕ) (f : Find) → In f (note_draw e x p n) → is_draw f.step ≡ true
+draws_only p e x n f (inl q) = ap (λ (g : Find). is_draw g.step) q
+draws_only p e x n f (inr i) = absurd i
+
+none_noted : (p : View) (e x n : ℕ) → number_drawn p.shape e x ≡ None → (f : Find) → In f (note_draw e x p n) → f.drew ≡ None
+none_noted p e x n d f (inl q) = ap (λ (g : Find). g.drew) q ∙ ap caller_drawn d
+none_noted p e x n d f (inr i) = absurd i
+
+module _ {pool : Pool} {old p q : View} (e x : ℕ) (t : Asking pool old p e) (s : Draw p q e x) (l : LearnsCount p x) where
+  no_number : p.drawn ≡ None
+  no_number = ap (λ (v : View). v.drawn) t.asked.is
+
+  shape_is : p.shape ≡ old.shape
+  shape_is = same_shape old p q t.draws t.asked
+
+  on_whole : (w : Bool) → q.whole ≡ (if p.whole then true else w) → old.whole ≡ true → q.whole ≡ true
+  on_whole w is o = is ∙ ap (λ (b : Bool). if b then true else w) (t.kept o)
+
+  counts : old.whole ≡ true → x ≡ length old.gathered + 1
+  counts o = l.whole (t.kept o) ∙ ap (λ (gs : List Gathered). length gs + 1) (same_gathered old p q t.draws t.asked)
+
+  pub asking_goes_on : x ≢ e → Asking pool old q x
+  asking_goes_on n =
+      let d = none_missed p.shape e x n in
+      let step = drew_none p q e x no_number d s in
+      let fs : List Find = note_draw e x p (length (p.seen ++ step.others)) in
+      record {
+        draws = t.draws ++ fs;
+        asked = asked_then old p q t.draws t.asked t.kept None (whole_after p x) (note_draw e x p) (draws_only p e x) step;
+        none = λ f i. ⊎_elim (t.none f) (none_noted p e x (length (p.seen ++ step.others)) d f) (in_append f t.draws fs i);
+        kept = on_whole (length p.gathered + 1 == x) (ap (λ (v : View). v.whole) step.is_part);
+        some = (let y = l.own in omega arith);
+        of = (ap (λ (v : View). v.home) step.is_part ∙ t.of.0, ap (λ (v : View). v.shape) step.is_part ∙ t.of.1);
+      }
+
+  -- all numbers are drawn
+  pub asked_all : x ≡ p.shape.passes → NoneDrawn old q
+  asked_all all =
+      let d = none_all p.shape e x all in
+      let step = drew_none p q e x no_number d s in
+      let n : ℕ = length (p.seen ++ step.others) in
+      let fs : List Find = note_draw e x p n in
+      let here : Find = record { step = Drawing e; found = x; seen = n; clear = is_clear p; drew = caller_drawn (number_drawn p.shape e x) } in
+      let passes : x ≡ old.shape.passes = all ∙ ap (λ (z : Shape). z.passes) shape_is in
+      record {
+        draws = t.draws ++ fs;
+        asked = asked_then old p q t.draws t.asked t.kept None (whole_after p x) (note_draw e x p) (draws_only p e x) step;
+        all = record {
+          none = λ f i. ⊎_elim (t.none f) (none_noted p e x n d f) (in_append f t.draws fs i);
+          find = here;
+          among = in_right here t.draws fs (inl refl);
+          expected = e;
+          step = refl;
+          some = (λ z. let y = t.some in omega arith);
+          found = passes;
+        };
+        still = on_whole (length p.gathered + 1 == x) (ap (λ (v : View). v.whole) step.is_part);
+        missing = λ o. sym (counts o) ∙ passes;
+        sound = step.sound;
+      }
+
+  -- one was drawn
+  pub asked_one : x ≡ e → x ≢ p.shape.passes → Takes old q x
+  asked_one same ne =
+      let m : ℕ = p.shape.passes in
+      let few : x < m = (let y = l.few in let k : x ≢ m = ne in omega arith) in
+      let d = one_drawn p.shape e x same few in
+      let step = subst (λ (v : View). Stepped p q v [] (note_draw e x p)) (ap (λ (o : Option ℕ). draws o x p) d) s in
+      let n : ℕ = length (p.seen ++ step.others) in
+      let fs : List Find = note_draw e x p n in
+      let here : Find = record { step = Drawing e; found = x; seen = n; clear = is_clear p; drew = caller_drawn (number_drawn p.shape e x) } in
+      record {
+        draws = t.draws ++ fs;
+        asked = asked_then old p q t.draws t.asked t.kept (Some x) false (note_draw e x p) (draws_only p e x) step;
+        drew = record {
+          find = here;
+          among = in_right here t.draws fs (inl refl);
+          step = ap Drawing (sym same);
+          found = refl;
+          drew = ap caller_drawn d;
+        };
+        whole = ap (λ (v : View). v.whole) step.is_part;
+        suffice = λ o.
+            let c = counts o in
+            let k : ℕ = length old.gathered in
+            let c' : x ≡ k + 1 = c in
+            subst (λ (z : Shape). k + 1 < z.passes) shape_is (let r : k + 1 < m = omega arith in r);
+        sound = step.sound;
+      }
+
+-- ---- the look for every number
+
+pub looked : (old new : View) (x : ℕ) → old.drawn ≡ None → Draw old new 0 x → LearnsCount old x → (b : Bool) → b ≡ (x == length old.gathered + 1)
+    → Looked old new b
+looked old new x none s l b is =
+    let d = none_missed old.shape 0 x (let y = l.own in λ z. omega arith) in
+    let step = drew_none old new 0 x none d s in
+    let n : ℕ = length (old.seen ++ step.others) in
+    let here : Find = record { step = Drawing 0; found = x; seen = n; clear = is_clear old; drew = caller_drawn (number_drawn old.shape 0 x) } in
+    let c : ℕ = length old.gathered + 1 in
+    let turned : b ≡ (c == x) = is ∙ swap_sides x c in
+    record {
+      find = here;
+      asked = asked_then old old new [] (asked_none old none) (λ w. w) None (whole_after old x) (note_draw 0 x old) (draws_only old 0 x) step;
+      step = refl;
+      is = turned;
+      whole = ap (λ (v : View). v.whole) step.is_part ∙ (go old.whole refl ∙ sym turned);
+      still = λ w. turned ∙ eq-eqb c x (sym (l.whole w));
+      sound = step.sound;
+    }
+  where
+    swap_sides : (a c : ℕ) → (a == c) ≡ (c == a)
+    swap_sides a c = go (a == c) refl
+      where
+        go : (q : Bool) → (a == c) ≡ q → (a == c) ≡ (c == a)
+        go true e = e ∙ sym (eq-eqb c a (sym (eqb_true a c e)))
+        go false e = e ∙ sym (ne_eqb c a (λ p. eqb_false a c e (sym p)))
+
+    go : (w : Bool) → old.whole ≡ w → (if w then true else (length old.gathered + 1 == x)) ≡ (length old.gathered + 1 == x)
+    go true e = sym (eq-eqb (length old.gathered + 1) x (sym (l.whole e)))
+    go false e = refl

@@ -1,0 +1,32 @@
+use Rattle.std.proofs.Common.{ap, sym, ◌∙◌, subst, None}
+use Rattle.fm_words.specs.declared.shape.Shape.{Shape}
+use Rattle.fm_pool_facts.specs.Views.{View, IsSound, pass_of}
+use Rattle.fm_pool_steps.proofs.Halving.{draw_splits}
+use Rattle.fm_rule.specs.Views.{Keeps}
+use Rattle.fm_rule.proofs.Allowed.{sound_homed}
+use Rattle.fm_rule.proofs.Noting.{one_table, some_words}
+use Rattle.fm_rule.proofs.Halves.{left_keeps, right_keeps, right_sound}
+use Rattle.fm_rule.proofs.pool.Pool.split_off.Goals as goal
+
+pub split_seat-seat-requires : goal.split_seat-seat-requires
+split_seat-seat-requires c = (
+  one_table _ _ (ap (λ (x : View). x.home) c.giver.view_is ∙ c.requires.of.0),
+  some_words _ _ c.args.self.now.sized,
+  λ s h at. draw_splits _ _ _ h _ _ c.args.number at c.giver.invariant.live (ap (λ (x : View). x.drawn) c.giver.view_is ∙ c.requires.drawn),
+)
+
+pub invariant_of-giver : goal.invariant_of-giver
+invariant_of-giver c =
+    subst (Keeps c.giver.inside.caller c.giver.inside.inside c.giver.inside.cells_from c.giver.inside.next_slot c.giver.inside.gathered)
+    (sym c.split_seat-seat.ensures.2) (left_keeps _ _ _ _ _ _ _ c.giver.invariant)
+
+pub invariant_of-result : goal.invariant_of-result
+invariant_of-result c =
+    subst (Keeps (pass_of c.args.number) None 0 c.args.self.now.shape.slots 0) (sym c.split_seat-seat.ensures.4)
+    (right_keeps c.args.number _ c.giver.inside.seat.me.0 (ap (λ (x : View). x.drawn) c.giver.view_is ∙ c.requires.drawn)
+    (ap (λ (x : View). x.shape.slots) c.giver.view_is ∙ ap (λ (z : Shape). z.slots) c.requires.of.1) c.giver.invariant.sound)
+
+pub returns-clause-sound : goal.returns-clause-sound
+returns-clause-sound c =
+    sound_homed _ _ (subst IsSound (λ j. (sym c.split_seat-seat.ensures.4 j).0)
+    (right_sound c.giver.inside.seat.me.0 c.args.number (ap (λ (x : View). x.drawn) c.giver.view_is ∙ c.requires.drawn) c.giver.invariant.sound))
