@@ -1,7 +1,7 @@
 -- What runs of visits of the only caller do to the bytes of an arena.
 use Rattle.std.proofs.Common.{◌≡◌, ◌≢◌, ℕ, ◌+◌, ◌-◌, ◌*◌, ◌%◌, ◌^◌, ◌<◌, ◌≤◌, Bool, true, false, List, [], ◌++◌, length, take, drop, refl, sym, ap, subst, ◌∙◌, arith, append_assoc, Option, Some, None, Result, Ok, Err, IfOk}
 use Rattle.std.specs.Prelude.{OnErr}
-use Rattle.std.proofs.lemmas.List.{append-nil, drop-drop, length-take-le, take-append-drop}
+use Rattle.std.proofs.lemmas.List.{append-nil, drop-drop, length-take-le}
 use Rattle.std.proofs.lemmas.List.Elements.{All-take, All-drop}
 use Rattle.fm_base.specs.declared.caller.Caller.{Caller}
 use Rattle.fm_base.specs.declared.arena_id.ArenaId.{ArenaId}
@@ -13,21 +13,21 @@ use Rattle.fm_base.specs.Histories.{IsLegal, state_after}
 use Rattle.fm_base.specs.View.{View, Makes, Did, IsByItself}
 use Rattle.fm_base.specs.Visits.{Run, ends, goes_on, piece_width}
 use Rattle.fm_base.proofs.Faith.{Makes-alone}
-use Rattle.fm_base.proofs.Lookup.{KeepsName, arena_of-id, changed_lookup, changed_same, changed_twice, lookup_changed}
+use Rattle.fm_base.proofs.Lookup.{KeepsName, arena_of-id, changed_lookup, changed_same, lookup_changed}
 use Rattle.fm_base.proofs.Making.{IsLegal-split, state_after-append}
 use Rattle.fm_bytes.specs.Bytes.{AreBytes, bytes_of, number_of}
 use Rattle.fm_bytes.specs.Words.{bytes_in}
 use Rattle.fm_bytes.proofs.Bytes.{bytes_of-number_of, number_of-lt}
-use Rattle.fm_bytes.proofs.Words.{take-add, length-bytes_in}
+use Rattle.fm_bytes.proofs.Words.{take-add}
 use Rattle.fm_access.specs.Alone.{bytes_of_arena, with_bytes, with_words, FindsNumber, ChangesBytes, StaysOut}
-use Rattle.fm_access.specs.Ranges.{Reading, ReadsOn, EndsReading, ReadsRange, Putting, PutsOn, EndsPutting, next_width, DoesRefuse, DoesGet, DoesPut}
-use Rattle.fm_access.proofs.Splicing.{with_none, with_bytes-twice}
+use Rattle.fm_access.specs.Ranges.{Reading, ReadsOn, EndsReading, ReadsRange, Putting, PutsOn, EndsPutting, next_width, DoesRefuse, DoesGet}
+use Rattle.fm_access.proofs.Splicing.{with_none}
 use Rattle.fm_access.proofs.Visits.{VisitRefused, visit_refused, VisitPuts, visit_reads, visit_puts}
 
 -- ---- refusals
 
 -- A call that is refused, where a run that stops shows that the arena isn't alive and changes nothing.
-shut_out : (old now : View) (id : ArenaId) (Stops : List Entry → Type 0) (r : Refusal) → IsByItself old
+pub shut_out : (old now : View) (id : ArenaId) (Stops : List Entry → Type 0) (r : Refusal) → IsByItself old
     → ((own : List Entry) → Stops own → IsLegal old.limit old.state own → VisitRefused old.state (state_after old.limit old.state own) id)
     → Did old now (DoesRefuse old.caller id Stops r) → StaysOut old now id
 shut_out old now id Stops WrongThread alone refused d =
@@ -143,7 +143,7 @@ pub record RunPuts (s t : State) (id : ArenaId) (x : Putting) : Type 0 where
   pub bytes : bytes_in words ≡ with_bytes (bytes_of_arena s id) x.at x.bytes
 
 -- A run of puts changes the bytes, or stops as the arena isn't alive.
-abbrev Leaves : State → State → ArenaId → Putting → Bool → Type 0
+abbrev pub Leaves : State → State → ArenaId → Putting → Bool → Type 0
 Leaves s t id x true = RunPuts s t id x
 Leaves s t id x false = VisitRefused s t id
 
@@ -157,7 +157,7 @@ puts_none s t id x none same =
     }
 
 -- The end of a run of puts.
-puts_end : (limit : ℕ) (c : Caller) (id : ArenaId) (s : State) (x : Putting) (own : List Entry) (done : Bool)
+pub puts_end : (limit : ℕ) (c : Caller) (id : ArenaId) (s : State) (x : Putting) (own : List Entry) (done : Bool)
     → EndsPutting c id x own done → IsLegal limit s own → Leaves s (state_after limit s own) id x done
 puts_end limit c id s x own false e legal = visit_refused limit c s id own e.1 legal
 puts_end limit c id s x own true e legal = puts_none s (state_after limit s own) id x e.0 (ap (state_after limit s) e.1)
@@ -187,36 +187,6 @@ pub with_words_there : (s t : State) (id : ArenaId) (words : List ℕ) → has_a
     → arena_of t id ≡ with_words words (arena_of s id)
 with_words_there s t id words known state = ap (λ (u : State). arena_of u id) state ∙ lookup_changed s id (with_words words) (λ a. refl) known
 
--- One piece more, and the rest.
-puts_on : (s t u : State) (id : ArenaId) (width v : ℕ) (x y : Putting) (done : Bool) → IsPart x.bytes width v → VisitPuts s t id x.at width v
-    → y.at ≡ x.at + width → y.bytes ≡ drop width x.bytes → Leaves t u id y done → Leaves s u id x done
-puts_on s t u id width v x y false p put at bytes more =
-    let there = with_words_there s t id put.words put.known put.state in
-    absurd (more.over (ap (λ (a : Arena). a.life) there ∙ put.alive))
-puts_on s t u id width v x y true p put at bytes more =
-    let all = bytes_of_arena s id in
-    let part = take width x.bytes in
-    let rest = drop width x.bytes in
-    let n = p.count in
-    let there = with_words_there s t id put.words put.known put.state in
-    let first : bytes_of_arena t id ≡ with_bytes (bytes_of_arena s id) x.at (take width x.bytes) =
-    ap (λ (a : Arena). bytes_in a.words) there ∙ put.bytes ∙ ap (λ bs. take x.at all ++ (bs ++ drop (x.at + width) all)) p.are
-    ∙ ap (λ k. take x.at all ++ (part ++ drop (x.at + k) all)) (sym n) in
-    let next : y.at ≡ x.at + length (take width x.bytes) = at ∙ ap (λ k. x.at + k) (sym n) in
-    let within = put.within in
-    let room : x.at ≤ length (bytes_of_arena s id) = omega (arith, length-bytes_in (arena_of s id).words) in
-    record {
-      words = more.words;
-      state = more.state ∙ ap (λ (r : State). changed r id (with_words more.words)) put.state
-          ∙ changed_twice s id (with_words put.words) (with_words more.words) (λ a. refl);
-      bytes = more.bytes
-          ∙ ap (λ k. with_bytes (bytes_of_arena t id) k y.bytes) next
-          ∙ ap (λ bs. with_bytes (bytes_of_arena t id) (x.at + length part) bs) bytes
-          ∙ ap (λ bs. with_bytes bs (x.at + length part) rest) first
-          ∙ with_bytes-twice all x.at part rest room
-          ∙ ap (with_bytes all x.at) (take-append-drop width x.bytes);
-    }
-
 -- what a step of a run of puts is: its first bytes are a piece, the visit puts them, and bytes are left
 pub record StepPuts (s t : State) (id : ArenaId) (x y : Putting) : Type 0 where
   pub part : IsPart x.bytes (next_width x) (number_of (take (next_width x) x.bytes))
@@ -237,19 +207,6 @@ step_puts limit c id s x y own are step legal =
       left = subst AreBytes (sym step.bytes) (All-drop (λ b. b < 256) width x.bytes are);
     }
 
--- A run of puts puts just these bytes.
-puts_run : (limit : ℕ) (c : Caller) (id : ArenaId) (s : State) (x : Putting) (own : List Entry) (done : Bool) → AreBytes x.bytes
-    → Run (PutsOn c id) (EndsPutting c id) x own done → IsLegal limit s own → Leaves s (state_after limit s own) id x done
-puts_run limit c id s x own done are (ends e) legal = puts_end limit c id s x own done e legal
-puts_run limit c id s x own done are (goes_on y first rest step run) legal =
-    let parts = IsLegal-split limit s first rest legal in
-    let t = state_after limit s first in
-    let p = step_puts limit c id s x y first are step parts.0 in
-    let more = puts_run limit c id t y rest done p.left run parts.1 in
-    let Here : State → Type 0 = λ u. Leaves s u id x done in
-    subst Here (sym (state_after-append limit s first rest))
-    (puts_on s t (state_after limit t rest) id (next_width x) (number_of (take (next_width x) x.bytes)) x y done p.part p.put step.at step.bytes more)
-
 -- A change of one arena leaves the words of the others.
 pub other_words : (f : Arena → Arena) → KeepsName f → (s : State) (id other : ArenaId) → other ≢ id
     → (arena_of (changed s id f) other).words ≡ (arena_of s other).words
@@ -269,26 +226,6 @@ changes old now id place bytes known r =
       others = λ other n. ap (λ (s : State). bytes_of_arena s other) r.state ∙ ap bytes_in (other_words (with_words r.words) (λ a. refl) old.state id other n);
       rest = r.state ∙ ap (λ ws. changed old.state id (with_words ws)) (sym words);
     }
-
--- Bytes that the only caller puts stand there, and all others stay.
-pub put_alone : (old now : View) (id : ArenaId) (place : ℕ) (bytes : List ℕ) (result : Result (Unit {0}) Refusal) → AreBytes bytes
-    → has_arena old.state id ≡ true
-    → Did old now (DoesPut old.caller id place bytes result) → IsByItself old → IfOk result (λ u. ChangesBytes old now id place bytes)
-put_alone old now id place bytes (Err r) are known d alone = tt
-put_alone old now id place bytes (Ok u) are known d alone =
-    let m = Makes-alone old now d.own alone d.makes in
-    let all = puts_run old.limit old.caller id old.state (record { at = place; bytes = bytes }) d.own true are d.does.1 m.0 in
-    changes old now id place bytes known (record { words = all.words; state = m.1 ∙ all.state; bytes = all.bytes })
-
--- The only caller puts nothing where the arena isn't open to it.
-pub put_shut : (old now : View) (id : ArenaId) (place : ℕ) (bytes : List ℕ) (result : Result (Unit {0}) Refusal) → AreBytes bytes
-    → Did old now (DoesPut old.caller id place bytes result) → IsByItself old → OnErr result (StaysOut old now id)
-put_shut old now id place bytes (Ok u) are d alone = tt
-put_shut old now id place bytes (Err r) are d alone =
-    let c = old.caller in
-    let first : Putting = record { at = place; bytes = bytes } in
-    shut_out old now id (λ es. Run (PutsOn c id) (EndsPutting c id) first es false) r alone
-    (λ own run legal. puts_run old.limit c id old.state first own false are run legal) d
 
 -- Where no byte is put, all stays.
 pub put_none : (old : View) (id : ArenaId) (place : ℕ) (bytes : List ℕ) → bytes ≡ [] → has_arena old.state id ≡ true → ChangesBytes old old id place bytes

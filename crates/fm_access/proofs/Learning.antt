@@ -22,11 +22,12 @@ use Rattle.fm_lanes.specs.Value.{kind_of}
 use Rattle.fm_access.specs.Alone.{StaysOut}
 use Rattle.fm_access.specs.Found.{DoesAt, UseCause, StaysOutOf}
 use Rattle.fm_access.specs.Learnt.{After}
-use Rattle.fm_access.specs.Ranges.{ReadsRange, DoesPut, PutsRange}
+use Rattle.fm_access.specs.Ranges.{ReadsRange, Putting, DoesPut, DoesPutBy, PutsBy}
 use Rattle.fm_access.specs.Values.{DoesGetValue, FindsValue, PutsValue}
-use Rattle.fm_access.proofs.Alone.{get_shut, put_shut}
+use Rattle.fm_access.proofs.Alone.{get_shut}
 use Rattle.fm_access.proofs.Causes.{Causes, at_cause, going}
 use Rattle.fm_access.proofs.Outside.{EndsOutside, at_outside, put_outside, value_outside}
+use Rattle.fm_access.proofs.PuttingAlone.{ArePuts, pieces_put, put_shut}
 use Rattle.fm_access.proofs.Values.{AreBytes-value, finds_value, puts_value, got_kind}
 
 -- ---- at the place that was found
@@ -137,10 +138,11 @@ gets c k o id p = record {
   outside = λ result own d. value_outside c id k o p result own d;
 }
 
-pub puts : (c : Caller) (id : ArenaId) (bytes : List ℕ) (p : ℕ) → IsCall c id (DoesPut c id p bytes)
-puts c id bytes p = record {
-  refuses = λ e own d. going c id (λ es. PutsRange c id p bytes es false) e own d;
-  outside = λ result own d. put_outside c id p bytes result own d;
+pub puts : {Step : Caller → ArenaId → Putting → List Entry → Putting → Type 0} → ArePuts Step → (c : Caller) (id : ArenaId) (bytes : List ℕ) (p : ℕ)
+    → IsCall c id (DoesPutBy Step c id p bytes)
+puts {Step} h c id bytes p = record {
+  refuses = λ e own d. going c id (λ es. PutsBy Step c id p bytes es false) e own d;
+  outside = λ result own d. put_outside c id Step (h.outside c id) p bytes result own d;
 }
 
 -- The value that was found, or why none.
@@ -172,9 +174,9 @@ pub after_put_at : (old new : View) (k : ValueKind) (o : Order) (id : ArenaId) (
     → After old new (DoesAt found (λ p. DoesPut old.caller id p (bytes_of_value o v))) Cause (λ u. Alone) (StaysOutOf old new id found) Known (λ u. ⊤) result
 after_put_at old new k o id v found Cause Known Alone result out causes known kind has there d =
     let bytes = bytes_of_value o v in
-    after_at old new id (λ p. DoesPut old.caller id p (bytes_of_value o v)) (λ u. Alone) (λ u. ⊤) found Cause Known result out causes (puts old.caller id bytes)
+    after_at old new id (λ p. DoesPut old.caller id p (bytes_of_value o v)) (λ u. Alone) (λ u. ⊤) found Cause Known result out causes (puts pieces_put old.caller id bytes)
     (record {
       alone = λ p u e d alone. there p e (puts_value old new k o id p v u kind has d alone);
-      shut = λ p e d alone. put_shut old new id p bytes (Err e) (AreBytes-value o v) d alone;
+      shut = λ p e d alone. put_shut pieces_put old new id p bytes (Err e) (AreBytes-value o v) d alone;
       kind = λ p u own d. tt;
     }) known d

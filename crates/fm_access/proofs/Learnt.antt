@@ -2,16 +2,18 @@
 use Rattle.std.proofs.Common.{◌≡◌, ℕ, ◌+◌, ◌*◌, ◌^◌, ◌<◌, ◌==◌, Bool, true, false, MatchBool, List, [], ◌∷◌, length, replicate, refl, sym, ap, subst, None, Result, Ok, Err, IfOk, IfErr, arith}
 use Rattle.std.proofs.lemmas.Bool.Decides.{nat_tests}
 use Rattle.std.specs.Prelude.{⊤}
-use Rattle.fm_access.proofs.Alone.{get_alone, get_shut, put_alone, put_shut, put_none}
+use Rattle.fm_access.proofs.Alone.{get_alone, get_shut, put_none}
 use Rattle.fm_access.proofs.Causes.{going, place_causes}
 use Rattle.fm_access.proofs.Filling.{AreBytes-replicate, no_fill, none_alone, some_fill}
 use Rattle.fm_access.proofs.Learning.{IsCall, puts, after_get_at, after_put_at, after_said, if_err}
 use Rattle.fm_access.proofs.Outside.{get_outside, put_outside}
+use Rattle.fm_access.proofs.PuttingAlone.{ArePuts, pieces_put, words_put, put_alone, put_shut}
 use Rattle.fm_access.proofs.Values.{got_fits}
 use Rattle.fm_access.specs.Alone.{ChangesBytes, StaysOut}
 use Rattle.fm_access.specs.Found.{UseCause}
-use Rattle.fm_access.specs.Learnt.{CanTouch, CanTouchNumber, AfterGet, AfterPut, AfterPutAll, AfterFill, AfterGetValue, AfterPutValue}
-use Rattle.fm_access.specs.Ranges.{DoesGet, ReadsRange, DoesPut, DoesPutAll}
+use Rattle.fm_access.specs.Learnt.{CanTouch, CanTouchNumber, After, KnowsArena, AfterGet, AfterPut, AfterPutAll, AfterFill, AfterGetValue, AfterPutValue}
+use Rattle.fm_access.specs.Ranges.{DoesGet, ReadsRange, Putting, DoesPut, DoesPutBy}
+use Rattle.fm_access.specs.Runs.{DoesPutAll, PutsMore}
 use Rattle.fm_access.specs.Values.{DoesGetValue, FindsValue, PutsValue}
 use Rattle.fm_base.proofs.Making.{Makes-none}
 use Rattle.fm_base.proofs.Outcomes.{Did-lasts}
@@ -77,24 +79,16 @@ nil [] h = refl
 nil (b ∷ bytes) h = absurd (omega arith)
 
 all_some : (c : Caller) (id : ArenaId) (place : ℕ) (bytes : List ℕ) (result : Result (Unit {0}) Refusal) (own : List Entry) → (length bytes == 0) ≡ false
-    → DoesPut c id place bytes result own → DoesPutAll c id place bytes result own
+    → DoesPutBy PutsMore c id place bytes result own → DoesPutAll c id place bytes result own
 all_some c id place bytes result own e d =
-    let P : Bool → Type 0 = λ b. MatchBool b ((result ≡ Ok tt) × (own ≡ [])) (DoesPut c id place bytes result own) in
+    let P : Bool → Type 0 = λ b. MatchBool b ((result ≡ Ok tt) × (own ≡ [])) (DoesPutBy PutsMore c id place bytes result own) in
     subst P (sym e) d
-
--- A put of all bytes, one or more, is a put of these bytes.
-pub some_put : (old new : View) (id : ArenaId) (place : ℕ) (bytes all : List ℕ) (result : Result (Unit {0}) Refusal) → bytes ≡ all → 0 < length all
-    → Did old new (DoesPutAll old.caller id place bytes result) → Did old new (DoesPut old.caller id place all result)
-some_put old new id place bytes all result same some d =
-    let e : (length all == 0) ≡ false = grind (arith, nat_tests) in
-    let P : Bool → Type 0 = λ b. MatchBool b ((result ≡ Ok tt) × (d.own ≡ [])) (DoesPut old.caller id place all result d.own) in
-    record { own = d.own; does = subst P e (rw same at d.does); makes = d.makes }
 
 all_none : (old : View) (id : ArenaId) (place : ℕ) (bytes : List ℕ) → (length bytes == 0) ≡ true → Did old old (DoesPutAll old.caller id place bytes (Ok tt))
 all_none old id place bytes e =
     let own : List Entry = [] in
     let result : Result (Unit {0}) Refusal = Ok tt in
-    let P : Bool → Type 0 = λ b. MatchBool b ((result ≡ Ok tt) × (own ≡ [])) (DoesPut old.caller id place bytes result own) in
+    let P : Bool → Type 0 = λ b. MatchBool b ((result ≡ Ok tt) × (own ≡ [])) (DoesPutBy PutsMore old.caller id place bytes result own) in
     let both : (result ≡ Ok tt) × (own ≡ []) = (refl, refl) in
     record { own = []; does = subst P (sym e) both; makes = Makes-none old }
 
@@ -103,22 +97,31 @@ pub trivial_kind : (result : Result (Unit {0}) Refusal) → IfOk result (λ u. �
 trivial_kind (Ok u) = tt
 trivial_kind (Err e) = tt
 
--- All that is learnt of a call that puts bytes.
-pub after_put : {old new : View} {id : ArenaId} {place : ℕ} {bytes : List ℕ} {result : Result (Unit {0}) Refusal} → old.inside ≡ None
-    → has_arena old.state id ≡ true → AreBytes bytes
-    → Did old new (DoesPut old.caller id place bytes result) → AfterPut old new id place bytes result
-after_put {old} {new} {id} {place} {bytes} {result} out has are d =
+-- All that is learnt of a call that puts bytes, whichever its steps are.
+after_put_by : {Step : Caller → ArenaId → Putting → List Entry → Putting → Type 0} → ArePuts Step → {old new : View} {id : ArenaId} {place : ℕ}
+    → {bytes : List ℕ} {result : Result (Unit {0}) Refusal} → old.inside ≡ None → has_arena old.state id ≡ true → AreBytes bytes
+    → Did old new (DoesPutBy Step old.caller id place bytes result)
+    → After old new (DoesPutBy Step old.caller id place bytes) (UseCause id old.caller) (λ u. ChangesBytes old new id place bytes) (StaysOut old new id)
+    (KnowsArena id) (λ u. ⊤) result
+after_put_by {Step} puts_them {old} {new} {id} {place} {bytes} {result} out has are d =
     let lasts = Did-lasts old new _ d in
     record {
       did = d;
-      refused = use_cause id old.caller (DoesPut old.caller id place bytes) result d.own (puts old.caller id bytes place) d.does;
-      alone = put_alone old new id place bytes result are has d;
-      shut = put_shut old new id place bytes result are d;
-      outside = stays_outside old new (DoesPut old.caller id place bytes result) (put_outside old.caller id place bytes result) out d;
+      refused = use_cause id old.caller (DoesPutBy Step old.caller id place bytes) result d.own (puts puts_them old.caller id bytes place) d.does;
+      alone = put_alone puts_them old new id place bytes result are has d;
+      shut = put_shut puts_them old new id place bytes result are d;
+      outside = stays_outside old new (DoesPutBy Step old.caller id place bytes result)
+          (put_outside old.caller id Step (puts_them.outside old.caller id) place bytes result) out d;
       lasts = lasts;
       known = lasts.known id has;
       kind = trivial_kind result;
     }
+
+-- The same piece by piece.
+pub after_put : {old new : View} {id : ArenaId} {place : ℕ} {bytes : List ℕ} {result : Result (Unit {0}) Refusal} → old.inside ≡ None
+    → has_arena old.state id ≡ true → AreBytes bytes
+    → Did old new (DoesPut old.caller id place bytes result) → AfterPut old new id place bytes result
+after_put out has are d = after_put_by pieces_put out has are d
 
 -- All that is learnt where there are no bytes to put.
 pub after_put_none : {old : View} {id : ArenaId} {place : ℕ} {bytes : List ℕ} → CanTouch old id place (length bytes) → length bytes ≡ 0
@@ -140,12 +143,12 @@ after_put_none {old} {id} {place} {bytes} can none =
 -- All that is learnt of `put_bytes`.
 pub after_put_all : {old new : View} {id : ArenaId} {place : ℕ} {bytes : List ℕ} {result : Result (Unit {0}) Refusal} → CanTouch old id place (length bytes)
     → 0 < length bytes → AreBytes bytes
-    → Did old new (DoesPut old.caller id place bytes result) → AfterPutAll old new id place bytes result
+    → Did old new (DoesPutBy PutsMore old.caller id place bytes result) → AfterPutAll old new id place bytes result
 after_put_all {old} {new} {id} {place} {bytes} {result} can some are d =
     let e : (length bytes == 0) ≡ false = grind (arith, nat_tests) in
     after_said (DoesPutAll old.caller id place bytes) (λ e. (0 < length bytes) × UseCause id old.caller e) (λ u. ChangesBytes old new id place bytes)
     (StaysOut old new id) (λ v. has_arena v.state id ≡ true) (λ u. ⊤) result
-    (after_put can.outside can.known are d)
+    (after_put_by words_put can.outside can.known are d)
     (λ own x. all_some old.caller id place bytes result own e x)
     (if_err (UseCause id old.caller) (λ e. (0 < length bytes) × UseCause id old.caller e) result (λ e x. (some, x))) (λ h x. x) (λ h x. x)
     ((Did-lasts old new _ d).known id can.known) (λ x. x)

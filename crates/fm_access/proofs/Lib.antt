@@ -9,8 +9,11 @@ pub mod Numbers
 pub mod Outside
 pub mod Patching
 pub mod Putting
+pub mod PuttingAlone
 pub mod Splicing
+pub mod Storing
 pub mod Touching
 pub mod Values
 pub mod Visits
 pub mod Within
+pub mod Writing

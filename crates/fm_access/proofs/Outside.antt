@@ -14,7 +14,7 @@ use Rattle.fm_lanes.specs.declared.value.Value.{Value}
 use Rattle.fm_lanes.specs.declared.value_kind.ValueKind.{ValueKind}
 use Rattle.fm_lanes.specs.Kind.{width_of}
 use Rattle.fm_access.specs.Found.{DoesAt}
-use Rattle.fm_access.specs.Ranges.{DoesRefuse, Reading, ReadsOn, EndsReading, DoesGet, Putting, PutsOn, EndsPutting, DoesPut}
+use Rattle.fm_access.specs.Ranges.{DoesRefuse, Reading, ReadsOn, EndsReading, DoesGet, Putting, putting, EndsPutting, DoesPutBy}
 use Rattle.fm_access.specs.Values.{DoesGetValue}
 
 -- the entries leave the caller outside
@@ -71,14 +71,16 @@ module _ (c : Caller) (id : ArenaId) where
   putting_ends x own true e = ap (inside_after None) e.1
   putting_ends x own false e = ap (inside_after None) e.1
 
-  putting_outside : (x : Putting) (own : List Entry) (done : Bool) → Run (PutsOn c id) (EndsPutting c id) x own done → EndsOutside own
-  putting_outside x own done run =
-      run_outside (PutsOn c id) (EndsPutting c id) (λ x es y s. ap (inside_after None) s.piece.visits
-      ∙ visit_ends_outside None c id s.piece.acts) putting_ends x own done run
+  module _ (Step : Caller → ArenaId → Putting → List Entry → Putting → Type 0)
+      (steps : (x y : Putting) (own : List Entry) → Step c id x own y → EndsOutside own) where
+    putting_outside : (x : Putting) (own : List Entry) (done : Bool) → Run (Step c id) (EndsPutting c id) x own done → EndsOutside own
+    putting_outside x own done run =
+        run_outside (Step c id) (EndsPutting c id) (λ x es y s. steps x y es s) putting_ends x own done run
 
-  -- Bytes that were put.
-  pub put_outside : (place : ℕ) (bytes : List ℕ) (result : Result (Unit {0}) Refusal) (own : List Entry) → DoesPut c id place bytes result own → EndsOutside own
-  put_outside place bytes (Ok u) own d = putting_outside (record { at = place; bytes = bytes }) own true d.1
-  put_outside place bytes (Err r) own d =
-      refused_outside c id (λ es. Run (PutsOn c id) (EndsPutting c id) (record { at = place; bytes = bytes }) es false) r own
-      (λ es run. putting_outside (record { at = place; bytes = bytes }) es false run) d
+    -- Bytes that were put.
+    pub put_outside : (place : ℕ) (bytes : List ℕ) (result : Result (Unit {0}) Refusal) (own : List Entry) → DoesPutBy Step c id place bytes result own
+        → EndsOutside own
+    put_outside place bytes (Ok u) own d = putting_outside (putting place bytes) own true d.1
+    put_outside place bytes (Err r) own d =
+        refused_outside c id (λ es. Run (Step c id) (EndsPutting c id) (putting place bytes) es false) r own
+        (λ es run. putting_outside (putting place bytes) es false run) d

@@ -23,7 +23,8 @@ use Rattle.fm_lanes.proofs.Turning.{AreBytes-reverse, turned_number, bytes_of-tu
 use Rattle.fm_access.specs.Alone.{bytes_of_arena, with_bytes}
 use Rattle.fm_access.specs.Ranges.{Reading, ReadsOn, EndsReading, ReadsRange, DoesGet, DoesPut}
 use Rattle.fm_access.specs.Values.{DoesGetValue, FindsValue, PutsValue, PutsThenGets}
-use Rattle.fm_access.proofs.Alone.{reads_alone, put_alone}
+use Rattle.fm_access.proofs.Alone.{reads_alone}
+use Rattle.fm_access.proofs.PuttingAlone.{pieces_put, put_alone}
 use Rattle.fm_access.proofs.Splicing.{takes_put}
 use Rattle.fm_access.proofs.Within.{put_within}
 
@@ -166,7 +167,7 @@ puts_value old new k o id place v u kind known d alone =
     let some : 0 < length (bytes_of_value o v) = (let bounds = width_of-bounds k in let least = bounds.0 in omega arith) in
     let within = put_within old new id place (bytes_of_value o v) u (AreBytes-value o v) d alone some in
     record {
-      bytes = put_alone old new id place (bytes_of_value o v) (Ok u) (AreBytes-value o v) known d alone;
+      bytes = put_alone pieces_put old new id place (bytes_of_value o v) (Ok u) (AreBytes-value o v) known d alone;
       within = omega arith;
     }
 

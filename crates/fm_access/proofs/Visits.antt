@@ -37,7 +37,7 @@ gone c (x ∷ xs) h =
     ap (λ b. cond (not b) (x ∷ filter (λ y. not (are_one y c)) xs) (filter (λ y. not (are_one y c)) xs)) other ∙ ap (λ (ys : List Caller). x ∷ ys) rest
 
 -- A visit leaves an arena as it was but for its words.
-around : (c : Caller) (words : List ℕ) (a : Arena) → ¬ (Contains a.under_way c) → left c (with_words words (entered c a)) ≡ with_words words a
+pub around : (c : Caller) (words : List ℕ) (a : Arena) → ¬ (Contains a.under_way c) → left c (with_words words (entered c a)) ≡ with_words words a
 around c words a h =
     ap (λ b. record a {
       words = words;

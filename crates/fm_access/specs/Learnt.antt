@@ -12,7 +12,8 @@ use Rattle.fm_lanes.specs.declared.value_kind.ValueKind.{ValueKind}
 use Rattle.fm_lanes.specs.Value.{kind_of}
 use Rattle.fm_access.specs.Alone.{FindsNumber, ChangesBytes, StaysOut}
 use Rattle.fm_access.specs.Found.{UseCause}
-use Rattle.fm_access.specs.Ranges.{DoesGet, DoesPut, DoesPutAll, DoesFill}
+use Rattle.fm_access.specs.Ranges.{DoesGet, DoesPut, DoesFill}
+use Rattle.fm_access.specs.Runs.{DoesPutAll}
 use Rattle.fm_access.specs.Values.{DoesGetValue, DoesPutValue, FindsValue, PutsValue}
 
 -- in no arena; the arena is known, and has given the bytes from the place on

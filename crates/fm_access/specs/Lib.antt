@@ -3,4 +3,5 @@ pub mod Found
 pub mod Learnt
 pub mod Pieces
 pub mod Ranges
+pub mod Runs
 pub mod Values

@@ -58,6 +58,9 @@ pub record Putting : Type 0 where
   pub at : ℕ
   pub bytes : List ℕ
 
+abbrev pub putting : ℕ → List ℕ → Putting
+putting at bytes = record { at = at; bytes = bytes }
+
 -- the width of the next piece
 abbrev pub next_width : Putting → ℕ
 next_width x = piece_width x.at (x.at + length x.bytes)
@@ -74,19 +77,21 @@ abbrev pub EndsPutting : Caller → ArenaId → Putting → List Entry → Bool 
 EndsPutting c id x own true = (x.bytes ≡ []) × (own ≡ [])
 EndsPutting c id x own false = (0 < length x.bytes) × (own ≡ refused_visit c id)
 
+-- these bytes, one or more, are put from the place on by steps of this kind
+module _ (Step : Caller → ArenaId → Putting → List Entry → Putting → Type 0) where
+  abbrev pub PutsBy : Caller → ArenaId → ℕ → List ℕ → List Entry → Bool → Type 0
+  PutsBy c id place bytes own done = Run (Step c id) (EndsPutting c id) (putting place bytes) own done
+
+  abbrev pub DoesPutBy : Caller → ArenaId → ℕ → List ℕ → Result (Unit {0}) Refusal → List Entry → Type 0
+  DoesPutBy c id place bytes (Ok u) own = MayUse id c × PutsBy c id place bytes own true
+  DoesPutBy c id place bytes (Err r) own = DoesRefuse c id (λ es. PutsBy c id place bytes es false) r own
+
+-- piece by piece
 abbrev pub PutsRange : Caller → ArenaId → ℕ → List ℕ → List Entry → Bool → Type 0
-PutsRange c id place bytes own done =
-    Run (PutsOn c id) (EndsPutting c id) (record { at = place; bytes = bytes }) own done
+PutsRange = PutsBy PutsOn
 
--- these bytes, one or more, are put from the place on
 abbrev pub DoesPut : Caller → ArenaId → ℕ → List ℕ → Result (Unit {0}) Refusal → List Entry → Type 0
-DoesPut c id place bytes (Ok u) own = MayUse id c × PutsRange c id place bytes own true
-DoesPut c id place bytes (Err r) own = DoesRefuse c id (λ es. PutsRange c id place bytes es false) r own
-
--- the same for a list that may be empty
-abbrev pub DoesPutAll : Caller → ArenaId → ℕ → List ℕ → Result (Unit {0}) Refusal → List Entry → Type 0
-DoesPutAll c id place bytes result own =
-    MatchBool (length bytes == 0) ((result ≡ Ok tt) × (own ≡ [])) (DoesPut c id place bytes result own)
+DoesPut = DoesPutBy PutsOn
 
 -- this byte is put at each place of the range, which may be empty
 abbrev pub DoesFill : Caller → ArenaId → ℕ → ℕ → ℕ → Result (Unit {0}) Refusal → List Entry → Type 0

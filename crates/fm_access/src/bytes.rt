@@ -1,15 +1,19 @@
-ghost use Rattle.std.specs.Prelude.{length};
-ghost use Rattle.fm_access.specs.Learnt.{CanTouch, AfterPutAll};
+ghost use Rattle.std.specs.Prelude.{◌<◌, ◌≤◌, length, IfOk};
+ghost use Rattle.fm_access.specs.Learnt.{CanTouch, AfterPutAll, Visited};
+ghost use Rattle.fm_access.specs.Ranges.{putting};
+ghost use Rattle.fm_access.specs.Runs.{DoesPutNext};
 
 use crate::piece::{piece_width, put_piece};
+use crate::words::put_words;
 use byteorder::{ByteOrder, LittleEndian};
 use fm_base::{ArenaId, Memory, Refusal};
 use std::sync::Wait;
 
 /// Puts `bytes` from `place` on. Other bytes stay.
 ///
+/// All whole words are put in one visit, what lies before and behind them piece by piece.
 /// Refused, in this order: `WrongThread`, `Closed`; where there are none it makes no visit and isn't refused.
-/// Where a later piece is refused, the pieces before it stay put.
+/// Where a later visit is refused, what was put before it stays put.
 pub fn put_bytes<R: Wait, M: Memory>(
     rt: &R,
     m: &mut M,
@@ -23,13 +27,42 @@ pub fn put_bytes<R: Wait, M: Memory>(
     if bytes.is_empty() {
         return Ok(());
     }
-    let end = place + bytes.len() as u64;
-    let mut at = place;
-    while at < end {
-        let width = piece_width(at, end);
-        let part = LittleEndian::read_uint(&bytes[(at - place) as usize..], width as usize);
-        put_piece(rt, m, arena, at, width, part)?;
-        at += u64::from(width);
+    let mut put = 0;
+    while put < bytes.len() {
+        put += put_next(rt, m, arena, place + put as u64, &bytes[put..])?;
     }
     Ok(())
+}
+
+/// Puts the next bytes in one visit: from a word's start on all whole words, else a piece. Answers how many.
+fn put_next<R: Wait, M: Memory>(
+    rt: &R,
+    m: &mut M,
+    arena: ArenaId,
+    at: u64,
+    bytes: &[u8],
+) -> Result<usize, Refusal>
+    requires touch { CanTouch (M.view m.old) arena at (length bytes.now) }
+    requires some { 0 < length bytes.now }
+    ensures did { Visited (M.view m.old) (M.view m.new)
+        (DoesPutNext (M.view m.old).caller arena (putting at bytes.now) result) }
+    ensures some { IfOk result (λ n. 0 < n) }
+    ensures within { IfOk result (λ n. n ≤ length bytes.now) }
+{
+    let words = bytes.len() / 8;
+    if at % 8 == 0 && words > 0 {
+        put_words(m, arena, at, words, bytes)?;
+        Ok(8 * words)
+    } else {
+        let width = piece_width(at, at + bytes.len() as u64);
+        put_piece(
+            rt,
+            m,
+            arena,
+            at,
+            width,
+            LittleEndian::read_uint(bytes, width as usize),
+        )?;
+        Ok(width as usize)
+    }
 }

@@ -1,5 +1,5 @@
 //! Accesses to a range of bytes of an arena, piece by piece: a piece is a longest run of bytes in one word, and each is
-//! read or put in a visit of its own, the lowest place first.
+//! read or put in a visit of its own, the lowest place first. Many bytes are put with all their whole words in one visit.
 #![tactic(auto)]
 
 mod bytes;
@@ -7,8 +7,10 @@ mod caller;
 mod laws;
 mod number;
 mod piece;
+mod pieces;
 mod range;
 mod value;
+mod words;
 
 pub use bytes::put_bytes;
 pub use caller::may_use;

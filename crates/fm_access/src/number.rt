@@ -4,8 +4,8 @@ ghost use Rattle.fm_bytes.specs.Bytes.{bytes_of};
 ghost use Rattle.fm_access.specs.Learnt.{CanTouchNumber, AfterGet, AfterPut};
 ghost use Rattle.fm_access.specs.Ranges.{DoesGet, DoesPut};
 
-use crate::bytes::put_bytes;
 use crate::piece::{get_piece, piece_width, put_piece};
+use crate::pieces::put_pieces;
 use fm_base::{ArenaId, Memory, Refusal};
 use fm_lanes::read;
 use std::sync::Wait;
@@ -83,5 +83,5 @@ fn put_across<R: Wait, M: Memory>(
     ensures { Did (M.view m.old) (M.view m.new)
         (DoesPut (M.view m.old).caller arena place (bytes_of width number) result) }
 {
-    put_bytes(rt, m, arena, place, &number.to_le_bytes()[..width as usize])
+    put_pieces(rt, m, arena, place, &number.to_le_bytes()[..width as usize])
 }

@@ -18,7 +18,7 @@ use Rattle.fm_bytes.proofs.Words.{length-bytes_in}
 use Rattle.fm_access.specs.Alone.{bytes_of_arena, with_bytes, with_words}
 use Rattle.fm_access.specs.Pieces.{ReadsPiece}
 use Rattle.fm_access.proofs.Alone.{RunPuts, puts_none, with_words_there, other_words}
-use Rattle.fm_access.proofs.Putting.{putting}
+use Rattle.fm_access.specs.Ranges.{putting}
 use Rattle.fm_access.proofs.Splicing.{keeps_elsewhere}
 use Rattle.fm_access.proofs.Visits.{alive_by, visit_reads, visit_puts}
 use Rattle.fm_copies.specs.declared.side.Side.{Side}

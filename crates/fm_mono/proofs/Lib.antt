@@ -1,3 +1,4 @@
+pub mod Inside
 pub mod Showing
 pub mod Alone
 pub mod Steps

@@ -6,9 +6,8 @@ use Rattle.fm_base.specs.Calls.{Open, Fine, entry_of}
 use Rattle.fm_base.specs.View.{Makes}
 use Rattle.fm_base.specs.Machine.{words_within, opened}
 use Rattle.fm_mono.specs.declared.arena.MonoArena.{MonoArena}
-use Rattle.fm_mono.specs.Shown.{shown, shown_all, CountFrom, IsSoundMono, FitsIn, most_arenas, view_of}
+use Rattle.fm_mono.specs.Shown.{shown, shown_all, CountFrom, IsSoundMono, FitsIn, most_arenas, seen_of, view_of}
 use Rattle.fm_mono.proofs.Alone.{makes_one}
-use Rattle.fm_mono.proofs.Showing.{seen_of}
 use Rattle.fm_base.proofs.Names.{same_id-slot}
 
 pub shown_push : (limit : ℕ) (i : Option ArenaId) (os : List MonoArena) (o : MonoArena)

@@ -7,10 +7,11 @@ use Rattle.fm_base.specs.declared.arena_id.ArenaId.{ArenaId}
 use Rattle.fm_base.specs.Arenas.{owner_of, only_caller, State, Arena, Alive, Ended, arena_of, has_arena, changed, IsUnderWay}
 use Rattle.fm_base.specs.Machine.{entered, left, written, words_within, MayReach}
 use Rattle.fm_mono.specs.declared.arena.MonoArena.{MonoArena}
-use Rattle.fm_mono.specs.Shown.{view_of, shown, shown_all, CountFrom, IsSoundMono, IsKept, IsThere, FitsIn, filled, GoesOut}
+use Rattle.fm_mono.specs.Shown.{view_of, seen_of, inside_of, shown, shown_all, CountFrom, IsSoundMono, IsKept, IsThere, FitsIn, filled, GoesOut}
 use Rattle.fm_base.specs.Does.{CanReach}
 use Rattle.fm_base.proofs.Names.{same_id-self}
-use Rattle.fm_mono.proofs.Showing.{seen_of, slot_at, lookup_shown, place_of, change_shown, CountFrom-set, enter_shown, leave_shown, nobody}
+use Rattle.fm_mono.proofs.Inside.{inside_of-set}
+use Rattle.fm_mono.proofs.Showing.{slot_at, lookup_shown, place_of, change_shown, CountFrom-set, enter_shown, leave_shown, nobody}
 
 -- a word of the arena that was entered
 pub record AtWord (limit : ℕ) (inside : Option ArenaId) (os : List MonoArena) (a : ArenaId) (word : ℕ) (o : MonoArena) : Type 0 where
@@ -126,11 +127,15 @@ sound_set limit inside os k o o' s h id alive fit = record {
 }
 
 -- a word is put in the arena that was entered
-pub put_kept : (limit : ℕ) (inside : Option ArenaId) (current : ℕ) (os : List MonoArena) (word v : ℕ) (o o' : MonoArena) → IsKept limit inside current os
-    → (h : IsActed limit inside current os word o)
+pub put_kept : (limit : ℕ) (b : Bool) (current : ℕ) (os : List MonoArena) (word v : ℕ) (o o' : MonoArena) → IsKept limit (inside_of b current os) current os
+    → (h : IsActed limit (inside_of b current os) current os word o)
     → o'.id ≡ o.id → o'.is_alive ≡ o.is_alive → o'.given ≡ o.given → o'.words.items ≡ set o.words.items word v
-    → (shown_all limit inside (set os current o') ≡ changed (shown_all limit inside os) h.id (written word v)) × IsKept limit inside current (set os current o')
-put_kept limit inside current os word v o o' k h id alive given words =
+    → (seen_of limit (inside_of b current (set os current o')) (set os current o') ≡ record {
+      limit = limit;
+      state = changed (shown_all limit (inside_of b current os) os) h.id (written word v);
+      inside = inside_of b current os;
+    }) × IsKept limit (inside_of b current (set os current o')) current (set os current o')
+put_kept limit b current os word v o o' k h id alive given words =
     let f = k.arenas.fit h.id.slot o h.at.place in
     let same : length o'.words.items ≡ length o.words.items = ap length words ∙ length-set o.words.items word v in
     let fit : FitsIn limit o' = record {
@@ -138,10 +143,15 @@ put_kept limit inside current os word v o o' k h id alive given words =
       words = λ l. same ∙ f.words h.at.alive ∙ ap words_within (sym given);
       freed = λ l. absurd (cc (l, alive, h.at.alive));
     } in
-    let kept : IsSoundMono limit inside (set os h.id.slot o') = sound_set limit inside os h.id.slot o o' k.arenas h.at.place id alive fit in
-    rw h.is_current (
-      put_shown limit inside os h.id word v o o' k.arenas h.at id alive given words,
-      record { arenas = kept; place = rw (← h.is_current) k.place },
+    let kept : IsSoundMono limit (inside_of b current os) (set os h.id.slot o') =
+    sound_set limit (inside_of b current os) os h.id.slot o o' k.arenas h.at.place id alive fit in
+    let at : slice_get os current ≡ Some o = subst (λ (n : ℕ). slice_get os n ≡ Some o) (sym h.is_current) h.at.place in
+    let shown : shown_all limit (inside_of b current os) (set os current o') ≡ changed (shown_all limit (inside_of b current os) os) h.id (written word v) =
+    subst (λ (n : ℕ). shown_all limit (inside_of b current os) (set os n o') ≡ changed (shown_all limit (inside_of b current os) os) h.id (written word v))
+    (sym h.is_current) (put_shown limit (inside_of b current os) os h.id word v o o' k.arenas h.at id alive given words) in
+    rw (inside_of-set b current current os o o' at id) (
+      ap (λ (s : State). record { limit = limit; state = s; inside = inside_of b current os }) shown,
+      record { arenas = subst (λ (n : ℕ). IsSoundMono limit (inside_of b current os) (set os n o')) (sym h.is_current) kept; place = k.place },
     )
 
 -- the place of an arena that is known

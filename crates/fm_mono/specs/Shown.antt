@@ -1,11 +1,12 @@
 -- What contracts see of a `Mono`, and the machine's arena that each of its arenas is.
-use Rattle.std.specs.Prelude.{◌≡◌, ℕ, ◌+◌, ◌-◌, ◌^◌, ◌≤◌, Bool, true, false, if◌then◌else◌, List, [], ◌∷◌, ◌++◌, Option, Some, None, length, replicate, slice_get, Result, Ok, Err, vec_capacity}
+use Rattle.std.specs.Prelude.{◌≡◌, ℕ, zero, suc, ◌+◌, ◌-◌, ◌^◌, ◌≤◌, Bool, true, false, if◌then◌else◌, List, [], ◌∷◌, ◌++◌, Option, Some, None, length, replicate, slice_get, Result, Ok, Err, vec_capacity}
 use Rattle.fm_base.specs.declared.arena_id.ArenaId.{ArenaId}
+use Rattle.fm_base.specs.declared.kind.Kind.TheVariants.{Global}
 use Rattle.fm_base.specs.declared.refusal.Refusal.{Refusal}
 use Rattle.fm_base.specs.declared.refusal.Refusal.TheVariants as refusal
-use Rattle.fm_base.specs.Arenas.{owner_of, only_caller, State, Arena, Alive, Ended, same_id, has_arena, changed, word_in, IsUnderWay}
+use Rattle.fm_base.specs.Arenas.{owner_of, only_caller, State, Arena, Alive, Ended, MayUse, same_id, arena_of, has_arena, changed, word_in, IsUnderWay}
 use Rattle.fm_base.specs.Calls.{Allocate, Given, NoRoom}
-use Rattle.fm_base.specs.Machine.{words_within, reply_to, given_up_to, written, left, MayReach, MayPut}
+use Rattle.fm_base.specs.Machine.{words_within, reply_to, given_up_to, written, left, IsUnderWayNowhere, MayReach, MayPut}
 use Rattle.fm_base.specs.View.{View}
 use Rattle.fm_base.specs.Outcomes.{Nature}
 use Rattle.fm_mono.specs.declared.arena.MonoArena.{MonoArena}
@@ -53,6 +54,21 @@ abbrev pub shown_all : ℕ → Option ArenaId → List MonoArena → State
 shown_all limit inside [] = []
 shown_all limit inside (o ∷ os) = shown limit inside o ∷ shown_all limit inside os
 
+-- the arenas that are seen
+abbrev pub seen_of : ℕ → Option ArenaId → List MonoArena → Arenas
+seen_of limit inside os = record { limit = limit; state = shown_all limit inside os; inside = inside }
+
+-- the name of the arena at a place; of no arena where none is there
+abbrev pub name_at : ℕ → List MonoArena → ArenaId
+name_at place [] = record { slot = 0; generation = 0; kind = Global; owner = 0; term = 0 }
+name_at zero (o ∷ os) = o.id
+name_at (suc place) (o ∷ os) = name_at place os
+
+-- the arena at the place, if one was entered
+abbrev pub inside_of : Bool → ℕ → List MonoArena → Option ArenaId
+inside_of false place os = None
+inside_of true place os = Some (name_at place os)
+
 -- ---- what the fields keep
 
 -- the slots count the places
@@ -92,6 +108,14 @@ pub record IsKept (limit : ℕ) (inside : Option ArenaId) (current : ℕ) (os : 
 
 abbrev pub IsKnown : Arenas → ArenaId → Type 0
 IsKnown m id = has_arena m.state id ≡ true
+
+-- where a call may come into an arena
+pub record CanEnter (m : Arenas) (id : ArenaId) : Type 0 where
+  pub outside : m.inside ≡ None
+  pub known : IsKnown m id
+  pub may : MayUse id only_caller
+  pub nowhere : IsUnderWayNowhere m.state only_caller
+  pub empty : (arena_of m.state id).under_way ≡ []
 
 -- the word of the arena that was entered
 pub record Finds (m : Arenas) (word found : ℕ) : Type 0 where

@@ -15,24 +15,24 @@ use std::marker::Model;
 ///
 /// It is the only caller, number 0 of term 0, and waits for nobody. An arena's slot is its place in the order of
 /// opening, so a name never comes twice; an arena that was closed has given its words back.
-/// The arena that was entered stands at the place `current`: acts look at no name.
+/// The arena that was entered stands at the place `current`, so that acts look at no name and visits keep none.
 #[derive(Drop)]
 pub struct Mono {
     alloc: Global,
     limit: u64,
     arenas: Vec<MonoArena>,
-    inside: Option<ArenaId>,
+    is_inside: bool,
     current: usize,
 }
 
 impl Model for Mono {
-    ghost use Rattle.fm_mono.specs.Shown.{Arenas, shown_all, IsKept};
+    ghost use Rattle.fm_mono.specs.Shown.{Arenas, IsKept, inside_of, seen_of};
 
     ghost Value = { Arenas };
 
-    ghost view = { λ m. record { limit = m.limit; state = shown_all m.limit m.inside m.arenas.items; inside = m.inside } };
+    ghost view = { λ m. seen_of m.limit (inside_of m.is_inside m.current m.arenas.items) m.arenas.items };
 
-    ghost invariant = { λ m. IsKept m.limit m.inside m.current m.arenas.items };
+    ghost invariant = { λ m. IsKept m.limit (inside_of m.is_inside m.current m.arenas.items) m.current m.arenas.items };
 }
 
 impl Mono {
@@ -45,18 +45,19 @@ impl Mono {
             alloc,
             limit,
             arenas: Vec::new(alloc),
-            inside: None,
+            is_inside: false,
             current: 0,
         }
     }
 }
 
 impl Mono {
-    ghost use Rattle.std.specs.Prelude.{◌≡◌, ◌≤◌, ◌^◌, [], true, Some, None, IsSome, if◌then◌else◌};
-    ghost use Rattle.fm_base.specs.Arenas.{owner_of, only_caller, Alive, Ended, has_arena, arena_of, changed};
+    ghost use Rattle.std.specs.Prelude.{◌≡◌, ◌≤◌, ◌^◌, true, Some, None, IsSome, if◌then◌else◌};
+    ghost use Rattle.fm_base.specs.Arenas.{only_caller, Alive, Ended, has_arena, arena_of, changed};
     ghost use Rattle.fm_base.specs.Does.{CanReach};
-    ghost use Rattle.fm_base.specs.Machine.{entered, IsUnderWayNowhere};
-    ghost use Rattle.fm_mono.specs.Shown.{view_of, Finds, Puts, GoesOut};
+    ghost use Rattle.fm_base.specs.Learnt.{CanVisit};
+    ghost use Rattle.fm_base.specs.Machine.{entered};
+    ghost use Rattle.fm_mono.specs.Shown.{view_of, CanEnter, Finds, Puts, GoesOut};
 
     /// The word of this index.
     fn word(&self, word: u64) -> u64
@@ -75,11 +76,9 @@ impl Mono {
     }
 
     fn is_alive(&self, a: ArenaId) -> bool
-        requires { has_arena self.now.state a ≡ true }
+        requires { CanVisit (view_of self.now) a }
         ensures life { (arena_of self.now.state a).life ≡ (if result then Alive else Ended) }
-        ensures owner { owner_of a ≡ only_caller }
-        ensures empty { self.now.inside ≡ None → (arena_of self.now.state a).under_way ≡ [] }
-        ensures nowhere { self.now.inside ≡ None → IsUnderWayNowhere self.now.state only_caller }
+        ensures can { CanEnter self.now a }
         ensures small { self.now.limit ≤ 2 ^ 40 }
     {
         self.arenas[a.slot as usize].is_alive
@@ -92,13 +91,13 @@ impl Mono {
         ensures { self.new ≡ record self.old { state = changed self.old.state a (entered only_caller); inside = Some a } }
     {
         self.current = a.slot as usize;
-        self.inside = Some(a);
+        self.is_inside = true;
     }
 
     fn go_out(&mut self)
         requires { IsSome self.old.inside }
         ensures { GoesOut self.old self.new }
     {
-        self.inside = None;
+        self.is_inside = false;
     }
 }

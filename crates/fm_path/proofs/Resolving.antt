@@ -1,12 +1,12 @@
 -- What the pass over a path comes to is what a resolved path is.
-use Rattle.std.proofs.Common.{◌≡◌, ap, ℕ, ◌%◌, List, arith}
+use Rattle.std.proofs.Common.{◌≡◌, ap, ◌∙◌, ℕ, ◌%◌, List, arith}
 use Rattle.std.specs.Int.{IsPowerOfTwo}
 use Rattle.fm_lanes.specs.Kind.{width_of}
 use Rattle.fm_layout.specs.Tree.{Tree, Value, Padding, Sequence, Struct, Union, alignment_of}
 use Rattle.fm_layout.specs.Size.{size_of}
 use Rattle.fm_layout.specs.WellFormed.{IsWellFormed}
 use Rattle.fm_layout.proofs.Powers.{is_power_of_two-IsPowerOfTwo}
-use Rattle.fm_layout.proofs.Sound.{fit_of, positive_alignment}
+use Rattle.fm_layout.proofs.Sound.{fit_of}
 use Rattle.fm_path_text.specs.declared.step.PathStep.{PathStep}
 use Rattle.fm_path_meaning.specs.declared.dim.Dim.{Dim}
 use Rattle.fm_path_meaning.specs.Found.{LeadsTo}
@@ -45,7 +45,7 @@ stays_inside path t offset dims u v n a well l s e d = record {
   steady = λ is h. leads_steady path t offset dims u well l is h;
   inside = λ is h. omega (arith, leads_inside path t offset dims u well l is h, spec_size u v s, e);
   small = omega (arith, e, (fit_of t well).size);
-  root_alignment = omega (arith, d, positive_alignment t well);
+  power = (let p = (fit_of t well).power in (p.0, d ∙ p.1));
 }
 
 -- what the pass comes to is the resolved path

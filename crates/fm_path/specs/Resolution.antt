@@ -1,6 +1,6 @@
 -- What a resolved path is seen as.
 use Rattle.std.specs.Prelude.{◌≡◌, ℕ, ◌+◌, ◌%◌, ◌^◌, ◌≤◌, true, List, Ok}
-use Rattle.std.specs.Int.{is_power_of_two}
+use Rattle.std.specs.Int.{IsPowerOfTwo, is_power_of_two}
 use Rattle.fm_lanes.specs.Kind.{width_of}
 use Rattle.fm_layout.specs.Tree.{Tree, Value, alignment_of}
 use Rattle.fm_layout.specs.Size.{size_of}
@@ -41,7 +41,7 @@ pub record StaysInside (r : Resolution) : Type 0 where
   pub inside : (is : List ℕ) → AreAdmitted r.dims is → offset_at r.offset r.dims is + width_of r.value.kind ≤ r.root_size
   pub aligned : (is : List ℕ) → AreAdmitted r.dims is → StandsAligned (offset_at r.offset r.dims is) r.value.alignment r.root_alignment
   pub small : r.root_size ≤ 2 ^ 40
-  pub root_alignment : 1 ≤ r.root_alignment
+  pub power : IsPowerOfTwo r.root_alignment
 
 -- this is the value layout's kind, order and alignment
 abbrev pub IsSpecOf : Tree → ValueSpec → Type 0

@@ -1,4 +1,5 @@
 ghost use Rattle.std.specs.Prelude.{◌≡◌, length, IfOk, IfErr, ℕ, ◌^◌, ◌<◌, ◌≤◌};
+ghost use Rattle.std.specs.Int.{IsPowerOfTwo};
 ghost use Rattle.fm_path_meaning.specs.Found.{IsFirstOut};
 ghost use Rattle.fm_path_meaning.specs.Walk.{AreAdmitted, offset_at, reach};
 ghost use Rattle.fm_path_meaning.specs.Steady.{IsInside};
@@ -82,7 +83,8 @@ impl Resolved {
     }
 
     pub fn root_alignment(&self) -> u64
-        ensures { result ≡ self.now.root_alignment }
+        ensures alignment { result ≡ self.now.root_alignment }
+        ensures power { IsPowerOfTwo result }
     {
         self.root_alignment
     }

@@ -3,7 +3,6 @@ use Rattle.std.proofs.Common.{◌≡◌, ℕ, Result, Ok, Err, List, [], ◌∷�
 use Rattle.std.specs.Prelude.{ℤ, ◌+ℤ◌, pos}
 use Rattle.std.proofs.lemmas.Int.{ints}
 use Rattle.std.proofs.lemmas.List.{append-nil}
-use Rattle.fm_base.specs.declared.caller.Caller.{Caller}
 use Rattle.fm_base.specs.declared.refusal.Refusal.{Refusal}
 use Rattle.fm_base.specs.declared.refusal.Refusal.TheVariants.{Closed, Memory}
 use Rattle.fm_base.specs.Calls.{Entry}
@@ -15,17 +14,16 @@ use Rattle.fm_query.specs.declared.fold.Fold.{Fold}
 use Rattle.fm_query.specs.declared.fold.Fold.TheVariants as fold
 use Rattle.fm_query.specs.declared.item.Asked.{Asked}
 use Rattle.fm_query.specs.declared.item.Asked.TheVariants as asked
-use Rattle.fm_query.specs.declared.item.Item.{Item}
 use Rattle.fm_records.specs.declared.found.Found.{Found}
 use Rattle.fm_records.specs.declared.found.Found.TheVariants.{Count, Sum, Least, Greatest, Listed}
 use Rattle.fm_records.specs.Answers.{folded, lesser, greater, sum_of, least_of, greatest_of}
 use Rattle.fm_records.specs.Joined.{both, joined}
-use Rattle.fm_records.specs.Adds.{AddsItem, AddsItems, AddsNumbers, StopsAdding, StopsAddingItem, StopsAddingItems, with_numbers}
-use Rattle.fm_records.specs.Reads.{AreReads, DoesStop, DoesRead, no_item, one_item, ReadsNumbers, no_more, value_places}
-use Rattle.fm_records.specs.Stops.{StopsNumbers, StopsItems, at_item, next_item}
+use Rattle.fm_records.specs.Adds.{AddsItem, AddsNumbers, StopsAdding, StopsAddingItem, with_numbers}
+use Rattle.fm_records.specs.Reads.{DoesStop, DoesRead, ReadsNumbers, no_more, value_places}
+use Rattle.fm_records.specs.Stops.{StopsNumbers}
 use Rattle.fm_records.specs.Texts.{IsFolded, IsFoundOf}
 use Rattle.fm_records.proofs.Ends.{lesser-lesser, greater-greater}
-use Rattle.fm_records.proofs.Visiting.{none_so_far, first_so_far, more, ended, stopped}
+use Rattle.fm_records.proofs.Visiting.{none_so_far, ended}
 
 -- ---- one item
 
@@ -128,53 +126,3 @@ item_counted old s place a g h is e =
 pub joined-none : (fs : List Found) → joined fs [] ≡ fs
 joined-none [] = refl
 joined-none (f ∷ fs) = refl
-
--- none is left
-pub no_items : (old : View) (s : Region) (place : ℕ) (items : List Item) (fs : List Found) → items ≡ []
-    → Did old old (DoesRead old.caller s (λ (u : Unit {0}) es. AddsItems old.caller s.arena place items fs fs es)
-    (StopsAddingItems old.caller s.arena place items fs fs) (Ok tt))
-no_items old s place items fs e =
-    ended (λ (es : List Entry). AddsItems old.caller s.arena place items fs fs es) (none_so_far old s)
-    (subst (λ (is : List Item). AddsItems old.caller s.arena place is fs fs []) (sym e) (record { found = []; finds = no_item; added = sym (joined-none fs) }))
-
-module _ (s : Region) (place : ℕ) {x : Item} {xs : List Item} {f : Found} {fs : List Found} (items : List Item) (old_found : List Found) (is : items ≡ x ∷ xs)
-    (are : old_found ≡ f ∷ fs) where
-  -- the first stops
-  pub item_stops : {old now : View} {g : Found} {new : List Found} (r : Refusal) → new ≡ g ∷ fs
-      → Did old now (DoesStop old.caller s (StopsAddingItem old.caller s.arena place x.asked f g) r)
-      → Did old now (DoesStop old.caller s (StopsAddingItems old.caller s.arena place items old_found new) r)
-  item_stops {old} {now} {g} {new} r e d =
-      stopped r (λ (c : Caller). StopsAddingItem c s.arena place x.asked f g) (StopsAddingItems old.caller s.arena place items old_found new)
-      (none_so_far old s)
-      (λ es h. record {
-        found = h.found ∷ [];
-        stops = subst (λ (ys : List Item). StopsItems old.caller s.arena place ys r es (h.found ∷ [])) (sym is) (at_item h.found es h.stops);
-        added = e ∙ ap (λ y. y ∷ fs) h.added ∙ ap (λ ys. both f h.found ∷ ys) (sym (joined-none fs)) ∙ ap (λ ys. joined ys (h.found ∷ [])) (sym are);
-      }) d
-
-  -- the first is added, and the others are gone through
-  pub item_added : {old now next : View} {g : Found} {gs new : List Found} (result : Result (Unit {0}) Refusal) → new ≡ g ∷ gs
-      → Did old now (λ es. AreReads old.caller s es × AddsItem old.caller s.arena place x.asked f g es)
-      → Did now next (DoesRead now.caller s (λ (v : Unit {0}) es. AddsItems now.caller s.arena place xs fs gs es)
-      (StopsAddingItems now.caller s.arena place xs fs gs) result)
-      → Did old next (DoesRead old.caller s (λ (v : Unit {0}) es. AddsItems old.caller s.arena place items old_found new es)
-      (StopsAddingItems old.caller s.arena place items old_found new) result)
-  item_added {old} {now} {next} {g} {gs} {new} (Ok v) e t d =
-      let m = more (λ (c : Caller) (es : List Entry). AddsItems c s.arena place xs fs gs es) (first_so_far t) d in
-      let a = t.does.1 in
-      let b = m.does in
-      ended (λ (es : List Entry). AddsItems old.caller s.arena place items old_found new es) m.so_far
-      (subst (λ (ys : List Item). AddsItems old.caller s.arena place ys old_found new (t.own ++ d.own)) (sym is) (record {
-        found = a.found ∷ b.found;
-        finds = one_item a.found b.found t.own d.own a.finds b.finds;
-        added = e ∙ ap (λ y. y ∷ gs) a.added ∙ ap (λ ys. both f a.found ∷ ys) b.added ∙ ap (λ ys. joined ys (a.found ∷ b.found)) (sym are);
-      }))
-  item_added {old} {now} {next} {g} {gs} {new} (Err r) e t d =
-      let a = t.does.1 in
-      stopped r (λ (c : Caller). StopsAddingItems c s.arena place xs fs gs) (StopsAddingItems old.caller s.arena place items old_found new) (first_so_far t)
-      (λ es h. record {
-        found = a.found ∷ h.found;
-        stops = subst (λ (ys : List Item). StopsItems old.caller s.arena place ys r (t.own ++ es) (a.found ∷ h.found)) (sym is)
-            (next_item a.found h.found t.own es a.finds h.stops);
-        added = e ∙ ap (λ y. y ∷ gs) a.added ∙ ap (λ ys. both f a.found ∷ ys) h.added ∙ ap (λ ys. joined ys (a.found ∷ h.found)) (sym are);
-      }) d

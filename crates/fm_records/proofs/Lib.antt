@@ -6,6 +6,7 @@ pub mod Ends
 pub mod Few
 pub mod Indices
 pub mod Items
+pub mod ItemsLoop
 pub mod Joining
 pub mod Learning
 pub mod Lines

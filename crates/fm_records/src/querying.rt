@@ -117,20 +117,13 @@ pub(crate) fn add_items<M: Memory>(
         (λ _ own. AddsItems (M.view m.old).caller s.now.arena place items.now found.old found.new own)
         (StopsAddingItems (M.view m.old).caller s.now.arena place items.now found.old found.new) result) }
 {
-    let [item, items @ ..] = items else {
-        return Ok(());
-    };
-    let Some((one, rest)) = found.split_first_mut() else {
-        return Ok(());
-    };
-    match add_item(m, s, place, &item.asked, one) {
-        Ok(()) => {}
-        Err(refusal) => return Err(refusal),
+    for k in 0..items.len() {
+        match add_item(m, s, place, &items[k].asked, &mut found[k]) {
+            Ok(()) => {}
+            Err(refusal) => return Err(refusal),
+        }
     }
-    if items.is_empty() {
-        return Ok(());
-    }
-    add_items(m, s, place, items, rest)
+    Ok(())
 }
 
 /// Adds what an item finds in a chosen record.

@@ -12,9 +12,10 @@ use Rattle.fm_records.specs.Answers.{answer}
 use Rattle.fm_records.specs.Texts.{answer_text}
 use Rattle.fm_top.specs.Causes.{IsAsked, IsLong, IsUneven}
 use Rattle.fm_top.specs.Keeps.{Keeps}
-use Rattle.fm_top.specs.Outcome.{Outcome, of_records, sum_outcome, sum_text, layout_outcome, listing, layout_file_limit, missing, too_long, answered, ragged, record_file_limit}
+use Rattle.fm_load.specs.Limits.{record_file_limit}
+use Rattle.fm_top.specs.Outcome.{Outcome, of_records, sum_outcome, sum_text, layout_outcome, listing, layout_file_limit, missing, too_long, answered, ragged}
 use Rattle.fm_top.specs.Queries.{IsRecordLayout, IsLayoutRefused, IsTextRefused, TextEnds, text_refused, answered_by, LayoutEnds, over_limit, no_layout, over_layout, QueryText, QueryEnds, answer_outcome}
-use Rattle.fm_top.specs.Whole.{IsRefused}
+use Rattle.fm_top.specs.Causes.{IsRefused}
 use Rattle.fm_top.specs.declared.status.Status.{Status}
 use Rattle.fm_top.specs.declared.status.Status.TheVariants.{Answered, Missing, LayoutRefused, QueryRefused, Ragged, TooLong}
 

@@ -1,11 +1,7 @@
 pub mod Asking
 pub mod Causes
 pub mod Comes
-pub mod Chunks
 pub mod Complete
-pub mod FileBytes
-pub mod GivenBytes
-pub mod Holding
 pub mod NamedKinds
 pub mod Numbers
 pub mod Outcomes

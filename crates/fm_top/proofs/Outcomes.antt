@@ -14,10 +14,11 @@ use Rattle.fm_records.specs.Answers.{answer}
 use Rattle.fm_records.specs.Texts.{answer_text}
 use Rattle.fm_top.specs.Found.{IsFound, OfFound}
 use Rattle.fm_top.specs.Keeps.{Nothing}
-use Rattle.fm_top.specs.Outcome.{Outcome, of_records, sum_outcome, sum_of_file, layout_of_file, missing, too_long, layout_refused, query_refused, record_file_limit, layout_file_limit}
+use Rattle.fm_load.specs.Limits.{record_file_limit}
+use Rattle.fm_top.specs.Outcome.{Outcome, of_records, sum_outcome, sum_of_file, layout_of_file, missing, too_long, layout_refused, query_refused, layout_file_limit}
 use Rattle.fm_top.specs.Queries.{IsRecordLayout, IsLayoutRefused, TextEnds, text_refused, answered_by, LayoutEnds, over_limit, no_layout, over_layout, QueryText, answer_outcome}
 use Rattle.fm_top.specs.Run.{HasOutcome}
-use Rattle.fm_top.specs.Whole.{IsWhole, IsOver}
+use Rattle.fm_load.specs.Whole.{IsWhole, IsOver}
 use Rattle.fm_top.specs.Words.{Sum, Layout, Query}
 
 -- ---- what is found

@@ -8,19 +8,12 @@ use Rattle.fm_io.proofs.Followed.{ReadsOn-none, ReadsOn-append, ReadsFile-wider}
 use Rattle.fm_lanes.specs.declared.value_kind.ValueKind.{ValueKind}
 use Rattle.fm_query.specs.Plan.{Plan}
 use Rattle.fm_top.specs.Causes.{IsAsked}
-use Rattle.fm_top.specs.Outcome.{record_file_limit, layout_file_limit}
-use Rattle.fm_top.specs.Reading.{piece_limit, GoesBy, ReadsUpTo, ReadsIf, AreReadsOf, first_limit, ReadsFor}
-use Rattle.fm_top.specs.Whole.{IsWhole}
+use Rattle.fm_load.specs.Limits.{record_file_limit}
+use Rattle.fm_top.specs.Outcome.{layout_file_limit}
+use Rattle.fm_load.specs.Reading.{ReadsUpTo}
+use Rattle.fm_top.specs.Reading.{ReadsIf, AreReadsOf, first_limit, ReadsFor}
+use Rattle.fm_load.specs.Whole.{IsWhole}
 use Rattle.fm_top.specs.Words.{Request, Sum, Layout, Query, first_file, last_file}
-
--- a piece was asked for, which came whole or up to the file's end
-pub goes_by : (at asked room n place : ℕ) (next : Next) → asked ≡ room → n ≤ room → place ≡ at + n → GoesOn at asked n next → GoesBy (nat_lt n room) place next
-goes_by at asked room n place next all fits is goes =
-    let less = Decides-ltb n room in (
-      λ ended. let below : n < room = less.0 ended in goes.1 (λ same. omega (arith, below, same, all)),
-      λ whole. let past : n < room → ⊥ = not_from_Decides (nat_lt n room) less whole in
-          let same : n ≡ asked = omega (arith, past, fits, all) in goes.0 same ∙ ap At (sym is),
-    )
 
 append_nil : (xs : List Read) → xs ++ [] ≡ xs
 append_nil [] = refl
@@ -102,26 +95,3 @@ query_both threads layout text file bytes told old mid new whole first last = re
   last_is = last.follow;
   in_place = λ some. (first.goes, (Some bytes, whole, last.needed some));
 }
-
--- one piece of a file was read, and what followed on it
-pub any_goes : (old new : Option (List Read)) (name : List ℕ) (end from : ℕ) (Goes : Next → Type 0) → ReadsFile old new name piece_limit end from Goes
-    → ReadsFile old new name piece_limit end from (λ next. Unit {0})
-any_goes old new name end from Goes reads = record { reads = reads.reads; noted = reads.noted; follow = reads.follow; goes = tt }
-
-pub chunk_goes : (old new : Option (List Read)) (name : List ℕ) (end from place : ℕ)
-    → ReadsFile old new name piece_limit end from (λ next. GoesBy false place next)
-    → ReadsFile old new name piece_limit end from (λ next. next ≡ At place)
-chunk_goes old new name end from place reads = record { reads = reads.reads; noted = reads.noted; follow = reads.follow; goes = reads.goes.1 refl }
-
-pub chunk_ends : (old new : Option (List Read)) (name : List ℕ) (end from place : ℕ)
-    → ReadsFile old new name piece_limit end from (λ next. GoesBy true place next)
-    → ReadsFile old new name piece_limit end from (λ next. next ≡ Ended)
-chunk_ends old new name end from place reads = record { reads = reads.reads; noted = reads.noted; follow = reads.follow; goes = reads.goes.0 refl }
-
--- what was read of a file into a buffer with room for no more than a piece
-pub filled_reads : (old new : Option (List Read)) (name : List ℕ) (at from room end : ℕ) (Goes Says : Next → Type 0)
-    → ReadsFile old new name room (at + room) at Goes
-    → at ≡ from → room ≤ piece_limit → at + room ≤ end → ((next : Next) → Goes next → Says next) → ReadsFile old new name piece_limit end from Says
-filled_reads old new name at from room end Goes Says reads same small within says =
-    subst (λ (k : ℕ). ReadsFile old new name piece_limit end k Says) same
-    (ReadsFile-wider old new name room (at + room) piece_limit end at Goes Says small within says reads)

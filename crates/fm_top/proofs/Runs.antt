@@ -12,7 +12,8 @@ use Rattle.fm_records.specs.Answers.{answer}
 use Rattle.fm_records.specs.Texts.{answer_text}
 use Rattle.fm_top.specs.Found.{OfFile}
 use Rattle.fm_top.specs.Keeps.{Keeps}
-use Rattle.fm_top.specs.Outcome.{Outcome, of_records, sum_outcome, sum_text, layout_outcome, listing, layout_file_limit, too_long, answered, ragged, record_file_limit}
+use Rattle.fm_load.specs.Limits.{record_file_limit}
+use Rattle.fm_top.specs.Outcome.{Outcome, of_records, sum_outcome, sum_text, layout_outcome, listing, layout_file_limit, too_long, answered, ragged}
 use Rattle.fm_top.specs.Queries.{TextEnds, text_refused, answered_by, LayoutEnds, over_limit, no_layout, over_layout, QueryText, QueryEnds, answer_outcome}
 use Rattle.fm_top.specs.Run.{EndsBy, HasOutcome, IsOutcome, faulty, asked, Traces, Prints, printed, failed, stopped, Runs, whole, unread, unwritten, no_memory, unknown, code_of, EndsWith}
 use Rattle.fm_top.specs.Words.{Request, Sum, Layout, Query, Asks, CanBeAsked, AreFaulty, first_file, last_file}

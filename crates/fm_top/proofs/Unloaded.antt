@@ -8,15 +8,16 @@ use Rattle.fm_query.specs.Plan.{Plan}
 use Rattle.fm_top.specs.Ending.{MissesOnly, shown}
 use Rattle.fm_top.specs.Found.{OfFound}
 use Rattle.fm_top.specs.Keeps.{Nothing}
-use Rattle.fm_top.specs.Outcome.{Outcome, record_file_limit, layout_file_limit}
+use Rattle.fm_load.specs.Limits.{record_file_limit}
+use Rattle.fm_top.specs.Outcome.{Outcome, layout_file_limit}
 use Rattle.fm_top.specs.Queries.{answer_outcome}
 use Rattle.fm_top.specs.Run.{HasOutcome}
 use Rattle.fm_top.specs.Unloaded.{EndsUnloaded}
-use Rattle.fm_top.specs.Whole.{IsOver}
+use Rattle.fm_load.specs.Whole.{IsOver}
 use Rattle.fm_top.specs.Words.{Sum, Layout, Query}
 use Rattle.fm_top.specs.declared.ending.Ending.{Ending}
-use Rattle.fm_top.specs.declared.load_fault.LoadFault.{LoadFault}
-use Rattle.fm_top.specs.declared.load_fault.LoadFault.TheVariants.{Missing, Failed, TooLong, Memory}
+use Rattle.fm_load.specs.declared.load_fault.LoadFault.{LoadFault}
+use Rattle.fm_load.specs.declared.load_fault.LoadFault.TheVariants.{Missing, Failed, TooLong, Memory}
 use Rattle.fm_top.specs.declared.status.Status.TheVariants as status
 use Rattle.fm_top.specs.declared.stop.Stop.{Stop}
 use Rattle.fm_top.specs.declared.stop.Stop.TheVariants as stop

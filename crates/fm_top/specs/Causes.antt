@@ -1,15 +1,19 @@
 -- For which files a request ends so, where the files tell: each cause where none before it applies.
-use Rattle.std.specs.Prelude.{◌≡◌, ◌≢◌, ℕ, ◌%◌, ◌<◌, ◌≤◌, ◌⊎◌, List, length, None, Option, IsSomeAnd}
+use Rattle.std.specs.Prelude.{◌≡◌, ◌≢◌, ℕ, ◌%◌, ◌<◌, ◌≤◌, ◌⊎◌, List, length, None, Option, IsSomeAnd, Result, Err}
 use Rattle.fm_base.specs.declared.refusal.Refusal.{Refusal}
 use Rattle.fm_io.specs.Files.{Contents, file_of}
 use Rattle.fm_layout.specs.Tree.{Tree}
 use Rattle.fm_ljson.specs.Answer.{layout_of_json}
 use Rattle.fm_query.specs.Parsed.{IsParsed}
 use Rattle.fm_query.specs.Plan.{Plan}
-use Rattle.fm_top.specs.Outcome.{record_file_limit, layout_file_limit}
+use Rattle.fm_load.specs.Limits.{record_file_limit}
+use Rattle.fm_top.specs.Outcome.{layout_file_limit}
 use Rattle.fm_top.specs.Queries.{IsRecordLayout, IsLayoutRefused, IsTextRefused}
-use Rattle.fm_top.specs.Whole.{IsRefused}
 use Rattle.fm_top.specs.Words.{Request, Sum, Layout, Query}
+
+-- it is refused
+abbrev pub IsRefused : Result Tree Refusal → Type 0
+IsRefused r = (refusal : Refusal) × (r ≡ Err refusal)
 
 -- the text is that of a query over records of the layout that was found, which comes to this plan
 abbrev pub IsAsked : Option (List ℕ) → List ℕ → Plan → Type 0

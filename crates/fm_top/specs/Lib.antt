@@ -2,15 +2,12 @@ pub mod Asked
 pub mod Causes
 pub mod Ending
 pub mod Found
-pub mod Held
 pub mod Keeps
 pub mod Laws
-pub mod Loaded
 pub mod Outcome
 pub mod Queries
 pub mod Reading
 pub mod Records
 pub mod Run
 pub mod Unloaded
-pub mod Whole
 pub mod Words

@@ -1,6 +1,7 @@
 -- How a run ends: its status, and all that it prints.
 use Rattle.std.specs.Prelude.{ℕ, ◌%◌, ◌==◌, nat_lt, if◌then◌else◌, List, [], ◌∷◌, ◌++◌, length, codes, Option, None, Some, Result, Ok, Err}
 use Rattle.std.specs.Fmt.{decimal, signed_decimal}
+use Rattle.fm_load.specs.Limits.{record_file_limit}
 use Rattle.fm_base.specs.Printed.{refusal_text}
 use Rattle.fm_base.specs.declared.refusal.Refusal.{Refusal}
 use Rattle.fm_lanes.specs.declared.value_kind.ValueKind.{ValueKind}
@@ -18,10 +19,6 @@ pub record Outcome : Type 0 where
 -- a line of text
 abbrev pub line : List ℕ → List ℕ
 line text = text ++ 10 ∷ []
-
--- the most bytes of a record file
-abbrev pub record_file_limit : ℕ
-record_file_limit = 67108864
 
 -- the most bytes of a layout's file
 abbrev pub layout_file_limit : ℕ

@@ -1,28 +1,14 @@
 -- What is read for a request, and in which order.
-use Rattle.std.specs.Prelude.{◌≡◌, ◌≢◌, ℕ, ◌+◌, List, [], ◌++◌, Bool, true, false, Option, None, Some}
+use Rattle.std.specs.Prelude.{◌≡◌, ◌≢◌, ℕ, ◌+◌, List, [], ◌++◌, Option, None, Some}
 use Rattle.fm_io.specs.Files.{Contents}
-use Rattle.fm_io.specs.Reads.{Read, ReadsOn, Next, At, Ended, Follow, next_after, ReadsFile}
+use Rattle.fm_io.specs.Reads.{Read, ReadsOn, At, Ended, Follow, next_after}
+use Rattle.fm_load.specs.Limits.{record_file_limit}
+use Rattle.fm_load.specs.Reading.{piece_limit}
 use Rattle.fm_query.specs.Plan.{Plan}
 use Rattle.fm_top.specs.Causes.{IsAsked}
 use Rattle.fm_top.specs.Found.{OfFile}
-use Rattle.fm_top.specs.Outcome.{record_file_limit, layout_file_limit}
+use Rattle.fm_top.specs.Outcome.{layout_file_limit}
 use Rattle.fm_top.specs.Words.{Request, Sum, Layout, Query, first_file, last_file}
-
--- the most bytes of one read
-abbrev pub piece_limit : ℕ
-piece_limit = 65536
-
--- what follows on a piece of a file: nothing, where the file ended with it, and else a read behind it
-abbrev pub GoesBy : Bool → ℕ → Next → Type 0
-GoesBy ended place next = (ended ≡ true → next ≡ Ended) × (ended ≡ false → next ≡ At place)
-
--- A file was read from its beginning, in pieces, and up to the first byte past the limit at most; `Goes` is said of what may follow.
-abbrev pub ReadsUpTo : Option (List Read) → Option (List Read) → List ℕ → ℕ → (Next → Type 0) → Type 0
-ReadsUpTo old new name limit Goes = ReadsFile old new name piece_limit (limit + 1) 0 Goes
-
--- the same, whatever may follow
-abbrev pub ReadsSome : Option (List Read) → Option (List Read) → List ℕ → ℕ → Type 0
-ReadsSome old new name limit = ReadsUpTo old new name limit (λ next. Unit {0})
 
 -- A file was read so, if at all; where it was, this holds.
 pub record ReadsIf (old new : Option (List Read)) (name : List ℕ) (limit : ℕ) (P : Type 0) : Type 0 where

@@ -3,18 +3,18 @@ ghost use Rattle.fm_io.specs.Count.{Rose};
 ghost use Rattle.fm_top.specs.Ending.{MissesOnly, shown};
 ghost use Rattle.fm_top.specs.Keeps.{Nothing};
 ghost use Rattle.fm_top.specs.Outcome.{layout_of_file};
-ghost use Rattle.fm_top.specs.Reading.{ReadsSome};
+ghost use Rattle.fm_load.specs.Reading.{ReadsSome};
 ghost use Rattle.fm_top.specs.Run.{HasOutcome};
 ghost use Rattle.fm_top.specs.Words.{Layout};
 ghost use Rattle.fm_top.specs.declared.status.Status.TheVariants.{Missing};
 
 use crate::ending::Ending;
-use crate::load_fault::unloaded_ending;
+use crate::load_ending::unloaded_ending;
 use crate::stop::Stop;
-use crate::whole_file::{LAYOUT_FILE_LIMIT, read_whole};
 use fm_base::Refusal;
 use fm_io::Files;
 use fm_ljson::layout_from_json;
+use fm_load::{LAYOUT_FILE_LIMIT, read_whole};
 use fm_path::list_places;
 use std::alloc::Global;
 

@@ -3,20 +3,18 @@ ghost use Rattle.fm_io.specs.Count.{Rose};
 ghost use Rattle.fm_top.specs.Ending.{MissesOnly, shown};
 ghost use Rattle.fm_top.specs.Keeps.{Nothing};
 ghost use Rattle.fm_top.specs.Outcome.{sum_of_file};
-ghost use Rattle.fm_top.specs.Reading.{ReadsSome};
+ghost use Rattle.fm_load.specs.Reading.{ReadsSome};
 ghost use Rattle.fm_top.specs.Run.{HasOutcome};
 ghost use Rattle.fm_top.specs.Words.{Sum, HasValue};
 ghost use Rattle.fm_top.specs.declared.status.Status.TheVariants.{Missing};
 
 use crate::ending::Ending;
-use crate::held::RECORD_FILE_LIMIT;
-use crate::load_fault::unloaded_ending;
-use crate::loaded::Loaded;
-use crate::loading::load;
+use crate::load_ending::unloaded_ending;
 use crate::stop::Stop;
 use crate::summing::sum_values;
 use crate::words::SumCommand;
 use fm_io::Files;
+use fm_load::{Loaded, RECORD_FILE_LIMIT, load};
 use std::alloc::{AllocError, Global};
 use std::sync::Wait;
 

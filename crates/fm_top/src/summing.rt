@@ -2,10 +2,9 @@ ghost use Rattle.std.specs.Prelude.{◌≡◌, ◌^◌, ◌≤◌, length, pos, 
 ghost use Rattle.fm_top.specs.Records.{sum_of_values};
 ghost use Rattle.fm_top.specs.Words.{HasValue};
 
-use crate::held::RECORD_FILE_LIMIT;
-use crate::loaded::Loaded;
 use fm_lanes::ValueKind;
 use fm_layout::Layout;
+use fm_load::{Loaded, RECORD_FILE_LIMIT};
 
 /// The sum of the value at byte `at` of each record of `size` bytes. What is left behind the last record doesn't count.
 ///

@@ -1,21 +1,20 @@
-ghost use Rattle.std.specs.Prelude.{◌≡◌, ◌≤◌, length, IfOk};
+ghost use Rattle.std.specs.Prelude.{◌≡◌, length, IfOk};
 ghost use Rattle.fm_handle.specs.Place.{RootStands, ValueStands, can_update, fills_word, is_word, root_place, place_of, if_supported, writable_place_of};
 
 use super::VarHandle;
 use fm_base::Refusal;
 use fm_lanes::{Order, ValueKind};
-use fm_segment::Segment;
+use fm_segment::{Segment, is_aligned};
 
 impl VarHandle {
     /// The place in the arena of the layout at the base. Refused, in this order: `Bounds`, `Misaligned`.
     fn root_place(&self, s: &Segment, base: u64) -> Result<u64, Refusal>
-        requires { 1 ≤ self.now.root_alignment }
         ensures place { result ≡ root_place base self.now s.now }
         ensures stands { IfOk result (RootStands self.now s.now) }
     {
         let root = s.as_slice(base, self.resolved.root_size())?;
         let first = root.first();
-        if first % self.resolved.root_alignment() != 0 {
+        if !is_aligned(first, self.resolved.root_alignment()) {
             return Err(Refusal::Misaligned);
         }
         Ok(first)

@@ -11,8 +11,8 @@ impl Segment {
     /// Puts `bytes` from an offset on (`MemorySegment.copy` from an array). Other bytes stay.
     ///
     /// Refused, in this order: `ReadOnly`, `Bounds` where the bytes pass the end, `WrongThread`, `Closed`. No bytes enter
-    /// no arena and are refused as `Bounds` alone. The lowest piece comes first, each in a visit of its own; where the
-    /// arena is closed in between, the pieces before stay put.
+    /// no arena and are refused as `Bounds` alone. The lowest place comes first: all whole words are put in one visit, what
+    /// lies before and behind them piece by piece. Where the arena is closed in between, what was put before stays put.
     pub fn put_bytes<R: Wait, M: Memory>(
         &self,
         rt: &R,

@@ -58,6 +58,33 @@ fn bytes_are_put_among_others(rt: HostRuntime) {
     );
 }
 
+/// The bytes 1 to 19.
+const COUNT: [u8; 19] = [
+    1, 2, 3, 4, 5, 6, 7, 8, 9, 10, 11, 12, 13, 14, 15, 16, 17, 18, 19,
+];
+
+#[test]
+fn whole_words_are_put_with_the_bytes_around_them(rt: HostRuntime) {
+    let mut m = Mono::make(rt.alloc(), 64);
+    let arena = m.open_arena(&rt, Kind::Shared).expect(&rt, "an arena");
+    let first = m.allocate(&rt, arena, 24, 8).expect(&rt, "three words");
+    let s = Segment::of(arena, first, 24);
+    assert_eq!(rt; s.put_bytes(&rt, &mut m, 3, COUNT.as_slice()), Ok(()));
+    let long = Layout::value(ValueKind::Long);
+    assert_eq!(rt;
+        s.get(&mut m, &long, 0),
+        Ok(Value::Long(0x0504_0302_0100_0000))
+    );
+    assert_eq!(rt;
+        s.get(&mut m, &long, 8),
+        Ok(Value::Long(0x0d0c_0b0a_0908_0706))
+    );
+    assert_eq!(rt;
+        s.get(&mut m, &long, 16),
+        Ok(Value::Long(0x0000_1312_1110_0f0e))
+    );
+}
+
 #[test]
 fn a_copy_to_its_own_next_place_reads_before_it_writes(rt: HostRuntime) {
     let mut m = Mono::make(rt.alloc(), 64);

@@ -1,67 +1,58 @@
-use Rattle.std.proofs.Common.{◌≡◌, ◌+◌, ◌-◌, ◌<◌, ◌≤◌, ℕ, List, length, take, drop, arith, ap, sym, refl, ◌∙◌, length-drop}
+use Rattle.std.proofs.Common.{◌≡◌, ◌+◌, ◌-◌, ◌<◌, ◌≤◌, ℕ, List, length, take, drop, arith, sym, subst, ap, ◌∙◌, length-drop, Ok}
 use Rattle.std.proofs.lemmas.Bool.{eqb-true, eqb-false}
 use Rattle.std.proofs.lemmas.List.{take_rest}
-use Rattle.std.proofs.lemmas.List.Elements.{All-from_get_or, All-drop}
+use Rattle.std.proofs.lemmas.List.Elements.{All-from_get_or}
 use Rattle.std.proofs.lemmas.Result.{err_from_is_err_and}
-use Rattle.fm_base.specs.Visits.{piece_width}
-use Rattle.fm_bytes.specs.Bytes.{AreBytes, number_of}
-use Rattle.fm_lanes.proofs.Reading.{little_number-number_of}
-use Rattle.byteorder.specs.Endian.{little_number}
-use Rattle.fm_access.proofs.Alone.{IsPart, is_part}
+use Rattle.fm_base.specs.View.{Did}
+use Rattle.fm_access.specs.Ranges.{putting}
+use Rattle.fm_access.specs.Runs.{DoesPutNext}
 use Rattle.fm_access.proofs.Learnt.{after_put_none, after_put_all}
-use Rattle.fm_access.proofs.Putting.{put_lasts, put_refused, put_starts, puts_all, puts_on}
-use Rattle.fm_access.proofs.Touching.{can_touch}
+use Rattle.fm_access.proofs.Putting.{more_starts, more_lasts, more_puts, more_refused, more_all}
 use Rattle.fm_access.proofs.bytes.put_bytes.Goals as goal
 
 pub returns-then-is_empty : goal.returns-then-is_empty
 returns-then-is_empty g c = after_put_none c.requires (eqb-true (length c.args.bytes.now) 0 (sym c.is_empty.ensures ∙ c.if-is_empty.true))
 
-pub loop-at-init : goal.loop-at-init
-loop-at-init g c =
-    put_starts (g.M.Memory.view c.args.m.now) c.args.arena c.args.place (c.args.place + length c.args.bytes.now) c.args.bytes.now (omega arith) c.requires.outside
+pub loop-put-init : goal.loop-put-init
+loop-put-init g c = more_starts (g.M.Memory.view c.args.m.now) c.args.arena c.args.place c.args.bytes.now c.requires.outside
 
-pub put_piece-requires-clause-piece : goal.put_piece-requires-clause-piece
-put_piece-requires-clause-piece g c =
-    let i = c.loop-at.invariant in
-    let p = c.piece_width-width.ensures in
-    can_touch c.loop-at.at c.piece_width-width.result c.requires.known c.requires.given (put_lasts i) i.outside p.some p.within p.before_end
+pub put_next-requires-clause-touch : goal.put_next-requires-clause-touch
+put_next-requires-clause-touch g c =
+    let i = c.loop-put.invariant in
+    let lasts = more_lasts i in
+    let more = lasts.given c.args.arena in
+    let below = c.loop-put-test.true in
+    let given = c.requires.given in
+    let small = c.requires.small in
+    let rest : length (take (length c.args.bytes.now - c.loop-put.put) (drop c.loop-put.put c.args.bytes.now)) ≡ length c.args.bytes.now - c.loop-put.put =
+    ap length (take_rest c.args.bytes.now c.loop-put.put) ∙ length-drop c.loop-put.put c.args.bytes.now in
+    record { outside = i.outside; known = lasts.known c.args.arena c.requires.known; given = omega arith; small = omega arith }
 
--- The next bytes, as a number.
-part_is : (place at width v end : ℕ) (bytes : List ℕ) → AreBytes bytes → place ≤ at → at < end → end ≡ place + length bytes → width ≡ piece_width at end
-    → v ≡ little_number width (take (length bytes - (at - place)) (drop (at - place) bytes))
-    → IsPart (drop (at - place) bytes) width v × (v ≡ number_of (take width (drop (at - place) bytes)))
-part_is place at width v end bytes are h k e w d =
-    let is : v ≡ number_of (take width (drop (at - place) bytes)) = d ∙ ap (little_number width) (take_rest bytes (at - place))
-    ∙ little_number-number_of width (drop (at - place) bytes) in
-    let few : width ≤ length (drop (at - place) bytes) = omega (arith, length-drop (at - place) bytes) in
-    (is_part (drop (at - place) bytes) width v (All-drop (λ b. b < 256) (at - place) bytes are) few is, is)
-
-pub put_piece-requires-clause-fits : goal.put_piece-requires-clause-fits
-put_piece-requires-clause-fits g c =
-    let are = All-from_get_or (λ b. b < 256) c.args.bytes.now 0 (λ i below. omega (arith, c.type_inv.bytes i)) in
-    (part_is c.args.place c.loop-at.at c.piece_width-width.result c.read_uint-part.result (c.args.place + length c.args.bytes.now) c.args.bytes.now are
-    c.loop-at.invariant.above c.loop-at-test.true refl c.piece_width-width.ensures.value c.read_uint-part.ensures).0.small
-
-pub loop-at-preserved : goal.loop-at-preserved
-loop-at-preserved g c =
-    let i = c.loop-at.invariant in
-    let are = All-from_get_or (λ b. b < 256) c.args.bytes.now 0 (λ i below. omega (arith, c.type_inv.bytes i)) in
-    let part = (part_is c.args.place c.loop-at.at c.piece_width-width.result c.read_uint-part.result (c.args.place + length c.args.bytes.now) c.args.bytes.now
-    are i.above c.loop-at-test.true refl c.piece_width-width.ensures.value c.read_uint-part.ensures).1 in
-    rw c.from-at.ensures (puts_on i (g.M.Memory.view c.put_piece.new.m) c.piece_width-width.result c.read_uint-part.result refl c.loop-at-test.true
-    c.piece_width-width.ensures.value part c.put_piece.ensures.outside c.in_ok-put_piece.ensures.did)
-
-pub returns-in_err-put_piece : goal.returns-in_err-put_piece
-returns-in_err-put_piece g c =
+pub returns-in_err-put : goal.returns-in_err-put
+returns-in_err-put g c =
     let p = err_from_is_err_and c.from_residual.result c.from_residual.ensures.1 in
-    let i = c.loop-at.invariant in
-    let some : 0 < length c.args.bytes.now = (let t = c.loop-at-test.true in let h = i.above in omega arith) in
+    let some : 0 < length c.args.bytes.now = (let t = c.loop-put-test.true in omega arith) in
     let are = All-from_get_or (λ b. b < 256) c.args.bytes.now 0 (λ i below. omega (arith, c.type_inv.bytes i)) in
-    after_put_all c.requires some are (rw (p.1, p.2) (put_refused i (g.M.Memory.view c.put_piece.new.m) c.piece_width-width.result c.read_uint-part.result
-    c.in_err-put_piece.field-0.0 refl c.loop-at-test.true c.in_err-put_piece.ensures.did))
+    after_put_all c.requires some are (rw (p.1, p.2) (more_refused c.loop-put.invariant (g.M.Memory.view c.put_next.new.m) c.in_err-put.field-0.0
+    c.loop-put-test.true c.in_err-put.ensures.did.did))
+
+pub loop-put-preserved : goal.loop-put-preserved
+loop-put-preserved g c =
+    let i = c.loop-put.invariant in
+    let now = g.M.Memory.view c.loop-put.m in
+    let next = g.M.Memory.view c.put_next.new.m in
+    let e = c.in_ok-put.ensures in
+    let rest = take_rest c.args.bytes.now c.loop-put.put in
+    let within = e.within in
+    let fits : c.loop-put.put + c.in_ok-put.field-0 ≤ length c.args.bytes.now =
+    (let n : length (take (length c.args.bytes.now - c.loop-put.put) (drop c.loop-put.put c.args.bytes.now)) ≡ length c.args.bytes.now - c.loop-put.put =
+    ap length rest ∙ length-drop c.loop-put.put c.args.bytes.now in let below = c.loop-put-test.true in omega arith) in
+    more_puts i next c.in_ok-put.field-0 fits e.did.outside
+    (subst (λ (bytes : List ℕ). Did now next (DoesPutNext now.caller c.args.arena (putting (c.args.place + c.loop-put.put) bytes) (Ok c.in_ok-put.field-0)))
+    rest e.did.did)
 
 pub returns : goal.returns
 returns g c =
     let some : 0 < length c.args.bytes.now = (let n = eqb-false (length c.args.bytes.now) 0 (sym c.is_empty.ensures ∙ c.if-is_empty.false) in omega arith) in
     let are = All-from_get_or (λ b. b < 256) c.args.bytes.now 0 (λ i below. omega (arith, c.type_inv.bytes i)) in
-    after_put_all c.requires some are (puts_all c.loop-at.invariant refl (let f = c.loop-at-test.false in omega arith) some)
+    after_put_all c.requires some are (more_all c.loop-put.invariant c.loop-put-test.false some)

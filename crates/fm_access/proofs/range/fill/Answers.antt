@@ -48,5 +48,6 @@ returns-in_err-put_piece g c =
 pub returns : goal.returns
 returns g c =
     let some : 0 < c.args.size = (let f = c.if-size-eq0.false in omega arith) in
-    after_fill c.requires some (omega arith) (puts_all c.loop-at.invariant (end_is c.args.place c.args.size c.args.byte) (let f = c.loop-at-test.false in omega arith)
-    (rw length-replicate some))
+    let past : ¬ (c.loop-at.at < c.args.place + c.args.size) = (let f = c.loop-at-test.false in omega arith) in
+    after_fill c.requires some (omega arith)
+    (puts_all c.loop-at.invariant (end_is c.args.place c.args.size c.args.byte) past (rw length-replicate some))

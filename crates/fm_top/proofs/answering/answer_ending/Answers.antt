@@ -1,7 +1,7 @@
 use Rattle.std.proofs.Common.{Some}
 use Rattle.std.proofs.lemmas.Result.{IfOk-weaker}
 use Rattle.fm_top.specs.Ending.{shown}
-use Rattle.fm_top.specs.declared.load_fault.LoadFault.TheVariants.{Missing, TooLong}
+use Rattle.fm_load.specs.declared.load_fault.LoadFault.TheVariants.{Missing, TooLong}
 use Rattle.fm_top.proofs.Unloaded.{fault_of, misses_only, failed_load, unfailed_load, answer_unloaded}
 use Rattle.fm_top.proofs.answering.answer_ending.Goals as goal
 

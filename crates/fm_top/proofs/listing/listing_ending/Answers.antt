@@ -3,7 +3,7 @@ use Rattle.std.proofs.lemmas.Result.{IfOk-weaker}
 use Rattle.fm_top.specs.Ending.{shown}
 use Rattle.fm_top.specs.Outcome.{layout_of_file}
 use Rattle.fm_top.proofs.Outcomes.{layout-whole}
-use Rattle.fm_top.specs.declared.load_fault.LoadFault.TheVariants.{Missing, TooLong}
+use Rattle.fm_load.specs.declared.load_fault.LoadFault.TheVariants.{Missing, TooLong}
 use Rattle.fm_top.proofs.Unloaded.{fault_of, misses_only, failed_load, unfailed_load, layout_unloaded}
 use Rattle.fm_top.proofs.listing.listing_ending.Goals as goal
 

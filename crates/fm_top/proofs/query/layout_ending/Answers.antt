@@ -3,7 +3,7 @@ use Rattle.fm_top.specs.Ending.{shown}
 use Rattle.fm_top.proofs.Outcomes.{over-layout, refused-layout, both_ok}
 use Rattle.fm_query.specs.Parsed.{IsParsed}
 use Rattle.fm_query.specs.Plan.{Plan}
-use Rattle.fm_top.specs.Outcome.{record_file_limit}
+use Rattle.fm_load.specs.Limits.{record_file_limit}
 use Rattle.fm_top.proofs.ReadFor.{not_read, read_since}
 use Rattle.fm_top.proofs.query.layout_ending.Goals as goal
 

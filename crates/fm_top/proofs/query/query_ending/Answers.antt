@@ -5,11 +5,11 @@ use Rattle.fm_top.specs.Found.{OfFound}
 use Rattle.fm_top.specs.Keeps.{Nothing}
 use Rattle.fm_top.specs.Queries.{LayoutEnds, QueryText}
 use Rattle.fm_top.proofs.Outcomes.{query-whole}
-use Rattle.fm_top.specs.declared.load_fault.LoadFault.TheVariants.{Missing, TooLong}
+use Rattle.fm_load.specs.declared.load_fault.LoadFault.TheVariants.{Missing, TooLong}
 use Rattle.fm_top.proofs.Unloaded.{fault_of, misses_only, failed_load, unfailed_load, query_unloaded}
 use Rattle.fm_query.specs.Plan.{Plan}
 use Rattle.fm_top.specs.Causes.{IsAsked}
-use Rattle.fm_top.specs.Outcome.{record_file_limit}
+use Rattle.fm_load.specs.Limits.{record_file_limit}
 use Rattle.fm_top.specs.Reading.{ReadsIf}
 use Rattle.fm_top.proofs.ReadFor.{query_both, query_first}
 use Rattle.fm_top.proofs.query.query_ending.Goals as goal

@@ -1,7 +1,7 @@
 use Rattle.std.proofs.lemmas.Result.{IfOk-weaker}
 use Rattle.fm_top.specs.Ending.{shown}
 use Rattle.fm_top.proofs.Outcomes.{by-answer, refused-text, both_ok}
-use Rattle.fm_top.specs.Outcome.{record_file_limit}
+use Rattle.fm_load.specs.Limits.{record_file_limit}
 use Rattle.fm_top.proofs.ReadFor.{not_read, read_for}
 use Rattle.fm_top.proofs.query.text_ending.Goals as goal
 

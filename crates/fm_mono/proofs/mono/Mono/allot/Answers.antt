@@ -4,38 +4,24 @@ use Rattle.fm_base.specs.Machine.{IsPower}
 use Rattle.fm_base.specs.Visits.{refused_visit}
 use Rattle.fm_base.proofs.Learning.{after_allocate}
 use Rattle.fm_mono.proofs.Alone.{sound_of}
-use Rattle.fm_mono.proofs.Visits.{CanEnter, enter_closed, allocates}
+use Rattle.fm_mono.proofs.Visits.{enter_closed, allocates}
 use Rattle.fm_mono.proofs.mono.Mono.allot.Goals as goal
 
 pub returns-then-not-alive : goal.returns-then-not-alive
 returns-then-not-alive c =
     let s = c.is_alive-alive.ensures in
-    let can : CanEnter c.args.self.now c.args.a = record {
-      outside = c.requires.outside;
-      known = c.requires.known;
-      may = λ k. s.owner;
-      nowhere = s.nowhere c.requires.outside;
-      empty = s.empty c.requires.outside;
-    } in
     let over = s.life ∙ ap (λ (b : Bool). if b then Alive else Ended) c.if-not-alive.true in
     let power : IsPower c.args.align = sym c.is_power_of_two.ensures ∙ c.if-not-is_power_of_two.false in
     after_allocate c.requires (sound_of c.args.self.now s.small) tt (λ e. absurd (cc)) (record {
       own = refused_visit only_caller c.args.a;
-      does = (power, can.may, refl);
-      makes = enter_closed c.args.self.now c.args.a can over;
+      does = (power, s.can.may, refl);
+      makes = enter_closed c.args.self.now c.args.a s.can over;
     })
 
 pub returns : goal.returns
 returns c =
     let s = c.is_alive-alive.ensures in
-    let can : CanEnter c.args.self.now c.args.a = record {
-      outside = c.requires.outside;
-      known = c.requires.known;
-      may = λ k. s.owner;
-      nowhere = s.nowhere c.requires.outside;
-      empty = s.empty c.requires.outside;
-    } in
     let alive = s.life ∙ ap (λ (b : Bool). if b then Alive else Ended) c.if-not-alive.false in
     let power : IsPower c.args.align = sym c.is_power_of_two.ensures ∙ c.if-not-is_power_of_two.false in
     after_allocate c.requires (sound_of c.args.self.now s.small) (search rules) (λ e. tt)
-    (allocates c.args.self.now c.args.a can alive c.grow.new.self c.args.size c.args.align c.grow.result power c.grow.ensures)
+    (allocates c.args.self.now c.args.a s.can alive c.grow.new.self c.args.size c.args.align c.grow.result power c.grow.ensures)

@@ -4,41 +4,27 @@ use Rattle.fm_base.specs.Calls.{Shut, End, Fine, Closed, entry_of}
 use Rattle.fm_base.specs.Does.{IsClosable}
 use Rattle.fm_base.proofs.Learning.{after_close}
 use Rattle.fm_mono.proofs.Alone.{sound_of}
-use Rattle.fm_mono.proofs.Visits.{CanEnter, closes, shut_closed}
+use Rattle.fm_mono.proofs.Visits.{closes, shut_closed}
 use Rattle.fm_mono.proofs.mono.Mono.end.Goals as goal
 
 pub returns-then-not-alive : goal.returns-then-not-alive
 returns-then-not-alive c =
     let s = c.is_alive-alive.ensures in
-    let can : CanEnter c.args.self.now c.args.a = record {
-      outside = c.requires.outside;
-      known = c.requires.known;
-      may = λ k. s.owner;
-      nowhere = s.nowhere c.requires.outside;
-      empty = s.empty c.requires.outside;
-    } in
     let over = s.life ∙ ap (λ (b : Bool). if b then Alive else Ended) c.if-not-alive.true in
     let kind : IsClosable c.args.a.kind = rw c.if-not-is_closable.false at c.is_closable.ensures in
     after_close c.requires (sound_of c.args.self.now s.small) (record {
       own = entry_of only_caller (Shut c.args.a) Closed ∷ [];
-      does = (kind, can.may, refl);
-      makes = shut_closed c.args.self.now c.args.a can kind.0 over;
+      does = (kind, s.can.may, refl);
+      makes = shut_closed c.args.self.now c.args.a s.can kind.0 over;
     })
 
 pub returns : goal.returns
 returns c =
     let s = c.is_alive-alive.ensures in
-    let can : CanEnter c.args.self.now c.args.a = record {
-      outside = c.requires.outside;
-      known = c.requires.known;
-      may = λ k. s.owner;
-      nowhere = s.nowhere c.requires.outside;
-      empty = s.empty c.requires.outside;
-    } in
     let alive = s.life ∙ ap (λ (b : Bool). if b then Alive else Ended) c.if-not-alive.false in
     let kind : IsClosable c.args.a.kind = rw c.if-not-is_closable.false at c.is_closable.ensures in
     after_close c.requires (sound_of c.args.self.now s.small) (record {
       own = entry_of only_caller (Shut c.args.a) Fine ∷ entry_of only_caller (End c.args.a) Fine ∷ [];
-      does = (kind, can.may, refl);
-      makes = closes c.args.self.now c.finish.new.self c.args.a can kind.0 alive c.finish.ensures.holds c.finish.ensures.after;
+      does = (kind, s.can.may, refl);
+      makes = closes c.args.self.now c.finish.new.self c.args.a s.can kind.0 alive c.finish.ensures.holds c.finish.ensures.after;
     })

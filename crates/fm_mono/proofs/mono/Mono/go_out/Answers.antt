@@ -1,3 +1,4 @@
+use Rattle.fm_mono.proofs.Inside.{entered_of}
 use Rattle.fm_mono.proofs.Steps.{goes_out}
 use Rattle.fm_mono.proofs.mono.Mono.go_out.Goals as goal
 
@@ -7,4 +8,4 @@ invariant_of-self c = let i = c.self.invariant.arenas in
 
 pub returns : goal.returns
 returns c = rw (← c.self.view_is)
-    (goes_out c.self.inside.limit c.self.inside.inside c.self.inside.arenas.items c.self.invariant.arenas (rw (← c.self.view_is) at c.requires))
+    (goes_out c.self.inside.limit (entered_of c.self.inside) c.self.inside.arenas.items c.self.invariant.arenas (rw (← c.self.view_is) at c.requires))

@@ -5,20 +5,21 @@ use Rattle.fm_base.specs.Calls.{Given}
 use Rattle.fm_base.specs.Machine.{rounded_up, words_within, given_up_to}
 use Rattle.fm_base.proofs.Growing.{power_pos}
 use Rattle.fm_mono.specs.Shown.{shown_all}
+use Rattle.fm_mono.proofs.Inside.{entered_of, inside_of-set}
 use Rattle.fm_mono.proofs.Steps.{IsPlaced, placed}
 use Rattle.fm_mono.proofs.Allotting.{IsRead, is_read, no_room, gives_place, grows, unchanged, same_shown, allotted_shown, is_grown}
 use Rattle.fm_mono.proofs.mono.Mono.grow.Goals as goal
 use Rattle.fm_mono.proofs.mono.Mono.grow.Goals.{After-struct_known-1, After-index_mut-arena}
 
-found : (c : After-struct_known-1) → IsPlaced c.self.inside.limit c.self.inside.inside c.self.inside.arenas.items c.args.a
+found : (c : After-struct_known-1) → IsPlaced c.self.inside.limit (entered_of c.self.inside) c.self.inside.arenas.items c.args.a
 found c = let r = rw (← c.self.view_is) at c.requires in
-    placed c.self.inside.limit c.self.inside.inside c.self.inside.arenas.items c.args.a c.self.invariant.arenas.names r.known
+    placed c.self.inside.limit (entered_of c.self.inside) c.self.inside.arenas.items c.args.a c.self.invariant.arenas.names r.known
 
-here : (c : After-index_mut-arena) → IsRead c.self.inside.limit c.self.inside.inside c.self.inside.arenas.items c.args.a c.index_mut-arena.result.now
+here : (c : After-index_mut-arena) → IsRead c.self.inside.limit (entered_of c.self.inside) c.self.inside.arenas.items c.args.a c.index_mut-arena.result.now
 here c =
     let r = rw (← c.self.view_is) at c.requires in
-    is_read c.self.inside.limit c.self.inside.inside c.self.inside.arenas.items c.args.a c.index_mut-arena.result.now
-    (placed c.self.inside.limit c.self.inside.inside c.self.inside.arenas.items c.args.a c.self.invariant.arenas.names r.known)
+    is_read c.self.inside.limit (entered_of c.self.inside) c.self.inside.arenas.items c.args.a c.index_mut-arena.result.now
+    (placed c.self.inside.limit (entered_of c.self.inside) c.self.inside.arenas.items c.args.a c.self.invariant.arenas.names r.known)
     c.index_mut-arena.ensures.value r.alive
 
 pub index_mut-arena-requires : goal.index_mut-arena-requires
@@ -31,10 +32,10 @@ returns-then-end-from c =
     let o = c.index_mut-arena.result.now in
     let past : f.limit < rounded_up o.given c.args.align + c.args.size =
     omega (arith, c.if-end-from.true, c.from-2.ensures, c.from.ensures, c.rounded-place.ensures) in
-    let u = unchanged f.limit f.inside f.arenas.items c.args.a o c.self.invariant.arenas h in
-    rw (← c.self.view_is) (
-      no_room f.limit f.inside f.arenas.items c.args.a o c.self.invariant.arenas h c.args.size c.args.align past,
-      ap (λ (s : State). record { limit = f.limit; state = s; inside = f.inside }) u.1,
+    let u = unchanged f.limit (entered_of f) f.arenas.items c.args.a o c.self.invariant.arenas h in
+    rw (← c.self.view_is, inside_of-set f.is_inside f.current c.args.a.slot f.arenas.items o o h.place refl) (
+      no_room f.limit (entered_of f) f.arenas.items c.args.a o c.self.invariant.arenas h c.args.size c.args.align past,
+      ap (λ (s : State). record { limit = f.limit; state = s; inside = entered_of f }) u.1,
     )
 
 pub invariant_of-self-in_err-resize : goal.invariant_of-self-in_err-resize
@@ -42,11 +43,11 @@ invariant_of-self-in_err-resize c =
     let f = c.self.inside in
     let h = here (goal.at.invariant_of-self-in_err-resize c).After-index_mut-arena in
     let o = c.index_mut-arena.result.now in
-    record {
-      arenas = (same_shown f.limit f.inside f.arenas.items c.args.a o c.self.invariant.arenas h (record o { words = c.resize.new.self }) refl refl refl
+    rw (inside_of-set f.is_inside f.current c.args.a.slot f.arenas.items o (record o { words = c.resize.new.self }) h.place refl) (record {
+      arenas = (same_shown f.limit (entered_of f) f.arenas.items c.args.a o c.self.invariant.arenas h (record o { words = c.resize.new.self }) refl refl refl
           c.in_err-resize.ensures.items).0;
       place = c.self.invariant.place;
-    }
+    })
 
 pub returns-in_err-resize : goal.returns-in_err-resize
 returns-in_err-resize c =
@@ -54,9 +55,15 @@ returns-in_err-resize c =
     let f = c.self.inside in
     let h = here (goal.at.returns-in_err-resize c).After-index_mut-arena in
     let o = c.index_mut-arena.result.now in
-    let e = same_shown f.limit f.inside f.arenas.items c.args.a o c.self.invariant.arenas h (record o { words = c.resize.new.self }) refl refl refl
+    let e = same_shown f.limit (entered_of f) f.arenas.items c.args.a o c.self.invariant.arenas h (record o { words = c.resize.new.self }) refl refl refl
     c.in_err-resize.ensures.items in
-    rw (p.1, p.2, ← c.self.view_is) (ap (λ (s : State). record { limit = f.limit; state = s; inside = f.inside }) e.1)
+    rw (
+      p.1,
+      p.2,
+      ← c.self.view_is,
+      inside_of-set f.is_inside f.current c.args.a.slot f.arenas.items o (record o { words = c.resize.new.self }) h.place
+          refl,
+    ) (ap (λ (s : State). record { limit = f.limit; state = s; inside = entered_of f }) e.1)
 
 pub invariant_of-self-2 : goal.invariant_of-self-2
 invariant_of-self-2 c =
@@ -68,17 +75,17 @@ invariant_of-self-2 c =
     let r = rw (← c.self.view_is) at c.requires in
     let more : length o.words.items ≤ words_within end =
     rw (c.rounded-place.ensures, c.from.ensures)
-    (grows f.limit f.inside f.arenas.items c.args.a o c.self.invariant.arenas h c.args.size c.args.align (power_pos c.args.align r.power)) in
+    (grows f.limit (entered_of f) f.arenas.items c.args.a o c.self.invariant.arenas h c.args.size c.args.align (power_pos c.args.align r.power)) in
     let len : vec_len o.words ≡ length o.words.items = omega (arith, o.words.ok.0) in
     let grown = is_grown o.words.items c.resize.new.self.items (words_within end) more (c.in_ok-resize.ensures.items
     ∙ ap (λ l. take (words_within end) o.words.items ++ replicate (words_within end - l) 0) len) in
-    record {
-      arenas = (allotted_shown f.limit f.inside f.arenas.items c.args.a o c.self.invariant.arenas h end (record o {
+    rw (inside_of-set f.is_inside f.current c.args.a.slot f.arenas.items o (record o { words = c.resize.new.self; given = end }) h.place refl) (record {
+      arenas = (allotted_shown f.limit (entered_of f) f.arenas.items c.args.a o c.self.invariant.arenas h end (record o {
         words = c.resize.new.self;
         given = end;
       }) fits refl refl refl more grown).1;
       place = c.self.invariant.place;
-    }
+    })
 
 pub returns : goal.returns
 returns c =
@@ -90,16 +97,22 @@ returns c =
     let r = rw (← c.self.view_is) at c.requires in
     let more : length o.words.items ≤ words_within end =
     rw (c.rounded-place.ensures, c.from.ensures)
-    (grows f.limit f.inside f.arenas.items c.args.a o c.self.invariant.arenas h c.args.size c.args.align (power_pos c.args.align r.power)) in
+    (grows f.limit (entered_of f) f.arenas.items c.args.a o c.self.invariant.arenas h c.args.size c.args.align (power_pos c.args.align r.power)) in
     let len : vec_len o.words ≡ length o.words.items = omega (arith, o.words.ok.0) in
     let grown = is_grown o.words.items c.resize.new.self.items (words_within end) more (c.in_ok-resize.ensures.items
     ∙ ap (λ l. take (words_within end) o.words.items ++ replicate (words_within end - l) 0) len) in
-    let e = allotted_shown f.limit f.inside f.arenas.items c.args.a o c.self.invariant.arenas h end (record o { words = c.resize.new.self; given = end }) fits
-    refl refl refl more grown in
+    let e = allotted_shown f.limit (entered_of f) f.arenas.items c.args.a o c.self.invariant.arenas h end (record o {
+      words = c.resize.new.self;
+      given = end;
+    }) fits refl refl refl more grown in
     let room : rounded_up o.given c.args.align + c.args.size ≤ f.limit = omega (arith, fits, c.from.ensures, c.rounded-place.ensures) in
     let same : end ≡ c.rounded-place.result + c.args.size = omega (arith, c.from.ensures) in
-    rw (← c.self.view_is) (
-      ap Given c.rounded-place.ensures ∙ gives_place f.limit f.inside f.arenas.items c.args.a o c.self.invariant.arenas h c.args.size c.args.align room,
-      ap (λ (s : State). record { limit = f.limit; state = s; inside = f.inside }) (e.0
-          ∙ ap (λ k. changed (shown_all f.limit f.inside f.arenas.items) c.args.a (given_up_to k)) same),
+    rw (
+      ← c.self.view_is,
+      inside_of-set f.is_inside f.current c.args.a.slot f.arenas.items o (record o { words = c.resize.new.self; given = end })
+          h.place refl,
+    ) (
+      ap Given c.rounded-place.ensures ∙ gives_place f.limit (entered_of f) f.arenas.items c.args.a o c.self.invariant.arenas h c.args.size c.args.align room,
+      ap (λ (s : State). record { limit = f.limit; state = s; inside = entered_of f }) (e.0
+          ∙ ap (λ k. changed (shown_all f.limit (entered_of f) f.arenas.items) c.args.a (given_up_to k)) same),
     )

@@ -1,12 +1,15 @@
 use Rattle.std.proofs.Common.{arith, ap}
 use Rattle.fm_base.specs.Arenas.{Arena}
+use Rattle.fm_mono.proofs.Inside.{entered_of}
 use Rattle.fm_mono.proofs.Showing.{nobody}
 use Rattle.fm_mono.proofs.Steps.{IsPlaced, placed, placed_read, nobody_shown}
 use Rattle.fm_mono.proofs.mono.Mono.is_alive.Goals as goal
 use Rattle.fm_mono.proofs.mono.Mono.is_alive.Goals.{After-struct_known-1}
 
-here : (c : After-struct_known-1) → IsPlaced c.self.inside.limit c.self.inside.inside c.self.inside.arenas.items c.args.a
-here c = placed c.self.inside.limit c.self.inside.inside c.self.inside.arenas.items c.args.a c.self.invariant.arenas.names (rw (← c.self.view_is) at c.requires)
+here : (c : After-struct_known-1) → IsPlaced c.self.inside.limit (entered_of c.self.inside) c.self.inside.arenas.items c.args.a
+here c =
+    let r = rw (← c.self.view_is) at c.requires in
+    placed c.self.inside.limit (entered_of c.self.inside) c.self.inside.arenas.items c.args.a c.self.invariant.arenas.names r.known
 
 pub index-requires : goal.index-requires
 index-requires c = omega (arith, (here c).in_range, c.self.inside.arenas.ok.0)
@@ -17,11 +20,15 @@ returns-clause-life c =
     let same = placed_read c.self.inside.arenas.items c.args.a.slot p.arena c.index.result.now p.place c.index.ensures in
     rw (← c.self.view_is, ← same) (ap (λ (x : Arena). x.life) p.looked)
 
-pub returns-clause-owner : goal.returns-clause-owner
-returns-clause-owner c = (here (goal.at.returns-clause-owner c).After-struct_known-1).owner
-
-pub returns-clause-nowhere : goal.returns-clause-nowhere
-returns-clause-nowhere c = rw (← c.self.view_is) (nobody_shown c.self.inside.limit c.self.inside.inside c.self.inside.arenas.items)
-
-pub returns-clause-empty : goal.returns-clause-empty
-returns-clause-empty c = rw (← c.self.view_is) (λ h. rw h (nobody c.self.inside.limit c.self.inside.arenas.items c.args.a))
+pub returns-clause-can : goal.returns-clause-can
+returns-clause-can c =
+    let p = here (goal.at.returns-clause-can c).After-struct_known-1 in
+    let r = rw (← c.self.view_is) at c.requires in
+    let f = c.self.inside in
+    rw (← c.self.view_is) (record {
+      outside = r.outside;
+      known = r.known;
+      may = λ confined. p.owner;
+      nowhere = nobody_shown f.limit (entered_of f) f.arenas.items r.outside;
+      empty = rw r.outside (nobody f.limit f.arenas.items c.args.a);
+    })

@@ -1,7 +1,7 @@
 use Rattle.std.proofs.Common.{◌+◌, length, sym, ◌∙◌}
 use Rattle.std.proofs.lemmas.Result.{err_from_is_err_and}
 use Rattle.fm_access.specs.Alone.{ChangesBytes, StaysOut}
-use Rattle.fm_access.specs.Ranges.{DoesPutAll}
+use Rattle.fm_access.specs.Runs.{DoesPutAll}
 use Rattle.fm_segment.specs.Learnt.{KnowsSegment}
 use Rattle.fm_segment.specs.Puts.{PutCause, checked_put}
 use Rattle.fm_segment.proofs.Access.{known_still}

@@ -1,5 +1,5 @@
 use Rattle.std.proofs.Common.{sym, ap, ◌∙◌, ◌∷◌, [], refl, if◌then◌else◌, Bool}
-use Rattle.fm_base.specs.Arenas.{only_caller, MayUse, Alive, Ended}
+use Rattle.fm_base.specs.Arenas.{only_caller, Alive, Ended}
 use Rattle.fm_base.specs.Calls.{Enter, Fine, entry_of}
 use Rattle.fm_base.specs.Machine.{enter_reply}
 use Rattle.fm_base.specs.Visits.{refused_visit}
@@ -14,15 +14,10 @@ returns-then-is_alive c =
     let e = c.come_in.ensures in
     let s = c.is_alive.ensures in
     let alive = s.life ∙ ap (λ (b : Bool). if b then Alive else Ended) c.if-is_alive.true in
-    let may : MayUse c.args.a only_caller = λ k. s.owner in
     after_enter c.requires (sound_of c.args.self.now s.small) (record {
       own = entry_of only_caller (Enter c.args.a) Fine ∷ [];
-      does = (may, refl);
-      makes = makes_one c.args.self.now c.come_in.new.self (Enter c.args.a) Fine (
-        c.requires.known,
-        may,
-        s.nowhere c.requires.outside,
-      ) (sym (ap enter_reply alive))
+      does = (s.can.may, refl);
+      makes = makes_one c.args.self.now c.come_in.new.self (Enter c.args.a) Fine (s.can.known, s.can.may, s.can.nowhere) (sym (ap enter_reply alive))
           (ap (λ (x : Arenas). x.state) e) (ap (λ (x : Arenas). x.inside) e) (ap (λ (x : Arenas). x.limit) e);
     })
 
@@ -30,15 +25,8 @@ pub returns-else-is_alive : goal.returns-else-is_alive
 returns-else-is_alive c =
     let s = c.is_alive.ensures in
     let over = s.life ∙ ap (λ (b : Bool). if b then Alive else Ended) c.if-is_alive.false in
-    let may : MayUse c.args.a only_caller = λ k. s.owner in
     after_enter c.requires (sound_of c.args.self.now s.small) (record {
       own = refused_visit only_caller c.args.a;
-      does = (may, refl);
-      makes = enter_closed c.args.self.now c.args.a (record {
-        outside = c.requires.outside;
-        known = c.requires.known;
-        may = may;
-        nowhere = s.nowhere c.requires.outside;
-        empty = s.empty c.requires.outside;
-      }) over;
+      does = (s.can.may, refl);
+      makes = enter_closed c.args.self.now c.args.a s.can over;
     })

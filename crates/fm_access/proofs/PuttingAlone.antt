@@ -1,0 +1,178 @@
+-- What runs of visits that put bytes do to an arena, whichever the steps are.
+use Rattle.std.proofs.Common.{◌≡◌, inl, inr, ℕ, ◌+◌, ◌*◌, ◌/◌, ◌<◌, ◌≤◌, Bool, true, false, List, [], ◌∷◌, ◌++◌, length, take, drop, refl, sym, ap, subst, ◌∙◌, arith, None, Result, Ok, Err, IfOk}
+use Rattle.std.specs.Prelude.{OnErr}
+use Rattle.std.proofs.lemmas.List.{drop_at, take-append-drop}
+use Rattle.std.proofs.lemmas.List.Elements.{All-drop}
+use Rattle.fm_base.specs.declared.caller.Caller.{Caller}
+use Rattle.fm_base.specs.declared.arena_id.ArenaId.{ArenaId}
+use Rattle.fm_base.specs.declared.refusal.Refusal.{Refusal}
+use Rattle.fm_base.specs.Arenas.{Alive, Arena, State, arena_of, has_arena, changed}
+use Rattle.fm_base.specs.Calls.{Entry}
+use Rattle.fm_base.specs.Histories.{IsLegal, state_after}
+use Rattle.fm_base.specs.View.{View, Did, IsByItself, inside_after}
+use Rattle.fm_base.specs.Visits.{Run, ends, goes_on, visit}
+use Rattle.fm_base.proofs.Faith.{Makes-alone}
+use Rattle.fm_base.proofs.Lookup.{changed_twice}
+use Rattle.fm_base.proofs.Making.{IsLegal-split, state_after-append}
+use Rattle.fm_base.proofs.Running.{visit_ends_outside}
+use Rattle.fm_bytes.specs.Bytes.{AreBytes}
+use Rattle.fm_bytes.specs.Words.{bytes_in}
+use Rattle.fm_bytes.proofs.Words.{length-bytes_in}
+use Rattle.fm_access.specs.Alone.{bytes_of_arena, with_bytes, with_words, ChangesBytes, StaysOut}
+use Rattle.fm_access.specs.Ranges.{Putting, putting, PutsOn, EndsPutting, next_width, DoesPutBy}
+use Rattle.fm_access.specs.Runs.{writes, PutsWords, PutsMore}
+use Rattle.fm_access.proofs.Alone.{Leaves, puts_end, changes, shut_out, step_puts, with_words_there}
+use Rattle.fm_access.proofs.Outside.{EndsOutside}
+use Rattle.fm_access.proofs.Splicing.{with_bytes-twice}
+use Rattle.fm_access.proofs.Writing.{visit_writes}
+
+-- ---- one step
+
+-- what one visit does: the first bytes stand in the arena, and the others are left
+pub record StepLeaves (s t : State) (id : ArenaId) (x y : Putting) : Type 0 where
+  pub words : List ℕ
+  pub first : List ℕ
+  pub state : t ≡ changed s id (with_words words)
+  pub bytes : bytes_in words ≡ with_bytes (bytes_of_arena s id) x.at first
+  pub room : x.at ≤ length (bytes_of_arena s id)
+  pub known : has_arena s id ≡ true
+  pub alive : (arena_of s id).life ≡ Alive
+  pub at : y.at ≡ x.at + length first
+  pub all : x.bytes ≡ first ++ y.bytes
+  pub left : AreBytes y.bytes
+
+-- steps each of which does so, and ends outside
+pub record ArePuts (Step : Caller → ArenaId → Putting → List Entry → Putting → Type 0) : Type 0 where
+  pub leaves : (limit : ℕ) (c : Caller) (id : ArenaId) (s : State) (x y : Putting) (own : List Entry) → AreBytes x.bytes → Step c id x own y
+      → IsLegal limit s own → StepLeaves s (state_after limit s own) id x y
+  pub outside : (c : Caller) (id : ArenaId) (x y : Putting) (own : List Entry) → Step c id x own y → EndsOutside own
+
+-- One visit more, and the rest.
+leaves_on : (s t u : State) (id : ArenaId) (x y : Putting) (done : Bool) → StepLeaves s t id x y → Leaves t u id y done → Leaves s u id x done
+leaves_on s t u id x y false p more =
+    let there = with_words_there s t id p.words p.known p.state in
+    absurd (more.over (ap (λ (a : Arena). a.life) there ∙ p.alive))
+leaves_on s t u id x y true p more =
+    let all = bytes_of_arena s id in
+    let there = with_words_there s t id p.words p.known p.state in
+    let first : bytes_of_arena t id ≡ with_bytes (bytes_of_arena s id) x.at p.first = ap (λ (a : Arena). bytes_in a.words) there ∙ p.bytes in
+    record {
+      words = more.words;
+      state = more.state ∙ ap (λ (r : State). changed r id (with_words more.words)) p.state
+          ∙ changed_twice s id (with_words p.words) (with_words more.words) (λ a. refl);
+      bytes = more.bytes
+          ∙ ap (λ k. with_bytes (bytes_of_arena t id) k y.bytes) p.at
+          ∙ ap (λ bs. with_bytes bs (x.at + length p.first) y.bytes) first
+          ∙ with_bytes-twice all x.at p.first y.bytes p.room
+          ∙ ap (with_bytes all x.at) (sym p.all);
+    }
+
+-- ---- a piece, and whole words
+
+piece_leaves : (limit : ℕ) (c : Caller) (id : ArenaId) (s : State) (x y : Putting) (own : List Entry) → AreBytes x.bytes → PutsOn c id x own y
+    → IsLegal limit s own → StepLeaves s (state_after limit s own) id x y
+piece_leaves limit c id s x y own are step legal =
+    let p = step_puts limit c id s x y own are step legal in
+    let width = next_width x in
+    let part = take width x.bytes in
+    let all = bytes_of_arena s id in
+    let n = p.part.count in
+    let within = p.put.within in
+    record {
+      words = p.put.words;
+      first = part;
+      state = p.put.state;
+      bytes = p.put.bytes ∙ ap (λ bs. take x.at all ++ (bs ++ drop (x.at + width) all)) p.part.are
+          ∙ ap (λ k. take x.at all ++ (part ++ drop (x.at + k) all)) (sym n);
+      room = omega (arith, length-bytes_in (arena_of s id).words);
+      known = p.put.known;
+      alive = p.put.alive;
+      at = step.at ∙ ap (λ k. x.at + k) (sym n);
+      all = sym (take-append-drop width x.bytes) ∙ ap (λ bs. part ++ bs) (sym step.bytes);
+      left = p.left;
+    }
+
+-- The bytes behind others.
+left_bytes : (first rest all : List ℕ) → all ≡ first ++ rest → AreBytes all → AreBytes rest
+left_bytes first rest all e are =
+    subst AreBytes (ap (drop (length first)) e ∙ drop_at first rest (length first) refl) (All-drop (λ b. b < 256) (length first) all are)
+
+words_leave : (limit : ℕ) (c : Caller) (id : ArenaId) (s : State) (x y : Putting) (own : List Entry) (words : List ℕ) → AreBytes x.bytes
+    → (p : PutsWords c id x own y) → words ≡ p.words → IsLegal limit s own → StepLeaves s (state_after limit s own) id x y
+words_leave limit c id s x y own [] are p e legal = (let some = p.some in let none : length p.words ≡ 0 = ap length (sym e) in absurd (omega arith))
+words_leave limit c id s x y own (v ∷ vs) are p e legal =
+    let w = x.at / 8 in
+    let vis : own ≡ visit c id (writes id (x.at / 8) (v ∷ vs)) = p.visits ∙ ap (λ ws. visit c id (writes id w ws)) (sym e) in
+    let here = subst (λ (es : List Entry). IsLegal limit s es) vis legal in
+    let put = visit_writes limit c s id w v vs here in
+    let even : 8 * (x.at / 8) ≡ x.at = (let k = p.even in omega arith) in
+    let len : length (bytes_in (v ∷ vs)) ≡ 8 * length (v ∷ vs) = length-bytes_in (v ∷ vs) in
+    let all : x.bytes ≡ bytes_in (v ∷ vs) ++ y.bytes = p.bytes ∙ ap (λ ws. bytes_in ws ++ y.bytes) (sym e) in
+    let within = put.within in
+    record {
+      words = put.words;
+      first = bytes_in (v ∷ vs);
+      state = ap (state_after limit s) vis ∙ put.state;
+      bytes = put.bytes ∙ ap (λ n. with_bytes (bytes_of_arena s id) n (bytes_in (v ∷ vs))) even;
+      room = omega (arith, length-bytes_in (arena_of s id).words);
+      known = put.known;
+      alive = put.alive;
+      at = p.at ∙ ap (λ ws. x.at + 8 * length ws) (sym e) ∙ ap (λ n. x.at + n) (sym len);
+      all = all;
+      left = left_bytes (bytes_in (v ∷ vs)) y.bytes x.bytes all are;
+    }
+
+piece_outside : (c : Caller) (id : ArenaId) (x y : Putting) (own : List Entry) → PutsOn c id x own y → EndsOutside own
+piece_outside c id x y own s = ap (inside_after None) s.piece.visits ∙ visit_ends_outside None c id s.piece.acts
+
+-- Puts piece by piece.
+pub pieces_put : ArePuts PutsOn
+pieces_put = record { leaves = piece_leaves; outside = piece_outside }
+
+more_leaves : (limit : ℕ) (c : Caller) (id : ArenaId) (s : State) (x y : Putting) (own : List Entry) → AreBytes x.bytes → PutsMore c id x own y
+    → IsLegal limit s own → StepLeaves s (state_after limit s own) id x y
+more_leaves limit c id s x y own are (inl p) legal = words_leave limit c id s x y own p.words are p refl legal
+more_leaves limit c id s x y own are (inr p) legal = piece_leaves limit c id s x y own are p.piece legal
+
+more_outside : (c : Caller) (id : ArenaId) (x y : Putting) (own : List Entry) → PutsMore c id x own y → EndsOutside own
+more_outside c id x y own (inl p) = ap (inside_after None) p.visits ∙ visit_ends_outside None c id (writes id (x.at / 8) p.words)
+more_outside c id x y own (inr p) = piece_outside c id x y own p.piece
+
+-- Puts of whole words, and of pieces.
+pub words_put : ArePuts PutsMore
+words_put = record { leaves = more_leaves; outside = more_outside }
+
+-- ---- runs
+
+module _ {Step : Caller → ArenaId → Putting → List Entry → Putting → Type 0} (puts : ArePuts Step) where
+  -- A run of puts puts just these bytes.
+  puts_run : (limit : ℕ) (c : Caller) (id : ArenaId) (s : State) (x : Putting) (own : List Entry) (done : Bool) → AreBytes x.bytes
+      → Run (Step c id) (EndsPutting c id) x own done → IsLegal limit s own → Leaves s (state_after limit s own) id x done
+  puts_run limit c id s x own done are (ends e) legal = puts_end limit c id s x own done e legal
+  puts_run limit c id s x own done are (goes_on y first rest step run) legal =
+      let parts = IsLegal-split limit s first rest legal in
+      let t = state_after limit s first in
+      let p = puts.leaves limit c id s x y first are step parts.0 in
+      let more = puts_run limit c id t y rest done p.left run parts.1 in
+      let Here : State → Type 0 = λ u. Leaves s u id x done in
+      subst Here (sym (state_after-append limit s first rest)) (leaves_on s t (state_after limit t rest) id x y done p more)
+
+  -- Bytes that the only caller puts stand there, and all others stay.
+  pub put_alone : (old now : View) (id : ArenaId) (place : ℕ) (bytes : List ℕ) (result : Result (Unit {0}) Refusal) → AreBytes bytes
+      → has_arena old.state id ≡ true
+      → Did old now (DoesPutBy Step old.caller id place bytes result) → IsByItself old → IfOk result (λ u. ChangesBytes old now id place bytes)
+  put_alone old now id place bytes (Err r) are known d alone = tt
+  put_alone old now id place bytes (Ok u) are known d alone =
+      let m = Makes-alone old now d.own alone d.makes in
+      let all = puts_run old.limit old.caller id old.state (putting place bytes) d.own true are d.does.1 m.0 in
+      changes old now id place bytes known (record { words = all.words; state = m.1 ∙ all.state; bytes = all.bytes })
+
+  -- The only caller puts nothing where the arena isn't open to it.
+  pub put_shut : (old now : View) (id : ArenaId) (place : ℕ) (bytes : List ℕ) (result : Result (Unit {0}) Refusal) → AreBytes bytes
+      → Did old now (DoesPutBy Step old.caller id place bytes result) → IsByItself old → OnErr result (StaysOut old now id)
+  put_shut old now id place bytes (Ok u) are d alone = tt
+  put_shut old now id place bytes (Err r) are d alone =
+      let c = old.caller in
+      let first = putting place bytes in
+      shut_out old now id (λ es. Run (Step c id) (EndsPutting c id) first es false) r alone
+      (λ own run legal. puts_run old.limit c id old.state first own false are run legal) d

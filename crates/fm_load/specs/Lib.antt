@@ -1,0 +1,5 @@
+pub mod Held
+pub mod Limits
+pub mod Loaded
+pub mod Reading
+pub mod Whole

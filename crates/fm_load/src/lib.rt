@@ -1,0 +1,15 @@
+//! Files read whole: into a list of bytes, or into an arena of any memory whose caller is by itself.
+#![tactic(auto)]
+
+mod buffers;
+mod held;
+mod load_fault;
+mod loaded;
+mod loading;
+mod whole_file;
+
+pub use held::{RECORD_FILE_LIMIT, open_held};
+pub use load_fault::LoadFault;
+pub use loaded::Loaded;
+pub use loading::{load, load_into};
+pub use whole_file::{LAYOUT_FILE_LIMIT, read_whole};

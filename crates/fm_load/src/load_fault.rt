@@ -1,0 +1,12 @@
+/// Why a file wasn't loaded.
+#[derive(Clone, Copy, Debug, PartialEq, Eq)]
+pub enum LoadFault {
+    /// There is no file of that name.
+    Missing,
+    /// A read failed.
+    Failed,
+    /// The file has more bytes than the limit.
+    TooLong,
+    /// Memory ran out.
+    Memory,
+}
