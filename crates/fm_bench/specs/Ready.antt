@@ -2,6 +2,7 @@
 use Rattle.std.specs.Prelude.{◌≡◌, ◌≤◌, ℕ, List, None, All}
 use Rattle.fm_base.specs.declared.arena_id.ArenaId.{ArenaId}
 use Rattle.fm_base.specs.Arenas.{arena_of}
+use Rattle.fm_gate.specs.Crews.{HasNothing}
 use Rattle.fm_gate.specs.Standing.{IsOutside}
 use Rattle.fm_mono.specs.Shown.{Arenas, IsKnown, view_of}
 use Rattle.fm_pool_facts.specs.Views.{View, IsKnown as IsKnownTo, given_of}
@@ -34,3 +35,9 @@ pub record IsOpen (p : View) (bytes : ℕ) (a : ArenaId) : Type 0 where
 pub record AreOpen (pool : Pool) (p : View) (arenas : List ArenaId) (bytes : ℕ) : Type 0 where
   pub outside : IsOutside pool p
   pub each : All (IsOpen p bytes) arenas
+
+-- the pass is outside, the arena is open to it with eight bytes, and it has nothing, so that it can be gathered
+pub record CanWork (pool : Pool) (p : View) (a : ArenaId) : Type 0 where
+  pub outside : IsOutside pool p
+  pub opened : IsOpen p 8 a
+  pub nothing : HasNothing p

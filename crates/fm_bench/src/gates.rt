@@ -81,7 +81,7 @@ pub fn closes<R: Wait>(rt: &R, alloc: Global, pools: u64) -> Result<u64, Refusal
 }
 
 /// A pool of 16 passes, whose arenas have so many words.
-fn made(alloc: Global, slots: u32, words: u32) -> Result<(Pool, Pass), Refusal>
+pub fn made(alloc: Global, slots: u32, words: u32) -> Result<(Pool, Pass), Refusal>
     requires some { 0 < slots }
     requires slots { slots ≤ 64 }
     requires word { 0 < words }
@@ -100,7 +100,7 @@ fn made(alloc: Global, slots: u32, words: u32) -> Result<(Pool, Pass), Refusal>
 }
 
 /// Opens an arena that gives so many bytes.
-fn given<R: Wait>(rt: &R, pool: &Pool, pass: &mut Pass, bytes: u64) -> Result<ArenaId, Refusal>
+pub fn given<R: Wait>(rt: &R, pool: &Pool, pass: &mut Pass, bytes: u64) -> Result<ArenaId, Refusal>
     requires { IsOutside pool.now pass.old }
     ensures outside { IsOutside pool.now pass.new }
     ensures open { IfOk result (λ a. IsOpen pass.new bytes a) }
@@ -152,7 +152,7 @@ fn hop(pool: &Pool, pass: &mut Pass, arenas: &[ArenaId], word: u64) -> Result<u6
 }
 
 /// Loads a word in a visit of its own.
-fn visit(pool: &Pool, pass: &mut Pass, arena: ArenaId, word: u64) -> Result<u64, Refusal>
+pub fn visit(pool: &Pool, pass: &mut Pass, arena: ArenaId, word: u64) -> Result<u64, Refusal>
     requires ready { CanVisit pool.now pass.old arena }
     requires within { 8 * word < given_of pass.old arena }
     ensures outside { IsOutside pool.now pass.new }

@@ -1,27 +1,39 @@
 //! Loops for the benchmarks: `visits COUNT` of the words of a `Mono`'s arena, `gates COUNT` of a pool's arena and
 //! `hops COUNT` of 64 of its arenas, `closes POOLS` of the arenas of so many pools, `loads COUNT` from a plain vector,
+//! `adds COUNT`, `swaps COUNT` and `patches COUNT` of a word in one visit, `draws POOLS` of the passes of so many pools,
+//! `beside COUNT THREADS` and `apart COUNT THREADS` of visits by threads whose marks lie side by side and 8 apart,
 //! `known COUNT` of a segment by a layout that the compiler knows, `gets COUNT LAYOUT` and `handles COUNT LAYOUT` by a
 //! layout that is read as JSON, at offsets and by a path, and `fills COUNT`, `copies COUNT` and `mismatches COUNT` of
 //! segments of 64 MiB.
+//!
+//! `stress ROUNDS` is no benchmark: threads add to a word, and close the arena while others add, and it prints how many of
+//! the rounds came out as they should.
 //!
 //! It prints what it found, so that the loops are run; the script that calls it takes the time.
 #![tactic(auto)]
 
 mod cells;
+mod crews;
 mod gates;
 mod loads;
 mod ranges;
+mod stress;
+mod updates;
 mod visits;
 
 use crate::cells::{gets, handles, known};
+use crate::crews::{crowd, draws};
 use crate::gates::{closes, gates, hops};
 use crate::loads::loads;
 use crate::ranges::{copies, fills, mismatches};
+use crate::stress::stress;
+use crate::updates::{adds, patches, swaps};
 use crate::visits::visits;
 use std::alloc::Global;
 use std::env;
 use std::process::ExitCode;
 use std::sync::Wait;
+use std::thread::Threads;
 
 fn main(rt: HostRuntime) -> ExitCode {
     let printed = match words(&rt) {
@@ -48,13 +60,26 @@ fn words(rt: &HostRuntime) -> Option<(String, u64, String)> {
 }
 
 /// Runs the loop of this name; none where there is no such loop, or memory ran out.
-fn run<R: Wait>(rt: &R, alloc: Global, what: &str, count: u64, text: &str) -> Option<u64> {
+fn run<R: Threads + Wait + Sync>(
+    rt: &R,
+    alloc: Global,
+    what: &str,
+    count: u64,
+    text: &str,
+) -> Option<u64> {
     match what {
         "visits" => visits(rt, alloc, count).ok(),
         "gates" => gates(rt, alloc, count).ok(),
         "hops" => hops(rt, alloc, count).ok(),
         "closes" => closes(rt, alloc, count).ok(),
         "loads" => loads(alloc, count).ok(),
+        "adds" => adds(rt, alloc, count).ok(),
+        "swaps" => swaps(rt, alloc, count).ok(),
+        "patches" => patches(rt, alloc, count).ok(),
+        "draws" => draws(rt, alloc, count).ok(),
+        "beside" => crowd(rt, alloc, count, text.parse::<u64>().ok()?, 0).ok(),
+        "apart" => crowd(rt, alloc, count, text.parse::<u64>().ok()?, 7).ok(),
+        "stress" => stress(rt, alloc, count).ok(),
         "known" => known(rt, alloc, count).ok(),
         "gets" => gets(rt, alloc, count, text).ok(),
         "handles" => handles(rt, alloc, count, text).ok(),

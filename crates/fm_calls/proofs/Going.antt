@@ -12,10 +12,9 @@ use Rattle.fm_base.specs.View.{inside_after}
 use Rattle.fm_base.proofs.Making.{state_after-append, IsLegal-split, inside_after-append, FindsMore-trans, FindsMore-none}
 use Rattle.fm_base.proofs.Growing.{Grows-state_after}
 use Rattle.fm_words.specs.declared.shape.Shape.{Shape}
-use Rattle.fm_pool_facts.specs.declared.slot.Slot.{Slot}
 use Rattle.fm_pool_facts.specs.Views.{View, IsKnown, given_of, limit_of, state_in, IsSound}
 use Rattle.fm_pool_facts.specs.Steps.{Stepped, none_noted, acted}
-use Rattle.fm_calls.specs.Kept.{hand_next, hand_after, Goes, rest_of, Kept, HasEnded, Lasts}
+use Rattle.fm_calls.specs.Kept.{Goes, rest_of, Kept, Lasts}
 use Rattle.fm_calls.proofs.Lasting.{ended_after}
 
 -- ---- one step
@@ -45,7 +44,6 @@ pub record IsOn (p part : View) (own : List Entry) : Type 0 where
   pub whole : part.whole ≡ p.whole
   pub drawn : part.drawn ≡ p.drawn
   pub inside : part.inside ≡ inside_after p.inside own
-  pub hand : part.hand ≡ hand_after p.hand own
 
 -- A step is the pass's way by the step's own entries.
 pub goes_of : {p q part : View} {own : List Entry} {noted : ℕ → List Find} → Stepped p q part own noted → IsOn p part own
@@ -57,7 +55,6 @@ goes_of {p = p} {q = q} {part = part} {own = own} {noted = noted} s on m d = rec
   apart = s.apart;
   alone = λ w. ap (λ (xs : List Entry). xs ++ own) (s.alone w);
   inside = ap (λ (x : View). x.inside) s.is_part ∙ on.inside;
-  hand = ap (λ (x : View). x.hand) s.is_part ∙ on.hand;
   finds = record { more = noted (length (p.seen ++ s.others)); grown = ap (λ (x : View). x.finds) s.is_part; no_draw = d (length (p.seen ++ s.others)) };
   same_shape = ap (λ (x : View). x.shape) s.is_part ∙ on.shape;
   same_home = ap (λ (x : View). x.home) s.is_part ∙ on.home;
@@ -78,15 +75,13 @@ inside_is s = ap (λ (x : View). x.inside) s.is_part
 pub mark_is : {p q part : View} {own : List Entry} {noted : ℕ → List Find} → Stepped p q part own noted → q.mark ≡ part.mark
 mark_is s = ap (λ (x : View). x.mark) s.is_part
 
+pub hand_is : {p q part : View} {own : List Entry} {noted : ℕ → List Find} → Stepped p q part own noted → q.hand ≡ part.hand
+hand_is s = ap (λ (x : View). x.hand) s.is_part
+
 pub closes_is : {p q part : View} {own : List Entry} {noted : ℕ → List Find} → Stepped p q part own noted → q.closes ≡ part.closes
 closes_is s = ap (λ (x : View). x.closes) s.is_part
 
 -- ---- steps in order
-
--- The slots in hand after two runs of entries.
-hand_after-append : (hand : List Slot) (es fs : List Entry) → hand_after hand (es ++ fs) ≡ hand_after (hand_after hand es) fs
-hand_after-append hand [] fs = refl
-hand_after-append hand (e ∷ es) fs = hand_after-append (hand_next hand e.call) es fs
 
 -- One way after another.
 pub goes_then : {p q r : View} {es fs : List Entry} → Goes p q es → Goes q r fs → Goes p r (es ++ fs)
@@ -100,7 +95,6 @@ goes_then {p = p} {q = q} {r = r} {es = es} {fs = fs} a b = record {
       λ i g l. filter-append _ a.more b.more ∙ (ap (λ (xs : List Entry). xs ++ made_by (get_or p.gathered i g).caller b.more) (a.apart i g l) ∙ next i g l);
   alone = λ w. ap (λ (xs : List Entry). xs ++ b.more) (a.alone w) ∙ ap (λ (xs : List Entry). es ++ xs) (b.alone (a.same_whole ∙ w));
   inside = b.inside ∙ (ap (λ i. inside_after i fs) a.inside ∙ sym (inside_after-append p.inside es fs));
-  hand = b.hand ∙ (ap (λ h. hand_after h fs) a.hand ∙ sym (hand_after-append p.hand es fs));
   finds = FindsMore-trans p.finds q.finds r.finds a.finds b.finds;
   same_shape = b.same_shape ∙ a.same_shape;
   same_home = b.same_home ∙ a.same_home;
@@ -120,7 +114,6 @@ goes_none {p = p} s = record {
   apart = λ i g l. refl;
   alone = λ w. refl;
   inside = refl;
-  hand = refl;
   finds = FindsMore-none p.finds;
   same_shape = refl;
   same_home = refl;

@@ -1,3 +1,4 @@
 pub mod Lasting
 pub mod Going
+pub mod Waiting
 pub mod Telling

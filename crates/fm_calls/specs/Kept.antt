@@ -2,24 +2,13 @@
 use Rattle.std.specs.Prelude.{◌≡◌, ◌≤◌, true, List, [], ◌∷◌, ◌++◌, All, ℕ}
 use Rattle.fm_base.specs.declared.arena_id.ArenaId.{ArenaId}
 use Rattle.fm_base.specs.Arenas.{Ended, arena_of}
-use Rattle.fm_base.specs.Calls.{Call, Open, Entry}
+use Rattle.fm_base.specs.Calls.{Entry}
 use Rattle.fm_base.specs.Histories.{made_by}
 use Rattle.fm_base.specs.Finds.{Close, Rest, FindsMore}
 use Rattle.fm_base.specs.View.{inside_after}
 use Rattle.fm_words.specs.declared.shape.Shape.{Shape}
-use Rattle.fm_pool_facts.specs.declared.slot.Slot.{Slot}
+use Rattle.fm_pool_facts.specs.Hands.{slots_in}
 use Rattle.fm_pool_facts.specs.Views.{View, IsKnown, IsSound, given_of, state_in}
-use Rattle.fm_pool_facts.specs.Steps.{but_first}
-
--- the slots in hand: an arena is opened in the first one
-abbrev pub hand_next : List Slot → Call → List Slot
-hand_next hand (Open id) = but_first hand
-hand_next hand call = hand
-
--- the slots in hand after its own entries
-abbrev pub hand_after : List Slot → List Entry → List Slot
-hand_after hand [] = hand
-hand_after hand (e ∷ es) = hand_after (hand_next hand e.call) es
 
 -- The pass goes on by entries, of which these are its own, wholly after all that it had seen
 pub record Goes (old new : View) (own : List Entry) : Type 0 where
@@ -31,7 +20,6 @@ pub record Goes (old new : View) (own : List Entry) : Type 0 where
   pub apart : All (λ g. made_by g.caller more ≡ []) old.gathered
   pub alone : old.whole ≡ true → more ≡ own
   pub inside : new.inside ≡ inside_after old.inside own
-  pub hand : new.hand ≡ hand_after old.hand own
   pub finds : FindsMore old.finds new.finds
   pub same_shape : new.shape ≡ old.shape
   pub same_home : new.home ≡ old.home
@@ -44,7 +32,7 @@ pub record Goes (old new : View) (own : List Entry) : Type 0 where
 abbrev pub shape_numbers : Shape → List ℕ
 shape_numbers z = z.passes ∷ z.slots ∷ z.pages ∷ z.page_words ∷ z.reach ∷ z.generations ∷ []
 
--- what a pass has, and what was gathered into it; until slots come back none was taken to be given back
+-- what a pass has, and what was gathered into it
 abbrev pub rest_of : View → Rest
 rest_of p = record {
   home = shape_numbers p.shape ++ p.home;
@@ -52,7 +40,7 @@ rest_of p = record {
   handles = p.handles;
   closes = p.closes;
   pages = p.pages;
-  slots = [];
+  slots = slots_in p.hand;
   gathered = p.gathered;
   whole = p.whole;
 }
@@ -71,6 +59,10 @@ KeptBut old new closes P = KeptAs old new (record (rest_of old) { closes = close
 -- but for these holds
 abbrev pub KeptHolding : View → View → List ArenaId → (List Entry → Type 0) → Type 0
 KeptHolding old new holds P = KeptAs old new (record (rest_of old) { holds = holds }) P
+
+-- but for these handles
+abbrev pub KeptHandling : View → View → List ArenaId → (List Entry → Type 0) → Type 0
+KeptHandling old new handles P = KeptAs old new (record (rest_of old) { handles = handles }) P
 
 -- and it has all that it had
 abbrev pub Kept : View → View → (List Entry → Type 0) → Type 0

@@ -16,7 +16,7 @@ use Rattle.fm_close.specs.declared.shutting.Shutting.{Shutting}
 use Rattle.fm_close.specs.declared.outcome.Visit.{Visit}
 use Rattle.fm_close.specs.declared.outcome.Visit.TheVariants.{Next, Inside, Ended}
 use Rattle.fm_close.specs.Learnt.{IsUnderWay, closes_shut, closes_visited}
-use Rattle.fm_close.specs.Lasting.{CloseStands, StandsAtShut, StandsAtVisit, CloseLasts}
+use Rattle.fm_close.specs.Lasting.{CloseStands, StandsAtShut, StandsAtVisit, StandsOnward, CloseLasts}
 
 -- ---- closes of other arenas in the list
 
@@ -80,5 +80,13 @@ at_visit : StandsAtVisit
 at_visit pool old new t v result s h n u =
     stands_by h.did.goes (ap (λ (x : Rest). visited_of x.closes s.arena) h.did.rest ∙ of_visit t.arena s.arena result old.closes n) u
 
+onward : StandsOnward
+onward pool old new s h u = record {
+  unfinished = u.unfinished;
+  known = h.lasts.known s.arena u.known;
+  at = ap (λ (cs : List Close). visited_of cs s.arena) h.closes ∙ u.at;
+  low = rw h.shape u.low;
+}
+
 pub lasts : CloseLasts
-lasts = record { stands = stands; at_shut = at_shut; at_visit = at_visit }
+lasts = record { stands = stands; at_shut = at_shut; at_visit = at_visit; onward = onward }

@@ -2,4 +2,6 @@ pub mod Closes
 pub mod Shuts
 pub mod Looks
 pub mod Walks
+pub mod Backs
 pub mod Lasting
+pub mod Lefts

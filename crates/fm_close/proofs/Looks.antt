@@ -16,7 +16,7 @@ use Rattle.fm_pool_facts.specs.Steps.{Stepped, note_of, is_clear}
 use Rattle.fm_rule.specs.declared.pool.Pool.{Pool}
 use Rattle.fm_calls.specs.Kept.{Goes, HasEnded}
 use Rattle.fm_calls.specs.Told.{silent_view}
-use Rattle.fm_calls.proofs.Going.{goes_of, made_by-one, NoDraws, rest_is, inside_is, mark_is, closes_is, known_on, lasts_on}
+use Rattle.fm_calls.proofs.Going.{goes_of, made_by-one, NoDraws, rest_is, hand_is, inside_is, mark_is, closes_is, known_on, lasts_on}
 use Rattle.fm_calls.proofs.Telling.{silent_makes}
 use Rattle.fm_gate.specs.Standing.{IsOutside}
 use Rattle.fm_gate.proofs.Standing.{stands_outside}
@@ -75,7 +75,6 @@ module _ {pool : Pool} {p q : View} {s : Shutting} (found : ℕ) (can : CanWalk 
     whole = refl;
     drawn = refl;
     inside = refl;
-    hand = refl;
   }) refl (no_draw p s.arena s.next found)
   goes_as closes.Next e = goes_of (step_as closes.Next e) (record {
     shape = refl;
@@ -85,7 +84,6 @@ module _ {pool : Pool} {p q : View} {s : Shutting} (found : ℕ) (can : CanWalk 
     whole = refl;
     drawn = refl;
     inside = refl;
-    hand = refl;
   }) refl (no_draw p s.arena s.next found)
   goes_as closes.Ended e = goes_of (step_as closes.Ended e) (record {
     shape = refl;
@@ -95,7 +93,6 @@ module _ {pool : Pool} {p q : View} {s : Shutting} (found : ℕ) (can : CanWalk 
     whole = refl;
     drawn = refl;
     inside = refl;
-    hand = refl;
   })
       (made_by-one p.caller (End s.arena) Fine) (no_draw p s.arena s.next found)
 
@@ -108,7 +105,8 @@ module _ {pool : Pool} {p q : View} {s : Shutting} (found : ℕ) (can : CanWalk 
       omega arith
 
   outside_by : {es : List Entry} → Goes p q es → IsOutside pool q
-  outside_by g = stands_outside g can.outside.of can.outside.no_number (inside_is step ∙ can.outside.outside) (mark_is step ∙ can.outside.unmarked)
+  outside_by g = stands_outside g can.outside.of can.outside.no_number (hand_is step ∙ can.outside.no_slot)
+      (inside_is step ∙ can.outside.outside) (mark_is step ∙ can.outside.unmarked)
 
   -- What is learnt where the mark names the arena.
   pub after_inside : found ≡ mark_of s.arena → AfterVisit pool p q s s (Inside s.next)

@@ -13,7 +13,7 @@ use Rattle.fm_pool_facts.specs.Closes.{begun, visited_of}
 use Rattle.fm_pool_facts.specs.Steps.{Stepped, none_noted}
 use Rattle.fm_rule.specs.declared.pool.Pool.{Pool}
 use Rattle.fm_calls.specs.Kept.{Goes}
-use Rattle.fm_calls.proofs.Going.{goes_of, goes_none, kept_none, made_by-one, no_draws, rest_is, inside_is, mark_is, closes_is, known_on, lasts_on}
+use Rattle.fm_calls.proofs.Going.{goes_of, goes_none, kept_none, made_by-one, no_draws, rest_is, hand_is, inside_is, mark_is, closes_is, known_on, lasts_on}
 use Rattle.fm_gate.specs.Standing.{IsOutside, CanVisit}
 use Rattle.fm_gate.proofs.Standing.{stands_outside}
 use Rattle.fm_close.specs.Does as does
@@ -63,12 +63,11 @@ module _ {pool : Pool} {p q : View} {a : ArenaId} (word : ℕ) (can : CanVisit p
     whole = refl;
     drawn = refl;
     inside = refl;
-    hand = refl;
   }) (made_by-one p.caller (Shut a) reply) no_draws
 
   still_outside : (reply : Reply) → shut_found (alive_holds a word) ≡ reply → IsOutside pool q
-  still_outside reply e = stands_outside (shut_goes reply e) can.outside.of can.outside.no_number (inside_is s ∙ can.outside.outside) (mark_is s
-      ∙ can.outside.unmarked)
+  still_outside reply e = stands_outside (shut_goes reply e) can.outside.of can.outside.no_number (hand_is s ∙ can.outside.no_slot)
+      (inside_is s ∙ can.outside.outside) (mark_is s ∙ can.outside.unmarked)
 
   -- What is learnt where the arena wasn't alive.
   pub after_closed : alive_holds a word ≡ None → AfterShut pool p q a (Err refusal.Closed)

@@ -1,5 +1,5 @@
--- What shutting and one visit do: the caller's own entries and the answer.
-use Rattle.std.specs.Prelude.{◌≡◌, ℕ, ◌+◌, ◌<◌, Bool, true, false, List, [], ◌∷◌, Result, Ok, Err}
+-- What shutting, one visit and the return of a handle do: the caller's own entries and the answer.
+use Rattle.std.specs.Prelude.{◌≡◌, ℕ, ◌+◌, ◌<◌, Bool, true, false, List, [], ◌∷◌, Option, Some, None, Result, Ok, Err}
 use Rattle.fm_base.specs.declared.caller.Caller.{Caller}
 use Rattle.fm_base.specs.declared.arena_id.ArenaId.{ArenaId}
 use Rattle.fm_base.specs.declared.refusal.Refusal.{Refusal}
@@ -8,6 +8,8 @@ use Rattle.fm_base.specs.Arenas.{MayUse}
 use Rattle.fm_base.specs.Calls as machine
 use Rattle.fm_base.specs.Calls.{Entry, entry_of}
 use Rattle.fm_base.specs.Does.{IsClosable}
+use Rattle.fm_close.specs.declared.gave_back.GaveBack.{GaveBack}
+use Rattle.fm_close.specs.declared.gave_back.GaveBack.TheVariants as gave
 use Rattle.fm_close.specs.declared.shutting.Shutting.{Shutting}
 use Rattle.fm_close.specs.declared.outcome.Visit.{Visit}
 use Rattle.fm_close.specs.declared.outcome.Visit.TheVariants.{Next, Inside, Ended}
@@ -45,3 +47,13 @@ abbrev pub DoesVisit : Caller → ArenaId → Visit → List Entry → Type 0
 DoesVisit c id Next own = own ≡ []
 DoesVisit c id (Inside k) own = own ≡ []
 DoesVisit c id Ended own = own ≡ entry_of c (machine.End id) machine.Fine ∷ []
+
+-- a handle is spent: others are left, or it was the last and the close of the arena is begun
+abbrev pub DoesSpend : Caller → ArenaId → Option Shutting → List Entry → Type 0
+DoesSpend c id None own = own ≡ entry_of c (machine.Unhold id) machine.Fine ∷ []
+DoesSpend c id (Some s) own = (s ≡ begun id) × (own ≡ entry_of c (machine.Shut id) machine.Fine ∷ [])
+
+-- whether other handles are left
+abbrev pub others_left : GaveBack → Bool
+others_left gave.Kept = true
+others_left gave.Ended = false

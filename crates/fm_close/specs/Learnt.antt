@@ -1,24 +1,28 @@
 -- What each call of a close asks for, and what its caller learns: one record each.
-use Rattle.std.specs.Prelude.{◌≡◌, ◌≢◌, ◌+◌, ◌<◌, ◌==◌, true, false, List, [], ◌∷◌, ◌++◌, length, Some, None, Result, Ok, Err, IfOk}
+use Rattle.std.specs.Prelude.{◌≡◌, ◌≢◌, ◌+◌, ◌<◌, ◌==◌, true, false, List, [], ◌∷◌, ◌++◌, length, ℕ, Option, Some, None, Result, Ok, Err, IfOk, IfSome}
 use Rattle.fm_base.specs.declared.arena_id.ArenaId.{ArenaId}
 use Rattle.fm_base.specs.declared.kind.Kind.{Kind}
 use Rattle.fm_base.specs.declared.refusal.Refusal.{Refusal}
 use Rattle.fm_base.specs.declared.refusal.Refusal.TheVariants.{WrongThread, CannotClose}
 use Rattle.fm_base.specs.Calls.{End, Fine, Entry, entry_of}
-use Rattle.fm_base.specs.Does.{DoesClose}
+use Rattle.fm_base.specs.Does.{DoesClose, DoesGiveBack}
 use Rattle.fm_base.specs.Finds.{Close, Find, Visits}
 use Rattle.fm_base.specs.View.{but_loans}
 use Rattle.fm_pool_facts.specs.Views.{View, IsKnown, pass_of}
 use Rattle.fm_pool_facts.specs.Closes.{close_of, visited_of, visited, dropped}
 use Rattle.fm_pool_facts.specs.Steps.{is_clear}
-use Rattle.fm_pool_facts.specs.Words.{mark_of}
+use Rattle.fm_pool_facts.specs.Words.{mark_of, alive_holds}
+use Rattle.fm_pool_facts.specs.Holds.{released}
+use Rattle.fm_pool_facts.specs.Handles.{giving_by, given_back, giving_entries}
 use Rattle.fm_rule.specs.declared.pool.Pool.{Pool}
-use Rattle.fm_calls.specs.Kept.{Goes, KeptBut, Kept, rest_of, HasEnded, Lasts}
-use Rattle.fm_gate.specs.Standing.{IsOutside}
+use Rattle.fm_calls.specs.Kept.{Goes, KeptAs, KeptBut, KeptHandling, Kept, rest_of, HasEnded, Lasts}
+use Rattle.fm_gate.specs.Standing.{IsOutside, HasHandle}
+use Rattle.fm_close.specs.declared.gave_back.GaveBack.{GaveBack}
+use Rattle.fm_close.specs.declared.gave_back.GaveBack.TheVariants as gave
 use Rattle.fm_close.specs.declared.shutting.Shutting.{Shutting}
 use Rattle.fm_close.specs.declared.outcome.Visit.{Visit}
 use Rattle.fm_close.specs.declared.outcome.Visit.TheVariants.{Next, Inside, Ended}
-use Rattle.fm_close.specs.Does.{DoesShut, DoesVisit, visit_answer, after_visit}
+use Rattle.fm_close.specs.Does.{DoesShut, DoesVisit, visit_answer, after_visit, DoesSpend, others_left}
 
 -- ---- what is asked for
 
@@ -36,6 +40,11 @@ pub record CanWalk (pool : Pool) (p : View) (s : Shutting) : Type 0 where
 pub record CanSweep (pool : Pool) (p : View) (s : Shutting) : Type 0 where
   pub outside : IsOutside pool p
   pub ended : s.ended ≡ true
+
+-- outside, with a handle of the arena
+pub record CanGiveBack (pool : Pool) (p : View) (id : ArenaId) : Type 0 where
+  pub outside : IsOutside pool p
+  pub handle : HasHandle pool p id
 
 -- ---- what is learnt
 
@@ -100,4 +109,34 @@ pub record AfterClose (pool : Pool) (old new : View) (id : ArenaId) (result : Re
   -- then the pass is as it was
   pub wrong_thread : result ≡ Err WrongThread → new ≡ old
   pub cannot_close : (kind : Kind) → result ≡ Err (CannotClose kind) → new ≡ old
+  pub lasts : Lasts old new
+
+-- ---- handles of automatic arenas
+
+-- of the exchange that gives back a handle, and found this session word
+pub record AfterBack (old new : View) (id : ArenaId) (word : ℕ) : Type 0 where
+  pub goes : Goes old new (giving_entries id (giving_by (alive_holds id word)) old.caller)
+  pub rest : rest_of new ≡ rest_of (given_back id (giving_by (alive_holds id word)) old)
+  pub alive : alive_holds id word ≢ None
+  pub inside : new.inside ≡ old.inside
+  pub mark : new.mark ≡ old.mark
+  pub hand : new.hand ≡ old.hand
+
+-- the closes of a pass after a handle was spent
+abbrev pub closes_spent : ArenaId → Option Shutting → List Close → List Close
+closes_spent id None cs = cs
+closes_spent id (Some s) cs = close_of id 0 ∷ cs
+
+-- of a handle that is spent
+pub record AfterSpend (pool : Pool) (old new : View) (id : ArenaId) (result : Option Shutting) : Type 0 where
+  pub did : KeptAs old new (record (rest_of old) { closes = closes_spent id result old.closes; handles = released id old.handles })
+      (DoesSpend old.caller id result)
+  pub walks : IfSome result (λ s. CanWalk pool new s)
+  pub outside : IsOutside pool new
+
+-- of `give_back`
+pub record AfterGiveBack (pool : Pool) (old new : View) (id : ArenaId) (result : GaveBack) : Type 0 where
+  pub did : KeptHandling old new (released id old.handles) (λ own. DoesGiveBack old.caller id (others_left result) (but_loans own))
+  pub ended : result ≡ gave.Ended → HasEnded new id
+  pub outside : IsOutside pool new
   pub lasts : Lasts old new

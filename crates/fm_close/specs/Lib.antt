@@ -1,3 +1,4 @@
 pub mod Does
 pub mod Learnt
 pub mod Lasting
+pub mod Handles

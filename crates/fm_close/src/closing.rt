@@ -27,7 +27,7 @@ pub fn close<R: Wait>(rt: &R, pool: &Pool, pass: &mut Pass, a: ArenaId) -> Resul
 }
 
 /// Visits all marks that are left. It waits while one names the arena.
-fn walk<R: Wait>(rt: &R, pool: &Pool, pass: &mut Pass, s: &mut Shutting)
+pub(crate) fn walk<R: Wait>(rt: &R, pool: &Pool, pass: &mut Pass, s: &mut Shutting)
     requires { CanWalk pool.now pass.old s.old }
     ensures { Walked pool.now pass.old pass.new s.old s.new }
 {

@@ -5,6 +5,10 @@ ghost use Rattle.fm_gate.specs.Standing.{CanVisit, IsOutside};
 ghost use Rattle.fm_close.specs.Learnt.{CanWalk, IsUnderWay, StandsAfter};
 ghost use Rattle.fm_close.specs.Does.{after_visit};
 
+mod crews;
+mod kinds;
+mod threads;
+
 use crate::{Shutting, Visit, a_close_lasts, close, shut, sweep, visit};
 use fm_base::{ArenaId, Kind, Refusal};
 use fm_gate::{

@@ -1,33 +1,26 @@
 -- Acts inside an arena, and leaving it.
-use Rattle.std.proofs.Common.{◌≡◌, ℕ, List, refl, sym, ◌∙◌, subst, Option, Some, None}
+use Rattle.std.proofs.Common.{◌≡◌, ℕ, refl, sym, ◌∙◌, subst, Option, Some, None}
 use Rattle.fm_base.specs.declared.caller.Caller.{Caller}
 use Rattle.fm_base.specs.declared.arena_id.ArenaId.{ArenaId}
 use Rattle.fm_base.specs.Calls.{Call, Leave, Reply, Fine}
 use Rattle.fm_base.specs.View.{inside_after, inside_next}
 use Rattle.fm_base.specs.Does.{DoesAct}
-use Rattle.fm_pool_facts.specs.declared.slot.Slot.{Slot}
 use Rattle.fm_pool_facts.specs.Views.{View}
 use Rattle.fm_pool_facts.specs.Steps.{Stepped, none_noted, acted}
 use Rattle.fm_rule.specs.declared.pool.Pool.{Pool}
-use Rattle.fm_calls.specs.Kept.{hand_next, hand_after, Goes}
-use Rattle.fm_calls.proofs.Going.{goes_of, made_by-acted, no_draws, rest_is, inside_is, mark_is, lasts_on}
+use Rattle.fm_calls.specs.Kept.{Goes}
+use Rattle.fm_calls.proofs.Going.{goes_of, made_by-acted, no_draws, rest_is, hand_is, inside_is, mark_is, lasts_on}
 use Rattle.fm_gate.specs.Standing.{CanReach, CanLeave}
 use Rattle.fm_gate.specs.Learnt.{AfterAct, AfterLeave}
 use Rattle.fm_gate.proofs.Standing.{stands_outside, stands_inside}
 
--- The call neither comes into an arena, nor leaves one, nor opens one
+-- The call neither comes into an arena nor leaves one
 pub record IsAct (f : ArenaId → Call) (reply : Reply) : Type 0 where
   pub stays : (a : ArenaId) → inside_next (Some a) (f a) reply ≡ Some a
-  pub hand : (a : ArenaId) (hand : List Slot) → hand_next hand (f a) ≡ hand
 
 inside_acted : (i : Option ArenaId) (c : Caller) (f : ArenaId → Call) (reply : Reply) → IsAct f reply → i ≡ inside_after i (acted i c f reply)
 inside_acted None c f reply is = refl
 inside_acted (Some a) c f reply is = sym (is.stays a)
-
-hand_acted : (i : Option ArenaId) (hand : List Slot) (c : Caller) (f : ArenaId → Call) (reply : Reply) → ((a : ArenaId) (hand : List Slot)
-    → hand_next hand (f a) ≡ hand) → hand ≡ hand_after hand (acted i c f reply)
-hand_acted None hand c f reply is = refl
-hand_acted (Some a) hand c f reply is = sym (is a hand)
 
 does_act : (i : Option ArenaId) (id : ArenaId) (c : Caller) (f : ArenaId → Call) (reply : Reply) → i ≡ Some id → DoesAct i c f reply (acted i c f reply)
 does_act i id c f reply e = subst (λ (x : Option ArenaId). DoesAct x c f reply (acted x c f reply)) (sym e) refl
@@ -44,7 +37,6 @@ module _ {p q : View} {f : ArenaId → Call} {reply : Reply} (is : IsAct f reply
     whole = refl;
     drawn = refl;
     inside = inside_acted p.inside p.caller f reply is;
-    hand = hand_acted p.inside p.hand p.caller f reply is.hand;
   })
       (made_by-acted p.inside p.caller f reply) no_draws
 
@@ -57,7 +49,7 @@ module _ {p q : View} {f : ArenaId → Call} {reply : Reply} (is : IsAct f reply
       goes = act_goes;
       rest = rest_is s;
     };
-    inside = λ id now. stands_inside act_goes now.of now.no_number (inside_is s ∙ now.inside);
+    inside = λ id now. stands_inside act_goes now.of now.no_number (hand_is s ∙ now.no_slot) (inside_is s ∙ now.inside);
     lasts = lasts_on act_goes;
   }
 
@@ -78,7 +70,6 @@ module _ {p q : View} (s : Stepped p q (record p { inside = None; mark = None })
     whole = refl;
     drawn = refl;
     inside = leaves_to p.inside p.caller;
-    hand = hand_acted p.inside p.hand p.caller Leave Fine (λ a hand. refl);
   })
       (made_by-acted p.inside p.caller Leave Fine) no_draws
 
@@ -91,6 +82,6 @@ module _ {p q : View} (s : Stepped p q (record p { inside = None; mark = None })
       goes = unmark_goes;
       rest = rest_is s;
     };
-    outside = stands_outside unmark_goes can.inside.of can.inside.no_number (inside_is s) (mark_is s);
+    outside = stands_outside unmark_goes can.inside.of can.inside.no_number (hand_is s ∙ can.inside.no_slot) (inside_is s) (mark_is s);
     lasts = lasts_on unmark_goes;
   }

@@ -13,7 +13,7 @@ use Rattle.fm_pool_facts.specs.Words.{alive_holds, enter_found, inside_found}
 use Rattle.fm_pool_facts.specs.Steps.{Stepped, none_noted, acted}
 use Rattle.fm_rule.specs.declared.pool.Pool.{Pool}
 use Rattle.fm_calls.specs.Kept.{Goes, rest_of}
-use Rattle.fm_calls.proofs.Going.{IsOn, goes_of, goes_then, goes_none, kept_none, made_by-one, no_draws, rest_is, inside_is, mark_is, lasts_on}
+use Rattle.fm_calls.proofs.Going.{IsOn, goes_of, goes_then, goes_none, kept_none, made_by-one, no_draws, rest_is, hand_is, inside_is, mark_is, lasts_on}
 use Rattle.fm_gate.specs.Standing.{CanVisit}
 use Rattle.fm_gate.specs.Learnt.{AfterEnter}
 use Rattle.fm_gate.proofs.Standing.{stands_outside, stands_inside}
@@ -40,7 +40,6 @@ mark_goes s = goes_of s (record {
   whole = refl;
   drawn = refl;
   inside = refl;
-  hand = refl;
 }) refl no_draws
 
 module _ {pool : Pool} {p q r : View} {a : ArenaId} (word : ℕ) (can : CanVisit pool p a) (may : MayUse a p.caller)
@@ -73,7 +72,6 @@ module _ {pool : Pool} {p q r : View} {a : ArenaId} (word : ℕ) (can : CanVisit
         whole = refl;
         drawn = refl;
         inside = i ∙ out;
-        hand = refl;
       } in
       goes_then marked (goes_of s on (ap (λ c. made_by c own) n ∙ made_by-one p.caller (Enter a) (enter_found found)) no_draws)
 
@@ -83,7 +81,8 @@ module _ {pool : Pool} {p q r : View} {a : ArenaId} (word : ℕ) (can : CanVisit
       let g = checked (Some holds) e refl in
       record {
         did = record { own = entry_of p.caller (Enter a) Fine ∷ []; does = (may, refl); goes = g; rest = same_rest };
-        inside = stands_inside g can.outside.of can.outside.no_number (inside_is checks ∙ ap (inside_found a) e);
+        inside = stands_inside g can.outside.of can.outside.no_number (hand_is checks ∙ (hand_is marks ∙ can.outside.no_slot))
+            (inside_is checks ∙ ap (inside_found a) e);
         outside = tt;
         wrong_thread = λ e. absurd (cc);
         lasts = lasts_on g;
@@ -108,7 +107,8 @@ module _ {pool : Pool} {p q r : View} {a : ArenaId} (word : ℕ) (can : CanVisit
     after_closed = record {
       did = record { own = entry_of p.caller (Enter a) Closed ∷ []; does = (may, refl); goes = refused; rest = rest_is unmarks ∙ same_rest };
       inside = tt;
-      outside = stands_outside refused can.outside.of can.outside.no_number (inside_is unmarks) (mark_is unmarks);
+      outside = stands_outside refused can.outside.of can.outside.no_number
+          (hand_is unmarks ∙ (hand_is checks ∙ (hand_is marks ∙ can.outside.no_slot))) (inside_is unmarks) (mark_is unmarks);
       wrong_thread = λ e. absurd (cc);
       lasts = lasts_on refused;
     }

@@ -16,7 +16,7 @@ use Rattle.fm_pool_facts.specs.Steps.{Stepped, none_noted, acted, where_found, r
 use Rattle.fm_rule.specs.declared.pool.Pool.{Pool}
 use Rattle.fm_calls.specs.Kept.{Goes, rest_of, Kept}
 use Rattle.fm_calls.specs.Told.{view_of_pass}
-use Rattle.fm_calls.proofs.Going.{goes_of, goes_none, goes_then, kept_none, no_draws, rest_is, inside_is, lasts_on}
+use Rattle.fm_calls.proofs.Going.{goes_of, goes_none, goes_then, kept_none, no_draws, rest_is, hand_is, inside_is, lasts_on}
 use Rattle.fm_calls.proofs.Telling.{did_of}
 use Rattle.fm_gate.specs.Standing.{IsInside, CanVisit}
 use Rattle.fm_gate.specs.Learnt.{AfterEnter, AfterLeave, DoesGive, AfterGive, AfterAllocate}
@@ -45,12 +45,12 @@ module _ {p q : View} (given size align found : ℕ) (s : Exchanges p q given si
       let e : Stepped p q p [] none_noted = subst
       (λ (b : Bool). Stepped p q p (where_found b (acted p.inside p.caller (λ b. Allocate b size align) (allocate_reply (limit_of p.shape) given size align)))
       none_noted) (ne_eqb found given n) s in
-      goes_of e (record { shape = refl; home = refl; caller = refl; gathered = refl; whole = refl; drawn = refl; inside = refl; hand = refl }) refl no_draws
+      goes_of e (record { shape = refl; home = refl; caller = refl; gathered = refl; whole = refl; drawn = refl; inside = refl }) refl no_draws
 
   hits : found ≡ given → (reply : Reply) → allocate_reply (limit_of p.shape) given size align ≡ reply
       → Goes p q (acted p.inside p.caller (λ b. Allocate b size align) reply)
   hits e reply is =
-      act_goes (record { stays = λ a. refl; hand = λ a hand. refl })
+      act_goes (record { stays = λ a. refl })
       (subst (λ (x : Bool × Reply). Stepped p q p (where_found x.0 (acted p.inside p.caller (λ b. Allocate b size align) x.1)) none_noted)
       (λ j. (eq-eqb found given e j, is j)) s)
 
@@ -60,7 +60,7 @@ module _ {p q : View} (given size align found : ℕ) (s : Exchanges p q given si
       record {
         goes = goes_then g.goes m;
         rest = rest_is s ∙ g.rest;
-        inside = stands_inside m g.inside.of g.inside.no_number (inside_is s ∙ g.inside.inside);
+        inside = stands_inside m g.inside.of g.inside.no_number (hand_is s ∙ g.inside.no_slot) (inside_is s ∙ g.inside.inside);
       }
 
   -- the call was answered so
@@ -78,7 +78,7 @@ module _ {p q : View} (given size align found : ℕ) (s : Exchanges p q given si
           goes = goes_then g.goes own;
           rest = rest_is s ∙ g.rest;
         };
-        inside = stands_inside own g.inside.of g.inside.no_number (inside_is s ∙ g.inside.inside);
+        inside = stands_inside own g.inside.of g.inside.no_number (hand_is s ∙ g.inside.no_slot) (inside_is s ∙ g.inside.inside);
       }
 
 given_reply : (limit given size align place : ℕ) → Some place ≡ room limit given size align → allocate_reply limit given size align ≡ Given place

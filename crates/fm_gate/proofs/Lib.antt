@@ -1,8 +1,13 @@
 pub mod Standing
 pub mod Acts
 pub mod Enters
+pub mod Bids
 pub mod Opens
 pub mod Tries
 pub mod Gives
+pub mod Takes
 pub mod Holds
+pub mod Handles
 pub mod Lasting
+pub mod Outliving
+pub mod Crews

@@ -1,92 +1,108 @@
--- Opening an arena.
-use Rattle.std.proofs.Common.{◌≡◌, List, [], ◌∷◌, refl, sym, ◌∙◌, Some, None, inl, inr, eq-eqb}
+-- What is learnt of opening an arena.
+use Rattle.std.proofs.Common.{◌≡◌, ℕ, Bool, if◌then◌else◌, List, [], ◌∷◌, refl, sym, ap, ◌∙◌, subst, inl}
 use Rattle.std.specs.Prelude.{Ok, Err}
 use Rattle.fm_base.specs.declared.caller.Caller.{Caller}
 use Rattle.fm_base.specs.declared.arena_id.ArenaId.{ArenaId}
 use Rattle.fm_base.specs.declared.kind.Kind.{Kind}
+use Rattle.fm_base.specs.declared.kind.Kind.TheVariants as kind
 use Rattle.fm_base.specs.declared.refusal.Refusal.TheVariants as refusal
-use Rattle.fm_base.specs.Arenas.{owner_of}
-use Rattle.fm_base.specs.Histories.{made_by}
 use Rattle.fm_base.proofs.Outcomes.{opened_new}
-use Rattle.fm_pool_facts.specs.declared.slot.Slot.{Slot}
-use Rattle.fm_pool_facts.specs.Views.{View, IsSound, In}
-use Rattle.fm_pool_facts.specs.Steps.{Stepped, none_noted, open_entries, first_slot, but_first}
+use Rattle.fm_pool_facts.specs.Hands.{Hand, nothing, slots_in}
+use Rattle.fm_pool_facts.specs.Views.{View, In}
+use Rattle.fm_pool_facts.specs.Holds.{is_automatic, handles_with}
+use Rattle.fm_pool_facts.specs.Steps.{open_entries}
+use Rattle.fm_pool_facts.proofs.Gripping.{automatic}
 use Rattle.fm_rule.specs.declared.pool.Pool.{Pool}
-use Rattle.fm_calls.specs.Kept.{Goes}
+use Rattle.fm_calls.specs.Kept.{Goes, rest_of}
 use Rattle.fm_calls.specs.Told.{silent_view}
-use Rattle.fm_calls.proofs.Going.{goes_of, goes_none, kept_none, no_draws, rest_is, inside_is, mark_is, lasts_on}
+use Rattle.fm_calls.proofs.Going.{goes_then, lasts_on}
 use Rattle.fm_calls.proofs.Telling.{silent_makes}
-use Rattle.fm_gate.specs.Standing.{CanOpen}
-use Rattle.fm_gate.specs.Learnt.{HasNoSlot, IsNew, AfterOpen}
-use Rattle.fm_gate.proofs.Standing.{stands_outside}
+use Rattle.fm_gate.specs.Standing.{IsOutside}
+use Rattle.fm_gate.specs.Slots.{SlotTaken, NoneTaken, OpenedIn}
+use Rattle.fm_gate.specs.Learnt.{IsNew, handles_opened, AfterOpen}
+use Rattle.fm_gate.proofs.Standing.{of_on, stands_outside}
 
--- ---- without a slot
+-- What the pass has then is what it had, but for these handles: it has no slot.
+rest_with : (p q : View) (hs : List ArenaId) → p.hand ≡ nothing → q ≡ record p { seen = q.seen; finds = q.finds; hand = nothing; handles = hs }
+    → rest_of q ≡ record (rest_of p) { handles = hs }
+rest_with p q hs h is = ap rest_of is ∙ ap (λ (x : Hand). record (rest_of p) { slots = slots_in x; handles = hs }) (sym h)
 
--- No slot is in an empty hand.
-empty_hand : (hand : List Slot) → first_slot hand ≡ None → (s : Slot) → ¬ (In s hand)
-empty_hand [] e s i = i
-empty_hand (x ∷ xs) e s i = absurd (cc)
+no_handle : (k : Kind) (hs : List ArenaId) → hs ≡ handles_opened k (Err refusal.NoSlot) hs
+no_handle kind.Global hs = refl
+no_handle kind.Automatic hs = refl
+no_handle kind.Confined hs = refl
+no_handle kind.Shared hs = refl
 
--- Where the hand is empty, there is no slot for the pass.
-has_no_slot : {p : View} → IsSound p → first_slot p.hand ≡ None → HasNoSlot p
-has_no_slot {p = p} s e zero slot low = elim (s.slots zero slot low) [
-  | inl held ↦ absurd (empty_hand p.hand e _ held.1)
-  | inr spent ↦ spent
-]
+-- What is learnt where no slot could be lent.
+pub after_no_slot : {pool : Pool} {p q : View} {k : Kind} → IsOutside pool p → NoneTaken p q → AfterOpen pool p q k (Err refusal.NoSlot)
+after_no_slot {p = p} {q = q} {k = k} out n =
+    let is = n.went.is in
+    record {
+      did = record {
+        own = [];
+        does = refl;
+        goes = n.went.goes;
+        rest = rest_with p q p.handles out.no_slot is ∙ ap (λ (hs : List ArenaId). record (rest_of p) { handles = hs }) (no_handle k p.handles);
+      };
+      is_new = tt;
+      handle = λ e. tt;
+      slot = tt;
+      no_slot = (
+        refl,
+        record {
+          find = n.found;
+          spent = n.spent;
+          is = is ∙ ap (λ (x : Hand). record p { seen = q.seen; finds = q.finds; hand = x }) (sym out.no_slot);
+        },
+      );
+      outside = stands_outside n.went.goes out.of out.no_number (ap (λ (x : View). x.hand) is) (ap (λ (x : View). x.inside) is ∙ out.outside)
+          (ap (λ (x : View). x.mark) is ∙ out.unmarked);
+      lasts = lasts_on n.went.goes;
+    }
 
--- What is learnt then: no step was made.
-pub after_no_slot : {pool : Pool} {p : View} {kind : Kind} → CanOpen pool p kind → IsSound p → first_slot p.hand ≡ None
-    → AfterOpen pool p p kind (Err refusal.NoSlot)
-after_no_slot can s e = record {
-  did = kept_none _ _ s refl;
-  is_new = tt;
-  slot = tt;
-  no_slot = (refl, has_no_slot s e, refl);
-  outside = can.outside;
-  lasts = lasts_on (goes_none s);
-}
+-- An automatic arena has its first handle, and no other arena has one.
+first_handle : (a : ArenaId) (hs : List ArenaId) → a.kind ≡ kind.Automatic → handles_with a hs ≡ a ∷ hs
+first_handle a hs e = ap (λ (b : Bool). if b then a ∷ hs else hs) (automatic a e)
 
--- ---- with a slot
+handles_by : (k : Kind) (a : ArenaId) (hs : List ArenaId) → a.kind ≡ k → handles_with a hs ≡ handles_opened k (Ok a) hs
+handles_by kind.Global a hs e = ap (λ (x : Kind). if is_automatic x then a ∷ hs else hs) e
+handles_by kind.Automatic a hs e = first_handle a hs e
+handles_by kind.Confined a hs e = ap (λ (x : Kind). if is_automatic x then a ∷ hs else hs) e
+handles_by kind.Shared a hs e = ap (λ (x : Kind). if is_automatic x then a ∷ hs else hs) e
 
--- The first slot is in the hand.
-first_in : (hand : List Slot) (s : Slot) → first_slot hand ≡ Some s → In s hand
-first_in [] s e = absurd (cc)
-first_in (x ∷ xs) s e = let same : x ≡ s = cc in inl (sym same)
+module _ {p m q : View} {a : ArenaId} {slot : ℕ} {k : Kind} (t : SlotTaken p m slot) (o : OpenedIn m q slot k a) where
+  goes : Goes p q (open_entries a p.caller)
+  goes = goes_then t.went.goes (subst (λ (c : Caller). Goes m q (open_entries a c)) t.went.goes.same_caller o.goes)
 
--- So the pass is number 0, and no arena of that slot was opened.
-has_slot : {p : View} (s : Slot) → IsSound p → first_slot p.hand ≡ Some s → ¬ (HasNoSlot p)
-has_slot {p = p} s sound e none = let h = sound.hand s (first_in p.hand s e) in h.2 (none h.0 s.slot h.1)
-
-both_mine : (a : ArenaId) (c : Caller) → made_by c (open_entries a c) ≡ open_entries a c
-both_mine a c = rw (eq-eqb c.number c.number refl, eq-eqb c.term c.term refl) refl
-
-module _ {p q : View} {a : ArenaId} (s : Stepped p q (record p { hand = but_first p.hand }) (open_entries a p.caller) none_noted) where
-  opened : Goes p q (open_entries a p.caller)
-  opened = goes_of s (record {
-    shape = refl;
-    home = refl;
-    caller = refl;
-    gathered = refl;
-    whole = refl;
-    drawn = refl;
-    inside = refl;
-    hand = refl;
-  }) (both_mine a p.caller) no_draws
+  is : q ≡ record p { seen = q.seen; finds = q.finds; hand = nothing; handles = handles_with a p.handles }
+  is = o.is ∙ ap (λ (x : View). record x { seen = q.seen; finds = q.finds; hand = nothing; handles = handles_with a x.handles }) t.went.is
 
   -- The arena is new.
   is_new : IsNew p q a
   is_new =
-      let n = opened_new (silent_view p) (silent_view q) (open_entries a p.caller) p.caller a (silent_makes opened) (inl refl) in
-      record { unknown = λ k. (let u = n.unknown in absurd (cc)); known = n.known }
+      let n = opened_new (silent_view p) (silent_view q) (open_entries a p.caller) p.caller a (silent_makes goes) (inl refl) in
+      record { unknown = λ h. (let u = n.unknown in absurd (cc)); known = n.known }
 
-  -- What is learnt where the first slot of the hand was taken.
-  pub after_opened : {pool : Pool} {kind : Kind} {slot : Slot} → CanOpen pool p kind → IsSound p → first_slot p.hand ≡ Some slot → a.kind ≡ kind
-      → owner_of a ≡ p.caller → AfterOpen pool p q kind (Ok a)
-  after_opened {slot = slot} can sound e k o = record {
-    did = record { own = open_entries a p.caller; does = (k, o, refl); goes = opened; rest = rest_is s };
+  -- What is learnt where one was taken.
+  pub after_opened : {pool : Pool} → IsOutside pool p → AfterOpen pool p q k (Ok a)
+  after_opened {pool = pool} out = record {
+    did = record {
+      own = open_entries a p.caller;
+      does = (o.kind, o.owner ∙ t.went.goes.same_caller, refl);
+      goes = goes;
+      rest = rest_with p q (handles_with a p.handles) out.no_slot is
+          ∙ ap (λ (hs : List ArenaId). record (rest_of p) { handles = hs }) (handles_by k a p.handles o.kind);
+    };
     is_new = is_new;
-    slot = has_slot slot sound e;
+    handle = λ auto. record {
+      of = of_on pool goes out.of;
+      known = is_new.known;
+      has = subst (λ (hs : List ArenaId). In a hs) (sym (ap (λ (x : View). x.handles) is ∙ first_handle a p.handles (o.kind ∙ auto))) (inl refl);
+      automatic = o.kind ∙ auto;
+    };
+    slot = λ w all. t.unspent w (all slot t.low);
     no_slot = tt;
-    outside = stands_outside opened can.outside.of can.outside.no_number (inside_is s ∙ can.outside.outside) (mark_is s ∙ can.outside.unmarked);
-    lasts = lasts_on opened;
+    outside = stands_outside goes out.of out.no_number (ap (λ (x : View). x.hand) is) (ap (λ (x : View). x.inside) is ∙ out.outside)
+        (ap (λ (x : View). x.mark) is ∙ out.unmarked);
+    lasts = lasts_on goes;
   }

@@ -2,6 +2,7 @@
 use Rattle.std.proofs.Common.{◌≡◌, ◌∙◌, List, Some, None}
 use Rattle.fm_base.specs.declared.arena_id.ArenaId.{ArenaId}
 use Rattle.fm_base.specs.Calls.{Entry}
+use Rattle.fm_pool_facts.specs.Hands.{nothing}
 use Rattle.fm_pool_facts.specs.Views.{View}
 use Rattle.fm_rule.specs.declared.pool.Pool.{Pool}
 use Rattle.fm_rule.specs.Passes.{IsOf}
@@ -13,11 +14,13 @@ pub of_on : (pool : Pool) {p q : View} {own : List Entry} → Goes p q own → I
 of_on pool g o = (g.same_home ∙ o.0, g.same_shape ∙ o.1)
 
 -- Outside, where it is in no arena and publishes no mark.
-pub stands_outside : {pool : Pool} {p q : View} {own : List Entry} → Goes p q own → IsOf pool p → p.drawn ≡ None → q.inside ≡ None → q.mark ≡ None
+pub stands_outside : {pool : Pool} {p q : View} {own : List Entry} → Goes p q own → IsOf pool p → p.drawn ≡ None → q.hand ≡ nothing
+    → q.inside ≡ None → q.mark ≡ None
     → IsOutside pool q
-stands_outside {pool = pool} g o d i m = record { of = of_on pool g o; outside = i; unmarked = m; no_number = g.same_drawn ∙ d }
+stands_outside {pool = pool} g o d h i m = record { of = of_on pool g o; outside = i; unmarked = m; no_number = g.same_drawn ∙ d; no_slot = h }
 
 -- Inside.
-pub stands_inside : {pool : Pool} {p q : View} {own : List Entry} {a : ArenaId} → Goes p q own → IsOf pool p → p.drawn ≡ None → q.inside ≡ Some a
+pub stands_inside : {pool : Pool} {p q : View} {own : List Entry} {a : ArenaId} → Goes p q own → IsOf pool p → p.drawn ≡ None → q.hand ≡ nothing
+    → q.inside ≡ Some a
     → IsInside pool q a
-stands_inside {pool = pool} g o d i = record { of = of_on pool g o; inside = i; no_number = g.same_drawn ∙ d }
+stands_inside {pool = pool} g o d h i = record { of = of_on pool g o; inside = i; no_number = g.same_drawn ∙ d; no_slot = h }

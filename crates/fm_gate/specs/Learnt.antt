@@ -1,21 +1,24 @@
 -- What the caller of each call of the gate learns: one record each.
-use Rattle.std.specs.Prelude.{◌≡◌, ◌≢◌, ℕ, ◌<◌, Bool, List, [], ◌∷◌, Result, Ok, Err, IfOk, IfErr}
+use Rattle.std.specs.Prelude.{◌≡◌, ◌≢◌, ℕ, ◌<◌, Bool, List, [], ◌∷◌, true, None, Result, Ok, Err, IfOk, IfErr}
 use Rattle.fm_base.specs.declared.caller.Caller.{Caller}
 use Rattle.fm_base.specs.declared.arena_id.ArenaId.{ArenaId}
 use Rattle.fm_base.specs.declared.kind.Kind.{Kind}
+use Rattle.fm_base.specs.declared.kind.Kind.TheVariants.{Automatic}
 use Rattle.fm_base.specs.declared.refusal.Refusal.{Refusal}
 use Rattle.fm_base.specs.declared.refusal.Refusal.TheVariants.{WrongThread, NoSlot}
 use Rattle.fm_base.specs.declared.refusal.Refusal.TheVariants as refusal
-use Rattle.fm_base.specs.Calls.{Call, Allocate, Leave, Reply, Fine, Given, NoRoom, Entry, entry_of}
-use Rattle.fm_base.specs.Does.{DoesEnter, DoesAct, DoesPatch, DoesOpen, DoesAllocate, DoesIsAlive, DoesHold, DoesUnhold}
+use Rattle.fm_base.specs.Calls.{Call, Allocate, Hold as Holding, Leave, Reply, Fine, Given, NoRoom, Entry, entry_of}
+use Rattle.fm_base.specs.Finds.{FoundNothing, is_slot}
+use Rattle.fm_base.specs.Does.{DoesEnter, DoesAct, DoesPatch, DoesOpen, DoesAllocate, DoesIsAlive, DoesHold, DoesUnhold, DoesAgain}
 use Rattle.fm_base.specs.Outcomes.{Gives}
 use Rattle.fm_base.specs.View.{but_loans}
-use Rattle.fm_pool_facts.specs.Views.{View, IsKnown, IsSpent}
-use Rattle.fm_pool_facts.specs.Holds.{released}
+use Rattle.fm_pool_facts.specs.Views.{View, In, IsKnown, IsSpent}
+use Rattle.fm_pool_facts.specs.Holds.{grips, with_grips, holds_after, released}
+use Rattle.fm_pool_facts.specs.Words.{alive_holds, hold_found}
 use Rattle.fm_rule.specs.declared.pool.Pool.{Pool}
-use Rattle.fm_calls.specs.Kept.{Kept, KeptHolding, Lasts}
+use Rattle.fm_calls.specs.Kept.{Goes, Kept, KeptHolding, KeptHandling, Lasts, rest_of}
 use Rattle.fm_calls.specs.Told.{view_of_pass}
-use Rattle.fm_gate.specs.Standing.{IsOutside, IsInside, CanUnhold}
+use Rattle.fm_gate.specs.Standing.{IsOutside, IsInside, CanUnhold, HasHandle}
 use Rattle.fm_gate.specs.declared.held.Hold.{Hold}
 
 -- of `enter`
@@ -53,21 +56,34 @@ pub record AfterIsAlive (pool : Pool) (old new : View) (id : ArenaId) (result : 
   pub wrong_thread : result ≡ Err WrongThread → new ≡ old
   pub lasts : Lasts old new
 
--- The pass isn't number 0, or an arena of every slot was opened
-abbrev pub HasNoSlot : View → Type 0
-HasNoSlot p = p.caller.number ≡ 0 → (slot : ℕ) → slot < p.shape.slots → IsSpent p slot
+-- an arena was opened in every slot
+abbrev pub AllSpent : View → Type 0
+AllSpent p = (slot : ℕ) → slot < p.shape.slots → IsSpent p slot
 
 -- the arena is known now, and wasn't before
 pub record IsNew (old new : View) (id : ArenaId) : Type 0 where
   pub unknown : ¬ (IsKnown old id)
   pub known : IsKnown new id
 
--- of `open_arena`: `NoSlot` exactly where there was no slot, and then the pass is as it was
+-- A step found that no slot could be lent; the pass is as it was, but for what it has seen and found
+pub record FoundNoSlot (old new : View) : Type 0 where
+  pub find : FoundNothing is_slot old.finds new.finds
+  pub spent : old.whole ≡ true → AllSpent old
+  pub is : new ≡ record old { seen = new.seen; finds = new.finds }
+
+-- the handles of the pass after `open_arena`
+abbrev pub handles_opened : Kind → Result ArenaId Refusal → List ArenaId → List ArenaId
+handles_opened Automatic (Ok id) hs = id ∷ hs
+handles_opened kind result hs = hs
+
+-- of `open_arena`: `NoSlot` only where the word of slot bits was 0 at a step of the call. A pass that is known to be whole gets it exactly where an arena
+-- was opened in every slot
 pub record AfterOpen (pool : Pool) (old new : View) (kind : Kind) (result : Result ArenaId Refusal) : Type 0 where
-  pub did : Kept old new (λ own. DoesOpen old.caller kind result (but_loans own))
+  pub did : KeptHandling old new (handles_opened kind result old.handles) (λ own. DoesOpen old.caller kind result (but_loans own))
   pub is_new : IfOk result (λ id. IsNew old new id)
-  pub slot : IfOk result (λ _. ¬ (HasNoSlot old))
-  pub no_slot : IfErr result (λ refusal. (refusal ≡ NoSlot) × HasNoSlot old × (new ≡ old))
+  pub handle : kind ≡ Automatic → IfOk result (λ id. HasHandle pool new id)
+  pub slot : IfOk result (λ _. old.whole ≡ true → ¬ (AllSpent old))
+  pub no_slot : IfErr result (λ refusal. (refusal ≡ NoSlot) × FoundNoSlot old new)
   pub outside : IsOutside pool new
   pub lasts : Lasts old new
 
@@ -98,6 +114,15 @@ pub record AfterAllocate (pool : Pool) (old new : View) (id : ArenaId) (size ali
 
 -- ---- holds
 
+-- of the exchange that takes a hold, or a handle of an automatic arena, and found this session word; an arena that the pass holds is alive
+pub record AfterTake (old new : View) (id : ArenaId) (word : ℕ) : Type 0 where
+  pub goes : Goes old new (entry_of old.caller (Holding id) (hold_found (alive_holds id word)) ∷ [])
+  pub rest : rest_of new ≡ rest_of (with_grips id (holds_after true id (hold_found (alive_holds id word)) (grips id old)) old)
+  pub alive : In id (grips id old) → alive_holds id word ≢ None
+  pub inside : new.inside ≡ old.inside
+  pub mark : new.mark ≡ old.mark
+  pub hand : new.hand ≡ old.hand
+
 -- a hold is one of the arena
 abbrev pub DoesTake : Caller → ArenaId → Result Hold Refusal → List Entry → Type 0
 DoesTake c id (Ok hold) own = (hold.arena ≡ id) × DoesHold c id (Ok tt) own
@@ -121,6 +146,21 @@ pub record AfterHold (pool : Pool) (old new : View) (id : ArenaId) (result : Res
 -- of `unhold`, which leaves the pass where it stands
 pub record AfterUnhold (pool : Pool) (old new : View) (id : ArenaId) : Type 0 where
   pub did : KeptHolding old new (released id old.holds) (DoesUnhold old.caller id)
+  pub outside : IsOutside pool old → IsOutside pool new
+  pub inside : (at : ArenaId) → IsInside pool old at → IsInside pool new at
+  pub lasts : Lasts old new
+
+-- ---- handles of automatic arenas
+
+-- the handles of the pass after `again`
+abbrev pub handles_again : ArenaId → Result (Unit {0}) Refusal → List ArenaId → List ArenaId
+handles_again id (Ok u) hs = id ∷ hs
+handles_again id (Err r) hs = hs
+
+-- of `again`, which leaves the pass where it stands
+pub record AfterAgain (pool : Pool) (old new : View) (id : ArenaId) (result : Result (Unit {0}) Refusal) : Type 0 where
+  pub did : KeptHandling old new (handles_again id result old.handles) (DoesAgain old.caller id result)
+  pub has : HasHandle pool new id
   pub outside : IsOutside pool old → IsOutside pool new
   pub inside : (at : ArenaId) → IsInside pool old at → IsInside pool new at
   pub lasts : Lasts old new

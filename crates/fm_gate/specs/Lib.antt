@@ -1,3 +1,6 @@
 pub mod Standing
 pub mod Learnt
 pub mod Lasting
+pub mod Slots
+pub mod Handling
+pub mod Crews

@@ -1,25 +1,27 @@
 -- Where a pass of a pool stands between two calls, and what a call asks for.
 use Rattle.std.specs.Prelude.{◌≡◌, ◌≢◌, ◌<◌, ◌*◌, ℕ, bit_and, Some, None}
 use Rattle.fm_base.specs.declared.arena_id.ArenaId.{ArenaId}
-use Rattle.fm_base.specs.declared.kind.Kind.{Kind}
 use Rattle.fm_base.specs.declared.kind.Kind.TheVariants.{Automatic}
+use Rattle.fm_pool_facts.specs.Hands.{nothing}
 use Rattle.fm_pool_facts.specs.Views.{View, In, IsKnown, given_of}
 use Rattle.fm_rule.specs.declared.pool.Pool.{Pool}
 use Rattle.fm_rule.specs.Passes.{IsOf}
 use Rattle.fm_gate.specs.declared.held.Hold.{Hold}
 
--- in no arena; it publishes no mark, and has no number in its hand
+-- in no arena; it publishes no mark, and has no number and no slot in its hand
 pub record IsOutside (pool : Pool) (p : View) : Type 0 where
   pub of : IsOf pool p
   pub outside : p.inside ≡ None
   pub unmarked : p.mark ≡ None
   pub no_number : p.drawn ≡ None
+  pub no_slot : p.hand ≡ nothing
 
 -- inside the arena
 pub record IsInside (pool : Pool) (p : View) (id : ArenaId) : Type 0 where
   pub of : IsOf pool p
   pub inside : p.inside ≡ Some id
   pub no_number : p.drawn ≡ None
+  pub no_slot : p.hand ≡ nothing
 
 -- outside, and the arena is known
 pub record CanVisit (pool : Pool) (p : View) (id : ArenaId) : Type 0 where
@@ -42,14 +44,16 @@ pub record CanLeave (pool : Pool) (p : View) : Type 0 where
   pub id : ArenaId
   pub inside : IsInside pool p id
 
--- outside, and arenas of this kind aren't opened otherwise
-pub record CanOpen (pool : Pool) (p : View) (kind : Kind) : Type 0 where
-  pub outside : IsOutside pool p
-  pub by_hand : kind ≢ Automatic
-
 -- the pass took the hold, and may stand anywhere
 pub record CanUnhold (pool : Pool) (p : View) (hold : Hold) : Type 0 where
   pub of : IsOf pool p
   pub known : IsKnown p hold.arena
   pub held : In hold.arena p.holds
   pub by_hand : hold.arena.kind ≢ Automatic
+
+-- the pass has a handle of the automatic arena, and may stand anywhere
+pub record HasHandle (pool : Pool) (p : View) (id : ArenaId) : Type 0 where
+  pub of : IsOf pool p
+  pub known : IsKnown p id
+  pub has : In id p.handles
+  pub automatic : id.kind ≡ Automatic

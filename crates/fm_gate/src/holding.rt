@@ -1,8 +1,8 @@
-ghost use Rattle.std.specs.Prelude.{◌≢◌};
 ghost use Rattle.fm_base.specs.Arenas.{MayUse};
-ghost use Rattle.fm_pool_facts.specs.Views.{IsSound};
+ghost use Rattle.fm_pool_facts.specs.Views.{IsKnown};
+ghost use Rattle.fm_rule.specs.Passes.{IsOf};
 ghost use Rattle.fm_gate.specs.Standing.{CanVisit, CanUnhold};
-ghost use Rattle.fm_gate.specs.Learnt.{AfterHold, AfterUnhold};
+ghost use Rattle.fm_gate.specs.Learnt.{AfterHold, AfterTake, AfterUnhold};
 
 use crate::held::Hold;
 use crate::usable::may_use;
@@ -25,30 +25,33 @@ pub fn hold<R: Wait>(rt: &R, pool: &Pool, pass: &mut Pass, a: ArenaId) -> Result
     if !may_use(caller, a) {
         return Err(Refusal::WrongThread);
     }
-    take(rt, pool, pass, a)
+    let word = take(rt, pool, pass, a);
+    match alive_holds(a, word) {
+        None => Err(Refusal::Closed),
+        Some(holds) => {
+            if holds == MOST_HOLDS {
+                return Err(Refusal::TooManyHolds);
+            }
+            Ok(Hold { arena: a })
+        }
+    }
 }
 
-/// Tries until no other pass changed the session between its look and its exchange.
-fn take<R: Wait>(rt: &R, pool: &Pool, pass: &mut Pass, a: ArenaId) -> Result<Hold, Refusal>
-    requires visit { CanVisit pool.now pass.old a }
-    requires by_hand { a.kind ≢ Kind.Automatic }
+/// Takes a hold of the arena, or a handle of an automatic one, where it is alive with room for one more. Answers the
+/// session word that it found.
+///
+/// It tries until no other pass changed the session between its look and its exchange.
+pub(crate) fn take<R: Wait>(rt: &R, pool: &Pool, pass: &mut Pass, a: ArenaId) -> u64
+    requires of { IsOf pool.now pass.old }
+    requires known { IsKnown pass.old a }
     requires may { MayUse a pass.old.caller }
-    requires sound { IsSound pass.old }
-    ensures { AfterHold pool.now pass.old pass.new a result }
+    ensures { AfterTake pass.old pass.new a result }
 {
     let mut word = pool.guess_session(a.slot);
     for _ in rt.forever() {
         let found = step_hold(pool, pass, a, word);
         if found == word {
-            match alive_holds(a, word) {
-                None => return Err(Refusal::Closed),
-                Some(holds) => {
-                    if holds == MOST_HOLDS {
-                        return Err(Refusal::TooManyHolds);
-                    }
-                    return Ok(Hold { arena: a });
-                }
-            }
+            return word;
         }
         word = found;
     }

@@ -1,7 +1,10 @@
-ghost use Rattle.std.specs.Prelude.{◌≡◌, ◌≢◌, ◌<◌, ◌≤◌, ◌*◌};
+ghost use Rattle.std.specs.Prelude.{◌≡◌, ◌<◌, ◌≤◌, ◌*◌};
 ghost use Rattle.fm_pool_facts.specs.Views.{given_of, span};
 ghost use Rattle.fm_calls.specs.Kept.{Lasts};
 ghost use Rattle.fm_gate.specs.Standing.{CanPatch, CanReach, CanVisit, IsOutside};
+
+mod crews;
+mod kinds;
 
 use crate::{
     Hold, add, allocate, enter, hold, is_alive, leave, load, open_arena, patch, store, swap_if,
@@ -34,8 +37,7 @@ fn made<R: Abort + AllocGlobal>(rt: &R, slots: u32) -> (Pool, Pass)
 
 /// Opens an arena, and gives all its 64 bytes.
 fn given<R: Abort + Wait>(rt: &R, pool: &Pool, pass: &mut Pass, kind: Kind) -> ArenaId
-    requires outside { IsOutside pool.now pass.old }
-    requires by_hand { kind ≢ Kind.Automatic }
+    requires { IsOutside pool.now pass.old }
     ensures visit { CanVisit pool.now pass.new result }
     ensures lasts { Lasts pass.old pass.new }
     ensures given { 64 ≤ given_of pass.new result }
@@ -232,6 +234,20 @@ fn arenas_of_two_slots_have_words_of_their_own(rt: HostRuntime) {
     assert_eq!(rt; words_of_both(&pool, &mut pass, a, b), Ok([0, 1, 2, 0]));
     assert_eq!(rt;
         open_arena(&rt, &pool, &mut pass, Kind::Shared),
+        Err(Refusal::NoSlot)
+    );
+}
+
+#[test]
+fn each_pass_opens_until_no_slot_is_left(rt: HostRuntime) {
+    let (pool, mut pass) = made(&rt, 2);
+    let mut other = pool.draw(&rt, &mut pass).expect(&rt, "a pass");
+    let a = open_arena(&rt, &pool, &mut other, Kind::Confined).expect(&rt, "a slot");
+    let b = open_arena(&rt, &pool, &mut pass, Kind::Confined).expect(&rt, "a slot");
+    assert_eq!(rt; (a.slot, a.generation, a.owner), (0, 0, 1));
+    assert_eq!(rt; (b.slot, b.generation, b.owner), (1, 0, 0));
+    assert_eq!(rt;
+        open_arena(&rt, &pool, &mut other, Kind::Shared),
         Err(Refusal::NoSlot)
     );
 }

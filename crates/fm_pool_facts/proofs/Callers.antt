@@ -11,7 +11,7 @@ use Rattle.fm_base.specs.Calls.{Entry}
 use Rattle.fm_base.specs.Histories.{made_by}
 use Rattle.fm_base.specs.Finds.{Gathered}
 use Rattle.fm_depicts.specs.Functions.{Machine}
-use Rattle.fm_pool_facts.specs.Views.{Met, View, In, KnowsCallers, all_gathered, brought}
+use Rattle.fm_pool_facts.specs.Views.{Met, View, In, HasCaller, KnowsCallers, all_gathered, brought}
 use Rattle.fm_pool_facts.specs.Facts.{Memory, Owners, HasGathered, IsSilent, IsOnce, Owns}
 use Rattle.fm_pool_facts.proofs.Counting.{numbers, numbers_long, has_number, in_numbers, numbers_apart, at_most, at_least, all_below, Distinct}
 
@@ -70,13 +70,20 @@ module _ (z : Shape) (h : List Entry) (m : Memory) (t : Machine) (o : Owners) (j
       (all_below m.draw nums nums_apart nums_below (let x = numbers_long v.gathered in omega arith) n b)
 
   -- and where they are all, they are as many
-  pub all_counted : v.whole ≡ true → m.draw ≡ length v.gathered + 1
-  all_counted w =
+  pub counted_all : ((n : ℕ) → n < m.draw → HasCaller v n) → m.draw ≡ length v.gathered + 1
+  counted_all has =
       let a = few_gathered in
-      let b = at_least m.draw nums (λ n l. dite (ℕ_discrete n v.caller.number) inl (λ ne.
-      let g = u.whole w n l ne in
-      inr (subst (λ (k : ℕ). In k (numbers v.gathered)) g.2 (in_numbers g.0 v.gathered (subst (In g.0) all_now g.1))))) in
+      let b = at_least m.draw nums (λ n l. ⊎_elim inl
+      (λ (g : (g : Gathered) × In g v.gathered × (g.caller.number ≡ n)).
+      inr (subst (λ (k : ℕ). In k (numbers v.gathered)) g.2 (in_numbers g.0 v.gathered g.1)))
+      (has n l)) in
       let x = numbers_long v.gathered in omega arith
+
+  pub whole_has : v.whole ≡ true → (n : ℕ) → n < m.draw → HasCaller v n
+  whole_has w n l = dite (ℕ_discrete n v.caller.number) inl (λ ne. let g = u.whole w n l ne in inr (g.0, subst (In g.0) all_now g.1, g.2))
+
+  pub all_counted : v.whole ≡ true → m.draw ≡ length v.gathered + 1
+  all_counted w = counted_all (whole_has w)
 
   -- nobody made an entry whose number wasn't drawn, so a pass that has all numbers has all callers
   pub knows_callers : ((k : ℕ) → m.draw ≤ k → IsSilent k h m t) → v.seen ≡ h → v.whole ≡ true → KnowsCallers v
@@ -86,4 +93,4 @@ module _ (z : Shape) (h : List Entry) (m : Memory) (t : Machine) (o : Owners) (j
         | inl l ↦ l
         | inr l ↦ absurd (made_in e h (subst (In e) q i) ((later k l).calls e.caller refl))
       ] in
-      dite (ℕ_discrete k v.caller.number) inl (λ ne. let g = u.whole w k drawn ne in inr (g.0, subst (In g.0) all_now g.1, g.2))
+      whole_has w k drawn

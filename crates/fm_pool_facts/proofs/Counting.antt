@@ -1,9 +1,10 @@
 -- How many numbers a list of distinct ones has.
-use Rattle.std.proofs.Common.{◌≡◌, ◌≢◌, ℕ, zero, suc, ◌+◌, ◌<◌, ◌≤◌, List, [], ◌∷◌, length, sym, refl, ap, ◌∙◌, subst, arith, inl, inr, ⊎_elim}
+use Rattle.std.proofs.Common.{◌≡◌, ◌≢◌, ℕ, zero, suc, ◌+◌, ◌<◌, ◌≤◌, List, [], ◌∷◌, ◌++◌, length, sym, refl, ap, ◌∙◌, subst, arith, inl, inr, ⊎_elim}
 use native.Mathlib.Decide.{ℕ_discrete}
 use Rattle.fm_base.specs.Finds.{Gathered}
 use Rattle.fm_pool_facts.specs.Views.{In}
 use Rattle.fm_pool_facts.specs.Facts.{IsOnce}
+use Rattle.fm_pool_facts.proofs.Keeping.{in_left, in_right, in_append}
 
 abbrev pub Distinct : List ℕ → Type 0
 Distinct [] = Unit {0}
@@ -77,6 +78,27 @@ all_below n xs d b e m l = go (in_dec m xs)
     go : Dec (In m xs) → In m xs
     go (yes i) = i
     go (no ni) = let h = at_most n (m ∷ xs) (ni, d) (λ k. ⊎_elim (λ q. omega arith) (b k)) in absurd (omega arith)
+
+-- ---- lists put together
+
+-- lists without a value in common, put together
+apart_both : {A : Type 0} (f : A → ℕ) (xs ys : List A) → IsOnce f xs → IsOnce f ys → ((x y : A) → In x xs → In y ys → f y ≢ f x) → IsOnce f (xs ++ ys)
+apart_both f [] ys a b n = b
+apart_both f (x ∷ xs) ys a b n = (
+  (λ y i. ⊎_elim (a.0 y) (λ (j : In y ys). n x y (inl refl) j) (in_append y xs ys i)),
+  apart_both f xs ys a.1 b (λ c d i j. n c d (inr i) j),
+)
+
+-- and one list between two
+pub between : {A : Type 0} (f : A → ℕ) (xs ys zs : List A) → IsOnce f (xs ++ ys) → IsOnce f zs → ((x z : A) → In x (xs ++ ys) → In z zs → f z ≢ f x)
+    → IsOnce f (xs ++ (zs ++ ys))
+between f [] ys zs a b n = apart_both f zs ys b a (λ z y i j e. n y z j i (sym e))
+between f (x ∷ xs) ys zs a b n = (
+  (λ y i. ⊎_elim (λ (j : In y xs). a.0 y (in_left y xs ys j))
+      (λ (j : In y (zs ++ ys)). ⊎_elim (λ (k : In y zs). n x y (inl refl) k) (λ (k : In y ys). a.0 y (in_right y xs ys k)) (in_append y zs ys j))
+      (in_append y xs (zs ++ ys) i)),
+  between f xs ys zs a.1 b (λ c z i j. n c z (inr i) j),
+)
 
 -- ---- the numbers of gathered callers
 

@@ -14,10 +14,11 @@ use Rattle.fm_base.specs.Histories.{made_by}
 use Rattle.fm_base.specs.Finds.{Find, Gathered, Close}
 use Rattle.fm_depicts.specs.Functions.{Machine}
 use Rattle.fm_depicts.specs.Steps.{moved_by}
-use Rattle.fm_pool_facts.specs.Views.{Met, View, In, HasSlot, IsSound, all_gathered, brought, limit_of}
-use Rattle.fm_pool_facts.specs.Facts.{Memory, Owners, IsClosing, IsGathered, IsOnce, IsSilent, WasOpened, Begins, Somewhere, Owns, Knows}
+use Rattle.fm_pool_facts.specs.Views.{Met, View, In, IsSound, all_gathered, brought, limit_of}
+use Rattle.fm_pool_facts.specs.Facts.{Memory, Owners, IsClosing, IsGathered, IsOnce, IsSilent, Begins, Somewhere, Owns, Knows}
 use Rattle.fm_pool_facts.specs.Moves.{MayMake, NoEnd, Moved, Same, Part, told, Gives}
-use Rattle.fm_pool_facts.proofs.Frame.{others_stay, none_come, still_closing, still_known, made_by-other}
+use Rattle.fm_pool_facts.proofs.Frame.{others_stay, none_come, still_closing, made_by-other}
+use Rattle.fm_pool_facts.proofs.Handing.{hand_on}
 
 -- ---- lists
 
@@ -101,9 +102,6 @@ module _ (limit : ℕ) (h : List Entry) (c : Caller) (m : Memory) (t : Machine) 
     visited = λ i l. none_come limit c i x.arena es t ok k.life z (k.visited i l);
   }
 
-  pub opened_on : (s : ℕ) → WasOpened t s → WasOpened (moved_by t es) s
-  opened_on s w = (w.0, w.1, still_known w.0 es t w.2)
-
 module _ (z : Shape) (h : List Entry) (me : ℕ) (c : Caller) (m : Memory) (t : Machine) (o : Owners) (es : List Entry) (m' : Memory) (o' : Owners)
     (d : Moved me (limit_of z) c m t o es m' o') (own : o.number c.number ≡ me) (low : c.number < m.draw) where
   abbrev t' : Machine
@@ -131,13 +129,8 @@ module _ (z : Shape) (h : List Entry) (me : ℕ) (c : Caller) (m : Memory) (t : 
         let w = d.closers x.arena y.life (λ e. other (sym y.owner ∙ e)) in
         closing_on (limit_of z) h c m t es m' d.allowed j o o' x y w.0 w.1;
     once = k.once;
-    hand = λ s i.
-        let y = k.hand s i in
-        let w = d.holders s.slot s.generation y.session (λ e. other (sym y.owner ∙ e)) in
-        record { owner = w.0 ∙ y.owner; slot = y.slot; generation = y.generation; session = w.1 };
-    apart = k.apart;
-    only = k.only;
-    slots = λ e s l. ⊎_elim (λ (i : HasSlot s v). inl i) (λ (w : WasOpened t s). inr (opened_on (limit_of z) h c m t es m' d.allowed s w)) (k.slots e s l);
+    hand = hand_on z m.bits m'.bits m.sessions m'.sessions o.holder o'.holder j
+        (λ s g f b e. let w = d.holders s g f b (λ q. other (sym e ∙ q)) in (w.0 ∙ e, w.1, w.2)) v.hand k.hand;
     gathered = λ g i. still v.seen g (k.gathered g i);
     coming = λ x j g i. still x.seen g (k.coming x j g i);
     one_each = k.one_each;
@@ -222,9 +215,6 @@ module _ (z : Shape) (h zs : List Entry) (me : ℕ) (m m' : Memory) (t : Machine
           closes = q.closes;
           once = q.once;
           hand = q.hand;
-          apart = q.apart;
-          only = q.only;
-          slots = q.slots;
           coming = λ x i. absurd i;
           one_each = subst (IsOnce (λ (g : Gathered). g.caller.number)) (sym (append-nil (all_gathered p) ∙ same_all)) u.one_each;
           gathered = λ g i.

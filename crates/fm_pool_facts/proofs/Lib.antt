@@ -2,9 +2,13 @@ pub mod Frame
 pub mod Standing
 pub mod Worlds
 pub mod Shown
+pub mod Handing
 pub mod Keeping
 pub mod Summing
+pub mod Gripping
 pub mod Counting
 pub mod Callers
 pub mod Lending
+pub mod Founds
+pub mod Drawers
 pub mod Ruling

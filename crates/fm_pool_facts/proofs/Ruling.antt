@@ -13,17 +13,20 @@ use Rattle.fm_base.specs.Histories.{IsLegal, state_after, made_by}
 use Rattle.fm_base.specs.Finds.{Find, Gathered}
 use Rattle.fm_depicts.specs.Functions.{Fresh, Closes, Machine, stage_of}
 use Rattle.fm_depicts.specs.Steps.{moved_by}
-use Rattle.fm_pool_facts.specs.Views.{span, all_gathered, brought, View, Fits, In, HasSlot, IsSpent, IsSound, IsKnown, limit_of, state_in, pass_of}
-use Rattle.fm_pool_facts.specs.Facts.{Memory, Owners, Shows, World, HasNumber, HasDraw, HasClose, WasOpened, Somewhere, Knows, Rule}
-use Rattle.fm_pool_facts.specs.Moves.{Moved, Same, Part, KeepsCloses, KeepsHolds, told, Gives}
+use Rattle.fm_pool_facts.specs.Views.{span, all_gathered, brought, View, Fits, In, IsSound, IsKnown, limit_of, state_in, pass_of}
+use Rattle.fm_pool_facts.specs.Facts.{Memory, free, Owners, Shows, World, HasNumber, HasDraw, HasClose, KeepsSlot, Somewhere, Knows, Rule, IsOnce}
+use Rattle.fm_pool_facts.specs.Moves.{Moved, Same, Part, KeepsCloses, KeepsSlots, KeepsHolds, told, Gives}
+use Rattle.std.specs.Int.{bit_at}
+use Rattle.fm_pool_facts.proofs.Handing.{slot_below}
 use Rattle.fm_pool_facts.specs.Holds.{holds_of}
 use Rattle.fm_pool_facts.specs.Loans.{Loan, lent, loans_after, IsRightlyLent}
 use Rattle.fm_pool_facts.specs.Facts.{Loans}
 use Rattle.fm_pool_facts.specs.Moves.{MayLend}
 use Rattle.fm_pool_facts.proofs.Lending.{loans_after-append, lent-append, lent_on}
-use Rattle.fm_pool_facts.proofs.Callers.{few_gathered, knows_callers}
+use Rattle.fm_pool_facts.proofs.Callers.{all_now, few_gathered, whole_has, knows_callers}
 use Rattle.fm_pool_facts.proofs.Frame.{legal_on}
 use Rattle.fm_pool_facts.proofs.Summing.{total-set}
+use Rattle.fm_pool_facts.proofs.Founds.{NoDraw, none_within, find_within, terms_on, counted_later, counted_told, counted_set}
 use Rattle.fm_pool_facts.proofs.Keeping.{set_there, in_left, stays_somewhere, silent_on, others_know, own_view, gives_by}
 
 -- ---- soundness
@@ -35,7 +38,7 @@ opened_life true Closing h e = absurd (cc)
 opened_life true Ended h e = absurd (cc)
 opened_life false l h e = absurd (cc)
 
-life_opened : (b : Bool) (l : Life) → stage_of b l ≢ Fresh → b ≡ true
+pub life_opened : (b : Bool) (l : Life) → stage_of b l ≢ Fresh → b ≡ true
 life_opened true l n = refl
 life_opened false l n = absurd (n refl)
 
@@ -62,8 +65,6 @@ sound_of z ws vs r me v at l lone q =
     let valid = subst IsValid (sym e) r.valid in
     let known : (a : ArenaId) → IsKnown v a → r.machine.life a ≢ Fresh = λ a h f.
     opened_life (has_arena s a) (arena_of s a).life (ap (λ (x : State). has_arena x a) (sym st) ∙ h) (sym (r.depicts.life a) ∙ f) in
-    let opened : (a : ArenaId) → r.machine.life a ≢ Fresh → IsKnown v a = λ a n.
-    ap (λ (x : State). has_arena x a) st ∙ life_opened (has_arena s a) (arena_of s a).life (λ f. n (r.depicts.life a ∙ f)) in
     record {
       valid = valid;
       limit = limit_below v.shape valid;
@@ -73,18 +74,7 @@ sound_of z ws vs r me v at l lone q =
       inside = λ a i. subst (λ (x : State). IsUnderWay x v.caller a) (sym st) (r.depicts.listed v.caller a (u.inside ∙ i));
       outside = λ a w. sym u.inside ∙ r.depicts.under v.caller a (subst (λ (x : State). IsUnderWay x v.caller a) st w);
       fits = λ a h. subst (λ (x : Shape). Fits x a) (sym e) (r.world.sessions.fits a (known a h));
-      hand = λ x i.
-          let y = u.hand x i in
-          let o = u.only x i in (
-            o.0,
-            subst (λ (y : Shape). x.slot < y.slots) (sym e) y.slot,
-            (λ (w : IsSpent v x.slot).
-                known w.arena w.known (r.world.sessions.free_is x.slot x.generation y.session w.arena w.in_slot (let g = o.1 in omega arith))),
-          );
-      slots = λ n s l. ⊎_elim
-          (λ (i : HasSlot s v). inl i)
-          (λ (w : WasOpened r.machine s). inr (record { arena = w.0; in_slot = w.1; known = opened w.0 w.2 }))
-          (u.slots n s (subst (λ (x : Shape). s < x.slots) e l));
+      hand = λ s i. subst (λ (y : Shape). s < y.slots) (sym e) (slot_below z r.memory.bits r.memory.sessions r.owners.holder me s v.hand u.hand i);
       drawn = λ n i.
           let y = u.drawn n i in
           record {
@@ -102,6 +92,19 @@ sound_of z ws vs r me v at l lone q =
           let b = r.few in
           let c : v.shape.passes ≡ z.passes = ap (λ (x : Shape). x.passes) e in omega arith;
       knows = knows_callers z r.history r.memory r.machine r.owners me v lone u r.later q;
+      all_drawn = λ w.
+          let has = whole_has z r.history r.memory r.machine r.owners me v lone u w in
+          record {
+            first = has 0 (let a = u.number in omega arith);
+            others = λ f c h d e. has c.number ((find_within r.memory v (r.counted me v at) f h).drew c e).1;
+          };
+      one_each = subst (IsOnce (λ (g : Gathered). g.caller.number)) (all_now z r.history r.memory r.machine r.owners me v lone u) u.one_each;
+      others = λ g i. (u.gathered g i).apart;
+      terms = record {
+        own = u.term ∙ r.shows.terms v.caller.number;
+        gathered = λ g i. (r.counted me v at).terms g (in_left g v.gathered (brought v.met) i) ∙ r.shows.terms g.caller.number;
+        entries = λ e i. let a = r.terms e (subst (In e) q i) in let b = r.shows.terms e.caller.number in omega arith;
+      };
     }
 
 -- ---- the rule
@@ -130,13 +133,14 @@ draw_still v p zs es fs s d n (inr g) = inr (g.0, still_gathered v p zs es fs s 
 -- the rule and what is told after a step of the seat me: what the words, the memory and the caller's part are is the step's own business
 pub keeps : (z : Shape) (ws ws' : List ℕ) (vs : List View) (r : Rule z ws vs) (me : ℕ) (v p : View) (es : List Entry) (fs : ℕ → List Find) (m' : Memory)
     (o' : Owners)
-    → get_elem? vs me ≡ some v → v.live ≡ true → Moved me (limit_of z) v.caller r.memory r.machine r.owners es m' o' → Same v p
+    → get_elem? vs me ≡ some v → v.live ≡ true → Moved me (limit_of z) v.caller r.memory r.machine r.owners es m' o' → Same v p → NoDraw fs
     → MayLend (span z) r.machine (lent r.history) es → Loans (loans_after (lent r.history) es) m'.sessions (moved_by r.machine es).life
-    → KeepsCloses me v p r.machine r.owners (moved_by r.machine es) o' → KeepsHolds v p r.machine (moved_by r.machine es)
+    → KeepsCloses me v p r.machine r.owners (moved_by r.machine es) o' → KeepsSlots z me v p r.memory r.owners m' o'
+    → KeepsHolds v p r.machine (moved_by r.machine es)
     → Shows z ws' m' → World z m' (moved_by r.machine es)
     → Part z m' (moved_by r.machine es) o' me p
     → (w : View) × Rule z ws' (set vs me w) × Gives v p es fs w
-keeps z ws ws' vs r me v p es fs m' o' at l d s lends loans kc kh shows world q =
+keeps z ws ws' vs r me v p es fs m' o' at l d s nd lends loans kc ks kh shows world q =
     let k = r.each me v at in
     let u = k.owns l in
     let zs : List Entry = k.begins.0 in
@@ -146,6 +150,7 @@ keeps z ws ws' vs r me v p es fs m' o' at l d s lends loans kc kh shows world q 
     let on = legal_on (limit_of z) v.caller r.history es r.machine r.legal r.depicts d.allowed in
     let here : (n : ℕ) (P : View → Type 0) → (P v → P w) → Somewhere vs (r.owners.number n) P → Somewhere (set vs me w) (o'.number n) P =
     (λ n P f y. subst (λ (i : ℕ). Somewhere (set vs me w) i P) (sym (d.numbers n)) (stays_somewhere vs me v w (r.owners.number n) P at f y)) in
+    let more : r.memory.draw ≤ m'.draw = (let b = d.draw in omega arith) in
     let rule : Rule z ws' (set vs me w) = record {
       history = r.history ++ es;
       memory = m';
@@ -165,6 +170,7 @@ keeps z ws ws' vs r me v p es fs m' o' at l d s lends loans kc kh shows world q 
           let a = u.number in let b = d.draw in
           let away : i ≢ v.caller.number = (λ x. omega arith) in
           silent_on (limit_of z) r.history v.caller r.memory r.machine es m' d.allowed i away (d.marks i away) (r.later i (omega arith));
+      terms = terms_on (limit_of z) v.caller r.memory m' r.machine r.history es d.allowed u.term d.terms r.terms;
       numbers = λ n h. here n (HasNumber n) (number_still v p zs es fs s n) (r.numbers n (let b = d.draw in omega arith));
       drawers = λ n i h.
           let y = r.drawers n i (let b = d.draw in omega arith) in
@@ -175,10 +181,16 @@ keeps z ws ws' vs r me v p es fs m' o' at l d s lends loans kc kh shows world q 
           subst (λ (i : ℕ). Somewhere (set vs me w) i (HasClose a)) (sym x.1)
           (stays_somewhere vs me v w (r.owners.closer a) (HasClose a) at x.2 (r.closed a x.0)))
           (kc a h);
-      held = λ a na.
+      slots = λ i g low f b. ⊎_elim
+          (λ (x : (o'.holder i ≡ me) × KeepsSlot i p). record { view = w; there = ap (get_elem? (set vs me w)) x.0 ∙ set_there vs me v w at; holds = x.1 })
+          (λ (x : (h : ℕ) × (r.memory.sessions i ≡ free h) × (bit_at r.memory.bits i ≡ 0) × (o'.holder i ≡ r.owners.holder i) × (KeepsSlot i v → KeepsSlot i p)).
+          subst (λ (j : ℕ). Somewhere (set vs me w) j (KeepsSlot i)) (sym x.3)
+          (stays_somewhere vs me v w (r.owners.holder i) (KeepsSlot i) at x.4 (r.slots i x.0 low x.1 x.2)))
+          (ks i g low f b);
+      held = λ a.
           let x = total-set (holds_of a) vs me v w at in
-          let y = r.held a na in
-          let h = kh a na in
+          let y = r.held a in
+          let h = kh a in
           let same : holds_of a w ≡ holds_of a p = refl in
           omega arith;
       each = λ j y at'. ⊎_elim
@@ -187,6 +199,9 @@ keeps z ws ws' vs r me v p es fs m' o' at l d s lends loans kc kh shows world q 
           (λ (e : (j ≢ me) × (get_elem? vs j ≡ some y)). others_know z r.history me v.caller r.memory r.machine r.owners es m' o' d u.seated u.number j y e.0
           (r.each j y e.1))
           (at_set vs me j w y at');
+      counted = counted_set r.memory m' vs me w more d.terms
+          (counted_told m' v p zs es fs s.finds (λ j. s.gathered j ++ brought (s.met j)) (none_within m'.draw fs nd)
+          (counted_later r.memory m' v more d.terms (r.counted me v at))) r.counted;
     } in
     let seen : w.seen ≡ r.history ++ es = ap (λ (xs : List Entry). (xs ++ zs) ++ es) s.seen ∙ ap (λ (xs : List Entry). xs ++ es) (sym is) in
     let sound = sound_of z ws' (set vs me w) rule me w (set_there vs me v w at) (s.live ∙ l) refl seen in

@@ -47,7 +47,7 @@ IsSpot z (cell s w) = (s < z.slots) × (w < span z)
 word_of : Memory → Spot → ℕ
 word_of m fronted = 0
 word_of m drawn = m.draw
-word_of m bits = 0
+word_of m bits = m.bits
 word_of m (marked k) = own_word (m.marks k)
 word_of m (seated s) = session_code (m.sessions s) (m.counts s)
 word_of m (counted s) = m.given s
@@ -216,6 +216,19 @@ module _ (z : Shape) (v : IsValid z) (ws : List ℕ) (m : Memory) (r : Shows z w
       others drawn ne = absurd (ne refl)
       others fronted ne = refl
       others bits ne = refl
+      others (marked i) ne = refl
+      others (seated i) ne = refl
+      others (counted i) ne = refl
+      others (cell s w) ne = refl
+
+  pub shows_bits : (n : ℕ) → Shows z (set ws (at z bits_place) n) (record m { bits = n })
+  unfolding spot_at IsSpot word_of
+  shows_bits n = one_set (record m { bits = n }) bits n tt r.terms refl others
+    where
+      others : (q : Spot) → q ≢ bits → word_of (record m { bits = n }) q ≡ word_of m q
+      others bits ne = absurd (ne refl)
+      others fronted ne = refl
+      others drawn ne = refl
       others (marked i) ne = refl
       others (seated i) ne = refl
       others (counted i) ne = refl

@@ -1,12 +1,13 @@
 -- Session words stay beside the machine over each kind of entry.
-use Rattle.std.proofs.Common.{◌≡◌, ◌≢◌, ◌⊎◌, ℕ, ◌≤◌, sym, refl, ap, ◌∙◌, subst, arith, inl, inr, ⊎_elim}
+use Rattle.std.proofs.Common.{◌≡◌, ◌≢◌, ◌⊎◌, ℕ, ◌<◌, ◌≤◌, sym, refl, ap, ◌∙◌, subst, arith, inl, inr, ⊎_elim}
 use Rattle.fm_words.specs.declared.shape.Shape.{Shape}
 use Rattle.fm_base.specs.declared.caller.Caller.{Caller}
 use Rattle.fm_base.specs.declared.arena_id.ArenaId.{ArenaId}
 use Rattle.fm_depicts.specs.Functions.{Stage, Fresh, Lives, Closes, Over, put, put_at}
 use Rattle.fm_depicts.proofs.Putting.{put_here, put_else, at_here, at_other, put_cases, at_cases}
+use Rattle.std.specs.Int.{bit_at}
 use Rattle.fm_pool_facts.specs.Views.{Fits}
-use Rattle.fm_pool_facts.specs.Facts.{Session, free, live, shut, IsStanding, Sessions}
+use Rattle.fm_pool_facts.specs.Facts.{Session, free, live, shut, IsStanding, Sessions, Slots}
 
 -- callers of one number and term are one
 pub caller_is : (c d : Caller) → c.number ≡ d.number → c.term ≡ d.term → c ≡ d
@@ -119,3 +120,16 @@ module _ (z : Shape) (sessions : ℕ → Session) (life : ArenaId → Stage) (r 
           (λ m q b p h n. at_other life a Lives b (λ e. m (sym p ∙ (λ j. (e j).slot))) ∙ r.newest s c q b p h n);
       fits = λ b. at_cases life a Lives b (λ (x : Stage). x ≢ Fresh → Fits z b) (λ e q. subst (Fits z) (sym e) fit) (λ n q. r.fits b q);
     }
+
+-- ---- slots
+
+-- a slot whose bit isn't 1 is free no longer
+pub slots_used : (z : Shape) (bits : ℕ) (sessions : ℕ → Session) → Slots z bits sessions → (k : ℕ) (x : Session) → ((g : ℕ) → x ≢ free g)
+    → bit_at bits k ≢ 1 → Slots z bits (put sessions k x)
+slots_used z bits sessions r k x n zero = record {
+  bit_is = λ s b. put_cases sessions k x s (λ (y : Session). (g : ℕ) × (y ≡ free g))
+      (λ e. absurd (zero (ap (bit_at bits) (sym e) ∙ b)))
+      (λ ne. r.bit_is s b);
+  within = λ s g. put_cases sessions k x s (λ (y : Session). y ≡ free g → g < z.generations) (λ e q. absurd (n g q)) (λ ne q. r.within s g q);
+  first = λ s g. put_cases sessions k x s (λ (y : Session). y ≡ free g → g ≡ 0) (λ e q. absurd (n g q)) (λ ne q. r.first s g q);
+}

@@ -30,7 +30,7 @@ total-has f (x ∷ xs) (suc i) v e = let ih = total-has f xs i v e in omega arit
 
 -- ---- holds
 
-same_not : (a b : ArenaId) → a ≢ b → same_id a b ≡ false
+pub same_not : (a b : ArenaId) → a ≢ b → same_id a b ≡ false
 same_not a b n = go (same_id a b) refl
   where
     go : (x : Bool) → same_id a b ≡ x → same_id a b ≡ false
@@ -59,7 +59,8 @@ swapped a b = dite (one_arena a b)
     (λ e. (λ k. one_if (same_id (e k) (sym e k))))
     (λ ne. ap one_if (same_not a b ne) ∙ sym (ap one_if (same_not b a (λ e. ne (sym e)))))
 
-one_less : (a b : ArenaId) (hs : List ArenaId) → In a hs → how_many b hs ≡ how_many b (released a hs) + one_if (same_id b a)
+-- without one of them
+pub one_less : (a b : ArenaId) (hs : List ArenaId) → In a hs → how_many b hs ≡ how_many b (released a hs) + one_if (same_id b a)
 one_less a b [] i = absurd i
 one_less a b (c ∷ cs) i = go (same_id c a) refl i (one_less a b cs)
   where

@@ -5,9 +5,10 @@ use Rattle.fm_base.specs.declared.caller.Caller.{Caller}
 use Rattle.fm_base.specs.declared.arena_id.ArenaId.{ArenaId}
 use Rattle.fm_depicts.specs.Functions.{Stage, Fresh, Lives, Closes, Over, Machine, put, put_at, put_by}
 use Rattle.fm_depicts.proofs.Putting.{put_here, put_else, put_cases, at_cases, by_cases}
+use Rattle.std.specs.Int.{bit_at}
 use Rattle.fm_pool_facts.specs.Views.{Fits, span}
 use Rattle.fm_pool_facts.specs.Facts.{Session, free, live, shut, Memory, IsStanding, IsMarked, Counts, Givens, Cells, World}
-use Rattle.fm_pool_facts.proofs.Standing.{caller_is, standing_known, one_standing, free_apart, sessions_shut, sessions_end, open_new, sessions_open}
+use Rattle.fm_pool_facts.proofs.Standing.{caller_is, standing_known, one_standing, free_apart, sessions_shut, sessions_end, open_new, sessions_open, slots_used}
 
 -- ---- holds, given bytes and words
 
@@ -110,6 +111,7 @@ module _ (z : Shape) (m : Memory) (t : Machine) (r : World z m t) where
         λ e. (let one = caller_is d c e (w.term ∙ (ap m.terms e ∙ sym term)) in let f : None ≡ Some a = sym (ap t.inside one ∙ out) ∙ i in absurd (cc)) in
         record { number = w.number; term = w.term; mark = put_else m.marks c.number x d.number away ∙ w.mark; stands = w.stands };
     sessions = r.sessions;
+    slots = r.slots;
     counts = r.counts;
     givens = r.givens;
     cells = r.cells;
@@ -123,6 +125,7 @@ module _ (z : Shape) (m : Memory) (t : Machine) (r : World z m t) where
         (record { number = low; term = term; mark = mark ∙ i; stands = inl (ap t.life (sym same) ∙ l) }))
         (λ n i. r.marked d b i);
     sessions = r.sessions;
+    slots = r.slots;
     counts = r.counts;
     givens = r.givens;
     cells = r.cells;
@@ -138,6 +141,7 @@ module _ (z : Shape) (m : Memory) (t : Machine) (r : World z m t) where
         let away : d.number ≢ c.number = λ e. n (caller_is d c e (w.term ∙ (ap m.terms e ∙ sym term))) in
         record { number = w.number; term = w.term; mark = put_else m.marks c.number None d.number away ∙ w.mark; stands = w.stands });
     sessions = r.sessions;
+    slots = r.slots;
     counts = r.counts;
     givens = r.givens;
     cells = r.cells;
@@ -148,6 +152,7 @@ module _ (z : Shape) (m : Memory) (t : Machine) (r : World z m t) where
   world_write a w x s = record {
     marked = r.marked;
     sessions = r.sessions;
+    slots = r.slots;
     counts = r.counts;
     givens = r.givens;
     cells = record {
@@ -181,6 +186,8 @@ module _ (z : Shape) (m : Memory) (t : Machine) (r : World z m t) where
               (λ n. w.stands);
         };
     sessions = sessions_shut z m.sessions t.life r.sessions a l;
+    slots = slots_used z m.bits m.sessions r.slots a.slot (shut a) (λ g e. absurd (cc)) (λ b.
+        let y = r.slots.bit_is a.slot b in let q : free y.0 ≡ live a = sym y.1 ∙ r.sessions.alive_shown a l in absurd (cc));
     counts = counts_shut m.counts t.life t.holds r.counts a no_holds (λ b q n e. n (one_standing z m.sessions t.life r.sessions b a (inl q) (inl l) e));
     givens = givens_shut m.sessions m.given t.life t.given r.givens a l;
     cells = cells_shut z m.sessions m.cells t.life t.word r.cells a l;
@@ -198,14 +205,15 @@ module _ (z : Shape) (m : Memory) (t : Machine) (r : World z m t) where
               (λ e. absurd (nobody c (i ∙ ap Some e))) (λ n. w.stands);
         };
     sessions = sessions_end z m.sessions t.life r.sessions a l;
+    slots = r.slots;
     counts = counts_end m.counts t.life t.holds r.counts a l;
     givens = givens_end m.sessions m.given t.life t.given r.givens a;
     cells = cells_end z m.sessions m.cells t.life t.word r.cells a;
   }
 
-  pub world_open : (a : ArenaId) → m.sessions a.slot ≡ free a.generation → Fits z a
+  pub world_open : (a : ArenaId) → m.sessions a.slot ≡ free a.generation → bit_at m.bits a.slot ≢ 1 → Fits z a
       → World z (record m { sessions = put m.sessions a.slot (live a); counts = put m.counts a.slot 0 }) (record t { life = put_at t.life a Lives })
-  world_open a f fit =
+  world_open a f taken fit =
       let new = open_new z m.sessions t.life r.sessions a f in
       record {
         marked =
@@ -218,6 +226,7 @@ module _ (z : Shape) (m : Memory) (t : Machine) (r : World z m t) where
                   (λ n. w.stands);
             };
         sessions = sessions_open z m.sessions t.life r.sessions a f fit;
+        slots = slots_used z m.bits m.sessions r.slots a.slot (live a) (λ g e. absurd (cc)) taken;
         counts =
             counts_open m.counts t.life t.holds r.counts a new (λ b q e. free_apart z m.sessions t.life r.sessions a.slot a.generation b f (inl q) (sym e));
         givens = givens_open m.sessions m.given t.life t.given r.givens a f new;
@@ -230,6 +239,7 @@ module _ (z : Shape) (m : Memory) (t : Machine) (r : World z m t) where
   world_count a n l few = record {
     marked = λ c b i. let w = r.marked c b i in record { number = w.number; term = w.term; mark = w.mark; stands = w.stands };
     sessions = r.sessions;
+    slots = r.slots;
     counts = record {
       shown = λ b q. at_cases t.holds a n b (λ (x : ℕ). put m.counts a.slot n b.slot ≡ x)
           (λ e. (λ j. put m.counts a.slot n (e j).slot) ∙ put_here m.counts a.slot n)
@@ -247,6 +257,7 @@ module _ (z : Shape) (m : Memory) (t : Machine) (r : World z m t) where
   world_given a n s = record {
     marked = λ c b i. let w = r.marked c b i in record { number = w.number; term = w.term; mark = w.mark; stands = w.stands };
     sessions = r.sessions;
+    slots = r.slots;
     counts = r.counts;
     givens = record {
       shown = λ b q. at_cases t.given a n b (λ (x : ℕ). put m.given a.slot n b.slot ≡ x)
@@ -257,5 +268,16 @@ module _ (z : Shape) (m : Memory) (t : Machine) (r : World z m t) where
           (λ ne. r.givens.none b q);
       clean = λ k g f. put_else m.given a.slot n k (free_apart z m.sessions t.life r.sessions k g a f s) ∙ r.givens.clean k g f;
     };
+    cells = r.cells;
+  }
+
+  -- other slot bits
+  pub world_bits : (bits : ℕ) → ((s : ℕ) → bit_at bits s ≡ 1 → bit_at m.bits s ≡ 1) → World z (record m { bits = bits }) t
+  world_bits bits less = record {
+    marked = λ c b i. let w = r.marked c b i in record { number = w.number; term = w.term; mark = w.mark; stands = w.stands };
+    sessions = r.sessions;
+    slots = record { bit_is = λ s b. r.slots.bit_is s (less s b); within = r.slots.within; first = r.slots.first };
+    counts = r.counts;
+    givens = r.givens;
     cells = r.cells;
   }

@@ -1,5 +1,5 @@
 -- The facts that a pool keeps between any two steps: of its words, of the history, and of all views.
-use Rattle.std.specs.Prelude.{◌≡◌, ◌≢◌, ◌⊎◌, ℕ, ◌+◌, ◌*◌, ◌<◌, ◌≤◌, true, List, [], ◌∷◌, ◌++◌, length, slice_index, Contains, Option, Some, None}
+use Rattle.std.specs.Prelude.{◌≡◌, ◌≢◌, ◌⊎◌, ℕ, ◌+◌, ◌*◌, ◌<◌, ◌≤◌, true, List, [], ◌++◌, length, slice_index, Contains, Option, Some, None}
 use mathlib.Core.Option.{some}
 use lib.ListN.{get_elem?}
 use Rattle.fm_words.specs.declared.shape.Shape.{Shape}
@@ -8,16 +8,17 @@ use Rattle.fm_words.specs.Places.{at, front, draw as draw_place, slot_bits, mark
 use Rattle.fm_words.specs.Sessions.{session_word, free as is_free}
 use Rattle.fm_base.specs.declared.caller.Caller.{Caller}
 use Rattle.fm_base.specs.declared.arena_id.ArenaId.{ArenaId}
-use Rattle.fm_base.specs.declared.kind.Kind.TheVariants.{Automatic}
 use Rattle.fm_base.specs.Calls.{Entry}
 use Rattle.fm_base.specs.Histories.{IsLegal, state_after, made_by}
 use Rattle.fm_pool_facts.specs.Loans.{Loan, loan_of, lent, IsFree, HasPart, IsRightlyLent}
-use Rattle.fm_base.specs.Finds.{Find, Gathered, Close}
+use Rattle.fm_base.specs.Finds.{Find, Gathered, Close, is_draw}
 use Rattle.fm_depicts.specs.Functions.{Stage, Fresh, Lives, Closes, Machine, Depicts}
-use Rattle.fm_pool_facts.specs.declared.slot.Slot.{Slot}
-use Rattle.fm_pool_facts.specs.Views.{Met, View, Fits, In, HasSlot, all_gathered, span, limit_of}
+use Rattle.std.specs.Int.{bit_at}
+use Rattle.fm_pool_facts.specs.Hands.{Hand, nothing, taken, learnt, HasSlot}
+use Rattle.fm_pool_facts.specs.Views.{Met, View, Fits, In, all_gathered, span, limit_of}
+pub use Rattle.fm_pool_facts.specs.Views.{IsOnce}
 use Rattle.fm_pool_facts.specs.Words.{alive_word, closing_word, own_word}
-use Rattle.fm_pool_facts.specs.Holds.{holds_of, total}
+use Rattle.fm_pool_facts.specs.Holds.{holds_of, total, all_holds}
 
 -- ---- the words, decoded
 
@@ -32,6 +33,8 @@ pub record Memory : Type 0 where
   pub draw : ℕ
   -- the term of a number
   pub terms : ℕ → ℕ
+  -- the word of slot bits
+  pub bits : ℕ
   pub marks : ℕ → Option ArenaId
   pub sessions : ℕ → Session
   -- the holds that a session word counts
@@ -53,8 +56,7 @@ pub record Shows (z : Shape) (words : List ℕ) (m : Memory) : Type 0 where
   pub wide : length words ≡ word_count z
   pub front : slice_index words (at z front) ≡ 0
   pub draw : slice_index words (at z draw_place) ≡ m.draw
-  -- until slots come back none can be lent: each is in a hand, or was opened
-  pub slot_bits : slice_index words (at z slot_bits) ≡ 0
+  pub slot_bits : slice_index words (at z slot_bits) ≡ m.bits
   -- until numbers come back
   pub terms : (k : ℕ) → m.terms k ≡ 0
   pub marks : (k : ℕ) → k < z.passes → slice_index words (at z (mark k)) ≡ own_word (m.marks k)
@@ -88,6 +90,13 @@ pub record Sessions (z : Shape) (sessions : ℕ → Session) (life : ArenaId →
       → life b ≡ Fresh
   pub fits : (a : ArenaId) → life a ≢ Fresh → Fits z a
 
+-- slots whose bit is 1 are free
+pub record Slots (z : Shape) (bits : ℕ) (sessions : ℕ → Session) : Type 0 where
+  pub bit_is : (s : ℕ) → bit_at bits s ≡ 1 → (g : ℕ) × (sessions s ≡ free g)
+  pub within : (s g : ℕ) → sessions s ≡ free g → g < z.generations
+  -- until slots come back
+  pub first : (s g : ℕ) → sessions s ≡ free g → g ≡ 0
+
 -- session words count the holds
 pub record Counts (counts : ℕ → ℕ) (life : ArenaId → Stage) (holds : ArenaId → ℕ) : Type 0 where
   pub shown : (a : ArenaId) → life a ≡ Lives → counts a.slot ≡ holds a
@@ -115,6 +124,7 @@ pub record Loans (loans : List Loan) (sessions : ℕ → Session) (life : ArenaI
 pub record World (z : Shape) (m : Memory) (t : Machine) : Type 0 where
   pub marked : (c : Caller) (a : ArenaId) → t.inside c ≡ Some a → IsMarked z m.marks m.terms t.life c a
   pub sessions : Sessions z m.sessions t.life
+  pub slots : Slots z m.bits m.sessions
   pub counts : Counts m.counts t.life t.holds
   pub givens : Givens m.sessions m.given t.life t.given
   pub cells : Cells z m.sessions m.cells t.life t.word
@@ -126,7 +136,7 @@ pub record Owners : Type 0 where
   pub number : ℕ → ℕ
   -- the close of an arena
   pub closer : ArenaId → ℕ
-  -- a slot that is free
+  -- a free slot whose bit is 0
   pub holder : ℕ → ℕ
 
 -- an unfinished close at the seat j
@@ -135,12 +145,17 @@ pub record IsClosing (t : Machine) (o : Owners) (j : ℕ) (c : Close) : Type 0 w
   pub life : t.life c.arena ≡ Closes
   pub visited : (k : Caller) → k.number < c.visited → t.inside k ≢ Some c.arena
 
--- a slot in the hand of the seat j
-pub record IsHeld (z : Shape) (m : Memory) (o : Owners) (j : ℕ) (s : Slot) : Type 0 where
-  pub owner : o.holder s.slot ≡ j
-  pub slot : s.slot < z.slots
-  pub generation : s.generation < z.generations
-  pub session : m.sessions s.slot ≡ free s.generation
+-- a slot in the hand of the seat j, whose next generation is g
+pub record IsHeld (z : Shape) (bits : ℕ) (sessions : ℕ → Session) (holder : ℕ → ℕ) (j s g : ℕ) : Type 0 where
+  pub owner : holder s ≡ j
+  pub slot : s < z.slots
+  pub bit : bit_at bits s ≡ 0
+  pub session : sessions s ≡ free g
+
+abbrev pub HasInHand : Shape → ℕ → (ℕ → Session) → (ℕ → ℕ) → ℕ → Hand → Type 0
+HasInHand z bits sessions holder j nothing = Unit {0}
+HasInHand z bits sessions holder j (taken s) = (g : ℕ) × IsHeld z bits sessions holder j s g
+HasInHand z bits sessions holder j (learnt s g) = IsHeld z bits sessions holder j s g
 
 -- no caller of the number has made an entry or is under way, and its mark is 0
 pub record IsSilent (k : ℕ) (h : List Entry) (m : Memory) (t : Machine) : Type 0 where
@@ -166,16 +181,7 @@ pub record IsDrawn (h : List Entry) (m : Memory) (t : Machine) (o : Owners) (j :
   pub ungathered : (g : Gathered) → In g (all_gathered v) → g.caller.number ≢ d
   pub silent : IsSilent d h m t
 
--- no two of the list have one f
-abbrev pub IsOnce : {A B : Type 0} → (A → B) → List A → Type 0
-IsOnce f [] = Unit {0}
-IsOnce {A} f (x ∷ xs) = ((y : A) → In y xs → f y ≢ f x) × IsOnce f xs
-
 -- ---- what a view says
-
--- an arena was opened in the slot
-abbrev pub WasOpened : Machine → ℕ → Type 0
-WasOpened t s = (a : ArenaId) × (a.slot ≡ s) × (t.life a ≢ Fresh)
 
 abbrev pub HasGathered : ℕ → View → Type 0
 HasGathered n v = (g : Gathered) × In g (all_gathered v) × (g.caller.number ≡ n)
@@ -193,11 +199,7 @@ pub record Owns (z : Shape) (h : List Entry) (m : Memory) (t : Machine) (o : Own
   pub mark : m.marks v.caller.number ≡ v.mark
   pub closes : (c : Close) → In c v.closes → IsClosing t o j c
   pub once : IsOnce (λ (c : Close). c.arena) v.closes
-  pub hand : (s : Slot) → In s v.hand → IsHeld z m o j s
-  pub apart : IsOnce (λ (s : Slot). s.slot) v.hand
-  -- the first pass alone has slots in its hand, and all whose first arena is to come
-  pub only : (s : Slot) → In s v.hand → (v.caller.number ≡ 0) × (s.generation ≡ 0)
-  pub slots : v.caller.number ≡ 0 → (s : ℕ) → s < z.slots → HasSlot s v ⊎ WasOpened t s
+  pub hand : HasInHand z m.bits m.sessions o.holder j v.hand
   pub gathered : (g : Gathered) → In g v.gathered → IsGathered h m t o j v v.seen g
   pub coming : (x : Met) → In x v.met → (g : Gathered) → In g x.gathered → IsGathered h m t o j v x.seen g
   pub one_each : IsOnce (λ (g : Gathered). g.caller.number) (all_gathered v)
@@ -210,6 +212,17 @@ pub record Knows (z : Shape) (h : List Entry) (m : Memory) (t : Machine) (o : Ow
   pub begins : Begins v.seen h
   pub met : (x : Met) → In x v.met → Begins x.seen h
   pub owns : v.live ≡ true → Owns z h m t o j v
+
+-- where so many numbers are drawn, a draw found no more, and who was drawn has one of these
+pub record IsWithin (drawn : ℕ) (f : Find) : Type 0 where
+  pub found : is_draw f.step ≡ true → f.found ≤ drawn
+  pub drew : (c : Caller) → f.drew ≡ Some c → (is_draw f.step ≡ true) × (c.number < drawn)
+
+-- the finds that a view has are within the count of drawn numbers, and who is gathered is of its number's term
+pub record IsCounted (m : Memory) (v : View) : Type 0 where
+  pub finds : (f : Find) → In f v.finds → IsWithin m.draw f
+  pub theirs : (g : Gathered) → In g (all_gathered v) → (f : Find) → In f g.finds → IsWithin m.draw f
+  pub terms : (g : Gathered) → In g (all_gathered v) → g.caller.term ≡ m.terms g.caller.number
 
 -- ---- what some view has
 
@@ -235,6 +248,9 @@ HasDraw d n v = ((v.live ≡ true) × (v.caller.number ≡ d) × DrewIn n v.find
 abbrev pub HasClose : ArenaId → View → Type 0
 HasClose a v = (v.live ≡ true) × ((c : Close) × In c v.closes × (c.arena ≡ a))
 
+abbrev pub KeepsSlot : ℕ → View → Type 0
+KeepsSlot s v = (v.live ≡ true) × HasSlot s v.hand
+
 -- ---- the rule
 
 pub record Rule (z : Shape) (words : List ℕ) (views : List View) : Type 0 where
@@ -251,9 +267,13 @@ pub record Rule (z : Shape) (words : List ℕ) (views : List View) : Type 0 wher
   pub world : World z memory machine
   pub few : memory.draw ≤ z.passes
   pub later : (k : ℕ) → memory.draw ≤ k → IsSilent k history memory machine
+  -- no entry is of a later term than its caller's number
+  pub terms : (e : Entry) → In e history → e.caller.term ≤ memory.terms e.caller.number
   pub numbers : (n : ℕ) → n < memory.draw → Somewhere views (owners.number n) (HasNumber n)
   pub drawers : (n : ℕ) → 0 < n → n < memory.draw → (d : ℕ) × (d < n) × Somewhere views (owners.number d) (HasDraw d n)
   pub closed : (a : ArenaId) → machine.life a ≡ Closes → Somewhere views (owners.closer a) (HasClose a)
-  -- an arena that isn't automatic is held as often as views have a hold of it
-  pub held : (a : ArenaId) → a.kind ≢ Automatic → total (holds_of a) views ≡ machine.holds a
+  pub slots : (s g : ℕ) → s < z.slots → memory.sessions s ≡ free g → bit_at memory.bits s ≡ 0 → Somewhere views (owners.holder s) (KeepsSlot s)
+  -- an arena is held as often as views have a hold of it; of an automatic one that is alive they have one more
+  pub held : (a : ArenaId) → total (holds_of a) views ≡ all_holds a machine
   pub each : (j : ℕ) (v : View) → get_elem? views j ≡ some v → Knows z history memory machine owners j v
+  pub counted : (j : ℕ) (v : View) → get_elem? views j ≡ some v → IsCounted memory v

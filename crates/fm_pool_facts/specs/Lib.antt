@@ -1,8 +1,10 @@
 pub mod Loans
+pub mod Hands
 pub mod Views
 pub mod Words
 pub mod Closes
 pub mod Holds
+pub mod Handles
 pub mod Steps
 pub mod Facts
 pub mod Moves

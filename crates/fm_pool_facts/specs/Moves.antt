@@ -1,24 +1,24 @@
 -- What one step changes, and what the rule allows.
-use Rattle.std.specs.Prelude.{◌/◌, ◌≡◌, ◌≢◌, ◌⊎◌, ℕ, ◌+◌, ◌<◌, ◌≤◌, true, List, [], ◌∷◌, ◌++◌, length, slice_index, slice_set, ⊤}
+use Rattle.std.specs.Prelude.{◌/◌, ◌≡◌, ◌≢◌, ◌⊎◌, ℕ, ◌+◌, ◌<◌, ◌≤◌, true, List, [], ◌∷◌, ◌++◌, length, slice_index, slice_set, None, ⊤}
 use mathlib.Core.Option.{some}
 use lib.ListN.{get_elem?}
 use Rattle.fm_words.specs.declared.shape.Shape.{Shape}
 use Rattle.fm_base.specs.declared.caller.Caller.{Caller}
 use Rattle.fm_base.specs.declared.arena_id.ArenaId.{ArenaId}
-use Rattle.fm_base.specs.declared.kind.Kind.TheVariants.{Automatic}
 use Rattle.fm_base.specs.Calls.{Call, Read, Write, SwapIf, Add, End, Lend, Back, Entry}
 use Rattle.fm_base.specs.Histories.{made_by}
 use Rattle.fm_pool_facts.specs.Loans.{Loan, loans_by, IsFree, HasPart}
-use Rattle.fm_base.specs.Finds.{Find, Gathered, Close}
+use Rattle.fm_base.specs.Finds.{Find, Gathered, Close, is_draw}
 use Rattle.fm_depicts.specs.Functions.{Fresh, Closes, Over, Machine, moved, MayBy, reply_by}
-use Rattle.fm_pool_facts.specs.declared.slot.Slot.{Slot}
+use Rattle.std.specs.Int.{bit_at}
+use Rattle.fm_pool_facts.specs.Hands.{nothing}
 use Rattle.fm_pool_facts.specs.declared.step.Step.{Step}
-use Rattle.fm_pool_facts.specs.declared.step.Step.TheVariants.{Visits, Draws}
-use Rattle.fm_pool_facts.specs.Views.{Met, View, In, HasSlot, IsSound, all_gathered}
+use Rattle.fm_pool_facts.specs.declared.step.Step.TheVariants.{Visits, Draws, Holds, Backs, TakesSlot}
+use Rattle.fm_pool_facts.specs.Views.{Met, View, In, IsSound, IsSpent, all_gathered, HasFind, HasAllDrawn}
 use Rattle.fm_pool_facts.specs.Steps.{part, entries, noted}
-use Rattle.fm_pool_facts.specs.Words.{own_word}
-use Rattle.fm_pool_facts.specs.Holds.{holds_of}
-use Rattle.fm_pool_facts.specs.Facts.{Memory, free, Owners, IsClosing, IsOnce, IsHeld, HasClose, WasOpened, Begins, Rule}
+use Rattle.fm_pool_facts.specs.Words.{own_word, alive_holds}
+use Rattle.fm_pool_facts.specs.Holds.{grips, holds_of, all_holds}
+use Rattle.fm_pool_facts.specs.Facts.{Memory, free, Owners, IsClosing, IsOnce, HasInHand, HasClose, KeepsSlot, Begins, Rule}
 
 -- entries of one caller that the functions allow
 abbrev pub MayMake : ℕ → Machine → Caller → List Entry → Type 0
@@ -56,7 +56,8 @@ pub record Moved (me : ℕ) (limit : ℕ) (c : Caller) (m : Memory) (t : Machine
   pub draw : m'.draw ≡ m.draw
   pub numbers : (k : ℕ) → o'.number k ≡ o.number k
   pub closers : (b : ArenaId) → t.life b ≡ Closes → o.closer b ≢ me → (o'.closer b ≡ o.closer b) × NoEnd es b
-  pub holders : (s g : ℕ) → m.sessions s ≡ free g → o.holder s ≢ me → (o'.holder s ≡ o.holder s) × (m'.sessions s ≡ free g)
+  pub holders : (s g : ℕ) → m.sessions s ≡ free g → bit_at m.bits s ≡ 0 → o.holder s ≢ me
+      → (o'.holder s ≡ o.holder s) × (m'.sessions s ≡ free g) × (bit_at m'.bits s ≡ 0)
 
 -- what a step leaves of a view
 pub record Same (v p : View) : Type 0 where
@@ -77,19 +78,22 @@ pub record Part (z : Shape) (m : Memory) (t : Machine) (o : Owners) (j : ℕ) (p
   pub mark : m.marks p.caller.number ≡ p.mark
   pub closes : (c : Close) → In c p.closes → IsClosing t o j c
   pub once : IsOnce (λ (c : Close). c.arena) p.closes
-  pub hand : (s : Slot) → In s p.hand → IsHeld z m o j s
-  pub apart : IsOnce (λ (s : Slot). s.slot) p.hand
-  pub only : (s : Slot) → In s p.hand → (p.caller.number ≡ 0) × (s.generation ≡ 0)
-  pub slots : p.caller.number ≡ 0 → (s : ℕ) → s < z.slots → HasSlot s p ⊎ WasOpened t s
+  pub hand : HasInHand z m.bits m.sessions o.holder j p.hand
 
 -- where the close of each arena is after the step
 abbrev pub KeepsCloses : (me : ℕ) (v p : View) (t : Machine) (o : Owners) (t' : Machine) (o' : Owners) → Type 0
 KeepsCloses me v p t o t' o' = (a : ArenaId) → t'.life a ≡ Closes
     → ((o'.closer a ≡ me) × HasClose a p) ⊎ ((t.life a ≡ Closes) × (o'.closer a ≡ o.closer a) × (HasClose a v → HasClose a p))
 
--- the pass has as many holds more as the arenas that aren't automatic
+-- where each free slot whose bit is 0 is after the step
+abbrev pub KeepsSlots : (z : Shape) (me : ℕ) (v p : View) (m : Memory) (o : Owners) (m' : Memory) (o' : Owners) → Type 0
+KeepsSlots z me v p m o m' o' = (s g : ℕ) → s < z.slots → m'.sessions s ≡ free g → bit_at m'.bits s ≡ 0
+    → ((o'.holder s ≡ me) × KeepsSlot s p)
+    ⊎ ((h : ℕ) × (m.sessions s ≡ free h) × (bit_at m.bits s ≡ 0) × (o'.holder s ≡ o.holder s) × (KeepsSlot s v → KeepsSlot s p))
+
+-- the pass has as many holds more as the arenas
 abbrev pub KeepsHolds : (v p : View) (t t' : Machine) → Type 0
-KeepsHolds v p t t' = (a : ArenaId) → a.kind ≢ Automatic → holds_of a p + t.holds a ≡ holds_of a v + t'.holds a
+KeepsHolds v p t t' = (a : ArenaId) → holds_of a p + all_holds a t ≡ holds_of a v + all_holds a t'
 
 -- the view after a step: it has seen all, whom it met is gathered, and the caller's own entries are the last
 abbrev pub told : View → List Entry → List Entry → (ℕ → List Find) → View
@@ -117,11 +121,23 @@ pub record LearnsCount (v : View) (x : ℕ) : Type 0 where
   pub own : v.caller.number < x
   pub few : x ≤ v.shape.passes
   pub whole : v.whole ≡ true → x ≡ length v.gathered + 1
+  -- a pass that has the first number and each that its finds drew has them all too
+  pub complete : HasAllDrawn v → x ≡ length v.gathered + 1
+  -- and the count never falls
+  pub later : (f : Find) → HasFind v f → is_draw f.step ≡ true → f.found ≤ x
 
--- what is learnt by the word x that a step found: the mark of its own number is what its view says
+-- what is learnt by the word x of slot bits, where the pass is known to be whole
+pub record LearnsSlots (v : View) (x : ℕ) : Type 0 where
+  pub unspent : v.whole ≡ true → (s : ℕ) → s < v.shape.slots → bit_at x s ≡ 1 → ¬ (IsSpent v s)
+  pub spent : v.whole ≡ true → v.hand ≡ nothing → (s : ℕ) → s < v.shape.slots → bit_at x s ≡ 0 → IsSpent v s
+
+-- what is learnt by the word x that a step found: the mark of its own number is what its view says; an arena that it holds is alive
 abbrev pub Learns : Step → View → ℕ → Type 0
 Learns (Visits a k) v x = k ≡ v.caller.number → x ≡ own_word v.mark
 Learns (Draws expected) v x = LearnsCount v x
+Learns (TakesSlot expected bit) v x = LearnsSlots v x
+Learns (Holds a word) v x = In a (grips a v) → alive_holds a x ≢ None
+Learns (Backs a word) v x = alive_holds a x ≢ None
 Learns step v x = ⊤
 
 -- what a step tells its caller that found the word x

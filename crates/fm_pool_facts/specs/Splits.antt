@@ -1,16 +1,11 @@
 -- The first view, and how views are cut in two and put together.
-use Rattle.std.specs.Prelude.{◌≡◌, ℕ, zero, suc, Bool, true, false, List, [], ◌∷◌, Option, Some, None}
+use Rattle.std.specs.Prelude.{◌≡◌, ℕ, Bool, true, false, List, [], ◌∷◌, Option, Some, None}
 use Rattle.fm_words.specs.declared.shape.Shape.{Shape}
 use Rattle.fm_base.specs.Arenas.{only_caller}
 use Rattle.fm_base.specs.Calls.{Entry}
 use Rattle.fm_base.specs.Finds.{Gathered}
-use Rattle.fm_pool_facts.specs.declared.slot.Slot.{Slot}
+use Rattle.fm_pool_facts.specs.Hands.{nothing}
 use Rattle.fm_pool_facts.specs.Views.{View}
-
--- so many slots from this one on, whose first arena is to come
-abbrev pub slots_from : ℕ → ℕ → List Slot
-slots_from first zero = []
-slots_from first (suc n) = record { slot = first; generation = 0 } ∷ slots_from (suc first) n
 
 abbrev pub view_of : Shape → Bool → List Entry → View
 view_of z live seen = record {
@@ -22,7 +17,7 @@ view_of z live seen = record {
   inside = None;
   mark = None;
   closes = [];
-  hand = [];
+  hand = nothing;
   drawn = None;
   met = [];
   finds = [];
@@ -33,9 +28,9 @@ view_of z live seen = record {
   pages = [];
 }
 
--- the first pass has number 0 and every slot in its hand
+-- the first pass has number 0
 abbrev pub first_view : Shape → View
-first_view z = record (view_of z true []) { hand = slots_from 0 z.slots; whole = true }
+first_view z = record (view_of z true []) { whole = true }
 
 -- a note has seen as much as its pass, and nothing else
 abbrev pub note : View → View
@@ -80,7 +75,8 @@ pub record IsAtRest (w : View) : Type 0 where
   pub inside : w.inside ≡ None
   pub mark : w.mark ≡ None
   pub drawn : w.drawn ≡ None
-  pub hand : w.hand ≡ []
+  pub hand : w.hand ≡ nothing
   pub closes : w.closes ≡ []
   pub holds : w.holds ≡ []
+  pub handles : w.handles ≡ []
   pub met : w.met ≡ []

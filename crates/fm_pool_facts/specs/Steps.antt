@@ -1,18 +1,19 @@
 -- The steps of a pass: what each does to its view, and its entries.
-use Rattle.std.specs.Prelude.{◌≡◌, ℕ, ◌+◌, ◌*◌, ◌<◌, nat_le, ◌==◌, Bool, true, false, if◌then◌else◌, List, [], ◌∷◌, ◌++◌, length, All, Option, Some, None}
+use Rattle.std.specs.Prelude.{◌≡◌, ℕ, ◌+◌, ◌*◌, ◌/◌, ◌^◌, ◌<◌, nat_le, ◌==◌, Bool, true, false, if◌then◌else◌, List, [], ◌∷◌, ◌++◌, length, All, Option, Some, None}
 use Rattle.fm_base.specs.declared.caller.Caller.{Caller}
 use Rattle.fm_base.specs.declared.arena_id.ArenaId.{ArenaId}
 use Rattle.fm_base.specs.Calls.{Call, Open, Enter, Read, Write, SwapIf, Add, Allocate, Leave, Hold, Unhold, Shut, Lend, Reply, Fine, Found, Entry, entry_of}
 use Rattle.fm_base.specs.Machine.{allocate_reply, rounded_up}
 use Rattle.fm_base.specs.Histories.{made_by}
-use Rattle.fm_base.specs.Finds.{Find, FindStep, Draws as Drawing, Visits as Visiting}
+use Rattle.fm_base.specs.Finds.{Find, FindStep, Draws as Drawing, Visits as Visiting, TakesSlot as Taking}
 use Rattle.fm_words.specs.declared.shape.Shape.{Shape}
-use Rattle.fm_pool_facts.specs.declared.slot.Slot.{Slot}
+use Rattle.fm_pool_facts.specs.Hands.{nothing, learnt, slots_in, takes, hand_taken}
 use Rattle.fm_pool_facts.specs.declared.step.Step.{Step}
-use Rattle.fm_pool_facts.specs.declared.step.Step.TheVariants.{Draws, Marks, Checks, Loads, Stores, SwapsIf, Adds, Allocates, Holds, Unholds, Unmarks, Shuts, Visits, Opens, Looks}
+use Rattle.fm_pool_facts.specs.declared.step.Step.TheVariants.{Draws, Marks, Checks, Loads, Stores, SwapsIf, Adds, Allocates, Holds, Unholds, Backs, Unmarks, Shuts, Visits, TakesSlot, LearnsGeneration, Opens, Looks}
 use Rattle.fm_pool_facts.specs.Views.{View, IsSound, given_of, limit_of, pass_of}
 use Rattle.fm_pool_facts.specs.Words.{alive_holds, enter_found, inside_found, shut_found, hold_found}
-use Rattle.fm_pool_facts.specs.Holds.{holds_after, released}
+use Rattle.fm_pool_facts.specs.Holds.{grips, with_grips, holds_after, handles_with, released}
+use Rattle.fm_pool_facts.specs.Handles.{giving, given_back, giving_entries}
 use Rattle.fm_pool_facts.specs.Closes.{begun, visit_found, closes_after, visit_entries}
 
 -- ---- what a step does
@@ -39,7 +40,7 @@ is_empty (x ∷ xs) = false
 
 -- known to be whole, no slot or page in its hand, no unfinished close
 abbrev pub is_clear : View → Bool
-is_clear v = if v.whole then (if is_empty v.hand then (if is_empty v.pages then is_empty v.closes else false) else false) else false
+is_clear v = if v.whole then (if is_empty (slots_in v.hand) then (if is_empty v.pages then is_empty v.closes else false) else false) else false
 
 abbrev pub note_of : FindStep → ℕ → View → ℕ → List Find
 note_of step found v n = record { step = step; found = found; seen = n; clear = is_clear v; drew = None } ∷ []
@@ -74,16 +75,6 @@ pub record CanReach (v : View) (word : ℕ) : Type 0 where
   pub id : ArenaId
   pub inside : v.inside ≡ Some id
   pub given : 8 * word < given_of v id
-
--- ---- slots in the hand
-
-abbrev pub first_slot : List Slot → Option Slot
-first_slot [] = None
-first_slot (s ∷ ss) = Some s
-
-abbrev pub but_first : List Slot → List Slot
-but_first [] = []
-but_first (s ∷ ss) = ss
 
 -- ---- numbers
 
@@ -124,12 +115,15 @@ part (Stores w y) v x = v
 part (SwapsIf w old y) v x = v
 part (Adds w n) v x = v
 part (Allocates given size align) v x = v
-part (Holds a word) v x = record v { holds = holds_after (x == word) a (hold_found (alive_holds a word)) v.holds }
+part (Holds a word) v x = with_grips a (holds_after (x == word) a (hold_found (alive_holds a word)) (grips a v)) v
 part (Unholds a) v x = record v { holds = released a v.holds }
+part (Backs a word) v x = given_back a (giving (x == word) (alive_holds a word)) v
 part Unmarks v x = record v { inside = None; mark = None }
 part (Shuts a) v x = record v { closes = begun a (shut_found (alive_holds a x)) v.closes }
 part (Visits a k) v x = record v { closes = closes_after a (visit_found v.shape a k x) v.closes }
-part (Opens a) v x = record v { hand = but_first v.hand }
+part (TakesSlot expected bit) v x = record v { hand = hand_taken (takes expected bit x) bit v.hand }
+part (LearnsGeneration s) v x = record v { hand = learnt s (x / 2 ^ 32) }
+part (Opens a) v x = record v { hand = nothing; handles = handles_with a v.handles }
 part (Draws expected) v x = draws (number_drawn v.shape expected x) x v
 part Looks v x = v
 
@@ -145,9 +139,12 @@ entries (Allocates given size align) v x =
     where_found (x == given) (acted v.inside v.caller (λ a. Allocate a size align) (allocate_reply (limit_of v.shape) given size align))
 entries (Holds a word) v x = where_found (x == word) (entry_of v.caller (Hold a) (hold_found (alive_holds a word)) ∷ [])
 entries (Unholds a) v x = entry_of v.caller (Unhold a) Fine ∷ []
+entries (Backs a word) v x = giving_entries a (giving (x == word) (alive_holds a word)) v.caller
 entries Unmarks v x = acted v.inside v.caller Leave Fine
 entries (Shuts a) v x = entry_of v.caller (Shut a) (shut_found (alive_holds a x)) ∷ []
 entries (Visits a k) v x = visit_entries a (visit_found v.shape a k x) v.caller
+entries (TakesSlot expected bit) v x = []
+entries (LearnsGeneration s) v x = []
 entries (Opens a) v x = open_entries a v.caller
 entries (Draws expected) v x = []
 entries Looks v x = []
@@ -156,4 +153,5 @@ entries Looks v x = []
 unfoldable pub noted : Step → View → ℕ → ℕ → List Find
 noted (Visits a k) v x = note_of (Visiting a (pass_of k)) x v
 noted (Draws expected) v x = note_draw expected x v
+noted (TakesSlot expected bit) v x = note_of (Taking expected bit) x v
 noted step v x = none_noted

@@ -1,5 +1,5 @@
 -- What contracts see of a pass.
-use Rattle.std.specs.Prelude.{◌≡◌, ◌⊎◌, ℕ, ◌*◌, ◌<◌, ◌≤◌, ◌^◌, Bool, true, List, [], ◌∷◌, ◌++◌, length, Option, Some}
+use Rattle.std.specs.Prelude.{◌≡◌, ◌≢◌, ◌⊎◌, ℕ, ◌*◌, ◌<◌, ◌≤◌, ◌^◌, Bool, true, List, [], ◌∷◌, ◌++◌, length, Option, Some}
 use Rattle.fm_words.specs.declared.shape.Shape.{Shape}
 use Rattle.fm_words.specs.Shapes.{IsValid}
 use Rattle.fm_base.specs.declared.caller.Caller.{Caller}
@@ -8,8 +8,8 @@ use Rattle.fm_base.specs.Arenas.{State, IsUnderWay, has_arena, arena_of}
 use Rattle.fm_base.specs.Calls.{Entry}
 use Rattle.fm_base.specs.Histories.{IsLegal, state_after, made_by}
 use Rattle.fm_pool_facts.specs.Loans.{IsRightlyLent}
-use Rattle.fm_base.specs.Finds.{Find, Gathered, Close}
-use Rattle.fm_pool_facts.specs.declared.slot.Slot.{Slot}
+use Rattle.fm_base.specs.Finds.{Find, Gathered, Close, is_draw}
+use Rattle.fm_pool_facts.specs.Hands.{Hand, HasSlot}
 
 -- what another had seen that a pass has met, and the callers that it brought
 pub record Met : Type 0 where
@@ -33,8 +33,8 @@ pub record View : Type 0 where
   -- the mark that it publishes
   pub mark : Option ArenaId
   pub closes : List Close
-  -- the slots that it has to open arenas in
-  pub hand : List Slot
+  -- the slot that it took to open an arena in
+  pub hand : Hand
   -- the number that it drew and hasn't split off
   pub drawn : Option ℕ
   -- those that it has met since its last step
@@ -85,9 +85,10 @@ abbrev pub In : {A : Type 0} → A → List A → Type 0
 In x [] = ⊥
 In x (y ∷ ys) = (x ≡ y) ⊎ In x ys
 
--- the slot is in the hand
-abbrev pub HasSlot : ℕ → View → Type 0
-HasSlot s v = (g : ℕ) × In (record { slot = s; generation = g }) v.hand
+-- no two of the list have one f
+abbrev pub IsOnce : {A B : Type 0} → (A → B) → List A → Type 0
+IsOnce f [] = Unit {0}
+IsOnce {A} f (x ∷ xs) = ((y : A) → In y xs → f y ≢ f x) × IsOnce f xs
 
 -- the caller of that number, in its first term
 abbrev pub pass_of : ℕ → Caller
@@ -96,6 +97,21 @@ pass_of k = record { number = k; term = 0 }
 -- the number is the pass's own, or that of a caller that is gathered into it
 abbrev pub HasCaller : View → ℕ → Type 0
 HasCaller v n = (n ≡ v.caller.number) ⊎ ((g : Gathered) × In g v.gathered × (g.caller.number ≡ n))
+
+-- the find is the pass's own, or that of a caller that is gathered into it
+abbrev pub HasFind : View → Find → Type 0
+HasFind v f = In f v.finds ⊎ ((g : Gathered) × In g v.gathered × In f g.finds)
+
+-- the pass has the first number, and each number that one of its draws drew
+pub record HasAllDrawn (v : View) : Type 0 where
+  pub first : HasCaller v 0
+  pub others : (f : Find) (c : Caller) → HasFind v f → is_draw f.step ≡ true → f.drew ≡ Some c → HasCaller v c.number
+
+-- the pass, the callers that it has and those that made entries are all in their first terms
+pub record IsOfFirstTerm (v : View) : Type 0 where
+  pub own : v.caller.term ≡ 0
+  pub gathered : (g : Gathered) → In g v.gathered → g.caller.term ≡ 0
+  pub entries : (e : Entry) → In e v.seen → e.caller.term ≡ 0
 
 -- every entry that was seen is by a caller that the pass has
 abbrev pub KnowsCallers : View → Type 0
@@ -119,11 +135,15 @@ pub record IsSound (v : View) : Type 0 where
   pub inside : (a : ArenaId) → v.inside ≡ Some a → IsUnderWay (state_in v) v.caller a
   pub outside : (a : ArenaId) → IsUnderWay (state_in v) v.caller a → v.inside ≡ Some a
   pub fits : (a : ArenaId) → IsKnown v a → Fits v.shape a
-  -- the first pass alone has slots in its hand: just those in which no arena was opened
-  pub hand : (s : Slot) → In s v.hand → (v.caller.number ≡ 0) × (s.slot < v.shape.slots) × ¬ (IsSpent v s.slot)
-  pub slots : v.caller.number ≡ 0 → (s : ℕ) → s < v.shape.slots → HasSlot s v ⊎ IsSpent v s
+  pub hand : (s : ℕ) → HasSlot s v.hand → s < v.shape.slots
   -- the number that it drew and hasn't split off
   pub drawn : (n : ℕ) → v.drawn ≡ Some n → IsNew v n
   pub few : length v.gathered < v.shape.passes
-  -- a pass that is known to be whole has the callers of the whole history
+  -- a pass that is known to be whole has the callers of the whole history, and all that were drawn
   pub knows : v.whole ≡ true → KnowsCallers v
+  pub all_drawn : v.whole ≡ true → HasAllDrawn v
+  -- no two callers that it has are of one number
+  pub one_each : IsOnce (λ (g : Gathered). g.caller.number) v.gathered
+  pub others : (g : Gathered) → In g v.gathered → g.caller.number ≢ v.caller.number
+  -- until numbers come back
+  pub terms : IsOfFirstTerm v

@@ -17,16 +17,22 @@ pub enum Step {
     Adds(u64, u64),
     /// Where so many bytes were given, gives bytes of this size and alignment.
     Allocates(u64, u64, u64),
-    /// Where the session word is this one, takes a hold of the arena.
+    /// Where the session word is this one, takes a hold of the arena: a handle, where it is automatic.
     Holds(ArenaId, u64),
     /// Drops a hold of the arena.
     Unholds(ArenaId),
+    /// Where the session word is this one, gives back a handle of the arena: with the last one it is shut.
+    Backs(ArenaId, u64),
     /// Publishes nothing any more.
     Unmarks,
     /// Lets nobody into the arena from now on.
     Shuts(ArenaId),
     /// Looks at the mark of the pass with this number, for the close of the arena.
     Visits(ArenaId, u32),
+    /// Where the word of slot bits is this one, makes the bit 0; sees which slots can be lent.
+    TakesSlot(u64, u32),
+    /// Looks which generation the slot that was taken has next.
+    LearnsGeneration(u32),
     /// Opens an arena of this name.
     Opens(ArenaId),
     /// Where so many numbers were drawn, draws the next one; sees how many were drawn.

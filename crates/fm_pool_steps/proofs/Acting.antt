@@ -18,6 +18,7 @@ use Rattle.fm_pool_facts.specs.Moves.{MayStep, MayStore}
 use Rattle.fm_pool_facts.proofs.Worlds.{world_mark, world_enter, world_leave}
 use Rattle.fm_pool_facts.proofs.Shown.{shows_same, shows_mark}
 use Rattle.fm_pool_steps.proofs.Reading.{Says, says, enter_says}
+use Rattle.fm_pool_facts.proofs.Founds.{no_draw}
 use Rattle.fm_pool_steps.proofs.Plain.{same_none, own, low, known_now, Made, plain}
 
 module _ (z : Shape) (me : ℕ) (v : View) (l : v.live ≡ true) where
@@ -30,13 +31,15 @@ module _ (z : Shape) (me : ℕ) (v : View) (l : v.live ≡ true) where
         let n : ℕ = v.caller.number in
         let i : ℕ = place_at z (mark n) in
         let m' : Memory = record r.memory { marks = put r.memory.marks n (Some a) } in
-        let g = plain z ws vs r me v at l i (mark_of a) (record v { mark = Some a }) [] none_noted m' (record {
+        let g = plain z ws vs r me v at l i (mark_of a) (record v { mark = Some a }) [] none_noted no_draw m' (record {
           may = tt;
           ends = λ b. tt;
           marks = put_else r.memory.marks n (Some a);
           terms = λ k. refl;
           draw = refl;
           still = λ s g f. f;
+          back = λ s g f. f;
+          bits = refl;
           same = record {
             home = refl;
             shape = refl;
@@ -52,7 +55,7 @@ module _ (z : Shape) (me : ℕ) (v : View) (l : v.live ≡ true) where
           closes = refl;
           hand = refl;
           was = λ b h. h;
-          holds = λ a n. refl;
+          holds = λ a. refl;
           lends = tt;
           loans = r.loans;
           shows = shows_mark z r.valid ws r.memory r.shows n (Some a) (low z ws vs r me v at l);
@@ -85,13 +88,15 @@ module _ (z : Shape) (me : ℕ) (v : View) (l : v.live ≡ true) where
           let k = own z ws vs r me v at l in
           let quiet = k.inside ∙ out in
           plain z ws vs r me v at l (place_at z (session a.slot)) (found ws) (record v { inside = None })
-          (entry_of v.caller (Enter a) Closed ∷ []) none_noted r.memory (record {
+          (entry_of v.caller (Enter a) Closed ∷ []) none_noted no_draw r.memory (record {
             may = (refl, (known_now z ws vs r me v at l a known, use_it, quiet), enter_says r.machine a None s, tt);
             ends = λ b. ((λ h. h), tt);
             marks = λ k h. refl;
             terms = λ k. refl;
             draw = refl;
             still = λ s g f. f;
+            back = λ s g f. f;
+            bits = refl;
             same = record {
               home = refl;
               shape = refl;
@@ -107,7 +112,7 @@ module _ (z : Shape) (me : ℕ) (v : View) (l : v.live ≡ true) where
             closes = refl;
             hand = refl;
             was = λ b h. h;
-            holds = λ a n. refl;
+            holds = λ a. refl;
             lends = (tt, tt);
             loans = r.loans;
             shows = shows_same z r.valid ws r.memory r.shows (place_at z (session a.slot));
@@ -119,13 +124,15 @@ module _ (z : Shape) (me : ℕ) (v : View) (l : v.live ≡ true) where
           let k = own z ws vs r me v at l in
           let quiet = k.inside ∙ out in
           plain z ws vs r me v at l (place_at z (session a.slot)) (found ws) (record v { inside = Some a })
-          (entry_of v.caller (Enter a) Fine ∷ []) none_noted r.memory (record {
+          (entry_of v.caller (Enter a) Fine ∷ []) none_noted no_draw r.memory (record {
             may = (refl, (known_now z ws vs r me v at l a known, use_it, quiet), enter_says r.machine a (Some n) s, tt);
             ends = λ b. ((λ h. h), tt);
             marks = λ k h. refl;
             terms = λ k. refl;
             draw = refl;
             still = λ s g f. f;
+            back = λ s g f. f;
+            bits = refl;
             same = record {
               home = refl;
               shape = refl;
@@ -141,7 +148,7 @@ module _ (z : Shape) (me : ℕ) (v : View) (l : v.live ≡ true) where
             closes = refl;
             hand = refl;
             was = λ b h. h;
-            holds = λ a n. refl;
+            holds = λ a. refl;
             lends = (tt, tt);
             loans = r.loans;
             shows = shows_same z r.valid ws r.memory r.shows (place_at z (session a.slot));
@@ -160,7 +167,7 @@ module _ (z : Shape) (me : ℕ) (v : View) (l : v.live ≡ true) where
       go ws vs r at None e =
           let k = own z ws vs r me v at l in
           let n : ℕ = v.caller.number in
-          plain z ws vs r me v at l (place_at z (mark n)) 0 (record v { inside = None; mark = None }) [] none_noted
+          plain z ws vs r me v at l (place_at z (mark n)) 0 (record v { inside = None; mark = None }) [] none_noted no_draw
           (record r.memory { marks = put r.memory.marks n None }) (record {
             may = tt;
             ends = λ b. tt;
@@ -168,6 +175,8 @@ module _ (z : Shape) (me : ℕ) (v : View) (l : v.live ≡ true) where
             terms = λ k. refl;
             draw = refl;
             still = λ s g f. f;
+            back = λ s g f. f;
+            bits = refl;
             same = record {
               home = refl;
               shape = refl;
@@ -183,7 +192,7 @@ module _ (z : Shape) (me : ℕ) (v : View) (l : v.live ≡ true) where
             closes = refl;
             hand = refl;
             was = λ b h. h;
-            holds = λ a n. refl;
+            holds = λ a. refl;
             lends = tt;
             loans = r.loans;
             shows = shows_mark z r.valid ws r.memory r.shows n None (low z ws vs r me v at l);
@@ -194,7 +203,7 @@ module _ (z : Shape) (me : ℕ) (v : View) (l : v.live ≡ true) where
       go ws vs r at (Some a) e =
           let k = own z ws vs r me v at l in
           let n : ℕ = v.caller.number in
-          plain z ws vs r me v at l (place_at z (mark n)) 0 (record v { inside = None; mark = None }) (entry_of v.caller (Leave a) Fine ∷ []) none_noted
+          plain z ws vs r me v at l (place_at z (mark n)) 0 (record v { inside = None; mark = None }) (entry_of v.caller (Leave a) Fine ∷ []) none_noted no_draw
           (record r.memory { marks = put r.memory.marks n None }) (record {
             may = (refl, k.inside ∙ e, refl, tt);
             ends = λ b. ((λ h. h), tt);
@@ -202,6 +211,8 @@ module _ (z : Shape) (me : ℕ) (v : View) (l : v.live ≡ true) where
             terms = λ k. refl;
             draw = refl;
             still = λ s g f. f;
+            back = λ s g f. f;
+            bits = refl;
             same = record {
               home = refl;
               shape = refl;
@@ -217,7 +228,7 @@ module _ (z : Shape) (me : ℕ) (v : View) (l : v.live ≡ true) where
             closes = refl;
             hand = refl;
             was = λ b h. h;
-            holds = λ a n. refl;
+            holds = λ a. refl;
             lends = (tt, tt);
             loans = r.loans;
             shows = shows_mark z r.valid ws r.memory r.shows n None (low z ws vs r me v at l);
@@ -232,18 +243,20 @@ module _ (z : Shape) (me : ℕ) (v : View) (l : v.live ≡ true) where
   look_steps i = record {
     may = λ ws vs r at.
         let k = own z ws vs r me v at l in
-        let g = plain z ws vs r me v at l i (get_or ws i 0) v [] none_noted r.memory (record {
+        let g = plain z ws vs r me v at l i (get_or ws i 0) v [] none_noted no_draw r.memory (record {
           may = tt;
           ends = λ b. tt;
           marks = λ k h. refl;
           terms = λ k. refl;
           draw = refl;
           still = λ s g f. f;
+          back = λ s g f. f;
+          bits = refl;
           same = same_none v;
           closes = refl;
           hand = refl;
           was = λ b h. h;
-          holds = λ a n. refl;
+          holds = λ a. refl;
           lends = tt;
           loans = r.loans;
           shows = shows_same z r.valid ws r.memory r.shows i;

@@ -15,8 +15,9 @@ use Rattle.fm_depicts.specs.Functions.{put}
 use Rattle.fm_depicts.proofs.Putting.{put_here, put_else}
 use Rattle.fm_pool_facts.specs.Views.{View, In, all_gathered}
 use Rattle.fm_pool_facts.specs.Holds.{holds_of}
-use Rattle.fm_pool_facts.specs.Facts.{Memory, Owners, HasNumber, HasGathered, HasDraw, HasClose, DrewIn, IsGathered, IsDrawn, IsOnce, Somewhere, Owns, Knows, Rule}
+use Rattle.fm_pool_facts.specs.Facts.{Memory, Owners, HasNumber, HasGathered, HasDraw, HasClose, KeepsSlot, DrewIn, IsGathered, IsDrawn, IsOnce, Somewhere, Owns, Knows, Rule}
 use Rattle.fm_pool_facts.specs.Moves.{told}
+use Rattle.fm_pool_facts.proofs.Founds.{AreWithin, counted_later, counted_told, counted_set}
 use Rattle.fm_pool_facts.proofs.Keeping.{set_there, in_left, in_right, stays_somewhere, gathered_all, seated_all}
 use Rattle.fm_pool_facts.proofs.Summing.{total-set}
 use Rattle.fm_pool_facts.proofs.Shown.{shows_draw}
@@ -85,10 +86,7 @@ module _ (z : Shape) (me : ℕ) (v : View) (l : v.live ≡ true) (lone : v.met �
             mark = u.mark;
             closes = λ c j. let y = u.closes c j in record { owner = y.owner; life = y.life; visited = y.visited };
             once = u.once;
-            hand = λ s j. let y = u.hand s j in record { owner = y.owner; slot = y.slot; generation = y.generation; session = y.session };
-            apart = u.apart;
-            only = u.only;
-            slots = u.slots;
+            hand = u.hand;
             gathered = λ g j.
                 let y = gathered_all z r.history r.memory r.machine r.owners me v u g j in
                 gathered_still y.0 g y.1 (ap (made_by g.caller) (sym seen_is));
@@ -139,10 +137,7 @@ module _ (z : Shape) (me : ℕ) (v : View) (l : v.live ≡ true) (lone : v.met �
           mark = x.mark;
           closes = λ c i. let y = x.closes c i in record { owner = y.owner; life = y.life; visited = y.visited };
           once = x.once;
-          hand = λ s i. let y = x.hand s i in record { owner = y.owner; slot = y.slot; generation = y.generation; session = y.session };
-          apart = x.apart;
-          only = x.only;
-          slots = x.slots;
+          hand = x.hand;
           gathered = λ g i. still u.seen g (x.gathered g i);
           coming = λ y j g i. still y.seen g (x.coming y j g i);
           one_each = x.one_each;
@@ -163,7 +158,7 @@ module _ (z : Shape) (me : ℕ) (v : View) (l : v.live ≡ true) (lone : v.met �
 
   -- the rule where the number d was drawn by the step
   module _ (n : ℕ) (is_draw : n ≡ r.memory.draw) (fits : n < z.passes) (none : v.drawn ≡ None) (fs : ℕ → List Find)
-      (noted : (k : ℕ) → DrewIn n (fs k)) where
+      (noted : (k : ℕ) → DrewIn n (fs k)) (founds : AreWithin (n + 1) fs) where
     abbrev f : ℕ → ℕ
     f = put r.owners.number n me
 
@@ -204,6 +199,9 @@ module _ (z : Shape) (me : ℕ) (v : View) (l : v.live ≡ true) (lone : v.met �
     here k P b g y = subst (λ (j : ℕ). Somewhere (set vs me drawer) j P) (sym (same_numbers k b))
         (stays_somewhere vs me v drawer (r.owners.number k) P at g y)
 
+    more : r.memory.draw ≤ n + 1
+    more = let q = is_draw in omega arith
+
     pub drew : Rule z (set ws i (n + 1)) (set vs me drawer)
     drew = record {
       history = r.history;
@@ -216,10 +214,18 @@ module _ (z : Shape) (me : ℕ) (v : View) (l : v.live ≡ true) (lone : v.met �
       loans = r.loans;
       depicts = r.depicts;
       shows = shows_draw z r.valid ws r.memory r.shows (n + 1);
-      world = record { marked = r.world.marked; sessions = r.world.sessions; counts = r.world.counts; givens = r.world.givens; cells = r.world.cells };
+      world = record {
+        marked = r.world.marked;
+        sessions = r.world.sessions;
+        slots = r.world.slots;
+        counts = r.world.counts;
+        givens = r.world.givens;
+        cells = r.world.cells;
+      };
       few = omega arith;
       later = λ k b.
           let y = r.later k (let q = is_draw in omega arith) in record { calls = y.calls; outside = y.outside; mark = y.mark };
+      terms = r.terms;
       numbers = λ k b. dite (ℕ_discrete k n)
           (λ e. record {
             view = drawer;
@@ -250,9 +256,10 @@ module _ (z : Shape) (me : ℕ) (v : View) (l : v.live ≡ true) (lone : v.met �
           let y = r.drawers k a low in
           (y.0, y.1, here y.0 (HasDraw y.0 k) (let c = y.1 in omega arith) (draw_on y.0 k) y.2));
       closed = λ a h. stays_somewhere vs me v drawer (r.owners.closer a) (HasClose a) at (λ q. q) (r.closed a h);
-      held = λ a na.
+      slots = λ s g h q b. stays_somewhere vs me v drawer (r.owners.holder s) (KeepsSlot s) at (λ p. p) (r.slots s g h q b);
+      held = λ a.
           let x = total-set (holds_of a) vs me v drawer at in
-          let y = r.held a na in
+          let y = r.held a in
           let s : holds_of a drawer ≡ holds_of a v = refl in
           omega arith;
       each = λ j y at'. ⊎_elim
@@ -262,6 +269,9 @@ module _ (z : Shape) (me : ℕ) (v : View) (l : v.live ≡ true) (lone : v.met �
           (λ (e : (j ≢ me) × (get_elem? vs j ≡ some y)).
           other_knows (n + 1) f (let q = is_draw in omega arith) same_numbers j y e.0 (r.each j y e.1))
           (at_set vs me j drawer y at');
+      counted = counted_set r.memory (memory_at (n + 1)) vs me drawer more (λ k. refl)
+          (counted_told (memory_at (n + 1)) v (part_of (Some n) false) zs [] fs refl refl founds
+          (counted_later r.memory (memory_at (n + 1)) v more (λ k. refl) (r.counted me v at))) r.counted;
     }
 
     pub drew_history : drew.history ≡ r.history

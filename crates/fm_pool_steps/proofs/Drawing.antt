@@ -16,8 +16,10 @@ use Rattle.fm_pool_facts.specs.declared.step.Step.TheVariants.{Draws}
 use Rattle.fm_pool_facts.specs.Views.{View, In, all_gathered, pass_of}
 use Rattle.fm_pool_facts.specs.Holds.{holds_of}
 use Rattle.fm_pool_facts.specs.Steps.{part, entries, noted, number_drawn, draws, caller_drawn, note_draw, is_clear}
-use Rattle.fm_pool_facts.specs.Facts.{HasNumber, HasGathered, HasDraw, HasClose, DrewIn, Owns, Knows, Rule}
+use Rattle.fm_pool_facts.specs.Facts.{HasNumber, HasGathered, HasDraw, HasClose, KeepsSlot, DrewIn, Owns, Knows, Rule}
 use Rattle.fm_pool_facts.specs.Moves.{told, Gives, LearnsCount, MayStep}
+use Rattle.fm_pool_facts.proofs.Founds.{AreWithin, looked_within, drew_within, counted_told, counted_set, find_within}
+use Rattle.fm_pool_facts.proofs.Drawers.{complete_counted}
 use Rattle.fm_pool_facts.proofs.Keeping.{none_added, set_there, in_left, stays_somewhere}
 use Rattle.fm_pool_facts.proofs.Summing.{total-set}
 use Rattle.fm_pool_facts.proofs.Callers.{counted, all_counted}
@@ -52,9 +54,9 @@ module _ (z : Shape) (me : ℕ) (v : View) (l : v.live ≡ true) (lone : v.met �
   abbrev looker : Bool → (ℕ → List Find) → View
   looker wh fs = told (part_of v.drawn wh) zs [] fs
 
-  looked : (wh : Bool) (fs : ℕ → List Find) → (wh ≡ true → (n : ℕ) → n < r.memory.draw → n ≢ v.caller.number → HasGathered n v)
+  looked : (wh : Bool) (fs : ℕ → List Find) → AreWithin r.memory.draw fs → (wh ≡ true → (n : ℕ) → n < r.memory.draw → n ≢ v.caller.number → HasGathered n v)
       → Rule z (set ws i (get_or ws i 0)) (set vs me (looker wh fs))
-  looked wh fs whole =
+  looked wh fs founds whole =
       let w : View = looker wh fs in
       let number_on : (k : ℕ) → HasNumber k v → HasNumber k w = (λ k. ⊎_elim (λ h. inl h) (⊎_elim (λ h. inr (inl h)) (λ (h : HasGathered k v).
       inr (inr (h.0, in_left h.0 (all_gathered v) [] h.1, h.2))))) in
@@ -77,14 +79,16 @@ module _ (z : Shape) (me : ℕ) (v : View) (l : v.live ≡ true) (lone : v.met �
         world = r.world;
         few = r.few;
         later = r.later;
+        terms = r.terms;
         numbers = λ k b. stays_somewhere vs me v w (r.owners.number k) (HasNumber k) at (number_on k) (r.numbers k b);
         drawers = λ k a b.
             let y = r.drawers k a b in
             (y.0, y.1, stays_somewhere vs me v w (r.owners.number y.0) (HasDraw y.0 k) at (draw_on y.0 k) y.2);
         closed = λ a h. stays_somewhere vs me v w (r.owners.closer a) (HasClose a) at (λ q. q) (r.closed a h);
-        held = λ a na.
+        slots = λ s g h f b. stays_somewhere vs me v w (r.owners.holder s) (KeepsSlot s) at (λ q. q) (r.slots s g h f b);
+        held = λ a.
             let x = total-set (holds_of a) vs me v w at in
-            let y = r.held a na in
+            let y = r.held a in
             let s : holds_of a w ≡ holds_of a v = refl in
             omega arith;
         each = λ j y at'. ⊎_elim
@@ -92,6 +96,8 @@ module _ (z : Shape) (me : ℕ) (v : View) (l : v.live ≡ true) (lone : v.met �
             (knows z me v l lone ws vs r at r.memory.draw r.owners.number v.drawn wh fs (omega arith) (λ k h. refl) (λ n e. mine.drawn n e) whole))
             (λ (e : (j ≢ me) × (get_elem? vs j ≡ some y)). r.each j y e.1)
             (at_set vs me j w y at');
+        counted = counted_set r.memory r.memory vs me w (omega arith) (λ k. refl)
+            (counted_told r.memory v (part_of v.drawn wh) zs [] fs refl refl founds (r.counted me v at)) r.counted;
       }
 
   -- whether the pass is known to be whole after it found so many
@@ -125,22 +131,22 @@ module _ (z : Shape) (me : ℕ) (v : View) (l : v.live ≡ true) (lone : v.met �
   is_found = r.shows.draw
 
   -- what the step makes where it drew
-  made_drew : (fits : found < z.passes) (none : v.drawn ≡ None) (fs : ℕ → List Find) → ((k : ℕ) → DrewIn found (fs k))
+  made_drew : (fits : found < z.passes) (none : v.drawn ≡ None) (fs : ℕ → List Find) → ((k : ℕ) → DrewIn found (fs k)) → AreWithin (found + 1) fs
       → Made z ws vs me v i (found + 1) (part_of (Some found) false) [] fs
-  made_drew fits none fs noted =
-      let f = drew z me v l lone ws vs r at found is_found fits none fs noted in (
+  made_drew fits none fs noted founds =
+      let f = drew z me v l lone ws vs r at found is_found fits none fs noted founds in (
         told (part_of (Some found) false) zs [] fs,
         f,
         gives (Some found) false fs (set ws i (found + 1)) f
-            (drew_history z me v l lone ws vs r at found is_found fits none fs noted),
+            (drew_history z me v l lone ws vs r at found is_found fits none fs noted founds),
       )
 
   -- and where it didn't
-  made_looked : (fs : ℕ → List Find) → Made z ws vs me v i found (part_of v.drawn (whole_by found)) [] fs
+  made_looked : (fs : ℕ → List Find) → AreWithin r.memory.draw fs → Made z ws vs me v i found (part_of v.drawn (whole_by found)) [] fs
   unfolding looked
-  made_looked fs =
+  made_looked fs founds =
       let wh : Bool = whole_by found in
-      let f = looked wh fs (go v.whole refl) in
+      let f = looked wh fs founds (go v.whole refl) in
       (told (part_of v.drawn wh) zs [] fs, f, gives v.drawn wh fs (set ws i found) f refl)
     where
       go : (b : Bool) → v.whole ≡ b → (if b then true else (length v.gathered + 1 == found)) ≡ true → (n : ℕ) → n < r.memory.draw → n ≢ v.caller.number
@@ -163,6 +169,10 @@ module _ (z : Shape) (me : ℕ) (v : View) (l : v.live ≡ true) (lone : v.met �
     (pass_of found, refl, ap caller_drawn e),
   )
 
+  -- and one that drew none
+  looked_now : (expected : ℕ) → number_drawn v.shape expected found ≡ None → AreWithin r.memory.draw (note_draw expected found v)
+  looked_now expected e = looked_within expected found r.memory.draw v (let q = is_found in omega arith) e
+
   -- the exchange
   exchanged : (expected : ℕ) → v.drawn ≡ None → v.shape ≡ z → (b c : Bool) → (found == expected) ≡ b → nat_le (expected + 1) v.shape.passes ≡ c
       → Made z ws vs me v i (either b (if c then expected + 1 else expected) found) (draws (if b then (if c then Some found else None) else None) found v) []
@@ -176,12 +186,14 @@ module _ (z : Shape) (me : ℕ) (v : View) (l : v.live ≡ true) (lone : v.met �
       let drawn : number_drawn v.shape expected found ≡ Some found =
       λ j. if e j then (if q j then Some found else None) else None in
       subst (λ (x : ℕ). Made z ws vs me v i (x + 1) (part_of (Some found) false) [] (note_draw expected found v)) same
-      (made_drew fits none (note_draw expected found v) (noted_draw expected drawn))
+      (made_drew fits none (note_draw expected found v) (noted_draw expected drawn) (drew_within expected found v drawn))
   exchanged expected none sh true false e q =
       let same : found ≡ expected = eqb_true found expected e in
       subst (λ (x : ℕ). Made z ws vs me v i x (part_of v.drawn (whole_by found)) [] (note_draw expected found v)) same
-      (made_looked (note_draw expected found v))
-  exchanged expected none sh false c e q = made_looked (note_draw expected found v)
+      (made_looked (note_draw expected found v) (looked_now expected (λ j. if e j then (if q j then Some found else None) else None)))
+  exchanged expected none sh false c e q =
+      let room : Bool = nat_le (expected + 1) v.shape.passes in
+      made_looked (note_draw expected found v) (looked_now expected (λ j. if e j then (if room then Some found else None) else None))
 
   -- what the count tells
   learnt : v.shape ≡ z → LearnsCount v found
@@ -189,6 +201,8 @@ module _ (z : Shape) (me : ℕ) (v : View) (l : v.live ≡ true) (lone : v.met �
     own = (let x = mine.number in let y = is_found in omega arith);
     few = (let x = r.few in let y = is_found in let p : v.shape.passes ≡ z.passes = ap (λ (s : Shape). s.passes) sh in omega arith);
     whole = λ w. is_found ∙ all_counted z r.history r.memory r.machine r.owners me v lone mine w;
+    complete = λ h. is_found ∙ complete_counted z ws vs r me v at l lone h;
+    later = λ f h e. let a = (find_within r.memory v (r.counted me v at) f h).found e in let y = is_found in omega arith;
   }
 
 -- the number of drawn passes is exchanged for one more where it is the expected one, and fits

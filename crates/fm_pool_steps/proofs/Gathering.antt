@@ -1,5 +1,5 @@
 -- A pass that is outside, with nothing in its hand, is gathered into another.
-use Rattle.std.proofs.Common.{◌≡◌, ◌≢◌, ℕ, ◌==◌, Bool, true, if◌then◌else◌, List, [], ◌∷◌, ◌++◌, set, sym, refl, ap, ◌∙◌, subst, arith, inl, inr, ⊎_elim, Some, None, eq-eqb, ne_eqb}
+use Rattle.std.proofs.Common.{◌≡◌, ◌≢◌, ℕ, ◌==◌, Bool, true, if◌then◌else◌, List, ◌∷◌, ◌++◌, set, sym, refl, ap, ◌∙◌, subst, arith, inl, inr, ⊎_elim, Some, None, eq-eqb, ne_eqb}
 use Rattle.std.proofs.lemmas.List.{append-nil}
 use mathlib.Core.Option.{some, some-injective}
 use mathlib.Core.Logic.{dite}
@@ -7,35 +7,19 @@ use native.Mathlib.Decide.{ℕ_discrete}
 use lib.ListN.{get_elem?}
 use Rattle.atomic_table.proofs.Lists.{set_else}
 use Rattle.fm_words.specs.declared.shape.Shape.{Shape}
-use Rattle.fm_base.specs.declared.arena_id.ArenaId.{ArenaId}
 use Rattle.fm_base.specs.Calls.{Entry}
 use Rattle.fm_base.specs.Finds.{Gathered}
 use Rattle.fm_pool_facts.specs.Views.{Met, View, In, all_gathered, brought}
-use Rattle.fm_pool_facts.specs.Holds.{holds_of, how_many}
+use Rattle.fm_pool_facts.specs.Hands.{HasSlot}
+use Rattle.fm_pool_facts.specs.Holds.{holds_of}
 use Rattle.fm_pool_facts.specs.Splits.{gather, as_gathered, nothing_seen, IsAtRest}
-use Rattle.fm_pool_facts.specs.Facts.{Owners, HasNumber, HasDraw, HasClose, IsGathered, IsOnce, Begins, Somewhere, Owns, Knows, Rule}
+use Rattle.fm_pool_facts.specs.Facts.{Owners, HasNumber, HasDraw, HasClose, KeepsSlot, IsGathered, IsOnce, Begins, Somewhere, Owns, Knows, Rule, IsCounted}
+use Rattle.fm_pool_facts.proofs.Founds.{counted_bare, counted_gather}
 use Rattle.fm_pool_facts.proofs.Keeping.{set_there, stays_somewhere, gathered_all, in_left, in_right, in_append}
+use Rattle.fm_pool_facts.proofs.Counting.{between}
 use Rattle.fm_pool_facts.proofs.Summing.{total-set}
+use Rattle.fm_pool_facts.proofs.Gripping.{none_held}
 use Rattle.fm_pool_steps.proofs.Splitting.{with_owners, views_set, there_before}
-
--- lists without a value in common, put together
-apart_both : {A : Type 0} (f : A → ℕ) (xs ys : List A) → IsOnce f xs → IsOnce f ys → ((x y : A) → In x xs → In y ys → f y ≢ f x) → IsOnce f (xs ++ ys)
-apart_both f [] ys a b n = b
-apart_both f (x ∷ xs) ys a b n = (
-  (λ y i. ⊎_elim (a.0 y) (λ (j : In y ys). n x y (inl refl) j) (in_append y xs ys i)),
-  apart_both f xs ys a.1 b (λ c d i j. n c d (inr i) j),
-)
-
--- and one list between two
-between : {A : Type 0} (f : A → ℕ) (xs ys zs : List A) → IsOnce f (xs ++ ys) → IsOnce f zs → ((x z : A) → In x (xs ++ ys) → In z zs → f z ≢ f x)
-    → IsOnce f (xs ++ (zs ++ ys))
-between f [] ys zs a b n = apart_both f zs ys b a (λ z y i j e. n y z j i (sym e))
-between f (x ∷ xs) ys zs a b n = (
-  (λ y i. ⊎_elim (λ (j : In y xs). a.0 y (in_left y xs ys j))
-      (λ (j : In y (zs ++ ys)). ⊎_elim (λ (k : In y zs). n x y (inl refl) k) (λ (k : In y ys). a.0 y (in_right y xs ys k)) (in_append y zs ys j))
-      (in_append y xs (zs ++ ys) i)),
-  between f xs ys zs a.1 b (λ c z i j. n c z (inr i) j),
-)
 
 module _ (z : Shape) (ws : List ℕ) (vs : List View) (r : Rule z ws vs) (id : ℕ) (v : View) (other : ℕ) (w : View) (at : get_elem? vs id ≡ some v)
     (ne : ¬ (other ≡ id)) (at' : get_elem? (set vs id (gather v w)) other ≡ some w) (l : v.live ≡ true) (rests : IsAtRest w) where
@@ -198,10 +182,7 @@ module _ (z : Shape) (ws : List ℕ) (vs : List View) (r : Rule z ws vs) (id : �
           mark = kv.mark;
           closes = λ c i. let y = kv.closes c i in record { owner = y.owner; life = y.life; visited = y.visited };
           once = kv.once;
-          hand = λ s i. let y = kv.hand s i in record { owner = y.owner; slot = y.slot; generation = y.generation; session = y.session };
-          apart = kv.apart;
-          only = kv.only;
-          slots = kv.slots;
+          hand = kv.hand;
           gathered = λ g i. at_both v.seen g (kv.gathered g i);
           coming = λ x. ⊎_elim
               (λ (p : x ≡ record { seen = w.seen; gathered = comes }) g i.
@@ -256,10 +237,7 @@ module _ (z : Shape) (ws : List ℕ) (vs : List View) (r : Rule z ws vs) (id : �
           mark = x.mark;
           closes = λ c i. let y = x.closes c i in record { owner = y.owner; life = y.life; visited = y.visited };
           once = x.once;
-          hand = λ s i. let y = x.hand s i in record { owner = y.owner; slot = y.slot; generation = y.generation; session = y.session };
-          apart = x.apart;
-          only = x.only;
-          slots = x.slots;
+          hand = x.hand;
           gathered = λ g i. still u.seen g (x.gathered g i);
           coming = λ y n g i. still y.seen g (x.coming y n g i);
           one_each = x.one_each;
@@ -278,6 +256,9 @@ module _ (z : Shape) (ws : List ℕ) (vs : List View) (r : Rule z ws vs) (id : �
         };
   }
 
+  both_counted : IsCounted r.memory both
+  both_counted = counted_gather r.memory v w kw.term (r.counted id v at) (r.counted other w there)
+
   -- the pass has the other's numbers, and the other is spent
   pub gather_joins : Rule z ws us
   gather_joins =
@@ -287,14 +268,19 @@ module _ (z : Shape) (ws : List ℕ) (vs : List View) (r : Rule z ws vs) (id : �
       (λ a h. stays_somewhere (set vs id both) other w nothing_seen (r.owners.closer a) (HasClose a) at'
       (λ (q : HasClose a w). absurd (subst (In q.1.0) rests.closes q.1.1))
       (stays_somewhere vs id v both (r.owners.closer a) (HasClose a) at (λ q. q) (r.closed a h)))
+      (λ s g h f b. stays_somewhere (set vs id both) other w nothing_seen (r.owners.holder s) (KeepsSlot s) at'
+      (λ (q : KeepsSlot s w). absurd (subst (HasSlot s) rests.hand q.1))
+      (stays_somewhere vs id v both (r.owners.holder s) (KeepsSlot s) at (λ q. q) (r.slots s g h f b)))
       (views_set (set vs id both) other nothing_seen (Knows z r.history r.memory r.machine o')
       (record { shape = λ q. absurd (cc); begins = (r.history, refl); met = λ x i. absurd i; owns = λ q. absurd (cc) })
       (λ j u m e. views_set vs id both (λ k y. k ≢ other → Knows z r.history r.memory r.machine o' k y) (λ m. both_knows)
       (λ k y c e' m. other_knows k y m (r.each k y e')) j u e m))
+      (views_set (set vs id both) other nothing_seen (λ j u. IsCounted r.memory u) (counted_bare r.memory nothing_seen refl refl)
+      (λ j u m e. views_set vs id both (λ j u. IsCounted r.memory u) both_counted (λ j u m e. r.counted j u e) j u e))
       (λ a.
       let x = total-set (holds_of a) vs id v both at in
       let y = total-set (holds_of a) (set vs id both) other w nothing_seen at' in
       let here : holds_of a both ≡ holds_of a v = refl in
-      let gone : holds_of a w ≡ 0 = ap (λ (x : Bool × List ArenaId). if x.0 then how_many a x.1 else 0) (λ j. (rests.live j, rests.holds j)) in
+      let gone : holds_of a w ≡ 0 = none_held a w rests.holds rests.handles in
       let none : holds_of a nothing_seen ≡ 0 = refl in
       omega arith)

@@ -15,9 +15,11 @@ use Rattle.fm_depicts.proofs.Putting.{put_here, put_else}
 use Rattle.fm_pool_facts.specs.Views.{Met, View, In, all_gathered, brought}
 use Rattle.fm_pool_facts.specs.Holds.{holds_of}
 use Rattle.fm_pool_facts.specs.Splits.{number_or, drawn_left, drawn_right}
-use Rattle.fm_pool_facts.specs.Facts.{Owners, HasNumber, HasDraw, HasClose, IsGathered, IsDrawn, Somewhere, Owns, Knows, Rule}
+use Rattle.fm_pool_facts.specs.Facts.{Owners, HasNumber, HasDraw, HasClose, KeepsSlot, IsGathered, IsDrawn, Somewhere, Owns, Knows, Rule, IsCounted}
+use Rattle.fm_pool_facts.proofs.Founds.{counted_bare}
 use Rattle.fm_pool_facts.proofs.Keeping.{stays_somewhere, gathered_all, in_left, in_right}
 use Rattle.fm_pool_facts.proofs.Summing.{total-set, total-snoc}
+use Rattle.fm_pool_facts.proofs.Gripping.{none_held}
 use Rattle.fm_pool_steps.proofs.Splitting.{with_owners, views_set, views_on, on_longer}
 
 at_last : {A : Type 0} (l : List A) (a : A) → get_elem? (l ++ a ∷ []) (length l) ≡ some a
@@ -66,7 +68,8 @@ module _ (z : Shape) (ws : List ℕ) (vs : List View) (r : Rule z ws vs) (id : �
 
   -- a caller that is gathered stays at its seat
   still : (j : ℕ) (u : View) (k : Owns z r.history r.memory r.machine r.owners j u) → ((g : Gathered) → In g (all_gathered u) → g.caller.number ≢ d)
-      → (xs : List Entry) (g : Gathered) → In g (all_gathered u) → IsGathered r.history r.memory r.machine r.owners j u xs g → IsGathered r.history r.memory r.machine o' j u xs g
+      → (xs : List Entry) (g : Gathered) → In g (all_gathered u) → IsGathered r.history r.memory r.machine r.owners j u xs g
+      → IsGathered r.history r.memory r.machine o' j u xs g
   still j u k far xs g i y = record {
     number = y.number;
     seated = put_else r.owners.number d last g.caller.number (far g i) ∙ y.seated;
@@ -116,10 +119,7 @@ module _ (z : Shape) (ws : List ℕ) (vs : List View) (r : Rule z ws vs) (id : �
           mark = u.mark;
           closes = λ c i. let y = u.closes c i in record { owner = y.owner; life = y.life; visited = y.visited };
           once = u.once;
-          hand = λ s i. let y = u.hand s i in record { owner = y.owner; slot = y.slot; generation = y.generation; session = y.session };
-          apart = u.apart;
-          only = u.only;
-          slots = u.slots;
+          hand = u.hand;
           gathered = λ g i. at_left v.seen g (still id v u its.ungathered v.seen g (in_left g v.gathered (brought v.met) i) (u.gathered g i));
           coming = λ x j g i.
               at_left x.seen g (still id v u its.ungathered x.seen g (in_right g v.gathered (brought v.met) (brought_in g x v.met j i)) (u.coming x j g i));
@@ -146,10 +146,7 @@ module _ (z : Shape) (ws : List ℕ) (vs : List View) (r : Rule z ws vs) (id : �
       mark = ap r.memory.marks number_is ∙ its.silent.mark;
       closes = λ c i. absurd i;
       once = tt;
-      hand = λ s i. absurd i;
-      apart = tt;
-      only = λ s i. absurd i;
-      slots = λ e. absurd (let a = its.later in let b = number_is in omega arith);
+      hand = tt;
       gathered = λ g i. absurd i;
       coming = λ x i. absurd i;
       one_each = tt;
@@ -178,10 +175,7 @@ module _ (z : Shape) (ws : List ℕ) (vs : List View) (r : Rule z ws vs) (id : �
           mark = x.mark;
           closes = λ c i. let y = x.closes c i in record { owner = y.owner; life = y.life; visited = y.visited };
           once = x.once;
-          hand = λ s i. let y = x.hand s i in record { owner = y.owner; slot = y.slot; generation = y.generation; session = y.session };
-          apart = x.apart;
-          only = x.only;
-          slots = x.slots;
+          hand = x.hand;
           gathered = λ g i. still j u x away u.seen g (in_left g u.gathered (brought u.met) i) (x.gathered g i);
           coming = λ y n g i. still j u x away y.seen g (in_right g u.gathered (brought u.met) (brought_in g y u.met n i)) (x.coming y n g i);
           one_each = x.one_each;
@@ -199,6 +193,9 @@ module _ (z : Shape) (ws : List ℕ) (vs : List View) (r : Rule z ws vs) (id : �
           seen_all = x.seen_all;
         };
   }
+
+  left_counted : IsCounted r.memory left
+  left_counted = let c = r.counted id v at in record { finds = c.finds; theirs = c.theirs; terms = c.terms }
 
   on_left : (i : ℕ) (P : View → Type 0) → (P v → P left) → Somewhere vs i P → Somewhere (set vs id left ++ right ∷ []) i P
   on_left i P g s = on_longer (set vs id left) right i P (stays_somewhere vs id v left i P at g s)
@@ -224,11 +221,14 @@ module _ (z : Shape) (ws : List ℕ) (vs : List View) (r : Rule z ws vs) (id : �
             (on_left (r.owners.number y.0) (HasDraw y.0 n) (λ q. q) y.2),
       ))
       (λ a h. on_left (r.owners.closer a) (HasClose a) (λ q. q) (r.closed a h))
+      (λ s g h f b. on_left (r.owners.holder s) (KeepsSlot s) (λ q. q) (r.slots s g h f b))
       (views_on (set vs id left) right (Knows z r.history r.memory r.machine o') right_knows
       (views_set vs id left (Knows z r.history r.memory r.machine o') left_knows (λ j u far e. other_knows j u far (r.each j u e))))
+      (views_on (set vs id left) right (λ j u. IsCounted r.memory u) (counted_bare r.memory right refl refl)
+      (views_set vs id left (λ j u. IsCounted r.memory u) left_counted (λ j u far e. r.counted j u e)))
       (λ a.
       let x = total-snoc (holds_of a) (set vs id left) right in
       let y = total-set (holds_of a) vs id v left at in
       let same : holds_of a left ≡ holds_of a v = refl in
-      let none : holds_of a right ≡ 0 = refl in
+      let none : holds_of a right ≡ 0 = none_held a right refl refl in
       omega arith)

@@ -15,7 +15,7 @@ use Rattle.fm_depicts.specs.Functions.{Stage, Fresh, Lives, Closes, Over, Machin
 use Rattle.fm_pool_facts.specs.declared.step.Step.TheVariants.{Holds, Unholds}
 use Rattle.fm_pool_facts.specs.Views.{View, Fits, In, IsKnown}
 use Rattle.fm_pool_facts.specs.Words.{alive_word, alive_holds, hold_found, held_by, held_word}
-use Rattle.fm_pool_facts.specs.Holds.{holds_after, released, how_many, holds_of}
+use Rattle.fm_pool_facts.specs.Holds.{grips, with_grips, holds_after, released, holds_of, all_holds}
 use Rattle.fm_pool_facts.specs.Steps.{part, entries, noted, none_noted, where_found}
 use Rattle.fm_pool_facts.specs.Facts.{Loans, World, session_code, Shows, Owns, Rule}
 use Rattle.fm_pool_facts.specs.Loans.{lent}
@@ -23,7 +23,9 @@ use Rattle.fm_pool_facts.specs.Moves.{Same, MayStep}
 use Rattle.fm_pool_facts.proofs.Worlds.{world_count}
 use Rattle.fm_pool_facts.proofs.Shown.{shows_same, shows_count}
 use Rattle.fm_pool_facts.proofs.Summing.{total-has, one_more_hold, some_hold, one_hold_less}
+use Rattle.fm_pool_facts.proofs.Gripping.{holds_are, with_holds, with_same, held_now, held_lives, none_besides, keeps_grips}
 use Rattle.fm_pool_steps.proofs.Reading.{kind_below, Says, says, hold_says, eqb_true, eqb_false}
+use Rattle.fm_pool_facts.proofs.Founds.{no_draw}
 use Rattle.fm_pool_steps.proofs.Plain.{same_none, own, known_now, Made, plain}
 
 -- one hold more in a session word
@@ -32,17 +34,29 @@ unfolding alive_word session_word
 more_word a n = omega arith
 
 -- and one less
-less_word : (a : ArenaId) (n : ℕ) → a.generation < 2 ^ 32 → a.owner < 4096 → 0 < n → n ≤ 65535
+pub less_word : (a : ArenaId) (n : ℕ) → a.generation < 2 ^ 32 → a.owner < 4096 → 0 < n → n ≤ 65535
     → (alive_word a n + (2 ^ 64 - 1)) % 2 ^ 64 ≡ alive_word a (n - 1)
 unfolding alive_word session_word
 less_word a n g o h l = let k = kind_below a.kind in omega arith
+
+-- an arena that is alive was opened
+pub known_lives : (t : Machine) (a : ArenaId) → t.life a ≡ Lives → t.life a ≢ Fresh
+known_lives t a al f = let y : Fresh ≡ Lives = sym f ∙ al in absurd (cc)
+
+-- what was read of an arena that is alive shows it so
+pub shows_alive : (t : Machine) (a : ArenaId) (o : Option ℕ) → Says t a o → t.life a ≡ Lives → o ≢ None
+shows_alive t a None s al e = s al
+shows_alive t a (Some n) s al e = absurd (cc)
 
 module _ (z : Shape) (me : ℕ) (v : View) (l : v.live ≡ true) (a : ArenaId) where
   abbrev i : ℕ
   i = place_at z (session a.slot)
 
+  abbrev gs : List ArenaId
+  gs = grips a v
+
   abbrev held_as : List ArenaId → View
-  held_as hs = record v { holds = hs }
+  held_as hs = with_grips a hs v
 
   module _ (ws : List ℕ) (vs : List View) (r : Rule z ws vs) (at : get_elem? vs me ≡ some v) (known : r.machine.life a ≢ Fresh) where
     abbrev found : ℕ
@@ -78,9 +92,9 @@ module _ (z : Shape) (me : ℕ) (v : View) (l : v.live ≡ true) (a : ArenaId) w
       whole = refl;
     }
 
-    -- a live view has as many holds as its list
-    held_now : (b : ArenaId) (hs : List ArenaId) → holds_of b (held_as hs) ≡ how_many b hs
-    held_now b hs = ap (λ (x : Bool). if x then how_many b hs else 0) l
+    -- its own holds are put in their place
+    same_grips : (x : ℕ) (es : List Entry) → Made z ws vs me v i x v es none_noted → Made z ws vs me v i x (held_as gs) es none_noted
+    same_grips x es m = subst (λ (p : View). Made z ws vs me v i x p es none_noted) (sym (with_same a v)) m
 
     -- ---- a hold is taken
 
@@ -88,18 +102,20 @@ module _ (z : Shape) (me : ℕ) (v : View) (l : v.live ≡ true) (a : ArenaId) w
       refuses : (reply : Reply) → reply ≡ hold_stage (r.machine.life a) (r.machine.holds a) → moved r.machine v.caller (Hold a) reply ≡ r.machine
           → Made z ws vs me v i found v (entry_of v.caller (Hold a) reply ∷ []) none_noted
       refuses reply is stays =
-          plain z ws vs r me v at l i found v (entry_of v.caller (Hold a) reply ∷ []) none_noted r.memory (record {
+          plain z ws vs r me v at l i found v (entry_of v.caller (Hold a) reply ∷ []) none_noted no_draw r.memory (record {
             may = (refl, (known, use_it), is, tt);
             ends = λ b. ((λ h. h), tt);
             marks = λ k h. refl;
             terms = λ k. refl;
             draw = refl;
             still = λ s g f. f;
+            back = λ s g f. f;
+            bits = refl;
             same = same_none v;
             closes = refl;
             hand = refl;
             was = λ b h. ap (λ (t : Machine). t.life b) (sym stays) ∙ h;
-            holds = λ b n. ap (λ (t : Machine). holds_of b v + t.holds b) (sym stays);
+            holds = λ b. ap (λ (t : Machine). holds_of b v + all_holds b t) (sym stays);
             lends = (tt, tt);
             loans = subst (λ (t : Machine). Loans (lent r.history) r.memory.sessions t.life) (sym stays) r.loans;
             shows = shows_same z r.valid ws r.memory r.shows i;
@@ -109,31 +125,29 @@ module _ (z : Shape) (me : ℕ) (v : View) (l : v.live ≡ true) (a : ArenaId) w
           })
 
       takes : (n : ℕ) → r.machine.life a ≡ Lives → n ≡ r.machine.holds a → n ≢ most_holds
-          → Made z ws vs me v i (found + 1) (held_as (a ∷ v.holds)) (entry_of v.caller (Hold a) Fine ∷ []) none_noted
+          → Made z ws vs me v i (found + 1) (held_as (a ∷ gs)) (entry_of v.caller (Hold a) Fine ∷ []) none_noted
       takes n al is few =
           let h : ℕ = r.machine.holds a in
-          let p : View = held_as (a ∷ v.holds) in
+          let p : View = held_as (a ∷ gs) in
           let e : Entry = entry_of v.caller (Hold a) Fine in
           let not_all : (h == most_holds) ≡ false = ne_eqb h most_holds (λ q. few (is ∙ q)) in
           let answer : Fine ≡ hold_stage (r.machine.life a) h =
           sym (ap (λ (b : Bool). if b then TooManyHolds else Fine) not_all) ∙ ap (λ (x : Stage). hold_stage x h) (sym al) in
           let below : h + 1 ≤ 65535 = (let f = r.world.counts.few a in let q : h ≢ 65535 = (λ q. few (is ∙ q)) in omega arith) in
-          plain z ws vs r me v at l i (found + 1) p (e ∷ []) none_noted (record r.memory { counts = put r.memory.counts a.slot (h + 1) }) (record {
+          plain z ws vs r me v at l i (found + 1) p (e ∷ []) none_noted no_draw (record r.memory { counts = put r.memory.counts a.slot (h + 1) }) (record {
             may = (refl, (known, use_it), answer, tt);
             ends = λ b. ((λ h. h), tt);
             marks = λ k h. refl;
             terms = λ k. refl;
             draw = refl;
             still = λ s g f. f;
-            same = same_held (a ∷ v.holds);
+            back = λ s g f. f;
+            bits = refl;
+            same = same_held (a ∷ gs);
             closes = refl;
             hand = refl;
             was = λ b h. h;
-            holds = λ b n.
-                let x = one_more_hold a b v.holds r.machine.holds in
-                let y = held_now b (a ∷ v.holds) in
-                let y' = held_now b v.holds in
-                omega arith;
+            holds = keeps_grips v l r.machine a (a ∷ gs) (h + 1) (λ b. one_more_hold a b gs r.machine.holds);
             lends = (tt, tt);
             loans = r.loans;
             shows = shown (found + 1) (h + 1) al (ap (λ (x : ℕ). x + 1) (is_word al) ∙ more_word a h);
@@ -144,30 +158,33 @@ module _ (z : Shape) (me : ℕ) (v : View) (l : v.live ≡ true) (a : ArenaId) w
 
       -- the expected word was found
       answers : (o : Option ℕ) → Says r.machine a o
-          → Made z ws vs me v i (held_by found (hold_found o)) (held_as (holds_after true a (hold_found o) v.holds))
+          → Made z ws vs me v i (held_by found (hold_found o)) (held_as (holds_after true a (hold_found o) gs))
           (entry_of v.caller (Hold a) (hold_found o) ∷ []) none_noted
-      answers None s = refuses Closed (hold_says r.machine a None s) refl
+      answers None s = same_grips found (entry_of v.caller (Hold a) Closed ∷ []) (refuses Closed (hold_says r.machine a None s) refl)
       answers (Some n) s = by (n == most_holds) refl
         where
           by : (b : Bool) → (n == most_holds) ≡ b
-              → Made z ws vs me v i (held_by found (if b then TooManyHolds else Fine)) (held_as (holds_after true a (if b then TooManyHolds else Fine) v.holds))
+              → Made z ws vs me v i (held_by found (if b then TooManyHolds else Fine)) (held_as (holds_after true a (if b then TooManyHolds else Fine) gs))
               (entry_of v.caller (Hold a) (if b then TooManyHolds else Fine) ∷ []) none_noted
-          by true q = refuses TooManyHolds (sym (ap (λ (c : Bool). if c then TooManyHolds else Fine) q) ∙ hold_says r.machine a (Some n) s) refl
+          by true q = same_grips found (entry_of v.caller (Hold a) TooManyHolds ∷ [])
+              (refuses TooManyHolds (sym (ap (λ (c : Bool). if c then TooManyHolds else Fine) q) ∙ hold_says r.machine a (Some n) s) refl)
           by false q = takes n s.0 s.1 (eqb_false n most_holds q)
 
       misses : Made z ws vs me v i found v [] none_noted
-      misses = plain z ws vs r me v at l i found v [] none_noted r.memory (record {
+      misses = plain z ws vs r me v at l i found v [] none_noted no_draw r.memory (record {
         may = tt;
         ends = λ b. tt;
         marks = λ k h. refl;
         terms = λ k. refl;
         draw = refl;
         still = λ s g f. f;
+        back = λ s g f. f;
+        bits = refl;
         same = same_none v;
         closes = refl;
         hand = refl;
         was = λ b h. h;
-        holds = λ b n. refl;
+        holds = λ b. refl;
         lends = tt;
         loans = r.loans;
         shows = shows_same z r.valid ws r.memory r.shows i;
@@ -177,13 +194,13 @@ module _ (z : Shape) (me : ℕ) (v : View) (l : v.live ≡ true) (a : ArenaId) w
       })
 
       exchanged : (word : ℕ) → Says r.machine a (alive_holds a found) → (b : Bool) → (found == word) ≡ b
-          → Made z ws vs me v i (either b (held_word a word) found) (held_as (holds_after b a (hold_found (alive_holds a word)) v.holds))
+          → Made z ws vs me v i (either b (held_word a word) found) (held_as (holds_after b a (hold_found (alive_holds a word)) gs))
           (where_found b (entry_of v.caller (Hold a) (hold_found (alive_holds a word)) ∷ [])) none_noted
       unfolding held_word
-      exchanged word s true e = subst (λ (x : ℕ). Made z ws vs me v i (held_word a x) (held_as (holds_after true a (hold_found (alive_holds a x)) v.holds))
+      exchanged word s true e = subst (λ (x : ℕ). Made z ws vs me v i (held_word a x) (held_as (holds_after true a (hold_found (alive_holds a x)) gs))
           (entry_of v.caller (Hold a) (hold_found (alive_holds a x)) ∷ []) none_noted)
           (eqb_true found word e) (answers (alive_holds a found) s)
-      exchanged word s false e = misses
+      exchanged word s false e = same_grips found [] misses
 
     -- ---- a hold is dropped
 
@@ -200,17 +217,17 @@ module _ (z : Shape) (me : ℕ) (v : View) (l : v.live ≡ true) (a : ArenaId) w
         go Closes e = absurd (none (λ q. let f : Closes ≡ Lives = sym e ∙ q in absurd (cc)))
         go Over e = absurd (none (λ q. let f : Over ≡ Lives = sym e ∙ q in absurd (cc)))
 
-    drops : In a v.holds → 0 < r.machine.holds a
-        → Made z ws vs me v i ((found + (2 ^ 64 - 1)) % 2 ^ 64) (held_as (released a v.holds)) (entry_of v.caller (Unhold a) Fine ∷ []) none_noted
+    pub drops : In a gs → 0 < r.machine.holds a
+        → Made z ws vs me v i ((found + (2 ^ 64 - 1)) % 2 ^ 64) (held_as (released a gs)) (entry_of v.caller (Unhold a) Fine ∷ []) none_noted
     drops has held =
         let h : ℕ = r.machine.holds a in
         let x : ℕ = (found + (2 ^ 64 - 1)) % 2 ^ 64 in
-        let p : View = held_as (released a v.holds) in
+        let p : View = held_as (released a gs) in
         let al = lives held in
         let few = r.world.counts.few a in
         let low : a.generation < 2 ^ 32 = (let g = fit.generation in let y = r.valid.generations.1 in omega arith) in
         let owner : a.owner < 4096 = (let g = fit.owner in let y = r.valid.passes.1 in omega arith) in
-        plain z ws vs r me v at l i x p (entry_of v.caller (Unhold a) Fine ∷ []) none_noted
+        plain z ws vs r me v at l i x p (entry_of v.caller (Unhold a) Fine ∷ []) none_noted no_draw
         (record r.memory { counts = put r.memory.counts a.slot (h - 1) }) (record {
           may = (refl, (al, held), refl, tt);
           ends = λ b. ((λ h. h), tt);
@@ -218,15 +235,13 @@ module _ (z : Shape) (me : ℕ) (v : View) (l : v.live ≡ true) (a : ArenaId) w
           terms = λ k. refl;
           draw = refl;
           still = λ s g f. f;
-          same = same_held (released a v.holds);
+          back = λ s g f. f;
+          bits = refl;
+          same = same_held (released a gs);
           closes = refl;
           hand = refl;
           was = λ b h. h;
-          holds = λ b n.
-              let x = one_hold_less a b v.holds r.machine.holds has held in
-              let y = held_now b (released a v.holds) in
-              let y' = held_now b v.holds in
-              omega arith;
+          holds = keeps_grips v l r.machine a (released a gs) (h - 1) (λ b. one_hold_less a b gs r.machine.holds has held);
           lends = (tt, tt);
           loans = r.loans;
           shows = shown x (h - 1) al (ap (λ (y : ℕ). (y + (2 ^ 64 - 1)) % 2 ^ 64) (is_word al) ∙ less_word a h low owner held few);
@@ -234,6 +249,15 @@ module _ (z : Shape) (me : ℕ) (v : View) (l : v.live ≡ true) (a : ArenaId) w
           inside = mine.inside;
           mark = mine.mark;
         })
+
+  -- an arena that the pass holds is alive
+  pub its_alive : (ws : List ℕ) (vs : List View) (r : Rule z ws vs) → get_elem? vs me ≡ some v → In a gs → r.machine.life a ≡ Lives
+  its_alive ws vs r at has = held_lives a r.machine (r.world.counts.only a) (
+      let one = some_hold a gs has in
+      let mine = held_now a v l in
+      let all = total-has (holds_of a) vs me v at in
+      let sum = r.held a in
+      omega arith)
 
   -- a hold is taken where the session word is the expected one
   pub hold_steps : (word : ℕ) → IsKnown v a → MayUse a v.caller → MayStep z (Holds a word) me v i (λ n. either (n == word) (held_word a word) n)
@@ -244,7 +268,7 @@ module _ (z : Shape) (me : ℕ) (v : View) (l : v.live ≡ true) (a : ArenaId) w
         let opened = known_now z ws vs r me v at l a known in
         let s = says z r.memory r.machine r.world r.valid.passes.1 a opened x (r.shows.sessions a.slot (r.world.sessions.fits a opened).slot) in
         let g = exchanged ws vs r at opened use_it word s (x == word) refl in
-        (g.0, g.1, record { gives = g.2; learns = tt });
+        (g.0, g.1, record { gives = g.2; learns = λ has. shows_alive r.machine a (alive_holds a x) s (its_alive ws vs r at has) });
   }
 
   -- a hold that the pass has is dropped
@@ -252,14 +276,18 @@ module _ (z : Shape) (me : ℕ) (v : View) (l : v.live ≡ true) (a : ArenaId) w
   unfolding part entries noted
   unhold_steps has kind = record {
     may = λ ws vs r at.
+        let his : In a gs = subst (In a) (sym (holds_are a v kind)) has in
+        let al = its_alive ws vs r at his in
         let held : 0 < r.machine.holds a = (
-        let one = some_hold a v.holds has in
-        let mine : holds_of a v ≡ how_many a v.holds = ap (λ (b : Bool). if b then how_many a v.holds else 0) l in
+        let one = some_hold a gs his in
+        let mine = held_now a v l in
         let all = total-has (holds_of a) vs me v at in
-        let sum = r.held a kind in
+        let sum = r.held a in
+        let only = none_besides a r.machine kind in
         omega arith) in
-        let known : r.machine.life a ≢ Fresh = (λ f.
-        let h = r.world.counts.only a (λ q. let y : Fresh ≡ Lives = sym f ∙ q in absurd (cc)) in absurd (omega arith)) in
-        let g = drops ws vs r at known has held in
+        let x : ℕ = (get_or ws i 0 + (2 ^ 64 - 1)) % 2 ^ 64 in
+        let g = subst (λ (p : View). Made z ws vs me v i x p (entry_of v.caller (Unhold a) Fine ∷ []) none_noted)
+        (with_holds a (released a gs) v kind ∙ ap (λ (hs : List ArenaId). record v { holds = released a hs }) (holds_are a v kind))
+        (drops ws vs r at (known_lives r.machine a al) his held) in
         (g.0, g.1, record { gives = g.2; learns = tt });
   }

@@ -7,7 +7,9 @@ pub mod Counting
 pub mod Drawing
 pub mod Closes
 pub mod Shutting
+pub mod Backing
 pub mod Visiting
+pub mod Taking
 pub mod Opening
 pub mod Splitting
 pub mod Halving

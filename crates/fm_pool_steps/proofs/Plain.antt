@@ -1,9 +1,8 @@
 -- Steps that leave closes and hands as they are.
-use Rattle.std.proofs.Common.{◌≡◌, ◌≢◌, ℕ, ◌<◌, true, List, [], ◌++◌, set, sym, refl, ap, ◌∙◌, subst, arith, inl, inr, ⊎_elim}
+use Rattle.std.proofs.Common.{◌≡◌, ◌≢◌, ℕ, ◌<◌, true, List, [], ◌++◌, set, sym, refl, ap, ◌∙◌, subst, arith, inr}
 use mathlib.Core.Option.{some}
 use lib.ListN.{get_elem?}
 use Rattle.fm_words.specs.declared.shape.Shape.{Shape}
-use Rattle.fm_base.specs.declared.caller.Caller.{Caller}
 use Rattle.fm_base.specs.declared.arena_id.ArenaId.{ArenaId}
 use Rattle.fm_base.specs.Arenas.{State, has_arena, arena_of}
 use Rattle.fm_base.specs.Calls.{Entry}
@@ -11,14 +10,17 @@ use Rattle.fm_base.specs.Histories.{state_after}
 use Rattle.fm_base.specs.Finds.{Find, Close}
 use Rattle.fm_depicts.specs.Functions.{Fresh, Closes}
 use Rattle.fm_depicts.specs.Steps.{moved_by}
-use Rattle.fm_pool_facts.specs.declared.slot.Slot.{Slot}
-use Rattle.fm_pool_facts.specs.Views.{View, In, HasSlot, IsKnown, limit_of}
-use Rattle.fm_pool_facts.specs.Facts.{Memory, free, Shows, World, IsOnce, HasClose, WasOpened, Owns, Rule}
-use Rattle.fm_pool_facts.specs.Moves.{MayMake, NoEnd, Moved, Same, Part, KeepsCloses, KeepsHolds, Gives}
+use Rattle.std.specs.Int.{bit_at}
+use Rattle.fm_pool_facts.specs.Hands.{Hand, HasSlot}
+use Rattle.fm_pool_facts.proofs.Handing.{hand_on}
+use Rattle.fm_pool_facts.specs.Views.{View, In, IsKnown, limit_of}
+use Rattle.fm_pool_facts.specs.Facts.{Memory, free, Shows, World, IsOnce, Owners, HasInHand, HasClose, KeepsSlot, Owns, Rule}
+use Rattle.fm_pool_facts.specs.Moves.{MayMake, NoEnd, Moved, Same, Part, KeepsCloses, KeepsSlots, KeepsHolds, Gives}
 use Rattle.fm_base.specs.Histories.{IsLegal}
 use Rattle.fm_base.proofs.Making.{state_after-append, IsLegal-split}
 use Rattle.fm_base.proofs.Growing.{Grows-state_after}
-use Rattle.fm_pool_facts.proofs.Keeping.{closing_on, opened_on}
+use Rattle.fm_pool_facts.proofs.Keeping.{closing_on}
+use Rattle.fm_pool_facts.proofs.Founds.{NoDraw}
 use Rattle.fm_pool_facts.specs.Loans.{lent, loans_after}
 use Rattle.fm_pool_facts.specs.Facts.{Loans}
 use Rattle.fm_pool_facts.specs.Moves.{MayLend}
@@ -39,6 +41,19 @@ same_none v = record {
   gathered = refl;
   whole = refl;
 }
+
+-- a slot in the hand stays there where free slots and slot bits stay
+pub hand_still : (z : Shape) (m m' : Memory) (holder : ℕ → ℕ) (me : ℕ) → ((s g : ℕ) → m.sessions s ≡ free g → m'.sessions s ≡ free g) → m'.bits ≡ m.bits
+    → (hand : Hand) → HasInHand z m.bits m.sessions holder me hand → HasInHand z m'.bits m'.sessions holder me hand
+hand_still z m m' holder me still bits =
+    hand_on z m.bits m'.bits m.sessions m'.sessions holder holder me (λ s g f b e. (e, still s g f, ap (λ (n : ℕ). bit_at n s) bits ∙ b))
+
+-- and each free slot whose bit is 0 is where it was
+pub slots_still : (z : Shape) (me : ℕ) (v p : View) (m : Memory) (o : Owners) (m' : Memory) (o' : Owners) → Same v p → p.hand ≡ v.hand
+    → ((s : ℕ) → o'.holder s ≡ o.holder s) → ((s g : ℕ) → m'.sessions s ≡ free g → m.sessions s ≡ free g) → m'.bits ≡ m.bits
+    → KeepsSlots z me v p m o m' o'
+slots_still z me v p m o m' o' s hd same back bits i g low f b =
+    inr (g, back i g f, ap (λ (n : ℕ). bit_at n i) (sym bits) ∙ b, same i, (λ (y : KeepsSlot i v). (s.live ∙ y.0, subst (HasSlot i) (sym hd) y.1)))
 
 module _ (z : Shape) (ws : List ℕ) (vs : List View) (r : Rule z ws vs) (me : ℕ) (v : View) (at : get_elem? vs me ≡ some v) (l : v.live ≡ true) where
   abbrev pub own : Owns z r.history r.memory r.machine r.owners me v
@@ -67,40 +82,37 @@ module _ (z : Shape) (ws : List ℕ) (vs : List View) (r : Rule z ws vs) (me : �
     -- what a step that leaves closes and slots may do to others
     pub plain_moved : MayMake (limit_of z) r.machine v.caller es → ((b : ArenaId) → NoEnd es b)
         → ((k : ℕ) → k ≢ v.caller.number → m'.marks k ≡ r.memory.marks k) → ((k : ℕ) → m'.terms k ≡ r.memory.terms k) → m'.draw ≡ r.memory.draw
-        → ((s g : ℕ) → r.memory.sessions s ≡ free g → m'.sessions s ≡ free g)
+        → ((s g : ℕ) → r.memory.sessions s ≡ free g → m'.sessions s ≡ free g) → m'.bits ≡ r.memory.bits
         → Moved me (limit_of z) v.caller r.memory r.machine r.owners es m' r.owners
-    plain_moved ok ends marks terms draw still = record {
+    plain_moved ok ends marks terms draw still bits = record {
       allowed = ok;
       marks = marks;
       terms = terms;
       draw = draw;
       numbers = λ k. refl;
       closers = λ b f h. (refl, ends b);
-      holders = λ s g f h. (refl, still s g f);
+      holders = λ s g f b h. (refl, still s g f, ap (λ (n : ℕ). bit_at n s) bits ∙ b);
     }
 
     -- and what its own view says then
     pub plain_part : MayMake (limit_of z) r.machine v.caller es → ((b : ArenaId) → NoEnd es b) → Same v p → p.closes ≡ v.closes → p.hand ≡ v.hand
-        → ((s g : ℕ) → r.memory.sessions s ≡ free g → m'.sessions s ≡ free g)
+        → ((s g : ℕ) → r.memory.sessions s ≡ free g → m'.sessions s ≡ free g) → m'.bits ≡ r.memory.bits
         → (moved_by r.machine es).inside p.caller ≡ p.inside → m'.marks p.caller.number ≡ p.mark
         → Part z m' (moved_by r.machine es) r.owners me p
-    plain_part ok ends s cl hd still inside mark = record {
+    plain_part ok ends s cl hd still bits inside mark = record {
       inside = inside;
       mark = mark;
       closes =
           λ c i. closing_on (limit_of z) r.history v.caller r.memory r.machine es m' ok me r.owners r.owners c (own.closes c (subst (In c) cl i)) refl
           (ends c.arena);
       once = subst (IsOnce (λ (c : Close). c.arena)) (sym cl) own.once;
-      hand = λ x i.
-          let y = own.hand x (subst (In x) hd i) in
-          record { owner = y.owner; slot = y.slot; generation = y.generation; session = still x.slot x.generation y.session };
-      apart = subst (IsOnce (λ (x : Slot). x.slot)) (sym hd) own.apart;
-      only = λ x i. let y = own.only x (subst (In x) hd i) in (ap (λ (c : Caller). c.number) s.caller ∙ y.0, y.1);
-      slots = λ e x h. ⊎_elim
-          (λ (i : HasSlot x v). inl (i.0, subst (In (record { slot = x; generation = i.0 })) (sym hd) i.1))
-          (λ (w : WasOpened r.machine x). inr (opened_on (limit_of z) r.history v.caller r.memory r.machine es m' ok x w))
-          (own.slots (ap (λ (c : Caller). c.number) (sym s.caller) ∙ e) x h);
+      hand = subst (HasInHand z m'.bits m'.sessions r.owners.holder me) (sym hd) (hand_still z r.memory m' r.owners.holder me still bits v.hand own.hand);
     }
+
+    -- each free slot is where it was
+    pub plain_slots : Same v p → p.hand ≡ v.hand → ((s g : ℕ) → m'.sessions s ≡ free g → r.memory.sessions s ≡ free g) → m'.bits ≡ r.memory.bits
+        → KeepsSlots z me v p r.memory r.owners m' r.owners
+    plain_slots s hd back bits = slots_still z me v p r.memory r.owners m' r.owners s hd (λ x. refl) back bits
 
     -- where no arena began to close, each close is where it was
     pub plain_closes : Same v p → p.closes ≡ v.closes → ((a : ArenaId) → (moved_by r.machine es).life a ≡ Closes → r.machine.life a ≡ Closes)
@@ -119,6 +131,8 @@ pub record Plain (z : Shape) (ws : List ℕ) (vs : List View) (r : Rule z ws vs)
   pub terms : (k : ℕ) → m'.terms k ≡ r.memory.terms k
   pub draw : m'.draw ≡ r.memory.draw
   pub still : (s g : ℕ) → r.memory.sessions s ≡ free g → m'.sessions s ≡ free g
+  pub back : (s g : ℕ) → m'.sessions s ≡ free g → r.memory.sessions s ≡ free g
+  pub bits : m'.bits ≡ r.memory.bits
   pub same : Same v p
   pub closes : p.closes ≡ v.closes
   pub hand : p.hand ≡ v.hand
@@ -132,12 +146,13 @@ pub record Plain (z : Shape) (ws : List ℕ) (vs : List View) (r : Rule z ws vs)
   pub mark : m'.marks p.caller.number ≡ p.mark
 
 pub plain : (z : Shape) (ws : List ℕ) (vs : List View) (r : Rule z ws vs) (me : ℕ) (v : View) → get_elem? vs me ≡ some v → v.live ≡ true
-    → (i x : ℕ) (p : View) (es : List Entry) (fs : ℕ → List Find) (m' : Memory)
+    → (i x : ℕ) (p : View) (es : List Entry) (fs : ℕ → List Find) → NoDraw fs → (m' : Memory)
     → Plain z ws vs r v i x p es m' → Made z ws vs me v i x p es fs
-plain z ws vs r me v at l i x p es fs m' q =
+plain z ws vs r me v at l i x p es fs nd m' q =
     keeps z ws (set ws i x) vs r me v p es fs m' r.owners at l
-    (plain_moved z ws vs r me v at l es m' p q.may q.ends q.marks q.terms q.draw q.still)
-    q.same q.lends q.loans
-    (plain_closes z ws vs r me v at l es m' p q.same q.closes q.was) q.holds
+    (plain_moved z ws vs r me v at l es m' p q.may q.ends q.marks q.terms q.draw q.still q.bits)
+    q.same nd q.lends q.loans
+    (plain_closes z ws vs r me v at l es m' p q.same q.closes q.was)
+    (plain_slots z ws vs r me v at l es m' p q.same q.hand q.back q.bits) q.holds
     q.shows q.world
-    (plain_part z ws vs r me v at l es m' p q.may q.ends q.same q.closes q.hand q.still q.inside q.mark)
+    (plain_part z ws vs r me v at l es m' p q.may q.ends q.same q.closes q.hand q.still q.bits q.inside q.mark)

@@ -12,7 +12,7 @@ use Rattle.fm_depicts.specs.Functions.{Machine, put, put_at, moved, MayBy, reply
 use Rattle.fm_pool_facts.specs.declared.step.Step.TheVariants.{Loads, Stores, SwapsIf, Adds, Allocates}
 use Rattle.fm_pool_facts.specs.Views.{View, Fits, span, limit_of}
 use Rattle.fm_pool_facts.specs.Loans.{Loan, loans_by, lent}
-use Rattle.fm_pool_facts.specs.Holds.{holds_of}
+use Rattle.fm_pool_facts.specs.Holds.{holds_of, all_holds}
 use Rattle.fm_pool_facts.specs.Steps.{part, entries, noted, acted, none_noted, where_found, given_next}
 use Rattle.fm_pool_facts.specs.Facts.{Memory, Loans, IsStanding, Shows, World, cell_at, Rule}
 use Rattle.fm_pool_facts.specs.Moves.{Ends, LendsBy, MayStep, MayStore}
@@ -21,6 +21,7 @@ use Rattle.fm_pool_facts.proofs.Worlds.{world_write, world_given}
 use Rattle.fm_pool_facts.proofs.Lending.{word_lent}
 use Rattle.fm_pool_facts.proofs.Shown.{shows_same, shows_cell, shows_given}
 use Rattle.fm_pool_steps.proofs.Reading.{eqb_true}
+use Rattle.fm_pool_facts.proofs.Founds.{no_draw}
 use Rattle.fm_pool_steps.proofs.Plain.{same_none, own, Made, plain}
 
 -- an arena has the words of its slot
@@ -51,18 +52,20 @@ module _ (z : Shape) (me : ℕ) (v : View) (l : v.live ≡ true) (a : ArenaId) (
     act i x call reply m' g' f g is may answer ends lends same shows world =
         let k = own z ws vs r me v at l in
         let m : Memory = record r.memory { cells = m'; given = g' } in
-        plain z ws vs r me v at l i x v (entry_of v.caller call reply ∷ []) none_noted m (record {
+        plain z ws vs r me v at l i x v (entry_of v.caller call reply ∷ []) none_noted no_draw m (record {
           may = (refl, may, answer, tt);
           ends = λ b. (ends b, tt);
           marks = λ k h. refl;
           terms = λ k. refl;
           draw = refl;
           still = λ s g f. f;
+          back = λ s g f. f;
+          bits = refl;
           same = same_none v;
           closes = refl;
           hand = refl;
           was = λ b h. ap (λ (t : Machine). t.life b) (sym is) ∙ h;
-          holds = λ b n. ap (λ (t : Machine). holds_of b v + t.holds b) (sym is);
+          holds = λ b. ap (λ (t : Machine). holds_of b v + all_holds b t) (sym is);
           lends = (lends, tt);
           loans = subst (λ (x : List Loan × Machine). Loans x.0 r.memory.sessions x.1.life) (λ j. (sym same j, sym is j)) r.loans;
           shows = shows;
@@ -208,18 +211,20 @@ module _ (z : Shape) (me : ℕ) (v : View) (l : v.live ≡ true) (a : ArenaId) (
       misses : Made z ws vs me v place (get_or ws place 0) v [] none_noted
       misses =
           let k = own z ws vs r me v at l in
-          plain z ws vs r me v at l place (get_or ws place 0) v [] none_noted r.memory (record {
+          plain z ws vs r me v at l place (get_or ws place 0) v [] none_noted no_draw r.memory (record {
             may = tt;
             ends = λ b. tt;
             marks = λ k h. refl;
             terms = λ k. refl;
             draw = refl;
             still = λ s g f. f;
+            back = λ s g f. f;
+            bits = refl;
             same = same_none v;
             closes = refl;
             hand = refl;
             was = λ b h. h;
-            holds = λ b n. refl;
+            holds = λ b. refl;
             lends = tt;
             loans = r.loans;
             shows = shows_same z r.valid ws r.memory r.shows place;

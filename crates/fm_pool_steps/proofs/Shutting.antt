@@ -7,7 +7,7 @@ use prog.Atomic.{either}
 use Rattle.fm_words.specs.declared.shape.Shape.{Shape}
 use Rattle.fm_words.specs.Places.{at as place_at, session}
 use Rattle.fm_base.specs.declared.arena_id.ArenaId.{ArenaId}
-use Rattle.fm_base.specs.declared.kind.Kind.TheVariants.{Global}
+use Rattle.fm_base.specs.declared.kind.Kind.TheVariants.{Global, Automatic}
 use Rattle.fm_base.specs.Arenas.{MayUse}
 use Rattle.fm_base.specs.Calls.{Shut, Reply, Fine, Closed, Held, Entry, entry_of}
 use Rattle.fm_base.specs.Finds.{Close}
@@ -15,14 +15,14 @@ use Rattle.fm_depicts.specs.Functions.{Fresh, Lives, Closes, Machine, put, put_a
 use Rattle.fm_depicts.specs.Steps.{moved_by}
 use Rattle.fm_depicts.proofs.Putting.{put_else, at_here, at_other, one_arena}
 use Rattle.fm_pool_facts.specs.declared.step.Step.TheVariants.{Shuts}
-use Rattle.fm_pool_facts.specs.Views.{View, In, HasSlot, IsKnown, limit_of}
+use Rattle.fm_pool_facts.specs.Views.{View, In, IsKnown, limit_of}
 use Rattle.fm_pool_facts.specs.Words.{alive_word, closing_word, alive_holds, shut_found}
-use Rattle.fm_pool_facts.specs.Holds.{holds_of}
+use Rattle.fm_pool_facts.specs.Holds.{holds_of, all_holds}
 use Rattle.fm_pool_facts.specs.Closes.{begun, close_of}
 use Rattle.fm_pool_facts.specs.Steps.{part, entries, noted, none_noted}
-use Rattle.fm_pool_facts.specs.Facts.{Memory, free, shut, Owners, World, IsClosing, HasClose, WasOpened, Rule}
-use Rattle.fm_pool_facts.specs.Moves.{MayMake, Moved, Same, MayStep}
-use Rattle.fm_pool_facts.proofs.Keeping.{closing_on, opened_on}
+use Rattle.fm_pool_facts.specs.Facts.{Memory, free, shut, Owners, World, IsClosing, HasClose, Rule}
+use Rattle.fm_pool_facts.specs.Moves.{MayMake, Moved, Same, KeepsHolds, MayStep}
+use Rattle.fm_pool_facts.proofs.Keeping.{closing_on}
 use Rattle.fm_pool_facts.proofs.Standing.{free_apart}
 use Rattle.fm_pool_facts.proofs.Worlds.{world_shut}
 use Rattle.fm_pool_facts.specs.Loans.{lent, loans_after}
@@ -30,11 +30,13 @@ use Rattle.fm_pool_facts.specs.Facts.{Loans}
 use Rattle.fm_depicts.proofs.Putting.{put_cases}
 use Rattle.fm_pool_facts.proofs.Lending.{loans_still}
 use Rattle.fm_pool_facts.proofs.Shown.{shows_same, shows_session}
+use Rattle.fm_pool_facts.proofs.Gripping.{by_hand, same_handles}
 use Rattle.fm_pool_facts.proofs.Ruling.{keeps}
 use Rattle.fm_pool_steps.proofs.Reading.{Says, says, shut_says, alive_read, alive_one, reads_alive, eqb_true, eqb_false}
-use Rattle.fm_pool_steps.proofs.Plain.{same_none, own, known_now, Made, plain}
+use Rattle.fm_pool_steps.proofs.Plain.{same_none, own, known_now, Made, plain, hand_still, slots_still}
+use Rattle.fm_pool_facts.proofs.Founds.{no_draw}
 
-module _ (z : Shape) (me : ℕ) (v : View) (l : v.live ≡ true) (a : ArenaId) (known : IsKnown v a) (use_it : MayUse a v.caller) (by_hand : a.kind ≢ Global)
+module _ (z : Shape) (me : ℕ) (v : View) (l : v.live ≡ true) (a : ArenaId) (known : IsKnown v a) (use_it : MayUse a v.caller) (not_global : a.kind ≢ Global)
     (ws : List ℕ) (vs : List View) (r : Rule z ws vs) (at : get_elem? vs me ≡ some v) where
   abbrev i : ℕ
   i = place_at z (session a.slot)
@@ -52,18 +54,20 @@ module _ (z : Shape) (me : ℕ) (v : View) (l : v.live ≡ true) (a : ArenaId) (
   refused reply is none stays =
       let k = own z ws vs r me v at l in
       subst (λ (cs : List Close). Made z ws vs me v i found (record v { closes = cs }) (entry_of v.caller (Shut a) reply ∷ []) none_noted) (sym none)
-      (plain z ws vs r me v at l i found v (entry_of v.caller (Shut a) reply ∷ []) none_noted r.memory (record {
-        may = (refl, (opened, use_it, by_hand), is, tt);
+      (plain z ws vs r me v at l i found v (entry_of v.caller (Shut a) reply ∷ []) none_noted no_draw r.memory (record {
+        may = (refl, (opened, use_it, not_global), is, tt);
         ends = λ b. ((λ h. h), tt);
         marks = λ k h. refl;
         terms = λ k. refl;
         draw = refl;
         still = λ s g f. f;
+        back = λ s g f. f;
+        bits = refl;
         same = same_none v;
         closes = refl;
         hand = refl;
         was = λ b h. ap (λ (t : Machine). t.life b) (sym stays) ∙ h;
-        holds = λ b n. ap (λ (t : Machine). holds_of b v + t.holds b) (sym stays);
+        holds = λ b. ap (λ (t : Machine). holds_of b v + all_holds b t) (sym stays);
         lends = (tt, tt);
         loans =
             subst (λ (t : Machine). Loans (loans_after (lent r.history) (entry_of v.caller (Shut a) reply ∷ [])) r.memory.sessions t.life) (sym stays) r.loans;
@@ -74,20 +78,23 @@ module _ (z : Shape) (me : ℕ) (v : View) (l : v.live ≡ true) (a : ArenaId) (
       }))
 
   -- an arena that is alive with no holds is closing from now on
-  shuts : r.machine.life a ≡ Lives → r.machine.holds a ≡ 0
-      → Made z ws vs me v i (closing_word a) (record v { closes = close_of a 0 ∷ v.closes }) (entry_of v.caller (Shut a) Fine ∷ []) none_noted
-  shuts al none =
+  pub shuts : (hs : List ArenaId) → r.machine.life a ≡ Lives → r.machine.holds a ≡ 0
+      → KeepsHolds v (record v { handles = hs }) r.machine (record r.machine { life = put_at r.machine.life a Closes })
+      → Made z ws vs me v i (closing_word a) (record v { closes = close_of a 0 ∷ v.closes; handles = hs }) (entry_of v.caller (Shut a) Fine ∷ []) none_noted
+  shuts hs al none held =
       let k = own z ws vs r me v at l in
       let fit = r.world.sessions.fits a opened in
       let es : List Entry = entry_of v.caller (Shut a) Fine ∷ [] in
       let m' : Memory = record r.memory { sessions = put r.memory.sessions a.slot (shut a); counts = put r.memory.counts a.slot 0 } in
       let o' : Owners = record r.owners { closer = put_at r.owners.closer a me } in
-      let p : View = record v { closes = close_of a 0 ∷ v.closes } in
+      let p : View = record v { closes = close_of a 0 ∷ v.closes; handles = hs } in
       let is : Fine ≡ shut_stage (r.machine.life a) (r.machine.holds a) = λ j. shut_stage (sym al j) (sym none j) in
-      let ok : MayMake (limit_of z) r.machine v.caller es = (refl, (opened, use_it, by_hand), is, tt) in
+      let ok : MayMake (limit_of z) r.machine v.caller es = (refl, (opened, use_it, not_global), is, tt) in
       let other : (b : ArenaId) → r.machine.life b ≡ Closes → b ≢ a = (λ b f e. let q : r.machine.life b ≡ Lives = ap r.machine.life e ∙ al in absurd (cc)) in
       let still : (s g : ℕ) → r.memory.sessions s ≡ free g → m'.sessions s ≡ free g =
       (λ s g f. put_else r.memory.sessions a.slot (shut a) s (free_apart z r.memory.sessions r.machine.life r.world.sessions s g a f (inl al)) ∙ f) in
+      let back : (s g : ℕ) → m'.sessions s ≡ free g → r.memory.sessions s ≡ free g =
+      (λ s g. put_cases r.memory.sessions a.slot (shut a) s (λ y. y ≡ free g → r.memory.sessions s ≡ free g) (λ e q. absurd (cc)) (λ n q. q)) in
       let same : Same v p = record {
         home = refl;
         shape = refl;
@@ -107,20 +114,21 @@ module _ (z : Shape) (me : ℕ) (v : View) (l : v.live ≡ true) (a : ArenaId) (
         draw = refl;
         numbers = λ k. refl;
         closers = λ b f h. (at_other r.owners.closer a me b (other b f), ((λ h. h), tt));
-        holders = λ s g f h. (refl, still s g f);
+        holders = λ s g f b h. (refl, still s g f, b);
       } in
       let on : (c : Close) → In c v.closes → IsClosing (moved_by r.machine es) o' me c = (λ c j.
       let y = k.closes c j in
       closing_on (limit_of z) r.history v.caller r.memory r.machine es m' ok me r.owners o' c y
       (at_other r.owners.closer a me c.arena (other c.arena y.life)) ((λ h. h), tt)) in
-      keeps z ws (set ws i (closing_word a)) vs r me v p es none_noted m' o' at l d same
+      keeps z ws (set ws i (closing_word a)) vs r me v p es none_noted m' o' at l d same no_draw
       (tt, tt)
       (loans_still (lent r.history) r.memory.sessions r.machine.life r.loans a Closes m'.sessions opened (λ e. absurd (cc))
-      (λ s g. put_cases r.memory.sessions a.slot (shut a) s (λ y. y ≡ free g → r.memory.sessions s ≡ free g) (λ e q. absurd (cc)) (λ n q. q)))
+      back)
       (λ b h. dite (one_arena b a)
       (λ e. inl (ap (put_at r.owners.closer a me) e ∙ at_here r.owners.closer a me, (l, (close_of a 0, inl refl, sym e))))
       (λ n. inr (sym (at_other r.machine.life a Closes b n) ∙ h, at_other r.owners.closer a me b n, (λ (y : HasClose b v). (y.0, (y.1.0, inr y.1.1, y.1.2))))))
-      (λ b n. refl)
+      (slots_still z me v p r.memory r.owners m' o' same refl (λ s. refl) back refl)
+      held
       (shows_session z r.valid ws r.memory r.shows a.slot (shut a) 0 fit.slot)
       (world_shut z r.memory r.machine r.world a al none)
       (record {
@@ -131,25 +139,20 @@ module _ (z : Shape) (me : ℕ) (v : View) (l : v.live ≡ true) (a : ArenaId) (
             (record { owner = at_here r.owners.closer a me; life = at_here r.machine.life a Closes; visited = λ j h. absurd (omega arith) }))
             (on c);
         once = ((λ c j. other c.arena (k.closes c j).life), k.once);
-        hand = λ s j. let y = k.hand s j in record { owner = y.owner; slot = y.slot; generation = y.generation; session = still s.slot s.generation y.session };
-        apart = k.apart;
-        only = k.only;
-        slots =
-            λ e s h. ⊎_elim (λ (j : HasSlot s v). inl j)
-            (λ (w : WasOpened r.machine s). inr (opened_on (limit_of z) r.history v.caller r.memory r.machine es m' ok s w)) (k.slots e s h);
+        hand = hand_still z r.memory m' r.owners.holder me still refl v.hand k.hand;
       })
 
   -- the word is exchanged where it shows the arena alive with no holds
-  go : (o : Option ℕ) → alive_holds a found ≡ o → Says r.machine a o
+  go : (not_auto : a.kind ≢ Automatic) (o : Option ℕ) → alive_holds a found ≡ o → Says r.machine a o
       → Made z ws vs me v i (either (found == alive_word a 0) (closing_word a) found) (record v { closes = begun a (shut_found o) v.closes })
       (entry_of v.caller (Shut a) (shut_found o) ∷ []) none_noted
-  go None e s =
+  go not_auto None e s =
       let differ : (found == alive_word a 0) ≡ false =
       ne_eqb found (alive_word a 0) (λ q. let y = sym e ∙ (ap (alive_holds a) q ∙ reads_alive a 0 (omega arith)) in absurd (cc)) in
       subst (λ (b : Bool). Made z ws vs me v i (either b (closing_word a) found) (record v { closes = v.closes })
       (entry_of v.caller (Shut a) Closed ∷ []) none_noted) (sym differ)
       (refused Closed (shut_says r.machine a None s) refl refl)
-  go (Some n) e s = by (n == 0) refl
+  go not_auto (Some n) e s = by (n == 0) refl
     where
       word : found ≡ alive_word a n
       word = alive_read a found n e
@@ -162,7 +165,7 @@ module _ (z : Shape) (me : ℕ) (v : View) (l : v.live ≡ true) (a : ArenaId) (
           let hit : (found == alive_word a 0) ≡ true = eq-eqb found (alive_word a 0) (word ∙ ap (alive_word a) none) in
           subst (λ (c : Bool). Made z ws vs me v i (either c (closing_word a) found) (record v { closes = close_of a 0 ∷ v.closes })
           (entry_of v.caller (Shut a) Fine ∷ []) none_noted) (sym hit)
-          (shuts s.0 (sym s.1 ∙ none))
+          (shuts v.handles s.0 (sym s.1 ∙ none) (same_handles v l r.machine a Closes (λ k. absurd (let n = by_hand a not_auto in cc))))
       by false q =
           let some_hold : n ≢ 0 = eqb_false n 0 q in
           let miss : (found == alive_word a 0) ≡ false = ne_eqb found (alive_word a 0) (λ p. some_hold (alive_one a n 0 (sym word ∙ p))) in
@@ -172,14 +175,14 @@ module _ (z : Shape) (me : ℕ) (v : View) (l : v.live ≡ true) (a : ArenaId) (
           (entry_of v.caller (Shut a) (Held n) ∷ []) none_noted) (sym miss)
           (refused (Held n) is refl refl)
 
-pub shut_steps : (z : Shape) (me : ℕ) (v : View) (a : ArenaId) → v.live ≡ true → IsKnown v a → MayUse a v.caller → a.kind ≢ Global
+pub shut_steps : (z : Shape) (me : ℕ) (v : View) (a : ArenaId) → v.live ≡ true → IsKnown v a → MayUse a v.caller → a.kind ≢ Global → a.kind ≢ Automatic
     → MayStep z (Shuts a) me v (place_at z (session a.slot)) (λ n. either (n == alive_word a 0) (closing_word a) n)
 unfolding part entries noted
-shut_steps z me v a l known use_it by_hand = record {
+shut_steps z me v a l known use_it not_global not_auto = record {
   may = λ ws vs r at.
       let opened = known_now z ws vs r me v at l a known in
       let found : ℕ = get_or ws (place_at z (session a.slot)) 0 in
       let s = says z r.memory r.machine r.world r.valid.passes.1 a opened found (r.shows.sessions a.slot (r.world.sessions.fits a opened).slot) in
-      let g = go z me v l a known use_it by_hand ws vs r at (alive_holds a found) refl s in
+      let g = go z me v l a known use_it not_global ws vs r at not_auto (alive_holds a found) refl s in
       (g.0, g.1, record { gives = g.2; learns = tt });
 }

@@ -3,13 +3,15 @@ use Rattle.std.proofs.Common.{◌<◌, ◌≡◌, ◌≢◌, ◌⊎◌, ℕ, zer
 use mathlib.Core.Option.{some, some-injective, some-ne-none}
 use lib.ListN.{get_elem?}
 use Rattle.atomic_table.proofs.Lists.{at_set, at_longer}
+use Rattle.std.specs.Int.{bit_at}
 use Rattle.fm_words.specs.declared.shape.Shape.{Shape}
 use Rattle.fm_base.specs.declared.arena_id.ArenaId.{ArenaId}
 use Rattle.fm_depicts.specs.Functions.{Closes}
 use Rattle.fm_pool_facts.specs.Views.{Met, View, In, all_gathered, brought}
 use Rattle.fm_pool_facts.specs.Splits.{note, met, nothing_seen, IsBare}
-use Rattle.fm_pool_facts.specs.Facts.{HasNumber, HasDraw, HasClose, Somewhere, Begins, Knows, Rule}
-use Rattle.fm_pool_facts.specs.Holds.{holds_of, how_many, total}
+use Rattle.fm_pool_facts.specs.Facts.{free, HasNumber, HasDraw, HasClose, KeepsSlot, Somewhere, Begins, Knows, Rule, Memory, IsCounted}
+use Rattle.fm_pool_facts.specs.Holds.{grips, holds_of, how_many, total}
+use Rattle.fm_pool_facts.proofs.Founds.{counted_bare}
 use Rattle.fm_pool_facts.proofs.Keeping.{stays_somewhere}
 use Rattle.fm_pool_facts.proofs.Summing.{total-set, total-snoc}
 
@@ -43,15 +45,18 @@ pub data Said : (View → Type 0) → Type 1 where
   number : (n : ℕ) → Said (HasNumber n)
   draw : (d n : ℕ) → Said (HasDraw d n)
   close : (a : ArenaId) → Said (HasClose a)
+  slot : (s : ℕ) → Said (KeepsSlot s)
 
 -- the rule with other views, and other seats for the numbers
 pub with_owners : (z : Shape) (ws : List ℕ) (vs us : List View) (r : Rule z ws vs) (f : ℕ → ℕ)
     → ((n : ℕ) → n < r.memory.draw → Somewhere us (f n) (HasNumber n))
     → ((n : ℕ) → 0 < n → n < r.memory.draw → (d : ℕ) × (d < n) × Somewhere us (f d) (HasDraw d n))
     → ((a : ArenaId) → r.machine.life a ≡ Closes → Somewhere us (r.owners.closer a) (HasClose a))
+    → ((s g : ℕ) → s < z.slots → r.memory.sessions s ≡ free g → bit_at r.memory.bits s ≡ 0 → Somewhere us (r.owners.holder s) (KeepsSlot s))
     → ((j : ℕ) (u : View) → get_elem? us j ≡ some u → Knows z r.history r.memory r.machine (record r.owners { number = f }) j u)
+    → ((j : ℕ) (u : View) → get_elem? us j ≡ some u → IsCounted r.memory u)
     → ((a : ArenaId) → total (holds_of a) us ≡ total (holds_of a) vs) → Rule z ws us
-with_owners z ws vs us r f numbers drawers closed each same = record {
+with_owners z ws vs us r f numbers drawers closed slots each counted same = record {
   history = r.history;
   memory = r.memory;
   machine = r.machine;
@@ -65,23 +70,28 @@ with_owners z ws vs us r f numbers drawers closed each same = record {
   world = r.world;
   few = r.few;
   later = r.later;
+  terms = r.terms;
   numbers = numbers;
   drawers = drawers;
   closed = closed;
-  held = λ a n. same a ∙ r.held a n;
+  slots = slots;
+  held = λ a. same a ∙ r.held a;
   each = each;
+  counted = counted;
 }
 
 -- the rule with other views, which say all that the views before said
 with_views : (z : Shape) (ws : List ℕ) (vs us : List View) (r : Rule z ws vs) → ((i : ℕ) (P : View → Type 0) → Said P → Somewhere vs i P → Somewhere us i P)
     → ((j : ℕ) (u : View) → get_elem? us j ≡ some u → Knows z r.history r.memory r.machine r.owners j u)
+    → ((j : ℕ) (u : View) → get_elem? us j ≡ some u → IsCounted r.memory u)
     → ((a : ArenaId) → total (holds_of a) us ≡ total (holds_of a) vs) → Rule z ws us
-with_views z ws vs us r on each same =
+with_views z ws vs us r on each counted same =
     with_owners z ws vs us r r.owners.number
     (λ n h. on (r.owners.number n) (HasNumber n) (number n) (r.numbers n h))
     (λ n i h. let y = r.drawers n i h in (y.0, y.1, on (r.owners.number y.0) (HasDraw y.0 n) (draw y.0 n) y.2))
     (λ a h. on (r.owners.closer a) (HasClose a) (close a) (r.closed a h))
-    each same
+    (λ s g h f b. on (r.owners.holder s) (KeepsSlot s) (slot s) (r.slots s g h f b))
+    each counted same
 
 -- a note of a view is made
 pub note_splits : (z : Shape) (ws : List ℕ) (vs : List View) (r : Rule z ws vs) (id : ℕ) (v : View) → get_elem? vs id ≡ some v
@@ -94,6 +104,8 @@ note_splits z ws vs r id v at =
     (views_on (set vs id v) (note v) K
     (record { shape = λ q. absurd (cc); begins = k.begins; met = λ xs i. absurd i; owns = λ q. absurd (cc) })
     (views_set vs id v K k (λ j u n e. r.each j u e)))
+    (views_on (set vs id v) (note v) (λ j u. IsCounted r.memory u) (counted_bare r.memory (note v) refl refl)
+    (views_set vs id v (λ j u. IsCounted r.memory u) (r.counted id v at) (λ j u n e. r.counted j u e)))
     (λ a.
     let x = total-snoc (holds_of a) (set vs id v) (note v) in
     let y = total-set (holds_of a) vs id v v at in
@@ -115,12 +127,17 @@ bare_says w u b _ (number n) (inr (inr h)) = absurd (subst (In h.0) (bare_none w
 bare_says w u b _ (draw d n) (inl h) = let l = b.live in let q = h.0 in absurd (cc)
 bare_says w u b _ (draw d n) (inr h) = absurd (subst (In h.0) (bare_none w b) h.1)
 bare_says w u b _ (close a) h = let l = b.live in let q = h.0 in absurd (cc)
+bare_says w u b _ (slot s) h = let l = b.live in let q = h.0 in absurd (cc)
 
 -- having met another changes nothing that is said
 met_says : (v w : View) (P : View → Type 0) → Said P → P v → P (met v w)
 met_says v w _ (number n) h = h
 met_says v w _ (draw d n) h = h
 met_says v w _ (close a) h = h
+met_says v w _ (slot s) h = h
+
+counted_met : (m : Memory) (v w : View) → IsCounted m v → IsCounted m (met v w)
+counted_met m v w c = record { finds = c.finds; theirs = c.theirs; terms = c.terms }
 
 -- a note is met
 pub meet_joins : (z : Shape) (ws : List ℕ) (vs : List View) (r : Rule z ws vs) (id : ℕ) (v : View) (other : ℕ) (w : View) → get_elem? vs id ≡ some v
@@ -153,9 +170,6 @@ meet_joins z ws vs r id v other w at n at' bare =
         closes = x.closes;
         once = x.once;
         hand = x.hand;
-        apart = x.apart;
-        only = x.only;
-        slots = x.slots;
         gathered =
             λ g i. let y =
             x.gathered g i in record { number = y.number; seated = y.seated; apart = y.apart; outside = y.outside; mark = y.mark; quiet = y.quiet };
@@ -178,10 +192,13 @@ meet_joins z ws vs r id v other w at n at' bare =
       };
     })
     (λ j' u' n' e'. r.each j' u' e') j u e))
+    (views_set (set vs id (met v w)) other nothing_seen (λ j u. IsCounted r.memory u) (counted_bare r.memory nothing_seen refl refl)
+    (λ j u far e. views_set vs id (met v w) (λ j u. IsCounted r.memory u) (counted_met r.memory v w (r.counted id v at))
+    (λ j' u' n' e'. r.counted j' u' e') j u e))
     (λ a.
     let x = total-set (holds_of a) vs id v (met v w) at in
     let y = total-set (holds_of a) (set vs id (met v w)) other w nothing_seen at' in
     let here : holds_of a (met v w) ≡ holds_of a v = refl in
-    let there : holds_of a w ≡ 0 = ap (λ (b : Bool). if b then how_many a w.holds else 0) bare.live in
+    let there : holds_of a w ≡ 0 = ap (λ (b : Bool). if b then how_many a (grips a w) else 0) bare.live in
     let none : holds_of a nothing_seen ≡ 0 = refl in
     omega arith)

@@ -1,5 +1,5 @@
 -- The step that visits a mark for a close.
-use Rattle.std.proofs.Common.{◌≡◌, ◌≢◌, ◌⊎◌, ℕ, ◌+◌, ◌<◌, ◌==◌, Bool, true, false, List, [], ◌∷◌, set, get_or, sym, refl, ap, ◌∙◌, subst, arith, inl, inr, ⊎_elim, Some}
+use Rattle.std.proofs.Common.{◌≡◌, ◌≢◌, ◌⊎◌, ℕ, ◌+◌, ◌<◌, ◌==◌, Bool, true, false, List, [], ◌∷◌, set, get_or, sym, refl, ap, ◌∙◌, subst, arith, inl, inr, Some}
 use mathlib.Core.Option.{some}
 use mathlib.Core.Logic.{dite}
 use native.Mathlib.Decide.{ℕ_discrete}
@@ -13,21 +13,24 @@ use Rattle.fm_base.specs.Finds.{Find, Close, Visits as Visiting}
 use Rattle.fm_depicts.specs.Functions.{Fresh, Closes, Over, put_at}
 use Rattle.fm_depicts.proofs.Putting.{at_other, at_cases}
 use Rattle.fm_pool_facts.specs.declared.step.Step.TheVariants.{Visits}
-use Rattle.fm_pool_facts.specs.Views.{View, In, HasSlot, limit_of, pass_of}
+use Rattle.fm_pool_facts.specs.Views.{View, In, limit_of, pass_of}
 use Rattle.fm_pool_facts.specs.Words.{mark_of, own_word}
 use Rattle.fm_pool_facts.specs.Closes.{visited_of, visited, dropped, one_more, visit_by, closes_after, visit_entries}
 use Rattle.fm_pool_facts.specs.Steps.{part, entries, noted, note_of}
-use Rattle.fm_pool_facts.specs.Facts.{IsClosing, HasClose, WasOpened, Owns, Rule}
+use Rattle.fm_pool_facts.specs.Facts.{IsClosing, HasClose, Owns, Rule}
 use Rattle.fm_pool_facts.specs.Moves.{MayMake, Moved, Same, MayStep}
-use Rattle.fm_pool_facts.proofs.Keeping.{closing_on, opened_on}
+use Rattle.fm_pool_facts.proofs.Keeping.{closing_on}
+use Rattle.fm_pool_facts.proofs.Founds.{NoDraw, note_no_draw}
 use Rattle.fm_pool_facts.proofs.Worlds.{world_end}
 use Rattle.fm_pool_facts.specs.Loans.{lent}
 use Rattle.fm_pool_facts.proofs.Lending.{loans_still}
 use Rattle.fm_pool_facts.proofs.Shown.{shows_same}
 use Rattle.fm_pool_facts.proofs.Ruling.{keeps}
+use Rattle.fm_pool_facts.specs.Holds.{one_alive}
+use Rattle.fm_pool_facts.proofs.Gripping.{same_handles}
 use Rattle.fm_pool_steps.proofs.Reading.{eqb_true, eqb_false}
 use Rattle.fm_pool_steps.proofs.Closes.{Found, visited_of-found, count_of, in_visited, visited_in, once_visited, in_dropped, dropped_in, once_dropped}
-use Rattle.fm_pool_steps.proofs.Plain.{same_none, own, Made, plain}
+use Rattle.fm_pool_steps.proofs.Plain.{same_none, own, Made, plain, slots_still}
 
 module _ (z : Shape) (me : ℕ) (v : View) (l : v.live ≡ true) (sh : v.shape ≡ z) (a : ArenaId) (k : ℕ) (has : visited_of v.closes a ≡ Some k)
     (low : k < z.passes)
@@ -40,6 +43,9 @@ module _ (z : Shape) (me : ℕ) (v : View) (l : v.live ≡ true) (sh : v.shape �
 
   abbrev fs : ℕ → List Find
   fs = note_of (Visiting a (pass_of k)) found v
+
+  no_draws : NoDraw fs
+  no_draws = note_no_draw (Visiting a (pass_of k)) found v refl
 
   abbrev mine : Owns z r.history r.memory r.machine r.owners me v
   mine = own z ws vs r me v at l
@@ -60,18 +66,20 @@ module _ (z : Shape) (me : ℕ) (v : View) (l : v.live ≡ true) (sh : v.shape �
 
   -- the mark names the arena
   stays : Made z ws vs me v i found v [] fs
-  stays = plain z ws vs r me v at l i found v [] fs r.memory (record {
+  stays = plain z ws vs r me v at l i found v [] fs no_draws r.memory (record {
     may = tt;
     ends = λ b. tt;
     marks = λ k h. refl;
     terms = λ k. refl;
     draw = refl;
     still = λ s g f. f;
+    back = λ s g f. f;
+    bits = refl;
     same = same_none v;
     closes = refl;
     hand = refl;
     was = λ b h. h;
-    holds = λ a n. refl;
+    holds = λ a. refl;
     lends = tt;
     loans = r.loans;
     shows = shows_same z r.valid ws r.memory r.shows i;
@@ -103,12 +111,13 @@ module _ (z : Shape) (me : ℕ) (v : View) (l : v.live ≡ true) (sh : v.shape �
         draw = refl;
         numbers = λ k. refl;
         closers = λ b f h. (refl, tt);
-        holders = λ s g f h. (refl, f);
+        holders = λ s g f b h. (refl, f, b);
       } in
-      keeps z ws (set ws i found) vs r me v p [] fs r.memory r.owners at l d same
+      keeps z ws (set ws i found) vs r me v p [] fs r.memory r.owners at l d same no_draws
       tt r.loans
       (λ b h. inr (h, refl, (λ (y : HasClose b v). let w = visited_in a y.1.0 v.closes y.1.1 in (y.0, (w.0, w.1, w.2 ∙ y.1.2)))))
-      (λ b n. refl)
+      (slots_still z me v p r.memory r.owners r.memory r.owners same refl (λ s. refl) (λ s g f. f) refl)
+      (λ b. refl)
       (shows_same z r.valid ws r.memory r.shows i) r.world
       (record {
         inside = mine.inside;
@@ -116,9 +125,6 @@ module _ (z : Shape) (me : ℕ) (v : View) (l : v.live ≡ true) (sh : v.shape �
         closes = λ c j. let w = in_visited a c v.closes j in onward c w.before (mine.closes w.before w.there) w.there w.how;
         once = once_visited a v.closes mine.once;
         hand = mine.hand;
-        apart = mine.apart;
-        only = mine.only;
-        slots = mine.slots;
       })
     where
       -- the close of an arena is the one that was found
@@ -166,11 +172,11 @@ module _ (z : Shape) (me : ℕ) (v : View) (l : v.live ≡ true) (sh : v.shape �
         draw = refl;
         numbers = λ k. refl;
         closers = λ b f h. (refl, ((λ e. h (ap r.owners.closer (sym e ∙ sym its.arena) ∙ its_closing.owner)), tt));
-        holders = λ s g f h. (refl, f);
+        holders = λ s g f b h. (refl, f, b);
       } in
       let other : (b : ArenaId) → put_at r.machine.life a Over b ≡ Closes → b ≢ a =
       (λ b. at_cases r.machine.life a Over b (λ x. x ≡ Closes → b ≢ a) (λ e q. absurd (cc)) (λ ne q. ne)) in
-      keeps z ws (set ws i found) vs r me v p es fs r.memory r.owners at l d same
+      keeps z ws (set ws i found) vs r me v p es fs r.memory r.owners at l d same no_draws
       (tt, tt)
       (loans_still (lent r.history) r.memory.sessions r.machine.life r.loans a Over r.memory.sessions (λ f. let g : Closes ≡ Fresh = sym closes_now
       ∙ f in absurd (cc)) (λ e. absurd (cc)) (λ s g f. f))
@@ -180,7 +186,8 @@ module _ (z : Shape) (me : ℕ) (v : View) (l : v.live ≡ true) (sh : v.shape �
         refl,
         (λ (y : HasClose b v). (y.0, (y.1.0, dropped_in a y.1.0 v.closes y.1.1 (λ e. ne (sym y.1.2 ∙ e)), y.1.2))),
       ))
-      (λ b n. refl)
+      (slots_still z me v p r.memory r.owners r.memory r.owners same refl (λ s. refl) (λ s g f. f) refl)
+      (same_handles v l r.machine a Over (λ k. sym (ap one_alive closes_now)))
       (shows_same z r.valid ws r.memory r.shows i) (world_end z r.memory r.machine r.world a closes_now nobody)
       (record {
         inside = mine.inside;
@@ -190,12 +197,7 @@ module _ (z : Shape) (me : ℕ) (v : View) (l : v.live ≡ true) (sh : v.shape �
             closing_on (limit_of z) r.history v.caller r.memory r.machine es r.memory ok me r.owners r.owners c (mine.closes c y.0) refl
             ((λ e. y.1 (sym e)), tt);
         once = once_dropped a v.closes mine.once;
-        hand = λ s j. let y = mine.hand s j in record { owner = y.owner; slot = y.slot; generation = y.generation; session = y.session };
-        apart = mine.apart;
-        only = mine.only;
-        slots =
-            λ e s h. ⊎_elim (λ (j : HasSlot s v). inl j)
-            (λ (w : WasOpened r.machine s). inr (opened_on (limit_of z) r.history v.caller r.memory r.machine es r.memory ok s w)) (mine.slots e s h);
+        hand = mine.hand;
       })
 
   visits : (b c : Bool) → (found == mark_of a) ≡ b → (k + 1 == v.shape.passes) ≡ c

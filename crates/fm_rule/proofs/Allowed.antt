@@ -1,5 +1,5 @@
 -- What a step needs is what the table asks, and what a step tells is that it stepped.
-use Rattle.std.proofs.Common.{◌≡◌, ℕ, List, [], ◌∷◌, ◌++◌, length, set, slice_index, All, Option, Some, None, inl, inr, ⊎_elim, sym, refl, ap, ◌∙◌, subst}
+use Rattle.std.proofs.Common.{◌≡◌, ℕ, List, [], ◌∷◌, ◌++◌, length, set, slice_index, All, Option, Some, None, inl, inr, sym, refl, ap, ◌∙◌, subst}
 use Rattle.std.proofs.lemmas.List.{append-nil}
 use Rattle.std.proofs.lemmas.List.Elements.{All-nil, All-cons}
 use Rattle.atomic_table.specs.Table.{State, Me, keeps, Allows}
@@ -10,7 +10,7 @@ use Rattle.fm_base.specs.Calls.{Entry}
 use Rattle.fm_base.specs.Histories.{made_by}
 use Rattle.fm_base.specs.Finds.{Find, Gathered}
 use Rattle.fm_pool_facts.specs.declared.step.Step.{Step}
-use Rattle.fm_pool_facts.specs.declared.step.Step.TheVariants.{Draws, Marks, Checks, Loads, Stores, SwapsIf, Adds, Allocates, Holds, Unholds, Unmarks, Shuts, Visits, Opens, Looks}
+use Rattle.fm_pool_facts.specs.declared.step.Step.TheVariants.{Draws, Marks, Checks, Loads, Stores, SwapsIf, Adds, Allocates, Holds, Unholds, Backs, Unmarks, Shuts, Visits, TakesSlot, LearnsGeneration, Opens, Looks}
 use Rattle.fm_pool_facts.specs.Views.{Met, View, In, IsSound, all_gathered, brought}
 use Rattle.fm_pool_facts.specs.Steps.{Stepped, part, number_drawn, draws}
 use Rattle.fm_pool_facts.specs.Facts.{Rule, cell_at}
@@ -154,6 +154,16 @@ same_part (Unholds a) v x = record {
   finds = refl;
   gathered = refl;
 }
+same_part (Backs a w) v x = record {
+  home = refl;
+  shape = refl;
+  live = refl;
+  caller = refl;
+  seen = refl;
+  met = refl;
+  finds = refl;
+  gathered = refl;
+}
 same_part Unmarks v x = record {
   home = refl;
   shape = refl;
@@ -194,6 +204,26 @@ same_part (Opens a) v x = record {
   finds = refl;
   gathered = refl;
 }
+same_part (TakesSlot e b) v x = record {
+  home = refl;
+  shape = refl;
+  live = refl;
+  caller = refl;
+  seen = refl;
+  met = refl;
+  finds = refl;
+  gathered = refl;
+}
+same_part (LearnsGeneration s) v x = record {
+  home = refl;
+  shape = refl;
+  live = refl;
+  caller = refl;
+  seen = refl;
+  met = refl;
+  finds = refl;
+  gathered = refl;
+}
 same_part Looks v x = record {
   home = refl;
   shape = refl;
@@ -221,12 +251,15 @@ sound_homed home v s = record {
   inside = s.inside;
   outside = s.outside;
   fits = s.fits;
-  hand = λ x i. let y = s.hand x i in (y.0, y.1, (λ w. y.2 (record { arena = w.arena; in_slot = w.in_slot; known = w.known })));
-  slots = λ e x h. ⊎_elim inl (λ w. inr (record { arena = w.arena; in_slot = w.in_slot; known = w.known })) (s.slots e x h);
+  hand = s.hand;
   drawn = λ n e.
       let y = s.drawn n e in record { later = y.later; number = y.number; other = y.other; silent = y.silent; outside = y.outside };
   few = s.few;
   knows = s.knows;
+  all_drawn = λ w. let h = s.all_drawn w in record { first = h.first; others = h.others };
+  one_each = s.one_each;
+  others = s.others;
+  terms = record { own = s.terms.own; gathered = s.terms.gathered; entries = s.terms.entries };
 }
 
 pub sound_now : (now v : View) (home : List ℕ) → homed home v ≡ now → IsSound v → IsSound now
@@ -263,20 +296,18 @@ pub still_counted : (count : ℕ) (v w : View) → count ≡ length v.gathered �
 still_counted count v w e m g =
     e ∙ ap (λ (gs : List Gathered). length gs) (sym (g ∙ (ap (λ (xs : List Met). v.gathered ++ brought xs) m ∙ append-nil v.gathered)))
 
--- after a step that leaves the arena that it is inside, and its hand
-pub keeps_on : (c : Caller) (i : Option ArenaId) (from next count : ℕ) (v p w : View) (es : List Entry) (fs : ℕ → List Find) (held held' : List (ℕ × Unit {0}))
-    → Keeps c i from next count (v, held) → Alike v p → p.inside ≡ v.inside → p.hand ≡ v.hand
-    → Gives v p es fs w → held' ≡ held → Keeps c i from next count (w, held')
-keeps_on c i from next count v p w es fs held held' k s ins hd g e =
+-- after a step that leaves the arena that it is inside
+pub keeps_on : (c : Caller) (i : Option ArenaId) (from count : ℕ) (v p w : View) (es : List Entry) (fs : ℕ → List Find) (held held' : List (ℕ × Unit {0}))
+    → Keeps c i from count (v, held) → Alike v p → p.inside ≡ v.inside
+    → Gives v p es fs w → held' ≡ held → Keeps c i from count (w, held')
+keeps_on c i from count v p w es fs held held' k s ins g e =
     let inside : w.inside ≡ v.inside = ap (λ (x : View). x.inside) g.is ∙ ins in
     let shape : w.shape ≡ v.shape = ap (λ (x : View). x.shape) g.is ∙ s.shape in
-    let hand : w.hand ≡ v.hand = ap (λ (x : View). x.hand) g.is ∙ hd in
     record {
       live = ap (λ (x : View). x.live) g.is ∙ (s.live ∙ k.live);
       caller = k.caller ∙ sym (ap (λ (x : View). x.caller) g.is ∙ s.caller);
       inside = k.inside ∙ sym inside;
       cells = λ a q. k.cells a (sym inside ∙ q) ∙ ap (λ (z : Shape). cell_at z a.slot 0) (sym shape);
-      hand = record { left = k.hand.left; is = hand ∙ k.hand.is; all = k.hand.all ∙ ap (λ (z : Shape). z.slots) (sym shape) };
       met = ap (λ (x : View). x.met) g.is;
       counted = still_counted count v w k.counted k.met (ap (λ (x : View). x.gathered) g.is ∙ (λ j. s.gathered j ++ brought (s.met j)));
       sound = g.sound;

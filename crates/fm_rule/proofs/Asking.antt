@@ -8,10 +8,11 @@ use Rattle.fm_base.specs.declared.caller.Caller.{Caller}
 use Rattle.fm_base.specs.Calls.{Entry}
 use Rattle.fm_base.specs.Histories.{made_by}
 use Rattle.fm_base.specs.Finds.{Find, Gathered, Draws as Drawing, is_draw}
-use Rattle.fm_pool_facts.specs.Views.{View, In}
+use Rattle.fm_pool_facts.specs.Views.{View, In, HasFind, pass_of}
 use Rattle.fm_pool_facts.specs.Steps.{Stepped, number_drawn, draws, caller_drawn, note_draw, is_clear}
 use Rattle.fm_pool_facts.specs.Moves.{LearnsCount}
-use Rattle.fm_pool_facts.proofs.Keeping.{in_append, in_right}
+use Rattle.fm_pool_facts.proofs.Founds.{draw_found, draw_drew, draw_is}
+use Rattle.fm_pool_facts.proofs.Keeping.{in_append, in_left, in_right}
 use Rattle.fm_pool_steps.proofs.Reading.{eqb_true, eqb_false}
 use Rattle.fm_rule.specs.Passes.{IsOf}
 use Rattle.fm_rule.specs.Draws.{Asked, Takes, NoneDrawn, Looked}
@@ -27,6 +28,7 @@ asked_none p e = record {
   alone = λ w. refl;
   finds = sym (append-nil p.finds);
   only_draws = λ f i. absurd i;
+  later = λ f g h d i. absurd i;
   is = λ i. record p { drawn = e i };
 }
 
@@ -44,11 +46,17 @@ module _ (old now new : View) (ds : List Find) (a : Asked old now ds None) where
   same_shape : now.shape ≡ old.shape
   same_shape = ap (λ (x : View). x.shape) a.is
 
-  -- one more step
-  asked_then : (kept : old.whole ≡ true → now.whole ≡ true) (d : Option ℕ) (w : Bool) (nd : ℕ → List Find)
-      → ((n : ℕ) (f : Find) → In f (nd n) → is_draw f.step ≡ true) → (s : Stepped now new (with_number now d w) [] nd)
+  -- what was found before was found before the last step too
+  found_still : (f : Find) → HasFind old f → HasFind now f
+  found_still f (inl i) = inl (subst (In f) (sym a.finds) (in_left f old.finds ds i))
+  found_still f (inr h) = inr (h.0, subst (In h.0) (sym same_gathered) h.1, h.2)
+
+  -- one more step, which found x
+  asked_then : (kept : old.whole ≡ true → now.whole ≡ true) (d : Option ℕ) (w : Bool) (x : ℕ) (nd : ℕ → List Find)
+      → ((n : ℕ) (f : Find) → In f (nd n) → is_draw f.step ≡ true) → ((n : ℕ) (f : Find) → In f (nd n) → f.found ≡ x) → LearnsCount now x
+      → (s : Stepped now new (with_number now d w) [] nd)
       → Asked old new (ds ++ nd (length (now.seen ++ s.others))) d
-  asked_then kept d w nd only s =
+  asked_then kept d w x nd only founds l s =
       let es : List Entry = s.others in
       let fs : List Find = nd (length (now.seen ++ es)) in
       let whole : new.whole ≡ w = ap (λ (x : View). x.whole) s.is_part in
@@ -64,6 +72,10 @@ module _ (old now new : View) (ds : List Find) (a : Asked old now ds None) where
         alone = λ o. ap (λ (xs : List Entry). xs ++ es) (a.alone o) ∙ s.alone (kept o);
         finds = finds ∙ (ap (λ (xs : List Find). xs ++ fs) a.finds ∙ append_assoc old.finds ds fs);
         only_draws = λ f i. ⊎_elim (a.only_draws f) (only (length (now.seen ++ es)) f) (in_append f ds fs i);
+        later = λ f g h e i. ⊎_elim
+            (a.later f g h e)
+            (λ (j : In g fs). let q = founds (length (now.seen ++ es)) g j in let y = l.later f (found_still f h) e in omega arith)
+            (in_append g ds fs i);
         is = s.is_part ∙ ((λ i. record (with_number now d w) { seen = new.seen; finds = sym finds i })
             ∙ (λ i. record (a.is i) { drawn = d; whole = sym whole i; seen = new.seen; finds = new.finds }));
       }
@@ -119,14 +131,6 @@ drew_none : (p q : View) (e x : ℕ) → p.drawn ≡ None → number_drawn p.sha
 drew_none p q e x d n s = subst (λ (v : View). Stepped p q v [] (note_draw e x p))
     (ap (λ (o : Option ℕ). draws o x p) n ∙ (λ i. record p { drawn = d i; whole = whole_after p x })) s
 
-draws_only : (p : View) (e x n : ℕ) (f : Find) → In f (note_draw e x p n) → is_draw f.step ≡ true
-draws_only p e x n f (inl q) = ap (λ (g : Find). is_draw g.step) q
-draws_only p e x n f (inr i) = absurd i
-
-none_noted : (p : View) (e x n : ℕ) → number_drawn p.shape e x ≡ None → (f : Find) → In f (note_draw e x p n) → f.drew ≡ None
-none_noted p e x n d f (inl q) = ap (λ (g : Find). g.drew) q ∙ ap caller_drawn d
-none_noted p e x n d f (inr i) = absurd i
-
 module _ {pool : Pool} {old p q : View} (e x : ℕ) (t : Asking pool old p e) (s : Draw p q e x) (l : LearnsCount p x) where
   no_number : p.drawn ≡ None
   no_number = ap (λ (v : View). v.drawn) t.asked.is
@@ -147,8 +151,8 @@ module _ {pool : Pool} {old p q : View} (e x : ℕ) (t : Asking pool old p e) (s
       let fs : List Find = note_draw e x p (length (p.seen ++ step.others)) in
       record {
         draws = t.draws ++ fs;
-        asked = asked_then old p q t.draws t.asked t.kept None (whole_after p x) (note_draw e x p) (draws_only p e x) step;
-        none = λ f i. ⊎_elim (t.none f) (none_noted p e x (length (p.seen ++ step.others)) d f) (in_append f t.draws fs i);
+        asked = asked_then old p q t.draws t.asked t.kept None (whole_after p x) x (note_draw e x p) (draw_is e x p) (draw_found e x p) l step;
+        none = λ f i. ⊎_elim (t.none f) (draw_drew e x p None d (length (p.seen ++ step.others)) f) (in_append f t.draws fs i);
         kept = on_whole (length p.gathered + 1 == x) (ap (λ (v : View). v.whole) step.is_part);
         some = (let y = l.own in omega arith);
         of = (ap (λ (v : View). v.home) step.is_part ∙ t.of.0, ap (λ (v : View). v.shape) step.is_part ∙ t.of.1);
@@ -165,9 +169,9 @@ module _ {pool : Pool} {old p q : View} (e x : ℕ) (t : Asking pool old p e) (s
       let passes : x ≡ old.shape.passes = all ∙ ap (λ (z : Shape). z.passes) shape_is in
       record {
         draws = t.draws ++ fs;
-        asked = asked_then old p q t.draws t.asked t.kept None (whole_after p x) (note_draw e x p) (draws_only p e x) step;
+        asked = asked_then old p q t.draws t.asked t.kept None (whole_after p x) x (note_draw e x p) (draw_is e x p) (draw_found e x p) l step;
         all = record {
-          none = λ f i. ⊎_elim (t.none f) (none_noted p e x n d f) (in_append f t.draws fs i);
+          none = λ f i. ⊎_elim (t.none f) (draw_drew e x p None d n f) (in_append f t.draws fs i);
           find = here;
           among = in_right here t.draws fs (inl refl);
           expected = e;
@@ -192,13 +196,17 @@ module _ {pool : Pool} {old p q : View} (e x : ℕ) (t : Asking pool old p e) (s
       let here : Find = record { step = Drawing e; found = x; seen = n; clear = is_clear p; drew = caller_drawn (number_drawn p.shape e x) } in
       record {
         draws = t.draws ++ fs;
-        asked = asked_then old p q t.draws t.asked t.kept (Some x) false (note_draw e x p) (draws_only p e x) step;
+        asked = asked_then old p q t.draws t.asked t.kept (Some x) false x (note_draw e x p) (draw_is e x p) (draw_found e x p) l step;
         drew = record {
           find = here;
           among = in_right here t.draws fs (inl refl);
           step = ap Drawing (sym same);
           found = refl;
           drew = ap caller_drawn d;
+          only = λ f c i h. ⊎_elim
+              (λ (j : In f t.draws). let r : None ≡ Some c = sym (t.none f j) ∙ h in absurd (cc))
+              (λ (j : In f fs). let r : Some c ≡ Some (pass_of x) = sym h ∙ draw_drew e x p (Some x) d n f j in cc)
+              (in_append f t.draws fs i);
         };
         whole = ap (λ (v : View). v.whole) step.is_part;
         suffice = λ o.
@@ -211,6 +219,14 @@ module _ {pool : Pool} {old p q : View} (e x : ℕ) (t : Asking pool old p e) (s
 
 -- ---- the look for every number
 
+-- a draw gathers nobody
+gathers_none : (o : Option ℕ) (x : ℕ) (v : View) → (draws o x v).gathered ≡ v.gathered
+gathers_none None x v = refl
+gathers_none (Some n) x v = refl
+
+pub still_gathered : (p q : View) (e x : ℕ) → Draw p q e x → length q.gathered ≡ length p.gathered
+still_gathered p q e x s = ap (λ (v : View). length v.gathered) s.is_part ∙ ap (λ (gs : List Gathered). length gs) (gathers_none (number_drawn p.shape e x) x p)
+
 pub looked : (old new : View) (x : ℕ) → old.drawn ≡ None → Draw old new 0 x → LearnsCount old x → (b : Bool) → b ≡ (x == length old.gathered + 1)
     → Looked old new b
 looked old new x none s l b is =
@@ -222,11 +238,14 @@ looked old new x none s l b is =
     let turned : b ≡ (c == x) = is ∙ swap_sides x c in
     record {
       find = here;
-      asked = asked_then old old new [] (asked_none old none) (λ w. w) None (whole_after old x) (note_draw 0 x old) (draws_only old 0 x) step;
+      asked = asked_then old old new [] (asked_none old none) (λ w. w) None (whole_after old x) x (note_draw 0 x old) (draw_is 0 x old)
+          (draw_found 0 x old) l step;
       step = refl;
+      none = ap caller_drawn d;
       is = turned;
       whole = ap (λ (v : View). v.whole) step.is_part ∙ (go old.whole refl ∙ sym turned);
       still = λ w. turned ∙ eq-eqb c x (sym (l.whole w));
+      complete = λ h. turned ∙ eq-eqb c x (sym (l.complete h));
       sound = step.sound;
     }
   where

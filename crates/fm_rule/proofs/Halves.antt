@@ -1,5 +1,5 @@
 -- A pass and the one that is split off from it, and a pass that another is gathered into.
-use Rattle.std.proofs.Common.{◌≡◌, ℕ, suc, ◌+◌, ◌<◌, true, List, [], ◌∷◌, ◌++◌, length, sym, refl, ap, ◌∙◌, subst, arith, inl, inr, ⊎_elim, Option, Some, None}
+use Rattle.std.proofs.Common.{◌≡◌, ℕ, suc, ◌+◌, ◌<◌, true, List, [], ◌∷◌, ◌++◌, length, sym, refl, ap, ◌∙◌, subst, arith, inl, inr, Option, Some, None}
 use Rattle.std.proofs.lemmas.List.{append-nil, length-append}
 use Rattle.std.proofs.lemmas.List.Elements.{filter-append}
 use Rattle.fm_words.specs.declared.shape.Shape.{Shape}
@@ -8,7 +8,6 @@ use Rattle.fm_base.specs.declared.arena_id.ArenaId.{ArenaId}
 use Rattle.fm_base.specs.Arenas.{IsUnderWay}
 use Rattle.fm_base.specs.Histories.{made_by}
 use Rattle.fm_base.specs.Finds.{Gathered}
-use Rattle.fm_pool_facts.specs.declared.slot.Slot.{Slot}
 use Rattle.fm_pool_facts.specs.declared.step.Step.TheVariants.{Looks}
 use Rattle.fm_pool_facts.specs.Views.{Met, View, In, IsNew, IsSound, brought, pass_of, state_in}
 use Rattle.fm_pool_facts.specs.Splits.{view_of, number_or, drawn_left, drawn_right, as_gathered, gather, IsAtRest}
@@ -33,11 +32,14 @@ left_sound v s = record {
   inside = s.inside;
   outside = s.outside;
   fits = s.fits;
-  hand = λ x i. let y = s.hand x i in (y.0, y.1, (λ w. y.2 (record { arena = w.arena; in_slot = w.in_slot; known = w.known })));
-  slots = λ e x h. ⊎_elim inl (λ w. inr (record { arena = w.arena; in_slot = w.in_slot; known = w.known })) (s.slots e x h);
+  hand = s.hand;
   drawn = λ n e. absurd (cc);
   few = s.few;
   knows = s.knows;
+  all_drawn = λ w. let h = s.all_drawn w in record { first = h.first; others = h.others };
+  one_each = s.one_each;
+  others = s.others;
+  terms = record { own = s.terms.own; gathered = s.terms.gathered; entries = s.terms.entries };
 }
 
 pub left_new : (v : View) (n : ℕ) → IsNew v n → IsNew (drawn_left v) n
@@ -59,37 +61,37 @@ right_sound v n e s =
       outside = λ a w. absurd (y.outside a (subst (λ (k : ℕ). IsUnderWay (state_in v) (pass_of k) a) is w));
       fits = s.fits;
       hand = λ x i. absurd i;
-      slots = λ q. absurd (let a = y.later in omega arith);
       drawn = λ k q. absurd (cc);
       few = (let q : 0 < p = omega arith in q);
       knows = λ w. absurd (cc);
+      all_drawn = λ w. absurd (cc);
+      one_each = tt;
+      others = λ g i. absurd i;
+      terms = record { own = refl; gathered = λ g i. absurd i; entries = s.terms.entries };
     }
 
 abbrev Held : Type 0
 Held = List (ℕ × Unit {0})
 
-pub left_keeps : (c : Caller) (i : Option ArenaId) (from next count : ℕ) (v : View) (held : Held) → Keeps c i from next count (v, held)
-    → Keeps c i from next count (drawn_left v, held)
-left_keeps c i from next count v held k = record {
+pub left_keeps : (c : Caller) (i : Option ArenaId) (from count : ℕ) (v : View) (held : Held) → Keeps c i from count (v, held)
+    → Keeps c i from count (drawn_left v, held)
+left_keeps c i from count v held k = record {
   live = k.live;
   caller = k.caller;
   inside = k.inside;
   cells = k.cells;
-  hand = k.hand;
   met = k.met;
   counted = k.counted;
   sound = left_sound v k.sound;
   empty = k.empty;
 }
 
-pub right_keeps : (n slots : ℕ) (v : View) → v.drawn ≡ Some n → v.shape.slots ≡ slots → IsSound v
-    → Keeps (pass_of n) None 0 slots 0 (drawn_right v, [])
-right_keeps n slots v e z s = record {
+pub right_keeps : (n : ℕ) (v : View) → v.drawn ≡ Some n → IsSound v → Keeps (pass_of n) None 0 0 (drawn_right v, [])
+right_keeps n v e s = record {
   live = refl;
   caller = λ i. pass_of (ap number_or (sym e) i);
   inside = refl;
   cells = λ a q. absurd (cc);
-  hand = record { left = 0; is = refl; all = (let q : slots + 0 ≡ v.shape.slots = omega arith in q) };
   met = refl;
   counted = refl;
   sound = right_sound v n e s;
@@ -113,6 +115,7 @@ drawn_of old mid d n t is sound =
         alone = a.alone;
         finds = a.finds;
         only_draws = a.only_draws;
+        later = a.later;
         is = λ i. record (a.is i) { drawn = None };
       };
       drew = t.drew;
@@ -127,21 +130,18 @@ drawn_of old mid d n t is sound =
 -- ---- gathering
 
 -- the other can be gathered
-pub at_rest : {pool : Pool} (now v : View) (home : List ℕ) → homed home v ≡ now → v.live ≡ true → v.met ≡ [] → IsSound v → CanGather pool now → IsAtRest v
-at_rest now v home is l m s can = record {
+pub at_rest : {pool : Pool} (now v : View) (home : List ℕ) → homed home v ≡ now → v.live ≡ true → v.met ≡ [] → CanGather pool now → IsAtRest v
+at_rest now v home is l m can = record {
   live = l;
   inside = ap (λ (x : View). x.inside) is ∙ can.outside;
   mark = ap (λ (x : View). x.mark) is ∙ can.unmarked;
   drawn = ap (λ (x : View). x.drawn) is ∙ can.no_number;
-  hand = no_slots v.hand (λ x i. can.later (ap (λ (y : View). y.caller.number) (sym is) ∙ (s.hand x i).0));
+  hand = ap (λ (x : View). x.hand) is ∙ can.no_slot;
   closes = ap (λ (x : View). x.closes) is ∙ can.no_close;
   holds = ap (λ (x : View). x.holds) is ∙ can.no_hold;
+  handles = ap (λ (x : View). x.handles) is ∙ can.no_handle;
   met = m;
 }
-  where
-    no_slots : (hs : List Slot) → ((x : Slot) → In x hs → ⊥) → hs ≡ []
-    no_slots [] f = refl
-    no_slots (x ∷ xs) f = absurd (f x (inl refl))
 
 -- the look after another was gathered
 module _ (v o u w : View) (x : ℕ) (is : u ≡ gather v o) (met : v.met ≡ []) (t : Tells Looks u x w) where
@@ -198,9 +198,9 @@ module _ (v o u w : View) (x : ℕ) (is : u ≡ gather v o) (met : v.met ≡ [])
       gathered_is' : w.gathered ≡ v.gathered ++ ((as_gathered o ∷ o.gathered) ++ brought v.met)
       gathered_is' = ap (λ (y : View). y.gathered) told_of.is
 
-  pub gather_keeps : (c : Caller) (i : Option ArenaId) (from next count more : ℕ) (held held' : Held) → Keeps c i from next count (v, held)
-      → more ≡ length o.gathered → held' ≡ held → Keeps c i from next (count + 1 + more) (w, held')
-  gather_keeps c i from next count more held held' k m e =
+  pub gather_keeps : (c : Caller) (i : Option ArenaId) (from count more : ℕ) (held held' : Held) → Keeps c i from count (v, held)
+      → more ≡ length o.gathered → held' ≡ held → Keeps c i from (count + 1 + more) (w, held')
+  gather_keeps c i from count more held held' k m e =
       let g = told_of in
       let inside : w.inside ≡ v.inside = ap (λ (y : View). y.inside) g.is in
       let shape : w.shape ≡ v.shape = ap (λ (y : View). y.shape) g.is in
@@ -212,7 +212,6 @@ module _ (v o u w : View) (x : ℕ) (is : u ≡ gather v o) (met : v.met ≡ [])
         caller = k.caller ∙ sym (ap (λ (y : View). y.caller) g.is);
         inside = k.inside ∙ sym inside;
         cells = λ a q. k.cells a (sym inside ∙ q) ∙ ap (λ (z : Shape). cell_at z a.slot 0) (sym shape);
-        hand = record { left = k.hand.left; is = ap (λ (y : View). y.hand) g.is ∙ k.hand.is; all = k.hand.all ∙ ap (λ (z : Shape). z.slots) (sym shape) };
         met = ap (λ (y : View). y.met) g.is;
         counted = (let a = count_is in let b = long in omega arith);
         sound = g.sound;

@@ -3,7 +3,7 @@ use Rattle.std.proofs.Common.{◌≡◌, ◌≢◌, ℕ, ◌+◌, ◌-◌, ◌*�
 use prog.Atomic.{either}
 use Rattle.fm_words.specs.declared.shape.Shape.{Shape}
 use Rattle.fm_words.specs.Shapes.{IsValid}
-use Rattle.fm_words.specs.Places.{at, draw, mark, session, given, words, front}
+use Rattle.fm_words.specs.Places.{at, draw, slot_bits, mark, session, given, words, front}
 use Rattle.fm_words.proofs.Tables.{at-within}
 use Rattle.fm_base.specs.declared.caller.Caller.{Caller}
 use Rattle.fm_base.specs.declared.arena_id.ArenaId.{ArenaId}
@@ -11,21 +11,25 @@ use Rattle.fm_base.specs.declared.kind.Kind.TheVariants.{Global, Automatic}
 use Rattle.fm_base.specs.Machine.{IsPower}
 use Rattle.fm_base.specs.Arenas.{MayUse, owner_of}
 use Rattle.fm_base.proofs.Wholeness.{given_within}
-use Rattle.fm_pool_facts.specs.declared.slot.Slot.{Slot}
-use Rattle.fm_pool_facts.specs.declared.step.Step.TheVariants.{Draws, Marks, Checks, Loads, Stores, SwapsIf, Adds, Allocates, Holds, Unholds, Unmarks, Shuts, Visits, Opens, Looks}
+use Rattle.fm_words.specs.Bits.{IsWithout}
+use Rattle.fm_pool_facts.specs.Hands.{Hand, nothing, taken, learnt, HasSlot}
+use Rattle.fm_pool_facts.specs.declared.step.Step.TheVariants.{Draws, Marks, Checks, Loads, Stores, SwapsIf, Adds, Allocates, Holds, Unholds, Backs, Unmarks, Shuts, Visits, TakesSlot, LearnsGeneration, Opens, Looks}
 use Rattle.fm_pool_facts.specs.Views.{View, Fits, In, IsKnown, IsSound, span, given_of, limit_of}
 use Rattle.fm_pool_facts.specs.Words.{alive_word, closing_word, held_word, mark_of}
+use Rattle.fm_pool_facts.specs.Handles.{back_word}
 use Rattle.fm_pool_facts.specs.Closes.{visited_of}
-use Rattle.fm_pool_facts.specs.Steps.{draw_next, CanReach, first_slot, given_next}
+use Rattle.fm_pool_facts.specs.Steps.{draw_next, CanReach, given_next}
 use Rattle.fm_pool_facts.specs.Facts.{cell_at}
 use Rattle.fm_pool_facts.specs.Moves.{MayStep, MayStore}
 use Rattle.fm_pool_facts.proofs.Shown.{cell_below}
 use Rattle.fm_pool_steps.proofs.Acting.{mark_steps, check_steps, unmark_steps, look_steps}
 use Rattle.fm_pool_steps.proofs.Reaching.{load_steps, store_steps, swap_steps, add_steps, allocate_steps}
 use Rattle.fm_pool_steps.proofs.Holding.{hold_steps, unhold_steps}
+use Rattle.fm_pool_steps.proofs.Backing.{back_steps}
 use Rattle.fm_pool_steps.proofs.Drawing.{draw_steps}
 use Rattle.fm_pool_steps.proofs.Shutting.{shut_steps}
 use Rattle.fm_pool_steps.proofs.Visiting.{visit_steps}
+use Rattle.fm_pool_steps.proofs.Taking.{take_steps, generation_steps}
 use Rattle.fm_pool_steps.proofs.Opening.{open_steps}
 use Rattle.fm_rule.specs.Views.{homed}
 
@@ -42,6 +46,9 @@ given_below z s i h e = subst (λ (n : ℕ). n < words z) (sym e) (at-within z (
 
 pub draw_below : (z : Shape) (i : ℕ) → i ≡ at z draw → i < words z
 draw_below z i e = subst (λ (n : ℕ). n < words z) (sym e) (at-within z draw tt)
+
+pub bits_below : (z : Shape) (i : ℕ) → i ≡ at z slot_bits → i < words z
+bits_below z i e = subst (λ (n : ℕ). n < words z) (sym e) (at-within z slot_bits tt)
 
 pub front_below : (z : Shape) (i : ℕ) → i ≡ at z front → i < words z
 front_below z i e = subst (λ (n : ℕ). n < words z) (sym e) (at-within z front tt)
@@ -103,6 +110,11 @@ module _ (now v : View) (home : List ℕ) (z : Shape) (is : homed home v ≡ now
 
     pub number_below : v.caller.number < z.passes
     number_below = subst (λ (x : Shape). v.caller.number < x.passes) shape_is sound.number
+
+    -- the slot in its hand is one of the pool's
+    pub slot_in_hand : (s : ℕ) (hand : Hand) → now.hand ≡ hand → HasSlot s hand → s < z.slots
+    slot_in_hand s hand h i =
+        subst (λ (x : Shape). s < x.slots) shape_is (sound.hand s (subst (HasSlot s) (sym (ap (λ (x : View). x.hand) is ∙ h)) i))
 
     -- the word of the arena that it is inside lies in the table
     pub cell_in : (a : ArenaId) (w : ℕ) → v.inside ≡ Some a → w < span z → (a.slot < z.slots) × (cell_at z a.slot w < words z)
@@ -175,6 +187,11 @@ module _ (z : Shape) (id : ℕ) (v : View) (l : v.live ≡ true) (i : ℕ) where
       → MayStep z (Unholds a) id v i (λ n. (n + (2 ^ 64 - 1)) % 2 ^ 64)
   may_unhold a h k p = subst (λ (x : ℕ). MayStep z (Unholds a) id v x (λ n. (n + (2 ^ 64 - 1)) % 2 ^ 64)) (sym p) (unhold_steps z id v l a h k)
 
+  pub may_back : (a : ArenaId) (word next : ℕ) → IsKnown v a → a.kind ≡ Automatic → In a v.handles → i ≡ at z (session a.slot) → next ≡ back_word a word
+      → MayStep z (Backs a word) id v i (λ n. either (n == word) next n)
+  may_back a word next k u h p is =
+      subst (λ (x : ℕ × ℕ). MayStep z (Backs a word) id v x.0 (λ n. either (n == word) x.1 n)) (λ j. (sym p j, sym is j)) (back_steps z id v a word l k u h)
+
   pub may_load : (a : ArenaId) (w : ℕ) → v.inside ≡ Some a → w < span z → i ≡ cell_at z a.slot w → MayStep z (Loads w) id v i (λ n. n)
   may_load a w o h p = subst (λ (x : ℕ). MayStep z (Loads w) id v x (λ n. n)) (sym p) (load_steps z id v l a o w h)
 
@@ -184,19 +201,26 @@ module _ (z : Shape) (id : ℕ) (v : View) (l : v.live ≡ true) (i : ℕ) where
   pub may_unmark : (c : Caller) → c ≡ v.caller → i ≡ at z (mark c.number) → MayStore z Unmarks id v i 0
   may_unmark c e p = subst (λ (x : ℕ). MayStore z Unmarks id v x 0) (sym (p ∙ ap (λ (d : Caller). at z (mark d.number)) e)) (unmark_steps z id v l)
 
-  pub may_shut : (a : ArenaId) (o n : ℕ) → IsKnown v a → MayUse a v.caller → a.kind ≢ Global → i ≡ at z (session a.slot) → o ≡ alive_word a 0
-      → n ≡ closing_word a → MayStep z (Shuts a) id v i (λ x. either (x == o) n x)
-  may_shut a o n k u h p q r =
-      subst (λ (x : ℕ × ℕ × ℕ). MayStep z (Shuts a) id v x.0 (λ y. either (y == x.1) x.2 y)) (λ j. (sym p j, sym q j, sym r j)) (shut_steps z id v a l k u h)
+  pub may_shut : (a : ArenaId) (o n : ℕ) → IsKnown v a → MayUse a v.caller → a.kind ≢ Global → a.kind ≢ Automatic → i ≡ at z (session a.slot)
+      → o ≡ alive_word a 0 → n ≡ closing_word a → MayStep z (Shuts a) id v i (λ x. either (x == o) n x)
+  may_shut a o n k u h g p q r =
+      subst (λ (x : ℕ × ℕ × ℕ). MayStep z (Shuts a) id v x.0 (λ y. either (y == x.1) x.2 y)) (λ j. (sym p j, sym q j, sym r j)) (shut_steps z id v a l k u h g)
 
   pub may_visit : (a : ArenaId) (k : ℕ) → v.shape ≡ z → visited_of v.closes a ≡ Some k → k < z.passes → i ≡ at z (mark k)
       → MayStep z (Visits a k) id v i (λ n. n)
   may_visit a k s h low p = subst (λ (x : ℕ). MayStep z (Visits a k) id v x (λ n. n)) (sym p) (visit_steps z id v a k l s h low)
 
-  pub may_open : (slot : Slot) (a : ArenaId) (y : ℕ) → first_slot v.hand ≡ Some slot → a.slot ≡ slot.slot → a.generation ≡ slot.generation
-      → owner_of a ≡ v.caller → i ≡ at z (session a.slot) → y ≡ alive_word a 0
+  pub may_take : (e bit next : ℕ) → v.shape ≡ z → v.hand ≡ nothing → bit < z.slots → IsWithout e bit next → i ≡ at z slot_bits
+      → MayStep z (TakesSlot e bit) id v i (λ n. either (n == e) next n)
+  may_take e bit next s h low w p =
+      subst (λ (x : ℕ). MayStep z (TakesSlot e bit) id v x (λ n. either (n == e) next n)) (sym p) (take_steps z id v e bit next l s h low w)
+
+  pub may_learn_generation : (s : ℕ) → v.hand ≡ taken s → i ≡ at z (session s) → MayStep z (LearnsGeneration s) id v i (λ n. n)
+  may_learn_generation s h p = subst (λ (x : ℕ). MayStep z (LearnsGeneration s) id v x (λ n. n)) (sym p) (generation_steps z id v s l h)
+
+  pub may_open : (a : ArenaId) (y : ℕ) → v.hand ≡ learnt a.slot a.generation → owner_of a ≡ v.caller → i ≡ at z (session a.slot) → y ≡ alive_word a 0
       → MayStore z (Opens a) id v i y
-  may_open slot a y h s g o p q = subst (λ (x : ℕ × ℕ). MayStore z (Opens a) id v x.0 x.1) (λ j. (sym p j, sym q j)) (open_steps z id v slot a l h s g o)
+  may_open a y h o p q = subst (λ (x : ℕ × ℕ). MayStore z (Opens a) id v x.0 x.1) (λ j. (sym p j, sym q j)) (open_steps z id v a l h o)
 
   pub may_look : MayStep z Looks id v i (λ n. n)
   may_look = look_steps z id v l i

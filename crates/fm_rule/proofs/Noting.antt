@@ -1,5 +1,5 @@
 -- Notes are made and met.
-use Rattle.std.proofs.Common.{◌≡◌, ◌≢◌, ℕ, ◌+◌, ◌%◌, ◌^◌, ◌<◌, ◌≤◌, ◌==◌, Bool, true, false, if◌then◌else◌, bit_and, List, [], Option, Some, None, inl, inr, refl, ◌++◌, sym, ap, ◌∙◌, subst, arith, eq-eqb, ne_eqb}
+use Rattle.std.proofs.Common.{◌≡◌, ◌≢◌, ℕ, ◌+◌, ◌-◌, ◌%◌, ◌^◌, ◌<◌, ◌≤◌, ◌==◌, Bool, true, false, if◌then◌else◌, bit_and, List, [], Option, Some, None, inl, inr, refl, ◌++◌, sym, ap, ◌∙◌, subst, arith, eq-eqb, ne_eqb}
 use Rattle.std.proofs.lemmas.Nat.{and_mask}
 use Rattle.atomic_table.specs.Seated.{TableId}
 use Rattle.fm_words.specs.declared.shape.Shape.{Shape}
@@ -9,7 +9,8 @@ use Rattle.fm_base.specs.declared.arena_id.ArenaId.{ArenaId}
 use Rattle.fm_base.specs.Calls.{Entry, Fine, TooManyHolds}
 use Rattle.fm_pool_facts.specs.declared.step.Step.TheVariants.{Looks}
 use Rattle.fm_pool_facts.specs.Views.{View}
-use Rattle.fm_pool_facts.specs.Words.{held_by, held_word, hold_found, alive_word, alive_holds}
+use Rattle.fm_pool_facts.specs.Words.{held_by, held_word, hold_found, alive_word, alive_holds, closing_word}
+use Rattle.fm_pool_facts.specs.Handles.{last_if, giving_by, word_given, back_word}
 use Rattle.fm_pool_facts.specs.Splits.{met}
 use Rattle.fm_pool_facts.specs.Steps.{Stepped, part, entries, noted, none_noted}
 use Rattle.fm_pool_facts.specs.Facts.{cell_at}
@@ -64,10 +65,10 @@ meet_stepped now v n u w home home' x is stays m e t =
     subst (λ (y : View × List ℕ). Stepped y.0 (homed y.1 w) y.0 [] none_noted) (λ j. (is j, sym stays j))
     (stepped home v v w [] none_noted (alike_none v) m (met_gives v n w x (subst (λ (y : View). Tells Looks y x w) e t)))
 
-pub meet_keeps : (c : Caller) (i : Option ArenaId) (from next count : ℕ) (v n u w : View) (held held' : List (ℕ × Unit {0})) (x : ℕ)
-    → Keeps c i from next count (v, held)
-    → u ≡ met v n → Tells Looks u x w → held' ≡ held → Keeps c i from next count (w, held')
-meet_keeps c i from next count v n u w held held' x k e t h =
+pub meet_keeps : (c : Caller) (i : Option ArenaId) (from count : ℕ) (v n u w : View) (held held' : List (ℕ × Unit {0})) (x : ℕ)
+    → Keeps c i from count (v, held)
+    → u ≡ met v n → Tells Looks u x w → held' ≡ held → Keeps c i from count (w, held')
+meet_keeps c i from count v n u w held held' x k e t h =
     let g = met_gives v n w x (subst (λ (y : View). Tells Looks y x w) e t) in
     let inside : w.inside ≡ v.inside = ap (λ (y : View). y.inside) g.is in
     let shape : w.shape ≡ v.shape = ap (λ (y : View). y.shape) g.is in
@@ -76,7 +77,6 @@ meet_keeps c i from next count v n u w held held' x k e t h =
       caller = k.caller ∙ sym (ap (λ (y : View). y.caller) g.is);
       inside = k.inside ∙ sym inside;
       cells = λ a q. k.cells a (sym inside ∙ q) ∙ ap (λ (z : Shape). cell_at z a.slot 0) (sym shape);
-      hand = record { left = k.hand.left; is = ap (λ (y : View). y.hand) g.is ∙ k.hand.is; all = k.hand.all ∙ ap (λ (z : Shape). z.slots) (sym shape) };
       met = ap (λ (y : View). y.met) g.is;
       counted = still_counted count v w k.counted k.met (ap (λ (y : View). y.gathered) g.is);
       sound = g.sound;
@@ -130,3 +130,23 @@ hold_refused a w n e l =
 pub hold_closed : (a : ArenaId) (w : ℕ) → None ≡ alive_holds a w → w ≡ held_word a w
 unfolding held_word
 hold_closed a w e = sym (ap (λ (o : Option ℕ). held_by w (hold_found o)) (sym e))
+
+-- ---- a handle less
+
+pub back_closed : (a : ArenaId) (w : ℕ) → None ≡ alive_holds a w → w ≡ back_word a w
+unfolding back_word
+back_closed a w e = ap (λ (o : Option ℕ). word_given a w (giving_by o)) e
+
+pub back_last : (a : ArenaId) (w n : ℕ) → Some n ≡ alive_holds a w → n ≡ 0 → closing_word a ≡ back_word a w
+unfolding back_word
+back_last a w n e z =
+    sym (ap (λ (b : Bool). word_given a w (last_if b)) (eq-eqb n 0 z)) ∙ ap (λ (o : Option ℕ). word_given a w (giving_by o)) e
+
+pub back_one : (a : ArenaId) (w n : ℕ) → Some n ≡ alive_holds a w → n ≢ 0 → w - 1 ≡ back_word a w
+unfolding back_word
+back_one a w n e z =
+    sym (ap (λ (b : Bool). word_given a w (last_if b)) (ne_eqb n 0 z)) ∙ ap (λ (o : Option ℕ). word_given a w (giving_by o)) e
+
+-- a word that counts a hold isn't 0
+pub back_fits : (a : ArenaId) (w n : ℕ) → Some n ≡ alive_holds a w → n ≢ 0 → 0 < w
+back_fits a w n e z = let q = holds_low a w n (sym e) in omega arith

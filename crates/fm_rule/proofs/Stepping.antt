@@ -1,16 +1,18 @@
 -- What each step tells is that the pass stepped.
-use Rattle.std.proofs.Common.{◌≡◌, ℕ, ◌==◌, List, [], ◌∷◌, Option, Some, None, refl, sym, subst}
+use Rattle.std.proofs.Common.{◌≡◌, ◌≢◌, ℕ, ◌/◌, ◌^◌, ◌==◌, List, [], ◌∷◌, Option, Some, None, refl, sym, subst}
 use Rattle.fm_base.specs.declared.arena_id.ArenaId.{ArenaId}
 use Rattle.fm_base.specs.Calls.{Enter, Read, Write, SwapIf, Add, Allocate, Leave, Hold, Unhold, Shut, Fine, Found, Entry, entry_of}
 use Rattle.fm_base.specs.Machine.{allocate_reply}
-use Rattle.fm_base.specs.Finds.{Find, Visits as Visiting}
-use Rattle.fm_pool_facts.specs.declared.step.Step.TheVariants.{Draws, Marks, Checks, Loads, Stores, SwapsIf, Adds, Allocates, Holds, Unholds, Unmarks, Shuts, Visits, Opens}
-use Rattle.fm_pool_facts.specs.Views.{View, limit_of, pass_of}
+use Rattle.fm_base.specs.Finds.{Find, Visits as Visiting, TakesSlot as Taking}
+use Rattle.fm_pool_facts.specs.declared.step.Step.TheVariants.{Draws, Marks, Checks, Loads, Stores, SwapsIf, Adds, Allocates, Holds, Unholds, Backs, Unmarks, Shuts, Visits, TakesSlot, LearnsGeneration, Opens}
+use Rattle.fm_pool_facts.specs.Views.{View, In, limit_of, pass_of}
 use Rattle.fm_pool_facts.specs.Words.{alive_holds, enter_found, inside_found, hold_found, shut_found}
-use Rattle.fm_pool_facts.specs.Holds.{holds_after, released}
+use Rattle.fm_pool_facts.specs.Hands.{nothing, learnt, takes, hand_taken}
+use Rattle.fm_pool_facts.specs.Holds.{grips, with_grips, holds_after, handles_with, released}
+use Rattle.fm_pool_facts.specs.Handles.{giving, given_back, giving_entries}
 use Rattle.fm_pool_facts.specs.Closes.{begun, visit_found, closes_after, visit_entries}
-use Rattle.fm_pool_facts.specs.Steps.{Stepped, number_drawn, draws, note_draw, part, entries, noted, acted, none_noted, where_found, note_of, open_entries, but_first}
-use Rattle.fm_pool_facts.specs.Moves.{LearnsCount, Tells}
+use Rattle.fm_pool_facts.specs.Steps.{Stepped, number_drawn, draws, note_draw, part, entries, noted, acted, none_noted, where_found, note_of, open_entries}
+use Rattle.fm_pool_facts.specs.Moves.{LearnsCount, LearnsSlots, Tells}
 use Rattle.fm_rule.specs.Views.{homed}
 use Rattle.fm_rule.proofs.Allowed.{same_part, stepped}
 
@@ -20,7 +22,25 @@ homed_draws (Some n) x home v = refl
 
 -- what a count tells is the same in every pool
 pub count_learnt : (now v : View) (home : List ℕ) (x : ℕ) → homed home v ≡ now → LearnsCount v x → LearnsCount now x
-count_learnt now v home x is l = subst (λ (y : View). LearnsCount y x) is (record { own = l.own; few = l.few; whole = l.whole })
+count_learnt now v home x is l = subst (λ (y : View). LearnsCount y x) is (record {
+  own = l.own;
+  few = l.few;
+  whole = l.whole;
+  complete = λ h. l.complete (record { first = h.first; others = h.others });
+  later = l.later;
+})
+
+-- and what slot bits tell
+pub slots_learnt : (now v : View) (home : List ℕ) (x : ℕ) → homed home v ≡ now → LearnsSlots v x → LearnsSlots now x
+slots_learnt now v home x is l = subst (λ (y : View). LearnsSlots y x) is (record {
+  unspent = λ w s h b p. l.unspent w s h b (record { arena = p.arena; in_slot = p.in_slot; known = p.known });
+  spent = λ w n s h b. let p = l.spent w n s h b in record { arena = p.arena; in_slot = p.in_slot; known = p.known };
+})
+
+-- an arena that it holds is alive, in every pool
+pub hold_learnt : (now v : View) (home : List ℕ) (a : ArenaId) (x : ℕ) → homed home v ≡ now → (In a (grips a v) → alive_holds a x ≢ None)
+    → In a (grips a now) → alive_holds a x ≢ None
+hold_learnt now v home a x is l = subst (λ (y : View). In a (grips a y) → alive_holds a x ≢ None) is l
 
 module _ (now v w : View) (home home' : List ℕ) (is : homed home v ≡ now) (stays : home' ≡ home) (met : v.met ≡ []) where
   -- the step of the views in the table is one of the views that contracts see
@@ -77,11 +97,11 @@ module _ (now v w : View) (home home' : List ℕ) (is : homed home v ≡ now) (s
       (same_part (Allocates given size align) v x) met t.gives)
 
   pub hold_stepped : (a : ArenaId) (word x : ℕ) → Tells (Holds a word) v x w
-      → Stepped now (homed home' w) (record now { holds = holds_after (x == word) a (hold_found (alive_holds a word)) now.holds })
+      → Stepped now (homed home' w) (with_grips a (holds_after (x == word) a (hold_found (alive_holds a word)) (grips a now)) now)
       (where_found (x == word) (entry_of now.caller (Hold a) (hold_found (alive_holds a word)) ∷ [])) none_noted
   unfolding part entries noted
   hold_stepped a word x t =
-      stepped_as (λ (y : View). record y { holds = holds_after (x == word) a (hold_found (alive_holds a word)) y.holds })
+      stepped_as (λ (y : View). with_grips a (holds_after (x == word) a (hold_found (alive_holds a word)) (grips a y)) y)
       (λ (y : View). where_found (x == word) (entry_of y.caller (Hold a) (hold_found (alive_holds a word)) ∷ [])) (λ y. none_noted)
       (stepped home v (part (Holds a word) v x) w (entries (Holds a word) v x) none_noted (same_part (Holds a word) v x) met t.gives)
 
@@ -91,6 +111,15 @@ module _ (now v w : View) (home home' : List ℕ) (is : homed home v ≡ now) (s
   unhold_stepped a x t =
       stepped_as (λ (y : View). record y { holds = released a y.holds }) (λ (y : View). entry_of y.caller (Unhold a) Fine ∷ []) (λ y. none_noted)
       (stepped home v (part (Unholds a) v x) w (entries (Unholds a) v x) none_noted (same_part (Unholds a) v x) met t.gives)
+
+  pub back_stepped : (a : ArenaId) (word x : ℕ) → Tells (Backs a word) v x w
+      → Stepped now (homed home' w) (given_back a (giving (x == word) (alive_holds a word)) now)
+      (giving_entries a (giving (x == word) (alive_holds a word)) now.caller) none_noted
+  unfolding part entries noted
+  back_stepped a word x t =
+      stepped_as (λ (y : View). given_back a (giving (x == word) (alive_holds a word)) y)
+      (λ (y : View). giving_entries a (giving (x == word) (alive_holds a word)) y.caller) (λ y. none_noted)
+      (stepped home v (part (Backs a word) v x) w (entries (Backs a word) v x) none_noted (same_part (Backs a word) v x) met t.gives)
 
   pub unmark_stepped : (x : ℕ) → Tells Unmarks v x w
       → Stepped now (homed home' w) (record now { inside = None; mark = None }) (acted now.inside now.caller Leave Fine) none_noted
@@ -124,8 +153,22 @@ module _ (now v w : View) (home home' : List ℕ) (is : homed home v ≡ now) (s
       (λ (y : View). visit_entries a (visit_found y.shape a k x) y.caller) (λ (y : View). note_of (Visiting a (pass_of k)) x y)
       (stepped home v (part (Visits a k) v x) w (entries (Visits a k) v x) (noted (Visits a k) v x) (same_part (Visits a k) v x) met t.gives)
 
-  pub open_stepped : (a : ArenaId) (x : ℕ) → Tells (Opens a) v x w
-      → Stepped now (homed home' w) (record now { hand = but_first now.hand }) (open_entries a now.caller) none_noted
+  pub take_stepped : (e bit x : ℕ) → Tells (TakesSlot e bit) v x w
+      → Stepped now (homed home' w) (record now { hand = hand_taken (takes e bit x) bit now.hand }) [] (note_of (Taking e bit) x now)
   unfolding part entries noted
-  open_stepped a x t = stepped_as (λ (y : View). record y { hand = but_first y.hand }) (λ (y : View). open_entries a y.caller) (λ y. none_noted)
+  take_stepped e bit x t = stepped_as (λ (y : View). record y { hand = hand_taken (takes e bit x) bit y.hand }) (λ y. []) (note_of (Taking e bit) x)
+      (stepped home v (part (TakesSlot e bit) v x) w [] (note_of (Taking e bit) x v) (same_part (TakesSlot e bit) v x) met t.gives)
+
+  pub generation_stepped : (s x : ℕ) → Tells (LearnsGeneration s) v x w
+      → Stepped now (homed home' w) (record now { hand = learnt s (x / 2 ^ 32) }) [] none_noted
+  unfolding part entries noted
+  generation_stepped s x t = stepped_as (λ (y : View). record y { hand = learnt s (x / 2 ^ 32) }) (λ y. []) (λ y. none_noted)
+      (stepped home v (part (LearnsGeneration s) v x) w [] none_noted (same_part (LearnsGeneration s) v x) met t.gives)
+
+  pub open_stepped : (a : ArenaId) (x : ℕ) → Tells (Opens a) v x w
+      → Stepped now (homed home' w) (record now { hand = nothing; handles = handles_with a now.handles }) (open_entries a now.caller) none_noted
+  unfolding part entries noted
+  open_stepped a x t =
+      stepped_as (λ (y : View). record y { hand = nothing; handles = handles_with a y.handles })
+      (λ (y : View). open_entries a y.caller) (λ y. none_noted)
       (stepped home v (part (Opens a) v x) w (entries (Opens a) v x) none_noted (same_part (Opens a) v x) met t.gives)

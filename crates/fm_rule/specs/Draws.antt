@@ -1,9 +1,11 @@
 -- What drawing, gathering and looking for every number do to passes.
-use Rattle.std.specs.Prelude.{◌≡◌, ◌≢◌, ℕ, ◌+◌, ◌<◌, ◌==◌, Bool, true, false, List, [], ◌∷◌, ◌++◌, length, All, Option, Some, None}
+use Rattle.std.specs.Prelude.{◌≡◌, ◌≢◌, ℕ, ◌+◌, ◌<◌, ◌≤◌, ◌==◌, Bool, true, false, List, [], ◌∷◌, ◌++◌, length, All, Option, Some, None}
+use Rattle.fm_base.specs.declared.caller.Caller.{Caller}
 use Rattle.fm_base.specs.Calls.{Entry}
 use Rattle.fm_base.specs.Histories.{made_by}
 use Rattle.fm_base.specs.Finds.{Find, Gathered, Draws, is_draw}
-use Rattle.fm_pool_facts.specs.Views.{View, In, IsNew, IsSound, pass_of}
+use Rattle.fm_pool_facts.specs.Views.{View, In, IsNew, IsSound, pass_of, HasFind, HasAllDrawn}
+use Rattle.fm_pool_facts.specs.Hands.{nothing}
 use Rattle.fm_pool_facts.specs.Splits.{view_of, as_gathered}
 use Rattle.fm_rule.specs.Passes.{IsOf}
 use Rattle.fm_rule.specs.declared.pool.Pool.{Pool}
@@ -18,15 +20,18 @@ pub record Asked (old new : View) (draws : List Find) (drawn : Option ℕ) : Typ
   pub alone : old.whole ≡ true → more ≡ []
   pub finds : new.finds ≡ old.finds ++ draws
   pub only_draws : (f : Find) → In f draws → is_draw f.step ≡ true
+  -- the count of drawn numbers never falls: none of these found fewer than a draw before them
+  pub later : (f g : Find) → HasFind old f → is_draw f.step ≡ true → In g draws → f.found ≤ g.found
   pub is : new ≡ record old { seen = new.seen; finds = new.finds; whole = new.whole; drawn = drawn }
 
--- one of the finds drew the number
+-- one of the finds drew the number, and none another
 pub record Drew (n : ℕ) (draws : List Find) : Type 0 where
   pub find : Find
   pub among : In find draws
   pub step : find.step ≡ Draws n
   pub found : find.found ≡ n
   pub drew : find.drew ≡ Some (pass_of n)
+  pub only : (f : Find) (c : Caller) → In f draws → f.drew ≡ Some c → c ≡ pass_of n
 
 -- none of the finds drew one, and one of them found so many, where some were expected
 pub record FoundAll (passes : ℕ) (draws : List Find) : Type 0 where
@@ -77,18 +82,21 @@ pub record Looked (old new : View) (result : Bool) : Type 0 where
   pub find : Find
   pub asked : Asked old new (find ∷ []) None
   pub step : find.step ≡ Draws 0
+  pub none : find.drew ≡ None
   pub is : result ≡ (length old.gathered + 1 == find.found)
   pub whole : new.whole ≡ result
   pub still : old.whole ≡ true → result ≡ true
+  -- a pass that has the first number and each that its finds drew has them all
+  pub complete : HasAllDrawn old → result ≡ true
   pub sound : IsSound new
 
--- the pass is outside, has nothing, and isn't the first one, whose slots can't be given away
+-- the pass is outside, and has nothing
 pub record CanGather (pool : Pool) (p : View) : Type 0 where
   pub of : IsOf pool p
   pub outside : p.inside ≡ None
   pub unmarked : p.mark ≡ None
   pub no_number : p.drawn ≡ None
-  pub later : p.caller.number ≢ 0
+  pub no_slot : p.hand ≡ nothing
   pub no_hold : p.holds ≡ []
   pub no_handle : p.handles ≡ []
   pub no_page : p.pages ≡ []

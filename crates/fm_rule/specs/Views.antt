@@ -1,14 +1,13 @@
 -- Views of the passes and notes of a pool, and what a pass keeps beside its seat.
-use Rattle.std.specs.Prelude.{◌≡◌, ℕ, ◌+◌, true, List, [], ◌∷◌, length, Option, Some}
+use Rattle.std.specs.Prelude.{◌≡◌, ℕ, true, List, [], ◌∷◌, length, Option, Some}
 use Rattle.atomic_table.specs.Seated.{TableId}
 use Rattle.atomic_table.specs.Table.{Me}
 use Rattle.fm_words.specs.declared.shape.Shape.{Shape}
 use Rattle.fm_base.specs.declared.caller.Caller.{Caller}
 use Rattle.fm_base.specs.declared.arena_id.ArenaId.{ArenaId}
 use Rattle.fm_base.specs.Calls.{Entry}
-use Rattle.fm_pool_facts.specs.declared.slot.Slot.{Slot}
 use Rattle.fm_pool_facts.specs.Views.{View, IsSound}
-use Rattle.fm_pool_facts.specs.Splits.{slots_from, first_view}
+use Rattle.fm_pool_facts.specs.Splits.{first_view}
 use Rattle.fm_pool_facts.specs.Facts.{cell_at}
 
 -- numbers that tell a table
@@ -26,20 +25,12 @@ pub record NoteView : Type 0 where
   pub home : List ℕ
   pub seen : List Entry
 
--- the slots of a hand are all from the next one on
-pub record IsRest (hand : List Slot) (next slots : ℕ) : Type 0 where
-  pub left : ℕ
-  pub is : hand ≡ slots_from next left
-  pub all : next + left ≡ slots
-
--- what a pass keeps beside its seat: its caller, the arena that it is inside, where that arena's words begin, the next slot of its hand, and how many
--- callers are gathered into it
-pub record Keeps (c : Caller) (i : Option ArenaId) (from next count : ℕ) (me : Me (Unit {0}) View) : Type 0 where
+-- what a pass keeps beside its seat: its caller, the arena that it is inside, where that arena's words begin, and how many callers are gathered into it
+pub record Keeps (c : Caller) (i : Option ArenaId) (from count : ℕ) (me : Me (Unit {0}) View) : Type 0 where
   pub live : me.0.live ≡ true
   pub caller : c ≡ me.0.caller
   pub inside : i ≡ me.0.inside
   pub cells : (a : ArenaId) → me.0.inside ≡ Some a → from ≡ cell_at me.0.shape a.slot 0
-  pub hand : IsRest me.0.hand next me.0.shape.slots
   pub met : me.0.met ≡ []
   pub counted : count ≡ length me.0.gathered
   pub sound : IsSound me.0

@@ -114,7 +114,6 @@ impl Pool {
             caller: Caller { number, term: 0 },
             inside: None,
             cells_from: 0,
-            next_slot: self.shape.slots,
             gathered: 0,
         }
     }

@@ -18,18 +18,20 @@ mod pass;
 mod pool;
 mod seen;
 mod steps;
+mod taking;
 mod updates;
 mod words;
 
 pub use drawing::step_draw;
 pub use fitting::room;
-pub use holding::{step_hold, step_unhold};
+pub use holding::{step_back, step_hold, step_unhold};
 pub use notes::Note;
 pub use pass::Pass;
 pub use pool::Pool;
 pub use steps::{
     step_check, step_load, step_mark, step_open, step_shut, step_store, step_unmark, step_visit,
 };
+pub use taking::{step_generation, step_take_slot};
 pub use updates::{guess_given, step_add, step_allocate, step_swap_if};
 pub use words::{MOST_HOLDS, alive_holds, mark_of};
 

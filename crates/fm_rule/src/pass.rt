@@ -1,7 +1,6 @@
 use crate::seen::Seen;
 use atomic_table::Seat;
 use fm_base::{ArenaId, Caller};
-use fm_pool_facts::Slot;
 use std::marker::Model;
 
 /// One user of a pool. At most one step of it is under way at a time.
@@ -12,8 +11,6 @@ pub struct Pass {
     pub(crate) inside: Option<ArenaId>,
     /// Where the words begin of the arena that it is inside.
     pub(crate) cells_from: u64,
-    /// The first of the slots in its hand. All after it are there too.
-    pub(crate) next_slot: u32,
     /// How many callers are gathered into it.
     pub(crate) gathered: u32,
 }
@@ -26,13 +23,12 @@ impl Model for Pass {
 
     ghost view = { λ p. homed (numbers_of p.seat.table_id) p.seat.me.0 };
 
-    ghost invariant = { λ p. Keeps p.caller p.inside p.cells_from p.next_slot p.gathered p.seat.me };
+    ghost invariant = { λ p. Keeps p.caller p.inside p.cells_from p.gathered p.seat.me };
 }
 
 impl Pass {
     ghost use Rattle.std.specs.Prelude.{◌≡◌};
     ghost use Rattle.fm_pool_facts.specs.Views.{IsSound};
-    ghost use Rattle.fm_pool_facts.specs.Steps.{first_slot};
 
     /// The caller that it is.
     pub fn caller(&self) -> Caller
@@ -56,21 +52,5 @@ impl Pass {
         ensures sound { IsSound self.now }
     {
         self.inside
-    }
-
-    /// A slot to open an arena in; None exactly where it has none in its hand.
-    pub fn slot(&self, slots: u32) -> Option<Slot>
-        requires { slots ≡ self.now.shape.slots }
-        ensures slot { result ≡ first_slot self.now.hand }
-        ensures sound { IsSound self.now }
-    {
-        if self.next_slot < slots {
-            Some(Slot {
-                slot: self.next_slot,
-                generation: 0,
-            })
-        } else {
-            None
-        }
     }
 }

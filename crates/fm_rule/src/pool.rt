@@ -12,7 +12,7 @@ use crate::pass::Pass;
 use crate::seen::Seen;
 use atomic_table::{Play, Table, TableRule};
 use fm_base::{Caller, Refusal};
-use fm_words::Shape;
+use fm_words::{Shape, ones};
 use std::alloc::Global;
 use std::marker::{Brand, PhantomData};
 
@@ -61,7 +61,7 @@ pub struct Pool {
 }
 
 impl Pool {
-    /// A pool of this shape and its first pass, which has number 0 and every slot in its hand.
+    /// A pool of this shape and its first pass, which has number 0. Every slot can be lent.
     ///
     /// All memory is taken here. Refused: `Memory`.
     pub fn make(alloc: Global, shape: Shape) -> Result<(Pool, Pass), Refusal>
@@ -73,13 +73,13 @@ impl Pool {
     {
         let mut words = vec![in alloc; 0u64; shape.words() as usize]?;
         words[shape.draw_place() as usize] = 1;
+        words[shape.slot_bits_place() as usize] = ones(shape.slots);
         let (table, seat) = Table::of_words(alloc, &words, &shape)?;
         let pass = Pass {
             seat,
             caller: Caller { number: 0, term: 0 },
             inside: None,
             cells_from: 0,
-            next_slot: 0,
             gathered: 0,
         };
         Ok((Pool { table, shape }, pass))
@@ -115,6 +115,11 @@ impl Pool {
         } else {
             0
         }
+    }
+
+    /// A guess at the word of slot bits. It tells nothing.
+    pub fn guess_slots(&self) -> u64 {
+        self.peek(self.shape.slot_bits_place())
     }
 
     /// A load of the word at this place. It tells nothing.

@@ -6,8 +6,10 @@ ghost use Rattle.fm_base.specs.Calls.{entry_of};
 ghost use Rattle.fm_base.specs.Finds.{Visits as Visiting};
 ghost use Rattle.fm_pool_facts.specs.Views.{IsKnown, pass_of};
 ghost use Rattle.fm_pool_facts.specs.Words.{alive_holds, enter_found, inside_found, own_word, shut_found};
+ghost use Rattle.fm_pool_facts.specs.Holds.{handles_with};
 ghost use Rattle.fm_pool_facts.specs.Closes.{begun, visited_of, visit_found, closes_after, visit_entries};
-ghost use Rattle.fm_pool_facts.specs.Steps.{Stepped, CanReach, none_noted, note_of, acted, open_entries, first_slot, but_first};
+ghost use Rattle.fm_pool_facts.specs.Steps.{Stepped, CanReach, none_noted, note_of, acted, open_entries};
+ghost use Rattle.fm_pool_facts.specs.Hands.{nothing, learnt};
 ghost use Rattle.fm_rule.specs.Passes.{IsOf};
 
 use crate::acts::{exchange_as, load_as, store_as};
@@ -116,10 +118,11 @@ pub fn step_visit(pool: &Pool, pass: &mut Pass, a: ArenaId, k: u32) -> u64
     load_as::<Brand>(pool, &mut pass.seat, place, Step::Visits(a, k))
 }
 
-/// Opens an arena of this kind in the first slot of the hand. The slot's words are lent to it at this step.
+/// Opens an arena of this kind in the slot that the pass took. The slot's words are lent to it at this step. The pass has
+/// a handle of it, where it is automatic.
 pub fn step_open(pool: &Pool, pass: &mut Pass, slot: Slot, kind: Kind) -> ArenaId
     requires of { IsOf pool.now pass.old }
-    requires hand { first_slot pass.old.hand ≡ Some slot }
+    requires hand { pass.old.hand ≡ learnt slot.slot slot.generation }
     ensures arena { result ≡ record {
       slot = slot.slot;
       generation = slot.generation;
@@ -127,7 +130,7 @@ pub fn step_open(pool: &Pool, pass: &mut Pass, slot: Slot, kind: Kind) -> ArenaI
       owner = pass.old.caller.number;
       term = pass.old.caller.term;
     } }
-    ensures stepped { Stepped pass.old pass.new (record pass.old { hand = but_first pass.old.hand })
+    ensures stepped { Stepped pass.old pass.new (record pass.old { hand = nothing; handles = handles_with result pass.old.handles })
         (open_entries result pass.old.caller) none_noted }
 {
     let a = ArenaId {
@@ -145,6 +148,5 @@ pub fn step_open(pool: &Pool, pass: &mut Pass, slot: Slot, kind: Kind) -> ArenaI
         alive_word(a, 0),
         Step::Opens(a),
     );
-    pass.next_slot += 1;
     a
 }

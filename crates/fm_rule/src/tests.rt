@@ -59,32 +59,37 @@ fn word_at(pool: &Pool, place: u64) -> Option<u64> {
     }
 }
 
-/// All words are 0 but the count of numbers.
-fn check_words<R: Abort + AllocGlobal>(rt: &R, shape: Shape, words: u64)
+/// All words are 0 but the count of numbers and the slot bits.
+fn check_words<R: Abort + AllocGlobal>(rt: &R, shape: Shape, words: u64, slot_bits: u64)
     requires { IsValid shape }
 {
     let (pool, _) = Pool::make(rt.alloc(), shape).expect(rt, "words");
     for place in 0..words {
-        assert_eq!(rt; word_at(&pool, place), Some(u64::from(place == 1)));
+        let expected = match place {
+            1 => 1,
+            2 => slot_bits,
+            _ => 0,
+        };
+        assert_eq!(rt; word_at(&pool, place), Some(expected));
     }
     assert_eq!(rt; word_at(&pool, words), None);
 }
 
 #[test]
-fn pools_begin_with_zeros_and_one_number(rt: HostRuntime) {
-    check_words(&rt, LEAST, 7);
-    check_words(&rt, LARGER, 42);
+fn pools_begin_with_zeros_one_number_and_slot_bits(rt: HostRuntime) {
+    check_words(&rt, LEAST, 7, 1);
+    check_words(&rt, LARGER, 42, 3);
 }
 
 #[test]
 fn pools_of_the_greatest_shapes_can_be_had(rt: HostRuntime) {
-    check_words(&rt, GREATEST, 16_781_443);
-    check_words(&rt, FARTHEST, 16_781_317);
-    check_words(&rt, WIDEST, 16_781_347);
+    check_words(&rt, GREATEST, 16_781_443, u64::MAX);
+    check_words(&rt, FARTHEST, 16_781_317, 1);
+    check_words(&rt, WIDEST, 16_781_347, 0xffff);
 }
 
 #[test]
-fn the_first_pass_is_outside_with_every_slot(rt: HostRuntime) {
+fn the_first_pass_is_outside(rt: HostRuntime) {
     let (pool, mut pass) = Pool::make(rt.alloc(), LARGER).expect(&rt, "words");
     assert_eq!(rt; pass.number(), 0);
     assert_eq!(rt; pass.inside(), None);

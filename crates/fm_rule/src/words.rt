@@ -1,5 +1,6 @@
 ghost use Rattle.std.specs.Prelude.{◌≡◌, ◌<◌};
 ghost use Rattle.fm_pool_facts.specs.Words as words;
+ghost use Rattle.fm_pool_facts.specs.Handles as handles;
 
 use fm_base::ArenaId;
 use fm_words::{ALIVE, CLOSING, Session, mark_word, session_word};
@@ -76,5 +77,22 @@ pub(crate) fn held_word(a: ArenaId, word: u64) -> u64
     match alive_holds(a, word) {
         Some(holds) if holds < MOST_HOLDS => word + 1,
         _ => word,
+    }
+}
+
+/// The session word that a handle's return leaves where it finds this one: one hold less, or closing where there is none.
+pub(crate) fn back_word(a: ArenaId, word: u64) -> u64
+    requires { a.owner < 4096 }
+    ensures { result ≡ handles.back_word a word }
+{
+    match alive_holds(a, word) {
+        None => word,
+        Some(holds) => {
+            if holds == 0 {
+                closing_word(a)
+            } else {
+                word - 1
+            }
+        }
     }
 }

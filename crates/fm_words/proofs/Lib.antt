@@ -1,3 +1,4 @@
+pub mod Clearing
 pub mod Maps
 pub mod Marks
 pub mod Sessions

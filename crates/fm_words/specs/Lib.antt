@@ -1,3 +1,4 @@
+pub mod Bits
 pub mod Maps
 pub mod Marks
 pub mod Places

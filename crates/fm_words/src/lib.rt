@@ -4,6 +4,7 @@
 //! session of a slot, a count, eight bytes of a page. Places and codings are here and nowhere else; nothing takes memory.
 #![tactic(auto)]
 
+mod bits;
 mod halves;
 mod laws;
 mod map;
@@ -14,6 +15,7 @@ mod shape;
 #[cfg(test)]
 mod tests;
 
+pub use bits::{lowest_bit, ones, without_bit};
 pub use laws::every_word_has_one_place;
 pub use map::{map_of, map_word};
 pub use mark::{mark_of, mark_word};

@@ -1,8 +1,8 @@
 ghost use Rattle.fm_words.specs.Sessions.{IsSession};
 
 use crate::{
-    ALIVE, CLOSING, FREE, Session, Shape, every_word_has_one_place, map_of, map_word, mark_of,
-    mark_word, session_of, session_word,
+    ALIVE, CLOSING, FREE, Session, Shape, every_word_has_one_place, lowest_bit, map_of, map_word,
+    mark_of, mark_word, ones, session_of, session_word, without_bit,
 };
 use std::process::Abort;
 
@@ -256,4 +256,22 @@ fn shapes_beyond_a_limit_are_refused(rt: HostRuntime) {
     ] {
         assert!(rt; !shape.is_valid());
     }
+}
+
+#[test]
+fn bits_are_found_and_taken(rt: HostRuntime) {
+    assert_eq!(rt; (ones(1), ones(5), ones(64)), (1, 31, u64::MAX));
+    let rows = [
+        (0, 64, None),
+        (1, 1, Some(0)),
+        (0b110, 2, Some(1)),
+        (0b100, 2, None),
+        (1 << 63, 64, Some(63)),
+    ];
+    for (word, count, bit) in rows {
+        assert_eq!(rt; lowest_bit(word, count), bit);
+    }
+    assert_eq!(rt; without_bit(0b110, 1), 0b100);
+    assert_eq!(rt; without_bit(0b110, 0), 0b110);
+    assert_eq!(rt; without_bit(u64::MAX, 63), u64::MAX >> 1);
 }

@@ -3,4 +3,4 @@ use Rattle.fm_gate.proofs.Acts.{after_act}
 use Rattle.fm_gate.proofs.acting.load.Goals as goal
 
 pub returns : goal.returns
-returns c = after_act (record { stays = λ a. refl; hand = λ a hand. refl }) c.step_load.ensures c.requires
+returns c = after_act (record { stays = λ a. refl }) c.step_load.ensures c.requires

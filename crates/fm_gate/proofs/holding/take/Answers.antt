@@ -1,24 +1,22 @@
-use Rattle.std.proofs.Common.{◌∙◌, sym, refl}
-use Rattle.fm_gate.proofs.Holds.{takes_begin, takes_go_on, after_closed, after_most, after_taken}
+use Rattle.fm_calls.proofs.Waiting.{waits}
+use Rattle.fm_gate.proofs.Takes.{waited_of, waited_may, takes_on, after_take}
 use Rattle.fm_gate.proofs.holding.take.Goals as goal
 
 pub loop-init : goal.loop-init
-loop-init g c = takes_begin c.requires.visit c.requires.sound
+loop-init g c = waits
+
+pub step_hold-found-requires-clause-of : goal.step_hold-found-requires-clause-of
+step_hold-found-requires-clause-of g c = waited_of c.args.pool.now c.loop.invariant c.requires.of
+
+pub step_hold-found-requires-clause-known : goal.step_hold-found-requires-clause-known
+step_hold-found-requires-clause-known g c = c.loop.invariant.known c.args.a c.requires.known
+
+pub step_hold-found-requires-clause-may : goal.step_hold-found-requires-clause-may
+step_hold-found-requires-clause-may g c = waited_may c.args.a c.loop.invariant c.requires.may
 
 pub loop-preserved : goal.loop-preserved
-loop-preserved g c = takes_go_on _ _ c.loop.invariant c.step_hold-found.ensures c.if-found-word.false
+loop-preserved g c = takes_on c.args.a _ _ c.loop.invariant c.step_hold-found.ensures.stepped c.if-found-word.false
 
-pub returns-in-None-alive_holds : goal.returns-in-None-alive_holds
-returns-in-None-alive_holds g c =
-    after_closed _ _ c.loop.invariant c.step_hold-found.ensures c.if-found-word.true c.requires.by_hand c.requires.may
-    (sym c.alive_holds.ensures ∙ c.in-None-alive_holds.is)
-
-pub returns-then-holds-eq-MOST_HOLDS : goal.returns-then-holds-eq-MOST_HOLDS
-returns-then-holds-eq-MOST_HOLDS g c =
-    after_most _ _ c.loop.invariant c.step_hold-found.ensures c.if-found-word.true c.requires.by_hand c.requires.may _
-    (sym c.alive_holds.ensures ∙ c.in-Some-alive_holds.is) c.if-holds-eq-MOST_HOLDS.true
-
-pub returns-in-Some-alive_holds : goal.returns-in-Some-alive_holds
-returns-in-Some-alive_holds g c =
-    after_taken _ _ c.loop.invariant c.step_hold-found.ensures c.if-found-word.true c.requires.by_hand c.requires.may _ _
-    (sym c.alive_holds.ensures ∙ c.in-Some-alive_holds.is) c.if-holds-eq-MOST_HOLDS.false refl
+pub returns-then-found-word : goal.returns-then-found-word
+returns-then-found-word g c =
+    after_take c.args.a _ _ c.loop.invariant c.step_hold-found.ensures.stepped c.if-found-word.true c.step_hold-found.ensures.alive

@@ -1,5 +1,5 @@
-use Rattle.fm_gate.proofs.Holds.{Taking}
+use Rattle.fm_calls.proofs.Waiting.{Waited}
 use Rattle.fm_gate.proofs.holding.take.Given as goal
 
 abbrev pub invariant-loop : goal.invariant-loop
-invariant-loop g l = Taking l.pool l.fn.pass l.pass l.a
+invariant-loop g l = Waited l.fn.pass l.pass

@@ -1,14 +1,18 @@
-use Rattle.std.proofs.Common.{◌∙◌, sym, ap}
+use Rattle.std.proofs.Common.{sym, subst, Result}
+use Rattle.std.specs.Prelude.{Err}
 use Rattle.fm_base.specs.declared.arena_id.ArenaId.{ArenaId}
-use Rattle.fm_base.specs.Arenas.{owner_of}
+use Rattle.fm_base.specs.declared.refusal.Refusal.{Refusal}
+use Rattle.fm_gate.specs.Learnt.{AfterOpen}
 use Rattle.fm_gate.proofs.Opens.{after_no_slot, after_opened}
 use Rattle.fm_gate.proofs.opening.open_arena.Goals as goal
 
-pub returns-in-None : goal.returns-in-None
-returns-in-None g c = after_no_slot c.requires c.slot.ensures.sound (sym c.slot.ensures.slot ∙ c.in-None.is)
+abbrev err : Refusal → Result ArenaId Refusal
+err r = Err r
 
-pub returns-in-Some : goal.returns-in-Some
-returns-in-Some g c =
-    let id = c.step_open.ensures.arena in
-    after_opened c.step_open.ensures.stepped c.requires c.slot.ensures.sound (sym c.slot.ensures.slot
-    ∙ c.in-Some.is) (ap (λ (a : ArenaId). a.kind) id) (ap owner_of id)
+pub returns-in-Err : goal.returns-in-Err
+returns-in-Err g c =
+    subst (λ (r : Refusal). AfterOpen c.args.pool.now c.args.pass.now c.take_slot.new.pass c.args.kind (err r)) (sym c.in-Err.ensures.no_slot.0)
+    (after_no_slot c.requires c.in-Err.ensures.no_slot.1)
+
+pub returns-in-Ok : goal.returns-in-Ok
+returns-in-Ok g c = after_opened c.in-Ok.ensures.taken c.open_in.ensures c.requires

@@ -16,7 +16,7 @@ exchange_as-requires-clause-may c =
     c.draw_place-place.ensures c.draw_next-next.ensures
 
 pub invariant_of-pass : goal.invariant_of-pass
-invariant_of-pass c = draw_keeps _ _ _ _ _ _ _ _ _ c.pass.invariant c.exchange_as.ensures.slots c.args.expected _ c.exchange_as.ensures.tells
+invariant_of-pass c = draw_keeps _ _ _ _ _ _ _ _ c.pass.invariant c.exchange_as.ensures.slots c.args.expected _ c.exchange_as.ensures.tells
 
 pub returns-clause-stepped : goal.returns-clause-stepped
 returns-clause-stepped c =

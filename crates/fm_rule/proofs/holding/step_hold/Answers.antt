@@ -3,7 +3,7 @@ use Rattle.fm_base.specs.Arenas.{MayUse}
 use Rattle.fm_pool_facts.specs.Views.{View}
 use Rattle.fm_rule.specs.Views.{numbers_of}
 use Rattle.fm_rule.proofs.Knowing.{session_below, knows, fits, owner_below, may_hold}
-use Rattle.fm_rule.proofs.Stepping.{hold_stepped}
+use Rattle.fm_rule.proofs.Stepping.{hold_stepped, hold_learnt}
 use Rattle.fm_rule.proofs.Keeping.{hold_keeps}
 use Rattle.fm_rule.proofs.holding.step_hold.Goals as goal
 
@@ -25,8 +25,11 @@ exchange_as-requires-clause-may c =
     (subst (λ (x : View). MayUse c.args.a x.caller) (sym c.pass.view_is) c.requires.may) c.session_place-place.ensures c.held_word-next.ensures
 
 pub invariant_of-pass : goal.invariant_of-pass
-invariant_of-pass c = hold_keeps _ _ _ _ _ _ _ _ _ c.pass.invariant c.exchange_as.ensures.slots c.args.a c.args.word _ c.exchange_as.ensures.tells
+invariant_of-pass c = hold_keeps _ _ _ _ _ _ _ _ c.pass.invariant c.exchange_as.ensures.slots c.args.a c.args.word _ c.exchange_as.ensures.tells
 
-pub returns : goal.returns
-returns c =
+pub returns-clause-alive : goal.returns-clause-alive
+returns-clause-alive c = hold_learnt _ c.pass.inside.seat.me.0 _ c.args.a _ c.pass.view_is c.exchange_as.ensures.tells.learns
+
+pub returns-clause-stepped : goal.returns-clause-stepped
+returns-clause-stepped c =
     hold_stepped _ _ _ _ _ c.pass.view_is (ap numbers_of c.exchange_as.ensures.table) c.pass.invariant.met c.args.a c.args.word _ c.exchange_as.ensures.tells

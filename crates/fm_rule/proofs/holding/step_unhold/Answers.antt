@@ -20,7 +20,7 @@ subtract_as-requires-clause-may c =
     (subst (λ (x : View). In c.args.a x.holds) (sym c.pass.view_is) c.requires.held) c.requires.by_hand c.session_place-place.ensures
 
 pub invariant_of-pass : goal.invariant_of-pass
-invariant_of-pass c = unhold_keeps _ _ _ _ _ _ _ _ _ c.pass.invariant c.subtract_as.ensures.slots c.args.a _ c.subtract_as.ensures.tells
+invariant_of-pass c = unhold_keeps _ _ _ _ _ _ _ _ c.pass.invariant c.subtract_as.ensures.slots c.args.a _ c.subtract_as.ensures.tells
 
 pub returns : goal.returns
 returns c =

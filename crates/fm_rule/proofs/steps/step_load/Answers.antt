@@ -22,7 +22,7 @@ load_as-requires-clause-may c =
     may_load _ _ c.pass.inside.seat.me.0 c.pass.invariant.live _ c.requires.act.id c.args.word p.inside p.within p.place
 
 pub invariant_of-pass : goal.invariant_of-pass
-invariant_of-pass c = load_keeps _ _ _ _ _ _ _ _ _ c.pass.invariant c.load_as.ensures.slots c.args.word _ c.load_as.ensures.tells
+invariant_of-pass c = load_keeps _ _ _ _ _ _ _ _ c.pass.invariant c.load_as.ensures.slots c.args.word _ c.load_as.ensures.tells
 
 pub returns : goal.returns
 returns c = load_stepped _ _ _ _ _ c.pass.view_is (ap numbers_of c.load_as.ensures.table) c.pass.invariant.met c.args.word _ c.load_as.ensures.tells

@@ -18,7 +18,7 @@ store_as-requires-clause-may c =
     c.requires.of.1 c.requires.outside) c.pass.invariant.caller c.mark_place-place.ensures c.mark_of.ensures
 
 pub invariant_of-pass : goal.invariant_of-pass
-invariant_of-pass c = mark_keeps _ _ _ _ _ _ _ _ _ c.pass.invariant c.store_as.ensures.slots c.args.a _ c.store_as.ensures.tells
+invariant_of-pass c = mark_keeps _ _ _ _ _ _ _ _ c.pass.invariant c.store_as.ensures.slots c.args.a _ c.store_as.ensures.tells
 
 pub returns : goal.returns
 returns c = mark_stepped _ _ _ _ _ c.pass.view_is (ap numbers_of c.store_as.ensures.table) c.pass.invariant.met c.args.a _ c.store_as.ensures.tells

@@ -24,13 +24,13 @@ exchange_as-requires-clause-place c =
 
 pub exchange_as-requires-clause-may : goal.exchange_as-requires-clause-may
 exchange_as-requires-clause-may c =
-    may_shut _ _ c.pass.inside.seat.me.0 c.pass.invariant.live _ c.args.a _ _
-    (knows _ c.pass.inside.seat.me.0 _ _ c.pass.view_is c.requires.of.1 c.args.a c.requires.known)
-    (subst (λ (x : View). MayUse c.args.a x.caller)
-    (sym c.pass.view_is) c.requires.may) c.requires.by_hand.0 c.session_place-place.ensures c.alive_word-alive.ensures c.closing_word-closing.ensures
+    let may = subst (λ (x : View). MayUse c.args.a x.caller) (sym c.pass.view_is) c.requires.may in
+    let known = knows _ c.pass.inside.seat.me.0 _ _ c.pass.view_is c.requires.of.1 c.args.a c.requires.known in
+    may_shut _ _ c.pass.inside.seat.me.0 c.pass.invariant.live _ c.args.a _ _ known may c.requires.by_hand.0 c.requires.by_hand.1
+    c.session_place-place.ensures c.alive_word-alive.ensures c.closing_word-closing.ensures
 
 pub invariant_of-pass : goal.invariant_of-pass
-invariant_of-pass c = shut_keeps _ _ _ _ _ _ _ _ _ c.pass.invariant c.exchange_as.ensures.slots c.args.a _ c.exchange_as.ensures.tells
+invariant_of-pass c = shut_keeps _ _ _ _ _ _ _ _ c.pass.invariant c.exchange_as.ensures.slots c.args.a _ c.exchange_as.ensures.tells
 
 pub returns : goal.returns
 returns c = shut_stepped _ _ _ _ _ c.pass.view_is (ap numbers_of c.exchange_as.ensures.table) c.pass.invariant.met c.args.a _ c.exchange_as.ensures.tells

@@ -22,7 +22,7 @@ store_as-requires-clause-may c =
     may_store _ _ c.pass.inside.seat.me.0 c.pass.invariant.live _ c.requires.act.id c.args.word c.args.v p.inside p.within c.ranges.v.fits p.place
 
 pub invariant_of-pass : goal.invariant_of-pass
-invariant_of-pass c = store_keeps _ _ _ _ _ _ _ _ _ c.pass.invariant c.store_as.ensures.slots c.args.word c.args.v _ c.store_as.ensures.tells
+invariant_of-pass c = store_keeps _ _ _ _ _ _ _ _ c.pass.invariant c.store_as.ensures.slots c.args.word c.args.v _ c.store_as.ensures.tells
 
 pub returns : goal.returns
 returns c = store_stepped _ _ _ _ _ c.pass.view_is (ap numbers_of c.store_as.ensures.table) c.pass.invariant.met c.args.word c.args.v _ c.store_as.ensures.tells

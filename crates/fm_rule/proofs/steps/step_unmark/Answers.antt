@@ -15,7 +15,7 @@ pub store_as-requires-clause-may : goal.store_as-requires-clause-may
 store_as-requires-clause-may c = may_unmark _ _ _ c.pass.invariant.live _ c.pass.inside.caller c.pass.invariant.caller c.mark_place-place.ensures
 
 pub invariant_of-pass : goal.invariant_of-pass
-invariant_of-pass c = unmark_keeps _ _ _ _ _ _ _ _ _ c.pass.invariant c.store_as.ensures.slots _ c.store_as.ensures.tells
+invariant_of-pass c = unmark_keeps _ _ _ _ _ _ _ _ c.pass.invariant c.store_as.ensures.slots _ c.store_as.ensures.tells
 
 pub returns : goal.returns
 returns c = unmark_stepped _ _ _ _ _ c.pass.view_is (ap numbers_of c.store_as.ensures.table) c.pass.invariant.met _ c.store_as.ensures.tells

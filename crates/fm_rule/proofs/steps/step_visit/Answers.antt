@@ -19,7 +19,7 @@ load_as-requires-clause-may c =
     ∙ c.requires.close) (subst (λ (x : Shape). c.args.k < x.passes) c.requires.of.1 c.requires.low) c.mark_place-place.ensures
 
 pub invariant_of-pass : goal.invariant_of-pass
-invariant_of-pass c = visit_keeps _ _ _ _ _ _ _ _ _ c.pass.invariant c.load_as.ensures.slots c.args.a c.args.k _ c.load_as.ensures.tells
+invariant_of-pass c = visit_keeps _ _ _ _ _ _ _ _ c.pass.invariant c.load_as.ensures.slots c.args.a c.args.k _ c.load_as.ensures.tells
 
 pub returns-clause-stepped : goal.returns-clause-stepped
 returns-clause-stepped c =

@@ -22,7 +22,7 @@ add_as-requires-clause-may c =
     may_add _ _ c.pass.inside.seat.me.0 c.pass.invariant.live _ c.requires.act.id c.args.word c.args.n p.inside p.within p.place
 
 pub invariant_of-pass : goal.invariant_of-pass
-invariant_of-pass c = add_keeps _ _ _ _ _ _ _ _ _ c.pass.invariant c.add_as.ensures.slots c.args.word c.args.n _ c.add_as.ensures.tells
+invariant_of-pass c = add_keeps _ _ _ _ _ _ _ _ c.pass.invariant c.add_as.ensures.slots c.args.word c.args.n _ c.add_as.ensures.tells
 
 pub returns : goal.returns
 returns c = add_stepped _ _ _ _ _ c.pass.view_is (ap numbers_of c.add_as.ensures.table) c.pass.invariant.met c.args.word c.args.n _ c.add_as.ensures.tells

@@ -26,7 +26,7 @@ exchange_as-requires-clause-may c =
 
 pub invariant_of-pass : goal.invariant_of-pass
 invariant_of-pass c =
-    allocate_keeps _ _ _ _ _ _ _ _ _ c.pass.invariant c.exchange_as.ensures.slots c.args.given c.args.size c.args.align _ c.exchange_as.ensures.tells
+    allocate_keeps _ _ _ _ _ _ _ _ c.pass.invariant c.exchange_as.ensures.slots c.args.given c.args.size c.args.align _ c.exchange_as.ensures.tells
 
 pub returns : goal.returns
 returns c =

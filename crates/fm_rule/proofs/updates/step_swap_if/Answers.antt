@@ -22,7 +22,7 @@ exchange_as-requires-clause-may c =
     may_swap _ _ c.pass.inside.seat.me.0 c.pass.invariant.live _ c.requires.act.id c.args.word c.args.old c.args.new p.inside p.within c.ranges.new.fits p.place
 
 pub invariant_of-pass : goal.invariant_of-pass
-invariant_of-pass c = swap_keeps _ _ _ _ _ _ _ _ _ c.pass.invariant c.exchange_as.ensures.slots c.args.word c.args.old c.args.new _
+invariant_of-pass c = swap_keeps _ _ _ _ _ _ _ _ c.pass.invariant c.exchange_as.ensures.slots c.args.word c.args.old c.args.new _
     c.exchange_as.ensures.tells
 
 pub returns : goal.returns

@@ -14,7 +14,7 @@ join_seat-requires c = (
   c.other.invariant.empty,
   some_words _ _ c.args.self.now.sized,
   λ s h at ne at'. gather_joins _ _ _ h _ _ _ _ at ne at' c.pass.invariant.live
-      (at_rest _ c.other.inside.seat.me.0 _ c.other.view_is c.other.invariant.live c.other.invariant.met c.other.invariant.sound c.requires.other),
+      (at_rest _ c.other.inside.seat.me.0 _ c.other.view_is c.other.invariant.live c.other.invariant.met c.requires.other),
 )
 
 pub load_as-requires-clause-place : goal.load_as-requires-clause-place
@@ -26,7 +26,7 @@ load_as-requires-clause-may c = may_look _ _ _ ((λ j. (c.join_seat.ensures.2 j)
 pub invariant_of-pass : goal.invariant_of-pass
 invariant_of-pass c =
     gather_keeps c.pass.inside.seat.me.0 c.other.inside.seat.me.0 _ _ _ (λ j. (c.join_seat.ensures.2 j).0) c.pass.invariant.met c.load_as.ensures.tells
-    _ _ _ _ _ _ _ _ c.pass.invariant c.other.invariant.counted (c.load_as.ensures.slots ∙ (λ j. (c.join_seat.ensures.2 j).1))
+    _ _ _ _ _ _ _ c.pass.invariant c.other.invariant.counted (c.load_as.ensures.slots ∙ (λ j. (c.join_seat.ensures.2 j).1))
 
 pub returns : goal.returns
 returns c =

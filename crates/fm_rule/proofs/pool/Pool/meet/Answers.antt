@@ -24,7 +24,7 @@ load_as-requires-clause-may c = may_look _ _ _ ((λ j. (c.join_seat.ensures.2 j)
 
 pub invariant_of-pass : goal.invariant_of-pass
 invariant_of-pass c =
-    meet_keeps _ _ _ _ _ _ c.note.inside.seat.me.0 _ _ _ _ _ c.pass.invariant (λ j. (c.join_seat.ensures.2 j).0) c.load_as.ensures.tells
+    meet_keeps _ _ _ _ _ c.note.inside.seat.me.0 _ _ _ _ _ c.pass.invariant (λ j. (c.join_seat.ensures.2 j).0) c.load_as.ensures.tells
     (c.load_as.ensures.slots ∙ (λ j. (c.join_seat.ensures.2 j).1))
 
 pub returns-clause-stepped : goal.returns-clause-stepped

@@ -1,5 +1,4 @@
 use Rattle.std.proofs.Common.{ap, sym, ◌∙◌, subst, None}
-use Rattle.fm_words.specs.declared.shape.Shape.{Shape}
 use Rattle.fm_pool_facts.specs.Views.{View, IsSound, pass_of}
 use Rattle.fm_pool_steps.proofs.Halving.{draw_splits}
 use Rattle.fm_rule.specs.Views.{Keeps}
@@ -17,14 +16,13 @@ split_seat-seat-requires c = (
 
 pub invariant_of-giver : goal.invariant_of-giver
 invariant_of-giver c =
-    subst (Keeps c.giver.inside.caller c.giver.inside.inside c.giver.inside.cells_from c.giver.inside.next_slot c.giver.inside.gathered)
-    (sym c.split_seat-seat.ensures.2) (left_keeps _ _ _ _ _ _ _ c.giver.invariant)
+    subst (Keeps c.giver.inside.caller c.giver.inside.inside c.giver.inside.cells_from c.giver.inside.gathered)
+    (sym c.split_seat-seat.ensures.2) (left_keeps _ _ _ _ _ _ c.giver.invariant)
 
 pub invariant_of-result : goal.invariant_of-result
 invariant_of-result c =
-    subst (Keeps (pass_of c.args.number) None 0 c.args.self.now.shape.slots 0) (sym c.split_seat-seat.ensures.4)
-    (right_keeps c.args.number _ c.giver.inside.seat.me.0 (ap (λ (x : View). x.drawn) c.giver.view_is ∙ c.requires.drawn)
-    (ap (λ (x : View). x.shape.slots) c.giver.view_is ∙ ap (λ (z : Shape). z.slots) c.requires.of.1) c.giver.invariant.sound)
+    subst (Keeps (pass_of c.args.number) None 0 0) (sym c.split_seat-seat.ensures.4)
+    (right_keeps c.args.number c.giver.inside.seat.me.0 (ap (λ (x : View). x.drawn) c.giver.view_is ∙ c.requires.drawn) c.giver.invariant.sound)
 
 pub returns-clause-sound : goal.returns-clause-sound
 returns-clause-sound c =

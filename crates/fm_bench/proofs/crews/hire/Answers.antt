@@ -1,0 +1,41 @@
+use Rattle.std.proofs.Common.{arith}
+use Rattle.std.specs.Prelude.{◌≡◌, Result, Ok, Err, IfOk, IfErr}
+use Rattle.fm_base.specs.declared.arena_id.ArenaId.{ArenaId}
+use Rattle.fm_base.specs.declared.refusal.Refusal.{Refusal}
+use Rattle.fm_base.specs.declared.refusal.Refusal.TheVariants.{NoPass}
+use Rattle.fm_pool_facts.specs.Views.{View}
+use Rattle.fm_rule.specs.declared.pool.Pool.{Pool}
+use Rattle.fm_rule.specs.Passes.{IsOf}
+use Rattle.fm_rule.specs.Draws.{Drawn, NoneDrawn}
+use Rattle.fm_calls.specs.Kept.{Lasts}
+use Rattle.fm_gate.specs.Crews.{CrewStands, StandsOn}
+use Rattle.fm_bench.specs.Ready.{CanWork, IsOpen}
+use Rattle.fm_bench.proofs.crews.hire.Goals as goal
+
+still_open : (p q : View) (a : ArenaId) → Lasts p q → IsOpen p 8 a → IsOpen q 8 a
+still_open p q a l open_now =
+    let more = l.given a in
+    let given = open_now.given in
+    record { known = l.known a open_now.known; given = omega arith }
+
+-- The giver stands on, whatever the answer.
+giver : CrewStands → (pool : Pool) (p q : View) → IsOf pool p → (r : Result View Refusal) → IfOk r (λ d. Drawn p q d)
+    → IfErr r (λ e. (e ≡ NoPass) × NoneDrawn p q) → StandsOn pool p q
+giver law pool p q of (Ok d) h k = (law.at_draw pool p q d of h).giver
+giver law pool p q of (Err e) h k = law.at_no_pass pool p q k.1
+
+hired : CrewStands → (pool : Pool) (p q : View) (a : ArenaId) → IsOf pool p → IsOpen p 8 a → (r : Result View Refusal) → IfOk r (λ d. Drawn p q d)
+    → IfOk r (λ d. CanWork pool d a)
+hired law pool p q a of open_now (Ok d) h =
+    let s = law.at_draw pool p q d of h in
+    record { outside = s.outside; opened = still_open p d a s.lasts open_now; nothing = s.nothing }
+hired law pool p q a of open_now (Err e) h = tt
+
+pub returns-clause-open : goal.returns-clause-open
+returns-clause-open g c =
+    let stands = giver c.a_crew_stands.ensures c.args.pool.now _ _ c.requires.outside.of c.draw.result c.draw.ensures.drawn c.draw.ensures.no_pass in
+    still_open _ _ c.args.a stands.lasts c.requires.«open»
+
+pub returns-clause-hired : goal.returns-clause-hired
+returns-clause-hired g c =
+    hired c.a_crew_stands.ensures c.args.pool.now _ _ c.args.a c.requires.outside.of c.requires.«open» c.draw.result c.draw.ensures.drawn

@@ -1,0 +1,89 @@
+ghost use Rattle.std.specs.Prelude.{◌≡◌, bit_and};
+ghost use Rattle.fm_gate.specs.Standing.{CanReach};
+
+use crate::gates::{given, made};
+use fm_base::Refusal;
+use fm_gate::{add, enter, leave, patch, swap_if};
+use fm_rule::{Pass, Pool};
+use std::alloc::Global;
+use std::sync::Wait;
+
+/// Adds to a word of an arena that the pass is inside, so often, and answers the words found, joined by exclusive or.
+pub fn adds<R: Wait>(rt: &R, alloc: Global, count: u64) -> Result<u64, Refusal> {
+    let (pool, mut pass) = made(alloc, 1, 8)?;
+    let arena = given(rt, &pool, &mut pass, 8)?;
+    enter(&pool, &mut pass, arena)?;
+    Ok(adding(pool, pass, count))
+}
+
+/// The additions alone, of a pool that nothing else has a name for.
+fn adding(pool: Pool, mut pass: Pass, count: u64) -> u64
+    requires { CanReach pool pass 0 }
+{
+    let mut joined: u64 = 0;
+    for turn in 0..count {
+        joined ^= add(&pool, &mut pass, 0, turn);
+    }
+    leave(&pool, &mut pass);
+    joined
+}
+
+/// Swaps a word of an arena for the next one, so often, and answers the last word.
+pub fn swaps<R: Wait>(rt: &R, alloc: Global, count: u64) -> Result<u64, Refusal> {
+    let (pool, mut pass) = made(alloc, 1, 8)?;
+    let arena = given(rt, &pool, &mut pass, 8)?;
+    enter(&pool, &mut pass, arena)?;
+    Ok(swapping(pool, pass, count))
+}
+
+fn swapping(pool: Pool, mut pass: Pass, count: u64) -> u64
+    requires { CanReach pool pass 0 }
+{
+    let mut word: u64 = 0;
+    for _ in 0..count {
+        let next = word.wrapping_add(3);
+        let found = swap_if(&pool, &mut pass, 0, word, next);
+        word = if found == word { next } else { found };
+    }
+    leave(&pool, &mut pass);
+    word
+}
+
+/// Patches a byte of a word of an arena, so often, and answers the words found, joined by exclusive or.
+pub fn patches<R: Wait>(rt: &R, alloc: Global, count: u64) -> Result<u64, Refusal> {
+    let (pool, mut pass) = made(alloc, 1, 8)?;
+    let arena = given(rt, &pool, &mut pass, 8)?;
+    enter(&pool, &mut pass, arena)?;
+    Ok(patching(rt, pool, pass, count))
+}
+
+fn patching<R: Wait>(rt: &R, pool: Pool, mut pass: Pass, count: u64) -> u64
+    requires { CanReach pool pass 0 }
+{
+    let mut joined: u64 = 0;
+    for turn in 0..count {
+        joined ^= put_byte(rt, &pool, &mut pass, byte_of(turn));
+    }
+    leave(&pool, &mut pass);
+    joined
+}
+
+/// A byte to be put.
+fn byte_of(turn: u64) -> u64
+    ensures { bit_and result 255 ≡ result }
+{
+    match turn % 4 {
+        0 => 0x42,
+        1 => 0x24,
+        2 => 0xff,
+        _ => 0,
+    }
+}
+
+fn put_byte<R: Wait>(rt: &R, pool: &Pool, pass: &mut Pass, byte: u64) -> u64
+    requires reach { CanReach pool.now pass.old 0 }
+    requires byte { bit_and byte 255 ≡ byte }
+    ensures { CanReach pool.now pass.new 0 }
+{
+    patch(rt, pool, pass, 0, 0xff, byte)
+}

@@ -1,0 +1,162 @@
+-- A handle of an automatic arena is given back.
+use Rattle.std.proofs.Common.{◌≡◌, ◌≢◌, ℕ, ◌<◌, ◌==◌, Bool, true, List, [], ◌∷◌, refl, ap, ◌∙◌, subst, arith, Some, None, eq-eqb, ne_eqb}
+use Rattle.fm_base.specs.declared.caller.Caller.{Caller}
+use Rattle.fm_base.specs.declared.arena_id.ArenaId.{ArenaId}
+use Rattle.fm_base.specs.Calls.{Unhold, Shut, End, Fine, Entry, entry_of}
+use Rattle.fm_base.specs.Finds.{Close, Rest}
+use Rattle.fm_pool_facts.specs.Views.{View}
+use Rattle.fm_pool_facts.specs.Words.{alive_holds}
+use Rattle.fm_pool_facts.specs.Holds.{released}
+use Rattle.fm_pool_facts.specs.Handles.{Giving, Missed, Kept, Last, last_if, giving_by, giving, given_back, giving_entries}
+use Rattle.fm_pool_facts.specs.Closes.{close_of, visited_of, dropped}
+use Rattle.fm_pool_facts.specs.Steps.{Stepped, none_noted}
+use Rattle.fm_rule.specs.declared.pool.Pool.{Pool}
+use Rattle.fm_calls.specs.Kept.{Goes, rest_of, HasEnded}
+use Rattle.fm_calls.proofs.Going.{goes_of, goes_then, no_draws, made_by-one, rest_is, hand_is, inside_is, mark_is, known_on, lasts_on}
+use Rattle.fm_calls.proofs.Waiting.{Waited, waits_by, waits_on}
+use Rattle.fm_gate.specs.Standing.{IsOutside}
+use Rattle.fm_gate.proofs.Standing.{stands_outside}
+use Rattle.fm_gate.proofs.Handles.{owner_low}
+use Rattle.fm_close.specs.declared.gave_back.GaveBack.TheVariants as gave
+use Rattle.fm_close.specs.declared.shutting.Shutting.{Shutting}
+use Rattle.fm_close.specs.Does.{begun}
+use Rattle.fm_close.specs.Learnt.{CanGiveBack, AfterBack, AfterSpend, AfterGiveBack, Walked}
+use Rattle.fm_close.proofs.Closes.{visited_of-begun, dropped-begun}
+
+-- ---- the exchanges
+
+-- A step that gives back a handle goes on by its own entry.
+goes_given : {p q : View} (a : ArenaId) (g : Giving) → Stepped p q (given_back a g p) (giving_entries a g p.caller) none_noted
+    → Goes p q (giving_entries a g p.caller)
+goes_given a Missed s = waits_by s
+goes_given {p = p} a Kept s = goes_of s (record {
+  shape = refl;
+  home = refl;
+  caller = refl;
+  gathered = refl;
+  whole = refl;
+  drawn = refl;
+  inside = refl;
+}) (made_by-one p.caller (Unhold a) Fine) no_draws
+goes_given {p = p} a Last s = goes_of s (record {
+  shape = refl;
+  home = refl;
+  caller = refl;
+  gathered = refl;
+  whole = refl;
+  drawn = refl;
+  inside = refl;
+}) (made_by-one p.caller (Shut a) Fine) no_draws
+
+abbrev Exchanges : Bool → View → View → ArenaId → ℕ → Type 0
+Exchanges found p q a word =
+    Stepped p q (given_back a (giving found (alive_holds a word)) p) (giving_entries a (giving found (alive_holds a word)) p.caller) none_noted
+
+module _ {o p q : View} (a : ArenaId) (word found : ℕ) (w : Waited o p) (s : Exchanges (found == word) p q a word) where
+  -- An exchange that found another word leaves the pass as it was.
+  pub backs_on : found ≢ word → Waited o q
+  backs_on n = waits_on w (subst (λ (b : Bool). Exchanges b p q a word) (ne_eqb found word n) s)
+
+  -- One that found the word that it expected gives back a handle.
+  pub after_back : found ≡ word → alive_holds a found ≢ None → AfterBack o q a word
+  after_back e alive =
+      let g : Giving = giving_by (alive_holds a word) in
+      let hit : Exchanges true p q a word = subst (λ (b : Bool). Exchanges b p q a word) (eq-eqb found word e) s in
+      let same : p.caller ≡ o.caller = ap (λ (x : View). x.caller) w.is in
+      record {
+        goes = w.onward q (giving_entries a g o.caller) (subst (λ (c : Caller). Goes p q (giving_entries a g c)) same (goes_given a g hit));
+        rest = rest_is hit ∙ ap (λ (x : View). rest_of (given_back a g x)) w.is;
+        alive = subst (λ (n : ℕ). alive_holds a n ≢ None) e alive;
+        inside = inside_is hit ∙ ap (λ (x : View). x.inside) w.is;
+        mark = mark_is hit ∙ ap (λ (x : View). x.mark) w.is;
+        hand = hand_is hit ∙ ap (λ (x : View). x.hand) w.is;
+      }
+
+-- ---- a handle is spent
+
+module _ {pool : Pool} {p q : View} {a : ArenaId} {word : ℕ} (can : CanGiveBack pool p a) (t : AfterBack p q a word) where
+  -- Its owner has a number.
+  pub owner_after : a.owner < 4096
+  owner_after = owner_low a t.goes.sound (known_on t.goes a can.handle.known)
+
+  out : IsOutside pool q
+  out = stands_outside t.goes can.outside.of can.outside.no_number (t.hand ∙ can.outside.no_slot)
+      (t.inside ∙ can.outside.outside) (t.mark ∙ can.outside.unmarked)
+
+  goes_by : (g : Giving) → giving_by (alive_holds a word) ≡ g → Goes p q (giving_entries a g p.caller)
+  goes_by g e = subst (λ (x : Giving). Goes p q (giving_entries a x p.caller)) e t.goes
+
+  rest_by : (g : Giving) → giving_by (alive_holds a word) ≡ g → rest_of q ≡ rest_of (given_back a g p)
+  rest_by g e = t.rest ∙ ap (λ (x : Giving). rest_of (given_back a x p)) e
+
+  -- Where there were holds, others are left.
+  pub spent_one : (n : ℕ) → alive_holds a word ≡ Some n → 0 < n → AfterSpend pool p q a None
+  spent_one n f h =
+      let e : giving_by (alive_holds a word) ≡ Kept = ap giving_by f ∙ ap last_if (ne_eqb n 0 (λ z. omega arith)) in
+      record {
+        did = record { own = entry_of p.caller (Unhold a) Fine ∷ []; does = refl; goes = goes_by Kept e; rest = rest_by Kept e };
+        walks = tt;
+        outside = out;
+      }
+
+  -- Where there were none, the close has visited no mark.
+  pub spent_last : (n : ℕ) → alive_holds a word ≡ Some n → n ≡ 0 → AfterSpend pool p q a (Some (begun a))
+  spent_last n f z =
+      let e : giving_by (alive_holds a word) ≡ Last = ap giving_by f ∙ ap last_if (eq-eqb n 0 z) in
+      let g = goes_by Last e in
+      let rest = rest_by Last e in
+      record {
+        did = record { own = entry_of p.caller (Shut a) Fine ∷ []; does = (refl, refl); goes = g; rest = rest };
+        walks = record {
+          outside = out;
+          walks = record {
+            unfinished = refl;
+            known = known_on g a can.handle.known;
+            at = ap (λ (r : Rest). visited_of r.closes a) rest ∙ visited_of-begun p.closes a;
+            low = (let n = g.sound.number in omega arith);
+          };
+        };
+        outside = out;
+      }
+
+-- ---- and given back
+
+-- What is learnt where others are left.
+pub after_kept : {pool : Pool} {p q : View} {a : ArenaId} → AfterSpend pool p q a None → AfterGiveBack pool p q a gave.Kept
+after_kept {p = p} {a = a} h =
+    let d = h.did in
+    record {
+      did = record {
+        own = entry_of p.caller (Unhold a) Fine ∷ [];
+        does = refl;
+        goes = subst (λ (es : List Entry). Goes p _ es) d.does d.goes;
+        rest = d.rest;
+      };
+      ended = λ e. absurd (cc);
+      outside = h.outside;
+      lasts = lasts_on d.goes;
+    }
+
+-- What is learnt where all marks were visited after the last one.
+pub after_ended : {pool : Pool} {p q r : View} {a : ArenaId} {s t : Shutting} → AfterSpend pool p q a (Some s) → Walked pool q r s t
+    → AfterGiveBack pool p r a gave.Ended
+after_ended {p = p} {q = q} {r = r} {a = a} {s = s} h w =
+    let arena : s.arena ≡ a = ap (λ (x : Shutting). x.arena) h.did.does.0 in
+    let g : Goes p q (entry_of p.caller (Shut a) Fine ∷ []) = subst (λ (es : List Entry). Goes p q es) h.did.does.1 h.did.goes in
+    let end : Goes q r (entry_of p.caller (End a) Fine ∷ []) = subst (λ (i : ArenaId). Goes q r (entry_of p.caller (End i) Fine ∷ [])) arena
+    (subst (λ (c : Caller). Goes q r (entry_of c (End s.arena) Fine ∷ [])) g.same_caller w.goes) in
+    let closes : q.closes ≡ close_of a 0 ∷ p.closes = ap (λ (x : Rest). x.closes) h.did.rest in
+    let left : dropped s.arena q.closes ≡ p.closes = ap (λ (i : ArenaId). dropped i q.closes) arena ∙ (ap (dropped a) closes ∙ dropped-begun p.closes a) in
+    let all = goes_then g end in
+    record {
+      did = record {
+        own = entry_of p.caller (Shut a) Fine ∷ entry_of p.caller (End a) Fine ∷ [];
+        does = refl;
+        goes = all;
+        rest = w.rest ∙ (ap (λ (x : Rest). record x { closes = dropped s.arena q.closes }) h.did.rest
+            ∙ ap (λ (xs : List Close). record (rest_of p) { closes = xs; handles = released a p.handles }) left);
+      };
+      ended = λ e. subst (λ (i : ArenaId). HasEnded r i) arena w.over;
+      outside = w.swept.outside;
+      lasts = lasts_on all;
+    }

@@ -1,0 +1,5 @@
+use Rattle.fm_calls.proofs.Waiting.{Waited}
+use Rattle.fm_close.proofs.giving.back.Given as goal
+
+abbrev pub invariant-loop : goal.invariant-loop
+invariant-loop g l = Waited l.fn.pass l.pass
