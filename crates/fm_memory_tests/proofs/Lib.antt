@@ -5,3 +5,4 @@ pub mod Going
 pub mod Calling
 pub mod Beside
 pub mod Finding
+pub mod Passing

@@ -1,3 +1,4 @@
 pub mod Double
 pub mod Fence
 pub mod Heard
+pub mod Beside

@@ -3,10 +3,12 @@
 
 mod double;
 mod heard;
+mod interrupted;
 mod others;
 
 pub use double::Double;
 pub use heard::Heard;
+pub use interrupted::Interrupted;
 pub use others::Others;
 
 #[cfg(test)]
@@ -15,6 +17,8 @@ mod body;
 mod exact;
 #[cfg(test)]
 mod handles;
+#[cfg(test)]
+mod pools;
 #[cfg(test)]
 mod segments;
 #[cfg(test)]

@@ -1,0 +1,74 @@
+-- What is told of a pass tells its pool and what it has.
+use Rattle.std.proofs.Common.{◌≡◌, ◌∙◌, ◌++◌, ℕ, List, ap, sym, subst}
+use Rattle.fm_base.specs.declared.arena_id.ArenaId.{ArenaId}
+use Rattle.fm_base.specs.Calls.{Entry}
+use Rattle.fm_base.specs.Finds.{Rest}
+use Rattle.fm_base.specs.View.{Makes}
+use Rattle.fm_base.proofs.Outcomes.{Makes-lasts}
+use Rattle.fm_words.specs.declared.shape.Shape.{Shape}
+use Rattle.fm_pool_facts.specs.Views.{View, In, IsKnown}
+use Rattle.fm_gate.specs.declared.held.Hold.{Hold}
+use Rattle.fm_calls.specs.Kept.{shape_numbers}
+use Rattle.fm_calls.specs.Told.{view_of_pass}
+use Rattle.fm_arena.specs.declared.handle.AutoHandle.{AutoHandle}
+use Rattle.fm_arena.specs.Learnt.{CanUnhold}
+use Rattle.fm_arena.specs.Handles.{HasHandle}
+use Rattle.fm_arena.specs.Lasting.{StaysInItsPool, KeepsItsPool, HoldLasts, HandleLasts}
+
+-- The numbers of a shape tell it.
+shape_is : (y z : Shape) (ns ms : List ℕ) → (shape_numbers y ++ ns) ≡ (shape_numbers z ++ ms) → y ≡ z
+shape_is y z ns ms e =
+    let passes : y.passes ≡ z.passes = cc in
+    let slots : y.slots ≡ z.slots = cc in
+    let pages : y.pages ≡ z.pages = cc in
+    let page_words : y.page_words ≡ z.page_words = cc in
+    let reach : y.reach ≡ z.reach = cc in
+    let generations : y.generations ≡ z.generations = cc in
+    λ i. record {
+      passes = passes i;
+      slots = slots i;
+      pages = pages i;
+      page_words = page_words i;
+      reach = reach i;
+      generations = generations i;
+    }
+
+-- What passes have tells their pool, and what shape it was made in.
+pub stays : StaysInItsPool
+stays p q own m =
+    let home : (shape_numbers q.shape ++ q.home) ≡ (shape_numbers p.shape ++ p.home) = ap (λ (x : Rest). x.home) m.told.rest in
+    record { home = cc; shape = shape_is q.shape p.shape q.home p.home home }
+
+pub keeps : KeepsItsPool
+keeps = record { stays = stays; of = λ pool p q same of. (same.home ∙ of.0, same.shape ∙ of.1) }
+
+-- What was known is known.
+known_after : (p q : View) (own : List Entry) → Makes (view_of_pass p) (view_of_pass q) own → (id : ArenaId) → IsKnown p id → IsKnown q id
+known_after p q own m = (Makes-lasts (view_of_pass p) (view_of_pass q) own m).known
+
+hold_on : (p q : View) (hold : Hold) → ((id : ArenaId) → IsKnown p id → IsKnown q id) → q.holds ≡ p.holds → CanUnhold p hold → CanUnhold q hold
+hold_on p q hold known same can = record {
+  known = known hold.arena can.known;
+  held = subst (λ (hs : List ArenaId). In hold.arena hs) (sym same) can.held;
+  by_hand = can.by_hand;
+}
+
+pub holds : HoldLasts
+holds = record {
+  on = λ p q hold l same can. hold_on p q hold l.known same can;
+  by_memory = λ p q own hold m can. hold_on p q hold (known_after p q own m) (ap (λ (x : Rest). x.holds) m.told.rest) can;
+}
+
+handle_on : (p q : View) (handle : AutoHandle) → ((id : ArenaId) → IsKnown p id → IsKnown q id) → q.handles ≡ p.handles → HasHandle p handle
+    → HasHandle q handle
+handle_on p q handle known same can = record {
+  known = known handle.arena can.known;
+  has = subst (λ (hs : List ArenaId). In handle.arena hs) (sym same) can.has;
+  automatic = can.automatic;
+}
+
+pub handles : HandleLasts
+handles = record {
+  on = λ p q handle l same can. handle_on p q handle l.known same can;
+  by_memory = λ p q own handle m can. handle_on p q handle (known_after p q own m) (ap (λ (x : Rest). x.handles) m.told.rest) can;
+}

@@ -1,0 +1,5 @@
+use Rattle.fm_arena.proofs.Lasting.{handles}
+use Rattle.fm_arena.proofs.laws.a_handle_lasts.Goals as goal
+
+pub returns : goal.returns
+returns c = handles

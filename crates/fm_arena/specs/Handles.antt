@@ -1,0 +1,68 @@
+-- Handles of automatic arenas: what their calls ask for and teach.
+use Rattle.std.specs.Prelude.{◌≡◌, None, Result, Ok, Err, IfOk, IfErr}
+use Rattle.fm_base.specs.declared.arena_id.ArenaId.{ArenaId}
+use Rattle.fm_base.specs.declared.kind.Kind.TheVariants.{Automatic}
+use Rattle.fm_base.specs.declared.refusal.Refusal.{Refusal}
+use Rattle.fm_base.specs.declared.refusal.Refusal.TheVariants.{NoSlot}
+use Rattle.fm_base.specs.Does.{DoesOpen, DoesAgain, DoesGiveBack}
+use Rattle.fm_base.specs.Finds.{FoundNothing, is_slot}
+use Rattle.fm_base.specs.View.{but_loans}
+use Rattle.fm_pool_facts.specs.Views.{View, In, IsKnown}
+use Rattle.fm_pool_facts.specs.Holds.{released}
+use Rattle.fm_calls.specs.Kept.{KeptHandling, HasEnded, Lasts}
+use Rattle.fm_gate.specs.Learnt.{IsNew, handles_opened, handles_again}
+use Rattle.fm_close.specs.Does.{others_left}
+use Rattle.fm_close.specs.declared.gave_back.GaveBack.{GaveBack}
+use Rattle.fm_close.specs.declared.gave_back.GaveBack.TheVariants.{Ended}
+use Rattle.fm_arena.specs.declared.handle.AutoHandle.{AutoHandle}
+
+-- ---- handles by the name of their arena
+
+-- the pass has a handle of the automatic arena
+pub record IsHandled (p : View) (id : ArenaId) : Type 0 where
+  pub known : IsKnown p id
+  pub has : In id p.handles
+  pub automatic : id.kind ≡ Automatic
+
+abbrev pub HasHandle : View → AutoHandle → Type 0
+HasHandle p handle = IsHandled p handle.arena
+
+-- and it is outside
+pub record CanGiveBack (p : View) (handle : AutoHandle) : Type 0 where
+  pub outside : p.inside ≡ None
+  pub has : HasHandle p handle
+
+-- ---- what is learnt
+
+abbrev pub named : Result AutoHandle Refusal → Result ArenaId Refusal
+named (Ok handle) = Ok handle.arena
+named (Err r) = Err r
+
+abbrev pub whether : Result AutoHandle Refusal → Result (Unit {0}) Refusal
+whether (Ok handle) = Ok tt
+whether (Err r) = Err r
+
+-- of `start`: where no slot was free, a step found so
+pub record AfterStart (old new : View) (result : Result AutoHandle Refusal) : Type 0 where
+  pub did : KeptHandling old new (handles_opened Automatic (named result) old.handles)
+      (λ own. DoesOpen old.caller Automatic (named result) (but_loans own))
+  pub is_new : IfOk result (λ handle. IsNew old new handle.arena)
+  pub has : IfOk result (λ handle. HasHandle new handle)
+  pub no_slot : IfErr result (λ r. (r ≡ NoSlot) × FoundNothing is_slot old.finds new.finds)
+  pub outside : new.inside ≡ None
+  pub lasts : Lasts old new
+
+-- of `again`, which leaves the pass where it stands
+pub record AfterAgain (old new : View) (handle : AutoHandle) (result : Result AutoHandle Refusal) : Type 0 where
+  pub did : KeptHandling old new (handles_again handle.arena (whether result) old.handles) (DoesAgain old.caller handle.arena (whether result))
+  pub same : IfOk result (λ other. other.arena ≡ handle.arena)
+  pub has : HasHandle new handle
+  pub inside : new.inside ≡ old.inside
+  pub lasts : Lasts old new
+
+-- of `give_back`
+pub record AfterGiveBack (old new : View) (id : ArenaId) (result : GaveBack) : Type 0 where
+  pub did : KeptHandling old new (released id old.handles) (λ own. DoesGiveBack old.caller id (others_left result) (but_loans own))
+  pub ended : result ≡ Ended → HasEnded new id
+  pub outside : new.inside ≡ None
+  pub lasts : Lasts old new

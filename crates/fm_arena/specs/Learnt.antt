@@ -1,0 +1,64 @@
+-- What the calls of a `Shared` beside those of a memory ask for and teach: one record each.
+use Rattle.std.specs.Prelude.{◌≡◌, ◌≢◌, ◌≤◌, Bool, true, List, [], None, Result, Err, IfOk}
+use Rattle.fm_base.specs.declared.arena_id.ArenaId.{ArenaId}
+use Rattle.fm_base.specs.declared.kind.Kind.TheVariants.{Automatic}
+use Rattle.fm_base.specs.declared.refusal.Refusal.{Refusal}
+use Rattle.fm_base.specs.declared.refusal.Refusal.TheVariants.{WrongThread, Unsupported}
+use Rattle.fm_base.specs.Arenas.{has_arena, arena_of}
+use Rattle.fm_base.specs.Calls.{Entry}
+use Rattle.fm_base.specs.Histories.{state_after}
+use Rattle.fm_base.specs.Does.{DoesIsAlive, DoesUnhold}
+use Rattle.fm_pool_facts.specs.Views.{View, In, IsKnown, given_of, limit_of}
+use Rattle.fm_pool_facts.specs.Holds.{released}
+use Rattle.fm_rule.specs.declared.pool.Pool.{Pool}
+use Rattle.fm_rule.specs.Passes.{IsOf, GoesOnFrom}
+use Rattle.fm_calls.specs.Kept.{Kept, KeptHolding, Lasts}
+use Rattle.fm_gate.specs.declared.held.Hold.{Hold}
+use Rattle.fm_gate.specs.Standing.{IsOutside}
+use Rattle.fm_gate.specs.Learnt.{DoesTake, holds_taken}
+
+-- of `into_pass`: the pass is the one that the memory told of, and outside in the pool that it is of
+pub record AfterIntoPass (shared pass : View) : Type 0 where
+  pub same : pass ≡ shared
+  pub outside : (pool : Pool) → IsOf pool shared → IsOutside pool pass
+
+-- of `meet`: the history of the note is a beginning of the pass's, which knows what the other knew
+pub record AfterMeet (old new : View) (seen : List Entry) : Type 0 where
+  pub did : Kept old new (λ own. own ≡ [])
+  pub met : GoesOnFrom seen new.seen
+  pub known : (id : ArenaId) → has_arena (state_after (limit_of new.shape) [] seen) id ≡ true → IsKnown new id
+  pub given : (id : ArenaId) → (arena_of (state_after (limit_of new.shape) [] seen) id).given ≤ given_of new id
+  pub inside : new.inside ≡ old.inside
+  pub lasts : Lasts old new
+
+-- of `is_alive`
+pub record AfterIsAlive (old new : View) (id : ArenaId) (result : Result Bool Refusal) : Type 0 where
+  pub did : Kept old new (DoesIsAlive old.caller id result)
+  pub outside : new.inside ≡ None
+  -- then the pass is as it was
+  pub wrong_thread : result ≡ Err WrongThread → new ≡ old
+  pub lasts : Lasts old new
+
+-- ---- holds
+
+-- the pass took the hold, and may stand anywhere
+pub record CanUnhold (p : View) (hold : Hold) : Type 0 where
+  pub known : IsKnown p hold.arena
+  pub held : In hold.arena p.holds
+  pub by_hand : hold.arena.kind ≢ Automatic
+
+-- of `hold`
+pub record AfterHold (old new : View) (id : ArenaId) (result : Result Hold Refusal) : Type 0 where
+  pub did : KeptHolding old new (holds_taken id result old.holds) (DoesTake old.caller id result)
+  pub held : IfOk result (λ hold. CanUnhold new hold)
+  -- then the pass is as it was
+  pub unsupported : result ≡ Err Unsupported → new ≡ old
+  pub wrong_thread : result ≡ Err WrongThread → new ≡ old
+  pub outside : new.inside ≡ None
+  pub lasts : Lasts old new
+
+-- of `unhold`, which leaves the pass where it stands
+pub record AfterUnhold (old new : View) (id : ArenaId) : Type 0 where
+  pub did : KeptHolding old new (released id old.holds) (DoesUnhold old.caller id)
+  pub inside : new.inside ≡ old.inside
+  pub lasts : Lasts old new

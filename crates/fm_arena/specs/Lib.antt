@@ -1,0 +1,5 @@
+pub mod Shares
+pub mod Learnt
+pub mod Lasting
+pub mod Arenas
+pub mod Handles

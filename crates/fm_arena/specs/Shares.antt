@@ -1,0 +1,22 @@
+-- What holds of a pass that a `Shared` has, and what its memory may answer.
+use Rattle.std.specs.Prelude.{◌≡◌, true, false, None}
+use Rattle.fm_base.specs.Outcomes.{Nature}
+use Rattle.fm_pool_facts.specs.Views.{View}
+use Rattle.fm_pool_facts.specs.Hands.{nothing}
+use Rattle.fm_rule.specs.declared.pool.Pool.{Pool}
+use Rattle.fm_rule.specs.Passes.{IsOf}
+
+-- Outside the pass publishes no mark, and it has no number and no slot in its hand
+pub record IsQuiet (p : View) : Type 0 where
+  pub unmarked : p.inside ≡ None → p.mark ≡ None
+  pub no_number : p.drawn ≡ None
+  pub no_slot : p.hand ≡ nothing
+
+-- a quiet pass of the pool
+pub record IsHeld (pool : Pool) (p : View) : Type 0 where
+  pub of : IsOf pool p
+  pub quiet : IsQuiet p
+
+-- others may exist; no call takes memory, and an arena has all its words from the first
+abbrev pub nature_of_shared : Nature
+nature_of_shared = record { alone = false; memory = false; no_slot = true; pool_full = false }

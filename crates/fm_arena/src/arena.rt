@@ -1,0 +1,70 @@
+ghost use Rattle.fm_base.specs.Learnt.{CanOpen, CanVisit, AfterOpen, AfterClose};
+ghost use Rattle.fm_arena.specs.Arenas.{started, AfterAllocate};
+
+use fm_base::{ArenaId, Kind, Memory, Refusal};
+use fm_segment::Segment;
+use std::sync::Wait;
+
+/// An arena of a memory (`Arena`, JEP 454, Java SE 22): segments are allocated from it, and end with it.
+///
+/// `Arena.ofShared()` is `start` with `Kind::Shared`, `Arena.ofConfined()` with `Kind::Confined`. `Arena.global()` is
+/// `start` with `Kind::Global`: it can't be closed, but each call opens an arena of its own, where Java has only one.
+/// `Arena.ofAuto()` is `AutoHandle::start`.
+///
+/// It is the arena's name and no more: a copy names the same arena, and is used by other callers of the memory as this
+/// one is.
+#[derive(Clone, Copy, Debug, PartialEq, Eq)]
+pub struct Arena {
+    id: ArenaId,
+}
+
+impl Arena {
+    ghost use Rattle.std.specs.Prelude.{◌≡◌};
+
+    /// Opens an arena of this kind.
+    ///
+    /// Refused: `NoSlot`, or `Memory`. A refused call opens nothing.
+    pub fn start<R: Wait, M: Memory>(rt: &R, m: &mut M, kind: Kind) -> Result<Arena, Refusal>
+        requires { CanOpen (M.view m.old) kind }
+        ensures { AfterOpen M.nature (M.view m.old) (M.view m.new) kind (started result) }
+    {
+        let id = m.open_arena(rt, kind)?;
+        Ok(Arena { id })
+    }
+
+    /// A segment of `size` bytes that begins at a multiple of `align`. Its bytes were never given before
+    /// (`Arena.allocate`).
+    ///
+    /// Refused, in this order: `BadAlignment`, `WrongThread`, `Closed`, `NoRoom`, `PoolFull`, `Memory`. A refused call
+    /// gives nothing.
+    pub fn allocate<R: Wait, M: Memory>(
+        &self,
+        rt: &R,
+        m: &mut M,
+        size: u64,
+        align: u64,
+    ) -> Result<Segment, Refusal>
+        requires { CanVisit (M.view m.old) self.now.id }
+        ensures { AfterAllocate M.nature (M.view m.old) (M.view m.new) self.now.id size align result }
+    {
+        let first = m.allocate(rt, self.id, size, align)?;
+        Ok(Segment::of(self.id, first, size))
+    }
+
+    /// Ends the arena, once nobody is under way in it: no segment of it can be accessed afterwards (`Arena.close`).
+    ///
+    /// Refused, in this order: `CannotClose`, `WrongThread`, `Closed`, `Held`. A refused call changes nothing.
+    pub fn close<R: Wait, M: Memory>(&self, rt: &R, m: &mut M) -> Result<(), Refusal>
+        requires { CanVisit (M.view m.old) self.now.id }
+        ensures { AfterClose (M.view m.old) (M.view m.new) self.now.id result }
+    {
+        m.close(rt, self.id)
+    }
+
+    /// Its name.
+    pub fn id(&self) -> ArenaId
+        ensures { result ≡ self.now.id }
+    {
+        self.id
+    }
+}

@@ -1,0 +1,163 @@
+ghost use Rattle.std.specs.Prelude.{◌≡◌, None};
+
+use fm_base::{ArenaId, Caller, Kind, Memory, Refusal};
+use fm_close::close;
+use fm_gate::{
+    Hold, add, allocate, enter, hold, is_alive, leave, load, open_arena, patch, store, swap_if,
+    unhold,
+};
+use fm_rule::{Note, Pass, Pool};
+use std::marker::Model;
+use std::sync::Wait;
+
+/// The arenas of a pool, as one pass of it uses them.
+///
+/// It is a `Memory`: segments, handles and queries, which are written over that trait alone, run on it unchanged. Others
+/// with passes of their own may use the same arenas, and close them. It tells the history that its pass has seen, what
+/// the pass found and what it has. It can be moved to another thread, and no two threads use it at once.
+#[derive(Drop)]
+pub struct Shared<'a> {
+    pub(crate) pool: &'a Pool,
+    pub(crate) pass: Pass,
+}
+
+impl<'a> Model for Shared<'a> {
+    ghost use Rattle.fm_pool_facts.specs.Views.{View};
+    ghost use Rattle.fm_arena.specs.Shares.{IsHeld};
+
+    ghost Value = { View };
+
+    ghost view = { λ m. m.pass };
+
+    ghost invariant = { λ m. IsHeld m.pool.now m.pass };
+}
+
+impl<'a> Shared<'a> {
+    ghost use Rattle.fm_gate.specs.Standing.{IsOutside};
+    ghost use Rattle.fm_base.specs.Learnt.{CanVisit};
+    ghost use Rattle.fm_calls.specs.Told.{view_of_pass};
+    ghost use Rattle.fm_arena.specs.Learnt.{AfterHold, AfterIntoPass, AfterIsAlive, AfterMeet, AfterUnhold, CanUnhold};
+
+    /// The memory of a pass that is in no arena.
+    pub fn new(pool: &'a Pool, pass: Pass) -> Shared<'a>
+        requires { IsOutside pool.now pass }
+        ensures { result ≡ pass }
+    {
+        Shared { pool, pass }
+    }
+
+    /// The pass again, to draw another from it or to be gathered. It is in no arena.
+    pub fn into_pass(self) -> Pass
+        requires { self.inside ≡ None }
+        ensures { AfterIntoPass self.entry result }
+    {
+        let Shared { pool: _, pass } = self;
+        pass
+    }
+
+    /// What the pass has seen, to be met by another one of the pool.
+    pub fn note(&mut self) -> Note
+        ensures pass { self.new ≡ self.old }
+        ensures note { result ≡ record { home = self.old.home; seen = self.old.seen } }
+    {
+        self.pool.note(&mut self.pass)
+    }
+
+    /// After it the pass has seen what both had seen: it knows the arenas that the other knew.
+    pub fn meet(&mut self, note: Note)
+        requires { note.home ≡ self.old.home }
+        ensures { AfterMeet self.old self.new note.seen }
+    {
+        self.pool.meet(&mut self.pass, note);
+    }
+
+    /// Whether the arena is alive: a visit to it without acts.
+    ///
+    /// Refused: `WrongThread`.
+    pub fn is_alive(&mut self, a: ArenaId) -> Result<bool, Refusal>
+        requires { CanVisit (view_of_pass self.old) a }
+        ensures { AfterIsAlive self.old self.new a result }
+    {
+        is_alive(self.pool, &mut self.pass, a)
+    }
+
+    /// Holds the arena: until the hold is spent nobody can shut it.
+    ///
+    /// Refused, in this order: `Unsupported`, `WrongThread`, `Closed`, `TooManyHolds`. A refused call changes nothing.
+    pub fn hold<R: Wait>(&mut self, rt: &R, a: ArenaId) -> Result<Hold, Refusal>
+        requires { CanVisit (view_of_pass self.old) a }
+        ensures { AfterHold self.old self.new a result }
+    {
+        hold(rt, self.pool, &mut self.pass, a)
+    }
+
+    /// Spends a hold.
+    pub fn unhold(&mut self, hold: Hold)
+        requires { CanUnhold self.old hold }
+        ensures { AfterUnhold self.old self.new hold.arena }
+    {
+        unhold(self.pool, &mut self.pass, hold);
+    }
+}
+
+impl<'a> Memory for Shared<'a> {
+    ghost use Rattle.std.specs.Prelude.{refl};
+    ghost use Rattle.fm_calls.specs.Told.{view_of_pass};
+    ghost use Rattle.fm_arena.specs.Shares.{nature_of_shared};
+
+    ghost nature = { nature_of_shared };
+
+    ghost view = { view_of_pass };
+
+    fn caller(&self) -> Caller {
+        self.pass.caller()
+    }
+
+    fn enter(&mut self, a: ArenaId) -> Result<(), Refusal> {
+        enter(self.pool, &mut self.pass, a)
+    }
+
+    fn load(&mut self, word: u64) -> u64 {
+        load(self.pool, &mut self.pass, word)
+    }
+
+    fn store(&mut self, word: u64, v: u64) {
+        store(self.pool, &mut self.pass, word, v);
+    }
+
+    fn swap_if(&mut self, word: u64, old: u64, new: u64) -> u64 {
+        swap_if(self.pool, &mut self.pass, word, old, new)
+    }
+
+    fn add(&mut self, word: u64, n: u64) -> u64 {
+        add(self.pool, &mut self.pass, word, n)
+    }
+
+    fn patch<R: Wait>(&mut self, rt: &R, word: u64, mask: u64, bits: u64) -> u64 {
+        patch(rt, self.pool, &mut self.pass, word, mask, bits)
+    }
+
+    fn leave(&mut self) {
+        leave(self.pool, &mut self.pass);
+    }
+
+    fn open_arena<R: Wait>(&mut self, rt: &R, kind: Kind) -> Result<ArenaId, Refusal> {
+        open_arena(rt, self.pool, &mut self.pass, kind)
+    }
+
+    fn allocate<R: Wait>(
+        &mut self,
+        rt: &R,
+        a: ArenaId,
+        size: u64,
+        align: u64,
+    ) -> Result<u64, Refusal> {
+        allocate(rt, self.pool, &mut self.pass, a, size, align)
+    }
+
+    fn close<R: Wait>(&mut self, rt: &R, a: ArenaId) -> Result<(), Refusal> {
+        close(rt, self.pool, &mut self.pass, a)
+    }
+
+    ghost alone_is = { λ m. refl };
+}
