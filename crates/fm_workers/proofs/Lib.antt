@@ -1,0 +1,11 @@
+pub mod Asked
+pub mod Drawing
+pub mod Gathering
+pub mod Queried
+pub mod Runs
+pub mod Sharing
+pub mod Sparing
+pub mod Totals
+pub mod Wholes
+pub mod Workers
+pub mod Working

@@ -1,0 +1,100 @@
+-- What is answered where nobody else writes.
+use Rattle.std.proofs.Common.{◌≡◌, ℕ, Bool, true, false, List, [], ◌∷◌, refl, sym, ap, ◌∙◌, subst, inl, inr, ⊎_elim, eq-eqb}
+use Rattle.std.specs.Prelude.{◌⊎◌, cond}
+use Rattle.std.specs.List.{AllByRecursion, flat_map}
+use Rattle.fm_lists.specs.Among.{IsAmong}
+use Rattle.fm_lists.proofs.Each.{all_both}
+use Rattle.fm_base.specs.declared.caller.Caller.{Caller}
+use Rattle.fm_base.specs.declared.arena_id.ArenaId.{ArenaId}
+use Rattle.fm_base.specs.Arenas.{are_one}
+use Rattle.fm_base.specs.Calls.{Entry}
+use Rattle.fm_base.specs.Histories.{made_by}
+use Rattle.fm_base.specs.Untouched.{Spares}
+use Rattle.fm_base.specs.Visits.{refused_visit}
+use Rattle.fm_pool_facts.specs.Views.{View, IsSound, limit_of, state_in}
+use Rattle.fm_calls.proofs.Going.{reached_by}
+use Rattle.fm_segment.specs.Region.{Region}
+use Rattle.fm_query.specs.Plan.{Plan, IsPlan}
+use Rattle.fm_records.specs.declared.found.Found.{Found}
+use Rattle.fm_records.specs.Reads.{read_visit}
+use Rattle.fm_records.specs.Shares.{Share, AreSpared, IsSpared}
+use Rattle.fm_records.proofs.Sharing.{shares_answer, shares_read}
+use Rattle.fm_workers.specs.Crew.{CrewGathered, callers}
+use Rattle.fm_workers.specs.Query.{OnlyReads, reads, stops, AnsweredBy, NobodyElseWrites, IsAnswer}
+use Rattle.fm_workers.proofs.Working.{nobody}
+
+visits_spare : (c : Caller) (id a : ArenaId) (place : ℕ) (rs : List (ℕ × ℕ)) → AllByRecursion (λ e. Spares id place e.call) (flat_map (read_visit c a) rs)
+visits_spare c id a place [] = tt
+visits_spare c id a place (r ∷ rs) = (tt, (tt, (tt, visits_spare c id a place rs)))
+
+reads_spare : (s : Region) (c : Caller) (own : List Entry) (place : ℕ) → OnlyReads s c own → AllByRecursion (λ e. Spares s.arena place e.call) own
+reads_spare s c own place (reads h) =
+    subst (λ (es : List Entry). AllByRecursion (λ e. Spares s.arena place e.call) es) (sym h.visits) (visits_spare c s.arena s.arena place h.reads)
+reads_spare s c own place (stops h) =
+    let before = subst (λ (es : List Entry). AllByRecursion (λ e. Spares s.arena place e.call) es) (sym h.reads.visits)
+    (visits_spare c s.arena s.arena place h.reads.reads) in
+    subst (λ (es : List Entry). AllByRecursion (λ e. Spares s.arena place e.call) es) (sym h.stops)
+    (all_both (λ e. Spares s.arena place e.call) h.before (refused_visit c s.arena) before (tt, tt))
+
+are_same : (c d : Caller) → c ≡ d → are_one c d ≡ true
+are_same c d e = rw (eq-eqb c.number d.number (ap (λ (x : Caller). x.number) e), eq-eqb c.term d.term (ap (λ (x : Caller). x.term) e)) refl
+
+module _ (P : Entry → Type 0) where
+  made_first : (c : Caller) (e : Entry) (es : List Entry) → e.caller ≡ c → AllByRecursion P (made_by c (e ∷ es)) → P e
+  made_first c e es is h =
+      let k : AllByRecursion P (cond true (e ∷ made_by c es) (made_by c es)) =
+      subst (λ (b : Bool). AllByRecursion P (cond b (e ∷ made_by c es) (made_by c es))) (are_same e.caller c is) h in
+      k.0
+
+  made_later : (c : Caller) (e : Entry) (es : List Entry) → AllByRecursion P (made_by c (e ∷ es)) → AllByRecursion P (made_by c es)
+  made_later c e es h =
+      let Q : Bool → Type 0 = λ b. AllByRecursion P (cond b (e ∷ made_by c es) (made_by c es)) → AllByRecursion P (made_by c es) in
+      let go : (b : Bool) → Q b = λ b. elim b as Q [ true ↦ (λ k. k.1) | false ↦ (λ k. k) ] in
+      go (are_one e.caller c) h
+
+  first_of : (cs : List Caller) (e : Entry) (es : List Entry) → IsAmong e.caller cs → AllByRecursion (λ c. AllByRecursion P (made_by c (e ∷ es))) cs → P e
+  first_of [] e es i h = absurd i
+  first_of (c ∷ cs) e es (inl is) h = made_first c e es is h.0
+  first_of (c ∷ cs) e es (inr i) h = first_of cs e es i h.1
+
+  all_later : (cs : List Caller) (e : Entry) (es : List Entry) → AllByRecursion (λ c. AllByRecursion P (made_by c (e ∷ es))) cs
+      → AllByRecursion (λ c. AllByRecursion P (made_by c es)) cs
+  all_later [] e es h = tt
+  all_later (c ∷ cs) e es h = (made_later c e es h.0, all_later cs e es h.1)
+
+  -- What holds of the others' entries and of each caller's holds of all.
+  by_either : (cs : List Caller) (es : List Entry) → AllByRecursion (λ e. IsAmong e.caller cs ⊎ P e) es
+      → AllByRecursion (λ c. AllByRecursion P (made_by c es)) cs → AllByRecursion P es
+  by_either cs [] h k = tt
+  by_either cs (e ∷ es) h k =
+      (⊎_elim (λ (i : IsAmong e.caller cs). first_of cs e es i k) (λ (x : P e). x) h.0, by_either cs es h.1 (all_later cs e es k))
+
+each_spares : (s : Region) (place : ℕ) (more : List Entry) (cs : List Caller) → AllByRecursion (λ c. OnlyReads s c (made_by c more)) cs
+    → AllByRecursion (λ c. AllByRecursion (λ e. Spares s.arena place e.call) (made_by c more)) cs
+each_spares s place more [] h = tt
+each_spares s place more (c ∷ cs) h = (reads_spare s c (made_by c more) place h.0, each_spares s place more cs h.1)
+
+spared_by : (s : Region) (cs : List Caller) (more : List Entry) → NobodyElseWrites s cs more → AllByRecursion (λ c. OnlyReads s c (made_by c more)) cs
+    → AreSpared s more
+spared_by s cs more nobody visits place from below =
+    by_either (λ e. Spares s.arena place e.call) cs more (nobody place from below) (each_spares s place more cs visits)
+
+share_caller : (cs : List Caller) (ws : List Share) (w : Share) → IsAmong w ws → AllByRecursion (λ x. IsAmong x.caller cs) ws → IsAmong w.caller cs
+share_caller cs [] w i h = absurd i
+share_caller cs (x ∷ ws) w (inl is) h = subst (λ (y : Share). IsAmong y.caller cs) (sym is) h.0
+share_caller cs (x ∷ ws) w (inr i) h = share_caller cs ws w i h.1
+
+pub is_answer : {old new : View} {p : Plan} {s : Region} {a : List Found} (c : CrewGathered old new) → IsPlan p → IsSound new
+    → AnsweredBy p s (callers c.crew) c.more a → AllByRecursion (λ x. OnlyReads s x (made_by x c.more)) (callers c.crew)
+    → NobodyElseWrites s (callers c.crew) c.more → IsAnswer old p s (callers c.crew) c.more a
+is_answer {old = old} {new = new} {p = p} {s = s} c plan sound by visits nobody =
+    let n : ℕ = limit_of old.shape in
+    let r = reached_by {p = old} {q = new} c.more c.seen (ap (λ (v : View). v.shape) c.is) sound in
+    let spared : IsSpared (limit_of old.shape) (state_in old) c.more s =
+    record { legal = r.legal; spared = spared_by s (callers c.crew) c.more nobody visits } in
+    record {
+      value = by.joined ∙ shares_answer (limit_of old.shape) (state_in old) c.more p s by.shares plan spared by.cut by.done;
+      read = λ index path is word asked of.
+          let x = shares_read (limit_of old.shape) (state_in old) c.more p s by.shares index path is word plan spared by.cut by.done asked of in
+          record { caller = x.share.caller; among = share_caller (callers c.crew) by.shares x.share x.among by.callers; read = x.read };
+    }

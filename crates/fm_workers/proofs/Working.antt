@@ -1,0 +1,224 @@
+-- What a crew has done, from the first draw to the last look.
+use Rattle.std.proofs.Common.{inl, Some, ◌≡◌, ℕ, ◌+◌, ◌<◌, List, [], ◌∷◌, ◌++◌, length, refl, ap, sym, ◌∙◌, subst, arith, append_assoc, ⊎_elim, All, get_or, None, Ok, Err, Bool, length-append, true, ◌==◌, ◌≤◌}
+use Rattle.std.specs.Prelude.{slice_index_or}
+use Rattle.std.specs.List.{AllByRecursion, AllZip}
+use Rattle.std.proofs.lemmas.List.{append-nil}
+use Rattle.std.proofs.lemmas.List.Elements.{length_all_zip}
+use Rattle.fm_lists.specs.Among.{IsAmong}
+use Rattle.fm_base.specs.declared.caller.Caller.{Caller}
+use Rattle.fm_base.specs.declared.refusal.Refusal.{Refusal}
+use Rattle.fm_base.specs.declared.refusal.Refusal.TheVariants.{Memory, NoPass}
+use Rattle.fm_base.specs.Calls.{Entry}
+use Rattle.fm_base.specs.Histories.{made_by}
+use Rattle.fm_base.specs.Finds.{Find, Gathered, is_draw}
+use Rattle.fm_pool_facts.specs.Views.{View, In}
+use Rattle.fm_pool_facts.specs.Splits.{as_gathered}
+use Rattle.fm_pool_facts.proofs.Keeping.{in_append, in_left, in_right}
+use Rattle.fm_rule.specs.Draws.{Looked}
+use Rattle.fm_pool_steps.proofs.Reading.{eqb_true}
+use Rattle.fm_calls.specs.Kept.{Lasts}
+use Rattle.fm_calls.proofs.Going.{reached_by, lasts_by}
+use Rattle.fm_workers.specs.declared.worker.Worker.{Worker}
+use Rattle.fm_workers.specs.Crew.{IsFresh, IsWhole, FoundAllDrawn, CrewGathered, CrewWorked, AreDone, callers}
+use Rattle.fm_workers.specs.Rounds.{Went, IsIn, AfterDraws, IsWorked, GatheredCrew, tasks_of, crew_of}
+use Rattle.fm_workers.proofs.Drawing.{made_behind, caller_still, gathered_still}
+use Rattle.fm_workers.proofs.Wholes.{NoDraws, all_drawn_again, crew_apart, finds_again, gathered_again, only_crew}
+use Rattle.fm_workers.proofs.Gathering.{Made, gatherer_still, apart_before, apart_since, all_in_still}
+use Rattle.fm_workers.proofs.Workers.{zip_all, fresh_all, idle_all, each_caller, fresh_after, done_all, undrawn_all, undrawn_after, callers_after}
+
+more_found : {passes : ℕ} {draws : List Find} (fs : List Find) → FoundAllDrawn passes draws → FoundAllDrawn passes (draws ++ fs)
+more_found fs f = record {
+  before = f.before;
+  these = f.these;
+  after = f.after ++ fs;
+  parts = ap (λ (xs : List Find). xs ++ fs) f.parts ∙ (append_assoc f.before (f.these ++ f.after) fs
+      ∙ ap (λ (xs : List Find). f.before ++ xs) (append_assoc f.these f.after fs));
+  all = f.all;
+}
+
+module _ {T : Type 0} {old drew got new : View} {vs : List (Worker T)} {b : Bool} (none : old.drawn ≡ None) (m : Went old drew)
+    (g : GatheredCrew drew got vs) (l : Looked got new b) where
+  round_seen : new.seen ≡ old.seen ++ (m.more ++ (g.more ++ l.asked.more))
+  round_seen =
+      l.asked.seen ∙ (ap (λ (es : List Entry). es ++ l.asked.more) (g.seen ∙ ap (λ (es : List Entry). es ++ g.more) m.seen)
+      ∙ (append_assoc (old.seen ++ m.more) g.more l.asked.more ∙ append_assoc old.seen m.more (g.more ++ l.asked.more)))
+
+  round_own : made_by old.caller (m.more ++ (g.more ++ l.asked.more)) ≡ []
+  round_own =
+      let own_g : made_by old.caller g.more ≡ [] = ap (λ (c : Caller). made_by c g.more) (sym (caller_still m)) ∙ g.own in
+      let own_a : made_by old.caller l.asked.more ≡ [] =
+      ap (λ (c : Caller). made_by c l.asked.more) (sym (gatherer_still g ∙ caller_still m)) ∙ l.asked.quiet in
+      made_behind old.caller m.more (g.more ++ l.asked.more) m.own ∙ (made_behind old.caller g.more l.asked.more own_g ∙ own_a)
+
+  round_apart : All (Made (m.more ++ (g.more ++ l.asked.more))) old.gathered
+  round_apart =
+      let apart_g : All (Made g.more) old.gathered = subst (λ (gs : List Gathered). All (Made g.more) gs) (gathered_still m) g.apart in
+      let apart_a : All (Made l.asked.more) old.gathered =
+      subst (λ (gs : List Gathered). All (Made l.asked.more) gs) (gathered_still m) (apart_before g l.asked.more l.asked.apart) in
+      λ i x s. made_behind (get_or old.gathered i x).caller m.more (g.more ++ l.asked.more) (m.apart i x s)
+      ∙ (made_behind (get_or old.gathered i x).caller g.more l.asked.more (apart_g i x s) ∙ apart_a i x s)
+
+  round_is : new ≡ record old { seen = new.seen; finds = new.finds; gathered = old.gathered ++ crew_of vs; whole = new.whole }
+  round_is =
+      l.asked.is ∙ (ap (λ (v : View). record v { seen = new.seen; finds = new.finds; whole = new.whole; drawn = None }) g.is
+      ∙ (ap (λ (v : View). record v { seen = new.seen; finds = new.finds; whole = new.whole; drawn = None; gathered = drew.gathered ++ crew_of vs }) m.is
+      ∙ (λ i. record old { seen = new.seen; finds = new.finds; whole = new.whole; drawn = sym none i; gathered = gathered_still m i ++ crew_of vs })))
+
+  within : AllByRecursion (λ (v : Worker T). IsIn v.memory new) vs
+  within = all_in_still got new l.asked.more vs l.asked.seen (apart_since g l.asked.more l.asked.apart) g.workers
+
+  module _ (fresh : AllByRecursion (λ (v : Worker T). IsFresh old v.memory.caller) vs)
+      (only : (f : Find) (c : Caller) → In f m.draws → f.drew ≡ Some c → IsAmong c (callers (crew_of vs)))
+      (undrawn : AllByRecursion (λ (v : Worker T). NoDraws v.memory) vs) where
+    -- the look found every number
+    found_whole : IsWhole old → b ≡ true
+    found_whole w = l.complete (all_drawn_again m g only undrawn (w.sound.all_drawn w.whole))
+
+    round : CrewGathered old new
+    round = record {
+      more = m.more ++ (g.more ++ l.asked.more);
+      seen = round_seen;
+      own = round_own;
+      apart = round_apart;
+      crew = crew_of vs;
+      distinct = crew_apart old new (crew_of vs) (ap (λ (v : View). v.gathered) round_is) l.sound;
+      fresh = each_caller (IsFresh old) vs fresh;
+      draws = m.draws ++ (l.find ∷ []);
+      finds = l.asked.finds ∙ (ap (λ (fs : List Find). fs ++ (l.find ∷ [])) (finds_again m g) ∙ append_assoc old.finds m.draws (l.find ∷ []));
+      only_draws = λ f i. ⊎_elim (m.only_draws f) (l.asked.only_draws f) (in_append f m.draws (l.find ∷ []) i);
+      is = round_is;
+      whole = λ w. l.whole ∙ found_whole w;
+      alone = λ w. only_crew old new (m.more ++ (g.more ++ l.asked.more)) (crew_of vs) round_seen (ap (λ (v : View). v.caller) round_is)
+          (ap (λ (v : View). v.gathered) round_is) round_own round_apart l.sound (l.whole ∙ found_whole w);
+    }
+
+    -- so it found as many as the pass has then
+    found_count : IsWhole old → length old.gathered + length (crew_of vs) + 1 ≡ l.find.found
+    found_count w =
+        let all : (length got.gathered + 1 == l.find.found) ≡ true = sym l.is ∙ found_whole w in
+        let long : length got.gathered ≡ length old.gathered + length (crew_of vs) =
+        ap (λ (gs : List Gathered). length gs) (gathered_again m g) ∙ length-append old.gathered (crew_of vs) in
+        let found = eqb_true (length got.gathered + 1) l.find.found all in
+        omega (arith, long, found)
+
+    -- and no fewer than the draw before it that found all of them drawn
+    found_later : {passes : ℕ} → FoundAllDrawn passes m.draws → passes ≤ l.find.found
+    found_later f =
+        let here : In f.all.find m.draws = subst (λ (fs : List Find). In f.all.find fs) (sym f.parts)
+        (in_right f.all.find f.before (f.these ++ f.after) (in_left f.all.find f.these f.after f.all.among)) in
+        let there : In f.all.find got.finds =
+        subst (λ (fs : List Find). In f.all.find fs) (sym (finds_again m g)) (in_right f.all.find old.finds m.draws here) in
+        let draw : is_draw f.all.find.step ≡ true = ap is_draw f.all.step in
+        let most = l.asked.later f.all.find l.find (inl there) draw (inl refl) in
+        let is = f.all.found in
+        omega (arith, most, is)
+
+-- What isn't touched lasts.
+pub lasts_none : (p : View) → Lasts p p
+lasts_none p = record { given = λ a. omega arith; known = λ a h. h; ended = λ a h. h }
+
+-- Nobody was drawn.
+unfoldable pub nobody : (p : View) → CrewGathered p p
+nobody p = record {
+  more = [];
+  seen = sym (append-nil p.seen);
+  own = refl;
+  apart = λ i g l. refl;
+  crew = [];
+  distinct = tt;
+  fresh = tt;
+  draws = [];
+  finds = sym (append-nil p.finds);
+  only_draws = λ f i. absurd i;
+  is = λ i. record p { gathered = sym (append-nil p.gathered) i };
+  whole = λ w. w.whole;
+  alone = λ w. tt;
+}
+
+module _ {T : Type 0} where
+  length_crew : (ws : List (Worker T)) → length (crew_of ws) ≡ length ws
+  length_crew [] = refl
+  length_crew (w ∷ ws) = let a = length-append (crew_of ws) (as_gathered w.memory ∷ []) in let b = length_crew ws in omega (arith, a, b)
+
+  length_tasks : (ws : List (Worker T)) → length (tasks_of ws) ≡ length ws
+  length_tasks [] = refl
+  length_tasks (w ∷ ws) = let a = length-append (tasks_of ws) (w.task ∷ []) in let b = length_tasks ws in omega (arith, a, b)
+
+  -- Memory was wanting, and nothing was done.
+  pub crew_none : (Does : Caller → T → T → List Entry → Type 0) (p : View) (tasks : List T) → CrewWorked Does p p tasks tasks (Err Memory)
+  unfolding nobody
+  crew_none Does p tasks = record {
+    crew = nobody p;
+    ends = (refl, refl, refl, refl);
+    suffice = tt;
+    wanting = λ w e. absurd (cc);
+    lasts = lasts_none p;
+    sound = λ ne. absurd (ne refl);
+  }
+
+  pub zip_worked : (Does : Caller → T → T → List Entry → Type 0) (ws us vs : List (Worker T)) → us ≡ ws → length vs ≡ length us
+      → ((i : ℕ) (d : Worker T) → i < length us → IsWorked Does (slice_index_or us i d) (slice_index_or vs i d)) → AllZip (IsWorked Does) ws vs
+  zip_worked Does ws us vs val len worked = subst (λ (xs : List (Worker T)). AllZip (IsWorked Does) xs vs) val (zip_all (IsWorked Does) us vs len worked)
+
+module _ {T : Type 0} (Does : Caller → T → T → List Entry → Type 0) {old drew got new : View} {b : Bool} where
+  -- All tasks were done.
+  pub crew_worked : {tasks left done : List T} {u : Unit {0}} (ws vs : List (Worker T)) → old.drawn ≡ None → AfterDraws old drew tasks left ws (Ok u)
+      → AllZip (IsWorked Does) ws vs → GatheredCrew drew got vs → Looked got new b → done ≡ left ++ tasks_of vs
+      → CrewWorked Does old new tasks done (Ok tt)
+  unfolding round
+  crew_worked {tasks = tasks} {left = left} {done = done} ws vs none d z g l back =
+      let m = d.drew.went in
+      let none_left : left ≡ [] = d.ends in
+      let first : tasks ≡ tasks_of ws = d.parts ∙ ap (λ (ts : List T). ts ++ tasks_of ws) none_left in
+      let last : done ≡ tasks_of vs = back ∙ ap (λ (ts : List T). ts ++ tasks_of vs) none_left in
+      let made = done_all Does old new (m.more ++ (g.more ++ l.asked.more)) ws vs d.drew.workers z (within none m g l) (round_seen none m g l) in
+      let only : (f : Find) (c : Caller) → In f m.draws → f.drew ≡ Some c → IsAmong c (callers (crew_of vs)) =
+      λ f c i q. subst (λ (cs : List Caller). IsAmong c cs) (sym (callers_after Does ws vs z)) (d.drew.only f c i q) in
+      let gathered : new.gathered ≡ old.gathered ++ crew_of vs = ap (λ (v : View). v.gathered) (round_is none m g l) in
+      let long : length new.gathered ≡ length old.gathered + length (crew_of vs) =
+      ap (λ (gs : List Gathered). length gs) gathered ∙ length-append old.gathered (crew_of vs) in
+      let passes : new.shape.passes ≡ old.shape.passes = ap (λ (v : View). v.shape.passes) (round_is none m g l) in
+      let few = l.sound.few in
+      let count_done : length tasks ≡ length ws = ap (λ (ts : List T). length ts) first ∙ length_tasks ws in
+      let count_vs = length_crew vs in
+      let same = length_all_zip (IsWorked Does) ws vs z in
+      record {
+        crew = round none m g l (fresh_after Does old ws vs d.drew.workers z) only (undrawn_after Does old ws vs d.drew.workers z);
+        ends = subst (λ (x : List T × List T). AreDone Does (m.more ++ (g.more ++ l.asked.more)) (callers (crew_of vs)) x.0 x.1)
+            (λ i. (sym first i, sym last i)) made;
+        suffice = omega (arith, long, passes, few, count_done, count_vs, same);
+        wanting = λ w e. absurd (cc);
+        lasts = lasts_by (reached_by (m.more ++ (g.more ++ l.asked.more)) (round_seen none m g l) (ap (λ (v : View). v.shape) (round_is none m g l)) l.sound);
+        sound = λ ne. l.sound;
+      }
+
+  -- A pass was wanting, and no task was begun.
+  pub crew_refused : {tasks left done : List T} (ws : List (Worker T)) (r : Refusal) → old.drawn ≡ None → AfterDraws old drew tasks left ws (Err r)
+      → GatheredCrew drew got ws → Looked got new b → done ≡ left ++ tasks_of ws → CrewWorked Does old new tasks done (Err r)
+  unfolding round
+  crew_refused {tasks = tasks} {left = left} {done = done} ws NoPass none d g l back =
+      let m = d.drew.went in
+      let long : length tasks ≡ length left + length (tasks_of ws) = ap (λ (ts : List T). length ts) d.parts ∙ length-append left (tasks_of ws) in
+      let as_many = length_tasks ws in
+      let so_many = length_crew ws in
+      let some = d.ends.1 in
+      let fresh = fresh_all old ws d.drew.workers in
+      let undrawn = undrawn_all old ws d.drew.workers in
+      record {
+        crew = round none m g l (fresh_all old ws d.drew.workers) d.drew.only (undrawn_all old ws d.drew.workers);
+        ends = (
+          more_found (l.find ∷ []) d.ends.0,
+          omega (arith, long, as_many, so_many, some),
+          each_caller (λ c. made_by c (m.more ++ (g.more ++ l.asked.more)) ≡ []) ws
+              (idle_all old new (m.more ++ (g.more ++ l.asked.more)) ws d.drew.workers (within none m g l) (round_seen none m g l)),
+          back ∙ sym d.parts,
+        );
+        suffice = tt;
+        wanting = λ w e.
+            let count = found_count none m g l fresh d.drew.only undrawn w in
+            let all = found_later none m g l fresh d.drew.only undrawn d.ends.0 in
+            omega (arith, count, all, long, as_many, so_many, some);
+        lasts = lasts_by (reached_by (m.more ++ (g.more ++ l.asked.more)) (round_seen none m g l) (ap (λ (v : View). v.shape) (round_is none m g l)) l.sound);
+        sound = λ ne. l.sound;
+      }
+  crew_refused ws r none d g l back = absurd d.ends

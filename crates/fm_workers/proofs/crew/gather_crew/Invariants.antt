@@ -1,0 +1,18 @@
+use Rattle.std.proofs.Common.{◌≡◌, ◌+◌, ◌≤◌, ◌++◌, List, vec_len, vec_capacity}
+use Rattle.fm_gate.specs.Standing.{IsOutside}
+use Rattle.fm_workers.specs.declared.worker.Worker.{Worker}
+use Rattle.fm_workers.specs.Rounds.{GatheredCrew, tasks_of}
+use Rattle.fm_workers.proofs.crew.gather_crew.Given as goal
+
+abbrev pub invariant-loop-worker : goal.invariant-loop-worker
+invariant-loop-worker g l = record {
+  done : List (Worker g.row.T.Denot);
+  split : l.fn.crew.items ≡ l.crew.items ++ done;
+  gathered : GatheredCrew l.fn.pass l.pass done;
+  outside : IsOutside l.pool l.pass;
+  tasks : l.tasks.items ≡ l.fn.tasks.items ++ tasks_of done;
+  room : vec_len l.tasks + vec_len l.crew ≤ vec_capacity l.tasks;
+}
+
+abbrev pub decreases-loop-worker : goal.decreases-loop-worker
+decreases-loop-worker g l = goal.left-loop-worker g l

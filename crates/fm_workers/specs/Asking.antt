@@ -1,0 +1,16 @@
+-- What is known is known later, so a part can be asked later too.
+use Rattle.fm_segment.specs.Region.{Region}
+use Rattle.fm_segment.specs.Access.{IsKnown}
+use Rattle.fm_calls.specs.Told.{view_of_pass}
+use Rattle.std.proofs.Common.{le_trans}
+use Rattle.fm_pool_facts.specs.Views.{View}
+use Rattle.fm_calls.specs.Kept.{Lasts}
+use Rattle.fm_query.specs.Plan.{Plan}
+use Rattle.fm_workers.specs.declared.part.Part.{Part}
+use Rattle.fm_workers.specs.Parts.{CanAsk}
+
+pub known_later : {v w : View} {s : Region} → Lasts v w → IsKnown (view_of_pass v) s → IsKnown (view_of_pass w) s
+known_later {s = s} l k = record { arena = l.known s.arena k.arena; given = le_trans k.given (l.given s.arena) }
+
+pub can_ask_later : (p : Plan) (v w : View) (t : Part) → Lasts v w → CanAsk p v t → CanAsk p w t
+can_ask_later p v w t l c = record { known = known_later l c.known; aligned = c.aligned }

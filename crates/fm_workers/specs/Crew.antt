@@ -1,0 +1,86 @@
+-- What a crew of passes did, each at a task of its own, for the pass that drew them and gathered them again.
+use Rattle.fm_calls.specs.Kept.{Lasts}
+use Rattle.std.specs.Prelude.{OnOk, ◌≡◌, ◌≢◌, ◌<◌, true, ℕ, List, [], ◌∷◌, ◌++◌, length, map, All, Result, Ok, Err, ⊤, ◌+◌, ◌≤◌}
+use Rattle.std.specs.List.{AllByRecursion}
+use Rattle.fm_base.specs.declared.caller.Caller.{Caller}
+use Rattle.fm_base.specs.declared.refusal.Refusal.{Refusal}
+use Rattle.fm_base.specs.declared.refusal.Refusal.TheVariants.{Memory, NoPass}
+use Rattle.fm_base.specs.Calls.{Entry}
+use Rattle.fm_lists.specs.Among.{IsAmong, AreApart}
+use Rattle.fm_base.specs.Histories.{made_by}
+use Rattle.fm_base.specs.Finds.{Find, Gathered, is_draw}
+use Rattle.fm_pool_facts.specs.Views.{View, In, IsSound, HasCaller}
+use Rattle.fm_rule.specs.Draws.{FoundAll}
+
+-- the callers, in their order
+abbrev pub callers : List Gathered → List Caller
+callers gs = map (λ g. g.caller) gs
+
+-- the caller is of none of the numbers that the pass has, nor the first, and had made no entry
+pub record IsFresh (p : View) (c : Caller) : Type 0 where
+  pub later : c.number ≢ 0
+  pub other : ¬ (HasCaller p c.number)
+  pub silent : made_by c p.seen ≡ []
+
+-- a pass that is known to be whole
+pub record IsWhole (p : View) : Type 0 where
+  pub sound : IsSound p
+  pub whole : p.whole ≡ true
+
+-- Passes were drawn, made entries, and were gathered again: these, in their order. The pass made no entry
+pub record CrewGathered (old new : View) : Type 0 where
+  -- the entries, those of others too
+  pub more : List Entry
+  pub seen : new.seen ≡ old.seen ++ more
+  pub own : made_by old.caller more ≡ []
+  -- nor did those that were gathered before
+  pub apart : All (λ g. made_by g.caller more ≡ []) old.gathered
+  pub crew : List Gathered
+  pub distinct : AreApart (callers crew)
+  pub fresh : AllByRecursion (IsFresh old) (callers crew)
+  -- the finds of this call, all of them draws
+  pub draws : List Find
+  pub finds : new.finds ≡ old.finds ++ draws
+  pub only_draws : (f : Find) → In f draws → is_draw f.step ≡ true
+  -- all else that the pass has it had before
+  pub is : new ≡ record old { seen = new.seen; finds = new.finds; gathered = old.gathered ++ crew; whole = new.whole }
+  -- a pass that was known to be whole is so again, and nobody else made an entry
+  pub whole : IsWhole old → new.whole ≡ true
+  pub alone : IsWhole old → AllByRecursion (λ e. IsAmong e.caller (callers crew)) more
+
+-- Each task was done by a caller of its own, the first by the first. `Does` says how a task changes by the caller's entries
+abbrev pub AreDone : {T : Type 0} → (Caller → T → T → List Entry → Type 0) → List Entry → List Caller → List T → List T → Type 0
+AreDone Does more [] [] [] = ⊤
+AreDone Does more (c ∷ cs) (t ∷ ts) (u ∷ us) = Does c t u (made_by c more) × AreDone Does more cs ts us
+AreDone Does more cs ts us = ⊥
+
+-- none of the callers made an entry
+abbrev pub AreIdle : List Entry → List Caller → Type 0
+AreIdle more cs = AllByRecursion (λ c. made_by c more ≡ []) cs
+
+-- a draw of this call found that every number was drawn
+pub record FoundAllDrawn (passes : ℕ) (draws : List Find) : Type 0 where
+  pub before : List Find
+  pub these : List Find
+  pub after : List Find
+  pub parts : draws ≡ before ++ (these ++ after)
+  pub all : FoundAll passes these
+
+-- What comes of it. Memory is wanting before the first draw; a pass is wanting before any task is begun
+abbrev pub EndsCrew : {T : Type 0} → (Caller → T → T → List Entry → Type 0) → ℕ → (tasks done : List T) → List Entry → List Gathered → List Find
+    → Result (Unit {0}) Refusal → Type 0
+EndsCrew Does passes tasks done more crew draws (Ok u) = AreDone Does more (callers crew) tasks done
+EndsCrew Does passes tasks done more crew draws (Err NoPass) =
+    FoundAllDrawn passes draws × (length crew < length tasks) × AreIdle more (callers crew) × (done ≡ tasks)
+EndsCrew Does passes tasks done more crew draws (Err Memory) = (more ≡ []) × (crew ≡ []) × (draws ≡ []) × (done ≡ tasks)
+EndsCrew Does passes tasks done more crew draws (Err r) = ⊥
+
+pub record CrewWorked {T : Type 0} (Does : Caller → T → T → List Entry → Type 0) (old new : View) (tasks done : List T)
+    (result : Result (Unit {0}) Refusal) : Type 0 where
+  pub crew : CrewGathered old new
+  pub ends : EndsCrew Does old.shape.passes tasks done crew.more crew.crew crew.draws result
+  -- there are enough passes; where the pass was known to be whole, it is refused only where there aren't
+  pub suffice : OnOk result (length old.gathered + (1 + length tasks) ≤ old.shape.passes)
+  pub wanting : IsWhole old → result ≡ Err NoPass → old.shape.passes < length old.gathered + (1 + length tasks)
+  pub lasts : Lasts old new
+  pub sound : result ≢ Err Memory → IsSound new

@@ -1,0 +1,5 @@
+pub mod Asking
+pub mod Crew
+pub mod Parts
+pub mod Query
+pub mod Rounds

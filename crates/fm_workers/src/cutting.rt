@@ -1,0 +1,40 @@
+ghost use Rattle.std.specs.Prelude.{◌≡◌, ◌*◌, ◌/◌, ◌^◌, ◌<◌, ◌≤◌, IfOk, IfErr, length};
+ghost use Rattle.fm_workers.specs.Parts.{IsCut, IsRun};
+
+use crate::part::Part;
+use fm_base::Refusal;
+use fm_query::Query;
+use fm_segment::Segment;
+use std::alloc::Global;
+
+/// The segment's records in so many runs, one behind the other, of which none has two records more than another.
+/// Refused: `Memory`.
+pub(crate) fn cut(alloc: Global, q: &Query, s: &Segment, parts: u32) -> Result<Vec<Part>, Refusal>
+    requires some { 0 < parts }
+    ensures cut { IfOk result (λ ts. IsCut q.now s.now ts.items) }
+    ensures count { IfOk result (λ ts. length ts.items ≡ parts) }
+    ensures memory { IfErr result (λ refusal. refusal ≡ Refusal.Memory) }
+{
+    let Ok(mut runs) = Vec::with_capacity(alloc, parts as usize) else {
+        return Err(Refusal::Memory);
+    };
+    let count = s.size() / q.record_size();
+    let mut from = 0u64;
+    for k in 0..parts {
+        let to = from + (count - from) / u64::from(parts - k);
+        runs.push_reserved(run(q, s, from, to));
+        from = to;
+    }
+    Ok(runs)
+}
+
+/// The records from one index on, up to another.
+fn run(q: &Query, s: &Segment, from: u64, to: u64) -> Part
+    requires order { from ≤ to }
+    requires within { to ≤ s.now.size / q.now.size }
+    requires small { s.now.size ≤ 2 ^ 40 }
+    ensures { IsRun q.now s.now from to result }
+{
+    let size = q.record_size();
+    Part::of(s, from * size, (to - from) * size)
+}

@@ -1,0 +1,85 @@
+ghost use Rattle.std.specs.Prelude.{◌≡◌, true, false};
+ghost use Rattle.fm_gate.specs.Standing.{IsOutside};
+ghost use Rattle.fm_workers.specs.Query.{CanQueryWith, QueriedWith};
+
+use crate::crew::work_crew;
+use crate::cutting::cut;
+use crate::joining::join_parts;
+use crate::part::Part;
+use crate::work::Work;
+use fm_arena::Shared;
+use fm_base::{ArenaId, Kind, Refusal};
+use fm_io::Gate;
+use fm_query::Query;
+use fm_records::{Answer, query_segment};
+use fm_rule::{Pass, Pool};
+use fm_segment::Segment;
+use std::alloc::Global;
+use std::sync::Wait;
+use std::thread::Threads;
+
+/// Each pass answers the query over its part.
+impl Work<Part> for Query {
+    ghost use Rattle.fm_workers.specs.Parts.{Answers, CanAsk};
+    ghost use Rattle.fm_workers.specs.Asking.{can_ask_later};
+
+    ghost can = { CanAsk };
+
+    ghost does = { Answers };
+
+    fn work(&self, alloc: Global, memory: &mut Shared, task: &mut Part) {
+        task.answer = query_segment(alloc, memory, self, &task.region);
+    }
+
+    ghost stays = { can_ask_later };
+}
+
+/// What a query answers over the records of a segment, by so many passes that are drawn for it, each over a run of the
+/// records, in a thread of its own where one can be started. The passes are gathered again, after a refusal too; they
+/// make all accesses, each a visit with one Read. Workers are numbered from 1 in the order of their runs, and each has
+/// one call of the gate.
+///
+/// Refused, in this order: `Ragged` with the number of bytes behind the last whole record; `WrongThread`, exactly where
+/// the arena is confined; `Memory`, or `NoPass` where a draw finds that all numbers are drawn; then `Closed` or `Memory` as the
+/// first run's pass is refused. Then numbers that were drawn stay drawn.
+pub fn query_with<R: Threads + Wait + Sync, G: Gate>(
+    rt: &R,
+    alloc: Global,
+    pool: &Pool,
+    pass: &mut Pass,
+    q: &Query,
+    s: &Segment,
+    threads: u32,
+    gate: &G,
+) -> Result<Answer, Refusal>
+    requires { CanQueryWith pool.now pass.old q.now s.now threads }
+    ensures queried { QueriedWith threads pass.old pass.new q.now s.now result }
+    ensures outside { IsOutside pool.now pass.new }
+{
+    let rest = s.size() % q.record_size();
+    if rest != 0 {
+        return Err(Refusal::Ragged(rest));
+    }
+    if is_confined(s.arena()) {
+        return Err(Refusal::WrongThread);
+    }
+    let mut parts = match cut(alloc, q, s, threads) {
+        Ok(parts) => parts,
+        Err(refusal) => return Err(refusal),
+    };
+    match work_crew(rt, alloc, pool, pass, q, &mut parts, gate) {
+        Ok(()) => join_parts(alloc, q, parts),
+        Err(refusal) => Err(refusal),
+    }
+}
+
+/// Whether only the arena's owner may use it.
+fn is_confined(a: ArenaId) -> bool
+    ensures yes { result ≡ true → a.kind ≡ Kind.Confined }
+    ensures no { result ≡ false → ¬ (a.kind ≡ Kind.Confined) }
+{
+    match a.kind {
+        Kind::Confined => true,
+        Kind::Global | Kind::Automatic | Kind::Shared => false,
+    }
+}
