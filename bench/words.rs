@@ -1,0 +1,84 @@
+//! The bare steps that calls on a word of a pool's arena consist of. Each is sequentially consistent. Nothing is checked:
+//! it is what calls that do check are measured against.
+//!
+//!   words adds COUNT             additions to one word
+//!   words swaps COUNT            exchanges of a word that is as expected
+//!   words patches COUNT          a byte put into a word, by a load and a compare-exchange loop
+//!   words beside COUNT THREADS   threads that store their mark, load one word, and clear it; marks lie side by side
+//!   words apart COUNT THREADS    the same, of marks that lie 8 words apart
+use std::hint::black_box;
+use std::sync::atomic::{AtomicU64, Ordering::SeqCst};
+use std::thread;
+
+#[inline(never)]
+fn adds(word: &AtomicU64, count: u64) -> u64 {
+    let mut joined: u64 = 0;
+    for turn in 0..count {
+        joined ^= word.fetch_add(turn, SeqCst);
+    }
+    joined
+}
+
+#[inline(never)]
+fn swaps(word: &AtomicU64, count: u64) -> u64 {
+    let mut last: u64 = 0;
+    for _ in 0..count {
+        let next = last.wrapping_add(3);
+        last = word.compare_exchange(last, next, SeqCst, SeqCst).map_or_else(|found| found, |_| next);
+    }
+    last
+}
+
+#[inline(never)]
+fn patches(word: &AtomicU64, count: u64) -> u64 {
+    let mut joined: u64 = 0;
+    for turn in 0..count {
+        let byte = [0x42, 0x24, 0xff, 0][turn as usize % 4];
+        let mut old = word.load(SeqCst);
+        while let Err(found) = word.compare_exchange(old, old & !0xff | byte, SeqCst, SeqCst) {
+            old = found;
+        }
+        joined ^= old;
+    }
+    joined
+}
+
+#[inline(never)]
+fn visits(word: &AtomicU64, mark: &AtomicU64, count: u64) -> u64 {
+    let mut visits: u64 = 0;
+    for _ in 0..count {
+        mark.store(1 << 32, SeqCst);
+        black_box(word.load(SeqCst));
+        mark.store(0, SeqCst);
+        visits += 1;
+    }
+    visits
+}
+
+fn crowd(count: u64, threads: usize, between: usize) -> u64 {
+    let word = AtomicU64::new(0);
+    let marks: Vec<AtomicU64> = (0..64).map(|_| AtomicU64::new(0)).collect();
+    let work = |worker: usize| visits(&word, &marks[1 + worker * (between + 1)], count);
+    thread::scope(|scope| {
+        let work = &work;
+        let started: Vec<_> = (0..threads).map(|worker| scope.spawn(move || work(worker))).collect();
+        started.into_iter().map(|thread| thread.join().expect("a count")).sum()
+    })
+}
+
+fn main() {
+    let mut asked = std::env::args().skip(1);
+    let what = asked.next().expect("a name");
+    let count = asked.next().and_then(|word| word.parse().ok()).expect("a count");
+    let threads = asked.next().map_or(1, |word| word.parse().expect("a number of threads"));
+    let word = black_box(AtomicU64::new(0));
+    let joined = match what.as_str() {
+        "adds" => adds(&word, count),
+        "swaps" => swaps(&word, count),
+        "patches" => patches(&word, count),
+        "beside" => crowd(count, threads, 0),
+        "apart" => crowd(count, threads, 7),
+        _ => panic!("adds, swaps, patches, beside or apart"),
+    };
+    println!("{joined}");
+}
