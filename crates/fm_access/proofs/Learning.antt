@@ -174,7 +174,8 @@ pub after_put_at : (old new : View) (k : ValueKind) (o : Order) (id : ArenaId) (
     → After old new (DoesAt found (λ p. DoesPut old.caller id p (bytes_of_value o v))) Cause (λ u. Alone) (StaysOutOf old new id found) Known (λ u. ⊤) result
 after_put_at old new k o id v found Cause Known Alone result out causes known kind has there d =
     let bytes = bytes_of_value o v in
-    after_at old new id (λ p. DoesPut old.caller id p (bytes_of_value o v)) (λ u. Alone) (λ u. ⊤) found Cause Known result out causes (puts pieces_put old.caller id bytes)
+    after_at old new id (λ p. DoesPut old.caller id p (bytes_of_value o v)) (λ u. Alone) (λ u. ⊤) found Cause Known result out causes
+    (puts pieces_put old.caller id bytes)
     (record {
       alone = λ p u e d alone. there p e (puts_value old new k o id p v u kind has d alone);
       shut = λ p e d alone. put_shut pieces_put old new id p bytes (Err e) (AreBytes-value o v) d alone;

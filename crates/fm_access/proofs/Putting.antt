@@ -210,7 +210,8 @@ module _ {old now : View} {id : ArenaId} {place put : ℕ} {all : List ℕ} (p :
         within = within;
         outside = out;
         own = p.own ++ d.own;
-        going = subst (λ (at : ℕ). GoingPut PutsMore old next id place all at (p.own ++ d.own)) (let e : place + put + n ≡ place + (put + n) = omega arith in e) going;
+        going = subst (λ (at : ℕ). GoingPut PutsMore old next id place all at (p.own ++ d.own))
+            (let e : place + put + n ≡ place + (put + n) = omega arith in e) going;
       }
 
   -- A visit that is refused.

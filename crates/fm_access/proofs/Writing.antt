@@ -92,7 +92,8 @@ writes_leave limit c s id w v (u ∷ us) legal =
     let same : (arena_of (changed s id (written w v)) id).words ≡ slice_set (arena_of s id).words w v =
     ap (λ (a : Arena). a.words) (lookup_changed s id (written w v) (λ a. refl) known) in
     let count : length (slice_set (arena_of s id).words w v) ≡ length (arena_of s id).words = length-set words w v in
-    let room : suc w + length (u ∷ us) ≤ length (slice_set (arena_of s id).words w v) = subst (λ (ws : List ℕ). suc w + length (u ∷ us) ≤ length ws) same r.within in
+    let room : suc w + length (u ∷ us) ≤ length (slice_set (arena_of s id).words w v) =
+    subst (λ (ws : List ℕ). suc w + length (u ∷ us) ≤ length ws) same r.within in
     record {
       known = known;
       within = omega arith;

@@ -178,9 +178,68 @@ fn as_kind(value: ValueSpec, kind: ValueKind) -> ValueSpec
     }
 }
 
-/// The same as `add_row`, for one of its kinds.
+/// The same as `add_row`, for one of its kinds. What is found is told apart once a row, not at each value.
 #[inline(always)]
 fn row_of<M: Memory>(
+    m: &mut M,
+    s: &Segment,
+    place: u64,
+    at: u64,
+    dim: Dim,
+    value: ValueSpec,
+    found: &mut Found,
+) -> Result<(), Refusal>
+    requires can { CanRead (M.view m.old) s.now }
+    requires inside { ReachesInside s.now place at (dim ∷ []) value }
+    requires room { HasRoom found.old (length (index_lists (dim ∷ []))) }
+    ensures { Did (M.view m.old) (M.view m.new)
+        (DoesAdd (M.view m.old).caller s.now value (value_places place at (dim ∷ [])) found.old found.new result) }
+{
+    match found {
+        Found::Sum(sum) => {
+            let row = Found::Sum(*sum);
+            row_apart(m, s, place, at, dim, value, row, found)
+        }
+        Found::Least(least) => {
+            let row = Found::Least(*least);
+            row_apart(m, s, place, at, dim, value, row, found)
+        }
+        Found::Greatest(greatest) => {
+            let row = Found::Greatest(*greatest);
+            row_apart(m, s, place, at, dim, value, row, found)
+        }
+        _ => add_each(m, s, place, at, dim, value, found),
+    }
+}
+
+/// The same, of which `row` is a copy: it needn't be stored at each value.
+#[inline(always)]
+fn row_apart<M: Memory>(
+    m: &mut M,
+    s: &Segment,
+    place: u64,
+    at: u64,
+    dim: Dim,
+    value: ValueSpec,
+    row: Found,
+    found: &mut Found,
+) -> Result<(), Refusal>
+    requires can { CanRead (M.view m.old) s.now }
+    requires inside { ReachesInside s.now place at (dim ∷ []) value }
+    requires room { HasRoom found.old (length (index_lists (dim ∷ []))) }
+    requires copy { row ≡ found.old }
+    ensures { Did (M.view m.old) (M.view m.new)
+        (DoesAdd (M.view m.old).caller s.now value (value_places place at (dim ∷ [])) found.old found.new result) }
+{
+    let mut row = row;
+    let added = add_each(m, s, place, at, dim, value, &mut row);
+    *found = row;
+    added
+}
+
+/// The same, value by value.
+#[inline(always)]
+fn add_each<M: Memory>(
     m: &mut M,
     s: &Segment,
     place: u64,

@@ -13,7 +13,8 @@ use Rattle.fm_access.proofs.pieces.put_pieces.Goals as goal
 
 pub loop-at-init : goal.loop-at-init
 loop-at-init g c =
-    put_starts (g.M.Memory.view c.args.m.now) c.args.arena c.args.place (c.args.place + length c.args.bytes.now) c.args.bytes.now (omega arith) c.requires.touch.outside
+    put_starts (g.M.Memory.view c.args.m.now) c.args.arena c.args.place (c.args.place + length c.args.bytes.now) c.args.bytes.now
+    (omega arith) c.requires.touch.outside
 
 pub put_piece-requires-clause-piece : goal.put_piece-requires-clause-piece
 put_piece-requires-clause-piece g c =

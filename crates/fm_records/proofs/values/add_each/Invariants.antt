@@ -1,7 +1,7 @@
 use Rattle.std.proofs.Common.{List, []}
 use Rattle.fm_base.specs.Calls.{Entry}
 use Rattle.fm_records.proofs.Adding.{AreAdded}
-use Rattle.fm_records.proofs.values.row_of.Given as goal
+use Rattle.fm_records.proofs.values.add_each.Given as goal
 
 abbrev pub invariant-loop-i : goal.invariant-loop-i
 invariant-loop-i g l =

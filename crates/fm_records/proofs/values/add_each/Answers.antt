@@ -4,7 +4,7 @@ use Rattle.fm_records.specs.Few.{HasRoom}
 use Rattle.fm_records.proofs.Adding.{added_none, added_more, added_all, added_stops, added_room, lists_by_first}
 use Rattle.fm_records.proofs.Reaching.{reached, reached_did, closed_lies}
 use Rattle.fm_records.proofs.Visiting.{can_still}
-use Rattle.fm_records.proofs.values.row_of.Goals as goal
+use Rattle.fm_records.proofs.values.add_each.Goals as goal
 
 pub loop-i-init : goal.loop-i-init
 loop-i-init g c = record { own = []; added = added_none _ }
