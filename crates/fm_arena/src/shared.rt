@@ -113,14 +113,17 @@ impl<'a> Memory for Shared<'a> {
         self.pass.caller()
     }
 
+    #[inline(always)]
     fn enter(&mut self, a: ArenaId) -> Result<(), Refusal> {
         enter(self.pool, &mut self.pass, a)
     }
 
+    #[inline(always)]
     fn load(&mut self, word: u64) -> u64 {
         load(self.pool, &mut self.pass, word)
     }
 
+    #[inline(always)]
     fn store(&mut self, word: u64, v: u64) {
         store(self.pool, &mut self.pass, word, v);
     }
@@ -137,6 +140,7 @@ impl<'a> Memory for Shared<'a> {
         patch(rt, self.pool, &mut self.pass, word, mask, bits)
     }
 
+    #[inline(always)]
     fn leave(&mut self) {
         leave(self.pool, &mut self.pass);
     }

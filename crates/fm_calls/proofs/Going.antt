@@ -78,6 +78,9 @@ mark_is s = ap (λ (x : View). x.mark) s.is_part
 pub hand_is : {p q part : View} {own : List Entry} {noted : ℕ → List Find} → Stepped p q part own noted → q.hand ≡ part.hand
 hand_is s = ap (λ (x : View). x.hand) s.is_part
 
+pub sweeps_is : {p q part : View} {own : List Entry} {noted : ℕ → List Find} → Stepped p q part own noted → q.sweeps ≡ part.sweeps
+sweeps_is s = ap (λ (x : View). x.sweeps) s.is_part
+
 pub closes_is : {p q part : View} {own : List Entry} {noted : ℕ → List Find} → Stepped p q part own noted → q.closes ≡ part.closes
 closes_is s = ap (λ (x : View). x.closes) s.is_part
 

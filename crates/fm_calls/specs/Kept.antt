@@ -1,13 +1,14 @@
 -- How a pass goes on by the entries of one of its calls.
 use Rattle.std.specs.Prelude.{◌≡◌, ◌≤◌, true, List, [], ◌∷◌, ◌++◌, All, ℕ}
 use Rattle.fm_base.specs.declared.arena_id.ArenaId.{ArenaId}
-use Rattle.fm_base.specs.Arenas.{Ended, arena_of}
+use Rattle.fm_base.specs.Arenas.{Ended, arena_of, kind_number}
 use Rattle.fm_base.specs.Calls.{Entry}
 use Rattle.fm_base.specs.Histories.{made_by}
 use Rattle.fm_base.specs.Finds.{Close, Rest, FindsMore}
 use Rattle.fm_base.specs.View.{inside_after}
 use Rattle.fm_words.specs.declared.shape.Shape.{Shape}
-use Rattle.fm_pool_facts.specs.Hands.{slots_in}
+use Rattle.fm_pool_facts.specs.Hands.{Hand, slots_in}
+use Rattle.fm_pool_facts.specs.Loans.{lent, IsUnlent}
 use Rattle.fm_pool_facts.specs.Views.{View, IsKnown, IsSound, given_of, state_in}
 
 -- The pass goes on by entries, of which these are its own, wholly after all that it had seen
@@ -32,6 +33,15 @@ pub record Goes (old new : View) (own : List Entry) : Type 0 where
 abbrev pub shape_numbers : Shape → List ℕ
 shape_numbers z = z.passes ∷ z.slots ∷ z.pages ∷ z.page_words ∷ z.reach ∷ z.generations ∷ []
 
+-- numbers that tell of arenas that ended and aren't swept, and how far each sweep is: until then their slots are in the pass's hand
+abbrev pub sweep_numbers : List Close → List ℕ
+sweep_numbers [] = []
+sweep_numbers (c ∷ cs) =
+    c.arena.slot ∷ c.arena.generation ∷ kind_number c.arena.kind ∷ c.arena.owner ∷ c.arena.term ∷ c.visited ∷ sweep_numbers cs
+
+unfoldable pub slots_told : List Close → Hand → List ℕ
+slots_told sweeps hand = sweep_numbers sweeps ++ slots_in hand
+
 -- what a pass has, and what was gathered into it
 abbrev pub rest_of : View → Rest
 rest_of p = record {
@@ -40,7 +50,7 @@ rest_of p = record {
   handles = p.handles;
   closes = p.closes;
   pages = p.pages;
-  slots = slots_in p.hand;
+  slots = slots_told p.sweeps p.hand;
   gathered = p.gathered;
   whole = p.whole;
 }
@@ -72,6 +82,10 @@ Kept old new P = KeptBut old new old.closes P
 pub record HasEnded (p : View) (id : ArenaId) : Type 0 where
   pub known : IsKnown p id
   pub life : (arena_of (state_in p) id).life ≡ Ended
+
+-- no words of the pool are lent to the arena
+abbrev pub HasNoWords : View → ArenaId → Type 0
+HasNoWords p id = IsUnlent (lent p.seen) id
 
 -- what was known is known, what was given is given, and what had ended has ended
 pub record Lasts (old new : View) : Type 0 where

@@ -2,7 +2,7 @@
 use Rattle.std.proofs.Common.{◌≡◌, ◌≢◌, ℕ, ◌<◌, ◌==◌, Bool, true, List, [], ◌∷◌, refl, ap, ◌∙◌, subst, arith, Some, None, eq-eqb, ne_eqb}
 use Rattle.fm_base.specs.declared.caller.Caller.{Caller}
 use Rattle.fm_base.specs.declared.arena_id.ArenaId.{ArenaId}
-use Rattle.fm_base.specs.Calls.{Unhold, Shut, End, Fine, Entry, entry_of}
+use Rattle.fm_base.specs.Calls.{Unhold, Shut, End, Back, Fine, Entry, entry_of}
 use Rattle.fm_base.specs.Finds.{Close, Rest}
 use Rattle.fm_pool_facts.specs.Views.{View}
 use Rattle.fm_pool_facts.specs.Words.{alive_holds}
@@ -11,7 +11,7 @@ use Rattle.fm_pool_facts.specs.Handles.{Giving, Missed, Kept, Last, last_if, giv
 use Rattle.fm_pool_facts.specs.Closes.{close_of, visited_of, dropped}
 use Rattle.fm_pool_facts.specs.Steps.{Stepped, none_noted}
 use Rattle.fm_rule.specs.declared.pool.Pool.{Pool}
-use Rattle.fm_calls.specs.Kept.{Goes, rest_of, HasEnded}
+use Rattle.fm_calls.specs.Kept.{Goes, rest_of, HasEnded, HasNoWords}
 use Rattle.fm_calls.proofs.Going.{goes_of, goes_then, no_draws, made_by-one, rest_is, hand_is, inside_is, mark_is, known_on, lasts_on}
 use Rattle.fm_calls.proofs.Waiting.{Waited, waits_by, waits_on}
 use Rattle.fm_gate.specs.Standing.{IsOutside}
@@ -20,8 +20,9 @@ use Rattle.fm_gate.proofs.Handles.{owner_low}
 use Rattle.fm_close.specs.declared.gave_back.GaveBack.TheVariants as gave
 use Rattle.fm_close.specs.declared.shutting.Shutting.{Shutting}
 use Rattle.fm_close.specs.Does.{begun}
-use Rattle.fm_close.specs.Learnt.{CanGiveBack, AfterBack, AfterSpend, AfterGiveBack, Walked}
+use Rattle.fm_close.specs.Learnt.{CanGiveBack, AfterBack, AfterSpend, AfterGiveBack}
 use Rattle.fm_close.proofs.Closes.{visited_of-begun, dropped-begun}
+use Rattle.fm_close.proofs.Walks.{Finished}
 
 -- ---- the exchanges
 
@@ -133,30 +134,33 @@ after_kept {p = p} {a = a} h =
         rest = d.rest;
       };
       ended = λ e. absurd (cc);
+      no_words = λ e. absurd (cc);
       outside = h.outside;
       lasts = lasts_on d.goes;
     }
 
--- What is learnt where all marks were visited after the last one.
-pub after_ended : {pool : Pool} {p q r : View} {a : ArenaId} {s t : Shutting} → AfterSpend pool p q a (Some s) → Walked pool q r s t
+-- What is learnt where all marks were visited after the last one, and the arena was swept.
+pub after_ended : {pool : Pool} {p q r : View} {a : ArenaId} {s : Shutting} → AfterSpend pool p q a (Some s) → Finished pool q r s.arena
     → AfterGiveBack pool p r a gave.Ended
 after_ended {p = p} {q = q} {r = r} {a = a} {s = s} h w =
     let arena : s.arena ≡ a = ap (λ (x : Shutting). x.arena) h.did.does.0 in
     let g : Goes p q (entry_of p.caller (Shut a) Fine ∷ []) = subst (λ (es : List Entry). Goes p q es) h.did.does.1 h.did.goes in
-    let end : Goes q r (entry_of p.caller (End a) Fine ∷ []) = subst (λ (i : ArenaId). Goes q r (entry_of p.caller (End i) Fine ∷ [])) arena
-    (subst (λ (c : Caller). Goes q r (entry_of c (End s.arena) Fine ∷ [])) g.same_caller w.goes) in
+    let end : Goes q r (entry_of p.caller (End a) Fine ∷ entry_of p.caller (Back a.slot) Fine ∷ []) = subst
+    (λ (x : Caller × ArenaId). Goes q r (entry_of x.0 (End x.1) Fine ∷ entry_of x.0 (Back x.1.slot) Fine ∷ []))
+    (λ j. (g.same_caller j, arena j)) w.goes in
     let closes : q.closes ≡ close_of a 0 ∷ p.closes = ap (λ (x : Rest). x.closes) h.did.rest in
     let left : dropped s.arena q.closes ≡ p.closes = ap (λ (i : ArenaId). dropped i q.closes) arena ∙ (ap (dropped a) closes ∙ dropped-begun p.closes a) in
     let all = goes_then g end in
     record {
       did = record {
-        own = entry_of p.caller (Shut a) Fine ∷ entry_of p.caller (End a) Fine ∷ [];
+        own = entry_of p.caller (Shut a) Fine ∷ entry_of p.caller (End a) Fine ∷ entry_of p.caller (Back a.slot) Fine ∷ [];
         does = refl;
         goes = all;
         rest = w.rest ∙ (ap (λ (x : Rest). record x { closes = dropped s.arena q.closes }) h.did.rest
             ∙ ap (λ (xs : List Close). record (rest_of p) { closes = xs; handles = released a p.handles }) left);
       };
-      ended = λ e. subst (λ (i : ArenaId). HasEnded r i) arena w.over;
-      outside = w.swept.outside;
+      ended = λ e. subst (HasEnded r) arena w.over;
+      no_words = λ e. subst (HasNoWords r) arena w.no_words;
+      outside = w.outside;
       lasts = lasts_on all;
     }

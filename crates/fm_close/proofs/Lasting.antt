@@ -1,4 +1,4 @@
--- What a close under way outlives.
+-- What a close outlives.
 use Rattle.std.proofs.Common.{◌≡◌, ◌≢◌, List, [], ◌∷◌, Bool, true, false, if◌then◌else◌, refl, ap, sym, ◌∙◌, Some}
 use Rattle.std.specs.Prelude.{Result, Ok, Err}
 use Rattle.fm_base.specs.declared.arena_id.ArenaId.{ArenaId}
@@ -12,11 +12,12 @@ use Rattle.fm_pool_facts.specs.Views.{View}
 use Rattle.fm_pool_facts.specs.Closes.{visited_of, one_more, visited, dropped}
 use Rattle.fm_calls.specs.Kept.{Goes}
 use Rattle.fm_calls.proofs.Going.{known_on}
+use Rattle.fm_calls.proofs.Sweeps.{same_sweeps}
 use Rattle.fm_close.specs.declared.shutting.Shutting.{Shutting}
 use Rattle.fm_close.specs.declared.outcome.Visit.{Visit}
 use Rattle.fm_close.specs.declared.outcome.Visit.TheVariants.{Next, Inside, Ended}
-use Rattle.fm_close.specs.Learnt.{IsUnderWay, closes_shut, closes_visited}
-use Rattle.fm_close.specs.Lasting.{CloseStands, StandsAtShut, StandsAtVisit, StandsOnward, CloseLasts}
+use Rattle.fm_close.specs.Learnt.{IsUnderWay, IsToSweep, closes_shut, closes_visited, sweeps_visited}
+use Rattle.fm_close.specs.Lasting.{CloseStands, SweepStands, StandsBeside, CloseLasts}
 
 -- ---- closes of other arenas in the list
 
@@ -72,21 +73,42 @@ stands_by {s = s} g same u = record {
 stands : CloseStands
 stands old new own s g rest u = stands_by g (ap (λ (x : Rest). visited_of x.closes s.arena) rest) u
 
-at_shut : StandsAtShut
-at_shut pool old new other result s h n u =
-    stands_by h.did.goes (ap (λ (x : Rest). visited_of x.closes s.arena) h.did.rest ∙ of_shut other s.arena result old.closes n) u
+beside : StandsBeside IsUnderWay
+beside = record {
+  at_shut = λ pool old new other result s h n u.
+      stands_by h.did.goes (ap (λ (x : Rest). visited_of x.closes s.arena) h.did.rest ∙ of_shut other s.arena result old.closes n) u;
+  at_visit = λ pool old new t v result s h n u.
+      stands_by h.did.goes (ap (λ (x : Rest). visited_of x.closes s.arena) h.did.rest ∙ of_visit t.arena s.arena result old.closes n) u;
+  at_sweep = λ pool old new other s h n u. stands_by h.did.goes (ap (λ (x : Rest). visited_of x.closes s.arena) h.did.rest) u;
+  onward = λ pool old new s h u. record {
+    unfinished = u.unfinished;
+    known = h.lasts.known s.arena u.known;
+    at = ap (λ (cs : List Close). visited_of cs s.arena) h.closes ∙ u.at;
+    low = rw h.shape u.low;
+  };
+}
 
-at_visit : StandsAtVisit
-at_visit pool old new t v result s h n u =
-    stands_by h.did.goes (ap (λ (x : Rest). visited_of x.closes s.arena) h.did.rest ∙ of_visit t.arena s.arena result old.closes n) u
+-- Whether an arena is to be swept is by the pass's sweeps.
+swept_by : {p q : View} {s : Shutting} → visited_of q.sweeps s.arena ≡ visited_of p.sweeps s.arena → IsToSweep p s → IsToSweep q s
+swept_by same u = record { ended = u.ended; at = same ∙ u.at }
 
-onward : StandsOnward
-onward pool old new s h u = record {
-  unfinished = u.unfinished;
-  known = h.lasts.known s.arena u.known;
-  at = ap (λ (cs : List Close). visited_of cs s.arena) h.closes ∙ u.at;
-  low = rw h.shape u.low;
+ended : SweepStands
+ended old new own s g rest h k u = swept_by (ap (λ (cs : List Close). visited_of cs s.arena) (same_sweeps old new rest h k)) u
+
+of_end : (a b : ArenaId) (v : Visit) (cs : List Close) → a ≢ b → visited_of (sweeps_visited a v cs) b ≡ visited_of cs b
+of_end a b Next cs n = refl
+of_end a b (Inside k) cs n = refl
+of_end a b Ended cs n = ap (λ t. if t then Some 0 else visited_of cs b) (same_id-not a b n)
+
+ended_beside : StandsBeside IsToSweep
+ended_beside = record {
+  at_shut = λ pool old new other result s h n u. swept_by (ap (λ (cs : List Close). visited_of cs s.arena) h.sweeps) u;
+  at_visit = λ pool old new t v result s h n u.
+      swept_by (ap (λ (cs : List Close). visited_of cs s.arena) h.sweeps ∙ of_end t.arena s.arena result old.sweeps n) u;
+  at_sweep = λ pool old new other s h n u.
+      swept_by (ap (λ (cs : List Close). visited_of cs s.arena) h.sweeps ∙ visited_of-dropped old.sweeps other s.arena n) u;
+  onward = λ pool old new s h u. swept_by (ap (λ (cs : List Close). visited_of cs s.arena) h.sweeps) u;
 }
 
 pub lasts : CloseLasts
-lasts = record { stands = stands; at_shut = at_shut; at_visit = at_visit; onward = onward }
+lasts = record { stands = stands; beside = beside; ended = ended; ended_beside = ended_beside }

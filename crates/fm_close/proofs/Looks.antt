@@ -11,12 +11,12 @@ use Rattle.fm_words.specs.Marks.{mark_word}
 use Rattle.fm_pool_facts.specs.Views.{View, pass_of}
 use Rattle.fm_pool_facts.specs.Words.{mark_of, own_word}
 use Rattle.fm_pool_facts.specs.Closes as closes
-use Rattle.fm_pool_facts.specs.Closes.{visit_by, visit_found, closes_after, visit_entries, visited_of, visited}
+use Rattle.fm_pool_facts.specs.Closes.{visit_by, visit_found, closes_after, sweeps_after, visit_entries, visited_of, visited}
 use Rattle.fm_pool_facts.specs.Steps.{Stepped, note_of, is_clear}
 use Rattle.fm_rule.specs.declared.pool.Pool.{Pool}
 use Rattle.fm_calls.specs.Kept.{Goes, HasEnded}
 use Rattle.fm_calls.specs.Told.{silent_view}
-use Rattle.fm_calls.proofs.Going.{goes_of, made_by-one, NoDraws, rest_is, hand_is, inside_is, mark_is, closes_is, known_on, lasts_on}
+use Rattle.fm_calls.proofs.Going.{goes_of, made_by-one, NoDraws, rest_is, hand_is, inside_is, mark_is, closes_is, sweeps_is, known_on, lasts_on}
 use Rattle.fm_calls.proofs.Telling.{silent_makes}
 use Rattle.fm_gate.specs.Standing.{IsOutside}
 use Rattle.fm_gate.proofs.Standing.{stands_outside}
@@ -24,7 +24,7 @@ use Rattle.fm_close.specs.declared.shutting.Shutting.{Shutting}
 use Rattle.fm_close.specs.declared.outcome.Visit.TheVariants.{Next, Inside, Ended}
 use Rattle.fm_close.specs.Does.{visit_answer}
 use Rattle.fm_close.specs.Learnt.{CanWalk, Looked, AfterVisit}
-use Rattle.fm_close.proofs.Closes.{visited_of-visited}
+use Rattle.fm_close.proofs.Closes.{visited_of-visited, visited_of-begun}
 
 -- No arena has the mark 0.
 mark_of-positive : (a : ArenaId) → 0 < mark_of a
@@ -36,13 +36,16 @@ no_draw : (p : View) (a : ArenaId) (k found : ℕ) → NoDraws (note_of (Visits 
 no_draw p a k found n = All-cons (λ f. is_draw f.step ≡ false) _ [] refl (All-nil (λ f. is_draw f.step ≡ false))
 
 module _ {pool : Pool} {p q : View} {s : Shutting} (found : ℕ) (can : CanWalk pool p s) (own : s.next ≡ p.caller.number → found ≡ own_word p.mark)
-    (step : Stepped p q (record p { closes = closes_after s.arena (visit_found p.shape s.arena s.next found) p.closes })
-    (visit_entries s.arena (visit_found p.shape s.arena s.next found) p.caller) (note_of (Visits s.arena (pass_of s.next)) found p)) where
+    (step : Stepped p q (record p {
+      closes = closes_after s.arena (visit_found p.shape s.arena s.next found) p.closes;
+      sweeps = sweeps_after s.arena (visit_found p.shape s.arena s.next found) p.sweeps;
+    }) (visit_entries s.arena (visit_found p.shape s.arena s.next found) p.caller) (note_of (Visits s.arena (pass_of s.next)) found p)) where
   step_as : (v : closes.Visit) → visit_found p.shape s.arena s.next found ≡ v
-      → Stepped p q (record p { closes = closes_after s.arena v p.closes }) (visit_entries s.arena v p.caller) (note_of (Visits s.arena
-      (pass_of s.next)) found p)
+      → Stepped p q (record p { closes = closes_after s.arena v p.closes; sweeps = sweeps_after s.arena v p.sweeps }) (visit_entries s.arena v p.caller)
+      (note_of (Visits s.arena (pass_of s.next)) found p)
   step_as v e = subst (λ (x : closes.Visit). Stepped p q
-      (record p { closes = closes_after s.arena x p.closes }) (visit_entries s.arena x p.caller) (note_of (Visits s.arena (pass_of s.next)) found p)) e step
+      (record p { closes = closes_after s.arena x p.closes; sweeps = sweeps_after s.arena x p.sweeps }) (visit_entries s.arena x p.caller)
+      (note_of (Visits s.arena (pass_of s.next)) found p)) e step
 
   -- The mark was loaded once, and it is the one noted.
   looked : (v : closes.Visit) → visit_found p.shape s.arena s.next found ≡ v → Looked p q s (visit_entries s.arena v p.caller)
@@ -118,6 +121,7 @@ module _ {pool : Pool} {p q : View} {s : Shutting} (found : ℕ) (can : CanWalk 
       let g = goes_as closes.Inside e in
       record {
         did = record { own = []; does = refl; goes = g; rest = rest_is t };
+        sweeps = sweeps_is t;
         looked = looked closes.Inside e;
         answer = sym (ap (λ b. visit_answer s.next b (s.next + 1 == p.shape.passes)) names);
         close = refl;
@@ -155,6 +159,7 @@ module _ {pool : Pool} {p q : View} {s : Shutting} (found : ℕ) (can : CanWalk 
         ∙ visited_of-visited p.closes s.arena s.next can.walks.at in
         record {
           did = record { own = []; does = refl; goes = g; rest = rest_is t };
+          sweeps = sweeps_is t;
           looked = looked closes.Next e;
           answer = sym (ap (λ b. visit_answer s.next b (s.next + 1 == p.shape.passes)) names_not ∙ ap (visit_answer s.next false) last);
           close = refl;
@@ -184,10 +189,11 @@ module _ {pool : Pool} {p q : View} {s : Shutting} (found : ℕ) (can : CanWalk 
         } in
         record {
           did = record { own = mine; does = refl; goes = g; rest = rest_is t };
+          sweeps = sweeps_is t;
           looked = looked closes.Ended e;
           answer = sym (ap (λ b. visit_answer s.next b (s.next + 1 == p.shape.passes)) names_not ∙ ap (visit_answer s.next false) last);
           close = refl;
-          stands = over;
+          stands = (over, record { ended = refl; at = ap (λ cs. visited_of cs s.arena) (sweeps_is t) ∙ visited_of-begun p.sweeps s.arena });
           outside = outside_by g;
           lasts = lasts_on g;
         }

@@ -13,7 +13,7 @@ use Rattle.fm_pool_facts.specs.Closes.{begun, visited_of}
 use Rattle.fm_pool_facts.specs.Steps.{Stepped, none_noted}
 use Rattle.fm_rule.specs.declared.pool.Pool.{Pool}
 use Rattle.fm_calls.specs.Kept.{Goes}
-use Rattle.fm_calls.proofs.Going.{goes_of, goes_none, kept_none, made_by-one, no_draws, rest_is, hand_is, inside_is, mark_is, closes_is, known_on, lasts_on}
+use Rattle.fm_calls.proofs.Going.{goes_of, goes_none, kept_none, made_by-one, no_draws, rest_is, hand_is, inside_is, mark_is, closes_is, sweeps_is, known_on, lasts_on}
 use Rattle.fm_gate.specs.Standing.{IsOutside, CanVisit}
 use Rattle.fm_gate.proofs.Standing.{stands_outside}
 use Rattle.fm_close.specs.Does as does
@@ -25,6 +25,7 @@ pub after_kind : {pool : Pool} {p : View} {a : ArenaId} → CanVisit pool p a �
     → AfterShut pool p p a (Err (refusal.CannotClose a.kind))
 after_kind can s kind = record {
   did = kept_none _ _ s (kind, refl, refl);
+  sweeps = refl;
   walks = tt;
   outside = can.outside;
   wrong_thread = λ e. refl;
@@ -37,6 +38,7 @@ pub after_wrong_thread : {pool : Pool} {p : View} {a : ArenaId} → CanVisit poo
     → AfterShut pool p p a (Err refusal.WrongThread)
 after_wrong_thread can s kind not_his = record {
   did = kept_none _ _ s (kind, not_his, refl);
+  sweeps = refl;
   walks = tt;
   outside = can.outside;
   wrong_thread = λ e. refl;
@@ -75,6 +77,7 @@ module _ {pool : Pool} {p q : View} {a : ArenaId} (word : ℕ) (can : CanVisit p
       let r : shut_found (alive_holds a word) ≡ Closed = ap shut_found e in
       record {
         did = record { own = entry_of p.caller (Shut a) Closed ∷ []; does = (kind, may, refl); goes = shut_goes Closed r; rest = rest_is (shut_as Closed r) };
+        sweeps = sweeps_is s;
         walks = tt;
         outside = still_outside Closed r;
         wrong_thread = λ e. absurd (cc);
@@ -93,6 +96,7 @@ module _ {pool : Pool} {p q : View} {a : ArenaId} (word : ℕ) (can : CanVisit p
           goes = shut_goes (Held holds) r;
           rest = rest_is (shut_as (Held holds) r);
         };
+        sweeps = sweeps_is s;
         walks = tt;
         outside = still_outside (Held holds) r;
         wrong_thread = λ e. absurd (cc);
@@ -108,6 +112,7 @@ module _ {pool : Pool} {p q : View} {a : ArenaId} (word : ℕ) (can : CanVisit p
       let g = shut_goes Fine r in
       record {
         did = record { own = entry_of p.caller (Shut a) Fine ∷ []; does = (kind, may, refl, refl); goes = g; rest = rest_is t };
+        sweeps = sweeps_is s;
         walks = record {
           unfinished = refl;
           known = known_on g a can.known;

@@ -1,52 +1,66 @@
 -- The walk over the marks, and a close.
-use Rattle.std.proofs.Common.{◌≡◌, ◌≢◌, List, [], ◌∷◌, refl, ap, ◌∙◌, subst}
+use Rattle.std.proofs.Common.{◌≡◌, ◌≢◌, ℕ, List, [], ◌∷◌, ◌++◌, refl, sym, ap, ◌∙◌, subst}
 use Rattle.std.specs.Prelude.{Ok, Err}
 use Rattle.fm_base.specs.declared.caller.Caller.{Caller}
 use Rattle.fm_base.specs.declared.arena_id.ArenaId.{ArenaId}
 use Rattle.fm_base.specs.declared.refusal.Refusal.{Refusal}
 use Rattle.fm_base.specs.declared.refusal.Refusal.TheVariants as refusal
-use Rattle.fm_base.specs.Calls.{Shut, End, Fine, Entry, entry_of}
+use Rattle.fm_base.specs.Calls.{Shut, End, Back, Fine, Entry, entry_of}
 use Rattle.fm_base.specs.Finds.{Close, Rest}
 use Rattle.fm_base.specs.Does.{DoesClose}
 use Rattle.fm_base.specs.View.{but_loans}
+use Rattle.fm_pool_facts.specs.Hands.{Hand, nothing}
 use Rattle.fm_pool_facts.specs.Views.{View}
 use Rattle.fm_pool_facts.specs.Closes.{close_of, visited, dropped}
 use Rattle.fm_rule.specs.declared.pool.Pool.{Pool}
-use Rattle.fm_calls.specs.Kept.{Goes, rest_of, HasEnded}
+use Rattle.fm_calls.specs.Kept.{Goes, rest_of, sweep_numbers, slots_told, HasEnded, HasNoWords}
 use Rattle.fm_calls.proofs.Going.{goes_then, lasts_on}
+use Rattle.fm_gate.specs.Standing.{IsOutside}
 use Rattle.fm_close.specs.declared.shutting.Shutting.{Shutting}
 use Rattle.fm_close.specs.declared.outcome.Visit.{Visit}
 use Rattle.fm_close.specs.declared.outcome.Visit.TheVariants.{Next, Inside, Ended}
 use Rattle.fm_close.specs.Does.{DoesShut}
-use Rattle.fm_close.specs.Learnt.{CanWalk, AfterShut, AfterVisit, Walked, AfterClose}
+use Rattle.fm_close.specs.Learnt.{CanWalk, AfterShut, AfterVisit, Walked, AfterSweep, AfterClose}
 use Rattle.fm_close.proofs.Closes.{dropped-visited, dropped-begun}
 
 -- ---- the walk
 
+-- One sweep more is told.
+told_more : (c : Close) (cs ds : List Close) (h k : Hand) → slots_told cs h ≡ slots_told ds k → slots_told (c ∷ cs) h ≡ slots_told (c ∷ ds) k
+unfolding slots_told
+told_more c cs ds h k e = ap (λ (ns : List ℕ). sweep_numbers (c ∷ []) ++ ns) e
+
 -- One visit more at the head of a walk.
-more : {pool : Pool} {p q r : View} {s t u : Shutting} (cs : List Close) → Goes p q [] → rest_of q ≡ record (rest_of p) { closes = cs }
+more : {pool : Pool} {p q r : View} {s t u : Shutting} (cs : List Close) → Goes p q []
+    → rest_of q ≡ record (rest_of p) { closes = cs; slots = slots_told p.sweeps p.hand } → q.sweeps ≡ p.sweeps
     → dropped s.arena cs ≡ dropped s.arena p.closes → t.arena ≡ s.arena → Walked pool q r t u → Walked pool p r s u
-more {p = p} {q = q} {r = r} {s = s} {t = t} cs g rest drops arena w =
+more {p = p} {q = q} {r = r} {s = s} {t = t} cs g rest sweeps drops arena w =
     let closes : q.closes ≡ cs = ap (λ (x : Rest). x.closes) rest in
     let end : Goes q r (entry_of p.caller (End s.arena) Fine ∷ []) = subst
     (λ (a : ArenaId). Goes q r (entry_of p.caller (End a) Fine ∷ [])) arena (subst
     (λ (c : Caller). Goes q r (entry_of c (End t.arena) Fine ∷ [])) g.same_caller w.goes) in
     let left : dropped t.arena q.closes ≡ dropped s.arena p.closes = ap (λ (a : ArenaId). dropped a q.closes) arena ∙ (ap (dropped s.arena) closes ∙ drops) in
+    let begun : close_of t.arena 0 ∷ q.sweeps ≡ close_of s.arena 0 ∷ p.sweeps = λ j. close_of (arena j) 0 ∷ sweeps j in
+    let numbers : slots_told (close_of t.arena 0 ∷ q.sweeps) q.hand ≡ slots_told (close_of s.arena 0 ∷ p.sweeps) p.hand =
+    told_more (close_of t.arena 0) q.sweeps p.sweeps q.hand p.hand (ap (λ (x : Rest). x.slots) rest)
+    ∙ ap (λ (a : ArenaId). slots_told (close_of a 0 ∷ p.sweeps) p.hand) arena in
     record {
       goes = goes_then g end;
-      rest = w.rest ∙ (ap (λ (x : Rest). record x { closes = dropped t.arena q.closes }) rest
-          ∙ ap (λ (xs : List Close). record (rest_of p) { closes = xs }) left);
-      swept = w.swept;
+      rest = w.rest ∙ (ap (λ (x : Rest). record x { closes = dropped t.arena q.closes; slots = slots_told (close_of t.arena 0 ∷ q.sweeps) q.hand }) rest
+          ∙ (λ j. record (rest_of p) { closes = left j; slots = numbers j }));
+      sweeps = w.sweeps ∙ begun;
+      arena = w.arena ∙ arena;
+      ends = w.ends;
       over = subst (λ (a : ArenaId). HasEnded r a) arena w.over;
     }
 
 -- A visit that isn't the last, and a walk.
 pub visit_then : {pool : Pool} {p q r : View} {s t u : Shutting} (v : Visit) → AfterVisit pool p q s t v → v ≢ Ended → Walked pool q r t u → Walked pool p r s u
 visit_then {p = p} {q = q} {s = s} Next a goes_on w =
-    more (visited s.arena p.closes) (subst
-    (λ (es : List Entry). Goes p q es) a.did.does a.did.goes) a.did.rest (dropped-visited p.closes s.arena) (ap (λ (x : Shutting). x.arena) a.close) w
+    more (visited s.arena p.closes) (subst (λ (es : List Entry). Goes p q es) a.did.does a.did.goes) a.did.rest a.sweeps
+    (dropped-visited p.closes s.arena) (ap (λ (x : Shutting). x.arena) a.close) w
 visit_then {p = p} {q = q} (Inside k) a goes_on w =
-    more p.closes (subst (λ (es : List Entry). Goes p q es) a.did.does a.did.goes) a.did.rest refl (ap (λ (x : Shutting). x.arena) a.close) w
+    more p.closes (subst (λ (es : List Entry). Goes p q es) a.did.does a.did.goes) a.did.rest a.sweeps refl (ap (λ (x : Shutting). x.arena) a.close) w
 visit_then Ended a goes_on w = absurd (goes_on refl)
 
 -- The last visit is a walk.
@@ -56,8 +70,10 @@ visit_last {p = p} {r = r} a =
     record {
       goes = subst (λ (es : List Entry). Goes p r es) a.did.does a.did.goes;
       rest = a.did.rest;
-      swept = record { outside = a.outside; ended = ap (λ (x : Shutting). x.ended) a.close };
-      over = subst (λ (i : ArenaId). HasEnded r i) arena a.stands;
+      sweeps = a.sweeps;
+      arena = arena;
+      ends = record { outside = a.outside; sweep = a.stands.1 };
+      over = subst (λ (i : ArenaId). HasEnded r i) arena a.stands.0;
     }
 
 -- The walk has come from p to q, and its close from s to t: whatever ends it from there ends it from p
@@ -81,28 +97,59 @@ walk_goes_on v w a goes_on = record { can = walks_on v a goes_on; onward = λ r 
 
 -- ---- the close
 
--- What is learnt where all marks were visited.
-pub after_walk : {pool : Pool} {p q r : View} {a : ArenaId} {s t : Shutting} (u : Unit {0}) → AfterShut pool p q a (Ok s) → Walked pool q r s t
+-- A walk and a sweep: all that the walk added to what the pass has is gone
+pub record Finished (pool : Pool) (old new : View) (id : ArenaId) : Type 0 where
+  pub goes : Goes old new (entry_of old.caller (End id) Fine ∷ entry_of old.caller (Back id.slot) Fine ∷ [])
+  pub rest : rest_of new ≡ record (rest_of old) { closes = dropped id old.closes }
+  pub over : HasEnded new id
+  pub no_words : HasNoWords new id
+  pub outside : IsOutside pool new
+
+pub finished : {pool : Pool} {p q r : View} {s t : Shutting} (a : ArenaId) → s.arena ≡ a → p.hand ≡ nothing → Walked pool p q s t
+    → AfterSweep pool q r t.arena → Finished pool p r a
+finished {p = p} {q = q} {r = r} {s = s} {t = t} a is none w z =
+    let same : t.arena ≡ a = w.arena ∙ is in
+    let d = z.did in
+    let ends : Goes p q (entry_of p.caller (End a) Fine ∷ []) = subst (λ (i : ArenaId). Goes p q (entry_of p.caller (End i) Fine ∷ [])) is w.goes in
+    let back : Goes q r (entry_of p.caller (Back a.slot) Fine ∷ []) = subst
+    (λ (x : Caller × ArenaId). Goes q r (entry_of x.0 (Back x.1.slot) Fine ∷ [])) (λ j. (ends.same_caller j, same j)) (subst
+    (λ (es : List Entry). Goes q r es) d.does d.goes) in
+    let left : dropped t.arena q.sweeps ≡ p.sweeps =
+    ap (dropped t.arena) (w.sweeps ∙ (λ j. close_of (sym w.arena j) 0 ∷ p.sweeps)) ∙ dropped-begun p.sweeps t.arena in
+    let hand : q.hand ≡ p.hand = w.ends.outside.no_slot ∙ sym none in
+    record {
+      goes = goes_then ends back;
+      rest = d.rest ∙ (ap (λ (x : Rest). record x { slots = slots_told (dropped t.arena q.sweeps) q.hand }) w.rest
+          ∙ (λ j. record (rest_of p) { closes = dropped (is j) p.closes; slots = slots_told (left j) (hand j) }));
+      over = subst (HasEnded r) same z.ended;
+      no_words = subst (HasNoWords r) same z.no_words;
+      outside = z.outside;
+    }
+
+-- What is learnt where all marks were visited, and the arena was swept.
+pub after_walk : {pool : Pool} {p q r : View} {a : ArenaId} {s : Shutting} (u : Unit {0}) → AfterShut pool p q a (Ok s) → Finished pool q r s.arena
     → AfterClose pool p r a (Ok u)
 after_walk {p = p} {q = q} {r = r} {a = a} {s = s} u h w =
     let does = h.did.does in
     let arena : s.arena ≡ a = ap (λ (x : Shutting). x.arena) does.2 in
     let g : Goes p q (entry_of p.caller (Shut a) Fine ∷ []) = subst (λ (es : List Entry). Goes p q es) does.3 h.did.goes in
-    let end : Goes q r (entry_of p.caller (End a) Fine ∷ []) = subst (λ (i : ArenaId). Goes q r (entry_of p.caller (End i) Fine ∷ [])) arena
-    (subst (λ (c : Caller). Goes q r (entry_of c (End s.arena) Fine ∷ [])) g.same_caller w.goes) in
+    let end : Goes q r (entry_of p.caller (End a) Fine ∷ entry_of p.caller (Back a.slot) Fine ∷ []) = subst
+    (λ (x : Caller × ArenaId). Goes q r (entry_of x.0 (End x.1) Fine ∷ entry_of x.0 (Back x.1.slot) Fine ∷ []))
+    (λ j. (g.same_caller j, arena j)) w.goes in
     let closes : q.closes ≡ close_of a 0 ∷ p.closes = ap (λ (x : Rest). x.closes) h.did.rest in
     let left : dropped s.arena q.closes ≡ p.closes = ap (λ (i : ArenaId). dropped i q.closes) arena ∙ (ap (dropped a) closes ∙ dropped-begun p.closes a) in
     let all = goes_then g end in
     record {
       did = record {
-        own = entry_of p.caller (Shut a) Fine ∷ entry_of p.caller (End a) Fine ∷ [];
+        own = entry_of p.caller (Shut a) Fine ∷ entry_of p.caller (End a) Fine ∷ entry_of p.caller (Back a.slot) Fine ∷ [];
         does = (does.0, does.1, refl);
         goes = all;
         rest = w.rest ∙ (ap (λ (x : Rest). record x { closes = dropped s.arena q.closes }) h.did.rest
             ∙ ap (λ (xs : List Close). record (rest_of p) { closes = xs }) left);
       };
-      ended = subst (λ (i : ArenaId). HasEnded r i) arena w.over;
-      outside = w.swept.outside;
+      ended = subst (HasEnded r) arena w.over;
+      no_words = subst (HasNoWords r) arena w.no_words;
+      outside = w.outside;
       wrong_thread = λ e. absurd (cc);
       cannot_close = λ k e. absurd (cc);
       lasts = lasts_on all;
@@ -120,6 +167,7 @@ pub after_refused : {pool : Pool} {p q : View} {a : ArenaId} (why : Refusal) →
 after_refused {p = p} {a = a} why h = record {
   did = record { own = h.did.own; does = refused_does p.caller a why h.did.own h.did.does; goes = h.did.goes; rest = h.did.rest };
   ended = tt;
+  no_words = tt;
   outside = h.outside;
   wrong_thread = λ e. let same : why ≡ refusal.WrongThread = cc in h.wrong_thread (ap (λ (r : Refusal). Err r) same);
   cannot_close = λ k e. let same : why ≡ refusal.CannotClose k = cc in h.cannot_close k (ap (λ (r : Refusal). Err r) same);

@@ -4,7 +4,7 @@ use Rattle.fm_base.specs.declared.arena_id.ArenaId.{ArenaId}
 use Rattle.fm_base.specs.declared.kind.Kind.{Kind}
 use Rattle.fm_base.specs.declared.refusal.Refusal.{Refusal}
 use Rattle.fm_base.specs.declared.refusal.Refusal.TheVariants.{WrongThread, CannotClose}
-use Rattle.fm_base.specs.Calls.{End, Fine, Entry, entry_of}
+use Rattle.fm_base.specs.Calls.{End, Back, Fine, Entry, entry_of}
 use Rattle.fm_base.specs.Does.{DoesClose, DoesGiveBack}
 use Rattle.fm_base.specs.Finds.{Close, Find, Visits}
 use Rattle.fm_base.specs.View.{but_loans}
@@ -15,7 +15,7 @@ use Rattle.fm_pool_facts.specs.Words.{mark_of, alive_holds}
 use Rattle.fm_pool_facts.specs.Holds.{released}
 use Rattle.fm_pool_facts.specs.Handles.{giving_by, given_back, giving_entries}
 use Rattle.fm_rule.specs.declared.pool.Pool.{Pool}
-use Rattle.fm_calls.specs.Kept.{Goes, KeptAs, KeptBut, KeptHandling, Kept, rest_of, HasEnded, Lasts}
+use Rattle.fm_calls.specs.Kept.{Goes, KeptAs, KeptBut, KeptHandling, Kept, rest_of, slots_told, HasEnded, HasNoWords, Lasts}
 use Rattle.fm_gate.specs.Standing.{IsOutside, HasHandle}
 use Rattle.fm_close.specs.declared.gave_back.GaveBack.{GaveBack}
 use Rattle.fm_close.specs.declared.gave_back.GaveBack.TheVariants as gave
@@ -37,9 +37,14 @@ pub record CanWalk (pool : Pool) (p : View) (s : Shutting) : Type 0 where
   pub outside : IsOutside pool p
   pub walks : IsUnderWay p s
 
+-- The arena has ended, and the pass hasn't begun to sweep it
+pub record IsToSweep (p : View) (s : Shutting) : Type 0 where
+  pub ended : s.ended ≡ true
+  pub at : visited_of p.sweeps s.arena ≡ Some 0
+
 pub record CanSweep (pool : Pool) (p : View) (s : Shutting) : Type 0 where
   pub outside : IsOutside pool p
-  pub ended : s.ended ≡ true
+  pub sweep : IsToSweep p s
 
 -- outside, with a handle of the arena
 pub record CanGiveBack (pool : Pool) (p : View) (id : ArenaId) : Type 0 where
@@ -56,6 +61,7 @@ closes_shut id (Err r) cs = cs
 -- of `shut`
 pub record AfterShut (pool : Pool) (old new : View) (id : ArenaId) (result : Result Shutting Refusal) : Type 0 where
   pub did : KeptBut old new (closes_shut id result old.closes) (DoesShut old.caller id result)
+  pub sweeps : new.sweeps ≡ old.sweeps
   pub walks : IfOk result (λ s. IsUnderWay new s)
   pub outside : IsOutside pool new
   -- then the pass is as it was
@@ -69,11 +75,17 @@ closes_visited id Next cs = visited id cs
 closes_visited id (Inside k) cs = cs
 closes_visited id Ended cs = dropped id cs
 
+-- the arenas that a pass has to sweep after a visit
+abbrev pub sweeps_visited : ArenaId → Visit → List Close → List Close
+sweeps_visited id Next cs = cs
+sweeps_visited id (Inside k) cs = cs
+sweeps_visited id Ended cs = close_of id 0 ∷ cs
+
 -- what stands of the close after a visit
 abbrev pub StandsAfter : View → Shutting → Visit → Type 0
 StandsAfter p s Next = IsUnderWay p s
 StandsAfter p s (Inside k) = IsUnderWay p s × (k ≢ p.caller.number)
-StandsAfter p s Ended = HasEnded p s.arena
+StandsAfter p s Ended = HasEnded p s.arena × IsToSweep p s
 
 -- The one mark that the visit loaded, of the walk's next number, as the finds keep it; these are the visit's own entries
 pub record Looked (old new : View) (s : Shutting) (own : List Entry) : Type 0 where
@@ -86,7 +98,11 @@ pub record Looked (old new : View) (s : Shutting) (own : List Entry) : Type 0 wh
 
 -- of `visit`: its answer is by the mark that it loaded
 pub record AfterVisit (pool : Pool) (old new : View) (s t : Shutting) (result : Visit) : Type 0 where
-  pub did : KeptBut old new (closes_visited s.arena result old.closes) (DoesVisit old.caller s.arena result)
+  pub did : KeptAs old new (record (rest_of old) {
+    closes = closes_visited s.arena result old.closes;
+    slots = slots_told (sweeps_visited s.arena result old.sweeps) old.hand;
+  }) (DoesVisit old.caller s.arena result)
+  pub sweeps : new.sweeps ≡ sweeps_visited s.arena result old.sweeps
   pub looked : Looked old new s did.own
   pub answer : result ≡ visit_answer s.next (looked.find.found == mark_of s.arena) (s.next + 1 == old.shape.passes)
   pub close : t ≡ after_visit s result
@@ -97,14 +113,30 @@ pub record AfterVisit (pool : Pool) (old new : View) (s t : Shutting) (result : 
 -- of the visits of all marks that were left: the last one is the entry End
 pub record Walked (pool : Pool) (old new : View) (s t : Shutting) : Type 0 where
   pub goes : Goes old new (entry_of old.caller (End s.arena) Fine ∷ [])
-  pub rest : rest_of new ≡ record (rest_of old) { closes = dropped s.arena old.closes }
-  pub swept : CanSweep pool new t
+  pub rest : rest_of new ≡ record (rest_of old) {
+    closes = dropped s.arena old.closes;
+    slots = slots_told (close_of s.arena 0 ∷ old.sweeps) old.hand;
+  }
+  pub sweeps : new.sweeps ≡ close_of s.arena 0 ∷ old.sweeps
+  pub arena : t.arena ≡ s.arena
+  pub ends : CanSweep pool new t
   pub over : HasEnded new s.arena
+
+-- of `sweep`, whose own entry takes the words of the slot back: none are lent to the arena any more
+pub record AfterSweep (pool : Pool) (old new : View) (id : ArenaId) : Type 0 where
+  pub did : KeptAs old new (record (rest_of old) { slots = slots_told (dropped id old.sweeps) old.hand })
+      (λ own. own ≡ entry_of old.caller (Back id.slot) Fine ∷ [])
+  pub sweeps : new.sweeps ≡ dropped id old.sweeps
+  pub ended : HasEnded new id
+  pub no_words : HasNoWords new id
+  pub outside : IsOutside pool new
+  pub lasts : Lasts old new
 
 -- of `close`
 pub record AfterClose (pool : Pool) (old new : View) (id : ArenaId) (result : Result (Unit {0}) Refusal) : Type 0 where
   pub did : Kept old new (λ own. DoesClose old.caller id result (but_loans own))
   pub ended : IfOk result (λ _. HasEnded new id)
+  pub no_words : IfOk result (λ _. HasNoWords new id)
   pub outside : IsOutside pool new
   -- then the pass is as it was
   pub wrong_thread : result ≡ Err WrongThread → new ≡ old
@@ -138,5 +170,6 @@ pub record AfterSpend (pool : Pool) (old new : View) (id : ArenaId) (result : Op
 pub record AfterGiveBack (pool : Pool) (old new : View) (id : ArenaId) (result : GaveBack) : Type 0 where
   pub did : KeptHandling old new (released id old.handles) (λ own. DoesGiveBack old.caller id (others_left result) (but_loans own))
   pub ended : result ≡ gave.Ended → HasEnded new id
+  pub no_words : result ≡ gave.Ended → HasNoWords new id
   pub outside : IsOutside pool new
   pub lasts : Lasts old new

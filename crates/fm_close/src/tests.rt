@@ -1,19 +1,20 @@
-ghost use Rattle.std.specs.Prelude.{◌≡◌, ◌≢◌, ◌<◌, IfOk, IfSome};
+ghost use Rattle.std.specs.Prelude.{◌≡◌, ◌≢◌, ◌<◌, ◌≤◌, IfOk, IfSome};
 ghost use Rattle.fm_pool_facts.specs.Views.{span};
-ghost use Rattle.fm_pool_facts.specs.Views.{IsKnown};
+ghost use Rattle.fm_pool_facts.specs.Views.{IsKnown, given_of};
+ghost use Rattle.fm_calls.specs.Kept.{Lasts};
 ghost use Rattle.fm_gate.specs.Standing.{CanVisit, IsOutside};
-ghost use Rattle.fm_close.specs.Learnt.{CanWalk, IsUnderWay, StandsAfter};
+ghost use Rattle.fm_close.specs.Learnt.{CanSweep, CanWalk, IsUnderWay, StandsAfter};
 ghost use Rattle.fm_close.specs.Does.{after_visit};
 
 mod crews;
+mod holds;
 mod kinds;
+mod reuse;
 mod threads;
 
 use crate::{Shutting, Visit, a_close_lasts, close, shut, sweep, visit};
 use fm_base::{ArenaId, Kind, Refusal};
-use fm_gate::{
-    a_hold_stands, allocate, enter, hold, is_alive, leave, load, open_arena, store, unhold,
-};
+use fm_gate::{a_hold_stands, allocate, enter, hold, is_alive, leave, open_arena, swap_if, unhold};
 use fm_rule::{Pass, Pool};
 use fm_words::Shape;
 use std::alloc::AllocGlobal;
@@ -39,15 +40,26 @@ fn made<R: Abort + AllocGlobal>(rt: &R, slots: u32) -> (Pool, Pass)
     Pool::make(rt.alloc(), shape).expect(rt, "words")
 }
 
+/// Puts a number into the first word where that is 0, and answers the number found.
+fn put(pool: &Pool, pass: &mut Pass, a: ArenaId, v: u64) -> Result<u64, Refusal>
+    requires can { CanVisit pool.now pass.old a }
+    requires given { 8 ≤ given_of pass.old a }
+    ensures outside { IsOutside pool.now pass.new }
+    ensures lasts { Lasts pass.old pass.new }
+{
+    enter(pool, pass, a)?;
+    let found = swap_if(pool, pass, 0, 0, v);
+    leave(pool, pass);
+    Ok(found)
+}
+
 #[test]
 fn one_pass_uses_the_only_slot_and_closes_it(rt: HostRuntime) {
     let (pool, mut pass) = made(&rt, 1);
     let a = open_arena(&rt, &pool, &mut pass, Kind::Shared).expect(&rt, "a slot");
     assert_eq!(rt; allocate(&rt, &pool, &mut pass, a, 8, 8), Ok(0));
-    assert_eq!(rt; enter(&pool, &mut pass, a), Ok(()));
-    store(&pool, &mut pass, 0, 9);
-    assert_eq!(rt; load(&pool, &mut pass, 0), 9);
-    leave(&pool, &mut pass);
+    assert_eq!(rt; put(&pool, &mut pass, a, 9), Ok(0));
+    assert_eq!(rt; put(&pool, &mut pass, a, 8), Ok(9));
     assert_eq!(rt; is_alive(&pool, &mut pass, a), Ok(true));
     let mut s = shut(&pool, &mut pass, a).expect(&rt, "alive");
     assert_eq!(rt; s.arena(), a);
@@ -140,6 +152,22 @@ fn step_beside(pool: &Pool, pass: &mut Pass, other: ArenaId, s: &mut Shutting) -
     }
 }
 
+/// Visits another arena before the one that ended is swept.
+fn look_before_sweep(
+    pool: &Pool,
+    pass: &mut Pass,
+    other: ArenaId,
+    s: &Shutting,
+) -> Result<bool, Refusal>
+    requires sweep { CanSweep pool.now pass.old s.now }
+    requires known { IsKnown pass.old other }
+    ensures sweep { CanSweep pool.now pass.new s.now }
+    ensures known { IsKnown pass.new other }
+{
+    a_close_lasts();
+    is_alive(pool, pass, other)
+}
+
 #[test]
 fn another_arena_is_used_in_the_midst_of_a_close(rt: HostRuntime) {
     let (pool, mut pass) = made(&rt, 2);
@@ -152,7 +180,7 @@ fn another_arena_is_used_in_the_midst_of_a_close(rt: HostRuntime) {
         step_beside(&pool, &mut pass, b, &mut s),
         Some(Visit::Ended)
     );
-    assert_eq!(rt; is_alive(&pool, &mut pass, b), Ok(true));
+    assert_eq!(rt; look_before_sweep(&pool, &mut pass, b, &s), Ok(true));
     sweep(&pool, &mut pass, s);
     assert_eq!(rt; close(&rt, &pool, &mut pass, b), Ok(()));
 }

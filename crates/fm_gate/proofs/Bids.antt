@@ -10,12 +10,12 @@ use Rattle.fm_words.specs.Sessions.{session_of}
 use Rattle.fm_base.specs.declared.caller.Caller.{Caller}
 use Rattle.fm_base.specs.declared.arena_id.ArenaId.{ArenaId}
 use Rattle.fm_base.specs.declared.kind.Kind.{Kind}
-use Rattle.fm_base.specs.Arenas.{owner_of, has_arena}
+use Rattle.fm_base.specs.Arenas.{owner_of}
 use Rattle.fm_base.specs.Calls.{Entry}
 use Rattle.fm_base.specs.Histories.{made_by, state_after}
 use Rattle.fm_base.specs.Finds.{Find, TakesSlot, is_draw}
 use Rattle.fm_pool_facts.specs.Hands.{Hand, nothing, taken, learnt, takes, hand_taken}
-use Rattle.fm_pool_facts.specs.Views.{View, IsSpent, limit_of}
+use Rattle.fm_pool_facts.specs.Views.{View, IsBusy, IsBusyIn, limit_of}
 use Rattle.fm_pool_facts.specs.Holds.{handles_with}
 use Rattle.fm_pool_facts.specs.Steps.{Stepped, none_noted, note_of, is_clear, open_entries}
 use Rattle.fm_pool_facts.specs.Moves.{LearnsSlots}
@@ -53,23 +53,27 @@ record SameSeen (o p : View) : Type 0 where
   whole : p.whole ≡ o.whole
   shape : p.shape ≡ o.shape
   seen : o.whole ≡ true → p.seen ≡ o.seen
+  sweeps : p.sweeps ≡ o.sweeps
 
 same_seen : {pool : Pool} {o p : View} → Bidding pool o p → SameSeen o p
 same_seen {o = o} {p = p} b = ⊎_elim
-    (λ (e : p ≡ o). record { whole = ap (λ (x : View). x.whole) e; shape = ap (λ (x : View). x.shape) e; seen = λ w. ap (λ (x : View). x.seen) e })
+    (λ (e : p ≡ o). record {
+      whole = ap (λ (x : View). x.whole) e;
+      shape = ap (λ (x : View). x.shape) e;
+      seen = λ w. ap (λ (x : View). x.seen) e;
+      sweeps = ap (λ (x : View). x.sweeps) e;
+    })
     (λ (g : Went o p nothing). record {
       whole = g.goes.same_whole;
       shape = g.goes.same_shape;
       seen = λ w. g.goes.seen ∙ (ap (λ (es : List Entry). o.seen ++ es) (g.goes.alone w) ∙ append-nil o.seen);
+      sweeps = ap (λ (x : View). x.sweeps) g.is;
     })
     b.went
 
-spent_same : (o p : View) → p.shape ≡ o.shape → p.seen ≡ o.seen → (s : ℕ) → IsSpent p s → IsSpent o s
-spent_same o p e f s y = record {
-  arena = y.arena;
-  in_slot = y.in_slot;
-  known = subst (λ (x : Shape × List Entry). has_arena (state_after (limit_of x.0) [] x.1) y.arena ≡ true) (λ j. (e j, f j)) y.known;
-}
+busy_same : (o p : View) → p.shape ≡ o.shape → p.seen ≡ o.seen → (s : ℕ) → IsBusy p s → IsBusy o s
+busy_same o p e f s y =
+    subst (λ (x : Shape × List Entry). IsBusyIn x.0.generations (state_after (limit_of x.0) [] x.1) s) (λ j. (e j, f j)) y
 
 module _ {pool : Pool} {o p q : View} (word bit found : ℕ) (b : Bidding pool o p) (s : Takes p q word bit found) (l : LearnsSlots p found)
     (low : bit < pool.shape.slots) where
@@ -115,8 +119,8 @@ module _ {pool : Pool} {o p q : View} (word bit found : ℕ) (b : Bidding pool o
       record {
         went = went_to (taken bit) (ap (λ (c : Bool). hand_taken c bit p.hand) hit);
         low = subst (λ (z : Shape). bit < z.slots) shape low;
-        unspent = λ w y. l.unspent (m.whole ∙ w) bit (subst (λ (z : Shape). bit < z.slots) (sym b.of.1) low) (ap (λ (x : ℕ). bit_at x bit) e ∙ one)
-            (spent_same p o (sym m.shape) (sym (m.seen w)) bit y);
+        idle = λ w y. l.idle (m.whole ∙ w) bit (subst (λ (z : Shape). bit < z.slots) (sym b.of.1) low) (ap (λ (x : ℕ). bit_at x bit) e ∙ one)
+            (busy_same p o (sym m.shape) (sym (m.seen w)) bit y);
       }
 
   -- No bit is 1.
@@ -148,8 +152,9 @@ module _ {pool : Pool} {o p q : View} (word bit found : ℕ) (b : Bidding pool o
               nothing = zero;
             })
             b.went;
-        spent = λ y k h. spent_same o p m.shape (m.seen y) k
-            (l.spent (m.whole ∙ y) b.none k (subst (λ (z : Shape). k < z.slots) (sym m.shape) h) (ap (λ (x : ℕ). bit_at x k) zero ∙ bit_at-zero k));
+        busy = λ y n k h. busy_same o p m.shape (m.seen y) k
+            (l.busy (m.whole ∙ y) b.none (m.sweeps ∙ n) k (subst (λ (z : Shape). k < z.slots) (sym m.shape) h)
+            (ap (λ (x : ℕ). bit_at x k) zero ∙ bit_at-zero k));
       }
     where
       -- a word that has the bit isn't 0

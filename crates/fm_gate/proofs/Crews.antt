@@ -9,6 +9,7 @@ use Rattle.fm_rule.specs.Passes.{IsOf}
 use Rattle.fm_rule.specs.Draws.{Asked, Gathers}
 use Rattle.fm_calls.specs.Kept.{Lasts}
 use Rattle.fm_calls.proofs.Going.{lasts_by, reached_by}
+use Rattle.fm_calls.proofs.Sweeps.{no_sweeps}
 use Rattle.fm_gate.specs.Crews.{StandsOn, StandAtDraw, StandsAtNoPass, StandsAtLook, StandsAtGather, StandsAtMeeting, SeenIsKnown, NothingStays, NothingIsGathered, CrewStands}
 
 -- what stays of a pass that stands where it stood
@@ -24,6 +25,7 @@ record Stays (p q : View) : Type 0 where
   pub handles : q.handles ≡ p.handles
   pub pages : q.pages ≡ p.pages
   pub closes : q.closes ≡ p.closes
+  pub sweeps : q.sweeps ≡ p.sweeps
 
 -- It knows what it knew, and what it could do it can do still.
 stands_by : {pool : Pool} {p q : View} (more : List Entry) → q.seen ≡ p.seen ++ more → IsSound q → Stays p q → StandsOn pool p q
@@ -51,8 +53,10 @@ stands_by {pool = pool} {p = p} {q = q} more seen sound s =
         no_handle = s.handles ∙ n.no_handle;
         no_page = s.pages ∙ n.no_page;
         no_close = s.closes ∙ n.no_close;
+        no_sweep = s.sweeps ∙ n.no_sweep;
       };
       closes = s.closes;
+      sweeps = s.sweeps;
       caller = s.caller;
       shape = s.shape;
       lasts = l;
@@ -72,6 +76,7 @@ asked_stands a sound = stands_by a.more a.seen sound (record {
   handles = ap (λ (x : View). x.handles) a.is;
   pages = ap (λ (x : View). x.pages) a.is;
   closes = ap (λ (x : View). x.closes) a.is;
+  sweeps = ap (λ (x : View). x.sweeps) a.is;
 })
 
 at_no_pass : StandsAtNoPass
@@ -100,6 +105,7 @@ at_draw pool p q d of h =
         no_handle = ap (λ (x : View). x.handles) h.is;
         no_page = ap (λ (x : View). x.pages) h.is;
         no_close = ap (λ (x : View). x.closes) h.is;
+        no_sweep = ap (λ (x : View). x.sweeps) h.is;
       };
       lasts = lasts_by (reached_by h.asked.more seen shape h.sound);
     }
@@ -120,6 +126,7 @@ gathers_stand g = stands_by g.more g.seen g.sound (record {
   handles = ap (λ (x : View). x.handles) g.is;
   pages = ap (λ (x : View). x.pages) g.is;
   closes = ap (λ (x : View). x.closes) g.is;
+  sweeps = ap (λ (x : View). x.sweeps) g.is;
 })
 
 at_gather : StandsAtGather
@@ -140,6 +147,7 @@ at_meeting pool p q s = stands_by s.others (s.seen ∙ append-nil (p.seen ++ s.o
   handles = ap (λ (x : View). x.handles) s.is_part;
   pages = ap (λ (x : View). x.pages) s.is_part;
   closes = ap (λ (x : View). x.closes) s.is_part;
+  sweeps = ap (λ (x : View). x.sweeps) s.is_part;
 })
 
 nothing_stays : NothingStays
@@ -148,6 +156,7 @@ nothing_stays p q own g rest n = record {
   no_handle = ap (λ (r : Rest). r.handles) rest ∙ n.no_handle;
   no_page = ap (λ (r : Rest). r.pages) rest ∙ n.no_page;
   no_close = ap (λ (r : Rest). r.closes) rest ∙ n.no_close;
+  no_sweep = no_sweeps p q rest n.no_sweep;
 }
 
 can_gather : NothingIsGathered
@@ -161,6 +170,7 @@ can_gather pool p o n = record {
   no_handle = n.no_handle;
   no_page = n.no_page;
   no_close = n.no_close;
+  no_sweep = n.no_sweep;
 }
 
 pub stands : CrewStands

@@ -11,3 +11,5 @@ pub mod Handles
 pub mod Lasting
 pub mod Outliving
 pub mod Crews
+pub mod Counted
+pub mod Both

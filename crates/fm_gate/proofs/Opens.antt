@@ -7,13 +7,13 @@ use Rattle.fm_base.specs.declared.kind.Kind.{Kind}
 use Rattle.fm_base.specs.declared.kind.Kind.TheVariants as kind
 use Rattle.fm_base.specs.declared.refusal.Refusal.TheVariants as refusal
 use Rattle.fm_base.proofs.Outcomes.{opened_new}
-use Rattle.fm_pool_facts.specs.Hands.{Hand, nothing, slots_in}
+use Rattle.fm_pool_facts.specs.Hands.{Hand, nothing}
 use Rattle.fm_pool_facts.specs.Views.{View, In}
 use Rattle.fm_pool_facts.specs.Holds.{is_automatic, handles_with}
 use Rattle.fm_pool_facts.specs.Steps.{open_entries}
 use Rattle.fm_pool_facts.proofs.Gripping.{automatic}
 use Rattle.fm_rule.specs.declared.pool.Pool.{Pool}
-use Rattle.fm_calls.specs.Kept.{Goes, rest_of}
+use Rattle.fm_calls.specs.Kept.{Goes, rest_of, slots_told}
 use Rattle.fm_calls.specs.Told.{silent_view}
 use Rattle.fm_calls.proofs.Going.{goes_then, lasts_on}
 use Rattle.fm_calls.proofs.Telling.{silent_makes}
@@ -25,7 +25,7 @@ use Rattle.fm_gate.proofs.Standing.{of_on, stands_outside}
 -- What the pass has then is what it had, but for these handles: it has no slot.
 rest_with : (p q : View) (hs : List ArenaId) → p.hand ≡ nothing → q ≡ record p { seen = q.seen; finds = q.finds; hand = nothing; handles = hs }
     → rest_of q ≡ record (rest_of p) { handles = hs }
-rest_with p q hs h is = ap rest_of is ∙ ap (λ (x : Hand). record (rest_of p) { slots = slots_in x; handles = hs }) (sym h)
+rest_with p q hs h is = ap rest_of is ∙ ap (λ (x : Hand). record (rest_of p) { slots = slots_told p.sweeps x; handles = hs }) (sym h)
 
 no_handle : (k : Kind) (hs : List ArenaId) → hs ≡ handles_opened k (Err refusal.NoSlot) hs
 no_handle kind.Global hs = refl
@@ -51,7 +51,7 @@ after_no_slot {p = p} {q = q} {k = k} out n =
         refl,
         record {
           find = n.found;
-          spent = n.spent;
+          busy = n.busy;
           is = is ∙ ap (λ (x : Hand). record p { seen = q.seen; finds = q.finds; hand = x }) (sym out.no_slot);
         },
       );
@@ -100,7 +100,7 @@ module _ {p m q : View} {a : ArenaId} {slot : ℕ} {k : Kind} (t : SlotTaken p m
       has = subst (λ (hs : List ArenaId). In a hs) (sym (ap (λ (x : View). x.handles) is ∙ first_handle a p.handles (o.kind ∙ auto))) (inl refl);
       automatic = o.kind ∙ auto;
     };
-    slot = λ w all. t.unspent w (all slot t.low);
+    slot = λ w all. t.idle w (all slot t.low);
     no_slot = tt;
     outside = stands_outside goes out.of out.no_number (ap (λ (x : View). x.hand) is) (ap (λ (x : View). x.inside) is ∙ out.outside)
         (ap (λ (x : View). x.mark) is ∙ out.unmarked);

@@ -11,12 +11,13 @@ use Rattle.fm_calls.specs.Kept.{Goes, Lasts, rest_of}
 use Rattle.fm_gate.specs.declared.held.Hold.{Hold}
 use Rattle.fm_gate.specs.Standing.{IsOutside, IsInside, CanUnhold}
 
--- no hold, handle, page or close
+-- no hold, handle or page, and no close that isn't swept
 pub record HasNothing (p : View) : Type 0 where
   pub no_hold : p.holds ≡ []
   pub no_handle : p.handles ≡ []
   pub no_page : p.pages ≡ []
   pub no_close : p.closes ≡ []
+  pub no_sweep : p.sweeps ≡ []
 
 -- The pass stands where it stood, has what it had, and knows what it knew
 pub record StandsOn (pool : Pool) (old new : View) : Type 0 where
@@ -26,6 +27,7 @@ pub record StandsOn (pool : Pool) (old new : View) : Type 0 where
   pub held : (hold : Hold) → CanUnhold pool old hold → CanUnhold pool new hold
   pub nothing : HasNothing old → HasNothing new
   pub closes : new.closes ≡ old.closes
+  pub sweeps : new.sweeps ≡ old.sweeps
   pub caller : new.caller ≡ old.caller
   pub shape : new.shape ≡ old.shape
   pub lasts : Lasts old new

@@ -12,7 +12,7 @@ use Rattle.fm_base.specs.Finds.{FoundNothing, is_slot}
 use Rattle.fm_base.specs.Does.{DoesEnter, DoesAct, DoesPatch, DoesOpen, DoesAllocate, DoesIsAlive, DoesHold, DoesUnhold, DoesAgain}
 use Rattle.fm_base.specs.Outcomes.{Gives}
 use Rattle.fm_base.specs.View.{but_loans}
-use Rattle.fm_pool_facts.specs.Views.{View, In, IsKnown, IsSpent}
+use Rattle.fm_pool_facts.specs.Views.{View, In, IsKnown, IsBusy}
 use Rattle.fm_pool_facts.specs.Holds.{grips, with_grips, holds_after, released}
 use Rattle.fm_pool_facts.specs.Words.{alive_holds, hold_found}
 use Rattle.fm_rule.specs.declared.pool.Pool.{Pool}
@@ -56,9 +56,9 @@ pub record AfterIsAlive (pool : Pool) (old new : View) (id : ArenaId) (result : 
   pub wrong_thread : result ≡ Err WrongThread → new ≡ old
   pub lasts : Lasts old new
 
--- an arena was opened in every slot
-abbrev pub AllSpent : View → Type 0
-AllSpent p = (slot : ℕ) → slot < p.shape.slots → IsSpent p slot
+-- every slot has an arena that hasn't ended, or has had its last generation
+abbrev pub AllBusy : View → Type 0
+AllBusy p = (slot : ℕ) → slot < p.shape.slots → IsBusy p slot
 
 -- the arena is known now, and wasn't before
 pub record IsNew (old new : View) (id : ArenaId) : Type 0 where
@@ -68,7 +68,7 @@ pub record IsNew (old new : View) (id : ArenaId) : Type 0 where
 -- A step found that no slot could be lent; the pass is as it was, but for what it has seen and found
 pub record FoundNoSlot (old new : View) : Type 0 where
   pub find : FoundNothing is_slot old.finds new.finds
-  pub spent : old.whole ≡ true → AllSpent old
+  pub busy : old.whole ≡ true → old.sweeps ≡ [] → AllBusy old
   pub is : new ≡ record old { seen = new.seen; finds = new.finds }
 
 -- the handles of the pass after `open_arena`
@@ -76,13 +76,13 @@ abbrev pub handles_opened : Kind → Result ArenaId Refusal → List ArenaId →
 handles_opened Automatic (Ok id) hs = id ∷ hs
 handles_opened kind result hs = hs
 
--- of `open_arena`: `NoSlot` only where the word of slot bits was 0 at a step of the call. A pass that is known to be whole gets it exactly where an arena
--- was opened in every slot
+-- of `open_arena`: `NoSlot` only where the word of slot bits was 0 at a step of the call. A pass that is known to be whole, and has swept what it ended,
+-- gets it exactly where every slot is busy
 pub record AfterOpen (pool : Pool) (old new : View) (kind : Kind) (result : Result ArenaId Refusal) : Type 0 where
   pub did : KeptHandling old new (handles_opened kind result old.handles) (λ own. DoesOpen old.caller kind result (but_loans own))
   pub is_new : IfOk result (λ id. IsNew old new id)
   pub handle : kind ≡ Automatic → IfOk result (λ id. HasHandle pool new id)
-  pub slot : IfOk result (λ _. old.whole ≡ true → ¬ (AllSpent old))
+  pub slot : IfOk result (λ _. old.whole ≡ true → ¬ (AllBusy old))
   pub no_slot : IfErr result (λ refusal. (refusal ≡ NoSlot) × FoundNoSlot old new)
   pub outside : IsOutside pool new
   pub lasts : Lasts old new

@@ -4,3 +4,4 @@ pub mod Lasting
 pub mod Slots
 pub mod Handling
 pub mod Crews
+pub mod Holding

@@ -5,11 +5,11 @@ use Rattle.fm_base.specs.declared.kind.Kind.{Kind}
 use Rattle.fm_base.specs.Arenas.{owner_of}
 use Rattle.fm_base.specs.Finds.{FoundNothing, is_slot}
 use Rattle.fm_pool_facts.specs.Hands.{Hand, nothing, taken}
-use Rattle.fm_pool_facts.specs.Views.{View, IsSpent}
+use Rattle.fm_pool_facts.specs.Views.{View, IsBusy}
 use Rattle.fm_pool_facts.specs.Holds.{handles_with}
 use Rattle.fm_pool_facts.specs.Steps.{open_entries}
 use Rattle.fm_calls.specs.Kept.{Goes}
-use Rattle.fm_gate.specs.Learnt.{AllSpent}
+use Rattle.fm_gate.specs.Learnt.{AllBusy}
 
 -- the pass went on without entries of its own, found words of slot bits, and has this in its hand
 pub record Went (old new : View) (hand : Hand) : Type 0 where
@@ -20,13 +20,13 @@ pub record Went (old new : View) (hand : Hand) : Type 0 where
 pub record SlotTaken (old new : View) (slot : ℕ) : Type 0 where
   pub went : Went old new (taken slot)
   pub low : slot < old.shape.slots
-  pub unspent : old.whole ≡ true → ¬ (IsSpent old slot)
+  pub idle : old.whole ≡ true → ¬ (IsBusy old slot)
 
 -- the word of slot bits was 0
 pub record NoneTaken (old new : View) : Type 0 where
   pub went : Went old new nothing
   pub found : FoundNothing is_slot old.finds new.finds
-  pub spent : old.whole ≡ true → AllSpent old
+  pub busy : old.whole ≡ true → old.sweeps ≡ [] → AllBusy old
 
 -- it opened the arena in the slot that it had taken, and has none in its hand; it has the first handle of an automatic arena
 pub record OpenedIn (old new : View) (slot : ℕ) (k : Kind) (id : ArenaId) : Type 0 where

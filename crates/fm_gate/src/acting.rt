@@ -5,6 +5,7 @@ ghost use Rattle.fm_gate.specs.Learnt.{AfterAct};
 use fm_rule::{Pass, Pool, step_add, step_load, step_store, step_swap_if};
 
 /// The word of this index of the arena that the pass is inside.
+#[inline(always)]
 pub fn load(pool: &Pool, pass: &mut Pass, word: u64) -> u64
     requires { CanReach pool.now pass.old word }
     ensures { AfterAct pool.now pass.old pass.new (λ a. machine.Read a word) (machine.Found result) }
@@ -13,6 +14,7 @@ pub fn load(pool: &Pool, pass: &mut Pass, word: u64) -> u64
 }
 
 /// Puts `v` into the word of this index of the arena that the pass is inside.
+#[inline(always)]
 pub fn store(pool: &Pool, pass: &mut Pass, word: u64, v: u64)
     requires { CanReach pool.now pass.old word }
     ensures { AfterAct pool.now pass.old pass.new (λ a. machine.Write a word v) machine.Fine }

@@ -8,6 +8,7 @@ use fm_rule::{Pass, Pool, alive_holds, step_check, step_mark, step_unmark};
 /// Comes into the arena, in which the pass may act until it leaves.
 ///
 /// Refused, in this order: `WrongThread`, `Closed`. A refused pass is outside and publishes no mark.
+#[inline(always)]
 pub fn enter(pool: &Pool, pass: &mut Pass, a: ArenaId) -> Result<(), Refusal>
     requires { CanVisit pool.now pass.old a }
     ensures { AfterEnter pool.now pass.old pass.new a result }

@@ -4,6 +4,7 @@ ghost use Rattle.fm_gate.specs.Learnt.{AfterLeave};
 use fm_rule::{Pass, Pool, step_unmark};
 
 /// Goes out of the arena that the pass is inside.
+#[inline(always)]
 pub fn leave(pool: &Pool, pass: &mut Pass)
     requires { CanLeave pool.now pass.old }
     ensures { AfterLeave pool.now pass.old pass.new }

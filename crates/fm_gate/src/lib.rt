@@ -28,7 +28,7 @@ pub use entering::enter;
 pub use handling::{a_handle_lasts, again};
 pub use held::Hold;
 pub use holding::{hold, unhold};
-pub use laws::{a_crew_stands, a_hold_stands};
+pub use laws::{a_crew_stands, a_hold_stands, both_holds_stand};
 pub use leaving::leave;
 pub use opening::open_arena;
 pub use patching::patch;

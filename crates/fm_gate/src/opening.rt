@@ -16,8 +16,9 @@ use std::sync::Wait;
 /// Opens an arena of this kind, alive, whose words are 0. Its name was never used before. An automatic arena has one
 /// handle, which is the pass's.
 ///
-/// Refused: `NoSlot`, only where no slot could be lent at a step of the call; a pass that is known to be whole gets it
-/// exactly where an arena was opened in every slot. Which of the slots it takes isn't promised.
+/// Refused: `NoSlot`, only where no slot could be lent at a step of the call; a pass that is known to be whole, and has
+/// swept what it ended, gets it exactly where every slot has an arena that hasn't ended, or has had its last generation.
+/// Which of the slots it takes isn't promised.
 pub fn open_arena<R: Wait>(
     rt: &R,
     pool: &Pool,

@@ -1,9 +1,10 @@
-ghost use Rattle.std.specs.Prelude.{◌≡◌, ◌<◌, ◌≤◌, ◌*◌};
-ghost use Rattle.fm_pool_facts.specs.Views.{given_of, span};
+ghost use Rattle.std.specs.Prelude.{◌≡◌, ◌<◌, ◌≤◌, ◌*◌, bit_and};
+ghost use Rattle.fm_pool_facts.specs.Views.{IsKnown, given_of, span};
 ghost use Rattle.fm_calls.specs.Kept.{Lasts};
-ghost use Rattle.fm_gate.specs.Standing.{CanPatch, CanReach, CanVisit, IsOutside};
+ghost use Rattle.fm_gate.specs.Standing.{CanVisit, IsInside, IsOutside};
 
 mod crews;
+mod finishing;
 mod kinds;
 
 use crate::{
@@ -47,16 +48,65 @@ fn given<R: Abort + Wait>(rt: &R, pool: &Pool, pass: &mut Pass, kind: Kind) -> A
     a
 }
 
+/// Reads a word of an arena that has given 64 bytes, and can still act in it. So do the next four.
+fn read(pool: &Pool, pass: &mut Pass, a: ArenaId, word: u64) -> u64
+    requires low { word < 8 }
+    requires inside { IsInside pool.now pass.old a }
+    requires given { 64 ≤ given_of pass.old a }
+    requires known { IsKnown pass.old a }
+    ensures inside { IsInside pool.now pass.new a }
+    ensures given { 64 ≤ given_of pass.new a }
+    ensures known { IsKnown pass.new a }
+{
+    load(pool, pass, word)
+}
+
+fn write(pool: &Pool, pass: &mut Pass, a: ArenaId, word: u64, v: u64)
+    requires low { word < 8 }
+    requires inside { IsInside pool.now pass.old a }
+    requires given { 64 ≤ given_of pass.old a }
+    requires known { IsKnown pass.old a }
+    ensures inside { IsInside pool.now pass.new a }
+    ensures given { 64 ≤ given_of pass.new a }
+    ensures known { IsKnown pass.new a }
+{
+    store(pool, pass, word, v);
+}
+
+fn swap(pool: &Pool, pass: &mut Pass, a: ArenaId, word: u64, old: u64, new: u64) -> u64
+    requires low { word < 8 }
+    requires inside { IsInside pool.now pass.old a }
+    requires given { 64 ≤ given_of pass.old a }
+    requires known { IsKnown pass.old a }
+    ensures inside { IsInside pool.now pass.new a }
+    ensures given { 64 ≤ given_of pass.new a }
+    ensures known { IsKnown pass.new a }
+{
+    swap_if(pool, pass, word, old, new)
+}
+
+fn sum(pool: &Pool, pass: &mut Pass, a: ArenaId, word: u64, n: u64) -> u64
+    requires low { word < 8 }
+    requires inside { IsInside pool.now pass.old a }
+    requires given { 64 ≤ given_of pass.old a }
+    requires known { IsKnown pass.old a }
+    ensures inside { IsInside pool.now pass.new a }
+    ensures given { 64 ≤ given_of pass.new a }
+    ensures known { IsKnown pass.new a }
+{
+    add(pool, pass, word, n)
+}
+
 #[test]
 fn a_pass_enters_acts_and_leaves(rt: HostRuntime) {
     let (pool, mut pass) = made(&rt, 1);
     let a = given(&rt, &pool, &mut pass, Kind::Shared);
     assert_eq!(rt; enter(&pool, &mut pass, a), Ok(()));
-    store(&pool, &mut pass, 0, 9);
-    store(&pool, &mut pass, 7, u64::MAX);
-    assert_eq!(rt; load(&pool, &mut pass, 0), 9);
-    assert_eq!(rt; load(&pool, &mut pass, 1), 0);
-    assert_eq!(rt; load(&pool, &mut pass, 7), u64::MAX);
+    write(&pool, &mut pass, a, 0, 9);
+    write(&pool, &mut pass, a, 7, u64::MAX);
+    assert_eq!(rt; read(&pool, &mut pass, a, 0), 9);
+    assert_eq!(rt; read(&pool, &mut pass, a, 1), 0);
+    assert_eq!(rt; read(&pool, &mut pass, a, 7), u64::MAX);
     leave(&pool, &mut pass);
     assert_eq!(rt; is_alive(&pool, &mut pass, a), Ok(true));
     assert_eq!(rt;
@@ -70,18 +120,32 @@ fn words_are_changed_by_what_is_found(rt: HostRuntime) {
     let (pool, mut pass) = made(&rt, 1);
     let a = given(&rt, &pool, &mut pass, Kind::Confined);
     assert_eq!(rt; enter(&pool, &mut pass, a), Ok(()));
-    store(&pool, &mut pass, 1, 7);
-    assert_eq!(rt; swap_if(&pool, &mut pass, 1, 6, 5), 7);
-    assert_eq!(rt; swap_if(&pool, &mut pass, 1, 7, u64::MAX), 7);
-    assert_eq!(rt; add(&pool, &mut pass, 1, 3), u64::MAX);
-    assert_eq!(rt; load(&pool, &mut pass, 1), 2);
+    write(&pool, &mut pass, a, 1, 7);
+    assert_eq!(rt; swap(&pool, &mut pass, a, 1, 6, 5), 7);
+    assert_eq!(rt; swap(&pool, &mut pass, a, 1, 7, u64::MAX), 7);
+    assert_eq!(rt; sum(&pool, &mut pass, a, 1, 3), u64::MAX);
+    assert_eq!(rt; read(&pool, &mut pass, a, 1), 2);
     leave(&pool, &mut pass);
 }
 
-/// Patches a word, which can still be reached.
-fn put_bits<R: Wait>(rt: &R, pool: &Pool, pass: &mut Pass, word: u64, mask: u64, bits: u64) -> u64
-    requires { CanPatch pool.now pass.old word mask bits }
-    ensures { CanReach pool.now pass.new word }
+/// Patches a word so.
+fn put_bits<R: Wait>(
+    rt: &R,
+    pool: &Pool,
+    pass: &mut Pass,
+    a: ArenaId,
+    word: u64,
+    mask: u64,
+    bits: u64,
+) -> u64
+    requires under { bit_and bits mask ≡ bits }
+    requires low { word < 8 }
+    requires inside { IsInside pool.now pass.old a }
+    requires given { 64 ≤ given_of pass.old a }
+    requires known { IsKnown pass.old a }
+    ensures inside { IsInside pool.now pass.new a }
+    ensures given { 64 ≤ given_of pass.new a }
+    ensures known { IsKnown pass.new a }
 {
     patch(rt, pool, pass, word, mask, bits)
 }
@@ -91,9 +155,9 @@ fn bits_are_put_beside_others(rt: HostRuntime) {
     let (pool, mut pass) = made(&rt, 1);
     let a = given(&rt, &pool, &mut pass, Kind::Shared);
     assert_eq!(rt; enter(&pool, &mut pass, a), Ok(()));
-    store(&pool, &mut pass, 7, 2);
-    assert_eq!(rt; put_bits(&rt, &pool, &mut pass, 7, 0xff00, 0x4200), 2);
-    assert_eq!(rt; load(&pool, &mut pass, 7), 0x4202);
+    write(&pool, &mut pass, a, 7, 2);
+    assert_eq!(rt; put_bits(&rt, &pool, &mut pass, a, 7, 0xff00, 0x4200), 2);
+    assert_eq!(rt; read(&pool, &mut pass, a, 7), 0x4202);
     leave(&pool, &mut pass);
 }
 

@@ -4,6 +4,7 @@ ghost use Rattle.fm_base.specs.Arenas.{MayUse};
 use fm_base::{ArenaId, Caller, Kind};
 
 /// Whether the caller may use the arena: a confined one is its owner's alone.
+#[inline(always)]
 pub fn may_use(caller: Caller, a: ArenaId) -> bool
     ensures yes { result ≡ true → MayUse a caller }
     ensures no { result ≡ false → ¬ (MayUse a caller) }

@@ -6,7 +6,7 @@ use lib.ListN.{get_elem?}
 use Rattle.atomic_table.proofs.Lists.{at_set}
 use Rattle.fm_base.specs.declared.caller.Caller.{Caller}
 use Rattle.fm_base.specs.Calls.{Entry}
-use Rattle.fm_base.specs.Finds.{Find, FindStep, Gathered, is_draw}
+use Rattle.fm_base.specs.Finds.{Find, FindStep, Gathered, is_draw, is_slot}
 use Rattle.fm_depicts.specs.Functions.{Machine, moved}
 use Rattle.fm_pool_facts.specs.Views.{View, In, HasFind, all_gathered, brought, pass_of}
 use Rattle.fm_pool_facts.specs.Splits.{as_gathered, gather}
@@ -18,21 +18,33 @@ use Rattle.fm_pool_facts.proofs.Keeping.{in_left, in_right, in_append}
 -- ---- what a step notes
 
 -- no draw is among what a step notes
+abbrev pub NoneDrawn : (ℕ → List Find) → Type 0
+NoneDrawn fs = (n : ℕ) (f : Find) → In f (fs n) → (is_draw f.step ≡ false) × (f.drew ≡ None)
+
+-- nor a find of slots
 abbrev pub NoDraw : (ℕ → List Find) → Type 0
-NoDraw fs = (n : ℕ) (f : Find) → In f (fs n) → (is_draw f.step ≡ false) × (f.drew ≡ None)
+NoDraw fs = (n : ℕ) (f : Find) → In f (fs n) → (is_draw f.step ≡ false) × (f.drew ≡ None) × (is_slot f.step ≡ false)
 
 pub no_draw : NoDraw none_noted
 no_draw n f i = absurd i
 
-pub note_no_draw : (step : FindStep) (x : ℕ) (v : View) → is_draw step ≡ false → NoDraw (note_of step x v)
-note_no_draw step x v e n f (inl q) = (ap (λ (g : Find). is_draw g.step) q ∙ e, ap (λ (g : Find). g.drew) q)
-note_no_draw step x v e n f (inr i) = absurd i
+pub note_none_drawn : (step : FindStep) (x : ℕ) (v : View) → is_draw step ≡ false → NoneDrawn (note_of step x v)
+note_none_drawn step x v e n f (inl q) = (ap (λ (g : Find). is_draw g.step) q ∙ e, ap (λ (g : Find). g.drew) q)
+note_none_drawn step x v e n f (inr i) = absurd i
+
+pub note_no_draw : (step : FindStep) (x : ℕ) (v : View) → is_draw step ≡ false → is_slot step ≡ false → NoDraw (note_of step x v)
+note_no_draw step x v e s n f (inl q) = (
+  ap (λ (g : Find). is_draw g.step) q ∙ e,
+  ap (λ (g : Find). g.drew) q,
+  ap (λ (g : Find). is_slot g.step) q ∙ s,
+)
+note_no_draw step x v e s n f (inr i) = absurd i
 
 -- what a step notes is within the count
 abbrev pub AreWithin : ℕ → (ℕ → List Find) → Type 0
 AreWithin d fs = (n : ℕ) (f : Find) → In f (fs n) → IsWithin d f
 
-pub none_within : (d : ℕ) (fs : ℕ → List Find) → NoDraw fs → AreWithin d fs
+pub none_within : (d : ℕ) (fs : ℕ → List Find) → NoneDrawn fs → AreWithin d fs
 none_within d fs nd n f i = record {
   found = λ e. let q : true ≡ false = sym e ∙ (nd n f i).0 in absurd (cc);
   drew = λ c e. let q : None ≡ Some c = sym (nd n f i).1 ∙ e in absurd (cc);

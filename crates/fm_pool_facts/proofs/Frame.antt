@@ -6,7 +6,7 @@ use Rattle.fm_base.specs.declared.arena_id.ArenaId.{ArenaId}
 use Rattle.fm_base.specs.Calls.{Call, Open, Enter, Read, Write, SwapIf, Add, Allocate, Leave, Hold, Unhold, Shut, End, Lend, Back, Reply, Fine, Closed, Found, Given, Entry}
 use Rattle.fm_base.specs.Histories.{IsLegal, state_after, made_by}
 use Rattle.fm_base.proofs.Names.{are_one-not}
-use Rattle.fm_depicts.specs.Functions.{Fresh, Lives, Closes, Over, Machine, Depicts, moved, MayBy, reply_by, enter_stage, put, put_at}
+use Rattle.fm_depicts.specs.Functions.{Fresh, Lives, Closes, Over, Machine, Depicts, moved, MayBy, reply_by, enter_stage, shut_stage, put, put_at}
 use Rattle.fm_depicts.specs.Steps.{moved_by}
 use Rattle.fm_depicts.proofs.Putting.{by_else, by_cases, at_cases, are_one-equal}
 use Rattle.fm_depicts.proofs.GoingOn.{goes_on}
@@ -97,6 +97,60 @@ closing_stays limit t c b (End id) reply m l n = at_cases t.life id Over b (λ x
 closing_stays limit t c b (Lend block id part) reply m l n = l
 closing_stays limit t c b (Back block) reply m l n = l
 
+-- an arena that has ended stays so
+over_stays : (limit : ℕ) (t : Machine) (c : Caller) (b : ArenaId) (call : Call) (reply : Reply) → MayBy limit t c call → reply ≡ reply_by limit t call
+    → t.life b ≡ Over → (moved t c call reply).life b ≡ Over
+over_stays limit t c b (Open id) reply m r l = at_cases t.life id Lives b (λ x. x ≡ Over)
+    (λ e. let f : t.life b ≡ Fresh = ap t.life e ∙ m.0 in absurd (cc))
+    (λ e. l)
+over_stays limit t c b (Enter id) Fine m r l = l
+over_stays limit t c b (Enter id) reply m r l = l
+over_stays limit t c b (Read id word) reply m r l = l
+over_stays limit t c b (Write id word value) reply m r l = l
+over_stays limit t c b (SwapIf id word old new) (Found found) m r l =
+    either_swap (λ u. u.life b ≡ Over) t (record t { word = put_at t.word id (put (t.word id) word new) }) (found == old) l l
+over_stays limit t c b (SwapIf id word old new) reply m r l = l
+over_stays limit t c b (Add id word k) (Found found) m r l = l
+over_stays limit t c b (Add id word k) reply m r l = l
+over_stays limit t c b (Allocate id size align) (Given place) m r l = l
+over_stays limit t c b (Allocate id size align) reply m r l = l
+over_stays limit t c b (Leave id) reply m r l = l
+over_stays limit t c b (Hold id) Fine m r l = l
+over_stays limit t c b (Hold id) reply m r l = l
+over_stays limit t c b (Unhold id) reply m r l = l
+over_stays limit t c b (Shut id) Fine m r l = at_cases t.life id Closes b (λ x. x ≡ Over)
+    (λ e. let i : t.life id ≡ Over = ap t.life (sym e) ∙ l in let f : Fine ≡ Closed = r ∙ (λ j. shut_stage (i j) (t.holds id)) in absurd (cc))
+    (λ e. l)
+over_stays limit t c b (Shut id) reply m r l = l
+over_stays limit t c b (End id) reply m r l = at_cases t.life id Over b (λ x. x ≡ Over) (λ e. refl) (λ e. l)
+over_stays limit t c b (Lend block id part) reply m r l = l
+over_stays limit t c b (Back block) reply m r l = l
+
+-- an arena that has ended after a call that isn't its end had ended before
+over_was : (t : Machine) (c : Caller) (b : ArenaId) (call : Call) (reply : Reply) → ¬ (Ends call b) → (moved t c call reply).life b ≡ Over → t.life b ≡ Over
+over_was t c b (Open id) reply n l = at_cases t.life id Lives b (λ x. x ≡ Over → t.life b ≡ Over) (λ e q. absurd (cc)) (λ e q. q) l
+over_was t c b (Enter id) Fine n l = l
+over_was t c b (Enter id) reply n l = l
+over_was t c b (Read id word) reply n l = l
+over_was t c b (Write id word value) reply n l = l
+over_was t c b (SwapIf id word old new) (Found found) n l =
+    either_swap (λ u. u.life b ≡ Over → t.life b ≡ Over) t (record t { word = put_at t.word id (put (t.word id) word new) }) (found == old) (λ q. q) (λ q. q)
+    l
+over_was t c b (SwapIf id word old new) reply n l = l
+over_was t c b (Add id word k) (Found found) n l = l
+over_was t c b (Add id word k) reply n l = l
+over_was t c b (Allocate id size align) (Given place) n l = l
+over_was t c b (Allocate id size align) reply n l = l
+over_was t c b (Leave id) reply n l = l
+over_was t c b (Hold id) Fine n l = l
+over_was t c b (Hold id) reply n l = l
+over_was t c b (Unhold id) reply n l = l
+over_was t c b (Shut id) Fine n l = at_cases t.life id Closes b (λ x. x ≡ Over → t.life b ≡ Over) (λ e q. absurd (cc)) (λ e q. q) l
+over_was t c b (Shut id) reply n l = l
+over_was t c b (End id) reply n l = at_cases t.life id Over b (λ x. x ≡ Over → t.life b ≡ Over) (λ e q. absurd (n (sym e))) (λ e q. q) l
+over_was t c b (Lend block id part) reply n l = l
+over_was t c b (Back block) reply n l = l
+
 -- an arena that was opened stays known
 known_stays : (t : Machine) (c : Caller) (b : ArenaId) (call : Call) (reply : Reply) → t.life b ≢ Fresh → (moved t c call reply).life b ≢ Fresh
 known_stays t c b (Open id) reply n = at_cases t.life id Lives b (λ x. x ≢ Fresh) (λ e s. absurd (cc)) (λ e. n)
@@ -139,6 +193,10 @@ module _ (limit : ℕ) (c : Caller) where
   still_closing b [] t p l z = l
   still_closing b (e ∷ es) t p l z = still_closing b es (moved t e.caller e.call e.reply) p.3 (closing_stays limit t e.caller b e.call e.reply p.1 l z.0) z.1
 
+  pub still_over : (b : ArenaId) (es : List Entry) (t : Machine) → MayMake limit t c es → t.life b ≡ Over → (moved_by t es).life b ≡ Over
+  still_over b [] t p l = l
+  still_over b (e ∷ es) t p l = still_over b es (moved t e.caller e.call e.reply) p.3 (over_stays limit t e.caller b e.call e.reply p.1 p.2 l)
+
   -- the history goes on with them, and so do the functions
   pub legal_on : (h : List Entry) (es : List Entry) (t : Machine) → IsLegal limit [] h → Depicts limit (state_after limit [] h) t → MayMake limit t c es
       → IsLegal limit [] (h ++ es) × Depicts limit (state_after limit [] (h ++ es)) (moved_by t es)
@@ -168,6 +226,11 @@ module _ (limit : ℕ) (c : Caller) where
   made_by-other k [] t n p = refl
   made_by-other k (e ∷ es) t n p =
       let one = are_one-not e.caller k (λ q. n (sym q ∙ p.0)) in rw one (made_by-other k es (moved t e.caller e.call e.reply) n p.3)
+
+-- where it wasn't ended by entries, it had ended before
+pub was_over : (b : ArenaId) (es : List Entry) (t : Machine) → NoEnd es b → (moved_by t es).life b ≡ Over → t.life b ≡ Over
+was_over b [] t n l = l
+was_over b (e ∷ es) t n l = over_was t e.caller b e.call e.reply n.0 (was_over b es (moved t e.caller e.call e.reply) n.1 l)
 
 -- over any entries an arena stays known
 pub still_known : (b : ArenaId) (es : List Entry) (t : Machine) → t.life b ≢ Fresh → (moved_by t es).life b ≢ Fresh

@@ -15,10 +15,10 @@ use Rattle.fm_base.specs.Finds.{Find, Gathered, Close}
 use Rattle.fm_depicts.specs.Functions.{Machine}
 use Rattle.fm_depicts.specs.Steps.{moved_by}
 use Rattle.fm_pool_facts.specs.Views.{Met, View, In, IsSound, all_gathered, brought, limit_of}
-use Rattle.fm_pool_facts.specs.Facts.{Memory, Owners, IsClosing, IsGathered, IsOnce, IsSilent, Begins, Somewhere, Owns, Knows}
-use Rattle.fm_pool_facts.specs.Moves.{MayMake, NoEnd, Moved, Same, Part, told, Gives}
-use Rattle.fm_pool_facts.proofs.Frame.{others_stay, none_come, still_closing, made_by-other}
-use Rattle.fm_pool_facts.proofs.Handing.{hand_on}
+use Rattle.fm_pool_facts.specs.Facts.{Memory, Owners, IsClosing, IsSweeping, IsGathered, IsOnce, IsSilent, Begins, Somewhere, Owns, Knows}
+use Rattle.fm_pool_facts.specs.Moves.{MayMake, NoEnd, StaysEnded, Moved, Same, Part, told, Gives}
+use Rattle.fm_pool_facts.proofs.Frame.{others_stay, none_come, still_closing, still_over, made_by-other}
+use Rattle.fm_pool_facts.proofs.Handing.{hand_on, took_on}
 
 -- ---- lists
 
@@ -102,8 +102,20 @@ module _ (limit : ℕ) (h : List Entry) (c : Caller) (m : Memory) (t : Machine) 
     visited = λ i l. none_come limit c i x.arena es t ok k.life z (k.visited i l);
   }
 
+-- a sweep goes on where nothing of its arena was changed
+pub sweeping_on : (limit : ℕ) (c : Caller) (m : Memory) (t : Machine) (es : List Entry) (m' : Memory) → MayMake limit t c es → (z : Shape) (j : ℕ)
+    (o o' : Owners) (x : Close) → IsSweeping z m t o j x → o'.closer x.arena ≡ o.closer x.arena → StaysEnded m m' x.arena
+    → IsSweeping z m' (moved_by t es) o' j x
+sweeping_on limit c m t es m' ok z j o o' x k e s = record {
+  owner = e ∙ k.owner;
+  life = still_over limit c x.arena es t ok k.life;
+  session = s.session;
+  wiped = λ w l b. s.cells w ∙ k.wiped w l b;
+  reset = λ l. s.given ∙ k.reset l;
+}
+
 module _ (z : Shape) (h : List Entry) (me : ℕ) (c : Caller) (m : Memory) (t : Machine) (o : Owners) (es : List Entry) (m' : Memory) (o' : Owners)
-    (d : Moved me (limit_of z) c m t o es m' o') (own : o.number c.number ≡ me) (low : c.number < m.draw) where
+    (d : Moved me z c m t o es m' o') (own : o.number c.number ≡ me) (low : c.number < m.draw) where
   abbrev t' : Machine
   t' = moved_by t es
 
@@ -129,8 +141,14 @@ module _ (z : Shape) (h : List Entry) (me : ℕ) (c : Caller) (m : Memory) (t : 
         let w = d.closers x.arena y.life (λ e. other (sym y.owner ∙ e)) in
         closing_on (limit_of z) h c m t es m' d.allowed j o o' x y w.0 w.1;
     once = k.once;
+    sweeps = λ x i.
+        let y = k.sweeps x i in
+        let w = d.sweepers x.arena y.life y.session (λ e. other (sym y.owner ∙ e)) in
+        sweeping_on (limit_of z) c m t es m' d.allowed z j o o' x y w.0 w.1;
+    swept_once = k.swept_once;
     hand = hand_on z m.bits m'.bits m.sessions m'.sessions o.holder o'.holder j
         (λ s g f b e. let w = d.holders s g f b (λ q. other (sym e ∙ q)) in (w.0 ∙ e, w.1, w.2)) v.hand k.hand;
+    took = took_on z m.bits m.sessions o.holder j o.taker o'.taker v.caller (λ s g f b e. (d.holders s g f b (λ q. other (sym e ∙ q))).3) v.hand k.hand k.took;
     gathered = λ g i. still v.seen g (k.gathered g i);
     coming = λ x j g i. still x.seen g (k.coming x j g i);
     one_each = k.one_each;
@@ -186,7 +204,7 @@ module _ (z : Shape) (h : List Entry) (me : ℕ) (c : Caller) (m : Memory) (t : 
 -- ---- the caller's own view
 
 module _ (z : Shape) (h zs : List Entry) (me : ℕ) (m m' : Memory) (t : Machine) (o o' : Owners) (es : List Entry) (fs : ℕ → List Find) (v p : View)
-    (k : Knows z h m t o me v) (l : v.live ≡ true) (d : Moved me (limit_of z) v.caller m t o es m' o') (is : h ≡ v.seen ++ zs) (s : Same v p) where
+    (k : Knows z h m t o me v) (l : v.live ≡ true) (d : Moved me z v.caller m t o es m' o') (is : h ≡ v.seen ++ zs) (s : Same v p) where
   abbrev pub w : View
   w = told p zs es fs
 
@@ -214,7 +232,10 @@ module _ (z : Shape) (h zs : List Entry) (me : ℕ) (m m' : Memory) (t : Machine
           mark = q.mark;
           closes = q.closes;
           once = q.once;
+          sweeps = q.sweeps;
+          swept_once = q.swept_once;
           hand = q.hand;
+          took = q.took;
           coming = λ x i. absurd i;
           one_each = subst (IsOnce (λ (g : Gathered). g.caller.number)) (sym (append-nil (all_gathered p) ∙ same_all)) u.one_each;
           gathered = λ g i.

@@ -1,6 +1,7 @@
 pub mod Frame
 pub mod Standing
 pub mod Worlds
+pub mod Retiring
 pub mod Shown
 pub mod Handing
 pub mod Keeping
@@ -9,6 +10,9 @@ pub mod Gripping
 pub mod Counting
 pub mod Callers
 pub mod Lending
+pub mod Unlending
 pub mod Founds
 pub mod Drawers
+pub mod Gone
+pub mod Alone
 pub mod Ruling

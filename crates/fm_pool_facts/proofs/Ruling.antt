@@ -1,5 +1,5 @@
 -- The rule after a step, and that a view that has seen all is sound.
-use Rattle.std.proofs.Common.{◌≡◌, ◌≢◌, ℕ, ◌*◌, ◌^◌, ◌<◌, ◌≤◌, Bool, true, false, List, [], ◌++◌, length, set, sym, refl, ap, ◌∙◌, subst, arith, inl, inr, ⊎_elim, mul-le-mul_right, Some, None}
+use Rattle.std.proofs.Common.{◌≡◌, ◌≢◌, ℕ, ◌*◌, ◌^◌, ◌<◌, ◌≤◌, Bool, true, false, List, [], ◌∷◌, ◌++◌, length, set, sym, refl, ap, ◌∙◌, subst, arith, inl, inr, ⊎_elim, mul-le-mul_right, Some, None}
 use mathlib.Core.Option.{some}
 use lib.ListN.{get_elem?}
 use Rattle.atomic_table.proofs.Lists.{at_set}
@@ -11,22 +11,27 @@ use Rattle.fm_base.specs.Arenas.{Life, Alive, Closing, Ended, State, IsUnderWay,
 use Rattle.fm_base.specs.Calls.{Entry}
 use Rattle.fm_base.specs.Histories.{IsLegal, state_after, made_by}
 use Rattle.fm_base.specs.Finds.{Find, Gathered}
-use Rattle.fm_depicts.specs.Functions.{Fresh, Closes, Machine, stage_of}
+use Rattle.fm_depicts.specs.Functions.{Stage, Fresh, Lives, Closes, Over, Machine, stage_of}
+use Rattle.fm_depicts.proofs.Putting.{contains_first}
 use Rattle.fm_depicts.specs.Steps.{moved_by}
 use Rattle.fm_pool_facts.specs.Views.{span, all_gathered, brought, View, Fits, In, IsSound, IsKnown, limit_of, state_in, pass_of}
-use Rattle.fm_pool_facts.specs.Facts.{Memory, free, Owners, Shows, World, HasNumber, HasDraw, HasClose, KeepsSlot, Somewhere, Knows, Rule, IsOnce}
-use Rattle.fm_pool_facts.specs.Moves.{Moved, Same, Part, KeepsCloses, KeepsSlots, KeepsHolds, told, Gives}
+use Rattle.fm_pool_facts.specs.Facts.{Memory, free, shut, IsStanding, Owners, Shows, World, HasNumber, HasDraw, HasClose, HasSweep, KeepsSlot, Somewhere, Knows, Rule, IsOnce}
+use Rattle.fm_pool_facts.specs.Moves.{Moved, Same, Part, KeepsCloses, KeepsSweeps, KeepsSlots, KeepsHolds, told, Gives}
 use Rattle.std.specs.Int.{bit_at}
+use Rattle.std.specs.Prelude.{Contains}
 use Rattle.fm_pool_facts.proofs.Handing.{slot_below}
 use Rattle.fm_pool_facts.specs.Holds.{holds_of}
 use Rattle.fm_pool_facts.specs.Loans.{Loan, lent, loans_after, IsRightlyLent}
 use Rattle.fm_pool_facts.specs.Facts.{Loans}
 use Rattle.fm_pool_facts.specs.Moves.{MayLend}
-use Rattle.fm_pool_facts.proofs.Lending.{loans_after-append, lent-append, lent_on}
+use Rattle.fm_pool_facts.proofs.Lending.{over_now, loans_after-append, lent-append, lent_on}
+use Rattle.fm_pool_facts.specs.Gone.{FoundBy, IsFounded}
+use Rattle.fm_pool_facts.proofs.Alone.{none_now}
+use Rattle.fm_pool_facts.proofs.Gone.{none_founded, found_on, founded_on, founded_told}
 use Rattle.fm_pool_facts.proofs.Callers.{all_now, few_gathered, whole_has, knows_callers}
 use Rattle.fm_pool_facts.proofs.Frame.{legal_on}
 use Rattle.fm_pool_facts.proofs.Summing.{total-set}
-use Rattle.fm_pool_facts.proofs.Founds.{NoDraw, none_within, find_within, terms_on, counted_later, counted_told, counted_set}
+use Rattle.fm_pool_facts.proofs.Founds.{NoneDrawn, NoDraw, none_within, find_within, terms_on, counted_later, counted_told, counted_set}
 use Rattle.fm_pool_facts.proofs.Keeping.{set_there, in_left, stays_somewhere, silent_on, others_know, own_view, gives_by}
 
 -- ---- soundness
@@ -53,6 +58,15 @@ limit_below z v =
     let d : x * 8 ≤ 2 ^ 40 = omega arith in
     d
 
+nobody : (ks : List Caller) → ((k : Caller) → ¬ (Contains ks k)) → ks ≡ []
+nobody [] n = refl
+nobody (k ∷ ks) n = absurd (n k (contains_first ks k))
+
+-- what has ended doesn't stand
+unstanding : (x : Stage) → x ≡ Over → ¬ (IsStanding x)
+unstanding x o (inl e) = let q : Over ≡ Lives = sym o ∙ e in absurd (cc)
+unstanding x o (inr e) = let q : Over ≡ Closes = sym o ∙ e in absurd (cc)
+
 -- a pass that has seen the whole history is sound
 pub sound_of : (z : Shape) (ws : List ℕ) (vs : List View) (r : Rule z ws vs) (me : ℕ) (v : View) → get_elem? vs me ≡ some v → v.live ≡ true
     → v.met ≡ [] → v.seen ≡ r.history → IsSound v
@@ -75,6 +89,26 @@ sound_of z ws vs r me v at l lone q =
       outside = λ a w. sym u.inside ∙ r.depicts.under v.caller a (subst (λ (x : State). IsUnderWay x v.caller a) st w);
       fits = λ a h. subst (λ (x : Shape). Fits x a) (sym e) (r.world.sessions.fits a (known a h));
       hand = λ s i. subst (λ (y : Shape). s < y.slots) (sym e) (slot_below z r.memory.bits r.memory.sessions r.owners.holder me s v.hand u.hand i);
+      swept = λ c i.
+          let y = u.sweeps c i in
+          record {
+            known = ap (λ (x : State). has_arena x c.arena) st ∙ life_opened (has_arena s c.arena) (arena_of s c.arena).life (λ f.
+                let g : Over ≡ Fresh = sym y.life ∙ (r.depicts.life c.arena ∙ f) in absurd (cc));
+            life = ap (λ (x : State). (arena_of x c.arena).life) st
+                ∙ over_now (has_arena s c.arena) (arena_of s c.arena).life (sym (r.depicts.life c.arena) ∙ y.life);
+            empty = ap (λ (x : State). (arena_of x c.arena).under_way) st
+                ∙ nobody (arena_of s c.arena).under_way (λ k w. unstanding (r.machine.life c.arena) y.life
+                (r.world.marked k c.arena (r.depicts.under k c.arena w)).stands);
+          };
+      own_words = λ x i. r.loans.own x (subst (λ (es : List Entry). Contains (lent es) x) q i);
+      none_left = λ w n c f h.
+          none_now z me v l ws vs r at w n q c f (⊎_elim
+          (λ (x : (c ≡ v.caller) × In f v.finds). subst (λ (k : Caller). FoundBy z r.history r.memory r.owners.taker r.machine.life k f) (sym x.0)
+          ((r.founds me v at).finds f x.1))
+          (λ (x : (g : Gathered) × In g v.gathered × (c ≡ g.caller) × In f g.finds).
+          subst (λ (k : Caller). FoundBy z r.history r.memory r.owners.taker r.machine.life k f) (sym x.2)
+          ((r.founds me v at).theirs x.0 (in_left x.0 v.gathered (brought v.met) x.1) f x.3))
+          h);
       drawn = λ n i.
           let y = u.drawn n i in
           record {
@@ -131,16 +165,18 @@ draw_still v p zs es fs s d n (inl h) =
 draw_still v p zs es fs s d n (inr g) = inr (g.0, still_gathered v p zs es fs s g.0 g.1, g.2, g.3)
 
 -- the rule and what is told after a step of the seat me: what the words, the memory and the caller's part are is the step's own business
-pub keeps : (z : Shape) (ws ws' : List ℕ) (vs : List View) (r : Rule z ws vs) (me : ℕ) (v p : View) (es : List Entry) (fs : ℕ → List Find) (m' : Memory)
+pub keeps_with : (z : Shape) (ws ws' : List ℕ) (vs : List View) (r : Rule z ws vs) (me : ℕ) (v p : View) (es : List Entry) (fs : ℕ → List Find) (m' : Memory)
     (o' : Owners)
-    → get_elem? vs me ≡ some v → v.live ≡ true → Moved me (limit_of z) v.caller r.memory r.machine r.owners es m' o' → Same v p → NoDraw fs
+    → get_elem? vs me ≡ some v → v.live ≡ true → Moved me z v.caller r.memory r.machine r.owners es m' o' → Same v p → NoneDrawn fs
+    → ((f : Find) → In f (fs (length r.history)) → FoundBy z r.history r.memory r.owners.taker r.machine.life v.caller f)
     → MayLend (span z) r.machine (lent r.history) es → Loans (loans_after (lent r.history) es) m'.sessions (moved_by r.machine es).life
-    → KeepsCloses me v p r.machine r.owners (moved_by r.machine es) o' → KeepsSlots z me v p r.memory r.owners m' o'
+    → KeepsCloses me v p r.machine r.owners (moved_by r.machine es) o'
+    → KeepsSweeps me v p r.memory r.machine r.owners m' (moved_by r.machine es) o' → KeepsSlots z me v p r.memory r.owners m' o'
     → KeepsHolds v p r.machine (moved_by r.machine es)
     → Shows z ws' m' → World z m' (moved_by r.machine es)
     → Part z m' (moved_by r.machine es) o' me p
     → (w : View) × Rule z ws' (set vs me w) × Gives v p es fs w
-keeps z ws ws' vs r me v p es fs m' o' at l d s nd lends loans kc ks kh shows world q =
+keeps_with z ws ws' vs r me v p es fs m' o' at l d s nd new lends loans kc kw ks kh shows world q =
     let k = r.each me v at in
     let u = k.owns l in
     let zs : List Entry = k.begins.0 in
@@ -181,12 +217,18 @@ keeps z ws ws' vs r me v p es fs m' o' at l d s nd lends loans kc ks kh shows wo
           subst (λ (i : ℕ). Somewhere (set vs me w) i (HasClose a)) (sym x.1)
           (stays_somewhere vs me v w (r.owners.closer a) (HasClose a) at x.2 (r.closed a x.0)))
           (kc a h);
-      slots = λ i g low f b. ⊎_elim
+      swept = λ a f h. ⊎_elim
+          (λ (x : (o'.closer a ≡ me) × HasSweep a p). record { view = w; there = ap (get_elem? (set vs me w)) x.0 ∙ set_there vs me v w at; holds = x.1 })
+          (λ (x : (r.memory.sessions a.slot ≡ shut a) × (r.machine.life a ≡ Over) × (o'.closer a ≡ r.owners.closer a) × (HasSweep a v → HasSweep a p)).
+          subst (λ (i : ℕ). Somewhere (set vs me w) i (HasSweep a)) (sym x.2)
+          (stays_somewhere vs me v w (r.owners.closer a) (HasSweep a) at x.3 (r.swept a x.0 x.1)))
+          (kw a f h);
+      slots = λ i g low f left b. ⊎_elim
           (λ (x : (o'.holder i ≡ me) × KeepsSlot i p). record { view = w; there = ap (get_elem? (set vs me w)) x.0 ∙ set_there vs me v w at; holds = x.1 })
-          (λ (x : (h : ℕ) × (r.memory.sessions i ≡ free h) × (bit_at r.memory.bits i ≡ 0) × (o'.holder i ≡ r.owners.holder i) × (KeepsSlot i v → KeepsSlot i p)).
-          subst (λ (j : ℕ). Somewhere (set vs me w) j (KeepsSlot i)) (sym x.3)
-          (stays_somewhere vs me v w (r.owners.holder i) (KeepsSlot i) at x.4 (r.slots i x.0 low x.1 x.2)))
-          (ks i g low f b);
+          (λ (x : (r.memory.sessions i ≡ free g) × (bit_at r.memory.bits i ≡ 0) × (o'.holder i ≡ r.owners.holder i) × (KeepsSlot i v → KeepsSlot i p)).
+          subst (λ (j : ℕ). Somewhere (set vs me w) j (KeepsSlot i)) (sym x.2)
+          (stays_somewhere vs me v w (r.owners.holder i) (KeepsSlot i) at x.3 (r.slots i g low x.0 left x.1)))
+          (ks i g low f left b);
       held = λ a.
           let x = total-set (holds_of a) vs me v w at in
           let y = r.held a in
@@ -202,7 +244,31 @@ keeps z ws ws' vs r me v p es fs m' o' at l d s nd lends loans kc ks kh shows wo
       counted = counted_set r.memory m' vs me w more d.terms
           (counted_told m' v p zs es fs s.finds (λ j. s.gathered j ++ brought (s.met j)) (none_within m'.draw fs nd)
           (counted_later r.memory m' v more d.terms (r.counted me v at))) r.counted;
+      founds = λ j y at'. ⊎_elim
+          (λ (e : (j ≡ me) × (w ≡ y)). subst (IsFounded z (r.history ++ es) m' o'.taker t'.life) e.1
+          (founded_told z (r.history ++ es) m' o'.taker t'.life v p zs es fs s.caller s.finds (λ j. s.gathered j ++ brought (s.met j))
+          (λ f i. found_on z r.history r.memory r.machine r.owners.taker es m' o'.taker d.taken v.caller f
+          (new f (subst (λ (xs : List Entry). In f (fs (length xs))) (ap (λ (xs : List Entry). xs ++ zs) s.seen ∙ sym is) i)))
+          (founded_on z r.history r.memory r.machine r.owners.taker es m' o'.taker d.taken v (r.founds me v at))))
+          (λ (e : (j ≢ me) × (get_elem? vs j ≡ some y)).
+          founded_on z r.history r.memory r.machine r.owners.taker es m' o'.taker d.taken y (r.founds j y e.1))
+          (at_set vs me j w y at');
     } in
     let seen : w.seen ≡ r.history ++ es = ap (λ (xs : List Entry). (xs ++ zs) ++ es) s.seen ∙ ap (λ (xs : List Entry). xs ++ es) (sym is) in
     let sound = sound_of z ws' (set vs me w) rule me w (set_there vs me v w at) (s.live ∙ l) refl seen in
     (w, rule, gives_by z r.history zs me r.memory m' r.machine r.owners o' es fs v p k l d is s sound)
+
+-- where no slot was looked for
+pub keeps : (z : Shape) (ws ws' : List ℕ) (vs : List View) (r : Rule z ws vs) (me : ℕ) (v p : View) (es : List Entry) (fs : ℕ → List Find) (m' : Memory)
+    (o' : Owners)
+    → get_elem? vs me ≡ some v → v.live ≡ true → Moved me z v.caller r.memory r.machine r.owners es m' o' → Same v p → NoDraw fs
+    → MayLend (span z) r.machine (lent r.history) es → Loans (loans_after (lent r.history) es) m'.sessions (moved_by r.machine es).life
+    → KeepsCloses me v p r.machine r.owners (moved_by r.machine es) o'
+    → KeepsSweeps me v p r.memory r.machine r.owners m' (moved_by r.machine es) o' → KeepsSlots z me v p r.memory r.owners m' o'
+    → KeepsHolds v p r.machine (moved_by r.machine es)
+    → Shows z ws' m' → World z m' (moved_by r.machine es)
+    → Part z m' (moved_by r.machine es) o' me p
+    → (w : View) × Rule z ws' (set vs me w) × Gives v p es fs w
+keeps z ws ws' vs r me v p es fs m' o' at l d s nd =
+    keeps_with z ws ws' vs r me v p es fs m' o' at l d s (λ n f i. let y = nd n f i in (y.0, y.1))
+    (none_founded z r.history r.memory r.owners.taker r.machine.life v.caller fs (λ n f i. (nd n f i).2) (length r.history))

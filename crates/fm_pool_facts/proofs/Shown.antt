@@ -44,14 +44,14 @@ IsSpot z (seated s) = s < z.slots
 IsSpot z (counted s) = s < z.slots
 IsSpot z (cell s w) = (s < z.slots) × (w < span z)
 
-word_of : Memory → Spot → ℕ
-word_of m fronted = 0
-word_of m drawn = m.draw
-word_of m bits = m.bits
-word_of m (marked k) = own_word (m.marks k)
-word_of m (seated s) = session_code (m.sessions s) (m.counts s)
-word_of m (counted s) = m.given s
-word_of m (cell s w) = m.cells s w
+word_of : Shape → Memory → Spot → ℕ
+word_of z m fronted = 0
+word_of z m drawn = m.draw
+word_of z m bits = m.bits
+word_of z m (marked k) = own_word (m.marks k)
+word_of z m (seated s) = session_code z.generations (m.sessions s) (m.counts s)
+word_of z m (counted s) = m.given s
+word_of z m (cell s w) = m.cells s w
 
 spot_one : (z : Shape) (p q : Spot) → IsSpot z p → IsSpot z q → spot_at z p ≡ spot_at z q → p ≡ q
 unfolding spot_at IsSpot at cell_at
@@ -97,7 +97,7 @@ spot_below z (cell s w) v h = cell_below z s w v h.0 h.1
 same_spot : (z : Shape) (p q : Spot) → IsSpot z p → IsSpot z q → Dec (q ≡ p)
 same_spot z p q a b = dite (ℕ_discrete (spot_at z q) (spot_at z p)) (λ e. yes (spot_one z q p b a e)) (λ n. no (λ e. n (ap (spot_at z) e)))
 
-shown : (z : Shape) (ws : List ℕ) (m : Memory) → Shows z ws m → (p : Spot) → IsSpot z p → get_or ws (spot_at z p) 0 ≡ word_of m p
+shown : (z : Shape) (ws : List ℕ) (m : Memory) → Shows z ws m → (p : Spot) → IsSpot z p → get_or ws (spot_at z p) 0 ≡ word_of z m p
 unfolding spot_at IsSpot word_of
 shown z ws m r fronted h = r.front
 shown z ws m r drawn h = r.draw
@@ -108,7 +108,7 @@ shown z ws m r (counted s) h = r.given s h
 shown z ws m r (cell s w) h = r.cells s w h.0 h.1
 
 shows_by : (z : Shape) (ws : List ℕ) (m : Memory) → length ws ≡ word_count z → ((k : ℕ) → m.terms k ≡ 0)
-    → ((p : Spot) → IsSpot z p → get_or ws (spot_at z p) 0 ≡ word_of m p) → Shows z ws m
+    → ((p : Spot) → IsSpot z p → get_or ws (spot_at z p) 0 ≡ word_of z m p) → Shows z ws m
 unfolding spot_at IsSpot word_of
 shows_by z ws m w t f = record {
   wide = w;
@@ -124,11 +124,11 @@ shows_by z ws m w t f = record {
 
 module _ (z : Shape) (v : IsValid z) (ws : List ℕ) (m : Memory) (r : Shows z ws m) where
   -- the memory differs at one place
-  one_set : (m' : Memory) (p : Spot) (x : ℕ) → IsSpot z p → ((k : ℕ) → m'.terms k ≡ 0) → word_of m' p ≡ x → ((q : Spot) → q ≢ p → word_of m' q ≡ word_of m q)
-      → Shows z (set ws (spot_at z p) x) m'
+  one_set : (m' : Memory) (p : Spot) (x : ℕ) → IsSpot z p → ((k : ℕ) → m'.terms k ≡ 0) → word_of z m' p ≡ x
+      → ((q : Spot) → q ≢ p → word_of z m' q ≡ word_of z m q) → Shows z (set ws (spot_at z p) x) m'
   one_set m' p x h t here others = shows_by z (set ws (spot_at z p) x) m' (length-set ws (spot_at z p) x ∙ r.wide) t (λ q i. dite (same_spot z p q h i)
       (λ e. ap (λ (c : Spot). get_or (set ws (spot_at z p) x) (spot_at z c) 0) e
-      ∙ (get_or-set_same ws (spot_at z p) x 0 (let b = spot_below z p v h in let w = r.wide in omega arith) ∙ (sym here ∙ sym (ap (word_of m') e))))
+      ∙ (get_or-set_same ws (spot_at z p) x 0 (let b = spot_below z p v h in let w = r.wide in omega arith) ∙ (sym here ∙ sym (ap (word_of z m') e))))
       (λ n. get_or-set_other ws (spot_at z p) (spot_at z q) x 0 (λ e. n (spot_one z q p i h e)) ∙ (shown z ws m r q i ∙ sym (others q n))))
 
   -- a word that is set to itself
@@ -139,7 +139,7 @@ module _ (z : Shape) (v : IsValid z) (ws : List ℕ) (m : Memory) (r : Shows z w
   unfolding spot_at IsSpot word_of
   shows_mark k x h = one_set (record m { marks = put m.marks k x }) (marked k) (own_word x) h r.terms (ap own_word (put_here m.marks k x)) others
     where
-      others : (q : Spot) → q ≢ marked k → word_of (record m { marks = put m.marks k x }) q ≡ word_of m q
+      others : (q : Spot) → q ≢ marked k → word_of z (record m { marks = put m.marks k x }) q ≡ word_of z m q
       others (marked i) n = ap own_word (put_else m.marks k x i (λ e. n (ap marked e)))
       others fronted n = refl
       others drawn n = refl
@@ -149,13 +149,14 @@ module _ (z : Shape) (v : IsValid z) (ws : List ℕ) (m : Memory) (r : Shows z w
       others (cell s w) n = refl
 
   pub shows_session : (k : ℕ) (x : Session) (c : ℕ) → k < z.slots
-      → Shows z (set ws (at z (session k)) (session_code x c)) (record m { sessions = put m.sessions k x; counts = put m.counts k c })
+      → Shows z (set ws (at z (session k)) (session_code z.generations x c)) (record m { sessions = put m.sessions k x; counts = put m.counts k c })
   unfolding spot_at IsSpot word_of
-  shows_session k x c h = one_set (record m { sessions = put m.sessions k x; counts = put m.counts k c }) (seated k) (session_code x c) h r.terms
-      (λ j. session_code (put_here m.sessions k x j) (put_here m.counts k c j)) others
+  shows_session k x c h = one_set (record m { sessions = put m.sessions k x; counts = put m.counts k c }) (seated k) (session_code z.generations x c) h r.terms
+      (λ j. session_code z.generations (put_here m.sessions k x j) (put_here m.counts k c j)) others
     where
-      others : (q : Spot) → q ≢ seated k → word_of (record m { sessions = put m.sessions k x; counts = put m.counts k c }) q ≡ word_of m q
-      others (seated i) n = λ j. session_code (put_else m.sessions k x i (λ e. n (ap seated e)) j) (put_else m.counts k c i (λ e. n (ap seated e)) j)
+      others : (q : Spot) → q ≢ seated k → word_of z (record m { sessions = put m.sessions k x; counts = put m.counts k c }) q ≡ word_of z m q
+      others (seated i) n = λ j.
+          session_code z.generations (put_else m.sessions k x i (λ e. n (ap seated e)) j) (put_else m.counts k c i (λ e. n (ap seated e)) j)
       others fronted n = refl
       others drawn n = refl
       others bits n = refl
@@ -168,7 +169,7 @@ module _ (z : Shape) (v : IsValid z) (ws : List ℕ) (m : Memory) (r : Shows z w
   shows_cell k c x h l = one_set (record m { cells = put m.cells k (put (m.cells k) c x) }) (cell k c) x (h, l) r.terms
       ((λ j. put_here m.cells k (put (m.cells k) c x) j c) ∙ put_here (m.cells k) c x) others
     where
-      others : (q : Spot) → q ≢ cell k c → word_of (record m { cells = put m.cells k (put (m.cells k) c x) }) q ≡ word_of m q
+      others : (q : Spot) → q ≢ cell k c → word_of z (record m { cells = put m.cells k (put (m.cells k) c x) }) q ≡ word_of z m q
       others (cell s w) n = dite (ℕ_discrete s k)
           (λ e. (λ j. put m.cells k (put (m.cells k) c x) (e j) w) ∙ ((λ j. put_here m.cells k (put (m.cells k) c x) j w)
           ∙ (put_else (m.cells k) c x w (λ f. n (λ j. cell (e j) (f j))) ∙ (λ j. m.cells (sym e j) w))))
@@ -181,13 +182,13 @@ module _ (z : Shape) (v : IsValid z) (ws : List ℕ) (m : Memory) (r : Shows z w
       others (counted s) n = refl
 
   pub shows_count : (k c : ℕ) → k < z.slots
-      → Shows z (set ws (at z (session k)) (session_code (m.sessions k) c)) (record m { counts = put m.counts k c })
+      → Shows z (set ws (at z (session k)) (session_code z.generations (m.sessions k) c)) (record m { counts = put m.counts k c })
   unfolding spot_at IsSpot word_of
-  shows_count k c h = one_set (record m { counts = put m.counts k c }) (seated k) (session_code (m.sessions k) c) h r.terms
-      (ap (session_code (m.sessions k)) (put_here m.counts k c)) others
+  shows_count k c h = one_set (record m { counts = put m.counts k c }) (seated k) (session_code z.generations (m.sessions k) c) h r.terms
+      (ap (session_code z.generations (m.sessions k)) (put_here m.counts k c)) others
     where
-      others : (q : Spot) → q ≢ seated k → word_of (record m { counts = put m.counts k c }) q ≡ word_of m q
-      others (seated i) n = ap (session_code (m.sessions i)) (put_else m.counts k c i (λ e. n (ap seated e)))
+      others : (q : Spot) → q ≢ seated k → word_of z (record m { counts = put m.counts k c }) q ≡ word_of z m q
+      others (seated i) n = ap (session_code z.generations (m.sessions i)) (put_else m.counts k c i (λ e. n (ap seated e)))
       others fronted n = refl
       others drawn n = refl
       others bits n = refl
@@ -199,7 +200,7 @@ module _ (z : Shape) (v : IsValid z) (ws : List ℕ) (m : Memory) (r : Shows z w
   unfolding spot_at IsSpot word_of
   shows_given k c h = one_set (record m { given = put m.given k c }) (counted k) c h r.terms (put_here m.given k c) others
     where
-      others : (q : Spot) → q ≢ counted k → word_of (record m { given = put m.given k c }) q ≡ word_of m q
+      others : (q : Spot) → q ≢ counted k → word_of z (record m { given = put m.given k c }) q ≡ word_of z m q
       others (counted i) n = put_else m.given k c i (λ e. n (ap counted e))
       others fronted n = refl
       others drawn n = refl
@@ -212,7 +213,7 @@ module _ (z : Shape) (v : IsValid z) (ws : List ℕ) (m : Memory) (r : Shows z w
   unfolding spot_at IsSpot word_of
   shows_draw n = one_set (record m { draw = n }) drawn n tt r.terms refl others
     where
-      others : (q : Spot) → q ≢ drawn → word_of (record m { draw = n }) q ≡ word_of m q
+      others : (q : Spot) → q ≢ drawn → word_of z (record m { draw = n }) q ≡ word_of z m q
       others drawn ne = absurd (ne refl)
       others fronted ne = refl
       others bits ne = refl
@@ -225,7 +226,7 @@ module _ (z : Shape) (v : IsValid z) (ws : List ℕ) (m : Memory) (r : Shows z w
   unfolding spot_at IsSpot word_of
   shows_bits n = one_set (record m { bits = n }) bits n tt r.terms refl others
     where
-      others : (q : Spot) → q ≢ bits → word_of (record m { bits = n }) q ≡ word_of m q
+      others : (q : Spot) → q ≢ bits → word_of z (record m { bits = n }) q ≡ word_of z m q
       others bits ne = absurd (ne refl)
       others fronted ne = refl
       others drawn ne = refl

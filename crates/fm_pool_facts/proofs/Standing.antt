@@ -1,5 +1,7 @@
 -- Session words stay beside the machine over each kind of entry.
-use Rattle.std.proofs.Common.{◌≡◌, ◌≢◌, ◌⊎◌, ℕ, ◌<◌, ◌≤◌, sym, refl, ap, ◌∙◌, subst, arith, inl, inr, ⊎_elim}
+use Rattle.std.proofs.Common.{◌≡◌, ◌≢◌, ◌⊎◌, ℕ, ◌+◌, ◌<◌, ◌≤◌, sym, refl, ap, ◌∙◌, subst, arith, inl, inr, ⊎_elim}
+use mathlib.Core.Logic.{dite}
+use native.Mathlib.Decide.{ℕ_discrete}
 use Rattle.fm_words.specs.declared.shape.Shape.{Shape}
 use Rattle.fm_base.specs.declared.caller.Caller.{Caller}
 use Rattle.fm_base.specs.declared.arena_id.ArenaId.{ArenaId}
@@ -21,7 +23,7 @@ standing_known l (inr e) f = let g : Closes ≡ Fresh = sym e ∙ f in absurd (c
 -- ---- sessions
 
 module _ (z : Shape) (sessions : ℕ → Session) (life : ArenaId → Stage) (r : Sessions z sessions life) where
-  standing_shown : (c : ArenaId) → IsStanding (life c) → (sessions c.slot ≡ live c) ⊎ (sessions c.slot ≡ shut c)
+  pub standing_shown : (c : ArenaId) → IsStanding (life c) → (sessions c.slot ≡ live c) ⊎ (sessions c.slot ≡ shut c)
   standing_shown c (inl l) = inl (r.alive_shown c l)
   standing_shown c (inr l) = inr (r.closing_shown c l)
 
@@ -39,6 +41,12 @@ module _ (z : Shape) (sessions : ℕ → Session) (life : ArenaId → Stage) (r 
   pub free_apart : (s g : ℕ) (b : ArenaId) → sessions s ≡ free g → IsStanding (life b) → s ≢ b.slot
   free_apart s g b f (inl l) e = let y : sessions s ≡ live b = ap sessions e ∙ r.alive_shown b l in absurd (cc)
   free_apart s g b f (inr l) e = let y : sessions s ≡ shut b = ap sessions e ∙ r.closing_shown b l in absurd (cc)
+
+  abbrev WasOpened : (ArenaId → Stage) → ℕ → ℕ → Type 0
+  WasOpened lives s g = (b : ArenaId) × (b.slot ≡ s) × (b.generation ≡ g) × (lives b ≢ Fresh)
+
+  was_opened : (a : ArenaId) (x : Stage) (s g : ℕ) → x ≢ Fresh → WasOpened life s g → WasOpened (put_at life a x) s g
+  was_opened a x s g n y = (y.0, y.1, y.2, at_cases life a x y.0 (λ l. l ≢ Fresh) (λ e. n) (λ e. y.3))
 
   pub sessions_shut : (a : ArenaId) → life a ≡ Lives → Sessions z (put sessions a.slot (shut a)) (put_at life a Closes)
   sessions_shut a l = record {
@@ -65,6 +73,9 @@ module _ (z : Shape) (sessions : ℕ → Session) (life : ArenaId → Stage) (r 
         (λ e. ⊎_elim (λ q. absurd (cc)) (λ q b p h n. let y : a ≡ c = cc in
         at_other life a Closes b (λ u. n (u ∙ y)) ∙ r.newest s c (inl (ap sessions e ∙ (r.alive_shown a l ∙ ap live y))) b p h n))
         (λ m q b p h n. let f = r.newest s c q b p h n in at_other life a Closes b (λ e. let u : life b ≡ Lives = ap life e ∙ l in absurd (cc)) ∙ f);
+    before = λ s g. put_cases sessions a.slot (shut a) s (λ (x : Session). x ≡ free (g + 1) → WasOpened (put_at life a Closes) s g)
+        (λ e q. absurd (cc))
+        (λ n q. was_opened a Closes s g (λ e. absurd (cc)) (r.before s g q));
     fits = λ b. at_cases life a Closes b (λ (x : Stage). x ≢ Fresh → Fits z b)
         (λ e q. r.fits b (λ p. let y : life b ≡ Lives = ap life e ∙ l in absurd (cc)))
         (λ n q. r.fits b q);
@@ -79,9 +90,47 @@ module _ (z : Shape) (sessions : ℕ → Session) (life : ArenaId → Stage) (r 
     shut_is = λ s b q. let y = r.shut_is s b q in (y.0, at_cases life a Over b (λ x. x ≢ Fresh) (λ p f. absurd (cc)) (λ p. y.1));
     free_is = λ s g q b e h. let y = r.free_is s g q b e h in at_other life a Over b (λ p. let u : life b ≡ Closes = ap life p ∙ l in absurd (cc)) ∙ y;
     newest = λ s c q b p h n. let f = r.newest s c q b p h n in at_other life a Over b (λ e. let u : life b ≡ Closes = ap life e ∙ l in absurd (cc)) ∙ f;
+    before = λ s g q. was_opened a Over s g (λ e. absurd (cc)) (r.before s g q);
     fits = λ b. at_cases life a Over b (λ (x : Stage). x ≢ Fresh → Fits z b)
         (λ e q. r.fits b (λ p. let y : life b ≡ Closes = ap life e ∙ l in absurd (cc)))
         (λ n q. r.fits b q);
+  }
+
+  -- no other arena stands in the slot of one that has ended and isn't retired
+  pub ended_apart : (a b : ArenaId) → sessions a.slot ≡ shut a → life a ≡ Over → IsStanding (life b) → b.slot ≢ a.slot
+  ended_apart a b f o (inl l) e = let y : sessions a.slot ≡ live b = ap sessions (sym e) ∙ r.alive_shown b l in absurd (cc)
+  ended_apart a b f o (inr l) e =
+      let y : sessions a.slot ≡ shut b = ap sessions (sym e) ∙ r.closing_shown b l in
+      let i : a ≡ b = cc in
+      let q : life a ≡ Closes = ap life i ∙ l in absurd (cc)
+
+  -- a slot is free for the next generation
+  pub sessions_retire : (a : ArenaId) → sessions a.slot ≡ shut a → life a ≡ Over → Sessions z (put sessions a.slot (free (a.generation + 1))) life
+  sessions_retire a f o = record {
+    alive_shown = λ b q. put_else sessions a.slot (free (a.generation + 1)) b.slot (ended_apart a b f o (inl q)) ∙ r.alive_shown b q;
+    closing_shown = λ b q. put_else sessions a.slot (free (a.generation + 1)) b.slot (ended_apart a b f o (inr q)) ∙ r.closing_shown b q;
+    live_is = λ s b. put_cases sessions a.slot (free (a.generation + 1)) s (λ (x : Session). x ≡ live b → (b.slot ≡ s) × (life b ≡ Lives))
+        (λ e q. absurd (cc))
+        (λ n q. r.live_is s b q);
+    shut_is = λ s b. put_cases sessions a.slot (free (a.generation + 1)) s (λ (x : Session). x ≡ shut b → (b.slot ≡ s) × (life b ≢ Fresh))
+        (λ e q. absurd (cc))
+        (λ n q. r.shut_is s b q);
+    free_is =
+        λ s g. put_cases sessions a.slot (free (a.generation + 1)) s
+        (λ (x : Session). x ≡ free g → (b : ArenaId) → b.slot ≡ s → g ≤ b.generation → life b ≡ Fresh)
+        (λ e q b p h.
+        let i : a.generation + 1 ≡ g = cc in
+        r.newest a.slot a (inr f) b (p ∙ e) (omega arith) (λ w. let j : b.generation ≡ a.generation = ap (λ (x : ArenaId). x.generation) w in omega arith))
+        (λ n q. r.free_is s g q);
+    newest =
+        λ s c. put_cases sessions a.slot (free (a.generation + 1)) s
+        (λ (x : Session). (x ≡ live c) ⊎ (x ≡ shut c) → (b : ArenaId) → b.slot ≡ s → c.generation ≤ b.generation → b ≢ c → life b ≡ Fresh)
+        (λ e. ⊎_elim (λ q. absurd (cc)) (λ q. absurd (cc)))
+        (λ n q. r.newest s c q);
+    before = λ s g. put_cases sessions a.slot (free (a.generation + 1)) s (λ (x : Session). x ≡ free (g + 1) → WasOpened life s g)
+        (λ e q. let i : a.generation + 1 ≡ g + 1 = cc in (a, sym e, omega arith, (λ n. let x : Over ≡ Fresh = sym o ∙ n in absurd (cc))))
+        (λ n q. r.before s g q);
+    fits = r.fits;
   }
 
   module _ (a : ArenaId) (f : sessions a.slot ≡ free a.generation) where
@@ -118,6 +167,9 @@ module _ (z : Shape) (sessions : ℕ → Session) (life : ArenaId → Stage) (r 
           at_other life a Lives b (λ u. n (u ∙ y))
           ∙ r.free_is a.slot a.generation f b (p ∙ e) (subst (λ (x : ArenaId). x.generation ≤ b.generation) (sym y) h)) (λ q. absurd (cc)))
           (λ m q b p h n. at_other life a Lives b (λ e. m (sym p ∙ (λ j. (e j).slot))) ∙ r.newest s c q b p h n);
+      before = λ s g. put_cases sessions a.slot (live a) s (λ (x : Session). x ≡ free (g + 1) → WasOpened (put_at life a Lives) s g)
+          (λ e q. absurd (cc))
+          (λ n q. was_opened a Lives s g (λ e. absurd (cc)) (r.before s g q));
       fits = λ b. at_cases life a Lives b (λ (x : Stage). x ≢ Fresh → Fits z b) (λ e q. subst (Fits z) (sym e) fit) (λ n q. r.fits b q);
     }
 
@@ -127,9 +179,28 @@ module _ (z : Shape) (sessions : ℕ → Session) (life : ArenaId → Stage) (r 
 pub slots_used : (z : Shape) (bits : ℕ) (sessions : ℕ → Session) → Slots z bits sessions → (k : ℕ) (x : Session) → ((g : ℕ) → x ≢ free g)
     → bit_at bits k ≢ 1 → Slots z bits (put sessions k x)
 slots_used z bits sessions r k x n zero = record {
-  bit_is = λ s b. put_cases sessions k x s (λ (y : Session). (g : ℕ) × (y ≡ free g))
+  bit_is = λ s b. put_cases sessions k x s (λ (y : Session). (g : ℕ) × (y ≡ free g) × (g < z.generations))
       (λ e. absurd (zero (ap (bit_at bits) (sym e) ∙ b)))
       (λ ne. r.bit_is s b);
-  within = λ s g. put_cases sessions k x s (λ (y : Session). y ≡ free g → g < z.generations) (λ e q. absurd (n g q)) (λ ne q. r.within s g q);
-  first = λ s g. put_cases sessions k x s (λ (y : Session). y ≡ free g → g ≡ 0) (λ e q. absurd (n g q)) (λ ne q. r.first s g q);
+  within = λ s g. put_cases sessions k x s (λ (y : Session). y ≡ free g → g ≤ z.generations) (λ e q. absurd (n g q)) (λ ne q. r.within s g q);
+}
+
+-- a slot is free for a later generation
+pub slots_retired : (z : Shape) (bits : ℕ) (sessions : ℕ → Session) → Slots z bits sessions → (k next : ℕ) → bit_at bits k ≢ 1 → next ≤ z.generations
+    → Slots z bits (put sessions k (free next))
+slots_retired z bits sessions r k next zero low = record {
+  bit_is = λ s b. put_cases sessions k (free next) s (λ (y : Session). (g : ℕ) × (y ≡ free g) × (g < z.generations))
+      (λ e. absurd (zero (ap (bit_at bits) (sym e) ∙ b)))
+      (λ ne. r.bit_is s b);
+  within = λ s g. put_cases sessions k (free next) s (λ (y : Session). y ≡ free g → g ≤ z.generations)
+      (λ e q. let i : next ≡ g = cc in omega arith)
+      (λ ne q. r.within s g q);
+}
+
+-- a bit is set of a slot that is free and has a generation left
+pub slots_given : (z : Shape) (bits bits' : ℕ) (sessions : ℕ → Session) → Slots z bits sessions → (k g : ℕ) → sessions k ≡ free g → g < z.generations
+    → ((s : ℕ) → s ≢ k → bit_at bits' s ≡ bit_at bits s) → Slots z bits' sessions
+slots_given z bits bits' sessions r k g f low others = record {
+  bit_is = λ s b. dite (ℕ_discrete s k) (λ e. (g, ap sessions e ∙ f, low)) (λ n. r.bit_is s (sym (others s n) ∙ b));
+  within = r.within;
 }

@@ -54,6 +54,12 @@ closes_after a Inside cs = cs
 closes_after a Next cs = visited a cs
 closes_after a Ended cs = dropped a cs
 
+-- where the arena ended, its sweep begins
+abbrev pub sweeps_after : ArenaId → Visit → List Close → List Close
+sweeps_after a Inside cs = cs
+sweeps_after a Next cs = cs
+sweeps_after a Ended cs = close_of a 0 ∷ cs
+
 abbrev pub visit_entries : ArenaId → Visit → Caller → List Entry
 visit_entries a Inside c = []
 visit_entries a Next c = []

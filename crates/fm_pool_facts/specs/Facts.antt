@@ -1,68 +1,24 @@
 -- The facts that a pool keeps between any two steps: of its words, of the history, and of all views.
-use Rattle.std.specs.Prelude.{◌≡◌, ◌≢◌, ◌⊎◌, ℕ, ◌+◌, ◌*◌, ◌<◌, ◌≤◌, true, List, [], ◌++◌, length, slice_index, Contains, Option, Some, None}
+use Rattle.std.specs.Prelude.{◌≡◌, ◌≢◌, ◌⊎◌, ℕ, ◌+◌, ◌<◌, ◌≤◌, true, List, [], Contains, Option, Some, None}
 use mathlib.Core.Option.{some}
 use lib.ListN.{get_elem?}
 use Rattle.fm_words.specs.declared.shape.Shape.{Shape}
 use Rattle.fm_words.specs.Shapes.{IsValid}
-use Rattle.fm_words.specs.Places.{at, front, draw as draw_place, slot_bits, mark, session, given as given_place, words as word_count, pages_from}
-use Rattle.fm_words.specs.Sessions.{session_word, free as is_free}
 use Rattle.fm_base.specs.declared.caller.Caller.{Caller}
 use Rattle.fm_base.specs.declared.arena_id.ArenaId.{ArenaId}
 use Rattle.fm_base.specs.Calls.{Entry}
 use Rattle.fm_base.specs.Histories.{IsLegal, state_after, made_by}
 use Rattle.fm_pool_facts.specs.Loans.{Loan, loan_of, lent, IsFree, HasPart, IsRightlyLent}
 use Rattle.fm_base.specs.Finds.{Find, Gathered, Close, is_draw}
-use Rattle.fm_depicts.specs.Functions.{Stage, Fresh, Lives, Closes, Machine, Depicts}
+use Rattle.fm_depicts.specs.Functions.{Stage, Fresh, Lives, Closes, Over, Machine, Depicts}
 use Rattle.std.specs.Int.{bit_at}
-use Rattle.fm_pool_facts.specs.Hands.{Hand, nothing, taken, learnt, HasSlot}
+use Rattle.fm_pool_facts.specs.Hands.{Hand, nothing, taken, learnt, retired, HasSlot, IsTaker}
 use Rattle.fm_pool_facts.specs.Views.{Met, View, Fits, In, all_gathered, span, limit_of}
-pub use Rattle.fm_pool_facts.specs.Views.{IsOnce}
-use Rattle.fm_pool_facts.specs.Words.{alive_word, closing_word, own_word}
+pub use Rattle.fm_pool_facts.specs.Views.{IsOnce, Begins}
+pub use Rattle.fm_pool_facts.specs.Memory.{Session, free, live, shut, Memory, session_code, Shows, IsShown}
+unfoldable pub use Rattle.fm_pool_facts.specs.Memory.{cell_at}
+use Rattle.fm_pool_facts.specs.Gone.{IsFounded}
 use Rattle.fm_pool_facts.specs.Holds.{holds_of, total, all_holds}
-
--- ---- the words, decoded
-
-pub data Session : Type 0 where
-  -- no arena of this generation was opened yet
-  free : ℕ → Session
-  live : ArenaId → Session
-  shut : ArenaId → Session
-
-pub record Memory : Type 0 where
-  -- how many numbers were drawn
-  pub draw : ℕ
-  -- the term of a number
-  pub terms : ℕ → ℕ
-  -- the word of slot bits
-  pub bits : ℕ
-  pub marks : ℕ → Option ArenaId
-  pub sessions : ℕ → Session
-  -- the holds that a session word counts
-  pub counts : ℕ → ℕ
-  pub given : ℕ → ℕ
-  -- the words of a slot
-  pub cells : ℕ → ℕ → ℕ
-
-abbrev pub session_code : Session → ℕ → ℕ
-session_code (free g) count = session_word (record { generation = g; life = is_free; kind = 0; owner = 0; holds = 0 })
-session_code (live a) count = alive_word a count
-session_code (shut a) count = closing_word a
-
--- the place of a word of a slot: slot k owns the pages from k times `reach` on
-unfoldable pub cell_at : Shape → ℕ → ℕ → ℕ
-cell_at z s w = pages_from z + (s * span z + w)
-
-pub record Shows (z : Shape) (words : List ℕ) (m : Memory) : Type 0 where
-  pub wide : length words ≡ word_count z
-  pub front : slice_index words (at z front) ≡ 0
-  pub draw : slice_index words (at z draw_place) ≡ m.draw
-  pub slot_bits : slice_index words (at z slot_bits) ≡ m.bits
-  -- until numbers come back
-  pub terms : (k : ℕ) → m.terms k ≡ 0
-  pub marks : (k : ℕ) → k < z.passes → slice_index words (at z (mark k)) ≡ own_word (m.marks k)
-  pub sessions : (s : ℕ) → s < z.slots → slice_index words (at z (session s)) ≡ session_code (m.sessions s) (m.counts s)
-  pub given : (s : ℕ) → s < z.slots → slice_index words (at z (given_place s)) ≡ m.given s
-  pub cells : (s w : ℕ) → s < z.slots → w < span z → slice_index words (cell_at z s w) ≡ m.cells s w
 
 -- ---- the memory beside the machine
 
@@ -88,14 +44,14 @@ pub record Sessions (z : Shape) (sessions : ℕ → Session) (life : ArenaId →
   -- no other arena of the slot has this generation or a greater one
   pub newest : (s : ℕ) (a : ArenaId) → (sessions s ≡ live a) ⊎ (sessions s ≡ shut a) → (b : ArenaId) → b.slot ≡ s → a.generation ≤ b.generation → b ≢ a
       → life b ≡ Fresh
+  -- the generation before was opened
+  pub before : (s g : ℕ) → sessions s ≡ free (g + 1) → (a : ArenaId) × (a.slot ≡ s) × (a.generation ≡ g) × (life a ≢ Fresh)
   pub fits : (a : ArenaId) → life a ≢ Fresh → Fits z a
 
--- slots whose bit is 1 are free
+-- slots whose bit is 1 are free, and have a generation left
 pub record Slots (z : Shape) (bits : ℕ) (sessions : ℕ → Session) : Type 0 where
-  pub bit_is : (s : ℕ) → bit_at bits s ≡ 1 → (g : ℕ) × (sessions s ≡ free g)
-  pub within : (s g : ℕ) → sessions s ≡ free g → g < z.generations
-  -- until slots come back
-  pub first : (s g : ℕ) → sessions s ≡ free g → g ≡ 0
+  pub bit_is : (s : ℕ) → bit_at bits s ≡ 1 → (g : ℕ) × (sessions s ≡ free g) × (g < z.generations)
+  pub within : (s g : ℕ) → sessions s ≡ free g → g ≤ z.generations
 
 -- session words count the holds
 pub record Counts (counts : ℕ → ℕ) (life : ArenaId → Stage) (holds : ArenaId → ℕ) : Type 0 where
@@ -115,9 +71,10 @@ pub record Cells (z : Shape) (sessions : ℕ → Session) (cells : ℕ → ℕ �
   pub none : (a : ArenaId) (w : ℕ) → life a ≡ Fresh → word a w ≡ 0
   pub clean : (s g w : ℕ) → sessions s ≡ free g → w < span z → cells s w ≡ 0
 
--- the words of a slot are lent to each arena that was opened there, as its only part, and to none before
+-- the words of a slot are lent to the arena that its session shows, as its only part, and to none where it is free
 pub record Loans (loans : List Loan) (sessions : ℕ → Session) (life : ArenaId → Stage) : Type 0 where
-  pub part : (a : ArenaId) → life a ≢ Fresh → Contains loans (loan_of a.slot a 0)
+  pub part : (a : ArenaId) → IsShown sessions a → Contains loans (loan_of a.slot a 0)
+  pub own : (l : Loan) → Contains loans l → l.block ≡ l.id.slot
   pub none : (a : ArenaId) (part : ℕ) → life a ≡ Fresh → ¬ (HasPart loans a part)
   pub clean : (s g : ℕ) → sessions s ≡ free g → IsFree loans s
 
@@ -134,10 +91,12 @@ pub record World (z : Shape) (m : Memory) (t : Machine) : Type 0 where
 pub record Owners : Type 0 where
   -- a drawn number
   pub number : ℕ → ℕ
-  -- the close of an arena
+  -- the close of an arena, and its sweep
   pub closer : ArenaId → ℕ
-  -- a free slot whose bit is 0
+  -- a free slot whose bit is 0 and which has a generation left
   pub holder : ℕ → ℕ
+  -- the caller that took it to open an arena there
+  pub taker : ℕ → Option Caller
 
 -- an unfinished close at the seat j
 pub record IsClosing (t : Machine) (o : Owners) (j : ℕ) (c : Close) : Type 0 where
@@ -145,17 +104,27 @@ pub record IsClosing (t : Machine) (o : Owners) (j : ℕ) (c : Close) : Type 0 w
   pub life : t.life c.arena ≡ Closes
   pub visited : (k : Caller) → k.number < c.visited → t.inside k ≢ Some c.arena
 
+-- an arena at the seat j that ended and isn't retired
+pub record IsSweeping (z : Shape) (m : Memory) (t : Machine) (o : Owners) (j : ℕ) (c : Close) : Type 0 where
+  pub owner : o.closer c.arena ≡ j
+  pub life : t.life c.arena ≡ Over
+  pub session : m.sessions c.arena.slot ≡ shut c.arena
+  pub wiped : (w : ℕ) → w < c.visited → w < span z → m.cells c.arena.slot w ≡ 0
+  pub reset : span z < c.visited → m.given c.arena.slot ≡ 0
+
 -- a slot in the hand of the seat j, whose next generation is g
 pub record IsHeld (z : Shape) (bits : ℕ) (sessions : ℕ → Session) (holder : ℕ → ℕ) (j s g : ℕ) : Type 0 where
   pub owner : holder s ≡ j
   pub slot : s < z.slots
   pub bit : bit_at bits s ≡ 0
   pub session : sessions s ≡ free g
+  pub left : g < z.generations
 
 abbrev pub HasInHand : Shape → ℕ → (ℕ → Session) → (ℕ → ℕ) → ℕ → Hand → Type 0
 HasInHand z bits sessions holder j nothing = Unit {0}
 HasInHand z bits sessions holder j (taken s) = (g : ℕ) × IsHeld z bits sessions holder j s g
 HasInHand z bits sessions holder j (learnt s g) = IsHeld z bits sessions holder j s g
+HasInHand z bits sessions holder j (retired s) = (g : ℕ) × IsHeld z bits sessions holder j s (g + 1)
 
 -- no caller of the number has made an entry or is under way, and its mark is 0
 pub record IsSilent (k : ℕ) (h : List Entry) (m : Memory) (t : Machine) : Type 0 where
@@ -186,10 +155,6 @@ pub record IsDrawn (h : List Entry) (m : Memory) (t : Machine) (o : Owners) (j :
 abbrev pub HasGathered : ℕ → View → Type 0
 HasGathered n v = (g : Gathered) × In g (all_gathered v) × (g.caller.number ≡ n)
 
--- the second history goes on from the first
-abbrev pub Begins : List Entry → List Entry → Type 0
-Begins xs ys = (zs : List Entry) × (ys ≡ xs ++ zs)
-
 pub record Owns (z : Shape) (h : List Entry) (m : Memory) (t : Machine) (o : Owners) (j : ℕ) (v : View) : Type 0 where
   pub number : v.caller.number < m.draw
   pub term : v.caller.term ≡ m.terms v.caller.number
@@ -199,7 +164,10 @@ pub record Owns (z : Shape) (h : List Entry) (m : Memory) (t : Machine) (o : Own
   pub mark : m.marks v.caller.number ≡ v.mark
   pub closes : (c : Close) → In c v.closes → IsClosing t o j c
   pub once : IsOnce (λ (c : Close). c.arena) v.closes
+  pub sweeps : (c : Close) → In c v.sweeps → IsSweeping z m t o j c
+  pub swept_once : IsOnce (λ (c : Close). c.arena) v.sweeps
   pub hand : HasInHand z m.bits m.sessions o.holder j v.hand
+  pub took : IsTaker o.taker v.caller v.hand
   pub gathered : (g : Gathered) → In g v.gathered → IsGathered h m t o j v v.seen g
   pub coming : (x : Met) → In x v.met → (g : Gathered) → In g x.gathered → IsGathered h m t o j v x.seen g
   pub one_each : IsOnce (λ (g : Gathered). g.caller.number) (all_gathered v)
@@ -248,6 +216,9 @@ HasDraw d n v = ((v.live ≡ true) × (v.caller.number ≡ d) × DrewIn n v.find
 abbrev pub HasClose : ArenaId → View → Type 0
 HasClose a v = (v.live ≡ true) × ((c : Close) × In c v.closes × (c.arena ≡ a))
 
+abbrev pub HasSweep : ArenaId → View → Type 0
+HasSweep a v = (v.live ≡ true) × ((c : Close) × In c v.sweeps × (c.arena ≡ a))
+
 abbrev pub KeepsSlot : ℕ → View → Type 0
 KeepsSlot s v = (v.live ≡ true) × HasSlot s v.hand
 
@@ -272,8 +243,11 @@ pub record Rule (z : Shape) (words : List ℕ) (views : List View) : Type 0 wher
   pub numbers : (n : ℕ) → n < memory.draw → Somewhere views (owners.number n) (HasNumber n)
   pub drawers : (n : ℕ) → 0 < n → n < memory.draw → (d : ℕ) × (d < n) × Somewhere views (owners.number d) (HasDraw d n)
   pub closed : (a : ArenaId) → machine.life a ≡ Closes → Somewhere views (owners.closer a) (HasClose a)
-  pub slots : (s g : ℕ) → s < z.slots → memory.sessions s ≡ free g → bit_at memory.bits s ≡ 0 → Somewhere views (owners.holder s) (KeepsSlot s)
+  pub swept : (a : ArenaId) → memory.sessions a.slot ≡ shut a → machine.life a ≡ Over → Somewhere views (owners.closer a) (HasSweep a)
+  pub slots : (s g : ℕ) → s < z.slots → memory.sessions s ≡ free g → g < z.generations → bit_at memory.bits s ≡ 0
+      → Somewhere views (owners.holder s) (KeepsSlot s)
   -- an arena is held as often as views have a hold of it; of an automatic one that is alive they have one more
   pub held : (a : ArenaId) → total (holds_of a) views ≡ all_holds a machine
   pub each : (j : ℕ) (v : View) → get_elem? views j ≡ some v → Knows z history memory machine owners j v
   pub counted : (j : ℕ) (v : View) → get_elem? views j ≡ some v → IsCounted memory v
+  pub founds : (j : ℕ) (v : View) → get_elem? views j ≡ some v → IsFounded z history memory owners.taker machine.life v

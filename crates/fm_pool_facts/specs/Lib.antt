@@ -6,6 +6,9 @@ pub mod Closes
 pub mod Holds
 pub mod Handles
 pub mod Steps
+pub mod Memory
+pub mod Gone
 pub mod Facts
 pub mod Moves
 pub mod Splits
+pub mod Rest

@@ -32,6 +32,10 @@ lent es = loans_after [] es
 abbrev pub IsFree : List Loan → ℕ → Type 0
 IsFree loans block = All (λ l. l.block ≢ block) loans
 
+-- nothing is lent to the arena
+abbrev pub IsUnlent : List Loan → ArenaId → Type 0
+IsUnlent loans id = (l : Loan) → Contains loans l → l.id ≢ id
+
 abbrev pub HasPart : List Loan → ArenaId → ℕ → Type 0
 HasPart loans id part = (block : ℕ) × Contains loans (loan_of block id part)
 

@@ -1,5 +1,5 @@
 -- What one step changes, and what the rule allows.
-use Rattle.std.specs.Prelude.{◌/◌, ◌≡◌, ◌≢◌, ◌⊎◌, ℕ, ◌+◌, ◌<◌, ◌≤◌, true, List, [], ◌∷◌, ◌++◌, length, slice_index, slice_set, None, ⊤}
+use Rattle.std.specs.Prelude.{◌/◌, ◌≡◌, ◌≢◌, ◌⊎◌, ℕ, ◌+◌, ◌<◌, ◌≤◌, true, List, [], ◌∷◌, ◌++◌, length, slice_index, slice_set, Contains, None, ⊤}
 use mathlib.Core.Option.{some}
 use lib.ListN.{get_elem?}
 use Rattle.fm_words.specs.declared.shape.Shape.{Shape}
@@ -7,18 +7,20 @@ use Rattle.fm_base.specs.declared.caller.Caller.{Caller}
 use Rattle.fm_base.specs.declared.arena_id.ArenaId.{ArenaId}
 use Rattle.fm_base.specs.Calls.{Call, Read, Write, SwapIf, Add, End, Lend, Back, Entry}
 use Rattle.fm_base.specs.Histories.{made_by}
-use Rattle.fm_pool_facts.specs.Loans.{Loan, loans_by, IsFree, HasPart}
+use Rattle.fm_pool_facts.specs.Loans.{Loan, loan_of, loans_by, IsFree, HasPart}
 use Rattle.fm_base.specs.Finds.{Find, Gathered, Close, is_draw}
 use Rattle.fm_depicts.specs.Functions.{Fresh, Closes, Over, Machine, moved, MayBy, reply_by}
 use Rattle.std.specs.Int.{bit_at}
-use Rattle.fm_pool_facts.specs.Hands.{nothing}
+use Rattle.fm_pool_facts.specs.Hands.{nothing, IsTaker}
 use Rattle.fm_pool_facts.specs.declared.step.Step.{Step}
 use Rattle.fm_pool_facts.specs.declared.step.Step.TheVariants.{Visits, Draws, Holds, Backs, TakesSlot}
-use Rattle.fm_pool_facts.specs.Views.{Met, View, In, IsSound, IsSpent, all_gathered, HasFind, HasAllDrawn}
+use Rattle.fm_pool_facts.specs.Views.{Met, View, In, IsSound, IsBusy, all_gathered, HasFind, HasAllDrawn, limit_of}
 use Rattle.fm_pool_facts.specs.Steps.{part, entries, noted}
 use Rattle.fm_pool_facts.specs.Words.{own_word, alive_holds}
 use Rattle.fm_pool_facts.specs.Holds.{grips, holds_of, all_holds}
-use Rattle.fm_pool_facts.specs.Facts.{Memory, free, Owners, IsClosing, IsOnce, HasInHand, HasClose, KeepsSlot, Begins, Rule}
+use Rattle.fm_pool_facts.specs.Gone.{IsTakenBy, OpenedBy}
+use Rattle.fm_depicts.specs.Steps.{moved_by}
+use Rattle.fm_pool_facts.specs.Facts.{Memory, free, shut, Owners, IsClosing, IsSweeping, IsOnce, HasInHand, HasClose, HasSweep, KeepsSlot, Begins, Rule}
 
 -- entries of one caller that the functions allow
 abbrev pub MayMake : ℕ → Machine → Caller → List Entry → Type 0
@@ -29,7 +31,7 @@ MayMake limit t c (e ∷ es) =
 -- where a call is right by these loans, by the functions; a block has `size` words
 abbrev pub LendsBy : ℕ → Machine → List Loan → Call → Type 0
 LendsBy size t loans (Lend block id part) = IsFree loans block × (t.life id ≢ Fresh) × (t.life id ≢ Over) × ¬ (HasPart loans id part)
-LendsBy size t loans (Back block) = ⊥
+LendsBy size t loans (Back block) = (id : ArenaId) × (p : ℕ) × Contains loans (loan_of block id p) × (t.life id ≡ Over)
 LendsBy size t loans (Read id word) = HasPart loans id (word / size)
 LendsBy size t loans (Write id word value) = HasPart loans id (word / size)
 LendsBy size t loans (SwapIf id word old new) = HasPart loans id (word / size)
@@ -48,16 +50,26 @@ abbrev pub NoEnd : List Entry → ArenaId → Type 0
 NoEnd [] b = Unit {0}
 NoEnd (e ∷ es) b = ¬ Ends e.call b × NoEnd es b
 
+-- nothing of an ended arena that isn't retired was changed
+pub record StaysEnded (m m' : Memory) (b : ArenaId) : Type 0 where
+  pub session : m'.sessions b.slot ≡ shut b
+  pub cells : (w : ℕ) → m'.cells b.slot w ≡ m.cells b.slot w
+  pub given : m'.given b.slot ≡ m.given b.slot
+
 -- what a step of the seat `me` by the caller c may do to what others know
-pub record Moved (me : ℕ) (limit : ℕ) (c : Caller) (m : Memory) (t : Machine) (o : Owners) (es : List Entry) (m' : Memory) (o' : Owners) : Type 0 where
-  pub allowed : MayMake limit t c es
+pub record Moved (me : ℕ) (z : Shape) (c : Caller) (m : Memory) (t : Machine) (o : Owners) (es : List Entry) (m' : Memory) (o' : Owners) : Type 0 where
+  pub allowed : MayMake (limit_of z) t c es
   pub marks : (k : ℕ) → k ≢ c.number → m'.marks k ≡ m.marks k
   pub terms : (k : ℕ) → m'.terms k ≡ m.terms k
   pub draw : m'.draw ≡ m.draw
   pub numbers : (k : ℕ) → o'.number k ≡ o.number k
   pub closers : (b : ArenaId) → t.life b ≡ Closes → o.closer b ≢ me → (o'.closer b ≡ o.closer b) × NoEnd es b
+  pub sweepers : (b : ArenaId) → t.life b ≡ Over → m.sessions b.slot ≡ shut b → o.closer b ≢ me → (o'.closer b ≡ o.closer b) × StaysEnded m m' b
   pub holders : (s g : ℕ) → m.sessions s ≡ free g → bit_at m.bits s ≡ 0 → o.holder s ≢ me
-      → (o'.holder s ≡ o.holder s) × (m'.sessions s ≡ free g) × (bit_at m'.bits s ≡ 0)
+      → (o'.holder s ≡ o.holder s) × (m'.sessions s ≡ free g) × (bit_at m'.bits s ≡ 0) × (o'.taker s ≡ o.taker s)
+  -- a slot that was taken for an arena is so still, or the arena was opened
+  pub taken : (s : ℕ) (k : Caller) → IsTakenBy z m.bits m.sessions o.taker s k
+      → IsTakenBy z m'.bits m'.sessions o'.taker s k ⊎ OpenedBy (moved_by t es).life s k
 
 -- what a step leaves of a view
 pub record Same (v p : View) : Type 0 where
@@ -78,18 +90,27 @@ pub record Part (z : Shape) (m : Memory) (t : Machine) (o : Owners) (j : ℕ) (p
   pub mark : m.marks p.caller.number ≡ p.mark
   pub closes : (c : Close) → In c p.closes → IsClosing t o j c
   pub once : IsOnce (λ (c : Close). c.arena) p.closes
+  pub sweeps : (c : Close) → In c p.sweeps → IsSweeping z m t o j c
+  pub swept_once : IsOnce (λ (c : Close). c.arena) p.sweeps
   pub hand : HasInHand z m.bits m.sessions o.holder j p.hand
+  pub took : IsTaker o.taker p.caller p.hand
 
 -- where the close of each arena is after the step
 abbrev pub KeepsCloses : (me : ℕ) (v p : View) (t : Machine) (o : Owners) (t' : Machine) (o' : Owners) → Type 0
 KeepsCloses me v p t o t' o' = (a : ArenaId) → t'.life a ≡ Closes
     → ((o'.closer a ≡ me) × HasClose a p) ⊎ ((t.life a ≡ Closes) × (o'.closer a ≡ o.closer a) × (HasClose a v → HasClose a p))
 
+-- where each sweep is after the step
+abbrev pub KeepsSweeps : (me : ℕ) (v p : View) (m : Memory) (t : Machine) (o : Owners) (m' : Memory) (t' : Machine) (o' : Owners) → Type 0
+KeepsSweeps me v p m t o m' t' o' = (a : ArenaId) → m'.sessions a.slot ≡ shut a → t'.life a ≡ Over
+    → ((o'.closer a ≡ me) × HasSweep a p)
+    ⊎ ((m.sessions a.slot ≡ shut a) × (t.life a ≡ Over) × (o'.closer a ≡ o.closer a) × (HasSweep a v → HasSweep a p))
+
 -- where each free slot whose bit is 0 is after the step
 abbrev pub KeepsSlots : (z : Shape) (me : ℕ) (v p : View) (m : Memory) (o : Owners) (m' : Memory) (o' : Owners) → Type 0
-KeepsSlots z me v p m o m' o' = (s g : ℕ) → s < z.slots → m'.sessions s ≡ free g → bit_at m'.bits s ≡ 0
+KeepsSlots z me v p m o m' o' = (s g : ℕ) → s < z.slots → m'.sessions s ≡ free g → g < z.generations → bit_at m'.bits s ≡ 0
     → ((o'.holder s ≡ me) × KeepsSlot s p)
-    ⊎ ((h : ℕ) × (m.sessions s ≡ free h) × (bit_at m.bits s ≡ 0) × (o'.holder s ≡ o.holder s) × (KeepsSlot s v → KeepsSlot s p))
+    ⊎ ((m.sessions s ≡ free g) × (bit_at m.bits s ≡ 0) × (o'.holder s ≡ o.holder s) × (KeepsSlot s v → KeepsSlot s p))
 
 -- the pass has as many holds more as the arenas
 abbrev pub KeepsHolds : (v p : View) (t t' : Machine) → Type 0
@@ -128,8 +149,8 @@ pub record LearnsCount (v : View) (x : ℕ) : Type 0 where
 
 -- what is learnt by the word x of slot bits, where the pass is known to be whole
 pub record LearnsSlots (v : View) (x : ℕ) : Type 0 where
-  pub unspent : v.whole ≡ true → (s : ℕ) → s < v.shape.slots → bit_at x s ≡ 1 → ¬ (IsSpent v s)
-  pub spent : v.whole ≡ true → v.hand ≡ nothing → (s : ℕ) → s < v.shape.slots → bit_at x s ≡ 0 → IsSpent v s
+  pub idle : v.whole ≡ true → (s : ℕ) → s < v.shape.slots → bit_at x s ≡ 1 → ¬ (IsBusy v s)
+  pub busy : v.whole ≡ true → v.hand ≡ nothing → v.sweeps ≡ [] → (s : ℕ) → s < v.shape.slots → bit_at x s ≡ 0 → IsBusy v s
 
 -- what is learnt by the word x that a step found: the mark of its own number is what its view says; an arena that it holds is alive
 abbrev pub Learns : Step → View → ℕ → Type 0

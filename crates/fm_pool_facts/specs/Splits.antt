@@ -17,6 +17,7 @@ view_of z live seen = record {
   inside = None;
   mark = None;
   closes = [];
+  sweeps = [];
   hand = nothing;
   drawn = None;
   met = [];
@@ -77,6 +78,7 @@ pub record IsAtRest (w : View) : Type 0 where
   pub drawn : w.drawn ≡ None
   pub hand : w.hand ≡ nothing
   pub closes : w.closes ≡ []
+  pub sweeps : w.sweeps ≡ []
   pub holds : w.holds ≡ []
   pub handles : w.handles ≡ []
   pub met : w.met ≡ []

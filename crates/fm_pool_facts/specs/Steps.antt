@@ -1,20 +1,20 @@
 -- The steps of a pass: what each does to its view, and its entries.
-use Rattle.std.specs.Prelude.{◌≡◌, ℕ, ◌+◌, ◌*◌, ◌/◌, ◌^◌, ◌<◌, nat_le, ◌==◌, Bool, true, false, if◌then◌else◌, List, [], ◌∷◌, ◌++◌, length, All, Option, Some, None}
+use Rattle.std.specs.Prelude.{◌≡◌, ℕ, ◌+◌, ◌*◌, ◌/◌, ◌^◌, ◌<◌, nat_le, ◌==◌, ◌&&◌, Bool, true, false, if◌then◌else◌, List, [], ◌∷◌, ◌++◌, length, All, Option, Some, None}
 use Rattle.fm_base.specs.declared.caller.Caller.{Caller}
 use Rattle.fm_base.specs.declared.arena_id.ArenaId.{ArenaId}
-use Rattle.fm_base.specs.Calls.{Call, Open, Enter, Read, Write, SwapIf, Add, Allocate, Leave, Hold, Unhold, Shut, Lend, Reply, Fine, Found, Entry, entry_of}
+use Rattle.fm_base.specs.Calls.{Call, Open, Enter, Read, Write, SwapIf, Add, Allocate, Leave, Hold, Unhold, Shut, Lend, Back, Reply, Fine, Found, Entry, entry_of}
 use Rattle.fm_base.specs.Machine.{allocate_reply, rounded_up}
 use Rattle.fm_base.specs.Histories.{made_by}
 use Rattle.fm_base.specs.Finds.{Find, FindStep, Draws as Drawing, Visits as Visiting, TakesSlot as Taking}
 use Rattle.fm_words.specs.declared.shape.Shape.{Shape}
-use Rattle.fm_pool_facts.specs.Hands.{nothing, learnt, slots_in, takes, hand_taken}
+use Rattle.fm_pool_facts.specs.Hands.{nothing, learnt, slots_in, takes, hand_taken, hand_retired}
 use Rattle.fm_pool_facts.specs.declared.step.Step.{Step}
-use Rattle.fm_pool_facts.specs.declared.step.Step.TheVariants.{Draws, Marks, Checks, Loads, Stores, SwapsIf, Adds, Allocates, Holds, Unholds, Backs, Unmarks, Shuts, Visits, TakesSlot, LearnsGeneration, Opens, Looks}
+use Rattle.fm_pool_facts.specs.declared.step.Step.TheVariants.{Draws, Marks, Checks, Loads, Stores, SwapsIf, Adds, Allocates, Holds, Unholds, Backs, Unmarks, Shuts, Visits, TakesSlot, LearnsGeneration, Opens, Wipes, ResetsGiven, Retires, GivesSlot, Looks}
 use Rattle.fm_pool_facts.specs.Views.{View, IsSound, given_of, limit_of, pass_of}
 use Rattle.fm_pool_facts.specs.Words.{alive_holds, enter_found, inside_found, shut_found, hold_found}
 use Rattle.fm_pool_facts.specs.Holds.{grips, with_grips, holds_after, handles_with, released}
 use Rattle.fm_pool_facts.specs.Handles.{giving, given_back, giving_entries}
-use Rattle.fm_pool_facts.specs.Closes.{begun, visit_found, closes_after, visit_entries}
+use Rattle.fm_pool_facts.specs.Closes.{begun, visited, dropped, visit_found, closes_after, sweeps_after, visit_entries}
 
 -- ---- what a step does
 
@@ -38,9 +38,9 @@ abbrev pub is_empty : {A : Type 0} → List A → Bool
 is_empty [] = true
 is_empty (x ∷ xs) = false
 
--- known to be whole, no slot or page in its hand, no unfinished close
+-- known to be whole, no slot or page in its hand, no close that isn't swept
 abbrev pub is_clear : View → Bool
-is_clear v = if v.whole then (if is_empty (slots_in v.hand) then (if is_empty v.pages then is_empty v.closes else false) else false) else false
+is_clear v = v.whole && is_empty (slots_in v.hand) && is_empty v.pages && is_empty v.closes && is_empty v.sweeps
 
 abbrev pub note_of : FindStep → ℕ → View → ℕ → List Find
 note_of step found v n = record { step = step; found = found; seen = n; clear = is_clear v; drew = None } ∷ []
@@ -120,10 +120,17 @@ part (Unholds a) v x = record v { holds = released a v.holds }
 part (Backs a word) v x = given_back a (giving (x == word) (alive_holds a word)) v
 part Unmarks v x = record v { inside = None; mark = None }
 part (Shuts a) v x = record v { closes = begun a (shut_found (alive_holds a x)) v.closes }
-part (Visits a k) v x = record v { closes = closes_after a (visit_found v.shape a k x) v.closes }
+part (Visits a k) v x = record v {
+  closes = closes_after a (visit_found v.shape a k x) v.closes;
+  sweeps = sweeps_after a (visit_found v.shape a k x) v.sweeps;
+}
 part (TakesSlot expected bit) v x = record v { hand = hand_taken (takes expected bit x) bit v.hand }
 part (LearnsGeneration s) v x = record v { hand = learnt s (x / 2 ^ 32) }
 part (Opens a) v x = record v { hand = nothing; handles = handles_with a v.handles }
+part (Wipes a w) v x = record v { sweeps = visited a v.sweeps }
+part (ResetsGiven a) v x = record v { sweeps = visited a v.sweeps }
+part (Retires a) v x = record v { sweeps = dropped a v.sweeps; hand = hand_retired (a.generation + 1 == v.shape.generations) a.slot v.hand }
+part (GivesSlot slot) v x = record v { hand = nothing }
 part (Draws expected) v x = draws (number_drawn v.shape expected x) x v
 part Looks v x = v
 
@@ -146,6 +153,10 @@ entries (Visits a k) v x = visit_entries a (visit_found v.shape a k x) v.caller
 entries (TakesSlot expected bit) v x = []
 entries (LearnsGeneration s) v x = []
 entries (Opens a) v x = open_entries a v.caller
+entries (Wipes a w) v x = []
+entries (ResetsGiven a) v x = []
+entries (Retires a) v x = entry_of v.caller (Back a.slot) Fine ∷ []
+entries (GivesSlot slot) v x = []
 entries (Draws expected) v x = []
 entries Looks v x = []
 

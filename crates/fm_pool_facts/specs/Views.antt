@@ -1,15 +1,15 @@
 -- What contracts see of a pass.
-use Rattle.std.specs.Prelude.{◌≡◌, ◌≢◌, ◌⊎◌, ℕ, ◌*◌, ◌<◌, ◌≤◌, ◌^◌, Bool, true, List, [], ◌∷◌, ◌++◌, length, Option, Some}
+use Rattle.std.specs.Prelude.{◌≡◌, ◌≢◌, ◌⊎◌, ℕ, ◌+◌, ◌*◌, ◌<◌, ◌≤◌, ◌^◌, Bool, true, List, [], ◌∷◌, ◌++◌, length, Contains, Option, Some}
 use Rattle.fm_words.specs.declared.shape.Shape.{Shape}
 use Rattle.fm_words.specs.Shapes.{IsValid}
 use Rattle.fm_base.specs.declared.caller.Caller.{Caller}
 use Rattle.fm_base.specs.declared.arena_id.ArenaId.{ArenaId}
-use Rattle.fm_base.specs.Arenas.{State, IsUnderWay, has_arena, arena_of}
+use Rattle.fm_base.specs.Arenas.{State, Ended, IsUnderWay, has_arena, arena_of, owner_of}
 use Rattle.fm_base.specs.Calls.{Entry}
 use Rattle.fm_base.specs.Histories.{IsLegal, state_after, made_by}
-use Rattle.fm_pool_facts.specs.Loans.{IsRightlyLent}
-use Rattle.fm_base.specs.Finds.{Find, Gathered, Close, is_draw}
-use Rattle.fm_pool_facts.specs.Hands.{Hand, HasSlot}
+use Rattle.fm_pool_facts.specs.Loans.{Loan, lent as lent_by, IsRightlyLent}
+use Rattle.fm_base.specs.Finds.{Find, Gathered, Close, is_draw, is_slot}
+use Rattle.fm_pool_facts.specs.Hands.{Hand, nothing, HasSlot}
 
 -- what another had seen that a pass has met, and the callers that it brought
 pub record Met : Type 0 where
@@ -33,7 +33,9 @@ pub record View : Type 0 where
   -- the mark that it publishes
   pub mark : Option ArenaId
   pub closes : List Close
-  -- the slot that it took to open an arena in
+  -- arenas that it ended and hasn't retired, and how many of their words were wiped: the count of given bytes is the last
+  pub sweeps : List Close
+  -- the slot that it took to open an arena in, or retired
   pub hand : Hand
   -- the number that it drew and hasn't split off
   pub drawn : Option ℕ
@@ -74,16 +76,32 @@ pub record Fits (z : Shape) (a : ArenaId) : Type 0 where
   pub slot : a.slot < z.slots
   pub owner : a.owner < z.passes
   pub generation : a.generation < z.generations
+  -- until numbers come back
+  pub term : a.term ≡ 0
 
--- an arena was opened in the slot
-pub record IsSpent (v : View) (slot : ℕ) : Type 0 where
+-- the arena has ended
+pub record IsOver (v : View) (a : ArenaId) : Type 0 where
+  pub known : IsKnown v a
+  pub life : (arena_of (state_in v) a).life ≡ Ended
+  pub empty : (arena_of (state_in v) a).under_way ≡ []
+
+-- an arena of the slot was opened that hasn't ended, or is the last of so many generations
+pub record IsBusyIn (generations : ℕ) (s : State) (slot : ℕ) : Type 0 where
   pub arena : ArenaId
   pub in_slot : arena.slot ≡ slot
-  pub known : IsKnown v arena
+  pub known : has_arena s arena ≡ true
+  pub why : ((arena_of s arena).life ≢ Ended) ⊎ (arena.generation + 1 ≡ generations)
+
+abbrev pub IsBusy : View → (slot : ℕ) → Type 0
+IsBusy v slot = IsBusyIn v.shape.generations (state_in v) slot
 
 abbrev pub In : {A : Type 0} → A → List A → Type 0
 In x [] = ⊥
 In x (y ∷ ys) = (x ≡ y) ⊎ In x ys
+
+-- the second history goes on from the first
+abbrev pub Begins : List Entry → List Entry → Type 0
+Begins xs ys = (zs : List Entry) × (ys ≡ xs ++ zs)
 
 -- no two of the list have one f
 abbrev pub IsOnce : {A B : Type 0} → (A → B) → List A → Type 0
@@ -125,6 +143,26 @@ pub record IsNew (v : View) (n : ℕ) : Type 0 where
   pub silent : made_by (pass_of n) v.seen ≡ []
   pub outside : (a : ArenaId) → ¬ (IsUnderWay (state_in v) (pass_of n) a)
 
+-- the find is by the caller c: the pass's own, or one that is gathered into it
+abbrev pub HasFindBy : View → Caller → Find → Type 0
+HasFindBy v c f = ((c ≡ v.caller) × In f v.finds) ⊎ ((g : Gathered) × In g v.gathered × (c ≡ g.caller) × In f g.finds)
+
+-- an arena of the slot was opened: it was so after the first entries, or by another caller than c
+pub record OpenedBut (limit : ℕ) (seen before : List Entry) (c : Caller) (slot : ℕ) : Type 0 where
+  pub arena : ArenaId
+  pub in_slot : arena.slot ≡ slot
+  pub known : has_arena (state_after limit [] seen) arena ≡ true
+  pub apart : (has_arena (state_after limit [] before) arena ≡ true) ⊎ (owner_of arena ≢ c)
+
+-- c found the word of slot bits 0 after as many entries as f says: no slot was left to it
+pub record NoneLeft (z : Shape) (seen : List Entry) (c : Caller) (f : Find) : Type 0 where
+  pub before : List Entry
+  pub begins : Begins before seen
+  pub long : length before ≡ f.seen
+  pub opened : (s : ℕ) → s < z.slots → OpenedBut (limit_of z) seen before c s
+  -- where it was clear, each slot had an arena that hadn't ended, or its last one
+  pub busy : f.clear ≡ true → (s : ℕ) → s < z.slots → IsBusyIn z.generations (state_after (limit_of z) [] before) s
+
 -- what holds of a pass at any time
 pub record IsSound (v : View) : Type 0 where
   pub valid : IsValid v.shape
@@ -136,12 +174,18 @@ pub record IsSound (v : View) : Type 0 where
   pub outside : (a : ArenaId) → IsUnderWay (state_in v) v.caller a → v.inside ≡ Some a
   pub fits : (a : ArenaId) → IsKnown v a → Fits v.shape a
   pub hand : (s : ℕ) → HasSlot s v.hand → s < v.shape.slots
+  pub swept : (c : Close) → In c v.sweeps → IsOver v c.arena
+  -- each slot's words are lent to arenas of the slot
+  pub own_words : (l : Loan) → Contains (lent_by v.seen) l → l.block ≡ l.id.slot
   -- the number that it drew and hasn't split off
   pub drawn : (n : ℕ) → v.drawn ≡ Some n → IsNew v n
   pub few : length v.gathered < v.shape.passes
   -- a pass that is known to be whole has the callers of the whole history, and all that were drawn
   pub knows : v.whole ≡ true → KnowsCallers v
   pub all_drawn : v.whole ≡ true → HasAllDrawn v
+  -- where no slot is in a hand, finds of no slot say of each slot why
+  pub none_left : v.whole ≡ true → v.hand ≡ nothing → (c : Caller) (f : Find) → HasFindBy v c f → is_slot f.step ≡ true → f.found ≡ 0
+      → NoneLeft v.shape v.seen c f
   -- no two callers that it has are of one number
   pub one_each : IsOnce (λ (g : Gathered). g.caller.number) v.gathered
   pub others : (g : Gathered) → In g v.gathered → g.caller.number ≢ v.caller.number

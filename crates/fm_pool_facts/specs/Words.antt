@@ -1,15 +1,23 @@
 -- What session and mark words show of an arena.
-use Rattle.std.specs.Prelude.{ℕ, ◌+◌, ◌%◌, ◌^◌, ◌==◌, if◌then◌else◌, Option, Some, None}
+use Rattle.std.specs.Prelude.{ℕ, ◌+◌, ◌-◌, ◌%◌, ◌^◌, ◌==◌, if◌then◌else◌, Option, Some, None}
 use Rattle.fm_base.specs.declared.arena_id.ArenaId.{ArenaId}
 use Rattle.fm_base.specs.Arenas.{kind_number}
 use Rattle.fm_base.specs.Calls.{Reply, Fine, Closed, Held, TooManyHolds}
 use Rattle.fm_base.specs.Machine.{most_holds}
 use Rattle.fm_words.specs.Marks.{mark_word}
-use Rattle.fm_words.specs.Sessions.{alive, closing, session_word}
+use Rattle.fm_words.specs.Sessions.{alive, closing, free_session, session_word}
 
 -- the session word of an arena that is alive and has so many holds
 unfoldable pub alive_word : ArenaId → ℕ → ℕ
 alive_word a holds = session_word (record { generation = a.generation; life = alive; kind = kind_number a.kind; owner = a.owner; holds = holds })
+
+-- the generation in the session word of a free slot whose next one is g: where none is left, the last one
+unfoldable pub kept : (generations g : ℕ) → ℕ
+kept generations g = if g == generations then g - 1 else g
+
+-- the session word of a free slot whose next generation is g
+unfoldable pub free_word : (generations g : ℕ) → ℕ
+free_word generations g = session_word (free_session (kept generations g))
 
 -- the session word of an arena that was shut
 unfoldable pub closing_word : ArenaId → ℕ

@@ -35,6 +35,14 @@ pub enum Step {
     LearnsGeneration(u32),
     /// Opens an arena of this name.
     Opens(ArenaId),
+    /// Makes the word of this index of an ended arena 0, for its sweep.
+    Wipes(ArenaId, u64),
+    /// Makes the count of given bytes of an ended arena 0, for its sweep.
+    ResetsGiven(ArenaId),
+    /// Makes the slot of an ended arena free, for its next generation: its words are lent to the arena no more.
+    Retires(ArenaId),
+    /// Makes the bit 1 of a slot that was retired.
+    GivesSlot(u32),
     /// Where so many numbers were drawn, draws the next one; sees how many were drawn.
     Draws(u64),
     /// Sees what others did.

@@ -54,6 +54,9 @@ module _ (z : Shape) (me : ℕ) (v : View) (l : v.live ≡ true) where
           };
           closes = refl;
           hand = refl;
+          sweeps = refl;
+          ended = λ b o f. record { session = f; cells = λ w. refl; given = refl };
+          shown = λ b f. f;
           was = λ b h. h;
           holds = λ a. refl;
           lends = tt;
@@ -111,6 +114,9 @@ module _ (z : Shape) (me : ℕ) (v : View) (l : v.live ≡ true) where
             };
             closes = refl;
             hand = refl;
+            sweeps = refl;
+            ended = λ b o f. record { session = f; cells = λ w. refl; given = refl };
+            shown = λ b f. f;
             was = λ b h. h;
             holds = λ a. refl;
             lends = (tt, tt);
@@ -147,6 +153,9 @@ module _ (z : Shape) (me : ℕ) (v : View) (l : v.live ≡ true) where
             };
             closes = refl;
             hand = refl;
+            sweeps = refl;
+            ended = λ b o f. record { session = f; cells = λ w. refl; given = refl };
+            shown = λ b f. f;
             was = λ b h. h;
             holds = λ a. refl;
             lends = (tt, tt);
@@ -191,6 +200,9 @@ module _ (z : Shape) (me : ℕ) (v : View) (l : v.live ≡ true) where
             };
             closes = refl;
             hand = refl;
+            sweeps = refl;
+            ended = λ b o f. record { session = f; cells = λ w. refl; given = refl };
+            shown = λ b f. f;
             was = λ b h. h;
             holds = λ a. refl;
             lends = tt;
@@ -227,6 +239,9 @@ module _ (z : Shape) (me : ℕ) (v : View) (l : v.live ≡ true) where
             };
             closes = refl;
             hand = refl;
+            sweeps = refl;
+            ended = λ b o f. record { session = f; cells = λ w. refl; given = refl };
+            shown = λ b f. f;
             was = λ b h. h;
             holds = λ a. refl;
             lends = (tt, tt);
@@ -255,6 +270,9 @@ module _ (z : Shape) (me : ℕ) (v : View) (l : v.live ≡ true) where
           same = same_none v;
           closes = refl;
           hand = refl;
+          sweeps = refl;
+          ended = λ b o f. record { session = f; cells = λ w. refl; given = refl };
+          shown = λ b f. f;
           was = λ b h. h;
           holds = λ a. refl;
           lends = tt;

@@ -67,6 +67,9 @@ module _ (z : Shape) (me : ℕ) (v : View) (l : v.live ≡ true) (a : ArenaId) (
         same = same_none v;
         closes = refl;
         hand = refl;
+        sweeps = refl;
+        ended = λ b o f. record { session = f; cells = λ w. refl; given = refl };
+        shown = λ b f. f;
         was = λ b h. h;
         holds = λ b. refl;
         lends = tt;

@@ -15,8 +15,10 @@ use Rattle.fm_depicts.specs.Functions.{put}
 use Rattle.fm_depicts.proofs.Putting.{put_here, put_else}
 use Rattle.fm_pool_facts.specs.Views.{View, In, all_gathered}
 use Rattle.fm_pool_facts.specs.Holds.{holds_of}
-use Rattle.fm_pool_facts.specs.Facts.{Memory, Owners, HasNumber, HasGathered, HasDraw, HasClose, KeepsSlot, DrewIn, IsGathered, IsDrawn, IsOnce, Somewhere, Owns, Knows, Rule}
+use Rattle.fm_pool_facts.specs.Facts.{Memory, Owners, HasNumber, HasGathered, HasDraw, HasClose, HasSweep, KeepsSlot, DrewIn, IsGathered, IsDrawn, IsOnce, Somewhere, Owns, Knows, Rule}
 use Rattle.fm_pool_facts.specs.Moves.{told}
+use Rattle.fm_pool_facts.specs.Gone.{IsFounded}
+use Rattle.fm_pool_facts.proofs.Gone.{NoSlots, none_founded, founded_same, founded_told}
 use Rattle.fm_pool_facts.proofs.Founds.{AreWithin, counted_later, counted_told, counted_set}
 use Rattle.fm_pool_facts.proofs.Keeping.{set_there, in_left, in_right, stays_somewhere, gathered_all, seated_all}
 use Rattle.fm_pool_facts.proofs.Summing.{total-set}
@@ -86,7 +88,10 @@ module _ (z : Shape) (me : ℕ) (v : View) (l : v.live ≡ true) (lone : v.met �
             mark = u.mark;
             closes = λ c j. let y = u.closes c j in record { owner = y.owner; life = y.life; visited = y.visited };
             once = u.once;
+            sweeps = λ c j. let y = u.sweeps c j in record { owner = y.owner; life = y.life; session = y.session; wiped = y.wiped; reset = y.reset };
+            swept_once = u.swept_once;
             hand = u.hand;
+            took = u.took;
             gathered = λ g j.
                 let y = gathered_all z r.history r.memory r.machine r.owners me v u g j in
                 gathered_still y.0 g y.1 (ap (made_by g.caller) (sym seen_is));
@@ -137,7 +142,10 @@ module _ (z : Shape) (me : ℕ) (v : View) (l : v.live ≡ true) (lone : v.met �
           mark = x.mark;
           closes = λ c i. let y = x.closes c i in record { owner = y.owner; life = y.life; visited = y.visited };
           once = x.once;
+          sweeps = λ c i. let y = x.sweeps c i in record { owner = y.owner; life = y.life; session = y.session; wiped = y.wiped; reset = y.reset };
+          swept_once = x.swept_once;
           hand = x.hand;
+          took = x.took;
           gathered = λ g i. still u.seen g (x.gathered g i);
           coming = λ y j g i. still y.seen g (x.coming y j g i);
           one_each = x.one_each;
@@ -158,7 +166,7 @@ module _ (z : Shape) (me : ℕ) (v : View) (l : v.live ≡ true) (lone : v.met �
 
   -- the rule where the number d was drawn by the step
   module _ (n : ℕ) (is_draw : n ≡ r.memory.draw) (fits : n < z.passes) (none : v.drawn ≡ None) (fs : ℕ → List Find)
-      (noted : (k : ℕ) → DrewIn n (fs k)) (founds : AreWithin (n + 1) fs) where
+      (noted : (k : ℕ) → DrewIn n (fs k)) (founds : AreWithin (n + 1) fs) (slots : NoSlots fs) where
     abbrev f : ℕ → ℕ
     f = put r.owners.number n me
 
@@ -256,7 +264,8 @@ module _ (z : Shape) (me : ℕ) (v : View) (l : v.live ≡ true) (lone : v.met �
           let y = r.drawers k a low in
           (y.0, y.1, here y.0 (HasDraw y.0 k) (let c = y.1 in omega arith) (draw_on y.0 k) y.2));
       closed = λ a h. stays_somewhere vs me v drawer (r.owners.closer a) (HasClose a) at (λ q. q) (r.closed a h);
-      slots = λ s g h q b. stays_somewhere vs me v drawer (r.owners.holder s) (KeepsSlot s) at (λ p. p) (r.slots s g h q b);
+      swept = λ a q o. stays_somewhere vs me v drawer (r.owners.closer a) (HasSweep a) at (λ p. p) (r.swept a q o);
+      slots = λ s g h q left b. stays_somewhere vs me v drawer (r.owners.holder s) (KeepsSlot s) at (λ p. p) (r.slots s g h q left b);
       held = λ a.
           let x = total-set (holds_of a) vs me v drawer at in
           let y = r.held a in
@@ -272,6 +281,14 @@ module _ (z : Shape) (me : ℕ) (v : View) (l : v.live ≡ true) (lone : v.met �
       counted = counted_set r.memory (memory_at (n + 1)) vs me drawer more (λ k. refl)
           (counted_told (memory_at (n + 1)) v (part_of (Some n) false) zs [] fs refl refl founds
           (counted_later r.memory (memory_at (n + 1)) v more (λ k. refl) (r.counted me v at))) r.counted;
+      founds = λ j y at'. ⊎_elim
+          (λ (e : (j ≡ me) × (drawer ≡ y)). subst (IsFounded z r.history (memory_at (n + 1)) r.owners.taker r.machine.life) e.1
+          (founded_told z r.history (memory_at (n + 1)) r.owners.taker r.machine.life v (part_of (Some n) false) zs [] fs refl refl refl
+          (none_founded z r.history (memory_at (n + 1)) r.owners.taker r.machine.life v.caller fs slots (length (v.seen ++ zs)))
+          (founded_same z r.history r.memory (memory_at (n + 1)) r.owners.taker r.machine.life (λ s k x. x) v (r.founds me v at))))
+          (λ (e : (j ≢ me) × (get_elem? vs j ≡ some y)).
+          founded_same z r.history r.memory (memory_at (n + 1)) r.owners.taker r.machine.life (λ s k x. x) y (r.founds j y e.1))
+          (at_set vs me j drawer y at');
     }
 
     pub drew_history : drew.history ≡ r.history

@@ -16,8 +16,10 @@ use Rattle.fm_pool_facts.specs.declared.step.Step.TheVariants.{Draws}
 use Rattle.fm_pool_facts.specs.Views.{View, In, all_gathered, pass_of}
 use Rattle.fm_pool_facts.specs.Holds.{holds_of}
 use Rattle.fm_pool_facts.specs.Steps.{part, entries, noted, number_drawn, draws, caller_drawn, note_draw, is_clear}
-use Rattle.fm_pool_facts.specs.Facts.{HasNumber, HasGathered, HasDraw, HasClose, KeepsSlot, DrewIn, Owns, Knows, Rule}
+use Rattle.fm_pool_facts.specs.Facts.{HasNumber, HasGathered, HasDraw, HasClose, HasSweep, KeepsSlot, DrewIn, Owns, Knows, Rule}
 use Rattle.fm_pool_facts.specs.Moves.{told, Gives, LearnsCount, MayStep}
+use Rattle.fm_pool_facts.specs.Gone.{IsFounded}
+use Rattle.fm_pool_facts.proofs.Gone.{NoSlots, draw_no_slots, none_founded, founded_told}
 use Rattle.fm_pool_facts.proofs.Founds.{AreWithin, looked_within, drew_within, counted_told, counted_set, find_within}
 use Rattle.fm_pool_facts.proofs.Drawers.{complete_counted}
 use Rattle.fm_pool_facts.proofs.Keeping.{none_added, set_there, in_left, stays_somewhere}
@@ -54,9 +56,10 @@ module _ (z : Shape) (me : ℕ) (v : View) (l : v.live ≡ true) (lone : v.met �
   abbrev looker : Bool → (ℕ → List Find) → View
   looker wh fs = told (part_of v.drawn wh) zs [] fs
 
-  looked : (wh : Bool) (fs : ℕ → List Find) → AreWithin r.memory.draw fs → (wh ≡ true → (n : ℕ) → n < r.memory.draw → n ≢ v.caller.number → HasGathered n v)
+  looked : (wh : Bool) (fs : ℕ → List Find) → AreWithin r.memory.draw fs → NoSlots fs
+      → (wh ≡ true → (n : ℕ) → n < r.memory.draw → n ≢ v.caller.number → HasGathered n v)
       → Rule z (set ws i (get_or ws i 0)) (set vs me (looker wh fs))
-  looked wh fs founds whole =
+  looked wh fs founds slots whole =
       let w : View = looker wh fs in
       let number_on : (k : ℕ) → HasNumber k v → HasNumber k w = (λ k. ⊎_elim (λ h. inl h) (⊎_elim (λ h. inr (inl h)) (λ (h : HasGathered k v).
       inr (inr (h.0, in_left h.0 (all_gathered v) [] h.1, h.2))))) in
@@ -85,7 +88,8 @@ module _ (z : Shape) (me : ℕ) (v : View) (l : v.live ≡ true) (lone : v.met �
             let y = r.drawers k a b in
             (y.0, y.1, stays_somewhere vs me v w (r.owners.number y.0) (HasDraw y.0 k) at (draw_on y.0 k) y.2);
         closed = λ a h. stays_somewhere vs me v w (r.owners.closer a) (HasClose a) at (λ q. q) (r.closed a h);
-        slots = λ s g h f b. stays_somewhere vs me v w (r.owners.holder s) (KeepsSlot s) at (λ q. q) (r.slots s g h f b);
+        swept = λ a f o. stays_somewhere vs me v w (r.owners.closer a) (HasSweep a) at (λ q. q) (r.swept a f o);
+        slots = λ s g h f left b. stays_somewhere vs me v w (r.owners.holder s) (KeepsSlot s) at (λ q. q) (r.slots s g h f left b);
         held = λ a.
             let x = total-set (holds_of a) vs me v w at in
             let y = r.held a in
@@ -98,6 +102,12 @@ module _ (z : Shape) (me : ℕ) (v : View) (l : v.live ≡ true) (lone : v.met �
             (at_set vs me j w y at');
         counted = counted_set r.memory r.memory vs me w (omega arith) (λ k. refl)
             (counted_told r.memory v (part_of v.drawn wh) zs [] fs refl refl founds (r.counted me v at)) r.counted;
+        founds = λ j y at'. ⊎_elim
+            (λ (e : (j ≡ me) × (w ≡ y)). subst (IsFounded z r.history r.memory r.owners.taker r.machine.life) e.1
+            (founded_told z r.history r.memory r.owners.taker r.machine.life v (part_of v.drawn wh) zs [] fs refl refl refl
+            (none_founded z r.history r.memory r.owners.taker r.machine.life v.caller fs slots (length (v.seen ++ zs))) (r.founds me v at)))
+            (λ (e : (j ≢ me) × (get_elem? vs j ≡ some y)). r.founds j y e.1)
+            (at_set vs me j w y at');
       }
 
   -- whether the pass is known to be whole after it found so many
@@ -132,21 +142,21 @@ module _ (z : Shape) (me : ℕ) (v : View) (l : v.live ≡ true) (lone : v.met �
 
   -- what the step makes where it drew
   made_drew : (fits : found < z.passes) (none : v.drawn ≡ None) (fs : ℕ → List Find) → ((k : ℕ) → DrewIn found (fs k)) → AreWithin (found + 1) fs
-      → Made z ws vs me v i (found + 1) (part_of (Some found) false) [] fs
-  made_drew fits none fs noted founds =
-      let f = drew z me v l lone ws vs r at found is_found fits none fs noted founds in (
+      → NoSlots fs → Made z ws vs me v i (found + 1) (part_of (Some found) false) [] fs
+  made_drew fits none fs noted founds slots =
+      let f = drew z me v l lone ws vs r at found is_found fits none fs noted founds slots in (
         told (part_of (Some found) false) zs [] fs,
         f,
         gives (Some found) false fs (set ws i (found + 1)) f
-            (drew_history z me v l lone ws vs r at found is_found fits none fs noted founds),
+            (drew_history z me v l lone ws vs r at found is_found fits none fs noted founds slots),
       )
 
   -- and where it didn't
-  made_looked : (fs : ℕ → List Find) → AreWithin r.memory.draw fs → Made z ws vs me v i found (part_of v.drawn (whole_by found)) [] fs
+  made_looked : (fs : ℕ → List Find) → AreWithin r.memory.draw fs → NoSlots fs → Made z ws vs me v i found (part_of v.drawn (whole_by found)) [] fs
   unfolding looked
-  made_looked fs founds =
+  made_looked fs founds slots =
       let wh : Bool = whole_by found in
-      let f = looked wh fs founds (go v.whole refl) in
+      let f = looked wh fs founds slots (go v.whole refl) in
       (told (part_of v.drawn wh) zs [] fs, f, gives v.drawn wh fs (set ws i found) f refl)
     where
       go : (b : Bool) → v.whole ≡ b → (if b then true else (length v.gathered + 1 == found)) ≡ true → (n : ℕ) → n < r.memory.draw → n ≢ v.caller.number
@@ -186,14 +196,17 @@ module _ (z : Shape) (me : ℕ) (v : View) (l : v.live ≡ true) (lone : v.met �
       let drawn : number_drawn v.shape expected found ≡ Some found =
       λ j. if e j then (if q j then Some found else None) else None in
       subst (λ (x : ℕ). Made z ws vs me v i (x + 1) (part_of (Some found) false) [] (note_draw expected found v)) same
-      (made_drew fits none (note_draw expected found v) (noted_draw expected drawn) (drew_within expected found v drawn))
+      (made_drew fits none (note_draw expected found v) (noted_draw expected drawn) (drew_within expected found v drawn)
+      (draw_no_slots expected found v))
   exchanged expected none sh true false e q =
       let same : found ≡ expected = eqb_true found expected e in
       subst (λ (x : ℕ). Made z ws vs me v i x (part_of v.drawn (whole_by found)) [] (note_draw expected found v)) same
-      (made_looked (note_draw expected found v) (looked_now expected (λ j. if e j then (if q j then Some found else None) else None)))
+      (made_looked (note_draw expected found v) (looked_now expected (λ j. if e j then (if q j then Some found else None) else None))
+      (draw_no_slots expected found v))
   exchanged expected none sh false c e q =
       let room : Bool = nat_le (expected + 1) v.shape.passes in
       made_looked (note_draw expected found v) (looked_now expected (λ j. if e j then (if room then Some found else None) else None))
+      (draw_no_slots expected found v)
 
   -- what the count tells
   learnt : v.shape ≡ z → LearnsCount v found

@@ -1,5 +1,5 @@
 -- The rule of a new pool.
-use Rattle.std.proofs.Common.{◌≡◌, ◌≢◌, ℕ, zero, suc, ◌<◌, List, [], ◌∷◌, length, set, get_or, replicate, None, sym, refl, ◌∙◌, subst, arith, inl, ⊎_elim, length-set, get_or-set_other, get_or-set_same}
+use Rattle.std.proofs.Common.{◌≡◌, ◌≢◌, ℕ, zero, suc, ◌+◌, ◌-◌, ◌<◌, Bool, if◌then◌else◌, List, [], ◌∷◌, length, set, get_or, replicate, None, sym, refl, ap, ◌∙◌, subst, arith, inl, ⊎_elim, ne_eqb, length-set, get_or-set_other, get_or-set_same}
 use mathlib.Core.Option.{some, some-injective, some-ne-none}
 use lib.ListN.{get_elem?, length-replicate}
 use Rattle.std.proofs.lemmas.List.Elements.{All-nil}
@@ -7,6 +7,7 @@ use Rattle.fm_words.specs.declared.shape.Shape.{Shape}
 use Rattle.fm_words.specs.Shapes.{IsValid}
 use Rattle.fm_words.specs.Places.{at as place_at, front, slot_bits, mark, session, given as given_place, words as word_count}
 use Rattle.fm_words.specs.Sessions.{session_word}
+use Rattle.fm_pool_facts.specs.Words.{kept, free_word}
 use Rattle.fm_depicts.specs.Steps.{opening}
 use Rattle.fm_depicts.proofs.Depicting.{always}
 use Rattle.std.specs.Int.{bit_at}
@@ -16,6 +17,8 @@ use Rattle.fm_pool_facts.specs.Views.{View, IsSound, limit_of}
 use Rattle.fm_pool_facts.specs.Splits.{first_view}
 use Rattle.fm_pool_facts.specs.Facts.{Memory, free, Owners, Shows, Knows, cell_at, Rule, IsCounted}
 use Rattle.fm_pool_facts.proofs.Shown.{shows_bits}
+use Rattle.fm_pool_facts.specs.Gone.{IsFounded}
+use Rattle.fm_pool_facts.proofs.Gone.{founded_bare}
 use Rattle.fm_pool_facts.proofs.Founds.{counted_bare}
 use Rattle.fm_pool_facts.proofs.Ruling.{sound_of}
 use Rattle.fm_pool_facts.proofs.Gripping.{none_held, none_counted}
@@ -52,13 +55,14 @@ pub two_words : (z : Shape) → 2 < word_count z
 unfolding word_count
 two_words z = omega arith
 
-free_code : 0 ≡ session_word (record { generation = 0; life = 0; kind = 0; owner = 0; holds = 0 })
-unfolding session_word
-free_code = omega arith
+free_code : (generations : ℕ) → 0 < generations → 0 ≡ free_word generations 0
+unfolding session_word free_word kept
+free_code n low =
+    let e : kept n 0 ≡ 0 = ap (λ (b : Bool). if b then 0 - 1 else 0) (ne_eqb 0 n (λ q. omega arith)) in omega arith
 
-shows_none : (z : Shape) → Shows z (zeros_but z) (blank 0)
+shows_none : (z : Shape) → IsValid z → Shows z (zeros_but z) (blank 0)
 unfolding blank place_at cell_at
-shows_none z = record {
+shows_none z valid = record {
   wide = length-set (replicate (word_count z) 0) 1 1 ∙ length-replicate (word_count z) 0;
   front = zero_at (word_count z) (place_at z front) (λ e. omega arith);
   draw =
@@ -67,19 +71,19 @@ shows_none z = record {
   slot_bits = zero_at (word_count z) (place_at z slot_bits) (λ e. omega arith);
   terms = λ k. refl;
   marks = λ k h. zero_at (word_count z) (place_at z (mark k)) (λ e. omega arith);
-  sessions = λ s h. zero_at (word_count z) (place_at z (session s)) (λ e. omega arith) ∙ free_code;
+  sessions = λ s h. zero_at (word_count z) (place_at z (session s)) (λ e. omega arith) ∙ free_code z.generations (let l = valid.generations.0 in omega arith);
   given = λ s h. zero_at (word_count z) (place_at z (given_place s)) (λ e. omega arith);
   cells = λ s w a b. zero_at (word_count z) (cell_at z s w) (λ e. omega arith);
 }
 
 shows_blank : (z : Shape) → IsValid z → Shows z (words_of z) (blank (ones z.slots))
 unfolding blank place_at
-shows_blank z valid = shows_bits z valid (zeros_but z) (blank 0) (shows_none z) (ones z.slots)
+shows_blank z valid = shows_bits z valid (zeros_but z) (blank 0) (shows_none z valid) (ones z.slots)
 
 -- ---- the rule
 
 abbrev nobody : Owners
-nobody = record { number = λ n. 0; closer = λ a. 0; holder = λ s. 0 }
+nobody = record { number = λ n. 0; closer = λ a. 0; holder = λ s. 0; taker = λ s. None }
 
 first_knows : (z : Shape) → IsValid z → Knows z [] (blank (ones z.slots)) opening nobody 0 (first_view z)
 unfolding blank
@@ -96,7 +100,10 @@ first_knows z valid = record {
     mark = refl;
     closes = λ c i. absurd i;
     once = tt;
+    sweeps = λ c i. absurd i;
+    swept_once = tt;
     hand = tt;
+    took = tt;
     gathered = λ g i. absurd i;
     coming = λ x i. absurd i;
     one_each = tt;
@@ -116,7 +123,12 @@ first_rule z valid = record {
   valid = valid;
   legal = tt;
   rightly = tt;
-  loans = record { part = λ a n. absurd (n refl); none = λ a p e h. (let b = h.1.1 in absurd (omega arith)); clean = λ s g e. All-nil (λ l. l.block ≢ s) };
+  loans = record {
+    part = λ a. ⊎_elim (λ e. absurd (cc)) (λ e. absurd (cc));
+    own = λ l h. (let b = h.1 in absurd (omega arith));
+    none = λ a p e h. (let b = h.1.1 in absurd (omega arith));
+    clean = λ s g e. All-nil (λ l. l.block ≢ s);
+  };
   depicts = always (limit_of z) [] tt;
   shows = shows_blank z valid;
   world = record {
@@ -128,9 +140,13 @@ first_rule z valid = record {
       shut_is = λ s a e. absurd (cc);
       free_is = λ s g e a p q. refl;
       newest = λ s a. ⊎_elim (λ e. absurd (cc)) (λ e. absurd (cc));
+      before = λ s g e. (let q : 0 ≡ g + 1 = cc in absurd (omega arith));
       fits = λ a n. absurd (n refl);
     };
-    slots = record { bit_is = λ s b. (0, refl); within = λ s g e. (let q : 0 ≡ g = cc in let l = valid.generations.0 in omega arith); first = λ s g e. cc };
+    slots = record {
+      bit_is = λ s b. (0, refl, (let l = valid.generations.0 in omega arith));
+      within = λ s g e. (let q : 0 ≡ g = cc in let l = valid.generations.0 in omega arith);
+    };
     counts = record { shown = λ a e. absurd (cc); only = λ a e. refl; few = λ a. omega arith };
     givens = record { shown = λ a. ⊎_elim (λ e. absurd (cc)) (λ e. absurd (cc)); none = λ a e. refl; clean = λ s g e. refl };
     cells = record { shown = λ a w. ⊎_elim (λ e. absurd (cc)) (λ e. absurd (cc)); none = λ a w e. refl; clean = λ s g w e h. refl };
@@ -141,16 +157,24 @@ first_rule z valid = record {
   numbers = λ n h. record { view = first_view z; there = refl; holds = inl (refl, omega arith) };
   drawers = λ n a b. absurd (omega arith);
   closed = λ a e. absurd (cc);
-  slots = λ s g l e b. absurd (let one = bit_at_ones z.slots s l in let q : bit_at (ones z.slots) s ≡ 0 = b in omega arith);
+  swept = λ a e. absurd (cc);
+  slots = λ s g l e left b. absurd (let one = bit_at_ones z.slots s l in let q : bit_at (ones z.slots) s ≡ 0 = b in omega arith);
   held = λ a. (let x = none_held a (first_view z) refl refl in let y = none_counted a opening refl refl in omega arith);
   each = go;
   counted = counted;
+  founds = founds;
 }
   where
     counted : (j : ℕ) (v : View) → get_elem? (first_view z ∷ []) j ≡ some v → IsCounted (blank (ones z.slots)) v
     counted (suc j) v e = absurd (some-ne-none v (sym e))
     counted zero v e = subst (IsCounted (blank (ones z.slots))) (some-injective (first_view z) v e)
         (counted_bare (blank (ones z.slots)) (first_view z) refl refl)
+
+    founds : (j : ℕ) (v : View) → get_elem? (first_view z ∷ []) j ≡ some v
+        → IsFounded z [] (blank (ones z.slots)) nobody.taker opening.life v
+    founds (suc j) v e = absurd (some-ne-none v (sym e))
+    founds zero v e = subst (IsFounded z [] (blank (ones z.slots)) nobody.taker opening.life) (some-injective (first_view z) v e)
+        (founded_bare z [] (blank (ones z.slots)) nobody.taker opening.life (first_view z) refl refl)
 
     go : (j : ℕ) (v : View) → get_elem? (first_view z ∷ []) j ≡ some v → Knows z [] (blank (ones z.slots)) opening nobody j v
     go (suc j) v e = absurd (some-ne-none v (sym e))

@@ -13,7 +13,9 @@ use Rattle.fm_pool_facts.specs.Views.{Met, View, In, all_gathered, brought}
 use Rattle.fm_pool_facts.specs.Hands.{HasSlot}
 use Rattle.fm_pool_facts.specs.Holds.{holds_of}
 use Rattle.fm_pool_facts.specs.Splits.{gather, as_gathered, nothing_seen, IsAtRest}
-use Rattle.fm_pool_facts.specs.Facts.{Owners, HasNumber, HasDraw, HasClose, KeepsSlot, IsGathered, IsOnce, Begins, Somewhere, Owns, Knows, Rule, IsCounted}
+use Rattle.fm_pool_facts.specs.Facts.{Owners, HasNumber, HasDraw, HasClose, HasSweep, KeepsSlot, IsGathered, IsOnce, Begins, Somewhere, Owns, Knows, Rule, IsCounted}
+use Rattle.fm_pool_facts.specs.Gone.{IsFounded}
+use Rattle.fm_pool_facts.proofs.Gone.{founded_bare, founded_gather}
 use Rattle.fm_pool_facts.proofs.Founds.{counted_bare, counted_gather}
 use Rattle.fm_pool_facts.proofs.Keeping.{set_there, stays_somewhere, gathered_all, in_left, in_right, in_append}
 use Rattle.fm_pool_facts.proofs.Counting.{between}
@@ -182,7 +184,10 @@ module _ (z : Shape) (ws : List ℕ) (vs : List View) (r : Rule z ws vs) (id : �
           mark = kv.mark;
           closes = λ c i. let y = kv.closes c i in record { owner = y.owner; life = y.life; visited = y.visited };
           once = kv.once;
+          sweeps = λ c i. let y = kv.sweeps c i in record { owner = y.owner; life = y.life; session = y.session; wiped = y.wiped; reset = y.reset };
+          swept_once = kv.swept_once;
           hand = kv.hand;
+          took = kv.took;
           gathered = λ g i. at_both v.seen g (kv.gathered g i);
           coming = λ x. ⊎_elim
               (λ (p : x ≡ record { seen = w.seen; gathered = comes }) g i.
@@ -237,7 +242,10 @@ module _ (z : Shape) (ws : List ℕ) (vs : List View) (r : Rule z ws vs) (id : �
           mark = x.mark;
           closes = λ c i. let y = x.closes c i in record { owner = y.owner; life = y.life; visited = y.visited };
           once = x.once;
+          sweeps = λ c i. let y = x.sweeps c i in record { owner = y.owner; life = y.life; session = y.session; wiped = y.wiped; reset = y.reset };
+          swept_once = x.swept_once;
           hand = x.hand;
+          took = x.took;
           gathered = λ g i. still u.seen g (x.gathered g i);
           coming = λ y n g i. still y.seen g (x.coming y n g i);
           one_each = x.one_each;
@@ -256,8 +264,8 @@ module _ (z : Shape) (ws : List ℕ) (vs : List View) (r : Rule z ws vs) (id : �
         };
   }
 
-  both_counted : IsCounted r.memory both
-  both_counted = counted_gather r.memory v w kw.term (r.counted id v at) (r.counted other w there)
+  abbrev Founded : ℕ → View → Type 0
+  Founded j u = IsFounded z r.history r.memory r.owners.taker r.machine.life u
 
   -- the pass has the other's numbers, and the other is spent
   pub gather_joins : Rule z ws us
@@ -268,19 +276,25 @@ module _ (z : Shape) (ws : List ℕ) (vs : List View) (r : Rule z ws vs) (id : �
       (λ a h. stays_somewhere (set vs id both) other w nothing_seen (r.owners.closer a) (HasClose a) at'
       (λ (q : HasClose a w). absurd (subst (In q.1.0) rests.closes q.1.1))
       (stays_somewhere vs id v both (r.owners.closer a) (HasClose a) at (λ q. q) (r.closed a h)))
-      (λ s g h f b. stays_somewhere (set vs id both) other w nothing_seen (r.owners.holder s) (KeepsSlot s) at'
+      (λ a f o. stays_somewhere (set vs id both) other w nothing_seen (r.owners.closer a) (HasSweep a) at'
+      (λ (q : HasSweep a w). absurd (subst (In q.1.0) rests.sweeps q.1.1))
+      (stays_somewhere vs id v both (r.owners.closer a) (HasSweep a) at (λ q. q) (r.swept a f o)))
+      (λ s g h f left b. stays_somewhere (set vs id both) other w nothing_seen (r.owners.holder s) (KeepsSlot s) at'
       (λ (q : KeepsSlot s w). absurd (subst (HasSlot s) rests.hand q.1))
-      (stays_somewhere vs id v both (r.owners.holder s) (KeepsSlot s) at (λ q. q) (r.slots s g h f b)))
+      (stays_somewhere vs id v both (r.owners.holder s) (KeepsSlot s) at (λ q. q) (r.slots s g h f left b)))
       (views_set (set vs id both) other nothing_seen (Knows z r.history r.memory r.machine o')
       (record { shape = λ q. absurd (cc); begins = (r.history, refl); met = λ x i. absurd i; owns = λ q. absurd (cc) })
       (λ j u m e. views_set vs id both (λ k y. k ≢ other → Knows z r.history r.memory r.machine o' k y) (λ m. both_knows)
       (λ k y c e' m. other_knows k y m (r.each k y e')) j u e m))
       (views_set (set vs id both) other nothing_seen (λ j u. IsCounted r.memory u) (counted_bare r.memory nothing_seen refl refl)
-      (λ j u m e. views_set vs id both (λ j u. IsCounted r.memory u) both_counted (λ j u m e. r.counted j u e) j u e))
+      (λ j u m e. views_set vs id both (λ j u. IsCounted r.memory u) (counted_gather r.memory v w kw.term (r.counted id v at) (r.counted other w there))
+      (λ j u m e. r.counted j u e) j u e))
+      (views_set (set vs id both) other nothing_seen Founded (founded_bare z r.history r.memory r.owners.taker r.machine.life nothing_seen refl refl)
+      (λ j u m e. views_set vs id both Founded
+      (founded_gather z r.history r.memory r.owners.taker r.machine.life v w (r.founds id v at) (r.founds other w there)) (λ j u m e. r.founds j u e) j u e))
       (λ a.
       let x = total-set (holds_of a) vs id v both at in
       let y = total-set (holds_of a) (set vs id both) other w nothing_seen at' in
       let here : holds_of a both ≡ holds_of a v = refl in
       let gone : holds_of a w ≡ 0 = none_held a w rests.holds rests.handles in
-      let none : holds_of a nothing_seen ≡ 0 = refl in
-      omega arith)
+      let none : holds_of a nothing_seen ≡ 0 = refl in omega arith)

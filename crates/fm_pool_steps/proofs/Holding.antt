@@ -19,14 +19,14 @@ use Rattle.fm_pool_facts.specs.Holds.{grips, with_grips, holds_after, released, 
 use Rattle.fm_pool_facts.specs.Steps.{part, entries, noted, none_noted, where_found}
 use Rattle.fm_pool_facts.specs.Facts.{Loans, World, session_code, Shows, Owns, Rule}
 use Rattle.fm_pool_facts.specs.Loans.{lent}
-use Rattle.fm_pool_facts.specs.Moves.{Same, MayStep}
+use Rattle.fm_pool_facts.specs.Moves.{MayStep}
 use Rattle.fm_pool_facts.proofs.Worlds.{world_count}
 use Rattle.fm_pool_facts.proofs.Shown.{shows_same, shows_count}
 use Rattle.fm_pool_facts.proofs.Summing.{total-has, one_more_hold, some_hold, one_hold_less}
 use Rattle.fm_pool_facts.proofs.Gripping.{holds_are, with_holds, with_same, held_now, held_lives, none_besides, keeps_grips}
 use Rattle.fm_pool_steps.proofs.Reading.{kind_below, Says, says, hold_says, eqb_true, eqb_false}
 use Rattle.fm_pool_facts.proofs.Founds.{no_draw}
-use Rattle.fm_pool_steps.proofs.Plain.{same_none, own, known_now, Made, plain}
+use Rattle.fm_pool_steps.proofs.Plain.{same_held, same_none, own, known_now, Made, plain}
 
 -- one hold more in a session word
 more_word : (a : ArenaId) (n : ℕ) → alive_word a n + 1 ≡ alive_word a (n + 1)
@@ -71,26 +71,12 @@ module _ (z : Shape) (me : ℕ) (v : View) (l : v.live ≡ true) (a : ArenaId) w
     -- the word of the arena that is alive
     is_word : r.machine.life a ≡ Lives → found ≡ alive_word a (r.machine.holds a)
     is_word al =
-        r.shows.sessions a.slot fit.slot ∙ (λ j. session_code (r.world.sessions.alive_shown a al j) (r.world.counts.shown a al j))
+        r.shows.sessions a.slot fit.slot ∙ (λ j. session_code z.generations (r.world.sessions.alive_shown a al j) (r.world.counts.shown a al j))
 
     shown : (x n : ℕ) → r.machine.life a ≡ Lives → x ≡ alive_word a n → Shows z (set ws i x) (record r.memory { counts = put r.memory.counts a.slot n })
     shown x n al is = subst (λ (y : ℕ). Shows z (set ws i y) (record r.memory { counts = put r.memory.counts a.slot n }))
-        ((λ j. session_code (r.world.sessions.alive_shown a al j) n) ∙ sym is)
+        ((λ j. session_code z.generations (r.world.sessions.alive_shown a al j) n) ∙ sym is)
         (shows_count z r.valid ws r.memory r.shows a.slot n fit.slot)
-
-    same_held : (hs : List ArenaId) → Same v (held_as hs)
-    same_held hs = record {
-      home = refl;
-      shape = refl;
-      live = refl;
-      caller = refl;
-      seen = refl;
-      drawn = refl;
-      met = refl;
-      finds = refl;
-      gathered = refl;
-      whole = refl;
-    }
 
     -- its own holds are put in their place
     same_grips : (x : ℕ) (es : List Entry) → Made z ws vs me v i x v es none_noted → Made z ws vs me v i x (held_as gs) es none_noted
@@ -114,6 +100,9 @@ module _ (z : Shape) (me : ℕ) (v : View) (l : v.live ≡ true) (a : ArenaId) w
             same = same_none v;
             closes = refl;
             hand = refl;
+            sweeps = refl;
+            ended = λ b o f. record { session = f; cells = λ w. refl; given = refl };
+            shown = λ b f. f;
             was = λ b h. ap (λ (t : Machine). t.life b) (sym stays) ∙ h;
             holds = λ b. ap (λ (t : Machine). holds_of b v + all_holds b t) (sym stays);
             lends = (tt, tt);
@@ -143,9 +132,12 @@ module _ (z : Shape) (me : ℕ) (v : View) (l : v.live ≡ true) (a : ArenaId) w
             still = λ s g f. f;
             back = λ s g f. f;
             bits = refl;
-            same = same_held (a ∷ gs);
+            same = same_held a (a ∷ gs) v;
             closes = refl;
             hand = refl;
+            sweeps = refl;
+            ended = λ b o f. record { session = f; cells = λ w. refl; given = refl };
+            shown = λ b f. f;
             was = λ b h. h;
             holds = keeps_grips v l r.machine a (a ∷ gs) (h + 1) (λ b. one_more_hold a b gs r.machine.holds);
             lends = (tt, tt);
@@ -183,6 +175,9 @@ module _ (z : Shape) (me : ℕ) (v : View) (l : v.live ≡ true) (a : ArenaId) w
         same = same_none v;
         closes = refl;
         hand = refl;
+        sweeps = refl;
+        ended = λ b o f. record { session = f; cells = λ w. refl; given = refl };
+        shown = λ b f. f;
         was = λ b h. h;
         holds = λ b. refl;
         lends = tt;
@@ -237,9 +232,12 @@ module _ (z : Shape) (me : ℕ) (v : View) (l : v.live ≡ true) (a : ArenaId) w
           still = λ s g f. f;
           back = λ s g f. f;
           bits = refl;
-          same = same_held (released a gs);
+          same = same_held a (released a gs) v;
           closes = refl;
           hand = refl;
+          sweeps = refl;
+          ended = λ b o f. record { session = f; cells = λ w. refl; given = refl };
+          shown = λ b f. f;
           was = λ b h. h;
           holds = keeps_grips v l r.machine a (released a gs) (h - 1) (λ b. one_hold_less a b gs r.machine.holds has held);
           lends = (tt, tt);

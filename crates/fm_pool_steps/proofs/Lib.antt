@@ -1,4 +1,5 @@
 pub mod Reading
+pub mod Decoding
 pub mod Plain
 pub mod Acting
 pub mod Reaching
@@ -9,7 +10,13 @@ pub mod Closes
 pub mod Shutting
 pub mod Backing
 pub mod Visiting
+pub mod Telling
+pub mod Resting
+pub mod Bearing
 pub mod Taking
+pub mod Sweeping
+pub mod Retiring
+pub mod Giving
 pub mod Opening
 pub mod Splitting
 pub mod Halving

@@ -1,5 +1,5 @@
 -- The step that opens an arena.
-use Rattle.std.proofs.Common.{◌≡◌, ◌≢◌, ◌⊎◌, ℕ, true, List, set, sym, refl, ap, ◌∙◌, subst, arith, inr}
+use Rattle.std.proofs.Common.{◌≡◌, ◌≢◌, ◌⊎◌, ℕ, true, List, set, sym, refl, ap, ◌∙◌, subst, arith, inl, inr, Some}
 use mathlib.Core.Option.{some}
 use lib.ListN.{get_elem?}
 use Rattle.fm_words.specs.declared.shape.Shape.{Shape}
@@ -9,16 +9,20 @@ use Rattle.fm_base.specs.declared.arena_id.ArenaId.{ArenaId}
 use Rattle.fm_base.specs.Arenas.{owner_of}
 use Rattle.fm_base.specs.Calls.{Entry}
 use Rattle.fm_depicts.specs.Functions.{Fresh, Lives, Closes, Over, put, put_at}
+use Rattle.fm_depicts.specs.Steps.{moved_by}
 use Rattle.fm_depicts.proofs.Putting.{put_else, put_cases, at_here, at_cases}
 use Rattle.std.specs.Int.{bit_at}
-use Rattle.fm_pool_facts.specs.Hands.{nothing, learnt, HasSlot}
+use Rattle.fm_pool_facts.specs.Hands.{nothing, learnt, HasSlot, IsTaker}
+use Rattle.fm_pool_facts.specs.Gone.{IsTakenBy, OpenedBy}
+use mathlib.Core.Logic.{dite}
+use native.Mathlib.Decide.{ℕ_discrete}
 use Rattle.fm_pool_facts.specs.declared.step.Step.TheVariants.{Opens}
 use Rattle.fm_pool_facts.specs.Views.{View, Fits, limit_of}
 use Rattle.fm_pool_facts.specs.Words.{alive_word}
 use Rattle.fm_pool_facts.specs.Steps.{part, entries, noted, none_noted, open_entries}
-use Rattle.fm_pool_facts.specs.Facts.{Memory, free, live, IsHeld, HasInHand, HasClose, KeepsSlot, Owns, Rule}
-use Rattle.fm_pool_facts.specs.Moves.{MayMake, Moved, Same, KeepsSlots, MayStore}
-use Rattle.fm_pool_facts.proofs.Keeping.{closing_on}
+use Rattle.fm_pool_facts.specs.Facts.{Memory, free, live, shut, IsHeld, HasInHand, HasClose, HasSweep, KeepsSlot, Owns, Rule}
+use Rattle.fm_pool_facts.specs.Moves.{MayMake, StaysEnded, Moved, Same, KeepsSweeps, KeepsSlots, MayStore}
+use Rattle.fm_pool_facts.proofs.Keeping.{closing_on, sweeping_on}
 use Rattle.fm_pool_facts.proofs.Founds.{no_draw}
 use Rattle.fm_pool_facts.proofs.Standing.{open_new}
 use Rattle.fm_pool_facts.proofs.Worlds.{world_open}
@@ -48,7 +52,8 @@ module _ (z : Shape) (me : ℕ) (v : View) (l : v.live ≡ true) (a : ArenaId) (
   fit = record {
     slot = held.slot;
     owner = (let h = low z ws vs r me v at l in let e : a.owner ≡ v.caller.number = ap (λ (c : Caller). c.number) owner in omega arith);
-    generation = r.world.slots.within a.slot a.generation free_now;
+    generation = held.left;
+    term = ap (λ (c : Caller). c.term) owner ∙ (mine.term ∙ r.shows.terms v.caller.number);
   }
 
   abbrev es : List Entry
@@ -66,7 +71,26 @@ module _ (z : Shape) (me : ℕ) (v : View) (l : v.live ≡ true) (a : ArenaId) (
   ok : MayMake (limit_of z) r.machine v.caller es
   ok = (refl, (new, owner), refl, (refl, tt, refl, tt))
 
-  moved_on : Moved me (limit_of z) v.caller r.memory r.machine r.owners es m' r.owners
+  ended_on : (b : ArenaId) → r.memory.sessions b.slot ≡ shut b → StaysEnded r.memory m' b
+  ended_on b h = record {
+    session = put_else r.memory.sessions a.slot (live a) b.slot (λ e.
+        let q : r.memory.sessions b.slot ≡ free a.generation = ap r.memory.sessions e ∙ free_now in absurd (cc)) ∙ h;
+    cells = λ w. refl;
+    given = refl;
+  }
+
+  opened_now : put_at r.machine.life a Lives a ≢ Fresh
+  opened_now f = let g : Lives ≡ Fresh = sym (at_here r.machine.life a Lives) ∙ f in absurd (cc)
+
+  -- who took the slot opens the arena
+  its_open : (s : ℕ) (k : Caller) → s ≡ a.slot → IsTakenBy z r.memory.bits r.memory.sessions r.owners.taker s k
+      → OpenedBy (put_at r.machine.life a Lives) s k
+  its_open s k e x =
+      let t : r.owners.taker a.slot ≡ Some v.caller = subst (IsTaker r.owners.taker v.caller) hand mine.took in
+      let q : Some v.caller ≡ Some k = sym t ∙ (ap r.owners.taker (sym e) ∙ x.taker) in
+      record { arena = a; in_slot = sym e; opened = opened_now; owner = owner ∙ (cc) }
+
+  moved_on : Moved me z v.caller r.memory r.machine r.owners es m' r.owners
   moved_on = record {
     allowed = ok;
     marks = λ k h. refl;
@@ -74,22 +98,40 @@ module _ (z : Shape) (me : ℕ) (v : View) (l : v.live ≡ true) (a : ArenaId) (
     draw = refl;
     numbers = λ k. refl;
     closers = λ b f h. (refl, ((λ h. h), ((λ h. h), tt)));
-    holders = λ s g f b h. (refl, put_else r.memory.sessions a.slot (live a) s (λ e. h (ap r.owners.holder e ∙ held.owner)) ∙ f, b);
+    sweepers = λ b f h n. (refl, ended_on b h);
+    holders = λ s g f b h. (refl, put_else r.memory.sessions a.slot (live a) s (λ e. h (ap r.owners.holder e ∙ held.owner)) ∙ f, b, refl);
+    taken = λ s k x. dite (ℕ_discrete s a.slot) (λ e. inr (its_open s k e x)) (λ n. inl (record {
+      taker = x.taker;
+      generation = x.generation;
+      session = put_else r.memory.sessions a.slot (live a) s n ∙ x.session;
+      left = x.left;
+      bit = x.bit;
+    }));
   }
 
-  opened_now : put_at r.machine.life a Lives a ≢ Fresh
-  opened_now f = let g : Lives ≡ Fresh = sym (at_here r.machine.life a Lives) ∙ f in absurd (cc)
+  -- each sweep is where it was
+  sweeps_on : KeepsSweeps me v p r.memory r.machine r.owners m' (moved_by r.machine es) r.owners
+  sweeps_on b f = at_cases r.machine.life a Lives b
+      (λ x. x ≡ Over → ((r.owners.closer b ≡ me) × HasSweep b p)
+      ⊎ ((r.memory.sessions b.slot ≡ shut b) × (r.machine.life b ≡ Over) × (r.owners.closer b ≡ r.owners.closer b) × (HasSweep b v → HasSweep b p)))
+      (λ e q. absurd (cc))
+      (λ n q. inr (
+        put_cases r.memory.sessions a.slot (live a) b.slot (λ x. x ≡ shut b → r.memory.sessions b.slot ≡ shut b) (λ e u. absurd (cc)) (λ m u. u) f,
+        q,
+        refl,
+        (λ y. y),
+      ))
 
   -- the slot in the hand was the one that is opened
   its_slot : (s : ℕ) → KeepsSlot s v → s ≡ a.slot
   its_slot s y = subst (HasSlot s) hand y.1
 
   slots_on : KeepsSlots z me v p r.memory r.owners m' r.owners
-  slots_on s g low f b = put_cases r.memory.sessions a.slot (live a) s
+  slots_on s g low f left b = put_cases r.memory.sessions a.slot (live a) s
       (λ x. x ≡ free g → ((r.owners.holder s ≡ me) × KeepsSlot s p)
-      ⊎ ((h : ℕ) × (r.memory.sessions s ≡ free h) × (bit_at r.memory.bits s ≡ 0) × (r.owners.holder s ≡ r.owners.holder s) × (KeepsSlot s v → KeepsSlot s p)))
+      ⊎ ((r.memory.sessions s ≡ free g) × (bit_at r.memory.bits s ≡ 0) × (r.owners.holder s ≡ r.owners.holder s) × (KeepsSlot s v → KeepsSlot s p)))
       (λ e q. absurd (cc))
-      (λ n q. inr (g, q, b, refl, (λ y. absurd (n (its_slot s y)))))
+      (λ n q. inr (q, b, refl, (λ y. absurd (n (its_slot s y)))))
       f
 
   opens : Made z ws vs me v (place_at z (session a.slot)) (alive_word a 0) p es none_noted
@@ -125,6 +167,7 @@ module _ (z : Shape) (me : ℕ) (v : View) (l : v.live ≡ true) (a : ArenaId) (
       ((r.machine.life b ≡ Closes) × (r.owners.closer b ≡ r.owners.closer b) × (HasClose b v → HasClose b p)))
       (λ e q. absurd (cc))
       (λ n q. inr (q, refl, (λ y. y))))
+      sweeps_on
       slots_on
       (opened_handles v l r.machine a (ap one_alive new))
       (shows_session z r.valid ws r.memory r.shows a.slot (live a) 0 fit.slot)
@@ -136,7 +179,12 @@ module _ (z : Shape) (me : ℕ) (v : View) (l : v.live ≡ true) (a : ArenaId) (
             λ c i. closing_on (limit_of z) r.history v.caller r.memory r.machine es m' ok me r.owners r.owners c (mine.closes c i) refl
             ((λ h. h), ((λ h. h), tt));
         once = mine.once;
+        sweeps = λ c i.
+            let y = mine.sweeps c i in
+            sweeping_on (limit_of z) v.caller r.memory r.machine es m' ok z me r.owners r.owners c y refl (ended_on c.arena y.session);
+        swept_once = mine.swept_once;
         hand = tt;
+        took = tt;
       })
 
 pub open_steps : (z : Shape) (me : ℕ) (v : View) (a : ArenaId) → v.live ≡ true → v.hand ≡ learnt a.slot a.generation → owner_of a ≡ v.caller

@@ -1,35 +1,55 @@
 -- Steps that leave closes and hands as they are.
-use Rattle.std.proofs.Common.{◌≡◌, ◌≢◌, ℕ, ◌<◌, true, List, [], ◌++◌, set, sym, refl, ap, ◌∙◌, subst, arith, inr}
+use Rattle.std.proofs.Common.{◌≡◌, ◌≢◌, ℕ, ◌<◌, true, List, [], ◌++◌, length, set, sym, refl, ap, ◌∙◌, subst, arith, inl, inr}
 use mathlib.Core.Option.{some}
 use lib.ListN.{get_elem?}
 use Rattle.fm_words.specs.declared.shape.Shape.{Shape}
+use Rattle.fm_base.specs.declared.caller.Caller.{Caller}
 use Rattle.fm_base.specs.declared.arena_id.ArenaId.{ArenaId}
 use Rattle.fm_base.specs.Arenas.{State, has_arena, arena_of}
 use Rattle.fm_base.specs.Calls.{Entry}
 use Rattle.fm_base.specs.Histories.{state_after}
 use Rattle.fm_base.specs.Finds.{Find, Close}
-use Rattle.fm_depicts.specs.Functions.{Fresh, Closes}
+use Rattle.fm_depicts.specs.Functions.{Fresh, Closes, Over, Machine}
 use Rattle.fm_depicts.specs.Steps.{moved_by}
 use Rattle.std.specs.Int.{bit_at}
-use Rattle.fm_pool_facts.specs.Hands.{Hand, HasSlot}
+use Rattle.fm_pool_facts.specs.Hands.{Hand, HasSlot, IsTaker}
 use Rattle.fm_pool_facts.proofs.Handing.{hand_on}
+use Rattle.fm_pool_facts.specs.Holds.{with_grips}
 use Rattle.fm_pool_facts.specs.Views.{View, In, IsKnown, limit_of}
-use Rattle.fm_pool_facts.specs.Facts.{Memory, free, Shows, World, IsOnce, Owners, HasInHand, HasClose, KeepsSlot, Owns, Rule}
-use Rattle.fm_pool_facts.specs.Moves.{MayMake, NoEnd, Moved, Same, Part, KeepsCloses, KeepsSlots, KeepsHolds, Gives}
+use Rattle.fm_pool_facts.specs.Facts.{Memory, free, shut, Shows, World, IsOnce, Owners, HasInHand, HasClose, HasSweep, KeepsSlot, Owns, Rule}
+use Rattle.fm_pool_facts.specs.Moves.{MayMake, NoEnd, StaysEnded, Moved, Same, Part, KeepsCloses, KeepsSweeps, KeepsSlots, KeepsHolds, Gives}
 use Rattle.fm_base.specs.Histories.{IsLegal}
 use Rattle.fm_base.proofs.Making.{state_after-append, IsLegal-split}
 use Rattle.fm_base.proofs.Growing.{Grows-state_after}
-use Rattle.fm_pool_facts.proofs.Keeping.{closing_on}
-use Rattle.fm_pool_facts.proofs.Founds.{NoDraw}
+use Rattle.fm_pool_facts.proofs.Keeping.{closing_on, sweeping_on}
+use Rattle.fm_pool_facts.proofs.Frame.{was_over}
+use Rattle.fm_pool_facts.proofs.Founds.{NoneDrawn, NoDraw}
+use Rattle.fm_pool_facts.specs.Gone.{FoundBy}
+use Rattle.fm_pool_facts.proofs.Gone.{none_founded}
 use Rattle.fm_pool_facts.specs.Loans.{lent, loans_after}
 use Rattle.fm_pool_facts.specs.Facts.{Loans}
 use Rattle.fm_pool_facts.specs.Moves.{MayLend}
 use Rattle.fm_pool_facts.specs.Views.{span}
-use Rattle.fm_pool_facts.proofs.Ruling.{keeps, opened_life}
+use Rattle.fm_pool_facts.proofs.Ruling.{keeps_with, opened_life}
 
 -- a step that makes nothing
 pub same_none : (v : View) → Same v v
 same_none v = record {
+  home = refl;
+  shape = refl;
+  live = refl;
+  caller = refl;
+  seen = refl;
+  drawn = refl;
+  met = refl;
+  finds = refl;
+  gathered = refl;
+  whole = refl;
+}
+
+-- one that changes its holds
+pub same_held : (a : ArenaId) (hs : List ArenaId) (v : View) → Same v (with_grips a hs v)
+same_held a hs v = record {
   home = refl;
   shape = refl;
   live = refl;
@@ -48,12 +68,24 @@ pub hand_still : (z : Shape) (m m' : Memory) (holder : ℕ → ℕ) (me : ℕ) �
 hand_still z m m' holder me still bits =
     hand_on z m.bits m'.bits m.sessions m'.sessions holder holder me (λ s g f b e. (e, still s g f, ap (λ (n : ℕ). bit_at n s) bits ∙ b))
 
+-- each sweep is where it was
+pub sweeps_still : (me : ℕ) (v p : View) (m : Memory) (t : Machine) (o : Owners) (m' : Memory) (t' : Machine) (o' : Owners) → Same v p → p.sweeps ≡ v.sweeps
+    → ((a : ArenaId) → t.life a ≡ Over → o'.closer a ≡ o.closer a) → ((a : ArenaId) → m'.sessions a.slot ≡ shut a → t'.life a ≡ Over
+    → (m.sessions a.slot ≡ shut a) × (t.life a ≡ Over)) → KeepsSweeps me v p m t o m' t' o'
+sweeps_still me v p m t o m' t' o' s sw same was a f h =
+    let y = was a f h in
+    inr (y.0, y.1, same a y.1, (λ (x : HasSweep a v). (s.live ∙ x.0, (x.1.0, subst (In x.1.0) (sym sw) x.1.1, x.1.2))))
+
+-- what a memory that didn't change leaves of ended arenas
+pub stays_ended : (m : Memory) (b : ArenaId) → m.sessions b.slot ≡ shut b → StaysEnded m m b
+stays_ended m b f = record { session = f; cells = λ w. refl; given = refl }
+
 -- and each free slot whose bit is 0 is where it was
 pub slots_still : (z : Shape) (me : ℕ) (v p : View) (m : Memory) (o : Owners) (m' : Memory) (o' : Owners) → Same v p → p.hand ≡ v.hand
     → ((s : ℕ) → o'.holder s ≡ o.holder s) → ((s g : ℕ) → m'.sessions s ≡ free g → m.sessions s ≡ free g) → m'.bits ≡ m.bits
     → KeepsSlots z me v p m o m' o'
-slots_still z me v p m o m' o' s hd same back bits i g low f b =
-    inr (g, back i g f, ap (λ (n : ℕ). bit_at n i) (sym bits) ∙ b, same i, (λ (y : KeepsSlot i v). (s.live ∙ y.0, subst (HasSlot i) (sym hd) y.1)))
+slots_still z me v p m o m' o' s hd same back bits i g low f left b =
+    inr (back i g f, ap (λ (n : ℕ). bit_at n i) (sym bits) ∙ b, same i, (λ (y : KeepsSlot i v). (s.live ∙ y.0, subst (HasSlot i) (sym hd) y.1)))
 
 module _ (z : Shape) (ws : List ℕ) (vs : List View) (r : Rule z ws vs) (me : ℕ) (v : View) (at : get_elem? vs me ≡ some v) (l : v.live ≡ true) where
   abbrev pub own : Owns z r.history r.memory r.machine r.owners me v
@@ -83,30 +115,45 @@ module _ (z : Shape) (ws : List ℕ) (vs : List View) (r : Rule z ws vs) (me : �
     pub plain_moved : MayMake (limit_of z) r.machine v.caller es → ((b : ArenaId) → NoEnd es b)
         → ((k : ℕ) → k ≢ v.caller.number → m'.marks k ≡ r.memory.marks k) → ((k : ℕ) → m'.terms k ≡ r.memory.terms k) → m'.draw ≡ r.memory.draw
         → ((s g : ℕ) → r.memory.sessions s ≡ free g → m'.sessions s ≡ free g) → m'.bits ≡ r.memory.bits
-        → Moved me (limit_of z) v.caller r.memory r.machine r.owners es m' r.owners
-    plain_moved ok ends marks terms draw still bits = record {
+        → ((b : ArenaId) → r.machine.life b ≡ Over → r.memory.sessions b.slot ≡ shut b → StaysEnded r.memory m' b)
+        → Moved me z v.caller r.memory r.machine r.owners es m' r.owners
+    plain_moved ok ends marks terms draw still bits ended = record {
       allowed = ok;
       marks = marks;
       terms = terms;
       draw = draw;
       numbers = λ k. refl;
       closers = λ b f h. (refl, ends b);
-      holders = λ s g f b h. (refl, still s g f, ap (λ (n : ℕ). bit_at n s) bits ∙ b);
+      sweepers = λ b f h n. (refl, ended b f h);
+      holders = λ s g f b h. (refl, still s g f, ap (λ (n : ℕ). bit_at n s) bits ∙ b, refl);
+      taken = λ s k x. inl (record {
+        taker = x.taker;
+        generation = x.generation;
+        session = still s x.generation x.session;
+        left = x.left;
+        bit = ap (λ (n : ℕ). bit_at n s) bits ∙ x.bit;
+      });
     }
 
     -- and what its own view says then
-    pub plain_part : MayMake (limit_of z) r.machine v.caller es → ((b : ArenaId) → NoEnd es b) → Same v p → p.closes ≡ v.closes → p.hand ≡ v.hand
-        → ((s g : ℕ) → r.memory.sessions s ≡ free g → m'.sessions s ≡ free g) → m'.bits ≡ r.memory.bits
+    pub plain_part : MayMake (limit_of z) r.machine v.caller es → ((b : ArenaId) → NoEnd es b) → Same v p → p.closes ≡ v.closes → p.sweeps ≡ v.sweeps
+        → p.hand ≡ v.hand → ((s g : ℕ) → r.memory.sessions s ≡ free g → m'.sessions s ≡ free g) → m'.bits ≡ r.memory.bits
+        → ((b : ArenaId) → r.machine.life b ≡ Over → r.memory.sessions b.slot ≡ shut b → StaysEnded r.memory m' b)
         → (moved_by r.machine es).inside p.caller ≡ p.inside → m'.marks p.caller.number ≡ p.mark
         → Part z m' (moved_by r.machine es) r.owners me p
-    plain_part ok ends s cl hd still bits inside mark = record {
+    plain_part ok ends s cl sw hd still bits ended inside mark = record {
       inside = inside;
       mark = mark;
       closes =
           λ c i. closing_on (limit_of z) r.history v.caller r.memory r.machine es m' ok me r.owners r.owners c (own.closes c (subst (In c) cl i)) refl
           (ends c.arena);
       once = subst (IsOnce (λ (c : Close). c.arena)) (sym cl) own.once;
+      sweeps = λ c i.
+          let y = own.sweeps c (subst (In c) sw i) in
+          sweeping_on (limit_of z) v.caller r.memory r.machine es m' ok z me r.owners r.owners c y refl (ended c.arena y.life y.session);
+      swept_once = subst (IsOnce (λ (c : Close). c.arena)) (sym sw) own.swept_once;
       hand = subst (HasInHand z m'.bits m'.sessions r.owners.holder me) (sym hd) (hand_still z r.memory m' r.owners.holder me still bits v.hand own.hand);
+      took = subst (λ (x : Caller × Hand). IsTaker r.owners.taker x.0 x.1) (λ j. (sym s.caller j, sym hd j)) own.took;
     }
 
     -- each free slot is where it was
@@ -136,6 +183,9 @@ pub record Plain (z : Shape) (ws : List ℕ) (vs : List View) (r : Rule z ws vs)
   pub same : Same v p
   pub closes : p.closes ≡ v.closes
   pub hand : p.hand ≡ v.hand
+  pub sweeps : p.sweeps ≡ v.sweeps
+  pub ended : (b : ArenaId) → r.machine.life b ≡ Over → r.memory.sessions b.slot ≡ shut b → StaysEnded r.memory m' b
+  pub shown : (b : ArenaId) → m'.sessions b.slot ≡ shut b → r.memory.sessions b.slot ≡ shut b
   pub was : (a : ArenaId) → (moved_by r.machine es).life a ≡ Closes → r.machine.life a ≡ Closes
   pub holds : KeepsHolds v p r.machine (moved_by r.machine es)
   pub lends : MayLend (span z) r.machine (lent r.history) es
@@ -145,14 +195,25 @@ pub record Plain (z : Shape) (ws : List ℕ) (vs : List View) (r : Rule z ws vs)
   pub inside : (moved_by r.machine es).inside p.caller ≡ p.inside
   pub mark : m'.marks p.caller.number ≡ p.mark
 
+pub plain_with : (z : Shape) (ws : List ℕ) (vs : List View) (r : Rule z ws vs) (me : ℕ) (v : View) → get_elem? vs me ≡ some v → v.live ≡ true
+    → (i x : ℕ) (p : View) (es : List Entry) (fs : ℕ → List Find) → NoneDrawn fs
+    → ((f : Find) → In f (fs (length r.history)) → FoundBy z r.history r.memory r.owners.taker r.machine.life v.caller f) → (m' : Memory)
+    → Plain z ws vs r v i x p es m' → Made z ws vs me v i x p es fs
+plain_with z ws vs r me v at l i x p es fs nd new m' q =
+    keeps_with z ws (set ws i x) vs r me v p es fs m' r.owners at l
+    (plain_moved z ws vs r me v at l es m' p q.may q.ends q.marks q.terms q.draw q.still q.bits q.ended)
+    q.same nd new q.lends q.loans
+    (plain_closes z ws vs r me v at l es m' p q.same q.closes q.was)
+    (sweeps_still me v p r.memory r.machine r.owners m' (moved_by r.machine es) r.owners q.same q.sweeps (λ a h. refl)
+    (λ a f h. (q.shown a f, was_over a es r.machine (q.ends a) h)))
+    (plain_slots z ws vs r me v at l es m' p q.same q.hand q.back q.bits) q.holds
+    q.shows q.world
+    (plain_part z ws vs r me v at l es m' p q.may q.ends q.same q.closes q.sweeps q.hand q.still q.bits q.ended q.inside q.mark)
+
+-- where no slot was looked for
 pub plain : (z : Shape) (ws : List ℕ) (vs : List View) (r : Rule z ws vs) (me : ℕ) (v : View) → get_elem? vs me ≡ some v → v.live ≡ true
     → (i x : ℕ) (p : View) (es : List Entry) (fs : ℕ → List Find) → NoDraw fs → (m' : Memory)
     → Plain z ws vs r v i x p es m' → Made z ws vs me v i x p es fs
 plain z ws vs r me v at l i x p es fs nd m' q =
-    keeps z ws (set ws i x) vs r me v p es fs m' r.owners at l
-    (plain_moved z ws vs r me v at l es m' p q.may q.ends q.marks q.terms q.draw q.still q.bits)
-    q.same nd q.lends q.loans
-    (plain_closes z ws vs r me v at l es m' p q.same q.closes q.was)
-    (plain_slots z ws vs r me v at l es m' p q.same q.hand q.back q.bits) q.holds
-    q.shows q.world
-    (plain_part z ws vs r me v at l es m' p q.may q.ends q.same q.closes q.hand q.still q.bits q.inside q.mark)
+    plain_with z ws vs r me v at l i x p es fs (λ n f i. let y = nd n f i in (y.0, y.1))
+    (none_founded z r.history r.memory r.owners.taker r.machine.life v.caller fs (λ n f i. (nd n f i).2) (length r.history)) m' q

@@ -1,5 +1,5 @@
 -- The steps that act on a word of the arena that the pass is inside, or give bytes of it.
-use Rattle.std.proofs.Common.{◌≡◌, ℕ, ◌+◌, ◌*◌, ◌%◌, ◌^◌, ◌<◌, ◌==◌, nat_le, Bool, true, false, if◌then◌else◌, List, [], ◌∷◌, get_or, set, sym, refl, ap, ◌∙◌, subst, arith, Option, Some}
+use Rattle.std.proofs.Common.{◌≡◌, ◌≢◌, ℕ, ◌+◌, ◌*◌, ◌%◌, ◌^◌, ◌<◌, ◌==◌, nat_le, Bool, true, false, if◌then◌else◌, List, [], ◌∷◌, get_or, set, sym, refl, ap, ◌∙◌, subst, arith, Option, Some}
 use mathlib.Core.Option.{some}
 use lib.ListN.{get_elem?}
 use prog.Atomic.{either}
@@ -8,21 +8,22 @@ use Rattle.fm_words.specs.Places.{at as place_at, given as given_place}
 use Rattle.fm_base.specs.declared.arena_id.ArenaId.{ArenaId}
 use Rattle.fm_base.specs.Calls.{Call, Read, Write, SwapIf, Add, Allocate, Reply, Fine, Found, Given, NoRoom, entry_of}
 use Rattle.fm_base.specs.Machine.{words_within, IsPower, rounded_up, allocate_reply}
-use Rattle.fm_depicts.specs.Functions.{Machine, put, put_at, moved, MayBy, reply_by}
+use Rattle.fm_depicts.specs.Functions.{Over, Machine, put, put_at, moved, MayBy, reply_by}
+use Rattle.fm_depicts.proofs.Putting.{put_else}
 use Rattle.fm_pool_facts.specs.declared.step.Step.TheVariants.{Loads, Stores, SwapsIf, Adds, Allocates}
 use Rattle.fm_pool_facts.specs.Views.{View, Fits, span, limit_of}
 use Rattle.fm_pool_facts.specs.Loans.{Loan, loans_by, lent}
 use Rattle.fm_pool_facts.specs.Holds.{holds_of, all_holds}
 use Rattle.fm_pool_facts.specs.Steps.{part, entries, noted, acted, none_noted, where_found, given_next}
-use Rattle.fm_pool_facts.specs.Facts.{Memory, Loans, IsStanding, Shows, World, cell_at, Rule}
-use Rattle.fm_pool_facts.specs.Moves.{Ends, LendsBy, MayStep, MayStore}
-use Rattle.fm_pool_facts.proofs.Standing.{standing_known}
+use Rattle.fm_pool_facts.specs.Facts.{Memory, shut, Loans, IsStanding, Shows, World, cell_at, Rule}
+use Rattle.fm_pool_facts.specs.Moves.{Ends, LendsBy, StaysEnded, MayStep, MayStore}
+use Rattle.fm_pool_facts.proofs.Standing.{standing_known, standing_shown, ended_apart}
 use Rattle.fm_pool_facts.proofs.Worlds.{world_write, world_given}
 use Rattle.fm_pool_facts.proofs.Lending.{word_lent}
 use Rattle.fm_pool_facts.proofs.Shown.{shows_same, shows_cell, shows_given}
 use Rattle.fm_pool_steps.proofs.Reading.{eqb_true}
 use Rattle.fm_pool_facts.proofs.Founds.{no_draw}
-use Rattle.fm_pool_steps.proofs.Plain.{same_none, own, Made, plain}
+use Rattle.fm_pool_steps.proofs.Plain.{same_none, stays_ended, own, Made, plain}
 
 -- an arena has the words of its slot
 span_within : (z : Shape) (w : ℕ) → w < span z → w < words_within (limit_of z)
@@ -42,14 +43,19 @@ module _ (z : Shape) (me : ℕ) (v : View) (l : v.live ≡ true) (a : ArenaId) (
     fit : Fits z a
     fit = r.world.sessions.fits a (standing_known (r.machine.life a) stands)
 
+    -- an arena that has ended stands elsewhere
+    apart : (b : ArenaId) → r.memory.sessions b.slot ≡ shut b → r.machine.life b ≡ Over → b.slot ≢ a.slot
+    apart b f o e = ended_apart z r.memory.sessions r.machine.life r.world.sessions b a f o stands (sym e)
+
     -- the step that makes this one entry, and leaves the words and the given bytes so
     act : (i x : ℕ) (call : Call) (reply : Reply) (m' : ℕ → ℕ → ℕ) (g' : ℕ → ℕ) (f : ArenaId → ℕ → ℕ) (g : ArenaId → ℕ)
         → moved r.machine v.caller call reply ≡ record r.machine { word = f; given = g } → MayBy (limit_of z) r.machine v.caller call
         → reply ≡ reply_by (limit_of z) r.machine call → ((b : ArenaId) → ¬ (Ends call b)) → LendsBy (span z) r.machine (lent r.history) call
         → loans_by (lent r.history) call ≡ lent r.history → Shows z (set ws i x) (record r.memory { cells = m'; given = g' })
         → World z (record r.memory { cells = m'; given = g' }) (record r.machine { word = f; given = g })
+        → ((b : ArenaId) → r.machine.life b ≡ Over → r.memory.sessions b.slot ≡ shut b → StaysEnded r.memory (record r.memory { cells = m'; given = g' }) b)
         → Made z ws vs me v i x v (entry_of v.caller call reply ∷ []) none_noted
-    act i x call reply m' g' f g is may answer ends lends same shows world =
+    act i x call reply m' g' f g is may answer ends lends same shows world ended =
         let k = own z ws vs r me v at l in
         let m : Memory = record r.memory { cells = m'; given = g' } in
         plain z ws vs r me v at l i x v (entry_of v.caller call reply ∷ []) none_noted no_draw m (record {
@@ -64,6 +70,9 @@ module _ (z : Shape) (me : ℕ) (v : View) (l : v.live ≡ true) (a : ArenaId) (
           same = same_none v;
           closes = refl;
           hand = refl;
+          sweeps = refl;
+          ended = ended;
+          shown = λ b f. f;
           was = λ b h. ap (λ (t : Machine). t.life b) (sym is) ∙ h;
           holds = λ b. ap (λ (t : Machine). holds_of b v + all_holds b t) (sym is);
           lends = (lends, tt);
@@ -87,7 +96,8 @@ module _ (z : Shape) (me : ℕ) (v : View) (l : v.live ≡ true) (a : ArenaId) (
       is_word = r.shows.cells a.slot w (fit ws vs r at).slot h ∙ sym (r.world.cells.shown a w (stands ws vs r at) h)
 
       lends : LendsBy (span z) r.machine (lent r.history) (Read a w)
-      lends = word_lent (lent r.history) r.memory.sessions r.machine.life r.loans a (span z) w (standing_known (r.machine.life a) (stands ws vs r at)) h
+      lends = word_lent (lent r.history) r.memory.sessions r.machine.life r.loans a (span z) w
+          (standing_shown z r.memory.sessions r.machine.life r.world.sessions a (stands ws vs r at)) h
 
       -- the word is left as it was
       looks : (call : Call) (reply : Reply) → moved r.machine v.caller call reply ≡ r.machine → MayBy (limit_of z) r.machine v.caller call
@@ -95,7 +105,7 @@ module _ (z : Shape) (me : ℕ) (v : View) (l : v.live ≡ true) (a : ArenaId) (
           → loans_by (lent r.history) call ≡ lent r.history → Made z ws vs me v i (found ws) v (entry_of v.caller call reply ∷ []) none_noted
       looks call reply is may answer ends lends same =
           act ws vs r at i (found ws) call reply r.memory.cells r.memory.given r.machine.word r.machine.given is may answer ends lends same
-          (shows_same z r.valid ws r.memory r.shows i) r.world
+          (shows_same z r.valid ws r.memory r.shows i) r.world (λ b o f. stays_ended r.memory b f)
 
       -- the word becomes y
       puts : (y : ℕ) (call : Call) (reply : Reply)
@@ -108,6 +118,11 @@ module _ (z : Shape) (me : ℕ) (v : View) (l : v.live ≡ true) (a : ArenaId) (
           (put_at r.machine.word a (put (r.machine.word a) w y)) r.machine.given is may answer ends lends same
           (shows_cell z r.valid ws r.memory r.shows a.slot w y (fit ws vs r at).slot h)
           (world_write z r.memory r.machine r.world a w y (stands ws vs r at))
+          (λ b o f. record {
+            session = f;
+            cells = λ k j. put_else r.memory.cells a.slot (put (r.memory.cells a.slot) w y) b.slot (apart ws vs r at b f o) j k;
+            given = refl;
+          })
 
       load : Made z ws vs me v i (found ws) v (entry_of v.caller (Read a w) (Found (found ws)) ∷ []) none_noted
       load = looks (Read a w) (Found (found ws)) refl (here ws vs r at, span_within z w h) (ap Found is_word) (λ b n. n) lends refl
@@ -192,6 +207,7 @@ module _ (z : Shape) (me : ℕ) (v : View) (l : v.live ≡ true) (a : ArenaId) (
           r.machine.word (put_at r.machine.given a (round + size)) refl (here ws vs r at, power) (answer true fits) (λ b n. n) tt refl
           (shows_given z r.valid ws r.memory r.shows a.slot (round + size) (fit ws vs r at).slot)
           (world_given z r.memory r.machine r.world a (round + size) (stands ws vs r at))
+          (λ b o f. record { session = f; cells = λ w. refl; given = put_else r.memory.given a.slot (round + size) b.slot (apart ws vs r at b f o) })
         where
           answer : (b : Bool) → nat_le (round + size) (limit_of z) ≡ b
               → (if b then Given round else NoRoom count) ≡ allocate_reply (limit_of z) (r.machine.given a) size align
@@ -201,6 +217,7 @@ module _ (z : Shape) (me : ℕ) (v : View) (l : v.live ≡ true) (a : ArenaId) (
           act ws vs r at place count (Allocate a size align) (NoRoom count) r.memory.cells r.memory.given
           r.machine.word r.machine.given refl (here ws vs r at, power) (answer false fits) (λ b n. n) tt refl
           (subst (λ (x : ℕ). Shows z (set ws place x) r.memory) e (shows_same z r.valid ws r.memory r.shows place)) r.world
+          (λ b o f. stays_ended r.memory b f)
         where
           answer : (b : Bool) → nat_le (round + size) (limit_of z) ≡ b
               → (if b then Given round else NoRoom count) ≡ allocate_reply (limit_of z) (r.machine.given a) size align
@@ -223,6 +240,9 @@ module _ (z : Shape) (me : ℕ) (v : View) (l : v.live ≡ true) (a : ArenaId) (
             same = same_none v;
             closes = refl;
             hand = refl;
+            sweeps = refl;
+            ended = λ b o f. record { session = f; cells = λ w. refl; given = refl };
+            shown = λ b f. f;
             was = λ b h. h;
             holds = λ b. refl;
             lends = tt;

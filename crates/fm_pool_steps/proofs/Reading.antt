@@ -11,7 +11,7 @@ use Rattle.fm_base.specs.Arenas.{kind_number}
 use Rattle.fm_base.specs.Calls.{Closed}
 use Rattle.fm_depicts.specs.Functions.{Stage, Fresh, Lives, Closes, Over, Machine, enter_stage, hold_stage, shut_stage}
 use Rattle.fm_depicts.proofs.Putting.{one_arena}
-use Rattle.fm_pool_facts.specs.Words.{alive_word, closing_word, alive_holds, enter_found, hold_found, hold_by, shut_found, shut_by}
+use Rattle.fm_pool_facts.specs.Words.{alive_word, closing_word, free_word, alive_holds, enter_found, hold_found, hold_by, shut_found, shut_by}
 use Rattle.fm_pool_facts.specs.Facts.{Session, free, live, shut, Memory, session_code, World}
 
 pub kind_below : (k : Kind) → kind_number k ≤ 3
@@ -68,8 +68,8 @@ module _ (z : Shape) (m : Memory) (t : Machine) (r : World z m t) (few : z.passe
       let f = r.counts.few b in omega arith
 
   -- a session of the slot whose word shows the arena alive
-  is_alive : (s : Session) (h : ℕ) → m.sessions a.slot ≡ s → h < 65536 → session_code s (m.counts a.slot) ≡ alive_word a h → t.life a ≡ Lives
-  unfolding alive_word closing_word session_word
+  is_alive : (s : Session) (h : ℕ) → m.sessions a.slot ≡ s → h < 65536 → session_code z.generations s (m.counts a.slot) ≡ alive_word a h → t.life a ≡ Lives
+  unfolding alive_word closing_word free_word session_word
   is_alive (free g) h e l q = let k = kind_below a.kind in let f = (r.sessions.fits a known).owner in absurd (omega arith)
   is_alive (shut b) h e l q =
       let k = kind_below a.kind in let i = kind_below b.kind in
@@ -91,7 +91,7 @@ module _ (z : Shape) (m : Memory) (t : Machine) (r : World z m t) (few : z.passe
   below_holds x = omega arith
 
   -- what is read of the session word of the arena's slot is so
-  pub says : (x : ℕ) → x ≡ session_code (m.sessions a.slot) (m.counts a.slot) → Says t a (alive_holds a x)
+  pub says : (x : ℕ) → x ≡ session_code z.generations (m.sessions a.slot) (m.counts a.slot) → Says t a (alive_holds a x)
   unfolding alive_holds
   says x e = go (x == alive_word a (x % 2 ^ 16)) refl
     where
@@ -99,10 +99,10 @@ module _ (z : Shape) (m : Memory) (t : Machine) (r : World z m t) (few : z.passe
       go true q =
           let w : x ≡ alive_word a (x % 2 ^ 16) = eqb_true x (alive_word a (x % 2 ^ 16)) q in
           let l = is_alive (m.sessions a.slot) (x % 2 ^ 16) refl (below_holds x) (sym e ∙ w) in
-          let s : x ≡ alive_word a (t.holds a) = e ∙ ((λ j. session_code (r.sessions.alive_shown a l j) (r.counts.shown a l j))) in
+          let s : x ≡ alive_word a (t.holds a) = e ∙ ((λ j. session_code z.generations (r.sessions.alive_shown a l j) (r.counts.shown a l j))) in
           (l, alive_one a (x % 2 ^ 16) (t.holds a) (sym w ∙ s))
       go false q = λ l.
-          let s : x ≡ alive_word a (t.holds a) = e ∙ ((λ j. session_code (r.sessions.alive_shown a l j) (r.counts.shown a l j))) in
+          let s : x ≡ alive_word a (t.holds a) = e ∙ ((λ j. session_code z.generations (r.sessions.alive_shown a l j) (r.counts.shown a l j))) in
           let h : x % 2 ^ 16 ≡ t.holds a = ap (λ (y : ℕ). y % 2 ^ 16) s ∙ alive_rest a (t.holds a) (r.counts.few a) in
           eqb_false x (alive_word a (x % 2 ^ 16)) q (s ∙ ap (alive_word a) (sym h))
 

@@ -1,5 +1,5 @@
 -- The step that shuts an arena.
-use Rattle.std.proofs.Common.{◌≡◌, ◌≢◌, ℕ, ◌+◌, ◌==◌, Bool, true, false, if◌then◌else◌, List, [], ◌∷◌, set, get_or, sym, refl, ap, ◌∙◌, subst, arith, inl, inr, ⊎_elim, Option, Some, None, eq-eqb, ne_eqb}
+use Rattle.std.proofs.Common.{◌≡◌, ◌≢◌, ◌⊎◌, ℕ, ◌+◌, ◌==◌, Bool, true, false, if◌then◌else◌, List, [], ◌∷◌, set, get_or, sym, refl, ap, ◌∙◌, subst, arith, inl, inr, ⊎_elim, Option, Some, None, eq-eqb, ne_eqb}
 use mathlib.Core.Option.{some}
 use mathlib.Core.Logic.{dite}
 use lib.ListN.{get_elem?}
@@ -11,7 +11,7 @@ use Rattle.fm_base.specs.declared.kind.Kind.TheVariants.{Global, Automatic}
 use Rattle.fm_base.specs.Arenas.{MayUse}
 use Rattle.fm_base.specs.Calls.{Shut, Reply, Fine, Closed, Held, Entry, entry_of}
 use Rattle.fm_base.specs.Finds.{Close}
-use Rattle.fm_depicts.specs.Functions.{Fresh, Lives, Closes, Machine, put, put_at, shut_stage}
+use Rattle.fm_depicts.specs.Functions.{Fresh, Lives, Closes, Over, Machine, put, put_at, shut_stage}
 use Rattle.fm_depicts.specs.Steps.{moved_by}
 use Rattle.fm_depicts.proofs.Putting.{put_else, at_here, at_other, one_arena}
 use Rattle.fm_pool_facts.specs.declared.step.Step.TheVariants.{Shuts}
@@ -20,20 +20,20 @@ use Rattle.fm_pool_facts.specs.Words.{alive_word, closing_word, alive_holds, shu
 use Rattle.fm_pool_facts.specs.Holds.{holds_of, all_holds}
 use Rattle.fm_pool_facts.specs.Closes.{begun, close_of}
 use Rattle.fm_pool_facts.specs.Steps.{part, entries, noted, none_noted}
-use Rattle.fm_pool_facts.specs.Facts.{Memory, free, shut, Owners, World, IsClosing, HasClose, Rule}
-use Rattle.fm_pool_facts.specs.Moves.{MayMake, Moved, Same, KeepsHolds, MayStep}
-use Rattle.fm_pool_facts.proofs.Keeping.{closing_on}
+use Rattle.fm_pool_facts.specs.Facts.{Memory, free, live, shut, IsShown, Owners, World, IsClosing, HasClose, Rule}
+use Rattle.fm_pool_facts.specs.Moves.{MayMake, StaysEnded, Moved, Same, KeepsHolds, MayStep}
+use Rattle.fm_pool_facts.proofs.Keeping.{closing_on, sweeping_on}
 use Rattle.fm_pool_facts.proofs.Standing.{free_apart}
 use Rattle.fm_pool_facts.proofs.Worlds.{world_shut}
 use Rattle.fm_pool_facts.specs.Loans.{lent, loans_after}
 use Rattle.fm_pool_facts.specs.Facts.{Loans}
-use Rattle.fm_depicts.proofs.Putting.{put_cases}
+use Rattle.fm_depicts.proofs.Putting.{put_cases, at_cases}
 use Rattle.fm_pool_facts.proofs.Lending.{loans_still}
 use Rattle.fm_pool_facts.proofs.Shown.{shows_same, shows_session}
 use Rattle.fm_pool_facts.proofs.Gripping.{by_hand, same_handles}
 use Rattle.fm_pool_facts.proofs.Ruling.{keeps}
 use Rattle.fm_pool_steps.proofs.Reading.{Says, says, shut_says, alive_read, alive_one, reads_alive, eqb_true, eqb_false}
-use Rattle.fm_pool_steps.proofs.Plain.{same_none, own, known_now, Made, plain, hand_still, slots_still}
+use Rattle.fm_pool_steps.proofs.Plain.{same_none, own, known_now, Made, plain, hand_still, sweeps_still, slots_still}
 use Rattle.fm_pool_facts.proofs.Founds.{no_draw}
 
 module _ (z : Shape) (me : ℕ) (v : View) (l : v.live ≡ true) (a : ArenaId) (known : IsKnown v a) (use_it : MayUse a v.caller) (not_global : a.kind ≢ Global)
@@ -66,6 +66,9 @@ module _ (z : Shape) (me : ℕ) (v : View) (l : v.live ≡ true) (a : ArenaId) (
         same = same_none v;
         closes = refl;
         hand = refl;
+        sweeps = refl;
+        ended = λ b o f. record { session = f; cells = λ w. refl; given = refl };
+        shown = λ b f. f;
         was = λ b h. ap (λ (t : Machine). t.life b) (sym stays) ∙ h;
         holds = λ b. ap (λ (t : Machine). holds_of b v + all_holds b t) (sym stays);
         lends = (tt, tt);
@@ -95,6 +98,18 @@ module _ (z : Shape) (me : ℕ) (v : View) (l : v.live ≡ true) (a : ArenaId) (
       (λ s g f. put_else r.memory.sessions a.slot (shut a) s (free_apart z r.memory.sessions r.machine.life r.world.sessions s g a f (inl al)) ∙ f) in
       let back : (s g : ℕ) → m'.sessions s ≡ free g → r.memory.sessions s ≡ free g =
       (λ s g. put_cases r.memory.sessions a.slot (shut a) s (λ y. y ≡ free g → r.memory.sessions s ≡ free g) (λ e q. absurd (cc)) (λ n q. q)) in
+      let ended : (b : ArenaId) → r.machine.life b ≡ Over → b ≢ a = (λ b f e. let q : r.machine.life b ≡ Lives = ap r.machine.life e ∙ al in absurd (cc)) in
+      let stays : (b : ArenaId) → r.machine.life b ≡ Over → r.memory.sessions b.slot ≡ shut b → StaysEnded r.memory m' b = (λ b f h. record {
+        session = put_else r.memory.sessions a.slot (shut a) b.slot (λ e.
+            let q : r.memory.sessions b.slot ≡ live a = ap r.memory.sessions e ∙ r.world.sessions.alive_shown a al in absurd (cc)) ∙ h;
+        cells = λ w. refl;
+        given = refl;
+      }) in
+      let was_ended : (b : ArenaId) → put_at r.machine.life a Closes b ≡ Over → (b ≢ a) × (r.machine.life b ≡ Over) =
+      (λ b. at_cases r.machine.life a Closes b (λ y. y ≡ Over → (b ≢ a) × (r.machine.life b ≡ Over)) (λ e q. absurd (cc)) (λ n q. (n, q))) in
+      let was_shut : (b : ArenaId) → b ≢ a → m'.sessions b.slot ≡ shut b → r.memory.sessions b.slot ≡ shut b =
+      (λ b n. put_cases r.memory.sessions a.slot (shut a) b.slot (λ y. y ≡ shut b → r.memory.sessions b.slot ≡ shut b)
+      (λ e q. absurd (n (cc))) (λ ne q. q)) in
       let same : Same v p = record {
         home = refl;
         shape = refl;
@@ -107,14 +122,16 @@ module _ (z : Shape) (me : ℕ) (v : View) (l : v.live ≡ true) (a : ArenaId) (
         gathered = refl;
         whole = refl;
       } in
-      let d : Moved me (limit_of z) v.caller r.memory r.machine r.owners es m' o' = record {
+      let d : Moved me z v.caller r.memory r.machine r.owners es m' o' = record {
         allowed = ok;
         marks = λ k h. refl;
         terms = λ k. refl;
         draw = refl;
         numbers = λ k. refl;
         closers = λ b f h. (at_other r.owners.closer a me b (other b f), ((λ h. h), tt));
-        holders = λ s g f b h. (refl, still s g f, b);
+        sweepers = λ b f h n. (at_other r.owners.closer a me b (ended b f), stays b f h);
+        holders = λ s g f b h. (refl, still s g f, b, refl);
+        taken = λ s k x. inl (record { taker = x.taker; generation = x.generation; session = still s x.generation x.session; left = x.left; bit = x.bit });
       } in
       let on : (c : Close) → In c v.closes → IsClosing (moved_by r.machine es) o' me c = (λ c j.
       let y = k.closes c j in
@@ -122,11 +139,15 @@ module _ (z : Shape) (me : ℕ) (v : View) (l : v.live ≡ true) (a : ArenaId) (
       (at_other r.owners.closer a me c.arena (other c.arena y.life)) ((λ h. h), tt)) in
       keeps z ws (set ws i (closing_word a)) vs r me v p es none_noted m' o' at l d same no_draw
       (tt, tt)
-      (loans_still (lent r.history) r.memory.sessions r.machine.life r.loans a Closes m'.sessions opened (λ e. absurd (cc))
-      back)
+      (loans_still (lent r.history) r.memory.sessions r.machine.life r.loans a Closes m'.sessions (λ e. absurd (cc)) back
+      (λ b. put_cases r.memory.sessions a.slot (shut a) b.slot (λ y. (y ≡ live b) ⊎ (y ≡ shut b) → IsShown r.memory.sessions b)
+      (λ e. ⊎_elim (λ q. absurd (cc))
+      (λ q. let i : a ≡ b = cc in inl (ap r.memory.sessions e ∙ (r.world.sessions.alive_shown a al ∙ ap live i)))) (λ ne q. q)))
       (λ b h. dite (one_arena b a)
       (λ e. inl (ap (put_at r.owners.closer a me) e ∙ at_here r.owners.closer a me, (l, (close_of a 0, inl refl, sym e))))
       (λ n. inr (sym (at_other r.machine.life a Closes b n) ∙ h, at_other r.owners.closer a me b n, (λ (y : HasClose b v). (y.0, (y.1.0, inr y.1.1, y.1.2))))))
+      (sweeps_still me v p r.memory r.machine r.owners m' (moved_by r.machine es) o' same refl (λ b f. at_other r.owners.closer a me b (ended b f))
+      (λ b f h. let y = was_ended b h in (was_shut b y.0 f, y.1)))
       (slots_still z me v p r.memory r.owners m' o' same refl (λ s. refl) back refl)
       held
       (shows_session z r.valid ws r.memory r.shows a.slot (shut a) 0 fit.slot)
@@ -139,7 +160,13 @@ module _ (z : Shape) (me : ℕ) (v : View) (l : v.live ≡ true) (a : ArenaId) (
             (record { owner = at_here r.owners.closer a me; life = at_here r.machine.life a Closes; visited = λ j h. absurd (omega arith) }))
             (on c);
         once = ((λ c j. other c.arena (k.closes c j).life), k.once);
+        sweeps = λ c j.
+            let y = k.sweeps c j in
+            sweeping_on (limit_of z) v.caller r.memory r.machine es m' ok z me r.owners o' c y (at_other r.owners.closer a me c.arena (ended c.arena y.life))
+            (stays c.arena y.life y.session);
+        swept_once = k.swept_once;
         hand = hand_still z r.memory m' r.owners.holder me still refl v.hand k.hand;
+        took = k.took;
       })
 
   -- the word is exchanged where it shows the arena alive with no holds

@@ -6,12 +6,14 @@ use Rattle.atomic_table.proofs.Lists.{at_set, at_longer}
 use Rattle.std.specs.Int.{bit_at}
 use Rattle.fm_words.specs.declared.shape.Shape.{Shape}
 use Rattle.fm_base.specs.declared.arena_id.ArenaId.{ArenaId}
-use Rattle.fm_depicts.specs.Functions.{Closes}
+use Rattle.fm_depicts.specs.Functions.{Closes, Over}
 use Rattle.fm_pool_facts.specs.Views.{Met, View, In, all_gathered, brought}
 use Rattle.fm_pool_facts.specs.Splits.{note, met, nothing_seen, IsBare}
-use Rattle.fm_pool_facts.specs.Facts.{free, HasNumber, HasDraw, HasClose, KeepsSlot, Somewhere, Begins, Knows, Rule, Memory, IsCounted}
+use Rattle.fm_pool_facts.specs.Facts.{free, shut, HasNumber, HasDraw, HasClose, HasSweep, KeepsSlot, Somewhere, Begins, Knows, Rule, Memory, IsCounted}
 use Rattle.fm_pool_facts.specs.Holds.{grips, holds_of, how_many, total}
 use Rattle.fm_pool_facts.proofs.Founds.{counted_bare}
+use Rattle.fm_pool_facts.specs.Gone.{IsFounded}
+use Rattle.fm_pool_facts.proofs.Gone.{founded_bare}
 use Rattle.fm_pool_facts.proofs.Keeping.{stays_somewhere}
 use Rattle.fm_pool_facts.proofs.Summing.{total-set, total-snoc}
 
@@ -45,6 +47,7 @@ pub data Said : (View → Type 0) → Type 1 where
   number : (n : ℕ) → Said (HasNumber n)
   draw : (d n : ℕ) → Said (HasDraw d n)
   close : (a : ArenaId) → Said (HasClose a)
+  sweep : (a : ArenaId) → Said (HasSweep a)
   slot : (s : ℕ) → Said (KeepsSlot s)
 
 -- the rule with other views, and other seats for the numbers
@@ -52,11 +55,13 @@ pub with_owners : (z : Shape) (ws : List ℕ) (vs us : List View) (r : Rule z ws
     → ((n : ℕ) → n < r.memory.draw → Somewhere us (f n) (HasNumber n))
     → ((n : ℕ) → 0 < n → n < r.memory.draw → (d : ℕ) × (d < n) × Somewhere us (f d) (HasDraw d n))
     → ((a : ArenaId) → r.machine.life a ≡ Closes → Somewhere us (r.owners.closer a) (HasClose a))
-    → ((s g : ℕ) → s < z.slots → r.memory.sessions s ≡ free g → bit_at r.memory.bits s ≡ 0 → Somewhere us (r.owners.holder s) (KeepsSlot s))
+    → ((a : ArenaId) → r.memory.sessions a.slot ≡ shut a → r.machine.life a ≡ Over → Somewhere us (r.owners.closer a) (HasSweep a))
+    → ((s g : ℕ) → s < z.slots → r.memory.sessions s ≡ free g → g < z.generations → bit_at r.memory.bits s ≡ 0 → Somewhere us (r.owners.holder s) (KeepsSlot s))
     → ((j : ℕ) (u : View) → get_elem? us j ≡ some u → Knows z r.history r.memory r.machine (record r.owners { number = f }) j u)
     → ((j : ℕ) (u : View) → get_elem? us j ≡ some u → IsCounted r.memory u)
+    → ((j : ℕ) (u : View) → get_elem? us j ≡ some u → IsFounded z r.history r.memory r.owners.taker r.machine.life u)
     → ((a : ArenaId) → total (holds_of a) us ≡ total (holds_of a) vs) → Rule z ws us
-with_owners z ws vs us r f numbers drawers closed slots each counted same = record {
+with_owners z ws vs us r f numbers drawers closed swept slots each counted founded same = record {
   history = r.history;
   memory = r.memory;
   machine = r.machine;
@@ -74,24 +79,28 @@ with_owners z ws vs us r f numbers drawers closed slots each counted same = reco
   numbers = numbers;
   drawers = drawers;
   closed = closed;
+  swept = swept;
   slots = slots;
   held = λ a. same a ∙ r.held a;
   each = each;
   counted = counted;
+  founds = founded;
 }
 
 -- the rule with other views, which say all that the views before said
 with_views : (z : Shape) (ws : List ℕ) (vs us : List View) (r : Rule z ws vs) → ((i : ℕ) (P : View → Type 0) → Said P → Somewhere vs i P → Somewhere us i P)
     → ((j : ℕ) (u : View) → get_elem? us j ≡ some u → Knows z r.history r.memory r.machine r.owners j u)
     → ((j : ℕ) (u : View) → get_elem? us j ≡ some u → IsCounted r.memory u)
+    → ((j : ℕ) (u : View) → get_elem? us j ≡ some u → IsFounded z r.history r.memory r.owners.taker r.machine.life u)
     → ((a : ArenaId) → total (holds_of a) us ≡ total (holds_of a) vs) → Rule z ws us
-with_views z ws vs us r on each counted same =
+with_views z ws vs us r on each counted founded same =
     with_owners z ws vs us r r.owners.number
     (λ n h. on (r.owners.number n) (HasNumber n) (number n) (r.numbers n h))
     (λ n i h. let y = r.drawers n i h in (y.0, y.1, on (r.owners.number y.0) (HasDraw y.0 n) (draw y.0 n) y.2))
     (λ a h. on (r.owners.closer a) (HasClose a) (close a) (r.closed a h))
-    (λ s g h f b. on (r.owners.holder s) (KeepsSlot s) (slot s) (r.slots s g h f b))
-    each counted same
+    (λ a h o. on (r.owners.closer a) (HasSweep a) (sweep a) (r.swept a h o))
+    (λ s g h f left b. on (r.owners.holder s) (KeepsSlot s) (slot s) (r.slots s g h f left b))
+    each counted founded same
 
 -- a note of a view is made
 pub note_splits : (z : Shape) (ws : List ℕ) (vs : List View) (r : Rule z ws vs) (id : ℕ) (v : View) → get_elem? vs id ≡ some v
@@ -106,6 +115,9 @@ note_splits z ws vs r id v at =
     (views_set vs id v K k (λ j u n e. r.each j u e)))
     (views_on (set vs id v) (note v) (λ j u. IsCounted r.memory u) (counted_bare r.memory (note v) refl refl)
     (views_set vs id v (λ j u. IsCounted r.memory u) (r.counted id v at) (λ j u n e. r.counted j u e)))
+    (views_on (set vs id v) (note v) (λ j u. IsFounded z r.history r.memory r.owners.taker r.machine.life u)
+    (founded_bare z r.history r.memory r.owners.taker r.machine.life (note v) refl refl)
+    (views_set vs id v (λ j u. IsFounded z r.history r.memory r.owners.taker r.machine.life u) (r.founds id v at) (λ j u n e. r.founds j u e)))
     (λ a.
     let x = total-snoc (holds_of a) (set vs id v) (note v) in
     let y = total-set (holds_of a) vs id v v at in
@@ -127,6 +139,7 @@ bare_says w u b _ (number n) (inr (inr h)) = absurd (subst (In h.0) (bare_none w
 bare_says w u b _ (draw d n) (inl h) = let l = b.live in let q = h.0 in absurd (cc)
 bare_says w u b _ (draw d n) (inr h) = absurd (subst (In h.0) (bare_none w b) h.1)
 bare_says w u b _ (close a) h = let l = b.live in let q = h.0 in absurd (cc)
+bare_says w u b _ (sweep a) h = let l = b.live in let q = h.0 in absurd (cc)
 bare_says w u b _ (slot s) h = let l = b.live in let q = h.0 in absurd (cc)
 
 -- having met another changes nothing that is said
@@ -134,6 +147,7 @@ met_says : (v w : View) (P : View → Type 0) → Said P → P v → P (met v w)
 met_says v w _ (number n) h = h
 met_says v w _ (draw d n) h = h
 met_says v w _ (close a) h = h
+met_says v w _ (sweep a) h = h
 met_says v w _ (slot s) h = h
 
 counted_met : (m : Memory) (v w : View) → IsCounted m v → IsCounted m (met v w)
@@ -169,7 +183,10 @@ meet_joins z ws vs r id v other w at n at' bare =
         mark = x.mark;
         closes = x.closes;
         once = x.once;
+        sweeps = x.sweeps;
+        swept_once = x.swept_once;
         hand = x.hand;
+        took = x.took;
         gathered =
             λ g i. let y =
             x.gathered g i in record { number = y.number; seated = y.seated; apart = y.apart; outside = y.outside; mark = y.mark; quiet = y.quiet };
@@ -195,6 +212,11 @@ meet_joins z ws vs r id v other w at n at' bare =
     (views_set (set vs id (met v w)) other nothing_seen (λ j u. IsCounted r.memory u) (counted_bare r.memory nothing_seen refl refl)
     (λ j u far e. views_set vs id (met v w) (λ j u. IsCounted r.memory u) (counted_met r.memory v w (r.counted id v at))
     (λ j' u' n' e'. r.counted j' u' e') j u e))
+    (views_set (set vs id (met v w)) other nothing_seen (λ j u. IsFounded z r.history r.memory r.owners.taker r.machine.life u)
+    (founded_bare z r.history r.memory r.owners.taker r.machine.life nothing_seen refl refl)
+    (λ j u far e. views_set vs id (met v w) (λ j u. IsFounded z r.history r.memory r.owners.taker r.machine.life u)
+    (let y = r.founds id v at in record { finds = y.finds; theirs = y.theirs })
+    (λ j' u' n' e'. r.founds j' u' e') j u e))
     (λ a.
     let x = total-set (holds_of a) vs id v (met v w) at in
     let y = total-set (holds_of a) (set vs id (met v w)) other w nothing_seen at' in

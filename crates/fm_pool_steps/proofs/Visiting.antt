@@ -1,5 +1,5 @@
 -- The step that visits a mark for a close.
-use Rattle.std.proofs.Common.{◌≡◌, ◌≢◌, ◌⊎◌, ℕ, ◌+◌, ◌<◌, ◌==◌, Bool, true, false, List, [], ◌∷◌, set, get_or, sym, refl, ap, ◌∙◌, subst, arith, inl, inr, Some}
+use Rattle.std.proofs.Common.{◌≡◌, ◌≢◌, ◌⊎◌, ℕ, ◌+◌, ◌<◌, ◌==◌, Bool, true, false, List, [], ◌∷◌, set, get_or, sym, refl, ap, ◌∙◌, subst, arith, inl, inr, ⊎_elim, Some}
 use mathlib.Core.Option.{some}
 use mathlib.Core.Logic.{dite}
 use native.Mathlib.Decide.{ℕ_discrete}
@@ -10,16 +10,17 @@ use Rattle.fm_base.specs.declared.caller.Caller.{Caller}
 use Rattle.fm_base.specs.declared.arena_id.ArenaId.{ArenaId}
 use Rattle.fm_base.specs.Calls.{End, Fine, Entry, entry_of}
 use Rattle.fm_base.specs.Finds.{Find, Close, Visits as Visiting}
-use Rattle.fm_depicts.specs.Functions.{Fresh, Closes, Over, put_at}
-use Rattle.fm_depicts.proofs.Putting.{at_other, at_cases}
+use Rattle.fm_depicts.specs.Functions.{Closes, Over, put_at}
+use Rattle.fm_depicts.specs.Steps.{moved_by}
+use Rattle.fm_depicts.proofs.Putting.{at_here, at_other, at_cases}
 use Rattle.fm_pool_facts.specs.declared.step.Step.TheVariants.{Visits}
 use Rattle.fm_pool_facts.specs.Views.{View, In, limit_of, pass_of}
 use Rattle.fm_pool_facts.specs.Words.{mark_of, own_word}
-use Rattle.fm_pool_facts.specs.Closes.{visited_of, visited, dropped, one_more, visit_by, closes_after, visit_entries}
+use Rattle.fm_pool_facts.specs.Closes.{close_of, visited_of, visited, dropped, one_more, visit_by, closes_after, sweeps_after, visit_entries}
 use Rattle.fm_pool_facts.specs.Steps.{part, entries, noted, note_of}
-use Rattle.fm_pool_facts.specs.Facts.{IsClosing, HasClose, Owns, Rule}
+use Rattle.fm_pool_facts.specs.Facts.{shut, IsClosing, IsSweeping, HasClose, HasSweep, Owns, Rule}
 use Rattle.fm_pool_facts.specs.Moves.{MayMake, Moved, Same, MayStep}
-use Rattle.fm_pool_facts.proofs.Keeping.{closing_on}
+use Rattle.fm_pool_facts.proofs.Keeping.{closing_on, sweeping_on}
 use Rattle.fm_pool_facts.proofs.Founds.{NoDraw, note_no_draw}
 use Rattle.fm_pool_facts.proofs.Worlds.{world_end}
 use Rattle.fm_pool_facts.specs.Loans.{lent}
@@ -30,7 +31,7 @@ use Rattle.fm_pool_facts.specs.Holds.{one_alive}
 use Rattle.fm_pool_facts.proofs.Gripping.{same_handles}
 use Rattle.fm_pool_steps.proofs.Reading.{eqb_true, eqb_false}
 use Rattle.fm_pool_steps.proofs.Closes.{Found, visited_of-found, count_of, in_visited, visited_in, once_visited, in_dropped, dropped_in, once_dropped}
-use Rattle.fm_pool_steps.proofs.Plain.{same_none, own, Made, plain, slots_still}
+use Rattle.fm_pool_steps.proofs.Plain.{same_none, stays_ended, own, Made, plain, sweeps_still, slots_still}
 
 module _ (z : Shape) (me : ℕ) (v : View) (l : v.live ≡ true) (sh : v.shape ≡ z) (a : ArenaId) (k : ℕ) (has : visited_of v.closes a ≡ Some k)
     (low : k < z.passes)
@@ -45,7 +46,7 @@ module _ (z : Shape) (me : ℕ) (v : View) (l : v.live ≡ true) (sh : v.shape �
   fs = note_of (Visiting a (pass_of k)) found v
 
   no_draws : NoDraw fs
-  no_draws = note_no_draw (Visiting a (pass_of k)) found v refl
+  no_draws = note_no_draw (Visiting a (pass_of k)) found v refl refl
 
   abbrev mine : Owns z r.history r.memory r.machine r.owners me v
   mine = own z ws vs r me v at l
@@ -59,6 +60,9 @@ module _ (z : Shape) (me : ℕ) (v : View) (l : v.live ≡ true) (sh : v.shape �
 
   closes_now : r.machine.life a ≡ Closes
   closes_now = ap r.machine.life (sym its.arena) ∙ its_closing.life
+
+  closer_me : r.owners.closer a ≡ me
+  closer_me = ap r.owners.closer (sym its.arena) ∙ its_closing.owner
 
   -- a mark that doesn't name the arena is of callers that are elsewhere
   elsewhere : found ≢ mark_of a → (c : Caller) → c.number ≡ k → r.machine.inside c ≢ Some a
@@ -78,6 +82,9 @@ module _ (z : Shape) (me : ℕ) (v : View) (l : v.live ≡ true) (sh : v.shape �
     same = same_none v;
     closes = refl;
     hand = refl;
+    sweeps = refl;
+    ended = λ b o f. record { session = f; cells = λ w. refl; given = refl };
+    shown = λ b f. f;
     was = λ b h. h;
     holds = λ a. refl;
     lends = tt;
@@ -104,18 +111,21 @@ module _ (z : Shape) (me : ℕ) (v : View) (l : v.live ≡ true) (sh : v.shape �
         gathered = refl;
         whole = refl;
       } in
-      let d : Moved me (limit_of z) v.caller r.memory r.machine r.owners [] r.memory r.owners = record {
+      let d : Moved me z v.caller r.memory r.machine r.owners [] r.memory r.owners = record {
         allowed = tt;
         marks = λ k h. refl;
         terms = λ k. refl;
         draw = refl;
         numbers = λ k. refl;
         closers = λ b f h. (refl, tt);
-        holders = λ s g f b h. (refl, f, b);
+        sweepers = λ b f h n. (refl, stays_ended r.memory b h);
+        holders = λ s g f b h. (refl, f, b, refl);
+        taken = λ s k x. inl x;
       } in
       keeps z ws (set ws i found) vs r me v p [] fs r.memory r.owners at l d same no_draws
       tt r.loans
       (λ b h. inr (h, refl, (λ (y : HasClose b v). let w = visited_in a y.1.0 v.closes y.1.1 in (y.0, (w.0, w.1, w.2 ∙ y.1.2)))))
+      (sweeps_still me v p r.memory r.machine r.owners r.memory r.machine r.owners same refl (λ b f. refl) (λ b f h. (f, h)))
       (slots_still z me v p r.memory r.owners r.memory r.owners same refl (λ s. refl) (λ s g f. f) refl)
       (λ b. refl)
       (shows_same z r.valid ws r.memory r.shows i) r.world
@@ -124,7 +134,10 @@ module _ (z : Shape) (me : ℕ) (v : View) (l : v.live ≡ true) (sh : v.shape �
         mark = mine.mark;
         closes = λ c j. let w = in_visited a c v.closes j in onward c w.before (mine.closes w.before w.there) w.there w.how;
         once = once_visited a v.closes mine.once;
+        sweeps = mine.sweeps;
+        swept_once = mine.swept_once;
         hand = mine.hand;
+        took = mine.took;
       })
     where
       -- the close of an arena is the one that was found
@@ -143,7 +156,8 @@ module _ (z : Shape) (me : ℕ) (v : View) (l : v.live ≡ true) (sh : v.shape �
       })
 
   -- it was the last: nobody is under way, and the arena ends
-  ends : found ≢ mark_of a → k + 1 ≡ z.passes → Made z ws vs me v i found (record v { closes = dropped a v.closes }) (entry_of v.caller (End a) Fine ∷ []) fs
+  ends : found ≢ mark_of a → k + 1 ≡ z.passes → Made z ws vs me v i found
+      (record v { closes = dropped a v.closes; sweeps = close_of a 0 ∷ v.sweeps }) (entry_of v.caller (End a) Fine ∷ []) fs
   ends n top =
       let nobody : (c : Caller) → r.machine.inside c ≢ Some a = (λ c p.
       let below = (r.world.marked c a p).number in
@@ -151,7 +165,7 @@ module _ (z : Shape) (me : ℕ) (v : View) (l : v.live ≡ true) (sh : v.shape �
       (λ e. elsewhere n c e p)
       (λ far. its_closing.visited c (let g = its.visited in omega arith) (p ∙ ap Some (sym its.arena)))) in
       let es : List Entry = entry_of v.caller (End a) Fine ∷ [] in
-      let p : View = record v { closes = dropped a v.closes } in
+      let p : View = record v { closes = dropped a v.closes; sweeps = close_of a 0 ∷ v.sweeps } in
       let ok : MayMake (limit_of z) r.machine v.caller es = (refl, (closes_now, nobody), refl, tt) in
       let same : Same v p = record {
         home = refl;
@@ -165,27 +179,33 @@ module _ (z : Shape) (me : ℕ) (v : View) (l : v.live ≡ true) (sh : v.shape �
         gathered = refl;
         whole = refl;
       } in
-      let d : Moved me (limit_of z) v.caller r.memory r.machine r.owners es r.memory r.owners = record {
+      let d : Moved me z v.caller r.memory r.machine r.owners es r.memory r.owners = record {
         allowed = ok;
         marks = λ k h. refl;
         terms = λ k. refl;
         draw = refl;
         numbers = λ k. refl;
         closers = λ b f h. (refl, ((λ e. h (ap r.owners.closer (sym e ∙ sym its.arena) ∙ its_closing.owner)), tt));
-        holders = λ s g f b h. (refl, f, b);
+        sweepers = λ b f h n. (refl, stays_ended r.memory b h);
+        holders = λ s g f b h. (refl, f, b, refl);
+        taken = λ s k x. inl x;
       } in
       let other : (b : ArenaId) → put_at r.machine.life a Over b ≡ Closes → b ≢ a =
       (λ b. at_cases r.machine.life a Over b (λ x. x ≡ Closes → b ≢ a) (λ e q. absurd (cc)) (λ ne q. ne)) in
       keeps z ws (set ws i found) vs r me v p es fs r.memory r.owners at l d same no_draws
       (tt, tt)
-      (loans_still (lent r.history) r.memory.sessions r.machine.life r.loans a Over r.memory.sessions (λ f. let g : Closes ≡ Fresh = sym closes_now
-      ∙ f in absurd (cc)) (λ e. absurd (cc)) (λ s g f. f))
+      (loans_still (lent r.history) r.memory.sessions r.machine.life r.loans a Over r.memory.sessions (λ e. absurd (cc)) (λ s g f. f) (λ b f. f))
       (λ b h. let ne = other b h in inr (
         sym (at_other r.machine.life a Over b ne)
             ∙ h,
         refl,
         (λ (y : HasClose b v). (y.0, (y.1.0, dropped_in a y.1.0 v.closes y.1.1 (λ e. ne (sym y.1.2 ∙ e)), y.1.2))),
       ))
+      (λ b f. at_cases r.machine.life a Over b
+      (λ x. x ≡ Over → ((r.owners.closer b ≡ me) × HasSweep b p)
+      ⊎ ((r.memory.sessions b.slot ≡ shut b) × (r.machine.life b ≡ Over) × (r.owners.closer b ≡ r.owners.closer b) × (HasSweep b v → HasSweep b p)))
+      (λ e q. inl (ap r.owners.closer e ∙ closer_me, (l, (close_of a 0, inl refl, sym e))))
+      (λ ne q. inr (f, q, refl, (λ y. (y.0, (y.1.0, inr y.1.1, y.1.2))))))
       (slots_still z me v p r.memory r.owners r.memory r.owners same refl (λ s. refl) (λ s g f. f) refl)
       (same_handles v l r.machine a Over (λ k. sym (ap one_alive closes_now)))
       (shows_same z r.valid ws r.memory r.shows i) (world_end z r.memory r.machine r.world a closes_now nobody)
@@ -197,11 +217,32 @@ module _ (z : Shape) (me : ℕ) (v : View) (l : v.live ≡ true) (sh : v.shape �
             closing_on (limit_of z) r.history v.caller r.memory r.machine es r.memory ok me r.owners r.owners c (mine.closes c y.0) refl
             ((λ e. y.1 (sym e)), tt);
         once = once_dropped a v.closes mine.once;
+        sweeps = λ c. ⊎_elim
+            (λ (e : c ≡ close_of a 0). subst (IsSweeping z r.memory (moved_by r.machine es) r.owners me) (sym e) (record {
+              owner = closer_me;
+              life = at_here r.machine.life a Over;
+              session = r.world.sessions.closing_shown a closes_now;
+              wiped = λ w h b. absurd (omega arith);
+              reset = λ h. absurd (omega arith);
+            }))
+            (λ (j : In c v.sweeps).
+            let y = mine.sweeps c j in
+            sweeping_on (limit_of z) v.caller r.memory r.machine es r.memory ok z me r.owners r.owners c y refl (stays_ended r.memory c.arena y.session));
+        swept_once = (
+          (λ c j e.
+              let y : r.machine.life a ≡ Over = ap r.machine.life (sym e) ∙ (mine.sweeps c j).life in
+              let q : Closes ≡ Over = sym closes_now ∙ y in absurd (cc)),
+          mine.swept_once,
+        );
         hand = mine.hand;
+        took = mine.took;
       })
 
   visits : (b c : Bool) → (found == mark_of a) ≡ b → (k + 1 == v.shape.passes) ≡ c
-      → Made z ws vs me v i found (record v { closes = closes_after a (visit_by b c) v.closes }) (visit_entries a (visit_by b c) v.caller) fs
+      → Made z ws vs me v i found (record v {
+        closes = closes_after a (visit_by b c) v.closes;
+        sweeps = sweeps_after a (visit_by b c) v.sweeps;
+      }) (visit_entries a (visit_by b c) v.caller) fs
   visits true c e q = stays
   visits false true e q = ends (eqb_false found (mark_of a) e) (eqb_true (k + 1) v.shape.passes q ∙ ap (λ (x : Shape). x.passes) sh)
   visits false false e q = walks (eqb_false found (mark_of a) e)

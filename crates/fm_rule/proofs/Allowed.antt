@@ -1,5 +1,5 @@
 -- What a step needs is what the table asks, and what a step tells is that it stepped.
-use Rattle.std.proofs.Common.{◌≡◌, ℕ, List, [], ◌∷◌, ◌++◌, length, set, slice_index, All, Option, Some, None, inl, inr, sym, refl, ap, ◌∙◌, subst}
+use Rattle.std.proofs.Common.{◌≡◌, ℕ, ◌+◌, ◌/◌, ◌^◌, ◌==◌, List, [], ◌∷◌, ◌++◌, length, set, slice_index, All, Option, Some, None, inl, inr, sym, refl, ap, ◌∙◌, subst}
 use Rattle.std.proofs.lemmas.List.{append-nil}
 use Rattle.std.proofs.lemmas.List.Elements.{All-nil, All-cons}
 use Rattle.atomic_table.specs.Table.{State, Me, keeps, Allows}
@@ -8,16 +8,21 @@ use Rattle.fm_base.specs.declared.caller.Caller.{Caller}
 use Rattle.fm_base.specs.declared.arena_id.ArenaId.{ArenaId}
 use Rattle.fm_base.specs.Calls.{Entry}
 use Rattle.fm_base.specs.Histories.{made_by}
-use Rattle.fm_base.specs.Finds.{Find, Gathered}
+use Rattle.fm_base.specs.Finds.{Find, Gathered, Close}
 use Rattle.fm_pool_facts.specs.declared.step.Step.{Step}
-use Rattle.fm_pool_facts.specs.declared.step.Step.TheVariants.{Draws, Marks, Checks, Loads, Stores, SwapsIf, Adds, Allocates, Holds, Unholds, Backs, Unmarks, Shuts, Visits, TakesSlot, LearnsGeneration, Opens, Looks}
+use Rattle.fm_pool_facts.specs.declared.step.Step.TheVariants.{Draws, Marks, Checks, Loads, Stores, SwapsIf, Adds, Allocates, Holds, Unholds, Backs, Unmarks, Shuts, Visits, TakesSlot, LearnsGeneration, Opens, Wipes, ResetsGiven, Retires, GivesSlot, Looks}
 use Rattle.fm_pool_facts.specs.Views.{Met, View, In, IsSound, all_gathered, brought}
+use Rattle.fm_pool_facts.specs.Words.{alive_holds, inside_found, shut_found, hold_found}
+use Rattle.fm_pool_facts.specs.Hands.{Hand, nothing, learnt, takes, hand_taken, hand_retired}
+use Rattle.fm_pool_facts.specs.Holds.{grips, with_grips, holds_after, handles_with, released}
+use Rattle.fm_pool_facts.specs.Handles.{giving, given_back}
+use Rattle.fm_pool_facts.specs.Closes.{begun, visited, dropped, visit_found, closes_after, sweeps_after}
 use Rattle.fm_pool_facts.specs.Steps.{Stepped, part, number_drawn, draws}
 use Rattle.fm_pool_facts.specs.Facts.{Rule, cell_at}
 use Rattle.fm_pool_facts.specs.Moves.{Gives, Tells, MayStep, MayStore}
 use Rattle.fm_rule.specs.Views.{homed, Keeps}
 
-abbrev Keeping : Shape → State (Unit {0}) View → Type 0
+abbrev pub Keeping : Shape → State (Unit {0}) View → Type 0
 Keeping z s = Rule z s.words s.views
 
 -- a step that may be made is allowed
@@ -62,178 +67,42 @@ alike_draws : (o : Option ℕ) (x : ℕ) (v : View) → Alike v (draws o x v)
 alike_draws None x v = record { home = refl; shape = refl; live = refl; caller = refl; seen = refl; met = refl; finds = refl; gathered = refl }
 alike_draws (Some n) x v = record { home = refl; shape = refl; live = refl; caller = refl; seen = refl; met = refl; finds = refl; gathered = refl }
 
+-- a step may change these
+alike_but : (v : View) (i m : Option ArenaId) (cs ss : List Close) (hand : Hand) (hs gs : List ArenaId)
+    → Alike v (record v { inside = i; mark = m; closes = cs; sweeps = ss; hand = hand; holds = hs; handles = gs })
+alike_but v i m cs ss hand hs gs =
+    record { home = refl; shape = refl; live = refl; caller = refl; seen = refl; met = refl; finds = refl; gathered = refl }
+
 pub same_part : (s : Step) (v : View) (x : ℕ) → Alike v (part s v x)
 unfolding part
-same_part (Marks a) v x = record {
-  home = refl;
-  shape = refl;
-  live = refl;
-  caller = refl;
-  seen = refl;
-  met = refl;
-  finds = refl;
-  gathered = refl;
-}
-same_part (Checks a) v x = record {
-  home = refl;
-  shape = refl;
-  live = refl;
-  caller = refl;
-  seen = refl;
-  met = refl;
-  finds = refl;
-  gathered = refl;
-}
-same_part (Loads w) v x = record {
-  home = refl;
-  shape = refl;
-  live = refl;
-  caller = refl;
-  seen = refl;
-  met = refl;
-  finds = refl;
-  gathered = refl;
-}
-same_part (Stores w y) v x = record {
-  home = refl;
-  shape = refl;
-  live = refl;
-  caller = refl;
-  seen = refl;
-  met = refl;
-  finds = refl;
-  gathered = refl;
-}
-same_part (SwapsIf w o y) v x = record {
-  home = refl;
-  shape = refl;
-  live = refl;
-  caller = refl;
-  seen = refl;
-  met = refl;
-  finds = refl;
-  gathered = refl;
-}
-same_part (Adds w n) v x = record {
-  home = refl;
-  shape = refl;
-  live = refl;
-  caller = refl;
-  seen = refl;
-  met = refl;
-  finds = refl;
-  gathered = refl;
-}
-same_part (Allocates g n a) v x = record {
-  home = refl;
-  shape = refl;
-  live = refl;
-  caller = refl;
-  seen = refl;
-  met = refl;
-  finds = refl;
-  gathered = refl;
-}
-same_part (Holds a w) v x = record {
-  home = refl;
-  shape = refl;
-  live = refl;
-  caller = refl;
-  seen = refl;
-  met = refl;
-  finds = refl;
-  gathered = refl;
-}
-same_part (Unholds a) v x = record {
-  home = refl;
-  shape = refl;
-  live = refl;
-  caller = refl;
-  seen = refl;
-  met = refl;
-  finds = refl;
-  gathered = refl;
-}
-same_part (Backs a w) v x = record {
-  home = refl;
-  shape = refl;
-  live = refl;
-  caller = refl;
-  seen = refl;
-  met = refl;
-  finds = refl;
-  gathered = refl;
-}
-same_part Unmarks v x = record {
-  home = refl;
-  shape = refl;
-  live = refl;
-  caller = refl;
-  seen = refl;
-  met = refl;
-  finds = refl;
-  gathered = refl;
-}
-same_part (Shuts a) v x = record {
-  home = refl;
-  shape = refl;
-  live = refl;
-  caller = refl;
-  seen = refl;
-  met = refl;
-  finds = refl;
-  gathered = refl;
-}
-same_part (Visits a k) v x = record {
-  home = refl;
-  shape = refl;
-  live = refl;
-  caller = refl;
-  seen = refl;
-  met = refl;
-  finds = refl;
-  gathered = refl;
-}
-same_part (Opens a) v x = record {
-  home = refl;
-  shape = refl;
-  live = refl;
-  caller = refl;
-  seen = refl;
-  met = refl;
-  finds = refl;
-  gathered = refl;
-}
-same_part (TakesSlot e b) v x = record {
-  home = refl;
-  shape = refl;
-  live = refl;
-  caller = refl;
-  seen = refl;
-  met = refl;
-  finds = refl;
-  gathered = refl;
-}
-same_part (LearnsGeneration s) v x = record {
-  home = refl;
-  shape = refl;
-  live = refl;
-  caller = refl;
-  seen = refl;
-  met = refl;
-  finds = refl;
-  gathered = refl;
-}
-same_part Looks v x = record {
-  home = refl;
-  shape = refl;
-  live = refl;
-  caller = refl;
-  seen = refl;
-  met = refl;
-  finds = refl;
-  gathered = refl;
-}
+same_part (Marks a) v x = alike_but v v.inside (Some a) v.closes v.sweeps v.hand v.holds v.handles
+same_part (Checks a) v x = alike_but v (inside_found a (alive_holds a x)) v.mark v.closes v.sweeps v.hand v.holds v.handles
+same_part (Loads w) v x = alike_none v
+same_part (Stores w y) v x = alike_none v
+same_part (SwapsIf w o y) v x = alike_none v
+same_part (Adds w n) v x = alike_none v
+same_part (Allocates g n a) v x = alike_none v
+same_part (Holds a w) v x =
+    let u = with_grips a (holds_after (x == w) a (hold_found (alive_holds a w)) (grips a v)) v in
+    alike_but v v.inside v.mark v.closes v.sweeps v.hand u.holds u.handles
+same_part (Unholds a) v x = alike_but v v.inside v.mark v.closes v.sweeps v.hand (released a v.holds) v.handles
+same_part (Backs a w) v x =
+    let u = given_back a (giving (x == w) (alive_holds a w)) v in alike_but v v.inside v.mark u.closes v.sweeps v.hand v.holds u.handles
+same_part Unmarks v x = alike_but v None None v.closes v.sweeps v.hand v.holds v.handles
+same_part (Shuts a) v x = alike_but v v.inside v.mark (begun a (shut_found (alive_holds a x)) v.closes) v.sweeps v.hand v.holds v.handles
+same_part (Visits a k) v x =
+    let f = visit_found v.shape a k x in
+    alike_but v v.inside v.mark (closes_after a f v.closes) (sweeps_after a f v.sweeps) v.hand v.holds v.handles
+same_part (Opens a) v x = alike_but v v.inside v.mark v.closes v.sweeps nothing v.holds (handles_with a v.handles)
+same_part (TakesSlot e b) v x = alike_but v v.inside v.mark v.closes v.sweeps (hand_taken (takes e b x) b v.hand) v.holds v.handles
+same_part (LearnsGeneration s) v x = alike_but v v.inside v.mark v.closes v.sweeps (learnt s (x / 2 ^ 32)) v.holds v.handles
+same_part (Wipes a w) v x = alike_but v v.inside v.mark v.closes (visited a v.sweeps) v.hand v.holds v.handles
+same_part (ResetsGiven a) v x = alike_but v v.inside v.mark v.closes (visited a v.sweeps) v.hand v.holds v.handles
+same_part (Retires a) v x =
+    let h = hand_retired (a.generation + 1 == v.shape.generations) a.slot v.hand in
+    alike_but v v.inside v.mark v.closes (dropped a v.sweeps) h v.holds v.handles
+same_part (GivesSlot s) v x = alike_but v v.inside v.mark v.closes v.sweeps nothing v.holds v.handles
+same_part Looks v x = alike_none v
 same_part (Draws e) v x = alike_draws (number_drawn v.shape e x) x v
 
 pub all_of_in : {A : Type 0} (P : A → Type 0) (xs : List A) → ((x : A) → In x xs → P x) → All P xs
@@ -252,6 +121,9 @@ sound_homed home v s = record {
   outside = s.outside;
   fits = s.fits;
   hand = s.hand;
+  swept = λ c i. let o = s.swept c i in record { known = o.known; life = o.life; empty = o.empty };
+  own_words = s.own_words;
+  none_left = s.none_left;
   drawn = λ n e.
       let y = s.drawn n e in record { later = y.later; number = y.number; other = y.other; silent = y.silent; outside = y.outside };
   few = s.few;

@@ -33,6 +33,9 @@ left_sound v s = record {
   outside = s.outside;
   fits = s.fits;
   hand = s.hand;
+  swept = λ c i. let o = s.swept c i in record { known = o.known; life = o.life; empty = o.empty };
+  own_words = s.own_words;
+  none_left = s.none_left;
   drawn = λ n e. absurd (cc);
   few = s.few;
   knows = s.knows;
@@ -60,6 +63,9 @@ right_sound v n e s =
       inside = λ a q. absurd (cc);
       outside = λ a w. absurd (y.outside a (subst (λ (k : ℕ). IsUnderWay (state_in v) (pass_of k) a) is w));
       fits = s.fits;
+      swept = λ c i. absurd i;
+      own_words = s.own_words;
+      none_left = λ w. absurd (cc);
       hand = λ x i. absurd i;
       drawn = λ k q. absurd (cc);
       few = (let q : 0 < p = omega arith in q);
@@ -138,6 +144,7 @@ at_rest now v home is l m can = record {
   drawn = ap (λ (x : View). x.drawn) is ∙ can.no_number;
   hand = ap (λ (x : View). x.hand) is ∙ can.no_slot;
   closes = ap (λ (x : View). x.closes) is ∙ can.no_close;
+  sweeps = ap (λ (x : View). x.sweeps) is ∙ can.no_sweep;
   holds = ap (λ (x : View). x.holds) is ∙ can.no_hold;
   handles = ap (λ (x : View). x.handles) is ∙ can.no_handle;
   met = m;

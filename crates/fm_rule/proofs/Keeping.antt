@@ -5,7 +5,7 @@ use Rattle.fm_words.specs.Shapes.{IsValid}
 use Rattle.fm_base.specs.Arenas.{only_caller}
 use Rattle.fm_base.specs.declared.caller.Caller.{Caller}
 use Rattle.fm_base.specs.declared.arena_id.ArenaId.{ArenaId}
-use Rattle.fm_pool_facts.specs.declared.step.Step.TheVariants.{Draws, Marks, Checks, Loads, Stores, SwapsIf, Adds, Allocates, Holds, Unholds, Backs, Unmarks, Shuts, Visits, TakesSlot, LearnsGeneration, Opens}
+use Rattle.fm_pool_facts.specs.declared.step.Step.TheVariants.{Draws, Marks, Checks, Loads, Stores, SwapsIf, Adds, Allocates, Holds, Unholds, Backs, Unmarks, Shuts, Visits, TakesSlot, LearnsGeneration, Opens, Wipes, ResetsGiven, Retires, GivesSlot}
 use Rattle.fm_pool_facts.specs.Views.{View}
 use Rattle.fm_pool_facts.specs.Splits.{first_view}
 use Rattle.fm_pool_facts.specs.Words.{alive_holds, inside_found}
@@ -157,6 +157,31 @@ module _ (c : Caller) (i : Option ArenaId) (from count : ℕ) (v w : View) (held
   open_keeps a x t =
       keeps_on c i from count v (part (Opens a) v x) w (entries (Opens a) v x) (noted (Opens a) v x) held held' k
       (same_part (Opens a) v x) refl t.gives e
+
+  -- steps of a sweep
+  pub wipe_keeps : (a : ArenaId) (b x : ℕ) → Tells (Wipes a b) v x w → Keeps c i from count (w, held')
+  unfolding part entries noted
+  wipe_keeps a b x t =
+      keeps_on c i from count v (part (Wipes a b) v x) w (entries (Wipes a b) v x) (noted (Wipes a b) v x) held held' k
+      (same_part (Wipes a b) v x) refl t.gives e
+
+  pub reset_keeps : (a : ArenaId) (x : ℕ) → Tells (ResetsGiven a) v x w → Keeps c i from count (w, held')
+  unfolding part entries noted
+  reset_keeps a x t =
+      keeps_on c i from count v (part (ResetsGiven a) v x) w (entries (ResetsGiven a) v x) (noted (ResetsGiven a) v x) held held' k
+      (same_part (ResetsGiven a) v x) refl t.gives e
+
+  pub retire_keeps : (a : ArenaId) (x : ℕ) → Tells (Retires a) v x w → Keeps c i from count (w, held')
+  unfolding part entries noted
+  retire_keeps a x t =
+      keeps_on c i from count v (part (Retires a) v x) w (entries (Retires a) v x) (noted (Retires a) v x) held held' k
+      (same_part (Retires a) v x) refl t.gives e
+
+  pub give_keeps : (b x : ℕ) → Tells (GivesSlot b) v x w → Keeps c i from count (w, held')
+  unfolding part entries noted
+  give_keeps b x t =
+      keeps_on c i from count v (part (GivesSlot b) v x) w (entries (GivesSlot b) v x) (noted (GivesSlot b) v x) held held' k
+      (same_part (GivesSlot b) v x) refl t.gives e
 
 -- a new pool's first pass
 pub first_keeps : (z : Shape) → IsValid z → Keeps only_caller None 0 0 (first_view z, [])

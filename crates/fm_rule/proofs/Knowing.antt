@@ -1,5 +1,5 @@
 -- What a pass of a pool knows at the call of a step, and which steps it may make.
-use Rattle.std.proofs.Common.{◌≡◌, ◌≢◌, ℕ, ◌+◌, ◌-◌, ◌*◌, ◌%◌, ◌^◌, ◌<◌, ◌≤◌, ◌==◌, true, List, [], Some, None, sym, ap, ◌∙◌, subst, arith}
+use Rattle.std.proofs.Common.{◌≡◌, ◌≢◌, ℕ, ◌+◌, ◌-◌, ◌*◌, ◌%◌, ◌^◌, ◌<◌, ◌≤◌, ◌==◌, bit_or, true, List, [], Some, None, sym, ap, ◌∙◌, subst, arith}
 use prog.Atomic.{either}
 use Rattle.fm_words.specs.declared.shape.Shape.{Shape}
 use Rattle.fm_words.specs.Shapes.{IsValid}
@@ -12,10 +12,10 @@ use Rattle.fm_base.specs.Machine.{IsPower}
 use Rattle.fm_base.specs.Arenas.{MayUse, owner_of}
 use Rattle.fm_base.proofs.Wholeness.{given_within}
 use Rattle.fm_words.specs.Bits.{IsWithout}
-use Rattle.fm_pool_facts.specs.Hands.{Hand, nothing, taken, learnt, HasSlot}
-use Rattle.fm_pool_facts.specs.declared.step.Step.TheVariants.{Draws, Marks, Checks, Loads, Stores, SwapsIf, Adds, Allocates, Holds, Unholds, Backs, Unmarks, Shuts, Visits, TakesSlot, LearnsGeneration, Opens, Looks}
+use Rattle.fm_pool_facts.specs.Hands.{Hand, nothing, taken, learnt, retired, HasSlot}
+use Rattle.fm_pool_facts.specs.declared.step.Step.TheVariants.{Draws, Marks, Checks, Loads, Stores, SwapsIf, Adds, Allocates, Holds, Unholds, Backs, Unmarks, Shuts, Visits, TakesSlot, LearnsGeneration, Opens, Wipes, ResetsGiven, Retires, GivesSlot, Looks}
 use Rattle.fm_pool_facts.specs.Views.{View, Fits, In, IsKnown, IsSound, span, given_of, limit_of}
-use Rattle.fm_pool_facts.specs.Words.{alive_word, closing_word, held_word, mark_of}
+use Rattle.fm_pool_facts.specs.Words.{alive_word, closing_word, free_word, held_word, mark_of}
 use Rattle.fm_pool_facts.specs.Handles.{back_word}
 use Rattle.fm_pool_facts.specs.Closes.{visited_of}
 use Rattle.fm_pool_facts.specs.Steps.{draw_next, CanReach, given_next}
@@ -31,6 +31,10 @@ use Rattle.fm_pool_steps.proofs.Shutting.{shut_steps}
 use Rattle.fm_pool_steps.proofs.Visiting.{visit_steps}
 use Rattle.fm_pool_steps.proofs.Taking.{take_steps, generation_steps}
 use Rattle.fm_pool_steps.proofs.Opening.{open_steps}
+use Rattle.fm_pool_steps.proofs.Closes.{visited_of-found}
+use Rattle.fm_pool_steps.proofs.Sweeping.{wipe_steps, reset_steps}
+use Rattle.fm_pool_steps.proofs.Retiring.{retire_steps}
+use Rattle.fm_pool_steps.proofs.Giving.{give_steps}
 use Rattle.fm_rule.specs.Views.{homed}
 
 -- ---- places
@@ -122,6 +126,13 @@ module _ (now v : View) (home : List ℕ) (z : Shape) (is : homed home v ≡ now
         let k : IsKnown v a = Rattle.fm_base.proofs.Placing.there_by_way _ _ _ (sound.inside a i) in
         let f : Fits z a = subst (λ (x : Shape). Fits x a) shape_is (sound.fits a k) in
         (f.slot, cell_below z a.slot w valid f.slot h)
+
+    -- an arena that it sweeps fits the pool
+    pub swept_fits : (a : ArenaId) (k : ℕ) → visited_of now.sweeps a ≡ Some k → Fits z a
+    swept_fits a k at =
+        let f = visited_of-found v.sweeps a k (ap (λ (x : View). visited_of x.sweeps a) is ∙ at) in
+        subst (λ (b : ArenaId). Fits z b) f.arena
+        (subst (λ (x : Shape). Fits x f.close.arena) shape_is (sound.fits f.close.arena (sound.swept f.close f.there).known))
 
     -- the arena that it is inside has a slot
     pub inside_slot : (a : ArenaId) → now.inside ≡ Some a → a.slot < z.slots
@@ -221,6 +232,19 @@ module _ (z : Shape) (id : ℕ) (v : View) (l : v.live ≡ true) (i : ℕ) where
   pub may_open : (a : ArenaId) (y : ℕ) → v.hand ≡ learnt a.slot a.generation → owner_of a ≡ v.caller → i ≡ at z (session a.slot) → y ≡ alive_word a 0
       → MayStore z (Opens a) id v i y
   may_open a y h o p q = subst (λ (x : ℕ × ℕ). MayStore z (Opens a) id v x.0 x.1) (λ j. (sym p j, sym q j)) (open_steps z id v a l h o)
+
+  pub may_wipe : (a : ArenaId) (w : ℕ) → visited_of v.sweeps a ≡ Some w → w < span z → i ≡ cell_at z a.slot w → MayStore z (Wipes a w) id v i 0
+  may_wipe a w s h p = subst (λ (x : ℕ). MayStore z (Wipes a w) id v x 0) (sym p) (wipe_steps z id v a w l s h)
+
+  pub may_reset : (a : ArenaId) → visited_of v.sweeps a ≡ Some (span z) → i ≡ at z (given a.slot) → MayStore z (ResetsGiven a) id v i 0
+  may_reset a s p = subst (λ (x : ℕ). MayStore z (ResetsGiven a) id v x 0) (sym p) (reset_steps z id v a l s)
+
+  pub may_retire : (a : ArenaId) (y : ℕ) → v.shape ≡ z → v.hand ≡ nothing → visited_of v.sweeps a ≡ Some (span z + 1) → i ≡ at z (session a.slot)
+      → y ≡ free_word z.generations (a.generation + 1) → MayStore z (Retires a) id v i y
+  may_retire a y e h s p q = subst (λ (x : ℕ × ℕ). MayStore z (Retires a) id v x.0 x.1) (λ j. (sym p j, sym q j)) (retire_steps z id v a l e h s)
+
+  pub may_give : (s n : ℕ) → v.hand ≡ retired s → i ≡ at z slot_bits → n ≡ 2 ^ s → MayStep z (GivesSlot s) id v i (λ w. bit_or w n)
+  may_give s n h p q = subst (λ (x : ℕ × ℕ). MayStep z (GivesSlot s) id v x.0 (λ w. bit_or w x.1)) (λ j. (sym p j, sym q j)) (give_steps z id v s l h)
 
   pub may_look : MayStep z Looks id v i (λ n. n)
   may_look = look_steps z id v l i

@@ -5,3 +5,5 @@ pub mod Keeping
 pub mod Noting
 pub mod Asking
 pub mod Halves
+pub mod Resting
+pub mod GivenBytes

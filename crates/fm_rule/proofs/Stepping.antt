@@ -1,16 +1,16 @@
 -- What each step tells is that the pass stepped.
-use Rattle.std.proofs.Common.{◌≡◌, ◌≢◌, ℕ, ◌/◌, ◌^◌, ◌==◌, List, [], ◌∷◌, Option, Some, None, refl, sym, subst}
+use Rattle.std.proofs.Common.{◌≡◌, ◌≢◌, ℕ, ◌+◌, ◌/◌, ◌^◌, ◌==◌, List, [], ◌∷◌, Option, Some, None, refl, sym, subst}
 use Rattle.fm_base.specs.declared.arena_id.ArenaId.{ArenaId}
-use Rattle.fm_base.specs.Calls.{Enter, Read, Write, SwapIf, Add, Allocate, Leave, Hold, Unhold, Shut, Fine, Found, Entry, entry_of}
+use Rattle.fm_base.specs.Calls.{Enter, Read, Write, SwapIf, Add, Allocate, Leave, Hold, Unhold, Shut, Back, Fine, Found, Entry, entry_of}
 use Rattle.fm_base.specs.Machine.{allocate_reply}
 use Rattle.fm_base.specs.Finds.{Find, Visits as Visiting, TakesSlot as Taking}
-use Rattle.fm_pool_facts.specs.declared.step.Step.TheVariants.{Draws, Marks, Checks, Loads, Stores, SwapsIf, Adds, Allocates, Holds, Unholds, Backs, Unmarks, Shuts, Visits, TakesSlot, LearnsGeneration, Opens}
+use Rattle.fm_pool_facts.specs.declared.step.Step.TheVariants.{Draws, Marks, Checks, Loads, Stores, SwapsIf, Adds, Allocates, Holds, Unholds, Backs, Unmarks, Shuts, Visits, TakesSlot, LearnsGeneration, Opens, Wipes, ResetsGiven, Retires, GivesSlot}
 use Rattle.fm_pool_facts.specs.Views.{View, In, limit_of, pass_of}
 use Rattle.fm_pool_facts.specs.Words.{alive_holds, enter_found, inside_found, hold_found, shut_found}
-use Rattle.fm_pool_facts.specs.Hands.{nothing, learnt, takes, hand_taken}
+use Rattle.fm_pool_facts.specs.Hands.{nothing, learnt, takes, hand_taken, hand_retired}
 use Rattle.fm_pool_facts.specs.Holds.{grips, with_grips, holds_after, handles_with, released}
 use Rattle.fm_pool_facts.specs.Handles.{giving, given_back, giving_entries}
-use Rattle.fm_pool_facts.specs.Closes.{begun, visit_found, closes_after, visit_entries}
+use Rattle.fm_pool_facts.specs.Closes.{begun, visited, dropped, visit_found, closes_after, sweeps_after, visit_entries}
 use Rattle.fm_pool_facts.specs.Steps.{Stepped, number_drawn, draws, note_draw, part, entries, noted, acted, none_noted, where_found, note_of, open_entries}
 use Rattle.fm_pool_facts.specs.Moves.{LearnsCount, LearnsSlots, Tells}
 use Rattle.fm_rule.specs.Views.{homed}
@@ -32,10 +32,7 @@ count_learnt now v home x is l = subst (λ (y : View). LearnsCount y x) is (reco
 
 -- and what slot bits tell
 pub slots_learnt : (now v : View) (home : List ℕ) (x : ℕ) → homed home v ≡ now → LearnsSlots v x → LearnsSlots now x
-slots_learnt now v home x is l = subst (λ (y : View). LearnsSlots y x) is (record {
-  unspent = λ w s h b p. l.unspent w s h b (record { arena = p.arena; in_slot = p.in_slot; known = p.known });
-  spent = λ w n s h b. let p = l.spent w n s h b in record { arena = p.arena; in_slot = p.in_slot; known = p.known };
-})
+slots_learnt now v home x is l = subst (λ (y : View). LearnsSlots y x) is (record { idle = l.idle; busy = l.busy })
 
 -- an arena that it holds is alive, in every pool
 pub hold_learnt : (now v : View) (home : List ℕ) (a : ArenaId) (x : ℕ) → homed home v ≡ now → (In a (grips a v) → alive_holds a x ≢ None)
@@ -145,11 +142,17 @@ module _ (now v w : View) (home home' : List ℕ) (is : homed home v ≡ now) (s
       (stepped home v (part (Shuts a) v x) w (entries (Shuts a) v x) none_noted (same_part (Shuts a) v x) met t.gives)
 
   pub visit_stepped : (a : ArenaId) (k x : ℕ) → Tells (Visits a k) v x w
-      → Stepped now (homed home' w) (record now { closes = closes_after a (visit_found now.shape a k x) now.closes })
+      → Stepped now (homed home' w) (record now {
+        closes = closes_after a (visit_found now.shape a k x) now.closes;
+        sweeps = sweeps_after a (visit_found now.shape a k x) now.sweeps;
+      })
       (visit_entries a (visit_found now.shape a k x) now.caller) (note_of (Visiting a (pass_of k)) x now)
   unfolding part entries noted
   visit_stepped a k x t =
-      stepped_as (λ (y : View). record y { closes = closes_after a (visit_found y.shape a k x) y.closes })
+      stepped_as (λ (y : View). record y {
+        closes = closes_after a (visit_found y.shape a k x) y.closes;
+        sweeps = sweeps_after a (visit_found y.shape a k x) y.sweeps;
+      })
       (λ (y : View). visit_entries a (visit_found y.shape a k x) y.caller) (λ (y : View). note_of (Visiting a (pass_of k)) x y)
       (stepped home v (part (Visits a k) v x) w (entries (Visits a k) v x) (noted (Visits a k) v x) (same_part (Visits a k) v x) met t.gives)
 
@@ -172,3 +175,32 @@ module _ (now v w : View) (home home' : List ℕ) (is : homed home v ≡ now) (s
       stepped_as (λ (y : View). record y { hand = nothing; handles = handles_with a y.handles })
       (λ (y : View). open_entries a y.caller) (λ y. none_noted)
       (stepped home v (part (Opens a) v x) w (entries (Opens a) v x) none_noted (same_part (Opens a) v x) met t.gives)
+
+  pub wipe_stepped : (a : ArenaId) (c x : ℕ) → Tells (Wipes a c) v x w
+      → Stepped now (homed home' w) (record now { sweeps = visited a now.sweeps }) [] none_noted
+  unfolding part entries noted
+  wipe_stepped a c x t = stepped_as (λ (y : View). record y { sweeps = visited a y.sweeps }) (λ y. []) (λ y. none_noted)
+      (stepped home v (part (Wipes a c) v x) w [] none_noted (same_part (Wipes a c) v x) met t.gives)
+
+  pub reset_stepped : (a : ArenaId) (x : ℕ) → Tells (ResetsGiven a) v x w
+      → Stepped now (homed home' w) (record now { sweeps = visited a now.sweeps }) [] none_noted
+  unfolding part entries noted
+  reset_stepped a x t = stepped_as (λ (y : View). record y { sweeps = visited a y.sweeps }) (λ y. []) (λ y. none_noted)
+      (stepped home v (part (ResetsGiven a) v x) w [] none_noted (same_part (ResetsGiven a) v x) met t.gives)
+
+  pub retire_stepped : (a : ArenaId) (x : ℕ) → Tells (Retires a) v x w
+      → Stepped now (homed home' w) (record now {
+        sweeps = dropped a now.sweeps;
+        hand = hand_retired (a.generation + 1 == now.shape.generations) a.slot now.hand;
+      }) (entry_of now.caller (Back a.slot) Fine ∷ []) none_noted
+  unfolding part entries noted
+  retire_stepped a x t =
+      stepped_as
+      (λ (y : View). record y { sweeps = dropped a y.sweeps; hand = hand_retired (a.generation + 1 == y.shape.generations) a.slot y.hand })
+      (λ (y : View). entry_of y.caller (Back a.slot) Fine ∷ []) (λ y. none_noted)
+      (stepped home v (part (Retires a) v x) w (entries (Retires a) v x) none_noted (same_part (Retires a) v x) met t.gives)
+
+  pub give_stepped : (s x : ℕ) → Tells (GivesSlot s) v x w → Stepped now (homed home' w) (record now { hand = nothing }) [] none_noted
+  unfolding part entries noted
+  give_stepped s x t = stepped_as (λ (y : View). record y { hand = nothing }) (λ y. []) (λ y. none_noted)
+      (stepped home v (part (GivesSlot s) v x) w [] none_noted (same_part (GivesSlot s) v x) met t.gives)

@@ -101,6 +101,7 @@ pub record CanGather (pool : Pool) (p : View) : Type 0 where
   pub no_handle : p.handles ≡ []
   pub no_page : p.pages ≡ []
   pub no_close : p.closes ≡ []
+  pub no_sweep : p.sweeps ≡ []
 
 -- of `gather`
 pub record Gathers (old other new : View) : Type 0 where

@@ -1,3 +1,5 @@
 pub mod Views
 pub mod Passes
 pub mod Draws
+pub mod Finishing
+pub mod GivenBytes

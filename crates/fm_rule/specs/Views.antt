@@ -1,5 +1,5 @@
 -- Views of the passes and notes of a pool, and what a pass keeps beside its seat.
-use Rattle.std.specs.Prelude.{◌≡◌, ℕ, true, List, [], ◌∷◌, length, Option, Some}
+use Rattle.std.specs.Prelude.{◌≡◌, ℕ, Bool, true, false, List, [], ◌∷◌, length, Option, Some, None}
 use Rattle.atomic_table.specs.Seated.{TableId}
 use Rattle.atomic_table.specs.Table.{Me}
 use Rattle.fm_words.specs.declared.shape.Shape.{Shape}
@@ -24,6 +24,11 @@ first_pass home z = homed home (first_view z)
 pub record NoteView : Type 0 where
   pub home : List ℕ
   pub seen : List Entry
+
+-- the arena, where the pass is inside it
+abbrev pub inside_of : Bool → ArenaId → Option ArenaId
+inside_of true a = Some a
+inside_of false a = None
 
 -- what a pass keeps beside its seat: its caller, the arena that it is inside, where that arena's words begin, and how many callers are gathered into it
 pub record Keeps (c : Caller) (i : Option ArenaId) (from count : ℕ) (me : Me (Unit {0}) View) : Type 0 where

@@ -10,7 +10,7 @@ ghost use Rattle.fm_rule.specs.Passes.{IsOf};
 ghost use Rattle.fm_rule.specs.Draws.{Takes, Drawn, NoneDrawn};
 
 use crate::acts::exchange_as;
-use crate::pass::Pass;
+use crate::pass::{NO_ARENA, Pass};
 use crate::pool::Pool;
 use crate::seen::Seen;
 use atomic_table::Split;
@@ -112,7 +112,8 @@ impl Pool {
         Pass {
             seat,
             caller: Caller { number, term: 0 },
-            inside: None,
+            is_inside: false,
+            current: NO_ARENA,
             cells_from: 0,
             gathered: 0,
         }

@@ -10,19 +10,23 @@
 
 mod acts;
 mod drawing;
+mod finishing;
 mod fitting;
 mod gathering;
+mod given_bytes;
 mod holding;
 mod notes;
 mod pass;
 mod pool;
 mod seen;
 mod steps;
+mod sweeping;
 mod taking;
 mod updates;
 mod words;
 
 pub use drawing::step_draw;
+pub use finishing::Finished;
 pub use fitting::room;
 pub use holding::{step_back, step_hold, step_unhold};
 pub use notes::Note;
@@ -31,6 +35,7 @@ pub use pool::Pool;
 pub use steps::{
     step_check, step_load, step_mark, step_open, step_shut, step_store, step_unmark, step_visit,
 };
+pub use sweeping::{step_give_slot, step_reset_given, step_retire, step_wipe};
 pub use taking::{step_generation, step_take_slot};
 pub use updates::{guess_given, step_add, step_allocate, step_swap_if};
 pub use words::{MOST_HOLDS, alive_holds, mark_of};

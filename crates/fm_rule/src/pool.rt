@@ -3,12 +3,12 @@ ghost use Rattle.fm_words.specs.Shapes.{IsValid};
 ghost use Rattle.fm_words.specs.Places.{words};
 ghost use Rattle.fm_base.specs.declared.refusal.Refusal.TheVariants.{Memory};
 ghost use Rattle.fm_pool_facts.specs.declared.step.Step.TheVariants.{Looks};
-ghost use Rattle.fm_pool_facts.specs.Views.{IsSound, limit_of};
+ghost use Rattle.fm_pool_facts.specs.Views.{IsSound, limit_of, span};
 ghost use Rattle.fm_pool_facts.specs.Moves.{Tells};
 ghost use Rattle.fm_pool_facts.specs.Facts.{cell_at};
 ghost use Rattle.fm_rule.specs.Views.{first_pass, numbers_of};
 
-use crate::pass::Pass;
+use crate::pass::{NO_ARENA, Pass};
 use crate::seen::Seen;
 use atomic_table::{Play, Table, TableRule};
 use fm_base::{Caller, Refusal};
@@ -57,6 +57,7 @@ pub struct Pool {
     pub(crate) shape: Shape,
     ghost shape_is: { shape ≡ table.shared.key },
     ghost sized: { table.shared.table_id.words ≡ words shape },
+    ghost slotless: { table.shared.table_id.slots ≡ 0 },
     ghost valid: { IsValid shape },
 }
 
@@ -78,7 +79,8 @@ impl Pool {
         let pass = Pass {
             seat,
             caller: Caller { number: 0, term: 0 },
-            inside: None,
+            is_inside: false,
+            current: NO_ARENA,
             cells_from: 0,
             gathered: 0,
         };
@@ -93,14 +95,22 @@ impl Pool {
         self.shape
     }
 
+    /// How many words an arena has.
+    pub fn span(&self) -> u64
+        ensures { result ≡ span self.now.shape }
+    {
+        u64::from(self.shape.reach) * u64::from(self.shape.page_words)
+    }
+
     /// How many bytes an arena can give.
     pub fn limit(&self) -> u64
         ensures { result ≡ limit_of self.now.shape }
     {
-        u64::from(self.shape.reach) * u64::from(self.shape.page_words) * 8
+        self.span() * 8
     }
 
     /// Where the words of a slot begin.
+    #[inline(always)]
     pub(crate) fn cells_from(&self, slot: u32) -> u64
         requires { slot < self.now.shape.slots }
         ensures { result ≡ cell_at self.now.shape slot 0 }

@@ -7,7 +7,7 @@ ghost use Rattle.fm_base.specs.Finds.{Visits as Visiting};
 ghost use Rattle.fm_pool_facts.specs.Views.{IsKnown, pass_of};
 ghost use Rattle.fm_pool_facts.specs.Words.{alive_holds, enter_found, inside_found, own_word, shut_found};
 ghost use Rattle.fm_pool_facts.specs.Holds.{handles_with};
-ghost use Rattle.fm_pool_facts.specs.Closes.{begun, visited_of, visit_found, closes_after, visit_entries};
+ghost use Rattle.fm_pool_facts.specs.Closes.{begun, visited_of, visit_found, closes_after, sweeps_after, visit_entries};
 ghost use Rattle.fm_pool_facts.specs.Steps.{Stepped, CanReach, none_noted, note_of, acted, open_entries};
 ghost use Rattle.fm_pool_facts.specs.Hands.{nothing, learnt};
 ghost use Rattle.fm_rule.specs.Passes.{IsOf};
@@ -15,12 +15,13 @@ ghost use Rattle.fm_rule.specs.Passes.{IsOf};
 use crate::acts::{exchange_as, load_as, store_as};
 use crate::pass::Pass;
 use crate::pool::Pool;
-use crate::words::{alive_word, closing_word, inside_found, mark_of};
+use crate::words::{alive_word, closing_word, is_alive, mark_of};
 use fm_base::{ArenaId, Kind};
 use fm_pool_facts::{Slot, Step};
 use std::marker::Brand;
 
 /// Publishes that the pass is about to use the arena: a closer that looks from now on finds it.
+#[inline(always)]
 pub fn step_mark(pool: &Pool, pass: &mut Pass, a: ArenaId)
     requires of { IsOf pool.now pass.old }
     requires outside { pass.old.inside ≡ None }
@@ -34,6 +35,7 @@ pub fn step_mark(pool: &Pool, pass: &mut Pass, a: ArenaId)
 /// Answers the arena's session word. Where it shows the arena alive, the pass is inside from this step on.
 ///
 /// The mark stands before this step: a closer that shuts the arena after it finds the mark.
+#[inline(always)]
 pub fn step_check(pool: &Pool, pass: &mut Pass, a: ArenaId) -> u64
     requires of { IsOf pool.now pass.old }
     requires outside { pass.old.inside ≡ None }
@@ -47,12 +49,14 @@ pub fn step_check(pool: &Pool, pass: &mut Pass, a: ArenaId) -> u64
     let seat = &mut pass.seat;
     let place = pool.shape.session_place(a.slot);
     let word = load_as::<Brand>(pool, seat, place, Step::Checks(a));
-    pass.inside = inside_found(a, word);
+    pass.is_inside = is_alive(a, word);
+    pass.current = a;
     pass.cells_from = pool.cells_from(a.slot);
     word
 }
 
 /// The word of this index of the arena that the pass is inside.
+#[inline(always)]
 pub fn step_load(pool: &Pool, pass: &mut Pass, word: u64) -> u64
     requires of { IsOf pool.now pass.old }
     requires act { CanReach pass.old word }
@@ -64,6 +68,7 @@ pub fn step_load(pool: &Pool, pass: &mut Pass, word: u64) -> u64
 }
 
 /// Puts `v` into the word of this index of the arena that the pass is inside.
+#[inline(always)]
 pub fn step_store(pool: &Pool, pass: &mut Pass, word: u64, v: u64)
     requires of { IsOf pool.now pass.old }
     requires act { CanReach pass.old word }
@@ -75,6 +80,7 @@ pub fn step_store(pool: &Pool, pass: &mut Pass, word: u64, v: u64)
 }
 
 /// Publishes nothing any more. A pass that was inside is outside from this step on.
+#[inline(always)]
 pub fn step_unmark(pool: &Pool, pass: &mut Pass)
     requires of { IsOf pool.now pass.old }
     ensures { Stepped pass.old pass.new (record pass.old { inside = None; mark = None })
@@ -82,7 +88,7 @@ pub fn step_unmark(pool: &Pool, pass: &mut Pass)
 {
     let place = pool.shape.mark_place(pass.caller.number);
     store_as::<Brand>(pool, &mut pass.seat, place, 0, Step::Unmarks);
-    pass.inside = None;
+    pass.is_inside = false;
 }
 
 /// Answers the arena's session word. Where it shows the arena alive with no holds, the arena is Closing from this step
@@ -103,14 +109,17 @@ pub fn step_shut(pool: &Pool, pass: &mut Pass, a: ArenaId) -> u64
 }
 
 /// Answers the mark of number `k`, the next that the close of the arena visits. Where it doesn't name the arena, the
-/// close has visited it; where it was the last one, nobody is under way, and the arena ends at this step.
+/// close has visited it; where it was the last one, nobody is under way, and the arena ends at this step: its sweep is begun.
 pub fn step_visit(pool: &Pool, pass: &mut Pass, a: ArenaId, k: u32) -> u64
     requires of { IsOf pool.now pass.old }
     requires close { visited_of pass.old.closes a ≡ Some k }
     requires low { k < pass.old.shape.passes }
     ensures own { k ≡ pass.old.caller.number → result ≡ own_word pass.old.mark }
     ensures stepped { Stepped pass.old pass.new
-        (record pass.old { closes = closes_after a (visit_found pass.old.shape a k result) pass.old.closes })
+        (record pass.old {
+          closes = closes_after a (visit_found pass.old.shape a k result) pass.old.closes;
+          sweeps = sweeps_after a (visit_found pass.old.shape a k result) pass.old.sweeps;
+        })
         (visit_entries a (visit_found pass.old.shape a k result) pass.old.caller)
         (note_of (Visiting a (pass_of k)) result pass.old) }
 {

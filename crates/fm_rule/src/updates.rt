@@ -69,7 +69,7 @@ pub fn step_allocate(
 pub fn guess_given(pool: &Pool, pass: &Pass) -> u64
     requires { IsOf pool.now pass.now }
 {
-    match pass.inside {
+    match pass.inside() {
         Some(a) => pool.peek(pool.shape.given_place(a.slot)),
         None => 0,
     }

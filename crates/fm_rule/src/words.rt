@@ -1,15 +1,17 @@
-ghost use Rattle.std.specs.Prelude.{◌≡◌, ◌<◌};
+ghost use Rattle.std.specs.Prelude.{◌≡◌, ◌<◌, ◌+◌, ◌^◌};
 ghost use Rattle.fm_pool_facts.specs.Words as words;
 ghost use Rattle.fm_pool_facts.specs.Handles as handles;
+ghost use Rattle.fm_rule.specs.Views.{inside_of};
 
 use fm_base::ArenaId;
-use fm_words::{ALIVE, CLOSING, Session, mark_word, session_word};
+use fm_words::{ALIVE, CLOSING, FREE, Session, mark_word, session_word};
 
 const HOLDS: u64 = 0xffff;
 /// How often an arena can be held at a time.
 pub const MOST_HOLDS: u64 = 65535;
 
 /// The number of holds, where a session word shows the arena alive.
+#[inline(always)]
 pub fn alive_holds(a: ArenaId, word: u64) -> Option<u64>
     requires { a.owner < 4096 }
     ensures { result ≡ words.alive_holds a word }
@@ -23,6 +25,7 @@ pub fn alive_holds(a: ArenaId, word: u64) -> Option<u64>
 }
 
 /// The mark of an arena.
+#[inline(always)]
 pub fn mark_of(a: ArenaId) -> u64
     requires { a.slot < 64 }
     ensures { result ≡ words.mark_of a }
@@ -30,17 +33,19 @@ pub fn mark_of(a: ArenaId) -> u64
     mark_word(a.slot, a.generation)
 }
 
-/// The arena, where its session word shows it alive.
-pub(crate) fn inside_found(a: ArenaId, word: u64) -> Option<ArenaId>
+/// Whether a session word shows the arena alive.
+#[inline(always)]
+pub(crate) fn is_alive(a: ArenaId, word: u64) -> bool
     requires { a.owner < 4096 }
-    ensures { result ≡ words.inside_found a (words.alive_holds a word) }
+    ensures { inside_of result a ≡ words.inside_found a (words.alive_holds a word) }
 {
     match alive_holds(a, word) {
-        Some(_) => Some(a),
-        None => None,
+        Some(_) => true,
+        None => false,
     }
 }
 
+#[inline(always)]
 pub(crate) fn alive_word(a: ArenaId, holds: u32) -> u64
     requires owner { a.owner < 4096 }
     requires holds { holds < 65536 }
@@ -66,6 +71,40 @@ pub(crate) fn closing_word(a: ArenaId) -> u64
         owner: a.owner,
         holds: 0,
     })
+}
+
+/// The generation in a slot's session word once an arena of this one was retired: the next; where there is none, the same.
+fn generation_after(generation: u32, generations: u32) -> u32
+    requires { generation < generations }
+    ensures { result ≡ words.kept generations (generation + 1) }
+{
+    let next = generation + 1;
+    if next == generations {
+        return generation;
+    }
+    next
+}
+
+/// The session word of a slot once an arena of this generation was retired.
+pub(crate) fn retired_word(generation: u32, generations: u32) -> u64
+    requires { generation < generations }
+    ensures { result ≡ words.free_word generations (generation + 1) }
+{
+    session_word(Session {
+        generation: generation_after(generation, generations),
+        life: FREE,
+        kind: 0,
+        owner: 0,
+        holds: 0,
+    })
+}
+
+/// The word whose only bit that is 1 is the slot's.
+pub(crate) fn bit(slot: u32) -> u64
+    requires { slot < 64 }
+    ensures { result ≡ 2 ^ slot }
+{
+    1 << slot
 }
 
 /// The session word that a hold leaves where it finds this one: one hold more, where the arena is alive and has room

@@ -1,7 +1,7 @@
 ghost use Rattle.fm_gate.specs.Standing.{HasHandle};
 
-use super::{given, made, take_holds};
-use crate::{again, enter, leave, load, open_arena, store};
+use super::{given, made, read, take_holds, write};
+use crate::{again, enter, leave, open_arena};
 use fm_base::{ArenaId, Kind, Refusal};
 use fm_rule::{Pass, Pool};
 use std::alloc::AllocGlobal;
@@ -13,8 +13,8 @@ fn used<R: Abort + AllocGlobal + Wait>(rt: &R, kind: Kind) -> (u64, Result<(), R
     let (pool, mut pass) = made(rt, 1);
     let a = given(rt, &pool, &mut pass, kind);
     assert_eq!(rt; enter(&pool, &mut pass, a), Ok(()));
-    store(&pool, &mut pass, 7, 9);
-    let found = load(&pool, &mut pass, 7);
+    write(&pool, &mut pass, a, 7, 9);
+    let found = read(&pool, &mut pass, a, 7);
     leave(&pool, &mut pass);
     (found, take_holds(rt, &pool, &mut pass, a, 1))
 }

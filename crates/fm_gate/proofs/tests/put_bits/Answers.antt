@@ -1,5 +1,4 @@
-use Rattle.fm_gate.proofs.Tries.{reach_on}
 use Rattle.fm_gate.proofs.tests.put_bits.Goals as goal
 
-pub returns : goal.returns
-returns g c = reach_on c.requires.reach c.patch.ensures
+pub returns-clause-inside : goal.returns-clause-inside
+returns-clause-inside g c = c.patch.ensures.inside c.args.a c.requires.inside

@@ -25,7 +25,7 @@ load_as-word-requires-clause-may c =
 pub invariant_of-pass : goal.invariant_of-pass
 invariant_of-pass c =
     check_keeps _ _ _ _ c.pass.inside.seat.me.0 _ _ _ c.pass.invariant c.load_as-word.ensures.slots c.args.a _ _ _ _ c.load_as-word.ensures.tells
-    (shape_is _ c.pass.inside.seat.me.0 _ _ c.pass.view_is c.requires.of.1) c.inside_found-pass-inside.ensures c.cells_from-pass-inside.ensures
+    (shape_is _ c.pass.inside.seat.me.0 _ _ c.pass.view_is c.requires.of.1) c.is_alive-pass-inside.ensures c.cells_from-pass-inside.ensures
 
 pub returns : goal.returns
 returns c = check_stepped _ _ _ _ _ c.pass.view_is (ap numbers_of c.load_as-word.ensures.table) c.pass.invariant.met c.args.a _ c.load_as-word.ensures.tells

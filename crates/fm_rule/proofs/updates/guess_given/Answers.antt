@@ -1,15 +1,13 @@
-use Rattle.std.proofs.Common.{◌∙◌, sym, ap}
-use Rattle.fm_pool_facts.specs.Views.{View}
+use Rattle.std.proofs.Common.{refl, sym, ◌∙◌}
 use Rattle.fm_rule.proofs.Knowing.{given_below, inside_slot}
 use Rattle.fm_rule.proofs.updates.guess_given.Goals as goal
 
 pub given_place-requires : goal.given_place-requires
 given_place-requires c =
-    inside_slot _ c.pass.inside.seat.me.0 _ _ c.pass.view_is c.requires.1 c.pass.invariant.sound c.in-Some.a
-    (ap (λ (v : View). v.inside) (sym c.pass.view_is) ∙ (sym c.pass.invariant.inside ∙ c.in-Some.is))
+    inside_slot c.args.pass.now c.args.pass.now c.args.pass.now.home _ refl c.requires.1 c.inside.ensures.sound c.in-Some.a
+    (sym c.inside.ensures.inside ∙ c.in-Some.is)
 
 pub peek-requires : goal.peek-requires
 peek-requires c =
-    given_below _ _ _ (inside_slot _ c.pass.inside.seat.me.0 _ _ c.pass.view_is c.requires.1 c.pass.invariant.sound c.in-Some.a
-    (ap (λ (v : View). v.inside) (sym c.pass.view_is) ∙ (sym c.pass.invariant.inside ∙ c.in-Some.is)))
-    c.given_place.ensures
+    given_below _ _ _ (inside_slot c.args.pass.now c.args.pass.now c.args.pass.now.home _ refl c.requires.1 c.inside.ensures.sound c.in-Some.a
+    (sym c.inside.ensures.inside ∙ c.in-Some.is)) c.given_place.ensures

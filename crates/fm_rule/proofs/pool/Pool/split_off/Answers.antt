@@ -1,7 +1,7 @@
 use Rattle.std.proofs.Common.{ap, sym, ◌∙◌, subst, None}
 use Rattle.fm_pool_facts.specs.Views.{View, IsSound, pass_of}
 use Rattle.fm_pool_steps.proofs.Halving.{draw_splits}
-use Rattle.fm_rule.specs.Views.{Keeps}
+use Rattle.fm_rule.specs.Views.{inside_of, Keeps}
 use Rattle.fm_rule.proofs.Allowed.{sound_homed}
 use Rattle.fm_rule.proofs.Noting.{one_table, some_words}
 use Rattle.fm_rule.proofs.Halves.{left_keeps, right_keeps, right_sound}
@@ -16,7 +16,7 @@ split_seat-seat-requires c = (
 
 pub invariant_of-giver : goal.invariant_of-giver
 invariant_of-giver c =
-    subst (Keeps c.giver.inside.caller c.giver.inside.inside c.giver.inside.cells_from c.giver.inside.gathered)
+    subst (Keeps c.giver.inside.caller (inside_of c.giver.inside.is_inside c.giver.inside.current) c.giver.inside.cells_from c.giver.inside.gathered)
     (sym c.split_seat-seat.ensures.2) (left_keeps _ _ _ _ _ _ c.giver.invariant)
 
 pub invariant_of-result : goal.invariant_of-result

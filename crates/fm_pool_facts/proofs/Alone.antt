@@ -1,0 +1,67 @@
+-- A pass that is known to be whole is the only one that has anything.
+use Rattle.std.proofs.Common.{◌≡◌, ◌≢◌, ℕ, ◌<◌, Bool, true, false, refl, List, [], sym, ap, ◌∙◌, subst, inl, inr}
+use mathlib.Core.Option.{some, some-injective}
+use mathlib.Core.Logic.{dite}
+use native.Mathlib.Decide.{ℕ_discrete}
+use lib.ListN.{get_elem?}
+use Rattle.fm_words.specs.declared.shape.Shape.{Shape}
+use Rattle.fm_base.specs.declared.caller.Caller.{Caller}
+use Rattle.fm_base.specs.Arenas.{Life, State, has_arena, arena_of}
+use Rattle.fm_base.specs.Calls.{Entry}
+use Rattle.fm_base.specs.Histories.{state_after}
+use Rattle.fm_base.specs.Finds.{Find, is_slot}
+use Rattle.fm_depicts.specs.Functions.{Fresh, stage_of}
+use Rattle.fm_pool_facts.specs.Hands.{nothing, HasSlot}
+use Rattle.fm_pool_facts.specs.Views.{View, OpenedBut, NoneLeft, limit_of}
+use Rattle.fm_pool_facts.specs.Facts.{Owns, Rule}
+use Rattle.fm_pool_facts.specs.Gone.{IsGone, FoundBy}
+use Rattle.fm_pool_facts.proofs.Keeping.{seated_all}
+
+-- an arena whose stage isn't Fresh is one of the list
+pub life_known : (b : Bool) (l : Life) → stage_of b l ≢ Fresh → b ≡ true
+life_known true l n = refl
+life_known false l n = absurd (n refl)
+
+module _ (z : Shape) (me : ℕ) (v : View) (l : v.live ≡ true) (ws : List ℕ) (vs : List View) (r : Rule z ws vs) (at : get_elem? vs me ≡ some v) where
+  abbrev mine : Owns z r.history r.memory r.machine r.owners me v
+  mine = (r.each me v at).owns l
+
+  -- no other view has anything
+  pub lonely : v.whole ≡ true → (j : ℕ) (u : View) → get_elem? vs j ≡ some u → u.live ≡ true → u ≡ v
+  lonely w j u at' live' =
+      let x = (r.each j u at').owns live' in
+      let here : j ≡ me = dite (ℕ_discrete u.caller.number v.caller.number)
+      (λ e. sym x.seated ∙ (ap r.owners.number e ∙ mine.seated))
+      (λ ne.
+      let g = mine.whole w u.caller.number x.number ne in
+      sym x.seated ∙ (ap r.owners.number (sym g.2) ∙ seated_all z r.history r.memory r.machine r.owners me v mine g.0 g.1)) in
+      some-injective u v (sym at' ∙ (ap (get_elem? vs) here ∙ at))
+
+  -- a find of no slot says of each slot why, where none is in a hand
+  pub none_now : v.whole ≡ true → v.hand ≡ nothing → v.seen ≡ r.history → (c : Caller) (f : Find)
+      → FoundBy z r.history r.memory r.owners.taker r.machine.life c f → is_slot f.step ≡ true → f.found ≡ 0 → NoneLeft v.shape v.seen c f
+  none_now w none q c f by i h =
+      let y = by i h in
+      subst (λ (x : Shape × List Entry). NoneLeft x.0 x.1 c f) (λ j. (sym ((r.each me v at).shape l) j, sym q j)) (record {
+        before = y.before;
+        begins = y.begins;
+        long = y.long;
+        opened = λ s low. opened y.before s (y.gone s low) low;
+        busy = y.busy;
+      })
+    where
+      opened : (before : List Entry) (s : ℕ) → IsGone z before r.memory r.owners.taker r.machine.life c s → s < z.slots
+          → OpenedBut (limit_of z) r.history before c s
+      opened before s (inl o) low =
+          let now : State = state_after (limit_of z) [] r.history in
+          record {
+            arena = o.arena;
+            in_slot = o.in_slot;
+            known = life_known (has_arena now o.arena) (arena_of now o.arena).life (λ n. o.opened (r.depicts.life o.arena ∙ n));
+            apart = o.apart;
+          }
+      opened before s (inr x) low =
+          let t = x.1 in
+          let y = r.slots s t.generation low t.session t.left t.bit in
+          let same = lonely w (r.owners.holder s) y.view y.there y.holds.0 in
+          absurd (subst (HasSlot s) (ap (λ (u : View). u.hand) same ∙ none) y.holds.1)

@@ -1,0 +1,53 @@
+-- The words of a pool, decoded.
+use Rattle.std.specs.Prelude.{◌≡◌, ◌⊎◌, ℕ, ◌+◌, ◌*◌, ◌<◌, List, length, slice_index, Option}
+use Rattle.fm_words.specs.declared.shape.Shape.{Shape}
+use Rattle.fm_words.specs.Places.{at, front, draw as draw_place, slot_bits, mark, session, given as given_place, words as word_count, pages_from}
+use Rattle.fm_base.specs.declared.arena_id.ArenaId.{ArenaId}
+use Rattle.fm_pool_facts.specs.Views.{span}
+use Rattle.fm_pool_facts.specs.Words.{alive_word, closing_word, free_word, own_word}
+
+pub data Session : Type 0 where
+  -- the next arena of the slot is of this generation; none is, where all have been
+  free : ℕ → Session
+  live : ArenaId → Session
+  shut : ArenaId → Session
+
+pub record Memory : Type 0 where
+  -- how many numbers were drawn
+  pub draw : ℕ
+  -- the term of a number
+  pub terms : ℕ → ℕ
+  -- the word of slot bits
+  pub bits : ℕ
+  pub marks : ℕ → Option ArenaId
+  pub sessions : ℕ → Session
+  -- the holds that a session word counts
+  pub counts : ℕ → ℕ
+  pub given : ℕ → ℕ
+  -- the words of a slot
+  pub cells : ℕ → ℕ → ℕ
+
+abbrev pub session_code : (generations : ℕ) → Session → ℕ → ℕ
+session_code generations (free g) count = free_word generations g
+session_code generations (live a) count = alive_word a count
+session_code generations (shut a) count = closing_word a
+
+-- the place of a word of a slot: slot k owns the pages from k times `reach` on
+unfoldable pub cell_at : Shape → ℕ → ℕ → ℕ
+cell_at z s w = pages_from z + (s * span z + w)
+
+pub record Shows (z : Shape) (words : List ℕ) (m : Memory) : Type 0 where
+  pub wide : length words ≡ word_count z
+  pub front : slice_index words (at z front) ≡ 0
+  pub draw : slice_index words (at z draw_place) ≡ m.draw
+  pub slot_bits : slice_index words (at z slot_bits) ≡ m.bits
+  -- until numbers come back
+  pub terms : (k : ℕ) → m.terms k ≡ 0
+  pub marks : (k : ℕ) → k < z.passes → slice_index words (at z (mark k)) ≡ own_word (m.marks k)
+  pub sessions : (s : ℕ) → s < z.slots → slice_index words (at z (session s)) ≡ session_code z.generations (m.sessions s) (m.counts s)
+  pub given : (s : ℕ) → s < z.slots → slice_index words (at z (given_place s)) ≡ m.given s
+  pub cells : (s w : ℕ) → s < z.slots → w < span z → slice_index words (cell_at z s w) ≡ m.cells s w
+
+-- the session of its slot shows the arena
+abbrev pub IsShown : (ℕ → Session) → ArenaId → Type 0
+IsShown sessions a = (sessions a.slot ≡ live a) ⊎ (sessions a.slot ≡ shut a)

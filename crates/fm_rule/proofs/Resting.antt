@@ -1,0 +1,62 @@
+-- The words of a table that was closed show the history.
+use Rattle.std.proofs.Common.{◌≡◌, ℕ, zero, suc, ◌+◌, true, List, [], ◌∷◌, ◌++◌, length, take, sym, ap, ◌∙◌, subst, arith}
+use mathlib.Core.Option.{some, some-injective, some-ne-none}
+use lib.ListN.{get_elem?}
+use Rattle.atomic_table.specs.Table.{Final, Seen}
+use Rattle.fm_words.specs.declared.shape.Shape.{Shape}
+use Rattle.fm_words.specs.Shapes.{IsValid}
+use Rattle.fm_words.specs.Places.{words as word_count}
+use Rattle.fm_base.specs.Calls.{Entry}
+use Rattle.fm_base.specs.Histories.{IsLegal}
+use Rattle.fm_pool_facts.specs.Hands.{nothing}
+use Rattle.fm_pool_facts.specs.Rest.{ShowsHistory}
+use Rattle.fm_pool_facts.specs.Loans.{IsRightlyLent}
+use Rattle.fm_pool_facts.specs.Views.{View, IsSound, span, limit_of}
+use Rattle.fm_pool_facts.specs.Facts.{Rule}
+use Rattle.fm_pool_steps.proofs.Plain.{own}
+use Rattle.fm_pool_steps.proofs.Resting.{at_rest}
+use Rattle.fm_rule.proofs.Allowed.{Keeping}
+use Rattle.fm_rule.specs.Views.{homed}
+use Rattle.fm_rule.specs.Finishing.{IsFinished}
+
+-- One more of a list's first elements.
+next_taken : (xs : List ℕ) (k x : ℕ) → get_elem? xs k ≡ some x → take (suc k) xs ≡ take k xs ++ x ∷ []
+next_taken [] k x e = absurd (some-ne-none x (sym e))
+next_taken (y ∷ ys) zero x e = ap (λ (z : ℕ). z ∷ []) (some-injective y x e)
+next_taken (y ∷ ys) (suc k) x e = ap (λ (zs : List ℕ). y ∷ zs) (next_taken ys k x e)
+
+pub taken_more : (xs : List ℕ) (k x : ℕ) → get_elem? xs k ≡ some x → take (k + 1) xs ≡ take k xs ++ x ∷ []
+taken_more xs k x e = let n : k + 1 ≡ suc k = omega arith in ap (λ (i : ℕ). take i xs) n ∙ next_taken xs k x e
+
+-- of the last state the seat `id` has the view v
+pub record Shown (z : Shape) (v : View) (ws : List ℕ) : Type 0 where
+  pub wide : length ws ≡ word_count z
+  pub shows : ShowsHistory z ws v.seen
+
+pub shown : (z : Shape) (id : ℕ) (v : View) (ws : List ℕ) (xs : List (Unit {0})) → Final (Seen (Keeping z) id v) ws xs → v.live ≡ true → v.whole ≡ true
+    → v.hand ≡ nothing → Shown z v ws
+shown z id v ws xs f l w none =
+    let s = f.0 in
+    let rule : Rule z s.words s.views = f.1.0 in
+    let at : get_elem? s.views id ≡ some v = f.1.1 in
+    let all : v.seen ≡ rule.history = (own z s.words s.views rule id v at l).seen_all w in
+    let rest : ShowsHistory z s.words rule.history = at_rest z id v l s.words s.views rule at w none in
+    record {
+      wide = subst (λ (us : List ℕ). length us ≡ word_count z) f.2 rule.shows.wide;
+      shows = subst (λ (x : List ℕ × List Entry). ShowsHistory z x.0 x.1) (λ j. (f.2 j, sym all j)) rest;
+    }
+
+-- A pool of the shape z is finished by the pass, whose view at its seat is v.
+pub finished : (z key : Shape) (id : ℕ) (v now : View) (home : List ℕ) (ws : List ℕ) (xs : List (Unit {0})) (history : List Entry) → homed home v ≡ now
+    → z ≡ key → v.shape ≡ z → Final (Seen (Keeping key) id v) ws xs → v.live ≡ true → IsSound v → now.whole ≡ true → now.hand ≡ nothing
+    → history ≡ now.seen → IsFinished (record { shape = z; history = history; words = ws })
+finished z key id v now home ws xs history is same sh f l sound w none eq =
+    let s = shown key id v ws xs f l (ap (λ (x : View). x.whole) is ∙ w) (ap (λ (x : View). x.hand) is ∙ none) in
+    let seen : v.seen ≡ history = ap (λ (x : View). x.seen) is ∙ sym eq in
+    record {
+      valid = subst IsValid sh sound.valid;
+      legal = subst (λ (x : Shape × List Entry). IsLegal (limit_of x.0) [] x.1) (λ j. (sh j, seen j)) sound.legal;
+      lent = subst (λ (x : Shape × List Entry). IsRightlyLent (span x.0) (limit_of x.0) x.1) (λ j. (sh j, seen j)) sound.lent;
+      wide = s.wide ∙ ap word_count (sym same);
+      shows = subst (λ (x : Shape × List Entry). ShowsHistory x.0 ws x.1) (λ j. (sym same j, seen j)) s.shows;
+    }
