@@ -20,9 +20,9 @@ use Rattle.fm_records.specs.declared.found.Found.{Found}
 use Rattle.fm_records.specs.Few.{AreFew}
 use Rattle.fm_records.specs.Query.{DoesQuery}
 use Rattle.fm_records.specs.Reads.{AreReads, StopsReading, IsWordOf, read_visit}
-use Rattle.fm_workers.specs.declared.part.Part.{Part}
 use Rattle.fm_workers.specs.Crew.{AreDone}
-use Rattle.fm_workers.specs.Parts.{IsRun, AreRuns, CanAsk, Answers, AnswersFew, ComesTo, bytes_in}
+use Rattle.fm_workers.specs.declared.part.Part.{Part}
+use Rattle.fm_workers.specs.Parts.{Asked, IsRun, AreRuns, CanAsk, Answers, AnswersFew, ComesTo, bytes_in}
 use Rattle.fm_workers.specs.Query.{OnlyReads, reads, stops, FoundClosed}
 use Rattle.fm_workers.proofs.Runs.{run_ends, run_fits, runs_order}
 
@@ -37,7 +37,8 @@ aligned_at : (p : Plan) (first n : ℕ) → IsPlan p → first % p.alignment ≡
 aligned_at p first n plan e = mod-eq-zero_of_dvd p.alignment (dvd-add p.alignment (dvd_of_mod-eq-zero p.alignment e)
     (dvd_trans p.alignment (dvd_of_mod-eq-zero p.alignment plan.even) (dvd_of_mod-eq-zero p.size (mul-mod_left n p.size))))
 
-pub can_ask_runs : (p : Plan) (v : View) (s : Region) (from to : ℕ) (ts : List Part) → IsPlan p → IsKnown (view_of_pass v) s → s.first % p.alignment ≡ 0
+pub can_ask_runs : {A : Type 0} (p : Plan) (v : View) (s : Region) (from to : ℕ) (ts : List (Part A)) → IsPlan p → IsKnown (view_of_pass v) s
+    → s.first % p.alignment ≡ 0
     → to ≤ s.size / p.size → AreRuns p s from ts to → AllByRecursion (CanAsk p v) ts
 can_ask_runs p v s from to [] plan known even within h = tt
 can_ask_runs p v s from to (t ∷ ts) plan known even within h =
@@ -56,20 +57,20 @@ can_ask_runs p v s from to (t ∷ ts) plan known even within h =
 
 -- ---- after they are asked
 
-pub runs_same : (p : Plan) (s : Region) (from to : ℕ) (more : List Entry) (cs : List Caller) (ts us : List Part) → AreDone (Answers p) more cs ts us
+pub runs_same : (p : Plan) (s : Region) (from to : ℕ) (more : List Entry) (cs : List Caller) (ts us : List Asked) → AreDone (Answers p) more cs ts us
     → AreRuns p s from ts to → AreRuns p s from us to
 runs_same p s from to more [] [] [] d h = h
 runs_same p s from to more (c ∷ cs) (t ∷ ts) (u ∷ us) d h =
     (h.0, record { order = h.1.order; region = d.0.same ∙ h.1.region }, runs_same p s h.0 to more cs ts us d.1 h.2)
 runs_same p s from to more cs ts us d h = absurd d
 
-pub answers_few : (p : Plan) (more : List Entry) (cs : List Caller) (ts us : List Part) → AreDone (Answers p) more cs ts us → AnswersFew p us
+pub answers_few : (p : Plan) (more : List Entry) (cs : List Caller) (ts us : List Asked) → AreDone (Answers p) more cs ts us → AnswersFew p us
 answers_few p more [] [] [] d = tt
 answers_few p more (c ∷ cs) (t ∷ ts) (u ∷ us) d =
     (subst (λ (r : Region). IfOk u.answer (AreFew r.size p)) (sym d.0.same) d.0.few, answers_few p more cs ts us d.1)
 answers_few p more cs ts us d = absurd d
 
-pub bytes_of_runs : (p : Plan) (s : Region) (from to : ℕ) (us : List Part) → AreRuns p s from us to → from * p.size + bytes_in us ≡ to * p.size
+pub bytes_of_runs : (p : Plan) (s : Region) (from to : ℕ) (us : List Asked) → AreRuns p s from us to → from * p.size + bytes_in us ≡ to * p.size
 bytes_of_runs p s from to [] h = let e : from * p.size ≡ to * p.size = ap (λ (n : ℕ). n * p.size) h in omega (arith, e)
 bytes_of_runs p s from to (u ∷ us) h =
     let r = bytes_of_runs p s h.0 to us h.2 in
@@ -77,7 +78,7 @@ bytes_of_runs p s from to (u ∷ us) h =
     let ends = run_ends from h.0 p.size h.1.order in
     omega (arith, r, size, ends)
 
-pub count_done : (p : Plan) (more : List Entry) (cs : List Caller) (ts us : List Part) → AreDone (Answers p) more cs ts us → length cs ≡ length ts
+pub count_done : (p : Plan) (more : List Entry) (cs : List Caller) (ts us : List Asked) → AreDone (Answers p) more cs ts us → length cs ≡ length ts
 count_done p more [] [] [] d = refl
 count_done p more (c ∷ cs) (t ∷ ts) (u ∷ us) d = let e = count_done p more cs ts us d.1 in omega (arith, e)
 count_done p more cs ts us d = absurd d
@@ -85,10 +86,10 @@ count_done p more cs ts us d = absurd d
 -- ---- what the passes did
 
 -- the part lies in the segment
-record IsWithin (part s : Region) : Type 0 where
-  arena : part.arena ≡ s.arena
-  from : s.first ≤ part.first
-  below : part.first + part.size ≤ s.first + s.size
+pub record IsWithin (part s : Region) : Type 0 where
+  pub arena : part.arena ≡ s.arena
+  pub from : s.first ≤ part.first
+  pub below : part.first + part.size ≤ s.first + s.size
 
 words_wider : (part s : Region) (rs : List (ℕ × ℕ)) → IsWithin part s → AllByRecursion (λ r. IsWordOf part r.0) rs → AllByRecursion (λ r. IsWordOf s r.0) rs
 words_wider part s [] w h = tt
@@ -113,7 +114,7 @@ stops_wider c part s own w h = record {
 pub no_reads : (c : Caller) (s : Region) (own : List Entry) → own ≡ [] → OnlyReads s c own
 no_reads c s own e = reads (record { reads = []; within = tt; visits = e })
 
-query_reads : (c : Caller) (p : Plan) (part s : Region) (r : Result (List Found) Refusal) (own : List Entry) → IsWithin part s → DoesQuery c p part r own
+pub query_reads : (c : Caller) (p : Plan) (part s : Region) (r : Result (List Found) Refusal) (own : List Entry) → IsWithin part s → DoesQuery c p part r own
     → OnlyReads s c own
 query_reads c p part s (Ok a) own w d = reads (reads_wider c part s own w d.reads)
 query_reads c p part s (Err (Ragged n)) own w d = no_reads c s own d.2
@@ -122,12 +123,13 @@ query_reads c p part s (Err Closed) own w d = stops (stops_wider c part s own w 
 query_reads c p part s (Err Memory) own w d = reads (reads_wider c part s own w d.2)
 query_reads c p part s (Err r) own w d = absurd d
 
-run_within : (p : Plan) (s : Region) (from next to : ℕ) (t : Part) → next ≤ to → to ≤ s.size / p.size → IsRun p s from next t → IsWithin t.region s
+pub run_within : {A : Type 0} (p : Plan) (s : Region) (from next to : ℕ) (t : Part A) → next ≤ to → to ≤ s.size / p.size
+    → IsRun p s from next t → IsWithin t.region s
 run_within p s from next to t later within r =
     let fits = run_fits from next p.size s.size r.order (omega (arith, later, within)) in
     subst (λ (x : Region). IsWithin x s) (sym r.region) (record { arena = refl; from = omega arith; below = omega (arith, fits) })
 
-pub crew_reads : (p : Plan) (s : Region) (from to : ℕ) (more : List Entry) (cs : List Caller) (ts us : List Part) → to ≤ s.size / p.size
+pub crew_reads : (p : Plan) (s : Region) (from to : ℕ) (more : List Entry) (cs : List Caller) (ts us : List Asked) → to ≤ s.size / p.size
     → AreDone (Answers p) more cs ts us → AreRuns p s from ts to → AllByRecursion (λ c. OnlyReads s c (made_by c more)) cs
 crew_reads p s from to more [] [] [] within d h = tt
 crew_reads p s from to more (c ∷ cs) (t ∷ ts) (u ∷ us) within d h =
@@ -143,7 +145,7 @@ idle_reads s more (c ∷ cs) h = (no_reads c s (made_by c more) h.0, idle_reads 
 -- ---- refusals
 
 -- A share is whole, and the arena anyone's: only these are left.
-stopped_by : (c : Caller) (p : Plan) (part : Region) (r : Refusal) (own : List Entry) → part.size % p.size ≡ 0 → MayUse part.arena c
+pub stopped_by : (c : Caller) (p : Plan) (part : Region) (r : Refusal) (own : List Entry) → part.size % p.size ≡ 0 → MayUse part.arena c
     → DoesQuery c p part (Err r) own → (r ≡ Memory) ⊎ ((r ≡ Closed) × StopsReading c part own)
 stopped_by c p part (Ragged n) own even may d = let e = d.0 in let some = d.1 in absurd (omega (arith, even, e, some))
 stopped_by c p part WrongThread own even may d = absurd (d.1 may)
@@ -151,7 +153,7 @@ stopped_by c p part Closed own even may d = inr (refl, d.2)
 stopped_by c p part Memory own even may d = inl refl
 stopped_by c p part r own even may d = absurd d
 
-pub crew_stopped : (p : Plan) (s : Region) (from to : ℕ) (more : List Entry) (cs : List Caller) (ts us : List Part) (r : Refusal) → to ≤ s.size / p.size
+pub crew_stopped : (p : Plan) (s : Region) (from to : ℕ) (more : List Entry) (cs : List Caller) (ts us : List Asked) (r : Refusal) → to ≤ s.size / p.size
     → ((c : Caller) → MayUse s.arena c) → AreDone (Answers p) more cs ts us → AreRuns p s from ts to → ComesTo p us (Err r)
     → (r ≡ Memory) ⊎ ((r ≡ Closed) × FoundClosed s cs more)
 crew_stopped p s from to more [] [] [] r within may d h e = inl e
@@ -171,7 +173,7 @@ crew_stopped p s from to more (c ∷ cs) (t ∷ ts) (u ∷ us) r within may d h 
 crew_stopped p s from to more cs ts us r within may d h e = absurd d
 
 -- They have no more bytes than an arena can give.
-pub bytes_small : (p : Plan) (s : Region) (us : List Part) → AreRuns p s 0 us (s.size / p.size) → s.first + s.size ≤ 2 ^ 40 → bytes_in us ≤ 2 ^ 62
+pub bytes_small : (p : Plan) (s : Region) (us : List Asked) → AreRuns p s 0 us (s.size / p.size) → s.first + s.size ≤ 2 ^ 40 → bytes_in us ≤ 2 ^ 62
 bytes_small p s us h ends =
     let all = bytes_of_runs p s 0 (s.size / p.size) us h in
     let below = div-mul-le_self s.size p.size in

@@ -36,6 +36,7 @@ can_gather {pool = pool} {d = d} {p = p} e s o = record {
   no_handle = ap (λ (v : View). v.handles) e ∙ s.no_handle;
   no_page = ap (λ (v : View). v.pages) e ∙ s.no_page;
   no_close = ap (λ (v : View). v.closes) e ∙ s.no_close;
+  no_sweep = ap (λ (v : View). v.sweeps) e ∙ s.no_sweep;
 }
 
 pub in_still : {d now next : View} (more : List Entry) → next.seen ≡ now.seen ++ more → made_by d.caller more ≡ [] → IsIn d now → IsIn d next

@@ -19,16 +19,15 @@ use Rattle.fm_segment.specs.Region.{Region}
 use Rattle.fm_query.specs.Plan.{Plan, IsPlan}
 use Rattle.fm_records.specs.declared.found.Found.{Found}
 use Rattle.fm_records.specs.Few.{AreFew}
-use Rattle.fm_workers.specs.declared.part.Part.{Part}
 use Rattle.fm_workers.specs.Crew.{AreDone, CrewWorked, callers}
-use Rattle.fm_workers.specs.Parts.{AreRuns, Answers, ComesTo, IsCut, bytes_in}
+use Rattle.fm_workers.specs.Parts.{Asked, AreRuns, Answers, ComesTo, IsCut, bytes_in}
 use Rattle.fm_workers.specs.Query.{OnlyReads, AnsweredBy, FoundClosed, IsOpenToAll, EndsQuery, ArePartsAsked, QueriedWith}
 use Rattle.fm_workers.proofs.Asked.{bytes_of_runs, count_done, crew_reads, crew_stopped, idle_reads}
 use Rattle.fm_workers.proofs.Working.{nobody, lasts_none}
 use Rattle.fm_workers.proofs.Sharing.{answered_runs, whole_piece}
 use Rattle.fm_workers.proofs.Sparing.{is_answer}
 
-many : (gs : List Gathered) → length (callers gs) ≡ length gs
+pub many : (gs : List Gathered) → length (callers gs) ≡ length gs
 many gs = length-map gs (λ (g : Gathered). g.caller)
 
 -- the refusals before the first draw
@@ -70,7 +69,7 @@ queried_none v p s threads r early known ends = record {
 }
 
 -- No task was begun.
-pub queried_refused : {old new : View} {p : Plan} {s : Region} {threads : ℕ} {ts us : List Part} (r : Refusal) → CrewWorked (Answers p) old new ts us (Err r)
+pub queried_refused : {old new : View} {p : Plan} {s : Region} {threads : ℕ} {ts us : List Asked} (r : Refusal) → CrewWorked (Answers p) old new ts us (Err r)
     → length ts ≡ threads → IsOpenToAll p s → IsKnown (view_of_pass old) s → QueriedWith threads old new p s (Err r)
 queried_refused {s = s} NoPass w count shared known = record {
   crew = w.crew;
@@ -102,7 +101,7 @@ queried_refused {s = s} Memory w count shared known = record {
 }
 queried_refused r w count shared known = absurd w.ends
 
-module _ {old new : View} {p : Plan} {s : Region} {threads : ℕ} {ts us : List Part} {u : Unit {0}} (w : CrewWorked (Answers p) old new ts us (Ok u))
+module _ {old new : View} {p : Plan} {s : Region} {threads : ℕ} {ts us : List Asked} {u : Unit {0}} (w : CrewWorked (Answers p) old new ts us (Ok u))
     (plan : IsPlan p) (cut : IsCut p s ts) (count : length ts ≡ threads) (shared : IsOpenToAll p s)
     (known : IsKnown (view_of_pass old) s) where
   done : AreDone (Answers p) w.crew.more (callers w.crew.crew) ts us

@@ -30,11 +30,11 @@ last_end from count left below one =
     omega (arith, below, d)
 
 -- One run more.
-pub runs_push : (p : Plan) (s : Region) (from mid to : ℕ) (ts : List Part) (t : Part) → AreRuns p s from ts mid → IsRun p s mid to t
+pub runs_push : {A : Type 0} (p : Plan) (s : Region) (from mid to : ℕ) (ts : List (Part A)) (t : Part A) → AreRuns p s from ts mid → IsRun p s mid to t
     → AreRuns p s from (ts ++ t ∷ []) to
 runs_push p s from mid to [] t h r = (to, subst (λ (n : ℕ). IsRun p s n to t) (sym h) r, refl)
 runs_push p s from mid to (u ∷ ts) t h r = (h.0, h.1, runs_push p s h.0 mid to ts t h.2 r)
 
-pub runs_order : (p : Plan) (s : Region) (from to : ℕ) (ts : List Part) → AreRuns p s from ts to → from ≤ to
+pub runs_order : {A : Type 0} (p : Plan) (s : Region) (from to : ℕ) (ts : List (Part A)) → AreRuns p s from ts to → from ≤ to
 runs_order p s from to [] h = omega (arith, h)
 runs_order p s from to (t ∷ ts) h = let a = h.1.order in let b = runs_order p s h.0 to ts h.2 in omega (arith, a, b)

@@ -27,7 +27,7 @@ visits_spare : (c : Caller) (id a : ArenaId) (place : ℕ) (rs : List (ℕ × �
 visits_spare c id a place [] = tt
 visits_spare c id a place (r ∷ rs) = (tt, (tt, (tt, visits_spare c id a place rs)))
 
-reads_spare : (s : Region) (c : Caller) (own : List Entry) (place : ℕ) → OnlyReads s c own → AllByRecursion (λ e. Spares s.arena place e.call) own
+pub reads_spare : (s : Region) (c : Caller) (own : List Entry) (place : ℕ) → OnlyReads s c own → AllByRecursion (λ e. Spares s.arena place e.call) own
 reads_spare s c own place (reads h) =
     subst (λ (es : List Entry). AllByRecursion (λ e. Spares s.arena place e.call) es) (sym h.visits) (visits_spare c s.arena s.arena place h.reads)
 reads_spare s c own place (stops h) =
@@ -63,7 +63,7 @@ module _ (P : Entry → Type 0) where
   all_later (c ∷ cs) e es h = (made_later c e es h.0, all_later cs e es h.1)
 
   -- What holds of the others' entries and of each caller's holds of all.
-  by_either : (cs : List Caller) (es : List Entry) → AllByRecursion (λ e. IsAmong e.caller cs ⊎ P e) es
+  pub by_either : (cs : List Caller) (es : List Entry) → AllByRecursion (λ e. IsAmong e.caller cs ⊎ P e) es
       → AllByRecursion (λ c. AllByRecursion P (made_by c es)) cs → AllByRecursion P es
   by_either cs [] h k = tt
   by_either cs (e ∷ es) h k =

@@ -8,26 +8,25 @@ use Rattle.fm_records.specs.declared.found.Found.{Found}
 use Rattle.fm_records.specs.Answers.{answer}
 use Rattle.fm_records.specs.Few.{AreFew, Joins}
 use Rattle.fm_records.proofs.Few.{few_join}
-use Rattle.fm_workers.specs.declared.part.Part.{Part}
-use Rattle.fm_workers.specs.Parts.{CanJoinPart, ComesTo, JoinsPart, bytes_in}
+use Rattle.fm_workers.specs.Parts.{Asked, CanJoinPart, ComesTo, JoinsPart, bytes_in}
 
 pub comes_none : (p : Plan) (r : Result (List Found) Refusal) → IfOk r (λ a. a ≡ answer p []) → IfErr r (λ e. e ≡ Memory) → ComesTo p [] r
 comes_none p (Ok a) is memory = is
 comes_none p (Err e) is memory = memory
 
 -- One part before them.
-pub comes_more : (p : Plan) (t : Part) (ts : List Part) (behind r : Result (List Found) Refusal) → ComesTo p ts behind → JoinsPart t behind r
+pub comes_more : (p : Plan) (t : Asked) (ts : List Asked) (behind r : Result (List Found) Refusal) → ComesTo p ts behind → JoinsPart t behind r
     → ComesTo p (t ∷ ts) r
 comes_more p t ts behind (Ok a) h j = (j.0, j.1, j.2, subst (λ x. ComesTo p ts x) j.3 h, j.4)
 comes_more p t ts behind (Err e) h (inl q) = inl q
 comes_more p t ts behind (Err e) h (inr (inl m)) = inr (inl m)
 comes_more p t ts behind (Err e) h (inr (inr q)) = inr (inr (subst (λ x. ComesTo p ts x) q h))
 
-pub bytes_append : (ts us : List Part) → bytes_in (ts ++ us) ≡ bytes_in ts + bytes_in us
+pub bytes_append : (ts us : List Asked) → bytes_in (ts ++ us) ≡ bytes_in ts + bytes_in us
 bytes_append [] us = omega arith
 bytes_append (t ∷ ts) us = let r = bytes_append ts us in omega (arith, r)
 
-module _ (p : Plan) (t : Part) (n : ℕ) (behind : Result (List Found) Refusal) (here : IfOk t.answer (AreFew t.region.size p))
+module _ (p : Plan) (t : Asked) (n : ℕ) (behind : Result (List Found) Refusal) (here : IfOk t.answer (AreFew t.region.size p))
     (there : IfOk behind (AreFew n p)) (small : t.region.size + n ≤ 2 ^ 62) where
   joins : (x y : List Found) → t.answer ≡ Ok x → behind ≡ Ok y → Joins p (t.region.size + n) x y
   joins x y e f = few_join p t.region.size n x y (subst (λ r. IfOk r (AreFew t.region.size p)) e here) (subst (λ r. IfOk r (AreFew n p)) f there) small
@@ -40,7 +39,7 @@ module _ (p : Plan) (t : Part) (n : ℕ) (behind : Result (List Found) Refusal) 
   few_more (Err e) j = tt
 
 -- A part and those behind it have no more bytes than all.
-pub behind_small : (all next done : List Part) (t : Part) → all ≡ next ++ t ∷ done → bytes_in all ≤ 2 ^ 62 → t.region.size + bytes_in done ≤ 2 ^ 62
+pub behind_small : (all next done : List Asked) (t : Asked) → all ≡ next ++ t ∷ done → bytes_in all ≤ 2 ^ 62 → t.region.size + bytes_in done ≤ 2 ^ 62
 behind_small all next done t e small =
     let sum : bytes_in all ≡ bytes_in next + bytes_in (t ∷ done) = ap bytes_in e ∙ bytes_append next (t ∷ done) in
     omega (arith, sum, small)

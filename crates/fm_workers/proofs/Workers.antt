@@ -17,6 +17,7 @@ use Rattle.fm_rule.specs.Passes.{IsOf}
 use Rattle.fm_calls.specs.Kept.{Lasts}
 use Rattle.fm_calls.specs.Told.{view_of_pass}
 use Rattle.fm_calls.proofs.Going.{reached_by, lasts_by}
+use Rattle.fm_calls.proofs.Sweeps.{no_sweeps}
 use Rattle.fm_arena.proofs.Lasting.{keeps}
 use Rattle.fm_workers.specs.declared.worker.Worker.{Worker}
 use Rattle.fm_workers.specs.Crew.{IsFresh, AreDone, callers}
@@ -39,6 +40,7 @@ spare_drawn of n = record {
   no_handle = ap (λ (v : View). v.handles) n.is;
   no_page = ap (λ (v : View). v.pages) n.is;
   no_close = ap (λ (v : View). v.closes) n.is;
+  no_sweep = ap (λ (v : View). v.sweeps) n.is;
   no_other = ap (λ (v : View). v.gathered) n.is;
 }
 
@@ -54,6 +56,7 @@ spare_worked {pool = pool} {d = d} {e = e} s k out =
       no_handle = ap (λ (r : Rest). r.handles) rest ∙ s.no_handle;
       no_page = ap (λ (r : Rest). r.pages) rest ∙ s.no_page;
       no_close = ap (λ (r : Rest). r.closes) rest ∙ s.no_close;
+      no_sweep = no_sweeps d e rest s.no_sweep;
       no_other = ap (λ (r : Rest). r.gathered) rest ∙ s.no_other;
     }
 

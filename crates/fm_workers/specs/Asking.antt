@@ -8,9 +8,18 @@ use Rattle.fm_calls.specs.Kept.{Lasts}
 use Rattle.fm_query.specs.Plan.{Plan}
 use Rattle.fm_workers.specs.declared.part.Part.{Part}
 use Rattle.fm_workers.specs.Parts.{CanAsk}
+use Rattle.fm_workers.specs.Tallies.{CanTally, Tallied, Tallying}
 
 pub known_later : {v w : View} {s : Region} → Lasts v w → IsKnown (view_of_pass v) s → IsKnown (view_of_pass w) s
 known_later {s = s} l k = record { arena = l.known s.arena k.arena; given = le_trans k.given (l.given s.arena) }
 
-pub can_ask_later : (p : Plan) (v w : View) (t : Part) → Lasts v w → CanAsk p v t → CanAsk p w t
+pub can_ask_later : {A : Type 0} (p : Plan) (v w : View) (t : Part A) → Lasts v w → CanAsk p v t → CanAsk p w t
 can_ask_later p v w t l c = record { known = known_later l c.known; aligned = c.aligned }
+
+pub can_tally_later : (w : Tallying) (v u : View) (t : Tallied) → Lasts v u → CanTally w v t → CanTally w u t
+can_tally_later w v u t l c = record {
+  ask = can_ask_later w.plan v u t l c.ask;
+  known = known_later l c.known;
+  shared = c.shared;
+  longs = c.longs;
+}

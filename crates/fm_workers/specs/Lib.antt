@@ -1,5 +1,10 @@
+pub mod Adding
 pub mod Asking
+pub mod Counts
 pub mod Crew
 pub mod Parts
+pub mod Printed
 pub mod Query
 pub mod Rounds
+pub mod Tallies
+pub mod Tally

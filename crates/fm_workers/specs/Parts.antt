@@ -17,54 +17,58 @@ use Rattle.fm_records.specs.Joined.{CanJoin, joined}
 use Rattle.fm_records.specs.Query.{DoesQuery}
 use Rattle.fm_workers.specs.declared.part.Part.{Part}
 
+-- a part with what a query answers over it
+abbrev pub Asked : Type 0
+Asked = Part (List Found)
+
 -- the records from this index on, up to that one
-pub record IsRun (p : Plan) (s : Region) (from to : ℕ) (t : Part) : Type 0 where
+pub record IsRun {A : Type 0} (p : Plan) (s : Region) (from to : ℕ) (t : Part A) : Type 0 where
   pub order : from ≤ to
   pub region : t.region ≡ part_of (from * p.size) ((to - from) * p.size) s
 
 -- one behind the other
-abbrev pub AreRuns : Plan → Region → ℕ → List Part → ℕ → Type 0
+abbrev pub AreRuns : {A : Type 0} → Plan → Region → ℕ → List (Part A) → ℕ → Type 0
 AreRuns p s from [] to = from ≡ to
 AreRuns p s from (t ∷ ts) to = (next : ℕ) × IsRun p s from next t × AreRuns p s next ts to
 
 -- the parts are all records of the segment
-abbrev pub IsCut : Plan → Region → List Part → Type 0
+abbrev pub IsCut : {A : Type 0} → Plan → Region → List (Part A) → Type 0
 IsCut p s ts = AreRuns p s 0 ts (s.size / p.size)
 
 -- ---- the work at a part
 
 -- its bytes are known to who has seen so much, and its first record is aligned
-pub record CanAsk (p : Plan) (v : View) (t : Part) : Type 0 where
+pub record CanAsk {A : Type 0} (p : Plan) (v : View) (t : Part A) : Type 0 where
   pub known : IsKnown (view_of_pass v) t.region
   pub aligned : t.region.first % p.alignment ≡ 0
 
 -- it is answered by the caller's entries
-pub record Answers (p : Plan) (c : Caller) (old new : Part) (own : List Entry) : Type 0 where
+pub record Answers (p : Plan) (c : Caller) (old new : Asked) (own : List Entry) : Type 0 where
   pub same : new.region ≡ old.region
   pub did : DoesQuery c p old.region new.answer own
   pub few : IfOk new.answer (AreFew old.region.size p)
 
 -- ---- answers joined
 
-abbrev pub bytes_in : List Part → ℕ
+abbrev pub bytes_in : List Asked → ℕ
 bytes_in [] = 0
 bytes_in (t ∷ ts) = t.region.size + bytes_in ts
 
 -- each answer comes from no more numbers than its part has bytes
-abbrev pub AnswersFew : Plan → List Part → Type 0
+abbrev pub AnswersFew : Plan → List Asked → Type 0
 AnswersFew p ts = AllByRecursion (λ t. IfOk t.answer (AreFew t.region.size p)) ts
 
 -- what they come to: the answers joined in their order; or one of them is refused so, or memory was wanting
-abbrev pub ComesTo : Plan → List Part → Result (List Found) Refusal → Type 0
+abbrev pub ComesTo : Plan → List Asked → Result (List Found) Refusal → Type 0
 ComesTo p [] (Ok a) = a ≡ answer p []
 ComesTo p [] (Err r) = r ≡ Memory
 ComesTo p (t ∷ ts) (Ok a) = (x : List Found) × (y : List Found) × (t.answer ≡ Ok x) × ComesTo p ts (Ok y) × (a ≡ joined x y)
 ComesTo p (t ∷ ts) (Err r) = (t.answer ≡ Err r) ⊎ ((r ≡ Memory) ⊎ ComesTo p ts (Err r))
 
 -- one part's answer can be joined with what those behind it come to
-abbrev pub CanJoinPart : Part → Result (List Found) Refusal → Type 0
+abbrev pub CanJoinPart : Asked → Result (List Found) Refusal → Type 0
 CanJoinPart t behind = (x y : List Found) → t.answer ≡ Ok x → behind ≡ Ok y → CanJoin x y
 
-abbrev pub JoinsPart : Part → Result (List Found) Refusal → Result (List Found) Refusal → Type 0
+abbrev pub JoinsPart : Asked → Result (List Found) Refusal → Result (List Found) Refusal → Type 0
 JoinsPart t behind (Ok a) = (x : List Found) × (y : List Found) × (t.answer ≡ Ok x) × (behind ≡ Ok y) × (a ≡ joined x y)
 JoinsPart t behind (Err r) = (t.answer ≡ Err r) ⊎ ((r ≡ Memory) ⊎ (behind ≡ Err r))

@@ -45,6 +45,7 @@ pub record IsSpare (pool : Pool) (d : View) : Type 0 where
   pub no_handle : d.handles ≡ []
   pub no_page : d.pages ≡ []
   pub no_close : d.closes ≡ []
+  pub no_sweep : d.sweeps ≡ []
   pub no_other : d.gathered ≡ []
 
 -- who drew and gathered has seen all that the pass had seen, and since then it made no entry

@@ -9,7 +9,12 @@ use std::alloc::Global;
 
 /// The segment's records in so many runs, one behind the other, of which none has two records more than another.
 /// Refused: `Memory`.
-pub(crate) fn cut(alloc: Global, q: &Query, s: &Segment, parts: u32) -> Result<Vec<Part>, Refusal>
+pub(crate) fn cut<A>(
+    alloc: Global,
+    q: &Query,
+    s: &Segment,
+    parts: u32,
+) -> Result<Vec<Part<A>>, Refusal>
     requires some { 0 < parts }
     ensures cut { IfOk result (λ ts. IsCut q.now s.now ts.items) }
     ensures count { IfOk result (λ ts. length ts.items ≡ parts) }
@@ -29,7 +34,7 @@ pub(crate) fn cut(alloc: Global, q: &Query, s: &Segment, parts: u32) -> Result<V
 }
 
 /// The records from one index on, up to another.
-fn run(q: &Query, s: &Segment, from: u64, to: u64) -> Part
+fn run<A>(q: &Query, s: &Segment, from: u64, to: u64) -> Part<A>
     requires order { from ≤ to }
     requires within { to ≤ s.now.size / q.now.size }
     requires small { s.now.size ≤ 2 ^ 40 }

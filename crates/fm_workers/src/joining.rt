@@ -11,7 +11,11 @@ use std::alloc::Global;
 /// The answer over all parts, from the answers over each.
 ///
 /// Refused: as the first part is that was refused, or `Memory`.
-pub(crate) fn join_parts(alloc: Global, q: &Query, mut parts: Vec<Part>) -> Result<Answer, Refusal>
+pub(crate) fn join_parts(
+    alloc: Global,
+    q: &Query,
+    mut parts: Vec<Part<Answer>>,
+) -> Result<Answer, Refusal>
     requires few { AnswersFew q.now parts.items }
     requires small { bytes_in parts.items ≤ 2 ^ 62 }
     ensures comes { ComesTo q.now parts.items result }
@@ -25,7 +29,7 @@ pub(crate) fn join_parts(alloc: Global, q: &Query, mut parts: Vec<Part>) -> Resu
 }
 
 /// The answer over a part and those behind it.
-fn join(part: Part, behind: Result<Answer, Refusal>) -> Result<Answer, Refusal>
+fn join(part: Part<Answer>, behind: Result<Answer, Refusal>) -> Result<Answer, Refusal>
     requires { CanJoinPart part behind }
     ensures { JoinsPart part behind result }
 {

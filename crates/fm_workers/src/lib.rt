@@ -1,17 +1,26 @@
 //! Answers by crews of passes, each at a share of its own.
 #![tactic(auto)]
 
+mod adding;
+mod counting;
+mod counts;
 mod crew;
 mod cutting;
 mod joining;
 mod part;
+mod printing;
 mod query;
+mod summing;
+mod tally;
 #[cfg(test)]
 mod tests;
 mod work;
 mod worker;
 
+pub use counts::Counts;
 pub use crew::work_crew;
 pub use part::Part;
+pub use printing::print_counts;
 pub use query::query_with;
+pub use tally::tally_with;
 pub use work::Work;

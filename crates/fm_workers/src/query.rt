@@ -19,7 +19,7 @@ use std::sync::Wait;
 use std::thread::Threads;
 
 /// Each pass answers the query over its part.
-impl Work<Part> for Query {
+impl Work<Part<Answer>> for Query {
     ghost use Rattle.fm_workers.specs.Parts.{Answers, CanAsk};
     ghost use Rattle.fm_workers.specs.Asking.{can_ask_later};
 
@@ -27,7 +27,7 @@ impl Work<Part> for Query {
 
     ghost does = { Answers };
 
-    fn work(&self, alloc: Global, memory: &mut Shared, task: &mut Part) {
+    fn work(&self, alloc: Global, memory: &mut Shared, task: &mut Part<Answer>) {
         task.answer = query_segment(alloc, memory, self, &task.region);
     }
 
@@ -74,7 +74,7 @@ pub fn query_with<R: Threads + Wait + Sync, G: Gate>(
 }
 
 /// Whether only the arena's owner may use it.
-fn is_confined(a: ArenaId) -> bool
+pub(crate) fn is_confined(a: ArenaId) -> bool
     ensures yes { result ≡ true → a.kind ≡ Kind.Confined }
     ensures no { result ≡ false → ¬ (a.kind ≡ Kind.Confined) }
 {

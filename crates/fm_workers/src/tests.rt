@@ -1,13 +1,14 @@
 mod gates;
+mod tallies;
 
 ghost use Rattle.std.specs.Prelude.{◌≡◌, ◌<◌, ◌≤◌, ◌≢◌};
 ghost use Rattle.fm_calls.specs.Told.{view_of_pass};
-ghost use Rattle.fm_gate.specs.Standing.{IsOutside};
-ghost use Rattle.fm_pool_facts.specs.Views.{span};
+ghost use Rattle.fm_gate.specs.Standing.{IsInside, IsOutside};
+ghost use Rattle.fm_pool_facts.specs.Views.{given_of, span, IsKnown as HasArena};
 ghost use Rattle.fm_segment.specs.Access.{IsKnown};
 
 use crate::query_with;
-use fm_base::{Kind, Refusal};
+use fm_base::{ArenaId, Kind, Refusal};
 use fm_close::close;
 use fm_gate::{allocate, enter, leave, open_arena, store};
 use fm_io::{FreeGate, Gate};
@@ -53,6 +54,19 @@ const RECORDS: [u64; 8] = [
     0x0000_0003_0000_0008,
 ];
 
+/// Stores into an arena that has given 64 bytes, and can still act in it.
+fn write(pool: &Pool, pass: &mut Pass, a: ArenaId, word: u64, v: u64)
+    requires low { word < 8 }
+    requires inside { IsInside pool.now pass.old a }
+    requires given { 64 ≤ given_of pass.old a }
+    requires known { HasArena pass.old a }
+    ensures inside { IsInside pool.now pass.new a }
+    ensures given { 64 ≤ given_of pass.new a }
+    ensures known { HasArena pass.new a }
+{
+    store(pool, pass, word, v);
+}
+
 /// A segment of those records, in a fresh arena.
 fn stocked<R: Abort + Wait>(rt: &R, pool: &Pool, pass: &mut Pass, kind: Kind) -> Segment
     requires outside { IsOutside pool.now pass.old }
@@ -64,14 +78,14 @@ fn stocked<R: Abort + Wait>(rt: &R, pool: &Pool, pass: &mut Pass, kind: Kind) ->
     let a = open_arena(rt, pool, pass, kind).expect(rt, "a slot");
     assert_eq!(rt; allocate(rt, pool, pass, a, 64, 8), Ok(0));
     assert_eq!(rt; enter(pool, pass, a), Ok(()));
-    store(pool, pass, 0, RECORDS[0]);
-    store(pool, pass, 1, RECORDS[1]);
-    store(pool, pass, 2, RECORDS[2]);
-    store(pool, pass, 3, RECORDS[3]);
-    store(pool, pass, 4, RECORDS[4]);
-    store(pool, pass, 5, RECORDS[5]);
-    store(pool, pass, 6, RECORDS[6]);
-    store(pool, pass, 7, RECORDS[7]);
+    write(pool, pass, a, 0, RECORDS[0]);
+    write(pool, pass, a, 1, RECORDS[1]);
+    write(pool, pass, a, 2, RECORDS[2]);
+    write(pool, pass, a, 3, RECORDS[3]);
+    write(pool, pass, a, 4, RECORDS[4]);
+    write(pool, pass, a, 5, RECORDS[5]);
+    write(pool, pass, a, 6, RECORDS[6]);
+    write(pool, pass, a, 7, RECORDS[7]);
     leave(pool, pass);
     Segment::of(a, 0, 64)
 }

@@ -3,7 +3,7 @@ use Rattle.fm_workers.specs.Parts.{AreRuns}
 use Rattle.fm_workers.proofs.cutting.cut.Given as goal
 
 abbrev pub invariant-loop-k : goal.invariant-loop-k
-invariant-loop-k l = record {
+invariant-loop-k g l = record {
   runs : AreRuns l.q l.s 0 l.runs.items l.from;
   below : l.from ≤ l.count;
   last : l.k ≡ l.parts → l.from ≡ l.count;

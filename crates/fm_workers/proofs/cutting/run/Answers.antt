@@ -3,19 +3,19 @@ use Rattle.fm_workers.proofs.Runs.{run_fits}
 use Rattle.fm_workers.proofs.cutting.run.Goals as goal
 
 pub overflow_mul-from : goal.overflow_mul-from
-overflow_mul-from c =
+overflow_mul-from g c =
     let fits : c.args.from * c.record_size-size.result + (c.args.to - c.args.from) * c.record_size-size.result ≤ c.args.s.now.size =
     rw c.record_size-size.ensures.size (run_fits c.args.from c.args.to c.args.q.now.size c.args.s.now.size c.requires.order c.requires.within) in
     let small = c.requires.small in
     omega (arith, fits, small)
 
 pub overflow_mul-to : goal.overflow_mul-to
-overflow_mul-to c =
+overflow_mul-to g c =
     let fits : c.args.from * c.record_size-size.result + (c.args.to - c.args.from) * c.record_size-size.result ≤ c.args.s.now.size =
     rw c.record_size-size.ensures.size (run_fits c.args.from c.args.to c.args.q.now.size c.args.s.now.size c.requires.order c.requires.within) in
     let small = c.requires.small in
     omega (arith, fits, small)
 
 pub of-requires : goal.of-requires
-of-requires c =
+of-requires g c =
     rw c.record_size-size.ensures.size (run_fits c.args.from c.args.to c.args.q.now.size c.args.s.now.size c.requires.order c.requires.within)

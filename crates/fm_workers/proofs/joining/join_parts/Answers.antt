@@ -1,8 +1,7 @@
 use Rattle.std.proofs.Common.{List, [], ◌∷◌, sym, IfOk}
 use Rattle.std.proofs.lemmas.List.{append-nil}
 use Rattle.fm_records.specs.Few.{AreFew}
-use Rattle.fm_workers.specs.declared.part.Part.{Part}
-use Rattle.fm_workers.specs.Parts.{bytes_in}
+use Rattle.fm_workers.specs.Parts.{Asked, bytes_in}
 use Rattle.fm_workers.proofs.Gathering.{middle, split_more}
 use Rattle.fm_workers.proofs.Totals.{comes_none, comes_more, behind_small, can_join, few_more}
 use Rattle.fm_workers.proofs.joining.join_parts.Goals as goal
@@ -19,10 +18,10 @@ pub join-behind-requires : goal.join-behind-requires
 join-behind-requires c =
     let i = c.loop-part.invariant in
     let q = c.args.q.now in
-    let t : Part = c.in-Some.part in
-    let next : List Part = c.pop.new.self.items in
+    let t : Asked = c.in-Some.part in
+    let next : List Asked = c.pop.new.self.items in
     let split = split_more c.args.parts.items c.loop-part.parts.items next i.done t i.split c.in-Some.ensures.items in
-    let here = middle (λ (u : Part). IfOk u.answer (AreFew u.region.size c.args.q.now)) c.args.parts.items c.loop-part.parts.items next i.done t
+    let here = middle (λ (u : Asked). IfOk u.answer (AreFew u.region.size c.args.q.now)) c.args.parts.items c.loop-part.parts.items next i.done t
     i.split c.in-Some.ensures.items c.requires.few in
     can_join q t (bytes_in i.done) c.loop-part.behind here i.few (behind_small c.args.parts.items next i.done t split c.requires.small)
 
@@ -30,10 +29,10 @@ pub loop-part-preserved : goal.loop-part-preserved
 loop-part-preserved c =
     let i = c.loop-part.invariant in
     let q = c.args.q.now in
-    let t : Part = c.in-Some.part in
-    let next : List Part = c.pop.new.self.items in
+    let t : Asked = c.in-Some.part in
+    let next : List Asked = c.pop.new.self.items in
     let split = split_more c.args.parts.items c.loop-part.parts.items next i.done t i.split c.in-Some.ensures.items in
-    let here = middle (λ (u : Part). IfOk u.answer (AreFew u.region.size c.args.q.now)) c.args.parts.items c.loop-part.parts.items next i.done t
+    let here = middle (λ (u : Asked). IfOk u.answer (AreFew u.region.size c.args.q.now)) c.args.parts.items c.loop-part.parts.items next i.done t
     i.split c.in-Some.ensures.items c.requires.few in
     record {
       done = t ∷ i.done;

@@ -1,0 +1,199 @@
+-- What a crew adds to a word.
+use Rattle.std.proofs.Common.{◌≡◌, ◌≢◌, ℕ, ◌+◌, ◌/◌, ◌<◌, ◌≤◌, ◌==◌, ◌&&◌, Bool, true, false, if◌then◌else◌, List, [], ◌∷◌, ◌++◌, slice_index, refl, sym, ap, ◌∙◌, subst, inl, inr, ⊎_elim, arith, Ok}
+use Rattle.std.specs.Prelude.{◌⊎◌, cond}
+use Rattle.std.specs.List.{AllByRecursion, flat_map}
+use Rattle.std.proofs.lemmas.Bool.Decides.{nat_tests}
+use Rattle.fm_lists.specs.Among.{AreApart, IsAmong}
+use Rattle.fm_lists.proofs.Each.{all_both}
+use Rattle.fm_base.specs.declared.arena_id.ArenaId.{ArenaId}
+use Rattle.fm_base.specs.declared.caller.Caller.{Caller}
+use Rattle.fm_base.specs.Arenas.{are_one, same_id}
+use Rattle.fm_base.specs.Calls.{Entry}
+use Rattle.fm_base.specs.Counting.{OnlyAdds, adds_to, all_added, total}
+use Rattle.fm_base.specs.Histories.{made_by}
+use Rattle.fm_base.proofs.Names.{are_one-not, are_one-self, same_id-self}
+use Rattle.fm_segment.specs.Region.{Region}
+use Rattle.fm_records.specs.Reads.{AreReads, read_visit}
+use Rattle.fm_workers.specs.Adding.{AddsAt, AddsBelow, adds, count_word, none_yet, nothing, one_more}
+use Rattle.fm_workers.specs.Crew.{AreDone}
+use Rattle.fm_workers.specs.Tally.{LeavesWord}
+use Rattle.fm_workers.specs.Tallies.{CountsPart, DoesTallyPart, SumsTo, Tallied, Tallies, Tallying}
+
+pub added-append : (id : ArenaId) (word : ℕ) (es fs : List Entry) → all_added id word (es ++ fs) ≡ all_added id word es + all_added id word fs
+added-append id word [] fs = omega arith
+added-append id word (e ∷ es) fs = let h = added-append id word es fs in omega (arith, h)
+
+-- Reading adds nothing.
+reads_added : (c : Caller) (a id : ArenaId) (word : ℕ) (rs : List (ℕ × ℕ)) → all_added id word (flat_map (read_visit c a) rs) ≡ 0
+reads_added c a id word [] = refl
+reads_added c a id word (r ∷ rs) = let h = reads_added c a id word rs in omega (arith, h)
+
+-- One count adds to its own word alone.
+one_added : (c : Caller) (counts : Region) (k n j : ℕ) (own : List Entry) → AddsAt c counts k n own
+    → all_added counts.arena (count_word counts j) own ≡ (if k == j then n else 0)
+one_added c counts k n j own nothing = elim (k == j) as (λ b. ◌≡◌ {A = ℕ} 0 (if b then 0 else 0)) [ true ↦ refl | false ↦ refl ]
+one_added c counts k n j own (adds found) =
+    let P : Bool → Type 0 = λ b. (k == j) ≡ b
+    → (if same_id counts.arena counts.arena && count_word counts k == count_word counts j then n else 0) ≡ (if b then n else 0) in
+    let go : (b : Bool) → P b = λ b. elim b as P [
+      | true ↦ (λ e. let t : (counts.first / 8 + k == counts.first / 8 + j) ≡ true = grind (arith, nat_tests) in rw (same_id-self counts.arena, t) refl)
+      | false ↦ (λ e. let t : (counts.first / 8 + k == counts.first / 8 + j) ≡ false = grind (arith, nat_tests) in rw (same_id-self counts.arena, t) refl)
+    ] in
+    let h = go (k == j) refl in
+    omega (arith, h)
+
+none_above : (c : Caller) (counts : Region) (ns : List ℕ) (k j : ℕ) (own : List Entry) → AddsBelow c counts ns k own → k ≤ j
+    → all_added counts.arena (count_word counts j) own ≡ 0
+none_above c counts ns k j own none_yet above = refl
+none_above c counts ns k j own (one_more {k = i} before more h a) above =
+    let e : (i == j) ≡ false = grind (arith, nat_tests) in
+    let old = none_above c counts ns i j before h (omega (arith, above)) in
+    let one = one_added c counts i (slice_index ns i) j more a in
+    let none : (if i == j then slice_index ns i else 0) ≡ 0 = ap (λ b. if b then slice_index ns i else 0) e in
+    added-append counts.arena (count_word counts j) before more ∙ omega (arith, old, one, none)
+
+pub all_below : (c : Caller) (counts : Region) (ns : List ℕ) (k j : ℕ) (own : List Entry) → AddsBelow c counts ns k own → j < k
+    → all_added counts.arena (count_word counts j) own ≡ slice_index ns j
+all_below c counts ns k j own none_yet below = absurd (omega (arith, below))
+all_below c counts ns k j own (one_more {k = i} before more h a) below =
+    let P : Bool → Type 0 = λ b. (i == j) ≡ b → all_added counts.arena (count_word counts j) (before ++ more) ≡ slice_index ns j in
+    let one = one_added c counts i (slice_index ns i) j more a in
+    let both = added-append counts.arena (count_word counts j) before more in
+    let go : (b : Bool) → P b = λ b. elim b as P [
+      | true ↦ (λ e.
+          let same : i ≡ j = grind (arith, nat_tests) in
+          let old = none_above c counts ns i j before h (omega (arith, same)) in
+          let here : (if i == j then slice_index ns i else 0) ≡ slice_index ns i = ap (λ x. if x then slice_index ns i else 0) e in
+          let is : slice_index ns i ≡ slice_index ns j = ap (slice_index ns) same in
+          omega (arith, both, old, one, here, is))
+      | false ↦ (λ e.
+          let other : i ≢ j = grind (arith, nat_tests) in
+          let old = all_below c counts ns i j before h (omega (arith, below, other)) in
+          let here : (if i == j then slice_index ns i else 0) ≡ 0 = ap (λ x. if x then slice_index ns i else 0) e in
+          omega (arith, both, old, one, here))
+    ] in
+    go (i == j) refl
+
+-- ---- only adds
+
+visits_only : (c : Caller) (a id : ArenaId) (word : ℕ) (rs : List (ℕ × ℕ)) → AllByRecursion (λ e. OnlyAdds id word e.call) (flat_map (read_visit c a) rs)
+visits_only c a id word [] = tt
+visits_only c a id word (r ∷ rs) = (tt, (tt, (tt, visits_only c a id word rs)))
+
+at_only : (c : Caller) (counts : Region) (k n : ℕ) (id : ArenaId) (word : ℕ) (own : List Entry) → AddsAt c counts k n own
+    → AllByRecursion (λ e. OnlyAdds id word e.call) own
+at_only c counts k n id word own nothing = tt
+at_only c counts k n id word own (adds found) = (tt, (tt, (tt, tt)))
+
+below_only : (c : Caller) (counts : Region) (ns : List ℕ) (k : ℕ) (id : ArenaId) (word : ℕ) (own : List Entry) → AddsBelow c counts ns k own
+    → AllByRecursion (λ e. OnlyAdds id word e.call) own
+below_only c counts ns k id word own none_yet = tt
+below_only c counts ns k id word own (one_more {k = i} before more h a) =
+    all_both (λ e. OnlyAdds id word e.call) before more (below_only c counts ns i id word before h) (at_only c counts i (slice_index ns i) id word more a)
+
+module _ (w : Tallying) (c : Caller) (region : Region) (ns : List ℕ) (own : List Entry) (h : CountsPart c w.plan region w.counts ns (Ok tt) own) where
+  reads : AreReads c region h.reads
+  reads = h.did.reads
+
+  part_only : (id : ArenaId) (word : ℕ) → AllByRecursion (λ e. OnlyAdds id word e.call) own
+  part_only id word = subst (λ (es : List Entry). AllByRecursion (λ e. OnlyAdds id word e.call) es) (sym h.parts)
+      (all_both (λ e. OnlyAdds id word e.call) h.reads h.adds
+      (subst (λ (es : List Entry). AllByRecursion (λ e. OnlyAdds id word e.call) es) (sym reads.visits) (visits_only c region.arena id word reads.reads))
+      (below_only c w.counts ns 256 id word h.adds h.added))
+
+  part_added : (k : ℕ) → k < 256 → all_added w.counts.arena (count_word w.counts k) own ≡ slice_index ns k
+  part_added k below =
+      let none = ap (all_added w.counts.arena (count_word w.counts k)) reads.visits
+      ∙ reads_added c region.arena w.counts.arena (count_word w.counts k) reads.reads in
+      let all = all_below c w.counts ns 256 k h.adds h.added below in
+      let both = added-append w.counts.arena (count_word w.counts k) h.reads h.adds in
+      ap (all_added w.counts.arena (count_word w.counts k)) h.parts ∙ omega (arith, none, all, both)
+
+-- Each of the crew only adds, and what all of them added is the total.
+pub record CrewAdds (w : Tallying) (more : List Entry) (cs : List Caller) (ns : List ℕ) : Type 0 where
+  pub only : (id : ArenaId) (word : ℕ) → AllByRecursion (λ c. AllByRecursion (λ e. OnlyAdds id word e.call) (made_by c more)) cs
+  pub sum : (k : ℕ) → k < 256 → total (λ c. all_added w.counts.arena (count_word w.counts k) (made_by c more)) cs ≡ slice_index ns k
+
+pub crew_adds : (w : Tallying) (more : List Entry) (cs : List Caller) (ts us : List Tallied) (ns : List ℕ) → AreDone (Tallies w) more cs ts us
+    → SumsTo us (Ok ns) → CrewAdds w more cs ns
+crew_adds w more [] [] [] ns d h = record { only = λ id word. tt; sum = λ k below. sym (h.each k below) }
+crew_adds w more (c ∷ cs) (t ∷ ts) (u ∷ us) ns d h =
+    let rest = crew_adds w more cs ts us h.part.rest d.1 (subst (SumsTo us) h.part.is_rest h.comes) in
+    let mine = subst (λ r. DoesTallyPart c w.plan t.region w.counts r (made_by c more)) h.part.is_first d.0.did in
+    record {
+      only = λ id word. (part_only w c t.region h.part.first (made_by c more) mine id word, rest.only id word);
+      sum = λ k below.
+          let a = part_added w c t.region h.part.first (made_by c more) mine k below in
+          let b = rest.sum k below in
+          let s = h.part.sums.each k below in
+          omega (arith, a, b, s);
+    }
+crew_adds w more cs ts us ns d h = absurd d
+
+-- ---- by callers, where others leave the word
+
+total_both : (f g : Caller → ℕ) (cs : List Caller) → total (λ c. f c + g c) cs ≡ total f cs + total g cs
+total_both f g [] = refl
+total_both f g (c ∷ cs) = let h = total_both f g cs in omega (arith, h)
+
+total_same : (f g : Caller → ℕ) (cs : List Caller) → ((c : Caller) → f c ≡ g c) → total f cs ≡ total g cs
+total_same f g [] e = refl
+total_same f g (c ∷ cs) e = let h = total_same f g cs e in let k = e c in omega (arith, k, h)
+
+-- what one caller counts for another
+abbrev share : Caller → ℕ → Caller → ℕ
+share c k d = if are_one c d then k else 0
+
+none_of : (c : Caller) (k : ℕ) (cs : List Caller) → ¬ (IsAmong c cs) → total (share c k) cs ≡ 0
+none_of c k [] out = refl
+none_of c k (d ∷ ds) out =
+    let first : share c k d ≡ 0 = ap (λ b. if b then k else 0) (are_one-not c d (λ e. out (inl e))) in
+    let h = none_of c k ds (λ i. out (inr i)) in
+    omega (arith, first, h)
+
+nothing_of : (c : Caller) (k : ℕ) (cs : List Caller) → k ≡ 0 → total (share c k) cs ≡ 0
+nothing_of c k [] e = refl
+nothing_of c k (d ∷ ds) e =
+    let first : share c k d ≡ 0 = elim (are_one c d) as (λ b. (if b then k else 0) ≡ 0) [ true ↦ e | false ↦ refl ] in
+    let h = nothing_of c k ds e in
+    omega (arith, first, h)
+
+one_of : (c : Caller) (k : ℕ) (cs : List Caller) → IsAmong c cs → AreApart cs → total (share c k) cs ≡ k
+one_of c k [] i apart = absurd i
+one_of c k (d ∷ ds) (inl is) apart =
+    let test : are_one c d ≡ true = subst (λ (x : Caller). are_one c x ≡ true) is (are_one-self c) in
+    let first : share c k d ≡ k = ap (λ b. if b then k else 0) test in
+    let h = none_of c k ds (λ i. apart.0 (subst (λ (x : Caller). IsAmong x ds) is i)) in
+    omega (arith, first, h)
+one_of c k (d ∷ ds) (inr i) apart =
+    let other : c ≢ d = (λ e. apart.0 (subst (λ (x : Caller). IsAmong x ds) e i)) in
+    let first : share c k d ≡ 0 = ap (λ b. if b then k else 0) (are_one-not c d other) in
+    let h = one_of c k ds i apart.1 in
+    omega (arith, first, h)
+
+added_first : (id : ArenaId) (word : ℕ) (c : Caller) (e : Entry) (es : List Entry)
+    → all_added id word (made_by c (e ∷ es)) ≡ share e.caller (adds_to id word e.call) c + all_added id word (made_by c es)
+added_first id word c e es =
+    elim (are_one e.caller c) as (λ b. all_added id word (cond b (e ∷ made_by c es) (made_by c es))
+    ≡ (if b then adds_to id word e.call else 0) + all_added id word (made_by c es)) [
+      | true ↦ refl
+      | false ↦ omega arith
+    ]
+
+none_made : (id : ArenaId) (word : ℕ) (cs : List Caller) → total (λ c. all_added id word (made_by c [])) cs ≡ 0
+none_made id word [] = refl
+none_made id word (c ∷ cs) = let h = none_made id word cs in omega (arith, h)
+
+-- What was added is the sum of what each of the crew added.
+pub by_crew : (id : ArenaId) (word : ℕ) (es : List Entry) (cs : List Caller) → AreApart cs
+    → AllByRecursion (λ e. IsAmong e.caller cs ⊎ LeavesWord id word e.call) es
+    → all_added id word es ≡ total (λ c. all_added id word (made_by c es)) cs
+by_crew id word [] cs apart h = sym (none_made id word cs)
+by_crew id word (e ∷ es) cs apart h =
+    let k = adds_to id word e.call in
+    let rest : Caller → ℕ = λ c. all_added id word (made_by c es) in
+    let each = total_same (λ c. all_added id word (made_by c (e ∷ es))) (λ c. share e.caller k c + rest c) cs (λ c. added_first id word c e es) in
+    let both = total_both (share e.caller k) rest cs in
+    let one : total (share e.caller k) cs ≡ k = ⊎_elim (λ (i : IsAmong e.caller cs). one_of e.caller k cs i apart)
+    (λ (l : LeavesWord id word e.call). nothing_of e.caller k cs l.1 ∙ sym l.1) h.0 in
+    ap (λ m. k + m) (by_crew id word es cs apart h.1) ∙ ap (λ m. m + total rest cs) (sym one) ∙ sym (each ∙ both)

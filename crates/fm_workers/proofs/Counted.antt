@@ -1,0 +1,141 @@
+-- What the parts' counts come to where nobody else writes the segment.
+use Rattle.std.proofs.Common.{◌≡◌, ℕ, zero, suc, ◌+◌, ◌-◌, ◌*◌, ◌/◌, ◌%◌, ◌≤◌, List, [], ◌∷◌, ◌++◌, length, map, refl, sym, ap, ◌∙◌, subst, arith, Ok}
+use Rattle.std.specs.List.{range_with_len}
+use Rattle.std.proofs.Math.Nat.{mul-mod_left, zero-div}
+use Rattle.std.proofs.lemmas.List.{map-append}
+use Rattle.fm_bytes.specs.Words.{byte_at}
+use Rattle.fm_base.specs.declared.caller.Caller.{Caller}
+use Rattle.fm_base.specs.Arenas.{State, arena_of}
+use Rattle.fm_base.specs.Calls.{Entry}
+use Rattle.fm_base.specs.Histories.{made_by}
+use Rattle.fm_segment.specs.Region.{Region, part_of}
+use Rattle.fm_query.specs.Plan.{IsPlan, Plan}
+use Rattle.fm_query.specs.declared.fold.Fold.TheVariants as fold
+use Rattle.fm_query.specs.declared.item.Asked.{Asked}
+use Rattle.fm_query.specs.declared.item.Asked.TheVariants as asked
+use Rattle.fm_query.specs.declared.item.Item.{Item}
+use Rattle.fm_records.specs.Alone.{bytes_at_places}
+use Rattle.fm_records.specs.Answers.{answer, chosen, found_in, found_over, item_found}
+use Rattle.fm_records.specs.Bytes.{FindAs, FindsAs}
+use Rattle.fm_records.specs.Joined.{both, joined}
+use Rattle.fm_records.specs.Records.{pieces, records}
+use Rattle.fm_records.specs.Shares.{IsSpared}
+use Rattle.fm_records.proofs.AnsweringBytes.{answer_of_bytes, length-places}
+use Rattle.fm_records.proofs.Joining.{answer-append}
+use Rattle.fm_lists.proofs.Each.{all_split}
+use Rattle.fm_records.proofs.Sharing.{spared_found}
+use Rattle.fm_workers.specs.Counts.{AreCounts, AreTallied, IsTally, ListsBytes, listed, numbers_listed}
+use Rattle.fm_workers.specs.Crew.{AreDone}
+use Rattle.fm_workers.specs.Parts.{AreRuns}
+use Rattle.fm_workers.specs.Tallies.{CountsPart, DoesTallyPart, SumsTo, Tallied, Tallies, Tallying}
+use Rattle.fm_workers.proofs.Asked.{piece}
+use Rattle.fm_workers.proofs.Numbers.{both_counted}
+use Rattle.fm_workers.proofs.Runs.{run_ends, run_fits, runs_order}
+
+-- ---- numbers that a query lists
+
+asked_none : (a : Asked) → ListsBytes a → numbers_listed (found_in [] a) ≡ []
+asked_none (asked.Of fold.All r) h = refl
+asked_none a h = absurd h
+
+items_none : (items : List Item) (conditions : List _) → AreTallied items → listed (map (item_found (chosen conditions [])) items) ≡ []
+items_none (item ∷ []) conditions h = asked_none item.asked h
+items_none items conditions h = absurd h
+
+-- No bytes have no numbers.
+none_listed : (p : Plan) (bytes : List ℕ) → IsTally p → bytes ≡ [] → listed (answer p bytes) ≡ []
+none_listed p bytes h e =
+    ap (λ bs. listed (answer p bs)) e ∙ ap (λ k. listed (found_over p (pieces k p.size []))) (zero-div p.size) ∙ items_none p.items p.conditions h
+
+asked_both : (a : Asked) (rs qs : List (List ℕ)) → ListsBytes a
+    → numbers_listed (both (found_in rs a) (found_in qs a)) ≡ numbers_listed (found_in rs a) ++ numbers_listed (found_in qs a)
+asked_both (asked.Of fold.All r) rs qs h = refl
+asked_both a rs qs h = absurd h
+
+items_both : (items : List Item) (rs qs : List (List ℕ)) → AreTallied items
+    → listed (joined (map (item_found rs) items) (map (item_found qs) items)) ≡ listed (map (item_found rs) items) ++ listed (map (item_found qs) items)
+items_both (item ∷ []) rs qs h = asked_both item.asked rs qs h
+items_both items rs qs h = absurd h
+
+listed_both : (p : Plan) (a b : List ℕ) → IsTally p → listed (joined (answer p a) (answer p b)) ≡ listed (answer p a) ++ listed (answer p b)
+listed_both p a b h = items_both p.items (chosen p.conditions (records p.size a)) (chosen p.conditions (records p.size b)) h
+
+-- ---- bytes of runs
+
+pub range_append : (a m n : ℕ) → range_with_len a (m + n) ≡ range_with_len a m ++ range_with_len (a + m) n
+range_append a zero n = let e : 0 + n ≡ n = omega arith in let f : a ≡ a + 0 = omega arith in ap (range_with_len a) e ∙ ap (λ x. range_with_len x n) f
+range_append a (suc m) n =
+    let e : suc m + n ≡ suc (m + n) = omega arith in
+    let f : a + 1 + m ≡ a + suc m = omega arith in
+    ap (range_with_len a) e ∙ ap (λ xs. a ∷ xs) (range_append (a + 1) m n) ∙ ap (λ x. a ∷ (range_with_len (a + 1) m ++ range_with_len x n)) f
+
+bytes_of_parts : (now : State) (s : Region) (at m n : ℕ)
+    → bytes_at_places now (part_of at (m + n) s) ≡ bytes_at_places now (part_of at m s) ++ bytes_at_places now (part_of (at + m) n s)
+bytes_of_parts now s at m n =
+    let b = byte_at (arena_of now s.arena).words in
+    let start : s.first + at + m ≡ s.first + (at + m) = omega arith in
+    ap (map b) (range_append (s.first + at) m n) ∙ map-append b (range_with_len (s.first + at) m) (range_with_len (s.first + at + m) n)
+    ∙ ap (λ k. map b (range_with_len (s.first + at) m) ++ map b (range_with_len k n)) start
+
+-- A run of records, cut in two.
+pub bytes_of_runs : (now : State) (p : Plan) (s : Region) (from next to : ℕ) → from ≤ next → next ≤ to
+    → bytes_at_places now (piece p s from to) ≡ bytes_at_places now (piece p s from next) ++ bytes_at_places now (piece p s next to)
+bytes_of_runs now p s from next to first later =
+    let here = run_ends from next p.size first in
+    let behind = run_ends next to p.size later in
+    let all = run_ends from to p.size (omega (arith, first, later)) in
+    let sum : (to - from) * p.size ≡ (next - from) * p.size + (to - next) * p.size = omega (arith, here, behind, all) in
+    ap (λ n. bytes_at_places now (part_of (from * p.size) n s)) sum ∙ bytes_of_parts now s (from * p.size) ((next - from) * p.size) ((to - next) * p.size)
+    ∙ ap (λ n. bytes_at_places now (piece p s from next) ++ bytes_at_places now (part_of n ((to - next) * p.size) s)) here
+
+-- ---- parts
+
+pub spared_part : (limit : ℕ) (now : State) (es : List Entry) (s : Region) (at n : ℕ) → at + n ≤ s.size → IsSpared limit now es s
+    → IsSpared limit now es (part_of at n s)
+spared_part limit now es s at n within h = record {
+  legal = h.legal;
+  spared = λ place from below. h.spared place (omega (arith, from)) (omega (arith, below, within));
+}
+
+module _ (limit : ℕ) (now : State) (w : Tallying) (s : Region) (more : List Entry) (plan : IsPlan w.plan) (tally : IsTally w.plan)
+    (spared : IsSpared limit now more s) where
+  -- One part's counts are those of its numbers.
+  part_counted : (c : Caller) (region : Region) (ns : List ℕ) → IsSpared limit now more region
+      → CountsPart c w.plan region w.counts ns (Ok tt) (made_by c more) → AreCounts (listed (answer w.plan (bytes_at_places now region))) ns
+  part_counted c region ns mine h =
+      let all = subst (FindAs region (bytes_at_places now region)) h.parts (spared_found limit now more region c mine) in
+      let finds = (all_split (FindsAs region (bytes_at_places now region)) h.reads h.adds all).0 in
+      let is = answer_of_bytes c w.plan region (bytes_at_places now region) h.found h.reads
+      (record { plan = plan; size = length-places now region; finds = finds; does = h.did }) in
+      subst (λ f. AreCounts (listed f) ns) is h.are
+
+  pub runs_counted : (from to : ℕ) (cs : List Caller) (ts us : List Tallied) (ns : List ℕ) → to ≤ s.size / w.plan.size
+      → AreDone (Tallies w) more cs ts us → AreRuns w.plan s from ts to → SumsTo us (Ok ns)
+      → AreCounts (listed (answer w.plan (bytes_at_places now (piece w.plan s from to)))) ns
+  runs_counted from to [] [] [] ns within d h e =
+      let same : from * w.plan.size ≡ to * w.plan.size = ap (λ (n : ℕ). n * w.plan.size) h in
+      let ends = run_ends from to w.plan.size (omega (arith, h)) in
+      let size : (to - from) * w.plan.size ≡ 0 = omega (arith, same, ends) in
+      let none : bytes_at_places now (piece w.plan s from to) ≡ [] =
+      ap (λ n. map (byte_at (arena_of now s.arena).words) (range_with_len (s.first + from * w.plan.size) n)) size in
+      subst (λ ms. AreCounts ms ns) (sym (none_listed w.plan _ tally none)) e
+  runs_counted from to (c ∷ cs) (t ∷ ts) (u ∷ us) ns within d h e =
+      let next : ℕ = h.0 in
+      let first = h.1.order in
+      let later = runs_order w.plan s h.0 to ts h.2 in
+      let fits = run_fits from h.0 w.plan.size s.size first (omega (arith, later, within)) in
+      let part = spared_part limit now more s (from * w.plan.size) ((h.0 - from) * w.plan.size) (omega (arith, fits)) spared in
+      let mine = subst (λ r. DoesTallyPart c w.plan t.region w.counts r (made_by c more)) e.part.is_first d.0.did in
+      let here = part_counted c t.region e.part.first (subst (IsSpared limit now more) (sym h.1.region) part) mine in
+      let one = subst (λ (r : Region). AreCounts (listed (answer w.plan (bytes_at_places now r))) e.part.first) h.1.region here in
+      let rest = runs_counted h.0 to cs ts us e.part.rest within d.1 h.2 (subst (SumsTo us) e.part.is_rest e.comes) in
+      let a = bytes_at_places now (piece w.plan s from h.0) in
+      let b = bytes_at_places now (piece w.plan s h.0 to) in
+      let whole : length (bytes_at_places now (piece w.plan s from h.0)) % w.plan.size ≡ 0 =
+      ap (λ n. n % w.plan.size) (length-places now (piece w.plan s from h.0)) ∙ mul-mod_left (h.0 - from) w.plan.size in
+      let is : listed (answer w.plan (bytes_at_places now (piece w.plan s from to))) ≡ listed (answer w.plan a) ++ listed (answer w.plan b) =
+      ap (λ bs. listed (answer w.plan bs)) (bytes_of_runs now w.plan s from h.0 to first later)
+      ∙ ap listed (sym (answer-append w.plan a b plan.sized whole)) ∙ listed_both w.plan a b tally in
+      subst (λ ms. AreCounts ms ns) (sym is)
+      (both_counted (listed (answer w.plan a)) (listed (answer w.plan b)) e.part.first e.part.rest ns one rest e.part.sums)
+  runs_counted from to cs ts us ns within d h e = absurd d

@@ -1,0 +1,75 @@
+use Rattle.std.proofs.Common.{◌≡◌, ◌%◌, ◌/◌, arith, refl, sym, ap, ◌∙◌, subst, inl, inr, Err}
+use Rattle.std.proofs.lemmas.List.Elements.{All-from_recursion}
+use Rattle.fm_base.specs.declared.arena_id.ArenaId.{ArenaId}
+use Rattle.fm_base.specs.declared.kind.Kind.TheVariants.{Confined}
+use Rattle.fm_base.specs.declared.refusal.Refusal.{Refusal}
+use Rattle.fm_base.specs.declared.refusal.Refusal.TheVariants.{Memory, Ragged, Unsupported, WrongThread}
+use Rattle.fm_workers.specs.Tallies.{CanTally, SumsTo, Tallying}
+use Rattle.fm_workers.specs.Tally.{TalliedWith}
+use Rattle.fm_workers.proofs.Asked.{can_ask_runs}
+use Rattle.fm_workers.proofs.Queried.{even_of}
+use Rattle.fm_workers.proofs.Tallied.{can_be_tallied, tallied, tallied_none, tallied_refused}
+use Rattle.fm_workers.proofs.Tallying.{can_tally_all}
+use Rattle.fm_workers.proofs.tally.tally_with.Goals as goal
+
+pub returns-then-not-is_tally-clause-tallied : goal.returns-then-not-is_tally-clause-tallied
+returns-then-not-is_tally-clause-tallied g c =
+    tallied_none c.args.pass.now c.args.q.now c.args.s.now c.args.counts.now c.args.threads Unsupported tt c.requires.query.known c.requires.known
+    (c.if-not-is_tally.ensures, refl)
+
+pub returns-then-rest-ne0-clause-tallied : goal.returns-then-rest-ne0-clause-tallied
+returns-then-rest-ne0-clause-tallied g c =
+    let some : ¬ (c.size.result % c.record_size.result ≡ 0) = c.if-rest-ne0.true in
+    tallied_none c.args.pass.now c.args.q.now c.args.s.now c.args.counts.now c.args.threads (Ragged (c.size.result % c.record_size.result)) tt
+    c.requires.query.known c.requires.known
+    (c.if-not-is_tally.ensures, (λ i. c.size.ensures.size i % c.record_size.ensures.size i), omega (arith, some), refl)
+
+pub returns-then-is_confined-clause-tallied : goal.returns-then-is_confined-clause-tallied
+returns-then-is_confined-clause-tallied g c =
+    let even = even_of c.args.q.now c.args.s.now c.size.result c.record_size.result c.size.ensures.size c.record_size.ensures.size c.if-rest-ne0.false in
+    let kind = ap (λ (a : ArenaId). a.kind) (sym c.arena.ensures) ∙ c.is_confined.ensures.yes c.if-is_confined.true in
+    tallied_none c.args.pass.now c.args.q.now c.args.s.now c.args.counts.now c.args.threads WrongThread tt c.requires.query.known c.requires.known
+    (c.if-not-is_tally.ensures, even, inl kind, refl)
+
+pub returns-then-is_confined-2-clause-tallied : goal.returns-then-is_confined-2-clause-tallied
+returns-then-is_confined-2-clause-tallied g c =
+    let even = even_of c.args.q.now c.args.s.now c.size.result c.record_size.result c.size.ensures.size c.record_size.ensures.size c.if-rest-ne0.false in
+    let kind = ap (λ (a : ArenaId). a.kind) (sym c.arena-2.ensures) ∙ c.is_confined-2.ensures.yes c.if-is_confined-2.true in
+    tallied_none c.args.pass.now c.args.q.now c.args.s.now c.args.counts.now c.args.threads WrongThread tt c.requires.query.known c.requires.known
+    (c.if-not-is_tally.ensures, even, inr kind, refl)
+
+pub returns-in-Err-clause-tallied : goal.returns-in-Err-clause-tallied
+returns-in-Err-clause-tallied g c =
+    let can = can_be_tallied c.args.q.now c.args.s.now c.args.counts.now c.size.result c.record_size.result c.arena.result c.arena-2.result
+    c.if-not-is_tally.ensures c.size.ensures.size c.record_size.ensures.size c.if-rest-ne0.false c.arena.ensures
+    (c.is_confined.ensures.no c.if-is_confined.false) c.arena-2.ensures (c.is_confined-2.ensures.no c.if-is_confined-2.false) in
+    subst (λ (r : Refusal). TalliedWith c.args.threads c.args.pass.now c.args.pass.now c.args.q.now c.args.s.now c.args.counts.now (Err r))
+    (sym c.in-Err.ensures.memory)
+    (tallied_none c.args.pass.now c.args.q.now c.args.s.now c.args.counts.now c.args.threads Memory tt c.requires.query.known c.requires.known can)
+
+pub work_crew-requires-clause-can : goal.work_crew-requires-clause-can
+work_crew-requires-clause-can g c κs within =
+    let w : Tallying = record { plan = c.args.q.now; counts = c.args.counts.now } in
+    let apart : ¬ (c.args.counts.now.arena.kind ≡ Confined) =
+    (λ q. c.is_confined-2.ensures.no c.if-is_confined-2.false (ap (λ (a : ArenaId). a.kind) c.arena-2.ensures ∙ q)) in
+    All-from_recursion (CanTally w c.args.pass.now) c.in-Ok.parts.items
+    (can_tally_all w c.args.pass.now c.in-Ok.parts.items c.requires.known apart c.requires.longs
+    (can_ask_runs c.args.q.now c.args.pass.now c.args.s.now 0 (c.args.s.now.size / c.args.q.now.size) c.in-Ok.parts.items c.record_size.ensures.plan
+    c.requires.query.known c.requires.query.aligned (omega arith) c.in-Ok.ensures.cut))
+
+pub returns-in-Ok-work_crew-clause-tallied : goal.returns-in-Ok-work_crew-clause-tallied
+returns-in-Ok-work_crew-clause-tallied g c =
+    let can = can_be_tallied c.args.q.now c.args.s.now c.args.counts.now c.size.result c.record_size.result c.arena.result c.arena-2.result
+    c.if-not-is_tally.ensures c.size.ensures.size c.record_size.ensures.size c.if-rest-ne0.false c.arena.ensures
+    (c.is_confined.ensures.no c.if-is_confined.false) c.arena-2.ensures (c.is_confined-2.ensures.no c.if-is_confined-2.false) in
+    tallied {k = record { plan = c.args.q.now; counts = c.args.counts.now }} c.in-Ok-work_crew.ensures.worked c.record_size.ensures.plan c.in-Ok.ensures.cut
+    c.in-Ok.ensures.count can c.requires.longs c.requires.other c.requires.query.known c.requires.known c.total_of.result
+    (subst (λ ts. SumsTo ts c.total_of.result) c.as_slice.ensures.value c.total_of.ensures)
+
+pub returns-clause-tallied : goal.returns-clause-tallied
+returns-clause-tallied g c =
+    let can = can_be_tallied c.args.q.now c.args.s.now c.args.counts.now c.size.result c.record_size.result c.arena.result c.arena-2.result
+    c.if-not-is_tally.ensures c.size.ensures.size c.record_size.ensures.size c.if-rest-ne0.false c.arena.ensures
+    (c.is_confined.ensures.no c.if-is_confined.false) c.arena-2.ensures (c.is_confined-2.ensures.no c.if-is_confined-2.false) in
+    tallied_refused {w = record { plan = c.args.q.now; counts = c.args.counts.now }} c.in-Err-work_crew.refusal c.in-Err-work_crew.ensures.worked
+    c.in-Ok.ensures.count can c.requires.query.known c.requires.known

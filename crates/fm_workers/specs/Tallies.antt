@@ -1,0 +1,92 @@
+-- What a pass does that counts the numbers of a part, and what the parts' counts come to.
+use Rattle.std.specs.Prelude.{◌≡◌, ◌≢◌, ◌⊎◌, ℕ, List, [], ◌∷◌, ◌++◌, Result, Ok, Err}
+use Rattle.fm_base.specs.declared.caller.Caller.{Caller}
+use Rattle.fm_base.specs.declared.refusal.Refusal.{Refusal}
+use Rattle.fm_base.specs.declared.kind.Kind.TheVariants.{Confined}
+use Rattle.fm_base.specs.declared.refusal.Refusal.TheVariants.{Memory}
+use Rattle.fm_base.specs.Calls.{Entry}
+use Rattle.fm_base.specs.View as memory
+use Rattle.fm_pool_facts.specs.Views.{View}
+use Rattle.fm_calls.specs.Told.{view_of_pass}
+use Rattle.fm_segment.specs.Access.{IsKnown}
+use Rattle.fm_segment.specs.Region.{Region}
+use Rattle.fm_query.specs.Plan.{Plan}
+use Rattle.fm_records.specs.declared.found.Found.{Found}
+use Rattle.fm_records.specs.Few.{AreFew}
+use Rattle.fm_records.specs.Learnt.{CanQuery}
+use Rattle.fm_records.specs.Query.{DoesQuery}
+use Rattle.fm_workers.specs.declared.part.Part.{Part}
+use Rattle.fm_workers.specs.Parts.{CanAsk}
+use Rattle.fm_workers.specs.Adding.{CanAdd, DoesAdd, HasCounts}
+use Rattle.fm_workers.specs.Counts.{AreCounts, AreSums, listed}
+
+-- the part's numbers can be asked for, and counts added
+pub record CanTallyPart (v : memory.View) (p : Plan) (region counts : Region) : Type 0 where
+  pub ask : CanQuery v p region
+  pub add : CanAdd v counts
+
+-- the numbers were listed first, and then it was added how often each comes
+pub record CountsPart (c : Caller) (p : Plan) (region counts : Region) (ns : List ℕ) (end : Result (Unit {0}) Refusal) (own : List Entry) : Type 0 where
+  pub found : List Found
+  pub reads : List Entry
+  pub adds : List Entry
+  pub parts : own ≡ reads ++ adds
+  pub did : DoesQuery c p region (Ok found) reads
+  pub few : AreFew region.size p found
+  pub are : AreCounts (listed found) ns
+  pub added : DoesAdd c counts ns end adds
+
+-- no numbers were listed, or the counts' arena was found closed
+pub data StopsPart (c : Caller) (p : Plan) (region counts : Region) (r : Refusal) (own : List Entry) : Type 0 where
+  unread : DoesQuery c p region (Err r) own → StopsPart c p region counts r own
+  unadded : (ns : List ℕ) → CountsPart c p region counts ns (Err r) own → StopsPart c p region counts r own
+
+abbrev pub DoesTallyPart : Caller → Plan → Region → Region → Result (List ℕ) Refusal → List Entry → Type 0
+DoesTallyPart c p region counts (Ok ns) own = CountsPart c p region counts ns (Ok tt) own
+DoesTallyPart c p region counts (Err r) own = StopsPart c p region counts r own
+
+-- ---- the work of a crew
+
+-- what is asked, and the counts that are shared
+pub record Tallying : Type 0 where
+  pub plan : Plan
+  pub counts : Region
+
+abbrev pub Tallied : Type 0
+Tallied = Part (List ℕ)
+
+pub record CanTally (w : Tallying) (v : View) (t : Tallied) : Type 0 where
+  pub ask : CanAsk w.plan v t
+  pub known : IsKnown (view_of_pass v) w.counts
+  pub shared : w.counts.arena.kind ≢ Confined
+  pub longs : HasCounts w.counts
+
+pub record Tallies (w : Tallying) (c : Caller) (old new : Tallied) (own : List Entry) : Type 0 where
+  pub same : new.region ≡ old.region
+  pub did : DoesTallyPart c w.plan old.region w.counts new.answer own
+
+-- ---- counts of parts
+
+pub record AddsPart (t : Tallied) (behind : Result (List ℕ) Refusal) (ns : List ℕ) : Type 0 where
+  pub first : List ℕ
+  pub rest : List ℕ
+  pub is_first : t.answer ≡ Ok first
+  pub is_rest : behind ≡ Ok rest
+  pub sums : AreSums first rest ns
+
+-- the counts of a part and of those behind it; or the part is refused so, or those behind it are, or a sum can't be kept
+abbrev pub SumsPart : Tallied → Result (List ℕ) Refusal → Result (List ℕ) Refusal → Type 0
+SumsPart t behind (Ok ns) = AddsPart t behind ns
+SumsPart t behind (Err r) = (t.answer ≡ Err r) ⊎ ((r ≡ Memory) ⊎ (behind ≡ Err r))
+
+-- the same, where B says what those behind it come to
+pub record SumsBefore (t : Tallied) (B : Result (List ℕ) Refusal → Type 0) (result : Result (List ℕ) Refusal) : Type 0 where
+  pub behind : Result (List ℕ) Refusal
+  pub comes : B behind
+  pub part : SumsPart t behind result
+
+-- the counts of all parts
+abbrev pub SumsTo : List Tallied → Result (List ℕ) Refusal → Type 0
+SumsTo [] (Ok ns) = AreCounts [] ns
+SumsTo [] (Err r) = ⊥
+SumsTo (t ∷ ts) result = SumsBefore t (SumsTo ts) result

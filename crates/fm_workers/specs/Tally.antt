@@ -1,0 +1,136 @@
+-- What a tally by a crew asks for, and what its caller learns.
+use Rattle.std.specs.Prelude.{◌≡◌, ◌≢◌, ◌⊎◌, ℕ, ◌+◌, ◌<◌, ◌≤◌, ◌%◌, List, [], ◌∷◌, ◌++◌, length, slice_index, false, Result, Ok, Err, IfOk, ⊤}
+use Rattle.std.specs.List.{AllByRecursion}
+use Rattle.fm_base.specs.declared.arena_id.ArenaId.{ArenaId}
+use Rattle.fm_base.specs.declared.caller.Caller.{Caller}
+use Rattle.fm_base.specs.declared.kind.Kind.TheVariants.{Confined}
+use Rattle.fm_base.specs.declared.refusal.Refusal.{Refusal}
+use Rattle.fm_base.specs.declared.refusal.Refusal.TheVariants.{Unsupported, Ragged, WrongThread, Closed, NoPass, Memory}
+use Rattle.fm_base.specs.Arenas.{word_in}
+use Rattle.fm_base.specs.Calls.{Add, Call, Entry, Found}
+use Rattle.fm_base.specs.Counting.{OnlyAdds, adds_to}
+use Rattle.fm_base.specs.Finds.{Find, Gathered}
+use Rattle.fm_base.specs.Histories.{made_by}
+use Rattle.fm_base.specs.Visits.{refused_visit, visit}
+use Rattle.fm_lists.specs.Among.{IsAmong}
+use Rattle.fm_pool_facts.specs.Views.{View, IsSound, state_in}
+use Rattle.fm_calls.specs.Kept.{Lasts}
+use Rattle.fm_calls.specs.Told.{view_of_pass}
+use Rattle.fm_rule.specs.declared.pool.Pool.{Pool}
+use Rattle.fm_path.specs.Resolution.{Resolution}
+use Rattle.fm_segment.specs.Access.{IsKnown}
+use Rattle.fm_segment.specs.Region.{Region}
+use Rattle.fm_query.specs.Plan.{Plan}
+use Rattle.fm_records.specs.Alone.{bytes_at_places}
+use Rattle.fm_records.specs.Answers.{answer}
+use Rattle.fm_records.specs.Laws.{IsAsked, value_in}
+use Rattle.fm_records.specs.Reads.{IsWordOf}
+use Rattle.fm_workers.specs.Adding.{HasCounts, count_word}
+use Rattle.fm_workers.specs.Counts.{AreCounts, IsTally, listed}
+use Rattle.fm_workers.specs.Crew.{CrewGathered, FoundAllDrawn, IsWhole, callers}
+use Rattle.fm_workers.specs.Query.{CanQueryWith, IsReadByCrew, NobodyElseWrites, OnlyReads}
+
+-- as for a query; the counts are 256 longs that the pass knows, to be written, in another arena
+pub record CanTallyWith (pool : Pool) (v : View) (p : Plan) (s counts : Region) (threads : ℕ) : Type 0 where
+  pub query : CanQueryWith pool v p s threads
+  pub known : IsKnown (view_of_pass v) counts
+  pub longs : HasCounts counts
+  pub written : counts.read_only ≡ false
+  pub other : counts.arena ≢ s.arena
+
+-- ---- what the passes did
+
+-- visits, each with one Add on a word of the counts, of which the last may have found the arena closed
+pub data OnlyAddsTo (counts : Region) (c : Caller) : List Entry → Type 0 where
+  no_more : OnlyAddsTo counts c []
+  closed : OnlyAddsTo counts c (refused_visit c counts.arena)
+  one_add : (word n found : ℕ) (rest : List Entry) → IsWordOf counts word → OnlyAddsTo counts c rest
+      → OnlyAddsTo counts c (visit c counts.arena ((Add counts.arena word n, Found found) ∷ []) ++ rest)
+
+-- the segment was read, and then the counts were added to
+pub record OnlyTallies (s counts : Region) (c : Caller) (own : List Entry) : Type 0 where
+  pub reads : List Entry
+  pub adds : List Entry
+  pub parts : own ≡ reads ++ adds
+  pub are_reads : OnlyReads s c reads
+  pub are_adds : OnlyAddsTo counts c adds
+
+-- ---- what comes of it
+
+-- the query lists bytes over whole records, and neither arena is confined
+pub record CanBeTallied (p : Plan) (s counts : Region) : Type 0 where
+  pub tally : IsTally p
+  pub even : s.size % p.size ≡ 0
+  pub shared : s.arena.kind ≢ Confined
+  pub shared_counts : counts.arena.kind ≢ Confined
+
+-- a caller of the crew found an arena closed, at its last entry
+pub record FoundEitherClosed (s counts : Region) (crew : List Caller) (more : List Entry) : Type 0 where
+  pub caller : Caller
+  pub among : IsAmong caller crew
+  pub arena : ArenaId
+  pub either : (arena ≡ s.arena) ⊎ (arena ≡ counts.arena)
+  pub before : List Entry
+  pub last : made_by caller more ≡ before ++ refused_visit caller arena
+
+-- what comes of it, the refusals in the order of the checks
+abbrev pub EndsTally : View → View → Plan → Region → Region → List Entry → List Gathered → List Find → Result (List ℕ) Refusal → Type 0
+EndsTally old new p s counts more crew draws (Ok ns) = CanBeTallied p s counts
+EndsTally old new p s counts more crew draws (Err Unsupported) = ¬ (IsTally p) × (new ≡ old)
+EndsTally old new p s counts more crew draws (Err (Ragged rest)) = IsTally p × (rest ≡ s.size % p.size) × (0 < rest) × (new ≡ old)
+EndsTally old new p s counts more crew draws (Err WrongThread) =
+    IsTally p × (s.size % p.size ≡ 0) × ((s.arena.kind ≡ Confined) ⊎ (counts.arena.kind ≡ Confined)) × (new ≡ old)
+EndsTally old new p s counts more crew draws (Err Closed) = CanBeTallied p s counts × FoundEitherClosed s counts (callers crew) more
+EndsTally old new p s counts more crew draws (Err NoPass) = CanBeTallied p s counts × FoundAllDrawn old.shape.passes draws
+EndsTally old new p s counts more crew draws (Err Memory) = CanBeTallied p s counts
+EndsTally old new p s counts more crew draws (Err r) = ⊥
+
+-- the parts were asked
+abbrev pub AreAsked : Result (List ℕ) Refusal → Type 0
+AreAsked (Ok ns) = ⊤
+AreAsked (Err Closed) = ⊤
+AreAsked (Err r) = ⊥
+
+-- ---- the numbers
+
+-- the call leaves the word
+abbrev pub LeavesWord : ArenaId → ℕ → Call → Type 0
+LeavesWord id word call = OnlyAdds id word call × (adds_to id word call ≡ 0)
+
+-- nobody but these changes the word
+abbrev pub NobodyElseChanges : ArenaId → ℕ → List Caller → List Entry → Type 0
+NobodyElseChanges id word crew es = AllByRecursion (λ e. IsAmong e.caller crew ⊎ LeavesWord id word e.call) es
+
+-- a count that was 0, and that nobody else changes, is what is answered
+abbrev pub AreHeld : View → View → Region → List Caller → List Entry → List ℕ → Type 0
+AreHeld old new counts crew more ns =
+    (k : ℕ) → k < 256 → word_in (state_in old) counts.arena (count_word counts k) ≡ 0
+    → NobodyElseChanges counts.arena (count_word counts k) crew more
+    → word_in (state_in new) counts.arena (count_word counts k) ≡ slice_index ns k
+
+-- where nobody else writes the segment, these are the counts of the numbers that the query lists over its bytes
+abbrev pub AreTheCounts : View → Plan → Region → List Caller → List Entry → List ℕ → Type 0
+AreTheCounts old p s crew more ns = NobodyElseWrites s crew more → AreCounts (listed (answer p (bytes_at_places (state_in old) s))) ns
+
+-- and each word of each of these was read by one of the passes
+abbrev pub AreAllRead : View → Plan → Region → List Caller → List Entry → Type 0
+AreAllRead old p s crew more =
+    NobodyElseWrites s crew more → (index : ℕ) (r : Resolution) (is : List ℕ) (word : ℕ)
+    → IsAsked p (bytes_at_places (state_in old) s) index r is → IsWordOf (value_in p s index r is) word → IsReadByCrew s crew more word
+
+pub record TalliedWith (threads : ℕ) (old new : View) (p : Plan) (s counts : Region) (result : Result (List ℕ) Refusal) : Type 0 where
+  pub crew : CrewGathered old new
+  -- at most one pass a worker
+  pub one_each : length crew.crew ≤ threads
+  pub visits : AllByRecursion (λ c. OnlyTallies s counts c (made_by c crew.more)) (callers crew.crew)
+  pub ends : EndsTally old new p s counts crew.more crew.crew crew.draws result
+  pub value : IfOk result (AreTheCounts old p s (callers crew.crew) crew.more)
+  pub read : IfOk result (λ _. AreAllRead old p s (callers crew.crew) crew.more)
+  pub held : IfOk result (AreHeld old new counts (callers crew.crew) crew.more)
+  -- parts are asked only where there are enough passes; where the pass was known to be whole, a pass is wanting only where there aren't
+  pub suffice : AreAsked result → length old.gathered + (1 + threads) ≤ old.shape.passes
+  pub wanting : IsWhole old → result ≡ Err NoPass → old.shape.passes < length old.gathered + (1 + threads)
+  pub lasts : Lasts old new
+  pub known : IsKnown (view_of_pass new) s
+  pub counts_known : IsKnown (view_of_pass new) counts
+  pub sound : IfOk result (λ _. IsSound new)
