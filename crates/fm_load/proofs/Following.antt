@@ -37,3 +37,11 @@ pub filled_reads : (old new : Option (List Read)) (name : List ℕ) (at from roo
 filled_reads old new name at from room end Goes Says reads same small within says =
     subst (λ (k : ℕ). ReadsFile old new name piece_limit end k Says) same
     (ReadsFile-wider old new name room (at + room) piece_limit end at Goes Says small within says reads)
+
+-- what was read of a file from the same place on, and a weaker thing of what followed
+pub chunk_reads : (old new : Option (List Read)) (name : List ℕ) (end at from : ℕ) (Goes Says : Next → Type 0)
+    → ReadsFile old new name piece_limit end at Goes → at ≡ from → ((next : Next) → Goes next → Says next)
+    → ReadsFile old new name piece_limit end from Says
+chunk_reads old new name end at from Goes Says reads same says =
+    subst (λ (k : ℕ). ReadsFile old new name piece_limit end k Says) same
+    (ReadsFile-wider old new name piece_limit end piece_limit end at Goes Says (omega arith) (omega arith) says reads)

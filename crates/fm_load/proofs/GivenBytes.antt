@@ -25,7 +25,6 @@ pub ready_room : (v : View) (s : Region) → IsReady v s → s.size ≤ length (
 ready_room v s r =
     let within = r.within in
     let size = r.held.size in
-    let room = r.held.room in
     omega (arith, length-bytes_in (words_at v s.arena))
 
 -- and it is as much as the segment says

@@ -1,5 +1,5 @@
 -- What calls do to an arena that a caller by itself holds.
-use Rattle.std.proofs.Common.{◌≡◌, ℕ, ◌+◌, ◌*◌, ◌≤◌, Bool, true, false, List, [], ◌∷◌, None, Ok, Err, length, refl, ap, sym, ◌∙◌, subst, arith}
+use Rattle.std.proofs.Common.{◌≡◌, ℕ, ◌+◌, ◌*◌, ◌^◌, ◌≤◌, Bool, true, false, List, [], ◌∷◌, None, Ok, Err, length, refl, ap, sym, ◌∙◌, subst, arith}
 use Rattle.std.specs.Prelude.{nat_le, if◌then◌else◌, not}
 use lib.Count.{ones}
 use Rattle.fm_base.specs.declared.caller.Caller.{Caller}
@@ -22,8 +22,9 @@ use Rattle.fm_bytes.proofs.Words.{length-bytes_in}
 use Rattle.fm_access.specs.Alone.{ChangesBytes, StaysOut, bytes_of_arena, with_words}
 use Rattle.fm_access.proofs.Splicing.{keeps_count}
 use Rattle.fm_access.proofs.Visits.{visit_stays}
-use Rattle.fm_load.specs.Held.{IsHeld, IsEmpty, HoldsThen, words_at}
-use Rattle.fm_load.specs.Limits.{record_file_limit}
+use Rattle.fm_load.specs.Held.{IsHeld, IsEmpty, HoldsThen, Wants, words_at}
+use Rattle.fm_base.specs.Outcomes.{Nature, MayRefuse, FoundNoneFree}
+use Rattle.fm_base.specs.Finds.{is_page}
 use Rattle.std.proofs.lemmas.List.{length-replicate}
 use Rattle.std.proofs.lemmas.Bool.{le-leb}
 
@@ -82,18 +83,18 @@ did_only x y own es alone makes are =
 -- ---- what a call leaves
 
 -- a change of the held arena that leaves its life and the number of its words
-held_changed : (least : ℕ) (v w : View) (own : List Entry) (a : ArenaId) (given : ℕ) (words : List ℕ) (f : Arena → Arena) → KeepsName f
-    → IsHeld least v a → Makes v w own → w.inside ≡ None → w.state ≡ changed v.state a f
+held_changed : (v w : View) (own : List Entry) (a : ArenaId) (given : ℕ) (words : List ℕ) (f : Arena → Arena) → KeepsName f
+    → IsHeld v a → Makes v w own → w.inside ≡ None → w.state ≡ changed v.state a f
     → (f (arena_of v.state a)).life ≡ (arena_of v.state a).life → (f (arena_of v.state a)).given ≡ given → (f (arena_of v.state a)).words ≡ words
-    → length words ≡ length (words_at v a) → HoldsThen least w a given words
-held_changed least v w own a given words f named h makes out state life given_same words_are size =
+    → length words ≡ length (words_at v a) → HoldsThen w a given words
+held_changed v w own a given words f named h makes out state life given_same words_are size =
     let is : arena_of w.state a ≡ f (arena_of v.state a) = ap (λ (s : State). arena_of s a) state ∙ lookup_changed v.state a f named h.known in
     let words_now : words_at w a ≡ words = ap (λ (x : Arena). x.words) is ∙ words_are in
     record {
       held = record {
         by_itself = by_itself_still v w own makes h.by_itself;
         outside = out;
-        room = subst (λ n. least ≤ n) (sym makes.same_limit) h.room;
+        small = subst (λ n. n ≤ 2 ^ 40) (sym makes.same_limit) h.small;
         known = ap (λ (s : State). has_arena s a) state ∙ (changed_has f named v.state a a ∙ h.known);
         usable = subst (MayUse a) (sym makes.same_caller) h.usable;
         alive = ap (λ (x : Arena). x.life) is ∙ (life ∙ h.alive);
@@ -104,15 +105,15 @@ held_changed least v w own a given words f named h makes out state life given_sa
     }
 
 -- nothing changed
-held_same : (least : ℕ) (v w : View) (own : List Entry) (a : ArenaId) → IsHeld least v a → Makes v w own → w.inside ≡ None → w.state ≡ v.state
-    → HoldsThen least w a (given_in v a) (words_at v a)
-held_same least v w own a h makes out state =
+held_same : (v w : View) (own : List Entry) (a : ArenaId) → IsHeld v a → Makes v w own → w.inside ≡ None → w.state ≡ v.state
+    → HoldsThen w a (given_in v a) (words_at v a)
+held_same v w own a h makes out state =
     let is : arena_of w.state a ≡ arena_of v.state a = ap (λ (s : State). arena_of s a) state in
     record {
       held = record {
         by_itself = by_itself_still v w own makes h.by_itself;
         outside = out;
-        room = subst (λ n. least ≤ n) (sym makes.same_limit) h.room;
+        small = subst (λ n. n ≤ 2 ^ 40) (sym makes.same_limit) h.small;
         known = ap (λ (s : State). has_arena s a) state ∙ h.known;
         usable = subst (MayUse a) (sym makes.same_caller) h.usable;
         alive = ap (λ (x : Arena). x.life) is ∙ h.alive;
@@ -123,9 +124,9 @@ held_same least v w own a h makes out state =
     }
 
 -- the arena was opened
-pub opened_held : (v w : View) (a : ArenaId) (kind : Kind) → IsByItself v → record_file_limit ≤ v.limit → w.inside ≡ None → DidOpen v w kind (Ok a)
+pub opened_held : (v w : View) (a : ArenaId) (kind : Kind) → IsByItself v → v.limit ≤ 2 ^ 40 → w.inside ≡ None → DidOpen v w kind (Ok a)
     → IsEmpty w a
-opened_held v w a kind alone room out did =
+opened_held v w a kind alone small out did =
     let only = did_only v w did.own (entry_of v.caller (Open a) Fine ∷ []) alone did.makes did.does.2 in
     let is : arena_of w.state a ≡ opened v.limit a =
     ap (λ (s : State). arena_of s a) only.state ∙ arena_of-opened v.state (opened v.limit a) only.legal.0.0 in
@@ -133,7 +134,7 @@ opened_held v w a kind alone room out did =
       held = record {
         by_itself = by_itself_still v w did.own did.makes alone;
         outside = out;
-        room = subst (λ n. record_file_limit ≤ n) (sym did.makes.same_limit) room;
+        small = subst (λ n. n ≤ 2 ^ 40) (sym did.makes.same_limit) small;
         known = ap (λ (s : State). has_arena s a) only.state ∙ has_arena-opened v.state (opened v.limit a);
         usable = λ confined. did.does.1 ∙ sym did.makes.same_caller;
         alive = ap (λ (x : Arena). x.life) is;
@@ -143,9 +144,9 @@ opened_held v w a kind alone room out did =
     }
 
 -- the arena gave bytes
-pub allocated_held : (least : ℕ) (v w : View) (a : ArenaId) (size place : ℕ) → IsHeld least v a → w.inside ≡ None → DidAllocate v w a size 8 (Ok place)
-    → (place ≡ rounded_up (given_in v a) 8) × HoldsThen least w a (place + size) (words_at v a)
-allocated_held least v w a size place h out did =
+pub allocated_held : (v w : View) (a : ArenaId) (size place : ℕ) → IsHeld v a → w.inside ≡ None → DidAllocate v w a size 8 (Ok place)
+    → (place ≡ rounded_up (given_in v a) 8) × HoldsThen w a (place + size) (words_at v a)
+allocated_held v w a size place h out did =
     let c = v.caller in
     let only = did_only v w did.own (visit v.caller a ((Allocate a size 8, Given place) ∷ [])) h.by_itself did.makes did.does.2 in
     let entered_state = changed v.state a (entered v.caller) in
@@ -157,54 +158,74 @@ allocated_held least v w a size place h out did =
     ∙ ap (λ (s : State). changed s a (left c)) (changed_twice v.state a (entered c) (given_up_to (place + size)) (λ x. refl))
     ∙ changed_twice v.state a (λ x. given_up_to (place + size) (entered c x)) (left c) (λ x. refl) in (
       gave.rounded ∙ ap (λ (x : Arena). rounded_up x.given 8) there,
-      held_changed least v w did.own a (place + size) (words_at v a) f (λ x. refl) h did.makes out state refl refl refl refl,
+      held_changed v w did.own a (place + size) (words_at v a) f (λ x. refl) h did.makes out state refl refl refl refl,
     )
 
--- an allocation that fits and is refused leaves the state
-refusal_stays : (least : ℕ) (v w : View) (a : ArenaId) (size : ℕ) (r : Refusal) → IsHeld least v a → rounded_up (given_in v a) 8 + size ≤ least
-    → DidAllocate v w a size 8 (Err r) → w.state ≡ v.state
-unfolding ones
-refusal_stays least v w a size refusal.Memory h room did = (did_only v w did.own [] h.by_itself did.makes did.does.2).state
-refusal_stays least v w a size refusal.PoolFull h room did =
-    let only = did_only v w did.own (visit v.caller a []) h.by_itself did.makes did.does.2 in
-    only.state ∙ visit_stays v.limit v.caller v.state a [] (λ l. refl) only.legal
-refusal_stays least v w a size refusal.BadAlignment h room did = absurd (did.does.0 refl)
-refusal_stays least v w a size refusal.WrongThread h room did = absurd (did.does.1 h.usable)
-refusal_stays least v w a size refusal.Closed h room did =
+-- the arena, which is alive, lets the caller in
+not_closed : (v w : View) (a : ArenaId) (size : ℕ) → IsHeld v a → DidAllocate v w a size 8 (Err refusal.Closed) → ⊥
+not_closed v w a size h did =
     let only = did_only v w did.own (refused_visit v.caller a) h.by_itself did.makes did.does.2 in
     let reply : Closed ≡ Fine = only.legal.1 ∙ ap enter_reply h.alive in
-    absurd (cc)
-refusal_stays least v w a size (refusal.NoRoom given) h room did =
+    cc
+
+-- and an allocation that fits has room
+has_room : (v w : View) (a : ArenaId) (size given : ℕ) → IsHeld v a → rounded_up (given_in v a) 8 + size ≤ v.limit
+    → DidAllocate v w a size 8 (Err (refusal.NoRoom given)) → ⊥
+has_room v w a size given h room did =
     let only = did_only v w did.own (visit v.caller a ((Allocate a size 8, NoRoom given) ∷ [])) h.by_itself did.makes did.does.2 in
     let there : arena_of (changed v.state a (entered v.caller)) a ≡ entered v.caller (arena_of v.state a) =
     lookup_changed v.state a (entered v.caller) (λ x. refl) h.known in
     let reply : NoRoom given ≡ allocate_reply v.limit (given_in v a) size 8 =
     only.legal.2.1 ∙ ap (λ (x : Arena). allocate_reply v.limit x.given size 8) there in
-    let within : rounded_up (given_in v a) 8 + size ≤ v.limit = (let l = h.room in omega arith) in
-    let fits : nat_le (rounded_up (given_in v a) 8 + size) v.limit ≡ true = le-leb (rounded_up (given_in v a) 8 + size) v.limit within in
+    let fits : nat_le (rounded_up (given_in v a) 8 + size) v.limit ≡ true = le-leb (rounded_up (given_in v a) 8 + size) v.limit room in
     let gives : NoRoom given ≡ Given (rounded_up (given_in v a) 8) =
     reply ∙ ap (λ b. if b then Given (rounded_up (given_in v a) 8) else NoRoom (given_in v a)) fits in
-    absurd (cc)
-refusal_stays least v w a size r h room did = absurd did.does
+    cc
+
+-- an allocation that fits and is refused leaves the state
+refusal_stays : (v w : View) (a : ArenaId) (size : ℕ) (r : Refusal) → IsHeld v a → rounded_up (given_in v a) 8 + size ≤ v.limit
+    → DidAllocate v w a size 8 (Err r) → w.state ≡ v.state
+unfolding ones
+refusal_stays v w a size refusal.Memory h room did = (did_only v w did.own [] h.by_itself did.makes did.does.2).state
+refusal_stays v w a size refusal.PoolFull h room did =
+    let only = did_only v w did.own (visit v.caller a []) h.by_itself did.makes did.does.2 in
+    only.state ∙ visit_stays v.limit v.caller v.state a [] (λ l. refl) only.legal
+refusal_stays v w a size refusal.BadAlignment h room did = absurd (did.does.0 refl)
+refusal_stays v w a size refusal.WrongThread h room did = absurd (did.does.1 h.usable)
+refusal_stays v w a size refusal.Closed h room did = absurd (not_closed v w a size h did)
+refusal_stays v w a size (refusal.NoRoom given) h room did = absurd (has_room v w a size given h room did)
+refusal_stays v w a size r h room did = absurd did.does
+
+-- and it is refused for want of memory, or of a page, where the type of memory may answer so
+pub refusal_wants : (nature : Nature) (v w : View) (a : ArenaId) (size : ℕ) (r : Refusal) → IsHeld v a → rounded_up (given_in v a) 8 + size ≤ v.limit
+    → DidAllocate v w a size 8 (Err r) → MayRefuse nature r → (r ≡ refusal.PoolFull → FoundNoneFree is_page v.told w.told) → Wants nature v w r
+unfolding ones
+refusal_wants nature v w a size refusal.Memory h room did may full = may
+refusal_wants nature v w a size refusal.PoolFull h room did may full = (may, full refl)
+refusal_wants nature v w a size refusal.BadAlignment h room did may full = absurd (did.does.0 refl)
+refusal_wants nature v w a size refusal.WrongThread h room did may full = absurd (did.does.1 h.usable)
+refusal_wants nature v w a size refusal.Closed h room did may full = absurd (not_closed v w a size h did)
+refusal_wants nature v w a size (refusal.NoRoom given) h room did may full = absurd (has_room v w a size given h room did)
+refusal_wants nature v w a size r h room did may full = absurd did.does
 
 -- so all is as it was
-pub refused_held : (least : ℕ) (v w : View) (a : ArenaId) (size : ℕ) (r : Refusal) → IsHeld least v a → rounded_up (given_in v a) 8 + size ≤ least
-    → w.inside ≡ None → DidAllocate v w a size 8 (Err r) → HoldsThen least w a (given_in v a) (words_at v a)
-refused_held least v w a size r h room out did = held_same least v w did.own a h did.makes out (refusal_stays least v w a size r h room did)
+pub refused_held : (v w : View) (a : ArenaId) (size : ℕ) (r : Refusal) → IsHeld v a → rounded_up (given_in v a) 8 + size ≤ v.limit
+    → w.inside ≡ None → DidAllocate v w a size 8 (Err r) → HoldsThen w a (given_in v a) (words_at v a)
+refused_held v w a size r h room out did = held_same v w did.own a h did.makes out (refusal_stays v w a size r h room did)
 
 -- ---- bytes that are put
 
 -- where bytes were put the arena is held, has given as many, and has as many words
-pub put_still : (least : ℕ) (v w : View) (own : List Entry) (a : ArenaId) (place : ℕ) (bytes : List ℕ) → IsHeld least v a → Makes v w own → w.inside ≡ None
-    → ChangesBytes v w a place bytes → place + length bytes ≤ 8 * length (words_at v a) → HoldsThen least w a (given_in v a) (words_at w a)
-put_still least v w own a place bytes h makes out ch fits =
+pub put_still : (v w : View) (own : List Entry) (a : ArenaId) (place : ℕ) (bytes : List ℕ) → IsHeld v a → Makes v w own → w.inside ≡ None
+    → ChangesBytes v w a place bytes → place + length bytes ≤ 8 * length (words_at v a) → HoldsThen w a (given_in v a) (words_at w a)
+put_still v w own a place bytes h makes out ch fits =
     let words = words_at w a in
     let all : place + length bytes ≤ length (bytes_of_arena v.state a) = omega (arith, length-bytes_in (words_at v a)) in
     let count : length (bytes_of_arena w.state a) ≡ length (bytes_of_arena v.state a) =
     ap length ch.changed ∙ keeps_count (bytes_of_arena v.state a) bytes place all in
     let size : length (words_at w a) ≡ length (words_at v a) = omega (arith, count, length-bytes_in (words_at w a), length-bytes_in (words_at v a)) in
-    held_changed least v w own a (given_in v a) words (with_words words) (λ x. refl) h makes out ch.rest refl refl refl size
+    held_changed v w own a (given_in v a) words (with_words words) (λ x. refl) h makes out ch.rest refl refl refl size
 
 -- an open arena isn't refused
-pub held_open : {least : ℕ} {v w : View} {a : ArenaId} → IsHeld least v a → StaysOut v w a → ⊥
+pub held_open : {v w : View} {a : ArenaId} → IsHeld v a → StaysOut v w a → ⊥
 held_open h out = out.shut (record { alive = h.alive; usable = h.usable })

@@ -1,3 +1,5 @@
+pub mod Filling
+pub mod First
 pub mod Held
 pub mod Limits
 pub mod Loaded

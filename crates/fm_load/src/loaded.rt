@@ -1,20 +1,27 @@
-ghost use Rattle.std.specs.Prelude.{◌≡◌, ◌+◌, ◌%◌, ◌≤◌, length, take, drop, IfOk};
+ghost use Rattle.std.specs.Prelude.{◌≡◌, ◌≢◌, ◌+◌, ◌%◌, ◌≤◌, length, take, drop, IfOk, IsErrOf, Err};
+ghost use Rattle.fm_io.specs.Count.{Rose};
+ghost use Rattle.fm_io.specs.Files.{IsAbsent};
 ghost use Rattle.fm_layout.specs.Parts.{IsValue};
 ghost use Rattle.fm_layout.specs.Size.{size_of};
 ghost use Rattle.fm_layout.specs.Tree.{alignment_of};
 ghost use Rattle.fm_mono.specs.Shown.{view_of};
-ghost use Rattle.fm_records.specs.Answers.{answer};
 ghost use Rattle.fm_segment.specs.Alone.{Means};
 ghost use Rattle.fm_load.specs.Held.{IsReady, loaded_in};
+ghost use Rattle.fm_load.specs.Reading.{ReadsSome};
+ghost use Rattle.fm_load.specs.Whole.{IsWhole, IsOver};
 
+use crate::held::{RECORD_FILE_LIMIT, open_held};
+use crate::load_fault::LoadFault;
+use crate::loading::load_into;
+use fm_base::Kind;
+use fm_io::Files;
 use fm_lanes::Value;
 use fm_layout::Layout;
 use fm_mono::Mono;
-use fm_query::Query;
-use fm_records::{Answer, query_segment};
 use fm_segment::Segment;
-use std::alloc::{AllocError, Global};
+use std::alloc::Global;
 use std::marker::Model;
+use std::sync::Wait;
 
 /// The bytes of a record file, in an arena of one thread.
 #[derive(Drop)]
@@ -66,17 +73,40 @@ impl Loaded {
             Err(_) => unreachable!(),
         }
     }
+}
 
-    /// What a query answers over the records, of which there is a whole number.
-    pub fn answer(&mut self, alloc: Global, q: &Query) -> Result<Answer, AllocError>
-        requires { length self.old % q.now.size ≡ 0 }
-        ensures answer { IfOk result (λ a. a ≡ answer q.now self.old) }
-        ensures same { self.new ≡ self.old }
-    {
-        match query_segment(alloc, &mut self.memory, q, &self.segment) {
-            Ok(a) => Ok(a),
-            // The arena is alive and its owner asks, so nothing but memory was wanting.
-            Err(_) => Err(AllocError),
-        }
+/// Reads a whole record file into an arena of one thread.
+///
+/// It reads up to the file's end, or until more bytes than the limit came.
+pub fn load<R: Wait, F: Files>(
+    rt: &R,
+    alloc: Global,
+    files: &mut F,
+    name: &str,
+) -> Result<Loaded, LoadFault>
+    ensures whole { IfOk result (IsWhole (F.holds files.old) name.now) }
+    ensures short { IfOk result (λ bytes. length bytes ≤ RECORD_FILE_LIMIT) }
+    ensures too_long { IsErrOf result LoadFault.TooLong →
+        IsOver (F.holds files.old) name.now RECORD_FILE_LIMIT }
+    ensures absent { IsErrOf result LoadFault.Missing → IsAbsent (F.holds files.old) name.now }
+    ensures missing { IsErrOf result LoadFault.Missing → Rose (F.misses files.old) (F.misses files.new) }
+    ensures failed { IsErrOf result LoadFault.Failed → Rose (F.faults files.old) (F.faults files.new) }
+    ensures never { result ≢ Err LoadFault.PoolFull }
+
+    // It reads on where the bytes of its last read end, in pieces, and up to the first byte past the limit at most.
+    ensures reads { ReadsSome (F.reads files.old) (F.reads files.new) name.now RECORD_FILE_LIMIT }
+    ensures quiet { result ≢ Err LoadFault.Failed → F.faults files.new ≡ F.faults files.old }
+    ensures found { result ≢ Err LoadFault.Missing → F.misses files.new ≡ F.misses files.old }
+    ensures held { F.holds files.new ≡ F.holds files.old }
+    ensures faults_stay { F.faults files.old ≤ F.faults files.new }
+    ensures misses_stay { F.misses files.old ≤ F.misses files.new }
+{
+    let mut memory = Mono::make(alloc, RECORD_FILE_LIMIT);
+    let Ok(arena) = open_held(rt, &mut memory, Kind::Confined) else {
+        return Err(LoadFault::Memory);
+    };
+    match load_into(rt, alloc, files, name, &mut memory, arena) {
+        Ok(segment) => Ok(Loaded::of(memory, segment)),
+        Err(fault) => Err(fault),
     }
 }

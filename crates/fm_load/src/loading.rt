@@ -1,63 +1,27 @@
-ghost use Rattle.std.specs.Prelude.{◌≡◌, ◌≤◌, ◌*◌, ◌%◌, length, IfOk, IsErrOf, ◌≢◌, Err, ◌+◌};
+ghost use Rattle.std.specs.Prelude.{◌≡◌, ◌≢◌, ◌≤◌, ◌+◌, ◌%◌, length, IfOk, IfErr, IsErrOf, Option, List, Err};
 ghost use Rattle.fm_io.specs.Count.{Rose};
-ghost use Rattle.fm_io.specs.Files.{IsAbsent};
-ghost use Rattle.fm_io.specs.Reads.{ReadsFile};
-ghost use Rattle.fm_load.specs.Held.{IsEmpty, IsReady, loaded_in};
-ghost use Rattle.fm_load.specs.Reading.{GoesBy, ReadsSome, piece_limit};
+ghost use Rattle.fm_io.specs.Files.{AreBytesFrom, IsAbsent};
+ghost use Rattle.fm_io.specs.Reads.{Read, ReadsFile};
+ghost use Rattle.fm_load.specs.Filling.{Loads, LoadsAll, LoadsSome};
+ghost use Rattle.fm_load.specs.First.{StartsFile, room_for};
+ghost use Rattle.fm_load.specs.Held.{FoundFull, HasRoom, IsHeld, IsReady, loaded_in};
+ghost use Rattle.fm_load.specs.Reading.{GoesBy, ReadsSome, ReadsUpTo, piece_limit};
 ghost use Rattle.fm_load.specs.Whole.{IsWhole, IsOver, TakesChunk};
 
-use crate::buffers::zero_bytes;
-use crate::held::{RECORD_FILE_LIMIT, loaded_size, none_loaded, open_held, push_held};
+use crate::chunk::{CHUNK, read_chunk};
+use crate::first::{First, read_first};
+use crate::held::{RECORD_FILE_LIMIT, loaded_size, none_loaded, push_held};
 use crate::load_fault::LoadFault;
-use crate::loaded::Loaded;
-use fm_base::{ArenaId, Kind, Memory};
-use fm_io::{Files, ReadFault, fill};
-use fm_mono::Mono;
+use fm_base::{ArenaId, Memory, Refusal};
+use fm_io::Files;
 use fm_segment::Segment;
 use std::alloc::Global;
 use std::sync::Wait;
 
-/// The most bytes of one read.
-const CHUNK: usize = 65_536;
-
-/// Reads a whole record file into an arena of one thread.
+/// Reads a whole record file into an arena of any memory whose caller is by itself: the segment's bytes are the file's.
 ///
-/// It reads up to the file's end, or until more bytes than the limit came.
-pub fn load<R: Wait, F: Files>(
-    rt: &R,
-    alloc: Global,
-    files: &mut F,
-    name: &str,
-) -> Result<Loaded, LoadFault>
-    ensures whole { IfOk result (IsWhole (F.holds files.old) name.now) }
-    ensures short { IfOk result (λ bytes. length bytes ≤ RECORD_FILE_LIMIT) }
-    ensures too_long { IsErrOf result LoadFault.TooLong →
-        IsOver (F.holds files.old) name.now RECORD_FILE_LIMIT }
-    ensures absent { IsErrOf result LoadFault.Missing → IsAbsent (F.holds files.old) name.now }
-    ensures missing { IsErrOf result LoadFault.Missing → Rose (F.misses files.old) (F.misses files.new) }
-    ensures failed { IsErrOf result LoadFault.Failed → Rose (F.faults files.old) (F.faults files.new) }
-
-    // It reads on where the bytes of its last read end, in pieces, and up to the first byte past the limit at most.
-    ensures reads { ReadsSome (F.reads files.old) (F.reads files.new) name.now RECORD_FILE_LIMIT }
-    ensures quiet { result ≢ Err LoadFault.Failed → F.faults files.new ≡ F.faults files.old }
-    ensures found { result ≢ Err LoadFault.Missing → F.misses files.new ≡ F.misses files.old }
-    ensures held { F.holds files.new ≡ F.holds files.old }
-    ensures faults_stay { F.faults files.old ≤ F.faults files.new }
-    ensures misses_stay { F.misses files.old ≤ F.misses files.new }
-{
-    let mut memory = Mono::make(alloc, RECORD_FILE_LIMIT);
-    let Ok(arena) = open_held(rt, &mut memory, Kind::Confined) else {
-        return Err(LoadFault::Memory);
-    };
-    match load_into(rt, alloc, files, name, &mut memory, arena) {
-        Ok(segment) => Ok(Loaded::of(memory, segment)),
-        Err(fault) => Err(fault),
-    }
-}
-
-/// The same into an arena of any memory whose caller is by itself: the segment's bytes are the file's.
-///
-/// The arena has given nothing yet, and then gives the segment.
+/// The arena has given nothing yet, and then gives the segment. After a fault it is held still, and what was read
+/// before stands in it.
 pub fn load_into<R: Wait, F: Files, M: Memory>(
     rt: &R,
     alloc: Global,
@@ -66,14 +30,19 @@ pub fn load_into<R: Wait, F: Files, M: Memory>(
     m: &mut M,
     arena: ArenaId,
 ) -> Result<Segment, LoadFault>
-    requires { IsEmpty (M.view m.old) arena }
+    requires { HasRoom RECORD_FILE_LIMIT (M.view m.old) arena }
     ensures ready { IfOk result (IsReady (M.view m.new)) }
+    ensures arena { IfOk result (λ s. s.arena ≡ arena) }
+    ensures short { IfOk result (λ s. s.size ≤ RECORD_FILE_LIMIT) }
     ensures whole { IfOk result (λ s. IsWhole (F.holds files.old) name.now (loaded_in (M.view m.new) s)) }
+    ensures did { IfOk result (LoadsAll (M.view m.old) (M.view m.new) arena) }
+    ensures left { IfErr result (λ _. LoadsSome (M.view m.old) (M.view m.new) arena × IsHeld (M.view m.new) arena) }
     ensures too_long { IsErrOf result LoadFault.TooLong →
         IsOver (F.holds files.old) name.now RECORD_FILE_LIMIT }
     ensures absent { IsErrOf result LoadFault.Missing → IsAbsent (F.holds files.old) name.now }
     ensures missing { IsErrOf result LoadFault.Missing → Rose (F.misses files.old) (F.misses files.new) }
     ensures failed { IsErrOf result LoadFault.Failed → Rose (F.faults files.old) (F.faults files.new) }
+    ensures pool_full { IsErrOf result LoadFault.PoolFull → FoundFull M.nature (M.view m.old) (M.view m.new) }
 
     // It reads on where the bytes of its last read end, in pieces, and up to the first byte past the limit at most.
     ensures reads { ReadsSome (F.reads files.old) (F.reads files.new) name.now RECORD_FILE_LIMIT }
@@ -83,13 +52,99 @@ pub fn load_into<R: Wait, F: Files, M: Memory>(
     ensures faults_stay { F.faults files.old ≤ F.faults files.new }
     ensures misses_stay { F.misses files.old ≤ F.misses files.new }
 {
-    let Ok(mut bytes) = zero_bytes(alloc, CHUNK) else {
-        return Err(LoadFault::Memory);
-    };
+    match read_first(alloc, files, name) {
+        Ok(first) => load_behind(rt, files, name, first, m, arena),
+        Err(fault) => Err(fault),
+    }
+}
+
+/// The same for a file of which the first bytes were read. The arena may have just the room that these tell.
+pub fn load_behind<R: Wait, F: Files, M: Memory>(
+    rt: &R,
+    files: &mut F,
+    name: &str,
+    first: First,
+    m: &mut M,
+    arena: ArenaId,
+) -> Result<Segment, LoadFault>
+    requires room { HasRoom (room_for first) (M.view m.old) arena }
+    requires starts { StartsFile (F.holds files.old) name.now first }
+    ensures ready { IfOk result (IsReady (M.view m.new)) }
+    ensures arena { IfOk result (λ s. s.arena ≡ arena) }
+    ensures short { IfOk result (λ s. s.size ≤ RECORD_FILE_LIMIT) }
+    ensures whole { IfOk result (λ s. IsWhole (F.holds files.old) name.now (loaded_in (M.view m.new) s)) }
+    ensures did { IfOk result (LoadsAll (M.view m.old) (M.view m.new) arena) }
+    ensures left { IfErr result (λ _. LoadsSome (M.view m.old) (M.view m.new) arena × IsHeld (M.view m.new) arena) }
+    ensures too_long { IsErrOf result LoadFault.TooLong →
+        IsOver (F.holds files.old) name.now RECORD_FILE_LIMIT }
+    ensures absent { IsErrOf result LoadFault.Missing → IsAbsent (F.holds files.old) name.now }
+    ensures missing { IsErrOf result LoadFault.Missing → Rose (F.misses files.old) (F.misses files.new) }
+    ensures failed { IsErrOf result LoadFault.Failed → Rose (F.faults files.old) (F.faults files.new) }
+    ensures pool_full { IsErrOf result LoadFault.PoolFull → FoundFull M.nature (M.view m.old) (M.view m.new) }
+
+    // It reads on behind the first bytes.
+    ensures reads { (before : Option (List Read))
+        → ReadsUpTo before (F.reads files.old) name.now RECORD_FILE_LIMIT
+        (λ next. GoesBy first.chunk.ended first.chunk.count next)
+        → ReadsSome before (F.reads files.new) name.now RECORD_FILE_LIMIT }
+    ensures quiet { result ≢ Err LoadFault.Failed → F.faults files.new ≡ F.faults files.old }
+    ensures found { result ≢ Err LoadFault.Missing → F.misses files.new ≡ F.misses files.old }
+    ensures held { F.holds files.new ≡ F.holds files.old }
+    ensures faults_stay { F.faults files.old ≤ F.faults files.new }
+    ensures misses_stay { F.misses files.old ≤ F.misses files.new }
+{
+    let First { mut bytes, chunk } = first;
     let mut segment = none_loaded(m, arena);
+    match push_held(rt, m, &mut segment, &bytes[..chunk.count]) {
+        Ok(()) => {}
+        Err(refusal) => return Err(fault_of(refusal)),
+    }
+    if chunk.ended {
+        return Ok(segment);
+    }
+    match load_rest(rt, files, name, &mut bytes, m, &mut segment) {
+        Ok(()) => Ok(segment),
+        Err(fault) => Err(fault),
+    }
+}
+
+/// Reads the rest of the file behind what is loaded.
+fn load_rest<R: Wait, F: Files, M: Memory>(
+    rt: &R,
+    files: &mut F,
+    name: &str,
+    bytes: &mut [u8],
+    m: &mut M,
+    segment: &mut Segment,
+) -> Result<(), LoadFault>
+    requires buffer { length bytes.old ≡ CHUNK }
+    requires limit { RECORD_FILE_LIMIT ≤ (M.view m.old).limit }
+    requires ready { IsReady (M.view m.old) segment.old }
+    requires first { AreBytesFrom (F.holds files.old) name.now 0 (loaded_in (M.view m.old) segment.old) }
+    requires even { length (loaded_in (M.view m.old) segment.old) % 8 ≡ 0 }
+    requires short { length (loaded_in (M.view m.old) segment.old) ≤ RECORD_FILE_LIMIT }
+    ensures ready { IsReady (M.view m.new) segment.new }
+    ensures arena { segment.new.arena ≡ segment.old.arena }
+    ensures short { length (loaded_in (M.view m.new) segment.new) ≤ RECORD_FILE_LIMIT }
+    ensures whole { IfOk result (λ _. IsWhole (F.holds files.old) name.now (loaded_in (M.view m.new) segment.new)) }
+    ensures did { Loads (M.view m.old) (M.view m.new) segment.old segment.new }
+    ensures too_long { IsErrOf result LoadFault.TooLong →
+        IsOver (F.holds files.old) name.now RECORD_FILE_LIMIT }
+    ensures absent { IsErrOf result LoadFault.Missing → IsAbsent (F.holds files.old) name.now }
+    ensures missing { IsErrOf result LoadFault.Missing → Rose (F.misses files.old) (F.misses files.new) }
+    ensures failed { IsErrOf result LoadFault.Failed → Rose (F.faults files.old) (F.faults files.new) }
+    ensures pool_full { IsErrOf result LoadFault.PoolFull → FoundFull M.nature (M.view m.old) (M.view m.new) }
+    ensures reads { ReadsFile (F.reads files.old) (F.reads files.new) name.now piece_limit (RECORD_FILE_LIMIT + 1)
+        (length (loaded_in (M.view m.old) segment.old)) (λ next. Unit {0}) }
+    ensures quiet { result ≢ Err LoadFault.Failed → F.faults files.new ≡ F.faults files.old }
+    ensures found { result ≢ Err LoadFault.Missing → F.misses files.new ≡ F.misses files.old }
+    ensures held { F.holds files.new ≡ F.holds files.old }
+    ensures faults_stay { F.faults files.old ≤ F.faults files.new }
+    ensures misses_stay { F.misses files.old ≤ F.misses files.new }
+{
     loop {
-        match load_chunk(rt, files, name, &mut bytes, m, &mut segment) {
-            Ok(true) => return Ok(segment),
+        match load_chunk(rt, files, name, bytes, m, segment) {
+            Ok(true) => return Ok(()),
             Ok(false) => {}
             Err(fault) => return Err(fault),
         }
@@ -106,18 +161,24 @@ fn load_chunk<R: Wait, F: Files, M: Memory>(
     m: &mut M,
     segment: &mut Segment,
 ) -> Result<bool, LoadFault>
-    requires room { length bytes.old ≡ CHUNK }
+    requires buffer { length bytes.old ≡ CHUNK }
+    requires limit { RECORD_FILE_LIMIT ≤ (M.view m.old).limit }
     requires ready { IsReady (M.view m.old) segment.old }
-    requires whole { length (loaded_in (M.view m.old) segment.old) % 8 ≡ 0 }
+    requires even { length (loaded_in (M.view m.old) segment.old) % 8 ≡ 0 }
     requires short { length (loaded_in (M.view m.old) segment.old) ≤ RECORD_FILE_LIMIT }
+    ensures buffer { length bytes.new ≡ CHUNK }
     ensures ready { IsReady (M.view m.new) segment.new }
+    ensures arena { segment.new.arena ≡ segment.old.arena }
+    ensures short { length (loaded_in (M.view m.new) segment.new) ≤ RECORD_FILE_LIMIT }
     ensures took { IfOk result (TakesChunk (F.holds files.old) name.now
         (loaded_in (M.view m.old) segment.old) (loaded_in (M.view m.new) segment.new)) }
+    ensures did { Loads (M.view m.old) (M.view m.new) segment.old segment.new }
     ensures too_long { IsErrOf result LoadFault.TooLong →
         IsOver (F.holds files.old) name.now RECORD_FILE_LIMIT }
     ensures absent { IsErrOf result LoadFault.Missing → IsAbsent (F.holds files.old) name.now }
     ensures missing { IsErrOf result LoadFault.Missing → Rose (F.misses files.old) (F.misses files.new) }
     ensures failed { IsErrOf result LoadFault.Failed → Rose (F.faults files.old) (F.faults files.new) }
+    ensures pool_full { IsErrOf result LoadFault.PoolFull → FoundFull M.nature (M.view m.old) (M.view m.new) }
     ensures reads { ReadsFile (F.reads files.old) (F.reads files.new) name.now piece_limit (RECORD_FILE_LIMIT + 1)
         (length (loaded_in (M.view m.old) segment.old))
         (λ next. IfOk result (λ ended. GoesBy ended (length (loaded_in (M.view m.new) segment.new)) next)) }
@@ -128,19 +189,23 @@ fn load_chunk<R: Wait, F: Files, M: Memory>(
     ensures misses_stay { F.misses files.old ≤ F.misses files.new }
 {
     let at = loaded_size(m, segment);
-    let rest = (RECORD_FILE_LIMIT - at) as usize;
-    let room = CHUNK.min(rest + 1);
-    let n = match fill(files, name, at, &mut bytes[..room]) {
-        Ok(n) => n,
-        Err(ReadFault::Missing) => return Err(LoadFault::Missing),
-        Err(ReadFault::Failed) => return Err(LoadFault::Failed),
-        Err(ReadFault::Memory) => return Err(LoadFault::Memory),
+    let chunk = match read_chunk(files, name, at, bytes) {
+        Ok(chunk) => chunk,
+        Err(fault) => return Err(fault),
     };
-    if n > rest {
-        return Err(LoadFault::TooLong);
+    match push_held(rt, m, segment, &bytes[..chunk.count]) {
+        Ok(()) => Ok(chunk.ended),
+        Err(refusal) => Err(fault_of(refusal)),
     }
-    match push_held(rt, m, segment, &bytes[..n]) {
-        Ok(()) => Ok(n < room),
-        Err(_) => Err(LoadFault::Memory),
+}
+
+/// Why nothing was loaded where bytes that fit weren't given.
+fn fault_of(refusal: Refusal) -> LoadFault
+    ensures full { result ≡ LoadFault.PoolFull → refusal ≡ Refusal.PoolFull }
+    ensures other { result ≢ LoadFault.PoolFull → result ≡ LoadFault.Memory }
+{
+    match refusal {
+        Refusal::PoolFull => LoadFault::PoolFull,
+        _ => LoadFault::Memory,
     }
 }

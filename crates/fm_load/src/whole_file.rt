@@ -37,6 +37,7 @@ pub fn read_whole<F: Files>(
     ensures reads { ReadsSome (F.reads files.old) (F.reads files.new) name.now limit }
     ensures reads_whole { ReadsUpTo (F.reads files.old) (F.reads files.new) name.now limit
         (λ next. IfOk result (λ _. next ≡ Ended)) }
+    ensures never { result ≢ Err LoadFault.PoolFull }
     ensures quiet { result ≢ Err LoadFault.Failed → F.faults files.new ≡ F.faults files.old }
     ensures found { result ≢ Err LoadFault.Missing → F.misses files.new ≡ F.misses files.old }
     ensures held { F.holds files.new ≡ F.holds files.old }
@@ -75,6 +76,7 @@ fn read_more<F: Files>(
     ensures failed { IsErrOf result LoadFault.Failed → Rose (F.faults files.old) (F.faults files.new) }
     ensures reads { ReadsFile (F.reads files.old) (F.reads files.new) name.now piece_limit (limit + 1) (length bytes.old.items)
         (λ next. IfOk result (λ ended. GoesBy ended (length bytes.new.items) next)) }
+    ensures never { result ≢ Err LoadFault.PoolFull }
     ensures quiet { result ≢ Err LoadFault.Failed → F.faults files.new ≡ F.faults files.old }
     ensures found { result ≢ Err LoadFault.Missing → F.misses files.new ≡ F.misses files.old }
     ensures held { F.holds files.new ≡ F.holds files.old }

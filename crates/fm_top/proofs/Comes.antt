@@ -1,16 +1,18 @@
 -- What each status of a run comes of.
-use Rattle.std.proofs.Common.{◌≡◌, ◌≢◌, ℕ, List, Option, None, Some, IfSome, sym, ap, subst, ◌∙◌}
+use Rattle.std.proofs.Common.{◌≡◌, ◌≢◌, ℕ, List, Option, None, Some, IfSome, refl, sym, ap, subst, ◌∙◌}
+use Rattle.fm_io.specs.Count.{Rose}
 use Rattle.fm_io.specs.Files.{Contents, file_of}
 use Rattle.fm_top.specs.Causes.{LacksFile, HasLongFile, HasRefusedLayout, HasRefusedQuery, HasRaggedFile}
 use Rattle.fm_top.specs.Found.{OfFile, file_under}
 use Rattle.fm_top.specs.Keeps.{Keeps}
 use Rattle.fm_top.specs.Outcome.{Outcome, sum_outcome, layout_outcome}
-use Rattle.fm_top.specs.Run.{EndsBy, HasOutcome, IsOutcomeOver, IsOutcome, faulty, asked, AskFor, Traces, Runs, AsksAbsent, AsksLong, AsksRagged, AsksRefused, AsksRefusedQuery}
-use Rattle.fm_top.specs.Words.{Request, Sum, Layout, Query, first_file, last_file}
+use Rattle.fm_top.specs.Run.{EndsBy, HasOutcome, IsOutcomeOver, IsOutcome, faulty, asked, Traces, Runs}
+use Rattle.fm_top.specs.Statuses.{AskFor, ComesOf}
+use Rattle.fm_top.specs.Words.{Request, Sum, Layout, Query, AreFaulty, first_file, last_file}
 use Rattle.fm_top.specs.declared.status.Status.{Status}
-use Rattle.fm_top.specs.declared.status.Status.TheVariants.{Usage, Missing, LayoutRefused, QueryRefused, Ragged, TooLong}
+use Rattle.fm_top.specs.declared.status.Status.TheVariants.{Answered, Usage, Missing, Unread, LayoutRefused, QueryRefused, Ragged, TooLong, Unwritten, NoMemory, ScriptRefused}
 use Rattle.fm_top.proofs.Causes.{sum_missing, sum_long, sum_ragged, sum_other, layout_missing, layout_long, layout_refused, layout_other, query_missing, query_long, query_ragged, query_layout, query_query}
-use Rattle.fm_top.proofs.Runs.{with_status}
+use Rattle.fm_top.proofs.Runs.{IsLate, outcome_status, only_unread, only_unwritten, usage_faulty, not_refused_script}
 
 -- ---- requests over files
 
@@ -99,53 +101,52 @@ asks_for words told s Has no_usage each k o (asked request j x asks has) is =
     (request, asks, told_too request told k o Has (λ contents ends. each request contents k o ends is) has)
 
 pub outcome_missing : (words : List (List ℕ)) (told : Option Contents) (k : Keeps) (o : Outcome) → IsOutcome words told k o → o.status ≡ Missing
-    → AsksAbsent words told
+    → AskFor words told LacksFile
 outcome_missing words told = asks_for words told Missing LacksFile (λ e. cc) lacks_file
 
 pub outcome_too_long : (words : List (List ℕ)) (told : Option Contents) (k : Keeps) (o : Outcome) → IsOutcome words told k o → o.status ≡ TooLong
-    → AsksLong words told
+    → AskFor words told HasLongFile
 outcome_too_long words told = asks_for words told TooLong HasLongFile (λ e. cc) has_long_file
 
 pub outcome_ragged : (words : List (List ℕ)) (told : Option Contents) (k : Keeps) (o : Outcome) → IsOutcome words told k o → o.status ≡ Ragged
-    → AsksRagged words told
+    → AskFor words told HasRaggedFile
 outcome_ragged words told = asks_for words told Ragged HasRaggedFile (λ e. cc) has_ragged_file
 
 pub outcome_refused : (words : List (List ℕ)) (told : Option Contents) (k : Keeps) (o : Outcome) → IsOutcome words told k o → o.status ≡ LayoutRefused
-    → AsksRefused words told
+    → AskFor words told HasRefusedLayout
 outcome_refused words told = asks_for words told LayoutRefused HasRefusedLayout (λ e. cc) has_refused_layout
 
 pub outcome_query_refused : (words : List (List ℕ)) (told : Option Contents) (k : Keeps) (o : Outcome) → IsOutcome words told k o → o.status ≡ QueryRefused
-    → AsksRefusedQuery words told
+    → AskFor words told HasRefusedQuery
 outcome_query_refused words told = asks_for words told QueryRefused HasRefusedQuery (λ e. cc) has_refused_query
 
 -- ---- the run
 
-pub only_missing : (words : List (List ℕ)) (told : Option Contents) (t : Traces) (k : Keeps) (s : Status) → Runs words told t k s → s ≡ Missing
-    → AsksAbsent words told
-only_missing words told t k s runs is =
-    let has = with_status words told t k s Missing runs is (λ late. late) in
-    outcome_missing words told has.keeps has.outcome has.is_outcome has.status_is
+-- what is said of each outcome of this status is said of a run that ends with it
+of_outcome : (words : List (List ℕ)) (told : Option Contents) (t : Traces) (k : Keeps) (s : Status) (X : Type 0) → (IsLate s → ⊥)
+    → ((j : Keeps) (o : Outcome) → IsOutcome words told j o → o.status ≡ s → X) → Runs words told t k s → X
+of_outcome words told t k s X not_late each runs =
+    let has = outcome_status words told t k s runs not_late in
+    each has.keeps has.outcome has.is_outcome has.status_is
 
-pub only_too_long : (words : List (List ℕ)) (told : Option Contents) (t : Traces) (k : Keeps) (s : Status) → Runs words told t k s → s ≡ TooLong
-    → AsksLong words told
-only_too_long words told t k s runs is =
-    let has = with_status words told t k s TooLong runs is (λ late. late) in
-    outcome_too_long words told has.keeps has.outcome has.is_outcome has.status_is
-
-pub only_ragged : (words : List (List ℕ)) (told : Option Contents) (t : Traces) (k : Keeps) (s : Status) → Runs words told t k s → s ≡ Ragged
-    → AsksRagged words told
-only_ragged words told t k s runs is =
-    let has = with_status words told t k s Ragged runs is (λ late. late) in
-    outcome_ragged words told has.keeps has.outcome has.is_outcome has.status_is
-
-pub only_refused : (words : List (List ℕ)) (told : Option Contents) (t : Traces) (k : Keeps) (s : Status) → Runs words told t k s → s ≡ LayoutRefused
-    → AsksRefused words told
-only_refused words told t k s runs is =
-    let has = with_status words told t k s LayoutRefused runs is (λ late. late) in
-    outcome_refused words told has.keeps has.outcome has.is_outcome has.status_is
-
-pub only_query_refused : (words : List (List ℕ)) (told : Option Contents) (t : Traces) (k : Keeps) (s : Status) → Runs words told t k s → s ≡ QueryRefused
-    → AsksRefusedQuery words told
-only_query_refused words told t k s runs is =
-    let has = with_status words told t k s QueryRefused runs is (λ late. late) in
-    outcome_query_refused words told has.keeps has.outcome has.is_outcome has.status_is
+-- each status has its cause
+pub comes_of : (words : List (List ℕ)) (told : Option Contents) (t : Traces) (k : Keeps) (before missed : ℕ) (s : Status) → Runs words told t k s
+    → (s ≡ Missing → Rose before missed) → ComesOf words told t before missed s
+comes_of words told t k before missed Answered runs rose = tt
+comes_of words told t k before missed Usage runs rose =
+    of_outcome words told t k Usage (AreFaulty words) (λ late. late) (usage_faulty words told) runs
+comes_of words told t k before missed Missing runs rose =
+    (of_outcome words told t k Missing (AskFor words told LacksFile) (λ late. late) (outcome_missing words told) runs, rose refl)
+comes_of words told t k before missed Unread runs rose = only_unread words told t k Unread runs refl
+comes_of words told t k before missed LayoutRefused runs rose =
+    of_outcome words told t k LayoutRefused (AskFor words told HasRefusedLayout) (λ late. late) (outcome_refused words told) runs
+comes_of words told t k before missed QueryRefused runs rose =
+    of_outcome words told t k QueryRefused (AskFor words told HasRefusedQuery) (λ late. late) (outcome_query_refused words told) runs
+comes_of words told t k before missed Ragged runs rose =
+    of_outcome words told t k Ragged (AskFor words told HasRaggedFile) (λ late. late) (outcome_ragged words told) runs
+comes_of words told t k before missed TooLong runs rose =
+    of_outcome words told t k TooLong (AskFor words told HasLongFile) (λ late. late) (outcome_too_long words told) runs
+comes_of words told t k before missed Unwritten runs rose = only_unwritten words told t k Unwritten runs refl
+comes_of words told t k before missed NoMemory runs rose = tt
+comes_of words told t k before missed ScriptRefused runs rose =
+    of_outcome words told t k ScriptRefused ⊥ (λ late. late) (not_refused_script words told) runs

@@ -21,7 +21,8 @@ use Rattle.fm_top.specs.Keeps.{Keeps}
 use Rattle.fm_top.specs.Laws.{HaveOneOutcome}
 use Rattle.fm_top.specs.Outcome.{Outcome, layout_refused, query_refused}
 use Rattle.fm_top.specs.Queries.{IsRecordLayout, IsNoRecordLayout, IsLayoutRefused, TextEnds, text_refused, answered_by, LayoutEnds, over_limit, no_layout, over_layout, QueryText, QueryEnds, answer_outcome}
-use Rattle.fm_top.specs.Run.{HasOutcome, IsOutcomeOver, IsOutcome, faulty, asked, AskFor, Traces, Runs, whole, unread, unwritten, no_memory, unknown, code_of, IsValid, Answers, is_answered, wants_memory}
+use Rattle.fm_top.specs.Run.{HasOutcome, IsOutcomeOver, IsOutcome, faulty, asked, Traces, Runs, whole, unread, unwritten, no_memory, unknown, code_of, IsValid, Answers, is_answered, wants_memory}
+use Rattle.fm_top.specs.Statuses.{AskFor}
 use Rattle.fm_top.specs.Words.{Request, Sum, Layout, Query, Asks, IsSum, IsLayout, IsQuery, AreThreadsBy, three}
 use Rattle.fm_top.specs.declared.status.Status.{Status}
 use Rattle.fm_top.specs.declared.status.Status.TheVariants.{Answered, Usage, Missing, Unread, LayoutRefused, QueryRefused, Ragged, TooLong, Unwritten, NoMemory, ScriptRefused}

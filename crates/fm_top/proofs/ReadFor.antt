@@ -1,10 +1,8 @@
 -- What is read for a request.
-use Rattle.std.proofs.Common.{◌≡◌, ℕ, ◌+◌, ◌≤◌, ◌<◌, List, [], ◌∷◌, ◌++◌, true, false, Option, None, Some, refl, sym, ap, subst, ◌∙◌, arith}
-use Rattle.std.specs.Prelude.{nat_lt}
-use Rattle.std.proofs.lemmas.Bool.Decides.{Decides-ltb, not_from_Decides}
+use Rattle.std.proofs.Common.{◌≡◌, ℕ, List, [], ◌∷◌, ◌++◌, Option, None, Some, refl, sym, ap, subst}
 use Rattle.fm_io.specs.Files.{Contents}
-use Rattle.fm_io.specs.Reads.{Read, ReadsOn, Next, At, Ended, ReadsFile, GoesOn}
-use Rattle.fm_io.proofs.Followed.{ReadsOn-none, ReadsOn-append, ReadsFile-wider}
+use Rattle.fm_io.specs.Reads.{Read, ReadsOn, Next, Ended}
+use Rattle.fm_io.proofs.Followed.{ReadsOn-none, ReadsOn-append}
 use Rattle.fm_lanes.specs.declared.value_kind.ValueKind.{ValueKind}
 use Rattle.fm_query.specs.Plan.{Plan}
 use Rattle.fm_top.specs.Causes.{IsAsked}

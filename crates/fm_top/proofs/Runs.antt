@@ -194,12 +194,6 @@ outcome_status words told t k s (unwritten x o is_outcome rose front) not_late =
 outcome_status words told t k s (no_memory x o is_outcome front) not_late = absurd (not_late tt)
 outcome_status words told t k s (unknown x same) not_late = absurd (not_late tt)
 
--- a status is one that comes of no fault
-pub with_status : (words : List (List ℕ)) (told : Option Contents) (t : Traces) (k : Keeps) (s r : Status) → Runs words told t k s → s ≡ r → (IsLate r → ⊥)
-    → HasStatus words told r
-with_status words told t k s r runs is not_late =
-    subst (λ (x : Status). HasStatus words told x) is (outcome_status words told t k s runs (λ late. not_late (subst IsLate is late)))
-
 -- no outcome is that of a script that is refused
 pub not_refused_script : (words : List (List ℕ)) (told : Option Contents) (k : Keeps) (o : Outcome) → IsOutcome words told k o → o.status ≡ ScriptRefused → ⊥
 not_refused_script words told k o (faulty none) is = cc
@@ -209,11 +203,6 @@ not_refused_script words told k o (asked request j x asks has) is = subst IsEarl
 pub usage_faulty : (words : List (List ℕ)) (told : Option Contents) (k : Keeps) (o : Outcome) → IsOutcome words told k o → o.status ≡ Usage → AreFaulty words
 usage_faulty words told k o (faulty none) is = none
 usage_faulty words told k o (asked request j x asks has) is = absurd (subst IsEarly is (request_status request told k o has))
-
-pub only_usage : (words : List (List ℕ)) (told : Option Contents) (t : Traces) (k : Keeps) (s : Status) → Runs words told t k s → s ≡ Usage → AreFaulty words
-only_usage words told t k s runs is =
-    let has = with_status words told t k s Usage runs is (λ late. late) in
-    usage_faulty words told has.keeps has.outcome has.is_outcome has.status_is
 
 -- words that ask for nothing have no other outcome than usage
 faulty_outcome : (words : List (List ℕ)) (told : Option Contents) (k : Keeps) (o : Outcome) → AreFaulty words → IsOutcome words told k o → o.status ≡ Usage

@@ -17,7 +17,7 @@ use Rattle.fm_load.specs.Whole.{IsOver}
 use Rattle.fm_top.specs.Words.{Sum, Layout, Query}
 use Rattle.fm_top.specs.declared.ending.Ending.{Ending}
 use Rattle.fm_load.specs.declared.load_fault.LoadFault.{LoadFault}
-use Rattle.fm_load.specs.declared.load_fault.LoadFault.TheVariants.{Missing, Failed, TooLong, Memory}
+use Rattle.fm_load.specs.declared.load_fault.LoadFault.TheVariants.{Missing, Failed, TooLong, Memory, PoolFull}
 use Rattle.fm_top.specs.declared.status.Status.TheVariants as status
 use Rattle.fm_top.specs.declared.stop.Stop.{Stop}
 use Rattle.fm_top.specs.declared.stop.Stop.TheVariants as stop
@@ -26,6 +26,10 @@ use Rattle.fm_top.proofs.Outcomes.{outcome-absent, outcome-over, layout-absent, 
 -- a fault is that of a load which had it, and is of this kind where that was
 pub fault_of : {X : Type 0} (r : Result X LoadFault) (fault kind : LoadFault) → r ≡ Err fault → fault ≡ kind → r ≡ Err kind
 fault_of r fault kind had is = had ∙ ap Err is
+
+-- a load that never answers a kind of fault had another
+pub fault_isnt : {X : Type 0} (r : Result X LoadFault) (fault kind : LoadFault) → r ≢ Err kind → r ≡ Err fault → fault ≢ kind
+fault_isnt r fault kind never had is = never (fault_of r fault kind had is)
 
 -- a load failed where the run stops for that
 pub failed_load : {X : Type 0} (r : Result X LoadFault) (fault : LoadFault) (end : Result Ending Stop) → r ≡ Err fault
@@ -49,6 +53,7 @@ missed TooLong name o ends is =
     absurd (cc)
 missed Failed name o ends is = absurd ends
 missed Memory name o ends is = absurd ends
+missed PoolFull name o ends is = absurd ends
 
 pub misses_only : (end : Result Ending Stop) (fault : LoadFault) (name : List ℕ) (before now : ℕ) → (fault ≡ Missing → Rose before now)
     → IfOk end (λ ending. EndsUnloaded fault name (shown ending)) → IfOk end (MissesOnly before now)
@@ -63,6 +68,7 @@ sum_unloaded size at kind name told Missing o absent over ends = outcome-absent 
 sum_unloaded size at kind name told TooLong o absent over ends = outcome-over size at kind name told o (over refl) ends
 sum_unloaded size at kind name told Failed o absent over ends = absurd ends
 sum_unloaded size at kind name told Memory o absent over ends = absurd ends
+sum_unloaded size at kind name told PoolFull o absent over ends = absurd ends
 
 -- a layout that wasn't loaded
 pub layout_unloaded : (name : List ℕ) (told : Option Contents) (fault : LoadFault) (o : Outcome)
@@ -72,6 +78,7 @@ layout_unloaded name told Missing o absent over ends = layout-absent name told o
 layout_unloaded name told TooLong o absent over ends = layout-over name told o (over refl) ends
 layout_unloaded name told Failed o absent over ends = absurd ends
 layout_unloaded name told Memory o absent over ends = absurd ends
+layout_unloaded name told PoolFull o absent over ends = absurd ends
 
 -- a query whose layout wasn't loaded
 pub query_unloaded : (threads : ℕ) (layout text file : List ℕ) (told : Option Contents) (fault : LoadFault) (o : Outcome)
@@ -81,6 +88,7 @@ query_unloaded threads layout text file told Missing o absent over ends = query-
 query_unloaded threads layout text file told TooLong o absent over ends = query-over threads layout text file told o (over refl) ends
 query_unloaded threads layout text file told Failed o absent over ends = absurd ends
 query_unloaded threads layout text file told Memory o absent over ends = absurd ends
+query_unloaded threads layout text file told PoolFull o absent over ends = absurd ends
 
 -- an answer over a record file that wasn't loaded
 pub answer_unloaded : (p : Plan) (file : List ℕ) (told : Option Contents) (fault : LoadFault) (o : Outcome)
@@ -90,3 +98,4 @@ answer_unloaded p file told Missing o absent over ends = (None, absent refl, end
 answer_unloaded p file told TooLong o absent over ends = answer-over p file told o (over refl) ends
 answer_unloaded p file told Failed o absent over ends = absurd ends
 answer_unloaded p file told Memory o absent over ends = absurd ends
+answer_unloaded p file told PoolFull o absent over ends = absurd ends

@@ -9,5 +9,6 @@ pub mod Queries
 pub mod Reading
 pub mod Records
 pub mod Run
+pub mod Statuses
 pub mod Unloaded
 pub mod Words

@@ -1,5 +1,5 @@
 -- What a run of the tool does: the outcome that its words and files have, and how it may end.
-use Rattle.std.specs.Prelude.{◌≡◌, ◌⊎◌, ℕ, List, Option, IfSome}
+use Rattle.std.specs.Prelude.{◌≡◌, ◌⊎◌, ℕ, List, Option}
 use Rattle.fm_io.specs.Count.{Rose, Raised}
 use Rattle.fm_io.specs.Files.{Contents}
 use Rattle.fm_io.specs.Sink.{Appends, AppendsPrefix}
@@ -94,30 +94,6 @@ pub data Runs (words : List (List ℕ)) (told : Option Contents) (t : Traces) : 
 abbrev pub EndsWith : Status → ℕ → Type 0
 EndsWith status code =
     (code ≡ code_of status) ⊎ ((code ≡ code_of Unwritten) ⊎ (code ≡ code_of NoMemory))
-
--- the words ask for this, where the files tell
-abbrev pub AskFor : List (List ℕ) → Option Contents → (Request → Contents → Type 0) → Type 0
-AskFor words told Has = (request : Request) × Asks words request × IfSome told (Has request)
-
--- The words ask for a file that is missing: the layout's, or the record file where the layout and the query stand.
-abbrev pub AsksAbsent : List (List ℕ) → Option Contents → Type 0
-AsksAbsent words told = AskFor words told LacksFile
-
--- The words ask for a file that is over its limit.
-abbrev pub AsksLong : List (List ℕ) → Option Contents → Type 0
-AsksLong words told = AskFor words told HasLongFile
-
--- The words ask for a layout that is refused.
-abbrev pub AsksRefused : List (List ℕ) → Option Contents → Type 0
-AsksRefused words told = AskFor words told HasRefusedLayout
-
--- The words ask a query that is refused.
-abbrev pub AsksRefusedQuery : List (List ℕ) → Option Contents → Type 0
-AsksRefusedQuery words told = AskFor words told HasRefusedQuery
-
--- The words ask for records of a size by which the file's length can't be divided.
-abbrev pub AsksRagged : List (List ℕ) → Option Contents → Type 0
-AsksRagged words told = AskFor words told HasRaggedFile
 
 -- The input is valid: no cause of another status than 0 applies.
 pub record IsValid (request : Request) (contents : Contents) : Type 0 where

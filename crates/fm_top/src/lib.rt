@@ -1,11 +1,14 @@
-//! The tool: what its words ask for, how a run ends, and what it prints.
+//! The tool: what its words ask for, how a run ends, and what it prints. Each command has a file for its words and one
+//! for its end.
 #![tactic(auto)]
 
 mod answering;
+mod command;
 mod ending;
 mod kept;
 mod laws;
-mod listing;
+mod layout;
+mod layout_words;
 mod load_ending;
 mod number;
 mod plain;
@@ -15,18 +18,20 @@ mod run;
 mod status;
 mod stop;
 mod sum;
+mod sum_words;
 mod summing;
 #[cfg(test)]
 mod tests;
 mod threads;
-mod words;
 
+pub use command::Command;
 pub use fm_load::{
     LAYOUT_FILE_LIMIT, LoadFault, Loaded, RECORD_FILE_LIMIT, load, load_into, read_whole,
 };
 pub use kept::Kept;
 pub use laws::words_have_one_outcome;
+pub use layout_words::LayoutCommand;
 pub use query_words::QueryCommand;
 pub use run::run_tool;
 pub use status::Status;
-pub use words::{Command, LayoutCommand, SumCommand};
+pub use sum_words::SumCommand;

@@ -12,7 +12,7 @@ ghost use Rattle.fm_top.specs.Outcome.{layout_refused, query_refused};
 ghost use Rattle.fm_top.specs.Queries.{IsLayoutRefused, IsRecordLayout, LayoutEnds, QueryText, TextEnds};
 ghost use Rattle.fm_top.specs.Reading.{ReadsFor, ReadsIf};
 ghost use Rattle.fm_top.specs.Run.{HasOutcome};
-ghost use Rattle.fm_top.specs.Words.{Query};
+ghost use Rattle.fm_top.specs.Words.{AreThreads, Query};
 
 use crate::answering::answer_ending;
 use crate::ending::Ending;
@@ -20,21 +20,24 @@ use crate::load_ending::unloaded_ending;
 use crate::query_words::QueryCommand;
 use crate::stop::Stop;
 use fm_base::Refusal;
-use fm_io::Files;
+use fm_io::{Files, Gate};
 use fm_layout::Layout;
 use fm_ljson::layout_from_json;
 use fm_load::{LAYOUT_FILE_LIMIT, read_whole};
 use fm_query::{check_record, parse_query};
 use std::alloc::Global;
 use std::sync::Wait;
+use std::thread::Threads;
 
 /// Reads the layout's file, then the query's text, then the record file, and answers how the run ends.
-pub fn query_ending<R: Wait, F: Files>(
+pub fn query_ending<R: Threads + Wait + Sync, F: Files, G: Gate>(
     rt: &R,
     alloc: Global,
     files: &mut F,
     query: &QueryCommand<'_>,
+    gate: &G,
 ) -> Result<Ending, Stop>
+    requires { AreThreads query.now.threads }
     ensures outcome { IfOk result (λ ending. HasOutcome
         (Query query.now.threads query.now.layout.now query.now.query.now query.now.file.now)
         (F.holds files.old) Nothing (shown ending)) }
@@ -49,20 +52,22 @@ pub fn query_ending<R: Wait, F: Files>(
     ensures misses_stay { F.misses files.old ≤ F.misses files.new }
 {
     match read_whole(alloc, files, query.layout, LAYOUT_FILE_LIMIT) {
-        Ok(bytes) => layout_ending(rt, alloc, files, query, &bytes),
+        Ok(bytes) => layout_ending(rt, alloc, files, query, &bytes, gate),
         Err(fault) => unloaded_ending(alloc, query.layout, fault),
     }
 }
 
 /// How the run ends for a layout's file of these bytes.
-fn layout_ending<R: Wait, F: Files>(
+fn layout_ending<R: Threads + Wait + Sync, F: Files, G: Gate>(
     rt: &R,
     alloc: Global,
     files: &mut F,
     query: &QueryCommand<'_>,
     bytes: &[u8],
+    gate: &G,
 ) -> Result<Ending, Stop>
-    requires { length bytes.now ≤ LAYOUT_FILE_LIMIT }
+    requires threads { AreThreads query.now.threads }
+    requires short { length bytes.now ≤ LAYOUT_FILE_LIMIT }
     ensures outcome { IfOk result (λ ending. OfFound (F.holds files.old) query.now.file.now (λ found.
         LayoutEnds bytes.now (QueryText query.now.query.now query.now.file.now found) Nothing (shown ending))) }
     ensures missing { IfOk result (MissesOnly (F.misses files.old) (F.misses files.new)) }
@@ -76,7 +81,7 @@ fn layout_ending<R: Wait, F: Files>(
     ensures misses_stay { F.misses files.old ≤ F.misses files.new }
 {
     match record_layout(alloc, bytes) {
-        Ok(layout) => text_ending(rt, alloc, files, query, &layout),
+        Ok(layout) => text_ending(rt, alloc, files, query, &layout, gate),
         Err(refusal) => layout_refusal(alloc, refusal),
     }
 }
@@ -98,14 +103,16 @@ fn record_layout(alloc: Global, bytes: &[u8]) -> Result<Layout, Refusal>
 }
 
 /// How the run ends for records of this layout.
-fn text_ending<R: Wait, F: Files>(
+fn text_ending<R: Threads + Wait + Sync, F: Files, G: Gate>(
     rt: &R,
     alloc: Global,
     files: &mut F,
     query: &QueryCommand<'_>,
     layout: &Layout,
+    gate: &G,
 ) -> Result<Ending, Stop>
-    requires { IsRecord layout.now }
+    requires threads { AreThreads query.now.threads }
+    requires records { IsRecord layout.now }
     ensures outcome { IfOk result (λ ending. OfFound (F.holds files.old) query.now.file.now (λ found.
         TextEnds query.now.query.now layout.now query.now.file.now found Nothing (shown ending))) }
     ensures missing { IfOk result (MissesOnly (F.misses files.old) (F.misses files.new)) }
@@ -118,7 +125,10 @@ fn text_ending<R: Wait, F: Files>(
     ensures misses_stay { F.misses files.old ≤ F.misses files.new }
 {
     match parse_query(alloc, query.query, layout) {
-        Ok(asked) => answer_ending(rt, alloc, files, query.file, &asked),
+        Ok(asked) => {
+            let threads = query.threads as u32;
+            answer_ending(rt, alloc, files, query.file, &asked, threads, gate)
+        }
         Err(refusal) => query_refusal(alloc, refusal),
     }
 }

@@ -1,23 +1,20 @@
-ghost use Rattle.std.specs.Prelude.{◌≡◌, IfOk, IfErr, IsErrOf, Some, ◌≢◌, ◌≤◌, Err};
+ghost use Rattle.std.specs.Prelude.{◌≡◌, Some, ◌≢◌, ◌≤◌};
 ghost use Rattle.fm_io.specs.Count.{Rose, Raised};
-ghost use Rattle.fm_top.specs.Asked.{request_of};
-ghost use Rattle.fm_top.specs.Ending.{MissesOnly, shown};
 ghost use Rattle.fm_io.specs.Files.{Contents};
+ghost use Rattle.fm_options.specs.Options.{texts};
+ghost use Rattle.fm_top.specs.Ending.{shown};
 ghost use Rattle.fm_top.specs.Keeps.{Nothing, kept_in};
 ghost use Rattle.fm_top.specs.Reading.{ReadsFor};
-ghost use Rattle.fm_top.specs.Run.{HasOutcome, IsOutcome, IsValid, AskSome, Runs, Prints, traces_of, code_of, EndsWith, Answers, AsksAbsent, AsksLong, AsksRagged, AsksRefused, AsksRefusedQuery};
-ghost use Rattle.fm_options.specs.Options.{texts};
-ghost use Rattle.fm_top.specs.Words.{Request, Asks, AreFaulty, CanBeAsked};
-ghost use Rattle.fm_top.specs.declared.status.Status.TheVariants.{Usage, Missing, Unread, LayoutRefused, QueryRefused, Ragged, TooLong, Unwritten};
+ghost use Rattle.fm_top.specs.Run.{IsValid, Runs, Prints, traces_of, code_of, EndsWith, Answers};
+ghost use Rattle.fm_top.specs.Statuses.{ComesOf};
+ghost use Rattle.fm_top.specs.Words.{Request, Asks, AreFaulty};
+ghost use Rattle.fm_top.specs.declared.status.Status.TheVariants.{Usage, Missing, Unread, Unwritten};
 
+use crate::command::ending_of;
 use crate::ending::Ending;
 use crate::kept::{Keep, Kept};
-use crate::listing::listing_ending;
-use crate::query::query_ending;
 use crate::status::Status;
 use crate::stop::Stop;
-use crate::sum::sum_ending;
-use crate::words::{Command, command_of};
 use fm_io::{Fault, Files, Gate, Sink, write_text};
 use std::alloc::{AllocGlobal, Global};
 use std::random::RandomSource;
@@ -41,7 +38,7 @@ pub fn run_tool<R, F, O, G>(
     kept: &mut Kept,
 ) -> u8
 where
-    R: Threads + Wait + RandomSource + AllocGlobal,
+    R: Threads + Wait + Sync + RandomSource + AllocGlobal,
     F: Files,
     O: Sink,
     G: Gate,
@@ -52,15 +49,9 @@ where
         (O.written out.old) (O.written out.new)) (kept_in kept.new) status }
 
     // Each status has its cause.
-    ensures usage { result ≡ code_of Usage → AreFaulty (texts words.now) }
-    ensures missing { result ≡ code_of Missing → AsksAbsent (texts words.now) (F.holds files.old) }
-    ensures missed { result ≡ code_of Missing → Rose (F.misses files.old) (F.misses files.new) }
-    ensures unread { result ≡ code_of Unread → Rose (F.faults files.old) (F.faults files.new) }
-    ensures refused { result ≡ code_of LayoutRefused → AsksRefused (texts words.now) (F.holds files.old) }
-    ensures query_refused { result ≡ code_of QueryRefused → AsksRefusedQuery (texts words.now) (F.holds files.old) }
-    ensures ragged { result ≡ code_of Ragged → AsksRagged (texts words.now) (F.holds files.old) }
-    ensures too_long { result ≡ code_of TooLong → AsksLong (texts words.now) (F.holds files.old) }
-    ensures unwritten { result ≡ code_of Unwritten → Raised (O.faults out.old) (O.faults out.new) }
+    ensures causes { (status : Status) → result ≡ code_of status → ComesOf (texts words.now) (F.holds files.old)
+        (traces_of (F.faults files.old) (F.faults files.new) (O.faults out.old) (O.faults out.new)
+        (O.written out.old) (O.written out.new)) (F.misses files.old) (F.misses files.new) status }
 
     // Words that are no command are told so, and read no file.
     ensures faulty { AreFaulty (texts words.now) → EndsWith Usage result }
@@ -86,16 +77,17 @@ where
     ensures misses_stay { F.misses files.old ≤ F.misses files.new }
     ensures writes_stay { O.faults out.old ≤ O.faults out.new }
 {
-    run_kept(rt, alloc, words, files, out, kept).code()
+    run_kept(rt, alloc, words, files, out, gate, kept).code()
 }
 
 /// Runs the words, and keeps nothing of what was kept before.
-fn run_kept<R: Wait, F: Files, O: Sink, K: Keep>(
+fn run_kept<R: Threads + Wait + Sync, F: Files, O: Sink, G: Gate, K: Keep>(
     rt: &R,
     alloc: Global,
     words: &[String],
     files: &mut F,
     out: &mut O,
+    gate: &G,
     kept: &mut K,
 ) -> Status
     ensures runs { Runs (texts words.now) (F.holds files.old)
@@ -113,16 +105,17 @@ fn run_kept<R: Wait, F: Files, O: Sink, K: Keep>(
     ensures writes_stay { O.faults out.old ≤ O.faults out.new }
 {
     kept.clear();
-    run_words(rt, alloc, words, files, out)
+    run_words(rt, alloc, words, files, out, gate)
 }
 
 /// Runs the words, and answers the status that this leaves.
-fn run_words<R: Wait, F: Files, O: Sink>(
+fn run_words<R: Threads + Wait + Sync, F: Files, O: Sink, G: Gate>(
     rt: &R,
     alloc: Global,
     words: &[String],
     files: &mut F,
     out: &mut O,
+    gate: &G,
 ) -> Status
     ensures runs { Runs (texts words.now) (F.holds files.old)
         (traces_of (F.faults files.old) (F.faults files.new) (O.faults out.old) (O.faults out.new)
@@ -138,60 +131,10 @@ fn run_words<R: Wait, F: Files, O: Sink>(
     ensures misses_stay { F.misses files.old ≤ F.misses files.new }
     ensures writes_stay { O.faults out.old ≤ O.faults out.new }
 {
-    match ending_of(rt, alloc, words, files) {
+    match ending_of(rt, alloc, words, files, gate) {
         Ok(ending) => print(&ending, out),
         Err(Stop::Failed) => Status::Unread,
         Err(Stop::Memory) => Status::NoMemory,
-    }
-}
-
-/// Answers how the run ends. Words that are no command read no file.
-fn ending_of<R: Wait, F: Files>(
-    rt: &R,
-    alloc: Global,
-    words: &[String],
-    files: &mut F,
-) -> Result<Ending, Stop>
-    ensures outcome { IfOk result (λ ending. IsOutcome (texts words.now) (F.holds files.old) Nothing (shown ending)) }
-    ensures asked { IsErrOf result Stop.Failed → AskSome (texts words.now) }
-    ensures reads_nothing { AreFaulty (texts words.now) → files.new ≡ files.old }
-    ensures missed { IfOk result (MissesOnly (F.misses files.old) (F.misses files.new)) }
-    ensures unread { IsErrOf result Stop.Failed → Rose (F.faults files.old) (F.faults files.new) }
-    ensures reads { (request : Request) → Asks (texts words.now) request
-        → ReadsFor request (F.holds files.old) (F.reads files.old) (F.reads files.new) }
-    ensures quiet { result ≢ Err Stop.Failed → F.faults files.new ≡ F.faults files.old }
-    ensures held { F.holds files.new ≡ F.holds files.old }
-    ensures faults_stay { F.faults files.old ≤ F.faults files.new }
-    ensures misses_stay { F.misses files.old ≤ F.misses files.new }
-{
-    match command_of(alloc, words)? {
-        Some(command) => command_ending(rt, alloc, files, &command),
-        None => Ok(Ending::usage(alloc)?),
-    }
-}
-
-/// Does what the command asks for, up to the writing.
-fn command_ending<R: Wait, F: Files>(
-    rt: &R,
-    alloc: Global,
-    files: &mut F,
-    command: &Command<'_>,
-) -> Result<Ending, Stop>
-    requires { CanBeAsked (request_of command.now) }
-    ensures outcome { IfOk result (λ ending.
-        HasOutcome (request_of command.now) (F.holds files.old) Nothing (shown ending)) }
-    ensures missed { IfOk result (MissesOnly (F.misses files.old) (F.misses files.new)) }
-    ensures unread { IsErrOf result Stop.Failed → Rose (F.faults files.old) (F.faults files.new) }
-    ensures reads { ReadsFor (request_of command.now) (F.holds files.old) (F.reads files.old) (F.reads files.new) }
-    ensures quiet { result ≢ Err Stop.Failed → F.faults files.new ≡ F.faults files.old }
-    ensures held { F.holds files.new ≡ F.holds files.old }
-    ensures faults_stay { F.faults files.old ≤ F.faults files.new }
-    ensures misses_stay { F.misses files.old ≤ F.misses files.new }
-{
-    match command {
-        Command::Sum(sum) => sum_ending(rt, alloc, files, sum),
-        Command::Layout(layout) => listing_ending(alloc, files, layout.file),
-        Command::Query(query) => query_ending(rt, alloc, files, query),
     }
 }
 

@@ -29,7 +29,7 @@ const SUM: &str = "sum 2\n";
 /// Runs the tool on these words.
 fn run<R, F, O>(rt: &R, words: &[&str], files: &mut F, out: &mut O) -> Result<u8, AllocError>
 where
-    R: Threads + Wait + RandomSource + AllocGlobal,
+    R: Threads + Wait + Sync + RandomSource + AllocGlobal,
     F: Files,
     O: Sink,
 {
@@ -44,7 +44,7 @@ where
 /// Compares how a run on these words ends, and all that it writes, with what is wanted.
 fn ends<R, F>(rt: &R, files: &mut F, words: &[&str], status: u8, text: &str) -> Result<(), Fail>
 where
-    R: Threads + Wait + RandomSource + AllocGlobal + Abort,
+    R: Threads + Wait + Sync + RandomSource + AllocGlobal + Abort,
     F: Files,
 {
     let mut out = SureSink::new(rt.alloc());
@@ -57,7 +57,7 @@ where
 /// The same for the words of a line, which single blanks part.
 fn line_ends<R, F>(rt: &R, files: &mut F, line: &str, status: u8, text: &str) -> Result<(), Fail>
 where
-    R: Threads + Wait + RandomSource + AllocGlobal + Abort,
+    R: Threads + Wait + Sync + RandomSource + AllocGlobal + Abort,
     F: Files,
 {
     let words: Vec<&str> = line.split(' ').collect(rt.alloc())?;
@@ -73,7 +73,7 @@ fn ends_at_each_write<R, F>(
     text: &str,
 ) -> Result<(), Fail>
 where
-    R: Threads + Wait + RandomSource + AllocGlobal + Abort,
+    R: Threads + Wait + Sync + RandomSource + AllocGlobal + Abort,
     F: Files,
 {
     for k in 0..=text.len() {

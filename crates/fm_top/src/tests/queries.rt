@@ -232,9 +232,12 @@ fn as_many_threads_as_one_likes_answer_the_same(rt: HostRuntime) -> Result<(), F
     let query = "count,sum(.price),list(.tags[]) where .kind>=2";
     let text = "count 2\nsum(.price) 210\nlist(.tags[]) 1 2 3 4 5 0 0 -1\n";
     let mut files = files(rt.alloc(), &[], usize::MAX)?;
-    for threads in ["1", "2", "16"] {
-        let words = ["query", "--threads", threads, "L1", query, "R1"];
-        ends(&rt, &mut files, &words, 0, text)?;
+    let none = "count 0\nsum(.price) 0\nlist(.tags[])\n";
+    for threads in ["1", "2", "8", "16"] {
+        for (file, text) in [("R1", text), ("E", none)] {
+            let words = ["query", "--threads", threads, "L1", query, file];
+            ends(&rt, &mut files, &words, 0, text)?;
+        }
     }
     Ok(())
 }
@@ -267,9 +270,17 @@ fn a_part_of_the_records_is_counted_or_ragged(rt: HostRuntime) -> Result<(), Fai
 fn a_read_of_either_file_that_fails_prints_nothing(rt: HostRuntime) -> Result<(), Fail> {
     // Each 16 bytes are read by a call of their own, and then the end, of the layout and then of the records.
     let reads = SALE.len().div_ceil(16) as u64 + 1 + 3 + 1;
+    let by_many = ["query", "--threads", "16", "L1", ROW[2], "R1"];
     for k in 0..=reads {
         let (status, text) = if k < reads { (3, "") } else { (0, NONE) };
         ends(&rt, &mut files(rt.alloc(), &[k], 16)?, &ROW, status, text)?;
+        ends(
+            &rt,
+            &mut files(rt.alloc(), &[k], 16)?,
+            &by_many,
+            status,
+            text,
+        )?;
     }
     Ok(())
 }
@@ -322,7 +333,8 @@ fn one_run_follows_another(rt: HostRuntime) -> Result<(), Fail> {
 fn a_write_of_an_answer_that_fails_leaves_a_prefix(rt: HostRuntime) -> Result<(), Fail> {
     let mut files = files(rt.alloc(), &[], usize::MAX)?;
     for (query, status, text) in [(ROW[2], 0, NONE), ("count,", 5, "query refused 50 6\n")] {
-        ends_at_each_write(&rt, &mut files, &["query", "L1", query, "R1"], status, text)?;
+        let words = ["query", "L1", query, "R1", "--threads=2"];
+        ends_at_each_write(&rt, &mut files, &words, status, text)?;
     }
     Ok(())
 }
@@ -345,7 +357,8 @@ fn each_file_has_a_limit_of_its_own(rt: HostRuntime) -> Result<(), Fail> {
         let layout = named(alloc, "L", layout)?;
         let records = named(alloc, "R", super::zeros(alloc, zeros)?)?;
         let mut files = SureFiles::new(vec![in alloc; layout, records]?);
-        ends(&rt, &mut files, &["query", "L", "count", "R"], status, text)?;
+        let words = ["query", "--threads=8", "L", "count", "R"];
+        ends(&rt, &mut files, &words, status, text)?;
     }
     Ok(())
 }

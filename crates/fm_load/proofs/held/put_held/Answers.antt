@@ -1,6 +1,5 @@
 use Rattle.std.proofs.Common.{◌+◌, ◌*◌, ◌≤◌, length, arith}
 use Rattle.fm_load.specs.Held.{words_at}
-use Rattle.fm_load.specs.Limits.{record_file_limit}
 use Rattle.fm_load.proofs.Holding.{put_still}
 use Rattle.fm_load.proofs.held.put_held.Goals as goal
 
@@ -10,10 +9,9 @@ returns-clause-held g c =
     let h = c.requires.held in
     let d = c.in-Ok.ensures.did in
     let size = h.size in
-    let room = h.room in
     let last = c.requires.room in
     let fits : c.args.place + length c.args.bytes.now ≤ 8 * length (words_at (v c.args.m.now) c.args.arena) = omega arith in
-    (put_still record_file_limit (v c.args.m.now) (v c.put_bytes.new.m) d.own c.args.arena c.args.place c.args.bytes.now h d.makes c.in-Ok.ensures.outside
+    (put_still (v c.args.m.now) (v c.put_bytes.new.m) d.own c.args.arena c.args.place c.args.bytes.now h d.makes c.in-Ok.ensures.outside
     (c.in-Ok.ensures.alone h.by_itself) fits).held
 
 pub returns-clause-given : goal.returns-clause-given
@@ -22,8 +20,7 @@ returns-clause-given g c =
     let h = c.requires.held in
     let d = c.in-Ok.ensures.did in
     let size = h.size in
-    let room = h.room in
     let last = c.requires.room in
     let fits : c.args.place + length c.args.bytes.now ≤ 8 * length (words_at (v c.args.m.now) c.args.arena) = omega arith in
-    (put_still record_file_limit (v c.args.m.now) (v c.put_bytes.new.m) d.own c.args.arena c.args.place c.args.bytes.now h d.makes c.in-Ok.ensures.outside
+    (put_still (v c.args.m.now) (v c.put_bytes.new.m) d.own c.args.arena c.args.place c.args.bytes.now h d.makes c.in-Ok.ensures.outside
     (c.in-Ok.ensures.alone h.by_itself) fits).given_is

@@ -1,51 +1,55 @@
-use Rattle.std.proofs.Common.{ℕ, ◌+◌, length, arith, length-append, ap}
-use Rattle.std.specs.Prelude.{nat_lt}
+use Rattle.std.proofs.Common.{◌≡◌, ◌+◌, ℕ, length, take, ap, sym, subst, arith, length-append}
 use Rattle.std.proofs.lemmas.List.{length-take}
+use Rattle.fm_load.specs.Held.{loaded_in}
 use Rattle.fm_load.specs.Limits.{record_file_limit}
 use Rattle.fm_load.specs.Reading.{GoesBy}
-use Rattle.fm_load.proofs.Following.{filled_reads, goes_by}
-use Rattle.fm_load.specs.Held.{loaded_in}
+use Rattle.fm_load.specs.Whole.{IsChunk}
+use Rattle.fm_load.proofs.Chunks.{takes_chunk}
+use Rattle.fm_load.proofs.Filling.{loads_none, push_loads}
+use Rattle.fm_load.proofs.Following.{chunk_reads}
 use Rattle.fm_load.proofs.loading.load_chunk.Goals as goal
 
-pub returns-in-Err-Missing-clause-reads : goal.returns-in-Err-Missing-clause-reads
-returns-in-Err-Missing-clause-reads g c =
-    let was = loaded_in (g.M.Memory.view c.args.m.now) c.args.segment.now in
-    filled_reads _ _ _ _ (length was) _ (record_file_limit + 1) _ (λ next. Unit {0}) c.fill.ensures.reads (omega arith)
-    (omega (arith, length-take {A = ℕ})) (omega (arith, length-take {A = ℕ})) (λ next goes. tt)
+pub returns-in-Err-clause-did : goal.returns-in-Err-clause-did
+returns-in-Err-clause-did g c = loads_none (g.M.Memory.view c.args.m.now) c.args.segment.now
 
-pub returns-in-Err-Failed-clause-reads : goal.returns-in-Err-Failed-clause-reads
-returns-in-Err-Failed-clause-reads g c =
-    let was = loaded_in (g.M.Memory.view c.args.m.now) c.args.segment.now in
-    filled_reads _ _ _ _ (length was) _ (record_file_limit + 1) _ (λ next. Unit {0}) c.fill.ensures.reads (omega arith)
-    (omega (arith, length-take {A = ℕ})) (omega (arith, length-take {A = ℕ})) (λ next goes. tt)
+pub returns-in-Ok-push_held-clause-did : goal.returns-in-Ok-push_held-clause-did
+returns-in-Ok-push_held-clause-did g c = push_loads _ _ _ _ c.push_held.ensures.did c.push_held.ensures.ok c.push_held.ensures.err
 
-pub returns-in-Err-Memory-clause-reads : goal.returns-in-Err-Memory-clause-reads
-returns-in-Err-Memory-clause-reads g c =
-    let was = loaded_in (g.M.Memory.view c.args.m.now) c.args.segment.now in
-    filled_reads _ _ _ _ (length was) _ (record_file_limit + 1) _ (λ next. Unit {0}) c.fill.ensures.reads (omega arith)
-    (omega (arith, length-take {A = ℕ})) (omega (arith, length-take {A = ℕ})) (λ next goes. tt)
+pub returns-in-Err-push_held-clause-did : goal.returns-in-Err-push_held-clause-did
+returns-in-Err-push_held-clause-did g c = push_loads _ _ _ _ c.push_held.ensures.did c.push_held.ensures.ok c.push_held.ensures.err
 
-pub returns-then-n-rest-clause-reads : goal.returns-then-n-rest-clause-reads
-returns-then-n-rest-clause-reads g c =
+pub returns-in-Ok-push_held-clause-took : goal.returns-in-Ok-push_held-clause-took
+returns-in-Ok-push_held-clause-took g c =
+    let v = g.M.Memory.view in
+    let was = loaded_in (v c.args.m.now) c.args.segment.now in
+    let now = loaded_in (v c.push_held.new.m) c.push_held.new.segment in
+    let chunk = c.in-Ok.chunk in
+    let piece = take chunk.count c.read_chunk.new.bytes in
+    let told = g.F.Files.holds c.args.files.now in
+    let took = subst (λ (at : ℕ). IsChunk told c.args.name.now at piece chunk.ended) c.loaded_size-at.ensures c.in-Ok.ensures.took in
+    takes_chunk told c.args.name.now was now piece chunk.ended c.requires.even c.in-Ok-push_held.ensures.ok took
+
+pub returns-in-Ok-push_held-clause-reads : goal.returns-in-Ok-push_held-clause-reads
+returns-in-Ok-push_held-clause-reads g c =
+    let v = g.M.Memory.view in
+    let was = loaded_in (v c.args.m.now) c.args.segment.now in
+    let now = loaded_in (v c.push_held.new.m) c.push_held.new.segment in
+    let chunk = c.in-Ok.chunk in
+    let at = c.loaded_size-at.result in
+    let pushed = ap length c.in-Ok-push_held.ensures.ok in
+    let is : length now ≡ at + chunk.count =
+    omega (arith, pushed, c.loaded_size-at.ensures, length-append {A = ℕ}, length-take {A = ℕ}, c.in-Ok.ensures.count, c.in-Ok.ensures.buffer) in
+    chunk_reads _ _ c.args.name.now (record_file_limit + 1) at (length was) _ _ c.in-Ok.ensures.reads c.loaded_size-at.ensures
+    (λ next goes. subst (λ (place : ℕ). GoesBy chunk.ended place next) (sym is) goes)
+
+pub returns-in-Err-push_held-clause-reads : goal.returns-in-Err-push_held-clause-reads
+returns-in-Err-push_held-clause-reads g c =
     let was = loaded_in (g.M.Memory.view c.args.m.now) c.args.segment.now in
-    filled_reads _ _ _ _ (length was) _ (record_file_limit + 1) _ (λ next. Unit {0}) c.fill.ensures.reads (omega arith)
-    (omega (arith, length-take {A = ℕ})) (omega (arith, length-take {A = ℕ})) (λ next goes. tt)
+    chunk_reads _ _ c.args.name.now (record_file_limit + 1) c.loaded_size-at.result (length was) _ (λ next. Unit {0}) c.in-Ok.ensures.reads
+    c.loaded_size-at.ensures (λ next goes. tt)
 
 pub returns-in-Err-clause-reads : goal.returns-in-Err-clause-reads
 returns-in-Err-clause-reads g c =
     let was = loaded_in (g.M.Memory.view c.args.m.now) c.args.segment.now in
-    filled_reads _ _ _ _ (length was) _ (record_file_limit + 1) _ (λ next. Unit {0}) c.fill.ensures.reads (omega arith)
-    (omega (arith, length-take {A = ℕ})) (omega (arith, length-take {A = ℕ})) (λ next goes. tt)
-
-pub returns-in-Ok-push_held-clause-reads : goal.returns-in-Ok-push_held-clause-reads
-returns-in-Ok-push_held-clause-reads g c =
-    let was = loaded_in (g.M.Memory.view c.args.m.now) c.args.segment.now in
-    let n = c.in-Ok.n in
-    let room = c.min-room.result in
-    let now = loaded_in (g.M.Memory.view c.push_held.new.m) c.push_held.new.segment in
-    let pushed = ap length c.in-Ok-push_held.ensures.ok in
-    filled_reads _ _ _ _ (length was) _ (record_file_limit + 1) _ (GoesBy (nat_lt n room) (length now)) c.in-Ok.ensures.reads
-    (omega arith) (omega (arith, length-take {A = ℕ})) (omega (arith, length-take {A = ℕ}))
-    (λ next goes. goes_by _ _ room n (length now) next (omega (arith, length-take {A = ℕ}))
-    (omega (arith, length-take {A = ℕ}, c.in-Ok.ensures.count))
-    (omega (arith, pushed, length-append {A = ℕ}, length-take {A = ℕ}, c.in-Ok.ensures.count, c.fill.auto.buf)) goes)
+    chunk_reads _ _ c.args.name.now (record_file_limit + 1) c.loaded_size-at.result (length was) _ (λ next. Unit {0}) c.in-Err.ensures.reads
+    c.loaded_size-at.ensures (λ next goes. tt)

@@ -6,6 +6,6 @@ use Rattle.fm_records.proofs.Joining.{found_over_is}
 use Rattle.fm_top.proofs.answering.whole_ending.Goals as goal
 
 pub print_answer-requires : goal.print_answer-requires
-print_answer-requires c =
+print_answer-requires g c =
     let q = c.args.q.now in
-    subst (λ (fs : List Found). IsAnswerOf q fs) (sym c.in_ok-found.ensures.answer) (found_over_is q (records q.size c.args.loaded))
+    subst (λ (fs : List Found). IsAnswerOf q fs) (sym c.in_ok-found.ensures) (found_over_is q (records q.size c.args.loaded))

@@ -5,8 +5,8 @@ use Rattle.fm_top.specs.Found.{OfFound}
 use Rattle.fm_top.specs.Keeps.{Nothing}
 use Rattle.fm_top.specs.Queries.{LayoutEnds, QueryText}
 use Rattle.fm_top.proofs.Outcomes.{query-whole}
-use Rattle.fm_load.specs.declared.load_fault.LoadFault.TheVariants.{Missing, TooLong}
-use Rattle.fm_top.proofs.Unloaded.{fault_of, misses_only, failed_load, unfailed_load, query_unloaded}
+use Rattle.fm_load.specs.declared.load_fault.LoadFault.TheVariants.{Missing, PoolFull, TooLong}
+use Rattle.fm_top.proofs.Unloaded.{fault_isnt, fault_of, misses_only, failed_load, unfailed_load, query_unloaded}
 use Rattle.fm_query.specs.Plan.{Plan}
 use Rattle.fm_top.specs.Causes.{IsAsked}
 use Rattle.fm_load.specs.Limits.{record_file_limit}
@@ -71,3 +71,6 @@ pub returns-in-Err-clause-quiet : goal.returns-in-Err-clause-quiet
 returns-in-Err-clause-quiet g c =
     let load = c.read_whole in
     λ other. load.ensures.quiet (unfailed_load load.result c.in-Err.fault c.unloaded_ending.result c.in-Err.is c.unloaded_ending.ensures.failed other)
+
+pub unloaded_ending-requires : goal.unloaded_ending-requires
+unloaded_ending-requires g c = fault_isnt c.read_whole.result c.in-Err.fault PoolFull c.read_whole.ensures.never c.in-Err.is

@@ -1,8 +1,8 @@
 use Rattle.std.proofs.lemmas.Result.{IfOk-weaker}
 use Rattle.fm_top.specs.Ending.{shown}
 use Rattle.fm_top.proofs.Outcomes.{outcome-whole}
-use Rattle.fm_load.specs.declared.load_fault.LoadFault.TheVariants.{Missing, TooLong}
-use Rattle.fm_top.proofs.Unloaded.{fault_of, misses_only, failed_load, unfailed_load, sum_unloaded}
+use Rattle.fm_load.specs.declared.load_fault.LoadFault.TheVariants.{Missing, PoolFull, TooLong}
+use Rattle.fm_top.proofs.Unloaded.{fault_isnt, fault_of, misses_only, failed_load, unfailed_load, sum_unloaded}
 use Rattle.fm_top.proofs.sum.sum_ending.Goals as goal
 
 pub returns-in_ok-loaded_ending-in-Ok-clause-outcome : goal.returns-in_ok-loaded_ending-in-Ok-clause-outcome
@@ -38,3 +38,6 @@ pub returns-in-Err-clause-quiet : goal.returns-in-Err-clause-quiet
 returns-in-Err-clause-quiet g c =
     let load = c.load in
     λ other. load.ensures.quiet (unfailed_load load.result c.in-Err.fault c.unloaded_ending.result c.in-Err.is c.unloaded_ending.ensures.failed other)
+
+pub unloaded_ending-requires : goal.unloaded_ending-requires
+unloaded_ending-requires g c = fault_isnt c.load.result c.in-Err.fault PoolFull c.load.ensures.never c.in-Err.is

@@ -1,0 +1,100 @@
+ghost use Rattle.std.specs.Prelude.{◌≡◌, ◌≢◌, ◌≤◌, IfOk, IfSome, IfNone, IsErrOf, Err};
+ghost use Rattle.fm_io.specs.Count.{Rose};
+ghost use Rattle.fm_options.specs.Options.{texts};
+ghost use Rattle.fm_top.specs.Asked.{request_of};
+ghost use Rattle.fm_top.specs.Ending.{MissesOnly, shown};
+ghost use Rattle.fm_top.specs.Keeps.{Nothing};
+ghost use Rattle.fm_top.specs.Reading.{ReadsFor};
+ghost use Rattle.fm_top.specs.Run.{HasOutcome, IsOutcome, AskSome};
+ghost use Rattle.fm_top.specs.Words.{Request, Asks, AreFaulty, CanBeAsked};
+
+use crate::ending::Ending;
+use crate::layout::listing_ending;
+use crate::layout_words::{LayoutCommand, layout_words};
+use crate::query::query_ending;
+use crate::query_words::{QueryCommand, query_words};
+use crate::stop::Stop;
+use crate::sum::sum_ending;
+use crate::sum_words::{SumCommand, sum_words};
+use fm_io::{Files, Gate};
+use std::alloc::{AllocError, Global};
+use std::sync::Wait;
+use std::thread::Threads;
+
+/// What the words ask for.
+#[derive(Clone, Copy, Debug)]
+pub enum Command<'a> {
+    Sum(SumCommand<'a>),
+    Layout(LayoutCommand<'a>),
+    Query(QueryCommand<'a>),
+}
+
+/// What the words ask for, and nothing where they are of no form.
+pub fn command_of<'a>(alloc: Global, words: &'a [String]) -> Result<Option<Command<'a>>, AllocError>
+    ensures found { IfOk result (λ found.
+        IfSome found (λ command. Asks (texts words.now) (request_of command))) }
+    ensures none { IfOk result (λ found. IfNone found (AreFaulty (texts words.now))) }
+{
+    if let Some(layout) = layout_words(words) {
+        return Ok(Some(Command::Layout(layout)));
+    }
+    if let Some(sum) = sum_words(words) {
+        return Ok(Some(Command::Sum(sum)));
+    }
+    match query_words(alloc, words)? {
+        Some(query) => Ok(Some(Command::Query(query))),
+        None => Ok(None),
+    }
+}
+
+/// Answers how the run ends. Words that are no command read no file.
+pub fn ending_of<R: Threads + Wait + Sync, F: Files, G: Gate>(
+    rt: &R,
+    alloc: Global,
+    words: &[String],
+    files: &mut F,
+    gate: &G,
+) -> Result<Ending, Stop>
+    ensures outcome { IfOk result (λ ending. IsOutcome (texts words.now) (F.holds files.old) Nothing (shown ending)) }
+    ensures asked { IsErrOf result Stop.Failed → AskSome (texts words.now) }
+    ensures reads_nothing { AreFaulty (texts words.now) → files.new ≡ files.old }
+    ensures missed { IfOk result (MissesOnly (F.misses files.old) (F.misses files.new)) }
+    ensures unread { IsErrOf result Stop.Failed → Rose (F.faults files.old) (F.faults files.new) }
+    ensures reads { (request : Request) → Asks (texts words.now) request
+        → ReadsFor request (F.holds files.old) (F.reads files.old) (F.reads files.new) }
+    ensures quiet { result ≢ Err Stop.Failed → F.faults files.new ≡ F.faults files.old }
+    ensures held { F.holds files.new ≡ F.holds files.old }
+    ensures faults_stay { F.faults files.old ≤ F.faults files.new }
+    ensures misses_stay { F.misses files.old ≤ F.misses files.new }
+{
+    match command_of(alloc, words)? {
+        Some(command) => command_ending(rt, alloc, files, &command, gate),
+        None => Ok(Ending::usage(alloc)?),
+    }
+}
+
+/// Does what the command asks for, up to the writing.
+fn command_ending<R: Threads + Wait + Sync, F: Files, G: Gate>(
+    rt: &R,
+    alloc: Global,
+    files: &mut F,
+    command: &Command<'_>,
+    gate: &G,
+) -> Result<Ending, Stop>
+    requires { CanBeAsked (request_of command.now) }
+    ensures outcome { IfOk result (λ ending.
+        HasOutcome (request_of command.now) (F.holds files.old) Nothing (shown ending)) }
+    ensures missed { IfOk result (MissesOnly (F.misses files.old) (F.misses files.new)) }
+    ensures unread { IsErrOf result Stop.Failed → Rose (F.faults files.old) (F.faults files.new) }
+    ensures reads { ReadsFor (request_of command.now) (F.holds files.old) (F.reads files.old) (F.reads files.new) }
+    ensures quiet { result ≢ Err Stop.Failed → F.faults files.new ≡ F.faults files.old }
+    ensures held { F.holds files.new ≡ F.holds files.old }
+    ensures faults_stay { F.faults files.old ≤ F.faults files.new }
+    ensures misses_stay { F.misses files.old ≤ F.misses files.new }
+{
+    match command {
+        Command::Sum(sum) => sum_ending(rt, alloc, files, sum),
+        Command::Layout(layout) => listing_ending(alloc, files, layout.file),
+        Command::Query(query) => query_ending(rt, alloc, files, query, gate),
+    }
+}
