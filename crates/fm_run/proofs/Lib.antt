@@ -1,0 +1,10 @@
+pub mod Going
+pub mod Lines
+pub mod Counting
+pub mod Naming
+pub mod Backing
+pub mod Ending
+pub mod Settled
+pub mod Numbering
+pub mod Rows
+pub mod Returning

@@ -1,0 +1,92 @@
+-- Lines in a row.
+use Rattle.std.proofs.Common.{◌≡◌, ℕ, ◌+◌, List, [], ◌∷◌, ◌++◌, length, length-append, refl, ap, sym, ◌∙◌, subst, arith, append_assoc, None, Option}
+use Rattle.std.proofs.lemmas.List.{map-append, append-nil}
+use Rattle.fm_base.specs.declared.caller.Caller.{Caller}
+use Rattle.fm_base.specs.Calls.{Entry}
+use Rattle.fm_base.specs.Outcomes.{Lasts}
+use Rattle.fm_pool_facts.specs.Views.{View}
+use Rattle.fm_calls.specs.Told.{view_of_pass}
+use Rattle.fm_script.specs.declared.line.Line.{Line}
+use Rattle.fm_run.specs.declared.numbers.Numbers.{Numbers}
+use Rattle.fm_run.specs.declared.reply.Reply.{Reply}
+use Rattle.fm_run.specs.declared.standing.Standing.{Standing}
+use Rattle.fm_run.specs.Calls.{CallDoes}
+use Rattle.fm_run.specs.Lines.{LineRan}
+use Rattle.fm_run.specs.Numbers.{number_at}
+use Rattle.fm_run.specs.Outcomes.{outcome}
+use Rattle.fm_run.specs.Playing.{LinesRan}
+use Rattle.fm_run.specs.Report.{Done, AreRun, names_after, names_behind, runs}
+use Rattle.fm_run.specs.Runs.{Went}
+use Rattle.fm_run.specs.Standings.{Names, stands_of, standing_at}
+use Rattle.fm_run.proofs.Going.{went_none, went_then}
+
+-- What one more line leaves of names.
+names_after-push : (number : List ℕ → Option ℕ) (k : ℕ) (ds : List Done) (d : Done) (names : Names)
+    → names_after number k (ds ++ d ∷ []) names ≡ names_behind number (k + length ds) d (names_after number k ds names)
+names_after-push number k [] d names = ap (λ (m : ℕ). names_behind number m d names) (omega arith)
+names_after-push number k (e ∷ ds) d names =
+    names_after-push number (k + 1) ds d (names_behind number k e names)
+    ∙ ap (λ (m : ℕ). names_behind number m d (names_after number (k + 1) ds (names_behind number k e names))) (omega arith)
+
+-- One more line behind these.
+are_run-push : (c : Caller) (number : List ℕ → Option ℕ) (k : ℕ) (names : Names) (ds : List Done) (d : Done) → AreRun c number k names ds
+    → CallDoes c (λ name. stands_of (names_after number k ds names) (number name)) d.line.command (outcome d.reply d.made) d.run
+    → AreRun c number k names (ds ++ d ∷ [])
+are_run-push c number k names [] d rs r = (r, tt)
+are_run-push c number k names (e ∷ ds) d rs r = (rs.0, are_run-push c number (k + 1) (names_behind number k e names) ds d rs.1 r)
+
+runs-push : (ds : List Done) (d : Done) → runs (ds ++ d ∷ []) ≡ runs ds ++ d.run
+runs-push [] d = append-nil d.run
+runs-push (e ∷ ds) d = ap (λ (es : List Entry). e.run ++ es) (runs-push ds d) ∙ sym (append_assoc e.run (runs ds) d.run)
+
+lasts_then : (p q r : View) → Lasts (view_of_pass p) (view_of_pass q) → Lasts (view_of_pass q) (view_of_pass r) → Lasts (view_of_pass p) (view_of_pass r)
+lasts_then p q r a b = record {
+  known = λ id k. b.known id (a.known id k);
+  given = λ id. let x = a.given id in let y = b.given id in omega (arith, x, y);
+  limit = b.limit ∙ a.limit;
+  caller = b.caller ∙ a.caller;
+}
+
+module _ (p : View) (names : Numbers) (base : List Standing) (start : ℕ) (own : List Standing) where
+  -- No line yet.
+  pub lines_none : p.inside ≡ None → LinesRan p p names base start own own [] []
+  lines_none outside = record {
+    dones = [];
+    are = refl;
+    replied = refl;
+    calls = tt;
+    went = went_none p;
+    outside = outside;
+    lasts = record { known = λ id k. k; given = λ id. omega arith; limit = refl; caller = refl };
+    many = omega arith;
+    stands = refl;
+  }
+
+  -- A line more.
+  pub lines_more : (q r : View) (now next : List Standing) (lines : List Line) (l : Line) (replies : List Reply) (reply : Reply)
+      → LinesRan p q names base start own now lines replies → LineRan q r names base start now next l.command reply
+      → LinesRan p r names base start own next (lines ++ l ∷ []) (replies ++ reply ∷ [])
+  lines_more q r now next lines l replies reply a b =
+      let number = number_at names in
+      let k = start + length own in
+      let d : Done = record { line = l; reply = reply; run = b.run; made = b.made } in
+      let here : start + length now ≡ k + length a.dones = let m = a.many in omega (arith, m) in
+      let moved : Names = names_after number k a.dones (standing_at base start own) in
+      record {
+        dones = a.dones ++ d ∷ [];
+        are = map-append (λ (x : Done). x.line) a.dones (d ∷ []) ∙ ap (λ (ls : List Line). ls ++ l ∷ []) a.are;
+        replied = map-append (λ (x : Done). x.reply) a.dones (d ∷ []) ∙ ap (λ (rs : List Reply). rs ++ reply ∷ []) a.replied;
+        calls = are_run-push p.caller number k (standing_at base start own) a.dones d a.calls
+            (subst (λ (ns : Names). CallDoes p.caller (λ name. stands_of ns (number name)) l.command (outcome reply b.made) b.run) a.stands
+            (subst (λ (c : Caller). CallDoes c (λ name. stands_of (standing_at base start now) (number name)) l.command (outcome reply b.made) b.run)
+            a.went.same_caller b.does));
+        went = subst (λ (es : List Entry). Went p r es) (sym (runs-push a.dones d)) (went_then p q r (runs a.dones) b.run a.went b.went);
+        outside = b.outside;
+        lasts = lasts_then p q r a.lasts b.lasts;
+        many = let m = a.many in let o = b.one_more in let g = length-append a.dones (d ∷ []) in omega (arith, m, o, g);
+        stands =
+            (λ i n. b.stands n i)
+            ∙ (ap (λ (m : ℕ). names_behind number m d (standing_at base start now)) here
+            ∙ (ap (λ (ns : Names). names_behind number (k + length a.dones) d ns) a.stands
+            ∙ sym (names_after-push number k a.dones d (standing_at base start own))));
+      }

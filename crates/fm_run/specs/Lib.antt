@@ -1,0 +1,11 @@
+pub mod Outcomes
+pub mod Calls
+pub mod Standings
+pub mod Runs
+pub mod Numbers
+pub mod Laws
+pub mod Lines
+pub mod Playing
+pub mod Report
+pub mod Tables
+pub mod Tokens

@@ -1,0 +1,26 @@
+-- What a pass's lines in a row do.
+use Rattle.std.specs.Prelude.{◌≡◌, ℕ, ◌+◌, length, map, None, List}
+use Rattle.fm_base.specs.Outcomes.{Lasts}
+use Rattle.fm_pool_facts.specs.Views.{View}
+use Rattle.fm_calls.specs.Told.{view_of_pass}
+use Rattle.fm_script.specs.declared.line.Line.{Line}
+use Rattle.fm_run.specs.declared.numbers.Numbers.{Numbers}
+use Rattle.fm_run.specs.declared.reply.Reply.{Reply}
+use Rattle.fm_run.specs.declared.standing.Standing.{Standing}
+use Rattle.fm_run.specs.Numbers.{number_at}
+use Rattle.fm_run.specs.Report.{Done, AreRun, lines_of, names_after, runs}
+use Rattle.fm_run.specs.Runs.{Went}
+use Rattle.fm_run.specs.Standings.{standing_at}
+
+-- The next of the pass's own lines ran, and were replied to so
+pub record LinesRan (old new : View) (names : Numbers) (base : List Standing) (start : ℕ) (own next : List Standing) (lines : List Line)
+    (replies : List Reply) : Type 0 where
+  pub dones : List Done
+  pub are : lines_of dones ≡ lines
+  pub replied : map (λ d. d.reply) dones ≡ replies
+  pub calls : AreRun old.caller (number_at names) (start + length own) (standing_at base start own) dones
+  pub went : Went old new (runs dones)
+  pub outside : new.inside ≡ None
+  pub lasts : Lasts (view_of_pass old) (view_of_pass new)
+  pub many : length next ≡ length own + length dones
+  pub stands : standing_at base start next ≡ names_after (number_at names) (start + length own) dones (standing_at base start own)
