@@ -42,7 +42,9 @@ use Rattle.fm_handle.proofs.Places.{rooted_is, both_true, multiple, word_by_kind
 use Rattle.fm_handle.proofs.Updating.{kind_of-sum_of}
 use Rattle.fm_access_laws.specs.Handles.{DoesCall, gets, sets, sets_long, compares_and_sets, exchanges, exchanges_long, adds, adds_long, HandlesAreTidy, LoneHandlesAreTidy, PathsStayInside}
 use Rattle.fm_access_laws.proofs.Staying.{StayBelow, ActBelow, stay_visit, tries_below, tidy_by, tidy_alone}
-use Rattle.fm_access_laws.proofs.Tidying.{stay_none, stay_refused, get_stays, put_stays}
+use Rattle.fm_access_laws.proofs.Staying.{stay_none, stay_refused}
+use Rattle.fm_access_laws.proofs.Tidying.{get_stays}
+use Rattle.fm_access_laws.proofs.Putting.{put_stays}
 
 -- ---- where the value lies
 

@@ -1,3 +1,4 @@
 pub mod Handling
+pub mod Putting
 pub mod Staying
 pub mod Tidying

@@ -9,7 +9,7 @@ use Rattle.fm_base.specs.Arenas.{are_one, State, arena_of}
 use Rattle.fm_base.specs.Calls.{Call, Open, Enter, Read, Write, SwapIf, Add, Allocate, Leave, Hold, Unhold, Shut, End, Lend, Back, Reply, Fine, Found, Entry, entry_of}
 use Rattle.fm_base.specs.Histories.{IsLegal, DifferBelow, IsTidyIn, IsTidy, made_by}
 use Rattle.fm_base.specs.Machine.{reply_to, after}
-use Rattle.fm_base.specs.Visits.{Acts, entries_of, visit, Tries, looked, missed, hit}
+use Rattle.fm_base.specs.Visits.{Acts, entries_of, visit, refused_visit, Tries, looked, missed, hit}
 use Rattle.fm_base.proofs.Names.{are_one-false}
 use Rattle.fm_base.proofs.Growing.{Grows-state_after}
 use Rattle.fm_bytes.specs.Bytes.{replaced}
@@ -32,6 +32,13 @@ StayBelow a end (e ∷ es) = ChangesBelow a end e.call e.reply × StayBelow a en
 abbrev pub ActBelow : ArenaId → ℕ → Acts → Type 0
 ActBelow a end [] = ⊤
 ActBelow a end (act ∷ acts) = ChangesBelow a end act.0 act.1 × ActBelow a end acts
+
+-- No entry, and a visit that was refused.
+pub stay_none : (a : ArenaId) (end : ℕ) (own : List Entry) → own ≡ [] → StayBelow a end own
+stay_none a end own e = subst (λ (es : List Entry). StayBelow a end es) (sym e) tt
+
+pub stay_refused : (a : ArenaId) (end : ℕ) (c : Caller) (id : ArenaId) (own : List Entry) → own ≡ refused_visit c id → StayBelow a end own
+stay_refused a end c id own e = subst (λ (es : List Entry). StayBelow a end es) (sym e) (tt, tt)
 
 pub stay_append : (a : ArenaId) (end : ℕ) (es fs : List Entry) → StayBelow a end es → StayBelow a end fs → StayBelow a end (es ++ fs)
 stay_append a end [] fs h k = k

@@ -1,8 +1,8 @@
 -- Each access to a segment stays below its end, and so is tidy.
-use Rattle.std.proofs.Common.{◌≡◌, ℕ, ℤ, ◌+◌, ◌-◌, ◌*◌, ◌%◌, ◌^◌, ◌<◌, ◌≤◌, ◌==◌, ◌&&◌, Bool, true, false, if◌then◌else◌, nat_le, nat_lt, nat_eq, MatchBool, Option, Some, None, Result, Ok, Err, List, [], length, take, replicate, refl, sym, ap, subst, ◌∙◌, arith, length-drop}
+use Rattle.std.proofs.Common.{◌≡◌, ℕ, ℤ, ◌+◌, ◌-◌, ◌*◌, ◌%◌, ◌^◌, ◌<◌, ◌≤◌, ◌==◌, ◌&&◌, Bool, true, false, if◌then◌else◌, nat_le, nat_lt, nat_eq, MatchBool, Option, Some, None, Result, Ok, Err, List, [], length, replicate, refl, sym, ap, subst, arith}
 use Rattle.std.proofs.lemmas.Bool.{leb-true}
-use Rattle.std.proofs.lemmas.List.{length-take-le, length-replicate}
-use Rattle.std.proofs.lemmas.List.Elements.{All-take, All-drop, All-replicate}
+use Rattle.std.proofs.lemmas.List.{length-replicate}
+use Rattle.std.proofs.lemmas.List.Elements.{All-replicate}
 use Rattle.fm_base.specs.declared.caller.Caller.{Caller}
 use Rattle.fm_base.specs.declared.arena_id.ArenaId.{ArenaId}
 use Rattle.fm_base.specs.declared.refusal.Refusal.{Refusal}
@@ -10,8 +10,8 @@ use Rattle.fm_base.specs.declared.refusal.Refusal.TheVariants.{Bounds, Misaligne
 use Rattle.fm_base.specs.Calls.{Entry}
 use Rattle.fm_base.specs.Visits.{Run, ends, goes_on, refused_visit, piece_width, first_width, last_width}
 use Rattle.fm_base.proofs.Faith.{Makes-alone}
-use Rattle.fm_bytes.specs.Bytes.{AreBytes, number_of}
-use Rattle.fm_bytes.proofs.Bytes.{number_of-lt, lane-lt}
+use Rattle.fm_bytes.specs.Bytes.{AreBytes}
+use Rattle.fm_bytes.proofs.Bytes.{lane-lt}
 use Rattle.fm_lanes.specs.declared.value.Value.{Value}
 use Rattle.fm_lanes.specs.Coding.{bytes_of_value}
 use Rattle.fm_lanes.specs.Kind.{width_of}
@@ -21,7 +21,8 @@ use Rattle.fm_layout.specs.Tree.{Tree, alignment_of}
 use Rattle.fm_layout.specs.Size.{size_of}
 use Rattle.fm_access.proofs.Causes.{never}
 use Rattle.fm_access.proofs.Values.{AreBytes-value, length-value}
-use Rattle.fm_access.specs.Ranges.{Reading, ReadsOn, EndsReading, Putting, next_width, PutsOn, EndsPutting, DoesPut, DoesFill}
+use Rattle.fm_access.specs.Ranges.{Reading, ReadsOn, EndsReading, DoesPut, DoesFill}
+use Rattle.fm_access.specs.Runs.{DoesPutAll}
 use Rattle.fm_copies.specs.declared.side.Side.{Side}
 use Rattle.fm_copies.specs.declared.side.Piece.{Piece}
 use Rattle.fm_copies.specs.declared.side.Way.{Way}
@@ -33,16 +34,11 @@ use Rattle.fm_segment.specs.Access.{HasKind, DoesGetAt, DoesSetAt, writable_plac
 use Rattle.fm_segment.specs.Comparisons.{DoesMismatch, common_size}
 use Rattle.fm_segment.specs.Copies.{checked_copy}
 use Rattle.fm_segment.specs.Fills.{DoesAfter, checked_write}
+use Rattle.fm_segment.specs.Puts.{checked_put}
 use Rattle.fm_segment.specs.Region.{Region}
-use Rattle.fm_access_laws.specs.Accesses.{DoesAccess, gets, sets, sets_at_index, fills, copies, compares, AccessesAreTidy, LoneAccessesAreTidy}
-use Rattle.fm_access_laws.proofs.Staying.{StayBelow, stay_append, stay_reads, stay_puts, tidy_by, tidy_alone}
-
--- No entry, and a visit that was refused.
-pub stay_none : (a : ArenaId) (end : ℕ) (own : List Entry) → own ≡ [] → StayBelow a end own
-stay_none a end own e = subst (λ (es : List Entry). StayBelow a end es) (sym e) tt
-
-pub stay_refused : (a : ArenaId) (end : ℕ) (c : Caller) (id : ArenaId) (own : List Entry) → own ≡ refused_visit c id → StayBelow a end own
-stay_refused a end c id own e = subst (λ (es : List Entry). StayBelow a end es) (sym e) (tt, tt)
+use Rattle.fm_access_laws.specs.Accesses.{DoesAccess, gets, sets, sets_at_index, fills, puts, copies, compares, AccessesAreTidy, LoneAccessesAreTidy}
+use Rattle.fm_access_laws.proofs.Putting.{put_stays, put_all_stays}
+use Rattle.fm_access_laws.proofs.Staying.{StayBelow, stay_none, stay_refused, stay_append, stay_reads, stay_puts, tidy_by, tidy_alone}
 
 -- ---- reading
 
@@ -101,40 +97,6 @@ module _ (a : ArenaId) (bound : ℕ) (c : Caller) where
   mismatch_stays r other (Ok z) own d = compare_stays (side r.arena r.first) (side other.arena other.first) (common_size r other) (Ok d.0) own d.1
   mismatch_stays r other (Err e) own d = compare_stays (side r.arena r.first) (side other.arena other.first) (common_size r other) (Err e) own d
 
--- ---- putting
-
-put_end : (c : Caller) (id : ArenaId) (bound : ℕ) (x : Putting) (own : List Entry) (done : Bool) → EndsPutting c id x own done → StayBelow id bound own
-put_end c id bound x own true e = stay_none id bound own e.1
-put_end c id bound x own false e = stay_refused id bound c id own e.1
-
--- The number of the next bytes fits their width.
-next_fits : (bytes : List ℕ) (width : ℕ) → AreBytes bytes → width ≤ length bytes → number_of (take width bytes) < 2 ^ (8 * width)
-next_fits bytes width are h =
-    subst (λ (n : ℕ). number_of (take width bytes) < 2 ^ (8 * n)) (length-take-le width bytes h)
-    (number_of-lt (take width bytes) (All-take (λ b. b < 256) width bytes are))
-
-put_run : (c : Caller) (id : ArenaId) (bound : ℕ) (x : Putting) (own : List Entry) (done : Bool) → Run (PutsOn c id) (EndsPutting c id) x own done
-    → AreBytes x.bytes → x.at + length x.bytes ≤ bound → StayBelow id bound own
-put_run c id bound x own done (ends e) are h = put_end c id bound x own done e
-put_run c id bound x own done (goes_on y mine rest s r) are h =
-    let fits : x.at % 8 + next_width x ≤ 8 = omega arith in
-    let within : next_width x ≤ length x.bytes = omega arith in
-    let left : length y.bytes ≡ length x.bytes - next_width x = ap length s.bytes ∙ length-drop (next_width x) x.bytes in
-    let at = s.at in
-    let still : AreBytes y.bytes = subst (λ (bs : List ℕ). AreBytes bs) (sym s.bytes) (All-drop (λ b. b < 256) (next_width x) x.bytes are) in
-    stay_append id bound mine rest
-    (stay_puts c id bound x.at (next_width x) (number_of (take (next_width x) x.bytes)) mine (next_fits x.bytes (next_width x) are within) fits (omega arith)
-    s.piece)
-    (put_run c id bound y rest done r still (omega arith))
-
-pub put_stays : (c : Caller) (id : ArenaId) (bound place : ℕ) (bytes : List ℕ) (result : Result (Unit {0}) Refusal) (own : List Entry) → AreBytes bytes
-    → place + length bytes ≤ bound
-    → DoesPut c id place bytes result own → StayBelow id bound own
-put_stays c id bound place bytes (Ok u) own are h d = put_run c id bound (record { at = place; bytes = bytes }) own true d.1 are h
-put_stays c id bound place bytes (Err WrongThread) own are h d = stay_none id bound own d.1
-put_stays c id bound place bytes (Err Closed) own are h d = put_run c id bound (record { at = place; bytes = bytes }) own false d.1 are h
-put_stays c id bound place bytes (Err e) own are h d = absurd d
-
 -- ---- a value
 
 set_stays : (c : Caller) (id : ArenaId) (bound : ℕ) (t : Tree) (found : Result ℕ Refusal) (v : Value) (result : Result (Unit {0}) Refusal) (own : List Entry)
@@ -180,6 +142,28 @@ fill_stays : (c : Caller) (r : Region) (byte : ℕ) (checked : Result (Unit {0})
     → DoesAfter checked (DoesFill c r.arena r.first r.size byte) result own → StayBelow r.arena (r.first + r.size) own
 fill_stays c r byte (Err e) result own b d = stay_none r.arena (r.first + r.size) own d.1
 fill_stays c r byte (Ok u) result own b d = fill_on c r byte (r.size == 0) result own b d
+
+-- ---- many bytes
+
+abbrev done : Result (Unit {0}) Refusal
+done = Ok tt
+
+-- Bytes that may be put end in the segment.
+puts_end : (kept within : Bool) (end size : ℕ) → nat_le end size ≡ within
+    → (if kept then Err ReadOnly else (if within then Ok tt else Err Bounds)) ≡ done → end ≤ size
+puts_end true within end size e h = absurd (let no : ⊥ = cc in no)
+puts_end false false end size e h = absurd (let no : ⊥ = cc in no)
+puts_end false true end size e h = leb-true end size e
+
+put_bytes_stays : (c : Caller) (r : Region) (offset : ℕ) (bytes : List ℕ) (checked : Result (Unit {0}) Refusal) (result : Result (Unit {0}) Refusal)
+    (own : List Entry)
+    → checked_put r offset (length bytes) ≡ checked → AreBytes bytes
+    → DoesAfter checked (DoesPutAll c r.arena (r.first + offset) bytes) result own → StayBelow r.arena (r.first + r.size) own
+put_bytes_stays c r offset bytes (Err e) result own h are d = stay_none r.arena (r.first + r.size) own d.1
+put_bytes_stays c r offset bytes (Ok u) result own h are d =
+    let fit : offset + length bytes ≤ r.size =
+    puts_end (nat_lt 0 (length bytes) && r.read_only) (nat_le (offset + length bytes) r.size) (offset + length bytes) r.size refl h in
+    put_all_stays c r.arena (r.first + r.size) (r.first + offset) bytes (length bytes == 0) result own are (omega arith) d
 
 -- ---- a copy
 
@@ -235,15 +219,11 @@ copies_stay c a b bound count (Err WrongThread) own h d = stay_none b.arena boun
 copies_stay c a b bound count (Err Closed) own h d = copy_run c a b bound count d.way h count own false (omega arith) d.visits
 copies_stay c a b bound count (Err e) own h d = absurd d
 
-abbrev done : Result (Unit {0}) Refusal
-done = Ok tt
-
 target_on : (kept source target : Bool) (end size : ℕ) → nat_le end size ≡ target
     → (if kept then Err ReadOnly else (if source && target then Ok tt else Err Bounds)) ≡ done → end ≤ size
-target_on true source target end size e h = absurd (let no : ⊥ = cc in no)
+target_on true false target end size e h = absurd (let no : ⊥ = cc in no)
 target_on false false target end size e h = absurd (let no : ⊥ = cc in no)
-target_on false true false end size e h = absurd (let no : ⊥ = cc in no)
-target_on false true true end size e h = leb-true end size e
+target_on kept true target end size e h = puts_end kept target end size e h
 
 copy_stays : (c : Caller) (src : Region) (src_at : ℕ) (r : Region) (dst_at n : ℕ) (checked : Result (Unit {0}) Refusal) (result : Result (Unit {0}) Refusal)
     (own : List Entry)
@@ -266,6 +246,8 @@ access_stays c r own (sets_at_index t index v result k d) =
     set_stays c r.arena (r.first + r.size) t (writable_place_at_index index t r) v result own
     (λ p h. value_ends (index * size_of t) t r p (element_on (nat_le (alignment_of t) (size_of t)) (writable_place_of (index * size_of t) t r) p h)) k d
 access_stays c r own (fills byte result b d) = fill_stays c r byte (checked_write r.size r) result own b d
+access_stays c r own (puts offset bytes result b d) =
+    put_bytes_stays c r offset bytes (checked_put r offset (length bytes)) result own refl b d
 access_stays c r own (copies src src_at dst_at n result d) = copy_stays c src src_at r dst_at n (checked_copy src src_at r dst_at n) result own refl d
 access_stays c r own (compares other result d) = mismatch_stays r.arena (r.first + r.size) c r other result own d
 

@@ -7,6 +7,7 @@ use Rattle.fm_base.specs.Calls.{Entry}
 use Rattle.fm_base.specs.Histories.{IsTidyIn, IsTidy}
 use Rattle.fm_base.specs.Machine.{after}
 use Rattle.fm_base.specs.View.{View, Makes, IsByItself}
+use Rattle.fm_bytes.specs.Bytes.{AreBytes}
 use Rattle.fm_lanes.specs.declared.value.Value.{Value}
 use Rattle.fm_lanes.specs.Value.{kind_of}
 use Rattle.fm_layout.specs.Tree.{Tree}
@@ -14,6 +15,7 @@ use Rattle.fm_segment.specs.Access.{IsKnown, HasKind, DoesGetAt, DoesSetAt, writ
 use Rattle.fm_segment.specs.Comparisons.{DoesMismatch}
 use Rattle.fm_segment.specs.Copies.{DoesCopySegment}
 use Rattle.fm_segment.specs.Fills.{DoesFillSegment}
+use Rattle.fm_segment.specs.Puts.{DoesPutSegment}
 use Rattle.fm_segment.specs.Region.{Region}
 
 -- the entries of an access to the segment, which is the target of a copy
@@ -26,6 +28,8 @@ pub data DoesAccess (c : Caller) (r : Region) (own : List Entry) : Type 0 where
       → DoesSetAt c r.arena t (writable_place_at_index index t r) v result own → DoesAccess c r own
   fills : (byte : ℕ) (result : Result (Unit {0}) Refusal) → byte < 256
       → DoesFillSegment c r byte result own → DoesAccess c r own
+  puts : (offset : ℕ) (bytes : List ℕ) (result : Result (Unit {0}) Refusal) → AreBytes bytes
+      → DoesPutSegment c r offset bytes result own → DoesAccess c r own
   copies : (src : Region) (src_at dst_at n : ℕ) (result : Result (Unit {0}) Refusal)
       → DoesCopySegment src src_at r dst_at n c result own → DoesAccess c r own
   compares : (other : Region) (result : Result ℤ Refusal)

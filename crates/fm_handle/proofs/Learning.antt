@@ -1,5 +1,5 @@
 -- What a caller learns of a handle's calls, from what they did.
-use Rattle.std.proofs.Common.{◌≡◌, ℕ, ℤ, ◌+◌, ◌%◌, ◌≤◌, Bool, List, sym, ap, subst, ◌∙◌, None, Result, Ok, Err}
+use Rattle.std.proofs.Common.{◌≡◌, ℕ, ℤ, ◌+◌, ◌%◌, ◌≤◌, Bool, List, length, refl, sym, ap, subst, ◌∙◌, None, Result, Ok, Err}
 use Rattle.std.specs.Prelude.{⊤}
 use Rattle.fm_base.specs.declared.caller.Caller.{Caller}
 use Rattle.fm_base.specs.declared.arena_id.ArenaId.{ArenaId}
@@ -7,6 +7,7 @@ use Rattle.fm_base.specs.declared.refusal.Refusal.{Refusal}
 use Rattle.fm_base.specs.Calls.{Entry}
 use Rattle.fm_base.specs.View.{View, Did, IsByItself, inside_after}
 use Rattle.fm_base.specs.Visits.{Acts}
+use Rattle.fm_base.proofs.Outcomes.{Did-lasts}
 use Rattle.fm_base.proofs.Running.{visit_ends_outside}
 use Rattle.fm_lanes.specs.declared.order.Order.{Order}
 use Rattle.fm_lanes.specs.declared.order.Order.TheVariants.{Little}
@@ -19,11 +20,12 @@ use Rattle.fm_path.specs.declared.value_spec.ValueSpec.{ValueSpec}
 use Rattle.fm_path.specs.Resolution.{Resolution}
 use Rattle.fm_access.specs.Found.{DoesAt, StaysOutOf}
 use Rattle.fm_access.specs.Learnt.{After}
-use Rattle.fm_access.proofs.Causes.{entering}
-use Rattle.fm_access.proofs.Learning.{IsCall, after_at, after_get_at, after_put_at}
+use Rattle.fm_access.proofs.Causes.{Causes, entering}
+use Rattle.fm_access.proofs.Learning.{IsCall, refused_at, after_at, after_get_at, after_put_at}
 use Rattle.fm_access.proofs.Outside.{EndsOutside, enter_outside}
 use Rattle.fm_access.proofs.Values.{kind_of-decoded}
 use Rattle.fm_segment.specs.Access.{IsKnown}
+use Rattle.fm_segment.specs.Learnt.{KnowsSegment}
 use Rattle.fm_segment.specs.Region.{Region}
 use Rattle.fm_segment.proofs.Access.{known_still}
 use Rattle.fm_handle.specs.Access.{DoesVisit, DoesGet, DoesSet, DoesSetLong, DoesExchangeLong, DoesAddLong, DoesExchange, DoesAdd}
@@ -31,11 +33,32 @@ use Rattle.fm_handle.specs.Acts.{Stores, ExchangesLong, AddsLong, Exchanges, put
 use Rattle.fm_handle.specs.Alone.{FindsValue, PutsValue, ExchangesValue, AddsValue}
 use Rattle.fm_handle.specs.Causes.{GetCause, SetCause, UpdateCause}
 use Rattle.fm_handle.specs.Learnt.{CanCall, CanPut, CanExchange, AfterGet, AfterSet, AfterExchange, AfterAdd, AfterSetLong, AfterExchangeLong, AfterAddLong}
-use Rattle.fm_handle.specs.Place.{place_of, writable_place_of, update_place_of, value_place, can_update, fills_word, is_word}
+use Rattle.fm_handle.specs.Place.{if_supported, place_of, writable_place_of, update_place_of, value_place, can_update, fills_word, is_word}
 use Rattle.fm_handle.proofs.Alone.{place_is, writable_place_is}
 use Rattle.fm_handle.proofs.Causes.{get_causes, set_causes, update_causes}
 use Rattle.fm_handle.proofs.Longs.{exchange_long_alone, add_long_alone}
 use Rattle.fm_handle.proofs.Updating.{LongAt, update_place_is, visit_shut, exchange_alone, add_alone, store_alone}
+use Rattle.fm_handle.proofs.Visiting.{found_by}
+
+-- All that is learnt where no place was found: nothing was done.
+refused_before : {X : Type 0} {v : View} {id : ArenaId} {found : Result ℕ Refusal} (Does : ℕ → Result X Refusal → List Entry → Type 0)
+    {Cause : Refusal → Type 0} {Alone Kind : X → Type 0} {Known : View → Type 0} {result : Result X Refusal} {e : Refusal} → v.inside ≡ None → Known v
+    → Causes found id v.caller Cause → found ≡ Err e → result ≡ Err e
+    → After v v (DoesAt found Does) Cause Alone (StaysOutOf v v id found) Known Kind result
+refused_before {X} {v} {id} {found} Does {Cause} {Alone} {Kind} {Known} {result} {e} out known causes f r =
+    let bad : Result X Refusal = Err e in
+    let d = refused_at v found Does e bad f refl in
+    let Learnt : Result X Refusal → Type 0 = λ x. After v v (DoesAt found Does) Cause Alone (StaysOutOf v v id found) Known Kind x in
+    subst Learnt (sym r) (record {
+      did = d;
+      refused = causes.before e f;
+      alone = λ h. tt;
+      shut = λ h. subst (StaysOutOf v v id) (sym f) refl;
+      outside = out;
+      lasts = Did-lasts v v _ d;
+      known = known;
+      kind = tt;
+    })
 
 -- All that is learnt of `get`.
 pub after_get : {old new : View} {h : Resolution} {r : Region} (base : ℕ) {is : List ℕ} {result : Result Value Refusal} → CanCall old h r is
@@ -93,6 +116,16 @@ module _ {X : Type 0} (old new : View) (h : Resolution) (r : Region) (base : ℕ
         kind = λ p x own d. kind p x d.1.acts d.1.are;
       })
       (λ w. known_still old new r w can.known) d
+
+module _ {X : Type 0} {v : View} {r : Region} {Alone Kind : X → Type 0} (Does : ℕ → Result X Refusal → List Entry → Type 0) (works_on : ValueSpec → Bool)
+    (base : ℕ) (is : List ℕ) (h : Resolution) (known : IsKnown v r) (out : v.inside ≡ None) (len : length is ≡ length h.dims) where
+  -- All that is learnt of an update whose tests refuse it.
+  pub refused_update : {b : Bool} {x : Result ℕ Refusal} {result : Result X Refusal} {e : Refusal} → b ≡ works_on h.value
+      → x ≡ if_supported b (writable_place_of base is h r) → x ≡ Err e → result ≡ Err e
+      → After v v (DoesAt (update_place_of works_on base is h r) Does) (UpdateCause works_on base is h r v.caller) Alone
+      (StaysOutOf v v r.arena (update_place_of works_on base is h r)) (KnowsSegment r) Kind result
+  refused_update works p was is_err =
+      refused_before Does out known (update_causes base is h r v.caller len works_on) (found_by works_on base is h r works p was) is_err
 
 -- that a value found lies in one word isn't told by what was done
 abbrev pub FitsWord : ℕ → List ℕ → Resolution → Region → Type 0

@@ -1,70 +1,53 @@
 -- No float stands in the canonical JSON.
-use Rattle.std.proofs.Common.{◌≡◌, refl, ℕ, Bool, true, false, nat_eq, List, Option, Some, None, codes, cond}
+use Rattle.std.proofs.Common.{◌≡◌, refl, ℕ, false, List, Option, Some, None, codes}
 use Rattle.serde_json.specs.Data.{Data, Members, member}
 use Rattle.serde_json.specs.Written.{has_float, items_have_float, members_have_float}
-use Rattle.fm_lanes.specs.declared.order.Order.{Order}
-use Rattle.fm_lanes.specs.declared.order.Order.TheVariants.{Little, Big}
 use Rattle.fm_layout.specs.Tree.{Label, Tree, Trees, Value, Padding, Sequence, Struct, Union, NoMore, More, alignment_of}
 use Rattle.fm_layout.specs.Size.{greatest_alignment}
 use Rattle.fm_lanes.specs.Kind.{width_of}
 use Rattle.fm_lanes.specs.Named.{kind_text}
+use Rattle.fm_ljson_write.proofs.Maybe.{IsIfAny, IsOfBoth, of_align, of_name, of_order}
 use Rattle.fm_ljson_write.specs.Canonical.{align_of, all_json, if_any, json_of, name_of, order_of, typed, whole}
 
-abbrev HasNone : Option Data → Type 0
-HasNone None = Unit {0}
-HasNone (Some d) = has_float d ≡ false
+abbrev HasNone : Data → Type 0
+HasNone d = has_float d ≡ false
 
-none_if_any : (key : List ℕ) (o : Option Data) (later : Members) → HasNone o → members_have_float later ≡ false
+none : IsOfBoth HasNone
+none = record { number = λ n. refl; text = λ word. refl }
+
+none_if_any : (key : List ℕ) (o : Option Data) (later : Members) → IsIfAny HasNone o → members_have_float later ≡ false
     → members_have_float (if_any key o later) ≡ false
-none_if_any key None later none rest = rest
-none_if_any key (Some d) later none rest = rw (none, rest) refl
-
-aligned : (same : Bool) (n : ℕ) → HasNone (cond same None (Some (whole n)))
-aligned true n = tt
-aligned false n = refl
-
-none_align : (given : ℕ) (l : Label) → HasNone (align_of given l)
-none_align given l = aligned (nat_eq l.alignment given) l.alignment
-
-named : (name : Option (List ℕ)) (a : ℕ) → HasNone (name_of (record { alignment = a; name = name }))
-named None a = tt
-named (Some name) a = refl
-
-none_name : (l : Label) → HasNone (name_of l)
-none_name l = named l.name l.alignment
-
-none_order : (o : Order) → HasNone (order_of o)
-none_order Little = tt
-none_order Big = refl
+none_if_any key None later h rest = rest
+none_if_any key (Some d) later h rest = rw (h, rest) refl
 
 none_member : (key : List ℕ) (d : Data) (later : Members) → has_float d ≡ false → members_have_float later ≡ false
     → members_have_float (member key d later) ≡ false
-none_member key d later none rest = rw (none, rest) refl
+none_member key d later h rest = rw (h, rest) refl
 
 none_group : (ms : Trees) (word : List ℕ) (l : Label) → items_have_float (all_json ms) ≡ false
     → members_have_float (if_any (codes "align") (align_of (greatest_alignment ms) l)
     (member (codes "members") (Data.array (all_json ms)) (if_any (codes "name") (name_of l) (typed word)))) ≡ false
-none_group ms word l none =
+none_group ms word l h =
     none_if_any (codes "align") (align_of (greatest_alignment ms) l)
-    (member (codes "members") (Data.array (all_json ms)) (if_any (codes "name") (name_of l) (typed word))) (none_align (greatest_alignment ms) l)
-    (none_member (codes "members") (Data.array (all_json ms)) (if_any (codes "name") (name_of l) (typed word)) none
-    (none_if_any (codes "name") (name_of l) (typed word) (none_name l) refl))
+    (member (codes "members") (Data.array (all_json ms)) (if_any (codes "name") (name_of l) (typed word))) (of_align none (greatest_alignment ms) l)
+    (none_member (codes "members") (Data.array (all_json ms)) (if_any (codes "name") (name_of l) (typed word)) h
+    (none_if_any (codes "name") (name_of l) (typed word) (of_name none l) refl))
 
 mutual
   pub no_float : (t : Tree) → has_float (json_of t) ≡ false
   no_float (Value k o l) =
       none_if_any (codes "align") (align_of (width_of k) l) (if_any (codes "name") (name_of l) (if_any (codes "order") (order_of o) (typed (kind_text k))))
-      (none_align (width_of k) l)
-      (none_if_any (codes "name") (name_of l) (if_any (codes "order") (order_of o) (typed (kind_text k))) (none_name l)
-      (none_if_any (codes "order") (order_of o) (typed (kind_text k)) (none_order o) refl))
+      (of_align none (width_of k) l)
+      (none_if_any (codes "name") (name_of l) (if_any (codes "order") (order_of o) (typed (kind_text k))) (of_name none l)
+      (none_if_any (codes "order") (order_of o) (typed (kind_text k)) (of_order none o) refl))
   no_float (Padding n l) =
-      none_if_any (codes "name") (name_of l) (member (codes "size") (whole n) (typed (codes "padding"))) (none_name l) refl
+      none_if_any (codes "name") (name_of l) (member (codes "size") (whole n) (typed (codes "padding"))) (of_name none l) refl
   no_float (Sequence n e l) =
       none_if_any (codes "align") (align_of (alignment_of e) l)
       (member (codes "count") (whole n) (member (codes "element") (json_of e) (if_any (codes "name") (name_of l) (typed (codes "sequence")))))
-      (none_align (alignment_of e) l)
+      (of_align none (alignment_of e) l)
       (none_member (codes "element") (json_of e) (if_any (codes "name") (name_of l) (typed (codes "sequence"))) (no_float e)
-      (none_if_any (codes "name") (name_of l) (typed (codes "sequence")) (none_name l) refl))
+      (none_if_any (codes "name") (name_of l) (typed (codes "sequence")) (of_name none l) refl))
   no_float (Struct ms l) = none_group ms (codes "struct") l (no_floats ms)
   no_float (Union ms l) = none_group ms (codes "union") l (no_floats ms)
 

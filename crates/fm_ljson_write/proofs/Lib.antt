@@ -3,4 +3,5 @@ pub mod Deep
 pub mod Floats
 pub mod Found
 pub mod Keys
+pub mod Maybe
 pub mod Rest

@@ -5,6 +5,7 @@ pub mod Few
 pub mod Leaving
 pub mod LeavingConditions
 pub mod LeavingItems
+pub mod Lists
 pub mod OnePlan
 pub mod OneRefusal
 pub mod Plans

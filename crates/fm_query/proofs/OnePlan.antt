@@ -95,7 +95,7 @@ one_each R one (x ∷ xs) (y ∷ ys) [] a b = absurd b
 one_each R one (x ∷ xs) (y ∷ ys) (z ∷ zs) a b =
     ap (λ v. v ∷ ys) (one x y z a.0 b.0) ∙ ap (λ vs. z ∷ vs) (one_each R one xs ys zs a.1 b.1)
 
-one_plan_of : (t : Tree) (q : Syntax) (p r : Plan) → IsPlanOf t q p → IsPlanOf t q r → p ≡ r
+pub one_plan_of : (t : Tree) (q : Syntax) (p r : Plan) → IsPlanOf t q p → IsPlanOf t q r → p ≡ r
 one_plan_of t q p r a b =
     let items : p.items ≡ r.items = one_each (IsItemOf t) (one_item t) q.items p.items r.items a.items b.items in
     let conditions : p.conditions ≡ r.conditions =

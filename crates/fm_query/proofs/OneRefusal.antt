@@ -67,7 +67,7 @@ one_no_text text e f a b one two = absurd a
 -- ---- paths, items and conditions
 
 -- a path is refused for one reason
-one_path : (path : List PathStep) (t : Tree) (e f : Refusal) → IsRefusal path t e → IsRefusal path t f → e ≢ Memory → f ≢ Memory → e ≡ f
+pub one_path : (path : List PathStep) (t : Tree) (e f : Refusal) → IsRefusal path t e → IsRefusal path t f → e ≢ Memory → f ≢ Memory → e ≡ f
 one_path path t e f (at_step x a) (at_step y b) one two = let first = a [] in let second = b [] in cc
 one_path path t e f (at_step x a) (no_value b) one two = absurd (follows path 0 t b.last e b.ends (a []))
 one_path path t e f (no_value a) (at_step y b) one two = absurd (follows path 0 t a.last f a.ends (b []))

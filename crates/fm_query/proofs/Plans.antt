@@ -24,7 +24,7 @@ use Rattle.fm_query.specs.declared.syntax.ItemSyntax.TheVariants.{Count, Of}
 use Rattle.fm_query.specs.declared.syntax.ConditionSyntax.{ConditionSyntax}
 use Rattle.fm_query.specs.declared.item.Item.{Item}
 use Rattle.fm_query.specs.declared.condition.Condition.{Condition}
-use Rattle.fm_query.specs.Grammar.{Syntax, IsTextOf, IsNoText}
+use Rattle.fm_query.specs.Grammar.{Syntax, IsQuery, IsTextOf, IsNoText}
 use Rattle.fm_query.specs.Records.{IsRecord}
 use Rattle.fm_query.specs.Plan.{plan, IsThrough, AsksOf, IsItemIn, IsConditionIn, IsPlan}
 use Rattle.fm_query.specs.Parsed.{open_from, IsItemOf, IsItemAdmitted, IsItemRefused, IsConditionOf, IsConditionAdmitted, IsConditionRefused, IsFirstRefused, at_item, at_condition, IsParsed, IsNoQuery, no_text, refused, OrMemory}
@@ -122,20 +122,20 @@ conditions_in t (x ∷ xs) (y ∷ ys) well h = (
 )
 
 -- what the parts come to is a plan
-pub is_plan : (t : Tree) (text : List ℕ) (q : Syntax) (n a : ℕ) (xs : List ItemSyntax) (cs : List ConditionSyntax) (items : List Item)
+pub is_plan : (t : Tree) (q : Syntax) (n a : ℕ) (xs : List ItemSyntax) (cs : List ConditionSyntax) (items : List Item)
     (conditions : List Condition)
-    → IsWellFormed t → IsRecord t → IsTextOf text q → xs ≡ q.items → cs ≡ q.conditions → n ≡ size_of t → a ≡ alignment_of t → AllZip (IsItemOf t) xs items
+    → IsWellFormed t → IsRecord t → IsQuery q → xs ≡ q.items → cs ≡ q.conditions → n ≡ size_of t → a ≡ alignment_of t → AllZip (IsItemOf t) xs items
     → AllZip (IsConditionOf t) cs conditions → IsPlan (plan n a items conditions)
-is_plan t text q n a xs cs items conditions well rec is ei ec en ea hi hc =
+is_plan t q n a xs cs items conditions well rec is ei ec en ea hi hc =
     subst (λ n. IsPlan (plan n a items conditions)) (sym en) (subst (λ a. IsPlan (plan (size_of t) a items conditions)) (sym ea) (record {
       sized = rec.sized;
       small = (fit_of t well).size;
       even = rec.even;
       items = items_in t xs items well hi;
-      some_item = omega (arith, as_many (IsItemOf t) xs items hi, ap length ei, is.is_query.some_item);
-      few_items = omega (arith, as_many (IsItemOf t) xs items hi, ap length ei, is.is_query.few_items);
+      some_item = omega (arith, as_many (IsItemOf t) xs items hi, ap length ei, is.some_item);
+      few_items = omega (arith, as_many (IsItemOf t) xs items hi, ap length ei, is.few_items);
       conditions = conditions_in t cs conditions well hc;
-      few_conditions = omega (arith, as_many (IsConditionOf t) cs conditions hc, ap length ec, is.is_query.few_conditions);
+      few_conditions = omega (arith, as_many (IsConditionOf t) cs conditions hc, ap length ec, is.few_conditions);
     }))
 
 -- and it is what the text asks

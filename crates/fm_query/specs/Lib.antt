@@ -1,5 +1,6 @@
 pub mod Grammar
 pub mod Laws
+pub mod Lists
 pub mod Parsed
 pub mod Plan
 pub mod Read

@@ -5,10 +5,12 @@ mod condition;
 mod fold;
 mod item;
 mod laws;
+mod list;
 mod number;
 mod operator;
 mod parse;
 mod printing;
+mod pushing;
 mod query;
 mod record;
 mod resolving;
@@ -28,6 +30,7 @@ pub use laws::{
     layouts_have_one_refusal, refused_texts_have_no_plan, texts_have_one_plan,
     texts_have_one_refusal,
 };
+pub use list::parse_list;
 pub use operator::Operator;
 pub use parse::parse_query;
 pub use query::Query;

@@ -26,18 +26,9 @@ pub fn parse_query(alloc: Global, text: &str, layout: &Layout) -> Result<Query, 
     ensures query { IfOk result (IsParsed text.now layout.now) }
     ensures refused { IfErr result (IsNoQuery text.now layout.now) }
 {
-    let syntax = match read(alloc, text) {
-        Ok(syntax) => syntax,
-        Err(refusal) => return Err(refusal),
-    };
-    let items = match resolve_items(alloc, layout, syntax.items()) {
-        Ok(items) => items,
-        Err(refusal) => return Err(refusal),
-    };
-    let conditions = match resolve_conditions(alloc, layout, syntax.conditions()) {
-        Ok(conditions) => conditions,
-        Err(refusal) => return Err(refusal),
-    };
+    let syntax = read(alloc, text)?;
+    let items = resolve_items(alloc, layout, syntax.items())?;
+    let conditions = resolve_conditions(alloc, layout, syntax.conditions())?;
     Ok(Query::of(layout.size(), layout.alignment(), items, conditions))
 }
 

@@ -20,10 +20,7 @@ pub fn item_text(alloc: Global, item: &ItemSyntax) -> Result<Text, Refusal>
             Err(_) => Err(Refusal::Memory),
         },
         ItemSyntax::Of(fold, path) => {
-            let path = match path_text(alloc, path.as_slice()) {
-                Ok(path) => path,
-                Err(refusal) => return Err(refusal),
-            };
+            let path = path_text(alloc, path.as_slice())?;
             let fold = fold.text();
             match format!(in alloc; "{fold}({path})") {
                 Ok(text) => Ok(Text::of(text)),
@@ -38,10 +35,7 @@ pub fn condition_text(alloc: Global, condition: &ConditionSyntax) -> Result<Text
     ensures text { IfOk result (λ text. text ≡ condition_text condition.now) }
     ensures memory { IfErr result (λ refusal. refusal ≡ Refusal.Memory) }
 {
-    let path = match path_text(alloc, condition.path.as_slice()) {
-        Ok(path) => path,
-        Err(refusal) => return Err(refusal),
-    };
+    let path = path_text(alloc, condition.path.as_slice())?;
     let operator = condition.operator.text();
     let literal = condition.literal;
     match format!(in alloc; "{path}{operator}{literal}") {
@@ -62,10 +56,7 @@ fn path_text(alloc: Global, path: &[PathStep]) -> Result<String, Refusal>
     }
     let mut text = String::new(alloc);
     for (k, step) in path.iter().enumerate() {
-        let piece = match piece_text(alloc, step) {
-            Ok(piece) => piece,
-            Err(refusal) => return Err(refusal),
-        };
+        let piece = piece_text(alloc, step)?;
         let Ok(()) = text.push_str(&piece) else {
             return Err(Refusal::Memory);
         };

@@ -5,6 +5,7 @@ ghost use Rattle.fm_query.specs.Parsed.{AreItemsRefused, IsItemOf, IsItemRefused
 use crate::condition::Condition;
 use crate::item::{Asked, Item};
 use crate::printing::{condition_text, item_text};
+use crate::pushing::with_more;
 use crate::syntax::{ConditionSyntax, ItemSyntax};
 use fm_base::Refusal;
 use fm_layout::Layout;
@@ -22,13 +23,8 @@ pub fn resolve_items(
 {
     let mut found = Vec::new(alloc);
     for (k, item) in items.iter().enumerate() {
-        let item = match resolve_item(alloc, layout, item) {
-            Ok(item) => item,
-            Err(refusal) => return Err(refusal),
-        };
-        let Ok(()) = found.push(item) else {
-            return Err(Refusal::Memory);
-        };
+        let item = resolve_item(alloc, layout, item)?;
+        found = with_more(found, item)?;
     }
     Ok(found)
 }
@@ -44,13 +40,8 @@ pub fn resolve_conditions(
 {
     let mut found = Vec::new(alloc);
     for (k, condition) in conditions.iter().enumerate() {
-        let condition = match resolve_condition(alloc, layout, condition) {
-            Ok(condition) => condition,
-            Err(refusal) => return Err(refusal),
-        };
-        let Ok(()) = found.push(condition) else {
-            return Err(Refusal::Memory);
-        };
+        let condition = resolve_condition(alloc, layout, condition)?;
+        found = with_more(found, condition)?;
     }
     Ok(found)
 }
@@ -59,23 +50,12 @@ fn resolve_item(alloc: Global, layout: &Layout, item: &ItemSyntax) -> Result<Ite
     ensures resolved { IfOk result (IsItemOf layout.now item.now) }
     ensures refused { IfErr result (OrMemory (IsItemRefused layout.now item.now)) }
 {
-    let text = match item_text(alloc, item) {
-        Ok(text) => text,
-        Err(refusal) => return Err(refusal),
+    let text = item_text(alloc, item)?;
+    let asked = match item {
+        ItemSyntax::Count => Asked::Count,
+        ItemSyntax::Of(fold, path) => Asked::Of(*fold, resolve(alloc, layout, path.as_slice())?),
     };
-    match item {
-        ItemSyntax::Count => {
-            let asked = Asked::Count;
-            Ok(Item { text, asked })
-        }
-        ItemSyntax::Of(fold, path) => match resolve(alloc, layout, path.as_slice()) {
-            Ok(resolved) => {
-                let asked = Asked::Of(*fold, resolved);
-                Ok(Item { text, asked })
-            }
-            Err(refusal) => Err(refusal),
-        },
-    }
+    Ok(Item { text, asked })
 }
 
 /// A path that leaves an index open is refused after all its other refusals.
@@ -87,14 +67,8 @@ fn resolve_condition(
     ensures resolved { IfOk result (IsConditionOf layout.now condition.now) }
     ensures refused { IfErr result (OrMemory (IsConditionRefused layout.now condition.now)) }
 {
-    let text = match condition_text(alloc, condition) {
-        Ok(text) => text,
-        Err(refusal) => return Err(refusal),
-    };
-    let path = match resolve(alloc, layout, condition.path.as_slice()) {
-        Ok(path) => path,
-        Err(refusal) => return Err(refusal),
-    };
+    let text = condition_text(alloc, condition)?;
+    let path = resolve(alloc, layout, condition.path.as_slice())?;
     match first_open(condition.path.as_slice()) {
         Some(step) => Err(Refusal::StillOpen(step)),
         None => Ok(Condition {

@@ -1,6 +1,7 @@
-ghost use Rattle.std.specs.Prelude.{◌≡◌, ◌++◌, ◌∷◌, [], Some, IfOk, IfErr};
+ghost use Rattle.std.specs.Prelude.{◌≡◌, Some, IfOk, IfErr};
 ghost use Rattle.fm_query.specs.Reader.{start, onward, whole, IsReadySpot};
 
+use crate::pushing::with_more;
 use crate::stage::{Stage, Turn};
 use crate::syntax::{ConditionSyntax, ItemSyntax, QuerySyntax};
 use fm_base::Refusal;
@@ -54,7 +55,7 @@ impl Spot {
                 stage,
             })),
             Ok(Turn::NextItem(item, stage)) => {
-                let items = with_item(items, item)?;
+                let items = with_more(items, item)?;
                 Ok(Some(Spot {
                     items,
                     conditions,
@@ -62,7 +63,7 @@ impl Spot {
                 }))
             }
             Ok(Turn::NextCondition(condition, stage)) => {
-                let conditions = with_condition(conditions, condition)?;
+                let conditions = with_more(conditions, condition)?;
                 Ok(Some(Spot {
                     items,
                     conditions,
@@ -86,7 +87,7 @@ impl Spot {
         } = self;
         match stage {
             Stage::Behind(item, 0) => {
-                let items = with_item(items, item)?;
+                let items = with_more(items, item)?;
                 Ok(Some(QuerySyntax::of(items, conditions)))
             }
             Stage::Literal(path, operator, number, 0) => {
@@ -96,35 +97,10 @@ impl Spot {
                     operator,
                     literal,
                 };
-                let conditions = with_condition(conditions, condition)?;
+                let conditions = with_more(conditions, condition)?;
                 Ok(Some(QuerySyntax::of(items, conditions)))
             }
             _ => Ok(None),
         }
-    }
-}
-
-/// The items with one more.
-fn with_item(mut items: Vec<ItemSyntax>, item: ItemSyntax) -> Result<Vec<ItemSyntax>, Refusal>
-    ensures more { IfOk result (λ more. more.items ≡ items.items ++ item ∷ []) }
-    ensures memory { IfErr result (λ refusal. refusal ≡ Refusal.Memory) }
-{
-    match items.push(item) {
-        Ok(()) => Ok(items),
-        Err(_) => Err(Refusal::Memory),
-    }
-}
-
-/// The conditions with one more.
-fn with_condition(
-    mut conditions: Vec<ConditionSyntax>,
-    condition: ConditionSyntax,
-) -> Result<Vec<ConditionSyntax>, Refusal>
-    ensures more { IfOk result (λ more. more.items ≡ conditions.items ++ condition ∷ []) }
-    ensures memory { IfErr result (λ refusal. refusal ≡ Refusal.Memory) }
-{
-    match conditions.push(condition) {
-        Ok(()) => Ok(conditions),
-        Err(_) => Err(Refusal::Memory),
     }
 }

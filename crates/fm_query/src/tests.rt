@@ -1,4 +1,4 @@
-use crate::{Asked, Fold, Operator, Query, check_record, parse_query};
+use crate::{Asked, Fold, Operator, Query, check_record, parse_list, parse_query};
 use fm_base::Refusal;
 use fm_lanes::ValueKind;
 use fm_layout::Layout;
@@ -204,5 +204,27 @@ fn checks_records(rt: HostRuntime) -> Result<(), Fail> {
     assert!(rt; matches!(check_record(&empty), Err(Refusal::NoSize)));
     let ragged = Layout::value(ValueKind::Int).with_alignment(8)?;
     assert!(rt; matches!(check_record(&ragged), Err(Refusal::ElementRagged)));
+    Ok(())
+}
+
+#[test]
+fn lists_the_values_of_a_path(rt: HostRuntime) -> Result<(), Fail> {
+    let layout = item(rt.alloc())?;
+    check_record(&layout)?;
+    let query = parse_list(rt.alloc(), ".tags[]", &layout)?;
+    assert_eq!(rt; query.conditions().len(), 0);
+    assert_eq!(rt; query.items().len(), 1);
+    let item = &query.items()[0];
+    assert_eq!(rt; item.text.as_str(), "list(.tags[])");
+    assert!(rt; matches!(&item.asked, Asked::Of(Fold::All, path) if path.offset() == 16));
+    for (text, refusal) in [
+        ("", Refusal::BadQuery(0)),
+        (".tags[]=1", Refusal::BadQuery(7)),
+        ("list(.id)", Refusal::BadQuery(0)),
+        (".nope", Refusal::NoMember(0)),
+        (".tags", Refusal::NotValue),
+    ] {
+        assert_eq!(rt; parse_list(rt.alloc(), text, &layout).err(), Some(refusal));
+    }
     Ok(())
 }

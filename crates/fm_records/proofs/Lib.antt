@@ -1,6 +1,7 @@
 pub mod Adding
 pub mod AnsweringAlone
 pub mod AnsweringBytes
+pub mod Behind
 pub mod Covering
 pub mod Ends
 pub mod Few

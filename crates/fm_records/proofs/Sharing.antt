@@ -1,6 +1,6 @@
 -- Shares of a segment, each answered by the Reads of one caller.
 use Rattle.std.proofs.Common.{◌≡◌, ℕ, zero, suc, ◌+◌, ◌-◌, ◌*◌, ◌/◌, ◌%◌, ◌<◌, ◌≤◌, Bool, true, false, Some, List, [], ◌∷◌, ◌++◌, length, map, refl, sym, ap, ◌∙◌, subst, inl, inr, arith}
-use Rattle.std.specs.Prelude.{◌⊎◌, cond, filter}
+use Rattle.std.specs.Prelude.{cond, filter}
 use Rattle.std.specs.List.{AllByRecursion, range_with_len, slice_get}
 use Rattle.std.proofs.Math.Nat.{zero-div}
 use Rattle.std.proofs.lemmas.List.{map-append}
@@ -22,6 +22,7 @@ use Rattle.fm_records.specs.Joined.{joined}
 use Rattle.fm_records.specs.Laws.{IsAsked}
 use Rattle.fm_records.specs.Records.{records, pieces}
 use Rattle.fm_records.specs.Shares.{IsSpared, SparedAreFound, Share, IsDone, behind, IsFirst, all_joined, SharesJoin, SharesAnswer, SharesRead}
+use Rattle.fm_records.proofs.Behind.{get_split, length-pieces, less_times}
 use Rattle.fm_records.proofs.AnsweringBytes.{answer_of_bytes, length-places, get_or-places}
 use Rattle.fm_records.proofs.Covering.{asked_is_read}
 use Rattle.fm_records.proofs.Few.{answers_few, few_join, nothing_few}
@@ -140,31 +141,6 @@ shares_answer limit now es p s (w ∷ ws) plan h cut done =
     ∙ ap (answer p) (sym (bytes_cut now s n within))
 
 -- ---- what was read
-
-record StandsBehind {X : Type 0} (xs ys : List X) (i : ℕ) (x : X) : Type 0 where
-  past : length xs ≤ i
-  stands : slice_get ys (i - length xs) ≡ Some x
-
-get_split : {X : Type 0} (xs ys : List X) (i : ℕ) (x : X) → slice_get (xs ++ ys) i ≡ Some x → (slice_get xs i ≡ Some x) ⊎ StandsBehind xs ys i x
-get_split [] ys i x h = let e : i ≡ i - 0 = omega arith in inr (record { past = omega arith; stands = ap (slice_get ys) (sym e) ∙ h })
-get_split (y ∷ xs) ys zero x h = inl h
-get_split (y ∷ xs) ys (suc i) x h = elim (get_split xs ys i x h) [
-  | inl a ↦ inl a
-  | inr b ↦
-      let past = b.past in
-      let e : suc i - suc (length xs) ≡ i - length xs = omega arith in
-      inr (record { past = omega arith; stands = ap (slice_get ys) e ∙ b.stands })
-]
-
-length-pieces : (count size : ℕ) (bytes : List ℕ) → length (pieces count size bytes) ≡ count
-length-pieces zero size bytes = refl
-length-pieces (suc count) size bytes = ap suc (length-pieces count size _)
-
-less_times : (i k n : ℕ) → k ≤ i → (i - k) * n + k * n ≡ i * n
-less_times i k n h = let e : i - k + k ≡ i = omega (arith, h) in times_sum (i - k) k n ∙ ap (λ m. m * n) e
-  where
-    times_sum : (j k n : ℕ) → j * n + k * n ≡ (j + k) * n
-    times_sum j k n = grind arith
 
 -- what is asked for of bytes is asked for of a part of them in which the record stands
 asked_of : (p : Plan) (all part : List ℕ) (i j : ℕ) (r : Resolution) (is : List ℕ) → (h : IsAsked p all i r is)

@@ -6,86 +6,42 @@ use Rattle.fm_records.specs.declared.found.Found.{Found}
 use Rattle.fm_records.specs.declared.found.Found.TheVariants.{Count, Sum, Least, Greatest, Listed}
 use Rattle.fm_records.specs.Joined.{CanJoinFound, CanJoin, both, joined, lengthened, shortened, summed}
 
-summed-lengthened : (f g : Found) → summed (lengthened f g) g ≡ both f g
-summed-lengthened (Count m) (Count n) = refl
-summed-lengthened (Count m) (Sum n) = refl
-summed-lengthened (Count m) (Least n) = refl
-summed-lengthened (Count m) (Greatest n) = refl
-summed-lengthened (Count m) (Listed n) = refl
-summed-lengthened (Sum m) (Count n) = refl
-summed-lengthened (Sum m) (Sum n) = refl
-summed-lengthened (Sum m) (Least n) = refl
-summed-lengthened (Sum m) (Greatest n) = refl
-summed-lengthened (Sum m) (Listed n) = refl
-summed-lengthened (Least m) (Count n) = refl
-summed-lengthened (Least m) (Sum n) = refl
-summed-lengthened (Least m) (Least n) = refl
-summed-lengthened (Least m) (Greatest n) = refl
-summed-lengthened (Least m) (Listed n) = refl
-summed-lengthened (Greatest m) (Count n) = refl
-summed-lengthened (Greatest m) (Sum n) = refl
-summed-lengthened (Greatest m) (Least n) = refl
-summed-lengthened (Greatest m) (Greatest n) = refl
-summed-lengthened (Greatest m) (Listed n) = refl
-summed-lengthened (Listed m) (Count n) = refl
-summed-lengthened (Listed m) (Sum n) = refl
-summed-lengthened (Listed m) (Least n) = refl
-summed-lengthened (Listed m) (Greatest n) = refl
-summed-lengthened (Listed m) (Listed n) = refl
+-- what joining in two steps needs of what an item found in both runs
+record IsInSteps (f g : Found) : Type 0 where
+  sum : summed (lengthened f g) g ≡ both f g
+  back : shortened (lengthened f g) g ≡ f
+  can : CanJoinFound (lengthened f g) g
 
-shortened-lengthened : (f g : Found) → CanJoinFound f g → shortened (lengthened f g) g ≡ f
-shortened-lengthened (Count m) (Count n) h = refl
-shortened-lengthened (Count m) (Sum n) h = absurd h
-shortened-lengthened (Count m) (Least n) h = absurd h
-shortened-lengthened (Count m) (Greatest n) h = absurd h
-shortened-lengthened (Count m) (Listed n) h = absurd h
-shortened-lengthened (Sum m) (Count n) h = absurd h
-shortened-lengthened (Sum m) (Sum n) h = refl
-shortened-lengthened (Sum m) (Least n) h = absurd h
-shortened-lengthened (Sum m) (Greatest n) h = absurd h
-shortened-lengthened (Sum m) (Listed n) h = absurd h
-shortened-lengthened (Least m) (Count n) h = absurd h
-shortened-lengthened (Least m) (Sum n) h = absurd h
-shortened-lengthened (Least m) (Least n) h = refl
-shortened-lengthened (Least m) (Greatest n) h = absurd h
-shortened-lengthened (Least m) (Listed n) h = absurd h
-shortened-lengthened (Greatest m) (Count n) h = absurd h
-shortened-lengthened (Greatest m) (Sum n) h = absurd h
-shortened-lengthened (Greatest m) (Least n) h = absurd h
-shortened-lengthened (Greatest m) (Greatest n) h = refl
-shortened-lengthened (Greatest m) (Listed n) h = absurd h
-shortened-lengthened (Listed m) (Count n) h = absurd h
-shortened-lengthened (Listed m) (Sum n) h = absurd h
-shortened-lengthened (Listed m) (Least n) h = absurd h
-shortened-lengthened (Listed m) (Greatest n) h = absurd h
-shortened-lengthened (Listed m) (Listed n) h = ap Listed (take_at m n (length (m ++ n) - length n) (omega (arith, length-append m n)))
-
-CanJoin-lengthened : (f g : Found) → CanJoinFound f g → CanJoinFound (lengthened f g) g
-CanJoin-lengthened (Count m) (Count n) h = h
-CanJoin-lengthened (Count m) (Sum n) h = h
-CanJoin-lengthened (Count m) (Least n) h = h
-CanJoin-lengthened (Count m) (Greatest n) h = h
-CanJoin-lengthened (Count m) (Listed n) h = h
-CanJoin-lengthened (Sum m) (Count n) h = h
-CanJoin-lengthened (Sum m) (Sum n) h = h
-CanJoin-lengthened (Sum m) (Least n) h = h
-CanJoin-lengthened (Sum m) (Greatest n) h = h
-CanJoin-lengthened (Sum m) (Listed n) h = h
-CanJoin-lengthened (Least m) (Count n) h = h
-CanJoin-lengthened (Least m) (Sum n) h = h
-CanJoin-lengthened (Least m) (Least n) h = h
-CanJoin-lengthened (Least m) (Greatest n) h = h
-CanJoin-lengthened (Least m) (Listed n) h = h
-CanJoin-lengthened (Greatest m) (Count n) h = h
-CanJoin-lengthened (Greatest m) (Sum n) h = h
-CanJoin-lengthened (Greatest m) (Least n) h = h
-CanJoin-lengthened (Greatest m) (Greatest n) h = h
-CanJoin-lengthened (Greatest m) (Listed n) h = h
-CanJoin-lengthened (Listed m) (Count n) h = h
-CanJoin-lengthened (Listed m) (Sum n) h = h
-CanJoin-lengthened (Listed m) (Least n) h = h
-CanJoin-lengthened (Listed m) (Greatest n) h = h
-CanJoin-lengthened (Listed m) (Listed n) h = h
+in_steps : (f g : Found) → CanJoinFound f g → IsInSteps f g
+in_steps (Count m) (Count n) h = record { sum = refl; back = refl; can = h }
+in_steps (Count m) (Sum n) h = absurd h
+in_steps (Count m) (Least n) h = absurd h
+in_steps (Count m) (Greatest n) h = absurd h
+in_steps (Count m) (Listed n) h = absurd h
+in_steps (Sum m) (Count n) h = absurd h
+in_steps (Sum m) (Sum n) h = record { sum = refl; back = refl; can = h }
+in_steps (Sum m) (Least n) h = absurd h
+in_steps (Sum m) (Greatest n) h = absurd h
+in_steps (Sum m) (Listed n) h = absurd h
+in_steps (Least m) (Count n) h = absurd h
+in_steps (Least m) (Sum n) h = absurd h
+in_steps (Least m) (Least n) h = record { sum = refl; back = refl; can = h }
+in_steps (Least m) (Greatest n) h = absurd h
+in_steps (Least m) (Listed n) h = absurd h
+in_steps (Greatest m) (Count n) h = absurd h
+in_steps (Greatest m) (Sum n) h = absurd h
+in_steps (Greatest m) (Least n) h = absurd h
+in_steps (Greatest m) (Greatest n) h = record { sum = refl; back = refl; can = h }
+in_steps (Greatest m) (Listed n) h = absurd h
+in_steps (Listed m) (Count n) h = absurd h
+in_steps (Listed m) (Sum n) h = absurd h
+in_steps (Listed m) (Least n) h = absurd h
+in_steps (Listed m) (Greatest n) h = absurd h
+in_steps (Listed m) (Listed n) h = record {
+  sum = refl;
+  back = ap Listed (take_at m n (length (m ++ n) - length n) (omega (arith, length-append m n)));
+  can = h;
+}
 
 -- an item that is still left on one side is so on the other
 pub within_both : (k : ℕ) (xs ys : List Found) → CanJoin (drop k xs) (drop k ys) → k < length ys → k < length xs
@@ -129,20 +85,21 @@ adds k xs ys zs f g l m h can mine theirs is_f is_g is_l is_zs is_m is_h =
     let lay = behind k xs ys zs l mine is_zs in
     let there : m ≡ l = at_place k xs (joined (drop (k + 1) xs) (drop (k + 1) ys)) l m mine (is_m ∙ ap (λ n. get_or n k m) lay) in
     subst (λ x. CanJoinFound m x) (sym same)
-    (subst (λ x. CanJoinFound x g) (sym (there ∙ is_l)) (CanJoin-lengthened f g (first_left k xs ys f g can mine theirs is_f is_g).0))
+    (subst (λ x. CanJoinFound x g) (sym (there ∙ is_l)) (in_steps f g (first_left k xs ys f g can mine theirs is_f is_g).0).can)
 
 -- and then all items from it on are joined
-pub joins : (k : ℕ) (xs ys zs : List Found) (f g l m h s : Found) → k < length xs → k < length ys
+pub joins : (k : ℕ) (xs ys zs : List Found) (f g l m h s : Found) → CanJoin (drop k xs) (drop k ys) → k < length xs → k < length ys
     → f ≡ get_or xs k f → g ≡ get_or ys k g → l ≡ lengthened f g
     → zs ≡ take (k + 1) (set xs k l) ++ joined (drop (k + 1) (set xs k l)) (drop (k + 1) ys)
     → m ≡ get_or zs k m → h ≡ get_or ys k h → s ≡ summed m h
     → set zs k s ≡ take k xs ++ joined (drop k xs) (drop k ys)
-joins k xs ys zs f g l m h s mine theirs is_f is_g is_l is_zs is_m is_h is_s =
+joins k xs ys zs f g l m h s can mine theirs is_f is_g is_l is_zs is_m is_h is_s =
     let rest = joined (drop (k + 1) xs) (drop (k + 1) ys) in
     let same : h ≡ g = is_h ∙ get_or_default ys k h g theirs ∙ sym is_g in
     let lay = behind k xs ys zs l mine is_zs in
     let there : m ≡ l = at_place k xs rest l m mine (is_m ∙ ap (λ n. get_or n k m) lay) in
-    let sum : s ≡ both f g = is_s ∙ ap (λ x. summed x h) (there ∙ is_l) ∙ ap (summed (lengthened f g)) same ∙ summed-lengthened f g in
+    let sum : s ≡ both f g = is_s ∙ ap (λ x. summed x h) (there ∙ is_l) ∙ ap (summed (lengthened f g)) same
+    ∙ (in_steps f g (first_left k xs ys f g can mine theirs is_f is_g).0).sum in
     let one : drop k xs ≡ f ∷ drop (k + 1) xs = drop_more xs k f mine ∙ ap (λ x. x ∷ drop (k + 1) xs) (sym is_f) in
     let other : drop k ys ≡ g ∷ drop (k + 1) ys = drop_more ys k g theirs ∙ ap (λ y. y ∷ drop (k + 1) ys) (sym is_g) in
     ap (λ n. set n k s) lay
@@ -161,7 +118,7 @@ undoes k xs ys zs f g l m h s can mine theirs is_f is_g is_l is_zs is_m is_h is_
     let same : h ≡ g = is_h ∙ get_or_default ys k h g theirs ∙ sym is_g in
     let there : m ≡ l = is_m ∙ ap (λ n. get_or n k m) is_zs ∙ get_or-set_same xs k l m mine in
     let back : s ≡ f = is_s ∙ ap (λ x. shortened x h) (there ∙ is_l) ∙ ap (shortened (lengthened f g)) same
-    ∙ shortened-lengthened f g (first_left k xs ys f g can mine theirs is_f is_g).0 in
+    ∙ (in_steps f g (first_left k xs ys f g can mine theirs is_f is_g).0).back in
     ap (λ n. set n k s) is_zs ∙ set-set xs k l s ∙ ap (set xs k) (back ∙ is_f) ∙ set-get_or xs k f
 
 -- no item is left

@@ -6,6 +6,7 @@ pub mod Few
 pub mod Joined
 pub mod Laws
 pub mod Learnt
+pub mod Paths
 pub mod Query
 pub mod Reads
 pub mod Records

@@ -1,13 +1,13 @@
-ghost use Rattle.std.specs.Prelude.{◌≡◌, ◌+◌, ◌∷◌, [], length};
+ghost use Rattle.std.specs.Prelude.{◌≡◌, ◌∷◌, []};
 ghost use Rattle.fm_base.specs.View.{Did};
 ghost use Rattle.fm_lanes.specs.Kind.{width_of};
 ghost use Rattle.fm_path_meaning.specs.Steady.{IsInside};
 ghost use Rattle.fm_path_meaning.specs.Walk.{reach};
 ghost use Rattle.fm_records.specs.Few.{HasRoom};
-ghost use Rattle.fm_records.specs.Adds.{DoesAdd, ReachesInside};
-ghost use Rattle.fm_records.specs.Reads.{CanRead, DoesRead, LiesIn, ReadsNumber, value_places};
+ghost use Rattle.fm_records.specs.Adds.{DoesAdd};
+ghost use Rattle.fm_records.specs.Paths.{CanAddAll, AddsAll};
+ghost use Rattle.fm_records.specs.Reads.{CanRead, DoesRead, LiesIn, ReadsNumber};
 ghost use Rattle.fm_records.specs.Stops.{StopsNumber};
-ghost use Rattle.fm_records.specs.Values.{index_lists};
 
 use crate::found::Found;
 use fm_access::get_value;
@@ -78,11 +78,8 @@ fn add_values<M: Memory>(
     value: ValueSpec,
     found: &mut Found,
 ) -> Result<(), Refusal>
-    requires can { CanRead (M.view m.old) s.now }
-    requires inside { ReachesInside s.now place at dims.now value }
-    requires room { HasRoom found.old (length (index_lists dims.now)) }
-    ensures { Did (M.view m.old) (M.view m.new)
-        (DoesAdd (M.view m.old).caller s.now value (value_places place at dims.now) found.old found.new result) }
+    requires { CanAddAll (M.view m.old) s.now place at dims.now value found.old }
+    ensures { AddsAll (M.view m.old) (M.view m.new) s.now place at dims.now value found.old found.new result }
 {
     match dims {
         [] => add_value(m, s, place + at, value, found),
@@ -110,11 +107,8 @@ pub(crate) fn add_all<M: Memory>(
     value: ValueSpec,
     found: &mut Found,
 ) -> Result<(), Refusal>
-    requires can { CanRead (M.view m.old) s.now }
-    requires inside { ReachesInside s.now place at dims.now value }
-    requires room { HasRoom found.old (length (index_lists dims.now)) }
-    ensures { Did (M.view m.old) (M.view m.new)
-        (DoesAdd (M.view m.old).caller s.now value (value_places place at dims.now) found.old found.new result) }
+    requires { CanAddAll (M.view m.old) s.now place at dims.now value found.old }
+    ensures { AddsAll (M.view m.old) (M.view m.new) s.now place at dims.now value found.old found.new result }
 {
     match dims {
         [] => add_value(m, s, place + at, value, found),
@@ -133,11 +127,8 @@ fn add_row<M: Memory>(
     value: ValueSpec,
     found: &mut Found,
 ) -> Result<(), Refusal>
-    requires can { CanRead (M.view m.old) s.now }
-    requires inside { ReachesInside s.now place at (dim ∷ []) value }
-    requires room { HasRoom found.old (length (index_lists (dim ∷ []))) }
-    ensures { Did (M.view m.old) (M.view m.new)
-        (DoesAdd (M.view m.old).caller s.now value (value_places place at (dim ∷ [])) found.old found.new result) }
+    requires { CanAddAll (M.view m.old) s.now place at (dim ∷ []) value found.old }
+    ensures { AddsAll (M.view m.old) (M.view m.new) s.now place at (dim ∷ []) value found.old found.new result }
 {
     match value.kind {
         ValueKind::Byte => row_of(m, s, place, at, dim, as_kind(value, ValueKind::Byte), found),
@@ -189,11 +180,8 @@ fn row_of<M: Memory>(
     value: ValueSpec,
     found: &mut Found,
 ) -> Result<(), Refusal>
-    requires can { CanRead (M.view m.old) s.now }
-    requires inside { ReachesInside s.now place at (dim ∷ []) value }
-    requires room { HasRoom found.old (length (index_lists (dim ∷ []))) }
-    ensures { Did (M.view m.old) (M.view m.new)
-        (DoesAdd (M.view m.old).caller s.now value (value_places place at (dim ∷ [])) found.old found.new result) }
+    requires { CanAddAll (M.view m.old) s.now place at (dim ∷ []) value found.old }
+    ensures { AddsAll (M.view m.old) (M.view m.new) s.now place at (dim ∷ []) value found.old found.new result }
 {
     match found {
         Found::Sum(sum) => {
@@ -224,12 +212,9 @@ fn row_apart<M: Memory>(
     row: Found,
     found: &mut Found,
 ) -> Result<(), Refusal>
-    requires can { CanRead (M.view m.old) s.now }
-    requires inside { ReachesInside s.now place at (dim ∷ []) value }
-    requires room { HasRoom found.old (length (index_lists (dim ∷ []))) }
+    requires can { CanAddAll (M.view m.old) s.now place at (dim ∷ []) value found.old }
     requires copy { row ≡ found.old }
-    ensures { Did (M.view m.old) (M.view m.new)
-        (DoesAdd (M.view m.old).caller s.now value (value_places place at (dim ∷ [])) found.old found.new result) }
+    ensures { AddsAll (M.view m.old) (M.view m.new) s.now place at (dim ∷ []) value found.old found.new result }
 {
     let mut row = row;
     let added = add_each(m, s, place, at, dim, value, &mut row);
@@ -248,11 +233,8 @@ fn add_each<M: Memory>(
     value: ValueSpec,
     found: &mut Found,
 ) -> Result<(), Refusal>
-    requires can { CanRead (M.view m.old) s.now }
-    requires inside { ReachesInside s.now place at (dim ∷ []) value }
-    requires room { HasRoom found.old (length (index_lists (dim ∷ []))) }
-    ensures { Did (M.view m.old) (M.view m.new)
-        (DoesAdd (M.view m.old).caller s.now value (value_places place at (dim ∷ [])) found.old found.new result) }
+    requires { CanAddAll (M.view m.old) s.now place at (dim ∷ []) value found.old }
+    ensures { AddsAll (M.view m.old) (M.view m.new) s.now place at (dim ∷ []) value found.old found.new result }
 {
     for i in 0..dim.bound {
         let next = reach_of(at, dim, i);

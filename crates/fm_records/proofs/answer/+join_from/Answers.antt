@@ -30,7 +30,7 @@ returns-in-Ok-join_from-clause-joined t c =
     let more : c.args.k < length c.args.next.now.items = omega (arith, theirs, c.len.ensures, c.if-k-len.false) in
     let one = within_both c.args.k c.args.found.now.items c.args.next.now.items c.requires.join more in
     joins c.args.k c.args.found.now.items c.args.next.now.items c.join_from.new.found.items _ _ c.lengthen.new.self _ _ c.add.new.self
-    one more c.index_mut.ensures.value c.index.ensures c.in-Ok.ensures.ok c.in-Ok-join_from.ensures.joined
+    c.requires.join one more c.index_mut.ensures.value c.index.ensures c.in-Ok.ensures.ok c.in-Ok-join_from.ensures.joined
     c.index_mut-in-Ok-join_from.ensures.value c.index-in-Ok-join_from.ensures c.add.ensures
 
 pub returns-in-Err-join_from-clause-same : goal.returns-in-Err-join_from-clause-same

@@ -25,21 +25,21 @@ returns-then-has_no_values g c =
     item_empty c.args.s.now c.args.place c.args.asked.now c.in-Of.is (g.M.Memory.view c.args.m.now) c.args.found.now c.requires.kind
     (wide_none c.args.place r.offset r.dims (sym (ap index_lists e) ∙ c.if-has_no_values.ensures refl))
 
-pub add_all-requires-clause-inside : goal.add_all-requires-clause-inside
-add_all-requires-clause-inside g c =
+pub add_all-requires : goal.add_all-requires
+add_all-requires g c =
     let r = c.in-Of.path in
     let s = c.args.s.now in
     let e : c.wide-dims.result.now ≡ wide_dims c.in-Of.path.dims = c.wide-dims.ensures ∙ ap wide_dims c.dims.ensures in
     let readable = subst (λ (a : Asked). IsReadable c.args.s.now c.args.place a) c.in-Of.is c.requires.readable in
-    subst (λ (v : ValueSpec). ReachesInside s c.args.place c.offset.result c.wide-dims.result.now v) (sym c.value.ensures)
-    (subst (λ (n : ℕ). ReachesInside s c.args.place n c.wide-dims.result.now r.value) (sym c.offset.ensures)
-    (subst (λ (ds : List Dim). ReachesInside s c.args.place r.offset ds r.value) (sym e) (wide_inside s c.args.place r.offset r.dims r.value readable)))
-
-pub add_all-requires-clause-room : goal.add_all-requires-clause-room
-add_all-requires-clause-room g c =
-    let r = c.in-Of.path in
-    let e : c.wide-dims.result.now ≡ wide_dims c.in-Of.path.dims = c.wide-dims.ensures ∙ ap wide_dims c.dims.ensures in
-    subst (HasRoom c.args.found.now) (ap how_many c.in-Of.is ∙ sym (ap (λ (ds : List Dim). length (index_lists ds)) e ∙ wide_many r.dims)) c.requires.room
+    let many = ap (λ (ds : List Dim). length (index_lists ds)) e ∙ wide_many r.dims in
+    record {
+      can = c.requires.can;
+      inside = subst (λ (v : ValueSpec). ReachesInside s c.args.place c.offset.result c.wide-dims.result.now v) (sym c.value.ensures)
+          (subst (λ (n : ℕ). ReachesInside s c.args.place n c.wide-dims.result.now r.value) (sym c.offset.ensures)
+          (subst (λ (ds : List Dim). ReachesInside s c.args.place r.offset ds r.value) (sym e)
+          (wide_inside s c.args.place r.offset r.dims r.value readable)));
+      room = subst (HasRoom c.args.found.now) (ap how_many c.in-Of.is ∙ sym many) c.requires.room;
+    }
 
 pub returns-else-has_no_values : goal.returns-else-has_no_values
 returns-else-has_no_values g c =

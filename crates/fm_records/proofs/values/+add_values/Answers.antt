@@ -34,7 +34,14 @@ add_values-requires g t c κs within =
     let room = subst (HasRoom c.args.found.now) (ap (λ (xs : List Dim). length (index_lists xs)) e ∙ lists_by_first d more) c.requires.room in
     let long : length ds ≡ suc (length more) = ap length e in (
       omega (arith, long, c.decreases),
-      (within, (can_still c.requires.can c.loop-i.invariant.added.so_far, (r.inside, added_room c.loop-i.invariant.added c.loop-i-test.true room))),
+      (
+        within,
+        record {
+          can = can_still c.requires.can c.loop-i.invariant.added.so_far;
+          inside = r.inside;
+          room = added_room c.loop-i.invariant.added c.loop-i-test.true room;
+        },
+      ),
     )
 
 pub returns-in-Err : goal.returns-in-Err

@@ -1,27 +1,19 @@
-use Rattle.std.proofs.Common.{rules, sym, ap, ◌∙◌, Err}
+use Rattle.std.proofs.Common.{rules, ap, ◌∙◌, Err}
 use Rattle.std.proofs.lemmas.Result.{err_from_is_err_and}
 use Rattle.fm_base.specs.View.{Did}
-use Rattle.fm_handle.specs.Access.{DoesVisit, DoesExchange}
-use Rattle.fm_handle.specs.Acts.{Exchanges}
+use Rattle.fm_handle.specs.Access.{DoesExchange}
 use Rattle.fm_handle.proofs.Updating.{fits_at}
-use Rattle.fm_access.proofs.Causes.{never}
-use Rattle.fm_access.proofs.Learning.{refused_at}
 use Rattle.fm_handle.specs.Place.{can_update, update_place_of}
-use Rattle.fm_handle.proofs.Learning.{after_exchange}
+use Rattle.fm_handle.proofs.Learning.{after_exchange, refused_update}
 use Rattle.fm_handle.proofs.Touching.{touches_value}
 use Rattle.fm_handle.proofs.Visiting.{found_by, works}
 use Rattle.fm_handle.proofs.handle.VarHandle.compare_and_exchange.Goals as goal
 
 pub returns-in_err-place : goal.returns-in_err-place
 returns-in_err-place g c =
-    let v = g.M.Memory.view c.args.m.now in
     let p = err_from_is_err_and c.from_residual.result c.from_residual.ensures.1 in
-    let none = found_by can_update c.args.base c.args.indices.now c.args.self.now c.args.s.now c.can_update.ensures c.update_place_of.ensures.place
-    c.in_err-place.was in
-    after_exchange c.args.base c.requires (λ n e. never n c.in_err-place.field-0.0 (sym e ∙ none))
-    (refused_at v (update_place_of can_update c.args.base c.args.indices.now c.args.self.now c.args.s.now) (λ place.
-    DoesVisit v.caller c.args.s.now.arena (Exchanges c.args.self.now.value.order c.args.s.now.arena place c.args.expected c.args.v))
-    c.in_err-place.field-0.0 c.from_residual.result none (p.1 ∙ ap Err p.2))
+    refused_update _ can_update c.args.base c.args.indices.now c.args.self.now c.requires.known c.requires.outside c.requires.indices c.can_update.ensures
+    c.update_place_of.ensures.place c.in_err-place.was (p.1 ∙ ap Err p.2)
 
 pub returns : goal.returns
 returns g c =

@@ -1,28 +1,20 @@
-use Rattle.std.proofs.Common.{rules, w64, sym, ap, ◌∙◌, Ok, Err}
+use Rattle.std.proofs.Common.{rules, w64, ap, ◌∙◌, Ok, Err}
 use Rattle.std.proofs.lemmas.Int.{to_z-of_z}
 use Rattle.std.proofs.lemmas.Result.{err_from_is_err_and}
 use Rattle.fm_base.specs.View.{Did}
-use Rattle.fm_handle.specs.Access.{DoesVisit, DoesExchangeLong}
-use Rattle.fm_handle.specs.Acts.{ExchangesLong}
+use Rattle.fm_handle.specs.Access.{DoesExchangeLong}
 use Rattle.fm_handle.proofs.Updating.{long_at}
-use Rattle.fm_access.proofs.Causes.{never}
-use Rattle.fm_access.proofs.Learning.{refused_at}
 use Rattle.fm_handle.specs.Place.{fills_word, update_place_of}
-use Rattle.fm_handle.proofs.Learning.{after_exchange_long}
+use Rattle.fm_handle.proofs.Learning.{after_exchange_long, refused_update}
 use Rattle.fm_handle.proofs.Touching.{touches_word}
 use Rattle.fm_handle.proofs.Visiting.{found_by, works}
 use Rattle.fm_handle.proofs.handle.VarHandle.compare_and_exchange_long.Goals as goal
 
 pub returns-in_err-place : goal.returns-in_err-place
 returns-in_err-place g c =
-    let v = g.M.Memory.view c.args.m.now in
     let p = err_from_is_err_and c.from_residual.result c.from_residual.ensures.1 in
-    let none = found_by fills_word c.args.base c.args.indices.now c.args.self.now c.args.s.now c.fills_word.ensures c.update_place_of.ensures.place
-    c.in_err-place.was in
-    after_exchange_long c.args.base c.requires (λ n e. never n c.in_err-place.field-0.0 (sym e ∙ none)) (λ n e. never n c.in_err-place.field-0.0 (sym e ∙ none))
-    (refused_at v (update_place_of fills_word c.args.base c.args.indices.now c.args.self.now c.args.s.now) (λ place.
-    DoesVisit v.caller c.args.s.now.arena (ExchangesLong c.args.self.now.value.order c.args.s.now.arena place c.args.expected c.args.v))
-    c.in_err-place.field-0.0 c.from_residual.result none (p.1 ∙ ap Err p.2))
+    refused_update _ fills_word c.args.base c.args.indices.now c.args.self.now c.requires.known c.requires.outside c.requires.indices c.fills_word.ensures
+    c.update_place_of.ensures.place c.in_err-place.was (p.1 ∙ ap Err p.2)
 
 pub returns-in_err-found : goal.returns-in_err-found
 returns-in_err-found g c =

@@ -1,27 +1,19 @@
-use Rattle.std.proofs.Common.{rules, sym, ap, ◌∙◌, Err}
+use Rattle.std.proofs.Common.{rules, ap, ◌∙◌, Err}
 use Rattle.std.proofs.lemmas.Result.{err_from_is_err_and}
 use Rattle.fm_base.specs.View.{Did}
-use Rattle.fm_handle.specs.Access.{DoesVisit, DoesSetLong}
-use Rattle.fm_handle.specs.Acts.{Stores, word_of}
+use Rattle.fm_handle.specs.Access.{DoesSetLong}
 use Rattle.fm_handle.proofs.Updating.{long_at}
-use Rattle.fm_access.proofs.Causes.{never}
-use Rattle.fm_access.proofs.Learning.{refused_at}
 use Rattle.fm_handle.specs.Place.{fills_word, update_place_of}
-use Rattle.fm_handle.proofs.Learning.{after_set_long}
+use Rattle.fm_handle.proofs.Learning.{after_set_long, refused_update}
 use Rattle.fm_handle.proofs.Touching.{touches_word}
 use Rattle.fm_handle.proofs.Visiting.{found_by, works}
 use Rattle.fm_handle.proofs.handle.VarHandle.set_long.Goals as goal
 
 pub returns-in_err-place : goal.returns-in_err-place
 returns-in_err-place g c =
-    let v = g.M.Memory.view c.args.m.now in
     let p = err_from_is_err_and c.from_residual.result c.from_residual.ensures.1 in
-    let none = found_by fills_word c.args.base c.args.indices.now c.args.self.now c.args.s.now c.fills_word.ensures c.update_place_of.ensures.place
-    c.in_err-place.was in
-    after_set_long c.args.base c.requires (λ n e. never n c.in_err-place.field-0.0 (sym e ∙ none))
-    (refused_at v (update_place_of fills_word c.args.base c.args.indices.now c.args.self.now c.args.s.now) (λ place.
-    DoesVisit v.caller c.args.s.now.arena (λ u. Stores c.args.s.now.arena place (word_of c.args.self.now.value.order c.args.v))) c.in_err-place.field-0.0
-    c.from_residual.result none (p.1 ∙ ap Err p.2))
+    refused_update _ fills_word c.args.base c.args.indices.now c.args.self.now c.requires.known c.requires.outside c.requires.indices c.fills_word.ensures
+    c.update_place_of.ensures.place c.in_err-place.was (p.1 ∙ ap Err p.2)
 
 pub returns : goal.returns
 returns g c =
