@@ -15,6 +15,7 @@ use Rattle.fm_close.specs.Does.{others_left}
 use Rattle.fm_close.specs.declared.gave_back.GaveBack.{GaveBack}
 use Rattle.fm_close.specs.declared.gave_back.GaveBack.TheVariants.{Ended}
 use Rattle.fm_arena.specs.declared.handle.AutoHandle.{AutoHandle}
+use Rattle.fm_arena.specs.Opening.{OpensExactly}
 
 -- ---- handles by the name of their arena
 
@@ -42,13 +43,14 @@ abbrev pub whether : Result AutoHandle Refusal → Result (Unit {0}) Refusal
 whether (Ok handle) = Ok tt
 whether (Err r) = Err r
 
--- of `start`: where no slot was free, a step found so
+-- of `start`: where no slot was free, a step found so; a pass that is known to be whole gets it exactly where every slot is busy
 pub record AfterStart (old new : View) (result : Result AutoHandle Refusal) : Type 0 where
   pub did : KeptHandling old new (handles_opened Automatic (named result) old.handles)
       (λ own. DoesOpen old.caller Automatic (named result) (but_loans own))
   pub is_new : IfOk result (λ handle. IsNew old new handle.arena)
   pub has : IfOk result (λ handle. HasHandle new handle)
   pub no_slot : IfErr result (λ r. (r ≡ NoSlot) × FoundNothing is_slot old.finds new.finds)
+  pub exact : OpensExactly old result
   pub outside : new.inside ≡ None
   pub lasts : Lasts old new
 

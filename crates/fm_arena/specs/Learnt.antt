@@ -8,7 +8,7 @@ use Rattle.fm_base.specs.Arenas.{has_arena, arena_of}
 use Rattle.fm_base.specs.Calls.{Entry}
 use Rattle.fm_base.specs.Histories.{state_after}
 use Rattle.fm_base.specs.Does.{DoesIsAlive, DoesUnhold}
-use Rattle.fm_pool_facts.specs.Views.{View, In, IsKnown, given_of, limit_of}
+use Rattle.fm_pool_facts.specs.Views.{View, In, IsKnown, IsSound, given_of, limit_of}
 use Rattle.fm_pool_facts.specs.Holds.{released}
 use Rattle.fm_rule.specs.declared.pool.Pool.{Pool}
 use Rattle.fm_rule.specs.Passes.{IsOf, GoesOnFrom}
@@ -17,10 +17,11 @@ use Rattle.fm_gate.specs.declared.held.Hold.{Hold}
 use Rattle.fm_gate.specs.Standing.{IsOutside}
 use Rattle.fm_gate.specs.Learnt.{DoesTake, holds_taken}
 
--- of `into_pass`: the pass is the one that the memory told of, and outside in the pool that it is of
+-- of `into_pass`: the pass is the one that the memory told of, outside in the pool that it is of, and sound
 pub record AfterIntoPass (shared pass : View) : Type 0 where
   pub same : pass ≡ shared
   pub outside : (pool : Pool) → IsOf pool shared → IsOutside pool pass
+  pub sound : IsSound pass
 
 -- of `meet`: the history of the note is a beginning of the pass's, which knows what the other knew
 pub record AfterMeet (old new : View) (seen : List Entry) : Type 0 where

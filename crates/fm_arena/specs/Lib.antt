@@ -2,4 +2,5 @@ pub mod Shares
 pub mod Learnt
 pub mod Lasting
 pub mod Arenas
+pub mod Opening
 pub mod Handles

@@ -52,6 +52,8 @@ impl<'a> Shared<'a> {
         ensures { AfterIntoPass self.entry result }
     {
         let Shared { pool: _, pass } = self;
+        // Any pass is sound, which its calls alone tell.
+        let _caller = pass.caller();
         pass
     }
 
@@ -102,7 +104,9 @@ impl<'a> Shared<'a> {
 
 impl<'a> Memory for Shared<'a> {
     ghost use Rattle.std.specs.Prelude.{refl};
+    ghost use Rattle.fm_base.specs.Learnt.{AfterOpen, CanOpen};
     ghost use Rattle.fm_calls.specs.Told.{view_of_pass};
+    ghost use Rattle.fm_arena.specs.Opening.{OpensExactly};
     ghost use Rattle.fm_arena.specs.Shares.{nature_of_shared};
 
     ghost nature = { nature_of_shared };
@@ -145,7 +149,12 @@ impl<'a> Memory for Shared<'a> {
         leave(self.pool, &mut self.pass);
     }
 
-    fn open_arena<R: Wait>(&mut self, rt: &R, kind: Kind) -> Result<ArenaId, Refusal> {
+    /// As the trait says; and a pass that is known to be whole gets `NoSlot` exactly where every slot is busy.
+    fn open_arena<R: Wait>(&mut self, rt: &R, kind: Kind) -> Result<ArenaId, Refusal>
+        requires { CanOpen (view_of_pass self.old) kind }
+        ensures opens { AfterOpen nature_of_shared (view_of_pass self.old) (view_of_pass self.new) kind result }
+        ensures exact { OpensExactly self.old result }
+    {
         open_arena(rt, self.pool, &mut self.pass, kind)
     }
 

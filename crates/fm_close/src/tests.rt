@@ -7,6 +7,7 @@ ghost use Rattle.fm_close.specs.Learnt.{CanSweep, CanWalk, IsUnderWay, StandsAft
 ghost use Rattle.fm_close.specs.Does.{after_visit};
 
 mod crews;
+mod finishing;
 mod holds;
 mod kinds;
 mod reuse;
@@ -21,10 +22,11 @@ use std::alloc::AllocGlobal;
 use std::process::Abort;
 use std::sync::Wait;
 
-/// A pool of three passes, whose slots have one word each.
-fn made<R: Abort + AllocGlobal>(rt: &R, slots: u32) -> (Pool, Pass)
+/// A pool of three passes, whose slots have one word each, and so many arenas one after another.
+fn made_for<R: Abort + AllocGlobal>(rt: &R, slots: u32, generations: u32) -> (Pool, Pass)
     requires few { slots < 65 }
     requires some { 0 < slots }
+    requires one { 0 < generations }
     ensures outside { IsOutside result.0 result.1 }
     ensures wide { span result.0.shape ≡ 1 }
     ensures passes { result.0.shape.passes ≡ 3 }
@@ -35,9 +37,20 @@ fn made<R: Abort + AllocGlobal>(rt: &R, slots: u32) -> (Pool, Pass)
         pages: slots,
         page_words: 1,
         reach: 1,
-        generations: 1,
+        generations,
     };
     Pool::make(rt.alloc(), shape).expect(rt, "words")
+}
+
+/// Such a pool, whose slots have one arena each.
+fn made<R: Abort + AllocGlobal>(rt: &R, slots: u32) -> (Pool, Pass)
+    requires few { slots < 65 }
+    requires some { 0 < slots }
+    ensures outside { IsOutside result.0 result.1 }
+    ensures wide { span result.0.shape ≡ 1 }
+    ensures passes { result.0.shape.passes ≡ 3 }
+{
+    made_for(rt, slots, 1)
 }
 
 /// Puts a number into the first word where that is 0, and answers the number found.

@@ -4,7 +4,8 @@ ghost use Rattle.fm_calls.specs.Kept.{Lasts};
 ghost use Rattle.fm_gate.specs.Crews.{HasNothing, StandsOn};
 ghost use Rattle.fm_gate.specs.Standing.{CanVisit, IsInside, IsOutside};
 
-use super::made;
+use super::reuse::given;
+use super::{made, made_for, put};
 use crate::{Visit, close, shut, sweep, visit};
 use fm_base::{ArenaId, Kind, Refusal};
 use fm_gate::{
@@ -64,8 +65,8 @@ fn act_and_leave(pool: &Pool, pass: &mut Pass, a: ArenaId) -> u64
 }
 
 #[test]
-fn a_close_finds_the_pass_that_is_inside(rt: HostRuntime) {
-    let (pool, mut pass) = made(&rt, 1);
+fn a_close_finds_the_pass_that_is_inside_and_the_slot_is_lent_again(rt: HostRuntime) {
+    let (pool, mut pass) = made_for(&rt, 1, 2);
     let (a, mut one, mut two) = drawn_twice(&rt, &pool, &mut pass);
     come_in(&rt, &pool, &mut one, a);
     let mut s = shut(&pool, &mut pass, a).expect(&rt, "alive");
@@ -77,6 +78,9 @@ fn a_close_finds_the_pass_that_is_inside(rt: HostRuntime) {
     assert_eq!(rt; visit(&pool, &mut pass, &mut s), Visit::Next);
     assert_eq!(rt; visit(&pool, &mut pass, &mut s), Visit::Ended);
     sweep(&pool, &mut pass, s);
+    let b = given(&rt, &pool, &mut pass);
+    assert_eq!(rt; (b.slot, b.generation), (a.slot, 1));
+    assert_eq!(rt; put(&pool, &mut pass, b, 7), Ok(0));
 }
 
 /// Closes an arena that two passes hold, and again after each hold is spent.

@@ -1,38 +1,19 @@
 ghost use Rattle.std.specs.Prelude.{◌≡◌, ◌<◌, ◌≤◌, IfOk};
-ghost use Rattle.fm_pool_facts.specs.Views.{IsKnown, given_of, span};
+ghost use Rattle.fm_pool_facts.specs.Views.{IsKnown, given_of};
 ghost use Rattle.fm_calls.specs.Kept.{Lasts};
 ghost use Rattle.fm_gate.specs.Standing.{CanVisit, IsOutside};
 
-use super::put;
+use super::crews::drawn;
+use super::{made, made_for, put};
 use crate::close;
 use fm_base::{ArenaId, Kind, Refusal};
 use fm_gate::{allocate, open_arena};
 use fm_rule::{Pass, Pool};
-use fm_words::Shape;
-use std::alloc::AllocGlobal;
 use std::process::Abort;
 use std::sync::Wait;
+use std::thread::join_mut;
 
-/// A pool of one pass, whose slots have one word each, and arenas one after another.
-fn made<R: Abort + AllocGlobal>(rt: &R, slots: u32, generations: u32) -> (Pool, Pass)
-    requires some { 0 < slots }
-    requires few { slots < 65 }
-    requires one { 0 < generations }
-    ensures outside { IsOutside result.0 result.1 }
-    ensures wide { span result.0.shape ≡ 1 }
-{
-    let shape = Shape {
-        passes: 1,
-        slots,
-        pages: slots,
-        page_words: 1,
-        reach: 1,
-        generations,
-    };
-    Pool::make(rt.alloc(), shape).expect(rt, "words")
-}
-
-/// Opens an arena, and tries to.
+/// Tries to open an arena.
 fn open<R: Wait>(rt: &R, pool: &Pool, pass: &mut Pass) -> Result<ArenaId, Refusal>
     requires { IsOutside pool.now pass.old }
     ensures outside { IsOutside pool.now pass.new }
@@ -44,7 +25,7 @@ fn open<R: Wait>(rt: &R, pool: &Pool, pass: &mut Pass) -> Result<ArenaId, Refusa
 
 #[test]
 fn a_slot_has_all_its_generations_and_no_more(rt: HostRuntime) {
-    let (pool, mut pass) = made(&rt, 1, 2);
+    let (pool, mut pass) = made_for(&rt, 1, 2);
     let a = open(&rt, &pool, &mut pass).expect(&rt, "a slot");
     assert_eq!(rt; (a.slot, a.generation), (0, 0));
     assert_eq!(rt; close(&rt, &pool, &mut pass, a), Ok(()));
@@ -56,7 +37,7 @@ fn a_slot_has_all_its_generations_and_no_more(rt: HostRuntime) {
 
 #[test]
 fn a_slot_is_lent_again_once_its_arena_is_closed(rt: HostRuntime) {
-    let (pool, mut pass) = made(&rt, 2, 3);
+    let (pool, mut pass) = made_for(&rt, 2, 3);
     let a = open(&rt, &pool, &mut pass).expect(&rt, "a slot");
     let _ = open(&rt, &pool, &mut pass).expect(&rt, "a slot");
     assert_eq!(rt; open(&rt, &pool, &mut pass), Err(Refusal::NoSlot));
@@ -65,8 +46,46 @@ fn a_slot_is_lent_again_once_its_arena_is_closed(rt: HostRuntime) {
     assert_eq!(rt; (b.slot, b.generation), (a.slot, 1));
 }
 
+/// Opens arenas until no slot is left, but no more than so many, and answers how many it opened.
+fn open_often<R: Wait>(rt: &R, pool: &Pool, pass: &mut Pass, times: u64) -> u64
+    requires { IsOutside pool.now pass.old }
+    ensures { IsOutside pool.now pass.new }
+{
+    for opened in 0..times {
+        if open(rt, pool, pass).is_err() {
+            return opened;
+        }
+    }
+    times
+}
+
+#[test]
+fn a_pool_has_as_many_slots_as_a_word_has_bits(rt: HostRuntime) {
+    let (pool, mut pass) = made(&rt, 64);
+    assert_eq!(rt; open_often(&rt, &pool, &mut pass, 64), 64);
+    assert_eq!(rt; open(&rt, &pool, &mut pass), Err(Refusal::NoSlot));
+}
+
+#[test]
+fn one_opens_while_another_closes(rt: HostRuntime) {
+    let (pool, mut pass) = made_for(&rt, 1, 2);
+    let a = open(&rt, &pool, &mut pass).expect(&rt, "a slot");
+    let mut other = drawn(&rt, &pool, &mut pass);
+    let (closed, opened) = join_mut(
+        &rt,
+        &mut || close(&rt, &pool, &mut pass, a),
+        &mut || open(&rt, &pool, &mut other),
+    );
+    assert_eq!(rt; closed, Ok(()));
+    // The other found the slot as the close had left it, or as it was before.
+    match opened {
+        Ok(b) => assert_eq!(rt; (b.slot, b.generation), (a.slot, 1)),
+        Err(refusal) => assert_eq!(rt; refusal, Refusal::NoSlot),
+    }
+}
+
 /// Opens an arena of which all bytes are given.
-fn given<R: Abort + Wait>(rt: &R, pool: &Pool, pass: &mut Pass) -> ArenaId
+pub(super) fn given<R: Abort + Wait>(rt: &R, pool: &Pool, pass: &mut Pass) -> ArenaId
     requires { IsOutside pool.now pass.old }
     ensures can { CanVisit pool.now pass.new result }
     ensures given { 8 ≤ given_of pass.new result }
@@ -79,7 +98,7 @@ fn given<R: Abort + Wait>(rt: &R, pool: &Pool, pass: &mut Pass) -> ArenaId
 
 #[test]
 fn words_are_zeros_for_the_next_arena(rt: HostRuntime) {
-    let (pool, mut pass) = made(&rt, 1, 2);
+    let (pool, mut pass) = made_for(&rt, 1, 2);
     let a = given(&rt, &pool, &mut pass);
     assert_eq!(rt; put(&pool, &mut pass, a, 9), Ok(0));
     assert_eq!(rt; put(&pool, &mut pass, a, 8), Ok(9));

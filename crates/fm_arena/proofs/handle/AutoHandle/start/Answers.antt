@@ -1,0 +1,8 @@
+use Rattle.std.proofs.lemmas.Result.{err_from_is_err_and}
+use Rattle.fm_arena.proofs.Opening.{starts_not}
+use Rattle.fm_arena.proofs.handle.AutoHandle.start.Goals as goal
+
+pub returns-in_err-arena : goal.returns-in_err-arena
+returns-in_err-arena g c =
+    let p = err_from_is_err_and c.from_residual.result c.from_residual.ensures.1 in
+    rw (← c.m.view_is, p.1, p.2) (starts_not c.in_err-arena.ensures)

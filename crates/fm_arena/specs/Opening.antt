@@ -1,0 +1,15 @@
+-- Where a pass that is known to be whole finds no slot for an arena.
+use Rattle.std.specs.Prelude.{◌≡◌, true, [], Result, IfOk, IfErr}
+use Rattle.fm_base.specs.declared.refusal.Refusal.{Refusal}
+use Rattle.fm_pool_facts.specs.Views.{View}
+use Rattle.fm_calls.specs.Kept.{rest_of}
+use Rattle.fm_gate.specs.Learnt.{AllBusy}
+
+-- no slot in its hand, nor that of an arena that it ended and hasn't swept
+abbrev pub HasNoSlot : View → Type 0
+HasNoSlot p = (rest_of p).slots ≡ []
+
+-- A pass that is known to be whole is refused exactly where every slot has an arena that hasn't ended, or has had its last generation
+pub record OpensExactly {X : Type 0} (old : View) (result : Result X Refusal) : Type 0 where
+  pub opened : IfOk result (λ _. old.whole ≡ true → ¬ (AllBusy old))
+  pub refused : IfErr result (λ _. old.whole ≡ true → HasNoSlot old → AllBusy old)

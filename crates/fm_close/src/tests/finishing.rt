@@ -1,0 +1,81 @@
+ghost use Rattle.fm_gate.specs.Crews.{HasNothing};
+ghost use Rattle.fm_gate.specs.Standing.{IsOutside};
+
+use super::crews::drawn;
+use super::reuse::given;
+use super::{made, put};
+use crate::close;
+use fm_base::ArenaId;
+use fm_gate::a_crew_stands;
+use fm_rule::{Finished, Pass, Pool};
+use std::alloc::AllocGlobal;
+use std::process::Abort;
+use std::sync::Wait;
+
+/// Whether the pass has every number.
+fn is_whole(pool: &Pool, pass: &mut Pass) -> bool
+    requires { IsOutside pool.now pass.old }
+    ensures { IsOutside pool.now pass.new }
+{
+    a_crew_stands();
+    pool.whole(pass)
+}
+
+/// A pass takes the other in.
+fn takes_in(pool: &Pool, pass: &mut Pass, other: Pass)
+    requires outside { IsOutside pool.now pass.old }
+    requires other { IsOutside pool.now other }
+    requires nothing { HasNothing other }
+    ensures { IsOutside pool.now pass.new }
+{
+    a_crew_stands();
+    pool.gather(pass, other);
+}
+
+/// Finishes the pool by a pass that has every number; none where it hasn't.
+fn finished<R: Abort + AllocGlobal>(rt: &R, pool: Pool, pass: Pass) -> Option<Finished>
+    requires { IsOutside pool pass }
+{
+    a_crew_stands();
+    let mut pass = pass;
+    if !pool.whole(&mut pass) {
+        return None;
+    }
+    Some(pool.finish(rt.alloc(), pass).expect(rt, "words"))
+}
+
+/// The length of an arena's bytes, and the first of them; none where it isn't alive.
+fn first_byte<R: Abort + AllocGlobal>(
+    rt: &R,
+    finished: &Finished,
+    a: ArenaId,
+) -> Option<(usize, u8)> {
+    let bytes = finished.bytes_of(rt.alloc(), a).expect(rt, "bytes")?;
+    let first = bytes.first()?;
+    Some((bytes.len(), *first))
+}
+
+/// Opens two arenas of eight bytes, and closes the second.
+fn one_open_one_closed<R: Abort + Wait>(rt: &R, pool: &Pool, pass: &mut Pass) -> (ArenaId, ArenaId)
+    requires { IsOutside pool.now pass.old }
+    ensures { IsOutside pool.now pass.new }
+{
+    let kept = given(rt, pool, pass);
+    assert_eq!(rt; put(pool, pass, kept, 9), Ok(0));
+    let closed = given(rt, pool, pass);
+    assert_eq!(rt; put(pool, pass, closed, 7), Ok(0));
+    assert_eq!(rt; close(rt, pool, pass, closed), Ok(()));
+    (kept, closed)
+}
+
+#[test]
+fn a_finished_pool_tells_the_bytes_of_arenas_that_are_alive(rt: HostRuntime) {
+    let (pool, mut pass) = made(&rt, 2);
+    let (kept, closed) = one_open_one_closed(&rt, &pool, &mut pass);
+    let other = drawn(&rt, &pool, &mut pass);
+    assert_eq!(rt; is_whole(&pool, &mut pass), false);
+    takes_in(&pool, &mut pass, other);
+    let finished = finished(&rt, pool, pass).expect(&rt, "every number");
+    assert_eq!(rt; first_byte(&rt, &finished, kept), Some((8, 9)));
+    assert_eq!(rt; first_byte(&rt, &finished, closed), None);
+}
