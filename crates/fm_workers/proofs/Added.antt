@@ -93,7 +93,7 @@ below_only c counts ns k id word own (one_more {k = i} before more h a) =
 
 module _ (w : Tallying) (c : Caller) (region : Region) (ns : List ℕ) (own : List Entry) (h : CountsPart c w.plan region w.counts ns (Ok tt) own) where
   reads : AreReads c region h.reads
-  reads = h.did.reads
+  reads = h.counted.did.reads
 
   part_only : (id : ArenaId) (word : ℕ) → AllByRecursion (λ e. OnlyAdds id word e.call) own
   part_only id word = subst (λ (es : List Entry). AllByRecursion (λ e. OnlyAdds id word e.call) es) (sym h.parts)

@@ -24,6 +24,7 @@ use Rattle.fm_workers.specs.Crew.{AreDone}
 use Rattle.fm_workers.specs.declared.part.Part.{Part}
 use Rattle.fm_workers.specs.Parts.{Asked, IsRun, AreRuns, CanAsk, Answers, AnswersFew, ComesTo, bytes_in}
 use Rattle.fm_workers.specs.Query.{OnlyReads, reads, stops, FoundClosed}
+use Rattle.fm_workers.specs.Tallies.{DoesCount}
 use Rattle.fm_workers.proofs.Runs.{run_ends, run_fits, runs_order}
 
 -- the records from one index up to another
@@ -33,7 +34,7 @@ piece p s from to = part_of (from * p.size) ((to - from) * p.size) s
 -- ---- before they are asked
 
 -- A record of an aligned segment is aligned.
-aligned_at : (p : Plan) (first n : ℕ) → IsPlan p → first % p.alignment ≡ 0 → (first + n * p.size) % p.alignment ≡ 0
+pub aligned_at : (p : Plan) (first n : ℕ) → IsPlan p → first % p.alignment ≡ 0 → (first + n * p.size) % p.alignment ≡ 0
 aligned_at p first n plan e = mod-eq-zero_of_dvd p.alignment (dvd-add p.alignment (dvd_of_mod-eq-zero p.alignment e)
     (dvd_trans p.alignment (dvd_of_mod-eq-zero p.alignment plan.even) (dvd_of_mod-eq-zero p.size (mul-mod_left n p.size))))
 
@@ -97,14 +98,14 @@ words_wider part s (r ∷ rs) w h =
     let a = h.0.above in let b = h.0.below in let f = w.from in let e = w.below in
     (record { above = omega (arith, a, f); below = omega (arith, b, e) }, words_wider part s rs w h.1)
 
-reads_wider : (c : Caller) (part s : Region) (own : List Entry) → IsWithin part s → AreReads c part own → AreReads c s own
+pub reads_wider : (c : Caller) (part s : Region) (own : List Entry) → IsWithin part s → AreReads c part own → AreReads c s own
 reads_wider c part s own w h = record {
   reads = h.reads;
   within = words_wider part s h.reads w h.within;
   visits = subst (λ a. own ≡ flat_map (read_visit c a) h.reads) w.arena h.visits;
 }
 
-stops_wider : (c : Caller) (part s : Region) (own : List Entry) → IsWithin part s → StopsReading c part own → StopsReading c s own
+pub stops_wider : (c : Caller) (part s : Region) (own : List Entry) → IsWithin part s → StopsReading c part own → StopsReading c s own
 stops_wider c part s own w h = record {
   before = h.before;
   reads = reads_wider c part s h.before w h.reads;
@@ -122,6 +123,13 @@ query_reads c p part s (Err WrongThread) own w d = no_reads c s own d.2
 query_reads c p part s (Err Closed) own w d = stops (stops_wider c part s own w d.2)
 query_reads c p part s (Err Memory) own w d = reads (reads_wider c part s own w d.2)
 query_reads c p part s (Err r) own w d = absurd d
+
+-- what was read of a part that wasn't counted to its end
+pub stops_count : (c : Caller) (p : Plan) (part s : Region) (r : Refusal) (own : List Entry)
+    → IsWithin part s → DoesCount c p part (Err r) own → OnlyReads s c own
+stops_count c p part s Closed own w d = stops (stops_wider c part s own w d)
+stops_count c p part s Memory own w d = reads (reads_wider c part s own w d)
+stops_count c p part s r own w d = absurd d
 
 pub run_within : {A : Type 0} (p : Plan) (s : Region) (from next to : ℕ) (t : Part A) → next ≤ to → to ≤ s.size / p.size
     → IsRun p s from next t → IsWithin t.region s

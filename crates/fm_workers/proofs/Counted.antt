@@ -29,23 +29,17 @@ use Rattle.fm_workers.specs.Crew.{AreDone}
 use Rattle.fm_workers.specs.Parts.{AreRuns}
 use Rattle.fm_workers.specs.Tallies.{CountsPart, DoesTallyPart, SumsTo, Tallied, Tallies, Tallying}
 use Rattle.fm_workers.proofs.Asked.{piece}
+use Rattle.fm_workers.proofs.ByRuns.{items_none}
 use Rattle.fm_workers.proofs.Numbers.{both_counted}
 use Rattle.fm_workers.proofs.Runs.{run_ends, run_fits, runs_order}
 
 -- ---- numbers that a query lists
 
-asked_none : (a : Asked) → ListsBytes a → numbers_listed (found_in [] a) ≡ []
-asked_none (asked.Of fold.All r) h = refl
-asked_none a h = absurd h
-
-items_none : (items : List Item) (conditions : List _) → AreTallied items → listed (map (item_found (chosen conditions [])) items) ≡ []
-items_none (item ∷ []) conditions h = asked_none item.asked h
-items_none items conditions h = absurd h
-
 -- No bytes have no numbers.
 none_listed : (p : Plan) (bytes : List ℕ) → IsTally p → bytes ≡ [] → listed (answer p bytes) ≡ []
 none_listed p bytes h e =
-    ap (λ bs. listed (answer p bs)) e ∙ ap (λ k. listed (found_over p (pieces k p.size []))) (zero-div p.size) ∙ items_none p.items p.conditions h
+    ap (λ bs. listed (answer p bs)) e ∙ ap (λ k. listed (found_over p (pieces k p.size []))) (zero-div p.size)
+    ∙ ap listed (items_none p.items p.conditions h)
 
 asked_both : (a : Asked) (rs qs : List (List ℕ)) → ListsBytes a
     → numbers_listed (both (found_in rs a) (found_in qs a)) ≡ numbers_listed (found_in rs a) ++ numbers_listed (found_in qs a)
@@ -105,9 +99,9 @@ module _ (limit : ℕ) (now : State) (w : Tallying) (s : Region) (more : List En
   part_counted c region ns mine h =
       let all = subst (FindAs region (bytes_at_places now region)) h.parts (spared_found limit now more region c mine) in
       let finds = (all_split (FindsAs region (bytes_at_places now region)) h.reads h.adds all).0 in
-      let is = answer_of_bytes c w.plan region (bytes_at_places now region) h.found h.reads
-      (record { plan = plan; size = length-places now region; finds = finds; does = h.did }) in
-      subst (λ f. AreCounts (listed f) ns) is h.are
+      let is = answer_of_bytes c w.plan region (bytes_at_places now region) h.counted.found h.reads
+      (record { plan = plan; size = length-places now region; finds = finds; does = h.counted.did }) in
+      subst (λ f. AreCounts (listed f) ns) is h.counted.are
 
   pub runs_counted : (from to : ℕ) (cs : List Caller) (ts us : List Tallied) (ns : List ℕ) → to ≤ s.size / w.plan.size
       → AreDone (Tallies w) more cs ts us → AreRuns w.plan s from ts to → SumsTo us (Ok ns)

@@ -1,6 +1,5 @@
 -- Each word of each value that is listed was read, where nobody else writes the segment.
-use Rattle.std.proofs.Common.{◌≡◌, ℕ, zero, suc, ◌+◌, ◌-◌, ◌*◌, ◌/◌, ◌%◌, ◌≤◌, Some, List, [], ◌∷◌, ◌++◌, length, map, refl, sym, ap, ◌∙◌, subst, inl, inr, arith, Ok}
-use Rattle.std.specs.Prelude.{◌⊎◌}
+use Rattle.std.proofs.Common.{◌≡◌, ℕ, ◌+◌, ◌-◌, ◌*◌, ◌/◌, ◌%◌, ◌≤◌, Some, List, [], ◌∷◌, ◌++◌, length, map, refl, sym, ap, ◌∙◌, subst, inl, inr, arith, Ok}
 use Rattle.std.specs.List.{range_with_len, slice_get}
 use Rattle.std.proofs.Math.Nat.{mul-div_cancel, mul-mod_left, zero-div}
 use Rattle.fm_bytes.specs.Words.{byte_at}
@@ -27,36 +26,10 @@ use Rattle.fm_workers.specs.Crew.{AreDone}
 use Rattle.fm_workers.specs.Parts.{AreRuns}
 use Rattle.fm_workers.specs.Query.{IsReadByCrew}
 use Rattle.fm_workers.specs.Tallies.{CountsPart, DoesTallyPart, SumsTo, Tallied, Tallies, Tallying}
+use Rattle.fm_records.proofs.Behind.{get_split, length-pieces, less_times}
 use Rattle.fm_workers.proofs.Asked.{piece}
 use Rattle.fm_workers.proofs.Counted.{bytes_of_runs, spared_part}
 use Rattle.fm_workers.proofs.Runs.{run_ends, run_fits, runs_order}
-
--- ---- records of two runs
-
-record StandsBehind {X : Type 0} (xs ys : List X) (i : ℕ) (x : X) : Type 0 where
-  past : length xs ≤ i
-  stands : slice_get ys (i - length xs) ≡ Some x
-
-get_split : {X : Type 0} (xs ys : List X) (i : ℕ) (x : X) → slice_get (xs ++ ys) i ≡ Some x → (slice_get xs i ≡ Some x) ⊎ StandsBehind xs ys i x
-get_split [] ys i x h = let e : i ≡ i - 0 = omega arith in inr (record { past = omega arith; stands = ap (slice_get ys) (sym e) ∙ h })
-get_split (y ∷ xs) ys zero x h = inl h
-get_split (y ∷ xs) ys (suc i) x h = elim (get_split xs ys i x h) [
-  | inl a ↦ inl a
-  | inr b ↦
-      let past = b.past in
-      let e : suc i - suc (length xs) ≡ i - length xs = omega arith in
-      inr (record { past = omega arith; stands = ap (slice_get ys) e ∙ b.stands })
-]
-
-length-pieces : (count size : ℕ) (bytes : List ℕ) → length (pieces count size bytes) ≡ count
-length-pieces zero size bytes = refl
-length-pieces (suc count) size bytes = ap suc (length-pieces count size _)
-
-less_times : (i k n : ℕ) → k ≤ i → (i - k) * n + k * n ≡ i * n
-less_times i k n h = let e : i - k + k ≡ i = omega (arith, h) in times_sum (i - k) k n ∙ ap (λ m. m * n) e
-  where
-    times_sum : (j k n : ℕ) → j * n + k * n ≡ (j + k) * n
-    times_sum j k n = grind arith
 
 -- What is asked for of bytes is asked for of those in which the record stands.
 asked_of : (p : Plan) (all part : List ℕ) (i j : ℕ) (r : Resolution) (is : List ℕ) → (h : IsAsked p all i r is)
@@ -83,8 +56,8 @@ module _ (limit : ℕ) (now : State) (w : Tallying) (s : Region) (more : List En
   part_read c region ns index r is word mine h asks at =
       let all = subst (FindAs region (bytes_at_places now region)) h.parts (spared_found limit now more region c mine) in
       let finds = (all_split (FindsAs region (bytes_at_places now region)) h.reads h.adds all).0 in
-      let x = asked_is_read c w.plan region (bytes_at_places now region) h.found h.reads index r is word
-      (record { plan = plan; size = length-places now region; finds = finds; does = h.did }) asks at in
+      let x = asked_is_read c w.plan region (bytes_at_places now region) h.counted.found h.reads index r is word
+      (record { plan = plan; size = length-places now region; finds = finds; does = h.counted.did }) asks at in
       subst (λ (es : List Entry). HasRead c region.arena word es) (sym h.parts)
       (record { found = x.found; among = among_left _ h.reads h.adds x.among })
 

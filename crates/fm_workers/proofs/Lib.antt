@@ -2,6 +2,7 @@ pub mod Added
 pub mod Increments
 pub mod Asked
 pub mod Counted
+pub mod ByRuns
 pub mod Numbers
 pub mod Covered
 pub mod Drawing

@@ -1,5 +1,5 @@
 -- How often numbers come, counted one by one.
-use Rattle.std.proofs.Common.{◌≡◌, ◌≢◌, ℕ, zero, suc, take, ◌+◌, ◌-◌, ◌<◌, ◌≤◌, ◌==◌, Bool, true, false, if◌then◌else◌, List, [], ◌∷◌, ◌++◌, length, slice_index, slice_set, refl, sym, ap, ◌∙◌, subst, arith, nat_lt, replicate}
+use Rattle.std.proofs.Common.{◌≡◌, ◌≢◌, ℕ, zero, suc, take, ◌+◌, ◌-◌, ◌<◌, ◌≤◌, ◌==◌, Bool, true, false, if◌then◌else◌, List, [], ◌∷◌, ◌++◌, length, slice_index, slice_set, refl, sym, ap, ◌∙◌, subst, append_assoc, arith, nat_lt, replicate}
 use Rattle.std.specs.Prelude.{ℤ, pos, negsuc, slice_index_or}
 use Rattle.std.specs.Ordering.{int_eq}
 use Rattle.std.proofs.Math.Seq.{take-suc}
@@ -130,9 +130,9 @@ length_take (suc i) [] = omega arith
 length_take (suc i) (x ∷ xs) = let h = length_take i xs in omega (arith, h)
 
 -- The next is counted too.
-pub taken_more : (ns : List ℤ) (i : ℕ) (x : ℤ) (items : List ℕ) → i < length ns → x ≡ slice_index_or ns i (pos 0) → AreCounts (take i ns ++ x ∷ []) items
-    → AreCounts (take (i + 1) ns) items
-taken_more ns i x items below is h =
+pub taken_more : (before ns : List ℤ) (i : ℕ) (x : ℤ) (items : List ℕ) → i < length ns → x ≡ slice_index_or ns i (pos 0)
+    → AreCounts ((before ++ take i ns) ++ x ∷ []) items → AreCounts (before ++ take (i + 1) ns) items
+taken_more before ns i x items below is h =
     let next : i + 1 ≡ suc i = omega arith in
-    subst (λ (ms : List ℤ). AreCounts ms items)
-    (ap (λ y. take i ns ++ y ∷ []) is ∙ sym (take-suc ns i (pos 0) below) ∙ ap (λ j. take j ns) (sym next)) h
+    let more = ap (λ y. take i ns ++ y ∷ []) is ∙ sym (take-suc ns i (pos 0) below) ∙ ap (λ j. take j ns) (sym next) in
+    subst (λ (ms : List ℤ). AreCounts ms items) (append_assoc before (take i ns) (x ∷ []) ∙ ap (λ ms. before ++ ms) more) h

@@ -66,6 +66,7 @@ queried_none v p s threads r early known ends = record {
   lasts = lasts_none v;
   known = known;
   sound = tt;
+  still_sound = λ h. h;
 }
 
 -- No task was begun.
@@ -84,6 +85,7 @@ queried_refused {s = s} NoPass w count shared known = record {
   lasts = w.lasts;
   known = known_later w.lasts known;
   sound = tt;
+  still_sound = w.still_sound;
 }
 queried_refused {s = s} Memory w count shared known = record {
   crew = w.crew;
@@ -98,6 +100,7 @@ queried_refused {s = s} Memory w count shared known = record {
   lasts = w.lasts;
   known = known_later w.lasts known;
   sound = tt;
+  still_sound = w.still_sound;
 }
 queried_refused r w count shared known = absurd w.ends
 
@@ -142,6 +145,7 @@ module _ {old new : View} {p : Plan} {s : Region} {threads : ℕ} {ts us : List 
     lasts = w.lasts;
     known = known_later w.lasts known;
     sound = tt;
+    still_sound = w.still_sound;
   }
   queried (Ok a) comes few runs =
       let by = subst (λ (r : Region). AnsweredBy p r (callers w.crew.crew) w.crew.more a) (whole_piece p s shared.even)
@@ -165,6 +169,7 @@ module _ {old new : View} {p : Plan} {s : Region} {threads : ℕ} {ts us : List 
         lasts = w.lasts;
         known = known_later w.lasts known;
         sound = sound;
+        still_sound = w.still_sound;
       }
 
 -- Whole records of an arena that isn't confined.

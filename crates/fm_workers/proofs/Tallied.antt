@@ -110,6 +110,7 @@ tallied_none v p s counts threads r first known counts_known ends = record {
   known = known;
   counts_known = counts_known;
   sound = tt;
+  still_sound = λ h. h;
 }
 
 -- No task was begun.
@@ -130,6 +131,7 @@ tallied_refused {w = k} {s = s} NoPass w count can known counts_known = record {
   known = known_later w.lasts known;
   counts_known = known_later w.lasts counts_known;
   sound = tt;
+  still_sound = w.still_sound;
 }
 tallied_refused {w = k} {s = s} Memory w count can known counts_known = record {
   crew = w.crew;
@@ -145,6 +147,7 @@ tallied_refused {w = k} {s = s} Memory w count can known counts_known = record {
   known = known_later w.lasts known;
   counts_known = known_later w.lasts counts_known;
   sound = tt;
+  still_sound = w.still_sound;
 }
 tallied_refused r w count can known counts_known = absurd w.ends
 
@@ -217,8 +220,7 @@ module _ {old new : View} {k : Tallying} {s : Region} {threads : ℕ} {ts us : L
       subst (λ (x : Refusal). EndsTally old new k.plan s k.counts w.crew.more w.crew.crew w.crew.draws (Err x)) (sym f.0) (can, f.1)
 
   stopped : (e : Refusal) → SumsTo us (Err e) → IsStop e s k.counts (callers w.crew.crew) w.crew.more
-  stopped e sums = crew_stops k s 0 (s.size / k.plan.size) w.crew.more (callers w.crew.crew) ts us e (omega arith)
-      (λ c is. absurd (can.shared is)) done cut sums
+  stopped e sums = crew_stops k s 0 (s.size / k.plan.size) w.crew.more (callers w.crew.crew) ts us e (omega arith) done cut sums
 
   -- All were asked.
   pub tallied : (r : Result (List ℕ) Refusal) → SumsTo us r → TalliedWith threads old new k.plan s k.counts r
@@ -236,6 +238,7 @@ module _ {old new : View} {k : Tallying} {s : Region} {threads : ℕ} {ts us : L
     known = known_later w.lasts known;
     counts_known = known_later w.lasts counts_known;
     sound = tt;
+    still_sound = w.still_sound;
   }
   tallied (Ok ns) sums = record {
     crew = w.crew;
@@ -251,6 +254,7 @@ module _ {old new : View} {k : Tallying} {s : Region} {threads : ℕ} {ts us : L
     known = known_later w.lasts known;
     counts_known = known_later w.lasts counts_known;
     sound = is_sound;
+    still_sound = w.still_sound;
   }
 
 -- What the tests found.

@@ -1,25 +1,23 @@
 -- What the passes of a tally did.
-use Rattle.std.proofs.Common.{◌≡◌, ℕ, ◌-◌, ◌/◌, ◌%◌, ◌<◌, ◌≤◌, List, [], ◌∷◌, ◌++◌, length, refl, sym, ap, ◌∙◌, subst, arith, append_assoc, inl, inr, ⊎_elim, Result, Ok, Err}
+use Rattle.std.proofs.Common.{◌≡◌, ℕ, ◌/◌, ◌<◌, ◌≤◌, List, [], ◌∷◌, ◌++◌, length, refl, sym, ap, ◌∙◌, subst, arith, append_assoc, inl, inr, ⊎_elim, Result, Ok, Err}
 use Rattle.std.specs.Prelude.{◌⊎◌}
 use Rattle.std.specs.List.{AllByRecursion}
-use Rattle.std.proofs.Math.Nat.{mul-mod_left}
 use Rattle.std.proofs.lemmas.List.{append-nil}
 use Rattle.fm_base.specs.declared.caller.Caller.{Caller}
 use Rattle.fm_base.specs.declared.refusal.Refusal.{Refusal}
 use Rattle.fm_base.specs.declared.refusal.Refusal.TheVariants.{Closed, Memory}
-use Rattle.fm_base.specs.Arenas.{MayUse}
 use Rattle.fm_base.specs.Calls.{Entry}
 use Rattle.fm_base.specs.Histories.{made_by}
 use Rattle.fm_base.specs.Visits.{refused_visit}
 use Rattle.fm_segment.specs.Region.{Region}
 use Rattle.fm_query.specs.Plan.{Plan}
-use Rattle.fm_records.specs.Reads.{IsWordOf, StopsReading}
+use Rattle.fm_records.specs.Reads.{IsWordOf}
 use Rattle.fm_workers.specs.Adding.{AddsAt, AddsBelow, DoesAdd, HasCounts, adds, count_word, none_yet, nothing, one_more}
 use Rattle.fm_workers.specs.Crew.{AreDone}
 use Rattle.fm_workers.specs.Parts.{AreRuns}
-use Rattle.fm_workers.specs.Tallies.{CountsPart, DoesTallyPart, StopsPart, SumsTo, Tallied, Tallies, Tallying, unadded, unread}
+use Rattle.fm_workers.specs.Tallies.{CountsPart, DoesCount, DoesTallyPart, StopsPart, SumsTo, Tallied, Tallies, Tallying, unadded, uncounted}
 use Rattle.fm_workers.specs.Tally.{FoundEitherClosed, OnlyAddsTo, OnlyTallies, closed, no_more, one_add}
-use Rattle.fm_workers.proofs.Asked.{IsWithin, no_reads, query_reads, run_within, stopped_by}
+use Rattle.fm_workers.proofs.Asked.{IsWithin, no_reads, query_reads, run_within, stops_count}
 use Rattle.fm_workers.proofs.Runs.{runs_order}
 
 pub tasks_count : {T : Type 0} (Does : Caller → T → T → List Entry → Type 0) (more : List Entry) (cs : List Caller) (ts us : List T)
@@ -63,17 +61,17 @@ counts_tallies c p part s counts ns end own w longs h = record {
   reads = h.reads;
   adds = h.adds;
   parts = h.parts;
-  are_reads = query_reads c p part s (Ok h.found) h.reads w h.did;
+  are_reads = query_reads c p part s (Ok h.counted.found) h.reads w h.counted.did;
   are_adds = add_adds c counts ns end h.adds longs h.added;
 }
 
 stops_tallies : (c : Caller) (p : Plan) (part s counts : Region) (r : Refusal) (own : List Entry) → IsWithin part s → HasCounts counts
     → StopsPart c p part counts r own → OnlyTallies s counts c own
-stops_tallies c p part s counts r own w longs (unread d) = record {
+stops_tallies c p part s counts r own w longs (uncounted d) = record {
   reads = own;
   adds = [];
   parts = sym (append-nil own);
-  are_reads = query_reads c p part s (Err r) own w d;
+  are_reads = stops_count c p part s r own w d;
   are_adds = no_more;
 }
 stops_tallies c p part s counts r own w longs (unadded ns h) = counts_tallies c p part s counts ns (Err r) own w longs h
@@ -115,30 +113,30 @@ add_stopped c counts ns r more reads own parts d = absurd d
 abbrev pub IsStop : Refusal → Region → Region → List Caller → List Entry → Type 0
 IsStop r s counts cs more = (r ≡ Memory) ⊎ ((r ≡ Closed) × FoundEitherClosed s counts cs more)
 
-part_stopped : (c : Caller) (p : Plan) (part s counts : Region) (r : Refusal) (cs : List Caller) (more : List Entry) → part.size % p.size ≡ 0
-    → MayUse part.arena c → part.arena ≡ s.arena → StopsPart c p part counts r (made_by c more) → IsStop r s counts (c ∷ cs) more
-part_stopped c p part s counts r cs more even may same (unread d) =
-    ⊎_elim (λ m. inl m)
-    (λ (f : (r ≡ Closed) × StopsReading c part (made_by c more)).
-    inr (f.0, record { caller = c; among = inl refl; arena = part.arena; either = inl same; before = f.1.before; last = f.1.stops }))
-    (stopped_by c p part r (made_by c more) even may d)
-part_stopped c p part s counts r cs more even may same (unadded ns h) =
+count_stopped : (c : Caller) (p : Plan) (part s counts : Region) (r : Refusal) (cs : List Caller) (more : List Entry) → part.arena ≡ s.arena
+    → DoesCount c p part (Err r) (made_by c more) → IsStop r s counts (c ∷ cs) more
+count_stopped c p part s counts Closed cs more same d =
+    inr (refl, record { caller = c; among = inl refl; arena = part.arena; either = inl same; before = d.before; last = d.stops })
+count_stopped c p part s counts Memory cs more same d = inl refl
+count_stopped c p part s counts r cs more same d = absurd d
+
+part_stopped : (c : Caller) (p : Plan) (part s counts : Region) (r : Refusal) (cs : List Caller) (more : List Entry) → part.arena ≡ s.arena
+    → StopsPart c p part counts r (made_by c more) → IsStop r s counts (c ∷ cs) more
+part_stopped c p part s counts r cs more same (uncounted d) = count_stopped c p part s counts r cs more same d
+part_stopped c p part s counts r cs more same (unadded ns h) =
     let e = add_stopped c counts ns r h.adds h.reads (made_by c more) h.parts h.added in
     inr (e.0, record { caller = c; among = inl refl; arena = counts.arena; either = inr refl; before = e.1.0; last = e.1.1 })
 
 pub crew_stops : (w : Tallying) (s : Region) (from to : ℕ) (more : List Entry) (cs : List Caller) (ts us : List Tallied) (r : Refusal)
-    → to ≤ s.size / w.plan.size → ((c : Caller) → MayUse s.arena c) → AreDone (Tallies w) more cs ts us → AreRuns w.plan s from ts to
-    → SumsTo us (Err r) → IsStop r s w.counts cs more
-crew_stops w s from to more [] [] [] r within may d h e = absurd e
-crew_stops w s from to more (c ∷ cs) (t ∷ ts) (u ∷ us) r within may d h e =
+    → to ≤ s.size / w.plan.size → AreDone (Tallies w) more cs ts us → AreRuns w.plan s from ts to → SumsTo us (Err r) → IsStop r s w.counts cs more
+crew_stops w s from to more [] [] [] r within d h e = absurd e
+crew_stops w s from to more (c ∷ cs) (t ∷ ts) (u ∷ us) r within d h e =
     let x = run_within w.plan s from h.0 to t (runs_order w.plan s h.0 to ts h.2) within h.1 in
-    let even : t.region.size % w.plan.size ≡ 0 = ap (λ (q : Region). q.size % w.plan.size) h.1.region ∙ mul-mod_left (h.0 - from) w.plan.size in
-    let mine : MayUse t.region.arena c = subst (λ a. MayUse a c) (sym x.arena) (may c) in
     ⊎_elim
-    (λ (q : u.answer ≡ Err r). part_stopped c w.plan t.region s w.counts r cs more even mine x.arena
+    (λ (q : u.answer ≡ Err r). part_stopped c w.plan t.region s w.counts r cs more x.arena
     (subst (λ (y : Result (List ℕ) Refusal). DoesTallyPart c w.plan t.region w.counts y (made_by c more)) q d.0.did))
     (λ (q : (r ≡ Memory) ⊎ (e.behind ≡ Err r)). ⊎_elim (λ m. inl m)
-    (λ (b : e.behind ≡ Err r). later (crew_stops w s h.0 to more cs ts us r within may d.1 h.2 (subst (SumsTo us) b e.comes))) q)
+    (λ (b : e.behind ≡ Err r). later (crew_stops w s h.0 to more cs ts us r within d.1 h.2 (subst (SumsTo us) b e.comes))) q)
     e.part
   where
     later : IsStop r s w.counts cs more → IsStop r s w.counts (c ∷ cs) more
@@ -146,4 +144,4 @@ crew_stops w s from to more (c ∷ cs) (t ∷ ts) (u ∷ us) r within may d h e 
     later (inr f) =
         let x = f.1 in
         inr (f.0, record { caller = x.caller; among = inr x.among; arena = x.arena; either = x.either; before = x.before; last = x.last })
-crew_stops w s from to more cs ts us r within may d h e = absurd d
+crew_stops w s from to more cs ts us r within d h e = absurd d

@@ -154,6 +154,7 @@ module _ {T : Type 0} where
     wanting = λ w e. absurd (cc);
     lasts = lasts_none p;
     sound = λ ne. absurd (ne refl);
+    still_sound = λ h. h;
   }
 
   pub zip_worked : (Does : Caller → T → T → List Entry → Type 0) (ws us vs : List (Worker T)) → us ≡ ws → length vs ≡ length us
@@ -190,6 +191,7 @@ module _ {T : Type 0} (Does : Caller → T → T → List Entry → Type 0) {old
         wanting = λ w e. absurd (cc);
         lasts = lasts_by (reached_by (m.more ++ (g.more ++ l.asked.more)) (round_seen none m g l) (ap (λ (v : View). v.shape) (round_is none m g l)) l.sound);
         sound = λ ne. l.sound;
+        still_sound = λ h. l.sound;
       }
 
   -- A pass was wanting, and no task was begun.
@@ -220,5 +222,6 @@ module _ {T : Type 0} (Does : Caller → T → T → List Entry → Type 0) {old
             omega (arith, count, all, long, as_many, so_many, some);
         lasts = lasts_by (reached_by (m.more ++ (g.more ++ l.asked.more)) (round_seen none m g l) (ap (λ (v : View). v.shape) (round_is none m g l)) l.sound);
         sound = λ ne. l.sound;
+        still_sound = λ h. l.sound;
       }
   crew_refused ws r none d g l back = absurd d.ends

@@ -18,6 +18,9 @@ can_ask_later p v w t l c = record { known = known_later l c.known; aligned = c.
 
 pub can_tally_later : (w : Tallying) (v u : View) (t : Tallied) → Lasts v u → CanTally w v t → CanTally w u t
 can_tally_later w v u t l c = record {
+  tally = c.tally;
+  whole = c.whole;
+  open_to_all = c.open_to_all;
   ask = can_ask_later w.plan v u t l c.ask;
   known = known_later l c.known;
   shared = c.shared;

@@ -1,5 +1,5 @@
 -- How often each value of a byte comes among numbers.
-use Rattle.std.specs.Prelude.{◌≡◌, ℕ, ◌+◌, ◌-◌, ◌^◌, ◌<◌, nat_lt, if◌then◌else◌, List, [], ◌∷◌, length, slice_index, ℤ, pos, negsuc, ⊤}
+use Rattle.std.specs.Prelude.{◌≡◌, ℕ, ◌+◌, ◌-◌, ◌^◌, ◌<◌, nat_lt, if◌then◌else◌, List, [], ◌∷◌, ◌++◌, length, slice_index, ℤ, pos, negsuc, ⊤}
 use Rattle.std.specs.Ordering.{int_eq}
 use Rattle.fm_lanes.specs.declared.value_kind.ValueKind.{ValueKind}
 use Rattle.fm_lanes.specs.declared.value_kind.ValueKind.TheVariants as kind
@@ -24,6 +24,16 @@ number_of k = if nat_lt k 128 then pos k else negsuc (255 - k)
 pub record AreCounts (ns : List ℤ) (counts : List ℕ) : Type 0 where
   pub all : length counts ≡ 256
   pub each : (k : ℕ) → k < 256 → slice_index counts k ≡ how_many (number_of k) ns
+
+-- these are the counts of some numbers, and so many more can be counted
+pub record HasRoomFor (more : List ℤ) (counts : List ℕ) : Type 0 where
+  pub before : List ℤ
+  pub are : AreCounts before counts
+  pub few : length before + length more < 2 ^ 64
+
+-- whatever was counted before, these were counted too
+abbrev pub CountsToo : List ℤ → List ℕ → List ℕ → Type 0
+CountsToo more old new = (ns : List ℤ) → AreCounts ns old → AreCounts (ns ++ more) new
 
 -- each count is the sum of both, within 64 bits
 pub record AreSums (xs ys counts : List ℕ) : Type 0 where

@@ -84,3 +84,4 @@ pub record CrewWorked {T : Type 0} (Does : Caller → T → T → List Entry →
   pub wanting : IsWhole old → result ≡ Err NoPass → old.shape.passes < length old.gathered + (1 + length tasks)
   pub lasts : Lasts old new
   pub sound : result ≢ Err Memory → IsSound new
+  pub still_sound : IsSound old → IsSound new

@@ -114,3 +114,4 @@ pub record QueriedWith (threads : ℕ) (old new : View) (p : Plan) (s : Region) 
   pub lasts : Lasts old new
   pub known : IsKnown (view_of_pass new) s
   pub sound : IfOk result (λ _. IsSound new)
+  pub still_sound : IsSound old → IsSound new

@@ -1,9 +1,10 @@
 -- What a pass does that counts the numbers of a part, and what the parts' counts come to.
-use Rattle.std.specs.Prelude.{◌≡◌, ◌≢◌, ◌⊎◌, ℕ, List, [], ◌∷◌, ◌++◌, Result, Ok, Err}
+use Rattle.std.specs.Prelude.{◌≡◌, ◌≢◌, ◌⊎◌, ◌%◌, ℕ, List, [], ◌∷◌, ◌++◌, Result, Ok, Err}
 use Rattle.fm_base.specs.declared.caller.Caller.{Caller}
 use Rattle.fm_base.specs.declared.refusal.Refusal.{Refusal}
 use Rattle.fm_base.specs.declared.kind.Kind.TheVariants.{Confined}
-use Rattle.fm_base.specs.declared.refusal.Refusal.TheVariants.{Memory}
+use Rattle.fm_base.specs.declared.refusal.Refusal.TheVariants.{Closed, Memory}
+use Rattle.fm_base.specs.Arenas.{MayUse}
 use Rattle.fm_base.specs.Calls.{Entry}
 use Rattle.fm_base.specs.View as memory
 use Rattle.fm_pool_facts.specs.Views.{View}
@@ -12,33 +13,50 @@ use Rattle.fm_segment.specs.Access.{IsKnown}
 use Rattle.fm_segment.specs.Region.{Region}
 use Rattle.fm_query.specs.Plan.{Plan}
 use Rattle.fm_records.specs.declared.found.Found.{Found}
-use Rattle.fm_records.specs.Few.{AreFew}
 use Rattle.fm_records.specs.Learnt.{CanQuery}
 use Rattle.fm_records.specs.Query.{DoesQuery}
+use Rattle.fm_records.specs.Reads.{AreReads, StopsReading}
 use Rattle.fm_workers.specs.declared.part.Part.{Part}
 use Rattle.fm_workers.specs.Parts.{CanAsk}
 use Rattle.fm_workers.specs.Adding.{CanAdd, DoesAdd, HasCounts}
-use Rattle.fm_workers.specs.Counts.{AreCounts, AreSums, listed}
+use Rattle.fm_workers.specs.Counts.{AreCounts, AreSums, IsTally, listed}
 
--- the part's numbers can be asked for, and counts added
+-- the query lists bytes, and can be asked of whole records that the caller may use
+pub record CanCount (v : memory.View) (p : Plan) (region : Region) : Type 0 where
+  pub tally : IsTally p
+  pub query : CanQuery v p region
+  pub whole : region.size % p.size ≡ 0
+  pub may : MayUse region.arena v.caller
+
+-- the numbers that the query lists were counted
+pub record CountsAll (c : Caller) (p : Plan) (region : Region) (ns : List ℕ) (own : List Entry) : Type 0 where
+  pub found : List Found
+  pub did : DoesQuery c p region (Ok found) own
+  pub are : AreCounts (listed found) ns
+
+-- or the arena was found closed; or memory was wanting
+abbrev pub DoesCount : Caller → Plan → Region → Result (List ℕ) Refusal → List Entry → Type 0
+DoesCount c p region (Ok ns) own = CountsAll c p region ns own
+DoesCount c p region (Err Closed) own = StopsReading c region own
+DoesCount c p region (Err Memory) own = AreReads c region own
+DoesCount c p region (Err r) own = ⊥
+
+-- the part's numbers can be counted, and counts added
 pub record CanTallyPart (v : memory.View) (p : Plan) (region counts : Region) : Type 0 where
-  pub ask : CanQuery v p region
+  pub count : CanCount v p region
   pub add : CanAdd v counts
 
--- the numbers were listed first, and then it was added how often each comes
+-- the numbers were counted first, and then it was added how often each comes
 pub record CountsPart (c : Caller) (p : Plan) (region counts : Region) (ns : List ℕ) (end : Result (Unit {0}) Refusal) (own : List Entry) : Type 0 where
-  pub found : List Found
   pub reads : List Entry
   pub adds : List Entry
   pub parts : own ≡ reads ++ adds
-  pub did : DoesQuery c p region (Ok found) reads
-  pub few : AreFew region.size p found
-  pub are : AreCounts (listed found) ns
+  pub counted : CountsAll c p region ns reads
   pub added : DoesAdd c counts ns end adds
 
--- no numbers were listed, or the counts' arena was found closed
+-- not all numbers were counted, or the counts' arena was found closed
 pub data StopsPart (c : Caller) (p : Plan) (region counts : Region) (r : Refusal) (own : List Entry) : Type 0 where
-  unread : DoesQuery c p region (Err r) own → StopsPart c p region counts r own
+  uncounted : DoesCount c p region (Err r) own → StopsPart c p region counts r own
   unadded : (ns : List ℕ) → CountsPart c p region counts ns (Err r) own → StopsPart c p region counts r own
 
 abbrev pub DoesTallyPart : Caller → Plan → Region → Region → Result (List ℕ) Refusal → List Entry → Type 0
@@ -56,7 +74,10 @@ abbrev pub Tallied : Type 0
 Tallied = Part (List ℕ)
 
 pub record CanTally (w : Tallying) (v : View) (t : Tallied) : Type 0 where
+  pub tally : IsTally w.plan
   pub ask : CanAsk w.plan v t
+  pub whole : t.region.size % w.plan.size ≡ 0
+  pub open_to_all : t.region.arena.kind ≢ Confined
   pub known : IsKnown (view_of_pass v) w.counts
   pub shared : w.counts.arena.kind ≢ Confined
   pub longs : HasCounts w.counts

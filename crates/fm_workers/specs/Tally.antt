@@ -134,3 +134,4 @@ pub record TalliedWith (threads : ℕ) (old new : View) (p : Plan) (s counts : R
   pub known : IsKnown (view_of_pass new) s
   pub counts_known : IsKnown (view_of_pass new) counts
   pub sound : IfOk result (λ _. IsSound new)
+  pub still_sound : IsSound old → IsSound new

@@ -1,8 +1,7 @@
-ghost use Rattle.std.specs.Prelude.{◌≡◌, ◌≢◌, ◌<◌, ◌-◌, ◌^◌, ◌++◌, ◌∷◌, ℕ, ℤ, List, [], slice_index, sum, None, IfSome, IfOk, IfErr};
-ghost use Rattle.fm_workers.specs.Counts.{AreCounts, AreSums, number_of};
+ghost use Rattle.std.specs.Prelude.{◌≡◌, ◌≢◌, ◌<◌, ◌-◌, ◌^◌, ◌∷◌, ℕ, [], slice_index, sum, None, IfSome, IfOk, IfErr};
+ghost use Rattle.fm_workers.specs.Counts.{AreCounts, AreSums, CountsToo, number_of};
 
 use fm_base::Refusal;
-use fm_records::Numbers;
 use std::marker::Model;
 
 /// How often each value of a byte comes, as 256 numbers.
@@ -29,21 +28,10 @@ impl Counts {
         Counts { items: [0; 256] }
     }
 
-    /// Those of these numbers.
-    pub(crate) fn of(numbers: &Numbers) -> Counts
-        ensures { AreCounts numbers.now result }
-    {
-        let mut counts = Counts::none();
-        for i in 0..numbers.len() {
-            counts.count(numbers.at(i));
-        }
-        counts
-    }
-
     /// Counts one number more, if it is one of a byte.
-    fn count(&mut self, number: i64)
+    pub(crate) fn count(&mut self, number: i64)
         requires { (place : ℕ) → place < 256 → slice_index self.old place < 2 ^ 64 - 1 }
-        ensures { (ns : List ℤ) → AreCounts ns self.old → AreCounts (ns ++ number ∷ []) self.new }
+        ensures { CountsToo (number ∷ []) self.old self.new }
     {
         let Some(place) = place_of(number) else {
             return;

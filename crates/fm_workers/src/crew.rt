@@ -35,6 +35,7 @@ fn draw_crew<'a, R: Wait, T>(
             Ok(drawn) => crew.push_reserved(Worker {
                 memory: Shared::new(pool, drawn),
                 task,
+                gap: [0; 16],
             }),
             Err(refusal) => {
                 tasks.push_reserved(task);
@@ -55,7 +56,11 @@ fn gather_crew<T>(pool: &Pool, pass: &mut Pass, mut crew: Vec<Worker<T>>, tasks:
     ensures tasks { tasks.new.items ≡ tasks.old.items ++ tasks_of crew.entry.items }
 {
     while let Some(worker) = crew.pop() {
-        let Worker { memory, task } = worker;
+        let Worker {
+            memory,
+            task,
+            gap: _,
+        } = worker;
         pool.gather(pass, memory.into_pass());
         tasks.push_reserved(task);
     }

@@ -22,5 +22,5 @@ pub use crew::work_crew;
 pub use part::Part;
 pub use printing::print_counts;
 pub use query::query_with;
-pub use tally::tally_with;
+pub use tally::{is_tally, tally_with};
 pub use work::Work;

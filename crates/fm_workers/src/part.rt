@@ -1,5 +1,4 @@
-ghost use Rattle.std.specs.Prelude.{◌≡◌, ◌+◌, ◌*◌, ◌%◌, ◌≤◌};
-ghost use Rattle.fm_segment.specs.Region.{part_of};
+ghost use Rattle.std.specs.Prelude.{◌≡◌};
 
 use fm_base::Refusal;
 use fm_segment::Segment;
@@ -13,14 +12,10 @@ pub struct Part<A> {
 }
 
 impl<A> Part<A> {
-    /// So many bytes of the segment from an offset on, which it has.
-    pub(crate) fn of(s: &Segment, offset: u64, size: u64) -> Part<A>
-        requires { offset + size ≤ s.now.size }
-        ensures { result.region ≡ part_of offset size s.now }
+    /// These records, which no pass has answered yet.
+    pub(crate) fn of(region: Segment) -> Part<A>
+        ensures { result.region ≡ region }
     {
-        let Ok(region) = s.as_slice(offset, size) else {
-            unreachable!()
-        };
         Part {
             region,
             answer: Err(Refusal::NoPass),

@@ -107,7 +107,7 @@ pub fn tally_with<R: Threads + Wait + Sync, G: Gate>(
 }
 
 /// Whether the query lists the values of one path alone, which are bytes or booleans.
-fn is_tally(q: &Query) -> bool
+pub fn is_tally(q: &Query) -> bool
     ensures { MatchBool result (IsTally q.now) (¬ (IsTally q.now)) }
 {
     match q.items() {

@@ -1,4 +1,4 @@
-use Rattle.std.proofs.Common.{rules, ◌≡◌, ◌++◌, List, refl, sym, ap, ◌∙◌, subst}
+use Rattle.std.proofs.Common.{rules, ◌≡◌, ◌++◌, List, refl, replicate, sym, ap, ◌∙◌, subst}
 use Rattle.std.proofs.lemmas.List.{append-nil}
 use Rattle.fm_rule.specs.Draws.{Drawn}
 use Rattle.fm_workers.specs.declared.worker.Worker.{Worker}
@@ -22,7 +22,7 @@ loop-task-init g c =
 pub loop-task-preserved : goal.loop-task-preserved
 loop-task-preserved g c =
     let i = c.loop-task.invariant in
-    let w : Worker g.row.T.Denot = record { memory = c.new.result; task = c.in-Some.task } in
+    let w : Worker g.row.T.Denot = record { memory = c.new.result; task = c.in-Some.task; gap = replicate 16 0 } in
     record {
       drew = drew_more {vs = c.push_reserved.new.self.items} w c.requires.outside.no_number i.drew c.push_reserved.ensures.items
           (subst (λ d. Drawn c.loop-task.pass c.draw.new.giver d) (sym c.new.ensures) c.in-Ok.ensures.drawn);

@@ -50,10 +50,13 @@ returns-in-Err-clause-tallied g c =
 pub work_crew-requires-clause-can : goal.work_crew-requires-clause-can
 work_crew-requires-clause-can g c κs within =
     let w : Tallying = record { plan = c.args.q.now; counts = c.args.counts.now } in
+    let anyone : ¬ (c.args.s.now.arena.kind ≡ Confined) =
+    (λ q. c.is_confined.ensures.no c.if-is_confined.false (ap (λ (a : ArenaId). a.kind) c.arena.ensures ∙ q)) in
     let apart : ¬ (c.args.counts.now.arena.kind ≡ Confined) =
     (λ q. c.is_confined-2.ensures.no c.if-is_confined-2.false (ap (λ (a : ArenaId). a.kind) c.arena-2.ensures ∙ q)) in
     All-from_recursion (CanTally w c.args.pass.now) c.in-Ok.parts.items
-    (can_tally_all w c.args.pass.now c.in-Ok.parts.items c.requires.known apart c.requires.longs
+    (can_tally_all w c.args.pass.now c.args.s.now 0 (c.args.s.now.size / c.args.q.now.size) c.in-Ok.parts.items c.if-not-is_tally.ensures c.requires.known
+    anyone apart c.requires.longs c.in-Ok.ensures.cut
     (can_ask_runs c.args.q.now c.args.pass.now c.args.s.now 0 (c.args.s.now.size / c.args.q.now.size) c.in-Ok.parts.items c.record_size.ensures.plan
     c.requires.query.known c.requires.query.aligned (omega arith) c.in-Ok.ensures.cut))
 
