@@ -17,10 +17,12 @@ use Rattle.fm_arena.specs.Learnt.{CanUnhold}
 use Rattle.fm_segment.specs.Access as segment
 use Rattle.fm_pool_facts.specs.Views.{View, IsKnown}
 use Rattle.fm_calls.specs.Told.{view_of_pass}
+use Rattle.fm_run.specs.declared.lent.Lent.{Lent}
+use Rattle.fm_run.specs.declared.lent.Lent.TheVariants as other
 use Rattle.fm_run.specs.declared.standing.Standing.{Standing}
 use Rattle.fm_run.specs.declared.standing.Standing.TheVariants as standing
 use Rattle.fm_run.specs.declared.standing.Standing.TheVariants.{Nothing, Arena, Segment, Hold, Handle}
-use Rattle.fm_run.specs.Standings.{IsBacked, standing_at, standing_of, arena_of, segment_of, hold_of, handle_of, lent, unheld, handed_back}
+use Rattle.fm_run.specs.Standings.{IsBacked, standing_at, standing_of, arena_of, segment_of, hold_of, handle_of, lent, unheld, handed_back, standing_as}
 use Rattle.fm_run.specs.Tokens.{Backs, HasTokens, among, onto, holds_with, handles_with}
 use Rattle.fm_run.proofs.Naming.{unheld-hold, unheld-handle, handed-hold, handed-handle, owned, lent-handle, standing-others, standing-between, standing-own}
 use Rattle.fm_run.proofs.Counting.{among_push, among_set, how_many_onto, token_in, token_more, token_less}
@@ -110,6 +112,15 @@ module _ (p q : View) {holds handles : List ArenaId} {base own : List Standing} 
   own_later : All (IsBacked q) own
   own_later = All-weaker (IsBacked p) (IsBacked q) (λ s h. backed_later p q l s h) own b.own_known
 
+  -- Nothing was taken and nothing given back.
+  pub backs_still : q.holds ≡ p.holds → q.handles ≡ p.handles → Backs q holds handles base own
+  backs_still hs ks = record {
+    others_known = others_later;
+    own_known = own_later;
+    has_holds = subst (λ (xs : List ArenaId). HasTokens xs (among hold_of own) holds) (sym hs) b.has_holds;
+    has_handles = subst (λ (xs : List ArenaId). HasTokens xs (among handle_of own) handles) (sym ks) b.has_handles;
+  }
+
   -- A line's name more.
   pub backs_more : (made : Standing) → q.holds ≡ holds_with made p.holds → q.handles ≡ handles_with made p.handles → IsBacked q made
       → Backs q holds handles base (own ++ made ∷ [])
@@ -148,6 +159,16 @@ module _ (p q : View) {holds handles : List ArenaId} {base own : List Standing} 
         has_handles = subst (λ (xs : List ArenaId). HasTokens xs (among handle_of (set own at (handed_back s))) handles) (sym ks)
             (tokens_less handle_of own at (handed_back s) a k was (handed-handle s) b.has_handles);
       }
+
+-- Another pass's name more.
+pub backs_lent : (p : View) {holds handles : List ArenaId} {base own : List Standing} (o : Lent) → Backs p holds handles base own
+    → IsBacked p (standing_as o) → Backs p holds handles base (own ++ standing_as o ∷ [])
+backs_lent p other.Nothing b known =
+    backs_more p p b (record { known = λ id k. k; given = λ id. omega arith; limit = refl; caller = refl }) Nothing refl refl known
+backs_lent p (other.Arena id) b known =
+    backs_more p p b (record { known = λ id k. k; given = λ id. omega arith; limit = refl; caller = refl }) (Arena id) refl refl known
+backs_lent p (other.Segment r) b known =
+    backs_more p p b (record { known = λ id k. k; given = λ id. omega arith; limit = refl; caller = refl }) (Segment r) refl refl known
 
 -- ---- what it lets the pass do
 

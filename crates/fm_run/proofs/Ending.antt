@@ -1,6 +1,6 @@
 -- A table's end: the names are gone one by one, with their holds and handles.
-use Rattle.std.proofs.Common.{◌≡◌, ◌+◌, ◌<◌, List, [], ◌∷◌, ◌++◌, length, length-append, get_or, refl, ap, sym, ◌∙◌, subst, arith, Option, Some, None, All}
-use Rattle.std.proofs.lemmas.List.{get_or_push, get_or_append_left}
+use Rattle.std.proofs.Common.{◌≡◌, ◌+◌, ◌<◌, List, [], ◌∷◌, ◌++◌, length, length-append, map, reverse, append_assoc, get_or, refl, ap, sym, ◌∙◌, subst, arith, Option, Some, None, All}
+use Rattle.std.proofs.lemmas.List.{append-nil, get_or_push, get_or_append_left, map-append, reverse-append, reverse-reverse}
 use Rattle.std.proofs.lemmas.List.Elements.{All-weaker}
 use Rattle.fm_base.specs.declared.arena_id.ArenaId.{ArenaId}
 use Rattle.fm_base.specs.Arenas.{same_id}
@@ -9,10 +9,11 @@ use Rattle.fm_base.proofs.Names.{same_id-self}
 use Rattle.fm_pool_facts.specs.Holds.{how_many, one_if}
 use Rattle.fm_pool_facts.specs.Views.{View}
 use Rattle.fm_calls.specs.Told.{view_of_pass}
+use Rattle.fm_run.specs.declared.lent.Lent.{Lent}
 use Rattle.fm_run.specs.declared.standing.Standing.{Standing}
 use Rattle.fm_run.specs.declared.standing.Standing.TheVariants as standing
 use Rattle.fm_run.specs.declared.standing.Standing.TheVariants.{Nothing, Arena, Segment, Hold, Handle}
-use Rattle.fm_run.specs.Standings.{IsBacked, hold_of, handle_of, lent}
+use Rattle.fm_run.specs.Standings.{IsBacked, hold_of, handle_of, lent, standing_as}
 use Rattle.fm_run.specs.Tokens.{Backs, CanSpend, HasTokens, among, onto, without}
 use Rattle.fm_run.proofs.Backing.{backed_later, can_unhold, has_handle}
 use Rattle.fm_run.proofs.Counting.{among_push, token_less}
@@ -97,3 +98,36 @@ pub backs_gone : (p : View) (holds handles : List ArenaId) (base own : List Stan
 backs_gone p holds handles base own b none =
     let c = subst (λ (xs : List Standing). Backs p holds handles base xs) none b in
     (tokens_gone c.has_holds, tokens_gone c.has_handles)
+
+-- What is left of a name more.
+pub others_popped : (others : List Lent) (x : Lent) (rest : List Standing) (s : Standing) → standing_as x ≡ lent s
+    → map standing_as (others ++ x ∷ []) ++ reverse (map lent rest) ≡ map standing_as others ++ reverse (map lent (rest ++ s ∷ []))
+others_popped others x rest s is =
+    let ends : reverse (map lent (rest ++ s ∷ [])) ≡ lent s ∷ reverse (map lent rest) =
+    ap (λ (xs : List Standing). reverse xs) (map-append lent rest (s ∷ [])) ∙ reverse-append (map lent rest) (lent s ∷ []) in
+    ap (λ (xs : List Standing). xs ++ reverse (map lent rest)) (map-append standing_as others (x ∷ []))
+    ∙ (append_assoc (map standing_as others) (standing_as x ∷ []) (reverse (map lent rest))
+    ∙ ap (λ (xs : List Standing). map standing_as others ++ xs) (ap (λ (y : Standing). y ∷ reverse (map lent rest)) is ∙ sym ends))
+
+-- What holds of all holds of all but the last, and of the last.
+pub all_popped : (P : Standing → Type 0) (rest : List Standing) (s : Standing) → All P (rest ++ s ∷ []) → All P rest × P s
+all_popped P rest s all =
+    let long = length-append rest (s ∷ []) in (
+      (λ k d l. subst P (get_or_append_left rest (s ∷ []) d k l) (all k d (omega (arith, long, l)))),
+      subst P (get_or_push rest s Nothing (length rest) refl) (all (length rest) Nothing (omega (arith, long))),
+    )
+
+map_reverse : {X Y : Type 0} (f : X → Y) (xs : List X) → map f (reverse xs) ≡ reverse (map f xs)
+map_reverse f [] = refl
+map_reverse {X} {Y} f (x ∷ xs) =
+    ap (λ (ys : List X). map f ys) (reverse-append (x ∷ []) xs)
+    ∙ (map-append f (reverse xs) (x ∷ [])
+    ∙ (ap (λ (ys : List Y). ys ++ f x ∷ []) (map_reverse f xs) ∙ sym (reverse-append (f x ∷ []) (map f xs))))
+
+-- All are there, the last first.
+pub turned : (others : List Lent) (own all : List Standing) → own ≡ []
+    → map standing_as others ++ reverse (map lent own) ≡ reverse (map lent all) → map standing_as (reverse others) ≡ map lent all
+turned others own all none is =
+    let gone : map standing_as others ≡ reverse (map lent all) = sym (append-nil (map standing_as others))
+    ∙ (ap (λ (xs : List Standing). map standing_as others ++ reverse (map lent xs)) (sym none) ∙ is) in
+    map_reverse standing_as others ∙ (ap (λ (xs : List Standing). reverse xs) gone ∙ reverse-reverse (map lent all))

@@ -15,7 +15,7 @@ use Rattle.fm_calls.specs.Kept.{KeptAs, rest_of}
 use Rattle.fm_calls.specs.Told.{view_of_pass, silent_view}
 use Rattle.fm_calls.proofs.Telling.{silent_makes}
 use Rattle.fm_arena.proofs.Lasting.{stays}
-use Rattle.fm_run.specs.Runs.{Went, RanWith, Ran}
+use Rattle.fm_run.specs.Runs.{Went, WentOn, RanWith, Ran}
 
 -- with these holds and handles
 abbrev with_tokens : List ArenaId → List ArenaId → Rest → Rest
@@ -121,4 +121,33 @@ went_then p q r es fs a b = record {
   same_caller = b.same_caller ∙ a.same_caller;
   same_shape = b.same_shape ∙ a.same_shape;
   rest = b.rest ∙ ap (with_tokens r.holds r.handles) a.rest;
+}
+
+-- ---- whatever its calls were
+
+pub lasts_then : (p q r : View) → Lasts (view_of_pass p) (view_of_pass q) → Lasts (view_of_pass q) (view_of_pass r) → Lasts (view_of_pass p) (view_of_pass r)
+lasts_then p q r a b = record {
+  known = λ id k. b.known id (a.known id k);
+  given = λ id. let x = a.given id in let y = b.given id in omega (arith, x, y);
+  limit = b.limit ∙ a.limit;
+  caller = b.caller ∙ a.caller;
+}
+
+pub went_on_none : (p : View) → p.inside ≡ None → WentOn p p
+went_on_none p outside = record {
+  run = [];
+  went = went_none p;
+  outside = outside;
+  lasts = record { known = λ id k. k; given = λ id. omega arith; limit = refl; caller = refl };
+}
+
+pub went_on_by : {p q : View} {holds handles : List ArenaId} {Does : List Entry → Type 0} → RanWith p q holds handles Does → WentOn p q
+went_on_by r = record { run = r.own; went = r.went; outside = r.outside; lasts = r.lasts }
+
+pub went_on_then : (p q r : View) → WentOn p q → WentOn q r → WentOn p r
+went_on_then p q r a b = record {
+  run = a.run ++ b.run;
+  went = went_then p q r a.run b.run a.went b.went;
+  outside = b.outside;
+  lasts = lasts_then p q r a.lasts b.lasts;
 }

@@ -5,6 +5,12 @@ pub mod Naming
 pub mod Backing
 pub mod Ending
 pub mod Settled
+pub mod Picking
 pub mod Numbering
 pub mod Rows
 pub mod Returning
+pub mod AdmittedNames
+pub mod AdmittedNumbers
+pub mod AdmittedMade
+pub mod AdmittedRuns
+pub mod AdmittedEnds

@@ -1,6 +1,6 @@
 -- The numbers kept are those of one line more.
 use Rattle.std.proofs.Common.{◌≡◌, refl, ap, ◌∙◌, ℕ, ◌+◌, Bool, true, false, if◌then◌else◌, Option, Some, None, List, [], ◌∷◌, ◌++◌, length, take, get_or, ◌<◌, arith, length-take}
-use Rattle.std.proofs.lemmas.List.{take_more}
+use Rattle.std.proofs.lemmas.List.{length-map, take_more}
 use Rattle.std.specs.BTreeMap as tree
 use Rattle.std.specs.BTreeMap.{BTreeMap}
 use Rattle.std.specs.Cmp.Lexicographic.{slice_cmp}
@@ -9,10 +9,13 @@ use Rattle.std.specs.Prelude.{String, string_bytes}
 use Rattle.std.specs.String.{string_cmp}
 use Rattle.std.specs.declared.alloc.Global.{Global}
 use Rattle.std.proofs.lemmas.Map.Text.{btree_map_updates_text}
+use Rattle.std.specs.Borrow.{Bor}
 use Rattle.fm_script.specs.declared.line.Line.{Line}
 use Rattle.fm_script.specs.declared.thing.Thing.{Thing}
 use Rattle.fm_script.specs.Rules.{Made, as_thing, made}
 use Rattle.fm_run.specs.Numbers.{is_made, number_from, unless}
+use Rattle.fm_run.specs.Ordering.{lines_at}
+use Rattle.fm_run.proofs.Picking.{lines_at-push}
 
 -- A map with one entry more has the number of its name, and the others' as before.
 pub number_more : (m n : BTreeMap (String Global) ℕ) (key : String Global) (number : ℕ) (thing : Thing) (name : List ℕ) (command : Option Made)
@@ -40,10 +43,14 @@ number_from-push k (e ∷ ls) l name =
     go false = refl
 
 -- So does the next of these lines.
-pub number_from-next : (ls : List Line) (k : ℕ) (l : Line) (name : List ℕ) → k < length ls → get_or ls k l ≡ l
-    → number_from 0 (take (k + 1) ls) name ≡ (if is_made name (made l.command) then Some k else number_from 0 (take k ls) name)
+pub number_from-next : (ls : List (Bor Line)) (k : ℕ) (l : Bor Line) (name : List ℕ) → k < length ls → get_or ls k l ≡ l
+    → number_from 0 (lines_at (take (k + 1) ls)) name
+    ≡ (if is_made name (made l.now.command) then Some k else number_from 0 (lines_at (take k ls)) name)
 number_from-next ls k l name h is =
-    let more : take (k + 1) ls ≡ take k ls ++ l ∷ [] = take_more ls k l h ∙ ap (λ (x : Line). take k ls ++ x ∷ []) is in
-    let long : 0 + length (take k ls) ≡ k = let t = length-take k ls in omega (arith, t, h) in
-    ap (λ (xs : List Line). number_from 0 xs name) more ∙ (number_from-push 0 (take k ls) l name
-    ∙ ap (λ (n : ℕ). if is_made name (made l.command) then Some n else number_from 0 (take k ls) name) long)
+    let more : take (k + 1) ls ≡ take k ls ++ l ∷ [] = take_more ls k l h ∙ ap (λ (x : Bor Line). take k ls ++ x ∷ []) is in
+    let long : 0 + length (lines_at (take k ls)) ≡ k =
+    let t = length-take k ls in let m = length-map (take k ls) (λ (x : Bor Line). x.now) in omega (arith, t, m, h) in
+    ap (λ (xs : List (Bor Line)). number_from 0 (lines_at xs) name) more
+    ∙ (ap (λ (xs : List Line). number_from 0 xs name) (lines_at-push (take k ls) l)
+    ∙ (number_from-push 0 (lines_at (take k ls)) l.now name
+    ∙ ap (λ (n : ℕ). if is_made name (made l.now.command) then Some n else number_from 0 (lines_at (take k ls)) name) long))

@@ -1,24 +1,27 @@
 -- Lines in a row.
+use Rattle.std.specs.Prelude.{Vec, vec_capacity}
+use Rattle.std.specs.declared.alloc.Global.{Global}
 use Rattle.std.proofs.Common.{◌≡◌, ℕ, ◌+◌, List, [], ◌∷◌, ◌++◌, length, length-append, refl, ap, sym, ◌∙◌, subst, arith, append_assoc, None, Option}
-use Rattle.std.proofs.lemmas.List.{map-append, append-nil}
+use Rattle.std.proofs.lemmas.List.{length-map, map-append, append-nil}
+use Rattle.fm_base.specs.declared.arena_id.ArenaId.{ArenaId}
 use Rattle.fm_base.specs.declared.caller.Caller.{Caller}
 use Rattle.fm_base.specs.Calls.{Entry}
-use Rattle.fm_base.specs.Outcomes.{Lasts}
 use Rattle.fm_pool_facts.specs.Views.{View}
-use Rattle.fm_calls.specs.Told.{view_of_pass}
 use Rattle.fm_script.specs.declared.line.Line.{Line}
 use Rattle.fm_run.specs.declared.numbers.Numbers.{Numbers}
 use Rattle.fm_run.specs.declared.reply.Reply.{Reply}
 use Rattle.fm_run.specs.declared.standing.Standing.{Standing}
+use Rattle.fm_run.specs.declared.table.Table.{Table}
 use Rattle.fm_run.specs.Calls.{CallDoes}
 use Rattle.fm_run.specs.Lines.{LineRan}
 use Rattle.fm_run.specs.Numbers.{number_at}
 use Rattle.fm_run.specs.Outcomes.{outcome}
 use Rattle.fm_run.specs.Playing.{LinesRan}
 use Rattle.fm_run.specs.Report.{Done, AreRun, names_after, names_behind, runs}
-use Rattle.fm_run.specs.Runs.{Went}
+use Rattle.fm_run.specs.Runs.{Went, WentOn}
 use Rattle.fm_run.specs.Standings.{Names, stands_of, standing_at}
-use Rattle.fm_run.proofs.Going.{went_none, went_then}
+use Rattle.fm_run.specs.Tokens.{Backs}
+use Rattle.fm_run.proofs.Going.{lasts_then, went_none, went_then}
 
 -- What one more line leaves of names.
 names_after-push : (number : List ℕ → Option ℕ) (k : ℕ) (ds : List Done) (d : Done) (names : Names)
@@ -38,14 +41,6 @@ are_run-push c number k names (e ∷ ds) d rs r = (rs.0, are_run-push c number (
 runs-push : (ds : List Done) (d : Done) → runs (ds ++ d ∷ []) ≡ runs ds ++ d.run
 runs-push [] d = append-nil d.run
 runs-push (e ∷ ds) d = ap (λ (es : List Entry). e.run ++ es) (runs-push ds d) ∙ sym (append_assoc e.run (runs ds) d.run)
-
-lasts_then : (p q r : View) → Lasts (view_of_pass p) (view_of_pass q) → Lasts (view_of_pass q) (view_of_pass r) → Lasts (view_of_pass p) (view_of_pass r)
-lasts_then p q r a b = record {
-  known = λ id k. b.known id (a.known id k);
-  given = λ id. let x = a.given id in let y = b.given id in omega (arith, x, y);
-  limit = b.limit ∙ a.limit;
-  caller = b.caller ∙ a.caller;
-}
 
 module _ (p : View) (names : Numbers) (base : List Standing) (start : ℕ) (own : List Standing) where
   -- No line yet.
@@ -90,3 +85,59 @@ module _ (p : View) (names : Numbers) (base : List Standing) (start : ℕ) (own 
             ∙ (ap (λ (ns : Names). names_behind number (k + length a.dones) d ns) a.stands
             ∙ sym (names_after-push number k a.dones d (standing_at base start own))));
       }
+
+-- Whatever the lines were.
+pub ran_on : {p q : View} {names : Numbers} {base : List Standing} {start : ℕ} {own next : List Standing} {lines : List Line} {replies : List Reply}
+    → LinesRan p q names base start own next lines replies → WentOn p q
+ran_on r = record { run = runs r.dones; went = r.went; outside = r.outside; lasts = r.lasts }
+
+-- There is a name for each line, and a reply.
+pub ran_many : {p q : View} {names : Numbers} {base : List Standing} {start : ℕ} {own next : List Standing} {lines : List Line} {replies : List Reply}
+    → LinesRan p q names base start own next lines replies → length next ≡ length own + length lines
+ran_many {lines = lines} r =
+    let many = r.many in
+    let same = ap (λ (xs : List Line). length xs) r.are in
+    let mapped = length-map r.dones (λ (d : Done). d.line) in
+    omega (arith, many, same, mapped)
+
+pub replied_many : {p q : View} {names : Numbers} {base : List Standing} {start : ℕ} {own next : List Standing} {lines : List Line} {replies : List Reply}
+    → LinesRan p q names base start own next lines replies → length replies ≡ length lines
+replied_many {lines = lines} {replies = replies} r =
+    let told = ap (λ (xs : List Reply). length xs) r.replied in
+    let same = ap (λ (xs : List Line). length xs) r.are in
+    let lines_mapped = length-map r.dones (λ (d : Done). d.line) in
+    let replies_mapped = length-map r.dones (λ (d : Done). d.reply) in
+    omega (arith, told, same, lines_mapped, replies_mapped)
+
+-- Where a loop over lines stands: these ran, from the table that was
+pub record SoFar (p : View) (names : Numbers) (was : Table) (room : ℕ) (lines : List Line) (m : View) (now : Table) (replies : Vec Reply Global) : Type 0 where
+  pub base : now.base ≡ was.base
+  pub start : now.start ≡ was.start
+  pub ran : LinesRan p m names was.base.now was.start was.own.items now.own.items lines replies.items
+  pub backs : (holds handles : List ArenaId) → Backs p holds handles was.base.now was.own.items → Backs m holds handles was.base.now now.own.items
+  pub room_is : vec_capacity now.own ≡ vec_capacity was.own
+  pub answers : vec_capacity replies ≡ room
+
+-- A line more.
+pub so_far_more : (p : View) (names : Numbers) (was : Table) (room : ℕ) (lines : List Line) (m next : View) (now after : Table)
+    (replies told : Vec Reply Global) (l : Line) (reply : Reply) → SoFar p names was room lines m now replies
+    → LineRan m next names now.base.now now.start now.own.items after.own.items l.command reply
+    → after.base ≡ now.base → after.start ≡ now.start → vec_capacity after.own ≡ vec_capacity now.own
+    → ((holds handles : List ArenaId) → Backs m holds handles now.base.now now.own.items → Backs next holds handles now.base.now after.own.items)
+    → told.items ≡ replies.items ++ reply ∷ [] → vec_capacity told ≡ vec_capacity replies
+    → SoFar p names was room (lines ++ l ∷ []) next after told
+so_far_more p names was room lines m next now after replies told l reply i ran base start capacity backs items same_room =
+    let same : now.base.now ≡ was.base.now = λ j. (i.base j).now in
+    let line : LineRan m next names was.base.now was.start now.own.items after.own.items l.command reply =
+    subst (λ (n : ℕ). LineRan m next names was.base.now n now.own.items after.own.items l.command reply) i.start
+    (subst (λ (bs : List Standing). LineRan m next names bs now.start now.own.items after.own.items l.command reply) same ran) in
+    record {
+      base = base ∙ i.base;
+      start = start ∙ i.start;
+      ran = subst (λ (rs : List Reply). LinesRan p next names was.base.now was.start was.own.items after.own.items (lines ++ l ∷ []) rs) (sym items)
+          (lines_more p names was.base.now was.start was.own.items m next now.own.items after.own.items lines l replies.items reply i.ran line);
+      backs = λ holds handles b. subst (λ (bs : List Standing). Backs next holds handles bs after.own.items) same
+          (backs holds handles (subst (λ (bs : List Standing). Backs m holds handles bs now.own.items) (sym same) (i.backs holds handles b)));
+      room_is = capacity ∙ i.room_is;
+      answers = same_room ∙ i.answers;
+    }

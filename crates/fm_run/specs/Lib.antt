@@ -1,8 +1,10 @@
+pub mod Admitted
 pub mod Outcomes
 pub mod Calls
 pub mod Standings
 pub mod Runs
 pub mod Numbers
+pub mod Ordering
 pub mod Laws
 pub mod Lines
 pub mod Playing

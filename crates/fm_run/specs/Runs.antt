@@ -28,6 +28,13 @@ pub record Went (old new : View) (own : List Entry) : Type 0 where
   pub same_shape : new.shape ≡ old.shape
   pub rest : rest_of new ≡ record (rest_of old) { holds = new.holds; handles = new.handles }
 
+-- The pass goes on by whatever calls, and is in no arena
+pub record WentOn (old new : View) : Type 0 where
+  pub run : List Entry
+  pub went : Went old new run
+  pub outside : new.inside ≡ None
+  pub lasts : Lasts (view_of_pass old) (view_of_pass new)
+
 -- The pass ran a call that did so, and has these holds and handles
 pub record RanWith (old new : View) (holds handles : List ArenaId) (Does : List Entry → Type 0) : Type 0 where
   pub own : List Entry

@@ -9,6 +9,8 @@ use Rattle.fm_segment.specs.Region.{Region}
 use Rattle.fm_arena.specs.declared.handle.AutoHandle.{AutoHandle}
 use Rattle.fm_pool_facts.specs.Views.{View, IsKnown}
 use Rattle.fm_calls.specs.Told.{view_of_pass}
+use Rattle.fm_run.specs.declared.lent.Lent.{Lent}
+use Rattle.fm_run.specs.declared.lent.Lent.TheVariants as other
 use Rattle.fm_run.specs.declared.standing.Standing.{Standing}
 use Rattle.fm_run.specs.declared.standing.Standing.TheVariants.{Nothing, Arena, Automatic, Segment, Hold, Handle}
 
@@ -51,6 +53,17 @@ lent (Arena id) = Arena id
 lent (Automatic id handle) = Arena id
 lent (Segment r) = Segment r
 lent _ = Nothing
+
+-- the same, as a name of one's own
+abbrev pub standing_as : Lent → Standing
+standing_as other.Nothing = Nothing
+standing_as (other.Arena id) = Arena id
+standing_as (other.Segment r) = Segment r
+
+-- no hold and no handle
+pub record IsSpent (s : Standing) : Type 0 where
+  pub no_hold : hold_of s ≡ None
+  pub no_handle : handle_of s ≡ None
 
 -- what the name of an arena stands for that was opened so
 abbrev pub opened_as : Kind → ArenaId → Standing

@@ -1,4 +1,4 @@
-ghost use Rattle.std.specs.Prelude.{◌≡◌, ◌<◌, None, IfOk, IfErr, length, vec_capacity, List, true};
+ghost use Rattle.std.specs.Prelude.{◌≡◌, ◌<◌, None, IfOk, IfErr, OnErr, length, vec_capacity, List, true};
 ghost use Rattle.fm_base.specs.declared.arena_id.ArenaId.{ArenaId};
 ghost use Rattle.fm_script.specs.Syntax.{IsSpelled};
 ghost use Rattle.fm_run.specs.Calls.{CallDoes, keeps_tokens};
@@ -8,16 +8,13 @@ ghost use Rattle.fm_run.specs.Runs.{RanLine};
 ghost use Rattle.fm_run.specs.Standings.{standing_of};
 ghost use Rattle.fm_run.specs.Tokens.{Backs, IsReady};
 
-use crate::accesses::{get, set};
-use crate::arenas::{ask, close, open};
-use crate::blocks::{copy, fill, mismatch};
 use crate::numbers::Numbers;
+use crate::on_arenas::run_on_arena;
+use crate::on_segments::run_on_segment;
 use crate::outcome::Outcome;
 use crate::reply::Reply;
 use crate::returns::{run_back, run_unhold};
-use crate::segments::{allocate, read_only, slice};
 use crate::table::Table;
-use crate::tokens::{again, hold};
 use crate::updates::{add, exchange};
 use fm_arena::Shared;
 use fm_base::Refusal;
@@ -28,7 +25,7 @@ use std::sync::Wait;
 /// Runs a pass's next line: the call that its command names, on what the names that it uses stand for. Where one stands
 /// for nothing, no call is made and the reply is `Skipped`. A refused call is a reply too.
 ///
-/// Refused: `Memory`, and then nothing is said of the pass and of the names.
+/// Refused: `Memory`, and then no call was made.
 pub fn run_line<R: Wait>(
     rt: &R,
     alloc: Global,
@@ -46,9 +43,11 @@ pub fn run_line<R: Wait>(
     ensures room { vec_capacity table.new.own ≡ vec_capacity table.old.own }
     ensures ran { IfOk result (LineRan m.old m.new names.now table.old.base.now table.old.start table.old.own.items
         table.new.own.items command.now) }
-    ensures backs { IfOk result (λ _. (holds handles : List ArenaId)
+    ensures backs { (holds handles : List ArenaId)
         → Backs m.old holds handles table.old.base.now table.old.own.items
-        → Backs m.new holds handles table.old.base.now table.new.own.items) }
+        → Backs m.new holds handles table.old.base.now table.new.own.items }
+    ensures kept { OnErr result (m.new ≡ m.old) }
+    ensures same { OnErr result (table.new ≡ table.old) }
     ensures memory { IfErr result (λ refusal. refusal ≡ Refusal.Memory) }
 {
     match command {
@@ -77,71 +76,31 @@ fn run_call<R: Wait>(
     requires ready { IsReady m.old table.now.base.now table.now.own.items }
     ensures ran { IfOk result (RanLine m.old m.new (CallDoes m.old.caller (λ name.
         standing_of table.now.base.now table.now.start table.now.own.items (number_at names.now name)) command.now)) }
+    ensures kept { OnErr result (m.new ≡ m.old) }
     ensures memory { IfErr result (λ refusal. refusal ≡ Refusal.Memory) }
 {
     match command {
-        Command::Open { kind, .. } => return Ok(open(rt, m, *kind)),
-        Command::Alloc {
-            arena,
-            size,
-            align,
-            ..
-        } => {
-            return Ok(allocate(rt, m, table.arena(names.of(arena)), *size, *align));
-        }
-        Command::Slice {
-            segment,
-            offset,
-            size,
-            ..
-        } => {
-            return Ok(slice(table.segment(names.of(segment)), *offset, *size));
-        }
-        Command::Readonly { segment, .. } => {
-            return Ok(read_only(table.segment(names.of(segment))));
-        }
-        Command::Get(cell) => return Ok(get(m, table.segment(names.of(&cell.segment)), cell)),
-        Command::Set(cell, value) => {
-            return Ok(set(rt, m, table.segment(names.of(&cell.segment)), cell, *value));
-        }
         Command::Add(cell, value) => {
-            return add(
-                rt,
-                alloc,
-                m,
-                table.segment(names.of(&cell.segment)),
-                cell,
-                *value,
-            );
+            let segment = table.segment(names.of(&cell.segment));
+            add(rt, alloc, m, segment, cell, *value)
         }
         Command::Cas(cell, old, new) => {
-            return exchange(
-                rt,
-                alloc,
-                m,
-                table.segment(names.of(&cell.segment)),
-                cell,
-                *old,
-                *new,
-            );
+            let segment = table.segment(names.of(&cell.segment));
+            exchange(rt, alloc, m, segment, cell, *old, *new)
         }
-        Command::Fill { segment, byte } => {
-            return Ok(fill(rt, m, table.segment(names.of(segment)), *byte));
-        }
-        Command::Copy { source, target } => {
-            let source = table.segment(names.of(source));
-            return Ok(copy(rt, m, source, table.segment(names.of(target))));
-        }
-        Command::Mismatch { segment, other } => {
-            let segment = table.segment(names.of(segment));
-            return Ok(mismatch(m, segment, table.segment(names.of(other))));
-        }
-        Command::Alive { arena } => return Ok(ask(m, table.arena(names.of(arena)))),
-        Command::Hold { arena, .. } => return Ok(hold(rt, m, table.arena(names.of(arena)))),
-        Command::Again { handle, .. } => {
-            return Ok(again(rt, m, table.handle(names.of(handle))));
-        }
-        Command::Close { arena } => return Ok(close(rt, m, table.arena(names.of(arena)))),
+        Command::Open { .. }
+        | Command::Alloc { .. }
+        | Command::Alive { .. }
+        | Command::Hold { .. }
+        | Command::Again { .. }
+        | Command::Close { .. } => Ok(run_on_arena(rt, m, names, table, command)),
+        Command::Slice { .. }
+        | Command::Readonly { .. }
+        | Command::Get(_)
+        | Command::Set(_, _)
+        | Command::Fill { .. }
+        | Command::Copy { .. }
+        | Command::Mismatch { .. } => Ok(run_on_segment(rt, m, names, table, command)),
         Command::Unhold { .. } | Command::Back { .. } => unreachable!(),
     }
 }

@@ -1,6 +1,7 @@
 ghost use Rattle.std.specs.Prelude.{◌≡◌, IfOk, IfErr, OnOk, List, ℕ, if◌then◌else◌};
 ghost use Rattle.fm_script.specs.Rules.{made};
 ghost use Rattle.fm_run.specs.Numbers.{AreNumbers, is_made, number_at};
+ghost use Rattle.fm_run.specs.Ordering.{lines_at};
 
 use fm_base::Refusal;
 use fm_path_text::NameText;
@@ -17,8 +18,8 @@ pub struct Numbers {
 
 impl Numbers {
     /// Those of these lines, of which the first has number 0. Refused: `Memory`.
-    pub fn of_lines(alloc: Global, lines: &[Line]) -> Result<Numbers, Refusal>
-        ensures numbers { IfOk result (AreNumbers lines.now) }
+    pub fn of_lines(alloc: Global, lines: &[&Line]) -> Result<Numbers, Refusal>
+        ensures numbers { IfOk result (AreNumbers (lines_at lines.now)) }
         ensures memory { IfErr result (λ refusal. refusal ≡ Refusal.Memory) }
     {
         let mut names = Numbers {

@@ -1,58 +1,68 @@
-ghost use Rattle.std.specs.Prelude.{◌≡◌, ◌+◌, ◌≤◌, None, All, IfOk, IfErr, List, length, map, vec_capacity, vec_len};
+ghost use Rattle.std.specs.Prelude.{◌≡◌, ◌+◌, ◌≤◌, [], None, All, IfErr, OnOk, List, length, vec_capacity};
 ghost use Rattle.fm_base.specs.declared.arena_id.ArenaId.{ArenaId};
 ghost use Rattle.fm_script.specs.Syntax.{IsSpelled};
+ghost use Rattle.fm_run.specs.Ordering.{is_by};
 ghost use Rattle.fm_run.specs.Playing.{LinesRan};
+ghost use Rattle.fm_run.specs.Report.{lines_by};
+ghost use Rattle.fm_run.specs.Runs.{WentOn};
 ghost use Rattle.fm_run.specs.Tokens.{Backs, IsReady};
 
 use crate::line::run_line;
 use crate::numbers::Numbers;
+use crate::ordering::is_by;
 use crate::reply::Reply;
 use crate::table::Table;
+use crate::turns::Turns;
 use fm_arena::Shared;
 use fm_base::Refusal;
-use fm_io::Gate;
-use fm_script::Line;
+use fm_script::{Line, Who};
 use std::alloc::Global;
 use std::sync::Wait;
 
-/// Runs a pass's next lines, in their order, each between the gate's calls for this worker, which count from 0.
+/// Runs those of a script's lines that are a pass's next ones, in their order, each in its turn, and puts their
+/// replies behind each other.
 ///
-/// Refused: `Memory`, and then nothing is said of the pass and of the names.
-pub fn play<R: Wait, G: Gate>(
+/// Refused: `Memory`. Then the lines from one on did not run.
+pub fn play<R: Wait, T: Turns>(
     rt: &R,
     alloc: Global,
     m: &mut Shared,
     names: &Numbers,
     table: &mut Table,
     lines: &[Line],
-    gate: &G,
-    worker: u32,
-) -> Result<Vec<Reply>, Refusal>
+    who: Who,
+    replies: &mut Vec<Reply>,
+    turns: &T,
+) -> Result<(), Refusal>
     requires outside { m.old.inside ≡ None }
     requires spelled { All (λ l. IsSpelled l.command) lines.now }
-    requires room { length table.old.own.items + length lines.now ≤ vec_capacity table.old.own }
+    requires room { length table.old.own.items + length (lines_by (is_by who) lines.now) ≤ vec_capacity table.old.own }
     requires ready { IsReady m.old table.old.base.now table.old.own.items }
+    requires none { replies.old.items ≡ [] }
+    requires answers { length (lines_by (is_by who) lines.now) ≤ vec_capacity replies.old }
     ensures base { table.new.base ≡ table.old.base }
     ensures start { table.new.start ≡ table.old.start }
-    ensures ran { IfOk result (λ replies. LinesRan m.old m.new names.now table.old.base.now table.old.start
-        table.old.own.items table.new.own.items lines.now replies.items) }
-    ensures backs { IfOk result (λ _. (holds handles : List ArenaId)
+    ensures room { vec_capacity table.new.own ≡ vec_capacity table.old.own }
+    ensures ran { OnOk result (LinesRan m.old m.new names.now table.old.base.now table.old.start table.old.own.items
+        table.new.own.items (lines_by (is_by who) lines.now) replies.new.items) }
+    ensures went { WentOn m.old m.new }
+    ensures backs { (holds handles : List ArenaId)
         → Backs m.old holds handles table.old.base.now table.old.own.items
-        → Backs m.new holds handles table.old.base.now table.new.own.items) }
+        → Backs m.new holds handles table.old.base.now table.new.own.items }
+    ensures many { length table.new.own.items ≤ length table.old.own.items + length (lines_by (is_by who) lines.now) }
     ensures memory { IfErr result (λ refusal. refusal ≡ Refusal.Memory) }
 {
-    let Ok(mut replies) = Vec::with_capacity(alloc, lines.len()) else {
-        return Err(Refusal::Memory);
-    };
     for line in lines {
-        let call = replies.len() as u64;
-        gate.before(rt, worker, call);
-        let run = run_line(rt, alloc, m, names, table, &line.command);
-        gate.after(worker, call);
-        match run {
-            Ok(reply) => replies.push_reserved(reply),
-            Err(refusal) => return Err(refusal),
+        if is_by(who, line.who) {
+            let turn = replies.len() as u64;
+            turns.before(rt, turn);
+            let run = run_line(rt, alloc, m, names, table, &line.command);
+            turns.after(turn);
+            match run {
+                Ok(reply) => replies.push_reserved(reply),
+                Err(refusal) => return Err(refusal),
+            }
         }
     }
-    Ok(replies)
+    Ok(())
 }

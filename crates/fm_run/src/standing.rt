@@ -22,7 +22,7 @@ pub enum Standing {
 
 impl Standing {
     /// The arena, if it is one.
-    pub(crate) fn arena(&self) -> Option<ArenaId>
+    pub fn arena(&self) -> Option<ArenaId>
         ensures { result ≡ arena_of self.now }
     {
         match self {

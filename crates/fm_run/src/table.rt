@@ -1,10 +1,12 @@
-ghost use Rattle.std.specs.Prelude.{◌≡◌, ◌≤◌, ◌<◌, ◌+◌, ◌++◌, ◌∷◌, [], Some, MatchOption, length, vec_capacity, None, All, IfOk, IfErr};
+ghost use Rattle.std.specs.Prelude.{◌≡◌, ◌≤◌, ◌<◌, ◌+◌, ◌++◌, ◌∷◌, [], Some, MatchOption, length, map, vec_capacity, None, All, IfOk, IfErr, List};
 ghost use Rattle.std.specs.Option.{option_map};
-ghost use Rattle.fm_run.specs.Standings.{IsBacked, lent, arena_of, segment_of, hold_of, handle_of, standing_of, unheld, handed_back};
+ghost use Rattle.fm_base.specs.declared.arena_id.ArenaId.{ArenaId};
+ghost use Rattle.fm_run.specs.Standings.{IsBacked, lent, standing_as, arena_of, segment_of, hold_of, handle_of, standing_of, unheld, handed_back};
 ghost use Rattle.fm_pool_facts.specs.Views.{View};
 ghost use Rattle.fm_run.specs.Tokens.{Backs};
 ghost use Rattle.fm_run.specs.Tables.{SeenAs, Took, IsOwn};
 
+use crate::lent::Lent;
 use crate::outcome::Outcome;
 use crate::reply::Reply;
 use crate::standing::Standing;
@@ -47,6 +49,30 @@ impl<'a> Table<'a> {
             return Err(Refusal::Memory);
         };
         Ok(Table { base, start, own })
+    }
+
+    /// What its own names stand for, as far as their lines have run.
+    pub fn standings(&self) -> &[Standing]
+        ensures { result.now ≡ self.now.own.items }
+    {
+        self.own.as_slice()
+    }
+
+    /// Puts another pass's names behind its own.
+    pub fn take_over(&mut self, others: &[Lent])
+        requires room { length self.old.own.items + length others.now ≤ vec_capacity self.old.own }
+        ensures base { self.new.base ≡ self.old.base }
+        ensures start { self.new.start ≡ self.old.start }
+        ensures room { vec_capacity self.new.own ≡ vec_capacity self.old.own }
+        ensures own { self.new.own.items ≡ self.old.own.items ++ map standing_as others.now }
+        ensures backs { (p : View) (holds handles : List ArenaId)
+            → Backs p holds handles self.old.base.now self.old.own.items
+            → All (IsBacked p) (map standing_as others.now)
+            → Backs p holds handles self.old.base.now self.new.own.items }
+    {
+        for other in others {
+            self.own.push_reserved(other.standing());
+        }
     }
 
     /// Takes in what the next of its own lines came to, and answers the reply.

@@ -2,12 +2,12 @@ ghost use Rattle.std.specs.Prelude.{◌≡◌, None, All};
 ghost use Rattle.fm_script.specs.Syntax.{IsSpelled};
 ghost use Rattle.fm_words.specs.Shapes.{IsValid};
 
-use crate::{Numbers, Reply, Table, play};
+use crate::{AtGate, Numbers, Reply, Table, count_lines, in_order, play};
 use fm_arena::Shared;
 use fm_base::{Kind, Refusal};
 use fm_io::FreeGate;
 use fm_rule::Pool;
-use fm_script::{Script, parse_script};
+use fm_script::{Script, Who, parse_script};
 use std::alloc::AllocGlobal;
 use std::process::Abort;
 use std::sync::Wait;
@@ -20,18 +20,35 @@ fn script_of<R: Abort + AllocGlobal>(rt: &R, text: &str) -> Script
     parse_script(rt.alloc(), text.as_bytes()).expect(rt, "a script")
 }
 
-/// What a pass answers to the first lines of a script, and that it gave all back.
+/// What a pass answers to the first lines of a script.
 fn run<R: Abort + AllocGlobal + Wait>(rt: &R, m: &mut Shared, script: &Script) -> Vec<Reply>
     requires outside { m.old.inside ≡ None }
     requires spelled { All (λ l. IsSpelled l.command) script.now.lines }
 {
+    let alloc = rt.alloc();
     let lines = script.lines();
-    let names = Numbers::of_lines(rt.alloc(), lines).expect(rt, "names");
-    let mut table = Table::new(rt.alloc(), &[], 0, lines.len()).expect(rt, "room");
-    let replies = play(rt, rt.alloc(), m, &names, &mut table, lines, &FreeGate, 1).expect(
-        rt, "replies",
-    );
-    assert!(rt; !table.settle(rt, m));
+    let order = in_order(alloc, lines, 0).expect(rt, "an order");
+    let names = Numbers::of_lines(alloc, order.lines.as_slice()).expect(rt, "names");
+    let count = count_lines(lines, Who::First);
+    let mut table = Table::new(alloc, &[], 0, count).expect(rt, "room");
+    let mut replies = Vec::with_capacity(alloc, count).expect(rt, "room");
+    play(
+        rt,
+        alloc,
+        m,
+        &names,
+        &mut table,
+        lines,
+        Who::First,
+        &mut replies,
+        &AtGate {
+            gate: &FreeGate,
+            worker: 1,
+        },
+    )
+    .expect(rt, "no want of memory");
+    let mut others = Vec::with_capacity(alloc, count).expect(rt, "room");
+    table.settle(rt, m, &mut others);
     replies
 }
 

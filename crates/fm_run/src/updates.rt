@@ -1,4 +1,4 @@
-ghost use Rattle.std.specs.Prelude.{◌≡◌, None, IfSome, IfErr, IfOk};
+ghost use Rattle.std.specs.Prelude.{◌≡◌, None, IfSome, IfErr, IfOk, OnErr};
 ghost use Rattle.fm_calls.specs.Told.{view_of_pass};
 ghost use Rattle.fm_script.specs.Syntax.{IsOfKind};
 ghost use Rattle.fm_segment.specs.Access.{IsKnown};
@@ -29,6 +29,7 @@ pub(crate) fn add<R: Wait>(
     requires of_kind { IsOfKind cell.now.kind value }
     ensures ran { IfOk result (RanLine m.old m.new (On segment (Adds m.old.caller cell.now value))) }
     ensures refused { IfErr result (λ refusal. refusal ≡ Refusal.Memory) }
+    ensures kept { OnErr result (m.new ≡ m.old) }
 {
     let Some(segment) = segment else {
         return Ok(Outcome::plain(Reply::Skipped));
@@ -60,6 +61,7 @@ pub(crate) fn exchange<R: Wait>(
     requires new_kind { IsOfKind cell.now.kind value }
     ensures ran { IfOk result (RanLine m.old m.new (On segment (Exchanges m.old.caller cell.now wanted value))) }
     ensures refused { IfErr result (λ refusal. refusal ≡ Refusal.Memory) }
+    ensures kept { OnErr result (m.new ≡ m.old) }
 {
     let Some(segment) = segment else {
         return Ok(Outcome::plain(Reply::Skipped));

@@ -28,7 +28,8 @@ use Rattle.fm_script.specs.Rules.{Made, as_thing, IsAdmitted, made, given_back, 
 -- ---- makers
 
 -- a line more makes what none before it made
-maker_of-append : (name : List ℕ) (ls : List Line) (l : Line) → maker_of name (ls ++ l ∷ []) ≡ or_else (maker_of name ls) (maker_in l.who name (made l.command))
+pub maker_of-append : (name : List ℕ) (ls : List Line) (l : Line)
+    → maker_of name (ls ++ l ∷ []) ≡ or_else (maker_of name ls) (maker_in l.who name (made l.command))
 maker_of-append name [] l = alone (maker_in l.who name (made l.command))
   where
     alone : (o : Option Maker) → or_else o None ≡ o
@@ -43,7 +44,7 @@ maker_of-append name (m ∷ ls) l =
     flat (Some m) b c = refl
 
 -- what is no maker is none
-none_of : (o : Option Maker) → not (is_some o) ≡ true → o ≡ None
+pub none_of : (o : Option Maker) → not (is_some o) ≡ true → o ≡ None
 none_of None h = refl
 none_of (Some x) h = absurd (cc)
 
@@ -81,7 +82,7 @@ spent_is (Some other) name old = more (bytes_eq other name) old
 -- ---- phases
 
 -- a line more comes to its phase, if that is later
-reached_more : (ls : List Line) (l : Line) → reached (ls ++ l ∷ []) ≡ max (reached ls) (phase l.who)
+pub reached_more : (ls : List Line) (l : Line) → reached (ls ++ l ∷ []) ≡ max (reached ls) (phase l.who)
 reached_more [] l = omega arith
 reached_more (m ∷ ls) l = ap (max (phase m.who)) (reached_more ls l) ∙ omega arith
 

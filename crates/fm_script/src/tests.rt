@@ -78,7 +78,7 @@ fn reads_lines(rt: HostRuntime) -> Result<(), Fail> {
 const POOL: &str = "pool 1 1 8 1000 1\n";
 
 /// Lines behind a pool's line and `first open a shared`, `first alloc a s 8 8`, and where they are refused.
-const BEHIND: [(&str, u64); 81] = [
+const BEHIND: [(&str, u64); 123] = [
     ("", 0),
     ("\n#\n# \u{7f}\n", 0),
     ("# \u{e9}\n", 4),
@@ -169,6 +169,54 @@ const BEHIND: [(&str, u64); 81] = [
         "first open aaaaaaaaaaaaaaaaaaaaaaaaaaaaaaaaaaaaaaaaaaaaaaaaaaaaaaaaaaaaaaaaa shared",
         4,
     ),
+    ("1 alloc a t 8 8\n2 alloc a t 8 8\n", 5),
+    ("last get s long 0\nfirst get s long 0\n", 5),
+    ("first hold a s\nfirst unhold s\n", 4),
+    ("first hold a h\nfirst alive h\n", 5),
+    ("first hold a h\nfirst get h long 0\n", 5),
+    ("first unhold s\n", 4),
+    ("first unhold a\n", 4),
+    ("first back a\n", 4),
+    (
+        "first open b auto\nfirst again b h\nfirst alloc h t 8 8\n",
+        6,
+    ),
+    ("first open b auto\nfirst get b long 0\n", 5),
+    ("first open b auto\nfirst back b\nfirst back b\n", 6),
+    (
+        "first open b auto\nfirst again b h\nfirst back h\nfirst again h k\n",
+        7,
+    ),
+    ("first slice a t 0 4\n", 4),
+    ("first readonly a t\n", 4),
+    ("first fill a 0\n", 4),
+    ("first copy s a\n", 4),
+    ("first copy a s\n", 4),
+    ("first mismatch s a\n", 4),
+    ("first alive s\n", 4),
+    ("first close s\n", 4),
+    ("first hold s h\n", 4),
+    ("last open b auto\n", 4),
+    ("# a\n1 hold a h\n", 5),
+    ("first hold a h\n1 hold a k\n1 unhold k\n", 4),
+    ("1 hold a h\n1 unhold h\n2 hold a k\n", 6),
+    ("first hold a h", 4),
+    ("first got s long 0", 4),
+    ("first set s char 0 -1\n", 4),
+    ("first set s short 0 32767\n", 0),
+    ("first set s short 0 -32769\n", 4),
+    ("first set s short-be 0 32768\n", 4),
+    ("first set s long 0 -9223372036854775809\n", 4),
+    ("first add s byte 0 128\n", 4),
+    ("first add s long 1099511627777 0\n", 4),
+    ("first cas s long 1099511627777 0 0\n", 4),
+    ("first set s long 1099511627777 0\n", 4),
+    ("first fill s -1\n", 4),
+    ("First get s long 0\n", 4),
+    ("-1 get s long 0\n", 4),
+    ("first\tget s long 0\n", 4),
+    ("first\n", 4),
+    ("first get\n", 4),
 ];
 
 #[test]
@@ -215,4 +263,87 @@ fn refuses_pools(rt: HostRuntime) {
     ] {
         assert!(rt; refused_at(rt.alloc(), text) == Some(at), "at {text}");
     }
+}
+
+/// Lines of each command behind others, without their last word, and that word.
+const WORDS: [(&str, &str); 17] = [
+    ("first open b", "shared"),
+    ("first alloc a t 8", "8"),
+    ("first slice s t 0", "4"),
+    ("first readonly s", "t"),
+    ("first get s long", "0"),
+    ("first set s long 0", "7"),
+    ("first add s long 0", "7"),
+    ("first cas s long 0 7", "8"),
+    ("first fill s", "255"),
+    ("first copy s", "s"),
+    ("first mismatch s", "s"),
+    ("first alive", "a"),
+    ("first hold a h\nfirst unhold", "h"),
+    (
+        "first open b auto\nfirst again b h\nfirst back b\nfirst back",
+        "h",
+    ),
+    ("first open b auto\nfirst back", "b"),
+    ("first close", "a"),
+    ("last close", "a"),
+];
+
+#[test]
+fn refuses_a_word_less_or_more(rt: HostRuntime) -> Result<(), Fail> {
+    for (line, word) in WORDS {
+        let head = format!(in rt.alloc();
+            "{POOL}first open a shared\nfirst alloc a s 8 8\n{line}"
+        )?;
+        let less = refused_at(rt.alloc(), head.as_str());
+        assert!(rt; less != Some(0) && less.is_some(), "at {line}");
+        let whole = format!(in rt.alloc(); "{head} {word}")?;
+        assert!(rt;
+            refused_at(rt.alloc(), whole.as_str()) == Some(0),
+            "at {line} {word}"
+        );
+        let more = format!(in rt.alloc(); "{head} {word} {word}")?;
+        assert!(rt;
+            refused_at(rt.alloc(), more.as_str()) == less,
+            "at {line} {word} {word}"
+        );
+    }
+    Ok(())
+}
+
+/// The first worked script's lines: without the last byte, that byte, and the line's number.
+const CUT: [(&str, &str, u64); 9] = [
+    ("pool 1 1 8 1000 ", "1", 1),
+    ("first open a share", "d", 2),
+    ("first alloc a s 8 ", "8", 3),
+    ("first set s long 0 ", "7", 4),
+    ("first close ", "a", 5),
+    ("first open b share", "d", 6),
+    ("first alloc b t 8 ", "8", 7),
+    ("first get t long ", "0", 8),
+    ("first get s long ", "0", 9),
+];
+
+#[test]
+fn reads_prefixes(rt: HostRuntime) -> Result<(), Fail> {
+    let mut text = String::new(rt.alloc());
+    for (head, last, number) in CUT {
+        text.push_str(head)?;
+        assert!(rt;
+            refused_at(rt.alloc(), text.as_str()) == Some(number),
+            "at {head}"
+        );
+        text.push_str(last)?;
+        assert!(rt;
+            refused_at(rt.alloc(), text.as_str()) == Some(0),
+            "at {head}{last}"
+        );
+        text.push_str("\n")?;
+        assert!(rt;
+            refused_at(rt.alloc(), text.as_str()) == Some(0),
+            "behind {head}{last}"
+        );
+    }
+    assert!(rt; text.as_str() == WORKED[0]);
+    Ok(())
 }

@@ -1,0 +1,15 @@
+pub mod Known
+pub mod Made
+pub mod After
+pub mod Gathered
+pub mod Reported
+pub mod Running
+pub mod Telling
+pub mod Ended
+pub mod Beginning
+pub mod Written
+pub mod Worker
+pub mod Outside
+pub mod Arranged
+pub mod Crewed
+pub mod Passing

@@ -1,0 +1,14 @@
+//! Whole scripts: a pass for the first lines and the last ones, and one for each worker between them.
+#![tactic(auto)]
+
+mod joining;
+mod lines;
+mod main_lines;
+mod over;
+mod player;
+mod players;
+mod run;
+#[cfg(test)]
+mod tests;
+
+pub use run::run_script;

@@ -1,0 +1,107 @@
+mod gates;
+
+ghost use Rattle.std.specs.Prelude.{◌≡◌};
+ghost use Rattle.fm_play.specs.Runs.{IsWritten};
+
+use crate::run_script;
+use fm_io::{FreeGate, Gate};
+use fm_report::print_report;
+use fm_script::{Script, parse_script};
+use std::alloc::AllocGlobal;
+use std::process::Abort;
+use std::sync::Wait;
+use std::thread::Threads;
+
+/// A script.
+fn script_of<R: Abort + AllocGlobal>(rt: &R, text: &str) -> Script
+    ensures { IsWritten result }
+{
+    parse_script(rt.alloc(), text.as_bytes()).expect(rt, "a script")
+}
+
+/// What a run of it prints, past this gate.
+fn printed_past<R: Abort + AllocGlobal + Threads + Wait + Sync, G: Gate>(
+    rt: &R,
+    text: &str,
+    gate: &G,
+) -> String {
+    let script = script_of(rt, text);
+    let report = run_script(rt, rt.alloc(), &script, gate).expect(rt, "a report");
+    print_report(rt.alloc(), &report).expect(rt, "a text")
+}
+
+fn printed<R: Abort + AllocGlobal + Threads + Wait + Sync>(rt: &R, text: &str) -> String {
+    printed_past(rt, text, &FreeGate)
+}
+
+#[test]
+fn a_slot_comes_back_empty(rt: HostRuntime) {
+    let text =
+        "pool 1 1 8 1000 1\nfirst open a shared\nfirst alloc a s 8 8\nfirst set s long 0 7\nfirst close a\n\
+        first open b shared\nfirst alloc b t 8 8\nfirst get t long 0\nfirst get s long 0\n";
+    let wanted =
+        "first open a shared -> ok\nfirst alloc a s 8 8 -> ok 0\nfirst set s long 0 7 -> ok\nfirst close a -> ok\n\
+        first open b shared -> ok\nfirst alloc b t 8 8 -> ok 0\nfirst get t long 0 -> 0\n\
+        first get s long 0 -> refused 1\nbytes b 0000000000000000\n";
+    assert_eq!(rt; printed(&rt, text).as_str(), wanted);
+}
+
+#[test]
+fn two_workers_add(rt: HostRuntime) {
+    let text =
+        "pool 1 1 8 1000 1\nfirst open a shared\nfirst alloc a s 8 8\n1 add s long 0 5\n2 add s long 0 7\n\
+        last get s long 0\n";
+    let got = printed(&rt, text);
+    let first =
+        "first open a shared -> ok\nfirst alloc a s 8 8 -> ok 0\n1 add s long 0 5 -> 0\n2 add s long 0 7 -> 5\n\
+        last get s long 0 -> 12\nbytes a 0c00000000000000\n";
+    let second =
+        "first open a shared -> ok\nfirst alloc a s 8 8 -> ok 0\n1 add s long 0 5 -> 7\n2 add s long 0 7 -> 0\n\
+        last get s long 0 -> 12\nbytes a 0c00000000000000\n";
+    assert!(rt; got.as_str() == first || got.as_str() == second);
+}
+
+#[test]
+fn a_confined_arena_is_its_owners(rt: HostRuntime) {
+    let text =
+        "pool 1 1 8 1 1\nfirst open a confined\nfirst alloc a s 8 8\nfirst close a\n1 get s long 0\n";
+    let wanted =
+        "first open a confined -> ok\nfirst alloc a s 8 8 -> ok 0\nfirst close a -> ok\n1 get s long 0 -> refused 2\n";
+    assert_eq!(rt; printed(&rt, text).as_str(), wanted);
+}
+
+#[test]
+fn a_slot_has_its_last_generation(rt: HostRuntime) {
+    let text =
+        "pool 1 1 8 2 1\nfirst open a shared\nfirst close a\nfirst open b shared\nfirst close b\n\
+        first open c shared\nfirst close c\n";
+    let wanted =
+        "first open a shared -> ok\nfirst close a -> ok\nfirst open b shared -> ok\nfirst close b -> ok\n\
+        first open c shared -> refused 12\nfirst close c -> skipped\n";
+    assert_eq!(rt; printed(&rt, text).as_str(), wanted);
+}
+
+/// A worker's lines come in the order of its number, its names stay for the last lines, and what it holds is given back.
+#[test]
+fn workers_names_stay(rt: HostRuntime) {
+    let text =
+        "pool 3 1 8 1 3\nfirst open g auto\n2 open b shared\n2 hold b h\n1 open a shared\n1 alloc a s 4 4\n\
+        1 set s int 0 258\n2 unhold h\n2 close b\nlast get s int 0\nlast alive b\nlast back g\n";
+    let wanted =
+        "first open g auto -> ok\n1 open a shared -> ok\n1 alloc a s 4 4 -> ok 0\n1 set s int 0 258 -> ok\n\
+        2 open b shared -> ok\n2 hold b h -> ok\n2 unhold h -> ok\n2 close b -> ok\nlast get s int 0 -> 258\n\
+        last alive b -> false\nlast back g -> ended\nbytes a 02010000\n";
+    assert_eq!(rt; printed(&rt, text).as_str(), wanted);
+}
+
+/// A worker without lines is drawn too.
+#[test]
+fn sixteen_workers_play(rt: HostRuntime) {
+    let text =
+        "pool 1 1 8 1 1\nfirst open a shared\nfirst alloc a s 8 8\n3 add s int 4 3\n16 add s int 0 16\n\
+        last get s long 0\nlast close a\n";
+    let wanted =
+        "first open a shared -> ok\nfirst alloc a s 8 8 -> ok 0\n3 add s int 4 3 -> 0\n16 add s int 0 16 -> 0\n\
+        last get s long 0 -> 12884901904\nlast close a -> ok\n";
+    assert_eq!(rt; printed(&rt, text).as_str(), wanted);
+}

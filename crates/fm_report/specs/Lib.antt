@@ -1,0 +1,4 @@
+pub mod Views
+pub mod Alive
+pub mod Texts
+pub mod Told

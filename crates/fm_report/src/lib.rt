@@ -1,0 +1,19 @@
+//! Reports of scripts: what each line was answered, and the bytes of the arenas that are alive at the end.
+#![tactic(auto)]
+
+mod alive;
+mod arena;
+mod given;
+mod line;
+mod lines;
+mod printing;
+mod report;
+#[cfg(test)]
+mod tests;
+
+pub use arena::AliveArena;
+pub use given::Given;
+pub use line::ReportLine;
+pub use lines::report_lines;
+pub use printing::print_report;
+pub use report::Report;

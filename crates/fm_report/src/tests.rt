@@ -1,0 +1,170 @@
+ghost use Rattle.std.specs.Prelude.{◌≡◌, ◌≤◌, length};
+ghost use Rattle.fm_gate.specs.Standing.{CanVisit, IsInside, IsOutside};
+ghost use Rattle.fm_pool_facts.specs.Views.{given_of};
+
+use crate::{Report, print_report, report_lines};
+use fm_base::{ArenaId, Caller, Kind, Refusal};
+use fm_close::close;
+use fm_gate::{allocate, enter, leave, open_arena, store};
+use fm_rule::{Finished, Pass, Pool};
+use fm_run::{Numbers, Reply};
+use fm_script::{Line, Script, parse_script};
+use fm_words::Shape;
+use std::alloc::AllocGlobal;
+use std::process::Abort;
+use std::sync::Wait;
+
+/// The arenas of a pool that is finished.
+#[derive(Clone, Copy)]
+struct Arenas {
+    stocked: ArenaId,
+    bare: ArenaId,
+    ended: ArenaId,
+}
+
+/// Stores two bytes that aren't 0.
+fn write(pool: &Pool, pass: &mut Pass, a: ArenaId)
+    requires inside { IsInside pool.now pass.old a }
+    requires given { 8 ≤ given_of pass.old a }
+    ensures inside { IsInside pool.now pass.new a }
+{
+    store(pool, pass, 0, 0x0000_0000_00ab_000f);
+}
+
+/// Opens an arena of eight bytes.
+fn stocked<R: Abort + Wait>(rt: &R, pool: &Pool, pass: &mut Pass) -> ArenaId
+    requires { IsOutside pool.now pass.old }
+    ensures { IsOutside pool.now pass.new }
+{
+    let a = open_arena(rt, pool, pass, Kind::Shared).expect(rt, "a slot");
+    assert_eq!(rt; allocate(rt, pool, pass, a, 8, 8), Ok(0));
+    assert_eq!(rt; enter(pool, pass, a), Ok(()));
+    write(pool, pass, a);
+    leave(pool, pass);
+    a
+}
+
+/// Opens an arena and closes it.
+fn ended<R: Abort + Wait>(rt: &R, pool: &Pool, pass: &mut Pass) -> ArenaId
+    requires { IsOutside pool.now pass.old }
+    ensures { IsOutside pool.now pass.new }
+{
+    let a = open_arena(rt, pool, pass, Kind::Shared).expect(rt, "a slot");
+    assert_eq!(rt; close(rt, pool, pass, a), Ok(()));
+    a
+}
+
+/// A pool with an arena that has given bytes, one that has given none, and one that has ended.
+fn left<R: Abort + AllocGlobal + Wait>(rt: &R) -> (Finished, Arenas) {
+    let shape = Shape {
+        passes: 1,
+        slots: 3,
+        pages: 3,
+        page_words: 1,
+        reach: 1,
+        generations: 1,
+    };
+    let (pool, mut pass) = Pool::make(rt.alloc(), shape).expect(rt, "words");
+    let stocked = stocked(rt, &pool, &mut pass);
+    let bare = open_arena(rt, &pool, &mut pass, Kind::Global).expect(rt, "a slot");
+    let ended = ended(rt, &pool, &mut pass);
+    assert!(rt; pool.whole(&mut pass));
+    let finished = pool.finish(rt.alloc(), pass).expect(rt, "words");
+    (
+        finished,
+        Arenas {
+            stocked,
+            bare,
+            ended,
+        },
+    )
+}
+
+/// A script, whose lines aren't in the order of printing.
+const SCRIPT: &str =
+    "pool 3 1 1 1 3\nfirst open e shared\nfirst alive e\nfirst alive e\nfirst close e\n2 open b global\n2 close b\n\
+    1 open s shared\n1 alloc s t 8 8\n1 get t long 0\n1 alloc e u 1 1\n1 fill u 0\nlast open a auto\nlast again a h\n\
+    last back a\nlast back h\n";
+
+/// The script of the same lines in the order of printing.
+const PRINTED: &str =
+    "pool 3 1 1 1 3\nfirst open e shared\nfirst alive e\nfirst alive e\nfirst close e\n1 open s shared\n\
+    1 alloc s t 8 8\n1 get t long 0\n1 alloc e u 1 1\n1 fill u 0\n2 open b global\n2 close b\nlast open a auto\n\
+    last again a h\nlast back a\nlast back h\n";
+
+/// A reply of each kind.
+const REPLIES: [Reply; 15] = [
+    Reply::Fine,
+    Reply::Truth(true),
+    Reply::Truth(false),
+    Reply::Refused(Refusal::Held(2)),
+    Reply::Fine,
+    Reply::Place(0),
+    Reply::Number(i64::MIN),
+    Reply::Refused(Refusal::Closed),
+    Reply::Skipped,
+    Reply::Fine,
+    Reply::Refused(Refusal::CannotClose(Kind::Global)),
+    Reply::Refused(Refusal::NoSlot),
+    Reply::Skipped,
+    Reply::Kept,
+    Reply::Ended,
+];
+
+const TEXT: &str =
+    "first open e shared -> ok\nfirst alive e -> true\nfirst alive e -> false\nfirst close e -> refused 7 2\n\
+    1 open s shared -> ok\n1 alloc s t 8 8 -> ok 0\n1 get t long 0 -> -9223372036854775808\n\
+    1 alloc e u 1 1 -> refused 1\n1 fill u 0 -> skipped\n2 open b global -> ok\n2 close b -> refused 8 0\n\
+    last open a auto -> refused 12\nlast again a h -> skipped\nlast back a -> kept\nlast back h -> ended\n\
+    bytes b\nbytes s 0f00ab0000000000\n";
+
+/// The report of the script, with those replies.
+fn reported<R: Abort + AllocGlobal + Wait>(rt: &R) -> Report {
+    let script = parse_script(rt.alloc(), SCRIPT.as_bytes()).expect(rt, "a script");
+    let printed = parse_script(rt.alloc(), PRINTED.as_bytes()).expect(rt, "a script");
+    let mut order = Vec::new(rt.alloc());
+    for line in printed.lines() {
+        assert!(rt; order.push(line).is_ok());
+    }
+    let names = Numbers::of_lines(rt.alloc(), order.as_slice()).expect(rt, "names");
+    assert_eq!(rt; order.len(), REPLIES.len());
+    let lines = report_lines(rt.alloc(), order.as_slice(), &REPLIES).expect(rt, "texts");
+    let (finished, arenas) = left(rt);
+    let mut opened = [None; 15];
+    opened[0] = Some(arenas.ended);
+    opened[4] = Some(arenas.stocked);
+    opened[9] = Some(arenas.bare);
+    let mut callers = Vec::new(rt.alloc());
+    assert!(rt; callers.push(Caller { number: 0, term: 0 }).is_ok());
+    Report::of(
+        rt.alloc(),
+        &script,
+        &names,
+        &opened,
+        lines,
+        callers,
+        finished,
+    )
+    .expect(rt, "bytes")
+}
+
+#[test]
+fn a_report_is_printed(rt: HostRuntime) {
+    let report = reported(&rt);
+    let text = print_report(rt.alloc(), &report).expect(&rt, "a text");
+    assert_eq!(rt; text.as_str(), TEXT);
+}
+
+#[test]
+fn a_report_has_its_parts(rt: HostRuntime) {
+    let report = reported(&rt);
+    assert_eq!(rt; report.callers().len(), 1);
+    assert_eq!(rt; report.lines().len(), 15);
+    assert_eq!(rt; report.lines()[6].reply, Reply::Number(i64::MIN));
+    assert_eq!(rt; report.alive().len(), 2);
+    assert_eq!(rt; report.alive()[1].name.as_bytes(), b"s".as_slice());
+    assert_eq!(rt;
+        report.alive()[1].bytes.as_slice(),
+        b"\x0f\0\xab\0\0\0\0\0".as_slice()
+    );
+}

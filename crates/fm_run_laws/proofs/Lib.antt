@@ -1,0 +1,11 @@
+pub mod Parting
+pub mod Cutting
+pub mod Backing
+pub mod Calling
+pub mod Quiet
+pub mod Arenas
+pub mod Segments
+pub mod Commands
+pub mod Rows
+pub mod Passes
+pub mod Reports

@@ -1,0 +1,23 @@
+ghost use Rattle.fm_run_laws.specs.Histories.{TidyInParts};
+ghost use Rattle.fm_run_laws.specs.Lines.{LineIsTidy, LinesAreTidy};
+ghost use Rattle.fm_run_laws.specs.Reports.{ReportsAreTidy};
+
+/// Each own entry of a pass's line is tidy in the state in which it was made.
+pub fn lines_are_tidy()
+    ensures { LineIsTidy }
+{}
+
+/// So are those of its lines in a row.
+pub fn rows_are_tidy()
+    ensures { LinesAreTidy }
+{}
+
+/// Where each caller's entries are tidy, a history of them all is, and one whose parts are.
+pub fn parts_are_tidy()
+    ensures { TidyInParts }
+{}
+
+/// What a script's lines did in a legal history, its passes' all together, is tidy.
+pub fn reports_are_tidy()
+    ensures { ReportsAreTidy }
+{}
