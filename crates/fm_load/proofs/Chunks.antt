@@ -5,9 +5,7 @@ use Rattle.std.proofs.lemmas.List.{take_all}
 use Rattle.fm_io.specs.Files.{Contents, file_of, AreBytesFrom, EndsBefore}
 use Rattle.fm_io.proofs.Filled.{AreBytesFrom-append}
 use Rattle.fm_load.specs.Whole.{IsChunk, TakesChunk, IsWhole}
-use Rattle.fm_load.specs.First.{StartsFile, bytes_of_first}
 use Rattle.fm_load.specs.Limits.{record_file_limit}
-use Rattle.fm_load.specs.declared.first.First.{First}
 
 -- a file's first bytes and the next chunk of it are its first bytes
 pub AreBytesFrom-took : (told : Option Contents) (name old new : List ℕ) (ended : Bool) → AreBytesFrom told name 0 old
@@ -47,10 +45,12 @@ first_to_last (Some contents) name bytes from ends = whole_file (file_of content
 pub IsWhole-took : (told : Option Contents) (name old new : List ℕ) → AreBytesFrom told name 0 old → TakesChunk told name old new true → IsWhole told name new
 IsWhole-took told name old new first took = first_to_last told name new (AreBytesFrom-took told name old new true first took) (took.ends refl)
 
--- the first bytes of a file, with which it ends
-pub whole_first : (told : Option Contents) (name now : List ℕ) (first : First) → StartsFile told name first → now ≡ bytes_of_first first
-    → first.chunk.ended ≡ true → IsWhole told name now
-whole_first told name now first starts is last =
-    subst (λ (bytes : List ℕ). IsWhole told name bytes) (sym is)
-    (first_to_last told name (bytes_of_first first) starts.chunk.bytes
-    (subst (λ (n : ℕ). EndsBefore told name n) (zero-add (length (bytes_of_first first))) (starts.chunk.ends last)))
+none_of : (file : Option (List ℕ)) (at : ℕ) (bytes : List ℕ) → bytes ≡ []
+    → MatchOption file (bytes ≡ []) (λ f. bytes ≡ take (length bytes) (drop at f))
+none_of None at bytes none = none
+none_of (Some f) at bytes none = subst (λ (bs : List ℕ). bs ≡ take (length bs) (drop at f)) (sym none) refl
+
+-- no bytes are those at any place
+pub no_bytes_from : (told : Option Contents) (name : List ℕ) (at : ℕ) (bytes : List ℕ) → bytes ≡ [] → AreBytesFrom told name at bytes
+no_bytes_from None name at bytes none = tt
+no_bytes_from (Some contents) name at bytes none = none_of (file_of contents name) at bytes none

@@ -1,5 +1,5 @@
 -- What calls do to an arena that a caller by itself holds.
-use Rattle.std.proofs.Common.{◌≡◌, ℕ, ◌+◌, ◌*◌, ◌^◌, ◌≤◌, Bool, true, false, List, [], ◌∷◌, None, Ok, Err, length, refl, ap, sym, ◌∙◌, subst, arith}
+use Rattle.std.proofs.Common.{◌≡◌, ◌≢◌, ℕ, ◌+◌, ◌*◌, ◌^◌, ◌≤◌, Bool, true, false, List, [], ◌∷◌, None, Ok, Err, length, refl, ap, sym, ◌∙◌, subst, arith}
 use Rattle.std.specs.Prelude.{nat_le, if◌then◌else◌, not}
 use lib.Count.{ones}
 use Rattle.fm_base.specs.declared.caller.Caller.{Caller}
@@ -16,13 +16,13 @@ use Rattle.fm_base.specs.View.{View, Makes, but_loans, is_loan, IsByItself, give
 use Rattle.fm_base.specs.Visits.{visit, refused_visit}
 use Rattle.fm_base.proofs.Faith.{Makes-alone}
 use Rattle.fm_base.proofs.Growing.{given_is}
-use Rattle.fm_base.proofs.Lookup.{KeepsName, changed_has, changed_twice, lookup_changed, arena_of-opened, has_arena-opened}
+use Rattle.fm_base.proofs.Lookup.{KeepsName, changed_has, changed_lookup, changed_twice, lookup_changed, arena_of-id, arena_of-opened, has_arena-opened}
 use Rattle.fm_base.proofs.Making.{by_itself_still}
 use Rattle.fm_bytes.proofs.Words.{length-bytes_in}
 use Rattle.fm_access.specs.Alone.{ChangesBytes, StaysOut, bytes_of_arena, with_words}
 use Rattle.fm_access.proofs.Splicing.{keeps_count}
 use Rattle.fm_access.proofs.Visits.{visit_stays}
-use Rattle.fm_load.specs.Held.{IsHeld, IsEmpty, HoldsThen, Wants, words_at}
+use Rattle.fm_load.specs.Held.{IsHeld, IsEmpty, HoldsThen, OnlyIn, Wants, words_at}
 use Rattle.fm_base.specs.Outcomes.{Nature, MayRefuse, FoundNoneFree}
 use Rattle.fm_base.specs.Finds.{is_page}
 use Rattle.std.proofs.lemmas.List.{length-replicate}
@@ -143,22 +143,30 @@ opened_held v w a kind alone small out did =
       none = ap (λ (x : Arena). x.given) is;
     }
 
+-- what an arena becomes that gives bytes
+abbrev gave : Caller → ℕ → Arena → Arena
+gave c count x = left c (given_up_to count (entered c x))
+
+allocated_state : (v w : View) (a : ArenaId) (size place : ℕ) → IsHeld v a → DidAllocate v w a size 8 (Ok place)
+    → w.state ≡ changed v.state a (gave v.caller (place + size))
+allocated_state v w a size place h did =
+    let c = v.caller in
+    let only = did_only v w did.own (visit v.caller a ((Allocate a size 8, Given place) ∷ [])) h.by_itself did.makes did.does.2 in
+    only.state
+    ∙ ap (λ (s : State). changed s a (left c)) (changed_twice v.state a (entered c) (given_up_to (place + size)) (λ x. refl))
+    ∙ changed_twice v.state a (λ x. given_up_to (place + size) (entered c x)) (left c) (λ x. refl)
+
 -- the arena gave bytes
 pub allocated_held : (v w : View) (a : ArenaId) (size place : ℕ) → IsHeld v a → w.inside ≡ None → DidAllocate v w a size 8 (Ok place)
     → (place ≡ rounded_up (given_in v a) 8) × HoldsThen w a (place + size) (words_at v a)
 allocated_held v w a size place h out did =
-    let c = v.caller in
     let only = did_only v w did.own (visit v.caller a ((Allocate a size 8, Given place) ∷ [])) h.by_itself did.makes did.does.2 in
-    let entered_state = changed v.state a (entered v.caller) in
-    let f = λ (x : Arena). left c (given_up_to (place + size) (entered c x)) in
-    let there : arena_of entered_state a ≡ entered v.caller (arena_of v.state a) = lookup_changed v.state a (entered v.caller) (λ x. refl) h.known in
-    let gave = given_is v.limit (arena_of entered_state a).given size 8 place only.legal.2.1 in
-    let state : w.state ≡ changed v.state a f =
-    only.state
-    ∙ ap (λ (s : State). changed s a (left c)) (changed_twice v.state a (entered c) (given_up_to (place + size)) (λ x. refl))
-    ∙ changed_twice v.state a (λ x. given_up_to (place + size) (entered c x)) (left c) (λ x. refl) in (
-      gave.rounded ∙ ap (λ (x : Arena). rounded_up x.given 8) there,
-      held_changed v w did.own a (place + size) (words_at v a) f (λ x. refl) h did.makes out state refl refl refl refl,
+    let there : arena_of (changed v.state a (entered v.caller)) a ≡ entered v.caller (arena_of v.state a) =
+    lookup_changed v.state a (entered v.caller) (λ x. refl) h.known in
+    let given = given_is v.limit (arena_of (changed v.state a (entered v.caller)) a).given size 8 place only.legal.2.1 in
+    let state = allocated_state v w a size place h did in (
+      given.rounded ∙ ap (λ (x : Arena). rounded_up x.given 8) there,
+      held_changed v w did.own a (place + size) (words_at v a) (gave v.caller (place + size)) (λ x. refl) h did.makes out state refl refl refl refl,
     )
 
 -- the arena, which is alive, lets the caller in
@@ -229,3 +237,28 @@ put_still v w own a place bytes h makes out ch fits =
 -- an open arena isn't refused
 pub held_open : {v w : View} {a : ArenaId} → IsHeld v a → StaysOut v w a → ⊥
 held_open h out = out.shut (record { alive = h.alive; usable = h.usable })
+
+-- ---- what stays elsewhere
+
+only_changed : (s t : State) (a : ArenaId) (f : Arena → Arena) → KeepsName f → t ≡ changed s a f → OnlyIn a s t
+only_changed s t a f named is =
+    let P : Arena → Arena → Type 0 = λ x y. x.id ≢ a → y ≡ x in
+    let here : P (arena_of s a) (f (arena_of s a)) = λ n. absurd (n (arena_of-id s a)) in
+    record {
+      arenas = λ b. ap (λ (u : State). has_arena u b) is ∙ changed_has f named s a b;
+      others = λ b n. ap (λ (u : State). arena_of u b) is ∙ changed_lookup P f named (λ x m. refl) s a here b (λ e. n (sym (arena_of-id s b) ∙ e));
+    }
+
+only_same : (s t : State) (a : ArenaId) → t ≡ s → OnlyIn a s t
+only_same s t a is = record { arenas = λ b. ap (λ (u : State). has_arena u b) is; others = λ b n. ap (λ (u : State). arena_of u b) is }
+
+pub allocated_only : (v w : View) (a : ArenaId) (size place : ℕ) → IsHeld v a → DidAllocate v w a size 8 (Ok place) → OnlyIn a v.state w.state
+allocated_only v w a size place h did =
+    only_changed v.state w.state a (gave v.caller (place + size)) (λ x. refl) (allocated_state v w a size place h did)
+
+pub refused_only : (v w : View) (a : ArenaId) (size : ℕ) (r : Refusal) → IsHeld v a → rounded_up (given_in v a) 8 + size ≤ v.limit
+    → DidAllocate v w a size 8 (Err r) → OnlyIn a v.state w.state
+refused_only v w a size r h room did = only_same v.state w.state a (refusal_stays v w a size r h room did)
+
+pub put_only : (v w : View) (a : ArenaId) (place : ℕ) (bytes : List ℕ) → ChangesBytes v w a place bytes → OnlyIn a v.state w.state
+put_only v w a place bytes ch = only_changed v.state w.state a (with_words (words_at w a)) (λ x. refl) ch.rest

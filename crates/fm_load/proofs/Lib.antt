@@ -1,7 +1,6 @@
 pub mod Chunks
 pub mod FileBytes
 pub mod Filling
-pub mod Firsts
 pub mod Following
 pub mod GivenBytes
 pub mod Holding

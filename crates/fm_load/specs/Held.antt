@@ -1,9 +1,9 @@
 -- An arena that a caller by itself holds, and the bytes that were loaded into it.
-use Rattle.std.specs.Prelude.{◌≡◌, ℕ, ◌≤◌, ◌^◌, true, List, None, length, IsTrue}
+use Rattle.std.specs.Prelude.{◌≡◌, ◌≢◌, ℕ, ◌≤◌, ◌^◌, true, List, None, length, IsTrue}
 use Rattle.fm_base.specs.declared.arena_id.ArenaId.{ArenaId}
 use Rattle.fm_base.specs.declared.refusal.Refusal.{Refusal}
 use Rattle.fm_base.specs.declared.refusal.Refusal.TheVariants.{Memory, PoolFull}
-use Rattle.fm_base.specs.Arenas.{Alive, arena_of, has_arena, MayUse}
+use Rattle.fm_base.specs.Arenas.{State, Alive, arena_of, has_arena, MayUse}
 use Rattle.fm_base.specs.Machine.{words_within}
 use Rattle.fm_base.specs.Finds.{is_page}
 use Rattle.fm_base.specs.Outcomes.{Nature, FoundNoneFree}
@@ -30,6 +30,11 @@ pub record HoldsThen (v : View) (a : ArenaId) (given : ℕ) (words : List ℕ) :
   pub held : IsHeld v a
   pub given_is : given_in v a ≡ given
   pub words_are : words_at v a ≡ words
+
+-- from one state to the next only this arena changed
+pub record OnlyIn (a : ArenaId) (s t : State) : Type 0 where
+  pub arenas : (b : ArenaId) → has_arena t b ≡ has_arena s b
+  pub others : (b : ArenaId) → b ≢ a → arena_of t b ≡ arena_of s b
 
 -- it is held, and nothing of it was given yet
 pub record IsEmpty (v : View) (a : ArenaId) : Type 0 where

@@ -1,5 +1,4 @@
 pub mod Filling
-pub mod First
 pub mod Held
 pub mod Limits
 pub mod Loaded

@@ -6,7 +6,7 @@ ghost use Rattle.fm_base.specs.Learnt.{CanOpen};
 ghost use Rattle.fm_base.specs.Machine.{rounded_up};
 ghost use Rattle.fm_base.specs.View.{Did, IsByItself, given_in};
 ghost use Rattle.fm_load.specs.Filling.{DoesPush};
-ghost use Rattle.fm_load.specs.Held.{IsHeld, IsEmpty, IsReady, HoldsThen, Wants, loaded_in, words_at};
+ghost use Rattle.fm_load.specs.Held.{IsHeld, IsEmpty, IsReady, HoldsThen, OnlyIn, Wants, loaded_in, words_at};
 
 use fm_access::put_bytes;
 use fm_base::{ArenaId, Kind, Memory, Refusal};
@@ -46,6 +46,7 @@ pub fn allocate_held<R: Wait, M: Memory>(
         HoldsThen (M.view m.new) arena (place + size) (words_at (M.view m.old) arena)) }
     ensures same { OnErr result
         (HoldsThen (M.view m.new) arena (given_in (M.view m.old) arena) (words_at (M.view m.old) arena)) }
+    ensures elsewhere { OnlyIn arena (M.view m.old).state (M.view m.new).state }
 {
     match m.allocate(rt, arena, size, 8) {
         Ok(place) => Ok(place),
@@ -63,6 +64,7 @@ pub fn put_held<R: Wait, M: Memory>(rt: &R, m: &mut M, arena: ArenaId, place: u6
     ensures given { given_in (M.view m.new) arena ≡ given_in (M.view m.old) arena }
     ensures bytes { bytes_of_arena (M.view m.new).state arena
         ≡ with_bytes (bytes_of_arena (M.view m.old).state arena) place bytes.now }
+    ensures elsewhere { OnlyIn arena (M.view m.old).state (M.view m.new).state }
 {
     match put_bytes(rt, m, arena, place, bytes) {
         Ok(()) => {}

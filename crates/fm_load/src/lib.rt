@@ -3,17 +3,14 @@
 
 mod buffers;
 mod chunk;
-mod first;
 mod held;
 mod load_fault;
 mod loaded;
 mod loading;
 mod whole_file;
 
-pub use chunk::Chunk;
-pub use first::{First, read_first};
-pub use held::{RECORD_FILE_LIMIT, open_held};
+pub use held::{RECORD_FILE_LIMIT, allocate_held, open_held, put_held};
 pub use load_fault::LoadFault;
 pub use loaded::{Loaded, load};
-pub use loading::{load_behind, load_into};
+pub use loading::load_into;
 pub use whole_file::{LAYOUT_FILE_LIMIT, read_whole};

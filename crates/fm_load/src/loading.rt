@@ -1,15 +1,14 @@
-ghost use Rattle.std.specs.Prelude.{◌≡◌, ◌≢◌, ◌≤◌, ◌+◌, ◌%◌, length, IfOk, IfErr, IsErrOf, Option, List, Err};
+ghost use Rattle.std.specs.Prelude.{◌≡◌, ◌≢◌, ◌≤◌, ◌+◌, ◌%◌, length, IfOk, IfErr, IsErrOf, Err};
 ghost use Rattle.fm_io.specs.Count.{Rose};
 ghost use Rattle.fm_io.specs.Files.{AreBytesFrom, IsAbsent};
-ghost use Rattle.fm_io.specs.Reads.{Read, ReadsFile};
+ghost use Rattle.fm_io.specs.Reads.{ReadsFile};
 ghost use Rattle.fm_load.specs.Filling.{Loads, LoadsAll, LoadsSome};
-ghost use Rattle.fm_load.specs.First.{StartsFile, room_for};
 ghost use Rattle.fm_load.specs.Held.{FoundFull, HasRoom, IsHeld, IsReady, loaded_in};
-ghost use Rattle.fm_load.specs.Reading.{GoesBy, ReadsSome, ReadsUpTo, piece_limit};
+ghost use Rattle.fm_load.specs.Reading.{GoesBy, ReadsSome, piece_limit};
 ghost use Rattle.fm_load.specs.Whole.{IsWhole, IsOver, TakesChunk};
 
+use crate::buffers::zero_bytes;
 use crate::chunk::{CHUNK, read_chunk};
-use crate::first::{First, read_first};
 use crate::held::{RECORD_FILE_LIMIT, loaded_size, none_loaded, push_held};
 use crate::load_fault::LoadFault;
 use fm_base::{ArenaId, Memory, Refusal};
@@ -52,64 +51,18 @@ pub fn load_into<R: Wait, F: Files, M: Memory>(
     ensures faults_stay { F.faults files.old ≤ F.faults files.new }
     ensures misses_stay { F.misses files.old ≤ F.misses files.new }
 {
-    match read_first(alloc, files, name) {
-        Ok(first) => load_behind(rt, files, name, first, m, arena),
-        Err(fault) => Err(fault),
-    }
-}
-
-/// The same for a file of which the first bytes were read. The arena may have just the room that these tell.
-pub fn load_behind<R: Wait, F: Files, M: Memory>(
-    rt: &R,
-    files: &mut F,
-    name: &str,
-    first: First,
-    m: &mut M,
-    arena: ArenaId,
-) -> Result<Segment, LoadFault>
-    requires room { HasRoom (room_for first) (M.view m.old) arena }
-    requires starts { StartsFile (F.holds files.old) name.now first }
-    ensures ready { IfOk result (IsReady (M.view m.new)) }
-    ensures arena { IfOk result (λ s. s.arena ≡ arena) }
-    ensures short { IfOk result (λ s. s.size ≤ RECORD_FILE_LIMIT) }
-    ensures whole { IfOk result (λ s. IsWhole (F.holds files.old) name.now (loaded_in (M.view m.new) s)) }
-    ensures did { IfOk result (LoadsAll (M.view m.old) (M.view m.new) arena) }
-    ensures left { IfErr result (λ _. LoadsSome (M.view m.old) (M.view m.new) arena × IsHeld (M.view m.new) arena) }
-    ensures too_long { IsErrOf result LoadFault.TooLong →
-        IsOver (F.holds files.old) name.now RECORD_FILE_LIMIT }
-    ensures absent { IsErrOf result LoadFault.Missing → IsAbsent (F.holds files.old) name.now }
-    ensures missing { IsErrOf result LoadFault.Missing → Rose (F.misses files.old) (F.misses files.new) }
-    ensures failed { IsErrOf result LoadFault.Failed → Rose (F.faults files.old) (F.faults files.new) }
-    ensures pool_full { IsErrOf result LoadFault.PoolFull → FoundFull M.nature (M.view m.old) (M.view m.new) }
-
-    // It reads on behind the first bytes.
-    ensures reads { (before : Option (List Read))
-        → ReadsUpTo before (F.reads files.old) name.now RECORD_FILE_LIMIT
-        (λ next. GoesBy first.chunk.ended first.chunk.count next)
-        → ReadsSome before (F.reads files.new) name.now RECORD_FILE_LIMIT }
-    ensures quiet { result ≢ Err LoadFault.Failed → F.faults files.new ≡ F.faults files.old }
-    ensures found { result ≢ Err LoadFault.Missing → F.misses files.new ≡ F.misses files.old }
-    ensures held { F.holds files.new ≡ F.holds files.old }
-    ensures faults_stay { F.faults files.old ≤ F.faults files.new }
-    ensures misses_stay { F.misses files.old ≤ F.misses files.new }
-{
-    let First { mut bytes, chunk } = first;
+    let Ok(mut bytes) = zero_bytes(alloc, CHUNK) else {
+        return Err(LoadFault::Memory);
+    };
     let mut segment = none_loaded(m, arena);
-    match push_held(rt, m, &mut segment, &bytes[..chunk.count]) {
-        Ok(()) => {}
-        Err(refusal) => return Err(fault_of(refusal)),
-    }
-    if chunk.ended {
-        return Ok(segment);
-    }
-    match load_rest(rt, files, name, &mut bytes, m, &mut segment) {
+    match load_pieces(rt, files, name, &mut bytes, m, &mut segment) {
         Ok(()) => Ok(segment),
         Err(fault) => Err(fault),
     }
 }
 
-/// Reads the rest of the file behind what is loaded.
-fn load_rest<R: Wait, F: Files, M: Memory>(
+/// Reads the file from where what is loaded ends, and puts it behind that, piece by piece.
+fn load_pieces<R: Wait, F: Files, M: Memory>(
     rt: &R,
     files: &mut F,
     name: &str,

@@ -1,2 +1,7 @@
-pub mod Asked
-pub mod Stocking
+pub mod Crews
+pub mod Filling
+pub mod Opening
+pub mod Putting
+pub mod Shows
+pub mod Tallies
+pub mod Tidying

@@ -1,2 +1,5 @@
+pub mod Asking
 pub mod Pooled
+pub mod Shown
 pub mod Stocked
+pub mod Tallied

@@ -1,12 +1,12 @@
--- The bytes of a file in a pool.
-use Rattle.std.specs.Prelude.{ℕ, List}
-use Rattle.fm_calls.specs.Told.{view_of_pass}
-use Rattle.fm_load.specs.Held.{loaded_in}
-use Rattle.fm_pooled.specs.Stocked.{IsStocked}
+-- Bytes in a pool of their own.
+use Rattle.std.specs.Prelude.{◌≡◌, ℕ, List, []}
+use Rattle.fm_pooled.specs.Stocked.{IsStocked, bytes_in_pool}
 use Rattle.fm_pooled.specs.declared.pooled.Pooled.TheInside.{Inside}
 
 abbrev pub pooled_bytes : Inside → List ℕ
-pooled_bytes p = loaded_in (view_of_pass p.pass) p.segment
+pooled_bytes p = bytes_in_pool p.pass p.segment
 
-abbrev pub HoldsFile : Inside → Type 0
-HoldsFile p = IsStocked p.pool p.pass p.segment
+-- no other pass was drawn
+pub record HoldsBytes (p : Inside) : Type 0 where
+  pub stocked : IsStocked p.pool p.pass p.segment
+  pub none_gathered : p.pass.gathered ≡ []

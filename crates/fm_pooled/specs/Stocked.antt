@@ -1,39 +1,67 @@
--- Where the first pass of a pool stands before its file is loaded, and then.
-use Rattle.std.specs.Prelude.{◌≡◌, ℕ, true, []}
+-- Where the first pass of a pool stands, before bytes are put into an arena of it, and then.
+use Rattle.std.specs.Prelude.{◌≡◌, ◌⊎◌, ℕ, true, List, []}
 use Rattle.fm_base.specs.declared.arena_id.ArenaId.{ArenaId}
 use Rattle.fm_base.specs.declared.kind.Kind.TheVariants.{Shared}
+use Rattle.fm_base.specs.Arenas.{Alive, arena_of}
+use Rattle.fm_base.specs.Histories.{IsTidy}
 use Rattle.fm_calls.specs.Told.{view_of_pass}
+use Rattle.fm_gate.specs.Learnt.{AllBusy}
 use Rattle.fm_gate.specs.Standing.{IsOutside}
-use Rattle.fm_load.specs.Held.{IsEmpty, IsReady}
-use Rattle.fm_pool_facts.specs.Views.{View, IsSound}
+use Rattle.fm_load.specs.Held.{IsEmpty}
+use Rattle.fm_pool_facts.specs.Views.{View, IsKnown, IsSound, limit_of, state_in}
+use Rattle.fm_records.specs.Alone.{bytes_at_places}
 use Rattle.fm_rule.specs.declared.pool.Pool.{Pool}
-use Rattle.fm_segment.specs.Region.{Region}
+use Rattle.fm_segment.specs.Access.{IsKnown as IsKnownTo}
+use Rattle.fm_segment.specs.Region.{Region, region_of}
 
 -- how many passes a pool has
 abbrev pub pool_passes : ℕ
 pool_passes = 40
 
--- a pass that is known to be whole, and has done nothing
-pub record IsBegun (pool : Pool) (p : View) : Type 0 where
+-- the history that it has seen changes only bytes that were given
+abbrev pub IsTidyPass : View → Type 0
+IsTidyPass p = IsTidy (limit_of p.shape) [] p.seen
+
+-- The first pass of the pool, before another was drawn: it is known to be whole, has swept all that it ended, and its entries are tidy
+pub record IsLone (pool : Pool) (p : View) : Type 0 where
   pub outside : IsOutside pool p
   pub sound : IsSound p
   pub whole : p.whole ≡ true
-  pub none_seen : p.seen ≡ []
+  pub tidy : IsTidyPass p
   pub none_gathered : p.gathered ≡ []
   pub none_to_sweep : p.sweeps ≡ []
 
--- it opened a shared arena
-pub record IsOpened (pool : Pool) (p : View) (a : ArenaId) : Type 0 where
-  pub outside : IsOutside pool p
-  pub empty : IsEmpty (view_of_pass p) a
-  pub shared : a.kind ≡ Shared
-  pub none_gathered : p.gathered ≡ []
+-- and a slot is left to it
+pub record CanStock (pool : Pool) (p : View) : Type 0 where
+  pub lone : IsLone pool p
+  pub free : ¬ (AllBusy p)
 
--- It is by itself, and the segment is all that a shared arena has given, which is alive; two crews can be drawn
+-- what was known is known, and stands as it was
+pub record KeepsArenas (p q : View) : Type 0 where
+  pub known : (b : ArenaId) → IsKnown p b → IsKnown q b
+  pub same : (b : ArenaId) → IsKnown p b → arena_of (state_in q) b ≡ arena_of (state_in p) b
+
+-- it opened a shared arena, and no other
+pub record IsOpened (pool : Pool) (p q : View) (a : ArenaId) : Type 0 where
+  pub lone : IsLone pool q
+  pub empty : IsEmpty (view_of_pass q) a
+  pub shared : a.kind ≡ Shared
+  pub unknown : ¬ (IsKnown p a)
+  pub only : (b : ArenaId) → IsKnown q b → (b ≡ a) ⊎ IsKnown p b
+  pub keeps : KeepsArenas p q
+
+-- the bytes that stand in the segment
+unfoldable pub bytes_in_pool : View → Region → List ℕ
+bytes_in_pool p s = bytes_at_places (state_in p) s
+
+-- A pass that is known to be whole, and a segment that is the start of a shared arena, which is alive; all entries are tidy
 pub record IsStocked (pool : Pool) (p : View) (s : Region) : Type 0 where
   pub outside : IsOutside pool p
   pub sound : IsSound p
-  pub ready : IsReady (view_of_pass p) s
+  pub whole : p.whole ≡ true
+  pub tidy : IsTidyPass p
+  pub start : s ≡ region_of s.arena 0 s.size
+  pub known : IsKnownTo (view_of_pass p) s
+  pub alive : (arena_of (state_in p) s.arena).life ≡ Alive
   pub shared : s.arena.kind ≡ Shared
-  pub none_gathered : p.gathered ≡ []
   pub passes : p.shape.passes ≡ pool_passes

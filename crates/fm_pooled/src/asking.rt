@@ -1,10 +1,9 @@
-ghost use Rattle.std.specs.Prelude.{◌≡◌, ◌<◌, ◌%◌, ◌≤◌, Ok, IfOk, IfErr};
-ghost use Rattle.fm_calls.specs.Told.{view_of_pass};
-ghost use Rattle.fm_load.specs.Held.{loaded_in};
-ghost use Rattle.fm_pooled.specs.Stocked.{IsStocked};
+ghost use Rattle.std.specs.Prelude.{◌≡◌, ◌<◌, ◌%◌, ◌≤◌, IfOk};
+ghost use Rattle.fm_pooled.specs.Asking.{Asked, HasPasses};
+ghost use Rattle.fm_pooled.specs.Stocked.{IsStocked, bytes_in_pool};
 ghost use Rattle.fm_records.specs.Answers.{answer};
 
-use fm_base::Refusal;
+use crate::wanting::unless_wanting;
 use fm_io::Gate;
 use fm_query::Query;
 use fm_records::Answer;
@@ -15,7 +14,7 @@ use std::alloc::{AllocError, Global};
 use std::sync::Wait;
 use std::thread::Threads;
 
-/// What a query answers over the records of a segment that is all of its arena, by so many passes.
+/// What a query answers over the records of a segment, by so many passes that are drawn for it.
 pub fn ask<R: Threads + Wait + Sync, G: Gate>(
     rt: &R,
     alloc: Global,
@@ -27,24 +26,14 @@ pub fn ask<R: Threads + Wait + Sync, G: Gate>(
     gate: &G,
 ) -> Result<Answer, AllocError>
     requires stocked { IsStocked pool.now pass.old s.now }
+    requires passes { HasPasses pass.old threads }
     requires even { s.now.size % q.now.size ≡ 0 }
     requires some { 0 < threads }
     requires few { threads ≤ 16 }
-    ensures { IfOk result (λ a. a ≡ answer q.now (loaded_in (view_of_pass pass.old) s.now)) }
+    ensures value { IfOk result (λ a. a ≡ answer q.now (bytes_in_pool pass.old s.now)) }
+    ensures asked { IfOk result (λ _. Asked threads pool.now pass.old pass.new q.now s.now) }
 {
-    let asked = query_with(rt, alloc, pool, pass, q, s, threads, gate);
-    let _caller = pass.caller();
+    let found = query_with(rt, alloc, pool, pass, q, s, threads, gate);
     // The arena is alive and shared, there are passes enough, and the records are whole.
-    unless_wanting(asked)
-}
-
-/// The answer. Nothing but memory was wanting.
-fn unless_wanting(asked: Result<Answer, Refusal>) -> Result<Answer, AllocError>
-    requires { IfErr asked (λ refusal. refusal ≡ Refusal.Memory) }
-    ensures { IfOk result (λ a. asked ≡ Ok a) }
-{
-    match asked {
-        Ok(answer) => Ok(answer),
-        Err(_) => Err(AllocError),
-    }
+    unless_wanting(found)
 }

@@ -1,9 +1,13 @@
-//! A record file in a pool of its own, and what a crew of passes answers of it.
+//! Bytes of records in a pool of their own, and what a crew of passes answers of them.
 #![tactic(auto)]
 
 mod asking;
-mod loading;
+mod finishing;
 mod pooled;
 mod shape;
+mod stocking;
+mod tallying;
+mod wanting;
 
-pub use pooled::{Pooled, load_pooled};
+pub use pooled::Pooled;
+pub use tallying::tally;

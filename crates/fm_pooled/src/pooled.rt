@@ -1,25 +1,23 @@
-ghost use Rattle.std.specs.Prelude.{◌≡◌, ◌≢◌, ◌%◌, ◌<◌, ◌≤◌, length, IfOk, IsErrOf, Err};
-ghost use Rattle.fm_io.specs.Count.{Rose};
-ghost use Rattle.fm_io.specs.Files.{IsAbsent};
-ghost use Rattle.fm_load.specs.Reading.{ReadsSome};
-ghost use Rattle.fm_load.specs.Whole.{IsWhole, IsOver};
+ghost use Rattle.std.specs.Prelude.{◌≡◌, ◌%◌, ◌<◌, ◌≤◌, length, IfOk};
+ghost use Rattle.fm_pooled.specs.Shown.{ShowsBoth, ShowsQuery};
 ghost use Rattle.fm_records.specs.Answers.{answer};
 
 use crate::asking::ask;
-use crate::loading::stock;
+use crate::finishing::finish;
 use crate::shape::shape_for;
-use fm_io::{Files, Gate};
-use fm_load::{LoadFault, RECORD_FILE_LIMIT, read_first};
+use crate::stocking::stock;
+use fm_io::Gate;
+use fm_load::RECORD_FILE_LIMIT;
 use fm_query::Query;
 use fm_records::Answer;
-use fm_rule::{Pass, Pool};
+use fm_rule::{Finished, Pass, Pool};
 use fm_segment::Segment;
 use std::alloc::{AllocError, Global};
 use std::marker::Model;
 use std::sync::Wait;
 use std::thread::Threads;
 
-/// The bytes of a record file, in the one arena of a pool of their own.
+/// Bytes in the one arena of a pool of their own, which is shared.
 #[derive(Drop)]
 pub struct Pooled {
     pool: Pool,
@@ -32,14 +30,31 @@ impl Model for Pooled {
 
     ghost Value = { List ℕ };
 
-    ghost use Rattle.fm_pooled.specs.Pooled.{pooled_bytes, HoldsFile};
+    ghost use Rattle.fm_pooled.specs.Pooled.{pooled_bytes, HoldsBytes};
 
     ghost view = { pooled_bytes };
 
-    ghost invariant = { HoldsFile };
+    ghost invariant = { HoldsBytes };
 }
 
 impl Pooled {
+    /// Puts the bytes into a pool, which has just their room, and gives the list back.
+    pub fn of_bytes<R: Wait>(rt: &R, alloc: Global, bytes: Vec<u8>) -> Result<Pooled, AllocError>
+        requires { length bytes.items ≤ RECORD_FILE_LIMIT }
+        ensures { IfOk result (λ pooled. pooled ≡ bytes.items) }
+    {
+        let shape = shape_for(bytes.len() as u64, 1);
+        let Ok((pool, pass)) = Pool::make(alloc, shape) else {
+            return Err(AllocError);
+        };
+        let (pass, segment) = stock(rt, &pool, pass, &bytes);
+        Ok(Pooled {
+            pool,
+            pass,
+            segment,
+        })
+    }
+
     /// How many bytes there are.
     pub fn len(&self) -> u64
         ensures { result ≡ length self.now }
@@ -48,7 +63,7 @@ impl Pooled {
     }
 
     /// What a query answers over the records, of which there is a whole number, by a crew of so many passes, each in a
-    /// thread of its own where one can be started.
+    /// thread of its own where one can be started; and the pool, once it is finished.
     pub fn answer<R: Threads + Wait + Sync, G: Gate>(
         self,
         rt: &R,
@@ -56,62 +71,49 @@ impl Pooled {
         q: &Query,
         threads: u32,
         gate: &G,
-    ) -> Result<Answer, AllocError>
+    ) -> Result<(Answer, Finished), AllocError>
         requires even { length self % q.now.size ≡ 0 }
         requires some { 0 < threads }
         requires few { threads ≤ 16 }
-        ensures { IfOk result (λ a. a ≡ answer q.now self) }
+        ensures answer { IfOk result (λ r. r.0 ≡ answer q.now self) }
+        ensures shows { IfOk result (λ r. ShowsQuery r.1 q.now self) }
     {
         let Pooled {
             pool,
             mut pass,
             segment,
         } = self;
-        ask(rt, alloc, &pool, &mut pass, &segment, q, threads, gate)
+        let found = ask(rt, alloc, &pool, &mut pass, &segment, q, threads, gate)?;
+        let finished = finish(alloc, pool, pass, &segment)?;
+        Ok((found, finished))
     }
-}
 
-/// Reads a whole record file into a pool.
-///
-/// The pool is made once the file's first bytes are read: it has just the room of a file that ends with them, and else
-/// that of the longest one. No second copy of the file is made. It reads up to the file's end, or until more bytes than
-/// the limit came.
-pub fn load_pooled<R: Wait, F: Files>(
-    rt: &R,
-    alloc: Global,
-    files: &mut F,
-    name: &str,
-) -> Result<Pooled, LoadFault>
-    ensures whole { IfOk result (IsWhole (F.holds files.old) name.now) }
-    ensures short { IfOk result (λ bytes. length bytes ≤ RECORD_FILE_LIMIT) }
-    ensures too_long { IsErrOf result LoadFault.TooLong →
-        IsOver (F.holds files.old) name.now RECORD_FILE_LIMIT }
-    ensures absent { IsErrOf result LoadFault.Missing → IsAbsent (F.holds files.old) name.now }
-    ensures missing { IsErrOf result LoadFault.Missing → Rose (F.misses files.old) (F.misses files.new) }
-    ensures failed { IsErrOf result LoadFault.Failed → Rose (F.faults files.old) (F.faults files.new) }
-    ensures never { result ≢ Err LoadFault.PoolFull }
-
-    // It reads on where the bytes of its last read end, in pieces, and up to the first byte past the limit at most.
-    ensures reads { ReadsSome (F.reads files.old) (F.reads files.new) name.now RECORD_FILE_LIMIT }
-    ensures quiet { result ≢ Err LoadFault.Failed → F.faults files.new ≡ F.faults files.old }
-    ensures found { result ≢ Err LoadFault.Missing → F.misses files.new ≡ F.misses files.old }
-    ensures held { F.holds files.new ≡ F.holds files.old }
-    ensures faults_stay { F.faults files.old ≤ F.faults files.new }
-    ensures misses_stay { F.misses files.old ≤ F.misses files.new }
-{
-    let first = match read_first(alloc, files, name) {
-        Ok(first) => first,
-        Err(fault) => return Err(fault),
-    };
-    let Ok((pool, pass)) = Pool::make(alloc, shape_for(first.room())) else {
-        return Err(LoadFault::Memory);
-    };
-    match stock(rt, files, name, first, &pool, pass) {
-        Ok((pass, segment)) => Ok(Pooled {
+    /// What two queries answer, one after the other, each by a crew of its own.
+    pub fn answer_both<R: Threads + Wait + Sync, G: Gate>(
+        self,
+        rt: &R,
+        alloc: Global,
+        p: &Query,
+        q: &Query,
+        threads: u32,
+        gate: &G,
+    ) -> Result<(Answer, Answer, Finished), AllocError>
+        requires first_even { length self % p.now.size ≡ 0 }
+        requires second_even { length self % q.now.size ≡ 0 }
+        requires some { 0 < threads }
+        requires few { threads ≤ 16 }
+        ensures first { IfOk result (λ r. r.0 ≡ answer p.now self) }
+        ensures second { IfOk result (λ r. r.1 ≡ answer q.now self) }
+        ensures shows { IfOk result (λ r. ShowsBoth r.2 p.now q.now self) }
+    {
+        let Pooled {
             pool,
-            pass,
+            mut pass,
             segment,
-        }),
-        Err(fault) => Err(fault),
+        } = self;
+        let first = ask(rt, alloc, &pool, &mut pass, &segment, p, threads, gate)?;
+        let second = ask(rt, alloc, &pool, &mut pass, &segment, q, threads, gate)?;
+        let finished = finish(alloc, pool, pass, &segment)?;
+        Ok((first, second, finished))
     }
 }

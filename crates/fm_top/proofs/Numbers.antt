@@ -12,7 +12,9 @@ use Rattle.fm_lanes.specs.Named.{kind_text}
 use Rattle.fm_lanes.proofs.Naming.{kind_text-injective}
 use Rattle.fm_lanes.specs.declared.value_kind.ValueKind.{ValueKind}
 use Rattle.fm_options.specs.Options.{texts}
-use Rattle.fm_top.specs.Words.{AreThreads, Sum, Layout, Query, AreFaulty, HasValue, IsSum, IsLayout, IsQuery, five, two}
+use Rattle.fm_top.specs.Words.{IsUpTo, Sum, Layout, Ask, Demo, Run, AreFaulty, HasValue, IsSum, IsLayout, IsOfFile, IsRun, IsAsk, IsDemo, five, two}
+use Rattle.fm_top.specs.declared.question.Question.{Question}
+use Rattle.fm_top.specs.declared.question.Question.TheVariants.{Query, Tally}
 
 -- what spells a number is read as that number
 read_spelled : {E : Type 0} (word : List ℕ) (r : Result ℕ E) (n : ℕ) → ParsesUnsigned 64 10 word r → n < 2 ^ 64 → word ≡ decimal n → r ≡ Ok n
@@ -76,22 +78,31 @@ pub none_summed : (words other : List (List ℕ)) → words ≡ other
 none_summed words other same none size at kind file asks =
     none size at kind file (subst (λ (all : List (List ℕ)). IsSum all size at kind file) same asks)
 
-pub none_laid_out : (words other : List (List ℕ)) → words ≡ other → ((file : List ℕ) → IsLayout other file → ⊥) → (file : List ℕ) → IsLayout words file → ⊥
-none_laid_out words other same none file asks = none file (subst (λ (all : List (List ℕ)). IsLayout all file) same asks)
+pub none_of_file : (words other : List (List ℕ)) (command : List ℕ) → words ≡ other → ((file : List ℕ) → IsOfFile other command file → ⊥)
+    → (file : List ℕ) → IsOfFile words command file → ⊥
+none_of_file words other command same none file asks = none file (subst (λ (all : List (List ℕ)). IsOfFile all command file) same asks)
 
--- where words ask for no layout, no query and no sum, they ask for nothing
+-- the words ask nothing of records by this question
+abbrev pub AsksNot : List (List ℕ) → Question → Type 0
+AsksNot words q = (threads : ℕ) (layout text file : List ℕ) → IsAsk words q threads layout text file → ⊥
+
+-- where words are those of no command, they ask for nothing
 pub none_asked : (words : List (List ℕ)) → ((file : List ℕ) → IsLayout words file → ⊥)
-    → ((threads : ℕ) (layout query file : List ℕ) → IsQuery words threads layout query file → ⊥)
-    → ((size at : ℕ) (kind : ValueKind) (file : List ℕ) → IsSum words size at kind file → ⊥) → AreFaulty words
-none_asked words lays_out queries sums (Sum size at kind file) asks = sums size at kind file asks
-none_asked words lays_out queries sums (Layout file) asks = lays_out file asks
-none_asked words lays_out queries sums (Query threads layout query file) asks = queries threads layout query file asks
+    → ((size at : ℕ) (kind : ValueKind) (file : List ℕ) → IsSum words size at kind file → ⊥) → AsksNot words Query → AsksNot words Tally
+    → ((threads count : ℕ) → IsDemo words threads count → ⊥) → ((file : List ℕ) → IsRun words file → ⊥) → AreFaulty words
+none_asked words lays_out sums queries tallies demos runs (Sum size at kind file) asks = sums size at kind file asks
+none_asked words lays_out sums queries tallies demos runs (Layout file) asks = lays_out file asks
+none_asked words lays_out sums queries tallies demos runs (Ask Query threads layout text file) asks = queries threads layout text file asks
+none_asked words lays_out sums queries tallies demos runs (Ask Tally threads layout text file) asks = tallies threads layout text file asks
+none_asked words lays_out sums queries tallies demos runs (Demo threads count) asks = demos threads count asks
+none_asked words lays_out sums queries tallies demos runs (Run file) asks = runs file asks
 
--- a word spells a number of threads that may not be asked for, so it spells none that may
-pub no_threads : (word : List ℕ) (n : ℕ) → word ≡ decimal n → n < 2 ^ 64 → (1 ≤ n → n ≤ 16 → ⊥) → (m : ℕ) → AreThreads m → word ≡ decimal m → ⊥
-no_threads word n is small not m are spelled =
-    let same : m ≡ n = decimal_injective m n (omega (arith, are.few)) small (sym spelled ∙ is) in
-    not (subst (λ (k : ℕ). 1 ≤ k) same are.some) (subst (λ (k : ℕ). k ≤ 16) same are.few)
+-- a word spells a number that isn't from 1 up to the most, so it spells none that is
+pub no_number_to : (word : List ℕ) (most n : ℕ) → most < 2 ^ 64 → word ≡ decimal n → n < 2 ^ 64 → (1 ≤ n → n ≤ most → ⊥)
+    → (m : ℕ) → IsUpTo most m → word ≡ decimal m → ⊥
+no_number_to word most n fits is small not m are spelled =
+    let same : m ≡ n = decimal_injective m n (omega (arith, are.few, fits)) small (sym spelled ∙ is) in
+    not (subst (λ (k : ℕ). 1 ≤ k) same are.some) (subst (λ (k : ℕ). k ≤ most) same are.few)
 
 -- what is known where nothing was found
 pub on_none : {A P Q : Type 0} (r : Option A) → (P → Q) → IfNone r P → IfNone r Q

@@ -7,11 +7,12 @@ use Rattle.fm_lanes.specs.declared.value_kind.ValueKind.{ValueKind}
 use Rattle.fm_query.specs.Plan.{Plan}
 use Rattle.fm_top.specs.Causes.{IsAsked}
 use Rattle.fm_load.specs.Limits.{record_file_limit}
-use Rattle.fm_top.specs.Outcome.{layout_file_limit}
+use Rattle.fm_top.specs.Outcome.{layout_file_limit, script_file_limit}
 use Rattle.fm_load.specs.Reading.{ReadsUpTo}
 use Rattle.fm_top.specs.Reading.{ReadsIf, AreReadsOf, first_limit, ReadsFor}
 use Rattle.fm_load.specs.Whole.{IsWhole}
-use Rattle.fm_top.specs.Words.{Request, Sum, Layout, Query, first_file, last_file}
+use Rattle.fm_top.specs.Words.{Request, Sum, Layout, Ask, Run, first_file, last_file}
+use Rattle.fm_top.specs.declared.question.Question.{Question}
 
 append_nil : (xs : List Read) → xs ++ [] ≡ xs
 append_nil [] = refl
@@ -70,9 +71,20 @@ layout_reads file told old new Goes reads = record {
   in_place = λ some. absurd (some refl);
 }
 
-pub query_first : (threads : ℕ) (layout text file : List ℕ) (told : Option Contents) (old new : Option (List Read)) (Goes : Next → Type 0)
-    → ReadsUpTo old new layout layout_file_limit Goes → ReadsFor (Query threads layout text file) told old new
-query_first threads layout text file told old new Goes reads = record {
+pub run_reads : (file : List ℕ) (told : Option Contents) (old new : Option (List Read)) (Goes : Next → Type 0)
+    → ReadsUpTo old new file script_file_limit Goes → ReadsFor (Run file) told old new
+run_reads file told old new Goes reads = record {
+  first = reads.reads;
+  last = [];
+  noted = only_first old new reads.reads reads.noted;
+  first_is = reads.follow;
+  last_is = refl;
+  in_place = λ some. absurd (some refl);
+}
+
+pub ask_first : (q : Question) (threads : ℕ) (layout text file : List ℕ) (told : Option Contents) (old new : Option (List Read)) (Goes : Next → Type 0)
+    → ReadsUpTo old new layout layout_file_limit Goes → ReadsFor (Ask q threads layout text file) told old new
+ask_first q threads layout text file told old new Goes reads = record {
   first = reads.reads;
   last = [];
   noted = only_first old new reads.reads reads.noted;
@@ -82,10 +94,10 @@ query_first threads layout text file told old new Goes reads = record {
 }
 
 -- both files were read, the second for what was found in the first
-pub query_both : (threads : ℕ) (layout text file bytes : List ℕ) (told : Option Contents) (old mid new : Option (List Read)) → IsWhole told layout bytes
-    → ReadsUpTo old mid layout layout_file_limit (λ next. next ≡ Ended) → ReadsIf mid new file record_file_limit ((p : Plan) × IsAsked (Some bytes) text p)
-    → ReadsFor (Query threads layout text file) told old new
-query_both threads layout text file bytes told old mid new whole first last = record {
+pub ask_both : (q : Question) (threads : ℕ) (layout text file bytes : List ℕ) (told : Option Contents) (old mid new : Option (List Read))
+    → IsWhole told layout bytes → ReadsUpTo old mid layout layout_file_limit (λ next. next ≡ Ended)
+    → ReadsIf mid new file record_file_limit ((p : Plan) × IsAsked q (Some bytes) text p) → ReadsFor (Ask q threads layout text file) told old new
+ask_both q threads layout text file bytes told old mid new whole first last = record {
   first = first.reads;
   last = last.reads;
   noted = ReadsOn-append old mid new first.reads last.reads first.noted last.noted;

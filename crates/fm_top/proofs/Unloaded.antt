@@ -1,27 +1,24 @@
 -- What follows where a file wasn't loaded.
-use Rattle.std.proofs.Common.{◌≡◌, ◌≢◌, ℕ, List, Option, None, Result, Ok, Err, refl, ap, sym, ◌∙◌}
+use Rattle.std.proofs.Common.{◌≡◌, ◌≢◌, ℕ, List, Option, Result, Ok, Err, refl, ap, sym, ◌∙◌}
 use Rattle.std.specs.Prelude.{IfOk, ◌↔◌}
 use Rattle.fm_io.specs.Count.{Rose}
 use Rattle.fm_io.specs.Files.{Contents, IsAbsent}
-use Rattle.fm_lanes.specs.declared.value_kind.ValueKind.{ValueKind}
-use Rattle.fm_query.specs.Plan.{Plan}
 use Rattle.fm_top.specs.Ending.{MissesOnly, shown}
 use Rattle.fm_top.specs.Found.{OfFound}
-use Rattle.fm_top.specs.Keeps.{Nothing}
 use Rattle.fm_load.specs.Limits.{record_file_limit}
-use Rattle.fm_top.specs.Outcome.{Outcome, layout_file_limit}
-use Rattle.fm_top.specs.Queries.{answer_outcome}
+use Rattle.fm_top.specs.Outcome.{Outcome, RecordsEnd, layout_file_limit, script_file_limit}
 use Rattle.fm_top.specs.Run.{HasOutcome}
 use Rattle.fm_top.specs.Unloaded.{EndsUnloaded}
 use Rattle.fm_load.specs.Whole.{IsOver}
-use Rattle.fm_top.specs.Words.{Sum, Layout, Query}
+use Rattle.fm_top.specs.Words.{Layout, Ask, Run}
 use Rattle.fm_top.specs.declared.ending.Ending.{Ending}
 use Rattle.fm_load.specs.declared.load_fault.LoadFault.{LoadFault}
 use Rattle.fm_load.specs.declared.load_fault.LoadFault.TheVariants.{Missing, Failed, TooLong, Memory, PoolFull}
+use Rattle.fm_top.specs.declared.question.Question.{Question}
 use Rattle.fm_top.specs.declared.status.Status.TheVariants as status
 use Rattle.fm_top.specs.declared.stop.Stop.{Stop}
 use Rattle.fm_top.specs.declared.stop.Stop.TheVariants as stop
-use Rattle.fm_top.proofs.Outcomes.{outcome-absent, outcome-over, layout-absent, layout-over, query-absent, query-over, answer-over}
+use Rattle.fm_top.proofs.Outcomes.{records-absent, records-over, layout-absent, layout-over, ask-absent, ask-over, script-absent, script-over}
 
 -- a fault is that of a load which had it, and is of this kind where that was
 pub fault_of : {X : Type 0} (r : Result X LoadFault) (fault kind : LoadFault) → r ≡ Err fault → fault ≡ kind → r ≡ Err kind
@@ -60,42 +57,42 @@ pub misses_only : (end : Result Ending Stop) (fault : LoadFault) (name : List �
 misses_only (Ok ending) fault name before now rose ends = λ is. rose (missed fault name (shown ending) ends is)
 misses_only (Err e) fault name before now rose ends = tt
 
--- a sum of a file that wasn't loaded
-pub sum_unloaded : (size at : ℕ) (kind : ValueKind) (name : List ℕ) (told : Option Contents) (fault : LoadFault) (o : Outcome)
-    → (fault ≡ Missing → IsAbsent told name) → (fault ≡ TooLong → IsOver told name record_file_limit) → EndsUnloaded fault name o
-    → HasOutcome (Sum size at kind name) told Nothing o
-sum_unloaded size at kind name told Missing o absent over ends = outcome-absent size at kind name told o (absent refl) ends
-sum_unloaded size at kind name told TooLong o absent over ends = outcome-over size at kind name told o (over refl) ends
-sum_unloaded size at kind name told Failed o absent over ends = absurd ends
-sum_unloaded size at kind name told Memory o absent over ends = absurd ends
-sum_unloaded size at kind name told PoolFull o absent over ends = absurd ends
+-- records of a file that wasn't loaded
+pub records_unloaded : (size : ℕ) (file : List ℕ) (Answers : List ℕ → Outcome → Type 0) (told : Option Contents) (fault : LoadFault) (o : Outcome)
+    → (fault ≡ Missing → IsAbsent told file) → (fault ≡ TooLong → IsOver told file record_file_limit) → EndsUnloaded fault file o
+    → OfFound told file (λ found. RecordsEnd size file Answers found o)
+records_unloaded size file Answers told Missing o absent over ends = records-absent size file Answers told o (absent refl) ends
+records_unloaded size file Answers told TooLong o absent over ends = records-over size file Answers told o (over refl) ends
+records_unloaded size file Answers told Failed o absent over ends = absurd ends
+records_unloaded size file Answers told Memory o absent over ends = absurd ends
+records_unloaded size file Answers told PoolFull o absent over ends = absurd ends
 
 -- a layout that wasn't loaded
 pub layout_unloaded : (name : List ℕ) (told : Option Contents) (fault : LoadFault) (o : Outcome)
     → (fault ≡ Missing → IsAbsent told name) → (fault ≡ TooLong → IsOver told name layout_file_limit) → EndsUnloaded fault name o
-    → HasOutcome (Layout name) told Nothing o
+    → HasOutcome (Layout name) told o
 layout_unloaded name told Missing o absent over ends = layout-absent name told o (absent refl) ends
 layout_unloaded name told TooLong o absent over ends = layout-over name told o (over refl) ends
 layout_unloaded name told Failed o absent over ends = absurd ends
 layout_unloaded name told Memory o absent over ends = absurd ends
 layout_unloaded name told PoolFull o absent over ends = absurd ends
 
--- a query whose layout wasn't loaded
-pub query_unloaded : (threads : ℕ) (layout text file : List ℕ) (told : Option Contents) (fault : LoadFault) (o : Outcome)
-    → (fault ≡ Missing → IsAbsent told layout) → (fault ≡ TooLong → IsOver told layout layout_file_limit) → EndsUnloaded fault layout o
-    → HasOutcome (Query threads layout text file) told Nothing o
-query_unloaded threads layout text file told Missing o absent over ends = query-absent threads layout text file told o (absent refl) ends
-query_unloaded threads layout text file told TooLong o absent over ends = query-over threads layout text file told o (over refl) ends
-query_unloaded threads layout text file told Failed o absent over ends = absurd ends
-query_unloaded threads layout text file told Memory o absent over ends = absurd ends
-query_unloaded threads layout text file told PoolFull o absent over ends = absurd ends
+-- a script that wasn't loaded
+pub script_unloaded : (file : List ℕ) (told : Option Contents) (fault : LoadFault) (o : Outcome)
+    → (fault ≡ Missing → IsAbsent told file) → (fault ≡ TooLong → IsOver told file script_file_limit) → EndsUnloaded fault file o
+    → HasOutcome (Run file) told o
+script_unloaded file told Missing o absent over ends = script-absent file told o (absent refl) ends
+script_unloaded file told TooLong o absent over ends = script-over file told o (over refl) ends
+script_unloaded file told Failed o absent over ends = absurd ends
+script_unloaded file told Memory o absent over ends = absurd ends
+script_unloaded file told PoolFull o absent over ends = absurd ends
 
--- an answer over a record file that wasn't loaded
-pub answer_unloaded : (p : Plan) (file : List ℕ) (told : Option Contents) (fault : LoadFault) (o : Outcome)
-    → (fault ≡ Missing → IsAbsent told file) → (fault ≡ TooLong → IsOver told file record_file_limit) → EndsUnloaded fault file o
-    → OfFound told file (λ found. o ≡ answer_outcome p file found)
-answer_unloaded p file told Missing o absent over ends = (None, absent refl, ends)
-answer_unloaded p file told TooLong o absent over ends = answer-over p file told o (over refl) ends
-answer_unloaded p file told Failed o absent over ends = absurd ends
-answer_unloaded p file told Memory o absent over ends = absurd ends
-answer_unloaded p file told PoolFull o absent over ends = absurd ends
+-- a query or a tally whose layout wasn't loaded
+pub ask_unloaded : (q : Question) (threads : ℕ) (layout text file : List ℕ) (told : Option Contents) (fault : LoadFault) (o : Outcome)
+    → (fault ≡ Missing → IsAbsent told layout) → (fault ≡ TooLong → IsOver told layout layout_file_limit) → EndsUnloaded fault layout o
+    → HasOutcome (Ask q threads layout text file) told o
+ask_unloaded q threads layout text file told Missing o absent over ends = ask-absent q threads layout text file told o (absent refl) ends
+ask_unloaded q threads layout text file told TooLong o absent over ends = ask-over q threads layout text file told o (over refl) ends
+ask_unloaded q threads layout text file told Failed o absent over ends = absurd ends
+ask_unloaded q threads layout text file told Memory o absent over ends = absurd ends
+ask_unloaded q threads layout text file told PoolFull o absent over ends = absurd ends

@@ -4,28 +4,31 @@ use Rattle.fm_base.specs.declared.refusal.Refusal.{Refusal}
 use Rattle.fm_io.specs.Files.{Contents, file_of}
 use Rattle.fm_layout.specs.Tree.{Tree}
 use Rattle.fm_ljson.specs.Answer.{layout_of_json}
-use Rattle.fm_query.specs.Parsed.{IsParsed}
 use Rattle.fm_query.specs.Plan.{Plan}
+use Rattle.fm_script.specs.Scripts.{IsRefused as IsScriptRefused}
 use Rattle.fm_load.specs.Limits.{record_file_limit}
-use Rattle.fm_top.specs.Outcome.{layout_file_limit}
-use Rattle.fm_top.specs.Queries.{IsRecordLayout, IsLayoutRefused, IsTextRefused}
-use Rattle.fm_top.specs.Words.{Request, Sum, Layout, Query}
+use Rattle.fm_top.specs.Outcome.{layout_file_limit, script_file_limit}
+use Rattle.fm_top.specs.Queries.{IsRecordLayout, IsLayoutRefused, IsPlanned, IsUnplanned}
+use Rattle.fm_top.specs.Words.{Request, Sum, Layout, Ask, Demo, Run}
+use Rattle.fm_top.specs.declared.question.Question.{Question}
 
 -- it is refused
 abbrev pub IsRefused : Result Tree Refusal → Type 0
 IsRefused r = (refusal : Refusal) × (r ≡ Err refusal)
 
--- the text is that of a query over records of the layout that was found, which comes to this plan
-abbrev pub IsAsked : Option (List ℕ) → List ℕ → Plan → Type 0
-IsAsked found text p = IsSomeAnd found (λ bytes. (t : Tree) × IsRecordLayout bytes t × IsParsed text t p)
+-- over records of the layout that was found the text comes to this plan
+abbrev pub IsAsked : Question → Option (List ℕ) → List ℕ → Plan → Type 0
+IsAsked q found text p = IsSomeAnd found (λ bytes. (t : Tree) × IsRecordLayout bytes t × IsPlanned q text t p)
 
 -- a file is missing
 abbrev pub LacksFile : Request → Contents → Type 0
 LacksFile (Sum size at kind file) contents = file_of contents file ≡ None
 LacksFile (Layout file) contents = file_of contents file ≡ None
-LacksFile (Query threads layout query file) contents =
+LacksFile (Ask q threads layout text file) contents =
     (file_of contents layout ≡ None)
-    ⊎ ((p : Plan) × IsAsked (file_of contents layout) query p × (file_of contents file ≡ None))
+    ⊎ ((p : Plan) × IsAsked q (file_of contents layout) text p × (file_of contents file ≡ None))
+LacksFile (Demo threads count) contents = ⊥
+LacksFile (Run file) contents = file_of contents file ≡ None
 
 -- what was found has more bytes than the limit
 abbrev pub IsLong : Option (List ℕ) → ℕ → Type 0
@@ -35,24 +38,30 @@ IsLong found limit = IsSomeAnd found (λ bytes. limit < length bytes)
 abbrev pub HasLongFile : Request → Contents → Type 0
 HasLongFile (Sum size at kind file) contents = IsLong (file_of contents file) record_file_limit
 HasLongFile (Layout file) contents = IsLong (file_of contents file) layout_file_limit
-HasLongFile (Query threads layout query file) contents =
+HasLongFile (Ask q threads layout text file) contents =
     IsLong (file_of contents layout) layout_file_limit
-    ⊎ ((p : Plan) × IsAsked (file_of contents layout) query p × IsLong (file_of contents file) record_file_limit)
+    ⊎ ((p : Plan) × IsAsked q (file_of contents layout) text p × IsLong (file_of contents file) record_file_limit)
+HasLongFile (Demo threads count) contents = ⊥
+HasLongFile (Run file) contents = IsLong (file_of contents file) script_file_limit
 
 -- the layout is refused
 abbrev pub HasRefusedLayout : Request → Contents → Type 0
 HasRefusedLayout (Sum size at kind file) contents = ⊥
 HasRefusedLayout (Layout file) contents =
     IsSomeAnd (file_of contents file) (λ bytes. (length bytes ≤ layout_file_limit) × IsRefused (layout_of_json bytes))
-HasRefusedLayout (Query threads layout query file) contents =
+HasRefusedLayout (Ask q threads layout text file) contents =
     IsSomeAnd (file_of contents layout) (λ bytes. (e : Refusal) × IsLayoutRefused bytes e)
+HasRefusedLayout (Demo threads count) contents = ⊥
+HasRefusedLayout (Run file) contents = ⊥
 
--- the query is refused
+-- the query or the path is refused
 abbrev pub HasRefusedQuery : Request → Contents → Type 0
 HasRefusedQuery (Sum size at kind file) contents = ⊥
 HasRefusedQuery (Layout file) contents = ⊥
-HasRefusedQuery (Query threads layout query file) contents =
-    IsSomeAnd (file_of contents layout) (λ bytes. (t : Tree) × IsRecordLayout bytes t × (e : Refusal) × IsTextRefused query t e)
+HasRefusedQuery (Ask q threads layout text file) contents =
+    IsSomeAnd (file_of contents layout) (λ bytes. (t : Tree) × IsRecordLayout bytes t × (e : Refusal) × IsUnplanned q text t e)
+HasRefusedQuery (Demo threads count) contents = ⊥
+HasRefusedQuery (Run file) contents = ⊥
 
 -- what was found is within the limit of record files, and its length is no multiple of the size
 abbrev pub IsUneven : Option (List ℕ) → ℕ → Type 0
@@ -62,5 +71,13 @@ IsUneven found size = IsSomeAnd found (λ bytes. (length bytes ≤ record_file_l
 abbrev pub HasRaggedFile : Request → Contents → Type 0
 HasRaggedFile (Sum size at kind file) contents = IsUneven (file_of contents file) size
 HasRaggedFile (Layout file) contents = ⊥
-HasRaggedFile (Query threads layout query file) contents =
-    (p : Plan) × IsAsked (file_of contents layout) query p × IsUneven (file_of contents file) p.size
+HasRaggedFile (Ask q threads layout text file) contents =
+    (p : Plan) × IsAsked q (file_of contents layout) text p × IsUneven (file_of contents file) p.size
+HasRaggedFile (Demo threads count) contents = ⊥
+HasRaggedFile (Run file) contents = ⊥
+
+-- the script is refused
+abbrev pub HasRefusedScript : Request → Contents → Type 0
+HasRefusedScript (Run file) contents =
+    IsSomeAnd (file_of contents file) (λ bytes. (length bytes ≤ script_file_limit) × ((line : ℕ) × IsScriptRefused bytes line))
+HasRefusedScript request contents = ⊥

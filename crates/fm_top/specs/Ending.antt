@@ -6,7 +6,7 @@ use Rattle.fm_top.specs.declared.ending.Ending.{Ending}
 use Rattle.fm_top.specs.declared.status.Status.TheVariants.{Missing}
 
 abbrev pub shown : Ending → Outcome
-shown ending = record { status = ending.status; text = string_bytes ending.text }
+shown ending = record { status = ending.status; text = string_bytes ending.text; left = ending.left }
 
 -- it tells of a missing file only where the count of misses rose
 abbrev pub MissesOnly : ℕ → ℕ → Ending → Type 0

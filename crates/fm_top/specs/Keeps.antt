@@ -1,21 +1,18 @@
 -- What a run keeps for its caller to look at.
-use Rattle.std.specs.Prelude.{ℕ, List}
-use Rattle.fm_base.specs.Calls.{Entry}
-use Rattle.fm_top.specs.declared.kept.Kept.{Kept}
+use Rattle.std.specs.Prelude.{Option, None, Some}
+use Rattle.fm_report.specs.Views.{ReportView}
+use Rattle.fm_rule.specs.Finishing.{FinishedView}
+use Rattle.fm_top.specs.declared.left.Left.{Left}
+use Rattle.fm_top.specs.declared.left.Left.TheVariants.{Nothing, Pool, Report}
 
--- a pool that was closed: how many bytes an arena of it could give, how many words a block has, and its history
-pub record Finished : Type 0 where
-  pub limit : ℕ
-  pub block : ℕ
-  pub history : List Entry
+-- the pool that is kept, if one is
+abbrev pub pool_in : Left → Option FinishedView
+pool_in Nothing = None
+pool_in (Pool finished) = Some finished
+pool_in (Report report) = None
 
-pub data Keeps : Type 0 where
-  Nothing : Keeps
-  -- the history of the pool that a command used
-  Pool : (finished : Finished) → Keeps
-  -- the report of a script, with the history of its pool
-  Report : (finished : Finished) (text : List ℕ) → Keeps
-
--- what stands in a `Kept`: nothing, since no command that there is uses a pool
-abbrev pub kept_in : Kept → Keeps
-kept_in kept = Nothing
+-- the report that is kept, if one is
+abbrev pub report_in : Left → Option ReportView
+report_in Nothing = None
+report_in (Pool finished) = None
+report_in (Report report) = Some report

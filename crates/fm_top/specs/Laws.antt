@@ -1,11 +1,16 @@
 -- What holds of every run, whatever the files.
 use Rattle.std.specs.Prelude.{◌≡◌, ℕ, List, Some}
 use Rattle.fm_io.specs.Files.{Contents}
-use Rattle.fm_top.specs.Keeps.{Keeps}
 use Rattle.fm_top.specs.Outcome.{Outcome}
 use Rattle.fm_top.specs.Run.{IsOutcome}
+use Rattle.fm_top.specs.Words.{IsRun}
 
--- words have one outcome over files that tell, and it is the same whatever is kept
+-- both print the same and have one status
+pub record PrintAlike (o o' : Outcome) : Type 0 where
+  pub status : o.status ≡ o'.status
+  pub text : o.text ≡ o'.text
+
+-- words print one outcome over files that tell, whatever is kept, unless they run a script
 abbrev pub HaveOneOutcome : Type 0
-HaveOneOutcome = (words : List (List ℕ)) (contents : Contents) (k k' : Keeps) (o o' : Outcome)
-    → IsOutcome words (Some contents) k o → IsOutcome words (Some contents) k' o' → o ≡ o'
+HaveOneOutcome = (words : List (List ℕ)) (contents : Contents) (o o' : Outcome) → ((file : List ℕ) → IsRun words file → ⊥)
+    → IsOutcome words (Some contents) o → IsOutcome words (Some contents) o' → PrintAlike o o'

@@ -1,5 +1,6 @@
 pub mod Asked
 pub mod Causes
+pub mod Demos
 pub mod Ending
 pub mod Found
 pub mod Keeps
@@ -9,6 +10,8 @@ pub mod Queries
 pub mod Reading
 pub mod Records
 pub mod Run
+pub mod Scripts
 pub mod Statuses
+pub mod Tallies
 pub mod Unloaded
 pub mod Words

@@ -1,5 +1,5 @@
--- How a run ends: its status, and all that it prints.
-use Rattle.std.specs.Prelude.{ℕ, ◌%◌, ◌==◌, nat_lt, if◌then◌else◌, List, [], ◌∷◌, ◌++◌, length, codes, Option, None, Some, Result, Ok, Err}
+-- How a run ends: its status, all that it prints, and what it keeps.
+use Rattle.std.specs.Prelude.{◌≡◌, ◌≢◌, ℕ, ◌%◌, ◌<◌, ◌≤◌, nat_lt, if◌then◌else◌, List, [], ◌∷◌, ◌++◌, length, codes, Option, None, Some, Result, Ok, Err}
 use Rattle.std.specs.Fmt.{decimal, signed_decimal}
 use Rattle.fm_load.specs.Limits.{record_file_limit}
 use Rattle.fm_base.specs.Printed.{refusal_text}
@@ -8,13 +8,23 @@ use Rattle.fm_lanes.specs.declared.value_kind.ValueKind.{ValueKind}
 use Rattle.fm_layout.specs.Tree.{Tree}
 use Rattle.fm_ljson.specs.Answer.{layout_of_json}
 use Rattle.fm_path.specs.Listing.{list_text}
+use Rattle.fm_report.specs.Texts.{report_text}
+use Rattle.fm_report.specs.Views.{ReportView}
+use Rattle.fm_rule.specs.Finishing.{FinishedView}
 use Rattle.fm_top.specs.Records.{sum_of_values}
+use Rattle.fm_top.specs.declared.left.Left.{Left}
+use Rattle.fm_top.specs.declared.left.Left.TheVariants.{Nothing, Pool, Report}
 use Rattle.fm_top.specs.declared.status.Status.{Status}
-use Rattle.fm_top.specs.declared.status.Status.TheVariants.{Answered, Usage, Missing, LayoutRefused, QueryRefused, Ragged, TooLong}
+use Rattle.fm_top.specs.declared.status.Status.TheVariants.{Answered, Usage, Missing, LayoutRefused, QueryRefused, Ragged, TooLong, ScriptRefused}
 
 pub record Outcome : Type 0 where
   pub status : Status
   pub text : List ℕ
+  pub left : Left
+
+-- it keeps nothing
+abbrev pub bare : Status → List ℕ → Outcome
+bare status text = record { status = status; text = text; left = Nothing }
 
 -- a line of text
 abbrev pub line : List ℕ → List ℕ
@@ -24,52 +34,71 @@ line text = text ++ 10 ∷ []
 abbrev pub layout_file_limit : ℕ
 layout_file_limit = 1048576
 
+-- the most bytes of a script's file
+abbrev pub script_file_limit : ℕ
+script_file_limit = 1048576
+
 -- the words are no command
 abbrev pub usage : Outcome
-usage = record { status = Usage; text = line (codes "usage") }
+usage = bare Usage (line (codes "usage"))
 
 -- there is no file of that name
 abbrev pub missing : List ℕ → Outcome
-missing file = record { status = Missing; text = line (codes "missing " ++ file) }
+missing file = bare Missing (line (codes "missing " ++ file))
 
 -- the file has more bytes than the limit
 abbrev pub too_long : Outcome
-too_long = record { status = TooLong; text = line (codes "too long") }
+too_long = bare TooLong (line (codes "too long"))
 
 -- the file's length leaves this rest when it is cut into records
 abbrev pub ragged : ℕ → Outcome
-ragged rest = record { status = Ragged; text = line (codes "ragged " ++ decimal rest) }
+ragged rest = bare Ragged (line (codes "ragged " ++ decimal rest))
 
 -- the layout is refused
 abbrev pub layout_refused : Refusal → Outcome
-layout_refused refusal = record { status = LayoutRefused; text = line (codes "layout refused " ++ refusal_text refusal) }
+layout_refused refusal = bare LayoutRefused (line (codes "layout refused " ++ refusal_text refusal))
 
--- the query is refused
+-- the query or the path is refused
 abbrev pub query_refused : Refusal → Outcome
-query_refused refusal = record { status = QueryRefused; text = line (codes "query refused " ++ refusal_text refusal) }
+query_refused refusal = bare QueryRefused (line (codes "query refused " ++ refusal_text refusal))
+
+-- the script is refused at this line
+abbrev pub script_refused : ℕ → Outcome
+script_refused number = bare ScriptRefused (line (codes "script refused " ++ decimal number))
 
 -- all else: the answer
 abbrev pub answered : List ℕ → Outcome
-answered text = record { status = Answered; text = text }
+answered text = bare Answered text
 
--- how a command ends that prints this text for a file of these bytes, which it cuts into records of so many
-abbrev pub of_records : ℕ → List ℕ → List ℕ → Outcome
-of_records size text bytes =
-    if nat_lt record_file_limit (length bytes) then too_long
-    else if length bytes % size == 0 then answered text
-    else ragged (length bytes % size)
+-- the answer, and the pool that gave it
+abbrev pub answered_by_pool : List ℕ → FinishedView → Outcome
+answered_by_pool text finished = record { status = Answered; text = text; left = Pool finished }
+
+-- what a script's run came to
+abbrev pub reported : ReportView → Outcome
+reported report = record { status = Answered; text = report_text report; left = Report report }
+
+-- how a command ends that cuts the file of this name into records of so many bytes, where this is found under the name,
+-- and `Answers` says how for whole records
+pub data RecordsEnd (size : ℕ) (file : List ℕ) (Answers : List ℕ → Outcome → Type 0) : Option (List ℕ) → Outcome → Type 0 where
+  no_file : RecordsEnd size file Answers None (missing file)
+  too_many : (bytes : List ℕ) → record_file_limit < length bytes → RecordsEnd size file Answers (Some bytes) too_long
+  uneven : (bytes : List ℕ) → length bytes ≤ record_file_limit → length bytes % size ≢ 0
+      → RecordsEnd size file Answers (Some bytes) (ragged (length bytes % size))
+  even : (bytes : List ℕ) (o : Outcome) → length bytes ≤ record_file_limit → length bytes % size ≡ 0 → Answers bytes o
+      → RecordsEnd size file Answers (Some bytes) o
 
 -- what `sum` prints for a file
 abbrev pub sum_text : ℕ → ℕ → ValueKind → List ℕ → List ℕ
 sum_text size at kind bytes = line (codes "sum " ++ signed_decimal (sum_of_values kind size at bytes))
 
--- how `sum` ends for a file of these bytes
-abbrev pub sum_of_file : ℕ → ℕ → ValueKind → List ℕ → Outcome
-sum_of_file size at kind bytes = of_records size (sum_text size at kind bytes) bytes
+-- how `sum` ends for a file of whole records
+abbrev pub IsSummed : ℕ → ℕ → ValueKind → List ℕ → Outcome → Type 0
+IsSummed size at kind bytes o = o ≡ answered (sum_text size at kind bytes)
 
-abbrev pub sum_outcome : ℕ → ℕ → ValueKind → List ℕ → Option (List ℕ) → Outcome
-sum_outcome size at kind file None = missing file
-sum_outcome size at kind file (Some bytes) = sum_of_file size at kind bytes
+-- how it ends where this is found under its file's name
+abbrev pub SumEnds : ℕ → ℕ → ValueKind → List ℕ → Option (List ℕ) → Outcome → Type 0
+SumEnds size at kind file found o = RecordsEnd size file (IsSummed size at kind) found o
 
 -- what `layout` prints of a layout, or of its refusal
 abbrev pub listing : Result Tree Refusal → Outcome

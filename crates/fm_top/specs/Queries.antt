@@ -1,16 +1,21 @@
--- How a query ends, and what it keeps, by what is found under the names of its two files.
+-- How a query or a tally ends by what is found under the names of its two files.
 use Rattle.std.specs.Prelude.{◌≡◌, ◌≢◌, ℕ, ◌<◌, ◌≤◌, List, length, Option, None, Some, Result, Ok, Err}
 use Rattle.fm_base.specs.declared.refusal.Refusal.{Refusal}
 use Rattle.fm_base.specs.declared.refusal.Refusal.TheVariants.{Memory}
 use Rattle.fm_layout.specs.Tree.{Tree}
 use Rattle.fm_ljson.specs.Answer.{layout_of_json}
+use Rattle.fm_pooled.specs.Shown.{ShowsQuery}
 use Rattle.fm_query.specs.Parsed.{IsParsed, IsNoQuery}
 use Rattle.fm_query.specs.Plan.{Plan}
 use Rattle.fm_query.specs.Records.{IsRecord, IsNoRecord}
 use Rattle.fm_records.specs.Answers.{answer}
 use Rattle.fm_records.specs.Texts.{answer_text}
-use Rattle.fm_top.specs.Keeps.{Keeps, Nothing}
-use Rattle.fm_top.specs.Outcome.{Outcome, missing, too_long, layout_refused, query_refused, of_records, layout_file_limit}
+use Rattle.fm_rule.specs.Finishing.{FinishedView}
+use Rattle.fm_workers.specs.Counts.{listed}
+use Rattle.fm_top.specs.Outcome.{Outcome, missing, too_long, layout_refused, query_refused, answered_by_pool, RecordsEnd, layout_file_limit}
+use Rattle.fm_top.specs.Tallies.{IsTallied, IsPathRefused, tally_text}
+use Rattle.fm_top.specs.declared.question.Question.{Question}
+use Rattle.fm_top.specs.declared.question.Question.TheVariants.{Query, Tally}
 
 -- ---- the layout
 
@@ -36,33 +41,42 @@ pub record IsTextRefused (text : List ℕ) (t : Tree) (e : Refusal) : Type 0 whe
   pub no_query : IsNoQuery text t e
   pub refused : e ≢ Memory
 
+-- the text comes to this plan: a query's text, or that of a path whose values are counted
+abbrev pub IsPlanned : Question → List ℕ → Tree → Plan → Type 0
+IsPlanned Query text t p = IsParsed text t p
+IsPlanned Tally text t p = IsTallied text t p
+
+-- or is refused so
+abbrev pub IsUnplanned : Question → List ℕ → Tree → Refusal → Type 0
+IsUnplanned Query text t e = IsTextRefused text t e
+IsUnplanned Tally text t e = IsPathRefused text t e
+
+-- what is printed of a record file with these bytes
+abbrev pub asked_text : Question → Plan → List ℕ → List ℕ
+asked_text Query p bytes = answer_text p (answer p bytes)
+asked_text Tally p bytes = tally_text (listed (answer p bytes))
+
 -- ---- the end
 
--- how the query of this plan ends where this is found under the record file's name
-abbrev pub answer_outcome : Plan → List ℕ → Option (List ℕ) → Outcome
-answer_outcome p file None = missing file
-answer_outcome p file (Some bytes) = of_records p.size (answer_text p (answer p bytes)) bytes
+-- the answer over whole records, and the pool that is kept, whose history shows it
+pub record IsAnswered (q : Question) (p : Plan) (bytes : List ℕ) (o : Outcome) : Type 0 where
+  pub finished : FinishedView
+  pub outcome : o ≡ answered_by_pool (asked_text q p bytes) finished
+  pub shows : ShowsQuery finished p bytes
 
--- how the text ends over records of this layout, and what it keeps
-pub data TextEnds (text : List ℕ) (t : Tree) (file : List ℕ) (found : Option (List ℕ)) : Keeps → Outcome → Type 0 where
-  text_refused : (e : Refusal) → IsTextRefused text t e → TextEnds text t file found Nothing (query_refused e)
-  answered_by : (p : Plan) → IsParsed text t p → TextEnds text t file found Nothing (answer_outcome p file found)
+-- how the text of this plan ends where this is found under the record file's name
+abbrev pub PlanEnds : Question → Plan → List ℕ → Option (List ℕ) → Outcome → Type 0
+PlanEnds q p file found o = RecordsEnd p.size file (IsAnswered q p) found o
 
--- how it ends where the layout's file has these bytes, and `Ends` says how over records of the layout
-pub data LayoutEnds (bytes : List ℕ) (Ends : Tree → Keeps → Outcome → Type 0) : Keeps → Outcome → Type 0 where
-  over_limit : layout_file_limit < length bytes → LayoutEnds bytes Ends Nothing too_long
-  no_layout : (e : Refusal) → IsLayoutRefused bytes e → LayoutEnds bytes Ends Nothing (layout_refused e)
-  over_layout : (t : Tree) → IsRecordLayout bytes t → (k : Keeps) → (o : Outcome) → Ends t k o → LayoutEnds bytes Ends k o
+-- how the text ends over records of this layout
+pub data TextEnds (q : Question) (text : List ℕ) (t : Tree) (file : List ℕ) (found : Option (List ℕ)) : Outcome → Type 0 where
+  unplanned : (e : Refusal) → IsUnplanned q text t e → TextEnds q text t file found (query_refused e)
+  planned : (p : Plan) (o : Outcome) → IsPlanned q text t p → PlanEnds q p file found o → TextEnds q text t file found o
 
--- how a command with a layout ends where this is found under the layout's name
-abbrev pub WithLayout : List ℕ → (Tree → Keeps → Outcome → Type 0) → Option (List ℕ) → Keeps → Outcome → Type 0
-WithLayout layout Ends None k o = (k ≡ Nothing) × (o ≡ missing layout)
-WithLayout layout Ends (Some bytes) k o = LayoutEnds bytes Ends k o
-
--- how a query ends over each layout, where this is found under the record file's name
-abbrev pub QueryText : List ℕ → List ℕ → Option (List ℕ) → Tree → Keeps → Outcome → Type 0
-QueryText text file found t k o = TextEnds text t file found k o
-
--- how a query ends where this is found under the layout's name, and this under the record file's
-abbrev pub QueryEnds : List ℕ → List ℕ → List ℕ → Option (List ℕ) → Option (List ℕ) → Keeps → Outcome → Type 0
-QueryEnds layout text file first found k o = WithLayout layout (QueryText text file found) first k o
+-- how it ends where this is found under the record file's name, and this under the layout's
+pub data AskEnds (q : Question) (layout text file : List ℕ) (last : Option (List ℕ)) : Option (List ℕ) → Outcome → Type 0 where
+  no_layout : AskEnds q layout text file last None (missing layout)
+  long_layout : (bytes : List ℕ) → layout_file_limit < length bytes → AskEnds q layout text file last (Some bytes) too_long
+  bad_layout : (bytes : List ℕ) (e : Refusal) → IsLayoutRefused bytes e → AskEnds q layout text file last (Some bytes) (layout_refused e)
+  over_layout : (bytes : List ℕ) (t : Tree) (o : Outcome) → IsRecordLayout bytes t → TextEnds q text t file last o
+      → AskEnds q layout text file last (Some bytes) o

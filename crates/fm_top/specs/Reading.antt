@@ -7,8 +7,8 @@ use Rattle.fm_load.specs.Reading.{piece_limit}
 use Rattle.fm_query.specs.Plan.{Plan}
 use Rattle.fm_top.specs.Causes.{IsAsked}
 use Rattle.fm_top.specs.Found.{OfFile}
-use Rattle.fm_top.specs.Outcome.{layout_file_limit}
-use Rattle.fm_top.specs.Words.{Request, Sum, Layout, Query, first_file, last_file}
+use Rattle.fm_top.specs.Outcome.{layout_file_limit, script_file_limit}
+use Rattle.fm_top.specs.Words.{Request, Sum, Layout, Ask, Demo, Run, first_file, last_file}
 
 -- A file was read so, if at all; where it was, this holds.
 pub record ReadsIf (old new : Option (List Read)) (name : List ℕ) (limit : ℕ) (P : Type 0) : Type 0 where
@@ -26,13 +26,17 @@ AreReadsOf (Some name) limit reads = Follow name piece_limit (limit + 1) (At 0) 
 abbrev pub first_limit : Request → ℕ
 first_limit (Sum size at kind file) = record_file_limit
 first_limit (Layout file) = layout_file_limit
-first_limit (Query threads layout query file) = layout_file_limit
+first_limit (Ask q threads layout text file) = layout_file_limit
+first_limit (Demo threads count) = 0
+first_limit (Run file) = script_file_limit
 
--- for this that was found first, a second file is read: the layout and the query stand
+-- for this that was found first, a second file is read: the layout and the text stand
 abbrev pub NeedsLast : Request → Option (List ℕ) → Type 0
 NeedsLast (Sum size at kind file) first = ⊥
 NeedsLast (Layout file) first = ⊥
-NeedsLast (Query threads layout query file) first = (p : Plan) × IsAsked first query p
+NeedsLast (Ask q threads layout text file) first = (p : Plan) × IsAsked q first text p
+NeedsLast (Demo threads count) first = ⊥
+NeedsLast (Run file) first = ⊥
 
 -- What was read for a request: its first file, and behind that its last one, which is read only where the first was read to its end and needs it.
 pub record ReadsFor (request : Request) (told : Option Contents) (old new : Option (List Read)) : Type 0 where

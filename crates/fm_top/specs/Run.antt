@@ -3,12 +3,15 @@ use Rattle.std.specs.Prelude.{◌≡◌, ◌⊎◌, ℕ, List, Option}
 use Rattle.fm_io.specs.Count.{Rose, Raised}
 use Rattle.fm_io.specs.Files.{Contents}
 use Rattle.fm_io.specs.Sink.{Appends, AppendsPrefix}
-use Rattle.fm_top.specs.Causes.{LacksFile, HasLongFile, HasRefusedLayout, HasRefusedQuery, HasRaggedFile}
+use Rattle.fm_top.specs.Causes.{LacksFile, HasLongFile, HasRefusedLayout, HasRefusedQuery, HasRaggedFile, HasRefusedScript}
+use Rattle.fm_top.specs.Demos.{DemoEnds}
 use Rattle.fm_top.specs.Found.{OfFile, file_under}
-use Rattle.fm_top.specs.Keeps.{Keeps, Nothing}
-use Rattle.fm_top.specs.Outcome.{Outcome, sum_outcome, layout_outcome, usage}
-use Rattle.fm_top.specs.Queries.{QueryEnds}
-use Rattle.fm_top.specs.Words.{Request, Sum, Layout, Query, Asks, AreFaulty, first_file, last_file}
+use Rattle.fm_top.specs.Outcome.{Outcome, SumEnds, layout_outcome, usage}
+use Rattle.fm_top.specs.Queries.{AskEnds}
+use Rattle.fm_top.specs.Scripts.{ScriptEnds}
+use Rattle.fm_top.specs.Words.{Request, Sum, Layout, Ask, Demo, Run, Asks, AreFaulty, first_file, last_file}
+use Rattle.fm_top.specs.declared.left.Left.{Left}
+use Rattle.fm_top.specs.declared.left.Left.TheVariants.{Nothing}
 use Rattle.fm_top.specs.declared.status.Status.{Status}
 use Rattle.fm_top.specs.declared.status.Status.TheVariants.{Answered, Usage, Missing, Unread, LayoutRefused, QueryRefused, Ragged, TooLong, Unwritten, NoMemory, ScriptRefused}
 
@@ -26,30 +29,32 @@ code_of Unwritten = 8
 code_of NoMemory = 9
 code_of ScriptRefused = 10
 
--- how the request ends, and what it keeps, where this is found under the names of its first and its last file
-abbrev pub EndsBy : Request → Option (List ℕ) → Option (List ℕ) → Keeps → Outcome → Type 0
-EndsBy (Sum size at kind file) first last k o = (k ≡ Nothing) × (o ≡ sum_outcome size at kind file first)
-EndsBy (Layout file) first last k o = (k ≡ Nothing) × (o ≡ layout_outcome file first)
-EndsBy (Query threads layout query file) first last k o = QueryEnds layout query file first last k o
+-- how the request ends where this is found under the names of its first and its last file
+abbrev pub EndsBy : Request → Option (List ℕ) → Option (List ℕ) → Outcome → Type 0
+EndsBy (Sum size at kind file) first last o = SumEnds size at kind file first o
+EndsBy (Layout file) first last o = o ≡ layout_outcome file first
+EndsBy (Ask q threads layout text file) first last o = AskEnds q layout text file last first o
+EndsBy (Demo threads count) first last o = DemoEnds count o
+EndsBy (Run file) first last o = ScriptEnds file first o
 
--- an outcome of the request, with what it keeps: over the files that are told, or else over what some reads may find
-abbrev pub HasOutcome : Request → Option Contents → Keeps → Outcome → Type 0
-HasOutcome request told k o =
-    OfFile told (first_file request) (λ first. OfFile told (last_file request) (λ last. EndsBy request first last k o))
+-- an outcome of the request: over the files that are told, or else over what some reads may find
+abbrev pub HasOutcome : Request → Option Contents → Outcome → Type 0
+HasOutcome request told o =
+    OfFile told (first_file request) (λ first. OfFile told (last_file request) (λ last. EndsBy request first last o))
 
 -- its outcome over these files
-abbrev pub IsOutcomeOver : Request → Contents → Keeps → Outcome → Type 0
-IsOutcomeOver request contents k o =
-    EndsBy request (file_under contents (first_file request)) (file_under contents (last_file request)) k o
+abbrev pub IsOutcomeOver : Request → Contents → Outcome → Type 0
+IsOutcomeOver request contents o =
+    EndsBy request (file_under contents (first_file request)) (file_under contents (last_file request)) o
 
 -- the words are those of a request
 abbrev pub AskSome : List (List ℕ) → Type 0
 AskSome words = (request : Request) × Asks words request
 
--- an outcome of the words, with what it keeps: usage, where they ask for nothing that there is
-pub data IsOutcome (words : List (List ℕ)) (told : Option Contents) : Keeps → Outcome → Type 0 where
-  faulty : AreFaulty words → IsOutcome words told Nothing usage
-  asked : (request : Request) (k : Keeps) (o : Outcome) → Asks words request → HasOutcome request told k o → IsOutcome words told k o
+-- an outcome of the words: usage, where they ask for nothing that there is
+pub data IsOutcome (words : List (List ℕ)) (told : Option Contents) : Outcome → Type 0 where
+  faulty : AreFaulty words → IsOutcome words told usage
+  asked : (request : Request) (o : Outcome) → Asks words request → HasOutcome request told o → IsOutcome words told o
 
 -- How often reads and writes had failed before the run, and have after it; what the sink tells before and after.
 pub record Traces : Type 0 where
@@ -77,18 +82,18 @@ pub data Prints (o : Outcome) (writes_before writes_failed : ℕ) (before after 
   stopped : AppendsPrefix before after o.text → Prints o writes_before writes_failed before after NoMemory
 
 -- what a run of the words leaves and keeps, where the files tell this, and with which status it may end
-pub data Runs (words : List (List ℕ)) (told : Option Contents) (t : Traces) : Keeps → Status → Type 0 where
+pub data Runs (words : List (List ℕ)) (told : Option Contents) (t : Traces) : Left → Status → Type 0 where
   -- the whole text of their outcome was written
-  whole : (k : Keeps) (o : Outcome) → IsOutcome words told k o → Appends t.before t.after o.text → Runs words told t k o.status
+  whole : (o : Outcome) → IsOutcome words told o → Appends t.before t.after o.text → Runs words told t o.left o.status
   -- a read failed, and nothing was written
   unread : AskSome words → Rose t.reads_before t.reads_failed → t.after ≡ t.before → Runs words told t Nothing Unread
   -- a write failed, and a prefix was written
-  unwritten : (k : Keeps) (o : Outcome) → IsOutcome words told k o → Raised t.writes_before t.writes_failed
-      → AppendsPrefix t.before t.after o.text → Runs words told t k Unwritten
+  unwritten : (o : Outcome) → IsOutcome words told o → Raised t.writes_before t.writes_failed
+      → AppendsPrefix t.before t.after o.text → Runs words told t o.left Unwritten
   -- memory ran out, and a prefix was written
-  no_memory : (k : Keeps) (o : Outcome) → IsOutcome words told k o → AppendsPrefix t.before t.after o.text → Runs words told t k NoMemory
+  no_memory : (o : Outcome) → IsOutcome words told o → AppendsPrefix t.before t.after o.text → Runs words told t o.left NoMemory
   -- memory ran out before the outcome was known, and nothing was written; what is kept is open
-  unknown : (k : Keeps) → t.after ≡ t.before → Runs words told t k NoMemory
+  unknown : (k : Left) → t.after ≡ t.before → Runs words told t k NoMemory
 
 -- the status, or an end in the writing of its text or for want of memory
 abbrev pub EndsWith : Status → ℕ → Type 0
@@ -102,9 +107,10 @@ pub record IsValid (request : Request) (contents : Contents) : Type 0 where
   pub layout : HasRefusedLayout request contents → ⊥
   pub query : HasRefusedQuery request contents → ⊥
   pub records : HasRaggedFile request contents → ⊥
+  pub script : HasRefusedScript request contents → ⊥
 
 -- the run ends with an answer of the words written whole, with what it keeps, or for want of memory
-pub data Answers (words : List (List ℕ)) (told : Option Contents) (k : Keeps) (before after : Option (List ℕ)) : ℕ → Type 0 where
-  is_answered : (o : Outcome) → IsOutcome words told k o → o.status ≡ Answered → Appends before after o.text
-      → Answers words told k before after (code_of Answered)
-  wants_memory : Answers words told k before after (code_of NoMemory)
+pub data Answers (words : List (List ℕ)) (told : Option Contents) (before after : Option (List ℕ)) : Left → ℕ → Type 0 where
+  is_answered : (o : Outcome) → IsOutcome words told o → o.status ≡ Answered → Appends before after o.text
+      → Answers words told before after o.left (code_of Answered)
+  wants_memory : (k : Left) → Answers words told before after k (code_of NoMemory)

@@ -2,7 +2,7 @@
 use Rattle.std.specs.Prelude.{ℕ, List, Option, IfSome, ⊤}
 use Rattle.fm_io.specs.Count.{Rose, Raised}
 use Rattle.fm_io.specs.Files.{Contents}
-use Rattle.fm_top.specs.Causes.{LacksFile, HasLongFile, HasRefusedLayout, HasRefusedQuery, HasRaggedFile}
+use Rattle.fm_top.specs.Causes.{LacksFile, HasLongFile, HasRefusedLayout, HasRefusedQuery, HasRaggedFile, HasRefusedScript}
 use Rattle.fm_top.specs.Run.{Traces}
 use Rattle.fm_top.specs.Words.{Request, Asks, AreFaulty}
 use Rattle.fm_top.specs.declared.status.Status.{Status}
@@ -12,7 +12,7 @@ use Rattle.fm_top.specs.declared.status.Status.TheVariants.{Answered, Usage, Mis
 abbrev pub AskFor : List (List ℕ) → Option Contents → (Request → Contents → Type 0) → Type 0
 AskFor words told Has = (request : Request) × Asks words request × IfSome told (Has request)
 
--- The causes, where these traces were left, and so many reads had found no file before and after. No command refuses a script
+-- The causes, where these traces were left, and so many reads had found no file before and after
 abbrev pub ComesOf : List (List ℕ) → Option Contents → Traces → (missed_before missed : ℕ) → Status → Type 0
 ComesOf words told t before missed Answered = ⊤
 ComesOf words told t before missed Usage = AreFaulty words
@@ -24,4 +24,4 @@ ComesOf words told t before missed Ragged = AskFor words told HasRaggedFile
 ComesOf words told t before missed TooLong = AskFor words told HasLongFile
 ComesOf words told t before missed Unwritten = Raised t.writes_before t.writes_failed
 ComesOf words told t before missed NoMemory = ⊤
-ComesOf words told t before missed ScriptRefused = ⊥
+ComesOf words told t before missed ScriptRefused = AskFor words told HasRefusedScript

@@ -5,6 +5,8 @@ use Rattle.fm_lanes.specs.declared.value_kind.ValueKind.{ValueKind}
 use Rattle.fm_lanes.specs.Kind.{width_of}
 use Rattle.fm_lanes.specs.Named.{kind_text}
 use Rattle.fm_options.specs.Options.{Say}
+use Rattle.fm_top.specs.declared.question.Question.{Question}
+use Rattle.fm_top.specs.declared.question.Question.TheVariants as question
 
 -- what a user asks for
 pub data Request : Type 0 where
@@ -12,20 +14,28 @@ pub data Request : Type 0 where
   Sum : (size at : ℕ) (kind : ValueKind) (file : List ℕ) → Request
   -- what stands where in the layout that the file has
   Layout : (file : List ℕ) → Request
-  -- what the query of this text answers over the records of the file, by the layout that its file has, on so many threads
-  Query : (threads : ℕ) (layout query file : List ℕ) → Request
+  -- what this text asks of the records of the file, by the layout that its file has, on so many threads
+  Ask : (question : Question) (threads : ℕ) (layout text file : List ℕ) → Request
+  -- what two queries answer over so many records that are made, on so many threads
+  Demo : (threads count : ℕ) → Request
+  -- what the script of this file does
+  Run : (file : List ℕ) → Request
 
 -- the name of the file that is read first, if one is read
 abbrev pub first_file : Request → Option (List ℕ)
 first_file (Sum size at kind file) = Some file
 first_file (Layout file) = Some file
-first_file (Query threads layout query file) = Some layout
+first_file (Ask question threads layout text file) = Some layout
+first_file (Demo threads count) = None
+first_file (Run file) = Some file
 
 -- the name of the file that is read behind it, if a second one is read
 abbrev pub last_file : Request → Option (List ℕ)
 last_file (Sum size at kind file) = None
 last_file (Layout file) = None
-last_file (Query threads layout query file) = Some file
+last_file (Ask question threads layout text file) = Some file
+last_file (Demo threads count) = None
+last_file (Run file) = None
 
 -- a value of this kind stands at byte `at` of each record of `size` bytes, aligned to its width in each record
 pub record HasValue (size at : ℕ) (kind : ValueKind) : Type 0 where
@@ -54,15 +64,27 @@ pub record IsSum (words : List (List ℕ)) (size at : ℕ) (kind : ValueKind) (f
   pub has_value : HasValue size at kind
   pub file_word : IsFileWord file
 
--- `layout FILE`
-pub record IsLayout (words : List (List ℕ)) (file : List ℕ) : Type 0 where
-  pub spelled : words ≡ two (codes "layout") file
+-- a command's word, and a file's
+pub record IsOfFile (words : List (List ℕ)) (command file : List ℕ) : Type 0 where
+  pub spelled : words ≡ two command file
   pub file_word : IsFileWord file
 
--- so many threads may be asked for
-pub record AreThreads (n : ℕ) : Type 0 where
+-- `layout FILE`
+abbrev pub IsLayout : List (List ℕ) → List ℕ → Type 0
+IsLayout words file = IsOfFile words (codes "layout") file
+
+-- `run FILE`
+abbrev pub IsRun : List (List ℕ) → List ℕ → Type 0
+IsRun words file = IsOfFile words (codes "run") file
+
+-- a number from 1 up to this one
+pub record IsUpTo (most n : ℕ) : Type 0 where
   pub some : 1 ≤ n
-  pub few : n ≤ 16
+  pub few : n ≤ most
+
+-- so many threads may be asked for
+abbrev pub AreThreads : ℕ → Type 0
+AreThreads = IsUpTo 16
 
 -- how many threads the option's text asks for: one, where the option doesn't stand there
 abbrev pub AreThreadsBy : Option (List ℕ) → ℕ → Type 0
@@ -77,21 +99,39 @@ pub record IsThreaded (words : List (List ℕ)) (command : List ℕ) (threads : 
   pub says : Say behind text named
   pub are_threads : AreThreadsBy text threads
 
--- `query [--threads N] LAYOUT QUERY FILE`
-abbrev pub IsQuery : List (List ℕ) → ℕ → List ℕ → List ℕ → List ℕ → Type 0
-IsQuery words threads layout query file = IsThreaded words (codes "query") threads (three layout query file)
+-- the command by which it is asked
+abbrev pub question_word : Question → List ℕ
+question_word question.Query = codes "query"
+question_word question.Tally = codes "tally"
+
+-- `query [--threads N] LAYOUT QUERY FILE` or `tally [--threads N] LAYOUT PATH FILE`
+abbrev pub IsAsk : List (List ℕ) → Question → ℕ → List ℕ → List ℕ → List ℕ → Type 0
+IsAsk words q threads layout text file = IsThreaded words (question_word q) threads (three layout text file)
+
+-- so many records may be made
+abbrev pub IsCount : ℕ → Type 0
+IsCount = IsUpTo 1000000
+
+-- `demo [--threads N] COUNT`
+pub record IsDemo (words : List (List ℕ)) (threads count : ℕ) : Type 0 where
+  pub threaded : IsThreaded words (codes "demo") threads (decimal count ∷ [])
+  pub is_count : IsCount count
 
 -- the words ask for this
 abbrev pub Asks : List (List ℕ) → Request → Type 0
 Asks words (Sum size at kind file) = IsSum words size at kind file
 Asks words (Layout file) = IsLayout words file
-Asks words (Query threads layout query file) = IsQuery words threads layout query file
+Asks words (Ask q threads layout text file) = IsAsk words q threads layout text file
+Asks words (Demo threads count) = IsDemo words threads count
+Asks words (Run file) = IsRun words file
 
 -- what some words ask for
 abbrev pub CanBeAsked : Request → Type 0
 CanBeAsked (Sum size at kind file) = HasValue size at kind
 CanBeAsked (Layout file) = Unit {0}
-CanBeAsked (Query threads layout query file) = AreThreads threads
+CanBeAsked (Ask q threads layout text file) = AreThreads threads
+CanBeAsked (Demo threads count) = AreThreads threads × IsCount count
+CanBeAsked (Run file) = Unit {0}
 
 -- the words ask for nothing that there is
 abbrev pub AreFaulty : List (List ℕ) → Type 0

@@ -1,93 +1,121 @@
-ghost use Rattle.std.specs.Prelude.{◌≡◌, ◌%◌, ◌<◌, ◌≤◌, length, IfOk, IsErrOf, ◌≢◌, Err};
+ghost use Rattle.std.specs.Prelude.{◌≡◌, ◌%◌, ◌≤◌, List, Some, length, IfOk, IsErrOf, ◌≢◌, Err, ℕ};
 ghost use Rattle.fm_io.specs.Count.{Rose};
-ghost use Rattle.fm_records.specs.Answers.{answer};
-ghost use Rattle.fm_records.specs.Texts.{answer_text};
+ghost use Rattle.fm_load.specs.Reading.{ReadsSome};
 ghost use Rattle.fm_top.specs.Ending.{MissesOnly, shown};
 ghost use Rattle.fm_top.specs.Found.{OfFound};
-ghost use Rattle.fm_top.specs.Outcome.{answered, of_records};
-ghost use Rattle.fm_load.specs.Reading.{ReadsSome};
-ghost use Rattle.fm_top.specs.Queries.{answer_outcome};
+ghost use Rattle.fm_top.specs.Queries.{IsAnswered, PlanEnds};
+ghost use Rattle.fm_top.specs.Words.{AreThreads};
+ghost use Rattle.fm_workers.specs.Counts.{IsTally};
 
+use crate::ask_words::AskCommand;
 use crate::ending::Ending;
 use crate::load_ending::unloaded_ending;
+use crate::question::Question;
 use crate::stop::Stop;
 use fm_io::{Files, Gate};
-use fm_load::RECORD_FILE_LIMIT;
-use fm_pooled::{Pooled, load_pooled};
+use fm_load::{RECORD_FILE_LIMIT, read_whole};
+use fm_pooled::{Pooled, tally};
 use fm_query::Query;
 use fm_records::print_answer;
+use fm_workers::print_counts;
 use std::alloc::{AllocError, Global};
 use std::sync::Wait;
 use std::thread::Threads;
 
-/// Reads the record file, and answers how the run ends. So many passes answer the query.
+/// Reads the record file, and answers how the run ends.
 pub fn answer_ending<R: Threads + Wait + Sync, F: Files, G: Gate>(
     rt: &R,
     alloc: Global,
     files: &mut F,
-    file: &str,
-    q: &Query,
-    threads: u32,
+    ask: &AskCommand<'_>,
+    plan: &Query,
     gate: &G,
 ) -> Result<Ending, Stop>
-    requires some { 0 < threads }
-    requires few { threads ≤ 16 }
-    ensures outcome { IfOk result (λ ending. OfFound (F.holds files.old) file.now (λ found.
-        shown ending ≡ answer_outcome q.now file.now found)) }
+    requires threads { AreThreads ask.now.threads }
+    requires tally { ask.now.question ≡ Question.Tally → IsTally plan.now }
+    ensures outcome { IfOk result (λ ending. OfFound (F.holds files.old) ask.now.file.now (λ found.
+        PlanEnds ask.now.question plan.now ask.now.file.now found (shown ending))) }
     ensures missing { IfOk result (MissesOnly (F.misses files.old) (F.misses files.new)) }
     ensures failed { IsErrOf result Stop.Failed → Rose (F.faults files.old) (F.faults files.new) }
-    ensures reads { ReadsSome (F.reads files.old) (F.reads files.new) file.now RECORD_FILE_LIMIT }
+    ensures reads { ReadsSome (F.reads files.old) (F.reads files.new) ask.now.file.now RECORD_FILE_LIMIT }
     ensures quiet { result ≢ Err Stop.Failed → F.faults files.new ≡ F.faults files.old }
     ensures held { F.holds files.new ≡ F.holds files.old }
     ensures faults_stay { F.faults files.old ≤ F.faults files.new }
     ensures misses_stay { F.misses files.old ≤ F.misses files.new }
 {
-    match load_pooled(rt, alloc, files, file) {
-        Ok(loaded) => Ok(loaded_ending(rt, alloc, loaded, q, threads, gate)?),
-        Err(fault) => unloaded_ending(alloc, file, fault),
+    match read_whole(alloc, files, ask.file, RECORD_FILE_LIMIT) {
+        Ok(bytes) => Ok(bytes_ending(rt, alloc, bytes, ask, plan, gate)?),
+        Err(fault) => unloaded_ending(alloc, ask.file, fault),
     }
 }
 
-/// How the run ends for a record file that was loaded whole.
-fn loaded_ending<R: Threads + Wait + Sync, G: Gate>(
+/// How the run ends for a record file with these bytes.
+fn bytes_ending<R: Threads + Wait + Sync, G: Gate>(
     rt: &R,
     alloc: Global,
-    loaded: Pooled,
+    bytes: Vec<u8>,
+    ask: &AskCommand<'_>,
+    plan: &Query,
+    gate: &G,
+) -> Result<Ending, AllocError>
+    requires short { length bytes.items ≤ RECORD_FILE_LIMIT }
+    requires threads { AreThreads ask.now.threads }
+    requires tally { ask.now.question ≡ Question.Tally → IsTally plan.now }
+    ensures { IfOk result (λ ending.
+        PlanEnds ask.now.question plan.now ask.now.file.now (Some bytes.items) (shown ending)) }
+{
+    let rest = bytes.len() as u64 % plan.record_size();
+    if rest != 0 {
+        return Ending::ragged(alloc, rest);
+    }
+    let threads = ask.threads as u32;
+    match ask.question {
+        Question::Query => query_ending(rt, alloc, bytes, plan, threads, gate),
+        Question::Tally => tally_ending(rt, alloc, bytes, plan, threads, gate),
+    }
+}
+
+/// What the query answers over a whole number of records.
+fn query_ending<R: Threads + Wait + Sync, G: Gate>(
+    rt: &R,
+    alloc: Global,
+    bytes: Vec<u8>,
     q: &Query,
     threads: u32,
     gate: &G,
 ) -> Result<Ending, AllocError>
-    requires short { length loaded ≤ RECORD_FILE_LIMIT }
-    requires some { 0 < threads }
-    requires few { threads ≤ 16 }
-    ensures { IfOk result (λ ending. shown ending
-        ≡ of_records q.now.size (answer_text q.now (answer q.now loaded)) loaded) }
+    requires short { length bytes.items ≤ RECORD_FILE_LIMIT }
+    requires even { length bytes.items % q.now.size ≡ 0 }
+    requires threads { AreThreads threads }
+    ensures { IfOk result (λ ending. IsAnswered Question.Query q.now bytes.items (shown ending)) }
 {
-    let rest = loaded.len() % q.record_size();
-    if rest == 0 {
-        whole_ending(rt, alloc, loaded, q, threads, gate)
-    } else {
-        Ending::ragged(alloc, rest)
+    let pooled = Pooled::of_bytes(rt, alloc, bytes)?;
+    let (answer, finished) = pooled.answer(rt, alloc, q, threads, gate)?;
+    match print_answer(alloc, q, &answer) {
+        Ok(text) => Ok(Ending::answered_by_pool(text, finished)),
+        // It is refused for want of memory alone.
+        Err(_) => Err(AllocError),
     }
 }
 
-/// How the run ends for a whole number of records. They are given back before the text is made.
-fn whole_ending<R: Threads + Wait + Sync, G: Gate>(
+/// How often each number comes that the query lists over a whole number of records.
+fn tally_ending<R: Threads + Wait + Sync, G: Gate>(
     rt: &R,
     alloc: Global,
-    loaded: Pooled,
+    bytes: Vec<u8>,
     q: &Query,
     threads: u32,
     gate: &G,
 ) -> Result<Ending, AllocError>
-    requires even { length loaded % q.now.size ≡ 0 }
-    requires some { 0 < threads }
-    requires few { threads ≤ 16 }
-    ensures { IfOk result (λ ending. shown ending ≡ answered (answer_text q.now (answer q.now loaded))) }
+    requires short { length bytes.items ≤ RECORD_FILE_LIMIT }
+    requires even { length bytes.items % q.now.size ≡ 0 }
+    requires threads { AreThreads threads }
+    requires tally { IsTally q.now }
+    ensures { IfOk result (λ ending. IsAnswered Question.Tally q.now bytes.items (shown ending)) }
 {
-    let found = loaded.answer(rt, alloc, q, threads, gate)?;
-    match print_answer(alloc, q, &found) {
-        Ok(text) => Ok(Ending::answered(text)),
+    let (counts, finished) = tally(rt, alloc, bytes, q, threads, gate)?;
+    match print_counts(alloc, &counts) {
+        Ok(text) => Ok(Ending::answered_by_pool(text, finished)),
         // It is refused for want of memory alone.
         Err(_) => Err(AllocError),
     }

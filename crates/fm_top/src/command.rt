@@ -3,16 +3,19 @@ ghost use Rattle.fm_io.specs.Count.{Rose};
 ghost use Rattle.fm_options.specs.Options.{texts};
 ghost use Rattle.fm_top.specs.Asked.{request_of};
 ghost use Rattle.fm_top.specs.Ending.{MissesOnly, shown};
-ghost use Rattle.fm_top.specs.Keeps.{Nothing};
 ghost use Rattle.fm_top.specs.Reading.{ReadsFor};
 ghost use Rattle.fm_top.specs.Run.{HasOutcome, IsOutcome, AskSome};
 ghost use Rattle.fm_top.specs.Words.{Request, Asks, AreFaulty, CanBeAsked};
 
+use crate::ask_words::{AskCommand, ask_words};
+use crate::asking::ask_ending;
+use crate::demo::demo_ending;
+use crate::demo_words::{DemoCommand, demo_words};
 use crate::ending::Ending;
+use crate::file_words::{LayoutCommand, RunCommand, file_words};
 use crate::layout::listing_ending;
-use crate::layout_words::{LayoutCommand, layout_words};
-use crate::query::query_ending;
-use crate::query_words::{QueryCommand, query_words};
+use crate::question::Question;
+use crate::scripting::script_ending;
 use crate::stop::Stop;
 use crate::sum::sum_ending;
 use crate::sum_words::{SumCommand, sum_words};
@@ -26,7 +29,9 @@ use std::thread::Threads;
 pub enum Command<'a> {
     Sum(SumCommand<'a>),
     Layout(LayoutCommand<'a>),
-    Query(QueryCommand<'a>),
+    Ask(AskCommand<'a>),
+    Demo(DemoCommand),
+    Run(RunCommand<'a>),
 }
 
 /// What the words ask for, and nothing where they are of no form.
@@ -35,14 +40,23 @@ pub fn command_of<'a>(alloc: Global, words: &'a [String]) -> Result<Option<Comma
         IfSome found (λ command. Asks (texts words.now) (request_of command))) }
     ensures none { IfOk result (λ found. IfNone found (AreFaulty (texts words.now))) }
 {
-    if let Some(layout) = layout_words(words) {
-        return Ok(Some(Command::Layout(layout)));
+    if let Some(file) = file_words(words, "layout") {
+        return Ok(Some(Command::Layout(LayoutCommand { file })));
+    }
+    if let Some(file) = file_words(words, "run") {
+        return Ok(Some(Command::Run(RunCommand { file })));
     }
     if let Some(sum) = sum_words(words) {
         return Ok(Some(Command::Sum(sum)));
     }
-    match query_words(alloc, words)? {
-        Some(query) => Ok(Some(Command::Query(query))),
+    if let Some(ask) = ask_words(alloc, words, Question::Query)? {
+        return Ok(Some(Command::Ask(ask)));
+    }
+    if let Some(ask) = ask_words(alloc, words, Question::Tally)? {
+        return Ok(Some(Command::Ask(ask)));
+    }
+    match demo_words(alloc, words)? {
+        Some(demo) => Ok(Some(Command::Demo(demo))),
         None => Ok(None),
     }
 }
@@ -55,7 +69,7 @@ pub fn ending_of<R: Threads + Wait + Sync, F: Files, G: Gate>(
     files: &mut F,
     gate: &G,
 ) -> Result<Ending, Stop>
-    ensures outcome { IfOk result (λ ending. IsOutcome (texts words.now) (F.holds files.old) Nothing (shown ending)) }
+    ensures outcome { IfOk result (λ ending. IsOutcome (texts words.now) (F.holds files.old) (shown ending)) }
     ensures asked { IsErrOf result Stop.Failed → AskSome (texts words.now) }
     ensures reads_nothing { AreFaulty (texts words.now) → files.new ≡ files.old }
     ensures missed { IfOk result (MissesOnly (F.misses files.old) (F.misses files.new)) }
@@ -83,7 +97,7 @@ fn command_ending<R: Threads + Wait + Sync, F: Files, G: Gate>(
 ) -> Result<Ending, Stop>
     requires { CanBeAsked (request_of command.now) }
     ensures outcome { IfOk result (λ ending.
-        HasOutcome (request_of command.now) (F.holds files.old) Nothing (shown ending)) }
+        HasOutcome (request_of command.now) (F.holds files.old) (shown ending)) }
     ensures missed { IfOk result (MissesOnly (F.misses files.old) (F.misses files.new)) }
     ensures unread { IsErrOf result Stop.Failed → Rose (F.faults files.old) (F.faults files.new) }
     ensures reads { ReadsFor (request_of command.now) (F.holds files.old) (F.reads files.old) (F.reads files.new) }
@@ -95,6 +109,8 @@ fn command_ending<R: Threads + Wait + Sync, F: Files, G: Gate>(
     match command {
         Command::Sum(sum) => sum_ending(rt, alloc, files, sum),
         Command::Layout(layout) => listing_ending(alloc, files, layout.file),
-        Command::Query(query) => query_ending(rt, alloc, files, query, gate),
+        Command::Ask(ask) => ask_ending(rt, alloc, files, ask, gate),
+        Command::Demo(demo) => Ok(demo_ending(rt, alloc, demo, gate)?),
+        Command::Run(run) => script_ending(rt, alloc, files, run.file, gate),
     }
 }

@@ -1,18 +1,23 @@
-ghost use Rattle.std.specs.Prelude.{◌≡◌, ◌++◌, ◌∷◌, [], IfOk, string_bytes, codes};
-ghost use Rattle.std.specs.Fmt.{decimal, signed_decimal};
-ghost use Rattle.fm_top.specs.Outcome.{line, usage, missing, too_long, ragged, answered, layout_refused, query_refused};
+ghost use Rattle.std.specs.Prelude.{◌≡◌, ◌++◌, IfOk, string_bytes, codes};
+ghost use Rattle.std.specs.Fmt.{signed_decimal};
+ghost use Rattle.fm_top.specs.Outcome.{answered, answered_by_pool, bare, layout_refused, line, missing, query_refused, ragged, reported, script_refused, too_long, usage};
+ghost use Rattle.fm_report.specs.Texts.{report_text};
 ghost use Rattle.fm_top.specs.Ending.{shown};
 
+use crate::left::Left;
 use crate::status::Status;
 use fm_base::Refusal;
+use fm_report::Report;
+use fm_rule::Finished;
 use itoa::Buffer;
 use std::alloc::{AllocError, Global};
 
-/// How a run ends: its status, and all that it prints.
+/// How a run ends: its status, all that it prints, and what it leaves.
 #[derive(Drop)]
 pub struct Ending {
     pub status: Status,
     pub text: String,
+    pub left: Left,
 }
 
 impl Ending {
@@ -20,69 +25,82 @@ impl Ending {
     pub fn usage(alloc: Global) -> Result<Ending, AllocError>
         ensures { IfOk result (λ ending. shown ending ≡ usage) }
     {
-        Ok(Ending {
-            status: Status::Usage,
-            text: text_line(alloc, "usage", "")?,
-        })
+        Ok(Ending::bare(Status::Usage, text_line(alloc, "usage", "")?))
     }
 
     /// There is no file of that name.
     pub fn missing(alloc: Global, file: &str) -> Result<Ending, AllocError>
         ensures { IfOk result (λ ending. shown ending ≡ missing file.now) }
     {
-        Ok(Ending {
-            status: Status::Missing,
-            text: text_line(alloc, "missing ", file)?,
-        })
+        Ok(Ending::bare(Status::Missing, text_line(alloc, "missing ", file)?))
     }
 
     /// The file has more bytes than its limit.
     pub fn too_long(alloc: Global) -> Result<Ending, AllocError>
         ensures { IfOk result (λ ending. shown ending ≡ too_long) }
     {
-        Ok(Ending {
-            status: Status::TooLong,
-            text: text_line(alloc, "too long", "")?,
-        })
+        Ok(Ending::bare(Status::TooLong, text_line(alloc, "too long", "")?))
     }
 
     /// The file's length leaves this rest when it is cut into records.
     pub fn ragged(alloc: Global, rest: u64) -> Result<Ending, AllocError>
         ensures { IfOk result (λ ending. shown ending ≡ ragged rest) }
     {
-        Ok(Ending {
-            status: Status::Ragged,
-            text: text_line(alloc, "ragged ", Buffer::new().format(rest))?,
-        })
+        let text = text_line(alloc, "ragged ", Buffer::new().format(rest))?;
+        Ok(Ending::bare(Status::Ragged, text))
     }
 
     /// The layout is refused.
     pub fn layout_refused(alloc: Global, refusal: Refusal) -> Result<Ending, AllocError>
         ensures { IfOk result (λ ending. shown ending ≡ layout_refused refusal) }
     {
-        Ok(Ending {
-            status: Status::LayoutRefused,
-            text: format!(in alloc; "layout refused {refusal}\n")?,
-        })
+        let text = format!(in alloc; "layout refused {refusal}\n")?;
+        Ok(Ending::bare(Status::LayoutRefused, text))
     }
 
-    /// The query is refused.
+    /// The query or the path is refused.
     pub fn query_refused(alloc: Global, refusal: Refusal) -> Result<Ending, AllocError>
         ensures { IfOk result (λ ending. shown ending ≡ query_refused refusal) }
     {
-        Ok(Ending {
-            status: Status::QueryRefused,
-            text: format!(in alloc; "query refused {refusal}\n")?,
-        })
+        let text = format!(in alloc; "query refused {refusal}\n")?;
+        Ok(Ending::bare(Status::QueryRefused, text))
+    }
+
+    /// The script is refused at this line.
+    pub fn script_refused(alloc: Global, line: u64) -> Result<Ending, AllocError>
+        ensures { IfOk result (λ ending. shown ending ≡ script_refused line) }
+    {
+        let text = text_line(alloc, "script refused ", Buffer::new().format(line))?;
+        Ok(Ending::bare(Status::ScriptRefused, text))
     }
 
     /// The answer, which is this text.
     pub fn answered(text: String) -> Ending
         ensures { shown result ≡ answered (string_bytes text) }
     {
+        Ending::bare(Status::Answered, text)
+    }
+
+    /// The answer, and the pool that gave it.
+    pub fn answered_by_pool(text: String, finished: Finished) -> Ending
+        ensures { shown result ≡ answered_by_pool (string_bytes text) finished }
+    {
         Ending {
             status: Status::Answered,
             text,
+            left: Left::Pool(finished),
+        }
+    }
+
+    /// What a script's run came to, of which this is the text.
+    pub fn reported(text: String, report: Report) -> Ending
+        requires { string_bytes text ≡ report_text report }
+        ensures { shown result ≡ reported report }
+    {
+        Ending {
+            status: Status::Answered,
+            text,
+            left: Left::Report(report),
         }
     }
 
@@ -90,10 +108,19 @@ impl Ending {
     pub fn sum(alloc: Global, sum: i128) -> Result<Ending, AllocError>
         ensures { IfOk result (λ ending. shown ending ≡ answered (line (codes "sum " ++ signed_decimal sum))) }
     {
-        Ok(Ending {
-            status: Status::Answered,
-            text: text_line(alloc, "sum ", Buffer::new().format(sum))?,
-        })
+        let text = text_line(alloc, "sum ", Buffer::new().format(sum))?;
+        Ok(Ending::answered(text))
+    }
+
+    /// An end that leaves nothing.
+    fn bare(status: Status, text: String) -> Ending
+        ensures { shown result ≡ bare status (string_bytes text) }
+    {
+        Ending {
+            status,
+            text,
+            left: Left::Nothing,
+        }
     }
 }
 

@@ -1,32 +1,62 @@
-ghost use Rattle.std.specs.Prelude.{◌≡◌};
-ghost use Rattle.fm_top.specs.Keeps.{Keeps, Nothing, kept_in};
+ghost use Rattle.std.specs.Prelude.{◌≡◌, option_copied};
+ghost use Rattle.fm_top.specs.Keeps.{pool_in, report_in};
 
-/// What a run leaves for its caller to look at.
-#[derive(Debug, Drop)]
-pub struct Kept {}
+use crate::left::Left;
+use fm_report::Report;
+use fm_rule::Finished;
+use std::marker::Model;
+
+/// What a run leaves for its caller to look at. Each run empties it first.
+#[derive(Drop)]
+pub struct Kept {
+    left: Left,
+}
+
+impl Model for Kept {
+    ghost use Rattle.fm_top.specs.declared.left.Left.{Left};
+
+    ghost Value = { Left };
+
+    ghost view = { λ k. k.left };
+}
 
 impl Kept {
     /// Keeps nothing.
     pub fn new() -> Kept
-        ensures { kept_in result ≡ Nothing }
+        ensures { result ≡ Left.Nothing }
     {
-        Kept {}
+        Kept {
+            left: Left::Nothing,
+        }
     }
-}
 
-/// What may keep something: a run that is generic over it empties it, whatever it kept before.
-pub trait Keep {
-    ghost keeps: { Self → Keeps };
+    /// Keeps what a run left.
+    pub(crate) fn of(left: Left) -> Kept
+        ensures { result ≡ left }
+    {
+        Kept { left }
+    }
 
-    /// Keeps nothing from now on.
-    fn clear(&mut self)
-        ensures { keeps self.new ≡ Nothing };
-}
+    /// The pool that a query, a tally or a demonstration used. It is there where the run came to an answer, whether or
+    /// not all of that could be written, and nowhere else but for want of memory, where it may be.
+    pub fn finished(&self) -> Option<&Finished>
+        ensures { option_copied result ≡ pool_in self.now }
+    {
+        match &self.left {
+            Left::Nothing => None,
+            Left::Pool(finished) => Some(finished),
+            Left::Report(_) => None,
+        }
+    }
 
-impl Keep for Kept {
-    ghost keeps = { kept_in };
-
-    fn clear(&mut self) {
-        *self = Kept::new();
+    /// The report of a script, with the pool that it ran on. It is there where the script was run, whether or not all of
+    /// the report could be written, and nowhere else but for want of memory, where it may be.
+    pub fn report(&self) -> Option<&Report>
+        ensures { option_copied result ≡ report_in self.now }
+    {
+        match &self.left {
+            Left::Report(report) => Some(report),
+            Left::Nothing | Left::Pool(_) => None,
+        }
     }
 }

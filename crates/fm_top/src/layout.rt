@@ -1,7 +1,6 @@
 ghost use Rattle.std.specs.Prelude.{◌≡◌, ◌≤◌, IfOk, IfErr, IsErrOf, length, ◌≢◌, Err};
 ghost use Rattle.fm_io.specs.Count.{Rose};
 ghost use Rattle.fm_top.specs.Ending.{MissesOnly, shown};
-ghost use Rattle.fm_top.specs.Keeps.{Nothing};
 ghost use Rattle.fm_top.specs.Outcome.{layout_of_file};
 ghost use Rattle.fm_load.specs.Reading.{ReadsSome};
 ghost use Rattle.fm_top.specs.Run.{HasOutcome};
@@ -20,7 +19,7 @@ use std::alloc::Global;
 
 /// Reads the file of a layout, and answers how the run ends.
 pub fn listing_ending<F: Files>(alloc: Global, files: &mut F, file: &str) -> Result<Ending, Stop>
-    ensures outcome { IfOk result (λ ending. HasOutcome (Layout file.now) (F.holds files.old) Nothing (shown ending)) }
+    ensures outcome { IfOk result (λ ending. HasOutcome (Layout file.now) (F.holds files.old) (shown ending)) }
     ensures missing { IfOk result (MissesOnly (F.misses files.old) (F.misses files.new)) }
     ensures failed { IsErrOf result Stop.Failed → Rose (F.faults files.old) (F.faults files.new) }
     ensures reads { ReadsSome (F.reads files.old) (F.reads files.new) file.now LAYOUT_FILE_LIMIT }

@@ -3,18 +3,25 @@
 #![tactic(auto)]
 
 mod answering;
+mod ask_words;
+mod asking;
 mod command;
+mod demo;
+mod demo_layout;
+mod demo_words;
 mod ending;
+mod file_words;
 mod kept;
 mod laws;
 mod layout;
-mod layout_words;
+mod left;
 mod load_ending;
 mod number;
 mod plain;
-mod query;
-mod query_words;
+mod planning;
+mod question;
 mod run;
+mod scripting;
 mod status;
 mod stop;
 mod sum;
@@ -22,16 +29,20 @@ mod sum_words;
 mod summing;
 #[cfg(test)]
 mod tests;
+mod threaded_words;
 mod threads;
 
+pub use ask_words::AskCommand;
 pub use command::Command;
+pub use demo_words::DemoCommand;
+pub use file_words::{LayoutCommand, RunCommand};
 pub use fm_load::{
     LAYOUT_FILE_LIMIT, LoadFault, Loaded, RECORD_FILE_LIMIT, load, load_into, read_whole,
 };
 pub use kept::Kept;
 pub use laws::words_have_one_outcome;
-pub use layout_words::LayoutCommand;
-pub use query_words::QueryCommand;
+pub use question::Question;
 pub use run::run_tool;
+pub use scripting::SCRIPT_FILE_LIMIT;
 pub use status::Status;
 pub use sum_words::SumCommand;

@@ -1,5 +1,6 @@
 ghost use Rattle.std.specs.Prelude.{◌≡◌, ◌^◌, ◌<◌, IfSome, IfNone, ℕ};
 ghost use Rattle.std.specs.Fmt.{decimal};
+ghost use Rattle.fm_top.specs.Words.{IsUpTo};
 
 use itoa::Buffer;
 
@@ -18,4 +19,15 @@ pub fn number_of_word(word: &str) -> Option<u64>
     } else {
         None
     }
+}
+
+/// The number from 1 up to the most that a word spells.
+pub fn number_up_to(word: &str, most: u64) -> Option<u64>
+    ensures found { IfSome result (λ n. IsUpTo most n × (word.now ≡ decimal n)) }
+    ensures none { IfNone result ((n : ℕ) → IsUpTo most n → word.now ≡ decimal n → ⊥) }
+{
+    let Some(n) = number_of_word(word) else {
+        return None;
+    };
+    if 1 <= n && n <= most { Some(n) } else { None }
 }

@@ -3,7 +3,6 @@ ghost use Rattle.fm_io.specs.Count.{Rose, Raised};
 ghost use Rattle.fm_io.specs.Files.{Contents};
 ghost use Rattle.fm_options.specs.Options.{texts};
 ghost use Rattle.fm_top.specs.Ending.{shown};
-ghost use Rattle.fm_top.specs.Keeps.{Nothing, kept_in};
 ghost use Rattle.fm_top.specs.Reading.{ReadsFor};
 ghost use Rattle.fm_top.specs.Run.{IsValid, Runs, Prints, traces_of, code_of, EndsWith, Answers};
 ghost use Rattle.fm_top.specs.Statuses.{ComesOf};
@@ -12,7 +11,7 @@ ghost use Rattle.fm_top.specs.declared.status.Status.TheVariants.{Usage, Missing
 
 use crate::command::ending_of;
 use crate::ending::Ending;
-use crate::kept::{Keep, Kept};
+use crate::kept::Kept;
 use crate::status::Status;
 use crate::stop::Stop;
 use fm_io::{Fault, Files, Gate, Sink, write_text};
@@ -24,7 +23,7 @@ use std::thread::Threads;
 /// Runs the tool on its words, which exclude the program's own name, and answers its status.
 ///
 /// Everything is written after the answer is complete. The statuses are 0 for an answer, 1 for words that are no
-/// command, 2 for a missing file, 3 for a failed read, 4 for a refused layout, 5 for a refused query, 6 for a file that
+/// command, 2 for a missing file, 3 for a failed read, 4 for a refused layout, 5 for a refused query or path, 6 for a file that
 /// is no whole number of records, 7 for a file over its limit, 8 for a failed write and 9 for want of memory. They are
 /// tested in this order: 1; of the layout's file 2, 3 and 7; 4; 5; of the record file 2, 3, 7 and 6; 8. Want of memory
 /// may come at any time.
@@ -46,7 +45,7 @@ where
     ensures runs { (status : Status) × (result ≡ code_of status)
         × Runs (texts words.now) (F.holds files.old)
         (traces_of (F.faults files.old) (F.faults files.new) (O.faults out.old) (O.faults out.new)
-        (O.written out.old) (O.written out.new)) (kept_in kept.new) status }
+        (O.written out.old) (O.written out.new)) kept.new status }
 
     // Each status has its cause.
     ensures causes { (status : Status) → result ≡ code_of status → ComesOf (texts words.now) (F.holds files.old)
@@ -65,7 +64,7 @@ where
     ensures complete { (request : Request) (contents : Contents) → Asks (texts words.now) request
         → F.holds files.old ≡ Some contents → IsValid request contents
         → ¬ (Rose (F.faults files.old) (F.faults files.new)) → ¬ (Raised (O.faults out.old) (O.faults out.new))
-        → Answers (texts words.now) (F.holds files.old) (kept_in kept.new) (O.written out.old) (O.written out.new) result }
+        → Answers (texts words.now) (F.holds files.old) (O.written out.old) (O.written out.new) kept.new result }
 
     // The first file is read, and then the last one where that needs it, each in pieces, and no read follows on another answer than bytes.
     ensures reads { (request : Request) → Asks (texts words.now) request
@@ -77,35 +76,7 @@ where
     ensures misses_stay { F.misses files.old ≤ F.misses files.new }
     ensures writes_stay { O.faults out.old ≤ O.faults out.new }
 {
-    run_kept(rt, alloc, words, files, out, gate, kept).code()
-}
-
-/// Runs the words, and keeps nothing of what was kept before.
-fn run_kept<R: Threads + Wait + Sync, F: Files, O: Sink, G: Gate, K: Keep>(
-    rt: &R,
-    alloc: Global,
-    words: &[String],
-    files: &mut F,
-    out: &mut O,
-    gate: &G,
-    kept: &mut K,
-) -> Status
-    ensures runs { Runs (texts words.now) (F.holds files.old)
-        (traces_of (F.faults files.old) (F.faults files.new) (O.faults out.old) (O.faults out.new)
-        (O.written out.old) (O.written out.new)) (K.keeps kept.new) result }
-    ensures missed { result ≡ Missing → Rose (F.misses files.old) (F.misses files.new) }
-    ensures reads_nothing { AreFaulty (texts words.now) → files.new ≡ files.old }
-    ensures reads { (request : Request) → Asks (texts words.now) request
-        → ReadsFor request (F.holds files.old) (F.reads files.old) (F.reads files.new) }
-    ensures read_well { result ≢ Unread → F.faults files.new ≡ F.faults files.old }
-    ensures written_well { result ≢ Unwritten → O.faults out.new ≡ O.faults out.old }
-    ensures held { F.holds files.new ≡ F.holds files.old }
-    ensures faults_stay { F.faults files.old ≤ F.faults files.new }
-    ensures misses_stay { F.misses files.old ≤ F.misses files.new }
-    ensures writes_stay { O.faults out.old ≤ O.faults out.new }
-{
-    kept.clear();
-    run_words(rt, alloc, words, files, out, gate)
+    run_words(rt, alloc, words, files, out, gate, kept).code()
 }
 
 /// Runs the words, and answers the status that this leaves.
@@ -116,10 +87,11 @@ fn run_words<R: Threads + Wait + Sync, F: Files, O: Sink, G: Gate>(
     files: &mut F,
     out: &mut O,
     gate: &G,
+    kept: &mut Kept,
 ) -> Status
     ensures runs { Runs (texts words.now) (F.holds files.old)
         (traces_of (F.faults files.old) (F.faults files.new) (O.faults out.old) (O.faults out.new)
-        (O.written out.old) (O.written out.new)) Nothing result }
+        (O.written out.old) (O.written out.new)) kept.new result }
     ensures missed { result ≡ Missing → Rose (F.misses files.old) (F.misses files.new) }
     ensures reads_nothing { AreFaulty (texts words.now) → files.new ≡ files.old }
     ensures reads { (request : Request) → Asks (texts words.now) request
@@ -131,8 +103,14 @@ fn run_words<R: Threads + Wait + Sync, F: Files, O: Sink, G: Gate>(
     ensures misses_stay { F.misses files.old ≤ F.misses files.new }
     ensures writes_stay { O.faults out.old ≤ O.faults out.new }
 {
+    *kept = Kept::new();
     match ending_of(rt, alloc, words, files, gate) {
-        Ok(ending) => print(&ending, out),
+        Ok(ending) => {
+            let status = print(&ending, out);
+            let Ending { left, .. } = ending;
+            *kept = Kept::of(left);
+            status
+        }
         Err(Stop::Failed) => Status::Unread,
         Err(Stop::Memory) => Status::NoMemory,
     }

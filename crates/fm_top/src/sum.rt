@@ -1,8 +1,7 @@
-ghost use Rattle.std.specs.Prelude.{◌≡◌, ◌≤◌, IfOk, IsErrOf, length, ◌≢◌, Err};
+ghost use Rattle.std.specs.Prelude.{◌≡◌, ◌≤◌, IfOk, IsErrOf, length, ◌≢◌, Err, Some};
 ghost use Rattle.fm_io.specs.Count.{Rose};
 ghost use Rattle.fm_top.specs.Ending.{MissesOnly, shown};
-ghost use Rattle.fm_top.specs.Keeps.{Nothing};
-ghost use Rattle.fm_top.specs.Outcome.{sum_of_file};
+ghost use Rattle.fm_top.specs.Outcome.{SumEnds};
 ghost use Rattle.fm_load.specs.Reading.{ReadsSome};
 ghost use Rattle.fm_top.specs.Run.{HasOutcome};
 ghost use Rattle.fm_top.specs.Words.{Sum, HasValue};
@@ -27,7 +26,7 @@ pub fn sum_ending<R: Wait, F: Files>(
 ) -> Result<Ending, Stop>
     requires { HasValue sum.now.size sum.now.at sum.now.kind }
     ensures outcome { IfOk result (λ ending.
-        HasOutcome (Sum sum.now.size sum.now.at sum.now.kind sum.now.file.now) (F.holds files.old) Nothing (shown ending)) }
+        HasOutcome (Sum sum.now.size sum.now.at sum.now.kind sum.now.file.now) (F.holds files.old) (shown ending)) }
     ensures missing { IfOk result (MissesOnly (F.misses files.old) (F.misses files.new)) }
     ensures failed { IsErrOf result Stop.Failed → Rose (F.faults files.old) (F.faults files.new) }
     ensures reads { ReadsSome (F.reads files.old) (F.reads files.new) sum.now.file.now RECORD_FILE_LIMIT }
@@ -50,7 +49,8 @@ fn loaded_ending(
 ) -> Result<Ending, AllocError>
     requires value { HasValue sum.now.size sum.now.at sum.now.kind }
     requires short { length loaded.old ≤ RECORD_FILE_LIMIT }
-    ensures { IfOk result (λ ending. shown ending ≡ sum_of_file sum.now.size sum.now.at sum.now.kind loaded.old) }
+    ensures { IfOk result (λ ending.
+        SumEnds sum.now.size sum.now.at sum.now.kind sum.now.file.now (Some loaded.old) (shown ending)) }
 {
     let rest = loaded.len() % sum.size;
     if rest == 0 {

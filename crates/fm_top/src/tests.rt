@@ -1,6 +1,10 @@
+mod demos;
+mod keeping;
 mod kinds;
 mod layouts;
 mod queries;
+mod scripts;
+mod tallies;
 
 use crate::{Kept, run_tool};
 use fm_io::{Files, FreeGate, MemFiles, MemSink, Sink, SureFiles, SureSink};

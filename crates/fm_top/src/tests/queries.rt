@@ -33,7 +33,7 @@ fn sales(alloc: Global, count: usize) -> Result<Vec<u8>, AllocError> {
 
 /// `L1`, of which `R1` has two records, the empty file `E`, and `R1` with a byte more, which is named `Ragged`; and
 /// layouts of which no records are: `Void` has no byte, `Uneven` isn't a multiple of its alignment, and `Broken` is none.
-fn files(alloc: Global, failing: &[u64], most: usize) -> Result<MemFiles, AllocError> {
+pub(super) fn files(alloc: Global, failing: &[u64], most: usize) -> Result<MemFiles, AllocError> {
     let mut longer = sales(alloc, 48)?;
     longer.push(0)?;
     let all = vec![in alloc;
@@ -215,7 +215,7 @@ const OPTIONS: [(&str, u8, &str); 51] = [
     ("query --help L1 count R1", 1, "usage\n"),
     ("--threads 2 query L1 count R1", 1, "usage\n"),
     ("Query L1 count R1", 1, "usage\n"),
-    ("tally L1 .id R1", 1, "usage\n"),
+    ("stream L1 count R1", 1, "usage\n"),
 ];
 
 #[test]

@@ -1,5 +1,5 @@
 use Rattle.std.proofs.Common.{Err, ap}
-use Rattle.fm_load.proofs.Holding.{allocated_held, refused_held, refusal_wants}
+use Rattle.fm_load.proofs.Holding.{allocated_held, allocated_only, refused_held, refused_only, refusal_wants}
 use Rattle.fm_load.proofs.held.allocate_held.Goals as goal
 
 pub returns-in-Ok-clause-place : goal.returns-in-Ok-clause-place
@@ -25,3 +25,13 @@ returns-in-Err-clause-wants g c =
     let v = g.M.Memory.view in
     refusal_wants g.M.Memory.nature (v c.args.m.now) (v c.allocate.new.self) c.args.arena c.args.size c.in-Err.refusal c.requires.held c.requires.room
     c.in-Err.ensures.did c.in-Err.ensures.comes (λ is. c.in-Err.ensures.pool_full (ap Err is))
+
+pub returns-in-Ok-clause-elsewhere : goal.returns-in-Ok-clause-elsewhere
+returns-in-Ok-clause-elsewhere g c =
+    let v = g.M.Memory.view in
+    allocated_only (v c.args.m.now) (v c.allocate.new.self) c.args.arena c.args.size c.in-Ok.place c.requires.held c.in-Ok.ensures.did
+
+pub returns-in-Err-clause-elsewhere : goal.returns-in-Err-clause-elsewhere
+returns-in-Err-clause-elsewhere g c =
+    let v = g.M.Memory.view in
+    refused_only (v c.args.m.now) (v c.allocate.new.self) c.args.arena c.args.size c.in-Err.refusal c.requires.held c.requires.room c.in-Err.ensures.did

@@ -3,14 +3,13 @@ use Rattle.std.proofs.lemmas.Result.{IfOk-weaker}
 use Rattle.fm_options.specs.Options.{texts}
 use Rattle.fm_top.specs.Asked.{request_of}
 use Rattle.fm_top.specs.Ending.{shown}
-use Rattle.fm_top.specs.Keeps.{Nothing}
 use Rattle.fm_top.specs.Outcome.{Outcome}
 use Rattle.fm_top.specs.Run.{IsOutcome, faulty, asked}
-use Rattle.fm_top.proofs.Asking.{of_none, of_some}
+use Rattle.fm_top.proofs.Threaded.{of_none, of_some}
 use Rattle.fm_top.proofs.Runs.{can_be_asked}
 use Rattle.fm_top.specs.Reading.{ReadsFor}
 use Rattle.fm_top.specs.Words.{Request}
-use Rattle.fm_top.proofs.Complete.{same_request}
+use Rattle.fm_top.proofs.Requests.{same_request}
 use Rattle.fm_top.proofs.ReadFor.{no_reads}
 use Rattle.fm_top.proofs.command.ending_of.Goals as goal
 
@@ -23,14 +22,14 @@ command_ending-requires-after_bounds g c κs within =
 pub returns-in_ok-usage-in-None-clause-outcome : goal.returns-in_ok-usage-in-None-clause-outcome
 returns-in_ok-usage-in-None-clause-outcome g c =
     let found = c.in_ok-command in
-    subst (λ (o : Outcome). IsOutcome (texts c.args.words.now) (g.F.Files.holds c.args.files.now) Nothing o)
+    subst (λ (o : Outcome). IsOutcome (texts c.args.words.now) (g.F.Files.holds c.args.files.now) o)
     (sym c.in_ok-usage-in-None.ensures) (faulty (of_none found.field-0 c.in-None.is found.ensures.none))
 
 pub returns-in-Some-clause-outcome : goal.returns-in-Some-clause-outcome
 returns-in-Some-clause-outcome g c =
     let found = c.in_ok-command in
     IfOk-weaker c.command_ending.result _ _
-    (λ ending has. asked (request_of c.in-Some.command) Nothing (shown ending)
+    (λ ending has. asked (request_of c.in-Some.command) (shown ending)
     (of_some found.field-0 c.in-Some.command _ c.in-Some.is found.ensures.found) has) c.command_ending.ensures.outcome
 
 pub returns-in-Some-clause-asked : goal.returns-in-Some-clause-asked

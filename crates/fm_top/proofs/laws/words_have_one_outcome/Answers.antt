@@ -1,4 +1,4 @@
-use Rattle.fm_top.proofs.Complete.{one_outcome}
+use Rattle.fm_top.proofs.OneEnd.{one_outcome}
 use Rattle.fm_top.proofs.laws.words_have_one_outcome.Goals as goal
 
 pub returns : goal.returns

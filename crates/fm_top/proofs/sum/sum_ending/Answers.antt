@@ -1,16 +1,14 @@
+use Rattle.std.proofs.Common.{Some}
 use Rattle.std.proofs.lemmas.Result.{IfOk-weaker}
 use Rattle.fm_top.specs.Ending.{shown}
-use Rattle.fm_top.proofs.Outcomes.{outcome-whole}
+use Rattle.fm_top.specs.Outcome.{IsSummed}
 use Rattle.fm_load.specs.declared.load_fault.LoadFault.TheVariants.{Missing, PoolFull, TooLong}
-use Rattle.fm_top.proofs.Unloaded.{fault_isnt, fault_of, misses_only, failed_load, unfailed_load, sum_unloaded}
+use Rattle.fm_top.proofs.Unloaded.{fault_isnt, fault_of, misses_only, failed_load, unfailed_load, records_unloaded}
 use Rattle.fm_top.proofs.sum.sum_ending.Goals as goal
 
 pub returns-in_ok-loaded_ending-in-Ok-clause-outcome : goal.returns-in_ok-loaded_ending-in-Ok-clause-outcome
 returns-in_ok-loaded_ending-in-Ok-clause-outcome g c =
-    let sum = c.args.sum.now in
-    let ending = c.in_ok-loaded_ending-in-Ok in
-    outcome-whole sum.size sum.at sum.kind sum.file.now c.in-Ok.loaded (g.F.Files.holds c.args.files.now) (shown ending.field-0) c.in-Ok.ensures.whole
-    ending.ensures
+    (Some c.in-Ok.loaded, c.in-Ok.ensures.whole, c.in_ok-loaded_ending-in-Ok.ensures)
 
 pub returns-in-Err-clause-outcome : goal.returns-in-Err-clause-outcome
 returns-in-Err-clause-outcome g c =
@@ -18,7 +16,7 @@ returns-in-Err-clause-outcome g c =
     let load = c.load in
     let fault = c.in-Err.fault in
     IfOk-weaker c.unloaded_ending.result _ _
-    (λ ending ends. sum_unloaded sum.size sum.at sum.kind sum.file.now (g.F.Files.holds c.args.files.now) fault (shown ending)
+    (λ ending ends. records_unloaded sum.size sum.file.now (IsSummed sum.size sum.at sum.kind) (g.F.Files.holds c.args.files.now) fault (shown ending)
     (λ is. load.ensures.absent (fault_of load.result fault Missing c.in-Err.is is))
     (λ is. load.ensures.too_long (fault_of load.result fault TooLong c.in-Err.is is)) ends) c.unloaded_ending.ensures.ending
 

@@ -1,0 +1,160 @@
+-- A pool's first pass that puts bytes into an arena that it opened.
+use Rattle.std.proofs.Common.{◌≡◌, ℕ, ◌+◌, ◌≤◌, List, ◌++◌, length, take, drop, Ok, refl, ap, sym, ◌∙◌, subst, inr, arith}
+use Rattle.std.proofs.Math.Seq.{take-append_seam}
+use Rattle.fm_base.specs.declared.arena_id.ArenaId.{ArenaId}
+use Rattle.fm_base.specs.declared.kind.Kind.TheVariants.{Shared}
+use Rattle.fm_base.specs.declared.refusal.Refusal.{Refusal}
+use Rattle.fm_base.specs.declared.refusal.Refusal.TheVariants.{Memory, PoolFull}
+use Rattle.fm_base.specs.Arenas.{State}
+use Rattle.fm_base.specs.Calls.{Entry}
+use Rattle.fm_base.specs.Does.{DidAllocate}
+use Rattle.fm_base.specs.Finds.{Rest}
+use Rattle.fm_base.specs.Histories.{IsLegal, IsTidy}
+use Rattle.fm_base.specs.View.{Did, Makes, given_in}
+use Rattle.fm_bytes.specs.Bytes.{AreBytes}
+use Rattle.fm_bytes.proofs.Words.{length-bytes_in}
+use Rattle.fm_access.specs.Alone.{bytes_of_arena, with_bytes}
+use Rattle.fm_access.specs.Runs.{DoesPutAll}
+use Rattle.fm_access.proofs.Splicing.{keeps_count}
+use Rattle.fm_access_laws.proofs.Staying.{tidy_alone}
+use Rattle.fm_arena.proofs.Lasting.{keeps as pool_keeps}
+use Rattle.fm_calls.specs.Told.{view_of_pass}
+use Rattle.fm_calls.proofs.Sweeps.{no_sweeps}
+use Rattle.fm_gate.specs.Standing.{IsOutside}
+use Rattle.fm_base.specs.Machine.{rounded_up}
+use Rattle.fm_arena.specs.Shares.{nature_of_shared}
+use Rattle.fm_load.specs.Held.{HoldsThen, IsEmpty, IsHeld, OnlyIn, Wants, words_at}
+use Rattle.fm_pool_facts.specs.Views.{View, IsKnown, IsSound, limit_of, state_in}
+use Rattle.fm_records.specs.Alone.{bytes_at_places}
+use Rattle.fm_records.proofs.AnsweringBytes.{places_have}
+use Rattle.fm_rule.specs.declared.pool.Pool.{Pool}
+use Rattle.fm_rule.specs.Passes.{IsOf}
+use Rattle.fm_segment.specs.Region.{Region, region_of}
+use Rattle.fm_words.specs.declared.shape.Shape.{Shape}
+use Rattle.fm_pooled.specs.Stocked.{IsLone, IsStocked, KeepsArenas, bytes_in_pool, pool_passes}
+use Rattle.fm_pooled.proofs.Putting.{put_stays}
+use Rattle.fm_pooled.proofs.Tidying.{AllChangeNone, loans_too, tidy_none, tidy_on}
+
+-- ---- calls of a memory
+
+-- the pass is one of the pool still
+pub still_of : (pool : Pool) (p q : View) (own : List Entry) → Makes (view_of_pass p) (view_of_pass q) own → IsOf pool p → IsOf pool q
+still_of pool p q own makes of = pool_keeps.of pool p q (pool_keeps.stays p q own makes) of
+
+-- and by itself, where its entries were tidy
+lone_on : (pool : Pool) (p q : View) (own : List Entry) → IsLone pool p → Makes (view_of_pass p) (view_of_pass q) own
+    → IsTidy (limit_of p.shape) (state_in p) own → IsOutside pool q → IsSound q → IsLone pool q
+lone_on pool p q own lone makes tidy outside sound = record {
+  outside = outside;
+  sound = sound;
+  whole = ap (λ (x : Rest). x.whole) makes.told.rest ∙ lone.whole;
+  tidy = tidy_on p q own lone.tidy (outside.of.1 ∙ sym lone.outside.of.1)
+      (makes.told.seen ∙ ap (λ (es : List Entry). p.seen ++ es) (makes.alone (inr lone.whole))) tidy;
+  none_gathered = ap (λ (x : Rest). x.gathered) makes.told.rest ∙ lone.none_gathered;
+  none_to_sweep = no_sweeps p q makes.told.rest lone.none_to_sweep;
+}
+
+own_legal : (pool : Pool) (p q : View) (own : List Entry) → IsLone pool p → (makes : Makes (view_of_pass p) (view_of_pass q) own)
+    → IsLegal (limit_of p.shape) (state_in p) own
+own_legal pool p q own lone makes =
+    subst (λ (es : List Entry). IsLegal (limit_of p.shape) (state_in p) es) (makes.alone (inr lone.whole)) makes.legal
+
+-- after an allocation
+pub allocated_lone : (pool : Pool) (p m q r : View) (a : ArenaId) (size place : ℕ) → IsLone pool p → m ≡ p
+    → DidAllocate (view_of_pass m) (view_of_pass q) a size 8 (Ok place) → r ≡ q → (IsOf pool q → IsOutside pool r) → IsSound r → IsLone pool r
+allocated_lone pool p m q r a size place lone at did is outside sound =
+    let lone_m : IsLone pool m = subst (λ (v : View). IsLone pool v) (sym at) lone in
+    let makes : Makes (view_of_pass m) (view_of_pass r) did.own = subst (λ (v : View). Makes (view_of_pass m) (view_of_pass v) did.own) (sym is) did.makes in
+    let none : AllChangeNone did.own = loans_too did.own (subst AllChangeNone (sym did.does.2) (tt, (tt, (tt, tt)))) in
+    lone_on pool m r did.own lone_m makes (tidy_none (limit_of m.shape) (state_in m) did.own none)
+    (outside (still_of pool m q did.own did.makes lone_m.outside.of)) sound
+
+-- after bytes were put that were given
+pub put_lone : (pool : Pool) (p m q r : View) (a : ArenaId) (bytes : List ℕ) → IsLone pool p → m ≡ p
+    → Did (view_of_pass m) (view_of_pass q) (DoesPutAll m.caller a 0 bytes (Ok tt)) → AreBytes bytes → length bytes ≤ given_in (view_of_pass p) a
+    → r ≡ q → (IsOf pool q → IsOutside pool r) → IsSound r → IsLone pool r
+put_lone pool p m q r a bytes lone at did are given is outside sound =
+    let lone_m : IsLone pool m = subst (λ (v : View). IsLone pool v) (sym at) lone in
+    let makes : Makes (view_of_pass m) (view_of_pass r) did.own = subst (λ (v : View). Makes (view_of_pass m) (view_of_pass v) did.own) (sym is) did.makes in
+    let room : length bytes ≤ given_in (view_of_pass m) a = subst (λ (v : View). length bytes ≤ given_in (view_of_pass v) a) (sym at) given in
+    let stays = put_stays m.caller a (length bytes) 0 bytes did.own did.does are (omega arith) in
+    lone_on pool m r did.own lone_m makes
+    (tidy_alone (limit_of m.shape) (length bytes) a (state_in m) did.own (own_legal pool m q did.own lone_m did.makes) room stays)
+    (outside (still_of pool m q did.own did.makes lone_m.outside.of)) sound
+
+-- ---- what stands in the arena
+
+-- the bytes that were put at its start
+pub stood : (s : State) (a : ArenaId) (all bytes : List ℕ) → bytes_of_arena s a ≡ with_bytes all 0 bytes → length bytes ≤ length all
+    → bytes_at_places s (region_of a 0 (length bytes)) ≡ bytes
+stood s a all bytes is fits =
+    let rest = drop (0 + length bytes) all in
+    let count : length (bytes_of_arena s a) ≡ length all = ap length is ∙ keeps_count all bytes 0 (omega (arith, fits)) in
+    places_have s (region_of a 0 (length bytes)) (omega (arith, count, fits)) ∙ ap (take (length bytes)) is ∙ take-append_seam bytes rest
+
+-- what was known stays, where the new arena alone is changed
+pub only_keeps : (p q r : View) (a : ArenaId) → ¬ (IsKnown p a) → KeepsArenas p q → OnlyIn a (state_in q) (state_in r) → KeepsArenas p r
+only_keeps p q r a unknown keeps only = record {
+  known = λ b k. only.arenas b ∙ keeps.known b k;
+  same = λ b k. only.others b (λ is. unknown (subst (λ (x : ArenaId). IsKnown p x) is k)) ∙ keeps.same b k;
+}
+
+pub stocked : (pool : Pool) (p q : View) (a : ArenaId) (s : Region) (bytes : List ℕ) → IsLone pool q → IsHeld (view_of_pass q) a
+    → given_in (view_of_pass q) a ≡ length bytes → a.kind ≡ Shared → pool.shape.passes ≡ pool_passes → s ≡ region_of a 0 (length bytes) → IsStocked pool q s
+stocked pool p q a s bytes lone held given shared passes is =
+    subst (λ (r : Region). IsStocked pool q r) (sym is) (record {
+      outside = lone.outside;
+      sound = lone.sound;
+      whole = lone.whole;
+      tidy = lone.tidy;
+      start = refl;
+      known = record { arena = held.known; given = omega (arith, given) };
+      alive = held.alive;
+      shared = shared;
+      passes = ap (λ (z : Shape). z.passes) lone.outside.of.1 ∙ passes;
+    })
+
+pub bytes_stand : (q : View) (a : ArenaId) (s : Region) (all bytes : List ℕ) → s ≡ region_of a 0 (length bytes)
+    → bytes_of_arena (state_in q) a ≡ with_bytes all 0 bytes → length bytes ≤ length all → bytes_in_pool q s ≡ bytes
+unfolding bytes_in_pool
+bytes_stand q a s all bytes is put fits = ap (bytes_at_places (state_in q)) is ∙ stood (state_in q) a all bytes put fits
+
+-- an arena that is held has all words of the limit
+pub held_room : (q : View) (a : ArenaId) (size : ℕ) → IsHeld (view_of_pass q) a → size ≤ limit_of q.shape → size ≤ length (bytes_of_arena (state_in q) a)
+held_room q a size held fits =
+    let words = held.size in
+    omega (arith, length-bytes_in (words_at (view_of_pass q) a), words, fits)
+
+-- ---- between the pass and its memory
+
+pub only_on : (p m q r : View) (a : ArenaId) → m ≡ p → OnlyIn a (state_in m) (state_in q) → r ≡ q → OnlyIn a (state_in p) (state_in r)
+only_on p m q r a at only is =
+    subst (λ (v : View). OnlyIn a (state_in p) (state_in v)) (sym is) (subst (λ (v : View). OnlyIn a (state_in v) (state_in q)) at only)
+
+-- the arena's first bytes stand at its start
+nothing_given : (p : View) (a : ArenaId) → IsEmpty (view_of_pass p) a → rounded_up (given_in (view_of_pass p) a) 8 ≡ 0
+nothing_given p a empty = ap (λ n. rounded_up n 8) empty.none
+
+pub first_room : (pool : Pool) (p : View) (a : ArenaId) (size : ℕ) → IsLone pool p → IsEmpty (view_of_pass p) a → size ≤ limit_of pool.shape
+    → rounded_up (given_in (view_of_pass p) a) 8 + size ≤ limit_of p.shape
+first_room pool p a size lone empty room =
+    let shape : limit_of p.shape ≡ limit_of pool.shape = ap limit_of lone.outside.of.1 in
+    omega (arith, nothing_given p a empty, shape, room)
+
+pub first_held : (p m q r : View) (a : ArenaId) (size place : ℕ) → m ≡ p → IsEmpty (view_of_pass p) a
+    → place ≡ rounded_up (given_in (view_of_pass m) a) 8 → HoldsThen (view_of_pass q) a (place + size) (words_at (view_of_pass m) a) → r ≡ q
+    → HoldsThen (view_of_pass r) a size (words_at (view_of_pass p) a)
+first_held p m q r a size place at empty there held is =
+    let none : place ≡ 0 =
+    there ∙ ap (λ (v : View). rounded_up (given_in (view_of_pass v) a) 8) at ∙ nothing_given p a empty in
+    let all : place + size ≡ size = omega (arith, none) in
+    subst (λ (v : View). HoldsThen (view_of_pass v) a size (words_at (view_of_pass p) a)) (sym is)
+    (subst (λ (n : ℕ). HoldsThen (view_of_pass q) a n (words_at (view_of_pass p) a)) all
+    (subst (λ (v : View). HoldsThen (view_of_pass q) a (place + size) (words_at (view_of_pass v) a)) at held))
+
+-- ---- nothing is wanting
+
+pub never_wants : (p q : View) (r : Refusal) → Wants nature_of_shared (view_of_pass p) (view_of_pass q) r → ⊥
+never_wants p q Memory w = absurd (cc)
+never_wants p q PoolFull w = let no = w.0 in absurd (cc)
+never_wants p q r w = absurd w

@@ -1,8 +1,0 @@
-use Rattle.fm_pooled.proofs.Stocking.{has_slot, opens}
-use Rattle.fm_pooled.proofs.loading.opened.Goals as goal
-
-pub returns : goal.returns
-returns g c = opens c.args.pool.now c.args.pass.now c.open_arena.new.pass c.in-Ok.arena c.requires c.in-Ok.ensures
-
-pub unreachable-unreachable : goal.unreachable-unreachable
-unreachable-unreachable g c = has_slot c.args.pool.now c.args.pass.now c.open_arena.new.pass c.in-Err.field-0 c.requires c.in-Err.ensures

@@ -1,0 +1,58 @@
+-- What the history of a finished pool shows of records that passes read.
+use Rattle.std.specs.Prelude.{◌≡◌, ◌≢◌, ◌⊎◌, ℕ, true, List, [], length}
+use Rattle.fm_base.specs.declared.arena_id.ArenaId.{ArenaId}
+use Rattle.fm_base.specs.declared.caller.Caller.{Caller}
+use Rattle.fm_base.specs.Arenas.{has_arena}
+use Rattle.fm_base.specs.Calls.{Entry}
+use Rattle.fm_base.specs.Histories.{IsLegal, IsTidy}
+use Rattle.fm_path.specs.Resolution.{Resolution}
+use Rattle.fm_pool_facts.specs.Loans.{IsRightlyLent}
+use Rattle.fm_pool_facts.specs.Views.{span, limit_of}
+use Rattle.fm_query.specs.Plan.{Plan}
+use Rattle.fm_records.specs.Alone.{bytes_at_places}
+use Rattle.fm_records.specs.Bytes.{HasRead}
+use Rattle.fm_records.specs.Laws.{IsAsked, value_in}
+use Rattle.fm_records.specs.Reads.{IsWordOf}
+use Rattle.fm_rule.specs.Finishing.{FinishedView}
+use Rattle.fm_rule.specs.GivenBytes.{state_of}
+use Rattle.fm_segment.specs.Region.{region_of}
+
+-- one history of one-thread arenas, which changes only bytes that were given, and whose words are lent rightly
+pub record IsHistory (f : FinishedView) : Type 0 where
+  pub legal : IsLegal (limit_of f.shape) [] f.history
+  pub tidy : IsTidy (limit_of f.shape) [] f.history
+  pub lent : IsRightlyLent (span f.shape) (limit_of f.shape) f.history
+
+-- another than the pool's first pass has read the word
+pub record IsReadByOther (es : List Entry) (id : ArenaId) (word : ℕ) : Type 0 where
+  pub caller : Caller
+  pub other : caller.number ≢ 0
+  pub read : HasRead caller id word es
+
+-- a value that the query asks for in a chosen record has this word, where the records stand from place 0 of the arena
+pub record AsksWord (p : Plan) (bytes : List ℕ) (id : ArenaId) (word : ℕ) : Type 0 where
+  pub index : ℕ
+  pub path : Resolution
+  pub indices : List ℕ
+  pub asked : IsAsked p bytes index path indices
+  pub has : IsWordOf (value_in p (region_of id 0 (length bytes)) index path indices) word
+
+-- others have read each word of these
+abbrev pub AreRead : List Entry → (ArenaId → ℕ → Type 0) → ArenaId → Type 0
+AreRead es Asks id = (word : ℕ) → Asks id word → IsReadByOther es id word
+
+-- in the end the bytes stand from place 0 of one arena, and others have read there each word that is asked for
+pub record ShowsRecords (f : FinishedView) (bytes : List ℕ) (Asks : ArenaId → ℕ → Type 0) : Type 0 where
+  pub is_history : IsHistory f
+  pub id : ArenaId
+  pub known : has_arena (state_of f) id ≡ true
+  pub stand : bytes_at_places (state_of f) (region_of id 0 (length bytes)) ≡ bytes
+  pub read : AreRead f.history Asks id
+
+-- the pool's history, in which the query was answered over these bytes
+abbrev pub ShowsQuery : FinishedView → Plan → List ℕ → Type 0
+ShowsQuery f p bytes = ShowsRecords f bytes (AsksWord p bytes)
+
+-- in which both queries were
+abbrev pub ShowsBoth : FinishedView → Plan → Plan → List ℕ → Type 0
+ShowsBoth f p q bytes = ShowsRecords f bytes (λ id word. AsksWord p bytes id word ⊎ AsksWord q bytes id word)

@@ -1,0 +1,179 @@
+-- Words print one outcome.
+use Rattle.std.proofs.Common.{◌≡◌, ◌≢◌, ℕ, List, Option, None, Some, Result, Ok, Err, refl, sym, ap, subst, ◌∙◌, arith}
+use Rattle.fm_base.specs.declared.refusal.Refusal.{Refusal}
+use Rattle.fm_base.specs.declared.refusal.Refusal.TheVariants.{NoSize, ElementRagged}
+use Rattle.fm_demo.specs.Records.{made_layout}
+use Rattle.fm_io.specs.Files.{Contents, file_of}
+use Rattle.fm_lanes.specs.declared.value_kind.ValueKind.{ValueKind}
+use Rattle.fm_layout.specs.Tree.{Tree}
+use Rattle.fm_ljson.specs.Answer.{layout_of_json}
+use Rattle.fm_query.specs.Plan.{Plan}
+use Rattle.fm_query.proofs.Lists.{one_list, one_list_refusal, refused_lists_none}
+use Rattle.fm_query.proofs.OnePlan.{one_plan, refused_has_none}
+use Rattle.fm_query.proofs.OneRefusal.{no_record_once, one_refusal}
+use Rattle.fm_query.specs.Records.{IsRecord, IsNoRecord}
+use Rattle.fm_top.specs.Demos.{DemoEnds, made_text}
+use Rattle.fm_top.specs.Laws.{PrintAlike, HaveOneOutcome}
+use Rattle.fm_top.specs.Outcome.{Outcome, RecordsEnd, no_file, too_many, uneven, even, IsSummed, SumEnds, layout_refused, query_refused}
+use Rattle.fm_top.specs.Queries.{IsRecordLayout, IsNoRecordLayout, IsLayoutRefused, IsPlanned, IsUnplanned, asked_text, IsAnswered, TextEnds, unplanned, planned, AskEnds, no_layout, long_layout, bad_layout, over_layout}
+use Rattle.fm_top.specs.Tallies.{IsTallied, IsPathRefused, no_list, no_bytes}
+use Rattle.fm_top.specs.Run.{HasOutcome, IsOutcomeOver, IsOutcome, faulty, asked}
+use Rattle.fm_top.specs.Words.{Request, Sum, Layout, Ask, Demo, Run, Asks, IsRun}
+use Rattle.fm_top.specs.declared.question.Question.{Question}
+use Rattle.fm_top.specs.declared.question.Question.TheVariants.{Query, Tally}
+use Rattle.fm_top.proofs.Comes.{over_told}
+use Rattle.fm_top.proofs.Requests.{same_request}
+use Rattle.fm_workers.specs.Counts.{IsTally}
+
+-- what is one outcome is printed alike
+alike : (o x : Outcome) → o ≡ x → PrintAlike o x
+alike o x same = record { status = ap (λ (y : Outcome). y.status) same; text = ap (λ (y : Outcome). y.text) same }
+
+alike_too : (o x y : Outcome) → o ≡ x → PrintAlike x y → PrintAlike o y
+alike_too o x y same is = subst (λ (z : Outcome). PrintAlike z y) (sym same) is
+
+-- both are this, but for what is kept
+alike_by : (o x a b : Outcome) → o ≡ a → x ≡ b → PrintAlike a b → PrintAlike o x
+alike_by o x a b is_a is_b same = subst (λ (z : Outcome). PrintAlike o z) (sym is_b) (alike_too o a b is_a same)
+
+-- ---- records
+
+-- over whole records one text is printed
+abbrev PrintOne : (List ℕ → Outcome → Type 0) → Type 0
+PrintOne Answers = (bytes : List ℕ) (o x : Outcome) → Answers bytes o → Answers bytes x → PrintAlike o x
+
+records_once : (size : ℕ) (file : List ℕ) (Answers : List ℕ → Outcome → Type 0) → PrintOne Answers → (found : Option (List ℕ)) (o x : Outcome)
+    → RecordsEnd size file Answers found o → RecordsEnd size file Answers found x → PrintAlike o x
+records_once size file Answers one found o x no_file no_file = alike o x refl
+records_once size file Answers one found o x (too_many bytes a) (too_many bytes' b) = alike o x refl
+records_once size file Answers one found o x (too_many bytes a) (uneven bytes' b rest) = absurd (omega (arith, a, b))
+records_once size file Answers one found o x (too_many bytes a) (even bytes' x' b whole answers) = absurd (omega (arith, a, b))
+records_once size file Answers one found o x (uneven bytes a rest) (too_many bytes' b) = absurd (omega (arith, a, b))
+records_once size file Answers one found o x (uneven bytes a rest) (uneven bytes' b rest') = alike o x refl
+records_once size file Answers one found o x (uneven bytes a rest) (even bytes' x' b whole answers) = absurd (rest whole)
+records_once size file Answers one found o x (even bytes o' a whole answers) (too_many bytes' b) = absurd (omega (arith, a, b))
+records_once size file Answers one found o x (even bytes o' a whole answers) (uneven bytes' b rest) = absurd (rest whole)
+records_once size file Answers one found o x (even bytes o' a whole answers) (even bytes' x' b whole' answers') = one bytes o' x' answers answers'
+
+summed_once : (size at : ℕ) (kind : ValueKind) → PrintOne (IsSummed size at kind)
+summed_once size at kind bytes o x a b = alike o x (a ∙ sym b)
+
+answered_once : (q : Question) (p : Plan) → PrintOne (IsAnswered q p)
+answered_once q p bytes o x a b = alike_by o x _ _ a.outcome b.outcome (record { status = refl; text = refl })
+
+-- ---- texts
+
+-- a text that is refused comes to no plan
+refused_not_tallied : (text : List ℕ) (t : Tree) (p : Plan) (e : Refusal) → IsPathRefused text t e → IsTallied text t p → ⊥
+refused_not_tallied text t p e (no_list f denied other) is = refused_lists_none text t p f denied other is.list
+refused_not_tallied text t p e (no_bytes r list none) is = none (subst IsTally (one_list text t p r is.list list) is.bytes)
+
+refused_not_planned : (q : Question) (text : List ℕ) (t : Tree) (p : Plan) (e : Refusal) → IsUnplanned q text t e → IsPlanned q text t p → ⊥
+refused_not_planned Query text t p e denied is = refused_has_none text t p e denied.no_query denied.refused is
+refused_not_planned Tally text t p e denied is = refused_not_tallied text t p e denied is
+
+path_refused_once : (text : List ℕ) (t : Tree) (e f : Refusal) → IsPathRefused text t e → IsPathRefused text t f → e ≡ f
+path_refused_once text t e f (no_list e' a one) (no_list f' b two) = one_list_refusal text t e' f' a b one two
+path_refused_once text t e f (no_list e' a one) (no_bytes r list none) = absurd (refused_lists_none text t r e' a one list)
+path_refused_once text t e f (no_bytes p list none) (no_list f' b two) = absurd (refused_lists_none text t p f' b two list)
+path_refused_once text t e f (no_bytes p list none) (no_bytes r list' none') = refl
+
+unplanned_once : (q : Question) (text : List ℕ) (t : Tree) (e f : Refusal) → IsUnplanned q text t e → IsUnplanned q text t f → e ≡ f
+unplanned_once Query text t e f a b = one_refusal text t e f a.no_query b.no_query a.refused b.refused
+unplanned_once Tally text t e f a b = path_refused_once text t e f a b
+
+planned_once : (q : Question) (text : List ℕ) (t : Tree) (p r : Plan) → IsPlanned q text t p → IsPlanned q text t r → p ≡ r
+planned_once Query text t p r a b = one_plan text t p r a b
+planned_once Tally text t p r a b = one_list text t p r a.list b.list
+
+text_once : (q : Question) (text : List ℕ) (t : Tree) (file : List ℕ) (found : Option (List ℕ)) (o x : Outcome) → TextEnds q text t file found o
+    → TextEnds q text t file found x → PrintAlike o x
+text_once q text t file found o x (unplanned e a) (unplanned f b) =
+    alike o x (ap query_refused (unplanned_once q text t e f a b))
+text_once q text t file found o x (unplanned e a) (planned p x' b ends) = absurd (refused_not_planned q text t p e a b)
+text_once q text t file found o x (planned p o' a ends) (unplanned f b) = absurd (refused_not_planned q text t p f b a)
+text_once q text t file found o x (planned p o' a ends) (planned r x' b ends') =
+    records_once r.size file (IsAnswered q r) (answered_once q r) found o x
+    (subst (λ (y : Plan). RecordsEnd y.size file (IsAnswered q y) found o) (planned_once q text t p r a b) ends) ends'
+
+-- ---- layouts
+
+-- a layout of records isn't refused
+not_no_record : (t : Tree) (e : Refusal) → IsRecord t → IsNoRecord t e → ⊥
+not_no_record t NoSize is denied = let some = is.sized in omega (arith, some, denied)
+not_no_record t ElementRagged is denied = denied.1 is.even
+not_no_record t e is denied = denied
+
+not_layout_refused : (bytes : List ℕ) (t : Tree) (e : Refusal) → IsRecordLayout bytes t → IsLayoutRefused bytes e → ⊥
+not_layout_refused bytes t e is denied = not_no_record t e is.records (subst (λ (r : Result Tree Refusal). IsNoRecordLayout r e) is.read denied.refused)
+
+-- a layout's file is refused for one reason
+no_layout_once : (r : Result Tree Refusal) (e f : Refusal) → IsNoRecordLayout r e → IsNoRecordLayout r f → e ≡ f
+no_layout_once (Err x) e f a b = a ∙ sym b
+no_layout_once (Ok t) e f a b = no_record_once t e f a b
+
+same_layouts : (bytes : List ℕ) (t u : Tree) → IsRecordLayout bytes t → IsRecordLayout bytes u → t ≡ u
+same_layouts bytes t u a b =
+    let one = a.read in
+    let two = b.read in
+    cc
+
+ask_once : (q : Question) (layout text file : List ℕ) (last first : Option (List ℕ)) (o x : Outcome) → AskEnds q layout text file last first o
+    → AskEnds q layout text file last first x → PrintAlike o x
+ask_once q layout text file last first o x no_layout no_layout = alike o x refl
+ask_once q layout text file last first o x (long_layout bytes a) (long_layout bytes' b) = alike o x refl
+ask_once q layout text file last first o x (long_layout bytes a) (bad_layout bytes' f b) = absurd (omega (arith, a, b.short))
+ask_once q layout text file last first o x (long_layout bytes a) (over_layout bytes' u x' b ends) = absurd (omega (arith, a, b.short))
+ask_once q layout text file last first o x (bad_layout bytes e a) (long_layout bytes' b) = absurd (omega (arith, b, a.short))
+ask_once q layout text file last first o x (bad_layout bytes e a) (bad_layout bytes' f b) =
+    alike o x (ap layout_refused (no_layout_once (layout_of_json bytes) e f a.refused b.refused))
+ask_once q layout text file last first o x (bad_layout bytes e a) (over_layout bytes' u x' b ends) = absurd (not_layout_refused bytes u e b a)
+ask_once q layout text file last first o x (over_layout bytes t o' a ends) (long_layout bytes' b) = absurd (omega (arith, b, a.short))
+ask_once q layout text file last first o x (over_layout bytes t o' a ends) (bad_layout bytes' f b) = absurd (not_layout_refused bytes t f a b)
+ask_once q layout text file last first o x (over_layout bytes t o' a ends) (over_layout bytes' u x' b ends') =
+    text_once q text u file last o x (subst (λ (v : Tree). TextEnds q text v file last o) (same_layouts bytes t u a b) ends) ends'
+
+-- ---- demonstrations
+
+demo_once : (count : ℕ) (o x : Outcome) → DemoEnds count o → DemoEnds count x → PrintAlike o x
+demo_once count o x a b =
+    let first = one_plan _ made_layout a.first b.first a.are_queries.first b.are_queries.first in
+    let second = one_plan _ made_layout a.second b.second a.are_queries.second b.are_queries.second in
+    alike_by o x _ _ a.outcome b.outcome (record {
+      status = refl;
+      text = ap (λ (p : Plan). made_text p a.second count) first ∙ ap (λ (p : Plan). made_text b.first p count) second;
+    })
+
+-- ---- requests
+
+-- all but scripts
+abbrev IsOne : Request → Type 0
+IsOne (Run file) = ⊥
+IsOne request = Unit {0}
+
+request_once : (request : Request) (contents : Contents) (o x : Outcome) → IsOne request → IsOutcomeOver request contents o
+    → IsOutcomeOver request contents x → PrintAlike o x
+request_once (Sum size at kind file) contents o x one a b =
+    records_once size file (IsSummed size at kind) (summed_once size at kind) (file_of contents file) o x a b
+request_once (Layout file) contents o x one a b = alike o x (a ∙ sym b)
+request_once (Ask q threads layout text file) contents o x one a b =
+    ask_once q layout text file (file_of contents file) (file_of contents layout) o x a b
+request_once (Demo threads count) contents o x one a b = demo_once count o x a b
+request_once (Run file) contents o x one a b = absurd one
+
+-- words that run no script ask for another thing
+is_one : (words : List (List ℕ)) (request : Request) → ((file : List ℕ) → IsRun words file → ⊥) → Asks words request → IsOne request
+is_one words (Sum size at kind file) none asks = tt
+is_one words (Layout file) none asks = tt
+is_one words (Ask q threads layout text file) none asks = tt
+is_one words (Demo threads count) none asks = tt
+is_one words (Run file) none asks = none file asks
+
+-- words print one outcome over files that tell
+pub one_outcome : HaveOneOutcome
+one_outcome words contents o x none (faulty a) (faulty b) = alike o x refl
+one_outcome words contents o x none (faulty a) (asked r x' asks has) = absurd (a r asks)
+one_outcome words contents o x none (asked r o' asks has) (faulty b) = absurd (b r asks)
+one_outcome words contents o x none (asked r o' asks has) (asked s x' asks' has') =
+    request_once r contents o x (is_one words r none asks) (over_told r contents o has)
+    (over_told r contents x (subst (λ (y : Request). HasOutcome y (Some contents) x) (same_request words s r asks' asks) has'))

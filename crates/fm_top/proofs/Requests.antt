@@ -1,0 +1,153 @@
+-- Words ask for one thing.
+use Rattle.std.proofs.Common.{◌≡◌, ℕ, List, [], ◌∷◌, Option, refl, sym, ap, subst, ◌∙◌, arith, codes, get_or}
+use Rattle.std.specs.Fmt.{decimal}
+use Rattle.std.specs.Prelude.{bytes_eq, if◌then◌else◌}
+use Rattle.std.proofs.lemmas.Fmt.{decimal_injective}
+use Rattle.fm_lanes.proofs.Naming.{kind_text-injective}
+use Rattle.fm_lanes.specs.Named.{kind_text}
+use Rattle.fm_lanes.specs.declared.value_kind.ValueKind.{ValueKind}
+use Rattle.fm_options.proofs.Said.{one_saying}
+use Rattle.fm_options.specs.Options.{Say}
+use Rattle.fm_top.specs.Words.{Request, Sum, Layout, Ask, Demo, Run, Asks, IsSum, IsOfFile, IsThreaded, IsAsk, IsCount, IsDemo, AreThreadsBy, question_word, three}
+use Rattle.fm_top.specs.declared.question.Question.{Question}
+use Rattle.fm_top.specs.declared.question.Question.TheVariants.{Query, Tally}
+use Rattle.fm_top.proofs.Threaded.{one_count}
+
+same_sum : (words : List (List ℕ)) (n m n' m' : ℕ) (kind kind' : ValueKind) (file file' : List ℕ)
+    → IsSum words n m kind file → IsSum words n' m' kind' file' → Sum n m kind file ≡ Sum n' m' kind' file'
+same_sum words n m n' m' kind kind' file file' a b =
+    let one = a.spelled in
+    let two = b.spelled in
+    let sizes : decimal n ≡ decimal n' = cc in
+    let ats : decimal m ≡ decimal m' = cc in
+    let files : file ≡ file' = cc in
+    let types : kind_text kind ≡ kind_text kind' = cc in
+    let same_kind : kind ≡ kind' = kind_text-injective kind kind' types in
+    let size : n ≡ n' = decimal_injective n n' (omega (arith, a.has_value.small)) (omega (arith, b.has_value.small)) sizes in
+    let at : m ≡ m' = decimal_injective m m' (omega (arith, a.has_value.small, a.has_value.within)) (omega (arith, b.has_value.small, b.has_value.within)) ats
+    in
+    cc
+
+same_file : (words : List (List ℕ)) (command file file' : List ℕ) → IsOfFile words command file → IsOfFile words command file' → file ≡ file'
+same_file words command file file' a b =
+    let one = a.spelled in
+    let two = b.spelled in
+    cc
+
+-- What words with threads say, they say alone.
+pub record SayAlike (threads threads' : ℕ) (names names' : List (List ℕ)) : Type 0 where
+  pub count : threads ≡ threads'
+  pub named : names ≡ names'
+
+pub same_threaded : (words : List (List ℕ)) (command command' : List ℕ) (threads threads' : ℕ) (names names' : List (List ℕ))
+    → IsThreaded words command threads names → IsThreaded words command' threads' names' → SayAlike threads threads' names names'
+same_threaded words command command' threads threads' names names' a b =
+    let one = a.spelled in
+    let two = b.spelled in
+    let behind : a.behind ≡ b.behind = cc in
+    let says : Say b.behind a.text names = subst (λ (ws : List (List ℕ)). Say ws a.text names) behind a.says in
+    let said = one_saying b.behind a.text b.text names names' says b.says in
+    record {
+      count = one_count b.text threads threads' (subst (λ (t : Option (List ℕ)). AreThreadsBy t threads) said.0 a.are_threads) b.are_threads;
+      named = said.1;
+    }
+
+-- the words of commands with threads begin with their word
+same_word : (words : List (List ℕ)) (command command' : List ℕ) (threads threads' : ℕ) (names names' : List (List ℕ))
+    → IsThreaded words command threads names → IsThreaded words command' threads' names' → command ≡ command'
+same_word words command command' threads threads' names names' a b =
+    let one = a.spelled in
+    let two = b.spelled in
+    cc
+
+-- q isn't t
+other_letter : (n m : ℕ) → n ≡ 113 → m ≡ 116 → n ≡ m → ⊥
+other_letter n m q t same = omega (arith, q, t, same)
+
+one_question : (q r : Question) → question_word q ≡ question_word r → q ≡ r
+one_question Query Query is = refl
+one_question Query Tally is =
+    absurd (other_letter (get_or (codes "query") 0 0) (get_or (codes "tally") 0 0) refl refl (ap (λ (w : List ℕ). get_or w 0 0) is))
+one_question Tally Query is =
+    absurd (other_letter (get_or (codes "query") 0 0) (get_or (codes "tally") 0 0) refl refl (sym (ap (λ (w : List ℕ). get_or w 0 0) is)))
+one_question Tally Tally is = refl
+
+same_ask : (words : List (List ℕ)) (q q' : Question) (threads threads' : ℕ) (layout text file layout' text' file' : List ℕ)
+    → IsAsk words q threads layout text file → IsAsk words q' threads' layout' text' file'
+    → Ask q threads layout text file ≡ Ask q' threads' layout' text' file'
+same_ask words q q' threads threads' layout text file layout' text' file' a b =
+    let word = same_word words (question_word q) (question_word q') threads threads' (three layout text file) (three layout' text' file') a b in
+    let question : q ≡ q' = one_question q q' word in
+    let same = same_threaded words (question_word q) (question_word q') threads threads' (three layout text file) (three layout' text' file') a b in
+    let count = same.count in
+    let names = same.named in
+    cc
+
+same_demo : (words : List (List ℕ)) (threads threads' count count' : ℕ) → IsDemo words threads count → IsDemo words threads' count'
+    → Demo threads count ≡ Demo threads' count'
+same_demo words threads threads' count count' a b =
+    let same = same_threaded words (codes "demo") (codes "demo") threads threads' (decimal count ∷ []) (decimal count' ∷ []) a.threaded b.threaded in
+    let names = same.named in
+    let text : decimal count ≡ decimal count' = cc in
+    let counts : count ≡ count' = decimal_injective count count' (omega (arith, a.is_count.few)) (omega (arith, b.is_count.few)) text in
+    let number = same.count in
+    cc
+
+-- ---- the commands
+
+-- the place of a command among the commands
+sort : Request → ℕ
+sort (Sum n m kind file) = 0
+sort (Layout file) = 1
+sort (Ask q threads layout text file) = 2
+sort (Demo threads count) = 3
+sort (Run file) = 4
+
+word_sort : List ℕ → ℕ
+word_sort w =
+    if bytes_eq w (codes "sum") then 0 else if bytes_eq w (codes "layout") then 1 else if bytes_eq w (codes "demo") then 3
+    else if bytes_eq w (codes "run") then 4 else 2
+
+words_sort : List (List ℕ) → ℕ
+words_sort [] = 5
+words_sort (w ∷ ws) = word_sort w
+
+question_sort : (q : Question) → word_sort (question_word q) ≡ 2
+unfolding word_sort
+question_sort Query = refl
+question_sort Tally = refl
+
+sort_is : (words : List (List ℕ)) (r : Request) → Asks words r → words_sort words ≡ sort r
+unfolding sort word_sort words_sort
+sort_is words (Sum n m kind file) asks = ap words_sort asks.spelled
+sort_is words (Layout file) asks = ap words_sort asks.spelled
+sort_is words (Ask q threads layout text file) asks = ap words_sort asks.spelled ∙ question_sort q
+sort_is words (Demo threads count) asks = ap words_sort asks.threaded.spelled
+sort_is words (Run file) asks = ap words_sort asks.spelled
+
+pub same_request : (words : List (List ℕ)) (r s : Request) → Asks words r → Asks words s → r ≡ s
+unfolding sort
+same_request words (Sum n m kind file) (Sum n' m' kind' file') a b = same_sum words n m n' m' kind kind' file file' a b
+same_request words (Layout file) (Layout file') a b = ap Layout (same_file words (codes "layout") file file' a b)
+same_request words (Run file) (Run file') a b = ap Run (same_file words (codes "run") file file' a b)
+same_request words (Ask q threads layout text file) (Ask q' threads' layout' text' file') a b =
+    same_ask words q q' threads threads' layout text file layout' text' file' a b
+same_request words (Demo threads count) (Demo threads' count') a b = same_demo words threads threads' count count' a b
+same_request words r s a b = let same : sort r ≡ sort s = sym (sort_is words r a) ∙ sort_is words s b in absurd (cc)
+
+-- ---- words of no command
+
+-- what the words say is of no question
+pub no_ask : (words : List (List ℕ)) (w : List ℕ) (q : Question) (n : ℕ) (names : List (List ℕ)) → IsThreaded words w n names
+    → ((layout text file : List ℕ) → names ≡ three layout text file → ⊥)
+    → (threads : ℕ) (layout text file : List ℕ) → IsAsk words q threads layout text file → ⊥
+no_ask words w q n names said none threads layout text file asks =
+    let same = same_threaded words w (question_word q) n threads names (three layout text file) said asks in
+    none layout text file same.named
+
+-- or of no demonstration
+pub no_demo : (words : List (List ℕ)) (w : List ℕ) (n : ℕ) (names : List (List ℕ)) → IsThreaded words w n names
+    → ((count : ℕ) → IsCount count → names ≡ decimal count ∷ [] → ⊥) → (threads count : ℕ) → IsDemo words threads count → ⊥
+no_demo words w n names said none threads count asks =
+    let same = same_threaded words w (codes "demo") n threads names (decimal count ∷ []) said asks.threaded in
+    none count asks.is_count same.named

@@ -1,0 +1,13 @@
+use fm_report::Report;
+use fm_rule::Finished;
+
+/// What a run leaves.
+#[derive(Drop)]
+pub enum Left {
+    /// Nothing but what it wrote.
+    Nothing,
+    /// The pool that a query, a tally or a demonstration used.
+    Pool(Finished),
+    /// The report of a script.
+    Report(Report),
+}

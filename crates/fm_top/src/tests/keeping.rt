@@ -1,0 +1,75 @@
+use super::queries::files;
+use crate::{Kept, run_tool};
+use fm_io::{FreeGate, MemFiles, MemSink};
+use std::alloc::{AllocError, AllocGlobal};
+use std::random::RandomSource;
+use std::sync::Wait;
+use std::test::Fail;
+use std::thread::Threads;
+
+/// Runs the tool on the words of a line where the write of this number fails, and answers its status.
+pub fn run_at<R: Threads + Wait + Sync + RandomSource + AllocGlobal>(
+    rt: &R,
+    files: &mut MemFiles,
+    line: &str,
+    failing: u64,
+    kept: &mut Kept,
+) -> Result<u8, AllocError> {
+    let alloc = rt.alloc();
+    let mut words = Vec::new(alloc);
+    for word in line.split(' ') {
+        words.push(String::from_str(alloc, word)?)?;
+    }
+    let mut out = MemSink::new(alloc, vec![in alloc; failing]?).with_piece(1);
+    Ok(run_tool(rt, alloc, &words, files, &mut out, &FreeGate, kept))
+}
+
+#[test]
+fn a_pool_is_kept_with_each_answer_of_one(rt: HostRuntime) -> Result<(), Fail> {
+    let mut files = files(rt.alloc(), &[], usize::MAX)?;
+    let mut kept = Kept::new();
+    assert!(rt; kept.finished().is_none());
+    // What is kept is that of the last run, whatever the one before kept.
+    for (line, status, is_kept) in [
+        ("query L1 count R1", 0, true),
+        ("query L1 count, R1", 5, false),
+        ("tally L1 .tags[] R1", 0, true),
+        ("query L1 count nofile", 2, false),
+        ("demo --threads 2 3", 0, true),
+        ("query L1 count Ragged", 6, false),
+        ("query L1 count E", 0, true),
+        ("layout L1", 0, false),
+        ("tally L1 .tags[] E", 0, true),
+        ("sum 8 0 long R1", 0, false),
+        ("query --threads 16 L1 count R1", 0, true),
+        ("query", 1, false),
+        ("tally L1 .price R1", 5, false),
+        ("tally Broken .tags[] R1", 4, false),
+    ] {
+        let code = run_at(&rt, &mut files, line, u64::MAX, &mut kept)?;
+        assert_eq!(rt; code, status, "{line}");
+        assert_eq!(rt; kept.finished().is_some(), is_kept, "{line}");
+    }
+    Ok(())
+}
+
+#[test]
+fn it_is_kept_where_the_answer_is_not_written(rt: HostRuntime) -> Result<(), Fail> {
+    let mut files = files(rt.alloc(), &[], usize::MAX)?;
+    let mut kept = Kept::new();
+    for (line, is_kept) in [
+        ("query L1 count R1", true),
+        ("query L1 count, R1", false),
+        ("tally L1 .tags[] R1", true),
+        ("query", false),
+        ("demo 3", true),
+        ("sum 8 0 long R1", false),
+    ] {
+        for failing in [0, 3] {
+            let code = run_at(&rt, &mut files, line, failing, &mut kept)?;
+            assert_eq!(rt; code, 8, "{line}");
+            assert_eq!(rt; kept.finished().is_some(), is_kept, "{line}");
+        }
+    }
+    Ok(())
+}

@@ -1,0 +1,187 @@
+use super::keeping::run_at;
+use super::{ends_at_each_write, line_ends, named, run};
+use crate::{Kept, SCRIPT_FILE_LIMIT};
+use fm_io::{MemFiles, MemSink, SureFiles};
+use fm_report::print_report;
+use std::alloc::{AllocError, Global};
+use std::test::Fail;
+
+/// A slot is used twice, and its bytes are zero again.
+const TWICE: &str =
+    "pool 1 1 8 1000 1\nfirst open a shared\nfirst alloc a s 8 8\nfirst set s long 0 7\nfirst close a\n\
+    first open b shared\nfirst alloc b t 8 8\nfirst get t long 0\nfirst get s long 0\n";
+
+/// What is printed of it.
+const TWICE_REPORT: &str =
+    "first open a shared -> ok\nfirst alloc a s 8 8 -> ok 0\nfirst set s long 0 7 -> ok\nfirst close a -> ok\n\
+    first open b shared -> ok\nfirst alloc b t 8 8 -> ok 0\nfirst get t long 0 -> 0\n\
+    first get s long 0 -> refused 1\nbytes b 0000000000000000\n";
+
+/// Two workers add to one number.
+const ADDED: &str =
+    "pool 1 1 8 1000 1\nfirst open a shared\nfirst alloc a s 8 8\n1 add s long 0 5\n2 add s long 0 7\n\
+    last get s long 0\n";
+
+/// The two texts that may be printed of it.
+const ADDED_REPORTS: [&str; 2] = [
+    "first open a shared -> ok\nfirst alloc a s 8 8 -> ok 0\n1 add s long 0 5 -> 0\n2 add s long 0 7 -> 5\n\
+    last get s long 0 -> 12\nbytes a 0c00000000000000\n",
+    "first open a shared -> ok\nfirst alloc a s 8 8 -> ok 0\n1 add s long 0 5 -> 7\n2 add s long 0 7 -> 0\n\
+    last get s long 0 -> 12\nbytes a 0c00000000000000\n",
+];
+
+/// The files where `S` has this text, the reads of these numbers fail, and each gives at most so many bytes.
+fn script_file(
+    alloc: Global,
+    text: &str,
+    failing: &[u64],
+    most: usize,
+) -> Result<MemFiles, AllocError> {
+    let file = named(alloc, "S", text.as_bytes().to_vec(alloc)?)?;
+    Ok(MemFiles::new(vec![in alloc; file]?, failing.to_vec(alloc)?).with_piece(most.max(1)))
+}
+
+#[test]
+fn each_script_is_run_or_refused(rt: HostRuntime) -> Result<(), Fail> {
+    for (script, status, text) in [
+        (TWICE, 0, TWICE_REPORT),
+        ("pool 1 1 8 1000 1\n", 0, ""),
+        ("# a pool\n\npool 1 1 8 1000 1", 0, ""),
+        ("", 10, "script refused 1\n"),
+        ("# nothing\n\n", 10, "script refused 3\n"),
+        ("first open a shared\n", 10, "script refused 1\n"),
+        (
+            "pool 1 1 8 1000 1\nfirst open a\n",
+            10,
+            "script refused 2\n",
+        ),
+        (
+            "pool 1 1 8 1000 1\nfirst open a shared\nfirst hold a h\nfirst hold a k\nfirst unhold k\n",
+            10,
+            "script refused 3\n",
+        ),
+    ] {
+        for most in [1, 7, usize::MAX] {
+            let mut files = script_file(rt.alloc(), script, &[], most)?;
+            line_ends(&rt, &mut files, "run S", status, text)?;
+        }
+    }
+    Ok(())
+}
+
+#[test]
+fn each_part_of_whole_lines_is_run(rt: HostRuntime) -> Result<(), Fail> {
+    let alloc = rt.alloc();
+    let words = ["run", "S"];
+    for (k, c) in TWICE.as_bytes().iter().enumerate() {
+        if *c == b'\n' {
+            let part = std::str::from_utf8(&TWICE.as_bytes()[..=k]).unwrap_or("");
+            let mut files = script_file(alloc, part, &[], usize::MAX)?;
+            let code = run(
+                &rt,
+                &words,
+                &mut files,
+                &mut MemSink::new(alloc, Vec::new(alloc)),
+            )?;
+            assert_eq!(rt; code, 0, "{part}");
+        }
+    }
+    Ok(())
+}
+
+#[test]
+fn words_that_run_no_script_are_usage(rt: HostRuntime) -> Result<(), Fail> {
+    for (line, status, text) in [
+        ("run", 1, "usage\n"),
+        ("run S S", 1, "usage\n"),
+        ("run -S", 1, "usage\n"),
+        ("run -- S", 1, "usage\n"),
+        ("Run S", 1, "usage\n"),
+        ("run nofile", 2, "missing nofile\n"),
+        ("run ", 2, "missing \n"),
+    ] {
+        let mut files = script_file(rt.alloc(), TWICE, &[], 1)?;
+        line_ends(&rt, &mut files, line, status, text)?;
+    }
+    Ok(())
+}
+
+#[test]
+fn a_read_of_a_script_that_fails_prints_nothing(rt: HostRuntime) -> Result<(), Fail> {
+    // Each 16 bytes are read by a call of their own, and then the end.
+    let reads = ADDED.len().div_ceil(16) as u64;
+    for k in 0..=reads + 1 {
+        let alloc = rt.alloc();
+        let mut files = script_file(alloc, ADDED, &[k], 16)?;
+        let mut out = MemSink::new(alloc, Vec::new(alloc));
+        let code = run(&rt, &["run", "S"], &mut files, &mut out)?;
+        let found = out.written();
+        if k <= reads {
+            assert_eq!(rt; code, 3, "read {k}");
+            assert!(rt; found.is_empty(), "read {k}");
+        } else {
+            assert_eq!(rt; code, 0, "read {k}");
+            assert!(rt; ADDED_REPORTS.iter().any(|text| text.as_bytes() == found));
+        }
+    }
+    Ok(())
+}
+
+#[test]
+fn a_write_of_a_report_that_fails_leaves_a_prefix(rt: HostRuntime) -> Result<(), Fail> {
+    for (script, status, text) in [(TWICE, 0, TWICE_REPORT), ("", 10, "script refused 1\n")] {
+        let mut files = script_file(rt.alloc(), script, &[], usize::MAX)?;
+        ends_at_each_write(&rt, &mut files, &["run", "S"], status, text)?;
+    }
+    Ok(())
+}
+
+#[test]
+fn a_report_is_kept_with_each_run_of_a_script(rt: HostRuntime) -> Result<(), Fail> {
+    let mut files = script_file(rt.alloc(), TWICE, &[], usize::MAX)?;
+    let mut kept = Kept::new();
+    for (line, failing, status, is_kept) in [
+        ("run S", u64::MAX, 0, true),
+        ("run", u64::MAX, 1, false),
+        ("run S", 3, 8, true),
+        ("demo 3", u64::MAX, 0, false),
+        ("run S", 0, 8, true),
+        ("run nofile", u64::MAX, 2, false),
+    ] {
+        let code = run_at(&rt, &mut files, line, failing, &mut kept)?;
+        assert_eq!(rt; code, status, "{line}");
+        assert_eq!(rt; kept.report().is_some(), is_kept, "{line}");
+        assert!(rt; !is_kept || kept.finished().is_none(), "{line}");
+    }
+    Ok(())
+}
+
+#[test]
+fn what_is_kept_is_what_was_printed(rt: HostRuntime) -> Result<(), Fail> {
+    let mut files = script_file(rt.alloc(), TWICE, &[], usize::MAX)?;
+    let mut kept = Kept::new();
+    run_at(&rt, &mut files, "run S", u64::MAX, &mut kept)?;
+    let Some(report) = kept.report() else {
+        assert!(rt; false, "no report");
+        return Ok(());
+    };
+    let text = print_report(rt.alloc(), report).expect(&rt, "a text");
+    assert_eq!(rt; text.as_str(), TWICE_REPORT);
+    Ok(())
+}
+
+#[test]
+fn a_script_file_may_be_as_long_as_the_limit(rt: HostRuntime) -> Result<(), Fail> {
+    let limit = SCRIPT_FILE_LIMIT as usize;
+    for (length, status, text) in [(limit, 0, TWICE_REPORT), (limit + 1, 7, "too long\n")] {
+        let alloc = rt.alloc();
+        let mut bytes = TWICE.as_bytes().to_vec(alloc)?;
+        for _ in TWICE.len()..length {
+            bytes.push(b'#')?;
+        }
+        let file = named(alloc, "S", bytes)?;
+        let mut files = SureFiles::new(vec![in alloc; file]?);
+        line_ends(&rt, &mut files, "run S", status, text)?;
+    }
+    Ok(())
+}
