@@ -6,6 +6,9 @@
 //!   words patches COUNT          a byte put into a word, by a load and a compare-exchange loop
 //!   words beside COUNT THREADS   threads that store their mark, load one word, and clear it; marks lie side by side
 //!   words apart COUNT THREADS    the same, of marks that lie 8 words apart
+//!   words opens COUNT            64 bytes allocated and freed
+//!   words wipes COUNT            1,048,576 words made 0, one after another
+use std::alloc::{alloc, dealloc, Layout};
 use std::hint::black_box;
 use std::sync::atomic::{AtomicU64, Ordering::SeqCst};
 use std::thread;
@@ -66,6 +69,23 @@ fn crowd(count: u64, threads: usize, between: usize) -> u64 {
     })
 }
 
+fn opens(count: u64) -> u64 {
+    let layout = Layout::new::<[u64; 8]>();
+    for _ in 0..count {
+        let place = black_box(unsafe { alloc(layout) });
+        unsafe { dealloc(place, layout) };
+    }
+    count
+}
+
+fn wipes(count: u64) -> u64 {
+    let words: Vec<AtomicU64> = (0..1_048_576).map(|_| AtomicU64::new(0)).collect();
+    for _ in 0..count {
+        black_box(&words).iter().for_each(|word| word.store(0, SeqCst));
+    }
+    count
+}
+
 fn main() {
     let mut asked = std::env::args().skip(1);
     let what = asked.next().expect("a name");
@@ -78,7 +98,9 @@ fn main() {
         "patches" => patches(&word, count),
         "beside" => crowd(count, threads, 0),
         "apart" => crowd(count, threads, 7),
-        _ => panic!("adds, swaps, patches, beside or apart"),
+        "opens" => opens(count),
+        "wipes" => wipes(count),
+        _ => panic!("adds, swaps, patches, beside, apart, opens or wipes"),
     };
     println!("{joined}");
 }

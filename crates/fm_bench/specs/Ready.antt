@@ -41,3 +41,8 @@ pub record CanWork (pool : Pool) (p : View) (a : ArenaId) : Type 0 where
   pub outside : IsOutside pool p
   pub opened : IsOpen p 8 a
   pub nothing : HasNothing p
+
+-- the pass is outside, and the arena is open to it with 64 bytes
+pub record CanRead (pool : Pool) (p : View) (a : ArenaId) : Type 0 where
+  pub outside : IsOutside pool p
+  pub opened : IsOpen p 64 a

@@ -1,13 +1,16 @@
 //! Loops for the benchmarks: `visits COUNT` of the words of a `Mono`'s arena, `gates COUNT` of a pool's arena and
-//! `hops COUNT` of 64 of its arenas, `closes POOLS` of the arenas of so many pools, `loads COUNT` from a plain vector,
+//! `hops COUNT` of 64 of its arenas, `closes POOLS` of the arenas of so many pools, `opens COUNT` of 64 bytes in one slot
+//! again and again, `wipes COUNT` of 8 MiB there, `loads COUNT` from a plain vector,
 //! `adds COUNT`, `swaps COUNT` and `patches COUNT` of a word in one visit, `draws POOLS` of the passes of so many pools,
 //! `beside COUNT THREADS` and `apart COUNT THREADS` of visits by threads whose marks lie side by side and 8 apart,
 //! `known COUNT` of a segment by a layout that the compiler knows, `gets COUNT LAYOUT` and `handles COUNT LAYOUT` by a
 //! layout that is read as JSON, at offsets and by a path, and `fills COUNT`, `copies COUNT` and `mismatches COUNT` of
 //! segments of 64 MiB.
 //!
-//! `stress ROUNDS` is no benchmark: threads add to a word, and close the arena while others add, and it prints how many of
-//! the rounds came out as they should.
+//! `stress ROUNDS` is no benchmark: threads add to a word, and close the arena while others add, and it prints how many
+//! of the rounds came out as they should. `reuse ROUNDS THREADS` is none either: every other thread opens arenas, fills,
+//! reads and closes them, while the others read in one that is closed in the midst. It prints how often a slot was used,
+//! what was read, what was refused, how many words were wrong, and the seconds that it took.
 //!
 //! It prints what it found, so that the loops are run; the script that calls it takes the time.
 #![tactic(auto)]
@@ -16,7 +19,9 @@ mod cells;
 mod crews;
 mod gates;
 mod loads;
+mod opens;
 mod ranges;
+mod reuse;
 mod stress;
 mod updates;
 mod visits;
@@ -25,7 +30,9 @@ use crate::cells::{gets, handles, known};
 use crate::crews::{crowd, draws};
 use crate::gates::{closes, gates, hops};
 use crate::loads::loads;
+use crate::opens::{opens, wipes};
 use crate::ranges::{copies, fills, mismatches};
+use crate::reuse::{Count, reuse};
 use crate::stress::stress;
 use crate::updates::{adds, patches, swaps};
 use crate::visits::visits;
@@ -34,12 +41,20 @@ use std::env;
 use std::process::ExitCode;
 use std::sync::Wait;
 use std::thread::Threads;
+use std::time::Instant;
 
 fn main(rt: HostRuntime) -> ExitCode {
     let printed = match words(&rt) {
-        Some((what, count, text)) => match run(&rt, rt.alloc(), &what, count, &text) {
-            Some(joined) => println!(rt; "{joined}").is_ok(),
-            None => false,
+        Some((what, count, text)) => match what.as_str() {
+            "reuse" => {
+                let start = Instant::now(&rt);
+                let count = reuse_by(&rt, rt.alloc(), count, &text);
+                print_count(&rt, start.ok(), count).is_some()
+            }
+            _ => match run(&rt, rt.alloc(), &what, count, &text) {
+                Some(joined) => println!(rt; "{joined}").is_ok(),
+                None => false,
+            },
         },
         None => false,
     };
@@ -48,6 +63,34 @@ fn main(rt: HostRuntime) -> ExitCode {
     } else {
         ExitCode::FAILURE
     }
+}
+
+/// What so many rounds of reuse come to, by as many threads as the text says: 2 to 16.
+fn reuse_by<R: Threads + Wait + Sync>(
+    rt: &R,
+    alloc: Global,
+    rounds: u64,
+    text: &str,
+) -> Option<Count> {
+    let threads = text.parse::<u32>().ok()?;
+    if threads < 2 || threads > 16 {
+        return None;
+    }
+    reuse(rt, alloc, rounds, threads).ok()
+}
+
+/// Prints what came of all calls since the start.
+fn print_count(rt: &HostRuntime, start: Option<Instant>, count: Option<Count>) -> Option<()> {
+    let Count {
+        reuses,
+        reads,
+        refusals,
+        wrong,
+    } = count?;
+    let seconds = start?.elapsed(rt).ok()?.as_secs();
+    println!(rt;
+        "{reuses} reuses, {reads} reads, {refusals} refusals, {wrong} wrong, {seconds} s"
+    ).ok()
 }
 
 /// The words behind the program's name, where they are of the form; a third one may be left out.
@@ -72,6 +115,8 @@ fn run<R: Threads + Wait + Sync>(
         "gates" => gates(rt, alloc, count).ok(),
         "hops" => hops(rt, alloc, count).ok(),
         "closes" => closes(rt, alloc, count).ok(),
+        "opens" => opens(rt, alloc, count).ok(),
+        "wipes" => wipes(rt, alloc, count).ok(),
         "loads" => loads(alloc, count).ok(),
         "adds" => adds(rt, alloc, count).ok(),
         "swaps" => swaps(rt, alloc, count).ok(),
