@@ -1,5 +1,5 @@
--- Where a pass that is known to be whole finds no slot.
-use Rattle.std.proofs.Common.{◌≡◌, [], ◌∷◌, List, Result, refl, ap, Ok, Err}
+-- Where a pass finds no slot.
+use Rattle.std.proofs.Common.{◌≡◌, [], ◌∷◌, List, Result, refl, Ok, Err}
 use Rattle.fm_base.specs.declared.arena_id.ArenaId.{ArenaId}
 use Rattle.fm_base.specs.declared.kind.Kind.{Kind}
 use Rattle.fm_base.specs.declared.kind.Kind.TheVariants.{Automatic}
@@ -24,13 +24,19 @@ pub has_no_slot : (p : View) → p.hand ≡ nothing → p.sweeps ≡ [] → HasN
 unfolding slots_told
 has_no_slot p hand sweeps = rw sweeps (rw hand refl)
 
--- Where the gate's call is refused, every slot is busy.
-refused : {X : Type 0} {pool : Pool} {p q : View} {kind : Kind} {r : Refusal} → AfterOpen pool p q kind (Err r) → OpensExactly {X = X} p (Err r)
-refused {p = p} a = record { opened = tt; refused = λ whole none. a.no_slot.1.busy whole (none_swept p.sweeps p.hand none) }
+-- Where the gate's call is refused a step found no slot, and a whole pass has every slot busy.
+refused : {X : Type 0} {pool : Pool} {p q : View} {kind : Kind} {r : Refusal} → AfterOpen pool p q kind (Err r) → OpensExactly {X = X} p q (Err r)
+refused {p = p} a =
+    let none_left = a.no_slot.1 in
+    record {
+      opened = tt;
+      refused = λ whole none. none_left.busy whole (none_swept p.sweeps p.hand none);
+      found = record { find = none_left.find; early = none_left.early };
+    }
 
 -- What the gate's call teaches of it.
-pub opens_exactly : {pool : Pool} {p q : View} {kind : Kind} (result : Result ArenaId Refusal) → AfterOpen pool p q kind result → OpensExactly p result
-opens_exactly (Ok id) a = record { opened = a.slot; refused = tt }
+pub opens_exactly : {pool : Pool} {p q : View} {kind : Kind} (result : Result ArenaId Refusal) → AfterOpen pool p q kind result → OpensExactly p q result
+opens_exactly (Ok id) a = record { opened = a.slot; refused = tt; found = tt }
 opens_exactly (Err r) a = refused a
 
 -- What the opener of an automatic arena learns where no slot was free.
@@ -39,7 +45,7 @@ starts_not a = record {
   did = a.did;
   is_new = tt;
   has = tt;
-  no_slot = (a.no_slot.0, a.no_slot.1.find);
+  no_slot = a.no_slot.0;
   exact = refused a;
   outside = a.outside.outside;
   lasts = a.lasts;

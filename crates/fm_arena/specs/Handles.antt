@@ -5,7 +5,6 @@ use Rattle.fm_base.specs.declared.kind.Kind.TheVariants.{Automatic}
 use Rattle.fm_base.specs.declared.refusal.Refusal.{Refusal}
 use Rattle.fm_base.specs.declared.refusal.Refusal.TheVariants.{NoSlot}
 use Rattle.fm_base.specs.Does.{DoesOpen, DoesAgain, DoesGiveBack}
-use Rattle.fm_base.specs.Finds.{FoundNothing, is_slot}
 use Rattle.fm_base.specs.View.{but_loans}
 use Rattle.fm_pool_facts.specs.Views.{View, In, IsKnown}
 use Rattle.fm_pool_facts.specs.Holds.{released}
@@ -43,14 +42,14 @@ abbrev pub whether : Result AutoHandle Refusal → Result (Unit {0}) Refusal
 whether (Ok handle) = Ok tt
 whether (Err r) = Err r
 
--- of `start`: where no slot was free, a step found so; a pass that is known to be whole gets it exactly where every slot is busy
+-- of `start`: where no slot was free, a step found so; a pass that is known to be whole is refused exactly where every slot is busy
 pub record AfterStart (old new : View) (result : Result AutoHandle Refusal) : Type 0 where
   pub did : KeptHandling old new (handles_opened Automatic (named result) old.handles)
       (λ own. DoesOpen old.caller Automatic (named result) (but_loans own))
   pub is_new : IfOk result (λ handle. IsNew old new handle.arena)
   pub has : IfOk result (λ handle. HasHandle new handle)
-  pub no_slot : IfErr result (λ r. (r ≡ NoSlot) × FoundNothing is_slot old.finds new.finds)
-  pub exact : OpensExactly old result
+  pub no_slot : IfErr result (λ r. r ≡ NoSlot)
+  pub exact : OpensExactly old new result
   pub outside : new.inside ≡ None
   pub lasts : Lasts old new
 

@@ -1,6 +1,7 @@
--- Where a pass that is known to be whole finds no slot for an arena.
-use Rattle.std.specs.Prelude.{◌≡◌, true, [], Result, IfOk, IfErr}
+-- Where a pass finds no slot for an arena.
+use Rattle.std.specs.Prelude.{◌≡◌, ◌≤◌, true, [], length, Result, IfOk, IfErr}
 use Rattle.fm_base.specs.declared.refusal.Refusal.{Refusal}
+use Rattle.fm_base.specs.Finds.{FoundNothing, is_slot}
 use Rattle.fm_pool_facts.specs.Views.{View}
 use Rattle.fm_calls.specs.Kept.{rest_of}
 use Rattle.fm_gate.specs.Learnt.{AllBusy}
@@ -9,7 +10,14 @@ use Rattle.fm_gate.specs.Learnt.{AllBusy}
 abbrev pub HasNoSlot : View → Type 0
 HasNoSlot p = (rest_of p).slots ≡ []
 
--- A pass that is known to be whole is refused exactly where every slot has an arena that hasn't ended, or has had its last generation
-pub record OpensExactly {X : Type 0} (old : View) (result : Result X Refusal) : Type 0 where
+-- a step found no slot, when the pass had seen no more than now
+pub record FoundNoneLeft (old new : View) : Type 0 where
+  pub find : FoundNothing is_slot old.finds new.finds
+  pub early : find.find.seen ≤ length new.seen
+
+-- A pass that is known to be whole is refused exactly where every slot has an arena that hasn't ended, or has had its last generation; any pass only where a
+-- step found no slot
+pub record OpensExactly {X : Type 0} (old new : View) (result : Result X Refusal) : Type 0 where
   pub opened : IfOk result (λ _. old.whole ≡ true → ¬ (AllBusy old))
   pub refused : IfErr result (λ _. old.whole ≡ true → HasNoSlot old → AllBusy old)
+  pub found : IfErr result (λ _. FoundNoneLeft old new)

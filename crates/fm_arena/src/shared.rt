@@ -149,11 +149,12 @@ impl<'a> Memory for Shared<'a> {
         leave(self.pool, &mut self.pass);
     }
 
-    /// As the trait says; and a pass that is known to be whole gets `NoSlot` exactly where every slot is busy.
+    /// As the trait says; and a pass that is known to be whole gets `NoSlot` exactly where every slot is busy. The step
+    /// that found no slot had seen no more than the pass has seen afterwards.
     fn open_arena<R: Wait>(&mut self, rt: &R, kind: Kind) -> Result<ArenaId, Refusal>
         requires { CanOpen (view_of_pass self.old) kind }
         ensures opens { AfterOpen nature_of_shared (view_of_pass self.old) (view_of_pass self.new) kind result }
-        ensures exact { OpensExactly self.old result }
+        ensures exact { OpensExactly self.old self.new result }
     {
         open_arena(rt, self.pool, &mut self.pass, kind)
     }

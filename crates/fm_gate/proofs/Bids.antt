@@ -1,5 +1,6 @@
 -- Taking a slot, and opening an arena there.
 use Rattle.std.proofs.Common.{◌≡◌, ◌≢◌, ◌⊎◌, ℕ, ◌/◌, ◌^◌, ◌==◌, ◌<◌, Bool, true, false, if◌then◌else◌, List, [], ◌∷◌, ◌++◌, length, refl, ap, sym, ◌∙◌, subst, inl, inr, ⊎_elim, None, eq-eqb, ne_eqb, append_assoc}
+use Rattle.std.proofs.Math.Nat.{le_of_eq}
 use Rattle.std.proofs.lemmas.List.Elements.{All-cons, All-nil, Contains-push}
 use Rattle.std.proofs.lemmas.List.{append-nil}
 use Rattle.std.proofs.lemmas.Nat.Bits.{bit_at-zero}
@@ -13,7 +14,8 @@ use Rattle.fm_base.specs.declared.kind.Kind.{Kind}
 use Rattle.fm_base.specs.Arenas.{owner_of}
 use Rattle.fm_base.specs.Calls.{Entry}
 use Rattle.fm_base.specs.Histories.{made_by, state_after}
-use Rattle.fm_base.specs.Finds.{Find, TakesSlot, is_draw}
+use Rattle.fm_base.specs.Finds.{Find, FindsMore, TakesSlot, is_draw}
+use Rattle.fm_base.proofs.Making.{FindsMore-none}
 use Rattle.fm_pool_facts.specs.Hands.{Hand, nothing, taken, learnt, takes, hand_taken}
 use Rattle.fm_pool_facts.specs.Views.{View, IsBusy, IsBusyIn, limit_of}
 use Rattle.fm_pool_facts.specs.Holds.{handles_with}
@@ -48,12 +50,13 @@ pub record Bidding (pool : Pool) (p q : View) : Type 0 where
 pub bids_begin : {pool : Pool} {p : View} → IsOf pool p → p.hand ≡ nothing → Bidding pool p p
 bids_begin o h = record { of = o; none = h; went = inl refl }
 
--- a whole pass sees nothing new
+-- a whole pass sees nothing new, and what it finds is added
 record SameSeen (o p : View) : Type 0 where
   whole : p.whole ≡ o.whole
   shape : p.shape ≡ o.shape
   seen : o.whole ≡ true → p.seen ≡ o.seen
   sweeps : p.sweeps ≡ o.sweeps
+  finds : FindsMore o.finds p.finds
 
 same_seen : {pool : Pool} {o p : View} → Bidding pool o p → SameSeen o p
 same_seen {o = o} {p = p} b = ⊎_elim
@@ -62,12 +65,14 @@ same_seen {o = o} {p = p} b = ⊎_elim
       shape = ap (λ (x : View). x.shape) e;
       seen = λ w. ap (λ (x : View). x.seen) e;
       sweeps = ap (λ (x : View). x.sweeps) e;
+      finds = subst (λ (x : View). FindsMore x.finds p.finds) e (FindsMore-none p.finds);
     })
     (λ (g : Went o p nothing). record {
       whole = g.goes.same_whole;
       shape = g.goes.same_shape;
       seen = λ w. g.goes.seen ∙ (ap (λ (es : List Entry). o.seen ++ es) (g.goes.alone w) ∙ append-nil o.seen);
       sweeps = ap (λ (x : View). x.sweeps) g.is;
+      finds = g.goes.finds;
     })
     b.went
 
@@ -134,24 +139,15 @@ module _ {pool : Pool} {o p q : View} (word bit found : ℕ) (b : Bidding pool o
       let grown : q.finds ≡ p.finds ++ here ∷ [] = ap (λ (x : View). x.finds) t.is_part in
       record {
         went = w;
-        found = ⊎_elim
-            (λ (e : p ≡ o). record {
-              more = here ∷ [];
-              grown = grown ∙ ap (λ (x : View). x.finds ++ here ∷ []) e;
-              find = here;
-              among = Contains-push [] here;
-              step = refl;
-              nothing = zero;
-            })
-            (λ (g : Went o p nothing). record {
-              more = g.goes.finds.more ++ here ∷ [];
-              grown = grown ∙ (ap (λ (fs : List Find). fs ++ here ∷ []) g.goes.finds.grown ∙ append_assoc o.finds g.goes.finds.more (here ∷ []));
-              find = here;
-              among = Contains-push g.goes.finds.more here;
-              step = refl;
-              nothing = zero;
-            })
-            b.went;
+        found = record {
+          more = m.finds.more ++ here ∷ [];
+          grown = grown ∙ (ap (λ (fs : List Find). fs ++ here ∷ []) m.finds.grown ∙ append_assoc o.finds m.finds.more (here ∷ []));
+          find = here;
+          among = Contains-push m.finds.more here;
+          step = refl;
+          nothing = zero;
+        };
+        early = le_of_eq (sym (ap (λ (es : List Entry). length es) (t.seen ∙ append-nil (p.seen ++ t.others))));
         busy = λ y n k h. busy_same o p m.shape (m.seen y) k
             (l.busy (m.whole ∙ y) b.none (m.sweeps ∙ n) k (subst (λ (z : Shape). k < z.slots) (sym m.shape) h)
             (ap (λ (x : ℕ). bit_at x k) zero ∙ bit_at-zero k));

@@ -51,6 +51,7 @@ after_no_slot {p = p} {q = q} {k = k} out n =
         refl,
         record {
           find = n.found;
+          early = n.early;
           busy = n.busy;
           is = is ∙ ap (λ (x : Hand). record p { seen = q.seen; finds = q.finds; hand = x }) (sym out.no_slot);
         },

@@ -1,5 +1,5 @@
 -- What the caller of each call of the gate learns: one record each.
-use Rattle.std.specs.Prelude.{◌≡◌, ◌≢◌, ℕ, ◌<◌, Bool, List, [], ◌∷◌, true, None, Result, Ok, Err, IfOk, IfErr}
+use Rattle.std.specs.Prelude.{◌≡◌, ◌≢◌, ℕ, ◌<◌, ◌≤◌, length, Bool, List, [], ◌∷◌, true, None, Result, Ok, Err, IfOk, IfErr}
 use Rattle.fm_base.specs.declared.caller.Caller.{Caller}
 use Rattle.fm_base.specs.declared.arena_id.ArenaId.{ArenaId}
 use Rattle.fm_base.specs.declared.kind.Kind.{Kind}
@@ -68,6 +68,8 @@ pub record IsNew (old new : View) (id : ArenaId) : Type 0 where
 -- A step found that no slot could be lent; the pass is as it was, but for what it has seen and found
 pub record FoundNoSlot (old new : View) : Type 0 where
   pub find : FoundNothing is_slot old.finds new.finds
+  -- all that had been seen at that step is among what is seen now
+  pub early : find.find.seen ≤ length new.seen
   pub busy : old.whole ≡ true → old.sweeps ≡ [] → AllBusy old
   pub is : new ≡ record old { seen = new.seen; finds = new.finds }
 

@@ -1,5 +1,5 @@
 -- What taking a slot does to a pass.
-use Rattle.std.specs.Prelude.{◌≡◌, ◌<◌, ℕ, true, []}
+use Rattle.std.specs.Prelude.{◌≡◌, ◌<◌, ◌≤◌, ℕ, true, [], length}
 use Rattle.fm_base.specs.declared.arena_id.ArenaId.{ArenaId}
 use Rattle.fm_base.specs.declared.kind.Kind.{Kind}
 use Rattle.fm_base.specs.Arenas.{owner_of}
@@ -26,6 +26,8 @@ pub record SlotTaken (old new : View) (slot : ℕ) : Type 0 where
 pub record NoneTaken (old new : View) : Type 0 where
   pub went : Went old new nothing
   pub found : FoundNothing is_slot old.finds new.finds
+  -- all that had been seen at that step is among what is seen now
+  pub early : found.find.seen ≤ length new.seen
   pub busy : old.whole ≡ true → old.sweeps ≡ [] → AllBusy old
 
 -- it opened the arena in the slot that it had taken, and has none in its hand; it has the first handle of an automatic arena
