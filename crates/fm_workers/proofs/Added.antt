@@ -15,9 +15,9 @@ use Rattle.fm_base.proofs.Names.{are_one-not, are_one-self, same_id-self}
 use Rattle.fm_segment.specs.Region.{Region}
 use Rattle.fm_records.specs.Reads.{AreReads, read_visit}
 use Rattle.fm_workers.specs.Adding.{AddsAt, AddsBelow, adds, count_word, none_yet, nothing, one_more}
-use Rattle.fm_workers.specs.Crew.{AreDone}
 use Rattle.fm_workers.specs.Tally.{LeavesWord}
 use Rattle.fm_workers.specs.Tallies.{CountsPart, DoesTallyPart, SumsTo, Tallied, Tallies, Tallying}
+use Rattle.fm_workers.proofs.Callers.{AreDoneBy}
 
 pub added-append : (id : ArenaId) (word : ℕ) (es fs : List Entry) → all_added id word (es ++ fs) ≡ all_added id word es + all_added id word fs
 added-append id word [] fs = omega arith
@@ -114,7 +114,7 @@ pub record CrewAdds (w : Tallying) (more : List Entry) (cs : List Caller) (ns : 
   pub only : (id : ArenaId) (word : ℕ) → AllByRecursion (λ c. AllByRecursion (λ e. OnlyAdds id word e.call) (made_by c more)) cs
   pub sum : (k : ℕ) → k < 256 → total (λ c. all_added w.counts.arena (count_word w.counts k) (made_by c more)) cs ≡ slice_index ns k
 
-pub crew_adds : (w : Tallying) (more : List Entry) (cs : List Caller) (ts us : List Tallied) (ns : List ℕ) → AreDone (Tallies w) more cs ts us
+pub crew_adds : (w : Tallying) (more : List Entry) (cs : List Caller) (ts us : List Tallied) (ns : List ℕ) → AreDoneBy (Tallies w) more cs ts us
     → SumsTo us (Ok ns) → CrewAdds w more cs ns
 crew_adds w more [] [] [] ns d h = record { only = λ id word. tt; sum = λ k below. sym (h.each k below) }
 crew_adds w more (c ∷ cs) (t ∷ ts) (u ∷ us) ns d h =

@@ -20,11 +20,11 @@ use Rattle.fm_records.specs.declared.found.Found.{Found}
 use Rattle.fm_records.specs.Few.{AreFew}
 use Rattle.fm_records.specs.Query.{DoesQuery}
 use Rattle.fm_records.specs.Reads.{AreReads, StopsReading, IsWordOf, read_visit}
-use Rattle.fm_workers.specs.Crew.{AreDone}
 use Rattle.fm_workers.specs.declared.part.Part.{Part}
 use Rattle.fm_workers.specs.Parts.{Asked, IsRun, AreRuns, CanAsk, Answers, AnswersFew, ComesTo, bytes_in}
 use Rattle.fm_workers.specs.Query.{OnlyReads, reads, stops, FoundClosed}
 use Rattle.fm_workers.specs.Tallies.{DoesCount}
+use Rattle.fm_workers.proofs.Callers.{AreDoneBy}
 use Rattle.fm_workers.proofs.Runs.{run_ends, run_fits, runs_order}
 
 -- the records from one index up to another
@@ -58,14 +58,14 @@ can_ask_runs p v s from to (t ∷ ts) plan known even within h =
 
 -- ---- after they are asked
 
-pub runs_same : (p : Plan) (s : Region) (from to : ℕ) (more : List Entry) (cs : List Caller) (ts us : List Asked) → AreDone (Answers p) more cs ts us
+pub runs_same : (p : Plan) (s : Region) (from to : ℕ) (more : List Entry) (cs : List Caller) (ts us : List Asked) → AreDoneBy (Answers p) more cs ts us
     → AreRuns p s from ts to → AreRuns p s from us to
 runs_same p s from to more [] [] [] d h = h
 runs_same p s from to more (c ∷ cs) (t ∷ ts) (u ∷ us) d h =
     (h.0, record { order = h.1.order; region = d.0.same ∙ h.1.region }, runs_same p s h.0 to more cs ts us d.1 h.2)
 runs_same p s from to more cs ts us d h = absurd d
 
-pub answers_few : (p : Plan) (more : List Entry) (cs : List Caller) (ts us : List Asked) → AreDone (Answers p) more cs ts us → AnswersFew p us
+pub answers_few : (p : Plan) (more : List Entry) (cs : List Caller) (ts us : List Asked) → AreDoneBy (Answers p) more cs ts us → AnswersFew p us
 answers_few p more [] [] [] d = tt
 answers_few p more (c ∷ cs) (t ∷ ts) (u ∷ us) d =
     (subst (λ (r : Region). IfOk u.answer (AreFew r.size p)) (sym d.0.same) d.0.few, answers_few p more cs ts us d.1)
@@ -79,7 +79,7 @@ bytes_of_runs p s from to (u ∷ us) h =
     let ends = run_ends from h.0 p.size h.1.order in
     omega (arith, r, size, ends)
 
-pub count_done : (p : Plan) (more : List Entry) (cs : List Caller) (ts us : List Asked) → AreDone (Answers p) more cs ts us → length cs ≡ length ts
+pub count_done : (p : Plan) (more : List Entry) (cs : List Caller) (ts us : List Asked) → AreDoneBy (Answers p) more cs ts us → length cs ≡ length ts
 count_done p more [] [] [] d = refl
 count_done p more (c ∷ cs) (t ∷ ts) (u ∷ us) d = let e = count_done p more cs ts us d.1 in omega (arith, e)
 count_done p more cs ts us d = absurd d
@@ -138,7 +138,7 @@ run_within p s from next to t later within r =
     subst (λ (x : Region). IsWithin x s) (sym r.region) (record { arena = refl; from = omega arith; below = omega (arith, fits) })
 
 pub crew_reads : (p : Plan) (s : Region) (from to : ℕ) (more : List Entry) (cs : List Caller) (ts us : List Asked) → to ≤ s.size / p.size
-    → AreDone (Answers p) more cs ts us → AreRuns p s from ts to → AllByRecursion (λ c. OnlyReads s c (made_by c more)) cs
+    → AreDoneBy (Answers p) more cs ts us → AreRuns p s from ts to → AllByRecursion (λ c. OnlyReads s c (made_by c more)) cs
 crew_reads p s from to more [] [] [] within d h = tt
 crew_reads p s from to more (c ∷ cs) (t ∷ ts) (u ∷ us) within d h =
     let w = run_within p s from h.0 to t (runs_order p s h.0 to ts h.2) within h.1 in
@@ -162,7 +162,7 @@ stopped_by c p part Memory own even may d = inl refl
 stopped_by c p part r own even may d = absurd d
 
 pub crew_stopped : (p : Plan) (s : Region) (from to : ℕ) (more : List Entry) (cs : List Caller) (ts us : List Asked) (r : Refusal) → to ≤ s.size / p.size
-    → ((c : Caller) → MayUse s.arena c) → AreDone (Answers p) more cs ts us → AreRuns p s from ts to → ComesTo p us (Err r)
+    → ((c : Caller) → MayUse s.arena c) → AreDoneBy (Answers p) more cs ts us → AreRuns p s from ts to → ComesTo p us (Err r)
     → (r ≡ Memory) ⊎ ((r ≡ Closed) × FoundClosed s cs more)
 crew_stopped p s from to more [] [] [] r within may d h e = inl e
 crew_stopped p s from to more (c ∷ cs) (t ∷ ts) (u ∷ us) r within may d h (inr (inl m)) = inl m

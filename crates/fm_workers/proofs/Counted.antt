@@ -25,9 +25,9 @@ use Rattle.fm_records.proofs.Joining.{answer-append}
 use Rattle.fm_lists.proofs.Each.{all_split}
 use Rattle.fm_records.proofs.Sharing.{spared_found}
 use Rattle.fm_workers.specs.Counts.{AreCounts, AreTallied, IsTally, ListsBytes, listed, numbers_listed}
-use Rattle.fm_workers.specs.Crew.{AreDone}
 use Rattle.fm_workers.specs.Parts.{AreRuns}
 use Rattle.fm_workers.specs.Tallies.{CountsPart, DoesTallyPart, SumsTo, Tallied, Tallies, Tallying}
+use Rattle.fm_workers.proofs.Callers.{AreDoneBy}
 use Rattle.fm_workers.proofs.Asked.{piece}
 use Rattle.fm_workers.proofs.ByRuns.{items_none}
 use Rattle.fm_workers.proofs.Numbers.{both_counted}
@@ -104,7 +104,7 @@ module _ (limit : ℕ) (now : State) (w : Tallying) (s : Region) (more : List En
       subst (λ f. AreCounts (listed f) ns) is h.counted.are
 
   pub runs_counted : (from to : ℕ) (cs : List Caller) (ts us : List Tallied) (ns : List ℕ) → to ≤ s.size / w.plan.size
-      → AreDone (Tallies w) more cs ts us → AreRuns w.plan s from ts to → SumsTo us (Ok ns)
+      → AreDoneBy (Tallies w) more cs ts us → AreRuns w.plan s from ts to → SumsTo us (Ok ns)
       → AreCounts (listed (answer w.plan (bytes_at_places now (piece w.plan s from to)))) ns
   runs_counted from to [] [] [] ns within d h e =
       let same : from * w.plan.size ≡ to * w.plan.size = ap (λ (n : ℕ). n * w.plan.size) h in

@@ -22,11 +22,11 @@ use Rattle.fm_records.proofs.AnsweringBytes.{length-places}
 use Rattle.fm_records.proofs.Covering.{asked_is_read}
 use Rattle.fm_records.proofs.Joining.{records-append}
 use Rattle.fm_records.proofs.Sharing.{spared_found}
-use Rattle.fm_workers.specs.Crew.{AreDone}
 use Rattle.fm_workers.specs.Parts.{AreRuns}
 use Rattle.fm_workers.specs.Query.{IsReadByCrew}
 use Rattle.fm_workers.specs.Tallies.{CountsPart, DoesTallyPart, SumsTo, Tallied, Tallies, Tallying}
 use Rattle.fm_records.proofs.Behind.{get_split, length-pieces, less_times}
+use Rattle.fm_workers.proofs.Callers.{AreDoneBy}
 use Rattle.fm_workers.proofs.Asked.{piece}
 use Rattle.fm_workers.proofs.Counted.{bytes_of_runs, spared_part}
 use Rattle.fm_workers.proofs.Runs.{run_ends, run_fits, runs_order}
@@ -62,7 +62,7 @@ module _ (limit : ℕ) (now : State) (w : Tallying) (s : Region) (more : List En
       (record { found = x.found; among = among_left _ h.reads h.adds x.among })
 
   pub runs_read : (from to : ℕ) (cs : List Caller) (ts us : List Tallied) (ns : List ℕ) (index : ℕ) (r : Resolution) (is : List ℕ) (word : ℕ)
-      → to ≤ s.size / w.plan.size → AreDone (Tallies w) more cs ts us → AreRuns w.plan s from ts to → SumsTo us (Ok ns)
+      → to ≤ s.size / w.plan.size → AreDoneBy (Tallies w) more cs ts us → AreRuns w.plan s from ts to → SumsTo us (Ok ns)
       → IsAsked w.plan (bytes_at_places now (piece w.plan s from to)) index r is
       → IsWordOf (value_in w.plan (piece w.plan s from to) index r is) word → IsReadByCrew s cs more word
   runs_read from to [] [] [] ns index r is word within d h e asks at =

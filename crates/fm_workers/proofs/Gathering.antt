@@ -14,7 +14,8 @@ use Rattle.fm_rule.specs.declared.pool.Pool.{Pool}
 use Rattle.fm_rule.specs.Draws.{CanGather, Gathers}
 use Rattle.fm_gate.specs.Standing.{IsOutside}
 use Rattle.fm_workers.specs.declared.worker.Worker.{Worker}
-use Rattle.fm_workers.specs.Rounds.{IsSpare, IsIn, GatheredCrew, crew_of}
+use Rattle.fm_workers.specs.Crew.{IsIn}
+use Rattle.fm_workers.specs.Rounds.{IsSpare, GatheredCrew, crew_of}
 use Rattle.fm_workers.proofs.Drawing.{made_behind}
 
 abbrev pub Made : List Entry → Gathered → Type 0

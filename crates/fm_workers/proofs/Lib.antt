@@ -1,6 +1,7 @@
 pub mod Added
 pub mod Increments
 pub mod Asked
+pub mod Callers
 pub mod Counted
 pub mod ByRuns
 pub mod Numbers

@@ -19,9 +19,10 @@ use Rattle.fm_segment.specs.Region.{Region}
 use Rattle.fm_query.specs.Plan.{Plan, IsPlan}
 use Rattle.fm_records.specs.declared.found.Found.{Found}
 use Rattle.fm_records.specs.Few.{AreFew}
-use Rattle.fm_workers.specs.Crew.{AreDone, CrewWorked, callers}
+use Rattle.fm_workers.specs.Crew.{CrewWorked, by_caller, callers}
 use Rattle.fm_workers.specs.Parts.{Asked, AreRuns, Answers, ComesTo, IsCut, bytes_in}
 use Rattle.fm_workers.specs.Query.{OnlyReads, AnsweredBy, FoundClosed, IsOpenToAll, EndsQuery, ArePartsAsked, QueriedWith}
+use Rattle.fm_workers.proofs.Callers.{AreDoneBy, worked_by_callers}
 use Rattle.fm_workers.proofs.Asked.{bytes_of_runs, count_done, crew_reads, crew_stopped, idle_reads}
 use Rattle.fm_workers.proofs.Working.{nobody, lasts_none}
 use Rattle.fm_workers.proofs.Sharing.{answered_runs, whole_piece}
@@ -70,8 +71,9 @@ queried_none v p s threads r early known ends = record {
 }
 
 -- No task was begun.
-pub queried_refused : {old new : View} {p : Plan} {s : Region} {threads : ℕ} {ts us : List Asked} (r : Refusal) → CrewWorked (Answers p) old new ts us (Err r)
-    → length ts ≡ threads → IsOpenToAll p s → IsKnown (view_of_pass old) s → QueriedWith threads old new p s (Err r)
+pub queried_refused : {old new : View} {p : Plan} {s : Region} {threads : ℕ} {ts us : List Asked} (r : Refusal)
+    → CrewWorked (by_caller (Answers p)) old new ts us (Err r) → length ts ≡ threads → IsOpenToAll p s → IsKnown (view_of_pass old) s
+    → QueriedWith threads old new p s (Err r)
 queried_refused {s = s} NoPass w count shared known = record {
   crew = w.crew;
   one_each = (let l = w.ends.1 in omega (arith, count, l));
@@ -104,11 +106,11 @@ queried_refused {s = s} Memory w count shared known = record {
 }
 queried_refused r w count shared known = absurd w.ends
 
-module _ {old new : View} {p : Plan} {s : Region} {threads : ℕ} {ts us : List Asked} {u : Unit {0}} (w : CrewWorked (Answers p) old new ts us (Ok u))
-    (plan : IsPlan p) (cut : IsCut p s ts) (count : length ts ≡ threads) (shared : IsOpenToAll p s)
-    (known : IsKnown (view_of_pass old) s) where
-  done : AreDone (Answers p) w.crew.more (callers w.crew.crew) ts us
-  done = w.ends
+module _ {old new : View} {p : Plan} {s : Region} {threads : ℕ} {ts us : List Asked} {u : Unit {0}}
+    (w : CrewWorked (by_caller (Answers p)) old new ts us (Ok u)) (plan : IsPlan p) (cut : IsCut p s ts)
+    (count : length ts ≡ threads) (shared : IsOpenToAll p s) (known : IsKnown (view_of_pass old) s) where
+  done : AreDoneBy (Answers p) w.crew.more (callers w.crew.crew) ts us
+  done = worked_by_callers (Answers p) w
 
   as_many : length w.crew.crew ≡ threads
   as_many = sym (many w.crew.crew) ∙ (count_done p w.crew.more (callers w.crew.crew) ts us done ∙ count)

@@ -14,9 +14,9 @@ use Rattle.fm_records.specs.declared.found.Found.{Found}
 use Rattle.fm_records.specs.Joined.{joined}
 use Rattle.fm_records.specs.Query.{DoesQuery}
 use Rattle.fm_records.specs.Shares.{Share, AreCut, behind}
-use Rattle.fm_workers.specs.Crew.{AreDone}
 use Rattle.fm_workers.specs.Parts.{Asked, AreRuns, Answers, ComesTo}
 use Rattle.fm_workers.specs.Query.{AnsweredBy}
+use Rattle.fm_workers.proofs.Callers.{AreDoneBy}
 use Rattle.fm_workers.proofs.Asked.{piece}
 use Rattle.fm_workers.proofs.Runs.{run_ends, runs_order}
 
@@ -27,7 +27,7 @@ later_callers c cs (w ∷ ws) h = (inr h.0, later_callers c cs ws h.1)
 
 -- Runs that were answered are shares of their piece.
 pub answered_runs : (p : Plan) (s : Region) (from to : ℕ) (more : List Entry) (cs : List Caller) (ts us : List Asked) (a : List Found)
-    → AreDone (Answers p) more cs ts us → AreRuns p s from ts to → ComesTo p us (Ok a) → AnsweredBy p (piece p s from to) cs more a
+    → AreDoneBy (Answers p) more cs ts us → AreRuns p s from ts to → ComesTo p us (Ok a) → AnsweredBy p (piece p s from to) cs more a
 answered_runs p s from to more [] [] [] a d h e =
     let same : from * p.size ≡ to * p.size = ap (λ (n : ℕ). n * p.size) h in
     let ends = run_ends from to p.size (omega (arith, h)) in

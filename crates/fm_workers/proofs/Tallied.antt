@@ -30,11 +30,12 @@ use Rattle.fm_records.specs.Shares.{IsSpared}
 use Rattle.fm_workers.specs.Adding.{HasCounts, count_word}
 use Rattle.fm_workers.specs.Asking.{known_later}
 use Rattle.fm_workers.specs.Counts.{AreCounts, IsTally, listed}
-use Rattle.fm_workers.specs.Crew.{AreDone, CrewWorked, callers}
+use Rattle.fm_workers.specs.Crew.{CrewWorked, by_caller, callers}
 use Rattle.fm_workers.specs.Parts.{IsCut}
 use Rattle.fm_workers.specs.Query.{IsReadByCrew, NobodyElseWrites}
 use Rattle.fm_workers.specs.Tallies.{SumsTo, Tallied, Tallies, Tallying}
 use Rattle.fm_workers.specs.Tally.{AreAllRead, AreAsked, AreHeld, AreTheCounts, CanBeTallied, EndsTally, LeavesWord, OnlyAddsTo, OnlyTallies, TalliedWith, closed, no_more, one_add}
+use Rattle.fm_workers.proofs.Callers.{AreDoneBy, worked_by_callers}
 use Rattle.fm_workers.proofs.Added.{by_crew, crew_adds}
 use Rattle.fm_workers.proofs.Counted.{runs_counted}
 use Rattle.fm_workers.proofs.Covered.{runs_read}
@@ -115,7 +116,7 @@ tallied_none v p s counts threads r first known counts_known ends = record {
 
 -- No task was begun.
 pub tallied_refused : {old new : View} {w : Tallying} {s : Region} {threads : ℕ} {ts us : List Tallied} (r : Refusal)
-    → CrewWorked (Tallies w) old new ts us (Err r) → length ts ≡ threads → CanBeTallied w.plan s w.counts → IsKnown (view_of_pass old) s
+    → CrewWorked (by_caller (Tallies w)) old new ts us (Err r) → length ts ≡ threads → CanBeTallied w.plan s w.counts → IsKnown (view_of_pass old) s
     → IsKnown (view_of_pass old) w.counts → TalliedWith threads old new w.plan s w.counts (Err r)
 tallied_refused {w = k} {s = s} NoPass w count can known counts_known = record {
   crew = w.crew;
@@ -152,11 +153,11 @@ tallied_refused {w = k} {s = s} Memory w count can known counts_known = record {
 tallied_refused r w count can known counts_known = absurd w.ends
 
 module _ {old new : View} {k : Tallying} {s : Region} {threads : ℕ} {ts us : List Tallied} {u : Unit {0}}
-    (w : CrewWorked (Tallies k) old new ts us (Ok u)) (plan : IsPlan k.plan) (cut : IsCut k.plan s ts) (count : length ts ≡ threads)
+    (w : CrewWorked (by_caller (Tallies k)) old new ts us (Ok u)) (plan : IsPlan k.plan) (cut : IsCut k.plan s ts) (count : length ts ≡ threads)
     (can : CanBeTallied k.plan s k.counts) (longs : HasCounts k.counts) (other : k.counts.arena ≢ s.arena)
     (known : IsKnown (view_of_pass old) s) (counts_known : IsKnown (view_of_pass old) k.counts) where
-  done : AreDone (Tallies k) w.crew.more (callers w.crew.crew) ts us
-  done = w.ends
+  done : AreDoneBy (Tallies k) w.crew.more (callers w.crew.crew) ts us
+  done = worked_by_callers (Tallies k) w
 
   as_many : length w.crew.crew ≡ threads
   as_many = sym (many w.crew.crew) ∙ (tasks_count (Tallies k) w.crew.more (callers w.crew.crew) ts us done ∙ count)

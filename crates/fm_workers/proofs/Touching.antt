@@ -13,15 +13,15 @@ use Rattle.fm_segment.specs.Region.{Region}
 use Rattle.fm_query.specs.Plan.{Plan}
 use Rattle.fm_records.specs.Reads.{IsWordOf}
 use Rattle.fm_workers.specs.Adding.{AddsAt, AddsBelow, DoesAdd, HasCounts, adds, count_word, none_yet, nothing, one_more}
-use Rattle.fm_workers.specs.Crew.{AreDone}
 use Rattle.fm_workers.specs.Parts.{AreRuns}
 use Rattle.fm_workers.specs.Tallies.{CountsPart, DoesCount, DoesTallyPart, StopsPart, SumsTo, Tallied, Tallies, Tallying, unadded, uncounted}
 use Rattle.fm_workers.specs.Tally.{FoundEitherClosed, OnlyAddsTo, OnlyTallies, closed, no_more, one_add}
+use Rattle.fm_workers.proofs.Callers.{AreDoneBy}
 use Rattle.fm_workers.proofs.Asked.{IsWithin, no_reads, query_reads, run_within, stops_count}
 use Rattle.fm_workers.proofs.Runs.{runs_order}
 
 pub tasks_count : {T : Type 0} (Does : Caller → T → T → List Entry → Type 0) (more : List Entry) (cs : List Caller) (ts us : List T)
-    → AreDone Does more cs ts us → length cs ≡ length ts
+    → AreDoneBy Does more cs ts us → length cs ≡ length ts
 tasks_count Does more [] [] [] d = refl
 tasks_count Does more (c ∷ cs) (t ∷ ts) (u ∷ us) d = let e = tasks_count Does more cs ts us d.1 in omega (arith, e)
 tasks_count Does more cs ts us d = absurd d
@@ -82,7 +82,7 @@ part_tallies c p part s counts (Ok ns) own w longs d = counts_tallies c p part s
 part_tallies c p part s counts (Err r) own w longs d = stops_tallies c p part s counts r own w longs d
 
 pub crew_tallies : (w : Tallying) (s : Region) (from to : ℕ) (more : List Entry) (cs : List Caller) (ts us : List Tallied) → HasCounts w.counts
-    → to ≤ s.size / w.plan.size → AreDone (Tallies w) more cs ts us → AreRuns w.plan s from ts to
+    → to ≤ s.size / w.plan.size → AreDoneBy (Tallies w) more cs ts us → AreRuns w.plan s from ts to
     → AllByRecursion (λ c. OnlyTallies s w.counts c (made_by c more)) cs
 crew_tallies w s from to more [] [] [] longs within d h = tt
 crew_tallies w s from to more (c ∷ cs) (t ∷ ts) (u ∷ us) longs within d h = (
@@ -128,7 +128,7 @@ part_stopped c p part s counts r cs more same (unadded ns h) =
     inr (e.0, record { caller = c; among = inl refl; arena = counts.arena; either = inr refl; before = e.1.0; last = e.1.1 })
 
 pub crew_stops : (w : Tallying) (s : Region) (from to : ℕ) (more : List Entry) (cs : List Caller) (ts us : List Tallied) (r : Refusal)
-    → to ≤ s.size / w.plan.size → AreDone (Tallies w) more cs ts us → AreRuns w.plan s from ts to → SumsTo us (Err r) → IsStop r s w.counts cs more
+    → to ≤ s.size / w.plan.size → AreDoneBy (Tallies w) more cs ts us → AreRuns w.plan s from ts to → SumsTo us (Err r) → IsStop r s w.counts cs more
 crew_stops w s from to more [] [] [] r within d h e = absurd e
 crew_stops w s from to more (c ∷ cs) (t ∷ ts) (u ∷ us) r within d h e =
     let x = run_within w.plan s from h.0 to t (runs_order w.plan s h.0 to ts h.2) within h.1 in

@@ -1,5 +1,5 @@
 -- What each worker did, and what its pass has found.
-use Rattle.std.proofs.Common.{inl, inr, ◌≡◌, ℕ, suc, ◌<◌, List, [], ◌∷◌, ◌++◌, length, refl, ap, sym, ◌∙◌, subst, arith, append_assoc, None, false}
+use Rattle.std.proofs.Common.{inl, inr, ◌≡◌, ℕ, suc, ◌<◌, List, [], ◌∷◌, ◌++◌, length, map, refl, ap, sym, ◌∙◌, subst, arith, append_assoc, None, false}
 use Rattle.std.specs.Prelude.{slice_index_or}
 use Rattle.std.specs.List.{AllByRecursion, AllZip}
 use Rattle.std.proofs.lemmas.List.{append-nil, map-append}
@@ -20,8 +20,8 @@ use Rattle.fm_calls.proofs.Going.{reached_by, lasts_by}
 use Rattle.fm_calls.proofs.Sweeps.{no_sweeps}
 use Rattle.fm_arena.proofs.Lasting.{keeps}
 use Rattle.fm_workers.specs.declared.worker.Worker.{Worker}
-use Rattle.fm_workers.specs.Crew.{IsFresh, AreDone, callers}
-use Rattle.fm_workers.specs.Rounds.{IsDrawn, IsSpare, IsIn, IsWorked, tasks_of, crew_of}
+use Rattle.fm_workers.specs.Crew.{IsFresh, IsIn, AreDone, callers}
+use Rattle.fm_workers.specs.Rounds.{IsDrawn, IsSpare, IsWorked, tasks_of, crew_of, passes_of}
 use Rattle.fm_workers.proofs.Drawing.{made_behind}
 use Rattle.fm_workers.proofs.Wholes.{NoDraws}
 
@@ -110,6 +110,15 @@ module _ {T : Type 0} where
   each_caller P (w ∷ ws) h = subst (λ (cs : List Caller). AllByRecursion P cs) (sym (callers_push (crew_of ws) (as_gathered w.memory)))
       (all_both P (callers (crew_of ws)) (w.memory.caller ∷ []) (each_caller P ws h.1) (h.0, tt))
 
+  -- what was gathered of their passes
+  pub crew_are : (ws : List (Worker T)) → crew_of ws ≡ map as_gathered (passes_of ws)
+  crew_are [] = refl
+  crew_are (w ∷ ws) = ap (λ (gs : List Gathered). gs ++ as_gathered w.memory ∷ []) (crew_are ws) ∙ sym (map-append as_gathered (passes_of ws) (w.memory ∷ []))
+
+  pub each_pass : (P : View → Type 0) (ws : List (Worker T)) → AllByRecursion (λ (w : Worker T). P w.memory) ws → AllByRecursion P (passes_of ws)
+  each_pass P [] h = tt
+  each_pass P (w ∷ ws) h = all_both P (passes_of ws) (w.memory ∷ []) (each_pass P ws h.1) (h.0, tt)
+
   pub spare_all : (pool : Pool) (old : View) (ws : List (Worker T)) → IsOf pool old → AllByRecursion (λ (w : Worker T). IsDrawn old w.memory) ws
       → AllByRecursion (λ (w : Worker T). IsSpare pool w.memory) ws
   spare_all pool old [] of h = tt
@@ -135,7 +144,7 @@ module _ {T : Type 0} where
       let parts = all_split (can old) (tasks_of ws) (w.task ∷ []) h in
       ((ap (λ (v : View). v.inside) n.0.is, stays old w.memory w.task (lasts_drawn n.0) parts.1.0), ready_all can stays old ws n.1 parts.0)
 
-  module _ (Does : Caller → T → T → List Entry → Type 0) where
+  module _ (Does : View → T → T → List Entry → Type 0) where
     pub spare_after : (pool : Pool) (ws vs : List (Worker T)) → AllByRecursion (λ (w : Worker T). IsSpare pool w.memory) ws → AllZip (IsWorked Does) ws vs
         → AllByRecursion (λ (v : Worker T). IsSpare pool v.memory) vs
     spare_after pool [] [] s z = tt
@@ -151,25 +160,23 @@ module _ {T : Type 0} where
     fresh_after old (w ∷ ws) (v ∷ vs) n z =
         (subst (λ (c : Caller). IsFresh old c) (sym z.0.did.makes.same_caller) n.0.fresh, fresh_after old ws vs n.1 z.1)
 
-    done_push : (more : List Entry) (cs : List Caller) (ts us : List T) (c : Caller) (t u : T) → AreDone Does more cs ts us → Does c t u (made_by c more)
-        → AreDone Does more (cs ++ c ∷ []) (ts ++ t ∷ []) (us ++ u ∷ [])
-    done_push more [] [] [] c t u h k = (k, tt)
-    done_push more (b ∷ cs) (s ∷ ts) (r ∷ us) c t u h k = (h.0, done_push more cs ts us c t u h.1 k)
-    done_push more cs ts us c t u h k = absurd h
+    done_push : (more : List Entry) (ps : List View) (ts us : List T) (p : View) (t u : T) → AreDone Does more ps ts us
+        → Does p t u (made_by p.caller more) → AreDone Does more (ps ++ p ∷ []) (ts ++ t ∷ []) (us ++ u ∷ [])
+    done_push more [] [] [] p t u h k = (k, tt)
+    done_push more (q ∷ ps) (s ∷ ts) (r ∷ us) p t u h k = (h.0, done_push more ps ts us p t u h.1 k)
+    done_push more ps ts us p t u h k = absurd h
 
     pub done_all : (old new : View) (more : List Entry) (ws vs : List (Worker T)) → AllByRecursion (λ (w : Worker T). IsDrawn old w.memory) ws
         → AllZip (IsWorked Does) ws vs → AllByRecursion (λ (v : Worker T). IsIn v.memory new) vs → new.seen ≡ old.seen ++ more
-        → AreDone Does more (callers (crew_of vs)) (tasks_of ws) (tasks_of vs)
+        → AreDone Does more (passes_of vs) (tasks_of ws) (tasks_of vs)
     done_all old new more [] [] n z i seen = tt
     done_all old new more [] (v ∷ vs) n z i seen = absurd z
     done_all old new more (w ∷ ws) [] n z i seen = absurd z
     done_all old new more (w ∷ ws) (v ∷ vs) n z i seen =
         let k = z.0.did in
         let does = worker_made more n.0 k i.0 seen in
-        subst (λ (cs : List Caller). AreDone Does more cs (tasks_of ws ++ w.task ∷ []) (tasks_of vs ++ v.task ∷ []))
-        (sym (callers_push (crew_of vs) (as_gathered v.memory)))
-        (done_push more (callers (crew_of vs)) (tasks_of ws) (tasks_of vs) v.memory.caller w.task v.task (done_all old new more ws vs n.1 z.1 i.1 seen)
-        (subst (λ (c : Caller). Does c w.task v.task (made_by c more)) (sym k.makes.same_caller) does))
+        done_push more (passes_of vs) (tasks_of ws) (tasks_of vs) v.memory w.task v.task (done_all old new more ws vs n.1 z.1 i.1 seen)
+        (subst (λ (c : Caller). Does v.memory w.task v.task (made_by c more)) (sym k.makes.same_caller) does)
 
 -- ---- what is found
 
@@ -197,7 +204,7 @@ module _ {T : Type 0} where
   undrawn_all old [] n = tt
   undrawn_all old (w ∷ ws) n = (undrawn_new n.0, undrawn_all old ws n.1)
 
-  module _ (Does : Caller → T → T → List Entry → Type 0) where
+  module _ (Does : View → T → T → List Entry → Type 0) where
     pub undrawn_after : (old : View) (ws vs : List (Worker T)) → AllByRecursion (λ (w : Worker T). IsDrawn old w.memory) ws → AllZip (IsWorked Does) ws vs
         → AllByRecursion (λ (v : Worker T). NoDraws v.memory) vs
     undrawn_after old [] [] n z = tt

@@ -19,12 +19,12 @@ use Rattle.fm_pool_steps.proofs.Reading.{eqb_true}
 use Rattle.fm_calls.specs.Kept.{Lasts}
 use Rattle.fm_calls.proofs.Going.{reached_by, lasts_by}
 use Rattle.fm_workers.specs.declared.worker.Worker.{Worker}
-use Rattle.fm_workers.specs.Crew.{IsFresh, IsWhole, FoundAllDrawn, CrewGathered, CrewWorked, AreDone, callers}
-use Rattle.fm_workers.specs.Rounds.{Went, IsIn, AfterDraws, IsWorked, GatheredCrew, tasks_of, crew_of}
+use Rattle.fm_workers.specs.Crew.{IsFresh, IsIn, IsWhole, FoundAllDrawn, CrewGathered, CrewWorked, AreDone, callers}
+use Rattle.fm_workers.specs.Rounds.{Went, AfterDraws, IsWorked, GatheredCrew, tasks_of, crew_of, passes_of}
 use Rattle.fm_workers.proofs.Drawing.{made_behind, caller_still, gathered_still}
 use Rattle.fm_workers.proofs.Wholes.{NoDraws, all_drawn_again, crew_apart, finds_again, gathered_again, only_crew}
 use Rattle.fm_workers.proofs.Gathering.{Made, gatherer_still, apart_before, apart_since, all_in_still}
-use Rattle.fm_workers.proofs.Workers.{zip_all, fresh_all, idle_all, each_caller, fresh_after, done_all, undrawn_all, undrawn_after, callers_after}
+use Rattle.fm_workers.proofs.Workers.{zip_all, fresh_all, idle_all, crew_are, each_caller, each_pass, fresh_after, done_all, undrawn_all, undrawn_after, callers_after}
 
 more_found : {passes : ℕ} {draws : List Find} (fs : List Find) → FoundAllDrawn passes draws → FoundAllDrawn passes (draws ++ fs)
 more_found fs f = record {
@@ -80,7 +80,10 @@ module _ {T : Type 0} {old drew got new : View} {vs : List (Worker T)} {b : Bool
       seen = round_seen;
       own = round_own;
       apart = round_apart;
+      passes = passes_of vs;
+      within = each_pass (λ (p : View). IsIn p new) vs within;
       crew = crew_of vs;
+      are_passes = crew_are vs;
       distinct = crew_apart old new (crew_of vs) (ap (λ (v : View). v.gathered) round_is) l.sound;
       fresh = each_caller (IsFresh old) vs fresh;
       draws = m.draws ++ (l.find ∷ []);
@@ -124,7 +127,10 @@ nobody p = record {
   seen = sym (append-nil p.seen);
   own = refl;
   apart = λ i g l. refl;
+  passes = [];
+  within = tt;
   crew = [];
+  are_passes = refl;
   distinct = tt;
   fresh = tt;
   draws = [];
@@ -145,7 +151,7 @@ module _ {T : Type 0} where
   length_tasks (w ∷ ws) = let a = length-append (tasks_of ws) (w.task ∷ []) in let b = length_tasks ws in omega (arith, a, b)
 
   -- Memory was wanting, and nothing was done.
-  pub crew_none : (Does : Caller → T → T → List Entry → Type 0) (p : View) (tasks : List T) → CrewWorked Does p p tasks tasks (Err Memory)
+  pub crew_none : (Does : View → T → T → List Entry → Type 0) (p : View) (tasks : List T) → CrewWorked Does p p tasks tasks (Err Memory)
   unfolding nobody
   crew_none Does p tasks = record {
     crew = nobody p;
@@ -157,11 +163,11 @@ module _ {T : Type 0} where
     still_sound = λ h. h;
   }
 
-  pub zip_worked : (Does : Caller → T → T → List Entry → Type 0) (ws us vs : List (Worker T)) → us ≡ ws → length vs ≡ length us
+  pub zip_worked : (Does : View → T → T → List Entry → Type 0) (ws us vs : List (Worker T)) → us ≡ ws → length vs ≡ length us
       → ((i : ℕ) (d : Worker T) → i < length us → IsWorked Does (slice_index_or us i d) (slice_index_or vs i d)) → AllZip (IsWorked Does) ws vs
   zip_worked Does ws us vs val len worked = subst (λ (xs : List (Worker T)). AllZip (IsWorked Does) xs vs) val (zip_all (IsWorked Does) us vs len worked)
 
-module _ {T : Type 0} (Does : Caller → T → T → List Entry → Type 0) {old drew got new : View} {b : Bool} where
+module _ {T : Type 0} (Does : View → T → T → List Entry → Type 0) {old drew got new : View} {b : Bool} where
   -- All tasks were done.
   pub crew_worked : {tasks left done : List T} {u : Unit {0}} (ws vs : List (Worker T)) → old.drawn ≡ None → AfterDraws old drew tasks left ws (Ok u)
       → AllZip (IsWorked Does) ws vs → GatheredCrew drew got vs → Looked got new b → done ≡ left ++ tasks_of vs
@@ -185,7 +191,7 @@ module _ {T : Type 0} (Does : Caller → T → T → List Entry → Type 0) {old
       let same = length_all_zip (IsWorked Does) ws vs z in
       record {
         crew = round none m g l (fresh_after Does old ws vs d.drew.workers z) only (undrawn_after Does old ws vs d.drew.workers z);
-        ends = subst (λ (x : List T × List T). AreDone Does (m.more ++ (g.more ++ l.asked.more)) (callers (crew_of vs)) x.0 x.1)
+        ends = subst (λ (x : List T × List T). AreDone Does (m.more ++ (g.more ++ l.asked.more)) (passes_of vs) x.0 x.1)
             (λ i. (sym first i, sym last i)) made;
         suffice = omega (arith, long, passes, few, count_done, count_vs, same);
         wanting = λ w e. absurd (cc);

@@ -9,6 +9,7 @@ use Rattle.fm_base.specs.Calls.{Entry}
 use Rattle.fm_lists.specs.Among.{IsAmong, AreApart}
 use Rattle.fm_base.specs.Histories.{made_by}
 use Rattle.fm_base.specs.Finds.{Find, Gathered, is_draw}
+use Rattle.fm_pool_facts.specs.Splits.{as_gathered}
 use Rattle.fm_pool_facts.specs.Views.{View, In, IsSound, HasCaller}
 use Rattle.fm_rule.specs.Draws.{FoundAll}
 
@@ -27,6 +28,12 @@ pub record IsWhole (p : View) : Type 0 where
   pub sound : IsSound p
   pub whole : p.whole ≡ true
 
+-- who drew and gathered has seen all that the pass had seen, and since then it made no entry
+pub record IsIn (d new : View) : Type 0 where
+  pub rest : List Entry
+  pub seen : new.seen ≡ d.seen ++ rest
+  pub quiet : made_by d.caller rest ≡ []
+
 -- Passes were drawn, made entries, and were gathered again: these, in their order. The pass made no entry
 pub record CrewGathered (old new : View) : Type 0 where
   -- the entries, those of others too
@@ -35,7 +42,11 @@ pub record CrewGathered (old new : View) : Type 0 where
   pub own : made_by old.caller more ≡ []
   -- nor did those that were gathered before
   pub apart : All (λ g. made_by g.caller more ≡ []) old.gathered
+  -- as they were when they were gathered
+  pub passes : List View
+  pub within : AllByRecursion (λ p. IsIn p new) passes
   pub crew : List Gathered
+  pub are_passes : crew ≡ map as_gathered passes
   pub distinct : AreApart (callers crew)
   pub fresh : AllByRecursion (IsFresh old) (callers crew)
   -- the finds of this call, all of them draws
@@ -48,11 +59,15 @@ pub record CrewGathered (old new : View) : Type 0 where
   pub whole : IsWhole old → new.whole ≡ true
   pub alone : IsWhole old → AllByRecursion (λ e. IsAmong e.caller (callers crew)) more
 
--- Each task was done by a caller of its own, the first by the first. `Does` says how a task changes by the caller's entries
-abbrev pub AreDone : {T : Type 0} → (Caller → T → T → List Entry → Type 0) → List Entry → List Caller → List T → List T → Type 0
+-- Each task was done by a pass of its own, the first by the first. `Does` says how a task changes by the pass's entries
+abbrev pub AreDone : {T : Type 0} → (View → T → T → List Entry → Type 0) → List Entry → List View → List T → List T → Type 0
 AreDone Does more [] [] [] = ⊤
-AreDone Does more (c ∷ cs) (t ∷ ts) (u ∷ us) = Does c t u (made_by c more) × AreDone Does more cs ts us
-AreDone Does more cs ts us = ⊥
+AreDone Does more (p ∷ ps) (t ∷ ts) (u ∷ us) = Does p t u (made_by p.caller more) × AreDone Does more ps ts us
+AreDone Does more ps ts us = ⊥
+
+-- where all that counts of the pass is its caller
+abbrev pub by_caller : {T : Type 0} → (Caller → T → T → List Entry → Type 0) → View → T → T → List Entry → Type 0
+by_caller Does p = Does p.caller
 
 -- none of the callers made an entry
 abbrev pub AreIdle : List Entry → List Caller → Type 0
@@ -67,18 +82,18 @@ pub record FoundAllDrawn (passes : ℕ) (draws : List Find) : Type 0 where
   pub all : FoundAll passes these
 
 -- What comes of it. Memory is wanting before the first draw; a pass is wanting before any task is begun
-abbrev pub EndsCrew : {T : Type 0} → (Caller → T → T → List Entry → Type 0) → ℕ → (tasks done : List T) → List Entry → List Gathered → List Find
-    → Result (Unit {0}) Refusal → Type 0
-EndsCrew Does passes tasks done more crew draws (Ok u) = AreDone Does more (callers crew) tasks done
-EndsCrew Does passes tasks done more crew draws (Err NoPass) =
-    FoundAllDrawn passes draws × (length crew < length tasks) × AreIdle more (callers crew) × (done ≡ tasks)
-EndsCrew Does passes tasks done more crew draws (Err Memory) = (more ≡ []) × (crew ≡ []) × (draws ≡ []) × (done ≡ tasks)
-EndsCrew Does passes tasks done more crew draws (Err r) = ⊥
+abbrev pub EndsCrew : {T : Type 0} → (View → T → T → List Entry → Type 0) → ℕ → (tasks done : List T) → List Entry → List View → List Gathered
+    → List Find → Result (Unit {0}) Refusal → Type 0
+EndsCrew Does many tasks done more passes crew draws (Ok u) = AreDone Does more passes tasks done
+EndsCrew Does many tasks done more passes crew draws (Err NoPass) =
+    FoundAllDrawn many draws × (length crew < length tasks) × AreIdle more (callers crew) × (done ≡ tasks)
+EndsCrew Does many tasks done more passes crew draws (Err Memory) = (more ≡ []) × (crew ≡ []) × (draws ≡ []) × (done ≡ tasks)
+EndsCrew Does many tasks done more passes crew draws (Err r) = ⊥
 
-pub record CrewWorked {T : Type 0} (Does : Caller → T → T → List Entry → Type 0) (old new : View) (tasks done : List T)
+pub record CrewWorked {T : Type 0} (Does : View → T → T → List Entry → Type 0) (old new : View) (tasks done : List T)
     (result : Result (Unit {0}) Refusal) : Type 0 where
   pub crew : CrewGathered old new
-  pub ends : EndsCrew Does old.shape.passes tasks done crew.more crew.crew crew.draws result
+  pub ends : EndsCrew Does old.shape.passes tasks done crew.more crew.passes crew.crew crew.draws result
   -- there are enough passes; where the pass was known to be whole, it is refused only where there aren't
   pub suffice : OnOk result (length old.gathered + (1 + length tasks) ≤ old.shape.passes)
   pub wanting : IsWhole old → result ≡ Err NoPass → old.shape.passes < length old.gathered + (1 + length tasks)

@@ -15,7 +15,7 @@ use Rattle.fm_calls.specs.Told.{view_of_pass}
 use Rattle.fm_rule.specs.declared.pool.Pool.{Pool}
 use Rattle.fm_rule.specs.Passes.{IsOf}
 use Rattle.fm_workers.specs.declared.worker.Worker.{Worker}
-use Rattle.fm_workers.specs.Crew.{IsFresh, FoundAllDrawn, callers}
+use Rattle.fm_workers.specs.Crew.{IsFresh, IsIn, FoundAllDrawn, callers}
 
 -- the pass looked at the count of drawn numbers, and made no entry
 pub record Went (old now : View) : Type 0 where
@@ -48,12 +48,6 @@ pub record IsSpare (pool : Pool) (d : View) : Type 0 where
   pub no_sweep : d.sweeps ≡ []
   pub no_other : d.gathered ≡ []
 
--- who drew and gathered has seen all that the pass had seen, and since then it made no entry
-pub record IsIn (d new : View) : Type 0 where
-  pub rest : List Entry
-  pub seen : new.seen ≡ d.seen ++ rest
-  pub quiet : made_by d.caller rest ≡ []
-
 module _ {T : Type 0} where
   -- their tasks, the first worker's last
   abbrev pub tasks_of : List (Worker T) → List T
@@ -64,6 +58,11 @@ module _ {T : Type 0} where
   abbrev pub crew_of : List (Worker T) → List Gathered
   crew_of [] = []
   crew_of (w ∷ ws) = crew_of ws ++ as_gathered w.memory ∷ []
+
+  -- their passes, in the same order
+  abbrev pub passes_of : List (Worker T) → List View
+  passes_of [] = []
+  passes_of (w ∷ ws) = passes_of ws ++ w.memory ∷ []
 
   -- these were drawn
   pub record DrewCrew (old now : View) (ws : List (Worker T)) : Type 0 where
@@ -84,9 +83,9 @@ module _ {T : Type 0} where
     pub ends : EndsDraws old.shape.passes left drew.went.draws result
 
   -- a worker before and after its work
-  pub record IsWorked (Does : Caller → T → T → List Entry → Type 0) (old new : Worker T) : Type 0 where
+  pub record IsWorked (Does : View → T → T → List Entry → Type 0) (old new : Worker T) : Type 0 where
     pub outside : new.memory.inside ≡ None
-    pub did : Did (view_of_pass old.memory) (view_of_pass new.memory) (Does old.memory.caller old.task new.task)
+    pub did : Did (view_of_pass old.memory) (view_of_pass new.memory) (Does new.memory old.task new.task)
 
   -- these were gathered, and the gatherer made no entry
   pub record GatheredCrew (old new : View) (ws : List (Worker T)) : Type 0 where

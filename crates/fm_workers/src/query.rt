@@ -22,10 +22,11 @@ use std::thread::Threads;
 impl Work<Part<Answer>> for Query {
     ghost use Rattle.fm_workers.specs.Parts.{Answers, CanAsk};
     ghost use Rattle.fm_workers.specs.Asking.{can_ask_later};
+    ghost use Rattle.fm_workers.specs.Crew.{by_caller};
 
     ghost can = { CanAsk };
 
-    ghost does = { Answers };
+    ghost does = { λ p. by_caller (Answers p) };
 
     fn work(&self, alloc: Global, memory: &mut Shared, task: &mut Part<Answer>) {
         task.answer = query_segment(alloc, memory, self, &task.region);
@@ -40,8 +41,8 @@ impl Work<Part<Answer>> for Query {
 /// one call of the gate.
 ///
 /// Refused, in this order: `Ragged` with the number of bytes behind the last whole record; `WrongThread`, exactly where
-/// the arena is confined; `Memory`, or `NoPass` where a draw finds that all numbers are drawn; then `Closed` or `Memory` as the
-/// first run's pass is refused. Then numbers that were drawn stay drawn.
+/// the arena is confined; `Memory`, or `NoPass` where a draw finds that all numbers are drawn; then `Closed` or
+/// `Memory` as the first run's pass is refused. Then numbers that were drawn stay drawn.
 pub fn query_with<R: Threads + Wait + Sync, G: Gate>(
     rt: &R,
     alloc: Global,

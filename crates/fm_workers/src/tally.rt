@@ -42,10 +42,11 @@ impl<'a> Model for Tally<'a> {
 impl<'a> Work<Part<Counts>> for Tally<'a> {
     ghost use Rattle.fm_workers.specs.Tallies.{CanTally, Tallies};
     ghost use Rattle.fm_workers.specs.Asking.{can_tally_later};
+    ghost use Rattle.fm_workers.specs.Crew.{by_caller};
 
     ghost can = { CanTally };
 
-    ghost does = { Tallies };
+    ghost does = { λ w. by_caller (Tallies w) };
 
     fn work(&self, alloc: Global, memory: &mut Shared, task: &mut Part<Counts>) {
         task.answer = count_region(alloc, memory, self.query, &task.region, &self.counts);

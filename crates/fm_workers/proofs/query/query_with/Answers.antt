@@ -4,8 +4,9 @@ use Rattle.fm_base.specs.declared.arena_id.ArenaId.{ArenaId}
 use Rattle.fm_base.specs.declared.refusal.Refusal.{Refusal}
 use Rattle.fm_base.specs.declared.refusal.Refusal.TheVariants.{Memory, Ragged, WrongThread}
 use Rattle.fm_workers.specs.Crew.{callers}
-use Rattle.fm_workers.specs.Parts.{CanAsk}
+use Rattle.fm_workers.specs.Parts.{Answers, CanAsk}
 use Rattle.fm_workers.specs.Query.{QueriedWith}
+use Rattle.fm_workers.proofs.Callers.{worked_by_callers}
 use Rattle.fm_workers.proofs.Asked.{answers_few, bytes_small, can_ask_runs, runs_same}
 use Rattle.fm_workers.proofs.Queried.{even_of, open_to_all, queried, queried_none, queried_refused}
 use Rattle.fm_workers.proofs.query.query_with.Goals as goal
@@ -38,13 +39,13 @@ work_crew-requires-clause-can g c κs within =
 pub join_parts-requires-clause-few : goal.join_parts-requires-clause-few
 join_parts-requires-clause-few g c =
     let w = c.in-Ok-work_crew.ensures.worked in
-    answers_few c.args.q.now w.crew.more (callers w.crew.crew) c.in-Ok.parts.items c.work_crew.new.tasks.items w.ends
+    answers_few c.args.q.now w.crew.more (callers w.crew.crew) c.in-Ok.parts.items c.work_crew.new.tasks.items (worked_by_callers (Answers c.args.q.now) w)
 
 pub join_parts-requires-clause-small : goal.join_parts-requires-clause-small
 join_parts-requires-clause-small g c =
     let w = c.in-Ok-work_crew.ensures.worked in
     let runs = runs_same c.args.q.now c.args.s.now 0 (c.args.s.now.size / c.args.q.now.size) w.crew.more (callers w.crew.crew) c.in-Ok.parts.items
-    c.work_crew.new.tasks.items w.ends c.in-Ok.ensures.cut in
+    c.work_crew.new.tasks.items (worked_by_callers (Answers c.args.q.now) w) c.in-Ok.ensures.cut in
     bytes_small c.args.q.now c.args.s.now c.work_crew.new.tasks.items runs c.size.ensures.ends
 
 pub returns-in-Ok-work_crew-clause-queried : goal.returns-in-Ok-work_crew-clause-queried
@@ -53,7 +54,7 @@ returns-in-Ok-work_crew-clause-queried g c =
     let shared = open_to_all c.args.q.now c.args.s.now c.size.result c.record_size.result c.arena.result c.size.ensures.size c.record_size.ensures.size
     c.if-rest-ne0.false c.arena.ensures (c.is_confined.ensures.no c.if-is_confined.false) in
     let runs = runs_same c.args.q.now c.args.s.now 0 (c.args.s.now.size / c.args.q.now.size) w.crew.more (callers w.crew.crew) c.in-Ok.parts.items
-    c.work_crew.new.tasks.items w.ends c.in-Ok.ensures.cut in
+    c.work_crew.new.tasks.items (worked_by_callers (Answers c.args.q.now) w) c.in-Ok.ensures.cut in
     queried w c.record_size.ensures.plan c.in-Ok.ensures.cut c.in-Ok.ensures.count shared c.requires.known c.join_parts.result c.join_parts.ensures.comes
     c.join_parts.ensures.few runs
 
