@@ -4,6 +4,7 @@ use Rattle.fm_base.specs.declared.caller.Caller.{Caller}
 use Rattle.fm_base.specs.Finds.{Rest}
 use Rattle.fm_gate.specs.Standing.{IsOutside}
 use Rattle.fm_pool_facts.specs.Views.{View, IsSound}
+use Rattle.fm_arena.proofs.Opening.{has_no_slot}
 use Rattle.fm_rule.specs.declared.pool.Pool.{Pool}
 use Rattle.fm_rule.specs.Finishing.{CanFinish, FinishedView, Finishes}
 use Rattle.fm_rule.specs.Views.{first_pass, numbers_of}
@@ -61,6 +62,7 @@ module _ (s : ScriptOf) (w : IsWritten s) (order : List Line) (names : Numbers) 
       only = record {
         whole = record { sound = sound; whole = ap (λ (v : View). v.whole) first };
         unused = ap (λ (v : View). v.seen) first;
+        no_slot = has_no_slot p (ap (λ (v : View). v.hand) first) (ap (λ (v : View). v.sweeps) first);
         alone = ap (λ (v : View). v.gathered) first;
       };
       rules = w.rules;
@@ -86,6 +88,7 @@ module _ (s : ScriptOf) (w : IsWritten s) (order : List Line) (names : Numbers) 
       in_printing = order_is;
       passes = one_more;
       by = by;
+      of_shape = ap (λ (v : View). v.shape) first;
       shape = finishes.shape ∙ shape;
       history = finishes.history;
       finished = finishes.finished;

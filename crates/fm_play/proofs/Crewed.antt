@@ -4,7 +4,6 @@ use Rattle.std.proofs.lemmas.Bool.{ltb-true, ltb-false}
 use Rattle.std.proofs.lemmas.List.{length-map, get_or-map, get_or_past}
 use Rattle.std.proofs.lemmas.List.Elements.{All-append, All-nil}
 use Rattle.fm_base.specs.declared.arena_id.ArenaId.{ArenaId}
-use Rattle.fm_base.specs.declared.caller.Caller.{Caller}
 use Rattle.fm_base.specs.declared.refusal.Refusal.{Refusal}
 use Rattle.fm_base.specs.declared.refusal.Refusal.TheVariants.{Memory, NoPass}
 use Rattle.fm_base.specs.Arenas.{are_one}
@@ -31,7 +30,7 @@ use Rattle.fm_play.proofs.Gathered.{lent_only, plain_at}
 use Rattle.fm_play.proofs.Made.{names_known}
 
 -- A crew that has a pass for each task is refused for want of memory alone.
-pub crew_refused : {T : Type 0} (Does : Caller → T → T → List Entry → Type 0) (old new : View) (tasks done : List T) (r : Refusal)
+pub crew_refused : {T : Type 0} (Does : View → T → T → List Entry → Type 0) (old new : View) (tasks done : List T) (r : Refusal)
     → CrewWorked Does old new tasks done (Err r) → IsWhole old → length old.gathered + (1 + length tasks) ≤ old.shape.passes → r ≡ Memory
 crew_refused Does old new tasks done NoPass w whole enough = let no = w.wanting whole refl in absurd (omega (arith, no, enough))
 crew_refused Does old new tasks done Memory w whole enough = refl
@@ -41,7 +40,7 @@ lasts_of : (p q : View) → Lasts p q → q.shape ≡ p.shape → q.caller ≡ p
 lasts_of p q l shape caller = record { known = l.known; given = l.given; limit = ap limit_of shape; caller = caller }
 
 -- The pass that drew it has what it had.
-pub crew_backs : {T : Type 0} (Does : Caller → T → T → List Entry → Type 0) (old new : View) (tasks done : List T) (r : Result (Unit {0}) Refusal)
+pub crew_backs : {T : Type 0} (Does : View → T → T → List Entry → Type 0) (old new : View) (tasks done : List T) (r : Result (Unit {0}) Refusal)
     → CrewWorked Does old new tasks done r → (holds handles : List ArenaId) (base own : List Standing) → Backs old holds handles base own
     → Backs new holds handles base own
 crew_backs Does old new tasks done r w holds handles base own b =
@@ -63,9 +62,9 @@ module _ (w : Playing) (p : View) (sound : IsSound p) (known : All (λ s. IsBack
       go false e = subst (λ (s : Standing). IsBacked p (lent (lent s))) (sym (get_or_past w.firsts n Nothing (ltb-false n (length w.firsts) e))) tt
 
   -- A worker's names are known to who has seen its entries.
-  player_known : (c : Caller) (t u : Player) (own : List Entry) → length w.firsts ≤ t.start → PlaysLines w c t u own
+  player_known : (v : View) (t u : Player) (own : List Entry) → length w.firsts ≤ t.start → PlaysLines w v t u own
       → ((e : Entry) → IsAmong e own → IsAmong e p.seen) → All (IsBacked p) (map standing_as u.lent.items)
-  player_known c t u own low l seen = subst (λ (ss : List Standing). All (IsBacked p) ss) (sym l.lent) each
+  player_known v t u own low l seen = subst (λ (ss : List Standing). All (IsBacked p) ss) (sym l.lent) each
     where
       each : All (IsBacked p) (map lent l.next)
       each i d below =
@@ -77,17 +76,17 @@ module _ (w : Playing) (p : View) (sound : IsSound p) (known : All (λ s. IsBack
           subst (λ (s : Standing). IsBacked p s)
           (sym (get_or-map lent l.next i Nothing d inside ∙ ap (λ (s : Standing). lent s) (next_at r low i))) at
 
-  pub players_known : (more : List Entry) (cs : List Caller) (ts us : List Player) → ((e : Entry) → IsAmong e more → IsAmong e p.seen)
-      → ((i : ℕ) (d : Player) → i < length ts → length w.firsts ≤ (get_or ts i d).start) → AreDone (Plays w) more cs ts us → AllPlayed us
+  pub players_known : (more : List Entry) (vs : List View) (ts us : List Player) → ((e : Entry) → IsAmong e more → IsAmong e p.seen)
+      → ((i : ℕ) (d : Player) → i < length ts → length w.firsts ≤ (get_or ts i d).start) → AreDone (Plays w) more vs ts us → AllPlayed us
       → All (IsBacked p) (names_lent us)
   players_known more [] [] [] seen low done played = All-nil (IsBacked p)
   players_known more [] [] (u ∷ us) seen low done played = absurd done
   players_known more [] (t ∷ ts) us seen low done played = absurd done
-  players_known more (c ∷ cs) [] us seen low done played = absurd done
-  players_known more (c ∷ cs) (t ∷ ts) [] seen low done played = absurd done
-  players_known more (c ∷ cs) (t ∷ ts) (u ∷ us) seen low done played =
+  players_known more (v ∷ vs) [] us seen low done played = absurd done
+  players_known more (v ∷ vs) (t ∷ ts) [] seen low done played = absurd done
+  players_known more (v ∷ vs) (t ∷ ts) (u ∷ us) seen low done played =
       All-append (IsBacked p) (map standing_as u.lent.items) (names_lent us)
-      (player_known c t u (made_by c more) (low 0 t (omega arith)) (done.0.played played.0)
-      (λ e i. seen e (among_kept (λ x. are_one x.caller c) e more i)))
-      (players_known more cs ts us seen
+      (player_known v t u (made_by v.caller more) (low 0 t (omega arith)) (done.0.played played.0)
+      (λ e i. seen e (among_kept (λ x. are_one x.caller v.caller) e more i)))
+      (players_known more vs ts us seen
       (λ i d below. let inside : suc i < length (t ∷ ts) = omega (arith, below) in low (suc i) d inside) done.1 played.1)

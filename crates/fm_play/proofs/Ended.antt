@@ -78,7 +78,7 @@ module _ (s : ScriptOf) (order : List Line) (names : Numbers) (caller : Caller) 
   did : IsReport s f.history played
   did =
       subst (λ (es : List Entry). IsReport s es played) (sym h.history)
-      (telling.is_report names s.lines h.old h.new h.tasks players h.ran.own main.firsts.items main.lasts.items h.can h.ran.all s refl h.passes)
+      (telling.is_report names s.lines h.old h.new h.tasks players h.ran.own main.firsts.items main.lasts.items h.can h.ran.all s refl h.of_shape h.passes)
 
   all_callers : caller ∷ map (λ (p : Player). p.caller) players ≡ callers played
   all_callers =

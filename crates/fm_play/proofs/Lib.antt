@@ -2,6 +2,7 @@ pub mod Known
 pub mod Made
 pub mod After
 pub mod Gathered
+pub mod Finding
 pub mod Reported
 pub mod Running
 pub mod Telling

@@ -22,7 +22,7 @@ use Rattle.fm_run.specs.Standings.{IsBacked, IsSpent, lent}
 use Rattle.fm_run.specs.Tokens.{Backs, IsReady}
 use Rattle.fm_run.proofs.Backing.{backed_lent}
 use Rattle.fm_run.proofs.Ending.{backs_none}
-use Rattle.fm_workers.specs.Crew.{IsWhole, callers}
+use Rattle.fm_workers.specs.Crew.{IsWhole}
 use Rattle.fm_play.specs.declared.player.Player.{Player}
 use Rattle.fm_play.specs.Players.{CanPlay, playing}
 use Rattle.fm_play.specs.Runs.{AllRan, CanRun, Worked, names_lent}
@@ -83,12 +83,12 @@ module _ (names : Numbers) (lines : List Line) (old : View) (tasks : List Player
     (w : Worked (playing names lines firsts) p q tasks players) where
   pub gathered_many : length (names_lent players) ≡ length (worker_lines (length tasks) 1 lines)
   gathered_many =
-      names_many names lines old tasks can firsts w.crew.crew.more (callers w.crew.crew.crew) players
-      (workers_of names lines old tasks can p firsts many w.crew.crew.more (callers w.crew.crew.crew) players w.crew.ends w.played)
+      names_many names lines old tasks can firsts w.crew.crew.more w.crew.crew.passes players
+      (workers_of names lines old tasks can p firsts many w.crew.crew.more w.crew.crew.passes players w.crew.ends w.played)
 
   pub gathered_known : IsSound p → All (IsBacked p) firsts → All (IsBacked q) (names_lent players)
   gathered_known sound known =
-      players_known (playing names lines firsts) q (w.crew.still_sound sound) later w.crew.crew.more (callers w.crew.crew.crew) tasks players
+      players_known (playing names lines firsts) q (w.crew.still_sound sound) later w.crew.crew.more w.crew.crew.passes tasks players
       (λ e i. subst (λ (es : List Entry). IsAmong e es) (sym w.crew.crew.seen) (among_right e p.seen w.crew.crew.more i))
       (λ i d l. (all_can_play names lines old tasks can p firsts many known i d l).behind)
       w.crew.ends w.played
@@ -158,8 +158,8 @@ module _ (names : Numbers) (lines : List Line) (old new : View) (tasks players :
   all_spent a =
       let crew = a.worked.crew.crew in
       let many = as_many a.first in
-      nothing_left names lines old tasks can old a.before a.between new a.first_names own firsts lasts crew.more (callers crew.crew) players a.first
-      (workers_of names lines old tasks can a.before a.first_names (omega (arith, many)) crew.more (callers crew.crew) players a.worked.crew.ends
+      nothing_left names lines old tasks can old a.before a.between new a.first_names own firsts lasts crew.more crew.passes players a.first
+      (workers_of names lines old tasks can a.before a.first_names (omega (arith, many)) crew.more crew.passes players a.worked.crew.ends
       a.worked.played) a.last
 
   pub ran_settled : (after : View) → after ≡ new → AllRan names lines old new tasks players own firsts lasts

@@ -5,6 +5,7 @@ use Rattle.std.proofs.lemmas.List.{length-map, map-append}
 use Rattle.fm_base.specs.declared.caller.Caller.{Caller}
 use Rattle.fm_base.specs.Calls.{Entry}
 use Rattle.fm_base.specs.Histories.{made_by}
+use Rattle.fm_pool_facts.specs.Views.{View}
 use Rattle.fm_script.specs.declared.line.Line.{Line}
 use Rattle.fm_run.specs.Numbers.{number_at}
 use Rattle.fm_run.specs.Ordering.{worker_lines}
@@ -17,6 +18,7 @@ use Rattle.fm_play.specs.declared.player.Player.{Player}
 use Rattle.fm_play.specs.Players.{IsPlayer, Playing, Plays}
 use Rattle.fm_play.specs.Runs.{AllPlayed, names_lent}
 use Rattle.fm_play.proofs.After.{lent_next, made_lent}
+use Rattle.fm_play.proofs.Finding.{HaveFound, has_found}
 use Rattle.fm_play.proofs.Gathered.{lent_only}
 
 -- the place of a worker's first line, where this many are before it
@@ -49,11 +51,12 @@ module _ (w : Playing) (more : List Entry) where
   lent_firsts = lent_names (standing_at [] 0 w.firsts)
 
   -- These workers' reports: the first has number j + 1
-  pub record Reported (j : ℕ) (cs : List Caller) (ts us : List Player) : Type 0 where
+  pub record Reported (j : ℕ) (vs : List View) (ts us : List Player) : Type 0 where
     pub ps : List report.Player
     pub many : length ps ≡ length ts
-    pub callers : map (λ p. p.caller) ps ≡ cs
-    pub told : map (λ u. u.caller) us ≡ cs
+    pub callers : map (λ p. p.caller) ps ≡ map (λ v. v.caller) vs
+    pub told : map (λ u. u.caller) us ≡ map (λ v. v.caller) vs
+    pub found : HaveFound vs ps
     pub entries : AllByRecursion (λ p. made_by p.caller more ≡ runs p.dones) ps
     pub lines : AreWorkers w.lines (j + 1) ps
     pub calls : AreWorked (number_at w.names) (start_at w.lines j) lent_firsts ps
@@ -70,13 +73,14 @@ module _ (w : Playing) (more : List Entry) where
       let inside : suc i < length (t ∷ ts) = omega (arith, low) in
       subst (λ (n : ℕ). IsPlayer w.lines (n + 1) (start_at w.lines n) (get_or ts i d)) same (a (suc i) d inside)
 
-  pub reported : (j : ℕ) (cs : List Caller) (ts us : List Player) → length w.firsts ≤ start_at w.lines j → AreTasks j ts
-      → AreDone (Plays w) more cs ts us → AllPlayed us → Reported j cs ts us
+  pub reported : (j : ℕ) (vs : List View) (ts us : List Player) → length w.firsts ≤ start_at w.lines j → AreTasks j ts
+      → AreDone (Plays w) more vs ts us → AllPlayed us → Reported j vs ts us
   reported j [] [] [] low tasks done played = record {
     ps = [];
     many = refl;
     callers = refl;
     told = refl;
+    found = tt;
     entries = tt;
     lines = tt;
     calls = tt;
@@ -85,9 +89,9 @@ module _ (w : Playing) (more : List Entry) where
   }
   reported j [] [] (u ∷ us) low tasks done played = absurd done
   reported j [] (t ∷ ts) us low tasks done played = absurd done
-  reported j (c ∷ cs) [] us low tasks done played = absurd done
-  reported j (c ∷ cs) (t ∷ ts) [] low tasks done played = absurd done
-  reported j (c ∷ cs) (t ∷ ts) (u ∷ us) low tasks done played =
+  reported j (v ∷ vs) [] us low tasks done played = absurd done
+  reported j (v ∷ vs) (t ∷ ts) [] low tasks done played = absurd done
+  reported j (v ∷ vs) (t ∷ ts) (u ∷ us) low tasks done played =
       let plays = done.0 in
       let p = plays.played played.0 in
       let r = p.ran in
@@ -99,20 +103,21 @@ module _ (w : Playing) (more : List Entry) where
       let further = start_more w.lines j in
       let many : length ds ≡ length mine = sym (length_lines ds) ∙ ap (λ (xs : List Line). length xs) are in
       let behind : start_at w.lines j + length ds ≡ start_at w.lines (j + 1) = omega (arith, further, many) in
-      let rest = reported (j + 1) cs ts us (omega (arith, low, further)) (next_tasks j t ts tasks) done.1 played.1 in
+      let rest = reported (j + 1) vs ts us (omega (arith, low, further)) (next_tasks j t ts tasks) done.1 played.1 in
       let starts = task.start in
       record {
-        ps = record { caller = c; dones = ds } ∷ rest.ps;
+        ps = record { caller = v.caller; dones = ds } ∷ rest.ps;
         many = ap (λ (n : ℕ). suc n) rest.many;
-        callers = ap (λ (xs : List Caller). c ∷ xs) rest.callers;
+        callers = ap (λ (xs : List Caller). v.caller ∷ xs) rest.callers;
         told = (λ i. plays.caller i ∷ rest.told i);
+        found = (has_found p.before v r, rest.found);
         entries = (p.runs, rest.entries);
         lines = (are, rest.lines);
         calls = (
-          subst (λ (n : ℕ). AreRun c (number_at w.names) n lent_firsts ds) (omega (arith, starts))
-              (subst (λ (names : Names). AreRun c (number_at w.names) (t.start + 0) names ds)
+          subst (λ (n : ℕ). AreRun v.caller (number_at w.names) n lent_firsts ds) (omega (arith, starts))
+              (subst (λ (names : Names). AreRun v.caller (number_at w.names) (t.start + 0) names ds)
               (λ i n. lent_only w.firsts t.start n (omega (arith, low, starts)) i)
-              (subst (λ (x : Caller). AreRun x (number_at w.names) (t.start + 0) (standing_at w.firsts t.start []) ds) p.by r.calls)),
+              (subst (λ (x : Caller). AreRun x (number_at w.names) (t.start + 0) (standing_at w.firsts t.start []) ds) (sym r.went.same_caller) r.calls)),
           subst (λ (n : ℕ). AreWorked (number_at w.names) n lent_firsts rest.ps) (sym behind) rest.calls,
         );
         lent = (λ i. (p.lent ∙ lent_next r (omega (arith, low, starts))) i ++ rest.lent i) ∙ sym (map-append made_lent ds (worked rest.ps));

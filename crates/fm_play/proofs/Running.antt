@@ -4,7 +4,6 @@ use Rattle.std.proofs.Common.{◌≡◌, ℕ, zero, suc, ◌+◌, ◌<◌, ◌�
 use Rattle.std.proofs.lemmas.List.{length-map}
 use Rattle.std.specs.List.{AllByRecursion}
 use Rattle.std.proofs.lemmas.List.Elements.{All-from_recursion}
-use Rattle.fm_base.specs.declared.caller.Caller.{Caller}
 use Rattle.fm_base.specs.Calls.{Entry}
 use Rattle.fm_lists.proofs.Each.{all_weaker}
 use Rattle.fm_pool_facts.specs.Views.{View}
@@ -129,29 +128,29 @@ module _ (names : Numbers) (lines : List Line) (old : View) (tasks : List Player
         }
 
     -- What they did, once they have.
-    pub workers_of : (more : List Entry) (cs : List Caller) (players : List Player)
-        → AreDone (Plays (playing names lines firsts)) more cs tasks players → AllPlayed players
-        → Reported (playing names lines firsts) more 0 cs tasks players
-    workers_of more cs players done played =
+    pub workers_of : (more : List Entry) (vs : List View) (players : List Player)
+        → AreDone (Plays (playing names lines firsts)) more vs tasks players → AllPlayed players
+        → Reported (playing names lines firsts) more 0 vs tasks players
+    workers_of more vs players done played =
         let at = start_is 0 in
-        reported (playing names lines firsts) more 0 cs tasks players (omega (arith, many, at)) (tasks_are more) done played
+        reported (playing names lines firsts) more 0 vs tasks players (omega (arith, many, at)) (tasks_are more) done played
 
-  pub names_many : (firsts : List Standing) (more : List Entry) (cs : List Caller) (players : List Player)
-      → Reported (playing names lines firsts) more 0 cs tasks players → length (names_lent players) ≡ length (worker_lines (length tasks) 1 lines)
-  names_many firsts more cs players r =
+  pub names_many : (firsts : List Standing) (more : List Entry) (vs : List View) (players : List Player)
+      → Reported (playing names lines firsts) more 0 vs tasks players → length (names_lent players) ≡ length (worker_lines (length tasks) 1 lines)
+  names_many firsts more vs players r =
       ap (λ (xs : List Standing). length xs) r.lent
       ∙ (length-map (report_worked r.ps) made_lent
       ∙ (sym (length-map (report_worked r.ps) (λ (d : Done). d.line))
       ∙ (ap (λ (xs : List Line). length xs) (worked_lines lines 1 r.ps r.lines) ∙ ap (λ (n : ℕ). length (worker_lines n 1 lines)) r.many)))
 
   -- In the end nothing is left to give back.
-  pub nothing_left : (p q r t : View) (firsts next : List Standing) (replies others : List Reply) (more : List Entry) (cs : List Caller)
+  pub nothing_left : (p q r t : View) (firsts next : List Standing) (replies others : List Reply) (more : List Entry) (vs : List View)
       (players : List Player) → LinesRan p q names [] 0 [] firsts (lines_by is_first lines) replies
-      → Reported (playing names lines firsts) more 0 cs tasks players
+      → Reported (playing names lines firsts) more 0 vs tasks players
       → LinesRan r t names [] 0 (firsts ++ names_lent players) next (lines_by is_last lines) others → All IsSpent next
-  nothing_left p q r t firsts next replies others more cs players first worked last =
+  nothing_left p q r t firsts next replies others more vs players first worked last =
       let one = as_many first in
-      let two = names_many firsts more cs players worked in
+      let two = names_many firsts more vs players worked in
       main_spent lines p q r t names firsts (names_lent players) next replies others can.rules first_split.0
       (subst (λ (m : ℕ). AreNumbered (number_at names) m (lines_by is_last lines)) (omega (arith, one, two)) rest_split.1)
       first spent last

@@ -1,15 +1,20 @@
 -- What a script's passes did is its report.
-use Rattle.std.proofs.Common.{◌≡◌, ℕ, ◌+◌, Bool, true, false, if◌then◌else◌, List, [], ◌∷◌, ◌++◌, length, length-append, map, append_assoc, refl, sym, ap, ◌∙◌, subst, arith, inl, Option}
+use Rattle.std.proofs.Common.{◌≡◌, ℕ, ◌+◌, Bool, true, false, if◌then◌else◌, List, [], ◌∷◌, ◌++◌, length, length-append, map, append_assoc, refl, sym, ap, ◌∙◌, subst, arith, inl, inr, Option}
 use Rattle.std.specs.List.{AllByRecursion, flat_map}
 use Rattle.std.proofs.lemmas.List.{length-map, get_or_past, map-append}
 use Rattle.fm_base.specs.declared.caller.Caller.{Caller}
 use Rattle.fm_base.specs.Arenas.{are_one}
 use Rattle.fm_base.specs.Calls.{Entry}
-use Rattle.fm_base.specs.Histories.{made_by}
+use Rattle.fm_base.specs.Finds.{Gathered}
+use Rattle.fm_base.specs.Histories.{IsLegal, made_by}
 use Rattle.fm_base.proofs.Names.{are_one-true}
 use Rattle.fm_lists.specs.Among.{IsAmong, AreApart}
 use Rattle.fm_lists.proofs.Each.{all_among}
-use Rattle.fm_pool_facts.specs.Views.{View}
+use Rattle.fm_words.specs.declared.shape.Shape.{Shape}
+use Rattle.fm_pool_facts.specs.Views.{View, In, IsSound, limit_of}
+use Rattle.fm_pool_facts.proofs.Keeping.{in_right}
+use Rattle.fm_calls.specs.Kept.{rest_of}
+use Rattle.fm_arena.specs.Opening.{HasNoSlot}
 use Rattle.fm_script.specs.declared.line.Line.{Line}
 use Rattle.fm_script.specs.Scripts.{ScriptOf}
 use Rattle.fm_run.specs.declared.numbers.Numbers.{Numbers}
@@ -19,12 +24,16 @@ use Rattle.fm_run.specs.declared.standing.Standing.TheVariants.{Nothing}
 use Rattle.fm_run.specs.Numbers.{number_at, number_from}
 use Rattle.fm_run.specs.Ordering.{in_order, worker_lines}
 use Rattle.fm_run.specs.Report as report
-use Rattle.fm_run.specs.Report.{Done, Played, AreRun, AreWorked, IsCut, IsReport, all_done, gathered_names, is_first, is_last, lines_by, lines_of, lent_names, names_after, none_stands, number_of, runs, worked}
+use Rattle.fm_run.specs.Report.{Done, Played, AreRun, AreWorked, IsCut, IsReport, all_done, gathered_names, is_first, lines_by, lines_of, lent_names, names_after, none_stands, number_of, runs, worked}
+use Rattle.fm_run.specs.Slots.{HaveSlots, OpenRightly}
 use Rattle.fm_run.specs.Standings.{Names, lent, standing_at}
+use Rattle.fm_run_laws.specs.Slots.{FindsTold}
+use Rattle.fm_run_laws.proofs.Workers.{workers_find}
 use Rattle.fm_workers.specs.Crew.{CrewGathered, IsFresh, callers as crew_callers}
 use Rattle.fm_play.specs.declared.player.Player.{Player}
 use Rattle.fm_play.specs.Players.{playing}
 use Rattle.fm_play.specs.Runs.{AllRan, CanRun, names_lent}
+use Rattle.fm_play.proofs.Finding.{all_told, callers_gathered, no_slot_still, none_held}
 use Rattle.fm_play.proofs.After.{lent_next, lent_twice, made_lent}
 use Rattle.fm_play.proofs.Gathered.{gathered_table, plain_at}
 use Rattle.fm_play.proofs.Reported.{Reported, start_at, worked_lines}
@@ -60,8 +69,8 @@ module _ (names : Numbers) (lines : List Line) (old new : View) (tasks players :
   pub as_many_first : length first_names ≡ length (lines_by is_first lines)
   as_many_first = let many = as_many all.first in omega (arith, many)
 
-  abbrev pub workers : Reported (playing names lines first_names) crew.more 0 (crew_callers crew.crew) tasks players
-  workers = workers_of names lines old tasks can all.before first_names as_many_first crew.more (crew_callers crew.crew) players
+  abbrev pub workers : Reported (playing names lines first_names) crew.more 0 crew.passes tasks players
+  workers = workers_of names lines old tasks can all.before first_names as_many_first crew.more crew.passes players
       all.worked.crew.ends all.worked.played
 
   abbrev pub the_played : Played
@@ -115,18 +124,23 @@ module _ (names : Numbers) (lines : List Line) (old new : View) (tasks players :
   caller_between : all.between.caller ≡ old.caller
   caller_between = ap (λ (v : View). v.caller) crew.is ∙ caller_before
 
+  crew_called : map (λ (w : report.Player). w.caller) workers.ps ≡ crew_callers crew.crew
+  crew_called = workers.callers ∙ (callers_gathered crew.passes ∙ ap (λ (gs : List Gathered). crew_callers gs) (sym crew.are_passes))
+
   apart : AreApart (report.callers the_played)
   apart = (
-    (λ i. let among = subst (λ (cs : List Caller). IsAmong old.caller cs) workers.callers i in
+    (λ i. let among = subst (λ (cs : List Caller). IsAmong old.caller cs) crew_called i in
         (all_among (IsFresh all.before) old.caller (crew_callers crew.crew) crew.fresh among).other (inl (ap (λ (c : Caller). c.number) (sym caller_before)))),
-    subst AreApart (sym workers.callers) crew.distinct,
+    subst AreApart (sym crew_called) crew.distinct,
   )
 
-  cut : IsCut new.seen the_played
+  begun : all.before.seen ≡ all.first.went.more
+  begun = all.first.went.seen ∙ ap (λ (es : List Entry). es ++ all.first.went.more) can.only.unused
+
+  abbrev cut : IsCut new.seen the_played
   cut =
       let first = all.first.went in
       let last = all.last.went in
-      let begun : all.before.seen ≡ first.more = first.seen ∙ ap (λ (es : List Entry). es ++ first.more) can.only.unused in
       let by_main : made_by old.caller last.more ≡ runs last_dones =
       subst (λ (c : Caller). made_by c last.more ≡ runs last_dones) caller_between last.by_pass in
       record {
@@ -139,16 +153,74 @@ module _ (names : Numbers) (lines : List Line) (old new : View) (tasks players :
         lasts = by_main;
         players = workers.entries;
         only_firsts = only_own old.caller first.more (runs first_dones) first.by_pass (first.alone can.only.whole.whole);
-        only_workers = subst (λ (cs : List Caller). AllByRecursion (λ e. IsAmong e.caller cs) crew.more) (sym workers.callers) (crew.alone all.whole);
+        only_workers = subst (λ (cs : List Caller). AllByRecursion (λ e. IsAmong e.caller cs) crew.more) (sym crew_called) (crew.alone all.whole);
         only_lasts = only_own old.caller last.more (runs last_dones) by_main (last.alone wholly);
       }
 
+  -- ---- slots
+
+  no_slot : HasNoSlot all.between
+  no_slot = ap (λ (v : View). (rest_of v).slots) crew.is ∙ no_slot_still all.first.went can.only.no_slot
+
+  sound_between : IsSound all.between
+  sound_between = all.worked.crew.still_sound all.whole.sound
+
+  seen_between : all.between.seen ≡ cut.before ++ cut.between
+  seen_between = crew.seen ∙ ap (λ (es : List Entry). es ++ crew.more) begun
+
+  workers_told : AllByRecursion (FindsTold all.between.shape all.between.seen) workers.ps
+  workers_told =
+      all_told all.before all.between crew.more crew.seen
+      (λ g f i j step none. sound_between.none_left wholly (none_held all.between.sweeps all.between.hand no_slot) g.caller f (inr (g, i, refl, j))
+      step none)
+      crew.passes workers.ps workers.found
+      (subst (λ (gs : List Gathered). AllByRecursion (IsFresh all.before) (crew_callers gs)) crew.are_passes crew.fresh) crew.within workers.entries
+      (λ g i. subst (λ (gs : List Gathered). In g gs) (sym (ap (λ (v : View). v.gathered) crew.is))
+      (in_right g all.before.gathered crew.crew (subst (λ (gs : List Gathered). In g gs) (sym crew.are_passes) i)))
+
   -- ---- the report
 
-  module _ (s : ScriptOf) (same_lines : s.lines ≡ lines) (passes : 1 + length tasks ≡ s.shape.passes) where
+  abbrev number : List ℕ → Option ℕ
+  number = number_of the_played
+
+  first_calls : AreRun old.caller number 0 none_stands first_dones
+  first_calls =
+      subst (λ (ns : Names). AreRun old.caller number 0 ns first_dones) none_is
+      (subst (λ (f : List ℕ → Option ℕ). AreRun old.caller f 0 (standing_at [] 0 []) first_dones) same_number all.first.calls)
+
+  start_is : start_at lines 0 ≡ length first_dones
+  start_is =
+      let more = length-append (lines_by is_first lines) (worker_lines 0 1 lines) in
+      let same : length (lines_of first_dones) ≡ length (lines_by is_first lines) = ap (λ (xs : List Line). length xs) all.first.are in
+      let mapped = length-map first_dones (λ (d : Done). d.line) in
+      omega (arith, more, same, mapped)
+
+  worker_calls : AreWorked number (length first_dones) (lent_names behind_firsts) workers.ps
+  worker_calls =
+      subst (λ (ns : Names). AreWorked number (length first_dones) ns workers.ps) (λ i n. lent (first_at n i))
+      (subst (λ (n : ℕ). AreWorked number n (lent_names (standing_at [] 0 first_names)) workers.ps) start_is
+      (subst (λ (f : List ℕ → Option ℕ). AreWorked f (start_at lines 0) (lent_names (standing_at [] 0 first_names)) workers.ps) same_number
+      workers.calls))
+
+  have_slots : HaveSlots old.shape the_played cut
+  have_slots =
+      let same : all.between.shape ≡ old.shape = ap (λ (v : View). v.shape) crew.is ∙ all.first.went.same_shape in
+      record {
+        firsts = subst (λ (es : List Entry). OpenRightly old.shape es first_dones) can.only.unused
+            (all.first.exact can.only.whole.whole can.only.no_slot);
+        workers = workers_find old.shape new.seen the_played cut number 0 (length first_dones) none_stands (lent_names behind_firsts)
+            first_calls worker_calls
+            (subst (λ (z : Shape). IsLegal (limit_of z) [] (cut.before ++ cut.between)) same
+            (subst (λ (es : List Entry). IsLegal (limit_of all.between.shape) [] es) seen_between sound_between.legal))
+            (subst (λ (z : Shape). AllByRecursion (FindsTold z (cut.before ++ cut.between)) workers.ps) same
+            (subst (λ (es : List Entry). AllByRecursion (FindsTold all.between.shape es) workers.ps) seen_between workers_told));
+        lasts = subst (λ (z : Shape). OpenRightly z (cut.before ++ cut.between) last_dones) same
+            (subst (λ (es : List Entry). OpenRightly all.between.shape es last_dones) seen_between (all.last.exact wholly no_slot));
+      }
+
+  module _ (s : ScriptOf) (same_lines : s.lines ≡ lines) (of_shape : old.shape ≡ s.shape) (passes : 1 + length tasks ≡ s.shape.passes) where
     pub is_report : IsReport s new.seen the_played
     is_report =
-        let number = number_of the_played in
         let here : length first_dones + length (worked workers.ps) ≡ 0 + length (first_names ++ names_lent players) =
         let more = length-append first_names (names_lent players) in
         let lent = ap (λ (xs : List Standing). length xs) workers.lent ∙ length-map (worked workers.ps) made_lent in
@@ -159,26 +231,16 @@ module _ (names : Numbers) (lines : List Line) (old new : View) (tasks players :
               (record { firsts = all.first.are; many = ap (λ (n : ℕ). 1 + n) workers.many ∙ passes; workers = workers.lines; lasts = all.last.are });
           apart = apart;
           cut = cut;
-          first_calls = subst (λ (ns : Names). AreRun old.caller number 0 ns first_dones) none_is
-              (subst (λ (f : List ℕ → Option ℕ). AreRun old.caller f 0 (standing_at [] 0 []) first_dones) same_number all.first.calls);
-          worker_calls = subst (λ (ns : Names). AreWorked number (length first_dones) ns workers.ps) (λ i n. lent (first_at n i))
-              (subst (λ (n : ℕ). AreWorked number n (lent_names (standing_at [] 0 first_names)) workers.ps) start_is
-              (subst (λ (f : List ℕ → Option ℕ). AreWorked f (start_at lines 0) (lent_names (standing_at [] 0 first_names)) workers.ps) same_number
-              workers.calls));
+          first_calls = first_calls;
+          worker_calls = worker_calls;
           last_calls = subst (λ (ns : Names). AreRun old.caller number (length first_dones + length (worked workers.ps)) ns last_dones) gathered_at
               (subst (λ (n : ℕ). AreRun old.caller number n (standing_at [] 0 (first_names ++ names_lent players)) last_dones) (sym here)
               (subst (λ (f : List ℕ → Option ℕ). AreRun old.caller f (0 + length (first_names ++ names_lent players))
               (standing_at [] 0 (first_names ++ names_lent players)) last_dones) same_number
               (subst (λ (c : Caller). AreRun c (number_at names) (0 + length (first_names ++ names_lent players))
               (standing_at [] 0 (first_names ++ names_lent players)) last_dones) caller_between all.last.calls)));
+          slots = subst (λ (z : Shape). HaveSlots z the_played cut) of_shape have_slots;
         }
-      where
-        start_is : start_at lines 0 ≡ length first_dones
-        start_is =
-            let more = length-append (lines_by is_first lines) (worker_lines 0 1 lines) in
-            let same : length (lines_of first_dones) ≡ length (lines_by is_first lines) = ap (λ (xs : List Line). length xs) all.first.are in
-            let mapped = length-map first_dones (λ (d : Done). d.line) in
-            omega (arith, more, same, mapped)
 
   -- All replies.
   pub replies_are : firsts ++ (flat_map (λ (u : Player). u.replies.items) players ++ lasts) ≡ map (λ d. d.reply) (all_done the_played)

@@ -21,19 +21,18 @@ use Rattle.fm_play.specs.Players.{CanPlay, PlayedAs, Playing, Plays, PlaysLines,
 
 pub did : (w : Playing) (p q : View) (old now new : Player) (result : Result (Unit {0}) Refusal) → PlayedAs w p q old now result
     → IsSound (view_of_pass q) → new.number ≡ now.number → new.start ≡ now.start → new.caller ≡ q.caller → new.replies ≡ now.replies → new.lent ≡ now.lent
-    → (new.refusal ≡ None → result ≡ Ok tt) → Did (view_of_pass p) (view_of_pass q) (Plays w p.caller old new)
+    → (new.refusal ≡ None → result ≡ Ok tt) → Did (view_of_pass p) (view_of_pass q) (Plays w q old new)
 did w p q old now new result r sound number start caller replies lent whole = record {
   own = r.run;
   does = record {
     number = number ∙ r.number;
     start = start ∙ r.start;
-    caller = caller ∙ r.went.same_caller;
+    caller = caller;
     played = λ none.
-        let l : PlaysLines w p.caller old now r.run =
-        subst (λ (x : Result (Unit {0}) Refusal). OnOk x (PlaysLines w p.caller old now r.run)) (whole none) r.played in
+        let l : PlaysLines w q old now r.run =
+        subst (λ (x : Result (Unit {0}) Refusal). OnOk x (PlaysLines w q old now r.run)) (whole none) r.played in
         record {
           before = l.before;
-          after = l.after;
           next = l.next;
           ran = record {
             dones = l.ran.dones;
@@ -45,8 +44,9 @@ did w p q old now new result r sound number start caller replies lent whole = re
             lasts = l.ran.lasts;
             many = l.ran.many;
             stands = l.ran.stands;
+            exact = l.ran.exact;
+            found = l.ran.found;
           };
-          by = l.by;
           runs = l.runs;
           lent = ap (λ (v : Vec Lent Global). map standing_as v.items) lent ∙ l.lent;
         };
@@ -71,7 +71,8 @@ played_as w p q r old new next (Ok u) can number start ran went after spent same
       same_handles = same.1;
       number = number;
       start = start;
-      played = record { before = p; after = q; next = next; ran = ran; by = refl; runs = refl; lent = others };
+      played = subst (λ (x : View). PlaysLines w x old new (runs ran.dones)) (sym is)
+          (record { before = p; next = next; ran = ran; runs = refl; lent = others });
     }
 played_as w p q r old new next (Err e) can number start ran went after spent same others = record {
   run = went.run ++ after.run;

@@ -1,6 +1,5 @@
 -- What a worker of a script does: its lines, as the pass that was drawn for it.
 use Rattle.std.specs.Prelude.{◌≡◌, ℕ, ◌+◌, ◌<◌, ◌≤◌, [], List, get_or, map, length, All, None, OnOk, Result, vec_capacity}
-use Rattle.fm_base.specs.declared.caller.Caller.{Caller}
 use Rattle.fm_base.specs.declared.refusal.Refusal.{Refusal}
 use Rattle.fm_base.specs.Calls.{Entry}
 use Rattle.fm_pool_facts.specs.Views.{View}
@@ -52,23 +51,21 @@ pub record CanPlay (w : Playing) (v : View) (p : Player) : Type 0 where
   pub behind : length w.firsts ≤ p.start
   pub numbered : AreNumbered (number_at w.names) p.start (lines_for w p)
 
--- its lines ran, and its caller's entries are theirs
-pub record PlaysLines (w : Playing) (c : Caller) (old new : Player) (own : List Entry) : Type 0 where
+-- its lines ran, behind which the pass is like this, and these entries are theirs
+pub record PlaysLines (w : Playing) (p : View) (old new : Player) (own : List Entry) : Type 0 where
   pub before : View
-  pub after : View
   pub next : List Standing
-  pub ran : LinesRan before after w.names w.firsts old.start [] next (lines_for w old) new.replies.items
-  pub by : before.caller ≡ c
+  pub ran : LinesRan before p w.names w.firsts old.start [] next (lines_for w old) new.replies.items
   pub runs : own ≡ runs ran.dones
   -- its names, as others may use them
   pub lent : map standing_as new.lent.items ≡ map lent next
 
--- what becomes of a worker by a caller's entries: it has played its lines, unless memory was wanting
-pub record Plays (w : Playing) (c : Caller) (old new : Player) (own : List Entry) : Type 0 where
+-- what becomes of a worker by the entries of a pass that is like this in the end: it has played its lines, unless memory was wanting
+pub record Plays (w : Playing) (p : View) (old new : Player) (own : List Entry) : Type 0 where
   pub number : new.number ≡ old.number
   pub start : new.start ≡ old.start
-  pub caller : new.caller ≡ c
-  pub played : new.refusal ≡ None → PlaysLines w c old new own
+  pub caller : new.caller ≡ p.caller
+  pub played : new.refusal ≡ None → PlaysLines w p old new own
 
 -- A pass did so as the worker, and has what it had before
 pub record PlayedAs (w : Playing) (before after : View) (old new : Player) (result : Result (Unit {0}) Refusal) : Type 0 where
@@ -79,4 +76,4 @@ pub record PlayedAs (w : Playing) (before after : View) (old new : Player) (resu
   pub same_handles : after.handles ≡ before.handles
   pub number : new.number ≡ old.number
   pub start : new.start ≡ old.start
-  pub played : OnOk result (PlaysLines w before.caller old new run)
+  pub played : OnOk result (PlaysLines w after old new run)

@@ -3,6 +3,7 @@ use Rattle.std.specs.Prelude.{◌≡◌, ℕ, ◌+◌, ◌≤◌, List, [], ◌+
 use Rattle.std.specs.List.{AllByRecursion, flat_map}
 use Rattle.fm_base.specs.declared.caller.Caller.{Caller}
 use Rattle.fm_pool_facts.specs.Views.{View}
+use Rattle.fm_arena.specs.Opening.{HasNoSlot}
 use Rattle.fm_rule.specs.Finishing.{FinishedView, IsFinished}
 use Rattle.fm_words.specs.Shapes.{IsValid}
 use Rattle.fm_script.specs.declared.line.Line.{Line}
@@ -34,6 +35,7 @@ pub record IsWritten (s : ScriptOf) : Type 0 where
 pub record IsOnly (p : View) : Type 0 where
   pub whole : IsWhole p
   pub unused : p.seen ≡ []
+  pub no_slot : HasNoSlot p
   pub alone : p.gathered ≡ []
 
 -- a pass and workers that have played nothing can run the lines, whose numbers are those of the names
@@ -90,6 +92,7 @@ pub record HasRun (s : ScriptOf) (order : List Line) (names : Numbers) (caller :
   pub in_printing : order ≡ in_order (length tasks) s.lines
   pub passes : 1 + length tasks ≡ s.shape.passes
   pub by : caller ≡ old.caller
+  pub of_shape : old.shape ≡ s.shape
   pub shape : f.shape ≡ s.shape
   pub history : f.history ≡ new.seen
   pub finished : IsFinished f

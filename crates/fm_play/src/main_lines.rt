@@ -74,6 +74,5 @@ pub(crate) fn play_main<R: Wait>(
         },
     );
     let pass = memory.into_pass();
-    let _caller = pass.caller();
     (pass, played)
 }

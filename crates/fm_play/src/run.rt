@@ -17,9 +17,9 @@ use std::thread::Threads;
 
 /// Runs a script over a pool of its own.
 ///
-/// The first lines run in order, by pass 0. Then the workers run side by side, each by a pass of its own, in a thread of
-/// its own where one can be started, and each of their lines between two calls of the gate. Pass 0 gathers them all, and
-/// runs the last lines. Memory for passes and replies is taken before a worker begins.
+/// The first lines run in order, by pass 0. Then the workers run side by side, each by a pass of its own, in a thread
+/// of its own where one can be started, and each of their lines between two calls of the gate. Pass 0 gathers them all,
+/// and runs the last lines. Memory for passes and replies is taken before a worker begins.
 ///
 /// Refused: `Memory`.
 pub fn run_script<R: Threads + Wait + Sync, G: Gate>(

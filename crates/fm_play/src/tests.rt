@@ -81,7 +81,8 @@ fn a_slot_has_its_last_generation(rt: HostRuntime) {
     assert_eq!(rt; printed(&rt, text).as_str(), wanted);
 }
 
-/// A worker's lines come in the order of its number, its names stay for the last lines, and what it holds is given back.
+/// A worker's lines come in the order of its number, its names stay for the last lines, and what it holds is given
+/// back.
 #[test]
 fn workers_names_stay(rt: HostRuntime) {
     let text =

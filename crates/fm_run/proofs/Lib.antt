@@ -7,6 +7,7 @@ pub mod Ending
 pub mod Settled
 pub mod Picking
 pub mod Numbering
+pub mod Opening
 pub mod Rows
 pub mod Returning
 pub mod AdmittedNames

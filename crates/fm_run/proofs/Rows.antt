@@ -6,6 +6,7 @@ use Rattle.std.proofs.lemmas.List.{length-map, map-append, append-nil}
 use Rattle.fm_base.specs.declared.arena_id.ArenaId.{ArenaId}
 use Rattle.fm_base.specs.declared.caller.Caller.{Caller}
 use Rattle.fm_base.specs.Calls.{Entry}
+use Rattle.fm_base.specs.Histories.{made_by}
 use Rattle.fm_pool_facts.specs.Views.{View}
 use Rattle.fm_script.specs.declared.line.Line.{Line}
 use Rattle.fm_run.specs.declared.numbers.Numbers.{Numbers}
@@ -22,6 +23,7 @@ use Rattle.fm_run.specs.Runs.{Went, WentOn}
 use Rattle.fm_run.specs.Standings.{Names, stands_of, standing_at}
 use Rattle.fm_run.specs.Tokens.{Backs}
 use Rattle.fm_run.proofs.Going.{lasts_then, went_none, went_then}
+use Rattle.fm_run.proofs.Opening.{found_at, found_later, found_more, line_silent, opens_more, opens_rightly}
 
 -- What one more line leaves of names.
 names_after-push : (number : List ℕ → Option ℕ) (k : ℕ) (ds : List Done) (d : Done) (names : Names)
@@ -55,6 +57,8 @@ module _ (p : View) (names : Numbers) (base : List Standing) (start : ℕ) (own 
     lasts = record { known = λ id k. k; given = λ id. omega arith; limit = refl; caller = refl };
     many = omega arith;
     stands = refl;
+    exact = λ whole none. tt;
+    found = tt;
   }
 
   -- A line more.
@@ -84,6 +88,11 @@ module _ (p : View) (names : Numbers) (base : List Standing) (start : ℕ) (own 
             ∙ (ap (λ (m : ℕ). names_behind number m d (standing_at base start now)) here
             ∙ (ap (λ (ns : Names). names_behind number (k + length a.dones) d ns) a.stands
             ∙ sym (names_after-push number k a.dones d (standing_at base start own))));
+        exact = λ whole none. opens_more p.shape p.seen a.dones d (a.exact whole none) (λ o. opens_rightly d a.went (b.slots o) whole none);
+        found = found_more p.caller r.finds r.seen (made_by p.caller p.seen) a.dones d
+            (found_later p.caller q.finds q.seen r.finds r.seen b.went.finds (b.went.more, b.went.seen) (made_by p.caller p.seen) a.dones a.found)
+            (λ n. found_at a.went b.went ((b.slots n.opens).found n.refused)
+            (line_silent q.caller (λ name. stands_of (standing_at base start now) (number name)) l.command reply b.made b.run n.opens n.refused b.does));
       }
 
 -- Whatever the lines were.

@@ -7,7 +7,9 @@ pub mod Numbers
 pub mod Ordering
 pub mod Laws
 pub mod Lines
+pub mod Played
 pub mod Playing
 pub mod Report
+pub mod Slots
 pub mod Tables
 pub mod Tokens

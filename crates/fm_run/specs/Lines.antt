@@ -1,5 +1,5 @@
 -- What a pass's next line does, to the pass and to what names stand for.
-use Rattle.std.specs.Prelude.{◌≡◌, ℕ, ◌+◌, ◌==◌, Bool, false, if◌then◌else◌, length, None, Option, Some, List}
+use Rattle.std.specs.Prelude.{◌≡◌, ℕ, ◌+◌, ◌==◌, Bool, true, false, if◌then◌else◌, length, None, Option, Some, List}
 use Rattle.fm_base.specs.Calls.{Entry}
 use Rattle.fm_base.specs.Outcomes.{Lasts}
 use Rattle.fm_pool_facts.specs.Views.{View}
@@ -13,6 +13,7 @@ use Rattle.fm_run.specs.Calls.{CallDoes}
 use Rattle.fm_run.specs.Numbers.{number_at}
 use Rattle.fm_run.specs.Outcomes.{outcome}
 use Rattle.fm_run.specs.Runs.{Went}
+use Rattle.fm_run.specs.Slots.{SlotsTold, opens}
 use Rattle.fm_run.specs.Standings.{standing_at, standing_of, unheld, handed_back}
 
 abbrev pub is_number : Option ℕ → ℕ → Bool
@@ -38,3 +39,5 @@ pub record LineRan (old new : View) (names : Numbers) (base : List Standing) (st
   pub one_more : length next ≡ length own + 1
   pub stands : (n : ℕ) → standing_at base start next n
       ≡ (if n == start + length own then made else behind (number_at names) command n (standing_at base start own n))
+  -- where it opens an arena, what it tells of slots
+  pub slots : opens command ≡ true → SlotsTold old new reply

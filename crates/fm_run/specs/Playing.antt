@@ -1,8 +1,10 @@
 -- What a pass's lines in a row do.
-use Rattle.std.specs.Prelude.{◌≡◌, ℕ, ◌+◌, length, map, None, List}
+use Rattle.std.specs.Prelude.{◌≡◌, ℕ, ◌+◌, true, length, map, None, List}
+use Rattle.fm_base.specs.Histories.{made_by}
 use Rattle.fm_base.specs.Outcomes.{Lasts}
 use Rattle.fm_pool_facts.specs.Views.{View}
 use Rattle.fm_calls.specs.Told.{view_of_pass}
+use Rattle.fm_arena.specs.Opening.{HasNoSlot}
 use Rattle.fm_script.specs.declared.line.Line.{Line}
 use Rattle.fm_run.specs.declared.numbers.Numbers.{Numbers}
 use Rattle.fm_run.specs.declared.reply.Reply.{Reply}
@@ -10,6 +12,7 @@ use Rattle.fm_run.specs.declared.standing.Standing.{Standing}
 use Rattle.fm_run.specs.Numbers.{number_at}
 use Rattle.fm_run.specs.Report.{Done, AreRun, lines_of, names_after, runs}
 use Rattle.fm_run.specs.Runs.{Went}
+use Rattle.fm_run.specs.Slots.{AreFound, OpenRightly}
 use Rattle.fm_run.specs.Standings.{standing_at}
 
 -- The next of the pass's own lines ran, and were replied to so
@@ -24,3 +27,6 @@ pub record LinesRan (old new : View) (names : Numbers) (base : List Standing) (s
   pub lasts : Lasts (view_of_pass old) (view_of_pass new)
   pub many : length next ≡ length own + length dones
   pub stands : standing_at base start next ≡ names_after (number_at names) (start + length own) dones (standing_at base start own)
+  -- where the pass is by itself its lines are refused exactly where no slot is free; whenever one is, the pass found none
+  pub exact : old.whole ≡ true → HasNoSlot old → OpenRightly old.shape old.seen dones
+  pub found : AreFound old.caller new.finds new.seen (made_by old.caller old.seen) dones

@@ -1,35 +1,20 @@
 -- What a script's lines did in one history, line by line.
-use Rattle.std.specs.Prelude.{◌≡◌, ℕ, ◌+◌, ◌==◌, nat_lt, Bool, true, false, if◌then◌else◌, List, [], ◌∷◌, ◌++◌, length, map, filter, Option, ⊤}
-use Rattle.std.specs.List.{AllByRecursion, flat_map}
+use Rattle.std.specs.Prelude.{◌≡◌, ℕ, ◌+◌, ◌==◌, nat_lt, Bool, true, false, if◌then◌else◌, List, [], ◌∷◌, length, filter, Option, ⊤}
 use Rattle.fm_base.specs.declared.caller.Caller.{Caller}
 use Rattle.fm_base.specs.Calls.{Entry}
-use Rattle.fm_base.specs.Histories.{made_by}
-use Rattle.fm_lists.specs.Among.{IsAmong, AreApart}
+use Rattle.fm_lists.specs.Among.{AreApart}
 use Rattle.fm_script.specs.declared.line.Line.{Line}
 use Rattle.fm_script.specs.declared.who.Who.{Who}
 use Rattle.fm_script.specs.declared.who.Who.TheVariants.{First, Worker, Last}
 use Rattle.fm_script.specs.Scripts.{ScriptOf}
-use Rattle.fm_run.specs.declared.reply.Reply.{Reply}
-use Rattle.fm_run.specs.declared.standing.Standing.{Standing}
 use Rattle.fm_run.specs.declared.standing.Standing.TheVariants.{Nothing}
 use Rattle.fm_run.specs.Calls.{CallDoes}
 use Rattle.fm_run.specs.Lines.{behind}
 use Rattle.fm_run.specs.Numbers.{number_from}
 use Rattle.fm_run.specs.Outcomes.{outcome}
+pub use Rattle.fm_run.specs.Played.{Done, Player, Played, IsCut, runs, lines_of, worked, all_done, callers}
+use Rattle.fm_run.specs.Slots.{HaveSlots}
 use Rattle.fm_run.specs.Standings.{Names, stands_of, lent}
-
--- a line that ran: its reply, its caller's entries, and what its name stands for
-pub record Done : Type 0 where
-  pub line : Line
-  pub reply : Reply
-  pub run : List Entry
-  pub made : Standing
-
-abbrev pub runs : List Done → List Entry
-runs ds = flat_map (λ d. d.run) ds
-
-abbrev pub lines_of : List Done → List Line
-lines_of ds = map (λ d. d.line) ds
 
 -- ---- names
 
@@ -57,34 +42,11 @@ AreRun c number k names (d ∷ ds) =
     CallDoes c (λ name. stands_of names (number name)) d.line.command (outcome d.reply d.made) d.run
     × AreRun c number (k + 1) (names_behind number k d names) ds
 
--- a worker and its lines
-pub record Player : Type 0 where
-  pub caller : Caller
-  pub dones : List Done
-
 -- ---- all lines
-
-pub record Played : Type 0 where
-  -- the caller of the first lines and of the last
-  pub main : Caller
-  pub firsts : List Done
-  pub players : List Player
-  pub lasts : List Done
-
--- the workers' lines, in the order of printing
-abbrev pub worked : List Player → List Done
-worked ws = flat_map (λ w. w.dones) ws
-
--- all lines, in the order of printing
-abbrev pub all_done : Played → List Done
-all_done p = p.firsts ++ (worked p.players ++ p.lasts)
 
 -- the number of the line that makes a name, in the order of printing
 abbrev pub number_of : Played → List ℕ → Option ℕ
 number_of p = number_from 0 (lines_of (all_done p))
-
-abbrev pub callers : Played → List Caller
-callers p = p.main ∷ map (λ w. w.caller) p.players
 
 -- the workers' lines, whose numbers begin at k, did their calls; each worker may use the first lines' names
 abbrev pub AreWorked : (List ℕ → Option ℕ) → ℕ → Names → List Player → Type 0
@@ -98,19 +60,6 @@ gathered_names number k (w ∷ ws) names n =
     if nat_lt n k then names n
     else (if nat_lt n (k + length w.dones) then lent (names_after number k w.dones none_stands n)
     else gathered_names number (k + length w.dones) ws names n)
-
--- the first lines' entries stand before the workers', and these before the last lines'
-pub record IsCut (history : List Entry) (p : Played) : Type 0 where
-  pub before : List Entry
-  pub between : List Entry
-  pub after : List Entry
-  pub parts : history ≡ before ++ (between ++ after)
-  pub firsts : made_by p.main before ≡ runs p.firsts
-  pub lasts : made_by p.main after ≡ runs p.lasts
-  pub players : AllByRecursion (λ w. made_by w.caller between ≡ runs w.dones) p.players
-  pub only_firsts : AllByRecursion (λ e. e.caller ≡ p.main) before
-  pub only_workers : AllByRecursion (λ e. IsAmong e.caller (map (λ w. w.caller) p.players)) between
-  pub only_lasts : AllByRecursion (λ e. e.caller ≡ p.main) after
 
 -- ---- whose lines they are
 
@@ -151,3 +100,5 @@ pub record IsReport (s : ScriptOf) (history : List Entry) (p : Played) : Type 0 
       (lent_names (names_after (number_of p) 0 p.firsts none_stands)) p.players
   pub last_calls : AreRun p.main (number_of p) (length p.firsts + length (worked p.players))
       (gathered_names (number_of p) (length p.firsts) p.players (names_after (number_of p) 0 p.firsts none_stands)) p.lasts
+  -- where lines are refused for want of a slot
+  pub slots : HaveSlots s.shape p cut

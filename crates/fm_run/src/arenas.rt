@@ -2,6 +2,7 @@ ghost use Rattle.std.specs.Prelude.{◌≡◌, None, IfSome};
 ghost use Rattle.fm_pool_facts.specs.Views.{IsKnown};
 ghost use Rattle.fm_run.specs.Calls.{On, Opens, Asks, Closes};
 ghost use Rattle.fm_run.specs.Runs.{RanLine};
+ghost use Rattle.fm_run.specs.Slots.{SlotsTold};
 
 use crate::outcome::Outcome;
 use crate::reply::Reply;
@@ -13,7 +14,8 @@ use std::sync::Wait;
 /// `open NAME KIND`
 pub(crate) fn open<R: Wait>(rt: &R, m: &mut Shared, kind: Kind) -> Outcome
     requires { m.old.inside ≡ None }
-    ensures { RanLine m.old m.new (Opens m.old.caller kind) result }
+    ensures ran { RanLine m.old m.new (Opens m.old.caller kind) result }
+    ensures slots { SlotsTold m.old m.new result.reply }
 {
     match kind {
         Kind::Automatic => open_automatic(rt, m),
@@ -24,7 +26,8 @@ pub(crate) fn open<R: Wait>(rt: &R, m: &mut Shared, kind: Kind) -> Outcome
 /// Of an automatic arena.
 fn open_automatic<R: Wait>(rt: &R, m: &mut Shared) -> Outcome
     requires { m.old.inside ≡ None }
-    ensures { RanLine m.old m.new (Opens m.old.caller Kind.Automatic) result }
+    ensures ran { RanLine m.old m.new (Opens m.old.caller Kind.Automatic) result }
+    ensures slots { SlotsTold m.old m.new result.reply }
 {
     match AutoHandle::start(rt, m) {
         Ok(handle) => Outcome {
@@ -39,7 +42,8 @@ fn open_automatic<R: Wait>(rt: &R, m: &mut Shared) -> Outcome
 fn open_by_hand<R: Wait>(rt: &R, m: &mut Shared, kind: Kind) -> Outcome
     requires outside { m.old.inside ≡ None }
     requires by_hand { ¬ (kind ≡ Kind.Automatic) }
-    ensures { RanLine m.old m.new (Opens m.old.caller kind) result }
+    ensures ran { RanLine m.old m.new (Opens m.old.caller kind) result }
+    ensures slots { SlotsTold m.old m.new result.reply }
 {
     match m.open_arena(rt, kind) {
         Ok(arena) => Outcome {

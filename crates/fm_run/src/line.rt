@@ -5,6 +5,7 @@ ghost use Rattle.fm_run.specs.Calls.{CallDoes, keeps_tokens};
 ghost use Rattle.fm_run.specs.Lines.{LineRan};
 ghost use Rattle.fm_run.specs.Numbers.{number_at};
 ghost use Rattle.fm_run.specs.Runs.{RanLine};
+ghost use Rattle.fm_run.specs.Slots.{SlotsTold, opens};
 ghost use Rattle.fm_run.specs.Standings.{standing_of};
 ghost use Rattle.fm_run.specs.Tokens.{Backs, IsReady};
 
@@ -76,6 +77,7 @@ fn run_call<R: Wait>(
     requires ready { IsReady m.old table.now.base.now table.now.own.items }
     ensures ran { IfOk result (RanLine m.old m.new (CallDoes m.old.caller (λ name.
         standing_of table.now.base.now table.now.start table.now.own.items (number_at names.now name)) command.now)) }
+    ensures slots { IfOk result (λ out. opens command.now ≡ true → SlotsTold m.old m.new out.reply) }
     ensures kept { OnErr result (m.new ≡ m.old) }
     ensures memory { IfErr result (λ refusal. refusal ≡ Refusal.Memory) }
 {

@@ -2,6 +2,7 @@ ghost use Rattle.std.specs.Prelude.{◌≡◌, None, true};
 ghost use Rattle.fm_run.specs.Calls.{CallDoes, is_on_arena};
 ghost use Rattle.fm_run.specs.Numbers.{number_at};
 ghost use Rattle.fm_run.specs.Runs.{RanLine};
+ghost use Rattle.fm_run.specs.Slots.{SlotsTold, opens};
 ghost use Rattle.fm_run.specs.Standings.{standing_of};
 ghost use Rattle.fm_run.specs.Tokens.{IsReady};
 
@@ -26,8 +27,10 @@ pub(crate) fn run_on_arena<R: Wait>(
     requires outside { m.old.inside ≡ None }
     requires this { is_on_arena command.now ≡ true }
     requires ready { IsReady m.old table.now.base.now table.now.own.items }
-    ensures { RanLine m.old m.new (CallDoes m.old.caller (λ name.
-        standing_of table.now.base.now table.now.start table.now.own.items (number_at names.now name)) command.now) result }
+    ensures ran { RanLine m.old m.new (CallDoes m.old.caller (λ name.
+        standing_of table.now.base.now table.now.start table.now.own.items (number_at names.now name))
+        command.now) result }
+    ensures slots { opens command.now ≡ true → SlotsTold m.old m.new result.reply }
 {
     match command {
         Command::Open { kind, .. } => open(rt, m, *kind),

@@ -29,7 +29,8 @@ pub(crate) fn run_on_segment<R: Wait>(
     requires this { is_on_segment command.now ≡ true }
     requires ready { IsReady m.old table.now.base.now table.now.own.items }
     ensures { RanLine m.old m.new (CallDoes m.old.caller (λ name.
-        standing_of table.now.base.now table.now.start table.now.own.items (number_at names.now name)) command.now) result }
+        standing_of table.now.base.now table.now.start table.now.own.items (number_at names.now name))
+        command.now) result }
 {
     match command {
         Command::Slice {

@@ -9,3 +9,8 @@ pub mod Commands
 pub mod Rows
 pub mod Passes
 pub mod Reports
+pub mod Accessing
+pub mod Opened
+pub mod Openers
+pub mod Workers
+pub mod Openings

@@ -1,3 +1,5 @@
 pub mod Histories
 pub mod Lines
 pub mod Reports
+pub mod Slots
+pub mod Openings

@@ -1,6 +1,8 @@
 ghost use Rattle.fm_run_laws.specs.Histories.{TidyInParts};
 ghost use Rattle.fm_run_laws.specs.Lines.{LineIsTidy, LinesAreTidy};
+ghost use Rattle.fm_run_laws.specs.Openings.{ReportsFindMany};
 ghost use Rattle.fm_run_laws.specs.Reports.{ReportsAreTidy};
+ghost use Rattle.fm_run_laws.specs.Slots.{FindsAreRight};
 
 /// Each own entry of a pass's line is tidy in the state in which it was made.
 pub fn lines_are_tidy()
@@ -20,4 +22,14 @@ pub fn parts_are_tidy()
 /// What a script's lines did in a legal history, its passes' all together, is tidy.
 pub fn reports_are_tidy()
     ensures { ReportsAreTidy }
+{}
+
+/// Where a worker's line finds no slot, other lines had each slot: first ones, other workers' or its own earlier ones.
+pub fn finds_are_right()
+    ensures { FindsAreRight }
+{}
+
+/// Where it does so in a report, at least as many other `open` lines as the pool has slots were answered ok.
+pub fn reports_find_many()
+    ensures { ReportsFindMany }
 {}

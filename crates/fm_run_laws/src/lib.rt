@@ -1,6 +1,10 @@
-//! Laws of lines of scripts: they change only bytes that their arenas have given.
+//! Laws of lines of scripts: they change only bytes that their arenas have given, and a worker's line finds no slot
+//! only where others had each.
 #![tactic(auto)]
 
 mod laws;
 
-pub use laws::{lines_are_tidy, parts_are_tidy, reports_are_tidy, rows_are_tidy};
+pub use laws::{
+    finds_are_right, lines_are_tidy, parts_are_tidy, reports_are_tidy, reports_find_many,
+    rows_are_tidy,
+};

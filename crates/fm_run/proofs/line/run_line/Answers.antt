@@ -12,7 +12,8 @@ returns-in-Ok g c =
       start = c.take_in.ensures.same_start;
       room = c.take_in.ensures.room;
       ran = line_kept p q c.args.names.now t.base.now t.start t.own.items c.take_in.new.self.own.items c.args.command.now c.take_in.result t.behind
-          c.in-Ok.out kept c.take_in.ensures.own c.take_in.ensures.reply c.in-Ok.ensures.ran;
+          c.in-Ok.out kept c.take_in.ensures.own c.take_in.ensures.reply c.in-Ok.ensures.ran
+          c.in-Ok.ensures.slots;
       backs = λ holds handles b. backs_kept p q c.args.names.now t.base.now t.start t.own.items c.take_in.new.self.own.items c.args.command.now
           c.take_in.result t.behind c.in-Ok.out holds handles c.take_in.ensures.own c.in-Ok.ensures.ran b;
       kept = tt;

@@ -1,6 +1,6 @@
 use Rattle.std.specs.Prelude.{Vec}
 use Rattle.std.specs.declared.alloc.Global.{Global}
-use Rattle.std.proofs.Common.{◌≡◌, ℕ, ◌+◌, true, false, Bool, List, [], length, take, refl, sym, ap, ◌∙◌, subst, arith, vec_capacity}
+use Rattle.std.proofs.Common.{◌≡◌, ℕ, ◌+◌, Bool, List, [], length, take, refl, sym, ap, ◌∙◌, subst, arith, vec_capacity}
 use Rattle.fm_pool_facts.specs.Views.{View}
 use Rattle.fm_script.specs.declared.line.Line.{Line}
 use Rattle.fm_script.specs.declared.who.Who.{Who}

@@ -1,4 +1,4 @@
-use Rattle.std.proofs.Common.{◌≡◌, ◌+◌, ◌∷◌, ◌++◌, ℕ, ◌-◌, take, ap, All, arith, length, length-append, List, [], refl, subst, sym, ◌∙◌, map, reverse}
+use Rattle.std.proofs.Common.{◌≡◌, ◌∷◌, ◌++◌, ℕ, ◌-◌, take, ap, All, arith, length, length-append, List, [], refl, subst, sym, ◌∙◌, map, reverse}
 use Rattle.std.proofs.lemmas.List.{append-nil}
 use Rattle.fm_run.specs.declared.lent.Lent.{Lent}
 use Rattle.fm_run.specs.declared.standing.Standing.{Standing}

@@ -1,0 +1,119 @@
+-- What the passes of workers found where a line found no slot.
+use Rattle.std.proofs.Common.{◌≡◌, ℕ, true, List, [], ◌∷◌, ◌++◌, length, length-append, map, refl, sym, ap, ◌∙◌, subst, arith, inl, inr}
+use Rattle.std.specs.Prelude.{⊤}
+use Rattle.std.specs.List.{AllByRecursion}
+use Rattle.std.proofs.lemmas.List.{append-nil}
+use Rattle.std.proofs.lemmas.List.Elements.{filter-append}
+use Rattle.fm_base.specs.declared.caller.Caller.{Caller}
+use Rattle.fm_base.specs.Calls.{Entry}
+use Rattle.fm_base.specs.Finds.{Close, Find, Gathered, Rest, is_slot}
+use Rattle.fm_base.specs.Histories.{made_by}
+use Rattle.fm_pool_facts.specs.Hands.{Hand, nothing, taken, learnt, retired}
+use Rattle.fm_pool_facts.specs.Splits.{as_gathered}
+use Rattle.fm_pool_facts.specs.Views.{View, In, NoneLeft}
+use Rattle.fm_calls.specs.Kept.{slots_told}
+use Rattle.fm_arena.specs.Opening.{HasNoSlot}
+use Rattle.fm_script.specs.declared.line.Line.{Line}
+use Rattle.fm_run.specs.declared.numbers.Numbers.{Numbers}
+use Rattle.fm_run.specs.declared.reply.Reply.{Reply}
+use Rattle.fm_run.specs.declared.standing.Standing.{Standing}
+use Rattle.fm_run.specs.Playing.{LinesRan}
+use Rattle.fm_run.specs.Report.{Player, runs}
+use Rattle.fm_run.specs.Runs.{Went}
+use Rattle.fm_run.specs.Slots.{AreFound}
+use Rattle.fm_run_laws.specs.Slots.{FindsTold}
+use Rattle.fm_workers.specs.Crew.{IsFresh, IsIn, callers}
+
+-- ---- a pass's slots
+
+-- Lines leave a pass without a slot as it was.
+pub no_slot_still : {p q : View} {own : List Entry} → Went p q own → HasNoSlot p → HasNoSlot q
+no_slot_still w none = ap (λ (x : Rest). x.slots) w.rest ∙ none
+
+-- What is told of slots tells of the one in the hand.
+pub none_held : (cs : List Close) (hand : Hand) → slots_told cs hand ≡ [] → hand ≡ nothing
+unfolding slots_told
+none_held [] nothing e = refl
+none_held [] (taken slot) e = absurd (cc)
+none_held [] (learnt slot generation) e = absurd (cc)
+none_held [] (retired slot) e = absurd (cc)
+none_held (c ∷ cs) hand e = absurd (cc)
+
+-- ---- one worker
+
+-- these are a worker's lines, by the pass that is like this behind them
+pub record HasFound (v : View) (w : Player) : Type 0 where
+  pub caller : w.caller ≡ v.caller
+  pub earlier : List Entry
+  pub made : made_by v.caller v.seen ≡ earlier ++ runs w.dones
+  pub found : AreFound v.caller v.finds v.seen earlier w.dones
+
+abbrev pub HaveFound : List View → List Player → Type 0
+HaveFound [] [] = ⊤
+HaveFound (v ∷ vs) (w ∷ ws) = HasFound v w × HaveFound vs ws
+HaveFound vs ws = ⊥
+
+pub has_found : (p v : View) {names : Numbers} {base : List Standing} {start : ℕ} {own next : List Standing} {lines : List Line} {replies : List Reply}
+    (r : LinesRan p v names base start own next lines replies) → HasFound v (record { caller = v.caller; dones = r.dones })
+has_found p v r =
+    let w = r.went in
+    record {
+      caller = refl;
+      earlier = made_by v.caller p.seen;
+      made = ap (λ (es : List Entry). made_by v.caller es) w.seen ∙ (filter-append _ p.seen w.more
+          ∙ ap (λ (es : List Entry). made_by v.caller p.seen ++ es) (ap (λ (c : Caller). made_by c w.more) w.same_caller ∙ w.by_pass));
+      found = subst (λ (c : Caller). AreFound c v.finds v.seen (made_by c p.seen) r.dones) (sym w.same_caller) r.found;
+    }
+
+nothing_before : (xs ys : List Entry) → xs ++ ys ≡ ys → xs ≡ []
+nothing_before [] ys e = refl
+nothing_before (x ∷ xs) ys e =
+    let same : length ((x ∷ xs) ++ ys) ≡ length ys = ap (λ (es : List Entry). length es) e in
+    let long = length-append (x ∷ xs) ys in
+    absurd (omega (arith, same, long))
+
+-- ---- all of them, once they are gathered
+
+module _ (old new : View) (more : List Entry) (seen : new.seen ≡ old.seen ++ more)
+    (left : (g : Gathered) (f : Find) → In g new.gathered → In f g.finds → is_slot f.step ≡ true → f.found ≡ 0
+    → NoneLeft new.shape new.seen g.caller f) where
+  -- Its lines are all that a pass made that had made no entry before.
+  none_before : (v : View) (w : Player) (h : HasFound v w) → IsFresh old v.caller → IsIn v new → made_by w.caller more ≡ runs w.dones
+      → h.earlier ≡ []
+  none_before v w h fresh within entries =
+      let c = v.caller in
+      let its : made_by c new.seen ≡ made_by c v.seen =
+      ap (λ (es : List Entry). made_by c es) within.seen ∙ (filter-append _ v.seen within.rest
+      ∙ (ap (λ (es : List Entry). made_by c v.seen ++ es) within.quiet ∙ append-nil (made_by c v.seen))) in
+      let now : made_by c new.seen ≡ made_by c more =
+      ap (λ (es : List Entry). made_by c es) seen ∙ (filter-append _ old.seen more ∙ ap (λ (es : List Entry). es ++ made_by c more) fresh.silent) in
+      nothing_before h.earlier (runs w.dones)
+      (sym h.made ∙ (sym its ∙ (now ∙ (ap (λ (x : Caller). made_by x more) (sym h.caller) ∙ entries))))
+
+  told : (v : View) (w : Player) → HasFound v w → IsFresh old v.caller → IsIn v new → made_by w.caller more ≡ runs w.dones
+      → In (as_gathered v) new.gathered → FindsTold new.shape new.seen w
+  told v w h fresh within entries among = record {
+    finds = v.finds;
+    seen = v.seen;
+    begins = (within.rest, within.seen);
+    found = subst (λ (c : Caller). AreFound c v.finds v.seen [] w.dones) (sym h.caller)
+        (subst (λ (es : List Entry). AreFound v.caller v.finds v.seen es w.dones) (none_before v w h fresh within entries) h.found);
+    none_left = λ f i step none. subst (λ (c : Caller). NoneLeft new.shape new.seen c f) (sym h.caller) (left (as_gathered v) f among i step none);
+  }
+
+  -- What each found is told by the gatherer, which knows of each slot why it was not free.
+  pub all_told : (vs : List View) (ws : List Player) → HaveFound vs ws → AllByRecursion (IsFresh old) (callers (map as_gathered vs))
+      → AllByRecursion (λ v. IsIn v new) vs → AllByRecursion (λ w. made_by w.caller more ≡ runs w.dones) ws
+      → ((g : Gathered) → In g (map as_gathered vs) → In g new.gathered) → AllByRecursion (FindsTold new.shape new.seen) ws
+  all_told [] [] h fresh within entries among = tt
+  all_told [] (w ∷ ws) h fresh within entries among = absurd h
+  all_told (v ∷ vs) [] h fresh within entries among = absurd h
+  all_told (v ∷ vs) (w ∷ ws) h fresh within entries among = (
+    told v w h.0 fresh.0 within.0 entries.0 (among (as_gathered v) (inl refl)),
+    all_told vs ws h.1 fresh.1 within.1 entries.1 (λ g i. among g (inr i)),
+  )
+
+-- The callers of passes that were gathered.
+pub callers_gathered : (vs : List View) → map (λ v. v.caller) vs ≡ callers (map as_gathered vs)
+callers_gathered [] = refl
+callers_gathered (v ∷ vs) = λ i. v.caller ∷ callers_gathered vs i

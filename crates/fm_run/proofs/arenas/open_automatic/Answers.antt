@@ -1,0 +1,12 @@
+use Rattle.std.proofs.Common.{refl, ap}
+use Rattle.fm_run.specs.declared.outcome.Outcome.{Outcome}
+use Rattle.fm_run.specs.declared.reply.Reply.TheVariants.{Fine}
+use Rattle.fm_run.proofs.Opening.{told_fine, told_refused}
+use Rattle.fm_run.proofs.arenas.open_automatic.Goals as goal
+
+pub returns-in-Ok-clause-slots : goal.returns-in-Ok-clause-slots
+returns-in-Ok-clause-slots g c = told_fine c.in-Ok.handle Fine refl c.in-Ok.ensures.exact
+
+pub returns-in-Err-clause-slots : goal.returns-in-Err-clause-slots
+returns-in-Err-clause-slots g c =
+    told_refused c.in-Err.refusal c.plain.result.reply (ap (λ (o : Outcome). o.reply) c.plain.ensures) c.in-Err.ensures.no_slot c.in-Err.ensures.exact
