@@ -23,10 +23,12 @@ use std::thread::Threads;
 /// Runs the tool on its words, which exclude the program's own name, and answers its status.
 ///
 /// Everything is written after the answer is complete. The statuses are 0 for an answer, 1 for words that are no
-/// command, 2 for a missing file, 3 for a failed read, 4 for a refused layout, 5 for a refused query or path, 6 for a file that
-/// is no whole number of records, 7 for a file over its limit, 8 for a failed write and 9 for want of memory. They are
-/// tested in this order: 1; of the layout's file 2, 3 and 7; 4; 5; of the record file 2, 3, 7 and 6; 8. Want of memory
-/// may come at any time.
+/// command, 2 for a missing file, 3 for a failed read, 4 for a refused layout, 5 for a refused query or path, 6 for a
+/// file that is no whole number of records, 7 for a file over its limit, 8 for a failed write, 9 for want of memory and
+/// 10 for a refused script. They are tested in this order: 1; of the layout's file 2, 3 and 7; 4; 5; of the record file
+/// 2, 3, 7 and 6; 8. Of `run`, whose one file is the script: 1; 2, 3 and 7; 10; 8. Want of memory may come at any time.
+///
+/// A script whose lines the runtime refuses while it runs is answered: its report has status 0.
 pub fn run_tool<R, F, O, G>(
     rt: &R,
     alloc: Global,
@@ -41,7 +43,8 @@ where
     F: Files,
     O: Sink,
     G: Gate,
-    // The status is that of an outcome of the words and the files, or of what hindered it; so are what was written and what is kept.
+    // The status is that of an outcome of the words and the files, or of what hindered it; so are what was written and
+    // what is kept.
     ensures runs { (status : Status) × (result ≡ code_of status)
         × Runs (texts words.now) (F.holds files.old)
         (traces_of (F.faults files.old) (F.faults files.new) (O.faults out.old) (O.faults out.new)
@@ -66,7 +69,8 @@ where
         → ¬ (Rose (F.faults files.old) (F.faults files.new)) → ¬ (Raised (O.faults out.old) (O.faults out.new))
         → Answers (texts words.now) (F.holds files.old) (O.written out.old) (O.written out.new) kept.new result }
 
-    // The first file is read, and then the last one where that needs it, each in pieces, and no read follows on another answer than bytes.
+    // The first file is read, and then the last one where that needs it, each in pieces, and no read follows on another
+    // answer than bytes.
     ensures reads { (request : Request) → Asks (texts words.now) request
         → ReadsFor request (F.holds files.old) (F.reads files.old) (F.reads files.new) }
 
