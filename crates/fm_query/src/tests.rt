@@ -113,56 +113,51 @@ fn reads_sixteen_of_each(rt: HostRuntime) -> Result<(), Fail> {
     Ok(())
 }
 
-/// Texts that are none, and how many bytes of each some query's text begins with.
-const NO_TEXTS: [(&str, u64); 34] = [
-    ("", 0),
-    ("count,", 6),
-    ("sum(.tags[01])", 11),
-    ("x", 0),
-    ("mon(.id)", 1),
-    ("maxi", 3),
-    ("count ", 6),
-    ("count where", 11),
-    ("count  where .id=0", 6),
-    ("count, sum(.id)", 6),
-    ("sum()", 4),
-    ("sum(.id", 7),
-    ("sum(.id))", 8),
-    ("sum(.id=", 7),
-    ("count where .id", 15),
-    ("count where .id)", 15),
-    ("count where .id!0", 16),
-    ("count where .id==0", 16),
-    ("count where .id<=", 17),
-    ("count where .id<==0", 17),
-    ("count where .id=+1", 16),
-    ("count where .id=-0", 17),
-    ("count where .id=-", 17),
-    ("count where .id=00", 17),
-    ("count where .id=9223372036854775808", 34),
-    ("count where .id=-9223372036854775809", 35),
-    ("count where .id=1 or .id=2", 18),
-    ("count where .id=1  and .id=2", 18),
-    ("count where .id=1 and ", 22),
-    ("count where .id=1 an", 20),
-    ("count where .id=1,count", 17),
-    ("count\u{e9}", 5),
-    (
-        "count,count,count,count,count,count,count,count,count,count,count,count,count,count,count,count,count",
-        95,
-    ),
-    (
-        "count where .id=0 and .id=0 and .id=0 and .id=0 and .id=0 and .id=0 and .id=0 and .id=0 \
-         and .id=0 and .id=0 and .id=0 and .id=0 and .id=0 and .id=0 and .id=0 and .id=0 and .id=0",
-        167,
-    ),
-];
+/// How many bytes of texts that are none some query's text begins with, and these texts. One text, since a prover goes
+/// through a table row by row.
+const NO_TEXTS: &str = "\
+0\x20
+6 count,
+11 sum(.tags[01])
+0 x
+1 mon(.id)
+3 maxi
+6 count\x20
+11 count where
+6 count  where .id=0
+6 count, sum(.id)
+4 sum()
+7 sum(.id
+8 sum(.id))
+7 sum(.id=
+15 count where .id
+15 count where .id)
+16 count where .id!0
+16 count where .id==0
+17 count where .id<=
+17 count where .id<==0
+16 count where .id=+1
+17 count where .id=-0
+17 count where .id=-
+17 count where .id=00
+34 count where .id=9223372036854775808
+35 count where .id=-9223372036854775809
+18 count where .id=1 or .id=2
+18 count where .id=1  and .id=2
+22 count where .id=1 and\x20
+20 count where .id=1 an
+17 count where .id=1,count
+5 count\u{e9}
+95 count,count,count,count,count,count,count,count,count,count,count,count,count,count,count,count,count
+167 count where .id=0 and .id=0 and .id=0 and .id=0 and .id=0 and .id=0 and .id=0 and .id=0 and .id=0 and .id=0 and .id=0 and .id=0 and .id=0 and .id=0 and .id=0 and .id=0 and .id=0";
 
 #[test]
 fn refuses_at_the_longest_prefix(rt: HostRuntime) -> Result<(), Fail> {
-    for (text, at) in NO_TEXTS.iter() {
+    for row in NO_TEXTS.lines() {
+        let (at, text) = row.split_once(' ').unwrap_or(("", row));
+        let at = at.parse().unwrap_or(u64::MAX);
         assert!(rt;
-            is_refused(rt.alloc(), text, Refusal::BadQuery(*at))?,
+            is_refused(rt.alloc(), text, Refusal::BadQuery(at))?,
             "at {text}"
         );
     }

@@ -77,157 +77,144 @@ fn reads_lines(rt: HostRuntime) -> Result<(), Fail> {
 
 const POOL: &str = "pool 1 1 8 1000 1\n";
 
-/// Lines behind a pool's line and `first open a shared`, `first alloc a s 8 8`, and where they are refused.
-const BEHIND: [(&str, u64); 123] = [
-    ("", 0),
-    ("\n#\n# \u{7f}\n", 0),
-    ("# \u{e9}\n", 4),
-    ("first get s long 0", 0),
-    ("first  get s long 0\n", 4),
-    (" first get s long 0\n", 4),
-    ("first get s long 0 \n", 4),
-    ("first get s long\n", 4),
-    ("first get s long 0 0\n", 4),
-    ("first got s long 0\n", 4),
-    ("first get s longer 0\n", 4),
-    ("first get s long-le 0\n", 4),
-    ("first get s long 00\n", 4),
-    ("first get s long +0\n", 4),
-    ("first get s long 1099511627776\n", 0),
-    ("first get s long 1099511627777\n", 4),
-    ("first get s long 0\r\n", 4),
-    ("16 get s long 0\n", 0),
-    ("17 get s long 0\n", 4),
-    ("0 get s long 0\n", 4),
-    ("01 get s long 0\n", 4),
-    ("first set s byte 0 127\n", 0),
-    ("first set s byte 0 128\n", 4),
-    ("first set s byte 0 -128\n", 0),
-    ("first set s byte 0 -129\n", 4),
-    ("first set s boolean 0 1\n", 0),
-    ("first set s boolean 0 2\n", 4),
-    ("first set s boolean 0 -1\n", 4),
-    ("first set s char 0 65535\n", 0),
-    ("first set s char 0 65536\n", 4),
-    ("first set s short 0 -32768\n", 0),
-    ("first set s short 0 32768\n", 4),
-    ("first set s int 0 2147483647\n", 0),
-    ("first set s int 0 2147483648\n", 4),
-    ("first set s long 0 9223372036854775807\n", 0),
-    ("first set s long 0 9223372036854775808\n", 4),
-    ("first set s long 0 -9223372036854775808\n", 0),
-    ("first set s long 0 -0\n", 4),
-    ("first fill s 255\n", 0),
-    ("first fill s 256\n", 4),
-    ("first open 1b shared\n", 4),
-    ("first open b share\n", 4),
-    ("first open a shared\n", 4),
-    ("first open s shared\n", 4),
-    ("first alloc s t 8 8\n", 4),
-    ("first alloc b t 8 8\n", 4),
-    ("first get a long 0\n", 4),
-    ("first get t long 0\n1 alloc a t 8 8\n", 4),
-    ("1 alloc a t 8 8\n1 get t long 0\nlast get t long 0\n", 0),
-    ("1 alloc a t 8 8\n2 get t long 0\n", 5),
-    ("1 get s long 0\nfirst get s long 0\n", 5),
-    ("last get s long 0\n1 get s long 0\n", 5),
-    ("first hold a h\n1 unhold h\n", 5),
-    ("first hold a h\nlast unhold h\n", 0),
-    ("first hold a h\nfirst unhold h\nfirst unhold h\n", 6),
-    ("first hold a h\nfirst hold a k\nfirst unhold h\n", 5),
-    ("first again a h\n", 4),
-    ("first open b auto\nfirst back b\nfirst again b h\n", 6),
-    ("first open b auto\nfirst back b\nfirst alive b\n", 0),
-    ("first open b auto\nfirst again b h\nfirst back b\n", 5),
-    ("first alloc a t 1099511627776 1099511627776\n", 0),
-    ("first alloc a t 1099511627777 8\n", 4),
-    ("first alloc a t 8 1099511627777\n", 4),
-    ("first slice s t 1099511627776 1099511627776\n", 0),
-    ("first slice s t 1099511627777 8\n", 4),
-    ("first slice s t 8 1099511627777\n", 4),
-    ("first set s int 0 -2147483648\n", 0),
-    ("first set s int 0 -2147483649\n", 4),
-    ("first cas s byte 0 0 128\n", 4),
-    ("first cas s byte 0 128 0\n", 4),
-    ("first hold a h\nfirst back h\n", 5),
-    ("first open b auto\nfirst unhold b\n", 5),
-    ("first open b auto\n1 again b h\n", 5),
-    ("first open b auto\n1 back b\n", 5),
-    (
-        "first open b auto\nlast again b h\nlast back b\nlast back h\n",
-        0,
-    ),
-    ("first open b auto\n", 4),
-    ("1 hold a h\n1 unhold h\n", 0),
-    ("1 hold a h\nlast unhold h\n", 5),
-    ("# a\n\nfirst get s long 0\n\n#", 0),
-    (
-        "first open aaaaaaaaaaaaaaaaaaaaaaaaaaaaaaaaaaaaaaaaaaaaaaaaaaaaaaaaaaaaaaaa shared",
-        0,
-    ),
-    (
-        "first open aaaaaaaaaaaaaaaaaaaaaaaaaaaaaaaaaaaaaaaaaaaaaaaaaaaaaaaaaaaaaaaaa shared",
-        4,
-    ),
-    ("1 alloc a t 8 8\n2 alloc a t 8 8\n", 5),
-    ("last get s long 0\nfirst get s long 0\n", 5),
-    ("first hold a s\nfirst unhold s\n", 4),
-    ("first hold a h\nfirst alive h\n", 5),
-    ("first hold a h\nfirst get h long 0\n", 5),
-    ("first unhold s\n", 4),
-    ("first unhold a\n", 4),
-    ("first back a\n", 4),
-    (
-        "first open b auto\nfirst again b h\nfirst alloc h t 8 8\n",
-        6,
-    ),
-    ("first open b auto\nfirst get b long 0\n", 5),
-    ("first open b auto\nfirst back b\nfirst back b\n", 6),
-    (
-        "first open b auto\nfirst again b h\nfirst back h\nfirst again h k\n",
-        7,
-    ),
-    ("first slice a t 0 4\n", 4),
-    ("first readonly a t\n", 4),
-    ("first fill a 0\n", 4),
-    ("first copy s a\n", 4),
-    ("first copy a s\n", 4),
-    ("first mismatch s a\n", 4),
-    ("first alive s\n", 4),
-    ("first close s\n", 4),
-    ("first hold s h\n", 4),
-    ("last open b auto\n", 4),
-    ("# a\n1 hold a h\n", 5),
-    ("first hold a h\n1 hold a k\n1 unhold k\n", 4),
-    ("1 hold a h\n1 unhold h\n2 hold a k\n", 6),
-    ("first hold a h", 4),
-    ("first got s long 0", 4),
-    ("first set s char 0 -1\n", 4),
-    ("first set s short 0 32767\n", 0),
-    ("first set s short 0 -32769\n", 4),
-    ("first set s short-be 0 32768\n", 4),
-    ("first set s long 0 -9223372036854775809\n", 4),
-    ("first add s byte 0 128\n", 4),
-    ("first add s long 1099511627777 0\n", 4),
-    ("first cas s long 1099511627777 0 0\n", 4),
-    ("first set s long 1099511627777 0\n", 4),
-    ("first fill s -1\n", 4),
-    ("First get s long 0\n", 4),
-    ("-1 get s long 0\n", 4),
-    ("first\tget s long 0\n", 4),
-    ("first\n", 4),
-    ("first get\n", 4),
-];
+/// Where lines behind a pool's line and `first open a shared`, `first alloc a s 8 8` are refused, and the lines, each
+/// ended by a bar. One text, since a prover goes through a table row by row.
+const BEHIND: &str = "\
+0\x20
+0 |#|# \u{7f}|
+4 # \u{e9}|
+0 first get s long 0
+4 first  get s long 0|
+4  first get s long 0|
+4 first get s long 0 |
+4 first get s long|
+4 first get s long 0 0|
+4 first got s long 0|
+4 first get s longer 0|
+4 first get s long-le 0|
+4 first get s long 00|
+4 first get s long +0|
+0 first get s long 1099511627776|
+4 first get s long 1099511627777|
+4 first get s long 0\r|
+0 16 get s long 0|
+4 17 get s long 0|
+4 0 get s long 0|
+4 01 get s long 0|
+0 first set s byte 0 127|
+4 first set s byte 0 128|
+0 first set s byte 0 -128|
+4 first set s byte 0 -129|
+0 first set s boolean 0 1|
+4 first set s boolean 0 2|
+4 first set s boolean 0 -1|
+0 first set s char 0 65535|
+4 first set s char 0 65536|
+0 first set s short 0 -32768|
+4 first set s short 0 32768|
+0 first set s int 0 2147483647|
+4 first set s int 0 2147483648|
+0 first set s long 0 9223372036854775807|
+4 first set s long 0 9223372036854775808|
+0 first set s long 0 -9223372036854775808|
+4 first set s long 0 -0|
+0 first fill s 255|
+4 first fill s 256|
+4 first open 1b shared|
+4 first open b share|
+4 first open a shared|
+4 first open s shared|
+4 first alloc s t 8 8|
+4 first alloc b t 8 8|
+4 first get a long 0|
+4 first get t long 0|1 alloc a t 8 8|
+0 1 alloc a t 8 8|1 get t long 0|last get t long 0|
+5 1 alloc a t 8 8|2 get t long 0|
+5 1 get s long 0|first get s long 0|
+5 last get s long 0|1 get s long 0|
+5 first hold a h|1 unhold h|
+0 first hold a h|last unhold h|
+6 first hold a h|first unhold h|first unhold h|
+5 first hold a h|first hold a k|first unhold h|
+4 first again a h|
+6 first open b auto|first back b|first again b h|
+0 first open b auto|first back b|first alive b|
+5 first open b auto|first again b h|first back b|
+0 first alloc a t 1099511627776 1099511627776|
+4 first alloc a t 1099511627777 8|
+4 first alloc a t 8 1099511627777|
+0 first slice s t 1099511627776 1099511627776|
+4 first slice s t 1099511627777 8|
+4 first slice s t 8 1099511627777|
+0 first set s int 0 -2147483648|
+4 first set s int 0 -2147483649|
+4 first cas s byte 0 0 128|
+4 first cas s byte 0 128 0|
+5 first hold a h|first back h|
+5 first open b auto|first unhold b|
+5 first open b auto|1 again b h|
+5 first open b auto|1 back b|
+0 first open b auto|last again b h|last back b|last back h|
+4 first open b auto|
+0 1 hold a h|1 unhold h|
+5 1 hold a h|last unhold h|
+0 # a||first get s long 0||#
+0 first open aaaaaaaaaaaaaaaaaaaaaaaaaaaaaaaaaaaaaaaaaaaaaaaaaaaaaaaaaaaaaaaa shared
+4 first open aaaaaaaaaaaaaaaaaaaaaaaaaaaaaaaaaaaaaaaaaaaaaaaaaaaaaaaaaaaaaaaaa shared
+5 1 alloc a t 8 8|2 alloc a t 8 8|
+5 last get s long 0|first get s long 0|
+4 first hold a s|first unhold s|
+5 first hold a h|first alive h|
+5 first hold a h|first get h long 0|
+4 first unhold s|
+4 first unhold a|
+4 first back a|
+6 first open b auto|first again b h|first alloc h t 8 8|
+5 first open b auto|first get b long 0|
+6 first open b auto|first back b|first back b|
+7 first open b auto|first again b h|first back h|first again h k|
+4 first slice a t 0 4|
+4 first readonly a t|
+4 first fill a 0|
+4 first copy s a|
+4 first copy a s|
+4 first mismatch s a|
+4 first alive s|
+4 first close s|
+4 first hold s h|
+4 last open b auto|
+5 # a|1 hold a h|
+4 first hold a h|1 hold a k|1 unhold k|
+6 1 hold a h|1 unhold h|2 hold a k|
+4 first hold a h
+4 first got s long 0
+4 first set s char 0 -1|
+0 first set s short 0 32767|
+4 first set s short 0 -32769|
+4 first set s short-be 0 32768|
+4 first set s long 0 -9223372036854775809|
+4 first add s byte 0 128|
+4 first add s long 1099511627777 0|
+4 first cas s long 1099511627777 0 0|
+4 first set s long 1099511627777 0|
+4 first fill s -1|
+4 First get s long 0|
+4 -1 get s long 0|
+4 first\tget s long 0|
+4 first|
+4 first get|";
 
 #[test]
 fn refuses_the_first_line_that_breaks_a_rule(rt: HostRuntime) -> Result<(), Fail> {
-    for (lines, at) in BEHIND {
+    for row in BEHIND.lines() {
+        let (at, lines) = row.split_once(' ').unwrap_or(("", row));
+        let lines = lines.replace(rt.alloc(), "|", "\n")?;
         let text = format!(in rt.alloc();
             "{POOL}first open a shared\nfirst alloc a s 8 8\n{lines}"
         )?;
         assert!(rt;
-            refused_at(rt.alloc(), text.as_str()) == Some(at),
-            "at {lines}"
+            refused_at(rt.alloc(), text.as_str()) == at.parse().ok(),
+            "at {row}"
         );
     }
     Ok(())
