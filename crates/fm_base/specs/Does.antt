@@ -1,5 +1,5 @@
 -- What each call of `Memory`, and of a pool beside, does: the caller's own entries and the answer. Cases in the order of the checks.
-use Rattle.std.specs.Prelude.{◌≡◌, ◌≢◌, ℕ, ◌-◌, ◌*◌, ◌^◌, ◌<◌, bit_and, bit_or, Bool, true, false, List, [], ◌∷◌, Option, Some, None, Result, Ok, Err}
+use Rattle.std.specs.Prelude.{◌≡◌, ◌≢◌, ℕ, ◌+◌, ◌-◌, ◌*◌, ◌^◌, ◌<◌, ◌≤◌, bit_and, bit_or, Bool, true, false, List, [], ◌∷◌, Option, Some, None, Result, Ok, Err}
 use Rattle.fm_base.specs.declared.caller.Caller.{Caller}
 use Rattle.fm_base.specs.declared.arena_id.ArenaId.{ArenaId}
 use Rattle.fm_base.specs.declared.kind.Kind.{Kind}
@@ -19,6 +19,13 @@ pub record CanReach (v : View) (word : ℕ) : Type 0 where
   pub inside : v.inside ≡ Some id
   pub given : 8 * word < given_in v id
 
+-- inside an arena, where so many words from this index on have given bytes alone
+pub record CanReachAll (v : View) (first count : ℕ) : Type 0 where
+  pub id : ArenaId
+  pub inside : v.inside ≡ Some id
+  pub given : 8 * first + 8 * count ≤ given_in v id
+  pub small : 8 * first + 8 * count ≤ 2 ^ 40
+
 -- an arena of this kind is closed by hand
 abbrev pub IsClosable : Kind → Type 0
 IsClosable kind = (kind ≢ Global) × (kind ≢ Automatic)
@@ -33,6 +40,11 @@ DoesEnter c id (Err r) own = ⊥
 abbrev pub DoesAct : Option ArenaId → Caller → (ArenaId → Call) → Reply → List Entry → Type 0
 DoesAct None c call reply own = ⊥
 DoesAct (Some id) c call reply own = own ≡ entry_of c (call id) reply ∷ []
+
+-- acts in the arena that the caller is inside
+abbrev pub DoesActs : Option ArenaId → Caller → (ArenaId → Acts) → List Entry → Type 0
+DoesActs None c acts own = ⊥
+DoesActs (Some id) c acts own = own ≡ entries_of c (acts id)
 
 -- the word, its bits under `mask` put to `bits`
 unfoldable pub patched : ℕ → ℕ → ℕ → ℕ
@@ -122,6 +134,9 @@ DidEnter old new id result = Did old new (DoesEnter old.caller id result)
 
 abbrev pub DidAct : View → View → (ArenaId → Call) → Reply → Type 0
 DidAct old new call reply = Did old new (DoesAct old.inside old.caller call reply)
+
+abbrev pub DidActs : View → View → (ArenaId → Acts) → Type 0
+DidActs old new acts = Did old new (DoesActs old.inside old.caller acts)
 
 abbrev pub DidPatch : View → View → ℕ → ℕ → ℕ → ℕ → Type 0
 DidPatch old new word mask bits found = Did old new (DoesPatch old.inside old.caller word mask bits found)

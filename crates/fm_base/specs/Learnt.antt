@@ -1,5 +1,5 @@
 -- What each call of a `Memory` asks for, and what its caller learns: one record each.
-use Rattle.std.specs.Prelude.{◌≡◌, ◌≢◌, ℕ, true, bit_and, Some, None, Result, Err, IfOk, IfErr}
+use Rattle.std.specs.Prelude.{◌≡◌, ◌≢◌, ℕ, List, true, bit_and, Some, None, Result, Err, IfOk, IfErr}
 use Rattle.fm_base.specs.declared.arena_id.ArenaId.{ArenaId}
 use Rattle.fm_base.specs.declared.kind.Kind.{Kind}
 use Rattle.fm_base.specs.declared.kind.Kind.TheVariants.{Automatic}
@@ -7,10 +7,11 @@ use Rattle.fm_base.specs.declared.refusal.Refusal.{Refusal}
 use Rattle.fm_base.specs.declared.refusal.Refusal.TheVariants.{NoSlot, PoolFull}
 use Rattle.fm_base.specs.Arenas.{Ended, has_arena, arena_of}
 use Rattle.fm_base.specs.Calls.{Call, Reply, Leave, Fine}
-use Rattle.fm_base.specs.Does.{CanReach, DidEnter, DidAct, DidPatch, DidOpen, DidAllocate, DidClose}
+use Rattle.fm_base.specs.Does.{CanReach, DidEnter, DidAct, DidActs, DidPatch, DidOpen, DidAllocate, DidClose}
 use Rattle.fm_base.specs.Finds.{is_slot, is_page}
 use Rattle.fm_base.specs.Outcomes.{Nature, MayCome, FoundNoneFree, IsNew, Gives, Lasts}
 use Rattle.fm_base.specs.View.{View, IsSound}
+use Rattle.fm_base.specs.Visits.{writes}
 
 -- ---- what is asked for
 
@@ -45,6 +46,11 @@ pub record AfterAct (old new : View) (call : ArenaId → Call) (reply : Reply) :
   pub inside : new.inside ≡ old.inside
   pub lasts : Lasts old new
   pub sound : IsSound new
+
+-- of `store_words`
+pub record AfterStores (old new : View) (first : ℕ) (words : List ℕ) : Type 0 where
+  pub did : DidActs old new (λ a. writes a first words)
+  pub inside : new.inside ≡ old.inside
 
 -- of `patch`
 pub record AfterPatch (old new : View) (word mask bits found : ℕ) : Type 0 where

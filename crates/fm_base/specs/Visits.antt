@@ -2,7 +2,8 @@
 use Rattle.std.specs.Prelude.{◌≡◌, ℕ, ◌+◌, ◌-◌, ◌%◌, min, List, [], ◌∷◌, ◌++◌}
 use Rattle.fm_base.specs.declared.caller.Caller.{Caller}
 use Rattle.fm_base.specs.declared.arena_id.ArenaId.{ArenaId}
-use Rattle.fm_base.specs.Calls.{Call, Enter, Read, SwapIf, Leave, Reply, Fine, Closed, Found, Entry, entry_of}
+use Rattle.std.proofs.Common.{suc}
+use Rattle.fm_base.specs.Calls.{Call, Enter, Read, Write, SwapIf, Leave, Reply, Fine, Closed, Found, Entry, entry_of}
 
 -- ---- visits
 
@@ -21,6 +22,11 @@ visit caller id acts = entry_of caller (Enter id) Fine ∷ entries_of caller act
 -- the caller found the arena closed
 abbrev pub refused_visit : Caller → ArenaId → List Entry
 refused_visit caller id = entry_of caller (Enter id) Closed ∷ []
+
+-- a Write of each of these words, the first at this index
+abbrev pub writes : ArenaId → ℕ → List ℕ → Acts
+writes id word [] = []
+writes id word (v ∷ vs) = (Write id word v, Fine) ∷ writes id (suc word) vs
 
 -- ---- tries
 

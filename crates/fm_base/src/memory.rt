@@ -1,8 +1,8 @@
-ghost use Rattle.std.specs.Prelude.{◌≡◌, IsSome};
+ghost use Rattle.std.specs.Prelude.{◌≡◌, IsSome, length};
 ghost use Rattle.fm_base.specs.Calls as machine;
 ghost use Rattle.fm_base.specs.View.{View, IsSound};
-ghost use Rattle.fm_base.specs.Does.{CanReach};
-ghost use Rattle.fm_base.specs.Learnt.{CanVisit, CanOpen, CanPatch, AfterEnter, AfterAct, AfterPatch, AfterLeave, AfterOpen, AfterAllocate, AfterClose};
+ghost use Rattle.fm_base.specs.Does.{CanReach, CanReachAll};
+ghost use Rattle.fm_base.specs.Learnt.{CanVisit, CanOpen, CanPatch, AfterEnter, AfterAct, AfterStores, AfterPatch, AfterLeave, AfterOpen, AfterAllocate, AfterClose};
 ghost use Rattle.fm_base.specs.Outcomes.{Nature};
 
 use crate::arena_id::ArenaId;
@@ -52,6 +52,18 @@ pub trait Memory {
         requires { CanReach (view self.old) word }
         ensures { AfterAct (view self.old) (view self.new)
             (λ a. machine.Write a word v) machine.Fine };
+
+    /// Puts these words, the first of them at the index `first`, one after the other.
+    ///
+    /// A memory that stores a word at a time needs no other body than this one.
+    fn store_words(&mut self, first: u64, words: &[u64])
+        requires { CanReachAll (view self.old) first (length words.now) }
+        ensures { AfterStores (view self.old) (view self.new) first words.now }
+    {
+        for k in 0..words.len() {
+            self.store(first + k as u64, words[k]);
+        }
+    }
 
     /// Puts `new` into the word where it is `old`, and answers the word found.
     fn swap_if(&mut self, word: u64, old: u64, new: u64) -> u64

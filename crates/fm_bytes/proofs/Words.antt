@@ -176,15 +176,20 @@ get_or-words_from (suc count) (suc w) bytes h =
     get_or-words_from count w (drop 8 bytes) (omega arith)
     ∙ ap (λ bs. number_of (take 8 bs)) (drop-drop (8 * w) 8 bytes ∙ ap (λ n. drop n bytes) e)
 
+-- The words of the bytes behind so many words come last.
+pub words_from-append : (count more : ℕ) (bytes : List ℕ) → words_from (count + more) bytes ≡ words_from count bytes ++ words_from more (drop (8 * count) bytes)
+unfolding words_from
+words_from-append zero more bytes = let e : zero + more ≡ more = omega arith in rw e refl
+words_from-append (suc count) more bytes =
+    let e : suc count + more ≡ suc (count + more) = omega arith in
+    let d : 8 + 8 * count ≡ 8 * suc count = omega arith in
+    rw e (ap (λ ws. number_of (take 8 bytes) ∷ ws) (words_from-append count more (drop 8 bytes)
+    ∙ ap (λ bs. words_from count (drop 8 bytes) ++ words_from more bs) (drop-drop (8 * count) 8 bytes ∙ ap (λ n. drop n bytes) d)))
+
 -- One word more.
 pub words_from-more : (count : ℕ) (bytes : List ℕ) → words_from (count + 1) bytes ≡ words_from count bytes ++ (number_of (take 8 (drop (8 * count) bytes)) ∷ [])
 unfolding words_from
-words_from-more zero bytes = refl
-words_from-more (suc count) bytes =
-    let e : suc count + 1 ≡ suc (count + 1) = omega arith in
-    let d : 8 + 8 * count ≡ 8 * suc count = omega arith in
-    rw e (ap (λ ws. number_of (take 8 bytes) ∷ ws) (words_from-more count (drop 8 bytes)
-    ∙ ap (λ bs. words_from count (drop 8 bytes) ++ (number_of (take 8 bs) ∷ [])) (drop-drop (8 * count) 8 bytes ∙ ap (λ n. drop n bytes) d)))
+words_from-more count bytes = words_from-append count 1 bytes
 
 -- Eight bytes and fewer make a word.
 pub number_of_eight : (bytes : List ℕ) → AreBytes bytes → number_of (take 8 bytes) < 2 ^ 64

@@ -5,3 +5,4 @@ pub mod Steps
 pub mod Opening
 pub mod Allotting
 pub mod Visits
+pub mod Storing

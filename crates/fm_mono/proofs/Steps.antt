@@ -1,89 +1,122 @@
 -- What the fields say of the arena that a call names.
-use Rattle.std.proofs.Common.{◌≡◌, ℕ, zero, suc, ◌*◌, ◌<◌, Bool, true, false, if◌then◌else◌, List, [], ◌∷◌, length, set, get_or, refl, ap, sym, ◌∙◌, subst, arith, Option, Some, None, ◌⊎◌, inl, inr, slice_get, slice_index, length-append}
+use Rattle.std.proofs.Common.{◌≡◌, ℕ, zero, suc, ◌+◌, ◌-◌, ◌*◌, ◌<◌, ◌≤◌, ◌++◌, replicate, Bool, true, false, if◌then◌else◌, List, [], ◌∷◌, length, set, get_or, refl, ap, sym, ◌∙◌, subst, arith, Option, Some, None, ◌⊎◌, inl, inr, slice_get, slice_index, length-append}
 use Rattle.std.specs.Prelude.{IsSome}
 use Rattle.std.proofs.lemmas.List.{get_or_append_left, set-append_left, length-set}
+use Rattle.std.proofs.lemmas.List.Edits.{sets}
+use Rattle.std.proofs.Math.Seq.{length-sets}
 use Rattle.std.proofs.lemmas.Option.{get_or_from_slice_get, slice_get_within}
 use Rattle.fm_base.specs.declared.arena_id.ArenaId.{ArenaId}
 use Rattle.fm_base.specs.Arenas.{owner_of, only_caller, State, Arena, Alive, Ended, arena_of, has_arena, changed, IsUnderWay}
-use Rattle.fm_base.specs.Machine.{entered, left, written, words_within, MayReach}
+use Rattle.fm_base.specs.Machine.{entered, left, words_within, MayReach}
 use Rattle.fm_mono.specs.declared.arena.MonoArena.{MonoArena}
 use Rattle.fm_mono.specs.Shown.{view_of, seen_of, inside_of, shown, shown_all, CountFrom, IsSoundMono, IsKept, IsThere, FitsIn, filled, GoesOut}
-use Rattle.fm_base.specs.Does.{CanReach}
+use Rattle.fm_base.specs.Does.{CanReach, CanReachAll}
 use Rattle.fm_base.proofs.Names.{same_id-self}
 use Rattle.fm_mono.proofs.Inside.{inside_of-set}
-use Rattle.fm_mono.proofs.Showing.{slot_at, lookup_shown, place_of, change_shown, CountFrom-set, enter_shown, leave_shown, nobody}
+use Rattle.fm_mono.proofs.Showing.{slot_at, lookup_shown, has_shown, place_of, change_shown, CountFrom-set, enter_shown, leave_shown, nobody}
 
--- a word of the arena that was entered
-pub record AtWord (limit : ℕ) (inside : Option ArenaId) (os : List MonoArena) (a : ArenaId) (word : ℕ) (o : MonoArena) : Type 0 where
-  pub id : o.id ≡ a
-  pub alive : o.is_alive ≡ true
-  pub within : word < length o.words.items
-  pub place : slice_get os a.slot ≡ Some o
-  pub looked : arena_of (shown_all limit inside os) a ≡ shown limit inside o
-
-pub at_word : (limit : ℕ) (inside : Option ArenaId) (os : List MonoArena) (a : ArenaId) (word : ℕ) (o : MonoArena) → IsSoundMono limit inside os
-    → inside ≡ Some a
-    → 8 * word < (arena_of (shown_all limit inside os) a).given → o ≡ get_or os a.slot o → AtWord limit inside os a word o
-at_word limit inside os a word o s i g r =
-    let t : IsThere (Some a) os = rw i at s.there in
-    let same : t.0 ≡ o = sym (get_or_from_slice_get os a.slot t.0 o t.1) ∙ sym r in
-    let h : slice_get os a.slot ≡ Some o = t.1 ∙ ap Some same in
-    let id : o.id ≡ a = rw same at t.2 in
-    let alive : o.is_alive ≡ true = rw same at t.3 in
-    let looked : arena_of (shown_all limit inside os) a ≡ shown limit inside o = ap (λ x. arena_of (shown_all limit inside os) x) (sym id)
-    ∙ lookup_shown limit inside 0 a.slot os o s.names h in
-    let given : 8 * word < o.given = rw looked at g in
-    let fit = s.fit a.slot o h in
-    let words = fit.words alive in
-    record { id = id; alive = alive; place = h; within = omega arith; looked = looked }
-
--- the words of an arena that is alive
-pub words_shown : (limit : ℕ) (inside : Option ArenaId) (o : MonoArena) → o.is_alive ≡ true
-    → (shown limit inside o).words ≡ filled (words_within limit) o.words.items
-words_shown limit inside o h = rw h refl
-
-pub word_shown : (limit : ℕ) (inside : Option ArenaId) (os : List MonoArena) (a : ArenaId) (word : ℕ) (o : MonoArena) → AtWord limit inside os a word o
-    → slice_index o.words.items word ≡ slice_index (arena_of (shown_all limit inside os) a).words word
-word_shown limit inside os a word o w =
-    rw (w.looked, words_shown limit inside o w.alive) (sym (get_or_append_left o.words.items _ 0 word w.within))
-
--- the arena that was entered, as an act reads it
-pub record IsActed (limit : ℕ) (inside : Option ArenaId) (current : ℕ) (os : List MonoArena) (word : ℕ) (o : MonoArena) : Type 0 where
+-- the arena that was entered
+pub record IsActed (limit : ℕ) (inside : Option ArenaId) (current : ℕ) (os : List MonoArena) (o : MonoArena) : Type 0 where
   pub id : ArenaId
   pub inside_is : inside ≡ Some id
   pub is_current : current ≡ id.slot
-  pub at : AtWord limit inside os id word o
+  pub named : o.id ≡ id
+  pub alive : o.is_alive ≡ true
+  pub place : slice_get os id.slot ≡ Some o
+  pub looked : arena_of (shown_all limit inside os) id ≡ shown limit inside o
+  pub fits : FitsIn limit o
 
-pub is_acted : (limit : ℕ) (inside : Option ArenaId) (current : ℕ) (os : List MonoArena) (word : ℕ) (o : MonoArena) → IsKept limit inside current os
-    → CanReach (view_of (seen_of limit inside os)) word → o ≡ get_or os current o → IsActed limit inside current os word o
-is_acted limit inside current os word o k r e =
-    let place : current ≡ r.id.slot = rw r.inside at k.place in
+is_acted : (limit : ℕ) (inside : Option ArenaId) (current : ℕ) (os : List MonoArena) (o : MonoArena) (id : ArenaId) → IsKept limit inside current os
+    → inside ≡ Some id → o ≡ get_or os current o → IsActed limit inside current os o
+is_acted limit inside current os o id k i e =
+    let s = k.arenas in
+    let place : current ≡ id.slot = rw i at k.place in
+    let t : IsThere (Some id) os = rw i at s.there in
+    let same : t.0 ≡ o = sym (get_or_from_slice_get os id.slot t.0 o t.1) ∙ sym (e ∙ ap (λ n. get_or os n o) place) in
+    let h : slice_get os id.slot ≡ Some o = t.1 ∙ ap Some same in
+    let named : o.id ≡ id = rw same at t.2 in
     record {
-      id = r.id;
-      inside_is = r.inside;
+      id = id;
+      inside_is = i;
       is_current = place;
-      at = at_word limit inside os r.id word o k.arenas r.inside r.given (e ∙ ap (λ n. get_or os n o) place);
+      named = named;
+      alive = rw same at t.3;
+      place = h;
+      looked = ap (λ x. arena_of (shown_all limit inside os) x) (sym named) ∙ lookup_shown limit inside 0 id.slot os o s.names h;
+      fits = s.fit id.slot o h;
     }
 
-pub reach_shown : (limit : ℕ) (inside : Option ArenaId) (os : List MonoArena) (a : ArenaId) (word : ℕ) (o : MonoArena) → inside ≡ Some a
-    → AtWord limit inside os a word o
-    → MayReach (shown_all limit inside os) only_caller a word
-reach_shown limit inside os a word o i w = record {
-  under_way = rw (w.looked, w.id, i, same_id-self a) (0, omega arith, refl);
-  within = rw (w.looked, words_shown limit inside o w.alive) (rw length-append (let x = w.within in omega arith));
-}
+-- the words of an arena that is alive
+words_shown : (limit : ℕ) (inside : Option ArenaId) (o : MonoArena) → o.is_alive ≡ true
+    → (shown limit inside o).words ≡ filled (words_within limit) o.words.items
+words_shown limit inside o h = rw h refl
 
--- a write of the word
-pub put_shown : (limit : ℕ) (inside : Option ArenaId) (os : List MonoArena) (a : ArenaId) (word v : ℕ) (o o' : MonoArena) → IsSoundMono limit inside os
-    → AtWord limit inside os a word o
-    → o'.id ≡ o.id → o'.is_alive ≡ o.is_alive → o'.given ≡ o.given → o'.words.items ≡ set o.words.items word v
-    → shown_all limit inside (set os a.slot o') ≡ changed (shown_all limit inside os) a (written word v)
-put_shown limit inside os a word v o o' s w id alive given words =
+module _ {limit : ℕ} {inside : Option ArenaId} {current : ℕ} {os : List MonoArena} {o : MonoArena} (h : IsActed limit inside current os o) where
+  -- The words with a given byte are there.
+  there_if_given : (n : ℕ) → 8 * n < (arena_of (shown_all limit inside os) h.id).given + 8 → n ≤ length o.words.items
+  there_if_given n g =
+      let given : 8 * n < o.given + 8 = rw h.looked at g in
+      let words = h.fits.words h.alive in
+      omega arith
+
+  pub word_shown : (word : ℕ) → word < length o.words.items
+      → slice_index o.words.items word ≡ slice_index (arena_of (shown_all limit inside os) h.id).words word
+  word_shown word within = rw (h.looked, words_shown limit inside o h.alive) (sym (get_or_append_left o.words.items _ 0 word within))
+
+  pub way_shown : IsUnderWay (shown_all limit inside os) only_caller h.id
+  way_shown = rw (h.looked, h.named, h.inside_is, same_id-self h.id) (0, omega arith, refl)
+
+  pub known_shown : CountFrom 0 os → has_arena (shown_all limit inside os) h.id ≡ true
+  known_shown c = subst (λ (x : ArenaId). has_arena (shown_all limit inside os) x ≡ true) h.named (has_shown limit inside 0 h.id.slot os o c h.place)
+
+  pub within_shown : (n : ℕ) → n ≤ length o.words.items → n ≤ length (arena_of (shown_all limit inside os) h.id).words
+  within_shown n within = rw (h.looked, words_shown limit inside o h.alive) (rw length-append (omega arith))
+
+  pub reach_shown : (word : ℕ) → word < length o.words.items → MayReach (shown_all limit inside os) only_caller h.id word
+  reach_shown word within = record { under_way = way_shown; within = (let w = within_shown (word + 1) (omega arith) in omega arith) }
+
+-- the arena that was entered has the words that can be reached
+pub acts_on : (limit : ℕ) (inside : Option ArenaId) (current : ℕ) (os : List MonoArena) (o : MonoArena) (first count : ℕ) → IsKept limit inside current os
+    → CanReachAll (view_of (seen_of limit inside os)) first count → o ≡ get_or os current o
+    → (h : IsActed limit inside current os o) × (first + count ≤ length o.words.items)
+unfolding is_acted
+acts_on limit inside current os o first count k r e =
+    let h = is_acted limit inside current os o r.id k r.inside e in
+    let given : 8 * first + 8 * count ≤ (arena_of (shown_all limit inside os) r.id).given = r.given in
+    let more : 8 * (first + count) < (arena_of (shown_all limit inside os) r.id).given + 8 = omega arith in
+    (h, there_if_given h (first + count) more)
+
+-- the same of one word
+pub acts_at : (limit : ℕ) (inside : Option ArenaId) (current : ℕ) (os : List MonoArena) (o : MonoArena) (word : ℕ) → IsKept limit inside current os
+    → CanReach (view_of (seen_of limit inside os)) word → o ≡ get_or os current o
+    → (h : IsActed limit inside current os o) × (word < length o.words.items)
+unfolding is_acted
+acts_at limit inside current os o word k r e =
+    let h = is_acted limit inside current os o r.id k r.inside e in
+    let given : 8 * word < (arena_of (shown_all limit inside os) r.id).given = r.given in
+    let more : 8 * (word + 1) < (arena_of (shown_all limit inside os) r.id).given + 8 = omega arith in
+    (h, (let within = there_if_given h (word + 1) more in omega arith))
+
+-- these words put one after the other, the first at this index
+abbrev pub written_all : ℕ → List ℕ → Arena → Arena
+written_all first vs a = record a { words = sets a.words first vs }
+
+sets-append : (vs xs zs : List ℕ) (first : ℕ) → first + length vs ≤ length xs → sets (xs ++ zs) first vs ≡ sets xs first vs ++ zs
+sets-append [] xs zs first h = refl
+sets-append (v ∷ vs) xs zs first h =
+    ap (λ ws. sets ws (suc first) vs) (set-append_left xs zs first v (omega arith))
+    ∙ sets-append vs (set xs first v) zs (suc first) (rw length-set (omega arith))
+
+-- what is shown where words are put
+words_put : (limit : ℕ) (inside : Option ArenaId) (first : ℕ) (vs : List ℕ) (o o' : MonoArena) → o.is_alive ≡ true
+    → first + length vs ≤ length o.words.items
+    → o'.id ≡ o.id → o'.is_alive ≡ o.is_alive → o'.given ≡ o.given → o'.words.items ≡ sets o.words.items first vs
+    → shown limit inside o' ≡ written_all first vs (shown limit inside o)
+words_put limit inside first vs o o' alive within id same given words =
     let n = words_within limit in
-    let fills : filled n o'.words.items ≡ set (filled n o.words.items) word v = rw (words, length-set, set-append_left o.words.items _ word v w.within) refl in
-    let e : shown limit inside o' ≡ written word v (shown limit inside o) = rw (id, alive, given, w.alive, fills) refl in
-    subst (λ (x : ArenaId). shown_all limit inside (set os a.slot o') ≡ changed (shown_all limit inside os) x (written word v)) w.id
-    (change_shown limit inside (written word v) 0 a.slot os o o' s.names w.place e)
+    let fills : filled n o'.words.items ≡ sets (filled n o.words.items) first vs =
+    rw (words, length-sets) (sym (sets-append vs o.words.items (replicate (n - length o.words.items) 0) first within)) in
+    rw (id, same, given, alive, fills) refl
 
 -- an element after a write
 set_cases : {X : Type 0} (xs : List X) (k i : ℕ) (x p : X) → slice_get (set xs k x) i ≡ Some p → (p ≡ x) ⊎ (slice_get xs i ≡ Some p)
@@ -126,33 +159,46 @@ sound_set limit inside os k o o' s h id alive fit = record {
   there = there_set inside os k o o' h id alive s.there;
 }
 
--- a word is put in the arena that was entered
-pub put_kept : (limit : ℕ) (b : Bool) (current : ℕ) (os : List MonoArena) (word v : ℕ) (o o' : MonoArena) → IsKept limit (inside_of b current os) current os
-    → (h : IsActed limit (inside_of b current os) current os word o)
-    → o'.id ≡ o.id → o'.is_alive ≡ o.is_alive → o'.given ≡ o.given → o'.words.items ≡ set o.words.items word v
+-- the arena that was entered is altered, and keeps its name, its life, its given count and the number of its words
+alter_kept : (limit : ℕ) (b : Bool) (current : ℕ) (os : List MonoArena) (f : Arena → Arena) (o o' : MonoArena)
+    → IsKept limit (inside_of b current os) current os
+    → (h : IsActed limit (inside_of b current os) current os o)
+    → o'.id ≡ o.id → o'.is_alive ≡ o.is_alive → o'.given ≡ o.given → length o'.words.items ≡ length o.words.items
+    → shown limit (inside_of b current os) o' ≡ f (shown limit (inside_of b current os) o)
     → (seen_of limit (inside_of b current (set os current o')) (set os current o') ≡ record {
       limit = limit;
-      state = changed (shown_all limit (inside_of b current os) os) h.id (written word v);
+      state = changed (shown_all limit (inside_of b current os) os) h.id f;
       inside = inside_of b current os;
     }) × IsKept limit (inside_of b current (set os current o')) current (set os current o')
-put_kept limit b current os word v o o' k h id alive given words =
-    let f = k.arenas.fit h.id.slot o h.at.place in
-    let same : length o'.words.items ≡ length o.words.items = ap length words ∙ length-set o.words.items word v in
+alter_kept limit b current os f o o' k h id alive given same e =
+    let i = inside_of b current os in
+    let at : slice_get os current ≡ Some o = subst (λ (n : ℕ). slice_get os n ≡ Some o) (sym h.is_current) h.place in
     let fit : FitsIn limit o' = record {
-      given = rw given f.given;
-      words = λ l. same ∙ f.words h.at.alive ∙ ap words_within (sym given);
-      freed = λ l. absurd (cc (l, alive, h.at.alive));
+      given = rw given h.fits.given;
+      words = λ l. same ∙ h.fits.words h.alive ∙ ap words_within (sym given);
+      freed = λ l. absurd (cc (l, alive, h.alive));
     } in
-    let kept : IsSoundMono limit (inside_of b current os) (set os h.id.slot o') =
-    sound_set limit (inside_of b current os) os h.id.slot o o' k.arenas h.at.place id alive fit in
-    let at : slice_get os current ≡ Some o = subst (λ (n : ℕ). slice_get os n ≡ Some o) (sym h.is_current) h.at.place in
-    let shown : shown_all limit (inside_of b current os) (set os current o') ≡ changed (shown_all limit (inside_of b current os) os) h.id (written word v) =
-    subst (λ (n : ℕ). shown_all limit (inside_of b current os) (set os n o') ≡ changed (shown_all limit (inside_of b current os) os) h.id (written word v))
-    (sym h.is_current) (put_shown limit (inside_of b current os) os h.id word v o o' k.arenas h.at id alive given words) in
+    let shown : shown_all limit i (set os current o') ≡ changed (shown_all limit i os) h.id f =
+    subst (λ (x : ArenaId). shown_all limit i (set os current o') ≡ changed (shown_all limit i os) x f) h.named
+    (change_shown limit i f 0 current os o o' k.arenas.names at e) in
     rw (inside_of-set b current current os o o' at id) (
-      ap (λ (s : State). record { limit = limit; state = s; inside = inside_of b current os }) shown,
-      record { arenas = subst (λ (n : ℕ). IsSoundMono limit (inside_of b current os) (set os n o')) (sym h.is_current) kept; place = k.place },
+      ap (λ (s : State). record { limit = limit; state = s; inside = i }) shown,
+      record { arenas = sound_set limit i os current o o' k.arenas at id alive fit; place = k.place },
     )
+
+-- words are put in the arena that was entered
+pub put_kept : (limit : ℕ) (b : Bool) (current : ℕ) (os : List MonoArena) (first : ℕ) (vs : List ℕ) (o o' : MonoArena)
+    → IsKept limit (inside_of b current os) current os
+    → (h : IsActed limit (inside_of b current os) current os o) → first + length vs ≤ length o.words.items
+    → o'.id ≡ o.id → o'.is_alive ≡ o.is_alive → o'.given ≡ o.given → o'.words.items ≡ sets o.words.items first vs
+    → (seen_of limit (inside_of b current (set os current o')) (set os current o') ≡ record {
+      limit = limit;
+      state = changed (shown_all limit (inside_of b current os) os) h.id (written_all first vs);
+      inside = inside_of b current os;
+    }) × IsKept limit (inside_of b current (set os current o')) current (set os current o')
+put_kept limit b current os first vs o o' k h within id alive given words =
+    alter_kept limit b current os (written_all first vs) o o' k h id alive given (ap length words ∙ length-sets o.words.items first vs)
+    (words_put limit (inside_of b current os) first vs o o' h.alive within id alive given words)
 
 -- the place of an arena that is known
 pub record IsPlaced (limit : ℕ) (inside : Option ArenaId) (os : List MonoArena) (a : ArenaId) : Type 0 where

@@ -52,10 +52,10 @@ impl Mono {
 }
 
 impl Mono {
-    ghost use Rattle.std.specs.Prelude.{◌≡◌, ◌≤◌, ◌^◌, true, Some, None, IsSome, if◌then◌else◌};
+    ghost use Rattle.std.specs.Prelude.{◌≡◌, ◌≤◌, ◌^◌, true, Some, None, IsSome, length, if◌then◌else◌};
     ghost use Rattle.fm_base.specs.Arenas.{only_caller, Alive, Ended, has_arena, arena_of, changed};
-    ghost use Rattle.fm_base.specs.Does.{CanReach};
-    ghost use Rattle.fm_base.specs.Learnt.{CanVisit};
+    ghost use Rattle.fm_base.specs.Does.{CanReach, CanReachAll};
+    ghost use Rattle.fm_base.specs.Learnt.{CanVisit, AfterStores};
     ghost use Rattle.fm_base.specs.Machine.{entered};
     ghost use Rattle.fm_mono.specs.Shown.{view_of, CanEnter, Finds, Puts, GoesOut};
 
@@ -73,6 +73,16 @@ impl Mono {
     {
         let arena = &mut self.arenas[self.current];
         arena.words[word as usize] = v;
+    }
+
+    /// Puts many words at once.
+    fn put_words(&mut self, first: u64, words: &[u64])
+        requires { CanReachAll (view_of self.old) first (length words.now) }
+        ensures { AfterStores (view_of self.old) (view_of self.new) first words.now }
+    {
+        let first = first as usize;
+        let arena = &mut self.arenas[self.current];
+        arena.words[first..first + words.len()].copy_from_slice(words);
     }
 
     fn is_alive(&self, a: ArenaId) -> bool

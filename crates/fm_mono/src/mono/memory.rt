@@ -33,6 +33,10 @@ impl Memory for Mono {
         self.put(word, v);
     }
 
+    fn store_words(&mut self, first: u64, words: &[u64]) {
+        self.put_words(first, words);
+    }
+
     fn swap_if(&mut self, word: u64, old: u64, new: u64) -> u64 {
         let found = self.word(word);
         if found == old {
