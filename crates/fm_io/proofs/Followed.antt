@@ -1,22 +1,16 @@
 -- Reads of a file that follow one another.
 use Rattle.std.proofs.Common.{◌≡◌, ℕ, ◌+◌, ◌≤◌, List, [], ◌∷◌, ◌++◌, Option, None, Some, Result, refl, ap, sym, subst, ◌∙◌, append_assoc, arith, ◌-◌, length, take, drop, length-drop}
 use Rattle.std.proofs.Math.Seq.{take-length}
+use Rattle.std.proofs.lemmas.List.{append-nil}
 use Rattle.std.specs.Option.{option_map}
 use Rattle.fm_io.specs.declared.fault.Fault.{Fault}
 use Rattle.fm_io.specs.declared.files.Piece.{Piece}
 use Rattle.fm_io.specs.Reads.{Read, read, ReadsOn, next_by, Next, At, Ended, Stopped, Follow, next_after, ReadsFile}
 
 -- no read, and what was told stays
-nothing_more : (told : Option (List Read)) → (ys : List Read → List Read) → ((xs : List Read) → ys xs ≡ xs) → told ≡ option_map ys told
-nothing_more None ys same = refl
-nothing_more (Some xs) ys same = ap Some (sym (same xs))
-
-append-nil : (xs : List Read) → xs ++ [] ≡ xs
-append-nil [] = refl
-append-nil (x ∷ xs) = ap (λ ys. x ∷ ys) (append-nil xs)
-
 pub ReadsOn-none : (told : Option (List Read)) → ReadsOn told told []
-ReadsOn-none told = nothing_more told (λ before. before ++ []) append-nil
+ReadsOn-none None = refl
+ReadsOn-none (Some xs) = ap Some (sym (append-nil xs))
 
 -- what was read in two parts was read
 pub ReadsOn-append : (old mid new : Option (List Read)) (xs ys : List Read) → ReadsOn old mid xs → ReadsOn mid new ys → ReadsOn old new (xs ++ ys)
@@ -88,16 +82,19 @@ Follow-wider name most end more later (At place) (r ∷ rs) wide late follow =
       Follow-wider name most end more later (next_by place r.answer) rs wide late follow.1,
     )
 
--- one read more, where bytes came up to its place
-pub ReadsFile-on : (old mid new : Option (List Read)) (name : List ℕ) (most end from place room : ℕ) (answer : Result Piece Fault) (Goes : Next → Type 0)
-    → ReadsFile old mid name most end from (λ next. next ≡ At place) → ReadsOn mid new (read name place room answer ∷ []) → room ≤ most → place + room ≤ end
-    → Goes (next_by place answer) → ReadsFile old new name most end from Goes
-ReadsFile-on old mid new name most end from place room answer Goes first noted small within goes =
-    ReadsFile-append old mid new name most end from place Goes first (ReadsFile-one mid new name most end place room answer Goes noted small within goes)
-
 -- the room that is left in a buffer behind its first n bytes
-pub room_left : (n : ℕ) (buffer : List ℕ) → length (take (length buffer - n) (drop n buffer)) ≡ length buffer - n
+room_left : (n : ℕ) (buffer : List ℕ) → length (take (length buffer - n) (drop n buffer)) ≡ length buffer - n
 room_left n buffer = ap (λ k. length (take k (drop n buffer))) (sym (length-drop n buffer)) ∙ ap length (take-length (drop n buffer)) ∙ length-drop n buffer
+
+-- one read more, into that room
+pub ReadsFile-more : {old mid new : Option (List Read)} {name : List ℕ} {size from n : ℕ} (buffer : List ℕ) (answer : Result Piece Fault) (Goes : Next → Type 0)
+    → ReadsFile old mid name size (from + size) from (λ next. next ≡ At (from + n)) → n ≤ length buffer → length buffer ≡ size
+    → ReadsOn mid new (read name (from + n) (length (take (length buffer - n) (drop n buffer))) answer ∷ []) → Goes (next_by (from + n) answer)
+    → ReadsFile old new name size (from + size) from Goes
+ReadsFile-more {old} {mid} {new} {name} {size} {from} {n} buffer answer Goes first within sized noted goes =
+    let left = room_left n buffer in
+    ReadsFile-append old mid new name size (from + size) from (from + n) Goes first
+    (ReadsFile-one mid new name size (from + size) (from + n) _ answer Goes noted (omega (arith, left)) (omega (arith, left)) goes)
 
 -- a weaker thing is said of where the next read would begin, and wider bounds of its room
 pub ReadsFile-wider : (old new : Option (List Read)) (name : List ℕ) (most end more later from : ℕ) (Goes Says : Next → Type 0)

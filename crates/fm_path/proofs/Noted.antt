@@ -8,7 +8,7 @@ use Rattle.std.specs.Ordering.{nat_cmp}
 use Rattle.std.proofs.lemmas.Bool.{ne_eqb}
 use Rattle.std.proofs.lemmas.Map.Text.{is_eq-slice_cmp}
 use Rattle.std.proofs.lemmas.Slice.Eq.{bytes_eq-Decides}
-use Rattle.fm_layout.specs.Tree.{Tree, Trees, Value, Padding, Sequence, Struct, Union, NoMore, More, name_of}
+use Rattle.fm_layout.specs.Tree.{Tree, Trees, Struct, Union, NoMore, More, name_of}
 use Rattle.fm_layout.specs.Parts.{tree_at, member_of}
 use Rattle.fm_path_text.specs.declared.step.PathStep.TheVariants.{Name, Group}
 use Rattle.fm_path_meaning.specs.Follow.{members_of, is_name_of, index_named, index_in}
@@ -32,10 +32,7 @@ pub record HasNoted (names : Names) (t : Tree) (i : ℕ) : Type 0 where
 -- no member is named before the first
 none_before : (name : List ℕ) (t : Tree) → named_in name 0 (members_of t) ≡ false
 none_before name (Struct ms l) = refl
-none_before name (Union ms l) = refl
-none_before name (Value k o l) = refl
-none_before name (Padding n l) = refl
-none_before name (Sequence n e l) = refl
+none_before name t = refl
 
 -- before the first member no name was noted
 pub note_start : (names : Names) (t : Tree) → IsEmpty names → HasNoted names t 0
@@ -59,9 +56,7 @@ more_in : (name : List ℕ) (i : ℕ) (t u : Tree) → member_of i t ≡ Some u
     → named_in name (i + 1) (members_of t) ≡ (is_name_of (name_of u) name || named_in name i (members_of t))
 more_in name i (Struct ms l) u e = let s : i + 1 ≡ suc i = omega arith in ap (λ n. named_before name n ms) s ∙ before_more name i ms u e
 more_in name i (Union ms l) u e = let s : i + 1 ≡ suc i = omega arith in ap (λ n. named_before name n ms) s ∙ before_more name i ms u e
-more_in name i (Value k o l) u e = absurd (cc)
-more_in name i (Padding n l) u e = absurd (cc)
-more_in name i (Sequence n x l) u e = absurd (cc)
+more_in name i t u e = absurd (cc)
 
 -- one more name was noted
 pub note_more : (old new : Names) (t u : Tree) (i : ℕ) → HasNoted old t i → member_of i t ≡ Some u → Notes old new (name_of u) → HasNoted new t (i + 1)
@@ -100,9 +95,7 @@ first_in : (name : List ℕ) (i : ℕ) (t u : Tree) → member_of i t ≡ Some u
     → is_index i (index_in name (members_of t)) ≡ not (named_in name i (members_of t))
 first_in name i (Struct ms l) u e n = let s : i ≡ 0 + i = omega arith in ap (λ m. is_index m (index_named name 0 ms)) s ∙ first_at name 0 i ms u e n
 first_in name i (Union ms l) u e n = let s : i ≡ 0 + i = omega arith in ap (λ m. is_index m (index_named name 0 ms)) s ∙ first_at name 0 i ms u e n
-first_in name i (Value k o l) u e n = absurd (cc)
-first_in name i (Padding m l) u e n = absurd (cc)
-first_in name i (Sequence m x l) u e n = absurd (cc)
+first_in name i t u e n = absurd (cc)
 
 -- so the step by it is the step to the member
 pub step_is : (names : Names) (first : Bool) (t u : Tree) (i : ℕ) → HasNoted names t i → member_of i t ≡ Some u → first ≡ is_new names (name_of u)

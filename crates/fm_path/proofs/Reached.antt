@@ -3,7 +3,7 @@ use Rattle.std.proofs.Common.{◌≡◌, refl, sym, ap, subst, ℕ, zero, suc, �
 use Rattle.std.proofs.lemmas.List.{append_assoc, append-nil}
 use Rattle.fm_lanes.specs.declared.order.Order.{Order}
 use Rattle.fm_lanes.specs.declared.value_kind.ValueKind.{ValueKind}
-use Rattle.fm_layout.specs.Tree.{Label, Tree, Trees, Value, Padding, Sequence, Struct, Union, NoMore, More}
+use Rattle.fm_layout.specs.Tree.{Label, Tree, Trees, Value, Sequence, Struct, Union, NoMore, More}
 use Rattle.fm_layout.specs.Size.{size_of, sum_before, member_offset}
 use Rattle.fm_layout.specs.Parts.{form_of, tree_at, IsValue}
 use Rattle.fm_lists.specs.Among.{IsAmong}
@@ -24,8 +24,7 @@ line path at dims k o = record { path = path; offset = at; dims = dims; kind = k
 -- lines of equal parts are equal
 same_line : (path path' : List PathStep) (at at' : ℕ) (dims dims' : List (ℕ × ℕ)) (k : ValueKind) (o : Order) → path ≡ path' → at ≡ at' → dims ≡ dims'
     → line path at dims k o ≡ line path' at' dims' k o
-same_line path path' at at' dims dims' k o e f g =
-    ap (λ x. line x at dims k o) e ∙ ap (λ x. line path' x dims k o) f ∙ ap (λ x. line path' at' x k o) g
+same_line path path' at at' dims dims' k o e f g = cc
 
 -- a line below this layout, whose path goes on from the one that leads here, comes at some indices to the value at these steps
 record IsReached (path : List PathStep) (at : ℕ) (dims : List (ℕ × ℕ)) (t : Tree) (ss : List Step) (a : ℕ) (k : ValueKind) (o : Order) : Type 0 where
@@ -142,13 +141,7 @@ reached (Member i ∷ ss) (Union ms lab) a k o b path at dims h =
     let s = union_member i ms h.0 h.2 h.3 in
     in_member path at dims (Union ms lab) h.2 ms i ss a h.1 k o refl s.0 refl (h.5 ∙ ap (λ x. x + h.1) s.1)
     (reached ss h.2 h.1 k o b (path ++ step_to (Union ms lab) i h.2 ∷ []) (at + 0) dims h.4)
-reached (Element i ∷ ss) (Value v w c) a k o b path at dims h = absurd h.3
-reached (Element i ∷ ss) (Padding n c) a k o b path at dims h = absurd h.3
-reached (Element i ∷ ss) (Struct ms c) a k o b path at dims h = absurd h.3
-reached (Element i ∷ ss) (Union ms c) a k o b path at dims h = absurd h.3
-reached (Member i ∷ ss) (Value v w c) a k o b path at dims h = absurd h.3
-reached (Member i ∷ ss) (Padding n c) a k o b path at dims h = absurd h.3
-reached (Member i ∷ ss) (Sequence n e c) a k o b path at dims h = absurd h.3
+reached (s ∷ ss) t a k o b path at dims h = absurd h.3
 
 -- Each value has a line that comes to it.
 pub value_has_line : (t : Tree) (p : Place) → IsAmong p (places t) → IsValue p.layout → (l : Line) × IsAmong l (lines [] 0 [] t) × Shows t l p
@@ -168,7 +161,4 @@ value_has_line t p h v = go p.layout refl v
             form = ap form_of e;
           },
         )
-    go (Padding n b) e v = absurd v
-    go (Sequence n x b) e v = absurd v
-    go (Struct ms b) e v = absurd v
-    go (Union ms b) e v = absurd v
+    go u e v = absurd v

@@ -1,8 +1,8 @@
 -- What the pass over a path comes to is what a resolved path is.
-use Rattle.std.proofs.Common.{◌≡◌, ap, ◌∙◌, ℕ, ◌%◌, List, arith}
+use Rattle.std.proofs.Common.{◌≡◌, ap, ◌∙◌, ℕ, ◌%◌, ◌^◌, ◌≤◌, List, arith}
 use Rattle.std.specs.Int.{IsPowerOfTwo}
 use Rattle.fm_lanes.specs.Kind.{width_of}
-use Rattle.fm_layout.specs.Tree.{Tree, Value, Padding, Sequence, Struct, Union, alignment_of}
+use Rattle.fm_layout.specs.Tree.{Tree, Value, alignment_of}
 use Rattle.fm_layout.specs.Size.{size_of}
 use Rattle.fm_layout.specs.WellFormed.{IsWellFormed}
 use Rattle.fm_layout.proofs.Powers.{is_power_of_two-IsPowerOfTwo}
@@ -19,18 +19,16 @@ use Rattle.fm_path.specs.Resolution.{resolution, StaysInside, StandsAligned, IsS
 -- a value layout is as large as its kind is wide
 spec_size : (u : Tree) (v : ValueSpec) → IsSpecOf u v → width_of v.kind ≡ size_of u
 spec_size (Value k o l) v s = ap width_of s.0
-spec_size (Padding n l) v s = absurd s
-spec_size (Sequence n e l) v s = absurd s
-spec_size (Struct ms l) v s = absurd s
-spec_size (Union ms l) v s = absurd s
+spec_size u v s = absurd s
 
 -- a value layout's alignment
 spec_alignment : (u : Tree) (v : ValueSpec) → IsSpecOf u v → v.alignment ≡ alignment_of u
 spec_alignment (Value k o l) v s = s.2
-spec_alignment (Padding n l) v s = absurd s
-spec_alignment (Sequence n e l) v s = absurd s
-spec_alignment (Struct ms l) v s = absurd s
-spec_alignment (Union ms l) v s = absurd s
+spec_alignment u v s = absurd s
+
+-- a layout's size is within the limit
+pub size_small : (t : Tree) → IsWellFormed t → size_of t ≤ 2 ^ 40
+size_small t well = (fit_of t well).size
 
 -- a value that stands aligned, whose layout's alignment is a power of two
 stands_aligned : (at n m a b : ℕ) → n ≡ a → m ≡ b → IsPowerOfTwo a × (at % a ≡ 0) × (b % a ≡ 0) → StandsAligned at n m
@@ -44,7 +42,7 @@ stays_inside path t offset dims u v n a well l s e d = record {
       (leads_aligned path t offset dims u well l is h);
   steady = λ is h. leads_steady path t offset dims u well l is h;
   inside = λ is h. omega (arith, leads_inside path t offset dims u well l is h, spec_size u v s, e);
-  small = omega (arith, e, (fit_of t well).size);
+  small = omega (arith, e, size_small t well);
   power = (let p = (fit_of t well).power in (p.0, d ∙ p.1));
 }
 

@@ -1,9 +1,9 @@
 -- The text of a group's values is that of its members, one after the other.
 use Rattle.std.proofs.Common.{◌≡◌, refl, sym, ap, ℕ, zero, suc, ◌+◌, ◌*◌, ◌^◌, ◌<◌, ◌≤◌, Option, Some, None, List, [], ◌++◌, length, arith, ◌∙◌}
 use Rattle.std.proofs.lemmas.List.{append_assoc, append-nil}
-use Rattle.fm_layout.specs.Tree.{Tree, Trees, Value, Padding, Sequence, Struct, Union, NoMore, More}
+use Rattle.fm_layout.specs.Tree.{Tree, Trees, Sequence, Struct, Union, NoMore, More}
 use Rattle.fm_layout.specs.Size.{member_offset}
-use Rattle.fm_layout.specs.Parts.{tree_at, member_of, element_of}
+use Rattle.fm_layout.specs.Parts.{tree_at, count_of, member_of, element_of}
 use Rattle.fm_layout.specs.WellFormed.{IsWellFormed}
 use Rattle.fm_layout.specs.Depth.{depth, deepest}
 use Rattle.fm_path_text.specs.Grammar.{piece_of}
@@ -27,9 +27,7 @@ starts : (path : List ℕ) (at : ℕ) (dims : List ℕ) (t : Tree) (count : ℕ)
     → text_past path at dims t 0 (members_of t) ≡ listed path at dims t
 starts path at dims (Struct ms l) count e = ap (listed_members path at dims (Struct ms l) 0) (skip_none ms)
 starts path at dims (Union ms l) count e = ap (listed_members path at dims (Union ms l) 0) (skip_none ms)
-starts path at dims (Value k o l) count e = absurd (cc)
-starts path at dims (Padding n l) count e = absurd (cc)
-starts path at dims (Sequence n x l) count e = absurd (cc)
+starts path at dims t count e = absurd (cc)
 
 -- before the first member nothing was listed
 pub list_start : (before path : List ℕ) (at : ℕ) (dims : List ℕ) (t : Tree) (count : ℕ) → Some count ≡ count_in (members_of t)
@@ -43,38 +41,22 @@ list_start before path at dims t count e = record {
 goes_on : (path : List ℕ) (at : ℕ) (dims : List ℕ) (t u : Tree) (i : ℕ) → member_of i t ≡ Some u
     → text_past path at dims t i (members_of t) ≡ listed (path ++ piece_of (step_to t i u)) (at + member_offset i t) dims u ++ text_past path at dims t
     (i + 1) (members_of t)
-goes_on path at dims (Struct ms l) u i e =
-    let s : suc i ≡ i + 1 = omega arith in
-    ap (listed_members path at dims (Struct ms l) i) (skip_more i ms u e)
-    ∙ ap (λ n. listed (path ++ piece_of (step_to (Struct ms l) i u)) (at + member_offset i (Struct ms l)) dims u ++ listed_members path at dims (Struct ms l)
-    (i + 1) (skip n ms)) s
-goes_on path at dims (Union ms l) u i e =
-    let s : suc i ≡ i + 1 = omega arith in
-    ap (listed_members path at dims (Union ms l) i) (skip_more i ms u e)
-    ∙ ap (λ n. listed (path ++ piece_of (step_to (Union ms l) i u)) (at + member_offset i (Union ms l)) dims u ++ listed_members path at dims (Union ms l)
-    (i + 1) (skip n ms)) s
-goes_on path at dims (Value k o l) u i e = absurd (cc)
-goes_on path at dims (Padding n l) u i e = absurd (cc)
-goes_on path at dims (Sequence n x l) u i e = absurd (cc)
+goes_on path at dims (Struct ms l) u i e = ap (listed_members path at dims (Struct ms l) i) (skip_more i ms u e)
+goes_on path at dims (Union ms l) u i e = ap (listed_members path at dims (Union ms l) i) (skip_more i ms u e)
+goes_on path at dims t u i e = absurd (cc)
 
 -- the next member stands behind this one
 offset_on : (t u : Tree) (i : ℕ) → IsWellFormed t → member_of i t ≡ Some u → member_offset (i + 1) t ≡ member_offset i t + extent_of t u
 offset_on (Struct ms l) u i w e = (offset_more (Struct ms l) i u tt w e).0
 offset_on (Union ms l) u i w e = omega arith
-offset_on (Value k o l) u i w e = absurd (cc)
-offset_on (Padding n l) u i w e = absurd (cc)
-offset_on (Sequence n x l) u i w e = absurd (cc)
+offset_on t u i w e = absurd (cc)
 
 -- one more member's text
 pub list_more : (before text next path to : List ℕ) (at : ℕ) (dims : List ℕ) (t u : Tree) (i inner extent : ℕ)
     → IsWellFormed t → IsListing before text path at dims t i inner → member_of i t ≡ Some u → to ≡ path ++ piece_of (step_to t i u)
     → next ≡ text ++ listed to inner dims u → extent ≡ extent_of t u → IsListing before next path at dims t (i + 1) (inner + extent)
 list_more before text next path to at dims t u i inner extent w s e et en ee = record {
-  rest = ap (λ x. x ++ text_past path at dims t (i + 1) (members_of t)) (en ∙ ap (λ p. text ++ listed p inner dims u) et
-      ∙ ap (λ n. text ++ listed (path ++ piece_of (step_to t i u)) n dims u) s.offset)
-      ∙ append_assoc text (listed (path ++ piece_of (step_to t i u)) (at + member_offset i t) dims u) (text_past path at dims t (i + 1) (members_of t))
-      ∙ ap (λ x. text ++ x) (sym (goes_on path at dims t u i e))
-      ∙ s.rest;
+  rest = simp (en, et, s.offset, append_assoc) (ap (λ x. text ++ x) (sym (goes_on path at dims t u i e)) ∙ s.rest);
   offset = omega (arith, s.offset, ee, offset_on t u i w e);
 }
 
@@ -82,26 +64,16 @@ list_more before text next path to at dims t u i inner extent w s e et en ee = r
 past_end : (path : List ℕ) (at : ℕ) (dims : List ℕ) (t : Tree) (i : ℕ) → member_of i t ≡ None → text_past path at dims t i (members_of t) ≡ []
 past_end path at dims (Struct ms l) i e = ap (listed_members path at dims (Struct ms l) i) (skip_past i ms e)
 past_end path at dims (Union ms l) i e = ap (listed_members path at dims (Union ms l) i) (skip_past i ms e)
-past_end path at dims (Value k o l) i e = refl
-past_end path at dims (Padding n l) i e = refl
-past_end path at dims (Sequence n x l) i e = refl
+past_end path at dims t i e = refl
 
 -- behind all members no text is left
 past_all : (path : List ℕ) (at : ℕ) (dims : List ℕ) (t : Tree) (i count : ℕ) → Some count ≡ count_in (members_of t) → count ≤ i
     → text_past path at dims t i (members_of t) ≡ []
 past_all path at dims (Struct ms l) i count e le =
-    ap (listed_members path at dims (Struct ms l) i) (skip_all i ms (let c : _ ≡ count = sym (some e) in omega (arith, c)))
-  where
-    some : {a b : ℕ} → Some a ≡ Some b → a ≡ b
-    some e = cc
+    let c : count_of ms ≡ count = cc in ap (listed_members path at dims (Struct ms l) i) (skip_all i ms (omega arith))
 past_all path at dims (Union ms l) i count e le =
-    ap (listed_members path at dims (Union ms l) i) (skip_all i ms (let c : _ ≡ count = sym (some e) in omega (arith, c)))
-  where
-    some : {a b : ℕ} → Some a ≡ Some b → a ≡ b
-    some e = cc
-past_all path at dims (Value k o l) i count e le = refl
-past_all path at dims (Padding n l) i count e le = refl
-past_all path at dims (Sequence n x l) i count e le = refl
+    let c : count_of ms ≡ count = cc in ap (listed_members path at dims (Union ms l) i) (skip_all i ms (omega arith))
+past_all path at dims t i count e le = refl
 
 -- where no text is left, all was listed
 ended : (before text path : List ℕ) (at : ℕ) (dims : List ℕ) (t : Tree) (i inner : ℕ) → IsListing before text path at dims t i inner
@@ -127,17 +99,12 @@ deep_in (suc i) (More t ts) u e = omega (arith, deep_in i ts u e)
 pub deep_member : (i : ℕ) (t u : Tree) → member_of i t ≡ Some u → depth u < depth t
 deep_member i (Struct ms l) u e = omega (arith, deep_in i ms u e)
 deep_member i (Union ms l) u e = omega (arith, deep_in i ms u e)
-deep_member i (Value k o l) u e = absurd (cc)
-deep_member i (Padding n l) u e = absurd (cc)
-deep_member i (Sequence n x l) u e = absurd (cc)
+deep_member i t u e = absurd (cc)
 
 -- an element is less deep than its sequence
 pub deep_element : (t u : Tree) → element_of t ≡ Some u → depth u < depth t
 deep_element (Sequence n x l) u e = let s : x ≡ u = cc in omega (arith, ap depth s)
-deep_element (Struct ms l) u e = absurd (cc)
-deep_element (Union ms l) u e = absurd (cc)
-deep_element (Value k o l) u e = absurd (cc)
-deep_element (Padding n l) u e = absurd (cc)
+deep_element t u e = absurd (cc)
 
 -- the offset of a member is bounded by the length of the path to it
 pub inner_fits : (before text path : List ℕ) (at : ℕ) (dims : List ℕ) (t : Tree) (i inner : ℕ) → IsWellFormed t → IsListing before text path at dims t i inner

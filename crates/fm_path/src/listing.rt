@@ -215,6 +215,7 @@ fn numbered_path(alloc: Global, path: &str, i: u64) -> Result<String, Refusal>
 }
 
 /// The bytes from a group's member to the next one.
+#[tactic(auto, using(crate::proofs::Resolving::size_small))]
 fn extent(group: &Layout, member: &Layout) -> u64
     ensures extent { result ≡ extent_of group.now member.now }
     ensures fits { result ≤ 2 ^ 40 }

@@ -87,6 +87,7 @@ fn take_at(layout: &Layout, k: u64, n: u64) -> Result<Move<'_>, Refusal>
     }
 }
 
+#[tactic(auto, using(crate::proofs::Resolving::size_small))]
 fn take_each(layout: &Layout, k: u64) -> Result<Move<'_>, Refusal>
     ensures { Moves result (move k PathStep.Each layout.now) }
 {
@@ -174,6 +175,7 @@ fn is_named(layout: &Layout, name: &[u8]) -> bool
 }
 
 /// The bytes before member `n` of a struct.
+#[tactic(auto, using(fm_path_meaning::proofs::Members::offset_none, fm_path_meaning::proofs::Members::offset_fits))]
 fn bytes_before(layout: &Layout, n: u64) -> u64
     requires kind { IsStruct layout.now }
     requires well { IsWellFormed layout.now }

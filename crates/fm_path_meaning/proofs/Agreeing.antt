@@ -8,7 +8,7 @@ use Rattle.fm_path_meaning.specs.Places.{Step, IsAt}
 use Rattle.fm_path_meaning.specs.Follow.{Taken, taken, taken_closed, first, after, before, ◌>>=◌, follow_by}
 use Rattle.fm_path_meaning.specs.Walk.{Moved, move, move_closed, Walk, moved, walk_by, reach, offset_at, AreAdmitted}
 use Rattle.fm_path_meaning.specs.Steady.{dip}
-use Rattle.fm_path_meaning.proofs.Fitting.{Tells, Fits, fits, fits_closed}
+use Rattle.fm_path_meaning.proofs.Fitting.{Tells, takes, Fits, fits, fits_closed}
 
 -- no index leads back further than the offset so far
 abbrev pub StaysAbove : ℕ → List Dim → List ℕ → Type 0
@@ -41,17 +41,14 @@ abbrev pub Agrees : (ℕ → PathStep → Tree → ℕ → Taken) → List PathS
 Agrees take ps k t (Ok w) = (is : List ℕ) → AreAdmitted w.dims is → Meets take ps k t w is
 Agrees take ps k t (Err e) = (is : List ℕ) → follow_by take ps k t is ≡ Err e
 
--- a refusal later on refuses the path
-then_err : (s : Step) (e : Refusal) (r : Result (List Step) Refusal) → r ≡ Err e → before s r ≡ Err e
-then_err s e r h = ap (before s) h
-
--- a step that takes no index, and then the rest
-plain_join : (take : ℕ → PathStep → Tree → ℕ → Taken) (p : PathStep) (ps : List PathStep) (k : ℕ) (t : Tree) (by : ℕ) (u : Tree) (r : Result Walk Refusal)
-    → Tells (take k p t) p t None by u → Agrees take ps (k + 1) u r → Agrees take (p ∷ ps) k t (moved (record { by = by; dim = None; to = u }) r)
-plain_join take p ps k t by u (Err e) f ih = λ is.
-    let l = f.1 (first is) in
+-- a step, and then the rest
+dim_join : (take : ℕ → PathStep → Tree → ℕ → Taken) (p : PathStep) (ps : List PathStep) (k : ℕ) (t : Tree) (by : ℕ) (o : Option Dim) (u : Tree)
+    (r : Result Walk Refusal) → Tells (take k p t) p t o by u → Agrees take ps (k + 1) u r
+    → Agrees take (p ∷ ps) k t (moved (record { by = by; dim = o; to = u }) r)
+dim_join take p ps k t by o u (Err e) f ih = λ is.
+    let l = takes (take k p t) p t o by u f (first is) in
     ap (λ c. c >>= λ c. before c.0 (follow_by take ps (k + 1) c.1 (after p is))) l.1 ∙ ap (before l.0) (ih (after p is))
-plain_join take p ps k t by u (Ok w) f ih = λ is a.
+dim_join take p ps k t by None u (Ok w) f ih = λ is a.
     let l = f.1 (first is) in
     let m = ih is a in
     let g = steady_more by w.offset w.dims is m.steady in
@@ -62,15 +59,7 @@ plain_join take p ps k t by u (Ok w) f ih = λ is a.
       stands = (by, offset_at w.offset w.dims is, u, l.2, m.stands, g.1);
       steady = g.0;
     }
-
--- a step that takes an index, and then the rest
-each_join : (take : ℕ → PathStep → Tree → ℕ
-    → Taken) (p : PathStep) (ps : List PathStep) (k : ℕ) (t : Tree) (by : ℕ) (d : Dim) (u : Tree) (r : Result Walk Refusal)
-    → Tells (take k p t) p t (Some d) by u → Agrees take ps (k + 1) u r → Agrees take (p ∷ ps) k t (moved (record { by = by; dim = Some d; to = u }) r)
-each_join take p ps k t by d u (Err e) f ih = λ is.
-    let l = f.1 (first is) in
-    ap (λ c. c >>= λ c. before c.0 (follow_by take ps (k + 1) c.1 (after p is))) l.1 ∙ ap (before l.0) (ih (after p is))
-each_join take p ps k t by d u (Ok w) f ih = at_indices
+dim_join take p ps k t by (Some d) u (Ok w) f ih = at_indices
   where
     at_indices : (is : List ℕ) → AreAdmitted (d ∷ w.dims) is → Meets take (p ∷ ps) k t (record { offset = by + w.offset; dims = d ∷ w.dims; last = w.last }) is
     at_indices [] a = absurd a
@@ -89,17 +78,12 @@ each_join take p ps k t by d u (Ok w) f ih = at_indices
           steady = (omega (arith, q.1), subst (λ x. StaysAbove x w.dims is) (sym e) g.0);
         }
 
--- a step, and then the rest
+-- the same, where the step may be refused
 join : (take : ℕ → PathStep → Tree → ℕ → Taken) (go : ℕ → PathStep → Tree → Moved) (p : PathStep) (ps : List PathStep) (k : ℕ) (t : Tree) (r : Moved)
     → Fits (take k p t) p t r → ((u : Tree) → Agrees take ps (k + 1) u (walk_by go ps (k + 1) u))
     → Agrees take (p ∷ ps) k t (r >>= λ m. moved m (walk_by go ps (k + 1) m.to))
 join take go p ps k t (Err e) f ih = λ is. ap (λ c. c >>= λ c. before c.0 (follow_by take ps (k + 1) c.1 (after p is))) (f (first is))
-join take go p ps k t (Ok m) f ih = by_dim m.dim f
-  where
-    by_dim : (o : Option Dim) → Tells (take k p t) p t o m.by m.to
-        → Agrees take (p ∷ ps) k t (moved (record { by = m.by; dim = o; to = m.to }) (walk_by go ps (k + 1) m.to))
-    by_dim None f = plain_join take p ps k t m.by m.to (walk_by go ps (k + 1) m.to) f (ih m.to)
-    by_dim (Some d) f = each_join take p ps k t m.by d m.to (walk_by go ps (k + 1) m.to) f (ih m.to)
+join take go p ps k t (Ok m) f ih = dim_join take p ps k t m.by m.dim m.to (walk_by go ps (k + 1) m.to) f (ih m.to)
 
 -- where each step's move says what the step does, the walk and following agree: on each refusal, and on the place at admitted indices
 pub agrees_by : (take : ℕ → PathStep → Tree → ℕ → Taken) (go : ℕ → PathStep → Tree → Moved)

@@ -1,21 +1,20 @@
 -- Each open step has its dim, and its bound is the number of the indices that are admitted.
-use Rattle.std.proofs.Common.{◌≡◌, refl, ap, subst, ℕ, ℤ, pos, negsuc, zero, suc, ◌+◌, ◌-◌, ◌*◌, ◌/◌, ◌<◌, ◌≤◌, Bool, true, false, nat_lt, if◌then◌else◌, Option, Some, None, Result, Ok, Err, List, [], ◌∷◌, inl, inr, arith, ◌∙◌}
+use Rattle.std.proofs.Common.{◌≡◌, refl, sym, subst, ℕ, ℤ, pos, negsuc, zero, suc, ◌+◌, ◌-◌, ◌*◌, ◌/◌, ◌<◌, ◌≤◌, Bool, true, false, nat_lt, if◌then◌else◌, Option, Some, None, Result, Ok, Err, List, [], ◌∷◌, inl, inr, arith, ◌∙◌}
 use Rattle.std.proofs.lemmas.Bool.{cases_lt, ltb-true}
 use Rattle.std.proofs.lemmas.Nat.{div-add-mod'}
 use Rattle.std.proofs.Math.Nat.{mul-le-mul_right}
 use Rattle.fm_base.specs.declared.refusal.Refusal.{Refusal}
 use Rattle.fm_base.specs.declared.refusal.Refusal.TheVariants.{IndexOut}
-use Rattle.fm_layout.specs.Tree.{Tree, Trees, Value, Padding, Sequence, Struct, Union}
+use Rattle.fm_layout.specs.Tree.{Tree, Sequence}
 use Rattle.fm_layout.specs.Size.{size_of}
-use Rattle.fm_layout.specs.Parts.{tree_at}
 use Rattle.fm_path_text.specs.declared.step.PathStep.{PathStep}
-use Rattle.fm_path_text.specs.declared.step.PathStep.TheVariants.{Name, Group, At, Each, EachFrom}
+use Rattle.fm_path_text.specs.declared.step.PathStep.TheVariants.{Each, EachFrom}
 use Rattle.fm_path_meaning.specs.declared.dim.Dim.{Dim}
-use Rattle.fm_path_meaning.specs.Places.{Step, Element, Member}
-use Rattle.fm_path_meaning.specs.Follow.{row_of, members_of, index_named, take_member, take_found, take_name, taken_closed, ◌>>=◌}
-use Rattle.fm_path_meaning.specs.Walk.{dim_from, Move, Moved, move_member, move_found, move, Walk, with_dim, moved, walk_by}
+use Rattle.fm_path_meaning.specs.Places.{Step}
+use Rattle.fm_path_meaning.specs.Follow.{row_of, taken, taken_closed, after, ◌>>=◌}
+use Rattle.fm_path_meaning.specs.Walk.{dim_from, Move, Moved, move, Walk, with_dim, moved, walk_by}
 use Rattle.fm_path_meaning.specs.Found.{IsDimOf, HasDims, no_step, closed_step, open_step, LeadsTo}
-use Rattle.fm_path_meaning.proofs.Fitting.{ups, downs}
+use Rattle.fm_path_meaning.proofs.Fitting.{ups, downs, closed}
 
 -- a quotient is at least each number whose multiple fits
 quotient_above : (x m i : ℕ) → i * suc m ≤ x → i ≤ x / suc m
@@ -49,22 +48,13 @@ abbrev Told : ℕ → PathStep → Tree → Moved → Type 0
 Told k p t (Ok m) = HasDim k p t m.dim m.to
 Told k p t (Err e) = Unit {0}
 
--- a step to a member
-member_told : (k n : ℕ) (p : PathStep) (t : Tree) (o : Option Tree) → taken_closed k p t 0 ≡ take_member k n o → Told k p t (move_member k n t o)
-member_told k n p t None e = tt
-member_told k n p t (Some u) e = (Member n, e)
-
--- a step by name
-found_told : (k : ℕ) (name : List ℕ) (t : Tree) (ms : Trees) (o : Option ℕ) → members_of t ≡ Some ms → index_named name 0 ms ≡ o
-    → Told k (Name name) t (move_found k t ms o)
-found_told k name t ms None em eo = tt
-found_told k name t ms (Some n) em eo = member_told k n (Name name) t (tree_at n ms) (ap (take_name k name) em ∙ ap (take_found k ms) eo)
-
--- a step to an element
-at_told : (k n c : ℕ) (e : Tree) (l : _) (b : Bool) → nat_lt n c ≡ b
-    → Told k (At n) (Sequence c e l) (if b then Ok (record { by = n * size_of e; dim = None; to = e }) else Err (IndexOut k))
-at_told k n c e l true h = (Element n, ap (λ b. if b then Ok (Element n, e) else Err (IndexOut k)) h)
-at_told k n c e l false h = tt
+-- a step that takes no index
+closed_told : (k : ℕ) (p : PathStep) (t : Tree) (r : Moved) → ((is : List ℕ) → after p is ≡ is) → taken_closed k p t 0 ≡ taken k p t 0 → move k p t ≡ r
+    → Told k p t r
+closed_told k p t (Err e) none same is = tt
+closed_told k p t (Ok m) none same is =
+    let c = closed k p t m none is in
+    subst (λ o. HasDim k p t o m.to) (sym c.dim) (c.step, same ∙ c.takes)
 
 -- a step that is open from an element on
 from_told : (k f c : ℕ) (z : ℤ) (e : Tree) (l : _) (b : Bool) → nat_lt f c ≡ b → (f < c → IsDimOf (EachFrom f z) c e (dim_from f z c (size_of e)))
@@ -75,33 +65,13 @@ from_told k f c z e l false h g = tt
 
 -- each move that succeeds says so of its step
 told : (k : ℕ) (p : PathStep) (t : Tree) → Told k p t (move k p t)
-told k (Name name) (Struct ms l) = found_told k name (Struct ms l) ms (index_named name 0 ms) refl refl
-told k (Name name) (Union ms l) = found_told k name (Union ms l) ms (index_named name 0 ms) refl refl
-told k (Name name) (Value v o l) = tt
-told k (Name name) (Padding m l) = tt
-told k (Name name) (Sequence c e l) = tt
-told k (Group n) (Struct ms l) = member_told k n (Group n) (Struct ms l) (tree_at n ms) refl
-told k (Group n) (Union ms l) = member_told k n (Group n) (Union ms l) (tree_at n ms) refl
-told k (Group n) (Value v o l) = tt
-told k (Group n) (Padding m l) = tt
-told k (Group n) (Sequence c e l) = tt
-told k (At n) (Sequence c e l) = at_told k n c e l (nat_lt n c) refl
-told k (At n) (Value v o l) = tt
-told k (At n) (Padding m l) = tt
-told k (At n) (Struct ms l) = tt
-told k (At n) (Union ms l) = tt
 told k Each (Sequence c e l) = (c, refl, record { below = λ i h. h; all = λ i h. h; stride = refl })
-told k Each (Value v o l) = tt
-told k Each (Padding m l) = tt
-told k Each (Struct ms l) = tt
-told k Each (Union ms l) = tt
 told k (EachFrom f (pos zero)) (Sequence c e l) = tt
 told k (EachFrom f (pos (suc s))) (Sequence c e l) = from_told k f c (pos (suc s)) e l (nat_lt f c) refl (up_dim f s c e)
 told k (EachFrom f (negsuc s)) (Sequence c e l) = from_told k f c (negsuc s) e l (nat_lt f c) refl (down_dim f s c e)
-told k (EachFrom f s) (Value v o l) = tt
-told k (EachFrom f s) (Padding m l) = tt
-told k (EachFrom f s) (Struct ms l) = tt
-told k (EachFrom f s) (Union ms l) = tt
+told k Each t = tt
+told k (EachFrom f z) t = tt
+told k p t = closed_told k p t (move k p t) (λ is. refl) refl refl
 
 abbrev HaveDims : List PathStep → Tree → Result Walk Refusal → Type 0
 HaveDims ps t (Ok w) = HasDims ps t w.dims

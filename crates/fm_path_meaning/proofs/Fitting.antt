@@ -1,11 +1,11 @@
 -- What one step does to the offset is what it does among the places.
-use Rattle.std.proofs.Common.{◌≡◌, refl, sym, ap, ℕ, pos, negsuc, zero, suc, ◌+◌, ◌-◌, ◌*◌, ◌/◌, ◌<◌, ◌≤◌, Bool, true, false, nat_lt, nat_eq, if◌then◌else◌, Option, Some, None, Ok, Err, List, arith, ◌∙◌}
+use Rattle.std.proofs.Common.{◌≡◌, refl, sym, ap, subst, ℕ, ℤ, pos, negsuc, zero, suc, ◌+◌, ◌-◌, ◌*◌, ◌/◌, ◌<◌, ◌≤◌, Bool, true, false, nat_lt, nat_eq, if◌then◌else◌, Option, Some, None, Ok, Err, List, [], ◌∷◌, arith, ◌∙◌}
 use Rattle.std.proofs.lemmas.Bool.{cond_both, ltb-true}
 use Rattle.std.proofs.lemmas.Bool.Decides.{nat_tests}
 use Rattle.std.proofs.Math.Nat.{mul-le-mul_right}
 use Rattle.std.proofs.lemmas.Nat.{div-add-mod'}
 use Rattle.fm_base.specs.declared.refusal.Refusal.TheVariants.{IndexOut}
-use Rattle.fm_layout.specs.Tree.{Tree, Trees, Value, Padding, Sequence, Struct, Union, NoMore, More}
+use Rattle.fm_layout.specs.Tree.{Tree, Trees, Sequence, Struct, Union, NoMore, More}
 use Rattle.fm_layout.specs.Size.{size_of}
 use Rattle.fm_layout.specs.Parts.{tree_at}
 use Rattle.fm_path_text.specs.declared.step.PathStep.{PathStep}
@@ -15,7 +15,7 @@ use Rattle.fm_path_meaning.specs.Places.{Step, Element, Member, Stands, StandsFi
 use Rattle.fm_path_meaning.specs.Follow.{members_of, index_named, Taken, take_member, take_found, take_name, taken, taken_closed, others, after}
 use Rattle.fm_path_meaning.specs.Steady.{dip}
 use Rattle.fm_layout.specs.Size.{sum_before, member_offset}
-use Rattle.fm_path_meaning.specs.Walk.{bound_of, below, stride_of, Moved, move_member, move_found, move, move_closed, reach}
+use Rattle.fm_path_meaning.specs.Walk.{bound_of, below, stride_of, dim_from, Move, Moved, move_member, move_found, move, move_closed, reach}
 
 -- the part at step s of t stands by bytes in, and is u
 abbrev pub Lands : (ℕ → Taken) → Tree → ℕ → ℕ → Tree → Type 0
@@ -26,6 +26,12 @@ abbrev pub Tells : (ℕ → Taken) → PathStep → Tree → Option Dim → ℕ 
 Tells take p t None by u = ((is : List ℕ) → after p is ≡ is) × ((i : ℕ) → Lands take t i by u)
 Tells take p t (Some d) by u = ((is : List ℕ) → after p is ≡ others is)
     × ((i : ℕ) → (s : Step) × (take i ≡ Ok (s, u)) × (i < d.bound → IsPart s t (reach by d.stride i) u × (dip d.stride i ≤ by)))
+
+-- at each index it is a step to the layout that the move leads to
+pub takes : (take : ℕ → Taken) (p : PathStep) (t : Tree) (o : Option Dim) (by : ℕ) (u : Tree) → Tells take p t o by u → (i : ℕ)
+    → (s : Step) × (take i ≡ Ok (s, u))
+takes take p t None by u f i = ((f.1 i).0, (f.1 i).1)
+takes take p t (Some d) by u f i = ((f.1 i).0, (f.1 i).1)
 
 -- a member's place
 stands_at : (n : ℕ) (ms : Trees) (u : Tree) → tree_at n ms ≡ Some u → Stands n ms (sum_before n ms) u
@@ -102,85 +108,58 @@ down_reach f s z b i h le = cond_both (nat_eq b 1) (pos 0) (below (suc s * z)) (
     let m : f * z ≡ ((f - i * suc s) + i * suc s) * z = ap (λ x. x * z) g in
     (reach_below (f * z) (suc s * z) i ∙ omega (arith, m), omega (arith, dip_below (suc s * z) i, m)))
 
--- a step forward fits
-up_fits : (k f s c : ℕ) (e : Tree) (l : _) (b : Bool) → nat_lt f c ≡ b
-    → Fits (taken k (EachFrom f (pos (suc s))) (Sequence c e l)) (EachFrom f (pos (suc s))) (Sequence c e l)
-    (if b then Ok (record {
-      by = f * size_of e;
-      dim = Some (record { stride = stride_of (pos (suc s)) (size_of e) (bound_of f (pos (suc s)) c); bound = bound_of f (pos (suc s)) c });
-      to = e;
-    }) else
-    Err (IndexOut k))
-up_fits k f s c e l true h = (
+-- a step that is open from an element on fits, where each index below the bound lands on the element it means
+from_fits : (k f c : ℕ) (z : ℤ) (el : ℕ → ℕ) (e : Tree) (l : _) (b : Bool) → nat_lt f c ≡ b
+    → ((i : ℕ) → taken k (EachFrom f z) (Sequence c e l) i ≡ (if nat_lt f c then Ok (Element (el i), e) else Err (IndexOut k)))
+    → (f < c → (i : ℕ) → i < bound_of f z c → (el i < c) × (reach (f * size_of e) (stride_of z (size_of e) (bound_of f z c)) i ≡ el i * size_of e)
+    × (dip (stride_of z (size_of e) (bound_of f z c)) i ≤ f * size_of e))
+    → Fits (taken k (EachFrom f z) (Sequence c e l)) (EachFrom f z) (Sequence c e l)
+    (if b then Ok (record { by = f * size_of e; dim = Some (dim_from f z c (size_of e)); to = e }) else Err (IndexOut k))
+from_fits k f c z el e l true h takes lands = (
   (λ is. refl),
   λ i. (
-    Element (f + i * suc s),
-    ap (λ b. if b then Ok (Element (f + i * suc s), e) else Err (IndexOut k)) h,
-    λ lt.
-        let r = up_reach f s (size_of e) (bound_of f (pos (suc s)) c) i lt in
-        ((ups f s c i (ltb-true f c h) lt, r.0, refl), r.1),
+    Element (el i),
+    takes i ∙ ap (λ b. if b then Ok (Element (el i), e) else Err (IndexOut k)) h,
+    λ lt. let r = lands (ltb-true f c h) i lt in ((r.0, r.1, refl), r.2),
   ),
 )
-up_fits k f s c e l false h = λ i. ap (λ b. if b then Ok (Element (f + i * suc s), e) else Err (IndexOut k)) h
-
--- a step back fits
-down_fits : (k f s c : ℕ) (e : Tree) (l : _) (b : Bool) → nat_lt f c ≡ b
-    → Fits (taken k (EachFrom f (negsuc s)) (Sequence c e l)) (EachFrom f (negsuc s)) (Sequence c e l)
-    (if b then Ok (record {
-      by = f * size_of e;
-      dim = Some (record { stride = stride_of (negsuc s) (size_of e) (bound_of f (negsuc s) c); bound = bound_of f (negsuc s) c });
-      to = e;
-    }) else Err
-    (IndexOut k))
-down_fits k f s c e l true h = (
-  (λ is. refl),
-  λ i. (
-    Element (f - i * suc s),
-    ap (λ b. if b then Ok (Element (f - i * suc s), e) else Err (IndexOut k)) h,
-    λ lt.
-        let r = down_reach f s (size_of e) (bound_of f (negsuc s) c) i lt (downs f s i lt) in
-        let fc = ltb-true f c h in
-        ((omega arith, r.0, refl), r.1),
-  ),
-)
-down_fits k f s c e l false h = λ i. ap (λ b. if b then Ok (Element (f - i * suc s), e) else Err (IndexOut k)) h
+from_fits k f c z el e l false h takes lands = λ i. takes i ∙ ap (λ b. if b then Ok (Element (el i), e) else Err (IndexOut k)) h
 
 -- each step's move says what the step does
 pub fits : (k : ℕ) (p : PathStep) (t : Tree) → Fits (taken k p t) p t (move k p t)
 fits k (Name name) (Struct ms l) = name_fits k name (Struct ms l) ms (index_named name 0 ms) refl refl (λ n u e. stands_at n ms u e)
 fits k (Name name) (Union ms l) = name_fits k name (Union ms l) ms (index_named name 0 ms) refl refl (λ n u e. stands_first n ms u e)
-fits k (Name name) (Value v o l) = λ i. refl
-fits k (Name name) (Padding m l) = λ i. refl
-fits k (Name name) (Sequence c e l) = λ i. refl
 fits k (Group n) (Struct ms l) =
     member_fits (taken k (Group n) (Struct ms l)) (Group n) k n (Struct ms l) (tree_at n ms) (λ i. refl) (λ is. refl) (λ u e. stands_at n ms u e)
 fits k (Group n) (Union ms l) =
     member_fits (taken k (Group n) (Union ms l)) (Group n) k n (Union ms l) (tree_at n ms) (λ i. refl) (λ is. refl) (λ u e. stands_first n ms u e)
-fits k (Group n) (Value v o l) = λ i. refl
-fits k (Group n) (Padding m l) = λ i. refl
-fits k (Group n) (Sequence c e l) = λ i. refl
 fits k (At n) (Sequence c e l) = at_fits k n c e l (nat_lt n c) refl
-fits k (At n) (Value v o l) = λ i. refl
-fits k (At n) (Padding m l) = λ i. refl
-fits k (At n) (Struct ms l) = λ i. refl
-fits k (At n) (Union ms l) = λ i. refl
 fits k Each (Sequence c e l) = ((λ is. refl), λ i. (Element i, refl, λ lt. ((lt, omega arith, refl), omega arith)))
-fits k Each (Value v o l) = λ i. refl
-fits k Each (Padding m l) = λ i. refl
-fits k Each (Struct ms l) = λ i. refl
-fits k Each (Union ms l) = λ i. refl
 fits k (EachFrom f (pos zero)) (Sequence c e l) = λ i. refl
-fits k (EachFrom f (pos (suc s))) (Sequence c e l) = up_fits k f s c e l (nat_lt f c) refl
-fits k (EachFrom f (negsuc s)) (Sequence c e l) = down_fits k f s c e l (nat_lt f c) refl
-fits k (EachFrom f s) (Value v o l) = λ i. refl
-fits k (EachFrom f s) (Padding m l) = λ i. refl
-fits k (EachFrom f s) (Struct ms l) = λ i. refl
-fits k (EachFrom f s) (Union ms l) = λ i. refl
+fits k (EachFrom f (pos (suc s))) (Sequence c e l) =
+    from_fits k f c (pos (suc s)) (λ i. f + i * suc s) e l (nat_lt f c) refl (λ i. refl)
+    (λ fc i lt. let r = up_reach f s (size_of e) (bound_of f (pos (suc s)) c) i lt in (ups f s c i fc lt, r.0, r.1))
+fits k (EachFrom f (negsuc s)) (Sequence c e l) =
+    from_fits k f c (negsuc s) (λ i. f - i * suc s) e l (nat_lt f c) refl (λ i. refl)
+    (λ fc i lt. let r = down_reach f s (size_of e) (bound_of f (negsuc s) c) i lt (downs f s i lt) in (omega arith, r.0, r.1))
+fits k p t = λ i. refl
+
+-- a step that takes no index has no dim, and is one to a part
+pub record IsClosed (k : ℕ) (p : PathStep) (t : Tree) (m : Move) : Type 0 where
+  pub dim : m.dim ≡ None
+  pub step : Step
+  pub takes : taken k p t 0 ≡ Ok (step, m.to)
+  pub part : IsPart step t m.by m.to
+
+pub closed : (k : ℕ) (p : PathStep) (t : Tree) (m : Move) → ((is : List ℕ) → after p is ≡ is) → move k p t ≡ Ok m → IsClosed k p t m
+closed k p t m none e = go m.dim refl (subst (Fits (taken k p t) p t) e (fits k p t))
+  where
+    go : (o : Option Dim) → m.dim ≡ o → Tells (taken k p t) p t o m.by m.to → IsClosed k p t m
+    go None q f = let l = f.1 0 in record { dim = q; step = l.0; takes = l.1; part = l.2 }
+    go (Some d) q f = let never : ◌≡◌ {A = List ℕ} (0 ∷ []) [] = sym (none (0 ∷ [])) ∙ f.0 (0 ∷ []) in absurd (cc)
 
 -- the same where no step may be left open
 pub fits_closed : (k : ℕ) (p : PathStep) (t : Tree) → Fits (taken_closed k p t) p t (move_closed k p t)
-fits_closed k (Name name) t = fits k (Name name) t
-fits_closed k (Group n) t = fits k (Group n) t
-fits_closed k (At n) t = fits k (At n) t
 fits_closed k Each t = λ i. refl
 fits_closed k (EachFrom f s) t = λ i. refl
+fits_closed k p t = fits k p t

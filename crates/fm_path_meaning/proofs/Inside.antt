@@ -4,7 +4,7 @@ use Rattle.std.proofs.lemmas.Bool.{cases_lt, cases_order}
 use Rattle.std.proofs.lemmas.Nat.{pow-add, mod-mul-add, div-add-mod'}
 use Rattle.std.proofs.Math.Nat.{mul-le-mul_right}
 use Rattle.std.proofs.Math.Pow.{pow-lt}
-use Rattle.fm_layout.specs.Tree.{Tree, Trees, Value, Padding, Sequence, Struct, Union, NoMore, More, alignment_of}
+use Rattle.fm_layout.specs.Tree.{Tree, Trees, Value, Sequence, Struct, Union, NoMore, More, alignment_of}
 use Rattle.fm_layout.specs.Size.{size_of, sum_of, greatest_of, greatest_alignment}
 use Rattle.fm_layout.specs.WellFormed.{IsWellFormed, AreLaidOut, AreWellFormed}
 use Rattle.std.specs.Int.{IsPowerOfTwo}
@@ -29,17 +29,11 @@ rows : (i n m : ℕ) → i < n → i * m + m ≤ n * m
 rows i n m h = omega (arith, mul-le-mul_right m h)
 
 -- a part ends within the whole
-part_inside : (s : Step) (t : Tree) (a : ℕ) (c : Tree) → IsPart s t a c → a + size_of c ≤ size_of t
+pub part_inside : (s : Step) (t : Tree) (a : ℕ) (c : Tree) → IsPart s t a c → a + size_of c ≤ size_of t
 part_inside (Element i) (Sequence n e l) a c p = omega (arith, p.1, ap size_of p.2, rows i n (size_of e) p.0)
 part_inside (Member i) (Struct ms l) a c p = stands_inside i ms a c p
 part_inside (Member i) (Union ms l) a c p = first_inside i ms a c p
-part_inside (Element i) (Value k o l) a c p = absurd p
-part_inside (Element i) (Padding n l) a c p = absurd p
-part_inside (Element i) (Struct ms l) a c p = absurd p
-part_inside (Element i) (Union ms l) a c p = absurd p
-part_inside (Member i) (Value k o l) a c p = absurd p
-part_inside (Member i) (Padding n l) a c p = absurd p
-part_inside (Member i) (Sequence n e l) a c p = absurd p
+part_inside s t a c p = absurd p
 
 -- a place lies inside the root
 pub inside : (ss : List Step) (t : Tree) (at : ℕ) (u : Tree) → IsAt ss t at u → at + size_of u ≤ size_of t
@@ -138,13 +132,7 @@ part_of (Member i) (Struct ms l) a c w p =
 part_of (Member i) (Union ms l) a c w p =
     let r = first_sits i ms a c w.1 p in
     part_from c a (Union ms l) w r.0 (omega (arith, r.1, w.0.least)) (0, omega (arith, r.2))
-part_of (Element i) (Value k o l) a c w p = absurd p
-part_of (Element i) (Padding n l) a c w p = absurd p
-part_of (Element i) (Struct ms l) a c w p = absurd p
-part_of (Element i) (Union ms l) a c w p = absurd p
-part_of (Member i) (Value k o l) a c w p = absurd p
-part_of (Member i) (Padding n l) a c w p = absurd p
-part_of (Member i) (Sequence n e l) a c w p = absurd p
+part_of s t a c w p = absurd p
 
 -- so does each place
 aligned : (ss : List Step) (t : Tree) (at : ℕ) (u : Tree) → IsWellFormed t → IsAt ss t at u → Part u at t
@@ -174,10 +162,7 @@ place_fits_root ss t at u w h =
 value_no_part : (s : Step) (t : Tree) (a : ℕ) (c : Tree) → IsValue t → IsPart s t a c → ⊥
 value_no_part (Element i) (Value k o l) a c v p = p
 value_no_part (Member i) (Value k o l) a c v p = p
-value_no_part s (Padding n l) a c v p = absurd v
-value_no_part s (Sequence n e l) a c v p = absurd v
-value_no_part s (Struct ms l) a c v p = absurd v
-value_no_part s (Union ms l) a c v p = absurd v
+value_no_part s t a c v p = absurd v
 
 -- a struct has one member of an index
 pub stands_once : (i : ℕ) (ms : Trees) (a b : ℕ) (c d : Tree) → Stands i ms a c → Stands i ms b d → (a ≡ b) × (c ≡ d)
@@ -233,16 +218,10 @@ pair (Member i) (Member j) (Union ms l) a b c d p q = elim (cases_order i j) [
   | inr (inl h) ↦ At_union (differ _ _ (λ e. omega arith)) tt
   | inr (inr h) ↦ At_union (differ _ _ (λ e. omega arith)) tt
 ]
-pair (Element i) r (Value k o l) a b c d p q = absurd p
-pair (Member i) r (Value k o l) a b c d p q = absurd p
-pair (Element i) r (Padding n l) a b c d p q = absurd p
-pair (Member i) r (Padding n l) a b c d p q = absurd p
-pair (Member i) r (Sequence n e l) a b c d p q = absurd p
 pair (Element i) (Member j) (Sequence n e l) a b c d p q = absurd q
-pair (Element i) r (Struct ms l) a b c d p q = absurd p
-pair (Element i) r (Union ms l) a b c d p q = absurd p
 pair (Member i) (Element j) (Struct ms l) a b c d p q = absurd q
 pair (Member i) (Element j) (Union ms l) a b c d p q = absurd q
+pair s r t a b c d p q = absurd p
 
 -- what lies apart in a part lies apart in the whole
 deeper : (s r : Step) (ss rs : List Step) (t c : Tree) (o a m b n : ℕ) → s ≡ r → IsPart s t o c → Apart ss rs c a m b n

@@ -46,27 +46,19 @@ like i j a b q e f = ap (λ x. within (Member x) a q) e ∙ ap (λ x. within (Me
 mutual
   -- what stands at steps is in the list
   pub listed : (t : Tree) (ss : List Step) (at : ℕ) (u : Tree) → IsAt ss t at u → IsAmong (at_steps ss at u) (places t)
-  listed (Value k o l) [] at u h = inl (rw (h.0, h.1) refl)
-  listed (Value k o l) (Element i ∷ ss) at u h = absurd h.3
-  listed (Value k o l) (Member i ∷ ss) at u h = absurd h.3
-  listed (Padding n l) [] at u h = inl (rw (h.0, h.1) refl)
-  listed (Padding n l) (Element i ∷ ss) at u h = absurd h.3
-  listed (Padding n l) (Member i ∷ ss) at u h = absurd h.3
-  listed (Sequence n e l) [] at u h = inl (rw (h.0, h.1) refl)
   listed (Sequence n e l) (Element i ∷ ss) at u h =
       let q = listed e ss h.1 u (subst (λ c. IsAt ss c h.1 u) h.3.2 h.4) in
       inr (moved (Element i ∷ ss) u _ at (i * size_of e + h.1) (h.5
       ∙ ap (λ x. x + h.1) h.3.1) (element_among i n (size_of e) (at_steps ss h.1 u) (places e) h.3.0 q))
-  listed (Sequence n e l) (Member i ∷ ss) at u h = absurd h.3
-  listed (Struct ms l) [] at u h = inl (rw (h.0, h.1) refl)
-  listed (Struct ms l) (Element i ∷ ss) at u h = absurd h.3
   listed (Struct ms l) (Member i ∷ ss) at u h =
       inr (numbered i (0 + i) at ss u _ (omega arith)
       (moved (Member (0 + i) ∷ ss) u _ at (0 + (h.0 + h.1)) (omega (arith, h.5)) (listed_struct ms 0 0 i ss h.0 h.1 h.2 u h.3 h.4)))
-  listed (Union ms l) [] at u h = inl (rw (h.0, h.1) refl)
-  listed (Union ms l) (Element i ∷ ss) at u h = absurd h.3
   listed (Union ms l) (Member i ∷ ss) at u h =
       inr (numbered i (0 + i) at ss u _ (omega arith) (moved (Member (0 + i) ∷ ss) u _ at (h.0 + h.1) h.5 (listed_union ms 0 i ss h.0 h.1 h.2 u h.3 h.4)))
+  listed t (Element i ∷ ss) at u h = absurd h.3
+  listed t (Member i ∷ ss) at u h = absurd h.3
+  listed (Value k o l) [] at u h = inl (rw (h.0, h.1) refl)
+  listed t [] at u h = inl (rw (h.0, h.1) refl)
 
   -- the same in a struct, from one member on
   listed_struct : (ms : Trees) (first from i : ℕ) (ss : List Step) (a b : ℕ) (c u : Tree) → Stands i ms a c → IsAt ss c b u

@@ -1,6 +1,6 @@
 -- Where members stand, summed one by one, and the first of a name, sought one by one.
 use Rattle.std.proofs.Common.{◌≡◌, refl, sym, ap, ℕ, zero, suc, ◌+◌, ◌≤◌, Bool, true, false, if◌then◌else◌, Option, Some, None, List, arith, ◌∙◌}
-use Rattle.fm_layout.specs.Tree.{Tree, Trees, Value, Padding, Sequence, Struct, Union, NoMore, More, name_of}
+use Rattle.fm_layout.specs.Tree.{Tree, Trees, Struct, Union, NoMore, More, name_of}
 use Rattle.fm_layout.specs.Size.{size_of, sum_of}
 use Rattle.fm_layout.specs.Parts.{tree_at, count_of, member_of}
 use Rattle.fm_layout.specs.WellFormed.{IsWellFormed, limit}
@@ -35,35 +35,23 @@ before_end (suc n) (suc i) (More t ts) e le = ap (λ x. size_of t + x) (before_e
 pub offset_more : (t : Tree) (n : ℕ) (u : Tree) → IsStruct t → IsWellFormed t → member_of n t ≡ Some u
     → (member_offset (n + 1) t ≡ member_offset n t + size_of u) × (member_offset n t + size_of u ≤ limit)
 offset_more (Struct ms l) n u k w e = let r = before_more n ms u e in (ap (λ m. sum_before m ms) (omega arith) ∙ r.0, omega (arith, r.1, w.0.size))
-offset_more (Value v o l) n u k w e = absurd k
-offset_more (Padding m l) n u k w e = absurd k
-offset_more (Sequence c x l) n u k w e = absurd k
-offset_more (Union ms l) n u k w e = absurd k
+offset_more t n u k w e = absurd k
 
 -- behind the last member the offset stays
 pub offset_end : (t : Tree) (n i : ℕ) → IsStruct t → member_of i t ≡ None → i ≤ n → member_offset n t ≡ member_offset i t
 offset_end (Struct ms l) n i k e le = before_end n i ms e le
-offset_end (Value v o l) n i k e le = absurd k
-offset_end (Padding m l) n i k e le = absurd k
-offset_end (Sequence c x l) n i k e le = absurd k
-offset_end (Union ms l) n i k e le = absurd k
+offset_end t n i k e le = absurd k
 
 -- a member stands within the limit
 pub offset_fits : (t : Tree) (n : ℕ) → IsWellFormed t → member_offset n t ≤ limit
 offset_fits (Struct ms l) n w = omega (arith, before_fits n ms, w.0.size)
-offset_fits (Value v o l) n w = omega arith
-offset_fits (Padding m l) n w = omega arith
-offset_fits (Sequence c x l) n w = omega arith
-offset_fits (Union ms l) n w = omega arith
+offset_fits t n w = omega arith
 
 -- the first member stands at the start
 pub offset_none : (t : Tree) → member_offset 0 t ≡ 0
 offset_none (Struct NoMore l) = refl
 offset_none (Struct (More t ts) l) = refl
-offset_none (Value v o l) = refl
-offset_none (Padding m l) = refl
-offset_none (Sequence c x l) = refl
-offset_none (Union ms l) = refl
+offset_none t = refl
 
 -- the members from index n on
 abbrev pub skip : ℕ → Trees → Trees
@@ -77,10 +65,10 @@ skip_none NoMore = refl
 skip_none (More t ts) = refl
 
 -- the member at an index comes first of those from there on
-pub skip_more : (i : ℕ) (ms : Trees) (u : Tree) → tree_at i ms ≡ Some u → skip i ms ≡ More u (skip (suc i) ms)
+pub skip_more : (i : ℕ) (ms : Trees) (u : Tree) → tree_at i ms ≡ Some u → skip i ms ≡ More u (skip (i + 1) ms)
 skip_more i NoMore u e = absurd (cc)
 skip_more zero (More t ts) u e = let is : t ≡ u = cc in ap (λ x. More x ts) is ∙ ap (More u) (sym (skip_none ts))
-skip_more (suc i) (More t ts) u e = skip_more i ts u e
+skip_more (suc i) (More t ts) u e = let s : suc (i + 1) ≡ suc i + 1 = omega arith in skip_more i ts u e ∙ ap (λ n. More u (skip n (More t ts))) s
 
 -- no member is left past the last one
 pub skip_past : (i : ℕ) (ms : Trees) → tree_at i ms ≡ None → skip i ms ≡ NoMore
@@ -107,48 +95,36 @@ pub record IsSeeking (name : List ℕ) (i : ℕ) (t : Tree) : Type 0 where
 pub seek_start : (name : List ℕ) (t : Tree) → IsSeeking name 0 t
 seek_start name (Struct ms l) = record { rest = ap (index_named name 0) (sym (skip_none ms)) }
 seek_start name (Union ms l) = record { rest = ap (index_named name 0) (sym (skip_none ms)) }
-seek_start name (Value k o l) = record { rest = refl }
-seek_start name (Padding n l) = record { rest = refl }
-seek_start name (Sequence n e l) = record { rest = refl }
+seek_start name t = record { rest = refl }
 
 -- the member at an index has the name, or the search goes on
 here_or : (name : List ℕ) (i : ℕ) (ms : Trees) (u : Tree) (b : Bool) → tree_at i ms ≡ Some u → is_name_of (name_of u) name ≡ b
     → index_named name i (skip i ms) ≡ (if b then Some i else index_named name (i + 1) (skip (i + 1) ms))
 here_or name i ms u b e h =
-    let s : suc i ≡ i + 1 = omega arith in
-    ap (index_named name i) (skip_more i ms u e) ∙ ap (λ b. if b then Some i else index_named name (i + 1) (skip (suc i) ms)) h
-    ∙ ap (λ n. if b then Some i else index_named name (i + 1) (skip n ms)) s
+    ap (index_named name i) (skip_more i ms u e) ∙ ap (λ b. if b then Some i else index_named name (i + 1) (skip (i + 1) ms)) h
 
 -- a member of another name
 pub seek_more : (name : List ℕ) (i : ℕ) (t u : Tree) → IsSeeking name i t → member_of i t ≡ Some u → is_name_of (name_of u) name ≡ false
     → IsSeeking name (i + 1) t
 seek_more name i (Struct ms l) u s e h = record { rest = s.rest ∙ here_or name i ms u false e h }
 seek_more name i (Union ms l) u s e h = record { rest = s.rest ∙ here_or name i ms u false e h }
-seek_more name i (Value k o l) u s e h = absurd (cc)
-seek_more name i (Padding n l) u s e h = absurd (cc)
-seek_more name i (Sequence n x l) u s e h = absurd (cc)
+seek_more name i t u s e h = absurd (cc)
 
 -- a member of the name
 pub seek_found : (name : List ℕ) (i : ℕ) (t u : Tree) → IsSeeking name i t → member_of i t ≡ Some u → is_name_of (name_of u) name ≡ true
     → index_in name (members_of t) ≡ Some i
 seek_found name i (Struct ms l) u s e h = s.rest ∙ here_or name i ms u true e h
 seek_found name i (Union ms l) u s e h = s.rest ∙ here_or name i ms u true e h
-seek_found name i (Value k o l) u s e h = absurd (cc)
-seek_found name i (Padding n l) u s e h = absurd (cc)
-seek_found name i (Sequence n x l) u s e h = absurd (cc)
+seek_found name i t u s e h = absurd (cc)
 
 -- no member left
 pub seek_past : (name : List ℕ) (i : ℕ) (t : Tree) → IsSeeking name i t → member_of i t ≡ None → index_in name (members_of t) ≡ None
 seek_past name i (Struct ms l) s e = s.rest ∙ ap (index_named name i) (skip_past i ms e)
 seek_past name i (Union ms l) s e = s.rest ∙ ap (index_named name i) (skip_past i ms e)
-seek_past name i (Value k o l) s e = s.rest
-seek_past name i (Padding n l) s e = s.rest
-seek_past name i (Sequence n x l) s e = s.rest
+seek_past name i t s e = s.rest
 
 pub seek_end : (name : List ℕ) (i count : ℕ) (t : Tree) → IsSeeking name i t → count_in (members_of t) ≡ Some count → count ≤ i
     → index_in name (members_of t) ≡ None
 seek_end name i count (Struct ms l) s e le = let c : count_of ms ≡ count = cc in s.rest ∙ ap (index_named name i) (skip_all i ms (omega arith))
 seek_end name i count (Union ms l) s e le = let c : count_of ms ≡ count = cc in s.rest ∙ ap (index_named name i) (skip_all i ms (omega arith))
-seek_end name i count (Value k o l) s e le = absurd (cc)
-seek_end name i count (Padding n l) s e le = absurd (cc)
-seek_end name i count (Sequence n x l) s e le = absurd (cc)
+seek_end name i count t s e le = absurd (cc)

@@ -1,6 +1,6 @@
 -- At steps there stands one layout.
-use Rattle.std.proofs.Common.{◌≡◌, sym, ap, subst, ℕ, List, [], ◌∷◌, arith, ◌∙◌}
-use Rattle.fm_layout.specs.Tree.{Tree, Value, Padding, Sequence, Struct, Union}
+use Rattle.std.proofs.Common.{◌≡◌, sym, subst, ℕ, List, [], ◌∷◌, arith, ◌∙◌}
+use Rattle.fm_layout.specs.Tree.{Tree, Sequence, Struct, Union}
 use Rattle.fm_lists.specs.Among.{IsAmong}
 use Rattle.fm_path_meaning.specs.Places.{Step, Element, Member, Place, places, IsPart, IsAt}
 use Rattle.fm_path_meaning.proofs.Inside.{stands_once, first_once}
@@ -11,13 +11,7 @@ part_once : (s : Step) (t : Tree) (a b : ℕ) (c d : Tree) → IsPart s t a c �
 part_once (Element i) (Sequence n e l) a b c d p q = (p.1 ∙ sym q.1, p.2 ∙ sym q.2)
 part_once (Member i) (Struct ms l) a b c d p q = stands_once i ms a b c d p q
 part_once (Member i) (Union ms l) a b c d p q = first_once i ms a b c d p q
-part_once (Element i) (Value k o l) a b c d p q = absurd p
-part_once (Element i) (Padding n l) a b c d p q = absurd p
-part_once (Element i) (Struct ms l) a b c d p q = absurd p
-part_once (Element i) (Union ms l) a b c d p q = absurd p
-part_once (Member i) (Value k o l) a b c d p q = absurd p
-part_once (Member i) (Padding n l) a b c d p q = absurd p
-part_once (Member i) (Sequence n e l) a b c d p q = absurd p
+part_once s t a b c d p q = absurd p
 
 -- So do several.
 pub at_once : (ss : List Step) (t : Tree) (a b : ℕ) (u v : Tree) → IsAt ss t a u → IsAt ss t b v → (a ≡ b) × (u ≡ v)
@@ -29,7 +23,7 @@ at_once (s ∷ ss) t a b u v h k =
 
 -- Places of equal parts are equal.
 same_place : (ss rs : List Step) (a b : ℕ) (u v : Tree) → ss ≡ rs → a ≡ b → u ≡ v → at_steps ss a u ≡ at_steps rs b v
-same_place ss rs a b u v e f g = ap (λ x. at_steps x a u) e ∙ ap (λ x. at_steps rs x u) f ∙ ap (λ x. at_steps rs b x) g
+same_place ss rs a b u v e f g = cc
 
 -- Two listed places with the same steps are one.
 pub place_once : (t : Tree) (p q : Place) → IsAmong p (places t) → IsAmong q (places t) → p.steps ≡ q.steps → p ≡ q

@@ -1,24 +1,21 @@
 -- The pass over a path, step by step, and what it comes to.
-use Rattle.std.proofs.Common.{◌≡◌, refl, sym, ap, subst, ℕ, ℤ, pos, negsuc, ◌+◌, ◌-◌, ◌*◌, ◌%◌, ◌^◌, ◌<◌, ◌≤◌, min, Bool, true, false, nat_lt, if◌then◌else◌, Option, Some, None, Result, Ok, Err, List, [], ◌∷◌, ◌++◌, length, drop, get_or, arith, ◌∙◌}
+use Rattle.std.proofs.Common.{◌≡◌, refl, sym, ap, subst, ℕ, ℤ, pos, negsuc, ◌+◌, ◌-◌, ◌%◌, ◌^◌, ◌<◌, ◌≤◌, min, Option, Some, None, Result, Ok, Err, List, [], ◌∷◌, ◌++◌, length, drop, get_or, arith, ◌∙◌}
 use Rattle.std.proofs.lemmas.List.{append_assoc, append-nil, drop_more, drop_all}
 use Rattle.fm_base.specs.declared.refusal.Refusal.{Refusal}
-use Rattle.fm_base.specs.declared.refusal.Refusal.TheVariants.{IndexOut}
 use Rattle.std.specs.Int.{IsPowerOfTwo}
-use Rattle.fm_layout.specs.Tree.{Tree, Trees, Value, Padding, Sequence, Struct, Union, alignment_of}
+use Rattle.fm_layout.specs.Tree.{Tree, alignment_of}
 use Rattle.fm_layout.specs.Size.{size_of}
-use Rattle.fm_layout.specs.Parts.{tree_at}
 use Rattle.fm_layout.specs.WellFormed.{IsWellFormed}
 use Rattle.fm_layout.proofs.Sound.{fit_of}
 use Rattle.fm_path_text.specs.declared.step.PathStep.{PathStep}
-use Rattle.fm_path_text.specs.declared.step.PathStep.TheVariants.{Name, Group, At, Each, EachFrom}
+use Rattle.fm_path_text.specs.declared.step.PathStep.TheVariants.{Each, EachFrom}
 use Rattle.fm_path_meaning.specs.declared.dim.Dim.{Dim}
-use Rattle.fm_path_meaning.specs.Places.{Step}
-use Rattle.fm_path_meaning.specs.Follow.{index_named, taken, taken_closed, ◌>>=◌, follow_closed}
+use Rattle.fm_path_meaning.specs.Follow.{taken, taken_closed, ◌>>=◌, follow_closed}
 use Rattle.fm_path_meaning.specs.Found.{LeadsTo, Finds, FindsClosed, end_from, end_of, IsRefused}
 use Rattle.fm_path_meaning.specs.Steady.{IsSteady}
-use Rattle.fm_path_meaning.specs.Walk.{Move, Moved, move_member, move_found, move, move_closed, Walk, with_dim, moved, walk_by, walk, walk_closed, reach, offset_at, AreAdmitted}
+use Rattle.fm_path_meaning.specs.Walk.{Move, Moved, move, move_closed, Walk, with_dim, moved, walk_by, walk, walk_closed, reach, offset_at, AreAdmitted}
 use Rattle.fm_path_meaning.proofs.Agreeing.{Meets, StaysAbove, Agrees, agrees, agrees_closed}
-use Rattle.fm_path_meaning.proofs.Fitting.{Tells, Fits, fits}
+use Rattle.fm_path_meaning.proofs.Fitting.{takes, Fits, fits, closed}
 use Rattle.fm_path_meaning.proofs.Inside.{inside, place_aligned, place_fits_root}
 use Rattle.fm_path_meaning.proofs.Listed.{listed}
 
@@ -37,7 +34,7 @@ made a ds u = Ok (record { offset = a; dims = ds; last = u })
 
 -- walks of equal parts are equal
 made_like : (a b : ℕ) (ds es : List Dim) (u : Tree) → a ≡ b → ds ≡ es → made a ds u ≡ made b es u
-made_like a b ds es u e f = ap (λ x. made x ds u) e ∙ ap (λ x. made b x u) f
+made_like a b ds es u e f = cc
 
 -- a move goes onto the way so far
 onto_moved : (a : ℕ) (ds : List Dim) (m : Move) (r : Result Walk Refusal) → onto a ds (moved m r) ≡ onto (a + m.by) (ds ++ with_dim m.dim []) r
@@ -55,10 +52,6 @@ pub record IsOnWay (go : ℕ → PathStep → Tree → Moved) (path : List PathS
   pub true_offset : ℕ
   pub kept : offset ≡ min true_offset (2 ^ 64 - 1)
   pub way : onto true_offset dims (walk_by go (drop k path) k here) ≡ walk_by go path 0 t
-
--- before the first step nothing was walked
-pub on_way_start : (go : ℕ → PathStep → Tree → Moved) (path : List PathStep) (t : Tree) → IsOnWay go path t 0 0 [] t
-on_way_start go path t = record { true_offset = 0; kept = omega arith; way = onto_nothing (walk_by go path 0 t) }
 
 -- one more step
 pub on_way_more : (go : ℕ → PathStep → Tree
@@ -111,8 +104,7 @@ zeros (i ∷ is) = 0 ∷ zeros is
 zeros_admitted : (ds : List Dim) (is : List ℕ) → AreAdmitted ds is → AreAdmitted ds (zeros is)
 zeros_admitted [] [] a = tt
 zeros_admitted (d ∷ ds) (i ∷ is) a = (omega (arith, a.0), zeros_admitted ds is a.1)
-zeros_admitted [] (i ∷ is) a = absurd a
-zeros_admitted (d ∷ ds) [] a = absurd a
+zeros_admitted ds is a = absurd a
 
 -- index 0 stays where it is
 reach_zero : (at : ℕ) (z : ℤ) → reach at z 0 ≡ at
@@ -137,39 +129,6 @@ small_offset path t a dims u w is h =
     let m = met path t a dims u w (zeros is) (zeros_admitted dims is h) in
     omega (arith, inside m.steps t _ u m.stands, at_zeros a dims is)
 
--- and then it was kept whole
-same_offset : (path : List PathStep) (t : Tree) (offset : ℕ) (dims : List Dim) (u : Tree) → IsWellFormed t → (l : LeadsTo path t offset dims u)
-    → (is : List ℕ) → AreAdmitted dims is → l.whole ≡ offset
-same_offset path t offset dims u well l is h = omega (arith, l.kept, small_offset path t l.whole dims u l.walked is h, (fit_of t well).size)
-
--- at admitted indices the offset is that of the place that following the path finds
-pub leads_finds : (path : List PathStep) (t : Tree) (offset : ℕ) (dims : List Dim) (u : Tree) → IsWellFormed t → LeadsTo path t offset dims u → (is : List ℕ)
-    → AreAdmitted dims is → Finds path t is (offset_at offset dims is) u
-leads_finds path t offset dims u well l is h =
-    let m = met path t l.whole dims u l.walked is h in
-    subst (λ x. Finds path t is (offset_at x dims is) u) (same_offset path t offset dims u well l is h)
-    (record { steps = m.steps; follows = m.follows; listed = listed t m.steps (offset_at l.whole dims is) u m.stands })
-
--- and that place lies inside the layout
-pub leads_inside : (path : List PathStep) (t : Tree) (offset : ℕ) (dims : List Dim) (u : Tree) → IsWellFormed t → LeadsTo path t offset dims u → (is : List ℕ)
-    → AreAdmitted dims is → offset_at offset dims is + size_of u ≤ size_of t
-leads_inside path t offset dims u well l is h =
-    let m = met path t l.whole dims u l.walked is h in
-    subst (λ x. offset_at x dims is + size_of u ≤ size_of t) (same_offset path t offset dims u well l is h) (inside m.steps t _ u m.stands)
-
--- that place stands at a multiple of its alignment, which is a power of two and divides the layout's
-pub leads_aligned : (path : List PathStep) (t : Tree) (offset : ℕ) (dims : List Dim) (u : Tree) → IsWellFormed t → LeadsTo path t offset dims u
-    → (is : List ℕ) → AreAdmitted dims is
-    → IsPowerOfTwo (alignment_of u) × (offset_at offset dims is % alignment_of u ≡ 0) × (alignment_of t % alignment_of u ≡ 0)
-leads_aligned path t offset dims u well l is h =
-    let m = met path t l.whole dims u l.walked is h in
-    let fit = place_fits_root m.steps t (offset_at l.whole dims is) u well m.stands in
-    let same = same_offset path t offset dims u well l is h in (
-      (fit_of u fit.0).power,
-      subst (λ x. offset_at x dims is % alignment_of u ≡ 0) same (place_aligned m.steps t (offset_at l.whole dims is) u well m.stands),
-      fit.1,
-    )
-
 -- each offset on the way is that of a place
 keeps_inside : (at most : ℕ) (ds : List Dim) (is : List ℕ) → most < 2 ^ 64 → ((js : List ℕ) → AreAdmitted ds js → offset_at at ds js ≤ most)
     → StaysAbove at ds is → AreAdmitted ds is → IsSteady at ds is
@@ -181,20 +140,47 @@ keeps_inside at most (d ∷ ds) (i ∷ is) lt f s a =
       keeps_inside (reach at d.stride i) most ds is lt (λ js b. f (i ∷ js) (a.0, b)) s.1 a.1,
     )
 
--- so no sum over admitted indices passes 64 bits or falls below 0
-pub leads_steady : (path : List PathStep) (t : Tree) (offset : ℕ) (dims : List Dim) (u : Tree) → IsWellFormed t → LeadsTo path t offset dims u → (is : List ℕ)
-    → AreAdmitted dims is → IsSteady offset dims is
-leads_steady path t offset dims u well l is h =
-    subst (λ x. IsSteady x dims is) (same_offset path t offset dims u well l is h)
-    (keeps_inside l.whole (size_of t) dims is (omega (arith, (fit_of t well).size))
-    (λ js b. let m = met path t l.whole dims u l.walked js b in omega (arith, inside m.steps t _ u m.stands))
-    (met path t l.whole dims u l.walked is h).steady h)
+module _ (path : List PathStep) (t : Tree) (offset : ℕ) (dims : List Dim) (u : Tree) (well : IsWellFormed t) (l : LeadsTo path t offset dims u) where
+  -- at these indices
+  meets : (is : List ℕ) → AreAdmitted dims is → Meets taken path 0 t (record { offset = l.whole; dims = dims; last = u }) is
+  meets is h = met path t l.whole dims u l.walked is h
+
+  -- the offset was kept whole
+  same_offset : (is : List ℕ) → AreAdmitted dims is → l.whole ≡ offset
+  same_offset is h = omega (arith, l.kept, small_offset path t l.whole dims u l.walked is h, (fit_of t well).size)
+
+  -- and is that of the place that following the path finds
+  pub leads_finds : (is : List ℕ) → AreAdmitted dims is → Finds path t is (offset_at offset dims is) u
+  leads_finds is h =
+      let m = meets is h in
+      subst (λ x. Finds path t is (offset_at x dims is) u) (same_offset is h)
+      (record { steps = m.steps; follows = m.follows; listed = listed t m.steps (offset_at l.whole dims is) u m.stands })
+
+  -- and that place lies inside the layout
+  pub leads_inside : (is : List ℕ) → AreAdmitted dims is → offset_at offset dims is + size_of u ≤ size_of t
+  leads_inside is h =
+      let m = meets is h in
+      subst (λ x. offset_at x dims is + size_of u ≤ size_of t) (same_offset is h) (inside m.steps t _ u m.stands)
+
+  -- that place stands at a multiple of its alignment, which is a power of two and divides the layout's
+  pub leads_aligned : (is : List ℕ) → AreAdmitted dims is
+      → IsPowerOfTwo (alignment_of u) × (offset_at offset dims is % alignment_of u ≡ 0) × (alignment_of t % alignment_of u ≡ 0)
+  leads_aligned is h =
+      let m = meets is h in
+      let fit = place_fits_root m.steps t (offset_at l.whole dims is) u well m.stands in (
+        (fit_of u fit.0).power,
+        subst (λ x. offset_at x dims is % alignment_of u ≡ 0) (same_offset is h) (place_aligned m.steps t (offset_at l.whole dims is) u well m.stands),
+        fit.1,
+      )
+
+  -- so no sum over admitted indices passes 64 bits or falls below 0
+  pub leads_steady : (is : List ℕ) → AreAdmitted dims is → IsSteady offset dims is
+  leads_steady is h =
+      subst (λ x. IsSteady x dims is) (same_offset is h)
+      (keeps_inside l.whole (size_of t) dims is (omega (arith, (fit_of t well).size))
+      (λ js b. let m = meets js b in omega (arith, inside m.steps t _ u m.stands)) (meets is h).steady h)
 
 -- the layout at the walk's end is the one at the path's end
-ends_by_dim : (k : ℕ) (p : PathStep) (t : Tree) (o : Option Dim) (by : ℕ) (u : Tree) → Tells (taken k p t) p t o by u → (s : Step) × (taken k p t 0 ≡ Ok (s, u))
-ends_by_dim k p t None by u f = ((f.1 0).0, (f.1 0).1)
-ends_by_dim k p t (Some d) by u f = ((f.1 0).0, (f.1 0).1)
-
 abbrev Ends : List PathStep → ℕ → Tree → Result Walk Refusal → Type 0
 Ends ps k t (Ok w) = end_from ps k t ≡ Ok w.last
 Ends ps k t (Err e) = end_from ps k t ≡ Err e
@@ -214,7 +200,7 @@ ends_join : (p : PathStep) (ps : List PathStep) (k : ℕ) (t : Tree) (r : Moved)
     → ((u : Tree) → Ends ps (k + 1) u (walk_by move ps (k + 1) u)) → Ends (p ∷ ps) k t (r >>= λ m. moved m (walk_by move ps (k + 1) m.to))
 ends_join p ps k t (Err e) f ih = ap (λ c. c >>= λ c. end_from ps (k + 1) c.1) (f 0)
 ends_join p ps k t (Ok m) f ih =
-    let e = ends_by_dim k p t m.dim m.by m.to f in
+    let e = takes (taken k p t) p t m.dim m.by m.to f 0 in
     ends_like (p ∷ ps) ps k (k + 1) t m.to (moved m (walk_by move ps (k + 1) m.to)) (ap (λ c. c >>= λ c. end_from ps (k + 1) c.1) e.1)
     (ends_moved ps (k + 1) m (walk_by move ps (k + 1) m.to) (ih m.to))
 
@@ -249,41 +235,11 @@ on_way_finds path t k offset here well w le =
     let same : e.0 ≡ offset = omega (arith, e.1, f.1, (fit_of t well).size) in
     subst (λ x. FindsClosed path t x here) same f.0
 
--- a step to a member, found or not, has no dim
-member_no_dim : (k n : ℕ) (t : Tree) (o : Option Tree) (m : Move) → move_member k n t o ≡ Ok m → m.dim ≡ None
-member_no_dim k n t None m e = absurd (cc)
-member_no_dim k n t (Some u) m e = cc
-
--- a step by name has no dim
-found_no_dim : (k : ℕ) (t : Tree) (ms : Trees) (o : Option ℕ) (m : Move) → move_found k t ms o ≡ Ok m → m.dim ≡ None
-found_no_dim k t ms None m e = absurd (cc)
-found_no_dim k t ms (Some n) m e = member_no_dim k n t (tree_at n ms) m e
-
--- a step to an element has no dim
-at_no_dim : (k n : ℕ) (u : Tree) (b : Bool) (m : Move) → (if b then Ok (record { by = n * size_of u; dim = None; to = u }) else Err (IndexOut k)) ≡ Ok m
-    → m.dim ≡ None
-at_no_dim k n u true m e = cc
-at_no_dim k n u false m e = absurd (cc)
-
 -- no step that may be taken where none is left open has a dim
 closed_no_dim : (k : ℕ) (p : PathStep) (t : Tree) (m : Move) → move_closed k p t ≡ Ok m → m.dim ≡ None
-closed_no_dim k (Name name) (Struct ms l) m e = found_no_dim k (Struct ms l) ms (index_named name 0 ms) m e
-closed_no_dim k (Name name) (Union ms l) m e = found_no_dim k (Union ms l) ms (index_named name 0 ms) m e
-closed_no_dim k (Name name) (Value v o l) m e = absurd (cc)
-closed_no_dim k (Name name) (Padding n l) m e = absurd (cc)
-closed_no_dim k (Name name) (Sequence c x l) m e = absurd (cc)
-closed_no_dim k (Group n) (Struct ms l) m e = member_no_dim k n (Struct ms l) (tree_at n ms) m e
-closed_no_dim k (Group n) (Union ms l) m e = member_no_dim k n (Union ms l) (tree_at n ms) m e
-closed_no_dim k (Group n) (Value v o l) m e = absurd (cc)
-closed_no_dim k (Group n) (Padding c l) m e = absurd (cc)
-closed_no_dim k (Group n) (Sequence c x l) m e = absurd (cc)
-closed_no_dim k (At n) (Sequence c x l) m e = at_no_dim k n x (nat_lt n c) m e
-closed_no_dim k (At n) (Value v o l) m e = absurd (cc)
-closed_no_dim k (At n) (Padding c l) m e = absurd (cc)
-closed_no_dim k (At n) (Struct ms l) m e = absurd (cc)
-closed_no_dim k (At n) (Union ms l) m e = absurd (cc)
 closed_no_dim k Each t m e = absurd (cc)
 closed_no_dim k (EachFrom f s) t m e = absurd (cc)
+closed_no_dim k p t m e = (closed k p t m (λ is. refl) e).dim
 
 -- one more step where none may be left open
 pub on_way_closed : (path : List PathStep) (t : Tree) (k offset : ℕ) (here : Tree) (p : PathStep) (m : Move) (offset' : ℕ)

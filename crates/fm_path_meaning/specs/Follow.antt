@@ -5,17 +5,15 @@ use Rattle.fm_base.specs.declared.refusal.Refusal.{Refusal}
 use Rattle.fm_base.specs.declared.refusal.Refusal.TheVariants.{NotGroup, NoMember, NotSequence, IndexOut, StillOpen, BadStep}
 use Rattle.fm_path_text.specs.declared.step.PathStep.{PathStep}
 use Rattle.fm_path_text.specs.declared.step.PathStep.TheVariants.{Name, Group, At, Each, EachFrom}
-use Rattle.fm_layout.specs.Tree.{Tree, Trees, Value, Padding, Sequence, Struct, Union, NoMore, More, name_of}
+use Rattle.fm_layout.specs.Tree.{Tree, Trees, Sequence, Struct, Union, NoMore, More, name_of}
 use Rattle.fm_layout.specs.Parts.{tree_at, count_of}
 use Rattle.fm_path_meaning.specs.Places.{Step, Element, Member}
 
 -- the members of a struct or union
 abbrev pub members_of : Tree → Option Trees
-members_of (Value k o l) = None
-members_of (Padding n l) = None
-members_of (Sequence n e l) = None
 members_of (Struct ms l) = Some ms
 members_of (Union ms l) = Some ms
+members_of t = None
 
 abbrev pub IsStruct : Tree → Type 0
 IsStruct (Struct ms l) = Unit {0}
@@ -23,11 +21,8 @@ IsStruct t = ⊥
 
 -- how many elements a sequence has, and their layout
 abbrev pub row_of : Tree → Option (ℕ × Tree)
-row_of (Value k o l) = None
-row_of (Padding n l) = None
 row_of (Sequence n e l) = Some (n, e)
-row_of (Struct ms l) = None
-row_of (Union ms l) = None
+row_of t = None
 
 abbrev pub is_name_of : Option (List ℕ) → List ℕ → Bool
 is_name_of None name = false
@@ -103,11 +98,9 @@ taken k (EachFrom f s) t i = take_from k f s i (row_of t)
 
 -- the same where no step may be left open
 abbrev pub taken_closed : ℕ → PathStep → Tree → ℕ → Taken
-taken_closed k (Name name) t i = taken k (Name name) t i
-taken_closed k (Group n) t i = taken k (Group n) t i
-taken_closed k (At n) t i = taken k (At n) t i
 taken_closed k Each t i = Err (StillOpen k)
 taken_closed k (EachFrom f s) t i = Err (StillOpen k)
+taken_closed k p t i = taken k p t i
 
 -- the next index, and the indices after a step
 abbrev pub first : List ℕ → ℕ
@@ -119,11 +112,9 @@ others [] = []
 others (i ∷ is) = is
 
 abbrev pub after : PathStep → List ℕ → List ℕ
-after (Name name) is = is
-after (Group n) is = is
-after (At n) is = is
 after Each is = others is
 after (EachFrom f s) is = others is
+after p is = is
 
 abbrev pub before : Step → Result (List Step) Refusal → Result (List Step) Refusal
 before s (Ok ss) = Ok (s ∷ ss)

@@ -82,11 +82,9 @@ move k (EachFrom f s) t = move_from k f s (row_of t)
 
 -- the same where no step may be left open
 abbrev pub move_closed : ℕ → PathStep → Tree → Moved
-move_closed k (Name name) t = move k (Name name) t
-move_closed k (Group n) t = move k (Group n) t
-move_closed k (At n) t = move k (At n) t
 move_closed k Each t = Err (StillOpen k)
 move_closed k (EachFrom f s) t = Err (StillOpen k)
+move_closed k p t = move k p t
 
 -- where a path leads
 pub record Walk : Type 0 where

@@ -1,4 +1,5 @@
 pub mod Accepting
+pub mod Language
 pub mod Machine
 pub mod Moves
 pub mod Names

@@ -1,7 +1,9 @@
 -- What a machine over bytes does with a text, and what that says of the texts which it reads to their ends.
-use Rattle.std.proofs.Common.{◌≡◌, refl, sym, ap, subst, ℕ, ◌+◌, ◌<◌, Option, Some, None, List, [], ◌∷◌, ◌++◌, length, take, get_or, ◌∙◌}
+use Rattle.std.proofs.Common.{◌≡◌, refl, sym, ap, subst, ℕ, zero, suc, ◌+◌, ◌*◌, ◌/◌, ◌%◌, ◌^◌, ◌<◌, ◌≤◌, Option, Some, None, List, [], ◌∷◌, ◌++◌, length, take, get_or, arith, ◌∙◌}
+use Rattle.std.specs.Prelude.{decimal}
 use Rattle.std.specs.Option.{IfSome}
 use Rattle.std.proofs.lemmas.List.{append_assoc, append-nil, take_more}
+use Rattle.std.proofs.lemmas.Fmt.{decimal_by_steps, decimal_digit}
 use Rattle.fm_path_text.specs.Machine.{onward, run}
 
 -- Reading two texts is reading one and then the other.
@@ -18,6 +20,31 @@ run_none step (b ∷ bs) = run_none step bs
 pub run_more : {S : Type 0} (step : S → ℕ → Option S) (text : List ℕ) (i : ℕ) (o : Option S) → i < length text
     → run step (take (i + 1) text) o ≡ onward step (run step (take i text) o) (get_or text i 0)
 run_more step text i o lt = ap (λ t. run step t o) (take_more text i 0 lt) ∙ run_append step (take i text) (get_or text i 0 ∷ []) o
+
+-- The digits of a number above 0 lead to where it stands, where each digit leads on so.
+pub run_positive : {S : Type 0} (step : S → ℕ → Option S) (from : S) (at : ℕ → S) (most : ℕ) → most < 2 ^ 64
+    → ((d : ℕ) → d < 10 → 0 < d → step from (48 + d) ≡ Some (at d))
+    → ((n d : ℕ) → d < 10 → 0 < n → 10 * n + d ≤ most → step (at n) (48 + d) ≡ Some (at (10 * n + d)))
+    → (n : ℕ) → 0 < n → n ≤ most → run step (decimal n) (Some from) ≡ Some (at n)
+run_positive step from at most small one again n gt le =
+    decimal_by_steps (λ n text. 0 < n → n ≤ most → run step text (Some from) ≡ Some (at n))
+    (λ n below gt _. one n below gt)
+    (λ n text big ih gt le.
+    let e : 10 * (n / 10) + n % 10 ≡ n = omega arith in
+    run_append step text ((48 + n % 10) ∷ []) (Some from)
+    ∙ ap (λ o. onward step o (48 + n % 10)) (ih (omega arith) (omega arith))
+    ∙ again (n / 10) (n % 10) (omega arith) (omega arith) (omega arith)
+    ∙ ap (λ m. Some (at m)) e)
+    n (omega arith) gt le
+
+-- So do those of each number, where the first may be 0.
+pub run_number : {S : Type 0} (step : S → ℕ → Option S) (from : S) (at : ℕ → S) (most : ℕ) → most < 2 ^ 64
+    → ((d : ℕ) → d < 10 → step from (48 + d) ≡ Some (at d))
+    → ((n d : ℕ) → d < 10 → 0 < n → 10 * n + d ≤ most → step (at n) (48 + d) ≡ Some (at (10 * n + d)))
+    → (n : ℕ) → n ≤ most → run step (decimal n) (Some from) ≡ Some (at n)
+run_number step from at most small one again zero le = rw (decimal_digit 0 (omega arith)) (one 0 (omega arith))
+run_number step from at most small one again (suc n) le =
+    run_positive step from at most small (λ d below _. one d below) again (suc n) (omega arith) le
 
 -- What each byte keeps of the text so far and of where the machine stands.
 abbrev pub Keeps : {S : Type 0} → (S → ℕ → Option S) → (List ℕ → S → Type 0) → Type 0
@@ -39,26 +66,3 @@ run_keeps step P keeps (b ∷ bs) text o h =
 -- The machine reads this text to its end, and stands where this is whole.
 abbrev pub Accepts : {S Q : Type 0} → (S → ℕ → Option S) → Option S → (S → Option Q) → List ℕ → Q → Type 0
 Accepts {S} step start whole text q = (s : S) × (run step text start ≡ Some s) × (whole s ≡ Some q)
-
--- A text that it stops in begins none that it reads.
-pub stops_short : {S Q : Type 0} (step : S → ℕ → Option S) (start : Option S) (whole : S → Option Q) (text rest all : List ℕ) (q : Q)
-    → run step text start ≡ None → text ++ rest ≡ all → Accepts step start whole all q → ⊥
-stops_short step start whole text rest all q e is a =
-    let f : None ≡ Some a.0 = sym (run_none step rest) ∙ ap (run step rest) (sym e) ∙ sym (run_append step text rest start)
-    ∙ ap (λ t. run step t start) is ∙ a.1 in
-    absurd (cc)
-
--- It comes to one place.
-one_place : {S Q : Type 0} (step : S → ℕ → Option S) (start : Option S) (whole : S → Option Q) (text : List ℕ) (s : S) (q : Q)
-    → run step text start ≡ Some s → Accepts step start whole text q → whole s ≡ Some q
-one_place step start whole text s q e a = let f : Some s ≡ Some a.0 = sym e ∙ a.1 in let g : s ≡ a.0 = cc in ap whole g ∙ a.2
-
--- Where nothing is whole, it read none of these texts.
-pub reads_none : {S Q : Type 0} (step : S → ℕ → Option S) (start : Option S) (whole : S → Option Q) (text : List ℕ) (s : S) (q : Q)
-    → run step text start ≡ Some s → whole s ≡ None → Accepts step start whole text q → ⊥
-reads_none step start whole text s q e w a = let f : None ≡ Some q = sym w ∙ one_place step start whole text s q e a in absurd (cc)
-
--- What is whole there is all that the text spells.
-pub reads_one : {S Q : Type 0} (step : S → ℕ → Option S) (start : Option S) (whole : S → Option Q) (text : List ℕ) (s : S) (q r : Q)
-    → run step text start ≡ Some s → whole s ≡ Some q → Accepts step start whole text r → q ≡ r
-reads_one step start whole text s q r e w a = let f : Some q ≡ Some r = sym w ∙ one_place step start whole text s r e a in cc

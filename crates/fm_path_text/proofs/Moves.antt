@@ -1,5 +1,5 @@
 -- What the machine has read, and how it can go on.
-use Rattle.std.proofs.Common.{◌≡◌, refl, sym, ap, ℕ, ◌+◌, ◌-◌, ◌*◌, ◌/◌, ◌%◌, ◌<◌, ◌≤◌, zero, suc, true, ◌||◌, if◌then◌else◌, nat_eq, nat_lt, nat_le, Some, None, List, [], ◌∷◌, ◌++◌, length, arith, ◌∙◌}
+use Rattle.std.proofs.Common.{◌≡◌, refl, sym, ap, ℕ, ◌+◌, ◌-◌, ◌*◌, ◌/◌, ◌%◌, ◌^◌, ◌<◌, ◌≤◌, zero, suc, true, ◌||◌, if◌then◌else◌, nat_eq, nat_lt, nat_le, Some, None, List, [], ◌∷◌, ◌++◌, length, arith, ◌∙◌}
 use Rattle.std.specs.Prelude.{IsTrue, decimal, pos, neg_ℤ}
 use Rattle.std.specs.Fmt.{signed_decimal}
 use Rattle.std.proofs.lemmas.Bool.{cond_both, eqb-true, ltb-true, leb-true}
@@ -60,7 +60,7 @@ Writes (sign.Letter c) b = (b ≡ c) × IsTrue (is_letter c)
 Writes sign.Other b = Unit {0}
 
 -- a digit is 48 and its value
-digit_is : (b : ℕ) → is_digit b ≡ true → Writes (sign.Digit (b - 48)) b
+pub digit_is : (b : ℕ) → is_digit b ≡ true → Writes (sign.Digit (b - 48)) b
 digit_is b h = (grind (arith, nat_tests), grind (arith, nat_tests))
 
 -- the sign of a byte says which byte it is
@@ -76,11 +76,11 @@ told b =
     cond_both (is_letter b) _ _ (λ s. Writes s b) (λ h. (refl, h)) (λ _. tt))))))))
 
 -- the text of a number with one more digit
-decimal_more : (n d : ℕ) → 0 < n → d < 10 → 10 * n + d ≤ most_number → decimal (10 * n + d) ≡ decimal n ++ (48 + d) ∷ []
+pub decimal_more : (n d : ℕ) → 0 < n → d < 10 → 10 * n + d ≤ 2 ^ 63 → decimal (10 * n + d) ≡ decimal n ++ (48 + d) ∷ []
 decimal_more n d gt small le =
     let q : (10 * n + d) / 10 ≡ n = omega arith in
     let r : (10 * n + d) % 10 ≡ d = omega arith in
-    decimal_step (10 * n + d) (omega arith) (omega arith) ∙ ap (λ m. decimal m ++ (48 + (10 * n + d) % 10) ∷ []) q ∙ ap (λ m. decimal n ++ (48 + m) ∷ []) r
+    rw (decimal_step (10 * n + d) (omega arith) (omega arith), q, r) refl
 
 -- what a move leaves, where byte b was read behind k pieces
 abbrev pub Leaves : Part → ℕ → ℕ → Move → Type 0
@@ -117,10 +117,6 @@ letter_or c h = rw h refl
 pub digit_or : (d : ℕ) → d < 10 → IsTrue (is_letter (48 + d) || is_digit (48 + d))
 digit_or d h = grind (arith, nat_tests)
 
--- one more byte behind [F
-longer : (f c b : ℕ) (xs ys : List ℕ) → xs ++ b ∷ [] ≡ ys → (91 ∷ decimal f ++ xs) ++ b ∷ [] ≡ 91 ∷ decimal f ++ ys
-longer f c b xs ys e = append_assoc (91 ∷ decimal f) xs (b ∷ []) ∙ ap (λ t. 91 ∷ decimal f ++ t) e
-
 -- a number below 0 is written with a minus
 pub minus_text : (n : ℕ) → 0 < n → signed_decimal (neg_ℤ (pos n)) ≡ 45 ∷ decimal n
 minus_text zero h = absurd (omega arith)
@@ -130,6 +126,10 @@ minus_text (suc n) h = refl
 minus_mag : (n : ℕ) → n ≤ most_number → magnitude (neg_ℤ (pos n)) ≤ most_number
 minus_mag zero h = omega arith
 minus_mag (suc n) h = omega arith
+
+-- one more byte behind [F
+longer : (f b : ℕ) (xs ys : List ℕ) → xs ++ b ∷ [] ≡ ys → (91 ∷ decimal f ++ xs) ++ b ∷ [] ≡ 91 ∷ decimal f ++ ys
+longer f b xs ys e = simp (append_assoc, e)
 
 -- each byte leaves what the part after it shows
 pub leaves : (p : Part) (k : ℕ) (s : Sign) (b : ℕ) → Writes s b → IsLive k p → Leaves p k b (next p k s)
@@ -141,52 +141,30 @@ leaves (Word s) k (sign.Letter c) b w live = spells_leaves s c k b w.0 (letter_o
 leaves (Word s) k (sign.Digit d) b w live = spells_leaves s (48 + d) k b w.0 (digit_or d w.1) live
 leaves (Word s) k sign.Dot b w live = closes_leaves (Word s) Dot (Name s) k b (λ h. (ap (λ x. 46 ∷ s ++ x ∷ []) w, live.1, h))
 leaves (Word s) k sign.Open b w live = closes_leaves (Word s) Open (Name s) k b (λ h. (ap (λ x. 46 ∷ s ++ x ∷ []) w, live.1, h))
-leaves Hash k (sign.Digit d) b w live = (ap (λ x. 46 ∷ 35 ∷ x ∷ []) w.0 ∙ ap (λ xs. 46 ∷ 35 ∷ xs) (sym (decimal_digit d w.1)), (live, omega (arith, w.1)))
+leaves Hash k (sign.Digit d) b w live = (simp (w.0, decimal_digit d w.1), (live, omega (arith, w.1)))
 leaves (Number n) k (sign.Digit d) b w live =
-    counts_leaves (Number n) Number n d k b (λ gt le. (
-      ap (λ x. 46 ∷ 35 ∷ decimal n ++ x ∷ []) w.0
-          ∙ ap (λ xs. 46 ∷ 35 ∷ xs) (sym (decimal_more n d gt w.1 le)),
-      (live.0, le),
-    ))
+    counts_leaves (Number n) Number n d k b (λ gt le. (simp (w.0, decimal_more n d gt w.1 (omega (arith, le))), (live.0, le)))
 leaves (Number n) k sign.Dot b w live = closes_leaves (Number n) Dot (Group n) k b (λ h. (ap (λ x. 46 ∷ 35 ∷ decimal n ++ x ∷ []) w, live.1, h))
 leaves (Number n) k sign.Open b w live = closes_leaves (Number n) Open (Group n) k b (λ h. (ap (λ x. 46 ∷ 35 ∷ decimal n ++ x ∷ []) w, live.1, h))
 leaves Open k sign.Close b w live = (ap (λ x. 91 ∷ x ∷ []) w, tt, omega arith)
-leaves Open k (sign.Digit d) b w live = (ap (λ x. 91 ∷ x ∷ []) w.0 ∙ ap (λ xs. 91 ∷ xs) (sym (decimal_digit d w.1)), (live, omega (arith, w.1)))
+leaves Open k (sign.Digit d) b w live = (simp (w.0, decimal_digit d w.1), (live, omega (arith, w.1)))
 leaves (Index n) k (sign.Digit d) b w live =
-    counts_leaves (Index n) Index n d k b (λ gt le. (
-      ap (λ x. 91 ∷ decimal n ++ x ∷ []) w.0
-          ∙ ap (λ xs. 91 ∷ xs) (sym (decimal_more n d gt w.1 le)),
-      (live.0, le),
-    ))
-leaves (Index n) k sign.Close b w live = (ap (λ x. 91 ∷ decimal n ++ x ∷ []) w ∙ sym (append-nil (91 ∷ decimal n ++ 93 ∷ [])), live.1, omega arith)
+    counts_leaves (Index n) Index n d k b (λ gt le. (simp (w.0, decimal_more n d gt w.1 (omega (arith, le))), (live.0, le)))
+leaves (Index n) k sign.Close b w live = (simp (w, append-nil), live.1, omega arith)
 leaves (Index n) k sign.Colon b w live = (ap (λ x. 91 ∷ decimal n ++ x ∷ []) w, live)
-leaves (Colon f) k sign.Minus b w live = (longer f 58 b (58 ∷ []) (58 ∷ 45 ∷ []) (ap (λ x. 58 ∷ x ∷ []) w), live)
-leaves (Colon f) k (sign.Digit d) b w live = (
-  longer f 58 b (58 ∷ []) (58 ∷ decimal d) (ap (λ x. 58 ∷ x ∷ []) w.0 ∙ ap (λ xs. 58 ∷ xs) (sym (decimal_digit d w.1))),
-  (live.0, live.1, omega (arith, w.1)),
-)
-leaves (Minus f) k (sign.Digit d) b w live = cond_both (nat_eq d 0) Dead (Stay (Down f d)) (Leaves (Minus f) k b) (λ _. tt) (λ h. (
-  longer f 58 b (58 ∷ 45 ∷ []) (58 ∷ 45 ∷ decimal d) (ap (λ x. 58 ∷ 45 ∷ x ∷ []) w.0 ∙ ap (λ xs. 58 ∷ 45 ∷ xs) (sym (decimal_digit d w.1))),
-  (live.0, live.1, omega (arith, w.1), grind (arith, nat_tests)),
-))
-leaves (Up f n) k (sign.Digit d) b w live = counts_leaves (Up f n) (Up f) n d k b (λ gt le. (
-  longer f 58 b (58 ∷ decimal n) (58 ∷ decimal (10 * n + d)) (ap (λ x. 58 ∷ decimal n ++ x ∷ []) w.0
-      ∙ ap (λ xs. 58 ∷ xs) (sym (decimal_more n d gt w.1 le))),
-  (live.0, live.1, le),
-))
-leaves (Down f n) k (sign.Digit d) b w live = counts_leaves (Down f n) (Down f) n d k b (λ gt le. (
-  longer f 58 b (58 ∷ 45 ∷ decimal n) (58 ∷ 45 ∷ decimal (10 * n + d)) (ap (λ x. 58 ∷ 45 ∷ decimal n ++ x ∷ []) w.0
-      ∙ ap (λ xs. 58 ∷ 45 ∷ xs) (sym (decimal_more n d gt w.1 le))),
-  (live.0, live.1, le, omega arith),
-))
-leaves (Up f n) k sign.Close b w live = (
-  longer f 58 b (58 ∷ decimal n) (58 ∷ decimal n ++ 93 ∷ []) (ap (λ x. 58 ∷ decimal n ++ x ∷ []) w)
-      ∙ sym (append-nil (91 ∷ decimal f ++ (58 ∷ decimal n ++ 93 ∷ []))),
-  (live.1, live.2),
-  omega arith,
-)
+leaves (Colon f) k sign.Minus b w live = (longer f b _ _ (simp w), live)
+leaves (Colon f) k (sign.Digit d) b w live = (longer f b _ _ (simp (w.0, decimal_digit d w.1)), (live.0, live.1, omega (arith, w.1)))
+leaves (Minus f) k (sign.Digit d) b w live =
+    cond_both (nat_eq d 0) Dead (Stay (Down f d)) (Leaves (Minus f) k b) (λ _. tt)
+    (λ h. (longer f b _ _ (simp (w.0, decimal_digit d w.1)), (live.0, live.1, omega (arith, w.1), grind (arith, nat_tests))))
+leaves (Up f n) k (sign.Digit d) b w live =
+    counts_leaves (Up f n) (Up f) n d k b (λ gt le. (longer f b _ _ (simp (w.0, decimal_more n d gt w.1 (omega (arith, le)))), (live.0, live.1, le)))
+leaves (Down f n) k (sign.Digit d) b w live =
+    counts_leaves (Down f n) (Down f) n d k b
+    (λ gt le. (longer f b _ _ (simp (w.0, decimal_more n d gt w.1 (omega (arith, le)))), (live.0, live.1, le, omega arith)))
+leaves (Up f n) k sign.Close b w live = (simp append-nil (longer f b _ _ (simp w)), (live.1, live.2), omega arith)
 leaves (Down f n) k sign.Close b w live = (
-  longer f 58 b (58 ∷ 45 ∷ decimal n) (58 ∷ 45 ∷ decimal n ++ 93 ∷ []) (ap (λ x. 58 ∷ 45 ∷ decimal n ++ x ∷ []) w)
+  longer f b (58 ∷ 45 ∷ decimal n) (58 ∷ 45 ∷ decimal n ++ 93 ∷ []) (simp w)
       ∙ ap (λ t. 91 ∷ decimal f ++ (58 ∷ t ++ 93 ∷ [])) (sym (minus_text n live.3))
       ∙ sym (append-nil (91 ∷ decimal f ++ (58 ∷ signed_decimal (neg_ℤ (pos n)) ++ 93 ∷ []))),
   (live.1, minus_mag n live.2),

@@ -1,18 +1,18 @@
 -- Steps of the loop over the bytes.
-use Rattle.std.proofs.Common.{◌≡◌, sym, ap, subst, ℕ, ◌+◌, ◌<◌, ◌≤◌, Some, None, List, [], ◌∷◌, ◌++◌, length, take, drop, get_or, arith, ◌∙◌}
-use Rattle.std.proofs.lemmas.List.{take-append-drop, take_all}
+use Rattle.std.proofs.Common.{◌≡◌, sym, ap, ℕ, ◌+◌, ◌<◌, ◌≤◌, Some, None, List, length, take, get_or, arith, ◌∙◌}
+use Rattle.std.proofs.lemmas.List.{take_all}
 use Rattle.fm_path_text.specs.declared.step.PathStep.{PathStep}
-use Rattle.fm_path_text.specs.Grammar.{IsTextOf, Begins, BeginsUpTo}
+use Rattle.fm_path_text.specs.Grammar.{IsTextOf, BeginsUpTo}
 use Rattle.fm_path_text.specs.Reader.{sign_of, next, spot, moved, reads, onward, run, start, whole, IsBounded}
 use Rattle.fm_path_text.specs.declared.part.Part.{Part}
-use Rattle.fm_path_text.specs.declared.part.Part.TheVariants.{Between, Dot, Word, Hash, Number, Open, Index, Colon, Minus, Up, Down}
+use Rattle.fm_path_text.specs.declared.part.Part.TheVariants.{Between, Dot, Hash, Open, Up, Down}
 use Rattle.fm_path_text.specs.declared.sign.Sign.{Sign}
 use Rattle.fm_path_text.specs.declared.part.Move.{Move}
-use Rattle.fm_path_text.specs.declared.part.Move.TheVariants.{Stay, Finish}
 use Rattle.fm_path_text.proofs.Machine.{run_more}
 use Rattle.fm_path_text.proofs.Moves.{IsLive}
-use Rattle.fm_path_text.proofs.Reading.{HasRead, MayHaveRead, has_read, read_nothing}
-use Rattle.fm_path_text.proofs.Accepting.{begins, stops, found, no_text, only}
+use Rattle.fm_path_text.proofs.Language.{only, leaves_at, leaves_behind}
+use Rattle.fm_path_text.proofs.Reading.{there_read}
+use Rattle.fm_path_text.proofs.Accepting.{reader, begins, found}
 
 -- what the loop keeps
 pub record IsReading (text : List ℕ) (i : ℕ) (ds : List PathStep) (p : Part) : Type 0 where
@@ -24,15 +24,9 @@ pub record IsReading (text : List ℕ) (i : ℕ) (ds : List PathStep) (p : Part)
 few : (k : ℕ) (p : Part) → IsLive k p → k ≤ 64
 few k Between h = h
 few k Dot h = omega arith
-few k (Word s) h = omega (arith, h.0)
 few k Hash h = omega arith
-few k (Number n) h = omega (arith, h.0)
 few k Open h = omega arith
-few k (Index n) h = omega (arith, h.0)
-few k (Colon f) h = omega (arith, h.0)
-few k (Minus f) h = omega (arith, h.0)
-few k (Up f n) h = omega (arith, h.0)
-few k (Down f n) h = omega (arith, h.0)
+few k p h = omega (arith, h.0)
 
 -- a stride is within the limit
 bounds : (k : ℕ) (p : Part) → IsLive k p → IsBounded p
@@ -43,7 +37,7 @@ bounds k _ h = tt
 -- what the loop keeps holds wherever the reader stands
 reading : (text : List ℕ) (i : ℕ) (ds : List PathStep) (p : Part) → run (take i text) start ≡ Some (spot ds p) → IsReading text i ds p
 reading text i ds p e =
-    let h : HasRead (take i text) (spot ds p) = subst (MayHaveRead (take i text)) e (has_read (take i text) [] start read_nothing) in
+    let h = there_read (take i text) (spot ds p) e in
     record { short = few (length ds) p h.live; bounded = bounds (length ds) p h.live; there = e }
 
 -- where the next byte leads
@@ -56,25 +50,15 @@ goes_on text i ds p k sg m h lt ek es em =
     ∙ ap (λ n. moved ds (next p n sg)) (sym ek)
     ∙ ap (moved ds) (sym em)
 
--- the loop after a byte inside a piece
-pub stays : (text : List ℕ) (i : ℕ) (ds es : List PathStep) (q r : Part) → run (take (i + 1) text) start ≡ moved ds (Stay q) → es ≡ ds → r ≡ q
+-- the loop after a byte
+pub stays : (text : List ℕ) (i : ℕ) (ds es : List PathStep) (q r : Part) → run (take (i + 1) text) start ≡ Some (spot ds q) → es ≡ ds → r ≡ q
     → IsReading text (i + 1) es r
 stays text i ds es q r h e f = reading text (i + 1) es r (h ∙ ap (λ x. Some (spot x q)) (sym e) ∙ ap (λ x. Some (spot es x)) (sym f))
-
--- the loop after a byte that ends a piece
-pub finishes : (text : List ℕ) (i : ℕ) (ds es : List PathStep) (d : PathStep) (q r : Part) → run (take (i + 1) text) start ≡ moved ds (Finish d q)
-    → es ≡ ds ++ d ∷ [] → r ≡ q → IsReading text (i + 1) es r
-finishes text i ds es d q r h e f = reading text (i + 1) es r (h ∙ ap (λ x. Some (spot x q)) (sym e) ∙ ap (λ x. Some (spot es x)) (sym f))
 
 -- where the reader dies the longest prefix ends
 pub ends_at : (text : List ℕ) (i : ℕ) (ds : List PathStep) (p : Part) → IsReading text i ds p → i < length text → run (take (i + 1) text) start ≡ None
     → BeginsUpTo i text
-ends_at text i ds p h lt e = record {
-  within = omega arith;
-  begins = begins (take i text) ds p h.there;
-  longest = λ _. stops (take (i + 1) text) e;
-  none = λ ps h t. stops (take (i + 1) text) e (drop (i + 1) text, ps, h, take-append-drop (i + 1) text ∙ t);
-}
+ends_at text i ds p h lt e = leaves_at reader text i lt (begins (take i text) ds p h.there) e
 
 -- after the last byte the whole text was read
 at_end : (text : List ℕ) (i : ℕ) (ds : List PathStep) (p : Part) → IsReading text i ds p → length text ≤ i → run text start ≡ Some (spot ds p)
@@ -85,16 +69,11 @@ pub is_found : (text : List ℕ) (i : ℕ) (ds qs : List PathStep) (p : Part) �
 is_found text i ds qs p h le w =
     let e = at_end text i ds p h le in
     let f = found text ds qs p e w in
-    record { is_path = f.0; spelled = f.1; only = only text ds qs p e w }
+    record { is_path = f.0; spelled = f.1; only = λ other. only reader text (spot ds p) qs other e w }
 
 -- a text whose last piece isn't whole begins a path's text as far as it goes
 pub ends_all : (text : List ℕ) (i : ℕ) (ds : List PathStep) (p : Part) → IsReading text i ds p → length text ≤ i → whole ds p ≡ None
     → BeginsUpTo (length text) text
 ends_all text i ds p h le w =
     let e = at_end text i ds p h le in
-    record {
-      within = omega arith;
-      begins = subst Begins (sym (take_all (length text) text (omega arith))) (begins text ds p e);
-      longest = λ lt. absurd (omega arith);
-      none = no_text text ds p e w;
-    }
+    leaves_behind reader text (spot ds p) (begins text ds p e) e w

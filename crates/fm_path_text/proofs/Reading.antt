@@ -1,18 +1,18 @@
 -- What the machine has read begins a text, and it reads each text.
-use Rattle.std.proofs.Common.{◌≡◌, refl, sym, ap, subst, ℕ, ◌+◌, ◌-◌, ◌<◌, zero, suc, true, if◌then◌else◌, Option, Some, List, [], ◌∷◌, ◌++◌, length, arith, ◌∙◌}
-use Rattle.std.specs.Prelude.{IsTrue, decimal, pos, negsuc}
+use Rattle.std.proofs.Common.{◌≡◌, refl, sym, ap, subst, ℕ, ◌+◌, ◌<◌, zero, suc, true, if◌then◌else◌, Option, Some, List, [], ◌∷◌, ◌++◌, length, arith, ◌∙◌}
+use Rattle.std.specs.Prelude.{decimal, pos, negsuc}
 use Rattle.std.specs.List.{AllByRecursion}
 use Rattle.std.specs.Option.{IfSome}
-use Rattle.std.proofs.lemmas.Bool.{lt-ltb, ne_eqb}
+use Rattle.std.proofs.lemmas.Bool.{lt-ltb}
 use Rattle.std.proofs.lemmas.Bool.Decides.{nat_tests}
 use Rattle.std.proofs.lemmas.List.{append_assoc, append-nil, length-append}
 use Rattle.std.proofs.lemmas.Fmt.{decimal_digit}
 use Rattle.fm_lists.proofs.Each.{all_snoc}
 use Rattle.fm_path_text.specs.declared.step.PathStep.{PathStep}
 use Rattle.fm_path_text.specs.declared.step.PathStep.TheVariants.{Name, Group, At, Each, EachFrom}
-use Rattle.fm_layout.specs.Name.{is_letter, is_digit}
+use Rattle.fm_layout.specs.Name.{is_digit}
 use Rattle.fm_path_text.specs.Grammar.{piece_of, pieces_of, path_text, HasPiece, IsPath, Begins}
-use Rattle.fm_path_text.specs.Reader.{sign_of, closes, opens, next, Spot, spot, moved, reads, onward, run, whole}
+use Rattle.fm_path_text.specs.Reader.{sign_of, closes, opens, next, Spot, spot, moved, reads, onward, run, start, whole}
 use Rattle.fm_path_text.specs.declared.part.Part.{Part}
 use Rattle.fm_path_text.specs.declared.part.Part.TheVariants.{Between, Dot, Word, Hash, Number, Open, Index, Colon, Minus, Up, Down}
 use Rattle.fm_path_text.specs.declared.sign.Sign.TheVariants as sign
@@ -30,7 +30,7 @@ pub record HasRead (text : List ℕ) (s : Spot) : Type 0 where
 -- one more piece stands at the end
 pub pieces_snoc : (ds : List PathStep) (p : PathStep) → pieces_of (ds ++ p ∷ []) ≡ pieces_of ds ++ piece_of p
 pieces_snoc [] p = append-nil (piece_of p)
-pieces_snoc (d ∷ ds) p = ap (λ xs. piece_of d ++ xs) (pieces_snoc ds p) ∙ sym (append_assoc (piece_of d) (pieces_of ds) (piece_of p))
+pieces_snoc (d ∷ ds) p = simp (pieces_snoc ds p, append_assoc)
 
 -- the same, where the machine may have stopped
 abbrev pub MayHaveRead : List ℕ → Option Spot → Type 0
@@ -41,13 +41,12 @@ after : (text : List ℕ) (ds : List PathStep) (p : Part) (b : ℕ) (m : Move) �
     → MayHaveRead (text ++ b ∷ []) (moved ds m)
 after text ds p b Dead h l = tt
 after text ds p b (Stay q) h l = record {
-  spelled = ap (λ t. t ++ b ∷ []) h.spelled ∙ append_assoc (pieces_of ds) (shown p) (b ∷ []) ∙ ap (λ t. pieces_of ds ++ t) l.0;
+  spelled = simp (h.spelled, append_assoc, l.0);
   each = h.each;
   live = l.1;
 }
 after text ds p b (Finish d q) h l = record {
-  spelled = ap (λ t. t ++ b ∷ []) h.spelled ∙ append_assoc (pieces_of ds) (shown p) (b ∷ []) ∙ ap (λ t. pieces_of ds ++ t) l.0
-      ∙ sym (append_assoc (pieces_of ds) (piece_of d) (shown q)) ∙ ap (λ t. t ++ shown q) (sym (pieces_snoc ds d));
+  spelled = simp (h.spelled, append_assoc, l.0, pieces_snoc ds d);
   each = all_snoc HasPiece ds d h.each l.1;
   live = subst (λ k. IsLive k q) (sym (length-append ds (d ∷ []))) l.2;
 }
@@ -61,6 +60,10 @@ has_read = run_keeps reads HasRead (λ text s b h.
 pub read_nothing : HasRead [] (spot [] Between)
 read_nothing = record { spelled = refl; each = tt; live = omega arith }
 
+-- where the machine stands, it has read what it shows
+pub there_read : (text : List ℕ) (s : Spot) → run text start ≡ Some s → HasRead text s
+there_read text s e = subst (MayHaveRead text) e (has_read text [] start read_nothing)
+
 -- a path with a step is written by its pieces
 text_snoc : (ds : List PathStep) (p : PathStep) → path_text (ds ++ p ∷ []) ≡ pieces_of (ds ++ p ∷ [])
 text_snoc [] p = refl
@@ -73,70 +76,46 @@ ends text ds p d rest h e a lt = (
   rest,
   ds ++ d ∷ [],
   record { each = all_snoc HasPiece ds d h.each a; short = omega (arith, length-append ds (d ∷ [])) },
-  ap (λ t. t ++ rest) h.spelled ∙ append_assoc (pieces_of ds) (shown p) rest ∙ ap (λ t. pieces_of ds ++ t) e ∙ sym (pieces_snoc ds d) ∙ sym (text_snoc ds d),
+  simp (h.spelled, append_assoc, e, text_snoc ds d, pieces_snoc ds d),
 )
-
--- a is a letter
-letter_a : IsTrue (is_letter 97)
-letter_a = refl
 
 -- what has been read begins a text
 pub can_end : (text : List ℕ) (ds : List PathStep) (p : Part) → HasRead text (spot ds p) → Begins text
 can_end text [] Between h = (46 ∷ [], [], record { each = tt; short = omega arith }, ap (λ t. t ++ 46 ∷ []) h.spelled)
 can_end text (d ∷ ds) Between h = ([], d ∷ ds, record { each = h.each; short = h.live }, append-nil text ∙ h.spelled ∙ append-nil (pieces_of (d ∷ ds)))
-can_end text ds Dot h = ends text ds Dot (Name (97 ∷ [])) (97 ∷ []) h refl (letter_a, tt, omega arith) h.live
+can_end text ds Dot h = ends text ds Dot (Name (97 ∷ [])) (97 ∷ []) h refl (refl, tt, omega arith) h.live
 can_end text ds (Word s) h = ends text ds (Word s) (Name s) [] h (ap (λ t. 46 ∷ t) (append-nil s)) h.live.1 h.live.0
 can_end text ds Hash h = ends text ds Hash (Group 0) (48 ∷ []) h (ap (λ t. 46 ∷ 35 ∷ t) (sym (decimal_digit 0 (omega arith)))) (omega arith) h.live
 can_end text ds (Number n) h = ends text ds (Number n) (Group n) [] h (ap (λ t. 46 ∷ 35 ∷ t) (append-nil (decimal n))) h.live.1 h.live.0
 can_end text ds Open h = ends text ds Open Each (93 ∷ []) h refl tt h.live
 can_end text ds (Index n) h = ends text ds (Index n) (At n) (93 ∷ []) h refl h.live.1 h.live.0
-can_end text ds (Colon f) h = ends text ds (Colon f) (EachFrom f (pos 0)) (48 ∷ 93 ∷ []) h (append_assoc (91 ∷ decimal f) (58 ∷ []) (48 ∷ 93 ∷ [])
-    ∙ ap (λ t. 91 ∷ decimal f ++ (58 ∷ t ++ 93 ∷ [])) (sym (decimal_digit 0 (omega arith)))) (h.live.1, omega arith) h.live.0
-can_end text ds (Minus f) h = ends text ds (Minus f) (EachFrom f (negsuc 0)) (49 ∷ 93 ∷ []) h (append_assoc (91 ∷ decimal f) (58 ∷ 45 ∷ []) (49 ∷ 93 ∷ [])
-    ∙ ap (λ t. 91 ∷ decimal f ++ (58 ∷ 45 ∷ t ++ 93 ∷ [])) (sym (decimal_digit 1 (omega arith)))) (h.live.1, omega arith) h.live.0
-can_end text ds (Up f n) h = ends text ds (Up f n) (EachFrom f (pos n)) (93 ∷ []) h (append_assoc (91 ∷ decimal f) (58 ∷ decimal n) (93 ∷ [])) (
-  h.live.1,
-  h.live.2,
-) h.live.0
+can_end text ds (Colon f) h =
+    ends text ds (Colon f) (EachFrom f (pos 0)) (48 ∷ 93 ∷ []) h (simp (append_assoc, decimal_digit 0 (omega arith))) (h.live.1, omega arith) h.live.0
+can_end text ds (Minus f) h =
+    ends text ds (Minus f) (EachFrom f (negsuc 0)) (49 ∷ 93 ∷ []) h (simp (append_assoc, decimal_digit 1 (omega arith))) (h.live.1, omega arith) h.live.0
+can_end text ds (Up f n) h = ends text ds (Up f n) (EachFrom f (pos n)) (93 ∷ []) h (simp append_assoc) (h.live.1, h.live.2) h.live.0
 can_end text ds (Down f zero) h = absurd (omega (arith, h.live.3))
-can_end text ds (Down f (suc n)) h =
-    ends text ds (Down f (suc n)) (EachFrom f (negsuc n)) (93 ∷ []) h (append_assoc (91 ∷ decimal f) (58 ∷ 45 ∷ decimal (suc n)) (93 ∷ [])) (
-      h.live.1,
-      h.live.2,
-    ) h.live.0
-
--- a whole path has this text
-some_of : {A : Type 0} {x y : A} → Some x ≡ Some y → x ≡ y
-some_of e = cc
+can_end text ds (Down f (suc n)) h = ends text ds (Down f (suc n)) (EachFrom f (negsuc n)) (93 ∷ []) h (simp append_assoc) (h.live.1, h.live.2) h.live.0
 
 -- a fact of one path is one of an equal path
-was : (text : List ℕ) (ps qs : List PathStep) → qs ≡ ps → IsPath qs × (text ≡ path_text qs) → IsPath ps × (text ≡ path_text ps)
-was text ps qs e h = subst (λ ps. IsPath ps × (text ≡ path_text ps)) e h
+was : (text : List ℕ) (ps qs : List PathStep) → Some qs ≡ Some ps → IsPath qs × (text ≡ path_text qs) → IsPath ps × (text ≡ path_text ps)
+was text ps qs e h = subst (λ ps. IsPath ps × (text ≡ path_text ps)) (cc) h
 
 -- a text whose last part is a whole piece is that of the path with it
 at_end : (text : List ℕ) (ds : List PathStep) (p : Part) (d : PathStep) → HasRead text (spot ds p) → shown p ≡ piece_of d → HasPiece d → length ds < 64
     → IsPath (ds ++ d ∷ []) × (text ≡ path_text (ds ++ d ∷ []))
 at_end text ds p d h e a lt = (
   record { each = all_snoc HasPiece ds d h.each a; short = omega (arith, length-append ds (d ∷ [])) },
-  h.spelled
-      ∙ ap (λ t. pieces_of ds ++ t) e ∙ sym (pieces_snoc ds d) ∙ sym (text_snoc ds d),
+  simp (h.spelled, e, text_snoc ds d, pieces_snoc ds d),
 )
 
 -- a text that may end is that of the path which was read
 pub is_whole : (text : List ℕ) (ds ps : List PathStep) (p : Part) → HasRead text (spot ds p) → whole ds p ≡ Some ps → IsPath ps × (text ≡ path_text ps)
-is_whole text [] ps Dot h e = was text ps [] (some_of e) (record { each = tt; short = omega arith }, h.spelled)
-is_whole text (d ∷ ds) ps Dot h e = absurd (cc)
-is_whole text ds ps (Word s) h e = was text ps (ds ++ Name s ∷ []) (some_of e) (at_end text ds (Word s) (Name s) h refl h.live.1 h.live.0)
-is_whole text ds ps (Number n) h e = was text ps (ds ++ Group n ∷ []) (some_of e) (at_end text ds (Number n) (Group n) h refl h.live.1 h.live.0)
-is_whole text [] ps Between h e = absurd (cc)
-is_whole text (d ∷ ds) ps Between h e = was text ps (d ∷ ds) (some_of e) (record { each = h.each; short = h.live }, h.spelled ∙ append-nil (pieces_of (d ∷ ds)))
-is_whole text ds ps Hash h e = absurd (cc)
-is_whole text ds ps Open h e = absurd (cc)
-is_whole text ds ps (Index n) h e = absurd (cc)
-is_whole text ds ps (Colon f) h e = absurd (cc)
-is_whole text ds ps (Minus f) h e = absurd (cc)
-is_whole text ds ps (Up f n) h e = absurd (cc)
-is_whole text ds ps (Down f n) h e = absurd (cc)
+is_whole text [] ps Dot h e = was text ps [] e (record { each = tt; short = omega arith }, h.spelled)
+is_whole text ds ps (Word s) h e = was text ps (ds ++ Name s ∷ []) e (at_end text ds (Word s) (Name s) h refl h.live.1 h.live.0)
+is_whole text ds ps (Number n) h e = was text ps (ds ++ Group n ∷ []) e (at_end text ds (Number n) (Group n) h refl h.live.1 h.live.0)
+is_whole text (d ∷ ds) ps Between h e = was text ps (d ∷ ds) e (record { each = h.each; short = h.live }, h.spelled ∙ append-nil (pieces_of (d ∷ ds)))
+is_whole text ds ps p h e = absurd (cc)
 
 -- these steps were read whole, though the last may be still open
 pub data IsSettled (ds : List PathStep) : Spot → Type 0 where
@@ -170,19 +149,10 @@ open_next ds s By_end lt = opened ds Open lt
 open_next ds s (By_word es w e) lt = closed ds es (Name w) Open e lt
 open_next ds s (By_number es n e) lt = closed ds es (Group n) Open e lt
 
+-- 48 and a number below ten is a digit
+pub yes_digit : (d : ℕ) → d < 10 → is_digit (48 + d) ≡ true
+yes_digit d h = grind (arith, nat_tests)
+
 -- the sign of a digit is its value
 pub digit_sign : (d : ℕ) → d < 10 → sign_of (48 + d) ≡ sign.Digit d
-digit_sign d h =
-    let e : 48 + d - 48 ≡ d = omega arith in
-    rw (
-      ne_eqb (48 + d) 46 (λ x. omega arith),
-      ne_eqb (48 + d) 35 (λ x. omega arith),
-      ne_eqb (48 + d) 91 (λ x. omega arith),
-      ne_eqb (48 + d) 93 (λ x. omega arith),
-      ne_eqb (48 + d) 58 (λ x. omega arith),
-      ne_eqb (48 + d) 45 (λ x. omega arith),
-      yes_digit d h,
-    ) (ap sign.Digit e)
-  where
-    yes_digit : (d : ℕ) → d < 10 → is_digit (48 + d) ≡ true
-    yes_digit d h = grind (arith, nat_tests)
+digit_sign d h = grind (arith, nat_tests)

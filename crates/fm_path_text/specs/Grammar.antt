@@ -1,13 +1,13 @@
 -- The texts of paths, and what a text that is none begins.
-use Rattle.std.specs.Prelude.{◌≡◌, ℤ, pos, negsuc, ℕ, ◌+◌, ◌^◌, ◌<◌, ◌≤◌, List, [], ◌∷◌, ◌++◌, length, take, codes, decimal}
+use Rattle.std.specs.Prelude.{◌≡◌, ℤ, pos, negsuc, ℕ, ◌^◌, ◌≤◌, List, [], ◌∷◌, ◌++◌, length, codes, decimal}
 use Rattle.std.specs.Fmt.{signed_decimal}
 use Rattle.std.proofs.Common.{suc}
 use Rattle.std.specs.List.{AllByRecursion}
 use Rattle.fm_base.specs.declared.refusal.Refusal.{Refusal}
-use Rattle.fm_base.specs.declared.refusal.Refusal.TheVariants.{BadQuery, Memory}
 use Rattle.fm_path_text.specs.declared.step.PathStep.{PathStep}
 use Rattle.fm_path_text.specs.declared.step.PathStep.TheVariants.{Name, Group, At, Each, EachFrom}
 use Rattle.fm_layout.specs.Name.{IsName}
+use Rattle.fm_path_text.specs.Language as language
 
 -- the greatest number of a path's text, and the most pieces
 abbrev pub most_number : ℕ
@@ -59,17 +59,12 @@ pub record IsTextOf (text : List ℕ) (path : List PathStep) : Type 0 where
 
 -- some path's text begins so
 abbrev pub Begins : List ℕ → Type 0
-Begins text = (rest : List ℕ) × (path : List PathStep) × IsPath path × (text ++ rest ≡ path_text path)
+Begins = language.Begins IsPath path_text
 
 -- the longest prefix of the text that begins some path's text has this length, and the text is no path's
-pub record BeginsUpTo (at : ℕ) (text : List ℕ) : Type 0 where
-  pub within : at ≤ length text
-  pub begins : Begins (take at text)
-  pub longest : at < length text → Begins (take (at + 1) text) → ⊥
-  pub none : (path : List PathStep) → IsPath path → text ≡ path_text path → ⊥
+abbrev pub BeginsUpTo : ℕ → List ℕ → Type 0
+BeginsUpTo = language.BeginsUpTo IsPath path_text
 
 -- what reading a path's text may answer in place of the path
 abbrev pub IsNoPath : List ℕ → Refusal → Type 0
-IsNoPath text (BadQuery at) = BeginsUpTo at text
-IsNoPath text Memory = Unit {0}
-IsNoPath text _ = ⊥
+IsNoPath = language.IsNoText IsPath path_text

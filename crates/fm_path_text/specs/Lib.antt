@@ -1,3 +1,4 @@
 pub mod Grammar
+pub mod Language
 pub mod Machine
 pub mod Reader

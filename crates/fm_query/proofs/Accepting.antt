@@ -1,9 +1,10 @@
 -- The text of each query is read to its end, to that query.
-use Rattle.std.proofs.Common.{◌≡◌, refl, sym, ap, subst, ℕ, ◌+◌, ◌<◌, ◌≤◌, Bool, true, false, inl, inr, if◌then◌else◌, nat_eq, nat_lt, Option, Some, None, List, [], ◌∷◌, ◌++◌, length, arith, ◌∙◌}
+use Rattle.std.proofs.Common.{◌≡◌, refl, sym, ap, ℕ, ◌+◌, ◌<◌, ◌≤◌, Bool, true, false, if◌then◌else◌, nat_lt, Option, Some, None, List, [], ◌∷◌, ◌++◌, length, arith, ◌∙◌}
 use Rattle.std.specs.Prelude.{codes}
 use Rattle.std.specs.Fmt.{signed_decimal}
 use Rattle.std.specs.List.{AllByRecursion, join_by, flat_map}
 use Rattle.std.proofs.lemmas.List.{append_assoc, length-append}
+use Rattle.std.proofs.lemmas.Bool.Decides.{nat_tests}
 use Rattle.fm_path_text.specs.declared.step.PathStep.{PathStep}
 use Rattle.fm_path_text.specs.declared.part.Part.{Part}
 use Rattle.fm_path_text.specs.declared.part.Part.TheVariants as part
@@ -14,9 +15,9 @@ use Rattle.fm_path_text.specs.Reader as path
 use Rattle.fm_path_text.proofs.Machine.{run_append, run_none, Accepts}
 use Rattle.fm_path_text.proofs.Accepting as path_accepting
 use Rattle.fm_query.specs.declared.fold.Fold.{Fold}
-use Rattle.fm_query.specs.declared.fold.Fold.TheVariants.{Sum, Least, Greatest, All}
+use Rattle.fm_query.specs.declared.fold.Fold.TheVariants.{Sum}
 use Rattle.fm_query.specs.declared.operator.Operator.{Operator}
-use Rattle.fm_query.specs.declared.operator.Operator.TheVariants.{Equal, NotEqual, Below, AtMost, Above, AtLeast}
+use Rattle.fm_query.specs.declared.operator.Operator.TheVariants.{Equal}
 use Rattle.fm_query.specs.declared.syntax.ItemSyntax.{ItemSyntax}
 use Rattle.fm_query.specs.declared.syntax.ItemSyntax.TheVariants.{Count, Of}
 use Rattle.fm_query.specs.declared.syntax.ConditionSyntax.{ConditionSyntax}
@@ -26,9 +27,9 @@ use Rattle.fm_query.specs.declared.stage.Role.TheVariants.{OfItem, OfCondition}
 use Rattle.fm_query.specs.declared.stage.Stage.TheVariants.{Start, InPath, Behind, Compare, Literal}
 use Rattle.fm_query.specs.declared.stage.Turn.TheVariants.{Dead, NextItem}
 use Rattle.fm_query.specs.Grammar.{syntax, fold_text, item_text, condition_text, operator_text, where_text, query_text, IsItem, IsCondition, IsQuery}
-use Rattle.fm_query.specs.Reader.{word_text, and_word, is_mark, marks, goes, condition, Spot, spot, moved, reads, onward, run, start, whole}
+use Rattle.fm_query.specs.Reader.{word_text, and_word, is_mark, marks, goes, condition, Spot, spot, moved, reads, run, start, whole}
 use Rattle.fm_query.proofs.AcceptingNumbers.{number_of, value_number, reads_literal}
-use Rattle.std.proofs.lemmas.Bool.{eqb-true, lt-ltb, or_cases}
+use Rattle.std.proofs.lemmas.Bool.{lt-ltb}
 
 -- a path that was refused isn't read
 path_none : (bs : List ℕ) (s : path.Spot) → path.run bs None ≡ Some s → ⊥
@@ -37,32 +38,11 @@ path_none bs s e = let f : None ≡ Some s = sym (run_none path.reads bs) ∙ e 
 -- no path goes on with a byte that has no part in paths
 other_dead : (p : Part) (k : ℕ) → path.next p k sign.Other ≡ move.Dead
 other_dead part.Between k = refl
-other_dead part.Dot k = refl
-other_dead (part.Word w) k = refl
-other_dead part.Hash k = refl
-other_dead (part.Number n) k = refl
-other_dead part.Open k = refl
-other_dead (part.Index n) k = refl
-other_dead (part.Colon f) k = refl
-other_dead (part.Minus f) k = refl
-other_dead (part.Up f n) k = refl
-other_dead (part.Down f n) k = refl
+other_dead p k = refl
 
 -- the bytes that end a path have no part in paths
 mark_sign : (b : ℕ) → is_mark b ≡ true → path.sign_of b ≡ sign.Other
-mark_sign b h = elim (or_cases (nat_eq b 33) _ h) [
-  | inl e ↦ subst (λ x. path.sign_of x ≡ sign.Other) (sym (eqb-true b 33 e)) refl
-  | inr h ↦ elim (or_cases (nat_eq b 41) _ h) [
-    | inl e ↦ subst (λ x. path.sign_of x ≡ sign.Other) (sym (eqb-true b 41 e)) refl
-    | inr h ↦ elim (or_cases (nat_eq b 60) _ h) [
-      | inl e ↦ subst (λ x. path.sign_of x ≡ sign.Other) (sym (eqb-true b 60 e)) refl
-      | inr h ↦ elim (or_cases (nat_eq b 61) _ h) [
-        | inl e ↦ subst (λ x. path.sign_of x ≡ sign.Other) (sym (eqb-true b 61 e)) refl
-        | inr e ↦ subst (λ x. path.sign_of x ≡ sign.Other) (sym (eqb-true b 62 e)) refl
-      ]
-    ]
-  ]
-]
+mark_sign b h = grind (arith, nat_tests)
 
 -- a byte that a path goes on with ends none
 no_mark : (d : List PathStep) (p : Part) (b : ℕ) (s : path.Spot) → path.onward (Some (path.spot d p)) b ≡ Some s → is_mark b ≡ false
@@ -92,9 +72,7 @@ reads_bytes r is cs (b ∷ bs) d p s e = go (λ t q. reads_bytes r is cs bs t.do
 -- the word before an item's path
 reads_word : (is : List ItemSyntax) (f : Fold) → run (word_text (Folding f)) (Some (spot is [] Start)) ≡ Some (spot is [] (InPath (OfItem f) [] part.Between))
 reads_word is Sum = refl
-reads_word is Least = refl
-reads_word is Greatest = refl
-reads_word is All = refl
+reads_word is f = refl
 
 -- an item
 reads_item : (is : List ItemSyntax) (i : ItemSyntax) → IsItem i → run (item_text i) (Some (spot is [] Start)) ≡ Some (spot is [] (Behind i 0))
@@ -135,12 +113,8 @@ reads_items (j ∷ js) is i all few =
 -- an operator behind a path
 reads_operator : (is : List ItemSyntax) (cs : List ConditionSyntax) (d : List PathStep) (p : Part) (ps : List PathStep) (o : Operator)
     → path.whole d p ≡ Some ps → run (operator_text o) (Some (spot is cs (InPath OfCondition d p))) ≡ Some (spot is cs (Compare ps o))
-reads_operator is cs d p ps Equal w = ap (λ x. moved is cs (marks OfCondition 61 x)) w
-reads_operator is cs d p ps NotEqual w = ap (λ x. onward (moved is cs (marks OfCondition 33 x)) 61) w
-reads_operator is cs d p ps Below w = ap (λ x. moved is cs (marks OfCondition 60 x)) w
-reads_operator is cs d p ps AtMost w = ap (λ x. onward (moved is cs (marks OfCondition 60 x)) 61) w
-reads_operator is cs d p ps Above w = ap (λ x. moved is cs (marks OfCondition 62 x)) w
-reads_operator is cs d p ps AtLeast w = ap (λ x. onward (moved is cs (marks OfCondition 62 x)) 61) w
+reads_operator is cs d p ps Equal w = rw w refl
+reads_operator is cs d p ps o w = rw w refl
 
 -- a condition
 reads_condition : (is : List ItemSyntax) (cs : List ConditionSyntax) (c : ConditionSyntax) → IsCondition c

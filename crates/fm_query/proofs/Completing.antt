@@ -1,12 +1,13 @@
 -- What has been read begins some query's text.
 use Rattle.std.proofs.Common.{◌≡◌, refl, sym, ap, ℕ, zero, suc, List, [], ◌∷◌, ◌++◌, length, take, drop, arith, ◌∙◌}
 use Rattle.std.specs.Prelude.{codes, decimal, pos, negsuc}
-use Rattle.std.specs.List.{AllByRecursion, join_by}
+use Rattle.std.specs.List.{AllByRecursion}
 use Rattle.std.proofs.lemmas.List.{append_assoc, append-nil, length-append, take-append-drop}
 use Rattle.std.proofs.lemmas.Fmt.{decimal_digit}
 use Rattle.fm_lists.proofs.Each.{all_snoc}
 use Rattle.fm_path_text.specs.Grammar as path
 use Rattle.fm_path_text.proofs.Accepting as path_accepting
+use Rattle.fm_path_text.proofs.Language.{shorter}
 use Rattle.fm_query.specs.declared.operator.Operator.TheVariants.{Equal, NotEqual}
 use Rattle.fm_query.specs.declared.syntax.ItemSyntax.{ItemSyntax}
 use Rattle.fm_query.specs.declared.syntax.ItemSyntax.TheVariants.{Count, Of}
@@ -15,9 +16,9 @@ use Rattle.fm_query.specs.declared.word.Word.TheVariants.{Counting, Folding}
 use Rattle.fm_query.specs.declared.stage.Role.TheVariants.{OfItem, OfCondition}
 use Rattle.fm_query.specs.declared.stage.Stage.{Stage}
 use Rattle.fm_query.specs.declared.stage.Stage.TheVariants.{Start, Spelling, InPath, Behind, Bang, Compare, Minus, Literal}
-use Rattle.fm_query.specs.Grammar.{syntax, fold_text, item_text, condition_text, operator_text, where_text, IsItem, IsCondition, Begins}
+use Rattle.fm_query.specs.Grammar.{syntax, fold_text, item_text, condition_text, operator_text, where_text, query_text, IsItem, IsCondition, IsQuery, Begins}
 use Rattle.fm_query.specs.Reader.{word_text, where_word, and_word, condition}
-use Rattle.fm_query.proofs.Shown.{so_far, items_led, conditions_led, led, join_led, conditions_more, IsAtItem, IsAtCondition, HasRead}
+use Rattle.fm_query.proofs.Shown.{so_far, items_led, conditions_led, led, led_snoc, join_led, IsAtItem, IsAtCondition, HasRead}
 use Rattle.fm_query.proofs.LeavingConditions.{literal_of}
 
 -- conditions behind where, the last one apart
@@ -25,10 +26,6 @@ pub where_led : (cs : List ConditionSyntax) (c : ConditionSyntax)
     → where_text (cs ++ c ∷ []) ≡ codes " where " ++ (led condition_text (codes " and ") cs ++ condition_text c)
 where_led [] c = ap (λ t. codes " where " ++ t) (join_led condition_text (codes " and ") [] c)
 where_led (d ∷ ds) c = ap (λ t. codes " where " ++ t) (join_led condition_text (codes " and ") (d ∷ ds) c)
-
--- a text begins what a longer one begins
-pub shorter : (text more : List ℕ) → Begins (text ++ more) → Begins text
-shorter text more b = (more ++ b.0, b.1, b.2, sym (append_assoc text more b.0) ∙ b.3)
 
 -- an item as far as it goes is completed by the rest of it
 ends_item : (text own rest : List ℕ) (is : List ItemSyntax) (cs : List ConditionSyntax) (i : ItemSyntax) → text ≡ items_led is ++ own
@@ -43,11 +40,7 @@ ends_item text own rest is cs i e w all item at = (
     conditions = tt;
     few_conditions = omega arith;
   },
-  ap (λ t. t ++ rest) e
-      ∙ append_assoc (items_led is) own rest
-      ∙ ap (λ t. items_led is ++ t) w
-      ∙ sym (join_led item_text (codes ",") is i)
-      ∙ sym (append-nil (join_by item_text (codes ",") (is ++ i ∷ []))),
+  simp (e, append_assoc, w, join_led item_text (codes ",") is i, append-nil),
 )
 
 -- a condition as far as it goes is completed by the rest of it
@@ -64,12 +57,7 @@ ends_condition text own rest is cs c e w all each one at = (
     conditions = all_snoc IsCondition cs c each one;
     few_conditions = omega (arith, at.few, length-append cs (c ∷ []));
   },
-  ap (λ t. t ++ rest) e
-      ∙ append_assoc (conditions_led is cs) own rest
-      ∙ ap (λ t. conditions_led is cs ++ t) w
-      ∙ append_assoc (join_by item_text (codes ",") is) (codes " where " ++ led condition_text (codes " and ") cs) (condition_text c)
-      ∙ ap (λ t. join_by item_text (codes ",") is ++ t) (append_assoc (codes " where ") (led condition_text (codes " and ") cs) (condition_text c)
-      ∙ sym (where_led cs c)),
+  simp (e, append_assoc, w, where_led cs c),
 )
 
 -- the condition .=0
@@ -106,25 +94,14 @@ can_end text is cs (Spelling (Folding f) n) h =
 can_end text is cs (InPath (OfItem f) d p) h =
     let b = path_accepting.begins (so_far d p) d p h.live in
     ends_item text (word_text (Folding f) ++ so_far d p) (b.0 ++ codes ")") is cs (Of f b.1) h.spelled
-    (append_assoc (word_text (Folding f)) (so_far d p) (b.0 ++ codes ")")
-    ∙ ap (λ t. word_text (Folding f) ++ t) (sym (append_assoc (so_far d p) b.0 (codes ")")) ∙ ap (λ t. t ++ codes ")") b.3)
-    ∙ append_assoc (fold_text f) (codes "(") (path.path_text b.1 ++ codes ")"))
-    h.items b.2 h.counted
+    (simp (append_assoc, sym b.3)) h.items b.2 h.counted
 can_end text is cs (InPath OfCondition d p) h =
     let b = path_accepting.begins (so_far d p) d p h.live in
     ends_condition text (so_far d p) (b.0 ++ codes "=0") is cs (record { path = b.1; operator = Equal; literal = pos 0 }) h.spelled
-    (sym (append_assoc (so_far d p) b.0 (codes "=0")) ∙ ap (λ t. t ++ codes "=0") b.3 ∙ ap (λ t. path.path_text b.1 ++ 61 ∷ t) (sym zero_text))
-    h.items h.conditions (record { is_path = b.2; is_literal = omega arith }) h.counted
+    (simp (sym b.3, append_assoc, zero_text)) h.items h.conditions (record { is_path = b.2; is_literal = omega arith }) h.counted
 can_end text is cs (Behind i n) h =
-    shorter text (drop n where_word) (may_begin (text ++ drop n where_word) (is ++ i ∷ []) cs
-    (ap (λ t. t ++ drop n where_word) h.spelled
-    ∙ append_assoc (items_led is) (item_text i ++ take n where_word) (drop n where_word)
-    ∙ ap (λ t. items_led is ++ t) (append_assoc (item_text i) (take n where_word) (drop n where_word)
-    ∙ ap (λ t. item_text i ++ t) (take-append-drop n where_word))
-    ∙ sym (append_assoc (items_led is) (item_text i) where_word)
-    ∙ ap (λ t. t ++ where_word) (sym (join_led item_text (codes ",") is i))
-    ∙ ap (λ t. join_by item_text (codes ",") (is ++ i ∷ []) ++ t) (sym (append-nil where_word))
-    ∙ ap (λ c. conditions_led (is ++ i ∷ []) c) (sym h.counted.no_condition))
+    shorter IsQuery query_text text (drop n where_word) (may_begin (text ++ drop n where_word) (is ++ i ∷ []) cs
+    (simp (h.spelled, append_assoc, h.counted.no_condition, join_led item_text (codes ",") is i, take-append-drop n where_word))
     (all_snoc IsItem is i h.items h.live.0)
     h.conditions
     (record {
@@ -134,30 +111,20 @@ can_end text is cs (Behind i n) h =
     }))
 can_end text is cs (Bang p) h =
     ends_condition text (path.path_text p ++ codes "!") (codes "=0") is cs (record { path = p; operator = NotEqual; literal = pos 0 }) h.spelled
-    (append_assoc (path.path_text p) (codes "!") (codes "=0") ∙ ap (λ t. path.path_text p ++ 33 ∷ 61 ∷ t) (sym zero_text))
-    h.items h.conditions (record { is_path = h.live; is_literal = omega arith }) h.counted
+    (simp (append_assoc, zero_text)) h.items h.conditions (record { is_path = h.live; is_literal = omega arith }) h.counted
 can_end text is cs (Compare p o) h =
     ends_condition text (path.path_text p ++ operator_text o) (codes "0") is cs (record { path = p; operator = o; literal = pos 0 }) h.spelled
-    (append_assoc (path.path_text p) (operator_text o) (codes "0") ∙ ap (λ t. path.path_text p ++ (operator_text o ++ t)) (sym zero_text))
-    h.items h.conditions (record { is_path = h.live; is_literal = omega arith }) h.counted
+    (simp (append_assoc, zero_text)) h.items h.conditions (record { is_path = h.live; is_literal = omega arith }) h.counted
 can_end text is cs (Minus p o) h =
     ends_condition text (path.path_text p ++ (operator_text o ++ codes "-")) (codes "1") is cs (record { path = p; operator = o; literal = negsuc 0 }) h.spelled
-    (append_assoc (path.path_text p) (operator_text o ++ codes "-") (codes "1")
-    ∙ ap (λ t. path.path_text p ++ t) (append_assoc (operator_text o) (codes "-") (codes "1"))
-    ∙ ap (λ t. path.path_text p ++ (operator_text o ++ 45 ∷ t)) (sym one_text))
-    h.items h.conditions (record { is_path = h.live; is_literal = omega arith }) h.counted
+    (simp (append_assoc, one_text)) h.items h.conditions (record { is_path = h.live; is_literal = omega arith }) h.counted
 can_end text is cs (Literal p o m zero) h =
     ends_condition text (condition_text (condition p o m) ++ []) [] is cs (condition p o m) h.spelled
-    (append-nil (condition_text (condition p o m) ++ []) ∙ append-nil (condition_text (condition p o m)))
-    h.items h.conditions (record { is_path = h.live.0; is_literal = literal_of m h.live.1 }) h.counted.0
+    (simp append-nil) h.items h.conditions (record { is_path = h.live.0; is_literal = literal_of m h.live.1 }) h.counted.0
 can_end text is cs (Literal p o m (suc n)) h =
     let c = condition p o m in
-    shorter text (drop (suc n) and_word) (may_begin (text ++ drop (suc n) and_word) is (cs ++ c ∷ [])
-    (ap (λ t. t ++ drop (suc n) and_word) h.spelled
-    ∙ append_assoc (conditions_led is cs) (condition_text c ++ take (suc n) and_word) (drop (suc n) and_word)
-    ∙ ap (λ t. conditions_led is cs ++ t) (append_assoc (condition_text c) (take (suc n) and_word) (drop (suc n) and_word)
-    ∙ ap (λ t. condition_text c ++ t) (take-append-drop (suc n) and_word))
-    ∙ conditions_more is cs c)
+    shorter IsQuery query_text text (drop (suc n) and_word) (may_begin (text ++ drop (suc n) and_word) is (cs ++ c ∷ [])
+    (simp (h.spelled, append_assoc, take-append-drop (suc n) and_word, led_snoc condition_text (codes " and ") cs c))
     h.items
     (all_snoc IsCondition cs c h.conditions (record { is_path = h.live.0; is_literal = literal_of m h.live.1 }))
     (record {

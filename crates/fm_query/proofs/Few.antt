@@ -5,16 +5,17 @@ use Rattle.fm_base.specs.declared.refusal.Refusal.{Refusal}
 use Rattle.fm_base.specs.declared.refusal.Refusal.TheVariants.{IndexOut}
 use Rattle.fm_lanes.specs.Kind.{width_of}
 use Rattle.fm_lanes.specs.declared.value_kind.ValueKind.{ValueKind}
-use Rattle.fm_lanes.specs.declared.value_kind.ValueKind.TheVariants.{Byte, Boolean, Char, Short, Int, Long}
-use Rattle.fm_layout.specs.Parts.{tree_at}
-use Rattle.fm_layout.specs.Size.{size_of, sum_of, greatest_of}
-use Rattle.fm_layout.specs.Tree.{Tree, Trees, Value, Padding, Sequence, Struct, Union, NoMore, More}
+use Rattle.fm_lanes.specs.declared.value_kind.ValueKind.TheVariants.{Byte}
+use Rattle.fm_layout.specs.Size.{size_of}
+use Rattle.fm_layout.specs.Tree.{Tree, Value, Sequence}
 use Rattle.fm_path_text.specs.declared.step.PathStep.{PathStep}
-use Rattle.fm_path_text.specs.declared.step.PathStep.TheVariants.{Name, Group, At, Each, EachFrom}
+use Rattle.fm_path_text.specs.declared.step.PathStep.TheVariants.{Each, EachFrom}
 use Rattle.std.proofs.lemmas.Bool.{ltb-true}
-use Rattle.fm_path_meaning.specs.Follow.{index_named, ◌>>=◌}
+use Rattle.fm_path_meaning.specs.Follow.{after, ◌>>=◌}
+use Rattle.fm_path_meaning.proofs.Fitting.{closed}
+use Rattle.fm_path_meaning.proofs.Inside.{part_inside}
 use Rattle.fm_path_meaning.specs.Found.{LeadsTo}
-use Rattle.fm_path_meaning.specs.Walk.{bound_of, dim_from, Move, Moved, move_member, move_found, move, Walk, with_dim, moved, walk_by}
+use Rattle.fm_path_meaning.specs.Walk.{bound_of, dim_from, Move, Moved, move, Walk, with_dim, moved, walk_by}
 use Rattle.fm_path_meaning.specs.declared.dim.Dim.{Dim}
 use Rattle.fm_path.specs.Resolution.{Resolution, IsResolved, IsSpecOf}
 use Rattle.fm_path.specs.declared.value_spec.ValueSpec.{ValueSpec}
@@ -31,40 +32,20 @@ counts_with (Some d) ds = refl
 
 -- ---- what a step leads to fits into the layout, as often as it has indices
 
-member_in_sum : (n : ℕ) (ms : Trees) (u : Tree) → tree_at n ms ≡ Some u → size_of u ≤ sum_of ms
-member_in_sum n NoMore u e = absurd (cc)
-member_in_sum zero (More t ts) u e = let is : t ≡ u = cc in omega (arith, ap size_of is)
-member_in_sum (suc n) (More t ts) u e = omega (arith, member_in_sum n ts u e)
-
-member_in_greatest : (n : ℕ) (ms : Trees) (u : Tree) → tree_at n ms ≡ Some u → size_of u ≤ greatest_of ms
-member_in_greatest n NoMore u e = absurd (cc)
-member_in_greatest zero (More t ts) u e = let is : t ≡ u = cc in omega (arith, ap size_of is)
-member_in_greatest (suc n) (More t ts) u e = omega (arith, member_in_greatest n ts u e)
-
 abbrev Fits : Tree → Moved → Type 0
 Fits t (Ok m) = indices m.dim * size_of m.to ≤ size_of t
 Fits t (Err e) = Unit {0}
 
--- a step to a member
-member_fits : (k n : ℕ) (t : Tree) (o : Option Tree) → ((u : Tree) → o ≡ Some u → size_of u ≤ size_of t) → Fits t (move_member k n t o)
-member_fits k n t None f = tt
-member_fits k n t (Some u) f = omega (arith, f u refl)
-
--- a step by name
-found_fits : (k : ℕ) (t : Tree) (ms : Trees) (o : Option ℕ) → ((n : ℕ) (u : Tree) → tree_at n ms ≡ Some u → size_of u ≤ size_of t)
-    → Fits t (move_found k t ms o)
-found_fits k t ms None f = tt
-found_fits k t ms (Some n) f = member_fits k n t (tree_at n ms) (f n)
+-- a step that takes no index
+closed_fits : (k : ℕ) (p : PathStep) (t : Tree) (r : Moved) → ((is : List ℕ) → after p is ≡ is) → move k p t ≡ r → Fits t r
+closed_fits k p t (Err e) none is = tt
+closed_fits k p t (Ok m) none is =
+    let c = closed k p t m none is in
+    omega (arith, ap (λ o. indices o * size_of m.to) c.dim, part_inside c.step t m.by m.to c.part)
 
 -- no more indices than elements
 elements_fit : (bound count : ℕ) (e : Tree) → bound ≤ count → bound * size_of e ≤ count * size_of e
 elements_fit bound count e le = mul-le-mul_right {m = bound} {n = count} (size_of e) le
-
--- a step to an element
-at_fits : (k n c : ℕ) (e : Tree) (l : _) (b : Bool) → nat_lt n c ≡ b
-    → Fits (Sequence c e l) (if b then Ok (record { by = n * size_of e; dim = None; to = e }) else Err (IndexOut k))
-at_fits k n c e l true h = elements_fit 1 c e (omega (arith, ltb-true n c h))
-at_fits k n c e l false h = tt
 
 -- from an element on there are at most as many as in all
 bound_fits : (f c : ℕ) (z : ℤ) → f < c → bound_of f z c ≤ c
@@ -80,33 +61,13 @@ from_fits k f c z e l false h = tt
 
 -- each move
 fits : (k : ℕ) (p : PathStep) (t : Tree) → Fits t (move k p t)
-fits k (Name name) (Struct ms l) = found_fits k (Struct ms l) ms (index_named name 0 ms) (λ n u e. member_in_sum n ms u e)
-fits k (Name name) (Union ms l) = found_fits k (Union ms l) ms (index_named name 0 ms) (λ n u e. member_in_greatest n ms u e)
-fits k (Name name) (Value v o l) = tt
-fits k (Name name) (Padding m l) = tt
-fits k (Name name) (Sequence c e l) = tt
-fits k (Group n) (Struct ms l) = member_fits k n (Struct ms l) (tree_at n ms) (member_in_sum n ms)
-fits k (Group n) (Union ms l) = member_fits k n (Union ms l) (tree_at n ms) (member_in_greatest n ms)
-fits k (Group n) (Value v o l) = tt
-fits k (Group n) (Padding m l) = tt
-fits k (Group n) (Sequence c e l) = tt
-fits k (At n) (Sequence c e l) = at_fits k n c e l (nat_lt n c) refl
-fits k (At n) (Value v o l) = tt
-fits k (At n) (Padding m l) = tt
-fits k (At n) (Struct ms l) = tt
-fits k (At n) (Union ms l) = tt
 fits k Each (Sequence c e l) = elements_fit c c e (omega arith)
-fits k Each (Value v o l) = tt
-fits k Each (Padding m l) = tt
-fits k Each (Struct ms l) = tt
-fits k Each (Union ms l) = tt
 fits k (EachFrom f (pos zero)) (Sequence c e l) = tt
 fits k (EachFrom f (pos (suc s))) (Sequence c e l) = from_fits k f c (pos (suc s)) e l (nat_lt f c) refl
 fits k (EachFrom f (negsuc s)) (Sequence c e l) = from_fits k f c (negsuc s) e l (nat_lt f c) refl
-fits k (EachFrom f s) (Value v o l) = tt
-fits k (EachFrom f s) (Padding m l) = tt
-fits k (EachFrom f s) (Struct ms l) = tt
-fits k (EachFrom f s) (Union ms l) = tt
+fits k Each t = tt
+fits k (EachFrom f z) t = tt
+fits k p t = closed_fits k p t (move k p t) (λ is. refl) refl
 
 -- ---- and so does what a walk leads to
 
@@ -146,18 +107,11 @@ ends_fit path t offset dims u l = subst (FitIn t) l.walked (fit_in path 0 t)
 
 has_width : (k : ValueKind) → 1 ≤ width_of k
 has_width Byte = omega arith
-has_width Boolean = omega arith
-has_width Char = omega arith
-has_width Short = omega arith
-has_width Int = omega arith
-has_width Long = omega arith
+has_width k = omega arith
 
 has_bytes : (u : Tree) (v : ValueSpec) → IsSpecOf u v → 1 ≤ size_of u
 has_bytes (Value k o l) v h = has_width k
-has_bytes (Padding n l) v h = absurd h
-has_bytes (Sequence n e l) v h = absurd h
-has_bytes (Struct ms l) v h = absurd h
-has_bytes (Union ms l) v h = absurd h
+has_bytes u v h = absurd h
 
 at_least_one : (many bytes whole : ℕ) → 1 ≤ bytes → many * bytes ≤ whole → many ≤ whole
 at_least_one many bytes whole some fit = omega (arith, mul-le-mul_left {m = 1} {n = bytes} many some, fit)

@@ -1,5 +1,5 @@
 -- One byte leaves what the next stage shows.
-use Rattle.std.proofs.Common.{◌≡◌, refl, sym, ap, subst, ℕ, true, nat_eq, Option, Some, None, List, [], ◌∷◌, ◌++◌, length, arith, ◌∙◌}
+use Rattle.std.proofs.Common.{◌≡◌, refl, sym, ap, ℕ, true, nat_eq, Option, Some, None, List, [], ◌∷◌, ◌++◌, length, arith, ◌∙◌}
 use Rattle.std.proofs.lemmas.List.{append_assoc, append-nil}
 use Rattle.fm_path_text.specs.declared.step.PathStep.{PathStep}
 use Rattle.fm_path_text.specs.declared.part.Part.{Part}
@@ -9,7 +9,6 @@ use Rattle.fm_path_text.proofs.Machine.{run_append}
 use Rattle.fm_path_text.proofs.Reading as path_reading
 use Rattle.fm_path_text.proofs.Accepting as path_accepting
 use Rattle.fm_query.specs.declared.syntax.ItemSyntax.{ItemSyntax}
-use Rattle.fm_query.specs.declared.syntax.ItemSyntax.TheVariants.{Of}
 use Rattle.fm_query.specs.declared.syntax.ConditionSyntax.{ConditionSyntax}
 use Rattle.fm_query.specs.declared.word.Word.TheVariants.{Folding}
 use Rattle.fm_query.specs.declared.stage.Role.{Role}
@@ -17,7 +16,6 @@ use Rattle.fm_query.specs.declared.stage.Role.TheVariants.{OfItem, OfCondition}
 use Rattle.fm_query.specs.declared.stage.Stage.{Stage}
 use Rattle.fm_query.specs.declared.stage.Stage.TheVariants.{Start, Spelling, InPath, Behind, Bang, Compare, Minus, Literal}
 use Rattle.fm_query.specs.declared.stage.Turn.TheVariants.{Stay}
-use Rattle.fm_query.specs.Grammar.{fold_text, item_text}
 use Rattle.fm_query.specs.Reader.{word_text, is_mark, marks, goes, next}
 use Rattle.fm_query.proofs.Shown.{so_far, IsCounted, IsLive, Leaves}
 use Rattle.fm_query.proofs.LeavingItems.{starts_leaves, spells_leaves, behind_leaves}
@@ -34,8 +32,7 @@ goes_leaves is cs r d p b (Some s) e at live = go r at
     ran = run_append path.reads (so_far d p) (b ∷ []) path.start ∙ ap (λ x. path.onward x b) live ∙ e
 
     text : so_far d p ++ b ∷ [] ≡ so_far s.done s.part
-    text = (subst (path_reading.MayHaveRead (so_far d p ++ b ∷ [])) ran
-        (path_reading.has_read (so_far d p ++ b ∷ []) [] path.start path_reading.read_nothing)).spelled
+    text = (path_reading.there_read (so_far d p ++ b ∷ []) s ran).spelled
 
     there : path.run (so_far s.done s.part) path.start ≡ Some s
     there = ap (λ t. path.run t path.start) (sym text) ∙ ran
@@ -53,19 +50,14 @@ marks_leaves is cs (OfItem f) d p b (Some ps) e at live =
     cond_both (nat_eq b 41) _ _ (Leaves is cs (InPath (OfItem f) d p) b)
     (λ h. (
       refl,
-      ap (λ x. (word_text (Folding f) ++ so_far d p) ++ x ∷ []) (eqb-true b 41 h)
-          ∙ ap (λ t. (word_text (Folding f) ++ t) ++ 41 ∷ []) w.1
-          ∙ append_assoc (word_text (Folding f)) (path_text ps) (41 ∷ [])
-          ∙ append_assoc (fold_text f) (40 ∷ []) (path_text ps ++ 41 ∷ [])
-          ∙ sym (append-nil (item_text (Of f ps))),
+      simp (eqb-true b 41 h, w.1) (simp (append_assoc, append-nil)),
       at,
       (w.0, omega arith),
     ))
     (λ _. tt)
 marks_leaves is cs OfCondition d p b (Some ps) e at live =
     let w = path_accepting.found (so_far d p) d ps p live e in
-    let text : (c : ℕ) → nat_eq b c ≡ true → so_far d p ++ b ∷ [] ≡ path_text ps ++ c ∷ [] = λ c h. ap (λ x. so_far d p ++ x ∷ []) (eqb-true b c h)
-    ∙ ap (λ t. t ++ c ∷ []) w.1 in
+    let text : (c : ℕ) → nat_eq b c ≡ true → so_far d p ++ b ∷ [] ≡ path_text ps ++ c ∷ [] = λ c h. simp (eqb-true b c h, w.1) in
     cond_both (nat_eq b 61) _ _ (Leaves is cs (InPath OfCondition d p) b) (λ h. (refl, text 61 h, at, w.0)) (λ _.
     cond_both (nat_eq b 60) _ _ (Leaves is cs (InPath OfCondition d p) b) (λ h. (refl, text 60 h, at, w.0)) (λ _.
     cond_both (nat_eq b 62) _ _ (Leaves is cs (InPath OfCondition d p) b) (λ h. (refl, text 62 h, at, w.0)) (λ _.

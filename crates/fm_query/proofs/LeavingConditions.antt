@@ -1,16 +1,16 @@
 -- One byte of a condition behind its path leaves what the next stage shows.
-use Rattle.std.proofs.Common.{◌≡◌, refl, sym, ap, subst, ℕ, ◌+◌, ◌-◌, ◌*◌, ◌/◌, ◌%◌, ◌^◌, ◌<◌, ◌≤◌, zero, suc, true, false, ◌&&◌, not, if◌then◌else◌, nat_eq, nat_lt, nat_le, None, List, [], ◌∷◌, ◌++◌, length, take, get_or, arith, ◌∙◌}
-use Rattle.std.specs.Prelude.{decimal, pos, neg_ℤ}
+use Rattle.std.proofs.Common.{◌≡◌, refl, sym, ap, subst, ℕ, ◌+◌, ◌-◌, ◌*◌, ◌^◌, ◌<◌, zero, suc, true, false, ◌&&◌, not, if◌then◌else◌, nat_eq, nat_lt, nat_le, None, List, [], ◌∷◌, ◌++◌, length, get_or, arith, ◌∙◌}
+use Rattle.std.specs.Prelude.{codes, decimal, pos, neg_ℤ}
 use Rattle.std.specs.Fmt.{signed_decimal}
 use Rattle.std.proofs.lemmas.Bool.Decides.{nat_tests}
 use Rattle.std.proofs.lemmas.List.{append_assoc, append-nil, length-append}
-use Rattle.std.proofs.lemmas.Fmt.{decimal_step, decimal_digit}
+use Rattle.std.proofs.lemmas.Fmt.{decimal_digit}
 use Rattle.fm_layout.specs.Name.{is_digit}
 use Rattle.fm_path_text.specs.declared.step.PathStep.{PathStep}
 use Rattle.fm_path_text.specs.Grammar.{path_text, IsPath}
-use Rattle.fm_path_text.proofs.Moves.{minus_text}
+use Rattle.fm_path_text.proofs.Moves.{digit_is, decimal_more, minus_text}
 use Rattle.fm_query.specs.declared.operator.Operator.{Operator}
-use Rattle.fm_query.specs.declared.operator.Operator.TheVariants.{Equal, NotEqual, Below, AtMost, Above, AtLeast}
+use Rattle.fm_query.specs.declared.operator.Operator.TheVariants.{NotEqual, Below, Above}
 use Rattle.fm_query.specs.declared.syntax.ItemSyntax.{ItemSyntax}
 use Rattle.fm_query.specs.declared.syntax.ConditionSyntax.{ConditionSyntax}
 use Rattle.fm_query.specs.declared.number.Number.{Number}
@@ -19,28 +19,21 @@ use Rattle.fm_query.specs.declared.stage.Stage.TheVariants.{Bang, Compare, Minus
 use Rattle.fm_query.specs.declared.stage.Turn.TheVariants.{Dead, Stay}
 use Rattle.fm_query.specs.Grammar.{condition_text, operator_text, IsLiteral}
 use Rattle.fm_query.specs.Reader.{and_word, or_equal, compares, negates, value_of, longer, counts, condition, in_literal, IsNumber}
-use Rattle.fm_query.proofs.Shown.{conditions_led, conditions_more, IsAtCondition, Leaves, longer_take, whole_take}
+use Rattle.fm_query.proofs.Shown.{led_snoc, IsAtCondition, Leaves, longer_take, whole_take, below}
 use Rattle.std.proofs.lemmas.Bool.{eqb-true, ltb-true, leb-true, and_parts, cond_both}
 
 -- = behind !
 pub bang_leaves : (is : List ItemSyntax) (cs : List ConditionSyntax) (p : List PathStep) (b : ℕ) → IsAtCondition is cs 1 → IsPath p
     → Leaves is cs (Bang p) b (if nat_eq b 61 then Stay (Compare p NotEqual) else Dead)
 bang_leaves is cs p b at h = cond_both (nat_eq b 61) _ _ (Leaves is cs (Bang p) b) (λ e.
-    (refl, append_assoc (path_text p) (33 ∷ []) (b ∷ []) ∙ ap (λ x. path_text p ++ 33 ∷ x ∷ []) (eqb-true b 61 e), at, h)) (λ _. tt)
+    (refl, simp (append_assoc, eqb-true b 61 e), at, h)) (λ _. tt)
 
 -- = behind < or >
 equal_leaves : (is : List ItemSyntax) (cs : List ConditionSyntax) (p : List PathStep) (o : Operator) (b : ℕ) → IsAtCondition is cs 1 → IsPath p → b ≡ 61
     → Leaves is cs (Compare p o) b (or_equal p o)
-equal_leaves is cs p Equal b at h e = tt
-equal_leaves is cs p NotEqual b at h e = tt
-equal_leaves is cs p Below b at h e = (refl, append_assoc (path_text p) (60 ∷ []) (b ∷ []) ∙ ap (λ x. path_text p ++ 60 ∷ x ∷ []) e, at, h)
-equal_leaves is cs p AtMost b at h e = tt
-equal_leaves is cs p Above b at h e = (refl, append_assoc (path_text p) (62 ∷ []) (b ∷ []) ∙ ap (λ x. path_text p ++ 62 ∷ x ∷ []) e, at, h)
-equal_leaves is cs p AtLeast b at h e = tt
-
--- a digit is 48 and its value
-digit_is : (b : ℕ) → is_digit b ≡ true → (b ≡ 48 + (b - 48)) × (b - 48 < 10)
-digit_is b h = (grind (arith, nat_tests), grind (arith, nat_tests))
+equal_leaves is cs p Below b at h e = (refl, simp (append_assoc, e), at, h)
+equal_leaves is cs p Above b at h e = (refl, simp (append_assoc, e), at, h)
+equal_leaves is cs p o b at h e = tt
 
 -- the text of one digit
 digit_text : (b : ℕ) → is_digit b ≡ true → b ∷ [] ≡ decimal (b - 48)
@@ -52,11 +45,10 @@ pub compares_leaves : (is : List ItemSyntax) (cs : List ConditionSyntax) (p : Li
 compares_leaves is cs p o b at h =
     cond_both (nat_eq b 61) _ _ (Leaves is cs (Compare p o) b) (λ e. equal_leaves is cs p o b at h (eqb-true b 61 e)) (λ _.
     cond_both (nat_eq b 45) _ _ (Leaves is cs (Compare p o) b) (λ e.
-    (refl, append_assoc (path_text p) (operator_text o) (b ∷ []) ∙ ap (λ x. path_text p ++ (operator_text o ++ x ∷ [])) (eqb-true b 45 e), at, h)) (λ _.
+    (refl, simp (append_assoc, eqb-true b 45 e), at, h)) (λ _.
     cond_both (is_digit b) _ _ (Leaves is cs (Compare p o) b) (λ e. (
       refl,
-      append_assoc (path_text p) (operator_text o) (b ∷ []) ∙ ap (λ t. path_text p ++ (operator_text o ++ t)) (digit_text b e)
-          ∙ sym (append-nil (condition_text (condition p o (Up (b - 48))))),
+      simp (append_assoc, append-nil, digit_text b e),
       (at, λ lt. absurd (omega arith)),
       (h, omega (arith, (digit_is b e).1), omega arith),
     )) (λ _. tt)))
@@ -68,11 +60,7 @@ negates_leaves is cs p o b at h = cond_both (is_digit b && not (nat_eq b 48)) _ 
     let q = and_parts (is_digit b) (not (nat_eq b 48)) e in
     let gt = above b q.0 q.1 in (
       refl,
-      append_assoc (path_text p) (operator_text o ++ 45 ∷ []) (b ∷ [])
-          ∙ ap (λ t. path_text p ++ t) (append_assoc (operator_text o) (45 ∷ []) (b ∷ []))
-          ∙ ap (λ t. path_text p ++ (operator_text o ++ 45 ∷ t)) (digit_text b q.0)
-          ∙ ap (λ t. path_text p ++ (operator_text o ++ t)) (sym (minus_text (b - 48) gt))
-          ∙ sym (append-nil (condition_text (condition p o (Down (b - 48))))),
+      simp (append_assoc, append-nil, digit_text b q.0, minus_text (b - 48) gt),
       (at, λ lt. absurd (omega arith)),
       (h, (gt, omega (arith, (digit_is b q.0).1)), omega arith),
     )) (λ _. tt)
@@ -80,23 +68,10 @@ negates_leaves is cs p o b at h = cond_both (is_digit b && not (nat_eq b 48)) _ 
     above : (b : ℕ) → is_digit b ≡ true → not (nat_eq b 48) ≡ true → 0 < b - 48
     above b h g = grind (arith, nat_tests)
 
--- the text of a number with one more digit
-decimal_more : (n d : ℕ) → 0 < n → d < 10 → 10 * n + d ≤ 2 ^ 63 → decimal n ++ (48 + d) ∷ [] ≡ decimal (10 * n + d)
-decimal_more n d gt small le =
-    let q : (10 * n + d) / 10 ≡ n = omega arith in
-    let r : (10 * n + d) % 10 ≡ d = omega arith in
-    sym (decimal_step (10 * n + d) (omega arith) (omega arith) ∙ ap (λ m. decimal m ++ (48 + (10 * n + d) % 10) ∷ []) q
-    ∙ ap (λ m. decimal n ++ (48 + m) ∷ []) r)
-
 -- a condition with one more byte of its number
 grown : (p : List PathStep) (o : Operator) (xs ys : List ℕ) (b : ℕ) → xs ++ b ∷ [] ≡ ys
     → ((path_text p ++ (operator_text o ++ xs)) ++ []) ++ b ∷ [] ≡ (path_text p ++ (operator_text o ++ ys)) ++ []
-grown p o xs ys b e =
-    ap (λ t. t ++ b ∷ []) (append-nil (path_text p ++ (operator_text o ++ xs)))
-    ∙ append_assoc (path_text p) (operator_text o ++ xs) (b ∷ [])
-    ∙ ap (λ t. path_text p ++ t) (append_assoc (operator_text o) xs (b ∷ []))
-    ∙ ap (λ t. path_text p ++ (operator_text o ++ t)) e
-    ∙ sym (append-nil (path_text p ++ (operator_text o ++ ys)))
+grown p o xs ys b e = simp (append_assoc, append-nil, e)
 
 -- one more digit of a number
 counts_leaves : (is : List ItemSyntax) (cs : List ConditionSyntax) (p : List PathStep) (o : Operator) (m : Number) (b : ℕ) → IsAtCondition is cs 1 → IsPath p
@@ -108,7 +83,8 @@ counts_leaves is cs p o (Up n) b at h num e =
     cond_both (nat_lt (10 * n + (b - 48)) (2 ^ 63)) _ _ (λ x. Leaves is cs (Literal p o (Up n) 0) b (counts p o x)) (λ lt.
     let small = ltb-true (10 * n + (b - 48)) (2 ^ 63) lt in (
       refl,
-      grown p o (decimal n) (decimal (10 * n + (b - 48))) b (ap (λ x. decimal n ++ x ∷ []) d.0 ∙ decimal_more n (b - 48) (nonzero n some) d.1 (omega arith)),
+      grown p o (decimal n) (decimal (10 * n + (b - 48))) b
+          (ap (λ x. decimal n ++ x ∷ []) d.0 ∙ sym (decimal_more n (b - 48) (nonzero n some) d.1 (omega arith))),
       (at, λ lt. absurd (omega arith)),
       (h, small, omega arith),
     )) (λ _. tt))
@@ -121,8 +97,8 @@ counts_leaves is cs p o (Down n) b at h num e =
     let small = leb-true (10 * n + (b - 48)) (2 ^ 63) le in (
       refl,
       grown p o (signed_decimal (neg_ℤ (pos n))) (signed_decimal (neg_ℤ (pos (10 * n + (b - 48))))) b
-          (ap (λ t. t ++ b ∷ []) (minus_text n num.0) ∙ ap (λ x. 45 ∷ decimal n ++ x ∷ []) d.0 ∙ ap (λ t. 45 ∷ t) (decimal_more n (b - 48) num.0 d.1 small)
-          ∙ sym (minus_text (10 * n + (b - 48)) (omega (arith, num.0)))),
+          (ap (λ t. t ++ b ∷ []) (minus_text n num.0) ∙ ap (λ x. 45 ∷ decimal n ++ x ∷ []) d.0
+          ∙ ap (λ t. 45 ∷ t) (sym (decimal_more n (b - 48) num.0 d.1 small)) ∙ sym (minus_text (10 * n + (b - 48)) (omega (arith, num.0)))),
       (at, λ lt. absurd (omega arith)),
       (h, (omega (arith, num.0), small), omega arith),
     )) (λ _. tt)
@@ -148,25 +124,16 @@ literal_leaves is cs p o m n b at h num lt =
     let room = ltb-true (length cs + 1) 16 q.1 in
     cond_both (nat_eq n 4) _ _ (Leaves is cs (Literal p o m n) b)
     (λ four. (
-      ap (λ t. conditions_led is cs ++ t) (append_assoc (condition_text (condition p o m)) (take n and_word) (b ∷ []))
-          ∙ ap (λ t. conditions_led is cs ++ (condition_text (condition p o m) ++ t)) (whole_take and_word n b lt q.0 (full n four))
-          ∙ conditions_more is cs (condition p o m)
-          ∙ sym (append-nil (conditions_led is (cs ++ condition p o m ∷ []))),
+      simp (append_assoc, append-nil, whole_take and_word n b lt q.0 (omega (arith, eqb-true n 4 four)))
+          (simp (led_snoc condition_text (codes " and ") cs (condition p o m), append_assoc)),
       record { is_path = h; is_literal = literal_of m num },
       record { some = at.some; few_items = at.few_items; few = omega (arith, room, length-append cs (condition p o m ∷ [])) },
       refl,
     ))
     (λ four. (
       refl,
-      append_assoc (condition_text (condition p o m)) (take n and_word) (b ∷ [])
-          ∙ ap (λ t. condition_text (condition p o m) ++ t) (longer_take and_word n b lt q.0),
+      simp (append_assoc, longer_take and_word n b lt q.0),
       (at, λ _. omega (arith, room)),
-      (h, num, more n lt four),
+      (h, num, omega (arith, below n 4 (omega arith) four)),
     )))
     (λ _. tt))
-  where
-    full : (n : ℕ) → nat_eq n 4 ≡ true → nat_eq (n + 1) 5 ≡ true
-    full n h = grind (arith, nat_tests)
-
-    more : (n : ℕ) → n < 5 → nat_eq n 4 ≡ false → n + 1 < 5
-    more n lt h = grind (arith, nat_tests)

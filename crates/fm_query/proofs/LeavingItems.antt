@@ -1,11 +1,9 @@
 -- One byte of an item, or behind it, leaves what the next stage shows.
-use Rattle.std.proofs.Common.{◌≡◌, refl, sym, ap, ℕ, ◌+◌, ◌<◌, ◌≤◌, true, false, ◌&&◌, nat_eq, nat_lt, List, [], ◌∷◌, ◌++◌, length, take, get_or, arith, ◌∙◌}
+use Rattle.std.proofs.Common.{◌≡◌, refl, sym, ap, ℕ, ◌+◌, ◌<◌, true, ◌&&◌, nat_eq, nat_lt, List, [], ◌∷◌, ◌++◌, length, take, get_or, arith, ◌∙◌}
 use Rattle.std.specs.Prelude.{codes}
-use Rattle.std.specs.List.{join_by}
-use Rattle.std.proofs.lemmas.Bool.Decides.{nat_tests}
 use Rattle.std.proofs.lemmas.List.{append_assoc, append-nil, length-append}
 use Rattle.fm_path_text.specs.declared.part.Part.TheVariants.{Between}
-use Rattle.fm_query.specs.declared.fold.Fold.TheVariants.{Sum, Least, Greatest, All}
+use Rattle.fm_query.specs.declared.fold.Fold.TheVariants.{Least}
 use Rattle.fm_query.specs.declared.syntax.ItemSyntax.{ItemSyntax}
 use Rattle.fm_query.specs.declared.syntax.ItemSyntax.TheVariants.{Count}
 use Rattle.fm_query.specs.declared.syntax.ConditionSyntax.{ConditionSyntax}
@@ -16,7 +14,7 @@ use Rattle.fm_query.specs.declared.stage.Stage.TheVariants.{Start, Spelling, InP
 use Rattle.fm_query.specs.declared.stage.Turn.TheVariants.{Stay}
 use Rattle.fm_query.specs.Grammar.{item_text, IsItem}
 use Rattle.fm_query.specs.Reader.{word_text, where_word, starts, spelled, turns, spells, behind}
-use Rattle.fm_query.proofs.Shown.{items_led, conditions_led, led_snoc, join_led, IsAtItem, Leaves, longer_take, whole_take}
+use Rattle.fm_query.proofs.Shown.{led_snoc, join_led, IsAtItem, Leaves, longer_take, whole_take, below}
 use Rattle.std.proofs.lemmas.Bool.{eqb-true, ltb-true, and_parts, cond_both}
 
 -- the first byte of an item
@@ -27,35 +25,28 @@ starts_leaves is cs b at =
     cond_both (nat_eq b 109) _ _ (Leaves is cs Start b) (λ h. (refl, ap (λ x. x ∷ []) (eqb-true b 109 h), at, omega arith)) (λ _.
     cond_both (nat_eq b 108) _ _ (Leaves is cs Start b) (λ h. (refl, ap (λ x. x ∷ []) (eqb-true b 108 h), at, omega arith)) (λ _. tt))))
 
--- a number up to another that the test finds different is below it
-below : (a b : ℕ) → a ≤ b → nat_eq a b ≡ false → a < b
-below a b le e = grind (arith, nat_tests)
-
 -- a byte of a word
 spelled_leaves : (is : List ItemSyntax) (cs : List ConditionSyntax) (w : Word) (n b : ℕ) → IsAtItem is cs → n < length (word_text w)
     → nat_eq (get_or (word_text w) n 0) b ≡ true → Leaves is cs (Spelling w n) b (Stay (spelled w (n + 1)))
 spelled_leaves is cs Counting n b at lt h =
     cond_both (nat_eq (n + 1) 5) (Behind Count 0) (Spelling Counting (n + 1)) (λ t. Leaves is cs (Spelling Counting n) b (Stay t))
-    (λ e. (refl, whole_take (codes "count") n b lt h e, at, (tt, omega arith)))
+    (λ e. (refl, whole_take (codes "count") n b lt h (eqb-true (n + 1) 5 e), at, (tt, omega arith)))
     (λ e. (refl, longer_take (codes "count") n b lt h, at, below (n + 1) 5 (omega arith) e))
 spelled_leaves is cs (Folding f) n b at lt h =
     cond_both (nat_eq (n + 1) (length (word_text (Folding f)))) (InPath (OfItem f) [] Between) (Spelling (Folding f) (n + 1))
     (λ t. Leaves is cs (Spelling (Folding f) n) b (Stay t))
-    (λ e. (refl, whole_take (word_text (Folding f)) n b lt h e ∙ sym (append-nil (word_text (Folding f))), at, refl))
+    (λ e. (refl, whole_take (word_text (Folding f)) n b lt h (eqb-true (n + 1) _ e) ∙ sym (append-nil (word_text (Folding f))), at, refl))
     (λ e. (refl, longer_take (word_text (Folding f)) n b lt h, at, below (n + 1) (length (word_text (Folding f))) (omega arith) e))
 
 -- a byte of the other word that begins so
 turns_leaves : (is : List ItemSyntax) (cs : List ConditionSyntax) (w : Word) (n b : ℕ) → IsAtItem is cs → Leaves is cs (Spelling w n) b (turns w n b)
-turns_leaves is cs Counting n b at = tt
-turns_leaves is cs (Folding Sum) n b at = tt
 turns_leaves is cs (Folding Least) n b at =
     cond_both (nat_eq n 1 && nat_eq b 97) _ _ (Leaves is cs (Spelling (Folding Least) n) b)
     (λ h.
     let q = and_parts (nat_eq n 1) (nat_eq b 97) h in
     (refl, ap (λ k. take k (codes "min(") ++ b ∷ []) (eqb-true n 1 q.0) ∙ ap (λ x. 109 ∷ x ∷ []) (eqb-true b 97 q.1), at, omega arith))
     (λ _. tt)
-turns_leaves is cs (Folding Greatest) n b at = tt
-turns_leaves is cs (Folding All) n b at = tt
+turns_leaves is cs w n b at = tt
 
 -- a byte of an item's word
 pub spells_leaves : (is : List ItemSyntax) (cs : List ConditionSyntax) (w : Word) (n b : ℕ) → IsAtItem is cs → n < length (word_text w)
@@ -72,11 +63,7 @@ behind_leaves is cs i n b at item lt =
     (λ h. cond_both (nat_lt (length is + 1) 16) _ _ (Leaves is cs (Behind i n) b)
     (λ few.
     let q = and_parts (nat_eq n 0) (nat_eq b 44) h in (
-      ap (λ k. items_led is ++ ((item_text i ++ take k where_word) ++ b ∷ [])) (eqb-true n 0 q.0)
-          ∙ ap (λ x. items_led is ++ ((item_text i ++ []) ++ x ∷ [])) (eqb-true b 44 q.1)
-          ∙ ap (λ t. items_led is ++ (t ++ 44 ∷ [])) (append-nil (item_text i))
-          ∙ sym (led_snoc item_text (codes ",") is i)
-          ∙ sym (append-nil (items_led (is ++ i ∷ []))),
+      simp (eqb-true n 0 q.0, eqb-true b 44 q.1, append-nil, led_snoc item_text (codes ",") is i),
       item,
       record { few = omega (arith, ltb-true (length is + 1) 16 few, length-append is (i ∷ [])); no_condition = at.no_condition },
       tt,
@@ -85,13 +72,7 @@ behind_leaves is cs i n b at item lt =
     (λ _. cond_both (nat_eq (get_or where_word n 0) b) _ _ (Leaves is cs (Behind i n) b)
     (λ h. cond_both (nat_eq n 6) _ _ (Leaves is cs (Behind i n) b)
     (λ six. (
-      ap (λ t. items_led is ++ t) (append_assoc (item_text i) (take n where_word) (b ∷ []))
-          ∙ ap (λ t. items_led is ++ (item_text i ++ t)) (whole_take where_word n b lt h (full n six))
-          ∙ sym (append_assoc (items_led is) (item_text i) where_word)
-          ∙ ap (λ t. t ++ where_word) (sym (join_led item_text (codes ",") is i))
-          ∙ ap (λ c. join_by item_text (codes ",") (is ++ i ∷ []) ++ c) (sym (append-nil where_word))
-          ∙ ap (λ c. conditions_led (is ++ i ∷ []) c) (sym at.no_condition)
-          ∙ sym (append-nil (conditions_led (is ++ i ∷ []) cs)),
+      simp (append_assoc, append-nil, whole_take where_word n b lt h (omega (arith, eqb-true n 6 six)), join_led item_text (codes ",") is i, at.no_condition),
       item,
       record {
         some = omega (arith, length-append is (i ∷ []));
@@ -102,15 +83,8 @@ behind_leaves is cs i n b at item lt =
     ))
     (λ six. (
       refl,
-      append_assoc (item_text i) (take n where_word) (b ∷ [])
-          ∙ ap (λ t. item_text i ++ t) (longer_take where_word n b lt h),
+      simp (append_assoc, longer_take where_word n b lt h),
       at,
-      (item, more n lt six),
+      (item, omega (arith, below n 6 (omega arith) six)),
     )))
     (λ _. tt))
-  where
-    full : (n : ℕ) → nat_eq n 6 ≡ true → nat_eq (n + 1) 7 ≡ true
-    full n h = grind (arith, nat_tests)
-
-    more : (n : ℕ) → n < 7 → nat_eq n 6 ≡ false → n + 1 < 7
-    more n lt h = grind (arith, nat_tests)

@@ -3,11 +3,12 @@ use Rattle.std.proofs.Common.{◌≡◌, ◌≢◌, ℕ, ℤ, ◌+◌, ◌-◌, 
 use Rattle.std.specs.Prelude.{min}
 use Rattle.std.specs.List.{AllByRecursion, AllZip}
 use Rattle.fm_base.specs.declared.refusal.Refusal.{Refusal}
-use Rattle.fm_base.specs.declared.refusal.Refusal.TheVariants.{BadQuery, Memory}
-use Rattle.fm_layout.specs.Tree.{Tree, Value, Padding, Sequence, Struct, Union}
+use Rattle.fm_base.specs.declared.refusal.Refusal.TheVariants.{Memory}
+use Rattle.fm_layout.specs.Tree.{Tree, Value}
 use Rattle.fm_layout.specs.Parts.{IsValue}
 use Rattle.fm_path_text.specs.declared.step.PathStep.{PathStep}
-use Rattle.fm_path_text.specs.declared.step.PathStep.TheVariants.{Name, Group, At, Each, EachFrom}
+use Rattle.fm_path_text.proofs.Language as language
+use Rattle.fm_path_text.specs.declared.step.PathStep.TheVariants.{Each}
 use Rattle.fm_path_meaning.specs.Follow.{Taken, taken, after, before, ◌>>=◌, follow_by}
 use Rattle.fm_path_meaning.specs.Places.{Step}
 use Rattle.fm_path_meaning.specs.Walk.{Walk}
@@ -24,7 +25,7 @@ use Rattle.fm_query.specs.declared.item.Asked.{Asked}
 use Rattle.fm_query.specs.declared.item.Asked.TheVariants as asked
 use Rattle.fm_query.specs.declared.item.Item.{Item}
 use Rattle.fm_query.specs.declared.condition.Condition.{Condition}
-use Rattle.fm_query.specs.Grammar.{Syntax, IsTextOf, IsNoText}
+use Rattle.fm_query.specs.Grammar.{Syntax, IsQuery, query_text, IsTextOf, IsNoText}
 use Rattle.fm_query.specs.Plan.{Plan, plan}
 use Rattle.fm_query.specs.Parsed.{IsAskedOf, IsItemOf, IsConditionOf, IsPlanOf, IsItemRefused, IsConditionRefused, at_path, left_open, IsFirstRefused, IsItemAdmitted, IsConditionAdmitted, IsSyntaxRefused, at_item, at_condition, IsParsed, IsNoQuery, no_text, refused}
 use Rattle.fm_query.proofs.Plans.{all_admitted}
@@ -40,11 +41,8 @@ spec kind order alignment = record { kind = kind; order = order; alignment = ali
 -- what a value layout is accessed as
 same_spec : (last : Tree) (v w : ValueSpec) → IsSpecOf last v → IsSpecOf last w → v ≡ w
 same_spec (Value k o l) v w a b =
-    ap (λ x. spec x v.order v.alignment) (a.0 ∙ sym b.0) ∙ ap (λ x. spec w.kind x v.alignment) (a.1 ∙ sym b.1) ∙ ap (spec w.kind w.order) (a.2 ∙ sym b.2)
-same_spec (Padding n l) v w a b = absurd a
-same_spec (Sequence n e l) v w a b = absurd a
-same_spec (Struct ms l) v w a b = absurd a
-same_spec (Union ms l) v w a b = absurd a
+    let same : spec v.kind v.order v.alignment ≡ spec w.kind w.order w.alignment = cc in same
+same_spec last v w a b = absurd a
 
 -- what a path is resolved to
 one_resolution : (path : List PathStep) (t : Tree) (r s : Resolution) → IsResolved path t r → IsResolved path t s → r ≡ s
@@ -54,13 +52,8 @@ one_resolution path t r s a b =
     let offset : r.offset ≡ s.offset = a.leads.kept ∙ ap (λ (w : Walk). min w.offset (2 ^ 64 - 1)) walk ∙ sym b.leads.kept in
     let dims : r.dims ≡ s.dims = ap (λ (w : Walk). w.dims) walk in
     let value : r.value ≡ s.value = same_spec b.last r.value s.value (subst (λ (x : Tree). IsSpecOf x r.value) last a.value) b.value in
-    let size : r.root_size ≡ s.root_size = a.root_size ∙ sym b.root_size in
-    let alignment : r.root_alignment ≡ s.root_alignment = a.root_alignment ∙ sym b.root_alignment in
-    ap (λ x. resolution x r.dims r.value r.root_size r.root_alignment) offset
-    ∙ ap (λ x. resolution s.offset x r.value r.root_size r.root_alignment) dims
-    ∙ ap (λ x. resolution s.offset s.dims x r.root_size r.root_alignment) value
-    ∙ ap (λ x. resolution s.offset s.dims s.value x r.root_alignment) size
-    ∙ ap (resolution s.offset s.dims s.value s.root_size) alignment
+    let same : resolution r.offset r.dims r.value r.root_size r.root_alignment ≡ resolution s.offset s.dims s.value s.root_size s.root_alignment = cc in
+    same
 
 one_asked : (t : Tree) (s : ItemSyntax) (a b : Asked) → IsAskedOf t s a → IsAskedOf t s b → a ≡ b
 one_asked t syntax.Count a b is_a is_b = is_a ∙ sym is_b
@@ -72,38 +65,31 @@ item text asked = record { text = text; asked = asked }
 
 one_item : (t : Tree) (s : ItemSyntax) (a b : Item) → IsItemOf t s a → IsItemOf t s b → a ≡ b
 one_item t s a b is_a is_b =
-    ap (λ x. item x a.asked) (is_a.text ∙ sym is_b.text) ∙ ap (item b.text) (one_asked t s a.asked b.asked is_a.asked is_b.asked)
+    let asked = one_asked t s a.asked b.asked is_a.asked is_b.asked in
+    let same : item a.text a.asked ≡ item b.text b.asked = cc in same
 
 abbrev condition : List ℕ → Resolution → Operator → ℤ → Condition
 condition text path operator literal = record { text = text; path = path; operator = operator; literal = literal }
 
 one_condition : (t : Tree) (s : ConditionSyntax) (a b : Condition) → IsConditionOf t s a → IsConditionOf t s b → a ≡ b
 one_condition t s a b is_a is_b =
-    ap (λ x. condition x a.path a.operator a.literal) (is_a.text ∙ sym is_b.text)
-    ∙ ap (λ x. condition b.text x a.operator a.literal) (one_resolution s.path t a.path b.path is_a.path is_b.path)
-    ∙ ap (λ x. condition b.text b.path x a.literal) (is_a.operator ∙ sym is_b.operator)
-    ∙ ap (condition b.text b.path b.operator) (is_a.literal ∙ sym is_b.literal)
+    let path = one_resolution s.path t a.path b.path is_a.path is_b.path in
+    let same : condition a.text a.path a.operator a.literal ≡ condition b.text b.path b.operator b.literal = cc in same
 
 -- where each comes to one thing, all come to one list
 one_each : {A B : Type 0} (R : A → B → Type 0) → ((x : A) (y z : B) → R x y → R x z → y ≡ z) → (xs : List A) (ys zs : List B) → AllZip R xs ys
     → AllZip R xs zs → ys ≡ zs
 one_each R one [] [] [] a b = refl
+one_each R one (x ∷ xs) (y ∷ ys) (z ∷ zs) a b = let first = one x y z a.0 b.0 in let rest = one_each R one xs ys zs a.1 b.1 in cc
 one_each R one [] [] (z ∷ zs) a b = absurd b
-one_each R one [] (y ∷ ys) zs a b = absurd a
-one_each R one (x ∷ xs) [] zs a b = absurd a
 one_each R one (x ∷ xs) (y ∷ ys) [] a b = absurd b
-one_each R one (x ∷ xs) (y ∷ ys) (z ∷ zs) a b =
-    ap (λ v. v ∷ ys) (one x y z a.0 b.0) ∙ ap (λ vs. z ∷ vs) (one_each R one xs ys zs a.1 b.1)
+one_each R one xs ys zs a b = absurd a
 
 pub one_plan_of : (t : Tree) (q : Syntax) (p r : Plan) → IsPlanOf t q p → IsPlanOf t q r → p ≡ r
 one_plan_of t q p r a b =
-    let items : p.items ≡ r.items = one_each (IsItemOf t) (one_item t) q.items p.items r.items a.items b.items in
-    let conditions : p.conditions ≡ r.conditions =
-    one_each (IsConditionOf t) (one_condition t) q.conditions p.conditions r.conditions a.conditions b.conditions in
-    ap (λ x. plan x p.alignment p.items p.conditions) (a.size ∙ sym b.size)
-    ∙ ap (λ x. plan r.size x p.items p.conditions) (a.alignment ∙ sym b.alignment)
-    ∙ ap (λ x. plan r.size r.alignment x p.conditions) items
-    ∙ ap (plan r.size r.alignment r.items) conditions
+    let items = one_each (IsItemOf t) (one_item t) q.items p.items r.items a.items b.items in
+    let conditions = one_each (IsConditionOf t) (one_condition t) q.conditions p.conditions r.conditions a.conditions b.conditions in
+    let same : plan p.size p.alignment p.items p.conditions ≡ plan r.size r.alignment r.items r.conditions = cc in same
 
 -- the text is that of one query
 pub one_syntax : (text : List ℕ) (q r : Syntax) → IsTextOf text q → IsTextOf text r → q ≡ r
@@ -118,11 +104,8 @@ one_plan text t p r a b =
 
 -- indices behind none
 after_none : (p : PathStep) → after p [] ≡ []
-after_none (Name name) = refl
-after_none (Group n) = refl
-after_none (At n) = refl
 after_none Each = refl
-after_none (EachFrom f s) = refl
+after_none p = refl
 
 no_before : (s : Step) (r : Result (List Step) Refusal) (e : Refusal) → before s r ≡ Err e → r ≡ Err e
 no_before s (Ok ss) e is = absurd (cc)
@@ -144,10 +127,7 @@ follows (p ∷ ps) k t u e ends fails = step_follows (taken k p t 0) p ps k u e 
 -- what a value layout is accessed as, it has a value
 has_value : (last : Tree) (v : ValueSpec) → IsSpecOf last v → IsValue last
 has_value (Value k o l) v is = tt
-has_value (Padding n l) v is = absurd is
-has_value (Sequence n e l) v is = absurd is
-has_value (Struct ms l) v is = absurd is
-has_value (Union ms l) v is = absurd is
+has_value last v is = absurd is
 
 -- a path that is resolved isn't refused
 pub not_refused : (path : List PathStep) (t : Tree) (r : Resolution) (e : Refusal) → IsResolved path t r → IsRefusal path t e → e ≢ Memory → ⊥
@@ -182,9 +162,7 @@ plan_not_refused t q p e is (at_condition items first) other =
 
 -- a text of a query leaves the grammar nowhere
 pub not_no_text : (text : List ℕ) (q : Syntax) (e : Refusal) → IsTextOf text q → IsNoText text e → e ≢ Memory → ⊥
-not_no_text text q (BadQuery at) is denied other = denied.none q is.is_query is.spelled
-not_no_text text q Memory is denied other = other refl
-not_no_text text q e is denied other = denied
+not_no_text text q e is = language.not_no_text IsQuery query_text text q e is.is_query is.spelled
 
 -- a text that is refused has no plan
 pub refused_has_none : (text : List ℕ) (t : Tree) (p : Plan) (e : Refusal) → IsNoQuery text t e → e ≢ Memory → IsParsed text t p → ⊥

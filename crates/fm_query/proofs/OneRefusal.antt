@@ -1,68 +1,30 @@
 -- A layout or a text that is refused, is refused for one reason.
-use Rattle.std.proofs.Common.{◌≡◌, ◌≢◌, ℕ, ◌+◌, ◌≤◌, ◌<◌, List, [], ◌∷◌, ◌++◌, take, drop, refl, ap, subst, sym, ◌∙◌, inl, inr, arith}
-use Rattle.std.proofs.lemmas.List.{take-append-drop}
+use Rattle.std.proofs.Common.{◌≡◌, ◌≢◌, ℕ, List, [], ◌∷◌, refl, subst, inl, inr, arith}
 use Rattle.fm_base.specs.declared.refusal.Refusal.{Refusal}
-use Rattle.fm_base.specs.declared.refusal.Refusal.TheVariants.{NoSize, ElementRagged, BadQuery, Memory}
+use Rattle.fm_base.specs.declared.refusal.Refusal.TheVariants.{NoSize, ElementRagged, Memory}
 use Rattle.fm_layout.specs.Tree.{Tree}
-use Rattle.fm_lists.proofs.Taken.{take-within}
 use Rattle.fm_path_text.specs.declared.step.PathStep.{PathStep}
+use Rattle.fm_path_text.proofs.Language.{one_no_text}
 use Rattle.fm_path.specs.Resolution.{IsRefusal, at_step, no_value, no_memory}
 use Rattle.fm_query.specs.declared.syntax.ItemSyntax.{ItemSyntax}
 use Rattle.fm_query.specs.declared.syntax.ItemSyntax.TheVariants as syntax
 use Rattle.fm_query.specs.declared.syntax.ConditionSyntax.{ConditionSyntax}
-use Rattle.fm_query.specs.Grammar.{Syntax, Begins, BeginsUpTo, IsNoText}
+use Rattle.fm_query.specs.Grammar.{Syntax, IsQuery, query_text}
 use Rattle.fm_query.specs.Parsed.{IsItemRefused, IsConditionRefused, at_path, left_open, IsFirstRefused, IsItemAdmitted, IsConditionAdmitted, IsSyntaxRefused, at_item, at_condition, IsNoQuery, no_text, refused}
 use Rattle.fm_query.specs.Records.{IsNoRecord}
-use Rattle.fm_query.proofs.Completing.{shorter}
 use Rattle.fm_query.proofs.OnePlan.{one_syntax, follows, not_refused, item_clash, condition_clash, none_first, not_no_text}
 
 -- ---- layouts
 
-sized_once : (t : Tree) (e : Refusal) → IsNoRecord t NoSize → IsNoRecord t e → NoSize ≡ e
-sized_once t NoSize a b = refl
-sized_once t ElementRagged a b = absurd (omega (arith, a, b.0))
-sized_once t e a b = absurd b
-
-ragged_once : (t : Tree) (e : Refusal) → IsNoRecord t ElementRagged → IsNoRecord t e → ElementRagged ≡ e
-ragged_once t NoSize a b = absurd (omega (arith, b, a.0))
-ragged_once t ElementRagged a b = refl
-ragged_once t e a b = absurd b
-
 -- a layout is none of a record for one reason
 pub no_record_once : (t : Tree) (e f : Refusal) → IsNoRecord t e → IsNoRecord t f → e ≡ f
-no_record_once t NoSize f a b = sized_once t f a b
-no_record_once t ElementRagged f a b = ragged_once t f a b
+no_record_once t NoSize NoSize a b = refl
+no_record_once t NoSize ElementRagged a b = absurd (omega (arith, a, b.0))
+no_record_once t NoSize f a b = absurd b
+no_record_once t ElementRagged NoSize a b = absurd (omega (arith, b, a.0))
+no_record_once t ElementRagged ElementRagged a b = refl
+no_record_once t ElementRagged f a b = absurd b
 no_record_once t e f a b = absurd a
-
--- ---- the grammar
-
--- what begins some query's text further on, begins it so far
-begins_before : (n m : ℕ) (text : List ℕ) → n ≤ m → Begins (take m text) → Begins (take n text)
-begins_before n m text below begins =
-    let front = take m text in
-    let cut : front ≡ take n text ++ drop n front = sym (ap (λ xs. xs ++ drop n front) (sym (take-within n m text below)) ∙ take-append-drop n front) in
-    shorter (take n text) (drop n front) (subst Begins cut begins)
-
--- no text leaves the grammar at two places
-not_further : (text : List ℕ) (at to : ℕ) → BeginsUpTo at text → BeginsUpTo to text → at < to → ⊥
-not_further text at to a b less =
-    a.longest (omega (arith, less, b.within)) (begins_before (at + 1) to text (omega (arith, less)) b.begins)
-
-one_place : (text : List ℕ) (at to : ℕ) → BeginsUpTo at text → BeginsUpTo to text → at ≡ to
-one_place text at to a b =
-    let up : at < to → ⊥ = not_further text at to a b in
-    let down : to < at → ⊥ = not_further text to at b a in
-    omega (arith, up, down)
-
-left_once : (text : List ℕ) (at : ℕ) (f : Refusal) → BeginsUpTo at text → IsNoText text f → f ≢ Memory → BadQuery at ≡ f
-left_once text at (BadQuery to) a b other = ap BadQuery (one_place text at to a b)
-left_once text at Memory a b other = absurd (other refl)
-left_once text at f a b other = absurd b
-
-one_no_text : (text : List ℕ) (e f : Refusal) → IsNoText text e → IsNoText text f → e ≢ Memory → f ≢ Memory → e ≡ f
-one_no_text text (BadQuery at) f a b one two = left_once text at f a b two
-one_no_text text Memory f a b one two = absurd (one refl)
-one_no_text text e f a b one two = absurd a
 
 -- ---- paths, items and conditions
 
@@ -110,7 +72,7 @@ one_syntax_refusal t q e f one two (at_condition all a) (at_condition all' b) =
 
 -- a text is refused for one reason
 pub one_refusal : (text : List ℕ) (t : Tree) (e f : Refusal) → IsNoQuery text t e → IsNoQuery text t f → e ≢ Memory → f ≢ Memory → e ≡ f
-one_refusal text t e f (no_text a) (no_text b) one two = one_no_text text e f a b one two
+one_refusal text t e f (no_text a) (no_text b) one two = one_no_text IsQuery query_text text e f a b one two
 one_refusal text t e f (no_text a) (refused q is_text b) one two = absurd (not_no_text text q e is_text a one)
 one_refusal text t e f (refused q is_text a) (no_text b) one two = absurd (not_no_text text q f is_text b two)
 one_refusal text t e f (refused q is_text a) (refused r is_text' b) one two =

@@ -1,26 +1,26 @@
 -- The loop over the bytes of a query's text.
-use Rattle.std.proofs.Common.{◌≡◌, refl, sym, ap, subst, ℕ, ◌+◌, ◌<◌, ◌≤◌, zero, suc, false, if◌then◌else◌, nat_eq, Option, Some, None, List, [], ◌∷◌, ◌++◌, length, take, drop, get_or, arith, ◌∙◌}
+use Rattle.std.proofs.Common.{◌≡◌, refl, sym, ap, subst, ℕ, ◌+◌, ◌<◌, ◌≤◌, zero, suc, false, if◌then◌else◌, nat_eq, Option, Some, None, List, [], ◌∷◌, ◌++◌, length, take, get_or, arith, ◌∙◌}
 use Rattle.std.specs.Prelude.{codes}
-use Rattle.std.specs.List.{join_by}
 use Rattle.std.specs.Option.{IfSome}
 use Rattle.std.proofs.lemmas.Bool.Decides.{nat_tests}
-use Rattle.std.proofs.lemmas.List.{append_assoc, append-nil, length-append, take_all, take-append-drop}
+use Rattle.std.proofs.lemmas.List.{append_assoc, append-nil, length-append, take_all}
 use Rattle.fm_lists.proofs.Each.{all_snoc}
 use Rattle.fm_path_text.specs.declared.step.PathStep.{PathStep}
 use Rattle.fm_path_text.specs.declared.part.Part.{Part}
 use Rattle.fm_path_text.specs.Reader as path
-use Rattle.fm_path_text.proofs.Machine.{run_keeps, run_more, Accepts, stops_short, reads_none, reads_one}
+use Rattle.fm_path_text.proofs.Language.{IsReader, only, leaves_at, leaves_behind}
+use Rattle.fm_path_text.proofs.Machine.{run_keeps, run_more}
 use Rattle.fm_path_text.proofs.Parsing as path_parsing
 use Rattle.fm_query.specs.declared.syntax.ItemSyntax.{ItemSyntax}
 use Rattle.fm_query.specs.declared.syntax.ConditionSyntax.{ConditionSyntax}
-use Rattle.fm_query.specs.declared.stage.Role.TheVariants.{OfItem, OfCondition}
+use Rattle.fm_query.specs.declared.stage.Role.TheVariants.{OfCondition}
 use Rattle.fm_query.specs.declared.stage.Stage.{Stage}
-use Rattle.fm_query.specs.declared.stage.Stage.TheVariants.{Start, Spelling, InPath, Behind, Bang, Compare, Minus, Literal}
+use Rattle.fm_query.specs.declared.stage.Stage.TheVariants.{Spelling, InPath, Behind, Bang, Compare, Minus, Literal}
 use Rattle.fm_query.specs.declared.stage.Turn.{Turn}
 use Rattle.fm_query.specs.declared.stage.Turn.TheVariants.{Dead, Stay, NextItem, NextCondition}
-use Rattle.fm_query.specs.Grammar.{Syntax, syntax, item_text, condition_text, where_text, query_text, IsItem, IsCondition, IsQuery, IsTextOf, Begins, BeginsUpTo}
-use Rattle.fm_query.specs.Reader.{condition, next, Spot, spot, moved, reads, onward, run, start, whole, whole_at, IsReadySpot}
-use Rattle.fm_query.proofs.Shown.{so_far, items_led, conditions_led, led, join_led, base, own, HasRead, HasReadTo, Leaves}
+use Rattle.fm_query.specs.Grammar.{most_parts, Syntax, syntax, item_text, query_text, IsItem, IsCondition, IsQuery, IsTextOf, BeginsUpTo}
+use Rattle.fm_query.specs.Reader.{condition, next, Spot, spot, moved, reads, onward, run, start, whole, whole_at, IsReady, IsReadySpot}
+use Rattle.fm_query.proofs.Shown.{so_far, join_led, base, own, IsCounted, IsLive, HasRead, HasReadTo, Leaves}
 use Rattle.fm_query.proofs.Leaving.{leaves}
 use Rattle.fm_query.proofs.LeavingConditions.{literal_of}
 use Rattle.fm_query.proofs.Completing.{where_led, can_end}
@@ -31,7 +31,7 @@ after : (text : List ℕ) (is : List ItemSyntax) (cs : List ConditionSyntax) (s 
     → IfSome (moved is cs m) (HasReadTo (text ++ b ∷ []))
 after text is cs s b Dead h l = tt
 after text is cs s b (Stay t) h l = record {
-  spelled = ap (λ x. x ++ b ∷ []) h.spelled ∙ append_assoc (base is cs s) (own s) (b ∷ []) ∙ ap (λ x. base is cs s ++ x) l.1 ∙ ap (λ x. x ++ own t) l.0;
+  spelled = simp (h.spelled, append_assoc, l.1, l.0);
   items = h.items;
   conditions = h.conditions;
   counted = l.2;
@@ -75,12 +75,6 @@ not_zero n = grind (arith, nat_tests)
 -- a text that may end is that of the query which was read
 is_whole : (text : List ℕ) (is : List ItemSyntax) (cs : List ConditionSyntax) (s : Stage) (q : Syntax) → HasRead text is cs s → whole_at is cs s ≡ Some q
     → IsQuery q × (text ≡ query_text q)
-is_whole text is cs Start q h e = absurd (cc)
-is_whole text is cs (Spelling w n) q h e = absurd (cc)
-is_whole text is cs (InPath r d p) q h e = absurd (cc)
-is_whole text is cs (Bang p) q h e = absurd (cc)
-is_whole text is cs (Compare p o) q h e = absurd (cc)
-is_whole text is cs (Minus p o) q h e = absurd (cc)
 is_whole text is cs (Behind i zero) q h e =
     subst (λ q. IsQuery q × (text ≡ query_text q)) (some_of e) (
       record {
@@ -90,11 +84,7 @@ is_whole text is cs (Behind i zero) q h e =
         conditions = h.conditions;
         few_conditions = omega (arith, ap length h.counted.no_condition);
       },
-      h.spelled
-          ∙ ap (λ t. items_led is ++ t) (append-nil (item_text i))
-          ∙ sym (join_led item_text (codes ",") is i)
-          ∙ sym (append-nil (join_by item_text (codes ",") (is ++ i ∷ [])))
-          ∙ ap (λ c. join_by item_text (codes ",") (is ++ i ∷ []) ++ where_text c) (sym h.counted.no_condition),
+      simp (h.spelled, h.counted.no_condition, join_led item_text (codes ",") is i, append-nil),
     )
 is_whole text is cs (Behind i (suc n)) q h e =
     let f : None ≡ Some q = sym (ap (λ c. if c then Some (syntax (is ++ i ∷ []) cs) else None) (not_zero n)) ∙ e in
@@ -109,32 +99,16 @@ is_whole text is cs (Literal p o m zero) q h e =
         conditions = all_snoc IsCondition cs c h.conditions (record { is_path = h.live.0; is_literal = literal_of m h.live.1 });
         few_conditions = omega (arith, h.counted.0.few, length-append cs (c ∷ []));
       },
-      h.spelled
-          ∙ ap (λ t. conditions_led is cs ++ t) (append-nil (condition_text c))
-          ∙ append_assoc (join_by item_text (codes ",") is) (codes " where " ++ led condition_text (codes " and ") cs) (condition_text c)
-          ∙ ap (λ t. join_by item_text (codes ",") is ++ t) (append_assoc (codes " where ") (led condition_text (codes " and ") cs) (condition_text c)
-          ∙ sym (where_led cs c)),
+      simp (h.spelled, append_assoc, append-nil, where_led cs c),
     )
 is_whole text is cs (Literal p o m (suc n)) q h e =
     let f : None ≡ Some q = sym (ap (λ c. if c then Some (syntax is (cs ++ condition p o m ∷ [])) else None) (not_zero n)) ∙ e in
     absurd (cc)
+is_whole text is cs s q h e = absurd (cc)
 
--- where the reader stops, no text goes on
-stops : (text : List ℕ) → run text start ≡ None → Begins text → ⊥
-stops text e b = stops_short reads start whole text b.0 (query_text b.1) b.1 e b.3 (accepts b.1.items b.1.conditions b.2)
-
--- a query's text is read to its end
-read_out : (text : List ℕ) (q : Syntax) → IsQuery q → text ≡ query_text q → Accepts reads start whole text q
-read_out text q h t = subst (λ x. Accepts reads start whole x q) (sym t) (accepts q.items q.conditions h)
-
--- what was not read whole is no text
-no_text : (text : List ℕ) (s : Spot) → run text start ≡ Some s → whole s ≡ None → (q : Syntax) → IsQuery q → text ≡ query_text q → ⊥
-no_text text s e w q h t = reads_none reads start whole text s q e w (read_out text q h t)
-
--- and the query of a text is the one that was read
-only : (text : List ℕ) (s : Spot) (q : Syntax) → run text start ≡ Some s → whole s ≡ Some q → (other : Syntax) → IsQuery other → text ≡ query_text other
-    → q ≡ other
-only text s q e w other h t = reads_one reads start whole text s q other e w (read_out text other h t)
+-- it reads the language of queries
+reader : IsReader IsQuery query_text reads start whole
+reader = record { accepts = λ q. accepts q.items q.conditions }
 
 -- a path that is read may be read on
 path_ready : (d : List PathStep) (p : Part) → path.run (so_far d p) path.start ≡ Some (path.spot d p) → (length d ≤ 64) × path.IsBounded p
@@ -145,27 +119,22 @@ path_ready d p e =
 
 -- wherever the reader stands, it may read on
 ready : (text : List ℕ) (is : List ItemSyntax) (cs : List ConditionSyntax) (s : Stage) → HasRead text is cs s → IsReadySpot (spot is cs s)
-ready text is cs Start h = record { items = omega (arith, h.counted.few); conditions = omega (arith, ap length h.counted.no_condition); stage = tt }
-ready text is cs (Spelling w n) h = record {
-  items = omega (arith, h.counted.few);
-  conditions = omega (arith, ap length h.counted.no_condition);
-  stage = h.live;
-}
-ready text is cs (InPath (OfItem f) d p) h = record {
-  items = omega (arith, h.counted.few);
-  conditions = omega (arith, ap length h.counted.no_condition);
-  stage = path_ready d p h.live;
-}
-ready text is cs (InPath OfCondition d p) h = record { items = h.counted.few_items; conditions = omega (arith, h.counted.few); stage = path_ready d p h.live }
-ready text is cs (Behind i n) h = record {
-  items = omega (arith, h.counted.few);
-  conditions = omega (arith, ap length h.counted.no_condition);
-  stage = h.live.1;
-}
-ready text is cs (Bang p) h = record { items = h.counted.few_items; conditions = omega (arith, h.counted.few); stage = tt }
-ready text is cs (Compare p o) h = record { items = h.counted.few_items; conditions = omega (arith, h.counted.few); stage = tt }
-ready text is cs (Minus p o) h = record { items = h.counted.few_items; conditions = omega (arith, h.counted.few); stage = tt }
-ready text is cs (Literal p o m n) h = record { items = h.counted.0.few_items; conditions = omega (arith, h.counted.0.few); stage = (h.live.1, h.live.2) }
+ready text is cs s h = let n = few is cs s h.counted in record { items = n.0; conditions = n.1; stage = at s h.live }
+  where
+    few : (is : List ItemSyntax) (cs : List ConditionSyntax) (s : Stage) → IsCounted is cs s → (length is ≤ most_parts) × (length cs ≤ most_parts)
+    few is cs (InPath OfCondition d p) c = (c.few_items, omega (arith, c.few))
+    few is cs (Bang p) c = (c.few_items, omega (arith, c.few))
+    few is cs (Compare p o) c = (c.few_items, omega (arith, c.few))
+    few is cs (Minus p o) c = (c.few_items, omega (arith, c.few))
+    few is cs (Literal p o m n) c = (c.0.few_items, omega (arith, c.0.few))
+    few is cs s c = (omega (arith, c.few), omega (arith, ap length c.no_condition))
+
+    at : (s : Stage) → IsLive s → IsReady s
+    at (Spelling w n) l = l
+    at (InPath r d p) l = path_ready d p l
+    at (Behind i n) l = l.1
+    at (Literal p o m n) l = (l.1, l.2)
+    at s l = tt
 
 -- what the loop keeps
 pub record IsReading (text : List ℕ) (i : ℕ) (s : Spot) : Type 0 where
@@ -194,13 +163,7 @@ stays text i s t b h lt e m = reading text (i + 1) t (goes_on text i s b h lt e 
 pub ends_at : (text : List ℕ) (i : ℕ) (s : Spot) (b : ℕ) → IsReading text i s → i < length text → b ≡ get_or text i 0 → None ≡ onward (Some s) b
     → BeginsUpTo i text
 ends_at text i s b h lt e m =
-    let dead = goes_on text i s b h lt e ∙ sym m in
-    record {
-      within = omega arith;
-      begins = can_end (take i text) s.items s.conditions s.stage (there_read (take i text) s h.there);
-      longest = λ _. stops (take (i + 1) text) dead;
-      none = λ q is t. stops (take (i + 1) text) dead (drop (i + 1) text, q, is, take-append-drop (i + 1) text ∙ t);
-    }
+    leaves_at reader text i lt (can_end (take i text) s.items s.conditions s.stage (there_read (take i text) s h.there)) (goes_on text i s b h lt e ∙ sym m)
 
 -- after the last byte the whole text was read
 at_end : (text : List ℕ) (i : ℕ) (s : Spot) → IsReading text i s → length text ≤ i → run text start ≡ Some s
@@ -211,15 +174,10 @@ pub is_found : (text : List ℕ) (i : ℕ) (s : Spot) (q : Syntax) → IsReading
 is_found text i s q h le w =
     let e = at_end text i s h le in
     let f = is_whole text s.items s.conditions s.stage q (there_read text s e) (sym w) in
-    record { is_query = f.0; spelled = f.1; only = only text s q e (sym w) }
+    record { is_query = f.0; spelled = f.1; only = λ other. only reader text s q other e (sym w) }
 
 -- a text that ends too early begins a query's text as far as it goes
 pub ends_all : (text : List ℕ) (i : ℕ) (s : Spot) → IsReading text i s → length text ≤ i → None ≡ whole s → BeginsUpTo (length text) text
 ends_all text i s h le w =
     let e = at_end text i s h le in
-    record {
-      within = omega arith;
-      begins = subst Begins (sym (take_all (length text) text (omega arith))) (can_end text s.items s.conditions s.stage (there_read text s e));
-      longest = λ lt. absurd (omega arith);
-      none = no_text text s e (sym w);
-    }
+    leaves_behind reader text s (can_end text s.items s.conditions s.stage (there_read text s e)) e (sym w)

@@ -1,8 +1,9 @@
 -- The text that a stage of the reader shows, and what holds there.
-use Rattle.std.proofs.Common.{◌≡◌, sym, ap, ℕ, ◌+◌, ◌<◌, ◌≤◌, Some, true, nat_eq, List, [], ◌∷◌, ◌++◌, length, take, get_or, arith, ◌∙◌}
+use Rattle.std.proofs.Common.{◌≡◌, sym, ap, ℕ, ◌+◌, ◌<◌, ◌≤◌, Some, true, false, nat_eq, List, [], ◌∷◌, ◌++◌, length, take, get_or, arith, ◌∙◌}
 use Rattle.std.specs.Prelude.{codes}
 use Rattle.std.specs.List.{AllByRecursion, join_by, flat_map}
 use Rattle.std.proofs.lemmas.Bool.{eqb-true}
+use Rattle.std.proofs.lemmas.Bool.Decides.{nat_tests}
 use Rattle.std.proofs.lemmas.List.{append_assoc, append-nil, take_more, take_all}
 use Rattle.fm_path_text.specs.declared.step.PathStep.{PathStep}
 use Rattle.fm_path_text.specs.declared.part.Part.{Part}
@@ -27,28 +28,18 @@ led f sep (x ∷ xs) = f x ++ (sep ++ led f sep xs)
 
 -- one more text with a separator behind it
 pub led_snoc : {A : Type 0} (f : A → List ℕ) (sep : List ℕ) (xs : List A) (x : A) → led f sep (xs ++ x ∷ []) ≡ led f sep xs ++ (f x ++ sep)
-led_snoc f sep [] x = ap (λ t. f x ++ t) (append-nil sep)
-led_snoc f sep (y ∷ ys) x =
-    ap (λ t. f y ++ (sep ++ t)) (led_snoc f sep ys x)
-    ∙ ap (λ t. f y ++ t) (sym (append_assoc sep (led f sep ys) (f x ++ sep)))
-    ∙ sym (append_assoc (f y) (sep ++ led f sep ys) (f x ++ sep))
+led_snoc f sep [] x = simp append-nil
+led_snoc f sep (y ∷ ys) x = simp (led_snoc f sep ys x, append_assoc)
 
 -- texts that each have a separator before them
 flat_led : {A : Type 0} (f : A → List ℕ) (sep : List ℕ) (xs : List A) (x : A) → flat_map (λ y. sep ++ f y) (xs ++ x ∷ []) ≡ sep ++ (led f sep xs ++ f x)
 flat_led f sep [] x = append-nil (sep ++ f x)
-flat_led f sep (y ∷ ys) x =
-    ap (λ t. (sep ++ f y) ++ t) (flat_led f sep ys x)
-    ∙ append_assoc sep (f y) (sep ++ (led f sep ys ++ f x))
-    ∙ ap (λ t. sep ++ (f y ++ t)) (sym (append_assoc sep (led f sep ys) (f x)))
-    ∙ ap (λ t. sep ++ t) (sym (append_assoc (f y) (sep ++ led f sep ys) (f x)))
+flat_led f sep (y ∷ ys) x = simp (flat_led f sep ys x, append_assoc)
 
 -- texts with separators between them, the last one apart
 pub join_led : {A : Type 0} (f : A → List ℕ) (sep : List ℕ) (xs : List A) (x : A) → join_by f sep (xs ++ x ∷ []) ≡ led f sep xs ++ f x
 join_led f sep [] x = append-nil (f x)
-join_led f sep (y ∷ ys) x =
-    ap (λ t. f y ++ t) (flat_led f sep ys x)
-    ∙ ap (λ t. f y ++ t) (sym (append_assoc sep (led f sep ys) (f x)))
-    ∙ sym (append_assoc (f y) (sep ++ led f sep ys) (f x))
+join_led f sep (y ∷ ys) x = simp (flat_led f sep ys x, append_assoc)
 
 -- a path as far as it has been read
 abbrev pub so_far : List PathStep → Part → List ℕ
@@ -60,25 +51,13 @@ items_led is = led item_text (codes ",") is
 abbrev pub conditions_led : List ItemSyntax → List ConditionSyntax → List ℕ
 conditions_led is cs = join_by item_text (codes ",") is ++ (codes " where " ++ led condition_text (codes " and ") cs)
 
--- one more condition with and behind it
-pub conditions_more : (is : List ItemSyntax) (cs : List ConditionSyntax) (c : ConditionSyntax)
-    → conditions_led is cs ++ (condition_text c ++ and_word) ≡ conditions_led is (cs ++ c ∷ [])
-conditions_more is cs c =
-    append_assoc (join_by item_text (codes ",") is) (codes " where " ++ led condition_text (codes " and ") cs) (condition_text c ++ and_word)
-    ∙ ap (λ t. join_by item_text (codes ",") is ++ t) (append_assoc (codes " where ") (led condition_text (codes " and ") cs) (condition_text c ++ and_word))
-    ∙ ap (λ t. join_by item_text (codes ",") is ++ (codes " where " ++ t)) (sym (led_snoc condition_text (codes " and ") cs c))
-
 -- the text before the item or condition that is read
 abbrev pub base : List ItemSyntax → List ConditionSyntax → Stage → List ℕ
 base is cs Start = items_led is
 base is cs (Spelling w n) = items_led is
 base is cs (InPath (OfItem fold) done part) = items_led is
-base is cs (InPath OfCondition done part) = conditions_led is cs
 base is cs (Behind i n) = items_led is
-base is cs (Bang p) = conditions_led is cs
-base is cs (Compare p o) = conditions_led is cs
-base is cs (Minus p o) = conditions_led is cs
-base is cs (Literal p o m n) = conditions_led is cs
+base is cs s = conditions_led is cs
 
 -- the text of that item or condition so far
 abbrev pub own : Stage → List ℕ
@@ -107,12 +86,9 @@ abbrev pub IsCounted : List ItemSyntax → List ConditionSyntax → Stage → Ty
 IsCounted is cs Start = IsAtItem is cs
 IsCounted is cs (Spelling w n) = IsAtItem is cs
 IsCounted is cs (InPath (OfItem fold) done part) = IsAtItem is cs
-IsCounted is cs (InPath OfCondition done part) = IsAtCondition is cs 1
 IsCounted is cs (Behind i n) = IsAtItem is cs
-IsCounted is cs (Bang p) = IsAtCondition is cs 1
-IsCounted is cs (Compare p o) = IsAtCondition is cs 1
-IsCounted is cs (Minus p o) = IsAtCondition is cs 1
 IsCounted is cs (Literal p o m n) = IsAtCondition is cs 1 × (0 < n → length cs + 2 ≤ 16)
+IsCounted is cs s = IsAtCondition is cs 1
 
 abbrev pub IsLive : Stage → Type 0
 IsLive Start = Unit {0}
@@ -148,5 +124,9 @@ pub longer_take : (xs : List ℕ) (n b : ℕ) → n < length xs → nat_eq (get_
 longer_take xs n b lt h = ap (λ x. take n xs ++ x ∷ []) (sym (eqb-true (get_or xs n 0) b h)) ∙ sym (take_more xs n 0 lt)
 
 -- a word with its last byte
-pub whole_take : (xs : List ℕ) (n b : ℕ) → n < length xs → nat_eq (get_or xs n 0) b ≡ true → nat_eq (n + 1) (length xs) ≡ true → take n xs ++ b ∷ [] ≡ xs
-whole_take xs n b lt h e = longer_take xs n b lt h ∙ take_all (n + 1) xs (omega (arith, eqb-true (n + 1) (length xs) e))
+pub whole_take : (xs : List ℕ) (n b : ℕ) → n < length xs → nat_eq (get_or xs n 0) b ≡ true → n + 1 ≡ length xs → take n xs ++ b ∷ [] ≡ xs
+whole_take xs n b lt h e = longer_take xs n b lt h ∙ take_all (n + 1) xs (omega (arith, e))
+
+-- a number up to another that the test finds different is below it
+pub below : (a b : ℕ) → a ≤ b → nat_eq a b ≡ false → a < b
+below a b le e = grind (arith, nat_tests)

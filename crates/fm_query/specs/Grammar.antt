@@ -1,10 +1,10 @@
 -- The texts of queries, and what a text that is none begins.
-use Rattle.std.specs.Prelude.{◌≡◌, ℤ, pos, negsuc, ℕ, ◌+◌, ◌^◌, ◌<◌, ◌≤◌, List, [], ◌∷◌, ◌++◌, length, take, codes}
+use Rattle.std.specs.Prelude.{◌≡◌, ℤ, pos, negsuc, ℕ, ◌^◌, ◌<◌, ◌≤◌, List, [], ◌∷◌, ◌++◌, length, codes}
 use Rattle.std.specs.Fmt.{signed_decimal}
 use Rattle.std.specs.List.{AllByRecursion, join_by}
 use Rattle.fm_base.specs.declared.refusal.Refusal.{Refusal}
-use Rattle.fm_base.specs.declared.refusal.Refusal.TheVariants.{BadQuery, Memory}
 use Rattle.fm_path_text.specs.Grammar as path
+use Rattle.fm_path_text.specs.Language as language
 use Rattle.fm_query.specs.declared.fold.Fold.{Fold}
 use Rattle.fm_query.specs.declared.fold.Fold.TheVariants.{Sum, Least, Greatest, All}
 use Rattle.fm_query.specs.declared.operator.Operator.{Operator}
@@ -85,17 +85,12 @@ pub record IsTextOf (text : List ℕ) (q : Syntax) : Type 0 where
 
 -- some query's text begins so
 abbrev pub Begins : List ℕ → Type 0
-Begins text = (rest : List ℕ) × (q : Syntax) × IsQuery q × (text ++ rest ≡ query_text q)
+Begins = language.Begins IsQuery query_text
 
 -- the longest prefix of the text that begins some query's text has this length, and the text is no query's
-pub record BeginsUpTo (at : ℕ) (text : List ℕ) : Type 0 where
-  pub within : at ≤ length text
-  pub begins : Begins (take at text)
-  pub longest : at < length text → Begins (take (at + 1) text) → ⊥
-  pub none : (q : Syntax) → IsQuery q → text ≡ query_text q → ⊥
+abbrev pub BeginsUpTo : ℕ → List ℕ → Type 0
+BeginsUpTo = language.BeginsUpTo IsQuery query_text
 
 -- what reading a query's text may answer in place of what it says
 abbrev pub IsNoText : List ℕ → Refusal → Type 0
-IsNoText text (BadQuery at) = BeginsUpTo at text
-IsNoText text Memory = Unit {0}
-IsNoText text _ = ⊥
+IsNoText = language.IsNoText IsQuery query_text

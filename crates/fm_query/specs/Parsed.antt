@@ -6,7 +6,7 @@ use Rattle.fm_base.specs.declared.refusal.Refusal.TheVariants.{StillOpen, Memory
 use Rattle.fm_layout.specs.Tree.{Tree, alignment_of}
 use Rattle.fm_layout.specs.Size.{size_of}
 use Rattle.fm_path_text.specs.declared.step.PathStep.{PathStep}
-use Rattle.fm_path_text.specs.declared.step.PathStep.TheVariants.{Name, Group, At, Each, EachFrom}
+use Rattle.fm_path_text.specs.declared.step.PathStep.TheVariants.{Each, EachFrom}
 use Rattle.fm_path.specs.Resolution.{Resolution, IsResolved, IsRefusal}
 use Rattle.fm_query.specs.declared.syntax.ItemSyntax.{ItemSyntax}
 use Rattle.fm_query.specs.declared.syntax.ItemSyntax.TheVariants as syntax
@@ -20,11 +20,9 @@ use Rattle.fm_query.specs.Plan.{Plan}
 
 -- the step leaves an index open
 abbrev pub is_open : PathStep → Bool
-is_open (Name name) = false
-is_open (Group n) = false
-is_open (At n) = false
 is_open Each = true
 is_open (EachFrom f s) = true
+is_open p = false
 
 -- the first step of a path that leaves an index open, where its first step has this number
 abbrev pub open_from : ℕ → List PathStep → Option ℕ

@@ -1,11 +1,11 @@
-use Rattle.std.proofs.Common.{◌≡◌, ℕ, ◌+◌, ◌-◌, ◌≤◌, List, length, take, drop, IfSome, Option, Ok, Err, refl, sym, ap, ◌∙◌, arith, subst}
+use Rattle.std.proofs.Common.{ℕ, ◌+◌, ◌≤◌, List, length, take, IfSome, Option, Ok, Err, refl, sym, ap, ◌∙◌, arith, subst}
 use Rattle.std.proofs.lemmas.List.{length-take-le}
 use Rattle.fm_io.specs.Files.{Contents, AreBytesFrom, TellsPiece}
-use Rattle.fm_io.specs.Reads.{At, GoesOn}
+use Rattle.fm_io.specs.Reads.{At}
 use Rattle.fm_io.specs.declared.fault.Fault.TheVariants.{Failed, Memory}
 use Rattle.fm_io.specs.declared.files.Piece.TheVariants.{Got, End, Missing}
 use Rattle.fm_io.proofs.Filled.{take-filled, filled-le, AreBytesFrom-more}
-use Rattle.fm_io.proofs.Followed.{ReadsFile-on, room_left}
+use Rattle.fm_io.proofs.Followed.{ReadsFile-more}
 use Rattle.fm_io.proofs.reading.fill.Goals as goal
 
 pub loop-n-preserved : goal.loop-n-preserved
@@ -22,7 +22,6 @@ loop-n-preserved g c =
     let piece : IfSome told (λ contents. TellsPiece contents name (c.args.at + n) rest (Got more)) =
     subst (λ (t : Option Contents). IfSome t (λ contents. TellsPiece contents name (c.args.at + n) rest (Got more)))
     c.loop-n.invariant.held (rw c.in-Ok-Got.field-0-is at c.in-Ok-Got.ensures.content) in
-    let left = room_left n buffer in
     record {
       within = filled-le n more buffer rest c.loop-n.invariant.within room;
       bytes = subst (λ (bytes : List ℕ). AreBytesFrom told name c.args.at bytes)
@@ -32,61 +31,31 @@ loop-n-preserved g c =
       held = c.in-Ok-Got.ensures.held ∙ c.loop-n.invariant.held;
       quiet = c.in-Ok-Got.ensures.quiet (λ e. absurd (cc)) ∙ c.loop-n.invariant.quiet;
       found = c.in-Ok-Got.ensures.found (λ e. absurd (let got = c.in-Ok-Got.field-0-is in cc)) ∙ c.loop-n.invariant.found;
-      reads = ReadsFile-on (files.reads c.args.files.now) (files.reads c.loop-n.files) (files.reads c.read_at.new.self) name (length c.args.buf.now)
-          (c.args.at + length c.args.buf.now) c.args.at (c.args.at + n) (length (take (length buffer - n) (drop n buffer))) (Ok (Got more))
-          (λ next. next ≡ At (c.args.at + (n + more))) c.loop-n.invariant.reads (rw c.in-Ok-Got.field-0-is at c.in-Ok-Got.ensures.noted)
-          (omega (arith, left, c.loop-n.auto.buf)) (omega (arith, left, c.loop-n.auto.buf, c.loop-n.invariant.within)) (ap At (omega arith));
+      reads = ReadsFile-more buffer (Ok (Got more)) _ c.loop-n.invariant.reads c.loop-n.invariant.within c.loop-n.auto.buf
+          (rw c.in-Ok-Got.field-0-is at c.in-Ok-Got.ensures.noted) (ap At (omega arith));
       faults_stay = omega (arith, c.in-Ok-Got.ensures.faults_stay);
       misses_stay = omega (arith, c.in-Ok-Got.ensures.misses_stay);
     }
 
 pub returns-in-Ok-End-clause-reads : goal.returns-in-Ok-End-clause-reads
 returns-in-Ok-End-clause-reads g c =
-    let files = g.F.Files in
-    let n = c.loop-n.n in
-    let buffer = c.loop-n.buf in
-    let left = room_left n buffer in
-    ReadsFile-on (files.reads c.args.files.now) (files.reads c.loop-n.files) (files.reads c.read_at.new.self) c.args.name.now (length c.args.buf.now)
-    (c.args.at + length c.args.buf.now) c.args.at (c.args.at + n) (length (take (length buffer - n) (drop n buffer))) (Ok End)
-    (GoesOn c.args.at (length c.args.buf.now) n) c.loop-n.invariant.reads (rw c.in-Ok-End.field-0-is at c.in-Ok-End.ensures.noted)
-    (omega (arith, left, c.loop-n.auto.buf)) (omega (arith, left, c.loop-n.auto.buf, c.loop-n.invariant.within)) (
-      λ full.
-          absurd (omega (arith, full, c.loop-n-test.true, c.loop-n.auto.buf)),
-      λ short. refl,
-    )
+    ReadsFile-more c.loop-n.buf (Ok End) _ c.loop-n.invariant.reads c.loop-n.invariant.within c.loop-n.auto.buf
+    (rw c.in-Ok-End.field-0-is at c.in-Ok-End.ensures.noted) (λ full. absurd (omega (arith, full, c.loop-n-test.true, c.loop-n.auto.buf)), λ short. refl)
 
 pub returns-in-Ok-Missing-clause-reads : goal.returns-in-Ok-Missing-clause-reads
 returns-in-Ok-Missing-clause-reads g c =
-    let files = g.F.Files in
-    let n = c.loop-n.n in
-    let buffer = c.loop-n.buf in
-    let left = room_left n buffer in
-    ReadsFile-on (files.reads c.args.files.now) (files.reads c.loop-n.files) (files.reads c.read_at.new.self) c.args.name.now (length c.args.buf.now)
-    (c.args.at + length c.args.buf.now) c.args.at (c.args.at + n) (length (take (length buffer - n) (drop n buffer))) (Ok Missing)
-    (λ next. Unit {0}) c.loop-n.invariant.reads (rw c.in-Ok-Missing.field-0-is at c.in-Ok-Missing.ensures.noted)
-    (omega (arith, left, c.loop-n.auto.buf)) (omega (arith, left, c.loop-n.auto.buf, c.loop-n.invariant.within)) tt
+    ReadsFile-more c.loop-n.buf (Ok Missing) _ c.loop-n.invariant.reads c.loop-n.invariant.within c.loop-n.auto.buf
+    (rw c.in-Ok-Missing.field-0-is at c.in-Ok-Missing.ensures.noted) tt
 
 pub returns-in-Err-Failed-clause-reads : goal.returns-in-Err-Failed-clause-reads
 returns-in-Err-Failed-clause-reads g c =
-    let files = g.F.Files in
-    let n = c.loop-n.n in
-    let buffer = c.loop-n.buf in
-    let left = room_left n buffer in
-    ReadsFile-on (files.reads c.args.files.now) (files.reads c.loop-n.files) (files.reads c.read_at.new.self) c.args.name.now (length c.args.buf.now)
-    (c.args.at + length c.args.buf.now) c.args.at (c.args.at + n) (length (take (length buffer - n) (drop n buffer))) (Err Failed)
-    (λ next. Unit {0}) c.loop-n.invariant.reads (rw c.in-Err-Failed.field-0-is at c.in-Err-Failed.ensures.noted)
-    (omega (arith, left, c.loop-n.auto.buf)) (omega (arith, left, c.loop-n.auto.buf, c.loop-n.invariant.within)) tt
+    ReadsFile-more c.loop-n.buf (Err Failed) _ c.loop-n.invariant.reads c.loop-n.invariant.within c.loop-n.auto.buf
+    (rw c.in-Err-Failed.field-0-is at c.in-Err-Failed.ensures.noted) tt
 
 pub returns-in-Err-Memory-clause-reads : goal.returns-in-Err-Memory-clause-reads
 returns-in-Err-Memory-clause-reads g c =
-    let files = g.F.Files in
-    let n = c.loop-n.n in
-    let buffer = c.loop-n.buf in
-    let left = room_left n buffer in
-    ReadsFile-on (files.reads c.args.files.now) (files.reads c.loop-n.files) (files.reads c.read_at.new.self) c.args.name.now (length c.args.buf.now)
-    (c.args.at + length c.args.buf.now) c.args.at (c.args.at + n) (length (take (length buffer - n) (drop n buffer))) (Err Memory)
-    (λ next. Unit {0}) c.loop-n.invariant.reads (rw c.in-Err-Memory.field-0-is at c.in-Err-Memory.ensures.noted)
-    (omega (arith, left, c.loop-n.auto.buf)) (omega (arith, left, c.loop-n.auto.buf, c.loop-n.invariant.within)) tt
+    ReadsFile-more c.loop-n.buf (Err Memory) _ c.loop-n.invariant.reads c.loop-n.invariant.within c.loop-n.auto.buf
+    (rw c.in-Err-Memory.field-0-is at c.in-Err-Memory.ensures.noted) tt
 
 pub returns-clause-reads : goal.returns-clause-reads
 returns-clause-reads g c =

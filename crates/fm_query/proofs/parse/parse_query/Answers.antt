@@ -1,18 +1,15 @@
 -- The text comes first, then the items, then the conditions.
-use Rattle.std.proofs.lemmas.Result.{err_from_is_err_and}
-use Rattle.fm_query.proofs.Plans.{is_plan, item_refused, condition_refused}
+use Rattle.fm_query.proofs.Plans.{is_plan, item_refused, condition_refused, passed_on}
 use Rattle.fm_query.proofs.parse.parse_query.Goals as goal
 
 pub returns-in_err-items-clause-refused : goal.returns-in_err-items-clause-refused
 returns-in_err-items-clause-refused c =
-    let p = err_from_is_err_and c.from_residual-in_err-items.result c.from_residual-in_err-items.ensures.1 in
-    rw (p.1, p.2) (item_refused _ _ _ _ _ c.in_ok-syntax.ensures.query c.items.ensures c.in_err-items.ensures.refused)
+    passed_on _ _ _ c.from_residual-in_err-items.ensures.1 (item_refused _ _ _ _ _ c.in_ok-syntax.ensures.query c.items.ensures c.in_err-items.ensures.refused)
 
 pub returns-in_err-conditions-clause-refused : goal.returns-in_err-conditions-clause-refused
 returns-in_err-conditions-clause-refused c =
-    let p = err_from_is_err_and c.from_residual-in_err-conditions.result c.from_residual-in_err-conditions.ensures.1 in
-    rw (p.1, p.2) (condition_refused _ _ _ _ _ _ _ c.in_ok-syntax.ensures.query c.items.ensures c.conditions.ensures c.in_ok-items.ensures.resolved
-    c.in_err-conditions.ensures.refused)
+    passed_on _ _ _ c.from_residual-in_err-conditions.ensures.1 (condition_refused _ _ _ _ _ _ _ c.in_ok-syntax.ensures.query c.items.ensures
+    c.conditions.ensures c.in_ok-items.ensures.resolved c.in_err-conditions.ensures.refused)
 
 pub of-requires : goal.of-requires
 of-requires c =

@@ -6,27 +6,21 @@ use Rattle.fm_query.proofs.parse.read.Goals as goal
 pub returns-in-Ok-None-clause-refused : goal.returns-in-Ok-None-clause-refused
 returns-in-Ok-None-clause-refused c =
     let e = c.as_bytes-byte-items.ensures.value in
-    let p = c.in-Ok-None.field-0-is in
-    let q = c.in-Ok-None.ensures.spot in
-    ends_at _ _ _ _ c.loop-at.invariant (omega (arith, ap length e)) (ap (λ t. get_or t c.loop-at.at 0) e) (cc)
+    ends_at _ _ _ _ c.loop-at.invariant (omega (arith, ap length e)) (ap (λ t. get_or t c.loop-at.at 0) e)
+    (cc (c.in-Ok-None.field-0-is, c.in-Ok-None.ensures.spot))
 
 pub loop-at-preserved : goal.loop-at-preserved
 loop-at-preserved c =
     let e = c.as_bytes-byte-items.ensures.value in
-    let p = c.in-Ok-Some.field-0-is in
-    let q = c.in-Ok-Some.ensures.spot in
-    let r = c.in-Ok-Some.to-is in
-    stays _ _ _ _ _ c.loop-at.invariant (omega (arith, ap length e)) (ap (λ t. get_or t c.loop-at.at 0) e) (cc)
+    stays _ _ _ _ _ c.loop-at.invariant (omega (arith, ap length e)) (ap (λ t. get_or t c.loop-at.at 0) e)
+    (cc (c.in-Ok-Some.field-0-is, c.in-Ok-Some.ensures.spot))
 
 pub returns-in-Ok-Some-finish-clause-query : goal.returns-in-Ok-Some-finish-clause-query
 returns-in-Ok-Some-finish-clause-query c =
-    let p = c.in-Ok-Some-finish.field-0-is in
-    let q = c.in-Ok-Some-finish.ensures.query in
-    let r = c.in-Ok-Some-finish.query-is in
-    is_found _ _ _ _ c.loop-at.invariant (omega (arith, ap length c.as_bytes-byte-items.ensures.value)) (cc)
+    is_found _ _ _ _ c.loop-at.invariant (omega (arith, ap length c.as_bytes-byte-items.ensures.value))
+    (cc (c.in-Ok-Some-finish.field-0-is, c.in-Ok-Some-finish.ensures.query))
 
 pub returns-in-Ok-None-finish-clause-refused : goal.returns-in-Ok-None-finish-clause-refused
 returns-in-Ok-None-finish-clause-refused c =
-    let p = c.in-Ok-None-finish.field-0-is in
-    let q = c.in-Ok-None-finish.ensures.query in
-    ends_all _ _ _ c.loop-at.invariant (omega (arith, ap length c.as_bytes-byte-items.ensures.value)) (cc)
+    ends_all _ _ _ c.loop-at.invariant (omega (arith, ap length c.as_bytes-byte-items.ensures.value))
+    (cc (c.in-Ok-None-finish.field-0-is, c.in-Ok-None-finish.ensures.query))
