@@ -1,8 +1,10 @@
 -- What runs of visits of the only caller do to the bytes of an arena.
-use Rattle.std.proofs.Common.{◌≡◌, ◌≢◌, ℕ, ◌+◌, ◌-◌, ◌*◌, ◌%◌, ◌^◌, ◌<◌, ◌≤◌, Bool, true, false, List, [], ◌++◌, length, take, drop, refl, sym, ap, subst, ◌∙◌, arith, append_assoc, Option, Some, None, Result, Ok, Err, IfOk}
+use Rattle.std.proofs.Common.{◌≡◌, ◌≢◌, ℕ, ◌+◌, ◌-◌, ◌*◌, ◌%◌, ◌^◌, ◌<◌, ◌≤◌, true, List, [], ◌++◌, length, take, drop, get_or, refl, sym, ap, subst, ◌∙◌, arith, append_assoc, Option, Some, None, Result, Ok, Err, IfOk}
 use Rattle.std.specs.Prelude.{OnErr}
 use Rattle.std.proofs.lemmas.List.{append-nil, drop-drop, length-take-le}
-use Rattle.std.proofs.lemmas.List.Elements.{All-take, All-drop}
+use Rattle.std.proofs.lemmas.List.Elements.{All-take, All-from_get_or}
+use mir.Syntax.{w8}
+use mir.Val.{Fits}
 use Rattle.fm_base.specs.declared.caller.Caller.{Caller}
 use Rattle.fm_base.specs.declared.arena_id.ArenaId.{ArenaId}
 use Rattle.fm_base.specs.declared.refusal.Refusal.{Refusal}
@@ -20,9 +22,9 @@ use Rattle.fm_bytes.specs.Words.{bytes_in}
 use Rattle.fm_bytes.proofs.Bytes.{bytes_of-number_of, number_of-lt}
 use Rattle.fm_bytes.proofs.Words.{take-add}
 use Rattle.fm_access.specs.Alone.{bytes_of_arena, with_bytes, with_words, FindsNumber, ChangesBytes, StaysOut}
-use Rattle.fm_access.specs.Ranges.{Reading, ReadsOn, EndsReading, ReadsRange, Putting, PutsOn, EndsPutting, next_width, DoesRefuse, DoesGet}
+use Rattle.fm_access.specs.Ranges.{Reading, ReadsOn, EndsReading, ReadsRange, Putting, DoesRefuse, DoesGet}
 use Rattle.fm_access.proofs.Splicing.{with_none}
-use Rattle.fm_access.proofs.Visits.{VisitRefused, visit_refused, VisitPuts, visit_reads, visit_puts}
+use Rattle.fm_access.proofs.Visits.{VisitRefused, visit_refused, visit_reads}
 
 -- ---- refusals
 
@@ -111,17 +113,13 @@ reads_alone old now id place width bytes own alone run makes =
     let size : place + width - place ≡ width = omega arith in
     record { are = all.answers ∙ ap (λ k. take k (drop place (bytes_of_arena old.state id))) size; same = m.1 ∙ all.same }
 
-get_finds : (old now : View) (id : ArenaId) (place width n : ℕ) → IsByItself old → Did old now (DoesGet old.caller id place width (Ok n))
-    → FindsNumber old now id place width n
-get_finds old now id place width n alone d =
-    let r = d.does.1 in
-    let f = reads_alone old now id place width r.bytes d.own alone r.visits d.makes in
-    record { value = r.value ∙ ap number_of f.are; same = f.same }
-
 -- A number that the only caller gets is that of the bytes that stand there.
 pub get_alone : (old now : View) (id : ArenaId) (place width : ℕ) (result : Result ℕ Refusal) → Did old now (DoesGet old.caller id place width result)
     → IsByItself old → IfOk result (λ n. FindsNumber old now id place width n)
-get_alone old now id place width (Ok n) d alone = get_finds old now id place width n alone d
+get_alone old now id place width (Ok n) d alone =
+    let r = d.does.1 in
+    let f = reads_alone old now id place width r.bytes d.own alone r.visits d.makes in
+    record { value = r.value ∙ ap number_of f.are; same = f.same }
 get_alone old now id place width (Err r) d alone = tt
 
 -- The only caller is refused where the arena isn't open to it.
@@ -142,11 +140,6 @@ pub record RunPuts (s t : State) (id : ArenaId) (x : Putting) : Type 0 where
   pub state : t ≡ changed s id (with_words words)
   pub bytes : bytes_in words ≡ with_bytes (bytes_of_arena s id) x.at x.bytes
 
--- A run of puts changes the bytes, or stops as the arena isn't alive.
-abbrev pub Leaves : State → State → ArenaId → Putting → Bool → Type 0
-Leaves s t id x true = RunPuts s t id x
-Leaves s t id x false = VisitRefused s t id
-
 pub puts_none : (s t : State) (id : ArenaId) (x : Putting) → x.bytes ≡ [] → t ≡ s → RunPuts s t id x
 puts_none s t id x none same =
     let words = (arena_of s id).words in
@@ -156,11 +149,9 @@ puts_none s t id x none same =
       bytes = sym (ap (with_bytes (bytes_of_arena s id) x.at) none ∙ with_none (bytes_of_arena s id) x.at);
     }
 
--- The end of a run of puts.
-pub puts_end : (limit : ℕ) (c : Caller) (id : ArenaId) (s : State) (x : Putting) (own : List Entry) (done : Bool)
-    → EndsPutting c id x own done → IsLegal limit s own → Leaves s (state_after limit s own) id x done
-puts_end limit c id s x own false e legal = visit_refused limit c s id own e.1 legal
-puts_end limit c id s x own true e legal = puts_none s (state_after limit s own) id x e.0 (ap (state_after limit s) e.1)
+-- Bytes of a slice.
+pub AreBytes-slice : (bytes : List ℕ) → ((i : ℕ) → Fits w8 (get_or bytes i 0)) → AreBytes bytes
+AreBytes-slice bytes fits = All-from_get_or (λ b. b < 256) bytes 0 (λ i below. omega (arith, fits i))
 
 -- the bytes of a piece, as a number
 pub record IsPart (bytes : List ℕ) (width v : ℕ) : Type 0 where
@@ -186,26 +177,6 @@ is_part bytes width v h fits e =
 pub with_words_there : (s t : State) (id : ArenaId) (words : List ℕ) → has_arena s id ≡ true → t ≡ changed s id (with_words words)
     → arena_of t id ≡ with_words words (arena_of s id)
 with_words_there s t id words known state = ap (λ (u : State). arena_of u id) state ∙ lookup_changed s id (with_words words) (λ a. refl) known
-
--- what a step of a run of puts is: its first bytes are a piece, the visit puts them, and bytes are left
-pub record StepPuts (s t : State) (id : ArenaId) (x y : Putting) : Type 0 where
-  pub part : IsPart x.bytes (next_width x) (number_of (take (next_width x) x.bytes))
-  pub put : VisitPuts s t id x.at (next_width x) (number_of (take (next_width x) x.bytes))
-  pub left : AreBytes y.bytes
-
-pub step_puts : (limit : ℕ) (c : Caller) (id : ArenaId) (s : State) (x y : Putting) (own : List Entry) → AreBytes x.bytes → PutsOn c id x own y
-    → IsLegal limit s own → StepPuts s (state_after limit s own) id x y
-step_puts limit c id s x y own are step legal =
-    let width = next_width x in
-    let v = number_of (take width x.bytes) in
-    let fits : x.at % 8 + next_width x ≤ 8 = omega arith in
-    let some : next_width x ≤ length x.bytes = omega arith in
-    let part = is_part x.bytes width v are some refl in
-    record {
-      part = part;
-      put = visit_puts limit c s id x.at width v own step.piece fits part.small legal;
-      left = subst AreBytes (sym step.bytes) (All-drop (λ b. b < 256) width x.bytes are);
-    }
 
 -- A change of one arena leaves the words of the others.
 pub other_words : (f : Arena → Arena) → KeepsName f → (s : State) (id other : ArenaId) → other ≢ id

@@ -1,5 +1,5 @@
 -- Why accesses are refused, from what they did.
-use Rattle.std.proofs.Common.{◌≡◌, ℕ, ◌+◌, ◌%◌, ◌⊎◌, inl, inr, Bool, true, false, if◌then◌else◌, nat_eq, nat_le, Result, Ok, Err, IfErr, List, refl, sym, ap, subst, ◌∙◌, arith}
+use Rattle.std.proofs.Common.{◌≡◌, ℕ, ◌+◌, ◌%◌, ◌⊎◌, inl, inr, Bool, true, false, if◌then◌else◌, nat_eq, nat_le, Result, Ok, Err, IfErr, List, refl, sym, subst, ◌∙◌, arith}
 use Rattle.std.proofs.lemmas.Bool.{leb-true, leb-false}
 use Rattle.std.proofs.lemmas.Bool.Decides.{nat_tests}
 use Rattle.fm_base.specs.declared.caller.Caller.{Caller}
@@ -18,17 +18,12 @@ pub record Causes (found : Result ℕ Refusal) (id : ArenaId) (c : Caller) (Caus
   pub wrong_thread : (p : ℕ) → found ≡ Ok p → ¬ (MayUse id c) → Cause WrongThread
   pub closed : (p : ℕ) → found ≡ Ok p → MayUse id c → Cause Closed
 
-refusal_in : Result ℕ Refusal → Refusal
-refusal_in (Ok n) = Closed
-refusal_in (Err e) = e
-
 abbrev pub refused : Refusal → Result ℕ Refusal
 refused e = Err e
 
 -- A cause of a refusal, by what was answered.
 pub err_is : (a b : Refusal) (Cause : Refusal → Type 0) → refused a ≡ refused b → Cause a → Cause b
-unfolding refusal_in
-err_is a b Cause h x = subst Cause (ap refusal_in h) x
+err_is a b Cause h x = let same : a ≡ b = cc in subst Cause same x
 
 -- An answer is no refusal.
 pub never : {X : Type 0} (n : ℕ) (e : Refusal) → Ok n ≡ Err e → X

@@ -30,50 +30,39 @@ module _ {X Y : Type 0} (Step : X → List Entry → X → Type 0) (Ends : X →
   pub going_start : (old : View) (id : ArenaId) (first : X) → Going old old id first first []
   going_start old id first = record { makes = Makes-none old; led = led_start Step Ends first; begun = inl (record { none = refl; same = refl }) }
 
+module _ {X Y : Type 0} {Step : X → List Entry → X → Type 0} {Ends : X → List Entry → Y → Type 0} {old now : View} {id : ArenaId} {first x : X}
+    {own : List Entry} (g : Going Step Ends old now id first x own) where
   -- One visit more.
-  pub going_more : (old now next : View) (id : ArenaId) (first x y : X) (own more : List Entry)
-      → Going old now id first x own → MayUse id now.caller → Makes now next more → Step x more y
-      → Going old next id first y (own ++ more)
-  going_more old now next id first x y own more g may m s = record {
+  pub going_more : {next : View} (y : X) {more : List Entry} → MayUse id now.caller → Makes now next more → Step x more y
+      → Going Step Ends old next id first y (own ++ more)
+  going_more {next} y {more} may m s = record {
     makes = Makes-then old now next own more g.makes m;
     led = led_more Step Ends first x y own more g.led s;
     begun = inr (subst (λ (c : Caller). MayUse id c) g.makes.same_caller may);
   }
 
-  -- The end of the run.
-  pub going_ends : (old now : View) (id : ArenaId) (first x : X) (own : List Entry) (answer : Y)
-      → Going old now id first x own → Ends x [] answer → Run Step Ends first own answer
-  going_ends old now id first x own answer g e =
-      subst (λ (es : List Entry). Run Step Ends first es answer) (append-nil own) (led_ends Step Ends first x own [] answer g.led e)
-
-  closed : (old now next : View) (id : ArenaId) (first x : X) (own more : List Entry) (answer : Y)
-      → Going old now id first x own → Ends x (refused_visit old.caller id) answer → MayUse id now.caller → more ≡ refused_visit now.caller id
-      → Makes now next more
-      → Did old next (λ es. MayUse id old.caller × Run Step Ends first es answer)
-  closed old now next id first x own more answer g e may d m =
-      let same = g.makes.same_caller in
-      let last : more ≡ refused_visit old.caller id = rw (← same) d in
-      record {
-        own = own ++ more;
-        does = (subst (λ (c : Caller). MayUse id c) same may, led_ends Step Ends first x own more answer g.led (rw last e));
-        makes = Makes-then old now next own more g.makes m;
-      }
-
-  wrong_thread : (old now next : View) (id : ArenaId) (first x : X) (own more : List Entry)
-      → Going old now id first x own → ¬ (MayUse id now.caller) → more ≡ [] → Makes now next more
-      → Did old next (λ es. ¬ (MayUse id old.caller) × (es ≡ []))
-  wrong_thread old now next id first x own more g not d m =
-      let same = g.makes.same_caller in
-      let never : ¬ (MayUse id old.caller) = λ may. not (subst (λ (c : Caller). MayUse id c) (sym same) may) in
-      elim g.begun [
-        | inl none ↦ record { own = own ++ more; does = (never, rw (none.none, d) refl); makes = Makes-then old now next own more g.makes m }
-        | inr may ↦ absurd (never may)
-      ]
+  -- The end of a run that had a visit.
+  pub going_done : (answer : Y) → ¬ (x ≡ first) → Ends x [] answer → Did old now (λ es. MayUse id old.caller × Run Step Ends first es answer)
+  going_done answer some e =
+      let may : MayUse id old.caller = elim g.begun [ inl none ↦ absurd (some none.same) | inr may ↦ may ] in
+      let run = led_ends Step Ends first x own [] answer g.led e in
+      record { own = own; does = (may, subst (λ (es : List Entry). Run Step Ends first es answer) (append-nil own) run); makes = g.makes }
 
   -- A visit that was refused ends the run.
-  pub going_refused : (old now next : View) (id : ArenaId) (first x : X) (own : List Entry) (answer : Y) (r : Refusal)
-      → Going old now id first x own → Ends x (refused_visit old.caller id) answer → Did now next (DoesEnter now.caller id (Err r))
+  pub going_refused : {next : View} (answer : Y) (r : Refusal) → Ends x (refused_visit old.caller id) answer → Did now next (DoesEnter now.caller id (Err r))
       → Did old next (DoesRefuse old.caller id (λ es. Run Step Ends first es answer) r)
-  going_refused old now next id first x own answer Closed g e d = closed old now next id first x own d.own answer g e d.does.0 d.does.1 d.makes
-  going_refused old now next id first x own answer WrongThread g e d = wrong_thread old now next id first x own d.own g d.does.0 d.does.1 d.makes
-  going_refused old now next id first x own answer r g e d = absurd d.does
+  going_refused {next} answer Closed e d =
+      let same = g.makes.same_caller in
+      let last : d.own ≡ refused_visit old.caller id = rw (← same) d.does.1 in
+      record {
+        own = own ++ d.own;
+        does = (subst (λ (c : Caller). MayUse id c) same d.does.0, led_ends Step Ends first x own d.own answer g.led (rw last e));
+        makes = Makes-then old now next own d.own g.makes d.makes;
+      }
+  going_refused {next} answer WrongThread e d =
+      let never : ¬ (MayUse id old.caller) = λ may. d.does.0 (subst (λ (c : Caller). MayUse id c) (sym g.makes.same_caller) may) in
+      elim g.begun [
+        | inl none ↦ record { own = own ++ d.own; does = (never, rw (none.none, d.does.1) refl); makes = Makes-then old now next own d.own g.makes d.makes }
+        | inr may ↦ absurd (never may)
+      ]
+  going_refused answer r e d = absurd d.does

@@ -8,11 +8,10 @@ use Rattle.fm_base.specs.Arenas.{has_arena}
 use Rattle.fm_base.specs.Calls.{Entry}
 use Rattle.fm_base.specs.Histories.{state_after}
 use Rattle.fm_base.specs.Outcomes.{Lasts}
-use Rattle.fm_base.specs.View.{View, Did, IsByItself}
+use Rattle.fm_base.specs.View.{View, Did, IsByItself, inside_after}
 use Rattle.fm_base.proofs.Faith.{Makes-alone}
 use Rattle.fm_base.proofs.Making.{Makes-none}
-use Rattle.fm_base.proofs.Outcomes.{Did-lasts}
-use Rattle.fm_base.proofs.Running.{stays_outside}
+use Rattle.fm_base.proofs.Outcomes.{Makes-lasts}
 use Rattle.fm_lanes.specs.declared.order.Order.{Order}
 use Rattle.fm_lanes.specs.declared.value.Value.{Value}
 use Rattle.fm_lanes.specs.declared.value_kind.ValueKind.{ValueKind}
@@ -21,7 +20,7 @@ use Rattle.fm_lanes.specs.Kind.{width_of}
 use Rattle.fm_lanes.specs.Value.{kind_of}
 use Rattle.fm_access.specs.Alone.{StaysOut}
 use Rattle.fm_access.specs.Found.{DoesAt, UseCause, StaysOutOf}
-use Rattle.fm_access.specs.Learnt.{After}
+use Rattle.fm_access.specs.Learnt.{After, KnowsArena}
 use Rattle.fm_access.specs.Ranges.{ReadsRange, Putting, DoesPut, DoesPutBy, PutsBy}
 use Rattle.fm_access.specs.Values.{DoesGetValue, FindsValue, PutsValue}
 use Rattle.fm_access.proofs.Alone.{get_shut}
@@ -30,12 +29,43 @@ use Rattle.fm_access.proofs.Outside.{EndsOutside, at_outside, put_outside, value
 use Rattle.fm_access.proofs.PuttingAlone.{ArePuts, pieces_put, put_shut}
 use Rattle.fm_access.proofs.Values.{AreBytes-value, finds_value, puts_value, got_kind}
 
--- ---- at the place that was found
+-- All that is learnt of a call, by its parts.
+pub after_did : {X : Type 0} {old new : View} {Does : Result X Refusal → List Entry → Type 0} {Cause : Refusal → Type 0} {Alone : X
+    → Type 0} {Shut : Type 0} {Known : View → Type 0} {Kind : X → Type 0} {result : Result X Refusal} → old.inside ≡ None
+    → (d : Did old new (Does result)) → IfErr result Cause → EndsOutside d.own → (IsByItself old → IfOk result Alone)
+    → (IsByItself old → OnErr result Shut) → (Lasts old new → Known new) → IfOk result Kind → After old new Does Cause Alone Shut Known Kind result
+after_did {old = old} {new = new} out d refused ends alone shut known kind =
+    let lasts = Makes-lasts old new d.own d.makes in
+    record {
+      did = d;
+      refused = refused;
+      alone = alone;
+      shut = shut;
+      outside = d.makes.inside ∙ ap (λ i. inside_after i d.own) out ∙ ends;
+      lasts = lasts;
+      known = known lasts;
+      kind = kind;
+    }
 
 -- what is so of a call, whatever the memory is: a refusal is the arena's, and it ends outside
 pub record IsCall {X : Type 0} (c : Caller) (id : ArenaId) (Does : Result X Refusal → List Entry → Type 0) : Type 0 where
   pub refuses : (e : Refusal) (own : List Entry) → Does (Err e) own → UseCause id c e
   pub outside : (result : Result X Refusal) (own : List Entry) → Does result own → EndsOutside own
+
+use_cause : {X : Type 0} (id : ArenaId) (c : Caller) (Does : Result X Refusal → List Entry → Type 0) (result : Result X Refusal) (own : List Entry)
+    → IsCall c id Does → Does result own → IfErr result (UseCause id c)
+use_cause id c Does (Ok x) own h d = tt
+use_cause id c Does (Err e) own h d = h.refuses e own d
+
+-- Of a call to an arena.
+pub after_call : {X : Type 0} {old new : View} {id : ArenaId} {Does : Result X Refusal → List Entry → Type 0} {Alone : X
+    → Type 0} {Shut : Type 0} {Kind : X → Type 0} {result : Result X Refusal} → IsCall old.caller id Does → old.inside ≡ None
+    → has_arena old.state id ≡ true → (d : Did old new (Does result)) → (IsByItself old → IfOk result Alone) → (IsByItself old → OnErr result Shut)
+    → IfOk result Kind → After old new Does (UseCause id old.caller) Alone Shut (KnowsArena id) Kind result
+after_call {old = old} {id = id} {Does = Does} {result = result} call out has d alone shut kind =
+    after_did out d (use_cause id old.caller Does result d.own call d.does) (call.outside result d.own d.does) alone shut (λ l. l.known id has) kind
+
+-- ---- at the place that was found
 
 -- what the only caller learns where a place was found: of an answer, and of a refusal
 pub record IsLearnt {X : Type 0} (old new : View) (id : ArenaId) (found : Result ℕ Refusal) (Does : ℕ → Result X Refusal → List Entry
@@ -69,17 +99,9 @@ module _ {X : Type 0} (old new : View) (id : ArenaId) (Does : ℕ → Result X R
       → ((p : ℕ) → IsCall old.caller id (Does p)) → IsLearnt old new id found Does Alone Kind → (Lasts old new → Known new)
       → Did old new (DoesAt found Does result) → After old new (DoesAt found Does) Cause Alone (StaysOutOf old new id found) Known Kind result
   after_at found Cause Known result out causes call learnt known d =
-      let lasts = Did-lasts old new _ d in
-      record {
-        did = d;
-        refused = at_cause old.caller id found Does Cause result d.own causes (λ p e x. (call p).refuses e d.own x) d.does;
-        alone = alone_at found result learnt d;
-        shut = shut_at found result learnt d;
-        outside = stays_outside old new (DoesAt found Does result) (λ own x. at_outside found Does result own (λ p y. (call p).outside result own y) x) out d;
-        lasts = lasts;
-        known = known lasts;
-        kind = kind_at found result learnt d;
-      }
+      after_did out d (at_cause old.caller id found Does Cause result d.own causes (λ p e x. (call p).refuses e d.own x) d.does)
+      (at_outside found Does result d.own (λ p x. (call p).outside result d.own x) d.does) (alone_at found result learnt d) (shut_at found result learnt d)
+      known (kind_at found result learnt d)
 
 -- A refusal has another cause where its cause gives that one.
 pub if_err : {X : Type 0} (C D : Refusal → Type 0) (x : Result X Refusal) → ((e : Refusal) → C e → D e) → IfErr x C → IfErr x D
@@ -112,17 +134,7 @@ pub after_none : {X : Type 0} {old : View} (Does : Result X Refusal → List Ent
     → Type 0) (Shut : Type 0) (Known : View → Type 0) (Kind : X → Type 0) (e : Refusal)
     → old.inside ≡ None → Does (Err e) [] → Cause e → Shut → Known old → After old old Does Cause Alone Shut Known Kind (Err e)
 after_none {X} {old} Does Cause Alone Shut Known Kind e out does cause shut known =
-    let d : Did old old (Does (Err e)) = record { own = []; does = does; makes = Makes-none old } in
-    record {
-      did = d;
-      refused = cause;
-      alone = λ h. tt;
-      shut = λ h. shut;
-      outside = out;
-      lasts = Did-lasts old old _ d;
-      known = known;
-      kind = tt;
-    }
+    after_did out (record { own = []; does = does; makes = Makes-none old }) cause refl (λ h. tt) (λ h. shut) (λ l. known) tt
 
 -- A refusal before a place was found.
 pub refused_at : {X : Type 0} (v : View) (found : Result ℕ Refusal) (Does : ℕ → Result X Refusal → List Entry
@@ -145,11 +157,6 @@ puts {Step} h c id bytes p = record {
   outside = λ result own d. put_outside c id Step (h.outside c id) p bytes result own d;
 }
 
--- The value that was found, or why none.
-get_value_shut : (old new : View) (k : ValueKind) (o : Order) (id : ArenaId) (p : ℕ) (e : Refusal) → Did old new (DoesGetValue old.caller k o id p (Err e))
-    → IsByItself old → StaysOut old new id
-get_value_shut old new k o id p e d alone = get_shut old new id p (width_of k) (Err e) d alone
-
 -- All that is learnt of getting a value at the place that was found.
 pub after_get_at : (old new : View) (k : ValueKind) (o : Order) (id : ArenaId) (found : Result ℕ Refusal) (Cause : Refusal → Type 0) (Known : View
     → Type 0) (Alone : Value → Type 0) (result : Result Value Refusal)
@@ -161,7 +168,7 @@ after_get_at old new k o id found Cause Known Alone result out causes known ther
     after_at old new id (DoesGetValue old.caller k o id) Alone (λ v. kind_of v ≡ k) found Cause Known result out causes (gets old.caller k o id)
     (record {
       alone = λ p v e d alone. there p v e (finds_value old new k o id p v d alone);
-      shut = λ p e d alone. get_value_shut old new k o id p e d alone;
+      shut = λ p e d alone. get_shut old new id p (width_of k) (Err e) d alone;
       kind = λ p v own d. got_kind old.caller k o id p v own d;
     }) known d
 

@@ -10,10 +10,9 @@ pub mod Outside
 pub mod Patching
 pub mod Putting
 pub mod PuttingAlone
+pub mod Reading
 pub mod Splicing
-pub mod Storing
 pub mod Touching
 pub mod Values
 pub mod Visits
-pub mod Within
 pub mod Writing

@@ -1,6 +1,7 @@
 -- What runs of visits that put bytes do to an arena, whichever the steps are.
-use Rattle.std.proofs.Common.{◌≡◌, inl, inr, ℕ, ◌+◌, ◌*◌, ◌/◌, ◌<◌, ◌≤◌, Bool, true, false, List, [], ◌∷◌, ◌++◌, length, take, drop, refl, sym, ap, subst, ◌∙◌, arith, None, Result, Ok, Err, IfOk}
+use Rattle.std.proofs.Common.{◌≡◌, inl, inr, ℕ, ◌+◌, ◌*◌, ◌/◌, ◌<◌, ◌≤◌, Bool, true, false, List, [], ◌∷◌, ◌++◌, length, take, drop, refl, sym, ap, subst, ◌∙◌, arith, length-append, ◌%◌, None, Result, Ok, Err, IfOk}
 use Rattle.std.specs.Prelude.{OnErr}
+use Rattle.std.proofs.lemmas.Bool.{cases_lt}
 use Rattle.std.proofs.lemmas.List.{drop_at, take-append-drop}
 use Rattle.std.proofs.lemmas.List.Elements.{All-drop}
 use Rattle.fm_base.specs.declared.caller.Caller.{Caller}
@@ -10,21 +11,31 @@ use Rattle.fm_base.specs.Arenas.{Alive, Arena, State, arena_of, has_arena, chang
 use Rattle.fm_base.specs.Calls.{Entry}
 use Rattle.fm_base.specs.Histories.{IsLegal, state_after}
 use Rattle.fm_base.specs.View.{View, Did, IsByItself, inside_after}
-use Rattle.fm_base.specs.Visits.{Run, ends, goes_on, visit}
+use Rattle.fm_base.specs.Visits.{Run, ends, goes_on, visit, writes}
 use Rattle.fm_base.proofs.Faith.{Makes-alone}
 use Rattle.fm_base.proofs.Lookup.{changed_twice}
 use Rattle.fm_base.proofs.Making.{IsLegal-split, state_after-append}
 use Rattle.fm_base.proofs.Running.{visit_ends_outside}
-use Rattle.fm_bytes.specs.Bytes.{AreBytes}
+use Rattle.fm_bytes.specs.Bytes.{AreBytes, number_of}
 use Rattle.fm_bytes.specs.Words.{bytes_in}
 use Rattle.fm_bytes.proofs.Words.{length-bytes_in}
 use Rattle.fm_access.specs.Alone.{bytes_of_arena, with_bytes, with_words, ChangesBytes, StaysOut}
 use Rattle.fm_access.specs.Ranges.{Putting, putting, PutsOn, EndsPutting, next_width, DoesPutBy}
-use Rattle.fm_access.specs.Runs.{writes, PutsWords, PutsMore}
-use Rattle.fm_access.proofs.Alone.{Leaves, puts_end, changes, shut_out, step_puts, with_words_there}
+use Rattle.fm_access.specs.Runs.{PutsWords, PutsMore}
+use Rattle.fm_access.proofs.Alone.{RunPuts, puts_none, is_part, changes, shut_out, with_words_there}
 use Rattle.fm_access.proofs.Outside.{EndsOutside}
-use Rattle.fm_access.proofs.Splicing.{with_bytes-twice}
+use Rattle.fm_access.proofs.Splicing.{with_bytes-twice, keeps_count}
+use Rattle.fm_access.proofs.Visits.{VisitRefused, visit_refused, visit_puts}
 use Rattle.fm_access.proofs.Writing.{visit_writes}
+
+-- the bytes that are to be put, if any, lie within the arena
+abbrev EndWithin : State → ArenaId → Putting → Type 0
+EndWithin s id x = 0 < length x.bytes → x.at + length x.bytes ≤ length (bytes_of_arena s id)
+
+-- A run of puts changes the bytes, which lie within the arena, or stops as the arena isn't alive.
+abbrev Leaves : State → State → ArenaId → Putting → Bool → Type 0
+Leaves s t id x true = RunPuts s t id x × EndWithin s id x
+Leaves s t id x false = VisitRefused s t id
 
 -- ---- one step
 
@@ -34,7 +45,7 @@ pub record StepLeaves (s t : State) (id : ArenaId) (x y : Putting) : Type 0 wher
   pub first : List ℕ
   pub state : t ≡ changed s id (with_words words)
   pub bytes : bytes_in words ≡ with_bytes (bytes_of_arena s id) x.at first
-  pub room : x.at ≤ length (bytes_of_arena s id)
+  pub room : x.at + length first ≤ length (bytes_of_arena s id)
   pub known : has_arena s id ≡ true
   pub alive : (arena_of s id).life ≡ Alive
   pub at : y.at ≡ x.at + length first
@@ -54,42 +65,52 @@ leaves_on s t u id x y false p more =
     absurd (more.over (ap (λ (a : Arena). a.life) there ∙ p.alive))
 leaves_on s t u id x y true p more =
     let all = bytes_of_arena s id in
+    let run = more.0 in
+    let room = p.room in
+    let at = p.at in
     let there = with_words_there s t id p.words p.known p.state in
     let first : bytes_of_arena t id ≡ with_bytes (bytes_of_arena s id) x.at p.first = ap (λ (a : Arena). bytes_in a.words) there ∙ p.bytes in
-    record {
-      words = more.words;
-      state = more.state ∙ ap (λ (r : State). changed r id (with_words more.words)) p.state
-          ∙ changed_twice s id (with_words p.words) (with_words more.words) (λ a. refl);
-      bytes = more.bytes
-          ∙ ap (λ k. with_bytes (bytes_of_arena t id) k y.bytes) p.at
-          ∙ ap (λ bs. with_bytes bs (x.at + length p.first) y.bytes) first
-          ∙ with_bytes-twice all x.at p.first y.bytes p.room
-          ∙ ap (with_bytes all x.at) (sym p.all);
-    }
+    let same : length (bytes_of_arena t id) ≡ length (bytes_of_arena s id) = ap length first ∙ keeps_count all p.first x.at p.room in
+    let size : length x.bytes ≡ length p.first + length y.bytes = ap length p.all ∙ length-append p.first y.bytes in (
+      record {
+        words = run.words;
+        state = run.state ∙ ap (λ (r : State). changed r id (with_words run.words)) p.state
+            ∙ changed_twice s id (with_words p.words) (with_words run.words) (λ a. refl);
+        bytes = run.bytes
+            ∙ ap (λ k. with_bytes (bytes_of_arena t id) k y.bytes) p.at
+            ∙ ap (λ bs. with_bytes bs (x.at + length p.first) y.bytes) first
+            ∙ with_bytes-twice all x.at p.first y.bytes (omega arith)
+            ∙ ap (with_bytes all x.at) (sym p.all);
+      },
+      λ some. elim (cases_lt 0 (length y.bytes)) [ inl left ↦ (let rest = more.1 left in omega arith) | inr none ↦ omega arith ],
+    )
 
 -- ---- a piece, and whole words
 
 piece_leaves : (limit : ℕ) (c : Caller) (id : ArenaId) (s : State) (x y : Putting) (own : List Entry) → AreBytes x.bytes → PutsOn c id x own y
     → IsLegal limit s own → StepLeaves s (state_after limit s own) id x y
 piece_leaves limit c id s x y own are step legal =
-    let p = step_puts limit c id s x y own are step legal in
     let width = next_width x in
     let part = take width x.bytes in
+    let v = number_of (take width x.bytes) in
     let all = bytes_of_arena s id in
-    let n = p.part.count in
-    let within = p.put.within in
+    let fits : x.at % 8 + next_width x ≤ 8 = omega arith in
+    let is = is_part x.bytes width v are (let some : next_width x ≤ length x.bytes = omega arith in some) refl in
+    let put = visit_puts limit c s id x.at width v own step.piece fits is.small legal in
+    let n : length (take (next_width x) x.bytes) ≡ next_width x = is.count in
+    let within = put.within in
     record {
-      words = p.put.words;
+      words = put.words;
       first = part;
-      state = p.put.state;
-      bytes = p.put.bytes ∙ ap (λ bs. take x.at all ++ (bs ++ drop (x.at + width) all)) p.part.are
+      state = put.state;
+      bytes = put.bytes ∙ ap (λ bs. take x.at all ++ (bs ++ drop (x.at + width) all)) is.are
           ∙ ap (λ k. take x.at all ++ (part ++ drop (x.at + k) all)) (sym n);
       room = omega (arith, length-bytes_in (arena_of s id).words);
-      known = p.put.known;
-      alive = p.put.alive;
+      known = put.known;
+      alive = put.alive;
       at = step.at ∙ ap (λ k. x.at + k) (sym n);
       all = sym (take-append-drop width x.bytes) ∙ ap (λ bs. part ++ bs) (sym step.bytes);
-      left = p.left;
+      left = subst AreBytes (sym step.bytes) (All-drop (λ b. b < 256) width x.bytes are);
     }
 
 -- The bytes behind others.
@@ -148,7 +169,10 @@ module _ {Step : Caller → ArenaId → Putting → List Entry → Putting → T
   -- A run of puts puts just these bytes.
   puts_run : (limit : ℕ) (c : Caller) (id : ArenaId) (s : State) (x : Putting) (own : List Entry) (done : Bool) → AreBytes x.bytes
       → Run (Step c id) (EndsPutting c id) x own done → IsLegal limit s own → Leaves s (state_after limit s own) id x done
-  puts_run limit c id s x own done are (ends e) legal = puts_end limit c id s x own done e legal
+  puts_run limit c id s x own false are (ends e) legal = visit_refused limit c s id own e.1 legal
+  puts_run limit c id s x own true are (ends e) legal =
+      let none : length x.bytes ≡ 0 = ap length e.0 in
+      (puts_none s (state_after limit s own) id x e.0 (ap (state_after limit s) e.1), λ some. absurd (omega arith))
   puts_run limit c id s x own done are (goes_on y first rest step run) legal =
       let parts = IsLegal-split limit s first rest legal in
       let t = state_after limit s first in
@@ -164,8 +188,16 @@ module _ {Step : Caller → ArenaId → Putting → List Entry → Putting → T
   put_alone old now id place bytes (Err r) are known d alone = tt
   put_alone old now id place bytes (Ok u) are known d alone =
       let m = Makes-alone old now d.own alone d.makes in
-      let all = puts_run old.limit old.caller id old.state (putting place bytes) d.own true are d.does.1 m.0 in
+      let all = (puts_run old.limit old.caller id old.state (putting place bytes) d.own true are d.does.1 m.0).0 in
       changes old now id place bytes known (record { words = all.words; state = m.1 ∙ all.state; bytes = all.bytes })
+
+  -- They lie within the arena.
+  pub put_within : (old now : View) (id : ArenaId) (place : ℕ) (bytes : List ℕ) (u : Unit {0}) → AreBytes bytes
+      → Did old now (DoesPutBy Step old.caller id place bytes (Ok u)) → IsByItself old → 0 < length bytes
+      → place + length bytes ≤ length (bytes_of_arena old.state id)
+  put_within old now id place bytes u are d alone =
+      let m = Makes-alone old now d.own alone d.makes in
+      (puts_run old.limit old.caller id old.state (putting place bytes) d.own true are d.does.1 m.0).1
 
   -- The only caller puts nothing where the arena isn't open to it.
   pub put_shut : (old now : View) (id : ArenaId) (place : ℕ) (bytes : List ℕ) (result : Result (Unit {0}) Refusal) → AreBytes bytes

@@ -1,12 +1,16 @@
 -- Pieces of the bytes that a call may touch.
-use Rattle.std.proofs.Common.{◌≡◌, ℕ, ◌+◌, ◌%◌, ◌≤◌, List, true, None, arith}
+use Rattle.std.proofs.Common.{◌≡◌, ℕ, ◌+◌, ◌%◌, ◌≤◌, List, true, Some, None, Ok, arith}
 use Rattle.fm_base.specs.declared.arena_id.ArenaId.{ArenaId}
-use Rattle.fm_base.specs.Arenas.{has_arena}
+use Rattle.fm_base.specs.Arenas.{has_arena, MayUse}
 use Rattle.fm_base.specs.Calls.{Entry}
+use Rattle.fm_base.specs.Does.{DidEnter}
+use Rattle.fm_base.specs.Learnt.{AfterLeave}
 use Rattle.fm_base.specs.Outcomes.{Lasts}
-use Rattle.fm_base.specs.View.{View, Did, given_in}
+use Rattle.fm_base.specs.View.{View, Makes, Did, given_in}
+use Rattle.fm_base.specs.Visits.{Acts, entries_of, visit}
 use Rattle.fm_base.proofs.Outcomes.{Did-lasts}
-use Rattle.fm_access.specs.Learnt.{CanTouchPiece, Visited}
+use Rattle.fm_base.proofs.Visiting.{entered_makes, visit_of_inside}
+use Rattle.fm_access.specs.Learnt.{CanTouch, CanTouchPiece, Visited}
 
 -- A piece of bytes that the arena had given before it went on.
 pub can_touch : {old now : View} {id : ArenaId} {end : ℕ} (at width : ℕ) → has_arena old.state id ≡ true → end ≤ given_in old id → Lasts old now
@@ -14,6 +18,15 @@ pub can_touch : {old now : View} {id : ArenaId} {end : ℕ} (at width : ℕ) →
 can_touch {old} {now} {id} {end} at width known given lasts out some within below =
     let more = lasts.given id in
     record { outside = out; known = lasts.known id known; some = some; within = within; given = omega arith }
+
+-- Bytes of a range that may be touched, later on.
+pub touch_later : {old now : View} {id : ArenaId} {place size : ℕ} (at n : ℕ) → CanTouch old id place size → Lasts old now → now.inside ≡ None
+    → at + n ≤ place + size → CanTouch now id at n
+touch_later {id = id} at n can lasts out below =
+    let more = lasts.given id in
+    let given = can.given in
+    let small = can.small in
+    record { outside = out; known = lasts.known id can.known; given = omega arith; small = omega arith }
 
 -- After another visit it may be touched still.
 pub touch_again : {old now : View} {Does : List Entry → Type 0} {id : ArenaId} {place width : ℕ} → CanTouchPiece old id place width → Visited old now Does
@@ -25,3 +38,10 @@ touch_again {place = place} {width = width} can v =
 -- What is learnt of a visit, by what it did.
 pub visited : {old now : View} {Does : List Entry → Type 0} → Did old now Does → now.inside ≡ None → Visited old now Does
 visited {old} {now} {Does} d out = record { did = d; outside = out; lasts = Did-lasts old now Does d }
+
+-- What is learnt of a visit that was let in, by what was done inside.
+pub visited_inside : {x y u v : View} {id : ArenaId} {Does : List Entry → Type 0} (acts : Acts) → DidEnter x y id (Ok tt) → u.inside ≡ Some id
+    → Makes y u (entries_of y.caller acts) → AfterLeave u v → (MayUse id x.caller → Does (visit x.caller id acts)) → Visited x v Does
+visited_inside {x} {y} {u} {v} {id} acts enter inside made leave does =
+    let e = entered_makes x y id tt enter in
+    visited (record { own = visit x.caller id acts; does = does e.0; makes = visit_of_inside x y u v id acts inside e.1 made leave.did }) leave.outside

@@ -24,9 +24,8 @@ use Rattle.fm_access.specs.Alone.{bytes_of_arena, with_bytes}
 use Rattle.fm_access.specs.Ranges.{Reading, ReadsOn, EndsReading, ReadsRange, DoesGet, DoesPut}
 use Rattle.fm_access.specs.Values.{DoesGetValue, FindsValue, PutsValue, PutsThenGets}
 use Rattle.fm_access.proofs.Alone.{reads_alone}
-use Rattle.fm_access.proofs.PuttingAlone.{pieces_put, put_alone}
+use Rattle.fm_access.proofs.PuttingAlone.{pieces_put, put_alone, put_within}
 use Rattle.fm_access.proofs.Splicing.{takes_put}
-use Rattle.fm_access.proofs.Within.{put_within}
 
 -- What was done, said otherwise.
 pub said : (old new : View) (P Q : List Entry → Type 0) → ((own : List Entry) → P own → Q own) → Did old new P → Did old new Q
@@ -84,20 +83,16 @@ value_of-number k o bytes n are len e =
     ap (decoded k) (turned_number (width_of k) n o (subst Small len below)
     ∙ ap (λ bs. number_of (lowest_first o bs)) (bytes_of-number bytes (width_of k) n are len e))
 
-got : (c : Caller) (id : ArenaId) (place : ℕ) (k : ValueKind) (o : Order) (n : ℕ) (v : Value) (own : List Entry) → v ≡ decoded k (turned (width_of k) n o)
-    → DoesGet c id place (width_of k) (Ok n) own → DoesGetValue c k o id place (Ok v) own
-got c id place k o n v own e d =
-    let r = d.1 in
-    let are = bytes_read c id place (width_of k) own r.bytes r.visits in
-    (d.0, record { bytes = r.bytes; visits = r.visits; value = e ∙ value_of-number k o r.bytes n are.0 are.1 r.value })
-
 -- A number that was got, turned and decoded.
 pub got_value : (c : Caller) (id : ArenaId) (place width : ℕ) (k : ValueKind) (o : Order) (n m : ℕ) (v : Value) (own : List Entry)
     → width ≡ width_of k → m ≡ turned width n o → v ≡ decoded k m
     → DoesGet c id place width (Ok n) own → DoesGetValue c k o id place (Ok v) own
 got_value c id place width k o n m v own w t e d =
-    let P : ℕ → Type 0 = λ (j : ℕ). DoesGet c id place j (Ok n) own in
-    got c id place k o n v own (e ∙ ap (decoded k) (t ∙ ap (λ j. turned j n o) w)) (subst P w d)
+    let got = subst (λ (j : ℕ). DoesGet c id place j (Ok n) own) w d in
+    let r = got.1 in
+    let are = bytes_read c id place (width_of k) own r.bytes r.visits in
+    let value = e ∙ ap (decoded k) (t ∙ ap (λ j. turned j n o) w) ∙ value_of-number k o r.bytes n are.0 are.1 r.value in
+    (got.0, record { bytes = r.bytes; visits = r.visits; value = value })
 
 -- The bytes that a value is put as.
 pub put_bytes : (v : Value) (o : Order) (width n m : ℕ) → width ≡ width_of (kind_of v) → m ≡ encoded v → n ≡ turned width m o
@@ -165,7 +160,7 @@ pub puts_value : (old new : View) (k : ValueKind) (o : Order) (id : ArenaId) (pl
 puts_value old new k o id place v u kind known d alone =
     let width : length (bytes_of_value o v) ≡ width_of k = length-value o v ∙ ap width_of kind in
     let some : 0 < length (bytes_of_value o v) = (let bounds = width_of-bounds k in let least = bounds.0 in omega arith) in
-    let within = put_within old new id place (bytes_of_value o v) u (AreBytes-value o v) d alone some in
+    let within = put_within pieces_put old new id place (bytes_of_value o v) u (AreBytes-value o v) d alone some in
     record {
       bytes = put_alone pieces_put old new id place (bytes_of_value o v) (Ok u) (AreBytes-value o v) known d alone;
       within = omega arith;

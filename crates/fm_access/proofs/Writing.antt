@@ -6,7 +6,7 @@ use Rattle.fm_base.specs.Arenas.{Alive, State, Arena, arena_of, has_arena, chang
 use Rattle.fm_base.specs.Calls.{Leave, Fine, Entry, entry_of}
 use Rattle.fm_base.specs.Machine.{entered, left, written}
 use Rattle.fm_base.specs.Histories.{IsLegal, state_after}
-use Rattle.fm_base.specs.Visits.{entries_of, visit}
+use Rattle.fm_base.specs.Visits.{entries_of, visit, writes}
 use Rattle.fm_base.proofs.Lookup.{changed_twice, changed_alike, lookup_changed}
 use Rattle.fm_base.proofs.Making.{IsLegal-split, state_after-append}
 use Rattle.fm_base.proofs.Placing.{there_by_way}
@@ -18,7 +18,7 @@ use Rattle.std.proofs.lemmas.List.{length-drop, length-take-le, take-append-drop
 use Rattle.std.proofs.lemmas.List.Elements.{All-take, All-drop}
 use Rattle.fm_access.specs.Alone.{bytes_of_arena, with_bytes, with_words}
 use Rattle.fm_access.specs.Ranges.{putting}
-use Rattle.fm_access.specs.Runs.{writes, PutsWords}
+use Rattle.fm_access.specs.Runs.{PutsWords}
 use Rattle.fm_access.proofs.Splicing.{with_none, with_bytes-twice}
 use Rattle.fm_access.proofs.Visits.{around, alive_by}
 

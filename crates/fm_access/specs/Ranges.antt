@@ -87,9 +87,6 @@ module _ (Step : Caller → ArenaId → Putting → List Entry → Putting → T
   DoesPutBy c id place bytes (Err r) own = DoesRefuse c id (λ es. PutsBy c id place bytes es false) r own
 
 -- piece by piece
-abbrev pub PutsRange : Caller → ArenaId → ℕ → List ℕ → List Entry → Bool → Type 0
-PutsRange = PutsBy PutsOn
-
 abbrev pub DoesPut : Caller → ArenaId → ℕ → List ℕ → Result (Unit {0}) Refusal → List Entry → Type 0
 DoesPut = DoesPutBy PutsOn
 

@@ -1,20 +1,14 @@
 -- Putting many bytes: a run of visits, the lowest place first, of which one puts all the whole words.
-use Rattle.std.specs.Prelude.{◌≡◌, ◌⊎◌, ℕ, ◌+◌, ◌*◌, ◌/◌, ◌%◌, ◌<◌, List, [], ◌∷◌, ◌++◌, length, drop, MatchBool, ◌==◌, Result, Ok, Err}
-use Rattle.std.proofs.Common.{suc}
+use Rattle.std.specs.Prelude.{◌≡◌, ◌⊎◌, ℕ, ◌+◌, ◌*◌, ◌/◌, ◌%◌, ◌<◌, List, [], ◌++◌, length, drop, MatchBool, ◌==◌, Result, Ok, Err}
 use Rattle.fm_base.specs.declared.caller.Caller.{Caller}
 use Rattle.fm_base.specs.declared.arena_id.ArenaId.{ArenaId}
 use Rattle.fm_base.specs.declared.refusal.Refusal.{Refusal}
 use Rattle.fm_base.specs.Arenas.{MayUse}
-use Rattle.fm_base.specs.Calls.{Write, Fine, Entry}
+use Rattle.fm_base.specs.Calls.{Entry}
 use Rattle.fm_base.specs.Does.{DoesEnter}
-use Rattle.fm_base.specs.Visits.{Acts, entries_of, visit}
+use Rattle.fm_base.specs.Visits.{visit, writes}
 use Rattle.fm_bytes.specs.Words.{bytes_in, words_from}
 use Rattle.fm_access.specs.Ranges.{Putting, PutsOn, DoesPutBy}
-
--- a Write of each of these words, the first at this index
-abbrev pub writes : ArenaId → ℕ → List ℕ → Acts
-writes id word [] = []
-writes id word (v ∷ vs) = (Write id word v, Fine) ∷ writes id (suc word) vs
 
 -- at a word's start: one visit puts all the whole words that are left
 pub record PutsWords (c : Caller) (id : ArenaId) (x : Putting) (own : List Entry) (y : Putting) : Type 0 where
@@ -39,10 +33,6 @@ PutsMore c id x own y = PutsWords c id x own y ⊎ PutsPart c id x own y
 abbrev pub DoesPutNext : Caller → ArenaId → Putting → Result ℕ Refusal → List Entry → Type 0
 DoesPutNext c id x (Ok n) own = MayUse id c × PutsMore c id x own (record { at = x.at + n; bytes = drop n x.bytes })
 DoesPutNext c id x (Err r) own = DoesEnter c id (Err r) own
-
--- inside the arena the first `count` words of these bytes are stored, the first at this index
-abbrev pub DoesStoreWords : Caller → ArenaId → ℕ → ℕ → List ℕ → List Entry → Type 0
-DoesStoreWords c id word count bytes own = own ≡ entries_of c (writes id word (words_from count bytes))
 
 -- the first `count` words of these bytes are put in one visit
 abbrev pub DoesPutWords : Caller → ArenaId → ℕ → ℕ → List ℕ → Result (Unit {0}) Refusal → List Entry → Type 0

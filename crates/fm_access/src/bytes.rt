@@ -14,6 +14,7 @@ use std::sync::Wait;
 /// All whole words are put in one visit, what lies before and behind them piece by piece.
 /// Refused, in this order: `WrongThread`, `Closed`; where there are none it makes no visit and isn't refused.
 /// Where a later visit is refused, what was put before it stays put.
+#[tactic(auto, using(crate::proofs::Putting::put_starts))]
 pub fn put_bytes<R: Wait, M: Memory>(
     rt: &R,
     m: &mut M,
@@ -27,9 +28,10 @@ pub fn put_bytes<R: Wait, M: Memory>(
     if bytes.is_empty() {
         return Ok(());
     }
-    let mut put = 0;
-    while put < bytes.len() {
-        put += put_next(rt, m, arena, place + put as u64, &bytes[put..])?;
+    let end = place + bytes.len() as u64;
+    let mut at = place;
+    while at < end {
+        at += put_next(rt, m, arena, at, &bytes[(at - place) as usize..])? as u64;
     }
     Ok(())
 }

@@ -7,7 +7,6 @@ mod caller;
 mod laws;
 mod number;
 mod piece;
-mod pieces;
 mod range;
 mod value;
 mod words;

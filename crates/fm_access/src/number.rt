@@ -5,7 +5,6 @@ ghost use Rattle.fm_access.specs.Learnt.{CanTouchNumber, AfterGet, AfterPut};
 ghost use Rattle.fm_access.specs.Ranges.{DoesGet, DoesPut};
 
 use crate::piece::{get_piece, piece_width, put_piece};
-use crate::pieces::put_pieces;
 use fm_base::{ArenaId, Memory, Refusal};
 use fm_lanes::read;
 use std::sync::Wait;
@@ -31,6 +30,7 @@ pub fn get_number<M: Memory>(
 }
 
 /// The same, piece by piece, for a number that crosses a word's end.
+#[tactic(auto, using(crate::proofs::Getting::get_starts))]
 fn get_across<M: Memory>(m: &mut M, arena: ArenaId, place: u64, width: u32) -> Result<u64, Refusal>
     requires { CanTouchNumber (M.view m.old) arena place width }
     ensures { Did (M.view m.old) (M.view m.new)
@@ -71,6 +71,7 @@ pub fn put_number<R: Wait, M: Memory>(
 }
 
 /// The same, piece by piece, for a number that crosses a word's end.
+#[tactic(auto, using(crate::proofs::Putting::puts_number))]
 fn put_across<R: Wait, M: Memory>(
     rt: &R,
     m: &mut M,
@@ -83,5 +84,13 @@ fn put_across<R: Wait, M: Memory>(
     ensures { Did (M.view m.old) (M.view m.new)
         (DoesPut (M.view m.old).caller arena place (bytes_of width number) result) }
 {
-    put_pieces(rt, m, arena, place, &number.to_le_bytes()[..width as usize])
+    let end = place + u64::from(width);
+    let mut at = place;
+    while at < end {
+        let piece = piece_width(at, end);
+        let part = read(number, (at - place) as u32, piece);
+        put_piece(rt, m, arena, at, piece, part)?;
+        at += u64::from(piece);
+    }
+    Ok(())
 }

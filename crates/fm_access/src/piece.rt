@@ -41,6 +41,7 @@ pub fn get_piece<M: Memory>(
 }
 
 /// Puts the `width` bytes of `v` into the word of `place`, inside the arena.
+#[tactic(auto, using(crate::proofs::Patching::under))]
 fn put_inside<R: Wait, M: Memory>(rt: &R, m: &mut M, arena: ArenaId, place: u64, width: u32, v: u64)
     requires inside { (M.view m.old).inside ≡ Some arena }
     requires reach { CanReach (M.view m.old) (place / 8) }

@@ -8,6 +8,7 @@ use fm_lanes::read;
 use std::sync::Wait;
 
 /// The word whose eight bytes are all this one.
+#[tactic(auto, using(crate::proofs::Filling::eight_copies))]
 fn word_of(byte: u8) -> u64
     ensures { bytes_of 8 result ≡ replicate 8 byte }
 {
@@ -18,6 +19,7 @@ fn word_of(byte: u8) -> u64
 ///
 /// Refused, in this order: `WrongThread`, `Closed`; where `size` is 0 it makes no visit and isn't refused.
 /// Where a later piece is refused, the pieces before it stay put.
+#[tactic(auto, using(crate::proofs::Filling::puts_copies))]
 pub fn fill<R: Wait, M: Memory>(
     rt: &R,
     m: &mut M,

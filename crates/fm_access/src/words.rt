@@ -1,10 +1,15 @@
-ghost use Rattle.std.specs.Prelude.{◌≡◌, ◌+◌, ◌*◌, ◌%◌, ◌^◌, ◌≤◌, length, Some};
-ghost use Rattle.fm_base.specs.View.{Did, given_in};
+ghost use Rattle.std.specs.Prelude.{◌≡◌, ◌*◌, ◌%◌, ◌≤◌, length};
+ghost use Rattle.fm_base.specs.Does.{CanReachAll};
+ghost use Rattle.fm_base.specs.Learnt.{AfterStores};
 ghost use Rattle.fm_access.specs.Learnt.{CanTouch, Visited};
-ghost use Rattle.fm_access.specs.Runs.{DoesPutWords, DoesStoreWords};
+ghost use Rattle.fm_access.specs.Runs.{DoesPutWords};
+ghost use Rattle.fm_bytes.specs.Words.{words_from};
 
 use byteorder::{ByteOrder, LittleEndian};
 use fm_base::{ArenaId, Memory, Refusal};
+
+/// How many words are made of bytes before they are stored.
+const AT_ONCE: usize = 64;
 
 /// Puts the first `count` words of `bytes` at `place`, in one visit.
 ///
@@ -23,22 +28,23 @@ pub fn put_words<M: Memory>(
         (DoesPutWords (M.view m.old).caller arena place count bytes.now result) }
 {
     m.enter(arena)?;
-    store_words(m, arena, place / 8, count, bytes);
+    store_words(m, place / 8, count, bytes);
     m.leave();
     Ok(())
 }
 
 /// Stores the first `count` words of `bytes`, the first of them at the index `first`, inside the arena.
-fn store_words<M: Memory>(m: &mut M, arena: ArenaId, first: u64, count: usize, bytes: &[u8])
-    requires inside { (M.view m.old).inside ≡ Some arena }
-    requires given { 8 * first + 8 * count ≤ given_in (M.view m.old) arena }
-    requires small { 8 * first + 8 * count ≤ 2 ^ 40 }
+fn store_words<M: Memory>(m: &mut M, first: u64, count: usize, bytes: &[u8])
+    requires reach { CanReachAll (M.view m.old) first count }
     requires whole { 8 * count ≤ length bytes.now }
-    ensures did { Did (M.view m.old) (M.view m.new)
-        (DoesStoreWords (M.view m.old).caller arena first count bytes.now) }
-    ensures inside { (M.view m.new).inside ≡ Some arena }
+    ensures { AfterStores (M.view m.old) (M.view m.new) first (words_from count bytes.now) }
 {
-    for k in 0..count {
-        m.store(first + k as u64, LittleEndian::read_u64(&bytes[8 * k..]));
+    let mut words = [0; AT_ONCE];
+    let mut k = 0;
+    while k < count {
+        let more = (count - k).min(AT_ONCE);
+        LittleEndian::read_u64_into(&bytes[8 * k..8 * (k + more)], &mut words[..more]);
+        m.store_words(first + k as u64, &words[..more]);
+        k += more;
     }
 }

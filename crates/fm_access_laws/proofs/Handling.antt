@@ -1,12 +1,12 @@
 -- Each call of a handle stays below the segment's end, and so is tidy.
-use Rattle.std.proofs.Common.{◌≡◌, ℕ, ◌+◌, ◌*◌, ◌/◌, ◌%◌, ◌^◌, ◌<◌, ◌≤◌, inl, inr, Bool, true, false, if◌then◌else◌, nat_le, None, Result, Ok, Err, List, length, refl, sym, ap, subst, ◌∙◌, arith}
+use Rattle.std.proofs.Common.{◌≡◌, ℕ, ◌+◌, ◌*◌, ◌/◌, ◌%◌, ◌^◌, ◌<◌, ◌≤◌, inl, inr, Bool, true, false, nat_le, None, Result, Ok, Err, List, length, refl, sym, ap, subst, ◌∙◌, arith}
 use Rattle.std.proofs.lemmas.Bool.{leb-true}
 use Rattle.std.specs.Int.{is_power_of_two}
 use Rattle.fm_base.specs.Arenas.{only_caller}
 use Rattle.fm_base.specs.declared.caller.Caller.{Caller}
 use Rattle.fm_base.specs.declared.arena_id.ArenaId.{ArenaId}
 use Rattle.fm_base.specs.declared.refusal.Refusal.{Refusal}
-use Rattle.fm_base.specs.declared.refusal.Refusal.TheVariants.{IndexOut, ReadOnly, Unsupported, WrongThread, Closed}
+use Rattle.fm_base.specs.declared.refusal.Refusal.TheVariants.{IndexOut, WrongThread, Closed}
 use Rattle.fm_base.specs.Calls.{Entry}
 use Rattle.fm_base.specs.Visits.{Acts, Tries}
 use Rattle.fm_base.proofs.Faith.{Makes-alone}
@@ -43,7 +43,7 @@ use Rattle.fm_handle.proofs.Updating.{kind_of-sum_of}
 use Rattle.fm_access_laws.specs.Handles.{DoesCall, gets, sets, sets_long, compares_and_sets, exchanges, exchanges_long, adds, adds_long, HandlesAreTidy, LoneHandlesAreTidy, PathsStayInside}
 use Rattle.fm_access_laws.proofs.Staying.{StayBelow, ActBelow, stay_visit, tries_below, tidy_by, tidy_alone}
 use Rattle.fm_access_laws.proofs.Staying.{stay_none, stay_refused}
-use Rattle.fm_access_laws.proofs.Tidying.{get_stays}
+use Rattle.fm_access_laws.proofs.Tidying.{writable_on, supported_on, get_stays}
 use Rattle.fm_access_laws.proofs.Putting.{put_stays}
 
 -- ---- where the value lies
@@ -53,14 +53,6 @@ record Lies (h : Resolution) (r : Region) (place : ℕ) : Type 0 where
   inside : place + width_of h.value.kind ≤ r.first + r.size
   power : is_power_of_two h.value.alignment ≡ true
   aligned : place % h.value.alignment ≡ 0
-
-writable_on : (kept : Bool) (found : Result ℕ Refusal) (p : ℕ) → (if kept then Err ReadOnly else found) ≡ Ok p → found ≡ Ok p
-writable_on true found p e = never p ReadOnly (sym e)
-writable_on false found p e = e
-
-supported_on : (works : Bool) (found : Result ℕ Refusal) (p : ℕ) → (if works then found else Err Unsupported) ≡ Ok p → (works ≡ true) × (found ≡ Ok p)
-supported_on true found p e = (refl, e)
-supported_on false found p e = never p Unsupported (sym e)
 
 lies : (base : ℕ) (is : List ℕ) (h : Resolution) (r : Region) (p : ℕ) → StaysInside h → length is ≡ length h.dims → writable_place_of base is h r ≡ Ok p
     → Lies h r p

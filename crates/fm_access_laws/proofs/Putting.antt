@@ -1,5 +1,5 @@
 -- Bytes that are put stay below their end, be it piece by piece or with all whole words in one visit.
-use Rattle.std.proofs.Common.{◌≡◌, inl, inr, ℕ, ◌+◌, ◌-◌, ◌*◌, ◌/◌, ◌%◌, ◌^◌, ◌<◌, ◌≤◌, Bool, true, false, MatchBool, suc, Result, Ok, Err, List, [], ◌∷◌, length, take, drop, refl, sym, ap, subst, ◌∙◌, arith, length-drop, length-append}
+use Rattle.std.proofs.Common.{◌≡◌, inl, inr, ℕ, ◌+◌, ◌-◌, ◌*◌, ◌/◌, ◌%◌, ◌^◌, ◌<◌, ◌≤◌, ◌==◌, Bool, true, false, suc, Result, Ok, Err, List, [], ◌∷◌, length, take, drop, refl, sym, ap, subst, ◌∙◌, arith, length-drop, length-append}
 use Rattle.std.proofs.lemmas.List.{length-take-le}
 use Rattle.std.proofs.Math.Seq.{drop-append_seam}
 use Rattle.std.proofs.lemmas.List.Elements.{All-take, All-drop}
@@ -8,14 +8,14 @@ use Rattle.fm_base.specs.declared.arena_id.ArenaId.{ArenaId}
 use Rattle.fm_base.specs.declared.refusal.Refusal.{Refusal}
 use Rattle.fm_base.specs.declared.refusal.Refusal.TheVariants.{WrongThread, Closed}
 use Rattle.fm_base.specs.Calls.{Entry}
-use Rattle.fm_base.specs.Visits.{Run, ends, goes_on}
+use Rattle.fm_base.specs.Visits.{Run, ends, goes_on, writes}
 use Rattle.fm_bytes.specs.Bytes.{AreBytes, number_of}
 use Rattle.fm_bytes.specs.Words.{bytes_in}
 use Rattle.fm_bytes.proofs.Bytes.{number_of-lt}
 use Rattle.fm_bytes.proofs.Words.{length-bytes_in}
 use Rattle.fm_access.specs.Ranges.{Putting, putting, next_width, PutsOn, EndsPutting, DoesPut, DoesPutBy}
-use Rattle.fm_access.specs.Runs.{writes, PutsWords, PutsMore}
-use Rattle.fm_access_laws.proofs.Staying.{StayBelow, ActBelow, stay_none, stay_refused, stay_append, stay_visit, stay_puts}
+use Rattle.fm_access.specs.Runs.{PutsWords, PutsMore, DoesPutAll}
+use Rattle.fm_access_laws.proofs.Staying.{StayBelow, ActBelow, stay_none, stay_unless, stay_refused, stay_append, stay_visit, stay_puts}
 
 -- what a visit that puts leaves: its entries stay below the end, and so do the bytes that are left
 record StepStays (a : ArenaId) (end : ℕ) (own : List Entry) (y : Putting) : Type 0 where
@@ -104,9 +104,7 @@ more_stays : (c : Caller) (a : ArenaId) (end : ℕ) (x y : Putting) (own : List 
 more_stays c a end x y own are h (inl s) = words_stay c a end x y own are h s
 more_stays c a end x y own are h (inr s) = part_stays c a end x y own are h s.piece
 
-pub put_all_stays : (c : Caller) (a : ArenaId) (end place : ℕ) (bytes : List ℕ) (none : Bool) (result : Result (Unit {0}) Refusal) (own : List Entry)
-    → AreBytes bytes → place + length bytes ≤ end
-    → MatchBool none ((result ≡ Ok tt) × (own ≡ [])) (DoesPutBy PutsMore c a place bytes result own) → StayBelow a end own
-put_all_stays c a end place bytes true result own are h d = stay_none a end own d.1
-put_all_stays c a end place bytes false result own are h d =
-    put_by_stays PutsMore c a end (more_stays c a end) place bytes result own are h d
+pub put_all_stays : (c : Caller) (a : ArenaId) (end place : ℕ) (bytes : List ℕ) (result : Result (Unit {0}) Refusal) (own : List Entry) → AreBytes bytes
+    → place + length bytes ≤ end → DoesPutAll c a place bytes result own → StayBelow a end own
+put_all_stays c a end place bytes result own are h d =
+    stay_unless a end (length bytes == 0) result own _ (put_by_stays PutsMore c a end (more_stays c a end) place bytes result own are h) d

@@ -1,10 +1,10 @@
 -- Entries that change only bytes of one arena below a place.
-use Rattle.std.proofs.Common.{◌≡◌, ℕ, ◌+◌, ◌-◌, ◌*◌, ◌/◌, ◌%◌, ◌^◌, ◌<◌, ◌≤◌, Bool, true, false, cond, List, [], ◌∷◌, ◌++◌, refl, sym, ap, subst, ◌∙◌, arith}
+use Rattle.std.proofs.Common.{◌≡◌, ℕ, ◌+◌, ◌*◌, ◌/◌, ◌%◌, ◌^◌, ◌<◌, ◌≤◌, Bool, true, false, MatchBool, cond, Result, Ok, List, [], ◌∷◌, ◌++◌, length, take, drop, inr, refl, sym, ap, subst, ◌∙◌, arith}
 use Rattle.std.specs.Prelude.{⊤}
-use Rattle.std.proofs.lemmas.Nat.{pow_pos, mod_below, shr-shr, shr_high}
 use Rattle.fm_bytes.specs.Words.{byte_of}
 use Rattle.fm_base.specs.declared.caller.Caller.{Caller}
 use Rattle.fm_base.specs.declared.arena_id.ArenaId.{ArenaId}
+use Rattle.fm_base.specs.declared.refusal.Refusal.{Refusal}
 use Rattle.fm_base.specs.Arenas.{are_one, State, arena_of}
 use Rattle.fm_base.specs.Calls.{Call, Open, Enter, Read, Write, SwapIf, Add, Allocate, Leave, Hold, Unhold, Shut, End, Lend, Back, Reply, Fine, Found, Entry, entry_of}
 use Rattle.fm_base.specs.Histories.{IsLegal, DifferBelow, IsTidyIn, IsTidy, made_by}
@@ -12,8 +12,10 @@ use Rattle.fm_base.specs.Machine.{reply_to, after}
 use Rattle.fm_base.specs.Visits.{Acts, entries_of, visit, refused_visit, Tries, looked, missed, hit}
 use Rattle.fm_base.proofs.Names.{are_one-false}
 use Rattle.fm_base.proofs.Growing.{Grows-state_after}
-use Rattle.fm_bytes.specs.Bytes.{replaced}
-use Rattle.fm_bytes.proofs.Bytes.{side_by_side-lt}
+use Rattle.fm_bytes.specs.Bytes.{bytes_of, number_of, replaced}
+use Rattle.fm_bytes.proofs.Bytes.{length-bytes_of, lane-number_of, bytes_of-replaced}
+use Rattle.fm_access.specs.Alone.{with_bytes}
+use Rattle.fm_access.proofs.Splicing.{keeps_elsewhere}
 use Rattle.fm_access.specs.Pieces.{PutsBytes, whole, narrow, PutsPiece, ReadsPiece}
 use Rattle.fm_access_laws.specs.Accesses.{IsTidyBy}
 
@@ -40,6 +42,12 @@ stay_none a end own e = subst (λ (es : List Entry). StayBelow a end es) (sym e)
 pub stay_refused : (a : ArenaId) (end : ℕ) (c : Caller) (id : ArenaId) (own : List Entry) → own ≡ refused_visit c id → StayBelow a end own
 stay_refused a end c id own e = subst (λ (es : List Entry). StayBelow a end es) (sym e) (tt, tt)
 
+-- A call that does nothing where it has no byte to put.
+pub stay_unless : (a : ArenaId) (end : ℕ) (none : Bool) (result : Result (Unit {0}) Refusal) (own : List Entry) (Does : Type 0) → (Does → StayBelow a end own)
+    → MatchBool none ((result ≡ Ok tt) × (own ≡ [])) Does → StayBelow a end own
+stay_unless a end true result own Does f d = stay_none a end own d.1
+stay_unless a end false result own Does f d = f d
+
 pub stay_append : (a : ArenaId) (end : ℕ) (es fs : List Entry) → StayBelow a end es → StayBelow a end fs → StayBelow a end (es ++ fs)
 stay_append a end [] fs h k = k
 stay_append a end (e ∷ es) fs h k = (h.0, stay_append a end es fs h.1 k)
@@ -56,29 +64,23 @@ stay_visit a end c id acts h = (tt, stay_append a end (entries_of c acts) (entry
 pub stay_reads : (a : ArenaId) (end : ℕ) (c : Caller) (id : ArenaId) (place width v : ℕ) (own : List Entry) → ReadsPiece c id place width v own
     → StayBelow a end own
 stay_reads a end c id place width v own r =
-    subst (λ (es : List Entry). StayBelow a end es) (sym r.visits) (stay_visit a end c id ((Read id (place / 8), Found r.word) ∷ []) (tt, tt))
+    rw r.visits (stay_visit a end c id ((Read id (place / 8), Found r.word) ∷ []) (tt, tt))
 
 -- ---- bytes that are put
-
--- What stands past the bytes that are replaced.
-replaced_up : (word at width v : ℕ) → v < 2 ^ (8 * width) → replaced word at width v / 2 ^ (8 * (at + width)) ≡ word / 2 ^ (8 * (at + width))
-replaced_up word at width v h =
-    let hi = word / 2 ^ (8 * (at + width)) in
-    let low : word % 2 ^ (8 * at) < 2 ^ (8 * at) = mod_below word (2 ^ (8 * at)) (pow_pos (8 * at)) in
-    let same : 8 * at + 8 * width ≡ 8 * (at + width) = omega arith in
-    let below : v * 2 ^ (8 * at) + word % 2 ^ (8 * at) < 2 ^ (8 * (at + width)) =
-    subst (λ (k : ℕ). v * 2 ^ (8 * at) + word % 2 ^ (8 * at) < 2 ^ k) same (side_by_side-lt v (word % 2 ^ (8 * at)) (8 * at) (8 * width) h low) in
-    let sum : replaced word at width v ≡ hi * 2 ^ (8 * (at + width)) + (v * 2 ^ (8 * at) + word % 2 ^ (8 * at)) = omega arith in
-    ap (λ n. n / 2 ^ (8 * (at + width))) sum ∙ shr_high hi (8 * (at + width)) (v * 2 ^ (8 * at) + word % 2 ^ (8 * at)) below
 
 -- A byte past the bytes that are replaced stays.
 replaced_past : (word at width v k : ℕ) → v < 2 ^ (8 * width) → at + width ≤ k → byte_of (replaced word at width v) k ≡ byte_of word k
 replaced_past word at width v k h past =
-    let rest = 8 * k - 8 * (at + width) in
-    let sum : 8 * (at + width) + (8 * k - 8 * (at + width)) ≡ 8 * k = omega arith in
-    let split : (n : ℕ) → n / 2 ^ (8 * k) ≡ n / 2 ^ (8 * (at + width)) / 2 ^ rest =
-    λ n. ap (λ j. n / 2 ^ j) (sym sum) ∙ sym (shr-shr n (8 * (at + width)) (8 * k - 8 * (at + width))) in
-    ap (λ n. n % 256) (split (replaced word at width v) ∙ ap (λ n. n / 2 ^ rest) (replaced_up word at width v h) ∙ sym (split word))
+    let all = bytes_of (k + 1) word in
+    let put = bytes_of width v in
+    let size : length (bytes_of width v) ≡ width = length-bytes_of width v in
+    let within : at + length (bytes_of width v) ≤ length (bytes_of (k + 1) word) = omega (arith, length-bytes_of (k + 1) word) in
+    let is : bytes_of (k + 1) (replaced word at width v) ≡ with_bytes all at put =
+    bytes_of-replaced (k + 1) at width word v (omega arith) h ∙ ap (λ n. take at all ++ (put ++ drop (at + n) all)) (sym size) in
+    lane-number_of (k + 1) k 1 (replaced word at width v) (omega arith)
+    ∙ ap (λ bs. number_of (take 1 (drop k bs))) is
+    ∙ ap number_of (keeps_elsewhere all put at k 1 within (inr (omega arith)))
+    ∙ sym (lane-number_of (k + 1) k 1 word (omega arith))
 
 pub tries_below : (id : ArenaId) (end place width v found : ℕ) (acts : Acts) → v < 2 ^ (8 * width) → place % 8 + width ≤ 8 → place + width ≤ end
     → Tries id (place / 8) (λ word. replaced word (place % 8) width v) found acts → ActBelow id end acts

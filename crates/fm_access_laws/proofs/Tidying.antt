@@ -1,16 +1,15 @@
 -- Each access to a segment stays below its end, and so is tidy.
-use Rattle.std.proofs.Common.{◌≡◌, ℕ, ℤ, ◌+◌, ◌-◌, ◌*◌, ◌%◌, ◌^◌, ◌<◌, ◌≤◌, ◌==◌, ◌&&◌, Bool, true, false, if◌then◌else◌, nat_le, nat_lt, nat_eq, MatchBool, Option, Some, None, Result, Ok, Err, List, [], length, replicate, refl, sym, ap, subst, arith}
+use Rattle.std.proofs.Common.{◌≡◌, ℕ, ℤ, ◌+◌, ◌*◌, ◌%◌, ◌^◌, ◌<◌, ◌≤◌, ◌==◌, ◌&&◌, Bool, true, false, if◌then◌else◌, nat_le, nat_lt, Option, Some, None, Result, Ok, Err, List, [], length, replicate, refl, sym, ap, subst, arith}
 use Rattle.std.proofs.lemmas.Bool.{leb-true}
 use Rattle.std.proofs.lemmas.List.{length-replicate}
 use Rattle.std.proofs.lemmas.List.Elements.{All-replicate}
 use Rattle.fm_base.specs.declared.caller.Caller.{Caller}
 use Rattle.fm_base.specs.declared.arena_id.ArenaId.{ArenaId}
 use Rattle.fm_base.specs.declared.refusal.Refusal.{Refusal}
-use Rattle.fm_base.specs.declared.refusal.Refusal.TheVariants.{Bounds, Misaligned, ReadOnly, Unsupported, WrongThread, Closed}
+use Rattle.fm_base.specs.declared.refusal.Refusal.TheVariants.{Bounds, ReadOnly, Unsupported, WrongThread, Closed}
 use Rattle.fm_base.specs.Calls.{Entry}
-use Rattle.fm_base.specs.Visits.{Run, ends, goes_on, refused_visit, piece_width, first_width, last_width}
+use Rattle.fm_base.specs.Visits.{Run, ends, goes_on, refused_visit, piece_width}
 use Rattle.fm_base.proofs.Faith.{Makes-alone}
-use Rattle.fm_bytes.specs.Bytes.{AreBytes}
 use Rattle.fm_bytes.proofs.Bytes.{lane-lt}
 use Rattle.fm_lanes.specs.declared.value.Value.{Value}
 use Rattle.fm_lanes.specs.Coding.{bytes_of_value}
@@ -19,18 +18,19 @@ use Rattle.fm_lanes.specs.Value.{kind_of}
 use Rattle.fm_layout.specs.Tree as tree
 use Rattle.fm_layout.specs.Tree.{Tree, alignment_of}
 use Rattle.fm_layout.specs.Size.{size_of}
-use Rattle.fm_access.proofs.Causes.{never}
+use Rattle.fm_access.proofs.Causes.{never, placed_ok}
 use Rattle.fm_access.proofs.Values.{AreBytes-value, length-value}
 use Rattle.fm_access.specs.Ranges.{Reading, ReadsOn, EndsReading, DoesPut, DoesFill}
-use Rattle.fm_access.specs.Runs.{DoesPutAll}
 use Rattle.fm_copies.specs.declared.side.Side.{Side}
 use Rattle.fm_copies.specs.declared.side.Piece.{Piece}
 use Rattle.fm_copies.specs.declared.side.Way.{Way}
-use Rattle.fm_copies.specs.declared.side.Way.TheVariants.{Up, Down}
-use Rattle.fm_copies.specs.Sides.{side, next_piece, StopsAt, first, second}
+use Rattle.fm_copies.specs.declared.side.Way.TheVariants.{Up}
+use Rattle.fm_copies.specs.Sides.{side, next_piece, IsPieceOf, StopsAt, first, second}
 use Rattle.fm_copies.specs.Copies.{CopiesPiece, CopiesOn, EndsCopy, DoesCopy}
 use Rattle.fm_copies.specs.Comparisons.{ComparesPiece, AgreesOn, EndsComparing, DoesCompare}
-use Rattle.fm_segment.specs.Access.{HasKind, DoesGetAt, DoesSetAt, writable_place_of, writable_place_at_index}
+use Rattle.fm_copies.proofs.Fitting.{next_piece_fits}
+use Rattle.fm_handle.proofs.Places.{both_true}
+use Rattle.fm_segment.specs.Access.{HasKind, place_of, DoesGetAt, DoesSetAt, writable_place_of, writable_place_at_index}
 use Rattle.fm_segment.specs.Comparisons.{DoesMismatch, common_size}
 use Rattle.fm_segment.specs.Copies.{checked_copy}
 use Rattle.fm_segment.specs.Fills.{DoesAfter, checked_write}
@@ -38,7 +38,31 @@ use Rattle.fm_segment.specs.Puts.{checked_put}
 use Rattle.fm_segment.specs.Region.{Region}
 use Rattle.fm_access_laws.specs.Accesses.{DoesAccess, gets, sets, sets_at_index, fills, puts, copies, compares, AccessesAreTidy, LoneAccessesAreTidy}
 use Rattle.fm_access_laws.proofs.Putting.{put_stays, put_all_stays}
-use Rattle.fm_access_laws.proofs.Staying.{StayBelow, stay_none, stay_refused, stay_append, stay_reads, stay_puts, tidy_by, tidy_alone}
+use Rattle.fm_access_laws.proofs.Staying.{StayBelow, stay_none, stay_unless, stay_refused, stay_append, stay_reads, stay_puts, tidy_by, tidy_alone}
+
+-- ---- tests that were passed
+
+pub writable_on : {X : Type 0} (kept : Bool) (found : Result X Refusal) (x : X) → (if kept then Err ReadOnly else found) ≡ Ok x → found ≡ Ok x
+writable_on true found x e = absurd (let no : ⊥ = cc in no)
+writable_on false found x e = e
+
+pub supported_on : (works : Bool) (found : Result ℕ Refusal) (p : ℕ) → (if works then found else Err Unsupported) ≡ Ok p → (works ≡ true) × (found ≡ Ok p)
+supported_on true found p e = (refl, e)
+supported_on false found p e = never p Unsupported (sym e)
+
+abbrev done : Result (Unit {0}) Refusal
+done = Ok tt
+
+within_on : (fits : Bool) → (if fits then Ok tt else Err Bounds) ≡ done → fits ≡ true
+within_on true e = refl
+within_on false e = absurd (let no : ⊥ = cc in no)
+
+-- What a call does after its checks.
+after_stays : (a : ArenaId) (bound : ℕ) (checked : Result (Unit {0}) Refusal) (Does : Result (Unit {0}) Refusal → List Entry → Type 0)
+    (result : Result (Unit {0}) Refusal) (own : List Entry) → (checked ≡ done → Does result own → StayBelow a bound own)
+    → DoesAfter checked Does result own → StayBelow a bound own
+after_stays a bound (Err e) Does result own f d = stay_none a bound own d.1
+after_stays a bound (Ok u) Does result own f d = f refl d
 
 -- ---- reading
 
@@ -109,94 +133,34 @@ set_stays c id bound (tree.Value kind o l) (Ok p) v result own h k d =
     put_stays c id bound p (bytes_of_value o v) result own (AreBytes-value o v) (omega arith) d
 set_stays c id bound t (Ok p) v result own h k d = absurd d
 
-module _ (offset : ℕ) (t : Tree) (r : Region) (p : ℕ) where
-  place_on : (kept fits even : Bool) → nat_le (offset + size_of t) r.size ≡ fits
-      → (if kept then Err ReadOnly else (if fits then (if even then Ok (r.first + offset) else Err Misaligned) else Err Bounds)) ≡ Ok p
-      → p + size_of t ≤ r.first + r.size
-  place_on true fits even f h = never p ReadOnly (sym h)
-  place_on false false even f h = never p Bounds (sym h)
-  place_on false true false f h = never p Misaligned (sym h)
-  place_on false true true f h =
-      let at : r.first + offset ≡ p = cc in
-      let within = leb-true (offset + size_of t) r.size f in
-      omega arith
-
-  -- A value that may be put ends in the segment.
-  value_ends : writable_place_of offset t r ≡ Ok p → p + size_of t ≤ r.first + r.size
-  value_ends h = place_on r.read_only (nat_le (offset + size_of t) r.size) (nat_eq ((r.first + offset) % alignment_of t) 0) refl h
-
-element_on : (tiles : Bool) (found : Result ℕ Refusal) (p : ℕ) → (if tiles then found else Err Unsupported) ≡ Ok p → found ≡ Ok p
-element_on true found p h = h
-element_on false found p h = never p Unsupported (sym h)
+-- A value that may be put ends in the segment.
+value_ends : (offset : ℕ) (t : Tree) (r : Region) (p : ℕ) → writable_place_of offset t r ≡ Ok p → p + size_of t ≤ r.first + r.size
+value_ends offset t r p h =
+    let found : Result ℕ Refusal = Ok (r.first + offset) in
+    let placed = placed_ok offset (size_of t) (alignment_of t) r.first r.size found p (writable_on r.read_only (place_of offset t r) p h) in
+    let within = placed.0 in
+    let at : r.first + offset ≡ p = cc placed.2 in
+    omega arith
 
 -- ---- a fill
 
-fill_on : (c : Caller) (r : Region) (byte : ℕ) (none : Bool) (result : Result (Unit {0}) Refusal) (own : List Entry) → byte < 256
-    → MatchBool none ((result ≡ Ok tt) × (own ≡ [])) (DoesPut c r.arena r.first (replicate r.size byte) result own) → StayBelow r.arena (r.first + r.size) own
-fill_on c r byte true result own b d = stay_none r.arena (r.first + r.size) own d.1
-fill_on c r byte false result own b d =
+fill_stays : (c : Caller) (r : Region) (byte : ℕ) (result : Result (Unit {0}) Refusal) (own : List Entry) → byte < 256
+    → DoesFill c r.arena r.first r.size byte result own → StayBelow r.arena (r.first + r.size) own
+fill_stays c r byte result own b d =
     let len : length (replicate r.size byte) ≡ r.size = length-replicate r.size byte in
-    put_stays c r.arena (r.first + r.size) r.first (replicate r.size byte) result own (All-replicate (λ n. n < 256) r.size byte b) (omega arith) d
-
-fill_stays : (c : Caller) (r : Region) (byte : ℕ) (checked : Result (Unit {0}) Refusal) (result : Result (Unit {0}) Refusal) (own : List Entry) → byte < 256
-    → DoesAfter checked (DoesFill c r.arena r.first r.size byte) result own → StayBelow r.arena (r.first + r.size) own
-fill_stays c r byte (Err e) result own b d = stay_none r.arena (r.first + r.size) own d.1
-fill_stays c r byte (Ok u) result own b d = fill_on c r byte (r.size == 0) result own b d
-
--- ---- many bytes
-
-abbrev done : Result (Unit {0}) Refusal
-done = Ok tt
-
--- Bytes that may be put end in the segment.
-puts_end : (kept within : Bool) (end size : ℕ) → nat_le end size ≡ within
-    → (if kept then Err ReadOnly else (if within then Ok tt else Err Bounds)) ≡ done → end ≤ size
-puts_end true within end size e h = absurd (let no : ⊥ = cc in no)
-puts_end false false end size e h = absurd (let no : ⊥ = cc in no)
-puts_end false true end size e h = leb-true end size e
-
-put_bytes_stays : (c : Caller) (r : Region) (offset : ℕ) (bytes : List ℕ) (checked : Result (Unit {0}) Refusal) (result : Result (Unit {0}) Refusal)
-    (own : List Entry)
-    → checked_put r offset (length bytes) ≡ checked → AreBytes bytes
-    → DoesAfter checked (DoesPutAll c r.arena (r.first + offset) bytes) result own → StayBelow r.arena (r.first + r.size) own
-put_bytes_stays c r offset bytes (Err e) result own h are d = stay_none r.arena (r.first + r.size) own d.1
-put_bytes_stays c r offset bytes (Ok u) result own h are d =
-    let fit : offset + length bytes ≤ r.size =
-    puts_end (nat_lt 0 (length bytes) && r.read_only) (nat_le (offset + length bytes) r.size) (offset + length bytes) r.size refl h in
-    put_all_stays c r.arena (r.first + r.size) (r.first + offset) bytes (length bytes == 0) result own are (omega arith) d
+    stay_unless r.arena (r.first + r.size) (r.size == 0) result own (DoesPut c r.arena r.first (replicate r.size byte) result own)
+    (put_stays c r.arena (r.first + r.size) r.first (replicate r.size byte) result own (All-replicate (λ n. n < 256) r.size byte b) (omega arith)) d
 
 -- ---- a copy
 
--- the piece lies in one word of the target, inside the range
-record IsInside (b : Side) (count : ℕ) (p : Piece) : Type 0 where
-  fits : (b.at + p.offset) % 8 + p.width ≤ 8
-  ends_by : p.offset + p.width ≤ count
-
-last_fits : (at left width : ℕ) → 1 ≤ width → width ≤ left → width ≤ (at + left - 1) % 8 + 1 → (at + (left - width)) % 8 + width ≤ 8
-last_fits at left width s h k = omega arith
-
-piece_inside : (way : Way) (a b : Side) (count left : ℕ) → 0 < left → left ≤ count → IsInside b count (next_piece way a b count left)
-piece_inside Up a b count left s h = record {
-  fits = (let w : first_width (a.at + (count - left)) (b.at + (count - left)) left ≤ 8 - (b.at + (count - left)) % 8 = omega arith in omega arith);
-  ends_by = (let w : first_width (a.at + (count - left)) (b.at + (count - left)) left ≤ left = omega arith in omega arith);
-}
-piece_inside Down a b count left s h =
-    let within : last_width a.at b.at left ≤ left = omega arith in
-    let some : 1 ≤ last_width a.at b.at left = omega arith in
-    let word : last_width a.at b.at left ≤ (b.at + left - 1) % 8 + 1 = omega arith in
-    record {
-      fits = last_fits b.at left (last_width a.at b.at left) some within word;
-      ends_by = omega arith;
-    }
-
-copied_stays : (c : Caller) (a b : Side) (bound : ℕ) (p : Piece) (count : ℕ) (own : List Entry) → b.at + count ≤ bound → IsInside b count p
+copied_stays : (c : Caller) (a b : Side) (bound count left : ℕ) (p : Piece) (own : List Entry) → b.at + count ≤ bound → IsPieceOf a b count left p
     → CopiesPiece c a b p own → StayBelow b.arena bound own
-copied_stays c a b bound p count own h i d =
+copied_stays c a b bound count left p own h is d =
     let small : d.v < 2 ^ (8 * p.width) = subst (λ (n : ℕ). n < 2 ^ (8 * p.width)) (sym d.reads.value) (lane-lt d.reads.word ((a.at + p.offset) % 8) p.width) in
-    let inside = i.ends_by in
+    let inside = is.inside in
     subst (λ (es : List Entry). StayBelow b.arena bound es) (sym d.visits)
     (stay_append b.arena bound d.reading d.putting (stay_reads b.arena bound c a.arena (a.at + p.offset) p.width d.v d.reading d.reads)
-    (stay_puts c b.arena bound (b.at + p.offset) p.width d.v d.putting small i.fits (omega arith) d.puts))
+    (stay_puts c b.arena bound (b.at + p.offset) p.width d.v d.putting small is.at.within_target (omega arith) d.puts))
 
 module _ (c : Caller) (a b : Side) (bound count : ℕ) (way : Way) (h : b.at + count ≤ bound) where
   copy_end : (left : ℕ) (own : List Entry) (whole : Bool) → EndsCopy c a b count way left own whole → StayBelow b.arena bound own
@@ -209,7 +173,7 @@ module _ (c : Caller) (a b : Side) (bound count : ℕ) (way : Way) (h : b.at + c
   copy_run left own whole l (goes_on now mine rest s r) =
       let after = s.then in
       stay_append b.arena bound mine rest
-      (copied_stays c a b bound (next_piece way a b count left) count mine h (piece_inside way a b count left s.more l) s.piece)
+      (copied_stays c a b bound count left (next_piece way a b count left) mine h (next_piece_fits way a b count left s.more l) s.piece)
       (copy_run now rest whole (omega arith) r)
 
 copies_stay : (c : Caller) (a b : Side) (bound count : ℕ) (result : Result (Unit {0}) Refusal) (own : List Entry) → b.at + count ≤ bound
@@ -219,36 +183,29 @@ copies_stay c a b bound count (Err WrongThread) own h d = stay_none b.arena boun
 copies_stay c a b bound count (Err Closed) own h d = copy_run c a b bound count d.way h count own false (omega arith) d.visits
 copies_stay c a b bound count (Err e) own h d = absurd d
 
-target_on : (kept source target : Bool) (end size : ℕ) → nat_le end size ≡ target
-    → (if kept then Err ReadOnly else (if source && target then Ok tt else Err Bounds)) ≡ done → end ≤ size
-target_on true false target end size e h = absurd (let no : ⊥ = cc in no)
-target_on false false target end size e h = absurd (let no : ⊥ = cc in no)
-target_on kept true target end size e h = puts_end kept target end size e h
-
-copy_stays : (c : Caller) (src : Region) (src_at : ℕ) (r : Region) (dst_at n : ℕ) (checked : Result (Unit {0}) Refusal) (result : Result (Unit {0}) Refusal)
-    (own : List Entry)
-    → checked_copy src src_at r dst_at n ≡ checked
-    → DoesAfter checked (DoesCopy c (side src.arena (src.first + src_at)) (side r.arena (r.first + dst_at)) n) result own
-    → StayBelow r.arena (r.first + r.size) own
-copy_stays c src src_at r dst_at n (Err e) result own h d = stay_none r.arena (r.first + r.size) own d.1
-copy_stays c src src_at r dst_at n (Ok u) result own h d =
-    let within : dst_at + n ≤ r.size =
-    target_on (nat_lt 0 n && r.read_only) (nat_le (src_at + n) src.size) (nat_le (dst_at + n) r.size) (dst_at + n) r.size refl h in
-    copies_stay c (side src.arena (src.first + src_at)) (side r.arena (r.first + dst_at)) (r.first + r.size) n result own (omega arith) d
-
 -- ---- every access
 
 access_stays : (c : Caller) (r : Region) (own : List Entry) → DoesAccess c r own → StayBelow r.arena (r.first + r.size) own
 access_stays c r own (gets t place result d) = get_stays r.arena (r.first + r.size) c r.arena t place result own d
 access_stays c r own (sets t offset v result k d) =
-    set_stays c r.arena (r.first + r.size) t (writable_place_of offset t r) v result own (λ p h. value_ends offset t r p h) k d
+    set_stays c r.arena (r.first + r.size) t (writable_place_of offset t r) v result own (value_ends offset t r) k d
 access_stays c r own (sets_at_index t index v result k d) =
     set_stays c r.arena (r.first + r.size) t (writable_place_at_index index t r) v result own
-    (λ p h. value_ends (index * size_of t) t r p (element_on (nat_le (alignment_of t) (size_of t)) (writable_place_of (index * size_of t) t r) p h)) k d
-access_stays c r own (fills byte result b d) = fill_stays c r byte (checked_write r.size r) result own b d
-access_stays c r own (puts offset bytes result b d) =
-    put_bytes_stays c r offset bytes (checked_put r offset (length bytes)) result own refl b d
-access_stays c r own (copies src src_at dst_at n result d) = copy_stays c src src_at r dst_at n (checked_copy src src_at r dst_at n) result own refl d
+    (λ p h. value_ends (index * size_of t) t r p (supported_on (nat_le (alignment_of t) (size_of t)) (writable_place_of (index * size_of t) t r) p h).1) k d
+access_stays c r own (fills byte result b d) =
+    after_stays r.arena (r.first + r.size) (checked_write r.size r) _ result own (λ ok x. fill_stays c r byte result own b x) d
+access_stays c r own (puts offset bytes result are d) =
+    let fits = nat_le (offset + length bytes) r.size in
+    after_stays r.arena (r.first + r.size) (checked_put r offset (length bytes)) _ result own (λ ok x.
+    let within = leb-true (offset + length bytes) r.size (within_on fits (writable_on (nat_lt 0 (length bytes) && r.read_only) _ tt ok)) in
+    put_all_stays c r.arena (r.first + r.size) (r.first + offset) bytes result own are (omega arith) x) d
+access_stays c r own (copies src src_at dst_at n result d) =
+    let source = nat_le (src_at + n) src.size in
+    let target = nat_le (dst_at + n) r.size in
+    after_stays r.arena (r.first + r.size) (checked_copy src src_at r dst_at n) _ result own (λ ok x.
+    let fit = both_true source target (within_on (source && target) (writable_on (nat_lt 0 n && r.read_only) _ tt ok)) in
+    let within = leb-true (dst_at + n) r.size fit.1 in
+    copies_stay c (side src.arena (src.first + src_at)) (side r.arena (r.first + dst_at)) (r.first + r.size) n result own (omega arith) x) d
 access_stays c r own (compares other result d) = mismatch_stays r.arena (r.first + r.size) c r other result own d
 
 pub tidy : AccessesAreTidy

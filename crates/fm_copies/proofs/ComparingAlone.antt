@@ -1,5 +1,5 @@
 -- What the only caller finds by a comparison.
-use Rattle.std.proofs.Common.{◌≡◌, ℕ, ◌+◌, ◌-◌, ◌≤◌, List, ◌++◌, length, take, drop, sym, ap, subst, ◌∙◌, arith, Option, Some, None, Result, Ok, Err, IfOk}
+use Rattle.std.proofs.Common.{◌≡◌, ℕ, ◌+◌, ◌-◌, ◌≤◌, List, ◌++◌, length, take, drop, refl, sym, ap, ◌∙◌, arith, Option, Some, None, Result, Ok, Err, IfOk}
 use Rattle.std.specs.Prelude.{OnErr}
 use Rattle.std.proofs.lemmas.List.{drop-drop}
 use Rattle.fm_base.specs.declared.caller.Caller.{Caller}
@@ -11,7 +11,6 @@ use Rattle.fm_base.specs.Histories.{IsLegal, state_after}
 use Rattle.fm_base.specs.View.{View, Did, IsByItself}
 use Rattle.fm_base.specs.Visits.{Run, ends, goes_on}
 use Rattle.fm_base.proofs.Faith.{Makes-alone}
-use Rattle.fm_base.proofs.Making.{IsLegal-split, state_after-append}
 use Rattle.fm_bytes.specs.Bytes.{bytes_of}
 use Rattle.fm_bytes.proofs.Bytes.{length-bytes_of}
 use Rattle.fm_bytes.proofs.Words.{take-add}
@@ -25,7 +24,7 @@ use Rattle.fm_copies.specs.Comparisons.{IsDifference, ComparesPiece, AgreesOn, E
 use Rattle.fm_copies.specs.Alone.{first_difference, FindsDifference, StaysOutOf}
 use Rattle.fm_copies.proofs.Differences.{later, later-none, later-later, first_difference-append, differs_at}
 use Rattle.fm_copies.proofs.Fitting.{next_piece_fits}
-use Rattle.fm_copies.proofs.Refusing.{AreAlive, piece_refused, stays_out, stays_out_of_others}
+use Rattle.fm_copies.proofs.Refusing.{AreAlive, both_legal, piece_refused, stays_out, stays_out_of_others}
 
 -- the bytes of the side from this offset on
 abbrev bytes_from : State → Side → ℕ → List ℕ
@@ -49,22 +48,10 @@ piece_compared : (limit : ℕ) (c : Caller) (s : State) (a b : Side) (p : Piece)
 piece_compared limit c s a b p found own q fits legal =
     let at_a = a.at + p.offset in
     let at_b = b.at + p.offset in
-    let here = subst (λ (es : List Entry). IsLegal limit s es) q.visits legal in
-    let parts = IsLegal-split limit s q.first q.second here in
-    let one = visit_reads limit c s a.arena at_a p.width q.v q.first q.reads_first fits.within_source parts.0 in
-    let legal_second = subst (λ (t : State). IsLegal limit t q.second) one.same parts.1 in
-    let two = visit_reads limit c s b.arena at_b p.width q.w q.second q.reads_second fits.within_target legal_second in
-    record {
-      v = q.v;
-      w = q.w;
-      first = one.value;
-      second = two.value;
-      answer = q.answer;
-      same = ap (λ (es : List Entry). state_after limit s es) q.visits
-          ∙ state_after-append limit s q.first q.second
-          ∙ ap (λ (t : State). state_after limit t q.second) one.same
-          ∙ two.same;
-    }
+    let parts = both_legal limit s own q.first q.second q.visits legal in
+    let one = visit_reads limit c s a.arena at_a p.width q.v q.first q.reads_first fits.within_source parts.first in
+    let two = visit_reads limit c s b.arena at_b p.width q.w q.second q.reads_second fits.within_target (parts.rest one.same) in
+    record { v = q.v; w = q.w; first = one.value; second = two.value; answer = q.answer; same = parts.after one.same ∙ two.same }
 
 -- ---- all pieces
 
@@ -159,23 +146,23 @@ compare_run limit c a b count s left own answer h (ends e) legal = compare_ends 
 compare_run limit c a b count s left own answer h (goes_on next one rest step run) legal =
     let p = next_piece Up a b count left in
     let fits = next_piece_fits Up a b count left step.more h in
-    let parts = IsLegal-split limit s one rest legal in
-    let q = piece_compared limit c s a b p None one step.piece fits.at parts.0 in
-    let legal_rest = subst (λ (t : State). IsLegal limit t rest) q.same parts.1 in
+    let parts = both_legal limit s (one ++ rest) one rest refl legal in
+    let q = piece_compared limit c s a b p None one step.piece fits.at parts.first in
     let below : next ≤ count = (let e = step.then in omega arith) in
-    let more = compare_run limit c a b count s next rest answer below run legal_rest in
+    let more = compare_run limit c a b count s next rest answer below run (parts.rest q.same) in
     let second : bytes_of p.width q.v ≡ take p.width (bytes_from s b p.offset) = ap (bytes_of p.width) q.answer ∙ q.second in
     record {
       answers = answers_on s a b count left next p.width q.v answer fits.room h step.then q.first second more.answers;
-      same = state_after-append limit s one rest ∙ ap (λ (t : State). state_after limit t rest) q.same ∙ more.same;
+      same = parts.after q.same ∙ more.same;
     }
 
 -- ---- the call
 
--- A comparison that was answered found the first difference.
-compare_finds : (old new : View) (a b : Side) (count : ℕ) (found : Option ℕ) → IsByItself old → Did old new (DoesCompare old.caller a b count (Ok found))
-    → FindsDifference old new a b count found
-compare_finds old new a b count found alone d =
+-- The only caller finds the first difference.
+pub compare_alone : (old new : View) (a b : Side) (count : ℕ) (result : Result (Option ℕ) Refusal) → Did old new (DoesCompare old.caller a b count result)
+    → IsByItself old → IfOk result (λ found. FindsDifference old new a b count found)
+compare_alone old new a b count (Err r) d alone = tt
+compare_alone old new a b count (Ok found) d alone =
     let m = Makes-alone old new d.own alone d.makes in
     let all = compare_run old.limit old.caller a b count old.state count d.own (Some found) (let e : count ≤ count = omega arith in e) d.does.visits m.0 in
     let none : count - count ≡ 0 = omega arith in
@@ -189,12 +176,6 @@ compare_finds old new a b count found alone d =
           ∙ ap (λ bs. first_difference (take count (drop a.at (bytes_of_arena old.state a.arena))) (take count bs)) (from b);
       same = m.1 ∙ all.same;
     }
-
--- The only caller finds the first difference.
-pub compare_alone : (old new : View) (a b : Side) (count : ℕ) (result : Result (Option ℕ) Refusal) → Did old new (DoesCompare old.caller a b count result)
-    → IsByItself old → IfOk result (λ found. FindsDifference old new a b count found)
-compare_alone old new a b count (Ok found) d alone = compare_finds old new a b count found alone d
-compare_alone old new a b count (Err r) d alone = tt
 
 -- The only caller is refused where one of the arenas isn't open to it.
 pub compare_shut : (old new : View) (a b : Side) (count : ℕ) (result : Result (Option ℕ) Refusal) → Did old new (DoesCompare old.caller a b count result)

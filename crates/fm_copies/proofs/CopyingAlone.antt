@@ -29,7 +29,7 @@ use Rattle.fm_copies.specs.Sides.{IsWay, IsPieceAt, next_piece}
 use Rattle.fm_copies.specs.Copies.{CopiesPiece, CopiesOn, EndsCopy}
 use Rattle.fm_copies.proofs.Fitting.{next_piece_fits}
 use Rattle.fm_copies.proofs.Overlaps.{all_found, copied_up, copied_down, found_within}
-use Rattle.fm_copies.proofs.Refusing.{AreAlive, AreShut, piece_refused}
+use Rattle.fm_copies.proofs.Refusing.{AreAlive, AreShut, both_legal, piece_refused}
 
 -- ---- one piece
 
@@ -84,15 +84,10 @@ piece_copied : (limit : ℕ) (c : Caller) (s : State) (a b : Side) (p : Piece) (
     → IsCopied s (state_after limit s own) a b p
 piece_copied limit c s a b p own q fits legal =
     let from = a.at + p.offset in
-    let here = subst (λ (es : List Entry). IsLegal limit s es) q.visits legal in
-    let parts = IsLegal-split limit s q.reading q.putting here in
-    let read = visit_reads limit c s a.arena from p.width q.v q.reading q.reads fits.within_source parts.0 in
-    let alive = read_alive limit c s a.arena from p.width q.v q.reading q.reads parts.0 in
-    let legal_put = subst (λ (t : State). IsLegal limit t q.putting) read.same parts.1 in
-    let after : state_after limit s own ≡ state_after limit s q.putting =
-    ap (λ (es : List Entry). state_after limit s es) q.visits ∙ state_after-append limit s q.reading q.putting
-    ∙ ap (λ (t : State). state_after limit t q.putting) read.same in
-    subst (λ (t : State). IsCopied s t a b p) (sym after) (piece_put limit c s a b p own q fits alive read.value legal_put)
+    let parts = both_legal limit s own q.reading q.putting q.visits legal in
+    let read = visit_reads limit c s a.arena from p.width q.v q.reading q.reads fits.within_source parts.first in
+    let alive = read_alive limit c s a.arena from p.width q.v q.reading q.reads parts.first in
+    subst (λ (t : State). IsCopied s t a b p) (sym (parts.after read.same)) (piece_put limit c s a b p own q fits alive read.value (parts.rest read.same))
 
 SameLife : Arena → Arena → Type 0
 SameLife x y = y.life ≡ x.life
@@ -206,13 +201,8 @@ leaves_on Up s t u a b count left next way some h e q more =
     let e_from : a.at + (count - next) ≡ a.at + (count - left) + w = omega arith in
     let sum : w + next ≡ left = omega arith in
     let behind = stays_behind s t a b (next_piece Up a b count left) next way q in
-    let rest : length (take next (drop (a.at + (count - left) + w) (bytes_of_arena s a.arena))) ≡ next =
-    ap (λ (bs : List ℕ). length bs) (sym behind) ∙ ap (λ n. length (take next (drop n (bytes_of_arena t a.arena)))) (sym e_from) ∙ more.all in
-    let last : bytes_in more.puts.words ≡ with_bytes (bytes_of_arena t b.arena) (b.at + (count - left) + w)
-    (take next (drop (a.at + (count - left) + w) (bytes_of_arena t a.arena))) =
-    more.puts.bytes
-    ∙ ap (λ n. with_bytes (bytes_of_arena t b.arena) n (take next (drop (a.at + (count - next)) (bytes_of_arena t a.arena)))) e_to
-    ∙ ap (λ n. with_bytes (bytes_of_arena t b.arena) (to + w) (take next (drop n (bytes_of_arena t a.arena)))) e_from in
+    let rest = rw (e_from, behind) at more.all in
+    let last = rw (e_to, e_from) at more.puts.bytes in
     let room_to : b.at + (count - left) ≤ length (bytes_of_arena s b.arena) = (let k = q.within in omega arith) in
     let all = copied_up S (bytes_of_arena t a.arena) (bytes_of_arena s b.arena) (bytes_of_arena t b.arena) (bytes_in more.puts.words) from to w next
     room_to q.count q.bytes behind last in
@@ -230,11 +220,8 @@ leaves_on Down s t u a b count left next way some h e q more =
     let fits = next_piece_fits Down a b count left some h in
     let room : w ≤ left = fits.room in
     let sum : next + w ≡ left = omega arith in
-    let P : ℕ → Type 0 = λ n. bytes_of_arena t b.arena ≡ with_bytes (bytes_of_arena s b.arena) (b.at + n)
-    (take w (drop (a.at + n) (bytes_of_arena s a.arena))) in
-    let R : ℕ → Type 0 = λ n. length (take w (drop (a.at + n) (bytes_of_arena s a.arena))) ≡ w in
-    let first : P next = subst P (sym e) q.bytes in
-    let wide : R next = subst R (sym e) q.count in
+    let first = rw (← e) at q.bytes in
+    let wide = rw (← e) at q.count in
     let stays = stays_below s t a b (next_piece Down a b count left) next way (omega arith) q in
     let within : b.at + next + w ≤ length (bytes_of_arena s b.arena) = (let k = q.within in omega arith) in
     let source : next ≤ length (drop a.at (bytes_of_arena s a.arena)) = (let k = q.room in omega (arith, length-drop a.at (bytes_of_arena s a.arena))) in

@@ -10,16 +10,16 @@ use Rattle.fm_base.specs.Outcomes.{Lasts}
 use Rattle.fm_base.specs.View.{View, Did, inside_after}
 use Rattle.fm_base.specs.Visits.{refused_visit, Run, ends, goes_on}
 use Rattle.fm_base.proofs.Making.{inside_after-append}
-use Rattle.fm_base.proofs.Outcomes.{Did-lasts}
-use Rattle.fm_base.proofs.Running.{visit_ends_outside, run_outside, stays_outside}
+use Rattle.fm_base.proofs.Running.{visit_ends_outside, run_outside}
 use Rattle.fm_access.specs.Pieces.{ReadsPiece}
+use Rattle.fm_access.proofs.Learning.{after_did}
 use Rattle.fm_access.proofs.Learnt.{trivial_kind}
 use Rattle.fm_access.proofs.Outside.{EndsOutside}
 use Rattle.fm_copies.specs.declared.side.Piece.{Piece}
 use Rattle.fm_copies.specs.declared.side.Side.{Side}
 use Rattle.fm_copies.specs.declared.side.Way.{Way}
 use Rattle.fm_copies.specs.declared.side.Way.TheVariants.{Up}
-use Rattle.fm_copies.specs.Comparisons.{AgreesOn, EndsComparing, DoesCompare}
+use Rattle.fm_copies.specs.Comparisons.{ComparesPiece, AgreesOn, EndsComparing, DoesCompare}
 use Rattle.fm_copies.specs.Copies.{CopiesOn, EndsCopy, DoesCopy}
 use Rattle.fm_copies.specs.Learnt.{CanTouchBoth, KnowsBoth, BothCause, AfterCopy, AfterCompare}
 use Rattle.fm_copies.specs.Sides.{StopsAt, first, second, next_piece}
@@ -34,7 +34,19 @@ read_outside c id place width v own r = ap (inside_after None) r.visits ∙ visi
 both_outside : (own one two : List Entry) → own ≡ one ++ two → EndsOutside one → EndsOutside two → EndsOutside own
 both_outside own one two e f s = ap (inside_after None) e ∙ inside_after-append None one two ∙ ap (λ i. inside_after i two) f ∙ s
 
+-- A run that was refused at a piece had a byte to go.
+run_some : {Y : Type 0} {Step : ℕ → List Entry → ℕ → Type 0} {Ends : ℕ → List Entry → Y → Type 0} {left : ℕ} {own : List Entry} {answer : Y}
+    → ((left : ℕ) (own : List Entry) (then : ℕ) → Step left own then → 0 < left) → ((left : ℕ) (own : List Entry) → Ends left own answer → 0 < left)
+    → Run Step Ends left own answer → 0 < left
+run_some {left = left} {own = own} steps last (ends e) = last left own e
+run_some {left = left} steps last (goes_on then one rest s r) = steps left one then s
+
 module _ (c : Caller) (a b : Side) (count : ℕ) where
+  compared_outside : (p : Piece) (found : Option ℕ) (own : List Entry) → ComparesPiece c a b p found own → EndsOutside own
+  compared_outside p found own d =
+      both_outside own d.first d.second d.visits (read_outside c a.arena (a.at + p.offset) p.width d.v d.first d.reads_first)
+      (read_outside c b.arena (b.at + p.offset) p.width d.w d.second d.reads_second)
+
   stops_outside : (p : Piece) (own : List Entry) → StopsAt c a b p own → EndsOutside own
   stops_outside p own first = refl
   stops_outside p own (second v one r) =
@@ -61,20 +73,14 @@ module _ (c : Caller) (a b : Side) (count : ℕ) where
 
   compare_ends_outside : (left : ℕ) (own : List Entry) (answer : Option (Option ℕ)) → EndsComparing c a b count left own answer → EndsOutside own
   compare_ends_outside left own (Some None) e = ap (inside_after None) e.1
-  compare_ends_outside left own (Some (Some offset)) e =
-      let p = next_piece Up a b count left in
-      let one = e.piece in
-      both_outside own one.first one.second one.visits (read_outside c a.arena (a.at + p.offset) p.width one.v one.first one.reads_first)
-      (read_outside c b.arena (b.at + p.offset) p.width one.w one.second one.reads_second)
+  compare_ends_outside left own (Some (Some offset)) e = compared_outside (next_piece Up a b count left) (Some e.at) own e.piece
   compare_ends_outside left own None e = stops_outside (next_piece Up a b count left) own e.1
 
   compare_run_outside : (left : ℕ) (own : List Entry) (answer : Option (Option ℕ)) → Run (AgreesOn c a b count) (EndsComparing c a b count) left own answer
       → EndsOutside own
   compare_run_outside left own answer run =
       run_outside (AgreesOn c a b count) (EndsComparing c a b count)
-      (λ x es y s. let p = next_piece Up a b count x in let one = s.piece in
-      both_outside es one.first one.second one.visits (read_outside c a.arena (a.at + p.offset) p.width one.v one.first one.reads_first)
-      (read_outside c b.arena (b.at + p.offset) p.width one.w one.second one.reads_second))
+      (λ x es y s. compared_outside (next_piece Up a b count x) None es s.piece)
       compare_ends_outside left own answer run
 
   compare_outside : (result : Result (Option ℕ) Refusal) (own : List Entry) → DoesCompare c a b count result own → EndsOutside own
@@ -85,28 +91,16 @@ module _ (c : Caller) (a b : Side) (count : ℕ) where
 
   -- ---- a refusal has its cause, and an offset that is found is one of the bytes
 
-  copy_some : (way : Way) (left : ℕ) (own : List Entry) (whole : Bool) → Run (CopiesOn c a b count way) (EndsCopy c a b count way) left own whole
-      → whole ≡ false → 0 < left
-  copy_some way left own true (ends e) f = absurd (let no : ⊥ = cc in no)
-  copy_some way left own false (ends e) f = e.0
-  copy_some way left own whole (goes_on next one rest step run) f = step.more
-
   copy_cause : (result : Result (Unit {0}) Refusal) (own : List Entry) → DoesCopy c a b count result own → IfErr result (BothCause a b count c)
   copy_cause (Ok u) own d = tt
   copy_cause (Err WrongThread) own d = d.0
-  copy_cause (Err Closed) own d = let some = copy_some d.way count own false d.visits refl in (some, d.may_use some)
+  copy_cause (Err Closed) own d = let some = run_some (λ l es k s. s.more) (λ l es e. e.0) d.visits in (some, d.may_use some)
   copy_cause (Err r) own d = absurd d
-
-  compare_some : (left : ℕ) (own : List Entry) (answer : Option (Option ℕ)) → Run (AgreesOn c a b count) (EndsComparing c a b count) left own answer
-      → answer ≡ None → 0 < left
-  compare_some left own None (ends e) f = e.0
-  compare_some left own (Some found) (ends e) f = absurd (let no : ⊥ = cc in no)
-  compare_some left own answer (goes_on next one rest step run) f = step.more
 
   compare_cause : (result : Result (Option ℕ) Refusal) (own : List Entry) → DoesCompare c a b count result own → IfErr result (BothCause a b count c)
   compare_cause (Ok found) own d = tt
   compare_cause (Err WrongThread) own d = d.0
-  compare_cause (Err Closed) own d = let some = compare_some count own None d.visits refl in (some, d.may_use some)
+  compare_cause (Err Closed) own d = let some = run_some (λ l es k s. s.more) (λ l es e. e.0) d.visits in (some, d.may_use some)
   compare_cause (Err r) own d = absurd d
 
   -- what an answer of a comparison says of the bytes
@@ -146,30 +140,13 @@ know_both {a = a} {b = b} can lasts = record { first = lasts.known a.arena can.f
 pub after_copy : {old new : View} {a b : Side} {count : ℕ} {result : Result (Unit {0}) Refusal} → CanTouchBoth old a b count
     → Did old new (DoesCopy old.caller a b count result) → AfterCopy old new a b count result
 after_copy {old} {new} {a} {b} {count} {result} can d =
-    let lasts = Did-lasts old new _ d in
-    record {
-      did = d;
-      refused = copy_cause old.caller a b count result d.own d.does;
-      alone = copy_alone old new a b count result can.second_known d;
-      shut = copy_shut old new a b count result d;
-      outside = stays_outside old new (DoesCopy old.caller a b count result) (copy_outside old.caller a b count result) can.outside d;
-      lasts = lasts;
-      known = know_both can lasts;
-      kind = trivial_kind result;
-    }
+    after_did can.outside d (copy_cause old.caller a b count result d.own d.does) (copy_outside old.caller a b count result d.own d.does)
+    (copy_alone old new a b count result can.second_known d) (copy_shut old new a b count result d) (know_both can) (trivial_kind result)
 
 -- Of a comparison.
 pub after_compare : {old new : View} {a b : Side} {count : ℕ} {result : Result (Option ℕ) Refusal} → CanTouchBoth old a b count
     → Did old new (DoesCompare old.caller a b count result) → AfterCompare old new a b count result
 after_compare {old} {new} {a} {b} {count} {result} can d =
-    let lasts = Did-lasts old new _ d in
-    record {
-      did = d;
-      refused = compare_cause old.caller a b count result d.own d.does;
-      alone = compare_alone old new a b count result d;
-      shut = compare_shut old new a b count result d;
-      outside = stays_outside old new (DoesCompare old.caller a b count result) (compare_outside old.caller a b count result) can.outside d;
-      lasts = lasts;
-      known = know_both can lasts;
-      kind = compare_within old.caller a b count result d.own d.does;
-    }
+    after_did can.outside d (compare_cause old.caller a b count result d.own d.does) (compare_outside old.caller a b count result d.own d.does)
+    (compare_alone old new a b count result d) (compare_shut old new a b count result d) (know_both can)
+    (compare_within old.caller a b count result d.own d.does)

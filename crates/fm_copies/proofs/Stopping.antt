@@ -23,16 +23,16 @@ pub record Stopped (x y : View) (a b : Side) (p : Piece) (r : Refusal) : Type 0 
   pub makes : Makes x y own
 
 -- The first visit was refused.
-pub stopped_first : (x y : View) (a b : Side) (p : Piece) (r : Refusal) → MayUse a.arena x.caller → Did x y (DoesEnter x.caller a.arena (Err r))
+pub stopped_first : {x y : View} {a b : Side} {p : Piece} (r : Refusal) → MayUse a.arena x.caller → Did x y (DoesEnter x.caller a.arena (Err r))
     → Stopped x y a b p r
-stopped_first x y a b p r may d =
+stopped_first {x} {y} {a} r may d =
     let m = refused_makes x y a.arena r may d in
     record { closed = m.0; own = refused_visit x.caller a.arena; stops = first; makes = m.1 }
 
 -- The second visit was refused, after the first side's bytes were read.
-pub stopped_second : (x y z : View) (a b : Side) (p : Piece) (v : ℕ) (r : Refusal) → MayUse b.arena x.caller
+pub stopped_second : {x y z : View} {a b : Side} {p : Piece} (v : ℕ) (r : Refusal) → MayUse b.arena x.caller
     → Did x y (DoesGetPiece x.caller a.arena (a.at + p.offset) p.width (Ok v)) → Did y z (DoesEnter y.caller b.arena (Err r)) → Stopped x z a b p r
-stopped_second x y z a b p v r may d e =
+stopped_second {x} {y} {z} {b = b} v r may d e =
     let same = d.makes.same_caller in
     let m = refused_makes y z b.arena r (subst (λ (c : Caller). MayUse b.arena c) (sym same) may) e in
     let last : Makes y z (refused_visit x.caller b.arena) = subst (λ (c : Caller). Makes y z (refused_visit c b.arena)) same m.1 in
@@ -42,3 +42,7 @@ stopped_second x y z a b p v r may d e =
       stops = second v d.own d.does.1;
       makes = Makes-then x y z d.own (refused_visit x.caller b.arena) d.makes last;
     }
+
+-- A piece that was refused, of a caller and a piece named otherwise.
+pub stops_same : {c k : Caller} {p q : Piece} {own : List Entry} (a b : Side) → k ≡ c → q ≡ p → StopsAt k a b q own → StopsAt c a b p own
+stops_same {c} {k} {p} {q} {own} a b e f s = subst (λ (x : Piece). StopsAt c a b x own) f (subst (λ (x : Caller). StopsAt x a b q own) e s)

@@ -9,6 +9,7 @@ use fm_base::{ArenaId, Memory, Refusal};
 use std::sync::Wait;
 
 /// Reads a piece of the source, and then puts it.
+#[tactic(auto, using(fm_access::proofs::Touching::touch_again))]
 fn copy_piece<R: Wait, M: Memory>(
     rt: &R,
     m: &mut M,
@@ -29,6 +30,7 @@ fn copy_piece<R: Wait, M: Memory>(
 /// The lowest piece comes first, but inside one arena to a higher place the highest. In a piece the source is entered
 /// first. Refused, in this order: `WrongThread`, `Closed`. Where a later piece is refused, the pieces before it stay
 /// done. A call over 0 bytes makes no access.
+#[tactic(auto, using(crate::proofs::Touching::way_starts, crate::proofs::Copying::copy_goes_on))]
 pub fn copy_range<R: Wait, M: Memory>(
     rt: &R,
     m: &mut M,

@@ -10,6 +10,7 @@ use fm_base::{ArenaId, Memory, Refusal};
 use fm_lanes::read;
 
 /// The lowest byte in which two numbers of `width` bytes differ.
+#[tactic(auto, using(crate::proofs::Differing::none_differs, crate::proofs::Differing::one_more_agrees))]
 fn first_difference(v: u64, w: u64, width: u32) -> Option<u32>
     requires width { width ≤ 8 }
     requires first { v < 2 ^ (8 * width) }
@@ -28,6 +29,7 @@ fn first_difference(v: u64, w: u64, width: u32) -> Option<u32>
 }
 
 /// Reads a piece of both sides, and answers its first byte that differs.
+#[tactic(auto, using(fm_access::proofs::Touching::touch_again))]
 fn compare_piece<M: Memory>(
     m: &mut M,
     first: Side,
@@ -47,6 +49,7 @@ fn compare_piece<M: Memory>(
 ///
 /// The lowest piece comes first, and none after the first that differs. In a piece `a` is entered first. Refused, in
 /// this order: `WrongThread`, `Closed`. A call over 0 bytes makes no access.
+#[tactic(auto, using(crate::proofs::Touching::way_starts))]
 pub fn mismatch_range<M: Memory>(
     m: &mut M,
     a: ArenaId,

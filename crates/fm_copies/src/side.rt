@@ -52,11 +52,7 @@ pub fn way_of(from: Side, to: Side) -> Way
 fn first_width(source: u64, target: u64, left: u64) -> u32
     requires some { 1 ≤ left }
     requires small { source + left ≤ 2 ^ 40 }
-    ensures value { result ≡ visits.first_width source target left }
-    ensures some { 1 ≤ result }
-    ensures within_source { source % 8 + result ≤ 8 }
-    ensures within_target { target % 8 + result ≤ 8 }
-    ensures left { result ≤ left }
+    ensures { result ≡ visits.first_width source target left }
 {
     piece_width(source, source + left).min((8 - target % 8) as u32)
 }
@@ -66,9 +62,7 @@ fn last_width(source: u64, target: u64, left: u64) -> u32
     requires some { 1 ≤ left }
     requires source { source + left ≤ 2 ^ 40 }
     requires target { target + left ≤ 2 ^ 40 }
-    ensures value { result ≡ visits.last_width source target left }
-    ensures some { 1 ≤ result }
-    ensures left { result ≤ left }
+    ensures { result ≡ visits.last_width source target left }
 {
     left.min((source + left - 1) % 8 + 1)
         .min((target + left - 1) % 8 + 1) as u32

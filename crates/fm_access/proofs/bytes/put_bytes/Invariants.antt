@@ -1,9 +1,10 @@
-use Rattle.std.proofs.Common.{length, ◌-◌}
-use Rattle.fm_access.proofs.Putting.{IsPuttingMore}
+use Rattle.std.proofs.Common.{◌-◌}
+use Rattle.fm_access.specs.Runs.{PutsMore}
+use Rattle.fm_access.proofs.Putting.{IsPutting}
 use Rattle.fm_access.proofs.bytes.put_bytes.Given as goal
 
-abbrev pub invariant-loop-put : goal.invariant-loop-put
-invariant-loop-put g l = IsPuttingMore (g.M.Memory.view l.fn.m) (g.M.Memory.view l.m) l.arena l.place l.bytes l.put
+abbrev pub invariant-loop-at : goal.invariant-loop-at
+invariant-loop-at g l = IsPutting PutsMore (g.M.Memory.view l.fn.m) (g.M.Memory.view l.m) l.arena l.place l.end l.bytes l.at
 
-abbrev pub decreases-loop-put : goal.decreases-loop-put
-decreases-loop-put g l = length l.bytes - l.put
+abbrev pub decreases-loop-at : goal.decreases-loop-at
+decreases-loop-at g l = l.end - l.at

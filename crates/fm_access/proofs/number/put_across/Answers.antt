@@ -1,12 +1,23 @@
-use Rattle.std.proofs.Common.{List, subst, ℕ}
-use Rattle.fm_base.specs.View.{Did}
-use Rattle.fm_access.proofs.Numbers.{low_bytes}
-use Rattle.fm_access.specs.Ranges.{DoesPut}
+use Rattle.std.proofs.Common.{◌+◌, ◌≤◌, arith}
+use Rattle.std.proofs.lemmas.Result.{err_from_is_err_and}
+use Rattle.fm_bytes.proofs.Bytes.{length-bytes_of}
+use Rattle.fm_access.proofs.Putting.{put_lasts, put_refused, puts_all}
+use Rattle.fm_access.proofs.Touching.{can_touch}
 use Rattle.fm_access.proofs.number.put_across.Goals as goal
+
+pub put_piece-requires-clause-piece : goal.put_piece-requires-clause-piece
+put_piece-requires-clause-piece g c =
+    let i = c.loop-at.invariant in
+    let p = c.piece_width-piece.ensures in
+    let below : c.loop-at.at + c.piece_width-piece.result ≤ c.args.place + c.args.width = (let e = c.from.ensures in let b = p.before_end in omega arith) in
+    can_touch c.loop-at.at c.piece_width-piece.result c.requires.known c.requires.given (put_lasts i) i.outside p.some p.within below
+
+pub returns-in_err-put_piece : goal.returns-in_err-put_piece
+returns-in_err-put_piece g c =
+    let p = err_from_is_err_and c.from_residual.result c.from_residual.ensures.1 in
+    rw (p.1, p.2) (put_refused c.loop-at.invariant c.in_err-put_piece.field-0.0 c.loop-at-test.true c.in_err-put_piece.ensures.did)
 
 pub returns : goal.returns
 returns g c =
-    let v = g.M.Memory.view in
-    let same = low_bytes c.args.number c.args.width c.to_le_bytes.result c.to_le_bytes.ensures c.ranges.number.fits c.requires.few in
-    subst (λ (bytes : List ℕ). Did (v c.args.m.now) (v c.put_pieces.new.m) (DoesPut (v c.args.m.now).caller c.args.arena c.args.place bytes
-    c.put_pieces.result)) same c.put_pieces.ensures
+    puts_all c.loop-at.invariant (let f = c.loop-at-test.false in omega arith)
+    (let s = c.requires.some in omega (arith, length-bytes_of c.args.width c.args.number))

@@ -6,11 +6,10 @@ use Rattle.fm_access.proofs.number.put_number.Goals as goal
 
 pub returns-then-place-from-le8 : goal.returns-then-place-from-le8
 returns-then-place-from-le8 g c =
-    let v = g.M.Memory.view in
     let fits : c.args.place % 8 + c.args.width ≤ 8 = (let t = c.if-place-from-le8.true in let e = c.from.ensures in omega arith) in
     after_put c.requires.outside c.requires.known (AreBytes-bytes_of c.args.width c.args.number)
-    (put_one (v c.args.m.now) (v c.put_piece.new.m) c.args.arena c.args.place c.args.width c.args.number c.read.result c.put_piece.result c.requires.some fits
-    c.read.ensures c.put_piece.ensures.did)
+    (put_one c.args.arena c.args.place c.args.width c.args.number c.read.result c.put_piece.result c.requires.some fits c.read.ensures c.requires.outside
+    c.put_piece.ensures.outside c.put_piece.ensures.did)
 
 pub returns-else-place-from-le8 : goal.returns-else-place-from-le8
 returns-else-place-from-le8 g c = after_put c.requires.outside c.requires.known (AreBytes-bytes_of c.args.width c.args.number) c.put_across.ensures

@@ -1,19 +1,15 @@
-use Rattle.std.proofs.Common.{◌/◌, [], ◌∷◌, refl}
+use Rattle.std.proofs.Common.{◌/◌, [], ◌∷◌, refl, ◌∙◌}
 use Rattle.fm_base.specs.Calls.{Read, Found}
-use Rattle.fm_base.specs.Visits.{visit}
-use Rattle.fm_base.proofs.Visiting.{entered_makes, visit_of_one}
-use Rattle.fm_access.proofs.Touching.{visited}
+use Rattle.fm_base.proofs.Visiting.{act_makes}
+use Rattle.fm_access.proofs.Touching.{visited_inside}
 use Rattle.fm_access.proofs.piece.get_piece.Goals as goal
 
 pub returns : goal.returns
 returns g c =
     let v = g.M.Memory.view in
-    let id = c.args.arena in
-    let word = c.args.place / 8 in
-    let e = entered_makes (v c.args.m.now) (v c.enter.new.self) id c.in_ok-enter.field-0 c.in_ok-enter.ensures.did in
-    visited (record {
-      own = visit (v c.args.m.now).caller id ((Read id word, Found c.load-word.result) ∷ []);
-      does = (e.0, record { word = c.load-word.result; visits = refl; value = c.read.ensures });
-      makes = visit_of_one (v c.args.m.now) (v c.enter.new.self) (v c.load-word.new.self) (v c.leave.new.self) id (λ a. Read a word) (Found c.load-word.result)
-          refl e.1 c.load-word.ensures.did c.leave.ensures.did;
-    }) c.leave.ensures.outside
+    let e = c.in_ok-enter.ensures in
+    let word = c.load-word.result in
+    let made = act_makes (v c.enter.new.self) (v c.load-word.new.self) c.args.arena (v c.enter.new.self).caller (λ a. Read a (c.args.place / 8)) (Found word)
+    e.inside refl c.load-word.ensures.did in
+    visited_inside ((Read c.args.arena (c.args.place / 8), Found word) ∷ []) e.did (c.load-word.ensures.inside ∙ e.inside) made c.leave.ensures
+    (λ may. (may, record { word = word; visits = refl; value = c.read.ensures }))

@@ -1,21 +1,40 @@
-use Rattle.std.proofs.Common.{◌*◌, drop, ap, ◌∙◌, arith}
-use Rattle.std.proofs.lemmas.List.{take_rest}
-use Rattle.byteorder.specs.Endian.{little_number}
-use Rattle.fm_lanes.proofs.Reading.{little_number-number_of}
-use Rattle.fm_access.proofs.Storing.{store_starts, store_reaches, store_more}
+use Rattle.std.proofs.Common.{arith, sym, subst, length, drop, ◌+◌, ◌*◌, ◌≤◌, ◌≡◌, ap, ◌∙◌}
+use Rattle.std.proofs.lemmas.List.{length-take}
+use Rattle.fm_base.specs.Does.{CanReachAll}
+use Rattle.fm_base.proofs.Storing.{IsStoring, store_starts, stores_reach, stores_more, stored}
+use Rattle.fm_bytes.specs.Words.{words_from}
+use Rattle.fm_bytes.proofs.Words.{length-words_from, words_from-append}
+use Rattle.fm_access.proofs.Reading.{words_read}
 use Rattle.fm_access.proofs.words.store_words.Goals as goal
 
 pub loop-k-init : goal.loop-k-init
-loop-k-init g c = store_starts c.args.first c.args.bytes.now c.requires.inside
+unfolding words_from
+loop-k-init g c = (store_starts c.args.first c.args.count c.requires.reach, omega arith)
 
-pub overflow_add-first : goal.overflow_add-first
-overflow_add-first g c = let below = c.loop-k-test.true in let small = c.requires.small in omega arith
-
-pub store-requires : goal.store-requires
-store-requires g c = store_reaches c.loop-k.invariant c.args.count c.requires.given c.loop-k-test.true
+pub store_words-requires : goal.store_words-requires
+store_words-requires g c =
+    let bytes = c.args.bytes.now in
+    let k = c.loop-k.k in
+    let n = c.min-more.result in
+    let least = c.min-more.ensures in
+    let within : k + n ≤ c.args.count = omega arith in
+    let size : length c.read_u64_into.new.dst ≡ n = (let d = c.read_u64_into.auto.dst in omega (arith, length-take n c.loop-k.words)) in
+    let read = words_read bytes c.read_u64_into.new.dst c.loop-k.words k n size (let whole = c.requires.whole in omega arith) c.read_u64_into.ensures in
+    rw (read, length-words_from n (drop (8 * k) bytes))
+    (stores_reach c.loop-k.invariant.0 k (length-words_from k bytes) c.args.count n c.requires.reach within)
 
 pub loop-k-preserved : goal.loop-k-preserved
 loop-k-preserved g c =
-    let rest = drop (8 * c.loop-k.k) c.args.bytes.now in
-    store_more c.loop-k.invariant (g.M.Memory.view c.store.new.self) c.read_u64.result
-    (c.read_u64.ensures ∙ ap (little_number 8) (take_rest c.args.bytes.now (8 * c.loop-k.k)) ∙ little_number-number_of 8 rest) c.store.ensures
+    let v = g.M.Memory.view in
+    let bytes = c.args.bytes.now in
+    let k = c.loop-k.k in
+    let n = c.min-more.result in
+    let least = c.min-more.ensures in
+    let within : k + n ≤ c.args.count = omega arith in
+    let size : length c.read_u64_into.new.dst ≡ n = (let d = c.read_u64_into.auto.dst in omega (arith, length-take n c.loop-k.words)) in
+    let read = words_read bytes c.read_u64_into.new.dst c.loop-k.words k n size (let whole = c.requires.whole in omega arith) c.read_u64_into.ensures in (
+      subst (λ ws. IsStoring (v c.args.m.now) (v c.store_words.new.self) c.args.first ws) (sym (words_from-append k n bytes))
+          (stores_more c.loop-k.invariant.0 k (length-words_from k bytes) (v c.store_words.new.self) (words_from n (drop (8 * k) bytes))
+          (rw read at c.store_words.ensures)),
+      within,
+    )

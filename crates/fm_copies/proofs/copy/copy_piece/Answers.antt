@@ -1,22 +1,15 @@
 use Rattle.std.proofs.lemmas.Result.{err_from_is_err_and}
-use Rattle.fm_access.proofs.Touching.{touch_again, visited}
+use Rattle.fm_access.proofs.Touching.{visited}
 use Rattle.fm_copies.proofs.Copying.{not_copied, put_then}
 use Rattle.fm_copies.proofs.Stopping.{stopped_first}
 use Rattle.fm_copies.proofs.copy.copy_piece.Goals as goal
 
-pub put_piece-requires-clause-piece : goal.put_piece-requires-clause-piece
-put_piece-requires-clause-piece g c = touch_again c.requires.second c.get_piece.ensures
-
 pub returns-in_err-v : goal.returns-in_err-v
 returns-in_err-v g c =
-    let v = g.M.Memory.view in
     let p = err_from_is_err_and c.from_residual.result c.from_residual.ensures.1 in
-    rw (p.1, p.2) (visited (not_copied (v c.args.m.now) (v c.get_piece.new.m) c.args.from c.args.to c.args.piece c.in_err-v.field-0.0
-    (stopped_first (v c.args.m.now) (v c.get_piece.new.m) c.args.from c.args.to c.args.piece c.in_err-v.field-0.0 c.requires.may_use.0 c.in_err-v.ensures.did))
-    c.get_piece.ensures.outside)
+    rw (p.1, p.2) (visited (not_copied (stopped_first c.in_err-v.field-0.0 c.requires.may_use.0 c.in_err-v.ensures.did)) c.get_piece.ensures.outside)
 
 pub returns : goal.returns
 returns g c =
-    let v = g.M.Memory.view in
-    visited (put_then (v c.args.m.now) (v c.get_piece.new.m) (v c.put_piece.new.m) c.args.from c.args.to c.args.piece c.in_ok-v.v c.put_piece.result
-    c.requires.may_use.1 c.in_ok-v.ensures.did c.put_piece.ensures.did) c.put_piece.ensures.outside
+    visited (put_then c.args.from c.args.to c.args.piece c.in_ok-v.v c.put_piece.result c.requires.may_use.1 c.in_ok-v.ensures.did c.put_piece.ensures.did)
+    c.put_piece.ensures.outside

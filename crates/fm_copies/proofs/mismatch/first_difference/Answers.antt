@@ -1,13 +1,7 @@
 use Rattle.std.proofs.Common.{◌≡◌, ℕ, arith, subst}
 use Rattle.fm_bytes.specs.Bytes.{bytes_of}
-use Rattle.fm_copies.proofs.Differing.{none_differs, one_more_agrees, all_agree}
+use Rattle.fm_copies.proofs.Differing.{all_agree}
 use Rattle.fm_copies.proofs.mismatch.first_difference.Goals as goal
-
-pub loop-i-init : goal.loop-i-init
-loop-i-init c = none_differs c.args.v c.args.w
-
-pub loop-i-preserved : goal.loop-i-preserved
-loop-i-preserved c = one_more_agrees c.args.v c.args.w c.loop-i.i c.loop-i.invariant (let f = c.if-read.false in cc (c.read.ensures, c.read-in-loop-i.ensures))
 
 pub returns : goal.returns
 returns c =

@@ -1,12 +1,8 @@
-use Rattle.fm_copies.proofs.Comparing.{GoingCompare}
-use Rattle.fm_copies.proofs.Touching.{IsUnderWay}
+use Rattle.fm_copies.proofs.Comparing.{IsComparing}
 use Rattle.fm_copies.proofs.mismatch.mismatch_range.Given as goal
 
 abbrev pub invariant-loop-left : goal.invariant-loop-left
-invariant-loop-left g l =
-    let old = g.M.Memory.view l.fn.m in
-    let now = g.M.Memory.view l.m in
-    IsUnderWay now l.n l.left (GoingCompare old now l.first l.second l.n l.left)
+invariant-loop-left g l = IsComparing (g.M.Memory.view l.fn.m) (g.M.Memory.view l.m) l.first l.second l.n l.left
 
 abbrev pub decreases-loop-left : goal.decreases-loop-left
 decreases-loop-left g l = l.left
