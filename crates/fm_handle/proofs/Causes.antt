@@ -10,11 +10,10 @@ use Rattle.fm_path.specs.Resolution.{Resolution}
 use Rattle.fm_path_meaning.specs.declared.dim.Dim.{Dim}
 use Rattle.fm_path_meaning.specs.Found.{IsFirstOut}
 use Rattle.fm_path_meaning.specs.Walk.{AreAdmitted}
-use Rattle.fm_access.specs.Found.{WriteCause}
 use Rattle.fm_access.proofs.Causes.{Causes, place_causes, placed_causes, placed_ok, write_causes, support_causes, tested_causes}
 use Rattle.fm_segment.specs.Region.{Region}
 use Rattle.fm_handle.specs.Causes.{RootFits, RootIsAligned, RootCause, IndexCause, GetCause, SetCause, UpdateCause}
-use Rattle.fm_handle.specs.Place.{if_admitted, if_writable, if_rooted, value_place, place_of, writable_place_of, update_place_of}
+use Rattle.fm_handle.specs.Place.{if_admitted, if_rooted, value_place, place_of, writable_place_of, update_place_of}
 
 -- ---- the root
 
@@ -58,26 +57,20 @@ index_causes : (ds : List Dim) (is : List ℕ) (found : Result ℕ Refusal) (id 
     → ((k : ℕ) → Cause (IndexOut k) → ⊥) → length is ≡ length ds
     → Causes found id c Cause → Causes (if_admitted 0 ds is found) id c (IndexCause ds is Cause)
 index_causes ds is found id c Cause none len h = elim (tested 0 ds is found len) [
-  | inl all ↦ tested_causes (AreAdmitted ds is) ⊥ (if_admitted 0 ds is found) found Closed id c Cause (IndexCause ds is Cause) (inl (all.0, all.1)) h (λ n.
-      absurd n) (index_lift ds is Cause none)
-  | inr some ↦ tested_causes ⊥ (IsFirstOut 0 ds is (IndexOut some.0)) (if_admitted 0 ds is found) found (IndexOut some.0) id c Cause (IndexCause ds is Cause)
-      (inr (some.1, some.2)) h (λ x. x) (λ n. absurd n)
+  | inl all ↦ tested_causes (AreAdmitted ds is) ⊥ _ found Closed id c Cause _ (inl (all.0, all.1)) h (λ n. absurd n) (index_lift ds is Cause none)
+  | inr some ↦ tested_causes ⊥ (IsFirstOut 0 ds is (IndexOut some.0)) _ found _ id c Cause _ (inr (some.1, some.2)) h (λ x. x) (λ n. absurd n)
 ]
 
 -- ---- of each kind of call
 
 module _ (base : ℕ) (is : List ℕ) (h : Resolution) (r : Region) (c : Caller) (len : length is ≡ length h.dims) where
   pub get_causes : Causes (place_of base is h r) r.arena c (GetCause base is h r c)
-  get_causes =
-      index_causes h.dims is (if_rooted base h r (Ok (value_place base is h r))) r.arena c (RootCause base h r c) (λ k none. none) len
-      (root_causes base h r c (value_place base is h r))
+  get_causes = index_causes h.dims is _ r.arena c _ (λ k none. none) len (root_causes base h r c (value_place base is h r))
 
   pub set_causes : Causes (writable_place_of base is h r) r.arena c (SetCause base is h r c)
   set_causes =
-      let inner = if_rooted base h r (Ok (value_place base is h r)) in
-      index_causes h.dims is (if_writable r inner) r.arena c (WriteCause r.read_only (RootCause base h r c)) (λ k none. none.1) len
-      (write_causes r.read_only inner r.arena c (RootCause base h r c) (λ none. none) (root_causes base h r c (value_place base is h r)))
+      index_causes h.dims is _ r.arena c _ (λ k none. none.1) len
+      (write_causes r.read_only _ r.arena c _ (λ none. none) (root_causes base h r c (value_place base is h r)))
 
   pub update_causes : (works_on : ValueSpec → Bool) → Causes (update_place_of works_on base is h r) r.arena c (UpdateCause works_on base is h r c)
-  update_causes works_on =
-      support_causes (works_on h.value) (writable_place_of base is h r) r.arena c (SetCause base is h r c) (λ none. none.1.1) set_causes
+  update_causes works_on = support_causes (works_on h.value) _ r.arena c _ (λ none. none.1.1) set_causes

@@ -5,14 +5,12 @@ use Rattle.std.proofs.lemmas.Bool.Decides.{nat_tests}
 use Rattle.std.proofs.lemmas.List.{length-reverse, take_all}
 use Rattle.fm_base.specs.declared.caller.Caller.{Caller}
 use Rattle.fm_base.specs.declared.arena_id.ArenaId.{ArenaId}
-use Rattle.fm_base.specs.Arenas.{State, arena_of, has_arena, changed, word_in}
-use Rattle.fm_base.specs.Calls.{SwapIf, Add, Leave, Fine, Found, entry_of}
-use Rattle.fm_base.specs.Histories.{IsLegal, state_after}
-use Rattle.fm_base.specs.Machine.{entered}
+use Rattle.fm_base.specs.Arenas.{IsUnderWay, State, arena_of, has_arena, changed, word_in}
+use Rattle.fm_base.specs.Calls.{SwapIf, Add, Found}
+use Rattle.fm_base.specs.Machine.{entered, written}
 use Rattle.fm_base.specs.View.{View, Did, IsByItself}
-use Rattle.fm_base.specs.Visits.{Acts, entries_of, visit}
+use Rattle.fm_base.specs.Visits.{Acts}
 use Rattle.fm_base.proofs.Lookup.{swapped_hit, swapped_miss}
-use Rattle.fm_base.proofs.Making.{IsLegal-split}
 use Rattle.fm_base.proofs.Placing.{there_by_way}
 use Rattle.fm_bytes.specs.Bytes.{AreBytes, bytes_of, number_of}
 use Rattle.fm_bytes.specs.Signed.{unsigned_of}
@@ -25,19 +23,15 @@ use Rattle.fm_lanes.specs.declared.value.Value.TheVariants.{Long}
 use Rattle.fm_lanes.specs.declared.value_kind.ValueKind.{ValueKind}
 use Rattle.fm_lanes.specs.declared.value_kind.ValueKind.TheVariants as kind
 use Rattle.fm_lanes.specs.Coding.{encoded, lowest_first, value_of, bytes_of_value}
-use Rattle.fm_lanes.specs.Kind.{width_of}
 use Rattle.fm_lanes.proofs.Turning.{AreBytes-reverse}
 use Rattle.fm_path.specs.declared.value_spec.ValueSpec.{ValueSpec}
 use Rattle.fm_access.proofs.Visits.{VisitPuts, ActsPut, acts_visit, visit_stays, whole_word, not_same}
 use Rattle.fm_access.proofs.Values.{lowest_twice}
 use Rattle.fm_handle.specs.Access.{DoesVisit}
-use Rattle.fm_handle.specs.Acts.{ExchangesLong, AddsLong, Swaps, AddsTo, value_in, word_of, sum_of}
+use Rattle.fm_handle.specs.Acts.{ExchangesLong, AddsLong, value_in, word_of, sum_of}
 use Rattle.fm_handle.specs.Alone.{value_at, ExchangesValue, AddsValue}
-use Rattle.fm_handle.proofs.Updating.{LongAt, visit_alone, value_there, puts_value}
-
--- A long lies in one word.
-kind_fits : (spec : ValueSpec) (place : ℕ) → LongAt spec place → place % 8 + width_of spec.kind ≤ 8
-kind_fits spec place long = subst (λ (k : ValueKind). place % 8 + width_of k ≤ 8) (sym long.kind) long.fits
+use Rattle.fm_handle.proofs.Places.{LongAt, kind_fits}
+use Rattle.fm_handle.proofs.Updating.{VisitOf, visit_alone, value_there, puts_value}
 
 -- ---- longs and their words
 
@@ -78,7 +72,6 @@ word_again o x word small means =
 sum_number : (x delta : ℤ) (word : ℕ) → Long x ≡ value_in kind.Long Little 0 word
     → (word + word_of Little delta) % 2 ^ 64 ≡ number_of (bytes_of_value Little (sum_of (Long x) (Long delta)))
 sum_number x delta word means =
-    let u = unsigned_of 8 delta in
     let m = (cast_unsigned w64 x + cast_unsigned w64 delta) % 2 ^ 64 in
     let small : m < 2 ^ 64 = omega arith in
     let left : cast_unsigned w64 x ≡ word % 2 ^ 64 = sym (unsigned_of-eight x) ∙ long_number Little x word means ∙ number_of-bytes_of_mod 8 word in
@@ -86,44 +79,21 @@ sum_number x delta word means =
     let d : word_of Little delta ≡ unsigned_of 8 delta % 2 ^ 64 = number_of-bytes_of_mod 8 (unsigned_of 8 delta) in
     let s : number_of (bytes_of_value Little (sum_of (Long x) (Long delta))) ≡ m = number_of-bytes_of_mod 8 (encoded (sum_of (Long x) (Long delta)))
     ∙ ap (λ n. n % 2 ^ 64) (unsigned_of-signed_of 8 m small) ∙ omega arith in
-    let two : (word + word_of Little delta) % 2 ^ 64 ≡ m = ap (λ n. (word + n) % 2 ^ 64) d
-    ∙ (let e : (word + unsigned_of 8 delta % 2 ^ 64) % 2 ^ 64 ≡ (word % 2 ^ 64 + unsigned_of 8 delta) % 2 ^ 64 = omega arith in e)
-    ∙ ap (λ n. (n + unsigned_of 8 delta) % 2 ^ 64) (sym left) ∙ ap (λ n. (cast_unsigned w64 x + n) % 2 ^ 64) (sym right) in
+    let two : (word + word_of Little delta) % 2 ^ 64 ≡ m = omega arith in
     two ∙ sym s
 
 -- ---- one act on a whole word
 
-swap_puts : (limit : ℕ) (c : Caller) (s : State) (id : ArenaId) (place old new word : ℕ) → word ≡ old → place % 8 + 8 ≤ 8
-    → IsLegal limit s (entries_of c ((SwapIf id (place / 8) old new, Found word) ∷ []))
-    → ActsPut s (state_after limit s (entries_of c ((SwapIf id (place / 8) old new, Found word) ∷ []))) c id place 8 new
-swap_puts limit c s id place old new word e fits legal =
-    let reach = legal.0 in
-    let same : (word == old) ≡ true = grind (arith, nat_tests) in
-    record {
-      word = new;
-      known = there_by_way s c id reach.under_way;
-      within = reach.within;
-      after = swapped_hit s id (place / 8) old new word same;
-      bytes = whole_word (arena_of s id).words place new reach.within fits;
-    }
-
-swap_stays : (limit : ℕ) (c : Caller) (s : State) (id : ArenaId) (place old new word : ℕ) → ¬ (word ≡ old)
-    → state_after limit s (entries_of c ((SwapIf id (place / 8) old new, Found word) ∷ [])) ≡ s
-swap_stays limit c s id place old new word n =
-    swapped_miss s id (place / 8) old new word (not_same word old n)
-
-add_puts : (limit : ℕ) (c : Caller) (s : State) (id : ArenaId) (place n word : ℕ) → place % 8 + 8 ≤ 8
-    → IsLegal limit s (entries_of c ((Add id (place / 8) n, Found word) ∷ []))
-    → ActsPut s (state_after limit s (entries_of c ((Add id (place / 8) n, Found word) ∷ []))) c id place 8 ((word + n) % 2 ^ 64)
-add_puts limit c s id place n word fits legal =
-    let reach = legal.0 in
-    record {
-      word = (word + n) % 2 ^ 64;
-      known = there_by_way s c id reach.under_way;
-      within = reach.within;
-      after = refl;
-      bytes = whole_word (arena_of s id).words place ((word + n) % 2 ^ 64) reach.within fits;
-    }
+-- A word that was put puts its bytes.
+put_by : {s t : State} {c : Caller} {id : ArenaId} (place word : ℕ) → IsUnderWay s c id → place / 8 < length (arena_of s id).words → place % 8 + 8 ≤ 8
+    → t ≡ changed s id (written (place / 8) word) → ActsPut s t c id place 8 word
+put_by {s} {t} {c} {id} place word way within fits after = record {
+  word = word;
+  known = there_by_way s c id way;
+  within = within;
+  after = after;
+  bytes = whole_word (arena_of s id).words place word within fits;
+}
 
 -- The long in a word is the value that the arena's bytes mean.
 long_there : (s : State) (c : Caller) (spec : ValueSpec) (id : ArenaId) (place word : ℕ) → LongAt spec place → has_arena s id ≡ true
@@ -138,83 +108,58 @@ long_there s c spec id place word long known within is =
 
 -- ---- the calls
 
--- One SwapIf of the only caller.
-swap_alone : (old now : View) (spec : ValueSpec) (id : ArenaId) (place : ℕ) (expected v x : ℤ) (word : ℕ) → LongAt spec place → word < 2 ^ 64
-    → value_in kind.Long spec.order 0 (word_of spec.order expected) ≡ Long expected → Long x ≡ value_in kind.Long spec.order 0 word
-    → Did old now (DoesVisit old.caller id (Swaps id place (word_of spec.order expected) (word_of spec.order v)) (Ok word))
-    → IsByItself old → ExchangesValue old now spec id place (Long expected) (Long v) (Long x)
-swap_alone old now spec id place expected v x word long small back means d alone =
+-- An exchange of whole words. The word of the long that is expected means it.
+pub exchange_long_alone : {old now : View} {spec : ValueSpec} {id : ArenaId} {place : ℕ} {expected v x : ℤ} → LongAt spec place
+    → value_in kind.Long spec.order 0 (word_of spec.order expected) ≡ Long expected
+    → Did old now (DoesVisit old.caller id (ExchangesLong spec.order id place expected v) (Ok x)) → IsByItself old
+    → ExchangesValue old now spec id place (Long expected) (Long v) (Long x)
+exchange_long_alone {old} {now} {spec} {id} {place} {expected} {v} {x} long back d alone =
     let c = old.caller in
     let s = old.state in
     let s1 = changed old.state id (entered old.caller) in
     let a = word_of spec.order expected in
     let b = word_of spec.order v in
-    let act : Acts = (SwapIf id (place / 8) (word_of spec.order expected) (word_of spec.order v), Found word) ∷ [] in
-    let o = visit_alone old now id (Swaps id place (word_of spec.order expected) (word_of spec.order v)) word alone d in
-    let legal : IsLegal old.limit old.state (visit old.caller id act) =
-    subst (λ (these : Acts). IsLegal old.limit old.state (visit old.caller id these)) o.are o.legal in
-    let after : now.state ≡ state_after old.limit old.state (visit old.caller id act) = o.after
-    ∙ ap (λ (these : Acts). state_after old.limit old.state (visit old.caller id these)) o.are in
-    let parts = IsLegal-split old.limit s1 (entries_of c act) (entry_of c (Leave id) Fine ∷ []) legal.2 in
-    let reach = parts.0.0 in
-    let is : Found word ≡ Found (word_in (changed old.state id (entered old.caller)) id (place / 8)) = parts.0.1 in
+    let o = visit_alone d alone in
+    let e = o.are in
+    let word = e.word in
+    let act : Acts = (SwapIf id (place / 8) (word_of spec.order expected) (word_of spec.order v), Found e.word) ∷ [] in
+    let left = subst (VisitOf old now id) e.swaps o.left in
+    let is : Found e.word ≡ Found (word_in (changed old.state id (entered old.caller)) id (place / 8)) = left.inside.1 in
     record {
-      value = means ∙ long_there s c spec id place word long legal.0.0 reach.within (cc);
-      puts = λ e.
-          let same : word ≡ word_of spec.order expected =
-          sym (word_again spec.order x word small means) ∙ ap (λ (y : Value). number_of (bytes_of_value spec.order y)) e in
-          let put = acts_visit old.limit c s id place 8 b act (λ l. swap_puts old.limit c s1 id place a b word same long.fits l) legal in
-          puts_value old now spec id place (Long v) (sym long.kind) (kind_fits spec place long)
-          (subst (λ (t : State). VisitPuts old.state t id place 8 b) (sym after) put);
+      value = e.value ∙ long_there s c spec id place word long left.legal.0.0 left.inside.0.within (cc);
+      puts = λ q.
+          let same : e.word ≡ word_of spec.order expected =
+          sym (word_again spec.order x word e.small e.value) ∙ ap (λ (y : Value). number_of (bytes_of_value spec.order y)) q in
+          let hit : (e.word == word_of spec.order expected) ≡ true = grind (arith, nat_tests) in
+          let swapped = swapped_hit s1 id (place / 8) a b word hit in
+          let put = acts_visit old.limit c s id place 8 b act (λ l. put_by place b l.0.under_way l.0.within long.fits swapped) left.legal in
+          puts_value spec (sym long.kind) (kind_fits spec place long) (subst (λ (t : State). VisitPuts old.state t id place 8 b) (sym left.after) put);
       stays = λ n.
-          let other : ¬ (word ≡ word_of spec.order expected) = λ q. n (means ∙ ap (value_in kind.Long spec.order 0) q ∙ back) in
-          after ∙ visit_stays old.limit c s id act (λ l. swap_stays old.limit c s1 id place a b word other) legal;
+          let other : ¬ (e.word ≡ word_of spec.order expected) = λ q. n (e.value ∙ ap (value_in kind.Long spec.order 0) q ∙ back) in
+          left.after ∙ visit_stays old.limit c s id act (λ l. swapped_miss s1 id (place / 8) a b word (not_same word a other)) left.legal;
     }
 
--- One Add of the only caller.
-add_alone : (old now : View) (spec : ValueSpec) (id : ArenaId) (place : ℕ) (delta x : ℤ) (word : ℕ) → LongAt spec place → spec.order ≡ Little
-    → Long x ≡ value_in kind.Long Little 0 word
-    → Did old now (DoesVisit old.caller id (AddsTo id place (word_of Little delta)) (Ok word))
-    → IsByItself old → AddsValue old now spec id place (Long delta) (Long x)
-add_alone old now spec id place delta x word long little means d alone =
+-- A sum of whole words.
+pub add_long_alone : {old now : View} {spec : ValueSpec} {id : ArenaId} {place : ℕ} {delta x : ℤ} → LongAt spec place → spec.order ≡ Little
+    → Did old now (DoesVisit old.caller id (AddsLong id place delta) (Ok x)) → IsByItself old → AddsValue old now spec id place (Long delta) (Long x)
+add_long_alone {old} {now} {spec} {id} {place} {delta} {x} long little d alone =
     let c = old.caller in
     let s = old.state in
     let s1 = changed old.state id (entered old.caller) in
     let n = word_of Little delta in
-    let act : Acts = (Add id (place / 8) (word_of Little delta), Found word) ∷ [] in
-    let o = visit_alone old now id (AddsTo id place (word_of Little delta)) word alone d in
-    let legal : IsLegal old.limit old.state (visit old.caller id act) =
-    subst (λ (these : Acts). IsLegal old.limit old.state (visit old.caller id these)) o.are o.legal in
-    let after : now.state ≡ state_after old.limit old.state (visit old.caller id act) = o.after
-    ∙ ap (λ (these : Acts). state_after old.limit old.state (visit old.caller id these)) o.are in
-    let parts = IsLegal-split old.limit s1 (entries_of c act) (entry_of c (Leave id) Fine ∷ []) legal.2 in
-    let reach = parts.0.0 in
-    let is : Found word ≡ Found (word_in (changed old.state id (entered old.caller)) id (place / 8)) = parts.0.1 in
-    let there = means ∙ ap (λ (o : Order). value_in kind.Long o 0 word) (sym little) ∙ long_there s c spec id place word long legal.0.0 reach.within (cc) in
-    let sum : (word + word_of Little delta) % 2 ^ 64 ≡ number_of (bytes_of_value spec.order (sum_of (Long x) (Long delta))) =
-    sum_number x delta word means ∙ ap (λ (o : Order). number_of (bytes_of_value o (sum_of (Long x) (Long delta)))) (sym little) in
-    let put = acts_visit old.limit c s id place 8 ((word + n) % 2 ^ 64) act (λ l. add_puts old.limit c s1 id place n word long.fits l) legal in
-    let put_sum = subst (λ (k : ℕ). VisitPuts old.state (state_after old.limit old.state (visit old.caller id act)) id place 8 k) sum put in
+    let o = visit_alone d alone in
+    let e = o.are in
+    let word = e.word in
+    let act : Acts = (Add id (place / 8) (word_of Little delta), Found e.word) ∷ [] in
+    let left = subst (VisitOf old now id) e.adds o.left in
+    let is : Found e.word ≡ Found (word_in (changed old.state id (entered old.caller)) id (place / 8)) = left.inside.1 in
+    let there = long_there s c spec id place word long left.legal.0.0 left.inside.0.within (cc) in
+    let sum : (e.word + word_of Little delta) % 2 ^ 64 ≡ number_of (bytes_of_value spec.order (sum_of (Long x) (Long delta))) =
+    sum_number x delta word e.value ∙ ap (λ (o : Order). number_of (bytes_of_value o (sum_of (Long x) (Long delta)))) (sym little) in
+    let total = (word + n) % 2 ^ 64 in
+    let put = acts_visit old.limit c s id place 8 total act (λ l. put_by place total l.0.under_way l.0.within long.fits refl) left.legal in
+    let put_sum = subst (λ (t : State). VisitPuts old.state t id place 8 ((word + n) % 2 ^ 64)) (sym left.after) put in
     record {
-      value = there;
-      puts = puts_value old now spec id place (sum_of (Long x) (Long delta)) (sym long.kind) (kind_fits spec place long)
-          (subst (λ (t : State). VisitPuts old.state t id place 8 (number_of (bytes_of_value spec.order (sum_of (Long x) (Long delta))))) (sym after) put_sum);
+      value = e.value ∙ ap (λ (o : Order). value_in kind.Long o 0 word) (sym little) ∙ there;
+      puts = puts_value spec (sym long.kind) (kind_fits spec place long) (subst (λ (k : ℕ). VisitPuts old.state now.state id place 8 k) sum put_sum);
     }
-
--- An exchange of whole words.
-pub exchange_long_alone : (old now : View) (spec : ValueSpec) (id : ArenaId) (place : ℕ) (expected v x : ℤ) → LongAt spec place
-    → value_in kind.Long spec.order 0 (word_of spec.order expected) ≡ Long expected
-    → Did old now (DoesVisit old.caller id (ExchangesLong spec.order id place expected v) (Ok x)) → IsByItself old → ExchangesValue old now spec id place
-    (Long expected) (Long v) (Long x)
-exchange_long_alone old now spec id place expected v x long back d alone =
-    let one = d.does.1 in
-    swap_alone old now spec id place expected v x one.are.word long one.are.small back one.are.value
-    (record { own = d.own; does = (d.does.0, record { acts = one.acts; are = one.are.swaps; visits = one.visits }); makes = d.makes }) alone
-
--- A sum of whole words.
-pub add_long_alone : (old now : View) (spec : ValueSpec) (id : ArenaId) (place : ℕ) (delta x : ℤ) → LongAt spec place → spec.order ≡ Little
-    → Did old now (DoesVisit old.caller id (AddsLong id place delta) (Ok x)) → IsByItself old → AddsValue old now spec id place (Long delta) (Long x)
-add_long_alone old now spec id place delta x long little d alone =
-    let one = d.does.1 in
-    add_alone old now spec id place delta x one.are.word long little one.are.value
-    (record { own = d.own; does = (d.does.0, record { acts = one.acts; are = one.are.adds; visits = one.visits }); makes = d.makes }) alone

@@ -27,24 +27,25 @@ pub record Looked (id : ArenaId) (word : ℕ) (GivesUp : ℕ → Type 0) (seen :
   pub cuts : (found : ℕ) (rest : Acts) → CutOff id word GivesUp found rest → CutOff id word GivesUp found (so_far ++ rest)
   pub cut : GivesUp seen → CutOff id word GivesUp seen so_far
 
--- the word was looked at
-pub looked_once : (id : ArenaId) (word : ℕ) (GivesUp : ℕ → Type 0) (seen : ℕ) → Looked id word GivesUp seen ((Read id word, Found seen) ∷ [])
-looked_once id word GivesUp seen = record {
-  onward = λ change found rest t. looked seen rest t;
-  cuts = λ found rest t. acts.looked seen rest t;
-  cut = λ h. acts.at_read h;
-}
+module _ {id : ArenaId} {word : ℕ} {GivesUp : ℕ → Type 0} {seen : ℕ} where
+  -- the word was looked at
+  looked_once : Looked id word GivesUp seen ((Read id word, Found seen) ∷ [])
+  looked_once = record {
+    onward = λ change found rest t. looked seen rest t;
+    cuts = λ found rest t. acts.looked seen rest t;
+    cut = λ h. acts.at_read h;
+  }
 
--- one SwapIf more, that missed
-looked_more : (id : ArenaId) (word : ℕ) (GivesUp : ℕ → Type 0) (seen old new found : ℕ) (so_far : Acts) → ¬ (found ≡ old) → Looked id word GivesUp seen so_far
-    → Looked id word GivesUp found (so_far ++ (SwapIf id word old new, Found found) ∷ [])
-looked_more id word GivesUp seen old new found so_far n l =
-    let miss : Call × Reply = (SwapIf id word old new, Found found) in
-    record {
-      onward = λ change last rest t. rw append_assoc (l.onward change last (miss ∷ rest) (missed found old new rest n t));
-      cuts = λ last rest t. rw append_assoc (l.cuts last (miss ∷ rest) (acts.missed found old new rest n t));
-      cut = λ h. l.cuts found (miss ∷ []) (acts.at_swap old new n h);
-    }
+  -- one SwapIf more, that missed
+  looked_more : {old found : ℕ} (new : ℕ) {so_far : Acts} → ¬ (found ≡ old) → Looked id word GivesUp seen so_far
+      → Looked id word GivesUp found (so_far ++ (SwapIf id word old new, Found found) ∷ [])
+  looked_more {old} {found} new n l =
+      let miss : Call × Reply = (SwapIf id word old new, Found found) in
+      record {
+        onward = λ change last rest t. rw append_assoc (l.onward change last (miss ∷ rest) (missed found old new rest n t));
+        cuts = λ last rest t. rw append_assoc (l.cuts last (miss ∷ rest) (acts.missed found old new rest n t));
+        cut = λ h. l.cuts found (miss ∷ []) (acts.at_swap old new n h);
+      }
 
 -- ---- the memory meanwhile
 
@@ -56,94 +57,81 @@ pub record IsTrying (old now : View) (id : ArenaId) (word : ℕ) (GivesUp : ℕ 
   pub makes : Makes old now (entries_of old.caller so_far)
 
 -- After a Read.
-pub trying_begins : (old now : View) (id : ArenaId) (word : ℕ) (GivesUp : ℕ → Type 0) (seen : ℕ) → old.inside ≡ Some id → now.inside ≡ old.inside
+pub trying_begins : {old now : View} {id : ArenaId} {word : ℕ} {GivesUp : ℕ → Type 0} {seen : ℕ} → old.inside ≡ Some id → now.inside ≡ old.inside
     → Did old now (DoesAct old.inside old.caller (λ a. Read a word) (Found seen)) → IsTrying old now id word GivesUp seen
-trying_begins old now id word GivesUp seen inside stays d = record {
+trying_begins {old} {now} {id} {word} {seen = seen} inside stays d = record {
   inside = stays ∙ inside;
   so_far = (Read id word, Found seen) ∷ [];
-  looks = looked_once id word GivesUp seen;
+  looks = looked_once;
   makes = act_makes old now id old.caller (λ a. Read a word) (Found seen) inside refl d;
 }
 
--- what one SwapIf more made
-swapped : (old now next : View) (id : ArenaId) (word : ℕ) (GivesUp : ℕ → Type 0) (seen swap_old swap_new found : ℕ)
-    → (t : IsTrying old now id word GivesUp seen)
-    → Did now next (DoesAct now.inside now.caller (λ a. SwapIf a word swap_old swap_new) (Found found))
-    → Makes old next (entries_of old.caller (t.so_far ++ (SwapIf id word swap_old swap_new, Found found) ∷ []))
-swapped old now next id word GivesUp seen swap_old swap_new found t d =
-    let m = act_makes now next id old.caller (λ a. SwapIf a word swap_old swap_new) (Found found) t.inside t.makes.same_caller d in
-    subst (λ (es : List Entry). Makes old next es) (sym (entries_of-append old.caller t.so_far ((SwapIf id word swap_old swap_new, Found found) ∷ [])))
-    (Makes-then old now next _ _ t.makes m)
+module _ {old now next : View} {id : ArenaId} {word : ℕ} {GivesUp : ℕ → Type 0} {seen : ℕ} (new found : ℕ) (t : IsTrying old now id word GivesUp seen)
+    (d : Did now next (DoesAct now.inside now.caller (λ a. SwapIf a word seen new) (Found found))) where
+  -- what one SwapIf more made
+  swapped : Makes old next (entries_of old.caller (t.so_far ++ (SwapIf id word seen new, Found found) ∷ []))
+  swapped =
+      let m = act_makes now next id old.caller (λ a. SwapIf a word seen new) (Found found) t.inside t.makes.same_caller d in
+      subst (λ (es : List Entry). Makes old next es) (sym (entries_of-append old.caller t.so_far ((SwapIf id word seen new, Found found) ∷ [])))
+      (Makes-then old now next _ _ t.makes m)
 
--- A SwapIf that missed.
-pub trying_goes_on : (old now next : View) (id : ArenaId) (word : ℕ) (GivesUp : ℕ → Type 0) (seen new found : ℕ) → IsTrying old now id word GivesUp seen
-    → next.inside ≡ now.inside → ¬ (found ≡ seen)
-    → Did now next (DoesAct now.inside now.caller (λ a. SwapIf a word seen new) (Found found)) → IsTrying old next id word GivesUp found
-trying_goes_on old now next id word GivesUp seen new found t stays n d = record {
-  inside = stays ∙ t.inside;
-  so_far = t.so_far ++ (SwapIf id word seen new, Found found) ∷ [];
-  looks = looked_more id word GivesUp seen seen new found t.so_far n t.looks;
-  makes = swapped old now next id word GivesUp seen seen new found t d;
-}
+  -- A SwapIf that missed.
+  pub trying_goes_on : next.inside ≡ now.inside → ¬ (found ≡ seen) → IsTrying old next id word GivesUp found
+  trying_goes_on stays n = record {
+    inside = stays ∙ t.inside;
+    so_far = t.so_far ++ (SwapIf id word seen new, Found found) ∷ [];
+    looks = looked_more new n t.looks;
+    makes = swapped;
+  }
 
--- tries that made a change
-pub record Hit (old next : View) (id : ArenaId) (word : ℕ) (change : ℕ → ℕ) (found : ℕ) : Type 0 where
-  pub acts : Acts
-  pub tries : Tries id word change found acts
-  pub makes : Makes old next (entries_of old.caller acts)
-
--- A SwapIf that hit.
-pub trying_hits : (old now next : View) (id : ArenaId) (word : ℕ) (GivesUp : ℕ → Type 0) (change : ℕ → ℕ) (seen new found : ℕ)
-    → IsTrying old now id word GivesUp seen → found ≡ seen → new ≡ change seen
-    → Did now next (DoesAct now.inside now.caller (λ a. SwapIf a word seen new) (Found found)) → Hit old next id word change seen
-trying_hits old now next id word GivesUp change seen new found t f n d =
-    let Here : ℕ → ℕ → Type 0 = λ m k. Makes old next (entries_of old.caller (t.so_far ++ (SwapIf id word seen m, Found k) ∷ [])) in
-    let made = swapped old now next id word GivesUp seen seen new found t d in
-    record {
-      acts = t.so_far ++ (SwapIf id word seen (change seen), Found seen) ∷ [];
-      tries = t.looks.onward change seen ((SwapIf id word seen (change seen), Found seen) ∷ []) hit;
-      makes = subst (λ (k : ℕ). Here (change seen) k) f (subst (λ (m : ℕ). Here m found) n made);
-    }
+  -- A SwapIf that hit: the acts of the tries.
+  tried : (change : ℕ → ℕ) → found ≡ seen → new ≡ change seen
+      → (these : Acts) × Tries id word change seen these × Makes old next (entries_of old.caller these)
+  tried change f n =
+      let Here : ℕ → ℕ → Type 0 = λ m k. Makes old next (entries_of old.caller (t.so_far ++ (SwapIf id word seen m, Found k) ∷ [])) in
+      let last : Acts = (SwapIf id word seen (change seen), Found seen) ∷ [] in
+      (t.so_far ++ last, t.looks.onward change seen last hit, subst (λ (k : ℕ). Here (change seen) k) f (subst (λ (m : ℕ). Here m found) n swapped))
 
 -- ---- where the word can be reached
 
-pub reaches : (v : View) (id : ArenaId) (place : ℕ) → v.inside ≡ Some id → place < given_in v id → CanReach v (place / 8)
-reaches v id place inside given = record { id = id; inside = inside; given = omega arith }
-
-pub still_reaches : (old now : View) (id : ArenaId) (place : ℕ) (GivesUp : ℕ → Type 0) (seen : ℕ) → IsTrying old now id (place / 8) GivesUp seen
+pub still_reaches : {old now : View} {id : ArenaId} (place : ℕ) {GivesUp : ℕ → Type 0} {seen : ℕ} → IsTrying old now id (place / 8) GivesUp seen
     → place < given_in old id → CanReach now (place / 8)
-still_reaches old now id place GivesUp seen t given =
-    reaches now id place t.inside (let more = (Makes-lasts old now _ t.makes).given id in omega arith)
+still_reaches {old} {now} {id} place t given =
+    record { id = id; inside = t.inside; given = (let more = (Makes-lasts old now _ t.makes).given id in omega arith) }
 
 -- ---- how the tries end
 
-module _ (old next : View) (id : ArenaId) (place : ℕ) (o : Order) where
-  -- Another value was found.
-  pub exchange_gives_up : (expected v : Value) (seen : ℕ) (found : Value)
-      → IsTrying old next id (place / 8) (λ now. value_in (kind_of v) o (place % 8) now ≢ expected) seen
-      → found ≡ value_in (kind_of v) o (place % 8) seen → found ≢ expected → Did old next (DoesInside old.caller (Exchanges o id place expected v found))
-  exchange_gives_up expected v seen found t value other = record {
-    own = entries_of old.caller t.so_far;
-    does = record { acts = t.so_far; are = acts.finds_another seen found t.so_far value other (t.looks.cut (λ e. other (value ∙ e))); entries = refl };
-    makes = t.makes;
-  }
+-- Another value was found.
+pub exchange_gives_up : {old next : View} {id : ArenaId} {place : ℕ} {o : Order} {expected v found : Value} {seen : ℕ}
+    → IsTrying old next id (place / 8) (λ now. value_in (kind_of v) o (place % 8) now ≢ expected) seen
+    → found ≡ value_in (kind_of v) o (place % 8) seen → found ≢ expected → Did old next (DoesInside old.caller (Exchanges o id place expected v found))
+exchange_gives_up {old} {seen = seen} t value other = record {
+  own = entries_of old.caller t.so_far;
+  does = record { acts = t.so_far; are = acts.finds_another seen _ t.so_far value other (t.looks.cut (λ e. other (value ∙ e))); entries = refl };
+  makes = t.makes;
+}
 
+module _ {old now next : View} {id : ArenaId} {place : ℕ} {o : Order} {GivesUp : ℕ → Type 0} {seen new found : ℕ}
+    (t : IsTrying old now id (place / 8) GivesUp seen) (f : found ≡ seen)
+    (d : Did now next (DoesAct now.inside now.caller (λ a. SwapIf a (place / 8) seen new) (Found found))) where
   -- The value was exchanged.
-  pub exchange_hits : (expected v : Value) (seen : ℕ) → Hit old next id (place / 8) (with_value o v (place % 8)) seen
-      → value_in (kind_of v) o (place % 8) seen ≡ expected
+  pub exchange_hits : {expected v : Value} → new ≡ with_value o v (place % 8) seen → value_in (kind_of v) o (place % 8) seen ≡ expected
       → Did old next (DoesInside old.caller (Exchanges o id place expected v expected))
-  exchange_hits expected v seen h value = record {
-    own = entries_of old.caller h.acts;
-    does = record { acts = h.acts; are = acts.puts seen h.acts value h.tries; entries = refl };
-    makes = h.makes;
-  }
+  exchange_hits {v = v} n value =
+      let h = tried new found t d (with_value o v (place % 8)) f n in
+      record {
+        own = entries_of old.caller h.0;
+        does = record { acts = h.0; are = acts.puts seen h.0 value h.1; entries = refl };
+        makes = h.2;
+      }
 
   -- The sum was put.
-  pub add_hits : (delta found : Value) (seen : ℕ) → Hit old next id (place / 8) (with_value o (sum_of found delta) (place % 8)) seen
-      → found ≡ value_in (kind_of delta) o (place % 8) seen
-      → Did old next (DoesInside old.caller (Adds o id place delta found))
-  add_hits delta found seen h value = record {
-    own = entries_of old.caller h.acts;
-    does = record { acts = h.acts; are = record { word = seen; value = value; tries = h.tries }; entries = refl };
-    makes = h.makes;
-  }
+  pub add_hits : {delta sum : Value} → new ≡ with_value o (sum_of sum delta) (place % 8) seen → sum ≡ value_in (kind_of delta) o (place % 8) seen
+      → Did old next (DoesInside old.caller (Adds o id place delta sum))
+  add_hits {delta} {sum} n value =
+      let h = tried new found t d (with_value o (sum_of sum delta) (place % 8)) f n in
+      record {
+        own = entries_of old.caller h.0;
+        does = record { acts = h.0; are = record { word = seen; value = value; tries = h.1 }; entries = refl };
+        makes = h.2;
+      }

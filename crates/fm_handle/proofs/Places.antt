@@ -1,22 +1,26 @@
 -- Where a value stands, from the tests that the code makes.
-use Rattle.std.proofs.Common.{◌≡◌, ℕ, ◌+◌, ◌%◌, ◌≤◌, inl, inr, Bool, true, false, if◌then◌else◌, nat_eq, nat_le, Result, Ok, Err, List, [], ◌∷◌, refl, sym, ap, ◌∙◌, arith}
-use Rattle.std.proofs.lemmas.Bool.{lt-ltb, le-ltb, leb-true}
+use Rattle.std.proofs.Common.{◌≡◌, ℕ, ◌+◌, ◌%◌, ◌≤◌, inl, inr, Bool, true, false, if◌then◌else◌, nat_eq, nat_le, Result, Ok, Err, List, [], ◌∷◌, refl, sym, ap, subst, ◌∙◌, arith}
+use Rattle.std.proofs.lemmas.Bool.{and_parts, lt-ltb, le-ltb, leb-true}
 use Rattle.std.specs.Prelude.{◌&&◌}
 use Rattle.std.specs.Int.{IsPowerOfTwo}
 use Rattle.fm_base.specs.declared.refusal.Refusal.{Refusal}
 use Rattle.fm_base.specs.declared.refusal.Refusal.TheVariants.{Bounds, IndexOut, Misaligned, ReadOnly}
+use Rattle.fm_lanes.specs.declared.order.Order.{Order}
+use Rattle.fm_lanes.specs.declared.order.Order.TheVariants.{Little, Big}
 use Rattle.fm_lanes.specs.declared.value_kind.ValueKind.{ValueKind}
-use Rattle.fm_lanes.specs.declared.value_kind.ValueKind.TheVariants.{Byte, Boolean, Char, Short, Int, Long}
+use Rattle.fm_lanes.specs.declared.value_kind.ValueKind.TheVariants.{Int, Long}
 use Rattle.fm_lanes.specs.Kind.{width_of}
 use Rattle.fm_layout.proofs.Powers.{IsPowerOfTwo-from_test}
 use Rattle.fm_layout.proofs.Sound.{positive_power}
+use Rattle.fm_path.specs.declared.value_spec.ValueSpec.{ValueSpec}
 use Rattle.fm_path.specs.Resolution.{Resolution, StaysInside}
 use Rattle.fm_path_meaning.specs.declared.dim.Dim.{Dim}
 use Rattle.fm_path_meaning.specs.Found.{IsFirstOut}
 use Rattle.fm_path_meaning.specs.Walk.{AreAdmitted, offset_at}
 use Rattle.fm_path_meaning.proofs.Inside.{divides_from, divides_gives, divides_add, divides_trans, divides_powers}
+use Rattle.fm_access.proofs.Causes.{placed_ok}
 use Rattle.fm_segment.specs.Region.{Region}
-use Rattle.fm_handle.specs.Place.{if_admitted, if_rooted, root_place, place_of, writable_place_of, value_place, can_update, fills_word, is_int_or_long, is_long, RootStands, ValueStands}
+use Rattle.fm_handle.specs.Place.{if_admitted, if_rooted, root_place, place_of, writable_place_of, value_place, can_update, fills_word, is_word, is_int_or_long, is_long, is_little, RootStands, ValueStands}
 
 -- ---- the indices
 
@@ -39,56 +43,30 @@ out k (d ∷ ds) (i ∷ is) found e h = elim h [
 
 -- ---- the root
 
-number_in : Result ℕ Refusal → ℕ
-number_in (Ok n) = n
-number_in (Err r) = 0
+abbrev pub moved_by : ℕ → Result ℕ Refusal → Result ℕ Refusal
+moved_by k (Ok n) = Ok (n + k)
+moved_by k (Err e) = Err e
 
-err_on : (b c : Bool) (m n : ℕ) (e : Refusal) → (if b then (if c then Ok m else Err Misaligned) else Err Bounds) ≡ Err e
-    → (if b then (if c then Ok n else Err Misaligned) else Err Bounds) ≡ Err e
-err_on true true m n e h = absurd (let no : ⊥ = cc in no)
-err_on true false m n e h = h
-err_on false c m n e h = h
-
-ok_on : (b c : Bool) (m n p : ℕ) → (if b then (if c then Ok m else Err Misaligned) else Err Bounds) ≡ Ok p
-    → (m ≡ p) × ((if b then (if c then Ok n else Err Misaligned) else Err Bounds) ≡ Ok n)
-unfolding number_in
-ok_on true true m n p h = (ap number_in h, refl)
-ok_on true false m n p h = absurd (let no : ⊥ = cc in no)
-ok_on false c m n p h = absurd (let no : ⊥ = cc in no)
+moved : (b c : Bool) (n k : ℕ) → (if b then (if c then Ok (n + k) else Err Misaligned) else Err Bounds)
+    ≡ moved_by k (if b then (if c then Ok n else Err Misaligned) else Err Bounds)
+moved true true n k = refl
+moved true false n k = refl
+moved false c n k = refl
 
 module _ (base : ℕ) (is : List ℕ) (h : Resolution) (r : Region) where
-  rooted_err : (e : Refusal) → root_place base h r ≡ Err e → if_rooted base h r (Ok (value_place base is h r)) ≡ Err e
-  rooted_err e p = err_on (nat_le (base + h.root_size) r.size) (nat_eq ((r.first + base) % h.root_alignment) 0) (r.first + base) (value_place base is h r) e p
-
-  rooted_ok : (root : ℕ) → root_place base h r ≡ Ok root → if_rooted base h r (Ok (value_place base is h r)) ≡ Ok (root + offset_at h.offset h.dims is)
-  rooted_ok root p =
-      let both = ok_on (nat_le (base + h.root_size) r.size) (nat_eq ((r.first + base) % h.root_alignment) 0) (r.first + base) (value_place base is h r) root p
-      in
-      both.1 ∙ ap (λ n. Ok (n + offset_at h.offset h.dims is)) both.0
-
   pub rooted_is : (p : ℕ) → if_rooted base h r (Ok (value_place base is h r)) ≡ Ok p → value_place base is h r ≡ p
-  rooted_is p x =
-      (ok_on (nat_le (base + h.root_size) r.size) (nat_eq ((r.first + base) % h.root_alignment) 0) (value_place base is h r) (value_place base is h r) p x).0
+  rooted_is p x = let f = placed_ok base h.root_size h.root_alignment r.first r.size (Ok (value_place base is h r)) p x in let e = f.2 in cc
 
-  -- Where the root can't stand.
-  pub root_refused : (e : Refusal) → AreAdmitted h.dims is → root_place base h r ≡ Err e → place_of base is h r ≡ Err e
-  root_refused e a p = admitted 0 h.dims is _ a ∙ rooted_err e p
-
-  pub writable_root_refused : (e : Refusal) → AreAdmitted h.dims is → r.read_only ≡ false → root_place base h r ≡ Err e → writable_place_of base is h r ≡ Err e
-  writable_root_refused e a w p =
-      admitted 0 h.dims is _ a ∙ ap (λ b. if b then Err ReadOnly else if_rooted base h r (Ok (value_place base is h r))) w ∙ rooted_err e p
+  -- The value's place is the root's, moved by its offset, or the root can't stand.
+  pub from_root : {x : Result ℕ Refusal} → AreAdmitted h.dims is → root_place base h r ≡ x → place_of base is h r ≡ moved_by (offset_at h.offset h.dims is) x
+  from_root a p =
+      let at = offset_at h.offset h.dims is in
+      admitted 0 h.dims is _ a
+      ∙ moved (nat_le (base + h.root_size) r.size) (nat_eq ((r.first + base) % h.root_alignment) 0) (r.first + base) at
+      ∙ ap (moved_by at) p
 
   pub read_only_refused : AreAdmitted h.dims is → r.read_only ≡ true → writable_place_of base is h r ≡ Err ReadOnly
   read_only_refused a w = admitted 0 h.dims is _ a ∙ ap (λ b. if b then Err ReadOnly else if_rooted base h r (Ok (value_place base is h r))) w
-
-  -- Where it stands.
-  pub stands_at : (root : ℕ) → AreAdmitted h.dims is → root_place base h r ≡ Ok root → place_of base is h r ≡ Ok (root + offset_at h.offset h.dims is)
-  stands_at root a p = admitted 0 h.dims is _ a ∙ rooted_ok root p
-
-  pub writable_stands_at : (root : ℕ) → AreAdmitted h.dims is → r.read_only ≡ false → root_place base h r ≡ Ok root
-      → writable_place_of base is h r ≡ Ok (root + offset_at h.offset h.dims is)
-  writable_stands_at root a w p =
-      admitted 0 h.dims is _ a ∙ ap (λ b. if b then Err ReadOnly else if_rooted base h r (Ok (value_place base is h r))) w ∙ rooted_ok root p
 
   -- A value in a root that lies in the region, aligned, does so too.
   pub value_stands : (root : ℕ) → StaysInside h → AreAdmitted h.dims is → RootStands h r root → ValueStands h r (root + offset_at h.offset h.dims is)
@@ -113,9 +91,7 @@ module _ (base : ℕ) (is : List ℕ) (h : Resolution) (r : Region) where
 
 -- Both of two tests.
 pub both_true : (a b : Bool) → (a && b) ≡ true → (a ≡ true) × (b ≡ true)
-both_true true true h = (refl, refl)
-both_true true false h = absurd (let no : ⊥ = cc in no)
-both_true false b h = absurd (let no : ⊥ = cc in no)
+both_true a b h = and_parts a b h
 
 -- A place of an alignment is a multiple of each smaller power of two.
 pub multiple : (place width alignment : ℕ) → IsPowerOfTwo width → IsPowerOfTwo alignment → width ≤ alignment → place % alignment ≡ 0 → place % width ≡ 0
@@ -128,10 +104,7 @@ pub word_by_kind : (k : ValueKind) (alignment place : ℕ) → IsPowerOfTwo alig
     → place % 8 + width_of k ≤ 8
 word_by_kind Int alignment place a h is le = let e = multiple place 4 alignment (2, refl) a le h in omega arith
 word_by_kind Long alignment place a h is le = let e = multiple place 8 alignment (3, refl) a le h in omega arith
-word_by_kind Byte alignment place a h is le = absurd (let no : ⊥ = cc in no)
-word_by_kind Boolean alignment place a h is le = absurd (let no : ⊥ = cc in no)
-word_by_kind Char alignment place a h is le = absurd (let no : ⊥ = cc in no)
-word_by_kind Short alignment place a h is le = absurd (let no : ⊥ = cc in no)
+word_by_kind k alignment place a h is le = absurd (let no : ⊥ = cc in no)
 
 -- A value that can be updated lies in one word.
 pub in_one_word : (h : Resolution) (r : Region) (place : ℕ) → ValueStands h r place → can_update h.value ≡ true → place % 8 + width_of h.value.kind ≤ 8
@@ -142,22 +115,28 @@ in_one_word h r place s e =
 
 long_is : (k : ValueKind) → is_long k ≡ true → k ≡ Long
 long_is Long e = refl
-long_is Byte e = absurd (let no : ⊥ = cc in no)
-long_is Boolean e = absurd (let no : ⊥ = cc in no)
-long_is Char e = absurd (let no : ⊥ = cc in no)
-long_is Short e = absurd (let no : ⊥ = cc in no)
-long_is Int e = absurd (let no : ⊥ = cc in no)
+long_is k e = absurd (let no : ⊥ = cc in no)
 
--- a long is a whole word
-pub record IsWholeWord (h : Resolution) (place : ℕ) : Type 0 where
-  pub kind : h.value.kind ≡ Long
-  pub aligned : place % 8 ≡ 0
+-- a long fills the word at the place
+pub record LongAt (spec : ValueSpec) (place : ℕ) : Type 0 where
+  pub kind : spec.kind ≡ Long
+  pub fits : place % 8 + 8 ≤ 8
 
--- A long of alignment 8 or more is a whole word.
-pub whole_word : (h : Resolution) (r : Region) (place : ℕ) → ValueStands h r place → fills_word h.value ≡ true → IsWholeWord h place
+-- A long of alignment 8 or more does.
+pub whole_word : (h : Resolution) (r : Region) (place : ℕ) → ValueStands h r place → fills_word h.value ≡ true → LongAt h.value place
 whole_word h r place s e =
     let both = both_true (is_long h.value.kind) (nat_le 8 h.value.alignment) e in
-    record {
-      kind = long_is h.value.kind both.0;
-      aligned = multiple place 8 h.value.alignment (3, refl) (IsPowerOfTwo-from_test h.value.alignment s.power) (leb-true 8 h.value.alignment both.1) s.aligned;
-    }
+    let a = multiple place 8 h.value.alignment (3, refl) (IsPowerOfTwo-from_test h.value.alignment s.power) (leb-true 8 h.value.alignment both.1) s.aligned in
+    record { kind = long_is h.value.kind both.0; fits = omega arith }
+
+-- And so it lies in one word.
+pub kind_fits : (spec : ValueSpec) (place : ℕ) → LongAt spec place → place % 8 + width_of spec.kind ≤ 8
+kind_fits spec place long = subst (λ (k : ValueKind). place % 8 + width_of k ≤ 8) (sym long.kind) long.fits
+
+little_is : (o : Order) → is_little o ≡ true → o ≡ Little
+little_is Little e = refl
+little_is Big e = absurd (let no : ⊥ = cc in no)
+
+-- A long that is a word has its lowest byte first.
+pub word_parts : (v : ValueSpec) → is_word v ≡ true → (fills_word v ≡ true) × (v.order ≡ Little)
+word_parts v e = let both = and_parts (fills_word v) (is_little v.order) e in (both.0, little_is v.order both.1)

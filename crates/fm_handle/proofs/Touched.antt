@@ -7,34 +7,26 @@ use Rattle.fm_path.specs.Resolution.{Resolution, IsResolved}
 use Rattle.fm_path_meaning.specs.Walk.{offset_at}
 use Rattle.fm_segment.specs.Region.{Region}
 use Rattle.fm_path_text.specs.declared.step.PathStep.{PathStep}
-use Rattle.fm_handle.specs.Place.{if_rooted, if_writable, place_of, writable_place_of, value_place}
+use Rattle.fm_handle.specs.Place.{if_rooted, place_of, writable_place_of, value_place}
 use Rattle.fm_handle.specs.Touched.{StandsAtPath, ComesTo, reads, writes, updates}
 use Rattle.fm_access.proofs.Causes.{never}
 use Rattle.fm_handle.proofs.Causes.{tested, rooted}
-use Rattle.fm_handle.proofs.Alone.{when_writable}
-use Rattle.fm_handle.proofs.Places.{admitted, rooted_is}
-use Rattle.fm_handle.proofs.Updating.{when_supported}
+use Rattle.fm_handle.proofs.Alone.{supported, written}
+use Rattle.fm_handle.proofs.Places.{rooted_is}
 
-module _ (base : ℕ) (is : List ℕ) (h : Resolution) (r : Region) (place : ℕ) (len : length is ≡ length h.dims) where
-  written : writable_place_of base is h r ≡ Ok place → place_of base is h r ≡ Ok place
-  written e =
-      let inner = if_rooted base h r (Ok (value_place base is h r)) in
-      elim (tested 0 h.dims is (if_writable r inner) len) [
-        | inl all ↦ admitted 0 h.dims is inner all.0 ∙ when_writable r.read_only inner place (sym all.1 ∙ e)
-        | inr some ↦ never place (IndexOut some.0) (sym e ∙ some.2)
-      ]
+-- Whichever call comes to a place, a read does.
+read_too : (base : ℕ) (is : List ℕ) (h : Resolution) (r : Region) (place : ℕ) → length is ≡ length h.dims → ComesTo base is h r place
+    → place_of base is h r ≡ Ok place
+read_too base is h r place len (reads e) = e
+read_too base is h r place len (writes e) = written base is h r len place e
+read_too base is h r place len (updates works_on e) =
+    written base is h r len place (supported (works_on h.value) (writable_place_of base is h r) place e).1
 
-  -- Whichever call comes to a place, a read does.
-  read_too : ComesTo base is h r place → place_of base is h r ≡ Ok place
-  read_too (reads e) = e
-  read_too (writes e) = written e
-  read_too (updates works_on e) = written (when_supported (works_on h.value) (writable_place_of base is h r) place e)
-
--- The place that a read finds is the path's.
-read_at_path : (path : List PathStep) (t : Tree) (h : Resolution) → IsResolved path t h → (base : ℕ) (is : List ℕ) (r : Region) (place : ℕ)
-    → length is ≡ length h.dims
-    → place_of base is h r ≡ Ok place → StandsAtPath path t is base h r place
-read_at_path path t h resolved base is r place len e =
+-- The place that any call finds is the path's.
+pub stands_at_path : (path : List PathStep) (t : Tree) (h : Resolution) → IsResolved path t h → (base : ℕ) (is : List ℕ) (r : Region) (place : ℕ)
+    → length is ≡ length h.dims → ComesTo base is h r place → StandsAtPath path t is base h r place
+stands_at_path path t h resolved base is r place len c =
+    let e = read_too base is h r place len c in
     elim (tested 0 h.dims is (if_rooted base h r (Ok (value_place base is h r))) len) [
       | inl all ↦
           let here = sym all.1 ∙ e in
@@ -50,9 +42,3 @@ read_at_path path t h resolved base is r place len e =
           }
       | inr some ↦ never place (IndexOut some.0) (sym e ∙ some.2)
     ]
-
--- And so is the place that any call finds.
-pub stands_at_path : (path : List PathStep) (t : Tree) (h : Resolution) → IsResolved path t h → (base : ℕ) (is : List ℕ) (r : Region) (place : ℕ)
-    → length is ≡ length h.dims
-    → ComesTo base is h r place → StandsAtPath path t is base h r place
-stands_at_path path t h resolved base is r place len c = read_at_path path t h resolved base is r place len (read_too base is h r place len c)

@@ -23,7 +23,7 @@ module _ {v : View} {h : Resolution} {r : Region} {place : ℕ} (known : IsKnown
   pub touches_word : fills_word h.value ≡ true → CanTouchPiece v r.arena place 8
   touches_word works =
       let w = whole_word h r place stands works in
-      let aligned = w.aligned in
+      let fits = w.fits in
       let width : width_of h.value.kind ≡ 8 = ap width_of w.kind in
       let end = stands.inside in
       let given = known.given in

@@ -40,23 +40,17 @@ sum_of a b = a
 abbrev pub Stores : ArenaId → ℕ → ℕ → Acts → Type 0
 Stores id place word acts = acts ≡ (Write id (place / 8) word, Fine) ∷ []
 
-abbrev pub Swaps : ArenaId → ℕ → ℕ → ℕ → ℕ → Acts → Type 0
-Swaps id place old new found acts = acts ≡ (SwapIf id (place / 8) old new, Found found) ∷ []
-
-abbrev pub AddsTo : ArenaId → ℕ → ℕ → ℕ → Acts → Type 0
-AddsTo id place n found acts = acts ≡ (Add id (place / 8) n, Found found) ∷ []
-
 -- one SwapIf of whole words, which found a word that means `found`
 pub record ExchangesLong (o : Order) (id : ArenaId) (place : ℕ) (expected v found : ℤ) (acts : Acts) : Type 0 where
   pub word : ℕ
   pub small : word < 2 ^ 64
-  pub swaps : Swaps id place (word_of o expected) (word_of o v) word acts
+  pub swaps : acts ≡ (SwapIf id (place / 8) (word_of o expected) (word_of o v), Found word) ∷ []
   pub value : Long found ≡ value_in kind.Long o 0 word
 
 -- one Add, which found a word that means `found`
 pub record AddsLong (id : ArenaId) (place : ℕ) (delta found : ℤ) (acts : Acts) : Type 0 where
   pub word : ℕ
-  pub adds : AddsTo id place (word_of Little delta) word acts
+  pub adds : acts ≡ (Add id (place / 8) (word_of Little delta), Found word) ∷ []
   pub value : Long found ≡ value_in kind.Long Little 0 word
 
 -- ---- tries

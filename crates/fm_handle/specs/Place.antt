@@ -1,12 +1,12 @@
 -- Where a handle's value stands in an arena, or the first refusal that applies before the arena is entered.
-use Rattle.std.specs.Prelude.{Bool, true, false, ◌&&◌, ◌≡◌, ℕ, ◌+◌, ◌%◌, ◌^◌, ◌≤◌, List, [], ◌∷◌, Result, Ok, Err, if◌then◌else◌, nat_le, nat_lt}
+use Rattle.std.specs.Prelude.{Bool, true, false, ◌&&◌, ◌≡◌, ℕ, ◌+◌, ◌%◌, ◌^◌, ◌≤◌, List, [], ◌∷◌, Result, Ok, Err, IfOk, if◌then◌else◌, nat_le, nat_lt}
 use Rattle.std.specs.Int.{is_power_of_two}
 use Rattle.fm_base.specs.declared.refusal.Refusal.{Refusal}
 use Rattle.fm_base.specs.declared.refusal.Refusal.TheVariants.{IndexOut, ReadOnly, Unsupported}
 use Rattle.fm_lanes.specs.declared.order.Order.{Order}
 use Rattle.fm_lanes.specs.declared.order.Order.TheVariants.{Little, Big}
 use Rattle.fm_lanes.specs.declared.value_kind.ValueKind.{ValueKind}
-use Rattle.fm_lanes.specs.declared.value_kind.ValueKind.TheVariants.{Byte, Boolean, Char, Short, Int, Long}
+use Rattle.fm_lanes.specs.declared.value_kind.ValueKind.TheVariants.{Int, Long}
 use Rattle.fm_lanes.specs.Kind.{width_of}
 use Rattle.fm_path.specs.declared.value_spec.ValueSpec.{ValueSpec}
 use Rattle.fm_path.specs.Resolution.{Resolution}
@@ -18,20 +18,13 @@ use Rattle.fm_segment.specs.Region.{Region}
 -- ---- on which values an update works
 
 abbrev pub is_int_or_long : ValueKind → Bool
-is_int_or_long Byte = false
-is_int_or_long Boolean = false
-is_int_or_long Char = false
-is_int_or_long Short = false
 is_int_or_long Int = true
 is_int_or_long Long = true
+is_int_or_long k = false
 
 abbrev pub is_long : ValueKind → Bool
-is_long Byte = false
-is_long Boolean = false
-is_long Char = false
-is_long Short = false
-is_long Int = false
 is_long Long = true
+is_long k = false
 
 abbrev pub is_little : Order → Bool
 is_little Little = true
@@ -103,3 +96,8 @@ writable_place_of base is h r =
 -- for a call that works on such values alone
 abbrev pub update_place_of : (ValueSpec → Bool) → ℕ → List ℕ → Resolution → Region → Result ℕ Refusal
 update_place_of works_on base is h r = if_supported (works_on h.value) (writable_place_of base is h r)
+
+-- what a call that works where `supported` says finds: where the value stands, or its refusal
+pub record FindsWhere (supported : Bool) (base : ℕ) (is : List ℕ) (h : Resolution) (r : Region) (found : Result ℕ Refusal) : Type 0 where
+  pub place : found ≡ if_supported supported (writable_place_of base is h r)
+  pub stands : IfOk found (ValueStands h r)

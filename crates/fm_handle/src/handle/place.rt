@@ -1,5 +1,5 @@
 ghost use Rattle.std.specs.Prelude.{◌≡◌, length, IfOk};
-ghost use Rattle.fm_handle.specs.Place.{RootStands, ValueStands, can_update, fills_word, is_word, root_place, place_of, if_supported, writable_place_of};
+ghost use Rattle.fm_handle.specs.Place.{FindsWhere, RootStands, ValueStands, can_update, fills_word, is_word, root_place, place_of, writable_place_of};
 
 use super::VarHandle;
 use fm_base::Refusal;
@@ -42,12 +42,11 @@ impl VarHandle {
         ensures place { result ≡ writable_place_of base indices.now self.now s.now }
         ensures stands { IfOk result (ValueStands self.now s.now) }
     {
-        let offset = self.resolved.offset_at(indices)?;
         if s.is_read_only() {
+            self.resolved.offset_at(indices)?;
             return Err(Refusal::ReadOnly);
         }
-        let root = self.root_place(s, base)?;
-        Ok(root + offset)
+        self.place_of(s, base, indices)
     }
 
     /// The same for a call that doesn't work on every value. Refused first: `Unsupported`, where it doesn't on this one.
@@ -59,8 +58,7 @@ impl VarHandle {
         indices: &[u64],
     ) -> Result<u64, Refusal>
         requires { length indices.now ≡ length self.now.dims }
-        ensures place { result ≡ if_supported supported (writable_place_of base indices.now self.now s.now) }
-        ensures stands { IfOk result (ValueStands self.now s.now) }
+        ensures { FindsWhere supported base indices.now self.now s.now result }
     {
         if !supported {
             return Err(Refusal::Unsupported);

@@ -1,10 +1,8 @@
 ghost use Rattle.fm_handle.specs.Learnt.{CanCall, AfterSetLong, AfterExchangeLong, AfterAddLong};
 
 use super::VarHandle;
-use crate::visits::{add_at, store_at, swap_at};
-use crate::word::{long_in, word_of};
+use crate::visits::{add_long, exchange_long, store_long};
 use fm_base::{Memory, Refusal};
-use fm_lanes::Order;
 use fm_segment::Segment;
 
 impl VarHandle {
@@ -24,7 +22,7 @@ impl VarHandle {
         ensures { AfterSetLong (M.view m.old) (M.view m.new) self.now s.now base indices.now v result }
     {
         let place = self.update_place_of(self.fills_word(), s, base, indices)?;
-        store_at(m, s.arena(), place, word_of(self.resolved.value().order, v))
+        store_long(m, s.arena(), place, self.resolved.value().order, v)
     }
 
     /// Puts `v` where the long is `expected`, in one exchange of whole words, and answers the long found
@@ -45,14 +43,7 @@ impl VarHandle {
     {
         let place = self.update_place_of(self.fills_word(), s, base, indices)?;
         let order = self.resolved.value().order;
-        let found = swap_at(
-            m,
-            s.arena(),
-            place,
-            word_of(order, expected),
-            word_of(order, v),
-        )?;
-        Ok(long_in(found, order))
+        exchange_long(m, s.arena(), place, order, expected, v)
     }
 
     /// Adds `delta` to the long, wrapping, in one step, and answers the long found (`VarHandle.getAndAdd`). It waits
@@ -72,7 +63,6 @@ impl VarHandle {
         ensures { AfterAddLong (M.view m.old) (M.view m.new) self.now s.now base indices.now delta result }
     {
         let place = self.update_place_of(self.is_word(), s, base, indices)?;
-        let found = add_at(m, s.arena(), place, word_of(Order::Little, delta))?;
-        Ok(long_in(found, Order::Little))
+        add_long(m, s.arena(), place, delta)
     }
 }

@@ -1,51 +1,19 @@
-use Rattle.std.proofs.Common.{rules, w64, ap, ◌∙◌, Ok, Err}
-use Rattle.std.proofs.lemmas.Int.{to_z-of_z}
-use Rattle.std.proofs.lemmas.Result.{err_from_is_err_and}
-use Rattle.fm_base.specs.View.{Did}
-use Rattle.fm_handle.specs.Access.{DoesExchangeLong}
-use Rattle.fm_handle.proofs.Updating.{long_at}
-use Rattle.fm_handle.specs.Place.{fills_word, update_place_of}
-use Rattle.fm_handle.proofs.Learning.{after_exchange_long, refused_update}
+use Rattle.std.proofs.Common.{rules, sym, ◌∙◌}
+use Rattle.fm_segment.proofs.Exits.{not_placed}
+use Rattle.fm_handle.proofs.Learning.{after_exchange_long}
 use Rattle.fm_handle.proofs.Touching.{touches_word}
-use Rattle.fm_handle.proofs.Visiting.{found_by, works}
+use Rattle.fm_handle.proofs.Visiting.{reaches}
 use Rattle.fm_handle.proofs.handle.VarHandle.compare_and_exchange_long.Goals as goal
 
 pub returns-in_err-place : goal.returns-in_err-place
 returns-in_err-place g c =
-    let p = err_from_is_err_and c.from_residual.result c.from_residual.ensures.1 in
-    refused_update _ fills_word c.args.base c.args.indices.now c.args.self.now c.requires.known c.requires.outside c.requires.indices c.fills_word.ensures
-    c.update_place_of.ensures.place c.in_err-place.was (p.1 ∙ ap Err p.2)
-
-pub returns-in_err-found : goal.returns-in_err-found
-returns-in_err-found g c =
-    let v = g.M.Memory.view in
-    let d : Did (v c.args.m.now) (v c.swap_at.new.m)
-    (DoesExchangeLong (v c.args.m.now).caller c.args.self.now c.args.s.now
-    (update_place_of fills_word c.args.base c.args.indices.now c.args.self.now c.args.s.now) c.args.expected c.args.v
-    c.from_residual-in_err-found.result) = search rules in
-    let at = found_by fills_word c.args.base c.args.indices.now c.args.self.now c.args.s.now c.fills_word.ensures c.update_place_of.ensures.place
-    c.in_ok-place.was in
-    after_exchange_long c.args.base c.requires (λ p e.
-    long_at c.args.base c.args.indices.now c.args.self.now c.args.s.now c.requires.indices c.in_ok-place.place at c.in_ok-place.ensures.stands) (λ p e.
-    search rules) d
+    let at = rw c.fills_word.ensures at c.update_place_of.ensures in
+    after_exchange_long c.requires c.ranges.expected at (not_placed _ _ (sym at.place ∙ c.in_err-place.was) c.from_residual.ensures.1)
 
 pub returns : goal.returns
-returns g c =
-    let v = g.M.Memory.view in
-    let d : Did (v c.args.m.now) (v c.swap_at.new.m)
-    (DoesExchangeLong (v c.args.m.now).caller c.args.self.now c.args.s.now
-    (update_place_of fills_word c.args.base c.args.indices.now c.args.self.now c.args.s.now) c.args.expected c.args.v (Ok c.long_in.result)) =
-    search rules in
-    let at = found_by fills_word c.args.base c.args.indices.now c.args.self.now c.args.s.now c.fills_word.ensures c.update_place_of.ensures.place
-    c.in_ok-place.was in
-    rw (to_z-of_z w64 c.long_in.result (record { sfits = c.long_in.type_inv }))
-    (after_exchange_long c.args.base c.requires (λ p e.
-    long_at c.args.base c.args.indices.now c.args.self.now c.args.s.now c.requires.indices c.in_ok-place.place at c.in_ok-place.ensures.stands) (λ p e.
-    search rules) d)
+returns g c = after_exchange_long c.requires c.ranges.expected (rw c.fills_word.ensures at c.update_place_of.ensures) (search rules)
 
-pub swap_at-requires : goal.swap_at-requires
-swap_at-requires g c =
-    let at = found_by fills_word c.args.base c.args.indices.now c.args.self.now c.args.s.now c.fills_word.ensures c.update_place_of.ensures.place
-    c.in_ok-place.was in
-    rw c.arena.ensures (touches_word c.requires.known c.requires.outside c.in_ok-place.ensures.stands
-    (works fills_word c.args.base c.args.indices.now c.args.self.now c.args.s.now c.in_ok-place.place at))
+pub exchange_long-requires : goal.exchange_long-requires
+exchange_long-requires g c =
+    let here = reaches (rw c.fills_word.ensures at c.update_place_of.ensures) c.in_ok-place.was in
+    rw c.arena.ensures (touches_word c.requires.known c.requires.outside here.1 here.0)

@@ -1,27 +1,10 @@
-use Rattle.std.proofs.Common.{rules, sym, ap, ◌∙◌, Err}
-use Rattle.std.proofs.lemmas.Result.{err_from_is_err_and}
-use Rattle.fm_base.specs.View.{Did}
-use Rattle.fm_access.specs.Values.{DoesGetValue}
-use Rattle.fm_access.proofs.Learning.{refused_at}
-use Rattle.fm_handle.specs.Access.{DoesGet}
-use Rattle.fm_handle.specs.Place.{place_of}
+use Rattle.std.proofs.Common.{rules, sym, ◌∙◌}
+use Rattle.fm_segment.proofs.Exits.{not_placed}
 use Rattle.fm_handle.proofs.Learning.{after_get}
 use Rattle.fm_handle.proofs.handle.VarHandle.get.Goals as goal
 
 pub returns-in_err-place : goal.returns-in_err-place
-returns-in_err-place g c =
-    let v = g.M.Memory.view c.args.m.now in
-    let h = c.args.self.now in
-    let p = err_from_is_err_and c.from_residual.result c.from_residual.ensures.1 in
-    after_get c.args.base c.requires
-    (refused_at v (place_of c.args.base c.args.indices.now c.args.self.now c.args.s.now)
-    (DoesGetValue v.caller h.value.kind h.value.order c.args.s.now.arena) c.in_err-place.field-0.0 c.from_residual.result
-    (sym c.place_of.ensures.place ∙ c.in_err-place.was) (p.1 ∙ ap Err p.2))
+returns-in_err-place g c = after_get c.args.base c.requires (not_placed _ _ (sym c.place_of.ensures.place ∙ c.in_err-place.was) c.from_residual.ensures.1)
 
 pub returns : goal.returns
-returns g c =
-    let v = g.M.Memory.view in
-    let d : Did (v c.args.m.now) (v c.get_value.new.m)
-    (DoesGet (v c.args.m.now).caller c.args.self.now c.args.s.now (place_of c.args.base c.args.indices.now c.args.self.now c.args.s.now)
-    c.get_value.result) = search rules in
-    after_get c.args.base c.requires d
+returns g c = after_get c.args.base c.requires (search rules)

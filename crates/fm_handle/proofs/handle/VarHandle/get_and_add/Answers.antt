@@ -1,34 +1,19 @@
-use Rattle.std.proofs.Common.{rules, ap, ◌∙◌, Err}
-use Rattle.std.proofs.lemmas.Result.{err_from_is_err_and}
-use Rattle.fm_base.specs.View.{Did}
-use Rattle.fm_handle.specs.Access.{DoesAdd}
-use Rattle.fm_handle.proofs.Updating.{fits_at}
-use Rattle.fm_handle.specs.Place.{can_update, update_place_of}
-use Rattle.fm_handle.proofs.Learning.{after_add, refused_update}
+use Rattle.std.proofs.Common.{rules, sym, ◌∙◌}
+use Rattle.fm_segment.proofs.Exits.{not_placed}
+use Rattle.fm_handle.proofs.Learning.{after_add}
 use Rattle.fm_handle.proofs.Touching.{touches_value}
-use Rattle.fm_handle.proofs.Visiting.{found_by, works}
+use Rattle.fm_handle.proofs.Visiting.{reaches}
 use Rattle.fm_handle.proofs.handle.VarHandle.get_and_add.Goals as goal
 
 pub returns-in_err-place : goal.returns-in_err-place
 returns-in_err-place g c =
-    let p = err_from_is_err_and c.from_residual.result c.from_residual.ensures.1 in
-    refused_update _ can_update c.args.base c.args.indices.now c.args.self.now c.requires.known c.requires.outside c.requires.indices c.can_update.ensures
-    c.update_place_of.ensures.place c.in_err-place.was (p.1 ∙ ap Err p.2)
+    let at = rw c.can_update.ensures at c.update_place_of.ensures in
+    after_add c.requires at (not_placed _ _ (sym at.place ∙ c.in_err-place.was) c.from_residual.ensures.1)
 
 pub returns : goal.returns
-returns g c =
-    let v = g.M.Memory.view in
-    let d : Did (v c.args.m.now) (v c.add_value.new.m)
-    (DoesAdd (v c.args.m.now).caller c.args.self.now c.args.s.now (update_place_of can_update c.args.base c.args.indices.now c.args.self.now c.args.s.now)
-    c.args.delta c.add_value.result) = search rules in
-    let at = found_by can_update c.args.base c.args.indices.now c.args.self.now c.args.s.now c.can_update.ensures c.update_place_of.ensures.place
-    c.in_ok-place.was in
-    after_add c.args.base c.requires (λ p e.
-    fits_at c.args.base c.args.indices.now c.args.self.now c.args.s.now c.requires.indices c.in_ok-place.place at c.in_ok-place.ensures.stands) d
+returns g c = after_add c.requires (rw c.can_update.ensures at c.update_place_of.ensures) (search rules)
 
 pub add_value-requires : goal.add_value-requires
 add_value-requires g c =
-    let at = found_by can_update c.args.base c.args.indices.now c.args.self.now c.args.s.now c.can_update.ensures c.update_place_of.ensures.place
-    c.in_ok-place.was in
-    rw (c.arena.ensures, c.requires.value) (touches_value c.requires.known c.requires.outside c.in_ok-place.ensures.stands
-    (works can_update c.args.base c.args.indices.now c.args.self.now c.args.s.now c.in_ok-place.place at))
+    let here = reaches (rw c.can_update.ensures at c.update_place_of.ensures) c.in_ok-place.was in
+    rw (c.arena.ensures, c.requires.value) (touches_value c.requires.known c.requires.outside here.1 here.0)
