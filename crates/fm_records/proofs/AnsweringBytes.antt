@@ -2,8 +2,8 @@
 use Rattle.std.proofs.Common.{◌≡◌, ℕ, ◌+◌, ◌-◌, ◌*◌, ◌/◌, ◌%◌, ◌<◌, ◌≤◌, List, [], length, drop, get_or, refl, sym, ap, ◌∙◌, arith}
 use Rattle.std.specs.List.{range_with_len}
 use Rattle.std.proofs.lemmas.Grind.{same_number_lists}
-use Rattle.std.proofs.lemmas.List.{length-drop, length-map, length-take-le, get_or-map, get_or-take, get_or-drop}
-use Rattle.std.proofs.lemmas.List.FromFn.{get_or-range_with_len}
+use Rattle.std.proofs.lemmas.List.{length-drop, length-take-le, get_or-map, get_or-take, get_or-drop}
+use Rattle.std.proofs.lemmas.List.FromFn.{get_or-range_with_len, length-map-range_with_len, length-range_with_len}
 use Rattle.std.proofs.lemmas.Nat.{div-add-mod'}
 use Rattle.fm_base.specs.declared.caller.Caller.{Caller}
 use Rattle.fm_base.specs.Arenas.{State, arena_of}
@@ -20,7 +20,6 @@ use Rattle.fm_records.specs.Answers.{found_over, answer}
 use Rattle.fm_records.specs.Bytes.{IsByteOf, IsAnswered}
 use Rattle.fm_records.specs.Reads.{LiesIn}
 use Rattle.fm_records.specs.Records.{pieces}
-use Rattle.fm_records.proofs.Adding.{length-range}
 use Rattle.fm_records.proofs.ReadingBytes.{get_or-bytes_of, records_of_bytes}
 
 -- as many records as the size has are within it
@@ -38,12 +37,12 @@ answer_of_bytes c p s bytes a own h =
 -- ---- the bytes at places
 
 pub length-places : (s : State) (r : Region) → length (bytes_at_places s r) ≡ r.size
-length-places s r = length-map (range_with_len r.first r.size) (byte_at (arena_of s r.arena).words) ∙ length-range r.first r.size
+length-places s r = length-map-range_with_len (byte_at (arena_of s r.arena).words) r.first r.size
 
 pub get_or-places : (s : State) (r : Region) (k : ℕ) → k < r.size → get_or (bytes_at_places s r) k 0 ≡ byte_at (arena_of s r.arena).words (r.first + k)
 get_or-places s r k below =
     let words = (arena_of s r.arena).words in
-    get_or-map (byte_at words) (range_with_len r.first r.size) k 0 0 (omega (arith, below, length-range r.first r.size))
+    get_or-map (byte_at words) (range_with_len r.first r.size) k 0 0 (omega (arith, below, length-range_with_len r.first r.size))
     ∙ ap (byte_at words) (get_or-range_with_len r.first r.size k 0 below)
 
 -- those in a word are the word's

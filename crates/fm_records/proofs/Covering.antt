@@ -1,5 +1,5 @@
 -- Each word of the values that a query asks for in a chosen record is read.
-use Rattle.std.proofs.Common.{◌≡◌, ℕ, zero, suc, ◌+◌, ◌-◌, ◌*◌, ◌/◌, ◌<◌, ◌≤◌, true, false, Option, Some, None, List, [], ◌∷◌, ◌++◌, length, map, take, drop, refl, sym, ap, ◌∙◌, subst, inl, inr, arith}
+use Rattle.std.proofs.Common.{◌≡◌, ℕ, zero, suc, ◌+◌, ◌-◌, ◌*◌, ◌/◌, ◌<◌, ◌≤◌, true, false, Option, Some, List, [], ◌++◌, length, take, drop, refl, sym, ap, ◌∙◌, subst, inl, inr, arith}
 use Rattle.std.specs.Prelude.{ℤ}
 use Rattle.std.specs.List.{list_all, slice_get}
 use Rattle.std.proofs.lemmas.Bool.{cases_lt}
@@ -30,8 +30,9 @@ use Rattle.fm_records.specs.Reads.{IsWordOf, LiesIn, value_places, ReadsNumber, 
 use Rattle.fm_records.specs.Records.{pieces}
 use Rattle.fm_records.specs.Values.{index_lists}
 use Rattle.fm_records.proofs.AnsweringBytes.{records_lie}
-use Rattle.fm_records.proofs.Indices.{admitted_listed, among_left, among_right}
+use Rattle.fm_records.proofs.Indices.{admitted_listed}
 use Rattle.fm_records.proofs.ReadingBytes.{tests_of_bytes}
+use Rattle.fm_lists.proofs.Among.{among_left, among_map, among_right}
 use Rattle.fm_lists.proofs.Each.{all_split}
 
 -- ---- words
@@ -57,45 +58,28 @@ module _ (c : Caller) (id : ArenaId) (word : ℕ) where
         (subst (λ (es : List Entry). IsAmong (entry_of c (Read id (place / 8)) (Found_word p.word)) es) (sym p.visits) (inr (inl refl)));
   }
 
-  -- of a range that is read to its end
-  abbrev IsReadIf : Option (List ℕ) → List Entry → Type 0
-  IsReadIf (Some bytes) own = HasRead c id word own
-  IsReadIf None own = Unit {0}
-
-  if_read : (answer : Option (List ℕ)) (own : List Entry) → HasRead c id word own → IsReadIf answer own
-  if_read (Some bytes) own h = h
-  if_read None own h = tt
-
-  if_right : (answer : Option (List ℕ)) (es fs : List Entry) → IsReadIf answer fs → IsReadIf answer (es ++ fs)
-  if_right (Some bytes) es fs h = read_right es fs h
-  if_right None es fs h = tt
-
-  range_ends : (end : ℕ) (x : Reading) (own : List Entry) (answer : Option (List ℕ)) → EndsReading c id end x own answer → HasByte x.at end word
-      → IsReadIf answer own
-  range_ends end x own (Some bytes) e h = absurd (omega (arith, e.0, h.some))
-  range_ends end x own None e h = tt
-
-  range_is_read : (end : ℕ) (x : Reading) (own : List Entry) (answer : Option (List ℕ)) → Run (ReadsOn c id end) (EndsReading c id end) x own answer
-      → HasByte x.at end word → IsReadIf answer own
-  range_is_read end x own answer (ends e) h = range_ends end x own answer e h
-  range_is_read end x own answer (goes_on y first rest step run) h = elim (cases_lt (x.at / 8) word) [
+  -- and so is a range that is read to its end
+  range_is_read : (end : ℕ) (x : Reading) (own : List Entry) (bytes : List ℕ) → Run (ReadsOn c id end) (EndsReading c id end) x own (Some bytes)
+      → HasByte x.at end word → HasRead c id word own
+  range_is_read end x own bytes (ends e) h = absurd (omega (arith, e.0, h.some))
+  range_is_read end x own bytes (goes_on y first rest step run) h = elim (cases_lt (x.at / 8) word) [
     | inl further ↦
         let from : y.at ≤ 8 * word = omega (arith, step.at, further) in
-        if_right answer first rest (range_is_read end y rest answer run (record {
+        read_right first rest (range_is_read end y rest bytes run (record {
           above = omega (arith, from);
           below = h.below;
           some = omega (arith, from, h.below);
         }))
     | inr here ↦
         let at : x.at / 8 ≡ word = omega (arith, here, h.above) in
-        if_read answer (first ++ rest) (read_left first rest (piece_is_read x.at (piece_width x.at end) step.v first step.piece at))
+        read_left first rest (piece_is_read x.at (piece_width x.at end) step.v first step.piece at)
   ]
 
   -- ---- values
 
   number_is_read : (spec : ValueSpec) (place : ℕ) (own : List Entry) (n : ℤ) → ReadsNumber c id spec place own n
       → HasByte place (place + width_of spec.kind) word → HasRead c id word own
-  number_is_read spec place own n r h = range_is_read (place + width_of spec.kind) (record { at = place; bytes = [] }) own (Some r.reads.bytes) r.reads.visits h
+  number_is_read spec place own n r h = range_is_read (place + width_of spec.kind) (record { at = place; bytes = [] }) own r.reads.bytes r.reads.visits h
 
   -- one of the values at these places
   numbers_are_read : (spec : ValueSpec) (places : List ℕ) (own : List Entry) (ns : List ℤ) (place : ℕ) → ReadsNumbers c id spec places own ns
@@ -107,78 +91,66 @@ module _ (c : Caller) (id : ArenaId) (word : ℕ) where
   numbers_are_read spec places own ns place (one_more {place = first} {places = left} one rest n more r others) (inr a) h =
       read_right one rest (numbers_are_read spec left rest more place others a h)
 
-  among_map : {A B : Type 0} (f : A → B) (x : A) (xs : List A) → IsAmong x xs → IsAmong (f x) (map f xs)
-  among_map f x [] a = absurd a
-  among_map f x (y ∷ xs) (inl e) = inl (ap f e)
-  among_map f x (y ∷ xs) (inr a) = inr (among_map f x xs a)
+-- ---- what an item asks for
 
-  -- what an item asks for
-  item_is_read : (place : ℕ) (f : Fold) (r : Resolution) (is : List ℕ) (own : List Entry) (found : Found) → FindsItem c id place (asked.Of f r) own found
-      → AreAdmitted r.dims is
-      → HasByte (place + offset_at r.offset r.dims is) (place + offset_at r.offset r.dims is + width_of r.value.kind) word → HasRead c id word own
-  item_is_read place f r is own found h a b =
-      numbers_are_read r.value (value_places place r.offset r.dims) own h.0 (place + offset_at r.offset r.dims is) h.1
-      (among_map (λ js. place + offset_at r.offset r.dims js) is (index_lists r.dims) (admitted_listed r.dims is a)) b
+module _ (c : Caller) (id : ArenaId) (word : ℕ) (item : Item) (f : Fold) (r : Resolution) (is : List ℕ) (asks : item.asked ≡ asked.Of f r)
+    (admitted : AreAdmitted r.dims is) where
+  -- its value in the record at a place has a byte of the word
+  abbrev StandsIn : ℕ → Type 0
+  StandsIn place = HasByte (place + offset_at r.offset r.dims is) (place + offset_at r.offset r.dims is + width_of r.value.kind) word
 
-  items_are_read : (place : ℕ) (items : List Item) (own : List Entry) (fs : List Found) (item : Item) (f : Fold) (r : Resolution) (is : List ℕ)
-      → FindsItems c id place items own fs
-      → IsAmong item items → item.asked ≡ asked.Of f r → AreAdmitted r.dims is
-      → HasByte (place + offset_at r.offset r.dims is) (place + offset_at r.offset r.dims is + width_of r.value.kind) word → HasRead c id word own
-  items_are_read place items own fs item f r is no_item among asks a b = absurd among
-  items_are_read place items own fs item f r is (one_item {item = first} {items = left} found others one rest h more) (inl e) asks a b =
+  item_is_read : (place : ℕ) (own : List Entry) (found : Found) → FindsItem c id place (asked.Of f r) own found → StandsIn place → HasRead c id word own
+  item_is_read place own found h b =
+      numbers_are_read c id word r.value (value_places place r.offset r.dims) own h.0 (place + offset_at r.offset r.dims is) h.1
+      (among_map (λ js. place + offset_at r.offset r.dims js) is (index_lists r.dims) (admitted_listed r.dims is admitted)) b
+
+  items_are_read : (place : ℕ) (items : List Item) (own : List Entry) (fs : List Found) → FindsItems c id place items own fs → IsAmong item items
+      → StandsIn place → HasRead c id word own
+  items_are_read place items own fs no_item among b = absurd among
+  items_are_read place items own fs (one_item {item = first} {items = left} found others one rest h more) (inl e) b =
       let finds : FindsItem c id place (asked.Of f r) one found =
       subst (λ (q : Asked). FindsItem c id place q one found) (sym (ap (λ (i : Item). i.asked) e) ∙ asks) h in
-      read_left one rest (item_is_read place f r is one found finds a b)
-  items_are_read place items own fs item f r is (one_item {item = first} {items = left} found others one rest h more) (inr among) asks a b =
-      read_right one rest (items_are_read place left rest others item f r is more among asks a b)
-  -- ---- records
+      read_left c id word one rest (item_is_read place one found finds b)
+  items_are_read place items own fs (one_item {item = first} {items = left} found others one rest h more) (inr among) b =
+      read_right c id word one rest (items_are_read place left rest others more among b)
 
-module _ (c : Caller) (s : Region) (word : ℕ) (bytes : List ℕ) (size : length bytes ≡ s.size) (p : Plan) (plan : IsPlan p) where
-  -- a chosen record
-  record_is_read : (place : ℕ) (own : List Entry) (seen : Option (List Found)) (item : Item) (f : Fold) (r : Resolution) (is : List ℕ) → LiesIn s place p.size
-      → ReadsRecord c s.arena p place own seen → FindAs s bytes own → list_all (holds_for (take p.size (drop (place - s.first) bytes))) p.conditions ≡ true
-      → IsAmong item p.items → item.asked ≡ asked.Of f r → AreAdmitted r.dims is
-      → HasByte (place + offset_at r.offset r.dims is) (place + offset_at r.offset r.dims is + width_of r.value.kind) word → HasRead c s.arena word own
-  record_is_read place own seen item f r is lies (chosen one rest fs t h) w all among asks a b =
-      read_right c s.arena word one rest (items_are_read c s.arena word place p.items rest fs item f r is h among asks a b)
-  record_is_read place own seen item f r is lies (passed_over one t) w all among asks a b =
+-- ---- records
+
+-- the chosen record at a place
+module _ (c : Caller) (s : Region) (word : ℕ) (bytes : List ℕ) (size : length bytes ≡ s.size) (p : Plan) (plan : IsPlan p) (item : Item) (f : Fold)
+    (r : Resolution) (is : List ℕ) (among : IsAmong item p.items) (asks : item.asked ≡ asked.Of f r) (admitted : AreAdmitted r.dims is) (place : ℕ)
+    (all : list_all (holds_for (take p.size (drop (place - s.first) bytes))) p.conditions ≡ true)
+    (byte : HasByte (place + offset_at r.offset r.dims is) (place + offset_at r.offset r.dims is + width_of r.value.kind) word) where
+  record_is_read : (own : List Entry) (seen : Option (List Found)) → LiesIn s place p.size → ReadsRecord c s.arena p place own seen → FindAs s bytes own
+      → HasRead c s.arena word own
+  record_is_read own seen lies (chosen one rest fs t h) w =
+      read_right c s.arena word one rest (items_are_read c s.arena word item f r is asks admitted place p.items rest fs h among byte)
+  record_is_read own seen lies (passed_over one t) w =
       let fails : list_all (holds_for (take p.size (drop (place - s.first) bytes))) p.conditions ≡ false =
-      tests_of_bytes c s bytes size p.size p.alignment place p.conditions one false plan.conditions lies t w in
+      tests_of_bytes c s bytes size p.size p.alignment place lies p.conditions one false plan.conditions t w in
       let no : true ≡ false = sym all ∙ fails in
       absurd (cc)
 
-  -- the chosen record of an index
-  records_are_read : (index count place : ℕ) (so_far all : List Found) (own : List Entry) (item : Item) (f : Fold) (r : Resolution) (is : List ℕ)
-      → LiesIn s place (count * p.size)
-      → ReadsRecords c s.arena p count place so_far own all → FindAs s bytes own → index < count
-      → list_all (holds_for (take p.size (drop (place - s.first + index * p.size) bytes))) p.conditions ≡ true
-      → IsAmong item p.items → item.asked ≡ asked.Of f r → AreAdmitted r.dims is
-      → HasByte (place + index * p.size + offset_at r.offset r.dims is) (place + index * p.size + offset_at r.offset r.dims is + width_of r.value.kind) word
-      → HasRead c s.arena word own
-  records_are_read index count place so_far all own item f r is lies no_record w below holds among asks a b = absurd (omega arith)
-  records_are_read zero count place so_far all own item f r is lies (one_record {count = left} one rest seen first more) w below holds among asks a b =
-      let at : place + 0 * p.size ≡ place = omega arith in
-      let offset : place - s.first + 0 * p.size ≡ place - s.first = omega arith in
+  -- it is one of those that were read
+  records_are_read : (index count from : ℕ) (so_far found : List Found) (own : List Entry) → LiesIn s from (count * p.size)
+      → ReadsRecords c s.arena p count from so_far own found → FindAs s bytes own → index < count → place ≡ from + index * p.size → HasRead c s.arena word own
+  records_are_read index count from so_far found own lies no_record w below at = absurd (omega arith)
+  records_are_read zero count from so_far found own lies (one_record {count = left} one rest seen first more) w below at =
+      let same : from ≡ place = omega arith in
       let sum : suc left * p.size ≡ p.size + left * p.size = grind arith in
+      let low = lies.from in
       let within = lies.within in
-      let parts = all_split _ one rest w in
       read_left c s.arena word one rest
-      (record_is_read place one seen item f r is (record { from = lies.from; within = omega (arith, within, sum) }) first parts.0
-      (subst (λ (q : ℕ). list_all (holds_for (take p.size (drop q bytes))) p.conditions ≡ true) offset holds) among asks a
-      (subst (λ (q : ℕ). HasByte (q + offset_at r.offset r.dims is) (q + offset_at r.offset r.dims is + width_of r.value.kind) word) at b))
-  records_are_read (suc index) count place so_far all own item f r is lies (one_record {count = left} one rest seen first more) w below holds among asks a b =
-      let from = lies.from in
+      (record_is_read one seen (record { from = omega (arith, low, same); within = omega (arith, within, sum, same) })
+      (subst (λ (q : ℕ). ReadsRecord c s.arena p q one seen) same first) (all_split _ one rest w).0)
+  records_are_read (suc index) count from so_far found own lies (one_record {count = left} one rest seen first more) w below at =
+      let low = lies.from in
       let within = lies.within in
       let sum : suc left * p.size ≡ p.size + left * p.size = grind arith in
       let next : suc index * p.size ≡ p.size + index * p.size = grind arith in
-      let at : place + suc index * p.size ≡ place + p.size + index * p.size = omega (arith, next) in
-      let offset : place - s.first + suc index * p.size ≡ place + p.size - s.first + index * p.size = omega (arith, next, from) in
-      let parts = all_split _ one rest w in
       read_right c s.arena word one rest
-      (records_are_read index left (place + p.size) _ all rest item f r is (record { from = omega (arith, from); within = omega (arith, within, sum) })
-      more parts.1 (omega (arith, below))
-      (subst (λ (q : ℕ). list_all (holds_for (take p.size (drop q bytes))) p.conditions ≡ true) offset holds) among asks a
-      (subst (λ (q : ℕ). HasByte (q + offset_at r.offset r.dims is) (q + offset_at r.offset r.dims is + width_of r.value.kind) word) at b))
+      (records_are_read index left (from + p.size) _ found rest (record { from = omega (arith, low); within = omega (arith, within, sum) }) more
+      (all_split _ one rest w).1 (omega (arith, below)) (omega (arith, at, next)))
 
 -- ---- the record of an index
 
@@ -205,14 +177,11 @@ pub asked_is_read : (c : Caller) (p : Plan) (s : Region) (bytes : List ℕ) (a :
     → IsAnswered c p s bytes a own → IsAsked p bytes index r is → IsWordOf (value_in p s index r is) word → HasRead c s.arena word own
 asked_is_read c p s bytes a own index r is word h asks w =
     let there = piece_there index (length bytes / p.size) p.size bytes asks.record_bytes asks.stands in
-    let offset : s.first - s.first + index * p.size ≡ index * p.size = omega arith in
-    let all : list_all (holds_for (take p.size (drop (s.first - s.first + index * p.size) bytes))) p.conditions ≡ true =
-    ap (λ n. list_all (holds_for (take p.size (drop n bytes))) p.conditions) offset ∙ ap (λ bs. list_all (holds_for bs) p.conditions) (sym there.is)
-    ∙ asks.chosen in
+    let offset : index * p.size ≡ s.first + index * p.size - s.first = omega arith in
+    let piece = there.is ∙ ap (λ n. take p.size (drop n bytes)) offset in
     let bounds = width_of-bounds r.value.kind in
     let at : s.first + (index * p.size + offset_at r.offset r.dims is) ≡ s.first + index * p.size + offset_at r.offset r.dims is = omega arith in
-    let byte : HasByte (s.first + index * p.size + offset_at r.offset r.dims is)
-    (s.first + index * p.size + offset_at r.offset r.dims is + width_of r.value.kind) word =
-    subst (λ (q : ℕ). HasByte q (q + width_of r.value.kind) word) at (record { above = w.above; below = w.below; some = omega (arith, bounds.0) }) in
-    records_are_read c s word bytes h.size p h.plan index (s.size / p.size) s.first _ a own asks.item asks.fold r is (records_lie p s) h.does.records h.finds
-    (subst (λ (n : ℕ). index < n / p.size) h.size there.below) all asks.among asks.asks asks.admitted byte
+    let byte = subst (λ (q : ℕ). HasByte q (q + width_of r.value.kind) word) at (record { above = w.above; below = w.below; some = omega (arith, bounds.0) }) in
+    records_are_read c s word bytes h.size p h.plan asks.item asks.fold r is asks.among asks.asks asks.admitted (s.first + index * p.size)
+    (ap (λ bs. list_all (holds_for bs) p.conditions) (sym piece) ∙ asks.chosen) byte index (s.size / p.size) s.first _ a own (records_lie p s) h.does.records
+    h.finds (subst (λ (n : ℕ). index < n / p.size) h.size there.below) refl

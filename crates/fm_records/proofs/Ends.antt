@@ -5,6 +5,7 @@ use Rattle.std.specs.Int.{int_min, int_max}
 use Rattle.std.specs.List.{AllByRecursion}
 use Rattle.std.proofs.lemmas.Int.{ints, clamps}
 use Rattle.fm_lists.specs.Among.{IsAmong}
+use Rattle.fm_lists.proofs.Each.{all_weaker}
 use Rattle.fm_records.specs.Answers.{lesser, greater, least_of, greatest_of}
 
 -- which of three comes first makes no difference
@@ -30,12 +31,10 @@ greatest_of-append (x ∷ xs) ys = ap (greater (Some x)) (greatest_of-append xs 
 
 -- what is at most each of these is so for what is less
 lower : (m n : ℤ) (xs : List ℤ) → m ≤ℤ n → AllByRecursion (λ x. n ≤ℤ x) xs → AllByRecursion (λ x. m ≤ℤ x) xs
-lower m n [] le all = tt
-lower m n (x ∷ xs) le all = (omega (arith, ints, le, all.0), lower m n xs le all.1)
+lower m n xs le all = all_weaker (λ x. n ≤ℤ x) (λ x. m ≤ℤ x) (λ x h. omega (arith, ints, le, h)) xs all
 
 higher : (m n : ℤ) (xs : List ℤ) → n ≤ℤ m → AllByRecursion (λ x. x ≤ℤ n) xs → AllByRecursion (λ x. x ≤ℤ m) xs
-higher m n [] le all = tt
-higher m n (x ∷ xs) le all = (omega (arith, ints, le, all.0), higher m n xs le all.1)
+higher m n xs le all = all_weaker (λ x. x ≤ℤ n) (λ x. x ≤ℤ m) (λ x h. omega (arith, ints, le, h)) xs all
 
 abbrev IsLeastOf : List ℤ → Option ℤ → Type 0
 IsLeastOf ns o = MatchOption o (ns ≡ []) (λ n. IsAmong n ns × AllByRecursion (λ m. n ≤ℤ m) ns)

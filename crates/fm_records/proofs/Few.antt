@@ -1,5 +1,5 @@
 -- How far the counts and sums of an answer can come.
-use Rattle.std.proofs.Common.{◌≡◌, ℕ, suc, ◌+◌, ◌*◌, ◌/◌, ◌%◌, ◌^◌, ◌≤◌, ◌-◌, Bool, true, false, Option, List, [], ◌∷◌, length, map, refl, sym, ap, ◌∙◌, subst, arith}
+use Rattle.std.proofs.Common.{◌≡◌, ℕ, suc, ◌+◌, ◌*◌, ◌/◌, ◌%◌, ◌^◌, ◌≤◌, ◌-◌, Bool, true, false, Option, List, [], ◌∷◌, length, map, sym, ap, ◌∙◌, subst, arith}
 use Rattle.std.specs.Prelude.{◌==◌, not, ℤ, pos, negsuc, ◌+ℤ◌, FitsSigned}
 use Rattle.std.specs.Int.{w128}
 use Rattle.std.specs.List.{AllByRecursion, AllZip}
@@ -30,7 +30,7 @@ use Rattle.fm_records.specs.Answers.{sum_of, folded, found_in, item_found, found
 use Rattle.fm_records.specs.Few.{IsSumBy, IsFoundBy, IsFew, AreFew, AnswersAreFew, FewCanJoin, HasRoom, HaveRoom, IsOpen, how_many}
 use Rattle.fm_records.specs.Joined.{CanJoinFound, CanJoin, both, joined}
 use Rattle.fm_records.specs.Adds.{with_number, with_numbers, AddsNumbers}
-use Rattle.fm_records.specs.Reads.{ReadsNumber, ReadsNumbers, no_more, one_more, FindsItem, FindsItems, no_item, one_item, ReadsRecord, chosen, passed_over, with_record, ReadsRecords, no_record, one_record}
+use Rattle.fm_records.specs.Reads.{value_places, ReadsNumber, ReadsNumbers, no_more, one_more, FindsItem, FindsItems, no_item, one_item, ReadsRecord, chosen, passed_over, with_record, ReadsRecords, no_record, one_record}
 use Rattle.fm_records.specs.Texts.{IsFolded, IsFoundOf, IsItemFound}
 use Rattle.fm_records.specs.Values.{index_lists}
 use Rattle.fm_records.proofs.Plans.{IsItemFew, plan_items_few}
@@ -79,29 +79,11 @@ one_decoded kind.Long n = fits_one _ (FitsBytes-signed_of 8 (n % 2 ^ 64) (omega 
 pub one_number : (c : Caller) (id : ArenaId) (spec : ValueSpec) (place : ℕ) (own : List Entry) (n : ℤ) → ReadsNumber c id spec place own n → IsSumBy 1 n
 one_number c id spec place own n r = subst (IsSumBy 1) (sym (r.number ∙ ap number_of_value r.reads.value)) (one_decoded spec.kind _)
 
--- as many numbers as places
-record AreSummed (places : List ℕ) (ns : List ℤ) : Type 0 where
-  long : length ns ≡ length places
-  sum : IsSumBy (length ns) (sum_of ns)
-
-numbers_summed : (c : Caller) (id : ArenaId) (spec : ValueSpec) (places : List ℕ) (own : List Entry) (ns : List ℤ) → ReadsNumbers c id spec places own ns
-    → AreSummed places ns
-numbers_summed c id spec places own ns no_more = record { long = refl; sum = no_sum }
-numbers_summed c id spec places own ns (one_more {place = place} {places = left} first rest n more r h) =
-    let behind = numbers_summed c id spec left rest more h in
-    let plus : 1 + length more ≡ suc (length more) = omega arith in
-    record {
-      long = ap suc behind.long;
-      sum = subst (λ (k : ℕ). IsSumBy k (n +ℤ sum_of more)) plus (sum_more 1 (length more) n (sum_of more) (one_number c id spec place first n r) behind.sum);
-    }
-
 -- one number more
 number_few : (n : ℕ) (f : Found) (z : ℤ) → IsSumBy 1 z → IsFoundBy n f → IsFoundBy (n + 1) (with_number f z)
 number_few n (Count k) z one h = omega arith
 number_few n (Sum x) z one h = sum_more n 1 x z h one
-number_few n (Least o) z one h = tt
-number_few n (Greatest o) z one h = tt
-number_few n (Listed zs) z one h = tt
+number_few n f z one h = tt
 
 numbers_few : (c : Caller) (id : ArenaId) (spec : ValueSpec) (places : List ℕ) (own : List Entry) (ns : List ℤ) (n : ℕ) (f : Found)
     → ReadsNumbers c id spec places own ns → IsFoundBy n f
@@ -111,6 +93,18 @@ numbers_few c id spec places own ns n f (one_more {place = place} {places = left
     let e : n + 1 + length left ≡ n + suc (length left) = omega arith in
     subst (λ (k : ℕ). IsFoundBy k (with_numbers (with_number f z) more)) e
     (numbers_few c id spec left rest more (n + 1) (with_number f z) more_read (number_few n f z (one_number c id spec place first z r) h))
+
+pub sums : (x : ℤ) (ns : List ℤ) → with_numbers (Sum x) ns ≡ Sum (x +ℤ sum_of ns)
+sums x [] = let e : x ≡ x +ℤ pos 0 = omega (arith, ints) in ap Sum e
+sums x (n ∷ ns) = let e : x +ℤ n +ℤ sum_of ns ≡ x +ℤ (n +ℤ sum_of ns) = omega (arith, ints) in sums (x +ℤ n) ns ∙ ap Sum e
+
+-- what they come to by themselves
+numbers_sum : (c : Caller) (id : ArenaId) (spec : ValueSpec) (places : List ℕ) (own : List Entry) (ns : List ℤ) → ReadsNumbers c id spec places own ns
+    → IsSumBy (length places) (sum_of ns)
+numbers_sum c id spec places own ns h =
+    let by : IsSumBy (0 + length places) (pos 0 +ℤ sum_of ns) =
+    subst (IsFoundBy (0 + length places)) (sums (pos 0) ns) (numbers_few c id spec places own ns 0 (Sum (pos 0)) h no_sum) in
+    record { low = (let a = by.low in omega (arith, ints)); high = (let a = by.high in omega (arith, ints)) }
 
 -- so there is room for those that are left
 pub adds_room : {c : Caller} {id : ArenaId} {spec : ValueSpec} {places : List ℕ} {f g : Found} {own : List Entry} (more : ℕ)
@@ -126,27 +120,26 @@ pub room_less : (f : Found) (n m : ℕ) → m ≤ n → HasRoom f n → HasRoom 
 room_less f n m less h = (h.0, omega (arith, h.1), h.2)
 
 -- a find of the kind that is asked for, from so few numbers
-record IsFewOf (n : ℕ) (a : Asked) (found : Found) : Type 0 where
-  kind : IsFoundOf a found
-  by : IsFoundBy n found
+abbrev IsFewOf : ℕ → Asked → Found → Type 0
+IsFewOf n a found = IsFoundOf a found × IsFoundBy n found
 
 folded_few : (f : Fold) (r : _) (n : ℕ) (ns : List ℤ) → IsSumBy n (sum_of ns) → IsFewOf n (asked.Of f r) (folded f ns)
-folded_few fold.Sum r n ns h = record { kind = tt; by = h }
-folded_few fold.Least r n ns h = record { kind = tt; by = tt }
-folded_few fold.Greatest r n ns h = record { kind = tt; by = tt }
-folded_few fold.All r n ns h = record { kind = tt; by = tt }
+folded_few fold.Sum r n ns h = (tt, h)
+folded_few f r n ns h = (tt, tt)
 
 item_few : (c : Caller) (id : ArenaId) (place size : ℕ) (a : Asked) (own : List Entry) (found : Found) → how_many a ≤ size → FindsItem c id place a own found
     → IsFewOf size a found
-item_few c id place size asked.Count own found few h = subst (IsFewOf size asked.Count) (sym h.1) (record { kind = tt; by = few })
+item_few c id place size asked.Count own found few h = subst (IsFewOf size asked.Count) (sym h.1) (tt, few)
 item_few c id place size (asked.Of f r) own found few h =
-    let s = numbers_summed c id r.value _ own h.0 h.1 in
-    let long : length h.0 ≤ size = omega (arith, few, s.long, length-map (index_lists r.dims) (λ is. place + offset_at r.offset r.dims is)) in
-    subst (IsFewOf size (asked.Of f r)) (sym h.2) (folded_few f r size h.0 (sum_less (length h.0) size (sum_of h.0) long s.sum))
+    let places = value_places place r.offset r.dims in
+    let by = numbers_sum c id r.value places own h.0 h.1 in
+    let long : length (value_places place r.offset r.dims) ≤ size =
+    omega (arith, few, length-map (index_lists r.dims) (λ is. place + offset_at r.offset r.dims is)) in
+    subst (IsFewOf size (asked.Of f r)) (sym h.2) (folded_few f r size h.0 (sum_less (length places) size (sum_of h.0) long by))
 
 -- the same of an item
 of_item : (n : ℕ) (item : Item) (found : Found) → IsFewOf n item.asked found → IsFew n item found
-of_item n item found h = record { kind = h.kind; by = h.by }
+of_item n item found h = record { kind = h.0; by = h.1 }
 
 items_few : (c : Caller) (id : ArenaId) (place size : ℕ) (items : List Item) (own : List Entry) (fs : List Found)
     → AllByRecursion (IsItemFew size) items → FindsItems c id place items own fs → AllZip (IsFew size) items fs
@@ -168,29 +161,25 @@ record AreBoth (n : ℕ) (a : Asked) (f g : Found) : Type 0 where
 folds_few : (m n : ℕ) (o : Fold) (r : _) (f g : Found) → IsFolded o f → IsFolded o g → IsFoundBy m f → IsFoundBy n g → AreBoth (m + n) (asked.Of o r) f g
 folds_few m n fold.Sum r (Sum x) (Sum y) i j h k =
     let sum = sum_more m n x y h k in
-    record { can = λ less. fits_128 (m + n) (x +ℤ y) less sum; few = record { kind = tt; by = sum } }
-folds_few m n fold.Least r (Least x) (Least y) i j h k = record { can = λ less. tt; few = record { kind = tt; by = tt } }
-folds_few m n fold.Greatest r (Greatest x) (Greatest y) i j h k = record { can = λ less. tt; few = record { kind = tt; by = tt } }
-folds_few m n fold.All r (Listed x) (Listed y) i j h k = record { can = λ less. tt; few = record { kind = tt; by = tt } }
+    record { can = λ less. fits_128 (m + n) (x +ℤ y) less sum; few = (tt, sum) }
+folds_few m n fold.Least r (Least x) (Least y) i j h k = record { can = λ less. tt; few = (tt, tt) }
+folds_few m n fold.Greatest r (Greatest x) (Greatest y) i j h k = record { can = λ less. tt; few = (tt, tt) }
+folds_few m n fold.All r (Listed x) (Listed y) i j h k = record { can = λ less. tt; few = (tt, tt) }
 folds_few m n fold.Sum r (Sum x) g i j h k = absurd j
 folds_few m n fold.Least r (Least x) g i j h k = absurd j
 folds_few m n fold.Greatest r (Greatest x) g i j h k = absurd j
 folds_few m n fold.All r (Listed x) g i j h k = absurd j
 folds_few m n o r f g i j h k = absurd i
 
-two_few : (m n : ℕ) (a : Asked) (f g : Found) → IsFewOf m a f → IsFewOf n a g → AreBoth (m + n) a f g
-two_few m n asked.Count (Count x) (Count y) h k =
-    let p = h.by in let q = k.by in record { can = λ less. omega arith; few = record { kind = tt; by = omega arith } }
-two_few m n asked.Count (Count x) g h k = absurd k.kind
-two_few m n asked.Count f g h k = absurd h.kind
-two_few m n (asked.Of o r) f g h k = folds_few m n o r f g h.kind k.kind h.by k.by
+two_few : (m n : ℕ) (a : Asked) (f g : Found) → IsFoundOf a f → IsFoundOf a g → IsFoundBy m f → IsFoundBy n g → AreBoth (m + n) a f g
+two_few m n asked.Count (Count x) (Count y) i j h k = record { can = λ less. omega arith; few = (tt, omega arith) }
+two_few m n asked.Count (Count x) g i j h k = absurd j
+two_few m n asked.Count f g i j h k = absurd i
+two_few m n (asked.Of o r) f g i j h k = folds_few m n o r f g i j h k
 
 record AreAllBoth (n : ℕ) (items : List Item) (fs gs : List Found) : Type 0 where
   can : n ≤ 2 ^ 62 → CanJoin fs gs
   few : AllZip (IsFew n) items (joined fs gs)
-
-by_item : (n : ℕ) (item : Item) (found : Found) → IsFew n item found → IsFewOf n item.asked found
-by_item n item found h = record { kind = h.kind; by = h.by }
 
 all_few : (m n : ℕ) (items : List Item) (fs gs : List Found) → AllZip (IsFew m) items fs → AllZip (IsFew n) items gs → AreAllBoth (m + n) items fs gs
 all_few m n [] [] [] h k = record { can = λ less. tt; few = tt }
@@ -199,7 +188,7 @@ all_few m n [] (f ∷ fs) gs h k = absurd h
 all_few m n (i ∷ is) [] gs h k = absurd h
 all_few m n (i ∷ is) (f ∷ fs) [] h k = absurd k
 all_few m n (i ∷ is) (f ∷ fs) (g ∷ gs) h k =
-    let one = two_few m n i.asked f g (by_item m i f h.0) (by_item n i g k.0) in
+    let one = two_few m n i.asked f g h.0.kind k.0.kind h.0.by k.0.by in
     let rest = all_few m n is fs gs h.1 k.1 in
     record { can = λ less. (one.can less, rest.can less); few = (of_item (m + n) i (both f g) one.few, rest.few) }
 
@@ -207,27 +196,23 @@ all_few m n (i ∷ is) (f ∷ fs) (g ∷ gs) h k =
 found_less : (m n : ℕ) (f : Found) → m ≤ n → IsFoundBy m f → IsFoundBy n f
 found_less m n (Count k) less h = omega arith
 found_less m n (Sum x) less h = sum_less m n x less h
-found_less m n (Least o) less h = tt
-found_less m n (Greatest o) less h = tt
-found_less m n (Listed xs) less h = tt
+found_less m n f less h = tt
 
 few_less : (m n : ℕ) (items : List Item) (fs : List Found) → m ≤ n → AllZip (IsFew m) items fs → AllZip (IsFew n) items fs
 few_less m n [] [] less h = tt
-few_less m n [] (f ∷ fs) less h = absurd h
-few_less m n (i ∷ is) [] less h = absurd h
 few_less m n (i ∷ is) (f ∷ fs) less h = (record { kind = h.0.kind; by = found_less m n f less h.0.by }, few_less m n is fs less h.1)
+few_less m n is fs less h = absurd h
 
 -- they are an answer of the query
 pub few_answer : (n : ℕ) (items : List Item) (fs : List Found) → AllZip (IsFew n) items fs → AllZip IsItemFound items fs
 few_answer n [] [] h = tt
-few_answer n [] (f ∷ fs) h = absurd h
-few_answer n (i ∷ is) [] h = absurd h
 few_answer n (i ∷ is) (f ∷ fs) h = (h.0.kind, few_answer n is fs h.1)
+few_answer n is fs h = absurd h
 
 -- ---- records
 
 none_few : (a : Asked) → IsFewOf 0 a (found_in [] a)
-none_few asked.Count = record { kind = tt; by = omega arith }
+none_few asked.Count = (tt, omega arith)
 none_few (asked.Of f r) = folded_few f r 0 [] no_sum
 
 pub nothing_few : (items : List Item) → AllZip (IsFew 0) items (map (item_found []) items)
@@ -266,13 +251,13 @@ few_join p m n a b h k less =
 items_open : (n size : ℕ) (items : List Item) (fs : List Found) → n + size ≤ 2 ^ 62 → AllByRecursion (IsItemFew size) items → AllZip (IsFew n) items fs
     → AllZip IsOpen items fs
 items_open n size [] [] less few h = tt
-items_open n size [] (f ∷ fs) less few h = h
-items_open n size (i ∷ is) [] less few h = h
 items_open n size (i ∷ is) (f ∷ fs) less few h = (
   record { kind = h.0.kind; room = (n, omega (arith, few.0, less), h.0.by) },
   items_open n size is fs less few.1 h.1,
 )
+items_open n size is fs less few h = absurd h
 
 -- where a record has room, its items have
-pub plan_items_open : (p : Plan) (fs : List Found) → IsPlan p → HaveRoom p fs p.size → AllZip IsOpen p.items fs
-plan_items_open p fs plan h = items_open h.0 p.size p.items fs h.1 (plan_items_few p plan) h.2
+pub plan_items_open : {p : Plan} {items : List Item} (fs : List Found) → items ≡ p.items → IsPlan p → HaveRoom p fs p.size → AllZip IsOpen items fs
+plan_items_open {p} {items} fs is plan h =
+    subst (λ (xs : List Item). AllZip IsOpen xs fs) (sym is) (items_open h.0 p.size p.items fs h.1 (plan_items_few p plan) h.2)

@@ -1,34 +1,16 @@
 -- The index lists of a path are those that are admitted.
-use Rattle.std.proofs.Common.{◌≡◌, ℕ, zero, suc, ◌+◌, ◌<◌, ◌≤◌, List, [], ◌∷◌, ◌++◌, map, refl, ap, subst, inl, inr, arith, ◌⊎◌}
+use Rattle.std.proofs.Common.{◌≡◌, ℕ, zero, suc, ◌+◌, ◌<◌, ◌≤◌, List, [], ◌∷◌, map, refl, subst, inl, inr, arith, ◌⊎◌}
 use Rattle.std.proofs.lemmas.Bool.{cases_lt}
 use Rattle.std.specs.List.{flat_map, range_with_len}
 use Rattle.fm_lists.specs.Among.{IsAmong}
+use Rattle.fm_lists.proofs.Among.{among_either, among_left, among_map, among_right}
 use Rattle.fm_path_meaning.specs.Walk.{AreAdmitted}
 use Rattle.fm_path_meaning.specs.declared.dim.Dim.{Dim}
 use Rattle.fm_records.specs.Values.{index_lists}
 
-pub among_left : {A : Type 0} (x : A) (xs ys : List A) → IsAmong x xs → IsAmong x (xs ++ ys)
-among_left x [] ys h = absurd h
-among_left x (y ∷ xs) ys (inl e) = inl e
-among_left x (y ∷ xs) ys (inr h) = inr (among_left x xs ys h)
-
-pub among_right : {A : Type 0} (x : A) (xs ys : List A) → IsAmong x ys → IsAmong x (xs ++ ys)
-among_right x [] ys h = h
-among_right x (y ∷ xs) ys h = inr (among_right x xs ys h)
-
-among_either : {A : Type 0} (x : A) (xs ys : List A) → IsAmong x (xs ++ ys) → IsAmong x xs ⊎ IsAmong x ys
-among_either x [] ys h = inr h
-among_either x (y ∷ xs) ys (inl e) = inl (inl e)
-among_either x (y ∷ xs) ys (inr h) = elim (among_either x xs ys h) [ inl l ↦ inl (inr l) | inr r ↦ inr r ]
-
 -- lists of indices with one put before each
 abbrev led : List (List ℕ) → ℕ → List (List ℕ)
 led iss i = map (λ is. i ∷ is) iss
-
-led_in : (i : ℕ) (is : List ℕ) (iss : List (List ℕ)) → IsAmong is iss → IsAmong (i ∷ is) (led iss i)
-led_in i is [] h = absurd h
-led_in i is (js ∷ iss) (inl e) = inl (ap (λ ks. i ∷ ks) e)
-led_in i is (js ∷ iss) (inr h) = inr (led_in i is iss h)
 
 led_by : (i j : ℕ) (is : List ℕ) (iss : List (List ℕ)) → IsAmong (i ∷ is) (led iss j) → (i ≡ j) × IsAmong is iss
 led_by i j is [] h = absurd h
@@ -47,7 +29,9 @@ here_or_above i a low = elim (cases_lt a i) [ inl above ↦ inr (omega (arith, a
 in_range : (i a n : ℕ) (is : List ℕ) (iss : List (List ℕ)) → a ≤ i → i < a + n → IsAmong is iss → IsAmong (i ∷ is) (flat_map (led iss) (range_with_len a n))
 in_range i a zero is iss low high h = absurd (omega arith)
 in_range i a (suc n) is iss low high h = elim (here_or_above i a low) [
-  | inl e ↦ among_left (i ∷ is) (led iss a) (flat_map (led iss) (range_with_len (a + 1) n)) (subst (λ k. IsAmong (i ∷ is) (led iss k)) e (led_in i is iss h))
+  | inl e ↦
+      among_left (i ∷ is) (led iss a) (flat_map (led iss) (range_with_len (a + 1) n))
+      (subst (λ k. IsAmong (i ∷ is) (led iss k)) e (among_map (λ js. i ∷ js) is iss h))
   | inr above ↦ among_right (i ∷ is) (led iss a) (flat_map (led iss) (range_with_len (a + 1) n)) (in_range i (a + 1) n is iss above (omega (arith, high)) h)
 ]
 

@@ -80,9 +80,7 @@ answer-append p a b some whole =
 
 folded_is : (f : Fold) (xs : List ℤ) → IsFolded f (folded f xs)
 folded_is fold.Sum xs = tt
-folded_is fold.Least xs = tt
-folded_is fold.Greatest xs = tt
-folded_is fold.All xs = tt
+folded_is f xs = tt
 
 found_is : (rs : List (List ℕ)) (a : Asked) → IsFoundOf a (found_in rs a)
 found_is rs asked.Count = tt

@@ -1,5 +1,4 @@
 pub mod Adding
-pub mod AnsweringAlone
 pub mod AnsweringBytes
 pub mod Behind
 pub mod Covering
@@ -7,7 +6,6 @@ pub mod Ends
 pub mod Few
 pub mod Indices
 pub mod Items
-pub mod ItemsLoop
 pub mod Joining
 pub mod Learning
 pub mod Lines

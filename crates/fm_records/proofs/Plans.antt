@@ -1,10 +1,11 @@
 -- What the parts of a query have, that adding an item and testing a condition ask for.
-use Rattle.std.proofs.Common.{◌≡◌, ℕ, zero, suc, ◌+◌, ◌*◌, ◌<◌, ◌≤◌, List, [], ◌∷◌, length, map, refl, ap, arith}
+use Rattle.std.proofs.Common.{◌≡◌, ℕ, zero, suc, ◌+◌, ◌*◌, ◌<◌, ◌≤◌, List, [], ◌∷◌, length, map, refl, sym, ap, subst, arith}
 use Rattle.std.proofs.lemmas.List.{length-append, length-map}
 use Rattle.std.specs.List.{AllByRecursion, flat_map, range_with_len}
+use Rattle.fm_lists.proofs.Each.{all_weaker}
 use Rattle.fm_path_meaning.specs.declared.dim.Dim.{Dim}
 use Rattle.fm_segment.specs.Region.{Region}
-use Rattle.fm_query.specs.Plan.{Plan, value_count, AsksOf, IsItemIn, IsConditionIn, IsPlan}
+use Rattle.fm_query.specs.Plan.{Plan, value_count, AsksOf, IsPlan}
 use Rattle.fm_query.specs.declared.condition.Condition.{Condition}
 use Rattle.fm_query.specs.declared.item.Asked.{Asked}
 use Rattle.fm_query.specs.declared.item.Asked.TheVariants as asked
@@ -39,13 +40,9 @@ asked_few : (size alignment : ℕ) (a : Asked) → 0 < size → AsksOf size alig
 asked_few size alignment asked.Count some h = omega (arith, some)
 asked_few size alignment (asked.Of f r) some h = omega (arith, length-index_lists r.dims, h.few)
 
-items_few : (size alignment : ℕ) (items : List Item) → 0 < size → AllByRecursion (IsItemIn size alignment) items → AllByRecursion (IsItemFew size) items
-items_few size alignment [] some h = tt
-items_few size alignment (i ∷ is) some h = (asked_few size alignment i.asked some h.0, items_few size alignment is some h.1)
-
 -- no item adds more numbers in a record than the record has bytes
 pub plan_items_few : (p : Plan) → IsPlan p → AllByRecursion (IsItemFew p.size) p.items
-plan_items_few p h = items_few p.size p.alignment p.items h.sized h.items
+plan_items_few p h = all_weaker _ (IsItemFew p.size) (λ i f. asked_few p.size p.alignment i.asked h.sized f) p.items h.items
 
 asked_readable : (s : Region) (place size alignment : ℕ) (a : Asked) → LiesIn s place size → AsksOf size alignment a → IsReadable s place a
 asked_readable s place size alignment asked.Count lies h = tt
@@ -57,31 +54,21 @@ asked_readable s place size alignment (asked.Of f r) lies h =
       lies = λ is admitted. record { from = omega (arith, from); within = omega (arith, h.stays.inside is admitted, h.size, within) };
     }
 
-items_readable : (s : Region) (place size alignment : ℕ) (items : List Item) → LiesIn s place size → AllByRecursion (IsItemIn size alignment) items
-    → AllByRecursion (IsItemReadable s place) items
-items_readable s place size alignment [] within h = tt
-items_readable s place size alignment (i ∷ is) within h =
-    (asked_readable s place size alignment i.asked within h.0, items_readable s place size alignment is within h.1)
-
 -- where a record stands in the segment, so do its items' values
-pub plan_items_readable : (s : Region) (place : ℕ) (p : Plan) → IsPlan p → LiesIn s place p.size → AllByRecursion (IsItemReadable s place) p.items
-plan_items_readable s place p h within = items_readable s place p.size p.alignment p.items within h.items
-
--- ---- conditions
-
-conditions_testable : (s : Region) (place size alignment : ℕ) (cs : List Condition) → LiesIn s place size → AllByRecursion (IsConditionIn size alignment) cs
-    → AllByRecursion (IsTestable s place) cs
-conditions_testable s place size alignment [] within h = tt
-conditions_testable s place size alignment (c ∷ cs) within h = (
-  record {
-    closed = h.0.closed;
-    stays = h.0.through.stays;
-    lies =
-        record { from = within.from; within = (let w = within.within in omega (arith, h.0.through.size, w)) };
-  },
-  conditions_testable s place size alignment cs within h.1,
-)
+pub plan_items_readable : {s : Region} {place : ℕ} {p : Plan} {items : List Item} → items ≡ p.items → IsPlan p → LiesIn s place p.size
+    → AllByRecursion (IsItemReadable s place) items
+plan_items_readable {s} {place} {p} {items} is h lies =
+    subst (λ (xs : List Item). AllByRecursion (IsItemReadable s place) xs) (sym is)
+    (all_weaker _ (IsItemReadable s place) (λ i f. asked_readable s place p.size p.alignment i.asked lies f) p.items h.items)
 
 -- and the values that its conditions test
-pub plan_conditions_testable : (s : Region) (place : ℕ) (p : Plan) → IsPlan p → LiesIn s place p.size → AllByRecursion (IsTestable s place) p.conditions
-plan_conditions_testable s place p h within = conditions_testable s place p.size p.alignment p.conditions within h.conditions
+pub plan_conditions_testable : {s : Region} {place : ℕ} {p : Plan} {cs : List Condition} → cs ≡ p.conditions → IsPlan p → LiesIn s place p.size
+    → AllByRecursion (IsTestable s place) cs
+plan_conditions_testable {s} {place} {p} {cs} is h lies =
+    let from = lies.from in
+    let within = lies.within in
+    subst (λ (xs : List Condition). AllByRecursion (IsTestable s place) xs) (sym is) (all_weaker _ (IsTestable s place) (λ x f. record {
+      closed = f.closed;
+      stays = f.through.stays;
+      lies = record { from = from; within = omega (arith, f.through.size, within) };
+    }) p.conditions h.conditions)

@@ -1,9 +1,9 @@
 -- Values of a path reached index by index.
-use Rattle.std.proofs.Common.{◌≡◌, ℕ, zero, suc, ◌+◌, ◌-◌, ◌*◌, ◌<◌, ◌≤◌, Bool, true, false, cond, Result, List, [], ◌∷◌, ◌++◌, length, map, take, drop, get_or, slice_index_or, refl, sym, ap, ◌∙◌, subst, ◌⊎◌, inl, inr, arith}
+use Rattle.std.proofs.Common.{◌≡◌, ℕ, zero, suc, ◌+◌, ◌-◌, ◌*◌, ◌<◌, ◌≤◌, Bool, true, false, cond, Ok, Err, List, [], ◌∷◌, ◌++◌, length, map, take, drop, get_or, slice_index_or, refl, sym, ap, ◌∙◌, subst, ◌⊎◌, inl, inr, arith}
 use Rattle.std.specs.Prelude.{ℤ, pos, negsuc}
 use Rattle.std.specs.List.{flat_map, range_with_len}
 use Rattle.std.proofs.lemmas.Bool.Decides.{nat_tests}
-use Rattle.std.proofs.lemmas.List.{append-nil, length-map}
+use Rattle.std.proofs.lemmas.List.{append-nil, length-map, take_all}
 use Rattle.fm_base.specs.declared.refusal.Refusal.{Refusal}
 use Rattle.fm_base.specs.View.{View, Did}
 use Rattle.fm_lanes.specs.Kind.{width_of}
@@ -15,66 +15,27 @@ use Rattle.fm_path_meaning.specs.Walk.{AreAdmitted, offset_at, reach}
 use Rattle.fm_segment.specs.Region.{Region}
 use Rattle.fm_records.specs.declared.found.Found.{Found}
 use Rattle.fm_records.specs.Adds.{DoesAdd, ReachesInside}
+use Rattle.fm_records.specs.Paths.{AddsAll, CanAddAll}
 use Rattle.fm_records.specs.Reads.{LiesIn, value_places}
 use Rattle.fm_records.specs.Values.{index_lists}
 use Rattle.fm_lists.proofs.Mapped.{flat_map-same}
-use Rattle.fm_records.proofs.Adding.{places_by_first}
+use Rattle.fm_records.proofs.Adding.{AreAdded, added_more, added_room, added_stops, places_by_first}
+use Rattle.fm_lists.specs.Among.{IsAmong}
+use Rattle.fm_records.proofs.Indices.{admitted_listed, listed_admitted}
+use Rattle.fm_records.proofs.Visiting.{can_still}
 
 -- the first, and the others
-pub split : {X : Type 0} (ds : List X) (z : X) → 1 ≤ length ds → ds ≡ slice_index_or ds 0 z ∷ take (length ds - 1) (drop 1 ds)
+pub split : (ds : List Dim) (z : Dim) → 1 ≤ length ds → ds ≡ slice_index_or ds 0 z ∷ take (length ds - 1) (drop 1 ds)
 split [] z some = absurd (omega arith)
-split {X} (d ∷ ds) z some = let n : length (d ∷ ds) - 1 ≡ length ds = omega arith in sym (ap (λ xs. d ∷ xs) (ap (λ k. take k ds) n ∙ take_whole ds))
+split (d ∷ ds) z some = ap (λ xs. d ∷ xs) (sym (take_all (length (d ∷ ds) - 1) ds (omega arith)))
+
+-- some list of indices is admitted, or there is none
+some_or_none : (ds : List Dim) → ((is : List ℕ) × AreAdmitted ds is) ⊎ (index_lists ds ≡ [])
+some_or_none ds = go (index_lists ds) refl
   where
-    take_whole : (xs : List X) → take (length xs) xs ≡ xs
-    take_whole [] = refl
-    take_whole (x ∷ xs) = ap (λ ys. x ∷ ys) (take_whole xs)
-
--- the same, where the first has a name
-pub split_at : {X : Type 0} (ds : List X) (x : X) → x ≡ slice_index_or ds 0 x → 1 ≤ length ds → ds ≡ x ∷ take (length ds - 1) (drop 1 ds)
-split_at ds x is some = split ds x some ∙ ap (λ y. y ∷ take (length ds - 1) (drop 1 ds)) (sym is)
-
-pub none : {X : Type 0} (ds : List X) → length ds < 1 → ds ≡ []
-none [] empty = refl
-none (d ∷ ds) empty = absurd (omega arith)
-
--- no list of indices is admitted
-pub record HasNone (ds : List Dim) : Type 0 where
-  pub admitted : (is : List ℕ) → AreAdmitted ds is → ⊥
-  pub listed : index_lists ds ≡ []
-
-none_led : (iss : List (List ℕ)) (xs : List ℕ) → iss ≡ [] → flat_map (λ i. map (λ is. i ∷ is) iss) xs ≡ []
-none_led iss [] e = refl
-none_led iss (x ∷ xs) e = ap (λ ys. ys ++ flat_map (λ i. map (λ is. i ∷ is) iss) xs) (ap (map (λ is. x ∷ is)) e) ∙ none_led iss xs e
-
-none_first : (d : Dim) (ds : List Dim) → d.bound ≡ 0 → HasNone (d ∷ ds)
-none_first d ds e = record {
-  admitted = none;
-  listed = ap (λ n. flat_map (λ i. map (λ is. i ∷ is) (index_lists ds)) (range_with_len 0 n)) e;
-}
-  where
-    none : (is : List ℕ) → AreAdmitted (d ∷ ds) is → ⊥
-    none [] h = h
-    none (i ∷ is) h = omega (arith, h.0, e)
-
-none_more : (d : Dim) (ds : List Dim) → HasNone ds → HasNone (d ∷ ds)
-none_more d ds h = record { admitted = none; listed = none_led (index_lists ds) (range_with_len 0 d.bound) h.listed }
-  where
-    none : (is : List ℕ) → AreAdmitted (d ∷ ds) is → ⊥
-    none [] a = a
-    none (i ∷ is) a = h.admitted is a.1
-
-abbrev SomeOrNone : List Dim → Type 0
-SomeOrNone ds = ((is : List ℕ) × AreAdmitted ds is) ⊎ HasNone ds
-
-first_some : (d : Dim) (ds : List Dim) (n : ℕ) → d.bound ≡ n → SomeOrNone ds → SomeOrNone (d ∷ ds)
-first_some d ds zero e h = inr (none_first d ds e)
-first_some d ds (suc n) e (inl h) = inl (0 ∷ h.0, (omega arith, h.1))
-first_some d ds (suc n) e (inr h) = inr (none_more d ds h)
-
--- some list is, or none
-some_or_none : (ds : List Dim) → SomeOrNone ds
-some_or_none [] = inl ([], tt)
-some_or_none (d ∷ ds) = first_some d ds d.bound refl (some_or_none ds)
+    go : (iss : List (List ℕ)) → index_lists ds ≡ iss → ((is : List ℕ) × AreAdmitted ds is) ⊎ (index_lists ds ≡ [])
+    go [] e = inr e
+    go (is ∷ iss) e = inl (is, listed_admitted ds is (subst (IsAmong is) (sym e) (inl refl)))
 
 at_index : (s : Region) (place at : ℕ) (d : Dim) (ds : List Dim) (spec : ValueSpec) (i : ℕ) → ReachesInside s place at (d ∷ ds) spec → i < d.bound
     → ReachesInside s place (reach at d.stride i) ds spec
@@ -100,38 +61,46 @@ reached s place at next d ds spec i h below comes = elim (some_or_none ds) [ inl
           places = ap (λ n. value_places place n ds) e;
         }
 
-    none : HasNone ds → Reached s place at next d ds spec i
-    none n = record {
-      inside = record { steady = λ is a. absurd (n.admitted is a); lies = λ is a. absurd (n.admitted is a) };
-      places = ap (map (λ is. place + offset_at next ds is)) n.listed ∙ sym (ap (map (λ is. place + offset_at (reach at d.stride i) ds is)) n.listed);
-    }
+    none : index_lists ds ≡ [] → Reached s place at next d ds spec i
+    none n =
+        let no : (is : List ℕ) → AreAdmitted ds is → ⊥ = λ is a. subst (IsAmong is) n (admitted_listed ds is a) in
+        record {
+          inside = record { steady = λ is a. absurd (no is a); lies = λ is a. absurd (no is a) };
+          places = ap (map (λ is. place + offset_at next ds is)) n ∙ sym (ap (map (λ is. place + offset_at (reach at d.stride i) ds is)) n);
+        }
 
--- what was added there is what stands an index further on
-pub reached_did : {now new : View} {s : Region} {place at next : ℕ} {d : Dim} {ds : List Dim} {spec : ValueSpec} {i : ℕ}
-    (f g : Found) (result : Result (Unit {0}) Refusal)
-    → Reached s place at next d ds spec i → Did now new (DoesAdd now.caller s spec (value_places place next ds) f g result)
-    → Did now new (DoesAdd now.caller s spec (value_places place (reach at d.stride i) ds) f g result)
-reached_did {now} {new} {s} {place} {at} {next} {d} {ds} {spec} {i} f g result r did =
-    subst (λ (ps : List ℕ). Did now new (DoesAdd now.caller s spec ps f g result)) r.places did
+-- the next turn of a loop over a path's first open step: what it may do, and what it did
+module _ {old now : View} {s : Region} {place at next : ℕ} {d : Dim} {ds : List Dim} {spec : ValueSpec} {f g : Found} {i : ℕ}
+    (can : CanAddAll old s place at (d ∷ ds) spec f) (a : AreAdded old now s place at d ds spec f g i) (below : i < d.bound)
+    (comes : IsInside at d.stride i → next ≡ reach at d.stride i) where
+  here : Reached s place at next d ds spec i
+  here = reached s place at next d ds spec i can.inside below comes
+
+  pub turn_can : CanAddAll now s place next ds spec g
+  turn_can = record { can = can_still can.can a.under_way.so_far; inside = here.inside; room = added_room a below }
+
+  pub turn_added : {new : View} (h : Found) (u : Unit {0}) → AddsAll now new s place next ds spec g h (Ok u) → AreAdded old new s place at d ds spec f h (i + 1)
+  turn_added {new} h u did =
+      added_more a below (subst (λ (ps : List ℕ). Did now new (DoesAdd now.caller s spec ps g h (Ok u))) here.places did)
+
+  pub turn_stops : {new : View} (h : Found) (r : Refusal) → AddsAll now new s place next ds spec g h (Err r)
+      → AddsAll old new s place at (d ∷ ds) spec f h (Err r)
+  turn_stops {new} h r did =
+      added_stops a h r below (subst (λ (ps : List ℕ). Did now new (DoesAdd now.caller s spec ps g h (Err r))) here.places did)
 
 -- with no open step
-pub closed_lies : (s : Region) (place at : ℕ) (ds : List Dim) (spec : ValueSpec) → ReachesInside s place at ds spec → length ds < 1
+pub closed_lies : {v : View} {s : Region} {place at : ℕ} {spec : ValueSpec} {f : Found} → CanAddAll v s place at [] spec f
     → LiesIn s (place + at) (width_of spec.kind)
-closed_lies s place at [] spec h empty = h.lies [] tt
-closed_lies s place at (d ∷ ds) spec h empty = absurd (omega arith)
-
-pub closed_places : (place at : ℕ) (ds : List Dim) → length ds < 1 → (place + at) ∷ [] ≡ value_places place at ds
-closed_places place at [] empty = refl
-closed_places place at (d ∷ ds) empty = absurd (omega arith)
-
-pub closed_many : (ds : List Dim) → length ds < 1 → length (index_lists ds) ≡ 1
-closed_many [] empty = refl
-closed_many (d ∷ ds) empty = absurd (omega arith)
+closed_lies can = can.inside.lies [] tt
 
 -- a bound of 0 leaves no list of indices
+none_led : (iss : List (List ℕ)) (xs : List ℕ) → iss ≡ [] → flat_map (λ i. map (λ is. i ∷ is) iss) xs ≡ []
+none_led iss [] e = refl
+none_led iss (x ∷ xs) e = ap (λ ys. ys ++ flat_map (λ i. map (λ is. i ∷ is) iss) xs) (ap (map (λ is. x ∷ is)) e) ∙ none_led iss xs e
+
 pub none_at : (k : ℕ) (ds : List Dim) (z : Dim) → k < length ds → (get_or ds k z).bound ≡ 0 → index_lists ds ≡ []
 none_at k [] z below e = absurd (omega arith)
-none_at zero (d ∷ ds) z below e = (none_first d ds e).listed
+none_at zero (d ∷ ds) z below e = ap (λ n. flat_map (λ i. map (λ is. i ∷ is) (index_lists ds)) (range_with_len 0 n)) e
 none_at (suc k) (d ∷ ds) z below e = none_led (index_lists ds) (range_with_len 0 d.bound) (none_at k ds z (omega arith) e)
 
 -- ---- dims of one index lead nowhere
@@ -159,42 +128,41 @@ wide_places place at (d ∷ ds) = go (λ n. wide_places place n ds) (is_wide d) 
         rest at ∙ ap (λ n. value_places place n ds) (sym (reach-none at d.stride)) ∙ sym (append-nil (value_places place (reach at d.stride 0) ds))
         ∙ ap (λ n. flat_map (λ i. value_places place (reach at d.stride i) ds) (range_with_len 0 n)) (sym (one_index d e)) ∙ sym (places_by_first place at d ds)
 
-pub wide_none : (place at : ℕ) (ds : List Dim) → index_lists (wide_dims ds) ≡ [] → value_places place at ds ≡ []
-wide_none place at ds e = sym (wide_places place at ds) ∙ ap (map (λ is. place + offset_at at (wide_dims ds) is)) e
-
 pub wide_many : (ds : List Dim) → length (index_lists (wide_dims ds)) ≡ length (index_lists ds)
 wide_many ds =
     sym (length-map (index_lists (wide_dims ds)) (λ is. 0 + offset_at 0 (wide_dims ds) is)) ∙ ap length (wide_places 0 0 ds)
     ∙ length-map (index_lists ds) (λ is. 0 + offset_at 0 ds is)
 
--- indices without them are some with them
-widened : (ds : List Dim) (is : List ℕ) → AreAdmitted (wide_dims ds) is → (js : List ℕ) × AreAdmitted ds js
-widened [] is a = (is, a)
-widened (d ∷ ds) is a = go (λ js b. widened ds js b) (is_wide d) refl is a
+-- indices without them are some with them, and lead to the same place
+record Widened (at : ℕ) (ds ws : List Dim) (is : List ℕ) : Type 0 where
+  js : List ℕ
+  admitted : AreAdmitted ds js
+  steady : IsSteady at ds js → IsSteady at ws is
+  same : offset_at at ds js ≡ offset_at at ws is
+
+widened : (at : ℕ) (ds : List Dim) (is : List ℕ) → AreAdmitted (wide_dims ds) is → Widened at ds (wide_dims ds) is
+widened at [] is a = record { js = is; admitted = a; steady = λ h. h; same = refl }
+widened at (d ∷ ds) is a = go (λ n js b. widened n ds js b) (is_wide d) refl is a
   where
-    go : ((is : List ℕ) → AreAdmitted (wide_dims ds) is → (js : List ℕ) × AreAdmitted ds js) → (b : Bool) → is_wide d ≡ b → (is : List ℕ)
-        → AreAdmitted (cond b (d ∷ wide_dims ds) (wide_dims ds)) is → (js : List ℕ) × AreAdmitted (d ∷ ds) js
+    go : ((n : ℕ) (is : List ℕ) → AreAdmitted (wide_dims ds) is → Widened n ds (wide_dims ds) is) → (b : Bool) → is_wide d ≡ b → (is : List ℕ)
+        → AreAdmitted (cond b (d ∷ wide_dims ds) (wide_dims ds)) is → Widened at (d ∷ ds) (cond b (d ∷ wide_dims ds) (wide_dims ds)) is
     go rest true e [] a = absurd a
-    go rest true e (i ∷ is) a = let h = rest is a.1 in (i ∷ h.0, (a.0, h.1))
-    go rest false e is a = let h = rest is a in (0 ∷ h.0, (omega (arith, one_index d e), h.1))
+    go rest true e (i ∷ is) a =
+        let h = rest (reach at d.stride i) is a.1 in
+        record { js = i ∷ h.js; admitted = (a.0, h.admitted); steady = λ s. (s.0, h.steady s.1); same = h.same }
+    go rest false e is a =
+        let h = rest at is a in
+        let back = reach-none at d.stride in
+        record {
+          js = 0 ∷ h.js;
+          admitted = (omega (arith, one_index d e), h.admitted);
+          steady = λ s. h.steady (subst (λ (n : ℕ). IsSteady n ds h.js) back s.1);
+          same = ap (λ n. offset_at n ds h.js) back ∙ h.same;
+        }
 
 pub wide_inside : (s : Region) (place at : ℕ) (ds : List Dim) (spec : ValueSpec) → ReachesInside s place at ds spec
     → ReachesInside s place at (wide_dims ds) spec
-wide_inside s place at [] spec h = h
-wide_inside s place at (d ∷ ds) spec h =
-    go (λ i below. wide_inside s place (reach at d.stride i) ds spec (at_index s place at d ds spec i h below)) (is_wide d) refl
-  where
-    steady : ((i : ℕ) → i < d.bound → ReachesInside s place (reach at d.stride i) (wide_dims ds) spec) → (is : List ℕ) → AreAdmitted (d ∷ wide_dims ds) is
-        → IsSteady at (d ∷ wide_dims ds) is
-    steady rest [] a = absurd a
-    steady rest (i ∷ is) a = let w = widened ds is a.1 in ((h.steady (i ∷ w.0) (a.0, w.1)).0, (rest i a.0).steady is a.1)
-
-    lies : ((i : ℕ) → i < d.bound → ReachesInside s place (reach at d.stride i) (wide_dims ds) spec) → (is : List ℕ) → AreAdmitted (d ∷ wide_dims ds) is
-        → LiesIn s (place + offset_at at (d ∷ wide_dims ds) is) (width_of spec.kind)
-    lies rest [] a = absurd a
-    lies rest (i ∷ is) a = (rest i a.0).lies is a.1
-
-    go : ((i : ℕ) → i < d.bound → ReachesInside s place (reach at d.stride i) (wide_dims ds) spec) → (b : Bool) → is_wide d ≡ b
-        → ReachesInside s place at (cond b (d ∷ wide_dims ds) (wide_dims ds)) spec
-    go rest true e = record { steady = steady rest; lies = lies rest }
-    go rest false e = subst (λ (n : ℕ). ReachesInside s place n (wide_dims ds) spec) (reach-none at d.stride) (rest 0 (omega (arith, one_index d e)))
+wide_inside s place at ds spec h = record {
+  steady = λ is a. let w = widened at ds is a in w.steady (h.steady w.js w.admitted);
+  lies = λ is a. let w = widened at ds is a in subst (λ (n : ℕ). LiesIn s (place + n) (width_of spec.kind)) w.same (h.lies w.js w.admitted);
+}

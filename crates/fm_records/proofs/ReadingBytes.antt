@@ -1,5 +1,5 @@
 -- What visits read, where each found the region's bytes as a list has them.
-use Rattle.std.proofs.Common.{◌≡◌, ℕ, suc, ◌+◌, ◌-◌, ◌*◌, ◌/◌, ◌%◌, ◌<◌, ◌≤◌, Bool, true, false, Option, Some, None, List, [], ◌∷◌, ◌++◌, length, map, take, drop, get_or, refl, sym, ap, ◌∙◌, subst, append_assoc, inl, inr, arith}
+use Rattle.std.proofs.Common.{◌≡◌, ℕ, suc, ◌+◌, ◌-◌, ◌*◌, ◌/◌, ◌%◌, ◌<◌, ◌≤◌, Bool, true, false, Option, Some, List, [], ◌∷◌, ◌++◌, length, map, take, drop, get_or, refl, sym, ap, ◌∙◌, subst, append_assoc, inl, inr, arith}
 use Rattle.std.specs.Prelude.{ℤ, ◌&&◌, cond}
 use Rattle.std.specs.List.{AllByRecursion, list_all}
 use Rattle.std.proofs.lemmas.Grind.{same_number_lists}
@@ -97,21 +97,13 @@ module _ (c : Caller) (s : Region) (bytes : List ℕ) (size : length bytes ≡ s
       ap (bytes_of width) p.value ∙ lane_found place width p.word all.1.0 fits lies
 
   -- those up to the end stand behind those that were read
-  abbrev StandBehind : ℕ → Reading → Option (List ℕ) → Type 0
-  StandBehind end x (Some read) = read ≡ x.bytes ++ take (end - x.at) (drop (x.at - s.first) bytes)
-  StandBehind end x None = Unit {0}
+  abbrev StandBehind : ℕ → Reading → List ℕ → Type 0
+  StandBehind end x read = read ≡ x.bytes ++ take (end - x.at) (drop (x.at - s.first) bytes)
 
-  stand_last : (end : ℕ) (x : Reading) (own : List Entry) (answer : Option (List ℕ)) → EndsReading c s.arena end x own answer → StandBehind end x answer
-  stand_last end x own (Some read) e =
-      let none : end - x.at ≡ 0 = (let h = e.0 in omega arith) in
-      e.1 ∙ sym (ap (λ n. x.bytes ++ take n (drop (x.at - s.first) bytes)) none ∙ append-nil x.bytes)
-  stand_last end x own None e = tt
-
-  stand_more : (end width v : ℕ) (x y : Reading) (answer : Option (List ℕ)) → width ≤ end - x.at → s.first ≤ x.at
+  stand_more : (end width v : ℕ) (x y : Reading) (read : List ℕ) → width ≤ end - x.at → s.first ≤ x.at
       → bytes_of width v ≡ take width (drop (x.at - s.first) bytes)
-      → y.at ≡ x.at + width → y.bytes ≡ x.bytes ++ bytes_of width v → StandBehind end y answer → StandBehind end x answer
-  stand_more end width v x y None h from e at more rest = tt
-  stand_more end width v x y (Some all) h from e at more rest =
+      → y.at ≡ x.at + width → y.bytes ≡ x.bytes ++ bytes_of width v → StandBehind end y read → StandBehind end x read
+  stand_more end width v x y read h from e at more rest =
       let d = drop (x.at - s.first) bytes in
       let left = take (end - y.at) (drop (y.at - s.first) bytes) in
       let sum : end - x.at ≡ width + (end - y.at) = omega arith in
@@ -124,26 +116,28 @@ module _ (c : Caller) (s : Region) (bytes : List ℕ) (size : length bytes ≡ s
       rest ∙ ap (λ bs. bs ++ left) more ∙ append_assoc x.bytes (bytes_of width v) left ∙ ap (λ bs. x.bytes ++ bs) (sym two)
 
   -- a run of pieces has the region's bytes
-  run_bytes : (end : ℕ) (x : Reading) (own : List Entry) (answer : Option (List ℕ)) → Run (ReadsOn c s.arena end) (EndsReading c s.arena end) x own answer
-      → s.first ≤ x.at → end ≤ s.first + s.size → FindAs s bytes own → StandBehind end x answer
-  run_bytes end x own answer (ends e) from within w = stand_last end x own answer e
-  run_bytes end x own answer (goes_on y first rest step run) from within w =
+  run_bytes : (end : ℕ) (x : Reading) (own : List Entry) (read : List ℕ) → Run (ReadsOn c s.arena end) (EndsReading c s.arena end) x own (Some read)
+      → s.first ≤ x.at → end ≤ s.first + s.size → FindAs s bytes own → StandBehind end x read
+  run_bytes end x own read (ends e) from within w =
+      let none : end - x.at ≡ 0 = (let h = e.0 in omega arith) in
+      e.1 ∙ sym (ap (λ n. x.bytes ++ take n (drop (x.at - s.first) bytes)) none ∙ append-nil x.bytes)
+  run_bytes end x own read (goes_on y first rest step run) from within w =
       let parts = all_split _ first rest w in
       let more = step.more in
       let at = step.at in
       let fits : x.at % 8 + piece_width x.at end ≤ 8 = omega arith in
       let part : piece_width x.at end ≤ end - x.at = omega arith in
       let lies : LiesIn s x.at (piece_width x.at end) = record { from = from; within = omega (arith, part, more, within) } in
-      stand_more end (piece_width x.at end) step.v x y answer part from (piece_bytes x.at (piece_width x.at end) step.v first step.piece fits lies parts.0)
+      stand_more end (piece_width x.at end) step.v x y read part from (piece_bytes x.at (piece_width x.at end) step.v first step.piece fits lies parts.0)
       step.at step.bytes
-      (run_bytes end y rest answer run (omega (arith, from, at)) within parts.1)
+      (run_bytes end y rest read run (omega (arith, from, at)) within parts.1)
 
   range_bytes : (place width : ℕ) (own : List Entry) (read : List ℕ) → ReadsRange c s.arena place (place + width) own (Some read) → LiesIn s place width
       → FindAs s bytes own
       → read ≡ take width (drop (place - s.first) bytes)
   range_bytes place width own read run lies w =
       let all : place + width - place ≡ width = omega arith in
-      run_bytes (place + width) (record { at = place; bytes = [] }) own (Some read) run lies.from lies.within w
+      run_bytes (place + width) (record { at = place; bytes = [] }) own read run lies.from lies.within w
       ∙ ap (λ k. take k (drop (place - s.first) bytes)) all
 
   -- ---- numbers
@@ -170,86 +164,78 @@ module _ (c : Caller) (s : Region) (bytes : List ℕ) (size : length bytes ≡ s
   abbrev record_at : ℕ → ℕ → List ℕ
   record_at width place = take width (drop (place - s.first) bytes)
 
-  -- a value that lies within a record, by the record's bytes
-  within_record : (r : Resolution) (width multiple place : ℕ) (is : List ℕ) → IsThrough width multiple r → AreAdmitted r.dims is → LiesIn s place width
-      → number_there r.value.kind r.value.order (place + offset_at r.offset r.dims is - s.first) bytes ≡ number_at r is (record_at width place)
-  within_record r width multiple place is t a lies =
-      let at = offset_at r.offset r.dims is in
-      let from = lies.from in
-      let offset : place + offset_at r.offset r.dims is - s.first ≡ place - s.first + offset_at r.offset r.dims is = omega (arith, from) in
-      let inside : offset_at r.offset r.dims is + width_of r.value.kind ≤ width =
-      subst (λ n. offset_at r.offset r.dims is + width_of r.value.kind ≤ n) t.size (t.stays.inside is a) in
-      ap (λ n. number_there r.value.kind r.value.order n bytes) offset
-      ∙ ap (λ bs. number_of_value (value_of r.value.kind r.value.order bs)) (sym (take-part (width_of r.value.kind) at width (place - s.first) bytes inside))
-
-  -- and it lies in the region
-  value_lies : (r : Resolution) (width multiple place : ℕ) (is : List ℕ) → IsThrough width multiple r → AreAdmitted r.dims is → LiesIn s place width
-      → LiesIn s (place + offset_at r.offset r.dims is) (width_of r.value.kind)
-  value_lies r width multiple place is t a lies =
-      let from = lies.from in
-      let within = lies.within in
-      let inside : offset_at r.offset r.dims is + width_of r.value.kind ≤ width =
-      subst (λ n. offset_at r.offset r.dims is + width_of r.value.kind ≤ n) t.size (t.stays.inside is a) in
-      record { from = omega (arith, from); within = omega (arith, inside, within) }
-
-  -- the numbers of a path's values
-  numbers_of_record : (r : Resolution) (width multiple place : ℕ) (own : List Entry) (ns : List ℤ) → IsThrough width multiple r → LiesIn s place width
-      → ReadsNumbers c s.arena r.value (value_places place r.offset r.dims) own ns → FindAs s bytes own → ns ≡ numbers_in r (record_at width place)
-  numbers_of_record r width multiple place own ns t lies reads w =
-      let F : List ℕ → ℕ = λ is. place + offset_at r.offset r.dims is in
-      numbers_of_bytes r.value (value_places place r.offset r.dims) own ns reads
-      (each_mapped (λ q. LiesIn s q (width_of r.value.kind)) F (index_lists r.dims) (λ is a.
-      value_lies r width multiple place is t (listed_admitted r.dims is a) lies)) w
-      ∙ map_among (λ q. number_there r.value.kind r.value.order (q - s.first) bytes) F (λ is. number_at r is (record_at width place)) (index_lists r.dims)
-      (λ is a. within_record r width multiple place is t (listed_admitted r.dims is a) lies)
-
   -- the offset of a path with no index open
   offset_of_none : (at : ℕ) (ds : List Dim) → offset_at at ds [] ≡ at
   offset_of_none at [] = refl
   offset_of_none at (d ∷ ds) = refl
 
-  -- a condition that was tested
-  test_of_bytes : (x : Condition) (width multiple place : ℕ) (own : List Entry) (b : Bool) → IsConditionIn width multiple x → LiesIn s place width
-      → Tests c s.arena place x own b
-      → FindAs s bytes own → holds_for (record_at width place) x ≡ b
-  test_of_bytes x width multiple place own b h lies t w =
-      let none : AreAdmitted x.path.dims [] = subst (λ ds. AreAdmitted ds []) (sym h.closed) tt in
-      let at = offset_of_none x.path.offset x.path.dims in
-      let there : LiesIn s (place + x.path.offset) (width_of x.path.value.kind) =
-      subst (λ n. LiesIn s (place + n) (width_of x.path.value.kind)) at (value_lies x.path width multiple place [] h.through none lies) in
-      let number : t.number ≡ number_at x.path [] (record_at width place) =
-      number_of_bytes x.path.value (place + x.path.offset) own t.number t.reads there w
-      ∙ ap (λ n. number_there x.path.value.kind x.path.value.order (place + n - s.first) bytes) (sym at)
-      ∙ within_record x.path width multiple place [] h.through none lies in
-      ap (λ n. compares x.operator n x.literal) (sym number) ∙ t.compared
+  module _ (width multiple place : ℕ) (lies : LiesIn s place width) where
+    -- a value that stands within it
+    inside : (r : Resolution) (is : List ℕ) → IsThrough width multiple r → AreAdmitted r.dims is → offset_at r.offset r.dims is + width_of r.value.kind ≤ width
+    inside r is t a = subst (λ n. offset_at r.offset r.dims is + width_of r.value.kind ≤ n) t.size (t.stays.inside is a)
 
-  pub tests_of_bytes : (width multiple place : ℕ) (cs : List Condition) (own : List Entry) (b : Bool) → AllByRecursion (IsConditionIn width multiple) cs
-      → LiesIn s place width
-      → TestsConditions c s.arena place cs own b → FindAs s bytes own → list_all (holds_for (record_at width place)) cs ≡ b
-  tests_of_bytes width multiple place cs own b h lies all_hold w = refl
-  tests_of_bytes width multiple place cs own b h lies (fails {x = x} {xs = xs} one t) w =
-      ap (λ d. d && list_all (holds_for (record_at width place)) xs) (test_of_bytes x width multiple place one false h.0 lies t w)
-  tests_of_bytes width multiple place cs own b h lies (holds {x = x} {xs = xs} {all = all} one rest t more) w =
-      let parts = all_split _ one rest w in
-      ap (λ d. d && list_all (holds_for (record_at width place)) xs) (test_of_bytes x width multiple place one true h.0 lies t parts.0)
-      ∙ tests_of_bytes width multiple place xs rest all h.1 lies more parts.1
+    -- is found by the record's bytes
+    within_record : (r : Resolution) (is : List ℕ) → IsThrough width multiple r → AreAdmitted r.dims is
+        → number_there r.value.kind r.value.order (place + offset_at r.offset r.dims is - s.first) bytes ≡ number_at r is (record_at width place)
+    within_record r is t a =
+        let at = offset_at r.offset r.dims is in
+        let from = lies.from in
+        let offset : place + offset_at r.offset r.dims is - s.first ≡ place - s.first + offset_at r.offset r.dims is = omega (arith, from) in
+        ap (λ n. number_there r.value.kind r.value.order n bytes) offset ∙ ap (λ bs. number_of_value (value_of r.value.kind r.value.order bs))
+        (sym (take-part (width_of r.value.kind) at width (place - s.first) bytes (inside r is t a)))
 
-  -- what an item finds
-  item_of_bytes : (a : Asked) (width multiple place : ℕ) (own : List Entry) (found : Found) → AsksOf width multiple a → LiesIn s place width
-      → FindsItem c s.arena place a own found
-      → FindAs s bytes own → found ≡ found_in (record_at width place ∷ []) a
-  item_of_bytes asked.Count width multiple place own found t lies h w = h.1
-  item_of_bytes (asked.Of f r) width multiple place own found t lies h w =
-      h.2 ∙ ap (folded f) (numbers_of_record r width multiple place own h.0 t lies h.1 w ∙ sym (append-nil (numbers_in r (record_at width place))))
+    -- and lies in the region
+    value_lies : (r : Resolution) (is : List ℕ) → IsThrough width multiple r → AreAdmitted r.dims is
+        → LiesIn s (place + offset_at r.offset r.dims is) (width_of r.value.kind)
+    value_lies r is t a =
+        let from = lies.from in let within = lies.within in record { from = omega (arith, from); within = omega (arith, inside r is t a, within) }
 
-  items_of_bytes : (width multiple place : ℕ) (items : List Item) (own : List Entry) (fs : List Found) → AllByRecursion (IsItemIn width multiple) items
-      → LiesIn s place width
-      → FindsItems c s.arena place items own fs → FindAs s bytes own → fs ≡ map (item_found (record_at width place ∷ [])) items
-  items_of_bytes width multiple place items own fs t lies no_item w = refl
-  items_of_bytes width multiple place items own fs t lies (one_item {item = item} {items = more} found others one rest f h) w =
-      let parts = all_split _ one rest w in
-      ap (λ g. g ∷ others) (item_of_bytes item.asked width multiple place one found t.0 lies f parts.0)
-      ∙ ap (λ gs. item_found (record_at width place ∷ []) item ∷ gs) (items_of_bytes width multiple place more rest others t.1 lies h parts.1)
+    -- the numbers of a path's values
+    numbers_of_record : (r : Resolution) (own : List Entry) (ns : List ℤ) → IsThrough width multiple r
+        → ReadsNumbers c s.arena r.value (value_places place r.offset r.dims) own ns → FindAs s bytes own → ns ≡ numbers_in r (record_at width place)
+    numbers_of_record r own ns t reads w =
+        let F : List ℕ → ℕ = λ is. place + offset_at r.offset r.dims is in
+        numbers_of_bytes r.value (value_places place r.offset r.dims) own ns reads
+        (each_mapped (λ q. LiesIn s q (width_of r.value.kind)) F (index_lists r.dims) (λ is a. value_lies r is t (listed_admitted r.dims is a))) w
+        ∙ map_among (λ q. number_there r.value.kind r.value.order (q - s.first) bytes) F (λ is. number_at r is (record_at width place)) (index_lists r.dims)
+        (λ is a. within_record r is t (listed_admitted r.dims is a))
+
+    -- a condition that was tested
+    test_of_bytes : (x : Condition) (own : List Entry) (b : Bool) → IsConditionIn width multiple x → Tests c s.arena place x own b → FindAs s bytes own
+        → holds_for (record_at width place) x ≡ b
+    test_of_bytes x own b h t w =
+        let none : AreAdmitted x.path.dims [] = subst (λ ds. AreAdmitted ds []) (sym h.closed) tt in
+        let at = offset_of_none x.path.offset x.path.dims in
+        let there = subst (λ (n : ℕ). LiesIn s (place + n) (width_of x.path.value.kind)) at (value_lies x.path [] h.through none) in
+        let number : t.number ≡ number_at x.path [] (record_at width place) =
+        number_of_bytes x.path.value (place + x.path.offset) own t.number t.reads there w
+        ∙ ap (λ n. number_there x.path.value.kind x.path.value.order (place + n - s.first) bytes) (sym at)
+        ∙ within_record x.path [] h.through none in
+        ap (λ n. compares x.operator n x.literal) (sym number) ∙ t.compared
+
+    pub tests_of_bytes : (cs : List Condition) (own : List Entry) (b : Bool) → AllByRecursion (IsConditionIn width multiple) cs
+        → TestsConditions c s.arena place cs own b → FindAs s bytes own → list_all (holds_for (record_at width place)) cs ≡ b
+    tests_of_bytes cs own b h all_hold w = refl
+    tests_of_bytes cs own b h (fails {x = x} {xs = xs} one t) w =
+        ap (λ d. d && list_all (holds_for (record_at width place)) xs) (test_of_bytes x one false h.0 t w)
+    tests_of_bytes cs own b h (holds {x = x} {xs = xs} {all = all} one rest t more) w =
+        let parts = all_split _ one rest w in
+        ap (λ d. d && list_all (holds_for (record_at width place)) xs) (test_of_bytes x one true h.0 t parts.0) ∙ tests_of_bytes xs rest all h.1 more parts.1
+
+    -- what an item finds
+    item_of_bytes : (a : Asked) (own : List Entry) (found : Found) → AsksOf width multiple a → FindsItem c s.arena place a own found → FindAs s bytes own
+        → found ≡ found_in (record_at width place ∷ []) a
+    item_of_bytes asked.Count own found t h w = h.1
+    item_of_bytes (asked.Of f r) own found t h w =
+        h.2 ∙ ap (folded f) (numbers_of_record r own h.0 t h.1 w ∙ sym (append-nil (numbers_in r (record_at width place))))
+
+    items_of_bytes : (items : List Item) (own : List Entry) (fs : List Found) → AllByRecursion (IsItemIn width multiple) items
+        → FindsItems c s.arena place items own fs → FindAs s bytes own → fs ≡ map (item_found (record_at width place ∷ [])) items
+    items_of_bytes items own fs t no_item w = refl
+    items_of_bytes items own fs t (one_item {item = item} {items = more} found others one rest f h) w =
+        let parts = all_split _ one rest w in
+        ap (λ g. g ∷ others) (item_of_bytes item.asked one found t.0 f parts.0)
+        ∙ ap (λ gs. item_found (record_at width place ∷ []) item ∷ gs) (items_of_bytes more rest others t.1 h parts.1)
 
   -- ---- records
 
@@ -258,7 +244,7 @@ module _ (c : Caller) (s : Region) (bytes : List ℕ) (size : length bytes ≡ s
     chosen_alone : (place : ℕ) (own : List Entry) (b : Bool) → LiesIn s place p.size → TestsConditions c s.arena place p.conditions own b → FindAs s bytes own
         → chosen_of p.conditions (record_at p.size place ∷ []) ≡ cond b (record_at p.size place ∷ []) []
     chosen_alone place own b lies t w =
-        ap (λ d. cond d (record_at p.size place ∷ []) []) (tests_of_bytes p.size p.alignment place p.conditions own b plan.conditions lies t w)
+        ap (λ d. cond d (record_at p.size place ∷ []) []) (tests_of_bytes p.size p.alignment place lies p.conditions own b plan.conditions t w)
 
     -- one record more
     record_of_bytes : (place : ℕ) (own : List Entry) (seen : Option (List Found)) (so_far : List Found) (rs : List (List ℕ)) → LiesIn s place p.size
@@ -267,7 +253,7 @@ module _ (c : Caller) (s : Region) (bytes : List ℕ) (size : length bytes ≡ s
     record_of_bytes place own seen so_far rs lies (chosen one rest fs t h) w e =
         let parts = all_split _ one rest w in
         let found : fs ≡ found_over p (record_at p.size place ∷ []) =
-        items_of_bytes p.size p.alignment place p.items rest fs plan.items lies h parts.1
+        items_of_bytes p.size p.alignment place lies p.items rest fs plan.items h parts.1
         ∙ ap (λ all. map (item_found all) p.items) (sym (chosen_alone place one true lies t parts.0)) in
         ap (λ gs. joined gs fs) e ∙ ap (joined (found_over p rs)) found ∙ found_over-append p rs (record_at p.size place ∷ [])
     record_of_bytes place own seen so_far rs lies (passed_over one t) w e =

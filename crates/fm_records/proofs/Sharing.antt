@@ -1,6 +1,8 @@
 -- Shares of a segment, each answered by the Reads of one caller.
-use Rattle.std.proofs.Common.{◌≡◌, ℕ, zero, suc, ◌+◌, ◌-◌, ◌*◌, ◌/◌, ◌%◌, ◌<◌, ◌≤◌, Bool, true, false, Some, List, [], ◌∷◌, ◌++◌, length, map, refl, sym, ap, ◌∙◌, subst, inl, inr, arith}
-use Rattle.std.specs.Prelude.{cond, filter}
+use Rattle.std.proofs.Common.{◌≡◌, ℕ, zero, suc, ◌+◌, ◌-◌, ◌*◌, ◌/◌, ◌%◌, ◌<◌, ◌≤◌, Bool, Some, List, [], ◌∷◌, ◌++◌, length, get_or, map, refl, sym, ap, ◌∙◌, subst, inl, inr, arith}
+use Rattle.std.specs.Prelude.{filter}
+use Rattle.fm_lists.proofs.Among.{among_kept}
+use Rattle.fm_lists.proofs.Each.{all_among, all_of_among}
 use Rattle.std.specs.List.{AllByRecursion, range_with_len, slice_get}
 use Rattle.std.proofs.Math.Nat.{zero-div}
 use Rattle.std.proofs.lemmas.List.{map-append}
@@ -23,17 +25,16 @@ use Rattle.fm_records.specs.Laws.{IsAsked}
 use Rattle.fm_records.specs.Records.{records, pieces}
 use Rattle.fm_records.specs.Shares.{IsSpared, SparedAreFound, Share, IsDone, behind, IsFirst, all_joined, SharesJoin, SharesAnswer, SharesRead}
 use Rattle.fm_records.proofs.Behind.{get_split, length-pieces, less_times}
-use Rattle.fm_records.proofs.AnsweringBytes.{answer_of_bytes, length-places, get_or-places}
+use Rattle.fm_records.proofs.AnsweringBytes.{answer_of_bytes, length-places, word_at_places}
 use Rattle.fm_records.proofs.Covering.{asked_is_read}
 use Rattle.fm_records.proofs.Few.{answers_few, few_join, nothing_few}
 use Rattle.fm_records.proofs.Joining.{records-append, answer-append}
+use Rattle.fm_records.proofs.Recording.{answer-none}
 
 -- ---- Reads of bytes that all spare
 
 all_filtered : {X : Type 0} (P : X → Type 0) (q : X → Bool) (xs : List X) → AllByRecursion P xs → AllByRecursion P (filter q xs)
-all_filtered P q [] h = tt
-all_filtered P q (x ∷ xs) h =
-    elim (q x) as (λ b. AllByRecursion P (cond b (x ∷ filter q xs) (filter q xs))) [ true ↦ (h.0, all_filtered P q xs h.1) | false ↦ all_filtered P q xs h.1 ]
+all_filtered P q xs h = all_of_among P (filter q xs) (λ x a. all_among P x xs h (among_kept q x xs a))
 
 -- found byte by byte, and so entry by entry
 by_entry : (now : State) (s : Region) (es : List Entry)
@@ -42,16 +43,13 @@ by_entry : (now : State) (s : Region) (es : List Entry)
 by_entry now s [] h = tt
 by_entry now s (e ∷ es) h = (
   λ word n at call reply is.
-      let place = 8 * word + at in
+      let words = (arena_of now s.arena).words in
       let in_word = is.in_word in
-      let from : s.first ≤ 8 * word + at = is.from in
       let by_word : (8 * word + at) / 8 ≡ word = omega (arith, in_word) in
       let by_byte : (8 * word + at) % 8 ≡ at = omega (arith, in_word) in
-      let below : 8 * word + at - s.first < s.size = omega (arith, from, is.below) in
-      let back : s.first + (8 * word + at - s.first) ≡ 8 * word + at = omega (arith, from) in
-      let here = (h place from is.below).0 n (call ∙ ap (Read s.arena) (sym by_word)) reply in
-      ap (byte_of n) (sym by_byte) ∙ here
-      ∙ sym (get_or-places now s (8 * word + at - s.first) below ∙ ap (byte_at (arena_of now s.arena).words) back),
+      let here = (h (8 * word + at) is.from is.below).0 n (call ∙ ap (Read s.arena) (sym by_word)) reply in
+      ap (byte_of n) (sym by_byte) ∙ here ∙ ap (λ w. byte_of (get_or words w 0) ((8 * word + at) % 8)) by_word
+      ∙ ap (byte_of (get_or words word 0)) by_byte ∙ word_at_places now s word at is,
   by_entry now s es (λ place from below. (h place from below).1),
 )
 
@@ -62,7 +60,7 @@ spared_found limit now es s c h =
 
 -- ---- the segment's bytes, cut in two
 
-range_append : (a m n : ℕ) → range_with_len a (m + n) ≡ range_with_len a m ++ range_with_len (a + m) n
+pub range_append : (a m n : ℕ) → range_with_len a (m + n) ≡ range_with_len a m ++ range_with_len (a + m) n
 range_append a zero n = let e : 0 + n ≡ n = omega arith in let f : a ≡ a + 0 = omega arith in ap (range_with_len a) e ∙ ap (λ x. range_with_len x n) f
 range_append a (suc m) n =
     let e : suc m + n ≡ suc (m + n) = omega arith in
@@ -80,9 +78,6 @@ bytes_cut now s n within =
     ∙ ap (λ k. map b (range_with_len k n) ++ map b (range_with_len (s.first + n) (s.size - n))) start
 
 -- no bytes have no records
-records_none : (p : Plan) (bytes : List ℕ) → bytes ≡ [] → answer p bytes ≡ found_over p []
-records_none p bytes e = ap (answer p) e ∙ ap (λ k. found_over p (pieces k p.size [])) (zero-div p.size)
-
 places_none : (now : State) (s : Region) → s.size ≡ 0 → bytes_at_places now s ≡ []
 places_none now s e = ap (λ n. map (byte_at (arena_of now s.arena).words) (range_with_len s.first n)) e
 
@@ -91,7 +86,7 @@ places_none now s e = ap (λ n. map (byte_at (arena_of now s.arena).words) (rang
 pub shares_join : SharesJoin
 shares_join p s es [] plan cut done small = record {
   can = tt;
-  few = subst (AreFew s.size p) (sym (records_none p [] refl)) (subst (λ (n : ℕ). AreFew n p (found_over p [])) (sym cut) (nothing_few p.items));
+  few = subst (AreFew s.size p) (sym (answer-none p)) (subst (λ (n : ℕ). AreFew n p (found_over p [])) (sym cut) (nothing_few p.items));
 }
 shares_join p s es (w ∷ ws) plan cut done small =
     let n = w.region.size in
@@ -102,12 +97,7 @@ shares_join p s es (w ∷ ws) plan cut done small =
     let joins = few_join p n (s.size - n) w.found (all_joined p ws) one rest.few (omega (arith, sum, small)) in
     record { can = (joins.can, rest.can); few = subst (λ (k : ℕ). AreFew k p (joined w.found (all_joined p ws))) sum joins.few }
 
--- a share of a segment that is spared
-record IsShare (limit : ℕ) (now : State) (es : List Entry) (p : Plan) (w : Share) : Type 0 where
-  spared : IsSpared limit now es w.region
-  answered : IsAnswered w.caller p w.region (bytes_at_places now w.region) w.found (made_by w.caller es)
-
--- so is each part of it
+-- each part of a segment that is spared is so
 spared_part : (limit : ℕ) (now : State) (es : List Entry) (s : Region) (at n : ℕ) → at + n ≤ s.size → IsSpared limit now es s
     → IsSpared limit now es (part_of at n s)
 spared_part limit now es s at n within h = record {
@@ -115,15 +105,12 @@ spared_part limit now es s at n within h = record {
   spared = λ place from below. h.spared place (omega (arith, from)) (omega (arith, below, within));
 }
 
--- its first share
+-- its first share is answered
 first_share : (limit : ℕ) (now : State) (es : List Entry) (p : Plan) (s : Region) (w : Share) → IsPlan p → IsSpared limit now es s → IsFirst p s w
-    → IsDone p es w → IsShare limit now es p w
+    → IsDone p es w → IsAnswered w.caller p w.region (bytes_at_places now w.region) w.found (made_by w.caller es)
 first_share limit now es p s w plan h cut done =
     let mine = subst (IsSpared limit now es) (sym cut.region) (spared_part limit now es s 0 w.region.size (omega (arith, cut.within)) h) in
-    record {
-      spared = mine;
-      answered = record { plan = plan; size = length-places now w.region; finds = spared_found limit now es w.region w.caller mine; does = done.does };
-    }
+    record { plan = plan; size = length-places now w.region; finds = spared_found limit now es w.region w.caller mine; does = done.does }
 
 pub shares_answer : SharesAnswer
 shares_answer limit now es p s [] plan h cut done = sym (ap (answer p) (places_none now s cut))
@@ -133,7 +120,7 @@ shares_answer limit now es p s (w ∷ ws) plan h cut done =
     let a = bytes_at_places now (part_of 0 n s) in
     let b = bytes_at_places now (behind n s) in
     let one : w.found ≡ answer p (bytes_at_places now (part_of 0 w.region.size s)) =
-    answer_of_bytes w.caller p w.region _ w.found _ (first_share limit now es p s w plan h cut.0 done.0).answered
+    answer_of_bytes w.caller p w.region _ w.found _ (first_share limit now es p s w plan h cut.0 done.0)
     ∙ ap (λ (r : Region). answer p (bytes_at_places now r)) cut.0.region in
     let rest = shares_answer limit now es p (behind n s) ws plan (spared_part limit now es s n (s.size - n) (omega (arith, within)) h) cut.1 done.1 in
     ap (λ f. joined f (all_joined p ws)) one ∙ ap (joined (answer p a)) rest
@@ -178,7 +165,7 @@ shares_read limit now es p s (w ∷ ws) index r is word plan h cut done asks is_
       | inl here ↦
           let same : bytes_at_places now (part_of 0 w.region.size s) ≡ bytes_at_places now w.region = ap (bytes_at_places now) (sym cut.0.region) in
           let mine = asked_of p _ (bytes_at_places now w.region) index index r is asks (ap (λ bs. slice_get (records p.size bs) index) (sym same) ∙ here) in
-          let read = asked_is_read w.caller p w.region _ w.found _ index r is word (first_share limit now es p s w plan h cut.0 done.0).answered mine
+          let read = asked_is_read w.caller p w.region _ w.found _ index r is word (first_share limit now es p s w plan h cut.0 done.0) mine
           (record { above = omega (arith, above, start); below = omega (arith, below, start) }) in
           record { share = w; among = inl refl; read = subst (λ (id : _). HasRead w.caller id word (made_by w.caller es)) same_arena read }
       | inr there_behind ↦

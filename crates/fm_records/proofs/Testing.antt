@@ -1,6 +1,7 @@
 -- Conditions that are tested in order, up to the first that fails.
-use Rattle.std.proofs.Common.{◌≡◌, ℕ, ◌+◌, ◌≤◌, Bool, true, false, Result, Ok, Err, List, [], ◌∷◌, ◌++◌, sym, subst, arith}
+use Rattle.std.proofs.Common.{◌≡◌, ℕ, ◌+◌, ◌<◌, ◌≤◌, Bool, true, false, Result, Ok, Err, List, [], ◌∷◌, ◌++◌, length, drop, get_or, sym, ap, ◌∙◌, subst, arith}
 use Rattle.std.specs.Prelude.{ℤ}
+use Rattle.std.proofs.lemmas.List.{drop_more, drop_all}
 use Rattle.fm_base.specs.declared.caller.Caller.{Caller}
 use Rattle.fm_base.specs.declared.refusal.Refusal.{Refusal}
 use Rattle.fm_base.specs.Calls.{Entry}
@@ -13,92 +14,81 @@ use Rattle.fm_segment.specs.Region.{Region}
 use Rattle.fm_query.specs.declared.condition.Condition.{Condition}
 use Rattle.fm_records.specs.Answers.{compares}
 use Rattle.fm_records.specs.Adds.{IsTestable}
-use Rattle.fm_records.specs.Reads.{AreReads, DoesRead, DoesStop, LiesIn, ReadsNumber, Tests, TestsConditions, all_hold, fails, holds}
-use Rattle.fm_records.specs.Stops.{StopsNumber, StopsTest, StopsTests, at_test, next_test}
-use Rattle.fm_records.proofs.Visiting.{none_so_far, first_so_far, more, ended, stopped}
+use Rattle.fm_records.specs.Reads.{AreReads, DoesRead, DoesStop, LiesIn, Tests, TestsConditions, all_hold, fails, holds}
+use Rattle.fm_records.specs.Stops.{StopsTest, StopsTests, at_test, next_test}
+use Rattle.fm_records.proofs.Visiting.{ReadsTo, IsUnderWay, begins, goes_on_by, comes_to_end, stops_short, more, ended}
 
 -- a condition's value stands in the segment
-pub testable_lies : (s : Region) (place : ℕ) (x : Condition) → IsTestable s place x → LiesIn s (place + x.path.offset) (width_of x.path.value.kind)
-testable_lies s place x t =
+pub testable_lies : {s : Region} {place n : ℕ} {x : Condition} (spec : ValueSpec) → IsTestable s place x → spec ≡ x.path.value → n ≡ x.path.offset
+    → LiesIn s (place + n) (width_of spec.kind)
+testable_lies {s} {place} {n} {x} spec t is_spec is_n =
     let P : List Dim → Type 0 = λ ds. AreAdmitted ds [] → offset_at x.path.offset ds [] + width_of x.path.value.kind ≤ x.path.root_size in
     let inside : x.path.offset + width_of x.path.value.kind ≤ x.path.root_size = subst P t.closed (t.stays.inside []) tt in
     let from = t.lies.from in
     let within = t.lies.within in
-    record { from = omega (arith, from); within = omega (arith, inside, within) }
+    subst (λ (v : ValueSpec). LiesIn s (place + n) (width_of v.kind)) (sym is_spec)
+    (record { from = omega (arith, from); within = omega (arith, inside, within, is_n) })
 
-module _ (old new : View) (s : Region) (place : ℕ) (x : Condition) where
-  -- its number was read and compared
-  pub test_done : (spec : ValueSpec) (at : ℕ) (n : ℤ) (b : Bool) → spec ≡ x.path.value → at ≡ place + x.path.offset → b ≡ compares x.operator n x.literal
-      → Did old new (DoesRead old.caller s (λ z es. ReadsNumber old.caller s.arena spec at es z) (StopsNumber old.caller s.arena spec at) (Ok n))
+module _ {old new : View} (s : Region) (place : ℕ) (x : Condition) (spec : ValueSpec) (n : ℕ) (is_spec : spec ≡ x.path.value) (is_n : n ≡ x.path.offset) where
+  -- what was read there is its number, or the arena was found closed
+  pub number_there : (read : Result ℤ Refusal) → ReadsTo old new s spec (place + n) read → ReadsTo old new s x.path.value (place + x.path.offset) read
+  number_there read d =
+      subst (λ (v : ValueSpec). ReadsTo old new s v (place + x.path.offset) read) is_spec (subst (λ (k : ℕ). ReadsTo old new s spec (place + k) read) is_n d)
+
+  -- it was compared
+  pub test_done : (z : ℤ) (b : Bool) → b ≡ compares x.operator z x.literal → ReadsTo old new s spec (place + n) (Ok z)
       → Did old new (DoesRead old.caller s (λ c es. Tests old.caller s.arena place x es c) (StopsTest old.caller s.arena place x) (Ok b))
-  test_done spec at n b is_spec is_at is d = record {
-    own = d.own;
-    does = (
-      d.does.0,
-      record {
-        number = n;
-        reads = subst (λ (v : ValueSpec). ReadsNumber old.caller s.arena v (place + x.path.offset) d.own n) is_spec
-            (subst (λ (p : ℕ). ReadsNumber old.caller s.arena spec p d.own n) is_at d.does.1);
-        compared = sym is;
-      },
-    );
-    makes = d.makes;
-  }
+  test_done z b is d =
+      let there = number_there (Ok z) d in
+      record { own = there.own; does = (there.does.0, record { number = z; reads = there.does.1; compared = sym is }); makes = there.makes }
 
-  -- or the arena was found closed there
-  pub test_stops : (spec : ValueSpec) (at : ℕ) (r : Refusal) → spec ≡ x.path.value → at ≡ place + x.path.offset
-      → Did old new (DoesRead old.caller s (λ (z : ℤ) es. ReadsNumber old.caller s.arena spec at es z) (StopsNumber old.caller s.arena spec at) (Err r))
-      → Did old new (DoesRead old.caller s (λ c es. Tests old.caller s.arena place x es c) (StopsTest old.caller s.arena place x) (Err r))
-  test_stops spec at r is_spec is_at d = record {
-    own = d.own;
-    does = subst (λ (v : ValueSpec). DoesStop old.caller s (StopsNumber old.caller s.arena v (place + x.path.offset)) r d.own) is_spec
-        (subst (λ (p : ℕ). DoesStop old.caller s (StopsNumber old.caller s.arena spec p) r d.own) is_at d.does);
-    makes = d.makes;
-  }
+-- the first k conditions hold
+abbrev pub AreTested : View → View → Region → ℕ → List Condition → ℕ → Type 0
+AreTested old now s place cs k =
+    let c = old.caller in
+    IsUnderWay {X = Bool} old now s (λ b es. TestsConditions c s.arena place cs es b) (λ b es. TestsConditions c s.arena place (drop k cs) es b)
+    (λ b. StopsTests c s.arena place cs) (λ b. StopsTests c s.arena place (drop k cs))
 
-module _ (s : Region) (place : ℕ) {x : Condition} {xs : List Condition} (all : List Condition) (is : all ≡ x ∷ xs) where
-  abbrev TestOf : View → View → Bool → Type 0
-  TestOf old now b = Did old now (λ es. AreReads old.caller s es × Tests old.caller s.arena place x es b)
+pub none_tested : (old : View) (s : Region) (place : ℕ) (cs : List Condition) → AreTested old old s place cs 0
+none_tested old s place cs = begins old s (λ b es h. h) (λ b r es h. h)
 
-  -- the first fails
-  pub first_fails : {old now : View} (b : Bool) → b ≡ false → TestOf old now b
-      → Did old now (DoesRead old.caller s (λ b es. TestsConditions old.caller s.arena place all es b) (StopsTests old.caller s.arena place all) (Ok false))
-  first_fails {old} {now} b e d =
-      let t = subst (λ (c : Bool). Tests old.caller s.arena place x d.own c) e d.does.1 in
-      record {
-        own = d.own;
-        does = (
-          d.does.0,
-          subst (λ (ys : List Condition). TestsConditions old.caller s.arena place ys d.own false) (sym is) (fails d.own t),
-        );
-        makes = d.makes;
-      }
+module _ {old now : View} {s : Region} {place : ℕ} (cs : List Condition) (k : ℕ) (x : Condition) (a : AreTested old now s place cs k)
+    (below : k < length cs) (here : x ≡ get_or cs k x) where
+  left : x ∷ drop (k + 1) cs ≡ drop k cs
+  left = ap (λ y. y ∷ drop (k + 1) cs) here ∙ sym (drop_more cs k x below)
 
-  -- it can't be read
-  pub first_stops : {old now : View} (r : Refusal) → Did old now (DoesStop old.caller s (StopsTest old.caller s.arena place x) r)
-      → Did old now (DoesStop old.caller s (StopsTests old.caller s.arena place all) r)
-  first_stops {old} {now} r d =
-      stopped r (λ (c : Caller). StopsTest c s.arena place x) (StopsTests old.caller s.arena place all) (none_so_far old s)
-      (λ es h. subst (λ (ys : List Condition). StopsTests old.caller s.arena place ys r es) (sym is) (at_test es h)) d
+  abbrev TestTo : View → Result Bool Refusal → Type 0
+  TestTo next result =
+      Did now next (DoesRead now.caller s (λ b es. Tests now.caller s.arena place x es b) (StopsTest now.caller s.arena place x) result)
 
-  -- it holds, and the others are tested
-  pub first_holds : {old now next : View} (d : Bool) (result : Result Bool Refusal) → d ≡ true → TestOf old now d
-      → Did now next (DoesRead now.caller s (λ b es. TestsConditions now.caller s.arena place xs es b) (StopsTests now.caller s.arena place xs) result)
-      → Did old next (DoesRead old.caller s (λ b es. TestsConditions old.caller s.arena place all es b) (StopsTests old.caller s.arena place all) result)
-  first_holds {old} {now} {next} z (Ok b) e t d =
-      let tested = subst (λ (c : Bool). Tests old.caller s.arena place x t.own c) e t.does.1 in
-      let so_far = first_so_far t in
-      let m = more (λ (c : Caller) (es : List Entry). TestsConditions c s.arena place xs es b) so_far d in
-      ended (λ (es : List Entry). TestsConditions old.caller s.arena place all es b) m.so_far
-      (subst (λ (ys : List Condition). TestsConditions old.caller s.arena place ys (t.own ++ d.own) b) (sym is) (holds t.own d.own tested m.does))
-  first_holds {old} {now} {next} z (Err r) e t d =
-      let tested = subst (λ (c : Bool). Tests old.caller s.arena place x t.own c) e t.does.1 in
-      stopped r (λ (c : Caller). StopsTests c s.arena place xs) (StopsTests old.caller s.arena place all) (first_so_far t)
-      (λ es h. subst (λ (ys : List Condition). StopsTests old.caller s.arena place ys r (t.own ++ es)) (sym is) (next_test t.own es tested h)) d
+  -- one more does
+  pub test_holds : {next : View} (b : Bool) → b ≡ true → TestTo next (Ok b) → AreTested old next s place cs (k + 1)
+  test_holds {next} b e d =
+      let c = old.caller in
+      goes_on_by a (λ (y : Caller) (es : List Entry). Tests y s.arena place x es b) (λ t es. TestsConditions c s.arena place (drop (k + 1) cs) es t)
+      (λ (t : Bool). StopsTests c s.arena place (drop (k + 1) cs)) d
+      (λ t es h rest. subst (λ (ys : List Condition). TestsConditions c s.arena place ys (d.own ++ es) t) left
+      (holds d.own es (subst (Tests c s.arena place x d.own) e h) rest))
+      (λ t r es h rest. subst (λ (ys : List Condition). StopsTests c s.arena place ys r (d.own ++ es)) left
+      (next_test d.own es (subst (Tests c s.arena place x d.own) e h) rest))
 
--- none is left
-pub none_tested : (old : View) (s : Region) (place : ℕ) (cs : List Condition) → cs ≡ []
-    → Did old old (DoesRead old.caller s (λ b es. TestsConditions old.caller s.arena place cs es b) (StopsTests old.caller s.arena place cs) (Ok true))
-none_tested old s place cs e =
-    ended (λ (es : List Entry). TestsConditions old.caller s.arena place cs es true) (none_so_far old s)
-    (subst (λ (ys : List Condition). TestsConditions old.caller s.arena place ys [] true) (sym e) all_hold)
+  -- or the next fails
+  pub test_fails : {next : View} (b : Bool) → b ≡ false → TestTo next (Ok b)
+      → Did old next (λ es. AreReads old.caller s es × TestsConditions old.caller s.arena place cs es false)
+  test_fails {next} b e d =
+      let m = more (λ (y : Caller) (es : List Entry). Tests y s.arena place x es b) a.so_far d in
+      ended (λ (es : List Entry). TestsConditions old.caller s.arena place cs es false) m.so_far
+      (a.rest false d.own (subst (λ (ys : List Condition). TestsConditions old.caller s.arena place ys d.own false) left
+      (fails d.own (subst (Tests old.caller s.arena place x d.own) e m.does))))
+
+  -- or it can't be read
+  pub test_refused : {next : View} (r : Refusal) → TestTo next (Err r) → Did old next (DoesStop old.caller s (StopsTests old.caller s.arena place cs) r)
+  test_refused {next} r d =
+      stops_short a true r (λ (y : Caller). StopsTest y s.arena place x)
+      (λ es h. subst (λ (ys : List Condition). StopsTests old.caller s.arena place ys r es) left (at_test es h)) d
+
+-- all do
+pub all_tested : {old now : View} {s : Region} {place : ℕ} (cs : List Condition) (k : ℕ) → AreTested old now s place cs k → length cs ≤ k
+    → Did old now (λ es. AreReads old.caller s es × TestsConditions old.caller s.arena place cs es true)
+all_tested {old} {now} {s} {place} cs k a past =
+    comes_to_end a true (subst (λ (ys : List Condition). TestsConditions old.caller s.arena place ys [] true) (sym (drop_all k cs past)) all_hold)

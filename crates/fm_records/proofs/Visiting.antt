@@ -1,5 +1,5 @@
 -- Visits that read words of a segment, and the numbers that they give.
-use Rattle.std.proofs.Common.{◌≡◌, ℕ, ◌+◌, ◌/◌, ◌≤◌, Option, Some, None, Ok, Err, List, [], ◌∷◌, ◌++◌, refl, sym, ap, ◌∙◌, subst, append_assoc, arith}
+use Rattle.std.proofs.Common.{◌≡◌, ℕ, ◌+◌, ◌/◌, ◌≤◌, Option, Some, None, Result, Ok, Err, List, [], ◌∷◌, ◌++◌, refl, sym, ap, ◌∙◌, subst, append_assoc, arith}
 use Rattle.std.specs.Prelude.{ℤ}
 use Rattle.std.specs.List.{flat_map}
 use Rattle.std.proofs.lemmas.List.{append-nil}
@@ -9,9 +9,9 @@ use Rattle.fm_base.specs.declared.caller.Caller.{Caller}
 use Rattle.fm_base.specs.declared.arena_id.ArenaId.{ArenaId}
 use Rattle.fm_base.specs.declared.refusal.Refusal.{Refusal}
 use Rattle.fm_base.specs.declared.refusal.Refusal.TheVariants.{Closed, WrongThread, Memory}
-use Rattle.fm_base.specs.Arenas.{MayUse}
+use Rattle.fm_base.specs.Arenas.{MayUse, has_arena}
 use Rattle.fm_base.specs.Calls.{Entry}
-use Rattle.fm_base.specs.View.{View, Makes, Did, inside_after}
+use Rattle.fm_base.specs.View.{View, Makes, Did, given_in, inside_after}
 use Rattle.fm_base.specs.Visits.{Run, ends, goes_on, refused_visit}
 use Rattle.fm_base.proofs.Making.{Makes-none, Makes-then}
 use Rattle.fm_base.proofs.Outcomes.{Makes-lasts}
@@ -19,6 +19,7 @@ use Rattle.fm_lanes.specs.declared.value.Value.{Value}
 use Rattle.fm_lanes.specs.Kind.{width_of}
 use Rattle.fm_lanes.specs.Value.{number_of_value}
 use Rattle.fm_path.specs.declared.value_spec.ValueSpec.{ValueSpec}
+use Rattle.fm_access.specs.Learnt.{CanTouch}
 use Rattle.fm_access.specs.Ranges.{Reading, ReadsOn, EndsReading}
 use Rattle.fm_access.specs.Values.{DoesGetValue}
 use Rattle.fm_segment.specs.Region.{Region}
@@ -78,46 +79,55 @@ range_read c s end x own answer (goes_on y more rest p r) low high =
 
 -- ---- one number
 
-module _ (c : Caller) (s : Region) (spec : ValueSpec) (place : ℕ) where
-  -- what was got is read of the segment
-  number_read : (v : Value) (z : ℤ) (own : List Entry) → z ≡ number_of_value v → LiesIn s place (width_of spec.kind)
-      → DoesGetValue c spec.kind spec.order s.arena place (Ok v) own
-      → DoesRead c s (λ n es. ReadsNumber c s.arena spec place es n) (StopsNumber c s.arena spec place) (Ok z) own
-  number_read v z own is lies d = (
-    range_read c s (place + width_of spec.kind) (record { at = place; bytes = [] }) own (Some d.1.bytes) d.1.visits lies.from lies.within,
-    record { value = v; reads = d.1; number = is },
-  )
+-- what reading the number at a place did
+abbrev pub ReadsTo : View → View → Region → ValueSpec → ℕ → Result ℤ Refusal → Type 0
+ReadsTo old new s spec place read =
+    Did old new (DoesRead old.caller s (λ n es. ReadsNumber old.caller s.arena spec place es n) (StopsNumber old.caller s.arena spec place) read)
 
-  number_stops : (r : Refusal) (own : List Entry) → MayUse s.arena c → LiesIn s place (width_of spec.kind)
-      → DoesGetValue c spec.kind spec.order s.arena place (Err r) own
-      → DoesStop c s (StopsNumber c s.arena spec place) r own
-  number_stops Closed own may lies d =
-      (range_read c s (place + width_of spec.kind) (record { at = place; bytes = [] }) own None d.1 lies.from lies.within, d.1)
-  number_stops WrongThread own may lies d = absurd (d.0 may)
-  number_stops r own may lies d = absurd d
+-- a value of the segment can be got
+pub can_touch : {v : View} {s : Region} {place width : ℕ} {id : ArenaId} → id ≡ s.arena → CanRead v s → LiesIn s place width → CanTouch v id place width
+can_touch {v} {s} {place} {width} {id} same can lies =
+    let within = lies.within in
+    let given = can.known.given in
+    let ends = can.ends in
+    let at : given_in v id ≡ given_in v s.arena = ap (given_in v) same in
+    record {
+      outside = can.outside;
+      known = ap (has_arena v.state) same ∙ can.known.arena;
+      given = omega (arith, within, given, at);
+      small = omega (arith, within, ends);
+    }
 
--- the same of what was done
-pub number_done : (old new : View) (s : Region) (spec : ValueSpec) (place : ℕ) (id : ArenaId) (v : Value) (z : ℤ) → id ≡ s.arena → z ≡ number_of_value v
-    → LiesIn s place (width_of spec.kind)
-    → Did old new (DoesGetValue old.caller spec.kind spec.order id place (Ok v))
-    → Did old new (DoesRead old.caller s (λ n es. ReadsNumber old.caller s.arena spec place es n) (StopsNumber old.caller s.arena spec place) (Ok z))
-number_done old new s spec place id v z same is lies d = record {
-  own = d.own;
-  does = number_read old.caller s spec place v z d.own is lies
-      (subst (λ (a : ArenaId). DoesGetValue old.caller spec.kind spec.order a place (Ok v) d.own) same d.does);
-  makes = d.makes;
-}
+module _ {old new : View} (s : Region) (spec : ValueSpec) (place : ℕ) {id : ArenaId} (same : id ≡ s.arena) (lies : LiesIn s place (width_of spec.kind)) where
+  -- it was got
+  pub number_done : (v : Value) (z : ℤ) → z ≡ number_of_value v → Did old new (DoesGetValue old.caller spec.kind spec.order id place (Ok v))
+      → ReadsTo old new s spec place (Ok z)
+  number_done v z is d =
+      let got = subst (λ (a : ArenaId). DoesGetValue old.caller spec.kind spec.order a place (Ok v) d.own) same d.does in
+      record {
+        own = d.own;
+        does = (
+          range_read old.caller s (place + width_of spec.kind) (record { at = place; bytes = [] }) d.own (Some got.1.bytes) got.1.visits lies.from lies.within,
+          record { value = v; reads = got.1; number = is },
+        );
+        makes = d.makes;
+      }
 
-pub number_stopped : (old new : View) (s : Region) (spec : ValueSpec) (place : ℕ) (id : ArenaId) (r : Refusal) → id ≡ s.arena → CanRead old s
-    → LiesIn s place (width_of spec.kind)
-    → Did old new (DoesGetValue old.caller spec.kind spec.order id place (Err r))
-    → Did old new (DoesRead old.caller s (λ (n : ℤ) es. ReadsNumber old.caller s.arena spec place es n) (StopsNumber old.caller s.arena spec place) (Err r))
-number_stopped old new s spec place id r same can lies d = record {
-  own = d.own;
-  does = number_stops old.caller s spec place r d.own can.may lies
-      (subst (λ (a : ArenaId). DoesGetValue old.caller spec.kind spec.order a place (Err r) d.own) same d.does);
-  makes = d.makes;
-}
+  -- or it was refused
+  pub number_stopped : (r : Refusal) → CanRead old s → Did old new (DoesGetValue old.caller spec.kind spec.order id place (Err r))
+      → ReadsTo old new s spec place (Err r)
+  number_stopped r can d = record {
+    own = d.own;
+    does = by r (subst (λ (a : ArenaId). DoesGetValue old.caller spec.kind spec.order a place (Err r) d.own) same d.does);
+    makes = d.makes;
+  }
+    where
+      by : (e : Refusal) → DoesGetValue old.caller spec.kind spec.order s.arena place (Err e) d.own
+          → DoesStop old.caller s (StopsNumber old.caller s.arena spec place) e d.own
+      by Closed g =
+          (range_read old.caller s (place + width_of spec.kind) (record { at = place; bytes = [] }) d.own None g.1 lies.from lies.within, g.1)
+      by WrongThread g = absurd (g.0 can.may)
+      by e g = absurd g
 
 -- ---- reading after reading
 
@@ -190,3 +200,43 @@ stopped {old} {now} {next} {s} {own} r S T h on d = record {
     both Closed on g = (StopsReading-after old.caller s own d.own h.reads g.0, on g.1)
     both Memory on g = (AreReads-append old.caller s own d.own h.reads g.0, on g.1)
     both e on g = absurd g
+
+-- ---- loops
+
+-- What a loop has read so far. The whole is what W says of its result, or V where it stops; what is left of it then is as L says, or K.
+pub record IsUnderWay {X : Type 0} (old now : View) (s : Region) (W L : X → List Entry → Type 0) (V K : X → Refusal → List Entry → Type 0) : Type 0 where
+  pub own : List Entry
+  pub so_far : SoFar old now s own
+  pub rest : (x : X) (es : List Entry) → L x es → W x (own ++ es)
+  pub stops : (x : X) (r : Refusal) (es : List Entry) → K x r es → V x r (own ++ es)
+
+-- nothing is read
+pub begins : {X : Type 0} {W L : X → List Entry → Type 0} {V K : X → Refusal → List Entry → Type 0} (old : View) (s : Region)
+    → ((x : X) (es : List Entry) → L x es → W x es) → ((x : X) (r : Refusal) (es : List Entry) → K x r es → V x r es) → IsUnderWay old old s W L V K
+begins old s rest stops = record { own = []; so_far = none_so_far old s; rest = rest; stops = stops }
+
+module _ {X : Type 0} {old now : View} {s : Region} {W L : X → List Entry → Type 0} {V K : X → Refusal → List Entry → Type 0} (a : IsUnderWay old now s W L V
+    K) where
+  -- one turn more, after which M and N say what is left
+  pub goes_on_by : {next : View} (P : Caller → List Entry → Type 0) (M : X → List Entry → Type 0) (N : X → Refusal → List Entry → Type 0)
+      → (d : Did now next (λ es. AreReads now.caller s es × P now.caller es))
+      → ((x : X) (es : List Entry) → P old.caller d.own → M x es → L x (d.own ++ es))
+      → ((x : X) (r : Refusal) (es : List Entry) → P old.caller d.own → N x r es → K x r (d.own ++ es)) → IsUnderWay old next s W M V N
+  goes_on_by {next} P M N d rest stops =
+      let m = more P a.so_far d in
+      record {
+        own = a.own ++ d.own;
+        so_far = m.so_far;
+        rest = λ x es h. subst (W x) (sym (append_assoc a.own d.own es)) (a.rest x (d.own ++ es) (rest x es m.does h));
+        stops = λ x r es h. subst (V x r) (sym (append_assoc a.own d.own es)) (a.stops x r (d.own ++ es) (stops x r es m.does h));
+      }
+
+  -- nothing is left
+  pub comes_to_end : (x : X) → L x [] → Did old now (λ es. AreReads old.caller s es × W x es)
+  comes_to_end x h = ended (W x) a.so_far (subst (W x) (append-nil a.own) (a.rest x [] h))
+
+  -- or a turn is refused
+  pub stops_short : {next : View} (x : X) (r : Refusal) (S : Caller → Refusal → List Entry → Type 0) → ((es : List Entry) → S old.caller r es → K x r es)
+      → Did now next (DoesStop now.caller s (S now.caller) r)
+      → Did old next (DoesStop old.caller s (V x) r)
+  stops_short {next} x r S on d = stopped r S (V x) a.so_far (λ es h. a.stops x r es (on es h)) d

@@ -4,6 +4,7 @@ pub mod Answers
 pub mod Bytes
 pub mod Few
 pub mod Joined
+pub mod Kept
 pub mod Laws
 pub mod Learnt
 pub mod Paths

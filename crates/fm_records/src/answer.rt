@@ -2,6 +2,7 @@ ghost use Rattle.std.specs.Prelude.{◌≡◌, ◌++◌, [], ◌≤◌, length, 
 ghost use Rattle.fm_records.specs.Answers.{answer};
 ghost use Rattle.fm_records.specs.Few.{AreFew};
 ghost use Rattle.fm_records.specs.Joined.{CanJoin, joined};
+ghost use Rattle.fm_records.specs.Kept.{Becomes};
 
 use crate::found::Found;
 use fm_base::Refusal;
@@ -81,10 +82,8 @@ pub fn of_no_records(alloc: Global, q: &Query) -> Result<Answer, Refusal>
 fn join_from(found: &mut Vec<Found>, next: &Vec<Found>, k: usize) -> Result<(), Refusal>
     requires within { k ≤ length found.old.items }
     requires join { CanJoin (drop k found.old.items) (drop k next.now.items) }
-    ensures joined { OnOk result (found.new.items
-        ≡ take k found.old.items ++ joined (drop k found.old.items) (drop k next.now.items)) }
-    ensures same { OnErr result (found.new.items ≡ found.old.items) }
-    ensures memory { IfErr result (λ refusal. refusal ≡ Refusal.Memory) }
+    ensures { Becomes found.old.items found.new.items
+        (take k found.old.items ++ joined (drop k found.old.items) (drop k next.now.items)) result }
 {
     if k >= next.len() {
         return Ok(());

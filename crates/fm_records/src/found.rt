@@ -1,10 +1,11 @@
-ghost use Rattle.std.specs.Prelude.{◌≡◌, OnOk, OnErr, IfErr, []};
+ghost use Rattle.std.specs.Prelude.{◌≡◌, []};
 ghost use Rattle.fm_records.specs.Answers as answers;
 ghost use Rattle.fm_records.specs.Answers.{found_in};
 ghost use Rattle.fm_records.specs.Joined.{CanJoinFound, both, lengthened, shortened, summed};
 ghost use Rattle.fm_records.specs.declared.found.Found.TheVariants.{Count};
 ghost use Rattle.fm_records.specs.Few.{HasRoom};
 ghost use Rattle.fm_records.specs.Adds.{with_number};
+ghost use Rattle.fm_records.specs.Kept.{Becomes};
 
 use crate::numbers::Numbers;
 use fm_base::Refusal;
@@ -44,9 +45,7 @@ impl Found {
 
     /// Puts listed numbers behind those listed here. Refused: `Memory`, which leaves them as they were.
     pub(crate) fn lengthen(&mut self, next: &Found) -> Result<(), Refusal>
-        ensures ok { OnOk result (self.new ≡ lengthened self.old next.now) }
-        ensures same { OnErr result (self.new ≡ self.old) }
-        ensures memory { IfErr result (λ refusal. refusal ≡ Refusal.Memory) }
+        ensures { Becomes self.old self.new (lengthened self.old next.now) result }
     {
         if let Found::Listed(more) = next {
             if let Found::Listed(numbers) = self {
@@ -111,9 +110,7 @@ impl Found {
     #[inline(always)]
     pub(crate) fn add_number(&mut self, number: i64) -> Result<(), Refusal>
         requires { HasRoom self.old 1 }
-        ensures ok { OnOk result (self.new ≡ with_number self.old number) }
-        ensures same { OnErr result (self.new ≡ self.old) }
-        ensures memory { IfErr result (λ refusal. refusal ≡ Refusal.Memory) }
+        ensures { Becomes self.old self.new (with_number self.old number) result }
     {
         match self {
             Found::Count(_) => {}

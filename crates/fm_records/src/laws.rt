@@ -4,11 +4,13 @@ ghost use Rattle.fm_records.specs.Shares.{SparedAreFound, SharesJoin, SharesAnsw
 
 /// The number of a resolved path at admitted indices is that of the bytes of the place to which following the path
 /// comes, in the layout's list of all places.
+#[tactic(auto, using(crate::proofs::Standing::number_stands))]
 pub fn numbers_stand_at_places()
     ensures { NumbersStandAtPlaces }
 {}
 
 /// The lists of indices over which an item's values go are those that its path admits.
+#[tactic(auto, using(crate::proofs::Indices::listed_admitted, crate::proofs::Indices::admitted_listed))]
 pub fn lists_admitted()
     ensures { ListsAdmitted }
 {}
@@ -19,11 +21,13 @@ pub fn answers_join()
 {}
 
 /// The least of numbers is one of them, and none is below it.
+#[tactic(auto, using(crate::proofs::Ends::is_least))]
 pub fn least_is_least()
     ensures { LeastIsLeast }
 {}
 
 /// The greatest of numbers is one of them, and none is above it.
+#[tactic(auto, using(crate::proofs::Ends::is_greatest))]
 pub fn greatest_is_greatest()
     ensures { GreatestIsGreatest }
 {}
@@ -34,11 +38,13 @@ pub fn answers_are_of_the_query()
 {}
 
 /// Where an arena has all bytes of a region, those at the region's places are its bytes.
+#[tactic(auto, using(crate::proofs::AnsweringBytes::places_have))]
 pub fn places_have_the_bytes()
     ensures { PlacesHaveTheBytes }
 {}
 
 /// The answer of a query whose Reads found the bytes of one list is that over these bytes.
+#[tactic(auto, using(crate::proofs::AnsweringBytes::answer_of_bytes))]
 pub fn answers_over_bytes()
     ensures { AnswersOverBytes }
 {}
@@ -49,11 +55,13 @@ pub fn reads_what_is_asked()
 {}
 
 /// An answer over a segment comes from no more numbers than the segment has bytes.
+#[tactic(auto, using(crate::proofs::Few::answers_few))]
 pub fn answers_are_few()
     ensures { AnswersAreFew }
 {}
 
 /// Answers of one query that come from so few numbers can be joined.
+#[tactic(auto, using(crate::proofs::Few::few_join))]
 pub fn few_can_join()
     ensures { FewCanJoin }
 {}
@@ -66,11 +74,13 @@ pub fn spared_are_found()
 {}
 
 /// Whatever the Reads found, the answers of shares can be joined.
+#[tactic(auto, using(crate::proofs::Sharing::shares_join))]
 pub fn shares_join()
     ensures { SharesJoin }
 {}
 
 /// Where the entries spare the segment, its shares come to the answer over its bytes.
+#[tactic(auto, using(crate::proofs::Sharing::shares_answer))]
 pub fn shares_answer()
     ensures { SharesAnswer }
 {}

@@ -1,4 +1,5 @@
-ghost use Rattle.std.specs.Prelude.{◌≡◌, ◌++◌, ◌∷◌, [], ◌<◌, ◌-◌, length, slice_index_or, take, pos, IfOk, OnOk, OnErr, IfErr};
+ghost use Rattle.std.specs.Prelude.{◌≡◌, ◌++◌, ◌∷◌, [], ◌<◌, ◌-◌, length, slice_index_or, take, pos, IfOk, IfErr};
+ghost use Rattle.fm_records.specs.Kept.{Becomes};
 
 use crate::stored::Stored;
 use fm_base::Refusal;
@@ -64,9 +65,7 @@ impl Numbers {
     /// Adds a number at the end. Refused: `Memory`, which leaves them as they were.
     #[inline(always)]
     pub(crate) fn push(&mut self, number: i64) -> Result<(), Refusal>
-        ensures ok { OnOk result (self.new ≡ self.old ++ number ∷ []) }
-        ensures same { OnErr result (self.new ≡ self.old) }
-        ensures memory { IfErr result (λ refusal. refusal ≡ Refusal.Memory) }
+        ensures { Becomes self.old self.new (self.old ++ number ∷ []) result }
     {
         match self.stored.put(number) {
             Ok(true) => Ok(()),
@@ -77,9 +76,7 @@ impl Numbers {
 
     /// Makes all of them longs, and adds one more.
     fn widen(&mut self, number: i64) -> Result<(), Refusal>
-        ensures ok { OnOk result (self.new ≡ self.old ++ number ∷ []) }
-        ensures same { OnErr result (self.new ≡ self.old) }
-        ensures memory { IfErr result (λ refusal. refusal ≡ Refusal.Memory) }
+        ensures { Becomes self.old self.new (self.old ++ number ∷ []) result }
     {
         let mut longs = match self.longs() {
             Ok(longs) => longs,
@@ -110,9 +107,7 @@ impl Numbers {
 
     /// Adds numbers at the end. Refused: `Memory`, which leaves them as they were.
     pub(crate) fn append(&mut self, more: &Numbers) -> Result<(), Refusal>
-        ensures ok { OnOk result (self.new ≡ self.old ++ more.now) }
-        ensures same { OnErr result (self.new ≡ self.old) }
-        ensures memory { IfErr result (λ refusal. refusal ≡ Refusal.Memory) }
+        ensures { Becomes self.old self.new (self.old ++ more.now) result }
     {
         match self.stored.extend(&more.stored) {
             Ok(true) => Ok(()),
@@ -123,9 +118,7 @@ impl Numbers {
 
     /// The same one by one, for those of another width.
     fn append_each(&mut self, more: &Numbers) -> Result<(), Refusal>
-        ensures ok { OnOk result (self.new ≡ self.old ++ more.now) }
-        ensures same { OnErr result (self.new ≡ self.old) }
-        ensures memory { IfErr result (λ refusal. refusal ≡ Refusal.Memory) }
+        ensures { Becomes self.old self.new (self.old ++ more.now) result }
     {
         let len = self.len();
         for k in 0..more.len() {

@@ -1,4 +1,4 @@
-ghost use Rattle.std.specs.Prelude.{◌*◌, ◌≤◌};
+ghost use Rattle.std.specs.Prelude.{◌/◌};
 ghost use Rattle.fm_base.specs.View.{Did};
 ghost use Rattle.fm_records.specs.Few.{AreFew};
 ghost use Rattle.fm_records.specs.Learnt.{CanQuery, Queried};
@@ -40,31 +40,32 @@ pub fn query_segment<M: Memory>(
         Ok(none) => none.into_found(),
         Err(refusal) => return Err(refusal),
     };
-    match add_records(m, s, s.size() / q.record_size(), q, found.as_mut_slice()) {
+    match add_records(m, s, q, found.as_mut_slice()) {
         Ok(()) => Ok(Answer::of(found)),
         Err(refusal) => Err(refusal),
     }
 }
 
-/// Adds what the items find in the chosen ones of the segment's first `count` records.
+/// Adds what the items find in the chosen ones of the segment's records.
 ///
 /// Refused: `Closed` at the first value that is read then, or `Memory` at the first number that can't be listed. Then what
 /// the values before it come to is added.
 fn add_records<M: Memory>(
     m: &mut M,
     s: &Segment,
-    count: u64,
     q: &Query,
     found: &mut [Found],
 ) -> Result<(), Refusal>
     requires can { CanRead (M.view m.old) s.now }
-    requires within { count * q.now.size ≤ s.now.size }
     requires few { AreFew 0 q.now found.old }
     ensures { Did (M.view m.old) (M.view m.new) (DoesRead (M.view m.old).caller s.now
-        (λ _ own. ReadsRecords (M.view m.old).caller s.now.arena q.now count s.now.first found.old own found.new)
-        (λ r own. StopsRecords (M.view m.old).caller s.now.arena q.now count s.now.first found.old r own found.new) result) }
+        (λ _ own. ReadsRecords (M.view m.old).caller s.now.arena q.now (s.now.size / q.now.size) s.now.first
+        found.old own found.new)
+        (λ r own. StopsRecords (M.view m.old).caller s.now.arena q.now (s.now.size / q.now.size) s.now.first
+        found.old r own found.new) result) }
 {
     let size = q.record_size();
+    let count = s.size() / size;
     let mut place = s.first();
     for _ in 0..count {
         match add_record(m, s, place, q, found) {

@@ -2,13 +2,12 @@ ghost use Rattle.std.specs.Prelude.{◌≡◌, [], true};
 ghost use Rattle.std.specs.List.{AllByRecursion, AllZip};
 ghost use Rattle.fm_base.specs.View.{Did};
 ghost use Rattle.fm_records.specs.Answers as answers;
-ghost use Rattle.fm_records.specs.Few.{HasRoom, IsOpen, how_many};
-ghost use Rattle.fm_records.specs.Adds.{AddsItem, AddsItems, IsItemReadable, IsReadable, IsTestable};
+ghost use Rattle.fm_records.specs.Few.{IsOpen};
+ghost use Rattle.fm_records.specs.Adds.{AddsItem, AddsItems, IsItemReadable, IsTestable};
 ghost use Rattle.fm_records.specs.Reads.{CanRead, DoesRead};
 ghost use Rattle.fm_records.specs.Adds.{StopsAddingItem, StopsAddingItems};
 ghost use Rattle.fm_records.specs.Reads.{Tests, TestsConditions};
 ghost use Rattle.fm_records.specs.Stops.{StopsTest, StopsTests};
-ghost use Rattle.fm_records.specs.Texts.{IsFoundOf};
 ghost use Rattle.fm_records.specs.Values.{index_lists};
 
 use crate::found::Found;
@@ -18,7 +17,7 @@ use fm_path::Dim;
 use fm_query::{Asked, Condition, Item, Operator};
 use fm_segment::Segment;
 
-/// Whether all conditions hold for the record at a place, with no call where there are none.
+/// Whether all conditions hold for the record at a place. Those behind the first that fails aren't tested.
 ///
 /// Refused: `Closed` at the first value that is read then.
 #[inline(always)]
@@ -34,35 +33,14 @@ pub(crate) fn chooses<M: Memory>(
         (λ b own. TestsConditions (M.view m.old).caller s.now.arena place conditions.now own b)
         (StopsTests (M.view m.old).caller s.now.arena place conditions.now) result) }
 {
-    match conditions {
-        [] => Ok(true),
-        _ => is_chosen(m, s, place, conditions),
+    for condition in conditions {
+        match holds_at(m, s, place, condition) {
+            Ok(true) => {}
+            Ok(false) => return Ok(false),
+            Err(refusal) => return Err(refusal),
+        }
     }
-}
-
-/// Whether all conditions hold for the record at a place. Those behind the first that fails aren't tested.
-///
-/// Refused: `Closed` at the first value that is read then.
-fn is_chosen<M: Memory>(
-    m: &mut M,
-    s: &Segment,
-    place: u64,
-    conditions: &[Condition],
-) -> Result<bool, Refusal>
-    requires can { CanRead (M.view m.old) s.now }
-    requires testable { AllByRecursion (IsTestable s.now place) conditions.now }
-    ensures { Did (M.view m.old) (M.view m.new) (DoesRead (M.view m.old).caller s.now
-        (λ b own. TestsConditions (M.view m.old).caller s.now.arena place conditions.now own b)
-        (StopsTests (M.view m.old).caller s.now.arena place conditions.now) result) }
-{
-    match conditions {
-        [] => Ok(true),
-        [condition, rest @ ..] => match holds_at(m, s, place, condition) {
-            Ok(true) => is_chosen(m, s, place, rest),
-            Ok(false) => Ok(false),
-            Err(refusal) => Err(refusal),
-        },
-    }
+    Ok(true)
 }
 
 /// Whether a condition holds for the record at a place.
@@ -118,7 +96,7 @@ pub(crate) fn add_items<M: Memory>(
         (StopsAddingItems (M.view m.old).caller s.now.arena place items.now found.old found.new) result) }
 {
     for k in 0..items.len() {
-        match add_item(m, s, place, &items[k].asked, &mut found[k]) {
+        match add_item(m, s, place, &items[k], &mut found[k]) {
             Ok(()) => {}
             Err(refusal) => return Err(refusal),
         }
@@ -131,18 +109,17 @@ fn add_item<M: Memory>(
     m: &mut M,
     s: &Segment,
     place: u64,
-    asked: &Asked,
+    item: &Item,
     found: &mut Found,
 ) -> Result<(), Refusal>
     requires can { CanRead (M.view m.old) s.now }
-    requires readable { IsReadable s.now place asked.now }
-    requires kind { IsFoundOf asked.now found.old }
-    requires room { HasRoom found.old (how_many asked.now) }
+    requires readable { IsItemReadable s.now place item.now }
+    requires open { IsOpen item.now found.old }
     ensures { Did (M.view m.old) (M.view m.new) (DoesRead (M.view m.old).caller s.now
-        (λ _ own. AddsItem (M.view m.old).caller s.now.arena place asked.now found.old found.new own)
-        (StopsAddingItem (M.view m.old).caller s.now.arena place asked.now found.old found.new) result) }
+        (λ _ own. AddsItem (M.view m.old).caller s.now.arena place item.now.asked found.old found.new own)
+        (StopsAddingItem (M.view m.old).caller s.now.arena place item.now.asked found.old found.new) result) }
 {
-    match asked {
+    match &item.asked {
         Asked::Count => {
             found.add_record();
             Ok(())

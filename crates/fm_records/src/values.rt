@@ -3,8 +3,6 @@ ghost use Rattle.fm_base.specs.View.{Did};
 ghost use Rattle.fm_lanes.specs.Kind.{width_of};
 ghost use Rattle.fm_path_meaning.specs.Steady.{IsInside};
 ghost use Rattle.fm_path_meaning.specs.Walk.{reach};
-ghost use Rattle.fm_records.specs.Few.{HasRoom};
-ghost use Rattle.fm_records.specs.Adds.{DoesAdd};
 ghost use Rattle.fm_records.specs.Paths.{CanAddAll, AddsAll};
 ghost use Rattle.fm_records.specs.Reads.{CanRead, DoesRead, LiesIn, ReadsNumber};
 ghost use Rattle.fm_records.specs.Stops.{StopsNumber};
@@ -12,7 +10,6 @@ ghost use Rattle.fm_records.specs.Stops.{StopsNumber};
 use crate::found::Found;
 use fm_access::get_value;
 use fm_base::{Memory, Refusal};
-use fm_lanes::ValueKind;
 use fm_path::{Dim, ValueSpec};
 use fm_segment::Segment;
 
@@ -36,22 +33,21 @@ pub(crate) fn number_at<M: Memory>(
     }
 }
 
-/// Adds the number of the value at a place. Refused: `Closed`; `Memory` where it can't be listed. Then nothing is added.
+/// Adds the number of the value at an offset of the record at a place. Refused: `Closed`; `Memory` where it can't be
+/// listed. Then nothing is added.
 #[inline(always)]
 fn add_value<M: Memory>(
     m: &mut M,
     s: &Segment,
     place: u64,
+    at: u64,
     value: ValueSpec,
     found: &mut Found,
 ) -> Result<(), Refusal>
-    requires can { CanRead (M.view m.old) s.now }
-    requires lies { LiesIn s.now place (width_of value.kind) }
-    requires room { HasRoom found.old 1 }
-    ensures { Did (M.view m.old) (M.view m.new)
-        (DoesAdd (M.view m.old).caller s.now value (place ∷ []) found.old found.new result) }
+    requires { CanAddAll (M.view m.old) s.now place at [] value found.old }
+    ensures { AddsAll (M.view m.old) (M.view m.new) s.now place at [] value found.old found.new result }
 {
-    match number_at(m, s, place, value) {
+    match number_at(m, s, place + at, value) {
         Ok(number) => found.add_number(number),
         Err(refusal) => Err(refusal),
     }
@@ -69,34 +65,7 @@ fn reach_of(at: u64, dim: Dim, index: u64) -> u64
 ///
 /// Refused: `Closed` at the first value that is read then, or `Memory` at the first number that can't be listed. Then the
 /// numbers before it are added.
-fn add_values<M: Memory>(
-    m: &mut M,
-    s: &Segment,
-    place: u64,
-    at: u64,
-    dims: &[Dim],
-    value: ValueSpec,
-    found: &mut Found,
-) -> Result<(), Refusal>
-    requires { CanAddAll (M.view m.old) s.now place at dims.now value found.old }
-    ensures { AddsAll (M.view m.old) (M.view m.new) s.now place at dims.now value found.old found.new result }
-{
-    match dims {
-        [] => add_value(m, s, place + at, value, found),
-        [dim] => add_row(m, s, place, at, *dim, value, found),
-        [dim, rest @ ..] => {
-            for i in 0..dim.bound {
-                match add_values(m, s, place, reach_of(at, *dim, i), rest, value, found) {
-                    Ok(()) => {}
-                    Err(refusal) => return Err(refusal),
-                }
-            }
-            Ok(())
-        }
-    }
-}
-
-/// The same, with no call for a value or a row.
+#[cycle(adding)]
 #[inline(always)]
 pub(crate) fn add_all<M: Memory>(
     m: &mut M,
@@ -111,13 +80,40 @@ pub(crate) fn add_all<M: Memory>(
     ensures { AddsAll (M.view m.old) (M.view m.new) s.now place at dims.now value found.old found.new result }
 {
     match dims {
-        [] => add_value(m, s, place + at, value, found),
+        [] => add_value(m, s, place, at, value, found),
         [dim] => add_row(m, s, place, at, *dim, value, found),
-        _ => add_values(m, s, place, at, dims, value, found),
+        [dim, rest @ ..] => add_rows(m, s, place, at, *dim, rest, value, found),
     }
 }
 
-/// The same for one dim: the values side by side. Each kind has a loop of its own, so that the width is a constant there.
+/// The same for a dim and those behind it.
+#[cycle(adding)]
+fn add_rows<M: Memory>(
+    m: &mut M,
+    s: &Segment,
+    place: u64,
+    at: u64,
+    dim: Dim,
+    rest: &[Dim],
+    value: ValueSpec,
+    found: &mut Found,
+) -> Result<(), Refusal>
+    requires { CanAddAll (M.view m.old) s.now place at (dim ∷ rest.now) value found.old }
+    ensures { AddsAll (M.view m.old) (M.view m.new) s.now place at (dim ∷ rest.now) value
+        found.old found.new result }
+{
+    for i in 0..dim.bound {
+        match add_all(m, s, place, reach_of(at, dim, i), rest, value, found) {
+            Ok(()) => {}
+            Err(refusal) => return Err(refusal),
+        }
+    }
+    Ok(())
+}
+
+/// The same for one dim: the values side by side, with no call for a value or a row. With a loop for each kind of value, or
+/// of what is found, it would be too large to be inlined, and each value would take longer.
+#[inline(always)]
 fn add_row<M: Memory>(
     m: &mut M,
     s: &Segment,
@@ -130,115 +126,8 @@ fn add_row<M: Memory>(
     requires { CanAddAll (M.view m.old) s.now place at (dim ∷ []) value found.old }
     ensures { AddsAll (M.view m.old) (M.view m.new) s.now place at (dim ∷ []) value found.old found.new result }
 {
-    match value.kind {
-        ValueKind::Byte => row_of(m, s, place, at, dim, as_kind(value, ValueKind::Byte), found),
-        ValueKind::Boolean => row_of(
-            m,
-            s,
-            place,
-            at,
-            dim,
-            as_kind(value, ValueKind::Boolean),
-            found,
-        ),
-        ValueKind::Char => row_of(m, s, place, at, dim, as_kind(value, ValueKind::Char), found),
-        ValueKind::Short => row_of(
-            m,
-            s,
-            place,
-            at,
-            dim,
-            as_kind(value, ValueKind::Short),
-            found,
-        ),
-        ValueKind::Int => row_of(m, s, place, at, dim, as_kind(value, ValueKind::Int), found),
-        ValueKind::Long => row_of(m, s, place, at, dim, as_kind(value, ValueKind::Long), found),
-    }
-}
-
-/// The same value, of the kind that it has.
-#[inline(always)]
-fn as_kind(value: ValueSpec, kind: ValueKind) -> ValueSpec
-    requires { kind ≡ value.kind }
-    ensures { result ≡ value }
-{
-    ValueSpec {
-        kind,
-        order: value.order,
-        alignment: value.alignment,
-    }
-}
-
-/// The same as `add_row`, for one of its kinds. What is found is told apart once a row, not at each value.
-#[inline(always)]
-fn row_of<M: Memory>(
-    m: &mut M,
-    s: &Segment,
-    place: u64,
-    at: u64,
-    dim: Dim,
-    value: ValueSpec,
-    found: &mut Found,
-) -> Result<(), Refusal>
-    requires { CanAddAll (M.view m.old) s.now place at (dim ∷ []) value found.old }
-    ensures { AddsAll (M.view m.old) (M.view m.new) s.now place at (dim ∷ []) value found.old found.new result }
-{
-    match found {
-        Found::Sum(sum) => {
-            let row = Found::Sum(*sum);
-            row_apart(m, s, place, at, dim, value, row, found)
-        }
-        Found::Least(least) => {
-            let row = Found::Least(*least);
-            row_apart(m, s, place, at, dim, value, row, found)
-        }
-        Found::Greatest(greatest) => {
-            let row = Found::Greatest(*greatest);
-            row_apart(m, s, place, at, dim, value, row, found)
-        }
-        _ => add_each(m, s, place, at, dim, value, found),
-    }
-}
-
-/// The same, of which `row` is a copy: it needn't be stored at each value.
-#[inline(always)]
-fn row_apart<M: Memory>(
-    m: &mut M,
-    s: &Segment,
-    place: u64,
-    at: u64,
-    dim: Dim,
-    value: ValueSpec,
-    row: Found,
-    found: &mut Found,
-) -> Result<(), Refusal>
-    requires can { CanAddAll (M.view m.old) s.now place at (dim ∷ []) value found.old }
-    requires copy { row ≡ found.old }
-    ensures { AddsAll (M.view m.old) (M.view m.new) s.now place at (dim ∷ []) value found.old found.new result }
-{
-    let mut row = row;
-    let added = add_each(m, s, place, at, dim, value, &mut row);
-    *found = row;
-    added
-}
-
-/// The same, value by value.
-#[inline(always)]
-fn add_each<M: Memory>(
-    m: &mut M,
-    s: &Segment,
-    place: u64,
-    at: u64,
-    dim: Dim,
-    value: ValueSpec,
-    found: &mut Found,
-) -> Result<(), Refusal>
-    requires { CanAddAll (M.view m.old) s.now place at (dim ∷ []) value found.old }
-    ensures { AddsAll (M.view m.old) (M.view m.new) s.now place at (dim ∷ []) value found.old found.new result }
-{
     for i in 0..dim.bound {
-        let next = reach_of(at, dim, i);
-        match add_value(m, s, place + next, value, found) {
+        match add_value(m, s, place, reach_of(at, dim, i), value, found) {
             Ok(()) => {}
             Err(refusal) => return Err(refusal),
         }

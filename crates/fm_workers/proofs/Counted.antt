@@ -1,5 +1,5 @@
 -- What the parts' counts come to where nobody else writes the segment.
-use Rattle.std.proofs.Common.{◌≡◌, ℕ, zero, suc, ◌+◌, ◌-◌, ◌*◌, ◌/◌, ◌%◌, ◌≤◌, List, [], ◌∷◌, ◌++◌, length, map, refl, sym, ap, ◌∙◌, subst, arith, Ok}
+use Rattle.std.proofs.Common.{◌≡◌, ℕ, zero, ◌+◌, ◌-◌, ◌*◌, ◌/◌, ◌%◌, ◌≤◌, List, [], ◌∷◌, ◌++◌, length, map, refl, sym, ap, ◌∙◌, subst, arith, Ok}
 use Rattle.std.specs.List.{range_with_len}
 use Rattle.std.proofs.Math.Nat.{mul-mod_left, zero-div}
 use Rattle.std.proofs.lemmas.List.{map-append}
@@ -23,7 +23,7 @@ use Rattle.fm_records.specs.Shares.{IsSpared}
 use Rattle.fm_records.proofs.AnsweringBytes.{answer_of_bytes, length-places}
 use Rattle.fm_records.proofs.Joining.{answer-append}
 use Rattle.fm_lists.proofs.Each.{all_split}
-use Rattle.fm_records.proofs.Sharing.{spared_found}
+use Rattle.fm_records.proofs.Sharing.{range_append, spared_found}
 use Rattle.fm_workers.specs.Counts.{AreCounts, AreTallied, IsTally, ListsBytes, listed, numbers_listed}
 use Rattle.fm_workers.specs.Parts.{AreRuns}
 use Rattle.fm_workers.specs.Tallies.{CountsPart, DoesTallyPart, SumsTo, Tallied, Tallies, Tallying}
@@ -55,13 +55,6 @@ listed_both : (p : Plan) (a b : List ℕ) → IsTally p → listed (joined (answ
 listed_both p a b h = items_both p.items (chosen p.conditions (records p.size a)) (chosen p.conditions (records p.size b)) h
 
 -- ---- bytes of runs
-
-pub range_append : (a m n : ℕ) → range_with_len a (m + n) ≡ range_with_len a m ++ range_with_len (a + m) n
-range_append a zero n = let e : 0 + n ≡ n = omega arith in let f : a ≡ a + 0 = omega arith in ap (range_with_len a) e ∙ ap (λ x. range_with_len x n) f
-range_append a (suc m) n =
-    let e : suc m + n ≡ suc (m + n) = omega arith in
-    let f : a + 1 + m ≡ a + suc m = omega arith in
-    ap (range_with_len a) e ∙ ap (λ xs. a ∷ xs) (range_append (a + 1) m n) ∙ ap (λ x. a ∷ (range_with_len (a + 1) m ++ range_with_len x n)) f
 
 bytes_of_parts : (now : State) (s : Region) (at m n : ℕ)
     → bytes_at_places now (part_of at (m + n) s) ≡ bytes_at_places now (part_of at m s) ++ bytes_at_places now (part_of (at + m) n s)

@@ -1,43 +1,35 @@
 -- Items are joined one by one; after a want of memory they are as they were.
-use Rattle.std.proofs.Common.{◌≡◌, ◌<◌, length, vec_len, arith}
-use Rattle.fm_records.proofs.Steps.{within_both, adds, joins, undoes, none_left}
+use Rattle.std.proofs.Common.{◌≡◌, length, vec_len, arith}
+use Rattle.fm_records.proofs.Steps.{step, adds, joins, undoes, none_left, is_left}
 use Rattle.fm_records.proofs.answer.+join_from.Goals as goal
 
-pub returns-then-k-len-clause-joined : goal.returns-then-k-len-clause-joined
-returns-then-k-len-clause-joined t c =
+pub returns-then-k-len : goal.returns-then-k-len
+returns-then-k-len t c =
     let theirs : vec_len c.args.next.now ≡ length c.args.next.now.items = omega (arith, c.args.next.now.ok.0) in
-    none_left c.args.k c.args.found.now.items c.args.next.now.items c.requires.join (omega (arith, theirs, c.len.ensures, c.if-k-len.true))
+    let ends = none_left c.args.k c.args.found.now.items c.args.next.now.items c.requires.join (omega (arith, theirs, c.len.ensures, c.if-k-len.true)) in
+    record { ok = ends; same = tt; memory = tt }
 
 pub index_mut-requires : goal.index_mut-requires
 index_mut-requires t c =
     let mine : vec_len c.args.found.now ≡ length c.args.found.now.items = omega (arith, c.args.found.now.ok.0) in
-    let theirs : vec_len c.args.next.now ≡ length c.args.next.now.items = omega (arith, c.args.next.now.ok.0) in
-    let more : c.args.k < length c.args.next.now.items = omega (arith, theirs, c.len.ensures, c.if-k-len.false) in
-    omega (arith, mine, within_both c.args.k c.args.found.now.items c.args.next.now.items c.requires.join more)
+    omega (arith, mine, is_left c.args.found.now c.args.next.now c.requires.join c.len.ensures c.if-k-len.false)
 
 pub add-requires : goal.add-requires
 add-requires t c =
-    let theirs : vec_len c.args.next.now ≡ length c.args.next.now.items = omega (arith, c.args.next.now.ok.0) in
-    let more : c.args.k < length c.args.next.now.items = omega (arith, theirs, c.len.ensures, c.if-k-len.false) in
-    let one = within_both c.args.k c.args.found.now.items c.args.next.now.items c.requires.join more in
-    adds c.args.k c.args.found.now.items c.args.next.now.items c.join_from.new.found.items _ _ c.lengthen.new.self _ _
-    c.requires.join one more c.index_mut.ensures.value c.index.ensures c.in-Ok.ensures.ok c.in-Ok-join_from.ensures.joined
-    c.index_mut-in-Ok-join_from.ensures.value c.index-in-Ok-join_from.ensures
+    adds (step c.args.found.now c.args.next.now c.requires.join c.len.ensures c.if-k-len.false c.index_mut.ensures.value c.index.ensures
+    c.in-Ok.ensures.ok) c.join_from.new.found.items _ _ c.index_mut-in-Ok-join_from.ensures.value c.index-in-Ok-join_from.ensures
+    c.in-Ok-join_from.ensures.ok
 
-pub returns-in-Ok-join_from-clause-joined : goal.returns-in-Ok-join_from-clause-joined
-returns-in-Ok-join_from-clause-joined t c =
-    let theirs : vec_len c.args.next.now ≡ length c.args.next.now.items = omega (arith, c.args.next.now.ok.0) in
-    let more : c.args.k < length c.args.next.now.items = omega (arith, theirs, c.len.ensures, c.if-k-len.false) in
-    let one = within_both c.args.k c.args.found.now.items c.args.next.now.items c.requires.join more in
-    joins c.args.k c.args.found.now.items c.args.next.now.items c.join_from.new.found.items _ _ c.lengthen.new.self _ _ c.add.new.self
-    c.requires.join one more c.index_mut.ensures.value c.index.ensures c.in-Ok.ensures.ok c.in-Ok-join_from.ensures.joined
-    c.index_mut-in-Ok-join_from.ensures.value c.index-in-Ok-join_from.ensures c.add.ensures
+pub returns-in-Ok-join_from : goal.returns-in-Ok-join_from
+returns-in-Ok-join_from t c =
+    let all = joins (step c.args.found.now c.args.next.now c.requires.join c.len.ensures c.if-k-len.false c.index_mut.ensures.value c.index.ensures
+    c.in-Ok.ensures.ok) c.join_from.new.found.items _ _ c.index_mut-in-Ok-join_from.ensures.value c.index-in-Ok-join_from.ensures
+    c.in-Ok-join_from.ensures.ok c.add.new.self c.add.ensures in
+    record { ok = all; same = tt; memory = tt }
 
-pub returns-in-Err-join_from-clause-same : goal.returns-in-Err-join_from-clause-same
-returns-in-Err-join_from-clause-same t c =
-    let theirs : vec_len c.args.next.now ≡ length c.args.next.now.items = omega (arith, c.args.next.now.ok.0) in
-    let more : c.args.k < length c.args.next.now.items = omega (arith, theirs, c.len.ensures, c.if-k-len.false) in
-    let one = within_both c.args.k c.args.found.now.items c.args.next.now.items c.requires.join more in
-    undoes c.args.k c.args.found.now.items c.args.next.now.items c.join_from.new.found.items _ _ c.lengthen.new.self _ _ c.shorten.new.self
-    c.requires.join one more c.index_mut.ensures.value c.index.ensures c.in-Ok.ensures.ok c.in-Err-join_from.ensures.same
-    c.index_mut-in-Err-join_from.ensures.value c.index-in-Err-join_from.ensures c.shorten.ensures
+pub returns-in-Err-join_from : goal.returns-in-Err-join_from
+returns-in-Err-join_from t c =
+    let back = undoes (step c.args.found.now c.args.next.now c.requires.join c.len.ensures c.if-k-len.false c.index_mut.ensures.value c.index.ensures
+    c.in-Ok.ensures.ok) c.join_from.new.found.items _ _ c.index_mut-in-Err-join_from.ensures.value c.index-in-Err-join_from.ensures
+    c.shorten.new.self c.in-Err-join_from.ensures.same c.shorten.ensures in
+    record { ok = tt; same = back; memory = c.in-Err-join_from.ensures.memory }

@@ -1,9 +1,7 @@
-use Rattle.std.proofs.Common.{◌-◌, List}
-use Rattle.fm_base.specs.Calls.{Entry}
 use Rattle.fm_records.proofs.Recording.{AreRecorded}
 use Rattle.fm_records.proofs.query.add_records.Given as goal
 
 abbrev pub invariant-loop : goal.invariant-loop
 invariant-loop g l =
     let v = g.M.Memory.view in
-    record { own : List Entry; recorded : AreRecorded (v l.fn.m) (v l.m) l.s l.q l.count (l.count - l.counter) l.place l.fn.found l.found own }
+    AreRecorded (v l.fn.m) (v l.m) l.s l.q l.count l.counter l.place l.fn.found l.found

@@ -1,8 +1,36 @@
--- No condition is tested.
-use Rattle.fm_records.proofs.Reaching.{none}
-use Rattle.fm_records.proofs.Testing.{none_tested}
+-- The conditions are tested one by one.
+use Rattle.std.proofs.Common.{sym, subst}
+use Rattle.fm_lists.proofs.Each.{all_at}
+use Rattle.fm_records.specs.Adds.{IsTestable}
+use Rattle.fm_records.proofs.Testing.{none_tested, test_holds, test_fails, test_refused, all_tested}
+use Rattle.fm_records.proofs.Visiting.{can_still}
 use Rattle.fm_records.proofs.querying.chooses.Goals as goal
 
-pub returns-in-empty : goal.returns-in-empty
-returns-in-empty g c =
-    none_tested (g.M.Memory.view c.args.m.now) c.args.s.now c.args.place c.args.conditions.now (none c.args.conditions.now c.in-empty.len_below)
+pub loop-condition-init : goal.loop-condition-init
+loop-condition-init g c = none_tested (g.M.Memory.view c.args.m.now) c.args.s.now c.args.place c.args.conditions.now
+
+pub holds_at-requires-clause-can : goal.holds_at-requires-clause-can
+holds_at-requires-clause-can g c = can_still c.requires.can c.loop-condition.invariant.so_far
+
+pub holds_at-requires-clause-testable : goal.holds_at-requires-clause-testable
+holds_at-requires-clause-testable g c =
+    subst (IsTestable c.args.s.now c.args.place) (sym c.condition-item.is)
+    (all_at (IsTestable c.args.s.now c.args.place) c.loop-condition.condition-index c.args.conditions.now _ c.requires.testable c.loop-condition-test.true)
+
+pub loop-condition-preserved : goal.loop-condition-preserved
+loop-condition-preserved g c =
+    test_holds c.args.conditions.now c.loop-condition.condition-index c.condition-item.result c.loop-condition.invariant c.loop-condition-test.true
+    c.condition-item.is c.in-Ok-true.field-0 c.in-Ok-true.field-0-test c.in-Ok-true.ensures
+
+pub returns-in-Ok-false : goal.returns-in-Ok-false
+returns-in-Ok-false g c =
+    test_fails c.args.conditions.now c.loop-condition.condition-index c.condition-item.result c.loop-condition.invariant c.loop-condition-test.true
+    c.condition-item.is c.in-Ok-false.field-0 c.in-Ok-false.field-0-test c.in-Ok-false.ensures
+
+pub returns-in-Err : goal.returns-in-Err
+returns-in-Err g c =
+    test_refused c.args.conditions.now c.loop-condition.condition-index c.condition-item.result c.loop-condition.invariant c.loop-condition-test.true
+    c.condition-item.is c.in-Err.refusal c.in-Err.ensures
+
+pub returns : goal.returns
+returns g c = all_tested c.args.conditions.now c.loop-condition.condition-index c.loop-condition.invariant c.loop-condition-test.false

@@ -1,10 +1,4 @@
 -- A record's conditions are tested, and then its items are read.
-use Rattle.std.proofs.Common.{List, sym, subst}
-use Rattle.std.specs.List.{AllByRecursion, AllZip}
-use Rattle.fm_query.specs.declared.condition.Condition.{Condition}
-use Rattle.fm_query.specs.declared.item.Item.{Item}
-use Rattle.fm_records.specs.Few.{IsOpen}
-use Rattle.fm_records.specs.Adds.{IsItemReadable, IsTestable}
 use Rattle.fm_records.proofs.Few.{plan_items_open}
 use Rattle.fm_records.proofs.Plans.{plan_items_readable, plan_conditions_testable}
 use Rattle.fm_records.proofs.Recording.{record_chosen, record_passed, record_stopped}
@@ -12,36 +6,26 @@ use Rattle.fm_records.proofs.Visiting.{can_still, first_so_far}
 use Rattle.fm_records.proofs.record.add_record.Goals as goal
 
 pub chooses-requires-clause-testable : goal.chooses-requires-clause-testable
-chooses-requires-clause-testable g c =
-    subst (λ (xs : List Condition). AllByRecursion (IsTestable c.args.s.now c.args.place) xs) (sym c.conditions.ensures.conditions)
-    (plan_conditions_testable c.args.s.now c.args.place c.args.q.now c.conditions.ensures.plan c.requires.lies)
+chooses-requires-clause-testable g c = plan_conditions_testable c.conditions.ensures.conditions c.conditions.ensures.plan c.requires.lies
 
 pub add_items-requires-clause-can : goal.add_items-requires-clause-can
 add_items-requires-clause-can g c = can_still c.requires.can (first_so_far c.in-Ok-true.ensures)
 
 pub add_items-requires-clause-readable : goal.add_items-requires-clause-readable
-add_items-requires-clause-readable g c =
-    subst (λ (xs : List Item). AllByRecursion (IsItemReadable c.args.s.now c.args.place) xs) (sym c.items.ensures.items)
-    (plan_items_readable c.args.s.now c.args.place c.args.q.now c.items.ensures.plan c.requires.lies)
+add_items-requires-clause-readable g c = plan_items_readable c.items.ensures.items c.items.ensures.plan c.requires.lies
 
 pub add_items-requires-clause-open : goal.add_items-requires-clause-open
-add_items-requires-clause-open g c =
-    subst (λ (xs : List Item). AllZip IsOpen xs c.args.found.now) (sym c.items.ensures.items)
-    (plan_items_open c.args.q.now c.args.found.now c.items.ensures.plan c.requires.room)
+add_items-requires-clause-open g c = plan_items_open c.args.found.now c.items.ensures.items c.items.ensures.plan c.requires.room
 
 pub returns-in-Ok-true : goal.returns-in-Ok-true
 returns-in-Ok-true g c =
-    record_chosen c.args.s.now c.args.q.now c.args.place c.conditions.result.now c.conditions.ensures.conditions (g.M.Memory.view c.args.m.now)
-    (g.M.Memory.view c.chooses.new.m) (g.M.Memory.view c.add_items.new.m) c.items.result.now c.args.found.now c.add_items.new.found c.in-Ok-true.field-0
-    c.add_items.result
-    c.items.ensures.items c.in-Ok-true.field-0-test c.in-Ok-true.ensures c.add_items.ensures
+    record_chosen c.args.s.now c.args.q.now c.args.place c.conditions.ensures.conditions c.args.found.now c.add_items.new.found
+    c.add_items.result c.items.ensures.items c.in-Ok-true.field-0-test c.in-Ok-true.ensures c.add_items.ensures
 
 pub returns-in-Ok-false : goal.returns-in-Ok-false
 returns-in-Ok-false g c =
-    record_passed c.args.s.now c.args.q.now c.args.place c.conditions.result.now c.conditions.ensures.conditions (g.M.Memory.view c.args.m.now)
-    (g.M.Memory.view c.chooses.new.m) c.args.found.now c.in-Ok-false.field-0 c.in-Ok-false.field-0-test c.in-Ok-false.ensures
+    record_passed c.args.s.now c.args.q.now c.args.place c.conditions.ensures.conditions c.args.found.now c.in-Ok-false.field-0-test
+    c.in-Ok-false.ensures
 
 pub returns-in-Err : goal.returns-in-Err
-returns-in-Err g c =
-    record_stopped c.args.s.now c.args.q.now c.args.place c.conditions.result.now c.conditions.ensures.conditions (g.M.Memory.view c.args.m.now)
-    (g.M.Memory.view c.chooses.new.m) c.args.found.now c.in-Err.refusal c.in-Err.ensures
+returns-in-Err g c = record_stopped c.args.s.now c.args.q.now c.args.place c.conditions.ensures.conditions c.args.found.now c.in-Err.refusal c.in-Err.ensures
