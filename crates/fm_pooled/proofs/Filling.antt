@@ -32,7 +32,7 @@ use Rattle.fm_rule.specs.Passes.{IsOf}
 use Rattle.fm_segment.specs.Region.{Region, region_of}
 use Rattle.fm_words.specs.declared.shape.Shape.{Shape}
 use Rattle.fm_pooled.specs.Stocked.{IsLone, IsStocked, KeepsArenas, bytes_in_pool, pool_passes}
-use Rattle.fm_pooled.proofs.Putting.{put_stays}
+use Rattle.fm_access_laws.proofs.Putting.{put_all_stays}
 use Rattle.fm_pooled.proofs.Tidying.{AllChangeNone, loans_too, tidy_none, tidy_on}
 
 -- ---- calls of a memory
@@ -77,7 +77,7 @@ put_lone pool p m q r a bytes lone at did are given is outside sound =
     let lone_m : IsLone pool m = subst (λ (v : View). IsLone pool v) (sym at) lone in
     let makes : Makes (view_of_pass m) (view_of_pass r) did.own = subst (λ (v : View). Makes (view_of_pass m) (view_of_pass v) did.own) (sym is) did.makes in
     let room : length bytes ≤ given_in (view_of_pass m) a = subst (λ (v : View). length bytes ≤ given_in (view_of_pass v) a) (sym at) given in
-    let stays = put_stays m.caller a (length bytes) 0 bytes did.own did.does are (omega arith) in
+    let stays = put_all_stays m.caller a (length bytes) 0 bytes (Ok tt) did.own are (omega arith) did.does in
     lone_on pool m r did.own lone_m makes
     (tidy_alone (limit_of m.shape) (length bytes) a (state_in m) did.own (own_legal pool m q did.own lone_m did.makes) room stays)
     (outside (still_of pool m q did.own did.makes lone_m.outside.of)) sound

@@ -1,7 +1,6 @@
 pub mod Crews
 pub mod Filling
 pub mod Opening
-pub mod Putting
 pub mod Shows
 pub mod Tallies
 pub mod Tidying
