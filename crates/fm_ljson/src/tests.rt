@@ -203,73 +203,56 @@ fn refuses_what_is_no_json(rt: HostRuntime) {
     }
 }
 
+/// The node that breaks a rule, and the text. One text, since a prover goes through a table row by row.
+const BAD_NODES: &str = "\
+0 null
+0 []
+0 'int'
+0 {}
+0 {'type':'float'}
+0 {'type':'Int'}
+0 {'type':7}
+0 {'type':'int','size':4}
+0 {'type':'int','Name':'a'}
+0 {'type':'int','':1}
+0 {'type':'int','name':''}
+0 {'type':'int','name':'9a'}
+0 {'type':'int','name':'a-b'}
+0 {'type':'int','name':null}
+0 {'type':'int','order':'Big'}
+0 {'type':'int','order':true}
+0 {'type':'int','align':8.0}
+0 {'type':'int','align':8e0}
+0 {'type':'int','align':-0}
+0 {'type':'int','align':-8}
+0 {'type':'int','align':'8'}
+0 {'type':'int','align':1099511627777}
+0 {'type':'int','align':18446744073709551616}
+0 {'type':'padding'}
+0 {'type':'padding','size':1099511627777}
+0 {'type':'padding','size':2,'align':1}
+0 {'type':'padding','size':2,'order':'big'}
+0 {'type':'sequence','count':2}
+0 {'type':'sequence','element':{'type':'int'}}
+0 {'type':'sequence','count':1099511627777,'element':{'type':'int'}}
+0 {'type':'sequence','count':2,'element':{'type':'int'},'members':[]}
+0 {'type':'struct'}
+0 {'type':'struct','members':{}}
+0 {'type':'struct','members':[],'order':'big'}
+0 {'type':'union','members':[],'size':1}
+1 {'type':'sequence','count':2,'element':7}
+1 {'type':'struct','members':[1]}
+2 {'type':'struct','members':[{'type':'int'},{'type':'float'},{}]}
+4 {'type':'struct','members':[{'type':'union','members':[{'type':'int'},{'type':'int'}]},{}]}
+4 {'type':'struct','members':[{'type':'sequence','count':1,'element':{'type':'struct','members':[]}},{'type':'int'},null]}
+3 {'type':'union','members':[{'type':'struct','members':[{'type':'int'},{'type':'int','align':-1}]},{}]}
+2 {'type':'struct','members':[{'type':'padding','size':0},{}]}";
+
 #[test]
 fn names_the_node_that_breaks_a_rule(rt: HostRuntime) {
-    for (text, node) in [
-        ("null", 0),
-        ("[]", 0),
-        ("'int'", 0),
-        ("{}", 0),
-        ("{'type':'float'}", 0),
-        ("{'type':'Int'}", 0),
-        ("{'type':7}", 0),
-        ("{'type':'int','size':4}", 0),
-        ("{'type':'int','Name':'a'}", 0),
-        ("{'type':'int','':1}", 0),
-        ("{'type':'int','name':''}", 0),
-        ("{'type':'int','name':'9a'}", 0),
-        ("{'type':'int','name':'a-b'}", 0),
-        ("{'type':'int','name':null}", 0),
-        ("{'type':'int','order':'Big'}", 0),
-        ("{'type':'int','order':true}", 0),
-        ("{'type':'int','align':8.0}", 0),
-        ("{'type':'int','align':8e0}", 0),
-        ("{'type':'int','align':-0}", 0),
-        ("{'type':'int','align':-8}", 0),
-        ("{'type':'int','align':'8'}", 0),
-        ("{'type':'int','align':1099511627777}", 0),
-        ("{'type':'int','align':18446744073709551616}", 0),
-        ("{'type':'padding'}", 0),
-        ("{'type':'padding','size':1099511627777}", 0),
-        ("{'type':'padding','size':2,'align':1}", 0),
-        ("{'type':'padding','size':2,'order':'big'}", 0),
-        ("{'type':'sequence','count':2}", 0),
-        ("{'type':'sequence','element':{'type':'int'}}", 0),
-        (
-            "{'type':'sequence','count':1099511627777,'element':{'type':'int'}}",
-            0,
-        ),
-        (
-            "{'type':'sequence','count':2,'element':{'type':'int'},'members':[]}",
-            0,
-        ),
-        ("{'type':'struct'}", 0),
-        ("{'type':'struct','members':{}}", 0),
-        ("{'type':'struct','members':[],'order':'big'}", 0),
-        ("{'type':'union','members':[],'size':1}", 0),
-        ("{'type':'sequence','count':2,'element':7}", 1),
-        ("{'type':'struct','members':[1]}", 1),
-        (
-            "{'type':'struct','members':[{'type':'int'},{'type':'float'},{}]}",
-            2,
-        ),
-        (
-            "{'type':'struct','members':[{'type':'union','members':[{'type':'int'},{'type':'int'}]},{}]}",
-            4,
-        ),
-        (
-            "{'type':'struct','members':[{'type':'sequence','count':1,'element':{'type':'struct','members':[]}},{'type':'int'},null]}",
-            4,
-        ),
-        (
-            "{'type':'union','members':[{'type':'struct','members':[{'type':'int'},{'type':'int','align':-1}]},{}]}",
-            3,
-        ),
-        (
-            "{'type':'struct','members':[{'type':'padding','size':0},{}]}",
-            2,
-        ),
-    ] {
+    for row in BAD_NODES.lines() {
+        let (node, text) = row.split_once(' ').unwrap_or(("", row));
+        let node = node.parse().unwrap_or(u64::MAX);
         assert_eq!(rt;
             read(rt.alloc(), text).err(),
             Some(Refusal::BadShape(node)),

@@ -5,29 +5,29 @@ use Rattle.std.proofs.lemmas.List.{take_all}
 use Rattle.fm_io.specs.Files.{Contents, file_of, AreBytesFrom, EndsBefore}
 use Rattle.fm_io.proofs.Filled.{AreBytesFrom-append}
 use Rattle.fm_load.specs.Whole.{IsChunk, TakesChunk, IsWhole}
-use Rattle.fm_load.specs.Limits.{record_file_limit}
 
--- a file's first bytes and the next chunk of it are its first bytes
-pub AreBytesFrom-took : (told : Option Contents) (name old new : List ℕ) (ended : Bool) → AreBytesFrom told name 0 old
-    → TakesChunk told name old new ended → AreBytesFrom told name 0 new
-AreBytesFrom-took told name old new ended first took =
+-- a file's first bytes and the next chunk of it, of which the files still tell the same, are its first bytes
+pub AreBytesFrom-took : {limit : ℕ} {told later : Option Contents} {name old new : List ℕ} {ended : Bool} → later ≡ told
+    → AreBytesFrom told name 0 old → TakesChunk limit later name old new ended → AreBytesFrom told name 0 new
+AreBytesFrom-took {limit} {told} {later} {name} {old} held first took =
     subst (λ (bytes : List ℕ). AreBytesFrom told name 0 bytes) (sym took.appended)
     (AreBytesFrom-append told name old took.piece 0 first
-    (subst (λ (at : ℕ). AreBytesFrom told name at took.piece) (sym (zero-add (length old))) took.bytes))
+    (subst (λ (at : ℕ). AreBytesFrom told name at took.piece) (sym (zero-add (length old)))
+    (subst (λ (x : Option Contents). AreBytesFrom x name (length old) took.piece) held took.bytes)))
 
--- a chunk that was put behind what was loaded
-pub takes_chunk : (told : Option Contents) (name old new piece : List ℕ) (ended : Bool) → length old % 8 ≡ 0 → new ≡ old ++ piece
-    → IsChunk told name (length old) piece ended → TakesChunk told name old new ended
-takes_chunk told name old new piece ended even is chunk =
-    let count : length new ≡ length old + length piece = ap length is ∙ length-append old piece in
-    let short : length old + length piece ≤ record_file_limit = chunk.short in
+-- a chunk that was put behind what was there
+pub takes_chunk : {limit : ℕ} {told : Option Contents} {name old new piece : List ℕ} {at : ℕ} {ended : Bool} → new ≡ old ++ piece
+    → at ≡ length old → IsChunk limit told name at piece ended → TakesChunk limit told name old new ended
+takes_chunk {limit} {told} {name} {old} {new} {piece} {at} {ended} is there chunk =
+    let count : length new ≡ at + length piece = ap length is ∙ length-append old piece ∙ ap (λ n. n + length piece) (sym there) in
+    let short : at + length piece ≤ limit = chunk.short in
     record {
       piece = piece;
       appended = is;
-      bytes = chunk.bytes;
+      bytes = subst (λ (n : ℕ). AreBytesFrom told name n piece) there chunk.bytes;
       short = omega (arith, count, short);
-      whole = λ goes. let whole : length piece % 8 ≡ 0 = chunk.whole goes in omega (arith, count, even, whole);
-      grows = λ goes. let some : 0 < length piece = chunk.grows goes in omega (arith, count, some);
+      whole = λ goes even. let whole : length piece % 8 ≡ 0 = chunk.whole goes in omega (arith, count, there, even, whole);
+      grows = λ goes. let some : 0 < length piece = chunk.grows goes in omega (arith, count, there, some);
       ends = λ last. subst (λ (n : ℕ). EndsBefore told name n) (sym count) (chunk.ends last);
     }
 
@@ -42,8 +42,11 @@ first_to_last None name bytes from ends = tt
 first_to_last (Some contents) name bytes from ends = whole_file (file_of contents name) bytes from ends
 
 -- a file's first bytes and the last chunk of it are the file
-pub IsWhole-took : (told : Option Contents) (name old new : List ℕ) → AreBytesFrom told name 0 old → TakesChunk told name old new true → IsWhole told name new
-IsWhole-took told name old new first took = first_to_last told name new (AreBytesFrom-took told name old new true first took) (took.ends refl)
+pub IsWhole-took : {limit : ℕ} {told later : Option Contents} {name old new : List ℕ} {ended : Bool} → later ≡ told
+    → AreBytesFrom told name 0 old → TakesChunk limit later name old new ended → ended ≡ true → IsWhole told name new
+IsWhole-took {limit} {told} {later} {name} {old} {new} held first took last =
+    first_to_last told name new (AreBytesFrom-took held first took)
+    (subst (λ (x : Option Contents). EndsBefore x name (length new)) held (took.ends last))
 
 none_of : (file : Option (List ℕ)) (at : ℕ) (bytes : List ℕ) → bytes ≡ []
     → MatchOption file (bytes ≡ []) (λ f. bytes ≡ take (length bytes) (drop at f))

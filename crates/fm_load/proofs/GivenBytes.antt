@@ -21,15 +21,15 @@ unfolding loaded_in
 loaded_first v s h = ap (λ n. take s.size (drop n (bytes_of_arena v.state s.arena))) h
 
 -- the arena has bytes for all of it
-pub ready_room : (v : View) (s : Region) → IsReady v s → s.size ≤ length (bytes_of_arena v.state s.arena)
-ready_room v s r =
+pub ready_room : {v : View} {s : Region} → IsReady v s → s.size ≤ length (bytes_of_arena v.state s.arena)
+ready_room {v} {s} r =
     let within = r.within in
     let size = r.held.size in
     omega (arith, length-bytes_in (words_at v s.arena))
 
 -- and it is as much as the segment says
-pub length-loaded : (v : View) (s : Region) → IsReady v s → length (loaded_in v s) ≡ s.size
-length-loaded v s r = ap length (loaded_first v s r.whole) ∙ length-take-le s.size (bytes_of_arena v.state s.arena) (ready_room v s r)
+pub length-loaded : {v : View} {s : Region} → IsReady v s → length (loaded_in v s) ≡ s.size
+length-loaded {v} {s} r = ap length (loaded_first v s r.whole) ∙ length-take-le s.size (bytes_of_arena v.state s.arena) (ready_room r)
 
 -- bytes that were put behind the first ones
 pub put_behind : (all bytes : List ℕ) (n : ℕ) → n ≤ length all → take (n + length bytes) (with_bytes all n bytes) ≡ take n all ++ bytes
@@ -45,7 +45,7 @@ pub rounded_whole : (n : ℕ) → n % 8 ≡ 0 → rounded_up n 8 ≡ n
 rounded_whole n whole = omega arith
 
 -- where the next bytes are given
-pub next_place : (v : View) (s : Region) (a : ArenaId) → IsReady v s → a ≡ s.arena → length (loaded_in v s) % 8 ≡ 0 → rounded_up (given_in v a) 8 ≡ s.size
-next_place v s a r is whole =
+pub next_place : {v : View} {s : Region} {a : ArenaId} → IsReady v s → a ≡ s.arena → length (loaded_in v s) % 8 ≡ 0 → rounded_up (given_in v a) 8 ≡ s.size
+next_place {v} {s} {a} r is whole =
     let counted : given_in v a ≡ s.size = ap (given_in v) is ∙ r.counted in
-    rounded_whole (given_in v a) (ap (λ n. n % 8) (counted ∙ sym (length-loaded v s r)) ∙ whole) ∙ counted
+    rounded_whole (given_in v a) (ap (λ n. n % 8) (counted ∙ sym (length-loaded r)) ∙ whole) ∙ counted

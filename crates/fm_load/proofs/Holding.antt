@@ -19,7 +19,7 @@ use Rattle.fm_base.proofs.Growing.{given_is}
 use Rattle.fm_base.proofs.Lookup.{KeepsName, changed_has, changed_lookup, changed_twice, lookup_changed, arena_of-id, arena_of-opened, has_arena-opened}
 use Rattle.fm_base.proofs.Making.{by_itself_still}
 use Rattle.fm_bytes.proofs.Words.{length-bytes_in}
-use Rattle.fm_access.specs.Alone.{ChangesBytes, StaysOut, bytes_of_arena, with_words}
+use Rattle.fm_access.specs.Alone.{ChangesBytes, bytes_of_arena, with_words}
 use Rattle.fm_access.proofs.Splicing.{keeps_count}
 use Rattle.fm_access.proofs.Visits.{visit_stays}
 use Rattle.fm_load.specs.Held.{IsHeld, IsEmpty, HoldsThen, OnlyIn, Wants, words_at}
@@ -225,18 +225,16 @@ refused_held v w a size r h room out did = held_same v w did.own a h did.makes o
 
 -- where bytes were put the arena is held, has given as many, and has as many words
 pub put_still : (v w : View) (own : List Entry) (a : ArenaId) (place : ℕ) (bytes : List ℕ) → IsHeld v a → Makes v w own → w.inside ≡ None
-    → ChangesBytes v w a place bytes → place + length bytes ≤ 8 * length (words_at v a) → HoldsThen w a (given_in v a) (words_at w a)
-put_still v w own a place bytes h makes out ch fits =
+    → ChangesBytes v w a place bytes → place + length bytes ≤ v.limit → HoldsThen w a (given_in v a) (words_at w a)
+put_still v w own a place bytes h makes out ch last =
     let words = words_at w a in
-    let all : place + length bytes ≤ length (bytes_of_arena v.state a) = omega (arith, length-bytes_in (words_at v a)) in
+    let size = h.size in
+    let fits : place + length bytes ≤ 8 * length (words_at v a) = omega (arith, size, last) in
+    let all : place + length bytes ≤ length (bytes_of_arena v.state a) = omega (arith, fits, length-bytes_in (words_at v a)) in
     let count : length (bytes_of_arena w.state a) ≡ length (bytes_of_arena v.state a) =
     ap length ch.changed ∙ keeps_count (bytes_of_arena v.state a) bytes place all in
-    let size : length (words_at w a) ≡ length (words_at v a) = omega (arith, count, length-bytes_in (words_at w a), length-bytes_in (words_at v a)) in
-    held_changed v w own a (given_in v a) words (with_words words) (λ x. refl) h makes out ch.rest refl refl refl size
-
--- an open arena isn't refused
-pub held_open : {v w : View} {a : ArenaId} → IsHeld v a → StaysOut v w a → ⊥
-held_open h out = out.shut (record { alive = h.alive; usable = h.usable })
+    let same : length (words_at w a) ≡ length (words_at v a) = omega (arith, count, length-bytes_in (words_at w a), length-bytes_in (words_at v a)) in
+    held_changed v w own a (given_in v a) words (with_words words) (λ x. refl) h makes out ch.rest refl refl refl same
 
 -- ---- what stays elsewhere
 

@@ -1,5 +1,4 @@
 pub mod Chunks
-pub mod FileBytes
 pub mod Filling
 pub mod Following
 pub mod GivenBytes

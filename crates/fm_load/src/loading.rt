@@ -123,7 +123,7 @@ fn load_chunk<R: Wait, F: Files, M: Memory>(
     ensures ready { IsReady (M.view m.new) segment.new }
     ensures arena { segment.new.arena ≡ segment.old.arena }
     ensures short { length (loaded_in (M.view m.new) segment.new) ≤ RECORD_FILE_LIMIT }
-    ensures took { IfOk result (TakesChunk (F.holds files.old) name.now
+    ensures took { IfOk result (TakesChunk RECORD_FILE_LIMIT (F.holds files.old) name.now
         (loaded_in (M.view m.old) segment.old) (loaded_in (M.view m.new) segment.new)) }
     ensures did { Loads (M.view m.old) (M.view m.new) segment.old segment.new }
     ensures too_long { IsErrOf result LoadFault.TooLong →
@@ -142,7 +142,7 @@ fn load_chunk<R: Wait, F: Files, M: Memory>(
     ensures misses_stay { F.misses files.old ≤ F.misses files.new }
 {
     let at = loaded_size(m, segment);
-    let chunk = match read_chunk(files, name, at, bytes) {
+    let chunk = match read_chunk(files, name, RECORD_FILE_LIMIT, at, bytes) {
         Ok(chunk) => chunk,
         Err(fault) => return Err(fault),
     };

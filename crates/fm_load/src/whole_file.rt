@@ -3,18 +3,16 @@ ghost use Rattle.fm_io.specs.Count.{Rose};
 ghost use Rattle.fm_io.specs.Files.{IsAbsent};
 ghost use Rattle.fm_io.specs.Reads.{Ended, ReadsFile};
 ghost use Rattle.fm_load.specs.Reading.{GoesBy, ReadsSome, ReadsUpTo, piece_limit};
-ghost use Rattle.fm_load.specs.Whole.{IsWhole, IsOver, TakesBytes};
+ghost use Rattle.fm_load.specs.Whole.{IsWhole, IsOver, TakesChunk};
 
 use crate::buffers::zero_bytes;
+use crate::chunk::{CHUNK, read_chunk};
 use crate::load_fault::LoadFault;
-use fm_io::{Files, ReadFault, fill};
+use fm_io::Files;
 use std::alloc::Global;
 
 /// The most bytes of a layout's file.
 pub const LAYOUT_FILE_LIMIT: u64 = 1_048_576;
-
-/// The most bytes of one read.
-const PIECE: usize = 65_536;
 
 /// Reads a whole file of at most `limit` bytes.
 ///
@@ -44,7 +42,7 @@ pub fn read_whole<F: Files>(
     ensures faults_stay { F.faults files.old ≤ F.faults files.new }
     ensures misses_stay { F.misses files.old ≤ F.misses files.new }
 {
-    let Ok(mut buffer) = zero_bytes(alloc, PIECE) else {
+    let Ok(mut buffer) = zero_bytes(alloc, CHUNK) else {
         return Err(LoadFault::Memory);
     };
     let mut bytes = Vec::new(alloc);
@@ -66,10 +64,10 @@ fn read_more<F: Files>(
     buffer: &mut [u8],
     bytes: &mut Vec<u8>,
 ) -> Result<bool, LoadFault>
-    requires room { length buffer.old ≡ PIECE }
+    requires room { length buffer.old ≡ CHUNK }
     requires limit { limit < 2 ^ 40 }
     requires short { length bytes.old.items ≤ limit }
-    ensures took { IfOk result (TakesBytes limit (F.holds files.old) name.now bytes.old.items bytes.new.items) }
+    ensures took { IfOk result (TakesChunk limit (F.holds files.old) name.now bytes.old.items bytes.new.items) }
     ensures too_long { IsErrOf result LoadFault.TooLong → IsOver (F.holds files.old) name.now limit }
     ensures absent { IsErrOf result LoadFault.Missing → IsAbsent (F.holds files.old) name.now }
     ensures missing { IsErrOf result LoadFault.Missing → Rose (F.misses files.old) (F.misses files.new) }
@@ -84,19 +82,12 @@ fn read_more<F: Files>(
     ensures misses_stay { F.misses files.old ≤ F.misses files.new }
 {
     let at = bytes.len() as u64;
-    let rest = (limit - at) as usize;
-    let room = PIECE.min(rest + 1);
-    let n = match fill(files, name, at, &mut buffer[..room]) {
-        Ok(n) => n,
-        Err(ReadFault::Missing) => return Err(LoadFault::Missing),
-        Err(ReadFault::Failed) => return Err(LoadFault::Failed),
-        Err(ReadFault::Memory) => return Err(LoadFault::Memory),
+    let chunk = match read_chunk(files, name, limit, at, buffer) {
+        Ok(chunk) => chunk,
+        Err(fault) => return Err(fault),
     };
-    if n > rest {
-        return Err(LoadFault::TooLong);
-    }
-    match bytes.extend_from_slice(&buffer[..n]) {
-        Ok(()) => Ok(n < room),
+    match bytes.extend_from_slice(&buffer[..chunk.count]) {
+        Ok(()) => Ok(chunk.ended),
         Err(_) => Err(LoadFault::Memory),
     }
 }

@@ -1,155 +1,92 @@
--- What each status of an end comes of, command by command.
-use Rattle.std.proofs.Common.{◌≡◌, ℕ, ◌<◌, ◌≤◌, List, length, Option, None, Some, Result, Ok, Err, Bool, true, false, refl, sym, ap, subst, ◌∙◌, arith}
-use Rattle.std.specs.Prelude.{nat_lt, if◌then◌else◌, IsSomeAnd}
+-- What the status of each request's outcome comes of.
+use Rattle.std.proofs.Common.{◌≡◌, ℕ, ◌≤◌, List, length, Option, None, Some, Result, Ok, Err, Bool, true, false, refl, sym, ap, subst, inl, inr, arith}
+use Rattle.std.specs.Prelude.{nat_lt, if◌then◌else◌}
 use Rattle.std.proofs.lemmas.Bool.Decides.{Decides-ltb, not_from_Decides}
 use Rattle.fm_base.specs.declared.refusal.Refusal.{Refusal}
 use Rattle.fm_lanes.specs.declared.value_kind.ValueKind.{ValueKind}
 use Rattle.fm_layout.specs.Tree.{Tree}
 use Rattle.fm_ljson.specs.Answer.{layout_of_json}
 use Rattle.fm_query.specs.Plan.{Plan}
-use Rattle.fm_load.specs.Limits.{record_file_limit}
-use Rattle.fm_top.specs.Causes.{IsLong, IsUneven, IsRefused}
-use Rattle.fm_top.specs.Demos.{DemoEnds}
-use Rattle.fm_top.specs.Outcome.{Outcome, RecordsEnd, no_file, too_many, uneven, even, IsSummed, SumEnds, layout_outcome, listing, layout_file_limit, too_long}
-use Rattle.fm_top.specs.Queries.{IsAnswered}
+use Rattle.fm_top.specs.Causes.{LacksFile, HasLongFile, HasRefusedLayout, HasRefusedQuery, HasRaggedFile, HasRefusedScript}
+use Rattle.fm_top.specs.Outcome.{Outcome, RecordsEnd, no_file, too_many, uneven, even, IsSummed, layout_outcome, listing, layout_file_limit, too_long}
+use Rattle.fm_top.specs.Queries.{IsRecordLayout, IsPlanned, IsAnswered, TextEnds, unplanned, planned, AskEnds, no_layout, long_layout, bad_layout, over_layout}
+use Rattle.fm_top.specs.Run.{EndsBy}
+use Rattle.fm_top.specs.Scripts.{ScriptEnds, no_script, long_script, bad_script, ran}
+use Rattle.fm_top.specs.Words.{Request, Sum, Layout, Ask, Demo, Run}
 use Rattle.fm_top.specs.declared.question.Question.{Question}
 use Rattle.fm_top.specs.declared.status.Status.{Status}
-use Rattle.fm_top.specs.declared.status.Status.TheVariants.{Answered, Missing, LayoutRefused, Ragged, TooLong}
+use Rattle.fm_top.specs.declared.status.Status.TheVariants.{Answered, Missing, LayoutRefused, QueryRefused, Ragged, TooLong, ScriptRefused}
 
--- an outcome's status is that of what it is
-pub status_as : (o x : Outcome) (s : Status) → o ≡ x → o.status ≡ s → x.status ≡ s
-status_as o x s same is = ap (λ (y : Outcome). y.status) (sym same) ∙ is
+-- the cause of a status: an answer needs none, and what is no outcome's status has none
+abbrev pub CauseOf : Status → Request → Option (List ℕ) → Option (List ℕ) → Type 0
+CauseOf Answered = λ request first last. Unit {0}
+CauseOf Missing = LacksFile
+CauseOf LayoutRefused = HasRefusedLayout
+CauseOf QueryRefused = HasRefusedQuery
+CauseOf Ragged = HasRaggedFile
+CauseOf TooLong = HasLongFile
+CauseOf ScriptRefused = HasRefusedScript
+CauseOf other = λ request first last. ⊥
 
--- ---- files of records
+answer_cause : (request : Request) (first last : Option (List ℕ)) (o : Outcome) → Answered ≡ o.status → CauseOf o.status request first last
+answer_cause request first last o is = subst (λ (s : Status). CauseOf s request first last) is tt
 
--- what is said of whole records is an answer
-abbrev AreAnswered : (List ℕ → Outcome → Type 0) → Type 0
-AreAnswered Answers = (bytes : List ℕ) (o : Outcome) → Answers bytes o → Answered ≡ o.status
-
-pub summed : (size at : ℕ) (kind : ValueKind) → AreAnswered (IsSummed size at kind)
-summed size at kind bytes o is = ap (λ (x : Outcome). x.status) (sym is)
-
-pub asked : (q : Question) (p : Plan) → AreAnswered (IsAnswered q p)
-asked q p bytes o is = ap (λ (x : Outcome). x.status) (sym is.outcome)
-
-pub records_missing : (size : ℕ) (file : List ℕ) (Answers : List ℕ → Outcome → Type 0) → AreAnswered Answers → (found : Option (List ℕ)) (o : Outcome)
-    → RecordsEnd size file Answers found o → o.status ≡ Missing → found ≡ None
-records_missing size file Answers each found o no_file is = refl
-records_missing size file Answers each found o (too_many bytes long) is = absurd (cc)
-records_missing size file Answers each found o (uneven bytes short rest) is = absurd (cc)
-records_missing size file Answers each found o (even bytes x short whole answers) is = let status = each bytes x answers in absurd (cc)
-
-pub records_long : (size : ℕ) (file : List ℕ) (Answers : List ℕ → Outcome → Type 0) → AreAnswered Answers → (found : Option (List ℕ)) (o : Outcome)
-    → RecordsEnd size file Answers found o → o.status ≡ TooLong → IsLong found record_file_limit
-records_long size file Answers each found o no_file is = absurd (cc)
-records_long size file Answers each found o (too_many bytes long) is = long
-records_long size file Answers each found o (uneven bytes short rest) is = absurd (cc)
-records_long size file Answers each found o (even bytes x short whole answers) is = let status = each bytes x answers in absurd (cc)
-
-pub records_ragged : (size : ℕ) (file : List ℕ) (Answers : List ℕ → Outcome → Type 0) → AreAnswered Answers → (found : Option (List ℕ)) (o : Outcome)
-    → RecordsEnd size file Answers found o → o.status ≡ Ragged → IsUneven found size
-records_ragged size file Answers each found o no_file is = absurd (cc)
-records_ragged size file Answers each found o (too_many bytes long) is = absurd (cc)
-records_ragged size file Answers each found o (uneven bytes short rest) is = (short, rest)
-records_ragged size file Answers each found o (even bytes x short whole answers) is = let status = each bytes x answers in absurd (cc)
-
--- the statuses of an end over records
-abbrev pub IsOfRecords : Status → Type 0
-IsOfRecords Answered = Unit {0}
-IsOfRecords Missing = Unit {0}
-IsOfRecords Ragged = Unit {0}
-IsOfRecords TooLong = Unit {0}
-IsOfRecords other = ⊥
-
-pub records_status : (size : ℕ) (file : List ℕ) (Answers : List ℕ → Outcome → Type 0) → AreAnswered Answers → (found : Option (List ℕ)) (o : Outcome)
-    → RecordsEnd size file Answers found o → IsOfRecords o.status
-records_status size file Answers each found o no_file = tt
-records_status size file Answers each found o (too_many bytes long) = tt
-records_status size file Answers each found o (uneven bytes short rest) = tt
-records_status size file Answers each found o (even bytes x short whole answers) = subst IsOfRecords (each bytes x answers) tt
-
--- what is no status of records
-pub records_other : (size : ℕ) (file : List ℕ) (Answers : List ℕ → Outcome → Type 0) → AreAnswered Answers → (found : Option (List ℕ)) (o : Outcome)
-    (s : Status) → (IsOfRecords s → ⊥) → RecordsEnd size file Answers found o → o.status ≡ s → ⊥
-records_other size file Answers each found o s none ends is = none (subst IsOfRecords is (records_status size file Answers each found o ends))
-
--- ---- sums
-
-pub sum_missing : (size at : ℕ) (kind : ValueKind) (file : List ℕ) (found : Option (List ℕ)) (o : Outcome) → SumEnds size at kind file found o
-    → o.status ≡ Missing → found ≡ None
-sum_missing size at kind file = records_missing size file (IsSummed size at kind) (summed size at kind)
-
-pub sum_long : (size at : ℕ) (kind : ValueKind) (file : List ℕ) (found : Option (List ℕ)) (o : Outcome) → SumEnds size at kind file found o
-    → o.status ≡ TooLong → IsLong found record_file_limit
-sum_long size at kind file = records_long size file (IsSummed size at kind) (summed size at kind)
-
-pub sum_ragged : (size at : ℕ) (kind : ValueKind) (file : List ℕ) (found : Option (List ℕ)) (o : Outcome) → SumEnds size at kind file found o
-    → o.status ≡ Ragged → IsUneven found size
-sum_ragged size at kind file = records_ragged size file (IsSummed size at kind) (summed size at kind)
-
--- what is no status of a sum
-pub sum_other : (size at : ℕ) (kind : ValueKind) (file : List ℕ) (found : Option (List ℕ)) (o : Outcome) (s : Status) → (IsOfRecords s → ⊥)
-    → SumEnds size at kind file found o → o.status ≡ s → ⊥
-sum_other size at kind file = records_other size file (IsSummed size at kind) (summed size at kind)
-
--- ---- layouts
+-- a sum's
+sum_cause : (size at : ℕ) (kind : ValueKind) (file : List ℕ) (first last : Option (List ℕ)) (o : Outcome)
+    → RecordsEnd size file (IsSummed size at kind) first o → CauseOf o.status (Sum size at kind file) first last
+sum_cause size at kind file first last o no_file = refl
+sum_cause size at kind file first last o (too_many bytes long) = long
+sum_cause size at kind file first last o (uneven bytes short rest) = (short, rest)
+sum_cause size at kind file first last o (even bytes x short whole is) =
+    answer_cause (Sum size at kind file) (Some bytes) last x (ap (λ (y : Outcome). y.status) (sym is))
 
 -- what isn't over a limit is within it
 within : (limit n : ℕ) → nat_lt limit n ≡ false → n ≤ limit
 within limit n test = let over = not_from_Decides (nat_lt limit n) (Decides-ltb limit n) test in omega (arith, over)
 
-abbrev listed : Bool → Result Tree Refusal → Outcome
-listed long r = if long then too_long else listing r
+-- a layout's
+listed_cause : (name bytes : List ℕ) (last : Option (List ℕ)) (long : Bool) (r : Result Tree Refusal) → nat_lt layout_file_limit (length bytes) ≡ long
+    → layout_of_json bytes ≡ r → CauseOf (if long then too_long else listing r).status (Layout name) (Some bytes) last
+listed_cause name bytes last true r test is = (Decides-ltb layout_file_limit (length bytes)).0 test
+listed_cause name bytes last false (Ok layout) test is = tt
+listed_cause name bytes last false (Err refusal) test is = (within layout_file_limit (length bytes) test, (refusal, is))
 
-listed_missing : (long : Bool) (r : Result Tree Refusal) → (listed long r).status ≡ Missing → ⊥
-listed_missing true r is = cc
-listed_missing false (Ok layout) is = cc
-listed_missing false (Err refusal) is = cc
+layout_cause : (name : List ℕ) (first last : Option (List ℕ)) → CauseOf (layout_outcome name first).status (Layout name) first last
+layout_cause name None last = refl
+layout_cause name (Some bytes) last = listed_cause name bytes last (nat_lt layout_file_limit (length bytes)) (layout_of_json bytes) refl refl
 
-listed_long : (long : Bool) (r : Result Tree Refusal) → (listed long r).status ≡ TooLong → long ≡ true
-listed_long true r is = refl
-listed_long false (Ok layout) is = absurd (cc)
-listed_long false (Err refusal) is = absurd (cc)
+-- that of a query or a tally
+module _ (q : Question) (threads : ℕ) (layout text file bytes : List ℕ) (t : Tree) (is : IsRecordLayout bytes t) where
+  plan_cause : (p : Plan) (last : Option (List ℕ)) (o : Outcome) → IsPlanned q text t p → RecordsEnd p.size file (IsAnswered q p) last o
+      → CauseOf o.status (Ask q threads layout text file) (Some bytes) last
+  plan_cause p last o plan no_file = inr (p, (t, is, plan), refl)
+  plan_cause p last o plan (too_many all long) = inr (p, (t, is, plan), long)
+  plan_cause p last o plan (uneven all short rest) = (p, (t, is, plan), (short, rest))
+  plan_cause p last o plan (even all x short whole answer) =
+      answer_cause (Ask q threads layout text file) (Some bytes) (Some all) x (ap (λ (y : Outcome). y.status) (sym answer.outcome))
 
-listed_refused : (long : Bool) (r : Result Tree Refusal) → (listed long r).status ≡ LayoutRefused → IsRefused r
-listed_refused true r is = absurd (cc)
-listed_refused false (Ok layout) is = absurd (cc)
-listed_refused false (Err refusal) is = (refusal, refl)
+  text_cause : (last : Option (List ℕ)) (o : Outcome) → TextEnds q text t file last o → CauseOf o.status (Ask q threads layout text file) (Some bytes) last
+  text_cause last o (unplanned e refused) = (t, is, e, refused)
+  text_cause last o (planned p x plan ends) = plan_cause p last x plan ends
 
-listed_short : (long : Bool) (r : Result Tree Refusal) → (listed long r).status ≡ LayoutRefused → long ≡ false
-listed_short true r is = absurd (cc)
-listed_short false r is = refl
+ask_cause : (q : Question) (threads : ℕ) (layout text file : List ℕ) (first last : Option (List ℕ)) (o : Outcome)
+    → AskEnds q layout text file last first o → CauseOf o.status (Ask q threads layout text file) first last
+ask_cause q threads layout text file first last o no_layout = inl refl
+ask_cause q threads layout text file first last o (long_layout bytes long) = inl long
+ask_cause q threads layout text file first last o (bad_layout bytes e refused) = (e, refused)
+ask_cause q threads layout text file first last o (over_layout bytes t x is ends) = text_cause q threads layout text file bytes t is last x ends
 
-listed_other : (long : Bool) (r : Result Tree Refusal) (s : Status) → (listed long r).status ≡ s → (Answered ≡ s → ⊥) → (TooLong ≡ s → ⊥)
-    → (LayoutRefused ≡ s → ⊥) → ⊥
-listed_other true r s is a b c = b is
-listed_other false (Ok layout) s is a b c = a is
-listed_other false (Err refusal) s is a b c = c is
+-- a script's
+script_cause : (file : List ℕ) (first last : Option (List ℕ)) (o : Outcome) → ScriptEnds file first o → CauseOf o.status (Run file) first last
+script_cause file first last o no_script = refl
+script_cause file first last o (long_script bytes long) = long
+script_cause file first last o (bad_script bytes line short refused) = (short, (line, refused))
+script_cause file first last o (ran bytes s report short script tells) = tt
 
-pub layout_missing : (name : List ℕ) (found : Option (List ℕ)) → (layout_outcome name found).status ≡ Missing → found ≡ None
-layout_missing name None is = refl
-layout_missing name (Some bytes) is = absurd (listed_missing (nat_lt layout_file_limit (length bytes)) (layout_of_json bytes) is)
-
-pub layout_long : (name : List ℕ) (found : Option (List ℕ)) → (layout_outcome name found).status ≡ TooLong → IsLong found layout_file_limit
-layout_long name None is = absurd (cc)
-layout_long name (Some bytes) is =
-    (Decides-ltb layout_file_limit (length bytes)).0 (listed_long (nat_lt layout_file_limit (length bytes)) (layout_of_json bytes) is)
-
-pub layout_refused : (name : List ℕ) (found : Option (List ℕ)) → (layout_outcome name found).status ≡ LayoutRefused
-    → IsSomeAnd found (λ bytes. (length bytes ≤ layout_file_limit) × IsRefused (layout_of_json bytes))
-layout_refused name None is = absurd (cc)
-layout_refused name (Some bytes) is =
-    let long = nat_lt layout_file_limit (length bytes) in
-    (within layout_file_limit (length bytes) (listed_short long (layout_of_json bytes) is), listed_refused long (layout_of_json bytes) is)
-
--- what is no status of a layout
-pub layout_other : (name : List ℕ) (found : Option (List ℕ)) (s : Status) → (layout_outcome name found).status ≡ s
-    → (Missing ≡ s → ⊥) → (Answered ≡ s → ⊥) → (TooLong ≡ s → ⊥) → (LayoutRefused ≡ s → ⊥) → ⊥
-layout_other name None s is m a b c = m is
-layout_other name (Some bytes) s is m a b c = listed_other (nat_lt layout_file_limit (length bytes)) (layout_of_json bytes) s is a b c
-
--- ---- demonstrations
-
--- a demonstration answers
-pub demo_status : (count : ℕ) (o : Outcome) → DemoEnds count o → Answered ≡ o.status
-demo_status count o ends = ap (λ (x : Outcome). x.status) (sym ends.outcome)
+-- each outcome's status has its cause
+pub end_cause : (request : Request) (first last : Option (List ℕ)) (o : Outcome) → EndsBy request first last o → CauseOf o.status request first last
+end_cause (Sum size at kind file) first last o ends = sum_cause size at kind file first last o ends
+end_cause (Layout file) first last o is = subst (λ (x : Outcome). CauseOf x.status (Layout file) first last) (sym is) (layout_cause file first last)
+end_cause (Ask q threads layout text file) first last o ends = ask_cause q threads layout text file first last o ends
+end_cause (Demo threads count) first last o ends = answer_cause (Demo threads count) first last o (ap (λ (x : Outcome). x.status) (sym ends.outcome))
+end_cause (Run file) first last o ends = script_cause file first last o ends

@@ -1,4 +1,3 @@
-pub mod AskCauses
 pub mod Causes
 pub mod Comes
 pub mod Complete
@@ -12,7 +11,6 @@ pub mod Planned
 pub mod ReadFor
 pub mod Requests
 pub mod Runs
-pub mod ScriptCauses
 pub mod Scripts
 pub mod Sums
 pub mod Threaded

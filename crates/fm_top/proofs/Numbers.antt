@@ -12,9 +12,7 @@ use Rattle.fm_lanes.specs.Named.{kind_text}
 use Rattle.fm_lanes.proofs.Naming.{kind_text-injective}
 use Rattle.fm_lanes.specs.declared.value_kind.ValueKind.{ValueKind}
 use Rattle.fm_options.specs.Options.{texts}
-use Rattle.fm_top.specs.Words.{IsUpTo, Sum, Layout, Ask, Demo, Run, AreFaulty, HasValue, IsSum, IsLayout, IsOfFile, IsRun, IsAsk, IsDemo, five, two}
-use Rattle.fm_top.specs.declared.question.Question.{Question}
-use Rattle.fm_top.specs.declared.question.Question.TheVariants.{Query, Tally}
+use Rattle.fm_top.specs.Words.{IsUpTo, HasValue, IsSum, five}
 
 -- what spells a number is read as that number
 read_spelled : {E : Type 0} (word : List ℕ) (r : Result ℕ E) (n : ℕ) → ParsesUnsigned 64 10 word r → n < 2 ^ 64 → word ≡ decimal n → r ≡ Ok n
@@ -56,20 +54,7 @@ pub five_texts : (words : List (String Global)) (v w x y z : String Global) (a b
     → a ≡ string_bytes v → b ≡ string_bytes w → c ≡ string_bytes x → d ≡ string_bytes y → e ≡ string_bytes z
     → texts words ≡ five a b c d e
 five_texts (p ∷ q ∷ r ∷ s ∷ t ∷ []) v w x y z a b c d e low high is_v is_w is_x is_y is_z is_a is_b is_c is_d is_e = cc
-five_texts (p ∷ q ∷ r ∷ s ∷ t ∷ u ∷ more) v w x y z a b c d e low high is_v is_w is_x is_y is_z is_a is_b is_c is_d is_e = absurd (omega arith)
-five_texts (p ∷ q ∷ r ∷ s ∷ []) v w x y z a b c d e low high is_v is_w is_x is_y is_z is_a is_b is_c is_d is_e = absurd (omega arith)
-five_texts (p ∷ q ∷ r ∷ []) v w x y z a b c d e low high is_v is_w is_x is_y is_z is_a is_b is_c is_d is_e = absurd (omega arith)
-five_texts (p ∷ q ∷ []) v w x y z a b c d e low high is_v is_w is_x is_y is_z is_a is_b is_c is_d is_e = absurd (omega arith)
-five_texts (p ∷ []) v w x y z a b c d e low high is_v is_w is_x is_y is_z is_a is_b is_c is_d is_e = absurd (omega arith)
-five_texts [] v w x y z a b c d e low high is_v is_w is_x is_y is_z is_a is_b is_c is_d is_e = absurd (omega arith)
-
--- two words and their texts
-pub two_texts : (words : List (String Global)) (v w : String Global) (a b : List ℕ) → 2 ≤ length words → length words < 3
-    → v ≡ get_or words 0 v → w ≡ get_or words 1 w → a ≡ string_bytes v → b ≡ string_bytes w → texts words ≡ two a b
-two_texts (p ∷ q ∷ []) v w a b low high is_v is_w is_a is_b = cc
-two_texts (p ∷ q ∷ r ∷ more) v w a b low high is_v is_w is_a is_b = absurd (omega arith)
-two_texts (p ∷ []) v w a b low high is_v is_w is_a is_b = absurd (omega arith)
-two_texts [] v w a b low high is_v is_w is_a is_b = absurd (omega arith)
+five_texts words v w x y z a b c d e low high is_v is_w is_x is_y is_z is_a is_b is_c is_d is_e = absurd (omega arith)
 
 -- words that are spelled so ask for no sum
 pub none_summed : (words other : List (List ℕ)) → words ≡ other
@@ -77,25 +62,6 @@ pub none_summed : (words other : List (List ℕ)) → words ≡ other
     → (size at : ℕ) (kind : ValueKind) (file : List ℕ) → IsSum words size at kind file → ⊥
 none_summed words other same none size at kind file asks =
     none size at kind file (subst (λ (all : List (List ℕ)). IsSum all size at kind file) same asks)
-
-pub none_of_file : (words other : List (List ℕ)) (command : List ℕ) → words ≡ other → ((file : List ℕ) → IsOfFile other command file → ⊥)
-    → (file : List ℕ) → IsOfFile words command file → ⊥
-none_of_file words other command same none file asks = none file (subst (λ (all : List (List ℕ)). IsOfFile all command file) same asks)
-
--- the words ask nothing of records by this question
-abbrev pub AsksNot : List (List ℕ) → Question → Type 0
-AsksNot words q = (threads : ℕ) (layout text file : List ℕ) → IsAsk words q threads layout text file → ⊥
-
--- where words are those of no command, they ask for nothing
-pub none_asked : (words : List (List ℕ)) → ((file : List ℕ) → IsLayout words file → ⊥)
-    → ((size at : ℕ) (kind : ValueKind) (file : List ℕ) → IsSum words size at kind file → ⊥) → AsksNot words Query → AsksNot words Tally
-    → ((threads count : ℕ) → IsDemo words threads count → ⊥) → ((file : List ℕ) → IsRun words file → ⊥) → AreFaulty words
-none_asked words lays_out sums queries tallies demos runs (Sum size at kind file) asks = sums size at kind file asks
-none_asked words lays_out sums queries tallies demos runs (Layout file) asks = lays_out file asks
-none_asked words lays_out sums queries tallies demos runs (Ask Query threads layout text file) asks = queries threads layout text file asks
-none_asked words lays_out sums queries tallies demos runs (Ask Tally threads layout text file) asks = tallies threads layout text file asks
-none_asked words lays_out sums queries tallies demos runs (Demo threads count) asks = demos threads count asks
-none_asked words lays_out sums queries tallies demos runs (Run file) asks = runs file asks
 
 -- a word spells a number that isn't from 1 up to the most, so it spells none that is
 pub no_number_to : (word : List ℕ) (most n : ℕ) → most < 2 ^ 64 → word ≡ decimal n → n < 2 ^ 64 → (1 ≤ n → n ≤ most → ⊥)

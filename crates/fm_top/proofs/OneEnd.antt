@@ -1,5 +1,5 @@
 -- Words print one outcome.
-use Rattle.std.proofs.Common.{◌≡◌, ◌≢◌, ℕ, List, Option, None, Some, Result, Ok, Err, refl, sym, ap, subst, ◌∙◌, arith}
+use Rattle.std.proofs.Common.{◌≡◌, ℕ, List, Option, Some, Result, Ok, Err, refl, sym, ap, subst, ◌∙◌, arith}
 use Rattle.fm_base.specs.declared.refusal.Refusal.{Refusal}
 use Rattle.fm_base.specs.declared.refusal.Refusal.TheVariants.{NoSize, ElementRagged}
 use Rattle.fm_demo.specs.Records.{made_layout}
@@ -14,10 +14,10 @@ use Rattle.fm_query.proofs.OneRefusal.{no_record_once, one_refusal}
 use Rattle.fm_query.specs.Records.{IsRecord, IsNoRecord}
 use Rattle.fm_top.specs.Demos.{DemoEnds, made_text}
 use Rattle.fm_top.specs.Laws.{PrintAlike, HaveOneOutcome}
-use Rattle.fm_top.specs.Outcome.{Outcome, RecordsEnd, no_file, too_many, uneven, even, IsSummed, SumEnds, layout_refused, query_refused}
-use Rattle.fm_top.specs.Queries.{IsRecordLayout, IsNoRecordLayout, IsLayoutRefused, IsPlanned, IsUnplanned, asked_text, IsAnswered, TextEnds, unplanned, planned, AskEnds, no_layout, long_layout, bad_layout, over_layout}
+use Rattle.fm_top.specs.Outcome.{Outcome, RecordsEnd, no_file, too_many, uneven, even, IsSummed, layout_refused, query_refused}
+use Rattle.fm_top.specs.Queries.{IsRecordLayout, IsNoRecordLayout, IsLayoutRefused, IsPlanned, IsUnplanned, IsAnswered, TextEnds, unplanned, planned, AskEnds, no_layout, long_layout, bad_layout, over_layout}
 use Rattle.fm_top.specs.Tallies.{IsTallied, IsPathRefused, no_list, no_bytes}
-use Rattle.fm_top.specs.Run.{HasOutcome, IsOutcomeOver, IsOutcome, faulty, asked}
+use Rattle.fm_top.specs.Run.{HasOutcome, IsOutcomeOver, faulty, asked}
 use Rattle.fm_top.specs.Words.{Request, Sum, Layout, Ask, Demo, Run, Asks, IsRun}
 use Rattle.fm_top.specs.declared.question.Question.{Question}
 use Rattle.fm_top.specs.declared.question.Question.TheVariants.{Query, Tally}

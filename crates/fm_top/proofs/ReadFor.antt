@@ -3,15 +3,14 @@ use Rattle.std.proofs.Common.{◌≡◌, ℕ, List, [], ◌∷◌, ◌++◌, Opt
 use Rattle.fm_io.specs.Files.{Contents}
 use Rattle.fm_io.specs.Reads.{Read, ReadsOn, Next, Ended}
 use Rattle.fm_io.proofs.Followed.{ReadsOn-none, ReadsOn-append}
-use Rattle.fm_lanes.specs.declared.value_kind.ValueKind.{ValueKind}
 use Rattle.fm_query.specs.Plan.{Plan}
 use Rattle.fm_top.specs.Causes.{IsAsked}
 use Rattle.fm_load.specs.Limits.{record_file_limit}
-use Rattle.fm_top.specs.Outcome.{layout_file_limit, script_file_limit}
+use Rattle.fm_top.specs.Outcome.{layout_file_limit}
 use Rattle.fm_load.specs.Reading.{ReadsUpTo}
 use Rattle.fm_top.specs.Reading.{ReadsIf, AreReadsOf, first_limit, ReadsFor}
 use Rattle.fm_load.specs.Whole.{IsWhole}
-use Rattle.fm_top.specs.Words.{Request, Sum, Layout, Ask, Run, first_file, last_file}
+use Rattle.fm_top.specs.Words.{Request, Ask, first_file, last_file}
 use Rattle.fm_top.specs.declared.question.Question.{Question}
 
 append_nil : (xs : List Read) → xs ++ [] ≡ xs
@@ -23,8 +22,8 @@ none_of None limit = refl
 none_of (Some name) limit = tt
 
 -- nothing was read
-pub no_reads : (request : Request) (told : Option Contents) (reads : Option (List Read)) → ReadsFor request told reads reads
-no_reads request told reads = record {
+pub no_reads : {request : Request} {told : Option Contents} {reads : Option (List Read)} → ReadsFor request told reads reads
+no_reads {request} {told} {reads} = record {
   first = [];
   last = [];
   noted = ReadsOn-none reads;
@@ -33,75 +32,42 @@ no_reads request told reads = record {
   in_place = λ some. absurd (some refl);
 }
 
-pub not_read : (reads : Option (List Read)) (name : List ℕ) (limit : ℕ) (P : Type 0) → ReadsIf reads reads name limit P
-not_read reads name limit P = record { reads = []; noted = ReadsOn-none reads; follow = tt; needed = λ some. absurd (some refl) }
+pub not_read : {reads : Option (List Read)} {name : List ℕ} {limit : ℕ} {P : Type 0} → ReadsIf reads reads name limit P
+not_read {reads} = record { reads = []; noted = ReadsOn-none reads; follow = tt; needed = λ some. absurd (some refl) }
 
 -- a file was read, for a reason
-pub read_for : (old new : Option (List Read)) (name : List ℕ) (limit : ℕ) (Goes : Next → Type 0) (P : Type 0) → ReadsUpTo old new name limit Goes → P
+pub read_for : {old new : Option (List Read)} {name : List ℕ} {limit : ℕ} {Goes : Next → Type 0} {P : Type 0} → ReadsUpTo old new name limit Goes → P
     → ReadsIf old new name limit P
-read_for old new name limit Goes P reads reason = record { reads = reads.reads; noted = reads.noted; follow = reads.follow; needed = λ some. reason }
+read_for reads reason = record { reads = reads.reads; noted = reads.noted; follow = reads.follow; needed = λ some. reason }
 
-pub read_since : (old new : Option (List Read)) (name : List ℕ) (limit : ℕ) (P Q : Type 0) → (P → Q) → ReadsIf old new name limit P
+pub read_since : {old new : Option (List Read)} {name : List ℕ} {limit : ℕ} {P Q : Type 0} → (P → Q) → ReadsIf old new name limit P
     → ReadsIf old new name limit Q
-read_since old new name limit P Q so reads = record { reads = reads.reads; noted = reads.noted; follow = reads.follow; needed = λ some. so (reads.needed some) }
+read_since so reads = record { reads = reads.reads; noted = reads.noted; follow = reads.follow; needed = λ some. so (reads.needed some) }
 
 -- one file was read
 only_first : (old new : Option (List Read)) (reads : List Read) → ReadsOn old new reads → ReadsOn old new (reads ++ [])
 only_first old new reads noted = subst (λ (rs : List Read). ReadsOn old new rs) (sym (append_nil reads)) noted
 
-pub sum_reads : (size at : ℕ) (kind : ValueKind) (file : List ℕ) (told : Option Contents) (old new : Option (List Read)) (Goes : Next → Type 0)
-    → ReadsUpTo old new file record_file_limit Goes → ReadsFor (Sum size at kind file) told old new
-sum_reads size at kind file told old new Goes reads = record {
+pub first_reads : (request : Request) (told : Option Contents) {old new : Option (List Read)} {name : List ℕ} {Goes : Next → Type 0}
+    → first_file request ≡ Some name → ReadsUpTo old new name (first_limit request) Goes → ReadsFor request told old new
+first_reads request told {old} {new} is reads = record {
   first = reads.reads;
   last = [];
   noted = only_first old new reads.reads reads.noted;
-  first_is = reads.follow;
-  last_is = refl;
-  in_place = λ some. absurd (some refl);
-}
-
-pub layout_reads : (file : List ℕ) (told : Option Contents) (old new : Option (List Read)) (Goes : Next → Type 0)
-    → ReadsUpTo old new file layout_file_limit Goes → ReadsFor (Layout file) told old new
-layout_reads file told old new Goes reads = record {
-  first = reads.reads;
-  last = [];
-  noted = only_first old new reads.reads reads.noted;
-  first_is = reads.follow;
-  last_is = refl;
-  in_place = λ some. absurd (some refl);
-}
-
-pub run_reads : (file : List ℕ) (told : Option Contents) (old new : Option (List Read)) (Goes : Next → Type 0)
-    → ReadsUpTo old new file script_file_limit Goes → ReadsFor (Run file) told old new
-run_reads file told old new Goes reads = record {
-  first = reads.reads;
-  last = [];
-  noted = only_first old new reads.reads reads.noted;
-  first_is = reads.follow;
-  last_is = refl;
-  in_place = λ some. absurd (some refl);
-}
-
-pub ask_first : (q : Question) (threads : ℕ) (layout text file : List ℕ) (told : Option Contents) (old new : Option (List Read)) (Goes : Next → Type 0)
-    → ReadsUpTo old new layout layout_file_limit Goes → ReadsFor (Ask q threads layout text file) told old new
-ask_first q threads layout text file told old new Goes reads = record {
-  first = reads.reads;
-  last = [];
-  noted = only_first old new reads.reads reads.noted;
-  first_is = reads.follow;
-  last_is = tt;
+  first_is = subst (λ (file : Option (List ℕ)). AreReadsOf file (first_limit request) reads.reads) (sym is) reads.follow;
+  last_is = none_of (last_file request) record_file_limit;
   in_place = λ some. absurd (some refl);
 }
 
 -- both files were read, the second for what was found in the first
-pub ask_both : (q : Question) (threads : ℕ) (layout text file bytes : List ℕ) (told : Option Contents) (old mid new : Option (List Read))
-    → IsWhole told layout bytes → ReadsUpTo old mid layout layout_file_limit (λ next. next ≡ Ended)
-    → ReadsIf mid new file record_file_limit ((p : Plan) × IsAsked q (Some bytes) text p) → ReadsFor (Ask q threads layout text file) told old new
-ask_both q threads layout text file bytes told old mid new whole first last = record {
+pub ask_both : (q : Question) (threads : ℕ) (layout text file : List ℕ) (told : Option Contents) {bytes given : List ℕ} {old mid new : Option (List Read)}
+    → IsWhole told layout bytes → given ≡ bytes → ReadsUpTo old mid layout layout_file_limit (λ next. next ≡ Ended)
+    → ReadsIf mid new file record_file_limit ((p : Plan) × IsAsked q (Some given) text p) → ReadsFor (Ask q threads layout text file) told old new
+ask_both q threads layout text file told {bytes} {given} {old} {mid} {new} whole same first last = record {
   first = first.reads;
   last = last.reads;
   noted = ReadsOn-append old mid new first.reads last.reads first.noted last.noted;
   first_is = first.follow;
   last_is = last.follow;
-  in_place = λ some. (first.goes, (Some bytes, whole, last.needed some));
+  in_place = λ some. (first.goes, (Some bytes, whole, subst (λ (b : List ℕ). (p : Plan) × IsAsked q (Some b) text p) same (last.needed some)));
 }

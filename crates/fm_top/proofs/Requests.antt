@@ -138,16 +138,16 @@ same_request words r s a b = let same : sort r ≡ sort s = sym (sort_is words r
 -- ---- words of no command
 
 -- what the words say is of no question
-pub no_ask : (words : List (List ℕ)) (w : List ℕ) (q : Question) (n : ℕ) (names : List (List ℕ)) → IsThreaded words w n names
+pub no_ask : {words : List (List ℕ)} {w : List ℕ} (q : Question) {n : ℕ} {names : List (List ℕ)} → IsThreaded words w n names
     → ((layout text file : List ℕ) → names ≡ three layout text file → ⊥)
     → (threads : ℕ) (layout text file : List ℕ) → IsAsk words q threads layout text file → ⊥
-no_ask words w q n names said none threads layout text file asks =
+no_ask {words} {w} q {n} {names} said none threads layout text file asks =
     let same = same_threaded words w (question_word q) n threads names (three layout text file) said asks in
     none layout text file same.named
 
 -- or of no demonstration
-pub no_demo : (words : List (List ℕ)) (w : List ℕ) (n : ℕ) (names : List (List ℕ)) → IsThreaded words w n names
+pub no_demo : {words : List (List ℕ)} {w : List ℕ} {n : ℕ} {names : List (List ℕ)} → IsThreaded words w n names
     → ((count : ℕ) → IsCount count → names ≡ decimal count ∷ [] → ⊥) → (threads count : ℕ) → IsDemo words threads count → ⊥
-no_demo words w n names said none threads count asks =
+no_demo {words} {w} {n} {names} said none threads count asks =
     let same = same_threaded words w (codes "demo") n threads names (decimal count ∷ []) said asks.threaded in
     none count asks.is_count same.named

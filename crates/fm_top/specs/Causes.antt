@@ -1,16 +1,21 @@
--- For which files a request ends so, where the files tell: each cause where none before it applies.
+-- For which files a request ends so, by what is found under the names of its first and its last file: each cause where none before it applies.
 use Rattle.std.specs.Prelude.{◌≡◌, ◌≢◌, ℕ, ◌%◌, ◌<◌, ◌≤◌, ◌⊎◌, List, length, None, Option, IsSomeAnd, Result, Err}
 use Rattle.fm_base.specs.declared.refusal.Refusal.{Refusal}
-use Rattle.fm_io.specs.Files.{Contents, file_of}
+use Rattle.fm_io.specs.Files.{Contents}
 use Rattle.fm_layout.specs.Tree.{Tree}
 use Rattle.fm_ljson.specs.Answer.{layout_of_json}
 use Rattle.fm_query.specs.Plan.{Plan}
 use Rattle.fm_script.specs.Scripts.{IsRefused as IsScriptRefused}
 use Rattle.fm_load.specs.Limits.{record_file_limit}
+use Rattle.fm_top.specs.Found.{file_under}
 use Rattle.fm_top.specs.Outcome.{layout_file_limit, script_file_limit}
 use Rattle.fm_top.specs.Queries.{IsRecordLayout, IsLayoutRefused, IsPlanned, IsUnplanned}
-use Rattle.fm_top.specs.Words.{Request, Sum, Layout, Ask, Demo, Run}
+use Rattle.fm_top.specs.Words.{Request, Sum, Layout, Ask, Demo, Run, first_file, last_file}
 use Rattle.fm_top.specs.declared.question.Question.{Question}
+
+-- it holds of what these files have under the request's names
+abbrev pub OverFiles : (Request → Option (List ℕ) → Option (List ℕ) → Type 0) → Request → Contents → Type 0
+OverFiles Has request contents = Has request (file_under contents (first_file request)) (file_under contents (last_file request))
 
 -- it is refused
 abbrev pub IsRefused : Result Tree Refusal → Type 0
@@ -21,63 +26,49 @@ abbrev pub IsAsked : Question → Option (List ℕ) → List ℕ → Plan → Ty
 IsAsked q found text p = IsSomeAnd found (λ bytes. (t : Tree) × IsRecordLayout bytes t × IsPlanned q text t p)
 
 -- a file is missing
-abbrev pub LacksFile : Request → Contents → Type 0
-LacksFile (Sum size at kind file) contents = file_of contents file ≡ None
-LacksFile (Layout file) contents = file_of contents file ≡ None
-LacksFile (Ask q threads layout text file) contents =
-    (file_of contents layout ≡ None)
-    ⊎ ((p : Plan) × IsAsked q (file_of contents layout) text p × (file_of contents file ≡ None))
-LacksFile (Demo threads count) contents = ⊥
-LacksFile (Run file) contents = file_of contents file ≡ None
+abbrev pub LacksFile : Request → Option (List ℕ) → Option (List ℕ) → Type 0
+LacksFile (Ask q threads layout text file) first last = (first ≡ None) ⊎ ((p : Plan) × IsAsked q first text p × (last ≡ None))
+LacksFile (Demo threads count) first last = ⊥
+LacksFile request first last = first ≡ None
 
 -- what was found has more bytes than the limit
 abbrev pub IsLong : Option (List ℕ) → ℕ → Type 0
 IsLong found limit = IsSomeAnd found (λ bytes. limit < length bytes)
 
 -- a file has more bytes than its limit
-abbrev pub HasLongFile : Request → Contents → Type 0
-HasLongFile (Sum size at kind file) contents = IsLong (file_of contents file) record_file_limit
-HasLongFile (Layout file) contents = IsLong (file_of contents file) layout_file_limit
-HasLongFile (Ask q threads layout text file) contents =
-    IsLong (file_of contents layout) layout_file_limit
-    ⊎ ((p : Plan) × IsAsked q (file_of contents layout) text p × IsLong (file_of contents file) record_file_limit)
-HasLongFile (Demo threads count) contents = ⊥
-HasLongFile (Run file) contents = IsLong (file_of contents file) script_file_limit
+abbrev pub HasLongFile : Request → Option (List ℕ) → Option (List ℕ) → Type 0
+HasLongFile (Sum size at kind file) first last = IsLong first record_file_limit
+HasLongFile (Layout file) first last = IsLong first layout_file_limit
+HasLongFile (Ask q threads layout text file) first last =
+    IsLong first layout_file_limit ⊎ ((p : Plan) × IsAsked q first text p × IsLong last record_file_limit)
+HasLongFile (Demo threads count) first last = ⊥
+HasLongFile (Run file) first last = IsLong first script_file_limit
 
 -- the layout is refused
-abbrev pub HasRefusedLayout : Request → Contents → Type 0
-HasRefusedLayout (Sum size at kind file) contents = ⊥
-HasRefusedLayout (Layout file) contents =
-    IsSomeAnd (file_of contents file) (λ bytes. (length bytes ≤ layout_file_limit) × IsRefused (layout_of_json bytes))
-HasRefusedLayout (Ask q threads layout text file) contents =
-    IsSomeAnd (file_of contents layout) (λ bytes. (e : Refusal) × IsLayoutRefused bytes e)
-HasRefusedLayout (Demo threads count) contents = ⊥
-HasRefusedLayout (Run file) contents = ⊥
+abbrev pub HasRefusedLayout : Request → Option (List ℕ) → Option (List ℕ) → Type 0
+HasRefusedLayout (Layout file) first last =
+    IsSomeAnd first (λ bytes. (length bytes ≤ layout_file_limit) × IsRefused (layout_of_json bytes))
+HasRefusedLayout (Ask q threads layout text file) first last = IsSomeAnd first (λ bytes. (e : Refusal) × IsLayoutRefused bytes e)
+HasRefusedLayout request first last = ⊥
 
 -- the query or the path is refused
-abbrev pub HasRefusedQuery : Request → Contents → Type 0
-HasRefusedQuery (Sum size at kind file) contents = ⊥
-HasRefusedQuery (Layout file) contents = ⊥
-HasRefusedQuery (Ask q threads layout text file) contents =
-    IsSomeAnd (file_of contents layout) (λ bytes. (t : Tree) × IsRecordLayout bytes t × (e : Refusal) × IsUnplanned q text t e)
-HasRefusedQuery (Demo threads count) contents = ⊥
-HasRefusedQuery (Run file) contents = ⊥
+abbrev pub HasRefusedQuery : Request → Option (List ℕ) → Option (List ℕ) → Type 0
+HasRefusedQuery (Ask q threads layout text file) first last =
+    IsSomeAnd first (λ bytes. (t : Tree) × IsRecordLayout bytes t × (e : Refusal) × IsUnplanned q text t e)
+HasRefusedQuery request first last = ⊥
 
 -- what was found is within the limit of record files, and its length is no multiple of the size
 abbrev pub IsUneven : Option (List ℕ) → ℕ → Type 0
 IsUneven found size = IsSomeAnd found (λ bytes. (length bytes ≤ record_file_limit) × (length bytes % size ≢ 0))
 
 -- the record file is no whole number of records
-abbrev pub HasRaggedFile : Request → Contents → Type 0
-HasRaggedFile (Sum size at kind file) contents = IsUneven (file_of contents file) size
-HasRaggedFile (Layout file) contents = ⊥
-HasRaggedFile (Ask q threads layout text file) contents =
-    (p : Plan) × IsAsked q (file_of contents layout) text p × IsUneven (file_of contents file) p.size
-HasRaggedFile (Demo threads count) contents = ⊥
-HasRaggedFile (Run file) contents = ⊥
+abbrev pub HasRaggedFile : Request → Option (List ℕ) → Option (List ℕ) → Type 0
+HasRaggedFile (Sum size at kind file) first last = IsUneven first size
+HasRaggedFile (Ask q threads layout text file) first last = (p : Plan) × IsAsked q first text p × IsUneven last p.size
+HasRaggedFile request first last = ⊥
 
 -- the script is refused
-abbrev pub HasRefusedScript : Request → Contents → Type 0
-HasRefusedScript (Run file) contents =
-    IsSomeAnd (file_of contents file) (λ bytes. (length bytes ≤ script_file_limit) × ((line : ℕ) × IsScriptRefused bytes line))
-HasRefusedScript request contents = ⊥
+abbrev pub HasRefusedScript : Request → Option (List ℕ) → Option (List ℕ) → Type 0
+HasRefusedScript (Run file) first last =
+    IsSomeAnd first (λ bytes. (length bytes ≤ script_file_limit) × ((line : ℕ) × IsScriptRefused bytes line))
+HasRefusedScript request first last = ⊥

@@ -3,9 +3,9 @@ use Rattle.std.specs.Prelude.{◌≡◌, ◌⊎◌, ℕ, List, Option}
 use Rattle.fm_io.specs.Count.{Rose, Raised}
 use Rattle.fm_io.specs.Files.{Contents}
 use Rattle.fm_io.specs.Sink.{Appends, AppendsPrefix}
-use Rattle.fm_top.specs.Causes.{LacksFile, HasLongFile, HasRefusedLayout, HasRefusedQuery, HasRaggedFile, HasRefusedScript}
+use Rattle.fm_top.specs.Causes.{OverFiles, LacksFile, HasLongFile, HasRefusedLayout, HasRefusedQuery, HasRaggedFile, HasRefusedScript}
 use Rattle.fm_top.specs.Demos.{DemoEnds}
-use Rattle.fm_top.specs.Found.{OfFile, file_under}
+use Rattle.fm_top.specs.Found.{OfFile}
 use Rattle.fm_top.specs.Outcome.{Outcome, SumEnds, layout_outcome, usage}
 use Rattle.fm_top.specs.Queries.{AskEnds}
 use Rattle.fm_top.specs.Scripts.{ScriptEnds}
@@ -44,8 +44,7 @@ HasOutcome request told o =
 
 -- its outcome over these files
 abbrev pub IsOutcomeOver : Request → Contents → Outcome → Type 0
-IsOutcomeOver request contents o =
-    EndsBy request (file_under contents (first_file request)) (file_under contents (last_file request)) o
+IsOutcomeOver request contents o = OverFiles (λ r first last. EndsBy r first last o) request contents
 
 -- the words are those of a request
 abbrev pub AskSome : List (List ℕ) → Type 0
@@ -102,12 +101,12 @@ EndsWith status code =
 
 -- The input is valid: no cause of another status than 0 applies.
 pub record IsValid (request : Request) (contents : Contents) : Type 0 where
-  pub there : LacksFile request contents → ⊥
-  pub short : HasLongFile request contents → ⊥
-  pub layout : HasRefusedLayout request contents → ⊥
-  pub query : HasRefusedQuery request contents → ⊥
-  pub records : HasRaggedFile request contents → ⊥
-  pub script : HasRefusedScript request contents → ⊥
+  pub there : OverFiles LacksFile request contents → ⊥
+  pub short : OverFiles HasLongFile request contents → ⊥
+  pub layout : OverFiles HasRefusedLayout request contents → ⊥
+  pub query : OverFiles HasRefusedQuery request contents → ⊥
+  pub records : OverFiles HasRaggedFile request contents → ⊥
+  pub script : OverFiles HasRefusedScript request contents → ⊥
 
 -- the run ends with an answer of the words written whole, with what it keeps, or for want of memory
 pub data Answers (words : List (List ℕ)) (told : Option Contents) (before after : Option (List ℕ)) : Left → ℕ → Type 0 where

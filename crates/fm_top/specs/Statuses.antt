@@ -2,15 +2,15 @@
 use Rattle.std.specs.Prelude.{ℕ, List, Option, IfSome, ⊤}
 use Rattle.fm_io.specs.Count.{Rose, Raised}
 use Rattle.fm_io.specs.Files.{Contents}
-use Rattle.fm_top.specs.Causes.{LacksFile, HasLongFile, HasRefusedLayout, HasRefusedQuery, HasRaggedFile, HasRefusedScript}
+use Rattle.fm_top.specs.Causes.{OverFiles, LacksFile, HasLongFile, HasRefusedLayout, HasRefusedQuery, HasRaggedFile, HasRefusedScript}
 use Rattle.fm_top.specs.Run.{Traces}
 use Rattle.fm_top.specs.Words.{Request, Asks, AreFaulty}
 use Rattle.fm_top.specs.declared.status.Status.{Status}
 use Rattle.fm_top.specs.declared.status.Status.TheVariants.{Answered, Usage, Missing, Unread, LayoutRefused, QueryRefused, Ragged, TooLong, Unwritten, NoMemory, ScriptRefused}
 
 -- the words ask for this, where the files tell
-abbrev pub AskFor : List (List ℕ) → Option Contents → (Request → Contents → Type 0) → Type 0
-AskFor words told Has = (request : Request) × Asks words request × IfSome told (Has request)
+abbrev pub AskFor : List (List ℕ) → Option Contents → (Request → Option (List ℕ) → Option (List ℕ) → Type 0) → Type 0
+AskFor words told Has = (request : Request) × Asks words request × IfSome told (OverFiles Has request)
 
 -- The causes, where these traces were left, and so many reads had found no file before and after
 abbrev pub ComesOf : List (List ℕ) → Option Contents → Traces → (missed_before missed : ℕ) → Status → Type 0

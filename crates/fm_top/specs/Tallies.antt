@@ -1,5 +1,5 @@
 -- Which texts name values that are counted, why others are refused, and what is printed.
-use Rattle.std.specs.Prelude.{◌≡◌, ◌≢◌, ℕ, List, ℤ, map}
+use Rattle.std.specs.Prelude.{◌≢◌, ℕ, List, ℤ, map}
 use Rattle.std.specs.List.{range_with_len}
 use Rattle.fm_base.specs.declared.refusal.Refusal.{Refusal}
 use Rattle.fm_base.specs.declared.refusal.Refusal.TheVariants.{Memory, Unsupported}

@@ -6,7 +6,6 @@ ghost use Rattle.fm_query.specs.Records.{IsRecord};
 ghost use Rattle.fm_top.specs.Causes.{IsAsked};
 ghost use Rattle.fm_top.specs.Ending.{MissesOnly, shown};
 ghost use Rattle.fm_top.specs.Found.{OfFound};
-ghost use Rattle.fm_top.specs.Outcome.{layout_refused, query_refused};
 ghost use Rattle.fm_top.specs.Queries.{AskEnds, IsLayoutRefused, IsPlanned, IsRecordLayout, TextEnds};
 ghost use Rattle.fm_top.specs.Reading.{ReadsFor, ReadsIf};
 ghost use Rattle.fm_top.specs.Run.{HasOutcome};
@@ -81,7 +80,7 @@ fn layout_ending<R: Threads + Wait + Sync, F: Files, G: Gate>(
 {
     match record_layout(alloc, bytes) {
         Ok(layout) => text_ending(rt, alloc, files, ask, &layout, gate),
-        Err(refusal) => layout_refusal(alloc, refusal),
+        Err(refusal) => Ending::layout_refused(alloc, refusal),
     }
 }
 
@@ -91,14 +90,9 @@ fn record_layout(alloc: Global, bytes: &[u8]) -> Result<Layout, Refusal>
     ensures layout { IfOk result (IsRecordLayout bytes.now) }
     ensures refused { IfErr result (λ refusal. IsLayoutRefused bytes.now refusal ⊎ (refusal ≡ Refusal.Memory)) }
 {
-    let layout = match layout_from_json(alloc, bytes) {
-        Ok(layout) => layout,
-        Err(refusal) => return Err(refusal),
-    };
-    match check_record(&layout) {
-        Ok(()) => Ok(layout),
-        Err(refusal) => Err(refusal),
-    }
+    let layout = layout_from_json(alloc, bytes)?;
+    check_record(&layout)?;
+    Ok(layout)
 }
 
 /// How the run ends for records of this layout.
@@ -125,30 +119,6 @@ fn text_ending<R: Threads + Wait + Sync, F: Files, G: Gate>(
 {
     match plan_for(alloc, ask.question, ask.text, layout) {
         Ok(plan) => answer_ending(rt, alloc, files, ask, &plan, gate),
-        Err(refusal) => text_refusal(alloc, refusal),
-    }
-}
-
-/// How the run ends where the layout is refused, but for want of memory.
-fn layout_refusal(alloc: Global, refusal: Refusal) -> Result<Ending, Stop>
-    ensures ending { IfOk result (λ ending. shown ending ≡ layout_refused refusal) }
-    ensures other { IfOk result (λ _. refusal ≢ Refusal.Memory) }
-    ensures memory { IfErr result (λ stop. stop ≡ Stop.Memory) }
-{
-    match refusal {
-        Refusal::Memory => Err(Stop::Memory),
-        _ => Ok(Ending::layout_refused(alloc, refusal)?),
-    }
-}
-
-/// How the run ends where the query or the path is refused, but for want of memory.
-fn text_refusal(alloc: Global, refusal: Refusal) -> Result<Ending, Stop>
-    ensures ending { IfOk result (λ ending. shown ending ≡ query_refused refusal) }
-    ensures other { IfOk result (λ _. refusal ≢ Refusal.Memory) }
-    ensures memory { IfErr result (λ stop. stop ≡ Stop.Memory) }
-{
-    match refusal {
-        Refusal::Memory => Err(Stop::Memory),
-        _ => Ok(Ending::query_refused(alloc, refusal)?),
+        Err(refusal) => Ending::query_refused(alloc, refusal),
     }
 }

@@ -1,4 +1,4 @@
-ghost use Rattle.std.specs.Prelude.{◌≡◌, ◌++◌, IfOk, string_bytes, codes};
+ghost use Rattle.std.specs.Prelude.{◌≡◌, ◌≢◌, ◌++◌, IfErr, IfOk, string_bytes, codes};
 ghost use Rattle.std.specs.Fmt.{signed_decimal};
 ghost use Rattle.fm_top.specs.Outcome.{answered, answered_by_pool, bare, layout_refused, line, missing, query_refused, ragged, reported, script_refused, too_long, usage};
 ghost use Rattle.fm_report.specs.Texts.{report_text};
@@ -6,6 +6,7 @@ ghost use Rattle.fm_top.specs.Ending.{shown};
 
 use crate::left::Left;
 use crate::status::Status;
+use crate::stop::Stop;
 use fm_base::Refusal;
 use fm_report::Report;
 use fm_rule::Finished;
@@ -50,20 +51,34 @@ impl Ending {
         Ok(Ending::bare(Status::Ragged, text))
     }
 
-    /// The layout is refused.
-    pub fn layout_refused(alloc: Global, refusal: Refusal) -> Result<Ending, AllocError>
-        ensures { IfOk result (λ ending. shown ending ≡ layout_refused refusal) }
+    /// The layout is refused, but for want of memory.
+    pub fn layout_refused(alloc: Global, refusal: Refusal) -> Result<Ending, Stop>
+        ensures ending { IfOk result (λ ending. shown ending ≡ layout_refused refusal) }
+        ensures other { IfOk result (λ _. refusal ≢ Refusal.Memory) }
+        ensures memory { IfErr result (λ stop. stop ≡ Stop.Memory) }
     {
-        let text = format!(in alloc; "layout refused {refusal}\n")?;
-        Ok(Ending::bare(Status::LayoutRefused, text))
+        match refusal {
+            Refusal::Memory => Err(Stop::Memory),
+            _ => {
+                let text = format!(in alloc; "layout refused {refusal}\n")?;
+                Ok(Ending::bare(Status::LayoutRefused, text))
+            }
+        }
     }
 
-    /// The query or the path is refused.
-    pub fn query_refused(alloc: Global, refusal: Refusal) -> Result<Ending, AllocError>
-        ensures { IfOk result (λ ending. shown ending ≡ query_refused refusal) }
+    /// The query or the path is refused, but for want of memory.
+    pub fn query_refused(alloc: Global, refusal: Refusal) -> Result<Ending, Stop>
+        ensures ending { IfOk result (λ ending. shown ending ≡ query_refused refusal) }
+        ensures other { IfOk result (λ _. refusal ≢ Refusal.Memory) }
+        ensures memory { IfErr result (λ stop. stop ≡ Stop.Memory) }
     {
-        let text = format!(in alloc; "query refused {refusal}\n")?;
-        Ok(Ending::bare(Status::QueryRefused, text))
+        match refusal {
+            Refusal::Memory => Err(Stop::Memory),
+            _ => {
+                let text = format!(in alloc; "query refused {refusal}\n")?;
+                Ok(Ending::bare(Status::QueryRefused, text))
+            }
+        }
     }
 
     /// The script is refused at this line.

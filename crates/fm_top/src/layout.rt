@@ -5,12 +5,10 @@ ghost use Rattle.fm_top.specs.Outcome.{layout_of_file};
 ghost use Rattle.fm_load.specs.Reading.{ReadsSome};
 ghost use Rattle.fm_top.specs.Run.{HasOutcome};
 ghost use Rattle.fm_top.specs.Words.{Layout};
-ghost use Rattle.fm_top.specs.declared.status.Status.TheVariants.{Missing};
 
 use crate::ending::Ending;
 use crate::load_ending::unloaded_ending;
 use crate::stop::Stop;
-use fm_base::Refusal;
 use fm_io::Files;
 use fm_ljson::layout_from_json;
 use fm_load::{LAYOUT_FILE_LIMIT, read_whole};
@@ -45,7 +43,6 @@ fn bytes_ending(alloc: Global, bytes: &[u8]) -> Result<Ending, Stop>
             Ok(text) => Ok(Ending::answered(text)),
             Err(_) => Err(Stop::Memory),
         },
-        Err(Refusal::Memory) => Err(Stop::Memory),
-        Err(refusal) => Ok(Ending::layout_refused(alloc, refusal)?),
+        Err(refusal) => Ending::layout_refused(alloc, refusal),
     }
 }

@@ -5,7 +5,6 @@ ghost use Rattle.fm_top.specs.Outcome.{SumEnds};
 ghost use Rattle.fm_load.specs.Reading.{ReadsSome};
 ghost use Rattle.fm_top.specs.Run.{HasOutcome};
 ghost use Rattle.fm_top.specs.Words.{Sum, HasValue};
-ghost use Rattle.fm_top.specs.declared.status.Status.TheVariants.{Missing};
 
 use crate::ending::Ending;
 use crate::load_ending::unloaded_ending;

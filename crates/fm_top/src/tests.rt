@@ -16,7 +16,7 @@ use std::test::Fail;
 use std::thread::Threads;
 
 /// Two records of 16 bytes, whose longs at byte 8 are -3 and 5.
-const F1: [u8; 32] = [
+const TWO_LONGS: [u8; 32] = [
     0, 0, 0, 0, 0, 0, 0, 0, 0xfd, 0xff, 0xff, 0xff, 0xff, 0xff, 0xff, 0xff, 0, 0, 0, 0, 0, 0, 0, 0,
     5, 0, 0, 0, 0, 0, 0, 0,
 ];
@@ -68,7 +68,30 @@ where
     ends(rt, files, &words, status, text)
 }
 
-/// The same where each byte is written by a call of its own, and each of these calls fails in turn.
+/// A row of a table: a line, and behind an arrow the status and what is printed, where a bar stands for each line's end.
+///
+/// A table is one text, since a prover goes through an array row by row.
+fn parts_of(alloc: Global, row: &str) -> Result<(&str, u8, String), AllocError> {
+    let (line, end) = row.split_once(" -> ").unwrap_or((row, ""));
+    let (status, printed) = end.split_once(' ').unwrap_or((end, ""));
+    let text = printed.replace(alloc, "|", "\n")?;
+    Ok((line, status.parse().unwrap_or(u8::MAX), text))
+}
+
+/// Compares how a run on the line of each row ends with what the row tells.
+fn rows_end<R, F>(rt: &R, files: &mut F, table: &str) -> Result<(), Fail>
+where
+    R: Threads + Wait + Sync + RandomSource + AllocGlobal + Abort,
+    F: Files,
+{
+    for row in table.lines() {
+        let (line, status, text) = parts_of(rt.alloc(), row)?;
+        line_ends(rt, files, line, status, &text)?;
+    }
+    Ok(())
+}
+
+/// Compares how a run on these words ends where each byte is written by a call of its own, and each of these calls fails in turn.
 fn ends_at_each_write<R, F>(
     rt: &R,
     files: &mut F,
@@ -100,12 +123,12 @@ fn named(alloc: Global, name: &str, bytes: Vec<u8>) -> Result<(String, Vec<u8>),
     Ok((String::from_str(alloc, name)?, bytes))
 }
 
-/// `F1`, the empty file `E`, and `F1` with a byte more, which is named `Ragged`.
+/// The two records as `F1`, the empty file `E`, and the records with a byte more, which are named `Ragged`.
 fn small_files(alloc: Global) -> Result<Vec<(String, Vec<u8>)>, AllocError> {
-    let mut longer = F1.to_vec(alloc)?;
+    let mut longer = TWO_LONGS.to_vec(alloc)?;
     longer.push(0)?;
     Ok(vec![in alloc;
-        named(alloc, "F1", F1.to_vec(alloc)?)?,
+        named(alloc, "F1", TWO_LONGS.to_vec(alloc)?)?,
         named(alloc, "E", Vec::new(alloc))?,
         named(alloc, "Ragged", longer)?,
     ]?)
@@ -120,72 +143,75 @@ fn zeros(alloc: Global, count: usize) -> Result<Vec<u8>, AllocError> {
     vec![in alloc; 0; count]
 }
 
+/// Lines, and how they end.
+const SUMS: &str = "\
+sum 16 8 long F1 -> 0 sum 2|
+sum 8 0 long F1 -> 0 sum 2|
+sum 32 8 long F1 -> 0 sum -3|
+sum 16 8 long E -> 0 sum 0|
+sum 1 0 byte F1 -> 0 sum -5|
+sum 1 0 boolean F1 -> 0 sum 9|
+sum 2 0 char F1 -> 0 sum 262143|
+sum 2 0 short F1 -> 0 sum -1|
+sum 4 0 int F1 -> 0 sum 1|
+sum 16 12 int F1 -> 0 sum -1|
+sum 11 0 byte Ragged -> 0 sum -1|
+sum 16 4 long F1 -> 1 usage|
+sum 2 1 short F1 -> 1 usage|
+sum 3 0 char F1 -> 1 usage|
+sum 16 8 long nofile -> 2 missing nofile|
+sum 16 8 long  -> 2 missing |
+sum 16 8 long Ragged -> 6 ragged 1|
+sum 24 8 long F1 -> 6 ragged 8|";
+
 #[test]
 fn each_row_is_answered_in_pieces_of_every_size(rt: HostRuntime) -> Result<(), Fail> {
-    for (line, status, text) in [
-        (ROW, 0, SUM),
-        ("sum 8 0 long F1", 0, "sum 2\n"),
-        ("sum 32 8 long F1", 0, "sum -3\n"),
-        ("sum 16 8 long E", 0, "sum 0\n"),
-        ("sum 1 0 byte F1", 0, "sum -5\n"),
-        ("sum 1 0 boolean F1", 0, "sum 9\n"),
-        ("sum 2 0 char F1", 0, "sum 262143\n"),
-        ("sum 2 0 short F1", 0, "sum -1\n"),
-        ("sum 4 0 int F1", 0, "sum 1\n"),
-        ("sum 16 12 int F1", 0, "sum -1\n"),
-        ("sum 11 0 byte Ragged", 0, "sum -1\n"),
-        ("sum 16 4 long F1", 1, "usage\n"),
-        ("sum 2 1 short F1", 1, "usage\n"),
-        ("sum 3 0 char F1", 1, "usage\n"),
-        ("sum 16 8 long nofile", 2, "missing nofile\n"),
-        ("sum 16 8 long ", 2, "missing \n"),
-        ("sum 16 8 long Ragged", 6, "ragged 1\n"),
-        ("sum 24 8 long F1", 6, "ragged 8\n"),
-    ] {
-        for most in [1, 7, usize::MAX] {
-            line_ends(&rt, &mut files(rt.alloc(), &[], most)?, line, status, text)?;
-        }
+    for most in [1, 7, usize::MAX] {
+        rows_end(&rt, &mut files(rt.alloc(), &[], most)?, SUMS)?;
     }
     Ok(())
 }
 
+/// Lines of no form, one of which is empty.
+const NO_FORM: &str = "\
+sum
+
+sum 16 8 long
+sum 16 8 long F1 F1
+sum  8 long F1
+sum 16  long F1
+sum 16 8  F1
+ 16 8 long F1
+Sum 16 8 long F1
+min 16 8 long F1
+sum 16 8 float F1
+sum 16 8 Long F1
+sum 16 8 long -F1
+sum 16 8 long -
+sum +16 8 long F1
+sum 16 +8 long F1
+sum -16 8 long F1
+sum 16 -8 long F1
+sum 16 -0 long F1
+sum 016 8 long F1
+sum 16 08 long F1
+sum 16 00 long F1
+sum 0x10 8 long F1
+sum 16 8. long F1
+sum 0 0 long F1
+sum 12 0 long F1
+sum 16 4 long F1
+sum 16 16 long F1
+sum 1048584 0 long F1
+sum 18446744073709551616 8 long F1
+sum 16 18446744073709551608 long F1
+sum 16 18446744073709551624 long F1";
+
 #[test]
 fn words_of_no_form_read_no_file(rt: HostRuntime) -> Result<(), Fail> {
-    for line in [
-        "",
-        "sum",
-        "sum 16 8 long",
-        "sum 16 8 long F1 F1",
-        "sum  8 long F1",
-        "sum 16  long F1",
-        "sum 16 8  F1",
-        " 16 8 long F1",
-        "Sum 16 8 long F1",
-        "min 16 8 long F1",
-        "sum 16 8 float F1",
-        "sum 16 8 Long F1",
-        "sum 16 8 long -F1",
-        "sum 16 8 long -",
-        "sum +16 8 long F1",
-        "sum 16 +8 long F1",
-        "sum -16 8 long F1",
-        "sum 16 -8 long F1",
-        "sum 16 -0 long F1",
-        "sum 016 8 long F1",
-        "sum 16 08 long F1",
-        "sum 16 00 long F1",
-        "sum 0x10 8 long F1",
-        "sum 16 8. long F1",
-        "sum 0 0 long F1",
-        "sum 12 0 long F1",
-        "sum 16 4 long F1",
-        "sum 16 16 long F1",
-        "sum 1048584 0 long F1",
-        "sum 18446744073709551616 8 long F1",
-        "sum 16 18446744073709551608 long F1",
-        "sum 16 18446744073709551624 long F1",
-    ] {
-        line_ends(&rt, &mut files(rt.alloc(), &[0], 1)?, line, 1, "usage\n")?;
+    let mut files = files(rt.alloc(), &[0], 1)?;
+    for line in NO_FORM.lines() {
+        line_ends(&rt, &mut files, line, 1, "usage\n")?;
     }
     Ok(())
 }

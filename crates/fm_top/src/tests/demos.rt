@@ -13,40 +13,50 @@ const MANY: &str =
 #[test]
 fn records_that_are_made_are_answered(rt: HostRuntime) -> Result<(), Fail> {
     let mut files = SureFiles::new(Vec::new(rt.alloc()));
-    for (line, status, text) in [
+    for (line, text) in [
         (
             "demo 1",
-            0,
             "count 1\nsum(.amount) -50000\nmin(.amount) -50000\nmax(.amount) -50000\ncount 0\nsum(.id) 0\n",
         ),
-        ("demo 3", 0, THREE),
+        ("demo 3", THREE),
         (
             "demo 4",
-            0,
             "count 4\nsum(.amount) -152486\nmin(.amount) -50000\nmax(.amount) -26243\ncount 1\nsum(.id) 3\n",
         ),
-        ("demo 100000", 0, MANY),
-        ("demo --threads 2 100000", 0, MANY),
-        ("demo 100000 --threads=8", 0, MANY),
-        ("demo --threads 16 -- 3", 0, THREE),
-        ("demo", 1, "usage\n"),
-        ("demo 3 3", 1, "usage\n"),
-        ("demo 0", 1, "usage\n"),
-        ("demo 1000001", 1, "usage\n"),
-        ("demo 18446744073709551617", 1, "usage\n"),
-        ("demo 03", 1, "usage\n"),
-        ("demo +3", 1, "usage\n"),
-        ("demo -3", 1, "usage\n"),
-        ("demo -- -3", 1, "usage\n"),
-        ("demo three", 1, "usage\n"),
-        ("demo ", 1, "usage\n"),
-        ("demo --threads 0 3", 1, "usage\n"),
-        ("demo --threads 17 3", 1, "usage\n"),
-        ("demo --threads 3", 1, "usage\n"),
-        ("demo --count 3", 1, "usage\n"),
-        ("Demo 3", 1, "usage\n"),
+        ("demo 100000", MANY),
+        ("demo --threads 2 100000", MANY),
+        ("demo 100000 --threads=8", MANY),
+        ("demo --threads 16 -- 3", THREE),
     ] {
-        line_ends(&rt, &mut files, line, status, text)?;
+        line_ends(&rt, &mut files, line, 0, text)?;
+    }
+    Ok(())
+}
+
+/// Words that ask for no records.
+const NO_DEMOS: &str = "\
+demo
+demo 3 3
+demo 0
+demo 1000001
+demo 18446744073709551617
+demo 03
+demo +3
+demo -3
+demo -- -3
+demo three
+demo\x20
+demo --threads 0 3
+demo --threads 17 3
+demo --threads 3
+demo --count 3
+Demo 3";
+
+#[test]
+fn words_that_ask_for_no_records_are_usage(rt: HostRuntime) -> Result<(), Fail> {
+    let mut files = SureFiles::new(Vec::new(rt.alloc()));
+    for line in NO_DEMOS.lines() {
+        line_ends(&rt, &mut files, line, 1, "usage\n")?;
     }
     Ok(())
 }

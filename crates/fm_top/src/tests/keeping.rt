@@ -1,3 +1,4 @@
+use super::parts_of;
 use super::queries::files;
 use crate::{Kept, run_tool};
 use fm_io::{FreeGate, MemFiles, MemSink};
@@ -24,31 +25,38 @@ pub fn run_at<R: Threads + Wait + Sync + RandomSource + AllocGlobal>(
     Ok(run_tool(rt, alloc, &words, files, &mut out, &FreeGate, kept))
 }
 
+/// Lines, their statuses, and whether a pool is kept.
+const KEEPING: &str = "\
+query L1 count R1 -> 0 kept
+query L1 count, R1 -> 5 none
+tally L1 .tags[] R1 -> 0 kept
+query L1 count nofile -> 2 none
+demo --threads 2 3 -> 0 kept
+query L1 count Ragged -> 6 none
+query L1 count E -> 0 kept
+layout L1 -> 0 none
+tally L1 .tags[] E -> 0 kept
+sum 8 0 long R1 -> 0 none
+query --threads 16 L1 count R1 -> 0 kept
+query -> 1 none
+tally L1 .price R1 -> 5 none
+tally Broken .tags[] R1 -> 4 none";
+
 #[test]
 fn a_pool_is_kept_with_each_answer_of_one(rt: HostRuntime) -> Result<(), Fail> {
     let mut files = files(rt.alloc(), &[], usize::MAX)?;
     let mut kept = Kept::new();
     assert!(rt; kept.finished().is_none());
     // What is kept is that of the last run, whatever the one before kept.
-    for (line, status, is_kept) in [
-        ("query L1 count R1", 0, true),
-        ("query L1 count, R1", 5, false),
-        ("tally L1 .tags[] R1", 0, true),
-        ("query L1 count nofile", 2, false),
-        ("demo --threads 2 3", 0, true),
-        ("query L1 count Ragged", 6, false),
-        ("query L1 count E", 0, true),
-        ("layout L1", 0, false),
-        ("tally L1 .tags[] E", 0, true),
-        ("sum 8 0 long R1", 0, false),
-        ("query --threads 16 L1 count R1", 0, true),
-        ("query", 1, false),
-        ("tally L1 .price R1", 5, false),
-        ("tally Broken .tags[] R1", 4, false),
-    ] {
+    for row in KEEPING.lines() {
+        let (line, status, is_kept) = parts_of(rt.alloc(), row)?;
         let code = run_at(&rt, &mut files, line, u64::MAX, &mut kept)?;
         assert_eq!(rt; code, status, "{line}");
-        assert_eq!(rt; kept.finished().is_some(), is_kept, "{line}");
+        assert_eq!(rt;
+            kept.finished().is_some(),
+            is_kept.as_str() == "kept",
+            "{line}"
+        );
     }
     Ok(())
 }

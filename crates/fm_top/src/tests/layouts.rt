@@ -1,8 +1,12 @@
-use super::{ends_at_each_write, line_ends, named};
+use super::{ends_at_each_write, line_ends, named, parts_of};
 use crate::LAYOUT_FILE_LIMIT;
 use fm_io::{MemFiles, SureFiles};
-use std::alloc::{AllocError, Global};
+use std::alloc::{AllocError, AllocGlobal, Global};
+use std::process::Abort;
+use std::random::RandomSource;
+use std::sync::Wait;
 use std::test::Fail;
+use std::thread::Threads;
 
 /// A record of an id, a kind, a price and four tags, as a user writes it.
 pub const SALE: &str =
@@ -23,74 +27,43 @@ fn layout_file(
     Ok(MemFiles::new(vec![in alloc; file]?, failing.to_vec(alloc)?).with_piece(most.max(1)))
 }
 
+/// Layouts that have `'` for each quotation mark, and how their listings end.
+const LAYOUTS: &str = "\
+{'type':'long','order':'big','align':1} -> 0 size 8|alignment 1|. 0 long big|
+{'type':'padding','size':3} -> 0 size 3|alignment 1|
+{'type':'struct','members':[]} -> 0 size 0|alignment 1|
+{'type':'struct','members':[{'type':'int'},{'type':'padding','size':4},{'type':'long'}]} -> 0 size 16|alignment 8|.#0 0 int little|.#2 8 long little|
+{'type':'union','members':[{'type':'byte','name':'a'},{'type':'long','name':'a'}]} -> 0 size 8|alignment 8|.a 0 byte little|.#1 0 long little|
+{'type':'int','align':3} -> 4 layout refused 9|
+{'type':'sequence','count':1099511627776,'element':{'type':'long'}} -> 4 layout refused 20|
+{'type':'struct','members':[{'type':'int'},{'type':'long'}]} -> 4 layout refused 21 1 4|
+{'type':'sequence','count':2,'element':{'type':'struct','members':[{'type':'long'},{'type':'int'}]}} -> 4 layout refused 22|
+{'type':'padding','size':0} -> 4 layout refused 23|
+{'type':'sequence','count':2,'element':{'type':'long'},'align':4} -> 4 layout refused 24 8|
+{ -> 4 layout refused 40|
+ -> 4 layout refused 40|
+{'type':'float'} -> 4 layout refused 41 0|
+{'type':'struct','members':[{'type':'int'},7]} -> 4 layout refused 41 2|";
+
+/// Compares how the listing of this layout ends with what is wanted, in pieces of every size.
+fn is_listed<R>(rt: &R, layout: &str, status: u8, text: &str) -> Result<(), Fail>
+where
+    R: Threads + Wait + Sync + RandomSource + AllocGlobal + Abort,
+{
+    for most in [1, 7, usize::MAX] {
+        let mut files = layout_file(rt.alloc(), layout, &[], most)?;
+        line_ends(rt, &mut files, "layout L", status, text)?;
+    }
+    Ok(())
+}
+
 #[test]
 fn each_layout_is_listed_or_refused(rt: HostRuntime) -> Result<(), Fail> {
-    for (layout, status, text) in [
-        (SALE, 0, LISTING),
-        (
-            "{\"type\":\"long\",\"order\":\"big\",\"align\":1}",
-            0,
-            "size 8\nalignment 1\n. 0 long big\n",
-        ),
-        (
-            "{\"type\":\"padding\",\"size\":3}",
-            0,
-            "size 3\nalignment 1\n",
-        ),
-        (
-            "{\"type\":\"struct\",\"members\":[]}",
-            0,
-            "size 0\nalignment 1\n",
-        ),
-        (
-            "{\"type\":\"struct\",\"members\":[{\"type\":\"int\"},{\"type\":\"padding\",\"size\":4},{\"type\":\"long\"}]}",
-            0,
-            "size 16\nalignment 8\n.#0 0 int little\n.#2 8 long little\n",
-        ),
-        (
-            "{\"type\":\"union\",\"members\":[{\"type\":\"byte\",\"name\":\"a\"},{\"type\":\"long\",\"name\":\"a\"}]}",
-            0,
-            "size 8\nalignment 8\n.a 0 byte little\n.#1 0 long little\n",
-        ),
-        ("{\"type\":\"int\",\"align\":3}", 4, "layout refused 9\n"),
-        (
-            "{\"type\":\"sequence\",\"count\":1099511627776,\"element\":{\"type\":\"long\"}}",
-            4,
-            "layout refused 20\n",
-        ),
-        (
-            "{\"type\":\"struct\",\"members\":[{\"type\":\"int\"},{\"type\":\"long\"}]}",
-            4,
-            "layout refused 21 1 4\n",
-        ),
-        (
-            "{\"type\":\"sequence\",\"count\":2,\"element\":{\"type\":\"struct\",\"members\":[{\"type\":\"long\"},{\"type\":\"int\"}]}}",
-            4,
-            "layout refused 22\n",
-        ),
-        (
-            "{\"type\":\"padding\",\"size\":0}",
-            4,
-            "layout refused 23\n",
-        ),
-        (
-            "{\"type\":\"sequence\",\"count\":2,\"element\":{\"type\":\"long\"},\"align\":4}",
-            4,
-            "layout refused 24 8\n",
-        ),
-        ("{", 4, "layout refused 40\n"),
-        ("", 4, "layout refused 40\n"),
-        ("{\"type\":\"float\"}", 4, "layout refused 41 0\n"),
-        (
-            "{\"type\":\"struct\",\"members\":[{\"type\":\"int\"},7]}",
-            4,
-            "layout refused 41 2\n",
-        ),
-    ] {
-        for most in [1, 7, usize::MAX] {
-            let mut files = layout_file(rt.alloc(), layout, &[], most)?;
-            line_ends(&rt, &mut files, "layout L", status, text)?;
-        }
+    is_listed(&rt, SALE, 0, LISTING)?;
+    for row in LAYOUTS.lines() {
+        let (layout, status, text) = parts_of(rt.alloc(), row)?;
+        let layout = layout.replace(rt.alloc(), "'", "\"")?;
+        is_listed(&rt, &layout, status, &text)?;
     }
     Ok(())
 }

@@ -1,9 +1,13 @@
 use super::layouts::SALE;
-use super::{ends, ends_at_each_write, line_ends, named, run};
+use super::{ends, ends_at_each_write, named, parts_of, rows_end, run};
 use crate::{LAYOUT_FILE_LIMIT, RECORD_FILE_LIMIT};
 use fm_io::{MemFiles, SureFiles, SureSink};
-use std::alloc::{AllocError, Global};
+use std::alloc::{AllocError, AllocGlobal, Global};
+use std::process::Abort;
+use std::random::RandomSource;
+use std::sync::Wait;
 use std::test::Fail;
+use std::thread::Threads;
 
 /// Two sales: of ids 1 and 2, kinds 2 and 3, and prices 250 and -40, with four tags each.
 const SALES: [u8; 48] = [
@@ -52,88 +56,67 @@ pub(super) fn files(alloc: Global, failing: &[u64], most: usize) -> Result<MemFi
     Ok(MemFiles::new(all, failing.to_vec(alloc)?).with_piece(most.max(1)))
 }
 
-/// Queries over records of sales, the record file, and how they end.
-const QUERIES: [(&str, &str, u8, &str); 33] = [
-    (
-        "count,sum(.price),list(.tags[]) where .kind>=2",
-        "R1",
-        0,
-        "count 2\nsum(.price) 210\nlist(.tags[]) 1 2 3 4 5 0 0 -1\n",
-    ),
-    ("min(.price) where .kind=9", "R1", 0, "min(.price) none\n"),
-    (
-        "max(.price),min(.tags[]),sum(.tags[1:2]),list(.id)",
-        "R1",
-        0,
-        "max(.price) 250\nmin(.tags[]) -1\nsum(.tags[1:2]) 5\nlist(.id) 1 2\n",
-    ),
-    (
-        "count,sum(.price),min(.price),max(.price),list(.tags[])",
-        "E",
-        0,
-        "count 0\nsum(.price) 0\nmin(.price) none\nmax(.price) none\nlist(.tags[])\n",
-    ),
-    ("list(.id) where .id>2", "R1", 0, "list(.id)\n"),
-    ("list(.id) where .kind=2", "R1", 0, "list(.id) 1\n"),
-    ("list(.id) where .kind=1", "R1", 0, "list(.id)\n"),
-    ("list(.id) where .kind!=2", "R1", 0, "list(.id) 2\n"),
-    ("list(.id) where .kind<2", "R1", 0, "list(.id)\n"),
-    ("list(.id) where .kind<3", "R1", 0, "list(.id) 1\n"),
-    ("list(.id) where .kind<=1", "R1", 0, "list(.id)\n"),
-    ("list(.id) where .kind<=2", "R1", 0, "list(.id) 1\n"),
-    ("list(.id) where .kind>3", "R1", 0, "list(.id)\n"),
-    ("list(.id) where .kind>2", "R1", 0, "list(.id) 2\n"),
-    ("list(.id) where .kind>=4", "R1", 0, "list(.id)\n"),
-    ("list(.id) where .kind>=3", "R1", 0, "list(.id) 2\n"),
-    (
-        "list(.id) where .price=-40 and .tags[3]=-1",
-        "R1",
-        0,
-        "list(.id) 2\n",
-    ),
-    (
-        "list(.id) where .price=-40 and .tags[3]=4",
-        "R1",
-        0,
-        "list(.id)\n",
-    ),
-    (
-        "count where .price>-9223372036854775808",
-        "R1",
-        0,
-        "count 2\n",
-    ),
-    (
-        "count where .price<=9223372036854775807",
-        "R1",
-        0,
-        "count 2\n",
-    ),
-    ("count,", "R1", 5, "query refused 50 6\n"),
-    ("", "R1", 5, "query refused 50 0\n"),
-    ("sum(.nope)", "R1", 5, "query refused 31 0\n"),
-    ("sum(.id.x)", "R1", 5, "query refused 30 1\n"),
-    ("sum(.kind[0])", "R1", 5, "query refused 32 1\n"),
-    ("sum(.tags[4])", "R1", 5, "query refused 33 1\n"),
-    ("sum(.tags)", "R1", 5, "query refused 35\n"),
-    ("sum(.tags[0:0])", "R1", 5, "query refused 36 1\n"),
-    ("count where .tags[]=1", "R1", 5, "query refused 34 1\n"),
-    ("sum(.tags[01])", "R1", 5, "query refused 50 11\n"),
-    // The text is refused before the record file is read.
-    ("count,", "nofile", 5, "query refused 50 6\n"),
-    ("count", "nofile", 2, "missing nofile\n"),
-    ("count", "Ragged", 6, "ragged 1\n"),
-];
+/// The record file, queries over its sales, and how they end. A text that is refused is refused before the file is read.
+const QUERIES: &str = "\
+R1 count,sum(.price),list(.tags[]) where .kind>=2 -> 0 count 2|sum(.price) 210|list(.tags[]) 1 2 3 4 5 0 0 -1|
+R1 min(.price) where .kind=9 -> 0 min(.price) none|
+R1 max(.price),min(.tags[]),sum(.tags[1:2]),list(.id) -> 0 max(.price) 250|min(.tags[]) -1|sum(.tags[1:2]) 5|list(.id) 1 2|
+E count,sum(.price),min(.price),max(.price),list(.tags[]) -> 0 count 0|sum(.price) 0|min(.price) none|max(.price) none|list(.tags[])|
+R1 list(.id) where .id>2 -> 0 list(.id)|
+R1 list(.id) where .kind=2 -> 0 list(.id) 1|
+R1 list(.id) where .kind=1 -> 0 list(.id)|
+R1 list(.id) where .kind!=2 -> 0 list(.id) 2|
+R1 list(.id) where .kind<2 -> 0 list(.id)|
+R1 list(.id) where .kind<3 -> 0 list(.id) 1|
+R1 list(.id) where .kind<=1 -> 0 list(.id)|
+R1 list(.id) where .kind<=2 -> 0 list(.id) 1|
+R1 list(.id) where .kind>3 -> 0 list(.id)|
+R1 list(.id) where .kind>2 -> 0 list(.id) 2|
+R1 list(.id) where .kind>=4 -> 0 list(.id)|
+R1 list(.id) where .kind>=3 -> 0 list(.id) 2|
+R1 list(.id) where .price=-40 and .tags[3]=-1 -> 0 list(.id) 2|
+R1 list(.id) where .price=-40 and .tags[3]=4 -> 0 list(.id)|
+R1 count where .price>-9223372036854775808 -> 0 count 2|
+R1 count where .price<=9223372036854775807 -> 0 count 2|
+R1 count, -> 5 query refused 50 6|
+R1  -> 5 query refused 50 0|
+R1 sum(.nope) -> 5 query refused 31 0|
+R1 sum(.id.x) -> 5 query refused 30 1|
+R1 sum(.kind[0]) -> 5 query refused 32 1|
+R1 sum(.tags[4]) -> 5 query refused 33 1|
+R1 sum(.tags) -> 5 query refused 35|
+R1 sum(.tags[0:0]) -> 5 query refused 36 1|
+R1 count where .tags[]=1 -> 5 query refused 34 1|
+R1 sum(.tags[01]) -> 5 query refused 50 11|
+nofile count, -> 5 query refused 50 6|
+nofile count -> 2 missing nofile|
+Ragged count -> 6 ragged 1|";
 
-#[test]
-fn each_query_is_answered_in_pieces_of_every_size(rt: HostRuntime) -> Result<(), Fail> {
-    for (query, file, status, text) in QUERIES {
-        for most in [1, 7, usize::MAX] {
-            let mut files = files(rt.alloc(), &[], most)?;
-            ends(&rt, &mut files, &["query", "L1", query, file], status, text)?;
+/// Compares how this command ends for each row of a file and a text with what the row tells, in pieces of every size.
+pub(super) fn texts_end<R>(rt: &R, command: &str, table: &str) -> Result<(), Fail>
+where
+    R: Threads + Wait + Sync + RandomSource + AllocGlobal + Abort,
+{
+    for most in [1, 7, usize::MAX] {
+        let mut files = files(rt.alloc(), &[], most)?;
+        for row in table.lines() {
+            let (line, status, printed) = parts_of(rt.alloc(), row)?;
+            let (file, text) = line.split_once(' ').unwrap_or((line, ""));
+            ends(
+                rt,
+                &mut files,
+                &[command, "L1", text, file],
+                status,
+                &printed,
+            )?;
         }
     }
     Ok(())
+}
+
+#[test]
+fn each_query_is_answered_in_pieces_of_every_size(rt: HostRuntime) -> Result<(), Fail> {
+    texts_end(&rt, "query", QUERIES)
 }
 
 #[test]
@@ -160,71 +143,62 @@ fn a_layout_of_no_records_is_refused(rt: HostRuntime) -> Result<(), Fail> {
 }
 
 /// Words with the option in each place, and how they end.
-const OPTIONS: [(&str, u8, &str); 51] = [
-    ("query L1 count R1", 0, "count 2\n"),
-    ("query --threads 1 L1 count R1", 0, "count 2\n"),
-    ("query L1 --threads 2 count R1", 0, "count 2\n"),
-    ("query L1 count --threads 9 R1", 0, "count 2\n"),
-    ("query L1 count R1 --threads 16", 0, "count 2\n"),
-    ("query --threads=1 L1 count R1", 0, "count 2\n"),
-    ("query L1 count R1 --threads=16", 0, "count 2\n"),
-    ("query --threads 2 -- L1 count R1", 0, "count 2\n"),
-    ("query -- L1 count R1", 0, "count 2\n"),
-    ("query L1 -- count R1", 0, "count 2\n"),
-    ("query L1 count R1 --", 0, "count 2\n"),
-    ("query -- --threads count R1", 2, "missing --threads\n"),
-    ("query L1 count -- -R1", 2, "missing -R1\n"),
-    ("query L1 -- -- R1", 5, "query refused 50 0\n"),
-    ("query - count R1", 2, "missing -\n"),
-    ("query L1 - R1", 5, "query refused 50 0\n"),
-    ("query L1 count -", 2, "missing -\n"),
-    ("query  count R1", 2, "missing \n"),
-    ("query", 1, "usage\n"),
-    ("query L1 count", 1, "usage\n"),
-    ("query L1 count R1 R1", 1, "usage\n"),
-    ("query L1 count R1 -- R1", 1, "usage\n"),
-    ("query L1 count R1 -- --threads 2", 1, "usage\n"),
-    ("query --threads L1 count R1", 1, "usage\n"),
-    ("query L1 count R1 --threads", 1, "usage\n"),
-    ("query --threads -- L1 count R1", 1, "usage\n"),
-    ("query --threads=  L1 count R1", 1, "usage\n"),
-    ("query --threads= L1 count R1", 1, "usage\n"),
-    ("query --threads 0 L1 count R1", 1, "usage\n"),
-    ("query --threads 17 L1 count R1", 1, "usage\n"),
-    ("query --threads=17 L1 count R1", 1, "usage\n"),
-    ("query --threads 01 L1 count R1", 1, "usage\n"),
-    ("query --threads=02 L1 count R1", 1, "usage\n"),
-    ("query --threads +1 L1 count R1", 1, "usage\n"),
-    ("query --threads -1 L1 count R1", 1, "usage\n"),
-    (
-        "query --threads 18446744073709551617 L1 count R1",
-        1,
-        "usage\n",
-    ),
-    ("query --threads 2 --threads 2 L1 count R1", 1, "usage\n"),
-    ("query --threads=2 L1 count R1 --threads=2", 1, "usage\n"),
-    ("query --threads 2 L1 count R1 --threads=2", 1, "usage\n"),
-    ("query --thread 2 L1 count R1", 1, "usage\n"),
-    ("query --Threads 2 L1 count R1", 1, "usage\n"),
-    ("query --threads2 L1 count R1", 1, "usage\n"),
-    ("query -t 2 L1 count R1", 1, "usage\n"),
-    ("query L1 count -R1", 1, "usage\n"),
-    ("query --help", 1, "usage\n"),
-    ("query -h", 1, "usage\n"),
-    ("query --version", 1, "usage\n"),
-    ("query --help L1 count R1", 1, "usage\n"),
-    ("--threads 2 query L1 count R1", 1, "usage\n"),
-    ("Query L1 count R1", 1, "usage\n"),
-    ("stream L1 count R1", 1, "usage\n"),
-];
+const OPTIONS: &str = "\
+query L1 count R1 -> 0 count 2|
+query --threads 1 L1 count R1 -> 0 count 2|
+query L1 --threads 2 count R1 -> 0 count 2|
+query L1 count --threads 9 R1 -> 0 count 2|
+query L1 count R1 --threads 16 -> 0 count 2|
+query --threads=1 L1 count R1 -> 0 count 2|
+query L1 count R1 --threads=16 -> 0 count 2|
+query --threads 2 -- L1 count R1 -> 0 count 2|
+query -- L1 count R1 -> 0 count 2|
+query L1 -- count R1 -> 0 count 2|
+query L1 count R1 -- -> 0 count 2|
+query -- --threads count R1 -> 2 missing --threads|
+query L1 count -- -R1 -> 2 missing -R1|
+query L1 -- -- R1 -> 5 query refused 50 0|
+query - count R1 -> 2 missing -|
+query L1 - R1 -> 5 query refused 50 0|
+query L1 count - -> 2 missing -|
+query  count R1 -> 2 missing |
+query -> 1 usage|
+query L1 count -> 1 usage|
+query L1 count R1 R1 -> 1 usage|
+query L1 count R1 -- R1 -> 1 usage|
+query L1 count R1 -- --threads 2 -> 1 usage|
+query --threads L1 count R1 -> 1 usage|
+query L1 count R1 --threads -> 1 usage|
+query --threads -- L1 count R1 -> 1 usage|
+query --threads=  L1 count R1 -> 1 usage|
+query --threads= L1 count R1 -> 1 usage|
+query --threads 0 L1 count R1 -> 1 usage|
+query --threads 17 L1 count R1 -> 1 usage|
+query --threads=17 L1 count R1 -> 1 usage|
+query --threads 01 L1 count R1 -> 1 usage|
+query --threads=02 L1 count R1 -> 1 usage|
+query --threads +1 L1 count R1 -> 1 usage|
+query --threads -1 L1 count R1 -> 1 usage|
+query --threads 18446744073709551617 L1 count R1 -> 1 usage|
+query --threads 2 --threads 2 L1 count R1 -> 1 usage|
+query --threads=2 L1 count R1 --threads=2 -> 1 usage|
+query --threads 2 L1 count R1 --threads=2 -> 1 usage|
+query --thread 2 L1 count R1 -> 1 usage|
+query --Threads 2 L1 count R1 -> 1 usage|
+query --threads2 L1 count R1 -> 1 usage|
+query -t 2 L1 count R1 -> 1 usage|
+query L1 count -R1 -> 1 usage|
+query --help -> 1 usage|
+query -h -> 1 usage|
+query --version -> 1 usage|
+query --help L1 count R1 -> 1 usage|
+--threads 2 query L1 count R1 -> 1 usage|
+Query L1 count R1 -> 1 usage|
+stream L1 count R1 -> 1 usage|";
 
 #[test]
 fn the_option_stands_anywhere_and_once(rt: HostRuntime) -> Result<(), Fail> {
-    let mut files = files(rt.alloc(), &[], usize::MAX)?;
-    for (line, status, text) in OPTIONS {
-        line_ends(&rt, &mut files, line, status, text)?;
-    }
-    Ok(())
+    rows_end(&rt, &mut files(rt.alloc(), &[], usize::MAX)?, OPTIONS)
 }
 
 #[test]

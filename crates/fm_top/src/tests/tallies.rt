@@ -1,5 +1,5 @@
-use super::queries::{files, text_file};
-use super::{ends, ends_at_each_write, line_ends, named};
+use super::queries::{files, text_file, texts_end};
+use super::{ends, ends_at_each_write, named, rows_end};
 use crate::tests::layouts::SALE;
 use fm_io::SureFiles;
 use std::test::Fail;
@@ -10,38 +10,31 @@ const ROW: [&str; 4] = ["tally", "L1", ".tags[]", "R1"];
 /// What it prints.
 const TAGS: &str = "-1 1\n0 2\n1 1\n2 1\n3 1\n4 1\n5 1\ntotal 8\n";
 
-/// Paths into sales, the record file, and how their tallies end.
-const TALLIES: [(&str, &str, u8, &str); 18] = [
-    (".tags[]", "R1", 0, TAGS),
-    (".tags[1:2]", "R1", 0, "-1 1\n0 1\n2 1\n4 1\ntotal 4\n"),
-    (".tags[0]", "R1", 0, "1 1\n5 1\ntotal 2\n"),
-    (".tags[]", "E", 0, "total 0\n"),
-    (".price", "R1", 5, "query refused 6\n"),
-    (".kind", "R1", 5, "query refused 6\n"),
-    ("", "R1", 5, "query refused 50 0\n"),
-    (".tags[01]", "R1", 5, "query refused 50 7\n"),
-    ("list(.tags[])", "R1", 5, "query refused 50 0\n"),
-    (".tags[] where .kind=2", "R1", 5, "query refused 50 7\n"),
-    (".nope", "R1", 5, "query refused 31 0\n"),
-    (".tags", "R1", 5, "query refused 35\n"),
-    (".tags[4]", "R1", 5, "query refused 33 1\n"),
-    (".tags[0:0]", "R1", 5, "query refused 36 1\n"),
-    // The path is refused before the record file is read.
-    (".price", "nofile", 5, "query refused 6\n"),
-    (".tags[4]", "nofile", 5, "query refused 33 1\n"),
-    (".tags[]", "nofile", 2, "missing nofile\n"),
-    (".tags[]", "Ragged", 6, "ragged 1\n"),
-];
+/// The record file, paths into its sales, and how their tallies end. A path that is refused is refused before the file is
+/// read.
+const TALLIES: &str = "\
+R1 .tags[] -> 0 -1 1|0 2|1 1|2 1|3 1|4 1|5 1|total 8|
+R1 .tags[1:2] -> 0 -1 1|0 1|2 1|4 1|total 4|
+R1 .tags[0] -> 0 1 1|5 1|total 2|
+E .tags[] -> 0 total 0|
+R1 .price -> 5 query refused 6|
+R1 .kind -> 5 query refused 6|
+R1  -> 5 query refused 50 0|
+R1 .tags[01] -> 5 query refused 50 7|
+R1 list(.tags[]) -> 5 query refused 50 0|
+R1 .tags[] where .kind=2 -> 5 query refused 50 7|
+R1 .nope -> 5 query refused 31 0|
+R1 .tags -> 5 query refused 35|
+R1 .tags[4] -> 5 query refused 33 1|
+R1 .tags[0:0] -> 5 query refused 36 1|
+nofile .price -> 5 query refused 6|
+nofile .tags[4] -> 5 query refused 33 1|
+nofile .tags[] -> 2 missing nofile|
+Ragged .tags[] -> 6 ragged 1|";
 
 #[test]
 fn each_path_is_tallied_or_refused(rt: HostRuntime) -> Result<(), Fail> {
-    for (path, file, status, text) in TALLIES {
-        for most in [1, usize::MAX] {
-            let mut files = files(rt.alloc(), &[], most)?;
-            ends(&rt, &mut files, &["tally", "L1", path, file], status, text)?;
-        }
-    }
-    Ok(())
+    texts_end(&rt, "tally", TALLIES)
 }
 
 #[test]
@@ -78,26 +71,24 @@ fn each_byte_is_counted_as_its_number(rt: HostRuntime) -> Result<(), Fail> {
     Ok(())
 }
 
+/// Words of tallies, and how they end.
+const FORMS: &str = "\
+tally --threads=2 L1 .tags[] R1 -> 0 -1 1|0 2|1 1|2 1|3 1|4 1|5 1|total 8|
+tally L1 -- .tags[] R1 -> 0 -1 1|0 2|1 1|2 1|3 1|4 1|5 1|total 8|
+tally nolayout .tags[] R1 -> 2 missing nolayout|
+tally Broken .tags[] R1 -> 4 layout refused 40|
+tally Void .tags[] R1 -> 4 layout refused 25|
+tally -> 1 usage|
+tally L1 .tags[] -> 1 usage|
+tally L1 .tags[] R1 R1 -> 1 usage|
+tally --threads 17 L1 .tags[] R1 -> 1 usage|
+tally --threads=2 --threads=2 L1 .tags[] R1 -> 1 usage|
+tally --thread 2 L1 .tags[] R1 -> 1 usage|
+Tally L1 .tags[] R1 -> 1 usage|";
+
 #[test]
 fn words_of_tallies_have_one_form(rt: HostRuntime) -> Result<(), Fail> {
-    let mut files = files(rt.alloc(), &[], usize::MAX)?;
-    for (line, status, text) in [
-        ("tally --threads=2 L1 .tags[] R1", 0, TAGS),
-        ("tally L1 -- .tags[] R1", 0, TAGS),
-        ("tally nolayout .tags[] R1", 2, "missing nolayout\n"),
-        ("tally Broken .tags[] R1", 4, "layout refused 40\n"),
-        ("tally Void .tags[] R1", 4, "layout refused 25\n"),
-        ("tally", 1, "usage\n"),
-        ("tally L1 .tags[]", 1, "usage\n"),
-        ("tally L1 .tags[] R1 R1", 1, "usage\n"),
-        ("tally --threads 17 L1 .tags[] R1", 1, "usage\n"),
-        ("tally --threads=2 --threads=2 L1 .tags[] R1", 1, "usage\n"),
-        ("tally --thread 2 L1 .tags[] R1", 1, "usage\n"),
-        ("Tally L1 .tags[] R1", 1, "usage\n"),
-    ] {
-        line_ends(&rt, &mut files, line, status, text)?;
-    }
-    Ok(())
+    rows_end(&rt, &mut files(rt.alloc(), &[], usize::MAX)?, FORMS)
 }
 
 #[test]

@@ -3,4 +3,4 @@ use Rattle.fm_load.proofs.GivenBytes.{length-loaded}
 use Rattle.fm_load.proofs.held.loaded_size.Goals as goal
 
 pub returns : goal.returns
-returns g c = c.size.ensures.size ∙ sym (length-loaded (g.M.Memory.view c.args.m.now) c.args.segment.now c.requires)
+returns g c = c.size.ensures.size ∙ sym (length-loaded c.requires)

@@ -10,36 +10,28 @@ use Rattle.fm_load.proofs.held.push_held.Goals as goal
 
 pub allocate_held-requires-clause-room : goal.allocate_held-requires-clause-room
 allocate_held-requires-clause-room g c =
-    let v = g.M.Memory.view c.args.m.now in
-    let s = c.args.segment.now in
-    let next = next_place v s c.arena-arena.result c.requires.ready c.arena-arena.ensures c.requires.whole in
-    omega (arith, next, length-loaded v s c.requires.ready, c.requires.room)
+    omega (arith, next_place c.requires.ready c.arena-arena.ensures c.requires.whole, length-loaded c.requires.ready, c.requires.room)
 
 pub put_held-requires-clause-room : goal.put_held-requires-clause-room
 put_held-requires-clause-room g c =
-    let v = g.M.Memory.view c.args.m.now in
-    let s = c.args.segment.now in
-    let next = next_place v s c.arena-arena.result c.requires.ready c.arena-arena.ensures c.requires.whole in
-    omega (arith, next, c.in-Ok.ensures.place, length-loaded v s c.requires.ready, c.requires.room, c.in-Ok.ensures.did.makes.same_limit)
+    let next = next_place c.requires.ready c.arena-arena.ensures c.requires.whole in
+    omega (arith, next, length-loaded c.requires.ready, c.requires.room, c.in-Ok.ensures.place, c.in-Ok.ensures.did.makes.same_limit)
+
+pub of-requires : goal.of-requires
+of-requires g c =
+    let next = next_place c.requires.ready c.arena-arena.ensures c.requires.whole in
+    omega (arith, next, length-loaded c.requires.ready, c.requires.room, c.in-Ok.ensures.place, c.requires.ready.held.small)
 
 pub returns-clause-ready : goal.returns-clause-ready
 returns-clause-ready g c =
-    let v = g.M.Memory.view c.args.m.now in
-    let s = c.args.segment.now in
-    let next = next_place v s c.arena-arena.result c.requires.ready c.arena-arena.ensures c.requires.whole in
+    let next = next_place c.requires.ready c.arena-arena.ensures c.requires.whole in
+    let size = length-loaded c.requires.ready in
+    let limit = c.put_held.ensures.did.makes.same_limit in
     subst (λ (r : Region). IsReady (g.M.Memory.view c.put_held.new.m) r) (sym c.of.ensures) (record {
       held = c.put_held.ensures.held;
       whole = refl;
       counted = c.put_held.ensures.given ∙ c.in-Ok.ensures.given.given_is;
-      within = omega (
-        arith,
-        next,
-        c.in-Ok.ensures.place,
-        length-loaded v s c.requires.ready,
-        c.requires.room,
-        c.in-Ok.ensures.did.makes.same_limit,
-        c.put_held.ensures.did.makes.same_limit,
-      );
+      within = omega (arith, next, size, c.requires.room, c.in-Ok.ensures.place, c.in-Ok.ensures.did.makes.same_limit, limit);
     })
 
 pub returns-clause-ok : goal.returns-clause-ok
@@ -52,12 +44,12 @@ returns-clause-ok g c =
     let bytes = c.args.bytes.now in
     let place = c.in-Ok.place in
     let at : c.in-Ok.place ≡ s.size =
-    c.in-Ok.ensures.place ∙ next_place old s a c.requires.ready c.arena-arena.ensures c.requires.whole in
+    c.in-Ok.ensures.place ∙ next_place c.requires.ready c.arena-arena.ensures c.requires.whole in
     let mid : bytes_of_arena (v c.allocate_held.new.m).state a ≡ bytes_of_arena old.state s.arena =
     ap bytes_in c.in-Ok.ensures.given.words_are ∙ ap (λ (b : ArenaId). bytes_of_arena old.state b) c.arena-arena.ensures in
     let all = bytes_of_arena (v c.allocate_held.new.m).state a in
     let room : c.in-Ok.place ≤ length (bytes_of_arena (v c.allocate_held.new.m).state a) =
-    omega (arith, at, ap length mid, ready_room old s c.requires.ready) in
+    omega (arith, at, ap length mid, ready_room c.requires.ready) in
     ap (loaded_in new) c.of.ensures
     ∙ loaded_first new (region_of a 0 (place + length bytes)) refl
     ∙ ap (take (place + length bytes)) c.put_held.ensures.bytes
@@ -83,15 +75,6 @@ returns-clause-did g c =
     let v = g.M.Memory.view in
     let s = c.args.segment.now in
     let at : c.in-Ok.place ≡ length (loaded_in (v c.args.m.now) s) =
-    c.in-Ok.ensures.place ∙ next_place (v c.args.m.now) s c.arena-arena.result c.requires.ready c.arena-arena.ensures c.requires.whole
-    ∙ sym (length-loaded (v c.args.m.now) s c.requires.ready) in
+    c.in-Ok.ensures.place ∙ next_place c.requires.ready c.arena-arena.ensures c.requires.whole ∙ sym (length-loaded c.requires.ready) in
     rw (← at, ← c.arena-arena.ensures) (gave_and_put c.arena-arena.result (length c.args.bytes.now) c.in-Ok.place c.args.bytes.now c.in-Ok.ensures.did
     c.put_held.ensures.did refl)
-
-pub of-requires : goal.of-requires
-of-requires g c =
-    let v = g.M.Memory.view c.args.m.now in
-    let s = c.args.segment.now in
-    let next = next_place v s c.arena-arena.result c.requires.ready c.arena-arena.ensures c.requires.whole in
-    let small = c.requires.ready.held.small in
-    omega (arith, next, c.in-Ok.ensures.place, length-loaded v s c.requires.ready, c.requires.room, small)

@@ -1,29 +1,19 @@
-use Rattle.std.proofs.Common.{◌+◌, ◌*◌, ◌≤◌, length, arith}
-use Rattle.fm_load.specs.Held.{words_at}
 use Rattle.fm_load.proofs.Holding.{put_only, put_still}
 use Rattle.fm_load.proofs.held.put_held.Goals as goal
 
 pub returns-clause-held : goal.returns-clause-held
 returns-clause-held g c =
     let v = g.M.Memory.view in
-    let h = c.requires.held in
     let d = c.in-Ok.ensures.did in
-    let size = h.size in
-    let last = c.requires.room in
-    let fits : c.args.place + length c.args.bytes.now ≤ 8 * length (words_at (v c.args.m.now) c.args.arena) = omega arith in
-    (put_still (v c.args.m.now) (v c.put_bytes.new.m) d.own c.args.arena c.args.place c.args.bytes.now h d.makes c.in-Ok.ensures.outside
-    (c.in-Ok.ensures.alone h.by_itself) fits).held
+    (put_still (v c.args.m.now) (v c.put_bytes.new.m) d.own c.args.arena c.args.place c.args.bytes.now c.requires.held d.makes c.in-Ok.ensures.outside
+    (c.in-Ok.ensures.alone c.requires.held.by_itself) c.requires.room).held
 
 pub returns-clause-given : goal.returns-clause-given
 returns-clause-given g c =
     let v = g.M.Memory.view in
-    let h = c.requires.held in
     let d = c.in-Ok.ensures.did in
-    let size = h.size in
-    let last = c.requires.room in
-    let fits : c.args.place + length c.args.bytes.now ≤ 8 * length (words_at (v c.args.m.now) c.args.arena) = omega arith in
-    (put_still (v c.args.m.now) (v c.put_bytes.new.m) d.own c.args.arena c.args.place c.args.bytes.now h d.makes c.in-Ok.ensures.outside
-    (c.in-Ok.ensures.alone h.by_itself) fits).given_is
+    (put_still (v c.args.m.now) (v c.put_bytes.new.m) d.own c.args.arena c.args.place c.args.bytes.now c.requires.held d.makes c.in-Ok.ensures.outside
+    (c.in-Ok.ensures.alone c.requires.held.by_itself) c.requires.room).given_is
 
 pub returns-clause-elsewhere : goal.returns-clause-elsewhere
 returns-clause-elsewhere g c =

@@ -1,9 +1,8 @@
 use Rattle.std.proofs.Common.{length, ap, arith}
-use Rattle.fm_mono.specs.Shown.{view_of}
 use Rattle.fm_load.proofs.GivenBytes.{length-loaded}
 use Rattle.fm_load.proofs.loaded.load.Goals as goal
 
 pub returns-in-Ok-load_into-clause-short : goal.returns-in-Ok-load_into-clause-short
 returns-in-Ok-load_into-clause-short g c =
     let loaded = c.in-Ok-load_into.ensures in
-    omega (arith, ap length c.of.ensures, length-loaded (view_of c.load_into.new.m) c.in-Ok-load_into.segment loaded.ready, loaded.short)
+    omega (arith, ap length c.of.ensures, length-loaded loaded.ready, loaded.short)

@@ -1,9 +1,7 @@
-use Rattle.std.proofs.Common.{◌≡◌, ◌+◌, ℕ, length, take, ap, sym, subst, arith, length-append}
+use Rattle.std.proofs.Common.{◌≡◌, ◌+◌, ℕ, length, ap, sym, subst, arith, length-append}
 use Rattle.std.proofs.lemmas.List.{length-take}
 use Rattle.fm_load.specs.Held.{loaded_in}
-use Rattle.fm_load.specs.Limits.{record_file_limit}
 use Rattle.fm_load.specs.Reading.{GoesBy}
-use Rattle.fm_load.specs.Whole.{IsChunk}
 use Rattle.fm_load.proofs.Chunks.{takes_chunk}
 use Rattle.fm_load.proofs.Filling.{loads_none, push_loads}
 use Rattle.fm_load.proofs.Following.{chunk_reads}
@@ -19,37 +17,18 @@ pub returns-in-Err-push_held-clause-did : goal.returns-in-Err-push_held-clause-d
 returns-in-Err-push_held-clause-did g c = push_loads _ _ _ _ c.push_held.ensures.did c.push_held.ensures.ok c.push_held.ensures.err
 
 pub returns-in-Ok-push_held-clause-took : goal.returns-in-Ok-push_held-clause-took
-returns-in-Ok-push_held-clause-took g c =
-    let v = g.M.Memory.view in
-    let was = loaded_in (v c.args.m.now) c.args.segment.now in
-    let now = loaded_in (v c.push_held.new.m) c.push_held.new.segment in
-    let chunk = c.in-Ok.chunk in
-    let piece = take chunk.count c.read_chunk.new.bytes in
-    let told = g.F.Files.holds c.args.files.now in
-    let took = subst (λ (at : ℕ). IsChunk told c.args.name.now at piece chunk.ended) c.loaded_size-at.ensures c.in-Ok.ensures.took in
-    takes_chunk told c.args.name.now was now piece chunk.ended c.requires.even c.in-Ok-push_held.ensures.ok took
+returns-in-Ok-push_held-clause-took g c = takes_chunk c.in-Ok-push_held.ensures.ok c.loaded_size-at.ensures c.in-Ok.ensures.took
 
 pub returns-in-Ok-push_held-clause-reads : goal.returns-in-Ok-push_held-clause-reads
 returns-in-Ok-push_held-clause-reads g c =
-    let v = g.M.Memory.view in
-    let was = loaded_in (v c.args.m.now) c.args.segment.now in
-    let now = loaded_in (v c.push_held.new.m) c.push_held.new.segment in
     let chunk = c.in-Ok.chunk in
-    let at = c.loaded_size-at.result in
     let pushed = ap length c.in-Ok-push_held.ensures.ok in
-    let is : length now ≡ at + chunk.count =
+    let is : length (loaded_in (g.M.Memory.view c.push_held.new.m) c.push_held.new.segment) ≡ c.loaded_size-at.result + chunk.count =
     omega (arith, pushed, c.loaded_size-at.ensures, length-append {A = ℕ}, length-take {A = ℕ}, c.in-Ok.ensures.count, c.in-Ok.ensures.buffer) in
-    chunk_reads _ _ c.args.name.now (record_file_limit + 1) at (length was) _ _ c.in-Ok.ensures.reads c.loaded_size-at.ensures
-    (λ next goes. subst (λ (place : ℕ). GoesBy chunk.ended place next) (sym is) goes)
+    chunk_reads c.in-Ok.ensures.reads c.loaded_size-at.ensures (λ next goes. subst (λ (place : ℕ). GoesBy chunk.ended place next) (sym is) goes)
 
 pub returns-in-Err-push_held-clause-reads : goal.returns-in-Err-push_held-clause-reads
-returns-in-Err-push_held-clause-reads g c =
-    let was = loaded_in (g.M.Memory.view c.args.m.now) c.args.segment.now in
-    chunk_reads _ _ c.args.name.now (record_file_limit + 1) c.loaded_size-at.result (length was) _ (λ next. Unit {0}) c.in-Ok.ensures.reads
-    c.loaded_size-at.ensures (λ next goes. tt)
+returns-in-Err-push_held-clause-reads g c = chunk_reads c.in-Ok.ensures.reads c.loaded_size-at.ensures (λ next goes. tt)
 
 pub returns-in-Err-clause-reads : goal.returns-in-Err-clause-reads
-returns-in-Err-clause-reads g c =
-    let was = loaded_in (g.M.Memory.view c.args.m.now) c.args.segment.now in
-    chunk_reads _ _ c.args.name.now (record_file_limit + 1) c.loaded_size-at.result (length was) _ (λ next. Unit {0}) c.in-Err.ensures.reads
-    c.loaded_size-at.ensures (λ next goes. tt)
+returns-in-Err-clause-reads g c = chunk_reads c.in-Err.ensures.reads c.loaded_size-at.ensures (λ next goes. tt)

@@ -1,11 +1,9 @@
-use Rattle.std.proofs.Common.{◌+◌, ◌%◌, ℕ, length, ap, subst, ◌∙◌, arith}
+use Rattle.std.proofs.Common.{◌%◌, ℕ, length, ap, subst, ◌∙◌, arith}
 use Rattle.fm_base.specs.declared.arena_id.ArenaId.{ArenaId}
-use Rattle.fm_io.specs.Reads.{ReadsFile}
 use Rattle.fm_load.specs.Held.{IsHeld, loaded_in}
-use Rattle.fm_load.specs.Limits.{record_file_limit}
-use Rattle.fm_load.specs.Reading.{piece_limit}
 use Rattle.fm_load.proofs.Chunks.{no_bytes_from}
 use Rattle.fm_load.proofs.Filling.{loads_all, loads_nothing, loads_some}
+use Rattle.fm_load.proofs.Following.{chunk_reads}
 use Rattle.fm_load.proofs.GivenBytes.{length-loaded}
 use Rattle.fm_load.proofs.loading.load_into.Goals as goal
 
@@ -26,7 +24,7 @@ load_pieces-requires-clause-short g c = omega (arith, ap length c.none_loaded-se
 pub returns-in-Ok-load_pieces-clause-short : goal.returns-in-Ok-load_pieces-clause-short
 returns-in-Ok-load_pieces-clause-short g c =
     let pieces = c.load_pieces.ensures in
-    omega (arith, length-loaded (g.M.Memory.view c.load_pieces.new.m) c.load_pieces.new.segment pieces.ready, pieces.short)
+    omega (arith, length-loaded pieces.ready, pieces.short)
 
 pub returns-in-Ok-load_pieces-clause-did : goal.returns-in-Ok-load_pieces-clause-did
 returns-in-Ok-load_pieces-clause-did g c =
@@ -44,13 +42,7 @@ returns-clause-left g c =
     )
 
 pub returns-in-Ok-load_pieces-clause-reads : goal.returns-in-Ok-load_pieces-clause-reads
-returns-in-Ok-load_pieces-clause-reads g c =
-    let files = g.F.Files in
-    subst (λ (n : ℕ). ReadsFile (files.reads c.args.files.now) (files.reads c.load_pieces.new.files) c.args.name.now piece_limit (record_file_limit + 1) n
-    (λ next. Unit {0})) (ap length c.none_loaded-segment.ensures.none) c.load_pieces.ensures.reads
+returns-in-Ok-load_pieces-clause-reads g c = chunk_reads c.load_pieces.ensures.reads (ap length c.none_loaded-segment.ensures.none) (λ next goes. tt)
 
 pub returns-clause-reads : goal.returns-clause-reads
-returns-clause-reads g c =
-    let files = g.F.Files in
-    subst (λ (n : ℕ). ReadsFile (files.reads c.args.files.now) (files.reads c.load_pieces.new.files) c.args.name.now piece_limit (record_file_limit + 1) n
-    (λ next. Unit {0})) (ap length c.none_loaded-segment.ensures.none) c.load_pieces.ensures.reads
+returns-clause-reads g c = chunk_reads c.load_pieces.ensures.reads (ap length c.none_loaded-segment.ensures.none) (λ next goes. tt)

@@ -1,5 +1,5 @@
 use Rattle.std.proofs.Common.{ℕ, List, subst, sym}
-use Rattle.fm_options.specs.Options.{lent, texts}
+use Rattle.fm_options.specs.Options.{texts}
 use Rattle.fm_top.specs.Words.{IsThreaded, three}
 use Rattle.fm_top.proofs.Numbers.{on_none}
 use Rattle.fm_top.proofs.Requests.{no_ask}
@@ -8,13 +8,9 @@ use Rattle.fm_top.proofs.ask_words.ask_words.Goals as goal
 
 pub returns-in-Some-clause-none : goal.returns-in-Some-clause-none
 returns-in-Some-clause-none c =
-    let said = c.in-Some.said in
-    on_none c.ask_by.result
-    (no_ask (texts c.args.words.now) c.word.result.now c.args.question said.threads (lent said.words.items)
-    (of_some c.in_ok-said.field-0 said _ c.in-Some.is c.in_ok-said.ensures.found))
-    c.ask_by.ensures.none
+    on_none c.ask_by.result (no_ask c.args.question (of_some _ c.in-Some.is c.in_ok-said.ensures.found)) c.ask_by.ensures.none
 
 pub returns-in-None-clause-none : goal.returns-in-None-clause-none
 returns-in-None-clause-none c = λ threads layout text file asks.
-    of_none c.in_ok-said.field-0 c.in-None.is c.in_ok-said.ensures.none threads (three layout text file)
+    of_none c.in-None.is c.in_ok-said.ensures.none threads (three layout text file)
     (subst (λ (w : List ℕ). IsThreaded (texts c.args.words.now) w threads (three layout text file)) (sym c.word.ensures) asks)

@@ -1,6 +1,5 @@
-use Rattle.std.proofs.Common.{ℕ, List, [], ◌∷◌, codes}
+use Rattle.std.proofs.Common.{[], ◌∷◌}
 use Rattle.std.specs.Fmt.{decimal}
-use Rattle.fm_options.specs.Options.{lent, texts}
 use Rattle.fm_top.proofs.Numbers.{on_none}
 use Rattle.fm_top.proofs.Requests.{no_demo}
 use Rattle.fm_top.proofs.Threaded.{of_none, of_some}
@@ -8,12 +7,8 @@ use Rattle.fm_top.proofs.demo_words.demo_words.Goals as goal
 
 pub returns-in-Some-clause-none : goal.returns-in-Some-clause-none
 returns-in-Some-clause-none c =
-    let said = c.in-Some.said in
-    on_none c.demo_by.result
-    (no_demo (texts c.args.words.now) (codes "demo") said.threads (lent said.words.items)
-    (of_some c.in_ok-said.field-0 said _ c.in-Some.is c.in_ok-said.ensures.found))
-    c.demo_by.ensures.none
+    on_none c.demo_by.result (no_demo (of_some _ c.in-Some.is c.in_ok-said.ensures.found)) c.demo_by.ensures.none
 
 pub returns-in-None-clause-none : goal.returns-in-None-clause-none
 returns-in-None-clause-none c = λ threads count asks.
-    of_none c.in_ok-said.field-0 c.in-None.is c.in_ok-said.ensures.none threads (decimal count ∷ []) asks.threaded
+    of_none c.in-None.is c.in_ok-said.ensures.none threads (decimal count ∷ []) asks.threaded

@@ -1,10 +1,9 @@
-use Rattle.std.proofs.Common.{ap, ◌∙◌}
+use Rattle.std.proofs.Common.{◌≡◌, refl, sym, ap, ◌∙◌}
 use Rattle.std.proofs.lemmas.Result.{IfOk-weaker}
 use Rattle.fm_top.specs.Ending.{shown}
-use Rattle.fm_top.specs.Outcome.{layout_of_file}
-use Rattle.fm_top.proofs.Outcomes.{layout-whole}
-use Rattle.fm_load.specs.declared.load_fault.LoadFault.TheVariants.{Missing, PoolFull, TooLong}
-use Rattle.fm_top.proofs.Unloaded.{fault_isnt, fault_of, misses_only, failed_load, unfailed_load, layout_unloaded}
+use Rattle.fm_top.specs.Outcome.{layout_of_file, layout_outcome, layout_file_limit}
+use Rattle.fm_top.proofs.Outcomes.{layout-whole, long_layout_ends}
+use Rattle.fm_top.proofs.Unloaded.{unloaded_ends}
 use Rattle.fm_top.proofs.layout.listing_ending.Goals as goal
 
 pub returns-in-Ok-clause-outcome : goal.returns-in-Ok-clause-outcome
@@ -15,29 +14,7 @@ returns-in-Ok-clause-outcome g c =
 
 pub returns-in-Err-clause-outcome : goal.returns-in-Err-clause-outcome
 returns-in-Err-clause-outcome g c =
-    let load = c.read_whole in
-    let fault = c.in-Err.fault in
-    IfOk-weaker c.unloaded_ending.result _ _
-    (λ ending ends. layout_unloaded c.args.file.now (g.F.Files.holds c.args.files.now) fault (shown ending)
-    (λ is. load.ensures.absent (fault_of load.result fault Missing c.in-Err.is is))
-    (λ is. load.ensures.too_long (fault_of load.result fault TooLong c.in-Err.is is)) ends) c.unloaded_ending.ensures.ending
-
-pub returns-in-Err-clause-missing : goal.returns-in-Err-clause-missing
-returns-in-Err-clause-missing g c =
-    let load = c.read_whole in
-    let fault = c.in-Err.fault in
-    misses_only c.unloaded_ending.result fault _ _ _ (λ is. load.ensures.missing (fault_of load.result fault Missing c.in-Err.is is))
-    c.unloaded_ending.ensures.ending
-
-pub returns-in-Err-clause-failed : goal.returns-in-Err-clause-failed
-returns-in-Err-clause-failed g c =
-    let load = c.read_whole in
-    λ failed. load.ensures.failed (failed_load load.result c.in-Err.fault c.unloaded_ending.result c.in-Err.is c.unloaded_ending.ensures.failed failed)
-
-pub returns-in-Err-clause-quiet : goal.returns-in-Err-clause-quiet
-returns-in-Err-clause-quiet g c =
-    let load = c.read_whole in
-    λ other. load.ensures.quiet (unfailed_load load.result c.in-Err.fault c.unloaded_ending.result c.in-Err.is c.unloaded_ending.ensures.failed other)
-
-pub unloaded_ending-requires : goal.unloaded_ending-requires
-unloaded_ending-requires g c = fault_isnt c.read_whole.result c.in-Err.fault PoolFull c.read_whole.ensures.never c.in-Err.is
+    unloaded_ends (g.F.Files.holds c.args.files.now) c.args.file.now layout_file_limit c.unloaded_ending.result
+    (λ found o. o ≡ layout_outcome c.args.file.now found)
+    refl (λ bytes long. sym (long_layout_ends bytes long))
+    c.in-Err.is c.read_whole.ensures.absent c.read_whole.ensures.too_long c.unloaded_ending.ensures.ending

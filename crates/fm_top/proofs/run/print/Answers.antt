@@ -1,23 +1,14 @@
-use Rattle.std.proofs.Common.{Err, List, ℕ, ap, subst, ◌∙◌}
-use Rattle.fm_io.specs.Sink.{Appends, AppendsPrefix}
+use Rattle.std.proofs.Common.{Err, ap, ◌∙◌}
 use Rattle.fm_top.specs.Run.{printed, failed, stopped}
 use Rattle.fm_top.proofs.run.print.Goals as goal
 
 pub returns-in-Ok-clause-prints : goal.returns-in-Ok-clause-prints
-returns-in-Ok-clause-prints g c =
-    let written = g.O.Sink.written in
-    printed (subst (λ (text : List ℕ). Appends (written c.args.out.now) (written c.write_text.new.out) text)
-    (c.as_bytes.ensures.value ∙ c.as_str.ensures.value) c.in-Ok.ensures.whole)
+returns-in-Ok-clause-prints g c = printed (rw (← c.as_str.ensures.value, ← c.as_bytes.ensures.value) c.in-Ok.ensures.whole)
 
 pub returns-in-Err-Failed-clause-prints : goal.returns-in-Err-Failed-clause-prints
 returns-in-Err-Failed-clause-prints g c =
-    let written = g.O.Sink.written in
     failed (c.write_text.ensures.failed (c.in-Err-Failed.is ∙ ap Err c.in-Err-Failed.field-0-is))
-    (subst (λ (text : List ℕ). AppendsPrefix (written c.args.out.now) (written c.write_text.new.out) text)
-    (c.as_bytes.ensures.value ∙ c.as_str.ensures.value) c.write_text.ensures.prefix)
+    (rw (← c.as_str.ensures.value, ← c.as_bytes.ensures.value) c.write_text.ensures.prefix)
 
 pub returns-in-Err-Memory-clause-prints : goal.returns-in-Err-Memory-clause-prints
-returns-in-Err-Memory-clause-prints g c =
-    let written = g.O.Sink.written in
-    stopped (subst (λ (text : List ℕ). AppendsPrefix (written c.args.out.now) (written c.write_text.new.out) text)
-    (c.as_bytes.ensures.value ∙ c.as_str.ensures.value) c.write_text.ensures.prefix)
+returns-in-Err-Memory-clause-prints g c = stopped (rw (← c.as_str.ensures.value, ← c.as_bytes.ensures.value) c.write_text.ensures.prefix)

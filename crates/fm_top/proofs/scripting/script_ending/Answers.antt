@@ -1,14 +1,11 @@
-use Rattle.std.proofs.lemmas.Result.{IfOk-weaker}
-use Rattle.fm_load.specs.declared.load_fault.LoadFault.TheVariants.{Missing, TooLong}
-use Rattle.fm_top.specs.Ending.{shown}
-use Rattle.fm_top.proofs.Unloaded.{fault_of, script_unloaded}
+use Rattle.fm_top.specs.Outcome.{script_file_limit}
+use Rattle.fm_top.specs.Scripts.{ScriptEnds, no_script, long_script}
+use Rattle.fm_top.proofs.Unloaded.{unloaded_ends}
 use Rattle.fm_top.proofs.scripting.script_ending.Goals as goal
 
 pub returns-in-Err-clause-outcome : goal.returns-in-Err-clause-outcome
 returns-in-Err-clause-outcome g c =
-    let load = c.read_whole in
-    let fault = c.in-Err.fault in
-    IfOk-weaker c.unloaded_ending.result _ _
-    (λ ending ends. script_unloaded c.args.file.now (g.F.Files.holds c.args.files.now) fault (shown ending)
-    (λ is. load.ensures.absent (fault_of load.result fault Missing c.in-Err.is is))
-    (λ is. load.ensures.too_long (fault_of load.result fault TooLong c.in-Err.is is)) ends) c.unloaded_ending.ensures.ending
+    unloaded_ends (g.F.Files.holds c.args.files.now) c.args.file.now script_file_limit c.unloaded_ending.result
+    (λ found o. ScriptEnds c.args.file.now found o)
+    no_script (λ bytes long. long_script bytes long)
+    c.in-Err.is c.read_whole.ensures.absent c.read_whole.ensures.too_long c.unloaded_ending.ensures.ending

@@ -6,5 +6,5 @@ use Rattle.fm_load.proofs.loaded.Loaded.len.Goals as goal
 pub returns : goal.returns
 returns c =
     let l = c.self.inside in
-    c.size.ensures.size ∙ sym (length-loaded (view_of l.memory) l.segment c.self.invariant)
+    c.size.ensures.size ∙ sym (length-loaded c.self.invariant)
     ∙ ap length (loaded_is (view_of l.memory) l.segment ∙ c.self.view_is)
