@@ -1,4 +1,5 @@
 //! A plain Rust program that answers the same words as `fmem sum`: the peer that the tool is measured against.
+//! `read FILE` reads the file alone, and prints its size.
 use std::io::{ErrorKind, Write};
 use std::process::exit;
 
@@ -33,6 +34,11 @@ fn sum(words: &[String]) -> Option<(usize, usize, Reader, &str)> {
 }
 
 fn answer(words: &[String]) -> (i32, String) {
+    if let [command, file] = words {
+        if command == "read" {
+            return (0, format!("{}\n", std::fs::read(file).map_or(0, |bytes| bytes.len())));
+        }
+    }
     let Some((size, at, (width, value), file)) = sum(words) else { return (1, "usage\n".into()) };
     let bytes = match std::fs::read(file) {
         Ok(bytes) => bytes,
