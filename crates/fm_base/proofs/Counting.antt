@@ -3,7 +3,9 @@ use Rattle.std.proofs.Common.{◌≡◌, ◌≢◌, ℕ, ◌+◌, ◌%◌, ◌^�
 use Rattle.std.specs.Prelude.{cond, ⊤}
 use Rattle.std.proofs.lemmas.Bool.Decides.{nat_tests}
 use Rattle.std.proofs.lemmas.List.{get_or-set_same, get_or-set_other}
+use Rattle.std.specs.List.{AllByRecursion}
 use Rattle.fm_lists.specs.Among.{IsAmong, AreApart}
+use Rattle.fm_lists.proofs.Each.{all_weaker}
 use Rattle.fm_base.specs.declared.caller.Caller.{Caller}
 use Rattle.fm_base.specs.declared.arena_id.ArenaId.{ArenaId}
 use Rattle.fm_base.specs.Arenas.{State, Arena, arena_of, same_id, word_in, are_one}
@@ -131,38 +133,24 @@ counted limit s (e ∷ es) id word legal small only =
 
 -- ---- by callers
 
-total_both : (f g : Caller → ℕ) (cs : List Caller) → total (λ c. f c + g c) cs ≡ total f cs + total g cs
-total_both f g [] = refl
-total_both f g (c ∷ cs) = omega (arith, total_both f g cs)
+total_same : (f g : Caller → ℕ) (cs : List Caller) → ((c : Caller) → IsAmong c cs → g c ≡ f c) → total g cs ≡ total f cs
+total_same f g [] same = refl
+total_same f g (c ∷ cs) same = omega (arith, same c (inl refl), total_same f g cs (λ d i. same d (inr i)))
 
-total_same : (f g : Caller → ℕ) (cs : List Caller) → ((c : Caller) → f c ≡ g c) → total f cs ≡ total g cs
-total_same f g [] e = refl
-total_same f g (c ∷ cs) e = omega (arith, e c, total_same f g cs e)
+-- Where one who stands once in a list has k more, the total is k more.
+total_more : (f g : Caller → ℕ) (c : Caller) (k : ℕ) (cs : List Caller) → g c ≡ k + f c → ((d : Caller) → c ≢ d → g d ≡ f d)
+    → IsAmong c cs → AreApart cs → total g cs ≡ k + total f cs
+total_more f g c k [] more same i apart = absurd i
+total_more f g c k (d ∷ ds) more same (inl is) apart =
+    let first = subst (λ (x : Caller). g x ≡ k + f x) is more in
+    omega (arith, first, total_same f g ds (λ x i. same x (λ e. apart.0 (subst (λ (y : Caller). IsAmong y ds) (sym e ∙ is) i))))
+total_more f g c k (d ∷ ds) more same (inr i) apart =
+    let first = same d (λ e. apart.0 (subst (λ (x : Caller). IsAmong x ds) e i)) in
+    omega (arith, first, total_more f g c k ds more same i apart.1)
 
--- what one caller counts for another
-abbrev part : Caller → ℕ → Caller → ℕ
-part c k d = if are_one c d then k else 0
-
-none_of : (c : Caller) (k : ℕ) (cs : List Caller) → ¬ (IsAmong c cs) → total (part c k) cs ≡ 0
-none_of c k [] out = refl
-none_of c k (d ∷ ds) out =
-    let first : part c k d ≡ 0 = ap (λ b. if b then k else 0) (are_one-not c d (λ e. out (inl e))) in
-    omega (arith, first, none_of c k ds (λ i. out (inr i)))
-
--- Who stands once in a list counts once.
-one_of : (c : Caller) (k : ℕ) (cs : List Caller) → IsAmong c cs → AreApart cs → total (part c k) cs ≡ k
-one_of c k [] i apart = absurd i
-one_of c k (d ∷ ds) (inl is) apart =
-    let test : are_one c d ≡ true = subst (λ (x : Caller). are_one c x ≡ true) is (are_one-self c) in
-    let first : part c k d ≡ k = ap (λ b. if b then k else 0) test in
-    omega (arith, first, none_of c k ds (λ i. apart.0 (subst (λ (x : Caller). IsAmong x ds) is i)))
-one_of c k (d ∷ ds) (inr i) apart =
-    let other : c ≢ d = (λ e. apart.0 (subst (λ (x : Caller). IsAmong x ds) e i)) in
-    let first : part c k d ≡ 0 = ap (λ b. if b then k else 0) (are_one-not c d other) in
-    omega (arith, first, one_of c k ds i apart.1)
-
+-- what a caller added, where an entry stands before the others
 added_first : (id : ArenaId) (word : ℕ) (c : Caller) (e : Entry) (es : List Entry)
-    → all_added id word (made_by c (e ∷ es)) ≡ part e.caller (adds_to id word e.call) c + all_added id word (made_by c es)
+    → all_added id word (made_by c (e ∷ es)) ≡ (if are_one e.caller c then adds_to id word e.call else 0) + all_added id word (made_by c es)
 added_first id word c e es =
     elim (are_one e.caller c) as (λ b. all_added id word (cond b (e ∷ made_by c es) (made_by c es))
     ≡ (if b then adds_to id word e.call else 0) + all_added id word (made_by c es)) [
@@ -174,13 +162,25 @@ none_made : (id : ArenaId) (word : ℕ) (cs : List Caller) → total (λ c. all_
 none_made id word [] = refl
 none_made id word (c ∷ cs) = omega (arith, none_made id word cs)
 
+-- What was added is the sum of what each of these callers added, where others add nothing.
+pub added_by : (id : ArenaId) (word : ℕ) (es : List Entry) (cs : List Caller) → AreApart cs
+    → AllByRecursion (λ e. IsAmong e.caller cs ⊎ (adds_to id word e.call ≡ 0)) es → all_added id word es ≡ total (λ c. all_added id word (made_by c es)) cs
+added_by id word [] cs apart h = sym (none_made id word cs)
+added_by id word (e ∷ es) cs apart h =
+    let k = adds_to id word e.call in
+    let before : Caller → ℕ = λ c. all_added id word (made_by c es) in
+    let now : Caller → ℕ = λ c. all_added id word (made_by c (e ∷ es)) in
+    let counts : (c : Caller) (b : Bool) → are_one e.caller c ≡ b → now c ≡ (if b then k else 0) + before c =
+    λ c b t. added_first id word c e es ∙ ap (λ x. (if x then k else 0) + before c) t in
+    let one : total now cs ≡ k + total before cs = elim h.0 [
+      | inl i ↦ total_more before now e.caller k cs (counts e.caller true (are_one-self e.caller))
+          (λ d n. counts d false (are_one-not e.caller d n) ∙ omega arith) i apart
+      | inr none ↦ total_same before now cs (λ c i. added_first id word c e es
+          ∙ elim (are_one e.caller c) as (λ b. (if b then k else 0) + before c ≡ before c) [ true ↦ omega (arith, none) | false ↦ omega arith ])
+          ∙ omega (arith, none)
+    ] in
+    omega (arith, added_by id word es cs apart h.1, one)
+
 -- What was added is the sum of what each caller added.
 pub by_callers : AddsByCallers
-by_callers id word [] cs apart callers = sym (none_made id word cs)
-by_callers id word (e ∷ es) cs apart callers =
-    let k = adds_to id word e.call in
-    let rest : Caller → ℕ = λ c. all_added id word (made_by c es) in
-    let each = total_same (λ c. all_added id word (made_by c (e ∷ es))) (λ c. part e.caller k c + rest c) cs (λ c. added_first id word c e es) in
-    let both = total_both (part e.caller k) rest cs in
-    let one = one_of e.caller k cs callers.0 apart in
-    ap (λ m. k + m) (by_callers id word es cs apart callers.1) ∙ ap (λ m. m + total rest cs) (sym one) ∙ sym (each ∙ both)
+by_callers id word es cs apart callers = added_by id word es cs apart (all_weaker _ _ (λ e i. inl i) es callers)

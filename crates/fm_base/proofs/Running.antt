@@ -4,7 +4,7 @@ use Rattle.fm_base.specs.declared.caller.Caller.{Caller}
 use Rattle.fm_base.specs.declared.arena_id.ArenaId.{ArenaId}
 use Rattle.fm_base.specs.Calls.{Leave, Fine, Entry, entry_of}
 use Rattle.fm_base.specs.Visits.{Acts, entries_of, visit, Run, ends, goes_on}
-use Rattle.fm_base.specs.View.{View, Did, inside_after}
+use Rattle.fm_base.specs.View.{inside_after}
 use Rattle.fm_base.proofs.Making.{inside_after-append}
 
 module _ {X Y : Type 0} (Step : X → List Entry → X → Type 0) (Ends : X → List Entry → Y → Type 0) where
@@ -39,8 +39,3 @@ pub run_outside : {X Y : Type 0} (Step : X → List Entry → X → Type 0) (End
 run_outside Step Ends steps last x own answer (ends e) = last x own answer e
 run_outside Step Ends steps last x own answer (goes_on y first rest step run) =
     inside_after-append None first rest ∙ ap (λ i. inside_after i rest) (steps x first y step) ∙ run_outside Step Ends steps last y rest answer run
-
--- What ends outside, from outside.
-pub stays_outside : (x y : View) (P : List Entry → Type 0) → ((own : List Entry) → P own → inside_after None own ≡ None) → x.inside ≡ None → Did x y P
-    → y.inside ≡ None
-stays_outside x y P f out d = d.makes.inside ∙ ap (λ i. inside_after i d.own) out ∙ f d.own d.does

@@ -6,9 +6,9 @@ use Rattle.fm_bytes.specs.Words.{byte_of, byte_at}
 use Rattle.fm_base.specs.declared.caller.Caller.{Caller}
 use Rattle.fm_base.specs.declared.arena_id.ArenaId.{ArenaId}
 use Rattle.fm_base.specs.Arenas.{State, Arena, arena_of, no_arena, word_in}
-use Rattle.fm_base.specs.Calls.{Call, Open, Enter, Read, Write, SwapIf, Add, Allocate, Leave, Hold, Unhold, Shut, End, Lend, Back, Reply, Fine, Found, Given, Entry, entry_of}
+use Rattle.fm_base.specs.Calls.{Call, Open, Enter, Write, SwapIf, Add, Allocate, Leave, Hold, Unhold, Shut, End, Reply, Fine, Found, Given, Entry, entry_of}
 use Rattle.fm_base.specs.Machine.{MayCall, reply_to, change_of, after, opened, written, words_within}
-use Rattle.fm_base.specs.Histories.{IsLegal, state_after, DifferBelow, IsTidyIn, IsTidy, StaysBelow}
+use Rattle.fm_base.specs.Histories.{IsLegal, state_after, DifferBelow, IsTidyIn, IsTidy}
 use Rattle.fm_base.specs.Lasting.{ZeroPastGiven, GivesZeros}
 use Rattle.fm_base.proofs.Lookup.{Relates, made_lookup}
 use Rattle.fm_base.proofs.Making.{IsLegal-split}
@@ -117,23 +117,3 @@ zeros_given limit h c id size align place l t at up =
     zero_past limit h parts.0 t id at (let p = g.rounded in omega arith)
 
 -- ---- what a caller may say without the state
-
--- a call that stays below a count that was given is tidy
-pub tidy_of : (s : State) (id : ArenaId) (end : ℕ) (call : Call) → end ≤ (arena_of s id).given → StaysBelow id end call → IsTidyIn s call
-tidy_of s id end (Open a) h b = tt
-tidy_of s id end (Enter a) h b = tt
-tidy_of s id end (Read a word) h b = tt
-tidy_of s id end (Write a word value) h b = λ at l p. let e : (arena_of s a).given ≡ (arena_of s id).given = ap (λ (x : ArenaId). (arena_of s x).given) b.0 in
-    let k = b.1 in absurd (omega arith)
-tidy_of s id end (SwapIf a word old new) h b = λ is at l p. let e : (arena_of s a).given ≡ (arena_of s id).given =
-    ap (λ (x : ArenaId). (arena_of s x).given) b.0 in b.1 at l (omega arith)
-tidy_of s id end (Add a word n) h b = λ at l p. let e : (arena_of s a).given ≡ (arena_of s id).given = ap (λ (x : ArenaId). (arena_of s x).given) b.0 in
-    let k = b.1 in absurd (omega arith)
-tidy_of s id end (Allocate a size align) h b = tt
-tidy_of s id end (Leave a) h b = tt
-tidy_of s id end (Hold a) h b = tt
-tidy_of s id end (Unhold a) h b = tt
-tidy_of s id end (Shut a) h b = tt
-tidy_of s id end (End a) h b = tt
-tidy_of s id end (Lend block a part) h b = tt
-tidy_of s id end (Back block) h b = tt

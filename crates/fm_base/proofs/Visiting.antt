@@ -1,5 +1,5 @@
 -- A visit, put together from its calls.
-use Rattle.std.proofs.Common.{◌≡◌, ℕ, ◌*◌, ◌<◌, ◌≤◌, true, List, [], ◌∷◌, refl, ap, sym, ◌∙◌, subst, arith, Some, None}
+use Rattle.std.proofs.Common.{◌≡◌, ℕ, ◌*◌, ◌<◌, ◌≤◌, true, List, [], ◌∷◌, refl, ap, sym, ◌∙◌, subst, arith, Some}
 use Rattle.fm_base.specs.declared.caller.Caller.{Caller}
 use Rattle.fm_base.specs.declared.arena_id.ArenaId.{ArenaId}
 use Rattle.fm_base.specs.declared.refusal.Refusal.{Refusal}
@@ -8,10 +8,9 @@ use Rattle.std.specs.Prelude.{Ok, Err}
 use Rattle.fm_base.specs.Arenas.{has_arena, MayUse}
 use Rattle.fm_base.specs.Calls.{Call, Reply, Enter, Leave, Fine, SwapIf, Found, Entry, entry_of}
 use Rattle.fm_base.specs.View.{View, Makes, Did, given_in, inside_next, inside_after}
-use Rattle.fm_base.specs.Outcomes.{Lasts}
 use Rattle.fm_base.specs.Does.{CanReach, DoesEnter, DoesAct, DoesPatch, patched}
 use Rattle.fm_base.specs.Visits.{visit, refused_visit, Acts, entries_of, Tries, looked, missed, hit}
-use Rattle.fm_base.proofs.Making.{Makes-then, inside_after-append}
+use Rattle.fm_base.proofs.Making.{Makes-then}
 use Rattle.fm_base.proofs.Growing.{Makes-grows}
 
 -- ---- what single calls made
@@ -94,16 +93,6 @@ pub visit_of_one : (x y u v : View) (id : ArenaId) (f : ArenaId → Call) (reply
 visit_of_one x y u v id f reply stays enter act leave =
     visit_of_acts x y u v id ((f id, reply) ∷ []) stays enter (act_makes y u id y.caller f reply enter.inside refl act) leave
 
--- tries between Enter and Leave
-pub visit_of_tries : (x y u v : View) (id : ArenaId) (word : ℕ) (f : ℕ → ℕ) (found : ℕ) (acts : Acts) → Tries id word f found acts
-    → Makes x y (entry_of x.caller (Enter id) Fine ∷ []) → Makes y u (entries_of y.caller acts) → Did u v (DoesAct u.inside u.caller Leave Fine)
-    → Makes x v (visit x.caller id acts)
-visit_of_tries x y u v id word f found acts t enter act leave = visit_of_acts x y u v id acts (tries_stay id word f found x.caller acts t) enter act leave
-
--- after a visit the caller is outside
-pub visit_outside : (x y : View) (id : ArenaId) (acts : Acts) → Makes x y (visit x.caller id acts) → y.inside ≡ None
-visit_outside x y id acts m = m.inside ∙ inside_after-append (Some id) (entries_of x.caller acts) (entry_of x.caller (Leave id) Fine ∷ [])
-
 -- ---- what lasts
 
 -- an arena that is known, may be used, and has given the bytes below `end`
@@ -111,11 +100,3 @@ pub record CanUse (x : View) (id : ArenaId) (end : ℕ) : Type 0 where
   pub known : has_arena x.state id ≡ true
   pub may : MayUse id x.caller
   pub given : end ≤ given_in x id
-
--- it stays so
-pub can_use_still : (x y : View) (id : ArenaId) (end : ℕ) → Lasts x y → CanUse x id end → CanUse y id end
-can_use_still x y id end l can = record {
-  known = l.known id can.known;
-  may = rw l.caller can.may;
-  given = (let k = l.given id in let j = can.given in omega arith);
-}

@@ -1,5 +1,5 @@
 -- Arenas have all their words, and give no more bytes than they have.
-use Rattle.std.proofs.Common.{◌≡◌, ℕ, ◌+◌, ◌%◌, ◌^◌, ◌<◌, ◌≤◌, Bool, true, false, List, [], ◌∷◌, ◌==◌, if◌then◌else◌, slice_set, refl, ap, sym, ◌∙◌, subst, arith, length-set, Some}
+use Rattle.std.proofs.Common.{◌≡◌, ℕ, ◌+◌, ◌%◌, ◌^◌, ◌<◌, ◌≤◌, Bool, true, false, List, [], ◌∷◌, ◌==◌, if◌then◌else◌, slice_set, refl, ap, ◌∙◌, arith, length-set}
 use Rattle.std.proofs.lemmas.List.{length-replicate}
 use Rattle.std.proofs.lemmas.List.Elements.{All-set, All-replicate}
 use Rattle.fm_base.specs.declared.caller.Caller.{Caller}
@@ -9,7 +9,6 @@ use Rattle.fm_base.specs.Calls.{Call, Open, Enter, Write, SwapIf, Add, Allocate,
 use Rattle.fm_base.specs.Machine.{MayCall, reply_to, change_of, after, words_within}
 use Rattle.fm_base.specs.Histories.{IsLegal, IsWhole, state_after}
 use Rattle.fm_base.specs.Lasting.{StaysWhole}
-use Rattle.fm_base.specs.View.{View, IsSound, Told, IsToldOf}
 use Rattle.fm_base.proofs.Lookup.{Becomes, made_known, arena_of-none}
 use Rattle.fm_base.proofs.Growing.{given_is}
 
@@ -58,13 +57,6 @@ whole_after limit s (e ∷ es) l w id h =
 -- Arenas of a history from the start are whole.
 pub whole_always : StaysWhole
 whole_always limit h l = whole_after limit [] h l (λ id k. absurd (cc))
-
--- So are those that a memory knows whose history is told.
-pub told_whole : (v : View) (t : Told) → IsSound v → v.told ≡ Some t → (id : ArenaId) → has_arena v.state id ≡ true → IsWhole v.limit (arena_of v.state id)
-told_whole v t sound is id h =
-    let told : IsToldOf v.limit v.state v.caller (Some t) = rw is at sound.told in
-    subst (λ (s : State). IsWhole v.limit (arena_of s id)) (sym told.1)
-    (whole_always v.limit t.seen told.0 id (subst (λ (s : State). has_arena s id ≡ true) told.1 h))
 
 -- No arena gave more bytes than the limit.
 pub given_within : (limit : ℕ) (h : List Entry) → IsLegal limit [] h → (id : ArenaId) → (arena_of (state_after limit [] h) id).given ≤ limit

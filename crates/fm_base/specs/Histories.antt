@@ -2,7 +2,6 @@
 use Rattle.std.specs.Prelude.{◌≡◌, ℕ, ◌+◌, ◌*◌, ◌%◌, ◌^◌, ◌<◌, ◌≤◌, List, [], ◌∷◌, length, filter, ⊤}
 use Rattle.fm_bytes.specs.Words.{AreWords, byte_of}
 use Rattle.fm_base.specs.declared.caller.Caller.{Caller}
-use Rattle.fm_base.specs.declared.arena_id.ArenaId.{ArenaId}
 use Rattle.fm_base.specs.Arenas.{Arena, State, arena_of, word_in, are_one}
 use Rattle.fm_base.specs.Calls.{Call, Write, SwapIf, Add, Entry}
 use Rattle.fm_base.specs.Machine.{MayCall, reply_to, after, words_within}
@@ -46,10 +45,3 @@ IsTidyIn s call = ⊤
 abbrev pub IsTidy : ℕ → State → List Entry → Type 0
 IsTidy limit s [] = ⊤
 IsTidy limit s (e ∷ es) = IsTidyIn s e.call × IsTidy limit (after limit s e) es
-
--- Whatever the words are, the call changes only bytes of this arena at places below `end`
-abbrev pub StaysBelow : ArenaId → ℕ → Call → Type 0
-StaysBelow a end (Write id word value) = (id ≡ a) × (8 * word + 8 ≤ end)
-StaysBelow a end (SwapIf id word old new) = (id ≡ a) × DifferBelow end word old new
-StaysBelow a end (Add id word n) = (id ≡ a) × (8 * word + 8 ≤ end)
-StaysBelow a end call = ⊤

@@ -51,6 +51,8 @@ pub record AfterAct (old new : View) (call : ArenaId → Call) (reply : Reply) :
 pub record AfterStores (old new : View) (first : ℕ) (words : List ℕ) : Type 0 where
   pub did : DidActs old new (λ a. writes a first words)
   pub inside : new.inside ≡ old.inside
+  pub lasts : Lasts old new
+  pub sound : IsSound new
 
 -- of `patch`
 pub record AfterPatch (old new : View) (word mask bits found : ℕ) : Type 0 where

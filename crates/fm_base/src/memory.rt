@@ -60,6 +60,8 @@ pub trait Memory {
         requires { CanReachAll (view self.old) first (length words.now) }
         ensures { AfterStores (view self.old) (view self.new) first words.now }
     {
+        // Where there is no word, no store says that the memory is sound.
+        self.caller();
         for k in 0..words.len() {
             self.store(first + k as u64, words[k]);
         }

@@ -1,9 +1,10 @@
 -- Bytes of numbers and the numbers of bytes, back and forth.
-use Rattle.std.proofs.Common.{◌≡◌, ℕ, zero, suc, ◌+◌, ◌-◌, ◌*◌, ◌/◌, ◌%◌, ◌^◌, ◌<◌, ◌≤◌, List, [], ◌∷◌, ◌++◌, length, take, drop, replicate, lit<, refl, sym, ap, subst, ◌∙◌, arith}
+use Rattle.std.proofs.Common.{◌≡◌, ℕ, zero, suc, ◌+◌, ◌-◌, ◌*◌, ◌/◌, ◌%◌, ◌^◌, ◌<◌, ◌≤◌, List, [], ◌∷◌, ◌++◌, length, take, drop, get_or, replicate, lit<, refl, sym, ap, subst, ◌∙◌, arith}
 use Rattle.std.proofs.lemmas.List.{take_at, drop_at}
 use Rattle.std.proofs.lemmas.List.Elements.{All-nil, All-cons, All-head, All-tail}
 use Rattle.std.proofs.lemmas.Nat.{pow_pos, pow-add, mod_below, mod-pow-add, shr-shr, field_of, shr_high, mod_low, shr_split, shr_below, mul-add-lt}
 use Rattle.fm_bytes.specs.Bytes.{AreBytes, bytes_of, number_of, lane, replaced}
+use Rattle.fm_bytes.specs.Words.{byte_of}
 
 -- ---- widths
 
@@ -45,11 +46,14 @@ pub bytes_of-suc : (k n : ℕ) → bytes_of (suc k) n ≡ n % 256 ∷ bytes_of k
 unfolding bytes_of
 bytes_of-suc k n = refl
 
--- The bytes of 0 are 0.
-pub bytes_of-none : (k : ℕ) → bytes_of k 0 ≡ replicate k 0
+-- One of the bytes.
+pub get_or-bytes_of : (width n at : ℕ) → at < width → get_or (bytes_of width n) at 0 ≡ byte_of n at
 unfolding bytes_of
-bytes_of-none zero = refl
-bytes_of-none (suc k) = ap (λ bs. 0 ∷ bs) (bytes_of-none k)
+get_or-bytes_of zero n at h = absurd (omega arith)
+get_or-bytes_of (suc k) n zero h = omega arith
+get_or-bytes_of (suc k) n (suc at) h =
+    get_or-bytes_of k (n / 256) at (omega arith)
+    ∙ ap (λ m. m % 256) (shr-shr n 8 (8 * at) ∙ ap (λ m. n / 2 ^ m) (let e : 8 + 8 * at ≡ 8 * suc at = omega arith in e))
 
 -- The bytes of a number in two parts.
 pub bytes_of-add : (j k n : ℕ) → bytes_of (j + k) n ≡ bytes_of j n ++ bytes_of k (n / 2 ^ (8 * j))
@@ -213,12 +217,6 @@ bytes_of-replaced n at width word v fits h =
     ≡ take at (bytes_of m word) ++ (bytes_of width v ++ drop (at + width) (bytes_of m word)) in
     subst Cut (filled n at width fits) (replaced_cut at width (n - at - width) word v h)
 
--- The lane that was replaced is what was put there.
-pub lane-replaced : (word at width v : ℕ) → v < 2 ^ (8 * width) → lane (replaced word at width v) at width ≡ v
-lane-replaced word at width v h =
-    ap (λ n. n % 2 ^ (8 * width)) (replaced_parts at width word v).1
-    ∙ mod_low (word / 2 ^ (8 * (at + width))) (8 * width) v h
-
 -- What was put there last stays.
 pub replaced-replaced : (word at width v n : ℕ) → v < 2 ^ (8 * width) → replaced (replaced word at width v) at width n ≡ replaced word at width n
 replaced-replaced word at width v n h =
@@ -246,13 +244,6 @@ replaced-lane word at width =
     ≡ (hi * 2 ^ (8 * width) + lane word at width) * 2 ^ (8 * at) + word % 2 ^ (8 * at) = omega arith in e)
     ∙ ap (λ n. n * 2 ^ (8 * at) + word % 2 ^ (8 * at)) inner
     ∙ shr_split word (8 * at)
-
--- All bytes replaced leave just what was put there.
-pub replaced-whole : (word width v : ℕ) → word < 2 ^ (8 * width) → replaced word 0 width v ≡ v
-replaced-whole word width v h =
-    let e : 8 * (0 + width) ≡ 8 * width = omega arith in
-    let none : word / 2 ^ (8 * (0 + width)) ≡ 0 = rw e (let d : word / 2 ^ (8 * width) ≡ 0 = grind arith in d) in
-    rw none (omega arith)
 
 -- Two numbers side by side fit the two widths together.
 pub side_by_side-lt : (hi lo j k : ℕ) → hi < 2 ^ k → lo < 2 ^ j → hi * 2 ^ j + lo < 2 ^ (j + k)

@@ -1,6 +1,6 @@
--- Two's complement back and forth, and that it is the library's at the widths of Rust's integers.
+-- Two's complement back and forth, and that it is the library's at eight bytes.
 use Rattle.std.proofs.Common.{◌≡◌, ℕ, suc, ◌-◌, ◌*◌, ◌^◌, ◌<◌, ◌≤◌, refl, sym, ap, subst, ◌∙◌, arith, inl, inr, ℤ, pos, negsuc}
-use Rattle.std.specs.Int.{w8, w16, w32, w64, cast_signed, cast_unsigned}
+use Rattle.std.specs.Int.{w64, cast_unsigned}
 use Rattle.std.proofs.lemmas.Bool.{cases_lt, cond-true, cond-false, lt-ltb, le-ltb}
 use Rattle.std.proofs.lemmas.Nat.{pow_pos}
 use Rattle.std.proofs.Math.Nat.{pow-succ'}
@@ -50,31 +50,7 @@ FitsBytes-signed_of width n h f = elim (cases_lt n (2 ^ (8 * width - 1))) [
       subst (FitsBytes width) (sym (signed_of-high width n high)) small
 ]
 
--- The library's words at one, two, four and eight bytes.
-pub signed_of-one : (n : ℕ) → signed_of 1 n ≡ cast_signed w8 n
-signed_of-one n = refl
-
-pub signed_of-two : (n : ℕ) → signed_of 2 n ≡ cast_signed w16 n
-signed_of-two n = refl
-
-pub signed_of-four : (n : ℕ) → signed_of 4 n ≡ cast_signed w32 n
-signed_of-four n = refl
-
-pub signed_of-eight : (n : ℕ) → signed_of 8 n ≡ cast_signed w64 n
-signed_of-eight n = refl
-
-pub unsigned_of-one : (z : ℤ) → unsigned_of 1 z ≡ cast_unsigned w8 z
-unsigned_of-one (pos n) = refl
-unsigned_of-one (negsuc n) = refl
-
-pub unsigned_of-two : (z : ℤ) → unsigned_of 2 z ≡ cast_unsigned w16 z
-unsigned_of-two (pos n) = refl
-unsigned_of-two (negsuc n) = refl
-
-pub unsigned_of-four : (z : ℤ) → unsigned_of 4 z ≡ cast_unsigned w32 z
-unsigned_of-four (pos n) = refl
-unsigned_of-four (negsuc n) = refl
-
+-- The library's word at eight bytes.
 pub unsigned_of-eight : (z : ℤ) → unsigned_of 8 z ≡ cast_unsigned w64 z
 unsigned_of-eight (pos n) = refl
 unsigned_of-eight (negsuc n) = refl

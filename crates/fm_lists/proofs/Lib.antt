@@ -1,4 +1,3 @@
 pub mod Among
 pub mod Each
 pub mod Mapped
-pub mod Taken

@@ -10,8 +10,9 @@ use Rattle.fm_base.specs.View.{Makes}
 use Rattle.fm_base.specs.Visits.{entries_of, writes}
 use Rattle.fm_base.proofs.Lookup.{KeepsName, changed_has, lookup_changed, changed_twice, changed_same}
 use Rattle.fm_base.proofs.Making.{Makes-then, Makes-none}
+use Rattle.fm_base.proofs.Outcomes.{Makes-lasts}
 use Rattle.fm_mono.specs.Shown.{Arenas, view_of}
-use Rattle.fm_mono.proofs.Alone.{makes_one}
+use Rattle.fm_mono.proofs.Alone.{makes_one, sound_of}
 use Rattle.fm_mono.proofs.Steps.{written_all}
 
 -- inside an arena that is known, which has so many words from this index on
@@ -48,9 +49,13 @@ stores_all (v ∷ vs) m a first c fits =
     (rw twice at rest)
 
 -- what the caller learns where these words were put
-pub after_stores : (m n : Arenas) (a : ArenaId) (first : ℕ) (vs : List ℕ) → m.inside ≡ Some a → CanStore m a first (length vs)
+pub after_stores : (m n : Arenas) (a : ArenaId) (first : ℕ) (vs : List ℕ) → m.limit ≤ 2 ^ 40 → m.inside ≡ Some a → CanStore m a first (length vs)
     → ((i : ℕ) → get_or vs i 0 < 2 ^ 64) → n ≡ record m { state = changed m.state a (written_all first vs) } → AfterStores (view_of m) (view_of n) first vs
-after_stores m n a first vs i c fits e = rw e (record {
-  did = record { own = entries_of only_caller (writes a first vs); does = rw i refl; makes = stores_all vs m a first c fits };
-  inside = refl;
-})
+after_stores m n a first vs small i c fits e = rw e (
+    let makes = stores_all vs m a first c fits in
+    record {
+      did = record { own = entries_of only_caller (writes a first vs); does = rw i refl; makes = makes };
+      inside = refl;
+      lasts = Makes-lasts _ _ _ makes;
+      sound = sound_of _ small;
+    })

@@ -1,6 +1,6 @@
 -- Whole calls of the only caller.
-use Rattle.std.proofs.Common.{◌≡◌, ℕ, ◌+◌, true, List, [], ◌∷◌, refl, sym, ap, ◌∙◌, arith, Some, Result, Ok, Err, inl, inr, not}
-use Rattle.std.specs.Prelude.{filter, IfOk}
+use Rattle.std.proofs.Common.{◌≡◌, ℕ, ◌+◌, true, List, [], ◌∷◌, refl, sym, ap, ◌∙◌, arith, Some, Result, Ok, Err, not}
+use Rattle.std.specs.Prelude.{filter}
 use Rattle.fm_base.specs.declared.caller.Caller.{Caller}
 use Rattle.fm_base.specs.declared.arena_id.ArenaId.{ArenaId}
 use Rattle.fm_base.specs.declared.refusal.Refusal.{Refusal}
@@ -13,9 +13,7 @@ use Rattle.fm_base.specs.Visits.{visit, refused_visit}
 use Rattle.fm_base.specs.View.{Makes, Did, but_loans}
 use Rattle.fm_base.specs.Does.{DoesAllocate}
 use Rattle.fm_base.proofs.Lookup.{KeepsName, changed_has, lookup_changed, changed_twice, changed_alike, changed_same}
-use Rattle.fm_base.specs.Outcomes.{Gives}
 use Rattle.fm_base.proofs.Making.{Makes-then, Makes-none}
-use Rattle.fm_base.proofs.Outcomes.{allocated_gives}
 use Rattle.fm_mono.specs.Shown.{Arenas, view_of, CanEnter, Allots}
 use Rattle.fm_mono.proofs.Alone.{makes_one}
 
@@ -105,14 +103,6 @@ module _ (m : Arenas) (a : ArenaId) (c : CanEnter m a) (alive : (arena_of m.stat
   }
   allocates n size align (Err refusal.Memory) power h = record { own = []; does = (power, c.may, refl); makes = rw h (Makes-none (view_of m)) }
   allocates n size align (Err r) power h = absurd h
-
--- bytes that an `allocate` gave
-pub allocates_gives : (m n : Arenas) (a : ArenaId) (c : CanEnter m a) (alive : (arena_of m.state a).life ≡ Alive) (size align : ℕ) (r : Result ℕ Refusal)
-    → IsPower align → Allots m a size align r n
-    → IfOk r (λ place. Gives (view_of m) (view_of n) a size align place)
-allocates_gives m n a c alive size align (Ok place) power h =
-    allocated_gives (view_of m) (view_of n) _ only_caller a size align place (visit_given m a c alive n size align place power h.0 h.1) (inr (inl refl))
-allocates_gives m n a c alive size align (Err r) power h = tt
 
 -- ---- close
 

@@ -98,7 +98,10 @@ impl Mono {
         requires outside { self.old.inside ≡ None }
         requires known { has_arena self.old.state a ≡ true }
         requires alive { (arena_of self.old.state a).life ≡ Alive }
-        ensures { self.new ≡ record self.old { state = changed self.old.state a (entered only_caller); inside = Some a } }
+        ensures { self.new ≡ record self.old {
+          state = changed self.old.state a (entered only_caller);
+          inside = Some a;
+        } }
     {
         self.current = a.slot as usize;
         self.is_inside = true;

@@ -76,6 +76,24 @@ fn words_of_one_arena(rt: HostRuntime) {
     m.leave();
 }
 
+#[test]
+fn many_words_in_one_call(rt: HostRuntime) {
+    let mut m = Mono::make(rt.alloc(), 32);
+    let a = open(&rt, &mut m, Kind::Shared);
+    assert_eq!(rt; m.allocate(&rt, a, 32, 8), Ok(0));
+    assert_eq!(rt; m.enter(a), Ok(()));
+    m.store(3, 4);
+    m.store_words(0, &[7, u64::MAX, 9]);
+    assert_eq!(rt; m.load(0), 7);
+    assert_eq!(rt; m.load(1), u64::MAX);
+    assert_eq!(rt; m.load(2), 9);
+    assert_eq!(rt; m.load(3), 4);
+    m.store_words(4, &[]);
+    m.leave();
+    assert_eq!(rt; end(&rt, &mut m, a), Ok(()));
+    assert_eq!(rt; m.enter(a), Err(Refusal::Closed));
+}
+
 /// Opens an arena and closes it twice.
 fn closed_twice<R: Abort + Wait>(
     rt: &R,

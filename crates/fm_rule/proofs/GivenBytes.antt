@@ -1,44 +1,23 @@
 -- The bytes of an arena stand in the words of its slot.
-use Rattle.std.proofs.Common.{◌≡◌, ◌≢◌, Some, None, ℕ, ◌+◌, ◌*◌, ◌/◌, ◌%◌, ◌<◌, ◌≤◌, List, [], ◌∷◌, ◌++◌, length, take, drop, get_or, refl, sym, ap, ◌∙◌, subst, arith, mul_assoc}
+use Rattle.std.proofs.Common.{◌≡◌, ◌≢◌, Some, None, ℕ, ◌+◌, ◌*◌, ◌/◌, ◌%◌, ◌<◌, ◌≤◌, List, [], ◌∷◌, ◌++◌, length, take, get_or, sym, ap, ◌∙◌, subst, arith, mul_assoc}
 use Rattle.fm_words.specs.Places.{at, page_word, pages_from, session, given as given_place}
 use Rattle.fm_pool_steps.proofs.Bearing.{shown_alive, shown_unalive}
 use Rattle.fm_pool_facts.specs.Words.{alive_holds}
 use Rattle.fm_rule.proofs.Knowing.{cell_from}
 use Rattle.fm_words.specs.Shapes.{IsValid}
-use Rattle.std.proofs.lemmas.List.{take_more, get_or-take, get_or-drop}
+use Rattle.std.proofs.lemmas.List.{take_more}
 use Rattle.fm_words.specs.declared.shape.Shape.{Shape}
 use Rattle.fm_base.specs.declared.arena_id.ArenaId.{ArenaId}
 use Rattle.fm_base.specs.Arenas.{Alive, Ended, arena_of}
 use Rattle.fm_base.specs.Histories.{IsWhole}
 use Rattle.fm_base.proofs.Growing.{there_by_life}
 use Rattle.fm_base.proofs.Wholeness.{whole_always}
-use Rattle.fm_bytes.specs.Bytes.{bytes_of}
 use Rattle.fm_bytes.specs.Words.{bytes_in, byte_of}
-use Rattle.fm_bytes.proofs.Words.{length-bytes_in, bytes_in-lane}
+use Rattle.fm_bytes.proofs.Words.{length-bytes_in, get_or-bytes_in}
 use Rattle.fm_pool_facts.specs.Views.{Fits, span, limit_of}
 use Rattle.fm_pool_facts.specs.Facts.{cell_at}
 use Rattle.fm_rule.specs.Finishing.{FinishedView, IsFinished}
 use Rattle.fm_rule.specs.GivenBytes.{HasBytes, given_bytes, state_of}
-
-first_byte : (n : ℕ) → get_or (bytes_of 1 n) 0 0 ≡ n % 256
-unfolding bytes_of
-first_byte n = refl
-
--- the byte at a place of words
-byte_in : (words : List ℕ) (k : ℕ) → k / 8 < length words → get_or (bytes_in words) k 0 ≡ byte_of (get_or words (k / 8) 0) (k % 8)
-byte_in words k below =
-    let w : ℕ = k / 8 in
-    let at : ℕ = k % 8 in
-    let place : 8 * w + at ≡ k = omega arith in
-    let short : at + 1 ≤ 8 = omega arith in
-    let twice : byte_of (get_or words w 0) at % 256 ≡ byte_of (get_or words w 0) at = omega arith in
-    let last : k + 0 ≡ k = omega arith in
-    ap (λ n. get_or (bytes_in words) n 0) (sym last)
-    ∙ sym (get_or-drop k (bytes_in words) 0 0)
-    ∙ sym (get_or-take 1 (drop k (bytes_in words)) 0 0 (omega arith))
-    ∙ ap (λ n. get_or (take 1 (drop n (bytes_in words))) 0 0) (sym place)
-    ∙ ap (λ bs. get_or bs 0 0) (bytes_in-lane words w at 1 below short)
-    ∙ first_byte (byte_of (get_or words w 0) at) ∙ twice
 
 module _ (f : FinishedView) (i : IsFinished f) (a : ArenaId) (has : HasBytes f a) where
   whole : IsWhole (limit_of f.shape) (arena_of (state_of f) a)
@@ -68,7 +47,7 @@ module _ (f : FinishedView) (i : IsFinished f) (a : ArenaId) (has : HasBytes f a
       let all = length-bytes_in words in
       let there : k < length (bytes_in words) = omega arith in
       let byte : get_or (bytes_in words) k 0 ≡ b =
-      byte_in words k below ∙ (ap (λ w. byte_of w (k % 8)) (has.shows.word (k / 8) low) ∙ sym is) in
+      get_or-bytes_in words k below ∙ (ap (λ w. byte_of w (k % 8)) (has.shows.word (k / 8) low) ∙ sym is) in
       sym (take_more (bytes_in words) k 0 there ∙ ap (λ x. take k (bytes_in words) ++ x ∷ []) byte)
 
 -- where the words of a slot begin, by pages

@@ -1,11 +1,11 @@
-use Rattle.std.proofs.Common.{arith, sym, subst, length, get_or}
+use Rattle.std.proofs.Common.{arith, sym, subst, length}
 use Rattle.std.proofs.lemmas.List.{length-take-le, take_all, take_more}
 use Rattle.fm_base.specs.Learnt.{AfterStores}
-use Rattle.fm_base.proofs.Storing.{IsStoring, store_starts, store_reaches, store_more, stored}
+use Rattle.fm_base.proofs.Storing.{stores_none, stores_one, store_reaches, stores_more}
 use Rattle.fm_base.proofs.memory.Memory.store_words.Goals as goal
 
 pub loop-k-init : goal.loop-k-init
-loop-k-init g c = store_starts c.args.first (length c.args.words.now) c.requires
+loop-k-init g c = stores_none c.args.first (length c.args.words.now) c.caller.ensures.sound c.requires
 
 pub overflow_add-first : goal.overflow_add-first
 overflow_add-first g c = let below = c.loop-k-test.true in let small = c.requires.small in omega arith
@@ -21,11 +21,10 @@ loop-k-preserved g c =
     let v = g.Self.Memory.view in
     let words = c.args.words.now in
     let below = c.loop-k-test.true in
-    subst (λ ws. IsStoring (v c.args.self.now) (v c.store.new.self) c.args.first ws) (sym (take_more words c.loop-k.k 0 below))
-    (store_more c.loop-k.invariant c.loop-k.k (length-take-le c.loop-k.k words (omega arith)) (v c.store.new.self) (get_or words c.loop-k.k 0) c.store.ensures)
+    subst (λ ws. AfterStores (v c.args.self.now) (v c.store.new.self) c.args.first ws) (sym (take_more words c.loop-k.k 0 below))
+    (stores_more c.loop-k.invariant c.loop-k.k (length-take-le c.loop-k.k words (omega arith)) _ (stores_one _ _ c.store.ensures))
 
 pub returns : goal.returns
 returns g c =
     let v = g.Self.Memory.view in
-    subst (λ ws. AfterStores (v c.args.self.now) (v c.loop-k.self) c.args.first ws) (take_all c.loop-k.k c.args.words.now c.loop-k-test.false)
-    (stored c.loop-k.invariant)
+    subst (λ ws. AfterStores (v c.args.self.now) (v c.loop-k.self) c.args.first ws) (take_all c.loop-k.k c.args.words.now c.loop-k-test.false) c.loop-k.invariant

@@ -62,6 +62,6 @@ returns c =
     let e = spliced o words c.deref_mut.result.now us c.args.first c.deref_mut.ensures.value c.copy_from_slice.ensures.after h.1 in
     let o' = record o { words = with_items o.words (parts words c.deref_mut.result.now us c.args.first) } in
     let after = (put_kept f.limit f.is_inside f.current f.arenas.items c.args.first words o o' c.self.invariant h.0 h.1 refl refl refl e).0 in
-    rw (← c.self.view_is) (after_stores (seen_of f.limit (entered_of f) f.arenas.items) _ h.0.id c.args.first words h.0.inside_is
+    rw (← c.self.view_is) (after_stores (seen_of f.limit (entered_of f) f.arenas.items) _ h.0.id c.args.first words c.self.invariant.arenas.small h.0.inside_is
     (record { known = known_shown h.0 c.self.invariant.arenas.names; under_way = way_shown h.0; within = within_shown h.0 (c.args.first + length words) h.1 })
     (λ i. (c.type_inv.words i).fits) after)
