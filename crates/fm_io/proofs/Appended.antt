@@ -5,7 +5,7 @@ use Rattle.std.proofs.Math.Seq.{take-add, take-length}
 use Rattle.fm_io.specs.Sink.{Appends}
 
 -- what was appended in two pieces was appended
-Appends-append : (old mid new : Option (List ℕ)) (xs ys : List ℕ) → Appends old mid xs → Appends mid new ys → Appends old new (xs ++ ys)
+pub Appends-append : (old mid new : Option (List ℕ)) (xs ys : List ℕ) → Appends old mid xs → Appends mid new ys → Appends old new (xs ++ ys)
 Appends-append None mid new xs ys first second = second ∙ ap (option_map (λ written. written ++ ys)) first
 Appends-append (Some w) mid new xs ys first second =
     second ∙ ap (option_map (λ written. written ++ ys)) first ∙ ap Some (append_assoc w xs ys)

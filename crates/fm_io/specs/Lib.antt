@@ -5,3 +5,4 @@ pub mod Host
 pub mod InMemory
 pub mod Reads
 pub mod Sink
+pub mod Sending

@@ -1,7 +1,7 @@
 use crate::host_system::read_uninterrupted;
 use crate::{
     Fault, Files, FreeGate, Gate, HostFiles, HostSink, HostSystem, MemFiles, MemSink, Piece,
-    ReadFault, Sink, SureFiles, SureSink, fill, write_text,
+    ReadFault, Sink, SureFiles, SureSink, fill, send_piece, send_rest, write_text,
 };
 use std::alloc::{AllocError, Global};
 use std::fs::{self, File};
@@ -259,5 +259,23 @@ fn a_file_that_is_replaced_is_read_on(rt: HostRuntime) -> Result<(), Fail> {
 fn a_host_sink_that_takes_nothing_fails(rt: HostRuntime) -> Result<(), Fail> {
     let mut full = HostSink::new(File::create(&rt, "/dev/full")?);
     assert_eq!(rt; full.write(TEXT), Err(Fault::Failed));
+    Ok(())
+}
+
+#[test]
+fn a_long_text_is_sent_in_pieces(rt: HostRuntime) -> Result<(), Fail> {
+    let mut out = sink(rt.alloc(), &[1])?;
+    let mut text = String::from_str(rt.alloc(), "short")?;
+    assert_eq!(rt; send_piece(&mut out, &mut text), Ok(()));
+    assert_eq!(rt; (out.written().len(), text.as_str()), (0, "short"));
+
+    text.push_str(&" ".repeat(rt.alloc(), 70_000)?)?;
+    assert_eq!(rt; send_piece(&mut out, &mut text), Ok(()));
+    assert_eq!(rt; (out.written().len(), text.as_str()), (70_005, ""));
+
+    text.push('.')?;
+    assert_eq!(rt; send_rest(&mut out, &mut text), Err(Fault::Failed));
+    assert_eq!(rt; send_rest(&mut out, &mut text), Ok(()));
+    assert_eq!(rt; (out.written().len(), text.as_str()), (70_006, ""));
     Ok(())
 }
