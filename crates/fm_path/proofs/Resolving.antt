@@ -16,15 +16,10 @@ use Rattle.fm_path.specs.declared.value_spec.ValueSpec.{ValueSpec}
 use Rattle.fm_path_meaning.specs.Walk.{offset_at}
 use Rattle.fm_path.specs.Resolution.{resolution, StaysInside, StandsAligned, IsSpecOf, IsResolved}
 
--- a value layout is as large as its kind is wide
-spec_size : (u : Tree) (v : ValueSpec) → IsSpecOf u v → width_of v.kind ≡ size_of u
-spec_size (Value k o l) v s = ap width_of s.0
-spec_size u v s = absurd s
-
--- a value layout's alignment
-spec_alignment : (u : Tree) (v : ValueSpec) → IsSpecOf u v → v.alignment ≡ alignment_of u
-spec_alignment (Value k o l) v s = s.2
-spec_alignment u v s = absurd s
+-- a value layout is as large as its kind is wide, and this is its alignment
+spec_is : (u : Tree) (v : ValueSpec) → IsSpecOf u v → (width_of v.kind ≡ size_of u) × (v.alignment ≡ alignment_of u)
+spec_is (Value k o l) v s = (ap width_of s.0, s.2)
+spec_is u v s = absurd s
 
 -- a layout's size is within the limit
 pub size_small : (t : Tree) → IsWellFormed t → size_of t ≤ 2 ^ 40
@@ -38,10 +33,10 @@ stands_aligned at n m a b e d h = rw (e, d) (record { power = is_power_of_two-Is
 pub stays_inside : (path : List PathStep) (t : Tree) (offset : ℕ) (dims : List Dim) (u : Tree) (v : ValueSpec) (n a : ℕ) → IsWellFormed t
     → LeadsTo path t offset dims u → IsSpecOf u v → n ≡ size_of t → a ≡ alignment_of t → StaysInside (resolution offset dims v n a)
 stays_inside path t offset dims u v n a well l s e d = record {
-  aligned = λ is h. stands_aligned (offset_at offset dims is) v.alignment a (alignment_of u) (alignment_of t) (spec_alignment u v s) d
+  aligned = λ is h. stands_aligned (offset_at offset dims is) v.alignment a (alignment_of u) (alignment_of t) (spec_is u v s).1 d
       (leads_aligned path t offset dims u well l is h);
   steady = λ is h. leads_steady path t offset dims u well l is h;
-  inside = λ is h. omega (arith, leads_inside path t offset dims u well l is h, spec_size u v s, e);
+  inside = λ is h. omega (arith, leads_inside path t offset dims u well l is h, (spec_is u v s).0, e);
   small = omega (arith, e, size_small t well);
   power = (let p = (fit_of t well).power in (p.0, d ∙ p.1));
 }

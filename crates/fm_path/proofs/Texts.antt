@@ -1,30 +1,25 @@
 -- The text of a group's values is that of its members, one after the other.
-use Rattle.std.proofs.Common.{◌≡◌, refl, sym, ap, ℕ, zero, suc, ◌+◌, ◌*◌, ◌^◌, ◌<◌, ◌≤◌, Option, Some, None, List, [], ◌++◌, length, arith, ◌∙◌}
+use Rattle.std.proofs.Common.{◌≡◌, sym, ap, ℕ, zero, suc, ◌+◌, ◌*◌, ◌^◌, ◌<◌, ◌≤◌, Some, None, List, ◌++◌, length, arith, ◌∙◌}
 use Rattle.std.proofs.lemmas.List.{append_assoc, append-nil}
 use Rattle.fm_layout.specs.Tree.{Tree, Trees, Sequence, Struct, Union, NoMore, More}
 use Rattle.fm_layout.specs.Size.{member_offset}
-use Rattle.fm_layout.specs.Parts.{tree_at, count_of, member_of, element_of}
+use Rattle.fm_layout.specs.Parts.{tree_at, member_of, element_of}
 use Rattle.fm_layout.specs.WellFormed.{IsWellFormed}
 use Rattle.fm_layout.specs.Depth.{depth, deepest}
 use Rattle.fm_path_text.specs.Grammar.{piece_of}
 use Rattle.fm_path_meaning.specs.Follow.{members_of, count_in}
-use Rattle.fm_path_meaning.proofs.Members.{skip, skip_none, skip_more, skip_past, skip_all, offset_more, offset_fits, offset_none}
+use Rattle.fm_path_meaning.proofs.Members.{skip_none, members_from, from_more, from_past, none_past, offset_more, offset_fits, offset_none}
 use Rattle.fm_path.specs.Listing.{step_to}
 use Rattle.fm_path.specs.Listed.{listed, listed_members, extent_of}
 
--- the text of the members from index i on
-abbrev pub text_past : List ℕ → ℕ → List ℕ → Tree → ℕ → Option Trees → List ℕ
-text_past path at dims t i None = []
-text_past path at dims t i (Some ms) = listed_members path at dims t i (skip i ms)
-
 -- the text so far, and then that of the members left, is the whole
 pub record IsListing (before text path : List ℕ) (at : ℕ) (dims : List ℕ) (t : Tree) (i inner : ℕ) : Type 0 where
-  pub rest : text ++ text_past path at dims t i (members_of t) ≡ before ++ listed path at dims t
+  pub rest : text ++ listed_members path at dims t i (members_from i t) ≡ before ++ listed path at dims t
   pub offset : inner ≡ at + member_offset i t
 
--- before the first member the text left is all
+-- the text of all members is the whole
 starts : (path : List ℕ) (at : ℕ) (dims : List ℕ) (t : Tree) (count : ℕ) → Some count ≡ count_in (members_of t)
-    → text_past path at dims t 0 (members_of t) ≡ listed path at dims t
+    → listed_members path at dims t 0 (members_from 0 t) ≡ listed path at dims t
 starts path at dims (Struct ms l) count e = ap (listed_members path at dims (Struct ms l) 0) (skip_none ms)
 starts path at dims (Union ms l) count e = ap (listed_members path at dims (Union ms l) 0) (skip_none ms)
 starts path at dims t count e = absurd (cc)
@@ -37,14 +32,6 @@ list_start before path at dims t count e = record {
   offset = omega (arith, offset_none t);
 }
 
--- the text left is that of the next member, and then of those behind it
-goes_on : (path : List ℕ) (at : ℕ) (dims : List ℕ) (t u : Tree) (i : ℕ) → member_of i t ≡ Some u
-    → text_past path at dims t i (members_of t) ≡ listed (path ++ piece_of (step_to t i u)) (at + member_offset i t) dims u ++ text_past path at dims t
-    (i + 1) (members_of t)
-goes_on path at dims (Struct ms l) u i e = ap (listed_members path at dims (Struct ms l) i) (skip_more i ms u e)
-goes_on path at dims (Union ms l) u i e = ap (listed_members path at dims (Union ms l) i) (skip_more i ms u e)
-goes_on path at dims t u i e = absurd (cc)
-
 -- the next member stands behind this one
 offset_on : (t u : Tree) (i : ℕ) → IsWellFormed t → member_of i t ≡ Some u → member_offset (i + 1) t ≡ member_offset i t + extent_of t u
 offset_on (Struct ms l) u i w e = (offset_more (Struct ms l) i u tt w e).0
@@ -56,39 +43,20 @@ pub list_more : (before text next path to : List ℕ) (at : ℕ) (dims : List �
     → IsWellFormed t → IsListing before text path at dims t i inner → member_of i t ≡ Some u → to ≡ path ++ piece_of (step_to t i u)
     → next ≡ text ++ listed to inner dims u → extent ≡ extent_of t u → IsListing before next path at dims t (i + 1) (inner + extent)
 list_more before text next path to at dims t u i inner extent w s e et en ee = record {
-  rest = simp (en, et, s.offset, append_assoc) (ap (λ x. text ++ x) (sym (goes_on path at dims t u i e)) ∙ s.rest);
+  rest = simp (en, et, s.offset, append_assoc) (ap (λ ms. text ++ listed_members path at dims t i ms) (sym (from_more i t u e)) ∙ s.rest);
   offset = omega (arith, s.offset, ee, offset_on t u i w e);
 }
-
--- past the last member no text is left
-past_end : (path : List ℕ) (at : ℕ) (dims : List ℕ) (t : Tree) (i : ℕ) → member_of i t ≡ None → text_past path at dims t i (members_of t) ≡ []
-past_end path at dims (Struct ms l) i e = ap (listed_members path at dims (Struct ms l) i) (skip_past i ms e)
-past_end path at dims (Union ms l) i e = ap (listed_members path at dims (Union ms l) i) (skip_past i ms e)
-past_end path at dims t i e = refl
-
--- behind all members no text is left
-past_all : (path : List ℕ) (at : ℕ) (dims : List ℕ) (t : Tree) (i count : ℕ) → Some count ≡ count_in (members_of t) → count ≤ i
-    → text_past path at dims t i (members_of t) ≡ []
-past_all path at dims (Struct ms l) i count e le =
-    let c : count_of ms ≡ count = cc in ap (listed_members path at dims (Struct ms l) i) (skip_all i ms (omega arith))
-past_all path at dims (Union ms l) i count e le =
-    let c : count_of ms ≡ count = cc in ap (listed_members path at dims (Union ms l) i) (skip_all i ms (omega arith))
-past_all path at dims t i count e le = refl
-
--- where no text is left, all was listed
-ended : (before text path : List ℕ) (at : ℕ) (dims : List ℕ) (t : Tree) (i inner : ℕ) → IsListing before text path at dims t i inner
-    → text_past path at dims t i (members_of t) ≡ [] → text ≡ before ++ listed path at dims t
-ended before text path at dims t i inner s e = sym (append-nil text) ∙ ap (λ x. text ++ x) (sym e) ∙ s.rest
 
 -- no member is left
 pub list_past : (before text path : List ℕ) (at : ℕ) (dims : List ℕ) (t : Tree) (i inner : ℕ) → IsListing before text path at dims t i inner
     → member_of i t ≡ None → text ≡ before ++ listed path at dims t
-list_past before text path at dims t i inner s e = ended before text path at dims t i inner s (past_end path at dims t i e)
+list_past before text path at dims t i inner s e =
+    sym (append-nil text) ∙ ap (λ ms. text ++ listed_members path at dims t i ms) (sym (from_past i t e)) ∙ s.rest
 
 -- behind all members all was listed
 pub list_end : (before text path : List ℕ) (at : ℕ) (dims : List ℕ) (t : Tree) (i inner count : ℕ) → IsListing before text path at dims t i inner
     → Some count ≡ count_in (members_of t) → count ≤ i → text ≡ before ++ listed path at dims t
-list_end before text path at dims t i inner count s e le = ended before text path at dims t i inner s (past_all path at dims t i count e le)
+list_end before text path at dims t i inner count s e le = list_past before text path at dims t i inner s (none_past i count t (sym e) le)
 
 -- a member is less deep than its group, an element than its sequence
 deep_in : (i : ℕ) (ms : Trees) (u : Tree) → tree_at i ms ≡ Some u → depth u ≤ deepest ms

@@ -1,4 +1,3 @@
-pub mod Gives
 pub mod Laws
 pub mod Listed
 pub mod Listing

@@ -5,7 +5,7 @@ ghost use Rattle.fm_path_meaning.specs.Follow.{members_of, count_in};
 ghost use Rattle.fm_path_text.specs.Grammar.{piece_of};
 ghost use Rattle.fm_layout.specs.Tree.{name_of};
 ghost use Rattle.fm_path.specs.Listing.{value_text, list_text};
-ghost use Rattle.fm_path.specs.Listed.{Adds, Goes, shown, longer_dims, listed, extent_of};
+ghost use Rattle.fm_path.specs.Listed.{Adds, Goes, shown, listed, extent_of};
 ghost use Rattle.fm_path.specs.Noted.{is_new, Notes, step_by};
 
 use fm_base::Refusal;
@@ -25,9 +25,7 @@ pub fn list_places(alloc: Global, layout: &Layout) -> Result<String, Refusal>
 {
     let size = layout.size();
     let alignment = layout.alignment();
-    let Ok(mut text) = format!(in alloc; "size {size}\nalignment {alignment}\n") else {
-        return Err(Refusal::Memory);
-    };
+    let mut text = format!(in alloc; "size {size}\nalignment {alignment}\n")?;
     list(alloc, &mut text, "", 0, "", layout)?;
     Ok(text)
 }
@@ -50,8 +48,9 @@ fn list(
         Form::Value(kind, order) => list_value(alloc, text, path, at, dims, kind, order),
         Form::Padding => Ok(()),
         Form::Sequence(count) => list_element(alloc, text, path, at, dims, layout, count),
-        Form::Struct(count) => list_members(alloc, text, path, at, dims, layout, count),
-        Form::Union(count) => list_members(alloc, text, path, at, dims, layout, count),
+        Form::Struct(count) | Form::Union(count) => {
+            list_members(alloc, text, path, at, dims, layout, count)
+        }
     }
 }
 
@@ -73,8 +72,9 @@ fn list_element(
     let Some(element) = layout.element() else {
         return Ok(());
     };
+    let stride = element.size();
     let path = element_path(alloc, path)?;
-    let dims = element_dims(alloc, dims, element.size(), count)?;
+    let dims = format!(in alloc; "{dims} {stride}*{count}")?;
     list(alloc, text, &path, at, &dims, element)
 }
 
@@ -124,13 +124,8 @@ fn list_value(
     let path = if path.is_empty() { "." } else { path };
     let kind = kind.name();
     let order = order.name();
-    let Ok(line) = format!(in alloc; "{path} {at} {kind} {order}{dims}\n") else {
-        return Err(Refusal::Memory);
-    };
-    match text.push_str(&line) {
-        Ok(()) => Ok(()),
-        Err(_) => Err(Refusal::Memory),
-    }
+    let line = format!(in alloc; "{path} {at} {kind} {order}{dims}\n")?;
+    Ok(text.push_str(&line)?)
 }
 
 /// The path of a sequence's elements.
@@ -138,24 +133,11 @@ fn element_path(alloc: Global, path: &str) -> Result<String, Refusal>
     ensures text { IfOk result (Goes path.now (codes "[]")) }
     ensures memory { IfErr result (λ refusal. refusal ≡ Refusal.Memory) }
 {
-    match format!(in alloc; "{path}[]") {
-        Ok(inner) => Ok(inner),
-        Err(_) => Err(Refusal::Memory),
-    }
-}
-
-/// The dims of a sequence's elements.
-fn element_dims(alloc: Global, dims: &str, stride: u64, bound: u64) -> Result<String, Refusal>
-    ensures text { IfOk result (λ inner. string_bytes inner ≡ longer_dims dims.now stride bound) }
-    ensures memory { IfErr result (λ refusal. refusal ≡ Refusal.Memory) }
-{
-    match format!(in alloc; "{dims} {stride}*{bound}") {
-        Ok(inner) => Ok(inner),
-        Err(_) => Err(Refusal::Memory),
-    }
+    Ok(format!(in alloc; "{path}[]")?)
 }
 
 /// Notes the member's name, and tells whether it is the first of that name.
+#[tactic(auto, using(crate::proofs::Noted::noted))]
 fn note<'a>(names: &mut BTreeSet<&'a str, Global>, member: &'a Layout) -> Result<bool, Refusal>
     ensures first { IfOk result (λ first. first ≡ is_new names.old (name_of member.now)) }
     ensures noted { OnOk result (Notes names.old names.new (name_of member.now)) }
@@ -183,14 +165,8 @@ fn member_path(
     ensures memory { IfErr result (λ refusal. refusal ≡ Refusal.Memory) }
 {
     match member.name() {
-        Some(name) => {
-            if first {
-                named_path(alloc, path, name)
-            } else {
-                numbered_path(alloc, path, i)
-            }
-        }
-        None => numbered_path(alloc, path, i),
+        Some(name) if first => named_path(alloc, path, name),
+        _ => numbered_path(alloc, path, i),
     }
 }
 
@@ -198,20 +174,14 @@ fn named_path(alloc: Global, path: &str, name: &str) -> Result<String, Refusal>
     ensures text { IfOk result (Goes path.now (codes "." ++ name.now)) }
     ensures memory { IfErr result (λ refusal. refusal ≡ Refusal.Memory) }
 {
-    match format!(in alloc; "{path}.{name}") {
-        Ok(inner) => Ok(inner),
-        Err(_) => Err(Refusal::Memory),
-    }
+    Ok(format!(in alloc; "{path}.{name}")?)
 }
 
 fn numbered_path(alloc: Global, path: &str, i: u64) -> Result<String, Refusal>
     ensures text { IfOk result (Goes path.now (codes ".#" ++ decimal i)) }
     ensures memory { IfErr result (λ refusal. refusal ≡ Refusal.Memory) }
 {
-    match format!(in alloc; "{path}.#{i}") {
-        Ok(inner) => Ok(inner),
-        Err(_) => Err(Refusal::Memory),
-    }
+    Ok(format!(in alloc; "{path}.#{i}")?)
 }
 
 /// The bytes from a group's member to the next one.

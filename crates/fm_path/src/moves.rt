@@ -3,12 +3,11 @@ ghost use Rattle.std.specs.Option.{option_copied};
 ghost use Rattle.fm_layout.specs.Size.{size_of};
 ghost use Rattle.fm_layout.specs.WellFormed.{IsWellFormed};
 ghost use Rattle.fm_layout.specs.Tree.{name_of};
-ghost use Rattle.fm_path_meaning.specs.Follow.{members_of, row_of, is_name_of, index_in, count_in, IsStruct};
+ghost use Rattle.fm_path_meaning.specs.Follow.{members_of, row_of, row_or, is_name_of, index_in, count_in, IsStruct};
 ghost use Rattle.fm_path_meaning.specs.Steady.{IsShort, IsRow};
 ghost use Rattle.fm_layout.specs.Size.{member_offset};
-ghost use Rattle.fm_path_meaning.specs.Walk.{bound_of, stride_of, move, move_closed, move_group, move_name, move_from};
-ghost use Rattle.fm_path.specs.Gives.{Gives, row_or};
-ghost use Rattle.fm_path.specs.Moving.{Moves};
+ghost use Rattle.fm_path_meaning.specs.Walk.{bound_of, stride_of, move, move_closed};
+ghost use Rattle.fm_path.specs.Moving.{Gives, Moves};
 
 use fm_base::Refusal;
 use fm_layout::{Form, Layout};
@@ -47,7 +46,7 @@ pub fn take_closed<'a>(layout: &'a Layout, k: u64, step: &PathStep) -> Result<Mo
 }
 
 fn take_name<'a>(layout: &'a Layout, k: u64, name: &NameText) -> Result<Move<'a>, Refusal>
-    ensures { Moves result (move_name k name.now layout.now (members_of layout.now)) }
+    ensures { Moves result (move k (PathStep.Name name.now) layout.now) }
 {
     if member_count(layout).is_none() {
         return Err(Refusal::NotGroup(k));
@@ -59,7 +58,7 @@ fn take_name<'a>(layout: &'a Layout, k: u64, name: &NameText) -> Result<Move<'a>
 }
 
 fn take_group(layout: &Layout, k: u64, n: u64) -> Result<Move<'_>, Refusal>
-    ensures { Moves result (move_group k n layout.now (members_of layout.now)) }
+    ensures { Moves result (move k (PathStep.Group n) layout.now) }
 {
     let by = match layout.form() {
         Form::Struct(_) => bytes_before(layout, n),
@@ -104,7 +103,7 @@ fn take_each(layout: &Layout, k: u64) -> Result<Move<'_>, Refusal>
 }
 
 fn take_from(layout: &Layout, k: u64, first: u64, step: i64) -> Result<Move<'_>, Refusal>
-    ensures { Moves result (move_from k first step (row_of layout.now)) }
+    ensures { Moves result (move k (PathStep.EachFrom first step) layout.now) }
 {
     let (count, to) = row(layout, k)?;
     if step == 0 {
@@ -128,16 +127,14 @@ fn row(layout: &Layout, k: u64) -> Result<(u64, &Layout), Refusal>
     ensures row { Gives (λ r. (r.0, r.1.now)) result (row_or k (row_of layout.now)) }
     ensures fits { IfOk result (λ r. IsRow r.0 r.1.now) }
 {
-    match layout.form() {
-        Form::Sequence(count) => match layout.element() {
-            Some(element) => Ok((count, element)),
-            None => Err(Refusal::NotSequence(k)),
-        },
+    match (layout.form(), layout.element()) {
+        (Form::Sequence(count), Some(element)) => Ok((count, element)),
         _ => Err(Refusal::NotSequence(k)),
     }
 }
 
 /// The index of the first member of this name, from 0.
+#[tactic(auto, using(fm_path_meaning::proofs::Members::seek_start, fm_path_meaning::proofs::Members::seek_more, fm_path_meaning::proofs::Members::seek_found, fm_path_meaning::proofs::Members::seek_past, fm_path_meaning::proofs::Members::seek_end,))]
 pub fn index_of(layout: &Layout, name: &[u8]) -> Option<u64>
     ensures { result ≡ index_in name.now (members_of layout.now) }
 {
@@ -175,7 +172,7 @@ fn is_named(layout: &Layout, name: &[u8]) -> bool
 }
 
 /// The bytes before member `n` of a struct.
-#[tactic(auto, using(fm_path_meaning::proofs::Members::offset_none, fm_path_meaning::proofs::Members::offset_fits))]
+#[tactic(auto, using(fm_path_meaning::proofs::Members::offset_none, fm_path_meaning::proofs::Members::offset_more, fm_path_meaning::proofs::Members::offset_end, fm_path_meaning::proofs::Members::offset_fits,))]
 fn bytes_before(layout: &Layout, n: u64) -> u64
     requires kind { IsStruct layout.now }
     requires well { IsWellFormed layout.now }

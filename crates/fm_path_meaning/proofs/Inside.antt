@@ -1,28 +1,23 @@
 -- Places lie inside, stand aligned, and share no byte but in a union.
-use Rattle.std.proofs.Common.{◌≡◌, ◌≢◌, refl, sym, ap, subst, ℕ, ◌+◌, ◌*◌, ◌-◌, ◌%◌, ◌/◌, ◌^◌, ◌<◌, ◌≤◌, inl, inr, zero, suc, List, [], ◌∷◌, arith, ◌∙◌}
+use Rattle.std.proofs.Common.{◌≡◌, ◌≢◌, refl, sym, ap, subst, ℕ, ◌+◌, ◌*◌, ◌-◌, ◌%◌, ◌/◌, ◌^◌, ◌<◌, ◌≤◌, inl, inr, zero, suc, Some, List, [], ◌∷◌, arith, ◌∙◌}
 use Rattle.std.proofs.lemmas.Bool.{cases_lt, cases_order}
 use Rattle.std.proofs.lemmas.Nat.{pow-add, mod-mul-add, div-add-mod'}
 use Rattle.std.proofs.Math.Nat.{mul-le-mul_right}
 use Rattle.std.proofs.Math.Pow.{pow-lt}
 use Rattle.fm_layout.specs.Tree.{Tree, Trees, Value, Sequence, Struct, Union, NoMore, More, alignment_of}
-use Rattle.fm_layout.specs.Size.{size_of, sum_of, greatest_of, greatest_alignment}
+use Rattle.fm_layout.specs.Size.{size_of, greatest_of, greatest_alignment, sum_before}
 use Rattle.fm_layout.specs.WellFormed.{IsWellFormed, AreLaidOut, AreWellFormed}
 use Rattle.std.specs.Int.{IsPowerOfTwo}
-use Rattle.fm_layout.specs.Parts.{IsValue}
+use Rattle.fm_layout.specs.Parts.{tree_at, IsValue}
 use Rattle.fm_layout.proofs.Sound.{fit_of, positive_alignment}
-use Rattle.fm_path_meaning.specs.Places.{Step, Element, Member, Stands, StandsFirst, IsPart, IsAt, IsUnion, Apart, One, In_union, First, Second}
-
--- a member of a struct ends within the struct
-stands_inside : (i : ℕ) (ms : Trees) (a : ℕ) (c : Tree) → Stands i ms a c → a + size_of c ≤ sum_of ms
-stands_inside i NoMore a c s = absurd s
-stands_inside zero (More t ts) a c s = omega (arith, s.0, ap size_of s.1)
-stands_inside (suc i) (More t ts) a c s = omega (arith, s.2, stands_inside i ts s.0 c s.1)
+use Rattle.fm_path_meaning.proofs.Members.{before_more, before_apart}
+use Rattle.fm_path_meaning.specs.Places.{Step, Element, Member, IsPart, IsAt, IsUnion, Apart, One, In_union, First, Second}
 
 -- a member of a union ends within the union
-first_inside : (i : ℕ) (ms : Trees) (a : ℕ) (c : Tree) → StandsFirst i ms a c → a + size_of c ≤ greatest_of ms
-first_inside i NoMore a c s = absurd s
-first_inside zero (More t ts) a c s = omega (arith, s.0, ap size_of s.1)
-first_inside (suc i) (More t ts) a c s = omega (arith, first_inside i ts a c s)
+greatest_holds : (i : ℕ) (ms : Trees) (c : Tree) → tree_at i ms ≡ Some c → size_of c ≤ greatest_of ms
+greatest_holds i NoMore c e = absurd (cc)
+greatest_holds zero (More t ts) c e = let is : t ≡ c = cc in omega (arith, ap size_of is)
+greatest_holds (suc i) (More t ts) c e = omega (arith, greatest_holds i ts c e)
 
 -- an element ends within the row
 rows : (i n m : ℕ) → i < n → i * m + m ≤ n * m
@@ -31,9 +26,10 @@ rows i n m h = omega (arith, mul-le-mul_right m h)
 -- a part ends within the whole
 pub part_inside : (s : Step) (t : Tree) (a : ℕ) (c : Tree) → IsPart s t a c → a + size_of c ≤ size_of t
 part_inside (Element i) (Sequence n e l) a c p = omega (arith, p.1, ap size_of p.2, rows i n (size_of e) p.0)
-part_inside (Member i) (Struct ms l) a c p = stands_inside i ms a c p
-part_inside (Member i) (Union ms l) a c p = first_inside i ms a c p
-part_inside s t a c p = absurd p
+part_inside (Element i) t a c p = absurd p
+part_inside (Member i) (Struct ms l) a c p = omega (arith, p.1, (before_more i ms c p.0).1)
+part_inside (Member i) (Union ms l) a c p = omega (arith, p.1, greatest_holds i ms c p.0)
+part_inside (Member i) t a c p = let never = p.0 in absurd (cc)
 
 -- a place lies inside the root
 pub inside : (ss : List Step) (t : Tree) (at : ℕ) (u : Tree) → IsAt ss t at u → at + size_of u ≤ size_of t
@@ -83,26 +79,24 @@ record Sits (c : Tree) (a most : ℕ) : Type 0 where
   aligned : a % alignment_of c ≡ 0
 
 -- a member of a well-formed struct is well formed and aligned
-member_sits : (i : ℕ) (ms : Trees) (from a : ℕ) (c : Tree) → AreLaidOut from ms → Stands i ms a c → Sits c (from + a) (greatest_alignment ms)
-member_sits i NoMore from a c w s = absurd s
-member_sits zero (More t ts) from a c w s =
-    let e : from + a ≡ from = omega (arith, s.0) in
-    subst (λ c. Sits c (from + a) (greatest_alignment (More t ts))) (sym s.1) (record {
+member_sits : (i : ℕ) (ms : Trees) (from : ℕ) (c : Tree) → AreLaidOut from ms → tree_at i ms ≡ Some c → Sits c (from + sum_before i ms) (greatest_alignment ms)
+member_sits i NoMore from c w e = absurd (cc)
+member_sits zero (More t ts) from c w e =
+    let is : t ≡ c = cc in
+    subst (λ c. Sits c (from + 0) (greatest_alignment (More t ts))) is (record {
       well = w.1;
       below = omega arith;
-      aligned = ap (λ x. x % alignment_of t) e ∙ w.0;
+      aligned = ap (λ x. x % alignment_of t) (omega arith) ∙ w.0;
     })
-member_sits (suc i) (More t ts) from a c w s =
-    let r = member_sits i ts (from + size_of t) s.0 c w.2 s.1 in
-    let e : from + a ≡ from + size_of t + s.0 = omega (arith, s.2) in
-    record { well = r.well; below = omega (arith, r.below); aligned = ap (λ x. x % alignment_of c) e ∙ r.aligned }
+member_sits (suc i) (More t ts) from c w e =
+    let r = member_sits i ts (from + size_of t) c w.2 e in
+    record { well = r.well; below = omega (arith, r.below); aligned = ap (λ x. x % alignment_of c) (omega arith) ∙ r.aligned }
 
--- a member of a well-formed union is well formed and at the start
-first_sits : (i : ℕ) (ms : Trees) (a : ℕ) (c : Tree) → AreWellFormed ms → StandsFirst i ms a c
-    → IsWellFormed c × (alignment_of c ≤ greatest_alignment ms) × (a ≡ 0)
-first_sits i NoMore a c w s = absurd s
-first_sits zero (More t ts) a c w s = (subst IsWellFormed (sym s.1) w.0, omega (arith, ap alignment_of s.1), s.0)
-first_sits (suc i) (More t ts) a c w s = let r = first_sits i ts a c w.1 s in (r.0, omega (arith, r.1), r.2)
+-- a member of a well-formed union is well formed
+first_sits : (i : ℕ) (ms : Trees) (c : Tree) → AreWellFormed ms → tree_at i ms ≡ Some c → IsWellFormed c × (alignment_of c ≤ greatest_alignment ms)
+first_sits i NoMore c w e = absurd (cc)
+first_sits zero (More t ts) c w e = let is : t ≡ c = cc in (subst IsWellFormed is w.0, omega (arith, ap alignment_of is))
+first_sits (suc i) (More t ts) c w e = let r = first_sits i ts c w.1 e in (r.0, omega (arith, r.1))
 
 -- a part is well formed, and stands at a multiple of its alignment, which divides the whole's
 record Part (c : Tree) (a : ℕ) (t : Tree) : Type 0 where
@@ -125,14 +119,15 @@ part_of (Element i) (Sequence n e l) a c w p =
     subst (λ c. Part c a (Sequence n e l)) (sym p.2)
     (part_from e a (Sequence n e l) w w.2 w.0.least
     (subst (Divides (alignment_of e)) (sym p.1) (divides_times (alignment_of e) (size_of e) i (divides_from (alignment_of e) (size_of e) w.1))))
+part_of (Element i) t a c w p = absurd p
 part_of (Member i) (Struct ms l) a c w p =
-    let r = member_sits i ms 0 a c w.1 p in
+    let r = member_sits i ms 0 c w.1 p.0 in
     part_from c a (Struct ms l) w r.well (omega (arith, r.below, w.0.least))
-    (divides_from (alignment_of c) a (ap (λ x. x % alignment_of c) (omega arith) ∙ r.aligned))
+    (divides_from (alignment_of c) a (ap (λ x. x % alignment_of c) (p.1 ∙ omega arith) ∙ r.aligned))
 part_of (Member i) (Union ms l) a c w p =
-    let r = first_sits i ms a c w.1 p in
-    part_from c a (Union ms l) w r.0 (omega (arith, r.1, w.0.least)) (0, omega (arith, r.2))
-part_of s t a c w p = absurd p
+    let r = first_sits i ms c w.1 p.0 in
+    part_from c a (Union ms l) w r.0 (omega (arith, r.1, w.0.least)) (0, omega (arith, p.1))
+part_of (Member i) t a c w p = let never = p.0 in absurd (cc)
 
 -- so does each place
 aligned : (ss : List Step) (t : Tree) (at : ℕ) (u : Tree) → IsWellFormed t → IsAt ss t at u → Part u at t
@@ -161,27 +156,14 @@ place_fits_root ss t at u w h =
 -- a value has no part
 value_no_part : (s : Step) (t : Tree) (a : ℕ) (c : Tree) → IsValue t → IsPart s t a c → ⊥
 value_no_part (Element i) (Value k o l) a c v p = p
-value_no_part (Member i) (Value k o l) a c v p = p
+value_no_part (Member i) (Value k o l) a c v p = let never = p.0 in cc
 value_no_part s t a c v p = absurd v
 
--- a struct has one member of an index
-pub stands_once : (i : ℕ) (ms : Trees) (a b : ℕ) (c d : Tree) → Stands i ms a c → Stands i ms b d → (a ≡ b) × (c ≡ d)
-stands_once i NoMore a b c d s r = absurd s
-stands_once zero (More t ts) a b c d s r = (s.0 ∙ sym r.0, s.1 ∙ sym r.1)
-stands_once (suc i) (More t ts) a b c d s r = let e = stands_once i ts s.0 r.0 c d s.1 r.1 in (omega (arith, s.2, r.2, e.0), e.1)
-
--- a union has one member of an index
-pub first_once : (i : ℕ) (ms : Trees) (a b : ℕ) (c d : Tree) → StandsFirst i ms a c → StandsFirst i ms b d → (a ≡ b) × (c ≡ d)
-first_once i NoMore a b c d s r = absurd s
-first_once zero (More t ts) a b c d s r = (s.0 ∙ sym r.0, s.1 ∙ sym r.1)
-first_once (suc i) (More t ts) a b c d s r = first_once i ts a b c d s r
-
--- a member of a struct ends before the next ones
-stands_apart : (i j : ℕ) (ms : Trees) (a b : ℕ) (c d : Tree) → i < j → Stands i ms a c → Stands j ms b d → a + size_of c ≤ b
-stands_apart i j NoMore a b c d lt s r = absurd s
-stands_apart i zero (More t ts) a b c d lt s r = absurd (omega arith)
-stands_apart zero (suc j) (More t ts) a b c d lt s r = omega (arith, s.0, ap size_of s.1, r.2)
-stands_apart (suc i) (suc j) (More t ts) a b c d lt s r = omega (arith, stands_apart i j ts s.0 r.0 c d (omega arith) s.1 r.1, s.2, r.2)
+-- a step leads to one part
+pub part_once : (s : Step) (t : Tree) (a b : ℕ) (c d : Tree) → IsPart s t a c → IsPart s t b d → (a ≡ b) × (c ≡ d)
+part_once (Element i) (Sequence n e l) a b c d p q = (p.1 ∙ sym q.1, p.2 ∙ sym q.2)
+part_once (Element i) t a b c d p q = absurd p
+part_once (Member i) t a b c d p q = let one = p.0 in let other = q.0 in (p.1 ∙ sym q.1, cc)
 
 -- two parts of one layout: the same, or in a union, or one behind the other
 data Pair (s r : Step) (t : Tree) (a b : ℕ) (c d : Tree) : Type 0 where
@@ -209,19 +191,20 @@ pair (Element i) (Element j) (Sequence n e l) a b c d p q = elim (cases_order i 
   | inr (inr h) ↦ Behind (omega (arith, p.1, q.1, ap size_of q.2, rows j i (size_of e) h))
 ]
 pair (Member i) (Member j) (Struct ms l) a b c d p q = elim (cases_order i j) [
-  | inl h ↦ let e = stands_once j ms a b c d (subst (λ i. Stands i ms a c) h p) q in Same (ap Member h) e.0 e.1
-  | inr (inl h) ↦ Before (stands_apart i j ms a b c d h p q)
-  | inr (inr h) ↦ Behind (stands_apart j i ms b a d c h q p)
+  | inl h ↦ let e = part_once (Member j) (Struct ms l) a b c d (subst (λ i. IsPart (Member i) (Struct ms l) a c) h p) q in Same (ap Member h) e.0 e.1
+  | inr (inl h) ↦ Before (omega (arith, p.1, q.1, before_apart i j ms c p.0 h))
+  | inr (inr h) ↦ Behind (omega (arith, p.1, q.1, before_apart j i ms d q.0 h))
 ]
 pair (Member i) (Member j) (Union ms l) a b c d p q = elim (cases_order i j) [
-  | inl h ↦ let e = first_once j ms a b c d (subst (λ i. StandsFirst i ms a c) h p) q in Same (ap Member h) e.0 e.1
+  | inl h ↦ let e = part_once (Member j) (Union ms l) a b c d (subst (λ i. IsPart (Member i) (Union ms l) a c) h p) q in Same (ap Member h) e.0 e.1
   | inr (inl h) ↦ At_union (differ _ _ (λ e. omega arith)) tt
   | inr (inr h) ↦ At_union (differ _ _ (λ e. omega arith)) tt
 ]
-pair (Element i) (Member j) (Sequence n e l) a b c d p q = absurd q
+pair (Element i) r (Sequence n e l) a b c d p q = let never = q.0 in absurd (cc)
+pair (Element i) r t a b c d p q = absurd p
 pair (Member i) (Element j) (Struct ms l) a b c d p q = absurd q
 pair (Member i) (Element j) (Union ms l) a b c d p q = absurd q
-pair s r t a b c d p q = absurd p
+pair (Member i) r t a b c d p q = let never = p.0 in absurd (cc)
 
 -- what lies apart in a part lies apart in the whole
 deeper : (s r : Step) (ss rs : List Step) (t c : Tree) (o a m b n : ℕ) → s ≡ r → IsPart s t o c → Apart ss rs c a m b n

@@ -1,5 +1,5 @@
 -- Where members stand, summed one by one, and the first of a name, sought one by one.
-use Rattle.std.proofs.Common.{◌≡◌, refl, sym, ap, ℕ, zero, suc, ◌+◌, ◌≤◌, Bool, true, false, if◌then◌else◌, Option, Some, None, List, arith, ◌∙◌}
+use Rattle.std.proofs.Common.{◌≡◌, refl, sym, ap, ℕ, zero, suc, ◌+◌, ◌<◌, ◌≤◌, Bool, true, false, if◌then◌else◌, Some, None, List, arith, ◌∙◌}
 use Rattle.fm_layout.specs.Tree.{Tree, Trees, Struct, Union, NoMore, More, name_of}
 use Rattle.fm_layout.specs.Size.{size_of, sum_of}
 use Rattle.fm_layout.specs.Parts.{tree_at, count_of, member_of}
@@ -8,7 +8,7 @@ use Rattle.fm_path_meaning.specs.Follow.{IsStruct, members_of, is_name_of, index
 use Rattle.fm_layout.specs.Size.{sum_before, member_offset}
 
 -- one more member lies before the next one
-before_more : (n : ℕ) (ms : Trees) (u : Tree) → tree_at n ms ≡ Some u
+pub before_more : (n : ℕ) (ms : Trees) (u : Tree) → tree_at n ms ≡ Some u
     → (sum_before (suc n) ms ≡ sum_before n ms + size_of u) × (sum_before n ms + size_of u ≤ sum_of ms)
 before_more n NoMore u e = absurd (cc)
 before_more zero (More t ts) u e = let is : t ≡ u = cc in let s = ap size_of is in (omega (arith, s, before_none ts), omega (arith, s))
@@ -17,6 +17,13 @@ before_more zero (More t ts) u e = let is : t ≡ u = cc in let s = ap size_of i
     before_none NoMore = refl
     before_none (More t ts) = refl
 before_more (suc n) (More t ts) u e = let r = before_more n ts u e in (omega (arith, r.0), omega (arith, r.1))
+
+-- a member lies before the next ones
+pub before_apart : (i j : ℕ) (ms : Trees) (u : Tree) → tree_at i ms ≡ Some u → i < j → sum_before i ms + size_of u ≤ sum_before j ms
+before_apart i j NoMore u e lt = absurd (cc)
+before_apart i zero (More t ts) u e lt = absurd (omega arith)
+before_apart zero (suc j) (More t ts) u e lt = let is : t ≡ u = cc in omega (arith, ap size_of is)
+before_apart (suc i) (suc j) (More t ts) u e lt = omega (arith, before_apart i j ts u e (omega arith))
 
 -- the members before one fit into the struct
 before_fits : (n : ℕ) (ms : Trees) → sum_before n ms ≤ sum_of ms
@@ -76,20 +83,38 @@ skip_past i NoMore e = refl
 skip_past zero (More t ts) e = absurd (cc)
 skip_past (suc i) (More t ts) e = skip_past i ts e
 
--- no member is left behind all
-pub skip_all : (i : ℕ) (ms : Trees) → count_of ms ≤ i → skip i ms ≡ NoMore
-skip_all i NoMore le = refl
-skip_all zero (More t ts) le = absurd (omega arith)
-skip_all (suc i) (More t ts) le = skip_all i ts (omega arith)
+-- the members of a group from index i on
+abbrev pub members_from : ℕ → Tree → Trees
+members_from i (Struct ms l) = skip i ms
+members_from i (Union ms l) = skip i ms
+members_from i t = NoMore
 
--- the first of a name among the members from index i on
-abbrev pub index_past : List ℕ → ℕ → Option Trees → Option ℕ
-index_past name i None = None
-index_past name i (Some ms) = index_named name i (skip i ms)
+-- a member comes first of those from its index on
+pub from_more : (i : ℕ) (t u : Tree) → member_of i t ≡ Some u → members_from i t ≡ More u (members_from (i + 1) t)
+from_more i (Struct ms l) u e = skip_more i ms u e
+from_more i (Union ms l) u e = skip_more i ms u e
+from_more i t u e = absurd (cc)
+
+-- where there is no member there are none from there on
+pub from_past : (i : ℕ) (t : Tree) → member_of i t ≡ None → members_from i t ≡ NoMore
+from_past i (Struct ms l) e = skip_past i ms e
+from_past i (Union ms l) e = skip_past i ms e
+from_past i t e = refl
+
+-- there is no member behind all
+tree_past : (i : ℕ) (ms : Trees) → count_of ms ≤ i → tree_at i ms ≡ None
+tree_past i NoMore le = refl
+tree_past zero (More t ts) le = absurd (omega arith)
+tree_past (suc i) (More t ts) le = tree_past i ts (omega arith)
+
+pub none_past : (i count : ℕ) (t : Tree) → count_in (members_of t) ≡ Some count → count ≤ i → member_of i t ≡ None
+none_past i count (Struct ms l) e le = let c : count_of ms ≡ count = cc in tree_past i ms (omega arith)
+none_past i count (Union ms l) e le = let c : count_of ms ≡ count = cc in tree_past i ms (omega arith)
+none_past i count t e le = refl
 
 -- no member before index i has the name
 pub record IsSeeking (name : List ℕ) (i : ℕ) (t : Tree) : Type 0 where
-  pub rest : index_in name (members_of t) ≡ index_past name i (members_of t)
+  pub rest : index_in name (members_of t) ≡ index_named name i (members_from i t)
 
 -- before the first member nothing was passed
 pub seek_start : (name : List ℕ) (t : Tree) → IsSeeking name 0 t
@@ -98,33 +123,25 @@ seek_start name (Union ms l) = record { rest = ap (index_named name 0) (sym (ski
 seek_start name t = record { rest = refl }
 
 -- the member at an index has the name, or the search goes on
-here_or : (name : List ℕ) (i : ℕ) (ms : Trees) (u : Tree) (b : Bool) → tree_at i ms ≡ Some u → is_name_of (name_of u) name ≡ b
-    → index_named name i (skip i ms) ≡ (if b then Some i else index_named name (i + 1) (skip (i + 1) ms))
-here_or name i ms u b e h =
-    ap (index_named name i) (skip_more i ms u e) ∙ ap (λ b. if b then Some i else index_named name (i + 1) (skip (i + 1) ms)) h
+here_or : (name : List ℕ) (i : ℕ) (t u : Tree) (b : Bool) → IsSeeking name i t → member_of i t ≡ Some u → is_name_of (name_of u) name ≡ b
+    → index_in name (members_of t) ≡ (if b then Some i else index_named name (i + 1) (members_from (i + 1) t))
+here_or name i t u b s e h =
+    s.rest ∙ ap (index_named name i) (from_more i t u e) ∙ ap (λ b. if b then Some i else index_named name (i + 1) (members_from (i + 1) t)) h
 
 -- a member of another name
 pub seek_more : (name : List ℕ) (i : ℕ) (t u : Tree) → IsSeeking name i t → member_of i t ≡ Some u → is_name_of (name_of u) name ≡ false
     → IsSeeking name (i + 1) t
-seek_more name i (Struct ms l) u s e h = record { rest = s.rest ∙ here_or name i ms u false e h }
-seek_more name i (Union ms l) u s e h = record { rest = s.rest ∙ here_or name i ms u false e h }
-seek_more name i t u s e h = absurd (cc)
+seek_more name i t u s e h = record { rest = here_or name i t u false s e h }
 
 -- a member of the name
 pub seek_found : (name : List ℕ) (i : ℕ) (t u : Tree) → IsSeeking name i t → member_of i t ≡ Some u → is_name_of (name_of u) name ≡ true
     → index_in name (members_of t) ≡ Some i
-seek_found name i (Struct ms l) u s e h = s.rest ∙ here_or name i ms u true e h
-seek_found name i (Union ms l) u s e h = s.rest ∙ here_or name i ms u true e h
-seek_found name i t u s e h = absurd (cc)
+seek_found name i t u s e h = here_or name i t u true s e h
 
 -- no member left
 pub seek_past : (name : List ℕ) (i : ℕ) (t : Tree) → IsSeeking name i t → member_of i t ≡ None → index_in name (members_of t) ≡ None
-seek_past name i (Struct ms l) s e = s.rest ∙ ap (index_named name i) (skip_past i ms e)
-seek_past name i (Union ms l) s e = s.rest ∙ ap (index_named name i) (skip_past i ms e)
-seek_past name i t s e = s.rest
+seek_past name i t s e = s.rest ∙ ap (index_named name i) (from_past i t e)
 
 pub seek_end : (name : List ℕ) (i count : ℕ) (t : Tree) → IsSeeking name i t → count_in (members_of t) ≡ Some count → count ≤ i
     → index_in name (members_of t) ≡ None
-seek_end name i count (Struct ms l) s e le = let c : count_of ms ≡ count = cc in s.rest ∙ ap (index_named name i) (skip_all i ms (omega arith))
-seek_end name i count (Union ms l) s e le = let c : count_of ms ≡ count = cc in s.rest ∙ ap (index_named name i) (skip_all i ms (omega arith))
-seek_end name i count t s e le = absurd (cc)
+seek_end name i count t s e le = seek_past name i t s (none_past i count t e le)

@@ -1,19 +1,12 @@
 -- At steps there stands one layout.
 use Rattle.std.proofs.Common.{◌≡◌, sym, subst, ℕ, List, [], ◌∷◌, arith, ◌∙◌}
-use Rattle.fm_layout.specs.Tree.{Tree, Sequence, Struct, Union}
+use Rattle.fm_layout.specs.Tree.{Tree}
 use Rattle.fm_lists.specs.Among.{IsAmong}
-use Rattle.fm_path_meaning.specs.Places.{Step, Element, Member, Place, places, IsPart, IsAt}
-use Rattle.fm_path_meaning.proofs.Inside.{stands_once, first_once}
+use Rattle.fm_path_meaning.specs.Places.{Step, Place, places, IsAt}
+use Rattle.fm_path_meaning.proofs.Inside.{part_once}
 use Rattle.fm_path_meaning.proofs.Listed.{at_steps, stands}
 
--- A step leads to one part.
-part_once : (s : Step) (t : Tree) (a b : ℕ) (c d : Tree) → IsPart s t a c → IsPart s t b d → (a ≡ b) × (c ≡ d)
-part_once (Element i) (Sequence n e l) a b c d p q = (p.1 ∙ sym q.1, p.2 ∙ sym q.2)
-part_once (Member i) (Struct ms l) a b c d p q = stands_once i ms a b c d p q
-part_once (Member i) (Union ms l) a b c d p q = first_once i ms a b c d p q
-part_once s t a b c d p q = absurd p
-
--- So do several.
+-- Steps lead to one layout.
 pub at_once : (ss : List Step) (t : Tree) (a b : ℕ) (u v : Tree) → IsAt ss t a u → IsAt ss t b v → (a ≡ b) × (u ≡ v)
 at_once [] t a b u v h k = (h.0 ∙ sym k.0, h.1 ∙ sym k.1)
 at_once (s ∷ ss) t a b u v h k =

@@ -1,6 +1,8 @@
 -- The pass over a path, step by step, and what it comes to.
 use Rattle.std.proofs.Common.{◌≡◌, refl, sym, ap, subst, ℕ, ℤ, pos, negsuc, ◌+◌, ◌-◌, ◌%◌, ◌^◌, ◌<◌, ◌≤◌, min, Option, Some, None, Result, Ok, Err, List, [], ◌∷◌, ◌++◌, length, drop, get_or, arith, ◌∙◌}
 use Rattle.std.proofs.lemmas.List.{append_assoc, append-nil, drop_more, drop_all}
+use Rattle.std.specs.Result.{IfOk}
+use Rattle.std.proofs.lemmas.Result.{IfOk-at_ok}
 use Rattle.fm_base.specs.declared.refusal.Refusal.{Refusal}
 use Rattle.std.specs.Int.{IsPowerOfTwo}
 use Rattle.fm_layout.specs.Tree.{Tree, alignment_of}
@@ -10,12 +12,12 @@ use Rattle.fm_layout.proofs.Sound.{fit_of}
 use Rattle.fm_path_text.specs.declared.step.PathStep.{PathStep}
 use Rattle.fm_path_text.specs.declared.step.PathStep.TheVariants.{Each, EachFrom}
 use Rattle.fm_path_meaning.specs.declared.dim.Dim.{Dim}
-use Rattle.fm_path_meaning.specs.Follow.{taken, taken_closed, ◌>>=◌, follow_closed}
+use Rattle.fm_path_meaning.specs.Follow.{Lead, Part, Open, lead, lead_closed, end_at, ◌>>=◌, follow_closed}
 use Rattle.fm_path_meaning.specs.Found.{LeadsTo, Finds, FindsClosed, end_from, end_of, IsRefused}
 use Rattle.fm_path_meaning.specs.Steady.{IsSteady}
-use Rattle.fm_path_meaning.specs.Walk.{Move, Moved, move, move_closed, Walk, with_dim, moved, walk_by, walk, walk_closed, reach, offset_at, AreAdmitted}
-use Rattle.fm_path_meaning.proofs.Agreeing.{Meets, StaysAbove, Agrees, agrees, agrees_closed}
-use Rattle.fm_path_meaning.proofs.Fitting.{takes, Fits, fits, closed}
+use Rattle.fm_path_meaning.specs.Walk.{Move, Moved, dim_of, move_by, move, move_closed, Walk, with_dim, moved, walk_by, walk, walk_closed, reach, offset_at, AreAdmitted}
+use Rattle.fm_path_meaning.proofs.Agreeing.{each_walk, Meets, StaysAbove, Agrees, agrees, refuses}
+use Rattle.fm_path_meaning.proofs.Fitting.{IsClosed, IsLead, leads, leads_closed}
 use Rattle.fm_path_meaning.proofs.Inside.{inside, place_aligned, place_fits_root}
 use Rattle.fm_path_meaning.proofs.Listed.{listed}
 
@@ -41,11 +43,6 @@ onto_moved : (a : ℕ) (ds : List Dim) (m : Move) (r : Result Walk Refusal) → 
 onto_moved a ds m (Err e) = refl
 onto_moved a ds m (Ok w) = made_like (a + (m.by + w.offset)) (a + m.by + w.offset) (ds ++ with_dim m.dim w.dims) ((ds ++ with_dim m.dim []) ++ w.dims) w.last
     (omega arith) (with_dim_append ds w.dims m.dim)
-
--- a walk behind nothing is itself
-onto_nothing : (r : Result Walk Refusal) → onto 0 [] r ≡ r
-onto_nothing (Ok w) = made_like (0 + w.offset) w.offset w.dims w.dims w.last (omega arith) refl
-onto_nothing (Err e) = refl
 
 -- what the loop keeps: the way so far, and then the rest, is the whole way
 pub record IsOnWay (go : ℕ → PathStep → Tree → Moved) (path : List PathStep) (t : Tree) (k offset : ℕ) (dims : List Dim) (here : Tree) : Type 0 where
@@ -89,11 +86,11 @@ on_way_end go path t k offset dims here w le = (
 
 -- a refused walk is a refused path, whatever the indices
 pub refused : (path : List PathStep) (t : Tree) (e : Refusal) → walk path t ≡ Err e → IsRefused path t e
-refused path t e h = subst (Agrees taken path 0 t) h (agrees path 0 t)
+refused path t e h = refuses lead path 0 t e h
 
 -- the same where no step may be left open
 pub refused_closed : (path : List PathStep) (t : Tree) (e : Refusal) → walk_closed path t ≡ Err e → follow_closed path t ≡ Err e
-refused_closed path t e h = let g : Agrees taken_closed path 0 t (Err e) = subst (Agrees taken_closed path 0 t) h (agrees_closed path 0 t) in g []
+refused_closed path t e h = refuses lead_closed path 0 t e h []
 
 -- index 0 everywhere
 abbrev pub zeros : List ℕ → List ℕ
@@ -119,8 +116,8 @@ at_zeros at (d ∷ ds) (i ∷ is) = ap (λ x. offset_at x ds (zeros is)) (reach_
 
 -- at these indices the walk meets following
 met : (path : List PathStep) (t : Tree) (a : ℕ) (dims : List Dim) (u : Tree) → walk path t ≡ made a dims u → (is : List ℕ) → AreAdmitted dims is
-    → Meets taken path 0 t (record { offset = a; dims = dims; last = u }) is
-met path t a dims u w is h = let g : Agrees taken path 0 t (made a dims u) = subst (Agrees taken path 0 t) w (agrees path 0 t) in g is h
+    → Meets lead path 0 t (record { offset = a; dims = dims; last = u }) is
+met path t a dims u w is h = IfOk-at_ok (Agrees lead path 0 t) w (agrees lead leads path 0 t) is h
 
 -- where some indices are admitted, the offset is that of a place
 small_offset : (path : List PathStep) (t : Tree) (a : ℕ) (dims : List Dim) (u : Tree) → walk path t ≡ made a dims u → (is : List ℕ) → AreAdmitted dims is
@@ -142,7 +139,7 @@ keeps_inside at most (d ∷ ds) (i ∷ is) lt f s a =
 
 module _ (path : List PathStep) (t : Tree) (offset : ℕ) (dims : List Dim) (u : Tree) (well : IsWellFormed t) (l : LeadsTo path t offset dims u) where
   -- at these indices
-  meets : (is : List ℕ) → AreAdmitted dims is → Meets taken path 0 t (record { offset = l.whole; dims = dims; last = u }) is
+  meets : (is : List ℕ) → AreAdmitted dims is → Meets lead path 0 t (record { offset = l.whole; dims = dims; last = u }) is
   meets is h = met path t l.whole dims u l.walked is h
 
   -- the offset was kept whole
@@ -181,44 +178,18 @@ module _ (path : List PathStep) (t : Tree) (offset : ℕ) (dims : List Dim) (u :
       (λ js b. let m = meets js b in omega (arith, inside m.steps t _ u m.stands)) (meets is h).steady h)
 
 -- the layout at the walk's end is the one at the path's end
-abbrev Ends : List PathStep → ℕ → Tree → Result Walk Refusal → Type 0
-Ends ps k t (Ok w) = end_from ps k t ≡ Ok w.last
-Ends ps k t (Err e) = end_from ps k t ≡ Err e
-
--- a move changes no end
-ends_moved : (ps : List PathStep) (k : ℕ) (m : Move) (r : Result Walk Refusal) → Ends ps k m.to r → Ends ps k m.to (moved m r)
-ends_moved ps k m (Ok w) h = h
-ends_moved ps k m (Err e) h = h
-
--- equal ways have equal ends
-ends_like : (ps qs : List PathStep) (j k : ℕ) (t u : Tree) (r : Result Walk Refusal) → end_from ps j t ≡ end_from qs k u → Ends qs k u r → Ends ps j t r
-ends_like ps qs j k t u (Ok w) e h = e ∙ h
-ends_like ps qs j k t u (Err x) e h = e ∙ h
-
--- a step, and then the rest
-ends_join : (p : PathStep) (ps : List PathStep) (k : ℕ) (t : Tree) (r : Moved) → Fits (taken k p t) p t r
-    → ((u : Tree) → Ends ps (k + 1) u (walk_by move ps (k + 1) u)) → Ends (p ∷ ps) k t (r >>= λ m. moved m (walk_by move ps (k + 1) m.to))
-ends_join p ps k t (Err e) f ih = ap (λ c. c >>= λ c. end_from ps (k + 1) c.1) (f 0)
-ends_join p ps k t (Ok m) f ih =
-    let e = takes (taken k p t) p t m.dim m.by m.to f 0 in
-    ends_like (p ∷ ps) ps k (k + 1) t m.to (moved m (walk_by move ps (k + 1) m.to)) (ap (λ c. c >>= λ c. end_from ps (k + 1) c.1) e.1)
-    (ends_moved ps (k + 1) m (walk_by move ps (k + 1) m.to) (ih m.to))
-
--- the walk ends where the path does
-ends : (ps : List PathStep) (k : ℕ) (t : Tree) → Ends ps k t (walk_by move ps k t)
-ends [] k t = refl
-ends (p ∷ ps) k t = ends_join p ps k t (move k p t) (fits k p t) (λ u. ends ps (k + 1) u)
-
--- so does what the path leads to
 pub leads_end : (path : List PathStep) (t : Tree) (offset : ℕ) (dims : List Dim) (u : Tree) → LeadsTo path t offset dims u → end_of path t ≡ Ok u
-leads_end path t offset dims u l = subst (Ends path 0 t) l.walked (ends path 0 t)
+leads_end path t offset dims u l =
+    IfOk-at_ok (λ w. end_of path t ≡ Ok w.last) l.walked
+    (each_walk lead leads (λ ps k t w. end_from ps k t ≡ Ok w.last) (λ k t. refl)
+    (λ p ps k t l w e h q. ap (λ r. r >>= λ l. end_from ps (k + 1) (end_at l)) e ∙ q)
+    path 0 t)
 
 -- where no step is left open, the walk's offset is that of the place that following finds
 pub closed_finds : (path : List PathStep) (t : Tree) (a : ℕ) (u : Tree) → walk_closed path t ≡ made a [] u
     → FindsClosed path t a u × (a + size_of u ≤ size_of t)
 closed_finds path t a u w =
-    let g : Agrees taken_closed path 0 t (made a [] u) = subst (Agrees taken_closed path 0 t) w (agrees_closed path 0 t) in
-    let m = g [] tt in
+    let m = IfOk-at_ok (Agrees lead_closed path 0 t) w (agrees lead_closed leads_closed path 0 t) [] tt in
     (record { steps = m.steps; follows = m.follows; listed = listed t m.steps a u m.stands }, inside m.steps t a u m.stands)
 
 -- where the path ends, what was kept of the walk is where it leads
@@ -236,14 +207,25 @@ on_way_finds path t k offset here well w le =
     subst (λ x. FindsClosed path t x here) same f.0
 
 -- no step that may be taken where none is left open has a dim
-closed_no_dim : (k : ℕ) (p : PathStep) (t : Tree) (m : Move) → move_closed k p t ≡ Ok m → m.dim ≡ None
-closed_no_dim k Each t m e = absurd (cc)
-closed_no_dim k (EachFrom f s) t m e = absurd (cc)
-closed_no_dim k p t m e = (closed k p t m (λ is. refl) e).dim
+no_dim : (p : PathStep) (t : Tree) (l : Lead) → IsClosed p → IsLead p t l → dim_of l ≡ None
+no_dim p t (Part s u) c h = refl
+no_dim p t (Open Each n u) c h = absurd (subst IsClosed h.0 c)
+no_dim p t (Open (EachFrom f s) n u) c h = absurd (subst IsClosed h.0 c)
+no_dim p t (Open q n u) c h = absurd h.2
+
+closed_no_dim : (k : ℕ) (p : PathStep) (t : Tree) → IfOk (move_closed k p t) (λ m. m.dim ≡ None)
+closed_no_dim k Each t = tt
+closed_no_dim k (EachFrom f s) t = tt
+closed_no_dim k p t = go (lead k p t) (leads k p t)
+  where
+    go : (r : Result Lead Refusal) → IfOk r (IsLead p t) → IfOk (move_by t r) (λ m. m.dim ≡ None)
+    go (Ok l) h = no_dim p t l tt h
+    go (Err x) h = tt
 
 -- one more step where none may be left open
 pub on_way_closed : (path : List PathStep) (t : Tree) (k offset : ℕ) (here : Tree) (p : PathStep) (m : Move) (offset' : ℕ)
     → IsOnWay move_closed path t k offset [] here → k < length path → p ≡ get_or path k p → move_closed k p here ≡ Ok m
     → offset' ≡ min (offset + m.by) (2 ^ 64 - 1) → IsOnWay move_closed path t (k + 1) offset' [] m.to
 on_way_closed path t k offset here p m offset' w lt is e eo =
-    on_way_more move_closed path t k offset [] here p m offset' [] w lt is e eo (ap (λ o. with_dim o []) (sym (closed_no_dim k p here m e)))
+    on_way_more move_closed path t k offset [] here p m offset' [] w lt is e eo
+    (ap (λ o. with_dim o []) (sym (IfOk-at_ok (λ m. m.dim ≡ None) e (closed_no_dim k p here))))

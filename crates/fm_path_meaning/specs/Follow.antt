@@ -6,7 +6,7 @@ use Rattle.fm_base.specs.declared.refusal.Refusal.TheVariants.{NotGroup, NoMembe
 use Rattle.fm_path_text.specs.declared.step.PathStep.{PathStep}
 use Rattle.fm_path_text.specs.declared.step.PathStep.TheVariants.{Name, Group, At, Each, EachFrom}
 use Rattle.fm_layout.specs.Tree.{Tree, Trees, Sequence, Struct, Union, NoMore, More, name_of}
-use Rattle.fm_layout.specs.Parts.{tree_at, count_of}
+use Rattle.fm_layout.specs.Parts.{member_of, count_of}
 use Rattle.fm_path_meaning.specs.Places.{Step, Element, Member}
 
 -- the members of a struct or union
@@ -55,52 +55,67 @@ IsAdmitted (EachFrom f (pos s)) count i = f + i * s < count
 IsAdmitted (EachFrom f (negsuc s)) count i = (i * suc s ≤ f) × (f - i * suc s < count)
 IsAdmitted p count i = ⊥
 
--- a step taken: the concrete step, and the layout there; or the refusal of step k
-abbrev pub Taken : Type 0
-Taken = Result (Step × Tree) Refusal
+infixl 10 ◌>>=◌
+abbrev pub ◌>>=◌ : {A B : Type 0} → Result A Refusal → (A → Result B Refusal) → Result B Refusal
+(Ok x) >>= f = f x
+(Err e) >>= f = Err e
 
-abbrev pub take_member : ℕ → ℕ → Option Tree → Taken
-take_member k n None = Err (NoMember k)
-take_member k n (Some u) = Ok (Member n, u)
+-- what a step leads to: a part; or where it leaves an index open, the elements of a row of so many
+pub data Lead : Type 0 where
+  Part : (step : Step) → (to : Tree) → Lead
+  Open : (by : PathStep) → (count : ℕ) → (to : Tree) → Lead
 
-abbrev pub take_group : ℕ → ℕ → Option Trees → Taken
-take_group k n None = Err (NotGroup k)
-take_group k n (Some ms) = take_member k n (tree_at n ms)
+abbrev pub lead_member : ℕ → ℕ → Option Tree → Result Lead Refusal
+lead_member k n None = Err (NoMember k)
+lead_member k n (Some u) = Ok (Part (Member n) u)
 
-abbrev pub take_found : ℕ → Trees → Option ℕ → Taken
-take_found k ms None = Err (NoMember k)
-take_found k ms (Some n) = take_member k n (tree_at n ms)
+abbrev pub lead_found : ℕ → Tree → Option ℕ → Result Lead Refusal
+lead_found k t None = Err (NoMember k)
+lead_found k t (Some n) = lead_member k n (member_of n t)
 
-abbrev pub take_name : ℕ → List ℕ → Option Trees → Taken
-take_name k name None = Err (NotGroup k)
-take_name k name (Some ms) = take_found k ms (index_named name 0 ms)
+abbrev pub in_group : ℕ → Option Trees → Result Lead Refusal → Result Lead Refusal
+in_group k None r = Err (NotGroup k)
+in_group k (Some ms) r = r
 
-abbrev pub take_at : ℕ → ℕ → Option (ℕ × Tree) → Taken
-take_at k n None = Err (NotSequence k)
-take_at k n (Some r) = if nat_lt n r.0 then Ok (Element n, r.1) else Err (IndexOut k)
+abbrev pub row_or : ℕ → Option (ℕ × Tree) → Result (ℕ × Tree) Refusal
+row_or k None = Err (NotSequence k)
+row_or k (Some r) = Ok r
 
-abbrev pub take_each : ℕ → ℕ → Option (ℕ × Tree) → Taken
-take_each k i None = Err (NotSequence k)
-take_each k i (Some r) = Ok (Element i, r.1)
+abbrev pub lead_at : ℕ → ℕ → ℕ × Tree → Result Lead Refusal
+lead_at k n r = if nat_lt n r.0 then Ok (Part (Element n) r.1) else Err (IndexOut k)
 
-abbrev pub take_from : ℕ → ℕ → ℤ → ℕ → Option (ℕ × Tree) → Taken
-take_from k f s i None = Err (NotSequence k)
-take_from k f (pos zero) i (Some r) = Err (BadStep k)
-take_from k f s i (Some r) = if nat_lt f r.0 then Ok (Element (element_from f s i), r.1) else Err (IndexOut k)
+abbrev pub lead_from : ℕ → ℕ → ℤ → ℕ × Tree → Result Lead Refusal
+lead_from k f (pos zero) r = Err (BadStep k)
+lead_from k f s r = if nat_lt f r.0 then Ok (Open (EachFrom f s) r.0 r.1) else Err (IndexOut k)
 
--- step k of a path at this layout, with the index i where it is left open
-abbrev pub taken : ℕ → PathStep → Tree → ℕ → Taken
-taken k (Name name) t i = take_name k name (members_of t)
-taken k (Group n) t i = take_group k n (members_of t)
-taken k (At n) t i = take_at k n (row_of t)
-taken k Each t i = take_each k i (row_of t)
-taken k (EachFrom f s) t i = take_from k f s i (row_of t)
+-- where step k of a path leads from this layout, or its refusal
+abbrev pub lead : ℕ → PathStep → Tree → Result Lead Refusal
+lead k (Name name) t = in_group k (members_of t) (lead_found k t (index_in name (members_of t)))
+lead k (Group n) t = in_group k (members_of t) (lead_member k n (member_of n t))
+lead k (At n) t = row_or k (row_of t) >>= lead_at k n
+lead k Each t = row_or k (row_of t) >>= λ r. Ok (Open Each r.0 r.1)
+lead k (EachFrom f s) t = row_or k (row_of t) >>= lead_from k f s
 
 -- the same where no step may be left open
-abbrev pub taken_closed : ℕ → PathStep → Tree → ℕ → Taken
-taken_closed k Each t i = Err (StillOpen k)
-taken_closed k (EachFrom f s) t i = Err (StillOpen k)
-taken_closed k p t i = taken k p t i
+abbrev pub lead_closed : ℕ → PathStep → Tree → Result Lead Refusal
+lead_closed k Each t = Err (StillOpen k)
+lead_closed k (EachFrom f s) t = Err (StillOpen k)
+lead_closed k p t = lead k p t
+
+-- the element that an index of an open step means
+abbrev pub element_at : PathStep → ℕ → ℕ
+element_at (EachFrom f s) i = element_from f s i
+element_at p i = i
+
+-- the concrete step, with the index i where it is left open
+abbrev pub step_at : Lead → ℕ → Step
+step_at (Part s u) i = s
+step_at (Open p n u) i = Element (element_at p i)
+
+-- the layout there
+abbrev pub end_at : Lead → Tree
+end_at (Part s u) = u
+end_at (Open p n u) = u
 
 -- the next index, and the indices after a step
 abbrev pub first : List ℕ → ℕ
@@ -111,28 +126,22 @@ abbrev pub others : List ℕ → List ℕ
 others [] = []
 others (i ∷ is) = is
 
-abbrev pub after : PathStep → List ℕ → List ℕ
-after Each is = others is
-after (EachFrom f s) is = others is
-after p is = is
+abbrev pub after : Lead → List ℕ → List ℕ
+after (Part s u) is = is
+after (Open p n u) is = others is
 
 abbrev pub before : Step → Result (List Step) Refusal → Result (List Step) Refusal
 before s (Ok ss) = Ok (s ∷ ss)
 before s (Err e) = Err e
 
-infixl 10 ◌>>=◌
-abbrev pub ◌>>=◌ : {A B : Type 0} → Result A Refusal → (A → Result B Refusal) → Result B Refusal
-(Ok x) >>= f = f x
-(Err e) >>= f = Err e
-
--- the concrete steps of a path from its step k on, by this taking of steps
-abbrev pub follow_by : (ℕ → PathStep → Tree → ℕ → Taken) → List PathStep → ℕ → Tree → List ℕ → Result (List Step) Refusal
-follow_by take [] k t is = Ok []
-follow_by take (p ∷ ps) k t is = take k p t (first is) >>= λ c. before c.0 (follow_by take ps (k + 1) c.1 (after p is))
+-- the concrete steps of a path from its step k on, where steps lead so
+abbrev pub follow_by : (ℕ → PathStep → Tree → Result Lead Refusal) → List PathStep → ℕ → Tree → List ℕ → Result (List Step) Refusal
+follow_by go [] k t is = Ok []
+follow_by go (p ∷ ps) k t is = go k p t >>= λ l. before (step_at l (first is)) (follow_by go ps (k + 1) (end_at l) (after l is))
 
 -- the concrete steps that a path comes to at indices, or the first step's refusal
 abbrev pub follow : List PathStep → Tree → List ℕ → Result (List Step) Refusal
-follow path t is = follow_by taken path 0 t is
+follow path t is = follow_by lead path 0 t is
 
 abbrev pub follow_closed : List PathStep → Tree → Result (List Step) Refusal
-follow_closed path t = follow_by taken_closed path 0 t []
+follow_closed path t = follow_by lead_closed path 0 t []

@@ -11,7 +11,7 @@ use Rattle.fm_lists.specs.Among.{IsAmong}
 use Rattle.fm_path_meaning.specs.Places.{Step, places}
 use Rattle.fm_layout.specs.Parts.{IsValue}
 use Rattle.fm_path_meaning.specs.Walk.{stride_of, walk}
-use Rattle.fm_path_meaning.specs.Follow.{row_of, IsAdmitted, taken, taken_closed, ◌>>=◌, follow, follow_closed}
+use Rattle.fm_path_meaning.specs.Follow.{row_of, IsAdmitted, Lead, lead, lead_closed, end_at, ◌>>=◌, follow, follow_closed}
 
 -- these steps lead to the place of this offset and layout
 abbrev pub IsPlace : List Step → ℕ → Tree → Tree → Type 0
@@ -44,8 +44,8 @@ pub record IsDimOf (p : PathStep) (count : ℕ) (element : Tree) (d : Dim) : Typ
 -- a dim for each step of the path that is left open, in their order
 pub data HasDims : List PathStep → Tree → List Dim → Type 0 where
   no_step : {t : Tree} → HasDims [] t []
-  closed_step : {p : PathStep} {ps : List PathStep} {t : Tree} {ds : List Dim} → (k : ℕ) → (s : Step) → (u : Tree) → taken_closed k p t 0 ≡ Ok (s, u)
-      → HasDims ps u ds → HasDims (p ∷ ps) t ds
+  closed_step : {p : PathStep} {ps : List PathStep} {t : Tree} {ds : List Dim} → (k : ℕ) → (l : Lead) → lead_closed k p t ≡ Ok l
+      → HasDims ps (end_at l) ds → HasDims (p ∷ ps) t ds
   open_step : {p : PathStep} {ps : List PathStep} {t : Tree} {d : Dim} {ds : List Dim} → (count : ℕ) → (e : Tree) → row_of t ≡ Some (count, e)
       → IsDimOf p count e d → HasDims ps e ds → HasDims (p ∷ ps) t (d ∷ ds)
 
@@ -62,7 +62,7 @@ Touches path t is byte = (at : ℕ) × (u : Tree) × Finds path t is at u × IsV
 -- the layout that the path ends at, which no index changes, or the first step's refusal
 abbrev pub end_from : List PathStep → ℕ → Tree → Result Tree Refusal
 end_from [] k t = Ok t
-end_from (p ∷ ps) k t = taken k p t 0 >>= λ c. end_from ps (k + 1) c.1
+end_from (p ∷ ps) k t = lead k p t >>= λ l. end_from ps (k + 1) (end_at l)
 
 abbrev pub end_of : List PathStep → Tree → Result Tree Refusal
 end_of path t = end_from path 0 t

@@ -1,8 +1,9 @@
 -- The places of a layout, and the relation that a place stands at steps.
-use Rattle.std.specs.Prelude.{◌≡◌, ℕ, ◌+◌, ◌*◌, ◌≤◌, ◌<◌, ◌⊎◌, ◌≢◌, List, [], ◌∷◌, ◌++◌, map}
+use Rattle.std.specs.Prelude.{◌≡◌, ℕ, ◌+◌, ◌*◌, ◌≤◌, ◌<◌, ◌⊎◌, ◌≢◌, Some, List, [], ◌∷◌, ◌++◌, map}
 use Rattle.std.proofs.Common.{zero, suc}
 use Rattle.fm_layout.specs.Tree.{Tree, Trees, Value, Padding, Sequence, Struct, Union, NoMore, More}
-use Rattle.fm_layout.specs.Size.{size_of}
+use Rattle.fm_layout.specs.Parts.{member_of}
+use Rattle.fm_layout.specs.Size.{size_of, member_offset}
 
 -- one step into a layout
 pub data Step : Type 0 where
@@ -32,35 +33,19 @@ abbrev mutual
   places (Value k o l) = here (Value k o l) ∷ []
   places (Padding n l) = here (Padding n l) ∷ []
   places (Sequence n e l) = here (Sequence n e l) ∷ in_elements n (size_of e) (places e)
-  places (Struct ms l) = here (Struct ms l) ∷ in_struct 0 0 ms
-  places (Union ms l) = here (Union ms l) ∷ in_union 0 ms
+  places (Struct ms l) = here (Struct ms l) ∷ in_members (Struct ms l) 0 ms
+  places (Union ms l) = here (Union ms l) ∷ in_members (Union ms l) 0 ms
 
-  -- those of members from this index on, the first at this offset
-  pub in_struct : ℕ → ℕ → Trees → List Place
-  in_struct i at NoMore = []
-  in_struct i at (More t ts) = map (within (Member i) at) (places t) ++ in_struct (i + 1) (at + size_of t) ts
-
-  pub in_union : ℕ → Trees → List Place
-  in_union i NoMore = []
-  in_union i (More t ts) = map (within (Member i) 0) (places t) ++ in_union (i + 1) ts
-
--- member i of these stands at this offset, and is this tree
-abbrev pub Stands : ℕ → Trees → ℕ → Tree → Type 0
-Stands i NoMore at u = ⊥
-Stands zero (More t ts) at u = (at ≡ 0) × (u ≡ t)
-Stands (suc i) (More t ts) at u = (b : ℕ) × Stands i ts b u × (at ≡ size_of t + b)
-
-abbrev pub StandsFirst : ℕ → Trees → ℕ → Tree → Type 0
-StandsFirst i NoMore at u = ⊥
-StandsFirst zero (More t ts) at u = (at ≡ 0) × (u ≡ t)
-StandsFirst (suc i) (More t ts) at u = StandsFirst i ts at u
+  -- those of the members of a group from index i on
+  pub in_members : Tree → ℕ → Trees → List Place
+  in_members group i NoMore = []
+  in_members group i (More t ts) = map (within (Member i) (member_offset i group)) (places t) ++ in_members group (i + 1) ts
 
 -- the part of t at this step stands at this offset, and is u
 abbrev pub IsPart : Step → Tree → ℕ → Tree → Type 0
 IsPart (Element i) (Sequence n e l) at u = (i < n) × (at ≡ i * size_of e) × (u ≡ e)
-IsPart (Member i) (Struct ms l) at u = Stands i ms at u
-IsPart (Member i) (Union ms l) at u = StandsFirst i ms at u
-IsPart s t at u = ⊥
+IsPart (Element i) t at u = ⊥
+IsPart (Member i) t at u = (member_of i t ≡ Some u) × (at ≡ member_offset i t)
 
 -- the layout at these steps of t stands at this offset, and is u
 abbrev pub IsAt : List Step → Tree → ℕ → Tree → Type 0

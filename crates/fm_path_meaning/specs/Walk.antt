@@ -1,15 +1,14 @@
 -- One pass over a path: the offset, and what each open index does to it.
-use Rattle.std.specs.Prelude.{ℕ, ℤ, pos, negsuc, ◌+◌, ◌-◌, ◌*◌, ◌/◌, ◌<◌, Option, Some, None, Result, Ok, Err, List, [], ◌∷◌, nat_lt, nat_eq, if◌then◌else◌}
+use Rattle.std.specs.Prelude.{ℕ, ℤ, pos, negsuc, ◌+◌, ◌-◌, ◌*◌, ◌/◌, ◌<◌, Option, Some, None, Result, Ok, List, [], ◌∷◌, nat_eq, if◌then◌else◌}
 use Rattle.std.proofs.Common.{zero, suc}
 use Rattle.fm_base.specs.declared.refusal.Refusal.{Refusal}
-use Rattle.fm_base.specs.declared.refusal.Refusal.TheVariants.{NotGroup, NoMember, NotSequence, IndexOut, StillOpen, BadStep}
 use Rattle.fm_path_text.specs.declared.step.PathStep.{PathStep}
-use Rattle.fm_path_text.specs.declared.step.PathStep.TheVariants.{Name, Group, At, Each, EachFrom}
-use Rattle.fm_layout.specs.Tree.{Tree, Trees}
+use Rattle.fm_layout.specs.Tree.{Tree}
 use Rattle.fm_layout.specs.Size.{size_of, member_offset}
-use Rattle.fm_layout.specs.Parts.{tree_at}
+use Rattle.fm_path_text.specs.declared.step.PathStep.TheVariants.{EachFrom}
 use Rattle.fm_path_meaning.specs.declared.dim.Dim.{Dim}
-use Rattle.fm_path_meaning.specs.Follow.{members_of, row_of, index_named, ◌>>=◌}
+use Rattle.fm_path_meaning.specs.Follow.{Lead, Part, Open, lead, lead_closed, end_at, ◌>>=◌}
+use Rattle.fm_path_meaning.specs.Places.{Element, Member}
 
 -- how many indices i from 0 have 0 ≤ F + i*S < count, where F is below the count and S isn't 0
 abbrev pub bound_of : ℕ → ℤ → ℕ → ℕ
@@ -38,53 +37,35 @@ pub record Move : Type 0 where
 abbrev pub Moved : Type 0
 Moved = Result Move Refusal
 
-abbrev pub move_member : ℕ → ℕ → Tree → Option Tree → Moved
-move_member k n t None = Err (NoMember k)
-move_member k n t (Some u) = Ok (record { by = member_offset n t; dim = None; to = u })
+-- the first element that an open step leads to, in bytes
+abbrev pub first_bytes : PathStep → ℕ → ℕ
+first_bytes (EachFrom f s) bytes = f * bytes
+first_bytes p bytes = 0
 
-abbrev pub move_group : ℕ → ℕ → Tree → Option Trees → Moved
-move_group k n t None = Err (NotGroup k)
-move_group k n t (Some ms) = move_member k n t (tree_at n ms)
+-- the offset of what a step leads to, at index 0
+abbrev pub by_of : Tree → Lead → ℕ
+by_of t (Part (Member n) u) = member_offset n t
+by_of t (Part (Element n) u) = n * size_of u
+by_of t (Open p n u) = first_bytes p (size_of u)
 
-abbrev pub move_found : ℕ → Tree → Trees → Option ℕ → Moved
-move_found k t ms None = Err (NoMember k)
-move_found k t ms (Some n) = move_member k n t (tree_at n ms)
+-- the dim of an open step over so many elements
+abbrev pub dim_from : PathStep → ℕ → ℕ → Dim
+dim_from (EachFrom f s) count bytes = record { stride = stride_of s bytes (bound_of f s count); bound = bound_of f s count }
+dim_from p count bytes = record { stride = pos bytes; bound = count }
 
-abbrev pub move_name : ℕ → List ℕ → Tree → Option Trees → Moved
-move_name k name t None = Err (NotGroup k)
-move_name k name t (Some ms) = move_found k t ms (index_named name 0 ms)
+abbrev pub dim_of : Lead → Option Dim
+dim_of (Part s u) = None
+dim_of (Open p n u) = Some (dim_from p n (size_of u))
 
-abbrev pub move_at : ℕ → ℕ → Option (ℕ × Tree) → Moved
-move_at k n None = Err (NotSequence k)
-move_at k n (Some r) = if nat_lt n r.0 then Ok (record { by = n * size_of r.1; dim = None; to = r.1 }) else Err (IndexOut k)
-
-abbrev pub move_each : ℕ → Option (ℕ × Tree) → Moved
-move_each k None = Err (NotSequence k)
-move_each k (Some r) = Ok (record { by = 0; dim = Some (record { stride = pos (size_of r.1); bound = r.0 }); to = r.1 })
-
-abbrev pub dim_from : ℕ → ℤ → ℕ → ℕ → Dim
-dim_from f s count bytes = record { stride = stride_of s bytes (bound_of f s count); bound = bound_of f s count }
-
-abbrev pub move_from : ℕ → ℕ → ℤ → Option (ℕ × Tree) → Moved
-move_from k f s None = Err (NotSequence k)
-move_from k f (pos zero) (Some r) = Err (BadStep k)
-move_from k f s (Some r) =
-    if nat_lt f r.0
-    then Ok (record { by = f * size_of r.1; dim = Some (dim_from f s r.0 (size_of r.1)); to = r.1 })
-    else Err (IndexOut k)
+abbrev pub move_by : Tree → Result Lead Refusal → Moved
+move_by t r = r >>= λ l. Ok (record { by = by_of t l; dim = dim_of l; to = end_at l })
 
 abbrev pub move : ℕ → PathStep → Tree → Moved
-move k (Name name) t = move_name k name t (members_of t)
-move k (Group n) t = move_group k n t (members_of t)
-move k (At n) t = move_at k n (row_of t)
-move k Each t = move_each k (row_of t)
-move k (EachFrom f s) t = move_from k f s (row_of t)
+move k p t = move_by t (lead k p t)
 
 -- the same where no step may be left open
 abbrev pub move_closed : ℕ → PathStep → Tree → Moved
-move_closed k Each t = Err (StillOpen k)
-move_closed k (EachFrom f s) t = Err (StillOpen k)
-move_closed k p t = move k p t
+move_closed k p t = move_by t (lead_closed k p t)
 
 -- where a path leads
 pub record Walk : Type 0 where
@@ -96,9 +77,12 @@ abbrev pub with_dim : Option Dim → List Dim → List Dim
 with_dim None ds = ds
 with_dim (Some d) ds = d ∷ ds
 
+-- a move, and then this walk
+abbrev pub walk_on : ℕ → Option Dim → Walk → Walk
+walk_on by dim w = record { offset = by + w.offset; dims = with_dim dim w.dims; last = w.last }
+
 abbrev pub moved : Move → Result Walk Refusal → Result Walk Refusal
-moved m (Ok w) = Ok (record { offset = m.by + w.offset; dims = with_dim m.dim w.dims; last = w.last })
-moved m (Err e) = Err e
+moved m r = r >>= λ w. Ok (walk_on m.by m.dim w)
 
 abbrev pub walk_by : (ℕ → PathStep → Tree → Moved) → List PathStep → ℕ → Tree → Result Walk Refusal
 walk_by go [] k t = Ok (record { offset = 0; dims = []; last = t })

@@ -1,9 +1,8 @@
 -- A text leaves a language at one place, one of its texts nowhere; and where a machine that reads the language stops, the text leaves it.
 use Rattle.std.proofs.Common.{◌≡◌, ◌≢◌, refl, sym, ap, subst, ℕ, ◌+◌, ◌<◌, ◌≤◌, Option, Some, None, List, ◌++◌, length, take, drop, arith, ◌∙◌}
-use Rattle.std.proofs.lemmas.List.{append_assoc, take-append-drop, take_all}
+use Rattle.std.proofs.lemmas.List.{append_assoc, take-append-drop, take_all, take-take}
 use Rattle.fm_base.specs.declared.refusal.Refusal.{Refusal}
 use Rattle.fm_base.specs.declared.refusal.Refusal.TheVariants.{BadQuery, Memory}
-use Rattle.fm_lists.proofs.Taken.{take-within}
 use Rattle.fm_path_text.specs.Language.{Begins, BeginsUpTo, IsNoText}
 use Rattle.fm_path_text.specs.Machine.{run}
 use Rattle.fm_path_text.proofs.Machine.{run_append, run_none, Accepts}
@@ -17,7 +16,7 @@ module _ {A : Type 0} (Is : A → Type 0) (write : A → List ℕ) where
   begins_before : (n m : ℕ) (text : List ℕ) → n ≤ m → Begins Is write (take m text) → Begins Is write (take n text)
   begins_before n m text below begins =
       let front = take m text in
-      let cut : front ≡ take n text ++ drop n front = sym (ap (λ xs. xs ++ drop n front) (sym (take-within n m text below)) ∙ take-append-drop n front) in
+      let cut : front ≡ take n text ++ drop n front = sym (ap (λ xs. xs ++ drop n front) (sym (take-take n m text below)) ∙ take-append-drop n front) in
       shorter (take n text) (drop n front) (subst (Begins Is write) cut begins)
 
   -- No text leaves the language at two places.

@@ -58,18 +58,57 @@ impl Part {
         requires bounded { IsBounded self }
         ensures { result ≡ next self pieces sign }
     {
-        match self {
-            Part::Between => between(pieces, sign),
-            Part::Dot => behind_dot(sign),
-            Part::Word(name) => in_name(name, pieces, sign),
-            Part::Hash => behind_hash(sign),
-            Part::Number(n) => in_number(n, pieces, sign),
-            Part::Open => behind_open(sign),
-            Part::Index(n) => in_index(n, sign),
-            Part::Colon(first) => behind_colon(first, sign),
-            Part::Minus(first) => behind_minus(first, sign),
-            Part::Up(first, n) => in_stride(first, n, sign),
-            Part::Down(first, n) => in_stride_back(first, n, sign),
+        match (self, sign) {
+            (Part::Between, Sign::Dot) => opens(pieces, Part::Dot),
+            (Part::Between, Sign::Open) => opens(pieces, Part::Open),
+            (Part::Dot, Sign::Hash) => Move::Stay(Part::Hash),
+            (Part::Dot, Sign::Letter(byte)) => Move::Stay(Part::Word(NameText::of_letter(byte))),
+            (Part::Word(name), Sign::Letter(byte)) => spells(name, byte),
+            (Part::Word(name), Sign::Digit(digit)) => spells(name, b'0' + digit),
+            (Part::Word(name), Sign::Dot) => closes(pieces, PathStep::Name(name), Part::Dot),
+            (Part::Word(name), Sign::Open) => closes(pieces, PathStep::Name(name), Part::Open),
+            (Part::Hash, Sign::Digit(digit)) => Move::Stay(Part::Number(u64::from(digit))),
+            (Part::Number(n), Sign::Digit(digit)) => longer_number(n, digit).map_or(
+                Move::Dead,
+                |n| Move::Stay(Part::Number(n)),
+            ),
+            (Part::Number(n), Sign::Dot) => closes(pieces, PathStep::Group(n), Part::Dot),
+            (Part::Number(n), Sign::Open) => closes(pieces, PathStep::Group(n), Part::Open),
+            (Part::Open, Sign::Close) => Move::Finish(PathStep::Each, Part::Between),
+            (Part::Open, Sign::Digit(digit)) => Move::Stay(Part::Index(u64::from(digit))),
+            (Part::Index(n), Sign::Digit(digit)) => longer_number(n, digit).map_or(
+                Move::Dead,
+                |n| Move::Stay(Part::Index(n)),
+            ),
+            (Part::Index(n), Sign::Close) => Move::Finish(PathStep::At(n), Part::Between),
+            (Part::Index(n), Sign::Colon) => Move::Stay(Part::Colon(n)),
+            (Part::Colon(first), Sign::Minus) => Move::Stay(Part::Minus(first)),
+            (Part::Colon(first), Sign::Digit(digit)) => Move::Stay(Part::Up(
+                first,
+                u64::from(digit),
+            )),
+            (Part::Minus(_), Sign::Digit(0)) => Move::Dead,
+            (Part::Minus(first), Sign::Digit(digit)) => Move::Stay(Part::Down(
+                first,
+                u64::from(digit),
+            )),
+            (Part::Up(first, n), Sign::Digit(digit)) => longer_number(n, digit).map_or(
+                Move::Dead,
+                |n| Move::Stay(Part::Up(first, n)),
+            ),
+            (Part::Up(first, n), Sign::Close) => Move::Finish(
+                PathStep::EachFrom(first, up(n)),
+                Part::Between,
+            ),
+            (Part::Down(first, n), Sign::Digit(digit)) => longer_number(n, digit).map_or(
+                Move::Dead,
+                |n| Move::Stay(Part::Down(first, n)),
+            ),
+            (Part::Down(first, n), Sign::Close) => Move::Finish(
+                PathStep::EachFrom(first, down(n)),
+                Part::Between,
+            ),
+            _ => Move::Dead,
         }
     }
 
@@ -96,141 +135,6 @@ fn with_step(mut path: Vec<PathStep>, step: PathStep) -> Result<Option<Vec<PathS
     match path.push(step) {
         Ok(()) => Ok(Some(path)),
         Err(_) => Err(Refusal::Memory),
-    }
-}
-
-fn between(pieces: usize, sign: Sign) -> Move
-    ensures { result ≡ next Part.Between pieces sign }
-{
-    match sign {
-        Sign::Dot => opens(pieces, Part::Dot),
-        Sign::Open => opens(pieces, Part::Open),
-        _ => Move::Dead,
-    }
-}
-
-fn behind_dot(sign: Sign) -> Move
-    requires { IsSound sign }
-    ensures { (pieces : ℕ) → result ≡ next Part.Dot pieces sign }
-{
-    match sign {
-        Sign::Hash => Move::Stay(Part::Hash),
-        Sign::Letter(byte) => Move::Stay(Part::Word(NameText::of_letter(byte))),
-        _ => Move::Dead,
-    }
-}
-
-fn in_name(name: NameText, pieces: usize, sign: Sign) -> Move
-    requires pieces { pieces ≤ most_pieces }
-    requires sound { IsSound sign }
-    ensures { result ≡ next (Part.Word name) pieces sign }
-{
-    match sign {
-        Sign::Letter(byte) => spells(name, byte),
-        Sign::Digit(digit) => spells(name, b'0' + digit),
-        Sign::Dot => closes(pieces, PathStep::Name(name), Part::Dot),
-        Sign::Open => closes(pieces, PathStep::Name(name), Part::Open),
-        _ => Move::Dead,
-    }
-}
-
-fn behind_hash(sign: Sign) -> Move
-    ensures { (pieces : ℕ) → result ≡ next Part.Hash pieces sign }
-{
-    match sign {
-        Sign::Digit(digit) => Move::Stay(Part::Number(u64::from(digit))),
-        _ => Move::Dead,
-    }
-}
-
-fn in_number(n: u64, pieces: usize, sign: Sign) -> Move
-    requires pieces { pieces ≤ most_pieces }
-    requires sound { IsSound sign }
-    ensures { result ≡ next (Part.Number n) pieces sign }
-{
-    match sign {
-        Sign::Digit(digit) => longer_number(n, digit).map_or(
-            Move::Dead,
-            |n| Move::Stay(Part::Number(n)),
-        ),
-        Sign::Dot => closes(pieces, PathStep::Group(n), Part::Dot),
-        Sign::Open => closes(pieces, PathStep::Group(n), Part::Open),
-        _ => Move::Dead,
-    }
-}
-
-fn behind_open(sign: Sign) -> Move
-    ensures { (pieces : ℕ) → result ≡ next Part.Open pieces sign }
-{
-    match sign {
-        Sign::Close => Move::Finish(PathStep::Each, Part::Between),
-        Sign::Digit(digit) => Move::Stay(Part::Index(u64::from(digit))),
-        _ => Move::Dead,
-    }
-}
-
-fn in_index(n: u64, sign: Sign) -> Move
-    requires { IsSound sign }
-    ensures { (pieces : ℕ) → result ≡ next (Part.Index n) pieces sign }
-{
-    match sign {
-        Sign::Digit(digit) => longer_number(n, digit).map_or(
-            Move::Dead,
-            |n| Move::Stay(Part::Index(n)),
-        ),
-        Sign::Close => Move::Finish(PathStep::At(n), Part::Between),
-        Sign::Colon => Move::Stay(Part::Colon(n)),
-        _ => Move::Dead,
-    }
-}
-
-fn behind_colon(first: u64, sign: Sign) -> Move
-    ensures { (pieces : ℕ) → result ≡ next (Part.Colon first) pieces sign }
-{
-    match sign {
-        Sign::Minus => Move::Stay(Part::Minus(first)),
-        Sign::Digit(digit) => Move::Stay(Part::Up(first, u64::from(digit))),
-        _ => Move::Dead,
-    }
-}
-
-fn behind_minus(first: u64, sign: Sign) -> Move
-    ensures { (pieces : ℕ) → result ≡ next (Part.Minus first) pieces sign }
-{
-    match sign {
-        Sign::Digit(0) => Move::Dead,
-        Sign::Digit(digit) => Move::Stay(Part::Down(first, u64::from(digit))),
-        _ => Move::Dead,
-    }
-}
-
-fn in_stride(first: u64, n: u64, sign: Sign) -> Move
-    requires sound { IsSound sign }
-    requires bounded { n ≤ most_number }
-    ensures { (pieces : ℕ) → result ≡ next (Part.Up first n) pieces sign }
-{
-    match sign {
-        Sign::Digit(digit) => longer_number(n, digit).map_or(
-            Move::Dead,
-            |n| Move::Stay(Part::Up(first, n)),
-        ),
-        Sign::Close => Move::Finish(PathStep::EachFrom(first, up(n)), Part::Between),
-        _ => Move::Dead,
-    }
-}
-
-fn in_stride_back(first: u64, n: u64, sign: Sign) -> Move
-    requires sound { IsSound sign }
-    requires bounded { n ≤ most_number }
-    ensures { (pieces : ℕ) → result ≡ next (Part.Down first n) pieces sign }
-{
-    match sign {
-        Sign::Digit(digit) => longer_number(n, digit).map_or(
-            Move::Dead,
-            |n| Move::Stay(Part::Down(first, n)),
-        ),
-        Sign::Close => Move::Finish(PathStep::EachFrom(first, down(n)), Part::Between),
-        _ => Move::Dead,
     }
 }
 

@@ -86,29 +86,11 @@ reads_item is (Of f ps) h =
     ∙ ap (run (codes ")")) (reads_bytes (OfItem f) is [] (path_text ps) [] part.Between a.0 a.1)
     ∙ ap (λ o. moved is [] (marks (OfItem f) 41 o)) a.2
 
--- the last item, whole, behind the others
-pub record LastItem (items : List ItemSyntax) (o : Option Spot) : Type 0 where
-  pub others : List ItemSyntax
-  pub last : ItemSyntax
-  pub is : items ≡ others ++ last ∷ []
-  pub there : o ≡ Some (spot others [] (Behind last 0))
-
--- items that each have a comma before them
-reads_items : (js is : List ItemSyntax) (i : ItemSyntax) → AllByRecursion IsItem js → length is + 1 + length js ≤ 16
-    → LastItem (is ++ i ∷ js) (run (flat_map (λ y. codes "," ++ item_text y) js) (Some (spot is [] (Behind i 0))))
-reads_items [] is i all few = record { others = is; last = i; is = refl; there = refl }
-reads_items (j ∷ js) is i all few =
-    let r = reads_items js (is ++ i ∷ []) j all.1 (omega (arith, length-append is (i ∷ []))) in
-    let rest = flat_map (λ y. codes "," ++ item_text y) js in
-    record {
-      others = r.others;
-      last = r.last;
-      is = sym (append_assoc is (i ∷ []) (j ∷ js)) ∙ r.is;
-      there = run_append reads (codes "," ++ item_text j) rest (Some (spot is [] (Behind i 0)))
-          ∙ ap (λ c. run rest (run (item_text j) (moved is [] (if c then NextItem i Start else Dead)))) (lt-ltb (length is + 1) 16 (omega arith))
-          ∙ ap (run rest) (reads_item (is ++ i ∷ []) j all.0)
-          ∙ r.there;
-    }
+-- a further item behind one and a comma
+next_item : (is : List ItemSyntax) (i j : ItemSyntax) → IsItem j → length is + 1 < 16
+    → run (codes "," ++ item_text j) (Some (spot is [] (Behind i 0))) ≡ Some (spot (is ++ i ∷ []) [] (Behind j 0))
+next_item is i j h few =
+    ap (λ c. run (item_text j) (moved is [] (if c then NextItem i Start else Dead))) (lt-ltb (length is + 1) 16 few) ∙ reads_item (is ++ i ∷ []) j h
 
 -- an operator behind a path
 reads_operator : (is : List ItemSyntax) (cs : List ConditionSyntax) (d : List PathStep) (p : Part) (ps : List PathStep) (o : Operator)
@@ -138,73 +120,79 @@ reads_and is cs c few =
     let room : nat_lt (length cs + 1) 16 ≡ true = lt-ltb (length cs + 1) 16 few in
     rw (room, room, room, room, room) (ap (λ x. Some (spot is (cs ++ x ∷ []) (InPath OfCondition [] part.Between))) (same_condition c))
 
--- the last condition, whole, behind the others
-pub record LastCondition (is : List ItemSyntax) (conditions : List ConditionSyntax) (o : Option Spot) : Type 0 where
-  pub others : List ConditionSyntax
-  pub last : ConditionSyntax
-  pub all : conditions ≡ others ++ last ∷ []
-  pub there : o ≡ Some (spot is others (Literal last.path last.operator (number_of last.literal) 0))
+-- where a condition is whole
+abbrev behind_condition : List ItemSyntax → List ConditionSyntax → ConditionSyntax → Spot
+behind_condition is cs c = spot is cs (Literal c.path c.operator (number_of c.literal) 0)
 
--- conditions that each have and before them
-reads_conditions : (is : List ItemSyntax) (ds cs : List ConditionSyntax) (c : ConditionSyntax) → AllByRecursion IsCondition ds → length cs + 1 + length ds ≤ 16
-    → LastCondition is (cs ++ c ∷ ds)
-    (run (flat_map (λ y. codes " and " ++ condition_text y) ds) (Some (spot is cs (Literal c.path c.operator (number_of c.literal) 0))))
-reads_conditions is [] cs c all few = record { others = cs; last = c; all = refl; there = refl }
-reads_conditions is (d ∷ ds) cs c all few =
-    let r = reads_conditions is ds (cs ++ c ∷ []) d all.1 (omega (arith, length-append cs (c ∷ []))) in
-    let rest = flat_map (λ y. codes " and " ++ condition_text y) ds in
-    let here = Some (spot is cs (Literal c.path c.operator (number_of c.literal) 0)) in
-    record {
-      others = r.others;
-      last = r.last;
-      all = sym (append_assoc cs (c ∷ []) (d ∷ ds)) ∙ r.all;
-      there = run_append reads (codes " and " ++ condition_text d) rest here
-          ∙ ap (run rest) (run_append reads (codes " and ") (condition_text d) here
-          ∙ ap (run (condition_text d)) (reads_and is cs c (omega arith))
-          ∙ reads_condition is (cs ++ c ∷ []) d all.0)
-          ∙ r.there;
-    }
+-- a further condition behind one and the word and
+next_condition : (is : List ItemSyntax) (cs : List ConditionSyntax) (c d : ConditionSyntax) → IsCondition d → length cs + 1 < 16
+    → run (codes " and " ++ condition_text d) (Some (behind_condition is cs c)) ≡ Some (behind_condition is (cs ++ c ∷ []) d)
+next_condition is cs c d h few =
+    run_append reads (codes " and ") (condition_text d) (Some (behind_condition is cs c))
+    ∙ ap (run (condition_text d)) (reads_and is cs c few)
+    ∙ reads_condition is (cs ++ c ∷ []) d h
+
+-- the last one, whole, behind the others
+pub record Last {A : Type 0} (at : List A → A → Spot) (all : List A) (o : Option Spot) : Type 0 where
+  pub others : List A
+  pub last : A
+  pub is : all ≡ others ++ last ∷ []
+  pub there : o ≡ Some (at others last)
+
+module _ {A : Type 0} (f : A → List ℕ) (sep : List ℕ) (Is : A → Type 0) (at : List A → A → Spot)
+    (next : (xs : List A) (x y : A) → Is y → length xs + 1 < 16 → run (sep ++ f y) (Some (at xs x)) ≡ Some (at (xs ++ x ∷ []) y)) where
+  -- parts that each have a separator before them
+  reads_more : (ys xs : List A) (x : A) → AllByRecursion Is ys → length xs + 1 + length ys ≤ 16
+      → Last at (xs ++ x ∷ ys) (run (flat_map (λ y. sep ++ f y) ys) (Some (at xs x)))
+  reads_more [] xs x all few = record { others = xs; last = x; is = refl; there = refl }
+  reads_more (y ∷ ys) xs x all few =
+      let r = reads_more ys (xs ++ x ∷ []) y all.1 (omega (arith, length-append xs (x ∷ []))) in
+      let rest = flat_map (λ y. sep ++ f y) ys in
+      record {
+        others = r.others;
+        last = r.last;
+        is = sym (append_assoc xs (x ∷ []) (y ∷ ys)) ∙ r.is;
+        there = run_append reads (sep ++ f y) rest (Some (at xs x)) ∙ ap (run rest) (next xs x y all.0 (omega arith)) ∙ r.there;
+      }
+
+  -- parts with a separator between them
+  reads_all : (from : Option Spot) (x : A) (ys : List A) → run (f x) from ≡ Some (at [] x) → AllByRecursion Is (x ∷ ys) → length (x ∷ ys) ≤ 16
+      → Last at (x ∷ ys) (run (join_by f sep (x ∷ ys)) from)
+  reads_all from x ys first all few =
+      let r = reads_more ys [] x all.1 (omega arith) in
+      let rest = flat_map (λ y. sep ++ f y) ys in
+      record { others = r.others; last = r.last; is = r.is; there = run_append reads (f x) rest from ∙ ap (run rest) first ∙ r.there }
 
 -- the items of a query
-reads_all_items : (i : ItemSyntax) (js : List ItemSyntax) → AllByRecursion IsItem (i ∷ js) → length (i ∷ js) ≤ 16
-    → LastItem (i ∷ js) (run (join_by item_text (codes ",") (i ∷ js)) start)
-reads_all_items i js all few =
-    let r = reads_items js [] i all.1 (omega arith) in
-    let rest = flat_map (λ y. codes "," ++ item_text y) js in
-    record { others = r.others; last = r.last; is = r.is; there = run_append reads (item_text i) rest start ∙ ap (run rest) (reads_item [] i all.0) ∙ r.there }
+reads_items : (i : ItemSyntax) (js : List ItemSyntax) → AllByRecursion IsItem (i ∷ js) → length (i ∷ js) ≤ 16
+    → Last (λ is i. spot is [] (Behind i 0)) (i ∷ js) (run (join_by item_text (codes ",") (i ∷ js)) start)
+reads_items i js all few =
+    reads_all item_text (codes ",") IsItem (λ is i. spot is [] (Behind i 0)) next_item start i js (reads_item [] i all.0) all few
 
 -- the conditions of a query behind its last item
 reads_where : (es : List ItemSyntax) (l : ItemSyntax) (c : ConditionSyntax) (ds : List ConditionSyntax) → AllByRecursion IsCondition (c ∷ ds)
     → length (c ∷ ds) ≤ 16
-    → LastCondition (es ++ l ∷ []) (c ∷ ds) (run (where_text (c ∷ ds)) (Some (spot es [] (Behind l 0))))
+    → Last (behind_condition (es ++ l ∷ [])) (c ∷ ds) (run (where_text (c ∷ ds)) (Some (spot es [] (Behind l 0))))
 reads_where es l c ds all few =
     let is = es ++ l ∷ [] in
-    let r = reads_conditions is ds [] c all.1 (omega arith) in
-    let rest = flat_map (λ y. codes " and " ++ condition_text y) ds in
-    record {
-      others = r.others;
-      last = r.last;
-      all = r.all;
-      there = run_append reads (condition_text c) rest (Some (spot is [] (InPath OfCondition [] part.Between)))
-          ∙ ap (run rest) (reads_condition is [] c all.0)
-          ∙ r.there;
-    }
+    reads_all condition_text (codes " and ") IsCondition (behind_condition is) (next_condition is) (Some (spot is [] (InPath OfCondition [] part.Between))) c ds
+    (reads_condition is [] c all.0) all few
 
 -- each query's text is read, to that query
 pub accepts : (is : List ItemSyntax) (cs : List ConditionSyntax) → IsQuery (syntax is cs)
     → Accepts reads start whole (query_text (syntax is cs)) (syntax is cs)
 accepts [] cs h = absurd (omega (arith, h.some_item))
 accepts (i ∷ js) [] h =
-    let r = reads_all_items i js h.items h.few_items in (
+    let r = reads_items i js h.items h.few_items in (
       spot r.others [] (Behind r.last 0),
       run_append reads (join_by item_text (codes ",") (i ∷ js)) [] start ∙ r.there,
       ap (λ x. Some (syntax x [])) (sym r.is),
     )
 accepts (i ∷ js) (c ∷ ds) h =
-    let r = reads_all_items i js h.items h.few_items in
+    let r = reads_items i js h.items h.few_items in
     let w = reads_where r.others r.last c ds h.conditions h.few_conditions in (
       spot (r.others ++ r.last ∷ []) w.others (Literal w.last.path w.last.operator (number_of w.last.literal) 0),
       run_append reads (join_by item_text (codes ",") (i ∷ js)) (where_text (c ∷ ds)) start ∙ ap (run (where_text (c ∷ ds))) r.there ∙ w.there,
       ap (λ x. Some (syntax (r.others ++ r.last ∷ []) (w.others ++ x ∷ []))) (same_condition w.last)
-          ∙ ap (λ x. Some (syntax x (w.others ++ w.last ∷ []))) (sym r.is) ∙ ap (λ x. Some (syntax (i ∷ js) x)) (sym w.all),
+          ∙ ap (λ x. Some (syntax x (w.others ++ w.last ∷ []))) (sym r.is) ∙ ap (λ x. Some (syntax (i ∷ js) x)) (sym w.is),
     )

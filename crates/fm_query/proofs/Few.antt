@@ -1,8 +1,7 @@
 -- A path has no more values in a record than the record has bytes.
-use Rattle.std.proofs.Common.{◌≡◌, ℕ, ℤ, pos, negsuc, zero, suc, ◌+◌, ◌-◌, ◌*◌, ◌<◌, ◌≤◌, Bool, true, false, nat_lt, if◌then◌else◌, Option, Some, None, Result, Ok, Err, List, [], ◌∷◌, refl, ap, subst, arith}
+use Rattle.std.proofs.Common.{◌≡◌, ℕ, pos, negsuc, zero, suc, ◌-◌, ◌*◌, ◌≤◌, Option, Some, None, List, refl, ap, arith}
 use Rattle.std.proofs.Math.Nat.{div-le_self, mul-le-mul_left, mul-le-mul_right, mul_assoc}
-use Rattle.fm_base.specs.declared.refusal.Refusal.{Refusal}
-use Rattle.fm_base.specs.declared.refusal.Refusal.TheVariants.{IndexOut}
+use Rattle.std.proofs.lemmas.Result.{IfOk-at_ok}
 use Rattle.fm_lanes.specs.Kind.{width_of}
 use Rattle.fm_lanes.specs.declared.value_kind.ValueKind.{ValueKind}
 use Rattle.fm_lanes.specs.declared.value_kind.ValueKind.TheVariants.{Byte}
@@ -10,12 +9,12 @@ use Rattle.fm_layout.specs.Size.{size_of}
 use Rattle.fm_layout.specs.Tree.{Tree, Value, Sequence}
 use Rattle.fm_path_text.specs.declared.step.PathStep.{PathStep}
 use Rattle.fm_path_text.specs.declared.step.PathStep.TheVariants.{Each, EachFrom}
-use Rattle.std.proofs.lemmas.Bool.{ltb-true}
-use Rattle.fm_path_meaning.specs.Follow.{after, ◌>>=◌}
-use Rattle.fm_path_meaning.proofs.Fitting.{closed}
+use Rattle.fm_path_meaning.specs.Follow.{row_of, Lead, Part, Open, lead, end_at}
+use Rattle.fm_path_meaning.proofs.Agreeing.{each_walk}
+use Rattle.fm_path_meaning.proofs.Fitting.{Begins, IsLead, leads}
 use Rattle.fm_path_meaning.proofs.Inside.{part_inside}
 use Rattle.fm_path_meaning.specs.Found.{LeadsTo}
-use Rattle.fm_path_meaning.specs.Walk.{bound_of, dim_from, Move, Moved, move, Walk, with_dim, moved, walk_by}
+use Rattle.fm_path_meaning.specs.Walk.{by_of, dim_from, dim_of, with_dim}
 use Rattle.fm_path_meaning.specs.declared.dim.Dim.{Dim}
 use Rattle.fm_path.specs.Resolution.{Resolution, IsResolved, IsSpecOf}
 use Rattle.fm_path.specs.declared.value_spec.ValueSpec.{ValueSpec}
@@ -30,78 +29,37 @@ counts_with : (o : Option Dim) (ds : List Dim) → value_count (with_dim o ds) �
 counts_with None ds = omega arith
 counts_with (Some d) ds = refl
 
--- ---- what a step leads to fits into the layout, as often as it has indices
+-- an open step has at most as many indices as elements
+bound_fits : (p : PathStep) (n bytes : ℕ) → Begins p n → (dim_from p n bytes).bound ≤ n
+bound_fits Each n bytes h = omega arith
+bound_fits (EachFrom f (pos zero)) n bytes h = omega arith
+bound_fits (EachFrom f (pos (suc s))) n bytes h = omega (arith, h.0, div-le_self (n - f - 1) (suc s))
+bound_fits (EachFrom f (negsuc s)) n bytes h = omega (arith, h.0, div-le_self f (suc s))
+bound_fits p n bytes h = absurd h
 
-abbrev Fits : Tree → Moved → Type 0
-Fits t (Ok m) = indices m.dim * size_of m.to ≤ size_of t
-Fits t (Err e) = Unit {0}
+row_size : (t : Tree) (n : ℕ) (u : Tree) → row_of t ≡ Some (n, u) → n * size_of u ≡ size_of t
+row_size (Sequence c e l) n u h = let q : ◌≡◌ {A = ℕ × Tree} (n, u) (c, e) = cc in ap (λ r. r.0 * size_of r.1) q
+row_size t n u h = absurd (cc)
 
--- a step that takes no index
-closed_fits : (k : ℕ) (p : PathStep) (t : Tree) (r : Moved) → ((is : List ℕ) → after p is ≡ is) → move k p t ≡ r → Fits t r
-closed_fits k p t (Err e) none is = tt
-closed_fits k p t (Ok m) none is =
-    let c = closed k p t m none is in
-    omega (arith, ap (λ o. indices o * size_of m.to) c.dim, part_inside c.step t m.by m.to c.part)
-
--- no more indices than elements
-elements_fit : (bound count : ℕ) (e : Tree) → bound ≤ count → bound * size_of e ≤ count * size_of e
-elements_fit bound count e le = mul-le-mul_right {m = bound} {n = count} (size_of e) le
-
--- from an element on there are at most as many as in all
-bound_fits : (f c : ℕ) (z : ℤ) → f < c → bound_of f z c ≤ c
-bound_fits f c (pos zero) lt = omega arith
-bound_fits f c (pos (suc s)) lt = omega (arith, lt, div-le_self (c - f - 1) (suc s))
-bound_fits f c (negsuc s) lt = omega (arith, lt, div-le_self f (suc s))
-
--- a step that is open from an element on
-from_fits : (k f c : ℕ) (z : ℤ) (e : Tree) (l : _) (b : Bool) → nat_lt f c ≡ b
-    → Fits (Sequence c e l) (if b then Ok (record { by = f * size_of e; dim = Some (dim_from f z c (size_of e)); to = e }) else Err (IndexOut k))
-from_fits k f c z e l true h = elements_fit (bound_of f z c) c e (bound_fits f c z (ltb-true f c h))
-from_fits k f c z e l false h = tt
-
--- each move
-fits : (k : ℕ) (p : PathStep) (t : Tree) → Fits t (move k p t)
-fits k Each (Sequence c e l) = elements_fit c c e (omega arith)
-fits k (EachFrom f (pos zero)) (Sequence c e l) = tt
-fits k (EachFrom f (pos (suc s))) (Sequence c e l) = from_fits k f c (pos (suc s)) e l (nat_lt f c) refl
-fits k (EachFrom f (negsuc s)) (Sequence c e l) = from_fits k f c (negsuc s) e l (nat_lt f c) refl
-fits k Each t = tt
-fits k (EachFrom f z) t = tt
-fits k p t = closed_fits k p t (move k p t) (λ is. refl) refl
-
--- ---- and so does what a walk leads to
-
-abbrev FitIn : Tree → Result Walk Refusal → Type 0
-FitIn t (Ok w) = value_count w.dims * size_of w.last ≤ size_of t
-FitIn t (Err e) = Unit {0}
+-- what a step leads to fits into the layout, as often as it has indices
+lead_fits : (p : PathStep) (t : Tree) (l : Lead) → IsLead p t l → indices (dim_of l) * size_of (end_at l) ≤ size_of t
+lead_fits p t (Part s u) h = omega (arith, part_inside s t (by_of t (Part s u)) u h.1)
+lead_fits p t (Open q n u) h =
+    omega (arith, row_size t n u h.1, mul-le-mul_right {m = (dim_from q n (size_of u)).bound} {n = n} (size_of u) (bound_fits q n (size_of u) h.2))
 
 -- so many times so many fit where each of the first holds the second
 times_fit : (count many few bytes middle whole : ℕ) → count ≡ many * few → few * bytes ≤ middle → many * middle ≤ whole → count * bytes ≤ whole
 times_fit count many few bytes middle whole e inner outer =
     omega (arith, ap (λ n. n * bytes) e, mul_assoc many few bytes, mul-le-mul_left {m = few * bytes} {n = middle} many inner, outer)
 
--- a step before a walk
-fit_moved : (t : Tree) (m : Move) (r : Result Walk Refusal) → indices m.dim * size_of m.to ≤ size_of t → FitIn m.to r → FitIn t (moved m r)
-fit_moved t m (Ok w) f h =
-    times_fit (value_count (with_dim m.dim w.dims)) (indices m.dim) (value_count w.dims) (size_of w.last) (size_of m.to) (size_of t)
-    (counts_with m.dim w.dims) h f
-fit_moved t m (Err e) f h = tt
-
--- a step, and then the rest
-fit_join : (k : ℕ) (ps : List PathStep) (t : Tree) (r : Moved) → Fits t r → ((u : Tree) → FitIn u (walk_by move ps (k + 1) u))
-    → FitIn t (r >>= λ m. moved m (walk_by move ps (k + 1) m.to))
-fit_join k ps t (Err e) f ih = tt
-fit_join k ps t (Ok m) f ih = fit_moved t m (walk_by move ps (k + 1) m.to) f (ih m.to)
-
--- each walk
-fit_in : (ps : List PathStep) (k : ℕ) (t : Tree) → FitIn t (walk_by move ps k t)
-fit_in [] k t = omega arith
-fit_in (p ∷ ps) k t = fit_join k ps t (move k p t) (fits k p t) (λ u. fit_in ps (k + 1) u)
-
 -- the layouts at a path's end fit into its root
-pub ends_fit : (path : List PathStep) (t : Tree) (offset : ℕ) (dims : List Dim) (u : Tree) → LeadsTo path t offset dims u
+ends_fit : (path : List PathStep) (t : Tree) (offset : ℕ) (dims : List Dim) (u : Tree) → LeadsTo path t offset dims u
     → value_count dims * size_of u ≤ size_of t
-ends_fit path t offset dims u l = subst (FitIn t) l.walked (fit_in path 0 t)
+ends_fit path t offset dims u l =
+    IfOk-at_ok (λ w. value_count w.dims * size_of w.last ≤ size_of t) l.walked
+    (each_walk lead leads (λ ps k t w. value_count w.dims * size_of w.last ≤ size_of t) (λ k t. omega arith)
+    (λ p ps k t l w e h q. times_fit (value_count (with_dim (dim_of l) w.dims)) (indices (dim_of l)) (value_count w.dims) (size_of w.last)
+    (size_of (end_at l)) (size_of t) (counts_with (dim_of l) w.dims) q (lead_fits p t l h)) path 0 t)
 
 -- ---- values have bytes
 

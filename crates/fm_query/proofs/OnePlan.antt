@@ -8,8 +8,7 @@ use Rattle.fm_layout.specs.Tree.{Tree, Value}
 use Rattle.fm_layout.specs.Parts.{IsValue}
 use Rattle.fm_path_text.specs.declared.step.PathStep.{PathStep}
 use Rattle.fm_path_text.proofs.Language as language
-use Rattle.fm_path_text.specs.declared.step.PathStep.TheVariants.{Each}
-use Rattle.fm_path_meaning.specs.Follow.{Taken, taken, after, before, ◌>>=◌, follow_by}
+use Rattle.fm_path_meaning.specs.Follow.{Lead, Part, Open, lead, step_at, end_at, after, before, ◌>>=◌, follow_by}
 use Rattle.fm_path_meaning.specs.Places.{Step}
 use Rattle.fm_path_meaning.specs.Walk.{Walk}
 use Rattle.fm_lanes.specs.declared.order.Order.{Order}
@@ -102,27 +101,23 @@ one_plan text t p r a b =
 
 -- ---- a plan, or a refusal
 
--- indices behind none
-after_none : (p : PathStep) → after p [] ≡ []
-after_none Each = refl
-after_none p = refl
-
 no_before : (s : Step) (r : Result (List Step) Refusal) (e : Refusal) → before s r ≡ Err e → r ≡ Err e
 no_before s (Ok ss) e is = absurd (cc)
 no_before s (Err x) e is = is
 
 -- one step, and then the rest
-step_follows : (r : Taken) (p : PathStep) (ps : List PathStep) (k : ℕ) (u : Tree) (e : Refusal)
-    → ((v : Tree) → end_from ps (k + 1) v ≡ Ok u → follow_by taken ps (k + 1) v [] ≡ Err e → ⊥)
-    → (r >>= λ c. end_from ps (k + 1) c.1) ≡ Ok u → (r >>= λ c. before c.0 (follow_by taken ps (k + 1) c.1 (after p []))) ≡ Err e → ⊥
-step_follows (Err x) p ps k u e rest ends fails = cc
-step_follows (Ok c) p ps k u e rest ends fails =
-    rest c.1 ends (ap (follow_by taken ps (k + 1) c.1) (sym (after_none p)) ∙ no_before c.0 (follow_by taken ps (k + 1) c.1 (after p [])) e fails)
+step_follows : (r : Result Lead Refusal) (ps : List PathStep) (k : ℕ) (u : Tree) (e : Refusal)
+    → ((v : Tree) → end_from ps (k + 1) v ≡ Ok u → follow_by lead ps (k + 1) v [] ≡ Err e → ⊥)
+    → (r >>= λ l. end_from ps (k + 1) (end_at l)) ≡ Ok u
+    → (r >>= λ l. before (step_at l 0) (follow_by lead ps (k + 1) (end_at l) (after l []))) ≡ Err e → ⊥
+step_follows (Err x) ps k u e rest ends fails = cc
+step_follows (Ok (Part s v)) ps k u e rest ends fails = rest v ends (no_before _ _ e fails)
+step_follows (Ok (Open p n v)) ps k u e rest ends fails = rest v ends (no_before _ _ e fails)
 
 -- a path that ends somewhere is followed
-pub follows : (ps : List PathStep) (k : ℕ) (t u : Tree) (e : Refusal) → end_from ps k t ≡ Ok u → follow_by taken ps k t [] ≡ Err e → ⊥
+pub follows : (ps : List PathStep) (k : ℕ) (t u : Tree) (e : Refusal) → end_from ps k t ≡ Ok u → follow_by lead ps k t [] ≡ Err e → ⊥
 follows [] k t u e ends fails = cc
-follows (p ∷ ps) k t u e ends fails = step_follows (taken k p t 0) p ps k u e (λ v. follows ps (k + 1) v u e) ends fails
+follows (p ∷ ps) k t u e ends fails = step_follows (lead k p t) ps k u e (λ v. follows ps (k + 1) v u e) ends fails
 
 -- what a value layout is accessed as, it has a value
 has_value : (last : Tree) (v : ValueSpec) → IsSpecOf last v → IsValue last

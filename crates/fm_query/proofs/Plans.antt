@@ -17,6 +17,7 @@ use Rattle.fm_path_text.specs.declared.step.PathStep.TheVariants.{Each, EachFrom
 use Rattle.fm_path_text.specs.Grammar.{piece_of, pieces_of}
 use Rattle.fm_path_text.proofs.Reading.{pieces_snoc}
 use Rattle.fm_path_meaning.specs.declared.dim.Dim.{Dim}
+use Rattle.fm_path_meaning.specs.Follow.{end_at}
 use Rattle.fm_path_meaning.specs.Found.{HasDims, no_step, closed_step, open_step}
 use Rattle.fm_path.specs.Resolution.{Resolution, IsResolved}
 use Rattle.fm_path.proofs.Resolving.{stays_inside}
@@ -79,7 +80,7 @@ no_dims : (path : List PathStep) (t : Tree) (ds : List Dim) (k : ℕ) → HasDim
 no_dims [] t ds k no_step e = refl
 no_dims (Each ∷ ps) t ds k h e = absurd (cc)
 no_dims (EachFrom f s ∷ ps) t ds k h e = absurd (cc)
-no_dims (p ∷ ps) t ds k (closed_step j s u x h) e = no_dims ps u ds (k + 1) h e
+no_dims (p ∷ ps) t ds k (closed_step j l x h) e = no_dims ps (end_at l) ds (k + 1) h e
 no_dims (p ∷ ps) t ds k (open_step c el x d h) e = absurd d.stride
 
 -- a resolved path is one through records of the layout

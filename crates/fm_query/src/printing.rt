@@ -15,17 +15,11 @@ pub fn item_text(alloc: Global, item: &ItemSyntax) -> Result<Text, Refusal>
     ensures memory { IfErr result (λ refusal. refusal ≡ Refusal.Memory) }
 {
     match item {
-        ItemSyntax::Count => match String::from_str(alloc, "count") {
-            Ok(text) => Ok(Text::of(text)),
-            Err(_) => Err(Refusal::Memory),
-        },
+        ItemSyntax::Count => Ok(Text::of(String::from_str(alloc, "count")?)),
         ItemSyntax::Of(fold, path) => {
             let path = path_text(alloc, path.as_slice())?;
             let fold = fold.text();
-            match format!(in alloc; "{fold}({path})") {
-                Ok(text) => Ok(Text::of(text)),
-                Err(_) => Err(Refusal::Memory),
-            }
+            Ok(Text::of(format!(in alloc; "{fold}({path})")?))
         }
     }
 }
@@ -38,10 +32,7 @@ pub fn condition_text(alloc: Global, condition: &ConditionSyntax) -> Result<Text
     let path = path_text(alloc, condition.path.as_slice())?;
     let operator = condition.operator.text();
     let literal = condition.literal;
-    match format!(in alloc; "{path}{operator}{literal}") {
-        Ok(text) => Ok(Text::of(text)),
-        Err(_) => Err(Refusal::Memory),
-    }
+    Ok(Text::of(format!(in alloc; "{path}{operator}{literal}")?))
 }
 
 fn path_text(alloc: Global, path: &[PathStep]) -> Result<String, Refusal>
@@ -49,17 +40,12 @@ fn path_text(alloc: Global, path: &[PathStep]) -> Result<String, Refusal>
     ensures memory { IfErr result (λ refusal. refusal ≡ Refusal.Memory) }
 {
     if path.is_empty() {
-        return match String::from_str(alloc, ".") {
-            Ok(text) => Ok(text),
-            Err(_) => Err(Refusal::Memory),
-        };
+        return Ok(String::from_str(alloc, ".")?);
     }
     let mut text = String::new(alloc);
     for (k, step) in path.iter().enumerate() {
         let piece = piece_text(alloc, step)?;
-        let Ok(()) = text.push_str(&piece) else {
-            return Err(Refusal::Memory);
-        };
+        text.push_str(&piece)?;
     }
     Ok(text)
 }
@@ -70,22 +56,10 @@ fn piece_text(alloc: Global, step: &PathStep) -> Result<String, Refusal>
 {
     match step {
         PathStep::Name(name) => name_text(alloc, name),
-        PathStep::Group(n) => match format!(in alloc; ".#{n}") {
-            Ok(text) => Ok(text),
-            Err(_) => Err(Refusal::Memory),
-        },
-        PathStep::At(n) => match format!(in alloc; "[{n}]") {
-            Ok(text) => Ok(text),
-            Err(_) => Err(Refusal::Memory),
-        },
-        PathStep::Each => match String::from_str(alloc, "[]") {
-            Ok(text) => Ok(text),
-            Err(_) => Err(Refusal::Memory),
-        },
-        PathStep::EachFrom(first, step) => match format!(in alloc; "[{first}:{step}]") {
-            Ok(text) => Ok(text),
-            Err(_) => Err(Refusal::Memory),
-        },
+        PathStep::Group(n) => Ok(format!(in alloc; ".#{n}")?),
+        PathStep::At(n) => Ok(format!(in alloc; "[{n}]")?),
+        PathStep::Each => Ok(String::from_str(alloc, "[]")?),
+        PathStep::EachFrom(first, step) => Ok(format!(in alloc; "[{first}:{step}]")?),
     }
 }
 
@@ -94,13 +68,9 @@ fn name_text(alloc: Global, name: &NameText) -> Result<String, Refusal>
     ensures text { IfOk result (λ text. string_bytes text ≡ piece_of (PathStep.Name name.now)) }
     ensures memory { IfErr result (λ refusal. refusal ≡ Refusal.Memory) }
 {
-    let Ok(mut text) = String::from_str(alloc, ".") else {
-        return Err(Refusal::Memory);
-    };
+    let mut text = String::from_str(alloc, ".")?;
     for (k, byte) in name.as_bytes().iter().enumerate() {
-        let Ok(()) = text.push(char::from(*byte)) else {
-            return Err(Refusal::Memory);
-        };
+        text.push(char::from(*byte))?;
     }
     Ok(text)
 }

@@ -43,35 +43,27 @@ impl Spot {
         ensures memory { IfErr result (λ refusal. refusal ≡ Refusal.Memory) }
     {
         let Spot {
+            mut items,
+            mut conditions,
+            stage,
+        } = self;
+        let stage = match stage.next(alloc, items.len(), conditions.len(), byte)? {
+            Turn::Dead => return Ok(None),
+            Turn::Stay(stage) => stage,
+            Turn::NextItem(item, stage) => {
+                items = with_more(items, item)?;
+                stage
+            }
+            Turn::NextCondition(condition, stage) => {
+                conditions = with_more(conditions, condition)?;
+                stage
+            }
+        };
+        Ok(Some(Spot {
             items,
             conditions,
             stage,
-        } = self;
-        match stage.next(alloc, items.len(), conditions.len(), byte) {
-            Ok(Turn::Dead) => Ok(None),
-            Ok(Turn::Stay(stage)) => Ok(Some(Spot {
-                items,
-                conditions,
-                stage,
-            })),
-            Ok(Turn::NextItem(item, stage)) => {
-                let items = with_more(items, item)?;
-                Ok(Some(Spot {
-                    items,
-                    conditions,
-                    stage,
-                }))
-            }
-            Ok(Turn::NextCondition(condition, stage)) => {
-                let conditions = with_more(conditions, condition)?;
-                Ok(Some(Spot {
-                    items,
-                    conditions,
-                    stage,
-                }))
-            }
-            Err(refusal) => Err(refusal),
-        }
+        }))
     }
 
     /// The query that was read, if the text may end here.
@@ -81,15 +73,12 @@ impl Spot {
         ensures memory { IfErr result (λ refusal. refusal ≡ Refusal.Memory) }
     {
         let Spot {
-            items,
-            conditions,
+            mut items,
+            mut conditions,
             stage,
         } = self;
         match stage {
-            Stage::Behind(item, 0) => {
-                let items = with_more(items, item)?;
-                Ok(Some(QuerySyntax::of(items, conditions)))
-            }
+            Stage::Behind(item, 0) => items = with_more(items, item)?,
             Stage::Literal(path, operator, number, 0) => {
                 let literal = number.value();
                 let condition = ConditionSyntax {
@@ -97,10 +86,10 @@ impl Spot {
                     operator,
                     literal,
                 };
-                let conditions = with_more(conditions, condition)?;
-                Ok(Some(QuerySyntax::of(items, conditions)))
+                conditions = with_more(conditions, condition)?;
             }
-            _ => Ok(None),
+            _ => return Ok(None),
         }
+        Ok(Some(QuerySyntax::of(items, conditions)))
     }
 }

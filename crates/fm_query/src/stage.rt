@@ -1,7 +1,6 @@
-ghost use Rattle.std.specs.Prelude.{◌≡◌, ℕ, ◌<◌, ◌≤◌, IfOk, IfErr, length, Option, List, [], get_or, nat_eq};
+ghost use Rattle.std.specs.Prelude.{◌≡◌, ◌<◌, ◌≤◌, IfOk, IfErr, length, [], get_or, nat_eq};
 ghost use Rattle.fm_path_text.specs.Reader.{IsBounded};
-ghost use Rattle.fm_path_text.specs.declared.step.PathStep.{PathStep};
-ghost use Rattle.fm_query.specs.Reader.{starts, spelled, turns, spells, is_mark, marks, in_path, behind, or_equal, compares, negates, counts, in_literal, next, where_word, and_word, word_text, IsNumber, IsReady};
+ghost use Rattle.fm_query.specs.Reader.{starts, spelled, turns, spells, is_mark, marks, in_path, behind, compares, negates, in_literal, next, where_word, and_word, word_text, IsNumber, IsReady};
 ghost use Rattle.fm_query.specs.Read.{steps_if_any};
 
 use crate::fold::Fold;
@@ -79,7 +78,10 @@ impl Stage {
             Stage::Spelling(word, n) => Ok(spells(alloc, word, n, byte)),
             Stage::InPath(role, steps, part) => in_path(role, steps, part, byte),
             Stage::Behind(item, n) => Ok(behind(alloc, items, item, n, byte)),
-            Stage::Bang(path) => Ok(behind_bang(path, byte)),
+            Stage::Bang(path) if byte == b'=' => {
+                Ok(Turn::Stay(Stage::Compare(path, Operator::NotEqual)))
+            }
+            Stage::Bang(_) => Ok(Turn::Dead),
             Stage::Compare(path, operator) => Ok(compares(path, operator, byte)),
             Stage::Minus(path, operator) => Ok(negates(path, operator, byte)),
             Stage::Literal(path, operator, number, n) => {
@@ -138,13 +140,9 @@ fn spelled(alloc: Global, word: Word, n: usize) -> Stage
 fn turns(word: Word, n: usize, byte: u8) -> Turn
     ensures { result ≡ turns word n byte }
 {
-    match word {
-        Word::Folding(Fold::Least) => {
-            if n == 1 && byte == b'a' {
-                Turn::Stay(Stage::Spelling(Word::Folding(Fold::Greatest), 2))
-            } else {
-                Turn::Dead
-            }
+    match (word, n, byte) {
+        (Word::Folding(Fold::Least), 1, b'a') => {
+            Turn::Stay(Stage::Spelling(Word::Folding(Fold::Greatest), 2))
         }
         _ => Turn::Dead,
     }
@@ -164,9 +162,7 @@ fn in_path(role: Role, mut steps: Steps, part: Part, byte: u8) -> Result<Turn, R
         Move::Dead => Ok(Turn::Dead),
         Move::Stay(to) => Ok(Turn::Stay(Stage::InPath(role, steps, to))),
         Move::Finish(step, to) => {
-            let Ok(()) = steps.push(step) else {
-                return Err(Refusal::Memory);
-            };
+            steps.push(step)?;
             Ok(Turn::Stay(Stage::InPath(role, steps, to)))
         }
     }
@@ -186,30 +182,13 @@ fn marks(role: Role, byte: u8, path: Option<Vec<PathStep>>) -> Turn
     let Some(path) = path else {
         return Turn::Dead;
     };
-    match role {
-        Role::OfItem(fold) => ends_item(fold, Steps::of(path), byte),
-        Role::OfCondition => begins_operator(Steps::of(path), byte),
-    }
-}
-
-fn ends_item(fold: Fold, path: Steps, byte: u8) -> Turn
-    ensures { result ≡ marks (Role.OfItem fold) byte (Option.Some path) }
-{
-    if byte == b')' {
-        Turn::Stay(Stage::Behind(ItemSyntax::Of(fold, path), 0))
-    } else {
-        Turn::Dead
-    }
-}
-
-fn begins_operator(path: Steps, byte: u8) -> Turn
-    ensures { result ≡ marks Role.OfCondition byte (Option.Some path) }
-{
-    match byte {
-        b'=' => Turn::Stay(Stage::Compare(path, Operator::Equal)),
-        b'<' => Turn::Stay(Stage::Compare(path, Operator::Below)),
-        b'>' => Turn::Stay(Stage::Compare(path, Operator::Above)),
-        b'!' => Turn::Stay(Stage::Bang(path)),
+    let path = Steps::of(path);
+    match (role, byte) {
+        (Role::OfItem(fold), b')') => Turn::Stay(Stage::Behind(ItemSyntax::Of(fold, path), 0)),
+        (Role::OfCondition, b'=') => Turn::Stay(Stage::Compare(path, Operator::Equal)),
+        (Role::OfCondition, b'<') => Turn::Stay(Stage::Compare(path, Operator::Below)),
+        (Role::OfCondition, b'>') => Turn::Stay(Stage::Compare(path, Operator::Above)),
+        (Role::OfCondition, b'!') => Turn::Stay(Stage::Bang(path)),
         _ => Turn::Dead,
     }
 }
@@ -244,37 +223,18 @@ fn first_of_path(alloc: Global) -> Stage
     Stage::InPath(Role::OfCondition, Steps::new(alloc), Part::Between)
 }
 
-fn behind_bang(path: Steps, byte: u8) -> Turn
-    ensures { (items conditions : ℕ) → result ≡ next items conditions (Stage.Bang path) byte }
-{
-    if byte == b'=' {
-        Turn::Stay(Stage::Compare(path, Operator::NotEqual))
-    } else {
-        Turn::Dead
-    }
-}
-
 /// Behind an operator: `=` that makes it longer, `-` or a digit.
 fn compares(path: Steps, operator: Operator, byte: u8) -> Turn
     ensures { result ≡ compares path operator byte }
 {
-    match byte {
-        b'=' => or_equal(path, operator),
-        b'-' => Turn::Stay(Stage::Minus(path, operator)),
-        b'0'..=b'9' => {
+    match (byte, operator) {
+        (b'=', Operator::Below) => Turn::Stay(Stage::Compare(path, Operator::AtMost)),
+        (b'=', Operator::Above) => Turn::Stay(Stage::Compare(path, Operator::AtLeast)),
+        (b'-', _) => Turn::Stay(Stage::Minus(path, operator)),
+        (b'0'..=b'9', _) => {
             let number = Number::Up(u64::from(byte - b'0'));
             Turn::Stay(Stage::Literal(path, operator, number, 0))
         }
-        _ => Turn::Dead,
-    }
-}
-
-fn or_equal(path: Steps, operator: Operator) -> Turn
-    ensures { result ≡ or_equal path operator }
-{
-    match operator {
-        Operator::Below => Turn::Stay(Stage::Compare(path, Operator::AtMost)),
-        Operator::Above => Turn::Stay(Stage::Compare(path, Operator::AtLeast)),
         _ => Turn::Dead,
     }
 }
@@ -307,7 +267,10 @@ fn in_literal(
     ensures { result ≡ in_literal conditions path operator number n byte }
 {
     if n == 0 && byte.is_ascii_digit() {
-        return counts(path, operator, number.longer(byte - b'0'));
+        return match number.longer(byte - b'0') {
+            Some(number) => Turn::Stay(Stage::Literal(path, operator, number, 0)),
+            None => Turn::Dead,
+        };
     }
     if !is_next(" and ", n, byte) || conditions + 1 >= MOST_PARTS {
         return Turn::Dead;
@@ -322,14 +285,5 @@ fn in_literal(
         Turn::NextCondition(condition, first_of_path(alloc))
     } else {
         Turn::Stay(Stage::Literal(path, operator, number, n + 1))
-    }
-}
-
-fn counts(path: Steps, operator: Operator, number: Option<Number>) -> Turn
-    ensures { result ≡ counts path operator number }
-{
-    match number {
-        Some(number) => Turn::Stay(Stage::Literal(path, operator, number, 0)),
-        None => Turn::Dead,
     }
 }

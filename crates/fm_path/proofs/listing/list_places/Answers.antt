@@ -7,7 +7,7 @@ pub returns-clause-text : goal.returns-clause-text
 returns-clause-text c =
     simp (
       c.in_ok-list.ensures.text,
-      c.in-Ok.ensures.ok,
+      c.in_ok-text.ensures.ok,
       c.size-size.ensures.size,
       c.alignment-alignment.ensures.alignment,
       lines_listed c.args.layout.now [] 0 [],

@@ -7,4 +7,4 @@ pub loop-k-preserved : goal.loop-k-preserved
 loop-k-preserved c =
     let e = c.as_bytes-byte-items.ensures.bytes in
     name_more c.args.name.now c.loop-k.k c.from.result _ _ _ c.loop-k.invariant (omega (arith, ap length e)) c.as_bytes-byte-items.ensures.name
-    (c.from.ensures ∙ ap (λ t. get_or t c.loop-k.k 0) e) c.in-Ok-push.ensures.ascii c.in-Ok-push.ensures.bytes
+    (c.from.ensures ∙ ap (λ t. get_or t c.loop-k.k 0) e) c.in_ok-push.ensures.ascii c.in_ok-push.ensures.bytes
