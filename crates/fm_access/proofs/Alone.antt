@@ -1,8 +1,8 @@
 -- What runs of visits of the only caller do to the bytes of an arena.
-use Rattle.std.proofs.Common.{◌≡◌, ◌≢◌, ℕ, ◌+◌, ◌-◌, ◌*◌, ◌%◌, ◌^◌, ◌<◌, ◌≤◌, true, List, [], ◌++◌, length, take, drop, get_or, refl, sym, ap, subst, ◌∙◌, arith, append_assoc, Option, Some, None, Result, Ok, Err, IfOk}
-use Rattle.std.specs.Prelude.{OnErr}
+use Rattle.std.proofs.Common.{◌≡◌, ◌≢◌, ℕ, ◌+◌, ◌-◌, ◌*◌, ◌%◌, ◌^◌, ◌<◌, ◌≤◌, true, List, [], ◌++◌, length, take, drop, get_or, refl, sym, ap, subst, ◌∙◌, arith, append_assoc, Option, Some, None, Ok, Err}
 use Rattle.std.proofs.lemmas.List.{append-nil, drop-drop, length-take-le}
 use Rattle.std.proofs.lemmas.List.Elements.{All-take, All-from_get_or}
+use Rattle.std.proofs.Math.Seq.{take-add}
 use mir.Syntax.{w8}
 use mir.Val.{Fits}
 use Rattle.fm_base.specs.declared.caller.Caller.{Caller}
@@ -12,17 +12,16 @@ use Rattle.fm_base.specs.declared.refusal.Refusal.TheVariants.{Closed, WrongThre
 use Rattle.fm_base.specs.Arenas.{Alive, Arena, State, arena_of, has_arena, changed}
 use Rattle.fm_base.specs.Calls.{Entry}
 use Rattle.fm_base.specs.Histories.{IsLegal, state_after}
-use Rattle.fm_base.specs.View.{View, Makes, Did, IsByItself}
+use Rattle.fm_base.specs.View.{View, Did, IsByItself}
 use Rattle.fm_base.specs.Visits.{Run, ends, goes_on, piece_width}
 use Rattle.fm_base.proofs.Faith.{Makes-alone}
-use Rattle.fm_base.proofs.Lookup.{KeepsName, arena_of-id, changed_lookup, changed_same, lookup_changed}
+use Rattle.fm_base.proofs.Lookup.{arena_of-id, changed_lookup, changed_same, changed_twice, lookup_changed}
 use Rattle.fm_base.proofs.Making.{IsLegal-split, state_after-append}
 use Rattle.fm_bytes.specs.Bytes.{AreBytes, bytes_of, number_of}
 use Rattle.fm_bytes.specs.Words.{bytes_in}
 use Rattle.fm_bytes.proofs.Bytes.{bytes_of-number_of, number_of-lt}
-use Rattle.fm_bytes.proofs.Words.{take-add}
-use Rattle.fm_access.specs.Alone.{bytes_of_arena, with_bytes, with_words, FindsNumber, ChangesBytes, StaysOut}
-use Rattle.fm_access.specs.Ranges.{Reading, ReadsOn, EndsReading, ReadsRange, Putting, DoesRefuse, DoesGet}
+use Rattle.fm_access.specs.Alone.{bytes_of_arena, with_bytes, with_words, FindsAs, ChangesBytes, StaysOut}
+use Rattle.fm_access.specs.Ranges.{Reading, ReadsOn, EndsReading, ReadsRange, DoesRefuse, DoesRead}
 use Rattle.fm_access.proofs.Splicing.{with_none}
 use Rattle.fm_access.proofs.Visits.{VisitRefused, visit_refused, visit_reads}
 
@@ -100,54 +99,78 @@ reads_run limit c id end s x own answer (goes_on y first rest step run) legal =
       same = state_after-append limit s first rest ∙ ap (λ (t : State). state_after limit t rest) v.same ∙ more.same;
     }
 
-pub record FindsBytes (old now : View) (id : ArenaId) (place width : ℕ) (bytes : List ℕ) : Type 0 where
-  pub are : bytes ≡ take width (drop place (bytes_of_arena old.state id))
-  pub same : now.state ≡ old.state
+module _ {X : Type 0} (mean : List ℕ → X) (old now : View) (id : ArenaId) (place width : ℕ) where
+  -- What the only caller reads is what the bytes that stand there mean.
+  pub read_alone : (x : X) → Did old now (DoesRead mean old.caller id place width (Ok x)) → IsByItself old → FindsAs mean old now id place width x
+  read_alone x d alone =
+      let m = Makes-alone old now d.own alone d.makes in
+      let r = d.does.1 in
+      let all = reads_run old.limit old.caller id (place + width) old.state (record { at = place; bytes = [] }) d.own (Some r.bytes) r.visits m.0 in
+      let size : place + width - place ≡ width = omega arith in
+      record { value = r.value ∙ ap mean (all.answers ∙ ap (λ k. take k (drop place (bytes_of_arena old.state id))) size); same = m.1 ∙ all.same }
 
--- Bytes that the only caller reads are those that stand there.
-pub reads_alone : (old now : View) (id : ArenaId) (place width : ℕ) (bytes : List ℕ) (own : List Entry) → IsByItself old
-    → ReadsRange old.caller id place (place + width) own (Some bytes) → Makes old now own → FindsBytes old now id place width bytes
-reads_alone old now id place width bytes own alone run makes =
-    let m = Makes-alone old now own alone makes in
-    let all = reads_run old.limit old.caller id (place + width) old.state (record { at = place; bytes = [] }) own (Some bytes) run m.0 in
-    let size : place + width - place ≡ width = omega arith in
-    record { are = all.answers ∙ ap (λ k. take k (drop place (bytes_of_arena old.state id))) size; same = m.1 ∙ all.same }
-
--- A number that the only caller gets is that of the bytes that stand there.
-pub get_alone : (old now : View) (id : ArenaId) (place width : ℕ) (result : Result ℕ Refusal) → Did old now (DoesGet old.caller id place width result)
-    → IsByItself old → IfOk result (λ n. FindsNumber old now id place width n)
-get_alone old now id place width (Ok n) d alone =
-    let r = d.does.1 in
-    let f = reads_alone old now id place width r.bytes d.own alone r.visits d.makes in
-    record { value = r.value ∙ ap number_of f.are; same = f.same }
-get_alone old now id place width (Err r) d alone = tt
-
--- The only caller is refused where the arena isn't open to it.
-pub get_shut : (old now : View) (id : ArenaId) (place width : ℕ) (result : Result ℕ Refusal) → Did old now (DoesGet old.caller id place width result)
-    → IsByItself old → OnErr result (StaysOut old now id)
-get_shut old now id place width (Ok n) d alone = tt
-get_shut old now id place width (Err r) d alone =
-    let c = old.caller in
-    let end = place + width in
-    let first : Reading = record { at = place; bytes = [] } in
-    shut_out old now id (λ es. Run (ReadsOn c id end) (EndsReading c id end) first es None) r alone
-    (λ own run legal. let all = reads_run old.limit c id end old.state first own None run legal in record { over = all.answers; same = all.same }) d
+  -- It is refused where the arena isn't open to it.
+  pub read_shut : (r : Refusal) → Did old now (DoesRead mean old.caller id place width (Err r)) → IsByItself old → StaysOut old now id
+  read_shut r d alone =
+      shut_out old now id (λ es. ReadsRange old.caller id place (place + width) es None) r alone
+      (λ own run legal.
+      let all = reads_run old.limit old.caller id (place + width) old.state (record { at = place; bytes = [] }) own None run legal in
+      record { over = all.answers; same = all.same }) d
 
 -- ---- putting
 
-pub record RunPuts (s t : State) (id : ArenaId) (x : Putting) : Type 0 where
+-- from s to t these bytes were put into the arena, from the place on
+pub record Puts (s t : State) (id : ArenaId) (place : ℕ) (these : List ℕ) : Type 0 where
   pub words : List ℕ
   pub state : t ≡ changed s id (with_words words)
-  pub bytes : bytes_in words ≡ with_bytes (bytes_of_arena s id) x.at x.bytes
+  pub bytes : bytes_in words ≡ with_bytes (bytes_of_arena s id) place these
 
-pub puts_none : (s t : State) (id : ArenaId) (x : Putting) → x.bytes ≡ [] → t ≡ s → RunPuts s t id x
-puts_none s t id x none same =
+-- No byte.
+pub puts_none : (s : State) (id : ArenaId) (place : ℕ) (bytes : List ℕ) → bytes ≡ [] → Puts s s id place bytes
+puts_none s id place bytes none =
     let words = (arena_of s id).words in
     record {
       words = words;
-      state = same ∙ sym (changed_same s id (with_words words) refl);
-      bytes = sym (ap (with_bytes (bytes_of_arena s id) x.at) none ∙ with_none (bytes_of_arena s id) x.at);
+      state = sym (changed_same s id (with_words words) refl);
+      bytes = rw none (sym (with_none (bytes_of_arena s id) place));
     }
+
+module _ {s t : State} {id : ArenaId} (known : has_arena s id ≡ true) {place : ℕ} {bytes : List ℕ} (p : Puts s t id place bytes) where
+  -- The arena after it.
+  pub there : arena_of t id ≡ with_words p.words (arena_of s id)
+  there = ap (λ (u : State). arena_of u id) p.state ∙ lookup_changed s id (with_words p.words) (λ a. refl) known
+
+  pub bytes_there : bytes_of_arena t id ≡ with_bytes (bytes_of_arena s id) place bytes
+  bytes_there = ap (λ (a : Arena). bytes_in a.words) there ∙ p.bytes
+
+  -- The other arenas keep their bytes.
+  pub other_bytes : (other : ArenaId) → other ≢ id → bytes_of_arena t other ≡ bytes_of_arena s other
+  other_bytes other n =
+      let P : Arena → Arena → Type 0 = λ a b. a.id ≢ id → b.words ≡ a.words in
+      let here : P (arena_of s id) (with_words p.words (arena_of s id)) = λ m. absurd (m (arena_of-id s id)) in
+      let at : P (arena_of s other) (arena_of (changed s id (with_words p.words)) other) =
+      changed_lookup P (with_words p.words) (λ a. refl) (λ a m. refl) s id here other in
+      ap (λ (u : State). bytes_of_arena u other) p.state ∙ ap bytes_in (at (λ e. n (sym (arena_of-id s other) ∙ e)))
+
+  -- Bytes that are put behind it: of both, where the bytes are those of one.
+  pub puts_both : {u : State} {at from : ℕ} {more all : List ℕ} → Puts t u id at more
+      → with_bytes (with_bytes (bytes_of_arena s id) place bytes) at more ≡ with_bytes (bytes_of_arena s id) from all → Puts s u id from all
+  puts_both {at = at} {more = more} q e = record {
+    words = q.words;
+    state = q.state ∙ ap (λ (u : State). changed u id (with_words q.words)) p.state ∙ changed_twice s id (with_words p.words) (with_words q.words) (λ a. refl);
+    bytes = q.bytes ∙ ap (λ bs. with_bytes bs at more) bytes_there ∙ e;
+  }
+
+pub changes : (old now : View) (id : ArenaId) (place : ℕ) (bytes : List ℕ) → has_arena old.state id ≡ true → Puts old.state now.state id place bytes
+    → ChangesBytes old now id place bytes
+changes old now id place bytes known p =
+    record {
+      changed = bytes_there known p;
+      others = other_bytes known p;
+      rest = p.state ∙ ap (λ (a : Arena). changed old.state id (with_words a.words)) (sym (there known p));
+    }
+
+-- ---- bytes that are to be put
 
 -- Bytes of a slice.
 pub AreBytes-slice : (bytes : List ℕ) → ((i : ℕ) → Fits w8 (get_or bytes i 0)) → AreBytes bytes
@@ -165,41 +188,8 @@ is_part bytes width v h fits e =
     let part = take width bytes in
     let are : AreBytes part = All-take (λ b. b < 256) width bytes h in
     let count : length (take width bytes) ≡ width = length-take-le width bytes fits in
-    let Small : ℕ → Type 0 = λ k. number_of (take width bytes) < 2 ^ (8 * k) in
-    let small : number_of (take width bytes) < 2 ^ (8 * width) = subst Small count (number_of-lt part are) in
     record {
       count = count;
-      small = rw e small;
+      small = rw e (subst (λ (k : ℕ). number_of (take width bytes) < 2 ^ (8 * k)) count (number_of-lt part are));
       are = ap (bytes_of width) e ∙ ap (λ k. bytes_of k (number_of part)) (sym count) ∙ bytes_of-number_of part are;
     }
-
--- The arena after its words were changed.
-pub with_words_there : (s t : State) (id : ArenaId) (words : List ℕ) → has_arena s id ≡ true → t ≡ changed s id (with_words words)
-    → arena_of t id ≡ with_words words (arena_of s id)
-with_words_there s t id words known state = ap (λ (u : State). arena_of u id) state ∙ lookup_changed s id (with_words words) (λ a. refl) known
-
--- A change of one arena leaves the words of the others.
-pub other_words : (f : Arena → Arena) → KeepsName f → (s : State) (id other : ArenaId) → other ≢ id
-    → (arena_of (changed s id f) other).words ≡ (arena_of s other).words
-other_words f named s id other n =
-    let P : Arena → Arena → Type 0 = λ a b. a.id ≢ id → b.words ≡ a.words in
-    let here : P (arena_of s id) (f (arena_of s id)) = λ m. absurd (m (arena_of-id s id)) in
-    let at : P (arena_of s other) (arena_of (changed s id f) other) = changed_lookup P f named (λ a m. refl) s id here other in
-    at (λ e. n (sym (arena_of-id s other) ∙ e))
-
-pub changes : (old now : View) (id : ArenaId) (place : ℕ) (bytes : List ℕ) → has_arena old.state id ≡ true
-    → RunPuts old.state now.state id (record { at = place; bytes = bytes }) → ChangesBytes old now id place bytes
-changes old now id place bytes known r =
-    let there = with_words_there old.state now.state id r.words known r.state in
-    let words : (arena_of now.state id).words ≡ r.words = ap (λ (a : Arena). a.words) there in
-    record {
-      changed = ap bytes_in words ∙ r.bytes;
-      others = λ other n. ap (λ (s : State). bytes_of_arena s other) r.state ∙ ap bytes_in (other_words (with_words r.words) (λ a. refl) old.state id other n);
-      rest = r.state ∙ ap (λ ws. changed old.state id (with_words ws)) (sym words);
-    }
-
--- Where no byte is put, all stays.
-pub put_none : (old : View) (id : ArenaId) (place : ℕ) (bytes : List ℕ) → bytes ≡ [] → has_arena old.state id ≡ true → ChangesBytes old old id place bytes
-put_none old id place bytes none known =
-    let first : Putting = record { at = place; bytes = bytes } in
-    changes old old id place bytes known (puts_none old.state old.state id first none refl)

@@ -1,22 +1,20 @@
 -- Why accesses are refused, from what they did.
-use Rattle.std.proofs.Common.{◌≡◌, ℕ, ◌+◌, ◌%◌, ◌⊎◌, inl, inr, Bool, true, false, if◌then◌else◌, nat_eq, nat_le, Result, Ok, Err, IfErr, List, refl, sym, subst, ◌∙◌, arith}
+use Rattle.std.proofs.Common.{◌≡◌, ℕ, ◌+◌, ◌%◌, ◌⊎◌, inl, inr, Bool, true, false, if◌then◌else◌, nat_eq, nat_le, Result, Ok, Err, List, refl, sym, subst, ◌∙◌, arith}
 use Rattle.std.proofs.lemmas.Bool.{leb-true, leb-false}
 use Rattle.std.proofs.lemmas.Bool.Decides.{nat_tests}
 use Rattle.fm_base.specs.declared.caller.Caller.{Caller}
 use Rattle.fm_base.specs.declared.arena_id.ArenaId.{ArenaId}
 use Rattle.fm_base.specs.declared.refusal.Refusal.{Refusal}
 use Rattle.fm_base.specs.declared.refusal.Refusal.TheVariants.{Bounds, Misaligned, ReadOnly, Unsupported, WrongThread, Closed}
-use Rattle.fm_base.specs.Arenas.{MayUse}
 use Rattle.fm_base.specs.Calls.{Entry}
 use Rattle.fm_base.specs.Does.{DoesEnter}
-use Rattle.fm_access.specs.Found.{DoesAt, UseCause, WriteCause, SupportCause, IsWithin, IsEven, if_placed, PlaceCause}
+use Rattle.fm_access.specs.Found.{UseCause, WriteCause, SupportCause, IsWithin, IsEven, if_placed, PlaceCause}
 use Rattle.fm_access.specs.Ranges.{DoesRefuse}
 
 -- the causes of an access to the arena at the place that was found, or refused before
 pub record Causes (found : Result ℕ Refusal) (id : ArenaId) (c : Caller) (Cause : Refusal → Type 0) : Type 0 where
   pub before : (e : Refusal) → found ≡ Err e → Cause e
-  pub wrong_thread : (p : ℕ) → found ≡ Ok p → ¬ (MayUse id c) → Cause WrongThread
-  pub closed : (p : ℕ) → found ≡ Ok p → MayUse id c → Cause Closed
+  pub there : (p : ℕ) → found ≡ Ok p → (e : Refusal) → UseCause id c e → Cause e
 
 abbrev pub refused : Refusal → Result ℕ Refusal
 refused e = Err e
@@ -42,20 +40,6 @@ pub going : (c : Caller) (id : ArenaId) (Stops : List Entry → Type 0) (e : Ref
 going c id Stops WrongThread own d = d.0
 going c id Stops Closed own d = d.0
 going c id Stops e own d = absurd d
-
-by_arena : (c : Caller) (id : ArenaId) (Cause : Refusal → Type 0) (e : Refusal) → (¬ (MayUse id c) → Cause WrongThread) → (MayUse id c → Cause Closed)
-    → UseCause id c e → Cause e
-by_arena c id Cause WrongThread w k a = w a
-by_arena c id Cause Closed w k a = k a
-by_arena c id Cause e w k a = absurd a
-
--- A refused call has its cause.
-pub at_cause : {X : Type 0} (c : Caller) (id : ArenaId) (found : Result ℕ Refusal) (Does : ℕ → Result X Refusal → List Entry → Type 0) (Cause : Refusal
-    → Type 0) (result : Result X Refusal) (own : List Entry)
-    → Causes found id c Cause → ((place : ℕ) (e : Refusal) → Does place (Err e) own → UseCause id c e) → DoesAt found Does result own → IfErr result Cause
-at_cause {X} c id (Err e) Does Cause result own h at d = let P : Result X Refusal → Type 0 = λ x. IfErr x Cause in subst P (sym d.0) (h.before e refl)
-at_cause {X} c id (Ok p) Does Cause (Ok x) own h at d = tt
-at_cause {X} c id (Ok p) Does Cause (Err e) own h at d = by_arena c id Cause e (h.wrong_thread p refl) (h.closed p refl) (at p e d)
 
 -- ---- tests, one behind the other
 
@@ -86,19 +70,17 @@ pub tested_causes : (Passed Failed : Type 0) (tested found : Result ℕ Refusal)
 tested_causes Passed Failed tested found first id c Cause More t h fails passes = elim t [
   | inl here ↦ record {
     before = λ e x. passes here.0 e (h.before e (sym here.1 ∙ x));
-    wrong_thread = λ p x not. passes here.0 WrongThread (h.wrong_thread p (sym here.1 ∙ x) not);
-    closed = λ p x may. passes here.0 Closed (h.closed p (sym here.1 ∙ x) may);
+    there = λ p x e u. passes here.0 e (h.there p (sym here.1 ∙ x) e u);
   }
   | inr there ↦ record {
     before = λ e x. err_is first e More (sym there.1 ∙ x) (fails there.0);
-    wrong_thread = λ p x not. never p first (sym x ∙ there.1);
-    closed = λ p x may. never p first (sym x ∙ there.1);
+    there = λ p x e u. never p first (sym x ∙ there.1);
   }
 ]
 
 -- The causes at a place.
 pub place_causes : (at : ℕ) (id : ArenaId) (c : Caller) → Causes (Ok at) id c (UseCause id c)
-place_causes at id c = record { before = λ e x. never at e x; wrong_thread = λ p x not. not; closed = λ p x may. may }
+place_causes at id c = record { before = λ e x. never at e x; there = λ p x e u. u }
 
 -- ---- where bytes are placed
 

@@ -8,7 +8,7 @@ use Rattle.fm_base.specs.declared.refusal.Refusal.TheVariants.{Closed, WrongThre
 use Rattle.fm_base.specs.Arenas.{MayUse}
 use Rattle.fm_base.specs.Calls.{Entry}
 use Rattle.fm_base.specs.View.{View, Makes, Did}
-use Rattle.fm_base.specs.Visits.{refused_visit, Run}
+use Rattle.fm_base.specs.Visits.{refused_visit, Run, ends, goes_on}
 use Rattle.fm_base.specs.Does.{DoesEnter}
 use Rattle.fm_base.proofs.Making.{Makes-then, Makes-none}
 use Rattle.fm_base.proofs.Running.{Led, led_start, led_more, led_ends}
@@ -66,3 +66,17 @@ module _ {X Y : Type 0} {Step : X → List Entry → X → Type 0} {Ends : X →
         | inr may ↦ absurd (never may)
       ]
   going_refused answer r e d = absurd d.does
+
+-- where a run ended, and that it was good to be there
+pub record EndsAt {X : Type 0} (Good : X → Type 0) (Ends : X → List Entry → Type 0) : Type 0 where
+  pub last : X
+  pub own : List Entry
+  pub good : Good last
+  pub ends : Ends last own
+
+-- A run whose steps go on from what is good to what is ends there.
+pub run_ends : {X Y : Type 0} {Step : X → List Entry → X → Type 0} {Ends : X → List Entry → Y → Type 0} (Good : X → Type 0)
+    → ((x y : X) (own : List Entry) → Good x → Step x own y → Good y) → {x : X} {own : List Entry} {answer : Y} → Good x → Run Step Ends x own answer
+    → EndsAt Good (λ x es. Ends x es answer)
+run_ends Good steps {x} {own} g (ends e) = record { last = x; own = own; good = g; ends = e }
+run_ends Good steps {x} g (goes_on y first rest step run) = run_ends Good steps (steps x y first g step) run

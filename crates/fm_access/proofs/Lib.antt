@@ -3,9 +3,9 @@ pub mod Causes
 pub mod Filling
 pub mod Getting
 pub mod Going
+pub mod Keeping
 pub mod Learning
 pub mod Learnt
-pub mod Numbers
 pub mod Outside
 pub mod Patching
 pub mod Putting

@@ -1,5 +1,5 @@
 -- Pieces of the bytes that a call may touch.
-use Rattle.std.proofs.Common.{◌≡◌, ℕ, ◌+◌, ◌%◌, ◌≤◌, List, true, Some, None, Ok, arith}
+use Rattle.std.proofs.Common.{◌≡◌, ℕ, ◌+◌, ◌%◌, ◌≤◌, List, true, Some, None, Ok, subst, arith}
 use Rattle.fm_base.specs.declared.arena_id.ArenaId.{ArenaId}
 use Rattle.fm_base.specs.Arenas.{has_arena, MayUse}
 use Rattle.fm_base.specs.Calls.{Entry}
@@ -35,13 +35,22 @@ touch_again {place = place} {width = width} can v =
     let below : place + width ≤ place + width = omega arith in
     can_touch place width can.known can.given v.lasts v.outside can.some can.within below
 
+-- What was done, said otherwise.
+pub said : (old new : View) (P Q : List Entry → Type 0) → ((own : List Entry) → P own → Q own) → Did old new P → Did old new Q
+said old new P Q f d = record { own = d.own; does = f d.own d.does; makes = d.makes }
+
 -- What is learnt of a visit, by what it did.
 pub visited : {old now : View} {Does : List Entry → Type 0} → Did old now Does → now.inside ≡ None → Visited old now Does
 visited {old} {now} {Does} d out = record { did = d; outside = out; lasts = Did-lasts old now Does d }
 
 -- What is learnt of a visit that was let in, by what was done inside.
-pub visited_inside : {x y u v : View} {id : ArenaId} {Does : List Entry → Type 0} (acts : Acts) → DidEnter x y id (Ok tt) → u.inside ≡ Some id
-    → Makes y u (entries_of y.caller acts) → AfterLeave u v → (MayUse id x.caller → Does (visit x.caller id acts)) → Visited x v Does
-visited_inside {x} {y} {u} {v} {id} acts enter inside made leave does =
+pub visited_inside : {x y u v : View} {id : ArenaId} {P Does : List Entry → Type 0} (acts : Acts) → DidEnter x y id (Ok tt) → u.inside ≡ Some id
+    → (d : Did y u P) → d.own ≡ entries_of y.caller acts → AfterLeave u v → (MayUse id x.caller → Does (visit x.caller id acts)) → Visited x v Does
+visited_inside {x} {y} {u} {v} {id} acts enter inside d is leave does =
     let e = entered_makes x y id tt enter in
+    let made = subst (λ (es : List Entry). Makes y u es) is d.makes in
     visited (record { own = visit x.caller id acts; does = does e.0; makes = visit_of_inside x y u v id acts inside e.1 made leave.did }) leave.outside
+
+-- The same, said otherwise.
+pub visited_as : {old new : View} {Does More : List Entry → Type 0} → Visited old new Does → ((own : List Entry) → Does own → More own) → Visited old new More
+visited_as {old} {new} {Does} {More} v f = record { did = said old new Does More f v.did; outside = v.outside; lasts = v.lasts }

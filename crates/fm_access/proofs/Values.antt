@@ -1,5 +1,5 @@
 -- Values of a kind, from accesses to their bytes.
-use Rattle.std.proofs.Common.{◌≡◌, ℕ, ◌+◌, ◌*◌, ◌^◌, ◌<◌, ◌≤◌, true, Option, Some, None, Ok, List, [], length, take, drop, refl, sym, ap, subst, ◌∙◌, arith, length-append}
+use Rattle.std.proofs.Common.{◌≡◌, ℕ, ◌+◌, ◌*◌, ◌^◌, ◌<◌, ◌≤◌, true, Some, Ok, List, length, take, drop, refl, sym, ap, subst, ◌∙◌, arith, length-append}
 use Rattle.std.proofs.lemmas.List.{length-reverse, reverse-reverse}
 use Rattle.std.proofs.lemmas.List.Elements.{All-append, All-nil}
 use Rattle.fm_base.specs.declared.caller.Caller.{Caller}
@@ -7,7 +7,7 @@ use Rattle.fm_base.specs.declared.arena_id.ArenaId.{ArenaId}
 use Rattle.fm_base.specs.Arenas.{has_arena}
 use Rattle.fm_base.specs.Calls.{Entry}
 use Rattle.fm_base.specs.View.{View, Did, IsByItself}
-use Rattle.fm_base.specs.Visits.{Run, ends, goes_on, piece_width}
+use Rattle.fm_base.specs.Visits.{piece_width}
 use Rattle.fm_bytes.specs.Bytes.{AreBytes, bytes_of, number_of}
 use Rattle.fm_bytes.proofs.Bytes.{AreBytes-bytes_of, length-bytes_of, bytes_of-number_of, number_of-bytes_of, number_of-lt}
 use Rattle.fm_lanes.specs.declared.order.Order.{Order}
@@ -21,47 +21,37 @@ use Rattle.fm_lanes.specs.Value.{kind_of}
 use Rattle.fm_lanes.proofs.Meaning.{width_of-bounds}
 use Rattle.fm_lanes.proofs.Turning.{AreBytes-reverse, turned_number, bytes_of-turned_order}
 use Rattle.fm_access.specs.Alone.{bytes_of_arena, with_bytes}
-use Rattle.fm_access.specs.Ranges.{Reading, ReadsOn, EndsReading, ReadsRange, DoesGet, DoesPut}
-use Rattle.fm_access.specs.Values.{DoesGetValue, FindsValue, PutsValue, PutsThenGets}
-use Rattle.fm_access.proofs.Alone.{reads_alone}
-use Rattle.fm_access.proofs.PuttingAlone.{pieces_put, put_alone, put_within}
+use Rattle.fm_access.specs.Ranges.{Reading, ReadsOn, ReadsRange, DoesGet, DoesPut}
+use Rattle.fm_access.specs.Values.{DoesGetValue, PutsValue, PutsThenGets}
+use Rattle.fm_access.proofs.Alone.{changes}
+use Rattle.fm_access.proofs.Going.{run_ends}
+use Rattle.fm_access.proofs.PuttingAlone.{pieces_put, puts_alone}
 use Rattle.fm_access.proofs.Splicing.{takes_put}
-
--- What was done, said otherwise.
-pub said : (old new : View) (P Q : List Entry → Type 0) → ((own : List Entry) → P own → Q own) → Did old new P → Did old new Q
-said old new P Q f d = record { own = d.own; does = f d.own d.does; makes = d.makes }
 
 -- ---- the bytes that were read
 
--- bytes from the first place up to the end
-abbrev AreRead : ℕ → ℕ → Option (List ℕ) → Type 0
-AreRead first end (Some bytes) = AreBytes bytes × (first + length bytes ≡ end)
-AreRead first end None = Unit {0}
+-- bytes that were read, from a place on
+abbrev AreRead : ℕ → Reading → Type 0
+AreRead place x = AreBytes x.bytes × (place + length x.bytes ≡ x.at)
 
-ends_read : (c : Caller) (id : ArenaId) (first end : ℕ) (x : Reading) (own : List Entry) (answer : Option (List ℕ)) → EndsReading c id end x own answer
-    → AreBytes x.bytes → first + length x.bytes ≡ x.at → AreRead first end answer
-ends_read c id first end x own (Some bytes) e are n =
-    (subst (λ (bs : List ℕ). AreBytes bs) (sym e.1) are, ap (λ (bs : List ℕ). first + length bs) e.1 ∙ n ∙ e.0)
-ends_read c id first end x own None e are n = tt
-
-run_read : (c : Caller) (id : ArenaId) (first end : ℕ) (x : Reading) (own : List Entry) (answer : Option (List ℕ))
-    → Run (ReadsOn c id end) (EndsReading c id end) x own answer
-    → AreBytes x.bytes → first + length x.bytes ≡ x.at → AreRead first end answer
-run_read c id first end x own answer (ends e) are n = ends_read c id first end x own answer e are n
-run_read c id first end x own answer (goes_on y more rest s r) are n =
+reads_more : (c : Caller) (id : ArenaId) (place end : ℕ) (x y : Reading) (own : List Entry) → AreRead place x → ReadsOn c id end x own y → AreRead place y
+reads_more c id place end x y own r s =
     let width = piece_width x.at end in
-    let both : AreBytes y.bytes =
-    subst (λ (bs : List ℕ). AreBytes bs) (sym s.bytes) (All-append (λ b. b < 256) x.bytes (bytes_of width s.v) are (AreBytes-bytes_of width s.v)) in
-    let len : length y.bytes ≡ length x.bytes + width = ap length s.bytes ∙ length-append x.bytes (bytes_of width s.v)
+    let n = r.1 in
+    let at = s.at in
+    let len : length y.bytes ≡ length x.bytes + piece_width x.at end = ap length s.bytes ∙ length-append x.bytes (bytes_of width s.v)
     ∙ ap (λ n. length x.bytes + n) (length-bytes_of width s.v) in
-    run_read c id first end y rest answer r both (let at = s.at in omega arith)
+    (rw s.bytes (All-append (λ b. b < 256) x.bytes (bytes_of width s.v) r.0 (AreBytes-bytes_of width s.v)), omega arith)
 
 -- As many bytes are read as were asked for.
 pub bytes_read : (c : Caller) (id : ArenaId) (place width : ℕ) (own : List Entry) (bytes : List ℕ) → ReadsRange c id place (place + width) own (Some bytes)
     → AreBytes bytes × (length bytes ≡ width)
 bytes_read c id place width own bytes r =
-    let all = run_read c id place (place + width) (record { at = place; bytes = [] }) own (Some bytes) r (All-nil (λ b. b < 256)) (omega arith) in
-    (all.0, let n = all.1 in omega arith)
+    let e = run_ends (AreRead place) (λ x y es g s. reads_more c id place (place + width) x y es g s) (All-nil (λ b. b < 256), omega arith) r in
+    let last = e.ends.0 in
+    let count = e.good.1 in
+    let same : length bytes ≡ length e.last.bytes = ap length e.ends.1 in
+    (rw e.ends.1 e.good.0, omega arith)
 
 -- A number fits the bytes that it was got from.
 pub got_fits : (c : Caller) (id : ArenaId) (place width n : ℕ) (own : List Entry) → DoesGet c id place width (Ok n) own → n < 2 ^ (8 * width)
@@ -115,13 +105,10 @@ pub got_kind : (c : Caller) (k : ValueKind) (o : Order) (id : ArenaId) (place : 
     → kind_of v ≡ k
 got_kind c k o id place v own d = ap kind_of d.1.value ∙ kind_of-decoded k (number_of (lowest_first o d.1.bytes))
 
-AreBytes-lowest_first : (o : Order) (bytes : List ℕ) → AreBytes bytes → AreBytes (lowest_first o bytes)
-AreBytes-lowest_first Little bytes h = h
-AreBytes-lowest_first Big bytes h = AreBytes-reverse bytes h
-
 -- A value is put as bytes.
 pub AreBytes-value : (o : Order) (v : Value) → AreBytes (bytes_of_value o v)
-AreBytes-value o v = AreBytes-lowest_first o (bytes_of (width_of (kind_of v)) (encoded v)) (AreBytes-bytes_of (width_of (kind_of v)) (encoded v))
+AreBytes-value Little v = AreBytes-bytes_of (width_of (kind_of v)) (encoded v)
+AreBytes-value Big v = AreBytes-reverse (bytes_of (width_of (kind_of v)) (encoded v)) (AreBytes-bytes_of (width_of (kind_of v)) (encoded v))
 
 -- They are as many as its kind is wide.
 pub length-value : (o : Order) (v : Value) → length (bytes_of_value o v) ≡ width_of (kind_of v)
@@ -145,14 +132,6 @@ means_itself k o v same small back =
 
 -- ---- of the only caller
 
--- A value that it gets is that of the bytes that stand there.
-pub finds_value : (old new : View) (k : ValueKind) (o : Order) (id : ArenaId) (place : ℕ) (v : Value)
-    → Did old new (DoesGetValue old.caller k o id place (Ok v)) → IsByItself old → FindsValue old new k o id place v
-finds_value old new k o id place v d alone =
-    let read = d.does.1 in
-    let f = reads_alone old new id place (width_of k) read.bytes d.own alone read.visits d.makes in
-    record { value = read.value ∙ ap (value_of k o) f.are; same = f.same }
-
 -- A value that it puts stands there, and all else stays.
 pub puts_value : (old new : View) (k : ValueKind) (o : Order) (id : ArenaId) (place : ℕ) (v : Value) (u : Unit {0}) → kind_of v ≡ k
     → has_arena old.state id ≡ true
@@ -160,11 +139,9 @@ pub puts_value : (old new : View) (k : ValueKind) (o : Order) (id : ArenaId) (pl
 puts_value old new k o id place v u kind known d alone =
     let width : length (bytes_of_value o v) ≡ width_of k = length-value o v ∙ ap width_of kind in
     let some : 0 < length (bytes_of_value o v) = (let bounds = width_of-bounds k in let least = bounds.0 in omega arith) in
-    let within = put_within pieces_put old new id place (bytes_of_value o v) u (AreBytes-value o v) d alone some in
-    record {
-      bytes = put_alone pieces_put old new id place (bytes_of_value o v) (Ok u) (AreBytes-value o v) known d alone;
-      within = omega arith;
-    }
+    let put = puts_alone pieces_put old new id place (bytes_of_value o v) u (AreBytes-value o v) d alone in
+    let within = put.1 some in
+    record { bytes = changes old new id place (bytes_of_value o v) known put.0; within = omega arith }
 
 -- What was put is got.
 pub puts_then_gets : (k : ValueKind) (o : Order) (id : ArenaId) (place : ℕ) (v : Value) → kind_of v ≡ k

@@ -25,10 +25,14 @@ with_words words a = record a { words = words }
 abbrev pub DifferInWords : State → State → ArenaId → Type 0
 DifferInWords s t id = t ≡ changed s id (with_words (arena_of t id).words)
 
--- n is the number of the bytes from the place on, and the state stays
-pub record FindsNumber (old new : View) (id : ArenaId) (place width n : ℕ) : Type 0 where
-  pub value : n ≡ number_at (bytes_of_arena old.state id) place width
+-- x is what so many bytes from the place on mean, and the state stays
+pub record FindsAs {X : Type 0} (mean : List ℕ → X) (old new : View) (id : ArenaId) (place width : ℕ) (x : X) : Type 0 where
+  pub value : x ≡ mean (take width (drop place (bytes_of_arena old.state id)))
   pub same : new.state ≡ old.state
+
+-- it is their number
+abbrev pub FindsNumber : View → View → ArenaId → ℕ → ℕ → ℕ → Type 0
+FindsNumber = FindsAs number_of
 
 -- The arena's bytes from the place on are these. Its other bytes stay, those of other arenas, and all else of the state
 pub record ChangesBytes (old new : View) (id : ArenaId) (place : ℕ) (bytes : List ℕ) : Type 0 where

@@ -12,8 +12,8 @@ use Rattle.fm_lanes.specs.declared.value_kind.ValueKind.{ValueKind}
 use Rattle.fm_lanes.specs.Value.{kind_of}
 use Rattle.fm_access.specs.Alone.{FindsNumber, ChangesBytes, StaysOut}
 use Rattle.fm_access.specs.Found.{UseCause}
-use Rattle.fm_access.specs.Ranges.{DoesGet, DoesPut, DoesFill}
-use Rattle.fm_access.specs.Runs.{DoesPutAll}
+use Rattle.fm_access.specs.Ranges.{DoesGet, DoesPut, DoesPutBy, DoesSome}
+use Rattle.fm_access.specs.Runs.{PutsMore}
 use Rattle.fm_access.specs.Values.{DoesGetValue, DoesPutValue, FindsValue, PutsValue}
 
 -- in no arena; the arena is known, and has given the bytes from the place on
@@ -73,23 +73,31 @@ AfterGet old new id place width =
     After old new (DoesGet old.caller id place width) (UseCause id old.caller)
     (FindsNumber old new id place width) (StaysOut old new id) (KnowsArena id) (λ n. n < 2 ^ (8 * width))
 
--- of a call that puts these bytes
+-- of a call that puts these bytes, and does so
+abbrev pub AfterPutBy : View → View → ArenaId → ℕ → List ℕ → (Result (Unit {0}) Refusal → List Entry → Type 0) → (Refusal → Type 0)
+    → Result (Unit {0}) Refusal → Type 0
+AfterPutBy old new id place bytes Does Cause =
+    After old new Does Cause (λ u. ChangesBytes old new id place bytes) (StaysOut old new id) (KnowsArena id) (λ u. ⊤)
+
+-- piece by piece
 abbrev pub AfterPut : View → View → ArenaId → ℕ → List ℕ → Result (Unit {0}) Refusal → Type 0
-AfterPut old new id place bytes =
-    After old new (DoesPut old.caller id place bytes) (UseCause id old.caller)
-    (λ u. ChangesBytes old new id place bytes) (StaysOut old new id) (KnowsArena id) (λ u. ⊤)
+AfterPut old new id place bytes = AfterPutBy old new id place bytes (DoesPut old.caller id place bytes) (UseCause id old.caller)
+
+-- where it has a byte to put, of so many
+abbrev pub AfterSome : View → View → ArenaId → ℕ → List ℕ → ℕ → (Result (Unit {0}) Refusal → List Entry → Type 0)
+    → Result (Unit {0}) Refusal → Type 0
+AfterSome old new id place bytes n Does =
+    AfterPutBy old new id place bytes (DoesSome n Does) (λ e. (0 < n) × UseCause id old.caller e)
 
 -- of `put_bytes`
 abbrev pub AfterPutAll : View → View → ArenaId → ℕ → List ℕ → Result (Unit {0}) Refusal → Type 0
 AfterPutAll old new id place bytes =
-    After old new (DoesPutAll old.caller id place bytes) (λ e. (0 < length bytes) × UseCause id old.caller e)
-    (λ u. ChangesBytes old new id place bytes) (StaysOut old new id) (KnowsArena id) (λ u. ⊤)
+    AfterSome old new id place bytes (length bytes) (DoesPutBy PutsMore old.caller id place bytes)
 
 -- of `fill`
 abbrev pub AfterFill : View → View → ArenaId → ℕ → ℕ → ℕ → Result (Unit {0}) Refusal → Type 0
 AfterFill old new id place size byte =
-    After old new (DoesFill old.caller id place size byte) (λ e. (0 < size) × UseCause id old.caller e)
-    (λ u. ChangesBytes old new id place (replicate size byte)) (StaysOut old new id) (KnowsArena id) (λ u. ⊤)
+    AfterSome old new id place (replicate size byte) size (DoesPut old.caller id place (replicate size byte))
 
 -- of `get_value`
 abbrev pub AfterGetValue : View → View → ArenaId → ℕ → ValueKind → Order → Result Value Refusal → Type 0

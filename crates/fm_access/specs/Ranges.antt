@@ -40,16 +40,20 @@ abbrev pub ReadsRange : Caller → ArenaId → ℕ → ℕ → List Entry → Op
 ReadsRange c id place end own answer =
     Run (ReadsOn c id end) (EndsReading c id end) (record { at = place; bytes = [] }) own answer
 
--- the visits read these bytes, which make n
-pub record ReadsNumber (c : Caller) (id : ArenaId) (place width n : ℕ) (own : List Entry) : Type 0 where
+-- the visits read these bytes, which mean x
+pub record ReadsAs {X : Type 0} (mean : List ℕ → X) (c : Caller) (id : ArenaId) (place width : ℕ) (x : X) (own : List Entry) : Type 0 where
   pub bytes : List ℕ
   pub visits : ReadsRange c id place (place + width) own (Some bytes)
-  pub value : n ≡ number_of bytes
+  pub value : x ≡ mean bytes
 
-abbrev pub DoesGet : Caller → ArenaId → ℕ → ℕ → Result ℕ Refusal → List Entry → Type 0
-DoesGet c id place width (Ok n) own = MayUse id c × ReadsNumber c id place width n own
-DoesGet c id place width (Err r) own =
+abbrev pub DoesRead : {X : Type 0} → (List ℕ → X) → Caller → ArenaId → ℕ → ℕ → Result X Refusal → List Entry → Type 0
+DoesRead mean c id place width (Ok x) own = MayUse id c × ReadsAs mean c id place width x own
+DoesRead mean c id place width (Err r) own =
     DoesRefuse c id (λ es. ReadsRange c id place (place + width) es None) r own
+
+-- the number that they make
+abbrev pub DoesGet : Caller → ArenaId → ℕ → ℕ → Result ℕ Refusal → List Entry → Type 0
+DoesGet = DoesRead number_of
 
 -- ---- putting bytes
 
@@ -90,7 +94,10 @@ module _ (Step : Caller → ArenaId → Putting → List Entry → Putting → T
 abbrev pub DoesPut : Caller → ArenaId → ℕ → List ℕ → Result (Unit {0}) Refusal → List Entry → Type 0
 DoesPut = DoesPutBy PutsOn
 
+-- a call that does nothing where it has no byte to put, of so many
+abbrev pub DoesSome : ℕ → (Result (Unit {0}) Refusal → List Entry → Type 0) → Result (Unit {0}) Refusal → List Entry → Type 0
+DoesSome n Does result own = MatchBool (n == 0) ((result ≡ Ok tt) × (own ≡ [])) (Does result own)
+
 -- this byte is put at each place of the range, which may be empty
 abbrev pub DoesFill : Caller → ArenaId → ℕ → ℕ → ℕ → Result (Unit {0}) Refusal → List Entry → Type 0
-DoesFill c id place size byte result own =
-    MatchBool (size == 0) ((result ≡ Ok tt) × (own ≡ [])) (DoesPut c id place (replicate size byte) result own)
+DoesFill c id place size byte = DoesSome size (DoesPut c id place (replicate size byte))

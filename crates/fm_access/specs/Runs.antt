@@ -1,5 +1,5 @@
 -- Putting many bytes: a run of visits, the lowest place first, of which one puts all the whole words.
-use Rattle.std.specs.Prelude.{◌≡◌, ◌⊎◌, ℕ, ◌+◌, ◌*◌, ◌/◌, ◌%◌, ◌<◌, List, [], ◌++◌, length, drop, MatchBool, ◌==◌, Result, Ok, Err}
+use Rattle.std.specs.Prelude.{◌≡◌, ◌⊎◌, ℕ, ◌+◌, ◌*◌, ◌/◌, ◌%◌, ◌<◌, List, ◌++◌, length, drop, Result, Ok, Err}
 use Rattle.fm_base.specs.declared.caller.Caller.{Caller}
 use Rattle.fm_base.specs.declared.arena_id.ArenaId.{ArenaId}
 use Rattle.fm_base.specs.declared.refusal.Refusal.{Refusal}
@@ -8,7 +8,7 @@ use Rattle.fm_base.specs.Calls.{Entry}
 use Rattle.fm_base.specs.Does.{DoesEnter}
 use Rattle.fm_base.specs.Visits.{visit, writes}
 use Rattle.fm_bytes.specs.Words.{bytes_in, words_from}
-use Rattle.fm_access.specs.Ranges.{Putting, PutsOn, DoesPutBy}
+use Rattle.fm_access.specs.Ranges.{Putting, PutsOn, DoesPutBy, DoesSome}
 
 -- at a word's start: one visit puts all the whole words that are left
 pub record PutsWords (c : Caller) (id : ArenaId) (x : Putting) (own : List Entry) (y : Putting) : Type 0 where
@@ -41,5 +41,4 @@ DoesPutWords c id place count bytes (Err r) own = DoesEnter c id (Err r) own
 
 -- these bytes are put from the place on; there may be none
 abbrev pub DoesPutAll : Caller → ArenaId → ℕ → List ℕ → Result (Unit {0}) Refusal → List Entry → Type 0
-DoesPutAll c id place bytes result own =
-    MatchBool (length bytes == 0) ((result ≡ Ok tt) × (own ≡ [])) (DoesPutBy PutsMore c id place bytes result own)
+DoesPutAll c id place bytes = DoesSome (length bytes) (DoesPutBy PutsMore c id place bytes)

@@ -1,29 +1,25 @@
 -- A value of a kind at a place: its bytes, in either order.
-use Rattle.std.specs.Prelude.{◌≡◌, ℕ, ◌+◌, ◌≤◌, List, length, take, drop, Some, None, Result, Ok, Err}
+use Rattle.std.specs.Prelude.{◌≡◌, ℕ, ◌+◌, ◌≤◌, List, length, take, drop, Result}
 use Rattle.fm_base.specs.declared.caller.Caller.{Caller}
 use Rattle.fm_base.specs.declared.arena_id.ArenaId.{ArenaId}
 use Rattle.fm_base.specs.declared.refusal.Refusal.{Refusal}
-use Rattle.fm_base.specs.Arenas.{State, MayUse}
 use Rattle.fm_base.specs.Calls.{Entry}
+use Rattle.fm_base.specs.Arenas.{State}
 use Rattle.fm_base.specs.View.{View}
 use Rattle.fm_lanes.specs.declared.order.Order.{Order}
 use Rattle.fm_lanes.specs.declared.value.Value.{Value}
 use Rattle.fm_lanes.specs.declared.value_kind.ValueKind.{ValueKind}
 use Rattle.fm_lanes.specs.Coding.{value_of, bytes_of_value}
 use Rattle.fm_lanes.specs.Kind.{width_of}
-use Rattle.fm_access.specs.Alone.{bytes_of_arena, ChangesBytes}
-use Rattle.fm_access.specs.Ranges.{DoesRefuse, ReadsRange, DoesPut}
+use Rattle.fm_access.specs.Alone.{bytes_of_arena, FindsAs, ChangesBytes}
+use Rattle.fm_access.specs.Ranges.{ReadsAs, DoesRead, DoesPut}
 
 -- the visits read the bytes that mean v
-pub record ReadsValue (c : Caller) (k : ValueKind) (o : Order) (id : ArenaId) (place : ℕ) (v : Value) (own : List Entry) : Type 0 where
-  pub bytes : List ℕ
-  pub visits : ReadsRange c id place (place + width_of k) own (Some bytes)
-  pub value : v ≡ value_of k o bytes
+abbrev pub ReadsValue : Caller → ValueKind → Order → ArenaId → ℕ → Value → List Entry → Type 0
+ReadsValue c k o id place = ReadsAs (value_of k o) c id place (width_of k)
 
 abbrev pub DoesGetValue : Caller → ValueKind → Order → ArenaId → ℕ → Result Value Refusal → List Entry → Type 0
-DoesGetValue c k o id place (Ok v) own = MayUse id c × ReadsValue c k o id place v own
-DoesGetValue c k o id place (Err r) own =
-    DoesRefuse c id (λ es. ReadsRange c id place (place + width_of k) es None) r own
+DoesGetValue c k o id place = DoesRead (value_of k o) c id place (width_of k)
 
 abbrev pub DoesPutValue : Caller → Order → ArenaId → Value → ℕ → Result (Unit {0}) Refusal → List Entry → Type 0
 DoesPutValue c o id v place = DoesPut c id place (bytes_of_value o v)
@@ -34,10 +30,9 @@ DoesPutValue c o id v place = DoesPut c id place (bytes_of_value o v)
 abbrev pub value_at : State → ValueKind → Order → ArenaId → ℕ → Value
 value_at s k o id place = value_of k o (take (width_of k) (drop place (bytes_of_arena s id)))
 
--- v is the value at the place, and the state stays
-pub record FindsValue (old new : View) (k : ValueKind) (o : Order) (id : ArenaId) (place : ℕ) (v : Value) : Type 0 where
-  pub value : v ≡ value_at old.state k o id place
-  pub same : new.state ≡ old.state
+-- v is that value, and the state stays
+abbrev pub FindsValue : View → View → ValueKind → Order → ArenaId → ℕ → Value → Type 0
+FindsValue old new k o id place = FindsAs (value_of k o) old new id place (width_of k)
 
 -- The bytes from the place on are those of v, and the arena has room for them; all other bytes stay, and all else
 -- of the state

@@ -1,4 +1,4 @@
-ghost use Rattle.std.specs.Prelude.{◌≡◌, ◌+◌, ◌%◌, ◌≤◌};
+ghost use Rattle.std.specs.Prelude.{◌≡◌, ◌+◌, ◌%◌, ◌<◌};
 ghost use Rattle.fm_base.specs.View.{Did};
 ghost use Rattle.fm_bytes.specs.Bytes.{bytes_of};
 ghost use Rattle.fm_access.specs.Learnt.{CanTouchNumber, AfterGet, AfterPut};
@@ -29,22 +29,17 @@ pub fn get_number<M: Memory>(
     }
 }
 
-/// The same, piece by piece, for a number that crosses a word's end.
-#[tactic(auto, using(crate::proofs::Getting::get_starts))]
+/// The same, for a number that crosses a word's end: the piece up to there, and the one behind it.
 fn get_across<M: Memory>(m: &mut M, arena: ArenaId, place: u64, width: u32) -> Result<u64, Refusal>
-    requires { CanTouchNumber (M.view m.old) arena place width }
+    requires touch { CanTouchNumber (M.view m.old) arena place width }
+    requires across { 8 < place % 8 + width }
     ensures { Did (M.view m.old) (M.view m.new)
         (DoesGet (M.view m.old).caller arena place width result) }
 {
-    let end = place + u64::from(width);
-    let mut at = place;
-    let mut number = 0;
-    while at < end {
-        let piece = piece_width(at, end);
-        number += get_piece(m, arena, at, piece)? << (8 * (at - place));
-        at += u64::from(piece);
-    }
-    Ok(number)
+    let first = (8 - place % 8) as u32;
+    let low = get_piece(m, arena, place, first)?;
+    let high = get_piece(m, arena, place + u64::from(first), width - first)?;
+    Ok(low + (high << (8 * first)))
 }
 
 /// Puts the lowest `width` bytes of `number` at `place`, the lowest first: 1 to 8 bytes, which may cross a word's end.

@@ -1,6 +1,7 @@
 ghost use Rattle.std.specs.Prelude.{◌≡◌, ◌*◌, ◌%◌, ◌≤◌, length};
 ghost use Rattle.fm_base.specs.Does.{CanReachAll};
 ghost use Rattle.fm_base.specs.Learnt.{AfterStores};
+ghost use Rattle.fm_base.specs.View.{IsSound};
 ghost use Rattle.fm_access.specs.Learnt.{CanTouch, Visited};
 ghost use Rattle.fm_access.specs.Runs.{DoesPutWords};
 ghost use Rattle.fm_bytes.specs.Words.{words_from};
@@ -35,6 +36,7 @@ pub fn put_words<M: Memory>(
 
 /// Stores the first `count` words of `bytes`, the first of them at the index `first`, inside the arena.
 fn store_words<M: Memory>(m: &mut M, first: u64, count: usize, bytes: &[u8])
+    requires sound { IsSound (M.view m.old) }
     requires reach { CanReachAll (M.view m.old) first count }
     requires whole { 8 * count ≤ length bytes.now }
     ensures { AfterStores (M.view m.old) (M.view m.new) first (words_from count bytes.now) }

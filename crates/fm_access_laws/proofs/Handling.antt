@@ -1,5 +1,5 @@
 -- Each call of a handle stays below the segment's end, and so is tidy.
-use Rattle.std.proofs.Common.{◌≡◌, ℕ, ◌+◌, ◌*◌, ◌/◌, ◌%◌, ◌^◌, ◌<◌, ◌≤◌, inl, inr, Bool, true, false, nat_le, None, Result, Ok, Err, List, length, refl, sym, ap, subst, ◌∙◌, arith}
+use Rattle.std.proofs.Common.{◌≡◌, ℕ, ◌+◌, ◌*◌, ◌/◌, ◌%◌, ◌≤◌, inl, inr, Bool, true, false, nat_le, Result, Ok, Err, List, length, refl, sym, ap, subst, ◌∙◌, arith}
 use Rattle.std.proofs.lemmas.Bool.{leb-true}
 use Rattle.std.specs.Int.{is_power_of_two}
 use Rattle.fm_base.specs.Arenas.{only_caller}
@@ -11,15 +11,13 @@ use Rattle.fm_base.specs.Calls.{Entry}
 use Rattle.fm_base.specs.Visits.{Acts, Tries}
 use Rattle.fm_base.proofs.Faith.{Makes-alone}
 use Rattle.fm_bytes.specs.Bytes.{number_of}
-use Rattle.fm_bytes.proofs.Bytes.{number_of-lt}
 use Rattle.fm_lanes.specs.declared.order.Order.{Order}
 use Rattle.fm_lanes.specs.declared.value.Value.{Value}
 use Rattle.fm_lanes.specs.declared.value_kind.ValueKind.{ValueKind}
 use Rattle.fm_lanes.specs.declared.value_kind.ValueKind.TheVariants as kind
-use Rattle.fm_lanes.specs.Coding.{bytes_of_value}
+use Rattle.fm_lanes.specs.Coding.{value_of, bytes_of_value}
 use Rattle.fm_lanes.specs.Kind.{width_of}
 use Rattle.fm_lanes.specs.Value.{kind_of}
-use Rattle.fm_layout.specs.Tree as tree
 use Rattle.fm_layout.specs.Tree.{Tree}
 use Rattle.fm_layout.specs.WellFormed.{IsWellFormed}
 use Rattle.fm_layout.proofs.Powers.{IsPowerOfTwo-from_test}
@@ -29,22 +27,21 @@ use Rattle.fm_path.proofs.Resolving.{stays_inside}
 use Rattle.fm_path.specs.declared.value_spec.ValueSpec.{ValueSpec}
 use Rattle.fm_path_meaning.specs.Walk.{offset_at}
 use Rattle.fm_path_meaning.proofs.Inside.{divides_from, divides_gives, divides_add, divides_trans}
-use Rattle.fm_access.specs.Ranges.{DoesPut}
 use Rattle.fm_segment.specs.Region.{Region}
 use Rattle.fm_access.specs.Found.{DoesAt}
 use Rattle.fm_access.proofs.Causes.{never}
-use Rattle.fm_access.proofs.Values.{kind_of-decoded, AreBytes-value, length-value}
+use Rattle.fm_access.proofs.Values.{kind_of-decoded}
+use Rattle.fm_access.proofs.Keeping.{read_kept}
 use Rattle.fm_handle.specs.Access.{DoesVisit, Wins}
 use Rattle.fm_handle.specs.Acts.{Exchanges, puts, finds_another, CutOff, looked, missed, at_read, at_swap, with_value, sum_of}
 use Rattle.fm_handle.specs.Place.{if_writable, if_rooted, value_place, place_of, writable_place_of, update_place_of, can_update, fills_word, is_word, is_int_or_long, is_long, is_little}
 use Rattle.fm_handle.proofs.Causes.{tested, rooted}
 use Rattle.fm_handle.proofs.Places.{rooted_is, both_true, multiple, word_by_kind}
-use Rattle.fm_handle.proofs.Updating.{kind_of-sum_of}
+use Rattle.fm_handle.proofs.Updating.{kind_of-sum_of, small_value}
 use Rattle.fm_access_laws.specs.Handles.{DoesCall, gets, sets, sets_long, compares_and_sets, exchanges, exchanges_long, adds, adds_long, HandlesAreTidy, LoneHandlesAreTidy, PathsStayInside}
-use Rattle.fm_access_laws.proofs.Staying.{StayBelow, ActBelow, stay_visit, tries_below, tidy_by, tidy_alone}
-use Rattle.fm_access_laws.proofs.Staying.{stay_none, stay_refused}
-use Rattle.fm_access_laws.proofs.Tidying.{writable_on, supported_on, get_stays}
-use Rattle.fm_access_laws.proofs.Putting.{put_stays}
+use Rattle.fm_access_laws.proofs.Staying.{StayBelow, ActBelow, stay_none, stay_refused, stay_visit, stay_kept, tries_below, tidy_by, tidy_alone}
+use Rattle.fm_access_laws.proofs.Tidying.{writable_on, supported_on}
+use Rattle.fm_access_laws.proofs.Putting.{value_stays}
 
 -- ---- where the value lies
 
@@ -82,11 +79,7 @@ lies base is h r p s len e =
 
 long_width : (k : ValueKind) → is_long k ≡ true → width_of k ≡ 8
 long_width kind.Long is = refl
-long_width kind.Byte is = absurd (let no : ⊥ = cc in no)
-long_width kind.Boolean is = absurd (let no : ⊥ = cc in no)
-long_width kind.Char is = absurd (let no : ⊥ = cc in no)
-long_width kind.Short is = absurd (let no : ⊥ = cc in no)
-long_width kind.Int is = absurd (let no : ⊥ = cc in no)
+long_width k is = absurd (let no : ⊥ = cc in no)
 
 -- a value that can be updated
 updated_in : (h : Resolution) (r : Region) (p : ℕ) → Lies h r p → can_update h.value ≡ true → p % 8 + width_of h.value.kind ≤ 8
@@ -134,9 +127,7 @@ value_below : (a : ArenaId) (bound place : ℕ) (o : Order) (v : Value) (word : 
     → place + width_of (kind_of v) ≤ bound
     → Tries a (place / 8) (with_value o v (place % 8)) word acts → ActBelow a bound acts
 value_below a bound place o v word acts fits ends t =
-    let small : number_of (bytes_of_value o v) < 2 ^ (8 * width_of (kind_of v)) =
-    subst (λ (n : ℕ). number_of (bytes_of_value o v) < 2 ^ (8 * n)) (length-value o v) (number_of-lt (bytes_of_value o v) (AreBytes-value o v)) in
-    tries_below a bound place (width_of (kind_of v)) (number_of (bytes_of_value o v)) word acts small fits ends t
+    tries_below a bound place (width_of (kind_of v)) (number_of (bytes_of_value o v)) word acts (small_value o v) fits ends t
 
 exchange_below : (a : ArenaId) (bound place : ℕ) (o : Order) (expected v found : Value) (acts : Acts) → place % 8 + width_of (kind_of v) ≤ 8
     → place + width_of (kind_of v) ≤ bound
@@ -167,43 +158,44 @@ module _ (c : Caller) (h : Resolution) (r : Region) (base : ℕ) (is : List ℕ)
       let inside = u.1.inside in
       (omega arith, omega arith)
 
-  set_at : (v : Value) (result : Result (Unit {0}) Refusal) (own : List Entry) (p : ℕ) → kind_of v ≡ h.value.kind → writable_place_of base is h r ≡ Ok p
-      → DoesPut c r.arena p (bytes_of_value h.value.order v) result own → StayBelow r.arena (r.first + r.size) own
-  set_at v result own p k e d =
-      let l = lies base is h r p s len e in
-      let same : width_of (kind_of v) ≡ width_of h.value.kind = ap width_of k in
-      let count : length (bytes_of_value h.value.order v) ≡ width_of (kind_of v) = length-value h.value.order v in
-      let inside = l.inside in
-      put_stays c r.arena (r.first + r.size) p (bytes_of_value h.value.order v) result own (AreBytes-value h.value.order v) (omega arith) d
+  -- an update, where its acts stay below
+  update_stays : {X : Type 0} (works : ValueSpec → Bool) (Give : ℕ → X → Acts → Type 0) (result : Result X Refusal) (own : List Entry)
+      → ((p : ℕ) (x : X) (acts : Acts) → update_place_of works base is h r ≡ Ok p → Give p x acts → ActBelow r.arena (r.first + r.size) acts)
+      → DoesAt (update_place_of works base is h r) (λ p. DoesVisit c r.arena (Give p)) result own → StayBelow r.arena (r.first + r.size) own
+  update_stays works Give result own k d =
+      at_stays r.arena (r.first + r.size) (update_place_of works base is h r) _ result own
+      (λ p e g. visit_stays r.arena (r.first + r.size) c (Give p) result own (λ x acts a. k p x acts e a) g) d
+
+  -- a value of the handle's kind is put so
+  puts_at : {X : Type 0} (Give : ℕ → X → Acts → Type 0) (result : Result X Refusal) (own : List Entry) (v : X → Value)
+      → ((x : X) (p : ℕ) (acts : Acts) → Give p x acts → kind_of (v x) ≡ h.value.kind)
+      → ((p : ℕ) (x : X) (acts : Acts) → p % 8 + width_of (kind_of (v x)) ≤ 8 → p + width_of (kind_of (v x)) ≤ r.first + r.size → Give p x acts
+      → ActBelow r.arena (r.first + r.size) acts)
+      → DoesAt (update_place_of can_update base is h r) (λ p. DoesVisit c r.arena (Give p)) result own → StayBelow r.arena (r.first + r.size) own
+  puts_at Give result own v kind k d =
+      update_stays can_update Give result own
+      (λ p x acts e a. let f = fits_at (v x) p (kind x p acts a) e in k p x acts f.0 f.1 a) d
 
   call_stays : (own : List Entry) → DoesCall c h r base is own → StayBelow r.arena (r.first + r.size) own
   call_stays own (gets result d) = at_stays r.arena (r.first + r.size) (place_of base is h r) _ result own
-      (λ p e g. get_stays r.arena (r.first + r.size) c r.arena (tree.Value h.value.kind h.value.order (record { alignment = 1; name = None })) (Ok p) result
-      own g) d
-  call_stays own (sets v result k d) = at_stays r.arena (r.first + r.size) (writable_place_of base is h r) _ result own (λ p e g. set_at v result own p k e g) d
-  call_stays own (sets_long v result d) = at_stays r.arena (r.first + r.size) (update_place_of fills_word base is h r) _ result own
-      (λ p e g. visit_stays r.arena (r.first + r.size) c _ result own
-      (λ x acts a. let u = update_at fills_word p e in let fits = fills_in h r p u.1 u.0 in
-      subst (λ (xs : Acts). ActBelow r.arena (r.first + r.size) xs) (sym a) ((refl, fits), tt)) g) d
-  call_stays own (compares_and_sets expected v result k d) = at_stays r.arena (r.first + r.size) (update_place_of can_update base is h r) _ result own
-      (λ p e g. visit_stays r.arena (r.first + r.size) c _ result own
-      (λ x acts a. let f = fits_at v p k e in wins_below r.arena (r.first + r.size) p h.value.order expected v x acts f.0 f.1 a) g) d
-  call_stays own (exchanges expected v result k d) = at_stays r.arena (r.first + r.size) (update_place_of can_update base is h r) _ result own
-      (λ p e g. visit_stays r.arena (r.first + r.size) c _ result own
-      (λ x acts a. let f = fits_at v p k e in exchange_below r.arena (r.first + r.size) p h.value.order expected v x acts f.0 f.1 a) g) d
-  call_stays own (exchanges_long expected v result d) = at_stays r.arena (r.first + r.size) (update_place_of fills_word base is h r) _ result own
-      (λ p e g. visit_stays r.arena (r.first + r.size) c _ result own
-      (λ x acts a. let u = update_at fills_word p e in let fits = fills_in h r p u.1 u.0 in
-      subst (λ (xs : Acts). ActBelow r.arena (r.first + r.size) xs) (sym a.swaps) ((λ is_old. (refl, (λ at l past. absurd (omega arith)))), tt)) g) d
-  call_stays own (adds delta result k d) = at_stays r.arena (r.first + r.size) (update_place_of can_update base is h r) _ result own
-      (λ p e g. visit_stays r.arena (r.first + r.size) c _ result own
-      (λ x acts a.
-      let same : kind_of (sum_of x delta) ≡ h.value.kind = kind_of-sum_of x delta ∙ (ap kind_of a.value ∙ (kind_of-decoded (kind_of delta) _ ∙ k)) in
-      let f = fits_at (sum_of x delta) p same e in value_below r.arena (r.first + r.size) p h.value.order (sum_of x delta) a.word acts f.0 f.1 a.tries) g) d
-  call_stays own (adds_long delta result d) = at_stays r.arena (r.first + r.size) (update_place_of is_word base is h r) _ result own
-      (λ p e g. visit_stays r.arena (r.first + r.size) c _ result own
-      (λ x acts a. let u = update_at is_word p e in let fits = fills_in h r p u.1 (both_true (fills_word h.value) (is_little h.value.order) u.0).0 in
-      subst (λ (xs : Acts). ActBelow r.arena (r.first + r.size) xs) (sym a.adds) ((refl, fits), tt)) g) d
+      (λ p e g. read_kept (stay_kept r.arena (r.first + r.size) c) r.arena (value_of h.value.kind h.value.order) p (width_of h.value.kind) result own g) d
+  call_stays own (sets v result k d) = at_stays r.arena (r.first + r.size) (writable_place_of base is h r) _ result own
+      (λ p e g. value_stays c r.arena (r.first + r.size) p h.value.kind h.value.order v result own k (lies base is h r p s len e).inside g) d
+  call_stays own (sets_long v result d) = update_stays fills_word _ result own
+      (λ p x acts e a. let u = update_at fills_word p e in rw a ((refl, fills_in h r p u.1 u.0), tt)) d
+  call_stays own (compares_and_sets expected v result k d) = puts_at _ result own (λ x. v) (λ x p acts a. k)
+      (λ p x acts fits ends a. wins_below r.arena (r.first + r.size) p h.value.order expected v x acts fits ends a) d
+  call_stays own (exchanges expected v result k d) = puts_at _ result own (λ x. v) (λ x p acts a. k)
+      (λ p x acts fits ends a. exchange_below r.arena (r.first + r.size) p h.value.order expected v x acts fits ends a) d
+  call_stays own (exchanges_long expected v result d) = update_stays fills_word _ result own
+      (λ p x acts e a. let u = update_at fills_word p e in let fits = fills_in h r p u.1 u.0 in
+      rw a.swaps ((λ is_old. (refl, (λ at l past. absurd (omega arith)))), tt)) d
+  call_stays own (adds delta result k d) = puts_at _ result own (λ x. sum_of x delta)
+      (λ x p acts a. kind_of-sum_of x delta ∙ (ap kind_of a.value ∙ (kind_of-decoded (kind_of delta) _ ∙ k)))
+      (λ p x acts fits ends a. value_below r.arena (r.first + r.size) p h.value.order (sum_of x delta) a.word acts fits ends a.tries) d
+  call_stays own (adds_long delta result d) = update_stays is_word _ result own
+      (λ p x acts e a. let u = update_at is_word p e in
+      rw a.adds ((refl, fills_in h r p u.1 (both_true (fills_word h.value) (is_little h.value.order) u.0).0), tt)) d
 
 pub paths_inside : (t : Tree) → IsWellFormed t → PathsStayInside t
 paths_inside t well path h i = stays_inside path t h.offset h.dims i.last h.value h.root_size h.root_alignment well i.leads i.value i.root_size i.root_alignment

@@ -6,7 +6,7 @@ use Rattle.fm_base.specs.declared.caller.Caller.{Caller}
 use Rattle.fm_base.specs.declared.arena_id.ArenaId.{ArenaId}
 use Rattle.fm_base.specs.declared.refusal.Refusal.{Refusal}
 use Rattle.fm_base.specs.Arenas.{are_one, State, arena_of}
-use Rattle.fm_base.specs.Calls.{Call, Open, Enter, Read, Write, SwapIf, Add, Allocate, Leave, Hold, Unhold, Shut, End, Lend, Back, Reply, Fine, Found, Entry, entry_of}
+use Rattle.fm_base.specs.Calls.{Call, Read, Write, SwapIf, Add, Leave, Reply, Fine, Found, Entry, entry_of}
 use Rattle.fm_base.specs.Histories.{IsLegal, DifferBelow, IsTidyIn, IsTidy, made_by}
 use Rattle.fm_base.specs.Machine.{reply_to, after}
 use Rattle.fm_base.specs.Visits.{Acts, entries_of, visit, refused_visit, Tries, looked, missed, hit}
@@ -15,6 +15,7 @@ use Rattle.fm_base.proofs.Growing.{Grows-state_after}
 use Rattle.fm_bytes.specs.Bytes.{bytes_of, number_of, replaced}
 use Rattle.fm_bytes.proofs.Bytes.{length-bytes_of, lane-number_of, bytes_of-replaced}
 use Rattle.fm_access.specs.Alone.{with_bytes}
+use Rattle.fm_access.proofs.Keeping.{IsKept}
 use Rattle.fm_access.proofs.Splicing.{keeps_elsewhere}
 use Rattle.fm_access.specs.Pieces.{PutsBytes, whole, narrow, PutsPiece, ReadsPiece}
 use Rattle.fm_access_laws.specs.Accesses.{IsTidyBy}
@@ -48,7 +49,7 @@ pub stay_unless : (a : ArenaId) (end : ℕ) (none : Bool) (result : Result (Unit
 stay_unless a end true result own Does f d = stay_none a end own d.1
 stay_unless a end false result own Does f d = f d
 
-pub stay_append : (a : ArenaId) (end : ℕ) (es fs : List Entry) → StayBelow a end es → StayBelow a end fs → StayBelow a end (es ++ fs)
+stay_append : (a : ArenaId) (end : ℕ) (es fs : List Entry) → StayBelow a end es → StayBelow a end fs → StayBelow a end (es ++ fs)
 stay_append a end [] fs h k = k
 stay_append a end (e ∷ es) fs h k = (h.0, stay_append a end es fs h.1 k)
 
@@ -61,10 +62,14 @@ pub stay_visit : (a : ArenaId) (end : ℕ) (c : Caller) (id : ArenaId) (acts : A
 stay_visit a end c id acts h = (tt, stay_append a end (entries_of c acts) (entry_of c (Leave id) Fine ∷ []) (stay_of_acts a end c acts h) (tt, tt))
 
 -- A visit that reads changes nothing.
-pub stay_reads : (a : ArenaId) (end : ℕ) (c : Caller) (id : ArenaId) (place width v : ℕ) (own : List Entry) → ReadsPiece c id place width v own
+stay_reads : (a : ArenaId) (end : ℕ) (c : Caller) (id : ArenaId) (place width v : ℕ) (own : List Entry) → ReadsPiece c id place width v own
     → StayBelow a end own
 stay_reads a end c id place width v own r =
     rw r.visits (stay_visit a end c id ((Read id (place / 8), Found r.word) ∷ []) (tt, tt))
+
+-- So a call stays below where its puts do.
+pub stay_kept : (a : ArenaId) (end : ℕ) (c : Caller) → IsKept c (StayBelow a end)
+stay_kept a end c = record { none = tt; both = stay_append a end; refused = λ id. (tt, tt); reads = stay_reads a end c }
 
 -- ---- bytes that are put
 
@@ -105,9 +110,6 @@ stay_puts c id end place width v own h fits ends p =
 
 tidy_here : (limit : ℕ) (s : State) (a : ArenaId) (end : ℕ) (call : Call) → end ≤ (arena_of s a).given → ChangesBelow a end call (reply_to limit s call)
     → IsTidyIn s call
-tidy_here limit s a end (Open id) h b = tt
-tidy_here limit s a end (Enter id) h b = tt
-tidy_here limit s a end (Read id word) h b = tt
 tidy_here limit s a end (Write id word value) h b = λ at l p.
     let e : (arena_of s id).given ≡ (arena_of s a).given = ap (λ (x : ArenaId). (arena_of s x).given) b.0 in
     let k = b.1 in
@@ -120,14 +122,7 @@ tidy_here limit s a end (Add id word n) h b = λ at l p.
     let e : (arena_of s id).given ≡ (arena_of s a).given = ap (λ (x : ArenaId). (arena_of s x).given) b.0 in
     let k = b.1 in
     absurd (omega arith)
-tidy_here limit s a end (Allocate id size align) h b = tt
-tidy_here limit s a end (Leave id) h b = tt
-tidy_here limit s a end (Hold id) h b = tt
-tidy_here limit s a end (Unhold id) h b = tt
-tidy_here limit s a end (Shut id) h b = tt
-tidy_here limit s a end (End id) h b = tt
-tidy_here limit s a end (Lend block id part) h b = tt
-tidy_here limit s a end (Back block) h b = tt
+tidy_here limit s a end call h b = tt
 
 -- A caller's entries that stay below a count that was given are tidy.
 pub tidy_by : (c : Caller) (limit end : ℕ) (a : ArenaId) (s : State) (all : List Entry) → IsLegal limit s all → end ≤ (arena_of s a).given

@@ -1,34 +1,28 @@
 -- Each access to a segment stays below its end, and so is tidy.
-use Rattle.std.proofs.Common.{◌≡◌, ℕ, ℤ, ◌+◌, ◌*◌, ◌%◌, ◌^◌, ◌<◌, ◌≤◌, ◌==◌, ◌&&◌, Bool, true, false, if◌then◌else◌, nat_le, nat_lt, Option, Some, None, Result, Ok, Err, List, [], length, replicate, refl, sym, ap, subst, arith}
+use Rattle.std.proofs.Common.{◌≡◌, ℕ, ℤ, ◌+◌, ◌*◌, ◌<◌, ◌≤◌, ◌==◌, ◌&&◌, Bool, true, false, if◌then◌else◌, nat_le, nat_lt, Result, Ok, Err, List, length, replicate, refl, sym, subst, arith}
 use Rattle.std.proofs.lemmas.Bool.{leb-true}
 use Rattle.std.proofs.lemmas.List.{length-replicate}
 use Rattle.std.proofs.lemmas.List.Elements.{All-replicate}
 use Rattle.fm_base.specs.declared.caller.Caller.{Caller}
 use Rattle.fm_base.specs.declared.arena_id.ArenaId.{ArenaId}
 use Rattle.fm_base.specs.declared.refusal.Refusal.{Refusal}
-use Rattle.fm_base.specs.declared.refusal.Refusal.TheVariants.{Bounds, ReadOnly, Unsupported, WrongThread, Closed}
+use Rattle.fm_base.specs.declared.refusal.Refusal.TheVariants.{Bounds, ReadOnly, Unsupported}
 use Rattle.fm_base.specs.Calls.{Entry}
-use Rattle.fm_base.specs.Visits.{Run, ends, goes_on, refused_visit, piece_width}
 use Rattle.fm_base.proofs.Faith.{Makes-alone}
-use Rattle.fm_bytes.proofs.Bytes.{lane-lt}
 use Rattle.fm_lanes.specs.declared.value.Value.{Value}
-use Rattle.fm_lanes.specs.Coding.{bytes_of_value}
+use Rattle.fm_lanes.specs.Coding.{value_of}
 use Rattle.fm_lanes.specs.Kind.{width_of}
 use Rattle.fm_lanes.specs.Value.{kind_of}
 use Rattle.fm_layout.specs.Tree as tree
 use Rattle.fm_layout.specs.Tree.{Tree, alignment_of}
 use Rattle.fm_layout.specs.Size.{size_of}
 use Rattle.fm_access.proofs.Causes.{never, placed_ok}
-use Rattle.fm_access.proofs.Values.{AreBytes-value, length-value}
-use Rattle.fm_access.specs.Ranges.{Reading, ReadsOn, EndsReading, DoesPut, DoesFill}
+use Rattle.fm_access.proofs.Keeping.{read_kept}
+use Rattle.fm_access.specs.Ranges.{DoesPut, DoesFill}
 use Rattle.fm_copies.specs.declared.side.Side.{Side}
-use Rattle.fm_copies.specs.declared.side.Piece.{Piece}
-use Rattle.fm_copies.specs.declared.side.Way.{Way}
-use Rattle.fm_copies.specs.declared.side.Way.TheVariants.{Up}
-use Rattle.fm_copies.specs.Sides.{side, next_piece, IsPieceOf, StopsAt, first, second}
-use Rattle.fm_copies.specs.Copies.{CopiesPiece, CopiesOn, EndsCopy, DoesCopy}
-use Rattle.fm_copies.specs.Comparisons.{ComparesPiece, AgreesOn, EndsComparing, DoesCompare}
-use Rattle.fm_copies.proofs.Fitting.{next_piece_fits}
+use Rattle.fm_copies.specs.Sides.{side}
+use Rattle.fm_copies.specs.Copies.{DoesCopy}
+use Rattle.fm_copies.proofs.Keeping.{compare_kept, copy_kept}
 use Rattle.fm_handle.proofs.Places.{both_true}
 use Rattle.fm_segment.specs.Access.{HasKind, place_of, DoesGetAt, DoesSetAt, writable_place_of, writable_place_at_index}
 use Rattle.fm_segment.specs.Comparisons.{DoesMismatch, common_size}
@@ -37,8 +31,8 @@ use Rattle.fm_segment.specs.Fills.{DoesAfter, checked_write}
 use Rattle.fm_segment.specs.Puts.{checked_put}
 use Rattle.fm_segment.specs.Region.{Region}
 use Rattle.fm_access_laws.specs.Accesses.{DoesAccess, gets, sets, sets_at_index, fills, puts, copies, compares, AccessesAreTidy, LoneAccessesAreTidy}
-use Rattle.fm_access_laws.proofs.Putting.{put_stays, put_all_stays}
-use Rattle.fm_access_laws.proofs.Staying.{StayBelow, stay_none, stay_unless, stay_refused, stay_append, stay_reads, stay_puts, tidy_by, tidy_alone}
+use Rattle.fm_access_laws.proofs.Putting.{put_stays, value_stays, put_all_stays}
+use Rattle.fm_access_laws.proofs.Staying.{StayBelow, stay_none, stay_unless, stay_puts, stay_kept, tidy_by, tidy_alone}
 
 -- ---- tests that were passed
 
@@ -64,73 +58,18 @@ after_stays : (a : ArenaId) (bound : ℕ) (checked : Result (Unit {0}) Refusal) 
 after_stays a bound (Err e) Does result own f d = stay_none a bound own d.1
 after_stays a bound (Ok u) Does result own f d = f refl d
 
--- ---- reading
+-- ---- values
 
-module _ (a : ArenaId) (bound : ℕ) (c : Caller) where
-  read_end : (id : ArenaId) (end : ℕ) (x : Reading) (own : List Entry) (answer : Option (List ℕ)) → EndsReading c id end x own answer → StayBelow a bound own
-  read_end id end x own (Some bytes) e = stay_none a bound own e.2
-  read_end id end x own None e = stay_refused a bound c id own e.1
-
-  read_run : (id : ArenaId) (end : ℕ) (x : Reading) (own : List Entry) (answer : Option (List ℕ)) → Run (ReadsOn c id end) (EndsReading c id end) x own answer
-      → StayBelow a bound own
-  read_run id end x own answer (ends e) = read_end id end x own answer e
-  read_run id end x own answer (goes_on y mine rest s r) =
-      stay_append a bound mine rest (stay_reads a bound c id x.at (piece_width x.at end) s.v mine s.piece) (read_run id end y rest answer r)
-
-  pub get_stays : (id : ArenaId) (t : Tree) (place : Result ℕ Refusal) (result : Result Value Refusal) (own : List Entry) → DoesGetAt c id t place result own
-      → StayBelow a bound own
-  get_stays id t (Err e) result own d = stay_none a bound own d.1
-  get_stays id (tree.Value k o l) (Ok p) (Ok v) own d = read_run id (p + width_of k) (record { at = p; bytes = [] }) own (Some d.1.bytes) d.1.visits
-  get_stays id (tree.Value k o l) (Ok p) (Err WrongThread) own d = stay_none a bound own d.1
-  get_stays id (tree.Value k o l) (Ok p) (Err Closed) own d = read_run id (p + width_of k) (record { at = p; bytes = [] }) own None d.1
-  get_stays id (tree.Value k o l) (Ok p) (Err e) own d = absurd d
-  get_stays id t (Ok p) result own d = absurd d
-
-  -- ---- two sides
-
-  stop_stays : (x y : Side) (p : Piece) (own : List Entry) → StopsAt c x y p own → StayBelow a bound own
-  stop_stays x y p own first = (tt, tt)
-  stop_stays x y p own (second v mine r) =
-      stay_append a bound mine (refused_visit c y.arena) (stay_reads a bound c x.arena (x.at + p.offset) p.width v mine r) (tt, tt)
-
-  both_stay : (x y : Side) (p : Piece) (found : Option ℕ) (own : List Entry) → ComparesPiece c x y p found own → StayBelow a bound own
-  both_stay x y p found own d =
-      subst (λ (es : List Entry). StayBelow a bound es) (sym d.visits)
-      (stay_append a bound d.first d.second (stay_reads a bound c x.arena (x.at + p.offset) p.width d.v d.first d.reads_first)
-      (stay_reads a bound c y.arena (y.at + p.offset) p.width d.w d.second d.reads_second))
-
-  compare_end : (x y : Side) (count left : ℕ) (own : List Entry) (answer : Option (Option ℕ)) → EndsComparing c x y count left own answer
-      → StayBelow a bound own
-  compare_end x y count left own (Some None) e = stay_none a bound own e.1
-  compare_end x y count left own (Some (Some offset)) e = both_stay x y (next_piece Up x y count left) (Some e.at) own e.piece
-  compare_end x y count left own None e = stop_stays x y (next_piece Up x y count left) own e.1
-
-  compare_run : (x y : Side) (count left : ℕ) (own : List Entry) (answer : Option (Option ℕ))
-      → Run (AgreesOn c x y count) (EndsComparing c x y count) left own answer → StayBelow a bound own
-  compare_run x y count left own answer (ends e) = compare_end x y count left own answer e
-  compare_run x y count left own answer (goes_on now mine rest s r) =
-      stay_append a bound mine rest (both_stay x y (next_piece Up x y count left) None mine s.piece) (compare_run x y count now rest answer r)
-
-  compare_stays : (x y : Side) (count : ℕ) (result : Result (Option ℕ) Refusal) (own : List Entry) → DoesCompare c x y count result own → StayBelow a bound own
-  compare_stays x y count (Ok found) own d = compare_run x y count count own (Some found) d.visits
-  compare_stays x y count (Err WrongThread) own d = stay_none a bound own d.1
-  compare_stays x y count (Err Closed) own d = compare_run x y count count own None d.visits
-  compare_stays x y count (Err e) own d = absurd d
-
-  mismatch_stays : (r other : Region) (result : Result ℤ Refusal) (own : List Entry) → DoesMismatch c r other result own → StayBelow a bound own
-  mismatch_stays r other (Ok z) own d = compare_stays (side r.arena r.first) (side other.arena other.first) (common_size r other) (Ok d.0) own d.1
-  mismatch_stays r other (Err e) own d = compare_stays (side r.arena r.first) (side other.arena other.first) (common_size r other) (Err e) own d
-
--- ---- a value
+pub get_stays : (a : ArenaId) (bound : ℕ) (c : Caller) (id : ArenaId) (t : Tree) (place : Result ℕ Refusal) (result : Result Value Refusal) (own : List Entry)
+    → DoesGetAt c id t place result own → StayBelow a bound own
+get_stays a bound c id t (Err e) result own d = stay_none a bound own d.1
+get_stays a bound c id (tree.Value k o l) (Ok p) result own d = read_kept (stay_kept a bound c) id (value_of k o) p (width_of k) result own d
+get_stays a bound c id t (Ok p) result own d = absurd d
 
 set_stays : (c : Caller) (id : ArenaId) (bound : ℕ) (t : Tree) (found : Result ℕ Refusal) (v : Value) (result : Result (Unit {0}) Refusal) (own : List Entry)
     → ((p : ℕ) → found ≡ Ok p → p + size_of t ≤ bound) → HasKind t (kind_of v) → DoesSetAt c id t found v result own → StayBelow id bound own
 set_stays c id bound t (Err e) v result own h k d = stay_none id bound own d.1
-set_stays c id bound (tree.Value kind o l) (Ok p) v result own h k d =
-    let same : width_of (kind_of v) ≡ width_of kind = ap width_of k in
-    let len : length (bytes_of_value o v) ≡ width_of (kind_of v) = length-value o v in
-    let within : p + width_of kind ≤ bound = h p refl in
-    put_stays c id bound p (bytes_of_value o v) result own (AreBytes-value o v) (omega arith) d
+set_stays c id bound (tree.Value kind o l) (Ok p) v result own h k d = value_stays c id bound p kind o v result own k (h p refl) d
 set_stays c id bound t (Ok p) v result own h k d = absurd d
 
 -- A value that may be put ends in the segment.
@@ -151,37 +90,20 @@ fill_stays c r byte result own b d =
     stay_unless r.arena (r.first + r.size) (r.size == 0) result own (DoesPut c r.arena r.first (replicate r.size byte) result own)
     (put_stays c r.arena (r.first + r.size) r.first (replicate r.size byte) result own (All-replicate (λ n. n < 256) r.size byte b) (omega arith)) d
 
--- ---- a copy
-
-copied_stays : (c : Caller) (a b : Side) (bound count left : ℕ) (p : Piece) (own : List Entry) → b.at + count ≤ bound → IsPieceOf a b count left p
-    → CopiesPiece c a b p own → StayBelow b.arena bound own
-copied_stays c a b bound count left p own h is d =
-    let small : d.v < 2 ^ (8 * p.width) = subst (λ (n : ℕ). n < 2 ^ (8 * p.width)) (sym d.reads.value) (lane-lt d.reads.word ((a.at + p.offset) % 8) p.width) in
-    let inside = is.inside in
-    subst (λ (es : List Entry). StayBelow b.arena bound es) (sym d.visits)
-    (stay_append b.arena bound d.reading d.putting (stay_reads b.arena bound c a.arena (a.at + p.offset) p.width d.v d.reading d.reads)
-    (stay_puts c b.arena bound (b.at + p.offset) p.width d.v d.putting small is.at.within_target (omega arith) d.puts))
-
-module _ (c : Caller) (a b : Side) (bound count : ℕ) (way : Way) (h : b.at + count ≤ bound) where
-  copy_end : (left : ℕ) (own : List Entry) (whole : Bool) → EndsCopy c a b count way left own whole → StayBelow b.arena bound own
-  copy_end left own true e = stay_none b.arena bound own e.1
-  copy_end left own false e = stop_stays b.arena bound c a b (next_piece way a b count left) own e.1
-
-  copy_run : (left : ℕ) (own : List Entry) (whole : Bool) → left ≤ count → Run (CopiesOn c a b count way) (EndsCopy c a b count way) left own whole
-      → StayBelow b.arena bound own
-  copy_run left own whole l (ends e) = copy_end left own whole e
-  copy_run left own whole l (goes_on now mine rest s r) =
-      let after = s.then in
-      stay_append b.arena bound mine rest
-      (copied_stays c a b bound count left (next_piece way a b count left) mine h (next_piece_fits way a b count left s.more l) s.piece)
-      (copy_run now rest whole (omega arith) r)
+-- ---- a copy, and a comparison
 
 copies_stay : (c : Caller) (a b : Side) (bound count : ℕ) (result : Result (Unit {0}) Refusal) (own : List Entry) → b.at + count ≤ bound
     → DoesCopy c a b count result own → StayBelow b.arena bound own
-copies_stay c a b bound count (Ok u) own h d = copy_run c a b bound count d.way h count own true (omega arith) d.visits
-copies_stay c a b bound count (Err WrongThread) own h d = stay_none b.arena bound own d.1
-copies_stay c a b bound count (Err Closed) own h d = copy_run c a b bound count d.way h count own false (omega arith) d.visits
-copies_stay c a b bound count (Err e) own h d = absurd d
+copies_stay c a b bound count result own h d =
+    copy_kept (stay_kept b.arena bound c) a b count
+    (λ p v es at inside small x. stay_puts c b.arena bound (b.at + p.offset) p.width v es small at.within_target (omega arith) x) result own d
+
+mismatch_stays : (a : ArenaId) (bound : ℕ) (c : Caller) (r other : Region) (result : Result ℤ Refusal) (own : List Entry) → DoesMismatch c r other result own
+    → StayBelow a bound own
+mismatch_stays a bound c r other (Ok z) own d =
+    compare_kept (stay_kept a bound c) (side r.arena r.first) (side other.arena other.first) (common_size r other) (Ok d.0) own d.1
+mismatch_stays a bound c r other (Err e) own d =
+    compare_kept (stay_kept a bound c) (side r.arena r.first) (side other.arena other.first) (common_size r other) (Err e) own d
 
 -- ---- every access
 

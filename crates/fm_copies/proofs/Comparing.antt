@@ -6,20 +6,16 @@ use Rattle.fm_base.specs.declared.refusal.Refusal.TheVariants.{Closed}
 use Rattle.fm_base.specs.View.{View, Did}
 use Rattle.fm_base.proofs.Making.{Makes-then, Makes-none}
 use Rattle.fm_access.specs.Pieces.{ReadsPiece, DoesGetPiece}
-use Rattle.fm_access.proofs.Values.{said}
+use Rattle.fm_access.proofs.Touching.{said}
 use Rattle.fm_copies.specs.declared.side.Side.{Side}
 use Rattle.fm_copies.specs.declared.side.Piece.{Piece}
 use Rattle.fm_copies.specs.declared.side.Way.TheVariants.{Up}
 use Rattle.fm_copies.specs.Sides.{next_piece}
 use Rattle.fm_copies.specs.Comparisons.{IsDifference, ComparesPiece, DoesComparePiece, AgreesOn, EndsComparing, Compares, DoesCompare}
-use Rattle.fm_copies.proofs.Stopping.{Stopped, stops_same}
+use Rattle.fm_copies.proofs.Stopping.{stops_same}
 use Rattle.fm_copies.proofs.Touching.{IsUnderWay, way_goes_on, way_ends}
 
 -- ---- one piece
-
--- A piece that was refused.
-pub not_compared : {x y : View} {a b : Side} {p : Piece} {r : Refusal} → Stopped x y a b p r → Did x y (DoesComparePiece x.caller a b p (Err r))
-not_compared s = rw s.closed (record { own = s.own; does = s.stops; makes = s.makes })
 
 -- Both sides were read.
 pub compared : {x y z : View} (a b : Side) (p : Piece) (v w : ℕ) {found : Option ℕ}

@@ -1,10 +1,8 @@
 -- What the only caller finds by a comparison.
-use Rattle.std.proofs.Common.{◌≡◌, ℕ, ◌+◌, ◌-◌, ◌≤◌, List, ◌++◌, length, take, drop, refl, sym, ap, ◌∙◌, arith, Option, Some, None, Result, Ok, Err, IfOk}
-use Rattle.std.specs.Prelude.{OnErr}
+use Rattle.std.proofs.Common.{◌≡◌, ℕ, ◌+◌, ◌-◌, ◌≤◌, List, ◌++◌, length, take, drop, refl, sym, ap, ◌∙◌, arith, Option, Some, None, Ok}
 use Rattle.std.proofs.lemmas.List.{drop-drop}
+use Rattle.std.proofs.Math.Seq.{take-add}
 use Rattle.fm_base.specs.declared.caller.Caller.{Caller}
-use Rattle.fm_base.specs.declared.refusal.Refusal.{Refusal}
-use Rattle.fm_base.specs.declared.refusal.Refusal.TheVariants.{Closed, WrongThread}
 use Rattle.fm_base.specs.Arenas.{State}
 use Rattle.fm_base.specs.Calls.{Entry}
 use Rattle.fm_base.specs.Histories.{IsLegal, state_after}
@@ -13,18 +11,17 @@ use Rattle.fm_base.specs.Visits.{Run, ends, goes_on}
 use Rattle.fm_base.proofs.Faith.{Makes-alone}
 use Rattle.fm_bytes.specs.Bytes.{bytes_of}
 use Rattle.fm_bytes.proofs.Bytes.{length-bytes_of}
-use Rattle.fm_bytes.proofs.Words.{take-add}
 use Rattle.fm_access.specs.Alone.{bytes_of_arena}
 use Rattle.fm_access.proofs.Visits.{visit_reads}
 use Rattle.fm_copies.specs.declared.side.Side.{Side}
 use Rattle.fm_copies.specs.declared.side.Piece.{Piece}
 use Rattle.fm_copies.specs.declared.side.Way.TheVariants.{Up}
 use Rattle.fm_copies.specs.Sides.{IsPieceAt, next_piece}
-use Rattle.fm_copies.specs.Comparisons.{IsDifference, ComparesPiece, AgreesOn, EndsComparing, DoesCompare}
-use Rattle.fm_copies.specs.Alone.{first_difference, FindsDifference, StaysOutOf}
+use Rattle.fm_copies.specs.Comparisons.{IsDifference, ComparesPiece, AgreesOn, EndsComparing, Compares, DoesCompare}
+use Rattle.fm_copies.specs.Alone.{first_difference, FindsDifference}
 use Rattle.fm_copies.proofs.Differences.{later, later-none, later-later, first_difference-append, differs_at}
 use Rattle.fm_copies.proofs.Fitting.{next_piece_fits}
-use Rattle.fm_copies.proofs.Refusing.{AreAlive, both_legal, piece_refused, stays_out, stays_out_of_others}
+use Rattle.fm_copies.proofs.Refusing.{AreAlive, AreShut, both_legal, piece_refused}
 
 -- the bytes of the side from this offset on
 abbrev bytes_from : State → Side → ℕ → List ℕ
@@ -84,9 +81,8 @@ differs_next s a b offset left width v w at h first second d =
     let ys = bytes_from s b offset in
     let p = take (left - width) (drop width xs) in
     let q = take (left - width) (drop width ys) in
-    ap (λ bs. later offset (first_difference bs (take left ys))) (take_two xs (bytes_of width v) width left h first)
-    ∙ ap (λ bs. later offset (first_difference (bytes_of width v ++ p) bs)) (take_two ys (bytes_of width w) width left h second)
-    ∙ ap (later offset) (differs_at width v w at p q d)
+    rw (take_two xs (bytes_of width v) width left h first, take_two ys (bytes_of width w) width left h second)
+    (ap (later offset) (differs_at width v w at p q d))
 
 -- A piece that agrees leaves the first difference to the bytes behind it.
 agrees_next : (s : State) (a b : Side) (offset left width v next : ℕ) → width ≤ left → offset + width ≡ next
@@ -101,12 +97,10 @@ agrees_next s a b offset left width v next h e first second =
     λ side. drop-drop width (side.at + offset) (bytes_of_arena s side.arena)
     ∙ ap (λ n. drop n (bytes_of_arena s side.arena)) (let d : side.at + offset + width ≡ side.at + next = omega arith in d) in
     let sum : offset + length (bytes_of width v) ≡ next = omega (arith, length-bytes_of width v) in
-    ap (λ bs. later offset (first_difference bs (take left ys))) (take_two xs p width left h first)
-    ∙ ap (λ bs. later offset (first_difference (p ++ take rest (drop width xs)) bs)) (take_two ys p width left h second)
-    ∙ ap (later offset) (first_difference-append p (take rest (drop width xs)) (take rest (drop width ys)))
+    rw (take_two xs p width left h first, take_two ys p width left h second)
+    (ap (later offset) (first_difference-append p (take rest (drop width xs)) (take rest (drop width ys)))
     ∙ later-later offset (length p) next (first_difference (take rest (drop width xs)) (take rest (drop width ys))) sum
-    ∙ ap (λ bs. later next (first_difference (take rest bs) (take rest (drop width ys)))) (past a)
-    ∙ ap (λ bs. later next (first_difference (take rest (bytes_from s a next)) (take rest bs))) (past b)
+    ∙ rw (past a, past b) refl)
 
 -- The end of a comparison.
 compare_ends : (limit : ℕ) (c : Caller) (a b : Side) (count : ℕ) (s : State) (left : ℕ) (own : List Entry) (answer : Option (Option ℕ)) → left ≤ count
@@ -159,31 +153,18 @@ compare_run limit c a b count s left own answer h (goes_on next one rest step ru
 -- ---- the call
 
 -- The only caller finds the first difference.
-pub compare_alone : (old new : View) (a b : Side) (count : ℕ) (result : Result (Option ℕ) Refusal) → Did old new (DoesCompare old.caller a b count result)
-    → IsByItself old → IfOk result (λ found. FindsDifference old new a b count found)
-compare_alone old new a b count (Err r) d alone = tt
-compare_alone old new a b count (Ok found) d alone =
+pub compare_alone : (old new : View) (a b : Side) (count : ℕ) (found : Option ℕ) → Did old new (DoesCompare old.caller a b count (Ok found)) → IsByItself old
+    → FindsDifference old new a b count found
+compare_alone old new a b count found d alone =
     let m = Makes-alone old new d.own alone d.makes in
-    let all = compare_run old.limit old.caller a b count old.state count d.own (Some found) (let e : count ≤ count = omega arith in e) d.does.visits m.0 in
+    let all = compare_run old.limit old.caller a b count old.state count d.own (Some found) (omega arith) d.does.visits m.0 in
     let none : count - count ≡ 0 = omega arith in
-    let from : (x : Side) → bytes_from old.state x (count - count) ≡ drop x.at (bytes_of_arena old.state x.arena) =
-    λ x. ap (λ n. drop n (bytes_of_arena old.state x.arena)) (let e : x.at + (count - count) ≡ x.at = omega arith in e) in
-    record {
-      first = all.answers
-          ∙ later-none (count - count) (first_difference (take count (bytes_from old.state a (count - count)))
-          (take count (bytes_from old.state b (count - count)))) none
-          ∙ ap (λ bs. first_difference (take count bs) (take count (bytes_from old.state b (count - count)))) (from a)
-          ∙ ap (λ bs. first_difference (take count (drop a.at (bytes_of_arena old.state a.arena))) (take count bs)) (from b);
-      same = m.1 ∙ all.same;
-    }
+    let same : (n : ℕ) → n + 0 ≡ n = λ n. omega arith in
+    record { first = rw (none, same a.at, same b.at) at all.answers ∙ later-none 0 _ refl; same = m.1 ∙ all.same }
 
--- The only caller is refused where one of the arenas isn't open to it.
-pub compare_shut : (old new : View) (a b : Side) (count : ℕ) (result : Result (Option ℕ) Refusal) → Did old new (DoesCompare old.caller a b count result)
-    → IsByItself old → OnErr result (StaysOutOf old new a.arena b.arena)
-compare_shut old new a b count (Ok found) d alone = tt
-compare_shut old new a b count (Err WrongThread) d alone = stays_out_of_others old new a b count alone d
-compare_shut old new a b count (Err Closed) d alone =
-    let m = Makes-alone old new d.own alone d.makes in
-    let all = compare_run old.limit old.caller a b count old.state count d.own None (let e : count ≤ count = omega arith in e) d.does.visits m.0 in
-    stays_out old new a b (state_after old.limit old.state d.own) m.1 (record { over = all.answers; same = all.same })
-compare_shut old new a b count (Err r) d alone = absurd d.does
+-- A comparison that stops.
+pub compare_stops : (old : View) (a b : Side) (count : ℕ) (own : List Entry) → Compares old.caller a b count own None → IsLegal old.limit old.state own
+    → AreShut old.state (state_after old.limit old.state own) a b
+compare_stops old a b count own d legal =
+    let all = compare_run old.limit old.caller a b count old.state count own None (omega arith) d.visits legal in
+    record { over = all.answers; same = all.same }

@@ -1,26 +1,23 @@
 -- A copy, as far as it has come.
-use Rattle.std.proofs.Common.{◌≡◌, ℕ, ◌+◌, ◌-◌, ◌<◌, [], ◌++◌, None, arith, refl, subst, Bool, true, false, Result, Ok, Err}
+use Rattle.std.proofs.Common.{◌≡◌, ℕ, ◌+◌, ◌-◌, ◌<◌, List, [], ◌++◌, None, arith, refl, subst, Bool, true, false, Result, Ok, Err}
 use Rattle.fm_base.specs.declared.caller.Caller.{Caller}
 use Rattle.fm_base.specs.declared.refusal.Refusal.{Refusal}
 use Rattle.fm_base.specs.declared.refusal.Refusal.TheVariants.{Closed}
 use Rattle.fm_base.specs.Arenas.{MayUse}
+use Rattle.fm_base.specs.Calls.{Entry}
 use Rattle.fm_base.specs.View.{View, Did}
 use Rattle.fm_base.proofs.Making.{Makes-then, Makes-none}
 use Rattle.fm_access.specs.Pieces.{PutsPiece, DoesGetPiece, DoesPutPiece}
-use Rattle.fm_access.proofs.Values.{said}
+use Rattle.fm_access.proofs.Touching.{said}
 use Rattle.fm_copies.specs.declared.side.Side.{Side}
 use Rattle.fm_copies.specs.declared.side.Piece.{Piece}
 use Rattle.fm_copies.specs.declared.side.Way.{Way}
 use Rattle.fm_copies.specs.Sides.{IsWay, next_piece}
 use Rattle.fm_copies.specs.Copies.{CopiesPiece, DoesCopyPiece, CopiesOn, EndsCopy, Copies, DoesCopy}
-use Rattle.fm_copies.proofs.Stopping.{Stopped, stopped_second, stops_same}
+use Rattle.fm_copies.proofs.Stopping.{stopped_second, stops_same}
 use Rattle.fm_copies.proofs.Touching.{IsUnderWay, way_goes_on, way_ends}
 
 -- ---- one piece
-
--- A piece that was refused.
-pub not_copied : {x y : View} {a b : Side} {p : Piece} {r : Refusal} → Stopped x y a b p r → Did x y (DoesCopyPiece x.caller a b p (Err r))
-not_copied s = rw s.closed (record { own = s.own; does = s.stops; makes = s.makes })
 
 -- What was read is put, or the target was refused.
 pub put_then : {x y z : View} (a b : Side) (p : Piece) (v : ℕ) (result : Result (Unit {0}) Refusal) → MayUse b.arena x.caller
@@ -38,7 +35,7 @@ put_then {x} {y} {z} a b p v (Ok u) may d e = record {
   };
   makes = Makes-then x y z d.own e.own d.makes e.makes;
 }
-put_then a b p v (Err r) may d e = not_copied (stopped_second {a = a} {p = p} v r may d e)
+put_then {x} a b p v (Err r) may d e = stopped_second a b p (λ (u : Unit {0}) (own : List Entry). CopiesPiece x.caller a b p own) v r may d e
 
 -- ---- all pieces
 

@@ -1,11 +1,31 @@
--- The first byte in which two lists differ, found piece by piece.
+-- The first byte in which two numbers or two lists differ, found piece by piece.
 use Rattle.std.proofs.Common.{◌≡◌, ◌≢◌, ℕ, suc, ◌+◌, ◌-◌, ◌*◌, ◌/◌, ◌^◌, ◌<◌, if◌then◌else◌, List, [], ◌∷◌, ◌++◌, length, refl, ap, sym, ◌∙◌, arith, append_assoc, Option, Some, None}
 use Rattle.std.specs.Option.{option_map}
 use Rattle.std.proofs.lemmas.Bool.{eq-eqb, ne_eqb}
-use Rattle.fm_bytes.specs.Bytes.{bytes_of, lane}
-use Rattle.fm_bytes.proofs.Bytes.{bytes_of-add, bytes_of-one, length-bytes_of}
+use Rattle.fm_bytes.specs.Bytes.{bytes_of, number_of, lane}
+use Rattle.fm_bytes.proofs.Bytes.{bytes_of-zero, bytes_of-one, bytes_of-add, length-bytes_of, number_of-bytes_of}
 use Rattle.fm_copies.specs.Comparisons.{DiffersAt}
 use Rattle.fm_copies.specs.Alone.{first_difference}
+
+-- ---- two numbers
+
+-- One byte more.
+one_more : (n at : ℕ) → bytes_of (at + 1) n ≡ bytes_of at n ++ (lane n at 1 ∷ [])
+one_more n at = bytes_of-add at 1 n ∙ ap (λ (bs : List ℕ). bytes_of at n ++ bs) (bytes_of-one (n / 2 ^ (8 * at)))
+
+-- No byte is compared.
+pub none_differs : (v w : ℕ) → bytes_of 0 v ≡ bytes_of 0 w
+none_differs v w = bytes_of-zero v ∙ sym (bytes_of-zero w)
+
+-- One byte more agrees.
+pub one_more_agrees : (v w at : ℕ) → bytes_of at v ≡ bytes_of at w → lane v at 1 ≡ lane w at 1 → bytes_of (at + 1) v ≡ bytes_of (at + 1) w
+one_more_agrees v w at h e = one_more v at ∙ (rw (h, e) refl ∙ sym (one_more w at))
+
+-- Numbers of the same bytes are the same.
+pub all_agree : (v w width : ℕ) → v < 2 ^ (8 * width) → w < 2 ^ (8 * width) → bytes_of width v ≡ bytes_of width w → v ≡ w
+all_agree v w width h k e = sym (number_of-bytes_of width v h) ∙ (ap number_of e ∙ number_of-bytes_of width w k)
+
+-- ---- two lists
 
 -- an index, counted from so many bytes before
 abbrev pub later : ℕ → Option ℕ → Option ℕ
@@ -49,7 +69,7 @@ bytes_around width v at h =
     let rest = behind width v at in
     sym (ap (λ n. bytes_of n v) sum)
     ∙ bytes_of-add (at + 1) (width - (at + 1)) v
-    ∙ ap (λ (bs : List ℕ). bs ++ rest) (bytes_of-add at 1 v ∙ ap (λ (bs : List ℕ). bytes_of at v ++ bs) (bytes_of-one (v / 2 ^ (8 * at))))
+    ∙ ap (λ (bs : List ℕ). bs ++ rest) (one_more v at)
     ∙ append_assoc (bytes_of at v) (lane v at 1 ∷ []) rest
 
 -- The byte in which two numbers differ is that in which their bytes do, whatever stands behind them.

@@ -1,38 +1,27 @@
 -- What a caller learns of calls on two ranges, from what they did.
-use Rattle.std.proofs.Common.{◌≡◌, ℕ, ◌+◌, ◌/◌, ◌<◌, ◌≤◌, Bool, true, false, List, [], ◌∷◌, ◌++◌, refl, ap, subst, ◌∙◌, arith, Option, Some, None, Result, Ok, Err, IfOk, IfErr}
+use Rattle.std.proofs.Common.{◌≡◌, ℕ, ◌<◌, ◌≤◌, List, ap, ◌∙◌, arith, Option, Some, None, Result, Ok, Err}
 use Rattle.std.specs.Option.{ForSome}
-use Rattle.fm_base.specs.declared.arena_id.ArenaId.{ArenaId}
 use Rattle.fm_base.specs.declared.caller.Caller.{Caller}
 use Rattle.fm_base.specs.declared.refusal.Refusal.{Refusal}
 use Rattle.fm_base.specs.declared.refusal.Refusal.TheVariants.{Closed, WrongThread}
-use Rattle.fm_base.specs.Calls.{Read, Found, Entry}
+use Rattle.fm_base.specs.Calls.{Entry}
+use Rattle.fm_base.specs.Histories.{IsLegal, state_after}
 use Rattle.fm_base.specs.Outcomes.{Lasts}
-use Rattle.fm_base.specs.View.{View, Did, inside_after}
-use Rattle.fm_base.specs.Visits.{refused_visit, Run, ends, goes_on}
-use Rattle.fm_base.proofs.Making.{inside_after-append}
-use Rattle.fm_base.proofs.Running.{visit_ends_outside, run_outside}
-use Rattle.fm_access.specs.Pieces.{ReadsPiece}
-use Rattle.fm_access.proofs.Learning.{after_did}
-use Rattle.fm_access.proofs.Learnt.{trivial_kind}
-use Rattle.fm_access.proofs.Outside.{EndsOutside}
-use Rattle.fm_copies.specs.declared.side.Piece.{Piece}
+use Rattle.fm_base.specs.View.{View, Did, IsByItself}
+use Rattle.fm_base.specs.Visits.{Run, ends, goes_on}
+use Rattle.fm_base.proofs.Faith.{Makes-alone}
+use Rattle.fm_access.specs.Learnt.{After}
+use Rattle.fm_access.proofs.Going.{run_ends}
+use Rattle.fm_access.proofs.Learning.{after_outside}
 use Rattle.fm_copies.specs.declared.side.Side.{Side}
-use Rattle.fm_copies.specs.declared.side.Way.{Way}
-use Rattle.fm_copies.specs.declared.side.Way.TheVariants.{Up}
-use Rattle.fm_copies.specs.Comparisons.{ComparesPiece, AgreesOn, EndsComparing, DoesCompare}
-use Rattle.fm_copies.specs.Copies.{CopiesOn, EndsCopy, DoesCopy}
+use Rattle.fm_copies.specs.Alone.{StaysOutOf}
+use Rattle.fm_copies.specs.Comparisons.{DoesCompare}
+use Rattle.fm_copies.specs.Copies.{DoesCopy}
 use Rattle.fm_copies.specs.Learnt.{CanTouchBoth, KnowsBoth, BothCause, AfterCopy, AfterCompare}
-use Rattle.fm_copies.specs.Sides.{StopsAt, first, second, next_piece}
-use Rattle.fm_copies.proofs.ComparingAlone.{compare_alone, compare_shut}
-use Rattle.fm_copies.proofs.Copied.{copy_alone, copy_shut}
-
--- ---- all visits end outside
-
-read_outside : (c : Caller) (id : ArenaId) (place width v : ℕ) (own : List Entry) → ReadsPiece c id place width v own → EndsOutside own
-read_outside c id place width v own r = ap (inside_after None) r.visits ∙ visit_ends_outside None c id ((Read id (place / 8), Found r.word) ∷ [])
-
-both_outside : (own one two : List Entry) → own ≡ one ++ two → EndsOutside one → EndsOutside two → EndsOutside own
-both_outside own one two e f s = ap (inside_after None) e ∙ inside_after-append None one two ∙ ap (λ i. inside_after i two) f ∙ s
+use Rattle.fm_copies.specs.Sides.{MayUseBoth, DoesOnBoth}
+use Rattle.fm_copies.proofs.ComparingAlone.{compare_alone, compare_stops}
+use Rattle.fm_copies.proofs.CopyingAlone.{copy_alone, copy_stops}
+use Rattle.fm_copies.proofs.Refusing.{AreShut}
 
 -- A run that was refused at a piece had a byte to go.
 run_some : {Y : Type 0} {Step : ℕ → List Entry → ℕ → Type 0} {Ends : ℕ → List Entry → Y → Type 0} {left : ℕ} {own : List Entry} {answer : Y}
@@ -41,112 +30,61 @@ run_some : {Y : Type 0} {Step : ℕ → List Entry → ℕ → Type 0} {Ends : �
 run_some {left = left} {own = own} steps last (ends e) = last left own e
 run_some {left = left} steps last (goes_on then one rest s r) = steps left one then s
 
-module _ (c : Caller) (a b : Side) (count : ℕ) where
-  compared_outside : (p : Piece) (found : Option ℕ) (own : List Entry) → ComparesPiece c a b p found own → EndsOutside own
-  compared_outside p found own d =
-      both_outside own d.first d.second d.visits (read_outside c a.arena (a.at + p.offset) p.width d.v d.first d.reads_first)
-      (read_outside c b.arena (b.at + p.offset) p.width d.w d.second d.reads_second)
-
-  stops_outside : (p : Piece) (own : List Entry) → StopsAt c a b p own → EndsOutside own
-  stops_outside p own first = refl
-  stops_outside p own (second v one r) =
-      both_outside (one ++ refused_visit c b.arena) one (refused_visit c b.arena) refl (read_outside c a.arena (a.at + p.offset) p.width v one r) refl
-
-  copy_ends_outside : (way : Way) (left : ℕ) (own : List Entry) (whole : Bool) → EndsCopy c a b count way left own whole → EndsOutside own
-  copy_ends_outside way left own true e = ap (inside_after None) e.1
-  copy_ends_outside way left own false e = stops_outside (next_piece way a b count left) own e.1
-
-  copy_run_outside : (way : Way) (left : ℕ) (own : List Entry) (whole : Bool) → Run (CopiesOn c a b count way) (EndsCopy c a b count way) left own whole
-      → EndsOutside own
-  copy_run_outside way left own whole run =
-      run_outside (CopiesOn c a b count way) (EndsCopy c a b count way)
-      (λ x es y s. let p = next_piece way a b count x in let one = s.piece in
-      both_outside es one.reading one.putting one.visits (read_outside c a.arena (a.at + p.offset) p.width one.v one.reading one.reads)
-      (ap (inside_after None) one.puts.visits ∙ visit_ends_outside None c b.arena one.puts.acts))
-      (copy_ends_outside way) left own whole run
-
-  copy_outside : (result : Result (Unit {0}) Refusal) (own : List Entry) → DoesCopy c a b count result own → EndsOutside own
-  copy_outside (Ok u) own d = copy_run_outside d.way count own true d.visits
-  copy_outside (Err WrongThread) own d = ap (inside_after None) d.1
-  copy_outside (Err Closed) own d = copy_run_outside d.way count own false d.visits
-  copy_outside (Err r) own d = absurd d
-
-  compare_ends_outside : (left : ℕ) (own : List Entry) (answer : Option (Option ℕ)) → EndsComparing c a b count left own answer → EndsOutside own
-  compare_ends_outside left own (Some None) e = ap (inside_after None) e.1
-  compare_ends_outside left own (Some (Some offset)) e = compared_outside (next_piece Up a b count left) (Some e.at) own e.piece
-  compare_ends_outside left own None e = stops_outside (next_piece Up a b count left) own e.1
-
-  compare_run_outside : (left : ℕ) (own : List Entry) (answer : Option (Option ℕ)) → Run (AgreesOn c a b count) (EndsComparing c a b count) left own answer
-      → EndsOutside own
-  compare_run_outside left own answer run =
-      run_outside (AgreesOn c a b count) (EndsComparing c a b count)
-      (λ x es y s. compared_outside (next_piece Up a b count x) None es s.piece)
-      compare_ends_outside left own answer run
-
-  compare_outside : (result : Result (Option ℕ) Refusal) (own : List Entry) → DoesCompare c a b count result own → EndsOutside own
-  compare_outside (Ok found) own d = compare_run_outside count own (Some found) d.visits
-  compare_outside (Err WrongThread) own d = ap (inside_after None) d.1
-  compare_outside (Err Closed) own d = compare_run_outside count own None d.visits
-  compare_outside (Err r) own d = absurd d
-
-  -- ---- a refusal has its cause, and an offset that is found is one of the bytes
-
-  copy_cause : (result : Result (Unit {0}) Refusal) (own : List Entry) → DoesCopy c a b count result own → IfErr result (BothCause a b count c)
-  copy_cause (Ok u) own d = tt
-  copy_cause (Err WrongThread) own d = d.0
-  copy_cause (Err Closed) own d = let some = run_some (λ l es k s. s.more) (λ l es e. e.0) d.visits in (some, d.may_use some)
-  copy_cause (Err r) own d = absurd d
-
-  compare_cause : (result : Result (Option ℕ) Refusal) (own : List Entry) → DoesCompare c a b count result own → IfErr result (BothCause a b count c)
-  compare_cause (Ok found) own d = tt
-  compare_cause (Err WrongThread) own d = d.0
-  compare_cause (Err Closed) own d = let some = run_some (λ l es k s. s.more) (λ l es e. e.0) d.visits in (some, d.may_use some)
-  compare_cause (Err r) own d = absurd d
-
-  -- what an answer of a comparison says of the bytes
-  abbrev IsAnswer : Option (Option ℕ) → Type 0
-  IsAnswer (Some (Some offset)) = offset < count
-  IsAnswer (Some None) = Unit {0}
-  IsAnswer None = Unit {0}
-
-  answer_at_end : (left : ℕ) (own : List Entry) (answer : Option (Option ℕ)) → left ≤ count → EndsComparing c a b count left own answer → IsAnswer answer
-  answer_at_end left own (Some (Some offset)) h d =
-      let some = d.more in
-      let at = d.piece.answer.within in
-      let is = d.offset_is in
-      omega arith
-  answer_at_end left own (Some None) h d = tt
-  answer_at_end left own None h d = tt
-
-  answer_of_run : (left : ℕ) (own : List Entry) (answer : Option (Option ℕ)) → left ≤ count
-      → Run (AgreesOn c a b count) (EndsComparing c a b count) left own answer → IsAnswer answer
-  answer_of_run left own answer h (ends e) = answer_at_end left own answer h e
-  answer_of_run left own answer h (goes_on now more rest s r) = answer_of_run now rest answer (let t = s.then in omega arith) r
-
-  compare_within : (result : Result (Option ℕ) Refusal) (own : List Entry) → DoesCompare c a b count result own
-      → IfOk result (λ found. ForSome found (λ offset. offset < count))
-  compare_within (Err r) own d = tt
-  compare_within (Ok found) own d = λ offset e.
-      let run : Run (AgreesOn c a b count) (EndsComparing c a b count) count own (Some (Some offset)) =
-      subst (λ (x : Option ℕ). Run (AgreesOn c a b count) (EndsComparing c a b count) count own (Some x)) e d.visits in
-      answer_of_run count own (Some (Some offset)) (let h : count ≤ count = omega arith in h) run
+-- An offset that is found is one of the bytes.
+compare_within : (c : Caller) (a b : Side) (count : ℕ) (found : Option ℕ) (own : List Entry) → DoesCompare c a b count (Ok found) own
+    → ForSome found (λ offset. offset < count)
+compare_within c a b count None own d = λ offset e. absurd (let no : ⊥ = cc in no)
+compare_within c a b count (Some found) own d = λ offset e.
+    let end = run_ends (λ left. left ≤ count) (λ left then es h s. let t = s.then in omega arith) (omega arith) d.visits in
+    let same : found ≡ offset = cc in
+    let some = end.ends.more in
+    let at = end.ends.piece.answer.within in
+    let is = end.ends.offset_is in
+    let good = end.good in
+    omega arith
 
 -- ---- all that is learnt
 
 know_both : {old new : View} {a b : Side} {count : ℕ} → CanTouchBoth old a b count → Lasts old new → KnowsBoth a.arena b.arena new
 know_both {a = a} {b = b} can lasts = record { first = lasts.known a.arena can.first_known; second = lasts.known b.arena can.second_known }
 
+-- Of a call on both sides, which ends outside: why it is refused, and that its only caller is where one of the arenas
+-- isn't open to it.
+after_both : {X : Type 0} {old new : View} {a b : Side} {count : ℕ} (Answers : X → List Entry → Type 0) (Stops : List Entry → Type 0) {Alone Kind : X → Type 0}
+    → CanTouchBoth old a b count → new.inside ≡ None → ((own : List Entry) → Stops own → (0 < count) × MayUseBoth old.caller a b)
+    → ((own : List Entry) → Stops own → IsLegal old.limit old.state own → AreShut old.state (state_after old.limit old.state own) a b)
+    → ((x : X) → Did old new (DoesOnBoth old.caller a b count Answers Stops (Ok x)) → IsByItself old → Alone x)
+    → ((x : X) → Did old new (DoesOnBoth old.caller a b count Answers Stops (Ok x)) → Kind x)
+    → (result : Result X Refusal) → Did old new (DoesOnBoth old.caller a b count Answers Stops result)
+    → After old new (DoesOnBoth old.caller a b count Answers Stops) (BothCause a b count old.caller) Alone (StaysOutOf old new a.arena b.arena)
+    (KnowsBoth a.arena b.arena) Kind result
+after_both Answers Stops can out because stops alone kind (Ok x) d = after_outside out d tt (λ h. alone x d h) (λ h. tt) (know_both can) (kind x d)
+after_both {old = old} {new} Answers Stops can out because stops alone kind (Err WrongThread) d =
+    after_outside out d d.does.0 (λ h. tt)
+    (λ h.
+    let m = Makes-alone old new d.own h d.makes in
+    record { shut = λ both. d.does.0.1 (both.0.usable, both.1.usable); same = m.1 ∙ ap (state_after old.limit old.state) d.does.1 })
+    (know_both can) tt
+after_both {old = old} {new} Answers Stops can out because stops alone kind (Err Closed) d =
+    after_outside out d (because d.own d.does) (λ h. tt)
+    (λ h.
+    let m = Makes-alone old new d.own h d.makes in
+    let s = stops d.own d.does m.0 in
+    record { shut = λ both. s.over (both.0.alive, both.1.alive); same = m.1 ∙ s.same })
+    (know_both can) tt
+after_both Answers Stops can out because stops alone kind (Err r) d = absurd d.does
+
 -- Of a copy.
-pub after_copy : {old new : View} {a b : Side} {count : ℕ} {result : Result (Unit {0}) Refusal} → CanTouchBoth old a b count
+pub after_copy : {old new : View} {a b : Side} {count : ℕ} {result : Result (Unit {0}) Refusal} → CanTouchBoth old a b count → new.inside ≡ None
     → Did old new (DoesCopy old.caller a b count result) → AfterCopy old new a b count result
-after_copy {old} {new} {a} {b} {count} {result} can d =
-    after_did can.outside d (copy_cause old.caller a b count result d.own d.does) (copy_outside old.caller a b count result d.own d.does)
-    (copy_alone old new a b count result can.second_known d) (copy_shut old new a b count result d) (know_both can) (trivial_kind result)
+after_copy {old} {new} {a} {b} {count} {result} can out d =
+    after_both _ _ can out (λ own s. let some = run_some (λ l es k x. x.more) (λ l es e. e.0) s.visits in (some, s.may_use some))
+    (copy_stops old a b count) (λ u d h. copy_alone old new a b count u can.second_known d h) (λ u d. tt) result d
 
 -- Of a comparison.
-pub after_compare : {old new : View} {a b : Side} {count : ℕ} {result : Result (Option ℕ) Refusal} → CanTouchBoth old a b count
+pub after_compare : {old new : View} {a b : Side} {count : ℕ} {result : Result (Option ℕ) Refusal} → CanTouchBoth old a b count → new.inside ≡ None
     → Did old new (DoesCompare old.caller a b count result) → AfterCompare old new a b count result
-after_compare {old} {new} {a} {b} {count} {result} can d =
-    after_did can.outside d (compare_cause old.caller a b count result d.own d.does) (compare_outside old.caller a b count result d.own d.does)
-    (compare_alone old new a b count result d) (compare_shut old new a b count result d) (know_both can)
-    (compare_within old.caller a b count result d.own d.does)
+after_compare {old} {new} {a} {b} {count} {result} can out d =
+    after_both _ _ can out (λ own s. let some = run_some (λ l es k x. x.more) (λ l es e. e.0) s.visits in (some, s.may_use some))
+    (compare_stops old a b count) (λ found d h. compare_alone old new a b count found d h)
+    (λ found d. compare_within old.caller a b count found d.own d.does) result d

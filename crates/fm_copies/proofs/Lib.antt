@@ -1,11 +1,10 @@
 pub mod Comparing
 pub mod ComparingAlone
-pub mod Copied
 pub mod Copying
 pub mod CopyingAlone
 pub mod Differences
-pub mod Differing
 pub mod Fitting
+pub mod Keeping
 pub mod Learning
 pub mod Overlaps
 pub mod Refusing

@@ -1,7 +1,7 @@
 -- Bytes that are copied piece by piece, beside bytes that are still to be read.
 use Rattle.std.proofs.Common.{◌≡◌, ℕ, ◌+◌, ◌≤◌, inl, List, ◌++◌, length, take, drop, sym, ap, ◌∙◌, arith, append_assoc, length-append}
 use Rattle.std.proofs.lemmas.List.{drop_at, drop-drop, length-drop, length-take, length-take-le}
-use Rattle.fm_bytes.proofs.Words.{take-add}
+use Rattle.std.proofs.Math.Seq.{take-add}
 use Rattle.fm_access.specs.Alone.{with_bytes}
 use Rattle.fm_access.proofs.Splicing.{with_bytes-twice, keeps_elsewhere}
 
@@ -38,34 +38,30 @@ all_found xs from width next left sum room rest =
     let e = length-drop from xs in
     length-take-le left (drop from xs) (omega arith)
 
--- The lowest piece first: the bytes behind it still stand in the source.
-pub copied_up : (S S' T T' U : List ℕ) (from to w y : ℕ) → to ≤ length T → length (take w (drop from S)) ≡ w
-    → T' ≡ with_bytes T to (take w (drop from S)) → take y (drop (from + w) S') ≡ take y (drop (from + w) S)
-    → U ≡ with_bytes T' (to + w) (take y (drop (from + w) S')) → U ≡ with_bytes T to (take (w + y) (drop from S))
-copied_up S S' T T' U from to w y room len first stays more =
-    let p = take w (drop from S) in
-    let q = take y (drop (from + w) S) in
-    let both : take w (drop from S) ++ take y (drop (from + w) S) ≡ take (w + y) (drop from S) =
-    sym (take-add w y (drop from S) ∙ ap (λ bs. p ++ take y bs) (drop-drop w from S)) in
-    more
-    ∙ ap (with_bytes T' (to + w)) stays
-    ∙ ap (λ n. with_bytes T' (to + n) q) (sym len)
-    ∙ ap (λ bs. with_bytes bs (to + length p) q) first
-    ∙ with_bytes-twice T to p q room
-    ∙ ap (with_bytes T to) both
+module _ (S T : List ℕ) (from to w y : ℕ) (more : List ℕ) where
+  -- The lowest piece first, and then the bytes behind it.
+  pub copied_up : to ≤ length T → length (take w (drop from S)) ≡ w → more ≡ take y (drop (from + w) S)
+      → with_bytes (with_bytes T to (take w (drop from S))) (to + w) more ≡ with_bytes T to (take (w + y) (drop from S))
+  copied_up room len is =
+      let p = take w (drop from S) in
+      let q = take y (drop (from + w) S) in
+      let both : take w (drop from S) ++ take y (drop (from + w) S) ≡ take (w + y) (drop from S) =
+      sym (take-add w y (drop from S) ∙ ap (λ bs. p ++ take y bs) (drop-drop w from S)) in
+      ap (with_bytes (with_bytes T to p) (to + w)) is
+      ∙ ap (λ n. with_bytes (with_bytes T to p) (to + n) q) (sym len)
+      ∙ with_bytes-twice T to p q room
+      ∙ ap (with_bytes T to) both
 
--- The highest piece first: the bytes below it still stand in the source.
-pub copied_down : (S S' T T' U : List ℕ) (from to w y : ℕ) → to + y + w ≤ length T → length (take y (drop from S)) ≡ y → length (take w (drop (from + y) S)) ≡ w
-    → T' ≡ with_bytes T (to + y) (take w (drop (from + y) S)) → take y (drop from S') ≡ take y (drop from S)
-    → U ≡ with_bytes T' to (take y (drop from S')) → U ≡ with_bytes T to (take (y + w) (drop from S))
-copied_down S S' T T' U from to w y room len wide first stays more =
-    let p = take w (drop (from + y) S) in
-    let q = take y (drop from S) in
-    let both : take y (drop from S) ++ take w (drop (from + y) S) ≡ take (y + w) (drop from S) =
-    sym (take-add y w (drop from S) ∙ ap (λ bs. q ++ take w bs) (drop-drop y from S)) in
-    let fits : to + length (take y (drop from S)) + length (take w (drop (from + y) S)) ≤ length T = omega arith in
-    more
-    ∙ ap (with_bytes T' to) stays
-    ∙ ap (λ bs. with_bytes bs to q) (first ∙ ap (λ n. with_bytes T (to + n) p) (sym len))
-    ∙ with_bytes-below T to p q fits
-    ∙ ap (with_bytes T to) both
+  -- The highest piece first, and then the bytes below it.
+  pub copied_down : to + y + w ≤ length T → length (take y (drop from S)) ≡ y → length (take w (drop (from + y) S)) ≡ w → more ≡ take y (drop from S)
+      → with_bytes (with_bytes T (to + y) (take w (drop (from + y) S))) to more ≡ with_bytes T to (take (y + w) (drop from S))
+  copied_down room len wide is =
+      let p = take w (drop (from + y) S) in
+      let q = take y (drop from S) in
+      let both : take y (drop from S) ++ take w (drop (from + y) S) ≡ take (y + w) (drop from S) =
+      sym (take-add y w (drop from S) ∙ ap (λ bs. q ++ take w bs) (drop-drop y from S)) in
+      let fits : to + length (take y (drop from S)) + length (take w (drop (from + y) S)) ≤ length T = omega arith in
+      ap (with_bytes (with_bytes T (to + y) p) to) is
+      ∙ ap (λ n. with_bytes (with_bytes T (to + n) p) to q) (sym len)
+      ∙ with_bytes-below T to p q fits
+      ∙ ap (with_bytes T to) both

@@ -1,18 +1,15 @@
 -- When the only caller is refused.
-use Rattle.std.proofs.Common.{◌≡◌, ℕ, ◌+◌, List, [], ◌++◌, refl, ap, subst, ◌∙◌}
+use Rattle.std.proofs.Common.{◌≡◌, ℕ, ◌+◌, List, ◌++◌, refl, ap, subst, ◌∙◌}
 use Rattle.fm_base.specs.declared.caller.Caller.{Caller}
 use Rattle.fm_base.specs.Arenas.{State, Alive, arena_of}
 use Rattle.fm_base.specs.Calls.{Entry}
 use Rattle.fm_base.specs.Histories.{IsLegal, state_after}
-use Rattle.fm_base.specs.View.{View, Did, IsByItself}
 use Rattle.fm_base.specs.Visits.{refused_visit}
-use Rattle.fm_base.proofs.Faith.{Makes-alone}
 use Rattle.fm_base.proofs.Making.{IsLegal-split, state_after-append}
 use Rattle.fm_access.proofs.Visits.{visit_refused, visit_reads}
 use Rattle.fm_copies.specs.declared.side.Side.{Side}
 use Rattle.fm_copies.specs.declared.side.Piece.{Piece}
-use Rattle.fm_copies.specs.Alone.{StaysOutOf}
-use Rattle.fm_copies.specs.Sides.{IsForOthers, IsPieceAt, StopsAt, first, second}
+use Rattle.fm_copies.specs.Sides.{IsPieceAt, StopsAt, first, second}
 
 abbrev pub AreAlive : State → Side → Side → Type 0
 AreAlive s a b = ((arena_of s a.arena).life ≡ Alive) × ((arena_of s b.arena).life ≡ Alive)
@@ -51,13 +48,3 @@ piece_refused limit c s a b p own (second v reads r) fits legal =
     let read = visit_reads limit c s a.arena (a.at + p.offset) p.width v reads r fits.within_source parts.first in
     let shut = visit_refused limit c s b.arena last refl (parts.rest read.same) in
     record { over = λ alive. shut.over alive.1; same = parts.after read.same ∙ shut.same }
-
--- Where one of the arenas isn't alive, or isn't the caller's, the caller stays out.
-pub stays_out : (old new : View) (a b : Side) (t : State) → new.state ≡ t → AreShut old.state t a b → StaysOutOf old new a.arena b.arena
-stays_out old new a b t e s = record { shut = λ both. s.over (both.0.alive, both.1.alive); same = e ∙ s.same }
-
-pub stays_out_of_others : (old new : View) (a b : Side) (count : ℕ) → IsByItself old → Did old new (λ own. IsForOthers old.caller a b count × (own ≡ []))
-    → StaysOutOf old new a.arena b.arena
-stays_out_of_others old new a b count alone d =
-    let m = Makes-alone old new d.own alone d.makes in
-    record { shut = λ both. d.does.0.1 (both.0.usable, both.1.usable); same = m.1 ∙ ap (λ (es : List Entry). state_after old.limit old.state es) d.does.1 }

@@ -2,7 +2,6 @@
 use Rattle.std.proofs.Common.{◌≡◌, ℕ, ◌+◌, List, ◌++◌, sym, subst, Ok, Err}
 use Rattle.fm_base.specs.declared.caller.Caller.{Caller}
 use Rattle.fm_base.specs.declared.refusal.Refusal.{Refusal}
-use Rattle.fm_base.specs.declared.refusal.Refusal.TheVariants.{Closed}
 use Rattle.fm_base.specs.Arenas.{MayUse}
 use Rattle.fm_base.specs.Calls.{Entry}
 use Rattle.fm_base.specs.View.{View, Makes, Did}
@@ -13,35 +12,29 @@ use Rattle.fm_base.proofs.Visiting.{refused_makes}
 use Rattle.fm_access.specs.Pieces.{DoesGetPiece}
 use Rattle.fm_copies.specs.declared.side.Side.{Side}
 use Rattle.fm_copies.specs.declared.side.Piece.{Piece}
-use Rattle.fm_copies.specs.Sides.{StopsAt, first, second}
+use Rattle.fm_copies.specs.Sides.{StopsAt, first, second, DoesOnPiece}
 
--- the memory went from x to y by visits up to a refused one
-pub record Stopped (x y : View) (a b : Side) (p : Piece) (r : Refusal) : Type 0 where
-  pub closed : r ≡ Closed
-  pub own : List Entry
-  pub stops : StopsAt x.caller a b p own
-  pub makes : Makes x y own
+module _ {X : Type 0} (a b : Side) (p : Piece) (Answers : X → List Entry → Type 0) where
+  -- The first visit was refused.
+  pub stopped_first : {x y : View} (r : Refusal) → MayUse a.arena x.caller → Did x y (DoesEnter x.caller a.arena (Err r))
+      → Did x y (DoesOnPiece x.caller a b p Answers (Err r))
+  stopped_first {x} {y} r may d =
+      let m = refused_makes x y a.arena r may d in
+      rw m.0 (record { own = refused_visit x.caller a.arena; does = first; makes = m.1 })
 
--- The first visit was refused.
-pub stopped_first : {x y : View} {a b : Side} {p : Piece} (r : Refusal) → MayUse a.arena x.caller → Did x y (DoesEnter x.caller a.arena (Err r))
-    → Stopped x y a b p r
-stopped_first {x} {y} {a} r may d =
-    let m = refused_makes x y a.arena r may d in
-    record { closed = m.0; own = refused_visit x.caller a.arena; stops = first; makes = m.1 }
-
--- The second visit was refused, after the first side's bytes were read.
-pub stopped_second : {x y z : View} {a b : Side} {p : Piece} (v : ℕ) (r : Refusal) → MayUse b.arena x.caller
-    → Did x y (DoesGetPiece x.caller a.arena (a.at + p.offset) p.width (Ok v)) → Did y z (DoesEnter y.caller b.arena (Err r)) → Stopped x z a b p r
-stopped_second {x} {y} {z} {b = b} v r may d e =
-    let same = d.makes.same_caller in
-    let m = refused_makes y z b.arena r (subst (λ (c : Caller). MayUse b.arena c) (sym same) may) e in
-    let last : Makes y z (refused_visit x.caller b.arena) = subst (λ (c : Caller). Makes y z (refused_visit c b.arena)) same m.1 in
-    record {
-      closed = m.0;
-      own = d.own ++ refused_visit x.caller b.arena;
-      stops = second v d.own d.does.1;
-      makes = Makes-then x y z d.own (refused_visit x.caller b.arena) d.makes last;
-    }
+  -- The second visit was refused, after the first side's bytes were read.
+  pub stopped_second : {x y z : View} (v : ℕ) (r : Refusal) → MayUse b.arena x.caller
+      → Did x y (DoesGetPiece x.caller a.arena (a.at + p.offset) p.width (Ok v)) → Did y z (DoesEnter y.caller b.arena (Err r))
+      → Did x z (DoesOnPiece x.caller a b p Answers (Err r))
+  stopped_second {x} {y} {z} v r may d e =
+      let same = d.makes.same_caller in
+      let m = refused_makes y z b.arena r (subst (λ (c : Caller). MayUse b.arena c) (sym same) may) e in
+      let last : Makes y z (refused_visit x.caller b.arena) = subst (λ (c : Caller). Makes y z (refused_visit c b.arena)) same m.1 in
+      rw m.0 (record {
+        own = d.own ++ refused_visit x.caller b.arena;
+        does = second v d.own d.does.1;
+        makes = Makes-then x y z d.own (refused_visit x.caller b.arena) d.makes last;
+      })
 
 -- A piece that was refused, of a caller and a piece named otherwise.
 pub stops_same : {c k : Caller} {p q : Piece} {own : List Entry} (a b : Side) → k ≡ c → q ≡ p → StopsAt k a b q own → StopsAt c a b p own

@@ -1,15 +1,14 @@
 -- Two ranges compared piece by piece, the lowest place first, up to the first piece that differs.
-use Rattle.std.specs.Prelude.{◌≡◌, ◌≢◌, ℕ, ◌+◌, ◌-◌, ◌<◌, List, [], ◌++◌, Option, Some, None, Result, Ok, Err}
+use Rattle.std.specs.Prelude.{◌≡◌, ◌≢◌, ℕ, ◌+◌, ◌<◌, List, [], ◌++◌, Option, Some, None, Result}
 use Rattle.fm_base.specs.declared.caller.Caller.{Caller}
 use Rattle.fm_base.specs.declared.refusal.Refusal.{Refusal}
-use Rattle.fm_base.specs.declared.refusal.Refusal.TheVariants.{Closed, WrongThread}
 use Rattle.fm_base.specs.Calls.{Entry}
 use Rattle.fm_base.specs.Visits.{Run}
 use Rattle.fm_bytes.specs.Bytes.{bytes_of, lane}
 use Rattle.fm_copies.specs.declared.side.Side.{Side}
 use Rattle.fm_copies.specs.declared.side.Piece.{Piece}
 use Rattle.fm_copies.specs.declared.side.Way.TheVariants.{Up}
-use Rattle.fm_copies.specs.Sides.{MayUseBoth, IsForOthers, next_piece, ReadsAt, StopsAt}
+use Rattle.fm_copies.specs.Sides.{MayUseBoth, next_piece, ReadsAt, StopsAt, DoesOnPiece, GoesOn, DoesOnBoth}
 
 -- byte `at` of v and w differs, and the bytes below it don't
 pub record DiffersAt (width v w at : ℕ) : Type 0 where
@@ -34,17 +33,13 @@ pub record ComparesPiece (c : Caller) (a b : Side) (p : Piece) (found : Option �
   pub answer : IsDifference p.width v w found
 
 abbrev pub DoesComparePiece : Caller → Side → Side → Piece → Result (Option ℕ) Refusal → List Entry → Type 0
-DoesComparePiece c a b p (Ok found) own = ComparesPiece c a b p found own
-DoesComparePiece c a b p (Err Closed) own = StopsAt c a b p own
-DoesComparePiece c a b p (Err r) own = ⊥
+DoesComparePiece c a b p = DoesOnPiece c a b p (ComparesPiece c a b p)
 
 -- a comparison of `count` bytes
 module _ (c : Caller) (a b : Side) (count : ℕ) where
   -- of `left` bytes the next piece agrees
-  pub record AgreesOn (left : ℕ) (own : List Entry) (left_then : ℕ) : Type 0 where
-    pub more : 0 < left
-    pub piece : ComparesPiece c a b (next_piece Up a b count left) None own
-    pub then : left_then ≡ left - (next_piece Up a b count left).width
+  abbrev pub AgreesOn : ℕ → List Entry → ℕ → Type 0
+  AgreesOn = GoesOn a b count Up (λ p own. ComparesPiece c a b p None own)
 
   -- the next piece differs, first in the byte at this offset
   pub record DiffersNext (left : ℕ) (own : List Entry) (offset : ℕ) : Type 0 where
@@ -66,7 +61,4 @@ pub record Compares (c : Caller) (a b : Side) (count : ℕ) (own : List Entry) (
 
 -- the offset of the first byte that differs, or None where all bytes agree
 abbrev pub DoesCompare : Caller → Side → Side → ℕ → Result (Option ℕ) Refusal → List Entry → Type 0
-DoesCompare c a b count (Ok found) own = Compares c a b count own (Some found)
-DoesCompare c a b count (Err WrongThread) own = IsForOthers c a b count × (own ≡ [])
-DoesCompare c a b count (Err Closed) own = Compares c a b count own None
-DoesCompare c a b count (Err r) own = ⊥
+DoesCompare c a b count = DoesOnBoth c a b count (λ found own. Compares c a b count own (Some found)) (λ own. Compares c a b count own None)

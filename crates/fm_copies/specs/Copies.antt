@@ -1,15 +1,14 @@
 -- A copy from one range to another: piece by piece, each read and then put.
-use Rattle.std.specs.Prelude.{◌≡◌, ℕ, ◌+◌, ◌-◌, ◌<◌, Bool, true, false, List, [], ◌++◌, Result, Ok, Err}
+use Rattle.std.specs.Prelude.{◌≡◌, ℕ, ◌+◌, ◌<◌, Bool, true, false, List, [], ◌++◌, Result}
 use Rattle.fm_base.specs.declared.caller.Caller.{Caller}
 use Rattle.fm_base.specs.declared.refusal.Refusal.{Refusal}
-use Rattle.fm_base.specs.declared.refusal.Refusal.TheVariants.{Closed, WrongThread}
 use Rattle.fm_base.specs.Calls.{Entry}
 use Rattle.fm_base.specs.Visits.{Run}
 use Rattle.fm_access.specs.Pieces.{PutsPiece}
 use Rattle.fm_copies.specs.declared.side.Side.{Side}
 use Rattle.fm_copies.specs.declared.side.Piece.{Piece}
 use Rattle.fm_copies.specs.declared.side.Way.{Way}
-use Rattle.fm_copies.specs.Sides.{MayUseBoth, IsForOthers, IsWay, next_piece, ReadsAt, StopsAt}
+use Rattle.fm_copies.specs.Sides.{MayUseBoth, IsWay, next_piece, ReadsAt, StopsAt, DoesOnPiece, GoesOn, DoesOnBoth}
 
 -- a visit reads the piece, and then one puts what was read
 pub record CopiesPiece (c : Caller) (a b : Side) (p : Piece) (own : List Entry) : Type 0 where
@@ -21,17 +20,13 @@ pub record CopiesPiece (c : Caller) (a b : Side) (p : Piece) (own : List Entry) 
   pub visits : own ≡ reading ++ putting
 
 abbrev pub DoesCopyPiece : Caller → Side → Side → Piece → Result (Unit {0}) Refusal → List Entry → Type 0
-DoesCopyPiece c a b p (Ok u) own = CopiesPiece c a b p own
-DoesCopyPiece c a b p (Err Closed) own = StopsAt c a b p own
-DoesCopyPiece c a b p (Err r) own = ⊥
+DoesCopyPiece c a b p = DoesOnPiece c a b p (λ u own. CopiesPiece c a b p own)
 
 -- a copy of `count` bytes, one way
 module _ (c : Caller) (a b : Side) (count : ℕ) (way : Way) where
   -- of `left` bytes the next piece was copied
-  pub record CopiesOn (left : ℕ) (own : List Entry) (left_then : ℕ) : Type 0 where
-    pub more : 0 < left
-    pub piece : CopiesPiece c a b (next_piece way a b count left) own
-    pub then : left_then ≡ left - (next_piece way a b count left).width
+  abbrev pub CopiesOn : ℕ → List Entry → ℕ → Type 0
+  CopiesOn = GoesOn a b count way (CopiesPiece c a b)
 
   -- true: all are copied. false: a visit of the next piece was refused
   abbrev pub EndsCopy : ℕ → List Entry → Bool → Type 0
@@ -46,7 +41,4 @@ pub record Copies (c : Caller) (a b : Side) (count : ℕ) (own : List Entry) (wh
   pub visits : Run (CopiesOn c a b count way) (EndsCopy c a b count way) count own whole
 
 abbrev pub DoesCopy : Caller → Side → Side → ℕ → Result (Unit {0}) Refusal → List Entry → Type 0
-DoesCopy c a b count (Ok u) own = Copies c a b count own true
-DoesCopy c a b count (Err WrongThread) own = IsForOthers c a b count × (own ≡ [])
-DoesCopy c a b count (Err Closed) own = Copies c a b count own false
-DoesCopy c a b count (Err r) own = ⊥
+DoesCopy c a b count = DoesOnBoth c a b count (λ u own. Copies c a b count own true) (λ own. Copies c a b count own false)

@@ -1,8 +1,10 @@
 -- Two ranges of bytes, as long as each other, and the pieces in which they are gone through:
 -- a piece is a longest run of bytes that lies in one word of each side.
-use Rattle.std.specs.Prelude.{◌≡◌, ℕ, ◌+◌, ◌-◌, ◌%◌, ◌<◌, ◌≤◌, List, ◌++◌}
+use Rattle.std.specs.Prelude.{◌≡◌, ℕ, ◌+◌, ◌-◌, ◌%◌, ◌<◌, ◌≤◌, List, [], ◌++◌, Result, Ok, Err}
 use Rattle.fm_base.specs.declared.caller.Caller.{Caller}
 use Rattle.fm_base.specs.declared.arena_id.ArenaId.{ArenaId}
+use Rattle.fm_base.specs.declared.refusal.Refusal.{Refusal}
+use Rattle.fm_base.specs.declared.refusal.Refusal.TheVariants.{Closed, WrongThread}
 use Rattle.fm_base.specs.Arenas.{MayUse}
 use Rattle.fm_base.specs.Calls.{Entry}
 use Rattle.fm_base.specs.Visits.{refused_visit, first_width, last_width}
@@ -58,3 +60,23 @@ ReadsAt c a p v own = ReadsPiece c a.arena (a.at + p.offset) p.width v own
 pub data StopsAt (c : Caller) (a b : Side) (p : Piece) : List Entry → Type 0 where
   first : StopsAt c a b p (refused_visit c a.arena)
   second : (v : ℕ) (own : List Entry) → ReadsAt c a p v own → StopsAt c a b p (own ++ refused_visit c b.arena)
+
+-- a visit to each side, or what a refused one leaves
+abbrev pub DoesOnPiece : {X : Type 0} → Caller → Side → Side → Piece → (X → List Entry → Type 0) → Result X Refusal → List Entry → Type 0
+DoesOnPiece c a b p Answers (Ok x) own = Answers x own
+DoesOnPiece c a b p Answers (Err Closed) own = StopsAt c a b p own
+DoesOnPiece c a b p Answers (Err r) own = ⊥
+
+-- of `left` bytes the next piece was gone through, as it is said
+pub record GoesOn (a b : Side) (count : ℕ) (way : Way) (Does : Piece → List Entry → Type 0) (left : ℕ) (own : List Entry) (left_then : ℕ) : Type 0 where
+  pub more : 0 < left
+  pub piece : Does (next_piece way a b count left) own
+  pub then : left_then ≡ left - (next_piece way a b count left).width
+
+-- A call on `count` bytes of both sides, and the refusals in the order of the checks; `Stops` is up to a visit that was
+-- refused
+abbrev pub DoesOnBoth : {X : Type 0} → Caller → Side → Side → ℕ → (X → List Entry → Type 0) → (List Entry → Type 0) → Result X Refusal → List Entry → Type 0
+DoesOnBoth c a b count Answers Stops (Ok x) own = Answers x own
+DoesOnBoth c a b count Answers Stops (Err WrongThread) own = IsForOthers c a b count × (own ≡ [])
+DoesOnBoth c a b count Answers Stops (Err Closed) own = Stops own
+DoesOnBoth c a b count Answers Stops (Err r) own = ⊥

@@ -10,7 +10,7 @@ use fm_base::{ArenaId, Memory, Refusal};
 use fm_lanes::read;
 
 /// The lowest byte in which two numbers of `width` bytes differ.
-#[tactic(auto, using(crate::proofs::Differing::none_differs, crate::proofs::Differing::one_more_agrees))]
+#[tactic(auto, using(crate::proofs::Differences::none_differs, crate::proofs::Differences::one_more_agrees))]
 fn first_difference(v: u64, w: u64, width: u32) -> Option<u32>
     requires width { width ≤ 8 }
     requires first { v < 2 ^ (8 * width) }

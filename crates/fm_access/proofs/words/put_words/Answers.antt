@@ -1,7 +1,6 @@
-use Rattle.std.proofs.Common.{◌≡◌, ◌+◌, ◌*◌, ◌/◌, ◌^◌, ◌≤◌, arith, ◌∙◌, List, refl, subst}
-use Rattle.fm_base.specs.Calls.{Entry}
-use Rattle.fm_base.specs.View.{Makes, given_in}
-use Rattle.fm_base.specs.Visits.{entries_of, writes}
+use Rattle.std.proofs.Common.{◌+◌, ◌*◌, ◌/◌, ◌^◌, ◌≤◌, arith, ◌∙◌, refl}
+use Rattle.fm_base.specs.View.{given_in}
+use Rattle.fm_base.specs.Visits.{writes}
 use Rattle.fm_bytes.specs.Words.{words_from}
 use Rattle.fm_access.proofs.Touching.{visited_inside}
 use Rattle.fm_access.proofs.words.put_words.Goals as goal
@@ -18,10 +17,7 @@ store_words-requires-clause-reach g c =
 
 pub returns : goal.returns
 returns g c =
-    let v = g.M.Memory.view in
     let a = c.store_words.ensures in
     let inside = c.in_ok-enter.ensures.inside in
-    let acts = writes c.args.arena (c.args.place / 8) (words_from c.args.count c.args.bytes.now) in
-    let own : a.did.own ≡ entries_of (v c.enter.new.self).caller acts = rw inside at a.did.does in
-    let made = subst (λ (es : List Entry). Makes (v c.enter.new.self) (v c.store_words.new.m) es) own a.did.makes in
-    visited_inside acts c.in_ok-enter.ensures.did (a.inside ∙ inside) made c.leave.ensures (λ may. (may, refl))
+    visited_inside (writes c.args.arena (c.args.place / 8) (words_from c.args.count c.args.bytes.now)) c.in_ok-enter.ensures.did (a.inside ∙ inside) a.did
+    (rw inside at a.did.does) c.leave.ensures (λ may. (may, refl))

@@ -1,7 +1,7 @@
-use Rattle.std.proofs.Common.{arith, sym, subst, length, drop, ◌+◌, ◌*◌, ◌≤◌, ◌≡◌, ap, ◌∙◌}
+use Rattle.std.proofs.Common.{arith, sym, subst, length, drop, ◌+◌, ◌*◌, ◌≤◌, ◌≡◌}
 use Rattle.std.proofs.lemmas.List.{length-take}
-use Rattle.fm_base.specs.Does.{CanReachAll}
-use Rattle.fm_base.proofs.Storing.{IsStoring, store_starts, stores_reach, stores_more, stored}
+use Rattle.fm_base.specs.Learnt.{AfterStores}
+use Rattle.fm_base.proofs.Storing.{stores_none, stores_reach, stores_more}
 use Rattle.fm_bytes.specs.Words.{words_from}
 use Rattle.fm_bytes.proofs.Words.{length-words_from, words_from-append}
 use Rattle.fm_access.proofs.Reading.{words_read}
@@ -9,7 +9,7 @@ use Rattle.fm_access.proofs.words.store_words.Goals as goal
 
 pub loop-k-init : goal.loop-k-init
 unfolding words_from
-loop-k-init g c = (store_starts c.args.first c.args.count c.requires.reach, omega arith)
+loop-k-init g c = (stores_none c.args.first c.args.count c.requires.sound c.requires.reach, omega arith)
 
 pub store_words-requires : goal.store_words-requires
 store_words-requires g c =
@@ -33,8 +33,8 @@ loop-k-preserved g c =
     let within : k + n ≤ c.args.count = omega arith in
     let size : length c.read_u64_into.new.dst ≡ n = (let d = c.read_u64_into.auto.dst in omega (arith, length-take n c.loop-k.words)) in
     let read = words_read bytes c.read_u64_into.new.dst c.loop-k.words k n size (let whole = c.requires.whole in omega arith) c.read_u64_into.ensures in (
-      subst (λ ws. IsStoring (v c.args.m.now) (v c.store_words.new.self) c.args.first ws) (sym (words_from-append k n bytes))
-          (stores_more c.loop-k.invariant.0 k (length-words_from k bytes) (v c.store_words.new.self) (words_from n (drop (8 * k) bytes))
+      subst (λ ws. AfterStores (v c.args.m.now) (v c.store_words.new.self) c.args.first ws) (sym (words_from-append k n bytes))
+          (stores_more c.loop-k.invariant.0 k (length-words_from k bytes) (words_from n (drop (8 * k) bytes))
           (rw read at c.store_words.ensures)),
       within,
     )

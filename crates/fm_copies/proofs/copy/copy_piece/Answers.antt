@@ -1,13 +1,19 @@
+use Rattle.std.proofs.Common.{List}
 use Rattle.std.proofs.lemmas.Result.{err_from_is_err_and}
+use Rattle.fm_base.specs.Calls.{Entry}
 use Rattle.fm_access.proofs.Touching.{visited}
-use Rattle.fm_copies.proofs.Copying.{not_copied, put_then}
+use Rattle.fm_copies.specs.Copies.{CopiesPiece}
+use Rattle.fm_copies.proofs.Copying.{put_then}
 use Rattle.fm_copies.proofs.Stopping.{stopped_first}
 use Rattle.fm_copies.proofs.copy.copy_piece.Goals as goal
 
 pub returns-in_err-v : goal.returns-in_err-v
 returns-in_err-v g c =
     let p = err_from_is_err_and c.from_residual.result c.from_residual.ensures.1 in
-    rw (p.1, p.2) (visited (not_copied (stopped_first c.in_err-v.field-0.0 c.requires.may_use.0 c.in_err-v.ensures.did)) c.get_piece.ensures.outside)
+    let a = c.args.from in
+    let b = c.args.to in
+    let Copies = λ (u : Unit {0}) (own : List Entry). CopiesPiece (g.M.Memory.view c.args.m.now).caller a b c.args.piece own in
+    rw (p.1, p.2) (visited (stopped_first a b c.args.piece Copies c.in_err-v.field-0.0 c.requires.may_use.0 c.in_err-v.ensures.did) c.get_piece.ensures.outside)
 
 pub returns : goal.returns
 returns g c =

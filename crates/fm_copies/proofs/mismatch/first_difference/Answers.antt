@@ -1,6 +1,6 @@
 use Rattle.std.proofs.Common.{◌≡◌, ℕ, arith, subst}
 use Rattle.fm_bytes.specs.Bytes.{bytes_of}
-use Rattle.fm_copies.proofs.Differing.{all_agree}
+use Rattle.fm_copies.proofs.Differences.{all_agree}
 use Rattle.fm_copies.proofs.mismatch.first_difference.Goals as goal
 
 pub returns : goal.returns

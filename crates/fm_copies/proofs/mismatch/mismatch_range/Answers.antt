@@ -12,13 +12,15 @@ compare_piece-requires g c =
 pub returns-in_err-at : goal.returns-in_err-at
 returns-in_err-at g c =
     let p = err_from_is_err_and c.from_residual.result c.from_residual.ensures.1 in
-    after_compare c.requires (rw (p.1, p.2) (compare_stops c.loop-left.invariant c.next_piece-piece.result c.in_err-at.field-0.0 c.loop-left-test.true
+    after_compare c.requires c.compare_piece.ensures.outside (rw (p.1, p.2) (compare_stops c.loop-left.invariant c.next_piece-piece.result
+    c.in_err-at.field-0.0 c.loop-left-test.true
     c.next_piece-piece.ensures.value c.in_err-at.ensures.did))
 
 pub returns-in-Some : goal.returns-in-Some
 returns-in-Some g c =
     let d = rw c.in-Some.is at c.in_ok-at.ensures.did in
-    after_compare c.requires (compare_differs c.loop-left.invariant c.next_piece-piece.result c.in-Some.at (c.next_piece-piece.result.offset + c.from.result)
+    after_compare c.requires c.compare_piece.ensures.outside (compare_differs c.loop-left.invariant c.next_piece-piece.result
+    c.in-Some.at (c.next_piece-piece.result.offset + c.from.result)
     c.loop-left-test.true c.next_piece-piece.ensures.value (ap (λ n. c.next_piece-piece.result.offset + n) c.from.ensures) d)
 
 pub loop-left-preserved : goal.loop-left-preserved
@@ -29,4 +31,4 @@ loop-left-preserved g c =
     c.compare_piece.ensures.outside d)
 
 pub returns : goal.returns
-returns g c = after_compare c.requires (compare_done c.loop-left.invariant (let t = c.loop-left-test.false in omega arith))
+returns g c = after_compare c.requires c.loop-left.invariant.outside (compare_done c.loop-left.invariant (let t = c.loop-left-test.false in omega arith))
