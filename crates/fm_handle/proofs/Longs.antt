@@ -1,8 +1,7 @@
 -- What a handle's exchanges of and additions to whole words do, where the caller is the only one.
-use Rattle.std.proofs.Common.{◌≡◌, ℕ, ℤ, ◌+◌, ◌*◌, ◌/◌, ◌%◌, ◌^◌, ◌<◌, ◌≤◌, ◌==◌, true, List, [], ◌∷◌, length, take, drop, Ok, refl, sym, ap, subst, ◌∙◌, arith}
+use Rattle.std.proofs.Common.{◌≡◌, ℕ, ℤ, ◌+◌, ◌/◌, ◌%◌, ◌^◌, ◌<◌, ◌≤◌, ◌==◌, true, [], ◌∷◌, length, Ok, refl, sym, ap, subst, ◌∙◌, arith}
 use Rattle.std.specs.Int.{w64, cast_unsigned}
 use Rattle.std.proofs.lemmas.Bool.Decides.{nat_tests}
-use Rattle.std.proofs.lemmas.List.{length-reverse, take_all}
 use Rattle.fm_base.specs.declared.caller.Caller.{Caller}
 use Rattle.fm_base.specs.declared.arena_id.ArenaId.{ArenaId}
 use Rattle.fm_base.specs.Arenas.{IsUnderWay, State, arena_of, has_arena, changed, word_in}
@@ -12,21 +11,21 @@ use Rattle.fm_base.specs.View.{View, Did, IsByItself}
 use Rattle.fm_base.specs.Visits.{Acts}
 use Rattle.fm_base.proofs.Lookup.{swapped_hit, swapped_miss}
 use Rattle.fm_base.proofs.Placing.{there_by_way}
-use Rattle.fm_bytes.specs.Bytes.{AreBytes, bytes_of, number_of}
+use Rattle.fm_bytes.specs.Bytes.{number_of, lane}
 use Rattle.fm_bytes.specs.Signed.{unsigned_of}
-use Rattle.fm_bytes.proofs.Bytes.{AreBytes-bytes_of, length-bytes_of, number_of-lt, number_of-bytes_of, number_of-bytes_of_mod, bytes_of-number_of}
+use Rattle.fm_bytes.proofs.Bytes.{lane-lt, lane-whole, number_of-bytes_of_mod}
 use Rattle.fm_bytes.proofs.Signed.{unsigned_of-signed_of, unsigned_of-eight}
 use Rattle.fm_lanes.specs.declared.order.Order.{Order}
-use Rattle.fm_lanes.specs.declared.order.Order.TheVariants.{Little, Big}
+use Rattle.fm_lanes.specs.declared.order.Order.TheVariants.{Little}
 use Rattle.fm_lanes.specs.declared.value.Value.{Value}
 use Rattle.fm_lanes.specs.declared.value.Value.TheVariants.{Long}
 use Rattle.fm_lanes.specs.declared.value_kind.ValueKind.{ValueKind}
 use Rattle.fm_lanes.specs.declared.value_kind.ValueKind.TheVariants as kind
-use Rattle.fm_lanes.specs.Coding.{encoded, lowest_first, value_of, bytes_of_value}
-use Rattle.fm_lanes.proofs.Turning.{AreBytes-reverse}
+use Rattle.fm_lanes.specs.Coding.{encoded, turned, bytes_of_value}
+use Rattle.fm_lanes.proofs.Meaning.{value_of-lane}
+use Rattle.fm_lanes.proofs.Turning.{turned_number, turned-lt_width, turned-turned}
 use Rattle.fm_path.specs.declared.value_spec.ValueSpec.{ValueSpec}
 use Rattle.fm_access.proofs.Visits.{VisitPuts, ActsPut, acts_visit, visit_stays, whole_word, not_same}
-use Rattle.fm_access.proofs.Values.{lowest_twice}
 use Rattle.fm_handle.specs.Access.{DoesVisit}
 use Rattle.fm_handle.specs.Acts.{ExchangesLong, AddsLong, value_in, word_of, sum_of}
 use Rattle.fm_handle.specs.Alone.{value_at, ExchangesValue, AddsValue}
@@ -35,38 +34,24 @@ use Rattle.fm_handle.proofs.Updating.{VisitOf, visit_alone, value_there, puts_va
 
 -- ---- longs and their words
 
--- eight bytes
-record AreEight (bytes : List ℕ) : Type 0 where
-  pub are : AreBytes bytes
-  pub count : length bytes ≡ 8
-
-eight : (o : Order) (word : ℕ) → AreEight (lowest_first o (bytes_of 8 word))
-eight Little word = record { are = AreBytes-bytes_of 8 word; count = length-bytes_of 8 word }
-eight Big word =
-    record { are = AreBytes-reverse (bytes_of 8 word) (AreBytes-bytes_of 8 word); count = length-reverse (bytes_of 8 word) ∙ length-bytes_of 8 word }
-
 -- The two's complement of the long that a word means.
-long_number : (o : Order) (x : ℤ) (word : ℕ) → Long x ≡ value_in kind.Long o 0 word → unsigned_of 8 x ≡ number_of (lowest_first o (bytes_of 8 word))
-long_number o x word means =
-    let bytes = lowest_first o (bytes_of 8 word) in
-    let n = number_of (lowest_first o (bytes_of 8 word)) in
-    let e = eight o word in
-    let all : take 8 (drop 0 (bytes_of 8 word)) ≡ bytes_of 8 word = take_all 8 (bytes_of 8 word) (omega (arith, length-bytes_of 8 word)) in
-    let below : n < 2 ^ 64 = subst (λ (k : ℕ). n < 2 ^ (8 * k)) e.count (number_of-lt bytes e.are) in
-    let small : n % 2 ^ 64 < 2 ^ 64 = omega arith in
-    let keeps : n % 2 ^ 64 ≡ n = omega arith in
-    ap encoded means ∙ ap (λ bs. encoded (value_of kind.Long o bs)) all ∙ unsigned_of-signed_of 8 (n % 2 ^ 64) small ∙ keeps
+long_code : (o : Order) (x : ℤ) (word : ℕ) → Long x ≡ value_in kind.Long o 0 word → unsigned_of 8 x ≡ turned 8 (lane word 0 8) o
+long_code o x word means =
+    let n = turned 8 (lane word 0 8) o in
+    let below : turned 8 (lane word 0 8) o < 2 ^ 64 = turned-lt_width 8 (lane word 0 8) o (lane-lt word 0 8) in
+    let small : turned 8 (lane word 0 8) o % 2 ^ 64 < 2 ^ 64 = omega arith in
+    let keeps : turned 8 (lane word 0 8) o % 2 ^ 64 ≡ turned 8 (lane word 0 8) o = omega arith in
+    ap encoded (means ∙ sym (value_of-lane kind.Long o word 0 (omega arith))) ∙ unsigned_of-signed_of 8 (n % 2 ^ 64) small ∙ keeps
 
 -- A word means a long whose word it is.
 word_again : (o : Order) (x : ℤ) (word : ℕ) → word < 2 ^ 64 → Long x ≡ value_in kind.Long o 0 word → word_of o x ≡ word
 word_again o x word small means =
-    let bytes = lowest_first o (bytes_of 8 word) in
-    let e = eight o word in
-    ap (λ n. number_of (lowest_first o (bytes_of 8 n))) (long_number o x word means)
-    ∙ ap (λ k. number_of (lowest_first o (bytes_of k (number_of bytes)))) (sym e.count)
-    ∙ ap (λ bs. number_of (lowest_first o bs)) (bytes_of-number_of bytes e.are)
-    ∙ ap number_of (lowest_twice o (bytes_of 8 word))
-    ∙ number_of-bytes_of 8 word small
+    let code = long_code o x word means in
+    let fits : encoded (Long x) < 2 ^ 64 = rw code (turned-lt_width 8 (lane word 0 8) o (lane-lt word 0 8)) in
+    sym (turned_number 8 (encoded (Long x)) o fits)
+    ∙ ap (λ n. turned 8 n o) code
+    ∙ turned-turned 8 (lane word 0 8) o
+    ∙ lane-whole word 8 small
 
 -- A sum of words is the word of the sum.
 sum_number : (x delta : ℤ) (word : ℕ) → Long x ≡ value_in kind.Long Little 0 word
@@ -74,7 +59,7 @@ sum_number : (x delta : ℤ) (word : ℕ) → Long x ≡ value_in kind.Long Litt
 sum_number x delta word means =
     let m = (cast_unsigned w64 x + cast_unsigned w64 delta) % 2 ^ 64 in
     let small : m < 2 ^ 64 = omega arith in
-    let left : cast_unsigned w64 x ≡ word % 2 ^ 64 = sym (unsigned_of-eight x) ∙ long_number Little x word means ∙ number_of-bytes_of_mod 8 word in
+    let left : cast_unsigned w64 x ≡ word % 2 ^ 64 = sym (unsigned_of-eight x) ∙ long_code Little x word means ∙ omega arith in
     let right : cast_unsigned w64 delta ≡ unsigned_of 8 delta = sym (unsigned_of-eight delta) in
     let d : word_of Little delta ≡ unsigned_of 8 delta % 2 ^ 64 = number_of-bytes_of_mod 8 (unsigned_of 8 delta) in
     let s : number_of (bytes_of_value Little (sum_of (Long x) (Long delta))) ≡ m = number_of-bytes_of_mod 8 (encoded (sum_of (Long x) (Long delta)))

@@ -1,23 +1,21 @@
 -- Values in words, from the code's bits.
-use Rattle.std.proofs.Common.{◌≡◌, ◌≢◌, ◌==◌, Bool, true, false, MatchBool, ℕ, ◌+◌, ◌-◌, ◌*◌, ◌%◌, ◌^◌, ◌<◌, ◌≤◌, bit_and, bit_or, take, drop, ℤ, pos, negsuc, SFits, w64, refl, sym, ap, subst, ◌∙◌, arith}
+use Rattle.std.proofs.Common.{◌≡◌, ◌≢◌, ◌==◌, Bool, true, false, MatchBool, ℕ, ◌+◌, ◌-◌, ◌*◌, ◌%◌, ◌^◌, ◌<◌, ◌≤◌, bit_and, bit_or, ℤ, pos, negsuc, SFits, w64, sym, ap, subst, ◌∙◌, arith}
 use Rattle.std.proofs.lemmas.Bool.{eqb-true, eqb-false}
-use Rattle.std.proofs.lemmas.List.{take_all}
-use Rattle.fm_bytes.specs.Bytes.{bytes_of, number_of, lane, replaced}
+use Rattle.fm_bytes.specs.Bytes.{number_of, lane, replaced}
 use Rattle.fm_bytes.specs.Signed.{FitsBytes, signed_of, unsigned_of}
-use Rattle.fm_bytes.proofs.Bytes.{bytes_of-number_of, length-bytes_of}
+use Rattle.fm_bytes.proofs.Bytes.{lane-whole}
 use Rattle.fm_bytes.proofs.Signed.{unsigned_of-lt, signed_of-unsigned_of}
 use Rattle.fm_lanes.specs.declared.order.Order.{Order}
 use Rattle.fm_lanes.specs.declared.value.Value.{Value}
 use Rattle.fm_lanes.specs.declared.value.Value.TheVariants.{Long}
 use Rattle.fm_lanes.specs.declared.value_kind.ValueKind.{ValueKind}
 use Rattle.fm_lanes.specs.declared.value_kind.ValueKind.TheVariants as kind
-use Rattle.fm_lanes.specs.Coding.{decoded, encoded, turned, value_of, bytes_of_value}
+use Rattle.fm_lanes.specs.Coding.{decoded, encoded, turned, bytes_of_value}
 use Rattle.fm_lanes.specs.Kind.{width_of}
 use Rattle.fm_lanes.specs.Value.{kind_of}
 use Rattle.fm_lanes.proofs.Masks.{replaced-mask}
 use Rattle.fm_lanes.proofs.Meaning.{value_of-lane}
-use Rattle.fm_lanes.proofs.Turning.{turned_number, turned-lt_width}
-use Rattle.fm_access.proofs.Values.{AreBytes-value, length-value, means_itself}
+use Rattle.fm_lanes.proofs.Turning.{turned_number, turned-lt_width, turned-turned}
 use Rattle.fm_handle.specs.Acts.{value_in, with_value, word_of}
 
 -- A lane that is turned and decoded.
@@ -63,13 +61,14 @@ fits_word (negsuc n) f = f.sfits
 -- The word of a long means it.
 pub word_means : (o : Order) (z : ℤ) → SFits w64 z → value_in kind.Long o 0 (word_of o z) ≡ Long z
 word_means o z fits =
-    let v = Long z in
-    let n = word_of o z in
     let f = fits_word z fits in
     let small : unsigned_of 8 z < 2 ^ 64 = unsigned_of-lt 8 z (omega arith) f in
     let keeps : unsigned_of 8 z % 2 ^ 64 ≡ unsigned_of 8 z = omega arith in
-    let again : bytes_of 8 (word_of o z) ≡ bytes_of_value o (Long z) = ap (λ k. bytes_of k n) (sym (length-value o v))
-    ∙ bytes_of-number_of (bytes_of_value o v) (AreBytes-value o v) in
-    let all : take 8 (drop 0 (bytes_of 8 n)) ≡ bytes_of 8 n = take_all 8 (bytes_of 8 n) (omega (arith, length-bytes_of 8 n)) in
-    ap (value_of kind.Long o) (all ∙ again)
-    ∙ means_itself kind.Long o v refl small (ap (λ m. Long (signed_of 8 m)) keeps ∙ ap Long (signed_of-unsigned_of 8 z (omega arith) f))
+    let word : word_of o z ≡ turned 8 (unsigned_of 8 z) o = sym (turned_number 8 (unsigned_of 8 z) o small) in
+    let below : turned 8 (unsigned_of 8 z) o < 2 ^ 64 = turned-lt_width 8 (unsigned_of 8 z) o small in
+    sym (value_of-lane kind.Long o (word_of o z) 0 (omega arith))
+    ∙ ap (λ w. decoded kind.Long (turned 8 (lane w 0 8) o)) word
+    ∙ ap (λ w. decoded kind.Long (turned 8 w o)) (lane-whole (turned 8 (unsigned_of 8 z) o) 8 below)
+    ∙ ap (decoded kind.Long) (turned-turned 8 (unsigned_of 8 z) o)
+    ∙ ap (λ m. Long (signed_of 8 m)) keeps
+    ∙ ap Long (signed_of-unsigned_of 8 z (omega arith) f)

@@ -6,6 +6,7 @@ ghost use Rattle.fm_handle.specs.Acts.{value_in, with_value, word_of, sum_of};
 use fm_lanes::{Order, Value, ValueKind, bits, decode, encode, mask, read, turned};
 
 /// The value that the bytes of `word` from byte `at` on mean.
+#[tactic(auto, using(crate::proofs::Words::read_value))]
 pub(crate) fn value_in(word: u64, at: u32, kind: ValueKind, order: Order) -> Value
     requires { at + width_of kind ≤ 8 }
     ensures value { result ≡ value_in kind order at word }
@@ -16,6 +17,7 @@ pub(crate) fn value_in(word: u64, at: u32, kind: ValueKind, order: Order) -> Val
 }
 
 /// The word with the bytes of `v` from byte `at` on; its other bytes stay.
+#[tactic(auto, using(crate::proofs::Words::put_value_in))]
 pub(crate) fn with_value(word: u64, at: u32, order: Order, v: Value) -> u64
     requires { at + width_of (kind_of v) ≤ 8 }
     ensures { result ≡ with_value order v at word }
@@ -42,6 +44,7 @@ pub(crate) fn long_in(word: u64, order: Order) -> i64
 }
 
 /// Whether two values of one kind are the same.
+#[tactic(auto, using(crate::proofs::Words::tested_value))]
 pub(crate) fn is_same(a: Value, b: Value) -> bool
     requires { kind_of a ≡ kind_of b }
     ensures { MatchBool result (a ≡ b) (a ≢ b) }

@@ -1,7 +1,6 @@
 -- What another caller does between the calls of caller 0.
-use Rattle.std.proofs.Common.{inl, ◌≡◌, ℕ, ◌+◌, ◌*◌, ◌%◌, ◌^◌, ◌<◌, ◌≤◌, true, false, if◌then◌else◌, cond, List, [], ◌∷◌, ◌++◌, refl, ap, sym, ◌∙◌, subst, arith, Option, Some, None, All, not}
+use Rattle.std.proofs.Common.{inl, ◌≡◌, ℕ, ◌+◌, ◌%◌, ◌^◌, ◌≤◌, true, false, cond, List, [], ◌∷◌, ◌++◌, refl, ap, sym, ◌∙◌, subst, arith, Option, Some, None, All, not}
 use Rattle.std.specs.Prelude.{filter, slice_index, Result, Ok, Err}
-use Rattle.std.proofs.lemmas.List.{append-nil}
 use Rattle.std.proofs.lemmas.List.Elements.{All-nil, All-head, All-tail, All-contains}
 use Rattle.fm_base.specs.declared.caller.Caller.{Caller}
 use Rattle.fm_base.specs.declared.arena_id.ArenaId.{ArenaId}
@@ -10,28 +9,22 @@ use Rattle.fm_base.specs.declared.refusal.Refusal.{Refusal}
 use Rattle.fm_base.specs.declared.refusal.Refusal.TheVariants as refusal
 use Rattle.fm_base.specs.Arenas.{are_one, only_caller, State, Arena, has_arena, arena_of, changed, IsUnderWay, MayUse}
 use Rattle.fm_base.specs.Calls.{Call, Reply, Add, Found, Entry}
-use Rattle.fm_base.specs.Machine.{IsPower, IsUnderWayNowhere, enter_reply, entered, left, written}
+use Rattle.fm_base.specs.Machine.{IsUnderWayNowhere, enter_reply, entered, left, written}
 use Rattle.fm_base.specs.Histories.{IsLegal, state_after, made_by}
 use Rattle.fm_base.specs.Visits.{visit}
 use Rattle.fm_base.specs.View.{View, Makes, Did, but_loans}
-use Rattle.fm_base.specs.Does.{CanReach, IsClosable, DoesEnter, DoesAct, DoesPatch, DoesClose, DidEnter, DidAct, DidPatch, DidAllocate, DidClose}
-use Rattle.fm_base.proofs.Making.{Makes-then, Makes-none}
-use Rattle.fm_base.proofs.Growing.{Makes-grows}
+use Rattle.fm_base.specs.Does.{DoesEnter, DoesAct, DoesPatch, DoesClose, DidEnter, DidAct, DidPatch}
+use Rattle.fm_base.proofs.Making.{Makes-then}
 use Rattle.fm_base.proofs.Lookup.{lookup_changed, changed_has, changed_twice, changed_alike}
 use Rattle.fm_base.proofs.Alone.{only_act}
-use Rattle.fm_base.proofs.Names.{same_id-self}
 use Rattle.fm_mono.specs.Shown.{Arenas, view_of}
-use Rattle.fm_segment.specs.Access.{IsKnown}
-use Rattle.fm_segment.specs.Region.{region_of}
 use Rattle.fm_memory_tests.specs.declared.heard.Heard.{Heard}
 use Rattle.fm_memory_tests.specs.declared.heard.Heard.TheVariants as heard
 use Rattle.fm_memory_tests.specs.declared.others.Others.{Others}
 use Rattle.fm_memory_tests.specs.declared.others.Others.TheVariants as others
-use Rattle.fm_memory_tests.specs.Fence.{another, gathered_one, others_id, others_arena}
-use Rattle.fm_memory_tests.specs.Heard.{entries_in, close_by, heard_before}
-use Rattle.fm_memory_tests.specs.Double.{Doubled, doubled, double_view, behind, IsFenced, IsOnlyZero, IsInAlive, IsDouble}
+use Rattle.fm_memory_tests.specs.Heard.{close_by}
+use Rattle.fm_memory_tests.specs.Double.{another, gathered_one, Doubled, doubled, IsOnlyZero, IsInAlive, IsDouble}
 use Rattle.fm_memory_tests.proofs.Hearing.{Made, made_of, made_outside, close_own}
-use Rattle.fm_memory_tests.proofs.Fencing.{IsAnother, by_name, there, look, fence_legal}
 use Rattle.fm_memory_tests.proofs.Going.{Went, Goes, goes_on, calm_by}
 use Rattle.fm_memory_tests.proofs.Zero.{alive_changed}
 
@@ -94,15 +87,15 @@ visits {d} {n} {hs} {i} {script} {step} {id} word found who b at kind did e =
     let stays : n.inside ≡ m.inside = k.inside in
     let alive : IsInAlive n.state n.inside = rw (stays, o.state) (alive_changed f (λ a. refl) (λ a. refl) s id m.inside b.alive) in
     let w : Went d n all [] = record {
-      legal = rw who legal;
-      reached = rw who (o.state ∙ joined);
+      legal = legal;
+      reached = o.state ∙ joined;
       mine = refl;
       inside = stays;
       limit = k.limit;
       whole = rw who (λ no. absurd (let never : ⊥ = cc in never));
       quiet = refl;
     } in
-    goes_on d n (heard.Visit another id word step found) hs [] w e (λ own. own ≡ []) i i b (calm_by m n _ i b.only_zero b.apart k (stays ∙ b.inside) alive) refl
+    goes_on d n (heard.Visit another id word step found) hs [] w e (λ own. own ≡ []) i i b (calm_by m n _ i b.only_zero k (stays ∙ b.inside) alive) refl
 
 -- ---- a close
 
@@ -132,8 +125,8 @@ shuts {d} {n} {hs} {i} {left} id r who b was kind did out e =
     let too = close_too d.mono.limit d.mono.state id r kind k.legal in
     let none = close_apart id r in
     let w : Went d n (close_by another id r) [] = record {
-      legal = rw who too.0;
-      reached = rw who (k.reached ∙ too.1);
+      legal = too.0;
+      reached = k.reached ∙ too.1;
       mine = none.0;
       inside = out ∙ sym was;
       limit = k.limit;
@@ -141,7 +134,7 @@ shuts {d} {n} {hs} {i} {left} id r who b was kind did out e =
       quiet = none.1;
     } in
     goes_on d n (heard.Close another id r) hs [] w e (λ own. own ≡ []) i i b
-    (calm_by d.mono n _ i b.only_zero b.apart k (out ∙ (sym was ∙ b.inside)) (rw out tt)) refl
+    (calm_by d.mono n _ i b.only_zero k (out ∙ (sym was ∙ b.inside)) (rw out tt)) refl
 
 -- What made no entry of caller 0.
 pub nothing_own : {x y : View} → Did x y (λ own. own ≡ []) → Makes x y []
@@ -166,100 +159,15 @@ patch_after {x} {y} {z} word mask bits found k d = did_after (λ i c. DoesPatch 
 pub enter_after : {x y z : View} (id : ArenaId) (result : Result (Unit {0}) Refusal) → Makes x y [] → DidEnter y z id result → DidEnter x z id result
 enter_after {x} {y} {z} id result k d = did_after (λ i c. DoesEnter c id result) k d
 
--- A word can be reached still.
-pub reach_still : {x y : View} {word : ℕ} → Makes x y [] → CanReach x word → CanReach y word
-reach_still {x} {y} {word} k r =
-    record { id = r.id; inside = k.inside ∙ r.inside; given = (let g = (Makes-grows x y [] k).given r.id in let h = r.given in omega arith) }
-
--- ---- whose an arena is
-
--- An arena that isn't caller 1's is one of the `Mono`'s.
-pub own_known : (o : Others) (limit : ℕ) (s : State) (id : ArenaId) → has_arena (behind o limit s) id ≡ true → ¬ (id ≡ others_id) → has_arena s id ≡ true
-own_known (others.Stay closed) limit s id h n = sym (ap (λ b. if b then true else has_arena s id) (by_name id n)) ∙ h
-own_known others.Gathered limit s id h n = h
-own_known (others.Add script step) limit s id h n = h
-own_known (others.Close left) limit s id h n = h
-
--- Caller 0 may not use caller 1's.
-not_theirs : (x : View) (id : ArenaId) → x.caller ≡ only_caller → id ≡ others_id → ¬ (MayUse id x.caller)
-not_theirs x id c e m =
-    let may : MayUse others_id only_caller = subst (λ (k : Caller). MayUse others_id k) c (subst (λ (i : ArenaId). MayUse i x.caller) e m) in
-    let no : 1 ≡ 0 = ap (λ (k : Caller). k.number) (may refl) in
-    absurd (omega (arith, no))
-
--- So its calls on it are refused, and make no entry.
-pub out_of_enter : {x : View} (id : ArenaId) → x.caller ≡ only_caller → id ≡ others_id → DidEnter x x id (Err refusal.WrongThread)
-out_of_enter {x} id c e = record { own = []; does = (not_theirs x id c e, refl); makes = Makes-none x }
-
-pub out_of_allocate : {x : View} (id : ArenaId) (size align : ℕ) → x.caller ≡ only_caller → id ≡ others_id → IsPower align
-    → DidAllocate x x id size align (Err refusal.WrongThread)
-out_of_allocate {x} id size align c e p = record { own = []; does = (p, not_theirs x id c e, refl); makes = Makes-none x }
-
-pub out_of_close : {x : View} (id : ArenaId) → x.caller ≡ only_caller → id ≡ others_id → DidClose x x id (Err refusal.WrongThread)
-out_of_close {x} id c e = record {
-  own = [];
-  does =
-      (subst (λ (i : ArenaId). IsClosable i.kind) (sym e) ((λ k. let never : ⊥ = cc in never), (λ k. let never : ⊥ = cc in never)), not_theirs x id c e, refl);
-  makes = Makes-none x;
-}
-
--- A wrong alignment is refused first.
-pub badly_aligned : {x : View} (id : ArenaId) (size align : ℕ) → ¬ (IsPower align) → DidAllocate x x id size align (Err refusal.BadAlignment)
-badly_aligned {x} id size align p = record { own = []; does = (p, refl); makes = Makes-none x }
-
--- Bytes of an arena of caller 0's own.
-given_own : (o : Others) (limit : ℕ) (s : State) (id : ArenaId) (place : ℕ) → IsAnother id → place < (arena_of (behind o limit s) id).given
-    → place < (arena_of s id).given
-given_own (others.Stay closed) limit s id place a h = subst (λ (x : Arena). place < x.given) (look limit closed s id a) h
-given_own others.Gathered limit s id place a h = h
-given_own (others.Add script step) limit s id place a h = h
-given_own (others.Close left) limit s id place a h = h
-
--- A word of an arena that caller 0 entered.
-pub reach_own : {d : Doubled} {i : Option ArenaId} {word : ℕ} → IsDouble d i → CanReach (double_view d) word → CanReach (view_of d.mono) word
-reach_own {d} {i} {word} b r =
-    let h : IsInAlive d.mono.state (Some r.id) = rw r.inside at b.alive in
-    record { id = r.id; inside = r.inside; given = given_own d.others d.mono.limit d.mono.state r.id (8 * word) (there d.mono.state r.id b.apart h.0) r.given }
-
-record IsGiven (s : State) : Type 0 where
-  has : has_arena s others_id ≡ true
-  given : 16 ≤ (arena_of s others_id).given
-
-fence_given : (o : Others) (limit : ℕ) (s : State) → IsFenced o → IsGiven (behind o limit s)
-fence_given (others.Stay closed) limit s h =
-    let one = same_id-self others_id in
-    record {
-      has = ap (λ b. if b then true else has_arena s others_id) one;
-      given = subst (λ (a : Arena). 16 ≤ a.given) (sym (ap (λ b. if b then others_arena limit closed else arena_of s others_id) one)) (omega arith);
-    }
-fence_given others.Gathered limit s h = absurd h
-fence_given (others.Add script step) limit s h = absurd h
-fence_given (others.Close left) limit s h = absurd h
-
--- The bytes of caller 1 are given.
-pub theirs_known : (d : Doubled) → IsFenced d.others → IsKnown (double_view d) (region_of others_id 0 16)
-theirs_known d h = let g = fence_given d.others d.mono.limit d.mono.state h in record { arena = g.has; given = g.given }
-
 -- ---- the start
 
-started : (o : Others) (limit : ℕ) → 16 ≤ limit
-    → IsLegal limit [] (entries_in (heard_before o)) × (behind o limit [] ≡ state_after limit [] (entries_in (heard_before o)))
-started (others.Stay closed) limit room = rw append-nil (fence_legal limit closed room)
-started others.Gathered limit room = (tt, refl)
-started (others.Add script step) limit room = (tt, refl)
-started (others.Close left) limit room = (tt, refl)
-
--- No arenas yet but the others'.
-pub starts : {m : Arenas} {o : Others} {hs : List Heard} → m.inside ≡ None → m.state ≡ [] → 16 ≤ m.limit → m.limit ≤ 2 ^ 40 → hs ≡ heard_before o
-    → IsDouble (doubled m o hs) None
-starts {m} {o} {hs} out empty room small e =
-    let start = started o m.limit room in
-    record {
-      small = small;
-      legal = rw e start.0;
-      state = rw (e, empty) start.1;
-      inside = out;
-      only_zero = rw empty (λ id. All-nil (λ c. c ≡ only_caller));
-      alive = rw out tt;
-      apart = rw empty refl;
-    }
+-- No arenas yet.
+pub starts : {m : Arenas} {o : Others} {hs : List Heard} → m.inside ≡ None → m.state ≡ [] → m.limit ≤ 2 ^ 40 → hs ≡ [] → IsDouble (doubled m o hs) None
+starts {m} {o} {hs} out empty small e = record {
+  small = small;
+  legal = rw e tt;
+  state = rw e empty;
+  inside = out;
+  only_zero = rw empty (λ id. All-nil (λ c. c ≡ only_caller));
+  alive = rw out tt;
+}

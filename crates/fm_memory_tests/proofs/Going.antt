@@ -1,5 +1,5 @@
 -- A history that is told goes on by each call of the `Mono`, beside other callers.
-use Rattle.std.proofs.Common.{inr, inl, ◌≡◌, ℕ, true, false, List, [], ◌∷◌, ◌++◌, refl, ap, sym, ◌∙◌, subst, Option, All}
+use Rattle.std.proofs.Common.{inr, inl, ◌≡◌, true, List, [], ◌∷◌, ◌++◌, refl, ap, sym, ◌∙◌, subst, Option}
 use Rattle.std.proofs.lemmas.List.Elements.{All-nil, All-cons, filter-append}
 use Rattle.fm_base.specs.declared.arena_id.ArenaId.{ArenaId}
 use Rattle.fm_base.specs.Arenas.{only_caller, State}
@@ -10,19 +10,15 @@ use Rattle.fm_base.specs.View.{Makes, Did, inside_after}
 use Rattle.fm_base.proofs.Making.{IsLegal-append, state_after-append}
 use Rattle.fm_mono.specs.Shown.{Arenas}
 use Rattle.fm_memory_tests.specs.declared.heard.Heard.{Heard}
-use Rattle.fm_memory_tests.specs.declared.others.Others.{Others}
-use Rattle.fm_memory_tests.specs.declared.others.Others.TheVariants as others
-use Rattle.fm_memory_tests.specs.Fence.{gathered_one, IsApart}
 use Rattle.fm_memory_tests.specs.Heard.{entries_by, entries_in, finds_by, finds_in}
-use Rattle.fm_memory_tests.specs.Double.{Doubled, doubled, double_view, behind, are_gathered, IsOnlyZero, IsInAlive, IsDouble}
+use Rattle.fm_memory_tests.specs.Double.{gathered_one, Doubled, doubled, double_view, are_gathered, IsOnlyZero, IsInAlive, IsDouble}
 use Rattle.fm_memory_tests.proofs.Hearing.{entries_more, finds_more, no_draws, Made, mine_is, quiet_is}
-use Rattle.fm_memory_tests.proofs.Fencing.{fenced}
 use Rattle.fm_memory_tests.proofs.Zero.{zero_after}
 
 -- these entries led from the double to one with this `Mono`, and of them `own` are caller 0's
 pub record Went (d : Doubled) (n : Arenas) (all own : List Entry) : Type 0 where
-  pub legal : IsLegal d.mono.limit (behind d.others d.mono.limit d.mono.state) all
-  pub reached : behind d.others d.mono.limit n.state ≡ state_after d.mono.limit (behind d.others d.mono.limit d.mono.state) all
+  pub legal : IsLegal d.mono.limit d.mono.state all
+  pub reached : n.state ≡ state_after d.mono.limit d.mono.state all
   pub mine : made_by only_caller all ≡ own
   pub inside : n.inside ≡ inside_after d.mono.inside own
   pub limit : n.limit ≡ d.mono.limit
@@ -34,7 +30,6 @@ pub record IsCalm (n : Arenas) (entered : Option ArenaId) : Type 0 where
   pub inside : n.inside ≡ entered
   pub only_zero : IsOnlyZero n.state
   pub alive : IsInAlive n.state n.inside
-  pub apart : IsApart n.state
 
 -- the double goes on to one with this `Mono`, where this was heard
 pub record Goes (d : Doubled) (n : Arenas) (hs : List Heard) (entered : Option ArenaId) (P : List Entry → Type 0) : Type 0 where
@@ -52,7 +47,7 @@ module _ (d : Doubled) (n : Arenas) (h : Heard) (hs : List Heard) (own : List En
       record {
         all = entries_by h;
         legal = w.legal;
-        reached = ap (λ (l : ℕ). behind d.others l n.state) w.limit ∙ w.reached;
+        reached = w.reached;
         by_caller = w.mine;
         alone = λ k. elim k [ inl e2 ↦ absurd (let never : ⊥ = cc in never) | inr is ↦ w.whole is ];
         inside = w.inside;
@@ -87,7 +82,6 @@ module _ (d : Doubled) (n : Arenas) (h : Heard) (hs : List Heard) (own : List En
     inside = c.inside;
     only_zero = c.only_zero;
     alive = c.alive;
-    apart = c.apart;
   }
 
   pub goes_on : (P : List Entry → Type 0) (i j : Option ArenaId) → IsDouble d i → IsCalm n j → P own → Goes d n hs j P
@@ -95,34 +89,24 @@ module _ (d : Doubled) (n : Arenas) (h : Heard) (hs : List Heard) (own : List En
 
 -- ---- caller 0's own calls
 
-legal_behind : (o : Others) (limit : ℕ) (s : State) (own : List Entry) → All (λ e. e.caller ≡ only_caller) own → IsApart s → IsLegal limit s own
-    → IsLegal limit (behind o limit s) own × (behind o limit (state_after limit s own) ≡ state_after limit (behind o limit s) own)
-legal_behind (others.Stay closed) limit s own by apart l = let f = fenced limit closed s own by apart l in (f.legal, sym f.state)
-legal_behind others.Gathered limit s own by apart l = (l, refl)
-legal_behind (others.Add script step) limit s own by apart l = (l, refl)
-legal_behind (others.Close left) limit s own by apart l = (l, refl)
-
 -- What the `Mono` made is done beside the others too.
-went_own : (d : Doubled) (n : Arenas) (own : List Entry) (i : Option ArenaId) → IsDouble d i → Made d.mono n own → Went d n own own
-went_own d n own i b k =
-    let l = legal_behind d.others d.mono.limit d.mono.state own k.mine b.apart k.legal in
-    record {
-      legal = l.0;
-      reached = ap (λ (s : State). behind d.others d.mono.limit s) k.reached ∙ l.1;
-      mine = mine_is own k.mine;
-      inside = k.inside;
-      limit = k.limit;
-      whole = λ h. refl;
-      quiet = quiet_is own k.mine;
-    }
+went_own : (d : Doubled) (n : Arenas) (own : List Entry) → Made d.mono n own → Went d n own own
+went_own d n own k = record {
+  legal = k.legal;
+  reached = k.reached;
+  mine = mine_is own k.mine;
+  inside = k.inside;
+  limit = k.limit;
+  whole = λ h. refl;
+  quiet = quiet_is own k.mine;
+}
 
-pub calm_by : (m n : Arenas) (own : List Entry) (j : Option ArenaId) → IsOnlyZero m.state → IsApart m.state → Made m n own → n.inside ≡ j
+pub calm_by : (m n : Arenas) (own : List Entry) (j : Option ArenaId) → IsOnlyZero m.state → Made m n own → n.inside ≡ j
     → IsInAlive n.state n.inside → IsCalm n j
-calm_by m n own j zero apart k is alive = record {
+calm_by m n own j zero k is alive = record {
   inside = is;
   only_zero = subst (λ (s : State). IsOnlyZero s) (sym k.reached) (zero_after m.limit m.state own k.mine zero);
   alive = alive;
-  apart = subst (λ (s : State). IsApart s) (sym k.reached) (fenced m.limit false m.state own k.mine apart k.legal).apart;
 }
 
 -- A call of caller 0 that was heard.
@@ -130,4 +114,4 @@ pub own_goes : (d : Doubled) (n : Arenas) (h : Heard) (hs : List Heard) (P : Lis
     → Made d.mono n (entries_by h) → hs ≡ d.heard ++ h ∷ []
     → n.inside ≡ j → IsInAlive n.state n.inside → P (entries_by h) → Goes d n hs j P
 own_goes d n h hs P i j b k e is alive p =
-    goes_on d n h hs (entries_by h) (went_own d n (entries_by h) i b k) e P i j b (calm_by d.mono n (entries_by h) j b.only_zero b.apart k is alive) p
+    goes_on d n h hs (entries_by h) (went_own d n (entries_by h) k) e P i j b (calm_by d.mono n (entries_by h) j b.only_zero k is alive) p

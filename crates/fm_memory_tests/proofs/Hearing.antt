@@ -20,7 +20,7 @@ use Rattle.fm_base.proofs.Names.{are_one-true}
 use Rattle.fm_mono.specs.Shown.{Arenas, view_of}
 use Rattle.fm_memory_tests.specs.declared.heard.Heard.{Heard}
 use Rattle.fm_memory_tests.specs.declared.heard.Heard.TheVariants as heard
-use Rattle.fm_memory_tests.specs.Fence.{gathered_one}
+use Rattle.fm_memory_tests.specs.Double.{gathered_one}
 use Rattle.fm_memory_tests.specs.Heard.{own_enter, own_open, own_allocate, close_by, entries_by, entries_in, finds_by, finds_in}
 
 -- ---- one more

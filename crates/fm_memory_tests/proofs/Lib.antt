@@ -1,5 +1,4 @@
 pub mod Hearing
-pub mod Fencing
 pub mod Zero
 pub mod Going
 pub mod Calling

@@ -1,6 +1,7 @@
 -- What contracts see of a `Double`: the arenas of a `Mono`, which other callers use too, with the whole history.
-use Rattle.std.specs.Prelude.{◌≡◌, ◌≤◌, ◌^◌, ℕ, Bool, true, false, List, [], ◌∷◌, Option, Some, None, All, ⊤}
+use Rattle.std.specs.Prelude.{◌≡◌, ◌≤◌, ◌^◌, Bool, true, false, List, [], ◌∷◌, Option, Some, None, All, ⊤}
 use Rattle.fm_base.specs.declared.arena_id.ArenaId.{ArenaId}
+use Rattle.fm_base.specs.declared.caller.Caller.{Caller}
 use Rattle.fm_base.specs.Arenas.{only_caller, State, Alive, has_arena, arena_of}
 use Rattle.fm_base.specs.Finds.{Rest}
 use Rattle.fm_base.specs.Histories.{IsLegal, state_after, made_by}
@@ -9,9 +10,16 @@ use Rattle.fm_base.specs.Outcomes.{Nature}
 use Rattle.fm_mono.specs.Shown.{Arenas}
 use Rattle.fm_memory_tests.specs.declared.heard.Heard.{Heard}
 use Rattle.fm_memory_tests.specs.declared.others.Others.{Others}
-use Rattle.fm_memory_tests.specs.declared.others.Others.TheVariants.{Gathered, Stay}
-use Rattle.fm_memory_tests.specs.Fence.{gathered_one, others_arena, IsApart}
+use Rattle.fm_memory_tests.specs.declared.others.Others.TheVariants.{Gathered}
 use Rattle.fm_memory_tests.specs.Heard.{entries_in, finds_in}
+
+-- the caller that comes between the calls of caller 0
+abbrev pub another : Caller
+another = record { number = 1; term = 0 }
+
+-- a caller that was gathered into caller 0
+abbrev pub gathered_one : Caller
+gathered_one = record { number = 2; term = 0 }
 
 pub record Doubled : Type 0 where
   pub mono : Arenas
@@ -20,16 +28,6 @@ pub record Doubled : Type 0 where
 
 abbrev pub doubled : Arenas → Others → List Heard → Doubled
 doubled mono others heard = record { mono = mono; others = others; heard = heard }
-
--- the arenas of the `Mono`, after the one that is confined to another caller
-abbrev pub behind : Others → ℕ → State → State
-behind (Stay is_closed) limit s = others_arena limit is_closed ∷ s
-behind others limit s = s
-
--- there is such an arena
-abbrev pub IsFenced : Others → Type 0
-IsFenced (Stay is_closed) = ⊤
-IsFenced others = ⊥
 
 -- whether every other caller was gathered into this one
 abbrev pub are_gathered : Others → Bool
@@ -60,7 +58,7 @@ told_of d = record {
 abbrev pub double_view : Doubled → View
 double_view d = record {
   limit = d.mono.limit;
-  state = behind d.others d.mono.limit d.mono.state;
+  state = d.mono.state;
   caller = only_caller;
   inside = d.mono.inside;
   alone = false;
@@ -82,8 +80,7 @@ IsInAlive s (Some id) = (has_arena s id ≡ true) × ((arena_of s id).life ≡ A
 pub record IsDouble (d : Doubled) (entered : Option ArenaId) : Type 0 where
   pub small : d.mono.limit ≤ 2 ^ 40
   pub legal : IsLegal d.mono.limit [] (entries_in d.heard)
-  pub state : behind d.others d.mono.limit d.mono.state ≡ state_after d.mono.limit [] (entries_in d.heard)
+  pub state : d.mono.state ≡ state_after d.mono.limit [] (entries_in d.heard)
   pub inside : d.mono.inside ≡ entered
   pub only_zero : IsOnlyZero d.mono.state
   pub alive : IsInAlive d.mono.state d.mono.inside
-  pub apart : IsApart d.mono.state

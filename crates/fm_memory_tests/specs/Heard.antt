@@ -10,10 +10,7 @@ use Rattle.fm_base.specs.Calls.{Entry, entry_of}
 use Rattle.fm_base.specs.Finds.{Find, TakesSlot}
 use Rattle.fm_base.specs.Visits.{visit, refused_visit}
 use Rattle.fm_memory_tests.specs.declared.heard.Heard.{Heard}
-use Rattle.fm_memory_tests.specs.declared.heard.Heard.TheVariants.{Enter, Load, Store, SwapIf, Add, Leave, Open, Allocate, Close, Visit, Fence}
-use Rattle.fm_memory_tests.specs.declared.others.Others.{Others}
-use Rattle.fm_memory_tests.specs.declared.others.Others.TheVariants.{Stay}
-use Rattle.fm_memory_tests.specs.Fence.{fence_entries}
+use Rattle.fm_memory_tests.specs.declared.heard.Heard.TheVariants.{Enter, Load, Store, SwapIf, Add, Leave, Open, Allocate, Close, Visit}
 
 abbrev pub own_enter : ArenaId → Result (Unit {0}) Refusal → List Entry
 own_enter id (Ok u) = entry_of only_caller (machine.Enter id) machine.Fine ∷ []
@@ -48,7 +45,6 @@ entries_by (Open result) = own_open result
 entries_by (Allocate id size align result) = own_allocate id size align result
 entries_by (Close c id result) = close_by c id result
 entries_by (Visit c id word n found) = visit c id ((machine.Add id word n, machine.Found found) ∷ [])
-entries_by (Fence is_closed) = fence_entries is_closed
 
 abbrev pub entries_in : List Heard → List Entry
 entries_in [] = []
@@ -62,11 +58,6 @@ finds_by seen h = []
 abbrev pub finds_in : ℕ → List Heard → List Find
 finds_in seen [] = []
 finds_in seen (h ∷ hs) = finds_by seen h ++ finds_in (seen + length (entries_by h)) hs
-
--- what stands before caller 0's first call
-abbrev pub heard_before : Others → List Heard
-heard_before (Stay is_closed) = Fence is_closed ∷ []
-heard_before others = []
 
 -- the arena that the caller is inside after an `enter`
 abbrev pub inside_by : ArenaId → Result (Unit {0}) Refusal → Option ArenaId

@@ -1,4 +1,3 @@
 pub mod Double
-pub mod Fence
 pub mod Heard
 pub mod Beside

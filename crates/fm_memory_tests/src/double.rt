@@ -1,12 +1,10 @@
 ghost use Rattle.std.specs.Prelude.{◌≡◌, ◌≢◌, ◌++◌, ◌∷◌, [], IsTrue};
-ghost use Rattle.fm_memory_tests.specs.Fence.{others_id};
-ghost use Rattle.fm_memory_tests.specs.Heard.{inside_by, heard_before};
+ghost use Rattle.fm_memory_tests.specs.Heard.{inside_by};
 
 use crate::heard::Heard;
 use crate::others::Others;
 use fm_base::{ArenaId, Caller, Kind, Memory, Refusal};
 use fm_mono::Mono;
-use fm_segment::Segment;
 use std::alloc::Global;
 use std::marker::Model;
 use std::sync::Wait;
@@ -44,17 +42,6 @@ fn hear<R: Wait>(rt: &R, heard: &mut Vec<Heard>, what: Heard)
     }
 }
 
-/// What the others made before this caller's first call.
-fn hear_first<R: Wait>(rt: &R, alloc: Global, others: Others) -> Vec<Heard>
-    ensures { result.items ≡ heard_before others }
-{
-    let mut heard = Vec::new(alloc);
-    if let Others::Stay { is_closed } = others {
-        hear(rt, &mut heard, Heard::Fence(is_closed));
-    }
-    heard
-}
-
 /// The arena that the caller is inside after an `enter`.
 fn entered_by(a: ArenaId, answer: Result<(), Refusal>) -> Option<ArenaId>
     ensures { result ≡ inside_by a answer }
@@ -72,56 +59,31 @@ fn is_for_all(kind: Kind) -> bool
     !matches!(kind, Kind::Confined)
 }
 
-/// The arena that is confined to another caller.
-fn others_arena() -> ArenaId
-    ensures { result ≡ others_id }
-{
-    ArenaId {
-        slot: 4_294_967_295,
-        generation: 0,
-        kind: Kind::Confined,
-        owner: 1,
-        term: 0,
-    }
-}
-
 impl<'a, H: Wait> Double<'a, H> {
-    ghost use Rattle.std.specs.Prelude.{◌≡◌, ◌≤◌, ◌^◌, [], true, None, Some, IsSome, MatchBool};
-    ghost use Rattle.fm_base.specs.Arenas.{has_arena};
+    ghost use Rattle.std.specs.Prelude.{◌≡◌, ◌≤◌, ◌^◌, [], None, Some, IsSome};
     ghost use Rattle.fm_base.specs.Does.{CanReach};
     ghost use Rattle.fm_base.specs.Learnt.{CanVisit};
     ghost use Rattle.fm_base.specs.View.{Makes, IsSound};
     ghost use Rattle.fm_mono.specs.Shown.{view_of};
-    ghost use Rattle.fm_segment.specs.Access.{IsKnown};
-    ghost use Rattle.fm_memory_tests.specs.Double.{double_view, IsFenced};
+    ghost use Rattle.fm_memory_tests.specs.Double.{double_view};
 
-    /// No arenas yet but the others'.
+    /// No arenas yet.
+    #[tactic(auto, using(crate::proofs::Beside::starts))]
     pub fn new(rt: &'a H, alloc: Global, mono: Mono, others: Others) -> Double<'a, H>
         requires outside { mono.inside ≡ None }
         requires empty { mono.state ≡ [] }
-        requires room { 16 ≤ mono.limit }
         requires small { mono.limit ≤ 2 ^ 40 }
         ensures outside { result.mono.inside ≡ None }
         ensures others { result.others ≡ others }
     {
-        let heard = hear_first(rt, alloc, others);
         Double {
             rt,
             mono,
             others,
-            heard,
+            heard: Vec::new(alloc),
             inside: None,
             turn: 0,
         }
-    }
-
-    /// The 16 bytes of the arena that is confined to another caller.
-    pub fn theirs(&self) -> Segment
-        requires { IsFenced self.now.others }
-        ensures { IsKnown (double_view self.now) result }
-    {
-        let _ = &self.others;
-        Segment::of(others_arena(), 0, 16)
     }
 
     /// The arena that was entered.
@@ -133,19 +95,6 @@ impl<'a, H: Wait> Double<'a, H> {
             Some(a) => a,
             None => unreachable!(),
         }
-    }
-
-    /// Whether the arena isn't confined to another caller.
-    fn is_own(&self, a: ArenaId) -> bool
-        requires { has_arena (double_view self.now).state a ≡ true }
-        ensures whose { MatchBool result (has_arena self.now.mono.state a ≡ true) (a ≡ others_id) }
-        ensures sound { IsSound (double_view self.now) }
-    {
-        let _ = &self.others;
-        if a == others_arena() {
-            return false;
-        }
-        true
     }
 
     /// What another does before this caller's call on a word.
@@ -175,6 +124,7 @@ impl<'a, H: Wait> Double<'a, H> {
         requires { CanVisit (view_of self.old.mono) a }
         ensures makes { Makes (double_view self.old) (double_view self.new) [] }
         ensures can { CanVisit (view_of self.new.mono) a }
+        ensures sound { IsSound (double_view self.old) }
     {
         if let Others::Close { left } = self.others {
             self.turn = self.turn.wrapping_add(1);
@@ -203,9 +153,6 @@ impl<'a, H: Wait> Memory for Double<'a, H> {
     }
 
     fn enter(&mut self, a: ArenaId) -> Result<(), Refusal> {
-        if !self.is_own(a) {
-            return Err(Refusal::WrongThread);
-        }
         self.come_before(a);
         let answer = self.mono.enter(a);
         hear(self.rt, &mut self.heard, Heard::Enter(a, answer));
@@ -274,12 +221,6 @@ impl<'a, H: Wait> Memory for Double<'a, H> {
         size: u64,
         align: u64,
     ) -> Result<u64, Refusal> {
-        if !self.is_own(a) {
-            if align.is_power_of_two() {
-                return Err(Refusal::WrongThread);
-            }
-            return Err(Refusal::BadAlignment);
-        }
         let answer = self.mono.allocate(rt, a, size, align);
         let given = Heard::Allocate(a, size, align, answer);
         hear(self.rt, &mut self.heard, given);
@@ -287,9 +228,6 @@ impl<'a, H: Wait> Memory for Double<'a, H> {
     }
 
     fn close<R: Wait>(&mut self, rt: &R, a: ArenaId) -> Result<(), Refusal> {
-        if !self.is_own(a) {
-            return Err(Refusal::WrongThread);
-        }
         let answer = self.mono.close(rt, a);
         let caller = self.mono.caller();
         hear(self.rt, &mut self.heard, Heard::Close(caller, a, answer));

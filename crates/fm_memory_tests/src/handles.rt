@@ -1,6 +1,6 @@
 ghost use Rattle.std.specs.Prelude.{◌≡◌, ◌≤◌, IsTrue, None, length};
 ghost use Rattle.fm_lanes.specs.Value.{kind_of};
-ghost use Rattle.fm_segment.specs.Access.{IsKnown};
+ghost use Rattle.fm_segment.specs.Learnt.{CanUse};
 
 use fm_base::{Kind, Memory, Refusal};
 use fm_handle::VarHandle;
@@ -22,9 +22,8 @@ pub fn handle<R: Abort>(rt: &R, alloc: Global, kind: ValueKind, text: &str) -> V
 
 /// A segment of so many bytes of a fresh shared arena.
 fn fresh<R: Abort + Wait, M: Memory>(rt: &R, m: &mut M, size: u64) -> Segment
-    requires outside { (M.view m.old).inside ≡ None }
-    ensures outside { (M.view m.new).inside ≡ None }
-    ensures known { IsKnown (M.view m.new) result }
+    requires { (M.view m.old).inside ≡ None }
+    ensures { CanUse (M.view m.new) result }
 {
     let arena = m.open_arena(rt, Kind::Shared).expect(rt, "an arena");
     let first = m.allocate(rt, arena, size, 8).expect(rt, "bytes");
@@ -64,10 +63,8 @@ fn gets<R: Abort, M: Memory>(
     indices: &[u64],
     answer: Result<Value, Refusal>,
 )
-    requires outside { (M.view m.old).inside ≡ None }
-    requires known { IsKnown (M.view m.old) s.now }
-    ensures outside { (M.view m.new).inside ≡ None }
-    ensures known { IsKnown (M.view m.new) s.now }
+    requires { CanUse (M.view m.old) s.now }
+    ensures { CanUse (M.view m.new) s.now }
 {
     takes(rt, h, indices);
     assert_eq!(rt; h.get(m, s, 0, indices), answer);
@@ -83,10 +80,8 @@ fn sets<R: Abort + Wait, M: Memory>(
     v: Value,
     answer: Result<(), Refusal>,
 )
-    requires outside { (M.view m.old).inside ≡ None }
-    requires known { IsKnown (M.view m.old) s.now }
-    ensures outside { (M.view m.new).inside ≡ None }
-    ensures known { IsKnown (M.view m.new) s.now }
+    requires { CanUse (M.view m.old) s.now }
+    ensures { CanUse (M.view m.new) s.now }
 {
     takes(rt, h, indices);
     holds(rt, h, v);
@@ -103,10 +98,8 @@ fn adds<R: Abort + Wait, M: Memory>(
     delta: Value,
     answer: Result<Value, Refusal>,
 )
-    requires outside { (M.view m.old).inside ≡ None }
-    requires known { IsKnown (M.view m.old) s.now }
-    ensures outside { (M.view m.new).inside ≡ None }
-    ensures known { IsKnown (M.view m.new) s.now }
+    requires { CanUse (M.view m.old) s.now }
+    ensures { CanUse (M.view m.new) s.now }
 {
     takes(rt, h, indices);
     holds(rt, h, delta);
@@ -123,10 +116,8 @@ fn exchanges<R: Abort + Wait, M: Memory>(
     change: (Value, Value),
     answer: Result<Value, Refusal>,
 )
-    requires outside { (M.view m.old).inside ≡ None }
-    requires known { IsKnown (M.view m.old) s.now }
-    ensures outside { (M.view m.new).inside ≡ None }
-    ensures known { IsKnown (M.view m.new) s.now }
+    requires { CanUse (M.view m.old) s.now }
+    ensures { CanUse (M.view m.new) s.now }
 {
     let (expected, v) = change;
     takes(rt, h, indices);
@@ -146,10 +137,8 @@ fn wins<R: Abort + Wait, M: Memory>(
     change: (Value, Value),
     answer: Result<bool, Refusal>,
 )
-    requires outside { (M.view m.old).inside ≡ None }
-    requires known { IsKnown (M.view m.old) s.now }
-    ensures outside { (M.view m.new).inside ≡ None }
-    ensures known { IsKnown (M.view m.new) s.now }
+    requires { CanUse (M.view m.old) s.now }
+    ensures { CanUse (M.view m.new) s.now }
 {
     let (expected, v) = change;
     takes(rt, h, indices);
@@ -212,10 +201,8 @@ pub fn use_values_of_another<R: Abort + Wait, M: Memory>(
     alloc: Global,
     s: &Segment,
 )
-    requires outside { (M.view m.old).inside ≡ None }
-    requires known { IsKnown (M.view m.old) s.now }
-    ensures outside { (M.view m.new).inside ≡ None }
-    ensures known { IsKnown (M.view m.new) s.now }
+    requires { CanUse (M.view m.old) s.now }
+    ensures { CanUse (M.view m.new) s.now }
 {
     let rows = handle(rt, alloc, ValueKind::Int, "[][]");
     let (v, refused) = (Value::Int(7), Refusal::WrongThread);
@@ -228,10 +215,8 @@ pub fn use_values_of_another<R: Abort + Wait, M: Memory>(
 
 /// The same of a long that fills a word, and of a call that is refused before.
 pub fn use_a_long_of_another<R: Abort, M: Memory>(rt: &R, m: &mut M, alloc: Global, s: &Segment)
-    requires outside { (M.view m.old).inside ≡ None }
-    requires known { IsKnown (M.view m.old) s.now }
-    ensures outside { (M.view m.new).inside ≡ None }
-    ensures known { IsKnown (M.view m.new) s.now }
+    requires { CanUse (M.view m.old) s.now }
+    ensures { CanUse (M.view m.new) s.now }
 {
     let path = parse_path(alloc, ".").expect(rt, "a path");
     let long = resolve(alloc, &Layout::value(ValueKind::Long), &path);

@@ -14,6 +14,4 @@ pub enum Heard {
     Close(Caller, ArenaId, Result<(), Refusal>),
     /// This caller entered, added to a word, and left.
     Visit(Caller, ArenaId, u64, u64, u64),
-    /// Another caller opened an arena that is confined to it, gave 16 bytes of it, and closed it or didn't.
-    Fence(bool),
 }

@@ -1,3 +1,5 @@
+#![tactic(auto, using(crate::proofs::Passing::beside_ours))]
+
 use fm_arena::Shared;
 use fm_base::{ArenaId, Caller, Kind, Memory, Refusal};
 use std::marker::Model;

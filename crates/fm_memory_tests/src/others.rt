@@ -10,6 +10,4 @@ pub enum Others {
     /// Another closes an arena once: that which this one enters next when `left` calls of `enter` have come, where it
     /// may be used by every caller.
     Close { left: u32 },
-    /// Another has an arena of its own, confined to it, of which 16 bytes are given. It is closed, or stays open.
-    Stay { is_closed: bool },
 }

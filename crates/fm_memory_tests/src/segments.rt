@@ -1,5 +1,5 @@
 ghost use Rattle.std.specs.Prelude.{◌≡◌, ◌≢◌, None};
-ghost use Rattle.fm_segment.specs.Access.{IsKnown};
+ghost use Rattle.fm_segment.specs.Learnt.{CanUse, CanUseBoth};
 
 use fm_base::{Kind, Memory, Refusal};
 use fm_lanes::{Value, ValueKind};
@@ -12,9 +12,7 @@ use std::sync::Wait;
 fn two_of_eight<R: Abort + Wait, M: Memory>(rt: &R, m: &mut M, kind: Kind) -> (Segment, Segment)
     requires outside { (M.view m.old).inside ≡ None }
     requires by_hand { kind ≢ Kind.Automatic }
-    ensures outside { (M.view m.new).inside ≡ None }
-    ensures first { IsKnown (M.view m.new) result.0 }
-    ensures second { IsKnown (M.view m.new) result.1 }
+    ensures known { CanUseBoth (M.view m.new) result.0 result.1 }
     ensures size { result.0.size ≡ 8 }
 {
     let arena = m.open_arena(rt, kind).expect(rt, "an arena");
@@ -68,9 +66,7 @@ pub fn use_values<R: Abort + Wait, M: Memory>(
 /// Two segments of 16 bytes, each of a fresh shared arena of its own.
 fn two_arenas<R: Abort + Wait, M: Memory>(rt: &R, m: &mut M) -> (Segment, Segment)
     requires { (M.view m.old).inside ≡ None }
-    ensures outside { (M.view m.new).inside ≡ None }
-    ensures first { IsKnown (M.view m.new) result.0 }
-    ensures second { IsKnown (M.view m.new) result.1 }
+    ensures { CanUseBoth (M.view m.new) result.0 result.1 }
 {
     let a = m.open_arena(rt, Kind::Shared).expect(rt, "an arena");
     let a_first = m.allocate(rt, a, 16, 8).expect(rt, "bytes");
@@ -96,10 +92,8 @@ pub fn copy_until_closed<R: Abort + Wait, M: Memory>(rt: &R, m: &mut M)
 
 /// What every memory does with a segment of 16 bytes of an arena that is confined to another caller.
 pub fn use_of_another<R: Abort + Wait, M: Memory>(rt: &R, m: &mut M, s: &Segment)
-    requires outside { (M.view m.old).inside ≡ None }
-    requires known { IsKnown (M.view m.old) s.now }
-    ensures outside { (M.view m.new).inside ≡ None }
-    ensures known { IsKnown (M.view m.new) s.now }
+    requires { CanUse (M.view m.old) s.now }
+    ensures { CanUse (M.view m.new) s.now }
 {
     let long = Layout::value(ValueKind::Long);
     assert_eq!(rt; s.get(m, &long, 9), Err(Refusal::Bounds));
@@ -125,10 +119,8 @@ pub fn use_of_another<R: Abort + Wait, M: Memory>(rt: &R, m: &mut M, s: &Segment
 
 /// The same through a segment that is read-only.
 pub fn read_of_another<R: Abort + Wait, M: Memory>(rt: &R, m: &mut M, s: &Segment)
-    requires outside { (M.view m.old).inside ≡ None }
-    requires known { IsKnown (M.view m.old) s.now }
-    ensures outside { (M.view m.new).inside ≡ None }
-    ensures known { IsKnown (M.view m.new) s.now }
+    requires { CanUse (M.view m.old) s.now }
+    ensures { CanUse (M.view m.new) s.now }
 {
     let read = s.as_read_only();
     let long = Layout::value(ValueKind::Long);
@@ -143,10 +135,8 @@ pub fn read_of_another<R: Abort + Wait, M: Memory>(rt: &R, m: &mut M, s: &Segmen
 
 /// What every memory does with 0 bytes of any arena: no arena is entered.
 pub fn use_no_bytes<R: Abort + Wait, M: Memory>(rt: &R, m: &mut M, s: &Segment)
-    requires outside { (M.view m.old).inside ≡ None }
-    requires known { IsKnown (M.view m.old) s.now }
-    ensures outside { (M.view m.new).inside ≡ None }
-    ensures known { IsKnown (M.view m.new) s.now }
+    requires { CanUse (M.view m.old) s.now }
+    ensures { CanUse (M.view m.new) s.now }
 {
     let none = Segment::of(s.arena(), s.first(), 0);
     assert_eq!(rt; none.fill(rt, m, 255), Ok(()));

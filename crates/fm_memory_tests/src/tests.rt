@@ -1,9 +1,7 @@
-use crate::body::{close_an_arena, stay_out, use_a_word};
+use crate::body::{close_an_arena, use_a_word};
 use crate::exact::use_by_itself;
-use crate::handles::{use_a_long_of_another, use_ints, use_longs, use_values_of_another};
-use crate::segments::{
-    copy_until_closed, read_of_another, use_no_bytes, use_of_another, use_ranges, use_values,
-};
+use crate::handles::{use_ints, use_longs};
+use crate::segments::{copy_until_closed, use_ranges, use_values};
 use crate::{Double, Others};
 use fm_base::{Kind, Memory, Refusal};
 use fm_mono::Mono;
@@ -57,24 +55,6 @@ fn beside_a_neighbour_that_changes(rt: HostRuntime) {
         };
         let mut m = Double::new(&rt, rt.alloc(), Mono::make(rt.alloc(), 64), others);
         use_ints(&rt, &mut m, rt.alloc(), index, 3);
-    }
-}
-
-/// An arena of another caller, open and closed, beside those of this one.
-#[test]
-fn beside_an_arena_of_another_caller(rt: HostRuntime) {
-    for is_closed in [false, true] {
-        let others = Others::Stay { is_closed };
-        let mut m = Double::new(&rt, rt.alloc(), Mono::make(rt.alloc(), 64), others);
-        let s = m.theirs();
-        use_of_another(&rt, &mut m, &s);
-        read_of_another(&rt, &mut m, &s);
-        use_no_bytes(&rt, &mut m, &s);
-        use_values_of_another(&rt, &mut m, rt.alloc(), &s);
-        use_a_long_of_another(&rt, &mut m, rt.alloc(), &s);
-        stay_out(&rt, &mut m, s.arena());
-        use_a_word(&rt, &mut m, 0);
-        use_ranges(&rt, &mut m);
     }
 }
 

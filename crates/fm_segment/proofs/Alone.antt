@@ -1,7 +1,6 @@
 -- Where a value stands in a segment, and what its only caller sees there.
 use Rattle.std.proofs.Common.{◌≡◌, ℕ, ◌+◌, ◌-◌, ◌*◌, ◌^◌, ◌<◌, ◌≤◌, List, take, drop, Result, Ok, sym, ap, subst, ◌∙◌, arith}
-use Rattle.std.proofs.lemmas.List.{drop-drop, drop-take}
-use Rattle.fm_lists.proofs.Taken.{take-within}
+use Rattle.std.proofs.lemmas.List.{drop-drop, drop-take, take-take}
 use Rattle.fm_base.specs.declared.refusal.Refusal.{Refusal}
 use Rattle.fm_base.specs.View.{View}
 use Rattle.fm_lanes.specs.declared.order.Order.{Order}
@@ -56,7 +55,7 @@ take-part width at size place all within =
     let whole : size ≡ at + rest = omega arith in
     ap (λ n. take width (drop at (take n (drop place all)))) whole
     ∙ ap (take width) (drop-take at rest (drop place all))
-    ∙ take-within width rest (drop at (drop place all)) (omega arith)
+    ∙ take-take width rest (drop at (drop place all)) (omega arith)
     ∙ ap (take width) (drop-drop at place all)
 
 -- ---- getting and setting

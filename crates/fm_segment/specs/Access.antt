@@ -1,5 +1,5 @@
 -- What accesses to the values of a segment do (`get` and `set` of `MemorySegment`, Java SE 22).
-use Rattle.std.specs.Prelude.{◌<◌, ◌≡◌, ℕ, ◌+◌, ◌*◌, ◌%◌, ◌≤◌, true, List, Result, Ok, Err, if◌then◌else◌, nat_le, min}
+use Rattle.std.specs.Prelude.{◌<◌, ◌≡◌, ℕ, ◌+◌, ◌*◌, ◌≤◌, true, List, Result, Ok, Err, if◌then◌else◌, nat_le, min}
 use Rattle.fm_base.specs.declared.caller.Caller.{Caller}
 use Rattle.fm_base.specs.declared.arena_id.ArenaId.{ArenaId}
 use Rattle.fm_base.specs.declared.refusal.Refusal.{Refusal}
@@ -72,9 +72,6 @@ DoesSetAt c id t found v = DoesAt found (DoesSetHere c id t v)
 
 abbrev pub Fits : ℕ → Tree → Region → Type 0
 Fits offset t r = offset + size_of t ≤ r.size
-
-abbrev pub IsAligned : ℕ → Tree → Region → Type 0
-IsAligned offset t r = (r.first + offset) % alignment_of t ≡ 0
 
 abbrev pub GetCause : ℕ → Tree → Region → Caller → Refusal → Type 0
 GetCause offset t r = PlaceCause offset (size_of t) (alignment_of t) r.first r.size r.arena

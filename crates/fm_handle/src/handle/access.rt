@@ -3,7 +3,7 @@ ghost use Rattle.fm_handle.specs.Learnt.{CanCall, CanPut, AfterGet, AfterSet};
 use super::VarHandle;
 use fm_access::{get_value, put_value};
 use fm_base::{Memory, Refusal};
-use fm_lanes::Value;
+use fm_lanes::{Order, Value, ValueKind};
 use fm_segment::Segment;
 use std::sync::Wait;
 
@@ -24,7 +24,13 @@ impl VarHandle {
     {
         let place = self.place_of(s, base, indices)?;
         let value = self.resolved.value();
-        get_value(m, s.arena(), place, value.kind, value.order)
+        // A long with its lowest byte first has a branch of its own: what is found needn't wait for kind and order there.
+        match (value.kind, value.order) {
+            (ValueKind::Long, Order::Little) => {
+                get_value(m, s.arena(), place, ValueKind::Long, Order::Little)
+            }
+            (kind, order) => get_value(m, s.arena(), place, kind, order),
+        }
     }
 
     /// Puts `v` as the value at these indices of the layout at the base (`VarHandle.set`). Other bytes stay.

@@ -1,4 +1,4 @@
-use super::calls::{adds, exchanges, fresh, gets, holds, sets, takes, wins};
+use super::calls::{Ground, fresh, holds, takes};
 use super::layouts::{accounts, anywhere, either, handle, table, value};
 use crate::VarHandle;
 use fm_base::{Memory, Refusal};
@@ -10,8 +10,7 @@ use std::test::Fail;
 
 #[test]
 fn values_stand_where_paths_lead(rt: HostRuntime) {
-    let mut m = Mono::make(rt.alloc(), 64);
-    let s = fresh(&rt, &mut m, 48);
+    let mut g = Ground::new(&rt, rt.alloc(), 48);
     for v in [
         Value::Byte(-2),
         Value::Boolean(true),
@@ -32,9 +31,9 @@ fn values_stand_where_paths_lead(rt: HostRuntime) {
             ] {
                 let h = handle(&rt, rt.alloc(), &layout, text);
                 let place = 3 + at * u64::from(v.kind().width());
-                sets(&rt, &mut m, &h, &s, 3, indices, v, Ok(()));
-                gets(&rt, &mut m, &h, &s, 3, indices, Ok(v));
-                assert_eq!(rt; s.get(&mut m, &item, place), Ok(v), "at {text}");
+                g.sets(&rt, &h, 3, indices, v, Ok(()));
+                g.gets(&rt, &h, 3, indices, Ok(v));
+                g.reads(&rt, &item, place, v, text);
             }
         }
     }
@@ -42,41 +41,38 @@ fn values_stand_where_paths_lead(rt: HostRuntime) {
 
 #[test]
 fn a_big_int_is_read_as_a_little_one(rt: HostRuntime) {
-    let mut m = Mono::make(rt.alloc(), 64);
-    let s = fresh(&rt, &mut m, 8);
+    let mut g = Ground::new(&rt, rt.alloc(), 8);
     let big = value(&rt, rt.alloc(), ValueKind::Int, Order::Big);
     let int = value(&rt, rt.alloc(), ValueKind::Int, Order::Little);
-    sets(&rt, &mut m, &big, &s, 0, &[], Value::Int(1), Ok(()));
-    gets(&rt, &mut m, &int, &s, 0, &[], Ok(Value::Int(16_777_216)));
+    g.sets(&rt, &big, 0, &[], Value::Int(1), Ok(()));
+    g.gets(&rt, &int, 0, &[], Ok(Value::Int(16_777_216)));
 }
 
 #[test]
 fn a_value_across_words_is_got_and_set_alone(rt: HostRuntime) {
-    let mut m = Mono::make(rt.alloc(), 16);
-    let s = fresh(&rt, &mut m, 16);
+    let mut g = Ground::new(&rt, rt.alloc(), 16);
     let v = Value::Int(16_909_060);
     let int = handle(&rt, rt.alloc(), &anywhere(&rt, v, Order::Little), ".");
-    sets(&rt, &mut m, &int, &s, 6, &[], v, Ok(()));
-    gets(&rt, &mut m, &int, &s, 6, &[], Ok(v));
+    g.sets(&rt, &int, 6, &[], v, Ok(()));
+    g.gets(&rt, &int, 6, &[], Ok(v));
     let refused = Refusal::Unsupported;
-    adds(&rt, &mut m, &int, &s, 6, &[], v, Err(refused));
-    exchanges(&rt, &mut m, &int, &s, v, v, Err(refused));
-    wins(&rt, &mut m, &int, &s, v, v, Err(refused));
+    g.adds(&rt, &int, 6, &[], v, Err(refused));
+    g.exchanges(&rt, &int, v, v, Err(refused));
+    g.wins(&rt, &int, v, v, Err(refused));
     let byte = value(&rt, rt.alloc(), ValueKind::Byte, Order::Little);
     for (place, b) in [(5, 0), (6, 4), (7, 3), (8, 2), (9, 1), (10, 0)] {
-        gets(&rt, &mut m, &byte, &s, place, &[], Ok(Value::Byte(b)));
+        g.gets(&rt, &byte, place, &[], Ok(Value::Byte(b)));
     }
 }
 
 #[test]
 fn a_byte_of_a_union_is_read_as_a_long(rt: HostRuntime) {
-    let mut m = Mono::make(rt.alloc(), 64);
-    let s = fresh(&rt, &mut m, 8);
+    let mut g = Ground::new(&rt, rt.alloc(), 8);
     let layout = either(&rt, rt.alloc(), Layout::value(ValueKind::Long));
     let low = handle(&rt, rt.alloc(), &layout, ".low");
     let one = handle(&rt, rt.alloc(), &layout, ".one");
-    sets(&rt, &mut m, &low, &s, 0, &[], Value::Byte(127), Ok(()));
-    gets(&rt, &mut m, &one, &s, 0, &[], Ok(Value::Long(127)));
+    g.sets(&rt, &low, 0, &[], Value::Byte(127), Ok(()));
+    g.gets(&rt, &one, 0, &[], Ok(Value::Long(127)));
 }
 
 #[test]

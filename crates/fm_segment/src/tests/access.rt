@@ -1,7 +1,8 @@
 ghost use Rattle.std.specs.Prelude.{◌≡◌, ◌≢◌, None, IfOk};
 ghost use Rattle.fm_lanes.specs.Value.{kind_of};
 ghost use Rattle.fm_mono.specs.Shown.{view_of};
-ghost use Rattle.fm_segment.specs.Access.{HasKind, IsKnown};
+ghost use Rattle.fm_segment.specs.Access.{HasKind};
+ghost use Rattle.fm_segment.specs.Learnt.{CanUse};
 
 use crate::Segment;
 use fm_base::{Kind, Memory, Refusal};
@@ -15,8 +16,7 @@ use std::test::Fail;
 /// A segment of so many bytes of a fresh arena.
 fn fresh<R: Abort + Wait>(rt: &R, m: &mut Mono, size: u64) -> Segment
     requires { m.old.inside ≡ None }
-    ensures outside { m.new.inside ≡ None }
-    ensures known { IsKnown (view_of m.new) result }
+    ensures { CanUse (view_of m.new) result }
 {
     let arena = m.open_arena(rt, Kind::Shared).expect(rt, "an arena");
     let first = m.allocate(rt, arena, size, 8).expect(rt, "bytes");

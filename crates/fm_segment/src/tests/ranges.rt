@@ -1,6 +1,6 @@
 ghost use Rattle.std.specs.Prelude.{◌≡◌, None};
 ghost use Rattle.fm_mono.specs.Shown.{view_of};
-ghost use Rattle.fm_segment.specs.Access.{IsKnown};
+ghost use Rattle.fm_segment.specs.Learnt.{CanUseBoth};
 
 use crate::Segment;
 use fm_base::{Kind, Memory, Refusal};
@@ -13,9 +13,7 @@ use std::sync::Wait;
 /// Two segments of 8 bytes, side by side in a fresh arena.
 fn two_of_eight<R: Abort + Wait>(rt: &R, m: &mut Mono) -> (Segment, Segment)
     requires { m.old.inside ≡ None }
-    ensures outside { m.new.inside ≡ None }
-    ensures first { IsKnown (view_of m.new) result.0 }
-    ensures second { IsKnown (view_of m.new) result.1 }
+    ensures known { CanUseBoth (view_of m.new) result.0 result.1 }
     ensures first_size { result.0.size ≡ 8 }
 {
     let arena = m.open_arena(rt, Kind::Shared).expect(rt, "an arena");

@@ -1,5 +1,5 @@
 use Rattle.fm_base.proofs.Making.{Makes-none}
-use Rattle.fm_memory_tests.proofs.Beside.{visits, nothing_own, reach_own}
+use Rattle.fm_memory_tests.proofs.Beside.{visits, nothing_own}
 use Rattle.fm_memory_tests.proofs.double.Double.come_to.Goals as goal
 
 pub invariant_of-self : goal.invariant_of-self
@@ -22,6 +22,3 @@ returns-else-rotate_right-eq1-clause-makes g c = rw (← c.self.view_is) (Makes-
 
 pub returns-in_default-clause-makes : goal.returns-in_default-clause-makes
 returns-in_default-clause-makes g c = rw (← c.self.view_is) (Makes-none _)
-
-pub returns-in_default-clause-reach : goal.returns-in_default-clause-reach
-returns-in_default-clause-reach g c = rw (← c.self.view_is) (reach_own c.self.invariant (rw (← c.self.view_is) at c.requires))

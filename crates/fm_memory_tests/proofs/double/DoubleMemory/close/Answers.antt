@@ -1,11 +1,6 @@
-use Rattle.std.proofs.Common.{refl}
 use Rattle.fm_base.proofs.Learning.{after_close}
 use Rattle.fm_memory_tests.proofs.Calling.{closes, sound_of}
-use Rattle.fm_memory_tests.proofs.Beside.{out_of_close}
 use Rattle.fm_memory_tests.proofs.double.DoubleMemory.close.Goals as goal
-
-pub returns-then-not-is_own : goal.returns-then-not-is_own
-returns-then-not-is_own g c = after_close c.requires c.is_own.ensures.sound (out_of_close c.args.a refl (rw c.if-not-is_own.true at c.is_own.ensures.whose))
 
 pub invariant_of-self : goal.invariant_of-self
 invariant_of-self g c =

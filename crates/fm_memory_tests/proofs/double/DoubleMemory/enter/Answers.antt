@@ -1,11 +1,7 @@
-use Rattle.std.proofs.Common.{refl}
 use Rattle.fm_base.proofs.Learning.{after_enter}
 use Rattle.fm_memory_tests.proofs.Calling.{enters}
-use Rattle.fm_memory_tests.proofs.Beside.{out_of_enter, enter_after}
+use Rattle.fm_memory_tests.proofs.Beside.{enter_after}
 use Rattle.fm_memory_tests.proofs.double.DoubleMemory.enter.Goals as goal
-
-pub returns-then-not-is_own : goal.returns-then-not-is_own
-returns-then-not-is_own g c = after_enter c.requires c.is_own.ensures.sound (out_of_enter c.args.a refl (rw c.if-not-is_own.true at c.is_own.ensures.whose))
 
 pub invariant_of-self : goal.invariant_of-self
 invariant_of-self g c =
@@ -15,7 +11,7 @@ invariant_of-self g c =
 
 pub returns : goal.returns
 returns g c =
-    after_enter c.requires c.is_own.ensures.sound
+    after_enter c.requires c.come_before.ensures.sound
     (enter_after c.args.a c.enter-answer.result c.come_before.ensures.makes
     (rw (← c.self.view_is)
     (enters c.args.a c.enter-answer.result c.self.invariant
