@@ -1,22 +1,23 @@
 use fm_base::Kind;
-use fm_io::Files;
+use fm_io::{Files, Sink};
 use fm_ljson::layout_from_json;
 use fm_load::{LAYOUT_FILE_LIMIT, RECORD_FILE_LIMIT, load_into, open_held, read_whole};
 use fm_mono::Mono;
 use fm_query::{check_record, parse_query};
-use fm_records::{print_answer, query_segment};
+use fm_records::{query_segment, write_answer};
 use std::alloc::Global;
 use std::sync::Wait;
 
-/// What a query answers over the records of a file, loaded into an arena of one thread, as text; none where it is refused.
-pub fn answered<R: Wait, F: Files>(
+/// Prints what a query answers over the records of a file, loaded into an arena of one thread; none where it is refused.
+pub fn print_answered<R: Wait, F: Files, O: Sink>(
     rt: &R,
     alloc: Global,
     files: &mut F,
+    out: &mut O,
     layout: &str,
     query: &str,
     file: &str,
-) -> Option<String> {
+) -> Option<()> {
     let bytes = read_whole(alloc, files, layout, LAYOUT_FILE_LIMIT).ok()?;
     let layout = layout_from_json(alloc, &bytes).ok()?;
     check_record(&layout).ok()?;
@@ -25,5 +26,5 @@ pub fn answered<R: Wait, F: Files>(
     let arena = open_held(rt, &mut memory, Kind::Confined).ok()?;
     let segment = load_into(rt, alloc, files, file, &mut memory, arena).ok()?;
     let answer = query_segment(alloc, &mut memory, &query, &segment).ok()?;
-    print_answer(alloc, &query, &answer).ok()
+    write_answer(alloc, out, &query, &answer).ok()
 }

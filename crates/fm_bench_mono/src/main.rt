@@ -6,8 +6,8 @@
 
 mod answering;
 
-use crate::answering::answered;
-use fm_io::{Files, HostFiles, HostSystem};
+use crate::answering::print_answered;
+use fm_io::{Files, HostFiles, HostSink, HostSystem, Sink, write_text};
 use fm_load::load;
 use std::alloc::Global;
 use std::env;
@@ -16,17 +16,13 @@ use std::sync::Wait;
 
 fn main(rt: HostRuntime) -> ExitCode {
     let mut files = HostFiles::new(rt.alloc(), HostSystem::new(&rt));
-    let printed = match words(&rt) {
-        Some(words) => match text(&rt, rt.alloc(), &mut files, &words) {
-            Some(text) => print!(rt; "{text}").is_ok(),
-            None => false,
-        },
-        None => false,
+    let mut out = HostSink::new(rt.stdout());
+    let Some(words) = words(&rt) else {
+        return ExitCode::FAILURE;
     };
-    if printed {
-        ExitCode::SUCCESS
-    } else {
-        ExitCode::FAILURE
+    match print(&rt, rt.alloc(), &mut files, &mut out, &words) {
+        Some(()) => ExitCode::SUCCESS,
+        None => ExitCode::FAILURE,
     }
 }
 
@@ -35,20 +31,22 @@ fn words(rt: &HostRuntime) -> Option<Vec<String>> {
     env::args(rt).ok()?.skip(1).collect(rt.alloc()).ok()
 }
 
-/// What is printed; none where the words aren't of the form, or the call was refused.
-fn text<R: Wait, F: Files>(
+/// Does what the words ask for; none where they aren't of the form, or the call was refused.
+fn print<R: Wait, F: Files, O: Sink>(
     rt: &R,
     alloc: Global,
     files: &mut F,
+    out: &mut O,
     words: &[String],
-) -> Option<String> {
+) -> Option<()> {
     match words {
         [what, file] if what.as_str() == "load" => {
             let loaded = load(rt, alloc, files, file).ok()?;
-            format!(in alloc; "{}\n", loaded.len()).ok()
+            let text = format!(in alloc; "{}\n", loaded.len()).ok()?;
+            write_text(out, text.as_str().as_bytes()).ok()
         }
         [what, layout, query, file] if what.as_str() == "query" => {
-            answered(rt, alloc, files, layout, query, file)
+            print_answered(rt, alloc, files, out, layout, query, file)
         }
         _ => None,
     }

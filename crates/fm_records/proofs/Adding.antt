@@ -1,15 +1,15 @@
--- Numbers that are read and added, as far as they have come.
-use Rattle.std.proofs.Common.{◌≡◌, ℕ, suc, ◌+◌, ◌-◌, ◌<◌, ◌≤◌, Result, Ok, Err, List, [], ◌∷◌, ◌++◌, length, map, refl, sym, ap, ◌∙◌, subst, append_assoc, arith}
+-- Numbers that are read and added, index by index of a path's first open step.
+use Rattle.std.proofs.Common.{◌≡◌, ℕ, ◌+◌, ◌-◌, ◌<◌, ◌≤◌, Result, Ok, Err, List, [], ◌∷◌, ◌++◌, length, map, refl, sym, ap, ◌∙◌, subst, arith}
 use Rattle.std.specs.Prelude.{ℤ, OnOk, OnErr, IfErr}
 use Rattle.std.specs.List.{flat_map, range_with_len}
 use Rattle.std.proofs.lemmas.List.{append-nil, length-map, length-append}
+use Rattle.std.proofs.lemmas.Grind.{flat_map-append}
 use Rattle.fm_lists.proofs.Mapped.{map-map, map-flat_map, flat_map-same}
 use Rattle.fm_base.specs.declared.caller.Caller.{Caller}
-use Rattle.fm_base.specs.declared.arena_id.ArenaId.{ArenaId}
 use Rattle.fm_base.specs.declared.refusal.Refusal.{Refusal}
-use Rattle.fm_base.specs.declared.refusal.Refusal.TheVariants.{Memory}
+use Rattle.fm_base.specs.declared.refusal.Refusal.TheVariants.{Closed, Memory}
 use Rattle.fm_base.specs.Calls.{Entry}
-use Rattle.fm_base.specs.View.{View, Did}
+use Rattle.fm_base.specs.View.{View}
 use Rattle.fm_segment.specs.Region.{Region}
 use Rattle.fm_path_meaning.specs.Walk.{offset_at, reach}
 use Rattle.fm_path_meaning.specs.declared.dim.Dim.{Dim}
@@ -17,57 +17,51 @@ use Rattle.fm_path.specs.declared.value_spec.ValueSpec.{ValueSpec}
 use Rattle.fm_records.specs.declared.found.Found.{Found}
 use Rattle.fm_records.specs.Values.{index_lists}
 use Rattle.fm_records.specs.Few.{HasRoom}
-use Rattle.fm_records.specs.Adds.{AddsNumbers, DoesAdd, with_number, with_numbers, StopsAdding}
-use Rattle.fm_records.specs.Paths.{CanAddAll}
-use Rattle.fm_records.specs.Reads.{ReadsNumber, ReadsNumbers, no_more, one_more, value_places, AreReads, DoesStop}
-use Rattle.fm_records.specs.Stops.{StopsNumber, StopsNumbers, at_number, next_number}
+use Rattle.fm_records.specs.Adds.{AddsNumbers, with_number}
+use Rattle.fm_records.specs.Paths.{AddsAll}
+use Rattle.fm_records.specs.Reads.{AreReadsUpTo, GetsNumber, Reads, TakesNumber, value_places}
+use Rattle.fm_records.proofs.Behind.{range_append}
 use Rattle.fm_records.proofs.Few.{adds_room, room_less}
-use Rattle.fm_records.proofs.Visiting.{ReadsTo, IsUnderWay, begins, goes_on_by, comes_to_end, none_so_far, stopped, stops_short}
+use Rattle.fm_records.proofs.Ordered.{adds_one, added_cut, added_none, added_on}
 
-with_numbers-append : (f : Found) (ns ms : List ℤ) → with_numbers f (ns ++ ms) ≡ with_numbers (with_numbers f ns) ms
-with_numbers-append f [] ms = refl
-with_numbers-append f (n ∷ ns) ms = with_numbers-append (with_number f n) ns ms
+-- ---- one value
 
-module _ (c : Caller) (id : ArenaId) (spec : ValueSpec) where
-  -- What is read behind places that were read, or where reading stops there, is so behind all.
-  behind : (T : List ℕ → List Entry → List ℤ → Type 0)
-      → ((p : ℕ) (ps : List ℕ) (own rest : List Entry) (n : ℤ) (ns : List ℤ) → ReadsNumber c id spec p own n → T ps rest ns → T (p ∷ ps) (own ++ rest) (n ∷ ns))
-      → (ps qs : List ℕ) (es fs : List Entry) (ns ms : List ℤ) → ReadsNumbers c id spec ps es ns → T qs fs ms → T (ps ++ qs) (es ++ fs) (ns ++ ms)
-  behind T one ps qs es fs ns ms no_more q = q
-  behind T one ps qs es fs ns ms (one_more {place = p} {places = rest} own more n left r h) q =
-      subst (λ (gs : List Entry). T (p ∷ (rest ++ qs)) gs (n ∷ (left ++ ms))) (sym (append_assoc own more fs))
-      (one p (rest ++ qs) own (more ++ fs) n (left ++ ms) r (behind T one rest qs more fs left ms h q))
-
-  adds-append : (ps qs : List ℕ) (f g h : Found) (es fs : List Entry) → AddsNumbers c id spec ps f g es → AddsNumbers c id spec qs g h fs
-      → AddsNumbers c id spec (ps ++ qs) f h (es ++ fs)
-  adds-append ps qs f g h es fs p q = record {
-    numbers = p.numbers ++ q.numbers;
-    reads = behind (ReadsNumbers c id spec) (λ p ps own rest n ns r h. one_more own rest n ns r h) ps qs es fs p.numbers q.numbers p.reads q.reads;
-    added = q.added ∙ ap (λ x. with_numbers x q.numbers) p.added ∙ sym (with_numbers-append f p.numbers q.numbers);
+module _ {old new : View} (s : Region) (spec : ValueSpec) (place : ℕ) where
+  -- its number is read, and then added or refused
+  pub value_added : (n z : ℤ) (f g : Found) (result : Result (Unit {0}) Refusal) → z ≡ n → OnOk result (g ≡ with_number f z) → OnErr result (g ≡ f)
+      → IfErr result (λ e. e ≡ Memory) → Reads old new s (λ c. GetsNumber c s.arena spec place) (Ok n)
+      → Reads old new s (λ c. AddsNumbers c s.arena spec (place ∷ []) f g) result
+  value_added n z f g (Ok u) same ok kept err d = record {
+    own = d.own;
+    does = (
+      d.does.0,
+      adds_one (TakesNumber old.caller s.arena spec) with_number place f g (Ok u) d.own (n ∷ []) (n, d.does.1, refl) (ok ∙ ap (with_number f) same),
+    );
+    makes = d.makes;
+  }
+  value_added n z f g (Err r) same ok kept err d = record {
+    own = d.own;
+    does = subst (λ (e : Refusal). AreReadsUpTo old.caller s e d.own × AddsNumbers old.caller s.arena spec (place ∷ []) f g (Err e) d.own) (sym err) (
+      d.does.0,
+      adds_one (TakesNumber old.caller s.arena spec) with_number place f g (Err Memory) d.own [] (n, d.does.1, refl) kept,
+    );
+    makes = d.makes;
   }
 
-  adding_behind : (ps qs : List ℕ) (f g h : Found) (e : Refusal) (es fs : List Entry) → AddsNumbers c id spec ps f g es → StopsAdding c id spec qs g h e fs
-      → StopsAdding c id spec (ps ++ qs) f h e (es ++ fs)
-  adding_behind ps qs f g h e es fs p q = record {
-    numbers = p.numbers ++ q.numbers;
-    stops = behind (λ ps es ns. StopsNumbers c id spec ps e es ns) (λ p ps own rest n ns r h. next_number own rest n ns r h) ps qs es fs p.numbers q.numbers
-        p.reads q.stops;
-    added = q.added ∙ ap (λ x. with_numbers x q.numbers) p.added ∙ sym (with_numbers-append f p.numbers q.numbers);
+  -- it isn't read
+  pub value_stops : (f : Found) (r : Refusal) → Reads old new s (λ c. GetsNumber c s.arena spec place) (Err r)
+      → Reads old new s (λ c. AddsNumbers c s.arena spec (place ∷ []) f f) (Err r)
+  value_stops f r d = record {
+    own = d.own;
+    does = (d.does.0, adds_one (TakesNumber old.caller s.arena spec) with_number place f f (Err r) d.own [] (by r d.does.1) refl);
+    makes = d.makes;
   }
+    where
+      by : (e : Refusal) → GetsNumber old.caller s.arena spec place (Err e) d.own → TakesNumber old.caller s.arena spec place (Err e) d.own []
+      by Closed h = (h, refl)
+      by e h = absurd h
 
-  stops_before : (ps qs : List ℕ) (e : Refusal) (es : List Entry) (ns : List ℤ) → StopsNumbers c id spec ps e es ns
-      → StopsNumbers c id spec (ps ++ qs) e es ns
-  stops_before ps qs e es ns (at_number own h) = at_number own h
-  stops_before ps qs e es ns (next_number {places = left} own rest n more r h) = next_number own rest n more r (stops_before left qs e rest more h)
-
-  -- one value
-  adds_one : (place : ℕ) (f g : Found) (n : ℤ) (es : List Entry) → ReadsNumber c id spec place es n → g ≡ with_number f n
-      → AddsNumbers c id spec (place ∷ []) f g es
-  adds_one place f g n es r e = record {
-    numbers = n ∷ [];
-    reads = subst (λ (fs : List Entry). ReadsNumbers c id spec (place ∷ []) fs (n ∷ [])) (append-nil es) (one_more es [] n [] r no_more);
-    added = e;
-  }
+-- ---- index by index of the first open step
 
 -- the places of a path, index by index of its first open step
 pub places_by_first : (place at : ℕ) (d : Dim) (ds : List Dim)
@@ -77,105 +71,71 @@ places_by_first place at d ds =
     ∙ flat_map-same (λ i. map (λ is. place + offset_at at (d ∷ ds) is) (map (λ is. i ∷ is) (index_lists ds))) (λ i. value_places place (reach at d.stride i) ds)
     (λ i. map-map (λ is. place + offset_at at (d ∷ ds) is) (λ is. i ∷ is) (index_lists ds)) (range_with_len 0 d.bound)
 
-module _ {old new : View} (s : Region) (spec : ValueSpec) (place : ℕ) where
-  -- its number is read, and then added or refused
-  pub value_added : (n z : ℤ) (f g : Found) (result : Result (Unit {0}) Refusal) → z ≡ n → OnOk result (g ≡ with_number f z) → OnErr result (g ≡ f)
-      → IfErr result (λ e. e ≡ Memory) → ReadsTo old new s spec place (Ok n) → Did old new (DoesAdd old.caller s spec (place ∷ []) f g result)
-  value_added n z f g (Ok u) same ok kept err d = record {
-    own = d.own;
-    does = (d.does.0, adds_one old.caller s.arena spec place f g n d.own d.does.1 (ok ∙ ap (with_number f) same));
-    makes = d.makes;
-  }
-  value_added n z f g (Err r) same ok kept err d = record {
-    own = d.own;
-    does = subst (λ (e : Refusal). DoesStop old.caller s (StopsAdding old.caller s.arena spec (place ∷ []) f g) e d.own) (sym err)
-        (d.does.0, record { numbers = []; stops = at_number d.own (n, d.does.1); added = kept });
-    makes = d.makes;
-  }
+module _ (place at : ℕ) (d : Dim) (ds : List Dim) where
+  -- the places at one first index
+  abbrev pub row : ℕ → List ℕ
+  row i = value_places place (reach at d.stride i) ds
 
-  -- it isn't read
-  pub value_stops : (f : Found) (r : Refusal) → ReadsTo old new s spec place (Err r) → Did old new (DoesAdd old.caller s spec (place ∷ []) f f (Err r))
-  value_stops f r d =
-      stopped r (λ (x : Caller). StopsNumber x s.arena spec place) (StopsAdding old.caller s.arena spec (place ∷ []) f f) (none_so_far old s)
-      (λ es h. record { numbers = []; stops = at_number es h; added = refl }) d
+  -- those at so many first indices from one on
+  abbrev pub rows : ℕ → ℕ → List ℕ
+  rows i n = flat_map (λ j. row j) (range_with_len i n)
 
--- ---- index by index of the first open step
+  rows_split : (i m n : ℕ) → rows i (m + n) ≡ rows i m ++ rows (i + m) n
+  rows_split i m n = ap (flat_map (λ j. row j)) (range_append i m n) ∙ flat_map-append (λ j. row j) (range_with_len i m) (range_with_len (i + m) n)
 
--- the places at the first indices from i on
-abbrev pub places_from : ℕ → ℕ → Dim → List Dim → ℕ → List ℕ
-places_from place at d ds i = flat_map (λ j. value_places place (reach at d.stride j) ds) (range_with_len i (d.bound - i))
+  rows_more : (i : ℕ) → rows 0 i ++ row i ≡ rows 0 (i + 1)
+  rows_more i =
+      let here : 0 + i ≡ i = omega arith in
+      sym (rows_split 0 i 1 ∙ ap (λ j. rows 0 i ++ rows j 1) here ∙ ap (λ ps. rows 0 i ++ ps) (append-nil (row i)))
+
+  rows_all : (i : ℕ) → i ≤ d.bound → rows 0 i ++ rows i (d.bound - i) ≡ value_places place at (d ∷ ds)
+  rows_all i within =
+      let here : 0 + i ≡ i = omega arith in
+      let sum : d.bound ≡ i + (d.bound - i) = omega (arith, within) in
+      sym (places_by_first place at d ds ∙ ap (rows 0) sum ∙ rows_split 0 i (d.bound - i) ∙ ap (λ j. rows 0 i ++ rows j (d.bound - i)) here)
 
 -- what was found when the values at the first indices below i were added
 pub record AreAdded (old now : View) (s : Region) (place at : ℕ) (d : Dim) (ds : List Dim) (spec : ValueSpec) (f g : Found) (i : ℕ) : Type 0 where
-  pub under_way : IsUnderWay old now s (AddsNumbers old.caller s.arena spec (value_places place at (d ∷ ds)) f)
-      (AddsNumbers old.caller s.arena spec (places_from place at d ds i) g)
-      (StopsAdding old.caller s.arena spec (value_places place at (d ∷ ds)) f) (StopsAdding old.caller s.arena spec (places_from place at d ds i) g)
-  pub room : HasRoom g (length (places_from place at d ds i))
+  pub did : Reads old now s (λ c. AddsNumbers c s.arena spec (rows place at d ds 0 i) f g) (Ok (tt {0}))
 
-module _ {old : View} {s : Region} {place at : ℕ} {d : Dim} {ds : List Dim} {spec : ValueSpec} {f : Found} where
-  -- no value yet
-  pub added_none : CanAddAll old s place at (d ∷ ds) spec f → AreAdded old old s place at d ds spec f f 0
-  added_none can =
-      let n : d.bound - 0 ≡ d.bound = omega arith in
-      let all : places_from place at d ds 0 ≡ value_places place at (d ∷ ds) =
-      ap (λ k. flat_map (λ j. value_places place (reach at d.stride j) ds) (range_with_len 0 k)) n ∙ sym (places_by_first place at d ds) in
-      record {
-        under_way = begins old s (λ h es a. subst (λ (ps : List ℕ). AddsNumbers old.caller s.arena spec ps f h es) all a)
-            (λ h r es a. subst (λ (ps : List ℕ). StopsAdding old.caller s.arena spec ps f h r es) all a);
-        room = subst (HasRoom f) (sym (ap length all ∙ length-map (index_lists (d ∷ ds)) (λ is. place + offset_at at (d ∷ ds) is))) can.room;
-      }
+-- no value yet
+pub added_start : {s : Region} {place at : ℕ} {d : Dim} {ds : List Dim} {spec : ValueSpec} {f : Found} (v : View) → AreAdded v v s place at d ds spec f f 0
+added_start {s} {spec = spec} {f = f} v = record { did = added_none (λ c. TakesNumber c s.arena spec) with_number v f }
 
-  module _ {now : View} {g : Found} {i : ℕ} (a : AreAdded old now s place at d ds spec f g i) where
-    -- the values at one first index, and those behind them
-    next_places : i < d.bound → places_from place at d ds i ≡ value_places place (reach at d.stride i) ds ++ places_from place at d ds (i + 1)
-    next_places below =
-        let n : d.bound - i ≡ suc (d.bound - (i + 1)) = omega (arith, below) in
-        ap (λ k. flat_map (λ j. value_places place (reach at d.stride j) ds) (range_with_len i k)) n
+module _ {old now : View} {s : Region} {place at : ℕ} {d : Dim} {ds : List Dim} {spec : ValueSpec} {f g : Found} {i : ℕ}
+    (a : AreAdded old now s place at d ds spec f g i) where
+  -- the values at the next first index were read
+  pub added_more : {next : View} {h : Found} (u : Unit {0}) → AddsAll now next s place (reach at d.stride i) ds spec g h (Ok u)
+      → AreAdded old next s place at d ds spec f h (i + 1)
+  added_more {next} {h} u did = record {
+    did = subst (λ (ps : List ℕ). Reads old next s (λ c. AddsNumbers c s.arena spec ps f h) (Ok u)) (rows_more place at d ds i)
+        (added_on (λ c. TakesNumber c s.arena spec) with_number (rows place at d ds 0 i) (row place at d ds i) f g h (Ok u) a.did did);
+  }
 
-    -- they were read
-    pub added_more : {next : View} {h : Found} → i < d.bound
-        → Did now next (λ es. AreReads now.caller s es × AddsNumbers now.caller s.arena spec (value_places place (reach at d.stride i) ds) g h es)
-        → AreAdded old next s place at d ds spec f h (i + 1)
-    added_more {next} {h} below did =
-        let c = old.caller in
-        let here = value_places place (reach at d.stride i) ds in
-        let left = places_from place at d ds (i + 1) in
-        let all = next_places below in
-        record {
-          under_way = goes_on_by a.under_way (λ (x : Caller) (es : List Entry). AddsNumbers x s.arena spec here g h es)
-              (AddsNumbers c s.arena spec left h) (StopsAdding c s.arena spec left h) did
-              (λ k es p q. subst (λ (ps : List ℕ). AddsNumbers c s.arena spec ps g k (did.own ++ es)) (sym all)
-              (adds-append c s.arena spec here left g h k did.own es p q))
-              (λ k r es p q. subst (λ (ps : List ℕ). StopsAdding c s.arena spec ps g k r (did.own ++ es)) (sym all)
-              (adding_behind c s.arena spec here left g h k r did.own es p q));
-          room = adds_room (length left) did.does.1 (subst (HasRoom g) (ap length all ∙ length-append here left) a.room);
-        }
+  -- or up to a refusal
+  pub added_stops : {next : View} (h : Found) (r : Refusal) → i < d.bound → AddsAll now next s place (reach at d.stride i) ds spec g h (Err r)
+      → AddsAll old next s place at (d ∷ ds) spec f h (Err r)
+  added_stops {next} h r below did =
+      let T : Caller → ℕ → Result (Unit {0}) Refusal → List Entry → List ℤ → Type 0 = λ c. TakesNumber c s.arena spec in
+      let here = subst (λ (ps : List ℕ). Reads old next s (λ c. AddsNumbers c s.arena spec ps f h) (Err r)) (rows_more place at d ds i)
+      (added_on T with_number (rows place at d ds 0 i) (row place at d ds i) f g h (Err r) a.did did) in
+      subst (λ (ps : List ℕ). Reads old next s (λ c. AddsNumbers c s.arena spec ps f h) (Err r)) (rows_all place at d ds (i + 1) (omega (arith, below)))
+      (added_cut T with_number s (rows place at d ds 0 (i + 1)) (rows place at d ds (i + 1) (d.bound - (i + 1))) f h r here)
 
-    -- all were
-    pub added_all : d.bound ≤ i → Did old now (λ es. AreReads old.caller s es × AddsNumbers old.caller s.arena spec (value_places place at (d ∷ ds)) f g es)
-    added_all past =
-        let n : d.bound - i ≡ 0 = omega (arith, past) in
-        comes_to_end a.under_way g (subst (λ (k : ℕ). AddsNumbers old.caller s.arena spec
-        (flat_map (λ j. value_places place (reach at d.stride j) ds) (range_with_len i k)) g g []) (sym n)
-        (record { numbers = []; reads = no_more; added = refl }))
+  -- all were
+  pub added_all : i ≡ d.bound → AddsAll old now s place at (d ∷ ds) spec f g (Ok (tt {0}))
+  added_all is =
+      subst (λ (ps : List ℕ). Reads old now s (λ c. AddsNumbers c s.arena spec ps f g) (Ok (tt {0})))
+      (ap (rows place at d ds 0) is ∙ sym (places_by_first place at d ds)) a.did
 
-    -- or up to a refusal
-    pub added_stops : {next : View} (h : Found) (r : Refusal) → i < d.bound
-        → Did now next (DoesStop now.caller s (StopsAdding now.caller s.arena spec (value_places place (reach at d.stride i) ds) g h) r)
-        → Did old next (DoesStop old.caller s (StopsAdding old.caller s.arena spec (value_places place at (d ∷ ds)) f h) r)
-    added_stops {next} h r below did =
-        let here = value_places place (reach at d.stride i) ds in
-        stops_short a.under_way h r (λ (x : Caller). StopsAdding x s.arena spec here g h)
-        (λ es q. subst (λ (ps : List ℕ). StopsAdding old.caller s.arena spec ps g h r es) (sym (next_places below)) (record {
-          numbers = q.numbers;
-          stops = stops_before old.caller s.arena spec here (places_from place at d ds (i + 1)) r es q.numbers q.stops;
-          added = q.added;
-        })) did
-
-    -- there is room for the values at the next one
-    pub added_room : i < d.bound → HasRoom g (length (index_lists ds))
-    added_room below =
-        let here = value_places place (reach at d.stride i) ds in
-        let long = length-map (index_lists ds) (λ is. place + offset_at (reach at d.stride i) ds is) in
-        let all = ap length (next_places below) ∙ length-append here (places_from place at d ds (i + 1)) in
-        room_less g (length (places_from place at d ds i)) (length (index_lists ds)) (omega (arith, long, all)) a.room
+  -- there is room for the values at the next one
+  pub added_room : i < d.bound → HasRoom f (length (index_lists (d ∷ ds))) → HasRoom g (length (index_lists ds))
+  added_room below room =
+      let before = rows place at d ds 0 i in
+      let behind = rows place at d ds (i + 1) (d.bound - (i + 1)) in
+      let all = ap length (sym (rows_all place at d ds (i + 1) (omega (arith, below)))) ∙ length-append (rows place at d ds 0 (i + 1)) behind in
+      let more = ap length (sym (rows_more place at d ds i)) ∙ length-append before (row place at d ds i) in
+      let one = length-map (index_lists ds) (λ is. place + offset_at (reach at d.stride i) ds is) in
+      let long = length-map (index_lists (d ∷ ds)) (λ is. place + offset_at at (d ∷ ds) is) in
+      adds_room (length (index_lists ds)) a.did.does.1 (room_less f (length (index_lists (d ∷ ds))) (length (rows place at d ds 0 i) + length (index_lists ds))
+      (omega (arith, all, more, one, long)) room)

@@ -1,9 +1,8 @@
 -- What a query answers, where its Reads found the bytes of one list.
-use Rattle.std.proofs.Common.{◌≡◌, ℕ, ◌+◌, ◌-◌, ◌*◌, ◌/◌, ◌%◌, ◌<◌, ◌≤◌, List, [], length, drop, get_or, refl, sym, ap, ◌∙◌, arith}
-use Rattle.std.specs.List.{range_with_len}
+use Rattle.std.proofs.Common.{◌≡◌, ℕ, ◌+◌, ◌-◌, ◌*◌, ◌/◌, ◌%◌, ◌<◌, ◌≤◌, Ok, List, [], length, drop, get_or, refl, sym, ap, ◌∙◌, arith}
 use Rattle.std.proofs.lemmas.Grind.{same_number_lists}
-use Rattle.std.proofs.lemmas.List.{length-drop, length-take-le, get_or-map, get_or-take, get_or-drop}
-use Rattle.std.proofs.lemmas.List.FromFn.{get_or-range_with_len, length-map-range_with_len, length-range_with_len}
+use Rattle.std.proofs.lemmas.List.{length-drop, length-take-le, get_or-take, get_or-drop}
+use Rattle.std.proofs.lemmas.List.FromFn.{get_or-map-range_with_len, length-map-range_with_len}
 use Rattle.std.proofs.lemmas.Nat.{div-add-mod'}
 use Rattle.fm_base.specs.declared.caller.Caller.{Caller}
 use Rattle.fm_base.specs.Arenas.{State, arena_of}
@@ -20,7 +19,8 @@ use Rattle.fm_records.specs.Answers.{found_over, answer}
 use Rattle.fm_records.specs.Bytes.{IsByteOf, IsAnswered}
 use Rattle.fm_records.specs.Reads.{LiesIn}
 use Rattle.fm_records.specs.Records.{pieces}
-use Rattle.fm_records.proofs.ReadingBytes.{get_or-bytes_of, records_of_bytes}
+use Rattle.fm_records.proofs.ReadingBytes.{records_of_bytes}
+use Rattle.fm_bytes.proofs.Bytes.{get_or-bytes_of}
 
 -- as many records as the size has are within it
 pub records_lie : (p : Plan) (s : Region) → LiesIn s s.first (s.size / p.size * p.size)
@@ -30,7 +30,10 @@ pub answer_of_bytes : (c : Caller) (p : Plan) (s : Region) (bytes : List ℕ) (a
     → a ≡ answer p bytes
 answer_of_bytes c p s bytes a own h =
     let start : s.first - s.first ≡ 0 = omega arith in
-    records_of_bytes c s bytes h.size p h.plan (s.size / p.size) s.first (found_over p []) a own [] (records_lie p s) h.does.records h.finds refl
+    let records = h.does.records in
+    records.added
+    ∙ records_of_bytes c s bytes h.size p h.plan (s.size / p.size) s.first (found_over p []) records.given (Ok tt) own [] (records_lie p s) records.reads refl
+    h.finds refl
     ∙ ap (λ n. found_over p (pieces (s.size / p.size) p.size (drop n bytes))) start
     ∙ ap (λ n. found_over p (pieces (n / p.size) p.size bytes)) (sym h.size)
 
@@ -40,10 +43,7 @@ pub length-places : (s : State) (r : Region) → length (bytes_at_places s r) �
 length-places s r = length-map-range_with_len (byte_at (arena_of s r.arena).words) r.first r.size
 
 pub get_or-places : (s : State) (r : Region) (k : ℕ) → k < r.size → get_or (bytes_at_places s r) k 0 ≡ byte_at (arena_of s r.arena).words (r.first + k)
-get_or-places s r k below =
-    let words = (arena_of s r.arena).words in
-    get_or-map (byte_at words) (range_with_len r.first r.size) k 0 0 (omega (arith, below, length-range_with_len r.first r.size))
-    ∙ ap (byte_at words) (get_or-range_with_len r.first r.size k 0 below)
+get_or-places s r k below = get_or-map-range_with_len (byte_at (arena_of s r.arena).words) r.first r.size k (r.first + k) 0 below refl
 
 -- those in a word are the word's
 pub word_at_places : (s : State) (r : Region) (word at : ℕ) → IsByteOf r word at

@@ -1,7 +1,9 @@
--- Where records of two runs, one behind the other, stand.
-use Rattle.std.proofs.Common.{◌≡◌, ℕ, zero, suc, ◌+◌, ◌-◌, ◌*◌, ◌≤◌, Some, List, [], ◌∷◌, ◌++◌, length, refl, sym, ap, ◌∙◌, inl, inr, arith}
+-- What stands in two runs, one behind the other.
+use Rattle.std.proofs.Common.{◌≡◌, ℕ, zero, suc, ◌+◌, ◌-◌, ◌*◌, ◌<◌, ◌≤◌, Some, List, [], ◌∷◌, ◌++◌, length, refl, sym, ap, ◌∙◌, subst, inl, inr, arith}
 use Rattle.std.specs.Prelude.{◌⊎◌}
-use Rattle.std.specs.List.{slice_get}
+use Rattle.std.specs.List.{range_with_len, slice_get}
+use Rattle.fm_lists.specs.Among.{IsAmong}
+use Rattle.fm_records.specs.Reads.{record_places}
 use Rattle.fm_records.specs.Records.{pieces}
 
 -- the element of this index stands in the second of two lists
@@ -30,3 +32,37 @@ less_times i k n h = let e : i - k + k ≡ i = omega (arith, h) in times_sum (i 
   where
     times_sum : (j k n : ℕ) → j * n + k * n ≡ (j + k) * n
     times_sum j k n = grind arith
+
+-- the numbers of a range, in two parts
+pub range_append : (a m n : ℕ) → range_with_len a (m + n) ≡ range_with_len a m ++ range_with_len (a + m) n
+range_append a zero n = let e : 0 + n ≡ n = omega arith in let f : a ≡ a + 0 = omega arith in ap (range_with_len a) e ∙ ap (λ x. range_with_len x n) f
+range_append a (suc m) n =
+    let e : suc m + n ≡ suc (m + n) = omega arith in
+    let f : a + 1 + m ≡ a + suc m = omega arith in
+    ap (range_with_len a) e ∙ ap (λ xs. a ∷ xs) (range_append (a + 1) m n) ∙ ap (λ x. a ∷ (range_with_len (a + 1) m ++ range_with_len x n)) f
+
+-- ---- the places of records
+
+pub length-record_places : (count size place : ℕ) → length (record_places count size place) ≡ count
+length-record_places zero size place = refl
+length-record_places (suc count) size place = ap suc (length-record_places count size (place + size))
+
+-- the places of some, and of those behind them
+pub places_split : (j k size place : ℕ) → record_places (j + k) size place ≡ record_places j size place ++ record_places k size (place + j * size)
+places_split zero k size place =
+    let none : 0 + k ≡ k = omega arith in
+    let here : place ≡ place + 0 * size = omega arith in
+    ap (λ n. record_places n size place) none ∙ ap (record_places k size) here
+places_split (suc j) k size place =
+    let more : suc j + k ≡ suc (j + k) = omega arith in
+    let there : place + size + j * size ≡ place + suc j * size = grind arith in
+    ap (λ n. record_places n size place) more
+    ∙ ap (λ ps. place ∷ ps) (places_split j k size (place + size) ∙ ap (λ n. record_places j size (place + size) ++ record_places k size n) there)
+
+-- the place of each of them
+pub among_places : (index count size place : ℕ) → index < count → IsAmong (place + index * size) (record_places count size place)
+among_places index zero size place below = absurd (omega arith)
+among_places zero (suc count) size place below = inl (omega arith)
+among_places (suc index) (suc count) size place below =
+    let there : place + size + index * size ≡ place + suc index * size = grind arith in
+    inr (subst (λ (q : ℕ). IsAmong q (record_places count size (place + size))) there (among_places index count size (place + size) (omega arith)))

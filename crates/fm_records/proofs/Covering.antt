@@ -1,11 +1,13 @@
 -- Each word of the values that a query asks for in a chosen record is read.
-use Rattle.std.proofs.Common.{◌≡◌, ℕ, zero, suc, ◌+◌, ◌-◌, ◌*◌, ◌/◌, ◌<◌, ◌≤◌, true, false, Option, Some, List, [], ◌++◌, length, take, drop, refl, sym, ap, ◌∙◌, subst, inl, inr, arith}
+use Rattle.std.proofs.Common.{◌≡◌, ℕ, zero, suc, ◌+◌, ◌-◌, ◌*◌, ◌/◌, ◌<◌, ◌≤◌, true, false, Result, Ok, Some, List, [], ◌++◌, length, take, drop, refl, sym, ap, ◌∙◌, subst, inl, inr, arith}
 use Rattle.std.specs.Prelude.{ℤ}
 use Rattle.std.specs.List.{list_all, slice_get}
+use Rattle.std.proofs.Math.Nat.{mul-le-mul_right}
 use Rattle.std.proofs.lemmas.Bool.{cases_lt}
 use Rattle.std.proofs.lemmas.List.{drop-drop}
 use Rattle.fm_base.specs.declared.caller.Caller.{Caller}
 use Rattle.fm_base.specs.declared.arena_id.ArenaId.{ArenaId}
+use Rattle.fm_base.specs.declared.refusal.Refusal.{Refusal}
 use Rattle.fm_base.specs.Calls.{Read, Found as Found_word, Entry, entry_of}
 use Rattle.fm_base.specs.Visits.{piece_width, Run, ends, goes_on}
 use Rattle.fm_lanes.specs.Kind.{width_of}
@@ -26,11 +28,13 @@ use Rattle.fm_records.specs.declared.found.Found.{Found}
 use Rattle.fm_records.specs.Answers.{holds as holds_for}
 use Rattle.fm_records.specs.Bytes.{FindAs, HasRead, IsAnswered}
 use Rattle.fm_records.specs.Laws.{IsAsked, value_in}
-use Rattle.fm_records.specs.Reads.{IsWordOf, LiesIn, value_places, ReadsNumber, ReadsNumbers, no_more, one_more, FindsItem, FindsItems, no_item, one_item, ReadsRecord, chosen, passed_over, ReadsRecords, no_record, one_record}
+use Rattle.fm_records.specs.Reads.{IsWordOf, LiesIn, value_places, ReadsNumber, InOrder, FindsAsked, FindsItems, ReadsRecord, chosen, passed_over, untested, record_places}
 use Rattle.fm_records.specs.Records.{pieces}
 use Rattle.fm_records.specs.Values.{index_lists}
 use Rattle.fm_records.proofs.AnsweringBytes.{records_lie}
 use Rattle.fm_records.proofs.Indices.{admitted_listed}
+use Rattle.fm_records.proofs.Behind.{among_places}
+use Rattle.fm_records.proofs.Ordered.{in_order_part}
 use Rattle.fm_records.proofs.ReadingBytes.{tests_of_bytes}
 use Rattle.fm_lists.proofs.Among.{among_left, among_map, among_right}
 use Rattle.fm_lists.proofs.Each.{all_split}
@@ -81,16 +85,6 @@ module _ (c : Caller) (id : ArenaId) (word : ℕ) where
       → HasByte place (place + width_of spec.kind) word → HasRead c id word own
   number_is_read spec place own n r h = range_is_read (place + width_of spec.kind) (record { at = place; bytes = [] }) own r.reads.bytes r.reads.visits h
 
-  -- one of the values at these places
-  numbers_are_read : (spec : ValueSpec) (places : List ℕ) (own : List Entry) (ns : List ℤ) (place : ℕ) → ReadsNumbers c id spec places own ns
-      → IsAmong place places
-      → HasByte place (place + width_of spec.kind) word → HasRead c id word own
-  numbers_are_read spec places own ns place no_more a h = absurd a
-  numbers_are_read spec places own ns place (one_more {place = first} {places = left} one rest n more r others) (inl e) h =
-      read_left one rest (number_is_read spec first one n r (subst (λ (q : ℕ). HasByte q (q + width_of spec.kind) word) e h))
-  numbers_are_read spec places own ns place (one_more {place = first} {places = left} one rest n more r others) (inr a) h =
-      read_right one rest (numbers_are_read spec left rest more place others a h)
-
 -- ---- what an item asks for
 
 module _ (c : Caller) (id : ArenaId) (word : ℕ) (item : Item) (f : Fold) (r : Resolution) (is : List ℕ) (asks : item.asked ≡ asked.Of f r)
@@ -99,20 +93,18 @@ module _ (c : Caller) (id : ArenaId) (word : ℕ) (item : Item) (f : Fold) (r : 
   abbrev StandsIn : ℕ → Type 0
   StandsIn place = HasByte (place + offset_at r.offset r.dims is) (place + offset_at r.offset r.dims is + width_of r.value.kind) word
 
-  item_is_read : (place : ℕ) (own : List Entry) (found : Found) → FindsItem c id place (asked.Of f r) own found → StandsIn place → HasRead c id word own
-  item_is_read place own found h b =
-      numbers_are_read c id word r.value (value_places place r.offset r.dims) own h.0 (place + offset_at r.offset r.dims is) h.1
-      (among_map (λ js. place + offset_at r.offset r.dims js) is (index_lists r.dims) (admitted_listed r.dims is admitted)) b
+  item_is_read : (place : ℕ) (own : List Entry) (fs : List Found) → FindsAsked c id place (asked.Of f r) (Ok tt) own fs → StandsIn place
+      → HasRead c id word own
+  item_is_read place own fs h b =
+      in_order_part (HasRead c id word) (read_left c id word) (read_right c id word) (place + offset_at r.offset r.dims is)
+      (λ es ns n. number_is_read c id word r.value (place + offset_at r.offset r.dims is) es n.0 n.1 b) (value_places place r.offset r.dims) (Ok tt) own h.0
+      (among_map (λ js. place + offset_at r.offset r.dims js) is (index_lists r.dims) (admitted_listed r.dims is admitted)) h.1 refl
 
-  items_are_read : (place : ℕ) (items : List Item) (own : List Entry) (fs : List Found) → FindsItems c id place items own fs → IsAmong item items
+  items_are_read : (place : ℕ) (items : List Item) (own : List Entry) (fs : List Found) → FindsItems c id place items (Ok tt) own fs → IsAmong item items
       → StandsIn place → HasRead c id word own
-  items_are_read place items own fs no_item among b = absurd among
-  items_are_read place items own fs (one_item {item = first} {items = left} found others one rest h more) (inl e) b =
-      let finds : FindsItem c id place (asked.Of f r) one found =
-      subst (λ (q : Asked). FindsItem c id place q one found) (sym (ap (λ (i : Item). i.asked) e) ∙ asks) h in
-      read_left c id word one rest (item_is_read place one found finds b)
-  items_are_read place items own fs (one_item {item = first} {items = left} found others one rest h more) (inr among) b =
-      read_right c id word one rest (items_are_read place left rest others more among b)
+  items_are_read place items own fs h among b =
+      in_order_part (HasRead c id word) (read_left c id word) (read_right c id word) item
+      (λ es gs k. item_is_read place es gs (subst (λ (q : Asked). FindsAsked c id place q (Ok tt) es gs) asks k) b) items (Ok tt) own fs among h refl
 
 -- ---- records
 
@@ -121,36 +113,31 @@ module _ (c : Caller) (s : Region) (word : ℕ) (bytes : List ℕ) (size : lengt
     (r : Resolution) (is : List ℕ) (among : IsAmong item p.items) (asks : item.asked ≡ asked.Of f r) (admitted : AreAdmitted r.dims is) (place : ℕ)
     (all : list_all (holds_for (take p.size (drop (place - s.first) bytes))) p.conditions ≡ true)
     (byte : HasByte (place + offset_at r.offset r.dims is) (place + offset_at r.offset r.dims is + width_of r.value.kind) word) where
-  record_is_read : (own : List Entry) (seen : Option (List Found)) → LiesIn s place p.size → ReadsRecord c s.arena p place own seen → FindAs s bytes own
-      → HasRead c s.arena word own
-  record_is_read own seen lies (chosen one rest fs t h) w =
-      read_right c s.arena word one rest (items_are_read c s.arena word item f r is asks admitted place p.items rest fs h among byte)
-  record_is_read own seen lies (passed_over one t) w =
+  record_is_read : (result : Result (Unit {0}) Refusal) (own : List Entry) (seen : List (List Found)) → LiesIn s place p.size
+      → ReadsRecord c s.arena p place result own seen → result ≡ Ok tt → FindAs s bytes own → HasRead c s.arena word own
+  record_is_read result own seen lies (chosen one rest fs t h) ok w =
+      read_right c s.arena word one rest (items_are_read c s.arena word item f r is asks admitted place p.items rest fs
+      (subst (λ (q : Result (Unit {0}) Refusal). FindsItems c s.arena place p.items q rest fs) ok h) among byte)
+  record_is_read result own seen lies (passed_over one t) ok w =
       let fails : list_all (holds_for (take p.size (drop (place - s.first) bytes))) p.conditions ≡ false =
       tests_of_bytes c s bytes size p.size p.alignment place lies p.conditions one false plan.conditions t w in
       let no : true ≡ false = sym all ∙ fails in
       absurd (cc)
+  record_is_read result own seen lies (untested one t) ok w = absurd (cc)
 
   -- it is one of those that were read
-  records_are_read : (index count from : ℕ) (so_far found : List Found) (own : List Entry) → LiesIn s from (count * p.size)
-      → ReadsRecords c s.arena p count from so_far own found → FindAs s bytes own → index < count → place ≡ from + index * p.size → HasRead c s.arena word own
-  records_are_read index count from so_far found own lies no_record w below at = absurd (omega arith)
-  records_are_read zero count from so_far found own lies (one_record {count = left} one rest seen first more) w below at =
-      let same : from ≡ place = omega arith in
-      let sum : suc left * p.size ≡ p.size + left * p.size = grind arith in
-      let low = lies.from in
+  records_are_read : (index count : ℕ) (own : List Entry) (found : List (List Found)) → LiesIn s s.first (count * p.size)
+      → InOrder (Ok tt) (ReadsRecord c s.arena p) (record_places count p.size s.first) (Ok tt) own found → FindAs s bytes own → index < count
+      → place ≡ s.first + index * p.size → HasRead c s.arena word own
+  records_are_read index count own found lies h w below at =
+      let next : suc index * p.size ≡ index * p.size + p.size = grind arith in
+      let end = mul-le-mul_right p.size below in
       let within = lies.within in
-      read_left c s.arena word one rest
-      (record_is_read one seen (record { from = omega (arith, low, same); within = omega (arith, within, sum, same) })
-      (subst (λ (q : ℕ). ReadsRecord c s.arena p q one seen) same first) (all_split _ one rest w).0)
-  records_are_read (suc index) count from so_far found own lies (one_record {count = left} one rest seen first more) w below at =
-      let low = lies.from in
-      let within = lies.within in
-      let sum : suc left * p.size ≡ p.size + left * p.size = grind arith in
-      let next : suc index * p.size ≡ p.size + index * p.size = grind arith in
-      read_right c s.arena word one rest
-      (records_are_read index left (from + p.size) _ found rest (record { from = omega (arith, low); within = omega (arith, within, sum) }) more
-      (all_split _ one rest w).1 (omega (arith, below)) (omega (arith, at, next)))
+      in_order_part (λ es. FindAs s bytes es → HasRead c s.arena word es) (λ es fs k v. read_left c s.arena word es fs (k (all_split _ es fs v).0))
+      (λ es fs k v. read_right c s.arena word es fs (k (all_split _ es fs v).1)) place
+      (λ es seen k. record_is_read (Ok tt) es seen (record { from = omega (arith, at); within = omega (arith, at, next, end, within) }) k refl)
+      (record_places count p.size s.first) (Ok tt) own found
+      (subst (λ (q : ℕ). IsAmong q (record_places count p.size s.first)) (sym at) (among_places index count p.size s.first below)) h refl w
 
 -- ---- the record of an index
 
@@ -183,5 +170,5 @@ asked_is_read c p s bytes a own index r is word h asks w =
     let at : s.first + (index * p.size + offset_at r.offset r.dims is) ≡ s.first + index * p.size + offset_at r.offset r.dims is = omega arith in
     let byte = subst (λ (q : ℕ). HasByte q (q + width_of r.value.kind) word) at (record { above = w.above; below = w.below; some = omega (arith, bounds.0) }) in
     records_are_read c s word bytes h.size p h.plan asks.item asks.fold r is asks.among asks.asks asks.admitted (s.first + index * p.size)
-    (ap (λ bs. list_all (holds_for bs) p.conditions) (sym piece) ∙ asks.chosen) byte index (s.size / p.size) s.first _ a own (records_lie p s) h.does.records
+    (ap (λ bs. list_all (holds_for bs) p.conditions) (sym piece) ∙ asks.chosen) byte index (s.size / p.size) own _ (records_lie p s) h.does.records.reads
     h.finds (subst (λ (n : ℕ). index < n / p.size) h.size there.below) refl

@@ -1,5 +1,5 @@
 -- How far the counts and sums of an answer can come.
-use Rattle.std.proofs.Common.{◌≡◌, ℕ, suc, ◌+◌, ◌*◌, ◌/◌, ◌%◌, ◌^◌, ◌≤◌, ◌-◌, Bool, true, false, Option, List, [], ◌∷◌, length, map, sym, ap, ◌∙◌, subst, arith}
+use Rattle.std.proofs.Common.{◌≡◌, ℕ, suc, ◌+◌, ◌*◌, ◌/◌, ◌%◌, ◌^◌, ◌≤◌, ◌-◌, Bool, true, false, Result, Ok, List, [], ◌∷◌, ◌++◌, length, map, refl, sym, ap, ◌∙◌, subst, arith}
 use Rattle.std.specs.Prelude.{◌==◌, not, ℤ, pos, negsuc, ◌+ℤ◌, FitsSigned}
 use Rattle.std.specs.Int.{w128}
 use Rattle.std.specs.List.{AllByRecursion, AllZip}
@@ -8,6 +8,7 @@ use Rattle.std.proofs.lemmas.List.{length-map}
 use Rattle.std.proofs.Math.Nat.{div-mul-le_self}
 use Rattle.fm_base.specs.declared.caller.Caller.{Caller}
 use Rattle.fm_base.specs.declared.arena_id.ArenaId.{ArenaId}
+use Rattle.fm_base.specs.declared.refusal.Refusal.{Refusal}
 use Rattle.fm_base.specs.Calls.{Entry}
 use Rattle.fm_bytes.specs.Signed.{FitsBytes}
 use Rattle.fm_bytes.proofs.Signed.{FitsBytes-signed_of}
@@ -29,10 +30,12 @@ use Rattle.fm_records.specs.declared.found.Found.TheVariants.{Count, Sum, Least,
 use Rattle.fm_records.specs.Answers.{sum_of, folded, found_in, item_found, found_over}
 use Rattle.fm_records.specs.Few.{IsSumBy, IsFoundBy, IsFew, AreFew, AnswersAreFew, FewCanJoin, HasRoom, HaveRoom, IsOpen, how_many}
 use Rattle.fm_records.specs.Joined.{CanJoinFound, CanJoin, both, joined}
-use Rattle.fm_records.specs.Adds.{with_number, with_numbers, AddsNumbers}
-use Rattle.fm_records.specs.Reads.{value_places, ReadsNumber, ReadsNumbers, no_more, one_more, FindsItem, FindsItems, no_item, one_item, ReadsRecord, chosen, passed_over, with_record, ReadsRecords, no_record, one_record}
+use Rattle.fm_records.specs.Adds.{AddsNumbers, all_added, with_number}
+use Rattle.fm_records.specs.Reads.{value_places, ReadsNumber, InOrder, all_done, one_more, comes_short, TakesNumbers, FindsAsked, FindsItems, ReadsRecord, chosen, passed_over, untested, record_places}
 use Rattle.fm_records.specs.Texts.{IsFolded, IsFoundOf, IsItemFound}
 use Rattle.fm_records.specs.Values.{index_lists}
+use Rattle.fm_records.proofs.Behind.{length-record_places}
+use Rattle.fm_records.proofs.Ordered.{all_added-append}
 use Rattle.fm_records.proofs.Plans.{IsItemFew, plan_items_few}
 
 -- ---- sums
@@ -85,34 +88,36 @@ number_few n (Count k) z one h = omega arith
 number_few n (Sum x) z one h = sum_more n 1 x z h one
 number_few n f z one h = tt
 
-numbers_few : (c : Caller) (id : ArenaId) (spec : ValueSpec) (places : List ℕ) (own : List Entry) (ns : List ℤ) (n : ℕ) (f : Found)
-    → ReadsNumbers c id spec places own ns → IsFoundBy n f
-    → IsFoundBy (n + length places) (with_numbers f ns)
-numbers_few c id spec places own ns n f no_more h = let e : n ≡ n + 0 = omega arith in subst (λ (k : ℕ). IsFoundBy k f) e h
-numbers_few c id spec places own ns n f (one_more {place = place} {places = left} first rest z more r more_read) h =
-    let e : n + 1 + length left ≡ n + suc (length left) = omega arith in
-    subst (λ (k : ℕ). IsFoundBy k (with_numbers (with_number f z) more)) e
-    (numbers_few c id spec left rest more (n + 1) (with_number f z) more_read (number_few n f z (one_number c id spec place first z r) h))
+numbers_few : (c : Caller) (id : ArenaId) (spec : ValueSpec) (places : List ℕ) (result : Result (Unit {0}) Refusal) (own : List Entry) (ns : List ℤ) (n : ℕ)
+    (f : Found) → TakesNumbers c id spec places result own ns → result ≡ Ok tt → IsFoundBy n f → IsFoundBy (n + length places) (all_added with_number f ns)
+numbers_few c id spec places result own ns n f all_done e h = let none : n ≡ n + 0 = omega arith in subst (λ (k : ℕ). IsFoundBy k f) none h
+numbers_few c id spec places result own ns n f (one_more {x = place} {xs = left} first rest given more r others) e h =
+    let sum : n + 1 + length left ≡ n + suc (length left) = omega arith in
+    let z = r.0 in
+    subst (λ (zs : List ℤ). IsFoundBy (n + suc (length left)) (all_added with_number f (zs ++ more))) (sym r.2)
+    (subst (λ (k : ℕ). IsFoundBy k (all_added with_number (with_number f z) more)) sum
+    (numbers_few c id spec left result rest more (n + 1) (with_number f z) others e (number_few n f z (one_number c id spec place first z r.1) h)))
+numbers_few c id spec places result own ns n f (comes_short first given apart r) e h = absurd (apart e)
 
-pub sums : (x : ℤ) (ns : List ℤ) → with_numbers (Sum x) ns ≡ Sum (x +ℤ sum_of ns)
+pub sums : (x : ℤ) (ns : List ℤ) → all_added with_number (Sum x) ns ≡ Sum (x +ℤ sum_of ns)
 sums x [] = let e : x ≡ x +ℤ pos 0 = omega (arith, ints) in ap Sum e
 sums x (n ∷ ns) = let e : x +ℤ n +ℤ sum_of ns ≡ x +ℤ (n +ℤ sum_of ns) = omega (arith, ints) in sums (x +ℤ n) ns ∙ ap Sum e
 
 -- what they come to by themselves
-numbers_sum : (c : Caller) (id : ArenaId) (spec : ValueSpec) (places : List ℕ) (own : List Entry) (ns : List ℤ) → ReadsNumbers c id spec places own ns
+numbers_sum : (c : Caller) (id : ArenaId) (spec : ValueSpec) (places : List ℕ) (own : List Entry) (ns : List ℤ) → TakesNumbers c id spec places (Ok tt) own ns
     → IsSumBy (length places) (sum_of ns)
 numbers_sum c id spec places own ns h =
     let by : IsSumBy (0 + length places) (pos 0 +ℤ sum_of ns) =
-    subst (IsFoundBy (0 + length places)) (sums (pos 0) ns) (numbers_few c id spec places own ns 0 (Sum (pos 0)) h no_sum) in
+    subst (IsFoundBy (0 + length places)) (sums (pos 0) ns) (numbers_few c id spec places (Ok tt) own ns 0 (Sum (pos 0)) h refl no_sum) in
     record { low = (let a = by.low in omega (arith, ints)); high = (let a = by.high in omega (arith, ints)) }
 
 -- so there is room for those that are left
 pub adds_room : {c : Caller} {id : ArenaId} {spec : ValueSpec} {places : List ℕ} {f g : Found} {own : List Entry} (more : ℕ)
-    → AddsNumbers c id spec places f g own → HasRoom f (length places + more) → HasRoom g more
+    → AddsNumbers c id spec places f g (Ok tt) own → HasRoom f (length places + more) → HasRoom g more
 adds_room {c} {id} {spec} {places} {f} {g} {own} more a room = (
   room.0 + length places,
   omega (arith, room.1),
-  subst (IsFoundBy (room.0 + length places)) (sym a.added) (numbers_few c id spec places own a.numbers room.0 f a.reads room.2),
+  subst (IsFoundBy (room.0 + length places)) (sym a.added) (numbers_few c id spec places (Ok tt) own a.given room.0 f a.reads refl room.2),
 )
 
 -- room for fewer
@@ -127,25 +132,34 @@ folded_few : (f : Fold) (r : _) (n : ℕ) (ns : List ℤ) → IsSumBy n (sum_of 
 folded_few fold.Sum r n ns h = (tt, h)
 folded_few f r n ns h = (tt, tt)
 
-item_few : (c : Caller) (id : ArenaId) (place size : ℕ) (a : Asked) (own : List Entry) (found : Found) → how_many a ≤ size → FindsItem c id place a own found
-    → IsFewOf size a found
-item_few c id place size asked.Count own found few h = subst (IsFewOf size asked.Count) (sym h.1) (tt, few)
-item_few c id place size (asked.Of f r) own found few h =
+-- what an item finds in a record, and that it finds just this
+record FindsFew (n : ℕ) (a : Asked) (fs : List Found) : Type 0 where
+  found : Found
+  is : fs ≡ found ∷ []
+  few : IsFewOf n a found
+
+item_few : (c : Caller) (id : ArenaId) (place size : ℕ) (a : Asked) (own : List Entry) (fs : List Found) → how_many a ≤ size
+    → FindsAsked c id place a (Ok tt) own fs → FindsFew size a fs
+item_few c id place size asked.Count own fs few h = record { found = Count 1; is = h.2; few = (tt, few) }
+item_few c id place size (asked.Of f r) own fs few h =
     let places = value_places place r.offset r.dims in
     let by = numbers_sum c id r.value places own h.0 h.1 in
     let long : length (value_places place r.offset r.dims) ≤ size =
     omega (arith, few, length-map (index_lists r.dims) (λ is. place + offset_at r.offset r.dims is)) in
-    subst (IsFewOf size (asked.Of f r)) (sym h.2) (folded_few f r size h.0 (sum_less (length places) size (sum_of h.0) long by))
+    record { found = folded f h.0; is = h.2; few = folded_few f r size h.0 (sum_less (length places) size (sum_of h.0) long by) }
 
 -- the same of an item
 of_item : (n : ℕ) (item : Item) (found : Found) → IsFewOf n item.asked found → IsFew n item found
 of_item n item found h = record { kind = h.0; by = h.1 }
 
-items_few : (c : Caller) (id : ArenaId) (place size : ℕ) (items : List Item) (own : List Entry) (fs : List Found)
-    → AllByRecursion (IsItemFew size) items → FindsItems c id place items own fs → AllZip (IsFew size) items fs
-items_few c id place size items own fs few no_item = tt
-items_few c id place size items own fs few (one_item {item = item} {items = left} found more one rest f h) =
-    (of_item size item found (item_few c id place size item.asked one found few.0 f), items_few c id place size left rest more few.1 h)
+items_few : (c : Caller) (id : ArenaId) (place size : ℕ) (items : List Item) (result : Result (Unit {0}) Refusal) (own : List Entry) (fs : List Found)
+    → AllByRecursion (IsItemFew size) items → FindsItems c id place items result own fs → result ≡ Ok tt → AllZip (IsFew size) items fs
+items_few c id place size items result own fs few all_done e = tt
+items_few c id place size items result own fs few (one_more {x = item} {xs = left} first rest given more h others) e =
+    let one = item_few c id place size item.asked first given few.0 h in
+    subst (λ (gs : List Found). AllZip (IsFew size) (item ∷ left) (gs ++ more)) (sym one.is)
+    (of_item size item one.found one.few, items_few c id place size left result rest more few.1 others e)
+items_few c id place size items result own fs few (comes_short first given apart h) e = absurd (apart e)
 
 -- ---- two finds of one item
 
@@ -219,27 +233,35 @@ pub nothing_few : (items : List Item) → AllZip (IsFew 0) items (map (item_foun
 nothing_few [] = tt
 nothing_few (i ∷ is) = (of_item 0 i (found_in [] i.asked) (none_few i.asked), nothing_few is)
 
-pub record_few : (c : Caller) (id : ArenaId) (p : Plan) (place m : ℕ) (own : List Entry) (seen : Option (List Found)) (so_far : List Found) → IsPlan p
-    → ReadsRecord c id p place own seen
-    → AreFew m p so_far → AreFew (m + p.size) p (with_record so_far seen)
-record_few c id p place m own seen so_far plan (chosen one rest fs t h) few =
-    (all_few m p.size p.items so_far fs few (items_few c id place p.size p.items rest fs (plan_items_few p plan) h)).few
-record_few c id p place m own seen so_far plan (passed_over one t) few = few_less m (m + p.size) p.items so_far (omega arith) few
+record_few : (c : Caller) (id : ArenaId) (p : Plan) (place m : ℕ) (result : Result (Unit {0}) Refusal) (own : List Entry) (seen : List (List Found))
+    (so_far : List Found) → IsPlan p → ReadsRecord c id p place result own seen → result ≡ Ok tt → AreFew m p so_far
+    → AreFew (m + p.size) p (all_added joined so_far seen)
+record_few c id p place m result own seen so_far plan (chosen one rest fs t h) e few =
+    (all_few m p.size p.items so_far fs few (items_few c id place p.size p.items result rest fs (plan_items_few p plan) h e)).few
+record_few c id p place m result own seen so_far plan (passed_over one t) e few = few_less m (m + p.size) p.items so_far (omega arith) few
+record_few c id p place m result own seen so_far plan (untested one t) e few = absurd (cc)
 
-records_few : (c : Caller) (id : ArenaId) (p : Plan) (count place m : ℕ) (own : List Entry) (so_far all : List Found) → IsPlan p
-    → ReadsRecords c id p count place so_far own all
-    → AreFew m p so_far → AreFew (m + count * p.size) p all
-records_few c id p count place m own so_far all plan no_record few = few_less m _ p.items all (omega arith) few
-records_few c id p count place m own so_far all plan (one_record {count = left} one rest seen r more) few =
-    let bytes : suc left * p.size ≡ p.size + left * p.size = grind arith in
-    let sum : m + p.size + left * p.size ≡ m + suc left * p.size = omega (arith, bytes) in
-    subst (λ (n : ℕ). AreFew n p all) sum
-    (records_few c id p left (place + p.size) (m + p.size) rest (with_record so_far seen) all plan more (record_few c id p place m one seen so_far plan r few))
+pub records_few : (c : Caller) (id : ArenaId) (p : Plan) (places : List ℕ) (m : ℕ) (result : Result (Unit {0}) Refusal) (own : List Entry)
+    (all : List (List Found)) (so_far : List Found) → IsPlan p → InOrder (Ok tt) (ReadsRecord c id p) places result own all → result ≡ Ok tt
+    → AreFew m p so_far → AreFew (m + length places * p.size) p (all_added joined so_far all)
+records_few c id p places m result own all so_far plan all_done e few = few_less m _ p.items so_far (omega arith) few
+records_few c id p places m result own all so_far plan (one_more {x = place} {xs = left} first rest seen more r others) e few =
+    let bytes : suc (length left) * p.size ≡ p.size + length left * p.size = grind arith in
+    let sum : m + p.size + length left * p.size ≡ m + suc (length left) * p.size = omega (arith, bytes) in
+    subst (λ (fs : List Found). AreFew (m + suc (length left) * p.size) p fs) (sym (all_added-append joined so_far seen more))
+    (subst (λ (n : ℕ). AreFew n p (all_added joined (all_added joined so_far seen) more)) sum
+    (records_few c id p left (m + p.size) result rest more (all_added joined so_far seen) plan others e
+    (record_few c id p place m (Ok tt) first seen so_far plan r refl few)))
+records_few c id p places m result own all so_far plan (comes_short first seen apart r) e few = absurd (apart e)
 
 pub answers_few : AnswersAreFew
 answers_few c p s a own plan does =
-    few_less (0 + s.size / p.size * p.size) s.size p.items a (omega (arith, div-mul-le_self s.size p.size))
-    (records_few c s.arena p (s.size / p.size) s.first 0 own (found_over p []) a plan does.records (nothing_few p.items))
+    let count = s.size / p.size in
+    let places = record_places count p.size s.first in
+    let few = records_few c s.arena p places 0 (Ok tt) own does.records.given (found_over p []) plan does.records.reads refl (nothing_few p.items) in
+    let long : 0 + length (record_places (s.size / p.size) p.size s.first) * p.size ≤ s.size =
+    subst (λ (n : ℕ). 0 + n * p.size ≤ s.size) (sym (length-record_places count p.size s.first)) (omega (arith, div-mul-le_self s.size p.size)) in
+    subst (AreFew s.size p) (sym does.records.added) (few_less (0 + length places * p.size) s.size p.items _ long few)
 
 pub few_join : FewCanJoin
 few_join p m n a b h k less =

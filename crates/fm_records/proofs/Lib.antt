@@ -8,11 +8,12 @@ pub mod Indices
 pub mod Items
 pub mod Joining
 pub mod Learning
-pub mod Lines
+pub mod Ordered
 pub mod Plans
 pub mod Reaching
 pub mod ReadingBytes
 pub mod Recording
+pub mod Sent
 pub mod Sharing
 pub mod Standing
 pub mod Steps

@@ -1,11 +1,11 @@
 -- Values of a path reached index by index.
-use Rattle.std.proofs.Common.{◌≡◌, ℕ, zero, suc, ◌+◌, ◌-◌, ◌*◌, ◌<◌, ◌≤◌, Bool, true, false, cond, Ok, Err, List, [], ◌∷◌, ◌++◌, length, map, take, drop, get_or, slice_index_or, refl, sym, ap, ◌∙◌, subst, ◌⊎◌, inl, inr, arith}
-use Rattle.std.specs.Prelude.{ℤ, pos, negsuc}
+use Rattle.std.proofs.Common.{◌≡◌, ℕ, suc, ◌+◌, ◌-◌, ◌*◌, ◌<◌, ◌≤◌, Bool, true, false, cond, Ok, Err, List, [], ◌∷◌, ◌++◌, length, map, take, drop, slice_index_or, refl, sym, ap, ◌∙◌, subst, arith}
+use Rattle.std.specs.Prelude.{ℤ, pos, negsuc, ◌≢◌}
 use Rattle.std.specs.List.{flat_map, range_with_len}
 use Rattle.std.proofs.lemmas.Bool.Decides.{nat_tests}
 use Rattle.std.proofs.lemmas.List.{append-nil, length-map, take_all}
 use Rattle.fm_base.specs.declared.refusal.Refusal.{Refusal}
-use Rattle.fm_base.specs.View.{View, Did}
+use Rattle.fm_base.specs.View.{View}
 use Rattle.fm_lanes.specs.Kind.{width_of}
 use Rattle.fm_path.specs.Wide.{is_wide, wide_dims}
 use Rattle.fm_path.specs.declared.value_spec.ValueSpec.{ValueSpec}
@@ -14,79 +14,47 @@ use Rattle.fm_path_meaning.specs.Steady.{IsInside, IsSteady}
 use Rattle.fm_path_meaning.specs.Walk.{AreAdmitted, offset_at, reach}
 use Rattle.fm_segment.specs.Region.{Region}
 use Rattle.fm_records.specs.declared.found.Found.{Found}
-use Rattle.fm_records.specs.Adds.{DoesAdd, ReachesInside}
-use Rattle.fm_records.specs.Paths.{AddsAll, CanAddAll}
+use Rattle.fm_records.specs.Adds.{ReachesInside}
+use Rattle.fm_records.specs.Paths.{AddsAll, CanAddAll, HasIndices}
 use Rattle.fm_records.specs.Reads.{LiesIn, value_places}
 use Rattle.fm_records.specs.Values.{index_lists}
 use Rattle.fm_lists.proofs.Mapped.{flat_map-same}
 use Rattle.fm_records.proofs.Adding.{AreAdded, added_more, added_room, added_stops, places_by_first}
-use Rattle.fm_lists.specs.Among.{IsAmong}
-use Rattle.fm_records.proofs.Indices.{admitted_listed, listed_admitted}
 use Rattle.fm_records.proofs.Visiting.{can_still}
 
--- the first, and the others
-pub split : (ds : List Dim) (z : Dim) → 1 ≤ length ds → ds ≡ slice_index_or ds 0 z ∷ take (length ds - 1) (drop 1 ds)
-split [] z some = absurd (omega arith)
-split (d ∷ ds) z some = ap (λ xs. d ∷ xs) (sym (take_all (length (d ∷ ds) - 1) ds (omega arith)))
-
--- some list of indices is admitted, or there is none
-some_or_none : (ds : List Dim) → ((is : List ℕ) × AreAdmitted ds is) ⊎ (index_lists ds ≡ [])
-some_or_none ds = go (index_lists ds) refl
+-- indices behind a path's first open step
+pub some_behind : (d : Dim) (ds : List Dim) → HasIndices (d ∷ ds) → HasIndices ds
+some_behind d ds h = by h.0 h.1
   where
-    go : (iss : List (List ℕ)) → index_lists ds ≡ iss → ((is : List ℕ) × AreAdmitted ds is) ⊎ (index_lists ds ≡ [])
-    go [] e = inr e
-    go (is ∷ iss) e = inl (is, listed_admitted ds is (subst (IsAmong is) (sym e) (inl refl)))
+    by : (is : List ℕ) → AreAdmitted (d ∷ ds) is → HasIndices ds
+    by [] a = absurd a
+    by (i ∷ is) a = (is, a.1)
 
-at_index : (s : Region) (place at : ℕ) (d : Dim) (ds : List Dim) (spec : ValueSpec) (i : ℕ) → ReachesInside s place at (d ∷ ds) spec → i < d.bound
-    → ReachesInside s place (reach at d.stride i) ds spec
-at_index s place at d ds spec i h below = record { steady = λ is a. (h.steady (i ∷ is) (below, a)).1; lies = λ is a. h.lies (i ∷ is) (below, a) }
+-- the next turn of a loop over that step: what it may do, and what it did
+module _ {old now : View} {s : Region} {place at : ℕ} {d : Dim} {ds : List Dim} {spec : ValueSpec} {f g : Found} {i : ℕ}
+    (can : CanAddAll old s place at (d ∷ ds) spec f) (a : AreAdded old now s place at d ds spec f g i) (below : i < d.bound) where
+  pub turn_inside : IsInside at d.stride i
+  turn_inside = let some = some_behind d ds can.some in (can.inside.steady (i ∷ some.0) (below, some.1)).0
 
--- one index further on
-pub record Reached (s : Region) (place at next : ℕ) (d : Dim) (ds : List Dim) (spec : ValueSpec) (i : ℕ) : Type 0 where
-  pub inside : ReachesInside s place next ds spec
-  pub places : value_places place next ds ≡ value_places place (reach at d.stride i) ds
+  module _ {next : ℕ} (comes : next ≡ reach at d.stride i) where
+    pub turn_can : CanAddAll now s place next ds spec g
+    turn_can = subst (λ (n : ℕ). CanAddAll now s place n ds spec g) (sym comes) (record {
+      can = can_still can.can a.did;
+      some = some_behind d ds can.some;
+      inside = record {
+        steady = λ is h. (can.inside.steady (i ∷ is) (below, h)).1;
+        lies = λ is h. can.inside.lies (i ∷ is) (below, h);
+      };
+      room = added_room a below can.room;
+    })
 
-pub reached : (s : Region) (place at next : ℕ) (d : Dim) (ds : List Dim) (spec : ValueSpec) (i : ℕ) → ReachesInside s place at (d ∷ ds) spec → i < d.bound
-    → (IsInside at d.stride i → next ≡ reach at d.stride i) → Reached s place at next d ds spec i
-reached s place at next d ds spec i h below comes = elim (some_or_none ds) [ inl is ↦ some is | inr n ↦ none n ]
-  where
-    there : ReachesInside s place (reach at d.stride i) ds spec
-    there = at_index s place at d ds spec i h below
+    pub turn_added : {new : View} (h : Found) (u : Unit {0}) → AddsAll now new s place next ds spec g h (Ok u)
+        → AreAdded old new s place at d ds spec f h (i + 1)
+    turn_added {new} h u e = added_more a u (subst (λ (n : ℕ). AddsAll now new s place n ds spec g h (Ok u)) comes e)
 
-    some : (is : List ℕ) × AreAdmitted ds is → Reached s place at next d ds spec i
-    some is =
-        let e : next ≡ reach at d.stride i = comes (h.steady (i ∷ is.0) (below, is.1)).0 in
-        record {
-          inside = subst (λ (n : ℕ). ReachesInside s place n ds spec) (sym e) there;
-          places = ap (λ n. value_places place n ds) e;
-        }
-
-    none : index_lists ds ≡ [] → Reached s place at next d ds spec i
-    none n =
-        let no : (is : List ℕ) → AreAdmitted ds is → ⊥ = λ is a. subst (IsAmong is) n (admitted_listed ds is a) in
-        record {
-          inside = record { steady = λ is a. absurd (no is a); lies = λ is a. absurd (no is a) };
-          places = ap (map (λ is. place + offset_at next ds is)) n ∙ sym (ap (map (λ is. place + offset_at (reach at d.stride i) ds is)) n);
-        }
-
--- the next turn of a loop over a path's first open step: what it may do, and what it did
-module _ {old now : View} {s : Region} {place at next : ℕ} {d : Dim} {ds : List Dim} {spec : ValueSpec} {f g : Found} {i : ℕ}
-    (can : CanAddAll old s place at (d ∷ ds) spec f) (a : AreAdded old now s place at d ds spec f g i) (below : i < d.bound)
-    (comes : IsInside at d.stride i → next ≡ reach at d.stride i) where
-  here : Reached s place at next d ds spec i
-  here = reached s place at next d ds spec i can.inside below comes
-
-  pub turn_can : CanAddAll now s place next ds spec g
-  turn_can = record { can = can_still can.can a.under_way.so_far; inside = here.inside; room = added_room a below }
-
-  pub turn_added : {new : View} (h : Found) (u : Unit {0}) → AddsAll now new s place next ds spec g h (Ok u) → AreAdded old new s place at d ds spec f h (i + 1)
-  turn_added {new} h u did =
-      added_more a below (subst (λ (ps : List ℕ). Did now new (DoesAdd now.caller s spec ps g h (Ok u))) here.places did)
-
-  pub turn_stops : {new : View} (h : Found) (r : Refusal) → AddsAll now new s place next ds spec g h (Err r)
-      → AddsAll old new s place at (d ∷ ds) spec f h (Err r)
-  turn_stops {new} h r did =
-      added_stops a h r below (subst (λ (ps : List ℕ). Did now new (DoesAdd now.caller s spec ps g h (Err r))) here.places did)
+    pub turn_stops : {new : View} (h : Found) (r : Refusal) → AddsAll now new s place next ds spec g h (Err r)
+        → AddsAll old new s place at (d ∷ ds) spec f h (Err r)
+    turn_stops {new} h r e = added_stops a h r below (subst (λ (n : ℕ). AddsAll now new s place n ds spec g h (Err r)) comes e)
 
 -- with no open step
 pub closed_lies : {v : View} {s : Region} {place at : ℕ} {spec : ValueSpec} {f : Found} → CanAddAll v s place at [] spec f
@@ -98,10 +66,16 @@ none_led : (iss : List (List ℕ)) (xs : List ℕ) → iss ≡ [] → flat_map (
 none_led iss [] e = refl
 none_led iss (x ∷ xs) e = ap (λ ys. ys ++ flat_map (λ i. map (λ is. i ∷ is) iss) xs) (ap (map (λ is. x ∷ is)) e) ∙ none_led iss xs e
 
-pub none_at : (k : ℕ) (ds : List Dim) (z : Dim) → k < length ds → (get_or ds k z).bound ≡ 0 → index_lists ds ≡ []
-none_at k [] z below e = absurd (omega arith)
-none_at zero (d ∷ ds) z below e = ap (λ n. flat_map (λ i. map (λ is. i ∷ is) (index_lists ds)) (range_with_len 0 n)) e
-none_at (suc k) (d ∷ ds) z below e = none_led (index_lists ds) (range_with_len 0 d.bound) (none_at k ds z (omega arith) e)
+pub none_behind : (ds : List Dim) → 1 ≤ length ds → index_lists (take (length ds - 1) (drop 1 ds)) ≡ [] → index_lists ds ≡ []
+none_behind [] some e = absurd (omega arith)
+none_behind (d ∷ ds) some e =
+    none_led (index_lists ds) (range_with_len 0 d.bound) (ap index_lists (sym (take_all (length (d ∷ ds) - 1) ds (omega arith))) ∙ e)
+
+pub some_before : (ds : List Dim) (z : Dim) → 1 ≤ length ds → (slice_index_or ds 0 z).bound ≢ 0 → HasIndices (take (length ds - 1) (drop 1 ds))
+    → HasIndices ds
+some_before [] z some first h = absurd (omega arith)
+some_before (d ∷ ds) z some first h =
+    (0 ∷ h.0, (omega (arith, first), subst (λ (xs : List Dim). AreAdmitted xs h.0) (take_all (length (d ∷ ds) - 1) ds (omega arith)) h.1))
 
 -- ---- dims of one index lead nowhere
 

@@ -1,19 +1,20 @@
 -- What visits read, where each found the region's bytes as a list has them.
-use Rattle.std.proofs.Common.{◌≡◌, ℕ, suc, ◌+◌, ◌-◌, ◌*◌, ◌/◌, ◌%◌, ◌<◌, ◌≤◌, Bool, true, false, Option, Some, List, [], ◌∷◌, ◌++◌, length, map, take, drop, get_or, refl, sym, ap, ◌∙◌, subst, append_assoc, inl, inr, arith}
+use Rattle.std.proofs.Common.{◌≡◌, ℕ, zero, suc, ◌+◌, ◌-◌, ◌*◌, ◌/◌, ◌%◌, ◌<◌, ◌≤◌, Bool, true, false, Result, Ok, Some, List, [], ◌∷◌, ◌++◌, length, map, take, drop, get_or, refl, sym, ap, ◌∙◌, subst, append_assoc, inl, inr, arith}
 use Rattle.std.specs.Prelude.{ℤ, ◌&&◌, cond}
 use Rattle.std.specs.List.{AllByRecursion, list_all}
 use Rattle.std.proofs.lemmas.Grind.{same_number_lists}
 use Rattle.std.proofs.lemmas.List.{append-nil, drop-drop, length-drop, length-take-le, get_or-take, get_or-drop}
 use Rattle.std.proofs.lemmas.List.Elements.{filter-append}
+use Rattle.std.proofs.Math.Seq.{take-add}
 use Rattle.fm_base.specs.declared.caller.Caller.{Caller}
+use Rattle.fm_base.specs.declared.refusal.Refusal.{Refusal}
 use Rattle.fm_base.specs.Calls.{Read, Found as Found_word, Entry, entry_of}
 use Rattle.fm_lists.proofs.Among.{each_mapped, map_among}
 use Rattle.fm_lists.proofs.Each.{all_split}
 use Rattle.fm_bytes.specs.Words.{byte_of}
 use Rattle.fm_base.specs.Visits.{visit, piece_width, Run, ends, goes_on}
 use Rattle.fm_bytes.specs.Bytes.{bytes_of, lane}
-use Rattle.fm_bytes.proofs.Bytes.{bytes_of-lane, length-bytes_of}
-use Rattle.fm_bytes.proofs.Words.{take-add}
+use Rattle.fm_bytes.proofs.Bytes.{bytes_of-lane, get_or-bytes_of, length-bytes_of}
 use Rattle.fm_lanes.specs.Coding.{value_of}
 use Rattle.fm_lanes.specs.Kind.{width_of}
 use Rattle.fm_lanes.specs.Value.{number_of_value}
@@ -36,27 +37,13 @@ use Rattle.fm_records.specs.Answers.{compares, folded, found_in, item_found, fou
 use Rattle.fm_records.specs.Answers.{holds as holds_for, chosen as chosen_of}
 use Rattle.fm_records.specs.Bytes.{FindsAs, FindAs}
 use Rattle.fm_records.specs.Joined.{joined}
-use Rattle.fm_records.specs.Reads.{LiesIn, value_places, ReadsNumber, ReadsNumbers, no_more, one_more, Tests, TestsConditions, all_hold, fails, holds, FindsItem, FindsItems, no_item, one_item, ReadsRecord, chosen, passed_over, with_record, ReadsRecords, no_record, one_record}
+use Rattle.fm_records.specs.Adds.{all_added}
+use Rattle.fm_records.specs.Reads.{LiesIn, value_places, ReadsNumber, InOrder, all_done, one_more, comes_short, TakesNumbers, Tests, TestsConditions, FindsAsked, FindsItems, ReadsRecord, chosen, passed_over, untested, record_places}
 use Rattle.fm_records.specs.Records.{pieces}
 use Rattle.fm_records.specs.Values.{index_lists, number_there, number_at, numbers_in}
 use Rattle.fm_records.proofs.Indices.{listed_admitted}
 use Rattle.fm_records.proofs.Joining.{found_over-append}
-
--- ---- one byte of a word
-
-first_byte : (n : ℕ) → get_or (bytes_of 1 n) 0 0 ≡ n % 256
-unfolding bytes_of
-first_byte n = refl
-
-pub get_or-bytes_of : (width word at : ℕ) → at < width → get_or (bytes_of width word) at 0 ≡ byte_of word at
-get_or-bytes_of width word at below =
-    let last : at + 0 ≡ at = omega arith in
-    let twice : byte_of word at % 256 ≡ byte_of word at = omega arith in
-    ap (λ k. get_or (bytes_of width word) k 0) (sym last)
-    ∙ sym (get_or-drop at (bytes_of width word) 0 0)
-    ∙ sym (get_or-take 1 (drop at (bytes_of width word)) 0 0 (omega arith))
-    ∙ sym (ap (λ bs. get_or bs 0 0) (bytes_of-lane width at 1 word (omega (arith, below))))
-    ∙ first_byte (lane word at 1) ∙ twice
+use Rattle.fm_records.proofs.Ordered.{all_added-append}
 
 -- ---- runs of bytes of a region
 
@@ -149,14 +136,16 @@ module _ (c : Caller) (s : Region) (bytes : List ℕ) (size : length bytes ≡ s
       r.number ∙ ap number_of_value (r.reads.value
       ∙ ap (value_of spec.kind spec.order) (range_bytes place (width_of spec.kind) own r.reads.bytes r.reads.visits lies w))
 
-  numbers_of_bytes : (spec : ValueSpec) (places : List ℕ) (own : List Entry) (ns : List ℤ) → ReadsNumbers c s.arena spec places own ns
-      → ((place : ℕ) → IsAmong place places → LiesIn s place (width_of spec.kind)) → FindAs s bytes own
-      → ns ≡ map (λ place. number_there spec.kind spec.order (place - s.first) bytes) places
-  numbers_of_bytes spec places own ns no_more lie w = refl
-  numbers_of_bytes spec places own ns (one_more {place = place} {places = rest} first more n left r h) lie w =
-      let parts = all_split _ first more w in
-      ap (λ m. m ∷ left) (number_of_bytes spec place first n r (lie place (inl refl)) parts.0)
-      ∙ ap (λ ms. number_there spec.kind spec.order (place - s.first) bytes ∷ ms) (numbers_of_bytes spec rest more left h (λ q a. lie q (inr a)) parts.1)
+  numbers_of_bytes : (spec : ValueSpec) (places : List ℕ) (result : Result (Unit {0}) Refusal) (own : List Entry) (ns : List ℤ)
+      → TakesNumbers c s.arena spec places result own ns → result ≡ Ok tt → ((place : ℕ) → IsAmong place places → LiesIn s place (width_of spec.kind))
+      → FindAs s bytes own → ns ≡ map (λ place. number_there spec.kind spec.order (place - s.first) bytes) places
+  numbers_of_bytes spec places result own ns all_done e lie w = refl
+  numbers_of_bytes spec places result own ns (one_more {x = place} {xs = left} first rest given more r others) e lie w =
+      let parts = all_split _ first rest w in
+      ap (λ zs. zs ++ more) (r.2 ∙ ap (λ n. n ∷ []) (number_of_bytes spec place first r.0 r.1 (lie place (inl refl)) parts.0))
+      ∙ ap (λ zs. number_there spec.kind spec.order (place - s.first) bytes ∷ zs)
+      (numbers_of_bytes spec left result rest more others e (λ q a. lie q (inr a)) parts.1)
+  numbers_of_bytes spec places result own ns (comes_short first given apart r) e lie w = absurd (apart e)
 
   -- ---- one record of the region
 
@@ -192,91 +181,103 @@ module _ (c : Caller) (s : Region) (bytes : List ℕ) (size : length bytes ≡ s
 
     -- the numbers of a path's values
     numbers_of_record : (r : Resolution) (own : List Entry) (ns : List ℤ) → IsThrough width multiple r
-        → ReadsNumbers c s.arena r.value (value_places place r.offset r.dims) own ns → FindAs s bytes own → ns ≡ numbers_in r (record_at width place)
+        → TakesNumbers c s.arena r.value (value_places place r.offset r.dims) (Ok tt) own ns → FindAs s bytes own → ns ≡ numbers_in r (record_at width place)
     numbers_of_record r own ns t reads w =
         let F : List ℕ → ℕ = λ is. place + offset_at r.offset r.dims is in
-        numbers_of_bytes r.value (value_places place r.offset r.dims) own ns reads
+        numbers_of_bytes r.value (value_places place r.offset r.dims) (Ok tt) own ns reads refl
         (each_mapped (λ q. LiesIn s q (width_of r.value.kind)) F (index_lists r.dims) (λ is a. value_lies r is t (listed_admitted r.dims is a))) w
         ∙ map_among (λ q. number_there r.value.kind r.value.order (q - s.first) bytes) F (λ is. number_at r is (record_at width place)) (index_lists r.dims)
         (λ is a. within_record r is t (listed_admitted r.dims is a))
 
     -- a condition that was tested
-    test_of_bytes : (x : Condition) (own : List Entry) (b : Bool) → IsConditionIn width multiple x → Tests c s.arena place x own b → FindAs s bytes own
+    test_of_bytes : (x : Condition) (own : List Entry) (b : Bool) → IsConditionIn width multiple x → Tests c s.arena place x (Ok b) own → FindAs s bytes own
         → holds_for (record_at width place) x ≡ b
     test_of_bytes x own b h t w =
         let none : AreAdmitted x.path.dims [] = subst (λ ds. AreAdmitted ds []) (sym h.closed) tt in
         let at = offset_of_none x.path.offset x.path.dims in
         let there = subst (λ (n : ℕ). LiesIn s (place + n) (width_of x.path.value.kind)) at (value_lies x.path [] h.through none) in
-        let number : t.number ≡ number_at x.path [] (record_at width place) =
-        number_of_bytes x.path.value (place + x.path.offset) own t.number t.reads there w
+        let number : t.0 ≡ number_at x.path [] (record_at width place) =
+        number_of_bytes x.path.value (place + x.path.offset) own t.0 t.1 there w
         ∙ ap (λ n. number_there x.path.value.kind x.path.value.order (place + n - s.first) bytes) (sym at)
         ∙ within_record x.path [] h.through none in
-        ap (λ n. compares x.operator n x.literal) (sym number) ∙ t.compared
+        ap (λ n. compares x.operator n x.literal) (sym number) ∙ t.2
+
+    tests : (cs : List Condition) (result : Result Bool Refusal) (own : List Entry) (none : List ℤ) → AllByRecursion (IsConditionIn width multiple) cs
+        → InOrder (Ok true) (λ x r es ns. Tests c s.arena place x r es) cs result own none → (b : Bool) → result ≡ Ok b → FindAs s bytes own
+        → list_all (holds_for (record_at width place)) cs ≡ b
+    tests cs result own none h all_done b e w = cc
+    tests cs r own none h (one_more {x = x} {xs = xs} one rest given more t others) b e w =
+        let parts = all_split _ one rest w in
+        ap (λ d. d && list_all (holds_for (record_at width place)) xs) (test_of_bytes x one true h.0 t parts.0) ∙ tests xs r rest more h.1 others b e parts.1
+    tests cs result own none h (comes_short one given apart t) true e w = absurd (apart e)
+    tests cs result own none h (comes_short {x = x} {xs = xs} one given apart t) false e w =
+        ap (λ d. d && list_all (holds_for (record_at width place)) xs)
+        (test_of_bytes x one false h.0 (subst (λ (r : Result Bool Refusal). Tests c s.arena place x r one) e t) w)
 
     pub tests_of_bytes : (cs : List Condition) (own : List Entry) (b : Bool) → AllByRecursion (IsConditionIn width multiple) cs
-        → TestsConditions c s.arena place cs own b → FindAs s bytes own → list_all (holds_for (record_at width place)) cs ≡ b
-    tests_of_bytes cs own b h all_hold w = refl
-    tests_of_bytes cs own b h (fails {x = x} {xs = xs} one t) w =
-        ap (λ d. d && list_all (holds_for (record_at width place)) xs) (test_of_bytes x one false h.0 t w)
-    tests_of_bytes cs own b h (holds {x = x} {xs = xs} {all = all} one rest t more) w =
-        let parts = all_split _ one rest w in
-        ap (λ d. d && list_all (holds_for (record_at width place)) xs) (test_of_bytes x one true h.0 t parts.0) ∙ tests_of_bytes xs rest all h.1 more parts.1
+        → TestsConditions c s.arena place cs (Ok b) own → FindAs s bytes own → list_all (holds_for (record_at width place)) cs ≡ b
+    tests_of_bytes cs own b h t w = tests cs (Ok b) own [] h t b refl w
 
     -- what an item finds
-    item_of_bytes : (a : Asked) (own : List Entry) (found : Found) → AsksOf width multiple a → FindsItem c s.arena place a own found → FindAs s bytes own
-        → found ≡ found_in (record_at width place ∷ []) a
-    item_of_bytes asked.Count own found t h w = h.1
-    item_of_bytes (asked.Of f r) own found t h w =
-        h.2 ∙ ap (folded f) (numbers_of_record r own h.0 t h.1 w ∙ sym (append-nil (numbers_in r (record_at width place))))
+    item_of_bytes : (a : Asked) (own : List Entry) (fs : List Found) → AsksOf width multiple a → FindsAsked c s.arena place a (Ok tt) own fs
+        → FindAs s bytes own → fs ≡ found_in (record_at width place ∷ []) a ∷ []
+    item_of_bytes asked.Count own fs t h w = h.2
+    item_of_bytes (asked.Of f r) own fs t h w =
+        h.2 ∙ ap (λ ns. folded f ns ∷ []) (numbers_of_record r own h.0 t h.1 w ∙ sym (append-nil (numbers_in r (record_at width place))))
 
-    items_of_bytes : (items : List Item) (own : List Entry) (fs : List Found) → AllByRecursion (IsItemIn width multiple) items
-        → FindsItems c s.arena place items own fs → FindAs s bytes own → fs ≡ map (item_found (record_at width place ∷ [])) items
-    items_of_bytes items own fs t no_item w = refl
-    items_of_bytes items own fs t (one_item {item = item} {items = more} found others one rest f h) w =
+    items_of_bytes : (items : List Item) (r : Result (Unit {0}) Refusal) (own : List Entry) (fs : List Found) → AllByRecursion (IsItemIn width multiple) items
+        → FindsItems c s.arena place items r own fs → r ≡ Ok tt → FindAs s bytes own → fs ≡ map (item_found (record_at width place ∷ [])) items
+    items_of_bytes items result own fs t all_done e w = refl
+    items_of_bytes items result own fs t (one_more {x = item} {xs = left} one rest given more h others) e w =
         let parts = all_split _ one rest w in
-        ap (λ g. g ∷ others) (item_of_bytes item.asked one found t.0 f parts.0)
-        ∙ ap (λ gs. item_found (record_at width place ∷ []) item ∷ gs) (items_of_bytes more rest others t.1 h parts.1)
+        ap (λ gs. gs ++ more) (item_of_bytes item.asked one given t.0 h parts.0)
+        ∙ ap (λ gs. item_found (record_at width place ∷ []) item ∷ gs) (items_of_bytes left result rest more t.1 others e parts.1)
+    items_of_bytes items result own fs t (comes_short one given apart h) e w = absurd (apart e)
 
   -- ---- records
 
   module _ (p : Plan) (plan : IsPlan p) where
     -- one record alone is chosen where all conditions hold
-    chosen_alone : (place : ℕ) (own : List Entry) (b : Bool) → LiesIn s place p.size → TestsConditions c s.arena place p.conditions own b → FindAs s bytes own
+    chosen_alone : (place : ℕ) (es : List Entry) (b : Bool) → LiesIn s place p.size → TestsConditions c s.arena place p.conditions (Ok b) es → FindAs s bytes es
         → chosen_of p.conditions (record_at p.size place ∷ []) ≡ cond b (record_at p.size place ∷ []) []
     chosen_alone place own b lies t w =
         ap (λ d. cond d (record_at p.size place ∷ []) []) (tests_of_bytes p.size p.alignment place lies p.conditions own b plan.conditions t w)
 
     -- one record more
-    record_of_bytes : (place : ℕ) (own : List Entry) (seen : Option (List Found)) (so_far : List Found) (rs : List (List ℕ)) → LiesIn s place p.size
-        → ReadsRecord c s.arena p place own seen → FindAs s bytes own
-        → so_far ≡ found_over p rs → with_record so_far seen ≡ found_over p (rs ++ record_at p.size place ∷ [])
-    record_of_bytes place own seen so_far rs lies (chosen one rest fs t h) w e =
+    record_of_bytes : (place : ℕ) (result : Result (Unit {0}) Refusal) (own : List Entry) (seen : List (List Found)) (so_far : List Found) (rs : List (List ℕ))
+        → LiesIn s place p.size → ReadsRecord c s.arena p place result own seen → result ≡ Ok tt → FindAs s bytes own
+        → so_far ≡ found_over p rs → all_added joined so_far seen ≡ found_over p (rs ++ record_at p.size place ∷ [])
+    record_of_bytes place result own seen so_far rs lies (chosen one rest fs t h) ok w e =
         let parts = all_split _ one rest w in
         let found : fs ≡ found_over p (record_at p.size place ∷ []) =
-        items_of_bytes p.size p.alignment place lies p.items rest fs plan.items h parts.1
+        items_of_bytes p.size p.alignment place lies p.items result rest fs plan.items h ok parts.1
         ∙ ap (λ all. map (item_found all) p.items) (sym (chosen_alone place one true lies t parts.0)) in
         ap (λ gs. joined gs fs) e ∙ ap (joined (found_over p rs)) found ∙ found_over-append p rs (record_at p.size place ∷ [])
-    record_of_bytes place own seen so_far rs lies (passed_over one t) w e =
+    record_of_bytes place result own seen so_far rs lies (passed_over one t) ok w e =
         e ∙ ap (λ all. map (item_found all) p.items)
         (sym (filter-append (λ record_bytes. list_all (holds_for record_bytes) p.conditions) rs (record_at p.size place ∷ [])
         ∙ ap (λ more. chosen_of p.conditions rs ++ more) (chosen_alone place one false lies t w) ∙ append-nil (chosen_of p.conditions rs)))
+    record_of_bytes place result own seen so_far rs lies (untested one t) ok w e = absurd (cc)
 
     -- and all records, one behind the other
-    pub records_of_bytes : (count place : ℕ) (so_far a : List Found) (own : List Entry) (rs : List (List ℕ)) → LiesIn s place (count * p.size)
-        → ReadsRecords c s.arena p count place so_far own a → FindAs s bytes own
-        → so_far ≡ found_over p rs → a ≡ found_over p (rs ++ pieces count p.size (drop (place - s.first) bytes))
-    records_of_bytes count place so_far a own rs lies no_record w e = e ∙ ap (found_over p) (sym (append-nil rs))
-    records_of_bytes count place so_far a own rs lies (one_record {count = left} one rest seen r more) w e =
+    pub records_of_bytes : (count place : ℕ) (so_far : List Found) (all : List (List Found)) (result : Result (Unit {0}) Refusal) (own : List Entry)
+        (rs : List (List ℕ)) → LiesIn s place (count * p.size) → InOrder (Ok tt) (ReadsRecord c s.arena p) (record_places count p.size place) result own all
+        → result ≡ Ok tt → FindAs s bytes own → so_far ≡ found_over p rs
+        → all_added joined so_far all ≡ found_over p (rs ++ pieces count p.size (drop (place - s.first) bytes))
+    records_of_bytes zero place so_far all result own rs lies all_done ok w e = e ∙ ap (found_over p) (sym (append-nil rs))
+    records_of_bytes (suc left) place so_far all result own rs lies (one_more one rest seen more r others) ok w e =
         let parts = all_split _ one rest w in
         let here = record_at p.size place ∷ [] in
         let sum : suc left * p.size ≡ p.size + left * p.size = grind arith in
         let from = lies.from in
         let within = lies.within in
         let offset : place - s.first + p.size ≡ place + p.size - s.first = omega (arith, from) in
-        records_of_bytes left (place + p.size) (with_record so_far seen) a rest (rs ++ here) (record {
+        all_added-append joined so_far seen more
+        ∙ records_of_bytes left (place + p.size) (all_added joined so_far seen) more result rest (rs ++ here) (record {
           from = omega (arith, from);
           within = omega (arith, within, sum);
-        }) more parts.1
-        (record_of_bytes place one seen so_far rs (record { from = from; within = omega (arith, within, sum) }) r parts.0 e)
+        }) others ok parts.1
+        (record_of_bytes place (Ok tt) one seen so_far rs (record { from = from; within = omega (arith, within, sum) }) r refl parts.0 e)
         ∙ ap (λ bs. found_over p ((rs ++ here) ++ pieces left p.size bs)) (sym (drop-drop p.size (place - s.first) bytes ∙ ap (λ n. drop n bytes) offset))
         ∙ ap (found_over p) (append_assoc rs here (pieces left p.size (drop p.size (drop (place - s.first) bytes))))
+    records_of_bytes (suc left) place so_far all result own rs lies (comes_short one seen apart r) ok w e = absurd (apart ok)

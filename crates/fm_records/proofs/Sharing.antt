@@ -1,5 +1,5 @@
 -- Shares of a segment, each answered by the Reads of one caller.
-use Rattle.std.proofs.Common.{◌≡◌, ℕ, zero, suc, ◌+◌, ◌-◌, ◌*◌, ◌/◌, ◌%◌, ◌<◌, ◌≤◌, Bool, Some, List, [], ◌∷◌, ◌++◌, length, get_or, map, refl, sym, ap, ◌∙◌, subst, inl, inr, arith}
+use Rattle.std.proofs.Common.{◌≡◌, ℕ, ◌+◌, ◌-◌, ◌*◌, ◌/◌, ◌%◌, ◌<◌, ◌≤◌, Bool, Some, List, [], ◌∷◌, ◌++◌, length, get_or, map, refl, sym, ap, ◌∙◌, subst, inl, inr, arith}
 use Rattle.std.specs.Prelude.{filter}
 use Rattle.fm_lists.proofs.Among.{among_kept}
 use Rattle.fm_lists.proofs.Each.{all_among, all_of_among}
@@ -24,7 +24,7 @@ use Rattle.fm_records.specs.Joined.{joined}
 use Rattle.fm_records.specs.Laws.{IsAsked}
 use Rattle.fm_records.specs.Records.{records, pieces}
 use Rattle.fm_records.specs.Shares.{IsSpared, SparedAreFound, Share, IsDone, behind, IsFirst, all_joined, SharesJoin, SharesAnswer, SharesRead}
-use Rattle.fm_records.proofs.Behind.{get_split, length-pieces, less_times}
+use Rattle.fm_records.proofs.Behind.{get_split, length-pieces, less_times, range_append}
 use Rattle.fm_records.proofs.AnsweringBytes.{answer_of_bytes, length-places, word_at_places}
 use Rattle.fm_records.proofs.Covering.{asked_is_read}
 use Rattle.fm_records.proofs.Few.{answers_few, few_join, nothing_few}
@@ -59,13 +59,6 @@ spared_found limit now es s c h =
     (by_entry now s es (λ place from below. byte_found limit now es s.arena place h.legal (h.spared place from below)))
 
 -- ---- the segment's bytes, cut in two
-
-pub range_append : (a m n : ℕ) → range_with_len a (m + n) ≡ range_with_len a m ++ range_with_len (a + m) n
-range_append a zero n = let e : 0 + n ≡ n = omega arith in let f : a ≡ a + 0 = omega arith in ap (range_with_len a) e ∙ ap (λ x. range_with_len x n) f
-range_append a (suc m) n =
-    let e : suc m + n ≡ suc (m + n) = omega arith in
-    let f : a + 1 + m ≡ a + suc m = omega arith in
-    ap (range_with_len a) e ∙ ap (λ xs. a ∷ xs) (range_append (a + 1) m n) ∙ ap (λ x. a ∷ (range_with_len (a + 1) m ++ range_with_len x n)) f
 
 bytes_cut : (now : State) (s : Region) (n : ℕ) → n ≤ s.size → bytes_at_places now s ≡ bytes_at_places now (part_of 0 n s) ++ bytes_at_places now (behind n s)
 bytes_cut now s n within =

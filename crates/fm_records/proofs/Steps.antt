@@ -1,5 +1,5 @@
 -- Joining item by item: listed numbers on the way in, the rest on the way out.
-use Rattle.std.proofs.Common.{◌≡◌, ℕ, ◌+◌, ◌-◌, ◌<◌, ◌≤◌, List, Vec, [], ◌∷◌, ◌++◌, length, vec_len, take, drop, get_or, set, refl, sym, ap, ◌∙◌, subst, append_assoc, length-append, length-drop, arith}
+use Rattle.std.proofs.Common.{◌≡◌, ℕ, zero, suc, ◌+◌, ◌-◌, ◌<◌, ◌≤◌, List, Vec, [], ◌∷◌, ◌++◌, length, vec_len, take, drop, get_or, set, refl, sym, ap, ◌∙◌, subst, append_assoc, length-append, length-drop, arith}
 use Rattle.std.proofs.lemmas.List.{take_more_set, drop-set-lt, drop_more, set_at, get_or_at, take_at, set-set, set-get_or, get_or-set_same, get_or_default, length-take-le, nil_from_length, take-append-drop}
 use Rattle.std.specs.declared.alloc.Global.{Global}
 use Rattle.std.specs.List.{AllZip}
@@ -31,6 +31,14 @@ in_steps f g h = absurd h
 -- an item that is still left on one side is so on the other
 pub zip_within : {A B : Type 0} (R : A → B → Type 0) (k : ℕ) (xs : List A) (ys : List B) → AllZip R (drop k xs) (drop k ys) → k < length xs → k < length ys
 zip_within R k xs ys h more = omega (arith, AllZip-long R (drop k xs) (drop k ys) h, length-drop k xs, length-drop k ys)
+
+-- what holds of both at an index
+pub zip_at : {A B : Type 0} (R : A → B → Type 0) (xs : List A) (ys : List B) (k : ℕ) (d : A) (e : B) → AllZip R xs ys → k < length xs
+    → R (get_or xs k d) (get_or ys k e)
+zip_at R [] ys k d e h below = absurd (omega arith)
+zip_at R (x ∷ xs) [] k d e h below = absurd h
+zip_at R (x ∷ xs) (y ∷ ys) zero d e h below = h.0
+zip_at R (x ∷ xs) (y ∷ ys) (suc k) d e h below = zip_at R xs ys k d e h.1 (omega (arith, below))
 
 -- that item, and those behind it
 pub zip_first : {A B : Type 0} (R : A → B → Type 0) (k : ℕ) (xs : List A) (ys : List B) (d : A) (e : B) → AllZip R (drop k xs) (drop k ys)

@@ -1,11 +1,12 @@
 -- Conditions that are tested in order, up to the first that fails.
-use Rattle.std.proofs.Common.{◌≡◌, ℕ, ◌+◌, ◌<◌, ◌≤◌, Bool, true, false, Result, Ok, Err, List, [], ◌∷◌, ◌++◌, length, drop, get_or, sym, ap, ◌∙◌, subst, arith}
-use Rattle.std.specs.Prelude.{ℤ}
-use Rattle.std.proofs.lemmas.List.{drop_more, drop_all}
+use Rattle.std.proofs.Common.{◌≡◌, ℕ, ◌+◌, ◌<◌, ◌≤◌, Bool, true, false, Result, Ok, Err, List, [], ◌∷◌, ◌++◌, length, take, drop, get_or, refl, sym, ap, ◌∙◌, subst, arith}
+use Rattle.std.specs.Prelude.{ℤ, ◌≢◌}
+use Rattle.std.proofs.lemmas.List.{take_more, take_all, take-append-drop}
 use Rattle.fm_base.specs.declared.caller.Caller.{Caller}
+use Rattle.fm_base.specs.declared.arena_id.ArenaId.{ArenaId}
 use Rattle.fm_base.specs.declared.refusal.Refusal.{Refusal}
 use Rattle.fm_base.specs.Calls.{Entry}
-use Rattle.fm_base.specs.View.{View, Did}
+use Rattle.fm_base.specs.View.{View}
 use Rattle.fm_lanes.specs.Kind.{width_of}
 use Rattle.fm_path.specs.declared.value_spec.ValueSpec.{ValueSpec}
 use Rattle.fm_path_meaning.specs.Walk.{AreAdmitted, offset_at}
@@ -14,9 +15,9 @@ use Rattle.fm_segment.specs.Region.{Region}
 use Rattle.fm_query.specs.declared.condition.Condition.{Condition}
 use Rattle.fm_records.specs.Answers.{compares}
 use Rattle.fm_records.specs.Adds.{IsTestable}
-use Rattle.fm_records.specs.Reads.{AreReads, DoesRead, DoesStop, LiesIn, Tests, TestsConditions, all_hold, fails, holds}
-use Rattle.fm_records.specs.Stops.{StopsTest, StopsTests, at_test, next_test}
-use Rattle.fm_records.proofs.Visiting.{ReadsTo, IsUnderWay, begins, goes_on_by, comes_to_end, stops_short, more, ended}
+use Rattle.fm_records.specs.Reads.{all_done, comes_short, GetsNumber, LiesIn, Reads, Tests, TestsConditions}
+use Rattle.fm_records.proofs.Ordered.{in_order_on, in_order_cut, in_order_one}
+use Rattle.fm_records.proofs.Visiting.{reads_none, reads_on}
 
 -- a condition's value stands in the segment
 pub testable_lies : {s : Region} {place n : ℕ} {x : Condition} (spec : ValueSpec) → IsTestable s place x → spec ≡ x.path.value → n ≡ x.path.offset
@@ -31,64 +32,65 @@ testable_lies {s} {place} {n} {x} spec t is_spec is_n =
 
 module _ {old new : View} (s : Region) (place : ℕ) (x : Condition) (spec : ValueSpec) (n : ℕ) (is_spec : spec ≡ x.path.value) (is_n : n ≡ x.path.offset) where
   -- what was read there is its number, or the arena was found closed
-  pub number_there : (read : Result ℤ Refusal) → ReadsTo old new s spec (place + n) read → ReadsTo old new s x.path.value (place + x.path.offset) read
+  number_there : (read : Result ℤ Refusal) → Reads old new s (λ c. GetsNumber c s.arena spec (place + n)) read
+      → Reads old new s (λ c. GetsNumber c s.arena x.path.value (place + x.path.offset)) read
   number_there read d =
-      subst (λ (v : ValueSpec). ReadsTo old new s v (place + x.path.offset) read) is_spec (subst (λ (k : ℕ). ReadsTo old new s spec (place + k) read) is_n d)
+      subst (λ (v : ValueSpec). Reads old new s (λ c. GetsNumber c s.arena v (place + x.path.offset)) read) is_spec
+      (subst (λ (k : ℕ). Reads old new s (λ c. GetsNumber c s.arena spec (place + k)) read) is_n d)
 
   -- it was compared
-  pub test_done : (z : ℤ) (b : Bool) → b ≡ compares x.operator z x.literal → ReadsTo old new s spec (place + n) (Ok z)
-      → Did old new (DoesRead old.caller s (λ c es. Tests old.caller s.arena place x es c) (StopsTest old.caller s.arena place x) (Ok b))
+  pub test_done : (z : ℤ) (b : Bool) → b ≡ compares x.operator z x.literal → Reads old new s (λ c. GetsNumber c s.arena spec (place + n)) (Ok z)
+      → Reads old new s (λ c. Tests c s.arena place x) (Ok b)
   test_done z b is d =
-      let there = number_there (Ok z) d in
-      record { own = there.own; does = (there.does.0, record { number = z; reads = there.does.1; compared = sym is }); makes = there.makes }
+      let there = number_there (Ok z) d in record { own = there.own; does = (there.does.0, (z, there.does.1, sym is)); makes = there.makes }
+
+  -- or the arena was found closed
+  pub test_closed : (r : Refusal) → Reads old new s (λ c. GetsNumber c s.arena spec (place + n)) (Err r)
+      → Reads old new s (λ c. Tests c s.arena place x) (Err r)
+  test_closed r d = let there = number_there (Err r) d in record { own = there.own; does = there.does; makes = there.makes }
 
 -- the first k conditions hold
-abbrev pub AreTested : View → View → Region → ℕ → List Condition → ℕ → Type 0
-AreTested old now s place cs k =
-    let c = old.caller in
-    IsUnderWay {X = Bool} old now s (λ b es. TestsConditions c s.arena place cs es b) (λ b es. TestsConditions c s.arena place (drop k cs) es b)
-    (λ b. StopsTests c s.arena place cs) (λ b. StopsTests c s.arena place (drop k cs))
+pub record AreTested (old now : View) (s : Region) (place : ℕ) (cs : List Condition) (k : ℕ) : Type 0 where
+  pub did : Reads old now s (λ c. TestsConditions c s.arena place (take k cs)) (Ok true)
 
 pub none_tested : (old : View) (s : Region) (place : ℕ) (cs : List Condition) → AreTested old old s place cs 0
-none_tested old s place cs = begins old s (λ b es h. h) (λ b r es h. h)
+none_tested old s place cs = record { did = reads_none old s all_done }
 
-module _ {old now : View} {s : Region} {place : ℕ} (cs : List Condition) (k : ℕ) (x : Condition) (a : AreTested old now s place cs k)
-    (below : k < length cs) (here : x ≡ get_or cs k x) where
-  left : x ∷ drop (k + 1) cs ≡ drop k cs
-  left = ap (λ y. y ∷ drop (k + 1) cs) here ∙ sym (drop_more cs k x below)
+-- one condition alone
+test_one : (c : Caller) (id : ArenaId) (place : ℕ) (x : Condition) (result : Result Bool Refusal) (own : List Entry) → Tests c id place x result own
+    → TestsConditions c id place (x ∷ []) result own
+test_one c id place x (Ok true) own h = in_order_one x own [] h
+test_one c id place x (Ok false) own h = comes_short own [] (λ e. cc) h
+test_one c id place x (Err r) own h = comes_short own [] (λ e. cc) h
 
-  abbrev TestTo : View → Result Bool Refusal → Type 0
-  TestTo next result =
-      Did now next (DoesRead now.caller s (λ b es. Tests now.caller s.arena place x es b) (StopsTest now.caller s.arena place x) result)
+module _ {old now next : View} {s : Region} {place : ℕ} (cs : List Condition) (k : ℕ) (x : Condition) (a : AreTested old now s place cs k)
+    (below : k < length cs) (here : x ≡ get_or cs k x) (result : Result Bool Refusal) (d : Reads now next s (λ c. Tests c s.arena place x) result) where
+  to : take k cs ++ x ∷ [] ≡ take (k + 1) cs
+  to = ap (λ y. take k cs ++ y ∷ []) here ∙ sym (take_more cs k x below)
 
-  -- one more does
-  pub test_holds : {next : View} (b : Bool) → b ≡ true → TestTo next (Ok b) → AreTested old next s place cs (k + 1)
-  test_holds {next} b e d =
-      let c = old.caller in
-      goes_on_by a (λ (y : Caller) (es : List Entry). Tests y s.arena place x es b) (λ t es. TestsConditions c s.arena place (drop (k + 1) cs) es t)
-      (λ (t : Bool). StopsTests c s.arena place (drop (k + 1) cs)) d
-      (λ t es h rest. subst (λ (ys : List Condition). TestsConditions c s.arena place ys (d.own ++ es) t) left
-      (holds d.own es (subst (Tests c s.arena place x d.own) e h) rest))
-      (λ t r es h rest. subst (λ (ys : List Condition). StopsTests c s.arena place ys r (d.own ++ es)) left
-      (next_test d.own es (subst (Tests c s.arena place x d.own) e h) rest))
+  -- one more is tested
+  more : Reads old next s (λ c. TestsConditions c s.arena place (take (k + 1) cs)) result
+  more =
+      subst (λ (ys : List Condition). Reads old next s (λ c. TestsConditions c s.arena place ys) result) to
+      (reads_on (λ c. Tests c s.arena place x) (λ c. TestsConditions c s.arena place (take k cs ++ x ∷ [])) result a.did d (λ h.
+      in_order_on (take k cs) (x ∷ []) (Ok true) result a.did.own d.own [] [] a.did.does.1 refl (test_one old.caller s.arena place x result d.own h)))
 
-  -- or the next fails
-  pub test_fails : {next : View} (b : Bool) → b ≡ false → TestTo next (Ok b)
-      → Did old next (λ es. AreReads old.caller s es × TestsConditions old.caller s.arena place cs es false)
-  test_fails {next} b e d =
-      let m = more (λ (y : Caller) (es : List Entry). Tests y s.arena place x es b) a.so_far d in
-      ended (λ (es : List Entry). TestsConditions old.caller s.arena place cs es false) m.so_far
-      (a.rest false d.own (subst (λ (ys : List Condition). TestsConditions old.caller s.arena place ys d.own false) left
-      (fails d.own (subst (Tests old.caller s.arena place x d.own) e m.does))))
+  -- and holds
+  pub test_holds : result ≡ Ok true → AreTested old next s place cs (k + 1)
+  test_holds e = record { did = subst (Reads old next s (λ c. TestsConditions c s.arena place (take (k + 1) cs))) e more }
 
-  -- or it can't be read
-  pub test_refused : {next : View} (r : Refusal) → TestTo next (Err r) → Did old next (DoesStop old.caller s (StopsTests old.caller s.arena place cs) r)
-  test_refused {next} r d =
-      stops_short a true r (λ (y : Caller). StopsTest y s.arena place x)
-      (λ es h. subst (λ (ys : List Condition). StopsTests old.caller s.arena place ys r es) left (at_test es h)) d
+  -- or it is the last
+  pub test_ends : (end : Result Bool Refusal) → result ≡ end → end ≢ Ok true → Reads old next s (λ c. TestsConditions c s.arena place cs) end
+  test_ends end is apart =
+      subst (λ (ys : List Condition). Reads old next s (λ c. TestsConditions c s.arena place ys) end) (take-append-drop (k + 1) cs)
+      (subst (Reads old next s (λ c. TestsConditions c s.arena place (take (k + 1) cs ++ drop (k + 1) cs))) is (record {
+        own = more.own;
+        does = (more.does.0, in_order_cut (take (k + 1) cs) (drop (k + 1) cs) result more.own [] more.does.1 (λ e. apart (sym is ∙ e)));
+        makes = more.makes;
+      }))
 
 -- all do
 pub all_tested : {old now : View} {s : Region} {place : ℕ} (cs : List Condition) (k : ℕ) → AreTested old now s place cs k → length cs ≤ k
-    → Did old now (λ es. AreReads old.caller s es × TestsConditions old.caller s.arena place cs es true)
+    → Reads old now s (λ c. TestsConditions c s.arena place cs) (Ok true)
 all_tested {old} {now} {s} {place} cs k a past =
-    comes_to_end a true (subst (λ (ys : List Condition). TestsConditions old.caller s.arena place ys [] true) (sym (drop_all k cs past)) all_hold)
+    subst (λ (ys : List Condition). Reads old now s (λ c. TestsConditions c s.arena place ys) (Ok true)) (take_all k cs past) a.did

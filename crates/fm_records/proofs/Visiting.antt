@@ -11,7 +11,7 @@ use Rattle.fm_base.specs.declared.refusal.Refusal.{Refusal}
 use Rattle.fm_base.specs.declared.refusal.Refusal.TheVariants.{Closed, WrongThread, Memory}
 use Rattle.fm_base.specs.Arenas.{MayUse, has_arena}
 use Rattle.fm_base.specs.Calls.{Entry}
-use Rattle.fm_base.specs.View.{View, Makes, Did, given_in, inside_after}
+use Rattle.fm_base.specs.View.{View, Did, given_in, inside_after}
 use Rattle.fm_base.specs.Visits.{Run, ends, goes_on, refused_visit}
 use Rattle.fm_base.proofs.Making.{Makes-none, Makes-then}
 use Rattle.fm_base.proofs.Outcomes.{Makes-lasts}
@@ -24,8 +24,7 @@ use Rattle.fm_access.specs.Ranges.{Reading, ReadsOn, EndsReading}
 use Rattle.fm_access.specs.Values.{DoesGetValue}
 use Rattle.fm_segment.specs.Region.{Region}
 use Rattle.fm_segment.proofs.Access.{known_still}
-use Rattle.fm_records.specs.Reads.{CanRead, IsWordOf, LiesIn, read_visit, AreReads, StopsReading, DoesStop, DoesRead, ReadsNumber}
-use Rattle.fm_records.specs.Stops.{StopsNumber}
+use Rattle.fm_records.specs.Reads.{CanRead, IsWordOf, LiesIn, read_visit, AreReads, StopsReading, AreReadsUpTo, AreReadsTo, Reads, GetsNumber}
 
 pub AreReads-none : (c : Caller) (s : Region) → AreReads c s []
 AreReads-none c s = record { reads = []; within = tt; visits = refl }
@@ -79,11 +78,6 @@ range_read c s end x own answer (goes_on y more rest p r) low high =
 
 -- ---- one number
 
--- what reading the number at a place did
-abbrev pub ReadsTo : View → View → Region → ValueSpec → ℕ → Result ℤ Refusal → Type 0
-ReadsTo old new s spec place read =
-    Did old new (DoesRead old.caller s (λ n es. ReadsNumber old.caller s.arena spec place es n) (StopsNumber old.caller s.arena spec place) read)
-
 -- a value of the segment can be got
 pub can_touch : {v : View} {s : Region} {place width : ℕ} {id : ArenaId} → id ≡ s.arena → CanRead v s → LiesIn s place width → CanTouch v id place width
 can_touch {v} {s} {place} {width} {id} same can lies =
@@ -101,7 +95,7 @@ can_touch {v} {s} {place} {width} {id} same can lies =
 module _ {old new : View} (s : Region) (spec : ValueSpec) (place : ℕ) {id : ArenaId} (same : id ≡ s.arena) (lies : LiesIn s place (width_of spec.kind)) where
   -- it was got
   pub number_done : (v : Value) (z : ℤ) → z ≡ number_of_value v → Did old new (DoesGetValue old.caller spec.kind spec.order id place (Ok v))
-      → ReadsTo old new s spec place (Ok z)
+      → Reads old new s (λ c. GetsNumber c s.arena spec place) (Ok z)
   number_done v z is d =
       let got = subst (λ (a : ArenaId). DoesGetValue old.caller spec.kind spec.order a place (Ok v) d.own) same d.does in
       record {
@@ -115,7 +109,7 @@ module _ {old new : View} (s : Region) (spec : ValueSpec) (place : ℕ) {id : Ar
 
   -- or it was refused
   pub number_stopped : (r : Refusal) → CanRead old s → Did old new (DoesGetValue old.caller spec.kind spec.order id place (Err r))
-      → ReadsTo old new s spec place (Err r)
+      → Reads old new s (λ c. GetsNumber c s.arena spec place) (Err r)
   number_stopped r can d = record {
     own = d.own;
     does = by r (subst (λ (a : ArenaId). DoesGetValue old.caller spec.kind spec.order a place (Err r) d.own) same d.does);
@@ -123,7 +117,7 @@ module _ {old new : View} (s : Region) (spec : ValueSpec) (place : ℕ) {id : Ar
   }
     where
       by : (e : Refusal) → DoesGetValue old.caller spec.kind spec.order s.arena place (Err e) d.own
-          → DoesStop old.caller s (StopsNumber old.caller s.arena spec place) e d.own
+          → AreReadsUpTo old.caller s e d.own × GetsNumber old.caller s.arena spec place (Err e) d.own
       by Closed g =
           (range_read old.caller s (place + width_of spec.kind) (record { at = place; bytes = [] }) d.own None g.1 lies.from lies.within, g.1)
       by WrongThread g = absurd (g.0 can.may)
@@ -131,17 +125,9 @@ module _ {old new : View} (s : Region) (spec : ValueSpec) (place : ℕ) {id : Ar
 
 -- ---- reading after reading
 
--- the memory went from old to now by reads of the segment
-pub record SoFar (old now : View) (s : Region) (own : List Entry) : Type 0 where
-  pub makes : Makes old now own
-  pub reads : AreReads old.caller s own
-
-pub none_so_far : (old : View) (s : Region) → SoFar old old s []
-none_so_far old s = record { makes = Makes-none old; reads = AreReads-none old.caller s }
-
--- what one call read
-pub first_so_far : {old now : View} {s : Region} {Q : List Entry → Type 0} → (d : Did old now (λ es. AreReads old.caller s es × Q es)) → SoFar old now s d.own
-first_so_far {old} {now} {s} {Q} d = record { makes = d.makes; reads = d.does.0 }
+-- nothing was read
+pub reads_none : {Q : List Entry → Type 0} (old : View) (s : Region) → Q [] → Did old old (λ es. AreReads old.caller s es × Q es)
+reads_none old s p = record { own = []; does = (AreReads-none old.caller s, p); makes = Makes-none old }
 
 -- reads end outside
 reads_before : (c : Caller) (id : ArenaId) (reads : List (ℕ × ℕ)) (es : List Entry)
@@ -157,86 +143,32 @@ stops_outside {c} {s} {own} h =
     ap (inside_after None) (h.stops ∙ ap (λ es. es ++ refused_visit c s.arena) h.reads.visits) ∙ reads_before c s.arena h.reads.reads (refused_visit c s.arena)
 
 -- so that reading can go on
-pub can_still : {old now : View} {s : Region} {own : List Entry} → CanRead old s → SoFar old now s own → CanRead now s
-can_still {old} {now} {s} {own} can h = record {
-  outside = h.makes.inside ∙ ap (λ i. inside_after i own) can.outside ∙ reads_outside h.reads;
-  known = known_still old now s (Makes-lasts old now own h.makes) can.known;
-  may = subst (MayUse s.arena) (sym h.makes.same_caller) can.may;
+pub can_still : {old now : View} {s : Region} {Q : List Entry → Type 0} → CanRead old s → Did old now (λ es. AreReads old.caller s es × Q es)
+    → CanRead now s
+can_still {old} {now} {s} can d = record {
+  outside = d.makes.inside ∙ ap (λ i. inside_after i d.own) can.outside ∙ reads_outside d.does.0;
+  known = known_still old now s (Makes-lasts old now d.own d.makes) can.known;
+  may = subst (MayUse s.arena) (sym d.makes.same_caller) can.may;
   ends = can.ends;
 }
 
--- more was read, said of the caller at the start
-pub record More (old next : View) (s : Region) (before own : List Entry) (Q : List Entry → Type 0) : Type 0 where
-  pub so_far : SoFar old next s (before ++ own)
-  pub does : Q own
+-- reads behind others, to an end or up to a refusal
+reads_after : {X : Type 0} (c : Caller) (s : Region) (es fs : List Entry) (result : Result X Refusal) → AreReads c s es → AreReadsTo c s result fs
+    → AreReadsTo c s result (es ++ fs)
+reads_after c s es fs (Ok x) p q = AreReads-append c s es fs p q
+reads_after c s es fs (Err Closed) p q = StopsReading-after c s es fs p q
+reads_after c s es fs (Err Memory) p q = AreReads-append c s es fs p q
+reads_after c s es fs (Err r) p q = absurd q
 
-pub more : {old now next : View} {s : Region} {own : List Entry} (P : Caller → List Entry → Type 0) → SoFar old now s own
-    → (d : Did now next (λ es. AreReads now.caller s es × P now.caller es)) → More old next s own d.own (P old.caller)
-more {old} {now} {next} {s} {own} P h d =
-    let here : AreReads old.caller s d.own × P old.caller d.own = subst (λ (c : Caller). AreReads c s d.own × P c d.own) h.makes.same_caller d.does in
+-- One call's reads and another's, said of the caller at the start
+pub reads_on : {X : Type 0} {old now next : View} {s : Region} {Q : List Entry → Type 0} (P W : Caller → Result X Refusal → List Entry → Type 0)
+    (result : Result X Refusal) (d : Did old now (λ es. AreReads old.caller s es × Q es)) (e : Reads now next s P result)
+    → (P old.caller result e.own → W old.caller result (d.own ++ e.own)) → Reads old next s W result
+reads_on {X} {old} {now} {next} {s} {Q} P W result d e on =
+    let here : AreReadsTo old.caller s result e.own × P old.caller result e.own =
+    subst (λ (c : Caller). AreReadsTo c s result e.own × P c result e.own) d.makes.same_caller e.does in
     record {
-      so_far = record { makes = Makes-then old now next own d.own h.makes d.makes; reads = AreReads-append old.caller s own d.own h.reads here.0 };
-      does = here.1;
+      own = d.own ++ e.own;
+      does = (reads_after old.caller s d.own e.own result d.does.0 here.0, on here.1);
+      makes = Makes-then old now next d.own e.own d.makes e.makes;
     }
-
--- it came to its end
-pub ended : {old now : View} {s : Region} {own : List Entry} (Q : List Entry → Type 0) → SoFar old now s own → Q own
-    → Did old now (λ es. AreReads old.caller s es × Q es)
-ended {old} {now} {s} {own} Q h q = record { own = own; does = (h.reads, q); makes = h.makes }
-
--- or to a refusal
-pub stopped : {old now next : View} {s : Region} {own : List Entry} (r : Refusal) (S : Caller → Refusal → List Entry → Type 0)
-    (T : Refusal → List Entry → Type 0) → SoFar old now s own
-    → ((es : List Entry) → S old.caller r es → T r (own ++ es)) → Did now next (DoesStop now.caller s (S now.caller) r)
-    → Did old next (DoesStop old.caller s T r)
-stopped {old} {now} {next} {s} {own} r S T h on d = record {
-  own = own ++ d.own;
-  does = both r (on d.own) (subst (λ (c : Caller). DoesStop c s (S c) r d.own) h.makes.same_caller d.does);
-  makes = Makes-then old now next own d.own h.makes d.makes;
-}
-  where
-    both : (e : Refusal) → (S old.caller e d.own → T e (own ++ d.own)) → DoesStop old.caller s (S old.caller) e d.own
-        → DoesStop old.caller s T e (own ++ d.own)
-    both Closed on g = (StopsReading-after old.caller s own d.own h.reads g.0, on g.1)
-    both Memory on g = (AreReads-append old.caller s own d.own h.reads g.0, on g.1)
-    both e on g = absurd g
-
--- ---- loops
-
--- What a loop has read so far. The whole is what W says of its result, or V where it stops; what is left of it then is as L says, or K.
-pub record IsUnderWay {X : Type 0} (old now : View) (s : Region) (W L : X → List Entry → Type 0) (V K : X → Refusal → List Entry → Type 0) : Type 0 where
-  pub own : List Entry
-  pub so_far : SoFar old now s own
-  pub rest : (x : X) (es : List Entry) → L x es → W x (own ++ es)
-  pub stops : (x : X) (r : Refusal) (es : List Entry) → K x r es → V x r (own ++ es)
-
--- nothing is read
-pub begins : {X : Type 0} {W L : X → List Entry → Type 0} {V K : X → Refusal → List Entry → Type 0} (old : View) (s : Region)
-    → ((x : X) (es : List Entry) → L x es → W x es) → ((x : X) (r : Refusal) (es : List Entry) → K x r es → V x r es) → IsUnderWay old old s W L V K
-begins old s rest stops = record { own = []; so_far = none_so_far old s; rest = rest; stops = stops }
-
-module _ {X : Type 0} {old now : View} {s : Region} {W L : X → List Entry → Type 0} {V K : X → Refusal → List Entry → Type 0} (a : IsUnderWay old now s W L V
-    K) where
-  -- one turn more, after which M and N say what is left
-  pub goes_on_by : {next : View} (P : Caller → List Entry → Type 0) (M : X → List Entry → Type 0) (N : X → Refusal → List Entry → Type 0)
-      → (d : Did now next (λ es. AreReads now.caller s es × P now.caller es))
-      → ((x : X) (es : List Entry) → P old.caller d.own → M x es → L x (d.own ++ es))
-      → ((x : X) (r : Refusal) (es : List Entry) → P old.caller d.own → N x r es → K x r (d.own ++ es)) → IsUnderWay old next s W M V N
-  goes_on_by {next} P M N d rest stops =
-      let m = more P a.so_far d in
-      record {
-        own = a.own ++ d.own;
-        so_far = m.so_far;
-        rest = λ x es h. subst (W x) (sym (append_assoc a.own d.own es)) (a.rest x (d.own ++ es) (rest x es m.does h));
-        stops = λ x r es h. subst (V x r) (sym (append_assoc a.own d.own es)) (a.stops x r (d.own ++ es) (stops x r es m.does h));
-      }
-
-  -- nothing is left
-  pub comes_to_end : (x : X) → L x [] → Did old now (λ es. AreReads old.caller s es × W x es)
-  comes_to_end x h = ended (W x) a.so_far (subst (W x) (append-nil a.own) (a.rest x [] h))
-
-  -- or a turn is refused
-  pub stops_short : {next : View} (x : X) (r : Refusal) (S : Caller → Refusal → List Entry → Type 0) → ((es : List Entry) → S old.caller r es → K x r es)
-      → Did now next (DoesStop now.caller s (S now.caller) r)
-      → Did old next (DoesStop old.caller s (V x) r)
-  stops_short {next} x r S on d = stopped r S (V x) a.so_far (λ es h. a.stops x r es (on es h)) d

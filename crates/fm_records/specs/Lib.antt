@@ -12,7 +12,6 @@ pub mod Query
 pub mod Reads
 pub mod Records
 pub mod Shares
-pub mod Stops
 pub mod Stored
 pub mod Texts
 pub mod Values

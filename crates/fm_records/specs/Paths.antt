@@ -1,22 +1,28 @@
 -- All values of a path in the record at a place: what adding them asks for, and what was added.
 use Rattle.std.specs.Prelude.{ℕ, List, length, Result}
 use Rattle.fm_base.specs.declared.refusal.Refusal.{Refusal}
-use Rattle.fm_base.specs.View.{View, Did}
+use Rattle.fm_base.specs.View.{View}
 use Rattle.fm_path.specs.declared.value_spec.ValueSpec.{ValueSpec}
 use Rattle.fm_path_meaning.specs.declared.dim.Dim.{Dim}
+use Rattle.fm_path_meaning.specs.Walk.{AreAdmitted}
 use Rattle.fm_segment.specs.Region.{Region}
 use Rattle.fm_records.specs.declared.found.Found.{Found}
-use Rattle.fm_records.specs.Adds.{DoesAdd, ReachesInside}
+use Rattle.fm_records.specs.Adds.{AddsNumbers, ReachesInside}
 use Rattle.fm_records.specs.Few.{HasRoom}
-use Rattle.fm_records.specs.Reads.{CanRead, value_places}
+use Rattle.fm_records.specs.Reads.{CanRead, Reads, value_places}
 use Rattle.fm_records.specs.Values.{index_lists}
 
--- they stand in the segment, and what was found has room for them
+-- some indices are admitted
+abbrev pub HasIndices : List Dim → Type 0
+HasIndices dims = (is : List ℕ) × AreAdmitted dims is
+
+-- there are some; they stand in the segment, and what was found has room for them
 pub record CanAddAll (v : View) (s : Region) (place at : ℕ) (dims : List Dim) (spec : ValueSpec) (found : Found) : Type 0 where
   pub can : CanRead v s
+  pub some : HasIndices dims
   pub inside : ReachesInside s place at dims spec
   pub room : HasRoom found (length (index_lists dims))
 
 -- they were read and added, in the order of index lists
 abbrev pub AddsAll : View → View → Region → ℕ → ℕ → List Dim → ValueSpec → Found → Found → Result (Unit {0}) Refusal → Type 0
-AddsAll old new s place at dims spec f g result = Did old new (DoesAdd old.caller s spec (value_places place at dims) f g result)
+AddsAll old new s place at dims spec f g result = Reads old new s (λ c. AddsNumbers c s.arena spec (value_places place at dims) f g) result

@@ -9,19 +9,23 @@ use Rattle.fm_segment.specs.Region.{Region}
 use Rattle.fm_query.specs.Plan.{Plan}
 use Rattle.fm_records.specs.declared.found.Found.{Found}
 use Rattle.fm_records.specs.Answers.{found_over}
-use Rattle.fm_records.specs.Reads.{AreReads, ReadsRecords, StopsReading}
-use Rattle.fm_records.specs.Stops.{StopsRecords}
+use Rattle.fm_records.specs.Adds.{AddsRecords}
+use Rattle.fm_records.specs.Reads.{AreReads, StopsReading, record_places}
 
--- all records were read, and their finds joined
+-- the segment's records were read in order, as far as reading came, and their finds joined
+abbrev pub ReadsSegment : Caller → Plan → Region → List Found → Result (Unit {0}) Refusal → List Entry → Type 0
+ReadsSegment c p s = AddsRecords c s.arena p (record_places (s.size / p.size) p.size s.first) (found_over p [])
+
+-- all were
 pub record ReadsAll (c : Caller) (p : Plan) (s : Region) (a : List Found) (own : List Entry) : Type 0 where
   pub even : s.size % p.size ≡ 0
   pub may : MayUse s.arena c
-  pub records : ReadsRecords c s.arena p (s.size / p.size) s.first (found_over p []) own a
+  pub records : ReadsSegment c p s a (Ok tt) own
   pub reads : AreReads c s own
 
--- the records were read up to a value where reading stopped
+-- or those up to a value where reading stopped
 abbrev pub StopsAll : Caller → Plan → Region → Refusal → List Entry → Type 0
-StopsAll c p s r own = (all : List Found) × StopsRecords c s.arena p (s.size / p.size) s.first (found_over p []) r own all
+StopsAll c p s r own = (all : List Found) × ReadsSegment c p s all (Err r) own
 
 -- what a query does, the refusals in the order of the checks; memory is wanting before the first record, or at a number that can't be listed
 abbrev pub DoesQuery : Caller → Plan → Region → Result (List Found) Refusal → List Entry → Type 0

@@ -1,5 +1,7 @@
 -- The numbers that stand in a width.
-use Rattle.std.specs.Prelude.{List, ℤ}
+use Rattle.std.specs.Prelude.{ℕ, List, ℤ}
+use Rattle.fm_lanes.specs.declared.value_kind.ValueKind.{ValueKind}
+use Rattle.fm_lanes.specs.declared.value_kind.ValueKind.TheVariants.{Byte, Boolean, Char, Short, Int, Long}
 use Rattle.fm_records.specs.declared.stored.Stored.{Stored}
 use Rattle.fm_records.specs.declared.stored.Stored.TheVariants.{Bytes, Shorts, Ints, Longs}
 
@@ -8,3 +10,19 @@ numbers_of (Bytes v) = v.items
 numbers_of (Shorts v) = v.items
 numbers_of (Ints v) = v.items
 numbers_of (Longs v) = v.items
+
+-- how many bytes each number takes
+abbrev pub width_in : Stored → ℕ
+width_in (Bytes v) = 1
+width_in (Shorts v) = 2
+width_in (Ints v) = 4
+width_in (Longs v) = 8
+
+-- how many each number of a kind takes
+abbrev pub number_width : ValueKind → ℕ
+number_width Byte = 1
+number_width Boolean = 1
+number_width Char = 4
+number_width Short = 2
+number_width Int = 4
+number_width Long = 8

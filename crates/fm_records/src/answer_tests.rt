@@ -3,10 +3,11 @@ ghost use Rattle.fm_records.specs.Joined.{CanJoin, CanJoinFound};
 
 use crate::answer::of_no_records;
 use crate::found::Found;
-use crate::laws::answers_are_of_the_query;
-use crate::printing::{lines, print_answer};
 use crate::query::query_segment;
 use crate::query_tests::{order, two_orders};
+use crate::tests::lines;
+use crate::writing::write_answer;
+use fm_io::SureSink;
 use fm_mono::Mono;
 use fm_query::{Query, check_record, parse_query};
 use fm_segment::Segment;
@@ -52,11 +53,11 @@ fn answers_over_no_records(rt: HostRuntime) -> Result<(), Fail> {
         "count,sum(.price),min(.price),max(.tags[]),list(.tags[])",
     )?;
     let answer = of_no_records(alloc, &q)?;
-    answers_are_of_the_query();
-    let text = print_answer(alloc, &q, &answer)?;
+    let mut out = SureSink::new(alloc);
+    write_answer(alloc, &mut out, &q, &answer)?;
     assert_eq!(rt;
-        text.as_str(),
-        "count 0\nsum(.price) 0\nmin(.price) none\nmax(.tags[]) none\nlist(.tags[])\n"
+        out.written(),
+        b"count 0\nsum(.price) 0\nmin(.price) none\nmax(.tags[]) none\nlist(.tags[])\n".as_slice()
     );
     Ok(())
 }

@@ -47,22 +47,18 @@ impl Found {
     pub(crate) fn lengthen(&mut self, next: &Found) -> Result<(), Refusal>
         ensures { Becomes self.old self.new (lengthened self.old next.now) result }
     {
-        if let Found::Listed(more) = next {
-            if let Found::Listed(numbers) = self {
-                return numbers.append(more);
-            }
+        match (self, next) {
+            (Found::Listed(numbers), Found::Listed(more)) => numbers.append(more),
+            _ => Ok(()),
         }
-        Ok(())
     }
 
     /// Takes the last listed numbers away again, as many as the next has.
     pub(crate) fn shorten(&mut self, next: &Found)
         ensures { self.new ≡ shortened self.old next.now }
     {
-        if let Found::Listed(more) = next {
-            if let Found::Listed(numbers) = self {
-                numbers.shorten(more);
-            }
+        if let (Found::Listed(numbers), Found::Listed(more)) = (self, next) {
+            numbers.shorten(more);
         }
     }
 
@@ -71,28 +67,12 @@ impl Found {
         requires { CanJoinFound self.old next.now }
         ensures { self.new ≡ summed self.old next.now }
     {
-        match next {
-            Found::Count(n) => {
-                if let Found::Count(count) = self {
-                    *count += *n;
-                }
-            }
-            Found::Sum(n) => {
-                if let Found::Sum(sum) = self {
-                    *sum += *n;
-                }
-            }
-            Found::Least(n) => {
-                if let Found::Least(least) = self {
-                    *least = lesser(*least, *n);
-                }
-            }
-            Found::Greatest(n) => {
-                if let Found::Greatest(greatest) = self {
-                    *greatest = greater(*greatest, *n);
-                }
-            }
-            Found::Listed(_) => {}
+        match (self, next) {
+            (Found::Count(count), Found::Count(n)) => *count += *n,
+            (Found::Sum(sum), Found::Sum(n)) => *sum += *n,
+            (Found::Least(least), Found::Least(n)) => *least = lesser(*least, *n),
+            (Found::Greatest(greatest), Found::Greatest(n)) => *greatest = greater(*greatest, *n),
+            _ => {}
         }
     }
 

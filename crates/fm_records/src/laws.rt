@@ -44,7 +44,6 @@ pub fn places_have_the_bytes()
 {}
 
 /// The answer of a query whose Reads found the bytes of one list is that over these bytes.
-#[tactic(auto, using(crate::proofs::AnsweringBytes::answer_of_bytes))]
 pub fn answers_over_bytes()
     ensures { AnswersOverBytes }
 {}
@@ -55,7 +54,6 @@ pub fn reads_what_is_asked()
 {}
 
 /// An answer over a segment comes from no more numbers than the segment has bytes.
-#[tactic(auto, using(crate::proofs::Few::answers_few))]
 pub fn answers_are_few()
     ensures { AnswersAreFew }
 {}

@@ -7,7 +7,6 @@ mod answer_tests;
 mod found;
 mod laws;
 mod numbers;
-mod printing;
 mod query;
 #[cfg(test)]
 mod query_tests;
@@ -17,6 +16,7 @@ mod stored;
 #[cfg(test)]
 mod tests;
 mod values;
+mod writing;
 
 pub use answer::{Answer, of_no_records};
 pub use fm_query::{Query, check_record, parse_query};
@@ -28,5 +28,5 @@ pub use laws::{
     spared_are_found,
 };
 pub use numbers::Numbers;
-pub use printing::print_answer;
 pub use query::query_segment;
+pub use writing::write_answer;

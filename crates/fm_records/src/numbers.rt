@@ -1,10 +1,10 @@
-ghost use Rattle.std.specs.Prelude.{◌≡◌, ◌++◌, ◌∷◌, [], ◌<◌, ◌-◌, length, slice_index_or, take, pos, IfOk, IfErr};
+ghost use Rattle.std.specs.Prelude.{◌≡◌, ◌++◌, ◌∷◌, [], ◌<◌, ◌-◌, length, slice_index_or, take, pos, IfOk};
 ghost use Rattle.fm_records.specs.Kept.{Becomes};
 
 use crate::stored::Stored;
 use fm_base::Refusal;
 use fm_lanes::ValueKind;
-use std::alloc::Global;
+use std::alloc::{AllocError, Global};
 use std::marker::Model;
 
 /// Listed numbers, seen as their list.
@@ -67,40 +67,31 @@ impl Numbers {
     pub(crate) fn push(&mut self, number: i64) -> Result<(), Refusal>
         ensures { Becomes self.old self.new (self.old ++ number ∷ []) result }
     {
-        match self.stored.put(number) {
-            Ok(true) => Ok(()),
-            Ok(false) => self.widen(number),
-            Err(_) => Err(Refusal::Memory),
+        if self.stored.put(number)? {
+            return Ok(());
         }
+        self.widen(number)
     }
 
     /// Makes all of them longs, and adds one more.
     fn widen(&mut self, number: i64) -> Result<(), Refusal>
         ensures { Becomes self.old self.new (self.old ++ number ∷ []) result }
     {
-        let mut longs = match self.longs() {
-            Ok(longs) => longs,
-            Err(refusal) => return Err(refusal),
-        };
-        match longs.push(number) {
-            Ok(()) => {
-                self.stored = Stored::Longs(longs);
-                Ok(())
-            }
-            Err(_) => Err(Refusal::Memory),
+        let mut longs = self.longs()?;
+        if longs.push(number).is_err() {
+            return Err(Refusal::Memory);
         }
+        self.stored = Stored::Longs(longs);
+        Ok(())
     }
 
-    /// The same numbers as longs. Refused: `Memory`.
-    fn longs(&self) -> Result<Vec<i64>, Refusal>
-        ensures ok { IfOk result (λ longs. longs.items ≡ self.now) }
-        ensures memory { IfErr result (λ refusal. refusal ≡ Refusal.Memory) }
+    /// The same numbers as longs.
+    fn longs(&self) -> Result<Vec<i64>, AllocError>
+        ensures { IfOk result (λ longs. longs.items ≡ self.now) }
     {
         let mut longs = Vec::new(self.alloc);
         for k in 0..self.len() {
-            if longs.push(self.at(k)).is_err() {
-                return Err(Refusal::Memory);
-            }
+            longs.push(self.at(k))?;
         }
         Ok(longs)
     }
@@ -109,11 +100,10 @@ impl Numbers {
     pub(crate) fn append(&mut self, more: &Numbers) -> Result<(), Refusal>
         ensures { Becomes self.old self.new (self.old ++ more.now) result }
     {
-        match self.stored.extend(&more.stored) {
-            Ok(true) => Ok(()),
-            Ok(false) => self.append_each(more),
-            Err(_) => Err(Refusal::Memory),
+        if self.stored.extend(&more.stored)? {
+            return Ok(());
         }
+        self.append_each(more)
     }
 
     /// The same one by one, for those of another width.

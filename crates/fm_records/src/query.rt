@@ -1,9 +1,8 @@
 ghost use Rattle.std.specs.Prelude.{◌/◌};
-ghost use Rattle.fm_base.specs.View.{Did};
 ghost use Rattle.fm_records.specs.Few.{AreFew};
+ghost use Rattle.fm_records.specs.Adds.{AddsRecords};
 ghost use Rattle.fm_records.specs.Learnt.{CanQuery, Queried};
-ghost use Rattle.fm_records.specs.Reads.{CanRead, DoesRead, ReadsRecords};
-ghost use Rattle.fm_records.specs.Stops.{StopsRecords};
+ghost use Rattle.fm_records.specs.Reads.{CanRead, Reads, record_places};
 
 use crate::answer::{Answer, of_no_records};
 use crate::found::Found;
@@ -58,11 +57,9 @@ fn add_records<M: Memory>(
 ) -> Result<(), Refusal>
     requires can { CanRead (M.view m.old) s.now }
     requires few { AreFew 0 q.now found.old }
-    ensures { Did (M.view m.old) (M.view m.new) (DoesRead (M.view m.old).caller s.now
-        (λ _ own. ReadsRecords (M.view m.old).caller s.now.arena q.now (s.now.size / q.now.size) s.now.first
-        found.old own found.new)
-        (λ r own. StopsRecords (M.view m.old).caller s.now.arena q.now (s.now.size / q.now.size) s.now.first
-        found.old r own found.new) result) }
+    ensures { Reads (M.view m.old) (M.view m.new) s.now
+        (λ c. AddsRecords c s.now.arena q.now (record_places (s.now.size / q.now.size) q.now.size s.now.first)
+        found.old found.new) result }
 {
     let size = q.record_size();
     let count = s.size() / size;

@@ -1,8 +1,8 @@
 ghost use Rattle.std.specs.Prelude.{◌≡◌, None};
 ghost use Rattle.fm_segment.specs.Access.{IsKnown};
 
-use crate::printing::print_answer;
 use crate::query::query_segment;
+use crate::tests::lines;
 use fm_base::{Kind, Memory, Refusal};
 use fm_lanes::{Value, ValueKind};
 use fm_layout::Layout;
@@ -41,18 +41,13 @@ fn asked<R: Abort, M: Memory>(
     ensures outside { (M.view m.new).inside ≡ None }
     ensures known { IsKnown (M.view m.new) s.now }
 {
-    match check_record(layout) {
-        Ok(()) => {}
-        Err(refusal) => return Err(refusal),
-    }
-    let query = match parse_query(alloc, text, layout) {
-        Ok(query) => query,
-        Err(refusal) => return Err(refusal),
-    };
+    check_record(layout)?;
+    let query = parse_query(alloc, text, layout)?;
     assert_eq!(rt; s.first() % query.record_alignment(), 0);
-    match query_segment(alloc, m, &query, s) {
-        Ok(answer) => print_answer(alloc, &query, &answer),
-        Err(refusal) => Err(refusal),
+    let answer = query_segment(alloc, m, &query, s)?;
+    match lines(alloc, query.items(), answer.found()) {
+        Ok(text) => Ok(text),
+        Err(_) => Err(Refusal::Memory),
     }
 }
 

@@ -1,13 +1,10 @@
-ghost use Rattle.std.specs.Prelude.{◌≡◌, [], true};
+ghost use Rattle.std.specs.Prelude.{◌≡◌, [], true, false};
 ghost use Rattle.std.specs.List.{AllByRecursion, AllZip};
-ghost use Rattle.fm_base.specs.View.{Did};
 ghost use Rattle.fm_records.specs.Answers as answers;
 ghost use Rattle.fm_records.specs.Few.{IsOpen};
 ghost use Rattle.fm_records.specs.Adds.{AddsItem, AddsItems, IsItemReadable, IsTestable};
-ghost use Rattle.fm_records.specs.Reads.{CanRead, DoesRead};
-ghost use Rattle.fm_records.specs.Adds.{StopsAddingItem, StopsAddingItems};
-ghost use Rattle.fm_records.specs.Reads.{Tests, TestsConditions};
-ghost use Rattle.fm_records.specs.Stops.{StopsTest, StopsTests};
+ghost use Rattle.fm_records.specs.Reads.{CanRead, Reads, Tests, TestsConditions};
+ghost use Rattle.fm_records.specs.Paths.{HasIndices};
 ghost use Rattle.fm_records.specs.Values.{index_lists};
 
 use crate::found::Found;
@@ -29,9 +26,8 @@ pub(crate) fn chooses<M: Memory>(
 ) -> Result<bool, Refusal>
     requires can { CanRead (M.view m.old) s.now }
     requires testable { AllByRecursion (IsTestable s.now place) conditions.now }
-    ensures { Did (M.view m.old) (M.view m.new) (DoesRead (M.view m.old).caller s.now
-        (λ b own. TestsConditions (M.view m.old).caller s.now.arena place conditions.now own b)
-        (StopsTests (M.view m.old).caller s.now.arena place conditions.now) result) }
+    ensures { Reads (M.view m.old) (M.view m.new) s.now
+        (λ c. TestsConditions c s.now.arena place conditions.now) result }
 {
     for condition in conditions {
         match holds_at(m, s, place, condition) {
@@ -52,9 +48,7 @@ fn holds_at<M: Memory>(
 ) -> Result<bool, Refusal>
     requires can { CanRead (M.view m.old) s.now }
     requires testable { IsTestable s.now place condition.now }
-    ensures { Did (M.view m.old) (M.view m.new) (DoesRead (M.view m.old).caller s.now
-        (λ b own. Tests (M.view m.old).caller s.now.arena place condition.now own b)
-        (StopsTest (M.view m.old).caller s.now.arena place condition.now) result) }
+    ensures { Reads (M.view m.old) (M.view m.new) s.now (λ c. Tests c s.now.arena place condition.now) result }
 {
     let at = place + condition.path.offset();
     match number_at(m, s, at, *condition.path.value()) {
@@ -91,9 +85,8 @@ pub(crate) fn add_items<M: Memory>(
     requires can { CanRead (M.view m.old) s.now }
     requires readable { AllByRecursion (IsItemReadable s.now place) items.now }
     requires open { AllZip IsOpen items.now found.old }
-    ensures { Did (M.view m.old) (M.view m.new) (DoesRead (M.view m.old).caller s.now
-        (λ _ own. AddsItems (M.view m.old).caller s.now.arena place items.now found.old found.new own)
-        (StopsAddingItems (M.view m.old).caller s.now.arena place items.now found.old found.new) result) }
+    ensures { Reads (M.view m.old) (M.view m.new) s.now
+        (λ c. AddsItems c s.now.arena place items.now found.old found.new) result }
 {
     for k in 0..items.len() {
         match add_item(m, s, place, &items[k], &mut found[k]) {
@@ -115,9 +108,8 @@ fn add_item<M: Memory>(
     requires can { CanRead (M.view m.old) s.now }
     requires readable { IsItemReadable s.now place item.now }
     requires open { IsOpen item.now found.old }
-    ensures { Did (M.view m.old) (M.view m.new) (DoesRead (M.view m.old).caller s.now
-        (λ _ own. AddsItem (M.view m.old).caller s.now.arena place item.now.asked found.old found.new own)
-        (StopsAddingItem (M.view m.old).caller s.now.arena place item.now.asked found.old found.new) result) }
+    ensures { Reads (M.view m.old) (M.view m.new) s.now
+        (λ c. AddsItem c s.now.arena place item.now.asked found.old found.new) result }
 {
     match &item.asked {
         Asked::Count => {
@@ -134,14 +126,13 @@ fn add_item<M: Memory>(
     }
 }
 
-/// Whether a bound is 0: then no index is admitted.
+/// Whether a bound is 0: then no indices are admitted.
 fn has_no_values(dims: &[Dim]) -> bool
-    ensures { result ≡ true → index_lists dims.now ≡ [] }
+    ensures none { result ≡ true → index_lists dims.now ≡ [] }
+    ensures some { result ≡ false → HasIndices dims.now }
 {
-    for dim in dims {
-        if dim.bound == 0 {
-            return true;
-        }
+    match dims {
+        [] => false,
+        [dim, rest @ ..] => dim.bound == 0 || has_no_values(rest),
     }
-    false
 }

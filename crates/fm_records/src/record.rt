@@ -1,7 +1,7 @@
-ghost use Rattle.fm_base.specs.View.{Did};
+ghost use Rattle.std.specs.Prelude.{◌∷◌, []};
 ghost use Rattle.fm_records.specs.Few.{HaveRoom};
-ghost use Rattle.fm_records.specs.Adds.{AddsRecord, StopsAddingRecord};
-ghost use Rattle.fm_records.specs.Reads.{CanRead, DoesRead, LiesIn};
+ghost use Rattle.fm_records.specs.Adds.{AddsRecords};
+ghost use Rattle.fm_records.specs.Reads.{CanRead, LiesIn, Reads};
 
 use crate::found::Found;
 use crate::querying::{add_items, chooses};
@@ -23,9 +23,8 @@ pub(crate) fn add_record<M: Memory>(
     requires can { CanRead (M.view m.old) s.now }
     requires lies { LiesIn s.now place q.now.size }
     requires room { HaveRoom q.now found.old q.now.size }
-    ensures { Did (M.view m.old) (M.view m.new) (DoesRead (M.view m.old).caller s.now
-        (λ _ own. AddsRecord (M.view m.old).caller s.now.arena q.now place found.old found.new own)
-        (StopsAddingRecord (M.view m.old).caller s.now.arena q.now place found.old found.new) result) }
+    ensures { Reads (M.view m.old) (M.view m.new) s.now
+        (λ c. AddsRecords c s.now.arena q.now (place ∷ []) found.old found.new) result }
 {
     match chooses(m, s, place, q.conditions()) {
         Ok(true) => add_items(m, s, place, q.items(), found),

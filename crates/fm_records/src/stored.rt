@@ -1,5 +1,6 @@
-ghost use Rattle.std.specs.Prelude.{◌≡◌, ◌++◌, ◌∷◌, [], ◌<◌, length, slice_index_or, take, pos, true, false, OnErr};
-ghost use Rattle.fm_records.specs.Stored.{numbers_of};
+ghost use Rattle.std.specs.Prelude.{◌≡◌, ◌++◌, ◌∷◌, [], ◌<◌, length, slice_index_or, take, pos, true, false, ◌↔◌, IfOk, OnErr};
+ghost use Rattle.fm_bytes.specs.Signed.{FitsBytes};
+ghost use Rattle.fm_records.specs.Stored.{number_width, numbers_of, width_in};
 
 use fm_lanes::ValueKind;
 use std::alloc::{AllocError, Global};
@@ -16,7 +17,8 @@ pub(crate) enum Stored {
 impl Stored {
     /// No numbers yet, of this kind. Takes no memory.
     pub fn new(alloc: Global, kind: ValueKind) -> Stored
-        ensures { numbers_of result ≡ [] }
+        ensures none { numbers_of result ≡ [] }
+        ensures width { width_in result ≡ number_width kind }
     {
         match kind {
             ValueKind::Byte | ValueKind::Boolean => Stored::Bytes(Vec::new(alloc)),
@@ -56,6 +58,7 @@ impl Stored {
     pub fn put(&mut self, number: i64) -> Result<bool, AllocError>
         ensures put { result ≡ Ok true → numbers_of self.new ≡ numbers_of self.old ++ number ∷ [] }
         ensures wide { result ≡ Ok false → numbers_of self.new ≡ numbers_of self.old }
+        ensures fits { IfOk result (λ did. did ≡ true ↔ FitsBytes (width_in self.old) number) }
         ensures same { OnErr result (numbers_of self.new ≡ numbers_of self.old) }
     {
         match self {
@@ -86,6 +89,7 @@ impl Stored {
     pub fn extend(&mut self, more: &Stored) -> Result<bool, AllocError>
         ensures put { result ≡ Ok true → numbers_of self.new ≡ numbers_of self.old ++ numbers_of more.now }
         ensures other { result ≡ Ok false → numbers_of self.new ≡ numbers_of self.old }
+        ensures width { IfOk result (λ did. did ≡ true ↔ width_in self.old ≡ width_in more.now) }
         ensures same { OnErr result (numbers_of self.new ≡ numbers_of self.old) }
     {
         match (self, more) {

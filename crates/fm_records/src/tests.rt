@@ -1,7 +1,8 @@
 use crate::answer::Answer;
 use crate::found::{Found, greater, lesser};
 use crate::numbers::Numbers;
-use crate::printing::lines;
+use crate::writing::send_lines;
+use fm_io::{Fault, SureSink};
 use fm_lanes::ValueKind;
 use fm_layout::Layout;
 use fm_path::{parse_path, resolve};
@@ -17,6 +18,14 @@ fn item(alloc: Global, text: &str, fold: Fold) -> Result<Item, Fail> {
         text: Text::of(String::from_str(alloc, text)?),
         asked: Asked::Of(fold, resolve(alloc, &layout, &path)?),
     })
+}
+
+/// The lines of these items: all of a short text pends.
+pub(crate) fn lines(alloc: Global, items: &[Item], found: &[Found]) -> Result<String, Fault> {
+    let mut out = SureSink::new(alloc);
+    let mut text = String::new(alloc);
+    send_lines(&mut out, &mut text, items, found)?;
+    Ok(text)
 }
 
 /// The line of this item.

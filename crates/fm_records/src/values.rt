@@ -1,11 +1,9 @@
 ghost use Rattle.std.specs.Prelude.{◌≡◌, ◌∷◌, []};
-ghost use Rattle.fm_base.specs.View.{Did};
 ghost use Rattle.fm_lanes.specs.Kind.{width_of};
 ghost use Rattle.fm_path_meaning.specs.Steady.{IsInside};
 ghost use Rattle.fm_path_meaning.specs.Walk.{reach};
 ghost use Rattle.fm_records.specs.Paths.{CanAddAll, AddsAll};
-ghost use Rattle.fm_records.specs.Reads.{CanRead, DoesRead, LiesIn, ReadsNumber};
-ghost use Rattle.fm_records.specs.Stops.{StopsNumber};
+ghost use Rattle.fm_records.specs.Reads.{CanRead, GetsNumber, LiesIn, Reads};
 
 use crate::found::Found;
 use fm_access::get_value;
@@ -23,9 +21,7 @@ pub(crate) fn number_at<M: Memory>(
 ) -> Result<i64, Refusal>
     requires can { CanRead (M.view m.old) s.now }
     requires lies { LiesIn s.now place (width_of value.kind) }
-    ensures { Did (M.view m.old) (M.view m.new) (DoesRead (M.view m.old).caller s.now
-        (λ n own. ReadsNumber (M.view m.old).caller s.now.arena value place own n)
-        (StopsNumber (M.view m.old).caller s.now.arena value place) result) }
+    ensures { Reads (M.view m.old) (M.view m.new) s.now (λ c. GetsNumber c s.now.arena value place) result }
 {
     match get_value(m, s.arena(), place, value.kind, value.order) {
         Ok(value) => Ok(value.number()),
@@ -55,7 +51,8 @@ fn add_value<M: Memory>(
 
 /// The offset an index further on, or back.
 fn reach_of(at: u64, dim: Dim, index: u64) -> u64
-    ensures { IsInside at dim.stride index → result ≡ reach at dim.stride index }
+    requires { IsInside at dim.stride index }
+    ensures { result ≡ reach at dim.stride index }
 {
     at.wrapping_add(dim.stride.cast_unsigned().wrapping_mul(index))
 }

@@ -1,17 +1,18 @@
 -- What a crew adds to a word.
 use Rattle.std.proofs.Common.{◌≡◌, ◌≢◌, ℕ, ◌+◌, ◌/◌, ◌<◌, ◌≤◌, ◌==◌, ◌&&◌, Bool, true, false, if◌then◌else◌, List, [], ◌∷◌, ◌++◌, slice_index, refl, sym, ap, ◌∙◌, subst, inl, inr, ⊎_elim, arith, Ok}
-use Rattle.std.specs.Prelude.{◌⊎◌, cond}
+use Rattle.std.specs.Prelude.{◌⊎◌}
 use Rattle.std.specs.List.{AllByRecursion, flat_map}
 use Rattle.std.proofs.lemmas.Bool.Decides.{nat_tests}
 use Rattle.fm_lists.specs.Among.{AreApart, IsAmong}
-use Rattle.fm_lists.proofs.Each.{all_both}
+use Rattle.fm_lists.proofs.Each.{all_both, all_weaker}
 use Rattle.fm_base.specs.declared.arena_id.ArenaId.{ArenaId}
 use Rattle.fm_base.specs.declared.caller.Caller.{Caller}
-use Rattle.fm_base.specs.Arenas.{are_one, same_id}
+use Rattle.fm_base.specs.Arenas.{same_id}
 use Rattle.fm_base.specs.Calls.{Entry}
-use Rattle.fm_base.specs.Counting.{OnlyAdds, adds_to, all_added, total}
+use Rattle.fm_base.specs.Counting.{OnlyAdds, all_added, total}
 use Rattle.fm_base.specs.Histories.{made_by}
-use Rattle.fm_base.proofs.Names.{are_one-not, are_one-self, same_id-self}
+use Rattle.fm_base.proofs.Counting.{added_by}
+use Rattle.fm_base.proofs.Names.{same_id-self}
 use Rattle.fm_segment.specs.Region.{Region}
 use Rattle.fm_records.specs.Reads.{AreReads, read_visit}
 use Rattle.fm_workers.specs.Adding.{AddsAt, AddsBelow, adds, count_word, none_yet, nothing, one_more}
@@ -132,68 +133,8 @@ crew_adds w more cs ts us ns d h = absurd d
 
 -- ---- by callers, where others leave the word
 
-total_both : (f g : Caller → ℕ) (cs : List Caller) → total (λ c. f c + g c) cs ≡ total f cs + total g cs
-total_both f g [] = refl
-total_both f g (c ∷ cs) = let h = total_both f g cs in omega (arith, h)
-
-total_same : (f g : Caller → ℕ) (cs : List Caller) → ((c : Caller) → f c ≡ g c) → total f cs ≡ total g cs
-total_same f g [] e = refl
-total_same f g (c ∷ cs) e = let h = total_same f g cs e in let k = e c in omega (arith, k, h)
-
--- what one caller counts for another
-abbrev share : Caller → ℕ → Caller → ℕ
-share c k d = if are_one c d then k else 0
-
-none_of : (c : Caller) (k : ℕ) (cs : List Caller) → ¬ (IsAmong c cs) → total (share c k) cs ≡ 0
-none_of c k [] out = refl
-none_of c k (d ∷ ds) out =
-    let first : share c k d ≡ 0 = ap (λ b. if b then k else 0) (are_one-not c d (λ e. out (inl e))) in
-    let h = none_of c k ds (λ i. out (inr i)) in
-    omega (arith, first, h)
-
-nothing_of : (c : Caller) (k : ℕ) (cs : List Caller) → k ≡ 0 → total (share c k) cs ≡ 0
-nothing_of c k [] e = refl
-nothing_of c k (d ∷ ds) e =
-    let first : share c k d ≡ 0 = elim (are_one c d) as (λ b. (if b then k else 0) ≡ 0) [ true ↦ e | false ↦ refl ] in
-    let h = nothing_of c k ds e in
-    omega (arith, first, h)
-
-one_of : (c : Caller) (k : ℕ) (cs : List Caller) → IsAmong c cs → AreApart cs → total (share c k) cs ≡ k
-one_of c k [] i apart = absurd i
-one_of c k (d ∷ ds) (inl is) apart =
-    let test : are_one c d ≡ true = subst (λ (x : Caller). are_one c x ≡ true) is (are_one-self c) in
-    let first : share c k d ≡ k = ap (λ b. if b then k else 0) test in
-    let h = none_of c k ds (λ i. apart.0 (subst (λ (x : Caller). IsAmong x ds) is i)) in
-    omega (arith, first, h)
-one_of c k (d ∷ ds) (inr i) apart =
-    let other : c ≢ d = (λ e. apart.0 (subst (λ (x : Caller). IsAmong x ds) e i)) in
-    let first : share c k d ≡ 0 = ap (λ b. if b then k else 0) (are_one-not c d other) in
-    let h = one_of c k ds i apart.1 in
-    omega (arith, first, h)
-
-added_first : (id : ArenaId) (word : ℕ) (c : Caller) (e : Entry) (es : List Entry)
-    → all_added id word (made_by c (e ∷ es)) ≡ share e.caller (adds_to id word e.call) c + all_added id word (made_by c es)
-added_first id word c e es =
-    elim (are_one e.caller c) as (λ b. all_added id word (cond b (e ∷ made_by c es) (made_by c es))
-    ≡ (if b then adds_to id word e.call else 0) + all_added id word (made_by c es)) [
-      | true ↦ refl
-      | false ↦ omega arith
-    ]
-
-none_made : (id : ArenaId) (word : ℕ) (cs : List Caller) → total (λ c. all_added id word (made_by c [])) cs ≡ 0
-none_made id word [] = refl
-none_made id word (c ∷ cs) = let h = none_made id word cs in omega (arith, h)
-
 -- What was added is the sum of what each of the crew added.
 pub by_crew : (id : ArenaId) (word : ℕ) (es : List Entry) (cs : List Caller) → AreApart cs
     → AllByRecursion (λ e. IsAmong e.caller cs ⊎ LeavesWord id word e.call) es
     → all_added id word es ≡ total (λ c. all_added id word (made_by c es)) cs
-by_crew id word [] cs apart h = sym (none_made id word cs)
-by_crew id word (e ∷ es) cs apart h =
-    let k = adds_to id word e.call in
-    let rest : Caller → ℕ = λ c. all_added id word (made_by c es) in
-    let each = total_same (λ c. all_added id word (made_by c (e ∷ es))) (λ c. share e.caller k c + rest c) cs (λ c. added_first id word c e es) in
-    let both = total_both (share e.caller k) rest cs in
-    let one : total (share e.caller k) cs ≡ k = ⊎_elim (λ (i : IsAmong e.caller cs). one_of e.caller k cs i apart)
-    (λ (l : LeavesWord id word e.call). nothing_of e.caller k cs l.1 ∙ sym l.1) h.0 in
-    ap (λ m. k + m) (by_crew id word es cs apart h.1) ∙ ap (λ m. m + total rest cs) (sym one) ∙ sym (each ∙ both)
+by_crew id word es cs apart h = added_by id word es cs apart (all_weaker _ _ (λ e. ⊎_elim (λ i. inl i) (λ (l : LeavesWord id word e.call). inr l.1)) es h)

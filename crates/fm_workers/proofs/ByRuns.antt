@@ -1,5 +1,5 @@
 -- The numbers that a query lists, read and counted some records at a time.
-use Rattle.std.proofs.Common.{◌≡◌, ℕ, zero, suc, ◌+◌, ◌-◌, ◌*◌, ◌/◌, ◌%◌, ◌^◌, ◌≤◌, Option, Some, None, List, [], ◌∷◌, ◌++◌, length, map, refl, sym, ap, ◌∙◌, subst, append_assoc, length-append, arith, Ok, Err}
+use Rattle.std.proofs.Common.{◌≡◌, ℕ, suc, ◌+◌, ◌-◌, ◌*◌, ◌/◌, ◌%◌, ◌^◌, ◌≤◌, Result, None, List, [], ◌∷◌, ◌++◌, length, map, refl, sym, ap, ◌∙◌, subst, append_assoc, length-append, arith, Ok, Err}
 use Rattle.std.specs.Prelude.{ℤ}
 use Rattle.std.specs.List.{AllByRecursion}
 use Rattle.std.proofs.lemmas.List.{append-nil, length-map}
@@ -25,11 +25,15 @@ use Rattle.fm_query.specs.declared.item.Item.{Item}
 use Rattle.fm_records.specs.declared.found.Found.{Found}
 use Rattle.fm_records.specs.declared.found.Found.TheVariants.{Listed}
 use Rattle.fm_records.specs.Answers.{chosen as chosen_of, found_in, found_over, item_found}
+use Rattle.fm_records.specs.Adds.{AddsRecords, all_added}
 use Rattle.fm_records.specs.Few.{how_many}
+use Rattle.fm_records.specs.Joined.{joined}
 use Rattle.fm_records.specs.Learnt.{CanQuery, Queried}
 use Rattle.fm_records.specs.Query.{DoesQuery}
-use Rattle.fm_records.specs.Reads.{AreReads, FindsItem, FindsItems, ReadsNumbers, ReadsRecord, ReadsRecords, chosen, no_item, no_more, no_record, one_item, one_more, one_record, passed_over, value_places, with_record}
+use Rattle.fm_records.specs.Reads.{all_done, AreReads, chosen, comes_short, FindsAsked, FindsItems, InOrder, one_more, passed_over, ReadsRecord, record_places, TakesNumbers, untested, value_places}
 use Rattle.fm_records.specs.Values.{index_lists}
+use Rattle.fm_records.proofs.Behind.{length-record_places, places_split}
+use Rattle.fm_records.proofs.Ordered.{adds_on, all_added-append}
 use Rattle.fm_records.proofs.Plans.{IsItemFew, plan_items_few}
 use Rattle.fm_records.proofs.Visiting.{AreReads-append, AreReads-none, StopsReading-after}
 use Rattle.fm_workers.specs.Counts.{AreCounts, AreTallied, CountsToo, HasRoomFor, IsTally, ListsBytes, listed}
@@ -45,90 +49,68 @@ record Lists (most : ℕ) (fs : List Found) : Type 0 where
   is : fs ≡ Listed numbers ∷ []
   few : length numbers ≤ most
 
-as_many : {c : Caller} {id : ArenaId} (spec : ValueSpec) (places : List ℕ) (own : List Entry) (ns : List ℤ) → ReadsNumbers c id spec places own ns
-    → length ns ≡ length places
-as_many spec places own ns no_more = refl
-as_many spec places own ns (one_more {places = left} first rest n more r h) = ap suc (as_many spec left rest more h)
+as_many : {c : Caller} {id : ArenaId} (spec : ValueSpec) (places : List ℕ) (result : Result (Unit {0}) Refusal) (own : List Entry) (ns : List ℤ)
+    → TakesNumbers c id spec places result own ns → result ≡ Ok tt → length ns ≡ length places
+as_many spec places result own ns all_done e = refl
+as_many spec places result own ns (one_more {xs = left} first rest given more h others) e =
+    ap (λ gs. length (gs ++ more)) h.2 ∙ ap suc (as_many spec left result rest more others e)
+as_many spec places result own ns (comes_short first given apart h) e = absurd (apart e)
 
-asked_lists : (c : Caller) (id : ArenaId) (place most : ℕ) (a : Asked) (own : List Entry) (found : Found) → ListsBytes a → how_many a ≤ most
-    → FindsItem c id place a own found → Lists most (found ∷ [])
-asked_lists c id place most (asked.Of fold.All r) own found lists few h =
+asked_lists : (c : Caller) (id : ArenaId) (place most : ℕ) (a : Asked) (own : List Entry) (fs : List Found) → ListsBytes a → how_many a ≤ most
+    → FindsAsked c id place a (Ok tt) own fs → Lists most fs
+asked_lists c id place most (asked.Of fold.All r) own fs lists few h =
     let at : List ℕ = value_places place r.offset r.dims in
-    let long : length h.0 ≡ length at = as_many r.value at own h.0 h.1 in
+    let long : length h.0 ≡ length at = as_many r.value at (Ok tt) own h.0 h.1 refl in
     let many : length at ≡ length (index_lists r.dims) = length-map (index_lists r.dims) (λ is. place + offset_at r.offset r.dims is) in
-    record { numbers = h.0; is = ap (λ (f : Found). f ∷ []) h.2; few = omega (arith, few, long, many) }
-asked_lists c id place most a own found lists few h = absurd lists
+    record { numbers = h.0; is = h.2; few = omega (arith, few, long, many) }
+asked_lists c id place most a own fs lists few h = absurd lists
 
-items_list : (c : Caller) (id : ArenaId) (place most : ℕ) (items : List Item) (own : List Entry) (fs : List Found) → AreTallied items
-    → AllByRecursion (IsItemFew most) items → FindsItems c id place items own fs → Lists most fs
-items_list c id place most (item ∷ []) own fs tally few (one_item found more one rest h no_item) =
-    asked_lists c id place most item.asked one found tally few.0 h
-items_list c id place most items own fs tally few h = absurd tally
+items_list : (c : Caller) (id : ArenaId) (place most : ℕ) (items : List Item) (result : Result (Unit {0}) Refusal) (own : List Entry) (fs : List Found)
+    → AreTallied items → AllByRecursion (IsItemFew most) items → FindsItems c id place items result own fs → result ≡ Ok tt → Lists most fs
+items_list c id place most (item ∷ []) result own fs tally few (one_more one rest given more h all_done) e =
+    let l = asked_lists c id place most item.asked one given tally few.0 h in
+    record { numbers = l.numbers; is = ap (λ gs. gs ++ []) l.is; few = l.few }
+items_list c id place most (item ∷ []) result own fs tally few (comes_short one given apart h) e = absurd (apart e)
+items_list c id place most items result own fs tally few h e = absurd tally
 
--- what a record adds to listed numbers
-record AddsNumbers (most : ℕ) (seen : Option (List Found)) : Type 0 where
+-- what records add to listed numbers, whichever these are
+record AddsListed (most : ℕ) (all : List (List Found)) : Type 0 where
   numbers : List ℤ
   few : length numbers ≤ most
-  adds : (xs : List ℤ) → with_record (Listed xs ∷ []) seen ≡ Listed (xs ++ numbers) ∷ []
+  adds : (xs : List ℤ) → all_added joined (Listed xs ∷ []) all ≡ Listed (xs ++ numbers) ∷ []
+
+lists_none : (most : ℕ) → AddsListed most []
+lists_none most = record { numbers = []; few = omega arith; adds = λ xs. ap (λ ns. Listed ns ∷ []) (sym (append-nil xs)) }
 
 module _ (c : Caller) (id : ArenaId) (p : Plan) (plan : IsPlan p) (tally : IsTally p) where
-  record_adds : (place : ℕ) (own : List Entry) (seen : Option (List Found)) → ReadsRecord c id p place own seen → AddsNumbers p.size seen
-  record_adds place own seen (chosen one rest fs t h) =
-      let l = items_list c id place p.size p.items rest fs tally (plan_items_few p plan) h in
-      record { numbers = l.numbers; few = l.few; adds = λ xs. ap (λ gs. with_record (Listed xs ∷ []) (Some gs)) l.is }
-  record_adds place own seen (passed_over one t) =
-      record { numbers = []; few = omega arith; adds = λ xs. ap (λ ns. Listed ns ∷ []) (sym (append-nil xs)) }
+  record_adds : (place : ℕ) (result : Result (Unit {0}) Refusal) (own : List Entry) (seen : List (List Found)) → ReadsRecord c id p place result own seen
+      → result ≡ Ok tt → AddsListed p.size seen
+  record_adds place result own seen (chosen one rest fs t h) e =
+      let l = items_list c id place p.size p.items result rest fs tally (plan_items_few p plan) h e in
+      record { numbers = l.numbers; few = l.few; adds = λ xs. ap (λ gs. joined (Listed xs ∷ []) gs) l.is }
+  record_adds place result own seen (passed_over one t) e = lists_none p.size
+  record_adds place result own seen (untested one t) e = absurd (cc)
 
   -- ---- records, one behind the other
 
-  -- The records' numbers stand behind those that were listed before, whichever these are.
-  record ReadsBehind (n place : ℕ) (own : List Entry) (all : List Found) (xs : List ℤ) : Type 0 where
-    numbers : List ℤ
-    is : all ≡ Listed (xs ++ numbers) ∷ []
-    few : length numbers ≤ n * p.size
-    behind : (zs : List ℤ) → ReadsRecords c id p n place (Listed zs ∷ []) own (Listed (zs ++ numbers) ∷ [])
-
-  reads_behind : (n place : ℕ) (so_far all : List Found) (own : List Entry) (xs : List ℤ) → so_far ≡ Listed xs ∷ []
-      → ReadsRecords c id p n place so_far own all → ReadsBehind n place own all xs
-  reads_behind n place so_far all own xs e no_record = record {
-    numbers = [];
-    is = e ∙ ap (λ ns. Listed ns ∷ []) (sym (append-nil xs));
-    few = omega arith;
-    behind = λ zs. subst (λ ns. ReadsRecords c id p zero place (Listed zs ∷ []) [] (Listed ns ∷ [])) (sym (append-nil zs)) no_record;
-  }
-  reads_behind n place so_far all own xs e (one_record {count = left} one rest seen r more) =
-      let a = record_adds place one seen r in
-      let next : with_record so_far seen ≡ Listed (xs ++ a.numbers) ∷ [] = ap (λ gs. with_record gs seen) e ∙ a.adds xs in
-      let t = reads_behind left (place + p.size) (with_record so_far seen) all rest (xs ++ a.numbers) next more in
-      let bytes : suc left * p.size ≡ p.size + left * p.size = grind arith in
+  records_add : (places : List ℕ) (result : Result (Unit {0}) Refusal) (own : List Entry) (all : List (List Found))
+      → InOrder (Ok tt) (ReadsRecord c id p) places result own all → result ≡ Ok tt → AddsListed (length places * p.size) all
+  records_add places result own all all_done e = lists_none (0 * p.size)
+  records_add places result own all (one_more {x = place} {xs = left} one rest seen more r others) e =
+      let a = record_adds place (Ok tt) one seen r refl in
+      let t = records_add left result rest more others e in
+      let bytes : suc (length left) * p.size ≡ p.size + length left * p.size = grind arith in
       let long = length-append a.numbers t.numbers in
       let first = a.few in
       let later = t.few in
       record {
         numbers = a.numbers ++ t.numbers;
-        is = t.is ∙ ap (λ ns. Listed ns ∷ []) (append_assoc xs a.numbers t.numbers);
         few = omega (arith, bytes, long, first, later);
-        behind = λ zs.
-            let to : List Found = Listed (zs ++ a.numbers ++ t.numbers) ∷ [] in
-            subst (λ ns. ReadsRecords c id p (suc left) place (Listed zs ∷ []) (one ++ rest) (Listed ns ∷ [])) (append_assoc zs a.numbers t.numbers)
-            (one_record one rest seen r
-            (subst (λ gs. ReadsRecords c id p left (place + p.size) gs rest to) (sym (a.adds zs)) (t.behind (zs ++ a.numbers))));
+        adds = λ xs.
+            all_added-append joined (Listed xs ∷ []) seen more ∙ ap (λ gs. all_added joined gs more) (a.adds xs) ∙ t.adds (xs ++ a.numbers)
+            ∙ ap (λ ns. Listed ns ∷ []) (append_assoc xs a.numbers t.numbers);
       }
-
-  -- Some records were read, and then those behind them.
-  reads_on : (m n place there : ℕ) (so_far mid all : List Found) (own more : List Entry) → ReadsRecords c id p m place so_far own mid
-      → there ≡ place + m * p.size → ReadsRecords c id p n there mid more all → ReadsRecords c id p (m + n) place so_far (own ++ more) all
-  reads_on m n place there so_far mid all own more no_record at h =
-      let here : there ≡ place = omega (arith, at) in
-      let none : n ≡ 0 + n = omega arith in
-      subst (λ k. ReadsRecords c id p k place so_far more all) none (subst (λ k. ReadsRecords c id p n k so_far more all) here h)
-  reads_on m n place there so_far mid all own more (one_record {count = left} one rest seen r later) at h =
-      let bytes : suc left * p.size ≡ p.size + left * p.size = grind arith in
-      let next : there ≡ place + p.size + left * p.size = omega (arith, at, bytes) in
-      let sum : suc (left + n) ≡ suc left + n = omega arith in
-      subst (λ k. ReadsRecords c id p k place so_far ((one ++ rest) ++ more) all) sum
-      (subst (λ es. ReadsRecords c id p (suc (left + n)) place so_far es all) (sym (append_assoc one rest more))
-      (one_record one (rest ++ more) seen r (reads_on left n (place + p.size) there (with_record so_far seen) mid all rest more later next h)))
+  records_add places result own all (comes_short one seen apart r) e = absurd (apart e)
 
 -- ---- what was counted so far
 
@@ -148,7 +130,7 @@ none_found p h = items_none p.items p.conditions h
 pub record CountedTo (old now : View) (p : Plan) (s : Region) (from : ℕ) (counts : List ℕ) : Type 0 where
   pub own : List Entry
   pub numbers : List ℤ
-  pub records : ReadsRecords old.caller s.arena p from s.first (Listed [] ∷ []) own (Listed numbers ∷ [])
+  pub records : AddsRecords old.caller s.arena p (record_places from p.size s.first) (Listed [] ∷ []) (Listed numbers ∷ []) (Ok tt) own
   pub reads : AreReads old.caller s own
   pub few : length numbers ≤ from * p.size
   pub are : AreCounts numbers counts
@@ -159,7 +141,7 @@ pub counted_none : (old : View) (p : Plan) (s : Region) (counts : List ℕ) → 
 counted_none old p s counts are outside = record {
   own = [];
   numbers = [];
-  records = no_record;
+  records = record { given = []; reads = all_done; added = refl };
   reads = AreReads-none old.caller s;
   few = omega arith;
   are = are;
@@ -193,24 +175,28 @@ module _ {old now : View} {p : Plan} {s : Region} {from : ℕ} {counts : List �
     does : DoesQuery old.caller p (piece p s from to) (Ok a) q.did.own
     does = subst (λ (c : Caller). DoesQuery c p (piece p s from to) (Ok a) q.did.own) same q.did.does
 
-    run_read : ReadsRecords old.caller s.arena p (to - from) (s.first + from * p.size) (Listed [] ∷ []) q.did.own a
+    run_read : AddsRecords old.caller s.arena p (record_places (to - from) p.size (s.first + from * p.size)) (Listed [] ∷ []) a (Ok tt) q.did.own
     run_read =
         let count : (to - from) * p.size / p.size ≡ to - from = mul-div_cancel (to - from) plan.sized in
-        subst (λ gs. ReadsRecords old.caller s.arena p (to - from) (s.first + from * p.size) gs q.did.own a) (none_found p can.tally)
-        (subst (λ k. ReadsRecords old.caller s.arena p k (s.first + from * p.size) (found_over p []) q.did.own a) count does.records)
+        subst (λ gs. AddsRecords old.caller s.arena p (record_places (to - from) p.size (s.first + from * p.size)) gs a (Ok tt) q.did.own)
+        (none_found p can.tally)
+        (subst (λ k. AddsRecords old.caller s.arena p (record_places k p.size (s.first + from * p.size)) (found_over p []) a (Ok tt) q.did.own) count
+        does.records)
 
-    read_behind : ReadsBehind old.caller s.arena p plan can.tally (to - from) (s.first + from * p.size) q.did.own a []
-    read_behind =
-        reads_behind old.caller s.arena p plan can.tally (to - from) (s.first + from * p.size) (Listed [] ∷ []) a q.did.own [] refl run_read
+    run_adds : AddsListed ((to - from) * p.size) run_read.given
+    run_adds =
+        subst (λ k. AddsListed (k * p.size) run_read.given) (length-record_places (to - from) p.size (s.first + from * p.size))
+        (records_add old.caller s.arena p plan can.tally (record_places (to - from) p.size (s.first + from * p.size)) (Ok tt) q.did.own run_read.given
+        run_read.reads refl)
 
-    are_numbers : listed a ≡ read_behind.numbers
-    are_numbers = ap listed read_behind.is
+    are_numbers : listed a ≡ run_adds.numbers
+    are_numbers = ap listed (run_read.added ∙ run_adds.adds [])
 
-    few_numbers : length (h.numbers ++ read_behind.numbers) ≤ to * p.size
+    few_numbers : length (h.numbers ++ run_adds.numbers) ≤ to * p.size
     few_numbers =
         let first = h.few in
-        let later = read_behind.few in
-        let long = length-append h.numbers read_behind.numbers in
+        let later = run_adds.few in
+        let long = length-append h.numbers run_adds.numbers in
         let ends = run_ends from to p.size order in
         omega (arith, first, later, long, ends)
 
@@ -221,7 +207,7 @@ module _ {old now : View} {p : Plan} {s : Region} {from : ℕ} {counts : List �
       few = (
           let most = mul-le-mul_right p.size within in
           let all = div-mul-le_self s.size p.size in
-          let long = length-append h.numbers read_behind.numbers in
+          let long = length-append h.numbers run_adds.numbers in
           let is = ap (λ (ns : List ℤ). length ns) are_numbers in
           let few = few_numbers in
           omega (arith, most, all, long, is, few, ends)
@@ -231,12 +217,16 @@ module _ {old now : View} {p : Plan} {s : Region} {from : ℕ} {counts : List �
     pub counted_more : {more : List ℕ} → CountsToo (listed a) counts more → CountedTo old next p s to more
     counted_more {more} too = record {
       own = h.own ++ q.did.own;
-      numbers = h.numbers ++ read_behind.numbers;
+      numbers = h.numbers ++ run_adds.numbers;
       records =
           let count : from + (to - from) ≡ to = omega (arith, order) in
-          subst (λ k. ReadsRecords old.caller s.arena p k s.first (Listed [] ∷ []) (h.own ++ q.did.own) (Listed (h.numbers ++ read_behind.numbers) ∷ [])) count
-          (reads_on old.caller s.arena p plan can.tally from (to - from) s.first (s.first + from * p.size) (Listed [] ∷ []) (Listed h.numbers ∷ [])
-          (Listed (h.numbers ++ read_behind.numbers) ∷ []) h.own q.did.own h.records refl (read_behind.behind h.numbers));
+          subst (λ k. AddsRecords old.caller s.arena p (record_places k p.size s.first) (Listed [] ∷ []) (Listed (h.numbers ++ run_adds.numbers) ∷ []) (Ok tt)
+          (h.own ++ q.did.own)) count
+          (subst (λ ps. AddsRecords old.caller s.arena p ps (Listed [] ∷ []) (Listed (h.numbers ++ run_adds.numbers) ∷ []) (Ok tt) (h.own ++ q.did.own))
+          (sym (places_split from (to - from) p.size s.first))
+          (adds_on (ReadsRecord old.caller s.arena p) joined (record_places from p.size s.first) (record_places (to - from) p.size (s.first + from * p.size))
+          (Listed [] ∷ []) (Listed h.numbers ∷ []) (Listed (h.numbers ++ run_adds.numbers) ∷ []) (Ok tt) h.own q.did.own h.records
+          (record { given = run_read.given; reads = run_read.reads; added = sym (run_adds.adds h.numbers) })));
       reads = AreReads-append old.caller s h.own q.did.own h.reads (reads_wider old.caller (piece p s from to) s q.did.own lies does.reads);
       few = few_numbers;
       are = subst (λ ns. AreCounts (h.numbers ++ ns) more) are_numbers (too h.numbers h.are);
@@ -279,8 +269,9 @@ counted_all {old} {now} {p} {s} {from} {counts} can h all = record {
     did = record {
       even = can.whole;
       may = can.may;
-      records = subst (λ k. ReadsRecords old.caller s.arena p k s.first (found_over p []) h.own (Listed h.numbers ∷ [])) all
-          (subst (λ gs. ReadsRecords old.caller s.arena p from s.first gs h.own (Listed h.numbers ∷ [])) (sym (none_found p can.tally)) h.records);
+      records = subst (λ k. AddsRecords old.caller s.arena p (record_places k p.size s.first) (found_over p []) (Listed h.numbers ∷ []) (Ok tt) h.own) all
+          (subst (λ gs. AddsRecords old.caller s.arena p (record_places from p.size s.first) gs (Listed h.numbers ∷ []) (Ok tt) h.own)
+          (sym (none_found p can.tally)) h.records);
       reads = h.reads;
     };
     are = h.are;

@@ -23,7 +23,8 @@ use Rattle.fm_records.specs.Shares.{IsSpared}
 use Rattle.fm_records.proofs.AnsweringBytes.{answer_of_bytes, length-places}
 use Rattle.fm_records.proofs.Joining.{answer-append}
 use Rattle.fm_lists.proofs.Each.{all_split}
-use Rattle.fm_records.proofs.Sharing.{range_append, spared_found}
+use Rattle.fm_records.proofs.Behind.{range_append}
+use Rattle.fm_records.proofs.Sharing.{spared_found}
 use Rattle.fm_workers.specs.Counts.{AreCounts, AreTallied, IsTally, ListsBytes, listed, numbers_listed}
 use Rattle.fm_workers.specs.Parts.{AreRuns}
 use Rattle.fm_workers.specs.Tallies.{CountsPart, DoesTallyPart, SumsTo, Tallied, Tallies, Tallying}

@@ -11,10 +11,10 @@ use crate::query_with;
 use fm_base::{ArenaId, Kind, Refusal};
 use fm_close::close;
 use fm_gate::{allocate, enter, leave, open_arena, store};
-use fm_io::{FreeGate, Gate};
+use fm_io::{FreeGate, Gate, SureSink};
 use fm_lanes::ValueKind;
 use fm_layout::Layout;
-use fm_records::{Query, check_record, parse_query, print_answer};
+use fm_records::{Answer, Query, check_record, parse_query, write_answer};
 use fm_rule::{Pass, Pool};
 use fm_segment::Segment;
 use fm_words::Shape;
@@ -111,7 +111,7 @@ fn asked<R: Abort + AllocGlobal + Threads + Wait + Sync, G: Gate>(
     s: &Segment,
     threads: u32,
     gate: &G,
-) -> Result<String, Refusal>
+) -> Result<Vec<u8>, Refusal>
     requires outside { IsOutside pool.now pass.old }
     requires known { IsKnown (view_of_pass pass.old) s.now }
     requires some { 0 < threads }
@@ -122,13 +122,21 @@ fn asked<R: Abort + AllocGlobal + Threads + Wait + Sync, G: Gate>(
     let alloc = rt.alloc();
     assert_eq!(rt; s.first() % q.record_alignment(), 0);
     match query_with(rt, alloc, pool, pass, q, s, threads, gate) {
-        Ok(answer) => print_answer(alloc, q, &answer),
+        Ok(answer) => printed(alloc, q, &answer),
         Err(refusal) => Err(refusal),
     }
 }
 
+fn printed(alloc: Global, q: &Query, answer: &Answer) -> Result<Vec<u8>, Refusal> {
+    let mut out = SureSink::new(alloc);
+    match write_answer(alloc, &mut out, q, answer) {
+        Ok(()) => Ok(out.written().to_vec(alloc)?),
+        Err(_) => Err(Refusal::Memory),
+    }
+}
+
 /// It is the same for each count of threads, also where they are more than the records.
-const ANSWER: &str = "count 5\nsum(.amount) 26\nlist(.id) 1 3 5 6 8\n";
+const ANSWER: &[u8] = b"count 5\nsum(.amount) 26\nlist(.id) 1 3 5 6 8\n";
 
 #[test]
 fn answers_are_the_same_for_each_count_of_threads(rt: HostRuntime) -> Result<(), Fail> {
@@ -157,7 +165,7 @@ fn sixteen_passes_answer_over_no_records(rt: HostRuntime) -> Result<(), Fail> {
     let answer = asked(&rt, &pool, &mut pass, &q, &none, 16, &FreeGate);
     assert_eq!(rt;
         answer.as_deref(),
-        Ok("count 0\nsum(.amount) 0\nlist(.id)\n")
+        Ok(b"count 0\nsum(.amount) 0\nlist(.id)\n".as_slice())
     );
     Ok(())
 }

@@ -12,12 +12,12 @@ returns-in-Count g c =
 pub returns-then-has_no_values : goal.returns-then-has_no_values
 returns-then-has_no_values g c =
     item_empty c.args.s.now c.args.place c.args.item.now.asked c.in-Of.is refl (c.wide-dims.ensures ∙ ap wide_dims c.dims.ensures) refl c.args.found.now
-    c.requires.open.kind (c.if-has_no_values.ensures refl)
+    c.requires.open.kind (c.if-has_no_values.ensures.none refl)
 
 pub add_all-requires : goal.add_all-requires
 add_all-requires g c =
     item_can c.args.s.now c.args.place c.args.item.now.asked c.in-Of.is c.offset.ensures (c.wide-dims.ensures ∙ ap wide_dims c.dims.ensures) c.value.ensures
-    c.requires.can c.requires.readable c.requires.open.room
+    c.requires.can (c.if-has_no_values.ensures.some refl) c.requires.readable c.requires.open.room
 
 pub returns-else-has_no_values : goal.returns-else-has_no_values
 returns-else-has_no_values g c =

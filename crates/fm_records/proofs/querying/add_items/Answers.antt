@@ -1,5 +1,5 @@
 -- The items are added one by one.
-use Rattle.std.proofs.Common.{sym, subst}
+use Rattle.std.proofs.Common.{Err, refl, sym, subst}
 use Rattle.fm_lists.proofs.Each.{all_at}
 use Rattle.fm_records.specs.Adds.{IsItemReadable}
 use Rattle.fm_records.proofs.Items.{items_start, next_within, next_open, item_more, item_refused, items_all}
@@ -7,13 +7,13 @@ use Rattle.fm_records.proofs.Visiting.{can_still}
 use Rattle.fm_records.proofs.querying.add_items.Goals as goal
 
 pub loop-k-init : goal.loop-k-init
-loop-k-init g c = items_start (g.M.Memory.view c.args.m.now) c.args.s.now c.args.place c.args.items.now c.args.found.now c.requires.open
+loop-k-init g c = items_start (g.M.Memory.view c.args.m.now) c.args.s.now c.args.place c.args.items.now c.args.found.now
 
 pub bounds-found-k : goal.bounds-found-k
-bounds-found-k g c = next_within c.loop-k.invariant c.loop-k-test.true
+bounds-found-k g c = next_within c.loop-k.invariant c.requires.open c.loop-k-test.true
 
 pub add_item-requires-clause-can : goal.add_item-requires-clause-can
-add_item-requires-clause-can g c = can_still c.requires.can c.loop-k.invariant.under_way.so_far
+add_item-requires-clause-can g c = can_still c.requires.can c.loop-k.invariant.did
 
 pub add_item-requires-clause-readable : goal.add_item-requires-clause-readable
 add_item-requires-clause-readable g c =
@@ -22,16 +22,17 @@ add_item-requires-clause-readable g c =
 
 pub add_item-requires-clause-open : goal.add_item-requires-clause-open
 add_item-requires-clause-open g c =
-    next_open c.loop-k.invariant c.loop-k-test.true c.index-items-k.result c.index-items-k.is c.index-found-k.result
+    next_open c.loop-k.invariant c.requires.open c.loop-k-test.true c.index-items-k.result c.index-items-k.is c.index-found-k.result
 
 pub returns-in-Err : goal.returns-in-Err
 returns-in-Err g c =
-    item_refused c.loop-k.invariant c.loop-k-test.true c.index-items-k.result c.index-items-k.is c.add_item.new.found c.index-found-k.result
-    c.in-Err.refusal c.in-Err.ensures
+    item_refused c.loop-k.invariant c.requires.open c.loop-k-test.true c.index-items-k.result c.index-items-k.is c.add_item.new.found
+    c.index-found-k.result (Err c.in-Err.refusal) c.in-Err.ensures (λ e. cc)
 
 pub loop-k-preserved : goal.loop-k-preserved
 loop-k-preserved g c =
-    item_more c.loop-k.invariant c.loop-k-test.true c.index-items-k.result c.index-items-k.is c.add_item.new.found c.index-found-k.result c.in-Ok.ensures
+    item_more c.loop-k.invariant c.requires.open c.loop-k-test.true c.index-items-k.result c.index-items-k.is c.add_item.new.found
+    c.index-found-k.result _ c.in-Ok.ensures refl
 
 pub returns : goal.returns
 returns g c = items_all c.loop-k.invariant c.loop-k-test.false

@@ -1,8 +1,8 @@
 -- The conditions are tested one by one.
-use Rattle.std.proofs.Common.{sym, subst}
+use Rattle.std.proofs.Common.{false, Ok, Err, refl, ap, sym, subst}
 use Rattle.fm_lists.proofs.Each.{all_at}
 use Rattle.fm_records.specs.Adds.{IsTestable}
-use Rattle.fm_records.proofs.Testing.{none_tested, test_holds, test_fails, test_refused, all_tested}
+use Rattle.fm_records.proofs.Testing.{none_tested, test_holds, test_ends, all_tested}
 use Rattle.fm_records.proofs.Visiting.{can_still}
 use Rattle.fm_records.proofs.querying.chooses.Goals as goal
 
@@ -10,7 +10,7 @@ pub loop-condition-init : goal.loop-condition-init
 loop-condition-init g c = none_tested (g.M.Memory.view c.args.m.now) c.args.s.now c.args.place c.args.conditions.now
 
 pub holds_at-requires-clause-can : goal.holds_at-requires-clause-can
-holds_at-requires-clause-can g c = can_still c.requires.can c.loop-condition.invariant.so_far
+holds_at-requires-clause-can g c = can_still c.requires.can c.loop-condition.invariant.did
 
 pub holds_at-requires-clause-testable : goal.holds_at-requires-clause-testable
 holds_at-requires-clause-testable g c =
@@ -20,17 +20,17 @@ holds_at-requires-clause-testable g c =
 pub loop-condition-preserved : goal.loop-condition-preserved
 loop-condition-preserved g c =
     test_holds c.args.conditions.now c.loop-condition.condition-index c.condition-item.result c.loop-condition.invariant c.loop-condition-test.true
-    c.condition-item.is c.in-Ok-true.field-0 c.in-Ok-true.field-0-test c.in-Ok-true.ensures
+    c.condition-item.is (Ok c.in-Ok-true.field-0) c.in-Ok-true.ensures (ap Ok c.in-Ok-true.field-0-test)
 
 pub returns-in-Ok-false : goal.returns-in-Ok-false
 returns-in-Ok-false g c =
-    test_fails c.args.conditions.now c.loop-condition.condition-index c.condition-item.result c.loop-condition.invariant c.loop-condition-test.true
-    c.condition-item.is c.in-Ok-false.field-0 c.in-Ok-false.field-0-test c.in-Ok-false.ensures
+    test_ends c.args.conditions.now c.loop-condition.condition-index c.condition-item.result c.loop-condition.invariant c.loop-condition-test.true
+    c.condition-item.is (Ok c.in-Ok-false.field-0) c.in-Ok-false.ensures (Ok false) (ap Ok c.in-Ok-false.field-0-test) (λ e. cc)
 
 pub returns-in-Err : goal.returns-in-Err
 returns-in-Err g c =
-    test_refused c.args.conditions.now c.loop-condition.condition-index c.condition-item.result c.loop-condition.invariant c.loop-condition-test.true
-    c.condition-item.is c.in-Err.refusal c.in-Err.ensures
+    test_ends c.args.conditions.now c.loop-condition.condition-index c.condition-item.result c.loop-condition.invariant c.loop-condition-test.true
+    c.condition-item.is (Err c.in-Err.refusal) c.in-Err.ensures (Err c.in-Err.refusal) refl (λ e. cc)
 
 pub returns : goal.returns
 returns g c = all_tested c.args.conditions.now c.loop-condition.condition-index c.loop-condition.invariant c.loop-condition-test.false

@@ -1,9 +1,9 @@
 -- A condition's value is read and compared.
-use Rattle.std.proofs.Common.{◌≡◌, Err, refl, ap, ◌∙◌, arith, w64, rules}
+use Rattle.std.proofs.Common.{◌≡◌, refl, ap, ◌∙◌, arith, w64, rules}
 use Rattle.std.proofs.lemmas.Int.{to_z-of_z}
 use mir.Val.{to_z, of_z}
 use Rattle.fm_records.specs.Answers.{compares}
-use Rattle.fm_records.proofs.Testing.{number_there, test_done, testable_lies}
+use Rattle.fm_records.proofs.Testing.{test_closed, test_done, testable_lies}
 use Rattle.fm_records.proofs.querying.holds_at.Goals as goal
 
 pub overflow_add-at : goal.overflow_add-at
@@ -25,5 +25,5 @@ returns-in-Ok g c =
 
 pub returns-in-Err : goal.returns-in-Err
 returns-in-Err g c =
-    number_there c.args.s.now c.args.place c.args.condition.now c.value.result.now c.offset.result c.value.ensures c.offset.ensures (Err c.in-Err.refusal)
+    test_closed c.args.s.now c.args.place c.args.condition.now c.value.result.now c.offset.result c.value.ensures c.offset.ensures c.in-Err.refusal
     c.in-Err.ensures

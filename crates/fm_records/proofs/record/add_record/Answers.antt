@@ -2,14 +2,14 @@
 use Rattle.fm_records.proofs.Few.{plan_items_open}
 use Rattle.fm_records.proofs.Plans.{plan_items_readable, plan_conditions_testable}
 use Rattle.fm_records.proofs.Recording.{record_chosen, record_passed, record_stopped}
-use Rattle.fm_records.proofs.Visiting.{can_still, first_so_far}
+use Rattle.fm_records.proofs.Visiting.{can_still}
 use Rattle.fm_records.proofs.record.add_record.Goals as goal
 
 pub chooses-requires-clause-testable : goal.chooses-requires-clause-testable
 chooses-requires-clause-testable g c = plan_conditions_testable c.conditions.ensures.conditions c.conditions.ensures.plan c.requires.lies
 
 pub add_items-requires-clause-can : goal.add_items-requires-clause-can
-add_items-requires-clause-can g c = can_still c.requires.can (first_so_far c.in-Ok-true.ensures)
+add_items-requires-clause-can g c = can_still c.requires.can c.in-Ok-true.ensures
 
 pub add_items-requires-clause-readable : goal.add_items-requires-clause-readable
 add_items-requires-clause-readable g c = plan_items_readable c.items.ensures.items c.items.ensures.plan c.requires.lies

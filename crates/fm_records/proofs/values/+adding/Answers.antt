@@ -1,11 +1,14 @@
 -- The values are read and added index by index.
 use Rattle.std.proofs.Common.{arith}
-use Rattle.fm_records.proofs.Adding.{added_none, added_all}
-use Rattle.fm_records.proofs.Reaching.{turn_can, turn_added, turn_stops}
+use Rattle.fm_records.proofs.Adding.{added_start, added_all}
+use Rattle.fm_records.proofs.Reaching.{turn_inside, turn_can, turn_added, turn_stops}
 use Rattle.fm_records.proofs.values.+adding.Goals as goal
 
 pub add_rows-loop-i-init : goal.add_rows-loop-i-init
-add_rows-loop-i-init g t c = added_none c.requires
+add_rows-loop-i-init g t c = added_start (g.M.Memory.view c.args.m.now)
+
+pub add_rows-reach_of-requires : goal.add_rows-reach_of-requires
+add_rows-reach_of-requires g t c = turn_inside c.requires c.loop-i.invariant c.loop-i-test.true
 
 pub add_rows-add_all-requires : goal.add_rows-add_all-requires
 add_rows-add_all-requires g t c κs within =

@@ -1,11 +1,14 @@
 -- The values of one row are read and added index by index.
 use Rattle.std.proofs.Common.{arith}
-use Rattle.fm_records.proofs.Adding.{added_none, added_all}
-use Rattle.fm_records.proofs.Reaching.{turn_can, turn_added, turn_stops}
+use Rattle.fm_records.proofs.Adding.{added_start, added_all}
+use Rattle.fm_records.proofs.Reaching.{turn_inside, turn_can, turn_added, turn_stops}
 use Rattle.fm_records.proofs.values.add_row.Goals as goal
 
 pub loop-i-init : goal.loop-i-init
-loop-i-init g c = added_none c.requires
+loop-i-init g c = added_start (g.M.Memory.view c.args.m.now)
+
+pub reach_of-requires : goal.reach_of-requires
+reach_of-requires g c = turn_inside c.requires c.loop-i.invariant c.loop-i-test.true
 
 pub add_value-requires : goal.add_value-requires
 add_value-requires g c = turn_can c.requires c.loop-i.invariant c.loop-i-test.true c.reach_of.ensures

@@ -8,4 +8,4 @@ pub returns : goal.returns
 returns c =
     let s = c.args.dim.stride in
     let read : cast_signed w64 (cast_unsigned w64 s) ≡ s = to_z-of_z w64 s (search rules) in
-    λ inside. moves c.args.at s c.args.index c.cast_unsigned.result c.ranges.at.fits (c.cast_unsigned.ensures ∙ ap (cast_unsigned w64) read) inside
+    moves c.args.at s c.args.index c.cast_unsigned.result c.ranges.at.fits (c.cast_unsigned.ensures ∙ ap (cast_unsigned w64) read) c.requires

@@ -3,7 +3,7 @@ use Rattle.std.specs.List.{flat_map, range_with_len}
 use Rattle.std.proofs.lemmas.List.{append-nil}
 use Rattle.std.proofs.lemmas.Grind.{flat_map-append}
 use Rattle.fm_workers.specs.Printed.{place_text, rising, total_text}
-use Rattle.fm_records.proofs.Sharing.{range_append}
+use Rattle.fm_records.proofs.Behind.{range_append}
 use Rattle.fm_workers.proofs.printing.lines.Goals as goal
 
 -- One more is behind the others.

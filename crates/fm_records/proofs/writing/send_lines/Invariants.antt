@@ -1,0 +1,11 @@
+use Rattle.std.proofs.Common.{drop}
+use Rattle.std.specs.String.{string_bytes}
+use Rattle.fm_io.proofs.Sent.{IsUnderWay}
+use Rattle.fm_records.specs.Texts.{lines_text}
+use Rattle.fm_records.proofs.writing.send_lines.Given as goal
+
+abbrev pub invariant-loop-k : goal.invariant-loop-k
+invariant-loop-k g l =
+    let out = g.O.Sink in
+    IsUnderWay (out.written l.fn.out) (out.written l.out) (out.faults l.fn.out) (out.faults l.out)
+    (string_bytes l.fn.text) (string_bytes l.text) (lines_text (drop l.k l.items) (drop l.k l.found)) (lines_text l.items l.found)

@@ -1,0 +1,12 @@
+use Rattle.std.proofs.Common.{drop}
+use Rattle.std.specs.List.{flat_map}
+use Rattle.std.specs.String.{string_bytes}
+use Rattle.fm_io.proofs.Sent.{IsUnderWay}
+use Rattle.fm_records.specs.Texts.{number_text}
+use Rattle.fm_records.proofs.writing.send_numbers.Given as goal
+
+abbrev pub invariant-loop-k : goal.invariant-loop-k
+invariant-loop-k g l =
+    let out = g.O.Sink in
+    IsUnderWay (out.written l.fn.out) (out.written l.out) (out.faults l.fn.out) (out.faults l.out)
+    (string_bytes l.fn.text) (string_bytes l.text) (flat_map number_text (drop l.k l.numbers)) (flat_map number_text l.numbers)

@@ -1,0 +1,113 @@
+ghost use Rattle.std.specs.Prelude.{◌≡◌, ◌≢◌, ◌++◌, ◌≤◌, codes, Err, IsErrOf, OnOk, string_bytes};
+ghost use Rattle.std.specs.List.{flat_map};
+ghost use Rattle.fm_io.specs.Count.{Raised};
+ghost use Rattle.fm_io.specs.Sending.{Sends};
+ghost use Rattle.fm_io.specs.Sink.{Appends, AppendsPrefix};
+ghost use Rattle.fm_records.specs.Texts.{answer_text, lines_text, line_text, found_text, end_text, number_text};
+
+use crate::answer::Answer;
+use crate::found::Found;
+use crate::numbers::Numbers;
+use fm_io::{Fault, Sink, send_piece, send_rest};
+use fm_query::{Item, Query};
+use itoa::Buffer;
+use std::alloc::{AllocError, Global};
+
+/// Writes the answer's text: a line for each item, the item's text, a space and what it found.
+///
+/// A least or greatest number is `none` where there are no values. Listed numbers have a space between them, and where
+/// there are none the line is the item's text alone. The text is made as it is written, so that a long list never stands
+/// whole in memory as text. After an error a prefix of it was written.
+pub fn write_answer<O: Sink>(alloc: Global, out: &mut O, q: &Query, a: &Answer) -> Result<(), Fault>
+    ensures whole { OnOk result (Appends (O.written out.old) (O.written out.new) (answer_text q.now a.now)) }
+    ensures prefix { AppendsPrefix (O.written out.old) (O.written out.new) (answer_text q.now a.now) }
+    ensures failed { IsErrOf result Fault.Failed → Raised (O.faults out.old) (O.faults out.new) }
+    ensures quiet { result ≢ Err Fault.Failed → O.faults out.new ≡ O.faults out.old }
+    ensures faults_stay { O.faults out.old ≤ O.faults out.new }
+{
+    let mut text = String::new(alloc);
+    send_lines(out, &mut text, q.items(), a.found())?;
+    send_rest(out, &mut text)
+}
+
+/// The lines of these items, as far as each has a find.
+pub(crate) fn send_lines<O: Sink>(
+    out: &mut O,
+    text: &mut String,
+    items: &[Item],
+    found: &[Found],
+) -> Result<(), Fault>
+    ensures { Sends (O.written out.old) (O.written out.new) (O.faults out.old) (O.faults out.new)
+        (string_bytes text.old) (string_bytes text.new) (lines_text items.now found.now) result }
+{
+    for k in 0..items.len().min(found.len()) {
+        send_line(out, text, &items[k], &found[k])?;
+    }
+    Ok(())
+}
+
+fn send_line<O: Sink>(
+    out: &mut O,
+    text: &mut String,
+    item: &Item,
+    found: &Found,
+) -> Result<(), Fault>
+    ensures { Sends (O.written out.old) (O.written out.new) (O.faults out.old) (O.faults out.new)
+        (string_bytes text.old) (string_bytes text.new) (line_text item.now found.now) result }
+{
+    text.push_str(item.text.as_str())?;
+    send_found(out, text, found)?;
+    text.push('\n')?;
+    Ok(())
+}
+
+/// What stands behind an item's text.
+fn send_found<O: Sink>(out: &mut O, text: &mut String, found: &Found) -> Result<(), Fault>
+    ensures { Sends (O.written out.old) (O.written out.new) (O.faults out.old) (O.faults out.new)
+        (string_bytes text.old) (string_bytes text.new) (found_text found.now) result }
+{
+    match found {
+        Found::Count(n) => Ok(push_spaced(text, Buffer::new().format(*n))?),
+        Found::Sum(n) => Ok(push_spaced(text, Buffer::new().format(*n))?),
+        Found::Least(n) => Ok(push_end(text, *n)?),
+        Found::Greatest(n) => Ok(push_end(text, *n)?),
+        Found::Listed(numbers) => send_numbers(out, text, numbers),
+    }
+}
+
+#[tactic(auto, using(crate::proofs::Sent::no_number))]
+fn send_numbers<O: Sink>(out: &mut O, text: &mut String, numbers: &Numbers) -> Result<(), Fault>
+    ensures { Sends (O.written out.old) (O.written out.new) (O.faults out.old) (O.faults out.new)
+        (string_bytes text.old) (string_bytes text.new) (flat_map number_text numbers.now) result }
+{
+    for k in 0..numbers.len() {
+        send_number(out, text, numbers.at(k))?;
+    }
+    Ok(())
+}
+
+fn send_number<O: Sink>(out: &mut O, text: &mut String, number: i64) -> Result<(), Fault>
+    ensures { Sends (O.written out.old) (O.written out.new) (O.faults out.old) (O.faults out.new)
+        (string_bytes text.old) (string_bytes text.new) (number_text number) result }
+{
+    push_spaced(text, Buffer::new().format(number))?;
+    send_piece(out, text)
+}
+
+fn push_end(text: &mut String, end: Option<i64>) -> Result<(), AllocError>
+    ensures { OnOk result (string_bytes text.new ≡ string_bytes text.old ++ end_text end) }
+{
+    match end {
+        None => push_spaced(text, "none"),
+        Some(n) => push_spaced(text, Buffer::new().format(n)),
+    }
+}
+
+/// Adds a space and a word.
+fn push_spaced(text: &mut String, word: &str) -> Result<(), AllocError>
+    ensures { OnOk result (string_bytes text.new ≡ string_bytes text.old ++ (codes " " ++ word.now)) }
+{
+    text.push(' ')?;
+    text.push_str(word)?;
+    Ok(())
+}
