@@ -54,13 +54,15 @@ too_long = bare TooLong (line (codes "too long"))
 abbrev pub ragged : ℕ → Outcome
 ragged rest = bare Ragged (line (codes "ragged " ++ decimal rest))
 
--- the layout is refused
-abbrev pub layout_refused : Refusal → Outcome
-layout_refused refusal = bare LayoutRefused (line (codes "layout refused " ++ refusal_text refusal))
+-- the layout, the query or the path is refused
+abbrev pub refused : Status → List ℕ → Refusal → Outcome
+refused status what refusal = bare status (line (what ++ (codes " refused " ++ refusal_text refusal)))
 
--- the query or the path is refused
+abbrev pub layout_refused : Refusal → Outcome
+layout_refused refusal = refused LayoutRefused (codes "layout") refusal
+
 abbrev pub query_refused : Refusal → Outcome
-query_refused refusal = bare QueryRefused (line (codes "query refused " ++ refusal_text refusal))
+query_refused refusal = refused QueryRefused (codes "query") refusal
 
 -- the script is refused at this line
 abbrev pub script_refused : ℕ → Outcome

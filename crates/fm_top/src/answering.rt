@@ -7,16 +7,17 @@ ghost use Rattle.fm_top.specs.Queries.{IsAnswered, PlanEnds};
 ghost use Rattle.fm_top.specs.Words.{AreThreads};
 ghost use Rattle.fm_workers.specs.Counts.{IsTally};
 
+use crate::answered::Answered;
 use crate::ask_words::AskCommand;
 use crate::ending::Ending;
 use crate::load_ending::unloaded_ending;
 use crate::question::Question;
 use crate::stop::Stop;
+use crate::text::Text;
 use fm_io::{Files, Gate};
 use fm_load::{RECORD_FILE_LIMIT, read_whole};
 use fm_pooled::{Pooled, tally};
 use fm_query::Query;
-use fm_records::print_answer;
 use fm_workers::print_counts;
 use std::alloc::{AllocError, Global};
 use std::sync::Wait;
@@ -28,13 +29,13 @@ pub fn answer_ending<R: Threads + Wait + Sync, F: Files, G: Gate>(
     alloc: Global,
     files: &mut F,
     ask: &AskCommand<'_>,
-    plan: &Query,
+    plan: Query,
     gate: &G,
 ) -> Result<Ending, Stop>
     requires threads { AreThreads ask.now.threads }
-    requires tally { ask.now.question ≡ Question.Tally → IsTally plan.now }
+    requires tally { ask.now.question ≡ Question.Tally → IsTally plan }
     ensures outcome { IfOk result (λ ending. OfFound (F.holds files.old) ask.now.file.now (λ found.
-        PlanEnds ask.now.question plan.now ask.now.file.now found (shown ending))) }
+        PlanEnds ask.now.question plan ask.now.file.now found (shown ending))) }
     ensures missing { IfOk result (MissesOnly (F.misses files.old) (F.misses files.new)) }
     ensures failed { IsErrOf result Stop.Failed → Rose (F.faults files.old) (F.faults files.new) }
     ensures reads { ReadsSome (F.reads files.old) (F.reads files.new) ask.now.file.now RECORD_FILE_LIMIT }
@@ -55,14 +56,14 @@ fn bytes_ending<R: Threads + Wait + Sync, G: Gate>(
     alloc: Global,
     bytes: Vec<u8>,
     ask: &AskCommand<'_>,
-    plan: &Query,
+    plan: Query,
     gate: &G,
 ) -> Result<Ending, AllocError>
     requires short { length bytes.items ≤ RECORD_FILE_LIMIT }
     requires threads { AreThreads ask.now.threads }
-    requires tally { ask.now.question ≡ Question.Tally → IsTally plan.now }
+    requires tally { ask.now.question ≡ Question.Tally → IsTally plan }
     ensures { IfOk result (λ ending.
-        PlanEnds ask.now.question plan.now ask.now.file.now (Some bytes.items) (shown ending)) }
+        PlanEnds ask.now.question plan ask.now.file.now (Some bytes.items) (shown ending)) }
 {
     let rest = bytes.len() as u64 % plan.record_size();
     if rest != 0 {
@@ -71,7 +72,7 @@ fn bytes_ending<R: Threads + Wait + Sync, G: Gate>(
     let threads = ask.threads as u32;
     match ask.question {
         Question::Query => query_ending(rt, alloc, bytes, plan, threads, gate),
-        Question::Tally => tally_ending(rt, alloc, bytes, plan, threads, gate),
+        Question::Tally => tally_ending(rt, alloc, bytes, &plan, threads, gate),
     }
 }
 
@@ -80,22 +81,18 @@ fn query_ending<R: Threads + Wait + Sync, G: Gate>(
     rt: &R,
     alloc: Global,
     bytes: Vec<u8>,
-    q: &Query,
+    q: Query,
     threads: u32,
     gate: &G,
 ) -> Result<Ending, AllocError>
     requires short { length bytes.items ≤ RECORD_FILE_LIMIT }
-    requires even { length bytes.items % q.now.size ≡ 0 }
+    requires even { length bytes.items % q.size ≡ 0 }
     requires threads { AreThreads threads }
-    ensures { IfOk result (λ ending. IsAnswered Question.Query q.now bytes.items (shown ending)) }
+    ensures { IfOk result (λ ending. IsAnswered Question.Query q bytes.items (shown ending)) }
 {
     let pooled = Pooled::of_bytes(rt, alloc, bytes)?;
-    let (answer, finished) = pooled.answer(rt, alloc, q, threads, gate)?;
-    match print_answer(alloc, q, &answer) {
-        Ok(text) => Ok(Ending::answered_by_pool(text, finished)),
-        // It is refused for want of memory alone.
-        Err(_) => Err(AllocError),
-    }
+    let (answer, finished) = pooled.answer(rt, alloc, &q, threads, gate)?;
+    Ok(Ending::answered_by_pool(Text::Answer(Answered { query: q, answer }), finished))
 }
 
 /// How often each number comes that the query lists over a whole number of records.
@@ -115,7 +112,7 @@ fn tally_ending<R: Threads + Wait + Sync, G: Gate>(
 {
     let (counts, finished) = tally(rt, alloc, bytes, q, threads, gate)?;
     match print_counts(alloc, &counts) {
-        Ok(text) => Ok(Ending::answered_by_pool(text, finished)),
+        Ok(text) => Ok(Ending::answered_by_pool(Text::Whole(text), finished)),
         // It is refused for want of memory alone.
         Err(_) => Err(AllocError),
     }

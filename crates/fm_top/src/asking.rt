@@ -118,7 +118,7 @@ fn text_ending<R: Threads + Wait + Sync, F: Files, G: Gate>(
     ensures misses_stay { F.misses files.old ≤ F.misses files.new }
 {
     match plan_for(alloc, ask.question, ask.text, layout) {
-        Ok(plan) => answer_ending(rt, alloc, files, ask, &plan, gate),
+        Ok(plan) => answer_ending(rt, alloc, files, ask, plan, gate),
         Err(refusal) => Ending::query_refused(alloc, refusal),
     }
 }

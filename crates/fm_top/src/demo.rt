@@ -1,19 +1,19 @@
-ghost use Rattle.std.specs.Prelude.{◌≡◌, ◌++◌, IfOk, string_bytes};
+ghost use Rattle.std.specs.Prelude.{◌≡◌, IfOk};
 ghost use Rattle.fm_demo.specs.Records.{made_records};
-ghost use Rattle.fm_records.specs.Texts.{IsAnswerOf, answer_text};
 ghost use Rattle.fm_top.specs.Demos.{AreMadeQueries, DemoEnds};
 ghost use Rattle.fm_top.specs.Ending.{shown};
 ghost use Rattle.fm_top.specs.Words.{AreThreads, IsCount};
 
+use crate::answered::Answered;
 use crate::demo_layout::demo_layout;
 use crate::demo_words::DemoCommand;
 use crate::ending::Ending;
+use crate::text::Text;
 use fm_base::Refusal;
 use fm_demo::made_records;
 use fm_io::Gate;
 use fm_pooled::Pooled;
 use fm_query::{Query, parse_query};
-use fm_records::{Answer, print_answer};
 use std::alloc::{AllocError, Global};
 use std::sync::Wait;
 use std::thread::Threads;
@@ -35,8 +35,15 @@ pub fn demo_ending<R: Threads + Wait + Sync, G: Gate>(
     let pooled = made_pool(rt, alloc, demo.count)?;
     let threads = demo.threads as u32;
     let (one, two, finished) = pooled.answer_both(rt, alloc, &first, &second, threads, gate)?;
-    let text = both_texts(alloc, &first, &one, &second, &two)?;
-    Ok(Ending::answered_by_pool(text, finished))
+    let one = Answered {
+        query: first,
+        answer: one,
+    };
+    let two = Answered {
+        query: second,
+        answer: two,
+    };
+    Ok(Ending::answered_by_pool(Text::Both(one, two), finished))
 }
 
 /// So many records, in a pool of their own.
@@ -46,28 +53,6 @@ fn made_pool<R: Wait>(rt: &R, alloc: Global, count: u64) -> Result<Pooled, Alloc
 {
     let records = made_records(alloc, count as u32)?;
     Pooled::of_bytes(rt, alloc, records)
-}
-
-/// The texts of both answers, one behind the other.
-fn both_texts(
-    alloc: Global,
-    first: &Query,
-    one: &Answer,
-    second: &Query,
-    two: &Answer,
-) -> Result<String, AllocError>
-    requires one { IsAnswerOf first.now one.now }
-    requires two { IsAnswerOf second.now two.now }
-    ensures { IfOk result (λ text. string_bytes text ≡ answer_text first.now one.now ++ answer_text second.now two.now) }
-{
-    let Ok(mut text) = print_answer(alloc, first, one) else {
-        return Err(AllocError);
-    };
-    let Ok(more) = print_answer(alloc, second, two) else {
-        return Err(AllocError);
-    };
-    text.push_str(&more)?;
-    Ok(text)
 }
 
 /// The two queries. Refused: `Memory`; that both are queries over the records is tested alone.

@@ -1,12 +1,13 @@
 ghost use Rattle.std.specs.Prelude.{◌≡◌, ◌≢◌, ◌++◌, IfErr, IfOk, string_bytes, codes};
 ghost use Rattle.std.specs.Fmt.{signed_decimal};
-ghost use Rattle.fm_top.specs.Outcome.{answered, answered_by_pool, bare, layout_refused, line, missing, query_refused, ragged, reported, script_refused, too_long, usage};
+ghost use Rattle.fm_top.specs.Outcome.{answered, answered_by_pool, bare, layout_refused, line, missing, query_refused, ragged, refused, reported, script_refused, too_long, usage};
 ghost use Rattle.fm_report.specs.Texts.{report_text};
-ghost use Rattle.fm_top.specs.Ending.{shown};
+ghost use Rattle.fm_top.specs.Ending.{shown, text_of};
 
 use crate::left::Left;
 use crate::status::Status;
 use crate::stop::Stop;
+use crate::text::Text;
 use fm_base::Refusal;
 use fm_report::Report;
 use fm_rule::Finished;
@@ -17,7 +18,7 @@ use std::alloc::{AllocError, Global};
 #[derive(Drop)]
 pub struct Ending {
     pub status: Status,
-    pub text: String,
+    pub text: Text,
     pub left: Left,
 }
 
@@ -57,13 +58,7 @@ impl Ending {
         ensures other { IfOk result (λ _. refusal ≢ Refusal.Memory) }
         ensures memory { IfErr result (λ stop. stop ≡ Stop.Memory) }
     {
-        match refusal {
-            Refusal::Memory => Err(Stop::Memory),
-            _ => {
-                let text = format!(in alloc; "layout refused {refusal}\n")?;
-                Ok(Ending::bare(Status::LayoutRefused, text))
-            }
-        }
+        Ending::refused(alloc, Status::LayoutRefused, "layout", refusal)
     }
 
     /// The query or the path is refused, but for want of memory.
@@ -72,11 +67,19 @@ impl Ending {
         ensures other { IfOk result (λ _. refusal ≢ Refusal.Memory) }
         ensures memory { IfErr result (λ stop. stop ≡ Stop.Memory) }
     {
+        Ending::refused(alloc, Status::QueryRefused, "query", refusal)
+    }
+
+    fn refused(alloc: Global, status: Status, what: &str, refusal: Refusal) -> Result<Ending, Stop>
+        ensures ending { IfOk result (λ ending. shown ending ≡ refused status what.now refusal) }
+        ensures other { IfOk result (λ _. refusal ≢ Refusal.Memory) }
+        ensures memory { IfErr result (λ stop. stop ≡ Stop.Memory) }
+    {
         match refusal {
             Refusal::Memory => Err(Stop::Memory),
             _ => {
-                let text = format!(in alloc; "query refused {refusal}\n")?;
-                Ok(Ending::bare(Status::QueryRefused, text))
+                let text = format!(in alloc; "{what} refused {refusal}\n")?;
+                Ok(Ending::bare(status, text))
             }
         }
     }
@@ -97,8 +100,8 @@ impl Ending {
     }
 
     /// The answer, and the pool that gave it.
-    pub fn answered_by_pool(text: String, finished: Finished) -> Ending
-        ensures { shown result ≡ answered_by_pool (string_bytes text) finished }
+    pub fn answered_by_pool(text: Text, finished: Finished) -> Ending
+        ensures { shown result ≡ answered_by_pool (text_of text) finished }
     {
         Ending {
             status: Status::Answered,
@@ -114,7 +117,7 @@ impl Ending {
     {
         Ending {
             status: Status::Answered,
-            text,
+            text: Text::Whole(text),
             left: Left::Report(report),
         }
     }
@@ -133,7 +136,7 @@ impl Ending {
     {
         Ending {
             status,
-            text,
+            text: Text::Whole(text),
             left: Left::Nothing,
         }
     }

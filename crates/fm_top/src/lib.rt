@@ -2,6 +2,7 @@
 //! for its end.
 #![tactic(auto)]
 
+mod answered;
 mod answering;
 mod ask_words;
 mod asking;
@@ -29,6 +30,7 @@ mod sum_words;
 mod summing;
 #[cfg(test)]
 mod tests;
+mod text;
 mod threaded_words;
 mod threads;
 

@@ -14,7 +14,7 @@ use crate::ending::Ending;
 use crate::kept::Kept;
 use crate::status::Status;
 use crate::stop::Stop;
-use fm_io::{Fault, Files, Gate, Sink, write_text};
+use fm_io::{Fault, Files, Gate, Sink};
 use std::alloc::{AllocGlobal, Global};
 use std::random::RandomSource;
 use std::sync::Wait;
@@ -22,7 +22,7 @@ use std::thread::Threads;
 
 /// Runs the tool on its words, which exclude the program's own name, and answers its status.
 ///
-/// Everything is written after the answer is complete. The statuses are 0 for an answer, 1 for words that are no
+/// Everything is written after the answer is complete, in pieces where its text is long. The statuses are 0 for an answer, 1 for words that are no
 /// command, 2 for a missing file, 3 for a failed read, 4 for a refused layout, 5 for a refused query or path, 6 for a
 /// file that is no whole number of records, 7 for a file over its limit, 8 for a failed write, 9 for want of memory and
 /// 10 for a refused script. They are tested in this order: 1; of the layout's file 2, 3 and 7; 4; 5; of the record file
@@ -110,7 +110,7 @@ fn run_words<R: Threads + Wait + Sync, F: Files, O: Sink, G: Gate>(
     *kept = Kept::new();
     match ending_of(rt, alloc, words, files, gate) {
         Ok(ending) => {
-            let status = print(&ending, out);
+            let status = print(alloc, &ending, out);
             let Ending { left, .. } = ending;
             *kept = Kept::of(left);
             status
@@ -121,14 +121,14 @@ fn run_words<R: Threads + Wait + Sync, F: Files, O: Sink, G: Gate>(
 }
 
 /// Writes the ending's text, and answers the status that this leaves.
-fn print<O: Sink>(ending: &Ending, out: &mut O) -> Status
+fn print<O: Sink>(alloc: Global, ending: &Ending, out: &mut O) -> Status
     ensures prints { Prints (shown ending.now) (O.faults out.old) (O.faults out.new)
         (O.written out.old) (O.written out.new) result }
     ensures missing { result ≡ Missing → ending.now.status ≡ Missing }
     ensures quiet { result ≢ Unwritten → O.faults out.new ≡ O.faults out.old }
     ensures faults_stay { O.faults out.old ≤ O.faults out.new }
 {
-    match write_text(out, ending.text.as_str().as_bytes()) {
+    match ending.text.write(alloc, out) {
         Ok(()) => ending.status,
         Err(Fault::Failed) => Status::Unwritten,
         Err(Fault::Memory) => Status::NoMemory,

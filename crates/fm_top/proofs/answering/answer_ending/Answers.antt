@@ -11,7 +11,7 @@ returns-in_ok-bytes_ending-in-Ok-clause-outcome g c = (Some c.in-Ok.bytes.items,
 pub returns-in-Err-clause-outcome : goal.returns-in-Err-clause-outcome
 returns-in-Err-clause-outcome g c =
     let ask = c.args.ask.now in
-    let plan = c.args.plan.now in
+    let plan = c.args.plan in
     unloaded_ends (g.F.Files.holds c.args.files.now) ask.file.now record_file_limit c.unloaded_ending.result
     (λ found o. RecordsEnd plan.size ask.file.now (IsAnswered ask.question plan) found o)
     no_file (λ bytes long. too_many bytes long)

@@ -10,7 +10,7 @@ use Rattle.fm_top.proofs.answering.bytes_ending.Goals as goal
 pub returns-then-rest-ne0 : goal.returns-then-rest-ne0
 returns-then-rest-ne0 g c =
     let ask = c.args.ask.now in
-    let plan = c.args.plan.now in
+    let plan = c.args.plan in
     let bytes = c.args.bytes.items in
     let is_len : c.len.result ≡ length bytes = omega (arith, c.len.ensures, c.args.bytes.ok.0) in
     let same = divided plan.size c.len.result c.record_size.result bytes is_len c.record_size.ensures.size in
@@ -20,7 +20,7 @@ returns-then-rest-ne0 g c =
 
 pub returns-in-Query : goal.returns-in-Query
 returns-in-Query g c =
-    let plan = c.args.plan.now in
+    let plan = c.args.plan in
     let bytes = c.args.bytes.items in
     let is_len : c.len.result ≡ length bytes = omega (arith, c.len.ensures, c.args.bytes.ok.0) in
     let same = divided plan.size c.len.result c.record_size.result bytes is_len c.record_size.ensures.size in
@@ -30,7 +30,7 @@ returns-in-Query g c =
 
 pub returns-in-Tally : goal.returns-in-Tally
 returns-in-Tally g c =
-    let plan = c.args.plan.now in
+    let plan = c.args.plan in
     let bytes = c.args.bytes.items in
     let is_len : c.len.result ≡ length bytes = omega (arith, c.len.ensures, c.args.bytes.ok.0) in
     let same = divided plan.size c.len.result c.record_size.result bytes is_len c.record_size.ensures.size in
