@@ -1,13 +1,12 @@
 -- Text that is sent piece by piece.
-use Rattle.std.proofs.Common.{◌≡◌, ◌≢◌, ℕ, ◌+◌, ◌≤◌, List, [], ◌++◌, length, take, drop, Option, None, Some, Result, Ok, Err, refl, ap, sym, subst, ◌∙◌, append_assoc, arith}
-use Rattle.std.specs.Option.{option_map}
+use Rattle.std.proofs.Common.{◌≡◌, ℕ, List, [], ◌++◌, length, take, drop, Option, None, Some, Result, Ok, Err, refl, ap, sym, subst, ◌∙◌, append_assoc, arith}
 use Rattle.std.proofs.Math.Seq.{take-append_seam}
 use Rattle.std.proofs.lemmas.List.{append-nil, length-append, take-append-drop}
 use Rattle.fm_io.specs.Count.{Raised}
 use Rattle.fm_io.specs.Sink.{Appends, AppendsPrefix}
 use Rattle.fm_io.specs.Sending.{Passes, Sends}
 use Rattle.fm_io.specs.declared.fault.Fault.{Fault}
-use Rattle.fm_io.specs.declared.fault.Fault.TheVariants.{Failed, Memory}
+use Rattle.fm_io.specs.declared.fault.Fault.TheVariants.{Memory}
 use Rattle.fm_io.proofs.Appended.{Appends-append}
 
 -- these are the first of the bytes

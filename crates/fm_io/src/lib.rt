@@ -34,7 +34,7 @@ pub use host_system::HostSystem;
 pub use mem_files::MemFiles;
 pub use mem_sink::MemSink;
 pub use reading::{ReadFault, fill};
-pub use sending::{send_piece, send_rest};
+pub use sending::{PIECE, send_piece, send_rest};
 pub use sink::Sink;
 pub use sure_files::SureFiles;
 pub use sure_sink::SureSink;
