@@ -2,7 +2,5 @@
 #![tactic(auto)]
 
 mod records;
-#[cfg(test)]
-mod tests;
 
 pub use records::{MOST_RECORDS, made_records};

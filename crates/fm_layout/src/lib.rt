@@ -25,8 +25,6 @@
 mod form;
 mod layout;
 mod name;
-#[cfg(test)]
-mod tests;
 
 pub use form::Form;
 pub use layout::Layout;

@@ -18,8 +18,6 @@ mod keys;
 mod node;
 mod read;
 mod shape;
-#[cfg(test)]
-mod tests;
 mod type_name;
 mod values;
 

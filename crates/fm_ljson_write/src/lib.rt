@@ -7,8 +7,6 @@
 
 mod canonical;
 mod members;
-#[cfg(test)]
-mod tests;
 mod writing;
 
 pub use writing::layout_to_json;

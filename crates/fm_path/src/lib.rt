@@ -7,8 +7,6 @@ mod listing;
 mod moves;
 mod resolution;
 mod resolved;
-#[cfg(test)]
-mod tests;
 mod value_spec;
 
 pub use dims::Dims;

@@ -6,8 +6,6 @@ mod parse;
 mod part;
 mod sign;
 mod step;
-#[cfg(test)]
-mod tests;
 
 pub use name_text::NameText;
 pub use parse::parse_path;

@@ -18,8 +18,6 @@ mod spot;
 mod stage;
 mod steps;
 mod syntax;
-#[cfg(test)]
-mod tests;
 mod text;
 mod word;
 

@@ -1,7 +1,8 @@
-use crate::layout_from_json;
+use crate::record::sale;
 use fm_base::Refusal;
 use fm_lanes::{Order, ValueKind};
 use fm_layout::{Form, Layout};
+use fm_ljson::layout_from_json;
 use std::alloc::Global;
 use std::test::Fail;
 
@@ -14,28 +15,15 @@ fn read(alloc: Global, text: &str) -> Result<Layout, Refusal> {
     layout_from_json(alloc, json.as_bytes())
 }
 
-/// A struct of int `id`, short `kind`, padding, long `price`, four bytes `tags` and padding: 24 bytes.
-fn item(alloc: Global) -> Result<Layout, Fail> {
-    let mut members = Vec::new(alloc);
-    members.push(Layout::value(ValueKind::Int).with_name(alloc, "id")?)?;
-    members.push(Layout::value(ValueKind::Short).with_name(alloc, "kind")?)?;
-    members.push(Layout::padding(2)?)?;
-    members.push(Layout::value(ValueKind::Long).with_name(alloc, "price")?)?;
-    let tags = Layout::sequence(alloc, 4, Layout::value(ValueKind::Byte))?;
-    members.push(tags.with_name(alloc, "tags")?)?;
-    members.push(Layout::padding(4)?)?;
-    Ok(Layout::structure(members)?)
-}
-
 #[test]
 fn reads_a_record(rt: HostRuntime) -> Result<(), Fail> {
-    let item = item(rt.alloc())?;
+    let sale = sale(rt.alloc())?;
     for text in [
         "{'type':'struct','members':[{'type':'int','name':'id'},{'type':'short','name':'kind'},{'type':'padding','size':2},{'type':'long','name':'price'},{'type':'sequence','name':'tags','count':4,'element':{'type':'byte'}},{'type':'padding','size':4}]}",
         "{'members':[{'name':'id','type':'int'},{'name':'kind','type':'short'},{'size':2,'type':'padding'},{'name':'price','type':'long'},{'count':4,'element':{'type':'byte'},'name':'tags','type':'sequence'},{'size':4,'type':'padding'}],'type':'struct'}",
     ] {
         let layout = read(rt.alloc(), text)?;
-        assert!(rt; layout == item, "at {text}");
+        assert!(rt; layout == sale, "at {text}");
     }
     Ok(())
 }

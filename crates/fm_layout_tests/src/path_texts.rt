@@ -1,5 +1,5 @@
-use crate::{NameText, PathStep, parse_path};
 use fm_base::Refusal;
+use fm_path_text::{NameText, PathStep, parse_path};
 use std::test::Fail;
 
 const NAME_OF_64: &str = "aaaaaaaaaaaaaaaaaaaaaaaaaaaaaaaaaaaaaaaaaaaaaaaaaaaaaaaaaaaaaaaa";

@@ -1,6 +1,7 @@
-use crate::{Form, Layout, is_name};
+use crate::record::sale;
 use fm_base::Refusal;
 use fm_lanes::{Order, ValueKind};
+use fm_layout::{Form, Layout, is_name};
 use std::alloc::Global;
 use std::test::Fail;
 
@@ -33,19 +34,6 @@ fn padding_has_bytes(rt: HostRuntime) {
     assert_eq!(rt; Layout::padding(0).err(), Some(Refusal::BadPadding));
     assert_eq!(rt; Layout::padding(LIMIT + 1).err(), Some(Refusal::Overflow));
     assert_eq!(rt; Layout::padding(LIMIT).map(|l| l.size()).ok(), Some(LIMIT));
-}
-
-/// The record of the crate's documentation.
-fn sale(alloc: Global) -> Result<Layout, Fail> {
-    let members = vec![in alloc;
-        Layout::value(ValueKind::Int).with_name(alloc, "id")?,
-        Layout::value(ValueKind::Short).with_name(alloc, "kind")?,
-        Layout::padding(2)?,
-        Layout::value(ValueKind::Long).with_name(alloc, "price")?,
-        Layout::sequence(alloc, 4, Layout::value(ValueKind::Byte))?.with_name(alloc, "tags")?,
-        Layout::padding(4)?,
-    ]?;
-    Ok(Layout::structure(members)?)
 }
 
 #[test]

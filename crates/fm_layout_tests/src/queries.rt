@@ -1,26 +1,14 @@
-use crate::{Asked, Fold, Operator, Query, check_record, parse_list, parse_query};
+use crate::record::sale;
 use fm_base::Refusal;
 use fm_lanes::ValueKind;
 use fm_layout::Layout;
+use fm_query::{Asked, Fold, Operator, Query, check_record, parse_list, parse_query};
 use std::alloc::Global;
 use std::test::Fail;
 
-/// A struct of int `id`, short `kind`, padding, long `price`, four bytes `tags` and padding: 24 bytes.
-fn item(alloc: Global) -> Result<Layout, Fail> {
-    let mut members = Vec::new(alloc);
-    members.push(Layout::value(ValueKind::Int).with_name(alloc, "id")?)?;
-    members.push(Layout::value(ValueKind::Short).with_name(alloc, "kind")?)?;
-    members.push(Layout::padding(2)?)?;
-    members.push(Layout::value(ValueKind::Long).with_name(alloc, "price")?)?;
-    let tags = Layout::sequence(alloc, 4, Layout::value(ValueKind::Byte))?;
-    members.push(tags.with_name(alloc, "tags")?)?;
-    members.push(Layout::padding(4)?)?;
-    Ok(Layout::structure(members)?)
-}
-
-/// The refusal of this text over the items.
+/// The refusal of this text over the sales.
 fn refused(alloc: Global, text: &str) -> Result<Option<Refusal>, Fail> {
-    let layout = item(alloc)?;
+    let layout = sale(alloc)?;
     if check_record(&layout).is_err() {
         return Ok(None);
     }
@@ -32,9 +20,9 @@ fn is_refused(alloc: Global, text: &str, refusal: Refusal) -> Result<bool, Fail>
     Ok(refused(alloc, text)? == Some(refusal))
 }
 
-/// The query of this text over the items.
+/// The query of this text over the sales.
 fn read(alloc: Global, text: &str) -> Result<Query, Fail> {
-    let layout = item(alloc)?;
+    let layout = sale(alloc)?;
     check_record(&layout)?;
     Ok(parse_query(alloc, text, &layout)?)
 }
@@ -90,8 +78,11 @@ fn reads_each_fold_and_operator(rt: HostRuntime) -> Result<(), Fail> {
     assert_eq!(rt; query.conditions().len(), 5);
     for (condition, (text, operator, literal)) in query.conditions().iter().zip(CONDITIONS) {
         assert_eq!(rt; condition.text.as_str(), text);
-        assert_eq!(rt; condition.operator, operator, "at {text}");
-        assert_eq!(rt; condition.literal, literal, "at {text}");
+        assert_eq!(rt;
+            (condition.operator, condition.literal),
+            (operator, literal),
+            "at {text}"
+        );
     }
     Ok(())
 }
@@ -194,7 +185,7 @@ fn refuses_paths_in_their_order(rt: HostRuntime) -> Result<(), Fail> {
 
 #[test]
 fn checks_records(rt: HostRuntime) -> Result<(), Fail> {
-    assert!(rt; check_record(&item(rt.alloc())?).is_ok());
+    assert!(rt; check_record(&sale(rt.alloc())?).is_ok());
     let empty = Layout::structure(Vec::new(rt.alloc()))?;
     assert!(rt; matches!(check_record(&empty), Err(Refusal::NoSize)));
     let ragged = Layout::value(ValueKind::Int).with_alignment(8)?;
@@ -204,7 +195,7 @@ fn checks_records(rt: HostRuntime) -> Result<(), Fail> {
 
 #[test]
 fn lists_the_values_of_a_path(rt: HostRuntime) -> Result<(), Fail> {
-    let layout = item(rt.alloc())?;
+    let layout = sale(rt.alloc())?;
     check_record(&layout)?;
     let query = parse_list(rt.alloc(), ".tags[]", &layout)?;
     assert_eq!(rt; query.conditions().len(), 0);

@@ -1,8 +1,9 @@
-use crate::layout_to_json;
+use crate::record::sale;
 use fm_base::Refusal;
 use fm_lanes::{Order, ValueKind};
 use fm_layout::Layout;
 use fm_ljson::layout_from_json;
+use fm_ljson_write::layout_to_json;
 use std::alloc::Global;
 use std::test::Fail;
 
@@ -15,19 +16,6 @@ const UNION: &str = "{\"members\":[{\"type\":\"int\"}],\"name\":\"u\",\"type\":\
 
 const ROW: &str =
     "{\"align\":16,\"count\":3,\"element\":{\"members\":[{\"type\":\"int\"}],\"name\":\"u\",\"type\":\"union\"},\"type\":\"sequence\"}";
-
-/// The same record, as the documentation of layouts makes it.
-fn sale(alloc: Global) -> Result<Layout, Fail> {
-    let members = vec![in alloc;
-        Layout::value(ValueKind::Int).with_name(alloc, "id")?,
-        Layout::value(ValueKind::Short).with_name(alloc, "kind")?,
-        Layout::padding(2)?,
-        Layout::value(ValueKind::Long).with_name(alloc, "price")?,
-        Layout::sequence(alloc, 4, Layout::value(ValueKind::Byte))?.with_name(alloc, "tags")?,
-        Layout::padding(4)?,
-    ]?;
-    Ok(Layout::structure(members)?)
-}
 
 /// Whether this text is written of the layout, and the layout is read from it again.
 fn is_written(alloc: Global, layout: &Layout, text: &str) -> Result<bool, Refusal> {

@@ -1,4 +1,4 @@
-use crate::made_records;
+use fm_demo::made_records;
 use std::test::Fail;
 
 #[test]

@@ -1,22 +1,10 @@
-use crate::{byte_offset, list_places, parse_path, resolve};
+use crate::record::sale;
 use fm_base::Refusal;
 use fm_lanes::{Order, ValueKind};
 use fm_layout::Layout;
+use fm_path::{Dim, byte_offset, list_places, parse_path, resolve};
 use std::alloc::Global;
 use std::test::Fail;
-
-/// A struct of int `id`, short `kind`, padding, long `price`, four bytes `tags` and padding: 24 bytes.
-fn item(alloc: Global) -> Result<Layout, Fail> {
-    let mut members = Vec::new(alloc);
-    members.push(Layout::value(ValueKind::Int).with_name(alloc, "id")?)?;
-    members.push(Layout::value(ValueKind::Short).with_name(alloc, "kind")?)?;
-    members.push(Layout::padding(2)?)?;
-    members.push(Layout::value(ValueKind::Long).with_name(alloc, "price")?)?;
-    let tags = Layout::sequence(alloc, 4, Layout::value(ValueKind::Byte))?;
-    members.push(tags.with_name(alloc, "tags")?)?;
-    members.push(Layout::padding(4)?)?;
-    Ok(Layout::structure(members)?)
-}
 
 /// A struct of two ints of the same name.
 fn twins(alloc: Global) -> Result<Layout, Fail> {
@@ -28,7 +16,7 @@ fn twins(alloc: Global) -> Result<Layout, Fail> {
 
 #[test]
 fn resolves_to_the_value(rt: HostRuntime) -> Result<(), Fail> {
-    let layout = item(rt.alloc())?;
+    let layout = sale(rt.alloc())?;
     for (text, offset, kind) in [
         (".id", 0, ValueKind::Int),
         (".#1", 4, ValueKind::Short),
@@ -38,11 +26,17 @@ fn resolves_to_the_value(rt: HostRuntime) -> Result<(), Fail> {
     ] {
         let path = parse_path(rt.alloc(), text)?;
         let resolved = resolve(rt.alloc(), &layout, &path)?;
-        assert_eq!(rt; resolved.offset(), offset, "at {text}");
-        assert_eq!(rt; resolved.value().kind, kind, "at {text}");
-        assert_eq!(rt; resolved.value().order, Order::Little, "at {text}");
-        assert_eq!(rt; resolved.root_size(), 24, "at {text}");
-        assert_eq!(rt; resolved.root_alignment(), 8, "at {text}");
+        let value = resolved.value();
+        assert_eq!(rt;
+            (resolved.offset(), value.kind, value.order),
+            (offset, kind, Order::Little),
+            "at {text}"
+        );
+        assert_eq!(rt;
+            (resolved.root_size(), resolved.root_alignment()),
+            (24, 8),
+            "at {text}"
+        );
     }
     Ok(())
 }
@@ -61,11 +55,8 @@ fn strides_and_bounds(rt: HostRuntime) -> Result<(), Fail> {
         let path = parse_path(rt.alloc(), text)?;
         let resolved = resolve(rt.alloc(), &layout, &path)?;
         assert_eq!(rt; resolved.offset(), offset, "at {text}");
-        assert_eq!(rt; resolved.dims().len(), 1, "at {text}");
-        for dim in resolved.dims().as_slice() {
-            assert_eq!(rt; dim.stride, stride, "at {text}");
-            assert_eq!(rt; dim.bound, bound, "at {text}");
-        }
+        let dims = [Dim { stride, bound }];
+        assert_eq!(rt; resolved.dims().as_slice(), dims.as_slice(), "at {text}");
     }
     Ok(())
 }
@@ -86,7 +77,7 @@ fn offsets_back_to_the_start(rt: HostRuntime) -> Result<(), Fail> {
 
 #[test]
 fn refuses_at_the_first_step(rt: HostRuntime) -> Result<(), Fail> {
-    let layout = item(rt.alloc())?;
+    let layout = sale(rt.alloc())?;
     for (text, refusal) in [
         (".nope", Refusal::NoMember(0)),
         (".#6", Refusal::NoMember(0)),
@@ -113,7 +104,7 @@ fn refuses_at_the_first_step(rt: HostRuntime) -> Result<(), Fail> {
 
 #[test]
 fn offsets_of_layouts(rt: HostRuntime) -> Result<(), Fail> {
-    let layout = item(rt.alloc())?;
+    let layout = sale(rt.alloc())?;
     for (text, offset) in [
         (".", Ok(0)),
         (".tags", Ok(16)),
@@ -149,7 +140,7 @@ fn the_first_of_a_name_is_meant(rt: HostRuntime) -> Result<(), Fail> {
 
 #[test]
 fn no_index_of_an_empty_sequence(rt: HostRuntime) -> Result<(), Fail> {
-    let inner = Layout::sequence(rt.alloc(), 2, item(rt.alloc())?)?;
+    let inner = Layout::sequence(rt.alloc(), 2, sale(rt.alloc())?)?;
     let layout = Layout::sequence(rt.alloc(), 0, inner)?;
     let path = parse_path(rt.alloc(), "[][1:-1].price")?;
     let resolved = resolve(rt.alloc(), &layout, &path)?;
@@ -161,7 +152,7 @@ fn no_index_of_an_empty_sequence(rt: HostRuntime) -> Result<(), Fail> {
 
 #[test]
 fn lists_the_values(rt: HostRuntime) -> Result<(), Fail> {
-    let rows = Layout::sequence(rt.alloc(), 3, item(rt.alloc())?)?;
+    let rows = Layout::sequence(rt.alloc(), 3, sale(rt.alloc())?)?;
     let text = list_places(rt.alloc(), &rows)?;
     let expected =
         "size 72\nalignment 8\n[].id 0 int little 24*3\n[].kind 4 short little 24*3\n[].price 8 long little 24*3\n[].tags[] 16 byte little 24*3 1*4\n";

@@ -1,0 +1,17 @@
+use fm_lanes::ValueKind;
+use fm_layout::Layout;
+use std::alloc::Global;
+use std::test::Fail;
+
+/// The record of `fm_layout`'s documentation, of 24 bytes: an id, a kind, a price and four tags.
+pub fn sale(alloc: Global) -> Result<Layout, Fail> {
+    let members = vec![in alloc;
+        Layout::value(ValueKind::Int).with_name(alloc, "id")?,
+        Layout::value(ValueKind::Short).with_name(alloc, "kind")?,
+        Layout::padding(2)?,
+        Layout::value(ValueKind::Long).with_name(alloc, "price")?,
+        Layout::sequence(alloc, 4, Layout::value(ValueKind::Byte))?.with_name(alloc, "tags")?,
+        Layout::padding(4)?,
+    ]?;
+    Ok(Layout::structure(members)?)
+}
