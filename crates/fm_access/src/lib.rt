@@ -18,6 +18,3 @@ pub use number::{get_number, put_number};
 pub use piece::{get_piece, piece_width, put_piece};
 pub use range::fill;
 pub use value::{get_value, put_value};
-
-#[cfg(test)]
-mod tests;

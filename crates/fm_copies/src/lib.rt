@@ -5,8 +5,6 @@
 mod copy;
 mod mismatch;
 mod side;
-#[cfg(test)]
-mod tests;
 
 pub use copy::copy_range;
 pub use mismatch::mismatch_range;

@@ -15,7 +15,7 @@
 //! int before = (int) amount.getAndAdd(segment, 0L, 2L, 100);
 //! ```
 //!
-//! and here (held by the test `accounts_are_added_to`):
+//! and here (held by the test `accounts_are_added_to` of `fm_memory_tests`):
 //!
 //! ```
 //! let path = parse_path(alloc, ".rows[].amount")?;
@@ -31,8 +31,6 @@
 mod handle;
 mod inside;
 mod laws;
-#[cfg(test)]
-mod tests;
 mod visits;
 mod word;
 

@@ -2,7 +2,8 @@ ghost use Rattle.std.specs.Prelude.{◌≡◌, ◌≤◌, IsTrue, None, length};
 ghost use Rattle.fm_lanes.specs.Value.{kind_of};
 ghost use Rattle.fm_segment.specs.Learnt.{CanUse};
 
-use fm_base::{Kind, Memory, Refusal};
+use crate::segments::fresh;
+use fm_base::{Memory, Refusal};
 use fm_handle::VarHandle;
 use fm_lanes::{Value, ValueKind};
 use fm_layout::Layout;
@@ -20,18 +21,8 @@ pub fn handle<R: Abort>(rt: &R, alloc: Global, kind: ValueKind, text: &str) -> V
     VarHandle::of(resolve(alloc, &rows, &path).expect(rt, "a value"))
 }
 
-/// A segment of so many bytes of a fresh shared arena.
-fn fresh<R: Abort + Wait, M: Memory>(rt: &R, m: &mut M, size: u64) -> Segment
-    requires { (M.view m.old).inside ≡ None }
-    ensures { CanUse (M.view m.new) result }
-{
-    let arena = m.open_arena(rt, Kind::Shared).expect(rt, "an arena");
-    let first = m.allocate(rt, arena, size, 8).expect(rt, "bytes");
-    Segment::of(arena, first, size)
-}
-
 /// Stops where the path leaves another number of indices open.
-fn takes<R: Abort>(rt: &R, h: &VarHandle, indices: &[u64])
+pub fn takes<R: Abort>(rt: &R, h: &VarHandle, indices: &[u64])
     ensures { length indices.now ≡ length h.now.dims }
 {
     assert!(rt; indices.len() == h.resolved().dims().len());
@@ -41,6 +32,10 @@ fn is_of(v: Value, kind: ValueKind) -> bool
     ensures { IsTrue result → kind_of v ≡ kind }
 {
     match (v, kind) {
+        (Value::Byte(_), ValueKind::Byte) => true,
+        (Value::Boolean(_), ValueKind::Boolean) => true,
+        (Value::Char(_), ValueKind::Char) => true,
+        (Value::Short(_), ValueKind::Short) => true,
         (Value::Int(_), ValueKind::Int) => true,
         (Value::Long(_), ValueKind::Long) => true,
         _ => false,
@@ -48,7 +43,7 @@ fn is_of(v: Value, kind: ValueKind) -> bool
 }
 
 /// Stops where the handle's value is of another kind.
-fn holds<R: Abort>(rt: &R, h: &VarHandle, v: Value)
+pub fn holds<R: Abort>(rt: &R, h: &VarHandle, v: Value)
     ensures { kind_of v ≡ h.now.value.kind }
 {
     assert!(rt; is_of(v, h.resolved().value().kind));

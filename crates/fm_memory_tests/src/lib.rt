@@ -1,4 +1,5 @@
-//! A double of `Memory`, for tests alone, and test bodies over every implementation.
+//! A double of `Memory`, for tests alone, test bodies over every implementation, and the tests of accesses, copies,
+//! segments and handles over `Mono` alone.
 #![tactic(auto)]
 
 mod double;
@@ -12,11 +13,19 @@ pub use interrupted::Interrupted;
 pub use others::Others;
 
 #[cfg(test)]
+mod accesses;
+#[cfg(test)]
 mod body;
+#[cfg(test)]
+mod copies;
 #[cfg(test)]
 mod exact;
 #[cfg(test)]
 mod handles;
+#[cfg(test)]
+mod mono_handles;
+#[cfg(test)]
+mod mono_segments;
 #[cfg(test)]
 mod pools;
 #[cfg(test)]

@@ -8,8 +8,18 @@ use fm_segment::Segment;
 use std::process::Abort;
 use std::sync::Wait;
 
+/// A segment of so many bytes of a fresh shared arena.
+pub fn fresh<R: Abort + Wait, M: Memory>(rt: &R, m: &mut M, size: u64) -> Segment
+    requires { (M.view m.old).inside ≡ None }
+    ensures { CanUse (M.view m.new) result }
+{
+    let arena = m.open_arena(rt, Kind::Shared).expect(rt, "an arena");
+    let first = m.allocate(rt, arena, size, 8).expect(rt, "bytes");
+    Segment::of(arena, first, size)
+}
+
 /// Two segments of 8 bytes, side by side in a fresh arena of this kind.
-fn two_of_eight<R: Abort + Wait, M: Memory>(rt: &R, m: &mut M, kind: Kind) -> (Segment, Segment)
+pub fn two_of_eight<R: Abort + Wait, M: Memory>(rt: &R, m: &mut M, kind: Kind) -> (Segment, Segment)
     requires outside { (M.view m.old).inside ≡ None }
     requires by_hand { kind ≢ Kind.Automatic }
     ensures known { CanUseBoth (M.view m.new) result.0 result.1 }

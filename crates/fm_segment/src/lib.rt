@@ -21,8 +21,6 @@ mod alignment;
 mod elements;
 mod laws;
 mod segment;
-#[cfg(test)]
-mod tests;
 
 pub use alignment::is_aligned;
 pub use elements::Elements;

@@ -1,9 +1,9 @@
 ghost use Rattle.std.specs.Prelude.{◌≡◌, ◌+◌, ◌<◌, ◌≤◌, None};
 ghost use Rattle.fm_access.specs.Learnt.{CanTouch};
 
-use crate::{copy_range, mismatch_range};
 use fm_access::{get_number, put_number};
 use fm_base::{ArenaId, Kind, Memory, Refusal};
+use fm_copies::{copy_range, mismatch_range};
 use fm_mono::Mono;
 use std::process::Abort;
 use std::sync::Wait;

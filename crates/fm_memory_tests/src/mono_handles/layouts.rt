@@ -3,7 +3,7 @@ ghost use Rattle.fm_lanes.specs.Value.{kind_of};
 ghost use Rattle.fm_layout.specs.Name.{IsName};
 ghost use Rattle.fm_segment.specs.Access.{HasKind};
 
-use crate::VarHandle;
+use fm_handle::VarHandle;
 use fm_lanes::{Order, Value, ValueKind};
 use fm_layout::Layout;
 use fm_path::{parse_path, resolve};

@@ -1,5 +1,5 @@
 use Rattle.fm_access.specs.Learnt.{CanTouch}
-use Rattle.fm_access.proofs.tests.put_among_ones.Given as goal
+use Rattle.fm_memory_tests.proofs.accesses.put_among_ones.Given as goal
 
 abbrev pub invariant-loop-at : goal.invariant-loop-at
 invariant-loop-at g l = CanTouch (g.M.Memory.view l.m) l.arena 0 24

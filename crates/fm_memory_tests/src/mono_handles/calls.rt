@@ -1,56 +1,19 @@
-ghost use Rattle.std.specs.Prelude.{◌≡◌, IsTrue, None, length};
 ghost use Rattle.fm_lanes.specs.Value.{kind_of};
 ghost use Rattle.fm_mono.specs.Shown.{view_of};
 ghost use Rattle.fm_segment.specs.Access.{HasKind};
 ghost use Rattle.fm_segment.specs.Learnt.{CanUse};
 
-use crate::VarHandle;
-use fm_base::{Kind, Memory, Refusal};
-use fm_lanes::{Value, ValueKind};
+use crate::handles::{holds, takes};
+use crate::segments::fresh;
+use fm_base::{Memory, Refusal};
+use fm_handle::VarHandle;
+use fm_lanes::Value;
 use fm_layout::Layout;
 use fm_mono::Mono;
 use fm_segment::Segment;
 use std::alloc::Global;
 use std::process::Abort;
 use std::sync::Wait;
-
-/// A segment of so many bytes of a fresh arena.
-pub(super) fn fresh<R: Abort + Wait>(rt: &R, m: &mut Mono, size: u64) -> Segment
-    requires { m.old.inside ≡ None }
-    ensures { CanUse (view_of m.new) result }
-{
-    let arena = m.open_arena(rt, Kind::Shared).expect(rt, "an arena");
-    let first = m.allocate(rt, arena, size, 8).expect(rt, "bytes");
-    Segment::of(arena, first, size)
-}
-
-/// Stops where the path leaves another number of indices open.
-pub(super) fn takes<R: Abort>(rt: &R, h: &VarHandle, indices: &[u64])
-    ensures { length indices.now ≡ length h.now.dims }
-{
-    assert!(rt; indices.len() == h.resolved().dims().len());
-}
-
-fn is_of(v: Value, kind: ValueKind) -> bool
-    ensures { IsTrue result → kind_of v ≡ kind }
-{
-    match (v, kind) {
-        (Value::Byte(_), ValueKind::Byte) => true,
-        (Value::Boolean(_), ValueKind::Boolean) => true,
-        (Value::Char(_), ValueKind::Char) => true,
-        (Value::Short(_), ValueKind::Short) => true,
-        (Value::Int(_), ValueKind::Int) => true,
-        (Value::Long(_), ValueKind::Long) => true,
-        _ => false,
-    }
-}
-
-/// Stops where the handle's value is of another kind.
-pub(super) fn holds<R: Abort>(rt: &R, h: &VarHandle, v: Value)
-    ensures { kind_of v ≡ h.now.value.kind }
-{
-    assert!(rt; is_of(v, h.resolved().value().kind));
-}
 
 /// A memory with a segment of a fresh arena, in which nobody is.
 #[derive(Drop)]

@@ -1,8 +1,8 @@
-use crate::Segment;
 use fm_base::{Kind, Memory, Refusal};
 use fm_lanes::{Value, ValueKind};
 use fm_layout::Layout;
 use fm_mono::Mono;
+use fm_segment::Segment;
 use std::test::Fail;
 
 /// The example of the repository's README.

@@ -1,7 +1,7 @@
 use super::calls::Ground;
 use super::layouts::{accounts, handle, value};
-use crate::VarHandle;
 use fm_base::Refusal;
+use fm_handle::VarHandle;
 use fm_lanes::{Order, Value, ValueKind};
 use fm_layout::Layout;
 use std::process::Abort;

@@ -1,7 +1,7 @@
 ghost use Rattle.std.specs.Prelude.{◌≡◌, ◌+◌, ◌≤◌, None};
 ghost use Rattle.fm_access.specs.Learnt.{CanTouch};
 
-use crate::{fill, get_number, put_number};
+use fm_access::{fill, get_number, put_number};
 use fm_base::{ArenaId, Kind, Memory, Refusal};
 use fm_mono::Mono;
 use std::process::Abort;

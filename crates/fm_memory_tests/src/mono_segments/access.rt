@@ -1,27 +1,13 @@
-ghost use Rattle.std.specs.Prelude.{◌≡◌, ◌≢◌, None, IfOk};
+ghost use Rattle.std.specs.Prelude.{IfOk};
 ghost use Rattle.fm_lanes.specs.Value.{kind_of};
-ghost use Rattle.fm_mono.specs.Shown.{view_of};
 ghost use Rattle.fm_segment.specs.Access.{HasKind};
-ghost use Rattle.fm_segment.specs.Learnt.{CanUse};
 
-use crate::Segment;
-use fm_base::{Kind, Memory, Refusal};
+use crate::segments::fresh;
+use fm_base::{Memory, Refusal};
 use fm_lanes::{Order, Value, ValueKind};
 use fm_layout::Layout;
 use fm_mono::Mono;
-use std::process::Abort;
-use std::sync::Wait;
 use std::test::Fail;
-
-/// A segment of so many bytes of a fresh arena.
-fn fresh<R: Abort + Wait>(rt: &R, m: &mut Mono, size: u64) -> Segment
-    requires { m.old.inside ≡ None }
-    ensures { CanUse (view_of m.new) result }
-{
-    let arena = m.open_arena(rt, Kind::Shared).expect(rt, "an arena");
-    let first = m.allocate(rt, arena, size, 8).expect(rt, "bytes");
-    Segment::of(arena, first, size)
-}
 
 /// A layout of the value's kind, in this order, at any place.
 fn anywhere(v: Value, order: Order) -> Result<Layout, Refusal>

@@ -1,7 +1,9 @@
-use super::calls::{Ground, fresh, holds, takes};
+use super::calls::Ground;
 use super::layouts::{accounts, anywhere, either, handle, table, value};
-use crate::VarHandle;
+use crate::handles::{holds, takes};
+use crate::segments::fresh;
 use fm_base::{Memory, Refusal};
+use fm_handle::VarHandle;
 use fm_lanes::{Order, Value, ValueKind};
 use fm_layout::Layout;
 use fm_mono::Mono;

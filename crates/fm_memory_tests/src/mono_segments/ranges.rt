@@ -1,34 +1,15 @@
-ghost use Rattle.std.specs.Prelude.{◌≡◌, None};
-ghost use Rattle.fm_mono.specs.Shown.{view_of};
-ghost use Rattle.fm_segment.specs.Learnt.{CanUseBoth};
-
-use crate::Segment;
+use crate::segments::two_of_eight;
 use fm_base::{Kind, Memory, Refusal};
 use fm_lanes::{Value, ValueKind};
 use fm_layout::Layout;
 use fm_mono::Mono;
-use std::process::Abort;
-use std::sync::Wait;
-
-/// Two segments of 8 bytes, side by side in a fresh arena.
-fn two_of_eight<R: Abort + Wait>(rt: &R, m: &mut Mono) -> (Segment, Segment)
-    requires { m.old.inside ≡ None }
-    ensures known { CanUseBoth (view_of m.new) result.0 result.1 }
-    ensures first_size { result.0.size ≡ 8 }
-{
-    let arena = m.open_arena(rt, Kind::Shared).expect(rt, "an arena");
-    let first = m.allocate(rt, arena, 16, 8).expect(rt, "bytes");
-    (
-        Segment::of(arena, first, 8),
-        Segment::of(arena, first + 8, 8),
-    )
-}
+use fm_segment::Segment;
 
 #[test]
 fn segments_are_filled_copied_and_compared(rt: HostRuntime) {
     let mut m = Mono::make(rt.alloc(), 64);
-    let (s, t) = two_of_eight(&rt, &mut m);
-    let u = s.part(0, 4);
+    let (s, t) = two_of_eight(&rt, &mut m, Kind::Shared);
+    let u = Segment::of(s.arena(), s.first(), 4);
     assert_eq!(rt; s.fill(&rt, &mut m, 255), Ok(()));
     assert_eq!(rt; s.mismatch(&mut m, &t), Ok(0));
     assert_eq!(rt; t.copy_from(&rt, &mut m, &s), Ok(()));
@@ -42,7 +23,7 @@ fn segments_are_filled_copied_and_compared(rt: HostRuntime) {
 #[test]
 fn bytes_are_put_among_others(rt: HostRuntime) {
     let mut m = Mono::make(rt.alloc(), 64);
-    let (s, _) = two_of_eight(&rt, &mut m);
+    let (s, _) = two_of_eight(&rt, &mut m, Kind::Shared);
     assert_eq!(rt; s.fill(&rt, &mut m, 1), Ok(()));
     assert_eq!(rt; s.put_bytes(&rt, &mut m, 3, &[2, 3, 4]), Ok(()));
     let long = Layout::value(ValueKind::Long);
@@ -86,7 +67,7 @@ fn whole_words_are_put_with_the_bytes_around_them(rt: HostRuntime) {
 #[test]
 fn a_copy_to_its_own_next_place_reads_before_it_writes(rt: HostRuntime) {
     let mut m = Mono::make(rt.alloc(), 64);
-    let (s, _) = two_of_eight(&rt, &mut m);
+    let (s, _) = two_of_eight(&rt, &mut m, Kind::Shared);
     let long = Layout::value(ValueKind::Long);
     let v = Value::Long(0x0000_0605_0403_0201);
     assert_eq!(rt; s.set(&rt, &mut m, &long, 0, v), Ok(()));
@@ -100,7 +81,7 @@ fn a_copy_to_its_own_next_place_reads_before_it_writes(rt: HostRuntime) {
 #[test]
 fn ranges_are_refused_in_order(rt: HostRuntime) {
     let mut m = Mono::make(rt.alloc(), 64);
-    let (s, t) = two_of_eight(&rt, &mut m);
+    let (s, t) = two_of_eight(&rt, &mut m, Kind::Shared);
     let kept = s.as_read_only();
     assert_eq!(rt; kept.fill(&rt, &mut m, 1), Err(Refusal::ReadOnly));
     assert_eq!(rt; kept.copy_from(&rt, &mut m, &t), Err(Refusal::ReadOnly));
@@ -122,8 +103,8 @@ fn ranges_are_refused_in_order(rt: HostRuntime) {
 #[test]
 fn ranges_of_a_closed_arena_are_refused(rt: HostRuntime) {
     let mut m = Mono::make(rt.alloc(), 64);
-    let (s, t) = two_of_eight(&rt, &mut m);
-    let none = s.part(8, 0).as_read_only();
+    let (s, t) = two_of_eight(&rt, &mut m, Kind::Shared);
+    let none = Segment::of(s.arena(), s.first() + 8, 0).as_read_only();
     assert_eq!(rt; m.close(&rt, s.arena()), Ok(()));
     assert_eq!(rt; s.fill(&rt, &mut m, 1), Err(Refusal::Closed));
     assert_eq!(rt; s.copy_from(&rt, &mut m, &t), Err(Refusal::Closed));

@@ -4,10 +4,10 @@ mod access;
 mod ranges;
 mod story;
 
-use crate::{Segment, is_aligned};
 use fm_base::{ArenaId, Kind, Refusal};
 use fm_lanes::ValueKind;
 use fm_layout::Layout;
+use fm_segment::{Segment, is_aligned};
 use std::test::Fail;
 
 /// The end of every arena.

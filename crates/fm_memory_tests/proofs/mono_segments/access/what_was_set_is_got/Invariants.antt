@@ -1,6 +1,6 @@
 use Rattle.fm_mono.specs.Shown.{view_of}
 use Rattle.fm_segment.specs.Learnt.{CanUse}
-use Rattle.fm_segment.proofs.tests.access.what_was_set_is_got.Given as goal
+use Rattle.fm_memory_tests.proofs.mono_segments.access.what_was_set_is_got.Given as goal
 
 abbrev pub invariant-loop-offset : goal.invariant-loop-offset
 invariant-loop-offset g l = CanUse (view_of l.m) l.segment
