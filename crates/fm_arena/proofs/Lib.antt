@@ -1,5 +1,4 @@
 pub mod Calls
 pub mod Lasting
 pub mod Meeting
-pub mod Handling
 pub mod Opening

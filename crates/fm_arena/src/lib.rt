@@ -23,6 +23,3 @@ pub use arena::Arena;
 pub use handle::AutoHandle;
 pub use laws::{a_handle_lasts, a_hold_lasts, keeps_its_pool};
 pub use shared::Shared;
-
-#[cfg(test)]
-mod tests;

@@ -27,6 +27,3 @@ pub use outcome::Visit;
 pub use shutting::{Shutting, shut};
 pub use sweeping::sweep;
 pub use visiting::visit;
-
-#[cfg(test)]
-mod tests;

@@ -33,6 +33,3 @@ pub use leaving::leave;
 pub use opening::open_arena;
 pub use patching::patch;
 pub use usable::may_use;
-
-#[cfg(test)]
-mod tests;

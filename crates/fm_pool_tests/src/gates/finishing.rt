@@ -1,0 +1,61 @@
+ghost use Rattle.std.specs.Prelude.{◌≡◌, ◌≤◌, true};
+ghost use Rattle.fm_pool_facts.specs.Views.{given_of};
+ghost use Rattle.fm_gate.specs.Standing.{IsInside, IsOutside};
+
+use fm_base::{ArenaId, Kind};
+use fm_gate::{allocate, enter, leave, open_arena, store};
+use fm_rule::{Pass, Pool};
+use fm_words::Shape;
+use std::alloc::AllocGlobal;
+use std::process::Abort;
+use std::sync::Wait;
+
+/// Stores 9 into the first word.
+fn store_nine(pool: &Pool, pass: &mut Pass, a: ArenaId)
+    requires inside { IsInside pool.now pass.old a }
+    requires given { 8 ≤ given_of pass.old a }
+    requires whole { pass.old.whole ≡ true }
+    ensures inside { IsInside pool.now pass.new a }
+    ensures whole { pass.new.whole ≡ true }
+{
+    store(pool, pass, 0, 9);
+}
+
+/// Opens an arena of eight bytes, the lowest of which is 9.
+fn nine<R: Abort + Wait>(rt: &R, pool: &Pool, pass: &mut Pass) -> ArenaId
+    requires outside { IsOutside pool.now pass.old }
+    requires whole { pass.old.whole ≡ true }
+    ensures outside { IsOutside pool.now pass.new }
+    ensures whole { pass.new.whole ≡ true }
+{
+    let a = open_arena(rt, pool, pass, Kind::Shared).expect(rt, "a slot");
+    assert_eq!(rt; allocate(rt, pool, pass, a, 8, 8), Ok(0));
+    assert_eq!(rt; enter(pool, pass, a), Ok(()));
+    store_nine(pool, pass, a);
+    leave(pool, pass);
+    a
+}
+
+#[test]
+fn a_finished_pool_tells_the_bytes_of_its_arenas(rt: HostRuntime) {
+    let shape = Shape {
+        passes: 1,
+        slots: 1,
+        pages: 1,
+        page_words: 2,
+        reach: 1,
+        generations: 2,
+    };
+    let (pool, mut pass) = Pool::make(rt.alloc(), shape).expect(&rt, "words");
+    let a = nine(&rt, &pool, &mut pass);
+    let finished = pool.finish(rt.alloc(), pass).expect(&rt, "words");
+    let bytes = finished
+        .bytes_of(rt.alloc(), a)
+        .expect(&rt, "bytes")
+        .expect(&rt, "alive");
+    assert_eq!(rt; bytes.len(), 8);
+    assert_eq!(rt; (bytes[0], bytes[7]), (9, 0));
+    let never = ArenaId { generation: 1, ..a };
+    let none = finished.bytes_of(rt.alloc(), never).expect(&rt, "bytes");
+    assert!(rt; none.is_none());
+}

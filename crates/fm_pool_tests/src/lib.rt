@@ -1,0 +1,11 @@
+//! Tests alone: of a pool's gate, of closing its arenas, and of the memory over a pool.
+#![tactic(auto)]
+
+#[cfg(test)]
+mod arenas;
+#[cfg(test)]
+mod closes;
+#[cfg(test)]
+mod gates;
+#[cfg(test)]
+mod pools;
