@@ -11,7 +11,6 @@ use Rattle.fm_base.specs.declared.refusal.Refusal.{Refusal}
 use Rattle.fm_base.specs.Calls.{Read, Found as Found_word, Entry, entry_of}
 use Rattle.fm_lists.proofs.Among.{each_mapped, map_among}
 use Rattle.fm_lists.proofs.Each.{all_split}
-use Rattle.fm_bytes.specs.Words.{byte_of}
 use Rattle.fm_base.specs.Visits.{visit, piece_width, Run, ends, goes_on}
 use Rattle.fm_bytes.specs.Bytes.{bytes_of, lane}
 use Rattle.fm_bytes.proofs.Bytes.{bytes_of-lane, get_or-bytes_of, length-bytes_of}

@@ -2,19 +2,13 @@
 #![tactic(auto)]
 
 mod answer;
-#[cfg(test)]
-mod answer_tests;
 mod found;
 mod laws;
 mod numbers;
 mod query;
-#[cfg(test)]
-mod query_tests;
 mod querying;
 mod record;
 mod stored;
-#[cfg(test)]
-mod tests;
 mod values;
 mod writing;
 

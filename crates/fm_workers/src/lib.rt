@@ -12,8 +12,6 @@ mod printing;
 mod query;
 mod summing;
 mod tally;
-#[cfg(test)]
-mod tests;
 mod work;
 mod worker;
 

@@ -2,7 +2,7 @@ use Rattle.std.proofs.Common.{◌≡◌, ◌+◌, ◌≤◌, ap, subst, arith, I
 use Rattle.fm_pool_facts.specs.Views.{given_of}
 use Rattle.fm_gate.specs.Standing.{IsInside}
 use Rattle.fm_workers.specs.Asking.{known_later}
-use Rattle.fm_workers.proofs.tests.tallies.held.Goals as goal
+use Rattle.fm_answer_tests.proofs.crews.tallies.held.Goals as goal
 
 pub load-found-requires : goal.load-found-requires
 load-found-requires g c =

@@ -1,5 +1,5 @@
 use Rattle.fm_workers.specs.Asking.{known_later}
-use Rattle.fm_workers.proofs.tests.tallies.zeros.Goals as goal
+use Rattle.fm_answer_tests.proofs.crews.tallies.zeros.Goals as goal
 
 pub returns-clause-there : goal.returns-clause-there
 returns-clause-there g c = known_later c.allocate.ensures.lasts (known_later c.open_arena.ensures.lasts c.requires.there)

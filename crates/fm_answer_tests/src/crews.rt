@@ -7,17 +7,18 @@ ghost use Rattle.fm_gate.specs.Standing.{IsInside, IsOutside};
 ghost use Rattle.fm_pool_facts.specs.Views.{given_of, span, IsKnown as HasArena};
 ghost use Rattle.fm_segment.specs.Access.{IsKnown};
 
-use crate::query_with;
+use crate::printed::printed;
 use fm_base::{ArenaId, Kind, Refusal};
 use fm_close::close;
 use fm_gate::{allocate, enter, leave, open_arena, store};
-use fm_io::{FreeGate, Gate, SureSink};
+use fm_io::{FreeGate, Gate};
 use fm_lanes::ValueKind;
 use fm_layout::Layout;
-use fm_records::{Answer, Query, check_record, parse_query, write_answer};
+use fm_records::{Query, check_record, parse_query};
 use fm_rule::{Pass, Pool};
 use fm_segment::Segment;
 use fm_words::Shape;
+use fm_workers::query_with;
 use std::alloc::{AllocGlobal, Global};
 use std::process::Abort;
 use std::sync::Wait;
@@ -124,14 +125,6 @@ fn asked<R: Abort + AllocGlobal + Threads + Wait + Sync, G: Gate>(
     match query_with(rt, alloc, pool, pass, q, s, threads, gate) {
         Ok(answer) => printed(alloc, q, &answer),
         Err(refusal) => Err(refusal),
-    }
-}
-
-fn printed(alloc: Global, q: &Query, answer: &Answer) -> Result<Vec<u8>, Refusal> {
-    let mut out = SureSink::new(alloc);
-    match write_answer(alloc, &mut out, q, answer) {
-        Ok(()) => Ok(out.written().to_vec(alloc)?),
-        Err(_) => Err(Refusal::Memory),
     }
 }
 

@@ -1,13 +1,12 @@
 ghost use Rattle.std.specs.Prelude.{◌≡◌, None};
 ghost use Rattle.fm_segment.specs.Access.{IsKnown};
 
-use crate::query::query_segment;
-use crate::tests::lines;
+use crate::printed::printed;
 use fm_base::{Kind, Memory, Refusal};
 use fm_lanes::{Value, ValueKind};
 use fm_layout::Layout;
 use fm_mono::Mono;
-use fm_query::{check_record, parse_query};
+use fm_records::{check_record, parse_query, query_segment};
 use fm_segment::Segment;
 use std::alloc::Global;
 use std::process::Abort;
@@ -35,7 +34,7 @@ fn asked<R: Abort, M: Memory>(
     layout: &Layout,
     s: &Segment,
     text: &str,
-) -> Result<String, Refusal>
+) -> Result<Vec<u8>, Refusal>
     requires outside { (M.view m.old).inside ≡ None }
     requires known { IsKnown (M.view m.old) s.now }
     ensures outside { (M.view m.new).inside ≡ None }
@@ -45,10 +44,7 @@ fn asked<R: Abort, M: Memory>(
     let query = parse_query(alloc, text, layout)?;
     assert_eq!(rt; s.first() % query.record_alignment(), 0);
     let answer = query_segment(alloc, m, &query, s)?;
-    match lines(alloc, query.items(), answer.found()) {
-        Ok(text) => Ok(text),
-        Err(_) => Err(Refusal::Memory),
-    }
+    printed(alloc, &query, &answer)
 }
 
 /// The words of two orders, by their offset: 01000000 0200 0000 fa00000000000000 01020304 00000000, and
@@ -115,7 +111,7 @@ fn answers_over_two_records(rt: HostRuntime) -> Result<(), Fail> {
     let layout = order(alloc)?;
     for (text, answer) in ANSWERS.iter() {
         let found = asked(alloc, &rt, &mut m, &layout, &s, text)?;
-        assert_eq!(rt; found.as_str(), *answer);
+        assert_eq!(rt; found.as_slice(), answer.as_bytes());
     }
     Ok(())
 }
@@ -142,8 +138,8 @@ fn bounds_of_0_have_no_values(rt: HostRuntime) -> Result<(), Fail> {
         "count,sum(.#1[][]),min(.#1[][]),list(.#1[][])",
     )?;
     assert_eq!(rt;
-        found.as_str(),
-        "count 2\nsum(.#1[][]) 0\nmin(.#1[][]) none\nlist(.#1[][])\n"
+        found.as_slice(),
+        b"count 2\nsum(.#1[][]) 0\nmin(.#1[][]) none\nlist(.#1[][])\n".as_slice()
     );
     Ok(())
 }
@@ -184,7 +180,7 @@ fn a_closed_arena_is_found_at_the_first_value(rt: HostRuntime) -> Result<(), Fai
         Some(Refusal::Closed)
     );
     let count = asked(alloc, &rt, &mut m, &layout, &s, "count")?;
-    assert_eq!(rt; count.as_str(), "count 2\n");
+    assert_eq!(rt; count.as_slice(), b"count 2\n".as_slice());
     Ok(())
 }
 
@@ -204,8 +200,8 @@ fn an_empty_segment_has_no_records(rt: HostRuntime) -> Result<(), Fail> {
         "count,sum(.price),max(.price),list(.tags[]) where .kind>=2",
     )?;
     assert_eq!(rt;
-        found.as_str(),
-        "count 0\nsum(.price) 0\nmax(.price) none\nlist(.tags[])\n"
+        found.as_slice(),
+        b"count 0\nsum(.price) 0\nmax(.price) none\nlist(.tags[])\n".as_slice()
     );
     Ok(())
 }

@@ -4,7 +4,6 @@ ghost use Rattle.fm_gate.specs.Standing.{IsOutside};
 ghost use Rattle.fm_segment.specs.Access.{IsKnown};
 
 use super::stocked;
-use crate::{Counts, print_counts, tally_with};
 use fm_base::{Kind, Refusal};
 use fm_close::close;
 use fm_gate::{allocate, enter, leave, load, open_arena};
@@ -15,6 +14,7 @@ use fm_records::{Query, check_record, parse_query};
 use fm_rule::{Pass, Pool};
 use fm_segment::Segment;
 use fm_words::Shape;
+use fm_workers::{Counts, print_counts, tally_with};
 use std::alloc::{AllocGlobal, Global};
 use std::process::Abort;
 use std::sync::Wait;
