@@ -8,7 +8,5 @@ mod over;
 mod player;
 mod players;
 mod run;
-#[cfg(test)]
-mod tests;
 
 pub use run::run_script;

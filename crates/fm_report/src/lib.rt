@@ -8,8 +8,6 @@ mod line;
 mod lines;
 mod printing;
 mod report;
-#[cfg(test)]
-mod tests;
 
 pub use arena::AliveArena;
 pub use given::Given;

@@ -22,8 +22,6 @@ mod segments;
 mod settling;
 mod standing;
 mod table;
-#[cfg(test)]
-mod tests;
 mod tokens;
 mod turns;
 mod updates;

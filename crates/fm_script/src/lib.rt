@@ -14,8 +14,6 @@ mod pool_line;
 mod reading;
 mod script;
 mod sources;
-#[cfg(test)]
-mod tests;
 mod text;
 mod thing;
 mod using;

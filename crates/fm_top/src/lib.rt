@@ -28,8 +28,6 @@ mod stop;
 mod sum;
 mod sum_words;
 mod summing;
-#[cfg(test)]
-mod tests;
 mod text;
 mod threaded_words;
 mod threads;

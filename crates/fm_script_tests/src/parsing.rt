@@ -1,6 +1,6 @@
-use crate::{Command, Who, parse_script};
 use fm_base::{Kind, Refusal};
 use fm_lanes::{Order, ValueKind};
+use fm_script::{Command, Who, parse_script};
 use std::alloc::Global;
 use std::test::Fail;
 

@@ -1,7 +1,7 @@
-use super::parts_of;
-use super::queries::files;
-use crate::{Kept, run_tool};
+use crate::endings::parts_of;
+use crate::queries::files;
 use fm_io::{FreeGate, MemFiles, MemSink};
+use fm_top::{Kept, run_tool};
 use std::alloc::{AllocError, AllocGlobal};
 use std::random::RandomSource;
 use std::sync::Wait;

@@ -1,24 +1,16 @@
 ghost use Rattle.std.specs.Prelude.{◌≡◌, None, All};
 ghost use Rattle.fm_script.specs.Syntax.{IsSpelled};
-ghost use Rattle.fm_words.specs.Shapes.{IsValid};
 
-use crate::{AtGate, Numbers, Reply, Table, count_lines, in_order, play};
+use crate::written::script_of;
 use fm_arena::Shared;
 use fm_base::{Kind, Refusal};
 use fm_io::FreeGate;
 use fm_rule::Pool;
-use fm_script::{Script, Who, parse_script};
+use fm_run::{AtGate, Numbers, Reply, Table, count_lines, in_order, play};
+use fm_script::{Script, Who};
 use std::alloc::AllocGlobal;
 use std::process::Abort;
 use std::sync::Wait;
-
-/// A script.
-fn script_of<R: Abort + AllocGlobal>(rt: &R, text: &str) -> Script
-    ensures valid { IsValid result.shape }
-    ensures spelled { All (λ l. IsSpelled l.command) result.lines }
-{
-    parse_script(rt.alloc(), text.as_bytes()).expect(rt, "a script")
-}
 
 /// What a pass answers to the first lines of a script.
 fn run<R: Abort + AllocGlobal + Wait>(rt: &R, m: &mut Shared, script: &Script) -> Vec<Reply>

@@ -1,8 +1,9 @@
-use super::keeping::run_at;
-use super::{ends_at_each_write, line_ends, named, run};
-use crate::{Kept, SCRIPT_FILE_LIMIT};
+use crate::endings::{ends_at_each_write, line_ends, run};
+use crate::files::named;
+use crate::keeping::run_at;
 use fm_io::{MemFiles, MemSink, SureFiles};
 use fm_report::print_report;
+use fm_top::{Kept, SCRIPT_FILE_LIMIT};
 use std::alloc::{AllocError, Global};
 use std::test::Fail;
 

@@ -1,23 +1,13 @@
 mod gates;
 
-ghost use Rattle.std.specs.Prelude.{◌≡◌};
-ghost use Rattle.fm_play.specs.Runs.{IsWritten};
-
-use crate::run_script;
+use crate::written::script_of;
 use fm_io::{FreeGate, Gate};
+use fm_play::run_script;
 use fm_report::print_report;
-use fm_script::{Script, parse_script};
 use std::alloc::AllocGlobal;
 use std::process::Abort;
 use std::sync::Wait;
 use std::thread::Threads;
-
-/// A script.
-fn script_of<R: Abort + AllocGlobal>(rt: &R, text: &str) -> Script
-    ensures { IsWritten result }
-{
-    parse_script(rt.alloc(), text.as_bytes()).expect(rt, "a script")
-}
 
 /// What a run of it prints, past this gate.
 fn printed_past<R: Abort + AllocGlobal + Threads + Wait + Sync, G: Gate>(

@@ -1,6 +1,7 @@
-use super::{ends_at_each_write, line_ends, named, parts_of};
-use crate::LAYOUT_FILE_LIMIT;
+use crate::endings::{ends_at_each_write, line_ends, parts_of};
+use crate::files::named;
 use fm_io::{MemFiles, SureFiles};
+use fm_top::LAYOUT_FILE_LIMIT;
 use std::alloc::{AllocError, AllocGlobal, Global};
 use std::process::Abort;
 use std::random::RandomSource;
@@ -10,7 +11,9 @@ use std::thread::Threads;
 
 /// A record of an id, a kind, a price and four tags, as a user writes it.
 pub const SALE: &str =
-    "{\"type\":\"struct\",\"members\":[{\"type\":\"int\",\"name\":\"id\"},{\"type\":\"short\",\"name\":\"kind\"},{\"type\":\"padding\",\"size\":2},{\"type\":\"long\",\"name\":\"price\"},{\"type\":\"sequence\",\"name\":\"tags\",\"count\":4,\"element\":{\"type\":\"byte\"}},{\"type\":\"padding\",\"size\":4}]}";
+    "{\"type\":\"struct\",\"members\":[{\"type\":\"int\",\"name\":\"id\"},{\"type\":\"short\",\"name\":\"kind\"},\
+    {\"type\":\"padding\",\"size\":2},{\"type\":\"long\",\"name\":\"price\"},\
+    {\"type\":\"sequence\",\"name\":\"tags\",\"count\":4,\"element\":{\"type\":\"byte\"}},{\"type\":\"padding\",\"size\":4}]}";
 
 /// What is printed of it.
 const LISTING: &str =

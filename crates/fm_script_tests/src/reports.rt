@@ -2,10 +2,10 @@ ghost use Rattle.std.specs.Prelude.{◌≡◌, ◌≤◌, length};
 ghost use Rattle.fm_gate.specs.Standing.{CanVisit, IsInside, IsOutside};
 ghost use Rattle.fm_pool_facts.specs.Views.{given_of};
 
-use crate::{Report, print_report, report_lines};
 use fm_base::{ArenaId, Caller, Kind, Refusal};
 use fm_close::close;
 use fm_gate::{allocate, enter, leave, open_arena, store};
+use fm_report::{Report, print_report, report_lines};
 use fm_rule::{Finished, Pass, Pool};
 use fm_run::{Numbers, Reply};
 use fm_script::{Line, Script, parse_script};

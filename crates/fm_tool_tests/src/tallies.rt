@@ -1,6 +1,7 @@
-use super::queries::{files, text_file, texts_end};
-use super::{ends, ends_at_each_write, named, rows_end};
-use crate::tests::layouts::SALE;
+use crate::endings::{ends, ends_at_each_write, rows_end};
+use crate::files::{named, text_file};
+use crate::layouts::SALE;
+use crate::queries::{files, texts_end};
 use fm_io::SureFiles;
 use std::test::Fail;
 

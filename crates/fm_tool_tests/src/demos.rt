@@ -1,4 +1,4 @@
-use super::{ends_at_each_write, line_ends};
+use crate::endings::{ends_at_each_write, line_ends};
 use fm_io::{MemFiles, SureFiles};
 use std::test::Fail;
 

@@ -1,12 +1,14 @@
-use super::queries::text_file;
-use super::{ends, named};
+use crate::endings::ends;
+use crate::files::{named, text_file};
 use fm_io::SureFiles;
 use std::alloc::Global;
 use std::test::Fail;
 
 /// A value of each kind: a boolean, a byte, a char, an int in big order, and in a union a long and a byte.
 const KINDS: &str =
-    "{\"type\":\"struct\",\"members\":[{\"type\":\"boolean\",\"name\":\"open\"},{\"type\":\"byte\",\"name\":\"grade\"},{\"type\":\"char\",\"name\":\"letter\"},{\"type\":\"int\",\"name\":\"count\",\"order\":\"big\"},{\"type\":\"union\",\"name\":\"either\",\"members\":[{\"type\":\"long\",\"name\":\"whole\"},{\"type\":\"byte\",\"name\":\"low\"}]}]}";
+    "{\"type\":\"struct\",\"members\":[{\"type\":\"boolean\",\"name\":\"open\"},{\"type\":\"byte\",\"name\":\"grade\"},{\"type\":\"char\",\"name\":\"letter\"},\
+    {\"type\":\"int\",\"name\":\"count\",\"order\":\"big\"},\
+    {\"type\":\"union\",\"name\":\"either\",\"members\":[{\"type\":\"long\",\"name\":\"whole\"},{\"type\":\"byte\",\"name\":\"low\"}]}]}";
 
 /// Three such records: two with the greatest long, one with the least.
 const VALUES: [u8; 48] = [

@@ -1,7 +1,8 @@
-use super::layouts::SALE;
-use super::{ends, ends_at_each_write, named, parts_of, rows_end, run};
-use crate::{LAYOUT_FILE_LIMIT, RECORD_FILE_LIMIT};
+use crate::endings::{ends, ends_at_each_write, parts_of, rows_end, run};
+use crate::files::{named, text_file, zeros};
+use crate::layouts::SALE;
 use fm_io::{MemFiles, SureFiles, SureSink};
+use fm_top::{LAYOUT_FILE_LIMIT, RECORD_FILE_LIMIT};
 use std::alloc::{AllocError, AllocGlobal, Global};
 use std::process::Abort;
 use std::random::RandomSource;
@@ -21,15 +22,6 @@ const ROW: [&str; 4] = ["query", "L1", "min(.price) where .kind=9", "R1"];
 /// What it prints.
 const NONE: &str = "min(.price) none\n";
 
-/// A file of a text under its name.
-pub(super) fn text_file(
-    alloc: Global,
-    name: &str,
-    text: &str,
-) -> Result<(String, Vec<u8>), AllocError> {
-    named(alloc, name, text.as_bytes().to_vec(alloc)?)
-}
-
 /// The first bytes of the sales.
 fn sales(alloc: Global, count: usize) -> Result<Vec<u8>, AllocError> {
     SALES[..count.min(SALES.len())].to_vec(alloc)
@@ -37,7 +29,7 @@ fn sales(alloc: Global, count: usize) -> Result<Vec<u8>, AllocError> {
 
 /// `L1`, of which `R1` has two records, the empty file `E`, and `R1` with a byte more, which is named `Ragged`; and
 /// layouts of which no records are: `Void` has no byte, `Uneven` isn't a multiple of its alignment, and `Broken` is none.
-pub(super) fn files(alloc: Global, failing: &[u64], most: usize) -> Result<MemFiles, AllocError> {
+pub fn files(alloc: Global, failing: &[u64], most: usize) -> Result<MemFiles, AllocError> {
     let mut longer = sales(alloc, 48)?;
     longer.push(0)?;
     let all = vec![in alloc;
@@ -93,7 +85,7 @@ nofile count -> 2 missing nofile|
 Ragged count -> 6 ragged 1|";
 
 /// Compares how this command ends for each row of a file and a text with what the row tells, in pieces of every size.
-pub(super) fn texts_end<R>(rt: &R, command: &str, table: &str) -> Result<(), Fail>
+pub fn texts_end<R>(rt: &R, command: &str, table: &str) -> Result<(), Fail>
 where
     R: Threads + Wait + Sync + RandomSource + AllocGlobal + Abort,
 {
@@ -318,7 +310,7 @@ fn each_file_has_a_limit_of_its_own(rt: HostRuntime) -> Result<(), Fail> {
     let alloc = rt.alloc();
     let layout_limit = LAYOUT_FILE_LIMIT as usize;
     let record_limit = RECORD_FILE_LIMIT as usize;
-    for (blanks, zeros, status, text) in [
+    for (blanks, count, status, text) in [
         // A file of records may be longer than a layout's.
         (layout_limit, layout_limit + 1, 0, "count 1048577\n"),
         (layout_limit + 1, 0, 7, "too long\n"),
@@ -329,7 +321,7 @@ fn each_file_has_a_limit_of_its_own(rt: HostRuntime) -> Result<(), Fail> {
             layout.push(b' ')?;
         }
         let layout = named(alloc, "L", layout)?;
-        let records = named(alloc, "R", super::zeros(alloc, zeros)?)?;
+        let records = named(alloc, "R", zeros(alloc, count)?)?;
         let mut files = SureFiles::new(vec![in alloc; layout, records]?);
         let words = ["query", "--threads=8", "L", "count", "R"];
         ends(&rt, &mut files, &words, status, text)?;
