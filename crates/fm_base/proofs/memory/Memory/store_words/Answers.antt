@@ -27,4 +27,5 @@ loop-k-preserved g c =
 pub returns : goal.returns
 returns g c =
     let v = g.Self.Memory.view in
-    subst (λ ws. AfterStores (v c.args.self.now) (v c.loop-k.self) c.args.first ws) (take_all c.loop-k.k c.args.words.now c.loop-k-test.false) c.loop-k.invariant
+    subst (λ ws. AfterStores (v c.args.self.now) (v c.loop-k.self) c.args.first ws) (take_all c.loop-k.k c.args.words.now c.loop-k-test.false)
+    c.loop-k.invariant
