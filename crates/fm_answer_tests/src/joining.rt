@@ -8,7 +8,7 @@ use fm_base::{Kind, Memory, Refusal};
 use fm_lanes::{Value, ValueKind};
 use fm_layout::Layout;
 use fm_mono::Mono;
-use fm_records::{Found, Query, check_record, of_no_records, parse_query, query_segment};
+use fm_records::{Found, Numbers, Query, check_record, of_no_records, parse_query, query_segment};
 use fm_segment::Segment;
 use std::alloc::{AllocGlobal, Global};
 use std::process::Abort;
@@ -161,6 +161,16 @@ fn bytes_and_longs_join(rt: HostRuntime) -> Result<(), Fail> {
         found.as_slice(),
         b"list(.) -128 127 -1 -1 -1 -1 -1 -1 128 -1 -9223372036854775808\n".as_slice()
     );
+    Ok(())
+}
+
+#[test]
+fn listed_longs_stand_in_their_order(rt: HostRuntime) -> Result<(), Fail> {
+    let numbers = Numbers::of(rt.alloc(), vec![in rt.alloc(); 3, -1, i64::MIN]?);
+    assert_eq!(rt; numbers.len(), 3);
+    assert_eq!(rt; numbers.at(0), 3);
+    assert_eq!(rt; numbers.at(1), -1);
+    assert_eq!(rt; numbers.at(2), i64::MIN);
     Ok(())
 }
 
