@@ -1,5 +1,5 @@
 -- A step keeps the rule, and tells its caller what others did.
-use Rattle.std.proofs.Common.{◌≡◌, ◌≢◌, ◌⊎◌, ℕ, zero, suc, ◌<◌, true, List, [], ◌∷◌, ◌++◌, set, sym, refl, ap, ◌∙◌, subst, arith, inl, inr, ⊎_elim, append_assoc}
+use Rattle.std.proofs.Common.{◌≡◌, ◌≢◌, ◌⊎◌, ℕ, zero, suc, ◌<◌, true, List, [], ◌∷◌, ◌++◌, set, sym, refl, ap, ◌∙◌, subst, arith, inl, inr, ⊎_elim, append_assoc, Some}
 use Rattle.std.proofs.lemmas.List.{append-nil}
 use Rattle.std.proofs.lemmas.List.Elements.{filter-append}
 use mathlib.Core.Logic.{dite}
@@ -15,7 +15,9 @@ use Rattle.fm_base.specs.Finds.{Find, Gathered, Close}
 use Rattle.fm_depicts.specs.Functions.{Machine}
 use Rattle.fm_depicts.specs.Steps.{moved_by}
 use Rattle.fm_pool_facts.specs.Views.{Met, View, In, IsSound, all_gathered, brought, limit_of}
-use Rattle.fm_pool_facts.specs.Facts.{Memory, Owners, IsClosing, IsSweeping, IsGathered, IsOnce, IsSilent, Begins, Somewhere, Owns, Knows}
+use Rattle.fm_base.specs.declared.arena_id.ArenaId.{ArenaId}
+use Rattle.fm_pool_facts.specs.Parts.{Swept, unread, named, wiping}
+use Rattle.fm_pool_facts.specs.Facts.{Memory, Owners, IsStanding, IsAt, IsNext, HasSwept, HasPages, IsClosing, IsSweeping, IsGathered, IsOnce, IsSilent, Begins, Somewhere, Owns, Knows}
 use Rattle.fm_pool_facts.specs.Moves.{MayMake, NoEnd, StaysEnded, Moved, Same, Part, told, Gives}
 use Rattle.fm_pool_facts.proofs.Frame.{others_stay, none_come, still_closing, still_over, made_by-other}
 use Rattle.fm_pool_facts.proofs.Handing.{hand_on, took_on}
@@ -110,12 +112,13 @@ sweeping_on limit c m t es m' ok z j o o' x k e s = record {
   owner = e ∙ k.owner;
   life = still_over limit c x.arena es t ok k.life;
   session = s.session;
-  wiped = λ w l b. s.cells w ∙ k.wiped w l b;
+  parts = λ i l. s.maps i ∙ k.parts i l;
   reset = λ l. s.given ∙ k.reset l;
 }
 
 module _ (z : Shape) (h : List Entry) (me : ℕ) (c : Caller) (m : Memory) (t : Machine) (o : Owners) (es : List Entry) (m' : Memory) (o' : Owners)
-    (d : Moved me z c m t o es m' o') (own : o.number c.number ≡ me) (low : c.number < m.draw) where
+    (d : Moved me z c m t o es m' o') (own : o.number c.number ≡ me) (low : c.number < m.draw)
+    (stands : (k : Caller) (a : ArenaId) → t.inside k ≡ Some a → IsStanding (t.life a)) where
   abbrev t' : Machine
   t' = moved_by t es
 
@@ -127,6 +130,31 @@ module _ (z : Shape) (h : List Entry) (me : ℕ) (c : Caller) (m : Memory) (t : 
 
   drawn_before : (n : ℕ) → n < m'.draw → n < m.draw
   drawn_before n l = let e = d.draw in omega arith
+
+  -- what another seat knows of pages
+  others_pages : (j : ℕ) (v : View) → j ≢ me → Owns z h m t o j v → HasPages z m'.maps m'.cells o'.berth j v.inside v.reads v.pages v.sweeps v.swept
+  others_pages j v other k = record {
+    read = λ a e x i. d.pages.stay a x.part x.page (stands v.caller a (k.inside ∙ e)) (k.pages.read a e x i);
+    claims = λ p i. let y = k.pages.claims p i in (still p (subst (IsAt j) (sym y) refl)).0 ∙ y;
+    lone = k.pages.lone;
+    sweep = go v.swept k.pages.sweep;
+  }
+    where
+      still : (p : ℕ) → IsAt j (o.berth p) → (o'.berth p ≡ o.berth p) × ((w : ℕ) → m'.cells p w ≡ m.cells p w)
+      still p i = d.pages.others p j i other
+
+      maps_of : (a : ArenaId) (i : ℕ) → IsNext v.sweeps a i → m'.maps a.slot i ≡ m.maps a.slot i
+      maps_of a i n =
+          let y = k.sweeps n.close n.there in
+          let w = d.sweepers n.close.arena y.life y.session (λ e. other (sym y.owner ∙ e)) in
+          subst (λ (b : ArenaId). m'.maps b.slot i ≡ m.maps b.slot i) n.arena (w.1.maps i)
+
+      go : (s : Swept) → HasSwept z m.maps m.cells o.berth j v.sweeps s → HasSwept z m'.maps m'.cells o'.berth j v.sweeps s
+      go unread s = tt
+      go (named a i p) s = (s.0, maps_of a i s.0 ∙ s.1)
+      go (wiping a i p w) s =
+          let y = still p (subst (IsAt j) (sym s.owner) refl) in
+          record { next = s.next; owner = y.0 ∙ s.owner; empty = maps_of a i s.next ∙ s.empty; wiped = λ q l b. y.1 q ∙ s.wiped q l b }
 
   others_own : (j : ℕ) (v : View) → j ≢ me → Owns z h m t o j v → Owns z h' m' t' o' j v
   others_own j v other k = record {
@@ -149,6 +177,7 @@ module _ (z : Shape) (h : List Entry) (me : ℕ) (c : Caller) (m : Memory) (t : 
     hand = hand_on z m.bits m'.bits m.sessions m'.sessions o.holder o'.holder j
         (λ s g f b e. let w = d.holders s g f b (λ q. other (sym e ∙ q)) in (w.0 ∙ e, w.1, w.2)) v.hand k.hand;
     took = took_on z m.bits m.sessions o.holder j o.taker o'.taker v.caller (λ s g f b e. (d.holders s g f b (λ q. other (sym e ∙ q))).3) v.hand k.hand k.took;
+    pages = others_pages j v other k;
     gathered = λ g i. still v.seen g (k.gathered g i);
     coming = λ x j g i. still x.seen g (k.coming x j g i);
     one_each = k.one_each;
@@ -236,6 +265,7 @@ module _ (z : Shape) (h zs : List Entry) (me : ℕ) (m m' : Memory) (t : Machine
           swept_once = q.swept_once;
           hand = q.hand;
           took = q.took;
+          pages = q.pages;
           coming = λ x i. absurd i;
           one_each = subst (IsOnce (λ (g : Gathered). g.caller.number)) (sym (append-nil (all_gathered p) ∙ same_all)) u.one_each;
           gathered = λ g i.

@@ -1,5 +1,6 @@
 pub mod Frame
 pub mod Standing
+pub mod Putting
 pub mod Worlds
 pub mod Retiring
 pub mod Shown
@@ -10,6 +11,9 @@ pub mod Gripping
 pub mod Counting
 pub mod Callers
 pub mod Lending
+pub mod Moving
+pub mod Living
+pub mod Scarcity
 pub mod Unlending
 pub mod Founds
 pub mod Drawers

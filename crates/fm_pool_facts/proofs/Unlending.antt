@@ -43,18 +43,6 @@ none_lent_on size limit s loans (e ∷ es) a l h o r n =
 
 -- ---- histories
 
--- after an entry that takes a slot's words back nothing is lent to an arena of the slot
-pub none_lent_back : (h : List Entry) (e : Entry) (a : ArenaId) → e.call ≡ Back a.slot
-    → ((l : Loan) → Contains (lent (h ++ e ∷ [])) l → l.block ≡ l.id.slot) → IsUnlent (lent (h ++ e ∷ [])) a
-none_lent_back h e a back own l i q =
-    let p : Loan → Bool = λ x. not (x.block == a.slot) in
-    let is : lent (h ++ e ∷ []) ≡ filter p (lent h) = loans_after-append [] h (e ∷ []) ∙ ap (loans_by (lent h)) back in
-    let passes : not (l.block == a.slot) ≡ true =
-    All-contains (λ x. p x ≡ true) (filter p (lent h)) l (filter_passes p (lent h)) (subst (λ (ls : List Loan). Contains ls l) is i) in
-    let b : l.block ≡ a.slot = own l i ∙ ap (λ (x : ArenaId). x.slot) q in
-    let t : not true ≡ true = ap not (sym (eq-eqb l.block a.slot b)) ∙ passes in
-    absurd (cc)
-
 lent-split : (size limit : ℕ) (s : State) (loans : List Loan) (es fs : List Entry) → IsRightlyLentFrom size limit s loans (es ++ fs)
     → IsRightlyLentFrom size limit (state_after limit s es) (loans_after loans es) fs
 lent-split size limit s loans [] fs r = r

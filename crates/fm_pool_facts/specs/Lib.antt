@@ -1,4 +1,6 @@
 pub mod Loans
+pub mod Berths
+pub mod Parts
 pub mod Hands
 pub mod Views
 pub mod Words
@@ -7,6 +9,7 @@ pub mod Holds
 pub mod Handles
 pub mod Steps
 pub mod Memory
+pub mod Pages
 pub mod Gone
 pub mod Facts
 pub mod Moves

@@ -18,6 +18,8 @@ use Rattle.fm_pool_facts.specs.Holds.{holds_of}
 use Rattle.fm_pool_facts.specs.Facts.{Memory, Owners, HasNumber, HasGathered, HasDraw, HasClose, HasSweep, KeepsSlot, DrewIn, IsGathered, IsDrawn, IsOnce, Somewhere, Owns, Knows, Rule}
 use Rattle.fm_pool_facts.specs.Moves.{told}
 use Rattle.fm_pool_facts.specs.Gone.{IsFounded}
+use Rattle.fm_pool_facts.specs.Facts.{HasPage}
+use Rattle.fm_pool_facts.proofs.Ruling.{page_like}
 use Rattle.fm_pool_facts.proofs.Gone.{NoSlots, none_founded, founded_same, founded_told}
 use Rattle.fm_pool_facts.proofs.Founds.{AreWithin, counted_later, counted_told, counted_set}
 use Rattle.fm_pool_facts.proofs.Keeping.{set_there, in_left, in_right, stays_somewhere, gathered_all, seated_all}
@@ -88,10 +90,11 @@ module _ (z : Shape) (me : ℕ) (v : View) (l : v.live ≡ true) (lone : v.met �
             mark = u.mark;
             closes = λ c j. let y = u.closes c j in record { owner = y.owner; life = y.life; visited = y.visited };
             once = u.once;
-            sweeps = λ c j. let y = u.sweeps c j in record { owner = y.owner; life = y.life; session = y.session; wiped = y.wiped; reset = y.reset };
+            sweeps = λ c j. let y = u.sweeps c j in record { owner = y.owner; life = y.life; session = y.session; parts = y.parts; reset = y.reset };
             swept_once = u.swept_once;
             hand = u.hand;
             took = u.took;
+            pages = u.pages;
             gathered = λ g j.
                 let y = gathered_all z r.history r.memory r.machine r.owners me v u g j in
                 gathered_still y.0 g y.1 (ap (made_by g.caller) (sym seen_is));
@@ -142,10 +145,11 @@ module _ (z : Shape) (me : ℕ) (v : View) (l : v.live ≡ true) (lone : v.met �
           mark = x.mark;
           closes = λ c i. let y = x.closes c i in record { owner = y.owner; life = y.life; visited = y.visited };
           once = x.once;
-          sweeps = λ c i. let y = x.sweeps c i in record { owner = y.owner; life = y.life; session = y.session; wiped = y.wiped; reset = y.reset };
+          sweeps = λ c i. let y = x.sweeps c i in record { owner = y.owner; life = y.life; session = y.session; parts = y.parts; reset = y.reset };
           swept_once = x.swept_once;
           hand = x.hand;
           took = x.took;
+          pages = x.pages;
           gathered = λ g i. still u.seen g (x.gathered g i);
           coming = λ y j g i. still y.seen g (x.coming y j g i);
           one_each = x.one_each;
@@ -219,7 +223,7 @@ module _ (z : Shape) (me : ℕ) (v : View) (l : v.live ≡ true) (lone : v.met �
       valid = r.valid;
       legal = r.legal;
       rightly = r.rightly;
-      loans = r.loans;
+      pages = r.pages;
       depicts = r.depicts;
       shows = shows_draw z r.valid ws r.memory r.shows (n + 1);
       world = record {
@@ -228,7 +232,6 @@ module _ (z : Shape) (me : ℕ) (v : View) (l : v.live ≡ true) (lone : v.met �
         slots = r.world.slots;
         counts = r.world.counts;
         givens = r.world.givens;
-        cells = r.world.cells;
       };
       few = omega arith;
       later = λ k b.
@@ -266,6 +269,7 @@ module _ (z : Shape) (me : ℕ) (v : View) (l : v.live ≡ true) (lone : v.met �
       closed = λ a h. stays_somewhere vs me v drawer (r.owners.closer a) (HasClose a) at (λ q. q) (r.closed a h);
       swept = λ a q o. stays_somewhere vs me v drawer (r.owners.closer a) (HasSweep a) at (λ p. p) (r.swept a q o);
       slots = λ s g h q left b. stays_somewhere vs me v drawer (r.owners.holder s) (KeepsSlot s) at (λ p. p) (r.slots s g h q left b);
+      berths = λ q j b. stays_somewhere vs me v drawer j (HasPage q (r.owners.berth q)) at (page_like q (r.owners.berth q) v drawer refl refl refl) (r.berths q j b);
       held = λ a.
           let x = total-set (holds_of a) vs me v drawer at in
           let y = r.held a in

@@ -19,6 +19,8 @@ use Rattle.fm_pool_facts.specs.Steps.{part, entries, noted, number_drawn, draws,
 use Rattle.fm_pool_facts.specs.Facts.{HasNumber, HasGathered, HasDraw, HasClose, HasSweep, KeepsSlot, DrewIn, Owns, Knows, Rule}
 use Rattle.fm_pool_facts.specs.Moves.{told, Gives, LearnsCount, MayStep}
 use Rattle.fm_pool_facts.specs.Gone.{IsFounded}
+use Rattle.fm_pool_facts.specs.Facts.{HasPage}
+use Rattle.fm_pool_facts.proofs.Ruling.{page_like}
 use Rattle.fm_pool_facts.proofs.Gone.{NoSlots, draw_no_slots, none_founded, founded_told}
 use Rattle.fm_pool_facts.proofs.Founds.{AreWithin, looked_within, drew_within, counted_told, counted_set, find_within}
 use Rattle.fm_pool_facts.proofs.Drawers.{complete_counted}
@@ -31,7 +33,7 @@ use Rattle.fm_pool_steps.proofs.Reading.{eqb_true}
 use Rattle.fm_pool_steps.proofs.Plain.{own, Made}
 use Rattle.fm_pool_steps.proofs.Counting.{knows, drew, drew_history}
 
-nat_le_true : (a b : ℕ) → nat_le a b ≡ true → a ≤ b
+pub nat_le_true : (a b : ℕ) → nat_le a b ≡ true → a ≤ b
 nat_le_true a b e = leb-true a b e
 
 module _ (z : Shape) (me : ℕ) (v : View) (l : v.live ≡ true) (lone : v.met ≡ []) (ws : List ℕ) (vs : List View) (r : Rule z ws vs)
@@ -76,7 +78,7 @@ module _ (z : Shape) (me : ℕ) (v : View) (l : v.live ≡ true) (lone : v.met �
         valid = r.valid;
         legal = r.legal;
         rightly = r.rightly;
-        loans = r.loans;
+        pages = r.pages;
         depicts = r.depicts;
         shows = shows_same z r.valid ws r.memory r.shows i;
         world = r.world;
@@ -90,6 +92,7 @@ module _ (z : Shape) (me : ℕ) (v : View) (l : v.live ≡ true) (lone : v.met �
         closed = λ a h. stays_somewhere vs me v w (r.owners.closer a) (HasClose a) at (λ q. q) (r.closed a h);
         swept = λ a f o. stays_somewhere vs me v w (r.owners.closer a) (HasSweep a) at (λ q. q) (r.swept a f o);
         slots = λ s g h f left b. stays_somewhere vs me v w (r.owners.holder s) (KeepsSlot s) at (λ q. q) (r.slots s g h f left b);
+        berths = λ q j b. stays_somewhere vs me v w j (HasPage q (r.owners.berth q)) at (page_like q (r.owners.berth q) v w refl refl refl) (r.berths q j b);
         held = λ a.
             let x = total-set (holds_of a) vs me v w at in
             let y = r.held a in
@@ -149,6 +152,7 @@ module _ (z : Shape) (me : ℕ) (v : View) (l : v.live ≡ true) (lone : v.met �
         f,
         gives (Some found) false fs (set ws i (found + 1)) f
             (drew_history z me v l lone ws vs r at found is_found fits none fs noted founds slots),
+        (append-nil (v.seen ++ zs) ∙ sym is) ∙ sym (drew_history z me v l lone ws vs r at found is_found fits none fs noted founds slots),
       )
 
   -- and where it didn't
@@ -157,7 +161,7 @@ module _ (z : Shape) (me : ℕ) (v : View) (l : v.live ≡ true) (lone : v.met �
   made_looked fs founds slots =
       let wh : Bool = whole_by found in
       let f = looked wh fs founds slots (go v.whole refl) in
-      (told (part_of v.drawn wh) zs [] fs, f, gives v.drawn wh fs (set ws i found) f refl)
+      (told (part_of v.drawn wh) zs [] fs, f, gives v.drawn wh fs (set ws i found) f refl, append-nil (v.seen ++ zs) ∙ sym is)
     where
       go : (b : Bool) → v.whole ≡ b → (if b then true else (length v.gathered + 1 == found)) ≡ true → (n : ℕ) → n < r.memory.draw → n ≢ v.caller.number
           → HasGathered n v

@@ -15,6 +15,8 @@ use Rattle.fm_pool_facts.specs.Holds.{holds_of}
 use Rattle.fm_pool_facts.specs.Splits.{gather, as_gathered, nothing_seen, IsAtRest}
 use Rattle.fm_pool_facts.specs.Facts.{Owners, HasNumber, HasDraw, HasClose, HasSweep, KeepsSlot, IsGathered, IsOnce, Begins, Somewhere, Owns, Knows, Rule, IsCounted}
 use Rattle.fm_pool_facts.specs.Gone.{IsFounded}
+use Rattle.fm_pool_facts.specs.Facts.{Berth, loose, claimed, mapped, unmapped, IsWiped, HasSwept, HasPage}
+use Rattle.fm_pool_facts.proofs.Ruling.{page_like}
 use Rattle.fm_pool_facts.proofs.Gone.{founded_bare, founded_gather}
 use Rattle.fm_pool_facts.proofs.Founds.{counted_bare, counted_gather}
 use Rattle.fm_pool_facts.proofs.Keeping.{set_there, stays_somewhere, gathered_all, in_left, in_right, in_append}
@@ -184,10 +186,11 @@ module _ (z : Shape) (ws : List ℕ) (vs : List View) (r : Rule z ws vs) (id : �
           mark = kv.mark;
           closes = λ c i. let y = kv.closes c i in record { owner = y.owner; life = y.life; visited = y.visited };
           once = kv.once;
-          sweeps = λ c i. let y = kv.sweeps c i in record { owner = y.owner; life = y.life; session = y.session; wiped = y.wiped; reset = y.reset };
+          sweeps = λ c i. let y = kv.sweeps c i in record { owner = y.owner; life = y.life; session = y.session; parts = y.parts; reset = y.reset };
           swept_once = kv.swept_once;
           hand = kv.hand;
           took = kv.took;
+          pages = kv.pages;
           gathered = λ g i. at_both v.seen g (kv.gathered g i);
           coming = λ x. ⊎_elim
               (λ (p : x ≡ record { seen = w.seen; gathered = comes }) g i.
@@ -242,10 +245,11 @@ module _ (z : Shape) (ws : List ℕ) (vs : List View) (r : Rule z ws vs) (id : �
           mark = x.mark;
           closes = λ c i. let y = x.closes c i in record { owner = y.owner; life = y.life; visited = y.visited };
           once = x.once;
-          sweeps = λ c i. let y = x.sweeps c i in record { owner = y.owner; life = y.life; session = y.session; wiped = y.wiped; reset = y.reset };
+          sweeps = λ c i. let y = x.sweeps c i in record { owner = y.owner; life = y.life; session = y.session; parts = y.parts; reset = y.reset };
           swept_once = x.swept_once;
           hand = x.hand;
           took = x.took;
+          pages = x.pages;
           gathered = λ g i. still u.seen g (x.gathered g i);
           coming = λ y n g i. still y.seen g (x.coming y n g i);
           one_each = x.one_each;
@@ -263,6 +267,16 @@ module _ (z : Shape) (ws : List ℕ) (vs : List View) (r : Rule z ws vs) (id : �
           seen_all = x.seen_all;
         };
   }
+
+  -- a pass that can be gathered has no page
+  no_page : (q : ℕ) (b : Berth) → ¬ (HasPage q b w)
+  no_page q loose h = h
+  no_page q (claimed j) h = subst (In q) rests.pages h.1
+  no_page q (mapped k i) h = h
+  no_page q (unmapped j a i) h =
+      let y : IsWiped z r.memory.maps r.memory.cells r.owners.berth other w.sweeps a i q h.1.0 =
+      subst (HasSwept z r.memory.maps r.memory.cells r.owners.berth other w.sweeps) h.1.1 kw.pages.sweep in
+      subst (In y.next.close) rests.sweeps y.next.there
 
   abbrev Founded : ℕ → View → Type 0
   Founded j u = IsFounded z r.history r.memory r.owners.taker r.machine.life u
@@ -282,6 +296,9 @@ module _ (z : Shape) (ws : List ℕ) (vs : List View) (r : Rule z ws vs) (id : �
       (λ s g h f left b. stays_somewhere (set vs id both) other w nothing_seen (r.owners.holder s) (KeepsSlot s) at'
       (λ (q : KeepsSlot s w). absurd (subst (HasSlot s) rests.hand q.1))
       (stays_somewhere vs id v both (r.owners.holder s) (KeepsSlot s) at (λ q. q) (r.slots s g h f left b)))
+      (λ q j b. stays_somewhere (set vs id both) other w nothing_seen j (HasPage q (r.owners.berth q)) at'
+      (λ h. absurd (no_page q (r.owners.berth q) h))
+      (stays_somewhere vs id v both j (HasPage q (r.owners.berth q)) at (page_like q (r.owners.berth q) v both refl refl refl) (r.berths q j b)))
       (views_set (set vs id both) other nothing_seen (Knows z r.history r.memory r.machine o')
       (record { shape = λ q. absurd (cc); begins = (r.history, refl); met = λ x i. absurd i; owns = λ q. absurd (cc) })
       (λ j u m e. views_set vs id both (λ k y. k ≢ other → Knows z r.history r.memory r.machine o' k y) (λ m. both_knows)

@@ -17,7 +17,7 @@ use Rattle.fm_pool_facts.specs.Views.{View, Fits, In, IsKnown}
 use Rattle.fm_pool_facts.specs.Words.{alive_word, alive_holds, hold_found, held_by, held_word}
 use Rattle.fm_pool_facts.specs.Holds.{grips, with_grips, holds_after, released, holds_of, all_holds}
 use Rattle.fm_pool_facts.specs.Steps.{part, entries, noted, none_noted, where_found}
-use Rattle.fm_pool_facts.specs.Facts.{Loans, World, session_code, Shows, Owns, Rule}
+use Rattle.fm_pool_facts.specs.Facts.{Pages, World, session_code, Shows, Owns, Rule}
 use Rattle.fm_pool_facts.specs.Loans.{lent}
 use Rattle.fm_pool_facts.specs.Moves.{MayStep}
 use Rattle.fm_pool_facts.proofs.Worlds.{world_count}
@@ -101,12 +101,18 @@ module _ (z : Shape) (me : ℕ) (v : View) (l : v.live ≡ true) (a : ArenaId) w
             closes = refl;
             hand = refl;
             sweeps = refl;
-            ended = λ b o f. record { session = f; cells = λ w. refl; given = refl };
+            ended = λ b o f. record { session = f; maps = λ i. refl; given = refl };
             shown = λ b f. f;
             was = λ b h. ap (λ (t : Machine). t.life b) (sym stays) ∙ h;
             holds = λ b. ap (λ (t : Machine). holds_of b v + all_holds b t) (sym stays);
             lends = (tt, tt);
-            loans = subst (λ (t : Machine). Loans (lent r.history) r.memory.sessions t.life) (sym stays) r.loans;
+            pages = subst (λ (t : Machine). Pages z (lent r.history) r.memory.page_bits r.memory.maps r.memory.cells r.owners.berth r.memory.sessions t.life t.word t.given)
+                (sym stays) r.pages;
+            maps = refl;
+            cells = λ p j b w. refl;
+            reads = λ a e x i. (e, i);
+            paged = refl;
+            swept = refl;
             shows = shows_same z r.valid ws r.memory r.shows i;
             world = subst (World z r.memory) (sym stays) r.world;
             inside = ap (λ (t : Machine). t.inside v.caller) stays ∙ mine.inside;
@@ -136,12 +142,17 @@ module _ (z : Shape) (me : ℕ) (v : View) (l : v.live ≡ true) (a : ArenaId) w
             closes = refl;
             hand = refl;
             sweeps = refl;
-            ended = λ b o f. record { session = f; cells = λ w. refl; given = refl };
+            ended = λ b o f. record { session = f; maps = λ i. refl; given = refl };
             shown = λ b f. f;
             was = λ b h. h;
             holds = keeps_grips v l r.machine a (a ∷ gs) (h + 1) (λ b. one_more_hold a b gs r.machine.holds);
             lends = (tt, tt);
-            loans = r.loans;
+            pages = r.pages;
+            maps = refl;
+            cells = λ p j b w. refl;
+            reads = λ a e x i. (e, i);
+            paged = refl;
+            swept = refl;
             shows = shown (found + 1) (h + 1) al (ap (λ (x : ℕ). x + 1) (is_word al) ∙ more_word a h);
             world = world_count z r.memory r.machine r.world a (h + 1) al below;
             inside = mine.inside;
@@ -176,12 +187,17 @@ module _ (z : Shape) (me : ℕ) (v : View) (l : v.live ≡ true) (a : ArenaId) w
         closes = refl;
         hand = refl;
         sweeps = refl;
-        ended = λ b o f. record { session = f; cells = λ w. refl; given = refl };
+        ended = λ b o f. record { session = f; maps = λ i. refl; given = refl };
         shown = λ b f. f;
         was = λ b h. h;
         holds = λ b. refl;
         lends = tt;
-        loans = r.loans;
+        pages = r.pages;
+        maps = refl;
+        cells = λ p j b w. refl;
+        reads = λ a e x i. (e, i);
+        paged = refl;
+        swept = refl;
         shows = shows_same z r.valid ws r.memory r.shows i;
         world = r.world;
         inside = mine.inside;
@@ -236,12 +252,17 @@ module _ (z : Shape) (me : ℕ) (v : View) (l : v.live ≡ true) (a : ArenaId) w
           closes = refl;
           hand = refl;
           sweeps = refl;
-          ended = λ b o f. record { session = f; cells = λ w. refl; given = refl };
+          ended = λ b o f. record { session = f; maps = λ i. refl; given = refl };
           shown = λ b f. f;
           was = λ b h. h;
           holds = keeps_grips v l r.machine a (released a gs) (h - 1) (λ b. one_hold_less a b gs r.machine.holds has held);
           lends = (tt, tt);
-          loans = r.loans;
+          pages = r.pages;
+          maps = refl;
+          cells = λ p j b w. refl;
+          reads = λ a e x i. (e, i);
+          paged = refl;
+          swept = refl;
           shows = shown x (h - 1) al (ap (λ (y : ℕ). (y + (2 ^ 64 - 1)) % 2 ^ 64) (is_word al) ∙ less_word a h low owner held few);
           world = world_count z r.memory r.machine r.world a (h - 1) al (omega arith);
           inside = mine.inside;

@@ -14,6 +14,8 @@ pub mod Telling
 pub mod Resting
 pub mod Bearing
 pub mod Taking
+pub mod Scarce
+pub mod Claiming
 pub mod Sweeping
 pub mod Retiring
 pub mod Giving

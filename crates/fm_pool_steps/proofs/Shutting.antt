@@ -26,9 +26,10 @@ use Rattle.fm_pool_facts.proofs.Keeping.{closing_on, sweeping_on}
 use Rattle.fm_pool_facts.proofs.Standing.{free_apart}
 use Rattle.fm_pool_facts.proofs.Worlds.{world_shut}
 use Rattle.fm_pool_facts.specs.Loans.{lent, loans_after}
-use Rattle.fm_pool_facts.specs.Facts.{Loans}
 use Rattle.fm_depicts.proofs.Putting.{put_cases, at_cases}
-use Rattle.fm_pool_facts.proofs.Lending.{loans_still}
+use Rattle.fm_pool_facts.proofs.Living.{pages_shut}
+use Rattle.fm_pool_facts.proofs.Ruling.{page_like}
+use Rattle.fm_pool_facts.specs.Facts.{Pages}
 use Rattle.fm_pool_facts.proofs.Shown.{shows_same, shows_session}
 use Rattle.fm_pool_facts.proofs.Gripping.{by_hand, same_handles}
 use Rattle.fm_pool_facts.proofs.Ruling.{keeps}
@@ -67,13 +68,18 @@ module _ (z : Shape) (me : ℕ) (v : View) (l : v.live ≡ true) (a : ArenaId) (
         closes = refl;
         hand = refl;
         sweeps = refl;
-        ended = λ b o f. record { session = f; cells = λ w. refl; given = refl };
+        ended = λ b o f. record { session = f; maps = λ i. refl; given = refl };
         shown = λ b f. f;
         was = λ b h. ap (λ (t : Machine). t.life b) (sym stays) ∙ h;
         holds = λ b. ap (λ (t : Machine). holds_of b v + all_holds b t) (sym stays);
         lends = (tt, tt);
-        loans =
-            subst (λ (t : Machine). Loans (loans_after (lent r.history) (entry_of v.caller (Shut a) reply ∷ [])) r.memory.sessions t.life) (sym stays) r.loans;
+        pages = subst (λ (t : Machine). Pages z (lent r.history) r.memory.page_bits r.memory.maps r.memory.cells r.owners.berth r.memory.sessions t.life t.word t.given)
+            (sym stays) r.pages;
+        maps = refl;
+        cells = λ p j b w. refl;
+        reads = λ a e x i. (e, i);
+        paged = refl;
+        swept = refl;
         shows = shows_same z r.valid ws r.memory r.shows i;
         world = subst (World z r.memory) (sym stays) r.world;
         inside = ap (λ (t : Machine). t.inside v.caller) stays ∙ k.inside;
@@ -102,7 +108,7 @@ module _ (z : Shape) (me : ℕ) (v : View) (l : v.live ≡ true) (a : ArenaId) (
       let stays : (b : ArenaId) → r.machine.life b ≡ Over → r.memory.sessions b.slot ≡ shut b → StaysEnded r.memory m' b = (λ b f h. record {
         session = put_else r.memory.sessions a.slot (shut a) b.slot (λ e.
             let q : r.memory.sessions b.slot ≡ live a = ap r.memory.sessions e ∙ r.world.sessions.alive_shown a al in absurd (cc)) ∙ h;
-        cells = λ w. refl;
+        maps = λ i. refl;
         given = refl;
       }) in
       let was_ended : (b : ArenaId) → put_at r.machine.life a Closes b ≡ Over → (b ≢ a) × (r.machine.life b ≡ Over) =
@@ -132,6 +138,7 @@ module _ (z : Shape) (me : ℕ) (v : View) (l : v.live ≡ true) (a : ArenaId) (
         sweepers = λ b f h n. (at_other r.owners.closer a me b (ended b f), stays b f h);
         holders = λ s g f b h. (refl, still s g f, b, refl);
         taken = λ s k x. inl (record { taker = x.taker; generation = x.generation; session = still s x.generation x.session; left = x.left; bit = x.bit });
+        pages = record { others = λ q j b h. (refl, λ w. refl); stay = λ b i q st e. e };
       } in
       let on : (c : Close) → In c v.closes → IsClosing (moved_by r.machine es) o' me c = (λ c j.
       let y = k.closes c j in
@@ -139,16 +146,15 @@ module _ (z : Shape) (me : ℕ) (v : View) (l : v.live ≡ true) (a : ArenaId) (
       (at_other r.owners.closer a me c.arena (other c.arena y.life)) ((λ h. h), tt)) in
       keeps z ws (set ws i (closing_word a)) vs r me v p es none_noted m' o' at l d same no_draw
       (tt, tt)
-      (loans_still (lent r.history) r.memory.sessions r.machine.life r.loans a Closes m'.sessions (λ e. absurd (cc)) back
-      (λ b. put_cases r.memory.sessions a.slot (shut a) b.slot (λ y. (y ≡ live b) ⊎ (y ≡ shut b) → IsShown r.memory.sessions b)
-      (λ e. ⊎_elim (λ q. absurd (cc))
-      (λ q. let i : a ≡ b = cc in inl (ap r.memory.sessions e ∙ (r.world.sessions.alive_shown a al ∙ ap live i)))) (λ ne q. q)))
+      (pages_shut z (lent r.history) r.memory.page_bits r.memory.maps r.memory.cells r.owners.berth r.memory.sessions r.machine.life r.machine.word
+      r.machine.given r.world.sessions r.pages a al)
       (λ b h. dite (one_arena b a)
       (λ e. inl (ap (put_at r.owners.closer a me) e ∙ at_here r.owners.closer a me, (l, (close_of a 0, inl refl, sym e))))
       (λ n. inr (sym (at_other r.machine.life a Closes b n) ∙ h, at_other r.owners.closer a me b n, (λ (y : HasClose b v). (y.0, (y.1.0, inr y.1.1, y.1.2))))))
       (sweeps_still me v p r.memory r.machine r.owners m' (moved_by r.machine es) o' same refl (λ b f. at_other r.owners.closer a me b (ended b f))
       (λ b f h. let y = was_ended b h in (was_shut b y.0 f, y.1)))
       (slots_still z me v p r.memory r.owners m' o' same refl (λ s. refl) back refl)
+      (λ q j b. inr (refl, λ h. page_like q (r.owners.berth q) v p refl refl refl h))
       held
       (shows_session z r.valid ws r.memory r.shows a.slot (shut a) 0 fit.slot)
       (world_shut z r.memory r.machine r.world a al none)
@@ -167,6 +173,7 @@ module _ (z : Shape) (me : ℕ) (v : View) (l : v.live ≡ true) (a : ArenaId) (
         swept_once = k.swept_once;
         hand = hand_still z r.memory m' r.owners.holder me still refl v.hand k.hand;
         took = k.took;
+        pages = k.pages;
       })
 
   -- the word is exchanged where it shows the arena alive with no holds

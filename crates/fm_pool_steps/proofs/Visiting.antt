@@ -1,5 +1,5 @@
 -- The step that visits a mark for a close.
-use Rattle.std.proofs.Common.{◌≡◌, ◌≢◌, ◌⊎◌, ℕ, ◌+◌, ◌<◌, ◌==◌, Bool, true, false, List, [], ◌∷◌, set, get_or, sym, refl, ap, ◌∙◌, subst, arith, inl, inr, ⊎_elim, Some}
+use Rattle.std.proofs.Common.{◌≡◌, ◌≢◌, ◌⊎◌, ℕ, ◌+◌, ◌<◌, ◌==◌, Bool, true, false, List, [], ◌∷◌, set, get_or, sym, refl, ap, ◌∙◌, subst, arith, inl, inr, ⊎_elim, Some, Option}
 use mathlib.Core.Option.{some}
 use mathlib.Core.Logic.{dite}
 use native.Mathlib.Decide.{ℕ_discrete}
@@ -24,7 +24,10 @@ use Rattle.fm_pool_facts.proofs.Keeping.{closing_on, sweeping_on}
 use Rattle.fm_pool_facts.proofs.Founds.{NoDraw, note_no_draw}
 use Rattle.fm_pool_facts.proofs.Worlds.{world_end}
 use Rattle.fm_pool_facts.specs.Loans.{lent}
-use Rattle.fm_pool_facts.proofs.Lending.{loans_still}
+use Rattle.fm_pool_facts.specs.Parts.{Swept, unread, named, wiping}
+use Rattle.fm_pool_facts.specs.Facts.{Berth, HasSwept}
+use Rattle.fm_pool_facts.proofs.Living.{pages_end}
+use Rattle.fm_pool_steps.proofs.Plain.{pages_still, pages_there}
 use Rattle.fm_pool_facts.proofs.Shown.{shows_same}
 use Rattle.fm_pool_facts.proofs.Ruling.{keeps}
 use Rattle.fm_pool_facts.specs.Holds.{one_alive}
@@ -32,6 +35,21 @@ use Rattle.fm_pool_facts.proofs.Gripping.{same_handles}
 use Rattle.fm_pool_steps.proofs.Reading.{eqb_true, eqb_false}
 use Rattle.fm_pool_steps.proofs.Closes.{Found, visited_of-found, count_of, in_visited, visited_in, once_visited, in_dropped, dropped_in, once_dropped}
 use Rattle.fm_pool_steps.proofs.Plain.{same_none, stays_ended, own, Made, plain, sweeps_still, slots_still}
+
+-- a sweep is there still where another one begins
+more_swept : (z : Shape) (maps : ℕ → ℕ → Option ℕ) (cells : ℕ → ℕ → ℕ) (berth : ℕ → Berth) (j : ℕ) (c : Close) (cs : List Close) (s : Swept)
+    → HasSwept z maps cells berth j cs s → HasSwept z maps cells berth j (c ∷ cs) s
+more_swept z maps cells berth j c cs unread h = tt
+more_swept z maps cells berth j c cs (named a i p) h =
+    let n = h.0 in (record { close = n.close; there = inr n.there; arena = n.arena; visited = n.visited }, h.1)
+more_swept z maps cells berth j c cs (wiping a i p w) h =
+    let n = h.next in
+    record {
+      next = record { close = n.close; there = inr n.there; arena = n.arena; visited = n.visited };
+      owner = h.owner;
+      empty = h.empty;
+      wiped = h.wiped;
+    }
 
 module _ (z : Shape) (me : ℕ) (v : View) (l : v.live ≡ true) (sh : v.shape ≡ z) (a : ArenaId) (k : ℕ) (has : visited_of v.closes a ≡ Some k)
     (low : k < z.passes)
@@ -46,7 +64,7 @@ module _ (z : Shape) (me : ℕ) (v : View) (l : v.live ≡ true) (sh : v.shape �
   fs = note_of (Visiting a (pass_of k)) found v
 
   no_draws : NoDraw fs
-  no_draws = note_no_draw (Visiting a (pass_of k)) found v refl refl
+  no_draws = note_no_draw (Visiting a (pass_of k)) found v refl refl refl
 
   abbrev mine : Owns z r.history r.memory r.machine r.owners me v
   mine = own z ws vs r me v at l
@@ -83,12 +101,17 @@ module _ (z : Shape) (me : ℕ) (v : View) (l : v.live ≡ true) (sh : v.shape �
     closes = refl;
     hand = refl;
     sweeps = refl;
-    ended = λ b o f. record { session = f; cells = λ w. refl; given = refl };
+    ended = λ b o f. record { session = f; maps = λ i. refl; given = refl };
     shown = λ b f. f;
     was = λ b h. h;
     holds = λ a. refl;
     lends = tt;
-    loans = r.loans;
+    pages = r.pages;
+    maps = refl;
+    cells = λ p j b w. refl;
+    reads = λ a e x i. (e, i);
+    paged = refl;
+    swept = refl;
     shows = shows_same z r.valid ws r.memory r.shows i;
     world = r.world;
     inside = mine.inside;
@@ -121,12 +144,14 @@ module _ (z : Shape) (me : ℕ) (v : View) (l : v.live ≡ true) (sh : v.shape �
         sweepers = λ b f h n. (refl, stays_ended r.memory b h);
         holders = λ s g f b h. (refl, f, b, refl);
         taken = λ s k x. inl x;
+        pages = pages_still;
       } in
       keeps z ws (set ws i found) vs r me v p [] fs r.memory r.owners at l d same no_draws
-      tt r.loans
+      tt r.pages
       (λ b h. inr (h, refl, (λ (y : HasClose b v). let w = visited_in a y.1.0 v.closes y.1.1 in (y.0, (w.0, w.1, w.2 ∙ y.1.2)))))
       (sweeps_still me v p r.memory r.machine r.owners r.memory r.machine r.owners same refl (λ b f. refl) (λ b f h. (f, h)))
       (slots_still z me v p r.memory r.owners r.memory r.owners same refl (λ s. refl) (λ s g f. f) refl)
+      (pages_there me r.owners v p same refl refl)
       (λ b. refl)
       (shows_same z r.valid ws r.memory r.shows i) r.world
       (record {
@@ -138,6 +163,7 @@ module _ (z : Shape) (me : ℕ) (v : View) (l : v.live ≡ true) (sh : v.shape �
         swept_once = mine.swept_once;
         hand = mine.hand;
         took = mine.took;
+        pages = mine.pages;
       })
     where
       -- the close of an arena is the one that was found
@@ -189,12 +215,14 @@ module _ (z : Shape) (me : ℕ) (v : View) (l : v.live ≡ true) (sh : v.shape �
         sweepers = λ b f h n. (refl, stays_ended r.memory b h);
         holders = λ s g f b h. (refl, f, b, refl);
         taken = λ s k x. inl x;
+        pages = pages_still;
       } in
       let other : (b : ArenaId) → put_at r.machine.life a Over b ≡ Closes → b ≢ a =
       (λ b. at_cases r.machine.life a Over b (λ x. x ≡ Closes → b ≢ a) (λ e q. absurd (cc)) (λ ne q. ne)) in
       keeps z ws (set ws i found) vs r me v p es fs r.memory r.owners at l d same no_draws
       (tt, tt)
-      (loans_still (lent r.history) r.memory.sessions r.machine.life r.loans a Over r.memory.sessions (λ e. absurd (cc)) (λ s g f. f) (λ b f. f))
+      (pages_end z (lent r.history) r.memory.page_bits r.memory.maps r.memory.cells r.owners.berth r.memory.sessions r.machine.life r.machine.word
+      r.machine.given r.world.sessions r.pages a closes_now)
       (λ b h. let ne = other b h in inr (
         sym (at_other r.machine.life a Over b ne)
             ∙ h,
@@ -207,6 +235,7 @@ module _ (z : Shape) (me : ℕ) (v : View) (l : v.live ≡ true) (sh : v.shape �
       (λ e q. inl (ap r.owners.closer e ∙ closer_me, (l, (close_of a 0, inl refl, sym e))))
       (λ ne q. inr (f, q, refl, (λ y. (y.0, (y.1.0, inr y.1.1, y.1.2))))))
       (slots_still z me v p r.memory r.owners r.memory r.owners same refl (λ s. refl) (λ s g f. f) refl)
+      (pages_there me r.owners v p same refl refl)
       (same_handles v l r.machine a Over (λ k. sym (ap one_alive closes_now)))
       (shows_same z r.valid ws r.memory r.shows i) (world_end z r.memory r.machine r.world a closes_now nobody)
       (record {
@@ -222,7 +251,7 @@ module _ (z : Shape) (me : ℕ) (v : View) (l : v.live ≡ true) (sh : v.shape �
               owner = closer_me;
               life = at_here r.machine.life a Over;
               session = r.world.sessions.closing_shown a closes_now;
-              wiped = λ w h b. absurd (omega arith);
+              parts = λ i h. absurd (omega arith);
               reset = λ h. absurd (omega arith);
             }))
             (λ (j : In c v.sweeps).
@@ -236,6 +265,12 @@ module _ (z : Shape) (me : ℕ) (v : View) (l : v.live ≡ true) (sh : v.shape �
         );
         hand = mine.hand;
         took = mine.took;
+        pages = record {
+          read = mine.pages.read;
+          claims = mine.pages.claims;
+          lone = mine.pages.lone;
+          sweep = more_swept z r.memory.maps r.memory.cells r.owners.berth me (close_of a 0) v.sweeps v.swept mine.pages.sweep;
+        };
       })
 
   visits : (b c : Bool) → (found == mark_of a) ≡ b → (k + 1 == v.shape.passes) ≡ c

@@ -59,8 +59,8 @@ fn word_at(pool: &Pool, place: u64) -> Option<u64> {
     }
 }
 
-/// All words are 0 but the count of numbers and the slot bits.
-fn check_words<R: Abort + AllocGlobal>(rt: &R, shape: Shape, words: u64, slot_bits: u64)
+/// All words are 0 but the count of numbers, the slot bits and the page bits.
+fn check_words<R: Abort + AllocGlobal>(rt: &R, shape: Shape, words: u64, slot_bits: u64, page_bits: u64)
     requires { IsValid shape }
 {
     let (pool, _) = Pool::make(rt.alloc(), shape).expect(rt, "words");
@@ -68,6 +68,7 @@ fn check_words<R: Abort + AllocGlobal>(rt: &R, shape: Shape, words: u64, slot_bi
         let expected = match place {
             1 => 1,
             2 => slot_bits,
+            3 => page_bits,
             _ => 0,
         };
         assert_eq!(rt; word_at(&pool, place), Some(expected));
@@ -77,15 +78,15 @@ fn check_words<R: Abort + AllocGlobal>(rt: &R, shape: Shape, words: u64, slot_bi
 
 #[test]
 fn pools_begin_with_zeros_one_number_and_slot_bits(rt: HostRuntime) {
-    check_words(&rt, LEAST, 7, 1);
-    check_words(&rt, LARGER, 42, 3);
+    check_words(&rt, LEAST, 9, 1, 1);
+    check_words(&rt, LARGER, 47, 3, 15);
 }
 
 #[test]
 fn pools_of_the_greatest_shapes_can_be_had(rt: HostRuntime) {
-    check_words(&rt, GREATEST, 16_781_443, u64::MAX);
-    check_words(&rt, FARTHEST, 16_781_317, 1);
-    check_words(&rt, WIDEST, 16_781_347, 0xffff);
+    check_words(&rt, GREATEST, 16_781_508, u64::MAX, u64::MAX);
+    check_words(&rt, FARTHEST, 16_781_382, 1, u64::MAX);
+    check_words(&rt, WIDEST, 16_781_364, 0xffff, 0xffff);
 }
 
 #[test]

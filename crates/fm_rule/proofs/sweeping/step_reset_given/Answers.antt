@@ -20,7 +20,7 @@ store_as-requires-clause-place c =
 pub store_as-requires-clause-may : goal.store_as-requires-clause-may
 store_as-requires-clause-may c =
     may_reset _ _ c.pass.inside.seat.me.0 c.pass.invariant.live _ c.args.a
-    (ap (λ (x : View). visited_of x.sweeps c.args.a) c.pass.view_is ∙ c.requires.sweep) c.given_place-place.ensures
+    (ap (λ (x : View). visited_of x.sweeps c.args.a) c.pass.view_is ∙ c.requires.sweep) (ap (λ (x : View). x.swept) c.pass.view_is ∙ c.requires.idle) c.given_place-place.ensures
 
 pub invariant_of-pass : goal.invariant_of-pass
 invariant_of-pass c = reset_keeps _ _ _ _ _ _ _ _ c.pass.invariant c.store_as.ensures.slots c.args.a _ c.store_as.ensures.tells

@@ -24,7 +24,7 @@ store_as-requires-clause-place c =
 pub store_as-requires-clause-may : goal.store_as-requires-clause-may
 store_as-requires-clause-may c =
     may_retire _ _ c.pass.inside.seat.me.0 c.pass.invariant.live _ c.args.a _
-    (shape_is _ c.pass.inside.seat.me.0 _ _ c.pass.view_is c.requires.of.1) (ap (λ (x : View). x.hand) c.pass.view_is ∙ c.requires.none)
+    (shape_is _ c.pass.inside.seat.me.0 _ _ c.pass.view_is c.requires.of.1) (ap (λ (x : View). x.hand) c.pass.view_is ∙ c.requires.none) (ap (λ (x : View). x.swept) c.pass.view_is ∙ c.requires.idle)
     (ap (λ (x : View). visited_of x.sweeps c.args.a) c.pass.view_is ∙ c.requires.sweep) c.session_place-place.ensures c.retired_word-free.ensures
 
 pub invariant_of-pass : goal.invariant_of-pass

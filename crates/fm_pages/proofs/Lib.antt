@@ -1,0 +1,5 @@
+pub mod Finding
+pub mod Bids
+pub mod Parts
+pub mod Ranges
+pub mod Gives

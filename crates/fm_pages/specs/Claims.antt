@@ -1,0 +1,29 @@
+-- What claiming a page does to a pass.
+use Rattle.std.specs.Prelude.{◌≡◌, ◌<◌, ◌≤◌, ℕ, Bool, true, List, [], ◌∷◌, length, Option, Some, None, ⊤}
+use Rattle.fm_base.specs.Finds.{FoundNothing, is_page}
+use Rattle.fm_pool_facts.specs.Views.{View, FewLeft}
+use Rattle.fm_calls.specs.Kept.{Goes}
+
+abbrev pub IfNone : {A : Type 0} → Option A → Type 0 → Type 0
+IfNone None P = P
+IfNone (Some a) P = ⊤
+
+-- the pass went on without entries of its own, found words of page bits, and has these pages in its hand
+pub record Went (old new : View) (pages : List ℕ) : Type 0 where
+  pub goes : Goes old new []
+  pub is : new ≡ record old { seen = new.seen; finds = new.finds; pages = pages }
+
+-- it claimed the page
+pub record PageClaimed (old new : View) (page : ℕ) : Type 0 where
+  pub went : Went old new (page ∷ [])
+  pub low : page < old.shape.pages
+
+-- the word of page bits was 0 at a step of the call: that is all of PoolFull's clause for finds
+pub record NoneClaimed (old new : View) : Type 0 where
+  pub went : Went old new []
+  pub found : FoundNothing is_page old.finds new.finds
+  -- at that step as much had been seen as at no time before the call, or after it
+  pub early : length old.seen ≤ found.find.seen
+  pub late : found.find.seen ≤ length new.seen
+  -- then fewer blocks weren't lent than there are passes, and none where the pass was clear
+  pub left : FewLeft new.shape new.seen found.find

@@ -1,0 +1,32 @@
+ghost use Rattle.std.specs.Prelude.{◌≡◌, ◌<◌, [], Some};
+ghost use Rattle.fm_rule.specs.Passes.{IsOf};
+ghost use Rattle.fm_pages.specs.Maps.{PartMapped};
+
+use crate::claiming::{claim, free_page};
+use fm_base::ArenaId;
+use fm_rule::{Pass, Pool, step_map, step_read_map};
+use std::sync::Wait;
+
+/// Whether this part of the arena that the pass is inside has a page, which it gets where it has none and one is free.
+pub fn map<R: Wait>(rt: &R, pool: &Pool, pass: &mut Pass, a: ArenaId, part: u32) -> bool
+    requires of { IsOf pool.now pass.old }
+    requires none { pass.old.pages ≡ [] }
+    requires inside { pass.old.inside ≡ Some a }
+    requires low { part < pool.now.shape.reach }
+    ensures { PartMapped pass.old pass.new a part result }
+{
+    let word = step_read_map(pool, pass, a, part);
+    if word != 0 {
+        return true;
+    }
+    match claim(rt, pool, pass) {
+        None => false,
+        Some(page) => {
+            let other = step_map(pool, pass, a, part, page);
+            if other != 0 {
+                free_page(pool, pass, page);
+            }
+            true
+        }
+    }
+}
