@@ -15,8 +15,9 @@ use Rattle.fm_pool_facts.proofs.Founds.{draw_found, draw_drew, draw_is}
 use Rattle.fm_pool_facts.proofs.Keeping.{in_append, in_left, in_right}
 use Rattle.fm_pool_steps.proofs.Reading.{eqb_true, eqb_false}
 use Rattle.fm_rule.specs.Passes.{IsOf}
-use Rattle.fm_rule.specs.Draws.{Asked, Takes, NoneDrawn, Looked}
+use Rattle.fm_rule.specs.Draws.{Asked, LearnsAnew, Takes, NoneDrawn, Looked}
 use Rattle.fm_rule.specs.declared.pool.Pool.{Pool}
+use Rattle.fm_rule.proofs.Following.{last_found, follows_more, last_more}
 
 -- no step
 asked_none : (p : View) → p.drawn ≡ None → Asked p p [] None
@@ -107,17 +108,29 @@ one_drawn z e x same few = go (nat_le (e + 1) z.passes) refl
 
 -- ---- the loop
 
--- the pass has come from `old` to `now` by draws that found another count than they expected
+-- the pass has come from `old` to `now` by draws that found another count than they expected; the last found the next to expect
 pub record Asking (pool : Pool) (old now : View) (expected : ℕ) : Type 0 where
   pub draws : List Find
   pub asked : Asked old now draws None
   pub none : (f : Find) → In f draws → f.drew ≡ None
+  pub tries : LearnsAnew draws
+  pub last : expected ≡ last_found tries.guess draws
   pub kept : now.whole ≡ old.whole
   pub some : 0 < expected
   pub of : IsOf pool now
 
 pub asking_begins : {pool : Pool} (p : View) (e : ℕ) → IsOf pool p → p.drawn ≡ None → 0 < e → Asking pool p p e
-asking_begins p e of d some = record { draws = []; asked = asked_none p d; none = λ f i. absurd i; kept = refl; some = some; of = of }
+unfolding last_found
+asking_begins p e of d some = record {
+  draws = [];
+  asked = asked_none p d;
+  none = λ f i. absurd i;
+  tries = record { guess = e; follow = tt };
+  last = refl;
+  kept = refl;
+  some = some;
+  of = of;
+}
 
 abbrev Draw : View → View → ℕ → ℕ → Type 0
 Draw p q e x = Stepped p q (draws (number_drawn p.shape e x) e x p) [] (note_draw e x p)
@@ -147,6 +160,13 @@ module _ {pool : Pool} {old p q : View} (e x : ℕ) (t : Asking pool old p e) (s
   shape_is : p.shape ≡ old.shape
   shape_is = same_shape old p q t.draws t.asked
 
+  -- the step's own find
+  abbrev this : ℕ → Find
+  this n = record { step = Drawing e; found = x; seen = n; clear = is_clear p; drew = caller_drawn (number_drawn p.shape e x) }
+
+  abbrev tried : (n : ℕ) → LearnsAnew (t.draws ++ note_draw e x p n)
+  tried n = record { guess = t.tries.guess; follow = follows_more t.tries.guess t.draws (this n) t.tries.follow (ap Drawing t.last) }
+
   on_whole : q.whole ≡ whole_after p e x → q.whole ≡ old.whole
   on_whole is = is ∙ (not_made p e x t.some ∙ t.kept)
 
@@ -162,6 +182,8 @@ module _ {pool : Pool} {old p q : View} (e x : ℕ) (t : Asking pool old p e) (s
         draws = t.draws ++ fs;
         asked = asked_then old p q t.draws t.asked t.kept None (whole_after p e x) x (note_draw e x p) (draw_is e x p) (draw_found e x p) l step;
         none = λ f i. ⊎_elim (t.none f) (draw_drew e x p None d (length (p.seen ++ step.others)) f) (in_append f t.draws fs i);
+        tries = tried (length (p.seen ++ step.others));
+        last = sym (last_more t.tries.guess t.draws (this (length (p.seen ++ step.others))));
         kept = on_whole (ap (λ (v : View). v.whole) step.is_part);
         some = (let y = l.own in omega arith);
         of = (ap (λ (v : View). v.home) step.is_part ∙ t.of.0, ap (λ (v : View). v.shape) step.is_part ∙ t.of.1);
@@ -174,11 +196,12 @@ module _ {pool : Pool} {old p q : View} (e x : ℕ) (t : Asking pool old p e) (s
       let step = drew_none p q e x no_number d s in
       let n : ℕ = length (p.seen ++ step.others) in
       let fs : List Find = note_draw e x p n in
-      let here : Find = record { step = Drawing e; found = x; seen = n; clear = is_clear p; drew = caller_drawn (number_drawn p.shape e x) } in
+      let here : Find = this n in
       let passes : x ≡ old.shape.passes = all ∙ ap (λ (z : Shape). z.passes) shape_is in
       record {
         draws = t.draws ++ fs;
         asked = asked_then old p q t.draws t.asked t.kept None (whole_after p e x) x (note_draw e x p) (draw_is e x p) (draw_found e x p) l step;
+        tries = tried n;
         all = record {
           none = λ f i. ⊎_elim (t.none f) (draw_drew e x p None d n f) (in_append f t.draws fs i);
           find = here;
@@ -202,10 +225,11 @@ module _ {pool : Pool} {old p q : View} (e x : ℕ) (t : Asking pool old p e) (s
       let step = subst (λ (v : View). Stepped p q v [] (note_draw e x p)) (ap (λ (o : Option ℕ). draws o e x p) d) s in
       let n : ℕ = length (p.seen ++ step.others) in
       let fs : List Find = note_draw e x p n in
-      let here : Find = record { step = Drawing e; found = x; seen = n; clear = is_clear p; drew = caller_drawn (number_drawn p.shape e x) } in
+      let here : Find = this n in
       record {
         draws = t.draws ++ fs;
         asked = asked_then old p q t.draws t.asked t.kept (Some x) false x (note_draw e x p) (draw_is e x p) (draw_found e x p) l step;
+        tries = tried n;
         drew = record {
           find = here;
           among = in_right here t.draws fs (inl refl);

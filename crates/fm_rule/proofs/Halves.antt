@@ -131,6 +131,7 @@ drawn_of old mid d n t is sound =
         later = a.later;
         is = λ i. record (a.is i) { drawn = None };
       };
+      tries = record { guess = t.tries.guess; follow = t.tries.follow };
       drew = t.drew;
       fresh = left_new mid n (t.sound.drawn n drawn);
       whole = t.whole;

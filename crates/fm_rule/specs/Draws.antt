@@ -1,5 +1,5 @@
 -- What drawing, gathering and looking for every number do to passes.
-use Rattle.std.specs.Prelude.{◌≡◌, ◌≢◌, ℕ, ◌+◌, ◌<◌, ◌≤◌, ◌==◌, Bool, true, false, List, [], ◌∷◌, ◌++◌, length, All, Option, Some, None}
+use Rattle.std.specs.Prelude.{◌≡◌, ◌≢◌, ℕ, ◌+◌, ◌<◌, ◌≤◌, ◌==◌, Bool, true, false, List, [], ◌∷◌, ◌++◌, length, All, Option, Some, None, ⊤}
 use Rattle.fm_base.specs.declared.caller.Caller.{Caller}
 use Rattle.fm_base.specs.Calls.{Entry}
 use Rattle.fm_base.specs.Histories.{made_by}
@@ -24,6 +24,16 @@ pub record Asked (old new : View) (draws : List Find) (drawn : Option ℕ) : Typ
   pub later : (f g : Find) → HasFind old f → is_draw f.step ≡ true → In g draws → f.found ≤ g.found
   pub is : new ≡ record old { seen = new.seen; finds = new.finds; whole = new.whole; drawn = drawn }
 
+-- each of these draws expects the count that the one before it found, and the first so many
+abbrev pub Follow : (expected : ℕ) → List Find → Type 0
+Follow expected [] = ⊤
+Follow expected (f ∷ fs) = (f.step ≡ Draws expected) × Follow f.found fs
+
+-- each try but the first expects what the one before it found
+pub record LearnsAnew (draws : List Find) : Type 0 where
+  pub guess : ℕ
+  pub follow : Follow guess draws
+
 -- one of the finds drew the number, and none another
 pub record Drew (n : ℕ) (draws : List Find) : Type 0 where
   pub find : Find
@@ -47,6 +57,7 @@ pub record FoundAll (passes : ℕ) (draws : List Find) : Type 0 where
 pub record Takes (old new : View) (n : ℕ) : Type 0 where
   pub draws : List Find
   pub asked : Asked old new draws (Some n)
+  pub tries : LearnsAnew draws
   pub drew : Drew n draws
   pub whole : new.whole ≡ false
   pub suffice : old.whole ≡ true → length old.gathered + 1 < old.shape.passes
@@ -57,6 +68,7 @@ pub record Drawn (old new d : View) : Type 0 where
   pub number : ℕ
   pub draws : List Find
   pub asked : Asked old new draws None
+  pub tries : LearnsAnew draws
   pub drew : Drew number draws
   pub fresh : IsNew new number
   pub whole : new.whole ≡ false
@@ -71,6 +83,7 @@ pub record Drawn (old new d : View) : Type 0 where
 pub record NoneDrawn (old new : View) : Type 0 where
   pub draws : List Find
   pub asked : Asked old new draws None
+  pub tries : LearnsAnew draws
   pub all : FoundAll old.shape.passes draws
   -- it is known to be whole just where it was, and has every number that there is then
   pub same : new.whole ≡ old.whole
