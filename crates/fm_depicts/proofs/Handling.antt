@@ -146,7 +146,8 @@ shut_lives Closes n e = absurd (cc)
 shut_lives Over n e = absurd (cc)
 
 -- what the functions allow counts
-pub counts_by : (limit : ℕ) (t : Machine) (c : Caller) (call : Call) (reply : Reply) → MayBy limit t c call → reply ≡ reply_by limit t call → Counts t call reply
+pub counts_by : (limit : ℕ) (t : Machine) (c : Caller) (call : Call) (reply : Reply) → MayBy limit t c call → reply ≡ reply_by limit t call
+    → Counts t call reply
 counts_by limit t c (Open id) reply m r = m.0
 counts_by limit t c (Enter id) reply m r = tt
 counts_by limit t c (Read id word) reply m r = tt

@@ -32,6 +32,7 @@ use Rattle.fm_pool_facts.proofs.Callers.{all_now, few_gathered, whole_has, knows
 use Rattle.fm_pool_facts.proofs.Frame.{legal_on}
 use Rattle.fm_pool_facts.proofs.Summing.{total-set, total-has, some_hold}
 use Rattle.fm_pool_facts.proofs.Gripping.{held_now, held_lives}
+use Rattle.fm_pool_facts.proofs.Handles.{handles_told}
 use Rattle.fm_pool_facts.proofs.Founds.{NoneDrawn, NoDraw, none_within, find_within, terms_on, counted_later, counted_told, counted_set}
 use Rattle.fm_pool_facts.proofs.Keeping.{set_there, in_left, stays_somewhere, silent_on, others_know, own_view, gives_by}
 
@@ -121,6 +122,7 @@ sound_of z ws vs r me v at l lone q =
       held = λ a i.
           let y = alive_now (has_arena s a) (arena_of s a).life (sym (r.depicts.life a) ∙ lives_held z ws vs r me v at l a i) in
           (ap (λ (x : State). has_arena x a) st ∙ y.0, ap (λ (x : State). (arena_of x a).life) st ∙ y.1);
+      own_handles = u.handles;
       own_words = λ x i. r.loans.own x (subst (λ (es : List Entry). Contains (lent es) x) q i);
       none_left = λ w n c f h.
           none_now z me v l ws vs r at w n q c f (⊎_elim
@@ -258,7 +260,8 @@ keeps_with z ws ws' vs r me v p es fs m' o' at l d s nd new lends loans kc kw ks
           omega arith;
       each = λ j y at'. ⊎_elim
           (λ (e : (j ≡ me) × (w ≡ y)). subst (λ (x : ℕ × View). Knows z (r.history ++ es) m' t' o' x.0 x.1) (λ i. (sym e.0 i, e.1 i))
-          (own_view z r.history zs me r.memory m' r.machine r.owners o' es fs v p k l d is s q))
+          (own_view z r.history zs me r.memory m' r.machine r.owners o' es fs v p k l d is s q
+          (handles_told (limit_of z) r.machine v p r.history zs es fs l d.allowed is u.mine s kh u.handles)))
           (λ (e : (j ≢ me) × (get_elem? vs j ≡ some y)). others_know z r.history me v.caller r.memory r.machine r.owners es m' o' d u.seated u.number j y e.0
           (r.each j y e.1))
           (at_set vs me j w y at');

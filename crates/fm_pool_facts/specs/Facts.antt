@@ -13,7 +13,7 @@ use Rattle.fm_base.specs.Finds.{Find, Gathered, Close, is_draw}
 use Rattle.fm_depicts.specs.Functions.{Stage, Fresh, Lives, Closes, Over, Machine, Depicts}
 use Rattle.std.specs.Int.{bit_at}
 use Rattle.fm_pool_facts.specs.Hands.{Hand, nothing, taken, learnt, retired, HasSlot, IsTaker}
-use Rattle.fm_pool_facts.specs.Views.{Met, View, Fits, In, all_gathered, span, limit_of}
+use Rattle.fm_pool_facts.specs.Views.{Met, View, Fits, In, HasOwnHandles, all_gathered, span, limit_of}
 pub use Rattle.fm_pool_facts.specs.Views.{IsOnce, Begins}
 pub use Rattle.fm_pool_facts.specs.Memory.{Session, free, live, shut, Memory, session_code, Shows, IsShown}
 unfoldable pub use Rattle.fm_pool_facts.specs.Memory.{cell_at}
@@ -169,6 +169,7 @@ pub record Owns (z : Shape) (h : List Entry) (m : Memory) (t : Machine) (o : Own
   pub swept_once : IsOnce (λ (c : Close). c.arena) v.sweeps
   pub hand : HasInHand z m.bits m.sessions o.holder j v.hand
   pub took : IsTaker o.taker v.caller v.hand
+  pub handles : HasOwnHandles v
   pub gathered : (g : Gathered) → In g v.gathered → IsGathered h m t o j v v.seen g
   pub coming : (x : Met) → In x v.met → (g : Gathered) → In g x.gathered → IsGathered h m t o j v x.seen g
   pub one_each : IsOnce (λ (g : Gathered). g.caller.number) (all_gathered v)

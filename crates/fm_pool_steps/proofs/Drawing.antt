@@ -191,8 +191,8 @@ module _ (z : Shape) (me : ℕ) (v : View) (l : v.live ≡ true) (lone : v.met �
 
   -- the exchange
   exchanged : (expected : ℕ) → v.drawn ≡ None → v.shape ≡ z → (b c : Bool) → (found == expected) ≡ b → nat_le (expected + 1) v.shape.passes ≡ c
-      → Made z ws vs me v i (either b (if c then expected + 1 else expected) found) (draws (if b then (if c then Some found else None) else None) expected found v) []
-      (note_draw expected found v)
+      → Made z ws vs me v i (either b (if c then expected + 1 else expected) found)
+      (draws (if b then (if c then Some found else None) else None) expected found v) [] (note_draw expected found v)
   exchanged expected none sh true true e q =
       let same : found ≡ expected = eqb_true found expected e in
       let p : ℕ = v.shape.passes in

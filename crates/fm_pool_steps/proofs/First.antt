@@ -105,6 +105,7 @@ first_knows z valid = record {
     swept_once = tt;
     hand = tt;
     took = tt;
+    handles = λ a k. refl;
     gathered = λ g i. absurd i;
     coming = λ x i. absurd i;
     one_each = tt;

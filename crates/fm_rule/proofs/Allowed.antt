@@ -123,6 +123,7 @@ sound_homed home v s = record {
   hand = s.hand;
   swept = λ c i. let o = s.swept c i in record { known = o.known; life = o.life; empty = o.empty };
   held = s.held;
+  own_handles = s.own_handles;
   own_words = s.own_words;
   none_left = s.none_left;
   drawn = λ n e.

@@ -258,7 +258,9 @@ gathers_none None e x v = refl
 gathers_none (Some n) e x v = refl
 
 pub still_gathered : (p q : View) (e x : ℕ) → Draw p q e x → length q.gathered ≡ length p.gathered
-still_gathered p q e x s = ap (λ (v : View). length v.gathered) s.is_part ∙ ap (λ (gs : List Gathered). length gs) (gathers_none (number_drawn p.shape e x) e x p)
+still_gathered p q e x s =
+    ap (λ (v : View). length v.gathered) s.is_part
+    ∙ ap (λ (gs : List Gathered). length gs) (gathers_none (number_drawn p.shape e x) e x p)
 
 pub looked : (old new : View) (x : ℕ) → old.drawn ≡ None → Draw old new 0 x → LearnsCount old x → (b : Bool) → b ≡ (x == length old.gathered + 1)
     → Looked old new b

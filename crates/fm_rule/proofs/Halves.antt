@@ -6,8 +6,10 @@ use Rattle.fm_words.specs.declared.shape.Shape.{Shape}
 use Rattle.fm_base.specs.declared.caller.Caller.{Caller}
 use Rattle.fm_base.specs.declared.arena_id.ArenaId.{ArenaId}
 use Rattle.fm_base.specs.Arenas.{IsUnderWay}
+use Rattle.fm_base.specs.Calls.{Entry}
 use Rattle.fm_base.specs.Histories.{made_by}
 use Rattle.fm_base.specs.Finds.{Gathered}
+use Rattle.fm_depicts.specs.Handles.{AreLeft}
 use Rattle.fm_pool_facts.specs.declared.step.Step.TheVariants.{Looks}
 use Rattle.fm_pool_facts.specs.Views.{Met, View, In, IsNew, IsSound, is_automatic, brought, pass_of, state_in}
 use Rattle.fm_pool_facts.specs.Splits.{view_of, number_or, drawn_left, drawn_right, as_gathered, gather, IsAtRest}
@@ -35,6 +37,7 @@ left_sound v s = record {
   hand = s.hand;
   swept = λ c i. let o = s.swept c i in record { known = o.known; life = o.life; empty = o.empty };
   held = s.held;
+  own_handles = s.own_handles;
   own_words = s.own_words;
   none_left = s.none_left;
   drawn = λ n e. absurd (cc);
@@ -71,6 +74,7 @@ right_sound v n e s =
       fits = s.fits;
       swept = λ c i. absurd i;
       held = λ a i. absurd (none_gripped a (is_automatic a.kind) i);
+      own_handles = λ a k. subst (λ (es : List Entry). AreLeft a es 0) (sym (ap (λ (k : ℕ). made_by (pass_of k) v.seen) is ∙ y.silent)) refl;
       own_words = s.own_words;
       none_left = λ w. absurd (cc);
       hand = λ x i. absurd i;
