@@ -69,6 +69,8 @@ pub record ShowsHistory (z : Shape) (words : List ℕ) (h : List Entry) : Type 0
   -- blocks that aren't lent hold zeros
   pub blank : (block w : ℕ) → block < z.slots → w < span z → IsFree (lent h) block → slice_index words (cell_at z block w) ≡ 0
   pub fits : (a : ArenaId) → has_arena (state_after (limit_of z) [] h) a ≡ true → Fits z a
+  -- no bit is 1 where there is no slot
+  pub no_slot : (k : ℕ) → bit_at (slice_index words (at z slot_bits)) k ≡ 1 → k < z.slots
   pub slots : (k : ℕ) → k < z.slots
       → ShowsSlot z words (state_after (limit_of z) [] h) k (session_of (slice_index words (at z (session k))))
 

@@ -283,5 +283,6 @@ module _ (z : Shape) (me : ℕ) (v : View) (l : v.live ≡ true) (ws : List ℕ)
     own_block = λ a n. r.loans.part a (standing_shown z r.memory.sessions r.machine.life r.world.sessions a (standing a n));
     fits = λ a h. r.world.sessions.fits a (opened a h);
     blank = λ b w low h f. r.shows.cells b w low h ∙ blank_block (r.memory.sessions b) b w refl h f;
+    no_slot = λ k b. r.world.slots.low k (ap (λ (x : ℕ). bit_at x k) (sym r.shows.slot_bits) ∙ b);
     slots = slot_shown;
   }
