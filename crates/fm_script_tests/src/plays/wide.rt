@@ -4,6 +4,7 @@ use std::alloc::AllocGlobal;
 use std::process::Abort;
 
 /// A script, and what its run prints.
+#[derive(Drop)]
 struct Wide {
     text: String,
     printed: String,
@@ -22,7 +23,7 @@ impl Wide {
 }
 
 /// One of so many workers, which each add nothing so many times.
-fn wide<R: Abort + AllocGlobal>(rt: &R, workers: u32, times: u32) -> Wide {
+fn adding<R: Abort + AllocGlobal>(rt: &R, workers: u32, times: u32) -> Wide {
     let mut script = Wide {
         text: String::new(rt.alloc()),
         printed: String::new(rt.alloc()),
@@ -43,7 +44,7 @@ fn wide<R: Abort + AllocGlobal>(rt: &R, workers: u32, times: u32) -> Wide {
 #[test]
 fn wide_scripts_run_whole(rt: HostRuntime) {
     for (workers, times) in [(1, 300), (7, 40), (16, 20)] {
-        let script = wide(&rt, workers, times);
+        let script = adding(&rt, workers, times);
         assert!(rt; script.text.len() > 4096);
         assert_eq!(rt; printed(&rt, script.text.as_str()).as_str(), script.printed.as_str());
     }
