@@ -1,4 +1,4 @@
-use crate::endings::parts_of;
+use crate::endings::{parts_of, words_of};
 use crate::queries::files;
 use fm_io::{FreeGate, MemFiles, MemSink};
 use fm_top::{Kept, run_tool};
@@ -17,10 +17,7 @@ pub fn run_at<R: Threads + Wait + Sync + RandomSource + AllocGlobal>(
     kept: &mut Kept,
 ) -> Result<u8, AllocError> {
     let alloc = rt.alloc();
-    let mut words = Vec::new(alloc);
-    for word in line.split(' ') {
-        words.push(String::from_str(alloc, word)?)?;
-    }
+    let words = words_of(alloc, line)?;
     let mut out = MemSink::new(alloc, vec![in alloc; failing]?).with_piece(1);
     Ok(run_tool(rt, alloc, &words, files, &mut out, &FreeGate, kept))
 }

@@ -199,7 +199,7 @@ fn as_many_threads_as_one_likes_answer_the_same(rt: HostRuntime) -> Result<(), F
     let text = "count 2\nsum(.price) 210\nlist(.tags[]) 1 2 3 4 5 0 0 -1\n";
     let mut files = files(rt.alloc(), &[], usize::MAX)?;
     let none = "count 0\nsum(.price) 0\nlist(.tags[])\n";
-    for threads in ["1", "2", "8", "16"] {
+    for threads in ["1", "2", "7", "16"] {
         for (file, text) in [("R1", text), ("E", none)] {
             let words = ["query", "--threads", threads, "L1", query, file];
             ends(&rt, &mut files, &words, 0, text)?;
