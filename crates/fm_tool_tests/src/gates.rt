@@ -58,5 +58,9 @@ fn each_worker_passes_the_gate_around_its_calls(rt: HostRuntime) -> Result<(), F
         passes(&rt, &mut records, row)?;
     }
     let script = text_file(alloc, "S", SCRIPT)?;
-    passes(&rt, &mut SureFiles::new(vec![in alloc; script]?), SCRIPT_PASSED)
+    passes(
+        &rt,
+        &mut SureFiles::new(vec![in alloc; script]?),
+        SCRIPT_PASSED,
+    )
 }
