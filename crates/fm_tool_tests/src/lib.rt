@@ -1,4 +1,5 @@
-//! Tests of the tool over files and a sink: a module a command, and one of what it keeps.
+//! Tests of the tool over files and a sink: a module a command, and one each of what it keeps, of
+//! who passes its gate, and of sizes at which nothing may be wanting.
 #![tactic(auto)]
 
 #[cfg(test)]
@@ -7,6 +8,8 @@ mod demos;
 mod endings;
 #[cfg(test)]
 mod files;
+#[cfg(test)]
+mod gates;
 #[cfg(test)]
 mod keeping;
 #[cfg(test)]
@@ -17,6 +20,8 @@ mod layouts;
 mod queries;
 #[cfg(test)]
 mod scripts;
+#[cfg(test)]
+mod sizes;
 #[cfg(test)]
 mod sums;
 #[cfg(test)]
