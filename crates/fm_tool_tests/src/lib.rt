@@ -1,10 +1,12 @@
-//! Tests of the tool over files and a sink: a module a command, and one of what it keeps.
+//! Tests of the tool over files and a sink: a module a command, one of failing reads and writes, and one of what is kept.
 #![tactic(auto)]
 
 #[cfg(test)]
 mod demos;
 #[cfg(test)]
 mod endings;
+#[cfg(test)]
+mod faults;
 #[cfg(test)]
 mod files;
 #[cfg(test)]

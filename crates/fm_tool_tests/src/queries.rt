@@ -11,7 +11,7 @@ use std::test::Fail;
 use std::thread::Threads;
 
 /// Two sales: of ids 1 and 2, kinds 2 and 3, and prices 250 and -40, with four tags each.
-const SALES: [u8; 48] = [
+pub const SALES: [u8; 48] = [
     1, 0, 0, 0, 2, 0, 0, 0, 0xfa, 0, 0, 0, 0, 0, 0, 0, 1, 2, 3, 4, 0, 0, 0, 0, 2, 0, 0, 0, 3, 0, 0,
     0, 0xd8, 0xff, 0xff, 0xff, 0xff, 0xff, 0xff, 0xff, 5, 0, 0, 0xff, 0, 0, 0, 0,
 ];

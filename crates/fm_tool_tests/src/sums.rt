@@ -5,7 +5,7 @@ use std::alloc::{AllocError, Global};
 use std::test::Fail;
 
 /// Two records of 16 bytes, whose longs at byte 8 are -3 and 5.
-const TWO_LONGS: [u8; 32] = [
+pub const TWO_LONGS: [u8; 32] = [
     0, 0, 0, 0, 0, 0, 0, 0, 0xfd, 0xff, 0xff, 0xff, 0xff, 0xff, 0xff, 0xff, 0, 0, 0, 0, 0, 0, 0, 0,
     5, 0, 0, 0, 0, 0, 0, 0,
 ];
