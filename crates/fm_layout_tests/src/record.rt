@@ -1,6 +1,7 @@
+use fm_base::Refusal;
 use fm_lanes::ValueKind;
 use fm_layout::Layout;
-use std::alloc::Global;
+use std::alloc::{AllocError, Global};
 use std::test::Fail;
 
 /// The record of `fm_layout`'s documentation, of 24 bytes: an id, a kind, a price and four tags.
@@ -14,4 +15,12 @@ pub fn sale(alloc: Global) -> Result<Layout, Fail> {
         Layout::padding(4)?,
     ]?;
     Ok(Layout::structure(members)?)
+}
+
+/// How the refusal is printed, if there is one.
+pub fn printed(alloc: Global, refusal: Option<Refusal>) -> Result<String, AllocError> {
+    match refusal {
+        Some(refusal) => format!(in alloc; "{refusal}"),
+        None => Ok(String::new(alloc)),
+    }
 }

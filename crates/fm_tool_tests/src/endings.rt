@@ -7,6 +7,15 @@ use std::sync::Wait;
 use std::test::Fail;
 use std::thread::Threads;
 
+/// The words of a line, which single blanks part.
+pub fn words_of(alloc: Global, line: &str) -> Result<Vec<String>, AllocError> {
+    let mut words = Vec::new(alloc);
+    for word in line.split(' ') {
+        words.push(String::from_str(alloc, word)?)?;
+    }
+    Ok(words)
+}
+
 /// Runs the tool on these words.
 pub fn run<R, F, O>(rt: &R, words: &[&str], files: &mut F, out: &mut O) -> Result<u8, AllocError>
 where

@@ -1,4 +1,4 @@
-use crate::endings::{ends_at_each_write, line_ends, parts_of};
+use crate::endings::{ends_at_each_write, line_ends, parts_of, rows_end};
 use crate::files::named;
 use fm_io::{MemFiles, SureFiles};
 use fm_top::LAYOUT_FILE_LIMIT;
@@ -71,22 +71,20 @@ fn each_layout_is_listed_or_refused(rt: HostRuntime) -> Result<(), Fail> {
     Ok(())
 }
 
+/// Words that ask for no layout, and how they end.
+const NO_LAYOUTS: &str = "\
+layout -> 1 usage|
+layout L L -> 1 usage|
+layout -L -> 1 usage|
+layout - -> 1 usage|
+Layout L -> 1 usage|
+list L -> 1 usage|
+layout nofile -> 2 missing nofile|
+layout  -> 2 missing |";
+
 #[test]
 fn words_that_ask_for_no_layout_are_usage(rt: HostRuntime) -> Result<(), Fail> {
-    for (line, status, text) in [
-        ("layout", 1, "usage\n"),
-        ("layout L L", 1, "usage\n"),
-        ("layout -L", 1, "usage\n"),
-        ("layout -", 1, "usage\n"),
-        ("Layout L", 1, "usage\n"),
-        ("list L", 1, "usage\n"),
-        ("layout nofile", 2, "missing nofile\n"),
-        ("layout ", 2, "missing \n"),
-    ] {
-        let mut files = layout_file(rt.alloc(), SALE, &[], 1)?;
-        line_ends(&rt, &mut files, line, status, text)?;
-    }
-    Ok(())
+    rows_end(&rt, &mut layout_file(rt.alloc(), SALE, &[], 1)?, NO_LAYOUTS)
 }
 
 #[test]

@@ -1,4 +1,5 @@
-//! Tests of the tool over files and a sink: a module a command, one of failing reads and writes, and one of what is kept.
+//! Tests of the tool over files and a sink: a module a command, and one each of failing reads and writes, of what it
+//! keeps, of who passes its gate, and of sizes at which nothing may be wanting.
 #![tactic(auto)]
 
 #[cfg(test)]
@@ -10,6 +11,8 @@ mod faults;
 #[cfg(test)]
 mod files;
 #[cfg(test)]
+mod gates;
+#[cfg(test)]
 mod keeping;
 #[cfg(test)]
 mod kinds;
@@ -19,6 +22,8 @@ mod layouts;
 mod queries;
 #[cfg(test)]
 mod scripts;
+#[cfg(test)]
+mod sizes;
 #[cfg(test)]
 mod sums;
 #[cfg(test)]

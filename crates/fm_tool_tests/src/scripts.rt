@@ -1,11 +1,15 @@
-use crate::endings::{ends_at_each_write, line_ends, run};
+use crate::endings::{ends_at_each_write, line_ends, parts_of, rows_end, run};
 use crate::files::named;
 use crate::keeping::run_at;
 use fm_io::{MemFiles, MemSink, SureFiles};
 use fm_report::print_report;
 use fm_top::{Kept, SCRIPT_FILE_LIMIT};
-use std::alloc::{AllocError, Global};
+use std::alloc::{AllocError, AllocGlobal, Global};
+use std::process::Abort;
+use std::random::RandomSource;
+use std::sync::Wait;
 use std::test::Fail;
+use std::thread::Threads;
 
 /// A slot is used twice, and its bytes are zero again.
 const TWICE: &str =
@@ -42,30 +46,35 @@ fn script_file(
     Ok(MemFiles::new(vec![in alloc; file]?, failing.to_vec(alloc)?).with_piece(most.max(1)))
 }
 
+/// Scripts, with a bar for each line's end, and how their runs end.
+const SCRIPTS: &str = "\
+pool 1 1 8 1000 1| -> 0
+# a pool||pool 1 1 8 1000 1 -> 0
+ -> 10 script refused 1|
+# nothing|| -> 10 script refused 3|
+first open a shared| -> 10 script refused 1|
+pool 1 1 8 1000 1|first open a| -> 10 script refused 2|
+pool 1 1 8 1000 1|first open a shared|first hold a h|first hold a k|first unhold k| -> 10 script refused 3|";
+
+/// Compares how the run of this script ends with what is wanted, in pieces of every size.
+fn is_run<R>(rt: &R, script: &str, status: u8, text: &str) -> Result<(), Fail>
+where
+    R: Threads + Wait + Sync + RandomSource + AllocGlobal + Abort,
+{
+    for most in [1, 7, usize::MAX] {
+        let mut files = script_file(rt.alloc(), script, &[], most)?;
+        line_ends(rt, &mut files, "run S", status, text)?;
+    }
+    Ok(())
+}
+
 #[test]
 fn each_script_is_run_or_refused(rt: HostRuntime) -> Result<(), Fail> {
-    for (script, status, text) in [
-        (TWICE, 0, TWICE_REPORT),
-        ("pool 1 1 8 1000 1\n", 0, ""),
-        ("# a pool\n\npool 1 1 8 1000 1", 0, ""),
-        ("", 10, "script refused 1\n"),
-        ("# nothing\n\n", 10, "script refused 3\n"),
-        ("first open a shared\n", 10, "script refused 1\n"),
-        (
-            "pool 1 1 8 1000 1\nfirst open a\n",
-            10,
-            "script refused 2\n",
-        ),
-        (
-            "pool 1 1 8 1000 1\nfirst open a shared\nfirst hold a h\nfirst hold a k\nfirst unhold k\n",
-            10,
-            "script refused 3\n",
-        ),
-    ] {
-        for most in [1, 7, usize::MAX] {
-            let mut files = script_file(rt.alloc(), script, &[], most)?;
-            line_ends(&rt, &mut files, "run S", status, text)?;
-        }
+    is_run(&rt, TWICE, 0, TWICE_REPORT)?;
+    for row in SCRIPTS.lines() {
+        let (script, status, text) = parts_of(rt.alloc(), row)?;
+        let script = script.replace(rt.alloc(), "|", "\n")?;
+        is_run(&rt, &script, status, &text)?;
     }
     Ok(())
 }
@@ -90,21 +99,19 @@ fn each_part_of_whole_lines_is_run(rt: HostRuntime) -> Result<(), Fail> {
     Ok(())
 }
 
+/// Words that run no script, and how they end.
+const NO_RUNS: &str = "\
+run -> 1 usage|
+run S S -> 1 usage|
+run -S -> 1 usage|
+run -- S -> 1 usage|
+Run S -> 1 usage|
+run nofile -> 2 missing nofile|
+run  -> 2 missing |";
+
 #[test]
 fn words_that_run_no_script_are_usage(rt: HostRuntime) -> Result<(), Fail> {
-    for (line, status, text) in [
-        ("run", 1, "usage\n"),
-        ("run S S", 1, "usage\n"),
-        ("run -S", 1, "usage\n"),
-        ("run -- S", 1, "usage\n"),
-        ("Run S", 1, "usage\n"),
-        ("run nofile", 2, "missing nofile\n"),
-        ("run ", 2, "missing \n"),
-    ] {
-        let mut files = script_file(rt.alloc(), TWICE, &[], 1)?;
-        line_ends(&rt, &mut files, line, status, text)?;
-    }
-    Ok(())
+    rows_end(&rt, &mut script_file(rt.alloc(), TWICE, &[], 1)?, NO_RUNS)
 }
 
 #[test]
@@ -137,19 +144,25 @@ fn a_write_of_a_report_that_fails_leaves_a_prefix(rt: HostRuntime) -> Result<(),
     Ok(())
 }
 
+/// Runs one after another, whose write of this number fails if one does: their statuses, and whether a report is kept.
+const KEEPING: &str = "\
+run S -> 0 kept
+run -> 1 none
+run S -> 8 kept at 3
+demo 3 -> 0 none
+run S -> 8 kept at 0
+run nofile -> 2 none";
+
 #[test]
 fn a_report_is_kept_with_each_run_of_a_script(rt: HostRuntime) -> Result<(), Fail> {
     let mut files = script_file(rt.alloc(), TWICE, &[], usize::MAX)?;
     let mut kept = Kept::new();
-    for (line, failing, status, is_kept) in [
-        ("run S", u64::MAX, 0, true),
-        ("run", u64::MAX, 1, false),
-        ("run S", 3, 8, true),
-        ("demo 3", u64::MAX, 0, false),
-        ("run S", 0, 8, true),
-        ("run nofile", u64::MAX, 2, false),
-    ] {
+    for row in KEEPING.lines() {
+        let (row, failing) = row.rsplit_once(" at ").unwrap_or((row, ""));
+        let (line, status, keeps) = parts_of(rt.alloc(), row)?;
+        let failing: u64 = failing.parse().unwrap_or(u64::MAX);
         let code = run_at(&rt, &mut files, line, failing, &mut kept)?;
+        let is_kept = keeps.as_str() == "kept";
         assert_eq!(rt; code, status, "{line}");
         assert_eq!(rt; kept.report().is_some(), is_kept, "{line}");
         assert!(rt; !is_kept || kept.finished().is_none(), "{line}");

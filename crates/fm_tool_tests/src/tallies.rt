@@ -41,7 +41,7 @@ fn each_path_is_tallied_or_refused(rt: HostRuntime) -> Result<(), Fail> {
 #[test]
 fn as_many_threads_as_one_likes_count_the_same(rt: HostRuntime) -> Result<(), Fail> {
     let mut files = files(rt.alloc(), &[], usize::MAX)?;
-    for threads in ["1", "2", "8", "16"] {
+    for threads in ["1", "2", "7", "16"] {
         for (file, text) in [("R1", TAGS), ("E", "total 0\n")] {
             let words = ["tally", "L1", ".tags[]", file, "--threads", threads];
             ends(&rt, &mut files, &words, 0, text)?;

@@ -1,10 +1,10 @@
-ghost use Rattle.std.specs.Prelude.{◌≡◌, Some, ◌≢◌, ◌≤◌};
+ghost use Rattle.std.specs.Prelude.{◌≡◌, Some, ◌≢◌, ◌≤◌, ◌⊎◌};
 ghost use Rattle.fm_io.specs.Count.{Rose, Raised};
 ghost use Rattle.fm_io.specs.Files.{Contents};
 ghost use Rattle.fm_options.specs.Options.{texts};
 ghost use Rattle.fm_top.specs.Ending.{shown};
 ghost use Rattle.fm_top.specs.Reading.{ReadsFor};
-ghost use Rattle.fm_top.specs.Run.{IsValid, Runs, Prints, traces_of, code_of, EndsWith, Answers};
+ghost use Rattle.fm_top.specs.Run.{IsValid, Runs, Prints, TellsMissing, traces_of, code_of, EndsWith, Answers};
 ghost use Rattle.fm_top.specs.Statuses.{ComesOf};
 ghost use Rattle.fm_top.specs.Words.{Request, Asks, AreFaulty};
 ghost use Rattle.fm_top.specs.declared.status.Status.TheVariants.{Usage, Missing, Unread, Unwritten};
@@ -63,6 +63,13 @@ where
     ensures read_well { result ≢ code_of Unread → F.faults files.new ≡ F.faults files.old }
     ensures written_well { result ≢ code_of Unwritten → O.faults out.new ≡ O.faults out.old }
 
+    // Where a read found no file the run tells so, and ends as the writing of that does: with 2, 8 or 9. Any other end
+    // leaves the count.
+    ensures missed_well { (F.misses files.new ≡ F.misses files.old) ⊎ ((status : Status) × (result ≡ code_of status)
+        × TellsMissing (texts words.now) (F.holds files.old)
+        (traces_of (F.faults files.old) (F.faults files.new) (O.faults out.old) (O.faults out.new)
+        (O.written out.old) (O.written out.new)) kept.new status) }
+
     // Valid input is answered where files tell and no read or write failed.
     ensures complete { (request : Request) (contents : Contents) → Asks (texts words.now) request
         → F.holds files.old ≡ Some contents → IsValid request contents
@@ -97,6 +104,9 @@ fn run_words<R: Threads + Wait + Sync, F: Files, O: Sink, G: Gate>(
         (traces_of (F.faults files.old) (F.faults files.new) (O.faults out.old) (O.faults out.new)
         (O.written out.old) (O.written out.new)) kept.new result }
     ensures missed { result ≡ Missing → Rose (F.misses files.old) (F.misses files.new) }
+    ensures missed_well { (F.misses files.new ≡ F.misses files.old) ⊎ TellsMissing (texts words.now) (F.holds files.old)
+        (traces_of (F.faults files.old) (F.faults files.new) (O.faults out.old) (O.faults out.new)
+        (O.written out.old) (O.written out.new)) kept.new result }
     ensures reads_nothing { AreFaulty (texts words.now) → files.new ≡ files.old }
     ensures reads { (request : Request) → Asks (texts words.now) request
         → ReadsFor request (F.holds files.old) (F.reads files.old) (F.reads files.new) }
@@ -121,7 +131,7 @@ fn run_words<R: Threads + Wait + Sync, F: Files, O: Sink, G: Gate>(
 }
 
 /// Writes the ending's text, and answers the status that this leaves.
-fn print<O: Sink>(alloc: Global, ending: &Ending, out: &mut O) -> Status
+fn print<O: Sink>(alloc: Global, ending: &Ending<'_>, out: &mut O) -> Status
     ensures prints { Prints (shown ending.now) (O.faults out.old) (O.faults out.new)
         (O.written out.old) (O.written out.new) result }
     ensures missing { result ≡ Missing → ending.now.status ≡ Missing }
