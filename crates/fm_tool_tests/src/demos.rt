@@ -1,10 +1,6 @@
-use crate::endings::{ends_at_each_write, line_ends, rows_end};
-use fm_io::{MemFiles, SureFiles};
+use crate::endings::{line_ends, rows_end};
+use fm_io::SureFiles;
 use std::test::Fail;
-
-/// What three records answer.
-const THREE: &str =
-    "count 3\nsum(.amount) -126243\nmin(.amount) -50000\nmax(.amount) -34162\ncount 0\nsum(.id) 0\n";
 
 /// Records that are made, and what they answer, for any number of threads.
 const MADE: &str = "\
@@ -47,12 +43,4 @@ fn words_that_ask_for_no_records_are_usage(rt: HostRuntime) -> Result<(), Fail> 
         line_ends(&rt, &mut files, line, 1, "usage\n")?;
     }
     Ok(())
-}
-
-#[test]
-fn no_file_is_read_for_records_that_are_made(rt: HostRuntime) -> Result<(), Fail> {
-    // Any read would fail.
-    let mut files = MemFiles::new(Vec::new(rt.alloc()), vec![in rt.alloc(); 0]?);
-    line_ends(&rt, &mut files, "demo 3", 0, THREE)?;
-    ends_at_each_write(&rt, &mut files, &["demo", "3"], 0, THREE)
 }

@@ -1,11 +1,13 @@
-//! Tests of the tool over files and a sink: a module a command, and one each of what it keeps, of
-//! who passes its gate, and of sizes at which nothing may be wanting.
+//! Tests of the tool over files and a sink: a module a command, and one each of failing reads and writes, of what it
+//! keeps, of who passes its gate, and of sizes at which nothing may be wanting.
 #![tactic(auto)]
 
 #[cfg(test)]
 mod demos;
 #[cfg(test)]
 mod endings;
+#[cfg(test)]
+mod faults;
 #[cfg(test)]
 mod files;
 #[cfg(test)]

@@ -1,4 +1,4 @@
-use crate::endings::{ends, ends_at_each_write, line_ends, parts_of, rows_end, run};
+use crate::endings::{ends, line_ends, parts_of, rows_end, run};
 use crate::files::{named, text_file, zeros};
 use crate::layouts::SALE;
 use fm_io::{MemFiles, SureFiles, SureSink};
@@ -11,16 +11,13 @@ use std::test::Fail;
 use std::thread::Threads;
 
 /// Two sales: of ids 1 and 2, kinds 2 and 3, and prices 250 and -40, with four tags each.
-const SALES: [u8; 48] = [
+pub const SALES: [u8; 48] = [
     1, 0, 0, 0, 2, 0, 0, 0, 0xfa, 0, 0, 0, 0, 0, 0, 0, 1, 2, 3, 4, 0, 0, 0, 0, 2, 0, 0, 0, 3, 0, 0,
     0, 0xd8, 0xff, 0xff, 0xff, 0xff, 0xff, 0xff, 0xff, 5, 0, 0, 0xff, 0, 0, 0, 0,
 ];
 
 /// The query that others vary.
 const ROW: [&str; 4] = ["query", "L1", "min(.price) where .kind=9", "R1"];
-
-/// What it prints.
-const NONE: &str = "min(.price) none\n";
 
 /// The first bytes of the sales.
 fn sales(alloc: Global, count: usize) -> Result<Vec<u8>, AllocError> {
@@ -225,25 +222,6 @@ fn a_part_of_the_records_is_counted_or_ragged(rt: HostRuntime) -> Result<(), Fai
     Ok(())
 }
 
-#[test]
-fn a_read_of_either_file_that_fails_prints_nothing(rt: HostRuntime) -> Result<(), Fail> {
-    // Each 16 bytes are read by a call of their own, and then the end, of the layout and then of the records.
-    let reads = SALE.len().div_ceil(16) as u64 + 1 + 3 + 1;
-    let by_many = ["query", "--threads", "16", "L1", ROW[2], "R1"];
-    for k in 0..=reads {
-        let (status, text) = if k < reads { (3, "") } else { (0, NONE) };
-        ends(&rt, &mut files(rt.alloc(), &[k], 16)?, &ROW, status, text)?;
-        ends(
-            &rt,
-            &mut files(rt.alloc(), &[k], 16)?,
-            &by_many,
-            status,
-            text,
-        )?;
-    }
-    Ok(())
-}
-
 /// How runs end after so many reads. Each file that is there takes one read for its bytes and one for its end.
 const READS: &str = "\
 query nolayout count R1 -> 2 missing nolayout| after 1
@@ -284,16 +262,6 @@ fn one_run_follows_another(rt: HostRuntime) -> Result<(), Fail> {
     }
     let text = "min(.price) none\nmissing nofile\nmin(.price) none\n";
     assert_eq!(rt; out.written(), text.as_bytes());
-    Ok(())
-}
-
-#[test]
-fn a_write_of_an_answer_that_fails_leaves_a_prefix(rt: HostRuntime) -> Result<(), Fail> {
-    let mut files = files(rt.alloc(), &[], usize::MAX)?;
-    for (query, status, text) in [(ROW[2], 0, NONE), ("count,", 5, "query refused 50 6\n")] {
-        let words = ["query", "L1", query, "R1", "--threads=2"];
-        ends_at_each_write(&rt, &mut files, &words, status, text)?;
-    }
     Ok(())
 }
 

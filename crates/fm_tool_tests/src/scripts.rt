@@ -1,5 +1,5 @@
-use crate::endings::{ends_at_each_write, line_ends, parts_of, rows_end, run};
-use crate::files::named;
+use crate::endings::{line_ends, parts_of, rows_end, run};
+use crate::files::{named, text_file};
 use crate::keeping::run_at;
 use fm_io::{MemFiles, MemSink, SureFiles};
 use fm_report::print_report;
@@ -22,28 +22,10 @@ const TWICE_REPORT: &str =
     first open b shared -> ok\nfirst alloc b t 8 8 -> ok 0\nfirst get t long 0 -> 0\n\
     first get s long 0 -> refused 1\nbytes b 0000000000000000\n";
 
-/// Two workers add to one number.
-const ADDED: &str =
-    "pool 1 1 8 1000 1\nfirst open a shared\nfirst alloc a s 8 8\n1 add s long 0 5\n2 add s long 0 7\n\
-    last get s long 0\n";
-
-/// The two texts that may be printed of it.
-const ADDED_REPORTS: [&str; 2] = [
-    "first open a shared -> ok\nfirst alloc a s 8 8 -> ok 0\n1 add s long 0 5 -> 0\n2 add s long 0 7 -> 5\n\
-    last get s long 0 -> 12\nbytes a 0c00000000000000\n",
-    "first open a shared -> ok\nfirst alloc a s 8 8 -> ok 0\n1 add s long 0 5 -> 7\n2 add s long 0 7 -> 0\n\
-    last get s long 0 -> 12\nbytes a 0c00000000000000\n",
-];
-
-/// The files where `S` has this text, the reads of these numbers fail, and each gives at most so many bytes.
-fn script_file(
-    alloc: Global,
-    text: &str,
-    failing: &[u64],
-    most: usize,
-) -> Result<MemFiles, AllocError> {
-    let file = named(alloc, "S", text.as_bytes().to_vec(alloc)?)?;
-    Ok(MemFiles::new(vec![in alloc; file]?, failing.to_vec(alloc)?).with_piece(most.max(1)))
+/// The files where `S` has this text, and each read gives at most so many bytes.
+fn script_file(alloc: Global, text: &str, most: usize) -> Result<MemFiles, AllocError> {
+    let file = text_file(alloc, "S", text)?;
+    Ok(MemFiles::new(vec![in alloc; file]?, Vec::new(alloc)).with_piece(most.max(1)))
 }
 
 /// Scripts, with a bar for each line's end, and how their runs end.
@@ -62,7 +44,7 @@ where
     R: Threads + Wait + Sync + RandomSource + AllocGlobal + Abort,
 {
     for most in [1, 7, usize::MAX] {
-        let mut files = script_file(rt.alloc(), script, &[], most)?;
+        let mut files = script_file(rt.alloc(), script, most)?;
         line_ends(rt, &mut files, "run S", status, text)?;
     }
     Ok(())
@@ -86,7 +68,7 @@ fn each_part_of_whole_lines_is_run(rt: HostRuntime) -> Result<(), Fail> {
     for (k, c) in TWICE.as_bytes().iter().enumerate() {
         if *c == b'\n' {
             let part = std::str::from_utf8(&TWICE.as_bytes()[..=k]).unwrap_or("");
-            let mut files = script_file(alloc, part, &[], usize::MAX)?;
+            let mut files = script_file(alloc, part, usize::MAX)?;
             let code = run(
                 &rt,
                 &words,
@@ -111,37 +93,7 @@ run  -> 2 missing |";
 
 #[test]
 fn words_that_run_no_script_are_usage(rt: HostRuntime) -> Result<(), Fail> {
-    rows_end(&rt, &mut script_file(rt.alloc(), TWICE, &[], 1)?, NO_RUNS)
-}
-
-#[test]
-fn a_read_of_a_script_that_fails_prints_nothing(rt: HostRuntime) -> Result<(), Fail> {
-    // Each 16 bytes are read by a call of their own, and then the end.
-    let reads = ADDED.len().div_ceil(16) as u64;
-    for k in 0..=reads + 1 {
-        let alloc = rt.alloc();
-        let mut files = script_file(alloc, ADDED, &[k], 16)?;
-        let mut out = MemSink::new(alloc, Vec::new(alloc));
-        let code = run(&rt, &["run", "S"], &mut files, &mut out)?;
-        let found = out.written();
-        if k <= reads {
-            assert_eq!(rt; code, 3, "read {k}");
-            assert!(rt; found.is_empty(), "read {k}");
-        } else {
-            assert_eq!(rt; code, 0, "read {k}");
-            assert!(rt; ADDED_REPORTS.iter().any(|text| text.as_bytes() == found));
-        }
-    }
-    Ok(())
-}
-
-#[test]
-fn a_write_of_a_report_that_fails_leaves_a_prefix(rt: HostRuntime) -> Result<(), Fail> {
-    for (script, status, text) in [(TWICE, 0, TWICE_REPORT), ("", 10, "script refused 1\n")] {
-        let mut files = script_file(rt.alloc(), script, &[], usize::MAX)?;
-        ends_at_each_write(&rt, &mut files, &["run", "S"], status, text)?;
-    }
-    Ok(())
+    rows_end(&rt, &mut script_file(rt.alloc(), TWICE, 1)?, NO_RUNS)
 }
 
 /// Runs one after another, whose write of this number fails if one does: their statuses, and whether a report is kept.
@@ -155,7 +107,7 @@ run nofile -> 2 none";
 
 #[test]
 fn a_report_is_kept_with_each_run_of_a_script(rt: HostRuntime) -> Result<(), Fail> {
-    let mut files = script_file(rt.alloc(), TWICE, &[], usize::MAX)?;
+    let mut files = script_file(rt.alloc(), TWICE, usize::MAX)?;
     let mut kept = Kept::new();
     for row in KEEPING.lines() {
         let (row, failing) = row.rsplit_once(" at ").unwrap_or((row, ""));
@@ -172,7 +124,7 @@ fn a_report_is_kept_with_each_run_of_a_script(rt: HostRuntime) -> Result<(), Fai
 
 #[test]
 fn what_is_kept_is_what_was_printed(rt: HostRuntime) -> Result<(), Fail> {
-    let mut files = script_file(rt.alloc(), TWICE, &[], usize::MAX)?;
+    let mut files = script_file(rt.alloc(), TWICE, usize::MAX)?;
     let mut kept = Kept::new();
     run_at(&rt, &mut files, "run S", u64::MAX, &mut kept)?;
     let Some(report) = kept.report() else {
