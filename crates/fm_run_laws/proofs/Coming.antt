@@ -86,7 +86,8 @@ module _ (c : Caller) (own : List Entry) where
   enter_may id refusal.NoSlot d = refl
   enter_may id r d = tt
 
-  pub get_may : (id : ArenaId) (t : Tree) (found : Result ℕ Refusal) (result : Result Value Refusal) → May found → DoesGetAt c id t found result own → May result
+  pub get_may : (id : ArenaId) (t : Tree) (found : Result ℕ Refusal) (result : Result Value Refusal) → May found → DoesGetAt c id t found result own
+      → May result
   get_may id t (Err r) result h d = subst (λ (x : Result Value Refusal). May x) (sym d.0) h
   get_may id (tree.Value k o l) (Ok p) (Ok v) h d = tt
   get_may id (tree.Value k o l) (Ok p) (Err refusal.Memory) h d = absurd d
