@@ -14,6 +14,7 @@ use Rattle.fm_rule.specs.declared.pool.Pool.{Pool}
 use Rattle.fm_rule.specs.Passes.{IsOf, GoesOnFrom}
 use Rattle.fm_calls.specs.Kept.{Kept, KeptHolding, Lasts}
 use Rattle.fm_gate.specs.declared.held.Hold.{Hold}
+use Rattle.fm_gate.specs.Makers.{made_by_pass}
 use Rattle.fm_gate.specs.Standing.{IsOutside}
 use Rattle.fm_gate.specs.Learnt.{DoesTake, holds_taken}
 
@@ -44,6 +45,7 @@ pub record AfterIsAlive (old new : View) (id : ArenaId) (result : Result Bool Re
 
 -- the pass took the hold, and may stand anywhere
 pub record CanUnhold (p : View) (hold : Hold) : Type 0 where
+  pub maker : hold.maker ≡ made_by_pass p
   pub known : IsKnown p hold.arena
   pub held : In hold.arena p.holds
   pub by_hand : hold.arena.kind ≢ Automatic

@@ -17,6 +17,7 @@ use Rattle.fm_rule.specs.declared.pool.Pool.{Pool}
 use Rattle.fm_calls.specs.Kept.{Goes, rest_of}
 use Rattle.fm_calls.proofs.Going.{goes_of, goes_none, no_draws, made_by-one, rest_is, hand_is, inside_is, mark_is, known_on, lasts_on}
 use Rattle.fm_gate.specs.declared.held.Hold.{Hold as TheHold}
+use Rattle.fm_gate.specs.Makers.{made_by_pass}
 use Rattle.fm_gate.specs.Standing.{IsOutside, CanVisit, CanUnhold}
 use Rattle.fm_gate.specs.Learnt.{AfterHold, AfterTake, AfterUnhold, DoesTake}
 use Rattle.fm_gate.proofs.Standing.{stands_outside, stands_inside}
@@ -96,14 +97,16 @@ module _ {pool : Pool} {p q : View} {a : ArenaId} {word : ℕ} (can : CanVisit p
       refuses TooManyHolds refusal.TooManyHolds (Some n) f (hold_full n most) refl (kind, (may, refl)) (λ e. absurd (cc)) (λ e. absurd (cc))
 
   -- And where it is held once more.
-  pub after_taken : (n : ℕ) (hold : TheHold) → alive_holds a word ≡ Some n → n ≢ most_holds → hold.arena ≡ a → AfterHold pool p q a (Ok hold)
-  after_taken n hold f few is =
+  pub after_taken : (n : ℕ) (hold : TheHold) → alive_holds a word ≡ Some n → n ≢ most_holds → hold.arena ≡ a → hold.maker ≡ made_by_pass q
+      → AfterHold pool p q a (Ok hold)
+  after_taken n hold f few is mine =
       let w = way (Some n) Fine f (hold_fine n few) in
       let known : IsKnown q a = known_on w.0 a can.known in
       record {
         did = record { own = entry_of p.caller (Hold a) Fine ∷ []; does = (is, (kind, (may, refl))); goes = w.0; rest = w.1 };
         held = record {
           of = out.of;
+          maker = mine;
           known = subst (λ (x : ArenaId). IsKnown q x) (sym is) known;
           held = subst (λ (hs : List ArenaId). In hold.arena hs) (sym (ap (λ (r : Rest). r.holds) w.1)) (inl is);
           by_hand = subst (λ (x : ArenaId). x.kind ≢ Automatic) (sym is) kind;
