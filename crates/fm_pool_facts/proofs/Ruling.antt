@@ -20,7 +20,7 @@ use Rattle.fm_pool_facts.specs.Moves.{Moved, Same, Part, KeepsCloses, KeepsSweep
 use Rattle.std.specs.Int.{bit_at}
 use Rattle.std.specs.Prelude.{Contains}
 use Rattle.fm_pool_facts.proofs.Handing.{slot_below}
-use Rattle.fm_pool_facts.specs.Holds.{holds_of}
+use Rattle.fm_pool_facts.specs.Holds.{grips, holds_of}
 use Rattle.fm_pool_facts.specs.Loans.{Loan, lent, loans_after, IsRightlyLent}
 use Rattle.fm_pool_facts.specs.Facts.{Loans}
 use Rattle.fm_pool_facts.specs.Moves.{MayLend}
@@ -30,7 +30,8 @@ use Rattle.fm_pool_facts.proofs.Alone.{none_now}
 use Rattle.fm_pool_facts.proofs.Gone.{none_founded, found_on, founded_on, founded_told}
 use Rattle.fm_pool_facts.proofs.Callers.{all_now, few_gathered, whole_has, knows_callers}
 use Rattle.fm_pool_facts.proofs.Frame.{legal_on}
-use Rattle.fm_pool_facts.proofs.Summing.{total-set}
+use Rattle.fm_pool_facts.proofs.Summing.{total-set, total-has, some_hold}
+use Rattle.fm_pool_facts.proofs.Gripping.{held_now, held_lives}
 use Rattle.fm_pool_facts.proofs.Founds.{NoneDrawn, NoDraw, none_within, find_within, terms_on, counted_later, counted_told, counted_set}
 use Rattle.fm_pool_facts.proofs.Keeping.{set_there, in_left, stays_somewhere, silent_on, others_know, own_view, gives_by}
 
@@ -57,6 +58,23 @@ limit_below z v =
     let c : y ≤ 16777216 = v.words in
     let d : x * 8 ≤ 2 ^ 40 = omega arith in
     d
+
+-- an arena that is alive
+alive_now : (b : Bool) (l : Life) → stage_of b l ≡ Lives → (b ≡ true) × (l ≡ Alive)
+alive_now true Alive e = (refl, refl)
+alive_now true Closing e = absurd (cc)
+alive_now true Ended e = absurd (cc)
+alive_now false l e = absurd (cc)
+
+-- an arena of which a live view has a hold is alive
+lives_held : (z : Shape) (ws : List ℕ) (vs : List View) (r : Rule z ws vs) (me : ℕ) (v : View) → get_elem? vs me ≡ some v → v.live ≡ true
+    → (a : ArenaId) → In a (grips a v) → r.machine.life a ≡ Lives
+lives_held z ws vs r me v at l a i =
+    let here = some_hold a (grips a v) i in
+    let mine = held_now a v l in
+    let most = total-has (holds_of a) vs me v at in
+    let all = r.held a in
+    held_lives a r.machine (r.world.counts.only a) (omega arith)
 
 nobody : (ks : List Caller) → ((k : Caller) → ¬ (Contains ks k)) → ks ≡ []
 nobody [] n = refl
@@ -100,6 +118,9 @@ sound_of z ws vs r me v at l lone q =
                 ∙ nobody (arena_of s c.arena).under_way (λ k w. unstanding (r.machine.life c.arena) y.life
                 (r.world.marked k c.arena (r.depicts.under k c.arena w)).stands);
           };
+      held = λ a i.
+          let y = alive_now (has_arena s a) (arena_of s a).life (sym (r.depicts.life a) ∙ lives_held z ws vs r me v at l a i) in
+          (ap (λ (x : State). has_arena x a) st ∙ y.0, ap (λ (x : State). (arena_of x a).life) st ∙ y.1);
       own_words = λ x i. r.loans.own x (subst (λ (es : List Entry). Contains (lent es) x) q i);
       none_left = λ w n c f h.
           none_now z me v l ws vs r at w n q c f (⊎_elim

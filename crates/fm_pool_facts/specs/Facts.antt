@@ -48,9 +48,10 @@ pub record Sessions (z : Shape) (sessions : ℕ → Session) (life : ArenaId →
   pub before : (s g : ℕ) → sessions s ≡ free (g + 1) → (a : ArenaId) × (a.slot ≡ s) × (a.generation ≡ g) × (life a ≢ Fresh)
   pub fits : (a : ArenaId) → life a ≢ Fresh → Fits z a
 
--- slots whose bit is 1 are free, and have a generation left
+-- slots whose bit is 1 are free, and have a generation left; no bit is 1 where there is no slot
 pub record Slots (z : Shape) (bits : ℕ) (sessions : ℕ → Session) : Type 0 where
   pub bit_is : (s : ℕ) → bit_at bits s ≡ 1 → (g : ℕ) × (sessions s ≡ free g) × (g < z.generations)
+  pub low : (s : ℕ) → bit_at bits s ≡ 1 → s < z.slots
   pub within : (s g : ℕ) → sessions s ≡ free g → g ≤ z.generations
 
 -- session words count the holds

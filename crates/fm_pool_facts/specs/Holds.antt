@@ -1,20 +1,11 @@
 -- The holds that passes have; those of an automatic arena are its handles.
 use Rattle.std.specs.Prelude.{ℕ, ◌+◌, Bool, true, false, if◌then◌else◌, List, [], ◌∷◌}
 use Rattle.fm_base.specs.declared.arena_id.ArenaId.{ArenaId}
-use Rattle.fm_base.specs.declared.kind.Kind.{Kind}
-use Rattle.fm_base.specs.declared.kind.Kind.TheVariants.{Automatic}
 use Rattle.fm_base.specs.Arenas.{same_id}
 use Rattle.fm_base.specs.Calls.{Reply, Fine}
 use Rattle.fm_depicts.specs.Functions.{Stage, Lives, Machine}
 use Rattle.fm_pool_facts.specs.Views.{View}
-
-abbrev pub is_automatic : Kind → Bool
-is_automatic Automatic = true
-is_automatic kind = false
-
--- the holds of the view that are of the arena's sort
-abbrev pub grips : ArenaId → View → List ArenaId
-grips a v = if is_automatic a.kind then v.handles else v.holds
+pub use Rattle.fm_pool_facts.specs.Views.{is_automatic, grips}
 
 -- the view with these in their place
 abbrev pub with_grips : ArenaId → List ArenaId → View → View

@@ -1,10 +1,12 @@
 -- What contracts see of a pass.
-use Rattle.std.specs.Prelude.{◌≡◌, ◌≢◌, ◌⊎◌, ℕ, ◌+◌, ◌*◌, ◌<◌, ◌≤◌, ◌^◌, Bool, true, List, [], ◌∷◌, ◌++◌, length, Contains, Option, Some}
+use Rattle.std.specs.Prelude.{◌≡◌, ◌≢◌, ◌⊎◌, ℕ, ◌+◌, ◌*◌, ◌<◌, ◌≤◌, ◌^◌, Bool, true, false, if◌then◌else◌, List, [], ◌∷◌, ◌++◌, length, Contains, Option, Some}
 use Rattle.fm_words.specs.declared.shape.Shape.{Shape}
 use Rattle.fm_words.specs.Shapes.{IsValid}
 use Rattle.fm_base.specs.declared.caller.Caller.{Caller}
 use Rattle.fm_base.specs.declared.arena_id.ArenaId.{ArenaId}
-use Rattle.fm_base.specs.Arenas.{State, Ended, IsUnderWay, has_arena, arena_of, owner_of}
+use Rattle.fm_base.specs.declared.kind.Kind.{Kind}
+use Rattle.fm_base.specs.declared.kind.Kind.TheVariants.{Automatic}
+use Rattle.fm_base.specs.Arenas.{State, Alive, Ended, IsUnderWay, has_arena, arena_of, owner_of}
 use Rattle.fm_base.specs.Calls.{Entry}
 use Rattle.fm_base.specs.Histories.{IsLegal, state_after, made_by}
 use Rattle.fm_pool_facts.specs.Loans.{Loan, lent as lent_by, IsRightlyLent}
@@ -84,6 +86,18 @@ pub record IsOver (v : View) (a : ArenaId) : Type 0 where
   pub known : IsKnown v a
   pub life : (arena_of (state_in v) a).life ≡ Ended
   pub empty : (arena_of (state_in v) a).under_way ≡ []
+
+-- the arena is alive
+abbrev pub IsAlive : View → ArenaId → Type 0
+IsAlive v a = IsKnown v a × ((arena_of (state_in v) a).life ≡ Alive)
+
+abbrev pub is_automatic : Kind → Bool
+is_automatic Automatic = true
+is_automatic kind = false
+
+-- the holds of the view that are of the arena's sort
+abbrev pub grips : ArenaId → View → List ArenaId
+grips a v = if is_automatic a.kind then v.handles else v.holds
 
 -- an arena of the slot was opened that hasn't ended, or is the last of so many generations
 pub record IsBusyIn (generations : ℕ) (s : State) (slot : ℕ) : Type 0 where
@@ -175,6 +189,8 @@ pub record IsSound (v : View) : Type 0 where
   pub fits : (a : ArenaId) → IsKnown v a → Fits v.shape a
   pub hand : (s : ℕ) → HasSlot s v.hand → s < v.shape.slots
   pub swept : (c : Close) → In c v.sweeps → IsOver v c.arena
+  -- an arena of which it has a hold or a handle
+  pub held : (a : ArenaId) → In a (grips a v) → IsAlive v a
   -- each slot's words are lent to arenas of the slot
   pub own_words : (l : Loan) → Contains (lent_by v.seen) l → l.block ≡ l.id.slot
   -- the number that it drew and hasn't split off

@@ -1,5 +1,5 @@
 -- The rule of a new pool.
-use Rattle.std.proofs.Common.{◌≡◌, ◌≢◌, ℕ, zero, suc, ◌+◌, ◌-◌, ◌<◌, Bool, if◌then◌else◌, List, [], ◌∷◌, length, set, get_or, replicate, None, sym, refl, ap, ◌∙◌, subst, arith, inl, ⊎_elim, ne_eqb, length-set, get_or-set_other, get_or-set_same}
+use Rattle.std.proofs.Common.{◌≡◌, ◌≢◌, ℕ, zero, suc, ◌+◌, ◌-◌, ◌<◌, Bool, if◌then◌else◌, List, [], ◌∷◌, length, set, get_or, replicate, None, sym, refl, ap, ◌∙◌, subst, arith, inl, inr, ⊎_elim, ne_eqb, length-set, get_or-set_other, get_or-set_same}
 use mathlib.Core.Option.{some, some-injective, some-ne-none}
 use lib.ListN.{get_elem?, length-replicate}
 use Rattle.std.proofs.lemmas.List.Elements.{All-nil}
@@ -11,7 +11,8 @@ use Rattle.fm_pool_facts.specs.Words.{kept, free_word}
 use Rattle.fm_depicts.specs.Steps.{opening}
 use Rattle.fm_depicts.proofs.Depicting.{always}
 use Rattle.std.specs.Int.{bit_at}
-use Rattle.std.proofs.lemmas.Nat.Bits.{bit_at_ones}
+use Rattle.std.proofs.lemmas.Bool.{cases_lt}
+use Rattle.std.proofs.lemmas.Nat.Bits.{bit_at_ones, bit_at_ones_above}
 use Rattle.fm_words.specs.Bits.{ones}
 use Rattle.fm_pool_facts.specs.Views.{View, IsSound, limit_of}
 use Rattle.fm_pool_facts.specs.Splits.{first_view}
@@ -145,6 +146,10 @@ first_rule z valid = record {
     };
     slots = record {
       bit_is = λ s b. (0, refl, (let l = valid.generations.0 in omega arith));
+      low = λ s b. elim (cases_lt s z.slots) [
+        | inl l ↦ l
+        | inr l ↦ absurd (let none = bit_at_ones_above z.slots s l in let q : bit_at (ones z.slots) s ≡ 1 = b in omega arith)
+      ];
       within = λ s g e. (let q : 0 ≡ g = cc in let l = valid.generations.0 in omega arith);
     };
     counts = record { shown = λ a e. absurd (cc); only = λ a e. refl; few = λ a. omega arith };

@@ -1,5 +1,5 @@
 -- A pass and the one that is split off from it, and a pass that another is gathered into.
-use Rattle.std.proofs.Common.{◌≡◌, ℕ, suc, ◌+◌, ◌<◌, true, List, [], ◌∷◌, ◌++◌, length, sym, refl, ap, ◌∙◌, subst, arith, inl, inr, Option, Some, None}
+use Rattle.std.proofs.Common.{◌≡◌, ℕ, suc, ◌+◌, ◌<◌, Bool, true, false, if◌then◌else◌, List, [], ◌∷◌, ◌++◌, length, sym, refl, ap, ◌∙◌, subst, arith, inl, inr, Option, Some, None}
 use Rattle.std.proofs.lemmas.List.{append-nil, length-append}
 use Rattle.std.proofs.lemmas.List.Elements.{filter-append}
 use Rattle.fm_words.specs.declared.shape.Shape.{Shape}
@@ -9,7 +9,7 @@ use Rattle.fm_base.specs.Arenas.{IsUnderWay}
 use Rattle.fm_base.specs.Histories.{made_by}
 use Rattle.fm_base.specs.Finds.{Gathered}
 use Rattle.fm_pool_facts.specs.declared.step.Step.TheVariants.{Looks}
-use Rattle.fm_pool_facts.specs.Views.{Met, View, In, IsNew, IsSound, brought, pass_of, state_in}
+use Rattle.fm_pool_facts.specs.Views.{Met, View, In, IsNew, IsSound, is_automatic, brought, pass_of, state_in}
 use Rattle.fm_pool_facts.specs.Splits.{view_of, number_or, drawn_left, drawn_right, as_gathered, gather, IsAtRest}
 use Rattle.fm_pool_facts.specs.Steps.{part, entries, noted}
 use Rattle.fm_pool_facts.specs.Facts.{Begins, cell_at}
@@ -34,6 +34,7 @@ left_sound v s = record {
   fits = s.fits;
   hand = s.hand;
   swept = λ c i. let o = s.swept c i in record { known = o.known; life = o.life; empty = o.empty };
+  held = s.held;
   own_words = s.own_words;
   none_left = s.none_left;
   drawn = λ n e. absurd (cc);
@@ -47,6 +48,11 @@ left_sound v s = record {
 
 pub left_new : (v : View) (n : ℕ) → IsNew v n → IsNew (drawn_left v) n
 left_new v n y = record { later = y.later; number = y.number; other = y.other; silent = y.silent; outside = y.outside }
+
+-- a view without holds and handles has none of any sort
+none_gripped : (a : ArenaId) (b : Bool) → ¬ (In a (if b then [] else []))
+none_gripped a true i = i
+none_gripped a false i = i
 
 pub right_sound : (v : View) (n : ℕ) → v.drawn ≡ Some n → IsSound v → IsSound (drawn_right v)
 right_sound v n e s =
@@ -64,6 +70,7 @@ right_sound v n e s =
       outside = λ a w. absurd (y.outside a (subst (λ (k : ℕ). IsUnderWay (state_in v) (pass_of k) a) is w));
       fits = s.fits;
       swept = λ c i. absurd i;
+      held = λ a i. absurd (none_gripped a (is_automatic a.kind) i);
       own_words = s.own_words;
       none_left = λ w. absurd (cc);
       hand = λ x i. absurd i;

@@ -19,9 +19,9 @@ use Rattle.fm_rule.proofs.Allowed.{same_part, still_counted, keeps_on}
 abbrev Held : Type 0
 Held = List (ℕ × Unit {0})
 
-draws_inside : (o : Option ℕ) (x : ℕ) (v : View) → (draws o x v).inside ≡ v.inside
-draws_inside None x v = refl
-draws_inside (Some n) x v = refl
+draws_inside : (o : Option ℕ) (e x : ℕ) (v : View) → (draws o e x v).inside ≡ v.inside
+draws_inside None e x v = refl
+draws_inside (Some n) e x v = refl
 
 module _ (c : Caller) (i : Option ArenaId) (from count : ℕ) (v w : View) (held held' : Held) (k : Keeps c i from count (v, held))
     (e : held' ≡ held) where
@@ -83,7 +83,7 @@ module _ (c : Caller) (i : Option ArenaId) (from count : ℕ) (v w : View) (held
   unfolding part entries noted
   draw_keeps b x t =
       keeps_on c i from count v (part (Draws b) v x) w (entries (Draws b) v x) (noted (Draws b) v x) held held' k
-      (same_part (Draws b) v x) (draws_inside (number_drawn v.shape b x) x v) t.gives e
+      (same_part (Draws b) v x) (draws_inside (number_drawn v.shape b x) b x v) t.gives e
 
   pub shut_keeps : (a : ArenaId) (x : ℕ) → Tells (Shuts a) v x w → Keeps c i from count (w, held')
   unfolding part entries noted

@@ -4,7 +4,7 @@ use Rattle.fm_base.specs.declared.caller.Caller.{Caller}
 use Rattle.fm_base.specs.Calls.{Entry}
 use Rattle.fm_base.specs.Histories.{made_by}
 use Rattle.fm_base.specs.Finds.{Find, Gathered, Draws, is_draw}
-use Rattle.fm_pool_facts.specs.Views.{View, In, IsNew, IsSound, pass_of, HasFind, HasAllDrawn}
+use Rattle.fm_pool_facts.specs.Views.{View, In, IsNew, IsSound, pass_of, HasCaller, HasFind, HasAllDrawn}
 use Rattle.fm_pool_facts.specs.Hands.{nothing}
 use Rattle.fm_pool_facts.specs.Splits.{view_of, as_gathered}
 use Rattle.fm_rule.specs.Passes.{IsOf}
@@ -72,8 +72,8 @@ pub record NoneDrawn (old new : View) : Type 0 where
   pub draws : List Find
   pub asked : Asked old new draws None
   pub all : FoundAll old.shape.passes draws
-  -- where the giver was known to be whole, it is so still, and has every number that there is
-  pub still : old.whole ≡ true → new.whole ≡ true
+  -- it is known to be whole just where it was, and has every number that there is then
+  pub same : new.whole ≡ old.whole
   pub missing : old.whole ≡ true → length old.gathered + 1 ≡ old.shape.passes
   pub sound : IsSound new
 
@@ -85,6 +85,8 @@ pub record Looked (old new : View) (result : Bool) : Type 0 where
   pub none : find.drew ≡ None
   pub is : result ≡ (length old.gathered + 1 == find.found)
   pub whole : new.whole ≡ result
+  -- of each number that was drawn it has the caller then, so what it has seen is the whole history
+  pub gathered : result ≡ true → (n : ℕ) → n < find.found → HasCaller new n
   pub still : old.whole ≡ true → result ≡ true
   -- a pass that has the first number and each that its finds drew has them all
   pub complete : HasAllDrawn old → result ≡ true

@@ -24,7 +24,7 @@ use std::sync::Wait;
 pub fn step_draw(pool: &Pool, pass: &mut Pass, expected: u64) -> u64
     requires of { IsOf pool.now pass.old }
     requires none { pass.old.drawn ≡ None }
-    ensures stepped { Stepped pass.old pass.new (draws (number_drawn pass.old.shape expected result) result pass.old) []
+    ensures stepped { Stepped pass.old pass.new (draws (number_drawn pass.old.shape expected result) expected result pass.old) []
         (note_draw expected result pass.old) }
     ensures count { LearnsCount pass.old result }
 {
