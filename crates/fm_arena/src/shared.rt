@@ -120,8 +120,12 @@ impl<'a> Shared<'a> {
 }
 
 impl<'a> Memory for Shared<'a> {
-    ghost use Rattle.std.specs.Prelude.{IfOk, refl};
-    ghost use Rattle.fm_base.specs.Learnt.{AfterClose, AfterOpen, CanOpen, CanVisit};
+    ghost use Rattle.std.specs.Prelude.{◌≢◌, Err, IfOk, refl};
+    ghost use Rattle.fm_base.specs.declared.refusal.Refusal.TheVariants.{Closed};
+    ghost use Rattle.fm_base.specs.Learnt.{AfterAllocate, AfterClose, AfterEnter, AfterOpen, CanOpen, CanVisit};
+    ghost use Rattle.fm_base.specs.View.{IsSound};
+    ghost use Rattle.fm_pool_facts.specs.Views as views;
+    ghost use Rattle.fm_pool_facts.specs.Views.{In, grips};
     ghost use Rattle.fm_calls.specs.Told.{view_of_pass};
     ghost use Rattle.fm_arena.specs.Opening.{OpensExactly};
     ghost use Rattle.fm_arena.specs.Shares.{IsGone, nature_of_shared};
@@ -130,12 +134,22 @@ impl<'a> Memory for Shared<'a> {
 
     ghost view = { view_of_pass };
 
-    fn caller(&self) -> Caller {
+    /// As the trait says; and the pass is sound.
+    fn caller(&self) -> Caller
+        ensures is { result ≡ self.now.caller }
+        ensures sound { IsSound (view_of_pass self.now) }
+        ensures pass { views.IsSound self.now }
+    {
         self.pass.caller()
     }
 
+    /// As the trait says; and it isn't `Closed` where the pass has a hold or a handle of the arena.
     #[inline(always)]
-    fn enter(&mut self, a: ArenaId) -> Result<(), Refusal> {
+    fn enter(&mut self, a: ArenaId) -> Result<(), Refusal>
+        requires { CanVisit (view_of_pass self.old) a }
+        ensures enters { AfterEnter (view_of_pass self.old) (view_of_pass self.new) a result }
+        ensures held { In a (grips a self.old) → result ≢ Err Closed }
+    {
         enter(self.pool, &mut self.pass, a)
     }
 
@@ -176,13 +190,18 @@ impl<'a> Memory for Shared<'a> {
         open_arena(rt, self.pool, &mut self.pass, kind)
     }
 
+    /// As the trait says; and it isn't `Closed` where the pass has a hold or a handle of the arena.
     fn allocate<R: Wait>(
         &mut self,
         rt: &R,
         a: ArenaId,
         size: u64,
         align: u64,
-    ) -> Result<u64, Refusal> {
+    ) -> Result<u64, Refusal>
+        requires { CanVisit (view_of_pass self.old) a }
+        ensures allocates { AfterAllocate nature_of_shared (view_of_pass self.old) (view_of_pass self.new) a size align result }
+        ensures held { In a (grips a self.old) → result ≢ Err Closed }
+    {
         allocate(rt, self.pool, &mut self.pass, a, size, align)
     }
 

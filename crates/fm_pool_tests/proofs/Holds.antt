@@ -66,9 +66,9 @@ can_spend {pool = pool} {p = p} {a = a} {hold = hold} {holds = holds} rest held 
     }
 
 -- and the others are left.
-pub spent : {pool : Pool} {p q : View} {a : ArenaId} {hold : Hold} {holds rest : List Hold} → AreHeld pool p a holds
+pub spent : {pool : Pool} {p q : View} {a : ArenaId} (hold : Hold) {holds rest : List Hold} → AreHeld pool p a holds
     → holds ≡ rest ++ hold ∷ [] → AfterUnhold pool p q hold.arena → AreHeld pool q a rest
-spent {pool = pool} {p = p} {q = q} {a = a} {hold = hold} {holds = holds} {rest = rest} held split after =
+spent {pool = pool} {p = p} {q = q} {a = a} hold {holds = holds} {rest = rest} held split after =
     let each = last_of (made_by_pass p) a hold holds rest split held.each in
     let now : how_many a q.holds ≡ how_many a (released a p.holds) =
     ap (λ (x : Rest). how_many a x.holds) after.did.rest ∙ ap (λ (b : ArenaId). how_many a (released b p.holds)) each.1.0 in
