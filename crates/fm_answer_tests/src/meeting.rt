@@ -30,6 +30,10 @@ impl Progress {
             ended: AtomicBool::new(false),
         }
     }
+
+    fn is_whole(&self) -> bool {
+        self.begun.load(Ordering::SeqCst) && self.ended.load(Ordering::SeqCst)
+    }
 }
 
 /// A gate at which the first calls of two workers meet.
@@ -55,6 +59,11 @@ impl Meeting {
     /// Whether somebody went on without the other.
     pub fn is_missed(&self) -> bool {
         self.missed.load(Ordering::SeqCst)
+    }
+
+    /// Whether the first call of each worker began and ended.
+    pub fn both_began_and_ended(&self) -> bool {
+        self.first.is_whole() && self.second.is_whole()
     }
 
     fn wait(&self, flag: &AtomicBool) {

@@ -14,3 +14,6 @@ pub mod Outside
 pub mod Arranged
 pub mod Crewed
 pub mod Passing
+pub mod Once
+pub mod Bringing
+pub mod Alive

@@ -92,9 +92,9 @@ module _ (p : View) (sound : IsSound p) where
     -- What a line made is known.
     pub line_known : (k : Command) (out : Outcome) (own : List Entry) → CallDoes c stands k out own → ((e : Entry) → IsAmong e own → IsAmong e p.seen)
         → IsBacked p (lent out.made)
-    line_known (command.Open name kind) out own d seen = opens c kind d.0 out own d.1 d.2 seen
+    line_known (command.Open name kind) out own d seen = opens c kind d.0 out own d.1.1 d.2 seen
     line_known (command.Alloc arena name size align) out own d seen =
-        by_name (arena_at c stands arena) (Allocates c size align) out own (λ id a. allocates c id size align a.0 out own a.1 a.2 seen) d
+        by_name (arena_at c stands arena) (Allocates c size align) out own (λ id a. allocates c id size align a.0 out own a.1.1 a.2 seen) d
     line_known (command.Slice segment name offset size) out own d seen =
         some_segment (segment_at c stands segment) _ out own (segment_known p (stands segment) (known segment)) d
         (λ r k a. slices offset size r a.0 out k a.1.0 a.2)

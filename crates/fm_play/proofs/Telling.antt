@@ -229,6 +229,7 @@ module _ (names : Numbers) (lines : List Line) (old new : View) (tasks players :
         record {
           lines = subst (λ (ls : List Line). report.AreLinesOf (record { shape = s.shape; lines = ls }) the_played) (sym same_lines)
               (record { firsts = all.first.are; many = ap (λ (n : ℕ). 1 + n) workers.many ∙ passes; workers = workers.lines; lasts = all.last.are });
+          main = can.only.first;
           apart = apart;
           cut = cut;
           first_calls = first_calls;

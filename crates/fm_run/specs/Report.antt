@@ -93,6 +93,8 @@ pub record AreLinesOf (s : ScriptOf) (p : Played) : Type 0 where
 -- What the script's lines did in the history, line by line
 pub record IsReport (s : ScriptOf) (history : List Entry) (p : Played) : Type 0 where
   pub lines : AreLinesOf s p
+  -- the pool's first pass ran the first lines and the last
+  pub main : p.main.number ≡ 0
   pub apart : AreApart (callers p)
   pub cut : IsCut history p
   pub first_calls : AreRun p.main (number_of p) 0 none_stands p.firsts

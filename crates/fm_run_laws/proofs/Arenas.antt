@@ -14,7 +14,7 @@ use Rattle.fm_base.specs.Histories.{state_after}
 use Rattle.fm_base.specs.View.{but_loans}
 use Rattle.fm_base.proofs.Learning.{open_is_new, allocate_gives}
 use Rattle.fm_run.specs.declared.outcome.Outcome.{Outcome}
-use Rattle.fm_run.specs.Calls.{coming, fine, Opens, Allocates, Asks, Closes, Holds, Unholds, TakesAgain, GivesBack}
+use Rattle.fm_run.specs.Calls.{coming, fine, Opens, Allocates, Asks, Closes, Holds, Unholds, TakesAgain, GivesBack, OverPool}
 use Rattle.fm_run.specs.declared.reply.Reply.TheVariants.{Fine, Place, Truth}
 use Rattle.fm_run.specs.declared.standing.Standing.TheVariants.{Segment}
 use Rattle.fm_run.specs.Outcomes.{outcome, plain}
@@ -53,7 +53,8 @@ module _ {c : Caller} {limit : ℕ} {s : State} {all own : List Entry} (o : Own 
 
   pub opens_come : (k : Kind) (out : Outcome) → Opens c k out own → Comes c limit s all out.made
   opens_come k out does =
-      making_comes o (λ result es. DoesOpen c k result (but_loans es)) (λ id. outcome Fine (opened_as k id)) out (open_tidy k) (open_there k) does
+      making_comes o (λ result es. OverPool (DoesOpen c k) result (but_loans es)) (λ id. outcome Fine (opened_as k id)) out
+      (λ result d. open_tidy k result d.1) (λ result d. open_there k result d.1) does
 
   -- ---- alloc
 
@@ -78,8 +79,9 @@ module _ {c : Caller} {limit : ℕ} {s : State} {all own : List Entry} (o : Own 
   pub allocates_come : (size align : ℕ) (id : ArenaId) (out : Outcome) → has_arena s id ≡ true → Allocates c size align id out own
       → Comes c limit s all out.made
   allocates_come size align id out known does =
-      making_comes o (λ result es. DoesAllocate c id size align result (but_loans es)) (λ place. outcome (Place place) (Segment (region_of id place size))) out
-      (allocate_tidy id size align) (allocate_there id size align known) does
+      making_comes o (λ result es. OverPool (DoesAllocate c id size align) result (but_loans es))
+      (λ place. outcome (Place place) (Segment (region_of id place size))) out
+      (λ result d. allocate_tidy id size align result d.1) (λ result d. allocate_there id size align known result d.1) does
 
   -- ---- alive and close
 

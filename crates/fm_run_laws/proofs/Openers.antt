@@ -94,7 +94,7 @@ module _ (c : Caller) (own : List Entry) where
     call_none : (k : Command) → opens k ≡ false → CallDoes c stands k out own → AllOpenNone own
     call_none (command.Open name kind) is does = absurd (let no : ⊥ = cc in no)
     call_none (command.Alloc arena name size align) is does =
-        on_arena arena (Allocates c size align) (λ id d. allocate_none id size align d.0 d.1) does
+        on_arena arena (Allocates c size align) (λ id d. allocate_none id size align d.0 d.1.1) does
     call_none (command.Slice segment name offset size) is does =
         on_segment segment (λ r. Called (Answers (slice_of offset size r)) segment_made) (λ r d. open_as own [] d.1.1 tt) does
     call_none (command.Readonly segment name) is does =
@@ -161,7 +161,7 @@ module _ (c : Caller) (own : List Entry) (e : Entry) (a : ArenaId) (among : IsAm
   open_opens name k (Err r) out d is = absurd d
 
   line_opens : (stands : List ℕ → Standing) (k : Command) (out : Outcome) → CallDoes c stands k out own → OpenedBy a k out
-  line_opens stands (command.Open name kind) out does = open_opens name kind does.0 out does.1 does.2
+  line_opens stands (command.Open name kind) out does = open_opens name kind does.0 out does.1.1 does.2
   line_opens stands k out does = absurd (none_opens e a own (call_none c own stands out k refl does) among call)
 
 -- ---- lines in a row
