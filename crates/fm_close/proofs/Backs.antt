@@ -14,8 +14,9 @@ use Rattle.fm_rule.specs.declared.pool.Pool.{Pool}
 use Rattle.fm_calls.specs.Kept.{Goes, rest_of, HasEnded, HasNoWords}
 use Rattle.fm_calls.proofs.Going.{goes_of, goes_then, no_draws, made_by-one, rest_is, hand_is, inside_is, mark_is, known_on, lasts_on}
 use Rattle.fm_calls.proofs.Waiting.{Waited, waits_by, waits_on}
+use Rattle.fm_gate.specs.Makers.{Made, made_by_pass}
 use Rattle.fm_gate.specs.Standing.{IsOutside}
-use Rattle.fm_gate.proofs.Standing.{stands_outside}
+use Rattle.fm_gate.proofs.Standing.{made_on, stands_outside}
 use Rattle.fm_gate.proofs.Handles.{owner_low}
 use Rattle.fm_close.specs.declared.gave_back.GaveBack.TheVariants as gave
 use Rattle.fm_close.specs.declared.shutting.Shutting.{Shutting}
@@ -101,16 +102,17 @@ module _ {pool : Pool} {p q : View} {a : ArenaId} {word : ℕ} (can : CanGiveBac
       }
 
   -- Where there were none, the close has visited no mark.
-  pub spent_last : (n : ℕ) → alive_holds a word ≡ Some n → n ≡ 0 → AfterSpend pool p q a (Some (begun a))
-  spent_last n f z =
+  pub spent_last : (m : Made) → m ≡ made_by_pass q → (n : ℕ) → alive_holds a word ≡ Some n → n ≡ 0 → AfterSpend pool p q a (Some (begun m a))
+  spent_last m mine n f z =
       let e : giving_by (alive_holds a word) ≡ Last = ap giving_by f ∙ ap last_if (eq-eqb n 0 z) in
       let g = goes_by Last e in
       let rest = rest_by Last e in
       record {
-        did = record { own = entry_of p.caller (Shut a) Fine ∷ []; does = (refl, refl); goes = g; rest = rest };
+        did = record { own = entry_of p.caller (Shut a) Fine ∷ []; does = (ap (λ (x : Made). begun x a) (mine ∙ made_on g), refl); goes = g; rest = rest };
         walks = record {
           outside = out;
           walks = record {
+            maker = mine;
             unfinished = refl;
             known = known_on g a can.handle.known;
             at = ap (λ (r : Rest). visited_of r.closes a) rest ∙ visited_of-begun p.closes a;

@@ -20,6 +20,7 @@ use Rattle.fm_run.specs.declared.standing.Standing.{Standing}
 use Rattle.fm_run.specs.Calls.{Adds, Allocates, Asks, CallDoes, Closes, Compares, Copies, Exchanges, Fills, Gets, GivesBack, Holds, Line, On, Sets, TakesAgain, Unholds, arena_at, coming, fine, number, segment_at, segment_made}
 use Rattle.fm_run.specs.Outcomes.{outcome, plain}
 use Rattle.fm_run.specs.Report.{AreRun, AreWorked, Done, IsReport, Played, Player, all_done, names_behind, none_stands, number_of, worked}
+use Rattle.fm_gate.specs.Makers.{Made as MadeBy}
 use Rattle.fm_run.specs.Standings.{Names, arena_of, handle_of, handled_as, held_as, hold_of, opened_as, stands_of}
 use Rattle.fm_script.specs.declared.command.Command.{Command}
 use Rattle.fm_script.specs.declared.command.Command.TheVariants as command
@@ -45,23 +46,23 @@ module _ (a : ArenaId) where
   by_name None Does out own f d = ap (λ (x : Outcome). arena_of x.made) d.0
   by_name (Some x) Does out own f d = f x d
 
-  opened_arena : (k : Kind) (id : ArenaId) → arena_of (opened_as k id) ≡ Some id
-  opened_arena kind.Global id = refl
-  opened_arena kind.Automatic id = refl
-  opened_arena kind.Confined id = refl
-  opened_arena kind.Shared id = refl
+  opened_arena : (m : MadeBy) (k : Kind) (id : ArenaId) → arena_of (opened_as m k id) ≡ Some id
+  opened_arena m kind.Global id = refl
+  opened_arena m kind.Automatic id = refl
+  opened_arena m kind.Confined id = refl
+  opened_arena m kind.Shared id = refl
 
-  open_brings : (c : Caller) (k : Kind) (result : Result ArenaId Refusal) (out : Outcome) (own : List Entry) → DoesOpen c k result (but_loans own)
-      → out ≡ coming (λ id. outcome reply.Fine (opened_as k id)) result → arena_of out.made ≡ Some a → 1 ≤ openings a own
-  open_brings c k (Ok id) out own d is makes =
-      let arena : Some id ≡ Some a = sym (ap (λ (x : Outcome). arena_of x.made) is ∙ opened_arena k id) ∙ makes in
+  open_brings : (c : Caller) (m : MadeBy) (k : Kind) (result : Result ArenaId Refusal) (out : Outcome) (own : List Entry) → DoesOpen c k result (but_loans own)
+      → out ≡ coming (λ id. outcome reply.Fine (opened_as m k id)) result → arena_of out.made ≡ Some a → 1 ≤ openings a own
+  open_brings c m k (Ok id) out own d is makes =
+      let arena : Some id ≡ Some a = sym (ap (λ (x : Outcome). arena_of x.made) is ∙ opened_arena m k id) ∙ makes in
       let same : id ≡ a = cc in
       let this : same_id id a ≡ true = ap (λ (x : ArenaId). same_id x a) same ∙ same_id-self a in
       let one : one_if (is_opening a (Open id)) ≡ 1 = ap one_if this in
       let but : openings a (but_loans own) ≡ openings a (entry_of c (Open id) Fine ∷ []) = ap (openings a) d.2 in
       let less = kept a (λ e. not (is_loan e.call)) own in
       omega (arith, one, but, less)
-  open_brings c k (Err r) out own d is makes =
+  open_brings c m k (Err r) out own d is makes =
       let none : arena_of out.made ≡ None = ap (λ (x : Outcome). arena_of x.made) is in
       absurd (let no : ⊥ = cc in no)
 
@@ -99,18 +100,18 @@ module _ (a : ArenaId) where
         (λ r e. on_segment other (Compares c r) (λ t f. by_answer (λ z. plain (reply.Number z)) (λ x. refl) f.0 out f.2) e) d
     none_made (command.Alive arena) o d = on_arena arena (Asks c) (λ id e. by_answer (λ alive. plain (reply.Truth alive)) (λ x. refl) e.0 out e.2) d
     none_made (command.Hold arena name) o d =
-        on_arena arena (Holds c) (λ id e. by_answer (λ u. outcome reply.Fine (held_as id)) (λ x. refl) e.0 out e.2) d
+        on_arena arena (Holds c) (λ id e. by_answer (λ u. outcome reply.Fine (held_as e.0 id)) (λ x. refl) e.1.0 out e.1.2) d
     none_made (command.Unhold hold) o d =
         by_name (hold_of (stands hold)) (Unholds c) out own (λ id e. ap (λ (x : Outcome). arena_of x.made) e.0) d
     none_made (command.Again handle name) o d =
         by_name (handle_of (stands handle)) (TakesAgain c) out own
-        (λ id e. by_answer (λ u. outcome reply.Fine (handled_as id)) (λ x. refl) e.0 out e.2) d
+        (λ id e. by_answer (λ u. outcome reply.Fine (handled_as e.0 id)) (λ x. refl) e.1.0 out e.1.2) d
     none_made (command.Back handle) o d =
         by_name (handle_of (stands handle)) (GivesBack c) out own (λ id e. ap (λ (x : Outcome). arena_of x.made) e.2) d
     none_made (command.Close arena) o d = on_arena arena (Closes c) (λ id e. by_answer fine (λ x. refl) e.0 out e.2) d
 
     line_brings : (k : Command) → CallDoes c stands k out own → arena_of out.made ≡ Some a → 1 ≤ openings a own
-    line_brings (command.Open name kind) d makes = open_brings c kind d.0 out own d.1.1 d.2 makes
+    line_brings (command.Open name kind) d makes = open_brings c d.0 kind d.1.0 out own d.1.1.1 d.1.2 makes
     line_brings k d makes = no_arena out own (none_made k refl d) makes
 
   -- ---- lines in a row

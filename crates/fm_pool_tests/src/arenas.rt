@@ -122,6 +122,7 @@ fn renewed<R: Abort + Wait>(rt: &R, m: &mut Shared, handle: AutoHandle) -> (Auto
     ensures lasts { Lasts m.old m.new }
 {
     let other = handle.again(rt, m).expect(rt, "a hold");
+    a_handle_lasts();
     let gave = handle.give_back(rt, m);
     (other, gave)
 }

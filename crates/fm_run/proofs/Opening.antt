@@ -79,7 +79,7 @@ silent c k run reply made ok fine lacks (Err r, does, comes) =
 pub line_silent : (c : Caller) (stands : List ℕ → Standing) (command : Command) (reply : Reply) (made : Standing) (run : List Entry)
     → opens command ≡ true → reply ≡ Refused NoSlot → CallDoes c stands command (outcome reply made) run → but_loans run ≡ []
 line_silent c stands (Open name kind) reply made run o lacks does =
-    silent c kind run reply made (λ id. outcome Fine (opened_as kind id)) (λ id. refl) lacks does
+    silent c kind run reply made (λ id. outcome Fine (opened_as does.0 kind id)) (λ id. refl) lacks does.1
 line_silent c stands command reply made run o lacks does = absurd (cc)
 
 -- The entries of a pass, behind some of its own.

@@ -10,6 +10,7 @@ use Rattle.fm_base.specs.Does.{DoesOpen, DoesAllocate, DoesClose, DoesIsAlive, D
 use Rattle.fm_base.specs.Outcomes.{MayCome}
 use Rattle.fm_base.specs.View.{but_loans}
 use Rattle.fm_arena.specs.Shares.{nature_of_shared}
+use Rattle.fm_gate.specs.Makers.{Made}
 use Rattle.fm_lanes.specs.declared.value.Value.{Value}
 use Rattle.fm_lanes.specs.declared.value_kind.ValueKind.{ValueKind}
 use Rattle.fm_lanes.specs.Value.{kind_of, number_of_value}
@@ -121,10 +122,10 @@ module _ (c : Caller) where
   abbrev pub Compares : Region → Region → Line
   Compares r other = Called (DoesMismatch c r other) (λ z. plain (Number z))
 
-  -- ---- arenas
+  -- ---- arenas; a pass made the handle or the hold
 
   abbrev pub Opens : Kind → Line
-  Opens kind = CalledBut (OverPool (DoesOpen c kind)) (λ id. outcome Fine (opened_as kind id))
+  Opens kind out own = (m : Made) × CalledBut (OverPool (DoesOpen c kind)) (λ id. outcome Fine (opened_as m kind id)) out own
 
   abbrev pub Allocates : ℕ → ℕ → ArenaId → Line
   Allocates size align id =
@@ -139,13 +140,13 @@ module _ (c : Caller) where
   -- ---- holds and handles
 
   abbrev pub Holds : ArenaId → Line
-  Holds id = Called (DoesHold c id) (λ u. outcome Fine (held_as id))
+  Holds id out own = (m : Made) × Called (DoesHold c id) (λ u. outcome Fine (held_as m id)) out own
 
   abbrev pub Unholds : ArenaId → Line
   Unholds id out own = (out ≡ plain Fine) × DoesUnhold c id own
 
   abbrev pub TakesAgain : ArenaId → Line
-  TakesAgain id = Called (DoesAgain c id) (λ u. outcome Fine (handled_as id))
+  TakesAgain id out own = (m : Made) × Called (DoesAgain c id) (λ u. outcome Fine (handled_as m id)) out own
 
   abbrev pub kept_or_ended : Bool → Reply
   kept_or_ended true = Kept

@@ -82,7 +82,7 @@ module _ (c : Caller) (stands : List ℕ → Standing) (out : Outcome) (own : Li
 
   -- A line of each command.
   line_may : (k : Command) → CallDoes c stands k out own → MayBe out.reply
-  line_may (command.Open name kind) d = coming_may (λ id. outcome reply.Fine (opened_as kind id)) (λ id. tt) d.0 d.1.0 out d.2
+  line_may (command.Open name kind) d = coming_may (λ id. outcome reply.Fine (opened_as d.0 kind id)) (λ id. tt) d.1.0 d.1.1.0 out d.1.2
   line_may (command.Alloc arena name size align) d =
       on_arena arena (Allocates c size align)
       (λ id e. coming_may (λ place. outcome (reply.Place place) (Segment (region_of id place size))) (λ place. tt) e.0 e.1.0 out e.2) d
@@ -122,12 +122,12 @@ module _ (c : Caller) (stands : List ℕ → Standing) (out : Outcome) (own : Li
   line_may (command.Alive arena) d =
       on_arena arena (Asks c) (λ id e. coming_may (λ alive. plain (reply.Truth alive)) (λ v. tt) e.0 (alive_may c own id e.0 e.1) out e.2) d
   line_may (command.Hold arena name) d =
-      on_arena arena (Holds c) (λ id e. coming_may (λ u. outcome reply.Fine (held_as id)) (λ v. tt) e.0 (hold_may c own id e.0 e.1) out e.2) d
+      on_arena arena (Holds c) (λ id e. coming_may (λ u. outcome reply.Fine (held_as e.0 id)) (λ v. tt) e.1.0 (hold_may c own id e.1.0 e.1.1) out e.1.2) d
   line_may (command.Unhold hold) d =
       on_may (standing.hold_of (stands hold)) (Unholds c) out own (λ id e. subst (λ (o : Outcome). MayBe o.reply) (sym e.0) tt) d
   line_may (command.Again handle name) d =
       on_may (standing.handle_of (stands handle)) (TakesAgain c) out own
-      (λ id e. coming_may (λ u. outcome reply.Fine (handled_as id)) (λ v. tt) e.0 (again_may c own id e.0 e.1) out e.2) d
+      (λ id e. coming_may (λ u. outcome reply.Fine (handled_as e.0 id)) (λ v. tt) e.1.0 (again_may c own id e.1.0 e.1.1) out e.1.2) d
   line_may (command.Back handle) d =
       on_may (standing.handle_of (stands handle)) (GivesBack c) out own
       (λ id e. subst (λ (o : Outcome). MayBe o.reply) (sym e.2) (back_may c e.0)) d
