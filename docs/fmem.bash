@@ -9,20 +9,20 @@ _fmem_paths() { # a layout's file and the types that serve, each between | and |
 }
 
 _fmem_query() { # a layout's file and a query's first part: what its last piece may become, behind all before it
-  local before=${2%"${2##*[\", (]}"} last=${2##*[\", (]} path in_brackets='\([^)]*$'
-  if [[ $2 =~ $in_brackets ]]; then # an item's path
-    while read -r path; do [[ $path != "$last"* ]] || printf '%s\n' "$before$path)"; done < <(_fmem_paths "$1" "$3")
-  elif [[ $2 = *' where '* ]]; then # a condition's path, which leads to one value
-    while read -r path; do
-      [[ $path != "$last"* || $path = *'[]'* ]] || printf '%s\n' "$before$path"
-    done < <(_fmem_paths "$1" "$3")
-  else
-    compgen -P "$before" -W 'count sum( min( max( list(' -- "$last"
-  fi
+  local before=${2%"${2##*[\", ]}"} last=${2##*[\", ]} path word
+  while read -r path; do
+    if [[ $2 = *' where '* ]]; then # a condition's path leads to one value
+      for word in "$path"{=,!=,'<','<=','>','>='}; do [[ $path = *'[]'* ]] || printf '%s\n' "$word"; done
+    else
+      printf '%s\n' "sum($path)" "min($path)" "max($path)" "list($path)" count
+    fi
+  done < <(_fmem_paths "$1" '|byte|boolean|char|short|int|long|') | sort -u | while read -r word; do
+    [[ $word != "$last"* ]] || printf '%s\n' "$before$word"
+  done
 }
 
 _fmem() {
-  local all='|byte|boolean|char|short|int|long|' word current command k quote= behind=
+  local word current command k quote= behind=
   local -a words=()
   current=${COMP_WORDS[COMP_CWORD]} command=${COMP_WORDS[1]}
   COMPREPLY=()
@@ -53,7 +53,7 @@ _fmem() {
     tally/1) mapfile -t COMPREPLY < <(_fmem_paths "${words[0]}" '|byte|boolean|' | while read -r word; do
       [[ $word != "${current#"$quote"}"* ]] || printf '%s\n' "$word"
     done) ;;
-    query/1) mapfile -t COMPREPLY < <(_fmem_query "${words[0]}" "${current#"$quote"}" "$all")
+    query/1) mapfile -t COMPREPLY < <(_fmem_query "${words[0]}" "${current#"$quote"}")
       compopt -o nospace 2> /dev/null ;;
     layout/0 | run/0 | sum/3 | query/[02] | tally/[02])
       compopt -o filenames 2> /dev/null

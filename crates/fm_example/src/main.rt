@@ -32,6 +32,7 @@ const SHAPE: Shape = Shape {
 };
 
 /// What was found.
+#[derive(Clone, Copy, Debug)]
 struct Found {
     /// The price that was put.
     put: Value,

@@ -150,7 +150,7 @@ fn an_automatic_arena_ends_with_its_last_handle(rt: HostRuntime) {
     assert_eq!(rt; long_of(&mut m, &s), Err(Refusal::Closed));
 }
 
-/// The second example of docs/LIBRARY.md.
+/// A read beside a close is answered whole or refused, and afterwards refused.
 #[test]
 fn an_arena_is_closed_while_another_thread_reads(rt: HostRuntime) -> Result<(), Fail> {
     let (pool, mut first) = made(&rt);
