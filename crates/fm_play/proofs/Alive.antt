@@ -1,6 +1,6 @@
 -- A report tells no more arenas than its pool has slots.
-use Rattle.std.proofs.Common.{◌≡◌, ℕ, zero, suc, ◌+◌, ◌≤◌, ◌==◌, if◌then◌else◌, Bool, true, false, List, [], ◌∷◌, ◌++◌, length, length-append, get_or, bytes_eq, Option, Some, None, refl, sym, ap, ◌∙◌, subst, arith, inl, inr}
-use Rattle.std.specs.List.{AllByRecursion, flat_map}
+use Rattle.std.proofs.Common.{◌≡◌, ℕ, zero, suc, ◌+◌, ◌≤◌, if◌then◌else◌, Bool, true, false, List, [], ◌∷◌, ◌++◌, length, length-append, get_or, Option, Some, None, refl, sym, ap, ◌∙◌, subst, arith, inl, inr}
+use Rattle.std.specs.List.{AllByRecursion}
 use Rattle.std.proofs.lemmas.Slice.Eq.{bytes_eq-Decides}
 use Rattle.fm_base.specs.declared.arena_id.ArenaId.{ArenaId}
 use Rattle.fm_base.specs.Arenas.{Life, Alive, Closing, Ended, arena_of as arena_in}
@@ -14,8 +14,7 @@ use Rattle.fm_rule.specs.GivenBytes.{given_bytes, state_of}
 use Rattle.fm_report.specs.declared.arena.AliveArena.{AliveArena}
 use Rattle.fm_report.specs.Alive.{alive_at, alive_by, alive_of, arena_by, opened_at, while_alive}
 use Rattle.fm_report.specs.Living.{Lives}
-use Rattle.fm_report.specs.Told.{IsRunOf, opened_of}
-use Rattle.fm_report.specs.Views.{ReportView}
+use Rattle.fm_report.specs.Told.{opened_of}
 use Rattle.fm_report.proofs.Living.{living_fit}
 use Rattle.fm_run.specs.Numbers.{is_made, number_from, unless}
 use Rattle.fm_run.specs.Report.{Done, Played, all_done, lines_of, number_of}
@@ -30,7 +29,7 @@ use Rattle.fm_play.proofs.Once.{all_once}
 
 -- ---- names and the numbers of their lines
 
-made_at : List Line → ℕ → Option Made
+abbrev made_at : List Line → ℕ → Option Made
 made_at [] i = None
 made_at (l ∷ ls) zero = made l.command
 made_at (l ∷ ls) (suc i) = made_at ls i
@@ -147,9 +146,9 @@ module _ (f : FinishedView) (arena : List ℕ → Option ArenaId) where
 
   in_while : (x : Life) (id a : ArenaId) → IsAmong a (ids_while x id) → a ≡ id
   in_while Alive id a (inl is) = is
-  in_while Alive id a (inr no) = absurd no
-  in_while Closing id a no = absurd no
-  in_while Ended id a no = absurd no
+  in_while Alive id a (inr i) = absurd i
+  in_while Closing id a i = absurd i
+  in_while Ended id a i = absurd i
 
   in_at : (o : Option ArenaId) (a : ArenaId) → IsAmong a (ids_at o) → o ≡ Some a
   in_at None a i = absurd i
@@ -181,19 +180,19 @@ module _ (f : FinishedView) (arena : List ℕ → Option ArenaId) where
 
   more_while : (x : Life) (id : ArenaId) (rest : List ArenaId) → AreApart rest → ((a : ArenaId) → IsAmong a (ids_while x id) → ¬ (IsAmong a rest))
       → AreApart (ids_while x id ++ rest)
-  more_while Alive id rest apart no = (no id (inl refl), apart)
-  more_while Closing id rest apart no = apart
-  more_while Ended id rest apart no = apart
+  more_while Alive id rest apart other = (other id (inl refl), apart)
+  more_while Closing id rest apart other = apart
+  more_while Ended id rest apart other = apart
 
   more_at : (o : Option ArenaId) (rest : List ArenaId) → AreApart rest → ((a : ArenaId) → IsAmong a (ids_at o) → ¬ (IsAmong a rest))
       → AreApart (ids_at o ++ rest)
-  more_at None rest apart no = apart
-  more_at (Some id) rest apart no = more_while (life_of id) id rest apart no
+  more_at None rest apart other = apart
+  more_at (Some id) rest apart other = more_while (life_of id) id rest apart other
 
   more_by : (k : Command) (rest : List ArenaId) → AreApart rest → ((a : ArenaId) → IsAmong a (ids_by k) → ¬ (IsAmong a rest))
       → AreApart (ids_by k ++ rest)
-  more_by (Open name kind) rest apart no = more_at (arena name) rest apart no
-  more_by k rest apart no = apart
+  more_by (Open name kind) rest apart other = more_at (arena name) rest apart other
+  more_by k rest apart other = apart
 
   -- Where no two names stand for one arena, and no two lines make one name.
   all_apart : ((x y : List ℕ) (a : ArenaId) → arena x ≡ Some a → arena y ≡ Some a → x ≡ y) → (ls : List Line)

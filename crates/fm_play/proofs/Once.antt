@@ -14,9 +14,6 @@ use Rattle.fm_lists.specs.Among.{AreApart, IsAmong}
 use Rattle.fm_pool_facts.specs.Holds.{one_if}
 use Rattle.fm_run.specs.Report.{Done, IsCut, Played, Player, all_done, callers, runs, worked}
 use Rattle.fm_play.proofs.Known.{opened_there}
-use Rattle.std.specs.Prelude.{not}
-use Rattle.fm_run.specs.Slots.{opens}
-use Rattle.fm_play.proofs.Once.{is_opening, kept, openings, opened_by}
 
 module _ (a : ArenaId) where
   -- ---- entries
@@ -89,11 +86,11 @@ module _ (a : ArenaId) where
 
   -- An entry of none of them.
   not_theirs : (cs : List Caller) (e : Entry) (es : List Entry) → ¬ (IsAmong e.caller cs) → by_each cs (e ∷ es) ≡ by_each cs es
-  not_theirs [] e es no = refl
-  not_theirs (c ∷ cs) e es no =
+  not_theirs [] e es out = refl
+  not_theirs (c ∷ cs) e es out =
       let this : made_by c (e ∷ es) ≡ made_by c es =
-      cond-false (are_one e.caller c) (e ∷ made_by c es) (made_by c es) (are_one-not e.caller c (λ is. no (inl is))) in
-      let rest = not_theirs cs e es (λ i. no (inr i)) in
+      cond-false (are_one e.caller c) (e ∷ made_by c es) (made_by c es) (are_one-not e.caller c (λ is. out (inl is))) in
+      let rest = not_theirs cs e es (λ i. out (inr i)) in
       (λ i. openings (this i) + rest i)
 
   -- An entry more is of one of them at most.

@@ -1,5 +1,6 @@
 -- A finished pool has no more living arenas than slots.
 use Rattle.std.proofs.Common.{◌≡◌, ◌≢◌, ℕ, zero, suc, ◌+◌, ◌<◌, ◌≤◌, ◌==◌, Bool, true, false, List, [], ◌∷◌, length, map, refl, sym, ◌∙◌, subst, inl, inr, arith}
+use Rattle.std.specs.Prelude.{slice_index}
 use Rattle.std.specs.List.{AllByRecursion}
 use Rattle.std.proofs.lemmas.Bool.{eqb-true, eqb-false}
 use Rattle.std.proofs.lemmas.List.{length-map}
@@ -12,10 +13,8 @@ use Rattle.fm_lists.proofs.Each.{all_among}
 use Rattle.fm_pool_facts.specs.Rest.{IsOnly, ShowsSlot}
 use Rattle.fm_pool_facts.specs.Views.{Fits}
 use Rattle.fm_words.specs.declared.session.Session.{Session}
-use Rattle.fm_words.specs.declared.shape.Shape.{Shape}
 use Rattle.fm_words.specs.Places.{at, session}
 use Rattle.fm_words.specs.Sessions.{session_of}
-use Rattle.std.specs.Prelude.{slice_index}
 use Rattle.fm_rule.specs.Finishing.{FinishedView, IsFinished}
 use Rattle.fm_rule.specs.GivenBytes.{state_of}
 use Rattle.fm_report.specs.Living.{Lives, LivingAlwaysFit}
@@ -31,26 +30,24 @@ record Without (n : ℕ) (xs : List ℕ) : Type 0 where
 
 without : (n : ℕ) (xs : List ℕ) → AreApart xs → Without n xs
 without n [] a = record { rest = []; long = omega arith; from = λ k h. absurd h; apart = tt }
-without n (x ∷ xs) a = go (x == n) refl
+without n (x ∷ xs) a = go (x == n) refl (without n xs a.1)
   where
-    go : (b : Bool) → (x == n) ≡ b → Without n (x ∷ xs)
-    go true e = record {
+    go : (b : Bool) → (x == n) ≡ b → Without n xs → Without n (x ∷ xs)
+    go true e w = record {
       rest = xs;
       long = omega arith;
       from = λ k h. (inr h, λ is. a.0 (subst (λ (y : ℕ). IsAmong y xs) (is ∙ sym (eqb-true x n e)) h));
       apart = a.1;
     }
-    go false e =
-        let w = without n xs a.1 in
-        record {
-          rest = x ∷ w.rest;
-          long = (let l = w.long in omega arith);
-          from = λ k h. elim h [
-            | inl is ↦ (inl is, λ same. eqb-false x n e (sym is ∙ same))
-            | inr r ↦ (let f = w.from k r in (inr f.0, f.1))
-          ];
-          apart = ((λ h. a.0 (w.from x h).0), w.apart);
-        }
+    go false e w = record {
+      rest = x ∷ w.rest;
+      long = (let l = w.long in omega arith);
+      from = λ k h. elim h [
+        | inl is ↦ (inl is, λ same. eqb-false x n e (sym is ∙ same))
+        | inr r ↦ (let f = w.from k r in (inr f.0, f.1))
+      ];
+      apart = ((λ h. a.0 (w.from x h).0), w.apart);
+    }
 
 -- Of the numbers below n there are n.
 few_below : (n : ℕ) (xs : List ℕ) → ((k : ℕ) → IsAmong k xs → k < n) → AreApart xs → length xs ≤ n

@@ -2,7 +2,7 @@
 use Rattle.std.proofs.Common.{◌≡◌, ℕ, ◌+◌, ◌==◌, nat_le, nat_lt, nat_eq, if◌then◌else◌, Bool, true, false, MatchBool, Result, Ok, Err, List, [], ◌∷◌, replicate, refl, sym, subst, ℤ}
 use Rattle.std.specs.Prelude.{◌%◌, ◌&&◌}
 use Rattle.fm_access.specs.Found.{DoesAt}
-use Rattle.fm_access.specs.Ranges.{DoesFill, DoesPut, DoesRefuse}
+use Rattle.fm_access.specs.Ranges.{DoesFill, DoesPut}
 use Rattle.fm_base.specs.declared.arena_id.ArenaId.{ArenaId}
 use Rattle.fm_base.specs.declared.caller.Caller.{Caller}
 use Rattle.fm_base.specs.declared.refusal.Refusal.{Refusal}
@@ -61,11 +61,11 @@ update_may base h r =
     let here : Result ℕ Refusal = Ok (value_place base [] h r) in
     let even : Result ℕ Refusal = if nat_eq ((r.first + base) % h.root_alignment) 0 then here else Err refusal.Misaligned in
     let rooted : Result ℕ Refusal = if_rooted base h r here in
-    let open : Result ℕ Refusal = if_writable r rooted in
+    let writable : Result ℕ Refusal = if_writable r rooted in
     let even_may : May even = if_may (nat_eq ((r.first + base) % h.root_alignment) 0) here (Err refusal.Misaligned) tt tt in
     let rooted_may : May rooted = if_may (nat_le (base + h.root_size) r.size) even (Err refusal.Bounds) even_may tt in
-    let open_may : May open = if_may r.read_only (Err refusal.ReadOnly) rooted tt rooted_may in
-    if_may (can_update h.value) (if_admitted 0 h.dims [] open) (Err refusal.Unsupported) (admitted_may 0 h.dims open open_may) tt
+    let writable_found : May writable = if_may r.read_only (Err refusal.ReadOnly) rooted tt rooted_may in
+    if_may (can_update h.value) (if_admitted 0 h.dims [] writable) (Err refusal.Unsupported) (admitted_may 0 h.dims writable writable_found) tt
 
 -- ---- calls
 
@@ -80,27 +80,28 @@ after_may (Err e) Does result own h f d = subst (λ (x : Result (Unit {0}) Refus
 after_may (Ok u) Does result own h f d = f d
 
 module _ (c : Caller) (own : List Entry) where
-  refuse_may : (id : ArenaId) (Stops : List Entry → Type 0) (r : Refusal) → DoesRefuse c id Stops r own → MayRefuse nature_of_shared r
-  refuse_may id Stops refusal.Memory d = absurd d
-  refuse_may id Stops refusal.PoolFull d = absurd d
-  refuse_may id Stops refusal.NoSlot d = refl
-  refuse_may id Stops r d = tt
-
   enter_may : (id : ArenaId) (r : Refusal) → DoesEnter c id (Err r) own → MayRefuse nature_of_shared r
   enter_may id refusal.Memory d = absurd d
   enter_may id refusal.PoolFull d = absurd d
   enter_may id refusal.NoSlot d = refl
   enter_may id r d = tt
 
-  pub get_may : (id : ArenaId) (t : Tree) (found : Result ℕ Refusal) (result : Result Value Refusal) → May found → DoesGetAt c id t found result own → May result
+  pub get_may : (id : ArenaId) (t : Tree) (found : Result ℕ Refusal) (result : Result Value Refusal) → May found → DoesGetAt c id t found result own
+      → May result
   get_may id t (Err r) result h d = subst (λ (x : Result Value Refusal). May x) (sym d.0) h
   get_may id (tree.Value k o l) (Ok p) (Ok v) h d = tt
-  get_may id (tree.Value k o l) (Ok p) (Err r) h d = refuse_may id _ r d
+  get_may id (tree.Value k o l) (Ok p) (Err refusal.Memory) h d = absurd d
+  get_may id (tree.Value k o l) (Ok p) (Err refusal.PoolFull) h d = absurd d
+  get_may id (tree.Value k o l) (Ok p) (Err refusal.NoSlot) h d = refl
+  get_may id (tree.Value k o l) (Ok p) (Err r) h d = tt
   get_may id t (Ok p) result h d = absurd d
 
   put_may : (id : ArenaId) (place : ℕ) (bytes : List ℕ) (result : Result (Unit {0}) Refusal) → DoesPut c id place bytes result own → May result
   put_may id place bytes (Ok u) d = tt
-  put_may id place bytes (Err r) d = refuse_may id _ r d
+  put_may id place bytes (Err refusal.Memory) d = absurd d
+  put_may id place bytes (Err refusal.PoolFull) d = absurd d
+  put_may id place bytes (Err refusal.NoSlot) d = refl
+  put_may id place bytes (Err r) d = tt
 
   pub set_may : (id : ArenaId) (t : Tree) (found : Result ℕ Refusal) (v : Value) (result : Result (Unit {0}) Refusal) → May found
       → DoesSetAt c id t found v result own → May result

@@ -36,8 +36,8 @@ abbrev MayBe : Reply → Type 0
 MayBe (reply.Refused r) = MayRefuse nature_of_shared r
 MayBe reply = ⊤
 
-tells : (reply : Reply) → MayBe reply → TellsNoWant reply
-tells reply h = record {
+tells : (r : Reply) → MayBe r → TellsNoWant r
+tells r h = record {
   memory = λ e. let no : MayBe (reply.Refused refusal.Memory) = subst MayBe e h in absurd (let x : ⊥ = cc in x);
   page = λ e. let no : MayBe (reply.Refused refusal.PoolFull) = subst MayBe e h in absurd (let x : ⊥ = cc in x);
 }
@@ -55,9 +55,9 @@ on_may : {X : Type 0} (found : Option X) (Does : X → Line) (out : Outcome) (ow
 on_may None Does out own f d = subst (λ (o : Outcome). MayBe o.reply) (sym d.0) tt
 on_may (Some x) Does out own f d = f x d
 
-back_may : (others_left : Bool) → MayBe (kept_or_ended others_left)
-back_may true = tt
-back_may false = tt
+back_may : (c : Caller) (others_left : Bool) → MayBe (kept_or_ended c others_left)
+back_may c true = tt
+back_may c false = tt
 
 slice_may : (offset size : ℕ) (r : Region) → May (slice_of offset size r)
 slice_may offset size r = if_may (nat_le (offset + size) r.size) (Ok (part_of offset size r)) (Err refusal.Bounds) tt tt
@@ -130,7 +130,7 @@ module _ (c : Caller) (stands : List ℕ → Standing) (out : Outcome) (own : Li
       (λ id e. coming_may (λ u. outcome reply.Fine (handled_as e.0 id)) (λ v. tt) e.1.0 (again_may c own id e.1.0 e.1.1) out e.1.2) d
   line_may (command.Back handle) d =
       on_may (standing.handle_of (stands handle)) (GivesBack c) out own
-      (λ id e. subst (λ (o : Outcome). MayBe o.reply) (sym e.2) (back_may e.0)) d
+      (λ id e. subst (λ (o : Outcome). MayBe o.reply) (sym e.2) (back_may c e.0)) d
   line_may (command.Close arena) d =
       on_arena arena (Closes c) (λ id e. coming_may fine (λ v. tt) e.0 (close_may c own id e.0 e.1) out e.2) d
 

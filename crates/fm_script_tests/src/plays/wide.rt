@@ -46,6 +46,9 @@ fn wide_scripts_run_whole(rt: HostRuntime) {
     for (workers, times) in [(1, 300), (7, 40), (16, 20)] {
         let script = adding(&rt, workers, times);
         assert!(rt; script.text.len() > 4096);
-        assert_eq!(rt; printed(&rt, script.text.as_str()).as_str(), script.printed.as_str());
+        assert_eq!(rt;
+            printed(&rt, script.text.as_str()).as_str(),
+            script.printed.as_str()
+        );
     }
 }
