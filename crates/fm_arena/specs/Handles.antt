@@ -69,5 +69,7 @@ pub record AfterGiveBack (old new : View) (id : ArenaId) (result : GaveBack) : T
   pub ended : result ≡ Ended → HasEnded new id
   -- no word of the pool is lent to it any more
   pub no_words : result ≡ Ended → HasNoWords new id
+  -- the pass has no other handle of it
+  pub last : result ≡ Ended → ¬ (In id new.handles)
   pub outside : new.inside ≡ None
   pub lasts : Lasts old new

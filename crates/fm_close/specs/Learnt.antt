@@ -8,7 +8,7 @@ use Rattle.fm_base.specs.Calls.{End, Back, Fine, Entry, entry_of}
 use Rattle.fm_base.specs.Does.{DoesClose, DoesGiveBack}
 use Rattle.fm_base.specs.Finds.{Close, Find, Visits}
 use Rattle.fm_base.specs.View.{but_loans}
-use Rattle.fm_pool_facts.specs.Views.{View, IsKnown, pass_of}
+use Rattle.fm_pool_facts.specs.Views.{View, In, IsKnown, pass_of}
 use Rattle.fm_pool_facts.specs.Closes.{close_of, visited_of, visited, dropped}
 use Rattle.fm_pool_facts.specs.Steps.{is_clear}
 use Rattle.fm_pool_facts.specs.Words.{mark_of, alive_holds}
@@ -174,5 +174,7 @@ pub record AfterGiveBack (pool : Pool) (old new : View) (id : ArenaId) (result :
   pub did : KeptHandling old new (released id old.handles) (λ own. DoesGiveBack old.caller id (others_left result) (but_loans own))
   pub ended : result ≡ gave.Ended → HasEnded new id
   pub no_words : result ≡ gave.Ended → HasNoWords new id
+  -- the pass has no other handle of it
+  pub last : result ≡ gave.Ended → ¬ (In id new.handles)
   pub outside : IsOutside pool new
   pub lasts : Lasts old new

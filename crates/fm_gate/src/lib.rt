@@ -4,8 +4,8 @@
 //! last act. A closer shuts the arena, and only then looks at the marks. So at most one of the two can miss the other.
 //!
 //! No call takes memory. A call that takes a runtime may try again while other passes change the same word; the others
-//! wait for nobody. Where a call is refused, the
-//! pass is outside and publishes no mark.
+//! wait for nobody. Where a call is refused the pass stands where it stood: outside, without a mark, but for [`again`],
+//! which may be called inside.
 #![tactic(auto)]
 
 mod acting;
