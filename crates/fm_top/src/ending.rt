@@ -105,7 +105,7 @@ impl<'a> Ending<'a> {
 
     /// The answer, and the pool that gave it.
     pub fn answered_by_pool(text: Text<'a>, finished: Finished) -> Ending<'a>
-        ensures { shown result ≡ answered_by_pool (text_of text) finished }
+        ensures { shown result ≡ answered_by_pool (text_of text.entry) finished }
     {
         Ending {
             status: Status::Answered,
