@@ -74,7 +74,12 @@ impl<'a> Ending<'a> {
         Ending::refused(alloc, Status::QueryRefused, "query", refusal)
     }
 
-    fn refused(alloc: Global, status: Status, what: &str, refusal: Refusal) -> Result<Ending<'a>, Stop>
+    fn refused(
+        alloc: Global,
+        status: Status,
+        what: &str,
+        refusal: Refusal,
+    ) -> Result<Ending<'a>, Stop>
         ensures ending { IfOk result (λ ending. shown ending ≡ refused status what.now refusal) }
         ensures other { IfOk result (λ _. refusal ≢ Refusal.Memory) }
         ensures memory { IfErr result (λ stop. stop ≡ Stop.Memory) }
