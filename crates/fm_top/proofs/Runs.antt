@@ -59,7 +59,7 @@ pub misses-printed : {words : List (List ℕ)} {told : Option Contents} {t : Tra
     → (now ≡ before) ⊎ TellsMissing words told t o.left status
 misses-printed o is prints tells =
     elim (missing_or o.status) [
-      inl missing ↦ inr (record { outcome = o; is_outcome = is; missing = missing; prints = prints; left = refl })
+      | inl missing ↦ inr (record { outcome = o; is_outcome = is; missing = missing; prints = prints; left = refl })
       | inr other ↦ inl (tells.well other)
     ]
 

@@ -74,7 +74,12 @@ impl<'a> Ending<'a> {
         Ending::refused(alloc, Status::QueryRefused, "query", refusal)
     }
 
-    fn refused(alloc: Global, status: Status, what: &str, refusal: Refusal) -> Result<Ending<'a>, Stop>
+    fn refused(
+        alloc: Global,
+        status: Status,
+        what: &str,
+        refusal: Refusal,
+    ) -> Result<Ending<'a>, Stop>
         ensures ending { IfOk result (λ ending. shown ending ≡ refused status what.now refusal) }
         ensures other { IfOk result (λ _. refusal ≢ Refusal.Memory) }
         ensures memory { IfErr result (λ stop. stop ≡ Stop.Memory) }
@@ -105,7 +110,7 @@ impl<'a> Ending<'a> {
 
     /// The answer, and the pool that gave it.
     pub fn answered_by_pool(text: Text<'a>, finished: Finished) -> Ending<'a>
-        ensures { shown result ≡ answered_by_pool (text_of text) finished }
+        ensures { shown result ≡ answered_by_pool (text_of text.entry) finished }
     {
         Ending {
             status: Status::Answered,

@@ -24,4 +24,3 @@ returns-in-Err-Failed-clause-missed_well g c = inl c.in-Err-Failed.ensures.misse
 
 pub returns-in-Err-Memory-clause-missed_well : goal.returns-in-Err-Memory-clause-missed_well
 returns-in-Err-Memory-clause-missed_well g c = inl c.in-Err-Memory.ensures.missed
-

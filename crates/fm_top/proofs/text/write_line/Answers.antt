@@ -2,8 +2,8 @@ use Rattle.std.proofs.Common.{◌∷◌, []}
 use Rattle.fm_io.proofs.Sent.{prefix-after}
 use Rattle.fm_top.proofs.text.write_line.Goals as goal
 
-pub returns-in_ok-write_text-clause-prefix : goal.returns-in_ok-write_text-clause-prefix
-returns-in_ok-write_text-clause-prefix g c =
+pub returns-clause-prefix : goal.returns-clause-prefix
+returns-clause-prefix g c =
     let told = g.O.Sink.written in
     prefix-after (told c.args.out.now) (told c.write_text.new.out) (told c.write_text-2.new.out) c.args.text.now (10 ∷ [])
     c.in_ok-write_text.ensures.whole c.write_text-2.ensures.prefix
