@@ -4,6 +4,9 @@
 //! it while the other closes the arena, and whoever comes later is refused.
 #![tactic(auto)]
 
+ghost use Rattle.std.specs.Prelude.{◌≡◌, IfOk, None, length};
+ghost use Rattle.fm_arena.specs.Lasting.{SamePool};
+
 use fm_arena::{Arena, Shared, keeps_its_pool};
 use fm_base::{Kind, Refusal};
 use fm_handle::VarHandle;
@@ -56,32 +59,55 @@ fn main(rt: HostRuntime) -> ExitCode {
     }
 }
 
-/// Puts a price, adds to it while the arena is closed, and looks at it afterwards.
+/// Makes the handle, and a pool with a pass for each of two threads.
 fn sell<R: Threads + Wait + Sync>(rt: &R, alloc: Global) -> Result<Found, Refusal> {
-    let layout = layout_from_json(alloc, SALE.as_bytes())?;
-    let path = parse_path(alloc, ".price")?;
-    let price = VarHandle::of(resolve(alloc, &layout, &path)?);
-    // What a layout that is read may have otherwise is tested, once.
-    let open = price.resolved().dims().len();
-    if open != 0 || price.resolved().value().kind != ValueKind::Long {
-        return Err(Refusal::NotValue);
-    }
+    let price = price_of_a_sale(alloc)?;
     let (pool, mut first) = Pool::make(alloc, SHAPE)?;
     let second = pool.draw(rt, &mut first)?;
     let mut ours = Shared::new(&pool, first);
     let mut theirs = Shared::new(&pool, second);
+    share(rt, &price, &mut ours, &mut theirs)
+}
+
+/// A handle for the price. What a layout that is read may have otherwise is tested, once.
+fn price_of_a_sale(alloc: Global) -> Result<VarHandle, Refusal>
+    ensures closed { IfOk result (λ price. length price.dims ≡ 0) }
+    ensures long { IfOk result (λ price. price.value.kind ≡ ValueKind.Long) }
+{
+    let layout = layout_from_json(alloc, SALE.as_bytes())?;
+    let path = parse_path(alloc, ".price")?;
+    let price = VarHandle::of(resolve(alloc, &layout, &path)?);
+    if price.resolved().dims().len() != 0 || price.resolved().value().kind != ValueKind::Long {
+        return Err(Refusal::NotValue);
+    }
+    Ok(price)
+}
+
+/// Puts a price, adds to it in one thread while the other closes the arena, and looks at it afterwards.
+fn share<R: Threads + Wait + Sync>(
+    rt: &R,
+    price: &VarHandle,
+    ours: &mut Shared,
+    theirs: &mut Shared,
+) -> Result<Found, Refusal>
+    requires closed { length price.now.dims ≡ 0 }
+    requires long { price.now.value.kind ≡ ValueKind.Long }
+    requires same { SamePool ours.old theirs.old }
+    requires ours { ours.old.inside ≡ None }
+    requires theirs { theirs.old.inside ≡ None }
+{
     keeps_its_pool();
-    let arena = Arena::start(rt, &mut ours, Kind::Shared)?;
-    let sale = arena.allocate(rt, &mut ours, layout.size(), layout.alignment())?;
-    price.set(rt, &mut ours, &sale, 0, &[], Value::Long(250))?;
-    let put = price.get(&mut ours, &sale, 0, &[])?;
+    let arena = Arena::start(rt, ours, Kind::Shared)?;
+    let sale = arena.allocate(rt, ours, 16, 8)?;
+    price.set(rt, ours, &sale, 0, &[], Value::Long(250))?;
+    let put = price.get(ours, &sale, 0, &[])?;
     theirs.meet(ours.note());
     let (added, closed) = join_mut(
         rt,
-        &mut || price.get_and_add(rt, &mut theirs, &sale, 0, &[], Value::Long(50)),
-        &mut || arena.close(rt, &mut ours),
+        &mut || price.get_and_add(rt, theirs, &sale, 0, &[], Value::Long(50)),
+        &mut || arena.close(rt, ours),
     );
     closed?;
-    let after = price.get(&mut theirs, &sale, 0, &[]);
+    let after = price.get(theirs, &sale, 0, &[]);
     Ok(Found { put, added, after })
 }
