@@ -112,6 +112,7 @@ module _ {T : Type 0} where
   drew_nobody p = record { went = went_none p; drew = λ f i. absurd i; steady = tt; workers = tt }
 
 module _ {T : Type 0} {old now next : View} {ws : List (Worker T)} where
+  -- No number that was drawn before is higher.
   found_before : (m : DrewCrew old now ws) (d : View) (k : Drawn now next d) → AllByRecursion (λ c. c.number ≤ k.number) (order_of ws)
   found_before m d k =
       at_most k.number m.went.draws (order_of ws)
@@ -119,6 +120,7 @@ module _ {T : Type 0} {old now next : View} {ws : List (Worker T)} where
       (k.asked.later f k.drew.find (inl (subst (In f) (sym m.went.finds) (in_right f old.finds m.went.draws i))) (m.went.only_draws f i) k.drew.among))
       m.drew
 
+  -- One more was drawn.
   pub drew_more : {vs : List (Worker T)} (w : Worker T) → old.drawn ≡ None → DrewCrew old now ws → vs ≡ ws ++ w ∷ [] → Drawn now next w.memory
       → DrewCrew old next vs
   unfolding went_on
@@ -139,6 +141,7 @@ module _ {T : Type 0} {old now next : View} {ws : List (Worker T)} where
             (all_both (λ (u : Worker T). IsDrawn old u.memory) ws (w ∷ []) m.workers (drawn_since none m.went k, tt));
       }
 
+  -- No more was drawn.
   pub drew_none : old.drawn ≡ None → DrewCrew old now ws → NoneDrawn now next → DrewCrew old next ws
   unfolding went_on
   drew_none none m k = record {

@@ -12,9 +12,11 @@ use Rattle.fm_rule.specs.Draws.{Drew}
 use Rattle.fm_workers.specs.Crew.{AreRising, DrewOne, DrewEach, callers}
 use Rattle.fm_workers.specs.Rounds.{AreSteady}
 
+-- What the rule says of the finds of one draw.
 pub drew_one : {n : ℕ} {fs : List Find} → Drew n fs → DrewOne (pass_of n) fs
 drew_one d = record { find = d.find; among = d.among; drew = d.drew; found = d.found; only = d.only }
 
+-- Who drew nobody drew no caller.
 drew_none : (x : Option Caller) (c : Caller) → x ≡ None → x ≡ Some c → ⊥
 drew_none None c is drew = absurd (cc)
 drew_none (Some d) c is drew = absurd (cc)
@@ -25,7 +27,7 @@ drew_each_more fs gs [] d none = λ f i. ⊎_elim (d f) (none f) (in_append f fs
 drew_each_more fs gs (c ∷ cs) d none =
     (d.0, d.1 ++ gs, ap (λ (xs : List Find). xs ++ gs) d.2 ∙ append_assoc d.0 d.1 gs, d.3, drew_each_more d.1 gs cs d.4 none)
 
--- finds before those that drew one, which drew nobody
+-- Finds before them that drew nobody change nothing either.
 drew_one_behind : (fs gs : List Find) (c : Caller) → ((f : Find) → In f fs → f.drew ≡ None) → DrewOne c gs → DrewOne c (fs ++ gs)
 drew_one_behind fs gs c none o = record {
   find = o.find;
@@ -56,10 +58,12 @@ at_most n fs (c ∷ cs) h d = (
   at_most n d.1 cs (λ f i. h f (subst (In f) (sym d.2) (in_right f d.0 d.1 i))) d.4,
 )
 
+-- One more that is no lower.
 pub steady_push : (cs : List Caller) (c : Caller) → AreSteady cs → AllByRecursion (λ d. d.number ≤ c.number) cs → AreSteady (cs ++ c ∷ [])
 steady_push [] c s h = (tt, tt)
 steady_push (d ∷ cs) c s h = (all_both (λ e. d.number ≤ e.number) cs (c ∷ []) s.0 (h.0, tt), steady_push cs c s.1 h.1)
 
+-- Who is no lower, and of another number, is higher.
 higher : (n : ℕ) (gs : List Gathered) → ((g : Gathered) → In g gs → g.caller.number ≢ n) → AllByRecursion (λ d. n ≤ d.number) (callers gs)
     → AllByRecursion (λ d. n < d.number) (callers gs)
 higher n [] other h = tt

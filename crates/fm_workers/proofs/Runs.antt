@@ -8,6 +8,7 @@ use Rattle.fm_segment.specs.Region.{Region}
 use Rattle.fm_workers.specs.declared.part.Part.{Part}
 use Rattle.fm_workers.specs.Parts.{IsLevel, IsRun, AreRuns}
 
+-- A number between two neighbours is one of them.
 one_of : (m n : ℕ) → m ≤ n → n ≤ m + 1 → (n ≡ m) ⊎ (n ≡ m + 1)
 one_of m n low high =
     let P : Bool → Type 0 = λ b. (n == m) ≡ b → (n ≡ m) ⊎ (n ≡ m + 1) in
@@ -83,7 +84,8 @@ all_left count parts some = record {
 }
 
 -- A run that takes its share is level.
-pub run_level : {A : Type 0} (p : Plan) (s : Region) (few from n : ℕ) (t : Part A) → few ≤ n → n ≤ few + 1 → IsRun p s from (from + n) t → IsLevel p few t.region
+pub run_level : {A : Type 0} (p : Plan) (s : Region) (few from n : ℕ) (t : Part A) → few ≤ n → n ≤ few + 1 → IsRun p s from (from + n) t
+    → IsLevel p few t.region
 run_level p s few from n t low high r =
     let size : t.region.size ≡ (from + n - from) * p.size = ap (λ (x : Region). x.size) r.region in
     let is : (from + n - from) * p.size ≡ n * p.size = let e : from + n - from ≡ n = omega arith in ap (λ (k : ℕ). k * p.size) e in

@@ -224,7 +224,8 @@ module _ {old new : View} {k : Tallying} {s : Region} {threads : ℕ} {ts us : L
 
   stop_ends : (e : Refusal) → IsStop e s k.counts (callers w.crew.crew) w.crew.more
       → EndsTally (least_in k.plan s threads) old new k.plan s k.counts w.crew.more w.crew.crew w.crew.draws (Err e)
-  stop_ends e (inl m) = subst (λ (x : Refusal). EndsTally (least_in k.plan s threads) old new k.plan s k.counts w.crew.more w.crew.crew w.crew.draws (Err x)) (sym m) can
+  stop_ends e (inl m) =
+      subst (λ (x : Refusal). EndsTally (least_in k.plan s threads) old new k.plan s k.counts w.crew.more w.crew.crew w.crew.draws (Err x)) (sym m) can
   stop_ends e (inr f) =
       subst (λ (x : Refusal). EndsTally (least_in k.plan s threads) old new k.plan s k.counts w.crew.more w.crew.crew w.crew.draws (Err x)) (sym f.0) (can, f.1)
 
