@@ -17,3 +17,4 @@ pub mod Passing
 pub mod Once
 pub mod Bringing
 pub mod Alive
+pub mod Counted

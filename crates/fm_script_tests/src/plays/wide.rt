@@ -20,9 +20,16 @@ impl Wide {
             assert!(rt; self.printed.push_str(part).is_ok());
         }
     }
+
+    /// A worker's lines, which add nothing so many times.
+    fn push_worker<R: Abort>(&mut self, rt: &R, worker: u32, times: u32) {
+        for _ in 0..times {
+            self.push(rt, Buffer::new().format(worker), " add s long 0 0", "0");
+        }
+    }
 }
 
-/// One of so many workers, which each add nothing so many times.
+/// One of so many workers, each with so many lines.
 fn adding<R: Abort + AllocGlobal>(rt: &R, workers: u32, times: u32) -> Wide {
     let mut script = Wide {
         text: String::new(rt.alloc()),
@@ -31,10 +38,8 @@ fn adding<R: Abort + AllocGlobal>(rt: &R, workers: u32, times: u32) -> Wide {
     assert!(rt; script.text.push_str("pool 1 1 8 1 1\n").is_ok());
     script.push(rt, "first", " open a shared", "ok");
     script.push(rt, "first", " alloc a s 8 8", "ok 0");
-    for worker in 1..workers + 1 {
-        for _ in 0..times {
-            script.push(rt, Buffer::new().format(worker), " add s long 0 0", "0");
-        }
+    for before in 0..workers {
+        script.push_worker(rt, before + 1, times);
     }
     script.push(rt, "last", " close a", "ok");
     script
