@@ -94,7 +94,8 @@ beside = record {
 }
 
 -- Whether an arena is to be swept is by the pass's sweeps.
-swept_by : {p q : View} {s : Shutting} → made_by_pass p ≡ made_by_pass q → visited_of q.sweeps s.arena ≡ visited_of p.sweeps s.arena → IsToSweep p s → IsToSweep q s
+swept_by : {p q : View} {s : Shutting} → made_by_pass p ≡ made_by_pass q → visited_of q.sweeps s.arena ≡ visited_of p.sweeps s.arena
+    → IsToSweep p s → IsToSweep q s
 swept_by maker same u = record { maker = u.maker ∙ maker; ended = u.ended; at = same ∙ u.at }
 
 ended : SweepStands
@@ -112,7 +113,8 @@ ended_beside = record {
       swept_by (sym (made_on h.did.goes)) (ap (λ (cs : List Close). visited_of cs s.arena) h.sweeps ∙ of_end t.arena s.arena result old.sweeps n) u;
   at_sweep = λ pool old new other s h n u.
       swept_by (sym (made_on h.did.goes)) (ap (λ (cs : List Close). visited_of cs s.arena) h.sweeps ∙ visited_of-dropped old.sweeps other s.arena n) u;
-  onward = λ pool old new s h u. swept_by (λ j. record { home = sym h.home j; caller = sym h.caller j }) (ap (λ (cs : List Close). visited_of cs s.arena) h.sweeps) u;
+  onward = λ pool old new s h u.
+      swept_by (λ j. record { home = sym h.home j; caller = sym h.caller j }) (ap (λ (cs : List Close). visited_of cs s.arena) h.sweeps) u;
 }
 
 -- ---- through holds, handles and openings

@@ -50,7 +50,8 @@ after_wrong_thread can s kind not_his = record {
 }
 
 -- The pass is still one of its pool.
-pub shut_of : (pool : Pool) {p q : View} {cs : List Close} {own : List Entry} → Stepped p q (record p { closes = cs }) own none_noted → IsOf pool p → IsOf pool q
+pub shut_of : (pool : Pool) {p q : View} {cs : List Close} {own : List Entry} → Stepped p q (record p { closes = cs }) own none_noted → IsOf pool p
+    → IsOf pool q
 shut_of pool s of = (ap (λ (x : View). x.home) s.is_part ∙ of.0, ap (λ (x : View). x.shape) s.is_part ∙ of.1)
 
 shut_held : (holds : ℕ) → 0 < holds → shut_by holds ≡ Held holds
@@ -118,7 +119,12 @@ module _ {pool : Pool} {p q : View} {a : ArenaId} (word : ℕ) (can : CanVisit p
       let t = shut_as Fine r in
       let g = shut_goes Fine r in
       record {
-        did = record { own = entry_of p.caller (Shut a) Fine ∷ []; does = (kind, may, ap (λ (x : Made). does.begun x a) (mine ∙ made_on g), refl); goes = g; rest = rest_is t };
+        did = record {
+          own = entry_of p.caller (Shut a) Fine ∷ [];
+          does = (kind, may, ap (λ (x : Made). does.begun x a) (mine ∙ made_on g), refl);
+          goes = g;
+          rest = rest_is t;
+        };
         sweeps = sweeps_is s;
         walks = record {
           maker = mine;

@@ -156,7 +156,8 @@ after_walk {p = p} {q = q} {r = r} {a = a} {s = s} u h w =
       lasts = lasts_on all;
     }
 
-refused_does : (m : Made) (a : ArenaId) (refusal : Refusal) (own : List Entry) → DoesShut m a (Err refusal) own → DoesClose m.caller a (Err refusal) (but_loans own)
+refused_does : (m : Made) (a : ArenaId) (refusal : Refusal) (own : List Entry) → DoesShut m a (Err refusal) own
+    → DoesClose m.caller a (Err refusal) (but_loans own)
 refused_does m a (refusal.CannotClose kind) own d = (d.0, d.1, rw d.2 refl)
 refused_does m a refusal.WrongThread own d = (d.0, d.1, rw d.2 refl)
 refused_does m a refusal.Closed own d = (d.0, d.1, rw d.2 refl)

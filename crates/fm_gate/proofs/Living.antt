@@ -67,10 +67,10 @@ unfolding NotShutOut
 open_to_all limit s [] id l alive = All-nil (NotShutOut id)
 open_to_all limit s (e ∷ es) id l alive =
     let first : e.call ≡ Enter id → e.reply ≢ Closed = λ is shut.
-        let may : MayCall s e.caller (Enter id) = subst (λ (c : Call). MayCall s e.caller c) is l.0 in
-        let life = alive_before limit s (e ∷ es) id l may.0 alive in
-        let fine : e.reply ≡ Fine = l.1 ∙ (ap (λ (c : Call). reply_to limit s c) is ∙ ap enter_reply life) in
-        absurd (cc) in
+    let may : MayCall s e.caller (Enter id) = subst (λ (c : Call). MayCall s e.caller c) is l.0 in
+    let life = alive_before limit s (e ∷ es) id l may.0 alive in
+    let fine : e.reply ≡ Fine = l.1 ∙ (ap (λ (c : Call). reply_to limit s c) is ∙ ap enter_reply life) in
+    absurd (cc) in
     All-cons (NotShutOut id) e es first (open_to_all limit (after limit s e) es id l.2 alive)
 
 -- Some of the entries, those of one caller.

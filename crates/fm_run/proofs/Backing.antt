@@ -193,7 +193,8 @@ backed_hold p Nothing h b e = absurd (cc)
 backed_hold p (Arena id) h b e = absurd (cc)
 backed_hold p (standing.Automatic id handle) h b e = absurd (cc)
 backed_hold p (Segment r) h b e = absurd (cc)
-backed_hold p (Hold hold) h b e = subst (λ (o : Option held.Hold). IfSome o (λ x. IsKnown p x.arena × (x.arena.kind ≢ Automatic) × (x.maker ≡ made_by_pass p))) e b
+backed_hold p (Hold hold) h b e =
+    subst (λ (o : Option held.Hold). IfSome o (λ x. IsKnown p x.arena × (x.arena.kind ≢ Automatic) × (x.maker ≡ made_by_pass p))) e b
 backed_hold p (Handle handle) h b e = absurd (cc)
 
 backed_handle : (p : View) (s : Standing) (h : AutoHandle) → IsBacked p s → handle_in s ≡ Some h

@@ -51,7 +51,8 @@ tokens_popped token {all = all} {others = others} rest s t = go (token s) refl
 
 -- The last name is gone, with its hold or handle.
 pub backs_popped : (p q : View) {holds handles : List ArenaId} (base rest : List Standing) (s : Standing) → Backs p holds handles base (rest ++ s ∷ [])
-    → Lasts (view_of_pass p) (view_of_pass q) → made_by_pass q ≡ made_by_pass p → q.holds ≡ without (hold_of s) p.holds → q.handles ≡ without (handle_of s) p.handles
+    → Lasts (view_of_pass p) (view_of_pass q) → made_by_pass q ≡ made_by_pass p → q.holds ≡ without (hold_of s) p.holds
+    → q.handles ≡ without (handle_of s) p.handles
     → Backs q holds handles base rest
 backs_popped p q {holds = holds} {handles = handles} base rest s b l same hs ks = record {
   others_known = All-weaker (λ x. IsBacked p (lent x)) (λ x. IsBacked q (lent x)) (λ x h. backed_later p q l same (lent x) h) base b.others_known;

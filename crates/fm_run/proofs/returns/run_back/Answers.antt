@@ -36,7 +36,8 @@ returns-in_default-clause-ran g c =
     line_took p p c.args.names.now t.base.now t.start own c.take_in.new.self.own.items (Back c.args.handle.now) c.take_in.result t.behind
     c.take_handle.new.self.own.items number handed_back []
     (λ n s. ap (λ (o : Option ℕ). if is_number o n then handed_back s else s) (sym c.of.ensures))
-    (left-none handed_back t.base.now t.start own c.take_handle.new.self.own.items number t.behind took.1 (handed-same _ (ap (option_map (λ (h : AutoHandle). h.arena)) took.0)))
+    (left-none handed_back t.base.now t.start own c.take_handle.new.self.own.items number t.behind took.1
+    (handed-same _ (ap (option_map (λ (h : AutoHandle). h.arena)) took.0)))
     (ap (λ (xs : List Standing). length xs) took.1) next
     (subst (λ (o : Option ArenaId). On o (GivesBack p.caller) (plain c.take_in.result) []) (sym none) (ap plain said, refl))
     (went_none p) c.requires.outside (record { known = λ id k. k; given = λ id. omega arith; limit = refl; caller = refl }) refl

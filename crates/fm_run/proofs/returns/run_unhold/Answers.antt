@@ -36,7 +36,8 @@ returns-in_default-clause-ran c =
     line_took p p c.args.names.now t.base.now t.start own c.take_in.new.self.own.items (Unhold c.args.hold.now) c.take_in.result t.behind
     c.take_hold.new.self.own.items number unheld []
     (λ n s. ap (λ (o : Option ℕ). if is_number o n then unheld s else s) (sym c.of.ensures))
-    (left-none unheld t.base.now t.start own c.take_hold.new.self.own.items number t.behind took.1 (unheld-same _ (ap (option_map (λ (h : held.Hold). h.arena)) took.0)))
+    (left-none unheld t.base.now t.start own c.take_hold.new.self.own.items number t.behind took.1
+    (unheld-same _ (ap (option_map (λ (h : held.Hold). h.arena)) took.0)))
     (ap (λ (xs : List Standing). length xs) took.1) next
     (subst (λ (o : Option ArenaId). On o (Unholds p.caller) (plain c.take_in.result) []) (sym none) (ap plain said, refl))
     (went_none p) c.requires.outside (record { known = λ id k. k; given = λ id. omega arith; limit = refl; caller = refl }) refl

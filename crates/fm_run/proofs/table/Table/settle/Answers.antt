@@ -43,10 +43,12 @@ loop-standing-preserved g c =
         other_holds = r.other_holds;
         other_handles = r.other_handles;
         backs = backs_popped m next base rest s
-            (subst (λ (xs : List Standing). Backs m r.other_holds r.other_handles base xs) c.in-Some.ensures.items r.backs) e.went.lasts (went_made e.went.went) e.holds e.handles;
+            (subst (λ (xs : List Standing). Backs m r.other_holds r.other_handles base xs) c.in-Some.ensures.items r.backs) e.went.lasts
+            (went_made e.went.went) e.holds e.handles;
       };
       left = λ holds handles b. backs_popped m next base rest s
-          (subst (λ (xs : List Standing). Backs m holds handles base xs) c.in-Some.ensures.items (i.left holds handles b)) e.went.lasts (went_made e.went.went) e.holds e.handles;
+          (subst (λ (xs : List Standing). Backs m holds handles base xs) c.in-Some.ensures.items (i.left holds handles b)) e.went.lasts
+          (went_made e.went.went) e.holds e.handles;
       spent = λ all.
           let so_far = i.spent all in
           let parts = all_popped IsSpent rest s (subst (λ (xs : List Standing). All IsSpent xs) c.in-Some.ensures.items so_far.1) in
