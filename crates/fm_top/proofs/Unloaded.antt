@@ -12,7 +12,6 @@ use Rattle.fm_load.specs.Whole.{IsOver}
 use Rattle.fm_top.specs.declared.ending.Ending.{Ending}
 use Rattle.fm_load.specs.declared.load_fault.LoadFault.{LoadFault}
 use Rattle.fm_load.specs.declared.load_fault.LoadFault.TheVariants.{Missing, Failed, TooLong, Memory, PoolFull}
-use Rattle.fm_top.specs.declared.status.Status.{Status}
 use Rattle.fm_top.specs.declared.status.Status.TheVariants as status
 use Rattle.fm_top.specs.declared.stop.Stop.{Stop}
 use Rattle.fm_top.proofs.Outcomes.{long_found}

@@ -22,10 +22,12 @@ use std::thread::Threads;
 
 /// Runs the tool on its words, which exclude the program's own name, and answers its status.
 ///
-/// Everything is written after the answer is complete, in pieces where its text is long. The statuses are 0 for an answer, 1 for words that are no
-/// command, 2 for a missing file, 3 for a failed read, 4 for a refused layout, 5 for a refused query or path, 6 for a
-/// file that is no whole number of records, 7 for a file over its limit, 8 for a failed write, 9 for want of memory and
-/// 10 for a refused script. They are tested in this order: 1; of the layout's file 2, 3 and 7; 4; 5; of the record file
+/// Everything is written after the answer is complete, in pieces where its text is long or names a missing file. What an
+/// earlier run kept is gone first.
+///
+/// The statuses are 0 for an answer, 1 for words that are no command, 2 for a missing file, 3 for a failed read, 4 for a
+/// refused layout, 5 for a refused query or path, 6 for a file that is no whole number of records, 7 for a file over its
+/// limit, 8 for a failed write, 9 for want of memory and 10 for a refused script. They are tested in this order: 1; of the layout's file 2, 3 and 7; 4; 5; of the record file
 /// 2, 3, 7 and 6; 8. Of `run`, whose one file is the script: 1; 2, 3 and 7; 10; 8. Want of memory may come at any time.
 ///
 /// A script whose lines the runtime refuses while it runs is answered: its report has status 0.
