@@ -21,8 +21,8 @@ use std::sync::Wait;
 use std::thread::{Threads, join_mut};
 
 /// A record of 16 bytes.
-const SALE: &str = r#"{"type":"struct","members":[{"type":"int","name":"id"},{"type":"padding","size":4},
-    {"type":"long","name":"price"}]}"#;
+const SALE: &str =
+    r#"{"type":"struct","members":[{"type":"long","name":"id"},{"type":"long","name":"price"}]}"#;
 
 /// One page of 64 bytes for the one arena, and a pass for each thread.
 const SHAPE: Shape = Shape {
@@ -49,7 +49,10 @@ fn main(rt: HostRuntime) -> ExitCode {
     let printed = match sell(&rt, rt.alloc()) {
         Ok(found) => {
             let in_time = found.added == Ok(found.put) || found.added == Err(Refusal::Closed);
-            println!(rt; "put {:?}\nadded or too late {in_time}\nafter {:?}", found.put, found.after)
+            println!(rt;
+                "put {:?}\nadded or too late {in_time}\nafter {:?}",
+                found.put, found.after
+            )
         }
         Err(refusal) => println!(rt; "refused {refusal}"),
     };
