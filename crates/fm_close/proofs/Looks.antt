@@ -195,11 +195,14 @@ module _ {pool : Pool} {p q : View} {s : Shutting} (found : ℕ) (can : CanWalk 
           looked = looked closes.Ended e;
           answer = sym (ap (λ b. visit_answer s.next b (s.next + 1 == p.shape.passes)) names_not ∙ ap (visit_answer s.next false) last);
           close = refl;
-          stands = (over, record {
-            maker = can.walks.maker ∙ sym (made_on g);
-            ended = refl;
-            at = ap (λ cs. visited_of cs s.arena) (sweeps_is t) ∙ visited_of-begun p.sweeps s.arena;
-          });
+          stands = (
+            over,
+            record {
+              maker = can.walks.maker ∙ sym (made_on g);
+              ended = refl;
+              at = ap (λ cs. visited_of cs s.arena) (sweeps_is t) ∙ visited_of-begun p.sweeps s.arena;
+            },
+          );
           outside = outside_by g;
           lasts = lasts_on g;
         }
