@@ -5,6 +5,7 @@ pub mod Gathered
 pub mod Finding
 pub mod Reported
 pub mod Running
+pub mod Sharing
 pub mod Telling
 pub mod Ended
 pub mod Beginning
