@@ -97,7 +97,7 @@ impl Recording {
 
     fn push_steps(&self, text: &mut String, worker: u64, count: u64) -> Result<(), AllocError> {
         for n in 0..count.min(STEPS) {
-            if let Some(step) = self.steps.get((worker * STEPS + n) as usize) {
+            if let Some(step) = self.step(worker, n) {
                 step.push_to(text)?;
             }
         }
@@ -112,7 +112,13 @@ impl Recording {
         if n >= STEPS {
             return None;
         }
-        self.steps.get((worker * STEPS + n) as usize)
+        self.step(worker, n)
+    }
+
+    /// A worker's step of that number.
+    fn step(&self, worker: u64, n: u64) -> Option<&Step> {
+        let before = worker.saturating_mul(STEPS);
+        self.steps.get(before.saturating_add(n) as usize)
     }
 
     fn keep(&self, worker: u32, call: u64, is_after: bool) {
