@@ -5,7 +5,7 @@ use std::sync::Wait;
 use std::sync::atomic::{AtomicBool, AtomicU64, Ordering};
 
 /// Workers of the numbers below this are kept.
-const WORKERS: u32 = 17;
+const WORKERS: u64 = 17;
 
 /// How many steps of each worker are kept: those of 64 calls.
 const STEPS: u64 = 128;
@@ -88,16 +88,16 @@ impl Recording {
         Ok(text)
     }
 
-    fn count(&self, worker: u32) -> u64 {
+    fn count(&self, worker: u64) -> u64 {
         match self.counts.get(worker as usize) {
             Some(count) => count.load(Ordering::SeqCst),
             None => 0,
         }
     }
 
-    fn push_steps(&self, text: &mut String, worker: u32, count: u64) -> Result<(), AllocError> {
+    fn push_steps(&self, text: &mut String, worker: u64, count: u64) -> Result<(), AllocError> {
         for n in 0..count.min(STEPS) {
-            if let Some(step) = self.steps.get((u64::from(worker) * STEPS + n) as usize) {
+            if let Some(step) = self.step(worker, n) {
                 step.push_to(text)?;
             }
         }
@@ -106,12 +106,19 @@ impl Recording {
 
     /// The next step of a worker, if there is room for it.
     fn next(&self, worker: u32) -> Option<&Step> {
+        let worker = u64::from(worker);
         let count = self.counts.get(worker as usize)?;
         let n = count.fetch_add(1, Ordering::SeqCst);
         if n >= STEPS {
             return None;
         }
-        self.steps.get((u64::from(worker) * STEPS + n) as usize)
+        self.step(worker, n)
+    }
+
+    /// A worker's step of that number.
+    fn step(&self, worker: u64, n: u64) -> Option<&Step> {
+        let before = worker.saturating_mul(STEPS);
+        self.steps.get(before.saturating_add(n) as usize)
     }
 
     fn keep(&self, worker: u32, call: u64, is_after: bool) {
