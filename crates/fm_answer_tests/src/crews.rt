@@ -1,3 +1,4 @@
+mod ample;
 mod gates;
 mod tallies;
 

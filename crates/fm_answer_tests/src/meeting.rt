@@ -14,13 +14,17 @@ pub enum Order {
     FirstLast,
     /// Worker 2's, that the other's has ended.
     SecondLast,
+    /// The same, and worker 1 goes on from its first call only once worker 2 comes to its second.
+    SecondNext,
 }
 
-/// How far a worker's first call came.
+/// How far a worker came.
 #[derive(Drop)]
 struct Progress {
     begun: AtomicBool,
     ended: AtomicBool,
+    /// Whether it comes to its second call.
+    is_next: AtomicBool,
 }
 
 impl Progress {
@@ -28,7 +32,12 @@ impl Progress {
         Progress {
             begun: AtomicBool::new(false),
             ended: AtomicBool::new(false),
+            is_next: AtomicBool::new(false),
         }
+    }
+
+    fn is_whole(&self) -> bool {
+        self.begun.load(Ordering::SeqCst) && self.ended.load(Ordering::SeqCst)
     }
 }
 
@@ -57,6 +66,11 @@ impl Meeting {
         self.missed.load(Ordering::SeqCst)
     }
 
+    /// Whether the first call of each worker began and ended.
+    pub fn both_began_and_ended(&self) -> bool {
+        self.first.is_whole() && self.second.is_whole()
+    }
+
     fn wait(&self, flag: &AtomicBool) {
         for _ in 0..TURNS {
             if flag.load(Ordering::SeqCst) {
@@ -70,7 +84,7 @@ impl Meeting {
         match self.order {
             Order::Together => self.wait(&self.second.begun),
             Order::FirstLast => self.wait(&self.second.ended),
-            Order::SecondLast => {}
+            Order::SecondLast | Order::SecondNext => {}
         }
     }
 
@@ -78,7 +92,14 @@ impl Meeting {
         match self.order {
             Order::Together => self.wait(&self.first.begun),
             Order::FirstLast => {}
-            Order::SecondLast => self.wait(&self.first.ended),
+            Order::SecondLast | Order::SecondNext => self.wait(&self.first.ended),
+        }
+    }
+
+    fn end_first(&self) {
+        self.first.ended.store(true, Ordering::SeqCst);
+        if self.order == Order::SecondNext {
+            self.wait(&self.second.is_next);
         }
     }
 }
@@ -94,13 +115,14 @@ impl Gate for Meeting {
                 self.second.begun.store(true, Ordering::SeqCst);
                 self.wait_as_second();
             }
+            (2, 1) => self.second.is_next.store(true, Ordering::SeqCst),
             _ => {}
         }
     }
 
     fn after(&self, worker: u32, call: u64) {
         match (worker, call) {
-            (1, 0) => self.first.ended.store(true, Ordering::SeqCst),
+            (1, 0) => self.end_first(),
             (2, 0) => self.second.ended.store(true, Ordering::SeqCst),
             _ => {}
         }

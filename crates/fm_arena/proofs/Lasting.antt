@@ -8,12 +8,13 @@ use Rattle.fm_base.proofs.Outcomes.{Makes-lasts}
 use Rattle.fm_words.specs.declared.shape.Shape.{Shape}
 use Rattle.fm_pool_facts.specs.Views.{View, In, IsKnown}
 use Rattle.fm_gate.specs.declared.held.Hold.{Hold}
+use Rattle.fm_gate.specs.Makers.{made_by_pass}
 use Rattle.fm_calls.specs.Kept.{shape_numbers}
 use Rattle.fm_calls.specs.Told.{view_of_pass}
 use Rattle.fm_arena.specs.declared.handle.AutoHandle.{AutoHandle}
 use Rattle.fm_arena.specs.Learnt.{CanUnhold}
-use Rattle.fm_arena.specs.Handles.{HasHandle}
-use Rattle.fm_arena.specs.Lasting.{StaysInItsPool, KeepsItsPool, HoldLasts, HandleLasts}
+use Rattle.fm_arena.specs.Handles.{HasHandle, IsHandled}
+use Rattle.fm_arena.specs.Lasting.{StaysInItsPool, KeepsItsPool}
 
 -- The numbers of a shape tell it.
 shape_is : (y z : Shape) (ns ms : List ℕ) → (shape_numbers y ++ ns) ≡ (shape_numbers z ++ ms) → y ≡ z
@@ -46,29 +47,42 @@ keeps = record { stays = stays; of = λ pool p q same of. (same.home ∙ of.0, s
 known_after : (p q : View) (own : List Entry) → Makes (view_of_pass p) (view_of_pass q) own → (id : ArenaId) → IsKnown p id → IsKnown q id
 known_after p q own m = (Makes-lasts (view_of_pass p) (view_of_pass q) own m).known
 
-hold_on : (p q : View) (hold : Hold) → ((id : ArenaId) → IsKnown p id → IsKnown q id) → q.holds ≡ p.holds → CanUnhold p hold → CanUnhold q hold
-hold_on p q hold known same can = record {
+-- The pass is the maker that it was.
+made_after : (p q : View) (own : List Entry) → Makes (view_of_pass p) (view_of_pass q) own → made_by_pass q ≡ made_by_pass p
+made_after p q own m = let same = stays p q own m in λ j. record { home = same.home j; caller = m.same_caller j }
+
+-- A hold whose arena the pass still has among its holds can still be spent.
+pub hold_on : (p q : View) (hold : Hold) → ((id : ArenaId) → IsKnown p id → IsKnown q id) → made_by_pass q ≡ made_by_pass p → In hold.arena q.holds
+    → CanUnhold p hold → CanUnhold q hold
+hold_on p q hold known made held can = record {
+  maker = can.maker ∙ sym made;
   known = known hold.arena can.known;
-  held = subst (λ (hs : List ArenaId). In hold.arena hs) (sym same) can.held;
+  held = held;
   by_hand = can.by_hand;
 }
 
-pub holds : HoldLasts
-holds = record {
-  on = λ p q hold l same can. hold_on p q hold l.known same can;
-  by_memory = λ p q own hold m can. hold_on p q hold (known_after p q own m) (ap (λ (x : Rest). x.holds) m.told.rest) can;
-}
+-- So where the holds are the same.
+pub hold_same : (p q : View) (hold : Hold) → ((id : ArenaId) → IsKnown p id → IsKnown q id) → made_by_pass q ≡ made_by_pass p → q.holds ≡ p.holds
+    → CanUnhold p hold → CanUnhold q hold
+hold_same p q hold known made same can = hold_on p q hold known made (subst (λ (hs : List ArenaId). In hold.arena hs) (sym same) can.held) can
 
-handle_on : (p q : View) (handle : AutoHandle) → ((id : ArenaId) → IsKnown p id → IsKnown q id) → q.handles ≡ p.handles → HasHandle p handle
+-- By the calls of a memory.
+pub hold_after : (p q : View) (own : List Entry) (hold : Hold) → Makes (view_of_pass p) (view_of_pass q) own → CanUnhold p hold → CanUnhold q hold
+hold_after p q own hold m can = hold_same p q hold (known_after p q own m) (made_after p q own m) (ap (λ (x : Rest). x.holds) m.told.rest) can
+
+pub handled_on : (p q : View) (id : ArenaId) → ((id : ArenaId) → IsKnown p id → IsKnown q id) → In id q.handles → IsHandled p id → IsHandled q id
+handled_on p q id known has can = record { known = known id can.known; has = has; automatic = can.automatic }
+
+-- A handle of an arena of which the pass still has one can still be used.
+pub handle_on : (p q : View) (handle : AutoHandle) → ((id : ArenaId) → IsKnown p id → IsKnown q id) → made_by_pass q ≡ made_by_pass p
+    → In handle.arena q.handles → HasHandle p handle → HasHandle q handle
+handle_on p q handle known made has can = record { maker = can.maker ∙ sym made; handled = handled_on p q handle.arena known has can.handled }
+
+pub handle_same : (p q : View) (handle : AutoHandle) → ((id : ArenaId) → IsKnown p id → IsKnown q id) → made_by_pass q ≡ made_by_pass p
+    → q.handles ≡ p.handles → HasHandle p handle → HasHandle q handle
+handle_same p q handle known made same can =
+    handle_on p q handle known made (subst (λ (hs : List ArenaId). In handle.arena hs) (sym same) can.handled.has) can
+
+pub handle_after : (p q : View) (own : List Entry) (handle : AutoHandle) → Makes (view_of_pass p) (view_of_pass q) own → HasHandle p handle
     → HasHandle q handle
-handle_on p q handle known same can = record {
-  known = known handle.arena can.known;
-  has = subst (λ (hs : List ArenaId). In handle.arena hs) (sym same) can.has;
-  automatic = can.automatic;
-}
-
-pub handles : HandleLasts
-handles = record {
-  on = λ p q handle l same can. handle_on p q handle l.known same can;
-  by_memory = λ p q own handle m can. handle_on p q handle (known_after p q own m) (ap (λ (x : Rest). x.handles) m.told.rest) can;
-}
+handle_after p q own handle m can = handle_same p q handle (known_after p q own m) (made_after p q own m) (ap (λ (x : Rest). x.handles) m.told.rest) can

@@ -8,7 +8,8 @@ use Rattle.fm_base.specs.Does.{DoesOpen, DoesAgain, DoesGiveBack}
 use Rattle.fm_base.specs.View.{but_loans}
 use Rattle.fm_pool_facts.specs.Views.{View, In, IsKnown}
 use Rattle.fm_pool_facts.specs.Holds.{released}
-use Rattle.fm_calls.specs.Kept.{KeptHandling, HasEnded, Lasts}
+use Rattle.fm_calls.specs.Kept.{KeptHandling, HasEnded, HasNoWords, Lasts}
+use Rattle.fm_gate.specs.Makers.{made_by_pass}
 use Rattle.fm_gate.specs.Learnt.{IsNew, handles_opened, handles_again}
 use Rattle.fm_close.specs.Does.{others_left}
 use Rattle.fm_close.specs.declared.gave_back.GaveBack.{GaveBack}
@@ -16,16 +17,16 @@ use Rattle.fm_close.specs.declared.gave_back.GaveBack.TheVariants.{Ended}
 use Rattle.fm_arena.specs.declared.handle.AutoHandle.{AutoHandle}
 use Rattle.fm_arena.specs.Opening.{OpensExactly}
 
--- ---- handles by the name of their arena
-
 -- the pass has a handle of the automatic arena
 pub record IsHandled (p : View) (id : ArenaId) : Type 0 where
   pub known : IsKnown p id
   pub has : In id p.handles
   pub automatic : id.kind ≡ Automatic
 
-abbrev pub HasHandle : View → AutoHandle → Type 0
-HasHandle p handle = IsHandled p handle.arena
+-- the pass made the handle, and has one of its arena
+pub record HasHandle (p : View) (handle : AutoHandle) : Type 0 where
+  pub maker : handle.maker ≡ made_by_pass p
+  pub handled : IsHandled p handle.arena
 
 -- and it is outside
 pub record CanGiveBack (p : View) (handle : AutoHandle) : Type 0 where
@@ -58,6 +59,7 @@ pub record AfterAgain (old new : View) (handle : AutoHandle) (result : Result Au
   pub did : KeptHandling old new (handles_again handle.arena (whether result) old.handles) (DoesAgain old.caller handle.arena (whether result))
   pub same : IfOk result (λ other. other.arena ≡ handle.arena)
   pub has : HasHandle new handle
+  pub other : IfOk result (λ other. HasHandle new other)
   pub inside : new.inside ≡ old.inside
   pub lasts : Lasts old new
 
@@ -65,5 +67,9 @@ pub record AfterAgain (old new : View) (handle : AutoHandle) (result : Result Au
 pub record AfterGiveBack (old new : View) (id : ArenaId) (result : GaveBack) : Type 0 where
   pub did : KeptHandling old new (released id old.handles) (λ own. DoesGiveBack old.caller id (others_left result) (but_loans own))
   pub ended : result ≡ Ended → HasEnded new id
+  -- no word of the pool is lent to it any more
+  pub no_words : result ≡ Ended → HasNoWords new id
+  -- the pass has no other handle of it
+  pub last : result ≡ Ended → ¬ (In id new.handles)
   pub outside : new.inside ≡ None
   pub lasts : Lasts old new

@@ -1,15 +1,20 @@
 -- What the calls of a memory leave of a `Shared`, also those of code that is written for any memory.
-use Rattle.std.specs.Prelude.{◌≡◌, List}
+use Rattle.std.specs.Prelude.{◌≡◌, ◌≢◌, ◌<◌, List, Result, IfOk}
+use Rattle.fm_base.specs.declared.arena_id.ArenaId.{ArenaId}
+use Rattle.fm_base.specs.declared.refusal.Refusal.{Refusal}
 use Rattle.fm_base.specs.Calls.{Entry}
 use Rattle.fm_base.specs.View.{Makes}
 use Rattle.fm_pool_facts.specs.Views.{View}
+use Rattle.fm_pool_facts.specs.Holds.{how_many}
 use Rattle.fm_rule.specs.declared.pool.Pool.{Pool}
 use Rattle.fm_rule.specs.Passes.{IsOf}
 use Rattle.fm_calls.specs.Kept.{Lasts}
 use Rattle.fm_calls.specs.Told.{view_of_pass}
 use Rattle.fm_gate.specs.declared.held.Hold.{Hold}
-use Rattle.fm_arena.specs.Learnt.{CanUnhold}
-use Rattle.fm_arena.specs.Handles.{HasHandle}
+use Rattle.fm_gate.specs.Makers.{made_by_pass}
+use Rattle.fm_close.specs.declared.gave_back.GaveBack.{GaveBack}
+use Rattle.fm_arena.specs.Learnt.{CanUnhold, AfterHold, AfterUnhold}
+use Rattle.fm_arena.specs.Handles.{HasHandle, AfterStart, AfterAgain, AfterGiveBack}
 use Rattle.fm_arena.specs.declared.handle.AutoHandle.{AutoHandle}
 
 -- its pass is one of the same pool
@@ -29,13 +34,59 @@ pub record KeepsItsPool : Type 0 where
 
 -- ---- holds and handles
 
+-- two holds of one arena
+pub record HasBoth (p : View) (a b : Hold) : Type 0 where
+  pub first : CanUnhold p a
+  pub second : CanUnhold p b
+  pub same : b.arena ≡ a.arena
+  pub two : 1 < how_many a.arena p.holds
+
+-- A hold stands beside others: a second one of its arena may be taken, and each of the two stands when the other is spent
+pub record HoldsStand : Type 0 where
+  pub at_hold : (old new : View) (id : ArenaId) (result : Result Hold Refusal) (hold : Hold) → AfterHold old new id result → CanUnhold old hold
+      → CanUnhold new hold
+  pub both : (old new : View) (result : Result Hold Refusal) (first : Hold) → AfterHold old new first.arena result → CanUnhold old first
+      → IfOk result (λ second. HasBoth new first second)
+  pub both_by_memory : (old new : View) (own : List Entry) (first second : Hold) → Makes (view_of_pass old) (view_of_pass new) own
+      → HasBoth old first second → HasBoth new first second
+  pub one_left : (old new : View) (first second : Hold) → HasBoth old first second → AfterUnhold old new first.arena
+      → CanUnhold new first × CanUnhold new second
+  pub others_left : (old new : View) (other : ArenaId) (hold : Hold) → AfterUnhold old new other → other ≢ hold.arena → CanUnhold old hold
+      → CanUnhold new hold
+
 -- a hold can be spent after calls of a memory, and after others that leave the pass its holds
 pub record HoldLasts : Type 0 where
-  pub on : (old new : View) (hold : Hold) → Lasts old new → new.holds ≡ old.holds → CanUnhold old hold → CanUnhold new hold
+  pub on : (old new : View) (hold : Hold) → Lasts old new → made_by_pass new ≡ made_by_pass old → new.holds ≡ old.holds → CanUnhold old hold
+      → CanUnhold new hold
   pub by_memory : (old new : View) (own : List Entry) (hold : Hold) → Makes (view_of_pass old) (view_of_pass new) own → CanUnhold old hold → CanUnhold new hold
+  pub beside : HoldsStand
+
+-- two handles of one arena
+pub record HasTwo (p : View) (a b : AutoHandle) : Type 0 where
+  pub first : HasHandle p a
+  pub second : HasHandle p b
+  pub same : b.arena ≡ a.arena
+  pub two : 1 < how_many a.arena p.handles
+
+-- A handle stands beside others: where another of its arena is taken, each of the two stands when the other is given back
+pub record HandlesStand : Type 0 where
+  pub at_start : (old new : View) (result : Result AutoHandle Refusal) (handle : AutoHandle) → AfterStart old new result → HasHandle old handle
+      → HasHandle new handle
+  pub at_again : (old new : View) (of handle : AutoHandle) (result : Result AutoHandle Refusal) → AfterAgain old new of result → HasHandle old handle
+      → HasHandle new handle
+  pub both : (old new : View) (first : AutoHandle) (result : Result AutoHandle Refusal) → AfterAgain old new first result → HasHandle old first
+      → IfOk result (λ second. HasTwo new first second)
+  pub both_by_memory : (old new : View) (own : List Entry) (first second : AutoHandle) → Makes (view_of_pass old) (view_of_pass new) own
+      → HasTwo old first second → HasTwo new first second
+  pub one_left : (old new : View) (first second : AutoHandle) (result : GaveBack) → HasTwo old first second → AfterGiveBack old new first.arena result
+      → HasHandle new first × HasHandle new second
+  pub others_left : (old new : View) (other : ArenaId) (result : GaveBack) (handle : AutoHandle) → AfterGiveBack old new other result
+      → other ≢ handle.arena → HasHandle old handle → HasHandle new handle
 
 -- and a handle likewise
 pub record HandleLasts : Type 0 where
-  pub on : (old new : View) (handle : AutoHandle) → Lasts old new → new.handles ≡ old.handles → HasHandle old handle → HasHandle new handle
+  pub on : (old new : View) (handle : AutoHandle) → Lasts old new → made_by_pass new ≡ made_by_pass old → new.handles ≡ old.handles
+      → HasHandle old handle → HasHandle new handle
   pub by_memory : (old new : View) (own : List Entry) (handle : AutoHandle) → Makes (view_of_pass old) (view_of_pass new) own → HasHandle old handle
       → HasHandle new handle
+  pub beside : HandlesStand

@@ -3,17 +3,18 @@ use Rattle.std.specs.Prelude.{◌≡◌, ◌≢◌, ◌≤◌, Bool, true, List,
 use Rattle.fm_base.specs.declared.arena_id.ArenaId.{ArenaId}
 use Rattle.fm_base.specs.declared.kind.Kind.TheVariants.{Automatic}
 use Rattle.fm_base.specs.declared.refusal.Refusal.{Refusal}
-use Rattle.fm_base.specs.declared.refusal.Refusal.TheVariants.{WrongThread, Unsupported}
+use Rattle.fm_base.specs.declared.refusal.Refusal.TheVariants.{Closed, WrongThread, Unsupported}
 use Rattle.fm_base.specs.Arenas.{has_arena, arena_of}
 use Rattle.fm_base.specs.Calls.{Entry}
 use Rattle.fm_base.specs.Histories.{state_after}
 use Rattle.fm_base.specs.Does.{DoesIsAlive, DoesUnhold}
-use Rattle.fm_pool_facts.specs.Views.{View, In, IsKnown, IsSound, given_of, limit_of}
+use Rattle.fm_pool_facts.specs.Views.{View, In, IsKnown, IsSound, given_of, grips, limit_of}
 use Rattle.fm_pool_facts.specs.Holds.{released}
 use Rattle.fm_rule.specs.declared.pool.Pool.{Pool}
 use Rattle.fm_rule.specs.Passes.{IsOf, GoesOnFrom}
 use Rattle.fm_calls.specs.Kept.{Kept, KeptHolding, Lasts}
 use Rattle.fm_gate.specs.declared.held.Hold.{Hold}
+use Rattle.fm_gate.specs.Makers.{made_by_pass}
 use Rattle.fm_gate.specs.Standing.{IsOutside}
 use Rattle.fm_gate.specs.Learnt.{DoesTake, holds_taken}
 
@@ -35,6 +36,8 @@ pub record AfterMeet (old new : View) (seen : List Entry) : Type 0 where
 -- of `is_alive`
 pub record AfterIsAlive (old new : View) (id : ArenaId) (result : Result Bool Refusal) : Type 0 where
   pub did : Kept old new (DoesIsAlive old.caller id result)
+  -- an arena that the pass has a hold or a handle of is alive
+  pub held : In id (grips id old) → IfOk result (λ alive. alive ≡ true)
   pub outside : new.inside ≡ None
   -- then the pass is as it was
   pub wrong_thread : result ≡ Err WrongThread → new ≡ old
@@ -44,6 +47,7 @@ pub record AfterIsAlive (old new : View) (id : ArenaId) (result : Result Bool Re
 
 -- the pass took the hold, and may stand anywhere
 pub record CanUnhold (p : View) (hold : Hold) : Type 0 where
+  pub maker : hold.maker ≡ made_by_pass p
   pub known : IsKnown p hold.arena
   pub held : In hold.arena p.holds
   pub by_hand : hold.arena.kind ≢ Automatic
@@ -52,6 +56,8 @@ pub record CanUnhold (p : View) (hold : Hold) : Type 0 where
 pub record AfterHold (old new : View) (id : ArenaId) (result : Result Hold Refusal) : Type 0 where
   pub did : KeptHolding old new (holds_taken id result old.holds) (DoesTake old.caller id result)
   pub held : IfOk result (λ hold. CanUnhold new hold)
+  -- an arena that the pass has a hold of is alive
+  pub alive : In id old.holds → result ≢ Err Closed
   -- then the pass is as it was
   pub unsupported : result ≡ Err Unsupported → new ≡ old
   pub wrong_thread : result ≡ Err WrongThread → new ≡ old

@@ -2,5 +2,6 @@ pub mod Shares
 pub mod Learnt
 pub mod Lasting
 pub mod Arenas
+pub mod Open
 pub mod Opening
 pub mod Handles

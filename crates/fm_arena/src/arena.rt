@@ -15,13 +15,13 @@ use std::sync::Wait;
 /// one is.
 #[derive(Clone, Copy, Debug, PartialEq, Eq)]
 pub struct Arena {
-    id: ArenaId,
+    pub(crate) id: ArenaId,
 }
 
 impl Arena {
     ghost use Rattle.std.specs.Prelude.{◌≡◌};
 
-    /// Opens an arena of this kind.
+    /// Opens an arena of this kind. `Shared::start` also says where a pool has no slot.
     ///
     /// Refused: `NoSlot`, or `Memory`. A refused call opens nothing.
     pub fn start<R: Wait, M: Memory>(rt: &R, m: &mut M, kind: Kind) -> Result<Arena, Refusal>

@@ -4,7 +4,7 @@ ghost use Rattle.fm_arena.specs.Handles.{HasHandle, CanGiveBack, AfterStart, Aft
 use crate::shared::Shared;
 use fm_base::{ArenaId, Kind, Refusal};
 use fm_close::{GaveBack, give_back};
-use fm_gate::{again, open_arena};
+use fm_gate::{Maker, again, open_arena};
 use std::sync::Wait;
 
 /// A handle of an automatic arena (`Arena.ofAuto()`, Java SE 22), which lives as long as it has a handle.
@@ -14,6 +14,7 @@ use std::sync::Wait;
 /// that made it.
 pub struct AutoHandle {
     arena: ArenaId,
+    maker: Maker,
 }
 
 impl AutoHandle {
@@ -25,7 +26,8 @@ impl AutoHandle {
         ensures { AfterStart m.old m.new result }
     {
         let arena = open_arena(rt, m.pool, &mut m.pass, Kind::Automatic)?;
-        Ok(AutoHandle { arena })
+        let maker = Maker::of(m.pool, &mut m.pass);
+        Ok(AutoHandle { arena, maker })
     }
 
     /// Another handle of the arena.
@@ -36,7 +38,11 @@ impl AutoHandle {
         ensures { AfterAgain m.old m.new self.now result }
     {
         again(rt, m.pool, &mut m.pass, self.arena)?;
-        Ok(AutoHandle { arena: self.arena })
+        let maker = Maker::of(m.pool, &mut m.pass);
+        Ok(AutoHandle {
+            arena: self.arena,
+            maker,
+        })
     }
 
     /// Spends the handle. Where it was the last one the arena ends, once nobody is under way in it.
@@ -44,7 +50,7 @@ impl AutoHandle {
         requires { CanGiveBack m.old self }
         ensures { AfterGiveBack m.old m.new self.arena result }
     {
-        let AutoHandle { arena } = self;
+        let AutoHandle { arena, maker: _ } = self;
         give_back(rt, m.pool, &mut m.pass, arena)
     }
 

@@ -1,4 +1,5 @@
 ghost use Rattle.fm_arena.specs.Lasting.{KeepsItsPool, HoldLasts, HandleLasts};
+ghost use Rattle.fm_arena.specs.Open.{HeldIsOpen};
 
 /// The pass of a `Shared` is one of the same pool after any calls of `Memory`.
 pub fn keeps_its_pool()
@@ -8,6 +9,12 @@ pub fn keeps_its_pool()
 /// A hold can be spent after any calls of `Memory`, and others that leave the pass its holds.
 pub fn a_hold_lasts()
     ensures { HoldLasts }
+{}
+
+/// An arena that the pass has a hold or a handle of is alive, and no call of a memory's finds it shut: `get` and its kin
+/// are never refused `Closed`, which only a visit that found the arena shut tells.
+pub fn what_is_held_is_open()
+    ensures { HeldIsOpen }
 {}
 
 /// A handle can be used after any calls of `Memory`, and others that leave the pass its handles.

@@ -21,5 +21,5 @@ mod shared;
 
 pub use arena::Arena;
 pub use handle::AutoHandle;
-pub use laws::{a_handle_lasts, a_hold_lasts, keeps_its_pool};
+pub use laws::{a_handle_lasts, a_hold_lasts, keeps_its_pool, what_is_held_is_open};
 pub use shared::Shared;

@@ -1,5 +1,6 @@
 ghost use Rattle.std.specs.Prelude.{◌≡◌, None};
 
+use crate::arena::Arena;
 use fm_base::{ArenaId, Caller, Kind, Memory, Refusal};
 use fm_close::close;
 use fm_gate::{
@@ -34,9 +35,12 @@ impl<'a> Model for Shared<'a> {
 
 impl<'a> Shared<'a> {
     ghost use Rattle.fm_gate.specs.Standing.{IsOutside};
-    ghost use Rattle.fm_base.specs.Learnt.{CanVisit};
+    ghost use Rattle.fm_base.specs.Learnt.{AfterOpen, CanOpen, CanVisit};
     ghost use Rattle.fm_calls.specs.Told.{view_of_pass};
+    ghost use Rattle.fm_arena.specs.Arenas.{started};
     ghost use Rattle.fm_arena.specs.Learnt.{AfterHold, AfterIntoPass, AfterIsAlive, AfterMeet, AfterUnhold, CanUnhold};
+    ghost use Rattle.fm_arena.specs.Opening.{OpensExactly};
+    ghost use Rattle.fm_arena.specs.Shares.{nature_of_shared};
 
     /// The memory of a pass that is in no arena.
     pub fn new(pool: &'a Pool, pass: Pass) -> Shared<'a>
@@ -73,6 +77,19 @@ impl<'a> Shared<'a> {
         self.pool.meet(&mut self.pass, note);
     }
 
+    /// Opens an arena of this kind, as `Arena::start`.
+    ///
+    /// Refused: `NoSlot`, where a step found no slot; a pass that is known to be whole gets it exactly where every slot
+    /// has an arena that hasn't ended, or has had its last generation.
+    pub fn start<R: Wait>(&mut self, rt: &R, kind: Kind) -> Result<Arena, Refusal>
+        requires { CanOpen (view_of_pass self.old) kind }
+        ensures opens { AfterOpen nature_of_shared (view_of_pass self.old) (view_of_pass self.new) kind (started result) }
+        ensures exact { OpensExactly self.old self.new result }
+    {
+        let id = self.open_arena(rt, kind)?;
+        Ok(Arena { id })
+    }
+
     /// Whether the arena is alive: a visit to it without acts.
     ///
     /// Refused: `WrongThread`.
@@ -103,22 +120,36 @@ impl<'a> Shared<'a> {
 }
 
 impl<'a> Memory for Shared<'a> {
-    ghost use Rattle.std.specs.Prelude.{refl};
-    ghost use Rattle.fm_base.specs.Learnt.{AfterOpen, CanOpen};
+    ghost use Rattle.std.specs.Prelude.{◌≢◌, Err, IfOk, refl};
+    ghost use Rattle.fm_base.specs.declared.refusal.Refusal.TheVariants.{Closed};
+    ghost use Rattle.fm_base.specs.Learnt.{AfterAllocate, AfterClose, AfterEnter, AfterOpen, CanOpen, CanVisit};
+    ghost use Rattle.fm_base.specs.View.{IsSound};
+    ghost use Rattle.fm_pool_facts.specs.Views as views;
+    ghost use Rattle.fm_pool_facts.specs.Views.{In, grips};
     ghost use Rattle.fm_calls.specs.Told.{view_of_pass};
     ghost use Rattle.fm_arena.specs.Opening.{OpensExactly};
-    ghost use Rattle.fm_arena.specs.Shares.{nature_of_shared};
+    ghost use Rattle.fm_arena.specs.Shares.{IsGone, nature_of_shared};
 
     ghost nature = { nature_of_shared };
 
     ghost view = { view_of_pass };
 
-    fn caller(&self) -> Caller {
+    /// As the trait says; and the pass is sound.
+    fn caller(&self) -> Caller
+        ensures is { result ≡ self.now.caller }
+        ensures sound { IsSound (view_of_pass self.now) }
+        ensures pass { views.IsSound self.now }
+    {
         self.pass.caller()
     }
 
+    /// As the trait says; and it isn't `Closed` where the pass has a hold or a handle of the arena.
     #[inline(always)]
-    fn enter(&mut self, a: ArenaId) -> Result<(), Refusal> {
+    fn enter(&mut self, a: ArenaId) -> Result<(), Refusal>
+        requires { CanVisit (view_of_pass self.old) a }
+        ensures enters { AfterEnter (view_of_pass self.old) (view_of_pass self.new) a result }
+        ensures held { In a (grips a self.old) → result ≢ Err Closed }
+    {
         enter(self.pool, &mut self.pass, a)
     }
 
@@ -159,17 +190,27 @@ impl<'a> Memory for Shared<'a> {
         open_arena(rt, self.pool, &mut self.pass, kind)
     }
 
+    /// As the trait says; and it isn't `Closed` where the pass has a hold or a handle of the arena.
     fn allocate<R: Wait>(
         &mut self,
         rt: &R,
         a: ArenaId,
         size: u64,
         align: u64,
-    ) -> Result<u64, Refusal> {
+    ) -> Result<u64, Refusal>
+        requires { CanVisit (view_of_pass self.old) a }
+        ensures allocates { AfterAllocate nature_of_shared (view_of_pass self.old) (view_of_pass self.new) a size align result }
+        ensures held { In a (grips a self.old) → result ≢ Err Closed }
+    {
         allocate(rt, self.pool, &mut self.pass, a, size, align)
     }
 
-    fn close<R: Wait>(&mut self, rt: &R, a: ArenaId) -> Result<(), Refusal> {
+    /// As the trait says; and an arena that was closed has ended, and no word of the pool is lent to it any more.
+    fn close<R: Wait>(&mut self, rt: &R, a: ArenaId) -> Result<(), Refusal>
+        requires { CanVisit (view_of_pass self.old) a }
+        ensures closes { AfterClose (view_of_pass self.old) (view_of_pass self.new) a result }
+        ensures gone { IfOk result (λ _. IsGone self.new a) }
+    {
         close(rt, self.pool, &mut self.pass, a)
     }
 

@@ -40,8 +40,9 @@ pub record Rest : Type 0 where
   pub holds : List ArenaId
   pub handles : List ArenaId
   pub closes : List Close
-  -- the pages and slots in its hand
+  -- the pages in its hand
   pub pages : List ℕ
+  -- numbers that tell the slots in its hand, also those of arenas that it ended and hasn't swept, and how far each sweep is
   pub slots : List ℕ
   pub gathered : List Gathered
   -- whether it is known that every drawn number but its own is gathered into it

@@ -1,10 +1,13 @@
 -- A handle of an automatic arena is given back.
-use Rattle.std.proofs.Common.{◌≡◌, ◌≢◌, ℕ, ◌<◌, ◌==◌, Bool, true, List, [], ◌∷◌, refl, ap, ◌∙◌, subst, arith, Some, None, eq-eqb, ne_eqb}
+use Rattle.std.proofs.Common.{◌≡◌, ◌≢◌, ℕ, ◌<◌, ◌==◌, Bool, true, List, [], ◌∷◌, refl, ap, sym, ◌∙◌, subst, arith, Some, None, eq-eqb, ne_eqb}
 use Rattle.fm_base.specs.declared.caller.Caller.{Caller}
 use Rattle.fm_base.specs.declared.arena_id.ArenaId.{ArenaId}
 use Rattle.fm_base.specs.Calls.{Unhold, Shut, End, Back, Fine, Entry, entry_of}
 use Rattle.fm_base.specs.Finds.{Close, Rest}
-use Rattle.fm_pool_facts.specs.Views.{View}
+use Rattle.fm_base.specs.declared.kind.Kind.TheVariants.{Automatic}
+use Rattle.fm_base.specs.Arenas.{Alive, Ended}
+use Rattle.fm_pool_facts.specs.Views.{View, In}
+use Rattle.fm_pool_facts.proofs.Gripping.{handles_are}
 use Rattle.fm_pool_facts.specs.Words.{alive_holds}
 use Rattle.fm_pool_facts.specs.Holds.{released}
 use Rattle.fm_pool_facts.specs.Handles.{Giving, Missed, Kept, Last, last_if, giving_by, giving, given_back, giving_entries}
@@ -14,8 +17,9 @@ use Rattle.fm_rule.specs.declared.pool.Pool.{Pool}
 use Rattle.fm_calls.specs.Kept.{Goes, rest_of, HasEnded, HasNoWords}
 use Rattle.fm_calls.proofs.Going.{goes_of, goes_then, no_draws, made_by-one, rest_is, hand_is, inside_is, mark_is, known_on, lasts_on}
 use Rattle.fm_calls.proofs.Waiting.{Waited, waits_by, waits_on}
+use Rattle.fm_gate.specs.Makers.{Made, made_by_pass}
 use Rattle.fm_gate.specs.Standing.{IsOutside}
-use Rattle.fm_gate.proofs.Standing.{stands_outside}
+use Rattle.fm_gate.proofs.Standing.{made_on, stands_outside}
 use Rattle.fm_gate.proofs.Handles.{owner_low}
 use Rattle.fm_close.specs.declared.gave_back.GaveBack.TheVariants as gave
 use Rattle.fm_close.specs.declared.shutting.Shutting.{Shutting}
@@ -101,16 +105,17 @@ module _ {pool : Pool} {p q : View} {a : ArenaId} {word : ℕ} (can : CanGiveBac
       }
 
   -- Where there were none, the close has visited no mark.
-  pub spent_last : (n : ℕ) → alive_holds a word ≡ Some n → n ≡ 0 → AfterSpend pool p q a (Some (begun a))
-  spent_last n f z =
+  pub spent_last : (m : Made) → m ≡ made_by_pass q → (n : ℕ) → alive_holds a word ≡ Some n → n ≡ 0 → AfterSpend pool p q a (Some (begun m a))
+  spent_last m mine n f z =
       let e : giving_by (alive_holds a word) ≡ Last = ap giving_by f ∙ ap last_if (eq-eqb n 0 z) in
       let g = goes_by Last e in
       let rest = rest_by Last e in
       record {
-        did = record { own = entry_of p.caller (Shut a) Fine ∷ []; does = (refl, refl); goes = g; rest = rest };
+        did = record { own = entry_of p.caller (Shut a) Fine ∷ []; does = (ap (λ (x : Made). begun x a) (mine ∙ made_on g), refl); goes = g; rest = rest };
         walks = record {
           outside = out;
           walks = record {
+            maker = mine;
             unfinished = refl;
             known = known_on g a can.handle.known;
             at = ap (λ (r : Rest). visited_of r.closes a) rest ∙ visited_of-begun p.closes a;
@@ -135,14 +140,15 @@ after_kept {p = p} {a = a} h =
       };
       ended = λ e. absurd (cc);
       no_words = λ e. absurd (cc);
+      last = λ e. absurd (cc);
       outside = h.outside;
       lasts = lasts_on d.goes;
     }
 
 -- What is learnt where all marks were visited after the last one, and the arena was swept.
-pub after_ended : {pool : Pool} {p q r : View} {a : ArenaId} {s : Shutting} → AfterSpend pool p q a (Some s) → Finished pool q r s.arena
+pub after_ended : {pool : Pool} {p q r : View} {a : ArenaId} {s : Shutting} → a.kind ≡ Automatic → AfterSpend pool p q a (Some s) → Finished pool q r s.arena
     → AfterGiveBack pool p r a gave.Ended
-after_ended {p = p} {q = q} {r = r} {a = a} {s = s} h w =
+after_ended {p = p} {q = q} {r = r} {a = a} {s = s} automatic h w =
     let arena : s.arena ≡ a = ap (λ (x : Shutting). x.arena) h.did.does.0 in
     let g : Goes p q (entry_of p.caller (Shut a) Fine ∷ []) = subst (λ (es : List Entry). Goes p q es) h.did.does.1 h.did.goes in
     let end : Goes q r (entry_of p.caller (End a) Fine ∷ entry_of p.caller (Back a.slot) Fine ∷ []) = subst
@@ -161,6 +167,10 @@ after_ended {p = p} {q = q} {r = r} {a = a} {s = s} h w =
       };
       ended = λ e. subst (HasEnded r) arena w.over;
       no_words = λ e. subst (HasNoWords r) arena w.no_words;
+      last = λ e i.
+          let alive = all.sound.held a (subst (λ (hs : List ArenaId). In a hs) (sym (handles_are a r automatic)) i) in
+          let life : Alive ≡ Ended = sym alive.1 ∙ (subst (HasEnded r) arena w.over).life in
+          absurd (cc);
       outside = w.outside;
       lasts = lasts_on all;
     }

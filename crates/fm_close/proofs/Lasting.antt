@@ -8,16 +8,19 @@ use Rattle.fm_base.specs.Calls.{Entry}
 use Rattle.fm_base.specs.Finds.{Close, Rest}
 use Rattle.fm_base.proofs.Names.{same_id-true}
 use Rattle.fm_depicts.proofs.Putting.{same_id-not}
+use Rattle.fm_pool_facts.specs.Hands.{nothing}
 use Rattle.fm_pool_facts.specs.Views.{View}
 use Rattle.fm_pool_facts.specs.Closes.{visited_of, one_more, visited, dropped}
-use Rattle.fm_calls.specs.Kept.{Goes}
+use Rattle.fm_calls.specs.Kept.{Goes, rest_of}
 use Rattle.fm_calls.proofs.Going.{known_on}
 use Rattle.fm_calls.proofs.Sweeps.{same_sweeps}
+use Rattle.fm_gate.specs.Makers.{made_by_pass}
+use Rattle.fm_gate.proofs.Standing.{made_on}
 use Rattle.fm_close.specs.declared.shutting.Shutting.{Shutting}
 use Rattle.fm_close.specs.declared.outcome.Visit.{Visit}
 use Rattle.fm_close.specs.declared.outcome.Visit.TheVariants.{Next, Inside, Ended}
 use Rattle.fm_close.specs.Learnt.{IsUnderWay, IsToSweep, closes_shut, closes_visited, sweeps_visited}
-use Rattle.fm_close.specs.Lasting.{CloseStands, SweepStands, StandsBeside, CloseLasts}
+use Rattle.fm_close.specs.Lasting.{CloseStands, SweepStands, StandsBeside, StandsThrough, CloseLasts}
 
 -- ---- closes of other arenas in the list
 
@@ -64,6 +67,7 @@ of_visit a b Ended cs n = visited_of-dropped cs a b n
 stands_by : {p q : View} {own : List Entry} {s : Shutting} → Goes p q own → visited_of q.closes s.arena ≡ visited_of p.closes s.arena
     → IsUnderWay p s → IsUnderWay q s
 stands_by {s = s} g same u = record {
+  maker = u.maker ∙ sym (made_on g);
   unfinished = u.unfinished;
   known = known_on g s.arena u.known;
   at = same ∙ u.at;
@@ -81,6 +85,7 @@ beside = record {
       stands_by h.did.goes (ap (λ (x : Rest). visited_of x.closes s.arena) h.did.rest ∙ of_visit t.arena s.arena result old.closes n) u;
   at_sweep = λ pool old new other s h n u. stands_by h.did.goes (ap (λ (x : Rest). visited_of x.closes s.arena) h.did.rest) u;
   onward = λ pool old new s h u. record {
+    maker = u.maker ∙ (λ j. record { home = sym h.home j; caller = sym h.caller j });
     unfinished = u.unfinished;
     known = h.lasts.known s.arena u.known;
     at = ap (λ (cs : List Close). visited_of cs s.arena) h.closes ∙ u.at;
@@ -89,11 +94,12 @@ beside = record {
 }
 
 -- Whether an arena is to be swept is by the pass's sweeps.
-swept_by : {p q : View} {s : Shutting} → visited_of q.sweeps s.arena ≡ visited_of p.sweeps s.arena → IsToSweep p s → IsToSweep q s
-swept_by same u = record { ended = u.ended; at = same ∙ u.at }
+swept_by : {p q : View} {s : Shutting} → made_by_pass p ≡ made_by_pass q → visited_of q.sweeps s.arena ≡ visited_of p.sweeps s.arena
+    → IsToSweep p s → IsToSweep q s
+swept_by maker same u = record { maker = u.maker ∙ maker; ended = u.ended; at = same ∙ u.at }
 
 ended : SweepStands
-ended old new own s g rest h k u = swept_by (ap (λ (cs : List Close). visited_of cs s.arena) (same_sweeps old new rest h k)) u
+ended old new own s g rest h k u = swept_by (sym (made_on g)) (ap (λ (cs : List Close). visited_of cs s.arena) (same_sweeps old new rest h k)) u
 
 of_end : (a b : ArenaId) (v : Visit) (cs : List Close) → a ≢ b → visited_of (sweeps_visited a v cs) b ≡ visited_of cs b
 of_end a b Next cs n = refl
@@ -102,13 +108,54 @@ of_end a b Ended cs n = ap (λ t. if t then Some 0 else visited_of cs b) (same_i
 
 ended_beside : StandsBeside IsToSweep
 ended_beside = record {
-  at_shut = λ pool old new other result s h n u. swept_by (ap (λ (cs : List Close). visited_of cs s.arena) h.sweeps) u;
+  at_shut = λ pool old new other result s h n u. swept_by (sym (made_on h.did.goes)) (ap (λ (cs : List Close). visited_of cs s.arena) h.sweeps) u;
   at_visit = λ pool old new t v result s h n u.
-      swept_by (ap (λ (cs : List Close). visited_of cs s.arena) h.sweeps ∙ of_end t.arena s.arena result old.sweeps n) u;
+      swept_by (sym (made_on h.did.goes)) (ap (λ (cs : List Close). visited_of cs s.arena) h.sweeps ∙ of_end t.arena s.arena result old.sweeps n) u;
   at_sweep = λ pool old new other s h n u.
-      swept_by (ap (λ (cs : List Close). visited_of cs s.arena) h.sweeps ∙ visited_of-dropped old.sweeps other s.arena n) u;
-  onward = λ pool old new s h u. swept_by (ap (λ (cs : List Close). visited_of cs s.arena) h.sweeps) u;
+      swept_by (sym (made_on h.did.goes)) (ap (λ (cs : List Close). visited_of cs s.arena) h.sweeps ∙ visited_of-dropped old.sweeps other s.arena n) u;
+  onward = λ pool old new s h u.
+      swept_by (λ j. record { home = sym h.home j; caller = sym h.caller j }) (ap (λ (cs : List Close). visited_of cs s.arena) h.sweeps) u;
 }
 
+-- ---- through holds, handles and openings
+
+-- What stands where the pass has what it had, but for its holds and handles.
+StandsBut : (View → Shutting → Type 0) → Type 0
+StandsBut P =
+    (p q : View) (own : List Entry) (holds handles : List ArenaId) (s : Shutting) → Goes p q own
+    → rest_of q ≡ record (rest_of p) { holds = holds; handles = handles } → p.hand ≡ nothing → q.hand ≡ nothing → P p s → P q s
+
+through_by : (P : View → Shutting → Type 0) → StandsBut P → StandsThrough P
+unfolding StandsBut
+through_by P but = record {
+  at_hold = λ pool p q id result s o a. but p q _ _ _ s a.did.goes a.did.rest o.no_slot a.outside.no_slot;
+  at_unhold = λ pool p q id s o a. but p q _ _ _ s a.did.goes a.did.rest o.no_slot (a.outside o).no_slot;
+  at_open = λ pool p q kind result s o a. but p q _ _ _ s a.did.goes a.did.rest o.no_slot a.outside.no_slot;
+  at_again = λ pool p q id result s o a. but p q _ _ _ s a.did.goes a.did.rest o.no_slot (a.outside o).no_slot;
+  at_give_back = λ pool p q id result s o a. but p q _ _ _ s a.did.goes a.did.rest o.no_slot a.outside.no_slot;
+}
+
+through : StandsThrough IsUnderWay
+unfolding StandsBut
+through = through_by IsUnderWay (λ p q own holds handles s g rest h k u. stands_by g (ap (λ (x : Rest). visited_of x.closes s.arena) rest) u)
+
+-- Holds and handles are no matter to sweeps.
+sweeps_but : (p q : View) (holds handles : List ArenaId) → rest_of q ≡ record (rest_of p) { holds = holds; handles = handles }
+    → p.hand ≡ nothing → q.hand ≡ nothing → q.sweeps ≡ p.sweeps
+sweeps_but p q holds handles rest h k =
+    same_sweeps p (record q { holds = p.holds; handles = p.handles }) (ap (λ (x : Rest). record x { holds = p.holds; handles = p.handles }) rest) h k
+
+ended_through : StandsThrough IsToSweep
+unfolding StandsBut
+ended_through = through_by IsToSweep (λ p q own holds handles s g rest h k u.
+    swept_by (sym (made_on g)) (ap (λ (cs : List Close). visited_of cs s.arena) (sweeps_but p q holds handles rest h k)) u)
+
 pub lasts : CloseLasts
-lasts = record { stands = stands; beside = beside; ended = ended; ended_beside = ended_beside }
+lasts = record {
+  stands = stands;
+  beside = beside;
+  through = through;
+  ended = ended;
+  ended_beside = ended_beside;
+  ended_through = ended_through;
+}

@@ -19,7 +19,7 @@ use Rattle.fm_calls.specs.Told.{silent_view}
 use Rattle.fm_calls.proofs.Going.{goes_of, made_by-one, NoDraws, rest_is, hand_is, inside_is, mark_is, closes_is, sweeps_is, known_on, lasts_on}
 use Rattle.fm_calls.proofs.Telling.{silent_makes}
 use Rattle.fm_gate.specs.Standing.{IsOutside}
-use Rattle.fm_gate.proofs.Standing.{stands_outside}
+use Rattle.fm_gate.proofs.Standing.{made_on, stands_outside}
 use Rattle.fm_close.specs.declared.shutting.Shutting.{Shutting}
 use Rattle.fm_close.specs.declared.outcome.Visit.TheVariants.{Next, Inside, Ended}
 use Rattle.fm_close.specs.Does.{visit_answer}
@@ -127,6 +127,7 @@ module _ {pool : Pool} {p q : View} {s : Shutting} (found : ℕ) (can : CanWalk 
         close = refl;
         stands = (
           record {
+            maker = can.walks.maker ∙ sym (made_on g);
             unfinished = can.walks.unfinished;
             known = known_on g s.arena can.walks.known;
             at = ap (λ cs. visited_of cs s.arena) (closes_is t) ∙ can.walks.at;
@@ -164,6 +165,7 @@ module _ {pool : Pool} {p q : View} {s : Shutting} (found : ℕ) (can : CanWalk 
           answer = sym (ap (λ b. visit_answer s.next b (s.next + 1 == p.shape.passes)) names_not ∙ ap (visit_answer s.next false) last);
           close = refl;
           stands = record {
+            maker = can.walks.maker ∙ sym (made_on g);
             unfinished = can.walks.unfinished;
             known = known_on g s.arena can.walks.known;
             at = at;
@@ -193,7 +195,14 @@ module _ {pool : Pool} {p q : View} {s : Shutting} (found : ℕ) (can : CanWalk 
           looked = looked closes.Ended e;
           answer = sym (ap (λ b. visit_answer s.next b (s.next + 1 == p.shape.passes)) names_not ∙ ap (visit_answer s.next false) last);
           close = refl;
-          stands = (over, record { ended = refl; at = ap (λ cs. visited_of cs s.arena) (sweeps_is t) ∙ visited_of-begun p.sweeps s.arena });
+          stands = (
+            over,
+            record {
+              maker = can.walks.maker ∙ sym (made_on g);
+              ended = refl;
+              at = ap (λ cs. visited_of cs s.arena) (sweeps_is t) ∙ visited_of-begun p.sweeps s.arena;
+            },
+          );
           outside = outside_by g;
           lasts = lasts_on g;
         }

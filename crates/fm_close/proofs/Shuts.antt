@@ -1,21 +1,24 @@
 -- Shutting an arena.
-use Rattle.std.proofs.Common.{◌≡◌, ℕ, ◌<◌, ◌==◌, false, if◌then◌else◌, [], ◌∷◌, refl, ap, ◌∙◌, subst, Some, None, arith}
+use Rattle.std.proofs.Common.{◌≡◌, ℕ, ◌<◌, ◌==◌, false, if◌then◌else◌, List, [], ◌∷◌, refl, ap, ◌∙◌, subst, Some, None, arith}
 use Rattle.std.proofs.lemmas.Bool.Decides.{nat_tests}
 use Rattle.std.specs.Prelude.{Ok, Err}
 use Rattle.fm_base.specs.declared.arena_id.ArenaId.{ArenaId}
 use Rattle.fm_base.specs.declared.refusal.Refusal.TheVariants as refusal
 use Rattle.fm_base.specs.Arenas.{MayUse}
-use Rattle.fm_base.specs.Calls.{Shut, Reply, Fine, Closed, Held, entry_of}
+use Rattle.fm_base.specs.Calls.{Shut, Reply, Fine, Closed, Held, Entry, entry_of}
 use Rattle.fm_base.specs.Does.{IsClosable}
+use Rattle.fm_base.specs.Finds.{Close}
 use Rattle.fm_pool_facts.specs.Views.{View, IsSound}
 use Rattle.fm_pool_facts.specs.Words.{alive_holds, shut_found, shut_by}
 use Rattle.fm_pool_facts.specs.Closes.{begun, visited_of}
 use Rattle.fm_pool_facts.specs.Steps.{Stepped, none_noted}
 use Rattle.fm_rule.specs.declared.pool.Pool.{Pool}
+use Rattle.fm_rule.specs.Passes.{IsOf}
 use Rattle.fm_calls.specs.Kept.{Goes}
 use Rattle.fm_calls.proofs.Going.{goes_of, goes_none, kept_none, made_by-one, no_draws, rest_is, hand_is, inside_is, mark_is, closes_is, sweeps_is, known_on, lasts_on}
+use Rattle.fm_gate.specs.Makers.{Made, made_by_pass}
 use Rattle.fm_gate.specs.Standing.{IsOutside, CanVisit}
-use Rattle.fm_gate.proofs.Standing.{stands_outside}
+use Rattle.fm_gate.proofs.Standing.{made_on, stands_outside}
 use Rattle.fm_close.specs.Does as does
 use Rattle.fm_close.specs.Learnt.{AfterShut}
 use Rattle.fm_close.proofs.Closes.{visited_of-begun}
@@ -45,6 +48,11 @@ after_wrong_thread can s kind not_his = record {
   cannot_close = λ k e. refl;
   lasts = lasts_on (goes_none s);
 }
+
+-- The pass is still one of its pool.
+pub shut_of : (pool : Pool) {p q : View} {cs : List Close} {own : List Entry} → Stepped p q (record p { closes = cs }) own none_noted → IsOf pool p
+    → IsOf pool q
+shut_of pool s of = (ap (λ (x : View). x.home) s.is_part ∙ of.0, ap (λ (x : View). x.shape) s.is_part ∙ of.1)
 
 shut_held : (holds : ℕ) → 0 < holds → shut_by holds ≡ Held holds
 shut_held holds l = let f : (holds == 0) ≡ false = grind (arith, nat_tests) in ap (λ b. if b then Fine else Held holds) f
@@ -105,15 +113,21 @@ module _ {pool : Pool} {p q : View} {a : ArenaId} (word : ℕ) (can : CanVisit p
       }
 
   -- What is learnt where it is shut now: the close has visited no mark.
-  pub after_fine : alive_holds a word ≡ Some 0 → AfterShut pool p q a (Ok (does.begun a))
-  after_fine e =
+  pub after_fine : (m : Made) → m ≡ made_by_pass q → alive_holds a word ≡ Some 0 → AfterShut pool p q a (Ok (does.begun m a))
+  after_fine m mine e =
       let r : shut_found (alive_holds a word) ≡ Fine = ap shut_found e in
       let t = shut_as Fine r in
       let g = shut_goes Fine r in
       record {
-        did = record { own = entry_of p.caller (Shut a) Fine ∷ []; does = (kind, may, refl, refl); goes = g; rest = rest_is t };
+        did = record {
+          own = entry_of p.caller (Shut a) Fine ∷ [];
+          does = (kind, may, ap (λ (x : Made). does.begun x a) (mine ∙ made_on g), refl);
+          goes = g;
+          rest = rest_is t;
+        };
         sweeps = sweeps_is s;
         walks = record {
+          maker = mine;
           unfinished = refl;
           known = known_on g a can.known;
           at = ap (λ cs. visited_of cs a) (closes_is t) ∙ visited_of-begun p.closes a;

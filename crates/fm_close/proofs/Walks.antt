@@ -15,6 +15,7 @@ use Rattle.fm_pool_facts.specs.Closes.{close_of, visited, dropped}
 use Rattle.fm_rule.specs.declared.pool.Pool.{Pool}
 use Rattle.fm_calls.specs.Kept.{Goes, rest_of, sweep_numbers, slots_told, HasEnded, HasNoWords}
 use Rattle.fm_calls.proofs.Going.{goes_then, lasts_on}
+use Rattle.fm_gate.specs.Makers.{Made, made_by_pass}
 use Rattle.fm_gate.specs.Standing.{IsOutside}
 use Rattle.fm_close.specs.declared.shutting.Shutting.{Shutting}
 use Rattle.fm_close.specs.declared.outcome.Visit.{Visit}
@@ -155,17 +156,18 @@ after_walk {p = p} {q = q} {r = r} {a = a} {s = s} u h w =
       lasts = lasts_on all;
     }
 
-refused_does : (c : Caller) (a : ArenaId) (refusal : Refusal) (own : List Entry) → DoesShut c a (Err refusal) own → DoesClose c a (Err refusal) (but_loans own)
-refused_does c a (refusal.CannotClose kind) own d = (d.0, d.1, rw d.2 refl)
-refused_does c a refusal.WrongThread own d = (d.0, d.1, rw d.2 refl)
-refused_does c a refusal.Closed own d = (d.0, d.1, rw d.2 refl)
-refused_does c a (refusal.Held holds) own d = (d.0, d.1, d.2, rw d.3 refl)
-refused_does c a r own d = absurd d
+refused_does : (m : Made) (a : ArenaId) (refusal : Refusal) (own : List Entry) → DoesShut m a (Err refusal) own
+    → DoesClose m.caller a (Err refusal) (but_loans own)
+refused_does m a (refusal.CannotClose kind) own d = (d.0, d.1, rw d.2 refl)
+refused_does m a refusal.WrongThread own d = (d.0, d.1, rw d.2 refl)
+refused_does m a refusal.Closed own d = (d.0, d.1, rw d.2 refl)
+refused_does m a (refusal.Held holds) own d = (d.0, d.1, d.2, rw d.3 refl)
+refused_does m a r own d = absurd d
 
 -- What is learnt where the arena couldn't be shut.
 pub after_refused : {pool : Pool} {p q : View} {a : ArenaId} (why : Refusal) → AfterShut pool p q a (Err why) → AfterClose pool p q a (Err why)
 after_refused {p = p} {a = a} why h = record {
-  did = record { own = h.did.own; does = refused_does p.caller a why h.did.own h.did.does; goes = h.did.goes; rest = h.did.rest };
+  did = record { own = h.did.own; does = refused_does (made_by_pass p) a why h.did.own h.did.does; goes = h.did.goes; rest = h.did.rest };
   ended = tt;
   no_words = tt;
   outside = h.outside;

@@ -8,28 +8,29 @@ use Rattle.fm_base.specs.Arenas.{MayUse}
 use Rattle.fm_base.specs.Calls as machine
 use Rattle.fm_base.specs.Calls.{Entry, entry_of}
 use Rattle.fm_base.specs.Does.{IsClosable}
+use Rattle.fm_gate.specs.Makers.{Made}
 use Rattle.fm_close.specs.declared.gave_back.GaveBack.{GaveBack}
 use Rattle.fm_close.specs.declared.gave_back.GaveBack.TheVariants as gave
 use Rattle.fm_close.specs.declared.shutting.Shutting.{Shutting}
 use Rattle.fm_close.specs.declared.outcome.Visit.{Visit}
 use Rattle.fm_close.specs.declared.outcome.Visit.TheVariants.{Next, Inside, Ended}
 
--- the close of an arena whose marks are all to be visited
-abbrev pub begun : ArenaId → Shutting
-begun id = record { arena = id; next = 0; ended = false }
+-- the close that this pass made of an arena whose marks are all to be visited
+abbrev pub begun : Made → ArenaId → Shutting
+begun maker id = record { arena = id; next = 0; ended = false; maker = maker }
 
 -- cases in the order of the checks
-abbrev pub DoesShut : Caller → ArenaId → Result Shutting Refusal → List Entry → Type 0
-DoesShut c id (Ok s) own =
-    IsClosable id.kind × MayUse id c × (s ≡ begun id) × (own ≡ entry_of c (machine.Shut id) machine.Fine ∷ [])
-DoesShut c id (Err (CannotClose kind)) own = ¬ (IsClosable id.kind) × (kind ≡ id.kind) × (own ≡ [])
-DoesShut c id (Err WrongThread) own = IsClosable id.kind × ¬ (MayUse id c) × (own ≡ [])
-DoesShut c id (Err Closed) own =
-    IsClosable id.kind × MayUse id c × (own ≡ entry_of c (machine.Shut id) machine.Closed ∷ [])
-DoesShut c id (Err (Held holds)) own =
-    IsClosable id.kind × MayUse id c × (0 < holds)
-    × (own ≡ entry_of c (machine.Shut id) (machine.Held holds) ∷ [])
-DoesShut c id (Err r) own = ⊥
+abbrev pub DoesShut : Made → ArenaId → Result Shutting Refusal → List Entry → Type 0
+DoesShut m id (Ok s) own =
+    IsClosable id.kind × MayUse id m.caller × (s ≡ begun m id) × (own ≡ entry_of m.caller (machine.Shut id) machine.Fine ∷ [])
+DoesShut m id (Err (CannotClose kind)) own = ¬ (IsClosable id.kind) × (kind ≡ id.kind) × (own ≡ [])
+DoesShut m id (Err WrongThread) own = IsClosable id.kind × ¬ (MayUse id m.caller) × (own ≡ [])
+DoesShut m id (Err Closed) own =
+    IsClosable id.kind × MayUse id m.caller × (own ≡ entry_of m.caller (machine.Shut id) machine.Closed ∷ [])
+DoesShut m id (Err (Held holds)) own =
+    IsClosable id.kind × MayUse id m.caller × (0 < holds)
+    × (own ≡ entry_of m.caller (machine.Shut id) (machine.Held holds) ∷ [])
+DoesShut m id (Err r) own = ⊥
 
 -- What the visit of mark k answers: whether the mark names the arena, and whether it is the last one
 abbrev pub visit_answer : ℕ → Bool → Bool → Visit
@@ -49,9 +50,9 @@ DoesVisit c id (Inside k) own = own ≡ []
 DoesVisit c id Ended own = own ≡ entry_of c (machine.End id) machine.Fine ∷ []
 
 -- a handle is spent: others are left, or it was the last and the close of the arena is begun
-abbrev pub DoesSpend : Caller → ArenaId → Option Shutting → List Entry → Type 0
-DoesSpend c id None own = own ≡ entry_of c (machine.Unhold id) machine.Fine ∷ []
-DoesSpend c id (Some s) own = (s ≡ begun id) × (own ≡ entry_of c (machine.Shut id) machine.Fine ∷ [])
+abbrev pub DoesSpend : Made → ArenaId → Option Shutting → List Entry → Type 0
+DoesSpend m id None own = own ≡ entry_of m.caller (machine.Unhold id) machine.Fine ∷ []
+DoesSpend m id (Some s) own = (s ≡ begun m id) × (own ≡ entry_of m.caller (machine.Shut id) machine.Fine ∷ [])
 
 -- whether other handles are left
 abbrev pub others_left : GaveBack → Bool

@@ -8,7 +8,7 @@ use Rattle.fm_base.specs.Calls.{End, Back, Fine, Entry, entry_of}
 use Rattle.fm_base.specs.Does.{DoesClose, DoesGiveBack}
 use Rattle.fm_base.specs.Finds.{Close, Find, Visits}
 use Rattle.fm_base.specs.View.{but_loans}
-use Rattle.fm_pool_facts.specs.Views.{View, IsKnown, pass_of}
+use Rattle.fm_pool_facts.specs.Views.{View, In, IsKnown, pass_of}
 use Rattle.fm_pool_facts.specs.Closes.{close_of, visited_of, visited, dropped}
 use Rattle.fm_pool_facts.specs.Steps.{is_clear}
 use Rattle.fm_pool_facts.specs.Words.{mark_of, alive_holds}
@@ -16,6 +16,7 @@ use Rattle.fm_pool_facts.specs.Holds.{released}
 use Rattle.fm_pool_facts.specs.Handles.{giving_by, given_back, giving_entries}
 use Rattle.fm_rule.specs.declared.pool.Pool.{Pool}
 use Rattle.fm_calls.specs.Kept.{Goes, KeptAs, KeptBut, KeptHandling, Kept, rest_of, slots_told, HasEnded, HasNoWords, Lasts}
+use Rattle.fm_gate.specs.Makers.{made_by_pass}
 use Rattle.fm_gate.specs.Standing.{IsOutside, HasHandle}
 use Rattle.fm_close.specs.declared.gave_back.GaveBack.{GaveBack}
 use Rattle.fm_close.specs.declared.gave_back.GaveBack.TheVariants as gave
@@ -26,8 +27,9 @@ use Rattle.fm_close.specs.Does.{DoesShut, DoesVisit, visit_answer, after_visit, 
 
 -- ---- what is asked for
 
--- The close is one of this pass, and its next mark is to be visited
+-- The close is one of this pass, which made it, and its next mark is to be visited
 pub record IsUnderWay (p : View) (s : Shutting) : Type 0 where
+  pub maker : s.maker ≡ made_by_pass p
   pub unfinished : s.ended ≡ false
   pub known : IsKnown p s.arena
   pub at : visited_of p.closes s.arena ≡ Some s.next
@@ -37,8 +39,9 @@ pub record CanWalk (pool : Pool) (p : View) (s : Shutting) : Type 0 where
   pub outside : IsOutside pool p
   pub walks : IsUnderWay p s
 
--- The arena has ended, and the pass hasn't begun to sweep it
+-- The arena has ended, and the pass, which made the close, hasn't begun to sweep it
 pub record IsToSweep (p : View) (s : Shutting) : Type 0 where
+  pub maker : s.maker ≡ made_by_pass p
   pub ended : s.ended ≡ true
   pub at : visited_of p.sweeps s.arena ≡ Some 0
 
@@ -60,7 +63,7 @@ closes_shut id (Err r) cs = cs
 
 -- of `shut`
 pub record AfterShut (pool : Pool) (old new : View) (id : ArenaId) (result : Result Shutting Refusal) : Type 0 where
-  pub did : KeptBut old new (closes_shut id result old.closes) (DoesShut old.caller id result)
+  pub did : KeptBut old new (closes_shut id result old.closes) (DoesShut (made_by_pass old) id result)
   pub sweeps : new.sweeps ≡ old.sweeps
   pub walks : IfOk result (λ s. IsUnderWay new s)
   pub outside : IsOutside pool new
@@ -162,7 +165,7 @@ closes_spent id (Some s) cs = close_of id 0 ∷ cs
 -- of a handle that is spent
 pub record AfterSpend (pool : Pool) (old new : View) (id : ArenaId) (result : Option Shutting) : Type 0 where
   pub did : KeptAs old new (record (rest_of old) { closes = closes_spent id result old.closes; handles = released id old.handles })
-      (DoesSpend old.caller id result)
+      (DoesSpend (made_by_pass old) id result)
   pub walks : IfSome result (λ s. CanWalk pool new s)
   pub outside : IsOutside pool new
 
@@ -171,5 +174,7 @@ pub record AfterGiveBack (pool : Pool) (old new : View) (id : ArenaId) (result :
   pub did : KeptHandling old new (released id old.handles) (λ own. DoesGiveBack old.caller id (others_left result) (but_loans own))
   pub ended : result ≡ gave.Ended → HasEnded new id
   pub no_words : result ≡ gave.Ended → HasNoWords new id
+  -- the pass has no other handle of it
+  pub last : result ≡ gave.Ended → ¬ (In id new.handles)
   pub outside : IsOutside pool new
   pub lasts : Lasts old new

@@ -7,6 +7,7 @@ use crate::gave_back::GaveBack;
 use crate::shutting::Shutting;
 use crate::sweeping::sweep;
 use fm_base::ArenaId;
+use fm_gate::Maker;
 use fm_rule::{Pass, Pool, alive_holds, step_back};
 use std::sync::Wait;
 
@@ -41,6 +42,7 @@ fn spend<R: Wait>(rt: &R, pool: &Pool, pass: &mut Pass, a: ArenaId) -> Option<Sh
                 arena: a,
                 next: 0,
                 ended: false,
+                maker: Maker::of(pool, pass),
             })
         }
     }

@@ -4,14 +4,16 @@ ghost use Rattle.fm_close.specs.Learnt.{AfterShut};
 
 use crate::closable::is_closable;
 use fm_base::{ArenaId, Refusal};
-use fm_gate::may_use;
+use fm_gate::{Maker, may_use};
 use fm_rule::{Pass, Pool, alive_holds, step_shut};
 
-/// A close under way: the arena was shut, and marks of so many numbers were visited. It must be spent by `sweep`.
+/// A close under way: the arena was shut, and marks of so many numbers were visited. It must be spent by
+/// `sweep`, of the pass that shut it.
 pub struct Shutting {
     pub(crate) arena: ArenaId,
     pub(crate) next: u32,
     pub(crate) ended: bool,
+    pub(crate) maker: Maker,
 }
 
 impl Shutting {
@@ -56,5 +58,6 @@ pub fn shut(pool: &Pool, pass: &mut Pass, a: ArenaId) -> Result<Shutting, Refusa
         arena: a,
         next: 0,
         ended: false,
+        maker: Maker::of(pool, pass),
     })
 }

@@ -21,6 +21,7 @@ pub fn sweep(pool: &Pool, pass: &mut Pass, s: Shutting)
         arena,
         next: _,
         ended: _,
+        maker: _,
     } = s;
     wipe(pool, pass, arena);
     step_reset_given(pool, pass, arena);

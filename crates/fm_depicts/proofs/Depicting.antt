@@ -272,7 +272,7 @@ depicts_by limit s t c (End id) reply d may = depicts_ended limit s t d c id (th
 depicts_by limit s t c (Lend block id part) reply d may = d
 depicts_by limit s t c (Back block) reply d may = d
 
-depicts_none : (limit : ℕ) → Depicts limit [] opening
+pub depicts_none : (limit : ℕ) → Depicts limit [] opening
 depicts_none limit = record {
   life = λ a. refl;
   word = λ a w. refl;

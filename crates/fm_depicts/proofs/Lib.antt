@@ -1,4 +1,6 @@
 pub mod Putting
 pub mod Depicting
+pub mod Handling
+pub mod Handles
 pub mod Allowing
 pub mod GoingOn

@@ -1,5 +1,5 @@
 -- Holds beside others.
-use Rattle.std.proofs.Common.{◌≡◌, ◌<◌, List, ◌∷◌, sym, ap, subst, arith, Result, Ok, Err, inr}
+use Rattle.std.proofs.Common.{◌≡◌, ◌∙◌, ◌<◌, List, ◌∷◌, sym, ap, subst, arith, Result, Ok, Err, inr}
 use Rattle.fm_base.specs.declared.arena_id.ArenaId.{ArenaId}
 use Rattle.fm_base.specs.declared.refusal.Refusal.{Refusal}
 use Rattle.fm_base.specs.Arenas.{same_id}
@@ -17,12 +17,18 @@ use Rattle.fm_gate.specs.Standing.{CanUnhold}
 use Rattle.fm_gate.specs.Learnt.{holds_taken}
 use Rattle.fm_gate.specs.Holding.{StandsAtHold, BothAtHold, BothStand, OneIsLeft, OthersAreLeft, HoldsStand}
 use Rattle.fm_gate.proofs.Counted.{some_in, in_released}
-use Rattle.fm_gate.proofs.Standing.{of_on}
+use Rattle.fm_gate.proofs.Standing.{made_on, of_on}
 
 -- A hold whose arena the pass still has among its holds can still be spent.
 held_on : (pool : Pool) {p q : View} {own : List Entry} (hold : Hold) → Goes p q own → In hold.arena q.holds → CanUnhold pool p hold
     → CanUnhold pool q hold
-held_on pool hold g i can = record { of = of_on pool g can.of; known = known_on g hold.arena can.known; held = i; by_hand = can.by_hand }
+held_on pool hold g i can = record {
+  of = of_on pool g can.of;
+  maker = can.maker ∙ sym (made_on g);
+  known = known_on g hold.arena can.known;
+  held = i;
+  by_hand = can.by_hand;
+}
 
 in_taken : (a b : ArenaId) (result : Result Hold Refusal) (hs : List ArenaId) → In a hs → In a (holds_taken b result hs)
 in_taken a b (Ok h) hs i = inr i

@@ -44,6 +44,7 @@ stands_by {pool = pool} {p = p} {q = q} more seen sound s =
       inside = λ a i. record { of = of i.of; inside = s.inside ∙ i.inside; no_number = s.drawn i.no_number; no_slot = s.hand ∙ i.no_slot };
       held = λ h can. record {
         of = of can.of;
+        maker = can.maker ∙ (λ j. record { home = sym s.home j; caller = sym s.caller j });
         known = l.known h.arena can.known;
         held = subst (λ (hs : List ArenaId). In h.arena hs) (sym s.holds) can.held;
         by_hand = can.by_hand;
@@ -57,6 +58,7 @@ stands_by {pool = pool} {p = p} {q = q} more seen sound s =
       };
       closes = s.closes;
       sweeps = s.sweeps;
+      home = s.home;
       caller = s.caller;
       shape = s.shape;
       lasts = l;

@@ -18,6 +18,7 @@ use Rattle.fm_gate.specs.Standing.{CanVisit}
 use Rattle.fm_gate.specs.Learnt.{AfterEnter}
 use Rattle.fm_gate.proofs.Standing.{stands_outside, stands_inside}
 use Rattle.fm_gate.proofs.Acts.{unmark_goes}
+use Rattle.fm_gate.proofs.Living.{not_held}
 
 -- What is learnt where the pass may not use the arena: no step was made.
 pub after_wrong_thread : {pool : Pool} {p : View} {a : ArenaId} → CanVisit pool p a → IsSound p → ¬ (MayUse a p.caller)
@@ -26,6 +27,7 @@ after_wrong_thread can s not_his = record {
   did = kept_none _ _ s (not_his, refl);
   inside = tt;
   outside = can.outside;
+  held = λ i e. absurd (cc);
   wrong_thread = λ e. refl;
   lasts = lasts_on (goes_none s);
 }
@@ -84,6 +86,7 @@ module _ {pool : Pool} {p q r : View} {a : ArenaId} (word : ℕ) (can : CanVisit
         inside = stands_inside g can.outside.of can.outside.no_number (hand_is checks ∙ (hand_is marks ∙ can.outside.no_slot))
             (inside_is checks ∙ ap (inside_found a) e);
         outside = tt;
+        held = λ i e. absurd (cc);
         wrong_thread = λ e. absurd (cc);
         lasts = lasts_on g;
       }
@@ -107,6 +110,7 @@ module _ {pool : Pool} {p q r : View} {a : ArenaId} (word : ℕ) (can : CanVisit
     after_closed = record {
       did = record { own = entry_of p.caller (Enter a) Closed ∷ []; does = (may, refl); goes = refused; rest = rest_is unmarks ∙ same_rest };
       inside = tt;
+      held = λ i e. not_held p.caller a refused (rest_is unmarks ∙ same_rest) i;
       outside = stands_outside refused can.outside.of can.outside.no_number
           (hand_is unmarks ∙ (hand_is checks ∙ (hand_is marks ∙ can.outside.no_slot))) (inside_is unmarks) (mark_is unmarks);
       wrong_thread = λ e. absurd (cc);

@@ -127,6 +127,7 @@ pub after_bad : {pool : Pool} {p : View} {a : ArenaId} {size align : ℕ} → Ca
 after_bad can s n = record {
   did = kept_none _ _ s (n, refl);
   gives = tt;
+  held = λ i e. absurd (cc);
   never = ((λ e. absurd (cc)), (λ e. absurd (cc)));
   bad_alignment = λ e. refl;
   wrong_thread = λ e. refl;
@@ -139,6 +140,7 @@ pub after_not_his : {pool : Pool} {p : View} {a : ArenaId} {size align : ℕ} �
 after_not_his can s power n = record {
   did = kept_none _ _ s (power, n, refl);
   gives = tt;
+  held = λ i e. absurd (cc);
   never = ((λ e. absurd (cc)), (λ e. absurd (cc)));
   bad_alignment = λ e. refl;
   wrong_thread = λ e. refl;
@@ -152,6 +154,7 @@ pub after_no_entrance : {pool : Pool} {p q : View} {a : ArenaId} {size align : �
 after_no_entrance {p = p} {a = a} {size = size} {align = align} r power h = record {
   did = record { own = h.did.own; does = does r h.did.does; goes = h.did.goes; rest = h.did.rest };
   gives = tt;
+  held = λ i e. h.held i (shut r h.did.does e);
   never = never r h.did.does;
   bad_alignment = λ e. bad r h.did.does e;
   wrong_thread = λ e. h.wrong_thread (same r h.did.does e);
@@ -174,6 +177,11 @@ after_no_entrance {p = p} {a = a} {size = size} {align = align} r power h = reco
     same refusal.Closed d e = absurd (cc)
     same r d e = absurd d
 
+    shut : (r : Refusal) → DoesEnter p.caller a (Err r) h.did.own → err r ≡ err refusal.Closed → nothing r ≡ nothing refusal.Closed
+    shut refusal.WrongThread d e = absurd (cc)
+    shut refusal.Closed d e = refl
+    shut r d e = absurd d
+
     bad : {X : Type 0} (r : Refusal) → DoesEnter p.caller a (Err r) h.did.own → err r ≡ err refusal.BadAlignment → X
     bad refusal.WrongThread d e = absurd (cc)
     bad refusal.Closed d e = absurd (cc)
@@ -194,11 +202,13 @@ never_so c a size align (Err (refusal.NoRoom given)) own d = ((λ e. absurd (cc)
 never_so c a size align (Err r) own d = absurd d
 
 unlike : {X : Type 0} (c : Caller) (a : ArenaId) (size align : ℕ) (result : Result ℕ Refusal) (own : List Entry) → DoesGive c a size align result own
-    → (result ≡ Err refusal.BadAlignment) ⊎ (result ≡ Err refusal.WrongThread) → X
+    → (result ≡ Err refusal.BadAlignment) ⊎ ((result ≡ Err refusal.WrongThread) ⊎ (result ≡ Err refusal.Closed)) → X
 unlike c a size align (Ok place) own d (inl e) = absurd (cc)
-unlike c a size align (Ok place) own d (inr e) = absurd (cc)
+unlike c a size align (Ok place) own d (inr (inl e)) = absurd (cc)
+unlike c a size align (Ok place) own d (inr (inr e)) = absurd (cc)
 unlike c a size align (Err (refusal.NoRoom given)) own d (inl e) = absurd (cc)
-unlike c a size align (Err (refusal.NoRoom given)) own d (inr e) = absurd (cc)
+unlike c a size align (Err (refusal.NoRoom given)) own d (inr (inl e)) = absurd (cc)
+unlike c a size align (Err (refusal.NoRoom given)) own d (inr (inr e)) = absurd (cc)
 unlike c a size align (Err r) own d e = absurd d
 
 -- What is learnt of the whole call.
@@ -223,9 +233,10 @@ after_allocate {p = p} {q = q} {r = r} {s = s} {a = a} {size = size} {align = al
     record {
       did = did;
       gives = allocate_gives (view_of_pass p) (view_of_pass s) a size align result (did_of p s _ did);
+      held = λ i e. unlike c a size align result gives.did.own does (inr (inr e));
       never = never_so c a size align result gives.did.own does;
       bad_alignment = λ e. unlike c a size align result gives.did.own does (inl e);
-      wrong_thread = λ e. unlike c a size align result gives.did.own does (inr e);
+      wrong_thread = λ e. unlike c a size align result gives.did.own does (inr (inl e));
       outside = leaves.outside;
       lasts = lasts_on all;
     }

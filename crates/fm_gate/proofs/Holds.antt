@@ -17,6 +17,7 @@ use Rattle.fm_rule.specs.declared.pool.Pool.{Pool}
 use Rattle.fm_calls.specs.Kept.{Goes, rest_of}
 use Rattle.fm_calls.proofs.Going.{goes_of, goes_none, no_draws, made_by-one, rest_is, hand_is, inside_is, mark_is, known_on, lasts_on}
 use Rattle.fm_gate.specs.declared.held.Hold.{Hold as TheHold}
+use Rattle.fm_gate.specs.Makers.{made_by_pass}
 use Rattle.fm_gate.specs.Standing.{IsOutside, CanVisit, CanUnhold}
 use Rattle.fm_gate.specs.Learnt.{AfterHold, AfterTake, AfterUnhold, DoesTake}
 use Rattle.fm_gate.proofs.Standing.{stands_outside, stands_inside}
@@ -29,6 +30,7 @@ pub after_unsupported : {pool : Pool} {p : View} {a : ArenaId} → CanVisit pool
 after_unsupported can s k = record {
   did = record { own = []; does = (k, refl); goes = goes_none s; rest = refl };
   held = tt;
+  alive = λ i e. absurd (cc);
   unsupported = λ e. refl;
   wrong_thread = λ e. refl;
   outside = can.outside;
@@ -40,6 +42,7 @@ pub after_not_his : {pool : Pool} {p : View} {a : ArenaId} → CanVisit pool p a
 after_not_his can s k n = record {
   did = record { own = []; does = (k, (n, refl)); goes = goes_none s; rest = refl };
   held = tt;
+  alive = λ i e. absurd (cc);
   unsupported = λ e. refl;
   wrong_thread = λ e. refl;
   outside = can.outside;
@@ -69,8 +72,8 @@ module _ {pool : Pool} {p q : View} {a : ArenaId} {word : ℕ} (can : CanVisit p
 
   refuses : (reply : Reply) (r : Refusal) (h : Option ℕ) → alive_holds a word ≡ h → hold_found h ≡ reply
       → holds_after true a reply p.holds ≡ p.holds → DoesTake p.caller a (Err r) (entry_of p.caller (Hold a) reply ∷ [])
-      → err r ≢ err refusal.Unsupported → err r ≢ err refusal.WrongThread → AfterHold pool p q a (Err r)
-  refuses reply r h f is none does n n' =
+      → err r ≢ err refusal.Unsupported → err r ≢ err refusal.WrongThread → (In a p.holds → err r ≢ err refusal.Closed) → AfterHold pool p q a (Err r)
+  refuses reply r h f is none does n n' shut =
       let w = way h reply f is in
       record {
         did = record {
@@ -80,6 +83,7 @@ module _ {pool : Pool} {p q : View} {a : ArenaId} {word : ℕ} (can : CanVisit p
           rest = w.1 ∙ ap (λ (hs : List ArenaId). record (rest_of p) { holds = hs }) none;
         };
         held = tt;
+        alive = shut;
         unsupported = λ e. absurd (n e);
         wrong_thread = λ e. absurd (n' e);
         outside = out;
@@ -89,25 +93,30 @@ module _ {pool : Pool} {p q : View} {a : ArenaId} {word : ℕ} (can : CanVisit p
   -- What is learnt where the arena wasn't alive.
   pub after_closed : alive_holds a word ≡ None → AfterHold pool p q a (Err refusal.Closed)
   after_closed f = refuses Closed refusal.Closed None f refl refl (kind, (may, refl)) (λ e. absurd (cc)) (λ e. absurd (cc))
+      (λ i e. t.alive (subst (λ (hs : List ArenaId). In a hs) (sym (holds_are a p kind)) i) f)
 
   -- Where it had the most holds.
   pub after_most : (n : ℕ) → alive_holds a word ≡ Some n → n ≡ most_holds → AfterHold pool p q a (Err refusal.TooManyHolds)
   after_most n f most =
       refuses TooManyHolds refusal.TooManyHolds (Some n) f (hold_full n most) refl (kind, (may, refl)) (λ e. absurd (cc)) (λ e. absurd (cc))
+      (λ i e. absurd (cc))
 
   -- And where it is held once more.
-  pub after_taken : (n : ℕ) (hold : TheHold) → alive_holds a word ≡ Some n → n ≢ most_holds → hold.arena ≡ a → AfterHold pool p q a (Ok hold)
-  after_taken n hold f few is =
+  pub after_taken : (n : ℕ) (hold : TheHold) → alive_holds a word ≡ Some n → n ≢ most_holds → hold.arena ≡ a → hold.maker ≡ made_by_pass q
+      → AfterHold pool p q a (Ok hold)
+  after_taken n hold f few is mine =
       let w = way (Some n) Fine f (hold_fine n few) in
       let known : IsKnown q a = known_on w.0 a can.known in
       record {
         did = record { own = entry_of p.caller (Hold a) Fine ∷ []; does = (is, (kind, (may, refl))); goes = w.0; rest = w.1 };
         held = record {
           of = out.of;
+          maker = mine;
           known = subst (λ (x : ArenaId). IsKnown q x) (sym is) known;
           held = subst (λ (hs : List ArenaId). In hold.arena hs) (sym (ap (λ (r : Rest). r.holds) w.1)) (inl is);
           by_hand = subst (λ (x : ArenaId). x.kind ≢ Automatic) (sym is) kind;
         };
+        alive = λ i e. absurd (cc);
         unsupported = λ e. absurd (cc);
         wrong_thread = λ e. absurd (cc);
         outside = out;

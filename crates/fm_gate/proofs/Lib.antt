@@ -9,6 +9,7 @@ pub mod Takes
 pub mod Holds
 pub mod Handles
 pub mod Lasting
+pub mod Living
 pub mod Outliving
 pub mod Crews
 pub mod Counted

@@ -7,7 +7,12 @@ use Rattle.fm_pool_facts.specs.Views.{View}
 use Rattle.fm_rule.specs.declared.pool.Pool.{Pool}
 use Rattle.fm_rule.specs.Passes.{IsOf}
 use Rattle.fm_calls.specs.Kept.{Goes}
+use Rattle.fm_gate.specs.Makers.{made_by_pass}
 use Rattle.fm_gate.specs.Standing.{IsOutside, IsInside}
+
+-- It is the maker that it was.
+pub made_on : {p q : View} {own : List Entry} → Goes p q own → made_by_pass q ≡ made_by_pass p
+made_on g = λ j. record { home = g.same_home j; caller = g.same_caller j }
 
 -- It is still one of its pool.
 pub of_on : (pool : Pool) {p q : View} {own : List Entry} → Goes p q own → IsOf pool p → IsOf pool q

@@ -28,6 +28,7 @@ pub record StandsOn (pool : Pool) (old new : View) : Type 0 where
   pub nothing : HasNothing old → HasNothing new
   pub closes : new.closes ≡ old.closes
   pub sweeps : new.sweeps ≡ old.sweeps
+  pub home : new.home ≡ old.home
   pub caller : new.caller ≡ old.caller
   pub shape : new.shape ≡ old.shape
   pub lasts : Lasts old new

@@ -26,6 +26,8 @@ pub record AfterEnter (pool : Pool) (old new : View) (id : ArenaId) (result : Re
   pub did : Kept old new (DoesEnter old.caller id result)
   pub inside : IfOk result (λ _. IsInside pool new id)
   pub outside : IfErr result (λ _. IsOutside pool new)
+  -- an arena that the pass has a hold or a handle of is alive
+  pub held : In id (grips id old) → result ≢ Err refusal.Closed
   -- then the pass is as it was
   pub wrong_thread : result ≡ Err WrongThread → new ≡ old
   pub lasts : Lasts old new
@@ -51,6 +53,8 @@ pub record AfterLeave (pool : Pool) (old new : View) : Type 0 where
 -- of `is_alive`
 pub record AfterIsAlive (pool : Pool) (old new : View) (id : ArenaId) (result : Result Bool Refusal) : Type 0 where
   pub did : Kept old new (DoesIsAlive old.caller id result)
+  -- an arena that the pass has a hold or a handle of is alive
+  pub held : In id (grips id old) → IfOk result (λ alive. alive ≡ true)
   pub outside : IsOutside pool new
   -- then the pass is as it was
   pub wrong_thread : result ≡ Err WrongThread → new ≡ old
@@ -106,6 +110,8 @@ pub record AfterGive (pool : Pool) (old new : View) (id : ArenaId) (size align :
 pub record AfterAllocate (pool : Pool) (old new : View) (id : ArenaId) (size align : ℕ) (result : Result ℕ Refusal) : Type 0 where
   pub did : Kept old new (λ own. DoesAllocate old.caller id size align result (but_loans own))
   pub gives : IfOk result (λ place. Gives (view_of_pass old) (view_of_pass new) id size align place)
+  -- an arena that the pass has a hold or a handle of is alive
+  pub held : In id (grips id old) → result ≢ Err refusal.Closed
   -- slots have all their words, and no memory is taken
   pub never : IfErr result (λ r. (r ≢ refusal.PoolFull) × (r ≢ refusal.Memory))
   -- then the pass is as it was
@@ -139,6 +145,8 @@ holds_taken id (Err r) hs = hs
 pub record AfterHold (pool : Pool) (old new : View) (id : ArenaId) (result : Result Hold Refusal) : Type 0 where
   pub did : KeptHolding old new (holds_taken id result old.holds) (DoesTake old.caller id result)
   pub held : IfOk result (λ hold. CanUnhold pool new hold)
+  -- an arena that the pass has a hold of is alive
+  pub alive : In id old.holds → result ≢ Err refusal.Closed
   -- then the pass is as it was
   pub unsupported : result ≡ Err refusal.Unsupported → new ≡ old
   pub wrong_thread : result ≡ Err WrongThread → new ≡ old

@@ -1,3 +1,4 @@
+pub mod Makers
 pub mod Standing
 pub mod Learnt
 pub mod Lasting

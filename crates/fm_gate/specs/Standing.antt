@@ -7,6 +7,7 @@ use Rattle.fm_pool_facts.specs.Views.{View, In, IsKnown, given_of}
 use Rattle.fm_rule.specs.declared.pool.Pool.{Pool}
 use Rattle.fm_rule.specs.Passes.{IsOf}
 use Rattle.fm_gate.specs.declared.held.Hold.{Hold}
+use Rattle.fm_gate.specs.Makers.{made_by_pass}
 
 -- in no arena; it publishes no mark, and has no number and no slot in its hand
 pub record IsOutside (pool : Pool) (p : View) : Type 0 where
@@ -47,6 +48,7 @@ pub record CanLeave (pool : Pool) (p : View) : Type 0 where
 -- the pass took the hold, and may stand anywhere
 pub record CanUnhold (pool : Pool) (p : View) (hold : Hold) : Type 0 where
   pub of : IsOf pool p
+  pub maker : hold.maker ≡ made_by_pass p
   pub known : IsKnown p hold.arena
   pub held : In hold.arena p.holds
   pub by_hand : hold.arena.kind ≢ Automatic

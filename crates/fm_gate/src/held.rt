@@ -1,8 +1,10 @@
+use crate::maker::Maker;
 use fm_base::ArenaId;
 
-/// A hold of an arena: it can't be shut meanwhile. It must be spent by `unhold`.
+/// A hold of an arena: it can't be shut meanwhile. It must be spent by `unhold`, of the pass that took it.
 pub struct Hold {
     pub(crate) arena: ArenaId,
+    pub(crate) maker: Maker,
 }
 
 impl Hold {

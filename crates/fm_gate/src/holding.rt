@@ -5,6 +5,7 @@ ghost use Rattle.fm_gate.specs.Standing.{CanVisit, CanUnhold};
 ghost use Rattle.fm_gate.specs.Learnt.{AfterHold, AfterTake, AfterUnhold};
 
 use crate::held::Hold;
+use crate::maker::Maker;
 use crate::usable::may_use;
 use fm_base::{ArenaId, Kind, Refusal};
 use fm_rule::{MOST_HOLDS, Pass, Pool, alive_holds, step_hold, step_unhold};
@@ -32,7 +33,10 @@ pub fn hold<R: Wait>(rt: &R, pool: &Pool, pass: &mut Pass, a: ArenaId) -> Result
             if holds == MOST_HOLDS {
                 return Err(Refusal::TooManyHolds);
             }
-            Ok(Hold { arena: a })
+            Ok(Hold {
+                arena: a,
+                maker: Maker::of(pool, pass),
+            })
         }
     }
 }
@@ -58,11 +62,11 @@ pub(crate) fn take<R: Wait>(rt: &R, pool: &Pool, pass: &mut Pass, a: ArenaId) ->
     unreachable!()
 }
 
-/// Spends a hold.
+/// Spends a hold that the pass took.
 pub fn unhold(pool: &Pool, pass: &mut Pass, hold: Hold)
     requires { CanUnhold pool.now pass.old hold }
     ensures { AfterUnhold pool.now pass.old pass.new hold.arena }
 {
-    let Hold { arena } = hold;
+    let Hold { arena, maker: _ } = hold;
     step_unhold(pool, pass, arena);
 }

@@ -4,8 +4,8 @@
 //! last act. A closer shuts the arena, and only then looks at the marks. So at most one of the two can miss the other.
 //!
 //! No call takes memory. A call that takes a runtime may try again while other passes change the same word; the others
-//! wait for nobody. Where a call is refused, the
-//! pass is outside and publishes no mark.
+//! wait for nobody. Where a call is refused the pass stands where it stood: outside, without a mark, but for [`again`],
+//! which may be called inside.
 #![tactic(auto)]
 
 mod acting;
@@ -17,6 +17,7 @@ mod held;
 mod holding;
 mod laws;
 mod leaving;
+mod maker;
 mod opening;
 mod patching;
 mod usable;
@@ -30,6 +31,7 @@ pub use held::Hold;
 pub use holding::{hold, unhold};
 pub use laws::{a_crew_stands, a_hold_stands, both_holds_stand};
 pub use leaving::leave;
+pub use maker::Maker;
 pub use opening::open_arena;
 pub use patching::patch;
 pub use usable::may_use;

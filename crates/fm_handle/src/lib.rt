@@ -15,13 +15,19 @@
 //! int before = (int) amount.getAndAdd(segment, 0L, 2L, 100);
 //! ```
 //!
-//! and here (held by the test `accounts_are_added_to` of `fm_memory_tests`):
+//! and here, as the test `accounts_are_added_to` of `fm_memory_tests` has it:
 //!
 //! ```
-//! let path = parse_path(alloc, ".rows[].amount")?;
-//! let amount = VarHandle::of(resolve(alloc, &accounts, &path)?);
-//! let before = amount.get_and_add(&rt, &mut memory, &segment, 0, &[2], Value::Int(100))?;
+//! let path = parse_path(rt.alloc(), ".rows[].amount")?;
+//! let amount = VarHandle::of(resolve(rt.alloc(), &accounts(&rt, rt.alloc()), &path)?);
+//! let v = Value::Int(100);
+//! takes(&rt, &amount, &[2]);
+//! holds(&rt, &amount, v);
+//! let before = amount.get_and_add(&rt, &mut memory, &segment, 0, &[2], v)?;
 //! ```
+//!
+//! A call asks for as many indices as the path leaves open, and for a value of the layout's kind: `takes` and `holds`
+//! stop where `resolved().dims().len()` and `resolved().value().kind` are others.
 //!
 //! `get` and `set` work on every value. The updates work where the value lies in one word: an int or a long whose
 //! alignment is at least its size. Those with a `long` in their names wait for nobody; the others take `rt`, since they

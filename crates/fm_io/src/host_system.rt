@@ -1,4 +1,5 @@
 ghost use Rattle.std.specs.Prelude.{◌≤◌, ◌≢◌, None, IfOk, IfErr, length};
+ghost use Rattle.std.specs.Io.KnownBytes.{ReadConsumes};
 ghost use Rattle.std.specs.IoError.{error_kind};
 
 use crate::system::{System, Way};
@@ -23,6 +24,7 @@ impl<R: rt::Files> HostSystem<R> {
 /// One read, made again where a signal interrupts it, as std's readers do.
 pub fn read_uninterrupted<F: Read>(file: &mut F, buf: &mut [u8]) -> io::Result<usize>
     ensures bound { IfOk result (λ n. n ≤ length buf.old) }
+    ensures bytes { ReadConsumes (F.remaining file.old) (F.remaining file.new) result buf.new }
     ensures retried { IfErr result (λ e. error_kind e ≢ ErrorKind.Interrupted) }
 {
     for _ in 0..u64::MAX {

@@ -22,13 +22,15 @@ impl MemFiles {
     ghost use Rattle.fm_io.specs.Failing.{listed_calls, calls_made, calls_failed};
     ghost use Rattle.fm_io.specs.InMemory.{mem_contents, mem_misses, mem_reads, read_limit};
 
-    /// The reads whose numbers, from 0, are in `failing` fail. Where a name is listed twice, the first counts.
+    /// The reads whose numbers, from 0, are in `failing` fail. Where a name is listed twice, the first counts. A piece is
+    /// as long as there is room for.
     pub fn new(files: Vec<(String, Vec<u8>)>, failing: Vec<u64>) -> MemFiles
         ensures contents { mem_contents result ≡ contents_of files.items }
         ensures listed { listed_calls (mem_reads result) ≡ failing.items }
         ensures made { calls_made (mem_reads result) ≡ 0 }
         ensures failed { calls_failed (mem_reads result) ≡ 0 }
         ensures misses { mem_misses result ≡ 0 }
+        ensures limit { read_limit result ≡ usize.MAX }
     {
         MemFiles {
             files,

@@ -19,12 +19,13 @@ impl MemSink {
     ghost use Rattle.fm_io.specs.Failing.{listed_calls, calls_made, calls_failed};
     ghost use Rattle.fm_io.specs.InMemory.{mem_written, mem_writes, write_limit};
 
-    /// The writes whose numbers, from 0, are in `failing` fail.
+    /// The writes whose numbers, from 0, are in `failing` fail. Each other write takes its whole piece.
     pub fn new(alloc: Global, failing: Vec<u64>) -> MemSink
         ensures written { mem_written result ≡ [] }
         ensures listed { listed_calls (mem_writes result) ≡ failing.items }
         ensures made { calls_made (mem_writes result) ≡ 0 }
         ensures failed { calls_failed (mem_writes result) ≡ 0 }
+        ensures limit { write_limit result ≡ usize.MAX }
     {
         MemSink {
             written: Vec::new(alloc),

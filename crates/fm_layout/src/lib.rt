@@ -7,16 +7,23 @@
 //! A record of 24 bytes, an id, a kind, a price and four tags:
 //!
 //! ```
-//! let members = vec![in alloc;
-//!     Layout::value(ValueKind::Int).with_name(alloc, "id")?,
-//!     Layout::value(ValueKind::Short).with_name(alloc, "kind")?,
-//!     Layout::padding(2)?,
-//!     Layout::value(ValueKind::Long).with_name(alloc, "price")?,
-//!     Layout::sequence(alloc, 4, Layout::value(ValueKind::Byte))?.with_name(alloc, "tags")?,
-//!     Layout::padding(4)?,
-//! ]?;
-//! let sale = Layout::structure(members)?;
+//! pub fn sale(alloc: Global) -> Result<Layout, Refusal> {
+//!     let members = vec![in alloc;
+//!         Layout::value(ValueKind::Int).with_name(alloc, "id")?,
+//!         Layout::value(ValueKind::Short).with_name(alloc, "kind")?,
+//!         Layout::padding(2)?,
+//!         Layout::value(ValueKind::Long).with_name(alloc, "price")?,
+//!         Layout::sequence(alloc, 4, Layout::value(ValueKind::Byte))?.with_name(alloc, "tags")?,
+//!         Layout::padding(4)?,
+//!     ];
+//!     match members {
+//!         Ok(members) => Layout::structure(members),
+//!         Err(_) => Err(Refusal::Memory),
+//!     }
+//! }
 //! ```
+//!
+//! (`record.rt` of `fm_layout_tests` has these lines; what a `vec!` hands back in its error is no `Refusal`.)
 //!
 //! No padding is put in by itself: without the 2 bytes of padding `structure` answers that member 2 would stand at
 //! offset 6, which is no multiple of its alignment.

@@ -1,9 +1,8 @@
-use crate::record::sale;
+use crate::record::{printed, sale};
 use fm_base::Refusal;
-use fm_lanes::{Order, ValueKind};
-use fm_layout::{Form, Layout};
+use fm_layout::Layout;
 use fm_ljson::layout_from_json;
-use std::alloc::Global;
+use std::alloc::{AllocError, Global};
 use std::test::Fail;
 
 /// The layout of a text that has `'` for each quotation mark.
@@ -28,134 +27,41 @@ fn reads_a_record(rt: HostRuntime) -> Result<(), Fail> {
     Ok(())
 }
 
+/// Texts of layouts, and what each is: its form, its size and alignment, and its name behind a dot.
+const READ: &str = "\
+{'type':'byte'} -> Value(Byte, Little) 1 1 .
+{'type':'boolean'} -> Value(Boolean, Little) 1 1 .
+{'type':'char','order':'big'} -> Value(Char, Big) 2 2 .
+{'type':'short','order':'little'} -> Value(Short, Little) 2 2 .
+{'type':'int','align':1} -> Value(Int, Little) 4 1 .
+{'type':'long','align':1099511627776} -> Value(Long, Little) 8 1099511627776 .
+ { 'type' : 'int' , 'name' : '_a9' }  -> Value(Int, Little) 4 4 ._a9
+{'type':'padding','size':3,'name':'p'} -> Padding 3 1 .p
+{'type':'padding','size':1099511627776} -> Padding 1099511627776 1 .
+{'type':'sequence','count':0,'element':{'type':'int'}} -> Sequence(0) 0 4 .
+{'type':'sequence','count':2,'element':{'type':'int'},'align':16,'name':'s'} -> Sequence(2) 8 16 .s
+{'type':'struct','members':[]} -> Struct(0) 0 1 .
+{'type':'union','members':[{'type':'byte'},{'type':'long'}],'align':32,'name':'u'} -> Union(2) 8 32 .u
+{'type':'struct','members':[{'type':'int'},{'type':'padding','size':4},{'type':'long'}]} -> Struct(3) 16 8 .
+{'type':'byte','type':'int'} -> Value(Int, Little) 4 4 .
+{'type':'int','align':3,'align':2} -> Value(Int, Little) 4 2 .
+{'\\u0074ype':'int'} -> Value(Int, Little) 4 4 .";
+
+/// What the layout is, as a row tells it.
+fn layout_text(alloc: Global, layout: &Layout) -> Result<String, AllocError> {
+    let form = layout.form();
+    let (size, alignment) = (layout.size(), layout.alignment());
+    let name = layout.name().unwrap_or("");
+    format!(in alloc; "{form:?} {size} {alignment} .{name}")
+}
+
 #[test]
 fn reads_each_type_and_key(rt: HostRuntime) -> Result<(), Fail> {
-    for (text, form, size, alignment, name) in [
-        (
-            "{'type':'byte'}",
-            Form::Value(ValueKind::Byte, Order::Little),
-            1,
-            1,
-            None,
-        ),
-        (
-            "{'type':'boolean'}",
-            Form::Value(ValueKind::Boolean, Order::Little),
-            1,
-            1,
-            None,
-        ),
-        (
-            "{'type':'char','order':'big'}",
-            Form::Value(ValueKind::Char, Order::Big),
-            2,
-            2,
-            None,
-        ),
-        (
-            "{'type':'short','order':'little'}",
-            Form::Value(ValueKind::Short, Order::Little),
-            2,
-            2,
-            None,
-        ),
-        (
-            "{'type':'int','align':1}",
-            Form::Value(ValueKind::Int, Order::Little),
-            4,
-            1,
-            None,
-        ),
-        (
-            "{'type':'long','align':1099511627776}",
-            Form::Value(ValueKind::Long, Order::Little),
-            8,
-            1 << 40,
-            None,
-        ),
-        (
-            " { 'type' : 'int' , 'name' : '_a9' } ",
-            Form::Value(ValueKind::Int, Order::Little),
-            4,
-            4,
-            Some("_a9"),
-        ),
-        (
-            "{'type':'padding','size':3,'name':'p'}",
-            Form::Padding,
-            3,
-            1,
-            Some("p"),
-        ),
-        (
-            "{'type':'padding','size':1099511627776}",
-            Form::Padding,
-            1 << 40,
-            1,
-            None,
-        ),
-        (
-            "{'type':'sequence','count':0,'element':{'type':'int'}}",
-            Form::Sequence(0),
-            0,
-            4,
-            None,
-        ),
-        (
-            "{'type':'sequence','count':2,'element':{'type':'int'},'align':16,'name':'s'}",
-            Form::Sequence(2),
-            8,
-            16,
-            Some("s"),
-        ),
-        (
-            "{'type':'struct','members':[]}",
-            Form::Struct(0),
-            0,
-            1,
-            None,
-        ),
-        (
-            "{'type':'union','members':[{'type':'byte'},{'type':'long'}],'align':32,'name':'u'}",
-            Form::Union(2),
-            8,
-            32,
-            Some("u"),
-        ),
-        (
-            "{'type':'struct','members':[{'type':'int'},{'type':'padding','size':4},{'type':'long'}]}",
-            Form::Struct(3),
-            16,
-            8,
-            None,
-        ),
-        (
-            "{'type':'byte','type':'int'}",
-            Form::Value(ValueKind::Int, Order::Little),
-            4,
-            4,
-            None,
-        ),
-        (
-            "{'type':'int','align':3,'align':2}",
-            Form::Value(ValueKind::Int, Order::Little),
-            4,
-            2,
-            None,
-        ),
-        (
-            "{'\\u0074ype':'int'}",
-            Form::Value(ValueKind::Int, Order::Little),
-            4,
-            4,
-            None,
-        ),
-    ] {
+    for row in READ.lines() {
+        let (text, is) = row.split_once(" -> ").unwrap_or((row, ""));
         let layout = read(rt.alloc(), text)?;
-        assert_eq!(rt; layout.form(), form, "at {text}");
-        assert_eq!(rt; layout.size(), size, "at {text}");
-        assert_eq!(rt; layout.alignment(), alignment, "at {text}");
-        assert_eq!(rt; layout.name(), name, "at {text}");
+        let found = layout_text(rt.alloc(), &layout)?;
+        assert_eq!(rt; found.as_str(), is, "at {text}");
     }
     Ok(())
 }
@@ -249,55 +155,30 @@ fn names_the_node_that_breaks_a_rule(rt: HostRuntime) {
     }
 }
 
+/// Texts of layouts that the constructors refuse, and how their refusals are printed.
+const REFUSED: &str = "\
+{'type':'int','align':0} -> 9
+{'type':'int','align':24} -> 9
+{'type':'struct','members':[{'type':'int'},{'type':'long'}]} -> 21 1 4
+{'type':'sequence','count':1099511627776,'element':{'type':'long'}} -> 20
+{'type':'struct','members':[{'type':'padding','size':1099511627776},{'type':'byte'}]} -> 20
+{'type':'sequence','count':2,'element':{'type':'struct','members':[{'type':'long'},{'type':'int'}]}} -> 22
+{'type':'padding','size':0} -> 23
+{'type':'struct','members':[{'type':'long'}],'align':4} -> 24 8
+{'type':'sequence','count':0,'element':{'type':'short'},'align':1} -> 24 2
+{'type':'union','members':[{'type':'padding','size':0},{'type':'int','align':3}],'align':5} -> 23
+{'type':'union','members':[{'type':'int','align':3},{'type':'padding','size':0}],'align':5} -> 9
+{'type':'struct','members':[{'type':'byte'},{'type':'int'}],'align':3} -> 21 1 1
+{'type':'struct','members':[{'type':'byte'},{'type':'int'},{'type':'padding','size':0}]} -> 23";
+
 #[test]
-fn refuses_as_the_constructors_do(rt: HostRuntime) {
-    for (text, refusal) in [
-        ("{'type':'int','align':0}", Refusal::BadAlignment),
-        ("{'type':'int','align':24}", Refusal::BadAlignment),
-        (
-            "{'type':'struct','members':[{'type':'int'},{'type':'long'}]}",
-            Refusal::MemberMisaligned(1, 4),
-        ),
-        (
-            "{'type':'sequence','count':1099511627776,'element':{'type':'long'}}",
-            Refusal::Overflow,
-        ),
-        (
-            "{'type':'struct','members':[{'type':'padding','size':1099511627776},{'type':'byte'}]}",
-            Refusal::Overflow,
-        ),
-        (
-            "{'type':'sequence','count':2,'element':{'type':'struct','members':[{'type':'long'},{'type':'int'}]}}",
-            Refusal::ElementRagged,
-        ),
-        ("{'type':'padding','size':0}", Refusal::BadPadding),
-        (
-            "{'type':'struct','members':[{'type':'long'}],'align':4}",
-            Refusal::AlignmentBelow(8),
-        ),
-        (
-            "{'type':'sequence','count':0,'element':{'type':'short'},'align':1}",
-            Refusal::AlignmentBelow(2),
-        ),
-        (
-            "{'type':'union','members':[{'type':'padding','size':0},{'type':'int','align':3}],'align':5}",
-            Refusal::BadPadding,
-        ),
-        (
-            "{'type':'union','members':[{'type':'int','align':3},{'type':'padding','size':0}],'align':5}",
-            Refusal::BadAlignment,
-        ),
-        (
-            "{'type':'struct','members':[{'type':'byte'},{'type':'int'}],'align':3}",
-            Refusal::MemberMisaligned(1, 1),
-        ),
-        (
-            "{'type':'struct','members':[{'type':'byte'},{'type':'int'},{'type':'padding','size':0}]}",
-            Refusal::BadPadding,
-        ),
-    ] {
-        assert_eq!(rt; read(rt.alloc(), text).err(), Some(refusal), "at {text}");
+fn refuses_as_the_constructors_do(rt: HostRuntime) -> Result<(), Fail> {
+    for row in REFUSED.lines() {
+        let (text, refusal) = row.split_once(" -> ").unwrap_or((row, ""));
+        let found = printed(rt.alloc(), read(rt.alloc(), text).err())?;
+        assert_eq!(rt; found.as_str(), refusal, "at {text}");
     }
+    Ok(())
 }
 
 /// An int in so many sequences of one.

@@ -4,26 +4,24 @@ use std::test::Fail;
 
 const NAME_OF_64: &str = "aaaaaaaaaaaaaaaaaaaaaaaaaaaaaaaaaaaaaaaaaaaaaaaaaaaaaaaaaaaaaaaa";
 
-const PIECES_64: &str =
-    "[][][][][][][][][][][][][][][][][][][][][][][][][][][][][][][][][][][][][][][][][][][][][][][][][][][][][][][][][][][][][][][][]";
+/// How many steps paths have, and their texts.
+const PATHS: &str = "\
+0 .
+1 .id
+2 .a.b
+1 .#0
+1 []
+5 .tags[4:-2].#7[][3]
+1 .#1099511627776
+1 [1099511627776:-1099511627776]
+1 .aaaaaaaaaaaaaaaaaaaaaaaaaaaaaaaaaaaaaaaaaaaaaaaaaaaaaaaaaaaaaaaa
+64 [][][][][][][][][][][][][][][][][][][][][][][][][][][][][][][][][][][][][][][][][][][][][][][][][][][][][][][][][][][][][][][][]";
 
 #[test]
 fn reads_paths(rt: HostRuntime) -> Result<(), Fail> {
-    for (text, steps) in [
-        (".", 0),
-        (".id", 1),
-        (".a.b", 2),
-        (".#0", 1),
-        ("[]", 1),
-        (".tags[4:-2].#7[][3]", 5),
-        (".#1099511627776", 1),
-        ("[1099511627776:-1099511627776]", 1),
-        (
-            ".aaaaaaaaaaaaaaaaaaaaaaaaaaaaaaaaaaaaaaaaaaaaaaaaaaaaaaaaaaaaaaaa",
-            1,
-        ),
-        (PIECES_64, 64),
-    ] {
+    for row in PATHS.lines() {
+        let (steps, text) = row.split_once(' ').unwrap_or(("", row));
+        let steps: usize = steps.parse().unwrap_or(usize::MAX);
         let path = parse_path(rt.alloc(), text)?;
         assert_eq!(rt; path.len(), steps, "at {text}");
     }
@@ -43,31 +41,29 @@ fn reads_each_step(rt: HostRuntime) -> Result<(), Fail> {
     Ok(())
 }
 
+/// How many bytes of texts that are no path some path's text begins with, and these texts.
+const NO_PATHS: &str = "\
+0\x20
+0 a
+3 .a[
+1 .[0]
+1 ..
+1 .1
+1 .\u{e9}
+2 .a b
+2 [01]
+4 [1:-0]
+3 [1:]
+14 .#1099511627777
+15 [0:1099511627777]
+65 .aaaaaaaaaaaaaaaaaaaaaaaaaaaaaaaaaaaaaaaaaaaaaaaaaaaaaaaaaaaaaaaaa
+128 [][][][][][][][][][][][][][][][][][][][][][][][][][][][][][][][][][][][][][][][][][][][][][][][][][][][][][][][][][][][][][][][][]";
+
 #[test]
 fn refuses_at_the_longest_prefix(rt: HostRuntime) {
-    for (text, at) in [
-        ("", 0),
-        ("a", 0),
-        (".a[", 3),
-        (".[0]", 1),
-        ("..", 1),
-        (".1", 1),
-        (".\u{e9}", 1),
-        (".a b", 2),
-        ("[01]", 2),
-        ("[1:-0]", 4),
-        ("[1:]", 3),
-        (".#1099511627777", 14),
-        ("[0:1099511627777]", 15),
-        (
-            ".aaaaaaaaaaaaaaaaaaaaaaaaaaaaaaaaaaaaaaaaaaaaaaaaaaaaaaaaaaaaaaaaa",
-            65,
-        ),
-        (
-            "[][][][][][][][][][][][][][][][][][][][][][][][][][][][][][][][][][][][][][][][][][][][][][][][][][][][][][][][][][][][][][][][][]",
-            128,
-        ),
-    ] {
+    for row in NO_PATHS.lines() {
+        let (at, text) = row.split_once(' ').unwrap_or(("", row));
+        let at: u64 = at.parse().unwrap_or(u64::MAX);
         match parse_path(rt.alloc(), text) {
             Err(Refusal::BadQuery(found)) => assert_eq!(rt; found, at, "at {text}"),
             _ => assert!(rt; false, "at {text}"),

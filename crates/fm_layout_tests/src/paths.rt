@@ -1,4 +1,4 @@
-use crate::record::sale;
+use crate::record::{printed, sale};
 use fm_base::Refusal;
 use fm_lanes::{Order, ValueKind};
 use fm_layout::Layout;
@@ -75,29 +75,30 @@ fn offsets_back_to_the_start(rt: HostRuntime) -> Result<(), Fail> {
     Ok(())
 }
 
+/// Paths that lead to no value of a sale, and how their refusals are printed.
+const NO_VALUES: &str = "\
+.nope -> 31 0
+.#6 -> 31 0
+.id.x -> 30 1
+.id.#0 -> 30 1
+.kind[0] -> 32 1
+.kind[] -> 32 1
+.kind[0:0] -> 32 1
+.tags[4] -> 33 1
+.tags[4:1] -> 33 1
+.tags[4:0] -> 36 1
+.tags -> 35
+.#2 -> 35
+. -> 35";
+
 #[test]
 fn refuses_at_the_first_step(rt: HostRuntime) -> Result<(), Fail> {
     let layout = sale(rt.alloc())?;
-    for (text, refusal) in [
-        (".nope", Refusal::NoMember(0)),
-        (".#6", Refusal::NoMember(0)),
-        (".id.x", Refusal::NotGroup(1)),
-        (".id.#0", Refusal::NotGroup(1)),
-        (".kind[0]", Refusal::NotSequence(1)),
-        (".kind[]", Refusal::NotSequence(1)),
-        (".kind[0:0]", Refusal::NotSequence(1)),
-        (".tags[4]", Refusal::IndexOut(1)),
-        (".tags[4:1]", Refusal::IndexOut(1)),
-        (".tags[4:0]", Refusal::BadStep(1)),
-        (".tags", Refusal::NotValue),
-        (".#2", Refusal::NotValue),
-        (".", Refusal::NotValue),
-    ] {
+    for row in NO_VALUES.lines() {
+        let (text, refusal) = row.split_once(" -> ").unwrap_or((row, ""));
         let path = parse_path(rt.alloc(), text)?;
-        match resolve(rt.alloc(), &layout, &path) {
-            Ok(_) => assert!(rt; false, "at {text}"),
-            Err(found) => assert_eq!(rt; found, refusal, "at {text}"),
-        }
+        let found = printed(rt.alloc(), resolve(rt.alloc(), &layout, &path).err())?;
+        assert_eq!(rt; found.as_str(), refusal, "at {text}");
     }
     Ok(())
 }

@@ -1,10 +1,10 @@
+use fm_base::Refusal;
 use fm_lanes::ValueKind;
 use fm_layout::Layout;
-use std::alloc::Global;
-use std::test::Fail;
+use std::alloc::{AllocError, Global};
 
 /// The record of `fm_layout`'s documentation, of 24 bytes: an id, a kind, a price and four tags.
-pub fn sale(alloc: Global) -> Result<Layout, Fail> {
+pub fn sale(alloc: Global) -> Result<Layout, Refusal> {
     let members = vec![in alloc;
         Layout::value(ValueKind::Int).with_name(alloc, "id")?,
         Layout::value(ValueKind::Short).with_name(alloc, "kind")?,
@@ -12,6 +12,17 @@ pub fn sale(alloc: Global) -> Result<Layout, Fail> {
         Layout::value(ValueKind::Long).with_name(alloc, "price")?,
         Layout::sequence(alloc, 4, Layout::value(ValueKind::Byte))?.with_name(alloc, "tags")?,
         Layout::padding(4)?,
-    ]?;
-    Ok(Layout::structure(members)?)
+    ];
+    match members {
+        Ok(members) => Layout::structure(members),
+        Err(_) => Err(Refusal::Memory),
+    }
+}
+
+/// How the refusal is printed, if there is one.
+pub fn printed(alloc: Global, refusal: Option<Refusal>) -> Result<String, AllocError> {
+    match refusal {
+        Some(refusal) => format!(in alloc; "{refusal}"),
+        None => Ok(String::new(alloc)),
+    }
 }

@@ -10,7 +10,7 @@ use Rattle.fm_base.specs.Machine.{words_within, rounded_up, allocate_reply, give
 use Rattle.fm_base.proofs.Growing.{le-rounded_up}
 use Rattle.fm_base.proofs.Lookup.{changed_same}
 use Rattle.fm_mono.specs.declared.arena.MonoArena.{MonoArena}
-use Rattle.fm_mono.specs.Shown.{shown, shown_all, IsSoundMono, filled}
+use Rattle.fm_mono.specs.Shown.{shown, shown_all, seen_of, IsSoundMono, filled, WantsWords}
 use Rattle.fm_mono.proofs.Showing.{change_shown, CountFrom-set}
 use Rattle.fm_mono.proofs.Steps.{IsPlaced, placed_read, life_true, fit_set, sound_set}
 
@@ -78,6 +78,14 @@ module _ (limit : ℕ) (inside : Option ArenaId) (os : List MonoArena) (a : Aren
       let w = (s.fit a.slot o r.place).words r.alive in
       let up = le-rounded_up o.given align h in
       omega arith
+
+  -- words are wanted that a vector with this room for words has not
+  pub wants_words : (size align capacity : ℕ) → length o.words.items ≤ capacity → capacity < words_within (rounded_up o.given align + size)
+      → rounded_up o.given align + size ≤ limit → WantsWords (seen_of limit inside os) a size align
+  wants_words size align capacity most more room =
+      let w = (s.fit a.slot o r.place).words r.alive in
+      let grows : words_within o.given < words_within (rounded_up o.given align + size) = omega arith in
+      record { alive = rw (r.looked, r.alive) refl; room = rw r.looked room; grows = rw r.looked grows }
 
   -- bytes are given
   pub allotted_shown : (end : ℕ) (o' : MonoArena) → end ≤ limit → o'.id ≡ o.id → o'.is_alive ≡ o.is_alive → o'.given ≡ end

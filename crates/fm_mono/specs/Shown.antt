@@ -1,12 +1,12 @@
 -- What contracts see of a `Mono`, and the machine's arena that each of its arenas is.
-use Rattle.std.specs.Prelude.{◌≡◌, ℕ, zero, suc, ◌+◌, ◌-◌, ◌^◌, ◌≤◌, Bool, true, false, if◌then◌else◌, List, [], ◌∷◌, ◌++◌, Option, Some, None, length, replicate, slice_get, Result, Ok, Err, vec_capacity}
+use Rattle.std.specs.Prelude.{◌≡◌, ℕ, zero, suc, ◌+◌, ◌-◌, ◌^◌, ◌<◌, ◌≤◌, Bool, true, false, if◌then◌else◌, List, [], ◌∷◌, ◌++◌, Option, Some, None, length, replicate, slice_get, Result, Ok, Err, vec_capacity}
 use Rattle.fm_base.specs.declared.arena_id.ArenaId.{ArenaId}
 use Rattle.fm_base.specs.declared.kind.Kind.TheVariants.{Global}
 use Rattle.fm_base.specs.declared.refusal.Refusal.{Refusal}
 use Rattle.fm_base.specs.declared.refusal.Refusal.TheVariants as refusal
 use Rattle.fm_base.specs.Arenas.{owner_of, only_caller, State, Arena, Alive, Ended, MayUse, same_id, arena_of, has_arena, changed, word_in, IsUnderWay}
 use Rattle.fm_base.specs.Calls.{Allocate, Given, NoRoom}
-use Rattle.fm_base.specs.Machine.{words_within, reply_to, given_up_to, written, left, IsUnderWayNowhere, MayReach, MayPut}
+use Rattle.fm_base.specs.Machine.{words_within, rounded_up, reply_to, given_up_to, written, left, IsUnderWayNowhere, MayReach, MayPut}
 use Rattle.fm_base.specs.View.{View}
 use Rattle.fm_base.specs.Outcomes.{Nature}
 use Rattle.fm_mono.specs.declared.arena.MonoArena.{MonoArena}
@@ -149,3 +149,9 @@ Allots old a size align (Err (refusal.NoRoom given)) new =
     (NoRoom given ≡ reply_to old.limit old.state (Allocate a size align)) × (new ≡ old)
 Allots old a size align (Err refusal.Memory) new = new ≡ old
 Allots old a size align (Err r) new = ⊥
+
+-- when an allocation may want memory: the arena is alive and has the room, and it needs more words than hold the bytes given so far
+pub record WantsWords (m : Arenas) (id : ArenaId) (size align : ℕ) : Type 0 where
+  pub alive : (arena_of m.state id).life ≡ Alive
+  pub room : rounded_up (arena_of m.state id).given align + size ≤ m.limit
+  pub grows : words_within (arena_of m.state id).given < words_within (rounded_up (arena_of m.state id).given align + size)

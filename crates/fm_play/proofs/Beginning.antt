@@ -62,6 +62,7 @@ module _ (s : ScriptOf) (w : IsWritten s) (order : List Line) (names : Numbers) 
       only = record {
         whole = record { sound = sound; whole = ap (λ (v : View). v.whole) first };
         unused = ap (λ (v : View). v.seen) first;
+        first = ap (λ (v : View). v.caller.number) first;
         no_slot = has_no_slot p (ap (λ (v : View). v.hand) first) (ap (λ (v : View). v.sweeps) first);
         alone = ap (λ (v : View). v.gathered) first;
       };

@@ -20,6 +20,7 @@ use Rattle.fm_run.specs.declared.standing.Standing.TheVariants.{Nothing}
 use Rattle.fm_run.specs.Numbers.{number_at}
 use Rattle.fm_run.specs.Standings.{IsBacked, lent, standing_as, standing_at}
 use Rattle.fm_run.specs.Tokens.{Backs}
+use Rattle.fm_gate.specs.Makers.{made_by_pass}
 use Rattle.fm_run.proofs.Backing.{backs_still}
 use Rattle.fm_workers.specs.Crew.{AreDone, CrewWorked, IsWhole}
 use Rattle.fm_play.specs.declared.player.Player.{Player}
@@ -45,7 +46,7 @@ pub crew_backs : {T : Type 0} (Does : View → T → T → List Entry → Type 0
     → Backs new holds handles base own
 crew_backs Does old new tasks done r w holds handles base own b =
     let is = w.crew.is in
-    backs_still old new b (lasts_of old new w.lasts (ap (λ (v : View). v.shape) is) (ap (λ (v : View). v.caller) is))
+    backs_still old new b (lasts_of old new w.lasts (ap (λ (v : View). v.shape) is) (ap (λ (v : View). v.caller) is)) (ap made_by_pass is)
     (ap (λ (v : View). v.holds) is) (ap (λ (v : View). v.handles) is)
 
 module _ (w : Playing) (p : View) (sound : IsSound p) (known : All (λ s. IsBacked p (lent s)) w.firsts) where

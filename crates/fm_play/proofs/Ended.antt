@@ -5,10 +5,9 @@ use Rattle.std.proofs.lemmas.List.{length-map}
 use Rattle.fm_base.specs.declared.arena_id.ArenaId.{ArenaId}
 use Rattle.fm_base.specs.declared.caller.Caller.{Caller}
 use Rattle.fm_base.specs.Calls.{Entry}
-use Rattle.fm_base.specs.Histories.{IsLegal, IsTidy}
-use Rattle.fm_pool_facts.specs.Loans.{IsRightlyLent}
-use Rattle.fm_pool_facts.specs.Views.{limit_of, span}
-use Rattle.fm_rule.specs.Finishing.{FinishedView}
+use Rattle.fm_base.specs.Histories.{IsTidy}
+use Rattle.fm_pool_facts.specs.Views.{limit_of}
+use Rattle.fm_rule.specs.Finishing.{FinishedView, IsFinished}
 use Rattle.fm_script.specs.declared.line.Line.{Line}
 use Rattle.fm_script.specs.Scripts.{ScriptOf}
 use Rattle.fm_run.specs.declared.lent.Lent.{Lent}
@@ -93,14 +92,12 @@ module _ (s : ScriptOf) (order : List Line) (names : Numbers) (caller : Caller) 
       → opened ≡ arenas_lent main.lent.items → cs ≡ caller ∷ map (λ (p : Player). p.caller) players → replies ≡ all_replies
       → AreTold order replies ts → r ≡ report_of (arena_by (number_at names) opened) s.lines ts cs f → IsRunOf s r
   run_told opened cs replies ts r arenas by answers told is =
-      let legal = h.finished.legal in
       let report = tells s played f opened (number_at names) r order replies ts cs is h.shape did (by ∙ all_callers) printed
       (sym replied ∙ sym answers) told numbered (arenas ∙ opened_are) in
       let same : r.finished ≡ f = ap (λ (v : ReportView). v.finished) is in
       record {
         report = report;
-        legal = subst (λ (g : FinishedView). IsLegal (limit_of g.shape) [] g.history) (sym same) legal;
+        finished = subst (λ (g : FinishedView). IsFinished g) (sym same) h.finished;
         tidy = subst (λ (g : FinishedView). IsTidy (limit_of g.shape) [] g.history) (sym same)
-            (report_tidy s (limit_of f.shape) f.history played h.can.rules.said did legal);
-        lent = subst (λ (g : FinishedView). IsRightlyLent (span g.shape) (limit_of g.shape) g.history) (sym same) h.finished.lent;
+            (report_tidy s (limit_of f.shape) f.history played h.can.rules.said did h.finished.legal);
       }

@@ -5,6 +5,7 @@ pub mod Gathered
 pub mod Finding
 pub mod Reported
 pub mod Running
+pub mod Sharing
 pub mod Telling
 pub mod Ended
 pub mod Beginning
@@ -14,3 +15,7 @@ pub mod Outside
 pub mod Arranged
 pub mod Crewed
 pub mod Passing
+pub mod Once
+pub mod Bringing
+pub mod Alive
+pub mod Counted

@@ -26,6 +26,7 @@ use Rattle.fm_run.specs.Calls.{Adds, Allocates, Asks, CallDoes, Closes, Compares
 use Rattle.fm_run.specs.Lines.{behind, is_number}
 use Rattle.fm_run.specs.Outcomes.{outcome, plain}
 use Rattle.fm_run.specs.Report.{Done, AreRun, names_after, names_behind, runs}
+use Rattle.fm_gate.specs.Makers.{Made as MadeBy}
 use Rattle.fm_run.specs.Standings.{IsBacked, Names, hold_of, handle_of, handled_as, held_as, lent, opened_as, stands_of, unheld, handed_back}
 use Rattle.fm_run.proofs.Backing.{segment_known}
 use Rattle.fm_run.proofs.Lines.{slice_known}
@@ -37,21 +38,21 @@ module _ (p : View) (sound : IsSound p) where
   backed_nothing : (s : Standing) → lent s ≡ standing.Nothing → IsBacked p (lent s)
   backed_nothing s is = subst (λ (x : Standing). IsBacked p x) (sym is) tt
 
-  by_kind : (k : Kind) (id : ArenaId) → IsKnown p id → IsBacked p (lent (opened_as k id))
-  by_kind kind.Global id known = known
-  by_kind kind.Automatic id known = known
-  by_kind kind.Confined id known = known
-  by_kind kind.Shared id known = known
+  by_kind : (m : MadeBy) (k : Kind) (id : ArenaId) → IsKnown p id → IsBacked p (lent (opened_as m k id))
+  by_kind m kind.Global id known = known
+  by_kind m kind.Automatic id known = known
+  by_kind m kind.Confined id known = known
+  by_kind m kind.Shared id known = known
 
-  opens : (c : Caller) (k : Kind) (result : Result ArenaId Refusal) (out : Outcome) (own : List Entry) → DoesOpen c k result (but_loans own)
-      → out ≡ coming (λ id. outcome reply.Fine (opened_as k id)) result → ((e : Entry) → IsAmong e own → IsAmong e p.seen)
+  opens : (c : Caller) (m : MadeBy) (k : Kind) (result : Result ArenaId Refusal) (out : Outcome) (own : List Entry) → DoesOpen c k result (but_loans own)
+      → out ≡ coming (λ id. outcome reply.Fine (opened_as m k id)) result → ((e : Entry) → IsAmong e own → IsAmong e p.seen)
       → IsBacked p (lent out.made)
-  opens c k (Ok id) out own did is seen =
+  opens c m k (Ok id) out own did is seen =
       let e : Entry = entry_of c (Open id) Fine in
       let among : IsAmong e (but_loans own) = subst (λ (es : List Entry). IsAmong e es) (sym did.2) (inl refl) in
       let known = opened_there (limit_of p.shape) [] p.seen e id sound.legal (seen e (among_kept (λ x. not (is_loan x.call)) e own among)) refl in
-      subst (λ (x : Outcome). IsBacked p (lent x.made)) (sym is) (by_kind k id known)
-  opens c k (Err r) out own did is seen = backed_nothing out.made (ap (λ (y : Outcome). lent y.made) is)
+      subst (λ (x : Outcome). IsBacked p (lent x.made)) (sym is) (by_kind m k id known)
+  opens c m k (Err r) out own did is seen = backed_nothing out.made (ap (λ (y : Outcome). lent y.made) is)
 
   allocates : (c : Caller) (id : ArenaId) (size align : ℕ) (result : Result ℕ Refusal) (out : Outcome) (own : List Entry)
       → DoesAllocate c id size align result (but_loans own)
@@ -92,9 +93,9 @@ module _ (p : View) (sound : IsSound p) where
     -- What a line made is known.
     pub line_known : (k : Command) (out : Outcome) (own : List Entry) → CallDoes c stands k out own → ((e : Entry) → IsAmong e own → IsAmong e p.seen)
         → IsBacked p (lent out.made)
-    line_known (command.Open name kind) out own d seen = opens c kind d.0 out own d.1 d.2 seen
+    line_known (command.Open name kind) out own d seen = opens c d.0 kind d.1.0 out own d.1.1.1 d.1.2 seen
     line_known (command.Alloc arena name size align) out own d seen =
-        by_name (arena_at c stands arena) (Allocates c size align) out own (λ id a. allocates c id size align a.0 out own a.1 a.2 seen) d
+        by_name (arena_at c stands arena) (Allocates c size align) out own (λ id a. allocates c id size align a.0 out own a.1.1 a.2 seen) d
     line_known (command.Slice segment name offset size) out own d seen =
         some_segment (segment_at c stands segment) _ out own (segment_known p (stands segment) (known segment)) d
         (λ r k a. slices offset size r a.0 out k a.1.0 a.2)
@@ -121,12 +122,12 @@ module _ (p : View) (sound : IsSound p) where
     line_known (command.Alive arena) out own d seen =
         by_name (arena_at c stands arena) (Asks c) out own (λ id a. by_answer (λ alive. plain (reply.Truth alive)) (λ v. tt) out a.0 a.2) d
     line_known (command.Hold arena name) out own d seen =
-        by_name (arena_at c stands arena) (Holds c) out own (λ id a. by_answer (λ u. outcome reply.Fine (held_as id)) (λ v. tt) out a.0 a.2) d
+        by_name (arena_at c stands arena) (Holds c) out own (λ id a. by_answer (λ u. outcome reply.Fine (held_as a.0 id)) (λ v. tt) out a.1.0 a.1.2) d
     line_known (command.Unhold hold) out own d seen =
         by_name (hold_of (stands hold)) (Unholds c) out own (λ id a. subst (λ (o : Outcome). IsBacked p (lent o.made)) (sym a.0) tt) d
     line_known (command.Again handle name) out own d seen =
         by_name (handle_of (stands handle)) (TakesAgain c) out own
-        (λ id a. by_answer (λ u. outcome reply.Fine (handled_as id)) (λ v. tt) out a.0 a.2) d
+        (λ id a. by_answer (λ u. outcome reply.Fine (handled_as a.0 id)) (λ v. tt) out a.1.0 a.1.2) d
     line_known (command.Back handle) out own d seen =
         by_name (handle_of (stands handle)) (GivesBack c) out own (λ id a. subst (λ (o : Outcome). IsBacked p (lent o.made)) (sym a.2) tt) d
     line_known (command.Close arena) out own d seen =

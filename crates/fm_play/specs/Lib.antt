@@ -1,3 +1,4 @@
+pub mod Alive
 pub mod Players
 pub mod Runs
 pub mod Staying

@@ -35,6 +35,7 @@ pub record IsWritten (s : ScriptOf) : Type 0 where
 pub record IsOnly (p : View) : Type 0 where
   pub whole : IsWhole p
   pub unused : p.seen ≡ []
+  pub first : p.caller.number ≡ 0
   pub no_slot : HasNoSlot p
   pub alone : p.gathered ≡ []
 

@@ -2,6 +2,7 @@
 #![tactic(auto)]
 
 mod joining;
+mod laws;
 mod lines;
 mod main_lines;
 mod over;
@@ -9,4 +10,5 @@ mod player;
 mod players;
 mod run;
 
+pub use laws::alive_arenas_fit;
 pub use run::run_script;

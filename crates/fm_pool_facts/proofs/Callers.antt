@@ -69,6 +69,10 @@ module _ (z : Shape) (h : List Entry) (m : Memory) (t : Machine) (o : Owners) (j
       let y = has_number n v.gathered i in (y.0, subst (In y.0) (sym all_now) y.1, y.2))
       (all_below m.draw nums nums_apart nums_below (let x = numbers_long v.gathered in omega arith) n b)
 
+  -- so the pass has each that was drawn
+  pub has_each : length v.gathered + 1 ≡ m.draw → (n : ℕ) → n < m.draw → HasCaller v n
+  has_each e n b = dite (ℕ_discrete n v.caller.number) inl (λ ne. let g = counted e n b ne in inr (g.0, subst (In g.0) all_now g.1, g.2))
+
   -- and where they are all, they are as many
   pub counted_all : ((n : ℕ) → n < m.draw → HasCaller v n) → m.draw ≡ length v.gathered + 1
   counted_all has =

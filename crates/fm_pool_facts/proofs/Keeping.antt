@@ -14,7 +14,7 @@ use Rattle.fm_base.specs.Histories.{made_by}
 use Rattle.fm_base.specs.Finds.{Find, Gathered, Close}
 use Rattle.fm_depicts.specs.Functions.{Machine}
 use Rattle.fm_depicts.specs.Steps.{moved_by}
-use Rattle.fm_pool_facts.specs.Views.{Met, View, In, IsSound, all_gathered, brought, limit_of}
+use Rattle.fm_pool_facts.specs.Views.{Met, View, In, IsSound, all_gathered, brought, limit_of, HasOwnHandles}
 use Rattle.fm_base.specs.declared.arena_id.ArenaId.{ArenaId}
 use Rattle.fm_pool_facts.specs.Parts.{Swept, unread, named, wiping}
 use Rattle.fm_pool_facts.specs.Facts.{Memory, Owners, IsStanding, IsAt, IsNext, HasSwept, HasPages, IsClosing, IsSweeping, IsGathered, IsOnce, IsSilent, Begins, Somewhere, Owns, Knows}
@@ -192,6 +192,7 @@ module _ (z : Shape) (h : List Entry) (me : ℕ) (c : Caller) (m : Memory) (t : 
           ungathered = y.ungathered;
           silent = silent_on (limit_of z) h c m t es m' d.allowed n far (d.marks n far) y.silent;
         };
+    handles = k.handles;
     whole = λ e. absurd (lone e);
     seen_all = λ e. absurd (lone e);
   }
@@ -243,8 +244,8 @@ module _ (z : Shape) (h zs : List Entry) (me : ℕ) (m m' : Memory) (t : Machine
   seen_is : w.seen ≡ h ++ es
   seen_is = ap (λ (xs : List Entry). (xs ++ zs) ++ es) s.seen ∙ ap (λ (xs : List Entry). xs ++ es) (sym is)
 
-  pub own_view : Part z m' (moved_by t es) o' me p → Knows z (h ++ es) m' (moved_by t es) o' me w
-  own_view q =
+  pub own_view : Part z m' (moved_by t es) o' me p → HasOwnHandles w → Knows z (h ++ es) m' (moved_by t es) o' me w
+  own_view q handles =
       let u = k.owns l in
       let ok = d.allowed in
       let num : p.caller.number ≡ v.caller.number = ap (λ (x : Caller). x.number) s.caller in
@@ -266,6 +267,7 @@ module _ (z : Shape) (h zs : List Entry) (me : ℕ) (m m' : Memory) (t : Machine
           hand = q.hand;
           took = q.took;
           pages = q.pages;
+          handles = handles;
           coming = λ x i. absurd i;
           one_each = subst (IsOnce (λ (g : Gathered). g.caller.number)) (sym (append-nil (all_gathered p) ∙ same_all)) u.one_each;
           gathered = λ g i.

@@ -8,6 +8,7 @@ pub mod Handing
 pub mod Keeping
 pub mod Summing
 pub mod Gripping
+pub mod Handles
 pub mod Counting
 pub mod Callers
 pub mod Lending

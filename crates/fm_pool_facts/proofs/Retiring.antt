@@ -58,12 +58,12 @@ module _ (z : Shape) (m : Memory) (t : Machine) (r : World z m t) where
     }
 
   -- the bit is set of a slot that is free and has a generation left
-  pub world_give : (bits k g : ℕ) → m.sessions k ≡ free g → g < z.generations → ((s : ℕ) → s ≢ k → bit_at bits s ≡ bit_at m.bits s)
+  pub world_give : (bits k g : ℕ) → k < z.slots → m.sessions k ≡ free g → g < z.generations → ((s : ℕ) → s ≢ k → bit_at bits s ≡ bit_at m.bits s)
       → World z (record m { bits = bits }) t
-  world_give bits k g f low others = record {
+  world_give bits k g slot f low others = record {
     marked = r.marked;
     sessions = r.sessions;
-    slots = slots_given z m.bits bits m.sessions r.slots k g f low others;
+    slots = slots_given z m.bits bits m.sessions r.slots k g slot f low others;
     counts = r.counts;
     givens = r.givens;
   }

@@ -23,7 +23,7 @@ use Rattle.fm_pool_facts.specs.Moves.{Moved, Same, Part, KeepsCloses, KeepsSweep
 use Rattle.std.specs.Int.{bit_at}
 use Rattle.std.specs.Prelude.{Contains}
 use Rattle.fm_pool_facts.proofs.Handing.{slot_below}
-use Rattle.fm_pool_facts.specs.Holds.{holds_of}
+use Rattle.fm_pool_facts.specs.Holds.{grips, holds_of}
 use Rattle.fm_pool_facts.specs.Loans.{Loan, lent, loans_after, IsRightlyLent}
 use Rattle.fm_pool_facts.specs.Moves.{MayLend}
 use Rattle.fm_pool_facts.proofs.Lending.{over_now, loans_after-append, lent-append, lent_on}
@@ -32,7 +32,9 @@ use Rattle.fm_pool_facts.proofs.Alone.{none_now}
 use Rattle.fm_pool_facts.proofs.Gone.{none_founded, found_on, founded_on, founded_told}
 use Rattle.fm_pool_facts.proofs.Callers.{all_now, few_gathered, whole_has, knows_callers}
 use Rattle.fm_pool_facts.proofs.Frame.{legal_on}
-use Rattle.fm_pool_facts.proofs.Summing.{total-set}
+use Rattle.fm_pool_facts.proofs.Summing.{total-set, total-has, some_hold}
+use Rattle.fm_pool_facts.proofs.Gripping.{held_now, held_lives}
+use Rattle.fm_pool_facts.proofs.Handles.{handles_told}
 use Rattle.fm_pool_facts.proofs.Founds.{NoneDrawn, NoDraw, none_within, find_within, terms_on, counted_later, counted_told, counted_set}
 use Rattle.fm_pool_facts.proofs.Keeping.{set_there, in_left, stays_somewhere, silent_on, others_know, own_view, gives_by}
 
@@ -59,6 +61,23 @@ limit_below z v =
     let c : y ≤ 16777216 = v.words in
     let d : x * 8 ≤ 2 ^ 40 = omega arith in
     d
+
+-- an arena that is alive
+alive_now : (b : Bool) (l : Life) → stage_of b l ≡ Lives → (b ≡ true) × (l ≡ Alive)
+alive_now true Alive e = (refl, refl)
+alive_now true Closing e = absurd (cc)
+alive_now true Ended e = absurd (cc)
+alive_now false l e = absurd (cc)
+
+-- an arena of which a live view has a hold is alive
+lives_held : (z : Shape) (ws : List ℕ) (vs : List View) (r : Rule z ws vs) (me : ℕ) (v : View) → get_elem? vs me ≡ some v → v.live ≡ true
+    → (a : ArenaId) → In a (grips a v) → r.machine.life a ≡ Lives
+lives_held z ws vs r me v at l a i =
+    let here = some_hold a (grips a v) i in
+    let mine = held_now a v l in
+    let most = total-has (holds_of a) vs me v at in
+    let all = r.held a in
+    held_lives a r.machine (r.world.counts.only a) (omega arith)
 
 nobody : (ks : List Caller) → ((k : Caller) → ¬ (Contains ks k)) → ks ≡ []
 nobody [] n = refl
@@ -174,6 +193,10 @@ sound_of z ws vs r me v at l lone q =
           (λ (x : (g : Gathered) × In g v.gathered × In f g.finds).
           ((r.founds me v at).theirs x.0 (in_left x.0 v.gathered (brought v.met) x.1) f x.2).page p h) i in
           subst (λ (x : Shape × List Entry). FewLeft x.0 x.1 f) (λ n. (sym e n, sym q n)) y;
+      held = λ a i.
+          let y = alive_now (has_arena s a) (arena_of s a).life (sym (r.depicts.life a) ∙ lives_held z ws vs r me v at l a i) in
+          (ap (λ (x : State). has_arena x a) st ∙ y.0, ap (λ (x : State). (arena_of x a).life) st ∙ y.1);
+      own_handles = u.handles;
       none_left = λ w n c f h.
           none_now z me v l ws vs r at w n q c f (⊎_elim
           (λ (x : (c ≡ v.caller) × In f v.finds). subst (λ (k : Caller). FoundBy z r.history r.memory r.owners.taker r.machine.life k f) (sym x.0)
@@ -348,7 +371,8 @@ keeps_with z ws ws' vs r me v p es fs m' o' at l d s nd new lends pages kc kw ks
           omega arith;
       each = λ j y at'. ⊎_elim
           (λ (e : (j ≡ me) × (w ≡ y)). subst (λ (x : ℕ × View). Knows z (r.history ++ es) m' t' o' x.0 x.1) (λ i. (sym e.0 i, e.1 i))
-          (own_view z r.history zs me r.memory m' r.machine r.owners o' es fs v p k l d is s q))
+          (own_view z r.history zs me r.memory m' r.machine r.owners o' es fs v p k l d is s q
+          (handles_told (limit_of z) r.machine v p r.history zs es fs l d.allowed is u.mine s kh u.handles)))
           (λ (e : (j ≢ me) × (get_elem? vs j ≡ some y)). others_know z r.history me v.caller r.memory r.machine r.owners es m' o' d u.seated u.number
           (λ c a x. (r.world.marked c a x).stands) j y e.0
           (r.each j y e.1))

@@ -182,6 +182,7 @@ slots_used z bits sessions r k x n zero = record {
   bit_is = λ s b. put_cases sessions k x s (λ (y : Session). (g : ℕ) × (y ≡ free g) × (g < z.generations))
       (λ e. absurd (zero (ap (bit_at bits) (sym e) ∙ b)))
       (λ ne. r.bit_is s b);
+  low = r.low;
   within = λ s g. put_cases sessions k x s (λ (y : Session). y ≡ free g → g ≤ z.generations) (λ e q. absurd (n g q)) (λ ne q. r.within s g q);
 }
 
@@ -192,15 +193,17 @@ slots_retired z bits sessions r k next zero low = record {
   bit_is = λ s b. put_cases sessions k (free next) s (λ (y : Session). (g : ℕ) × (y ≡ free g) × (g < z.generations))
       (λ e. absurd (zero (ap (bit_at bits) (sym e) ∙ b)))
       (λ ne. r.bit_is s b);
+  low = r.low;
   within = λ s g. put_cases sessions k (free next) s (λ (y : Session). y ≡ free g → g ≤ z.generations)
       (λ e q. let i : next ≡ g = cc in omega arith)
       (λ ne q. r.within s g q);
 }
 
 -- a bit is set of a slot that is free and has a generation left
-pub slots_given : (z : Shape) (bits bits' : ℕ) (sessions : ℕ → Session) → Slots z bits sessions → (k g : ℕ) → sessions k ≡ free g → g < z.generations
-    → ((s : ℕ) → s ≢ k → bit_at bits' s ≡ bit_at bits s) → Slots z bits' sessions
-slots_given z bits bits' sessions r k g f low others = record {
+pub slots_given : (z : Shape) (bits bits' : ℕ) (sessions : ℕ → Session) → Slots z bits sessions → (k g : ℕ) → k < z.slots → sessions k ≡ free g
+    → g < z.generations → ((s : ℕ) → s ≢ k → bit_at bits' s ≡ bit_at bits s) → Slots z bits' sessions
+slots_given z bits bits' sessions r k g slot f low others = record {
   bit_is = λ s b. dite (ℕ_discrete s k) (λ e. (g, ap sessions e ∙ f, low)) (λ n. r.bit_is s (sym (others s n) ∙ b));
+  low = λ s b. dite (ℕ_discrete s k) (λ (e : s ≡ k). omega arith) (λ n. r.low s (sym (others s n) ∙ b));
   within = r.within;
 }

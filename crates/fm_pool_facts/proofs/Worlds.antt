@@ -231,7 +231,7 @@ module _ (z : Shape) (m : Memory) (t : Machine) (r : World z m t) where
   world_bits bits less = record {
     marked = λ c b i. let w = r.marked c b i in record { number = w.number; term = w.term; mark = w.mark; stands = w.stands };
     sessions = r.sessions;
-    slots = record { bit_is = λ s b. r.slots.bit_is s (less s b); within = r.slots.within };
+    slots = record { bit_is = λ s b. r.slots.bit_is s (less s b); low = λ s b. r.slots.low s (less s b); within = r.slots.within };
     counts = r.counts;
     givens = r.givens;
   }

@@ -13,7 +13,7 @@ use Rattle.fm_base.specs.Finds.{Find, Gathered, Close, is_draw}
 use Rattle.fm_depicts.specs.Functions.{Stage, Fresh, Lives, Closes, Over, Machine, Depicts}
 use Rattle.std.specs.Int.{bit_at}
 use Rattle.fm_pool_facts.specs.Hands.{Hand, nothing, taken, learnt, retired, HasSlot, IsTaker}
-use Rattle.fm_pool_facts.specs.Views.{Met, View, Fits, In, all_gathered, limit_of}
+use Rattle.fm_pool_facts.specs.Views.{Met, View, Fits, In, HasOwnHandles, all_gathered, limit_of}
 pub use Rattle.fm_pool_facts.specs.Views.{IsOnce, Begins}
 pub use Rattle.fm_pool_facts.specs.Memory.{Session, free, live, shut, Memory, session_code, own_map, Shows, IsStanding, IsShown}
 pub use Rattle.fm_pool_facts.specs.Berths.{Berth, loose, claimed, mapped, unmapped, IsAt}
@@ -46,9 +46,10 @@ pub record Sessions (z : Shape) (sessions : ℕ → Session) (life : ArenaId →
   pub before : (s g : ℕ) → sessions s ≡ free (g + 1) → (a : ArenaId) × (a.slot ≡ s) × (a.generation ≡ g) × (life a ≢ Fresh)
   pub fits : (a : ArenaId) → life a ≢ Fresh → Fits z a
 
--- slots whose bit is 1 are free, and have a generation left
+-- slots whose bit is 1 are free, and have a generation left; no bit is 1 where there is no slot
 pub record Slots (z : Shape) (bits : ℕ) (sessions : ℕ → Session) : Type 0 where
   pub bit_is : (s : ℕ) → bit_at bits s ≡ 1 → (g : ℕ) × (sessions s ≡ free g) × (g < z.generations)
+  pub low : (s : ℕ) → bit_at bits s ≡ 1 → s < z.slots
   pub within : (s g : ℕ) → sessions s ≡ free g → g ≤ z.generations
 
 -- session words count the holds
@@ -188,6 +189,7 @@ pub record Owns (z : Shape) (h : List Entry) (m : Memory) (t : Machine) (o : Own
   pub hand : HasInHand z m.bits m.sessions o.holder j v.hand
   pub took : IsTaker o.taker v.caller v.hand
   pub pages : HasPages z m.maps m.cells o.berth j v.inside v.reads v.pages v.sweeps v.swept
+  pub handles : HasOwnHandles v
   pub gathered : (g : Gathered) → In g v.gathered → IsGathered h m t o j v v.seen g
   pub coming : (x : Met) → In x v.met → (g : Gathered) → In g x.gathered → IsGathered h m t o j v x.seen g
   pub one_each : IsOnce (λ (g : Gathered). g.caller.number) (all_gathered v)

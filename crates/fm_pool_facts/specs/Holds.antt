@@ -1,20 +1,12 @@
 -- The holds that passes have; those of an automatic arena are its handles.
-use Rattle.std.specs.Prelude.{ℕ, ◌+◌, Bool, true, false, if◌then◌else◌, List, [], ◌∷◌}
+use Rattle.std.specs.Prelude.{ℕ, ◌+◌, Bool, true, if◌then◌else◌, List, [], ◌∷◌}
 use Rattle.fm_base.specs.declared.arena_id.ArenaId.{ArenaId}
-use Rattle.fm_base.specs.declared.kind.Kind.{Kind}
-use Rattle.fm_base.specs.declared.kind.Kind.TheVariants.{Automatic}
 use Rattle.fm_base.specs.Arenas.{same_id}
 use Rattle.fm_base.specs.Calls.{Reply, Fine}
-use Rattle.fm_depicts.specs.Functions.{Stage, Lives, Machine}
+use Rattle.fm_depicts.specs.Functions.{Machine}
+pub use Rattle.fm_depicts.specs.Handles.{one_if, one_alive}
 use Rattle.fm_pool_facts.specs.Views.{View}
-
-abbrev pub is_automatic : Kind → Bool
-is_automatic Automatic = true
-is_automatic kind = false
-
--- the holds of the view that are of the arena's sort
-abbrev pub grips : ArenaId → View → List ArenaId
-grips a v = if is_automatic a.kind then v.handles else v.holds
+pub use Rattle.fm_pool_facts.specs.Views.{is_automatic, grips, how_many}
 
 -- the view with these in their place
 abbrev pub with_grips : ArenaId → List ArenaId → View → View
@@ -37,14 +29,6 @@ abbrev pub released : ArenaId → List ArenaId → List ArenaId
 released a [] = []
 released a (b ∷ bs) = if same_id b a then bs else b ∷ released a bs
 
-abbrev pub one_if : Bool → ℕ
-one_if true = 1
-one_if false = 0
-
-abbrev pub how_many : ArenaId → List ArenaId → ℕ
-how_many a [] = 0
-how_many a (b ∷ bs) = one_if (same_id b a) + how_many a bs
-
 -- how many holds of the arena the view has
 abbrev pub holds_of : ArenaId → View → ℕ
 holds_of a v = if v.live then how_many a (grips a v) else 0
@@ -52,10 +36,6 @@ holds_of a v = if v.live then how_many a (grips a v) else 0
 abbrev pub total : (View → ℕ) → List View → ℕ
 total f [] = 0
 total f (v ∷ vs) = f v + total f vs
-
-abbrev pub one_alive : Stage → ℕ
-one_alive Lives = 1
-one_alive stage = 0
 
 -- how many holds of the arena all views have: an automatic one that is alive has a handle more than the machine counts
 abbrev pub all_holds : ArenaId → Machine → ℕ

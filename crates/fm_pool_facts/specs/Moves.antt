@@ -14,7 +14,7 @@ use Rattle.std.specs.Int.{bit_at}
 use Rattle.fm_pool_facts.specs.Hands.{nothing, IsTaker}
 use Rattle.fm_pool_facts.specs.declared.step.Step.{Step}
 use Rattle.fm_pool_facts.specs.declared.step.Step.TheVariants.{Visits, Draws, Holds, Backs, TakesSlot, ReadsMap, Maps, Allocates}
-use Rattle.fm_pool_facts.specs.Views.{Met, View, In, IsSound, IsBusy, all_gathered, HasFind, HasAllDrawn, given_of, limit_of}
+use Rattle.fm_pool_facts.specs.Views.{Met, View, In, IsSound, IsBusy, all_gathered, HasCaller, HasFind, HasAllDrawn, given_of, limit_of}
 use Rattle.fm_pool_facts.specs.Steps.{part, entries, noted}
 use Rattle.fm_pool_facts.specs.Words.{own_word, alive_holds}
 use Rattle.fm_pool_facts.specs.Holds.{grips, holds_of, all_holds}
@@ -156,13 +156,17 @@ pub record LearnsCount (v : View) (x : ℕ) : Type 0 where
   pub own : v.caller.number < x
   pub few : x ≤ v.shape.passes
   pub whole : v.whole ≡ true → x ≡ length v.gathered + 1
+  -- one that has as many has each of them
+  pub all : length v.gathered + 1 ≡ x → (n : ℕ) → n < x → HasCaller v n
   -- a pass that has the first number and each that its finds drew has them all too
   pub complete : HasAllDrawn v → x ≡ length v.gathered + 1
   -- and the count never falls
   pub later : (f : Find) → HasFind v f → is_draw f.step ≡ true → f.found ≤ x
 
--- what is learnt by the word x of slot bits, where the pass is known to be whole
+-- what is learnt by the word x of slot bits: where it isn't 0 some slot's bit is 1; and by a pass that is known to be whole
 pub record LearnsSlots (v : View) (x : ℕ) : Type 0 where
+  pub some : x ≢ 0 → (s : ℕ) × (s < v.shape.slots) × (bit_at x s ≡ 1)
+  pub low : (s : ℕ) → bit_at x s ≡ 1 → s < v.shape.slots
   pub idle : v.whole ≡ true → (s : ℕ) → s < v.shape.slots → bit_at x s ≡ 1 → ¬ (IsBusy v s)
   pub busy : v.whole ≡ true → v.hand ≡ nothing → v.sweeps ≡ [] → (s : ℕ) → s < v.shape.slots → bit_at x s ≡ 0 → IsBusy v s
 

@@ -79,6 +79,8 @@ pub record ShowsHistory (z : Shape) (words : List ℕ) (h : List Entry) : Type 0
   pub named : (a : ArenaId) (w : ℕ) → (arena_of (state_after (limit_of z) [] h) a).life ≢ Ended → 8 * w < (arena_of (state_after (limit_of z) [] h) a).given
       → ShowsWord z words (state_after (limit_of z) [] h) a w
   pub fits : (a : ArenaId) → has_arena (state_after (limit_of z) [] h) a ≡ true → Fits z a
+  -- no bit is 1 where there is no slot
+  pub no_slot : (k : ℕ) → bit_at (slice_index words (at z slot_bits)) k ≡ 1 → k < z.slots
   pub slots : (k : ℕ) → k < z.slots
       → ShowsSlot z words (state_after (limit_of z) [] h) k (session_of (slice_index words (at z (session k))))
 

@@ -95,10 +95,10 @@ number_drawn z expected found = if found == expected then (if nat_le (expected +
 abbrev pub draw_next : (drawn passes : ℕ) → ℕ
 draw_next drawn passes = if nat_le (drawn + 1) passes then drawn + 1 else drawn
 
--- a pass that drew is not known to be whole any more; one that found as many numbers as it has is
-abbrev pub draws : Option ℕ → (found : ℕ) → View → View
-draws (Some n) found v = record v { drawn = Some n; whole = false }
-draws None found v = record v { whole = if v.whole then true else (length v.gathered + 1 == found) }
+-- a pass that drew is not known to be whole any more; one that looks, since no pool has drawn 0 numbers, and found as many as it has, is
+abbrev pub draws : Option ℕ → (expected found : ℕ) → View → View
+draws (Some n) expected found v = record v { drawn = Some n; whole = false }
+draws None expected found v = record v { whole = if v.whole then true else (expected == 0 && (length v.gathered + 1 == found)) }
 
 abbrev pub caller_drawn : Option ℕ → Option Caller
 caller_drawn None = None
@@ -147,7 +147,7 @@ part (ReturnsPage a p) v x = record v { swept = unread; sweeps = visited a v.swe
 part (ResetsGiven a) v x = record v { sweeps = visited a v.sweeps }
 part (Retires a) v x = record v { sweeps = dropped a v.sweeps; hand = hand_retired (a.generation + 1 == v.shape.generations) a.slot v.hand }
 part (GivesSlot slot) v x = record v { hand = nothing }
-part (Draws expected) v x = draws (number_drawn v.shape expected x) x v
+part (Draws expected) v x = draws (number_drawn v.shape expected x) expected x v
 part Looks v x = v
 
 -- the entries that it makes

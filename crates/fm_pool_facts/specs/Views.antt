@@ -5,9 +5,12 @@ use Rattle.fm_words.specs.declared.shape.Shape.{Shape}
 use Rattle.fm_words.specs.Shapes.{IsValid}
 use Rattle.fm_base.specs.declared.caller.Caller.{Caller}
 use Rattle.fm_base.specs.declared.arena_id.ArenaId.{ArenaId}
-use Rattle.fm_base.specs.Arenas.{State, Ended, IsUnderWay, has_arena, arena_of, owner_of}
+use Rattle.fm_base.specs.declared.kind.Kind.{Kind}
+use Rattle.fm_base.specs.declared.kind.Kind.TheVariants.{Automatic}
+use Rattle.fm_base.specs.Arenas.{State, Alive, Ended, IsUnderWay, has_arena, arena_of, owner_of, same_id}
 use Rattle.fm_base.specs.Calls.{Entry}
 use Rattle.fm_base.specs.Histories.{IsLegal, state_after, made_by}
+use Rattle.fm_depicts.specs.Handles.{AreLeft, one_if}
 use Rattle.fm_pool_facts.specs.Loans.{Loan, lent as lent_by, IsRightlyLent}
 use Rattle.fm_base.specs.Finds.{Find, Gathered, Close, is_draw, is_slot, is_page}
 use Rattle.fm_pool_facts.specs.Hands.{Hand, nothing, HasSlot}
@@ -91,6 +94,27 @@ pub record IsOver (v : View) (a : ArenaId) : Type 0 where
   pub known : IsKnown v a
   pub life : (arena_of (state_in v) a).life ≡ Ended
   pub empty : (arena_of (state_in v) a).under_way ≡ []
+
+-- the arena is alive
+abbrev pub IsAlive : View → ArenaId → Type 0
+IsAlive v a = IsKnown v a × ((arena_of (state_in v) a).life ≡ Alive)
+
+abbrev pub is_automatic : Kind → Bool
+is_automatic Automatic = true
+is_automatic kind = false
+
+-- how often the arena is in the list
+abbrev pub how_many : ArenaId → List ArenaId → ℕ
+how_many a [] = 0
+how_many a (b ∷ bs) = one_if (same_id b a) + how_many a bs
+
+-- its handles of an automatic arena are as many as its own entries took and didn't give back
+abbrev pub HasOwnHandles : View → Type 0
+HasOwnHandles v = (a : ArenaId) → a.kind ≡ Automatic → AreLeft a (made_by v.caller v.seen) (how_many a v.handles)
+
+-- the holds of the view that are of the arena's sort
+abbrev pub grips : ArenaId → View → List ArenaId
+grips a v = if is_automatic a.kind then v.handles else v.holds
 
 -- an arena of the slot was opened that hasn't ended, or is the last of so many generations
 pub record IsBusyIn (generations : ℕ) (s : State) (slot : ℕ) : Type 0 where
@@ -209,6 +233,9 @@ pub record IsSound (v : View) : Type 0 where
   pub loans : (l : Loan) → Contains (lent_by v.seen) l → (l.block < v.shape.pages) × (l.part < v.shape.reach)
   -- of an arena that is swept, parts that have no page any more aren't lent
   pub unlent : (c : Close) → In c v.sweeps → (l : Loan) → Contains (lent_by v.seen) l → l.id ≡ c.arena → c.visited ≤ l.part
+  -- an arena of which it has a hold or a handle
+  pub held : (a : ArenaId) → In a (grips a v) → IsAlive v a
+  pub own_handles : HasOwnHandles v
   -- the number that it drew and hasn't split off
   pub drawn : (n : ℕ) → v.drawn ≡ Some n → IsNew v n
   pub few : length v.gathered < v.shape.passes

@@ -24,6 +24,7 @@ use Rattle.fm_pool_facts.proofs.Gone.{NoSlots, none_founded, founded_same, found
 use Rattle.fm_pool_facts.proofs.Founds.{AreWithin, counted_later, counted_told, counted_set}
 use Rattle.fm_pool_facts.proofs.Keeping.{set_there, in_left, in_right, stays_somewhere, gathered_all, seated_all}
 use Rattle.fm_pool_facts.proofs.Summing.{total-set}
+use Rattle.fm_pool_facts.proofs.Handles.{handles_still}
 use Rattle.fm_pool_facts.proofs.Shown.{shows_draw}
 use Rattle.fm_pool_steps.proofs.Plain.{own}
 
@@ -111,6 +112,7 @@ module _ (z : Shape) (me : ℕ) (v : View) (l : v.live ≡ true) (lone : v.met �
                   silent = record { calls = y.silent.calls; outside = y.silent.outside; mark = y.silent.mark };
                 };
             whole = λ e n b ne. let g = whole e n b ne in (g.0, subst (In g.0) (sym (append-nil (all_gathered v))) g.1, g.2);
+            handles = handles_still v w.seen (ap (made_by v.caller) seen_is ∙ u.mine) u.handles;
             seen_all = λ e. seen_is;
           };
         }
@@ -164,6 +166,7 @@ module _ (z : Shape) (me : ℕ) (v : View) (l : v.live ≡ true) (lone : v.met �
                 silent = record { calls = y.silent.calls; outside = y.silent.outside; mark = y.silent.mark };
               };
           whole = λ e. absurd (alone e);
+          handles = x.handles;
           seen_all = λ e. absurd (alone e);
         };
   }

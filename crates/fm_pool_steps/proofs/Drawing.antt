@@ -1,5 +1,5 @@
 -- The step that draws a number, or sees how many were drawn.
-use Rattle.std.proofs.Common.{◌≡◌, ◌≢◌, ℕ, ◌+◌, ◌<◌, ◌≤◌, ◌==◌, nat_le, Bool, true, false, if◌then◌else◌, List, [], ◌++◌, length, set, get_or, sym, refl, ap, ◌∙◌, subst, arith, inl, inr, ⊎_elim, Option, Some, None}
+use Rattle.std.proofs.Common.{◌≡◌, ◌≢◌, ℕ, ◌+◌, ◌<◌, ◌≤◌, ◌==◌, ◌&&◌, nat_le, Bool, true, false, if◌then◌else◌, List, [], ◌++◌, length, set, get_or, sym, refl, ap, ◌∙◌, subst, arith, inl, inr, ⊎_elim, Option, Some, None}
 use Rattle.std.proofs.lemmas.List.{append-nil}
 use Rattle.std.proofs.lemmas.List.Elements.{filter-append}
 use Rattle.std.proofs.lemmas.Bool.{leb-true}
@@ -26,12 +26,16 @@ use Rattle.fm_pool_facts.proofs.Founds.{AreWithin, looked_within, drew_within, c
 use Rattle.fm_pool_facts.proofs.Drawers.{complete_counted}
 use Rattle.fm_pool_facts.proofs.Keeping.{none_added, set_there, in_left, stays_somewhere}
 use Rattle.fm_pool_facts.proofs.Summing.{total-set}
-use Rattle.fm_pool_facts.proofs.Callers.{counted, all_counted}
+use Rattle.fm_pool_facts.proofs.Callers.{counted, has_each, all_counted}
 use Rattle.fm_pool_facts.proofs.Shown.{shows_same}
 use Rattle.fm_pool_facts.proofs.Ruling.{sound_of}
 use Rattle.fm_pool_steps.proofs.Reading.{eqb_true}
 use Rattle.fm_pool_steps.proofs.Plain.{own, Made}
 use Rattle.fm_pool_steps.proofs.Counting.{knows, drew, drew_history}
+
+both : (a b : Bool) → (a && b) ≡ true → b ≡ true
+both true b e = e
+both false b e = absurd (cc)
 
 pub nat_le_true : (a b : ℕ) → nat_le a b ≡ true → a ≤ b
 nat_le_true a b e = leb-true a b e
@@ -113,9 +117,9 @@ module _ (z : Shape) (me : ℕ) (v : View) (l : v.live ≡ true) (lone : v.met �
             (at_set vs me j w y at');
       }
 
-  -- whether the pass is known to be whole after it found so many
-  abbrev whole_by : ℕ → Bool
-  whole_by x = if v.whole then true else (length v.gathered + 1 == x)
+  -- whether the pass is known to be whole after it found so many where it expected so many
+  abbrev whole_by : ℕ → ℕ → Bool
+  whole_by expected x = if v.whole then true else (expected == 0 && (length v.gathered + 1 == x))
 
   -- what either tells, by the rule that it leaves
   gives : (dr : Option ℕ) (wh : Bool) (fs : ℕ → List Find) (ws' : List ℕ) (f : Rule z ws' (set vs me (told (part_of dr wh) zs [] fs)))
@@ -156,18 +160,20 @@ module _ (z : Shape) (me : ℕ) (v : View) (l : v.live ≡ true) (lone : v.met �
       )
 
   -- and where it didn't
-  made_looked : (fs : ℕ → List Find) → AreWithin r.memory.draw fs → NoSlots fs → Made z ws vs me v i found (part_of v.drawn (whole_by found)) [] fs
+  made_looked : (expected : ℕ) (fs : ℕ → List Find) → AreWithin r.memory.draw fs → NoSlots fs
+      → Made z ws vs me v i found (part_of v.drawn (whole_by expected found)) [] fs
   unfolding looked
-  made_looked fs founds slots =
-      let wh : Bool = whole_by found in
+  made_looked expected fs founds slots =
+      let wh : Bool = whole_by expected found in
       let f = looked wh fs founds slots (go v.whole refl) in
       (told (part_of v.drawn wh) zs [] fs, f, gives v.drawn wh fs (set ws i found) f refl, append-nil (v.seen ++ zs) ∙ sym is)
     where
-      go : (b : Bool) → v.whole ≡ b → (if b then true else (length v.gathered + 1 == found)) ≡ true → (n : ℕ) → n < r.memory.draw → n ≢ v.caller.number
-          → HasGathered n v
+      go : (b : Bool) → v.whole ≡ b → (if b then true else (expected == 0 && (length v.gathered + 1 == found))) ≡ true → (n : ℕ) → n < r.memory.draw
+          → n ≢ v.caller.number → HasGathered n v
       go true e q n b ne = mine.whole e n b ne
       go false e q n b ne =
-          counted z r.history r.memory r.machine r.owners me v lone mine (eqb_true (length v.gathered + 1) found q ∙ is_found) n b ne
+          counted z r.history r.memory r.machine r.owners me v lone mine
+          (eqb_true (length v.gathered + 1) found (both (expected == 0) (length v.gathered + 1 == found) q) ∙ is_found) n b ne
 
   -- what a draw of the expected count notes, where it drew
   noted_draw : (expected : ℕ) → number_drawn v.shape expected found ≡ Some found → (k : ℕ) → DrewIn found (note_draw expected found v k)
@@ -189,8 +195,8 @@ module _ (z : Shape) (me : ℕ) (v : View) (l : v.live ≡ true) (lone : v.met �
 
   -- the exchange
   exchanged : (expected : ℕ) → v.drawn ≡ None → v.shape ≡ z → (b c : Bool) → (found == expected) ≡ b → nat_le (expected + 1) v.shape.passes ≡ c
-      → Made z ws vs me v i (either b (if c then expected + 1 else expected) found) (draws (if b then (if c then Some found else None) else None) found v) []
-      (note_draw expected found v)
+      → Made z ws vs me v i (either b (if c then expected + 1 else expected) found)
+      (draws (if b then (if c then Some found else None) else None) expected found v) [] (note_draw expected found v)
   exchanged expected none sh true true e q =
       let same : found ≡ expected = eqb_true found expected e in
       let p : ℕ = v.shape.passes in
@@ -204,12 +210,12 @@ module _ (z : Shape) (me : ℕ) (v : View) (l : v.live ≡ true) (lone : v.met �
       (draw_no_slots expected found v))
   exchanged expected none sh true false e q =
       let same : found ≡ expected = eqb_true found expected e in
-      subst (λ (x : ℕ). Made z ws vs me v i x (part_of v.drawn (whole_by found)) [] (note_draw expected found v)) same
-      (made_looked (note_draw expected found v) (looked_now expected (λ j. if e j then (if q j then Some found else None) else None))
+      subst (λ (x : ℕ). Made z ws vs me v i x (part_of v.drawn (whole_by expected found)) [] (note_draw expected found v)) same
+      (made_looked expected (note_draw expected found v) (looked_now expected (λ j. if e j then (if q j then Some found else None) else None))
       (draw_no_slots expected found v))
   exchanged expected none sh false c e q =
       let room : Bool = nat_le (expected + 1) v.shape.passes in
-      made_looked (note_draw expected found v) (looked_now expected (λ j. if e j then (if room then Some found else None) else None))
+      made_looked expected (note_draw expected found v) (looked_now expected (λ j. if e j then (if room then Some found else None) else None))
       (draw_no_slots expected found v)
 
   -- what the count tells
@@ -218,6 +224,7 @@ module _ (z : Shape) (me : ℕ) (v : View) (l : v.live ≡ true) (lone : v.met �
     own = (let x = mine.number in let y = is_found in omega arith);
     few = (let x = r.few in let y = is_found in let p : v.shape.passes ≡ z.passes = ap (λ (s : Shape). s.passes) sh in omega arith);
     whole = λ w. is_found ∙ all_counted z r.history r.memory r.machine r.owners me v lone mine w;
+    all = λ e n h. has_each z r.history r.memory r.machine r.owners me v lone mine (e ∙ is_found) n (let q = is_found in omega arith);
     complete = λ h. is_found ∙ complete_counted z ws vs r me v at l lone h;
     later = λ f h e. let a = (find_within r.memory v (r.counted me v at) f h).found e in let y = is_found in omega arith;
   }

@@ -135,6 +135,7 @@ first_knows z valid = record {
     hand = tt;
     took = tt;
     pages = record { read = λ a e x i. absurd i; claims = λ q i. absurd i; lone = inl refl; sweep = tt };
+    handles = λ a k. refl;
     gathered = λ g i. absurd i;
     coming = λ x i. absurd i;
     one_each = tt;
@@ -187,6 +188,10 @@ first_rule z valid = record {
     };
     slots = record {
       bit_is = λ s b. (0, refl, (let l = valid.generations.0 in omega arith));
+      low = λ s b. elim (cases_lt s z.slots) [
+        | inl l ↦ l
+        | inr l ↦ absurd (let none = bit_at_ones_above z.slots s l in let q : bit_at (ones z.slots) s ≡ 1 = b in omega arith)
+      ];
       within = λ s g e. (let q : 0 ≡ g = cc in let l = valid.generations.0 in omega arith);
     };
     counts = record { shown = λ a e. absurd (cc); only = λ a e. refl; few = λ a. omega arith };

@@ -157,10 +157,7 @@ module _ (z : Shape) (ws : List ℕ) (vs : List View) (r : Rule z ws vs) (id : �
       }
 
   comes_once : IsOnce (λ (g : Gathered). g.caller.number) comes
-  comes_once = (
-    (λ g i. (kw.gathered g i).apart),
-    subst (IsOnce (λ (g : Gathered). g.caller.number)) all_w kw.one_each,
-  )
+  comes_once = ((λ g i. (kw.gathered g i).apart), subst (IsOnce (λ (g : Gathered). g.caller.number)) all_w kw.one_each)
 
   -- a pass that another is gathered into isn't whole
   not_whole : v.whole ≡ true → ⊥
@@ -215,6 +212,7 @@ module _ (z : Shape) (ws : List ℕ) (vs : List View) (r : Rule z ws vs) (id : �
                 silent = y.silent;
               };
           whole = λ e. absurd (not_whole e);
+          handles = kv.handles;
           seen_all = λ e. absurd (not_whole e);
         };
       }
@@ -264,6 +262,7 @@ module _ (z : Shape) (ws : List ℕ) (vs : List View) (r : Rule z ws vs) (id : �
                 silent = y.silent;
               };
           whole = x.whole;
+          handles = x.handles;
           seen_all = x.seen_all;
         };
   }

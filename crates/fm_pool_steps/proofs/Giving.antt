@@ -83,7 +83,7 @@ module _ (z : Shape) (me : ℕ) (v : View) (l : v.live ≡ true) (s : ℕ) (hand
       (λ q j b. inr (refl, λ h. page_like q (r.owners.berth q) v given_part refl refl refl h))
       (λ b. refl)
       (shows_bits z r.valid ws r.memory r.shows word)
-      (world_give z r.memory r.machine r.world word s (in_its.0 + 1) in_its.1.session in_its.1.left others)
+      (world_give z r.memory r.machine r.world word s (in_its.0 + 1) in_its.1.slot in_its.1.session in_its.1.left others)
       (record {
         inside = owned.inside;
         mark = owned.mark;

@@ -10,6 +10,7 @@ use Rattle.fm_base.specs.declared.caller.Caller.{Caller}
 use Rattle.fm_base.specs.Calls.{Entry}
 use Rattle.fm_base.specs.Histories.{made_by}
 use Rattle.fm_base.specs.Finds.{Gathered}
+use Rattle.fm_depicts.specs.Handles.{AreLeft}
 use Rattle.fm_depicts.specs.Functions.{put}
 use Rattle.fm_depicts.proofs.Putting.{put_here, put_else}
 use Rattle.fm_pool_facts.specs.Views.{Met, View, In, all_gathered, brought}
@@ -134,9 +135,15 @@ module _ (z : Shape) (ws : List ℕ) (vs : List View) (r : Rule z ws vs) (id : �
           one_each = u.one_each;
           drawn = λ n e. absurd (cc);
           whole = u.whole;
+          handles = u.handles;
           seen_all = u.seen_all;
         };
       }
+
+  -- the new pass's caller made no entry yet
+  right_silent : made_by right.caller v.seen ≡ []
+  right_silent = none_seen v.seen (r.each id v at).begins.0 right.caller
+      (ap (made_by right.caller) (sym (r.each id v at).begins.1) ∙ its.silent.calls right.caller number_is)
 
   -- what the new pass says
   right_knows : Knows z r.history r.memory r.machine o' last right
@@ -148,8 +155,7 @@ module _ (z : Shape) (ws : List ℕ) (vs : List View) (r : Rule z ws vs) (id : �
       number = subst (λ (n : ℕ). n < r.memory.draw) (sym number_is) its.number;
       term = sym (r.shows.terms (number_or v.drawn));
       seated = ap f number_is ∙ put_here r.owners.number d last;
-      mine = its.silent.calls right.caller number_is ∙ sym (none_seen v.seen (r.each id v at).begins.0 right.caller
-          (ap (made_by right.caller) (sym (r.each id v at).begins.1) ∙ its.silent.calls right.caller number_is));
+      mine = its.silent.calls right.caller number_is ∙ sym right_silent;
       inside = its.silent.outside right.caller number_is;
       mark = ap r.memory.marks number_is ∙ its.silent.mark;
       closes = λ c i. absurd i;
@@ -164,6 +170,7 @@ module _ (z : Shape) (ws : List ℕ) (vs : List View) (r : Rule z ws vs) (id : �
       one_each = tt;
       drawn = λ n e. absurd (cc);
       whole = λ e. absurd (cc);
+      handles = λ a i. subst (λ (es : List Entry). AreLeft a es 0) (sym right_silent) refl;
       seen_all = λ e. absurd (cc);
     };
   }
@@ -206,6 +213,7 @@ module _ (z : Shape) (ws : List ℕ) (vs : List View) (r : Rule z ws vs) (id : �
                 silent = y.silent;
               };
           whole = x.whole;
+          handles = x.handles;
           seen_all = x.seen_all;
         };
   }

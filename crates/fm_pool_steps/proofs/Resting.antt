@@ -294,6 +294,7 @@ module _ (z : Shape) (me : ℕ) (v : View) (l : v.live ≡ true) (ws : List ℕ)
     named = λ a w n h. has_page a w (standing a n) (r.pages.covered a w (standing a n) (let e = r.depicts.given a in omega arith))
         (r.memory.maps a.slot (w / z.page_words)) refl;
     fits = λ a h. r.world.sessions.fits a (opened a h);
+    no_slot = λ k b. r.world.slots.low k (ap (λ (x : ℕ). bit_at x k) (sym r.shows.slot_bits) ∙ b);
     slots = slot_shown;
   }
     where

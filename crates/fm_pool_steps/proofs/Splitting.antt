@@ -217,6 +217,7 @@ meet_joins z ws vs r id v other w at n at' bare =
           silent = y.silent;
         };
         whole = x.whole;
+        handles = x.handles;
         seen_all = x.seen_all;
       };
     })

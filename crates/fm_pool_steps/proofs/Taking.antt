@@ -27,7 +27,7 @@ use Rattle.fm_pool_facts.proofs.Worlds.{world_bits}
 use Rattle.fm_pool_facts.proofs.Shown.{shows_same, shows_bits}
 use Rattle.fm_pool_facts.proofs.Ruling.{page_like, keeps, keeps_with}
 use Rattle.fm_pool_steps.proofs.Reading.{eqb_true, eqb_false}
-use Rattle.fm_pool_steps.proofs.Telling.{idle, busy, none_left}
+use Rattle.fm_pool_steps.proofs.Telling.{some_bit, idle, busy, none_left}
 use Rattle.fm_pool_steps.proofs.Plain.{same_none, stays_ended, pages_still, own, Made, sweeps_still, plain_with}
 
 pub same_hand : (v p : View) → p ≡ record v { hand = p.hand } → Same v p
@@ -179,6 +179,9 @@ module _ (z : Shape) (me : ℕ) (v : View) (l : v.live ≡ true) (ws : List ℕ)
 
     learns : LearnsSlots v found
     learns = record {
+      some = λ n. subst (λ (x : ℕ). (s : ℕ) × (s < v.shape.slots) × (bit_at x s ≡ 1)) (sym is_found)
+          (some_bit z me v l ws vs r at sh (λ q. n (is_found ∙ q)));
+      low = λ s b. subst (λ (x : Shape). s < x.slots) (sym sh) (r.world.slots.low s (ap (λ (x : ℕ). bit_at x s) (sym is_found) ∙ b));
       idle = λ w s h b. idle z me v l ws vs r at sh w s (ap (λ (x : ℕ). bit_at x s) (sym is_found) ∙ b);
       busy = λ w n c s h b. busy z me v l ws vs r at sh w n c s (subst (λ (x : Shape). s < x.slots) sh h) (ap (λ (x : ℕ). bit_at x s) (sym is_found) ∙ b);
     }

@@ -1,6 +1,8 @@
 -- What slot bits tell a pass that is known to be whole.
-use Rattle.std.proofs.Common.{◌≡◌, ◌≢◌, ℕ, zero, suc, ◌+◌, ◌<◌, ◌≤◌, ◌&&◌, Bool, true, false, List, [], ◌∷◌, length, Some, sym, refl, ap, ◌∙◌, subst, arith, inl, inr, ⊎_elim}
+use Rattle.std.proofs.Common.{◌≡◌, ◌≢◌, ℕ, zero, suc, ◌+◌, ◌/◌, ◌%◌, ◌<◌, ◌≤◌, ◌&&◌, Bool, true, false, List, [], ◌∷◌, length, Some, sym, refl, ap, ◌∙◌, subst, arith, inl, inr, ⊎_elim}
+use mathlib.Core.Logic.{dite}
 use mathlib.Core.Option.{some, some-injective}
+use native.Mathlib.Decide.{ℕ_discrete}
 use lib.ListN.{get_elem?}
 use Rattle.std.specs.Int.{bit_at}
 use Rattle.std.proofs.lemmas.Bool.{cases_lt}
@@ -10,7 +12,7 @@ use Rattle.fm_base.specs.Arenas.{Life, Alive, Closing, Ended, State, has_arena, 
 use Rattle.fm_base.specs.Histories.{state_after}
 use Rattle.fm_depicts.specs.Functions.{Stage, Fresh, Lives, Closes, Over, stage_of}
 use Rattle.std.proofs.lemmas.List.{append-nil}
-use Rattle.std.proofs.lemmas.Nat.Bits.{bit_at-zero}
+use Rattle.std.proofs.lemmas.Nat.Bits.{bit_at-zero, bit_at_lowest, bit_at-suc}
 use Rattle.fm_base.specs.declared.caller.Caller.{Caller}
 use Rattle.fm_base.specs.Calls.{Entry}
 use Rattle.fm_base.specs.Finds.{Find}
@@ -41,6 +43,19 @@ clear_is v h =
     go true false c d e h = absurd (cc)
     go false b c d e h = absurd (cc)
 
+-- a number that isn't 0 has a bit that is 1
+one_bit : (n : ℕ) → n ≢ 0 → (k : ℕ) × (bit_at n k ≡ 1)
+one_bit n ne = within n n (omega arith) ne
+  where
+    within : (fuel n : ℕ) → n ≤ fuel → n ≢ 0 → (k : ℕ) × (bit_at n k ≡ 1)
+    within zero n h ne = absurd (ne (omega arith))
+    within (suc fuel) n h ne = dite (ℕ_discrete (n % 2) 1)
+        (λ e. (0, bit_at_lowest n ∙ e))
+        (λ (even : n % 2 ≢ 1).
+        let half : n / 2 ≢ 0 = (λ z. ne (let low : n % 2 < 2 = omega arith in let no : n % 2 ≢ 1 = even in omega arith)) in
+        let b = within fuel (n / 2) (omega arith) half in
+        (suc b.0, bit_at-suc n b.0 ∙ b.1))
+
 module _ (z : Shape) (me : ℕ) (v : View) (l : v.live ≡ true) (ws : List ℕ) (vs : List View) (r : Rule z ws vs) (at : get_elem? vs me ≡ some v) where
   abbrev mine : Owns z r.history r.memory r.machine r.owners me v
   mine = own z ws vs r me v at l
@@ -63,6 +78,11 @@ module _ (z : Shape) (me : ℕ) (v : View) (l : v.live ≡ true) (ws : List ℕ)
   unended w a k Alive e n = inl (seen_life w a k Alive e)
   unended w a k Closing e n = inr (seen_life w a k Closing e)
   unended w a k Ended e n = absurd (n refl)
+
+  -- where the word isn't 0 some slot's bit is 1
+  pub some_bit : v.shape ≡ z → r.memory.bits ≢ 0 → (s : ℕ) × (s < v.shape.slots) × (bit_at r.memory.bits s ≡ 1)
+  some_bit sh n =
+      let b = one_bit r.memory.bits n in (b.0, subst (λ (x : Shape). b.0 < x.slots) (sym sh) (r.world.slots.low b.0 b.1), b.1)
 
   pub idle : v.shape ≡ z → v.whole ≡ true → (s : ℕ) → bit_at r.memory.bits s ≡ 1 → ¬ (IsBusy v s)
   idle sh w s b p =

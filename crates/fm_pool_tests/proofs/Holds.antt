@@ -11,9 +11,11 @@ use Rattle.fm_pool_facts.specs.Holds.{released, one_if, how_many}
 use Rattle.fm_pool_facts.proofs.Summing.{one_less}
 use Rattle.fm_rule.specs.declared.pool.Pool.{Pool}
 use Rattle.fm_gate.specs.declared.held.Hold.{Hold}
+use Rattle.fm_gate.specs.Makers.{Made, made_by_pass}
 use Rattle.fm_gate.specs.Standing.{CanUnhold}
 use Rattle.fm_gate.specs.Learnt.{AfterHold, AfterUnhold}
 use Rattle.fm_gate.proofs.Counted.{some_in}
+use Rattle.fm_gate.proofs.Standing.{made_on}
 use Rattle.fm_pool_tests.specs.Holds.{IsHoldOf, AreHeld}
 
 -- One more is held.
@@ -26,14 +28,16 @@ taken {p = p} {q = q} {a = a} {hold = hold} {holds = holds} held after =
     let before = held.many in
     record {
       visit = record { outside = after.outside; known = after.lasts.known a held.visit.known };
-      each = All-push (IsHoldOf a) holds hold held.each (after.did.does.0, after.held.by_hand);
+      each = All-push (IsHoldOf (made_by_pass q) a) holds hold
+          (subst (λ (m : Made). All (IsHoldOf m a) holds) (sym (made_on after.did.goes)) held.each)
+          (after.did.does.0, after.held.by_hand, after.held.maker);
       many = omega arith;
     }
 
 -- Of those that are held the last is of the arena, and so are the others.
-last_of : (a : ArenaId) (hold : Hold) (holds rest : List Hold) → holds ≡ rest ++ hold ∷ [] → All (IsHoldOf a) holds
-    → All (IsHoldOf a) rest × IsHoldOf a hold
-last_of a hold holds rest split each = All-pop (IsHoldOf a) holds rest (Some hold) split each
+last_of : (m : Made) (a : ArenaId) (hold : Hold) (holds rest : List Hold) → holds ≡ rest ++ hold ∷ [] → All (IsHoldOf m a) holds
+    → All (IsHoldOf m a) rest × IsHoldOf m a hold
+last_of m a hold holds rest split each = All-pop (IsHoldOf m a) holds rest (Some hold) split each
 
 longer : (hold : Hold) (holds rest : List Hold) → holds ≡ rest ++ hold ∷ [] → length holds ≡ length rest + 1
 longer hold holds rest split =
@@ -52,19 +56,20 @@ still_has pool p a hold holds rest held split =
 pub can_spend : {pool : Pool} {p : View} {a : ArenaId} {hold : Hold} {holds : List Hold} (rest : List Hold) → AreHeld pool p a holds
     → holds ≡ rest ++ hold ∷ [] → CanUnhold pool p hold
 can_spend {pool = pool} {p = p} {a = a} {hold = hold} {holds = holds} rest held split =
-    let is = (last_of a hold holds rest split held.each).1 in
+    let is = (last_of (made_by_pass p) a hold holds rest split held.each).1 in
     record {
       of = held.visit.outside.of;
+      maker = is.2;
       known = subst (λ (b : ArenaId). IsKnown p b) (sym is.0) held.visit.known;
       held = subst (λ (b : ArenaId). In b p.holds) (sym is.0) (still_has pool p a hold holds rest held split);
       by_hand = is.1;
     }
 
 -- and the others are left.
-pub spent : {pool : Pool} {p q : View} {a : ArenaId} {hold : Hold} {holds rest : List Hold} → AreHeld pool p a holds
+pub spent : {pool : Pool} {p q : View} {a : ArenaId} (hold : Hold) {holds rest : List Hold} → AreHeld pool p a holds
     → holds ≡ rest ++ hold ∷ [] → AfterUnhold pool p q hold.arena → AreHeld pool q a rest
-spent {pool = pool} {p = p} {q = q} {a = a} {hold = hold} {holds = holds} {rest = rest} held split after =
-    let each = last_of a hold holds rest split held.each in
+spent {pool = pool} {p = p} {q = q} {a = a} hold {holds = holds} {rest = rest} held split after =
+    let each = last_of (made_by_pass p) a hold holds rest split held.each in
     let now : how_many a q.holds ≡ how_many a (released a p.holds) =
     ap (λ (x : Rest). how_many a x.holds) after.did.rest ∙ ap (λ (b : ArenaId). how_many a (released b p.holds)) each.1.0 in
     let one : one_if (same_id a a) ≡ 1 = ap one_if (same_id-self a) in
@@ -73,6 +78,6 @@ spent {pool = pool} {p = p} {q = q} {a = a} {hold = hold} {holds = holds} {rest 
     let many = held.many in
     record {
       visit = record { outside = after.outside held.visit.outside; known = after.lasts.known a held.visit.known };
-      each = each.0;
+      each = subst (λ (m : Made). All (IsHoldOf m a) rest) (sym (made_on after.did.goes)) each.0;
       many = omega arith;
     }

@@ -122,6 +122,7 @@ fn renewed<R: Abort + Wait>(rt: &R, m: &mut Shared, handle: AutoHandle) -> (Auto
     ensures lasts { Lasts m.old m.new }
 {
     let other = handle.again(rt, m).expect(rt, "a hold");
+    a_handle_lasts();
     let gave = handle.give_back(rt, m);
     (other, gave)
 }
@@ -149,7 +150,7 @@ fn an_automatic_arena_ends_with_its_last_handle(rt: HostRuntime) {
     assert_eq!(rt; long_of(&mut m, &s), Err(Refusal::Closed));
 }
 
-/// The second half of the example in the repository's README.
+/// A read beside a close is answered whole or refused, and afterwards refused.
 #[test]
 fn an_arena_is_closed_while_another_thread_reads(rt: HostRuntime) -> Result<(), Fail> {
     let (pool, mut first) = made(&rt);

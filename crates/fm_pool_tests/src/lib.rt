@@ -9,3 +9,5 @@ mod closes;
 mod gates;
 #[cfg(test)]
 mod pools;
+#[cfg(test)]
+mod races;

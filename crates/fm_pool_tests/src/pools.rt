@@ -22,11 +22,11 @@ pub(crate) fn pool_of<R: Abort + AllocGlobal>(
     generations: u32,
 ) -> (Pool, Pass)
     requires some_passes { 0 < passes }
-    requires few_passes { passes ≤ 3 }
+    requires few_passes { passes ≤ 4096 }
     requires some_slots { 0 < slots }
     requires few_slots { slots < 65 }
     requires some_words { 0 < page_words }
-    requires few_words { page_words ≤ 8 }
+    requires few_words { page_words ≤ 8192 }
     requires some_generations { 0 < generations }
     ensures outside { IsOutside result.0 result.1 }
     ensures wide { span result.0.shape ≡ page_words }

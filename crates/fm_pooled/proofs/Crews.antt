@@ -22,6 +22,7 @@ use Rattle.fm_lists.proofs.Each.{all_both, all_weaker}
 use Rattle.fm_pool_facts.specs.Views.{View, IsSound, limit_of, state_in}
 use Rattle.fm_records.specs.Alone.{bytes_at_places}
 use Rattle.fm_records.specs.Reads.{AreReads, read_visit}
+use Rattle.fm_records.specs.Shares.{AreSpared}
 use Rattle.fm_records.proofs.AnsweringBytes.{get_or-places, length-places}
 use Rattle.fm_rule.specs.declared.pool.Pool.{Pool}
 use Rattle.fm_segment.specs.Access.{IsKnown}
@@ -115,7 +116,13 @@ module _ (MayAdd : ArenaId → ℕ → Type 0) where
         let r = alive (limit_of p.shape) (state_in p) crew.more id reach.legal known life none_shuts in
         (ap (λ (t : State). (arena_of t id).life) reach.state ∙ r.0, r.1)
 
-    -- the records are as they were, where nothing is added in their arena
+    -- nobody changes the records, where nothing is added in their arena
+    pub records_spared : ((a : ArenaId) (word : ℕ) → MayAdd a word → a ≢ s.arena) → AreSpared s crew.more
+    records_spared apart place from below =
+        all_weaker (λ (e : Entry). Touches MayAdd e.call) (λ (e : Entry). Spares s.arena place e.call)
+        (λ e t. spares s.arena place e.call apart t) crew.more touch
+
+    -- they are as they were then
     pub bytes_stay : ((a : ArenaId) (word : ℕ) → MayAdd a word → a ≢ s.arena) → bytes_in_pool q s ≡ bytes_in_pool p s
     unfolding bytes_in_pool
     bytes_stay apart =

@@ -1,5 +1,5 @@
 -- What a crew answers of records in a pool, that nothing but memory is wanting, and what the pool's history shows then.
-use Rattle.std.proofs.Common.{◌≡◌, ℕ, ◌%◌, ◌<◌, ◌≤◌, List, [], length, Result, Ok, Err, IfErr, refl, ap, sym, ◌∙◌, subst, inl, inr, arith, length-append}
+use Rattle.std.proofs.Common.{◌≡◌, ℕ, ◌%◌, ◌<◌, ◌≤◌, List, [], ◌++◌, append_assoc, length, Result, Ok, Err, IfErr, refl, ap, sym, ◌∙◌, subst, inl, inr, arith, length-append}
 use Rattle.std.specs.Prelude.{◌⊎◌}
 use Rattle.std.proofs.Math.Nat.{zero-mod}
 use Rattle.fm_base.specs.declared.arena_id.ArenaId.{ArenaId}
@@ -14,15 +14,16 @@ use Rattle.fm_base.specs.Untouched.{Spares}
 use Rattle.fm_gate.specs.Standing.{IsOutside}
 use Rattle.fm_lists.specs.Among.{IsAmong}
 use Rattle.fm_lists.proofs.Among.{among_kept, among_left, among_right}
-use Rattle.fm_lists.proofs.Each.{all_among, all_weaker}
+use Rattle.fm_lists.proofs.Each.{all_among, all_both, all_weaker}
 use Rattle.fm_path.specs.Resolution.{Resolution}
-use Rattle.fm_pool_facts.specs.Views.{Begins, View, IsSound, limit_of, state_in}
+use Rattle.fm_pool_facts.specs.Views.{View, IsSound, limit_of, state_in}
 use Rattle.fm_query.specs.Plan.{Plan}
 use Rattle.fm_records.specs.declared.found.Found.{Found}
 use Rattle.fm_records.specs.Alone.{bytes_at_places}
 use Rattle.fm_records.specs.Answers.{answer}
 use Rattle.fm_records.specs.Laws.{IsAsked, value_in}
 use Rattle.fm_records.specs.Reads.{IsWordOf}
+use Rattle.fm_records.specs.Shares.{AreSpared}
 use Rattle.fm_records.proofs.AnsweringBytes.{length-places}
 use Rattle.fm_rule.specs.declared.pool.Pool.{Pool}
 use Rattle.fm_rule.specs.Finishing.{FinishedView, Finishes}
@@ -32,9 +33,9 @@ use Rattle.fm_words.specs.declared.shape.Shape.{Shape}
 use Rattle.fm_workers.specs.Crew.{CrewGathered, IsFresh, IsWhole, callers}
 use Rattle.fm_workers.specs.Query.{CanQueryWith, IsReadByCrew, NobodyElseWrites, OnlyReads, QueriedWith}
 use Rattle.fm_pooled.specs.Asking.{Asked, HasPasses, KeepsHistory}
-use Rattle.fm_pooled.specs.Shown.{AreRead, AsksWord, IsReadByOther, ShowsBoth, ShowsQuery, ShowsRecords}
+use Rattle.fm_pooled.specs.Shown.{AreRead, AsksWord, IsReadByOther, ShowsBoth, ShowsQuery, ShowsRecords, state_before}
 use Rattle.fm_pooled.specs.Stocked.{IsStocked, bytes_in_pool}
-use Rattle.fm_pooled.proofs.Crews.{AllTouch, bytes_stay, crew_touches, not_stopped, only_reads_touch, stays_alive, stocked_still}
+use Rattle.fm_pooled.proofs.Crews.{AllTouch, bytes_stay, crew_touches, not_stopped, only_reads_touch, records_spared, stays_alive, stocked_still}
 
 pub pooled_is : (p : View) (s : Region) → bytes_in_pool p s ≡ bytes_at_places (state_in p) s
 unfolding bytes_in_pool
@@ -64,7 +65,7 @@ region_is {p = p} {s = s} h = ap (λ n. region_of s.arena 0 n) (length-pooled p 
 
 -- what one of the crew has read, others than the first pass have
 by_other : {p q : View} {s : Region} (crew : CrewGathered p q) (word : ℕ) → IsReadByCrew s (callers crew.crew) crew.more word
-    → IsReadByOther q.seen s.arena word
+    → IsReadByOther crew.more s.arena word
 by_other {p} {q} {s} crew word r = record {
   caller = r.caller;
   other = (all_among (IsFresh p) r.caller (callers crew.crew) crew.fresh r.among).later;
@@ -72,8 +73,7 @@ by_other {p} {q} {s} crew word r = record {
     found = r.read.found;
     among =
         let e : Entry = entry_of r.caller (Read s.arena word) (Found_word r.read.found) in
-        subst (λ (es : List Entry). IsAmong e es) (sym crew.seen)
-        (among_right e p.seen crew.more (among_kept (λ x. are_one x.caller r.caller) e crew.more r.read.among));
+        among_kept (λ x. are_one x.caller r.caller) e crew.more r.read.among;
   };
 }
 
@@ -84,7 +84,7 @@ AreReadByCrew p plan s crew more =
     → IsWordOf (value_in plan s index r is) word → IsReadByCrew s crew more word
 
 are_read : {pool : Pool} {p q : View} {s : Region} (plan : Plan) → IsStocked pool p s → (crew : CrewGathered p q)
-    → AreReadByCrew p plan s (callers crew.crew) crew.more → AreRead q.seen (AsksWord plan (bytes_in_pool p s)) s.arena
+    → AreReadByCrew p plan s (callers crew.crew) crew.more → AreRead crew.more (AsksWord plan (bytes_in_pool p s)) s.arena
 are_read {p = p} {s = s} plan h crew read word asks =
     by_other crew word
     (read asks.index asks.path asks.indices word
@@ -93,11 +93,15 @@ are_read {p = p} {s = s} plan h crew read word asks =
 
 -- what stands of records once a crew has read them
 pub asked : {pool : Pool} {p q : View} {s : Region} (threads : ℕ) (plan : Plan) → IsStocked pool p s → (crew : CrewGathered p q) → length crew.crew ≤ threads
-    → AreReadByCrew p plan s (callers crew.crew) crew.more → IsStocked pool q s → bytes_in_pool q s ≡ bytes_in_pool p s → Asked threads pool p q plan s
-asked {p = p} {q = q} threads plan h crew few read stocked same = record {
+    → AreReadByCrew p plan s (callers crew.crew) crew.more → IsStocked pool q s → bytes_in_pool q s ≡ bytes_in_pool p s → AreSpared s crew.more
+    → Asked threads pool p q plan s
+asked {p = p} {q = q} threads plan h crew few read stocked same spared = record {
+  before = h;
   stocked = stocked;
   same = same;
-  begins = (crew.more, crew.seen);
+  more = crew.more;
+  seen = crew.seen;
+  spared = spared;
   read = are_read plan h crew read;
   drawn = omega (arith, ap (λ (v : View). length v.gathered) crew.is, length-append p.gathered crew.crew, few);
 }
@@ -152,6 +156,7 @@ module _ {pool : Pool} {p q : View} {s : Region} {plan : Plan} {threads : ℕ} (
       asked threads plan h w.crew w.one_each (w.value (nobody_else w)).read
       (stocked_still NoneMayAdd h w.crew sound (touch w) outside w.known s.arena 0 (omega arith) (λ b word none. absurd none))
       (bytes_stay NoneMayAdd h w.crew sound (touch w) (λ b word none. absurd none))
+      (records_spared NoneMayAdd h w.crew sound (touch w) (λ b word none. absurd none))
 
 -- ---- the finished pool
 
@@ -173,56 +178,65 @@ state_kept : {p : View} {f : FinishedView} → KeepsHistory p f → state_of f �
 state_kept {p} {f} kept =
     ap (λ (z : Shape). state_after (limit_of z) [] f.history) kept.shape ∙ ap (λ (es : List Entry). state_after (limit_of p.shape) [] es) kept.history
 
--- its history shows what was read of the records that stand in it
-pub shows : {pool : Pool} {p : View} {s : Region} {f : FinishedView} (bytes : List ℕ) (Asks : ArenaId → ℕ → Type 0) → IsStocked pool p s → KeepsHistory p f
-    → bytes_in_pool p s ≡ bytes → AreRead p.seen Asks s.arena → ShowsRecords f bytes Asks
-shows {p = p} {s = s} {f = f} bytes Asks h kept are read =
-    let state : state_of f ≡ state_in p = state_kept kept in
+-- its history shows what was read of the records that stood in it
+pub shows : {pool : Pool} {p q : View} {s : Region} {f : FinishedView} (bytes : List ℕ) (Asks : ArenaId → ℕ → Type 0) (more : List Entry)
+    → IsStocked pool p s → IsStocked pool q s → KeepsHistory q f → q.seen ≡ p.seen ++ more → bytes_in_pool p s ≡ bytes → bytes_in_pool q s ≡ bytes
+    → AreSpared s more → AreRead more Asks s.arena → ShowsRecords f bytes Asks
+shows {p = p} {q = q} {s = s} {f = f} bytes Asks more h k kept seen were are spared read =
+    let shape : f.shape ≡ p.shape = kept.shape ∙ (k.outside.of.1 ∙ sym h.outside.of.1) in
+    let first : state_before f p.seen ≡ state_in p = ap (λ (z : Shape). state_after (limit_of z) [] p.seen) shape in
+    let state : state_of f ≡ state_in q = state_kept kept in
     let region : region_of s.arena 0 (length bytes) ≡ s =
-    ap (λ (bs : List ℕ). region_of s.arena 0 (length bs)) (sym are) ∙ region_is h in
+    ap (λ (bs : List ℕ). region_of s.arena 0 (length bs)) (sym were) ∙ region_is h in
     record {
       is_history = kept.is_history;
       id = s.arena;
-      known = ap (λ (t : State). has_arena t s.arena) state ∙ h.known.arena;
-      stand = ap (λ (t : State). bytes_at_places t (region_of s.arena 0 (length bytes))) state ∙ ap (bytes_at_places (state_in p)) region
-          ∙ sym (pooled_is p s) ∙ are;
-      read = λ word asks. subst (λ (es : List Entry). IsReadByOther es s.arena word) (sym kept.history) (read word asks);
+      before = p.seen;
+      after = more;
+      parts = kept.history ∙ seen;
+      known = ap (λ (t : State). has_arena t s.arena) first ∙ h.known.arena;
+      stand = ap (λ (t : State). bytes_at_places t (region_of s.arena 0 (length bytes))) first ∙ ap (bytes_at_places (state_in p)) region
+          ∙ sym (pooled_is p s) ∙ were;
+      spared = subst (λ (r : Region). AreSpared r more) (sym region) spared;
+      read = read;
+      last = ap (λ (t : State). bytes_at_places t (region_of s.arena 0 (length bytes))) state ∙ ap (bytes_at_places (state_in q)) region
+          ∙ sym (pooled_is q s) ∙ are;
     }
 
 -- ---- two queries
 
-read_later : (es fs : List Entry) (id : ArenaId) (word : ℕ) → Begins es fs → IsReadByOther es id word → IsReadByOther fs id word
-read_later es fs id word begins r = record {
+read_in : (es fs : List Entry) (id : ArenaId) (word : ℕ) → ((e : Entry) → IsAmong e es → IsAmong e fs) → IsReadByOther es id word
+    → IsReadByOther fs id word
+read_in es fs id word into r = record {
   caller = r.caller;
   other = r.other;
-  read = record {
-    found = r.read.found;
-    among =
-        let e : Entry = entry_of r.caller (Read id word) (Found_word r.read.found) in
-        subst (λ (xs : List Entry). IsAmong e xs) (sym begins.1) (among_left e es begins.0 r.read.among);
-  };
+  read = record { found = r.read.found; among = into (entry_of r.caller (Read id word) (Found_word r.read.found)) r.read.among };
 }
 
-pub both_read : {pool : Pool} {p q r : View} {s : Region} {a b : Plan} {threads : ℕ} (bytes : List ℕ) → Asked threads pool p q a s → Asked threads pool q r b s
-    → bytes_in_pool p s ≡ bytes → (word : ℕ) → AsksWord a bytes s.arena word ⊎ AsksWord b bytes s.arena word → IsReadByOther r.seen s.arena word
-both_read {p = p} {q = q} {r = r} {s = s} {a = a} bytes one two are word (inl asks) =
-    read_later q.seen r.seen s.arena word two.begins
+pub both_read : {pool : Pool} {p q r : View} {s : Region} {a b : Plan} {threads : ℕ} (bytes : List ℕ) (one : Asked threads pool p q a s)
+    (two : Asked threads pool q r b s) → bytes_in_pool p s ≡ bytes → (word : ℕ) → AsksWord a bytes s.arena word ⊎ AsksWord b bytes s.arena word
+    → IsReadByOther (one.more ++ two.more) s.arena word
+both_read {s = s} {a = a} bytes one two are word (inl asks) =
+    read_in one.more (one.more ++ two.more) s.arena word (λ e i. among_left e one.more two.more i)
     (one.read word (subst (λ (bs : List ℕ). AsksWord a bs s.arena word) (sym are) asks))
-both_read {q = q} {s = s} {b = b} bytes one two are word (inr asks) =
-    two.read word (subst (λ (bs : List ℕ). AsksWord b bs s.arena word) (sym (one.same ∙ are)) asks)
+both_read {s = s} {b = b} bytes one two are word (inr asks) =
+    read_in two.more (one.more ++ two.more) s.arena word (λ e i. among_right e one.more two.more i)
+    (two.read word (subst (λ (bs : List ℕ). AsksWord b bs s.arena word) (sym (one.same ∙ are)) asks))
 
 -- ---- what is shown
 
 pub shows_query : {pool : Pool} {p q : View} {s : Region} {f : FinishedView} {plan : Plan} {threads : ℕ} (bytes : List ℕ) → Asked threads pool p q plan s
     → KeepsHistory q f → bytes_in_pool p s ≡ bytes → ShowsQuery f plan bytes
-shows_query {q = q} {s = s} {plan = plan} bytes asks kept are =
-    shows bytes (AsksWord plan bytes) asks.stocked kept (asks.same ∙ are)
-    (subst (λ (bs : List ℕ). AreRead q.seen (AsksWord plan bs) s.arena) are asks.read)
+shows_query {s = s} {plan = plan} bytes asks kept are =
+    shows bytes (AsksWord plan bytes) asks.more asks.before asks.stocked kept asks.seen are (asks.same ∙ are) asks.spared
+    (subst (λ (bs : List ℕ). AreRead asks.more (AsksWord plan bs) s.arena) are asks.read)
 
 pub shows_both : {pool : Pool} {p q r : View} {s : Region} {f : FinishedView} {a b : Plan} {threads : ℕ} (bytes : List ℕ) → Asked threads pool p q a s
     → Asked threads pool q r b s → KeepsHistory r f → bytes_in_pool p s ≡ bytes → ShowsBoth f a b bytes
-shows_both {a = a} {b = b} bytes one two kept are =
-    shows bytes (λ id word. AsksWord a bytes id word ⊎ AsksWord b bytes id word) two.stocked kept (two.same ∙ (one.same ∙ are))
+shows_both {p = p} {s = s} {a = a} {b = b} bytes one two kept are =
+    shows bytes (λ id word. AsksWord a bytes id word ⊎ AsksWord b bytes id word) (one.more ++ two.more) one.before two.stocked kept
+    (two.seen ∙ (ap (λ (es : List Entry). es ++ two.more) one.seen ∙ append_assoc p.seen one.more two.more)) are (two.same ∙ (one.same ∙ are))
+    (λ place from below. all_both (λ e. Spares s.arena place e.call) one.more two.more (one.spared place from below) (two.spared place from below))
     (both_read bytes one two are)
 
 -- ---- passes

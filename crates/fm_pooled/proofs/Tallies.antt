@@ -32,7 +32,7 @@ use Rattle.fm_workers.specs.Tally.{CanTallyWith, OnlyAddsTo, no_more, closed, on
 use Rattle.fm_pooled.specs.Asking.{Asked, HasPasses}
 use Rattle.fm_pooled.specs.Stocked.{CanStock, IsLone, IsOpened, IsStocked, KeepsArenas, bytes_in_pool}
 use Rattle.fm_pooled.specs.Tallied.{CanOpenTwo, HasRoomForCounts, IsBeside}
-use Rattle.fm_pooled.proofs.Crews.{AllTouch, Touches, bytes_stay, crew_touches, not_stopped, only_reads_touch, stays_alive, stocked_still}
+use Rattle.fm_pooled.proofs.Crews.{AllTouch, Touches, bytes_stay, crew_touches, not_stopped, only_reads_touch, records_spared, stays_alive, stocked_still}
 use Rattle.fm_pooled.proofs.Opening.{knows_none}
 use Rattle.fm_pooled.proofs.Shows.{asked, can_ask, is_whole, pooled_is}
 
@@ -179,3 +179,4 @@ module _ {pool : Pool} {p q : View} {s counts : Region} {plan : Plan} {threads :
       (stocked_still (MayCount counts) h w.crew sound (touch w) outside w.known counts.arena (counts.first + counts.size) b.room.known.given
       (within counts b.room.longs))
       (bytes_stay (MayCount counts) h w.crew sound (touch w) (λ a word may is. b.other (sym may.0 ∙ is)))
+      (records_spared (MayCount counts) h w.crew sound (touch w) (λ a word may is. b.other (sym may.0 ∙ is)))

@@ -1,10 +1,10 @@
 -- What the history of a finished pool shows of records that passes read.
-use Rattle.std.specs.Prelude.{◌≡◌, ◌≢◌, ◌⊎◌, ℕ, true, List, [], length}
+use Rattle.std.specs.Prelude.{◌≡◌, ◌≢◌, ◌⊎◌, ℕ, true, List, [], ◌++◌, length}
 use Rattle.fm_base.specs.declared.arena_id.ArenaId.{ArenaId}
 use Rattle.fm_base.specs.declared.caller.Caller.{Caller}
-use Rattle.fm_base.specs.Arenas.{has_arena}
+use Rattle.fm_base.specs.Arenas.{State, has_arena}
 use Rattle.fm_base.specs.Calls.{Entry}
-use Rattle.fm_base.specs.Histories.{IsLegal, IsTidy}
+use Rattle.fm_base.specs.Histories.{IsLegal, IsTidy, state_after}
 use Rattle.fm_path.specs.Resolution.{Resolution}
 use Rattle.fm_pool_facts.specs.Loans.{IsRightlyLent}
 use Rattle.fm_pool_facts.specs.Views.{span, limit_of}
@@ -13,6 +13,7 @@ use Rattle.fm_records.specs.Alone.{bytes_at_places}
 use Rattle.fm_records.specs.Bytes.{HasRead}
 use Rattle.fm_records.specs.Laws.{IsAsked, value_in}
 use Rattle.fm_records.specs.Reads.{IsWordOf}
+use Rattle.fm_records.specs.Shares.{AreSpared}
 use Rattle.fm_rule.specs.Finishing.{FinishedView}
 use Rattle.fm_rule.specs.GivenBytes.{state_of}
 use Rattle.fm_segment.specs.Region.{region_of}
@@ -41,13 +42,24 @@ pub record AsksWord (p : Plan) (bytes : List ℕ) (id : ArenaId) (word : ℕ) : 
 abbrev pub AreRead : List Entry → (ArenaId → ℕ → Type 0) → ArenaId → Type 0
 AreRead es Asks id = (word : ℕ) → Asks id word → IsReadByOther es id word
 
--- in the end the bytes stand from place 0 of one arena, and others have read there each word that is asked for
+-- what the pool's memory holds after the first entries of its history
+abbrev pub state_before : FinishedView → List Entry → State
+state_before f before = state_after (limit_of f.shape) [] before
+
+-- After some entries the bytes stand from place 0 of one arena. Then nobody changes them, and others have read there each word that is
+-- asked for
 pub record ShowsRecords (f : FinishedView) (bytes : List ℕ) (Asks : ArenaId → ℕ → Type 0) : Type 0 where
   pub is_history : IsHistory f
   pub id : ArenaId
-  pub known : has_arena (state_of f) id ≡ true
-  pub stand : bytes_at_places (state_of f) (region_of id 0 (length bytes)) ≡ bytes
-  pub read : AreRead f.history Asks id
+  pub before : List Entry
+  pub after : List Entry
+  pub parts : f.history ≡ before ++ after
+  pub known : has_arena (state_before f before) id ≡ true
+  pub stand : bytes_at_places (state_before f before) (region_of id 0 (length bytes)) ≡ bytes
+  pub spared : AreSpared (region_of id 0 (length bytes)) after
+  pub read : AreRead after Asks id
+  -- so they stand in the end
+  pub last : bytes_at_places (state_of f) (region_of id 0 (length bytes)) ≡ bytes
 
 -- the pool's history, in which the query was answered over these bytes
 abbrev pub ShowsQuery : FinishedView → Plan → List ℕ → Type 0

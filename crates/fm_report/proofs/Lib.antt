@@ -1,3 +1,4 @@
 pub mod Joining
 pub mod Opened
 pub mod Telling
+pub mod Living

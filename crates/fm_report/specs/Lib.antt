@@ -1,4 +1,5 @@
 pub mod Views
 pub mod Alive
 pub mod Texts
+pub mod Living
 pub mod Told

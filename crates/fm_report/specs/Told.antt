@@ -2,10 +2,9 @@
 use Rattle.std.specs.Prelude.{◌≡◌, ℕ, List, [], map, Option}
 use Rattle.fm_base.specs.declared.arena_id.ArenaId.{ArenaId}
 use Rattle.fm_base.specs.declared.caller.Caller.{Caller}
-use Rattle.fm_base.specs.Histories.{IsLegal, IsTidy}
-use Rattle.fm_pool_facts.specs.Loans.{IsRightlyLent}
-use Rattle.fm_pool_facts.specs.Views.{limit_of, span}
-use Rattle.fm_rule.specs.Finishing.{FinishedView}
+use Rattle.fm_base.specs.Histories.{IsTidy}
+use Rattle.fm_pool_facts.specs.Views.{limit_of}
+use Rattle.fm_rule.specs.Finishing.{FinishedView, IsFinished}
 use Rattle.fm_run.specs.declared.reply.Reply.{Reply}
 use Rattle.fm_run.specs.Report.{Done, IsReport, Played, all_done, callers, number_of}
 use Rattle.fm_run.specs.Standings.{arena_of}
@@ -45,10 +44,9 @@ pub record IsReportOf (s : ScriptOf) (r : ReportView) : Type 0 where
   pub lines : r.lines ≡ told_of (all_done played)
   pub alive : r.alive ≡ alive_of r.finished (arena_by (number_of played) (opened_of (all_done played))) s.lines
 
--- The script was run: this is the report of it, and its history is one of one-thread arenas, which changes only bytes that
--- were given, and whose words are lent rightly
+-- The script was run: this is the report of it, over a pool that is finished. Its history is one of one-thread arenas, whose
+-- words are lent rightly, that the pool's words show; and it changes only bytes that were given
 pub record IsRunOf (s : ScriptOf) (r : ReportView) : Type 0 where
   pub report : IsReportOf s r
-  pub legal : IsLegal (limit_of r.finished.shape) [] r.finished.history
+  pub finished : IsFinished r.finished
   pub tidy : IsTidy (limit_of r.finished.shape) [] r.finished.history
-  pub lent : IsRightlyLent (span r.finished.shape) (limit_of r.finished.shape) r.finished.history

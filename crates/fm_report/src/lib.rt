@@ -4,6 +4,7 @@
 mod alive;
 mod arena;
 mod given;
+mod laws;
 mod line;
 mod lines;
 mod printing;
@@ -11,6 +12,7 @@ mod report;
 
 pub use arena::AliveArena;
 pub use given::Given;
+pub use laws::living_arenas_fit;
 pub use line::ReportLine;
 pub use lines::report_lines;
 pub use printing::print_report;

@@ -66,9 +66,9 @@ pub record Alike (v p : View) : Type 0 where
 pub alike_none : (v : View) → Alike v v
 alike_none v = record { home = refl; shape = refl; live = refl; caller = refl; seen = refl; met = refl; finds = refl; gathered = refl }
 
-alike_draws : (o : Option ℕ) (x : ℕ) (v : View) → Alike v (draws o x v)
-alike_draws None x v = record { home = refl; shape = refl; live = refl; caller = refl; seen = refl; met = refl; finds = refl; gathered = refl }
-alike_draws (Some n) x v = record { home = refl; shape = refl; live = refl; caller = refl; seen = refl; met = refl; finds = refl; gathered = refl }
+alike_draws : (o : Option ℕ) (e x : ℕ) (v : View) → Alike v (draws o e x v)
+alike_draws None e x v = record { home = refl; shape = refl; live = refl; caller = refl; seen = refl; met = refl; finds = refl; gathered = refl }
+alike_draws (Some n) e x v = record { home = refl; shape = refl; live = refl; caller = refl; seen = refl; met = refl; finds = refl; gathered = refl }
 
 -- a step may change these
 alike_but : (v : View) (i m : Option ArenaId) (cs ss : List Close) (hand : Hand) (hs gs : List ArenaId)
@@ -118,7 +118,7 @@ same_part (Retires a) v x =
     alike_but v v.inside v.mark v.closes (dropped a v.sweeps) h v.holds v.handles
 same_part (GivesSlot s) v x = alike_but v v.inside v.mark v.closes v.sweeps nothing v.holds v.handles
 same_part Looks v x = alike_none v
-same_part (Draws e) v x = alike_draws (number_drawn v.shape e x) x v
+same_part (Draws e) v x = alike_draws (number_drawn v.shape e x) e x v
 
 pub all_of_in : {A : Type 0} (P : A → Type 0) (xs : List A) → ((x : A) → In x xs → P x) → All P xs
 all_of_in P [] f = All-nil P
@@ -142,6 +142,8 @@ sound_homed home v s = record {
   own_pages = s.own_pages;
   swept_page = s.swept_page;
   few_left = s.few_left;
+  held = s.held;
+  own_handles = s.own_handles;
   none_left = s.none_left;
   drawn = λ n e.
       let y = s.drawn n e in record { later = y.later; number = y.number; other = y.other; silent = y.silent; outside = y.outside };

@@ -1,5 +1,5 @@
 -- A pass asks how many numbers were drawn, until it draws one or all are drawn.
-use Rattle.std.proofs.Common.{◌≡◌, ◌≢◌, ℕ, ◌+◌, ◌<◌, ◌≤◌, ◌==◌, nat_le, Bool, true, false, if◌then◌else◌, List, [], ◌++◌, length, All, get_or, sym, refl, ap, ◌∙◌, subst, arith, inl, inr, ⊎_elim, append_assoc, Option, Some, None, eq-eqb, ne_eqb}
+use Rattle.std.proofs.Common.{◌≡◌, ◌≢◌, ℕ, ◌+◌, ◌<◌, ◌≤◌, ◌==◌, ◌&&◌, nat_le, Bool, true, false, if◌then◌else◌, List, [], ◌++◌, length, All, get_or, sym, refl, ap, ◌∙◌, subst, arith, inl, inr, ⊎_elim, append_assoc, Option, Some, None, eq-eqb, ne_eqb}
 use Rattle.std.proofs.lemmas.List.{append-nil}
 use Rattle.std.proofs.lemmas.List.Elements.{filter-append}
 use Rattle.std.proofs.lemmas.Bool.{leb-true, leb-false}
@@ -8,15 +8,16 @@ use Rattle.fm_base.specs.declared.caller.Caller.{Caller}
 use Rattle.fm_base.specs.Calls.{Entry}
 use Rattle.fm_base.specs.Histories.{made_by}
 use Rattle.fm_base.specs.Finds.{Find, Gathered, Draws as Drawing, is_draw}
-use Rattle.fm_pool_facts.specs.Views.{View, In, HasFind, pass_of}
+use Rattle.fm_pool_facts.specs.Views.{View, In, HasCaller, HasFind, pass_of}
 use Rattle.fm_pool_facts.specs.Steps.{Stepped, number_drawn, draws, caller_drawn, note_draw, is_clear}
 use Rattle.fm_pool_facts.specs.Moves.{LearnsCount}
 use Rattle.fm_pool_facts.proofs.Founds.{draw_found, draw_drew, draw_is}
 use Rattle.fm_pool_facts.proofs.Keeping.{in_append, in_left, in_right}
 use Rattle.fm_pool_steps.proofs.Reading.{eqb_true, eqb_false}
 use Rattle.fm_rule.specs.Passes.{IsOf}
-use Rattle.fm_rule.specs.Draws.{Asked, Takes, NoneDrawn, Looked}
+use Rattle.fm_rule.specs.Draws.{Asked, LearnsAnew, Takes, NoneDrawn, Looked}
 use Rattle.fm_rule.specs.declared.pool.Pool.{Pool}
+use Rattle.fm_rule.proofs.Following.{last_found, follows_more, last_more}
 
 -- no step
 asked_none : (p : View) → p.drawn ≡ None → Asked p p [] None
@@ -52,7 +53,7 @@ module _ (old now new : View) (ds : List Find) (a : Asked old now ds None) where
   found_still f (inr h) = inr (h.0, subst (In h.0) (sym same_gathered) h.1, h.2)
 
   -- one more step, which found x
-  asked_then : (kept : old.whole ≡ true → now.whole ≡ true) (d : Option ℕ) (w : Bool) (x : ℕ) (nd : ℕ → List Find)
+  asked_then : (kept : now.whole ≡ old.whole) (d : Option ℕ) (w : Bool) (x : ℕ) (nd : ℕ → List Find)
       → ((n : ℕ) (f : Find) → In f (nd n) → is_draw f.step ≡ true) → ((n : ℕ) (f : Find) → In f (nd n) → f.found ≡ x) → LearnsCount now x
       → (s : Stepped now new (with_number now d w) [] nd)
       → Asked old new (ds ++ nd (length (now.seen ++ s.others))) d
@@ -69,7 +70,7 @@ module _ (old now new : View) (ds : List Find) (a : Asked old now ds None) where
             ∙ (ap (λ (c : Caller). made_by c es) (sym same_caller) ∙ s.quiet));
         apart = λ i g l. filter-append _ a.more es ∙ (ap (λ (xs : List Entry). xs ++ made_by (get_or old.gathered i g).caller es) (a.apart i g l)
             ∙ (ap (made_by (get_or old.gathered i g).caller) (sym (append-nil es)) ∙ next i g l));
-        alone = λ o. ap (λ (xs : List Entry). xs ++ es) (a.alone o) ∙ s.alone (kept o);
+        alone = λ o. ap (λ (xs : List Entry). xs ++ es) (a.alone o) ∙ s.alone (kept ∙ o);
         finds = finds ∙ (ap (λ (xs : List Find). xs ++ fs) a.finds ∙ append_assoc old.finds ds fs);
         only_draws = λ f i. ⊎_elim (a.only_draws f) (only (length (now.seen ++ es)) f) (in_append f ds fs i);
         later = λ f g h e i. ⊎_elim
@@ -107,29 +108,50 @@ one_drawn z e x same few = go (nat_le (e + 1) z.passes) refl
 
 -- ---- the loop
 
--- the pass has come from `old` to `now` by draws that found another count than they expected
+-- the pass has come from `old` to `now` by draws that found another count than they expected; the last found the next to expect
 pub record Asking (pool : Pool) (old now : View) (expected : ℕ) : Type 0 where
   pub draws : List Find
   pub asked : Asked old now draws None
   pub none : (f : Find) → In f draws → f.drew ≡ None
-  pub kept : old.whole ≡ true → now.whole ≡ true
+  pub tries : LearnsAnew draws
+  pub last : expected ≡ last_found tries.guess draws
+  pub kept : now.whole ≡ old.whole
   pub some : 0 < expected
   pub of : IsOf pool now
 
 pub asking_begins : {pool : Pool} (p : View) (e : ℕ) → IsOf pool p → p.drawn ≡ None → 0 < e → Asking pool p p e
-asking_begins p e of d some = record { draws = []; asked = asked_none p d; none = λ f i. absurd i; kept = λ w. w; some = some; of = of }
+unfolding last_found
+asking_begins p e of d some = record {
+  draws = [];
+  asked = asked_none p d;
+  none = λ f i. absurd i;
+  tries = record { guess = e; follow = tt };
+  last = refl;
+  kept = refl;
+  some = some;
+  of = of;
+}
 
 abbrev Draw : View → View → ℕ → ℕ → Type 0
-Draw p q e x = Stepped p q (draws (number_drawn p.shape e x) x p) [] (note_draw e x p)
+Draw p q e x = Stepped p q (draws (number_drawn p.shape e x) e x p) [] (note_draw e x p)
 
-abbrev whole_after : View → ℕ → Bool
-whole_after p x = if p.whole then true else (length p.gathered + 1 == x)
+abbrev whole_after : View → ℕ → ℕ → Bool
+whole_after p e x = if p.whole then true else (e == 0 && (length p.gathered + 1 == x))
+
+-- a draw makes no pass whole
+not_made : (p : View) (e x : ℕ) → 0 < e → whole_after p e x ≡ p.whole
+not_made p e x some =
+    (λ j. if p.whole then true else (ne_eqb e 0 (λ z. omega arith) j && (length p.gathered + 1 == x))) ∙ go p.whole
+  where
+    go : (b : Bool) → (if b then true else false) ≡ b
+    go true = refl
+    go false = refl
 
 -- the step where it drew nothing
 drew_none : (p q : View) (e x : ℕ) → p.drawn ≡ None → number_drawn p.shape e x ≡ None → Draw p q e x
-    → Stepped p q (with_number p None (whole_after p x)) [] (note_draw e x p)
+    → Stepped p q (with_number p None (whole_after p e x)) [] (note_draw e x p)
 drew_none p q e x d n s = subst (λ (v : View). Stepped p q v [] (note_draw e x p))
-    (ap (λ (o : Option ℕ). draws o x p) n ∙ (λ i. record p { drawn = d i; whole = whole_after p x })) s
+    (ap (λ (o : Option ℕ). draws o e x p) n ∙ (λ i. record p { drawn = d i; whole = whole_after p e x })) s
 
 module _ {pool : Pool} {old p q : View} (e x : ℕ) (t : Asking pool old p e) (s : Draw p q e x) (l : LearnsCount p x) where
   no_number : p.drawn ≡ None
@@ -138,11 +160,18 @@ module _ {pool : Pool} {old p q : View} (e x : ℕ) (t : Asking pool old p e) (s
   shape_is : p.shape ≡ old.shape
   shape_is = same_shape old p q t.draws t.asked
 
-  on_whole : (w : Bool) → q.whole ≡ (if p.whole then true else w) → old.whole ≡ true → q.whole ≡ true
-  on_whole w is o = is ∙ ap (λ (b : Bool). if b then true else w) (t.kept o)
+  -- the step's own find
+  abbrev this : ℕ → Find
+  this n = record { step = Drawing e; found = x; seen = n; clear = is_clear p; drew = caller_drawn (number_drawn p.shape e x) }
+
+  abbrev tried : (n : ℕ) → LearnsAnew (t.draws ++ note_draw e x p n)
+  tried n = record { guess = t.tries.guess; follow = follows_more t.tries.guess t.draws (this n) t.tries.follow (ap Drawing t.last) }
+
+  on_whole : q.whole ≡ whole_after p e x → q.whole ≡ old.whole
+  on_whole is = is ∙ (not_made p e x t.some ∙ t.kept)
 
   counts : old.whole ≡ true → x ≡ length old.gathered + 1
-  counts o = l.whole (t.kept o) ∙ ap (λ (gs : List Gathered). length gs + 1) (same_gathered old p q t.draws t.asked)
+  counts o = l.whole (t.kept ∙ o) ∙ ap (λ (gs : List Gathered). length gs + 1) (same_gathered old p q t.draws t.asked)
 
   pub asking_goes_on : x ≢ e → Asking pool old q x
   asking_goes_on n =
@@ -151,9 +180,11 @@ module _ {pool : Pool} {old p q : View} (e x : ℕ) (t : Asking pool old p e) (s
       let fs : List Find = note_draw e x p (length (p.seen ++ step.others)) in
       record {
         draws = t.draws ++ fs;
-        asked = asked_then old p q t.draws t.asked t.kept None (whole_after p x) x (note_draw e x p) (draw_is e x p) (draw_found e x p) l step;
+        asked = asked_then old p q t.draws t.asked t.kept None (whole_after p e x) x (note_draw e x p) (draw_is e x p) (draw_found e x p) l step;
         none = λ f i. ⊎_elim (t.none f) (draw_drew e x p None d (length (p.seen ++ step.others)) f) (in_append f t.draws fs i);
-        kept = on_whole (length p.gathered + 1 == x) (ap (λ (v : View). v.whole) step.is_part);
+        tries = tried (length (p.seen ++ step.others));
+        last = sym (last_more t.tries.guess t.draws (this (length (p.seen ++ step.others))));
+        kept = on_whole (ap (λ (v : View). v.whole) step.is_part);
         some = (let y = l.own in omega arith);
         of = (ap (λ (v : View). v.home) step.is_part ∙ t.of.0, ap (λ (v : View). v.shape) step.is_part ∙ t.of.1);
       }
@@ -165,11 +196,12 @@ module _ {pool : Pool} {old p q : View} (e x : ℕ) (t : Asking pool old p e) (s
       let step = drew_none p q e x no_number d s in
       let n : ℕ = length (p.seen ++ step.others) in
       let fs : List Find = note_draw e x p n in
-      let here : Find = record { step = Drawing e; found = x; seen = n; clear = is_clear p; drew = caller_drawn (number_drawn p.shape e x) } in
+      let here : Find = this n in
       let passes : x ≡ old.shape.passes = all ∙ ap (λ (z : Shape). z.passes) shape_is in
       record {
         draws = t.draws ++ fs;
-        asked = asked_then old p q t.draws t.asked t.kept None (whole_after p x) x (note_draw e x p) (draw_is e x p) (draw_found e x p) l step;
+        asked = asked_then old p q t.draws t.asked t.kept None (whole_after p e x) x (note_draw e x p) (draw_is e x p) (draw_found e x p) l step;
+        tries = tried n;
         all = record {
           none = λ f i. ⊎_elim (t.none f) (draw_drew e x p None d n f) (in_append f t.draws fs i);
           find = here;
@@ -179,7 +211,7 @@ module _ {pool : Pool} {old p q : View} (e x : ℕ) (t : Asking pool old p e) (s
           some = (λ z. let y = t.some in omega arith);
           found = passes;
         };
-        still = on_whole (length p.gathered + 1 == x) (ap (λ (v : View). v.whole) step.is_part);
+        same = on_whole (ap (λ (v : View). v.whole) step.is_part);
         missing = λ o. sym (counts o) ∙ passes;
         sound = step.sound;
       }
@@ -190,13 +222,14 @@ module _ {pool : Pool} {old p q : View} (e x : ℕ) (t : Asking pool old p e) (s
       let m : ℕ = p.shape.passes in
       let few : x < m = (let y = l.few in let k : x ≢ m = ne in omega arith) in
       let d = one_drawn p.shape e x same few in
-      let step = subst (λ (v : View). Stepped p q v [] (note_draw e x p)) (ap (λ (o : Option ℕ). draws o x p) d) s in
+      let step = subst (λ (v : View). Stepped p q v [] (note_draw e x p)) (ap (λ (o : Option ℕ). draws o e x p) d) s in
       let n : ℕ = length (p.seen ++ step.others) in
       let fs : List Find = note_draw e x p n in
-      let here : Find = record { step = Drawing e; found = x; seen = n; clear = is_clear p; drew = caller_drawn (number_drawn p.shape e x) } in
+      let here : Find = this n in
       record {
         draws = t.draws ++ fs;
         asked = asked_then old p q t.draws t.asked t.kept (Some x) false x (note_draw e x p) (draw_is e x p) (draw_found e x p) l step;
+        tries = tried n;
         drew = record {
           find = here;
           among = in_right here t.draws fs (inl refl);
@@ -220,12 +253,14 @@ module _ {pool : Pool} {old p q : View} (e x : ℕ) (t : Asking pool old p e) (s
 -- ---- the look for every number
 
 -- a draw gathers nobody
-gathers_none : (o : Option ℕ) (x : ℕ) (v : View) → (draws o x v).gathered ≡ v.gathered
-gathers_none None x v = refl
-gathers_none (Some n) x v = refl
+gathers_none : (o : Option ℕ) (e x : ℕ) (v : View) → (draws o e x v).gathered ≡ v.gathered
+gathers_none None e x v = refl
+gathers_none (Some n) e x v = refl
 
 pub still_gathered : (p q : View) (e x : ℕ) → Draw p q e x → length q.gathered ≡ length p.gathered
-still_gathered p q e x s = ap (λ (v : View). length v.gathered) s.is_part ∙ ap (λ (gs : List Gathered). length gs) (gathers_none (number_drawn p.shape e x) x p)
+still_gathered p q e x s =
+    ap (λ (v : View). length v.gathered) s.is_part
+    ∙ ap (λ (gs : List Gathered). length gs) (gathers_none (number_drawn p.shape e x) e x p)
 
 pub looked : (old new : View) (x : ℕ) → old.drawn ≡ None → Draw old new 0 x → LearnsCount old x → (b : Bool) → b ≡ (x == length old.gathered + 1)
     → Looked old new b
@@ -238,12 +273,13 @@ looked old new x none s l b is =
     let turned : b ≡ (c == x) = is ∙ swap_sides x c in
     record {
       find = here;
-      asked = asked_then old old new [] (asked_none old none) (λ w. w) None (whole_after old x) x (note_draw 0 x old) (draw_is 0 x old)
+      asked = asked_then old old new [] (asked_none old none) refl None (whole_after old 0 x) x (note_draw 0 x old) (draw_is 0 x old)
           (draw_found 0 x old) l step;
       step = refl;
       none = ap caller_drawn d;
       is = turned;
       whole = ap (λ (v : View). v.whole) step.is_part ∙ (go old.whole refl ∙ sym turned);
+      gathered = λ w n h. subst (λ (y : View). HasCaller y n) (sym step.is_part) (l.all (eqb_true c x (sym turned ∙ w)) n h);
       still = λ w. turned ∙ eq-eqb c x (sym (l.whole w));
       complete = λ h. turned ∙ eq-eqb c x (sym (l.complete h));
       sound = step.sound;

@@ -1,15 +1,17 @@
 -- A pass and the one that is split off from it, and a pass that another is gathered into.
-use Rattle.std.proofs.Common.{◌≡◌, ℕ, suc, ◌+◌, ◌<◌, true, List, [], ◌∷◌, ◌++◌, length, sym, refl, ap, ◌∙◌, subst, arith, inl, inr, Option, Some, None, ⊎_elim}
+use Rattle.std.proofs.Common.{◌≡◌, ℕ, suc, ◌+◌, ◌<◌, Bool, true, false, if◌then◌else◌, List, [], ◌∷◌, ◌++◌, length, sym, refl, ap, ◌∙◌, subst, arith, inl, inr, Option, Some, None}
 use Rattle.std.proofs.lemmas.List.{append-nil, length-append}
 use Rattle.std.proofs.lemmas.List.Elements.{filter-append}
 use Rattle.fm_words.specs.declared.shape.Shape.{Shape}
 use Rattle.fm_base.specs.declared.caller.Caller.{Caller}
 use Rattle.fm_base.specs.declared.arena_id.ArenaId.{ArenaId}
 use Rattle.fm_base.specs.Arenas.{IsUnderWay}
+use Rattle.fm_base.specs.Calls.{Entry}
 use Rattle.fm_base.specs.Histories.{made_by}
 use Rattle.fm_base.specs.Finds.{Gathered}
+use Rattle.fm_depicts.specs.Handles.{AreLeft}
 use Rattle.fm_pool_facts.specs.declared.step.Step.TheVariants.{Looks}
-use Rattle.fm_pool_facts.specs.Views.{Met, View, In, IsNew, IsSound, brought, pass_of, state_in}
+use Rattle.fm_pool_facts.specs.Views.{Met, View, In, IsNew, IsSound, is_automatic, brought, pass_of, state_in}
 use Rattle.fm_pool_facts.specs.Splits.{view_of, number_or, drawn_left, drawn_right, as_gathered, gather, IsAtRest}
 use Rattle.fm_pool_facts.specs.Steps.{part, entries, noted}
 use Rattle.fm_pool_facts.specs.Facts.{Begins}
@@ -42,6 +44,8 @@ left_sound v s = record {
   own_pages = s.own_pages;
   swept_page = s.swept_page;
   few_left = s.few_left;
+  held = s.held;
+  own_handles = s.own_handles;
   none_left = s.none_left;
   drawn = λ n e. absurd (cc);
   few = s.few;
@@ -54,6 +58,11 @@ left_sound v s = record {
 
 pub left_new : (v : View) (n : ℕ) → IsNew v n → IsNew (drawn_left v) n
 left_new v n y = record { later = y.later; number = y.number; other = y.other; silent = y.silent; outside = y.outside }
+
+-- a view without holds and handles has none of any sort
+none_gripped : (a : ArenaId) (b : Bool) → ¬ (In a (if b then [] else []))
+none_gripped a true i = i
+none_gripped a false i = i
 
 pub right_sound : (v : View) (n : ℕ) → v.drawn ≡ Some n → IsSound v → IsSound (drawn_right v)
 right_sound v n e s =
@@ -76,6 +85,8 @@ right_sound v n e s =
       own_pages = λ p i. absurd i;
       swept_page = λ a i p w q. absurd (cc);
       few_left = λ f. ⊎_elim (λ i. absurd i) (λ (g : (g : Gathered) × In g [] × In f g.finds). absurd g.1);
+      held = λ a i. absurd (none_gripped a (is_automatic a.kind) i);
+      own_handles = λ a k. subst (λ (es : List Entry). AreLeft a es 0) (sym (ap (λ (k : ℕ). made_by (pass_of k) v.seen) is ∙ y.silent)) refl;
       none_left = λ w. absurd (cc);
       hand = λ x i. absurd i;
       drawn = λ k q. absurd (cc);
@@ -135,6 +146,7 @@ drawn_of old mid d n t is sound =
         later = a.later;
         is = λ i. record (a.is i) { drawn = None };
       };
+      tries = record { guess = t.tries.guess; follow = t.tries.follow };
       drew = t.drew;
       fresh = left_new mid n (t.sound.drawn n drawn);
       whole = t.whole;

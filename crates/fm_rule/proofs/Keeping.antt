@@ -43,13 +43,13 @@ read_adds b p x ms e =
     let n : (x == 0) ≡ false = ne_eqb x 0 (λ q. absurd (omega arith)) in
     subst (λ (c : Bool). In (mapping_of b p) (if c then ms else mapping_of b (x - 1) ∷ ms)) (sym n) (inl (ap (mapping_of b) (let h : p ≡ x - 1 = omega arith in h)))
 
-draws_inside : (o : Option ℕ) (x : ℕ) (v : View) → (draws o x v).inside ≡ v.inside
-draws_inside None x v = refl
-draws_inside (Some n) x v = refl
+draws_inside : (o : Option ℕ) (e x : ℕ) (v : View) → (draws o e x v).inside ≡ v.inside
+draws_inside None e x v = refl
+draws_inside (Some n) e x v = refl
 
-draws_reads : (o : Option ℕ) (x : ℕ) (v : View) (y : Mapping) → In y v.reads → In y (draws o x v).reads
-draws_reads None x v y i = i
-draws_reads (Some n) x v y i = i
+draws_reads : (o : Option ℕ) (e x : ℕ) (v : View) (y : Mapping) → In y v.reads → In y (draws o e x v).reads
+draws_reads None e x v y i = i
+draws_reads (Some n) e x v y i = i
 
 module _ (c : Caller) (i : Option ArenaId) (part' : Part) (count : ℕ) (v w : View) (held held' : Held) (k : Keeps c i part' count (v, held))
     (e : held' ≡ held) where
@@ -111,7 +111,7 @@ module _ (c : Caller) (i : Option ArenaId) (part' : Part) (count : ℕ) (v w : V
   unfolding part entries noted
   draw_keeps b x t =
       keeps_on c i part' count v (part (Draws b) v x) w (entries (Draws b) v x) (noted (Draws b) v x) held held' k
-      (same_part (Draws b) v x) (draws_inside (number_drawn v.shape b x) x v) (draws_reads (number_drawn v.shape b x) x v) t.gives e
+      (same_part (Draws b) v x) (draws_inside (number_drawn v.shape b x) b x v) (draws_reads (number_drawn v.shape b x) b x v) t.gives e
 
   pub shut_keeps : (a : ArenaId) (x : ℕ) → Tells (Shuts a) v x w → Keeps c i part' count (w, held')
   unfolding part entries noted

@@ -3,6 +3,7 @@ pub mod Knowing
 pub mod Stepping
 pub mod Keeping
 pub mod Noting
+pub mod Following
 pub mod Asking
 pub mod Halves
 pub mod Resting

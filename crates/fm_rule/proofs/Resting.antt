@@ -1,5 +1,5 @@
 -- The words of a table that was closed show the history.
-use Rattle.std.proofs.Common.{◌≡◌, ℕ, zero, suc, ◌+◌, true, List, [], ◌∷◌, ◌++◌, length, take, sym, ap, ◌∙◌, subst, arith}
+use Rattle.std.proofs.Common.{◌≡◌, ℕ, zero, suc, true, List, [], ◌∷◌, length, get_or, sym, ap, ◌∙◌, subst}
 use mathlib.Core.Option.{some, some-injective, some-ne-none}
 use lib.ListN.{get_elem?}
 use Rattle.atomic_table.specs.Table.{Final, Seen}
@@ -19,14 +19,11 @@ use Rattle.fm_rule.proofs.Allowed.{Keeping}
 use Rattle.fm_rule.specs.Views.{homed}
 use Rattle.fm_rule.specs.Finishing.{IsFinished}
 
--- One more of a list's first elements.
-next_taken : (xs : List ℕ) (k x : ℕ) → get_elem? xs k ≡ some x → take (suc k) xs ≡ take k xs ++ x ∷ []
-next_taken [] k x e = absurd (some-ne-none x (sym e))
-next_taken (y ∷ ys) zero x e = ap (λ (z : ℕ). z ∷ []) (some-injective y x e)
-next_taken (y ∷ ys) (suc k) x e = ap (λ (zs : List ℕ). y ∷ zs) (next_taken ys k x e)
-
-pub taken_more : (xs : List ℕ) (k x : ℕ) → get_elem? xs k ≡ some x → take (k + 1) xs ≡ take k xs ++ x ∷ []
-taken_more xs k x e = let n : k + 1 ≡ suc k = omega arith in ap (λ (i : ℕ). take i xs) n ∙ next_taken xs k x e
+-- What stands at an index.
+pub read_at : (xs : List ℕ) (k x : ℕ) → get_elem? xs k ≡ some x → x ≡ get_or xs k 0
+read_at [] k x e = absurd (some-ne-none x (sym e))
+read_at (y ∷ ys) zero x e = sym (some-injective y x e)
+read_at (y ∷ ys) (suc k) x e = read_at ys k x e
 
 -- of the last state the seat `id` has the view v
 pub record Shown (z : Shape) (v : View) (ws : List ℕ) : Type 0 where

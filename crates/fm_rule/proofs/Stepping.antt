@@ -19,9 +19,9 @@ use Rattle.fm_pool_facts.specs.Views.{given_of}
 use Rattle.fm_rule.specs.Views.{homed}
 use Rattle.fm_rule.proofs.Allowed.{same_part, stepped}
 
-homed_draws : (o : Option ℕ) (x : ℕ) (home : List ℕ) (v : View) → homed home (draws o x v) ≡ draws o x (homed home v)
-homed_draws None x home v = refl
-homed_draws (Some n) x home v = refl
+homed_draws : (o : Option ℕ) (e x : ℕ) (home : List ℕ) (v : View) → homed home (draws o e x v) ≡ draws o e x (homed home v)
+homed_draws None e x home v = refl
+homed_draws (Some n) e x home v = refl
 
 -- what a count tells is the same in every pool
 pub count_learnt : (now v : View) (home : List ℕ) (x : ℕ) → homed home v ≡ now → LearnsCount v x → LearnsCount now x
@@ -29,13 +29,14 @@ count_learnt now v home x is l = subst (λ (y : View). LearnsCount y x) is (reco
   own = l.own;
   few = l.few;
   whole = l.whole;
+  all = l.all;
   complete = λ h. l.complete (record { first = h.first; others = h.others });
   later = l.later;
 })
 
 -- and what slot bits tell
 pub slots_learnt : (now v : View) (home : List ℕ) (x : ℕ) → homed home v ≡ now → LearnsSlots v x → LearnsSlots now x
-slots_learnt now v home x is l = subst (λ (y : View). LearnsSlots y x) is (record { idle = l.idle; busy = l.busy })
+slots_learnt now v home x is l = subst (λ (y : View). LearnsSlots y x) is (record { some = l.some; low = l.low; idle = l.idle; busy = l.busy })
 
 -- an arena that it holds is alive, in every pool
 pub hold_learnt : (now v : View) (home : List ℕ) (a : ArenaId) (x : ℕ) → homed home v ≡ now → (In a (grips a v) → alive_holds a x ≢ None)
@@ -128,11 +129,11 @@ module _ (now v w : View) (home home' : List ℕ) (is : homed home v ≡ now) (s
       (stepped home v (part Unmarks v x) w (entries Unmarks v x) none_noted (same_part Unmarks v x) met t.gives)
 
   pub draw_stepped : (e x : ℕ) → Tells (Draws e) v x w
-      → Stepped now (homed home' w) (draws (number_drawn now.shape e x) x now) [] (note_draw e x now)
+      → Stepped now (homed home' w) (draws (number_drawn now.shape e x) e x now) [] (note_draw e x now)
   unfolding part entries noted
   draw_stepped e x t =
-      stepped_as (λ (y : View). draws (number_drawn y.shape e x) x y) (λ y. []) (λ (y : View). note_draw e x y)
-      (subst (λ (p : View). Stepped (homed home v) (homed home w) p [] (note_draw e x v)) (homed_draws (number_drawn v.shape e x) x home v)
+      stepped_as (λ (y : View). draws (number_drawn y.shape e x) e x y) (λ y. []) (λ (y : View). note_draw e x y)
+      (subst (λ (p : View). Stepped (homed home v) (homed home w) p [] (note_draw e x v)) (homed_draws (number_drawn v.shape e x) e x home v)
       (stepped home v (part (Draws e) v x) w (entries (Draws e) v x) (noted (Draws e) v x) (same_part (Draws e) v x) met t.gives))
 
   pub shut_stepped : (a : ArenaId) (x : ℕ) → Tells (Shuts a) v x w

@@ -1,10 +1,10 @@
 -- What drawing, gathering and looking for every number do to passes.
-use Rattle.std.specs.Prelude.{◌≡◌, ◌≢◌, ℕ, ◌+◌, ◌<◌, ◌≤◌, ◌==◌, Bool, true, false, List, [], ◌∷◌, ◌++◌, length, All, Option, Some, None}
+use Rattle.std.specs.Prelude.{◌≡◌, ◌≢◌, ℕ, ◌+◌, ◌<◌, ◌≤◌, ◌==◌, Bool, true, false, List, [], ◌∷◌, ◌++◌, length, All, Option, Some, None, ⊤}
 use Rattle.fm_base.specs.declared.caller.Caller.{Caller}
 use Rattle.fm_base.specs.Calls.{Entry}
 use Rattle.fm_base.specs.Histories.{made_by}
 use Rattle.fm_base.specs.Finds.{Find, Gathered, Draws, is_draw}
-use Rattle.fm_pool_facts.specs.Views.{View, In, IsNew, IsSound, pass_of, HasFind, HasAllDrawn}
+use Rattle.fm_pool_facts.specs.Views.{View, In, IsNew, IsSound, pass_of, HasCaller, HasFind, HasAllDrawn}
 use Rattle.fm_pool_facts.specs.Hands.{nothing}
 use Rattle.fm_pool_facts.specs.Splits.{view_of, as_gathered}
 use Rattle.fm_rule.specs.Passes.{IsOf}
@@ -23,6 +23,16 @@ pub record Asked (old new : View) (draws : List Find) (drawn : Option ℕ) : Typ
   -- the count of drawn numbers never falls: none of these found fewer than a draw before them
   pub later : (f g : Find) → HasFind old f → is_draw f.step ≡ true → In g draws → f.found ≤ g.found
   pub is : new ≡ record old { seen = new.seen; finds = new.finds; whole = new.whole; drawn = drawn }
+
+-- each of these draws expects the count that the one before it found, and the first so many
+abbrev pub Follow : (expected : ℕ) → List Find → Type 0
+Follow expected [] = ⊤
+Follow expected (f ∷ fs) = (f.step ≡ Draws expected) × Follow f.found fs
+
+-- each try but the first expects what the one before it found
+pub record LearnsAnew (draws : List Find) : Type 0 where
+  pub guess : ℕ
+  pub follow : Follow guess draws
 
 -- one of the finds drew the number, and none another
 pub record Drew (n : ℕ) (draws : List Find) : Type 0 where
@@ -47,6 +57,7 @@ pub record FoundAll (passes : ℕ) (draws : List Find) : Type 0 where
 pub record Takes (old new : View) (n : ℕ) : Type 0 where
   pub draws : List Find
   pub asked : Asked old new draws (Some n)
+  pub tries : LearnsAnew draws
   pub drew : Drew n draws
   pub whole : new.whole ≡ false
   pub suffice : old.whole ≡ true → length old.gathered + 1 < old.shape.passes
@@ -57,6 +68,7 @@ pub record Drawn (old new d : View) : Type 0 where
   pub number : ℕ
   pub draws : List Find
   pub asked : Asked old new draws None
+  pub tries : LearnsAnew draws
   pub drew : Drew number draws
   pub fresh : IsNew new number
   pub whole : new.whole ≡ false
@@ -71,9 +83,10 @@ pub record Drawn (old new d : View) : Type 0 where
 pub record NoneDrawn (old new : View) : Type 0 where
   pub draws : List Find
   pub asked : Asked old new draws None
+  pub tries : LearnsAnew draws
   pub all : FoundAll old.shape.passes draws
-  -- where the giver was known to be whole, it is so still, and has every number that there is
-  pub still : old.whole ≡ true → new.whole ≡ true
+  -- it is known to be whole just where it was, and has every number that there is then
+  pub same : new.whole ≡ old.whole
   pub missing : old.whole ≡ true → length old.gathered + 1 ≡ old.shape.passes
   pub sound : IsSound new
 
@@ -85,6 +98,8 @@ pub record Looked (old new : View) (result : Bool) : Type 0 where
   pub none : find.drew ≡ None
   pub is : result ≡ (length old.gathered + 1 == find.found)
   pub whole : new.whole ≡ result
+  -- of each number that was drawn it has the caller then, so what it has seen is the whole history
+  pub gathered : result ≡ true → (n : ℕ) → n < find.found → HasCaller new n
   pub still : old.whole ≡ true → result ≡ true
   -- a pass that has the first number and each that its finds drew has them all
   pub complete : HasAllDrawn old → result ≡ true

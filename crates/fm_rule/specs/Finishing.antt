@@ -32,7 +32,7 @@ pub record CanFinish (pool : Pool) (p : View) : Type 0 where
   pub whole : p.whole ≡ true
   pub no_slot : p.hand ≡ nothing
 
--- of `finish`, where there was memory
+-- of `finish`
 pub record Finishes (pool : Pool) (p : View) (f : FinishedView) : Type 0 where
   pub shape : f.shape ≡ pool.shape
   pub history : f.history ≡ p.seen

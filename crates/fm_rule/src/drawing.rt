@@ -20,11 +20,12 @@ use std::marker::Brand;
 use std::sync::Wait;
 
 /// Answers how many numbers were drawn. Where they are as many as expected, and not all, the pass has the next one in its
-/// hand from this step on.
+/// hand from this step on. Where 0 are expected it only looks, since every pool has drawn one; a pass that has as many
+/// numbers as were found is known to be whole then.
 pub fn step_draw(pool: &Pool, pass: &mut Pass, expected: u64) -> u64
     requires of { IsOf pool.now pass.old }
     requires none { pass.old.drawn ≡ None }
-    ensures stepped { Stepped pass.old pass.new (draws (number_drawn pass.old.shape expected result) result pass.old) []
+    ensures stepped { Stepped pass.old pass.new (draws (number_drawn pass.old.shape expected result) expected result pass.old) []
         (note_draw expected result pass.old) }
     ensures count { LearnsCount pass.old result }
 {

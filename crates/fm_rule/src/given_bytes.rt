@@ -46,7 +46,7 @@ impl Finished {
         requires { place < words self.now.shape }
         ensures { result ≡ slice_index self.now.words place }
     {
-        self.words[place as usize]
+        self.table.word(place as usize)
     }
 
     /// Byte `k` that the arena has given.

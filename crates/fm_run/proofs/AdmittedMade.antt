@@ -23,6 +23,7 @@ use Rattle.fm_run.specs.declared.standing.Standing.TheVariants.{Nothing}
 use Rattle.fm_run.specs.Calls.{Adds, Allocates, Asks, CallDoes, Closes, Compares, Copies, Exchanges, Fills, Gets, GivesBack, Holds, Line, On, Sets, TakesAgain, Unholds, arena_at, coming, fine, number, segment_at, segment_made}
 use Rattle.fm_run.specs.Outcomes.{outcome, plain}
 use Rattle.fm_run.specs.Lines.{behind, is_number}
+use Rattle.fm_gate.specs.Makers.{Made as MadeBy}
 use Rattle.fm_run.specs.Standings.{IsSpent, hold_of, handle_of, lent, handled_as, held_as, opened_as, unheld, handed_back}
 use Rattle.fm_run.proofs.Naming.{handed-handle, handed-hold, lent-handle, lent-hold, unheld-handle, unheld-hold}
 
@@ -78,11 +79,11 @@ module _ (P : Standing → Type 0) (nothing : P Nothing) where
   by_name None Does out own f d = subst (λ (o : Outcome). P o.made) (sym d.0) nothing
   by_name (Some x) Does out own f d = f x d
 
-opens : (k : Kind) (id : ArenaId) → CanStand (opened k) (opened_as k id)
-opens kind.Global id = record { no_hold = refl; no_handle = refl }
-opens kind.Automatic id = refl
-opens kind.Confined id = record { no_hold = refl; no_handle = refl }
-opens kind.Shared id = record { no_hold = refl; no_handle = refl }
+opens : (m : MadeBy) (k : Kind) (id : ArenaId) → CanStand (opened k) (opened_as m k id)
+opens m kind.Global id = record { no_hold = refl; no_handle = refl }
+opens m kind.Automatic id = refl
+opens m kind.Confined id = record { no_hold = refl; no_handle = refl }
+opens m kind.Shared id = record { no_hold = refl; no_handle = refl }
 
 segment_spent : (r : Region) → IsSpent (standing.Segment r)
 segment_spent r = record { no_hold = refl; no_handle = refl }
@@ -91,7 +92,7 @@ segment_spent r = record { no_hold = refl; no_handle = refl }
 pub line_makes : (c : Caller) (stands : List ℕ → Standing) (command : Command) (out : Outcome) (own : List Entry) → CallDoes c stands command out own
     → CanMake (made command) out.made
 line_makes c stands (Open name k) out own d =
-    by_answer (CanMake (made (Open name k))) (nothing_made (made (Open name k))) (λ id. outcome Fine (opened_as k id)) (opens k) out d.0 d.2
+    by_answer (CanMake (made (Open name k))) (nothing_made (made (Open name k))) (λ id. outcome Fine (opened_as d.0 k id)) (opens d.0 k) out d.1.0 d.1.2
 line_makes c stands (Alloc arena name size align) out own d =
     by_name (CanMake (made (Alloc arena name size align))) nothing_spent (arena_at c stands arena) (Allocates c size align) out own (λ id e.
     by_answer (CanMake (made (Alloc arena name size align))) nothing_spent (λ place. outcome (Place place) (standing.Segment (region_of id place size)))
@@ -130,13 +131,13 @@ line_makes c stands (Alive arena) out own d =
     (λ id e. by_answer IsSpent nothing_spent (λ alive. plain (Truth alive)) (λ v. nothing_spent) out e.0 e.2) d
 line_makes c stands (Hold arena name) out own d =
     by_name (λ s. handle_of s ≡ None) refl (arena_at c stands arena) (Holds c) out own
-    (λ id e. by_answer (λ s. handle_of s ≡ None) refl (λ u. outcome Fine (held_as id)) (λ u. refl) out e.0 e.2) d
+    (λ id e. by_answer (λ s. handle_of s ≡ None) refl (λ u. outcome Fine (held_as e.0 id)) (λ u. refl) out e.1.0 e.1.2) d
 line_makes c stands (Unhold hold) out own d =
     by_name IsSpent nothing_spent (hold_of (stands hold)) (Unholds c) out own
     (λ id e. subst (λ (o : Outcome). IsSpent o.made) (sym e.0) nothing_spent) d
 line_makes c stands (Again handle name) out own d =
     by_name (λ s. hold_of s ≡ None) refl (handle_of (stands handle)) (TakesAgain c) out own
-    (λ id e. by_answer (λ s. hold_of s ≡ None) refl (λ u. outcome Fine (handled_as id)) (λ u. refl) out e.0 e.2) d
+    (λ id e. by_answer (λ s. hold_of s ≡ None) refl (λ u. outcome Fine (handled_as e.0 id)) (λ u. refl) out e.1.0 e.1.2) d
 line_makes c stands (Back handle) out own d =
     by_name IsSpent nothing_spent (handle_of (stands handle)) (GivesBack c) out own
     (λ id e. subst (λ (o : Outcome). IsSpent o.made) (sym e.2) nothing_spent) d

@@ -16,11 +16,11 @@ use Rattle.fm_run.specs.Ordering.{in_order, worker_lines}
 use Rattle.fm_run.specs.Report.{is_first, is_last, is_worker, lines_by}
 
 -- one if the line makes the name
-abbrev one_made : List ℕ → Line → ℕ
+abbrev pub one_made : List ℕ → Line → ℕ
 one_made name l = one_if (is_made name (made l.command))
 
 -- how many of the lines make the name
-abbrev makers : List ℕ → List Line → ℕ
+abbrev pub makers : List ℕ → List Line → ℕ
 makers name [] = 0
 makers name (l ∷ ls) = one_made name l + makers name ls
 
@@ -85,7 +85,7 @@ no_makers name (l ∷ ls) e =
         by_test true t = absurd (let g : maker_in l.who name (Some m) ≡ Some (record { who = l.who; thing = m.thing }) = rw t refl in cc)
         by_test false t = t
 
-one_maker : (name : List ℕ) (before ls : List Line) → AreAdmitted before ls → makers name before ≤ 1 → makers name (before ++ ls) ≤ 1
+pub one_maker : (name : List ℕ) (before ls : List Line) → AreAdmitted before ls → makers name before ≤ 1 → makers name (before ++ ls) ≤ 1
 one_maker name before [] a h = let sum = makers-append name before [] in omega (arith, sum, h)
 one_maker name before (l ∷ ls) a h =
     subst (λ (all : List Line). makers name all ≤ 1) (append_assoc before (l ∷ []) ls)

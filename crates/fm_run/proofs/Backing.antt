@@ -12,7 +12,9 @@ use Rattle.fm_base.proofs.Names.{same_id-self}
 use Rattle.fm_gate.specs.declared.held.Hold as held
 use Rattle.fm_pool_facts.specs.Holds.{how_many, one_if, released}
 use Rattle.fm_base.specs.declared.kind.Kind.TheVariants.{Automatic}
-use Rattle.fm_arena.specs.Handles.{IsHandled}
+use Rattle.fm_arena.specs.declared.handle.AutoHandle.{AutoHandle}
+use Rattle.fm_arena.specs.Handles.{HasHandle}
+use Rattle.fm_gate.specs.Makers.{made_by_pass}
 use Rattle.fm_arena.specs.Learnt.{CanUnhold}
 use Rattle.fm_segment.specs.Access as segment
 use Rattle.fm_pool_facts.specs.Views.{View, IsKnown}
@@ -22,9 +24,9 @@ use Rattle.fm_run.specs.declared.lent.Lent.TheVariants as other
 use Rattle.fm_run.specs.declared.standing.Standing.{Standing}
 use Rattle.fm_run.specs.declared.standing.Standing.TheVariants as standing
 use Rattle.fm_run.specs.declared.standing.Standing.TheVariants.{Nothing, Arena, Segment, Hold, Handle}
-use Rattle.fm_run.specs.Standings.{IsBacked, standing_at, standing_of, arena_of, segment_of, hold_of, handle_of, lent, unheld, handed_back, standing_as}
+use Rattle.fm_run.specs.Standings.{IsBacked, IsHandleIn, standing_at, standing_of, arena_of, segment_of, hold_in, handle_in, hold_of, handle_of, lent, unheld, handed_back, standing_as}
 use Rattle.fm_run.specs.Tokens.{Backs, HasTokens, among, onto, holds_with, handles_with}
-use Rattle.fm_run.proofs.Naming.{unheld-hold, unheld-handle, handed-hold, handed-handle, owned, lent-handle, standing-others, standing-between, standing-own}
+use Rattle.fm_run.proofs.Naming.{unheld-hold, unheld-handle, handed-hold, handed-handle, owned, lent-handle_in, standing-others, standing-between, standing-own}
 use Rattle.fm_run.proofs.Counting.{among_push, among_set, how_many_onto, token_in, token_more, token_less}
 
 some_weaker : {X : Type 0} (P Q : X → Type 0) (o : Option X) → ((x : X) → P x → Q x) → IfSome o P → IfSome o Q
@@ -32,13 +34,13 @@ some_weaker P Q None f h = tt
 some_weaker P Q (Some x) f h = f x h
 
 -- Later too.
-pub backed_later : (p q : View) → Lasts (view_of_pass p) (view_of_pass q) → (s : Standing) → IsBacked p s → IsBacked q s
-backed_later p q l Nothing b = tt
-backed_later p q l (Arena id) b = l.known id b
-backed_later p q l (standing.Automatic id handle) b = (l.known id b.0, some_weaker _ _ handle (λ h k. (l.known h.arena k.0, k.1)) b.1)
-backed_later p q l (Segment r) b = record { arena = l.known r.arena b.arena; given = let g = l.given r.arena in let k = b.given in omega (arith, g, k) }
-backed_later p q l (Hold hold) b = some_weaker _ _ hold (λ h k. (l.known h.arena k.0, k.1)) b
-backed_later p q l (Handle handle) b = some_weaker _ _ handle (λ h k. (l.known h.arena k.0, k.1)) b
+pub backed_later : (p q : View) → Lasts (view_of_pass p) (view_of_pass q) → made_by_pass q ≡ made_by_pass p → (s : Standing) → IsBacked p s → IsBacked q s
+backed_later p q l same Nothing b = tt
+backed_later p q l same (Arena id) b = l.known id b
+backed_later p q l same (standing.Automatic id handle) b = (l.known id b.0, some_weaker _ _ handle (λ h k. (l.known h.arena k.0, k.1, k.2 ∙ sym same)) b.1)
+backed_later p q l same (Segment r) b = record { arena = l.known r.arena b.arena; given = let g = l.given r.arena in let k = b.given in omega (arith, g, k) }
+backed_later p q l same (Hold hold) b = some_weaker _ _ hold (λ h k. (l.known h.arena k.0, k.1, k.2 ∙ sym same)) b
+backed_later p q l same (Handle handle) b = some_weaker _ _ handle (λ h k. (l.known h.arena k.0, k.1, k.2 ∙ sym same)) b
 
 pub backed_unheld : (p : View) (s : Standing) → IsBacked p s → IsBacked p (unheld s)
 backed_unheld p Nothing b = b
@@ -105,12 +107,12 @@ module _ (token : Standing → Option ArenaId) where
 -- ---- what a pass has
 
 module _ (p q : View) {holds handles : List ArenaId} {base own : List Standing} (b : Backs p holds handles base own)
-    (l : Lasts (view_of_pass p) (view_of_pass q)) where
+    (l : Lasts (view_of_pass p) (view_of_pass q)) (same : made_by_pass q ≡ made_by_pass p) where
   others_later : All (λ s. IsBacked q (lent s)) base
-  others_later = All-weaker (λ s. IsBacked p (lent s)) (λ s. IsBacked q (lent s)) (λ s h. backed_later p q l (lent s) h) base b.others_known
+  others_later = All-weaker (λ s. IsBacked p (lent s)) (λ s. IsBacked q (lent s)) (λ s h. backed_later p q l same (lent s) h) base b.others_known
 
   own_later : All (IsBacked q) own
-  own_later = All-weaker (IsBacked p) (IsBacked q) (λ s h. backed_later p q l s h) own b.own_known
+  own_later = All-weaker (IsBacked p) (IsBacked q) (λ s h. backed_later p q l same s h) own b.own_known
 
   -- Nothing was taken and nothing given back.
   pub backs_still : q.holds ≡ p.holds → q.handles ≡ p.handles → Backs q holds handles base own
@@ -164,11 +166,11 @@ module _ (p q : View) {holds handles : List ArenaId} {base own : List Standing} 
 pub backs_lent : (p : View) {holds handles : List ArenaId} {base own : List Standing} (o : Lent) → Backs p holds handles base own
     → IsBacked p (standing_as o) → Backs p holds handles base (own ++ standing_as o ∷ [])
 backs_lent p other.Nothing b known =
-    backs_more p p b (record { known = λ id k. k; given = λ id. omega arith; limit = refl; caller = refl }) Nothing refl refl known
+    backs_more p p b (record { known = λ id k. k; given = λ id. omega arith; limit = refl; caller = refl }) refl Nothing refl refl known
 backs_lent p (other.Arena id) b known =
-    backs_more p p b (record { known = λ id k. k; given = λ id. omega arith; limit = refl; caller = refl }) (Arena id) refl refl known
+    backs_more p p b (record { known = λ id k. k; given = λ id. omega arith; limit = refl; caller = refl }) refl (Arena id) refl refl known
 backs_lent p (other.Segment r) b known =
-    backs_more p p b (record { known = λ id k. k; given = λ id. omega arith; limit = refl; caller = refl }) (Segment r) refl refl known
+    backs_more p p b (record { known = λ id k. k; given = λ id. omega arith; limit = refl; caller = refl }) refl (Segment r) refl refl known
 
 -- ---- what it lets the pass do
 
@@ -185,41 +187,50 @@ among_some token (s ∷ ss) (suc at) a l e =
     let ih = among_some token ss at a (omega (arith, l)) e in
     omega (arith, here, ih)
 
-some-arena : {a b : ArenaId} → Some a ≡ Some b → a ≡ b
-some-arena e = cc
+backed_hold : (p : View) (s : Standing) (h : held.Hold) → IsBacked p s → hold_in s ≡ Some h
+    → IsKnown p h.arena × (h.arena.kind ≢ Automatic) × (h.maker ≡ made_by_pass p)
+backed_hold p Nothing h b e = absurd (cc)
+backed_hold p (Arena id) h b e = absurd (cc)
+backed_hold p (standing.Automatic id handle) h b e = absurd (cc)
+backed_hold p (Segment r) h b e = absurd (cc)
+backed_hold p (Hold hold) h b e =
+    subst (λ (o : Option held.Hold). IfSome o (λ x. IsKnown p x.arena × (x.arena.kind ≢ Automatic) × (x.maker ≡ made_by_pass p))) e b
+backed_hold p (Handle handle) h b e = absurd (cc)
 
-backed_hold : (p : View) (s : Standing) (a : ArenaId) → IsBacked p s → hold_of s ≡ Some a → IsKnown p a × (a.kind ≢ Automatic)
-backed_hold p Nothing a b e = absurd (cc)
-backed_hold p (Arena id) a b e = absurd (cc)
-backed_hold p (standing.Automatic id handle) a b e = absurd (cc)
-backed_hold p (Segment r) a b e = absurd (cc)
-backed_hold p (Hold None) a b e = absurd (cc)
-backed_hold p (Hold (Some h)) a b e = subst (λ (x : ArenaId). IsKnown p x × (x.kind ≢ Automatic)) (some-arena e) b
-backed_hold p (Handle handle) a b e = absurd (cc)
-
-backed_handle : (p : View) (s : Standing) (a : ArenaId) → IsBacked p s → handle_of s ≡ Some a → IsKnown p a × (a.kind ≡ Automatic)
-backed_handle p Nothing a b e = absurd (cc)
-backed_handle p (Arena id) a b e = absurd (cc)
-backed_handle p (standing.Automatic id None) a b e = absurd (cc)
-backed_handle p (standing.Automatic id (Some h)) a b e = subst (λ (x : ArenaId). IsKnown p x × (x.kind ≡ Automatic)) (some-arena e) b.1
-backed_handle p (Segment r) a b e = absurd (cc)
-backed_handle p (Hold hold) a b e = absurd (cc)
-backed_handle p (Handle None) a b e = absurd (cc)
-backed_handle p (Handle (Some h)) a b e = subst (λ (x : ArenaId). IsKnown p x × (x.kind ≡ Automatic)) (some-arena e) b
+backed_handle : (p : View) (s : Standing) (h : AutoHandle) → IsBacked p s → handle_in s ≡ Some h
+    → IsKnown p h.arena × (h.arena.kind ≡ Automatic) × (h.maker ≡ made_by_pass p)
+backed_handle p Nothing h b e = absurd (cc)
+backed_handle p (Arena id) h b e = absurd (cc)
+backed_handle p (standing.Automatic id handle) h b e = subst (λ (o : Option AutoHandle). IsHandleIn p o) e b.1
+backed_handle p (Segment r) h b e = absurd (cc)
+backed_handle p (Hold hold) h b e = absurd (cc)
+backed_handle p (Handle handle) h b e = subst (λ (o : Option AutoHandle). IsHandleIn p o) e b
 
 module _ (p : View) {holds handles : List ArenaId} {base own : List Standing} (b : Backs p holds handles base own) where
-  pub can_unhold : (at : ℕ) (h : held.Hold) → at < length own → hold_of (get_or own at Nothing) ≡ Some h.arena → CanUnhold p h
+  pub can_unhold : (at : ℕ) (h : held.Hold) → at < length own → hold_in (get_or own at Nothing) ≡ Some h → CanUnhold p h
   can_unhold at h l is =
-      let k = backed_hold p (get_or own at Nothing) h.arena (b.own_known at Nothing l) is in
-      record { known = k.0; held = token_in h.arena b.has_holds (among_some hold_of own at h.arena l is); by_hand = k.1 }
+      let k = backed_hold p (get_or own at Nothing) h (b.own_known at Nothing l) is in
+      record {
+        maker = k.2;
+        known = k.0;
+        held = token_in h.arena b.has_holds (among_some hold_of own at h.arena l (ap (option_map (λ (x : held.Hold). x.arena)) is));
+        by_hand = k.1;
+      }
 
-  pub has_handle : (at : ℕ) (a : ArenaId) → at < length own → handle_of (get_or own at Nothing) ≡ Some a → IsHandled p a
-  has_handle at a l is =
-      let k = backed_handle p (get_or own at Nothing) a (b.own_known at Nothing l) is in
-      record { known = k.0; has = token_in a b.has_handles (among_some handle_of own at a l is); automatic = k.1 }
+  pub has_handle : (at : ℕ) (h : AutoHandle) → at < length own → handle_in (get_or own at Nothing) ≡ Some h → HasHandle p h
+  has_handle at h l is =
+      let k = backed_handle p (get_or own at Nothing) h (b.own_known at Nothing l) is in
+      record {
+        maker = k.2;
+        handled = record {
+          known = k.0;
+          has = token_in h.arena b.has_handles (among_some handle_of own at h.arena l (ap (option_map (λ (x : AutoHandle). x.arena)) is));
+          automatic = k.1;
+        };
+      }
 
-  pub is_handled : (start : ℕ) (number : Option ℕ) (a : ArenaId) → handle_of (standing_of base start own number) ≡ Some a → IsHandled p a
-  is_handled start number a is = let o = owned handle_of lent-handle refl base start own number a is in has_handle o.0 a o.1.0 o.1.1
+  pub is_handled : (start : ℕ) (number : Option ℕ) (h : AutoHandle) → handle_in (standing_of base start own number) ≡ Some h → HasHandle p h
+  is_handled start number h is = let o = owned handle_in lent-handle_in refl base start own number h is in has_handle o.0 h o.1.0 o.1.1
 
   -- Each name, as an arena or a segment.
   pub name_known : (start : ℕ) (number : Option ℕ) → IsBacked p (lent (standing_of base start own number))

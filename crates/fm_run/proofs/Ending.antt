@@ -13,8 +13,9 @@ use Rattle.fm_run.specs.declared.lent.Lent.{Lent}
 use Rattle.fm_run.specs.declared.standing.Standing.{Standing}
 use Rattle.fm_run.specs.declared.standing.Standing.TheVariants as standing
 use Rattle.fm_run.specs.declared.standing.Standing.TheVariants.{Nothing, Arena, Segment, Hold, Handle}
-use Rattle.fm_run.specs.Standings.{IsBacked, hold_of, handle_of, lent, standing_as}
+use Rattle.fm_run.specs.Standings.{IsBacked, hold_in, handle_in, hold_of, handle_of, lent, standing_as}
 use Rattle.fm_run.specs.Tokens.{Backs, CanSpend, HasTokens, among, onto, without}
+use Rattle.fm_gate.specs.Makers.{made_by_pass}
 use Rattle.fm_run.proofs.Backing.{backed_later, can_unhold, has_handle}
 use Rattle.fm_run.proofs.Counting.{among_push, token_less}
 
@@ -50,14 +51,15 @@ tokens_popped token {all = all} {others = others} rest s t = go (token s) refl
 
 -- The last name is gone, with its hold or handle.
 pub backs_popped : (p q : View) {holds handles : List ArenaId} (base rest : List Standing) (s : Standing) → Backs p holds handles base (rest ++ s ∷ [])
-    → Lasts (view_of_pass p) (view_of_pass q) → q.holds ≡ without (hold_of s) p.holds → q.handles ≡ without (handle_of s) p.handles
+    → Lasts (view_of_pass p) (view_of_pass q) → made_by_pass q ≡ made_by_pass p → q.holds ≡ without (hold_of s) p.holds
+    → q.handles ≡ without (handle_of s) p.handles
     → Backs q holds handles base rest
-backs_popped p q {holds = holds} {handles = handles} base rest s b l hs ks = record {
-  others_known = All-weaker (λ x. IsBacked p (lent x)) (λ x. IsBacked q (lent x)) (λ x h. backed_later p q l (lent x) h) base b.others_known;
+backs_popped p q {holds = holds} {handles = handles} base rest s b l same hs ks = record {
+  others_known = All-weaker (λ x. IsBacked p (lent x)) (λ x. IsBacked q (lent x)) (λ x h. backed_later p q l same (lent x) h) base b.others_known;
   own_known = λ k d lt.
       let long = length-append rest (s ∷ []) in
       subst (λ (x : Standing). IsBacked q x) (get_or_append_left rest (s ∷ []) d k lt)
-      (backed_later p q l (get_or (rest ++ s ∷ []) k d) (b.own_known k d (omega (arith, long, lt))));
+      (backed_later p q l same (get_or (rest ++ s ∷ []) k d) (b.own_known k d (omega (arith, long, lt))));
   has_holds = subst (λ (xs : List ArenaId). HasTokens xs (among hold_of rest) holds) (sym hs) (tokens_popped hold_of rest s b.has_holds);
   has_handles = subst (λ (xs : List ArenaId). HasTokens xs (among handle_of rest) handles) (sym ks) (tokens_popped handle_of rest s b.has_handles);
 }
@@ -77,12 +79,12 @@ can_spend p base rest s b = by_case s refl
     by_case Nothing e = tt
     by_case (Arena id) e = tt
     by_case (standing.Automatic id None) e = tt
-    by_case (standing.Automatic id (Some h)) e = has_handle p b (length rest) h.arena within (ap handle_of (last (standing.Automatic id (Some h)) e))
+    by_case (standing.Automatic id (Some h)) e = has_handle p b (length rest) h within (ap handle_in (last (standing.Automatic id (Some h)) e))
     by_case (Segment r) e = tt
     by_case (Hold None) e = tt
-    by_case (Hold (Some h)) e = can_unhold p b (length rest) h within (ap hold_of (last (Hold (Some h)) e))
+    by_case (Hold (Some h)) e = can_unhold p b (length rest) h within (ap hold_in (last (Hold (Some h)) e))
     by_case (Handle None) e = tt
-    by_case (Handle (Some h)) e = has_handle p b (length rest) h.arena within (ap handle_of (last (Handle (Some h)) e))
+    by_case (Handle (Some h)) e = has_handle p b (length rest) h within (ap handle_in (last (Handle (Some h)) e))
 
 none_left : (mine : List ArenaId) → ((a : ArenaId) → how_many a mine ≡ 0) → mine ≡ []
 none_left [] e = refl

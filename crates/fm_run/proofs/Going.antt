@@ -11,7 +11,8 @@ use Rattle.fm_base.specs.View.{Makes, Did, inside_after}
 use Rattle.fm_base.proofs.Making.{inside_after-append, FindsMore-trans, FindsMore-none}
 use Rattle.fm_base.proofs.Outcomes.{Makes-lasts}
 use Rattle.fm_pool_facts.specs.Views.{View}
-use Rattle.fm_calls.specs.Kept.{KeptAs, rest_of}
+use Rattle.fm_calls.specs.Kept.{KeptAs, rest_of, shape_numbers}
+use Rattle.fm_gate.specs.Makers.{made_by_pass}
 use Rattle.fm_calls.specs.Told.{view_of_pass, silent_view}
 use Rattle.fm_calls.proofs.Telling.{silent_makes}
 use Rattle.fm_arena.proofs.Lasting.{stays}
@@ -91,6 +92,12 @@ went_none p = record {
   same_shape = refl;
   rest = refl;
 }
+
+-- A pass that went on is the maker that it was.
+pub went_made : {p q : View} {own : List Entry} → Went p q own → made_by_pass q ≡ made_by_pass p
+went_made {p = p} {q = q} w =
+    let home : (shape_numbers q.shape ++ q.home) ≡ (shape_numbers p.shape ++ p.home) = ap (λ (x : Rest). x.home) w.rest in
+    let is : q.home ≡ p.home = cc in λ j. record { home = is j; caller = w.same_caller j }
 
 pub ran_none : (p : View) (Does : List Entry → Type 0) → p.inside ≡ None → Does [] → Ran p p Does
 ran_none p Does outside does = record {

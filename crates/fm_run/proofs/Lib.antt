@@ -1,4 +1,5 @@
 pub mod Going
+pub mod Handled
 pub mod Lines
 pub mod Counting
 pub mod Naming

@@ -8,6 +8,7 @@ use Rattle.fm_base.specs.declared.refusal.Refusal.TheVariants.{Bounds}
 use Rattle.fm_base.specs.Calls.{Entry}
 use Rattle.fm_base.specs.View.{Did}
 use Rattle.fm_gate.specs.declared.held.Hold as held
+use Rattle.fm_gate.specs.Makers.{made_by_pass}
 use Rattle.fm_arena.specs.Learnt.{AfterHold}
 use Rattle.fm_pool_facts.specs.Views.{View, IsKnown}
 use Rattle.fm_calls.specs.Told.{view_of_pass}
@@ -123,10 +124,11 @@ pub line_held : {p q : View} (o : Option ArenaId) (a : ArenaId) (hold : held.Hol
     → RanLine p q (On o (Holds p.caller)) (outcome Fine (Hold (Some hold)))
 line_held {p = p} {q = q} o a hold is after =
     let e : hold.arena ≡ a = after.did.does.0 in
-    subst (λ (h : held.Hold). RanLine p q (On o (Holds p.caller)) (outcome Fine (Hold (Some h)))) (λ i. record { arena = sym e i })
-    (line_some o a (Holds p.caller) (outcome Fine (held_as a)) is (record {
-      ran = ran_as (ran_by_pass (a ∷ p.holds) p.handles after.did after.outside) (λ own d. (Ok tt, d.1, refl));
-      backed = subst (λ (x : ArenaId). IsKnown q x × (x.kind ≢ Automatic)) e (after.held.known, after.held.by_hand);
+    subst (λ (h : held.Hold). RanLine p q (On o (Holds p.caller)) (outcome Fine (Hold (Some h)))) (λ i. record { arena = sym e i; maker = hold.maker })
+    (line_some o a (Holds p.caller) (outcome Fine (held_as hold.maker a)) is (record {
+      ran = ran_as (ran_by_pass (a ∷ p.holds) p.handles after.did after.outside) (λ own d. (hold.maker, (Ok tt, d.1, refl)));
+      backed = subst (λ (x : ArenaId). IsKnown q x × (x.kind ≢ Automatic) × (hold.maker ≡ made_by_pass q)) e
+          (after.held.known, after.held.by_hand, after.held.maker);
     }))
 
 -- A hold that was refused.
@@ -134,7 +136,7 @@ pub line_not_held : {p q : View} (o : Option ArenaId) (a : ArenaId) (r : Refusal
     → AfterHold p q a (Err r) → RanLine p q (On o (Holds p.caller)) out
 line_not_held {p = p} o a r out is said after =
     line_some o a (Holds p.caller) out is
-    (plain_line (Refused r) out said (ran_as (ran_by_pass p.holds p.handles after.did after.outside) (λ own d. (Err r, d, refl))))
+    (plain_line (Refused r) out said (ran_as (ran_by_pass p.holds p.handles after.did after.outside) (λ own d. (made_by_pass p, (Err r, d, refl)))))
 
 -- ---- slices
 

@@ -7,7 +7,7 @@ use Rattle.fm_base.specs.declared.arena_id.ArenaId.{ArenaId}
 use Rattle.fm_run.specs.declared.standing.Standing.{Standing}
 use Rattle.fm_run.specs.declared.standing.Standing.TheVariants.{Nothing, Arena, Automatic, Segment, Hold, Handle}
 use Rattle.fm_run.specs.Lines.{is_number}
-use Rattle.fm_run.specs.Standings.{standing_at, standing_of, lent, hold_of, handle_of, unheld, handed_back}
+use Rattle.fm_run.specs.Standings.{standing_at, standing_of, lent, hold_in, handle_in, hold_of, handle_of, unheld, handed_back}
 use Rattle.fm_run.specs.Tables.{SeenAs, IsOwn, TookAt}
 
 -- What isn't own may be used as an arena and as a segment.
@@ -190,7 +190,7 @@ handed-hold (Hold hold) = refl
 handed-hold (Handle handle) = refl
 
 -- What isn't its own has no token.
-pub not-own : (token : Standing → Option ArenaId) → ((s : Standing) → token (lent s) ≡ None) → token Nothing ≡ None → (base : List Standing) (start : ℕ)
+pub not-own : {T : Type 0} (token : Standing → Option T) → ((s : Standing) → token (lent s) ≡ None) → token Nothing ≡ None → (base : List Standing) (start : ℕ)
     (own : List Standing) (number : Option ℕ) → ((at : ℕ) → IsOwn (length base) start (length own) number at → ⊥)
     → token (standing_of base start own number) ≡ None
 not-own token others nothing base start own None elsewhere = nothing
@@ -225,9 +225,25 @@ lent-hold (Segment r) = refl
 lent-hold (Hold hold) = refl
 lent-hold (Handle handle) = refl
 
+pub lent-handle_in : (s : Standing) → handle_in (lent s) ≡ None
+lent-handle_in Nothing = refl
+lent-handle_in (Arena id) = refl
+lent-handle_in (Automatic id handle) = refl
+lent-handle_in (Segment r) = refl
+lent-handle_in (Hold hold) = refl
+lent-handle_in (Handle handle) = refl
+
+pub lent-hold_in : (s : Standing) → hold_in (lent s) ≡ None
+lent-hold_in Nothing = refl
+lent-hold_in (Arena id) = refl
+lent-hold_in (Automatic id handle) = refl
+lent-hold_in (Segment r) = refl
+lent-hold_in (Hold hold) = refl
+lent-hold_in (Handle handle) = refl
+
 -- What has one is its own.
-pub owned : (token : Standing → Option ArenaId) → ((s : Standing) → token (lent s) ≡ None) → token Nothing ≡ None → (base : List Standing) (start : ℕ)
-    (own : List Standing) (number : Option ℕ) (a : ArenaId) → token (standing_of base start own number) ≡ Some a
+pub owned : {T : Type 0} (token : Standing → Option T) → ((s : Standing) → token (lent s) ≡ None) → token Nothing ≡ None → (base : List Standing) (start : ℕ)
+    (own : List Standing) (number : Option ℕ) (a : T) → token (standing_of base start own number) ≡ Some a
     → (at : ℕ) × ((at < length own) × (token (get_or own at Nothing) ≡ Some a))
 owned token others nothing base start own None a is = absurd (cc)
 owned token others nothing base start own (Some n) a is = go (nat_lt n (length base)) refl (nat_lt n start) refl (nat_lt (n - start) (length own)) refl

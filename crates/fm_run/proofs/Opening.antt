@@ -27,7 +27,7 @@ use Rattle.fm_run.specs.declared.outcome.Outcome.{Outcome}
 use Rattle.fm_run.specs.declared.reply.Reply.{Reply}
 use Rattle.fm_run.specs.declared.reply.Reply.TheVariants.{Fine, Refused}
 use Rattle.fm_run.specs.declared.standing.Standing.{Standing}
-use Rattle.fm_run.specs.Calls.{CallDoes, CalledBut}
+use Rattle.fm_run.specs.Calls.{CallDoes, CalledBut, OverPool}
 use Rattle.fm_run.specs.Outcomes.{outcome}
 use Rattle.fm_run.specs.Played.{Done, runs}
 use Rattle.fm_run.specs.Runs.{Went}
@@ -66,20 +66,20 @@ told_by_hand {p = p} k r reply is a e = told_refused r reply is (only_no_slot p.
 -- A call that found no slot made no entry, but for loans.
 silent : (c : Caller) (k : Kind) (run : List Entry) (reply : Reply) (made : Standing) (ok : ArenaId → Outcome)
     → ((id : ArenaId) → (ok id).reply ≡ Fine) → reply ≡ Refused NoSlot
-    → CalledBut (DoesOpen c k) ok (outcome reply made) run → but_loans run ≡ []
+    → CalledBut (OverPool (DoesOpen c k)) ok (outcome reply made) run → but_loans run ≡ []
 silent c k run reply made ok fine lacks (Ok id, does, comes) =
     let said : reply ≡ Fine = ap (λ (o : Outcome). o.reply) comes ∙ fine id in
     absurd (cc)
 silent c k run reply made ok fine lacks (Err r, does, comes) =
     let said : reply ≡ Refused r = ap (λ (o : Outcome). o.reply) comes in
     let is : r ≡ NoSlot = cc in
-    subst (λ (x : Refusal). DoesOpen c k (Err x) (but_loans run)) is does
+    subst (λ (x : Refusal). DoesOpen c k (Err x) (but_loans run)) is does.1
 
 -- Nor did a line that opens an arena.
 pub line_silent : (c : Caller) (stands : List ℕ → Standing) (command : Command) (reply : Reply) (made : Standing) (run : List Entry)
     → opens command ≡ true → reply ≡ Refused NoSlot → CallDoes c stands command (outcome reply made) run → but_loans run ≡ []
 line_silent c stands (Open name kind) reply made run o lacks does =
-    silent c kind run reply made (λ id. outcome Fine (opened_as kind id)) (λ id. refl) lacks does
+    silent c kind run reply made (λ id. outcome Fine (opened_as does.0 kind id)) (λ id. refl) lacks does.1
 line_silent c stands command reply made run o lacks does = absurd (cc)
 
 -- The entries of a pass, behind some of its own.

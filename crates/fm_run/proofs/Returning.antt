@@ -21,6 +21,7 @@ use Rattle.fm_run.specs.Slots.{SlotsTold, opens}
 use Rattle.fm_run.specs.Standings.{standing_at, standing_of}
 use Rattle.fm_run.specs.Tokens.{Backs}
 use Rattle.fm_run.proofs.Backing.{backs_more}
+use Rattle.fm_run.proofs.Going.{went_made}
 use Rattle.fm_run.proofs.Naming.{Left, standing-push}
 
 -- Other lines leave the holds and handles of names.
@@ -89,7 +90,7 @@ module _ (p q : View) (names : Numbers) (base : List Standing) (start : ℕ) (ow
       → Backs p holds handles base own → Backs q holds handles base next
   backs_kept out holds handles is r b =
       subst (λ (xs : List Standing). Backs q holds handles base xs) (sym is)
-      (backs_more p q b r.ran.lasts out.made r.ran.same_holds r.ran.same_handles r.backed)
+      (backs_more p q b r.ran.lasts (went_made r.ran.went) out.made r.ran.same_holds r.ran.same_handles r.backed)
 
   -- A line that gives a hold or a handle back, or is skipped.
   pub line_took : (left : List Standing) (number : Option ℕ) (f : Standing → Standing) (run : List Entry)

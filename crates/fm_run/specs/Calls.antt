@@ -7,7 +7,10 @@ use Rattle.fm_base.specs.declared.kind.Kind.{Kind}
 use Rattle.fm_base.specs.declared.refusal.Refusal.{Refusal}
 use Rattle.fm_base.specs.Calls.{Entry}
 use Rattle.fm_base.specs.Does.{DoesOpen, DoesAllocate, DoesClose, DoesIsAlive, DoesHold, DoesUnhold, DoesAgain, DoesGiveBack}
+use Rattle.fm_base.specs.Outcomes.{MayCome}
 use Rattle.fm_base.specs.View.{but_loans}
+use Rattle.fm_arena.specs.Shares.{nature_of_shared}
+use Rattle.fm_gate.specs.Makers.{Made}
 use Rattle.fm_lanes.specs.declared.value.Value.{Value}
 use Rattle.fm_lanes.specs.declared.value_kind.ValueKind.{ValueKind}
 use Rattle.fm_lanes.specs.Value.{kind_of, number_of_value}
@@ -58,6 +61,10 @@ Called {X} Does ok out own = (result : Result X Refusal) × Does result own × (
 -- the same of a call that lends blocks or takes them back
 abbrev pub CalledBut : {X : Type 0} → (Result X Refusal → List Entry → Type 0) → (X → Outcome) → Line
 CalledBut Does ok = Called (λ result own. Does result (but_loans own)) ok
+
+-- a call's answer that may come over a pool, whose calls take no memory and find each page there
+abbrev pub OverPool : {X : Type 0} → (Result X Refusal → List Entry → Type 0) → Result X Refusal → List Entry → Type 0
+OverPool Does result own = MayCome nature_of_shared result × Does result own
 
 -- an answer that is known without an entry
 abbrev pub Answers : {X : Type 0} → Result X Refusal → Result X Refusal → List Entry → Type 0
@@ -115,14 +122,14 @@ module _ (c : Caller) where
   abbrev pub Compares : Region → Region → Line
   Compares r other = Called (DoesMismatch c r other) (λ z. plain (Number z))
 
-  -- ---- arenas
+  -- ---- arenas; a pass made the handle or the hold
 
   abbrev pub Opens : Kind → Line
-  Opens kind = CalledBut (DoesOpen c kind) (λ id. outcome Fine (opened_as kind id))
+  Opens kind out own = (m : Made) × CalledBut (OverPool (DoesOpen c kind)) (λ id. outcome Fine (opened_as m kind id)) out own
 
   abbrev pub Allocates : ℕ → ℕ → ArenaId → Line
   Allocates size align id =
-      CalledBut (DoesAllocate c id size align) (λ place. outcome (Place place) (Segment (region_of id place size)))
+      CalledBut (OverPool (DoesAllocate c id size align)) (λ place. outcome (Place place) (Segment (region_of id place size)))
 
   abbrev pub Asks : ArenaId → Line
   Asks id = Called (DoesIsAlive c id) (λ alive. plain (Truth alive))
@@ -133,13 +140,13 @@ module _ (c : Caller) where
   -- ---- holds and handles
 
   abbrev pub Holds : ArenaId → Line
-  Holds id = Called (DoesHold c id) (λ u. outcome Fine (held_as id))
+  Holds id out own = (m : Made) × Called (DoesHold c id) (λ u. outcome Fine (held_as m id)) out own
 
   abbrev pub Unholds : ArenaId → Line
   Unholds id out own = (out ≡ plain Fine) × DoesUnhold c id own
 
   abbrev pub TakesAgain : ArenaId → Line
-  TakesAgain id = Called (DoesAgain c id) (λ u. outcome Fine (handled_as id))
+  TakesAgain id out own = (m : Made) × Called (DoesAgain c id) (λ u. outcome Fine (handled_as m id)) out own
 
   abbrev pub kept_or_ended : Bool → Reply
   kept_or_ended true = Kept
@@ -197,6 +204,12 @@ is_on_segment (command.Fill segment byte) = true
 is_on_segment (command.Copy source target) = true
 is_on_segment (command.Mismatch segment other) = true
 is_on_segment c = false
+
+-- the line's call is one of a handle, which is resolved in memory of its own
+abbrev pub takes_memory : Command → Bool
+takes_memory (command.Add cell value) = true
+takes_memory (command.Cas cell old new) = true
+takes_memory c = false
 
 -- the line gives back no hold and no handle
 abbrev pub keeps_tokens : Command → Bool

@@ -7,6 +7,8 @@ use Rattle.fm_base.specs.declared.kind.Kind.TheVariants as kind
 use Rattle.fm_segment.specs.Access as segment
 use Rattle.fm_segment.specs.Region.{Region}
 use Rattle.fm_arena.specs.declared.handle.AutoHandle.{AutoHandle}
+use Rattle.fm_gate.specs.declared.held.Hold as held
+use Rattle.fm_gate.specs.Makers.{Made, made_by_pass}
 use Rattle.fm_pool_facts.specs.Views.{View, IsKnown}
 use Rattle.fm_calls.specs.Told.{view_of_pass}
 use Rattle.fm_run.specs.declared.lent.Lent.{Lent}
@@ -25,14 +27,20 @@ abbrev pub segment_of : Standing → Option Region
 segment_of (Segment r) = Some r
 segment_of _ = None
 
+abbrev pub hold_in : Standing → Option held.Hold
+hold_in (Hold hold) = hold
+hold_in _ = None
+
+abbrev pub handle_in : Standing → Option AutoHandle
+handle_in (Automatic id handle) = handle
+handle_in (Handle handle) = handle
+handle_in _ = None
+
 abbrev pub hold_of : Standing → Option ArenaId
-hold_of (Hold hold) = option_map (λ h. h.arena) hold
-hold_of _ = None
+hold_of s = option_map (λ h. h.arena) (hold_in s)
 
 abbrev pub handle_of : Standing → Option ArenaId
-handle_of (Automatic id handle) = option_map (λ h. h.arena) handle
-handle_of (Handle handle) = option_map (λ h. h.arena) handle
-handle_of _ = None
+handle_of s = option_map (λ h. h.arena) (handle_in s)
 
 -- ---- what becomes of it
 
@@ -65,18 +73,18 @@ pub record IsSpent (s : Standing) : Type 0 where
   pub no_hold : hold_of s ≡ None
   pub no_handle : handle_of s ≡ None
 
--- what the name of an arena stands for that was opened so
-abbrev pub opened_as : Kind → ArenaId → Standing
-opened_as kind.Global id = Arena id
-opened_as kind.Automatic id = Automatic id (Some (record { arena = id }))
-opened_as kind.Confined id = Arena id
-opened_as kind.Shared id = Arena id
+-- what the name of an arena stands for that a pass opened so
+abbrev pub opened_as : Made → Kind → ArenaId → Standing
+opened_as m kind.Global id = Arena id
+opened_as m kind.Automatic id = Automatic id (Some (record { arena = id; maker = m }))
+opened_as m kind.Confined id = Arena id
+opened_as m kind.Shared id = Arena id
 
-abbrev pub held_as : ArenaId → Standing
-held_as id = Hold (Some (record { arena = id }))
+abbrev pub held_as : Made → ArenaId → Standing
+held_as m id = Hold (Some (record { arena = id; maker = m }))
 
-abbrev pub handled_as : ArenaId → Standing
-handled_as id = Handle (Some (record { arena = id }))
+abbrev pub handled_as : Made → ArenaId → Standing
+handled_as m id = Handle (Some (record { arena = id; maker = m }))
 
 -- ---- by the number of the line that made it
 
@@ -100,13 +108,13 @@ standing_of base start own number = stands_of (standing_at base start own) numbe
 -- ---- what a pass knows of it
 
 abbrev pub IsHandleIn : View → Option AutoHandle → Type 0
-IsHandleIn p handle = IfSome handle (λ h. IsKnown p h.arena × (h.arena.kind ≡ kind.Automatic))
+IsHandleIn p handle = IfSome handle (λ h. IsKnown p h.arena × (h.arena.kind ≡ kind.Automatic) × (h.maker ≡ made_by_pass p))
 
--- what it stands for is known to the pass
+-- what it stands for is known to the pass, which made the hold or the handle
 abbrev pub IsBacked : View → Standing → Type 0
 IsBacked p Nothing = ⊤
 IsBacked p (Arena id) = IsKnown p id
 IsBacked p (Automatic id handle) = IsKnown p id × IsHandleIn p handle
 IsBacked p (Segment r) = segment.IsKnown (view_of_pass p) r
-IsBacked p (Hold hold) = IfSome hold (λ h. IsKnown p h.arena × (h.arena.kind ≢ kind.Automatic))
+IsBacked p (Hold hold) = IfSome hold (λ h. IsKnown p h.arena × (h.arena.kind ≢ kind.Automatic) × (h.maker ≡ made_by_pass p))
 IsBacked p (Handle handle) = IsHandleIn p handle

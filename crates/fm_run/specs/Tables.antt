@@ -22,8 +22,8 @@ pub record TookAt (left : Standing → Standing) (many_others start : ℕ) (old 
   pub new_is : new ≡ set old at (left (get_or old at Nothing))
 
 -- A hold or handle was taken out from where the number leads; or there is none
-abbrev pub Took : {T : Type 0} → (Standing → Standing) → (Standing → Option ArenaId) → List Standing → ℕ → List Standing → List Standing → Option ℕ
-    → (T → ArenaId) → Option T → Type 0
-Took left token base start old new number arena None = (token (standing_of base start old number) ≡ None) × (new ≡ old)
-Took left token base start old new number arena (Some t) =
-    (token (standing_of base start old number) ≡ Some (arena t)) × ((at : ℕ) × TookAt left (length base) start old new number at)
+abbrev pub Took : {T : Type 0} → (Standing → Standing) → (Standing → Option T) → List Standing → ℕ → List Standing → List Standing → Option ℕ → Option T
+    → Type 0
+Took left token base start old new number None = (token (standing_of base start old number) ≡ None) × (new ≡ old)
+Took left token base start old new number (Some t) =
+    (token (standing_of base start old number) ≡ Some t) × ((at : ℕ) × TookAt left (length base) start old new number at)

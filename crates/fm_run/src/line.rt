@@ -1,7 +1,7 @@
 ghost use Rattle.std.specs.Prelude.{◌≡◌, ◌<◌, None, IfOk, IfErr, OnErr, length, vec_capacity, List, true};
 ghost use Rattle.fm_base.specs.declared.arena_id.ArenaId.{ArenaId};
 ghost use Rattle.fm_script.specs.Syntax.{IsSpelled};
-ghost use Rattle.fm_run.specs.Calls.{CallDoes, keeps_tokens};
+ghost use Rattle.fm_run.specs.Calls.{CallDoes, keeps_tokens, takes_memory};
 ghost use Rattle.fm_run.specs.Lines.{LineRan};
 ghost use Rattle.fm_run.specs.Numbers.{number_at};
 ghost use Rattle.fm_run.specs.Runs.{RanLine};
@@ -26,7 +26,7 @@ use std::sync::Wait;
 /// Runs a pass's next line: the call that its command names, on what the names that it uses stand for. Where one stands
 /// for nothing, no call is made and the reply is `Skipped`. A refused call is a reply too.
 ///
-/// Refused: `Memory`, and then no call was made.
+/// Refused: `Memory`, by `add` and `cas` alone, whose handle takes memory of its own. Then no call was made.
 pub fn run_line<R: Wait>(
     rt: &R,
     alloc: Global,
@@ -50,6 +50,7 @@ pub fn run_line<R: Wait>(
     ensures kept { OnErr result (m.new ≡ m.old) }
     ensures same { OnErr result (table.new ≡ table.old) }
     ensures memory { IfErr result (λ refusal. refusal ≡ Refusal.Memory) }
+    ensures takes { IfErr result (λ _. takes_memory command.now ≡ true) }
 {
     match command {
         Command::Unhold { hold } => return Ok(run_unhold(m, names, table, hold)),
@@ -80,6 +81,7 @@ fn run_call<R: Wait>(
     ensures slots { IfOk result (λ out. opens command.now ≡ true → SlotsTold m.old m.new out.reply) }
     ensures kept { OnErr result (m.new ≡ m.old) }
     ensures memory { IfErr result (λ refusal. refusal ≡ Refusal.Memory) }
+    ensures takes { IfErr result (λ _. takes_memory command.now ≡ true) }
 {
     match command {
         Command::Add(cell, value) => {

@@ -1,7 +1,7 @@
 ghost use Rattle.std.specs.Prelude.{◌≡◌, ◌≤◌, ◌<◌, ◌+◌, ◌++◌, ◌∷◌, [], Some, MatchOption, length, map, vec_capacity, None, All, IfOk, IfErr, List};
 ghost use Rattle.std.specs.Option.{option_map};
 ghost use Rattle.fm_base.specs.declared.arena_id.ArenaId.{ArenaId};
-ghost use Rattle.fm_run.specs.Standings.{IsBacked, lent, standing_as, arena_of, segment_of, hold_of, handle_of, standing_of, unheld, handed_back};
+ghost use Rattle.fm_run.specs.Standings.{IsBacked, lent, standing_as, arena_of, segment_of, hold_in, handle_of, handle_in, standing_of, unheld, handed_back};
 ghost use Rattle.fm_pool_facts.specs.Views.{View};
 ghost use Rattle.fm_run.specs.Tokens.{Backs};
 ghost use Rattle.fm_run.specs.Tables.{SeenAs, Took, IsOwn};
@@ -111,8 +111,10 @@ impl<'a> Table<'a> {
 
     /// The handle that it made and that wasn't given back.
     pub(crate) fn handle(&self, number: Option<usize>) -> Option<&AutoHandle>
-        ensures { option_map (λ h. h.now.arena) result
+        ensures arena { option_map (λ h. h.now.arena) result
             ≡ handle_of (standing_of self.now.base.now self.now.start self.now.own.items number) }
+        ensures handle { option_map (λ h. h.now) result
+            ≡ handle_in (standing_of self.now.base.now self.now.start self.now.own.items number) }
     {
         let Some(at) = self.own_place(number) else {
             return None;
@@ -128,8 +130,8 @@ impl<'a> Table<'a> {
         ensures same_base { self.new.base ≡ self.old.base }
         ensures same_start { self.new.start ≡ self.old.start }
         ensures room { vec_capacity self.new.own ≡ vec_capacity self.old.own }
-        ensures took { Took unheld hold_of self.old.base.now self.old.start self.old.own.items self.new.own.items number
-            (λ h. h.arena) result }
+        ensures took { Took unheld hold_in self.old.base.now self.old.start self.old.own.items self.new.own.items number
+            result }
     {
         let Some(at) = self.own_place(number) else {
             return None;
@@ -145,8 +147,8 @@ impl<'a> Table<'a> {
         ensures same_base { self.new.base ≡ self.old.base }
         ensures same_start { self.new.start ≡ self.old.start }
         ensures room { vec_capacity self.new.own ≡ vec_capacity self.old.own }
-        ensures took { Took handed_back handle_of self.old.base.now self.old.start self.old.own.items self.new.own.items
-            number (λ h. h.arena) result }
+        ensures took { Took handed_back handle_in self.old.base.now self.old.start self.old.own.items self.new.own.items
+            number result }
     {
         let Some(at) = self.own_place(number) else {
             return None;

@@ -14,10 +14,11 @@ use Rattle.fm_base.specs.Histories.{state_after}
 use Rattle.fm_base.specs.View.{but_loans}
 use Rattle.fm_base.proofs.Learning.{open_is_new, allocate_gives}
 use Rattle.fm_run.specs.declared.outcome.Outcome.{Outcome}
-use Rattle.fm_run.specs.Calls.{coming, fine, Opens, Allocates, Asks, Closes, Holds, Unholds, TakesAgain, GivesBack}
+use Rattle.fm_run.specs.Calls.{coming, fine, Opens, Allocates, Asks, Closes, Holds, Unholds, TakesAgain, GivesBack, OverPool}
 use Rattle.fm_run.specs.declared.reply.Reply.TheVariants.{Fine, Place, Truth}
 use Rattle.fm_run.specs.declared.standing.Standing.TheVariants.{Segment}
 use Rattle.fm_run.specs.Outcomes.{outcome, plain}
+use Rattle.fm_gate.specs.Makers.{Made}
 use Rattle.fm_run.specs.Standings.{opened_as, held_as, handled_as}
 use Rattle.fm_segment.specs.Region.{region_of}
 use Rattle.fm_run_laws.proofs.Backing.{IsThere, nothing_there}
@@ -25,11 +26,11 @@ use Rattle.fm_run_laws.proofs.Calling.{Own, Comes, silent, later, makes, grown, 
 use Rattle.fm_run_laws.proofs.Quiet.{quiet_as, quiet_but}
 
 -- An arena that was opened, whatever its kind.
-opened_there : (s : State) (k : Kind) (id : ArenaId) → has_arena s id ≡ true → IsThere s (opened_as k id)
-opened_there s kind.Global id h = record { arena = h; segment = tt }
-opened_there s kind.Automatic id h = record { arena = h; segment = tt }
-opened_there s kind.Confined id h = record { arena = h; segment = tt }
-opened_there s kind.Shared id h = record { arena = h; segment = tt }
+opened_there : (s : State) (m : Made) (k : Kind) (id : ArenaId) → has_arena s id ≡ true → IsThere s (opened_as m k id)
+opened_there s m kind.Global id h = record { arena = h; segment = tt }
+opened_there s m kind.Automatic id h = record { arena = h; segment = tt }
+opened_there s m kind.Confined id h = record { arena = h; segment = tt }
+opened_there s m kind.Shared id h = record { arena = h; segment = tt }
 
 -- any arena
 some_arena : Kind → ArenaId
@@ -44,16 +45,17 @@ module _ {c : Caller} {limit : ℕ} {s : State} {all own : List Entry} (o : Own 
   open_tidy k (Err refusal.Memory) d = quiet_but o (some_arena k) [] d tt
   open_tidy k (Err r) d = absurd d
 
-  open_there : (k : Kind) (result : Result ArenaId Refusal) → DoesOpen c k result (but_loans own)
-      → IsThere (state_after limit s all) (coming (λ id. outcome Fine (opened_as k id)) result).made
-  open_there k (Ok id) d =
+  open_there : (m : Made) (k : Kind) (result : Result ArenaId Refusal) → DoesOpen c k result (but_loans own)
+      → IsThere (state_after limit s all) (coming (λ id. outcome Fine (opened_as m k id)) result).made
+  open_there m k (Ok id) d =
       let new = open_is_new (silent c limit s) (later o) k (Ok id) (record { own = own; does = d; makes = makes o }) in
-      opened_there (state_after limit s all) k id new.known
-  open_there k (Err r) d = nothing_there (state_after limit s all)
+      opened_there (state_after limit s all) m k id new.known
+  open_there m k (Err r) d = nothing_there (state_after limit s all)
 
   pub opens_come : (k : Kind) (out : Outcome) → Opens c k out own → Comes c limit s all out.made
   opens_come k out does =
-      making_comes o (λ result es. DoesOpen c k result (but_loans es)) (λ id. outcome Fine (opened_as k id)) out (open_tidy k) (open_there k) does
+      making_comes o (λ result es. OverPool (DoesOpen c k) result (but_loans es)) (λ id. outcome Fine (opened_as does.0 k id)) out
+      (λ result d. open_tidy k result d.1) (λ result d. open_there does.0 k result d.1) does.1
 
   -- ---- alloc
 
@@ -78,8 +80,9 @@ module _ {c : Caller} {limit : ℕ} {s : State} {all own : List Entry} (o : Own 
   pub allocates_come : (size align : ℕ) (id : ArenaId) (out : Outcome) → has_arena s id ≡ true → Allocates c size align id out own
       → Comes c limit s all out.made
   allocates_come size align id out known does =
-      making_comes o (λ result es. DoesAllocate c id size align result (but_loans es)) (λ place. outcome (Place place) (Segment (region_of id place size))) out
-      (allocate_tidy id size align) (allocate_there id size align known) does
+      making_comes o (λ result es. OverPool (DoesAllocate c id size align) result (but_loans es))
+      (λ place. outcome (Place place) (Segment (region_of id place size))) out
+      (λ result d. allocate_tidy id size align result d.1) (λ result d. allocate_there id size align known result d.1) does
 
   -- ---- alive and close
 
@@ -113,14 +116,14 @@ module _ {c : Caller} {limit : ℕ} {s : State} {all own : List Entry} (o : Own 
   hold_tidy id (Err refusal.TooManyHolds) d = quiet_as o id _ d.1.1 (tt, tt)
   hold_tidy id (Err r) d = absurd d.1
 
-  hold_there : (id : ArenaId) (result : Result (Unit {0}) Refusal)
-      → IsThere (state_after limit s all) (coming (λ (u : Unit {0}). outcome Fine (held_as id)) result).made
-  hold_there id (Ok u) = record { arena = tt; segment = tt }
-  hold_there id (Err r) = nothing_there (state_after limit s all)
+  hold_there : (m : Made) (id : ArenaId) (result : Result (Unit {0}) Refusal)
+      → IsThere (state_after limit s all) (coming (λ (u : Unit {0}). outcome Fine (held_as m id)) result).made
+  hold_there m id (Ok u) = record { arena = tt; segment = tt }
+  hold_there m id (Err r) = nothing_there (state_after limit s all)
 
   pub holds_come : (id : ArenaId) (out : Outcome) → Holds c id out own → Comes c limit s all out.made
   holds_come id out does =
-      making_comes o (DoesHold c id) (λ u. outcome Fine (held_as id)) out (hold_tidy id) (λ result d. hold_there id result) does
+      making_comes o (DoesHold c id) (λ u. outcome Fine (held_as does.0 id)) out (hold_tidy id) (λ result d. hold_there does.0 id result) does.1
 
   pub unholds_come : (id : ArenaId) (out : Outcome) → Unholds c id out own → Comes c limit s all out.made
   unholds_come id out does = nothing_comes o out.made (ap (λ (x : Outcome). x.made) does.0) (quiet_as o id _ does.1 (tt, tt))
@@ -130,14 +133,14 @@ module _ {c : Caller} {limit : ℕ} {s : State} {all own : List Entry} (o : Own 
   again_tidy id (Err refusal.TooManyHolds) d = quiet_as o id _ d (tt, tt)
   again_tidy id (Err r) d = absurd d
 
-  again_there : (id : ArenaId) (result : Result (Unit {0}) Refusal)
-      → IsThere (state_after limit s all) (coming (λ (u : Unit {0}). outcome Fine (handled_as id)) result).made
-  again_there id (Ok u) = record { arena = tt; segment = tt }
-  again_there id (Err r) = nothing_there (state_after limit s all)
+  again_there : (m : Made) (id : ArenaId) (result : Result (Unit {0}) Refusal)
+      → IsThere (state_after limit s all) (coming (λ (u : Unit {0}). outcome Fine (handled_as m id)) result).made
+  again_there m id (Ok u) = record { arena = tt; segment = tt }
+  again_there m id (Err r) = nothing_there (state_after limit s all)
 
   pub takes_come : (id : ArenaId) (out : Outcome) → TakesAgain c id out own → Comes c limit s all out.made
   takes_come id out does =
-      making_comes o (DoesAgain c id) (λ u. outcome Fine (handled_as id)) out (again_tidy id) (λ result d. again_there id result) does
+      making_comes o (DoesAgain c id) (λ u. outcome Fine (handled_as does.0 id)) out (again_tidy id) (λ result d. again_there does.0 id result) does.1
 
   back_tidy : (id : ArenaId) (others_left : Bool) → DoesGiveBack c id others_left (but_loans own) → IsTidyBy c limit s all
   back_tidy id true d = quiet_but o id _ d (tt, tt)

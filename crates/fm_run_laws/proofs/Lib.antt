@@ -14,3 +14,5 @@ pub mod Opened
 pub mod Openers
 pub mod Workers
 pub mod Openings
+pub mod Coming
+pub mod Replies

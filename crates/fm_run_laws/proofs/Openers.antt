@@ -22,6 +22,7 @@ use Rattle.fm_run.specs.Played.{Done, runs}
 use Rattle.fm_run.specs.Report.{AreRun, names_behind}
 use Rattle.fm_run.specs.Slots.{Opened, opens}
 use Rattle.fm_run.specs.Standings as standing
+use Rattle.fm_gate.specs.Makers.{Made}
 use Rattle.fm_run.specs.Standings.{Names, opened_as, stands_of}
 use Rattle.fm_handle.specs.Place.{can_update, update_place_of}
 use Rattle.fm_script.specs.declared.command.Command.{Command}
@@ -94,7 +95,7 @@ module _ (c : Caller) (own : List Entry) where
     call_none : (k : Command) → opens k ≡ false → CallDoes c stands k out own → AllOpenNone own
     call_none (command.Open name kind) is does = absurd (let no : ⊥ = cc in no)
     call_none (command.Alloc arena name size align) is does =
-        on_arena arena (Allocates c size align) (λ id d. allocate_none id size align d.0 d.1) does
+        on_arena arena (Allocates c size align) (λ id d. allocate_none id size align d.0 d.1.1) does
     call_none (command.Slice segment name offset size) is does =
         on_segment segment (λ r. Called (Answers (slice_of offset size r)) segment_made) (λ r d. open_as own [] d.1.1 tt) does
     call_none (command.Readonly segment name) is does =
@@ -119,11 +120,11 @@ module _ (c : Caller) (own : List Entry) where
         on_segment segment (λ r. On (standing.segment_of (stands other)) (Compares c r))
         (λ r d. on_segment other (Compares c r) (λ t e. mismatch_open c r t e.0 own e.1) d) does
     call_none (command.Alive arena) is does = on_arena arena (Asks c) (λ id d. alive_none id d.0 d.1) does
-    call_none (command.Hold arena name) is does = on_arena arena (Holds c) (λ id d. hold_none id d.0 d.1) does
+    call_none (command.Hold arena name) is does = on_arena arena (Holds c) (λ id d. hold_none id d.1.0 d.1.1) does
     call_none (command.Unhold hold) is does =
         on_none (standing.hold_of (stands hold)) (Unholds c) out (λ id d. open_as own _ d.1 (tt, tt)) does
     call_none (command.Again handle name) is does =
-        on_none (standing.handle_of (stands handle)) (TakesAgain c) out (λ id d. again_none id d.0 d.1) does
+        on_none (standing.handle_of (stands handle)) (TakesAgain c) out (λ id d. again_none id d.1.0 d.1.1) does
     call_none (command.Back handle) is does =
         on_none (standing.handle_of (stands handle)) (GivesBack c) out (λ id d. back_none id d.0 d.1) does
     call_none (command.Close arena) is does = on_arena arena (Closes c) (λ id d. close_none id d.0 d.1) does
@@ -136,17 +137,17 @@ record OpenedBy (a : ArenaId) (k : Command) (out : Outcome) : Type 0 where
   fine : out.reply ≡ reply.Fine
   is : standing.arena_of out.made ≡ Some a
 
-opened_arena : (k : Kind) (id : ArenaId) → standing.arena_of (opened_as k id) ≡ Some id
-opened_arena kind.Global id = refl
-opened_arena kind.Automatic id = refl
-opened_arena kind.Confined id = refl
-opened_arena kind.Shared id = refl
+opened_arena : (m : Made) (k : Kind) (id : ArenaId) → standing.arena_of (opened_as m k id) ≡ Some id
+opened_arena m kind.Global id = refl
+opened_arena m kind.Automatic id = refl
+opened_arena m kind.Confined id = refl
+opened_arena m kind.Shared id = refl
 
 module _ (c : Caller) (own : List Entry) (e : Entry) (a : ArenaId) (among : IsAmong e own) (call : e.call ≡ Open a) where
   -- Its one entry but for loans is this.
-  open_opens : (name : List ℕ) (k : Kind) (result : Result ArenaId Refusal) (out : Outcome) → DoesOpen c k result (but_loans own)
-      → out ≡ coming (λ id. outcome reply.Fine (opened_as k id)) result → OpenedBy a (command.Open name k) out
-  open_opens name k (Ok id) out d is =
+  open_opens : (m : Made) (name : List ℕ) (k : Kind) (result : Result ArenaId Refusal) (out : Outcome) → DoesOpen c k result (but_loans own)
+      → out ≡ coming (λ id. outcome reply.Fine (opened_as m k id)) result → OpenedBy a (command.Open name k) out
+  open_opens m name k (Ok id) out d is =
       let one : IsAmong e (entry_of c (Open id) Fine ∷ []) = subst (λ (es : List Entry). IsAmong e es) d.2 (among_but e a own call among) in
       let here : e ≡ entry_of c (Open id) Fine = elim one [ inl i ↦ i | inr none ↦ absurd none ] in
       let opening : Open id ≡ Open a = sym (ap (λ (x : Entry). x.call) here) ∙ call in
@@ -154,14 +155,14 @@ module _ (c : Caller) (own : List Entry) (e : Entry) (a : ArenaId) (among : IsAm
       record {
         opens = refl;
         fine = ap (λ (x : Outcome). x.reply) is;
-        is = ap (λ (x : Outcome). standing.arena_of x.made) is ∙ (opened_arena k id ∙ ap Some same);
+        is = ap (λ (x : Outcome). standing.arena_of x.made) is ∙ (opened_arena m k id ∙ ap Some same);
       }
-  open_opens name k (Err refusal.NoSlot) out d is = absurd (none_opens e a own (but_as own [] d tt) among call)
-  open_opens name k (Err refusal.Memory) out d is = absurd (none_opens e a own (but_as own [] d tt) among call)
-  open_opens name k (Err r) out d is = absurd d
+  open_opens m name k (Err refusal.NoSlot) out d is = absurd (none_opens e a own (but_as own [] d tt) among call)
+  open_opens m name k (Err refusal.Memory) out d is = absurd (none_opens e a own (but_as own [] d tt) among call)
+  open_opens m name k (Err r) out d is = absurd d
 
   line_opens : (stands : List ℕ → Standing) (k : Command) (out : Outcome) → CallDoes c stands k out own → OpenedBy a k out
-  line_opens stands (command.Open name kind) out does = open_opens name kind does.0 out does.1 does.2
+  line_opens stands (command.Open name kind) out does = open_opens does.0 name kind does.1.0 out does.1.1.1 does.1.2
   line_opens stands k out does = absurd (none_opens e a own (call_none c own stands out k refl does) among call)
 
 -- ---- lines in a row

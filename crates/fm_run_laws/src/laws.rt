@@ -1,6 +1,7 @@
 ghost use Rattle.fm_run_laws.specs.Histories.{TidyInParts};
 ghost use Rattle.fm_run_laws.specs.Lines.{LineIsTidy, LinesAreTidy};
 ghost use Rattle.fm_run_laws.specs.Openings.{ReportsFindMany};
+ghost use Rattle.fm_run_laws.specs.Replies.{NoLineWants};
 ghost use Rattle.fm_run_laws.specs.Reports.{ReportsAreTidy};
 ghost use Rattle.fm_run_laws.specs.Slots.{FindsAreRight};
 
@@ -32,4 +33,10 @@ pub fn finds_are_right()
 /// Where it does so in a report, at least as many other `open` lines as the pool has slots were answered ok.
 pub fn reports_find_many()
     ensures { ReportsFindMany }
+{}
+
+/// No line of a report is answered `Memory` or `PoolFull`: a pool's calls take no memory, and an arena has each of its
+/// pages from the first.
+pub fn lines_want_nothing()
+    ensures { NoLineWants }
 {}

@@ -1,10 +1,10 @@
-//! Laws of lines of scripts: they change only bytes that their arenas have given, and a worker's line finds no slot
-//! only where others had each.
+//! Laws of lines of scripts: they change only bytes that their arenas have given, a worker's line finds no slot only
+//! where others had each, and none is refused for want of memory or of a page.
 #![tactic(auto)]
 
 mod laws;
 
 pub use laws::{
-    finds_are_right, lines_are_tidy, parts_are_tidy, reports_are_tidy, reports_find_many,
-    rows_are_tidy,
+    finds_are_right, lines_are_tidy, lines_want_nothing, parts_are_tidy, reports_are_tidy,
+    reports_find_many, rows_are_tidy,
 };

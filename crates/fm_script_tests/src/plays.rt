@@ -1,4 +1,6 @@
 mod gates;
+mod relay;
+mod wide;
 
 use crate::written::script_of;
 use fm_io::{FreeGate, Gate};

@@ -1,4 +1,4 @@
-use fm_io::{Files, FreeGate, MemSink, Sink, SureSink};
+use fm_io::{Files, FreeGate, Sink, SureSink};
 use fm_top::{Kept, run_tool};
 use std::alloc::{AllocError, AllocGlobal, Global};
 use std::process::Abort;
@@ -6,6 +6,15 @@ use std::random::RandomSource;
 use std::sync::Wait;
 use std::test::Fail;
 use std::thread::Threads;
+
+/// The words of a line, which single blanks part.
+pub fn words_of(alloc: Global, line: &str) -> Result<Vec<String>, AllocError> {
+    let mut words = Vec::new(alloc);
+    for word in line.split(' ') {
+        words.push(String::from_str(alloc, word)?)?;
+    }
+    Ok(words)
+}
 
 /// Runs the tool on these words.
 pub fn run<R, F, O>(rt: &R, words: &[&str], files: &mut F, out: &mut O) -> Result<u8, AllocError>
@@ -70,33 +79,6 @@ where
     for row in table.lines() {
         let (line, status, text) = parts_of(rt.alloc(), row)?;
         line_ends(rt, files, line, status, &text)?;
-    }
-    Ok(())
-}
-
-/// Compares how a run on these words ends where each byte is written by a call of its own, and each of these calls fails in turn.
-pub fn ends_at_each_write<R, F>(
-    rt: &R,
-    files: &mut F,
-    words: &[&str],
-    status: u8,
-    text: &str,
-) -> Result<(), Fail>
-where
-    R: Threads + Wait + Sync + RandomSource + AllocGlobal + Abort,
-    F: Files,
-{
-    for k in 0..=text.len() {
-        let failing = vec![in rt.alloc(); k as u64]?;
-        let mut out = MemSink::new(rt.alloc(), failing).with_piece(1);
-        let code = run(rt, words, files, &mut out)?;
-        let status = if k < text.len() { 8 } else { status };
-        assert_eq!(rt; code, status, "{words:?} at write {k}");
-        assert_eq!(rt;
-            out.written(),
-            &text.as_bytes()[..k],
-            "{words:?} at write {k}"
-        );
     }
     Ok(())
 }

@@ -1,5 +1,5 @@
-use crate::endings::{ends_at_each_write, line_ends, parts_of};
-use crate::files::named;
+use crate::endings::{line_ends, parts_of, rows_end};
+use crate::files::{named, text_file};
 use fm_io::{MemFiles, SureFiles};
 use fm_top::LAYOUT_FILE_LIMIT;
 use std::alloc::{AllocError, AllocGlobal, Global};
@@ -19,15 +19,10 @@ pub const SALE: &str =
 const LISTING: &str =
     "size 24\nalignment 8\n.id 0 int little\n.kind 4 short little\n.price 8 long little\n.tags[] 16 byte little 1*4\n";
 
-/// The files where `L` has this text, the reads of these numbers fail, and each gives at most so many bytes.
-fn layout_file(
-    alloc: Global,
-    text: &str,
-    failing: &[u64],
-    most: usize,
-) -> Result<MemFiles, AllocError> {
-    let file = named(alloc, "L", text.as_bytes().to_vec(alloc)?)?;
-    Ok(MemFiles::new(vec![in alloc; file]?, failing.to_vec(alloc)?).with_piece(most.max(1)))
+/// The files where `L` has this text, and each read gives at most so many bytes.
+fn layout_file(alloc: Global, text: &str, most: usize) -> Result<MemFiles, AllocError> {
+    let file = text_file(alloc, "L", text)?;
+    Ok(MemFiles::new(vec![in alloc; file]?, Vec::new(alloc)).with_piece(most.max(1)))
 }
 
 /// Layouts that have `'` for each quotation mark, and how their listings end.
@@ -54,7 +49,7 @@ where
     R: Threads + Wait + Sync + RandomSource + AllocGlobal + Abort,
 {
     for most in [1, 7, usize::MAX] {
-        let mut files = layout_file(rt.alloc(), layout, &[], most)?;
+        let mut files = layout_file(rt.alloc(), layout, most)?;
         line_ends(rt, &mut files, "layout L", status, text)?;
     }
     Ok(())
@@ -71,51 +66,28 @@ fn each_layout_is_listed_or_refused(rt: HostRuntime) -> Result<(), Fail> {
     Ok(())
 }
 
+/// Words that ask for no layout, and how they end.
+const NO_LAYOUTS: &str = "\
+layout -> 1 usage|
+layout L L -> 1 usage|
+layout -L -> 1 usage|
+layout - -> 1 usage|
+Layout L -> 1 usage|
+list L -> 1 usage|
+layout nofile -> 2 missing nofile|
+layout  -> 2 missing |";
+
 #[test]
 fn words_that_ask_for_no_layout_are_usage(rt: HostRuntime) -> Result<(), Fail> {
-    for (line, status, text) in [
-        ("layout", 1, "usage\n"),
-        ("layout L L", 1, "usage\n"),
-        ("layout -L", 1, "usage\n"),
-        ("layout -", 1, "usage\n"),
-        ("Layout L", 1, "usage\n"),
-        ("list L", 1, "usage\n"),
-        ("layout nofile", 2, "missing nofile\n"),
-        ("layout ", 2, "missing \n"),
-    ] {
-        let mut files = layout_file(rt.alloc(), SALE, &[], 1)?;
-        line_ends(&rt, &mut files, line, status, text)?;
-    }
-    Ok(())
+    rows_end(&rt, &mut layout_file(rt.alloc(), SALE, 1)?, NO_LAYOUTS)
 }
 
 #[test]
 fn a_part_of_a_layout_is_no_layout(rt: HostRuntime) -> Result<(), Fail> {
     for k in 0..SALE.len() {
         let part = std::str::from_utf8(&SALE.as_bytes()[..k]).unwrap_or("");
-        let mut files = layout_file(rt.alloc(), part, &[], usize::MAX)?;
+        let mut files = layout_file(rt.alloc(), part, usize::MAX)?;
         line_ends(&rt, &mut files, "layout L", 4, "layout refused 40\n")?;
-    }
-    Ok(())
-}
-
-#[test]
-fn a_read_of_a_layout_that_fails_prints_nothing(rt: HostRuntime) -> Result<(), Fail> {
-    // Each 16 bytes are read by a call of their own, and then the end.
-    let reads = SALE.len().div_ceil(16) as u64;
-    for k in 0..=reads + 1 {
-        let mut files = layout_file(rt.alloc(), SALE, &[k], 16)?;
-        let (status, text) = if k <= reads { (3, "") } else { (0, LISTING) };
-        line_ends(&rt, &mut files, "layout L", status, text)?;
-    }
-    Ok(())
-}
-
-#[test]
-fn a_write_of_a_listing_that_fails_leaves_a_prefix(rt: HostRuntime) -> Result<(), Fail> {
-    for (layout, status, text) in [(SALE, 0, LISTING), ("{", 4, "layout refused 40\n")] {
-        let mut files = layout_file(rt.alloc(), layout, &[], usize::MAX)?;
-        ends_at_each_write(&rt, &mut files, &["layout", "L"], status, text)?;
     }
     Ok(())
 }

@@ -1,4 +1,5 @@
-//! Tests of the tool over files and a sink: a module a command, and one of what it keeps.
+//! Tests of the tool over files and a sink: a module a command, and one each of failing reads and writes, of what it
+//! keeps, of who passes its gate, and of sizes at which nothing may be wanting.
 #![tactic(auto)]
 
 #[cfg(test)]
@@ -6,7 +7,11 @@ mod demos;
 #[cfg(test)]
 mod endings;
 #[cfg(test)]
+mod faults;
+#[cfg(test)]
 mod files;
+#[cfg(test)]
+mod gates;
 #[cfg(test)]
 mod keeping;
 #[cfg(test)]
@@ -17,6 +22,8 @@ mod layouts;
 mod queries;
 #[cfg(test)]
 mod scripts;
+#[cfg(test)]
+mod sizes;
 #[cfg(test)]
 mod sums;
 #[cfg(test)]

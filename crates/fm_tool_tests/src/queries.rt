@@ -1,4 +1,4 @@
-use crate::endings::{ends, ends_at_each_write, parts_of, rows_end, run};
+use crate::endings::{ends, line_ends, parts_of, rows_end, run};
 use crate::files::{named, text_file, zeros};
 use crate::layouts::SALE;
 use fm_io::{MemFiles, SureFiles, SureSink};
@@ -11,16 +11,13 @@ use std::test::Fail;
 use std::thread::Threads;
 
 /// Two sales: of ids 1 and 2, kinds 2 and 3, and prices 250 and -40, with four tags each.
-const SALES: [u8; 48] = [
+pub const SALES: [u8; 48] = [
     1, 0, 0, 0, 2, 0, 0, 0, 0xfa, 0, 0, 0, 0, 0, 0, 0, 1, 2, 3, 4, 0, 0, 0, 0, 2, 0, 0, 0, 3, 0, 0,
     0, 0xd8, 0xff, 0xff, 0xff, 0xff, 0xff, 0xff, 0xff, 5, 0, 0, 0xff, 0, 0, 0, 0,
 ];
 
 /// The query that others vary.
 const ROW: [&str; 4] = ["query", "L1", "min(.price) where .kind=9", "R1"];
-
-/// What it prints.
-const NONE: &str = "min(.price) none\n";
 
 /// The first bytes of the sales.
 fn sales(alloc: Global, count: usize) -> Result<Vec<u8>, AllocError> {
@@ -111,27 +108,20 @@ fn each_query_is_answered_in_pieces_of_every_size(rt: HostRuntime) -> Result<(),
     texts_end(&rt, "query", QUERIES)
 }
 
+/// Layouts of which no records are. Each is refused before the text, and the record file isn't read.
+const NO_RECORDS: &str = "\
+query nolayout count nofile -> 2 missing nolayout|
+query nolayout count, nofile -> 2 missing nolayout|
+query Broken count nofile -> 4 layout refused 40|
+query Broken count, nofile -> 4 layout refused 40|
+query Void count nofile -> 4 layout refused 25|
+query Void count, nofile -> 4 layout refused 25|
+query Uneven count nofile -> 4 layout refused 22|
+query Uneven count, nofile -> 4 layout refused 22|";
+
 #[test]
 fn a_layout_of_no_records_is_refused(rt: HostRuntime) -> Result<(), Fail> {
-    let mut files = files(rt.alloc(), &[], usize::MAX)?;
-    for (layout, status, text) in [
-        ("nolayout", 2, "missing nolayout\n"),
-        ("Broken", 4, "layout refused 40\n"),
-        ("Void", 4, "layout refused 25\n"),
-        ("Uneven", 4, "layout refused 22\n"),
-    ] {
-        // The layout is refused before the text, and the record file isn't read.
-        for query in ["count", "count,"] {
-            ends(
-                &rt,
-                &mut files,
-                &["query", layout, query, "nofile"],
-                status,
-                text,
-            )?;
-        }
-    }
-    Ok(())
+    rows_end(&rt, &mut files(rt.alloc(), &[], usize::MAX)?, NO_RECORDS)
 }
 
 /// Words with the option in each place, and how they end.
@@ -199,7 +189,7 @@ fn as_many_threads_as_one_likes_answer_the_same(rt: HostRuntime) -> Result<(), F
     let text = "count 2\nsum(.price) 210\nlist(.tags[]) 1 2 3 4 5 0 0 -1\n";
     let mut files = files(rt.alloc(), &[], usize::MAX)?;
     let none = "count 0\nsum(.price) 0\nlist(.tags[])\n";
-    for threads in ["1", "2", "8", "16"] {
+    for threads in ["1", "2", "7", "16"] {
         for (file, text) in [("R1", text), ("E", none)] {
             let words = ["query", "--threads", threads, "L1", query, file];
             ends(&rt, &mut files, &words, 0, text)?;
@@ -232,48 +222,28 @@ fn a_part_of_the_records_is_counted_or_ragged(rt: HostRuntime) -> Result<(), Fai
     Ok(())
 }
 
-#[test]
-fn a_read_of_either_file_that_fails_prints_nothing(rt: HostRuntime) -> Result<(), Fail> {
-    // Each 16 bytes are read by a call of their own, and then the end, of the layout and then of the records.
-    let reads = SALE.len().div_ceil(16) as u64 + 1 + 3 + 1;
-    let by_many = ["query", "--threads", "16", "L1", ROW[2], "R1"];
-    for k in 0..=reads {
-        let (status, text) = if k < reads { (3, "") } else { (0, NONE) };
-        ends(&rt, &mut files(rt.alloc(), &[k], 16)?, &ROW, status, text)?;
-        ends(
-            &rt,
-            &mut files(rt.alloc(), &[k], 16)?,
-            &by_many,
-            status,
-            text,
-        )?;
-    }
-    Ok(())
-}
+/// How runs end after so many reads. Each file that is there takes one read for its bytes and one for its end.
+const READS: &str = "\
+query nolayout count R1 -> 2 missing nolayout| after 1
+query Broken count R1 -> 4 layout refused 40| after 2
+query Void count R1 -> 4 layout refused 25| after 2
+query L1 count, R1 -> 5 query refused 50 6| after 2
+query L1 count nofile -> 2 missing nofile| after 3
+query L1 count Ragged -> 6 ragged 1| after 4
+query L1 count R1 -> 0 count 2| after 4";
 
 #[test]
 fn nothing_is_read_past_what_is_needed(rt: HostRuntime) -> Result<(), Fail> {
-    // Each file that is there takes one read for its bytes and one for its end.
-    for (layout, query, file, reads, status, text) in [
-        ("nolayout", "count", "R1", 1, 2, "missing nolayout\n"),
-        ("Broken", "count", "R1", 2, 4, "layout refused 40\n"),
-        ("Void", "count", "R1", 2, 4, "layout refused 25\n"),
-        ("L1", "count,", "R1", 2, 5, "query refused 50 6\n"),
-        ("L1", "count", "nofile", 3, 2, "missing nofile\n"),
-        ("L1", "count", "Ragged", 4, 6, "ragged 1\n"),
-        ("L1", "count", "R1", 4, 0, "count 2\n"),
-    ] {
+    let alloc = rt.alloc();
+    for row in READS.lines() {
+        let (row, reads) = row.rsplit_once(" after ").unwrap_or((row, ""));
+        let reads: u64 = reads.parse().unwrap_or(0);
+        let (line, status, text) = parts_of(alloc, row)?;
         // The last read that is needed fails, or else each one past it.
-        for (failing, status, text) in [(&[reads - 1], 3, ""), (&[reads], status, text)] {
-            let mut files = files(rt.alloc(), failing, usize::MAX)?;
-            ends(
-                &rt,
-                &mut files,
-                &["query", layout, query, file],
-                status,
-                text,
-            )?;
-        }
+        let mut needed = files(alloc, &[reads.saturating_sub(1)], usize::MAX)?;
+        line_ends(&rt, &mut needed, line, 3, "")?;
+        let mut past = files(alloc, &[reads], usize::MAX)?;
+        line_ends(&rt, &mut past, line, status, &text)?;
     }
     Ok(())
 }
@@ -292,16 +262,6 @@ fn one_run_follows_another(rt: HostRuntime) -> Result<(), Fail> {
     }
     let text = "min(.price) none\nmissing nofile\nmin(.price) none\n";
     assert_eq!(rt; out.written(), text.as_bytes());
-    Ok(())
-}
-
-#[test]
-fn a_write_of_an_answer_that_fails_leaves_a_prefix(rt: HostRuntime) -> Result<(), Fail> {
-    let mut files = files(rt.alloc(), &[], usize::MAX)?;
-    for (query, status, text) in [(ROW[2], 0, NONE), ("count,", 5, "query refused 50 6\n")] {
-        let words = ["query", "L1", query, "R1", "--threads=2"];
-        ends_at_each_write(&rt, &mut files, &words, status, text)?;
-    }
     Ok(())
 }
 

@@ -1,11 +1,15 @@
-use crate::endings::{ends_at_each_write, line_ends, run};
-use crate::files::named;
+use crate::endings::{line_ends, parts_of, rows_end, run};
+use crate::files::{named, text_file};
 use crate::keeping::run_at;
 use fm_io::{MemFiles, MemSink, SureFiles};
 use fm_report::print_report;
 use fm_top::{Kept, SCRIPT_FILE_LIMIT};
-use std::alloc::{AllocError, Global};
+use std::alloc::{AllocError, AllocGlobal, Global};
+use std::process::Abort;
+use std::random::RandomSource;
+use std::sync::Wait;
 use std::test::Fail;
+use std::thread::Threads;
 
 /// A slot is used twice, and its bytes are zero again.
 const TWICE: &str =
@@ -18,54 +22,41 @@ const TWICE_REPORT: &str =
     first open b shared -> ok\nfirst alloc b t 8 8 -> ok 0\nfirst get t long 0 -> 0\n\
     first get s long 0 -> refused 1\nbytes b 0000000000000000\n";
 
-/// Two workers add to one number.
-const ADDED: &str =
-    "pool 1 1 8 1000 1\nfirst open a shared\nfirst alloc a s 8 8\n1 add s long 0 5\n2 add s long 0 7\n\
-    last get s long 0\n";
+/// The files where `S` has this text, and each read gives at most so many bytes.
+fn script_file(alloc: Global, text: &str, most: usize) -> Result<MemFiles, AllocError> {
+    let file = text_file(alloc, "S", text)?;
+    Ok(MemFiles::new(vec![in alloc; file]?, Vec::new(alloc)).with_piece(most.max(1)))
+}
 
-/// The two texts that may be printed of it.
-const ADDED_REPORTS: [&str; 2] = [
-    "first open a shared -> ok\nfirst alloc a s 8 8 -> ok 0\n1 add s long 0 5 -> 0\n2 add s long 0 7 -> 5\n\
-    last get s long 0 -> 12\nbytes a 0c00000000000000\n",
-    "first open a shared -> ok\nfirst alloc a s 8 8 -> ok 0\n1 add s long 0 5 -> 7\n2 add s long 0 7 -> 0\n\
-    last get s long 0 -> 12\nbytes a 0c00000000000000\n",
-];
+/// Scripts, with a bar for each line's end, and how their runs end.
+const SCRIPTS: &str = "\
+pool 1 1 8 1000 1| -> 0
+# a pool||pool 1 1 8 1000 1 -> 0
+ -> 10 script refused 1|
+# nothing|| -> 10 script refused 3|
+first open a shared| -> 10 script refused 1|
+pool 1 1 8 1000 1|first open a| -> 10 script refused 2|
+pool 1 1 8 1000 1|first open a shared|first hold a h|first hold a k|first unhold k| -> 10 script refused 3|";
 
-/// The files where `S` has this text, the reads of these numbers fail, and each gives at most so many bytes.
-fn script_file(
-    alloc: Global,
-    text: &str,
-    failing: &[u64],
-    most: usize,
-) -> Result<MemFiles, AllocError> {
-    let file = named(alloc, "S", text.as_bytes().to_vec(alloc)?)?;
-    Ok(MemFiles::new(vec![in alloc; file]?, failing.to_vec(alloc)?).with_piece(most.max(1)))
+/// Compares how the run of this script ends with what is wanted, in pieces of every size.
+fn is_run<R>(rt: &R, script: &str, status: u8, text: &str) -> Result<(), Fail>
+where
+    R: Threads + Wait + Sync + RandomSource + AllocGlobal + Abort,
+{
+    for most in [1, 7, usize::MAX] {
+        let mut files = script_file(rt.alloc(), script, most)?;
+        line_ends(rt, &mut files, "run S", status, text)?;
+    }
+    Ok(())
 }
 
 #[test]
 fn each_script_is_run_or_refused(rt: HostRuntime) -> Result<(), Fail> {
-    for (script, status, text) in [
-        (TWICE, 0, TWICE_REPORT),
-        ("pool 1 1 8 1000 1\n", 0, ""),
-        ("# a pool\n\npool 1 1 8 1000 1", 0, ""),
-        ("", 10, "script refused 1\n"),
-        ("# nothing\n\n", 10, "script refused 3\n"),
-        ("first open a shared\n", 10, "script refused 1\n"),
-        (
-            "pool 1 1 8 1000 1\nfirst open a\n",
-            10,
-            "script refused 2\n",
-        ),
-        (
-            "pool 1 1 8 1000 1\nfirst open a shared\nfirst hold a h\nfirst hold a k\nfirst unhold k\n",
-            10,
-            "script refused 3\n",
-        ),
-    ] {
-        for most in [1, 7, usize::MAX] {
-            let mut files = script_file(rt.alloc(), script, &[], most)?;
-            line_ends(&rt, &mut files, "run S", status, text)?;
-        }
+    is_run(&rt, TWICE, 0, TWICE_REPORT)?;
+    for row in SCRIPTS.lines() {
+        let (script, status, text) = parts_of(rt.alloc(), row)?;
+        let script = script.replace(rt.alloc(), "|", "\n")?;
+        is_run(&rt, &script, status, &text)?;
     }
     Ok(())
 }
@@ -77,7 +68,7 @@ fn each_part_of_whole_lines_is_run(rt: HostRuntime) -> Result<(), Fail> {
     for (k, c) in TWICE.as_bytes().iter().enumerate() {
         if *c == b'\n' {
             let part = std::str::from_utf8(&TWICE.as_bytes()[..=k]).unwrap_or("");
-            let mut files = script_file(alloc, part, &[], usize::MAX)?;
+            let mut files = script_file(alloc, part, usize::MAX)?;
             let code = run(
                 &rt,
                 &words,
@@ -90,66 +81,40 @@ fn each_part_of_whole_lines_is_run(rt: HostRuntime) -> Result<(), Fail> {
     Ok(())
 }
 
+/// Words that run no script, and how they end.
+const NO_RUNS: &str = "\
+run -> 1 usage|
+run S S -> 1 usage|
+run -S -> 1 usage|
+run -- S -> 1 usage|
+Run S -> 1 usage|
+run nofile -> 2 missing nofile|
+run  -> 2 missing |";
+
 #[test]
 fn words_that_run_no_script_are_usage(rt: HostRuntime) -> Result<(), Fail> {
-    for (line, status, text) in [
-        ("run", 1, "usage\n"),
-        ("run S S", 1, "usage\n"),
-        ("run -S", 1, "usage\n"),
-        ("run -- S", 1, "usage\n"),
-        ("Run S", 1, "usage\n"),
-        ("run nofile", 2, "missing nofile\n"),
-        ("run ", 2, "missing \n"),
-    ] {
-        let mut files = script_file(rt.alloc(), TWICE, &[], 1)?;
-        line_ends(&rt, &mut files, line, status, text)?;
-    }
-    Ok(())
+    rows_end(&rt, &mut script_file(rt.alloc(), TWICE, 1)?, NO_RUNS)
 }
 
-#[test]
-fn a_read_of_a_script_that_fails_prints_nothing(rt: HostRuntime) -> Result<(), Fail> {
-    // Each 16 bytes are read by a call of their own, and then the end.
-    let reads = ADDED.len().div_ceil(16) as u64;
-    for k in 0..=reads + 1 {
-        let alloc = rt.alloc();
-        let mut files = script_file(alloc, ADDED, &[k], 16)?;
-        let mut out = MemSink::new(alloc, Vec::new(alloc));
-        let code = run(&rt, &["run", "S"], &mut files, &mut out)?;
-        let found = out.written();
-        if k <= reads {
-            assert_eq!(rt; code, 3, "read {k}");
-            assert!(rt; found.is_empty(), "read {k}");
-        } else {
-            assert_eq!(rt; code, 0, "read {k}");
-            assert!(rt; ADDED_REPORTS.iter().any(|text| text.as_bytes() == found));
-        }
-    }
-    Ok(())
-}
-
-#[test]
-fn a_write_of_a_report_that_fails_leaves_a_prefix(rt: HostRuntime) -> Result<(), Fail> {
-    for (script, status, text) in [(TWICE, 0, TWICE_REPORT), ("", 10, "script refused 1\n")] {
-        let mut files = script_file(rt.alloc(), script, &[], usize::MAX)?;
-        ends_at_each_write(&rt, &mut files, &["run", "S"], status, text)?;
-    }
-    Ok(())
-}
+/// Runs one after another, whose write of this number fails if one does: their statuses, and whether a report is kept.
+const KEEPING: &str = "\
+run S -> 0 kept
+run -> 1 none
+run S -> 8 kept at 3
+demo 3 -> 0 none
+run S -> 8 kept at 0
+run nofile -> 2 none";
 
 #[test]
 fn a_report_is_kept_with_each_run_of_a_script(rt: HostRuntime) -> Result<(), Fail> {
-    let mut files = script_file(rt.alloc(), TWICE, &[], usize::MAX)?;
+    let mut files = script_file(rt.alloc(), TWICE, usize::MAX)?;
     let mut kept = Kept::new();
-    for (line, failing, status, is_kept) in [
-        ("run S", u64::MAX, 0, true),
-        ("run", u64::MAX, 1, false),
-        ("run S", 3, 8, true),
-        ("demo 3", u64::MAX, 0, false),
-        ("run S", 0, 8, true),
-        ("run nofile", u64::MAX, 2, false),
-    ] {
+    for row in KEEPING.lines() {
+        let (row, failing) = row.rsplit_once(" at ").unwrap_or((row, ""));
+        let (line, status, keeps) = parts_of(rt.alloc(), row)?;
+        let failing: u64 = failing.parse().unwrap_or(u64::MAX);
         let code = run_at(&rt, &mut files, line, failing, &mut kept)?;
+        let is_kept = keeps.as_str() == "kept";
         assert_eq!(rt; code, status, "{line}");
         assert_eq!(rt; kept.report().is_some(), is_kept, "{line}");
         assert!(rt; !is_kept || kept.finished().is_none(), "{line}");
@@ -159,7 +124,7 @@ fn a_report_is_kept_with_each_run_of_a_script(rt: HostRuntime) -> Result<(), Fai
 
 #[test]
 fn what_is_kept_is_what_was_printed(rt: HostRuntime) -> Result<(), Fail> {
-    let mut files = script_file(rt.alloc(), TWICE, &[], usize::MAX)?;
+    let mut files = script_file(rt.alloc(), TWICE, usize::MAX)?;
     let mut kept = Kept::new();
     run_at(&rt, &mut files, "run S", u64::MAX, &mut kept)?;
     let Some(report) = kept.report() else {

@@ -1,23 +1,17 @@
-use crate::endings::{ends_at_each_write, line_ends, rows_end};
+use crate::endings::{line_ends, rows_end};
 use crate::files::{named, zeros};
 use fm_io::{MemFiles, SureFiles};
 use std::alloc::{AllocError, Global};
 use std::test::Fail;
 
 /// Two records of 16 bytes, whose longs at byte 8 are -3 and 5.
-const TWO_LONGS: [u8; 32] = [
+pub const TWO_LONGS: [u8; 32] = [
     0, 0, 0, 0, 0, 0, 0, 0, 0xfd, 0xff, 0xff, 0xff, 0xff, 0xff, 0xff, 0xff, 0, 0, 0, 0, 0, 0, 0, 0,
     5, 0, 0, 0, 0, 0, 0, 0,
 ];
 
 /// The most bytes of a record file.
 const LIMIT: usize = 67_108_864;
-
-/// The row that others vary.
-const ROW: &str = "sum 16 8 long F1";
-
-/// What this row prints.
-const SUM: &str = "sum 2\n";
 
 /// The two records as `F1`, the empty file `E`, and the records with a byte more, which are named `Ragged`.
 fn small_files(alloc: Global) -> Result<Vec<(String, Vec<u8>)>, AllocError> {
@@ -104,31 +98,6 @@ fn words_of_no_form_read_no_file(rt: HostRuntime) -> Result<(), Fail> {
     let mut files = files(rt.alloc(), &[0], 1)?;
     for line in NO_FORM.lines() {
         line_ends(&rt, &mut files, line, 1, "usage\n")?;
-    }
-    Ok(())
-}
-
-#[test]
-fn a_read_that_fails_prints_nothing(rt: HostRuntime) -> Result<(), Fail> {
-    // Each byte is read by a call of its own, and then the end.
-    for k in 0..=33_u64 {
-        let (status, text) = if k < 33 { (3, "") } else { (0, SUM) };
-        line_ends(&rt, &mut files(rt.alloc(), &[k], 1)?, ROW, status, text)?;
-    }
-    Ok(())
-}
-
-#[test]
-fn a_write_that_fails_leaves_a_prefix(rt: HostRuntime) -> Result<(), Fail> {
-    let mut files = files(rt.alloc(), &[], usize::MAX)?;
-    for (line, status, text) in [
-        (ROW, 0, SUM),
-        ("sum", 1, "usage\n"),
-        ("sum 16 8 long nofile", 2, "missing nofile\n"),
-        ("sum 16 8 long Ragged", 6, "ragged 1\n"),
-    ] {
-        let words: Vec<&str> = line.split(' ').collect(rt.alloc())?;
-        ends_at_each_write(&rt, &mut files, &words, status, text)?;
     }
     Ok(())
 }

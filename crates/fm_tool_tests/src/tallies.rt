@@ -1,12 +1,8 @@
-use crate::endings::{ends, ends_at_each_write, rows_end};
+use crate::endings::{ends, rows_end};
 use crate::files::{named, text_file};
-use crate::layouts::SALE;
 use crate::queries::{files, texts_end};
 use fm_io::SureFiles;
 use std::test::Fail;
-
-/// The tally that others vary.
-const ROW: [&str; 4] = ["tally", "L1", ".tags[]", "R1"];
 
 /// What it prints.
 const TAGS: &str = "-1 1\n0 2\n1 1\n2 1\n3 1\n4 1\n5 1\ntotal 8\n";
@@ -41,7 +37,7 @@ fn each_path_is_tallied_or_refused(rt: HostRuntime) -> Result<(), Fail> {
 #[test]
 fn as_many_threads_as_one_likes_count_the_same(rt: HostRuntime) -> Result<(), Fail> {
     let mut files = files(rt.alloc(), &[], usize::MAX)?;
-    for threads in ["1", "2", "8", "16"] {
+    for threads in ["1", "2", "7", "16"] {
         for (file, text) in [("R1", TAGS), ("E", "total 0\n")] {
             let words = ["tally", "L1", ".tags[]", file, "--threads", threads];
             ends(&rt, &mut files, &words, 0, text)?;
@@ -90,21 +86,4 @@ Tally L1 .tags[] R1 -> 1 usage|";
 #[test]
 fn words_of_tallies_have_one_form(rt: HostRuntime) -> Result<(), Fail> {
     rows_end(&rt, &mut files(rt.alloc(), &[], usize::MAX)?, FORMS)
-}
-
-#[test]
-fn a_read_for_a_tally_that_fails_prints_nothing(rt: HostRuntime) -> Result<(), Fail> {
-    // Each 16 bytes are read by a call of their own, and then the end, of the layout and then of the records.
-    let reads = SALE.len().div_ceil(16) as u64 + 1 + 3 + 1;
-    for k in 0..=reads {
-        let (status, text) = if k < reads { (3, "") } else { (0, TAGS) };
-        ends(&rt, &mut files(rt.alloc(), &[k], 16)?, &ROW, status, text)?;
-    }
-    Ok(())
-}
-
-#[test]
-fn a_write_of_a_tally_that_fails_leaves_a_prefix(rt: HostRuntime) -> Result<(), Fail> {
-    let mut files = files(rt.alloc(), &[], usize::MAX)?;
-    ends_at_each_write(&rt, &mut files, &ROW, 0, TAGS)
 }

@@ -4,7 +4,7 @@ use Rattle.fm_io.specs.Count.{Rose, Raised}
 use Rattle.fm_io.specs.Files.{Contents}
 use Rattle.fm_top.specs.Causes.{OverFiles}
 use Rattle.fm_top.specs.Outcome.{Outcome}
-use Rattle.fm_top.specs.Run.{HasOutcome, IsOutcome, faulty, asked, Traces, Runs, whole, unread, unwritten, no_memory, unknown, code_of, IsValid, Answers, is_answered, wants_memory}
+use Rattle.fm_top.specs.Run.{HasOutcome, IsOutcome, faulty, asked, Traces, Runs, whole, unread, unwritten, no_memory, unknown, code_of, IsValid, Answers, is_answered, cut_short, wants_memory}
 use Rattle.fm_top.specs.Words.{Request, Asks}
 use Rattle.fm_top.specs.declared.left.Left.{Left}
 use Rattle.fm_top.specs.declared.status.Status.{Status}
@@ -41,8 +41,9 @@ ran words told t k s (whole o is all) request contents asks tells valid no_read 
     subst (λ (r : Status). Answers words told t.before t.after o.left (code_of r)) (sym status) (is_answered o is status all)
 ran words told t k s (unread ask rose same) request contents asks tells valid no_read no_write = absurd (no_read rose)
 ran words told t k s (unwritten o is rose front) request contents asks tells valid no_read no_write = absurd (no_write rose)
-ran words told t k s (no_memory o is front) request contents asks tells valid no_read no_write = wants_memory k
-ran words told t k s (unknown x same) request contents asks tells valid no_read no_write = wants_memory k
+ran words told t k s (no_memory o is front) request contents asks tells valid no_read no_write =
+    cut_short o is (valid_answered words told o request contents is asks tells valid) front
+ran words told t k s (unknown same) request contents asks tells valid no_read no_write = wants_memory same
 
 pub complete : {words : List (List ℕ)} {told : Option Contents} {t : Traces} {k : Left} {s : Status} {code : ℕ} → Runs words told t k s → code ≡ code_of s
     → (request : Request) (contents : Contents) → Asks words request → told ≡ Some contents → IsValid request contents

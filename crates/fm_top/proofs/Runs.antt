@@ -1,11 +1,12 @@
 -- How runs end.
-use Rattle.std.proofs.Common.{◌≡◌, ℕ, List, Option, None, Some, refl, sym, ap, subst, ◌∙◌, inl, inr}
-use Rattle.std.specs.Prelude.{◌==◌, if◌then◌else◌}
+use Rattle.std.proofs.Common.{◌≡◌, ◌≢◌, ℕ, List, Option, None, Some, refl, sym, ap, subst, ◌∙◌, inl, inr}
+use Rattle.std.specs.Prelude.{◌==◌, ◌⊎◌, if◌then◌else◌}
 use Rattle.fm_io.specs.Count.{Rose, Raised}
 use Rattle.fm_io.specs.Files.{Contents}
+use Rattle.fm_top.specs.Ending.{TellsMiss}
 use Rattle.fm_top.specs.Found.{OfFile}
 use Rattle.fm_top.specs.Outcome.{Outcome}
-use Rattle.fm_top.specs.Run.{EndsBy, HasOutcome, IsOutcome, faulty, asked, Traces, Prints, printed, failed, stopped, Runs, whole, unread, unwritten, no_memory, unknown, code_of, EndsWith}
+use Rattle.fm_top.specs.Run.{EndsBy, HasOutcome, IsOutcome, faulty, asked, Traces, Prints, printed, failed, stopped, Runs, whole, unread, unwritten, no_memory, unknown, TellsMissing, code_of, EndsWith}
 use Rattle.fm_top.specs.Words.{Request, Sum, Layout, Ask, Demo, Run, Asks, CanBeAsked, AreFaulty, first_file, last_file}
 use Rattle.fm_top.specs.declared.left.Left.{Left}
 use Rattle.fm_top.specs.declared.status.Status.{Status}
@@ -47,6 +48,20 @@ pub runs-printed : {words : List (List ℕ)} {told : Option Contents} {t : Trace
 runs-printed o is (printed all) = whole o is all
 runs-printed o is (failed rose front) = unwritten o is rose front
 runs-printed o is (stopped front) = no_memory o is front
+
+missing_or : (s : Status) → (s ≡ Missing) ⊎ (s ≢ Missing)
+missing_or Missing = inl refl
+missing_or s = inr (λ e. absurd (cc))
+
+-- and where the count of misses changed, the run tells that a file is missing
+pub misses-printed : {words : List (List ℕ)} {told : Option Contents} {t : Traces} {before now : ℕ} (o : Outcome) {status : Status}
+    → IsOutcome words told o → Prints o t.writes_before t.writes_failed t.before t.after status → TellsMiss before now o.status
+    → (now ≡ before) ⊎ TellsMissing words told t o.left status
+misses-printed o is prints tells =
+    elim (missing_or o.status) [
+      | inl missing ↦ inr (record { outcome = o; is_outcome = is; missing = missing; prints = prints; left = refl })
+      | inr other ↦ inl (tells.well other)
+    ]
 
 -- ---- which status means what
 
@@ -94,7 +109,7 @@ only_unread words told t k s (whole o is_outcome all) is = absurd (outcome_early
 only_unread words told t k s (unread asks rose same) is = rose
 only_unread words told t k s (unwritten o is_outcome rose front) is = absurd (cc)
 only_unread words told t k s (no_memory o is_outcome front) is = absurd (cc)
-only_unread words told t k s (unknown x same) is = absurd (cc)
+only_unread words told t k s (unknown same) is = absurd (cc)
 
 -- what comes of a failed write
 pub only_unwritten : (words : List (List ℕ)) (told : Option Contents) (t : Traces) (k : Left) (s : Status) → Runs words told t k s → s ≡ Unwritten
@@ -103,7 +118,7 @@ only_unwritten words told t k s (whole o is_outcome all) is = absurd (outcome_ea
 only_unwritten words told t k s (unread asks rose same) is = absurd (cc)
 only_unwritten words told t k s (unwritten o is_outcome rose front) is = rose
 only_unwritten words told t k s (no_memory o is_outcome front) is = absurd (cc)
-only_unwritten words told t k s (unknown x same) is = absurd (cc)
+only_unwritten words told t k s (unknown same) is = absurd (cc)
 
 -- The words have an outcome of this status.
 pub record HasStatus (words : List (List ℕ)) (told : Option Contents) (s : Status) : Type 0 where
@@ -118,7 +133,7 @@ outcome_status words told t k s (whole o is_outcome all) not_late = record { out
 outcome_status words told t k s (unread asks rose same) not_late = absurd (not_late tt)
 outcome_status words told t k s (unwritten o is_outcome rose front) not_late = absurd (not_late tt)
 outcome_status words told t k s (no_memory o is_outcome front) not_late = absurd (not_late tt)
-outcome_status words told t k s (unknown x same) not_late = absurd (not_late tt)
+outcome_status words told t k s (unknown same) not_late = absurd (not_late tt)
 
 -- usage comes of words that ask for nothing
 pub usage_faulty : (words : List (List ℕ)) (told : Option Contents) (o : Outcome) → IsOutcome words told o → o.status ≡ Usage → AreFaulty words
@@ -138,4 +153,4 @@ faulty_ends {words} {told} (whole o is_outcome all) same none = inl (same ∙ ap
 faulty_ends (unread asks rose kept) same none = absurd (none asks.0 asks.1)
 faulty_ends (unwritten o is_outcome rose front) same none = inr (inl same)
 faulty_ends (no_memory o is_outcome front) same none = inr (inr same)
-faulty_ends (unknown x kept) same none = inr (inr same)
+faulty_ends (unknown kept) same none = inr (inr same)

@@ -1,9 +1,10 @@
 -- What follows where a file wasn't loaded.
-use Rattle.std.proofs.Common.{◌≡◌, ℕ, ◌<◌, List, length, Option, None, Some, Result, Err, refl, ap, sym, subst, ◌∙◌}
-use Rattle.std.specs.Prelude.{IfOk}
+use Rattle.std.proofs.Common.{◌≡◌, ◌≢◌, ℕ, ◌<◌, List, length, Option, None, Some, Result, Ok, Err, refl, ap, sym, subst, ◌∙◌}
+use Rattle.std.specs.Prelude.{IfOk, IsOk}
 use Rattle.std.proofs.lemmas.Result.{IfOk-weaker}
+use Rattle.fm_io.specs.Count.{Rose}
 use Rattle.fm_io.specs.Files.{Contents, IsAbsent}
-use Rattle.fm_top.specs.Ending.{shown}
+use Rattle.fm_top.specs.Ending.{shown, TellsMisses}
 use Rattle.fm_top.specs.Found.{OfFound}
 use Rattle.fm_top.specs.Outcome.{Outcome, missing, too_long}
 use Rattle.fm_top.specs.Unloaded.{EndsUnloaded}
@@ -11,6 +12,7 @@ use Rattle.fm_load.specs.Whole.{IsOver}
 use Rattle.fm_top.specs.declared.ending.Ending.{Ending}
 use Rattle.fm_load.specs.declared.load_fault.LoadFault.{LoadFault}
 use Rattle.fm_load.specs.declared.load_fault.LoadFault.TheVariants.{Missing, Failed, TooLong, Memory, PoolFull}
+use Rattle.fm_top.specs.declared.status.Status.TheVariants as status
 use Rattle.fm_top.specs.declared.stop.Stop.{Stop}
 use Rattle.fm_top.proofs.Outcomes.{long_found}
 
@@ -35,3 +37,27 @@ pub unloaded_ends : {X : Type 0} {r : Result X LoadFault} {fault : LoadFault} (t
 unloaded_ends {X} {r} {fault} told name limit end P none long had absent over ends =
     IfOk-weaker end _ _ (λ ending is. unloaded told name limit P fault (shown ending) none long
     (λ same. absent (had ∙ ap Err same)) (λ same. over (had ∙ ap Err same)) is) ends
+
+-- the end tells of a missing file just where the file was missing
+module _ (before now : ℕ) (name : List ℕ) where
+  tells : (fault : LoadFault) (end : Result Ending Stop) → (fault ≡ Missing → Rose before now) → (fault ≢ Missing → now ≡ before)
+      → IfOk end (λ ending. EndsUnloaded fault name (shown ending)) → (fault ≡ Missing → IsOk end) → TellsMisses before now end
+  tells Missing (Ok ending) rose same ends told =
+      record { rose = λ is. rose refl; well = λ other. absurd (other (ap (λ (o : Outcome). o.status) ends)) }
+  tells Missing (Err stop) rose same ends told = absurd (let ok = told refl in cc)
+  tells TooLong (Ok ending) rose same ends told =
+      let long : ending.status ≡ status.TooLong = ap (λ (o : Outcome). o.status) ends in
+      record { rose = λ is. absurd (cc); well = λ other. same (λ e. absurd (cc)) }
+  tells TooLong (Err stop) rose same ends told = same (λ e. absurd (cc))
+  tells Failed (Ok ending) rose same ends told = absurd ends
+  tells Failed (Err stop) rose same ends told = same (λ e. absurd (cc))
+  tells Memory (Ok ending) rose same ends told = absurd ends
+  tells Memory (Err stop) rose same ends told = same (λ e. absurd (cc))
+  tells PoolFull (Ok ending) rose same ends told = absurd ends
+  tells PoolFull (Err stop) rose same ends told = same (λ e. absurd (cc))
+
+pub unloaded_tells : {X : Type 0} {r : Result X LoadFault} {fault : LoadFault} {before now : ℕ} (name : List ℕ) (end : Result Ending Stop)
+    → r ≡ Err fault → (r ≡ Err Missing → Rose before now) → (r ≢ Err Missing → now ≡ before)
+    → IfOk end (λ ending. EndsUnloaded fault name (shown ending)) → (fault ≡ Missing → IsOk end) → TellsMisses before now end
+unloaded_tells {X} {r} {fault} {before} {now} name end had rose same ends told =
+    tells before now name fault end (λ is. rose (had ∙ ap Err is)) (λ other. same (λ is. other (cc))) ends told

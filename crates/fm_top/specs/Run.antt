@@ -91,8 +91,16 @@ pub data Runs (words : List (List ℕ)) (told : Option Contents) (t : Traces) : 
       → AppendsPrefix t.before t.after o.text → Runs words told t o.left Unwritten
   -- memory ran out, and a prefix was written
   no_memory : (o : Outcome) → IsOutcome words told o → AppendsPrefix t.before t.after o.text → Runs words told t o.left NoMemory
-  -- memory ran out before the outcome was known, and nothing was written; what is kept is open
-  unknown : (k : Left) → t.after ≡ t.before → Runs words told t k NoMemory
+  -- memory ran out before the outcome was known: nothing was written, and nothing is kept
+  unknown : t.after ≡ t.before → Runs words told t Nothing NoMemory
+
+-- The run tells that a file is missing: it came to such an outcome, and ended as the writing of its text did.
+pub record TellsMissing (words : List (List ℕ)) (told : Option Contents) (t : Traces) (k : Left) (status : Status) : Type 0 where
+  pub outcome : Outcome
+  pub is_outcome : IsOutcome words told outcome
+  pub missing : outcome.status ≡ Missing
+  pub prints : Prints outcome t.writes_before t.writes_failed t.before t.after status
+  pub left : k ≡ outcome.left
 
 -- the status, or an end in the writing of its text or for want of memory
 abbrev pub EndsWith : Status → ℕ → Type 0
@@ -108,8 +116,11 @@ pub record IsValid (request : Request) (contents : Contents) : Type 0 where
   pub records : OverFiles HasRaggedFile request contents → ⊥
   pub script : OverFiles HasRefusedScript request contents → ⊥
 
--- the run ends with an answer of the words written whole, with what it keeps, or for want of memory
+-- the run ends with an answer of the words written whole, with what it keeps, or for want of memory: as that answer is written, or
+-- before it was known
 pub data Answers (words : List (List ℕ)) (told : Option Contents) (before after : Option (List ℕ)) : Left → ℕ → Type 0 where
   is_answered : (o : Outcome) → IsOutcome words told o → o.status ≡ Answered → Appends before after o.text
       → Answers words told before after o.left (code_of Answered)
-  wants_memory : (k : Left) → Answers words told before after k (code_of NoMemory)
+  cut_short : (o : Outcome) → IsOutcome words told o → o.status ≡ Answered → AppendsPrefix before after o.text
+      → Answers words told before after o.left (code_of NoMemory)
+  wants_memory : after ≡ before → Answers words told before after Nothing (code_of NoMemory)

@@ -1,7 +1,7 @@
 ghost use Rattle.std.specs.Prelude.{◌≡◌, ◌%◌, ◌≤◌, Some, length, IfOk, IsErrOf, ◌≢◌, Err};
 ghost use Rattle.fm_io.specs.Count.{Rose};
 ghost use Rattle.fm_load.specs.Reading.{ReadsSome};
-ghost use Rattle.fm_top.specs.Ending.{MissesOnly, shown};
+ghost use Rattle.fm_top.specs.Ending.{TellsMisses, shown};
 ghost use Rattle.fm_top.specs.Found.{OfFound};
 ghost use Rattle.fm_top.specs.Queries.{IsAnswered, PlanEnds};
 ghost use Rattle.fm_top.specs.Words.{AreThreads};
@@ -24,19 +24,19 @@ use std::sync::Wait;
 use std::thread::Threads;
 
 /// Reads the record file, and answers how the run ends.
-pub fn answer_ending<R: Threads + Wait + Sync, F: Files, G: Gate>(
+pub fn answer_ending<'a, R: Threads + Wait + Sync, F: Files, G: Gate>(
     rt: &R,
     alloc: Global,
     files: &mut F,
-    ask: &AskCommand<'_>,
+    ask: &AskCommand<'a>,
     plan: Query,
     gate: &G,
-) -> Result<Ending, Stop>
+) -> Result<Ending<'a>, Stop>
     requires threads { AreThreads ask.now.threads }
     requires tally { ask.now.question ≡ Question.Tally → IsTally plan }
     ensures outcome { IfOk result (λ ending. OfFound (F.holds files.old) ask.now.file.now (λ found.
         PlanEnds ask.now.question plan ask.now.file.now found (shown ending))) }
-    ensures missing { IfOk result (MissesOnly (F.misses files.old) (F.misses files.new)) }
+    ensures missed { TellsMisses (F.misses files.old) (F.misses files.new) result }
     ensures failed { IsErrOf result Stop.Failed → Rose (F.faults files.old) (F.faults files.new) }
     ensures reads { ReadsSome (F.reads files.old) (F.reads files.new) ask.now.file.now RECORD_FILE_LIMIT }
     ensures quiet { result ≢ Err Stop.Failed → F.faults files.new ≡ F.faults files.old }
@@ -51,14 +51,14 @@ pub fn answer_ending<R: Threads + Wait + Sync, F: Files, G: Gate>(
 }
 
 /// How the run ends for a record file with these bytes.
-fn bytes_ending<R: Threads + Wait + Sync, G: Gate>(
+fn bytes_ending<'a, R: Threads + Wait + Sync, G: Gate>(
     rt: &R,
     alloc: Global,
     bytes: Vec<u8>,
-    ask: &AskCommand<'_>,
+    ask: &AskCommand<'a>,
     plan: Query,
     gate: &G,
-) -> Result<Ending, AllocError>
+) -> Result<Ending<'a>, AllocError>
     requires short { length bytes.items ≤ RECORD_FILE_LIMIT }
     requires threads { AreThreads ask.now.threads }
     requires tally { ask.now.question ≡ Question.Tally → IsTally plan }
@@ -77,14 +77,14 @@ fn bytes_ending<R: Threads + Wait + Sync, G: Gate>(
 }
 
 /// What the query answers over a whole number of records.
-fn query_ending<R: Threads + Wait + Sync, G: Gate>(
+fn query_ending<'a, R: Threads + Wait + Sync, G: Gate>(
     rt: &R,
     alloc: Global,
     bytes: Vec<u8>,
     q: Query,
     threads: u32,
     gate: &G,
-) -> Result<Ending, AllocError>
+) -> Result<Ending<'a>, AllocError>
     requires short { length bytes.items ≤ RECORD_FILE_LIMIT }
     requires even { length bytes.items % q.size ≡ 0 }
     requires threads { AreThreads threads }
@@ -96,14 +96,14 @@ fn query_ending<R: Threads + Wait + Sync, G: Gate>(
 }
 
 /// How often each number comes that the query lists over a whole number of records.
-fn tally_ending<R: Threads + Wait + Sync, G: Gate>(
+fn tally_ending<'a, R: Threads + Wait + Sync, G: Gate>(
     rt: &R,
     alloc: Global,
     bytes: Vec<u8>,
     q: &Query,
     threads: u32,
     gate: &G,
-) -> Result<Ending, AllocError>
+) -> Result<Ending<'a>, AllocError>
     requires short { length bytes.items ≤ RECORD_FILE_LIMIT }
     requires even { length bytes.items % q.now.size ≡ 0 }
     requires threads { AreThreads threads }

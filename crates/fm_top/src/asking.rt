@@ -4,7 +4,7 @@ ghost use Rattle.fm_load.specs.Limits.{record_file_limit};
 ghost use Rattle.fm_query.specs.Plan.{Plan};
 ghost use Rattle.fm_query.specs.Records.{IsRecord};
 ghost use Rattle.fm_top.specs.Causes.{IsAsked};
-ghost use Rattle.fm_top.specs.Ending.{MissesOnly, shown};
+ghost use Rattle.fm_top.specs.Ending.{TellsMisses, shown};
 ghost use Rattle.fm_top.specs.Found.{OfFound};
 ghost use Rattle.fm_top.specs.Queries.{AskEnds, IsLayoutRefused, IsPlanned, IsRecordLayout, TextEnds};
 ghost use Rattle.fm_top.specs.Reading.{ReadsFor, ReadsIf};
@@ -28,18 +28,18 @@ use std::sync::Wait;
 use std::thread::Threads;
 
 /// Reads the layout's file, then the text, then the record file, and answers how the run ends.
-pub fn ask_ending<R: Threads + Wait + Sync, F: Files, G: Gate>(
+pub fn ask_ending<'a, R: Threads + Wait + Sync, F: Files, G: Gate>(
     rt: &R,
     alloc: Global,
     files: &mut F,
-    ask: &AskCommand<'_>,
+    ask: &AskCommand<'a>,
     gate: &G,
-) -> Result<Ending, Stop>
+) -> Result<Ending<'a>, Stop>
     requires { AreThreads ask.now.threads }
     ensures outcome { IfOk result (λ ending. HasOutcome
         (Ask ask.now.question ask.now.threads ask.now.layout.now ask.now.text.now ask.now.file.now)
         (F.holds files.old) (shown ending)) }
-    ensures missing { IfOk result (MissesOnly (F.misses files.old) (F.misses files.new)) }
+    ensures missed { TellsMisses (F.misses files.old) (F.misses files.new) result }
     ensures failed { IsErrOf result Stop.Failed → Rose (F.faults files.old) (F.faults files.new) }
     ensures reads { ReadsFor
         (Ask ask.now.question ask.now.threads ask.now.layout.now ask.now.text.now ask.now.file.now)
@@ -56,19 +56,19 @@ pub fn ask_ending<R: Threads + Wait + Sync, F: Files, G: Gate>(
 }
 
 /// How the run ends for a layout's file of these bytes.
-fn layout_ending<R: Threads + Wait + Sync, F: Files, G: Gate>(
+fn layout_ending<'a, R: Threads + Wait + Sync, F: Files, G: Gate>(
     rt: &R,
     alloc: Global,
     files: &mut F,
-    ask: &AskCommand<'_>,
+    ask: &AskCommand<'a>,
     bytes: &[u8],
     gate: &G,
-) -> Result<Ending, Stop>
+) -> Result<Ending<'a>, Stop>
     requires threads { AreThreads ask.now.threads }
     requires short { length bytes.now ≤ LAYOUT_FILE_LIMIT }
     ensures outcome { IfOk result (λ ending. OfFound (F.holds files.old) ask.now.file.now (λ found.
         AskEnds ask.now.question ask.now.layout.now ask.now.text.now ask.now.file.now found (Some bytes.now) (shown ending))) }
-    ensures missing { IfOk result (MissesOnly (F.misses files.old) (F.misses files.new)) }
+    ensures missed { TellsMisses (F.misses files.old) (F.misses files.new) result }
     ensures failed { IsErrOf result Stop.Failed → Rose (F.faults files.old) (F.faults files.new) }
     // The record file is read only where the text asks something of records of the layout.
     ensures reads { ReadsIf (F.reads files.old) (F.reads files.new) ask.now.file.now record_file_limit
@@ -96,19 +96,19 @@ fn record_layout(alloc: Global, bytes: &[u8]) -> Result<Layout, Refusal>
 }
 
 /// How the run ends for records of this layout.
-fn text_ending<R: Threads + Wait + Sync, F: Files, G: Gate>(
+fn text_ending<'a, R: Threads + Wait + Sync, F: Files, G: Gate>(
     rt: &R,
     alloc: Global,
     files: &mut F,
-    ask: &AskCommand<'_>,
+    ask: &AskCommand<'a>,
     layout: &Layout,
     gate: &G,
-) -> Result<Ending, Stop>
+) -> Result<Ending<'a>, Stop>
     requires threads { AreThreads ask.now.threads }
     requires records { IsRecord layout.now }
     ensures outcome { IfOk result (λ ending. OfFound (F.holds files.old) ask.now.file.now (λ found.
         TextEnds ask.now.question ask.now.text.now layout.now ask.now.file.now found (shown ending))) }
-    ensures missing { IfOk result (MissesOnly (F.misses files.old) (F.misses files.new)) }
+    ensures missed { TellsMisses (F.misses files.old) (F.misses files.new) result }
     ensures failed { IsErrOf result Stop.Failed → Rose (F.faults files.old) (F.faults files.new) }
     ensures reads { ReadsIf (F.reads files.old) (F.reads files.new) ask.now.file.now record_file_limit
         ((p : Plan) × IsPlanned ask.now.question ask.now.text.now layout.now p) }

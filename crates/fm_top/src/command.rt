@@ -2,7 +2,7 @@ ghost use Rattle.std.specs.Prelude.{◌≡◌, ◌≢◌, ◌≤◌, IfOk, IfSom
 ghost use Rattle.fm_io.specs.Count.{Rose};
 ghost use Rattle.fm_options.specs.Options.{texts};
 ghost use Rattle.fm_top.specs.Asked.{request_of};
-ghost use Rattle.fm_top.specs.Ending.{MissesOnly, shown};
+ghost use Rattle.fm_top.specs.Ending.{TellsMisses, shown};
 ghost use Rattle.fm_top.specs.Reading.{ReadsFor};
 ghost use Rattle.fm_top.specs.Run.{HasOutcome, IsOutcome, AskSome};
 ghost use Rattle.fm_top.specs.Words.{Request, Asks, AreFaulty, CanBeAsked};
@@ -62,17 +62,17 @@ pub fn command_of<'a>(alloc: Global, words: &'a [String]) -> Result<Option<Comma
 }
 
 /// Answers how the run ends. Words that are no command read no file.
-pub fn ending_of<R: Threads + Wait + Sync, F: Files, G: Gate>(
+pub fn ending_of<'a, R: Threads + Wait + Sync, F: Files, G: Gate>(
     rt: &R,
     alloc: Global,
-    words: &[String],
+    words: &'a [String],
     files: &mut F,
     gate: &G,
-) -> Result<Ending, Stop>
+) -> Result<Ending<'a>, Stop>
     ensures outcome { IfOk result (λ ending. IsOutcome (texts words.now) (F.holds files.old) (shown ending)) }
     ensures asked { IsErrOf result Stop.Failed → AskSome (texts words.now) }
     ensures reads_nothing { AreFaulty (texts words.now) → files.new ≡ files.old }
-    ensures missed { IfOk result (MissesOnly (F.misses files.old) (F.misses files.new)) }
+    ensures missed { TellsMisses (F.misses files.old) (F.misses files.new) result }
     ensures unread { IsErrOf result Stop.Failed → Rose (F.faults files.old) (F.faults files.new) }
     ensures reads { (request : Request) → Asks (texts words.now) request
         → ReadsFor request (F.holds files.old) (F.reads files.old) (F.reads files.new) }
@@ -88,17 +88,17 @@ pub fn ending_of<R: Threads + Wait + Sync, F: Files, G: Gate>(
 }
 
 /// Does what the command asks for, up to the writing.
-fn command_ending<R: Threads + Wait + Sync, F: Files, G: Gate>(
+fn command_ending<'a, R: Threads + Wait + Sync, F: Files, G: Gate>(
     rt: &R,
     alloc: Global,
     files: &mut F,
-    command: &Command<'_>,
+    command: &Command<'a>,
     gate: &G,
-) -> Result<Ending, Stop>
+) -> Result<Ending<'a>, Stop>
     requires { CanBeAsked (request_of command.now) }
     ensures outcome { IfOk result (λ ending.
         HasOutcome (request_of command.now) (F.holds files.old) (shown ending)) }
-    ensures missed { IfOk result (MissesOnly (F.misses files.old) (F.misses files.new)) }
+    ensures missed { TellsMisses (F.misses files.old) (F.misses files.new) result }
     ensures unread { IsErrOf result Stop.Failed → Rose (F.faults files.old) (F.faults files.new) }
     ensures reads { ReadsFor (request_of command.now) (F.holds files.old) (F.reads files.old) (F.reads files.new) }
     ensures quiet { result ≢ Err Stop.Failed → F.faults files.new ≡ F.faults files.old }

@@ -19,12 +19,12 @@ use std::sync::Wait;
 use std::thread::Threads;
 
 /// Makes so many records, and answers how the run ends.
-pub fn demo_ending<R: Threads + Wait + Sync, G: Gate>(
+pub fn demo_ending<'a, R: Threads + Wait + Sync, G: Gate>(
     rt: &R,
     alloc: Global,
     demo: &DemoCommand,
     gate: &G,
-) -> Result<Ending, AllocError>
+) -> Result<Ending<'a>, AllocError>
     requires threads { AreThreads demo.now.threads }
     requires count { IsCount demo.now.count }
     ensures { IfOk result (λ ending. DemoEnds demo.now.count (shown ending)) }

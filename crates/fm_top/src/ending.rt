@@ -16,36 +16,40 @@ use std::alloc::{AllocError, Global};
 
 /// How a run ends: its status, all that it prints, and what it leaves.
 #[derive(Drop)]
-pub struct Ending {
+pub struct Ending<'a> {
     pub status: Status,
-    pub text: Text,
+    pub text: Text<'a>,
     pub left: Left,
 }
 
-impl Ending {
+impl<'a> Ending<'a> {
     /// The words are no command.
-    pub fn usage(alloc: Global) -> Result<Ending, AllocError>
+    pub fn usage(alloc: Global) -> Result<Ending<'a>, AllocError>
         ensures { IfOk result (λ ending. shown ending ≡ usage) }
     {
         Ok(Ending::bare(Status::Usage, text_line(alloc, "usage", "")?))
     }
 
-    /// There is no file of that name.
-    pub fn missing(alloc: Global, file: &str) -> Result<Ending, AllocError>
-        ensures { IfOk result (λ ending. shown ending ≡ missing file.now) }
+    /// There is no file of that name. It takes no memory.
+    pub fn missing(file: &'a str) -> Ending<'a>
+        ensures { shown result ≡ missing file.now }
     {
-        Ok(Ending::bare(Status::Missing, text_line(alloc, "missing ", file)?))
+        Ending {
+            status: Status::Missing,
+            text: Text::NoFile(file),
+            left: Left::Nothing,
+        }
     }
 
     /// The file has more bytes than its limit.
-    pub fn too_long(alloc: Global) -> Result<Ending, AllocError>
+    pub fn too_long(alloc: Global) -> Result<Ending<'a>, AllocError>
         ensures { IfOk result (λ ending. shown ending ≡ too_long) }
     {
         Ok(Ending::bare(Status::TooLong, text_line(alloc, "too long", "")?))
     }
 
     /// The file's length leaves this rest when it is cut into records.
-    pub fn ragged(alloc: Global, rest: u64) -> Result<Ending, AllocError>
+    pub fn ragged(alloc: Global, rest: u64) -> Result<Ending<'a>, AllocError>
         ensures { IfOk result (λ ending. shown ending ≡ ragged rest) }
     {
         let text = text_line(alloc, "ragged ", Buffer::new().format(rest))?;
@@ -53,7 +57,7 @@ impl Ending {
     }
 
     /// The layout is refused, but for want of memory.
-    pub fn layout_refused(alloc: Global, refusal: Refusal) -> Result<Ending, Stop>
+    pub fn layout_refused(alloc: Global, refusal: Refusal) -> Result<Ending<'a>, Stop>
         ensures ending { IfOk result (λ ending. shown ending ≡ layout_refused refusal) }
         ensures other { IfOk result (λ _. refusal ≢ Refusal.Memory) }
         ensures memory { IfErr result (λ stop. stop ≡ Stop.Memory) }
@@ -62,7 +66,7 @@ impl Ending {
     }
 
     /// The query or the path is refused, but for want of memory.
-    pub fn query_refused(alloc: Global, refusal: Refusal) -> Result<Ending, Stop>
+    pub fn query_refused(alloc: Global, refusal: Refusal) -> Result<Ending<'a>, Stop>
         ensures ending { IfOk result (λ ending. shown ending ≡ query_refused refusal) }
         ensures other { IfOk result (λ _. refusal ≢ Refusal.Memory) }
         ensures memory { IfErr result (λ stop. stop ≡ Stop.Memory) }
@@ -70,7 +74,12 @@ impl Ending {
         Ending::refused(alloc, Status::QueryRefused, "query", refusal)
     }
 
-    fn refused(alloc: Global, status: Status, what: &str, refusal: Refusal) -> Result<Ending, Stop>
+    fn refused(
+        alloc: Global,
+        status: Status,
+        what: &str,
+        refusal: Refusal,
+    ) -> Result<Ending<'a>, Stop>
         ensures ending { IfOk result (λ ending. shown ending ≡ refused status what.now refusal) }
         ensures other { IfOk result (λ _. refusal ≢ Refusal.Memory) }
         ensures memory { IfErr result (λ stop. stop ≡ Stop.Memory) }
@@ -85,7 +94,7 @@ impl Ending {
     }
 
     /// The script is refused at this line.
-    pub fn script_refused(alloc: Global, line: u64) -> Result<Ending, AllocError>
+    pub fn script_refused(alloc: Global, line: u64) -> Result<Ending<'a>, AllocError>
         ensures { IfOk result (λ ending. shown ending ≡ script_refused line) }
     {
         let text = text_line(alloc, "script refused ", Buffer::new().format(line))?;
@@ -93,15 +102,15 @@ impl Ending {
     }
 
     /// The answer, which is this text.
-    pub fn answered(text: String) -> Ending
+    pub fn answered(text: String) -> Ending<'a>
         ensures { shown result ≡ answered (string_bytes text) }
     {
         Ending::bare(Status::Answered, text)
     }
 
     /// The answer, and the pool that gave it.
-    pub fn answered_by_pool(text: Text, finished: Finished) -> Ending
-        ensures { shown result ≡ answered_by_pool (text_of text) finished }
+    pub fn answered_by_pool(text: Text<'a>, finished: Finished) -> Ending<'a>
+        ensures { shown result ≡ answered_by_pool (text_of text.entry) finished }
     {
         Ending {
             status: Status::Answered,
@@ -111,7 +120,7 @@ impl Ending {
     }
 
     /// What a script's run came to, of which this is the text.
-    pub fn reported(text: String, report: Report) -> Ending
+    pub fn reported(text: String, report: Report) -> Ending<'a>
         requires { string_bytes text ≡ report_text report }
         ensures { shown result ≡ reported report }
     {
@@ -123,7 +132,7 @@ impl Ending {
     }
 
     /// The answer to `sum`.
-    pub fn sum(alloc: Global, sum: i128) -> Result<Ending, AllocError>
+    pub fn sum(alloc: Global, sum: i128) -> Result<Ending<'a>, AllocError>
         ensures { IfOk result (λ ending. shown ending ≡ answered (line (codes "sum " ++ signed_decimal sum))) }
     {
         let text = text_line(alloc, "sum ", Buffer::new().format(sum))?;
@@ -131,7 +140,7 @@ impl Ending {
     }
 
     /// An end that leaves nothing.
-    fn bare(status: Status, text: String) -> Ending
+    fn bare(status: Status, text: String) -> Ending<'a>
         ensures { shown result ≡ bare status (string_bytes text) }
     {
         Ending {

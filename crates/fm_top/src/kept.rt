@@ -38,7 +38,7 @@ impl Kept {
     }
 
     /// The pool that a query, a tally or a demonstration used. It is there where the run came to an answer, whether or
-    /// not all of that could be written, and nowhere else but for want of memory, where it may be.
+    /// not all of that could be written, and nowhere else: not where memory ran out before the answer was known.
     pub fn finished(&self) -> Option<&Finished>
         ensures { option_copied result ≡ pool_in self.now }
     {
@@ -49,8 +49,8 @@ impl Kept {
         }
     }
 
-    /// The report of a script, with the pool that it ran on. It is there where the script was run, whether or not all of
-    /// the report could be written, and nowhere else but for want of memory, where it may be.
+    /// The report of a script, with the pool that it ran on. It is there where the script was run to a report, whether or
+    /// not all of that could be written, and nowhere else: not where memory ran out before the report was known.
     pub fn report(&self) -> Option<&Report>
         ensures { option_copied result ≡ report_in self.now }
     {

@@ -1,6 +1,6 @@
 ghost use Rattle.std.specs.Prelude.{◌≡◌, ◌≤◌, IfOk, IfErr, IsErrOf, length, ◌≢◌, Err};
 ghost use Rattle.fm_io.specs.Count.{Rose};
-ghost use Rattle.fm_top.specs.Ending.{MissesOnly, shown};
+ghost use Rattle.fm_top.specs.Ending.{TellsMisses, shown};
 ghost use Rattle.fm_top.specs.Outcome.{layout_of_file};
 ghost use Rattle.fm_load.specs.Reading.{ReadsSome};
 ghost use Rattle.fm_top.specs.Run.{HasOutcome};
@@ -16,9 +16,13 @@ use fm_path::list_places;
 use std::alloc::Global;
 
 /// Reads the file of a layout, and answers how the run ends.
-pub fn listing_ending<F: Files>(alloc: Global, files: &mut F, file: &str) -> Result<Ending, Stop>
+pub fn listing_ending<'a, F: Files>(
+    alloc: Global,
+    files: &mut F,
+    file: &'a str,
+) -> Result<Ending<'a>, Stop>
     ensures outcome { IfOk result (λ ending. HasOutcome (Layout file.now) (F.holds files.old) (shown ending)) }
-    ensures missing { IfOk result (MissesOnly (F.misses files.old) (F.misses files.new)) }
+    ensures missed { TellsMisses (F.misses files.old) (F.misses files.new) result }
     ensures failed { IsErrOf result Stop.Failed → Rose (F.faults files.old) (F.faults files.new) }
     ensures reads { ReadsSome (F.reads files.old) (F.reads files.new) file.now LAYOUT_FILE_LIMIT }
     ensures quiet { result ≢ Err Stop.Failed → F.faults files.new ≡ F.faults files.old }
@@ -33,7 +37,7 @@ pub fn listing_ending<F: Files>(alloc: Global, files: &mut F, file: &str) -> Res
 }
 
 /// How the run ends for a file that was read whole.
-fn bytes_ending(alloc: Global, bytes: &[u8]) -> Result<Ending, Stop>
+fn bytes_ending<'a>(alloc: Global, bytes: &[u8]) -> Result<Ending<'a>, Stop>
     requires { length bytes.now ≤ LAYOUT_FILE_LIMIT }
     ensures ending { IfOk result (λ ending. shown ending ≡ layout_of_file bytes.now) }
     ensures memory { IfErr result (λ stop. stop ≡ Stop.Memory) }

@@ -2,7 +2,7 @@ ghost use Rattle.std.specs.Prelude.{◌≡◌, ◌≢◌, ◌≤◌, length, IfO
 ghost use Rattle.fm_io.specs.Count.{Rose};
 ghost use Rattle.fm_load.specs.Reading.{ReadsSome};
 ghost use Rattle.fm_script.specs.Scripts.{IsScript};
-ghost use Rattle.fm_top.specs.Ending.{MissesOnly, shown};
+ghost use Rattle.fm_top.specs.Ending.{TellsMisses, shown};
 ghost use Rattle.fm_top.specs.Outcome.{script_file_limit};
 ghost use Rattle.fm_top.specs.Run.{HasOutcome};
 ghost use Rattle.fm_top.specs.Scripts.{ScriptEnds};
@@ -25,15 +25,15 @@ use std::thread::Threads;
 pub const SCRIPT_FILE_LIMIT: u64 = 1_048_576;
 
 /// Reads the file of a script, runs it, and answers how the run ends.
-pub fn script_ending<R: Threads + Wait + Sync, F: Files, G: Gate>(
+pub fn script_ending<'a, R: Threads + Wait + Sync, F: Files, G: Gate>(
     rt: &R,
     alloc: Global,
     files: &mut F,
-    file: &str,
+    file: &'a str,
     gate: &G,
-) -> Result<Ending, Stop>
+) -> Result<Ending<'a>, Stop>
     ensures outcome { IfOk result (λ ending. HasOutcome (Run file.now) (F.holds files.old) (shown ending)) }
-    ensures missing { IfOk result (MissesOnly (F.misses files.old) (F.misses files.new)) }
+    ensures missed { TellsMisses (F.misses files.old) (F.misses files.new) result }
     ensures failed { IsErrOf result Stop.Failed → Rose (F.faults files.old) (F.faults files.new) }
     ensures reads { ReadsSome (F.reads files.old) (F.reads files.new) file.now script_file_limit }
     ensures quiet { result ≢ Err Stop.Failed → F.faults files.new ≡ F.faults files.old }
@@ -48,13 +48,13 @@ pub fn script_ending<R: Threads + Wait + Sync, F: Files, G: Gate>(
 }
 
 /// How the run ends for a script's file of these bytes.
-fn bytes_ending<R: Threads + Wait + Sync, G: Gate>(
+fn bytes_ending<'a, R: Threads + Wait + Sync, G: Gate>(
     rt: &R,
     alloc: Global,
     file: &str,
     bytes: &[u8],
     gate: &G,
-) -> Result<Ending, AllocError>
+) -> Result<Ending<'a>, AllocError>
     requires { length bytes.now ≤ SCRIPT_FILE_LIMIT }
     ensures { IfOk result (λ ending. ScriptEnds file.now (Some bytes.now) (shown ending)) }
 {
@@ -67,14 +67,14 @@ fn bytes_ending<R: Threads + Wait + Sync, G: Gate>(
 }
 
 /// How the run ends for the script that these bytes spell.
-fn report_ending<R: Threads + Wait + Sync, G: Gate>(
+fn report_ending<'a, R: Threads + Wait + Sync, G: Gate>(
     rt: &R,
     alloc: Global,
     file: &str,
     bytes: &[u8],
     script: &Script,
     gate: &G,
-) -> Result<Ending, AllocError>
+) -> Result<Ending<'a>, AllocError>
     requires short { length bytes.now ≤ SCRIPT_FILE_LIMIT }
     requires script { IsScript bytes.now script.now }
     ensures { IfOk result (λ ending. ScriptEnds file.now (Some bytes.now) (shown ending)) }

@@ -1,6 +1,6 @@
 ghost use Rattle.std.specs.Prelude.{◌≡◌, ◌≤◌, IfOk, IsErrOf, length, ◌≢◌, Err, Some};
 ghost use Rattle.fm_io.specs.Count.{Rose};
-ghost use Rattle.fm_top.specs.Ending.{MissesOnly, shown};
+ghost use Rattle.fm_top.specs.Ending.{TellsMisses, shown};
 ghost use Rattle.fm_top.specs.Outcome.{SumEnds};
 ghost use Rattle.fm_load.specs.Reading.{ReadsSome};
 ghost use Rattle.fm_top.specs.Run.{HasOutcome};
@@ -17,16 +17,16 @@ use std::alloc::{AllocError, Global};
 use std::sync::Wait;
 
 /// Reads the file of a sum, and answers how the run ends.
-pub fn sum_ending<R: Wait, F: Files>(
+pub fn sum_ending<'a, R: Wait, F: Files>(
     rt: &R,
     alloc: Global,
     files: &mut F,
-    sum: &SumCommand<'_>,
-) -> Result<Ending, Stop>
+    sum: &SumCommand<'a>,
+) -> Result<Ending<'a>, Stop>
     requires { HasValue sum.now.size sum.now.at sum.now.kind }
     ensures outcome { IfOk result (λ ending.
         HasOutcome (Sum sum.now.size sum.now.at sum.now.kind sum.now.file.now) (F.holds files.old) (shown ending)) }
-    ensures missing { IfOk result (MissesOnly (F.misses files.old) (F.misses files.new)) }
+    ensures missed { TellsMisses (F.misses files.old) (F.misses files.new) result }
     ensures failed { IsErrOf result Stop.Failed → Rose (F.faults files.old) (F.faults files.new) }
     ensures reads { ReadsSome (F.reads files.old) (F.reads files.new) sum.now.file.now RECORD_FILE_LIMIT }
     ensures quiet { result ≢ Err Stop.Failed → F.faults files.new ≡ F.faults files.old }
@@ -41,11 +41,11 @@ pub fn sum_ending<R: Wait, F: Files>(
 }
 
 /// How the run ends for a file that was loaded whole.
-fn loaded_ending(
+fn loaded_ending<'a>(
     alloc: Global,
     loaded: &mut Loaded,
     sum: &SumCommand<'_>,
-) -> Result<Ending, AllocError>
+) -> Result<Ending<'a>, AllocError>
     requires value { HasValue sum.now.size sum.now.at sum.now.kind }
     requires short { length loaded.old ≤ RECORD_FILE_LIMIT }
     ensures { IfOk result (λ ending.

@@ -1,10 +1,16 @@
 -- Words of bits: bit k is for the thing of number k.
-use Rattle.std.specs.Prelude.{◌≡◌, ◌≢◌, ℕ, ◌-◌, ◌^◌}
+use Rattle.std.specs.Prelude.{◌≡◌, ◌≢◌, ℕ, ◌-◌, ◌<◌, ◌^◌}
 use Rattle.std.specs.Int.{bit_at}
 
 -- the word whose first bits are 1, this many
 abbrev pub ones : ℕ → ℕ
 ones count = 2 ^ count - 1
+
+-- of the first bits of the word, this many, it is the lowest that is 1
+pub record IsLowest (word count bit : ℕ) : Type 0 where
+  pub low : bit < count
+  pub one : bit_at word bit ≡ 1
+  pub least : (k : ℕ) → k < bit → bit_at word k ≡ 0
 
 -- x is the word w, but that its bit of this number is 0
 pub record IsWithout (w bit x : ℕ) : Type 0 where

@@ -33,7 +33,7 @@ reads_added c a id word (r ∷ rs) = let h = reads_added c a id word rs in omega
 one_added : (c : Caller) (counts : Region) (k n j : ℕ) (own : List Entry) → AddsAt c counts k n own
     → all_added counts.arena (count_word counts j) own ≡ (if k == j then n else 0)
 one_added c counts k n j own nothing = elim (k == j) as (λ b. ◌≡◌ {A = ℕ} 0 (if b then 0 else 0)) [ true ↦ refl | false ↦ refl ]
-one_added c counts k n j own (adds found) =
+one_added c counts k n j own (adds found some) =
     let P : Bool → Type 0 = λ b. (k == j) ≡ b
     → (if same_id counts.arena counts.arena && count_word counts k == count_word counts j then n else 0) ≡ (if b then n else 0) in
     let go : (b : Bool) → P b = λ b. elim b as P [
@@ -84,7 +84,7 @@ visits_only c a id word (r ∷ rs) = (tt, (tt, (tt, visits_only c a id word rs))
 at_only : (c : Caller) (counts : Region) (k n : ℕ) (id : ArenaId) (word : ℕ) (own : List Entry) → AddsAt c counts k n own
     → AllByRecursion (λ e. OnlyAdds id word e.call) own
 at_only c counts k n id word own nothing = tt
-at_only c counts k n id word own (adds found) = (tt, (tt, (tt, tt)))
+at_only c counts k n id word own (adds found some) = (tt, (tt, (tt, tt)))
 
 below_only : (c : Caller) (counts : Region) (ns : List ℕ) (k : ℕ) (id : ArenaId) (word : ℕ) (own : List Entry) → AddsBelow c counts ns k own
     → AllByRecursion (λ e. OnlyAdds id word e.call) own

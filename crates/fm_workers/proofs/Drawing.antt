@@ -1,9 +1,8 @@
 -- Passes that are drawn one by one.
-use Rattle.std.proofs.Common.{Some, Option, ◌≡◌, ℕ, ◌+◌, true, List, [], ◌∷◌, ◌++◌, length, refl, ap, sym, ◌∙◌, subst, arith, append_assoc, ⊎_elim, inl, inr, All, get_or, None, Err, Bool, length-append}
+use Rattle.std.proofs.Common.{◌≡◌, ℕ, ◌+◌, ◌≤◌, true, List, [], ◌∷◌, ◌++◌, length, refl, ap, sym, ◌∙◌, subst, arith, append_assoc, ⊎_elim, inl, inr, All, get_or, None, Err, Bool, length-append}
 use Rattle.std.specs.List.{AllByRecursion}
-use Rattle.std.proofs.lemmas.List.{append-nil}
+use Rattle.std.proofs.lemmas.List.{append-nil, map-append}
 use Rattle.std.proofs.lemmas.List.Elements.{filter-append}
-use Rattle.fm_lists.specs.Among.{IsAmong}
 use Rattle.fm_lists.proofs.Each.{all_both}
 use Rattle.fm_words.specs.declared.shape.Shape.{Shape}
 use Rattle.fm_base.specs.declared.caller.Caller.{Caller}
@@ -13,14 +12,15 @@ use Rattle.fm_base.specs.Calls.{Entry}
 use Rattle.fm_base.specs.Histories.{made_by}
 use Rattle.fm_base.specs.Finds.{Find, Gathered}
 use Rattle.fm_pool_facts.specs.Views.{View, In, HasCaller, pass_of}
-use Rattle.fm_pool_facts.specs.Splits.{as_gathered, view_of}
-use Rattle.fm_pool_facts.proofs.Keeping.{in_append}
+use Rattle.fm_pool_facts.specs.Splits.{view_of}
+use Rattle.fm_pool_facts.proofs.Keeping.{in_append, in_right}
 use Rattle.fm_rule.specs.declared.pool.Pool.{Pool}
 use Rattle.fm_rule.specs.Draws.{Asked, Drawn, NoneDrawn, FoundAll, Looked}
 use Rattle.fm_gate.specs.Standing.{IsOutside}
 use Rattle.fm_workers.specs.declared.worker.Worker.{Worker}
-use Rattle.fm_workers.specs.Crew.{FoundAllDrawn, callers}
-use Rattle.fm_workers.specs.Rounds.{Went, IsDrawn, DrewCrew, AfterDraws, EndsDraws, crew_of, tasks_of}
+use Rattle.fm_workers.specs.Crew.{DrewOne, DrewEach, FoundAllDrawn}
+use Rattle.fm_workers.specs.Rounds.{Went, IsDrawn, DrewCrew, AfterDraws, AreSteady, EndsDraws, order_of, tasks_of}
+use Rattle.fm_workers.proofs.Rising.{at_most, drew_each_more, drew_each_push, drew_one, steady_push}
 
 -- Where two lists together are nothing, both are.
 pub nil_left : {X : Type 0} (xs ys : List X) → xs ++ ys ≡ [] → xs ≡ []
@@ -92,6 +92,8 @@ drawn_since {old = old} {now = now} {next = next} {d = d} none m k =
     let parts : made_by d.caller old.seen ++ made_by d.caller w.more ≡ [] = sym (filter-append _ old.seen w.more) ∙ silent in
     record {
       fresh = record {
+        number = let l = k.fresh.number in let n : d.caller.number ≡ k.number = ap (λ (x : Caller). x.number) c in
+            let z : next.shape.passes ≡ old.shape.passes = ap (λ (x : Shape). x.passes) (shape_still w) in omega (arith, l, n, z);
         later = λ e. let l = k.fresh.later in let n : d.caller.number ≡ k.number = ap (λ (x : Caller). x.number) c in omega arith;
         other = λ h. k.fresh.other (has_caller_by old next k.number (caller_still w) (gathered_still w)
             (subst (λ (n : ℕ). HasCaller old n) (ap (λ (x : Caller). x.number) c) h));
@@ -104,45 +106,48 @@ drawn_since {old = old} {now = now} {next = next} {d = d} none m k =
       sound = k.sound;
     }
 
-nobody_drew : (x : Option Caller) (c : Caller) → x ≡ None → x ≡ Some c → ⊥
-nobody_drew None c is drew = absurd (cc)
-nobody_drew (Some d) c is drew = absurd (cc)
-
 module _ {T : Type 0} where
   pub drew_nobody : (p : View) → DrewCrew {T = T} p p []
   unfolding went_none
-  drew_nobody p = record { went = went_none p; only = λ f c i drew. absurd i; workers = tt }
-
-  crew_push : (ws : List (Worker T)) (w : Worker T) → crew_of (ws ++ w ∷ []) ≡ as_gathered w.memory ∷ crew_of ws
-  crew_push [] w = refl
-  crew_push (v ∷ ws) w = ap (λ (gs : List Gathered). gs ++ as_gathered v.memory ∷ []) (crew_push ws w)
+  drew_nobody p = record { went = went_none p; drew = λ f i. absurd i; steady = tt; workers = tt }
 
 module _ {T : Type 0} {old now next : View} {ws : List (Worker T)} where
-  only_more : (w : Worker T) (m : DrewCrew old now ws) (k : Drawn now next w.memory) (f : Find) (c : Caller) → In f (m.went.draws ++ k.draws) → f.drew ≡ Some c
-      → IsAmong c (callers (crew_of (ws ++ w ∷ [])))
-  only_more w m k f c i drew =
-      let is : w.memory.caller ≡ pass_of k.number = ap (λ (x : View). x.caller) k.is in
-      subst (λ (gs : List Gathered). IsAmong c (callers gs)) (sym (crew_push ws w))
-      (⊎_elim (λ (a : In f m.went.draws). inr (m.only f c a drew)) (λ (b : In f k.draws). inl (k.drew.only f c b drew ∙ sym is))
-      (in_append f m.went.draws k.draws i))
+  -- No number that was drawn before is higher.
+  found_before : (m : DrewCrew old now ws) (d : View) (k : Drawn now next d) → AllByRecursion (λ c. c.number ≤ k.number) (order_of ws)
+  found_before m d k =
+      at_most k.number m.went.draws (order_of ws)
+      (λ f i. subst (λ n. f.found ≤ n) k.drew.found
+      (k.asked.later f k.drew.find (inl (subst (In f) (sym m.went.finds) (in_right f old.finds m.went.draws i))) (m.went.only_draws f i) k.drew.among))
+      m.drew
 
+  -- One more was drawn.
   pub drew_more : {vs : List (Worker T)} (w : Worker T) → old.drawn ≡ None → DrewCrew old now ws → vs ≡ ws ++ w ∷ [] → Drawn now next w.memory
       → DrewCrew old next vs
   unfolding went_on
-  drew_more w none m e k = record {
-    went = went_on m.went none k.asked;
-    only = subst (λ (us : List (Worker T)). (f : Find) (c : Caller) → In f (m.went.draws ++ k.draws) → f.drew ≡ Some c → IsAmong c (callers (crew_of us)))
-        (sym e) (only_more w m k);
-    workers = subst (λ (us : List (Worker T)). AllByRecursion (λ (u : Worker T). IsDrawn old u.memory) us) (sym e)
-        (all_both (λ (u : Worker T). IsDrawn old u.memory) ws (w ∷ []) m.workers (drawn_since none m.went k, tt));
-  }
+  drew_more w none m e k =
+      let is : w.memory.caller ≡ pass_of k.number = ap (λ (x : View). x.caller) k.is in
+      let n : w.memory.caller.number ≡ k.number = ap (λ (x : Caller). x.number) is in
+      let order : order_of (ws ++ w ∷ []) ≡ order_of ws ++ w.memory.caller ∷ [] = map-append (λ (u : Worker T). u.memory.caller) ws (w ∷ []) in
+      let one : DrewOne w.memory.caller k.draws = subst (λ (c : Caller). DrewOne c k.draws) (sym is) (drew_one k.drew) in
+      let before : AllByRecursion (λ c. c.number ≤ w.memory.caller.number) (order_of ws) =
+      subst (λ (h : ℕ). AllByRecursion (λ c. c.number ≤ h) (order_of ws)) (sym n) (found_before m w.memory k) in
+      record {
+        went = went_on m.went none k.asked;
+        drew = subst (λ (cs : List Caller). DrewEach (m.went.draws ++ k.draws) cs) (sym order ∙ ap (λ (us : List (Worker T)). order_of us) (sym e))
+            (drew_each_push m.went.draws k.draws (order_of ws) m.drew one);
+        steady = subst (λ (cs : List Caller). AreSteady cs) (sym order ∙ ap (λ (us : List (Worker T)). order_of us) (sym e))
+            (steady_push (order_of ws) w.memory.caller m.steady before);
+        workers = subst (λ (us : List (Worker T)). AllByRecursion (λ (u : Worker T). IsDrawn old u.memory) us) (sym e)
+            (all_both (λ (u : Worker T). IsDrawn old u.memory) ws (w ∷ []) m.workers (drawn_since none m.went k, tt));
+      }
 
+  -- No more was drawn.
   pub drew_none : old.drawn ≡ None → DrewCrew old now ws → NoneDrawn now next → DrewCrew old next ws
   unfolding went_on
   drew_none none m k = record {
     went = went_on m.went none k.asked;
-    only = λ f c i drew. ⊎_elim (λ (a : In f m.went.draws). m.only f c a drew)
-        (λ (b : In f k.draws). absurd (nobody_drew f.drew c (k.all.none f b) drew)) (in_append f m.went.draws k.draws i);
+    drew = drew_each_more m.went.draws k.draws (order_of ws) m.drew k.all.none;
+    steady = m.steady;
     workers = m.workers;
   }
 
@@ -170,7 +175,8 @@ module _ {T : Type 0} {old now next : View} {ws : List (Worker T)} where
       }
 
 module _ {T : Type 0} where
-  tasks_push : (ws : List (Worker T)) (w : Worker T) → tasks_of (ws ++ w ∷ []) ≡ w.task ∷ tasks_of ws
+  -- The last worker's task comes first.
+  pub tasks_push : (ws : List (Worker T)) (w : Worker T) → tasks_of (ws ++ w ∷ []) ≡ w.task ∷ tasks_of ws
   tasks_push [] w = refl
   tasks_push (v ∷ ws) w = ap (λ (ts : List T). ts ++ v.task ∷ []) (tasks_push ws w)
 

@@ -1,5 +1,5 @@
 -- Counts that are added to, each in a visit of its own.
-use Rattle.std.proofs.Common.{◌≡◌, ℕ, ◌+◌, ◌*◌, ◌<◌, ◌≤◌, List, [], ◌∷◌, ◌++◌, slice_index, refl, sym, ap, ◌∙◌, subst, arith, None, Ok, Err}
+use Rattle.std.proofs.Common.{◌≡◌, ◌≢◌, ℕ, ◌+◌, ◌*◌, ◌<◌, ◌≤◌, List, [], ◌∷◌, ◌++◌, slice_index, refl, sym, ap, ◌∙◌, subst, arith, None, Ok, Err}
 use Rattle.fm_base.specs.declared.caller.Caller.{Caller}
 use Rattle.fm_base.specs.declared.arena_id.ArenaId.{ArenaId}
 use Rattle.fm_base.specs.declared.refusal.Refusal.{Refusal}
@@ -41,15 +41,15 @@ not_added x y counts k n a r same may d = record {
 
 pub one_added : (x y u v : View) (counts : Region) (k n found : ℕ) (a : ArenaId) (word : ℕ) (w : Unit {0}) → a ≡ counts.arena → word ≡ count_word counts k
     → Did x y (DoesEnter x.caller a (Ok w)) → Did y u (DoesAct y.inside y.caller (λ i. Add i word n) (Found found))
-    → Did u v (DoesAct u.inside u.caller Leave Fine) → Did x v (DoesAddOne x.caller counts k n (Ok tt))
-one_added x y u v counts k n found a word w same at enter act leave =
+    → Did u v (DoesAct u.inside u.caller Leave Fine) → n ≢ 0 → Did x v (DoesAddOne x.caller counts k n (Ok tt))
+one_added x y u v counts k n found a word w same at enter act leave some =
     let e = entered_makes x y a w enter in
     let is : visit x.caller a ((Add a word n, Found found) ∷ []) ≡ add_visit x.caller counts k n found =
     ap (λ (i : ArenaId). visit x.caller i ((Add i word n, Found found) ∷ [])) same
     ∙ ap (λ (m : ℕ). visit x.caller counts.arena ((Add counts.arena m n, Found found) ∷ [])) at in
     record {
       own = visit x.caller a ((Add a word n, Found found) ∷ []);
-      does = subst (λ (es : List Entry). AddsAt x.caller counts k n es) (sym is) (adds found);
+      does = subst (λ (es : List Entry). AddsAt x.caller counts k n es) (sym is) (adds found some);
       makes = visit_of_one x y u v a (λ i. Add i word n) (Found found) refl e.1 act leave;
     }
 

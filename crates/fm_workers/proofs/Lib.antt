@@ -3,12 +3,14 @@ pub mod Increments
 pub mod Asked
 pub mod Callers
 pub mod Counted
+pub mod CountedShares
 pub mod ByRuns
 pub mod Numbers
 pub mod Covered
 pub mod Drawing
 pub mod Gathering
 pub mod Queried
+pub mod Rising
 pub mod Runs
 pub mod Sharing
 pub mod Sparing
@@ -16,6 +18,7 @@ pub mod Tallied
 pub mod Tallying
 pub mod Totals
 pub mod Touching
+pub mod Turning
 pub mod Wholes
 pub mod Workers
 pub mod Working

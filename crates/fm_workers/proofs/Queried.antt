@@ -20,7 +20,7 @@ use Rattle.fm_query.specs.Plan.{Plan, IsPlan}
 use Rattle.fm_records.specs.declared.found.Found.{Found}
 use Rattle.fm_records.specs.Few.{AreFew}
 use Rattle.fm_workers.specs.Crew.{CrewWorked, by_caller, callers}
-use Rattle.fm_workers.specs.Parts.{Asked, AreRuns, Answers, ComesTo, IsCut, bytes_in}
+use Rattle.fm_workers.specs.Parts.{Asked, AreLevel, AreRuns, Answers, ComesTo, IsCut, bytes_in, least_in}
 use Rattle.fm_workers.specs.Query.{OnlyReads, AnsweredBy, FoundClosed, IsOpenToAll, EndsQuery, ArePartsAsked, QueriedWith}
 use Rattle.fm_workers.proofs.Callers.{AreDoneBy, worked_by_callers}
 use Rattle.fm_workers.proofs.Asked.{bytes_of_runs, count_done, crew_reads, crew_stopped, idle_reads}
@@ -52,7 +52,7 @@ early_not r early e = absurd early
 
 -- Nothing was drawn.
 pub queried_none : (v : View) (p : Plan) (s : Region) (threads : ℕ) (r : Refusal) → IsEarly r → IsKnown (view_of_pass v) s
-    → EndsQuery v v p s [] [] [] (Err r) → QueriedWith threads v v p s (Err r)
+    → EndsQuery (least_in p s threads) v v p s [] [] [] (Err r) → QueriedWith threads v v p s (Err r)
 unfolding nobody
 queried_none v p s threads r early known ends = record {
   crew = nobody v;
@@ -108,7 +108,7 @@ queried_refused r w count shared known = absurd w.ends
 
 module _ {old new : View} {p : Plan} {s : Region} {threads : ℕ} {ts us : List Asked} {u : Unit {0}}
     (w : CrewWorked (by_caller (Answers p)) old new ts us (Ok u)) (plan : IsPlan p) (cut : IsCut p s ts)
-    (count : length ts ≡ threads) (shared : IsOpenToAll p s) (known : IsKnown (view_of_pass old) s) where
+    (level : AreLevel p (least_in p s threads) ts) (count : length ts ≡ threads) (shared : IsOpenToAll p s) (known : IsKnown (view_of_pass old) s) where
   done : AreDoneBy (Answers p) w.crew.more (callers w.crew.crew) ts us
   done = worked_by_callers (Answers p) w
 
@@ -133,9 +133,9 @@ module _ {old new : View} {p : Plan} {s : Region} {threads : ℕ} {ts us : List 
     one_each = (let k = as_many in omega (arith, k));
     visits = visits;
     ends = ⊎_elim
-        (λ (m : e ≡ Memory). subst (λ (x : Refusal). EndsQuery old new p s w.crew.more w.crew.crew w.crew.draws (Err x)) (sym m) shared)
+        (λ (m : e ≡ Memory). subst (λ (x : Refusal). EndsQuery (least_in p s threads) old new p s w.crew.more w.crew.crew w.crew.draws (Err x)) (sym m) shared)
         (λ (f : (e ≡ Closed) × FoundClosed s (callers w.crew.crew) w.crew.more).
-        subst (λ (x : Refusal). EndsQuery old new p s w.crew.more w.crew.crew w.crew.draws (Err x)) (sym f.0) (shared, f.1))
+        subst (λ (x : Refusal). EndsQuery (least_in p s threads) old new p s w.crew.more w.crew.crew w.crew.draws (Err x)) (sym f.0) (shared, f.1))
         (crew_stopped p s 0 (s.size / p.size) w.crew.more (callers w.crew.crew) ts us e (omega arith) (λ c is. absurd (shared.shared is)) done cut comes);
     value = tt;
     answer = tt;
@@ -150,8 +150,8 @@ module _ {old new : View} {p : Plan} {s : Region} {threads : ℕ} {ts us : List 
     still_sound = w.still_sound;
   }
   queried (Ok a) comes few runs =
-      let by = subst (λ (r : Region). AnsweredBy p r (callers w.crew.crew) w.crew.more a) (whole_piece p s shared.even)
-      (answered_runs p s 0 (s.size / p.size) w.crew.more (callers w.crew.crew) ts us a done cut comes) in
+      let by = subst (λ (r : Region). AnsweredBy p r (least_in p s threads) (callers w.crew.crew) w.crew.more a) (whole_piece p s shared.even)
+      (answered_runs p s (least_in p s threads) 0 (s.size / p.size) w.crew.more (callers w.crew.crew) ts us a done cut level comes) in
       let sound : IsSound new = w.sound (λ e. absurd (cc)) in
       let bytes = bytes_of_runs p s 0 (s.size / p.size) us runs in
       let parts = div-add-mod' s.size p.size in

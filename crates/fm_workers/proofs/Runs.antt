@@ -1,10 +1,22 @@
 -- Runs of records, one behind the other.
-use Rattle.std.proofs.Common.{◌≡◌, ℕ, ◌+◌, ◌-◌, ◌*◌, ◌/◌, ◌≤◌, List, [], ◌∷◌, ◌++◌, refl, sym, ap, ◌∙◌, subst, arith}
-use Rattle.std.proofs.Math.Nat.{add-mul, mul-le-mul_right, div-mul-le_self, div-le_self, div-one}
+use Rattle.std.proofs.Common.{◌≡◌, ◌≢◌, ℕ, ◌+◌, ◌-◌, ◌*◌, ◌/◌, ◌<◌, ◌≤◌, ◌==◌, Bool, true, false, List, [], ◌∷◌, ◌++◌, refl, sym, ap, ◌∙◌, subst, inl, inr, ⊎_elim, arith}
+use Rattle.std.specs.Prelude.{◌⊎◌}
+use Rattle.std.proofs.lemmas.Bool.Decides.{nat_tests}
+use Rattle.std.proofs.Math.Nat.{add-mul, mul-le-mul_right, div-mul-le_self, div-le_self, div-le_of_le-mul, div-one, le-div_iff_mul-le}
 use Rattle.fm_query.specs.Plan.{Plan}
 use Rattle.fm_segment.specs.Region.{Region}
 use Rattle.fm_workers.specs.declared.part.Part.{Part}
-use Rattle.fm_workers.specs.Parts.{IsRun, AreRuns}
+use Rattle.fm_workers.specs.Parts.{IsLevel, IsRun, AreRuns}
+
+-- A number between two neighbours is one of them.
+one_of : (m n : ℕ) → m ≤ n → n ≤ m + 1 → (n ≡ m) ⊎ (n ≡ m + 1)
+one_of m n low high =
+    let P : Bool → Type 0 = λ b. (n == m) ≡ b → (n ≡ m) ⊎ (n ≡ m + 1) in
+    let go : (b : Bool) → P b = λ b. elim b as P [
+      | true ↦ (λ e. let is : n ≡ m = grind (arith, nat_tests) in inl is)
+      | false ↦ (λ e. let not : n ≢ m = grind (arith, nat_tests) in inr (omega (arith, not, low, high)))
+    ] in
+    go (n == m) refl
 
 -- A run's bytes and those before it are all up to its end.
 pub run_ends : (from to size : ℕ) → from ≤ to → from * size + (to - from) * size ≡ to * size
@@ -28,6 +40,58 @@ pub last_end : (from count left : ℕ) → from ≤ count → left ≡ 1 → fro
 last_end from count left below one =
     let d : (count - from) / left ≡ count - from = ap (λ (n : ℕ). (count - from) / n) one ∙ div-one (count - from) in
     omega (arith, below, d)
+
+-- so many records are left for so many runs: each can have so many, or one more
+pub record AreLeft (few rest left : ℕ) : Type 0 where
+  pub least : few * left ≤ rest
+  pub most : rest ≤ (few + 1) * left
+
+-- a run has its share of them, and so have those behind it
+pub record TakesShare (few rest left : ℕ) : Type 0 where
+  pub least : few ≤ rest / (left + 1)
+  pub most : rest / (left + 1) ≤ few + 1
+  pub behind : AreLeft few (rest - rest / (left + 1)) left
+
+-- What the first of some runs takes, where all take their share of what is left.
+pub takes_share : (few rest left : ℕ) → AreLeft few rest (left + 1) → TakesShare few rest left
+takes_share few rest left h =
+    let d : ℕ = rest / (left + 1) in
+    let some : 0 < left + 1 = omega arith in
+    let a = h.least in
+    let b = h.most in
+    let low : few ≤ rest / (left + 1) = (le-div_iff_mul-le some).1 a in
+    let high : rest / (left + 1) ≤ few + 1 = div-le_of_le-mul (left + 1) (omega (arith, b)) in
+    let fits : rest / (left + 1) * (left + 1) ≤ rest = div-mul-le_self rest (left + 1) in
+    let over : (rest / (left + 1) + 1) * (left + 1) ≤ rest → ⊥ =
+    λ e. let k : rest / (left + 1) + 1 ≤ rest / (left + 1) = (le-div_iff_mul-le some).1 e in omega (arith, k) in
+    ⊎_elim
+    (λ (e : rest / (left + 1) ≡ few).
+    let m : rest / (left + 1) * left ≡ few * left = ap (λ (n : ℕ). n * left) e in
+    record { least = low; most = high; behind = record { least = omega (arith, a, e); most = omega (arith, over, e, m) } })
+    (λ (e : rest / (left + 1) ≡ few + 1).
+    let m : rest / (left + 1) * left ≡ (few + 1) * left = ap (λ (n : ℕ). n * left) e in
+    record { least = low; most = high; behind = record { least = omega (arith, fits, e, m); most = omega (arith, b, e) } })
+    (one_of few (rest / (left + 1)) low high)
+
+-- All records are left for all runs.
+pub all_left : (count parts : ℕ) → 0 < parts → AreLeft (count / parts) count parts
+all_left count parts some = record {
+  least = div-mul-le_self count parts;
+  most =
+      let over : (count / parts + 1) * parts ≤ count → ⊥ =
+      λ e. let k : count / parts + 1 ≤ count / parts = (le-div_iff_mul-le some).1 e in omega (arith, k) in
+      omega (arith, over);
+}
+
+-- A run that takes its share is level.
+pub run_level : {A : Type 0} (p : Plan) (s : Region) (few from n : ℕ) (t : Part A) → few ≤ n → n ≤ few + 1 → IsRun p s from (from + n) t
+    → IsLevel p few t.region
+run_level p s few from n t low high r =
+    let size : t.region.size ≡ (from + n - from) * p.size = ap (λ (x : Region). x.size) r.region in
+    let is : (from + n - from) * p.size ≡ n * p.size = let e : from + n - from ≡ n = omega arith in ap (λ (k : ℕ). k * p.size) e in
+    let a = mul-le-mul_right p.size low in
+    let b = mul-le-mul_right p.size high in
+    record { least = omega (arith, size, is, a); most = omega (arith, size, is, b) }
 
 -- One run more.
 pub runs_push : {A : Type 0} (p : Plan) (s : Region) (from mid to : ℕ) (ts : List (Part A)) (t : Part A) → AreRuns p s from ts mid → IsRun p s mid to t

@@ -84,8 +84,8 @@ share_caller cs [] w i h = absurd i
 share_caller cs (x ∷ ws) w (inl is) h = subst (λ (y : Share). IsAmong y.caller cs) (sym is) h.0
 share_caller cs (x ∷ ws) w (inr i) h = share_caller cs ws w i h.1
 
-pub is_answer : {old new : View} {p : Plan} {s : Region} {a : List Found} (c : CrewGathered old new) → IsPlan p → IsSound new
-    → AnsweredBy p s (callers c.crew) c.more a → AllByRecursion (λ x. OnlyReads s x (made_by x c.more)) (callers c.crew)
+pub is_answer : {old new : View} {p : Plan} {s : Region} {few : ℕ} {a : List Found} (c : CrewGathered old new) → IsPlan p → IsSound new
+    → AnsweredBy p s few (callers c.crew) c.more a → AllByRecursion (λ x. OnlyReads s x (made_by x c.more)) (callers c.crew)
     → NobodyElseWrites s (callers c.crew) c.more → IsAnswer old p s (callers c.crew) c.more a
 is_answer {old = old} {new = new} {p = p} {s = s} c plan sound by visits nobody =
     let n : ℕ = limit_of old.shape in

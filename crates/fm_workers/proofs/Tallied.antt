@@ -31,10 +31,10 @@ use Rattle.fm_workers.specs.Adding.{HasCounts, count_word}
 use Rattle.fm_workers.specs.Asking.{known_later}
 use Rattle.fm_workers.specs.Counts.{AreCounts, IsTally, listed}
 use Rattle.fm_workers.specs.Crew.{CrewWorked, by_caller, callers}
-use Rattle.fm_workers.specs.Parts.{IsCut}
+use Rattle.fm_workers.specs.Parts.{AreLevel, IsCut, least_in}
 use Rattle.fm_workers.specs.Query.{IsReadByCrew, NobodyElseWrites}
 use Rattle.fm_workers.specs.Tallies.{SumsTo, Tallied, Tallies, Tallying}
-use Rattle.fm_workers.specs.Tally.{AreAllRead, AreAsked, AreHeld, AreTheCounts, CanBeTallied, EndsTally, LeavesWord, OnlyAddsTo, OnlyTallies, TalliedWith, closed, no_more, one_add}
+use Rattle.fm_workers.specs.Tally.{AreAllRead, AreAsked, AreHeld, AreTheCounts, CanBeTallied, EndsTally, LeavesWord, OnlyAddsTo, OnlyTallies, TalliedBy, TalliedWith, closed, no_more, one_add}
 use Rattle.fm_workers.proofs.Callers.{AreDoneBy, worked_by_callers}
 use Rattle.fm_workers.proofs.Added.{by_crew, crew_adds}
 use Rattle.fm_workers.proofs.Counted.{runs_counted}
@@ -42,6 +42,7 @@ use Rattle.fm_workers.proofs.Covered.{runs_read}
 use Rattle.fm_workers.proofs.Queried.{even_of, many}
 use Rattle.fm_workers.proofs.Sharing.{whole_piece}
 use Rattle.fm_workers.proofs.Sparing.{by_either, reads_spare}
+use Rattle.fm_workers.proofs.CountedShares.{counted_runs}
 use Rattle.fm_workers.proofs.Touching.{IsStop, crew_stops, crew_tallies, idle_tallies, tasks_count}
 use Rattle.fm_workers.proofs.Working.{lasts_none, nobody}
 
@@ -95,7 +96,7 @@ first_not r first e = absurd first
 
 -- Nothing was drawn.
 pub tallied_none : (v : View) (p : Plan) (s counts : Region) (threads : ℕ) (r : Refusal) → IsFirst r → IsKnown (view_of_pass v) s
-    → IsKnown (view_of_pass v) counts → EndsTally v v p s counts [] [] [] (Err r) → TalliedWith threads v v p s counts (Err r)
+    → IsKnown (view_of_pass v) counts → EndsTally (least_in p s threads) v v p s counts [] [] [] (Err r) → TalliedWith threads v v p s counts (Err r)
 unfolding nobody
 tallied_none v p s counts threads r first known counts_known ends = record {
   crew = nobody v;
@@ -153,7 +154,8 @@ tallied_refused {w = k} {s = s} Memory w count can known counts_known = record {
 tallied_refused r w count can known counts_known = absurd w.ends
 
 module _ {old new : View} {k : Tallying} {s : Region} {threads : ℕ} {ts us : List Tallied} {u : Unit {0}}
-    (w : CrewWorked (by_caller (Tallies k)) old new ts us (Ok u)) (plan : IsPlan k.plan) (cut : IsCut k.plan s ts) (count : length ts ≡ threads)
+    (w : CrewWorked (by_caller (Tallies k)) old new ts us (Ok u)) (plan : IsPlan k.plan) (cut : IsCut k.plan s ts)
+    (level : AreLevel k.plan (least_in k.plan s threads) ts) (count : length ts ≡ threads)
     (can : CanBeTallied k.plan s k.counts) (longs : HasCounts k.counts) (other : k.counts.arena ≢ s.arena)
     (known : IsKnown (view_of_pass old) s) (counts_known : IsKnown (view_of_pass old) k.counts) where
   done : AreDoneBy (Tallies k) w.crew.more (callers w.crew.crew) ts us
@@ -179,6 +181,12 @@ module _ {old new : View} {k : Tallying} {s : Region} {threads : ℕ} {ts us : L
         spared = λ place from below. by_either (λ e. Spares s.arena place e.call) (callers w.crew.crew) w.crew.more
             (nobody place from below) (tallies_spare s k.counts place w.crew.more (callers w.crew.crew) other visits);
       }
+
+  by_shares : (ns : List ℕ) → SumsTo us (Ok ns)
+      → TalliedBy k.plan s k.counts (least_in k.plan s threads) (callers w.crew.crew) w.crew.more ns
+  by_shares ns sums =
+      subst (λ (x : Region). TalliedBy k.plan x k.counts (least_in k.plan s threads) (callers w.crew.crew) w.crew.more ns) (whole_piece k.plan s can.even)
+      (counted_runs k s (least_in k.plan s threads) 0 (s.size / k.plan.size) w.crew.more (callers w.crew.crew) ts us ns done cut level sums)
 
   all_read : (ns : List ℕ) → SumsTo us (Ok ns) → AreAllRead old k.plan s (callers w.crew.crew) w.crew.more
   all_read ns sums nobody index path is word =
@@ -215,10 +223,11 @@ module _ {old new : View} {k : Tallying} {s : Region} {threads : ℕ} {ts us : L
   stop_not e (inr f) q = let apart : Closed ≡ NoPass = sym f.0 ∙ q in absurd (cc)
 
   stop_ends : (e : Refusal) → IsStop e s k.counts (callers w.crew.crew) w.crew.more
-      → EndsTally old new k.plan s k.counts w.crew.more w.crew.crew w.crew.draws (Err e)
-  stop_ends e (inl m) = subst (λ (x : Refusal). EndsTally old new k.plan s k.counts w.crew.more w.crew.crew w.crew.draws (Err x)) (sym m) can
+      → EndsTally (least_in k.plan s threads) old new k.plan s k.counts w.crew.more w.crew.crew w.crew.draws (Err e)
+  stop_ends e (inl m) =
+      subst (λ (x : Refusal). EndsTally (least_in k.plan s threads) old new k.plan s k.counts w.crew.more w.crew.crew w.crew.draws (Err x)) (sym m) can
   stop_ends e (inr f) =
-      subst (λ (x : Refusal). EndsTally old new k.plan s k.counts w.crew.more w.crew.crew w.crew.draws (Err x)) (sym f.0) (can, f.1)
+      subst (λ (x : Refusal). EndsTally (least_in k.plan s threads) old new k.plan s k.counts w.crew.more w.crew.crew w.crew.draws (Err x)) (sym f.0) (can, f.1)
 
   stopped : (e : Refusal) → SumsTo us (Err e) → IsStop e s k.counts (callers w.crew.crew) w.crew.more
   stopped e sums = crew_stops k s 0 (s.size / k.plan.size) w.crew.more (callers w.crew.crew) ts us e (omega arith) done cut sums
@@ -245,7 +254,7 @@ module _ {old new : View} {k : Tallying} {s : Region} {threads : ℕ} {ts us : L
     crew = w.crew;
     one_each = (let n = as_many in omega (arith, n));
     visits = visits;
-    ends = can;
+    ends = (can, by_shares ns sums);
     value = the_counts ns sums;
     read = all_read ns sums;
     held = are_held ns sums;

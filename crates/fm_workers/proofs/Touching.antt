@@ -36,7 +36,7 @@ is_count counts k longs below =
 one_adds : (c : Caller) (counts : Region) (k n : ℕ) (own rest : List Entry) → HasCounts counts → k < 256 → AddsAt c counts k n own
     → OnlyAddsTo counts c rest → OnlyAddsTo counts c (own ++ rest)
 one_adds c counts k n own rest longs below nothing r = r
-one_adds c counts k n own rest longs below (adds found) r = one_add (count_word counts k) n found rest (is_count counts k longs below) r
+one_adds c counts k n own rest longs below (adds found some) r = one_add (count_word counts k) n found rest (is_count counts k longs below) r
 
 below_adds : (c : Caller) (counts : Region) (ns : List ℕ) (k : ℕ) (own rest : List Entry) → HasCounts counts → k ≤ 256 → AddsBelow c counts ns k own
     → OnlyAddsTo counts c rest → OnlyAddsTo counts c (own ++ rest)

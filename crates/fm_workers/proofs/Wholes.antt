@@ -39,9 +39,14 @@ once_right : (xs ys : List Gathered) → IsOnce (λ (g : Gathered). g.caller.num
 once_right [] ys h = h
 once_right (x ∷ xs) ys h = once_right xs ys h.1
 
+-- No two of a crew are of one number.
+pub crew_once : (old new : View) (crew : List Gathered) → new.gathered ≡ old.gathered ++ crew → IsSound new
+    → IsOnce (λ (g : Gathered). g.caller.number) crew
+crew_once old new crew e sound =
+    once_right old.gathered crew (subst (λ (gs : List Gathered). IsOnce (λ (g : Gathered). g.caller.number) gs) e sound.one_each)
+
 pub crew_apart : (old new : View) (crew : List Gathered) → new.gathered ≡ old.gathered ++ crew → IsSound new → AreApart (callers crew)
-crew_apart old new crew e sound =
-    apart_each crew (once_right old.gathered crew (subst (λ (gs : List Gathered). IsOnce (λ (g : Gathered). g.caller.number) gs) e sound.one_each))
+crew_apart old new crew e sound = apart_each crew (crew_once old new crew e sound)
 
 -- ---- nobody else made an entry
 

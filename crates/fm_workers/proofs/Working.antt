@@ -1,10 +1,9 @@
 -- What a crew has done, from the first draw to the last look.
-use Rattle.std.proofs.Common.{inl, Some, ◌≡◌, ℕ, ◌+◌, ◌<◌, List, [], ◌∷◌, ◌++◌, length, refl, ap, sym, ◌∙◌, subst, arith, append_assoc, ⊎_elim, All, get_or, None, Ok, Err, Bool, length-append, true, ◌==◌, ◌≤◌}
+use Rattle.std.proofs.Common.{inl, inr, reverse, ◌≡◌, ℕ, ◌+◌, ◌<◌, List, [], ◌∷◌, ◌++◌, length, refl, ap, sym, ◌∙◌, subst, arith, append_assoc, ⊎_elim, All, get_or, None, Ok, Err, Bool, length-append, true, ◌==◌, ◌≤◌}
 use Rattle.std.specs.Prelude.{slice_index_or}
 use Rattle.std.specs.List.{AllByRecursion, AllZip}
-use Rattle.std.proofs.lemmas.List.{append-nil}
+use Rattle.std.proofs.lemmas.List.{append-nil, length-reverse}
 use Rattle.std.proofs.lemmas.List.Elements.{length_all_zip}
-use Rattle.fm_lists.specs.Among.{IsAmong}
 use Rattle.fm_base.specs.declared.caller.Caller.{Caller}
 use Rattle.fm_base.specs.declared.refusal.Refusal.{Refusal}
 use Rattle.fm_base.specs.declared.refusal.Refusal.TheVariants.{Memory, NoPass}
@@ -19,11 +18,13 @@ use Rattle.fm_pool_steps.proofs.Reading.{eqb_true}
 use Rattle.fm_calls.specs.Kept.{Lasts}
 use Rattle.fm_calls.proofs.Going.{reached_by, lasts_by}
 use Rattle.fm_workers.specs.declared.worker.Worker.{Worker}
-use Rattle.fm_workers.specs.Crew.{IsFresh, IsIn, IsWhole, FoundAllDrawn, CrewGathered, CrewWorked, AreDone, callers}
-use Rattle.fm_workers.specs.Rounds.{Went, AfterDraws, IsWorked, GatheredCrew, tasks_of, crew_of, passes_of}
+use Rattle.fm_workers.specs.Crew.{DrewEach, IsFresh, IsIn, IsWhole, FoundAllDrawn, CrewGathered, CrewWorked, AreDone, callers}
+use Rattle.fm_workers.specs.Rounds.{Went, AreSteady, CalledUp, IsWorked, GatheredCrew, tasks_of, crew_of, passes_of}
 use Rattle.fm_workers.proofs.Drawing.{made_behind, caller_still, gathered_still}
-use Rattle.fm_workers.proofs.Wholes.{NoDraws, all_drawn_again, crew_apart, finds_again, gathered_again, only_crew}
+use Rattle.fm_workers.proofs.Wholes.{NoDraws, all_drawn_again, crew_apart, crew_once, finds_again, gathered_again, only_crew}
 use Rattle.fm_workers.proofs.Gathering.{Made, gatherer_still, apart_before, apart_since, all_in_still}
+use Rattle.fm_workers.proofs.Rising.{drew_among, drew_each_more, rising}
+use Rattle.fm_workers.proofs.Turning.{moved_back}
 use Rattle.fm_workers.proofs.Workers.{zip_all, fresh_all, idle_all, crew_are, each_caller, each_pass, fresh_after, done_all, undrawn_all, undrawn_after, callers_after}
 
 more_found : {passes : ℕ} {draws : List Find} (fs : List Find) → FoundAllDrawn passes draws → FoundAllDrawn passes (draws ++ fs)
@@ -35,6 +36,10 @@ more_found fs f = record {
       ∙ ap (λ (xs : List Find). f.before ++ xs) (append_assoc f.these f.after fs));
   all = f.all;
 }
+
+looked_nobody : {got new : View} {b : Bool} (l : Looked got new b) → (f : Find) → In f (l.find ∷ []) → f.drew ≡ None
+looked_nobody l f (inl e) = ap (λ (x : Find). x.drew) e ∙ l.none
+looked_nobody l f (inr i) = absurd i
 
 module _ {T : Type 0} {old drew got new : View} {vs : List (Worker T)} {b : Bool} (none : old.drawn ≡ None) (m : Went old drew)
     (g : GatheredCrew drew got vs) (l : Looked got new b) where
@@ -68,11 +73,14 @@ module _ {T : Type 0} {old drew got new : View} {vs : List (Worker T)} {b : Bool
   within = all_in_still got new l.asked.more vs l.asked.seen (apart_since g l.asked.more l.asked.apart) g.workers
 
   module _ (fresh : AllByRecursion (λ (v : Worker T). IsFresh old v.memory.caller) vs)
-      (only : (f : Find) (c : Caller) → In f m.draws → f.drew ≡ Some c → IsAmong c (callers (crew_of vs)))
+      (drew_each : DrewEach m.draws (callers (crew_of vs))) (steady : AreSteady (callers (crew_of vs)))
       (undrawn : AllByRecursion (λ (v : Worker T). NoDraws v.memory) vs) where
     -- the look found every number
     found_whole : IsWhole old → b ≡ true
-    found_whole w = l.complete (all_drawn_again m g only undrawn (w.sound.all_drawn w.whole))
+    found_whole w = l.complete (all_drawn_again m g (drew_among m.draws (callers (crew_of vs)) drew_each) undrawn (w.sound.all_drawn w.whole))
+
+    gathered_now : new.gathered ≡ old.gathered ++ crew_of vs
+    gathered_now = ap (λ (v : View). v.gathered) round_is
 
     round : CrewGathered old new
     round = record {
@@ -84,15 +92,17 @@ module _ {T : Type 0} {old drew got new : View} {vs : List (Worker T)} {b : Bool
       within = each_pass (λ (p : View). IsIn p new) vs within;
       crew = crew_of vs;
       are_passes = crew_are vs;
-      distinct = crew_apart old new (crew_of vs) (ap (λ (v : View). v.gathered) round_is) l.sound;
+      distinct = crew_apart old new (crew_of vs) gathered_now l.sound;
       fresh = each_caller (IsFresh old) vs fresh;
       draws = m.draws ++ (l.find ∷ []);
       finds = l.asked.finds ∙ (ap (λ (fs : List Find). fs ++ (l.find ∷ [])) (finds_again m g) ∙ append_assoc old.finds m.draws (l.find ∷ []));
       only_draws = λ f i. ⊎_elim (m.only_draws f) (l.asked.only_draws f) (in_append f m.draws (l.find ∷ []) i);
+      drew = drew_each_more m.draws (l.find ∷ []) (callers (crew_of vs)) drew_each (looked_nobody l);
+      rising = rising (crew_of vs) (crew_once old new (crew_of vs) gathered_now l.sound) steady;
       is = round_is;
       whole = λ w. l.whole ∙ found_whole w;
       alone = λ w. only_crew old new (m.more ++ (g.more ++ l.asked.more)) (crew_of vs) round_seen (ap (λ (v : View). v.caller) round_is)
-          (ap (λ (v : View). v.gathered) round_is) round_own round_apart l.sound (l.whole ∙ found_whole w);
+          gathered_now round_own round_apart l.sound (l.whole ∙ found_whole w);
     }
 
     -- so it found as many as the pass has then
@@ -136,6 +146,8 @@ nobody p = record {
   draws = [];
   finds = sym (append-nil p.finds);
   only_draws = λ f i. absurd i;
+  drew = λ f i. absurd i;
+  rising = tt;
   is = λ i. record p { gathered = sym (append-nil p.gathered) i };
   whole = λ w. w.whole;
   alone = λ w. tt;
@@ -169,18 +181,17 @@ module _ {T : Type 0} where
 
 module _ {T : Type 0} (Does : View → T → T → List Entry → Type 0) {old drew got new : View} {b : Bool} where
   -- All tasks were done.
-  pub crew_worked : {tasks left done : List T} {u : Unit {0}} (ws vs : List (Worker T)) → old.drawn ≡ None → AfterDraws old drew tasks left ws (Ok u)
-      → AllZip (IsWorked Does) ws vs → GatheredCrew drew got vs → Looked got new b → done ≡ left ++ tasks_of vs
+  pub crew_worked : {todo tasks left done : List T} {u : Unit {0}} (ws vs : List (Worker T)) → old.drawn ≡ None → CalledUp old drew todo left ws (Ok u)
+      → AllZip (IsWorked Does) ws vs → GatheredCrew drew got vs → Looked got new b → todo ≡ reverse tasks → done ≡ tasks_of vs
       → CrewWorked Does old new tasks done (Ok tt)
   unfolding round
-  crew_worked {tasks = tasks} {left = left} {done = done} ws vs none d z g l back =
-      let m = d.drew.went in
+  crew_worked {tasks = tasks} {left = left} {done = done} ws vs none d z g l turned last =
+      let m = d.went in
       let none_left : left ≡ [] = d.ends in
-      let first : tasks ≡ tasks_of ws = d.parts ∙ ap (λ (ts : List T). ts ++ tasks_of ws) none_left in
-      let last : done ≡ tasks_of vs = back ∙ ap (λ (ts : List T). ts ++ tasks_of vs) none_left in
-      let made = done_all Does old new (m.more ++ (g.more ++ l.asked.more)) ws vs d.drew.workers z (within none m g l) (round_seen none m g l) in
-      let only : (f : Find) (c : Caller) → In f m.draws → f.drew ≡ Some c → IsAmong c (callers (crew_of vs)) =
-      λ f c i q. subst (λ (cs : List Caller). IsAmong c cs) (sym (callers_after Does ws vs z)) (d.drew.only f c i q) in
+      let first : tasks ≡ tasks_of ws =
+      moved_back tasks left ws turned d.parts ∙ (ap (λ (ts : List T). tasks_of ws ++ reverse ts) none_left ∙ append-nil (tasks_of ws)) in
+      let made = done_all Does old new (m.more ++ (g.more ++ l.asked.more)) ws vs d.workers z (within none m g l) (round_seen none m g l) in
+      let after : callers (crew_of ws) ≡ callers (crew_of vs) = sym (callers_after Does ws vs z) in
       let gathered : new.gathered ≡ old.gathered ++ crew_of vs = ap (λ (v : View). v.gathered) (round_is none m g l) in
       let long : length new.gathered ≡ length old.gathered + length (crew_of vs) =
       ap (λ (gs : List Gathered). length gs) gathered ∙ length-append old.gathered (crew_of vs) in
@@ -190,7 +201,8 @@ module _ {T : Type 0} (Does : View → T → T → List Entry → Type 0) {old d
       let count_vs = length_crew vs in
       let same = length_all_zip (IsWorked Does) ws vs z in
       record {
-        crew = round none m g l (fresh_after Does old ws vs d.drew.workers z) only (undrawn_after Does old ws vs d.drew.workers z);
+        crew = round none m g l (fresh_after Does old ws vs d.workers z) (subst (λ (cs : List Caller). DrewEach m.draws cs) after d.drew)
+            (subst (λ (cs : List Caller). AreSteady cs) after d.steady) (undrawn_after Does old ws vs d.workers z);
         ends = subst (λ (x : List T × List T). AreDone Does (m.more ++ (g.more ++ l.asked.more)) (passes_of vs) x.0 x.1)
             (λ i. (sym first i, sym last i)) made;
         suffice = omega (arith, long, passes, few, count_done, count_vs, same);
@@ -201,33 +213,36 @@ module _ {T : Type 0} (Does : View → T → T → List Entry → Type 0) {old d
       }
 
   -- A pass was wanting, and no task was begun.
-  pub crew_refused : {tasks left done : List T} (ws : List (Worker T)) (r : Refusal) → old.drawn ≡ None → AfterDraws old drew tasks left ws (Err r)
-      → GatheredCrew drew got ws → Looked got new b → done ≡ left ++ tasks_of ws → CrewWorked Does old new tasks done (Err r)
+  pub crew_refused : {todo tasks left done : List T} (ws : List (Worker T)) (r : Refusal) → old.drawn ≡ None → CalledUp old drew todo left ws (Err r)
+      → GatheredCrew drew got ws → Looked got new b → todo ≡ reverse tasks → done ≡ tasks_of ws ++ reverse left → CrewWorked Does old new tasks done (Err r)
   unfolding round
-  crew_refused {tasks = tasks} {left = left} {done = done} ws NoPass none d g l back =
-      let m = d.drew.went in
-      let long : length tasks ≡ length left + length (tasks_of ws) = ap (λ (ts : List T). length ts) d.parts ∙ length-append left (tasks_of ws) in
+  crew_refused {tasks = tasks} {left = left} {done = done} ws NoPass none d g l turned back =
+      let m = d.went in
+      let first : tasks ≡ tasks_of ws ++ reverse left = moved_back tasks left ws turned d.parts in
+      let long : length tasks ≡ length (tasks_of ws) + length (reverse left) =
+      ap (λ (ts : List T). length ts) first ∙ length-append (tasks_of ws) (reverse left) in
       let as_many = length_tasks ws in
       let so_many = length_crew ws in
+      let over = length-reverse left in
       let some = d.ends.1 in
-      let fresh = fresh_all old ws d.drew.workers in
-      let undrawn = undrawn_all old ws d.drew.workers in
+      let fresh = fresh_all old ws d.workers in
+      let undrawn = undrawn_all old ws d.workers in
       record {
-        crew = round none m g l (fresh_all old ws d.drew.workers) d.drew.only (undrawn_all old ws d.drew.workers);
+        crew = round none m g l (fresh_all old ws d.workers) d.drew d.steady (undrawn_all old ws d.workers);
         ends = (
           more_found (l.find ∷ []) d.ends.0,
-          omega (arith, long, as_many, so_many, some),
+          omega (arith, long, as_many, so_many, over, some),
           each_caller (λ c. made_by c (m.more ++ (g.more ++ l.asked.more)) ≡ []) ws
-              (idle_all old new (m.more ++ (g.more ++ l.asked.more)) ws d.drew.workers (within none m g l) (round_seen none m g l)),
-          back ∙ sym d.parts,
+              (idle_all old new (m.more ++ (g.more ++ l.asked.more)) ws d.workers (within none m g l) (round_seen none m g l)),
+          back ∙ sym first,
         );
         suffice = tt;
         wanting = λ w e.
-            let count = found_count none m g l fresh d.drew.only undrawn w in
-            let all = found_later none m g l fresh d.drew.only undrawn d.ends.0 in
-            omega (arith, count, all, long, as_many, so_many, some);
+            let count = found_count none m g l fresh d.drew d.steady undrawn w in
+            let all = found_later none m g l fresh d.drew d.steady undrawn d.ends.0 in
+            omega (arith, count, all, long, as_many, so_many, over, some);
         lasts = lasts_by (reached_by (m.more ++ (g.more ++ l.asked.more)) (round_seen none m g l) (ap (λ (v : View). v.shape) (round_is none m g l)) l.sound);
         sound = λ ne. l.sound;
         still_sound = λ h. l.sound;
       }
-  crew_refused ws r none d g l back = absurd d.ends
+  crew_refused ws r none d g l turned back = absurd d.ends

@@ -1,5 +1,5 @@
 -- How a pass adds its counts to those that all passes share.
-use Rattle.std.specs.Prelude.{◌≡◌, ℕ, ◌+◌, ◌/◌, ◌%◌, ◌≤◌, List, [], ◌∷◌, ◌++◌, slice_index, None, Result, Ok, Err}
+use Rattle.std.specs.Prelude.{◌≡◌, ◌≢◌, ℕ, ◌+◌, ◌/◌, ◌%◌, ◌≤◌, List, [], ◌∷◌, ◌++◌, slice_index, None, Result, Ok, Err}
 use Rattle.fm_base.specs.declared.caller.Caller.{Caller}
 use Rattle.fm_base.specs.declared.refusal.Refusal.{Refusal}
 use Rattle.fm_base.specs.declared.refusal.Refusal.TheVariants.{Closed}
@@ -32,7 +32,7 @@ add_visit c counts k n found = visit c counts.arena ((Add counts.arena (count_wo
 -- n is added to the count at this place in one visit; where it is 0 there is none
 pub data AddsAt (c : Caller) (counts : Region) (k : ℕ) : ℕ → List Entry → Type 0 where
   nothing : AddsAt c counts k 0 []
-  adds : {n : ℕ} → (found : ℕ) → AddsAt c counts k n (add_visit c counts k n found)
+  adds : {n : ℕ} → (found : ℕ) → n ≢ 0 → AddsAt c counts k n (add_visit c counts k n found)
 
 -- so was added what stands below this place
 pub data AddsBelow (c : Caller) (counts : Region) (ns : List ℕ) : ℕ → List Entry → Type 0 where

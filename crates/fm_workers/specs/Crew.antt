@@ -1,6 +1,6 @@
 -- What a crew of passes did, each at a task of its own, for the pass that drew them and gathered them again.
 use Rattle.fm_calls.specs.Kept.{Lasts}
-use Rattle.std.specs.Prelude.{OnOk, ◌≡◌, ◌≢◌, ◌<◌, true, ℕ, List, [], ◌∷◌, ◌++◌, length, map, All, Result, Ok, Err, ⊤, ◌+◌, ◌≤◌}
+use Rattle.std.specs.Prelude.{OnOk, ◌≡◌, ◌≢◌, ◌<◌, true, ℕ, List, [], ◌∷◌, ◌++◌, length, map, All, Result, Ok, Err, Some, None, ⊤, ◌+◌, ◌≤◌}
 use Rattle.std.specs.List.{AllByRecursion}
 use Rattle.fm_base.specs.declared.caller.Caller.{Caller}
 use Rattle.fm_base.specs.declared.refusal.Refusal.{Refusal}
@@ -17,8 +17,27 @@ use Rattle.fm_rule.specs.Draws.{FoundAll}
 abbrev pub callers : List Gathered → List Caller
 callers gs = map (λ g. g.caller) gs
 
+-- some of the finds drew the caller, of whose number they found so many, and none of them drew another
+pub record DrewOne (c : Caller) (finds : List Find) : Type 0 where
+  pub find : Find
+  pub among : In find finds
+  pub drew : find.drew ≡ Some c
+  pub found : find.found ≡ c.number
+  pub only : (f : Find) (d : Caller) → In f finds → f.drew ≡ Some d → d ≡ c
+
+-- the finds drew just these, one after the other: each was drawn by a run of its own, and those behind drew nobody
+abbrev pub DrewEach : List Find → List Caller → Type 0
+DrewEach finds [] = (f : Find) → In f finds → f.drew ≡ None
+DrewEach finds (c ∷ cs) = (run : List Find) × (behind : List Find) × (finds ≡ run ++ behind) × DrewOne c run × DrewEach behind cs
+
+-- each has a lower number than those behind it
+abbrev pub AreRising : List Caller → Type 0
+AreRising [] = ⊤
+AreRising (c ∷ cs) = AllByRecursion (λ d. c.number < d.number) cs × AreRising cs
+
 -- the caller is of none of the numbers that the pass has, nor the first, and had made no entry
 pub record IsFresh (p : View) (c : Caller) : Type 0 where
+  pub number : c.number < p.shape.passes
   pub later : c.number ≢ 0
   pub other : ¬ (HasCaller p c.number)
   pub silent : made_by c p.seen ≡ []
@@ -53,6 +72,9 @@ pub record CrewGathered (old new : View) : Type 0 where
   pub draws : List Find
   pub finds : new.finds ≡ old.finds ++ draws
   pub only_draws : (f : Find) → In f draws → is_draw f.step ≡ true
+  -- they drew the crew, and nobody else: who did the first task was drawn first
+  pub drew : DrewEach draws (callers crew)
+  pub rising : AreRising (callers crew)
   -- all else that the pass has it had before
   pub is : new ≡ record old { seen = new.seen; finds = new.finds; gathered = old.gathered ++ crew; whole = new.whole }
   -- a pass that was known to be whole is so again, and nobody else made an entry

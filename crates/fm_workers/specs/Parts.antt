@@ -35,6 +35,19 @@ AreRuns p s from (t ∷ ts) to = (next : ℕ) × IsRun p s from next t × AreRun
 abbrev pub IsCut : {A : Type 0} → Plan → Region → List (Part A) → Type 0
 IsCut p s ts = AreRuns p s 0 ts (s.size / p.size)
 
+-- it has so many records, or one more
+pub record IsLevel (p : Plan) (few : ℕ) (region : Region) : Type 0 where
+  pub least : few * p.size ≤ region.size
+  pub most : region.size ≤ (few + 1) * p.size
+
+-- none has two records more than another
+abbrev pub AreLevel : {A : Type 0} → Plan → ℕ → List (Part A) → Type 0
+AreLevel p few ts = AllByRecursion (λ t. IsLevel p few t.region) ts
+
+-- how many records each part has at least, where a segment is cut into so many
+abbrev pub least_in : Plan → Region → (parts : ℕ) → ℕ
+least_in p s parts = s.size / p.size / parts
+
 -- ---- the work at a part
 
 -- its bytes are known to who has seen so much, and its first record is aligned

@@ -29,6 +29,7 @@ use Rattle.fm_records.specs.Laws.{IsAsked, value_in}
 use Rattle.fm_records.specs.Reads.{AreReads, StopsReading, IsWordOf}
 use Rattle.fm_records.specs.Shares.{Share, AreDone, AreCut, all_joined}
 use Rattle.fm_workers.specs.Crew.{CrewGathered, FoundAllDrawn, IsWhole, callers}
+use Rattle.fm_workers.specs.Parts.{IsLevel, least_in}
 
 -- outside; the segment is known and its first record aligned; and there are 1 to 16 workers
 pub record CanQueryWith (pool : Pool) (v : View) (p : Plan) (s : Region) (threads : ℕ) : Type 0 where
@@ -43,10 +44,12 @@ pub data OnlyReads (s : Region) (c : Caller) (own : List Entry) : Type 0 where
   reads : AreReads c s own → OnlyReads s c own
   stops : StopsReading c s own → OnlyReads s c own
 
--- the segment was cut into shares, each of which was answered by a caller of the crew, and the answers joined
-pub record AnsweredBy (p : Plan) (s : Region) (crew : List Caller) (more : List Entry) (a : List Found) : Type 0 where
+-- the segment was cut into shares, of which none has two records more than another; each was answered by a caller of the crew, and the
+-- answers joined
+pub record AnsweredBy (p : Plan) (s : Region) (few : ℕ) (crew : List Caller) (more : List Entry) (a : List Found) : Type 0 where
   pub shares : List Share
   pub cut : AreCut p s shares
+  pub level : AllByRecursion (λ w. IsLevel p few w.region) shares
   pub callers : AllByRecursion (λ w. IsAmong w.caller crew) shares
   pub done : AreDone p more shares
   pub joined : a ≡ all_joined p shares
@@ -63,14 +66,14 @@ pub record IsOpenToAll (p : Plan) (s : Region) : Type 0 where
   pub shared : s.arena.kind ≢ Confined
 
 -- what comes of it, the refusals in the order of the checks
-abbrev pub EndsQuery : View → View → Plan → Region → List Entry → List Gathered → List Find → Result (List Found) Refusal → Type 0
-EndsQuery old new p s more crew draws (Ok a) = IsOpenToAll p s × AnsweredBy p s (callers crew) more a
-EndsQuery old new p s more crew draws (Err (Ragged rest)) = (rest ≡ s.size % p.size) × (0 < rest) × (new ≡ old)
-EndsQuery old new p s more crew draws (Err WrongThread) = (s.size % p.size ≡ 0) × (s.arena.kind ≡ Confined) × (new ≡ old)
-EndsQuery old new p s more crew draws (Err Closed) = IsOpenToAll p s × FoundClosed s (callers crew) more
-EndsQuery old new p s more crew draws (Err NoPass) = IsOpenToAll p s × FoundAllDrawn old.shape.passes draws
-EndsQuery old new p s more crew draws (Err Memory) = IsOpenToAll p s
-EndsQuery old new p s more crew draws (Err r) = ⊥
+abbrev pub EndsQuery : (few : ℕ) → View → View → Plan → Region → List Entry → List Gathered → List Find → Result (List Found) Refusal → Type 0
+EndsQuery few old new p s more crew draws (Ok a) = IsOpenToAll p s × AnsweredBy p s few (callers crew) more a
+EndsQuery few old new p s more crew draws (Err (Ragged rest)) = (rest ≡ s.size % p.size) × (0 < rest) × (new ≡ old)
+EndsQuery few old new p s more crew draws (Err WrongThread) = (s.size % p.size ≡ 0) × (s.arena.kind ≡ Confined) × (new ≡ old)
+EndsQuery few old new p s more crew draws (Err Closed) = IsOpenToAll p s × FoundClosed s (callers crew) more
+EndsQuery few old new p s more crew draws (Err NoPass) = IsOpenToAll p s × FoundAllDrawn old.shape.passes draws
+EndsQuery few old new p s more crew draws (Err Memory) = IsOpenToAll p s
+EndsQuery few old new p s more crew draws (Err r) = ⊥
 
 -- ---- what the answer is
 
@@ -103,7 +106,7 @@ pub record QueriedWith (threads : ℕ) (old new : View) (p : Plan) (s : Region) 
   -- at most one pass a worker
   pub one_each : length crew.crew ≤ threads
   pub visits : AllByRecursion (λ c. OnlyReads s c (made_by c crew.more)) (callers crew.crew)
-  pub ends : EndsQuery old new p s crew.more crew.crew crew.draws result
+  pub ends : EndsQuery (least_in p s threads) old new p s crew.more crew.crew crew.draws result
   pub value : IfOk result (λ a. NobodyElseWrites s (callers crew.crew) crew.more → IsAnswer old p s (callers crew.crew) crew.more a)
   -- it can be printed, and joined with another such answer
   pub answer : IfOk result (IsAnswerOf p)

@@ -1,11 +1,10 @@
 -- How a crew is drawn, works, and is gathered.
-use Rattle.std.specs.Prelude.{◌≡◌, ◌<◌, true, ℕ, List, [], ◌∷◌, ◌++◌, length, All, Some, None, Result, Ok, Err}
+use Rattle.std.specs.Prelude.{◌≡◌, ◌<◌, ◌≤◌, true, ℕ, List, [], ◌∷◌, ◌++◌, length, map, reverse, All, None, Result, Ok, Err, ⊤}
 use Rattle.std.specs.List.{AllByRecursion}
 use Rattle.fm_base.specs.declared.caller.Caller.{Caller}
 use Rattle.fm_base.specs.declared.refusal.Refusal.{Refusal}
 use Rattle.fm_base.specs.declared.refusal.Refusal.TheVariants.{NoPass}
 use Rattle.fm_base.specs.Calls.{Entry}
-use Rattle.fm_lists.specs.Among.{IsAmong}
 use Rattle.fm_base.specs.Histories.{made_by}
 use Rattle.fm_base.specs.Finds.{Find, Gathered, is_draw}
 use Rattle.fm_base.specs.View.{Did}
@@ -15,7 +14,7 @@ use Rattle.fm_calls.specs.Told.{view_of_pass}
 use Rattle.fm_rule.specs.declared.pool.Pool.{Pool}
 use Rattle.fm_rule.specs.Passes.{IsOf}
 use Rattle.fm_workers.specs.declared.worker.Worker.{Worker}
-use Rattle.fm_workers.specs.Crew.{IsFresh, IsIn, FoundAllDrawn, callers}
+use Rattle.fm_workers.specs.Crew.{DrewEach, IsFresh, IsIn, FoundAllDrawn, callers}
 
 -- the pass looked at the count of drawn numbers, and made no entry
 pub record Went (old now : View) : Type 0 where
@@ -37,6 +36,11 @@ pub record IsDrawn (old d : View) : Type 0 where
   pub is : d ≡ record (view_of old.shape true d.seen) { home = old.home; caller = d.caller }
   pub sound : IsSound d
 
+-- none has a higher number than those behind it
+abbrev pub AreSteady : List Caller → Type 0
+AreSteady [] = ⊤
+AreSteady (c ∷ cs) = AllByRecursion (λ d. c.number ≤ d.number) cs × AreSteady cs
+
 -- outside, with nothing: it can be gathered once its memory is taken apart
 pub record IsSpare (pool : Pool) (d : View) : Type 0 where
   pub of : IsOf pool d
@@ -54,7 +58,7 @@ module _ {T : Type 0} where
   tasks_of [] = []
   tasks_of (w ∷ ws) = tasks_of ws ++ w.task ∷ []
 
-  -- their callers, in the same order
+  -- what is gathered of their callers, in the same order
   abbrev pub crew_of : List (Worker T) → List Gathered
   crew_of [] = []
   crew_of (w ∷ ws) = crew_of ws ++ as_gathered w.memory ∷ []
@@ -64,11 +68,15 @@ module _ {T : Type 0} where
   passes_of [] = []
   passes_of (w ∷ ws) = passes_of ws ++ w.memory ∷ []
 
-  -- these were drawn
+  -- their callers, the first worker's first
+  abbrev pub order_of : List (Worker T) → List Caller
+  order_of ws = map (λ w. w.memory.caller) ws
+
+  -- these were drawn, one after the other
   pub record DrewCrew (old now : View) (ws : List (Worker T)) : Type 0 where
     pub went : Went old now
-    -- no draw drew another
-    pub only : (f : Find) (c : Caller) → In f went.draws → f.drew ≡ Some c → IsAmong c (callers (crew_of ws))
+    pub drew : DrewEach went.draws (order_of ws)
+    pub steady : AreSteady (order_of ws)
     pub workers : AllByRecursion (λ w. IsDrawn old w.memory) ws
 
   abbrev pub EndsDraws : ℕ → List T → List Find → Result (Unit {0}) Refusal → Type 0
@@ -76,11 +84,20 @@ module _ {T : Type 0} where
   EndsDraws passes left draws (Err NoPass) = FoundAllDrawn passes draws × (0 < length left)
   EndsDraws passes left draws (Err r) = ⊥
 
-  -- of `draw_crew`
+  -- of `draw_crew`, which takes the last task first
   pub record AfterDraws (old now : View) (tasks left : List T) (ws : List (Worker T)) (result : Result (Unit {0}) Refusal) : Type 0 where
     pub drew : DrewCrew old now ws
     pub parts : tasks ≡ left ++ tasks_of ws
     pub ends : EndsDraws old.shape.passes left drew.went.draws result
+
+  -- of `call_up`, where who was drawn first is the last worker
+  pub record CalledUp (old now : View) (tasks left : List T) (ws : List (Worker T)) (result : Result (Unit {0}) Refusal) : Type 0 where
+    pub went : Went old now
+    pub drew : DrewEach went.draws (callers (crew_of ws))
+    pub steady : AreSteady (callers (crew_of ws))
+    pub workers : AllByRecursion (λ w. IsDrawn old w.memory) ws
+    pub parts : tasks ≡ left ++ reverse (tasks_of ws)
+    pub ends : EndsDraws old.shape.passes left went.draws result
 
   -- a worker before and after its work
   pub record IsWorked (Does : View → T → T → List Entry → Type 0) (old new : Worker T) : Type 0 where

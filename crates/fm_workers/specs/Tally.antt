@@ -1,5 +1,5 @@
 -- What a tally by a crew asks for, and what its caller learns.
-use Rattle.std.specs.Prelude.{◌≡◌, ◌≢◌, ◌⊎◌, ℕ, ◌+◌, ◌<◌, ◌≤◌, ◌%◌, List, [], ◌∷◌, ◌++◌, length, slice_index, false, Result, Ok, Err, IfOk, ⊤}
+use Rattle.std.specs.Prelude.{◌≡◌, ◌≢◌, ◌⊎◌, ℕ, ◌+◌, ◌<◌, ◌≤◌, ◌%◌, List, [], ◌∷◌, ◌++◌, length, slice_index, ℤ, false, Result, Ok, Err, IfOk, ⊤}
 use Rattle.std.specs.List.{AllByRecursion}
 use Rattle.fm_base.specs.declared.arena_id.ArenaId.{ArenaId}
 use Rattle.fm_base.specs.declared.caller.Caller.{Caller}
@@ -24,10 +24,13 @@ use Rattle.fm_query.specs.Plan.{Plan}
 use Rattle.fm_records.specs.Alone.{bytes_at_places}
 use Rattle.fm_records.specs.Answers.{answer}
 use Rattle.fm_records.specs.Laws.{IsAsked, value_in}
+use Rattle.fm_records.specs.Query.{DoesQuery}
 use Rattle.fm_records.specs.Reads.{IsWordOf}
-use Rattle.fm_workers.specs.Adding.{HasCounts, count_word}
+use Rattle.fm_records.specs.Shares.{AreCut, Share}
+use Rattle.fm_workers.specs.Adding.{AddsBelow, HasCounts, count_word}
 use Rattle.fm_workers.specs.Counts.{AreCounts, IsTally, listed}
 use Rattle.fm_workers.specs.Crew.{CrewGathered, FoundAllDrawn, IsWhole, callers}
+use Rattle.fm_workers.specs.Parts.{IsLevel, least_in}
 use Rattle.fm_workers.specs.Query.{CanQueryWith, IsReadByCrew, NobodyElseWrites, OnlyReads}
 
 -- as for a query; the counts are 256 longs that the pass knows, to be written, in another arena
@@ -64,6 +67,32 @@ pub record CanBeTallied (p : Plan) (s counts : Region) : Type 0 where
   pub shared : s.arena.kind ≢ Confined
   pub shared_counts : counts.arena.kind ≢ Confined
 
+-- Among these entries are the share's: its caller's Reads, of which the query lists the share's numbers, and behind them the Adds of how
+-- often each number came
+pub record IsCounted (p : Plan) (counts : Region) (es : List Entry) (w : Share) : Type 0 where
+  pub reads : List Entry
+  pub adds : List Entry
+  pub parts : made_by w.caller es ≡ reads ++ adds
+  pub does : DoesQuery w.caller p w.region (Ok w.found) reads
+  pub each : List ℕ
+  pub are : AreCounts (listed w.found) each
+  pub added : AddsBelow w.caller counts each 256 adds
+
+-- the numbers that were listed over all shares
+abbrev pub all_listed : List Share → List ℤ
+all_listed [] = []
+all_listed (w ∷ ws) = listed w.found ++ all_listed ws
+
+-- The segment was cut into shares, of which none has two records more than another; each was counted by a caller of the crew, and these
+-- are the counts of all numbers
+pub record TalliedBy (p : Plan) (s counts : Region) (few : ℕ) (crew : List Caller) (more : List Entry) (ns : List ℕ) : Type 0 where
+  pub shares : List Share
+  pub cut : AreCut p s shares
+  pub level : AllByRecursion (λ w. IsLevel p few w.region) shares
+  pub callers : AllByRecursion (λ w. IsAmong w.caller crew) shares
+  pub done : AllByRecursion (IsCounted p counts more) shares
+  pub are : AreCounts (all_listed shares) ns
+
 -- a caller of the crew found an arena closed, at its last entry
 pub record FoundEitherClosed (s counts : Region) (crew : List Caller) (more : List Entry) : Type 0 where
   pub caller : Caller
@@ -74,16 +103,16 @@ pub record FoundEitherClosed (s counts : Region) (crew : List Caller) (more : Li
   pub last : made_by caller more ≡ before ++ refused_visit caller arena
 
 -- what comes of it, the refusals in the order of the checks
-abbrev pub EndsTally : View → View → Plan → Region → Region → List Entry → List Gathered → List Find → Result (List ℕ) Refusal → Type 0
-EndsTally old new p s counts more crew draws (Ok ns) = CanBeTallied p s counts
-EndsTally old new p s counts more crew draws (Err Unsupported) = ¬ (IsTally p) × (new ≡ old)
-EndsTally old new p s counts more crew draws (Err (Ragged rest)) = IsTally p × (rest ≡ s.size % p.size) × (0 < rest) × (new ≡ old)
-EndsTally old new p s counts more crew draws (Err WrongThread) =
+abbrev pub EndsTally : (few : ℕ) → View → View → Plan → Region → Region → List Entry → List Gathered → List Find → Result (List ℕ) Refusal → Type 0
+EndsTally few old new p s counts more crew draws (Ok ns) = CanBeTallied p s counts × TalliedBy p s counts few (callers crew) more ns
+EndsTally few old new p s counts more crew draws (Err Unsupported) = ¬ (IsTally p) × (new ≡ old)
+EndsTally few old new p s counts more crew draws (Err (Ragged rest)) = IsTally p × (rest ≡ s.size % p.size) × (0 < rest) × (new ≡ old)
+EndsTally few old new p s counts more crew draws (Err WrongThread) =
     IsTally p × (s.size % p.size ≡ 0) × ((s.arena.kind ≡ Confined) ⊎ (counts.arena.kind ≡ Confined)) × (new ≡ old)
-EndsTally old new p s counts more crew draws (Err Closed) = CanBeTallied p s counts × FoundEitherClosed s counts (callers crew) more
-EndsTally old new p s counts more crew draws (Err NoPass) = CanBeTallied p s counts × FoundAllDrawn old.shape.passes draws
-EndsTally old new p s counts more crew draws (Err Memory) = CanBeTallied p s counts
-EndsTally old new p s counts more crew draws (Err r) = ⊥
+EndsTally few old new p s counts more crew draws (Err Closed) = CanBeTallied p s counts × FoundEitherClosed s counts (callers crew) more
+EndsTally few old new p s counts more crew draws (Err NoPass) = CanBeTallied p s counts × FoundAllDrawn old.shape.passes draws
+EndsTally few old new p s counts more crew draws (Err Memory) = CanBeTallied p s counts
+EndsTally few old new p s counts more crew draws (Err r) = ⊥
 
 -- the parts were asked
 abbrev pub AreAsked : Result (List ℕ) Refusal → Type 0
@@ -123,7 +152,7 @@ pub record TalliedWith (threads : ℕ) (old new : View) (p : Plan) (s counts : R
   -- at most one pass a worker
   pub one_each : length crew.crew ≤ threads
   pub visits : AllByRecursion (λ c. OnlyTallies s counts c (made_by c crew.more)) (callers crew.crew)
-  pub ends : EndsTally old new p s counts crew.more crew.crew crew.draws result
+  pub ends : EndsTally (least_in p s threads) old new p s counts crew.more crew.crew crew.draws result
   pub value : IfOk result (AreTheCounts old p s (callers crew.crew) crew.more)
   pub read : IfOk result (λ _. AreAllRead old p s (callers crew.crew) crew.more)
   pub held : IfOk result (AreHeld old new counts (callers crew.crew) crew.more)

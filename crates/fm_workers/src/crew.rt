@@ -1,8 +1,8 @@
-ghost use Rattle.std.specs.Prelude.{◌≡◌, ◌+◌, ◌<◌, ◌≤◌, ◌++◌, ℕ, [], None, All, length, slice_index_or, vec_len, vec_capacity};
+ghost use Rattle.std.specs.Prelude.{◌≡◌, ◌+◌, ◌<◌, ◌≤◌, ◌++◌, ℕ, [], None, All, length, reverse, slice_index_or, vec_len, vec_capacity};
 ghost use Rattle.std.specs.List.{AllByRecursion};
 ghost use Rattle.fm_gate.specs.Standing.{IsOutside};
 ghost use Rattle.fm_workers.specs.Crew.{CrewWorked};
-ghost use Rattle.fm_workers.specs.Rounds.{AfterDraws, GatheredCrew, IsSpare, IsWorked, tasks_of};
+ghost use Rattle.fm_workers.specs.Rounds.{AfterDraws, CalledUp, GatheredCrew, IsSpare, IsWorked, tasks_of};
 
 use crate::work::Work;
 use crate::worker::Worker;
@@ -28,7 +28,7 @@ fn draw_crew<'a, R: Wait, T>(
     requires room { vec_len tasks.old ≤ vec_capacity crew.old }
     ensures drew { AfterDraws pass.old pass.new tasks.old.items tasks.new.items crew.new.items result }
     ensures outside { IsOutside pool.now pass.new }
-    ensures room { vec_len tasks.new + vec_len crew.new ≤ vec_capacity tasks.new }
+    ensures count { vec_len tasks.new + vec_len crew.new ≡ vec_len tasks.old }
 {
     while let Some(task) = tasks.pop() {
         match pool.draw(rt, pass) {
@@ -46,6 +46,41 @@ fn draw_crew<'a, R: Wait, T>(
     Ok(())
 }
 
+/// A pass for each task, the last task first, where the last worker is the first drawn. After a refusal the other tasks
+/// are left. Refused: `NoPass`.
+fn call_up<'a, R: Wait, T>(
+    rt: &R,
+    pool: &'a Pool,
+    pass: &mut Pass,
+    tasks: &mut Vec<T>,
+    crew: &mut Vec<Worker<'a, T>>,
+) -> Result<(), Refusal>
+    requires outside { IsOutside pool.now pass.old }
+    requires empty { crew.old.items ≡ [] }
+    requires room { vec_len tasks.old ≤ vec_capacity crew.old }
+    ensures called { CalledUp pass.old pass.new tasks.old.items tasks.new.items crew.new.items result }
+    ensures outside { IsOutside pool.now pass.new }
+    ensures count { vec_len tasks.new + vec_len crew.new ≡ vec_len tasks.old }
+{
+    let drew = draw_crew(rt, pool, pass, tasks, crew);
+    crew.as_mut_slice().reverse();
+    drew
+}
+
+/// Moves all to the end of the other list, the last first.
+fn turn<T>(from: &mut Vec<T>, to: &mut Vec<T>)
+    requires room { vec_len to.old + vec_len from.old ≤ vec_capacity to.old }
+    ensures moved { to.new.items ≡ to.old.items ++ reverse from.old.items }
+    ensures none { from.new.items ≡ [] }
+    ensures count { vec_len to.new ≡ vec_len to.old + vec_len from.old }
+    ensures empty { vec_len from.new ≡ 0 }
+    ensures same_room { vec_capacity from.new ≡ vec_capacity from.old }
+{
+    while let Some(task) = from.pop() {
+        to.push_reserved(task);
+    }
+}
+
 /// Gathers all, and gives their tasks back, in the order in which `draw_crew` took them.
 fn gather_crew<T>(pool: &Pool, pass: &mut Pass, mut crew: Vec<Worker<T>>, tasks: &mut Vec<T>)
     requires outside { IsOutside pool.now pass.old }
@@ -54,6 +89,8 @@ fn gather_crew<T>(pool: &Pool, pass: &mut Pass, mut crew: Vec<Worker<T>>, tasks:
     ensures gathered { GatheredCrew pass.old pass.new crew.entry.items }
     ensures outside { IsOutside pool.now pass.new }
     ensures tasks { tasks.new.items ≡ tasks.old.items ++ tasks_of crew.entry.items }
+    ensures count { vec_len tasks.new ≡ vec_len tasks.old + vec_len crew.entry }
+    ensures same_room { vec_capacity tasks.new ≡ vec_capacity tasks.old }
 {
     while let Some(worker) = crew.pop() {
         let Worker {
@@ -113,7 +150,7 @@ fn work_all<R: Threads + Wait + Sync, T: Send, W: Work<T>, G: Gate>(
     );
 }
 
-/// Draws a pass for each task, lets all of them work side by side, each at its task between the gate's calls, and gathers
+/// Draws a pass for each task, for the first task first, lets all of them work side by side, each at its task between the gate's calls, and gathers
 /// them all again, after a refusal too. All memory is taken before the first draw. Workers are numbered from 1, in the
 /// order of their tasks; each has one call.
 ///
@@ -133,14 +170,22 @@ pub fn work_crew<R: Threads + Wait + Sync, T: Send, W: Work<T>, G: Gate>(
     ensures worked { CrewWorked (W.does work.now) pass.old pass.new tasks.old.items tasks.new.items result }
     ensures outside { IsOutside pool.now pass.new }
 {
-    let Ok(mut crew) = Vec::with_capacity(alloc, tasks.len()) else {
+    let Ok(mut left) = Vec::with_capacity(alloc, tasks.len()) else {
         return Err(Refusal::Memory);
     };
-    if let Err(refusal) = draw_crew(rt, pool, pass, tasks, &mut crew) {
+    let Ok(mut crew) = Vec::with_capacity(alloc, tasks.len()) else {
+        left.destroy_empty();
+        return Err(Refusal::Memory);
+    };
+    turn(tasks, &mut left);
+    if let Err(refusal) = call_up(rt, pool, pass, &mut left, &mut crew) {
         gather_crew(pool, pass, crew, tasks);
+        turn(&mut left, tasks);
+        left.destroy_empty();
         pool.whole(pass);
         return Err(refusal);
     }
+    left.destroy_empty();
     work_all(rt, alloc, gate, work, crew.as_mut_slice());
     gather_crew(pool, pass, crew, tasks);
     pool.whole(pass);

@@ -1,6 +1,6 @@
 ghost use Rattle.std.specs.Prelude.{◌≡◌, ◌*◌, ◌+◌, ◌-◌, ◌/◌, ◌^◌, ◌<◌, ◌≤◌, IfOk, IfErr, length};
 ghost use Rattle.fm_segment.specs.Region.{part_of};
-ghost use Rattle.fm_workers.specs.Parts.{IsCut, IsRun};
+ghost use Rattle.fm_workers.specs.Parts.{AreLevel, IsCut, IsRun, least_in};
 
 use crate::part::Part;
 use fm_base::Refusal;
@@ -18,6 +18,7 @@ pub(crate) fn cut<A>(
 ) -> Result<Vec<Part<A>>, Refusal>
     requires some { 0 < parts }
     ensures cut { IfOk result (λ ts. IsCut q.now s.now ts.items) }
+    ensures level { IfOk result (λ ts. AreLevel q.now (least_in q.now s.now parts) ts.items) }
     ensures count { IfOk result (λ ts. length ts.items ≡ parts) }
     ensures memory { IfErr result (λ refusal. refusal ≡ Refusal.Memory) }
 {

@@ -86,9 +86,11 @@ fn accounts_are_added_to(rt: HostRuntime) -> Result<(), Fail> {
     let v = Value::Int(100);
     takes(&rt, &amount, &[2]);
     holds(&rt, &amount, v);
+    let before = amount.get_and_add(&rt, &mut memory, &segment, 0, &[2], v)?;
+    assert_eq!(rt; before, Value::Int(0));
     for (base, index, answer) in [
-        (0, 2, Ok(Value::Int(0))),
-        (8, 1, Ok(Value::Int(100))),
+        (0, 2, Ok(Value::Int(100))),
+        (8, 1, Ok(Value::Int(200))),
         (0, 3, Err(Refusal::IndexOut(0))),
         (u64::MAX, 3, Err(Refusal::IndexOut(0))),
         (16, 0, Err(Refusal::Bounds)),

@@ -5,7 +5,7 @@ use fm_mono::Mono;
 use fm_segment::Segment;
 use std::test::Fail;
 
-/// The example of the repository's README.
+/// The first example of docs/LIBRARY.md.
 #[test]
 fn a_price_is_got_until_its_arena_closes(rt: HostRuntime) -> Result<(), Fail> {
     let mut memory = Mono::make(rt.alloc(), 64);

@@ -1,8 +1,8 @@
-ghost use Rattle.std.specs.Prelude.{◌≡◌, ◌<◌, None, true};
+ghost use Rattle.std.specs.Prelude.{◌≡◌, ◌<◌, None, true, Err};
 ghost use Rattle.fm_base.specs.Arenas.{Alive, has_arena, arena_of};
 ghost use Rattle.fm_base.specs.Learnt.{CanVisit, AfterAllocate};
 ghost use Rattle.fm_base.specs.Machine.{rounded_up, IsPower};
-ghost use Rattle.fm_mono.specs.Shown.{Allots, view_of, nature_of_mono};
+ghost use Rattle.fm_mono.specs.Shown.{Allots, WantsWords, view_of, nature_of_mono};
 
 use super::Mono;
 use fm_base::{ArenaId, Refusal};
@@ -19,10 +19,12 @@ fn rounded(given: u64, align: u64) -> u128
 impl Mono {
     /// Gives `size` bytes at the next place that is a multiple of `align`, as `allocate` does. It waits for nobody.
     ///
-    /// Refused, in this order: `BadAlignment`, `Closed`, `NoRoom`, `Memory`. A refused call gives nothing.
+    /// Refused, in this order: `BadAlignment`, `Closed`, `NoRoom`, `Memory`. A refused call gives nothing. It takes memory
+    /// only where the bytes need more words than those given before.
     pub fn allot(&mut self, a: ArenaId, size: u64, align: u64) -> Result<u64, Refusal>
         requires { CanVisit (view_of self.old) a }
-        ensures { AfterAllocate nature_of_mono (view_of self.old) (view_of self.new) a size align result }
+        ensures got { AfterAllocate nature_of_mono (view_of self.old) (view_of self.new) a size align result }
+        ensures wants { result ≡ Err Refusal.Memory → WantsWords self.old a size align }
     {
         let alive = self.is_alive(a);
         if !align.is_power_of_two() {
@@ -40,7 +42,8 @@ impl Mono {
         requires known { has_arena self.old.state a ≡ true }
         requires alive { (arena_of self.old.state a).life ≡ Alive }
         requires power { IsPower align }
-        ensures { Allots self.old a size align result self.new }
+        ensures got { Allots self.old a size align result self.new }
+        ensures wants { result ≡ Err Refusal.Memory → WantsWords self.old a size align }
     {
         let limit = self.limit;
         let arena = &mut self.arenas[a.slot as usize];

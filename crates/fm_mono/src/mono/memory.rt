@@ -1,11 +1,13 @@
-ghost use Rattle.std.specs.Prelude.{refl};
-ghost use Rattle.fm_mono.specs.Shown.{view_of, nature_of_mono};
+ghost use Rattle.std.specs.Prelude.{◌≡◌, ◌↔◌, Err, length, refl};
+ghost use Rattle.fm_base.specs.Learnt.{CanVisit, CanOpen, AfterOpen, AfterAllocate};
+ghost use Rattle.fm_mono.specs.Shown.{WantsWords, most_arenas, view_of, nature_of_mono};
 
 use super::Mono;
 use fm_base::{ArenaId, Caller, Kind, Memory, Refusal};
 use std::sync::Wait;
 
-/// No call waits: those that may are handed on to calls of `Mono` without a runtime.
+/// No call waits: those that may are handed on to calls of `Mono` without a runtime. Memory is taken by `open_arena`, and
+/// by `allocate` where the bytes need more words; no other call can answer that it is wanting.
 impl Memory for Mono {
     ghost nature = { nature_of_mono };
 
@@ -59,7 +61,11 @@ impl Memory for Mono {
         self.go_out();
     }
 
-    fn open_arena<R: Wait>(&mut self, rt: &R, kind: Kind) -> Result<ArenaId, Refusal> {
+    fn open_arena<R: Wait>(&mut self, rt: &R, kind: Kind) -> Result<ArenaId, Refusal>
+        requires { CanOpen (view_of self.old) kind }
+        ensures got { AfterOpen nature_of_mono (view_of self.old) (view_of self.new) kind result }
+        ensures full { (result ≡ Err Refusal.NoSlot) ↔ (length self.old.state ≡ most_arenas) }
+    {
         self.open(kind)
     }
 
@@ -69,7 +75,11 @@ impl Memory for Mono {
         a: ArenaId,
         size: u64,
         align: u64,
-    ) -> Result<u64, Refusal> {
+    ) -> Result<u64, Refusal>
+        requires { CanVisit (view_of self.old) a }
+        ensures got { AfterAllocate nature_of_mono (view_of self.old) (view_of self.new) a size align result }
+        ensures wants { result ≡ Err Refusal.Memory → WantsWords self.old a size align }
+    {
         self.allot(a, size, align)
     }
 

@@ -2,11 +2,13 @@ ghost use Rattle.fm_gate.specs.Standing.{CanVisit};
 ghost use Rattle.fm_pool_tests.specs.Holds.{AreHeld};
 
 use super::made;
+use crate::pools::drawn;
 use fm_base::{ArenaId, Kind, Refusal};
 use fm_gate::{Hold, hold, is_alive, open_arena, unhold};
 use fm_rule::{Pass, Pool};
 use std::process::Abort;
 use std::sync::Wait;
+use std::thread::join_mut;
 
 /// Takes a hold, which is kept.
 fn hold_more<R: Abort + Wait>(
@@ -83,4 +85,22 @@ fn an_arena_has_65535_holds_at_most(rt: HostRuntime) {
     );
     assert_eq!(rt; is_alive_held(&pool, &mut pass, a, &held), Ok(true));
     spend_all(&pool, &mut pass, a, held);
+}
+
+/// The session word counts up until both have their holds, so who tries a stale one again never ends.
+#[test]
+fn two_passes_take_holds_of_one_arena_at_once(rt: HostRuntime) {
+    let (pool, mut pass) = made(&rt, 1);
+    let a = open_arena(&rt, &pool, &mut pass, Kind::Shared).expect(&rt, "a slot");
+    let mut other = drawn(&rt, &pool, &mut pass);
+    let mut ours = Vec::new(rt.alloc());
+    let mut theirs = Vec::new(rt.alloc());
+    let both = join_mut(
+        &rt,
+        &mut || take_holds(&rt, &pool, &mut pass, a, 30_000, &mut ours),
+        &mut || take_holds(&rt, &pool, &mut other, a, 30_000, &mut theirs),
+    );
+    assert_eq!(rt; both, (Ok(()), Ok(())));
+    spend_all(&pool, &mut pass, a, ours);
+    spend_all(&pool, &mut other, a, theirs);
 }

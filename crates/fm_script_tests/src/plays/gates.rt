@@ -1,5 +1,6 @@
 use super::printed_past;
-use fm_answer_tests::{Meeting, Order};
+use super::relay::Relay;
+use fm_answer_tests::{Meeting, Order, Recording};
 
 /// A body that runs one worker after the other, or their lines in fixed turns, misses one in one of these runs.
 #[test]
@@ -13,5 +14,34 @@ fn two_workers_meet(rt: HostRuntime) {
         let gate = Meeting::of(order);
         assert_eq!(rt; printed_past(&rt, text, &gate).as_str(), wanted);
         assert!(rt; !gate.is_missed());
+        assert!(rt; gate.both_began_and_ended());
     }
+}
+
+/// Each worker's lines pass the gate once, by their numbers. Those of pass 0 pass none.
+#[test]
+fn each_line_passes_once(rt: HostRuntime) {
+    let text =
+        "pool 1 1 8 1 1\nfirst open a shared\nfirst alloc a s 8 8\n1 alive a\n2 alive a\n1 get s long 0\n\
+        2 get s long 0\n1 alive a\nlast close a\n";
+    let wanted =
+        "first open a shared -> ok\nfirst alloc a s 8 8 -> ok 0\n1 alive a -> true\n1 get s long 0 -> 0\n\
+        1 alive a -> true\n2 alive a -> true\n2 get s long 0 -> 0\nlast close a -> ok\n";
+    let gate = Recording::new(rt.alloc()).expect(&rt, "a record");
+    assert_eq!(rt; printed_past(&rt, text, &gate).as_str(), wanted);
+    let passed = gate.text(rt.alloc()).expect(&rt, "a text");
+    assert_eq!(rt; passed.as_str(), "1: +0 -0 +1 -1 +2 -2\n2: +0 -0 +1 -1\n");
+}
+
+/// A line that runs before its gate, or behind it, finds another number.
+#[test]
+fn a_line_runs_inside_its_gate(rt: HostRuntime) {
+    let text =
+        "pool 1 1 8 1 1\nfirst open a shared\nfirst alloc a s 8 8\n1 get s long 0\n2 add s long 0 7\nlast close a\n";
+    let wanted =
+        "first open a shared -> ok\nfirst alloc a s 8 8 -> ok 0\n1 get s long 0 -> 7\n2 add s long 0 7 -> 0\n\
+        last close a -> ok\n";
+    let gate = Relay::new();
+    assert_eq!(rt; printed_past(&rt, text, &gate).as_str(), wanted);
+    assert!(rt; !gate.is_missed());
 }

@@ -1,4 +1,4 @@
-use Rattle.fm_arena.proofs.Lasting.{handles}
+use Rattle.fm_arena.proofs.Beside.{handles}
 use Rattle.fm_arena.proofs.laws.a_handle_lasts.Goals as goal
 
 pub returns : goal.returns

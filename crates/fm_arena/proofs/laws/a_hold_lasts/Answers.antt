@@ -1,4 +1,4 @@
-use Rattle.fm_arena.proofs.Lasting.{holds}
+use Rattle.fm_arena.proofs.Beside.{holds}
 use Rattle.fm_arena.proofs.laws.a_hold_lasts.Goals as goal
 
 pub returns : goal.returns

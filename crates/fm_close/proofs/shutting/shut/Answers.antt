@@ -1,7 +1,7 @@
 use Rattle.std.proofs.Common.{◌≡◌, ◌∙◌, sym, ap, subst, arith, Some}
 use Rattle.fm_base.specs.declared.caller.Caller.{Caller}
 use Rattle.fm_base.specs.Arenas.{MayUse}
-use Rattle.fm_close.proofs.Shuts.{after_closed, after_held, after_fine}
+use Rattle.fm_close.proofs.Shuts.{shut_of, after_closed, after_held, after_fine}
 use Rattle.fm_close.proofs.shutting.shut.Goals as goal
 
 pub returns-in_default : goal.returns-in_default
@@ -15,9 +15,12 @@ returns-then-holds-gt0 c =
     after_held _ c.requires (c.is_closable.ensures.yes c.if-not-is_closable.false) may c.step_shut-word.ensures c.in-Some.holds
     (sym c.alive_holds.ensures ∙ c.in-Some.is) c.if-holds-gt0.true
 
+pub of-requires : goal.of-requires
+of-requires c = shut_of c.args.pool.now c.step_shut-word.ensures c.requires.outside.of
+
 pub returns : goal.returns
 returns c =
     let may = subst (λ (x : Caller). MayUse c.args.a x) c.caller-caller.ensures.caller (c.may_use.ensures.yes c.if-not-may_use.false) in
     let none : c.in-Some.holds ≡ 0 = (let l = c.if-holds-gt0.false in omega arith) in
-    after_fine _ c.requires (c.is_closable.ensures.yes c.if-not-is_closable.false) may c.step_shut-word.ensures (sym c.alive_holds.ensures
-    ∙ (c.in-Some.is ∙ ap (λ n. Some n) none))
+    rw c.of.ensures.same (after_fine _ c.requires (c.is_closable.ensures.yes c.if-not-is_closable.false) may c.step_shut-word.ensures c.of.result
+    c.of.ensures.maker (sym c.alive_holds.ensures ∙ (c.in-Some.is ∙ ap (λ n. Some n) none)))

@@ -1,6 +1,7 @@
 use Rattle.std.proofs.Common.{◌∙◌, sym, subst, refl}
 use Rattle.fm_base.specs.declared.caller.Caller.{Caller}
 use Rattle.fm_base.specs.Arenas.{MayUse}
+use Rattle.fm_gate.proofs.Standing.{of_on}
 use Rattle.fm_gate.proofs.Holds.{after_closed, after_most, after_taken}
 use Rattle.fm_gate.proofs.holding.hold.Goals as goal
 
@@ -14,8 +15,11 @@ returns-then-holds-eq-MOST_HOLDS g c =
     let may = subst (λ (x : Caller). MayUse c.args.a x) c.caller-caller.ensures.caller (c.may_use.ensures.yes c.if-not-may_use.false) in
     after_most c.requires c.in_default.not-Automatic may c.take-word.ensures _ (sym c.alive_holds.ensures ∙ c.in-Some.is) c.if-holds-eq-MOST_HOLDS.true
 
+pub of-requires : goal.of-requires
+of-requires g c = of_on c.args.pool.now c.take-word.ensures.goes c.requires.outside.of
+
 pub returns-else-holds-eq-MOST_HOLDS : goal.returns-else-holds-eq-MOST_HOLDS
 returns-else-holds-eq-MOST_HOLDS g c =
     let may = subst (λ (x : Caller). MayUse c.args.a x) c.caller-caller.ensures.caller (c.may_use.ensures.yes c.if-not-may_use.false) in
-    after_taken c.requires c.in_default.not-Automatic may c.take-word.ensures _ _ (sym c.alive_holds.ensures ∙ c.in-Some.is)
-    c.if-holds-eq-MOST_HOLDS.false refl
+    rw c.of.ensures.same (after_taken c.requires c.in_default.not-Automatic may c.take-word.ensures _
+    (record { arena = c.args.a; maker = c.of.result }) (sym c.alive_holds.ensures ∙ c.in-Some.is) c.if-holds-eq-MOST_HOLDS.false refl c.of.ensures.maker)

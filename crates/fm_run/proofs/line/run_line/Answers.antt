@@ -19,4 +19,5 @@ returns-in-Ok g c =
       kept = tt;
       same = tt;
       memory = tt;
+      takes = tt;
     }

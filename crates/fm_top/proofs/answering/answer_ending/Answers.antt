@@ -2,7 +2,7 @@ use Rattle.std.proofs.Common.{Some}
 use Rattle.fm_load.specs.Limits.{record_file_limit}
 use Rattle.fm_top.specs.Outcome.{RecordsEnd, no_file, too_many}
 use Rattle.fm_top.specs.Queries.{IsAnswered}
-use Rattle.fm_top.proofs.Unloaded.{unloaded_ends}
+use Rattle.fm_top.proofs.Unloaded.{unloaded_ends, unloaded_tells}
 use Rattle.fm_top.proofs.answering.answer_ending.Goals as goal
 
 pub returns-in_ok-bytes_ending-in-Ok-clause-outcome : goal.returns-in_ok-bytes_ending-in-Ok-clause-outcome
@@ -16,3 +16,8 @@ returns-in-Err-clause-outcome g c =
     (λ found o. RecordsEnd plan.size ask.file.now (IsAnswered ask.question plan) found o)
     no_file (λ bytes long. too_many bytes long)
     c.in-Err.is c.read_whole.ensures.absent c.read_whole.ensures.too_long c.unloaded_ending.ensures.ending
+
+pub returns-in-Err-clause-missed : goal.returns-in-Err-clause-missed
+returns-in-Err-clause-missed g c =
+    unloaded_tells c.args.ask.now.file.now c.unloaded_ending.result c.in-Err.is c.read_whole.ensures.missing c.read_whole.ensures.found
+    c.unloaded_ending.ensures.ending c.unloaded_ending.ensures.told

@@ -28,8 +28,8 @@ returns-in-Query g c =
     (λ ending is. even bytes (shown ending) c.requires.short (sym same ∙ c.if-rest-ne0.false)
     (subst (λ (q : Question). IsAnswered q plan bytes (shown ending)) (sym c.in-Query.is) is)) c.query_ending.ensures
 
-pub returns-in-Tally : goal.returns-in-Tally
-returns-in-Tally g c =
+pub returns : goal.returns
+returns g c =
     let plan = c.args.plan in
     let bytes = c.args.bytes.items in
     let is_len : c.len.result ≡ length bytes = omega (arith, c.len.ensures, c.args.bytes.ok.0) in

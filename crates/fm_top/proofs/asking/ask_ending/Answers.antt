@@ -7,7 +7,7 @@ use Rattle.fm_top.specs.Queries.{AskEnds, no_layout, long_layout}
 use Rattle.fm_top.specs.Words.{Ask}
 use Rattle.fm_top.proofs.Outcomes.{ask-whole, some_end}
 use Rattle.fm_top.proofs.ReadFor.{ask_both, first_reads}
-use Rattle.fm_top.proofs.Unloaded.{unloaded_ends}
+use Rattle.fm_top.proofs.Unloaded.{unloaded_ends, unloaded_tells}
 use Rattle.fm_top.proofs.asking.ask_ending.Goals as goal
 
 pub returns-in-Ok-clause-outcome : goal.returns-in-Ok-clause-outcome
@@ -37,3 +37,8 @@ pub returns-in-Err-clause-reads : goal.returns-in-Err-clause-reads
 returns-in-Err-clause-reads g c =
     let ask = c.args.ask.now in
     first_reads (Ask ask.question ask.threads ask.layout.now ask.text.now ask.file.now) (g.F.Files.holds c.args.files.now) refl c.read_whole.ensures.reads
+
+pub returns-in-Err-clause-missed : goal.returns-in-Err-clause-missed
+returns-in-Err-clause-missed g c =
+    unloaded_tells c.args.ask.now.layout.now c.unloaded_ending.result c.in-Err.is c.read_whole.ensures.missing c.read_whole.ensures.found
+    c.unloaded_ending.ensures.ending c.unloaded_ending.ensures.told

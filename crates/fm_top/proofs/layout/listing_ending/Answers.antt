@@ -3,7 +3,7 @@ use Rattle.std.proofs.lemmas.Result.{IfOk-weaker}
 use Rattle.fm_top.specs.Ending.{shown}
 use Rattle.fm_top.specs.Outcome.{layout_of_file, layout_outcome, layout_file_limit}
 use Rattle.fm_top.proofs.Outcomes.{layout-whole, long_layout_ends}
-use Rattle.fm_top.proofs.Unloaded.{unloaded_ends}
+use Rattle.fm_top.proofs.Unloaded.{unloaded_ends, unloaded_tells}
 use Rattle.fm_top.proofs.layout.listing_ending.Goals as goal
 
 pub returns-in-Ok-clause-outcome : goal.returns-in-Ok-clause-outcome
@@ -18,3 +18,8 @@ returns-in-Err-clause-outcome g c =
     (λ found o. o ≡ layout_outcome c.args.file.now found)
     refl (λ bytes long. sym (long_layout_ends bytes long))
     c.in-Err.is c.read_whole.ensures.absent c.read_whole.ensures.too_long c.unloaded_ending.ensures.ending
+
+pub returns-in-Err-clause-missed : goal.returns-in-Err-clause-missed
+returns-in-Err-clause-missed g c =
+    unloaded_tells c.args.file.now c.unloaded_ending.result c.in-Err.is c.read_whole.ensures.missing c.read_whole.ensures.found
+    c.unloaded_ending.ensures.ending c.unloaded_ending.ensures.told

@@ -1,4 +1,4 @@
-use Rattle.std.proofs.Common.{sym, ap, ◌∙◌}
+use Rattle.std.proofs.Common.{sym, ap, ◌∙◌, inl, inr}
 use Rattle.fm_top.specs.Run.{code_of}
 use Rattle.fm_top.proofs.Comes.{comes_of}
 use Rattle.fm_top.proofs.Complete.{complete}
@@ -15,6 +15,10 @@ returns-clause-read_well g c = λ other. c.run_words.ensures.read_well (λ is. o
 
 pub returns-clause-written_well : goal.returns-clause-written_well
 returns-clause-written_well g c = λ other. c.run_words.ensures.written_well (λ is. other (c.code.ensures ∙ ap code_of is))
+
+pub returns-clause-missed_well : goal.returns-clause-missed_well
+returns-clause-missed_well g c =
+    elim c.run_words.ensures.missed_well [ inl same ↦ inl same | inr tells ↦ inr (c.run_words.result, c.code.ensures, tells) ]
 
 pub returns-clause-faulty : goal.returns-clause-faulty
 returns-clause-faulty g c = faulty_ends c.run_words.ensures.runs c.code.ensures

@@ -1,7 +1,7 @@
 use Rattle.std.proofs.Common.{Some}
 use Rattle.fm_load.specs.Limits.{record_file_limit}
 use Rattle.fm_top.specs.Outcome.{RecordsEnd, IsSummed, no_file, too_many}
-use Rattle.fm_top.proofs.Unloaded.{unloaded_ends}
+use Rattle.fm_top.proofs.Unloaded.{unloaded_ends, unloaded_tells}
 use Rattle.fm_top.proofs.sum.sum_ending.Goals as goal
 
 pub returns-in_ok-loaded_ending-in-Ok-clause-outcome : goal.returns-in_ok-loaded_ending-in-Ok-clause-outcome
@@ -15,3 +15,8 @@ returns-in-Err-clause-outcome g c =
     (λ found o. RecordsEnd sum.size sum.file.now (IsSummed sum.size sum.at sum.kind) found o)
     no_file (λ bytes long. too_many bytes long)
     c.in-Err.is c.load.ensures.absent c.load.ensures.too_long c.unloaded_ending.ensures.ending
+
+pub returns-in-Err-clause-missed : goal.returns-in-Err-clause-missed
+returns-in-Err-clause-missed g c =
+    unloaded_tells c.args.sum.now.file.now c.unloaded_ending.result c.in-Err.is c.load.ensures.missing c.load.ensures.found
+    c.unloaded_ending.ensures.ending c.unloaded_ending.ensures.told

@@ -1,16 +1,24 @@
-use Rattle.std.proofs.Common.{◌≡◌, ℕ, zero, suc, ◌<◌, ◌^◌, refl, arith}
+use Rattle.std.proofs.Common.{◌≡◌, ℕ, zero, suc, ◌<◌, ◌≤◌, ◌^◌, refl, arith}
 use lib.Count.{count_trailing_zeros}
 use Rattle.std.specs.Int.{bit_at, w64}
-use Rattle.std.proofs.lemmas.Nat.Bits.{bit_at-trailing_zeros}
+use Rattle.std.proofs.lemmas.Nat.Bits.{bit_at-trailing_zeros, bit_at-zero}
+use Rattle.fm_words.specs.Bits.{IsLowest}
 use Rattle.fm_words.proofs.bits.lowest_bit.Goals as goal
 
 -- a number that has all bits 0 is 0
-lowest : (n : ℕ) → n < 2 ^ 64 → count_trailing_zeros 64 n < 64 → bit_at n (count_trailing_zeros 64 n) ≡ 1
+lowest : (n count : ℕ) → n < 2 ^ 64 → count ≤ 64 → count_trailing_zeros 64 n < count → IsLowest n count (count_trailing_zeros 64 n)
 unfolding count_trailing_zeros
-lowest zero f l = absurd (let q : count_trailing_zeros 64 0 ≡ 64 = refl in omega arith)
-lowest (suc n) f l = (bit_at-trailing_zeros w64 (suc n) (omega arith) f).1
+lowest zero count f c l = absurd (let q : count_trailing_zeros 64 0 ≡ 64 = refl in omega arith)
+lowest (suc n) count f c l =
+    let b = bit_at-trailing_zeros w64 (suc n) (omega arith) f in record { low = l; one = b.1; least = b.2 }
 
-pub returns-then-bit-count : goal.returns-then-bit-count
-returns-then-bit-count c =
-    let low = c.if-bit-count.true in
-    (low, lowest c.args.word c.ranges.word.fits (let r = c.requires in omega arith))
+-- the bits below the lowest that is 1 are 0
+none_below : (n count : ℕ) → n < 2 ^ 64 → count ≤ count_trailing_zeros 64 n → (k : ℕ) → k < count → bit_at n k ≡ 0
+none_below zero count f c k l = bit_at-zero k
+none_below (suc n) count f c k l = (bit_at-trailing_zeros w64 (suc n) (omega arith) f).2 k (omega arith)
+
+pub returns-then-bit-count-clause-some : goal.returns-then-bit-count-clause-some
+returns-then-bit-count-clause-some c = lowest c.args.word c.args.count c.ranges.word.fits c.requires c.if-bit-count.true
+
+pub returns-else-bit-count-clause-none : goal.returns-else-bit-count-clause-none
+returns-else-bit-count-clause-none c = none_below c.args.word c.args.count c.ranges.word.fits (let n = c.if-bit-count.false in omega arith)

@@ -22,4 +22,4 @@ returns-clause-did g c =
     let v = g.M.Memory.view in
     one_added (v c.args.m.now) (v c.enter.new.self) (v c.add.new.self) (v c.leave.new.self) c.args.shared.now c.args.place c.args.n c.add.result
     c.arena.result _ c.in-Ok.field-0 c.arena.ensures (ap (λ n. n / 8 + c.args.place) c.first.ensures.first) c.in-Ok.ensures.did c.add.ensures.did
-    c.leave.ensures.did
+    c.leave.ensures.did c.if-n-eq0.false

@@ -16,7 +16,7 @@ loop-task-init g c =
       outside = c.requires.outside;
       parts = subst (λ (ws : List W). ts ≡ ts ++ tasks_of ws) (sym c.requires.empty) (sym (append-nil ts));
       room = search rules;
-      back = search rules;
+      count = search rules;
     }
 
 pub loop-task-preserved : goal.loop-task-preserved
@@ -30,7 +30,7 @@ loop-task-preserved g c =
       parts = tasks_moved c.args.tasks.now.items c.loop-task.tasks.items c.pop.new.self.items c.in-Some.task c.loop-task.crew.items
           c.push_reserved.new.self.items w i.parts c.in-Some.ensures.items c.push_reserved.ensures.items refl;
       room = search rules;
-      back = search rules;
+      count = search rules;
     }
 
 pub returns-in-Err-clause-drew : goal.returns-in-Err-clause-drew

@@ -9,7 +9,7 @@ invariant-loop-task g l = record {
   outside : IsOutside l.pool l.pass;
   parts : l.fn.tasks.items ≡ l.tasks.items ++ tasks_of l.crew.items;
   room : vec_len l.crew + vec_len l.tasks ≤ vec_capacity l.crew;
-  back : vec_len l.tasks + vec_len l.crew ≤ vec_capacity l.tasks;
+  count : vec_len l.tasks + vec_len l.crew ≡ vec_len l.fn.tasks;
 }
 
 abbrev pub decreases-loop-task : goal.decreases-loop-task

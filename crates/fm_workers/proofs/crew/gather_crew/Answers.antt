@@ -1,4 +1,4 @@
-use Rattle.std.proofs.Common.{rules, ◌++◌, List, [], ◌∷◌, sym, ap, ◌∙◌, subst, append_assoc}
+use Rattle.std.proofs.Common.{rules, refl, ◌++◌, List, [], ◌∷◌, sym, ap, ◌∙◌, subst, append_assoc}
 use Rattle.std.proofs.lemmas.List.{append-nil}
 use Rattle.fm_pool_facts.specs.Views.{View}
 use Rattle.fm_rule.specs.Draws.{Gathers}
@@ -14,7 +14,8 @@ loop-worker-init g c = record {
   gathered = gathered_none c.args.pass.now;
   outside = c.requires.outside;
   tasks = sym (append-nil c.args.tasks.now.items);
-  room = c.requires.room;
+  count = refl;
+  same_room = refl;
 }
 
 pub into_pass-requires : goal.into_pass-requires
@@ -47,5 +48,6 @@ loop-worker-preserved g c =
       outside = outside_gathered i.outside k;
       tasks = c.push_reserved.ensures.items ∙ (ap (λ (ts : List g.row.T.Denot). ts ++ w.task ∷ []) i.tasks
           ∙ append_assoc c.args.tasks.now.items (tasks_of i.done) (w.task ∷ []));
-      room = search rules;
+      count = search rules;
+      same_room = search rules;
     }

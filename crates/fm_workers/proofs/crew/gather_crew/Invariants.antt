@@ -1,4 +1,4 @@
-use Rattle.std.proofs.Common.{◌≡◌, ◌+◌, ◌≤◌, ◌++◌, List, vec_len, vec_capacity}
+use Rattle.std.proofs.Common.{◌≡◌, ◌+◌, ◌++◌, List, vec_len, vec_capacity}
 use Rattle.fm_gate.specs.Standing.{IsOutside}
 use Rattle.fm_workers.specs.declared.worker.Worker.{Worker}
 use Rattle.fm_workers.specs.Rounds.{GatheredCrew, tasks_of}
@@ -11,7 +11,8 @@ invariant-loop-worker g l = record {
   gathered : GatheredCrew l.fn.pass l.pass done;
   outside : IsOutside l.pool l.pass;
   tasks : l.tasks.items ≡ l.fn.tasks.items ++ tasks_of done;
-  room : vec_len l.tasks + vec_len l.crew ≤ vec_capacity l.tasks;
+  count : vec_len l.tasks + vec_len l.crew ≡ vec_len l.fn.tasks + vec_len l.fn.crew;
+  same_room : vec_capacity l.tasks ≡ vec_capacity l.fn.tasks;
 }
 
 abbrev pub decreases-loop-worker : goal.decreases-loop-worker

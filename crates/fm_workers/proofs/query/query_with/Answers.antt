@@ -55,8 +55,8 @@ returns-in-Ok-work_crew-clause-queried g c =
     c.if-rest-ne0.false c.arena.ensures (c.is_confined.ensures.no c.if-is_confined.false) in
     let runs = runs_same c.args.q.now c.args.s.now 0 (c.args.s.now.size / c.args.q.now.size) w.crew.more (callers w.crew.crew) c.in-Ok.parts.items
     c.work_crew.new.tasks.items (worked_by_callers (Answers c.args.q.now) w) c.in-Ok.ensures.cut in
-    queried w c.record_size.ensures.plan c.in-Ok.ensures.cut c.in-Ok.ensures.count shared c.requires.known c.join_parts.result c.join_parts.ensures.comes
-    c.join_parts.ensures.few runs
+    queried w c.record_size.ensures.plan c.in-Ok.ensures.cut c.in-Ok.ensures.level c.in-Ok.ensures.count shared c.requires.known c.join_parts.result
+    c.join_parts.ensures.comes c.join_parts.ensures.few runs
 
 pub returns-in-Err-work_crew-clause-queried : goal.returns-in-Err-work_crew-clause-queried
 returns-in-Err-work_crew-clause-queried g c =

@@ -1,5 +1,5 @@
 use Rattle.fm_arena.proofs.Calls.{allocates}
 use Rattle.fm_arena.proofs.shared.SharedMemory.allocate.Goals as goal
 
-pub returns : goal.returns
-returns g c = let can = rw (← c.self.view_is) at c.requires in rw (← c.self.view_is) (allocates can c.allocate.ensures)
+pub returns-clause-allocates : goal.returns-clause-allocates
+returns-clause-allocates g c = let can = rw (← c.self.view_is) at c.requires in rw (← c.self.view_is) (allocates can c.allocate.ensures)

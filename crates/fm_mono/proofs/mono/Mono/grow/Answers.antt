@@ -1,4 +1,5 @@
 use Rattle.std.proofs.Common.{arith, ◌∙◌, ap, ◌≡◌, ◌+◌, ◌-◌, ◌≤◌, ◌<◌, ◌++◌, refl, replicate, take, length, vec_len}
+use Rattle.std.specs.Prelude.{vec_capacity}
 use Rattle.std.proofs.lemmas.Result.{err_from_is_err_and}
 use Rattle.fm_base.specs.Arenas.{State, changed}
 use Rattle.fm_base.specs.Calls.{Given}
@@ -7,7 +8,7 @@ use Rattle.fm_base.proofs.Growing.{power_pos}
 use Rattle.fm_mono.specs.Shown.{shown_all}
 use Rattle.fm_mono.proofs.Inside.{entered_of, inside_of-set}
 use Rattle.fm_mono.proofs.Steps.{IsPlaced, placed}
-use Rattle.fm_mono.proofs.Allotting.{IsRead, is_read, no_room, gives_place, grows, unchanged, same_shown, allotted_shown, is_grown}
+use Rattle.fm_mono.proofs.Allotting.{IsRead, is_read, no_room, gives_place, grows, unchanged, same_shown, allotted_shown, wants_words, is_grown}
 use Rattle.fm_mono.proofs.mono.Mono.grow.Goals as goal
 use Rattle.fm_mono.proofs.mono.Mono.grow.Goals.{After-struct_known-1, After-index_mut-arena}
 
@@ -25,10 +26,10 @@ here c =
 pub index_mut-arena-requires : goal.index_mut-arena-requires
 index_mut-arena-requires c = omega (arith, (found c).in_range, c.self.inside.arenas.ok.0)
 
-pub returns-then-end-from : goal.returns-then-end-from
-returns-then-end-from c =
+pub returns-then-end-from-clause-got : goal.returns-then-end-from-clause-got
+returns-then-end-from-clause-got c =
     let f = c.self.inside in
-    let h = here (goal.at.returns-then-end-from c).After-index_mut-arena in
+    let h = here (goal.at.returns-then-end-from-clause-got c).After-index_mut-arena in
     let o = c.index_mut-arena.result.now in
     let past : f.limit < rounded_up o.given c.args.align + c.args.size =
     omega (arith, c.if-end-from.true, c.from-2.ensures, c.from.ensures, c.rounded-place.ensures) in
@@ -49,11 +50,11 @@ invariant_of-self-in_err-resize c =
       place = c.self.invariant.place;
     })
 
-pub returns-in_err-resize : goal.returns-in_err-resize
-returns-in_err-resize c =
+pub returns-in_err-resize-clause-got : goal.returns-in_err-resize-clause-got
+returns-in_err-resize-clause-got c =
     let p = err_from_is_err_and c.from_residual.result c.from_residual.ensures.1 in
     let f = c.self.inside in
-    let h = here (goal.at.returns-in_err-resize c).After-index_mut-arena in
+    let h = here (goal.at.returns-in_err-resize-clause-got c).After-index_mut-arena in
     let o = c.index_mut-arena.result.now in
     let e = same_shown f.limit (entered_of f) f.arenas.items c.args.a o c.self.invariant.arenas h (record o { words = c.resize.new.self }) refl refl refl
     c.in_err-resize.ensures.items in
@@ -87,10 +88,10 @@ invariant_of-self-2 c =
       place = c.self.invariant.place;
     })
 
-pub returns : goal.returns
-returns c =
+pub returns-clause-got : goal.returns-clause-got
+returns-clause-got c =
     let f = c.self.inside in
-    let h = here (goal.at.returns c).After-index_mut-arena in
+    let h = here (goal.at.returns-clause-got c).After-index_mut-arena in
     let o = c.index_mut-arena.result.now in
     let end = c.rounded-place.result + c.from.result in
     let fits : end ≤ f.limit = omega (arith, c.if-end-from.false, c.from-2.ensures) in
@@ -116,3 +117,16 @@ returns c =
       ap (λ (s : State). record { limit = f.limit; state = s; inside = entered_of f }) (e.0
           ∙ ap (λ k. changed (shown_all f.limit (entered_of f) f.arenas.items) c.args.a (given_up_to k)) same),
     )
+
+pub returns-in_err-resize-clause-wants : goal.returns-in_err-resize-clause-wants
+returns-in_err-resize-clause-wants c = λ memory.
+    let f = c.self.inside in
+    let h = here (goal.at.returns-in_err-resize-clause-wants c).After-index_mut-arena in
+    let o = c.index_mut-arena.result.now in
+    let most : length o.words.items ≤ vec_capacity o.words = omega (arith, o.words.ok.0, o.words.ok.1) in
+    let more : vec_capacity o.words < words_within (rounded_up o.given c.args.align + c.args.size) =
+    omega (arith, c.in_err-resize.ensures.full, c.from.ensures, c.rounded-place.ensures) in
+    let room : rounded_up o.given c.args.align + c.args.size ≤ f.limit =
+    omega (arith, c.if-end-from.false, c.from-2.ensures, c.from.ensures, c.rounded-place.ensures) in
+    rw (← c.self.view_is) (wants_words f.limit (entered_of f) f.arenas.items c.args.a o c.self.invariant.arenas h c.args.size c.args.align
+    (vec_capacity o.words) most more room)

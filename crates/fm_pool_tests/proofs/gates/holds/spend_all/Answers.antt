@@ -5,4 +5,4 @@ pub unhold-requires : goal.unhold-requires
 unhold-requires c = can_spend c.pop.new.self.items c.loop-one.invariant c.in-Some.ensures.items
 
 pub loop-one-preserved : goal.loop-one-preserved
-loop-one-preserved c = spent c.loop-one.invariant c.in-Some.ensures.items c.unhold.ensures
+loop-one-preserved c = spent _ c.loop-one.invariant c.in-Some.ensures.items c.unhold.ensures

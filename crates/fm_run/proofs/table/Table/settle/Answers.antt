@@ -5,7 +5,7 @@ use Rattle.fm_run.specs.declared.standing.Standing.{Standing}
 use Rattle.fm_run.specs.Standings.{IsSpent, lent, standing_as}
 use Rattle.fm_run.specs.Tokens.{Backs}
 use Rattle.fm_run.proofs.Ending.{all_popped, backs_gone, backs_popped, can_spend, others_popped, turned}
-use Rattle.fm_run.proofs.Going.{went_on_none, went_on_then}
+use Rattle.fm_run.proofs.Going.{went_made, went_on_none, went_on_then}
 use Rattle.fm_run.proofs.table.Table.settle.Goals as goal
 
 pub loop-standing-init : goal.loop-standing-init
@@ -43,10 +43,12 @@ loop-standing-preserved g c =
         other_holds = r.other_holds;
         other_handles = r.other_handles;
         backs = backs_popped m next base rest s
-            (subst (λ (xs : List Standing). Backs m r.other_holds r.other_handles base xs) c.in-Some.ensures.items r.backs) e.went.lasts e.holds e.handles;
+            (subst (λ (xs : List Standing). Backs m r.other_holds r.other_handles base xs) c.in-Some.ensures.items r.backs) e.went.lasts
+            (went_made e.went.went) e.holds e.handles;
       };
       left = λ holds handles b. backs_popped m next base rest s
-          (subst (λ (xs : List Standing). Backs m holds handles base xs) c.in-Some.ensures.items (i.left holds handles b)) e.went.lasts e.holds e.handles;
+          (subst (λ (xs : List Standing). Backs m holds handles base xs) c.in-Some.ensures.items (i.left holds handles b)) e.went.lasts
+          (went_made e.went.went) e.holds e.handles;
       spent = λ all.
           let so_far = i.spent all in
           let parts = all_popped IsSpent rest s (subst (λ (xs : List Standing). All IsSpent xs) c.in-Some.ensures.items so_far.1) in

@@ -1,0 +1,194 @@
+//! Two threads that change one word at once. A word never comes back to what it was while they do, so who tries a stale
+//! word again never ends. Handles of an automatic arena are one pass's alone, so nobody races for their word.
+ghost use Rattle.std.specs.Prelude.{◌≤◌};
+ghost use Rattle.fm_pool_facts.specs.Views.{IsKnown, given_of};
+ghost use Rattle.fm_gate.specs.Standing.{CanVisit, IsInside, IsOutside};
+
+use crate::pools::{drawn, given, pool_of, word_of};
+use fm_base::{ArenaId, Kind, Refusal};
+use fm_gate::{a_crew_stands, allocate, enter, leave, open_arena, patch};
+use fm_rule::{Pass, Pool};
+use std::alloc::AllocGlobal;
+use std::process::Abort;
+use std::sync::Wait;
+use std::sync::atomic::{AtomicBool, Ordering};
+use std::thread::{Threads, join_mut};
+
+/// How often each thread changes the word.
+const TIMES: u64 = 30_000;
+
+/// How often a thread looks whether the other came, before it goes on without it.
+const TURNS: u32 = 1_000_000_000;
+
+/// Waits until the other thread came.
+fn meet(mine: &AtomicBool, other: &AtomicBool) {
+    mine.store(true, Ordering::SeqCst);
+    for _ in 0..TURNS {
+        if other.load(Ordering::SeqCst) {
+            return;
+        }
+    }
+}
+
+/// Gives a byte so often, or until it is refused, and answers how often it did.
+fn give_often<R: Wait>(rt: &R, pool: &Pool, pass: &mut Pass, a: ArenaId) -> u64
+    requires { CanVisit pool.now pass.old a }
+    ensures { CanVisit pool.now pass.new a }
+{
+    for given in 0..TIMES {
+        if allocate(rt, pool, pass, a, 1, 1).is_err() {
+            return given;
+        }
+    }
+    TIMES
+}
+
+#[test]
+fn two_passes_allocate_at_once(rt: HostRuntime) {
+    let (pool, mut pass) = pool_of(&rt, 2, 1, 8_192, 1);
+    let a = open_arena(&rt, &pool, &mut pass, Kind::Shared).expect(&rt, "a slot");
+    let mut other = drawn(&rt, &pool, &mut pass);
+    let both = join_mut(
+        &rt,
+        &mut || give_often(&rt, &pool, &mut pass, a),
+        &mut || give_often(&rt, &pool, &mut other, a),
+    );
+    assert_eq!(rt; both, (TIMES, TIMES));
+    assert_eq!(rt; allocate(&rt, &pool, &mut pass, a, 0, 1), Ok(2 * TIMES));
+}
+
+/// Puts so many numbers into the word, the first of them `first`, none twice.
+fn put_numbers<R: Wait>(rt: &R, pool: &Pool, pass: &mut Pass, a: ArenaId, first: u64)
+    requires inside { IsInside pool.now pass.old a }
+    requires given { 8 ≤ given_of pass.old a }
+    requires known { IsKnown pass.old a }
+    requires low { first ≤ TIMES }
+    ensures inside { IsInside pool.now pass.new a }
+    ensures given { 8 ≤ given_of pass.new a }
+    ensures known { IsKnown pass.new a }
+{
+    for number in 0..TIMES {
+        patch(rt, pool, pass, 0, u64::MAX, first + number);
+    }
+}
+
+/// The same in a visit of its own.
+fn put_often<R: Wait>(
+    rt: &R,
+    pool: &Pool,
+    pass: &mut Pass,
+    a: ArenaId,
+    first: u64,
+) -> Result<(), Refusal>
+    requires visit { CanVisit pool.now pass.old a }
+    requires given { 8 ≤ given_of pass.old a }
+    requires low { first ≤ TIMES }
+    ensures visit { CanVisit pool.now pass.new a }
+    ensures given { 8 ≤ given_of pass.new a }
+{
+    enter(pool, pass, a)?;
+    put_numbers(rt, pool, pass, a, first);
+    leave(pool, pass);
+    Ok(())
+}
+
+#[test]
+fn two_passes_patch_a_word_at_once(rt: HostRuntime) {
+    let (pool, mut pass) = pool_of(&rt, 2, 1, 1, 1);
+    let a = given(&rt, &pool, &mut pass, Kind::Shared, 8);
+    let mut other = drawn(&rt, &pool, &mut pass);
+    let both = join_mut(
+        &rt,
+        &mut || put_often(&rt, &pool, &mut pass, a, 0),
+        &mut || put_often(&rt, &pool, &mut other, a, TIMES),
+    );
+    assert_eq!(rt; both, (Ok(()), Ok(())));
+    let last = word_of(&pool, &mut pass, a, 0);
+    assert!(rt; last == Ok(TIMES - 1) || last == Ok(2 * TIMES - 1));
+}
+
+/// Draws 2,000 passes once the other came, and answers how many it drew.
+fn draw_often<R: Wait>(
+    rt: &R,
+    pool: &Pool,
+    pass: &mut Pass,
+    mine: &AtomicBool,
+    other: &AtomicBool,
+) -> u32
+    requires { IsOutside pool.now pass.old }
+    ensures { IsOutside pool.now pass.new }
+{
+    meet(mine, other);
+    for drawn in 0..2_000 {
+        if !draws(rt, pool, pass) {
+            return drawn;
+        }
+    }
+    2_000
+}
+
+/// Whether a pass could be drawn.
+fn draws<R: Wait>(rt: &R, pool: &Pool, pass: &mut Pass) -> bool
+    requires { IsOutside pool.now pass.old }
+    ensures { IsOutside pool.now pass.new }
+{
+    a_crew_stands();
+    match pool.draw(rt, pass) {
+        Ok(_) => true,
+        Err(_) => false,
+    }
+}
+
+#[test]
+fn two_passes_draw_at_once(rt: HostRuntime) {
+    let (pool, mut pass) = pool_of(&rt, 4_096, 1, 1, 1);
+    let mut other = drawn(&rt, &pool, &mut pass);
+    let first = AtomicBool::new(false);
+    let second = AtomicBool::new(false);
+    let both = join_mut(
+        &rt,
+        &mut || draw_often(&rt, &pool, &mut pass, &first, &second),
+        &mut || draw_often(&rt, &pool, &mut other, &second, &first),
+    );
+    assert_eq!(rt; both, (2_000, 2_000));
+}
+
+/// Opens 30 arenas once the other came, and answers how many it opened.
+fn open_often<R: Wait>(
+    rt: &R,
+    pool: &Pool,
+    pass: &mut Pass,
+    mine: &AtomicBool,
+    other: &AtomicBool,
+) -> u32
+    requires { IsOutside pool.now pass.old }
+    ensures { IsOutside pool.now pass.new }
+{
+    meet(mine, other);
+    for opened in 0..30 {
+        if open_arena(rt, pool, pass, Kind::Shared).is_err() {
+            return opened;
+        }
+    }
+    30
+}
+
+/// How many arenas each of two passes of one pool opens at once; there are slots for all of them.
+fn opened_at_once<R: Abort + AllocGlobal + Threads + Wait + Sync>(rt: &R) -> (u32, u32) {
+    let (pool, mut pass) = pool_of(rt, 2, 64, 1, 1);
+    let mut other = drawn(rt, &pool, &mut pass);
+    let first = AtomicBool::new(false);
+    let second = AtomicBool::new(false);
+    join_mut(
+        rt,
+        &mut || open_often(rt, &pool, &mut pass, &first, &second),
+        &mut || open_often(rt, &pool, &mut other, &second, &first),
+    )
+}
+
+#[test]
+fn two_passes_open_arenas_at_once(rt: HostRuntime) {
+    for _ in 0..200 {
+        assert_eq!(rt; opened_at_once(&rt), (30, 30));
+    }
+}
