@@ -1,5 +1,5 @@
 -- The bytes of an arena stand in the words of its slot.
-use Rattle.std.proofs.Common.{◌≡◌, ◌≢◌, Some, None, ℕ, ◌+◌, ◌*◌, ◌/◌, ◌%◌, ◌<◌, ◌≤◌, List, [], ◌∷◌, ◌++◌, length, take, get_or, sym, ap, ◌∙◌, subst, arith, mul_assoc}
+use Rattle.std.proofs.Common.{◌≡◌, ◌≢◌, Some, None, ℕ, ◌+◌, ◌*◌, ◌/◌, ◌%◌, ◌<◌, ◌≤◌, List, [], ◌∷◌, ◌++◌, length, take, get_or, sym, ap, ◌∙◌, subst, arith}
 use Rattle.fm_words.specs.Places.{at, map, page_word, words, session, given as given_place}
 use Rattle.fm_pool_steps.proofs.Bearing.{shown_alive, shown_unalive}
 use Rattle.fm_pool_facts.specs.Words.{alive_holds}

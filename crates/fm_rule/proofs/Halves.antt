@@ -1,8 +1,7 @@
 -- A pass and the one that is split off from it, and a pass that another is gathered into.
-use Rattle.std.proofs.Common.{◌≡◌, ℕ, suc, ◌+◌, ◌<◌, Bool, true, false, if◌then◌else◌, List, [], ◌∷◌, ◌++◌, length, sym, refl, ap, ◌∙◌, subst, arith, inl, inr, Option, Some, None}
+use Rattle.std.proofs.Common.{◌≡◌, ℕ, suc, ◌+◌, ◌<◌, Bool, true, false, if◌then◌else◌, List, [], ◌∷◌, ◌++◌, length, sym, refl, ap, ◌∙◌, subst, arith, inl, inr, Option, Some, None, ⊎_elim}
 use Rattle.std.proofs.lemmas.List.{append-nil, length-append}
 use Rattle.std.proofs.lemmas.List.Elements.{filter-append}
-use Rattle.fm_words.specs.declared.shape.Shape.{Shape}
 use Rattle.fm_base.specs.declared.caller.Caller.{Caller}
 use Rattle.fm_base.specs.declared.arena_id.ArenaId.{ArenaId}
 use Rattle.fm_base.specs.Arenas.{IsUnderWay}

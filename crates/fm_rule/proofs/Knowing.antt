@@ -10,11 +10,10 @@ use Rattle.fm_base.specs.declared.arena_id.ArenaId.{ArenaId}
 use Rattle.fm_base.specs.declared.kind.Kind.TheVariants.{Global, Automatic}
 use Rattle.fm_base.specs.Machine.{IsPower, rounded_up}
 use Rattle.fm_base.specs.Arenas.{MayUse, owner_of}
-use Rattle.fm_base.proofs.Wholeness.{given_within}
 use Rattle.fm_words.specs.Bits.{IsWithout}
 use Rattle.fm_pool_facts.specs.Hands.{Hand, nothing, taken, learnt, retired, HasSlot}
 use Rattle.fm_pool_facts.specs.declared.step.Step.TheVariants.{Draws, Marks, Checks, Loads, Stores, SwapsIf, Adds, Allocates, Holds, Unholds, Backs, Unmarks, Shuts, Visits, TakesSlot, LearnsGeneration, Opens, Claims, Maps, ReadsMap, SweepsMap, Unmaps, Wipes, GivesPage, ReturnsPage, ResetsGiven, Retires, GivesSlot, Looks}
-use Rattle.fm_pool_facts.specs.Views.{View, Fits, In, IsKnown, IsSound, span, given_of, limit_of}
+use Rattle.fm_pool_facts.specs.Views.{View, Fits, In, IsKnown, IsSound, limit_of}
 use Rattle.fm_pool_facts.specs.Words.{alive_word, closing_word, free_word, held_word, mark_of}
 use Rattle.fm_pool_facts.specs.Handles.{back_word}
 use Rattle.fm_pool_facts.specs.Closes.{visited_of}

@@ -11,7 +11,7 @@ use Rattle.fm_base.specs.Histories.{IsLegal}
 use Rattle.fm_pool_facts.specs.Hands.{nothing}
 use Rattle.fm_pool_facts.specs.Rest.{ShowsHistory}
 use Rattle.fm_pool_facts.specs.Loans.{IsRightlyLent}
-use Rattle.fm_pool_facts.specs.Views.{View, IsSound, span, limit_of}
+use Rattle.fm_pool_facts.specs.Views.{View, IsSound, limit_of}
 use Rattle.fm_pool_facts.specs.Facts.{Rule}
 use Rattle.fm_pool_steps.proofs.Plain.{own}
 use Rattle.fm_pool_steps.proofs.Resting.{at_rest}

@@ -8,7 +8,7 @@ use Rattle.fm_base.specs.Histories.{IsLegal}
 use Rattle.fm_pool_facts.specs.Hands.{nothing}
 use Rattle.fm_pool_facts.specs.Loans.{IsRightlyLent}
 use Rattle.fm_pool_facts.specs.Rest.{ShowsHistory}
-use Rattle.fm_pool_facts.specs.Views.{View, span, limit_of}
+use Rattle.fm_pool_facts.specs.Views.{View, limit_of}
 use Rattle.fm_rule.specs.Passes.{IsOf}
 use Rattle.fm_rule.specs.declared.pool.Pool.{Pool}
 

@@ -1,4 +1,4 @@
-use Rattle.std.proofs.Common.{ap, ◌∙◌, arith}
+use Rattle.std.proofs.Common.{ap, ◌∙◌}
 use Rattle.fm_pool_facts.specs.Views.{View}
 use Rattle.fm_pool_facts.specs.Closes.{visited_of}
 use Rattle.fm_rule.specs.Views.{numbers_of}

@@ -1,4 +1,4 @@
-use Rattle.std.proofs.Common.{◌≡◌, ◌<◌, ◌-◌, ◌/◌, ◌%◌, ℕ, ap, sym, ◌∙◌, arith, subst, get_or}
+use Rattle.std.proofs.Common.{◌≡◌, ◌<◌, ◌-◌, ◌/◌, ◌%◌, ℕ, ap, ◌∙◌, arith}
 use Rattle.fm_words.specs.Places.{at, page_word}
 use Rattle.fm_words.specs.Maps.{map_word}
 use Rattle.fm_bytes.specs.Words.{byte_of}

@@ -1,5 +1,5 @@
 use Rattle.std.proofs.Common.{arith}
-use Rattle.fm_rule.proofs.Knowing.{KnownPlace, known_place, place_now}
+use Rattle.fm_rule.proofs.Knowing.{known_place, place_now}
 use Rattle.fm_rule.proofs.pass.Pass.known_place.Goals as goal
 
 pub overflow_add-result : goal.overflow_add-result
