@@ -18,6 +18,7 @@ use Rattle.fm_pool_facts.specs.Words.{alive_holds, hold_found}
 use Rattle.fm_rule.specs.declared.pool.Pool.{Pool}
 use Rattle.fm_calls.specs.Kept.{Goes, Kept, KeptHolding, KeptHandling, Lasts, rest_of}
 use Rattle.fm_calls.specs.Told.{view_of_pass}
+use Rattle.fm_gate.specs.Pages.{FoundNoPage, FullExactly}
 use Rattle.fm_gate.specs.Standing.{IsOutside, IsInside, CanUnhold, HasHandle}
 use Rattle.fm_gate.specs.declared.held.Hold.{Hold}
 
@@ -112,8 +113,11 @@ pub record AfterAllocate (pool : Pool) (old new : View) (id : ArenaId) (size ali
   pub gives : IfOk result (λ place. Gives (view_of_pass old) (view_of_pass new) id size align place)
   -- an arena that the pass has a hold or a handle of is alive
   pub held : In id (grips id old) → result ≢ Err refusal.Closed
-  -- slots have all their words, and no memory is taken
-  pub never : IfErr result (λ r. (r ≢ refusal.PoolFull) × (r ≢ refusal.Memory))
+  -- no memory is taken
+  pub never : IfErr result (λ r. r ≢ refusal.Memory)
+  pub no_page : result ≡ Err refusal.PoolFull → FoundNoPage old new id size align
+  -- a pass that is known to be whole, and has swept what it shut, is refused so exactly where pages are too few
+  pub exact : old.whole ≡ true → old.closes ≡ [] → old.sweeps ≡ [] → FullExactly old id size align result
   -- then the pass is as it was
   pub bad_alignment : result ≡ Err refusal.BadAlignment → new ≡ old
   pub wrong_thread : result ≡ Err WrongThread → new ≡ old

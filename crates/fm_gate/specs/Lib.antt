@@ -1,5 +1,6 @@
 pub mod Makers
 pub mod Standing
+pub mod Pages
 pub mod Learnt
 pub mod Lasting
 pub mod Slots

@@ -1,6 +1,6 @@
 ghost use Rattle.fm_base.specs.Machine.{IsPower};
 ghost use Rattle.fm_pool_facts.specs.Views.{IsSound};
-ghost use Rattle.fm_gate.specs.Standing.{CanVisit, IsInside};
+ghost use Rattle.fm_gate.specs.Standing.{CanAllocate, IsInside};
 ghost use Rattle.fm_gate.specs.Learnt.{AfterAllocate, AfterGive};
 
 use crate::entering::enter;
@@ -13,7 +13,8 @@ use std::sync::Wait;
 /// Gives `size` bytes at the next place that is a multiple of `align`, and answers that place. They were never given
 /// before.
 ///
-/// Refused, in this order: `BadAlignment`, `WrongThread`, `Closed`, `NoRoom`. A refused call gives nothing.
+/// Refused, in this order: `BadAlignment`, `WrongThread`, `Closed`, `NoRoom`, `PoolFull`. A refused call gives nothing; after
+/// `PoolFull` the arena may keep pages, whose words are 0.
 pub fn allocate<R: Wait>(
     rt: &R,
     pool: &Pool,
@@ -22,7 +23,7 @@ pub fn allocate<R: Wait>(
     size: u64,
     align: u64,
 ) -> Result<u64, Refusal>
-    requires { CanVisit pool.now pass.old a }
+    requires { CanAllocate pool.now pass.old a }
     ensures { AfterAllocate pool.now pass.old pass.new a size align result }
 {
     let caller = pass.caller();

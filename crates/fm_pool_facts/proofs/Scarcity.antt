@@ -7,16 +7,7 @@ use Rattle.fm_base.specs.Arenas.{same_id}
 use Rattle.fm_base.proofs.Names.{same_id-self}
 use Rattle.fm_pool_facts.specs.Loans.{Loan, loan_of}
 use Rattle.fm_pool_facts.specs.Views.{is_lent, one_unless, unlent}
-
--- the arena has a block as this part
-abbrev pub has_part : List Loan → ArenaId → ℕ → Bool
-has_part [] a i = false
-has_part (l ∷ ls) a i = if same_id l.id a && (l.part == i) then true else has_part ls a i
-
--- how many of the first parts of the arena have no block
-abbrev pub lacking : ℕ → List Loan → ArenaId → ℕ
-lacking zero loans a = 0
-lacking (suc n) loans a = one_unless (has_part loans a n) + lacking n loans a
+use Rattle.fm_pool_facts.specs.Scarcity.{has_part, lacking}
 
 module _ (p : ℕ) (a : ArenaId) (i : ℕ) (loans : List Loan) where
   abbrev now : List Loan

@@ -3,6 +3,7 @@ pub mod Berths
 pub mod Parts
 pub mod Hands
 pub mod Views
+pub mod Scarcity
 pub mod Words
 pub mod Closes
 pub mod Holds
