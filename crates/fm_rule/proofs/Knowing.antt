@@ -286,9 +286,9 @@ module _ (z : Shape) (id : ℕ) (v : View) (l : v.live ≡ true) (i : ℕ) where
       → MayStep z (SweepsGiven a) id v i (λ n. n)
   may_sweep_given a sh s p = subst (λ (x : ℕ). MayStep z (SweepsGiven a) id v x (λ n. n)) (sym p) (given_steps z id v a 0 l s (omega arith) sh)
 
-  pub may_sweep_map : (a : ArenaId) (k : ℕ) → visited_of v.sweeps a ≡ Some k → k < z.reach → v.swept ≡ unread → i ≡ at z (map a.slot k)
+  pub may_sweep_map : (a : ArenaId) (k : ℕ) → v.shape ≡ z → visited_of v.sweeps a ≡ Some k → k < z.reach → v.swept ≡ unread → i ≡ at z (map a.slot k)
       → MayStep z (SweepsMap a k) id v i (λ n. n)
-  may_sweep_map a k s h u p = subst (λ (x : ℕ). MayStep z (SweepsMap a k) id v x (λ n. n)) (sym p) (look_map_steps z id v a k l s h u)
+  may_sweep_map a k sh s h u p = subst (λ (x : ℕ). MayStep z (SweepsMap a k) id v x (λ n. n)) (sym p) (look_map_steps z id v a k l s sh h u)
 
   pub may_unmap : (a : ArenaId) (k q : ℕ) → visited_of v.sweeps a ≡ Some k → k < z.reach → v.swept ≡ named a k q → i ≡ at z (map a.slot k)
       → MayStore z (Unmaps a k q) id v i 0
