@@ -36,7 +36,7 @@ pub record AfterGive (pool : Pool) (old new : View) (id : ArenaId) (size align :
   pub inside : IsInside pool new id
 
 -- of the count to expect first: if its range is within the limit, the pass has read which page each of its parts has
-pub record CanTry (pool : Pool) (old new : View) (id : ArenaId) (size align count : ℕ) : Type 0 where
+pub record CanTry (old new : View) (size align count : ℕ) : Type 0 where
   pub way : Way old new [] []
   pub parts : rounded_up count align + size ≤ limit_of new.shape → HasParts new count (rounded_up count align + size)
 
@@ -45,6 +45,6 @@ IfRead true P = P
 IfRead false P = ⊤
 
 -- the pass has read, where it answers so, which page each part of the range has
-pub record HasRead (pool : Pool) (old new : View) (id : ArenaId) (from to : ℕ) (done : Bool) : Type 0 where
+pub record HasRead (old new : View) (from to : ℕ) (done : Bool) : Type 0 where
   pub way : Way old new [] []
   pub parts : IfRead done (HasParts new from to)

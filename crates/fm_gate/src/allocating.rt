@@ -87,7 +87,7 @@ fn first_count(pool: &Pool, pass: &mut Pass, a: ArenaId, size: u64, align: u64) 
     requires none { pass.old.pages ≡ [] }
     requires sound { IsSound pass.old }
     requires power { IsPower align }
-    ensures { CanTry pool.now pass.old pass.new a size align result }
+    ensures { CanTry pass.old pass.new size align result }
 {
     let guess = guess_given(pool, pass);
     match room(pool.limit(), guess, size, align) {
@@ -109,7 +109,7 @@ fn has_parts(pool: &Pool, pass: &mut Pass, a: ArenaId, from: u64, to: u64) -> bo
     requires sound { IsSound pass.old }
     requires up { from ≤ to }
     requires within { to ≤ limit_of pool.now.shape }
-    ensures { HasRead pool.now pass.old pass.new a from to result }
+    ensures { HasRead pass.old pass.new from to result }
 {
     let shape = pool.shape();
     let bytes = u64::from(shape.page_words) * 8;
