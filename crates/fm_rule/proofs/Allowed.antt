@@ -141,6 +141,7 @@ sound_homed home v s = record {
   loans = s.loans;
   unlent = s.unlent;
   covered = s.covered;
+  reads = s.reads;
   own_pages = s.own_pages;
   swept_page = s.swept_page;
   few_left = s.few_left;
