@@ -13,6 +13,7 @@ use Rattle.fm_base.specs.Does.{DoesEnter, DoesAct, DoesPatch, DoesOpen, DoesAllo
 use Rattle.fm_base.specs.Outcomes.{Gives}
 use Rattle.fm_base.specs.View.{but_loans}
 use Rattle.fm_pool_facts.specs.Views.{View, In, IsKnown, IsBusy}
+use Rattle.fm_pool_facts.specs.Loans.{lent}
 use Rattle.fm_pool_facts.specs.Holds.{grips, with_grips, holds_after, released}
 use Rattle.fm_pool_facts.specs.Words.{alive_holds, hold_found}
 use Rattle.fm_rule.specs.declared.pool.Pool.{Pool}
@@ -91,21 +92,12 @@ pub record AfterOpen (pool : Pool) (old new : View) (kind : Kind) (result : Resu
   pub handle : kind ≡ Automatic → IfOk result (λ id. HasHandle pool new id)
   pub slot : IfOk result (λ _. old.whole ≡ true → ¬ (AllBusy old))
   pub no_slot : IfErr result (λ refusal. (refusal ≡ NoSlot) × FoundNoSlot old new)
+  -- a pass that is known to be whole leaves the loans as they were: a new arena has no page
+  pub lends : old.whole ≡ true → lent new.seen ≡ lent old.seen
   pub outside : IsOutside pool new
   pub lasts : Lasts old new
 
 -- ---- allocations
-
--- one Allocate in the arena
-abbrev pub DoesGive : Caller → ArenaId → ℕ → ℕ → Result ℕ Refusal → List Entry → Type 0
-DoesGive c id size align (Ok place) own = own ≡ entry_of c (Allocate id size align) (Given place) ∷ []
-DoesGive c id size align (Err (refusal.NoRoom given)) own = own ≡ entry_of c (Allocate id size align) (NoRoom given) ∷ []
-DoesGive c id size align (Err r) own = ⊥
-
--- of the act inside `allocate`
-pub record AfterGive (pool : Pool) (old new : View) (id : ArenaId) (size align : ℕ) (result : Result ℕ Refusal) : Type 0 where
-  pub did : Kept old new (DoesGive old.caller id size align result)
-  pub inside : IsInside pool new id
 
 -- of `allocate`: what it gives was never given before
 pub record AfterAllocate (pool : Pool) (old new : View) (id : ArenaId) (size align : ℕ) (result : Result ℕ Refusal) : Type 0 where
@@ -134,6 +126,7 @@ pub record AfterTake (old new : View) (id : ArenaId) (word : ℕ) : Type 0 where
   pub inside : new.inside ≡ old.inside
   pub mark : new.mark ≡ old.mark
   pub hand : new.hand ≡ old.hand
+  pub swept : new.swept ≡ old.swept
 
 -- a hold is one of the arena
 abbrev pub DoesTake : Caller → ArenaId → Result Hold Refusal → List Entry → Type 0
