@@ -1,5 +1,5 @@
 -- What had ended stays so as a pass goes on, and words that were taken back from it aren't lent to it again.
-use Rattle.std.proofs.Common.{◌≡◌, true, List, [], ◌++◌, sym, ◌∙◌, subst, arith}
+use Rattle.std.proofs.Common.{◌≡◌, ◌≤◌, true, List, [], ◌++◌, sym, ◌∙◌, subst, arith}
 use Rattle.std.specs.Prelude.{Contains}
 use Rattle.fm_base.specs.declared.arena_id.ArenaId.{ArenaId}
 use Rattle.fm_base.specs.Arenas.{State, has_arena, arena_of}
@@ -47,7 +47,7 @@ pub has_ended : {p : View} {id : ArenaId} → IsOver p id → HasEnded p id
 has_ended o = record { known = o.known; life = o.life }
 
 -- Nothing is lent to an arena whose sweep has come past its last part.
-pub no_words_swept : {p : View} (id : ArenaId) → IsSound p → (c : Close) → In c p.sweeps → c.arena ≡ id → c.visited ≡ p.shape.reach → HasNoWords p id
+pub no_words_swept : {p : View} (id : ArenaId) → IsSound p → (c : Close) → In c p.sweeps → c.arena ≡ id → p.shape.reach ≤ c.visited → HasNoWords p id
 no_words_swept {p = p} id sound c i e n l h q =
     let fits = (sound.loans l h).1 in
     let left = sound.unlent c i l h (q ∙ sym e) in absurd (omega arith)

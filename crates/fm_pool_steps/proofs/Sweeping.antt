@@ -1,5 +1,5 @@
 -- The steps of a sweep: map words are read and cleared, pages are wiped and given back, and the count of given bytes is reset.
-use Rattle.std.proofs.Common.{◌≡◌, ◌≢◌, ◌⊎◌, ℕ, ◌+◌, ◌-◌, ◌^◌, ◌<◌, ◌==◌, Bool, true, false, if◌then◌else◌, List, [], ◌∷◌, set, get_or, bit_or, sym, refl, ap, ◌∙◌, subst, arith, inl, inr, Option, Some, None}
+use Rattle.std.proofs.Common.{◌≡◌, ◌≢◌, ◌⊎◌, ℕ, ◌+◌, ◌-◌, ◌^◌, ◌<◌, ◌≤◌, ◌==◌, Bool, true, false, if◌then◌else◌, List, [], ◌∷◌, set, get_or, bit_or, sym, refl, ap, ◌∙◌, subst, arith, inl, inr, Option, Some, None}
 use mathlib.Core.Option.{some}
 use mathlib.Core.Logic.{dite}
 use native.Mathlib.Decide.{ℕ_discrete}
@@ -246,6 +246,16 @@ module _ (z : Shape) (me : ℕ) (v : View) (l : v.live ≡ true) (a : ArenaId) (
         go None h = absurd (n (is_map ∙ ap own_map h))
         go (Some p) h = h ∙ ap Some (word_back p seen (is_map ∙ ap own_map h))
 
+    -- it names a page of the pool
+    low_map : v.shape ≡ z → seen ≤ v.shape.pages
+    low_map sh = subst (λ (x : Shape). seen ≤ x.pages) (sym sh) (go (r.memory.maps a.slot k) refl)
+      where
+        go : (o : Option ℕ) → r.memory.maps a.slot k ≡ o → seen ≤ z.pages
+        go None h = let e : seen ≡ 0 = is_map ∙ ap own_map h in omega arith
+        go (Some p) h =
+            let y = (r.pages.mapped_is p a.slot k (r.pages.map_is a.slot k p h)).page in
+            let e = word_back p seen (is_map ∙ ap own_map h) in omega arith
+
     -- ---- a map word is read
 
     module _ (idle : v.swept ≡ unread) where
@@ -482,11 +492,12 @@ module _ (z : Shape) (me : ℕ) (v : View) (l : v.live ≡ true) (a : ArenaId) (
 
 module _ (z : Shape) (me : ℕ) (v : View) (a : ArenaId) (i : ℕ) (l : v.live ≡ true) (has : visited_of v.sweeps a ≡ Some i) where
   -- the map word of the next part is read
-  pub look_map_steps : i < z.reach → v.swept ≡ unread → MayStep z (SweepsMap a i) me v (place_at z (map a.slot i)) (λ n. n)
+  pub look_map_steps : v.shape ≡ z → i < z.reach → v.swept ≡ unread → MayStep z (SweepsMap a i) me v (place_at z (map a.slot i)) (λ n. n)
   unfolding part entries noted
-  look_map_steps low idle = record {
+  look_map_steps sh low idle = record {
     may = λ ws vs r at.
-        let g = looks z me v l a i has ws vs r at low idle (get_or ws (place_at z (map a.slot i)) 0 == 0) refl in (g.0, g.1, record { gives = g.2; learns = tt });
+        let g = looks z me v l a i has ws vs r at low idle (get_or ws (place_at z (map a.slot i)) 0 == 0) refl in
+        (g.0, g.1, record { gives = g.2; learns = low_map z me v l a i has ws vs r at low sh });
   }
 
   pub unmap_steps : (p : ℕ) → i < z.reach → v.swept ≡ named a i p → MayStore z (Unmaps a i p) me v (place_at z (map a.slot i)) 0

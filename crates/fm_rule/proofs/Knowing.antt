@@ -270,9 +270,9 @@ module _ (z : Shape) (id : ℕ) (v : View) (l : v.live ≡ true) (i : ℕ) where
       → MayStore z (Opens a) id v i y
   may_open a y h o p q = subst (λ (x : ℕ × ℕ). MayStore z (Opens a) id v x.0 x.1) (λ j. (sym p j, sym q j)) (open_steps z id v a l h o)
 
-  pub may_sweep_map : (a : ArenaId) (k : ℕ) → visited_of v.sweeps a ≡ Some k → k < z.reach → v.swept ≡ unread → i ≡ at z (map a.slot k)
+  pub may_sweep_map : (a : ArenaId) (k : ℕ) → v.shape ≡ z → visited_of v.sweeps a ≡ Some k → k < z.reach → v.swept ≡ unread → i ≡ at z (map a.slot k)
       → MayStep z (SweepsMap a k) id v i (λ n. n)
-  may_sweep_map a k s h u p = subst (λ (x : ℕ). MayStep z (SweepsMap a k) id v x (λ n. n)) (sym p) (look_map_steps z id v a k l s h u)
+  may_sweep_map a k sh s h u p = subst (λ (x : ℕ). MayStep z (SweepsMap a k) id v x (λ n. n)) (sym p) (look_map_steps z id v a k l s sh h u)
 
   pub may_unmap : (a : ArenaId) (k q : ℕ) → visited_of v.sweeps a ≡ Some k → k < z.reach → v.swept ≡ named a k q → i ≡ at z (map a.slot k)
       → MayStore z (Unmaps a k q) id v i 0

@@ -227,6 +227,9 @@ module _ (now v w : View) (home home' : List ℕ) (is : homed home v ≡ now) (s
   pub map_low : (a : ArenaId) (i p x : ℕ) → Tells (Maps a i p) v x w → x ≤ now.shape.pages
   map_low a i p x t = subst (λ (y : View). x ≤ y.shape.pages) is t.learns
 
+  pub sweep_map_low : (a : ArenaId) (i x : ℕ) → Tells (SweepsMap a i) v x w → x ≤ now.shape.pages
+  sweep_map_low a i x t = subst (λ (y : View). x ≤ y.shape.pages) is t.learns
+
   pub count_found : (given size align x : ℕ) (a : ArenaId) → Tells (Allocates given size align) v x w → now.inside ≡ Some a → x ≢ given → x ≡ given_of (homed home' w) a
   count_found given size align x a t ins n = t.learns a (ap (λ (y : View). y.inside) is ∙ ins) n
 

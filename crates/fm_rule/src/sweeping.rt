@@ -1,5 +1,5 @@
 //! The steps by which an arena that has ended gives its words and its slot back.
-ghost use Rattle.std.specs.Prelude.{◌≡◌, ◌<◌, ◌+◌, ◌==◌, if◌then◌else◌, [], ◌∷◌, Some};
+ghost use Rattle.std.specs.Prelude.{◌≡◌, ◌<◌, ◌≤◌, ◌+◌, ◌==◌, if◌then◌else◌, [], ◌∷◌, Some};
 ghost use Rattle.fm_base.specs.Calls as machine;
 ghost use Rattle.fm_base.specs.Calls.{entry_of};
 ghost use Rattle.fm_pool_facts.specs.Parts.{unread, named, wiping, swept_read};
@@ -22,7 +22,8 @@ pub fn step_sweep_map(pool: &Pool, pass: &mut Pass, a: ArenaId, index: u32) -> u
     requires sweep { visited_of pass.old.sweeps a ≡ Some index }
     requires low { index < pool.now.shape.reach }
     requires idle { pass.old.swept ≡ unread }
-    ensures { Stepped pass.old pass.new
+    ensures low { result ≤ pass.old.shape.pages }
+    ensures stepped { Stepped pass.old pass.new
         (record pass.old {
           swept = swept_read a index result;
           sweeps = if result == 0 then visited a pass.old.sweeps else pass.old.sweeps;
