@@ -16,6 +16,7 @@ pub mod Moving
 pub mod Living
 pub mod Scarcity
 pub mod Unlending
+pub mod Ending
 pub mod Founds
 pub mod Drawers
 pub mod Gone

@@ -32,6 +32,7 @@ use Rattle.fm_pool_facts.proofs.Alone.{none_now}
 use Rattle.fm_pool_facts.proofs.Gone.{none_founded, found_on, founded_on, founded_told}
 use Rattle.fm_pool_facts.proofs.Callers.{all_now, few_gathered, whole_has, knows_callers}
 use Rattle.fm_pool_facts.proofs.Frame.{legal_on}
+use Rattle.fm_pool_facts.proofs.Standing.{unstanding}
 use Rattle.fm_pool_facts.proofs.Summing.{total-set, total-has, some_hold}
 use Rattle.fm_pool_facts.proofs.Gripping.{held_now, held_lives}
 use Rattle.fm_pool_facts.proofs.Handles.{handles_told}
@@ -82,11 +83,6 @@ lives_held z ws vs r me v at l a i =
 nobody : (ks : List Caller) → ((k : Caller) → ¬ (Contains ks k)) → ks ≡ []
 nobody [] n = refl
 nobody (k ∷ ks) n = absurd (n k (contains_first ks k))
-
--- what has ended doesn't stand
-unstanding : (x : Stage) → x ≡ Over → ¬ (IsStanding x)
-unstanding x o (inl e) = let q : Over ≡ Lives = sym o ∙ e in absurd (cc)
-unstanding x o (inr e) = let q : Over ≡ Closes = sym o ∙ e in absurd (cc)
 
 -- ---- loans
 
