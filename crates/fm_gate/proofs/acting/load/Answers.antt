@@ -1,6 +1,9 @@
 use Rattle.std.proofs.Common.{refl}
-use Rattle.fm_gate.proofs.Acts.{after_act}
+use Rattle.fm_gate.proofs.Acts.{after_act, found_word, found_of}
 use Rattle.fm_gate.proofs.acting.load.Goals as goal
 
+pub step_load-requires-clause-of : goal.step_load-requires-clause-of
+step_load-requires-clause-of c = found_of c.args.pool.now (found_word c.place_of-place.ensures) c.requires.inside.of
+
 pub returns : goal.returns
-returns c = after_act (record { stays = λ a. refl }) c.step_load.ensures c.requires
+returns c = after_act (record { stays = λ a. refl }) (found_word c.place_of-place.ensures) c.step_load.ensures c.requires
