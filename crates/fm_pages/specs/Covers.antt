@@ -5,7 +5,8 @@ use Rattle.fm_base.specs.Calls.{Entry, Lend, Fine, entry_of}
 use Rattle.fm_pool_facts.specs.Parts.{mapping_of}
 use Rattle.fm_pool_facts.specs.Views.{View, In}
 use Rattle.fm_pool_facts.specs.Steps.{HasParts}
-use Rattle.fm_pages.specs.Maps.{Way, NoneFree}
+use Rattle.fm_pages.specs.Maps.{Way}
+use Rattle.fm_pages.specs.Provides.{NoneFree}
 
 -- the bytes of a page
 abbrev pub page_bytes : View → ℕ

@@ -3,7 +3,7 @@ ghost use Rattle.fm_pool_facts.specs.Views.{limit_of};
 ghost use Rattle.fm_rule.specs.Passes.{IsOf};
 ghost use Rattle.fm_pages.specs.Covers.{Covered};
 
-use crate::mapping::map;
+use crate::providing::provide;
 use fm_base::ArenaId;
 use fm_rule::{Pass, Pool};
 use std::sync::Wait;
@@ -27,7 +27,7 @@ pub fn cover<R: Wait>(rt: &R, pool: &Pool, pass: &mut Pass, a: ArenaId, from: u6
         if u64::from(part) * bytes >= to {
             return true;
         }
-        if !map(rt, pool, pass, a, part) {
+        if !provide(rt, pool, pass, a, part) {
             return false;
         }
     }

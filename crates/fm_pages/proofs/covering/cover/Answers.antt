@@ -20,18 +20,18 @@ returns-then-from-bytes g c =
     covering_all c.loop-part.invariant.1 c.number-number.ensures.sound
     (subst (λ (n : ℕ). c.args.to ≤ n) ((λ j. c.from.ensures j * sym size j)) c.if-from-bytes.true)
 
-pub returns-then-not-map : goal.returns-then-not-map
-returns-then-not-map g c =
+pub returns-then-not-provide : goal.returns-then-not-provide
+returns-then-not-provide g c =
     let size : page_bytes c.args.pass.now ≡ c.from-bytes.result * 8 =
     ap (λ (z : Shape). z.page_words * 8) (c.requires.of.1 ∙ sym c.shape-shape.ensures.shape) ∙ ap (λ (n : ℕ). n * 8) (sym c.from-bytes.ensures) in
     covering_lacks c.loop-part.invariant.1 (subst (λ (n : ℕ). c.args.from / n ≤ c.loop-part.part) (sym size) c.loop-part.auto.part)
-    (subst (λ (n : ℕ). n < c.args.to) ((λ j. c.from.ensures j * sym size j)) c.if-from-bytes.false) c.if-not-map.ensures
+    (subst (λ (n : ℕ). n < c.args.to) ((λ j. c.from.ensures j * sym size j)) c.if-from-bytes.false) c.if-not-provide.ensures
 
 pub loop-part-preserved : goal.loop-part-preserved
 loop-part-preserved g c =
     let size : page_bytes c.args.pass.now ≡ c.from-bytes.result * 8 =
     ap (λ (z : Shape). z.page_words * 8) (c.requires.of.1 ∙ sym c.shape-shape.ensures.shape) ∙ ap (λ (n : ℕ). n * 8) (sym c.from-bytes.ensures) in
-    let t = c.if-not-map.ensures in
+    let t = c.if-not-provide.ensures in
     (of_way c.args.pool.now t.way c.loop-part.invariant.0, covering_more c.loop-part.invariant.1
     (subst (λ (n : ℕ). c.args.from / n ≤ c.loop-part.part) (sym size) c.loop-part.auto.part)
     (subst (λ (n : ℕ). n < c.args.to) ((λ j. c.from.ensures j * sym size j)) c.if-from-bytes.false) t)
