@@ -58,14 +58,14 @@ sweeps_then {o = o} {q = q} {es = es} {fs = fs} {t = t} {ds = ds} a b = record {
 }
 
 module _ {p q : View} {own : List Entry} {s : Swept} {cs : List Close} (t : SweepsOn p q own s cs) where
-  pub swept_is : q.swept ≡ s
-  swept_is = ap (λ (x : View). x.swept) t.is
+  pub swept_now : q.swept ≡ s
+  swept_now = ap (λ (x : View). x.swept) t.is
 
-  pub sweeps_are : q.sweeps ≡ cs
-  sweeps_are = ap (λ (x : View). x.sweeps) t.is
+  pub sweeps_now : q.sweeps ≡ cs
+  sweeps_now = ap (λ (x : View). x.sweeps) t.is
 
-  pub caller_is : q.caller ≡ p.caller
-  caller_is = ap (λ (x : View). x.caller) t.is
+  pub caller_now : q.caller ≡ p.caller
+  caller_now = ap (λ (x : View). x.caller) t.is
 
   -- The pass is still one of its pool.
   pub of_still : (pool : Pool) → IsOf pool p → IsOf pool q
@@ -73,11 +73,11 @@ module _ {p q : View} {own : List Entry} {s : Swept} {cs : List Close} (t : Swee
 
   -- The sweep of the arena is where the sweeps say.
   pub visited_still : (a : ArenaId) (n : ℕ) → visited_of cs a ≡ Some n → visited_of q.sweeps a ≡ Some n
-  visited_still a n at = ap (λ (xs : List Close). visited_of xs a) sweeps_are ∙ at
+  visited_still a n at = ap (λ (xs : List Close). visited_of xs a) sweeps_now ∙ at
 
 -- Quiet ones that leave the sweeps where they are.
 pub sweeps_same : {o p q : View} {s t : Swept} {cs : List Close} → SweepsOn o p [] s cs → SweepsOn p q [] t p.sweeps → SweepsOn o q [] t cs
-sweeps_same {o = o} {q = q} {t = t} a b = subst (λ (xs : List Close). SweepsOn o q [] t xs) (sweeps_are a) (sweeps_then a b)
+sweeps_same {o = o} {q = q} {t = t} a b = subst (λ (xs : List Close). SweepsOn o q [] t xs) (sweeps_now a) (sweeps_then a b)
 
 -- ---- one part
 
@@ -115,7 +115,7 @@ part_taken {p = p} {q = q} {r = r} {a = a} {page = page} t s =
       own = e ∷ [];
       backs = All-cons (IsBack p.caller) e [] (page, refl) (All-nil (IsBack p.caller));
       goes_on = subst (λ (y : Caller × List Close). SweepsOn p r (entry_of y.0 (Back page) Fine ∷ []) unread (visited a y.1))
-          (λ j. (caller_is t j, sweeps_are t j)) g;
+          (λ j. (caller_now t j, sweeps_now t j)) g;
     }
 
 -- ---- the parts in order
@@ -128,8 +128,8 @@ parts_none {p = p} idle at = record { own = []; backs = All-nil (IsBack p.caller
 pub parts_more : {o p q : View} {a : ArenaId} {n : ℕ} → PartsTaken o p a n → PartTaken p q a → PartsTaken o q a (n + 1)
 parts_more {o = o} {p = p} {q = q} {a = a} {n = n} t u = record {
   own = t.own ++ u.own;
-  backs = All-append (IsBack o.caller) t.own u.own t.backs (subst (λ (c : Caller). AreBacks c u.own) (caller_is t.goes_on) u.backs);
-  goes_on = subst (λ (cs : List Close). SweepsOn o q (t.own ++ u.own) unread cs) (sym (sweeps_are u.goes_on)) (sweeps_then t.goes_on u.goes_on);
+  backs = All-append (IsBack o.caller) t.own u.own t.backs (subst (λ (c : Caller). AreBacks c u.own) (caller_now t.goes_on) u.backs);
+  goes_on = subst (λ (cs : List Close). SweepsOn o q (t.own ++ u.own) unread cs) (sym (sweeps_now u.goes_on)) (sweeps_then t.goes_on u.goes_on);
   at = visited_still u.goes_on a (n + 1) (visited_of-visited p.sweeps a n t.at);
-  left = ap (dropped a) (sweeps_are u.goes_on) ∙ (dropped-visited p.sweeps a ∙ t.left);
+  left = ap (dropped a) (sweeps_now u.goes_on) ∙ (dropped-visited p.sweeps a ∙ t.left);
 }

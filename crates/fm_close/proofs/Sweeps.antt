@@ -22,7 +22,7 @@ use Rattle.fm_close.specs.Does.{AreBacks}
 use Rattle.fm_close.specs.Learnt.{CanSweep, AfterSweep}
 use Rattle.fm_close.specs.Sweeps.{SweepsOn, PartsTaken}
 use Rattle.fm_close.proofs.Closes.{visited_of-visited, dropped-visited}
-use Rattle.fm_close.proofs.Parts.{quiet_step, sweeps_then, swept_is, sweeps_are, caller_is, of_still, visited_still}
+use Rattle.fm_close.proofs.Parts.{quiet_step, sweeps_then, swept_now, sweeps_now, caller_now, of_still, visited_still}
 
 -- ---- steps that make no entry
 
@@ -75,18 +75,18 @@ pub record Emptied (o q : View) (a : ArenaId) (own : List Entry) : Type 0 where
 
 pub emptied : {o p q : View} {a : ArenaId} (w : PartsTaken o p a o.shape.reach) → Resets p q a → Emptied o q a w.own
 emptied {o = o} {p = p} {q = q} {a = a} w s =
-    let idle : p.swept ≡ unread = swept_is w.goes_on in
+    let idle : p.swept ≡ unread = swept_now w.goes_on in
     let r : SweepsOn p q [] unread (visited a p.sweeps) = subst (λ (x : Swept). SweepsOn p q [] x (visited a p.sweeps)) idle (quiet_step s) in
     let at : visited_of q.sweeps a ≡ Some (o.shape.reach + 1) = visited_still r a (o.shape.reach + 1) (visited_of-visited p.sweeps a o.shape.reach w.at) in
     let all : SweepsOn o q w.own unread q.sweeps =
-    subst (λ (x : List Entry × List Close). SweepsOn o q x.0 unread x.1) (λ j. (append-nil w.own j, sym (sweeps_are r) j)) (sweeps_then w.goes_on r) in
+    subst (λ (x : List Entry × List Close). SweepsOn o q x.0 unread x.1) (λ j. (append-nil w.own j, sym (sweeps_now r) j)) (sweeps_then w.goes_on r) in
     let f = visited_of-found q.sweeps a (o.shape.reach + 1) at in
     let over : IsOver q a = subst (IsOver q) f.arena (s.sound.swept f.close f.there) in
     let reach : q.shape.reach ≡ o.shape.reach = ap (λ (v : View). v.shape.reach) all.is in
     record {
       goes_on = all;
       at = at;
-      left = ap (dropped a) (sweeps_are r) ∙ (dropped-visited p.sweeps a ∙ w.left);
+      left = ap (dropped a) (sweeps_now r) ∙ (dropped-visited p.sweeps a ∙ w.left);
       over = over;
       fits = s.sound.fits a over.known;
       valid = (let v = s.sound.valid.generations.1 in omega arith);
@@ -157,7 +157,7 @@ module _ {pool : Pool} {o p m : View} {s : Shutting} (can : CanSweep pool o s) (
   no_slot = ap (λ (x : View). x.hand) empty.goes_on.is ∙ can.outside.no_slot
 
   pub no_part : m.swept ≡ unread
-  no_part = swept_is empty.goes_on
+  no_part = swept_now empty.goes_on
 
   -- The sweep is past the last part.
   pub past_parts : visited_of m.sweeps s.arena ≡ Some (pool.shape.reach + 1)
@@ -192,8 +192,8 @@ module _ {pool : Pool} {o p m : View} {s : Shutting} (can : CanSweep pool o s) (
       ended = has_ended t.over;
       no_words = t.no_words;
       outside = stands_outside t.goes can.outside.of can.outside.no_number (ap (λ (x : View). x.hand) t.is)
-          (ap (λ (x : View). x.inside) t.is ∙ can.outside.outside) (ap (λ (x : View). x.mark) t.is ∙ can.outside.unmarked)
-          (ap (λ (x : View). x.swept) t.is);
+          (ap (λ (x : View). x.swept) t.is) (ap (λ (x : View). x.inside) t.is ∙ can.outside.outside)
+          (ap (λ (x : View). x.mark) t.is ∙ can.outside.unmarked);
       lasts = lasts_on t.goes;
     }
 
