@@ -7,6 +7,7 @@ ghost use Rattle.fm_calls.specs.Told.{view_of_pass};
 ghost use Rattle.fm_gate.specs.Standing.{CanVisit, IsOutside};
 ghost use Rattle.fm_segment.specs.Access.{IsKnown};
 ghost use Rattle.fm_arena.specs.Lasting.{SamePool};
+ghost use Rattle.fm_arena.specs.Shares.{CanShare};
 
 use crate::closer::{Closer, Walk};
 use fm_arena::{Arena, Shared, keeps_its_pool};
@@ -24,7 +25,7 @@ use std::sync::Wait;
 
 /// Two passes, and two slots of one page of three longs, for two arenas each.
 pub(crate) fn made<R: Abort + AllocGlobal>(rt: &R) -> (Pool, Pass)
-    ensures { IsOutside result.0 result.1 }
+    ensures { CanShare result.0 result.1 }
 {
     let shape = Shape {
         passes: 2,
@@ -103,7 +104,7 @@ pub(crate) fn scene<'a, R: Abort + Wait>(
     first: Pass,
     at: u64,
 ) -> (Braided<Shared<'a>, Closer<'a>>, Segment, Segment)
-    requires { IsOutside pool.now first }
+    requires { CanShare pool.now first }
     ensures outside { result.0.memory.inside ≡ None }
     ensures first { IsKnown (view_of_pass result.0.memory) result.1 }
     ensures second { IsKnown (view_of_pass result.0.memory) result.2 }
