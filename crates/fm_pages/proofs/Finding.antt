@@ -60,7 +60,8 @@ placed_known {v = v} {word = word} s h = record {
 }
 
 module _ (v w : View) (word x : ℕ) (a : ArenaId) (sound : IsSound v) (can : CanFind v word) (ins : v.inside ≡ Some a)
-    (l : LearnsMap v a (word / v.shape.page_words) x w) (s : Stepped v w (record v { reads = reads_after (word / v.shape.page_words) x v.reads }) [] none_noted) where
+    (l : LearnsMap v a (word / v.shape.page_words) x w)
+    (s : Stepped v w (record v { reads = reads_after (word / v.shape.page_words) x v.reads }) [] none_noted) where
   inside_now : w.inside ≡ Some a
   inside_now = ap (λ (u : View). u.inside) s.is_part ∙ ins
 

@@ -34,8 +34,8 @@ lends_in : (v : View) (a : ArenaId) (from to n : ℕ) (es : List Entry) → from
 lends_in v a from to n es low high l = ⊎_elim
     (λ (e : es ≡ []). subst (λ (xs : List Entry). All (LendsIn v a from to) xs) (sym e) (All-nil (LendsIn v a from to)))
     (λ (p : (page : ℕ) × (es ≡ entry_of v.caller (Lend page a n) Fine ∷ [])).
-      subst (λ (xs : List Entry). All (LendsIn v a from to) xs) (sym p.1)
-      (All-cons (LendsIn v a from to) _ [] (p.0, n, low, high, refl) (All-nil (LendsIn v a from to))))
+    subst (λ (xs : List Entry). All (LendsIn v a from to) xs) (sym p.1)
+    (All-cons (LendsIn v a from to) _ [] (p.0, n, low, high, refl) (All-nil (LendsIn v a from to))))
     l
 
 module _ {v m r : View} {a : ArenaId} {from to n : ℕ} (b : Bool) (c : Covering v m a from to n) (low : from / page_bytes v ≤ n) (high : n * page_bytes v < to)
@@ -72,7 +72,8 @@ covering_all {v = v} {r = r} {a = a} {from = from} {to = to} {n = n} c sound all
       own = c.own;
       lends = c.lends;
       way = c.way;
-      outcome = parts_cover r from to (omega arith) (λ i low high. c.each i (subst (λ (s : ℕ). from / s ≤ i) size low) (below i (subst (λ (s : ℕ). i * s < to) size high)));
+      outcome = parts_cover r from to (omega arith)
+          (λ i low high. c.each i (subst (λ (s : ℕ). from / s ≤ i) size low) (below i (subst (λ (s : ℕ). i * s < to) size high)));
     }
   where
     below : (i : ℕ) → i * page_bytes v < to → i < n
@@ -82,7 +83,8 @@ pub covering_lacks : {v m r : View} {a : ArenaId} {from to n : ℕ} → Covering
     → Provided m r a n false → Covered v r a from to false
 covering_lacks {v = v} {m = m} {r = r} {a = a} {from = from} {to = to} {n = n} c low high t =
     let o = t.outcome in
-    let long : length m.seen ≡ length v.seen + length c.way.goes.more = ap (λ (es : List Entry). length es) c.way.goes.seen ∙ length-append v.seen c.way.goes.more in
+    let long : length m.seen ≡ length v.seen + length c.way.goes.more =
+    ap (λ (es : List Entry). length es) c.way.goes.seen ∙ length-append v.seen c.way.goes.more in
     let e1 = o.early in
     record {
       own = c.own ++ t.own;
@@ -107,8 +109,11 @@ covering_lacks {v = v} {m = m} {r = r} {a = a} {from = from} {to = to} {n = n} c
           left = o.left;
           before = o.before;
           later = o.later;
-          since = (c.way.goes.more ++ o.since.0, o.since.1 ∙ (ap (λ (es : List Entry). es ++ o.since.0) c.way.goes.seen
-              ∙ append_assoc v.seen c.way.goes.more o.since.0));
+          since = (
+            c.way.goes.more ++ o.since.0,
+            o.since.1 ∙ (ap (λ (es : List Entry). es ++ o.since.0) c.way.goes.seen
+                ∙ append_assoc v.seen c.way.goes.more o.since.0),
+          );
           seen = o.seen;
           quiet = ap (λ (k : Caller). made_by k o.later) (sym c.way.goes.same_caller) ∙ o.quiet;
           lacked = o.lacked;

@@ -15,7 +15,8 @@ pub record CanFind (v : View) (word : ℕ) : Type 0 where
 -- the place is that of a word of a page, which is lent to the arena as the word's part
 pub record Placed (old new : View) (word at : ℕ) : Type 0 where
   pub place : HasPlace new word at
-  pub lent_so : (id : ArenaId) → old.inside ≡ Some id → Contains (lent new.seen) (loan_of place.page id (word / new.shape.page_words))
+  pub lent_so : (id : ArenaId) → old.inside ≡ Some id
+      → Contains (lent new.seen) (loan_of place.page id (word / new.shape.page_words))
   pub reach : CanReach old word → CanReach new word
   -- the pass made no entry, and has read no more than map words
   pub by : (new ≡ old) ⊎ ((reads : List Mapping) × Stepped old new (record old { reads = reads }) [] none_noted)

@@ -8,8 +8,8 @@ use fm_base::ArenaId;
 use fm_rule::{Pass, Pool};
 use std::sync::Wait;
 
-/// Whether each part with a byte in this range has a page, of the arena that the pass is inside. Those without one get one
-/// while there are free ones.
+/// Whether each part with a byte in this range has a page, of the arena that the pass is inside. Those without one get
+/// one while there are free ones.
 pub fn cover<R: Wait>(rt: &R, pool: &Pool, pass: &mut Pass, a: ArenaId, from: u64, to: u64) -> bool
     requires of { IsOf pool.now pass.old }
     requires none { pass.old.pages ≡ [] }

@@ -14,8 +14,8 @@ step_take_page-found-requires-clause-none g c = c.loop.invariant.none
 
 pub returns-then-found-eq0 : goal.returns-then-found-eq0
 returns-then-found-eq0 g c =
-  bid_none c.of-bid.result.word c.of-bid.result.bit _ c.loop.invariant c.step_take_page-found.ensures
-      c.if-found-eq0.true c.of-bid.ensures.has
+    bid_none c.of-bid.result.word c.of-bid.result.bit _ c.loop.invariant c.step_take_page-found.ensures
+    c.if-found-eq0.true c.of-bid.ensures.has
 
 pub returns-then-found-bid : goal.returns-then-found-bid
 returns-then-found-bid g c =

@@ -38,7 +38,8 @@ overflow_sub-page c =
     let w : View = c.step_read_map-page.new.pass in
     mapped v w c.args.word x c.in-Some.a c.number-number.ensures.sound c.requires.find (sym c.inside.ensures.inside ∙ c.in-Some.is)
     (subst (λ (n : ℕ). LearnsMap v c.in-Some.a (c.args.word / n) x w) (size_is d) c.step_read_map-page.ensures.map)
-    (subst (λ (n : ℕ). Stepped v w (record v { reads = reads_after (c.args.word / n) x v.reads }) [] none_noted) (size_is d) c.step_read_map-page.ensures.stepped)
+    (subst (λ (n : ℕ). Stepped v w (record v { reads = reads_after (c.args.word / n) x v.reads }) [] none_noted) (size_is d)
+    c.step_read_map-page.ensures.stepped)
 
 pub returns : goal.returns
 returns c =
