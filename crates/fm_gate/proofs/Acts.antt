@@ -159,6 +159,7 @@ module _ {p q : View} (s : Stepped p q (record p { inside = None; mark = None })
       goes = unmark_goes;
       rest = rest_is s;
     };
-    outside = stands_outside unmark_goes can.inside.of can.inside.no_number (hand_is s ∙ can.inside.no_slot) (swept_is s ∙ can.inside.no_part) (inside_is s) (mark_is s);
+    outside = stands_outside unmark_goes can.inside.of can.inside.no_number (hand_is s ∙ can.inside.no_slot) (swept_is s ∙ can.inside.no_part)
+        (inside_is s) (mark_is s);
     lasts = lasts_on unmark_goes;
   }

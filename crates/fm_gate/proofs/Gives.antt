@@ -6,7 +6,7 @@ use Rattle.fm_words.specs.declared.shape.Shape.{Shape}
 use Rattle.fm_base.specs.declared.caller.Caller.{Caller}
 use Rattle.fm_base.specs.declared.arena_id.ArenaId.{ArenaId}
 use Rattle.fm_base.specs.Arenas.{State, arena_of}
-use Rattle.fm_base.specs.Calls.{Allocate, Entry, entry_of}
+use Rattle.fm_base.specs.Calls.{Allocate, Reply, Entry, entry_of}
 use Rattle.fm_base.specs.Histories.{state_after}
 use Rattle.fm_base.specs.Machine.{after, allocate_reply, rounded_up}
 use Rattle.fm_base.proofs.Making.{state_after-append}
@@ -49,7 +49,8 @@ pub record Giving (pool : Pool) (o p : View) (a : ArenaId) (size align count fou
 -- where another count was found nothing was given
 missed : (o : View) (a : ArenaId) (count size align found : ℕ) → found ≢ count → allocates o a count size align found ≡ []
 missed o a count size align found n =
-    ap (λ (b : Bool). where_found b (entry_of o.caller (Allocate a size align) (allocate_reply (limit_of o.shape) count size align) ∷ [])) (ne_eqb found count n)
+    let reply : Reply = allocate_reply (limit_of o.shape) count size align in
+    ap (λ (b : Bool). where_found b (entry_of o.caller (Allocate a size align) reply ∷ [])) (ne_eqb found count n)
 
 abbrev Exchanges : View → View → ℕ → ℕ → ℕ → ℕ → Type 0
 Exchanges p q count size align found =
