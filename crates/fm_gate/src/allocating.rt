@@ -67,10 +67,10 @@ fn give<R: Wait>(
     let mut found = step_allocate(pool, pass, a, count, size, align);
     for _ in rt.forever() {
         if found == count {
-            return match room(pool.limit(), count, size, align) {
-                Some(place) => Ok(place),
-                None => Err(Refusal::NoRoom(count)),
-            };
+            match room(pool.limit(), count, size, align) {
+                Some(place) => return Ok(place),
+                None => return Err(Refusal::NoRoom(count)),
+            }
         }
         count = found;
         match try_at(rt, pool, pass, a, count, size, align) {
@@ -87,7 +87,7 @@ fn first_count(pool: &Pool, pass: &mut Pass, a: ArenaId, size: u64, align: u64) 
     requires none { pass.old.pages ≡ [] }
     requires sound { IsSound pass.old }
     requires power { IsPower align }
-    ensures { CanTry pool.now pass.old pass.new a size align result }
+    ensures { CanTry pass.old pass.new size align result }
 {
     let guess = guess_given(pool, pass);
     match room(pool.limit(), guess, size, align) {
@@ -109,7 +109,7 @@ fn has_parts(pool: &Pool, pass: &mut Pass, a: ArenaId, from: u64, to: u64) -> bo
     requires sound { IsSound pass.old }
     requires up { from ≤ to }
     requires within { to ≤ limit_of pool.now.shape }
-    ensures { HasRead pool.now pass.old pass.new a from to result }
+    ensures { HasRead pass.old pass.new from to result }
 {
     let shape = pool.shape();
     let bytes = u64::from(shape.page_words) * 8;

@@ -1,6 +1,6 @@
 -- A word that can be reached is found by its part's map word.
 use Rattle.std.proofs.Common.{◌≡◌, ◌≢◌, ℕ, ◌+◌, ◌-◌, ◌*◌, ◌/◌, ◌%◌, ◌^◌, ◌<◌, ◌≤◌, ◌==◌, Bool, true, false, if◌then◌else◌, List, [], ◌∷◌, ◌++◌, refl, ap, sym, ◌∙◌, subst, arith, inl, inr, Some, None, ne_eqb}
-use Rattle.std.proofs.Math.Nat.{mod-lt, div-lt_iff_lt-mul, div-mul-le_self, lt-div-mul-add}
+use Rattle.std.proofs.Math.Nat.{div-lt_iff_lt-mul, div-mul-le_self, lt-div-mul-add}
 use Rattle.fm_words.specs.declared.shape.Shape.{Shape}
 use Rattle.fm_words.specs.Places.{at, page_word}
 use Rattle.fm_base.specs.declared.arena_id.ArenaId.{ArenaId}
@@ -13,7 +13,7 @@ use Rattle.fm_base.proofs.Growing.{Grows-state_after}
 use Rattle.fm_pool_facts.specs.Parts.{Mapping, mapping_of, reads_after}
 use Rattle.fm_pool_facts.specs.Views.{View, In, IsSound, given_of, limit_of, span}
 use Rattle.fm_pool_facts.specs.Moves.{LearnsMap}
-use Rattle.fm_pool_facts.specs.Steps.{Stepped, CanReach, HasPlace, HasParts, none_noted}
+use Rattle.fm_pool_facts.specs.Steps.{Stepped, CanReach, HasParts, none_noted}
 use Rattle.fm_pages.specs.Places.{Placed}
 
 -- the part of a word that can be reached is one that arenas have

@@ -1,5 +1,6 @@
 pub mod Finding
 pub mod Bids
 pub mod Parts
+pub mod Exact
 pub mod Ranges
 pub mod Gives

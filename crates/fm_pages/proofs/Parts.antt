@@ -1,5 +1,5 @@
 -- Giving a part of an arena a page.
-use Rattle.std.proofs.Common.{◌≡◌, ◌≢◌, ◌⊎◌, ℕ, ◌+◌, ◌-◌, ◌==◌, ◌<◌, ◌≤◌, Bool, true, false, if◌then◌else◌, List, [], ◌∷◌, ◌++◌, length, refl, ap, sym, ◌∙◌, subst, inl, inr, Option, Some, eq-eqb, ne_eqb, arith}
+use Rattle.std.proofs.Common.{◌≡◌, ◌≢◌, ℕ, ◌+◌, ◌-◌, ◌==◌, ◌&&◌, ◌≤◌, Bool, true, false, if◌then◌else◌, List, [], ◌∷◌, ◌++◌, length, refl, ap, sym, ◌∙◌, subst, inl, inr, Option, Some, eq-eqb, ne_eqb, arith}
 use Rattle.std.proofs.lemmas.List.Elements.{All-cons, All-nil}
 use Rattle.std.proofs.lemmas.List.{append-nil, length-append}
 use Rattle.fm_words.specs.declared.shape.Shape.{Shape}
@@ -8,18 +8,20 @@ use Rattle.fm_base.specs.declared.arena_id.ArenaId.{ArenaId}
 use Rattle.fm_base.specs.Calls.{Entry, Lend, Fine, entry_of}
 use Rattle.fm_base.specs.Histories.{made_by}
 use Rattle.fm_base.specs.View.{inside_after}
-use Rattle.fm_base.specs.Finds.{Find, FindsMore, FoundNothing, Maps, is_draw, is_page}
+use Rattle.fm_base.specs.Finds.{Find, Maps, is_draw}
+use Rattle.fm_pool_facts.specs.Hands.{slots_in}
 use Rattle.fm_pool_facts.specs.Loans.{HasPart, lent}
 use Rattle.fm_pool_facts.specs.Parts.{Mapping, mapping_of, reads_after, reads_mapped, pages_mapped}
-use Rattle.fm_pool_facts.specs.Views.{View, In}
+use Rattle.fm_pool_facts.specs.Views.{View, In, unlent}
 use Rattle.fm_pool_facts.specs.Moves.{LearnsMap}
-use Rattle.fm_pool_facts.specs.Steps.{Stepped, none_noted, note_of, where_found}
+use Rattle.fm_pool_facts.specs.Steps.{Stepped, none_noted, note_of, where_found, is_clear, is_empty}
 use Rattle.fm_rule.specs.declared.pool.Pool.{Pool}
 use Rattle.fm_rule.specs.Passes.{IsOf}
 use Rattle.fm_calls.specs.Kept.{Goes}
-use Rattle.fm_calls.proofs.Going.{NoDraws, IsOn, goes_of, goes_then, no_draws, made_by-one}
+use Rattle.fm_calls.proofs.Going.{NoDraws, goes_of, goes_then, no_draws, made_by-one}
 use Rattle.fm_pages.specs.Claims.{Went, PageClaimed, NoneClaimed}
-use Rattle.fm_pages.specs.Maps.{Way, NoneFree, Outcome, PartMapped, LendsPart}
+use Rattle.fm_pages.proofs.Bids.{clear_still}
+use Rattle.fm_pages.specs.Maps.{Way, PartMapped, LendsPart}
 
 -- ---- ways
 
@@ -47,6 +49,22 @@ inside_way w e = w.goes.inside ∙ e
 
 pub pages_way : {p q : View} {es : List Entry} {ps : List ℕ} → Way p q es ps → q.pages ≡ ps
 pages_way w = ap (λ (x : View). x.pages) w.is
+
+-- a pass that was clear is so still
+pub clear_way : {p q : View} {es : List Entry} → Way p q es [] → is_clear p ≡ true → is_clear q ≡ true
+clear_way {p = p} {q = q} w h = ap is_clear w.is ∙ clear_still p q.seen q.finds q.reads h
+
+-- and is known to be whole
+pub whole_clear : (v : View) → is_clear v ≡ true → v.whole ≡ true
+whole_clear v = go v.whole (is_empty (slots_in v.hand)) (is_empty v.pages) (is_empty v.closes) (is_empty v.sweeps)
+  where
+    go : (a b c d e : Bool) → (a && b && c && d && e) ≡ true → a ≡ true
+    go true b c d e h = refl
+    go false b c d e h = h
+
+-- nobody made an entry while it made none, if it is known to be whole
+pub still_seen : {p q : View} → Goes p q [] → p.whole ≡ true → q.seen ≡ p.seen
+still_seen {p = p} g w = g.seen ∙ (ap (λ (es : List Entry). p.seen ++ es) (g.alone w) ∙ append-nil p.seen)
 
 -- ---- reading a map word
 
@@ -103,9 +121,17 @@ none_free {p = p} {q = q} {r = r} a i x zero none s l c =
         late = c.late;
         left = c.left;
         before = q.seen;
-        begins = (c.went.goes.more, c.went.goes.seen);
-        since = up;
+        later = c.went.goes.more;
+        since = (v.goes.more, v.goes.seen);
+        seen = c.went.goes.seen;
+        quiet = ap (λ (k : Caller). made_by k c.went.goes.more) (sym v.goes.same_caller) ∙ c.went.goes.by_pass;
         lacked = l.none zero;
+        exact = λ h.
+            let now = clear_way v h in
+            let shape : r.shape ≡ p.shape = c.went.goes.same_shape ∙ v.goes.same_shape in record {
+              all_lent = subst (λ (z : Shape). unlent z.pages (lent r.seen) ≡ 0) shape (c.all_lent now);
+              lacks = subst (λ (es : List Entry). ¬ (HasPart (lent es) a i)) (sym (still_seen c.went.goes (whole_clear q now))) (l.none zero);
+            };
       };
     }
 

@@ -1,7 +1,9 @@
 -- What claiming a page does to a pass.
-use Rattle.std.specs.Prelude.{◌≡◌, ◌<◌, ◌≤◌, ℕ, Bool, true, List, [], ◌∷◌, length, Option, Some, None, ⊤}
+use Rattle.std.specs.Prelude.{◌≡◌, ◌<◌, ◌≤◌, ℕ, true, List, [], ◌∷◌, length, Option, Some, None, ⊤}
 use Rattle.fm_base.specs.Finds.{FoundNothing, is_page}
-use Rattle.fm_pool_facts.specs.Views.{View, FewLeft}
+use Rattle.fm_pool_facts.specs.Loans.{lent}
+use Rattle.fm_pool_facts.specs.Steps.{is_clear}
+use Rattle.fm_pool_facts.specs.Views.{View, FewLeft, unlent}
 use Rattle.fm_calls.specs.Kept.{Goes}
 
 abbrev pub IfNone : {A : Type 0} → Option A → Type 0 → Type 0
@@ -25,5 +27,7 @@ pub record NoneClaimed (old new : View) : Type 0 where
   -- at that step as much had been seen as at no time before the call, or after it
   pub early : length old.seen ≤ found.find.seen
   pub late : found.find.seen ≤ length new.seen
-  -- then fewer blocks weren't lent than there are passes, and none where the pass was clear
+  -- then fewer blocks weren't lent than there are passes
   pub left : FewLeft new.shape new.seen found.find
+  -- where the pass was clear, all are lent
+  pub all_lent : is_clear old ≡ true → unlent new.shape.pages (lent new.seen) ≡ 0

@@ -1,5 +1,5 @@
 -- The rule after a step, and that a view that has seen all is sound.
-use Rattle.std.proofs.Common.{◌≡◌, ◌≢◌, ℕ, ◌*◌, ◌^◌, ◌<◌, ◌≤◌, Bool, true, false, List, [], ◌∷◌, ◌++◌, length, set, sym, refl, ap, ◌∙◌, subst, arith, inl, inr, ⊎_elim, mul-le-mul_right, Some, None}
+use Rattle.std.proofs.Common.{◌≡◌, ◌≢◌, ℕ, ◌*◌, ◌/◌, ◌^◌, ◌<◌, ◌≤◌, Bool, true, false, List, [], ◌∷◌, ◌++◌, length, set, sym, refl, ap, ◌∙◌, subst, arith, inl, inr, ⊎_elim, mul-le-mul_right, Some, None}
 use mathlib.Core.Option.{some, some-injective}
 use lib.ListN.{get_elem?}
 use Rattle.atomic_table.proofs.Lists.{at_set}
@@ -24,11 +24,12 @@ use Rattle.std.specs.Int.{bit_at}
 use Rattle.std.specs.Prelude.{Contains}
 use Rattle.fm_pool_facts.proofs.Handing.{slot_below}
 use Rattle.fm_pool_facts.specs.Holds.{grips, holds_of}
-use Rattle.fm_pool_facts.specs.Loans.{Loan, lent, loans_after, IsRightlyLent}
+use Rattle.fm_pool_facts.specs.Loans.{Loan, lent, loans_after, HasPart, IsRightlyLent}
 use Rattle.fm_pool_facts.specs.Moves.{MayLend}
 use Rattle.fm_pool_facts.proofs.Lending.{over_now, loans_after-append, lent-append, lent_on}
 use Rattle.fm_pool_facts.specs.Gone.{FoundBy, IsFounded}
 use Rattle.fm_pool_facts.proofs.Alone.{none_now}
+use Rattle.fm_pool_facts.proofs.Given.{given_lent}
 use Rattle.fm_pool_facts.proofs.Gone.{none_founded, found_on, founded_on, founded_told}
 use Rattle.fm_pool_facts.proofs.Callers.{all_now, few_gathered, whole_has, knows_callers}
 use Rattle.fm_pool_facts.proofs.Frame.{legal_on}
@@ -178,6 +179,10 @@ sound_of z ws vs r me v at l lone q =
       loans = λ x i. let y = loan_fits z ws vs r x (subst (λ (es : List Entry). Contains (lent es) x) q i) in
           subst (λ (s : Shape). (x.block < s.pages) × (x.part < s.reach)) (sym e) y;
       unlent = λ c i x h. loan_left z ws vs r me v at l c i x (subst (λ (es : List Entry). Contains (lent es) x) q h);
+      covered = λ a w n g.
+          let y = given_lent z ws vs r a w (λ o. n (ap (λ (x : State). (arena_of x a).life) st ∙ o))
+          (subst (λ (x : State). 8 * w < (arena_of x a).given) st g) in
+          subst (λ (x : Shape × List Entry). HasPart (lent x.1) a (w / x.0.page_words)) (λ i. (sym e i, sym q i)) y;
       own_pages = λ p i. subst (λ (s : Shape). p < s.pages) (sym e) (r.pages.claimed_is p me (u.pages.claims p i)).0;
       swept_page = λ a i p w h. subst (λ (s : Shape). p < s.pages) (sym e)
           (let y : IsWiped z r.memory.maps r.memory.cells r.owners.berth me v.sweeps a i p w =

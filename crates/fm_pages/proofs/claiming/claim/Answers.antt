@@ -1,4 +1,4 @@
-use Rattle.std.proofs.Common.{◌<◌, ◌∙◌, refl, subst}
+use Rattle.std.proofs.Common.{◌<◌, ◌∙◌, subst}
 use Rattle.fm_words.specs.declared.shape.Shape.{Shape}
 use Rattle.fm_pages.proofs.Bids.{bids_begin, bids_go_on, bid_claimed, bid_none}
 use Rattle.fm_pages.proofs.claiming.claim.Goals as goal

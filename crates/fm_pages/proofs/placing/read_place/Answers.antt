@@ -1,7 +1,6 @@
 use Rattle.std.proofs.Common.{◌≡◌, ◌<◌, ◌/◌, ◌%◌, ◌-◌, [], ℕ, ap, sym, ◌∙◌, subst, arith, Some}
 use Rattle.fm_words.specs.declared.shape.Shape.{Shape}
 use Rattle.fm_words.specs.Places.{at, page_word}
-use Rattle.fm_base.specs.declared.arena_id.ArenaId.{ArenaId}
 use Rattle.fm_pool_facts.specs.Parts.{reads_after}
 use Rattle.fm_pool_facts.specs.Views.{View}
 use Rattle.fm_pool_facts.specs.Moves.{LearnsMap}

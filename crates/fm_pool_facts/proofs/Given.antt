@@ -1,0 +1,37 @@
+-- Each part of an arena that stands in which a byte was given is lent.
+use Rattle.std.proofs.Common.{◌≡◌, ◌≢◌, ℕ, ◌*◌, ◌/◌, ◌<◌, Bool, true, false, List, [], sym, ap, ◌∙◌, subst, inl, inr, refl, Option, Some, None}
+use Rattle.fm_words.specs.declared.shape.Shape.{Shape}
+use Rattle.fm_base.specs.declared.arena_id.ArenaId.{ArenaId}
+use Rattle.fm_base.specs.Arenas.{Life, Alive, Closing, Ended, State, has_arena, arena_of}
+use Rattle.fm_base.specs.Histories.{state_after}
+use Rattle.fm_base.proofs.Growing.{there_by_life}
+use Rattle.fm_depicts.specs.Functions.{Stage, stage_of}
+use Rattle.fm_pool_facts.specs.Loans.{lent, HasPart}
+use Rattle.fm_pool_facts.specs.Views.{View, limit_of}
+use Rattle.fm_pool_facts.specs.Facts.{IsStanding, Rule}
+use Rattle.fm_pool_facts.proofs.Moving.{mapped_lent}
+use Rattle.fm_pool_facts.proofs.Standing.{standing_shown}
+
+-- an arena of the list that hasn't ended stands
+stands_now : (b : Bool) (l : Life) → b ≡ true → l ≢ Ended → IsStanding (stage_of b l)
+stands_now true Alive h n = inl refl
+stands_now true Closing h n = inr refl
+stands_now true Ended h n = absurd (n refl)
+stands_now false l h n = absurd (cc)
+
+module _ (z : Shape) (ws : List ℕ) (vs : List View) (r : Rule z ws vs) where
+  abbrev s : State
+  s = state_after (limit_of z) [] r.history
+
+  -- the part of a given byte is lent, while its arena hasn't ended
+  pub given_lent : (a : ArenaId) (w : ℕ) → (arena_of s a).life ≢ Ended → 8 * w < (arena_of s a).given → HasPart (lent r.history) a (w / z.page_words)
+  given_lent a w n g = go (r.memory.maps a.slot (w / z.page_words)) refl
+    where
+      st : IsStanding (r.machine.life a)
+      st = subst IsStanding (sym (r.depicts.life a)) (stands_now (has_arena s a) (arena_of s a).life (there_by_life s a n) n)
+
+      go : (o : Option ℕ) → r.memory.maps a.slot (w / z.page_words) ≡ o → HasPart (lent r.history) a (w / z.page_words)
+      go None e = absurd (r.pages.covered a w st (subst (λ (x : ℕ). 8 * w < x) (sym (r.depicts.given a)) g) e)
+      go (Some p) e = (p, mapped_lent z (lent r.history) r.memory.page_bits r.memory.maps r.memory.cells r.owners.berth r.memory.sessions r.machine.life
+          r.machine.word r.machine.given r.valid.page_words.0 r.world.sessions r.pages a (w / z.page_words) p
+          (standing_shown z r.memory.sessions r.machine.life r.world.sessions a st) e)
