@@ -1,33 +1,29 @@
 -- Allocating inside an arena.
-use Rattle.std.proofs.Common.{◌≡◌, ◌≢◌, ℕ, ◌+◌, ◌==◌, ◌≤◌, nat_le, Bool, true, false, if◌then◌else◌, List, [], ◌∷◌, ◌++◌, refl, ap, sym, ◌∙◌, subst, Option, Some, None, Result, Ok, Err, All, eq-eqb, ne_eqb, append_assoc}
+use Rattle.std.proofs.Common.{◌≡◌, ◌≢◌, ℕ, ◌+◌, ◌==◌, Bool, true, List, [], ◌∷◌, ◌++◌, refl, ap, sym, ◌∙◌, subst, All, ne_eqb, append_assoc}
 use Rattle.std.proofs.lemmas.List.{append-nil}
 use Rattle.std.proofs.lemmas.List.Elements.{All-append, All-head, All-nil, All-tail, All-weaker}
 use Rattle.fm_words.specs.declared.shape.Shape.{Shape}
 use Rattle.fm_base.specs.declared.caller.Caller.{Caller}
 use Rattle.fm_base.specs.declared.arena_id.ArenaId.{ArenaId}
-use Rattle.fm_base.specs.declared.refusal.Refusal.{Refusal}
-use Rattle.fm_base.specs.declared.refusal.Refusal.TheVariants as refusal
 use Rattle.fm_base.specs.Arenas.{State, arena_of}
-use Rattle.fm_base.specs.Calls.{Allocate, Call, Reply, Given, NoRoom, Entry, entry_of}
-use Rattle.fm_base.specs.Finds.{Close}
+use Rattle.fm_base.specs.Calls.{Allocate, Reply, Entry, entry_of}
 use Rattle.fm_base.specs.Histories.{state_after}
-use Rattle.fm_base.specs.Machine.{after, allocate_reply, rounded_up, state_by}
+use Rattle.fm_base.specs.Machine.{after, allocate_reply, rounded_up}
 use Rattle.fm_base.proofs.Making.{state_after-append}
 use Rattle.fm_pool_facts.specs.Scarcity.{IsScarce}
-use Rattle.fm_pool_facts.specs.Steps.{Stepped, none_noted, acted, where_found, room, HasParts}
+use Rattle.fm_pool_facts.specs.Steps.{Stepped, none_noted, acted, where_found}
 use Rattle.fm_pool_facts.specs.Views.{View, given_of, limit_of, state_in}
 use Rattle.fm_rule.specs.declared.pool.Pool.{Pool}
-use Rattle.fm_calls.specs.Kept.{Goes, rest_of}
+use Rattle.fm_calls.specs.Kept.{rest_of}
 use Rattle.fm_pages.specs.Covers.{LendsIn}
-use Rattle.fm_pages.specs.Gives.{Tried, Unpaged, allocates}
+use Rattle.fm_pages.specs.Gives.{Tried, allocates}
 use Rattle.fm_pages.specs.Maps.{Way}
 use Rattle.fm_pages.proofs.Exact.{tried_exact}
 use Rattle.fm_pages.proofs.Gives.{way_allocate}
 use Rattle.fm_pages.proofs.Parts.{way_then, pages_way}
-use Rattle.fm_gate.specs.Giving.{Allocates, CanTry, DoesGive, LendsTo, NonePaged, AfterGive}
-use Rattle.fm_gate.specs.Pages.{FullExactly}
+use Rattle.fm_gate.specs.Giving.{CanTry, LendsTo}
 use Rattle.fm_gate.specs.Standing.{IsInside}
-use Rattle.fm_gate.proofs.Scarce.{scarce_seen, clear}
+use Rattle.fm_gate.proofs.Scarce.{scarce_seen}
 use Rattle.fm_gate.proofs.Standing.{stands_inside}
 
 -- The pass stays inside on such a way.
@@ -53,7 +49,8 @@ pub record Giving (pool : Pool) (o p : View) (a : ArenaId) (size align count fou
 -- where another count was found nothing was given
 missed : (o : View) (a : ArenaId) (count size align found : ℕ) → found ≢ count → allocates o a count size align found ≡ []
 missed o a count size align found n =
-    ap (λ (b : Bool). where_found b (entry_of o.caller (Allocate a size align) (allocate_reply (limit_of o.shape) count size align) ∷ [])) (ne_eqb found count n)
+    let reply : Reply = allocate_reply (limit_of o.shape) count size align in
+    ap (λ (b : Bool). where_found b (entry_of o.caller (Allocate a size align) reply ∷ [])) (ne_eqb found count n)
 
 abbrev Exchanges : View → View → ℕ → ℕ → ℕ → ℕ → Type 0
 Exchanges p q count size align found =
@@ -73,7 +70,7 @@ gives_begin {pool = pool} {o = o} {m = m} {p = p} a size align count found i c s
   exact = tried_exact a count size align found [] (All-nil (LendsIn o a count (rounded_up count align + size))) way here.inside;
 }
   where
-    same : (m.shape, m.caller) ≡ (o.shape, o.caller)
+    same : ◌≡◌ {A = Shape × Caller} (m.shape, m.caller) (o.shape, o.caller)
     same = λ j. (c.way.goes.same_shape j, c.way.goes.same_caller j)
 
     way : Way o p (allocates o a count size align found) []
@@ -92,7 +89,7 @@ still limit c a s (e ∷ es) h =
     let one : after limit s e ≡ s = ap (λ (k : Entry). after limit s k) f.2 in
     ap (λ (t : State). state_after limit t es) one ∙ still limit c a s es (All-tail (LendsTo c a) e es h)
 
-lends_to : (v : View) (a : ArenaId) (from to : ℕ) (es : List Entry) → All (LendsIn v a from to) es → All (LendsTo v.caller a) es
+pub lends_to : (v : View) (a : ArenaId) (from to : ℕ) (es : List Entry) → All (LendsIn v a from to) es → All (LendsTo v.caller a) es
 lends_to v a from to es h = All-weaker (LendsIn v a from to) (LendsTo v.caller a) (λ e l. (l.0, l.1, l.4)) es h
 
 module _ {pool : Pool} {o p : View} {a : ArenaId} {size align count found : ℕ} (g : Giving pool o p a size align count found) (n : found ≢ count) where
@@ -123,7 +120,7 @@ module _ {pool : Pool} {o p : View} {a : ArenaId} {size align count found : ℕ}
     -- A try more.
     pub gives_more : Giving pool o q a size align found now
     gives_more =
-        let same : (p.shape, p.caller) ≡ (o.shape, o.caller) = (λ j. (lent_way.goes.same_shape j, lent_way.goes.same_caller j)) in
+        let same : ◌≡◌ {A = Shape × Caller} (p.shape, p.caller) (o.shape, o.caller) = (λ j. (lent_way.goes.same_shape j, lent_way.goes.same_caller j)) in
         let next : Way p q (t.lends ++ allocates o a found size align now) [] =
         subst (λ (x : Shape × Caller). Way p q (t.lends ++ where_found (now == found) (entry_of x.1 (Allocate a size align)
         (allocate_reply (limit_of x.0) found size align) ∷ [])) []) same t.way in
