@@ -13,6 +13,7 @@ use Rattle.fm_base.specs.Does.{DoesEnter, DoesAct, DoesPatch, DoesOpen, DoesAllo
 use Rattle.fm_base.specs.Outcomes.{Gives}
 use Rattle.fm_base.specs.View.{but_loans}
 use Rattle.fm_pool_facts.specs.Views.{View, In, IsKnown, IsBusy}
+use Rattle.fm_pool_facts.specs.Loans.{lent}
 use Rattle.fm_pool_facts.specs.Holds.{grips, with_grips, holds_after, released}
 use Rattle.fm_pool_facts.specs.Words.{alive_holds, hold_found}
 use Rattle.fm_rule.specs.declared.pool.Pool.{Pool}
@@ -91,6 +92,8 @@ pub record AfterOpen (pool : Pool) (old new : View) (kind : Kind) (result : Resu
   pub handle : kind ≡ Automatic → IfOk result (λ id. HasHandle pool new id)
   pub slot : IfOk result (λ _. old.whole ≡ true → ¬ (AllBusy old))
   pub no_slot : IfErr result (λ refusal. (refusal ≡ NoSlot) × FoundNoSlot old new)
+  -- a pass that is known to be whole leaves the loans as they were: a new arena has no page
+  pub lends : old.whole ≡ true → lent new.seen ≡ lent old.seen
   pub outside : IsOutside pool new
   pub lasts : Lasts old new
 

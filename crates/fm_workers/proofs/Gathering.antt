@@ -109,6 +109,7 @@ outside_gathered o k = record {
   unmarked = ap (λ (v : View). v.mark) k.is ∙ o.unmarked;
   no_number = ap (λ (v : View). v.drawn) k.is ∙ o.no_number;
   no_slot = ap (λ (v : View). v.hand) k.is ∙ o.no_slot;
+  no_part = ap (λ (v : View). v.swept) k.is ∙ o.no_part;
 }
 
 -- What holds of all of a list holds of one in its middle.
