@@ -36,18 +36,18 @@ once_by size s loans (Lend block id part) r o l x i j e = ⊎_elim
       (loan_cases (loan_of block id part) x loans j))
     (loan_cases (loan_of block id part) l loans i)
 once_by size s loans (Back block) r o l x i j e = o l x (loan_was (λ y. not (y.block == block)) loans l i) (loan_was (λ y. not (y.block == block)) loans x j) e
-once_by size s loans (Open id) r o = o
-once_by size s loans (Enter id) r o = o
-once_by size s loans (Read id word) r o = o
-once_by size s loans (Write id word value) r o = o
-once_by size s loans (SwapIf id word old new) r o = o
-once_by size s loans (Add id word n) r o = o
-once_by size s loans (Allocate id length align) r o = o
-once_by size s loans (Leave id) r o = o
-once_by size s loans (Hold id) r o = o
-once_by size s loans (Unhold id) r o = o
-once_by size s loans (Shut id) r o = o
-once_by size s loans (End id) r o = o
+once_by size s loans (Open id) r o l x i j e = o l x i j e
+once_by size s loans (Enter id) r o l x i j e = o l x i j e
+once_by size s loans (Read id word) r o l x i j e = o l x i j e
+once_by size s loans (Write id word value) r o l x i j e = o l x i j e
+once_by size s loans (SwapIf id word old new) r o l x i j e = o l x i j e
+once_by size s loans (Add id word n) r o l x i j e = o l x i j e
+once_by size s loans (Allocate id length align) r o l x i j e = o l x i j e
+once_by size s loans (Leave id) r o l x i j e = o l x i j e
+once_by size s loans (Hold id) r o l x i j e = o l x i j e
+once_by size s loans (Unhold id) r o l x i j e = o l x i j e
+once_by size s loans (Shut id) r o l x i j e = o l x i j e
+once_by size s loans (End id) r o l x i j e = o l x i j e
 
 once_after : (size limit : ℕ) (s : State) (loans : List Loan) (es : List Entry) → IsRightlyLentFrom size limit s loans es → IsOnceLent loans
     → IsOnceLent (loans_after loans es)
@@ -87,9 +87,9 @@ module _ (a : ArenaId) (i p : ℕ) where
       (kept_by size s loans e.call r.0 o now c)
 
 -- A part of the arena that the pass is inside is lent still.
-pub part_on : {p q : View} (more : List Entry) → q.seen ≡ p.seen ++ more → q.shape ≡ p.shape → IsSound q → (a : ArenaId) → IsKnown p a → q.inside ≡ Some a
+pub part_on : (p q : View) (more : List Entry) → q.seen ≡ p.seen ++ more → q.shape ≡ p.shape → IsSound q → (a : ArenaId) → IsKnown p a → q.inside ≡ Some a
     → (i : ℕ) → HasPart (lent p.seen) a i → HasPart (lent q.seen) a i
-part_on {p = p} {q = q} more seen shape sound a known inside i h =
+part_on p q more seen shape sound a known inside i h =
     let n : ℕ = limit_of p.shape in
     let legal : IsLegal n [] (p.seen ++ more) = subst (λ (x : Shape × List Entry). IsLegal (limit_of x.0) [] x.1) (λ j. (shape j, seen j)) sound.legal in
     let right : IsRightlyLent p.shape.page_words n (p.seen ++ more) =
@@ -100,6 +100,7 @@ part_on {p = p} {q = q} more seen shape sound a known inside i h =
     (λ j. state_after (limit_of (shape j)) [] (seen j)) ∙ state_after-append n [] p.seen more in
     let once : IsOnceLent (lent p.seen) = once_after p.shape.page_words n [] [] p.seen (lent-first p.shape.page_words n [] [] p.seen more right)
     (λ l x c d e. absurd (let b = c.1 in omega arith)) in
-    let kept = kept_after a i h.0 p.shape.page_words n (state_in p) (lent p.seen) more parts.1 (lent-split p.shape.page_words n [] [] p.seen more right) once known
+    let later = lent-split p.shape.page_words n [] [] p.seen more right in
+    let kept = kept_after a i h.0 p.shape.page_words n (state_in p) (lent p.seen) more parts.1 later once known
     (subst (λ (s : State). (arena_of s a).life ≢ Ended) now stands) h.1 in
     (h.0, subst (λ (ls : List Loan). Contains ls (loan_of h.0 a i)) (sym (ap lent seen ∙ loans_after-append [] p.seen more)) kept)

@@ -156,6 +156,7 @@ pub record AfterBack (old new : View) (id : ArenaId) (word : ℕ) : Type 0 where
   pub inside : new.inside ≡ old.inside
   pub mark : new.mark ≡ old.mark
   pub hand : new.hand ≡ old.hand
+  pub swept : new.swept ≡ old.swept
 
 -- the closes of a pass after a handle was spent
 abbrev pub closes_spent : ArenaId → Option Shutting → List Close → List Close

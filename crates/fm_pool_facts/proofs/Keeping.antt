@@ -19,7 +19,8 @@ use Rattle.fm_base.specs.declared.arena_id.ArenaId.{ArenaId}
 use Rattle.fm_pool_facts.specs.Parts.{Swept, unread, named, wiping}
 use Rattle.fm_pool_facts.specs.Facts.{Memory, Owners, IsStanding, IsAt, IsNext, HasSwept, HasPages, IsClosing, IsSweeping, IsGathered, IsOnce, IsSilent, Begins, Somewhere, Owns, Knows}
 use Rattle.fm_pool_facts.specs.Moves.{MayMake, NoEnd, StaysEnded, Moved, Same, Part, told, Gives}
-use Rattle.fm_pool_facts.proofs.Frame.{others_stay, none_come, still_closing, still_over, made_by-other}
+use Rattle.fm_pool_facts.proofs.Frame.{others_stay, none_come, still_closing, still_over, still_given, made_by-other}
+use Rattle.fm_pool_facts.proofs.Standing.{unstanding}
 use Rattle.fm_pool_facts.proofs.Handing.{hand_on, took_on}
 
 -- ---- lists
@@ -105,14 +106,16 @@ module _ (limit : ℕ) (h : List Entry) (c : Caller) (m : Memory) (t : Machine) 
   }
 
 -- a sweep goes on where nothing of its arena was changed
-pub sweeping_on : (limit : ℕ) (c : Caller) (m : Memory) (t : Machine) (es : List Entry) (m' : Memory) → MayMake limit t c es → (z : Shape) (j : ℕ)
-    (o o' : Owners) (x : Close) → IsSweeping z m t o j x → o'.closer x.arena ≡ o.closer x.arena → StaysEnded m m' x.arena
-    → IsSweeping z m' (moved_by t es) o' j x
-sweeping_on limit c m t es m' ok z j o o' x k e s = record {
+pub sweeping_on : (limit : ℕ) (c : Caller) (m : Memory) (t : Machine) (es : List Entry) (m' : Memory) → MayMake limit t c es
+    → ((k : Caller) (a : ArenaId) → t.inside k ≡ Some a → IsStanding (t.life a)) → (z : Shape) (j : ℕ) (o o' : Owners) (x : Close)
+    → IsSweeping z m t o j x → o'.closer x.arena ≡ o.closer x.arena → StaysEnded m m' x.arena → IsSweeping z m' (moved_by t es) o' j x
+sweeping_on limit c m t es m' ok stands z j o o' x k e s = record {
   owner = e ∙ k.owner;
   life = still_over limit c x.arena es t ok k.life;
   session = s.session;
   parts = λ i l. s.maps i ∙ k.parts i l;
+  count = λ l. s.given ∙ (k.count l
+      ∙ sym (still_given limit c x.arena es t ok k.life (λ i. unstanding (t.life x.arena) k.life (stands c x.arena i))));
   reset = λ l. s.given ∙ k.reset l;
 }
 
@@ -172,7 +175,7 @@ module _ (z : Shape) (h : List Entry) (me : ℕ) (c : Caller) (m : Memory) (t : 
     sweeps = λ x i.
         let y = k.sweeps x i in
         let w = d.sweepers x.arena y.life y.session (λ e. other (sym y.owner ∙ e)) in
-        sweeping_on (limit_of z) c m t es m' d.allowed z j o o' x y w.0 w.1;
+        sweeping_on (limit_of z) c m t es m' d.allowed stands z j o o' x y w.0 w.1;
     swept_once = k.swept_once;
     hand = hand_on z m.bits m'.bits m.sessions m'.sessions o.holder o'.holder j
         (λ s g f b e. let w = d.holders s g f b (λ q. other (sym e ∙ q)) in (w.0 ∙ e, w.1, w.2)) v.hand k.hand;

@@ -16,6 +16,7 @@ pub mod Moving
 pub mod Living
 pub mod Scarcity
 pub mod Unlending
+pub mod Ending
 pub mod Given
 pub mod Founds
 pub mod Drawers

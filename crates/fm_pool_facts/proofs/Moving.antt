@@ -15,9 +15,9 @@ use Rattle.fm_pool_facts.proofs.Putting.{two_cases}
 use Rattle.fm_pool_facts.specs.Loans.{Loan, loan_of, loans_by, IsFree, HasPart}
 use Rattle.fm_pool_facts.specs.Facts.{Session, free, live, shut, IsShown, IsStanding, Sessions}
 use Rattle.fm_pool_facts.proofs.Lending.{loan_cases, loan_was}
-use Rattle.fm_pool_facts.proofs.Standing.{standing_shown, one_standing, ended_apart}
+use Rattle.fm_pool_facts.proofs.Standing.{standing_shown, shown_one, one_standing, ended_apart}
 use Rattle.fm_pool_facts.specs.Berths.{Berth, loose, claimed, mapped, unmapped, IsAt, LentAt}
-use Rattle.fm_pool_facts.specs.Pages.{IsBlank, IsMapped, IsUnmapped, Pages}
+use Rattle.fm_pool_facts.specs.Pages.{IsBlank, IsBeyond, IsMapped, IsUnmapped, Pages}
 
 pub first_loan : (l : Loan) (loans : List Loan) → Contains (l ∷ loans) l
 first_loan l loans = Contains-append_left (l ∷ []) loans l (Contains-push [] l)
@@ -41,21 +41,11 @@ module _ (z : Shape) (loans : List Loan) (bits : ℕ) (maps : ℕ → ℕ → Op
   pub claimed_free : (p j : ℕ) → berth p ≡ claimed j → IsFree loans p
   claimed_free p j e = free_of p (λ l. subst (λ (b : Berth). ¬ (LentAt b l)) (sym e) (λ x. x))
 
-  -- what a session shows of a slot is one arena
-  shown_one : (a b : ArenaId) → a.slot ≡ b.slot → IsShown sessions a → IsShown sessions b → a ≡ b
-  shown_one a b e x y = both (subst (λ (k : ℕ). (sessions k ≡ live a) ⊎ (sessions k ≡ shut a)) e x) y
-    where
-      both : (sessions b.slot ≡ live a) ⊎ (sessions b.slot ≡ shut a) → (sessions b.slot ≡ live b) ⊎ (sessions b.slot ≡ shut b) → a ≡ b
-      both (inl u) (inl v) = cc
-      both (inl u) (inr v) = absurd (cc)
-      both (inr u) (inl v) = absurd (cc)
-      both (inr u) (inr v) = cc
-
   -- a mapped part of an arena that its session shows is lent, and its only loan is of that page
   pub mapped_lent : (a : ArenaId) (i p : ℕ) → IsShown sessions a → maps a.slot i ≡ Some p → Contains loans (loan_of p a i)
   mapped_lent a i p x e =
       let y = r.mapped_is p a.slot i (r.map_is a.slot i p e) in
-      subst (λ (b : ArenaId). Contains loans (loan_of p b i)) (shown_one y.arena a y.slot y.shown x) y.lent
+      subst (λ (b : ArenaId). Contains loans (loan_of p b i)) (shown_one sessions y.arena a y.slot y.shown x) y.lent
 
   -- a lent part of an arena that stands is mapped to its page
   pub lent_mapped : (a : ArenaId) (i p : ℕ) → IsStanding (life a) → Contains loans (loan_of p a i) → maps a.slot i ≡ Some p
@@ -89,10 +79,10 @@ module _ (z : Shape) (loans : List Loan) (bits : ℕ) (maps : ℕ → ℕ → Op
             (λ n e. others p n ∙ r.is_bit p low e);
         map_is = λ k i p e. put_else berth bit (claimed me) p (λ q. let u : loose ≡ mapped k i = sym was.0 ∙ (ap berth (sym q) ∙ r.map_is k i p e) in absurd (cc))
             ∙ r.map_is k i p e;
-        mapped_is = λ p k i. put_cases berth bit (claimed me) p (λ (b : Berth). b ≡ mapped k i → IsMapped z loans maps sessions p k i)
+        mapped_is = λ p k i. put_cases berth bit (claimed me) p (λ (b : Berth). b ≡ mapped k i → IsMapped z loans maps cells sessions given p k i)
             (λ q e. absurd (cc))
             (λ n e. r.mapped_is p k i e);
-        unmapped_is = λ p j i a. put_cases berth bit (claimed me) p (λ (b : Berth). b ≡ unmapped j a i → IsUnmapped z loans life p a i)
+        unmapped_is = λ p j i a. put_cases berth bit (claimed me) p (λ (b : Berth). b ≡ unmapped j a i → IsUnmapped z loans cells life given p a i)
             (λ q e. absurd (cc))
             (λ n e. r.unmapped_is p j i a e);
         claimed_is = λ p j. put_cases berth bit (claimed me) p (λ (b : Berth). b ≡ claimed j → (p < z.pages) × IsBlank z cells p)
@@ -123,7 +113,7 @@ module _ (z : Shape) (loans : List Loan) (bits : ℕ) (maps : ℕ → ℕ → Op
         (λ e f x. let w : p ≡ q = cc in ap (put berth p here) (sym w) ∙ (put_here berth p here ∙ (λ j. mapped (sym e j) (sym f j))))
         (λ ne x. let y = r.map_is k c q x in
         put_else berth p here q (λ w. let u : mapped k c ≡ claimed me = sym y ∙ (ap berth w ∙ mine) in absurd (cc)) ∙ y);
-    mapped_is = λ q k c. put_cases berth p here q (λ (b : Berth). b ≡ mapped k c → IsMapped z loans' maps' sessions q k c)
+    mapped_is = λ q k c. put_cases berth p here q (λ (b : Berth). b ≡ mapped k c → IsMapped z loans' maps' cells sessions given q k c)
         (λ e x. let f : a.slot ≡ k = cc in let g : i ≡ c = cc in new q k c e f g)
         (λ ne x.
         let y = r.mapped_is q k c x in
@@ -136,11 +126,12 @@ module _ (z : Shape) (loans : List Loan) (bits : ℕ) (maps : ℕ → ℕ → Op
           slot = y.slot;
           shown = y.shown;
           lent = more_loans (loan_of p a i) (loan_of q y.arena c) loans y.lent;
+          beyond = y.beyond;
         });
-    unmapped_is = λ q j c b. put_cases berth p here q (λ (x : Berth). x ≡ unmapped j b c → IsUnmapped z loans' life q b c)
+    unmapped_is = λ q j c b. put_cases berth p here q (λ (x : Berth). x ≡ unmapped j b c → IsUnmapped z loans' cells life given q b c)
         (λ e x. absurd (cc))
         (λ ne x. let y = r.unmapped_is q j c b x in
-        record { page = y.page; part = y.part; lent = more_loans (loan_of p a i) (loan_of q b c) loans y.lent; over = y.over });
+        record { page = y.page; part = y.part; lent = more_loans (loan_of p a i) (loan_of q b c) loans y.lent; over = y.over; beyond = y.beyond });
     claimed_is = λ q j. put_cases berth p here q (λ (b : Berth). b ≡ claimed j → (q < z.pages) × IsBlank z cells q) (λ e x. absurd (cc)) (λ ne x. r.claimed_is q j x);
     loose_is = λ q. put_cases berth p here q (λ (b : Berth). b ≡ loose → IsBlank z cells q) (λ e x. absurd (cc)) (λ ne x. r.loose_is q x);
     lent_is = λ l h. ⊎_elim
@@ -190,7 +181,7 @@ module _ (z : Shape) (loans : List Loan) (bits : ℕ) (maps : ℕ → ℕ → Op
           (λ (q : sessions a.slot ≡ shut a). let u : free g ≡ shut a = sym f ∙ (ap sessions e ∙ q) in absurd (cc))
           (standing_shown z sessions life s a st)
 
-      new : (q k c : ℕ) → q ≡ p → a.slot ≡ k → i ≡ c → IsMapped z loans' maps' sessions q k c
+      new : (q k c : ℕ) → q ≡ p → a.slot ≡ k → i ≡ c → IsMapped z loans' maps' cells sessions given q k c
       new q k c e f g = record {
         page = subst (λ (x : ℕ). x < z.pages) (sym e) (r.claimed_is p me mine).0;
         part = subst (λ (x : ℕ). x < z.reach) g low;
@@ -199,6 +190,7 @@ module _ (z : Shape) (loans : List Loan) (bits : ℕ) (maps : ℕ → ℕ → Op
         slot = f;
         shown = standing_shown z sessions life s a st;
         lent = subst (λ (x : ℕ × ℕ). Contains loans' (loan_of x.0 a x.1)) (λ j. (sym e j, g j)) (first_loan (loan_of p a i) loans);
+        beyond = λ w n h. ap (λ (x : ℕ). cells x (w % z.page_words)) e ∙ (r.claimed_is p me mine).1 (w % z.page_words) (mod-lt w some_words);
       }
 
   -- ---- a map word of an ended arena is cleared: the sweep has the page
@@ -213,7 +205,7 @@ module _ (z : Shape) (loans : List Loan) (bits : ℕ) (maps : ℕ → ℕ → Op
         (λ e f x. absurd (cc))
         (λ ne x. let y = r.map_is k c q x in
         put_else berth p gone q (λ w. let u : mapped k c ≡ mapped a.slot i = sym y ∙ (ap berth w ∙ here) in let f : k ≡ a.slot = cc in let g : c ≡ i = cc in ne (f, g)) ∙ y);
-    mapped_is = λ q k c. put_cases berth p gone q (λ (b : Berth). b ≡ mapped k c → IsMapped z loans maps' sessions q k c)
+    mapped_is = λ q k c. put_cases berth p gone q (λ (b : Berth). b ≡ mapped k c → IsMapped z loans maps' cells sessions given q k c)
         (λ e x. absurd (cc))
         (λ ne x.
         let y = r.mapped_is q k c x in
@@ -226,10 +218,17 @@ module _ (z : Shape) (loans : List Loan) (bits : ℕ) (maps : ℕ → ℕ → Op
           slot = y.slot;
           shown = y.shown;
           lent = y.lent;
+          beyond = y.beyond;
         });
-    unmapped_is = λ q j c b. put_cases berth p gone q (λ (x : Berth). x ≡ unmapped j b c → IsUnmapped z loans life q b c)
+    unmapped_is = λ q j c b. put_cases berth p gone q (λ (x : Berth). x ≡ unmapped j b c → IsUnmapped z loans cells life given q b c)
         (λ e x. let f : a ≡ b = cc in let g : i ≡ c = cc in
-        subst (λ (y : ℕ × ArenaId × ℕ). IsUnmapped z loans life y.0 y.1 y.2) (λ n. (sym e n, f n, g n)) (record { page = was.page; part = was.part; lent = mapped_lent a i p (inr sh) named; over = over }))
+        subst (λ (y : ℕ × ArenaId × ℕ). IsUnmapped z loans cells life given y.0 y.1 y.2) (λ n. (sym e n, f n, g n)) (record {
+          page = was.page;
+          part = was.part;
+          lent = mapped_lent a i p (inr sh) named;
+          over = over;
+          beyond = subst (λ (c : ArenaId). IsBeyond z cells (given c) p i) (shown_one sessions was.arena a was.slot was.shown (inr sh)) was.beyond;
+        }))
         (λ ne x. r.unmapped_is q j c b x);
     claimed_is = λ q j. put_cases berth p gone q (λ (b : Berth). b ≡ claimed j → (q < z.pages) × IsBlank z cells q) (λ e x. absurd (cc)) (λ ne x. r.claimed_is q j x);
     loose_is = λ q. put_cases berth p gone q (λ (b : Berth). b ≡ loose → IsBlank z cells q) (λ e x. absurd (cc)) (λ ne x. r.loose_is q x);
@@ -254,7 +253,7 @@ module _ (z : Shape) (loans : List Loan) (bits : ℕ) (maps : ℕ → ℕ → Op
       here : berth p ≡ mapped a.slot i
       here = r.map_is a.slot i p named
 
-      was : IsMapped z loans maps sessions p a.slot i
+      was : IsMapped z loans maps cells sessions given p a.slot i
       was = r.mapped_is p a.slot i here
 
       gone : Berth

@@ -24,15 +24,16 @@ use Rattle.std.specs.Int.{bit_at}
 use Rattle.std.specs.Prelude.{Contains}
 use Rattle.fm_pool_facts.proofs.Handing.{slot_below}
 use Rattle.fm_pool_facts.specs.Holds.{grips, holds_of}
-use Rattle.fm_pool_facts.specs.Loans.{Loan, lent, loans_after, HasPart, IsRightlyLent}
+use Rattle.fm_pool_facts.specs.Loans.{Loan, loan_of, lent, loans_after, HasPart, IsRightlyLent}
 use Rattle.fm_pool_facts.specs.Moves.{MayLend}
 use Rattle.fm_pool_facts.proofs.Lending.{over_now, loans_after-append, lent-append, lent_on}
 use Rattle.fm_pool_facts.specs.Gone.{FoundBy, IsFounded}
 use Rattle.fm_pool_facts.proofs.Alone.{none_now}
-use Rattle.fm_pool_facts.proofs.Given.{given_lent}
+use Rattle.fm_pool_facts.proofs.Given.{given_lent, mapped_part}
 use Rattle.fm_pool_facts.proofs.Gone.{none_founded, found_on, founded_on, founded_told}
 use Rattle.fm_pool_facts.proofs.Callers.{all_now, few_gathered, whole_has, knows_callers}
 use Rattle.fm_pool_facts.proofs.Frame.{legal_on}
+use Rattle.fm_pool_facts.proofs.Standing.{unstanding}
 use Rattle.fm_pool_facts.proofs.Summing.{total-set, total-has, some_hold}
 use Rattle.fm_pool_facts.proofs.Gripping.{held_now, held_lives}
 use Rattle.fm_pool_facts.proofs.Handles.{handles_told}
@@ -83,11 +84,6 @@ lives_held z ws vs r me v at l a i =
 nobody : (ks : List Caller) → ((k : Caller) → ¬ (Contains ks k)) → ks ≡ []
 nobody [] n = refl
 nobody (k ∷ ks) n = absurd (n k (contains_first ks k))
-
--- what has ended doesn't stand
-unstanding : (x : Stage) → x ≡ Over → ¬ (IsStanding x)
-unstanding x o (inl e) = let q : Over ≡ Lives = sym o ∙ e in absurd (cc)
-unstanding x o (inr e) = let q : Over ≡ Closes = sym o ∙ e in absurd (cc)
 
 -- ---- loans
 
@@ -187,6 +183,8 @@ sound_of z ws vs r me v at l lone q =
           let y = given_lent z ws vs r a w (λ o. n (ap (λ (x : State). (arena_of x a).life) st ∙ o))
           (subst (λ (x : State). 8 * w < (arena_of x a).given) st g) in
           subst (λ (x : Shape × List Entry). HasPart (lent x.1) a (w / x.0.page_words)) (λ i. (sym e i, sym q i)) y;
+      reads = λ a m i j. subst (λ (es : List Entry). Contains (lent es) (loan_of m.page a m.part)) (sym q)
+          (mapped_part z ws vs r v.caller a m.part m.page (u.inside ∙ i) (u.pages.read a i m j));
       own_pages = λ p i. subst (λ (s : Shape). p < s.pages) (sym e) (r.pages.claimed_is p me (u.pages.claims p i)).0;
       swept_page = λ a i p w h. subst (λ (s : Shape). p < s.pages) (sym e)
           (let y : IsWiped z r.memory.maps r.memory.cells r.owners.berth me v.sweeps a i p w =

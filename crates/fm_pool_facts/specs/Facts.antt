@@ -97,6 +97,8 @@ pub record IsSweeping (z : Shape) (m : Memory) (t : Machine) (o : Owners) (j : �
   pub life : t.life c.arena ≡ Over
   pub session : m.sessions c.arena.slot ≡ shut c.arena
   pub parts : (i : ℕ) → i < c.visited → m.maps c.arena.slot i ≡ None
+  -- the given word shows what it gave, until it is reset
+  pub count : c.visited ≤ z.reach → m.given c.arena.slot ≡ t.given c.arena
   pub reset : z.reach < c.visited → m.given c.arena.slot ≡ 0
 
 -- the part is the next one of the arena's sweep

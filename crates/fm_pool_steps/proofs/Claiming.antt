@@ -142,7 +142,7 @@ module _ (z : Shape) (me : ℕ) (v : View) (l : v.live ≡ true) (ws : List ℕ)
         once = mine.once;
         sweeps = λ c j.
             let y = mine.sweeps c j in
-            sweeping_on (limit_of z) v.caller r.memory r.machine es m' q.may z me r.owners o' c y refl (stays_ended c.arena y.life y.session);
+            sweeping_on (limit_of z) v.caller r.memory r.machine es m' q.may (λ k b i. (r.world.marked k b i).stands) z me r.owners o' c y refl (stays_ended c.arena y.life y.session);
         swept_once = mine.swept_once;
         hand = mine.hand;
         took = mine.took;

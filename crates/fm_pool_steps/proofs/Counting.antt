@@ -91,7 +91,7 @@ module _ (z : Shape) (me : ℕ) (v : View) (l : v.live ≡ true) (lone : v.met �
             mark = u.mark;
             closes = λ c j. let y = u.closes c j in record { owner = y.owner; life = y.life; visited = y.visited };
             once = u.once;
-            sweeps = λ c j. let y = u.sweeps c j in record { owner = y.owner; life = y.life; session = y.session; parts = y.parts; reset = y.reset };
+            sweeps = λ c j. let y = u.sweeps c j in record { owner = y.owner; life = y.life; session = y.session; parts = y.parts; count = y.count; reset = y.reset };
             swept_once = u.swept_once;
             hand = u.hand;
             took = u.took;
@@ -147,7 +147,7 @@ module _ (z : Shape) (me : ℕ) (v : View) (l : v.live ≡ true) (lone : v.met �
           mark = x.mark;
           closes = λ c i. let y = x.closes c i in record { owner = y.owner; life = y.life; visited = y.visited };
           once = x.once;
-          sweeps = λ c i. let y = x.sweeps c i in record { owner = y.owner; life = y.life; session = y.session; parts = y.parts; reset = y.reset };
+          sweeps = λ c i. let y = x.sweeps c i in record { owner = y.owner; life = y.life; session = y.session; parts = y.parts; count = y.count; reset = y.reset };
           swept_once = x.swept_once;
           hand = x.hand;
           took = x.took;

@@ -183,7 +183,7 @@ module _ (z : Shape) (ws : List ℕ) (vs : List View) (r : Rule z ws vs) (id : �
           mark = kv.mark;
           closes = λ c i. let y = kv.closes c i in record { owner = y.owner; life = y.life; visited = y.visited };
           once = kv.once;
-          sweeps = λ c i. let y = kv.sweeps c i in record { owner = y.owner; life = y.life; session = y.session; parts = y.parts; reset = y.reset };
+          sweeps = λ c i. let y = kv.sweeps c i in record { owner = y.owner; life = y.life; session = y.session; parts = y.parts; count = y.count; reset = y.reset };
           swept_once = kv.swept_once;
           hand = kv.hand;
           took = kv.took;
@@ -243,7 +243,7 @@ module _ (z : Shape) (ws : List ℕ) (vs : List View) (r : Rule z ws vs) (id : �
           mark = x.mark;
           closes = λ c i. let y = x.closes c i in record { owner = y.owner; life = y.life; visited = y.visited };
           once = x.once;
-          sweeps = λ c i. let y = x.sweeps c i in record { owner = y.owner; life = y.life; session = y.session; parts = y.parts; reset = y.reset };
+          sweeps = λ c i. let y = x.sweeps c i in record { owner = y.owner; life = y.life; session = y.session; parts = y.parts; count = y.count; reset = y.reset };
           swept_once = x.swept_once;
           hand = x.hand;
           took = x.took;

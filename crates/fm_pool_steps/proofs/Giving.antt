@@ -90,7 +90,7 @@ module _ (z : Shape) (me : ℕ) (v : View) (l : v.live ≡ true) (s : ℕ) (hand
         closes = owned.closes;
         once = owned.once;
         sweeps = λ c j.
-            let y = owned.sweeps c j in record { owner = y.owner; life = y.life; session = y.session; parts = y.parts; reset = y.reset };
+            let y = owned.sweeps c j in record { owner = y.owner; life = y.life; session = y.session; parts = y.parts; count = y.count; reset = y.reset };
         swept_once = owned.swept_once;
         hand = tt;
         took = tt;

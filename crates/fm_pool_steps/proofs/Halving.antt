@@ -124,7 +124,7 @@ module _ (z : Shape) (ws : List ℕ) (vs : List View) (r : Rule z ws vs) (id : �
           mark = u.mark;
           closes = λ c i. let y = u.closes c i in record { owner = y.owner; life = y.life; visited = y.visited };
           once = u.once;
-          sweeps = λ c i. let y = u.sweeps c i in record { owner = y.owner; life = y.life; session = y.session; parts = y.parts; reset = y.reset };
+          sweeps = λ c i. let y = u.sweeps c i in record { owner = y.owner; life = y.life; session = y.session; parts = y.parts; count = y.count; reset = y.reset };
           swept_once = u.swept_once;
           hand = u.hand;
           took = u.took;
@@ -194,7 +194,7 @@ module _ (z : Shape) (ws : List ℕ) (vs : List View) (r : Rule z ws vs) (id : �
           mark = x.mark;
           closes = λ c i. let y = x.closes c i in record { owner = y.owner; life = y.life; visited = y.visited };
           once = x.once;
-          sweeps = λ c i. let y = x.sweeps c i in record { owner = y.owner; life = y.life; session = y.session; parts = y.parts; reset = y.reset };
+          sweeps = λ c i. let y = x.sweeps c i in record { owner = y.owner; life = y.life; session = y.session; parts = y.parts; count = y.count; reset = y.reset };
           swept_once = x.swept_once;
           hand = x.hand;
           took = x.took;

@@ -177,7 +177,7 @@ module _ (z : Shape) (me : ℕ) (v : View) (l : v.live ≡ true) (a : ArenaId) (
         once = mine.once;
         sweeps = λ c i.
             let y = mine.sweeps c i in
-            sweeping_on (limit_of z) v.caller r.memory r.machine es m' ok z me r.owners r.owners c y refl (ended_on c.arena y.session);
+            sweeping_on (limit_of z) v.caller r.memory r.machine es m' ok (λ k b i. (r.world.marked k b i).stands) z me r.owners r.owners c y refl (ended_on c.arena y.session);
         swept_once = mine.swept_once;
         hand = tt;
         took = tt;

@@ -1,5 +1,5 @@
 -- Steps that leave closes and hands as they are.
-use Rattle.std.proofs.Common.{◌≡◌, ◌≢◌, ℕ, ◌<◌, ◌≤◌, true, List, [], ◌++◌, length, set, sym, refl, ap, ◌∙◌, subst, arith, inl, inr, Some}
+use Rattle.std.proofs.Common.{◌≡◌, ◌≢◌, ℕ, ◌<◌, ◌≤◌, true, List, [], ◌++◌, length, set, get_or, sym, refl, ap, ◌∙◌, subst, arith, inl, inr, Some}
 use mathlib.Core.Option.{some}
 use lib.ListN.{get_elem?}
 use Rattle.fm_words.specs.declared.shape.Shape.{Shape}
@@ -15,7 +15,7 @@ use Rattle.std.specs.Int.{bit_at}
 use Rattle.fm_pool_facts.specs.Hands.{Hand, HasSlot, IsTaker}
 use Rattle.fm_pool_facts.proofs.Handing.{hand_on}
 use Rattle.fm_pool_facts.specs.Holds.{with_grips}
-use Rattle.fm_pool_facts.specs.Views.{View, In, IsKnown, given_of, limit_of}
+use Rattle.fm_pool_facts.specs.Views.{View, In, IsKnown, IsOver, given_of, limit_of}
 use Rattle.fm_pool_facts.specs.Facts.{Memory, free, shut, Shows, World, IsOnce, Owners, HasInHand, HasClose, HasSweep, KeepsSlot, Owns, Rule}
 use Rattle.fm_pool_facts.specs.Moves.{MayMake, NoEnd, StaysEnded, Moved, Same, Part, KeepsCloses, KeepsSweeps, KeepsSlots, KeepsHolds, Gives}
 use Rattle.fm_base.specs.Histories.{IsLegal}
@@ -23,7 +23,10 @@ use Rattle.fm_base.proofs.Making.{state_after-append, IsLegal-split}
 use Rattle.fm_base.proofs.Growing.{Grows-state_after}
 use Rattle.fm_pool_facts.proofs.Keeping.{closing_on, sweeping_on}
 use Rattle.fm_pool_facts.proofs.Frame.{was_over}
-use Rattle.fm_pool_facts.proofs.Founds.{NoneDrawn, NoDraw}
+use Rattle.fm_pool_facts.proofs.Ending.{given_later}
+use Rattle.fm_pool_facts.proofs.Founds.{NoneDrawn, NoDraw, no_draw}
+use Rattle.fm_pool_facts.proofs.Shown.{shows_same}
+use Rattle.fm_pool_facts.specs.Steps.{none_noted}
 use Rattle.fm_pool_facts.specs.Gone.{FoundBy}
 use Rattle.fm_pool_facts.proofs.Gone.{none_founded}
 use Rattle.fm_pool_facts.specs.Loans.{lent}
@@ -134,6 +137,17 @@ module _ (z : Shape) (ws : List ℕ) (vs : List View) (r : Rule z ws vs) (me : �
       let is : (arena_of (state_after limit now zs) a).given ≡ r.machine.given a = ap (λ (s : State). (arena_of s a).given) (sym on) ∙ sym (r.depicts.given a) in
       omega arith
 
+  -- what it has seen of an arena that is over is all that was given
+  pub given_over : (a : ArenaId) → IsOver v a → r.machine.given a ≡ given_of v a
+  given_over a o =
+      let k = r.each me v at in
+      let sh : z ≡ v.shape = sym (k.shape l) in
+      let zs : List Entry = k.begins.0 in
+      let legal : IsLegal (limit_of v.shape) [] (v.seen ++ zs) = subst (λ (x : Shape × List Entry). IsLegal (limit_of x.0) [] x.1) (λ j. (sh j, k.begins.1 j)) r.legal in
+      let same : state_after (limit_of z) [] r.history ≡ state_after (limit_of v.shape) [] (v.seen ++ zs) = (λ j. state_after (limit_of (sh j)) [] (k.begins.1 j)) in
+      r.depicts.given a ∙ (ap (λ (s : State). (arena_of s a).given) same
+      ∙ given_later (limit_of v.shape) v.seen zs a legal o.known (record { life = o.life; empty = o.empty }))
+
   module _ (es : List Entry) (m' : Memory) (p : View) where
     -- what a step that leaves closes and slots may do to others
     pub plain_moved : MayMake (limit_of z) r.machine v.caller es → ((b : ArenaId) → NoEnd es b)
@@ -178,7 +192,7 @@ module _ (z : Shape) (ws : List ℕ) (vs : List View) (r : Rule z ws vs) (me : �
       once = subst (IsOnce (λ (c : Close). c.arena)) (sym cl) own.once;
       sweeps = λ c i.
           let y = own.sweeps c (subst (In c) sw i) in
-          sweeping_on (limit_of z) v.caller r.memory r.machine es m' ok z me r.owners r.owners c y refl (ended c.arena y.life y.session);
+          sweeping_on (limit_of z) v.caller r.memory r.machine es m' ok (λ k b i. (r.world.marked k b i).stands) z me r.owners r.owners c y refl (ended c.arena y.life y.session);
       swept_once = subst (IsOnce (λ (c : Close). c.arena)) (sym sw) own.swept_once;
       hand = subst (HasInHand z m'.bits m'.sessions r.owners.holder me) (sym hd) (hand_still z r.memory m' r.owners.holder me still bits v.hand own.hand);
       took = subst (λ (x : Caller × Hand). IsTaker r.owners.taker x.0 x.1) (λ j. (sym s.caller j, sym hd j)) own.took;
@@ -277,3 +291,38 @@ pub plain : (z : Shape) (ws : List ℕ) (vs : List View) (r : Rule z ws vs) (me 
 plain z ws vs r me v at l i x p es fs nd m' q =
     plain_with z ws vs r me v at l i x p es fs (λ n f i. let y = nd n f i in (y.0, y.1))
     (none_founded z r.history r.memory r.owners.taker r.machine.life v.caller fs (λ n f i. let y = nd n f i in (y.2, y.3)) (length r.history)) m' q
+
+-- a step that looks at a word and leaves all as it is
+pub looks_on : (z : Shape) (ws : List ℕ) (vs : List View) (r : Rule z ws vs) (me : ℕ) (v : View) → get_elem? vs me ≡ some v → v.live ≡ true → (i : ℕ)
+    → Made z ws vs me v i (get_or ws i 0) v [] none_noted
+looks_on z ws vs r me v at l i =
+    let k = own z ws vs r me v at l in
+    plain z ws vs r me v at l i (get_or ws i 0) v [] none_noted no_draw r.memory (record {
+      may = tt;
+      ends = λ b. tt;
+      marks = λ n h. refl;
+      terms = λ n. refl;
+      draw = refl;
+      still = λ s g f. f;
+      back = λ s g f. f;
+      bits = refl;
+      same = same_none v;
+      closes = refl;
+      hand = refl;
+      sweeps = refl;
+      ended = λ b o f. stays_ended r.memory b f;
+      shown = λ b f. f;
+      was = λ b h. h;
+      holds = λ b. refl;
+      lends = tt;
+      pages = r.pages;
+      maps = refl;
+      cells = λ p j b w. refl;
+      reads = λ b e x h. (e, h);
+      paged = refl;
+      swept = refl;
+      shows = shows_same z r.valid ws r.memory r.shows i;
+      world = r.world;
+      inside = k.inside;
+      mark = k.mark;
+    })

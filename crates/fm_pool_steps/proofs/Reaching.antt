@@ -34,7 +34,8 @@ use Rattle.fm_pool_facts.proofs.Worlds.{world_word, world_given}
 use Rattle.fm_pool_facts.proofs.Shown.{shows_same, shows_cell, shows_given}
 use Rattle.fm_pool_steps.proofs.Reading.{eqb_true}
 use Rattle.fm_pool_facts.proofs.Founds.{no_draw}
-use Rattle.fm_pool_steps.proofs.Plain.{same_none, stays_ended, own, Made, plain}
+use Rattle.fm_pool_steps.proofs.Plain.{same_none, stays_ended, own, given_now, Made, plain}
+use Rattle.fm_base.proofs.Growing.{le-rounded_up, power_pos}
 
 -- an arena has the words of its slot
 span_within : (z : Shape) (w : ℕ) → w < span z → w < words_within (limit_of z)
@@ -107,8 +108,8 @@ module _ (z : Shape) (me : ℕ) (v : View) (l : v.live ≡ true) (a : ArenaId) (
           mark = k.mark;
         })
 
-  -- where the pass has read which page has the word
-  module _ (w p : ℕ) (read : In (mapping_of (w / z.page_words) p) v.reads) where
+  -- where the word has a given byte, and the pass has read which page has the word
+  module _ (w : ℕ) (has : 8 * w < given_of v a) (p : ℕ) (read : In (mapping_of (w / z.page_words) p) v.reads) where
     abbrev o : ℕ
     o = w % z.page_words
 
@@ -129,7 +130,7 @@ module _ (z : Shape) (me : ℕ) (v : View) (l : v.live ≡ true) (a : ArenaId) (
       at_it : r.owners.berth p ≡ mapped a.slot part_of
       at_it = r.pages.map_is a.slot part_of p named
 
-      there : IsMapped z (lent r.history) r.memory.maps r.memory.sessions p a.slot part_of
+      there : IsMapped z (lent r.history) r.memory.maps r.memory.cells r.memory.sessions r.machine.given p a.slot part_of
       there = r.pages.mapped_is p a.slot part_of at_it
 
       in_page : o < z.page_words
@@ -167,7 +168,7 @@ module _ (z : Shape) (me : ℕ) (v : View) (l : v.live ≡ true) (a : ArenaId) (
           (shows_cell z r.valid ws r.memory r.shows p o y there.page in_page)
           (world_word z r.memory r.machine r.world (put r.memory.cells p (put (r.memory.cells p) o y)) (put_at r.machine.word a (put (r.machine.word a) w y)))
           (pages_write z (lent r.history) r.memory.page_bits r.memory.maps r.memory.cells r.owners.berth r.memory.sessions r.machine.life r.machine.word
-          r.machine.given r.world.sessions r.pages a w p y (stands ws vs r at) named)
+          r.machine.given r.world.sessions r.pages a w p y (stands ws vs r at) named (let n = given_now z ws vs r me v at l a in omega arith))
           (λ q j b n. λ k. put_else r.memory.cells p (put (r.memory.cells p) o y) q (λ e. unmapped_at j (subst (IsAt j) (ap r.owners.berth e ∙ at_it) b)) k n)
           (λ b o f. record { session = f; maps = λ i. refl; given = refl })
         where
@@ -260,6 +261,9 @@ module _ (z : Shape) (me : ℕ) (v : View) (l : v.live ≡ true) (a : ArenaId) (
           let q : None ≡ Some y.0 = sym none ∙ h in absurd (cc))
       ]
 
+      more : get_or ws place 0 ≡ count → r.machine.given a ≤ round + size
+      more e = let up = le-rounded_up count align (power_pos align power) in let q = is_given in omega arith
+
       -- where the count was the expected one, the range fits or it doesn't
       gives : get_or ws place 0 ≡ count → (b : Bool) → nat_le (round + size) (limit_of z) ≡ b
           → Made z ws vs me v place (if b then round + size else count) v
@@ -270,7 +274,7 @@ module _ (z : Shape) (me : ℕ) (v : View) (l : v.live ≡ true) (a : ArenaId) (
           (shows_given z r.valid ws r.memory r.shows a.slot (round + size) (fit ws vs r at).slot)
           (world_given z r.memory r.machine r.world a (round + size) (stands ws vs r at))
           (pages_given z (lent r.history) r.memory.page_bits r.memory.maps r.memory.cells r.owners.berth r.memory.sessions r.machine.life r.machine.word
-          r.machine.given r.world.sessions r.pages a (round + size) (stands ws vs r at) (covered e fits))
+          r.machine.given r.world.sessions r.pages a (round + size) (stands ws vs r at) (more e) (covered e fits))
           (λ q j b n. refl)
           (λ b o f. record { session = f; maps = λ i. refl; given = put_else r.memory.given a.slot (round + size) b.slot (apart ws vs r at b f o) })
         where

@@ -222,7 +222,7 @@ module _ (z : Shape) (me : ℕ) (v : View) (l : v.live ≡ true) (sh : v.shape �
           sweeps = λ c i.
               let w = in_dropped a c v.sweeps mine.swept_once i in
               let y = mine.sweeps c w.0 in
-              sweeping_on (limit_of z) v.caller r.memory r.machine es m' ok z me r.owners o' c y refl (ended_on c.arena y.session w.1);
+              sweeping_on (limit_of z) v.caller r.memory r.machine es m' ok (λ k b i. (r.world.marked k b i).stands) z me r.owners o' c y refl (ended_on c.arena y.session w.1);
           swept_once = once_dropped a v.sweeps mine.swept_once;
           hand = in_hand last is;
           took = took_by last;

@@ -168,7 +168,7 @@ module _ (z : Shape) (me : ℕ) (v : View) (l : v.live ≡ true) (a : ArenaId) (
         once = ((λ c j. other c.arena (k.closes c j).life), k.once);
         sweeps = λ c j.
             let y = k.sweeps c j in
-            sweeping_on (limit_of z) v.caller r.memory r.machine es m' ok z me r.owners o' c y (at_other r.owners.closer a me c.arena (ended c.arena y.life))
+            sweeping_on (limit_of z) v.caller r.memory r.machine es m' ok (λ k b i. (r.world.marked k b i).stands) z me r.owners o' c y (at_other r.owners.closer a me c.arena (ended c.arena y.life))
             (stays c.arena y.life y.session);
         swept_once = k.swept_once;
         hand = hand_still z r.memory m' r.owners.holder me still refl v.hand k.hand;

@@ -1,10 +1,15 @@
 -- The steps of a sweep: map words are read and cleared, pages are wiped and given back, and the count of given bytes is reset.
-use Rattle.std.proofs.Common.{◌≡◌, ◌≢◌, ◌⊎◌, ℕ, ◌+◌, ◌-◌, ◌^◌, ◌<◌, ◌≤◌, ◌==◌, Bool, true, false, if◌then◌else◌, List, [], ◌∷◌, set, get_or, bit_or, sym, refl, ap, ◌∙◌, subst, arith, inl, inr, Option, Some, None}
+use Rattle.std.proofs.Common.{◌≡◌, ◌≢◌, ◌⊎◌, ℕ, ◌+◌, ◌-◌, ◌*◌, ◌/◌, ◌%◌, ◌^◌, ◌<◌, ◌≤◌, ◌==◌, Bool, true, false, if◌then◌else◌, List, [], ◌∷◌, set, get_or, bit_or, sym, refl, ap, ◌∙◌, subst, arith, inl, inr, Option, Some, None}
 use mathlib.Core.Option.{some}
 use mathlib.Core.Logic.{dite}
 use native.Mathlib.Decide.{ℕ_discrete}
 use lib.ListN.{get_elem?}
+use lib.Seq.{set-get_or}
 use Rattle.std.specs.Int.{bit_at}
+use Rattle.std.proofs.lemmas.Bool.{cases_lt}
+use Rattle.std.proofs.lemmas.Nat.{div-mul-add, mod-mul-add}
+use Rattle.fm_base.specs.Arenas.{arena_of}
+use Rattle.fm_base.specs.Histories.{state_after}
 use Rattle.std.proofs.lemmas.Nat.Bits.{bit_at-lt, bit_at_or, bit_at-pow_same, bit_at-pow_other}
 use Rattle.fm_words.specs.declared.shape.Shape.{Shape}
 use Rattle.fm_words.specs.Maps.{map_word}
@@ -15,13 +20,14 @@ use Rattle.fm_base.specs.Finds.{Close}
 use Rattle.fm_depicts.specs.Functions.{Over, Machine, put}
 use Rattle.fm_depicts.specs.Steps.{moved_by}
 use Rattle.fm_depicts.proofs.Putting.{put_here, put_else, put_cases}
-use Rattle.fm_pool_facts.specs.declared.step.Step.TheVariants.{SweepsMap, Unmaps, Wipes, ReturnsPage, ResetsGiven}
+use Rattle.fm_pool_facts.specs.declared.step.Step.TheVariants.{SweepsGiven, SweepsMap, Unmaps, Wipes, ReturnsPage, ResetsGiven}
 use Rattle.fm_pool_facts.specs.Loans.{lent}
 use Rattle.fm_pool_facts.specs.Parts.{Swept, unread, named, wiping}
-use Rattle.fm_pool_facts.specs.Views.{View, Fits, In, limit_of}
+use Rattle.fm_pool_facts.specs.Views.{View, Fits, In, IsOver, given_of, limit_of}
+use Rattle.fm_pool_facts.specs.Pages.{IsBlank}
 use Rattle.fm_pool_facts.specs.Holds.{holds_of, all_holds}
 use Rattle.fm_pool_facts.specs.Closes.{visited_of, visited, one_more}
-use Rattle.fm_pool_facts.specs.Steps.{part, entries, noted, none_noted}
+use Rattle.fm_pool_facts.specs.Steps.{part, entries, noted, none_noted, AreAllGiven}
 use Rattle.fm_pool_facts.specs.Facts.{Memory, Owners, own_map, shut, Berth, loose, claimed, mapped, unmapped, IsAt, IsOnce, IsNext, IsWiped, HasSwept, HasPage, IsSweeping, HasSweep, Owns, Shows, World, Rule}
 use Rattle.fm_pool_facts.specs.Moves.{MayMake, MayLend, NoEnd, Moved, Same, KeepsPages, MayStep, MayStore}
 use Rattle.fm_pool_facts.proofs.Founds.{no_draw}
@@ -32,11 +38,11 @@ use Rattle.fm_pool_facts.proofs.Retiring.{ended_fits, world_reset}
 use Rattle.fm_pool_facts.proofs.Moving.{pages_unmap}
 use Rattle.fm_pool_facts.proofs.Living.{pages_wipe, pages_back}
 use Rattle.fm_pool_facts.proofs.Shown.{shows_same, shows_map, shows_cell, shows_page_bits, shows_given}
-use Rattle.fm_pool_facts.proofs.Keeping.{closing_on}
+use Rattle.fm_pool_facts.proofs.Keeping.{set_there, closing_on}
 use Rattle.fm_pool_facts.proofs.Ruling.{PagesAfter, page_like, keeps}
 use Rattle.fm_pool_steps.proofs.Closes.{Found, visited_of-found, count_of, in_visited, visited_in, once_visited}
 use Rattle.fm_pool_steps.proofs.Reading.{eqb_true, eqb_false}
-use Rattle.fm_pool_steps.proofs.Plain.{own, Made}
+use Rattle.fm_pool_steps.proofs.Plain.{own, given_over, looks_on, Made}
 
 unmapped_word : (p : ℕ) → ¬ (0 ≡ map_word p)
 unfolding map_word
@@ -179,17 +185,24 @@ module _ (z : Shape) (me : ℕ) (v : View) (l : v.live ≡ true) (a : ArenaId) (
       → IsSweeping z (memory_of bits maps cells r.memory.given) r.machine (record r.owners { berth = berth }) me c
   sweeps_kept bits maps cells berth none c j =
       let y = mine.sweeps c j in
-      record { owner = y.owner; life = y.life; session = y.session; parts = λ n h. none c.arena.slot n (y.parts n h); reset = y.reset }
+      record {
+        owner = y.owner;
+        life = y.life;
+        session = y.session;
+        parts = λ n h. none c.arena.slot n (y.parts n h);
+        count = y.count;
+        reset = y.reset;
+      }
 
   -- the sweep has one part more behind it, which has no page
   sweeps_more : (bits : ℕ) (maps : ℕ → ℕ → Option ℕ) (cells : ℕ → ℕ → ℕ) (berth : ℕ → Berth)
       → ((b n : ℕ) → r.memory.maps b n ≡ None → maps b n ≡ None) → maps a.slot k ≡ None → k < z.reach → (c : Close) → In c (visited a v.sweeps)
       → IsSweeping z (memory_of bits maps cells r.memory.given) r.machine (record r.owners { berth = berth }) me c
-  sweeps_more bits maps cells berth none here low c j = let w = in_visited a c v.sweeps j in onward w.before w.there w.how
+  sweeps_more bits maps cells berth none here low c j = let w = in_visited a c v.sweeps mine.swept_once j in onward w.before w.there w.how
     where
-      onward : (b : Close) → In b v.sweeps → ((b.arena ≡ a) × (c ≡ one_more b)) ⊎ (c ≡ b)
+      onward : (b : Close) → In b v.sweeps → ((b.arena ≡ a) × (c ≡ one_more b)) ⊎ ((c ≡ b) × (c.arena ≢ a))
           → IsSweeping z (memory_of bits maps cells r.memory.given) r.machine (record r.owners { berth = berth }) me c
-      onward b i (inr e) = subst (IsSweeping z (memory_of bits maps cells r.memory.given) r.machine (record r.owners { berth = berth }) me) (sym e)
+      onward b i (inr e) = subst (IsSweeping z (memory_of bits maps cells r.memory.given) r.machine (record r.owners { berth = berth }) me) (sym e.0)
           (sweeps_kept bits maps cells berth none b i)
       onward b i (inl q) =
           let y = mine.sweeps b i in
@@ -201,6 +214,7 @@ module _ (z : Shape) (me : ℕ) (v : View) (l : v.live ≡ true) (a : ArenaId) (
             parts = λ n h. dite (ℕ_discrete n k)
                 (λ e. (λ i. maps (q.0 i).slot (e i)) ∙ here)
                 (λ ne. none b.arena.slot n (y.parts n (omega arith)));
+            count = λ h. y.count (omega arith);
             reset = λ h. absurd (omega arith);
           })
 
@@ -390,11 +404,28 @@ module _ (z : Shape) (me : ℕ) (v : View) (l : v.live ≡ true) (a : ArenaId) (
               let f : b ≡ a = cc in let g : i ≡ k = cc in let n : q ≡ p = cc in
               (h.0, (w + 1, (λ j. wiping (sym f j) (sym g j) (sym n j) (w + 1))))
 
+      -- where the words that have a given byte are wiped, all are 0
+      is_blank : AreAllGiven v a k w → IsOver v a → IsBlank z r.memory.cells p
+      is_blank all over o low = elim (cases_lt o w) [
+        | inl wiped ↦ held.wiped o wiped low
+        | inr rest ↦
+            let size : ℕ = z.page_words in
+            let word : ℕ = k * size + o in
+            let sh : v.shape ≡ z = (r.each me v at).shape l in
+            let part : word / size ≡ k = div-mul-add k size o low in
+            let place : word % size ≡ o = mod-mul-add k size o low in
+            let none : ¬ (8 * word < given_of v a) = (λ h.
+            let few : word % v.shape.page_words < w = all word (ap (λ (x : Shape). word / x.page_words) sh ∙ part) h in
+            let same : word % v.shape.page_words ≡ o = ap (λ (x : Shape). word % x.page_words) sh ∙ place in omega arith) in
+            let count = given_over z ws vs r me v at l a over in
+            ap (λ (n : ℕ). r.memory.cells p n) (sym place) ∙ (r.pages.unmapped_is p me k a held.owner).beyond word part (omega arith)
+      ]
+
       -- it is given back, and its loan is taken back
-      returns : w ≡ z.page_words
+      returns : AreAllGiven v a k w → IsOver v a
           → Made z ws vs me v (place_at z bits_place) (bit_or (get_or ws (place_at z bits_place) 0) (2 ^ p)) (record v { sweeps = visited a v.sweeps; swept = unread })
           (entry_of v.caller (Back p) Fine ∷ []) none_noted
-      returns full =
+      returns all over =
           let i : ℕ = place_at z bits_place in
           let word : ℕ = bit_or (get_or ws i 0) (2 ^ p) in
           let is_one : bit_at word p ≡ 1 =
@@ -415,7 +446,7 @@ module _ (z : Shape) (me : ℕ) (v : View) (l : v.live ≡ true) (a : ArenaId) (
             claims = λ q e. put_else r.owners.berth p loose q (λ n. absurd (let u : unmapped me a k ≡ claimed me = sym held.owner ∙ (ap r.owners.berth (sym n) ∙ e) in cc)) ∙ e;
             lends = ((a, k, (r.pages.unmapped_is p me k a held.owner).lent, ended_now), tt);
             pages = pages_back z (lent r.history) r.memory.page_bits r.memory.maps r.memory.cells r.owners.berth r.memory.sessions r.machine.life r.machine.word
-                r.machine.given r.world.sessions r.pages word p is_one others me k a held.owner (λ o b. held.wiped o (omega arith) b);
+                r.machine.given r.world.sessions r.pages word p is_one others me k a held.owner (is_blank all over);
             there = visits;
             keep = λ q j. put_cases r.owners.berth p loose q
                 (λ (c : Berth). IsAt j c → ((j ≡ me) × HasPage q c p') ⊎ ((c ≡ r.owners.berth q) × (HasPage q (r.owners.berth q) v → HasPage q (r.owners.berth q) p')))
@@ -451,7 +482,7 @@ module _ (z : Shape) (me : ℕ) (v : View) (l : v.live ≡ true) (a : ArenaId) (
     keep = λ q j b. inr (refl, page_like q (r.owners.berth q) v (record v { sweeps = visited a v.sweeps; swept = v.swept }) refl refl refl);
     shows = shows_given z r.valid ws r.memory r.shows a.slot 0 fit.slot;
     world = world_reset z r.memory r.machine r.world a shut_now ended_now;
-    sweeps = λ c j. let w = in_visited a c v.sweeps j in onward c w.before (mine.sweeps w.before w.there) w.there w.how;
+    sweeps = λ c j. let w = in_visited a c v.sweeps mine.swept_once j in onward c w.before (mine.sweeps w.before w.there) w.there w.how;
     once = once_visited a v.sweeps mine.swept_once;
     of_page = subst (HasSwept z r.memory.maps r.memory.cells r.owners.berth me (visited a v.sweeps)) (sym idle) tt;
   })
@@ -469,13 +500,16 @@ module _ (z : Shape) (me : ℕ) (v : View) (l : v.live ≡ true) (a : ArenaId) (
           go None h = h
           go (Some p) h = absurd (let y = (r.pages.mapped_is p a.slot n (r.pages.map_is a.slot n p h)).part in omega arith)
 
-      onward : (c b : Close) → IsSweeping z r.memory r.machine r.owners me b → In b v.sweeps → ((b.arena ≡ a) × (c ≡ one_more b)) ⊎ (c ≡ b)
+      onward : (c b : Close) → IsSweeping z r.memory r.machine r.owners me b → In b v.sweeps
+          → ((b.arena ≡ a) × (c ≡ one_more b)) ⊎ ((c ≡ b) × (c.arena ≢ a))
           → IsSweeping z m' r.machine (record r.owners { berth = r.owners.berth }) me c
-      onward c b s j (inr e) = subst (IsSweeping z m' r.machine (record r.owners { berth = r.owners.berth }) me) (sym e) (record {
+      onward c b s j (inr e) = subst (IsSweeping z m' r.machine (record r.owners { berth = r.owners.berth }) me) (sym e.0) (record {
         owner = s.owner;
         life = s.life;
         session = s.session;
         parts = s.parts;
+        count = λ h. put_else r.memory.given a.slot 0 b.arena.slot
+            (apart b.arena s.session (λ q. e.1 (ap (λ (y : Close). y.arena) e.0 ∙ q))) ∙ s.count h;
         reset = λ h. put_cases r.memory.given a.slot 0 b.arena.slot (λ (y : ℕ). y ≡ 0) (λ q. refl) (λ n. s.reset h);
       })
       onward c b s j (inl q) = subst (IsSweeping z m' r.machine (record r.owners { berth = r.owners.berth }) me) (sym q.1) (record {
@@ -485,12 +519,38 @@ module _ (z : Shape) (me : ℕ) (v : View) (l : v.live ≡ true) (a : ArenaId) (
         parts = λ n h. dite (ℕ_discrete n k)
             (λ e. ap (λ (x : ArenaId). r.memory.maps x.slot n) q.0 ∙ none_at n (e ∙ full))
             (λ ne. s.parts n (let g = its_count b j q.0 in omega arith));
+        count = λ h. absurd (let g = its_count b j q.0 in omega arith);
         reset = λ h. ap (λ (x : ArenaId). given x.slot) q.0 ∙ put_here r.memory.given a.slot 0;
       })
+
+  -- ---- the given count is read
+
+  -- it shows what the arena gave
+  its_given : k ≤ z.reach → get_or ws (place_at z (given_place a.slot)) 0 ≡ r.machine.given a
+  its_given low = r.shows.given a.slot fit.slot
+      ∙ subst (λ (b : ArenaId). r.memory.given b.slot ≡ r.machine.given b) its.arena (its_sweep.count (let e = its.visited in omega arith))
 
 -- ---- the steps
 
 module _ (z : Shape) (me : ℕ) (v : View) (a : ArenaId) (i : ℕ) (l : v.live ≡ true) (has : visited_of v.sweeps a ≡ Some i) where
+  -- how many bytes the arena gave
+  pub given_steps : i ≤ z.reach → v.shape ≡ z → MayStep z (SweepsGiven a) me v (place_at z (given_place a.slot)) (λ n. n)
+  unfolding part entries noted
+  given_steps low sh = record {
+    may = λ ws vs r at.
+        let place : ℕ = place_at z (given_place a.slot) in
+        let x : ℕ = get_or ws place 0 in
+        let g = looks_on z ws vs r me v at l place in
+        let live' : g.0.live ≡ true = ap (λ (u : View). u.live) g.2.is ∙ l in
+        let has' : visited_of g.0.sweeps a ≡ Some i = ap (λ (u : View). visited_of u.sweeps a) g.2.is ∙ has in
+        let now = its_given z me g.0 live' a i has' (set ws place x) (set vs me g.0) g.1 (set_there vs me v g.0 at) low in
+        let shape' : z ≡ g.0.shape = sym (ap (λ (u : View). u.shape) g.2.is ∙ sh) in
+        let seen : (arena_of (state_after (limit_of z) [] g.1.history) a).given ≡ given_of g.0 a =
+        (λ j. (arena_of (state_after (limit_of (shape' j)) [] (sym g.3 j)) a).given) in
+        let stays : get_or (set ws place x) place 0 ≡ x = ap (λ (xs : List ℕ). get_or xs place 0) (set-get_or ws place 0) in
+        (g.0, g.1, record { gives = g.2; learns = sym stays ∙ (now ∙ (g.1.depicts.given a ∙ seen)) });
+  }
+
   -- the map word of the next part is read
   pub look_map_steps : v.shape ≡ z → i < z.reach → v.swept ≡ unread → MayStep z (SweepsMap a i) me v (place_at z (map a.slot i)) (λ n. n)
   unfolding part entries noted
@@ -510,11 +570,11 @@ module _ (z : Shape) (me : ℕ) (v : View) (a : ArenaId) (i : ℕ) (l : v.live �
   wipe_steps p w low is fits =
       record { may = λ ws vs r at. let g = wipes z me v l a i has ws vs r at low p w is fits in (g.0, g.1, record { gives = g.2; learns = tt }) }
 
-  pub return_steps : (p : ℕ) → i < z.reach → v.swept ≡ wiping a i p z.page_words
+  pub return_steps : (p w : ℕ) → i < z.reach → v.swept ≡ wiping a i p w → AreAllGiven v a i w → IsOver v a
       → MayStep z (ReturnsPage a p) me v (place_at z bits_place) (λ n. bit_or n (2 ^ p))
   unfolding part entries noted
-  return_steps p low is =
-      record { may = λ ws vs r at. let g = returns z me v l a i has ws vs r at low p z.page_words is refl in (g.0, g.1, record { gives = g.2; learns = tt }) }
+  return_steps p w low is all over =
+      record { may = λ ws vs r at. let g = returns z me v l a i has ws vs r at low p w is all over in (g.0, g.1, record { gives = g.2; learns = tt }) }
 
 pub reset_steps : (z : Shape) (me : ℕ) (v : View) (a : ArenaId) → v.live ≡ true → visited_of v.sweeps a ≡ Some z.reach → v.swept ≡ unread
     → MayStore z (ResetsGiven a) me v (place_at z (given_place a.slot)) 0

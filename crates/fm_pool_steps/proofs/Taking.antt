@@ -162,7 +162,7 @@ module _ (z : Shape) (me : ℕ) (v : View) (l : v.live ≡ true) (ws : List ℕ)
           closes = λ c j. let y = mine.closes c j in record { owner = y.owner; life = y.life; visited = y.visited };
           once = mine.once;
           sweeps = λ c j.
-              let y = mine.sweeps c j in record { owner = y.owner; life = y.life; session = y.session; parts = y.parts; reset = y.reset };
+              let y = mine.sweeps c j in record { owner = y.owner; life = y.life; session = y.session; parts = y.parts; count = y.count; reset = y.reset };
           swept_once = mine.swept_once;
           hand = (f.0, record { owner = put_here r.owners.holder bit me; slot = low; bit = without.zero; session = f.1; left = f.2 });
           took = put_here r.owners.taker bit (Some v.caller);

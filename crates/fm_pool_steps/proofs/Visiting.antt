@@ -157,7 +157,7 @@ module _ (z : Shape) (me : ℕ) (v : View) (l : v.live ≡ true) (sh : v.shape �
       (record {
         inside = mine.inside;
         mark = mine.mark;
-        closes = λ c j. let w = in_visited a c v.closes j in onward c w.before (mine.closes w.before w.there) w.there w.how;
+        closes = λ c j. let w = in_visited a c v.closes mine.once j in onward c w.before (mine.closes w.before w.there) w.there w.how;
         once = once_visited a v.closes mine.once;
         sweeps = mine.sweeps;
         swept_once = mine.swept_once;
@@ -170,9 +170,9 @@ module _ (z : Shape) (me : ℕ) (v : View) (l : v.live ≡ true) (sh : v.shape �
       its_count : (b : Close) → In b v.closes → b.arena ≡ a → b.visited ≡ k
       its_count b j e = count_of v.closes a k b j e has mine.once
 
-      onward : (c b : Close) → IsClosing r.machine r.owners me b → In b v.closes → ((b.arena ≡ a) × (c ≡ one_more b)) ⊎ (c ≡ b)
+      onward : (c b : Close) → IsClosing r.machine r.owners me b → In b v.closes → ((b.arena ≡ a) × (c ≡ one_more b)) ⊎ ((c ≡ b) × (c.arena ≢ a))
           → IsClosing r.machine r.owners me c
-      onward c b s j (inr e) = subst (IsClosing r.machine r.owners me) (sym e) s
+      onward c b s j (inr e) = subst (IsClosing r.machine r.owners me) (sym e.0) s
       onward c b s j (inl q) = subst (IsClosing r.machine r.owners me) (sym q.1) (record {
         owner = s.owner;
         life = s.life;
@@ -252,11 +252,12 @@ module _ (z : Shape) (me : ℕ) (v : View) (l : v.live ≡ true) (sh : v.shape �
               life = at_here r.machine.life a Over;
               session = r.world.sessions.closing_shown a closes_now;
               parts = λ i h. absurd (omega arith);
+              count = λ h. r.world.givens.shown a (inr closes_now);
               reset = λ h. absurd (omega arith);
             }))
             (λ (j : In c v.sweeps).
             let y = mine.sweeps c j in
-            sweeping_on (limit_of z) v.caller r.memory r.machine es r.memory ok z me r.owners r.owners c y refl (stays_ended r.memory c.arena y.session));
+            sweeping_on (limit_of z) v.caller r.memory r.machine es r.memory ok (λ k b i. (r.world.marked k b i).stands) z me r.owners r.owners c y refl (stays_ended r.memory c.arena y.session));
         swept_once = (
           (λ c j e.
               let y : r.machine.life a ≡ Over = ap r.machine.life (sym e) ∙ (mine.sweeps c j).life in

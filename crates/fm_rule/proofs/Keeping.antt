@@ -5,7 +5,7 @@ use Rattle.fm_words.specs.Shapes.{IsValid}
 use Rattle.fm_base.specs.Arenas.{only_caller}
 use Rattle.fm_base.specs.declared.caller.Caller.{Caller}
 use Rattle.fm_base.specs.declared.arena_id.ArenaId.{ArenaId}
-use Rattle.fm_pool_facts.specs.declared.step.Step.TheVariants.{Draws, Marks, Checks, Loads, Stores, SwapsIf, Adds, Allocates, Holds, Unholds, Backs, Unmarks, Shuts, Visits, TakesSlot, LearnsGeneration, Opens, Claims, Maps, ReadsMap, SweepsMap, Unmaps, Wipes, GivesPage, ReturnsPage, ResetsGiven, Retires, GivesSlot}
+use Rattle.fm_pool_facts.specs.declared.step.Step.TheVariants.{Draws, Marks, Checks, Loads, Stores, SwapsIf, Adds, Allocates, Holds, Unholds, Backs, Unmarks, Shuts, Visits, TakesSlot, LearnsGeneration, Opens, Claims, Maps, ReadsMap, SweepsGiven, SweepsMap, Unmaps, Wipes, GivesPage, ReturnsPage, ResetsGiven, Retires, GivesSlot}
 use Rattle.fm_pool_facts.specs.Views.{View}
 use Rattle.fm_pool_facts.specs.Splits.{first_view}
 use Rattle.fm_pool_facts.specs.Words.{alive_holds, inside_found}
@@ -180,6 +180,12 @@ module _ (c : Caller) (i : Option ArenaId) (part' : Part) (count : ℕ) (v w : V
       (same_part (Opens a) v x) refl (λ x j. j) t.gives e
 
   -- steps of a sweep
+  pub sweep_given_keeps : (a : ArenaId) (x : ℕ) → Tells (SweepsGiven a) v x w → Keeps c i part' count (w, held')
+  unfolding part entries noted
+  sweep_given_keeps a x t =
+      keeps_on c i part' count v (part (SweepsGiven a) v x) w (entries (SweepsGiven a) v x) (noted (SweepsGiven a) v x) held held' k
+      (same_part (SweepsGiven a) v x) refl (λ y j. j) t.gives e
+
   pub sweep_map_keeps : (a : ArenaId) (b : ℕ) (x : ℕ) → Tells (SweepsMap a b) v x w → Keeps c i part' count (w, held')
   unfolding part entries noted
   sweep_map_keeps a b x t =

@@ -12,12 +12,12 @@ use Rattle.fm_base.specs.Machine.{IsPower, rounded_up}
 use Rattle.fm_base.specs.Arenas.{MayUse, owner_of}
 use Rattle.fm_words.specs.Bits.{IsWithout}
 use Rattle.fm_pool_facts.specs.Hands.{Hand, nothing, taken, learnt, retired, HasSlot}
-use Rattle.fm_pool_facts.specs.declared.step.Step.TheVariants.{Draws, Marks, Checks, Loads, Stores, SwapsIf, Adds, Allocates, Holds, Unholds, Backs, Unmarks, Shuts, Visits, TakesSlot, LearnsGeneration, Opens, Claims, Maps, ReadsMap, SweepsMap, Unmaps, Wipes, GivesPage, ReturnsPage, ResetsGiven, Retires, GivesSlot, Looks}
-use Rattle.fm_pool_facts.specs.Views.{View, Fits, In, IsKnown, IsSound, limit_of}
+use Rattle.fm_pool_facts.specs.declared.step.Step.TheVariants.{Draws, Marks, Checks, Loads, Stores, SwapsIf, Adds, Allocates, Holds, Unholds, Backs, Unmarks, Shuts, Visits, TakesSlot, LearnsGeneration, Opens, Claims, Maps, ReadsMap, SweepsGiven, SweepsMap, Unmaps, Wipes, GivesPage, ReturnsPage, ResetsGiven, Retires, GivesSlot, Looks}
+use Rattle.fm_pool_facts.specs.Views.{View, Fits, In, IsKnown, IsOver, IsSound, limit_of}
 use Rattle.fm_pool_facts.specs.Words.{alive_word, closing_word, free_word, held_word, mark_of}
 use Rattle.fm_pool_facts.specs.Handles.{back_word}
 use Rattle.fm_pool_facts.specs.Closes.{visited_of}
-use Rattle.fm_pool_facts.specs.Steps.{draw_next, HasPlace, HasParts, given_next}
+use Rattle.fm_pool_facts.specs.Steps.{draw_next, CanReach, HasPlace, HasParts, AreAllGiven, given_next}
 use Rattle.fm_words.specs.Maps.{map_word}
 use Rattle.fm_pool_facts.specs.Parts.{unread, named, wiping, mapping_of}
 use Rattle.fm_pool_facts.specs.Moves.{MayStep, MayStore}
@@ -32,7 +32,7 @@ use Rattle.fm_pool_steps.proofs.Visiting.{visit_steps}
 use Rattle.fm_pool_steps.proofs.Taking.{take_steps, generation_steps}
 use Rattle.fm_pool_steps.proofs.Opening.{open_steps}
 use Rattle.fm_pool_steps.proofs.Closes.{visited_of-found}
-use Rattle.fm_pool_steps.proofs.Sweeping.{look_map_steps, unmap_steps, wipe_steps, return_steps, reset_steps}
+use Rattle.fm_pool_steps.proofs.Sweeping.{given_steps, look_map_steps, unmap_steps, wipe_steps, return_steps, reset_steps}
 use Rattle.fm_pool_steps.proofs.Claiming.{claim_steps, map_steps, read_map_steps, give_page_steps}
 use Rattle.fm_pool_steps.proofs.Retiring.{retire_steps}
 use Rattle.fm_pool_steps.proofs.Giving.{give_steps}
@@ -92,6 +92,12 @@ module _ (now v : View) (home : List ℕ) (z : Shape) (is : homed home v ≡ now
   pub knows : (a : ArenaId) → IsKnown now a → IsKnown v a
   knows a k = subst (λ (x : View). IsKnown x a) (sym is) k
 
+  pub reaches : (w : ℕ) → CanReach now w → CanReach v w
+  reaches w k = let y = subst (λ (x : View). CanReach x w) (sym is) k in record { id = y.id; inside = y.inside; given = y.given }
+
+  pub all_swept : (a : ArenaId) (k w : ℕ) → AreAllGiven now a k w → AreAllGiven v a k w
+  all_swept a k w g = subst (λ (x : View). AreAllGiven x a k w) (sym is) g
+
   module _ (sound : IsSound v) where
     pub fits : (a : ArenaId) → IsKnown now a → Fits z a
     fits a k = subst (λ (x : Shape). Fits x a) shape_is (sound.fits a (knows a k))
@@ -116,6 +122,12 @@ module _ (now v : View) (home : List ℕ) (z : Shape) (is : homed home v ≡ now
         let f = visited_of-found v.sweeps a k (ap (λ (x : View). visited_of x.sweeps a) is ∙ at) in
         subst (λ (b : ArenaId). Fits z b) f.arena
         (subst (λ (x : Shape). Fits x f.close.arena) shape_is (sound.fits f.close.arena (sound.swept f.close f.there).known))
+
+    -- and is over
+    pub swept_over : (a : ArenaId) (k : ℕ) → visited_of now.sweeps a ≡ Some k → IsOver v a
+    swept_over a k at =
+        let f = visited_of-found v.sweeps a k (ap (λ (x : View). visited_of x.sweeps a) is ∙ at) in
+        subst (IsOver v) f.arena (sound.swept f.close f.there)
 
     -- the arena that it is inside has a slot
     pub inside_slot : (a : ArenaId) → now.inside ≡ Some a → a.slot < z.slots
@@ -200,18 +212,18 @@ module _ (z : Shape) (id : ℕ) (v : View) (l : v.live ≡ true) (i : ℕ) where
   may_check a o m k u p = subst (λ (x : ℕ). MayStep z (Checks a) id v x (λ n. n)) (sym p) (check_steps z id v l a o m k u)
 
   -- a word of the arena that the pass is inside
-  module _ (a : ArenaId) (ins : v.inside ≡ Some a) (w : ℕ) (k : WordPlace z v w i) where
+  module _ (w : ℕ) (act : CanReach v w) (k : WordPlace z v w i) where
     pub may_load : MayStep z (Loads w) id v i (λ n. n)
-    may_load = subst (λ (x : ℕ). MayStep z (Loads w) id v x (λ n. n)) (sym k.is) (load_steps z id v l a ins w k.page k.read)
+    may_load = subst (λ (x : ℕ). MayStep z (Loads w) id v x (λ n. n)) (sym k.is) (load_steps z id v l act.id act.inside w act.given k.page k.read)
 
     pub may_store : (y : ℕ) → y < 2 ^ 64 → MayStore z (Stores w y) id v i y
-    may_store y f = subst (λ (x : ℕ). MayStore z (Stores w y) id v x y) (sym k.is) (store_steps z id v l a ins w k.page k.read y f)
+    may_store y f = subst (λ (x : ℕ). MayStore z (Stores w y) id v x y) (sym k.is) (store_steps z id v l act.id act.inside w act.given k.page k.read y f)
 
     pub may_swap : (o y : ℕ) → y < 2 ^ 64 → MayStep z (SwapsIf w o y) id v i (λ n. either (n == o) y n)
-    may_swap o y f = subst (λ (x : ℕ). MayStep z (SwapsIf w o y) id v x (λ n. either (n == o) y n)) (sym k.is) (swap_steps z id v l a ins w k.page k.read o y f)
+    may_swap o y f = subst (λ (x : ℕ). MayStep z (SwapsIf w o y) id v x (λ n. either (n == o) y n)) (sym k.is) (swap_steps z id v l act.id act.inside w act.given k.page k.read o y f)
 
     pub may_add : (n : ℕ) → MayStep z (Adds w n) id v i (λ x. (x + n) % 2 ^ 64)
-    may_add n = subst (λ (x : ℕ). MayStep z (Adds w n) id v x (λ x. (x + n) % 2 ^ 64)) (sym k.is) (add_steps z id v l a ins w k.page k.read n)
+    may_add n = subst (λ (x : ℕ). MayStep z (Adds w n) id v x (λ x. (x + n) % 2 ^ 64)) (sym k.is) (add_steps z id v l act.id act.inside w act.given k.page k.read n)
 
   pub may_allocate : (a : ArenaId) (count size align limit next : ℕ) → v.inside ≡ Some a → IsPower align → v.shape ≡ z
       → (rounded_up count align + size ≤ limit_of v.shape → HasParts v count (rounded_up count align + size)) → i ≡ at z (given a.slot)
@@ -270,6 +282,10 @@ module _ (z : Shape) (id : ℕ) (v : View) (l : v.live ≡ true) (i : ℕ) where
       → MayStore z (Opens a) id v i y
   may_open a y h o p q = subst (λ (x : ℕ × ℕ). MayStore z (Opens a) id v x.0 x.1) (λ j. (sym p j, sym q j)) (open_steps z id v a l h o)
 
+  pub may_sweep_given : (a : ArenaId) → v.shape ≡ z → visited_of v.sweeps a ≡ Some 0 → i ≡ at z (given a.slot)
+      → MayStep z (SweepsGiven a) id v i (λ n. n)
+  may_sweep_given a sh s p = subst (λ (x : ℕ). MayStep z (SweepsGiven a) id v x (λ n. n)) (sym p) (given_steps z id v a 0 l s (omega arith) sh)
+
   pub may_sweep_map : (a : ArenaId) (k : ℕ) → v.shape ≡ z → visited_of v.sweeps a ≡ Some k → k < z.reach → v.swept ≡ unread → i ≡ at z (map a.slot k)
       → MayStep z (SweepsMap a k) id v i (λ n. n)
   may_sweep_map a k sh s h u p = subst (λ (x : ℕ). MayStep z (SweepsMap a k) id v x (λ n. n)) (sym p) (look_map_steps z id v a k l s sh h u)
@@ -282,10 +298,10 @@ module _ (z : Shape) (id : ℕ) (v : View) (l : v.live ≡ true) (i : ℕ) where
       → i ≡ at z (page_word q w) → MayStore z (Wipes a k q w) id v i 0
   may_wipe a k q w s h u f p = subst (λ (x : ℕ). MayStore z (Wipes a k q w) id v x 0) (sym p) (wipe_steps z id v a k l s q w h u f)
 
-  pub may_return_page : (a : ArenaId) (k q n : ℕ) → visited_of v.sweeps a ≡ Some k → k < z.reach → v.swept ≡ wiping a k q z.page_words → i ≡ at z page_bits
-      → n ≡ 2 ^ q → MayStep z (ReturnsPage a q) id v i (λ w. bit_or w n)
-  may_return_page a k q n s h u p e =
-      subst (λ (x : ℕ × ℕ). MayStep z (ReturnsPage a q) id v x.0 (λ w. bit_or w x.1)) (λ j. (sym p j, sym e j)) (return_steps z id v a k l s q h u)
+  pub may_return_page : (a : ArenaId) (k q w n : ℕ) → visited_of v.sweeps a ≡ Some k → k < z.reach → v.swept ≡ wiping a k q w → AreAllGiven v a k w
+      → IsOver v a → i ≡ at z page_bits → n ≡ 2 ^ q → MayStep z (ReturnsPage a q) id v i (λ w. bit_or w n)
+  may_return_page a k q w n s h u g o p e =
+      subst (λ (x : ℕ × ℕ). MayStep z (ReturnsPage a q) id v x.0 (λ w. bit_or w x.1)) (λ j. (sym p j, sym e j)) (return_steps z id v a k l s q w h u g o)
 
   pub may_reset : (a : ArenaId) → visited_of v.sweeps a ≡ Some z.reach → v.swept ≡ unread → i ≡ at z (given a.slot) → MayStore z (ResetsGiven a) id v i 0
   may_reset a s u p = subst (λ (x : ℕ). MayStore z (ResetsGiven a) id v x 0) (sym p) (reset_steps z id v a l s u)

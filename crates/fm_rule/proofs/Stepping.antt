@@ -4,7 +4,7 @@ use Rattle.fm_base.specs.declared.arena_id.ArenaId.{ArenaId}
 use Rattle.fm_base.specs.Calls.{Open, Lend, Enter, Read, Write, SwapIf, Add, Allocate, Leave, Hold, Unhold, Shut, Back, Fine, Found, Entry, entry_of}
 use Rattle.fm_base.specs.Machine.{allocate_reply}
 use Rattle.fm_base.specs.Finds.{Find, Visits as Visiting, TakesSlot as Taking, TakesPage as Claiming, Maps as Mapped}
-use Rattle.fm_pool_facts.specs.declared.step.Step.TheVariants.{Draws, Marks, Checks, Loads, Stores, SwapsIf, Adds, Allocates, Holds, Unholds, Backs, Unmarks, Shuts, Visits, TakesSlot, LearnsGeneration, Opens, Claims, Maps, ReadsMap, SweepsMap, Unmaps, Wipes, GivesPage, ReturnsPage, ResetsGiven, Retires, GivesSlot}
+use Rattle.fm_pool_facts.specs.declared.step.Step.TheVariants.{Draws, Marks, Checks, Loads, Stores, SwapsIf, Adds, Allocates, Holds, Unholds, Backs, Unmarks, Shuts, Visits, TakesSlot, LearnsGeneration, Opens, Claims, Maps, ReadsMap, SweepsGiven, SweepsMap, Unmaps, Wipes, GivesPage, ReturnsPage, ResetsGiven, Retires, GivesSlot}
 use Rattle.fm_pool_facts.specs.Views.{View, In, limit_of, pass_of}
 use Rattle.fm_pool_facts.specs.Words.{alive_holds, enter_found, inside_found, hold_found, shut_found}
 use Rattle.fm_pool_facts.specs.Hands.{nothing, learnt, takes, hand_taken, hand_retired}
@@ -179,6 +179,15 @@ module _ (now v w : View) (home home' : List ℕ) (is : homed home v ≡ now) (s
       stepped_as (λ (y : View). record y { hand = nothing; handles = handles_with a y.handles })
       (λ (y : View). entry_of y.caller (Open a) Fine ∷ []) (λ y. none_noted)
       (stepped home v (part (Opens a) v x) w (entries (Opens a) v x) none_noted (same_part (Opens a) v x) met t.gives)
+
+  pub sweep_given_stepped : (a : ArenaId) (x : ℕ) → Tells (SweepsGiven a) v x w → Stepped now (homed home' w) now [] none_noted
+  unfolding part entries noted
+  sweep_given_stepped a x t = stepped_as (λ (y : View). y) (λ (y : View). []) (λ (y : View). none_noted)
+      (stepped home v v w [] none_noted (same_part (SweepsGiven a) v x) met t.gives)
+
+  -- what the arena gave that it sweeps
+  pub count_swept : (a : ArenaId) (x : ℕ) → Tells (SweepsGiven a) v x w → x ≡ given_of (homed home' w) a
+  count_swept a x t = t.learns
 
   pub sweep_map_stepped : (a : ArenaId) (i : ℕ) (x : ℕ) → Tells (SweepsMap a i) v x w → Stepped now (homed home' w) (record now { swept = swept_read a i x; sweeps = if x == 0 then visited a now.sweeps else now.sweeps }) ([]) (none_noted)
   unfolding part entries noted
