@@ -100,6 +100,7 @@ part_on p q more seen shape sound a known inside i h =
     (λ j. state_after (limit_of (shape j)) [] (seen j)) ∙ state_after-append n [] p.seen more in
     let once : IsOnceLent (lent p.seen) = once_after p.shape.page_words n [] [] p.seen (lent-first p.shape.page_words n [] [] p.seen more right)
     (λ l x c d e. absurd (let b = c.1 in omega arith)) in
-    let kept = kept_after a i h.0 p.shape.page_words n (state_in p) (lent p.seen) more parts.1 (lent-split p.shape.page_words n [] [] p.seen more right) once known
+    let later = lent-split p.shape.page_words n [] [] p.seen more right in
+    let kept = kept_after a i h.0 p.shape.page_words n (state_in p) (lent p.seen) more parts.1 later once known
     (subst (λ (s : State). (arena_of s a).life ≢ Ended) now stands) h.1 in
     (h.0, subst (λ (ls : List Loan). Contains ls (loan_of h.0 a i)) (sym (ap lent seen ∙ loans_after-append [] p.seen more)) kept)

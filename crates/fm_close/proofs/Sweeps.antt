@@ -2,17 +2,17 @@
 use Rattle.std.proofs.Common.{◌≡◌, ◌≢◌, ℕ, ◌+◌, ◌≤◌, ◌^◌, ◌<◌, ◌==◌, Bool, true, false, List, [], refl, ap, sym, ◌∙◌, subst, arith, Some, eq-eqb, ne_eqb}
 use Rattle.std.proofs.lemmas.List.{append-nil}
 use Rattle.fm_words.specs.declared.shape.Shape.{Shape}
+use Rattle.fm_base.specs.declared.caller.Caller.{Caller}
 use Rattle.fm_base.specs.declared.arena_id.ArenaId.{ArenaId}
 use Rattle.fm_base.specs.Calls.{Entry}
 use Rattle.fm_base.specs.Finds.{Close}
 use Rattle.fm_pool_facts.specs.Hands.{Hand, nothing, retired, hand_retired}
 use Rattle.fm_pool_facts.specs.Parts.{Swept, unread}
-use Rattle.fm_pool_facts.specs.Views.{View, Fits, IsOver}
+use Rattle.fm_pool_facts.specs.Views.{View, IsOver}
 use Rattle.fm_pool_facts.specs.Closes.{visited_of, visited, dropped}
 use Rattle.fm_pool_facts.specs.Steps.{Stepped, none_noted}
 use Rattle.fm_pool_steps.proofs.Closes.{visited_of-found}
 use Rattle.fm_rule.specs.declared.pool.Pool.{Pool}
-use Rattle.fm_rule.specs.Passes.{IsOf}
 use Rattle.fm_calls.specs.Kept.{Goes, rest_of, slots_told, HasEnded, HasNoWords}
 use Rattle.fm_calls.proofs.Going.{goes_of, goes_then, no_draws, lasts_on}
 use Rattle.fm_calls.proofs.Unlent.{over_on, no_words_on, no_words_swept, has_ended}
@@ -22,7 +22,7 @@ use Rattle.fm_close.specs.Does.{AreBacks}
 use Rattle.fm_close.specs.Learnt.{CanSweep, AfterSweep}
 use Rattle.fm_close.specs.Sweeps.{SweepsOn, PartsTaken}
 use Rattle.fm_close.proofs.Closes.{visited_of-visited, dropped-visited}
-use Rattle.fm_close.proofs.Parts.{quiet_step, sweeps_then, swept_now, sweeps_now, caller_now, of_still, visited_still}
+use Rattle.fm_close.proofs.Parts.{quiet_step, sweeps_then, swept_now, sweeps_now, caller_now, visited_still, over_now}
 
 -- ---- steps that make no entry
 
@@ -63,34 +63,48 @@ give_goes s = goes_of s (record {
 
 -- ---- the count of given bytes is reset, once no part has a page
 
+abbrev pub Counts : View → View → Type 0
+Counts o p = Quiet o p o
+
+-- The parts were taken since the count was read.
+parts_since : {o p q : View} {a : ArenaId} {n : ℕ} → Counts o p → PartsTaken p q a n → PartsTaken o q a n
+parts_since {o = o} {p = p} {q = q} {a = a} s w =
+    let c : SweepsOn o p [] o.swept o.sweeps = quiet_step s in
+    record {
+      own = w.own;
+      backs = subst (λ (x : Caller). AreBacks x w.own) (caller_now c) w.backs;
+      goes_on = sweeps_then c w.goes_on;
+      at = w.at;
+      left = w.left ∙ ap (dropped a) (sweeps_now c);
+    }
+
 -- the arena has ended, no page is lent to it, and it fits the pool
 pub record Emptied (o q : View) (a : ArenaId) (own : List Entry) : Type 0 where
   pub goes_on : SweepsOn o q own unread q.sweeps
   pub at : visited_of q.sweeps a ≡ Some (o.shape.reach + 1)
   pub left : dropped a q.sweeps ≡ dropped a o.sweeps
   pub over : IsOver q a
-  pub fits : Fits q.shape a
-  pub valid : q.shape.generations < 2 ^ 32
+  pub next : a.generation + 1 < 2 ^ 32
   pub no_words : HasNoWords q a
 
 pub emptied : {o p q : View} {a : ArenaId} (w : PartsTaken o p a o.shape.reach) → Resets p q a → Emptied o q a w.own
 emptied {o = o} {p = p} {q = q} {a = a} w s =
+    let n : ℕ = o.shape.reach + 1 in
     let idle : p.swept ≡ unread = swept_now w.goes_on in
     let r : SweepsOn p q [] unread (visited a p.sweeps) = subst (λ (x : Swept). SweepsOn p q [] x (visited a p.sweeps)) idle (quiet_step s) in
-    let at : visited_of q.sweeps a ≡ Some (o.shape.reach + 1) = visited_still r a (o.shape.reach + 1) (visited_of-visited p.sweeps a o.shape.reach w.at) in
+    let at : visited_of q.sweeps a ≡ Some n = visited_still r a n (visited_of-visited p.sweeps a o.shape.reach w.at) in
     let all : SweepsOn o q w.own unread q.sweeps =
     subst (λ (x : List Entry × List Close). SweepsOn o q x.0 unread x.1) (λ j. (append-nil w.own j, sym (sweeps_now r) j)) (sweeps_then w.goes_on r) in
-    let f = visited_of-found q.sweeps a (o.shape.reach + 1) at in
-    let over : IsOver q a = subst (IsOver q) f.arena (s.sound.swept f.close f.there) in
-    let reach : q.shape.reach ≡ o.shape.reach = ap (λ (v : View). v.shape.reach) all.is in
+    let f = visited_of-found q.sweeps a n at in
+    let over : IsOver q a = over_now n s.sound at in
+    let reach : q.shape.reach ≡ o.shape.reach = ap (λ (z : Shape). z.reach) all.goes.same_shape in
     record {
       goes_on = all;
       at = at;
       left = ap (dropped a) (sweeps_now r) ∙ (dropped-visited p.sweeps a ∙ w.left);
       over = over;
-      fits = s.sound.fits a over.known;
-      valid = (let v = s.sound.valid.generations.1 in omega arith);
-      no_words = no_words_swept a s.sound f.close f.there f.arena (let n = f.visited in omega arith);
+      next = (let g = (s.sound.fits a over.known).generation in let v = s.sound.valid.generations.1 in omega arith);
+      no_words = no_words_swept a s.sound f.close f.there f.arena (let v = f.visited in omega arith);
     }
 
 -- ---- the slot is retired
@@ -107,7 +121,7 @@ pub retires : {o p q : View} {a : ArenaId} {own : List Entry} → Emptied o p a 
 retires {o = o} {p = p} {q = q} {a = a} {own = own} w s =
     let g = retire_goes a s in
     record {
-      goes = subst (λ (es : List Entry). Goes o q es) (append-nil own) (w.goes_on.onward q [] g);
+      goes = subst (λ (es : List Entry). Goes o q es) (append-nil own) (goes_then w.goes_on.goes g);
       is = s.is_part ∙ ((λ j. record p {
         seen = q.seen;
         finds = sym (ap (λ (x : View). x.finds) s.is_part) j;
@@ -137,33 +151,24 @@ gives {o = o} {p = p} {q = q} {a = a} {own = own} r s =
 
 -- ---- what is learnt of a sweep
 
-module _ {pool : Pool} {o p m : View} {s : Shutting} (can : CanSweep pool o s) (w : PartsTaken o p s.arena pool.shape.reach) (e : Resets p m s.arena) where
+module _ {pool : Pool} {o p m n : View} {s : Shutting} (can : CanSweep pool o s) (c : Counts o p) (w : PartsTaken p m s.arena pool.shape.reach)
+    (e : Resets m n s.arena) where
   -- The parts are all that the pool's arenas have.
-  all_parts : PartsTaken o p s.arena o.shape.reach
-  all_parts = subst (λ (z : Shape). PartsTaken o p s.arena z.reach) (sym can.outside.of.1) w
+  all_parts : PartsTaken o m s.arena o.shape.reach
+  all_parts = subst (λ (z : Shape). PartsTaken o m s.arena z.reach) (sym can.outside.of.1) (parts_since c w)
 
-  empty : Emptied o m s.arena all_parts.own
+  empty : Emptied o n s.arena all_parts.own
   empty = emptied all_parts e
 
   -- The next generation has a number.
   pub its_next : s.arena.generation + 1 < 2 ^ 32
-  its_next = let g = empty.fits.generation in let v = empty.valid in omega arith
-
-  pub of_emptied : IsOf pool m
-  of_emptied = of_still empty.goes_on pool can.outside.of
-
-  -- The pass has no slot in its hand.
-  pub no_slot : m.hand ≡ nothing
-  no_slot = ap (λ (x : View). x.hand) empty.goes_on.is ∙ can.outside.no_slot
-
-  pub no_part : m.swept ≡ unread
-  no_part = swept_now empty.goes_on
+  its_next = empty.next
 
   -- The sweep is past the last part.
-  pub past_parts : visited_of m.sweeps s.arena ≡ Some (pool.shape.reach + 1)
-  past_parts = subst (λ (z : Shape). visited_of m.sweeps s.arena ≡ Some (z.reach + 1)) can.outside.of.1 empty.at
+  pub past_parts : visited_of n.sweeps s.arena ≡ Some (pool.shape.reach + 1)
+  past_parts = subst (λ (z : Shape). visited_of n.sweeps s.arena ≡ Some (z.reach + 1)) can.outside.of.1 empty.at
 
-  module _ {q : View} (r : Retires m q s.arena) where
+  module _ {q : View} (r : Retires n q s.arena) where
     retired_by : (b : Bool) → (s.arena.generation + 1 == o.shape.generations) ≡ b
         → Retired o q s.arena all_parts.own (hand_retired b s.arena.slot o.hand)
     retired_by b f = subst (λ (c : Bool). Retired o q s.arena all_parts.own (hand_retired c s.arena.slot o.hand)) f (retires empty r)
@@ -174,9 +179,6 @@ module _ {pool : Pool} {o p m : View} {s : Shutting} (can : CanSweep pool o s) (
 
     pub its_slot : s.arena.generation + 1 ≢ o.shape.generations → q.hand ≡ retired s.arena.slot
     its_slot more = ap (λ (x : View). x.hand) (given_by more).is
-
-    pub of_retired : IsOf pool q
-    of_retired = let i = (retires empty r).is in (ap (λ (x : View). x.home) i ∙ can.outside.of.0, ap (λ (x : View). x.shape) i ∙ can.outside.of.1)
 
     -- What is learnt when the hand is empty.
     learnt : {z : View} → Retired o z s.arena all_parts.own nothing → AfterSweep pool o z s.arena

@@ -1,5 +1,5 @@
 -- What a pass does as it sweeps an arena that it ended.
-use Rattle.std.specs.Prelude.{◌≡◌, ℕ, List, ◌++◌, Some}
+use Rattle.std.specs.Prelude.{◌≡◌, ℕ, List, Some}
 use Rattle.fm_base.specs.declared.arena_id.ArenaId.{ArenaId}
 use Rattle.fm_base.specs.Calls.{Entry}
 use Rattle.fm_base.specs.Finds.{Close}
@@ -11,8 +11,7 @@ use Rattle.fm_close.specs.Does.{AreBacks}
 
 -- the pass has these sweeps now, and has come so far with the next part; it is else as it was, but for what it has seen
 pub record SweepsOn (old new : View) (own : List Entry) (swept : Swept) (sweeps : List Close) : Type 0 where
-  -- where it goes from there, it goes from the start by its own entries first
-  pub onward : (next : View) (es : List Entry) → Goes new next es → Goes old next (own ++ es)
+  pub goes : Goes old new own
   pub is : new ≡ record old { seen = new.seen; finds = new.finds; swept = swept; sweeps = sweeps }
 
 -- the next part of the arena has no page any more

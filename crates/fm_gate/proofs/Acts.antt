@@ -1,5 +1,5 @@
 -- Acts inside an arena, and leaving it.
-use Rattle.std.proofs.Common.{◌≡◌, ℕ, ◌/◌, ◌%◌, ◌<◌, List, [], refl, ap, sym, ◌∙◌, subst, ⊎_elim, Option, Some, None}
+use Rattle.std.proofs.Common.{◌≡◌, ℕ, ◌/◌, ◌%◌, ◌<◌, List, [], refl, ap, sym, ◌∙◌, subst, ⊎_elim, Option, Some, None, ◌⊎◌, inl}
 use Rattle.fm_base.specs.declared.caller.Caller.{Caller}
 use Rattle.fm_base.specs.declared.arena_id.ArenaId.{ArenaId}
 use Rattle.fm_base.specs.Calls.{Call, Leave, Reply, Fine, Entry}
@@ -9,12 +9,12 @@ use Rattle.fm_words.specs.declared.shape.Shape.{Shape}
 use Rattle.fm_words.specs.Places.{at, page_word}
 use Rattle.fm_pool_facts.specs.Parts.{Mapping, mapping_of}
 use Rattle.fm_pool_facts.specs.Views.{View, In}
-use Rattle.fm_pool_facts.specs.Steps.{Stepped, HasPlace, none_noted, acted}
+use Rattle.fm_pool_facts.specs.Steps.{Stepped, CanReach as HasGiven, HasPlace, none_noted, acted}
 use Rattle.fm_rule.specs.declared.pool.Pool.{Pool}
 use Rattle.fm_rule.specs.Passes.{IsOf}
 use Rattle.fm_calls.specs.Kept.{Goes, rest_of}
 use Rattle.fm_calls.proofs.Going.{goes_of, goes_then, made_by-acted, no_draws, rest_is, hand_is, inside_is, mark_is, lasts_on}
-use Rattle.fm_pages.specs.Places.{Placed}
+use Rattle.fm_pages.specs.Places.{CanFind, Placed}
 use Rattle.fm_gate.specs.Standing.{CanReach, CanLeave}
 use Rattle.fm_gate.specs.Learnt.{AfterAct, AfterLeave}
 use Rattle.fm_gate.proofs.Standing.{swept_is, stands_outside, stands_inside}
@@ -75,6 +75,14 @@ found_word {p = p} {m = m} at = ⊎_elim
     (λ (e : m ≡ p). found_here e)
     (λ (s : (reads : List Mapping) × Stepped p m (record p { reads = reads }) [] none_noted). found_by s.0 s.1)
     at.by
+
+-- A word that can be reached can be found,
+pub can_find : {pool : Pool} {p : View} {word : ℕ} → CanReach pool p word → CanFind p word
+can_find r = record { id = r.id; inside = r.inside.inside; part = inl r.given }
+
+-- and be reached where it was found.
+pub found_reach : {pool : Pool} {p m : View} {word place : ℕ} → CanReach pool p word → Placed p m word place → HasGiven m word
+found_reach r at = at.reach (record { id = r.id; inside = r.inside.inside; given = r.given })
 
 -- It is still one of its pool.
 pub found_of : (pool : Pool) {p m : View} → Found p m → IsOf pool p → IsOf pool m

@@ -148,7 +148,7 @@ module _ {pool : Pool} {o p q : View} (word bit found : ℕ) (b : Bidding pool o
       let among : In here q.finds = subst (In here) (sym grown) (last p.finds here) in
       record {
         went = w;
-        found = record { more = m.finds.more ++ here ∷ []; grown = added; find = here; among = Contains-push m.finds.more here; step = refl; nothing = zero; };
+        found = record { more = m.finds.more ++ here ∷ []; grown = added; find = here; among = Contains-push m.finds.more here; step = refl; nothing = zero };
         early = (let k = m.long in omega arith);
         late = omega arith;
         left = t.sound.few_left here (inl among) refl zero;

@@ -100,7 +100,9 @@ unpaged_exact {p = p} {m = m} a count size align own fits are w lacks clear is =
     let shape = w.goes.same_shape in
     let some : 0 < p.shape.page_words = subst (λ (z : Shape). 0 < z.page_words) shape w.goes.sound.valid.page_words.0 in
     let seen : m.seen ≡ p.seen ++ own = w.goes.seen ∙ ap (λ (es : List Entry). p.seen ++ es) (w.goes.alone (whole_clear p clear)) in
-    let even = even_by p a count to own some (right_in p.shape m (p.seen ++ own) shape seen w.goes.sound) (low_in p.shape m (p.seen ++ own) shape seen w.goes.sound) are in
+    let right = right_in p.shape m (p.seen ++ own) shape seen w.goes.sound in
+    let low = low_in p.shape m (p.seen ++ own) shape seen w.goes.sound in
+    let even = even_by p a count to own some right low are in
     let none = lacks.none.exact clear in
     let all : unlent p.shape.pages (lent (p.seen ++ own)) ≡ 0 = subst (λ (es : List Entry). unlent p.shape.pages (lent es) ≡ 0) seen none.all_lent in
     let bare : ¬ (HasPart (lent (p.seen ++ own)) a lacks.part) = subst (λ (es : List Entry). ¬ (HasPart (lent es) a lacks.part)) seen none.lacks in
@@ -122,7 +124,8 @@ given_then limit s c a size align place reply has is =
     ∙ ap (λ (x : Arena). x.given) (lookup_changed s a (given_up_to (place + size)) (λ x. refl) has)
 
 fitting_reply : (limit given size align : ℕ) → rounded_up given align + size ≤ limit → allocate_reply limit given size align ≡ Given (rounded_up given align)
-fitting_reply limit given size align h = ap (λ (b : Bool). if b then Given (rounded_up given align) else NoRoom given) (le-leb (rounded_up given align + size) limit h)
+fitting_reply limit given size align h =
+    ap (λ (b : Bool). if b then Given (rounded_up given align) else NoRoom given) (le-leb (rounded_up given align + size) limit h)
 
 module _ {p q : View} (a : ArenaId) (count size align found : ℕ) (lends : List Entry)
     (are : All (LendsIn p a count (rounded_up count align + size)) lends)
@@ -172,7 +175,8 @@ module _ {p q : View} (a : ArenaId) (count size align found : ℕ) (lends : List
       ∙ (state_after-append limit [] p.seen (lends ++ entry ∷ []) ∙ (state_after-append limit (state_in p) lends (entry ∷ [])
       ∙ ap (λ (s : State). after limit s entry) same)) in
       ap (λ (s : State). (arena_of s a).given) now
-      ∙ given_then limit (state_in p) p.caller a size align place (allocate_reply limit count size align) (there_by_way (state_in p) p.caller a last.0.0) reply_is
+      ∙ given_then limit (state_in p) p.caller a size align place (allocate_reply limit count size align)
+      (there_by_way (state_in p) p.caller a last.0.0) reply_is
 
   -- so each part of it is lent
   each : (i : ℕ) → i < parts_before p.shape (end_of p a size align) → has_part (lent q.seen) a i ≡ true

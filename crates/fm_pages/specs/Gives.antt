@@ -11,7 +11,8 @@ use Rattle.fm_pages.specs.Covers.{LendsIn, Lacks}
 
 abbrev pub allocates : View → ArenaId → (count size align found : ℕ) → List Entry
 allocates v a count size align found =
-    where_found (found == count) (entry_of v.caller (Allocate a size align) (allocate_reply (limit_of v.shape) count size align) ∷ [])
+    where_found (found == count)
+    (entry_of v.caller (Allocate a size align) (allocate_reply (limit_of v.shape) count size align) ∷ [])
 
 -- it lent pages for the range, and gave it where the count was found
 pub record Tried (old new : View) (a : ArenaId) (count size align found : ℕ) : Type 0 where

@@ -184,4 +184,5 @@ module _ (size limit pages n : ℕ) (a : ArenaId) where
       let u = unlent_lend p a i loans pages page_low (block_free loans p right.0) in
       let k = lacking_lend p a i loans n f.2 (has_part_not loans a i right.3) in
       let later = lends_even (after limit s e) now es (subst (λ (ls : List Loan). IsRightlyLentFrom size limit (after limit s e) ls es) is r.1) rest low' in
-      subst (λ (ls : List Loan). unlent pages loans + lacking n (loans_after ls es) a ≡ unlent pages (loans_after ls es) + lacking n loans a) (sym is) (omega arith)
+      subst (λ (ls : List Loan). unlent pages loans + lacking n (loans_after ls es) a ≡ unlent pages (loans_after ls es) + lacking n loans a)
+      (sym is) (omega arith)

@@ -14,14 +14,7 @@ use fm_pool_facts::Step;
 use std::marker::Brand;
 
 /// Puts `new` into the word of this index where it is `old`, and answers the word found.
-pub fn step_swap_if(
-    pool: &Pool,
-    pass: &mut Pass,
-    word: u64,
-    place: u64,
-    old: u64,
-    new: u64,
-) -> u64
+pub fn step_swap_if(pool: &Pool, pass: &mut Pass, word: u64, place: u64, old: u64, new: u64) -> u64
     requires of { IsOf pool.now pass.old }
     requires act { CanReach pass.old word }
     requires place { HasPlace pass.old word place }
