@@ -1,5 +1,5 @@
 -- What is learnt of allocating.
-use Rattle.std.proofs.Common.{◌≡◌, ◌≢◌, ◌⊎◌, ℕ, Bool, not, List, [], ◌∷◌, ◌++◌, refl, ap, sym, ◌∙◌, inl, inr, Result, Ok, Err, All}
+use Rattle.std.proofs.Common.{◌≡◌, ◌≢◌, ◌⊎◌, ℕ, Bool, true, not, List, [], ◌∷◌, ◌++◌, refl, ap, sym, ◌∙◌, subst, inl, inr, Result, Ok, Err, All}
 use Rattle.std.specs.Prelude.{IfErr}
 use Rattle.std.proofs.lemmas.List.{append-nil}
 use Rattle.std.proofs.lemmas.List.Elements.{All-head, All-tail, filter-append}
@@ -12,10 +12,11 @@ use Rattle.fm_base.specs.Calls.{Enter, Allocate, Leave, Fine, Given, NoRoom, Ent
 use Rattle.fm_base.specs.Does.{DoesEnter, DoesAllocate}
 use Rattle.fm_base.specs.Machine.{IsPower}
 use Rattle.fm_base.specs.View.{but_loans, is_loan}
+use Rattle.fm_base.specs.Visits.{refused_visit}
 use Rattle.fm_pool_facts.specs.Loans.{lent}
-use Rattle.fm_pool_facts.specs.Views.{View, IsSound, given_of}
+use Rattle.fm_pool_facts.specs.Views.{View, In, IsSound, given_of}
 use Rattle.fm_rule.specs.declared.pool.Pool.{Pool}
-use Rattle.fm_calls.proofs.Going.{goes_none, kept_none, lasts_on}
+use Rattle.fm_calls.proofs.Going.{goes_none, lasts_on}
 use Rattle.fm_gate.specs.Giving.{DoesGive, LendsTo}
 use Rattle.fm_gate.specs.Learnt.{AfterEnter, AfterAllocate}
 use Rattle.fm_gate.specs.Pages.{FullExactly}
@@ -32,13 +33,14 @@ nothing r = Err r
 
 pub after_bad : {pool : Pool} {p : View} {a : ArenaId} {size align : ℕ} → CanAllocate pool p a → IsSound p → ¬ (IsPower align)
     → AfterAllocate pool p p a size align (Err refusal.BadAlignment)
-after_bad can s n = record {
-  did = kept_none _ _ s (n, refl);
+after_bad {p = p} can s n = record {
+  did = record { own = []; does = (n, refl); goes = goes_none s; rest = refl };
   gives = tt;
   held = λ i e. absurd (cc);
   never = λ e. absurd (cc);
   no_page = λ e. absurd (cc);
   exact = λ w c s. tt;
+  lends = λ e i loan. absurd i;
   bad_alignment = λ e. refl;
   wrong_thread = λ e. refl;
   outside = can.visit.outside;
@@ -48,12 +50,13 @@ after_bad can s n = record {
 pub after_not_his : {pool : Pool} {p : View} {a : ArenaId} {size align : ℕ} → CanAllocate pool p a → IsSound p → IsPower align → ¬ (MayUse a p.caller)
     → AfterAllocate pool p p a size align (Err refusal.WrongThread)
 after_not_his can s power n = record {
-  did = kept_none _ _ s (power, n, refl);
+  did = record { own = []; does = (power, n, refl); goes = goes_none s; rest = refl };
   gives = tt;
   held = λ i e. absurd (cc);
   never = λ e. absurd (cc);
   no_page = λ e. absurd (cc);
   exact = λ w c s. tt;
+  lends = λ e i loan. absurd i;
   bad_alignment = λ e. refl;
   wrong_thread = λ e. refl;
   outside = can.visit.outside;
@@ -70,12 +73,18 @@ after_no_entrance {p = p} {q = q} {a = a} {size = size} {align = align} r power 
   never = never r h.did.does;
   no_page = λ e. full r h.did.does e;
   exact = λ w c s. exact r h.did.does;
+  lends = λ e i loan. absurd (no_loan r h.did.does e i loan);
   bad_alignment = λ e. bad r h.did.does e;
   wrong_thread = λ e. h.wrong_thread (same r h.did.does e);
   outside = h.outside;
   lasts = h.lasts;
 }
   where
+    -- entering lends nothing
+    not_lent : (e : Entry) → In e (refused_visit p.caller a) → is_loan e.call ≡ true → ⊥
+    not_lent e (inl i) loan = let call : e.call ≡ Enter a = ap (λ (k : Entry). k.call) i in absurd (cc)
+    not_lent e (inr i) loan = i
+
     does : (r : Refusal) → DoesEnter p.caller a (Err r) h.did.own → DoesAllocate p.caller a size align (Err r) (but_loans h.did.own)
     does refusal.WrongThread d = (power, d.0, ap but_loans d.1)
     does refusal.Closed d = (power, d.0, ap but_loans d.1)
@@ -95,6 +104,11 @@ after_no_entrance {p = p} {q = q} {a = a} {size = size} {align = align} r power 
     exact refusal.WrongThread d = tt
     exact refusal.Closed d = tt
     exact r d = absurd d
+
+    no_loan : (r : Refusal) → DoesEnter p.caller a (Err r) h.did.own → (e : Entry) → In e h.did.own → is_loan e.call ≡ true → ⊥
+    no_loan refusal.WrongThread d e i loan = subst (λ (es : List Entry). In e es) d.1 i
+    no_loan refusal.Closed d e i loan = not_lent e (subst (λ (es : List Entry). In e es) d.1 i) loan
+    no_loan r d e i loan = absurd d
 
     same : (r : Refusal) → DoesEnter p.caller a (Err r) h.did.own → err r ≡ err refusal.WrongThread → nothing r ≡ nothing refusal.WrongThread
     same refusal.WrongThread d e = refl
@@ -181,5 +195,6 @@ unlike c a size align (Err r) own d e = absurd d
 pub exact_by : (p q : View) (a : ArenaId) (size align : ℕ) (result : Result ℕ Refusal) → q.shape ≡ p.shape → given_of q a ≡ given_of p a
     → lent q.seen ≡ lent p.seen → FullExactly q a size align result → FullExactly p a size align result
 exact_by p q a size align (Ok place) shape given loans x = λ s. x (scarce_by shape given loans s)
+exact_by p q a size align (Err (refusal.NoRoom given)) shape count loans x = λ s. x (scarce_by shape count loans s)
 exact_by p q a size align (Err refusal.PoolFull) shape given loans x = scarce_by (sym shape) (sym given) (sym loans) x
 exact_by p q a size align (Err r) shape given loans x = tt

@@ -1,27 +1,34 @@
 -- What is learnt of allocating inside an arena.
-use Rattle.std.proofs.Common.{◌≡◌, ◌≢◌, ℕ, ◌+◌, ◌*◌, ◌/◌, ◌<◌, ◌≤◌, nat_le, Bool, true, false, if◌then◌else◌, List, [], ◌∷◌, ◌++◌, length, refl, ap, sym, ◌∙◌, subst, Some, None, Result, Ok, Err, eq-eqb, append_assoc, arith}
+use Rattle.std.proofs.Common.{◌≡◌, ◌≢◌, ℕ, ◌+◌, ◌*◌, ◌/◌, ◌<◌, ◌≤◌, nat_le, Bool, true, false, if◌then◌else◌, List, [], ◌∷◌, ◌++◌, length, refl, ap, sym, ◌∙◌, subst, inl, inr, ⊎_elim, All, Some, None, Result, Ok, Err, eq-eqb, append_assoc, arith}
 use Rattle.std.proofs.lemmas.List.{length-append}
-use Rattle.std.proofs.lemmas.List.Elements.{Contains-append_right}
+use Rattle.std.proofs.lemmas.List.Elements.{All-head, All-tail, Contains-append_right}
 use Rattle.fm_words.specs.declared.shape.Shape.{Shape}
 use Rattle.fm_base.specs.declared.caller.Caller.{Caller}
 use Rattle.fm_base.specs.declared.arena_id.ArenaId.{ArenaId}
 use Rattle.fm_base.specs.declared.refusal.Refusal.{Refusal}
 use Rattle.fm_base.specs.declared.refusal.Refusal.TheVariants as refusal
-use Rattle.fm_base.specs.Arenas.{arena_of}
 use Rattle.fm_base.specs.Calls.{Allocate, Reply, Given, NoRoom, Entry, entry_of}
 use Rattle.fm_base.specs.Finds.{Find}
-use Rattle.fm_base.specs.Histories.{made_by, state_after}
+use Rattle.fm_base.specs.Histories.{made_by}
 use Rattle.fm_base.specs.Machine.{allocate_reply, rounded_up}
+use Rattle.fm_base.specs.View.{is_loan}
 use Rattle.fm_pool_facts.specs.Steps.{where_found, room}
-use Rattle.fm_pool_facts.specs.Views.{View, limit_of}
+use Rattle.fm_pool_facts.specs.Views.{View, In, limit_of}
+use Rattle.fm_pool_facts.proofs.Keeping.{in_append}
 use Rattle.fm_rule.specs.declared.pool.Pool.{Pool}
 use Rattle.fm_pages.specs.Gives.{Unpaged}
 use Rattle.fm_pages.specs.Maps.{Way}
 use Rattle.fm_pages.proofs.Parts.{way_then, pages_way}
 use Rattle.fm_gate.specs.Giving.{NonePaged, AfterGive}
-use Rattle.fm_gate.specs.Pages.{IsInRange, given_after}
-use Rattle.fm_gate.proofs.Gives.{Giving, inside_on, rest_on, lent_way, lends_to, more_lent}
+use Rattle.fm_gate.specs.Pages.{IsInRange, LendsInRange, given_after}
+use Rattle.fm_gate.proofs.Gives.{Giving, count_is, inside_on, rest_on, lends_for, lent_way, lends_to, more_lent}
 use Rattle.fm_gate.proofs.Scarce.{scarce_seen, clear}
+
+-- What holds of all of a list holds of one in it.
+each : (P : Entry → Type 0) (es : List Entry) → All P es → (e : Entry) → In e es → P e
+each P [] h e i = absurd i
+each P (x ∷ xs) h e (inl i) = subst P (sym i) (All-head P x xs h)
+each P (x ∷ xs) h e (inr i) = each P xs (All-tail P x xs h) e i
 
 -- ---- the reply
 
@@ -50,12 +57,23 @@ module _ {pool : Pool} {o p : View} {a : ArenaId} {size align count found : ℕ}
     limit_is : limit ≡ limit_of o.shape
     limit_is = lim ∙ (ap limit_of (sym g.inside.of.1) ∙ ap limit_of g.way.goes.same_shape)
 
+    -- the exchange lends nothing
+    no_loan : (reply : Reply) (x : Entry) → In x (entry_of o.caller (Allocate a size align) reply ∷ []) → is_loan x.call ≡ true → ⊥
+    no_loan reply x (inl i) loan = let call : x.call ≡ Allocate a size align = ap (λ (k : Entry). k.call) i in absurd (cc)
+    no_loan reply x (inr i) loan = i
+
     -- the exchange was answered so
     answered : (reply : Reply) → allocate_reply (limit_of o.shape) count size align ≡ reply
         → Way o p (g.own ++ entry_of o.caller (Allocate a size align) reply ∷ []) []
     answered reply is =
         subst (λ (x : Bool × Reply). Way o p (g.own ++ where_found x.0 (entry_of o.caller (Allocate a size align) x.1 ∷ [])) [])
         (λ j. (eq-eqb found count e j, is j)) g.way
+
+    -- All loans came before it.
+    lends_before : (reply : Reply) (x : Entry) → In x (g.own ++ entry_of o.caller (Allocate a size align) reply ∷ []) → is_loan x.call ≡ true
+        → LendsInRange o p a size align x
+    lends_before reply x i loan = ⊎_elim (λ l. each (LendsInRange o p a size align) g.own g.in_range x l)
+        (λ r. absurd (no_loan reply x r loan)) (in_append x g.own (entry_of o.caller (Allocate a size align) reply ∷ []) i)
 
     -- What is learnt where the range fits.
     pub after_fits : (place : ℕ) → Some place ≡ room limit count size align → AfterGive pool o p a size align (Ok place)
@@ -72,6 +90,7 @@ module _ {pool : Pool} {o p : View} {a : ArenaId} {size align count found : ℕ}
           inside = g.inside;
           no_page = λ q. absurd (cc);
           exact = λ w c s. g.exact w e;
+          lends = lends_before (Given place);
         }
 
     -- And where it doesn't.
@@ -87,7 +106,8 @@ module _ {pool : Pool} {o p : View} {a : ArenaId} {size align count found : ℕ}
           };
           inside = g.inside;
           no_page = λ q. absurd (cc);
-          exact = λ w c s. tt;
+          exact = λ w c s. g.exact w e;
+          lends = lends_before (NoRoom count);
         }
 
   -- ---- no page was free
@@ -99,13 +119,9 @@ module _ {pool : Pool} {o p : View} {a : ArenaId} {size align count found : ℕ}
     whole_way : Way o q (g.own ++ u.lends) []
     whole_way = way_then before u.way
 
-    -- the count that the try expected stood before it
-    count_is : given_after o p.seen a ≡ found
-    count_is = (λ j. (arena_of (state_after (limit_of (sym before.goes.same_shape j)) [] p.seen) a).given) ∙ sym (g.learnt n)
-
     in_range : IsInRange o (given_after o p.seen a) size align u.lacks.part
     in_range =
-        let same : ◌≡◌ {A = Shape × ℕ} (p.shape, found) (o.shape, given_after o p.seen a) = (λ j. (before.goes.same_shape j, sym count_is j)) in
+        let same : ◌≡◌ {A = Shape × ℕ} (p.shape, found) (o.shape, given_after o p.seen a) = (λ j. (before.goes.same_shape j, sym (count_is g n) j)) in
         record {
           fits = subst (λ (x : Shape × ℕ). rounded_up x.1 align + size ≤ limit_of x.0) same u.fits;
           after = subst (λ (x : Shape × ℕ). x.1 / (x.0.page_words * 8) ≤ u.lacks.part) same u.lacks.low;
@@ -160,6 +176,7 @@ module _ {pool : Pool} {o p : View} {a : ArenaId} {size align count found : ℕ}
       };
       inside = inside_on u.way g.inside;
       no_page = λ e. none_paged;
+      lends = λ e i loan. each (LendsInRange o q a size align) (g.own ++ u.lends) (lends_for g n u.way.goes u.lends u.are) e i;
       exact = λ w c s.
           scarce_seen (sym before.goes.same_shape) (sym (g.first w n))
           (u.exact (clear p (before.goes.same_whole ∙ w) g.inside.no_slot (pages_way before) (ap (λ (v : View). v.closes) before.is ∙ c)

@@ -1,5 +1,5 @@
 -- What is learnt of allocating, from entering the arena to leaving it.
-use Rattle.std.proofs.Common.{◌≡◌, ℕ, ◌+◌, ◌*◌, ◌/◌, ◌<◌, ◌≤◌, true, List, [], ◌∷◌, ◌++◌, length, refl, ap, sym, ◌∙◌, subst, inl, inr, Option, Result, Ok, append_assoc, arith}
+use Rattle.std.proofs.Common.{◌≡◌, ℕ, ◌+◌, ◌*◌, ◌/◌, ◌<◌, ◌≤◌, true, List, [], ◌∷◌, ◌++◌, length, refl, ap, sym, ◌∙◌, subst, inl, inr, ⊎_elim, Option, Result, Ok, append_assoc, arith}
 use Rattle.std.proofs.lemmas.List.{length-append}
 use Rattle.std.proofs.lemmas.List.Elements.{Contains-append_left, Contains-append_right, filter-append}
 use Rattle.fm_words.specs.declared.shape.Shape.{Shape}
@@ -7,17 +7,18 @@ use Rattle.fm_base.specs.declared.caller.Caller.{Caller}
 use Rattle.fm_base.specs.declared.arena_id.ArenaId.{ArenaId}
 use Rattle.fm_base.specs.declared.refusal.Refusal.{Refusal}
 use Rattle.fm_base.specs.Arenas.{State, arena_of}
-use Rattle.fm_base.specs.Calls.{Enter, Leave, Fine, Entry, entry_of}
+use Rattle.fm_base.specs.Calls.{Enter, Leave, Lend, Fine, Entry, entry_of}
 use Rattle.fm_base.specs.Does.{DoesAct, DoesAllocate}
 use Rattle.fm_base.specs.Finds.{Find, Rest}
 use Rattle.fm_base.specs.Histories.{made_by, state_after}
 use Rattle.fm_base.specs.Machine.{IsPower, entered, rounded_up}
-use Rattle.fm_base.specs.View.{but_loans}
+use Rattle.fm_base.specs.View.{but_loans, is_loan}
 use Rattle.fm_base.proofs.Learning.{allocate_gives}
 use Rattle.fm_base.proofs.Lookup.{changed_lookup}
 use Rattle.fm_base.proofs.Making.{state_after-append}
 use Rattle.fm_pool_facts.specs.Loans.{lent}
-use Rattle.fm_pool_facts.specs.Views.{View, FewLeft, given_of, limit_of, state_in, unlent}
+use Rattle.fm_pool_facts.specs.Views.{View, FewLeft, In, given_of, limit_of, state_in, unlent}
+use Rattle.fm_pool_facts.proofs.Keeping.{in_append}
 use Rattle.fm_pool_facts.proofs.Lending.{loans_after-append}
 use Rattle.fm_rule.specs.declared.pool.Pool.{Pool}
 use Rattle.fm_calls.specs.Kept.{Goes, Kept}
@@ -27,7 +28,7 @@ use Rattle.fm_calls.proofs.Sweeps.{no_sweeps}
 use Rattle.fm_calls.proofs.Telling.{did_of}
 use Rattle.fm_gate.specs.Giving.{AfterGive, DoesGive, NonePaged}
 use Rattle.fm_gate.specs.Learnt.{AfterEnter, AfterLeave, AfterAllocate}
-use Rattle.fm_gate.specs.Pages.{FoundNoPage, IsDuring, IsInRange, given_after}
+use Rattle.fm_gate.specs.Pages.{FoundNoPage, IsDuring, IsInRange, LendsInRange, given_after}
 use Rattle.fm_gate.proofs.Allocations.{alike, exact_by, never_so, unlike}
 
 -- ---- no page was free
@@ -105,6 +106,33 @@ module _ {p q : View} {a : ArenaId} (first : Goes p q (entry_of p.caller (Enter 
         };
       }
 
+  -- What is lent inside is lent in the whole call, and nothing else is.
+  lent_whole : {r s : View} {size align : ℕ} → Goes r s (entry_of p.caller (Leave a) Fine ∷ []) → (e : Entry) (own : List Entry)
+      → ((x : Entry) → In x own → is_loan x.call ≡ true → LendsInRange q r a size align x)
+      → In e (entry_of p.caller (Enter a) Fine ∷ own ++ entry_of p.caller (Leave a) Fine ∷ []) → is_loan e.call ≡ true
+      → LendsInRange p s a size align e
+  lent_whole last e own lends (inl i) loan = let call : e.call ≡ Enter a = ap (λ (k : Entry). k.call) i in absurd (cc)
+  lent_whole {r = r} {s = s} {size = size} {align = align} last e own lends (inr i) loan =
+      ⊎_elim (λ l. lent_on (lends e l loan)) (λ l. absurd (not_leaving l)) (in_append e own (entry_of p.caller (Leave a) Fine ∷ []) i)
+    where
+      not_leaving : In e (entry_of p.caller (Leave a) Fine ∷ []) → ⊥
+      not_leaving (inl j) = let call : e.call ≡ Leave a = ap (λ (k : Entry). k.call) j in absurd (cc)
+      not_leaving (inr j) = j
+
+      lent_on : LendsInRange q r a size align e → LendsInRange p s a size align e
+      lent_on l =
+          let count : Shape → ℕ = λ z. (arena_of (state_after (limit_of z) [] l.counted) a).given in
+          let shape = first.same_shape in
+          record {
+            page = l.page;
+            part = l.part;
+            is = l.is ∙ ap (λ (c : Caller). entry_of c (Lend l.page a l.part) Fine) first.same_caller;
+            counted = l.counted;
+            count_stood = during_on first last l.count_stood;
+            after = subst (λ (z : Shape). count z / (z.page_words * 8) ≤ l.part) shape l.after;
+            before = subst (λ (z : Shape). l.part * (z.page_words * 8) < rounded_up (count z) align + size) shape l.before;
+          }
+
   -- ---- whether pages are too few
 
   module _ (whole : p.whole ≡ true) where
@@ -150,6 +178,7 @@ after_allocate {p = p} {q = q} {r = r} {s = s} {a = a} {size = size} {align = al
       exact = λ w closes sweeps.
           exact_by p q a size align result first.same_shape (entered_given first w) (entered_loans first w)
           (gives.exact (first.same_whole ∙ w) (ap (λ (x : Rest). x.closes) enters.did.rest ∙ closes) (no_sweeps p q enters.did.rest sweeps));
+      lends = λ e i loan. (inl refl, lent_whole first last e gives.did.own gives.lends i loan);
       bad_alignment = λ e. unlike c a size align result gives.did.own does (inl e);
       wrong_thread = λ e. unlike c a size align result gives.did.own does (inr (inl e));
       outside = leaves.outside;

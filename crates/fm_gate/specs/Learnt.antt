@@ -7,11 +7,11 @@ use Rattle.fm_base.specs.declared.kind.Kind.TheVariants.{Automatic}
 use Rattle.fm_base.specs.declared.refusal.Refusal.{Refusal}
 use Rattle.fm_base.specs.declared.refusal.Refusal.TheVariants.{WrongThread, NoSlot}
 use Rattle.fm_base.specs.declared.refusal.Refusal.TheVariants as refusal
-use Rattle.fm_base.specs.Calls.{Call, Hold as Holding, Leave, Reply, Fine, Entry, entry_of}
+use Rattle.fm_base.specs.Calls.{Call, Enter, Hold as Holding, Leave, Reply, Fine, Entry, entry_of}
 use Rattle.fm_base.specs.Finds.{FoundNothing, is_slot}
 use Rattle.fm_base.specs.Does.{DoesEnter, DoesAct, DoesPatch, DoesOpen, DoesAllocate, DoesIsAlive, DoesHold, DoesUnhold, DoesAgain}
 use Rattle.fm_base.specs.Outcomes.{Gives}
-use Rattle.fm_base.specs.View.{but_loans}
+use Rattle.fm_base.specs.View.{but_loans, is_loan}
 use Rattle.fm_pool_facts.specs.Views.{View, In, IsKnown, IsBusy}
 use Rattle.fm_pool_facts.specs.Loans.{lent}
 use Rattle.fm_pool_facts.specs.Holds.{grips, with_grips, holds_after, released}
@@ -19,7 +19,7 @@ use Rattle.fm_pool_facts.specs.Words.{alive_holds, hold_found}
 use Rattle.fm_rule.specs.declared.pool.Pool.{Pool}
 use Rattle.fm_calls.specs.Kept.{Goes, Kept, KeptHolding, KeptHandling, Lasts, rest_of}
 use Rattle.fm_calls.specs.Told.{view_of_pass}
-use Rattle.fm_gate.specs.Pages.{FoundNoPage, FullExactly}
+use Rattle.fm_gate.specs.Pages.{FoundNoPage, FullExactly, LendsInRange}
 use Rattle.fm_gate.specs.Standing.{IsOutside, IsInside, CanUnhold, HasHandle}
 use Rattle.fm_gate.specs.declared.held.Hold.{Hold}
 
@@ -110,6 +110,9 @@ pub record AfterAllocate (pool : Pool) (old new : View) (id : ArenaId) (size ali
   pub no_page : result ≡ Err refusal.PoolFull → FoundNoPage old new id size align
   -- a pass that is known to be whole, and has swept what it shut, is refused so exactly where pages are too few
   pub exact : old.whole ≡ true → old.closes ≡ [] → old.sweeps ≡ [] → FullExactly old id size align result
+  -- it lends pages for parts of its range alone, once it has entered
+  pub lends : (e : Entry) → In e did.own → is_loan e.call ≡ true
+      → In (entry_of old.caller (Enter id) Fine) did.own × LendsInRange old new id size align e
   -- then the pass is as it was
   pub bad_alignment : result ≡ Err refusal.BadAlignment → new ≡ old
   pub wrong_thread : result ≡ Err WrongThread → new ≡ old

@@ -1,5 +1,5 @@
 -- Where a line of a pass by itself is refused for want of pages.
-use Rattle.std.proofs.Common.{◌≡◌, ◌≢◌, ℕ, Bool, true, false, if◌then◌else◌, List, [], ◌∷◌, ◌++◌, filter, refl, ap, sym, ◌∙◌, subst, inl, inr, Option, Some, None, Result, Ok, Err}
+use Rattle.std.proofs.Common.{◌≡◌, ◌≢◌, ℕ, Bool, true, false, cond, List, [], ◌∷◌, ◌++◌, filter, refl, ap, sym, ◌∙◌, subst, inl, inr, Option, Some, None, Result, Ok, Err}
 use Rattle.std.specs.Prelude.{not, IfSome, ⊤}
 use Rattle.fm_words.specs.declared.shape.Shape.{Shape}
 use Rattle.fm_base.specs.declared.arena_id.ArenaId.{ArenaId}
@@ -107,14 +107,12 @@ said_so id size reply made (Err r) e = ap (λ (o : Outcome). o.reply) e
 pub among_passes : {A : Type 0} (p : A → Bool) (x : A) (xs : List A) → p x ≡ true → IsAmong x xs → IsAmong x (filter p xs)
 among_passes p x [] is h = absurd h
 among_passes {A} p x (y ∷ ys) is (inl e) =
-    subst (λ (b : Bool). IsAmong x (if b then y ∷ filter p ys else filter p ys)) (sym is ∙ ap p e) (inl e)
+    subst (λ (b : Bool). IsAmong x (cond b (y ∷ filter p ys) (filter p ys))) (sym (ap p (sym e) ∙ is)) (inl e)
 among_passes {A} p x (y ∷ ys) is (inr h) =
     let rest = among_passes p x ys is h in
-    go (p y) rest
-  where
-    go : (b : Bool) → IsAmong x (filter p ys) → IsAmong x (if b then y ∷ filter p ys else filter p ys)
-    go true i = inr i
-    go false i = i
+    let P : Bool → Type 0 = λ b. IsAmong x (cond b (y ∷ filter p ys) (filter p ys)) in
+    let go : (b : Bool) → P b = λ b. elim b as P [ true ↦ inr rest | false ↦ rest ] in
+    go (p y)
 
 -- ---- a pass by itself
 

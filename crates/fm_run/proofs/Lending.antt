@@ -93,10 +93,12 @@ module _ {p q r : View} {own run : List Entry} (w : Went p q own) (v : Went q r 
       }
 
   in_own : {x : Entry} (es : List Entry) → IsAmong x es → In x es
+  in_own [] i = absurd i
   in_own (e ∷ es) (inl i) = inl i
   in_own (e ∷ es) (inr i) = inr (in_own es i)
 
   among_own : {x : Entry} (es : List Entry) → In x es → IsAmong x es
+  among_own [] i = absurd i
   among_own (e ∷ es) (inl i) = inl i
   among_own (e ∷ es) (inr i) = inr (among_own es i)
 
