@@ -4,6 +4,7 @@ pub mod Enters
 pub mod Bids
 pub mod Opens
 pub mod Tries
+pub mod Readings
 pub mod Gives
 pub mod Takes
 pub mod Holds

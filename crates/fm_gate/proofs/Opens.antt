@@ -6,11 +6,11 @@ use Rattle.fm_base.specs.declared.arena_id.ArenaId.{ArenaId}
 use Rattle.fm_base.specs.declared.kind.Kind.{Kind}
 use Rattle.fm_base.specs.declared.kind.Kind.TheVariants as kind
 use Rattle.fm_base.specs.declared.refusal.Refusal.TheVariants as refusal
+use Rattle.fm_base.specs.Calls.{Entry, Open, Fine, entry_of}
 use Rattle.fm_base.proofs.Outcomes.{opened_new}
 use Rattle.fm_pool_facts.specs.Hands.{Hand, nothing}
 use Rattle.fm_pool_facts.specs.Views.{View, In}
 use Rattle.fm_pool_facts.specs.Holds.{is_automatic, handles_with}
-use Rattle.fm_pool_facts.specs.Steps.{open_entries}
 use Rattle.fm_pool_facts.proofs.Gripping.{automatic}
 use Rattle.fm_rule.specs.declared.pool.Pool.{Pool}
 use Rattle.fm_calls.specs.Kept.{Goes, rest_of, slots_told}
@@ -56,8 +56,8 @@ after_no_slot {p = p} {q = q} {k = k} out n =
           is = is ∙ ap (λ (x : Hand). record p { seen = q.seen; finds = q.finds; hand = x }) (sym out.no_slot);
         },
       );
-      outside = stands_outside n.went.goes out.of out.no_number (ap (λ (x : View). x.hand) is) (ap (λ (x : View). x.inside) is ∙ out.outside)
-          (ap (λ (x : View). x.mark) is ∙ out.unmarked);
+      outside = stands_outside n.went.goes out.of out.no_number (ap (λ (x : View). x.hand) is) (ap (λ (x : View). x.swept) is ∙ out.no_part)
+          (ap (λ (x : View). x.inside) is ∙ out.outside) (ap (λ (x : View). x.mark) is ∙ out.unmarked);
       lasts = lasts_on n.went.goes;
     }
 
@@ -71,9 +71,12 @@ handles_by kind.Automatic a hs e = first_handle a hs e
 handles_by kind.Confined a hs e = ap (λ (x : Kind). if is_automatic x then a ∷ hs else hs) e
 handles_by kind.Shared a hs e = ap (λ (x : Kind). if is_automatic x then a ∷ hs else hs) e
 
+abbrev opens : ArenaId → Caller → List Entry
+opens a c = entry_of c (Open a) Fine ∷ []
+
 module _ {p m q : View} {a : ArenaId} {slot : ℕ} {k : Kind} (t : SlotTaken p m slot) (o : OpenedIn m q slot k a) where
-  goes : Goes p q (open_entries a p.caller)
-  goes = goes_then t.went.goes (subst (λ (c : Caller). Goes m q (open_entries a c)) t.went.goes.same_caller o.goes)
+  goes : Goes p q (opens a p.caller)
+  goes = goes_then t.went.goes (subst (λ (c : Caller). Goes m q (opens a c)) t.went.goes.same_caller o.goes)
 
   is : q ≡ record p { seen = q.seen; finds = q.finds; hand = nothing; handles = handles_with a p.handles }
   is = o.is ∙ ap (λ (x : View). record x { seen = q.seen; finds = q.finds; hand = nothing; handles = handles_with a x.handles }) t.went.is
@@ -81,14 +84,14 @@ module _ {p m q : View} {a : ArenaId} {slot : ℕ} {k : Kind} (t : SlotTaken p m
   -- The arena is new.
   is_new : IsNew p q a
   is_new =
-      let n = opened_new (silent_view p) (silent_view q) (open_entries a p.caller) p.caller a (silent_makes goes) (inl refl) in
+      let n = opened_new (silent_view p) (silent_view q) (opens a p.caller) p.caller a (silent_makes goes) (inl refl) in
       record { unknown = λ h. (let u = n.unknown in absurd (cc)); known = n.known }
 
   -- What is learnt where one was taken.
   pub after_opened : {pool : Pool} → IsOutside pool p → AfterOpen pool p q k (Ok a)
   after_opened {pool = pool} out = record {
     did = record {
-      own = open_entries a p.caller;
+      own = opens a p.caller;
       does = (o.kind, o.owner ∙ t.went.goes.same_caller, refl);
       goes = goes;
       rest = rest_with p q (handles_with a p.handles) out.no_slot is
@@ -103,7 +106,7 @@ module _ {p m q : View} {a : ArenaId} {slot : ℕ} {k : Kind} (t : SlotTaken p m
     };
     slot = λ w all. t.idle w (all slot t.low);
     no_slot = tt;
-    outside = stands_outside goes out.of out.no_number (ap (λ (x : View). x.hand) is) (ap (λ (x : View). x.inside) is ∙ out.outside)
-        (ap (λ (x : View). x.mark) is ∙ out.unmarked);
+    outside = stands_outside goes out.of out.no_number (ap (λ (x : View). x.hand) is) (ap (λ (x : View). x.swept) is ∙ out.no_part)
+        (ap (λ (x : View). x.inside) is ∙ out.outside) (ap (λ (x : View). x.mark) is ∙ out.unmarked);
     lasts = lasts_on goes;
   }

@@ -96,17 +96,6 @@ pub record AfterOpen (pool : Pool) (old new : View) (kind : Kind) (result : Resu
 
 -- ---- allocations
 
--- one Allocate in the arena
-abbrev pub DoesGive : Caller → ArenaId → ℕ → ℕ → Result ℕ Refusal → List Entry → Type 0
-DoesGive c id size align (Ok place) own = own ≡ entry_of c (Allocate id size align) (Given place) ∷ []
-DoesGive c id size align (Err (refusal.NoRoom given)) own = own ≡ entry_of c (Allocate id size align) (NoRoom given) ∷ []
-DoesGive c id size align (Err r) own = ⊥
-
--- of the act inside `allocate`
-pub record AfterGive (pool : Pool) (old new : View) (id : ArenaId) (size align : ℕ) (result : Result ℕ Refusal) : Type 0 where
-  pub did : Kept old new (DoesGive old.caller id size align result)
-  pub inside : IsInside pool new id
-
 -- of `allocate`: what it gives was never given before
 pub record AfterAllocate (pool : Pool) (old new : View) (id : ArenaId) (size align : ℕ) (result : Result ℕ Refusal) : Type 0 where
   pub did : Kept old new (λ own. DoesAllocate old.caller id size align result (but_loans own))
@@ -134,6 +123,7 @@ pub record AfterTake (old new : View) (id : ArenaId) (word : ℕ) : Type 0 where
   pub inside : new.inside ≡ old.inside
   pub mark : new.mark ≡ old.mark
   pub hand : new.hand ≡ old.hand
+  pub swept : new.swept ≡ old.swept
 
 -- a hold is one of the arena
 abbrev pub DoesTake : Caller → ArenaId → Result Hold Refusal → List Entry → Type 0

@@ -1,5 +1,5 @@
 -- Where an allocation finds no page.
-use Rattle.std.specs.Prelude.{◌≡◌, ◌<◌, ◌≤◌, ◌+◌, ◌*◌, ◌/◌, ℕ, List, [], ◌∷◌, ◌++◌, length, Result, Ok, Err}
+use Rattle.std.specs.Prelude.{◌≡◌, ◌<◌, ◌≤◌, ◌+◌, ◌*◌, ◌/◌, ℕ, List, [], ◌∷◌, ◌++◌, length, Result, Ok, Err, ⊤}
 use Rattle.fm_base.specs.declared.arena_id.ArenaId.{ArenaId}
 use Rattle.fm_base.specs.declared.refusal.Refusal.{Refusal}
 use Rattle.fm_base.specs.declared.refusal.Refusal.TheVariants as refusal
@@ -38,7 +38,7 @@ pub record LackedPart (old new : View) (id : ArenaId) (size align : ℕ) : Type 
   pub at_stood : IsDuring old new at
   pub seen : new.seen ≡ at ++ later
   pub lacked : ¬ (HasPart (lent at) id part)
-  pub no_lend : made_by old.caller later ≡ entry_of old.caller Leave Fine ∷ []
+  pub no_lend : made_by old.caller later ≡ entry_of old.caller (Leave id) Fine ∷ []
 
 -- of an allocation that is refused with PoolFull: the word of page bits was 0 at a step of the call
 pub record FoundNoPage (old new : View) (id : ArenaId) (size align : ℕ) : Type 0 where

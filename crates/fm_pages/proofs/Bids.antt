@@ -1,17 +1,18 @@
 -- Claiming a page.
-use Rattle.std.proofs.Common.{◌≡◌, ◌≢◌, ◌⊎◌, ℕ, ◌+◌, ◌==◌, ◌<◌, ◌≤◌, Bool, true, false, if◌then◌else◌, List, [], ◌∷◌, ◌++◌, length, refl, ap, sym, ◌∙◌, subst, inl, inr, ⊎_elim, None, eq-eqb, ne_eqb, append_assoc, arith}
+use Rattle.std.proofs.Common.{◌≡◌, ◌≢◌, ◌⊎◌, ℕ, ◌+◌, ◌==◌, ◌&&◌, ◌<◌, ◌≤◌, Bool, true, false, if◌then◌else◌, List, [], ◌∷◌, ◌++◌, length, refl, ap, sym, ◌∙◌, subst, inl, inr, ⊎_elim, None, eq-eqb, ne_eqb, append_assoc, arith}
 use Rattle.std.proofs.lemmas.List.Elements.{All-cons, All-nil, Contains-push}
 use Rattle.std.proofs.lemmas.List.{append-nil, length-append}
 use Rattle.std.proofs.lemmas.Nat.Bits.{bit_at-zero}
 use Rattle.std.specs.Int.{bit_at}
 use Rattle.fm_words.specs.declared.shape.Shape.{Shape}
 use Rattle.fm_base.specs.Calls.{Entry}
-use Rattle.fm_base.specs.Finds.{Find, FindsMore, TakesPage, is_draw, is_page}
+use Rattle.fm_base.specs.Finds.{Find, FindsMore, TakesPage, is_draw}
 use Rattle.fm_base.proofs.Making.{FindsMore-none}
-use Rattle.fm_pool_facts.specs.Hands.{takes}
-use Rattle.fm_pool_facts.specs.Parts.{pages_taken}
-use Rattle.fm_pool_facts.specs.Views.{View, HasFind, In}
-use Rattle.fm_pool_facts.specs.Steps.{Stepped, none_noted, note_of, is_clear}
+use Rattle.fm_pool_facts.specs.Hands.{slots_in, takes}
+use Rattle.fm_pool_facts.specs.Loans.{lent}
+use Rattle.fm_pool_facts.specs.Parts.{Mapping, pages_taken}
+use Rattle.fm_pool_facts.specs.Views.{View, Begins, In, unlent}
+use Rattle.fm_pool_facts.specs.Steps.{Stepped, none_noted, note_of, is_clear, is_empty}
 use Rattle.fm_pool_steps.proofs.Reading.{eqb_true}
 use Rattle.fm_rule.specs.declared.pool.Pool.{Pool}
 use Rattle.fm_rule.specs.Passes.{IsOf}
@@ -30,6 +31,28 @@ no_draw p word bit found n = All-cons (λ f. is_draw f.step ≡ false) _ [] refl
 pages_on : (p : View) (pages : List ℕ) → IsOn p (record p { pages = pages }) []
 pages_on p pages = record { shape = refl; home = refl; caller = refl; gathered = refl; whole = refl; drawn = refl; inside = refl }
 
+-- a pass that was clear is so without a page, whatever it has seen, found and read
+pub clear_still : (v : View) (seen : List Entry) (finds : List Find) (reads : List Mapping) → is_clear v ≡ true
+    → is_clear (record v { seen = seen; finds = finds; reads = reads; pages = [] }) ≡ true
+clear_still v seen finds reads = go v.whole (is_empty (slots_in v.hand)) (is_empty v.pages) (is_empty v.closes) (is_empty v.sweeps)
+  where
+    go : (a b c d e : Bool) → (a && b && c && d && e) ≡ true → (a && b && true && d && e) ≡ true
+    go true true true d e h = h
+    go true true false d e h = absurd (cc)
+    go true false c d e h = absurd (cc)
+    go false b c d e h = absurd (cc)
+
+-- a history that begins another of its length is that one
+begins_all : (xs ys : List Entry) → Begins xs ys → length xs ≡ length ys → xs ≡ ys
+begins_all xs ys b e =
+    let l : length ys ≡ length xs + length b.0 = ap (λ (es : List Entry). length es) b.1 ∙ length-append xs b.0 in
+    let none : b.0 ≡ [] = no_more b.0 (omega arith) in
+    sym (b.1 ∙ (ap (λ (es : List Entry). xs ++ es) none ∙ append-nil xs))
+  where
+    no_more : (zs : List Entry) → length zs ≡ 0 → zs ≡ []
+    no_more [] l = refl
+    no_more (z ∷ zs) l = absurd (omega arith)
+
 -- the pass has come from p to q by exchanges that took nothing
 pub record Bidding (pool : Pool) (p q : View) : Type 0 where
   pub of : IsOf pool q
@@ -44,6 +67,7 @@ record Same (o p : View) : Type 0 where
   shape : p.shape ≡ o.shape
   long : length o.seen ≤ length p.seen
   finds : FindsMore o.finds p.finds
+  clear : is_clear o ≡ true → is_clear p ≡ true
 
 same_yet : {pool : Pool} {o p : View} → Bidding pool o p → Same o p
 same_yet {o = o} {p = p} b = ⊎_elim
@@ -51,12 +75,14 @@ same_yet {o = o} {p = p} b = ⊎_elim
       shape = ap (λ (x : View). x.shape) e;
       long = (let l : length p.seen ≡ length o.seen = ap (λ (x : View). length x.seen) e in omega arith);
       finds = subst (λ (x : View). FindsMore x.finds p.finds) e (FindsMore-none p.finds);
+      clear = subst (λ (x : View). is_clear x ≡ true → is_clear p ≡ true) e (λ h. h);
     })
     (λ (g : Went o p []). record {
       shape = g.goes.same_shape;
       long = (let l : length p.seen ≡ length o.seen + length g.goes.more = ap (λ (es : List Entry). length es) g.goes.seen ∙ length-append o.seen g.goes.more in
           omega arith);
       finds = g.goes.finds;
+      clear = λ h. ap is_clear g.is ∙ clear_still o p.seen p.finds o.reads h;
     })
     b.went
 
@@ -122,10 +148,14 @@ module _ {pool : Pool} {o p q : View} (word bit found : ℕ) (b : Bidding pool o
       let among : In here q.finds = subst (In here) (sym grown) (last p.finds here) in
       record {
         went = w;
-        found = record { more = m.finds.more ++ here ∷ []; grown = added; find = here; among = Contains-push m.finds.more here; step = refl; nothing = zero; };
+        found = record { more = m.finds.more ++ here ∷ []; grown = added; find = here; among = Contains-push m.finds.more here; step = refl; nothing = zero };
         early = (let k = m.long in omega arith);
         late = omega arith;
         left = t.sound.few_left here (inl among) refl zero;
+        all_lent = λ c.
+            let left = t.sound.few_left here (inl among) refl zero in
+            let all : left.before ≡ q.seen = begins_all left.before q.seen left.begins (left.long ∙ sym now) in
+            subst (λ (es : List Entry). unlent q.shape.pages (lent es) ≡ 0) all (left.none (m.clear c));
       }
     where
       last : (fs : List Find) (f : Find) → In f (fs ++ f ∷ [])

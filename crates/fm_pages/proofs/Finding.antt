@@ -1,38 +1,45 @@
--- A word that can be reached is found by its part's map word.
-use Rattle.std.proofs.Common.{◌≡◌, ◌≢◌, ℕ, ◌+◌, ◌-◌, ◌*◌, ◌/◌, ◌%◌, ◌^◌, ◌<◌, ◌≤◌, ◌==◌, Bool, true, false, if◌then◌else◌, List, [], ◌∷◌, ◌++◌, refl, ap, sym, ◌∙◌, subst, arith, inl, inr, Some, None, ne_eqb}
-use Rattle.std.proofs.Math.Nat.{mod-lt, div-lt_iff_lt-mul, div-mul-le_self, lt-div-mul-add}
+-- A word whose part is lent is found by its part's map word.
+use Rattle.std.proofs.Common.{◌≡◌, ◌≢◌, ℕ, ◌+◌, ◌-◌, ◌*◌, ◌/◌, ◌%◌, ◌<◌, ◌≤◌, ◌==◌, Bool, false, if◌then◌else◌, List, [], ◌∷◌, ◌++◌, refl, ap, sym, ◌∙◌, subst, append_assoc, arith, inl, inr, ⊎_elim, Some, ne_eqb}
+use Rattle.std.proofs.Math.Nat.{div-lt_iff_lt-mul, div-mul-le_self, lt-div-mul-add}
 use Rattle.fm_words.specs.declared.shape.Shape.{Shape}
 use Rattle.fm_words.specs.Places.{at, page_word}
 use Rattle.fm_base.specs.declared.arena_id.ArenaId.{ArenaId}
 use Rattle.fm_base.specs.Arenas.{State, arena_of}
 use Rattle.fm_base.specs.Calls.{Entry}
 use Rattle.fm_base.specs.Histories.{IsLegal, state_after}
-use Rattle.fm_base.proofs.Wholeness.{given_within}
 use Rattle.fm_base.proofs.Making.{state_after-append, IsLegal-split}
 use Rattle.fm_base.proofs.Growing.{Grows-state_after}
 use Rattle.fm_pool_facts.specs.Parts.{Mapping, mapping_of, reads_after}
-use Rattle.fm_pool_facts.specs.Views.{View, In, IsSound, given_of, limit_of, span}
+use Rattle.fm_pool_facts.specs.Views.{View, In, IsSound, given_of, limit_of, state_in}
 use Rattle.fm_pool_facts.specs.Moves.{LearnsMap}
 use Rattle.fm_pool_facts.specs.Steps.{Stepped, CanReach, HasPlace, HasParts, none_noted}
-use Rattle.fm_pages.specs.Places.{Placed}
+use Rattle.fm_pool_facts.specs.Loans.{HasPart, lent, loan_of}
+use Rattle.fm_base.proofs.Placing.{there_by_way}
+use Rattle.fm_calls.proofs.Lent.{part_on}
+use Rattle.fm_calls.proofs.UnderWay.{stands_under_way}
+use Rattle.std.specs.Prelude.{Contains}
+use Rattle.fm_pages.specs.Places.{CanFind, Placed}
 
--- the part of a word that can be reached is one that arenas have
-pub part_low : (v : View) (word : ℕ) → IsSound v → CanReach v word → word / v.shape.page_words < v.shape.reach
+-- the part of a word that can be found is lent
+find_part : (v : View) (word : ℕ) → IsSound v → (can : CanFind v word) → HasPart (lent v.seen) can.id (word / v.shape.page_words)
+find_part v word s can = ⊎_elim
+    (λ (given : 8 * word < given_of v can.id).
+    s.covered can.id word (stands_under_way (limit_of v.shape) v.seen s.legal v.caller can.id (s.inside can.id can.inside)) given)
+    (λ (h : HasPart (lent v.seen) can.id (word / v.shape.page_words)). h)
+    can.part
+
+-- and one that arenas have
+pub part_low : (v : View) (word : ℕ) → IsSound v → CanFind v word → word / v.shape.page_words < v.shape.reach
 part_low v word s can =
-    let g : ℕ = given_of v can.id in
-    let most : g ≤ limit_of v.shape = given_within (limit_of v.shape) v.seen s.legal can.id in
-    let n : ℕ = span v.shape in
-    let few : g ≤ n * 8 = most in
-    let low = can.given in
-    let below : word < n = omega arith in
-    (div-lt_iff_lt-mul s.valid.page_words.0).1 below
+    let h = find_part v word s can in
+    (s.loans (loan_of h.0 can.id (word / v.shape.page_words)) h.1).1
 
 -- the pass stays where the word can be reached
 reach_on : (v w : View) (word : ℕ) (reads : List Mapping) → CanReach v word → Stepped v w (record v { reads = reads }) [] none_noted → CanReach w word
 reach_on v w word reads can s =
     let limit : ℕ = limit_of v.shape in
     let now : State = state_after limit [] v.seen in
-    let seen : w.seen ≡ v.seen ++ (s.others ++ []) = s.seen ∙ Rattle.std.proofs.Common.append_assoc v.seen s.others [] in
+    let seen : w.seen ≡ v.seen ++ (s.others ++ []) = s.seen ∙ append_assoc v.seen s.others [] in
     let shape : w.shape ≡ v.shape = ap (λ (u : View). u.shape) s.is_part in
     let legal : IsLegal limit [] (v.seen ++ (s.others ++ [])) =
     subst (λ (x : Shape × List Entry). IsLegal (limit_of x.0) [] x.1) (λ j. (shape j, seen j)) s.sound.legal in
@@ -43,14 +50,31 @@ reach_on v w word reads can s =
     let low = can.given in
     record { id = can.id; inside = ap (λ (u : View). u.inside) s.is_part ∙ can.inside; given = omega arith }
 
-module _ (v w : View) (word x : ℕ) (a : ArenaId) (sound : IsSound v) (can : CanReach v word) (ins : v.inside ≡ Some a)
-    (l : LearnsMap v a (word / v.shape.page_words) x w) (s : Stepped v w (record v { reads = reads_after (word / v.shape.page_words) x v.reads }) [] none_noted) where
-  -- it has a given byte, so its part has a page
+-- a place that the pass has read
+pub placed_known : {v : View} {word place : ℕ} → IsSound v → HasPlace v word place → Placed v v word place
+placed_known {v = v} {word = word} s h = record {
+  place = record { page = h.page; low = h.low; read = h.read; is = h.is };
+  lent_so = λ id q. s.reads id (mapping_of (word / v.shape.page_words) h.page) q h.read;
+  reach = λ c. c;
+  by = inl refl;
+}
+
+module _ (v w : View) (word x : ℕ) (a : ArenaId) (sound : IsSound v) (can : CanFind v word) (ins : v.inside ≡ Some a)
+    (l : LearnsMap v a (word / v.shape.page_words) x w)
+    (s : Stepped v w (record v { reads = reads_after (word / v.shape.page_words) x v.reads }) [] none_noted) where
+  inside_now : w.inside ≡ Some a
+  inside_now = ap (λ (u : View). u.inside) s.is_part ∙ ins
+
+  -- its part is lent still, so it has a page
   pub mapped : 1 ≤ x
   mapped =
       let same : can.id ≡ a = (let q : Some can.id ≡ Some a = sym can.inside ∙ ins in cc) in
-      let n = l.given word refl (subst (λ (b : ArenaId). 8 * word < given_of v b) same can.given) in
-      let m : x ≢ 0 = n in omega arith
+      let seen : w.seen ≡ v.seen ++ (s.others ++ []) = s.seen ∙ append_assoc v.seen s.others [] in
+      let h : HasPart (lent v.seen) a (word / v.shape.page_words) =
+      subst (λ (b : ArenaId). HasPart (lent v.seen) b (word / v.shape.page_words)) same (find_part v word sound can) in
+      let now = part_on v w (s.others ++ []) seen (ap (λ (u : View). u.shape) s.is_part) s.sound a
+      (there_by_way (state_in v) v.caller a (sound.inside a ins)) inside_now (word / v.shape.page_words) h in
+      let m : x ≢ 0 = (λ e. l.none e now) in omega arith
 
   pub page_low : x - 1 < v.shape.pages
   page_low = let m = mapped in let h = l.low in omega arith
@@ -70,7 +94,11 @@ module _ (v w : View) (word x : ℕ) (a : ArenaId) (sound : IsSound v) (can : Ca
           read = subst (λ (y : Shape). In (mapping_of (word / y.page_words) (x - 1)) w.reads) (sym shape) read;
           is = e ∙ ap (λ (y : Shape). at y (page_word (x - 1) (word % y.page_words))) (sym shape);
         };
-        reach = reach_on v w word (reads_after i x v.reads) can s;
+        lent_so = λ id q.
+            let same : a ≡ id = (let e : Some a ≡ Some id = sym ins ∙ q in cc) in
+            subst (λ (b : ArenaId × Shape). Contains (lent w.seen) (loan_of (x - 1) b.0 (word / b.1.page_words))) (λ j. (same j, sym shape j))
+            (s.sound.reads a (mapping_of i (x - 1)) inside_now read);
+        reach = λ c. reach_on v w word (reads_after i x v.reads) c s;
         by = inr (reads_after i x v.reads, s);
       }
 

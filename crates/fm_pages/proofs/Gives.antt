@@ -1,23 +1,23 @@
 -- One try to give bytes.
-use Rattle.std.proofs.Common.{◌≡◌, ◌≢◌, ℕ, ◌+◌, ◌*◌, ◌/◌, ◌==◌, ◌<◌, ◌≤◌, Bool, true, false, if◌then◌else◌, List, [], ◌∷◌, ◌++◌, refl, ap, sym, ◌∙◌, subst, Option, Some, None, All, arith}
+use Rattle.std.proofs.Common.{◌≡◌, ◌≢◌, ℕ, ◌+◌, ◌==◌, ◌≤◌, Bool, true, false, if◌then◌else◌, List, [], ◌∷◌, ◌++◌, refl, ap, sym, ◌∙◌, subst, Option, Some, None}
 use Rattle.std.proofs.lemmas.List.Elements.{All-nil}
 use Rattle.std.proofs.lemmas.Bool.{leb-true, le-leb}
 use Rattle.std.specs.Prelude.{nat_le}
 use Rattle.fm_words.specs.declared.shape.Shape.{Shape}
 use Rattle.fm_base.specs.declared.caller.Caller.{Caller}
 use Rattle.fm_base.specs.declared.arena_id.ArenaId.{ArenaId}
-use Rattle.fm_base.specs.Calls.{Entry, Reply, Allocate, entry_of}
+use Rattle.fm_base.specs.Calls.{Reply, Allocate, entry_of}
 use Rattle.fm_base.specs.Machine.{rounded_up, allocate_reply}
 use Rattle.fm_base.specs.Histories.{made_by}
 use Rattle.fm_base.specs.View.{inside_after}
-use Rattle.fm_base.specs.Finds.{Find}
 use Rattle.fm_pool_facts.specs.Parts.{Mapping}
 use Rattle.fm_pool_facts.specs.Views.{View, In, limit_of, given_of}
-use Rattle.fm_pool_facts.specs.Steps.{Stepped, none_noted, where_found, acted, room, HasParts}
+use Rattle.fm_pool_facts.specs.Steps.{Stepped, none_noted, where_found, acted, room}
 use Rattle.fm_calls.proofs.Going.{goes_of, no_draws, made_by-one}
 use Rattle.fm_pages.specs.Maps.{Way}
 use Rattle.fm_pages.specs.Covers.{Covered, LendsIn}
 use Rattle.fm_pages.specs.Gives.{Tried, Unpaged, allocates}
+use Rattle.fm_pages.proofs.Exact.{tried_exact, unpaged_exact}
 use Rattle.fm_pages.proofs.Parts.{way_then, pages_way}
 
 -- ---- the exchange
@@ -89,6 +89,8 @@ tried_past {p = p} a count size align found ins none s l = record {
   are = All-nil (LendsIn p a count (rounded_up count align + size));
   way = way_allocate a count size align found ins none s;
   learnt = l;
+  exact = tried_exact a count size align found [] (All-nil (LendsIn p a count (rounded_up count align + size)))
+      (way_allocate a count size align found ins none s) (ap (λ (v : View). v.inside) s.is_part ∙ ins);
 }
 
 pub tried_covered : {p m q : View} (a : ArenaId) (count size align found : ℕ) → p.inside ≡ Some a
@@ -98,14 +100,24 @@ tried_covered {p = p} {m = m} {q = q} a count size align found ins c s l =
     let inside : m.inside ≡ Some a = ap (λ (v : View). v.inside) c.way.is ∙ ins in
     let w = way_allocate a count size align found inside (pages_way c.way) s in
     let same : (m.shape, m.caller) ≡ (p.shape, p.caller) = (λ j. (c.way.goes.same_shape j, c.way.goes.same_caller j)) in
+    let all : Way p q (c.own ++ allocates p a count size align found) [] =
+    way_then c.way (subst (λ (x : Shape × Caller). Way m q (where_found (found == count) (entry_of x.1 (Allocate a size align)
+    (allocate_reply (limit_of x.0) count size align) ∷ [])) []) same w) in
     record {
       lends = c.own;
       are = c.lends;
-      way = way_then c.way (subst (λ (x : Shape × Caller). Way m q (where_found (found == count) (entry_of x.1 (Allocate a size align)
-          (allocate_reply (limit_of x.0) count size align) ∷ [])) []) same w);
+      way = all;
       learnt = l;
+      exact = tried_exact a count size align found c.own c.lends all (ap (λ (v : View). v.inside) s.is_part ∙ inside);
     }
 
 pub tried_unpaged : {p m : View} (a : ArenaId) (count size align : ℕ) → rounded_up count align + size ≤ limit_of p.shape
     → Covered p m a count (rounded_up count align + size) false → Unpaged p m a count size align
-tried_unpaged a count size align fits c = record { fits = fits; lends = c.own; are = c.lends; way = c.way; lacks = c.outcome }
+tried_unpaged a count size align fits c = record {
+  fits = fits;
+  lends = c.own;
+  are = c.lends;
+  way = c.way;
+  lacks = c.outcome;
+  exact = unpaged_exact a count size align c.own fits c.lends c.way c.outcome;
+}

@@ -1,23 +1,23 @@
 -- Giving all parts of a range pages.
-use Rattle.std.proofs.Common.{◌≡◌, ◌≢◌, ◌⊎◌, ℕ, ◌+◌, ◌*◌, ◌/◌, ◌==◌, ◌<◌, ◌≤◌, Bool, true, false, List, [], ◌∷◌, ◌++◌, length, refl, ap, sym, ◌∙◌, subst, inl, inr, ⊎_elim, All, arith, append_assoc}
+use Rattle.std.proofs.Common.{◌≡◌, ◌≢◌, ℕ, ◌+◌, ◌*◌, ◌/◌, ◌==◌, ◌<◌, ◌≤◌, Bool, true, false, List, [], ◌∷◌, ◌++◌, length, refl, ap, sym, ◌∙◌, subst, ⊎_elim, All, arith, append_assoc}
 use Rattle.std.proofs.lemmas.List.Elements.{All-append, All-cons, All-nil, Contains-append_right}
 use Rattle.std.proofs.lemmas.List.{length-append}
-use Rattle.std.proofs.Math.Nat.{mul-le-mul_right, mul_assoc, lt_of_not-le, div-le_of_le-mul}
+use Rattle.std.proofs.Math.Nat.{mul-le-mul_right, mul_assoc, lt_of_not-le}
 use Rattle.fm_words.specs.declared.shape.Shape.{Shape}
 use Rattle.fm_base.specs.declared.caller.Caller.{Caller}
 use Rattle.fm_base.specs.declared.arena_id.ArenaId.{ArenaId}
 use Rattle.fm_base.specs.Calls.{Entry, Lend, Fine, entry_of}
 use Rattle.fm_base.specs.Finds.{Find}
-use Rattle.fm_pool_facts.specs.Parts.{Mapping, mapping_of}
-use Rattle.fm_pool_facts.specs.Views.{View, In, IsSound, limit_of}
-use Rattle.fm_rule.specs.declared.pool.Pool.{Pool}
-use Rattle.fm_rule.specs.Passes.{IsOf}
-use Rattle.fm_calls.specs.Kept.{Goes}
+use Rattle.fm_base.specs.Histories.{made_by}
+use Rattle.fm_pool_facts.specs.Loans.{lent}
+use Rattle.fm_pool_facts.specs.Parts.{mapping_of}
+use Rattle.fm_pool_facts.specs.Views.{View, In, IsSound, limit_of, unlent}
 use Rattle.fm_calls.proofs.Going.{goes_none}
-use Rattle.fm_pages.specs.Maps.{Way, NoneFree, PartMapped, LendsPart}
-use Rattle.fm_pages.specs.Covers.{Covering, Covered, Lacks, LendsIn, page_bytes}
+use Rattle.fm_pages.specs.Maps.{Way}
+use Rattle.fm_pages.specs.Provides.{Provided, LendsPart}
+use Rattle.fm_pages.specs.Covers.{Covering, Covered, LendsIn, page_bytes}
 use Rattle.fm_pages.proofs.Finding.{parts_cover}
-use Rattle.fm_pages.proofs.Parts.{way_then, of_way, pages_way}
+use Rattle.fm_pages.proofs.Parts.{way_then, clear_way}
 use Rattle.fm_pool_steps.proofs.Reading.{eqb_true, eqb_false}
 
 pub covering_begins : {v : View} (a : ArenaId) (from to : ℕ) → IsSound v → v.pages ≡ [] → Covering v v a from to (from / page_bytes v)
@@ -34,12 +34,12 @@ lends_in : (v : View) (a : ArenaId) (from to n : ℕ) (es : List Entry) → from
 lends_in v a from to n es low high l = ⊎_elim
     (λ (e : es ≡ []). subst (λ (xs : List Entry). All (LendsIn v a from to) xs) (sym e) (All-nil (LendsIn v a from to)))
     (λ (p : (page : ℕ) × (es ≡ entry_of v.caller (Lend page a n) Fine ∷ [])).
-      subst (λ (xs : List Entry). All (LendsIn v a from to) xs) (sym p.1)
-      (All-cons (LendsIn v a from to) _ [] (p.0, n, low, high, refl) (All-nil (LendsIn v a from to))))
+    subst (λ (xs : List Entry). All (LendsIn v a from to) xs) (sym p.1)
+    (All-cons (LendsIn v a from to) _ [] (p.0, n, low, high, refl) (All-nil (LendsIn v a from to))))
     l
 
 module _ {v m r : View} {a : ArenaId} {from to n : ℕ} (b : Bool) (c : Covering v m a from to n) (low : from / page_bytes v ≤ n) (high : n * page_bytes v < to)
-    (t : PartMapped m r a n b) where
+    (t : Provided m r a n b) where
   all_lends : All (LendsIn v a from to) (c.own ++ t.own)
   all_lends = All-append (LendsIn v a from to) c.own t.own c.lends
       (lends_in v a from to n t.own low high (subst (λ (k : Caller). LendsPart k a n t.own) c.way.goes.same_caller t.lends))
@@ -48,7 +48,7 @@ module _ {v m r : View} {a : ArenaId} {from to n : ℕ} (b : Bool) (c : Covering
   whole_way = way_then c.way t.way
 
 pub covering_more : {v m r : View} {a : ArenaId} {from to n : ℕ} → Covering v m a from to n → from / page_bytes v ≤ n → n * page_bytes v < to
-    → PartMapped m r a n true → Covering v r a from to (n + 1)
+    → Provided m r a n true → Covering v r a from to (n + 1)
 covering_more {v = v} {m = m} {r = r} {a = a} {from = from} {to = to} {n = n} c low high t = record {
   own = c.own ++ t.own;
   lends = all_lends true c low high t;
@@ -72,18 +72,20 @@ covering_all {v = v} {r = r} {a = a} {from = from} {to = to} {n = n} c sound all
       own = c.own;
       lends = c.lends;
       way = c.way;
-      outcome = parts_cover r from to (omega arith) (λ i low high. c.each i (subst (λ (s : ℕ). from / s ≤ i) size low) (below i (subst (λ (s : ℕ). i * s < to) size high)));
+      outcome = parts_cover r from to (omega arith)
+          (λ i low high. c.each i (subst (λ (s : ℕ). from / s ≤ i) size low) (below i (subst (λ (s : ℕ). i * s < to) size high)));
     }
   where
     below : (i : ℕ) → i * page_bytes v < to → i < n
     below i h = lt_of_not-le (λ (le : n ≤ i). let k : n * page_bytes v ≤ i * page_bytes v = mul-le-mul_right (page_bytes v) le in absurd (omega arith))
 
 pub covering_lacks : {v m r : View} {a : ArenaId} {from to n : ℕ} → Covering v m a from to n → from / page_bytes v ≤ n → n * page_bytes v < to
-    → PartMapped m r a n false → Covered v r a from to false
+    → Provided m r a n false → Covered v r a from to false
 covering_lacks {v = v} {m = m} {r = r} {a = a} {from = from} {to = to} {n = n} c low high t =
     let o = t.outcome in
-    let long : length m.seen ≡ length v.seen + length c.way.goes.more = ap (λ (es : List Entry). length es) c.way.goes.seen ∙ length-append v.seen c.way.goes.more in
-    let e1 = o.early in let e2 = o.since in
+    let long : length m.seen ≡ length v.seen + length c.way.goes.more =
+    ap (λ (es : List Entry). length es) c.way.goes.seen ∙ length-append v.seen c.way.goes.more in
+    let e1 = o.early in
     record {
       own = c.own ++ t.own;
       lends = all_lends false c low high t;
@@ -106,9 +108,19 @@ covering_lacks {v = v} {m = m} {r = r} {a = a} {from = from} {to = to} {n = n} c
           late = o.late;
           left = o.left;
           before = o.before;
-          begins = o.begins;
-          since = omega arith;
+          later = o.later;
+          since = (
+            c.way.goes.more ++ o.since.0,
+            o.since.1 ∙ (ap (λ (es : List Entry). es ++ o.since.0) c.way.goes.seen
+                ∙ append_assoc v.seen c.way.goes.more o.since.0),
+          );
+          seen = o.seen;
+          quiet = ap (λ (k : Caller). made_by k o.later) (sym c.way.goes.same_caller) ∙ o.quiet;
           lacked = o.lacked;
+          exact = λ h. let e = o.exact (clear_way c.way h) in record {
+            all_lent = subst (λ (z : Shape). unlent z.pages (lent r.seen) ≡ 0) c.way.goes.same_shape e.all_lent;
+            lacks = e.lacks;
+          };
         };
       };
     }

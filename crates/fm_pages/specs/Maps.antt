@@ -1,13 +1,12 @@
--- What a pass does that gives parts of its arena pages.
-use Rattle.std.specs.Prelude.{◌≡◌, ◌⊎◌, ◌≤◌, ℕ, Bool, true, false, List, [], ◌∷◌, length}
-use Rattle.fm_base.specs.declared.caller.Caller.{Caller}
+-- What a pass does that maps its page.
+use Rattle.std.specs.Prelude.{◌≡◌, ℕ, List, [], ◌∷◌, Contains, Option, Some, None}
 use Rattle.fm_base.specs.declared.arena_id.ArenaId.{ArenaId}
 use Rattle.fm_base.specs.Calls.{Entry, Lend, Fine, entry_of}
-use Rattle.fm_base.specs.Finds.{FoundNothing, is_page}
-use Rattle.fm_pool_facts.specs.Loans.{HasPart, lent}
+use Rattle.fm_pool_facts.specs.Loans.{lent, loan_of}
 use Rattle.fm_pool_facts.specs.Parts.{Mapping, mapping_of}
-use Rattle.fm_pool_facts.specs.Views.{View, In, Begins, FewLeft}
+use Rattle.fm_pool_facts.specs.Views.{View, In}
 use Rattle.fm_calls.specs.Kept.{Goes}
+use Rattle.fm_pages.specs.declared.page.Page.{Page}
 
 -- the pass went on by entries of its own, read map words, and has these pages in its hand
 pub record Way (old new : View) (own : List Entry) (pages : List ℕ) : Type 0 where
@@ -16,27 +15,19 @@ pub record Way (old new : View) (own : List Entry) (pages : List ℕ) : Type 0 w
   -- what it has read stands
   pub keeps : (m : Mapping) → In m old.reads → In m new.reads
 
--- none, or the entry that lends a page to the arena as this part
-abbrev pub LendsPart : Caller → ArenaId → ℕ → List Entry → Type 0
-LendsPart c a i es = (es ≡ []) ⊎ ((page : ℕ) × (es ≡ entry_of c (Lend page a i) Fine ∷ []))
+-- it lent the page to the arena as this part
+pub record PageMapped (old new : View) (a : ArenaId) (index page : ℕ) : Type 0 where
+  pub way : Way old new (entry_of old.caller (Lend page a index) Fine ∷ []) []
+  pub read : In (mapping_of index page) new.reads
 
--- no page was free at a step of the call, and the part had none at an earlier one
-pub record NoneFree (old new : View) (a : ArenaId) (i : ℕ) : Type 0 where
-  pub found : FoundNothing is_page old.finds new.finds
-  pub early : length old.seen ≤ found.find.seen
-  pub late : found.find.seen ≤ length new.seen
-  pub left : FewLeft new.shape new.seen found.find
-  pub before : List Entry
-  pub begins : Begins before new.seen
-  pub since : length old.seen ≤ length before
-  pub lacked : ¬ (HasPart (lent before) a i)
+-- another page is lent to the arena as this part, and this one is in the hand
+pub record PartTaken (old new : View) (a : ArenaId) (index page : ℕ) : Type 0 where
+  pub way : Way old new [] (page ∷ [])
+  pub other : ℕ
+  pub read : In (mapping_of index other) new.reads
+  pub lent_so : Contains (lent new.seen) (loan_of other a index)
 
-abbrev pub Outcome : Bool → View → View → ArenaId → ℕ → Type 0
-Outcome true old new a i = (page : ℕ) × In (mapping_of i page) new.reads
-Outcome false old new a i = NoneFree old new a i
-
-pub record PartMapped (old new : View) (a : ArenaId) (i : ℕ) (done : Bool) : Type 0 where
-  pub own : List Entry
-  pub lends : LendsPart old.caller a i own
-  pub way : Way old new own []
-  pub outcome : Outcome done old new a i
+-- of `map`
+abbrev pub MapOutcome : View → View → ArenaId → (index page : ℕ) → Option Page → Type 0
+MapOutcome old new a index page None = PageMapped old new a index page
+MapOutcome old new a index page (Some back) = (back.index ≡ page) × PartTaken old new a index page

@@ -1,8 +1,10 @@
-ghost use Rattle.std.specs.Prelude.{◌≡◌, ◌≢◌, ◌<◌, ◌≤◌, [], ◌∷◌, IfSome, ⊤};
+ghost use Rattle.std.specs.Prelude.{◌≡◌, ◌≢◌, ◌<◌, ◌≤◌, [], ◌∷◌};
 ghost use Rattle.std.specs.Int.{bit_at};
 ghost use Rattle.fm_rule.specs.Passes.{IsOf};
-ghost use Rattle.fm_pages.specs.Claims.{NoneClaimed, PageClaimed, Went, IfNone};
+ghost use Rattle.fm_pages.specs.Claims.{ClaimOutcome, Went};
 
+use crate::page::Page;
+use fm_base::Refusal;
 use fm_rule::{Pass, Pool, step_give_page, step_take_page};
 use fm_words::lowest_bit;
 use std::sync::Wait;
@@ -29,14 +31,13 @@ impl Bid {
     }
 }
 
-/// Takes a free page into the pass's hand; none only where none was free at a step of the call.
+/// Takes a free page into the pass's hand. `PoolFull` comes only where none was free at a step of the call.
 ///
-/// Tries until no other pass took or gave a page between its look and its exchange.
-pub fn claim<R: Wait>(rt: &R, pool: &Pool, pass: &mut Pass) -> Option<u32>
+/// It tries until no other pass took or gave a page between its look and its exchange.
+pub fn claim<R: Wait>(rt: &R, pool: &Pool, pass: &mut Pass) -> Result<Page, Refusal>
     requires of { IsOf pool.now pass.old }
     requires none { pass.old.pages ≡ [] }
-    ensures claimed { IfSome result (λ page. PageClaimed pass.old pass.new page) }
-    ensures none { IfNone result (NoneClaimed pass.old pass.new) }
+    ensures { ClaimOutcome pass.old pass.new result }
 {
     let pages = pool.shape().pages;
     let mut found = pool.guess_pages();
@@ -44,20 +45,21 @@ pub fn claim<R: Wait>(rt: &R, pool: &Pool, pass: &mut Pass) -> Option<u32>
         let bid = Bid::of(found, pages);
         found = step_take_page(pool, pass, bid.word, bid.bit);
         if found == 0 {
-            return None;
+            return Err(Refusal::PoolFull);
         }
         if found == bid.word {
-            return Some(bid.bit);
+            return Ok(Page { index: bid.bit });
         }
     }
     unreachable!()
 }
 
 /// Gives the page in the pass's hand back.
-pub fn free_page(pool: &Pool, pass: &mut Pass, page: u32)
+pub fn free_page(pool: &Pool, pass: &mut Pass, page: Page)
     requires of { IsOf pool.now pass.old }
-    requires page { pass.old.pages ≡ page ∷ [] }
+    requires page { pass.old.pages ≡ page.index ∷ [] }
     ensures { Went pass.old pass.new [] }
 {
-    step_give_page(pool, pass, page)
+    let Page { index } = page;
+    step_give_page(pool, pass, index)
 }

@@ -3,13 +3,13 @@ ghost use Rattle.fm_pool_facts.specs.Views.{limit_of};
 ghost use Rattle.fm_rule.specs.Passes.{IsOf};
 ghost use Rattle.fm_pages.specs.Covers.{Covered};
 
-use crate::mapping::map;
+use crate::providing::provide;
 use fm_base::ArenaId;
 use fm_rule::{Pass, Pool};
 use std::sync::Wait;
 
-/// Whether each part with a byte in this range has a page, of the arena that the pass is inside. Those without one get one
-/// while there are free ones.
+/// Whether each part with a byte in this range has a page, of the arena that the pass is inside. Those without one get
+/// one while there are free ones.
 pub fn cover<R: Wait>(rt: &R, pool: &Pool, pass: &mut Pass, a: ArenaId, from: u64, to: u64) -> bool
     requires of { IsOf pool.now pass.old }
     requires none { pass.old.pages ≡ [] }
@@ -27,7 +27,7 @@ pub fn cover<R: Wait>(rt: &R, pool: &Pool, pass: &mut Pass, a: ArenaId, from: u6
         if u64::from(part) * bytes >= to {
             return true;
         }
-        if !map(rt, pool, pass, a, part) {
+        if !provide(rt, pool, pass, a, part) {
             return false;
         }
     }

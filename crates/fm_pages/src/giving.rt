@@ -8,9 +8,17 @@ use fm_base::ArenaId;
 use fm_rule::{Pass, Pool, room, step_allocate};
 use std::sync::Wait;
 
-/// Tries to give bytes of the arena that the pass is inside, where it has given so many, and answers the count found. None
-/// where a part of the range had no page and none was free.
-pub fn try_at<R: Wait>(rt: &R, pool: &Pool, pass: &mut Pass, a: ArenaId, count: u64, size: u64, align: u64) -> Option<u64>
+/// Tries to give bytes of the arena that the pass is inside, where it has given so many, and answers the count found.
+/// None where a part of the range had no page and none was free.
+pub fn try_at<R: Wait>(
+    rt: &R,
+    pool: &Pool,
+    pass: &mut Pass,
+    a: ArenaId,
+    count: u64,
+    size: u64,
+    align: u64,
+) -> Option<u64>
     requires of { IsOf pool.now pass.old }
     requires none { pass.old.pages ≡ [] }
     requires inside { pass.old.inside ≡ Some a }

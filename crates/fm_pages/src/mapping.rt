@@ -1,32 +1,23 @@
-ghost use Rattle.std.specs.Prelude.{◌≡◌, ◌<◌, [], Some};
+ghost use Rattle.std.specs.Prelude.{◌≡◌, ◌<◌, [], ◌∷◌, Some};
 ghost use Rattle.fm_rule.specs.Passes.{IsOf};
-ghost use Rattle.fm_pages.specs.Maps.{PartMapped};
+ghost use Rattle.fm_pages.specs.Maps.{MapOutcome};
 
-use crate::claiming::{claim, free_page};
+use crate::page::Page;
 use fm_base::ArenaId;
-use fm_rule::{Pass, Pool, step_map, step_read_map};
-use std::sync::Wait;
+use fm_rule::{Pass, Pool, step_map};
 
-/// Whether this part of the arena that the pass is inside has a page, which it gets where it has none and one is free.
-pub fn map<R: Wait>(rt: &R, pool: &Pool, pass: &mut Pass, a: ArenaId, part: u32) -> bool
+/// Makes the page this part of the arena that the pass is inside. It comes back exactly where the part had another one.
+pub fn map(pool: &Pool, pass: &mut Pass, a: ArenaId, index: u32, page: Page) -> Option<Page>
     requires of { IsOf pool.now pass.old }
-    requires none { pass.old.pages ≡ [] }
     requires inside { pass.old.inside ≡ Some a }
-    requires low { part < pool.now.shape.reach }
-    ensures { PartMapped pass.old pass.new a part result }
+    requires low { index < pool.now.shape.reach }
+    requires page { pass.old.pages ≡ page.index ∷ [] }
+    ensures { MapOutcome pass.old pass.new a index page.index result }
 {
-    let word = step_read_map(pool, pass, a, part);
-    if word != 0 {
-        return true;
+    let other = step_map(pool, pass, a, index, page.index);
+    if other != 0 {
+        return Some(page);
     }
-    match claim(rt, pool, pass) {
-        None => false,
-        Some(page) => {
-            let other = step_map(pool, pass, a, part, page);
-            if other != 0 {
-                free_page(pool, pass, page);
-            }
-            true
-        }
-    }
+    let Page { index: _ } = page;
+    None
 }

@@ -92,7 +92,7 @@ loan_cases l x loans h = ⊎_elim
     (Contains-append_cases (l ∷ []) loans x h)
 
 -- what was lent of other blocks is lent still, when one is taken back
-loan_kept : (p : Loan → Bool) (loans : List Loan) (x : Loan) → Contains loans x → p x ≡ true → Contains (filter p loans) x
+pub loan_kept : (p : Loan → Bool) (loans : List Loan) (x : Loan) → Contains loans x → p x ≡ true → Contains (filter p loans) x
 loan_kept p [] x h e = absurd (let l = h.1 in omega arith)
 loan_kept p (y ∷ ys) x h e = go (p y) refl (loan_cases y x ys h) (λ i. loan_kept p ys x i e)
   where

@@ -17,6 +17,7 @@ pub mod Living
 pub mod Scarcity
 pub mod Unlending
 pub mod Ending
+pub mod Given
 pub mod Founds
 pub mod Drawers
 pub mod Gone

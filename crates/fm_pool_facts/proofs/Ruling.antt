@@ -1,5 +1,5 @@
 -- The rule after a step, and that a view that has seen all is sound.
-use Rattle.std.proofs.Common.{◌≡◌, ◌≢◌, ℕ, ◌*◌, ◌^◌, ◌<◌, ◌≤◌, Bool, true, false, List, [], ◌∷◌, ◌++◌, length, set, sym, refl, ap, ◌∙◌, subst, arith, inl, inr, ⊎_elim, mul-le-mul_right, Some, None}
+use Rattle.std.proofs.Common.{◌≡◌, ◌≢◌, ℕ, ◌*◌, ◌/◌, ◌^◌, ◌<◌, ◌≤◌, Bool, true, false, List, [], ◌∷◌, ◌++◌, length, set, sym, refl, ap, ◌∙◌, subst, arith, inl, inr, ⊎_elim, mul-le-mul_right, Some, None}
 use mathlib.Core.Option.{some, some-injective}
 use lib.ListN.{get_elem?}
 use Rattle.atomic_table.proofs.Lists.{at_set}
@@ -19,16 +19,17 @@ use Rattle.fm_depicts.proofs.Putting.{contains_first}
 use Rattle.fm_depicts.specs.Steps.{moved_by}
 use Rattle.fm_pool_facts.specs.Views.{FewLeft, all_gathered, brought, View, Fits, In, IsSound, IsKnown, limit_of, state_in, pass_of}
 use Rattle.fm_pool_facts.specs.Facts.{Memory, free, shut, IsStanding, Berth, loose, claimed, mapped, unmapped, IsAt, Pages, IsSweeping, IsWiped, HasSwept, HasPage, Owners, Owns, Shows, World, HasNumber, HasDraw, HasClose, HasSweep, KeepsSlot, Somewhere, Knows, Rule, IsOnce}
-use Rattle.fm_pool_facts.specs.Moves.{Moved, Same, Part, KeepsCloses, KeepsSweeps, KeepsSlots, KeepsPages, KeepsHolds, told, Gives}
+use Rattle.fm_pool_facts.specs.Moves.{Moved, Same, Part, KeepsCloses, KeepsSweeps, KeepsSlots, KeepsPages, KeepsHolds, told, Gives, MayLend}
 use Rattle.std.specs.Int.{bit_at}
 use Rattle.std.specs.Prelude.{Contains}
 use Rattle.fm_pool_facts.proofs.Handing.{slot_below}
 use Rattle.fm_pool_facts.specs.Holds.{grips, holds_of}
-use Rattle.fm_pool_facts.specs.Loans.{Loan, lent, loans_after, IsRightlyLent}
+use Rattle.fm_pool_facts.specs.Loans.{Loan, lent, loans_after, IsRightlyLent, loan_of, HasPart}
 use Rattle.fm_pool_facts.specs.Moves.{MayLend}
 use Rattle.fm_pool_facts.proofs.Lending.{over_now, loans_after-append, lent-append, lent_on}
 use Rattle.fm_pool_facts.specs.Gone.{FoundBy, IsFounded}
 use Rattle.fm_pool_facts.proofs.Alone.{none_now}
+use Rattle.fm_pool_facts.proofs.Given.{given_lent, mapped_part}
 use Rattle.fm_pool_facts.proofs.Gone.{none_founded, found_on, founded_on, founded_told}
 use Rattle.fm_pool_facts.proofs.Callers.{all_now, few_gathered, whole_has, knows_callers}
 use Rattle.fm_pool_facts.proofs.Frame.{legal_on}
@@ -178,6 +179,12 @@ sound_of z ws vs r me v at l lone q =
       loans = λ x i. let y = loan_fits z ws vs r x (subst (λ (es : List Entry). Contains (lent es) x) q i) in
           subst (λ (s : Shape). (x.block < s.pages) × (x.part < s.reach)) (sym e) y;
       unlent = λ c i x h. loan_left z ws vs r me v at l c i x (subst (λ (es : List Entry). Contains (lent es) x) q h);
+      covered = λ a w n g.
+          let y = given_lent z ws vs r a w (λ o. n (ap (λ (x : State). (arena_of x a).life) st ∙ o))
+          (subst (λ (x : State). 8 * w < (arena_of x a).given) st g) in
+          subst (λ (x : Shape × List Entry). HasPart (lent x.1) a (w / x.0.page_words)) (λ i. (sym e i, sym q i)) y;
+      reads = λ a m i j. subst (λ (es : List Entry). Contains (lent es) (loan_of m.page a m.part)) (sym q)
+          (mapped_part z ws vs r v.caller a m.part m.page (u.inside ∙ i) (u.pages.read a i m j));
       own_pages = λ p i. subst (λ (s : Shape). p < s.pages) (sym e) (r.pages.claimed_is p me (u.pages.claims p i)).0;
       swept_page = λ a i p w h. subst (λ (s : Shape). p < s.pages) (sym e)
           (let y : IsWiped z r.memory.maps r.memory.cells r.owners.berth me v.sweeps a i p w =

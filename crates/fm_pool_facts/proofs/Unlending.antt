@@ -43,7 +43,13 @@ none_lent_on size limit s loans (e ∷ es) a l h o r n =
 
 -- ---- histories
 
-lent-split : (size limit : ℕ) (s : State) (loans : List Loan) (es fs : List Entry) → IsRightlyLentFrom size limit s loans (es ++ fs)
+-- both parts of a history that is rightly lent are so
+pub lent-first : (size limit : ℕ) (s : State) (loans : List Loan) (es fs : List Entry) → IsRightlyLentFrom size limit s loans (es ++ fs)
+    → IsRightlyLentFrom size limit s loans es
+lent-first size limit s loans [] fs r = tt
+lent-first size limit s loans (e ∷ es) fs r = (r.0, lent-first size limit (after limit s e) (loans_by loans e.call) es fs r.1)
+
+pub lent-split : (size limit : ℕ) (s : State) (loans : List Loan) (es fs : List Entry) → IsRightlyLentFrom size limit s loans (es ++ fs)
     → IsRightlyLentFrom size limit (state_after limit s es) (loans_after loans es) fs
 lent-split size limit s loans [] fs r = r
 lent-split size limit s loans (e ∷ es) fs r = lent-split size limit (after limit s e) (loans_by loans e.call) es fs r.1

@@ -1,5 +1,5 @@
 -- What contracts see of a pass.
-use Rattle.std.specs.Prelude.{◌≡◌, ◌≢◌, ◌⊎◌, ℕ, ◌+◌, ◌*◌, ◌<◌, ◌≤◌, ◌^◌, ◌==◌, Bool, true, false, if◌then◌else◌, List, [], ◌∷◌, ◌++◌, length, Contains, Option, Some}
+use Rattle.std.specs.Prelude.{◌≡◌, ◌≢◌, ◌⊎◌, ℕ, ◌+◌, ◌*◌, ◌/◌, ◌<◌, ◌≤◌, ◌^◌, ◌==◌, Bool, true, false, if◌then◌else◌, List, [], ◌∷◌, ◌++◌, length, Contains, Option, Some}
 use Rattle.std.proofs.Common.{zero, suc}
 use Rattle.fm_words.specs.declared.shape.Shape.{Shape}
 use Rattle.fm_words.specs.Shapes.{IsValid}
@@ -11,7 +11,7 @@ use Rattle.fm_base.specs.Arenas.{State, Alive, Ended, IsUnderWay, has_arena, are
 use Rattle.fm_base.specs.Calls.{Entry}
 use Rattle.fm_base.specs.Histories.{IsLegal, state_after, made_by}
 use Rattle.fm_depicts.specs.Handles.{AreLeft, one_if}
-use Rattle.fm_pool_facts.specs.Loans.{Loan, lent as lent_by, IsRightlyLent}
+use Rattle.fm_pool_facts.specs.Loans.{Loan, loan_of, lent as lent_by, HasPart, IsRightlyLent}
 use Rattle.fm_base.specs.Finds.{Find, Gathered, Close, is_draw, is_slot, is_page}
 use Rattle.fm_pool_facts.specs.Hands.{Hand, nothing, HasSlot}
 use Rattle.fm_pool_facts.specs.Parts.{Mapping, Swept, wiping}
@@ -233,6 +233,11 @@ pub record IsSound (v : View) : Type 0 where
   pub loans : (l : Loan) → Contains (lent_by v.seen) l → (l.block < v.shape.pages) × (l.part < v.shape.reach)
   -- of an arena that is swept, parts that have no page any more aren't lent
   pub unlent : (c : Close) → In c v.sweeps → (l : Loan) → Contains (lent_by v.seen) l → l.id ≡ c.arena → c.visited ≤ l.part
+  -- of an arena that hasn't ended, each part with a given byte is lent
+  pub covered : (a : ArenaId) (word : ℕ) → (arena_of (state_in v) a).life ≢ Ended → 8 * word < given_of v a
+      → HasPart (lent_by v.seen) a (word / v.shape.page_words)
+  -- a page that it has read in a map word of the arena that it is inside is lent so
+  pub reads : (a : ArenaId) (m : Mapping) → v.inside ≡ Some a → In m v.reads → Contains (lent_by v.seen) (loan_of m.page a m.part)
   -- an arena of which it has a hold or a handle
   pub held : (a : ArenaId) → In a (grips a v) → IsAlive v a
   pub own_handles : HasOwnHandles v

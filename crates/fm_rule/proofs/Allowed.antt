@@ -140,6 +140,8 @@ sound_homed home v s = record {
   swept = λ c i. let o = s.swept c i in record { known = o.known; life = o.life; empty = o.empty };
   loans = s.loans;
   unlent = s.unlent;
+  covered = s.covered;
+  reads = s.reads;
   own_pages = s.own_pages;
   swept_page = s.swept_page;
   few_left = s.few_left;

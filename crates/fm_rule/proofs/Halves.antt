@@ -40,6 +40,8 @@ left_sound v s = record {
   swept = λ c i. let o = s.swept c i in record { known = o.known; life = o.life; empty = o.empty };
   loans = s.loans;
   unlent = s.unlent;
+  covered = s.covered;
+  reads = s.reads;
   own_pages = s.own_pages;
   swept_page = s.swept_page;
   few_left = s.few_left;
@@ -81,6 +83,8 @@ right_sound v n e s =
       swept = λ c i. absurd i;
       loans = s.loans;
       unlent = λ c i. absurd i;
+      covered = s.covered;
+      reads = λ a m q. absurd (cc);
       own_pages = λ p i. absurd i;
       swept_page = λ a i p w q. absurd (cc);
       few_left = λ f. ⊎_elim (λ i. absurd i) (λ (g : (g : Gathered) × In g [] × In f g.finds). absurd g.1);

@@ -1,9 +1,8 @@
-use Rattle.std.proofs.Common.{◌≡◌, ◌+◌, ◌≤◌, ℕ, Bool, true, false, ap, sym, ◌∙◌, subst, arith}
-use Rattle.fm_words.specs.declared.shape.Shape.{Shape}
+use Rattle.std.proofs.Common.{◌+◌, ◌≤◌, ℕ, true, false, ap, sym, ◌∙◌, subst}
 use Rattle.fm_base.specs.Machine.{rounded_up}
 use Rattle.fm_pool_facts.specs.Views.{limit_of}
 use Rattle.fm_pages.specs.Covers.{Covered}
-use Rattle.fm_pages.proofs.Gives.{room_some, room_none, tried_past, tried_covered, tried_unpaged}
+use Rattle.fm_pages.proofs.Gives.{room_some, tried_past, tried_covered, tried_unpaged}
 use Rattle.fm_pages.proofs.giving.try_at.Goals as goal
 
 pub returns-in-None : goal.returns-in-None
