@@ -15,10 +15,9 @@ use Rattle.fm_depicts.specs.Functions.{put}
 use Rattle.fm_depicts.proofs.Putting.{put_here, put_else}
 use Rattle.fm_pool_facts.specs.Views.{View, In, all_gathered}
 use Rattle.fm_pool_facts.specs.Holds.{holds_of}
-use Rattle.fm_pool_facts.specs.Facts.{Memory, Owners, HasNumber, HasGathered, HasDraw, HasClose, HasSweep, KeepsSlot, DrewIn, IsGathered, IsDrawn, IsOnce, Somewhere, Owns, Knows, Rule}
+use Rattle.fm_pool_facts.specs.Facts.{Memory, Owners, HasNumber, HasGathered, HasDraw, HasClose, HasSweep, KeepsSlot, DrewIn, IsGathered, IsDrawn, IsOnce, Somewhere, Owns, Knows, Rule, HasPage}
 use Rattle.fm_pool_facts.specs.Moves.{told}
 use Rattle.fm_pool_facts.specs.Gone.{IsFounded}
-use Rattle.fm_pool_facts.specs.Facts.{HasPage}
 use Rattle.fm_pool_facts.proofs.Ruling.{page_like}
 use Rattle.fm_pool_facts.proofs.Gone.{NoSlots, none_founded, founded_same, founded_told}
 use Rattle.fm_pool_facts.proofs.Founds.{AreWithin, counted_later, counted_told, counted_set}
@@ -91,7 +90,8 @@ module _ (z : Shape) (me : ℕ) (v : View) (l : v.live ≡ true) (lone : v.met �
             mark = u.mark;
             closes = λ c j. let y = u.closes c j in record { owner = y.owner; life = y.life; visited = y.visited };
             once = u.once;
-            sweeps = λ c j. let y = u.sweeps c j in record { owner = y.owner; life = y.life; session = y.session; parts = y.parts; count = y.count; reset = y.reset };
+            sweeps = λ c j. let y =
+                u.sweeps c j in record { owner = y.owner; life = y.life; session = y.session; parts = y.parts; count = y.count; reset = y.reset };
             swept_once = u.swept_once;
             hand = u.hand;
             took = u.took;
@@ -147,7 +147,8 @@ module _ (z : Shape) (me : ℕ) (v : View) (l : v.live ≡ true) (lone : v.met �
           mark = x.mark;
           closes = λ c i. let y = x.closes c i in record { owner = y.owner; life = y.life; visited = y.visited };
           once = x.once;
-          sweeps = λ c i. let y = x.sweeps c i in record { owner = y.owner; life = y.life; session = y.session; parts = y.parts; count = y.count; reset = y.reset };
+          sweeps = λ c i. let y =
+              x.sweeps c i in record { owner = y.owner; life = y.life; session = y.session; parts = y.parts; count = y.count; reset = y.reset };
           swept_once = x.swept_once;
           hand = x.hand;
           took = x.took;
@@ -272,7 +273,8 @@ module _ (z : Shape) (me : ℕ) (v : View) (l : v.live ≡ true) (lone : v.met �
       closed = λ a h. stays_somewhere vs me v drawer (r.owners.closer a) (HasClose a) at (λ q. q) (r.closed a h);
       swept = λ a q o. stays_somewhere vs me v drawer (r.owners.closer a) (HasSweep a) at (λ p. p) (r.swept a q o);
       slots = λ s g h q left b. stays_somewhere vs me v drawer (r.owners.holder s) (KeepsSlot s) at (λ p. p) (r.slots s g h q left b);
-      berths = λ q j b. stays_somewhere vs me v drawer j (HasPage q (r.owners.berth q)) at (page_like q (r.owners.berth q) v drawer refl refl refl) (r.berths q j b);
+      berths = λ q j b. stays_somewhere vs me v drawer j (HasPage q (r.owners.berth q)) at (page_like q (r.owners.berth q) v drawer refl refl refl)
+          (r.berths q j b);
       held = λ a.
           let x = total-set (holds_of a) vs me v drawer at in
           let y = r.held a in

@@ -13,9 +13,8 @@ use Rattle.fm_pool_facts.specs.Views.{Met, View, In, all_gathered, brought}
 use Rattle.fm_pool_facts.specs.Hands.{HasSlot}
 use Rattle.fm_pool_facts.specs.Holds.{holds_of}
 use Rattle.fm_pool_facts.specs.Splits.{gather, as_gathered, nothing_seen, IsAtRest}
-use Rattle.fm_pool_facts.specs.Facts.{Owners, HasNumber, HasDraw, HasClose, HasSweep, KeepsSlot, IsGathered, IsOnce, Begins, Somewhere, Owns, Knows, Rule, IsCounted}
+use Rattle.fm_pool_facts.specs.Facts.{Owners, HasNumber, HasDraw, HasClose, HasSweep, KeepsSlot, IsGathered, IsOnce, Begins, Somewhere, Owns, Knows, Rule, IsCounted, Berth, loose, claimed, mapped, unmapped, IsWiped, HasSwept, HasPage}
 use Rattle.fm_pool_facts.specs.Gone.{IsFounded}
-use Rattle.fm_pool_facts.specs.Facts.{Berth, loose, claimed, mapped, unmapped, IsWiped, HasSwept, HasPage}
 use Rattle.fm_pool_facts.proofs.Ruling.{page_like}
 use Rattle.fm_pool_facts.proofs.Gone.{founded_bare, founded_gather}
 use Rattle.fm_pool_facts.proofs.Founds.{counted_bare, counted_gather}
@@ -183,7 +182,8 @@ module _ (z : Shape) (ws : List ℕ) (vs : List View) (r : Rule z ws vs) (id : �
           mark = kv.mark;
           closes = λ c i. let y = kv.closes c i in record { owner = y.owner; life = y.life; visited = y.visited };
           once = kv.once;
-          sweeps = λ c i. let y = kv.sweeps c i in record { owner = y.owner; life = y.life; session = y.session; parts = y.parts; count = y.count; reset = y.reset };
+          sweeps = λ c i. let y =
+              kv.sweeps c i in record { owner = y.owner; life = y.life; session = y.session; parts = y.parts; count = y.count; reset = y.reset };
           swept_once = kv.swept_once;
           hand = kv.hand;
           took = kv.took;
@@ -243,7 +243,8 @@ module _ (z : Shape) (ws : List ℕ) (vs : List View) (r : Rule z ws vs) (id : �
           mark = x.mark;
           closes = λ c i. let y = x.closes c i in record { owner = y.owner; life = y.life; visited = y.visited };
           once = x.once;
-          sweeps = λ c i. let y = x.sweeps c i in record { owner = y.owner; life = y.life; session = y.session; parts = y.parts; count = y.count; reset = y.reset };
+          sweeps = λ c i. let y =
+              x.sweeps c i in record { owner = y.owner; life = y.life; session = y.session; parts = y.parts; count = y.count; reset = y.reset };
           swept_once = x.swept_once;
           hand = x.hand;
           took = x.took;

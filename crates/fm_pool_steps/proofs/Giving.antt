@@ -18,8 +18,7 @@ use Rattle.fm_pool_facts.proofs.Founds.{no_draw}
 use Rattle.fm_pool_facts.proofs.Retiring.{world_give}
 use Rattle.fm_pool_facts.proofs.Shown.{shows_bits}
 use Rattle.fm_pool_facts.proofs.Ruling.{page_like, keeps}
-use Rattle.fm_pool_steps.proofs.Plain.{own, Made, sweeps_still}
-use Rattle.fm_pool_steps.proofs.Taking.{same_hand}
+use Rattle.fm_pool_steps.proofs.Plain.{same_but, own, Made, sweeps_still}
 
 module _ (z : Shape) (me : ℕ) (v : View) (l : v.live ≡ true) (s : ℕ) (hand : v.hand ≡ retired s) (ws : List ℕ) (vs : List View) (r : Rule z ws vs)
     (at : get_elem? vs me ≡ some v) where
@@ -73,7 +72,7 @@ module _ (z : Shape) (me : ℕ) (v : View) (l : v.live ≡ true) (s : ℕ) (hand
             (λ n. inl (record { taker = x.taker; generation = x.generation; session = x.session; left = x.left; bit = others k n ∙ x.bit }));
         pages = record { others = λ q j b h. (refl, λ w. refl); stay = λ b i q st e. e };
       } in
-      let same : Same v given_part = same_hand v given_part refl in
+      let same : Same v given_part = same_but in
       keeps z ws (set ws i word) vs r me v given_part [] none_noted bits_now r.owners at l d same no_draw tt r.pages
       (λ b h. inr (h, refl, (λ y. y)))
       (sweeps_still me v given_part r.memory r.machine r.owners bits_now r.machine r.owners same refl (λ b q. refl) (λ b q h. (q, h)))

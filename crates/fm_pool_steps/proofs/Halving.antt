@@ -16,9 +16,8 @@ use Rattle.fm_depicts.proofs.Putting.{put_here, put_else}
 use Rattle.fm_pool_facts.specs.Views.{Met, View, In, all_gathered, brought}
 use Rattle.fm_pool_facts.specs.Holds.{holds_of}
 use Rattle.fm_pool_facts.specs.Splits.{number_or, drawn_left, drawn_right}
-use Rattle.fm_pool_facts.specs.Facts.{Owners, HasNumber, HasDraw, HasClose, HasSweep, KeepsSlot, IsGathered, IsDrawn, Somewhere, Owns, Knows, Rule, IsCounted}
+use Rattle.fm_pool_facts.specs.Facts.{Owners, HasNumber, HasDraw, HasClose, HasSweep, KeepsSlot, IsGathered, IsDrawn, Somewhere, Owns, Knows, Rule, IsCounted, HasPage}
 use Rattle.fm_pool_facts.specs.Gone.{IsFounded}
-use Rattle.fm_pool_facts.specs.Facts.{HasPage}
 use Rattle.fm_pool_facts.proofs.Ruling.{page_like}
 use Rattle.fm_pool_facts.proofs.Gone.{founded_bare}
 use Rattle.fm_pool_facts.proofs.Founds.{counted_bare}
@@ -124,7 +123,8 @@ module _ (z : Shape) (ws : List ℕ) (vs : List View) (r : Rule z ws vs) (id : �
           mark = u.mark;
           closes = λ c i. let y = u.closes c i in record { owner = y.owner; life = y.life; visited = y.visited };
           once = u.once;
-          sweeps = λ c i. let y = u.sweeps c i in record { owner = y.owner; life = y.life; session = y.session; parts = y.parts; count = y.count; reset = y.reset };
+          sweeps = λ c i. let y =
+              u.sweeps c i in record { owner = y.owner; life = y.life; session = y.session; parts = y.parts; count = y.count; reset = y.reset };
           swept_once = u.swept_once;
           hand = u.hand;
           took = u.took;
@@ -194,7 +194,8 @@ module _ (z : Shape) (ws : List ℕ) (vs : List View) (r : Rule z ws vs) (id : �
           mark = x.mark;
           closes = λ c i. let y = x.closes c i in record { owner = y.owner; life = y.life; visited = y.visited };
           once = x.once;
-          sweeps = λ c i. let y = x.sweeps c i in record { owner = y.owner; life = y.life; session = y.session; parts = y.parts; count = y.count; reset = y.reset };
+          sweeps = λ c i. let y =
+              x.sweeps c i in record { owner = y.owner; life = y.life; session = y.session; parts = y.parts; count = y.count; reset = y.reset };
           swept_once = x.swept_once;
           hand = x.hand;
           took = x.took;

@@ -1,8 +1,10 @@
 pub mod Reading
 pub mod Decoding
 pub mod Plain
+pub mod Quiet
 pub mod Acting
 pub mod Reaching
+pub mod Allocating
 pub mod Holding
 pub mod Counting
 pub mod Drawing
@@ -15,8 +17,12 @@ pub mod Resting
 pub mod Bearing
 pub mod Taking
 pub mod Scarce
+pub mod Paging
 pub mod Claiming
+pub mod Mapping
 pub mod Sweeping
+pub mod Wiping
+pub mod Resetting
 pub mod Retiring
 pub mod Giving
 pub mod Opening

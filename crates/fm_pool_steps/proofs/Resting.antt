@@ -1,5 +1,5 @@
 -- The words of a pool whose only pass has no slot in its hand show the history.
-use Rattle.std.proofs.Common.{◌≡◌, ◌≢◌, ◌⊎◌, ℕ, zero, suc, ◌+◌, ◌*◌, ◌/◌, ◌%◌, Option, Some, None, ◌<◌, ◌≤◌, Bool, true, false, List, [], get_or, sym, refl, ap, ◌∙◌, subst, arith, inl, inr, ⊎_elim}
+use Rattle.std.proofs.Common.{◌≡◌, ◌≢◌, ◌⊎◌, ℕ, zero, suc, ◌+◌, ◌/◌, ◌%◌, Option, Some, None, ◌<◌, ◌≤◌, Bool, true, false, List, [], get_or, sym, refl, ap, ◌∙◌, subst, arith, inl, inr, ⊎_elim}
 use Rattle.std.proofs.Math.Nat.{mod-lt}
 use Rattle.std.proofs.lemmas.Bool.{cases_lt}
 use Rattle.std.proofs.lemmas.List.Elements.{All-contains}
@@ -21,14 +21,14 @@ use Rattle.fm_base.proofs.Lookup.{arena_of-none}
 use Rattle.fm_depicts.proofs.Putting.{one_arena}
 use Rattle.fm_depicts.specs.Functions.{Stage, Fresh, Lives, Closes, Over, stage_of}
 use Rattle.fm_pool_facts.specs.Hands.{nothing, HasSlot}
-use Rattle.fm_pool_facts.specs.Views.{View, Fits, span, limit_of}
+use Rattle.fm_pool_facts.specs.Views.{View, Fits, limit_of}
 use Rattle.fm_pool_facts.specs.Words.{kept}
 use Rattle.fm_pool_facts.specs.Loans.{Loan, loan_of, lent, IsFree, HasPart}
 use Rattle.fm_pool_facts.specs.Facts.{Session, free, live, shut, session_code, own_map, IsStanding, Berth, loose, claimed, mapped, unmapped, Rule}
 use Rattle.fm_pool_facts.proofs.Moving.{lent_mapped, mapped_lent}
 use Rattle.fm_pool_facts.specs.Rest.{IsNamed, IsUsed, ShowsSlot, ShowsWord, ShowsHistory}
 use Rattle.fm_pool_facts.proofs.Standing.{standing_known, standing_shown, free_apart}
-use Rattle.fm_pool_facts.proofs.Ruling.{opened_life, life_opened}
+use Rattle.fm_pool_facts.proofs.Sounding.{opened_life, life_opened}
 use Rattle.fm_pool_steps.proofs.Decoding.{kept_else, kept_last, kept_least, alive_session, shut_session, free_read, live_read, shut_read, stands_not}
 use Rattle.fm_pool_facts.proofs.Alone.{lonely}
 
@@ -301,9 +301,12 @@ module _ (z : Shape) (me : ℕ) (v : View) (l : v.live ≡ true) (ws : List ℕ)
       none_there : (a : ArenaId) (w : ℕ) → IsStanding (r.machine.life a) → ¬ (HasPart (lent r.history) a (w / z.page_words)) → (o : Option ℕ)
           → r.memory.maps a.slot (w / z.page_words) ≡ o → r.machine.word a w ≡ 0
       none_there a w st u None e = r.pages.bare a w st e
-      none_there a w st u (Some p) e = absurd (u (p, mapped_lent z (lent r.history) r.memory.page_bits r.memory.maps r.memory.cells r.owners.berth
-          r.memory.sessions r.machine.life r.machine.word r.machine.given some_words r.world.sessions r.pages a (w / z.page_words) p
-          (standing_shown z r.memory.sessions r.machine.life r.world.sessions a st) e))
+      none_there a w st u (Some p) e = absurd (u (
+        p,
+        mapped_lent z (lent r.history) r.memory.page_bits r.memory.maps r.memory.cells r.owners.berth
+            r.memory.sessions r.machine.life r.machine.word r.machine.given some_words r.world.sessions r.pages a (w / z.page_words) p
+            (standing_shown z r.memory.sessions r.machine.life r.world.sessions a st) e,
+      ))
 
       has_page : (a : ArenaId) (w : ℕ) → IsStanding (r.machine.life a) → r.memory.maps a.slot (w / z.page_words) ≢ None → (o : Option ℕ)
           → r.memory.maps a.slot (w / z.page_words) ≡ o → ShowsWord z ws s a w
