@@ -1,5 +1,5 @@
 -- A step keeps the rule, and tells its caller what others did.
-use Rattle.std.proofs.Common.{◌≡◌, ◌≢◌, ◌⊎◌, ℕ, zero, suc, ◌<◌, true, List, [], ◌∷◌, ◌++◌, set, sym, refl, ap, ◌∙◌, subst, arith, inl, inr, ⊎_elim, append_assoc, Some}
+use Rattle.std.proofs.Common.{Option, ◌≡◌, ◌≢◌, ◌⊎◌, ℕ, zero, suc, ◌<◌, true, List, [], ◌∷◌, ◌++◌, set, sym, refl, ap, ◌∙◌, subst, arith, inl, inr, ⊎_elim, append_assoc, Some}
 use Rattle.std.proofs.lemmas.List.{append-nil}
 use Rattle.std.proofs.lemmas.List.Elements.{filter-append}
 use mathlib.Core.Logic.{dite}
@@ -118,6 +118,16 @@ sweeping_on limit c m t es m' ok stands z j o o' x k e s = record {
       ∙ sym (still_given limit c x.arena es t ok k.life (λ i. unstanding (t.life x.arena) k.life (stands c x.arena i))));
   reset = λ l. s.given ∙ k.reset l;
 }
+
+-- where these are as they were, a close and a sweep are a seat's still
+pub closing_as : {t : Machine} {o : Owners} {j : ℕ} {c : Close} {number holder : ℕ → ℕ} {taker : ℕ → Option Caller} → IsClosing t o j c
+    → IsClosing t (record o { number = number; holder = holder; taker = taker }) j c
+closing_as y = record { owner = y.owner; life = y.life; visited = y.visited }
+
+pub sweeping_as : {z : Shape} {m : Memory} {t : Machine} {o : Owners} {j : ℕ} {c : Close} {draw bits : ℕ} {number holder : ℕ → ℕ}
+    {taker : ℕ → Option Caller}
+    → IsSweeping z m t o j c → IsSweeping z (record m { draw = draw; bits = bits }) t (record o { number = number; holder = holder; taker = taker }) j c
+sweeping_as y = record { owner = y.owner; life = y.life; session = y.session; parts = y.parts; count = y.count; reset = y.reset }
 
 module _ (z : Shape) (h : List Entry) (me : ℕ) (c : Caller) (m : Memory) (t : Machine) (o : Owners) (es : List Entry) (m' : Memory) (o' : Owners)
     (d : Moved me z c m t o es m' o') (own : o.number c.number ≡ me) (low : c.number < m.draw)

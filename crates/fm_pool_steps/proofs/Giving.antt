@@ -8,6 +8,7 @@ use Rattle.std.specs.Int.{bit_at}
 use Rattle.std.proofs.lemmas.Nat.Bits.{bit_at-lt, bit_at_or, bit_at-pow_same, bit_at-pow_other}
 use Rattle.fm_words.specs.declared.shape.Shape.{Shape}
 use Rattle.fm_words.specs.Places.{at as place_at, slot_bits as bits_place}
+use Rattle.fm_pool_facts.proofs.Keeping.{sweeping_as}
 use Rattle.fm_pool_facts.specs.declared.step.Step.TheVariants.{GivesSlot}
 use Rattle.fm_pool_facts.specs.Hands.{nothing, retired, HasSlot, IsTaker}
 use Rattle.fm_pool_facts.specs.Views.{View}
@@ -88,8 +89,7 @@ module _ (z : Shape) (me : ℕ) (v : View) (l : v.live ≡ true) (s : ℕ) (hand
         mark = owned.mark;
         closes = owned.closes;
         once = owned.once;
-        sweeps = λ c j.
-            let y = owned.sweeps c j in record { owner = y.owner; life = y.life; session = y.session; parts = y.parts; count = y.count; reset = y.reset };
+        sweeps = λ c j. sweeping_as (owned.sweeps c j);
         swept_once = owned.swept_once;
         hand = tt;
         took = tt;

@@ -28,5 +28,6 @@ pub mod Giving
 pub mod Opening
 pub mod Splitting
 pub mod Halving
+pub mod Joining
 pub mod Gathering
 pub mod First

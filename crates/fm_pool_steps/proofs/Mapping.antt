@@ -94,7 +94,11 @@ module _ (z : Shape) (me : ℕ) (v : View) (l : v.live ≡ true) (ws : List ℕ)
             ended = λ b o f k. refl;
             lends = tt;
             pages = r.pages;
-            keep = λ q j b. inr (refl, page_like q (r.owners.berth q) v (record v { pages = v.pages; reads = mapping_of i (seen - 1) ∷ v.reads }) refl refl refl);
+            keep = λ q j b. inr (
+              refl,
+              page_like q (r.owners.berth q) v
+                  (record v { pages = v.pages; reads = mapping_of i (seen - 1) ∷ v.reads }) refl refl refl,
+            );
             shows = shows_same z r.valid ws r.memory r.shows map_at;
             has = record {
               read = knows v.pages r.memory.maps r.owners.berth (seen - 1) (says_some n) (λ b k q st f. f);

@@ -14,6 +14,7 @@ use Rattle.fm_words.specs.Sessions.{session_word}
 use Rattle.fm_base.specs.Finds.{is_page, Find, TakesSlot as Taking}
 use Rattle.fm_depicts.specs.Functions.{put}
 use Rattle.fm_depicts.proofs.Putting.{put_here, put_else}
+use Rattle.fm_pool_facts.proofs.Keeping.{closing_as, sweeping_as}
 use Rattle.fm_pool_facts.specs.declared.step.Step.TheVariants.{TakesSlot, LearnsGeneration}
 use Rattle.fm_pool_facts.specs.Hands.{nothing, taken, learnt, HasSlot, IsTaker, hand_taken}
 use Rattle.fm_pool_facts.specs.Gone.{FoundBy}
@@ -118,10 +119,9 @@ module _ (z : Shape) (me : ℕ) (v : View) (l : v.live ≡ true) (ws : List ℕ)
         (record {
           inside = mine.inside;
           mark = mine.mark;
-          closes = λ c j. let y = mine.closes c j in record { owner = y.owner; life = y.life; visited = y.visited };
+          closes = λ c j. closing_as (mine.closes c j);
           once = mine.once;
-          sweeps = λ c j.
-              let y = mine.sweeps c j in record { owner = y.owner; life = y.life; session = y.session; parts = y.parts; count = y.count; reset = y.reset };
+          sweeps = λ c j. sweeping_as (mine.sweeps c j);
           swept_once = mine.swept_once;
           hand = (f.0, record { owner = put_here r.owners.holder bit me; slot = low; bit = without.zero; session = f.1; left = f.2 });
           took = put_here r.owners.taker bit (Some v.caller);

@@ -60,12 +60,6 @@ module _ (z : Shape) (me : ℕ) (v : View) (l : v.live ≡ true) (a : ArenaId) (
     is_map : seen ≡ own_map (r.memory.maps a.slot k)
     is_map = r.shows.maps a.slot k slot_low low
 
-    says_none : seen ≡ 0 → r.memory.maps a.slot k ≡ None
-    says_none e = none_read (r.memory.maps a.slot k) (sym is_map ∙ e)
-
-    says_some : seen ≢ 0 → r.memory.maps a.slot k ≡ Some (seen - 1)
-    says_some n = page_read (r.memory.maps a.slot k) seen is_map n
-
     -- ---- a map word is read
 
     module _ (idle : v.swept ≡ unread) where
@@ -91,7 +85,7 @@ module _ (z : Shape) (me : ℕ) (v : View) (l : v.live ≡ true) (a : ArenaId) (
             shows = shows_same z r.valid ws r.memory r.shows map_at;
             world = r.world;
             sweeps = sweeps_more z me v l a k has ws vs r at r.memory.page_bits r.memory.maps r.memory.cells r.owners.berth (λ b n h. h)
-                (says_none (eqb_true seen 0 e)) low;
+                (none_read (r.memory.maps a.slot k) (sym is_map ∙ eqb_true seen 0 e)) low;
             once = once_visited a v.sweeps mine.swept_once;
             of_page = tt;
           })
@@ -112,7 +106,7 @@ module _ (z : Shape) (me : ℕ) (v : View) (l : v.live ≡ true) (a : ArenaId) (
             world = r.world;
             sweeps = mine.sweeps;
             once = mine.swept_once;
-            of_page = (next_here z me v l a k has ws vs r at, says_some (eqb_false seen 0 e));
+            of_page = (next_here z me v l a k has ws vs r at, page_read (r.memory.maps a.slot k) seen is_map (eqb_false seen 0 e));
           })
 
     -- ---- the page is taken from its map word

@@ -1,27 +1,24 @@
 -- The steps that a pass of a pool may make, by what is known at the call.
-use Rattle.std.proofs.Common.{◌≡◌, ◌≢◌, ℕ, ◌+◌, ◌-◌, ◌*◌, ◌/◌, ◌%◌, ◌^◌, ◌<◌, ◌≤◌, ◌==◌, bit_or, true, List, [], ◌∷◌, inl, refl, Some, None, sym, ap, ◌∙◌, subst, arith}
+use Rattle.std.proofs.Common.{◌≡◌, ◌≢◌, ℕ, ◌+◌, ◌-◌, ◌/◌, ◌%◌, ◌^◌, ◌<◌, ◌≤◌, ◌==◌, bit_or, true, [], ◌∷◌, Some, None, sym, ap, ◌∙◌, subst, arith}
 use prog.Atomic.{either}
 use Rattle.fm_words.specs.declared.shape.Shape.{Shape}
-use Rattle.fm_words.specs.Shapes.{IsValid}
-use Rattle.fm_words.specs.Places.{at, draw, slot_bits, page_bits, map, page_word, mark, session, given, words, front}
-use Rattle.fm_words.proofs.Tables.{at-within, words-le}
+use Rattle.fm_words.specs.Places.{at, draw, slot_bits, page_bits, map, page_word, mark, session, given}
 use Rattle.fm_base.specs.declared.caller.Caller.{Caller}
 use Rattle.fm_base.specs.declared.arena_id.ArenaId.{ArenaId}
 use Rattle.fm_base.specs.declared.kind.Kind.TheVariants.{Global, Automatic}
 use Rattle.fm_base.specs.Machine.{IsPower, rounded_up}
 use Rattle.fm_base.specs.Arenas.{MayUse, owner_of}
 use Rattle.fm_words.specs.Bits.{IsWithout}
-use Rattle.fm_pool_facts.specs.Hands.{Hand, nothing, taken, learnt, retired, HasSlot}
+use Rattle.fm_pool_facts.specs.Hands.{nothing, taken, learnt, retired}
 use Rattle.fm_pool_facts.specs.declared.step.Step.TheVariants.{Draws, Marks, Checks, Loads, Stores, SwapsIf, Adds, Allocates, Holds, Unholds, Backs, Unmarks, Shuts, Visits, TakesSlot, LearnsGeneration, Opens, Claims, Maps, ReadsMap, SweepsGiven, SweepsMap, Unmaps, Wipes, GivesPage, ReturnsPage, ResetsGiven, Retires, GivesSlot, Looks}
-use Rattle.fm_pool_facts.specs.Views.{View, Fits, In, IsKnown, IsOver, IsSound, limit_of}
+use Rattle.fm_pool_facts.specs.Views.{View, In, IsKnown, IsOver, limit_of}
 use Rattle.fm_pool_facts.specs.Words.{alive_word, closing_word, free_word, held_word, mark_of}
 use Rattle.fm_pool_facts.specs.Handles.{back_word}
 use Rattle.fm_pool_facts.specs.Closes.{visited_of}
-use Rattle.fm_pool_facts.specs.Steps.{draw_next, CanReach, HasPlace, HasParts, AreAllGiven, given_next}
+use Rattle.fm_pool_facts.specs.Steps.{draw_next, CanReach, HasParts, AreAllGiven, given_next}
 use Rattle.fm_words.specs.Maps.{map_word}
 use Rattle.fm_pool_facts.specs.Parts.{unread, named, wiping, mapping_of}
 use Rattle.fm_pool_facts.specs.Moves.{MayStep, MayStore}
-use Rattle.std.proofs.Math.Nat.{mod-lt}
 use Rattle.fm_pool_steps.proofs.Acting.{mark_steps, check_steps, unmark_steps, look_steps}
 use Rattle.fm_pool_steps.proofs.Reaching.{load_steps, store_steps, swap_steps, add_steps}
 use Rattle.fm_pool_steps.proofs.Allocating.{allocate_steps}
@@ -32,16 +29,12 @@ use Rattle.fm_pool_steps.proofs.Shutting.{shut_steps}
 use Rattle.fm_pool_steps.proofs.Visiting.{visit_steps}
 use Rattle.fm_pool_steps.proofs.Taking.{take_steps, generation_steps}
 use Rattle.fm_pool_steps.proofs.Opening.{open_steps}
-use Rattle.fm_pool_steps.proofs.Closes.{visited_of-found}
 use Rattle.fm_pool_steps.proofs.Wiping.{look_map_steps, unmap_steps, wipe_steps, return_steps}
 use Rattle.fm_pool_steps.proofs.Resetting.{given_steps, reset_steps}
 use Rattle.fm_pool_steps.proofs.Claiming.{claim_steps, give_page_steps}
 use Rattle.fm_pool_steps.proofs.Mapping.{map_steps, read_map_steps}
 use Rattle.fm_pool_steps.proofs.Retiring.{retire_steps}
 use Rattle.fm_pool_steps.proofs.Giving.{give_steps}
-use Rattle.fm_rule.specs.declared.pass.Part.{Part}
-use Rattle.std.proofs.lemmas.Nat.{div-mul-add, mod-mul-add}
-use Rattle.fm_rule.specs.Views.{homed, IsPart}
 use Rattle.fm_rule.proofs.Knowing.{WordPlace}
 
 module _ (z : Shape) (id : ℕ) (v : View) (l : v.live ≡ true) (i : ℕ) where
