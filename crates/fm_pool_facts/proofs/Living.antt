@@ -156,6 +156,7 @@ module _ (z : Shape) (loans : List Loan) (bits : ℕ) (maps : ℕ → ℕ → Op
     stood : (b : ArenaId) → IsStanding (life' b) → IsStanding (life b) ⊎ ((life b ≡ Fresh) × ((i : ℕ) → maps b.slot i ≡ None))
     fresh : (b : ArenaId) → life' b ≡ Fresh → life b ≡ Fresh
 
+  -- the facts of pages last over such a change
   pub pages_alter : (sessions' : ℕ → Session) (life' : ArenaId → Stage) → Alters sessions' life'
       → Pages z loans bits maps cells berth sessions' life' word given
   pages_alter sessions' life' c = record {
@@ -197,6 +198,7 @@ module _ (z : Shape) (loans : List Loan) (bits : ℕ) (maps : ℕ → ℕ → Op
     new_given = λ b f. r.new_given b (c.fresh b f);
   }
 
+  -- an arena is shut
   pub pages_shut : (a : ArenaId) → life a ≡ Lives → Pages z loans bits maps cells berth (put sessions a.slot (shut a)) (put_at life a Closes) word given
   pages_shut a l = pages_alter (put sessions a.slot (shut a)) (put_at life a Closes) (record {
     shown = λ b i p e h. put_cases sessions a.slot (shut a) b.slot (λ (x : Session). (x ≡ live b) ⊎ (x ≡ shut b))
@@ -211,6 +213,7 @@ module _ (z : Shape) (loans : List Loan) (bits : ℕ) (maps : ℕ → ℕ → Op
     fresh = λ b. at_cases life a Closes b (λ (x : Stage). x ≡ Fresh → life b ≡ Fresh) (λ e q. absurd (cc)) (λ n q. q);
   })
 
+  -- an arena ends
   pub pages_end : (a : ArenaId) → life a ≡ Closes → Pages z loans bits maps cells berth sessions (put_at life a Over) word given
   pages_end a l = pages_alter sessions (put_at life a Over) (record {
     shown = λ b i p e h. h;
@@ -222,6 +225,7 @@ module _ (z : Shape) (loans : List Loan) (bits : ℕ) (maps : ℕ → ℕ → Op
     fresh = λ b. at_cases life a Over b (λ (x : Stage). x ≡ Fresh → life b ≡ Fresh) (λ e q. absurd (cc)) (λ n q. q);
   })
 
+  -- an arena is opened in a free slot
   pub pages_open : (a : ArenaId) → sessions a.slot ≡ free a.generation → life a ≡ Fresh
       → Pages z loans bits maps cells berth (put sessions a.slot (live a)) (put_at life a Lives) word given
   pages_open a f new = pages_alter (put sessions a.slot (live a)) (put_at life a Lives) (record {

@@ -19,9 +19,11 @@ use Rattle.fm_pool_facts.proofs.Standing.{standing_shown, shown_one, ended_apart
 use Rattle.fm_pool_facts.specs.Berths.{Berth, loose, claimed, mapped, unmapped, LentAt}
 use Rattle.fm_pool_facts.specs.Pages.{IsBlank, IsBeyond, IsMapped, IsUnmapped, Pages}
 
+-- a list of loans has its first one
 pub first_loan : (l : Loan) (loans : List Loan) → Contains (l ∷ loans) l
 first_loan l loans = Contains-append_left (l ∷ []) loans l (Contains-push [] l)
 
+-- and all that come after it
 pub more_loans : (l x : Loan) (loans : List Loan) → Contains loans x → Contains (l ∷ loans) x
 more_loans l x loans h = Contains-append_right (l ∷ []) loans x h
 
@@ -35,9 +37,11 @@ module _ (z : Shape) (loans : List Loan) (bits : ℕ) (maps : ℕ → ℕ → Op
   free_of p n = All-weaker (Contains loans) (λ l. l.block ≢ p) (λ l h e. n l (subst (λ (q : ℕ). LentAt (berth q) l) e (r.lent_is l h))) loans
       (All-contains_itself loans)
 
+  -- so a page whose bit is 1 is free
   pub loose_free : (p : ℕ) → berth p ≡ loose → IsFree loans p
   loose_free p e = free_of p (λ l. subst (λ (b : Berth). ¬ (LentAt b l)) (sym e) (λ x. x))
 
+  -- and one that is in a hand
   pub claimed_free : (p j : ℕ) → berth p ≡ claimed j → IsFree loans p
   claimed_free p j e = free_of p (λ l. subst (λ (b : Berth). ¬ (LentAt b l)) (sym e) (λ x. x))
 
@@ -283,6 +287,7 @@ module _ (z : Shape) (loans : List Loan) (bits : ℕ) (maps : ℕ → ℕ → Op
       (λ f g. absurd (ended_apart z sessions life s a b sh over st f))
       (λ n. e)
 
+  -- nor does a page that is mapped change what others read
   pub read_mapped : (a : ArenaId) (i p : ℕ) → maps a.slot i ≡ None → (b : ArenaId) (j q : ℕ) → maps b.slot j ≡ Some q
       → put maps a.slot (put (maps a.slot) i (Some p)) b.slot j ≡ Some q
   read_mapped a i p none b j q e = two_cases maps a.slot i (Some p) b.slot j (λ (x : Option ℕ). x ≡ Some q)

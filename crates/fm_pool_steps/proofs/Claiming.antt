@@ -186,6 +186,7 @@ module _ (z : Shape) (me : ℕ) (v : View) (l : v.live ≡ true) (ws : List ℕ)
 
 -- ---- the steps
 
+-- where the word of page bits is the expected one, the page is claimed by its bit
 pub claim_steps : (z : Shape) (me : ℕ) (v : View) (e bit next : ℕ) → v.live ≡ true → v.pages ≡ [] → bit < z.pages → IsWithout e bit next
     → MayStep z (Claims e bit) me v (place_at z bits_place) (λ n. either (n == e) next n)
 unfolding part entries noted
@@ -196,6 +197,7 @@ claim_steps z me v e bit next l none low without = record {
       (g.0, g.1, record { gives = g.2; learns = tt });
 }
 
+-- a page in the hand is given back
 pub give_page_steps : (z : Shape) (me : ℕ) (v : View) (p : ℕ) → v.live ≡ true → v.pages ≡ p ∷ []
     → MayStep z (GivesPage p) me v (place_at z bits_place) (λ n. bit_or n (2 ^ p))
 unfolding part entries noted

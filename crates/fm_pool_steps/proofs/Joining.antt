@@ -18,6 +18,7 @@ module _ (v w : View) (rests : IsAtRest w) where
   abbrev comes : List Gathered
   comes = as_gathered w ∷ w.gathered
 
+  -- who is at rest has met nobody
   pub all_w : all_gathered w ≡ w.gathered
   all_w = ap (λ (x : List Met). w.gathered ++ brought x) rests.met ∙ append-nil w.gathered
 

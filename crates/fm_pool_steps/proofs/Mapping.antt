@@ -236,6 +236,7 @@ module _ (z : Shape) (me : ℕ) (v : View) (l : v.live ≡ true) (ws : List ℕ)
 
 -- ---- the steps
 
+-- where the map word is 0, the page in the hand is the arena's as this part
 pub map_steps : (z : Shape) (me : ℕ) (v : View) (a : ArenaId) (i p : ℕ) → v.live ≡ true → v.shape ≡ z → v.inside ≡ Some a → i < z.reach → v.pages ≡ p ∷ []
     → MayStep z (Maps a i p) me v (place_at z (map a.slot i)) (λ n. either (n == 0) (map_word p) n)
 unfolding part entries noted
@@ -246,6 +247,7 @@ map_steps z me v a i p l sh ins low has = record {
       (g.0, g.1, record { gives = g.2; learns = low_map z me v l ws vs r at a ins i low sh });
 }
 
+-- the map word of a part is read
 pub read_map_steps : (z : Shape) (me : ℕ) (v : View) (a : ArenaId) (i : ℕ) → v.live ≡ true → v.shape ≡ z → v.inside ≡ Some a → i < z.reach
     → MayStep z (ReadsMap a i) me v (place_at z (map a.slot i)) (λ n. n)
 unfolding part entries noted

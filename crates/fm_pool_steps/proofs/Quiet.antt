@@ -79,5 +79,6 @@ module _ (z : Shape) (ws : List ℕ) (vs : List View) (r : Rule z ws vs) (me : �
   pub looks_with : (fs : ℕ → List Find) → NoDraw fs → Made z ws vs me v i (get_or ws i 0) v [] fs
   looks_with fs nd = quiet [] fs (none_drawn fs nd) (unfound fs nd) tt (λ b. tt) tt refl refl
 
+  -- nothing is noted of most looks
   pub looks_on : Made z ws vs me v i (get_or ws i 0) v [] none_noted
   looks_on = looks_with none_noted no_draw

@@ -41,12 +41,15 @@ below w size n words low = (div-lt_iff_lt-mul words).0 low
 
 module _ (z : Shape) (me : ℕ) (v : View) (l : v.live ≡ true) (a : ArenaId) (ins : v.inside ≡ Some a) where
   module _ (ws : List ℕ) (vs : List View) (r : Rule z ws vs) (at : get_elem? vs me ≡ some v) where
+    -- the caller is under way in the arena
     pub here : r.machine.inside v.caller ≡ Some a
     here = (own z ws vs r me v at l).inside ∙ ins
 
+    -- so it stands
     pub stands : IsStanding (r.machine.life a)
     stands = (r.world.marked v.caller a here).stands
 
+    -- and has a slot
     pub fit : Fits z a
     fit = r.world.sessions.fits a (standing_known (r.machine.life a) stands)
 

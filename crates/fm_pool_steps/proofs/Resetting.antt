@@ -132,6 +132,7 @@ module _ (z : Shape) (me : ℕ) (v : View) (a : ArenaId) (i : ℕ) (l : v.live �
         (g.0, g.1, record { gives = g.2; learns = sym stays ∙ (now ∙ (g.1.depicts.given a ∙ seen)) });
   }
 
+-- past the last part, the count of given bytes is made 0
 pub reset_steps : (z : Shape) (me : ℕ) (v : View) (a : ArenaId) → v.live ≡ true → visited_of v.sweeps a ≡ Some z.reach → v.swept ≡ unread
     → MayStore z (ResetsGiven a) me v (place_at z (given_place a.slot)) 0
 unfolding part entries noted

@@ -32,18 +32,23 @@ module _ (z : Shape) (me : ℕ) (v : View) (l : v.live ≡ true) (a : ArenaId) (
   abbrev pub mine : Owns z r.history r.memory r.machine r.owners me v
   mine = own z ws vs r me v at l
 
+  -- the sweep that was found
   pub its : Found a k v.sweeps
   its = visited_of-found v.sweeps a k has
 
+  -- what is known of it
   pub its_sweep : IsSweeping z r.memory r.machine r.owners me its.close
   its_sweep = mine.sweeps its.close its.there
 
+  -- its arena has ended
   pub ended_now : r.machine.life a ≡ Over
   ended_now = ap r.machine.life (sym its.arena) ∙ its_sweep.life
 
+  -- the session shows the arena
   pub shut_now : r.memory.sessions a.slot ≡ shut a
   shut_now = subst (λ (b : ArenaId). r.memory.sessions b.slot ≡ shut b) its.arena its_sweep.session
 
+  -- the sweep is at this seat
   pub mine_now : r.owners.closer a ≡ me
   mine_now = ap r.owners.closer (sym its.arena) ∙ its_sweep.owner
 
@@ -54,12 +59,15 @@ module _ (z : Shape) (me : ℕ) (v : View) (l : v.live ≡ true) (a : ArenaId) (
   pub not_mine : (b : ArenaId) → r.owners.closer b ≢ me → b ≢ a
   not_mine b n e = n (ap r.owners.closer e ∙ mine_now)
 
+  -- the arena has a slot
   pub fit : Fits z a
   fit = ended_fits z r.memory r.machine r.world a shut_now ended_now
 
+  -- each sweep of the arena is this one
   pub its_count : (b : Close) → In b v.sweeps → b.arena ≡ a → b.visited ≡ k
   its_count b j e = count_of v.sweeps a k b j e has mine.swept_once
 
+  -- the part is its next one
   pub next_here : IsNext v.sweeps a k
   next_here = record { close = its.close; there = its.there; arena = its.arena; visited = its.visited }
 
@@ -185,9 +193,11 @@ module _ (z : Shape) (me : ℕ) (v : View) (l : v.live ≡ true) (a : ArenaId) (
             reset = λ h. absurd (omega arith);
           })
 
+  -- where one has a part more behind it, the same arenas are swept
   pub visits : (c : Close) → In c v.sweeps → (d : Close) × In d (visited a v.sweeps) × (d.arena ≡ c.arena)
   visits c j = let w = visited_in a c v.sweeps j in (w.0, w.1, w.2)
 
+  -- and where nothing changes
   pub stays_there : (c : Close) → In c v.sweeps → (d : Close) × In d v.sweeps × (d.arena ≡ c.arena)
   stays_there c j = (c, j, refl)
 

@@ -280,16 +280,19 @@ module _ (z : Shape) (me : ℕ) (v : View) (a : ArenaId) (i : ℕ) (l : v.live �
         (g.0, g.1, record { gives = g.2; learns = tt });
   }
 
+  -- it is made 0: the sweep has the page
   pub unmap_steps : (p : ℕ) → i < z.reach → v.swept ≡ named a i p → MayStore z (Unmaps a i p) me v (place_at z (map a.slot i)) 0
   unfolding part entries noted
   unmap_steps p low is =
       record { may = λ ws vs r at. let g = unmaps z me v l a i has ws vs r at low p is in (g.0, g.1, record { gives = g.2; learns = tt }) }
 
+  -- the next word of the page is wiped
   pub wipe_steps : (p w : ℕ) → i < z.reach → v.swept ≡ wiping a i p w → w < z.page_words → MayStore z (Wipes a i p w) me v (place_at z (page_word p w)) 0
   unfolding part entries noted
   wipe_steps p w low is fits =
       record { may = λ ws vs r at. let g = wipes z me v l a i has ws vs r at low p w is fits in (g.0, g.1, record { gives = g.2; learns = tt }) }
 
+  -- where the words with a given byte are wiped, the page is given back
   pub return_steps : (p w : ℕ) → i < z.reach → v.swept ≡ wiping a i p w → AreAllGiven v a i w → IsOver v a
       → MayStep z (ReturnsPage a p) me v (place_at z bits_place) (λ n. bit_or n (2 ^ p))
   unfolding part entries noted
