@@ -28,7 +28,7 @@ use Rattle.fm_pool_facts.proofs.Living.{pages_wipe}
 use Rattle.fm_pool_facts.proofs.Returning.{pages_back}
 use Rattle.fm_pool_facts.proofs.Shown.{shows_same, shows_map, shows_cell, shows_page_bits}
 use Rattle.fm_pool_steps.proofs.Closes.{once_visited}
-use Rattle.fm_pool_steps.proofs.Reading.{eqb_true, eqb_false, none_read, page_read}
+use Rattle.fm_pool_steps.proofs.Reading.{eqb_true, eqb_false, none_read, page_read, page_back}
 use Rattle.fm_pool_steps.proofs.Plain.{own, given_over, Made}
 use Rattle.fm_pool_steps.proofs.Sweeping.{ended_now, shut_now, fit, next_here, sweep_on, sweeps_kept, sweeps_more, visits, stays_there, not_wiping}
 
