@@ -6,11 +6,13 @@
 //! on, and sees what the access answers and what it leaves.
 //!
 //! ```
-//! let mut braided = Braided::new(Shared::new(&pool, ours), ClosesAt { call: 3, .. });
-//! let answer = target.copy_from(&rt, &mut braided, &source);
+//! let (mut braided, source, target) = scene(rt, &pool, first, at);
+//! let answer = target.copy_from(rt, &mut braided, &source);
+//! let (mut ours, walk) = ended(rt, braided);
 //! ```
 //!
-//! The other holds a pass of its own, and makes calls that wait for nobody.
+//! Here `scene` makes a `Braided` of a pass and a turn that closes the source's arena, and `ended` takes it apart by
+//! `into_parts`. Whoever has the turn holds a pass of its own, and makes calls that wait for nobody.
 #![tactic(auto)]
 
 mod braided;

@@ -1,5 +1,5 @@
 -- An arena that has ended is swept.
-use Rattle.std.proofs.Common.{◌≡◌, ◌≢◌, ℕ, ◌+◌, ◌≤◌, ◌^◌, ◌<◌, ◌==◌, Bool, true, false, List, [], refl, ap, sym, ◌∙◌, subst, arith, Some, eq-eqb, ne_eqb}
+use Rattle.std.proofs.Common.{◌≡◌, ◌≢◌, ℕ, ◌+◌, ◌^◌, ◌<◌, ◌==◌, Bool, true, false, List, [], refl, ap, sym, ◌∙◌, subst, arith, Some, eq-eqb, ne_eqb}
 use Rattle.std.proofs.lemmas.List.{append-nil}
 use Rattle.fm_words.specs.declared.shape.Shape.{Shape}
 use Rattle.fm_base.specs.declared.caller.Caller.{Caller}
@@ -13,7 +13,7 @@ use Rattle.fm_pool_facts.specs.Closes.{visited_of, visited, dropped}
 use Rattle.fm_pool_facts.specs.Steps.{Stepped, none_noted}
 use Rattle.fm_pool_steps.proofs.Closes.{visited_of-found}
 use Rattle.fm_rule.specs.declared.pool.Pool.{Pool}
-use Rattle.fm_calls.specs.Kept.{Goes, rest_of, slots_told, HasEnded, HasNoWords}
+use Rattle.fm_calls.specs.Kept.{Goes, rest_of, slots_told, HasNoWords}
 use Rattle.fm_calls.proofs.Going.{goes_of, goes_then, no_draws, lasts_on}
 use Rattle.fm_calls.proofs.Unlent.{over_on, no_words_on, no_words_swept, has_ended}
 use Rattle.fm_gate.proofs.Standing.{stands_outside}

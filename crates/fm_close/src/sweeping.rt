@@ -15,7 +15,7 @@ use fm_rule::{
 
 /// Gives back the pages and the slot of an arena that has ended.
 ///
-/// The words that have a given byte become 0, page after page, and each page free; then the count of given bytes is 0. From
+/// Page after page, the words that have a given byte become 0 and the page free; then the count of given bytes is 0. From
 /// then on the slot can be lent to an arena of the next generation; where there is none, the slot isn't used again.
 pub fn sweep(pool: &Pool, pass: &mut Pass, s: Shutting)
     requires { CanSweep pool.now pass.old s }
@@ -74,8 +74,7 @@ fn take_back(pool: &Pool, pass: &mut Pass, a: ArenaId, part: u32, given: u64)
     step_return_page(pool, pass, a, part, page, words);
 }
 
-/// How many words of the part have a byte that was given, where the arena gave so many: the first ones of its page, which
-/// has `size` words.
+/// How many words of the part have a given byte, where the arena gave so many: they are the first of the page's `size` words.
 fn given_words(given: u64, part: u32, size: u32) -> u32
     ensures few { result ≤ size }
     ensures all { (result ≡ size) ⊎ (given ≤ 8 * (part * size + result)) }

@@ -1,5 +1,5 @@
 -- Acts inside an arena, and leaving it.
-use Rattle.std.proofs.Common.{◌≡◌, ℕ, ◌/◌, ◌%◌, ◌<◌, List, [], refl, ap, sym, ◌∙◌, subst, ⊎_elim, Option, Some, None, ◌⊎◌, inl}
+use Rattle.std.proofs.Common.{◌≡◌, ℕ, ◌/◌, ◌%◌, ◌<◌, List, [], refl, ap, sym, ◌∙◌, subst, ⊎_elim, Option, Some, None, inl}
 use Rattle.fm_base.specs.declared.caller.Caller.{Caller}
 use Rattle.fm_base.specs.declared.arena_id.ArenaId.{ArenaId}
 use Rattle.fm_base.specs.Calls.{Call, Leave, Reply, Fine, Entry}

@@ -18,9 +18,9 @@ use Rattle.fm_load.proofs.Holding.{allocated_held, allocated_only, refusal_wants
 use Rattle.fm_pool_facts.specs.Loans.{lent}
 use Rattle.fm_pool_facts.specs.Scarcity.{IsScarce, lacking, parts_before}
 use Rattle.fm_pool_facts.specs.Views.{View, given_of, limit_of, state_in, unlent}
+use Rattle.fm_pool_facts.proofs.Scarcity.{lacking_most}
 use Rattle.fm_rule.specs.declared.pool.Pool.{Pool}
 use Rattle.fm_pooled.specs.Stocked.{HasPagesFor, IsLone}
-use Rattle.fm_pooled.proofs.Lent.{lacking_few}
 use Rattle.fm_pooled.proofs.Tidying.{AllChangeNone, loans_too, tidy_none, tidy_on}
 
 -- ---- nothing is wanting
@@ -44,7 +44,7 @@ not_scarce p a size empty pages scarce =
     let few : unlent p.shape.pages loans < lacking (parts_before p.shape size) loans a =
     subst (λ (n : ℕ). unlent p.shape.pages loans < lacking (parts_before p.shape n) loans a) end scarce.few in
     let left : parts_before p.shape size ≤ unlent p.shape.pages loans = pages in
-    let most : lacking (parts_before p.shape size) loans a ≤ parts_before p.shape size = lacking_few (parts_before p.shape size) loans a in
+    let most : lacking (parts_before p.shape size) loans a ≤ parts_before p.shape size = lacking_most (parts_before p.shape size) loans a in
     absurd (omega (arith, few, left, most))
 
 -- of which each refusal may come

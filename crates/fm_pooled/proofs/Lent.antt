@@ -1,20 +1,19 @@
 -- How many pages of a pool are lent, where few arenas are known.
-use Rattle.std.proofs.Common.{◌≡◌, ℕ, zero, suc, ◌+◌, ◌-◌, ◌*◌, ◌/◌, ◌<◌, ◌≤◌, ◌==◌, ◌&&◌, not, cond, Bool, true, false, if◌then◌else◌, List, [], ◌∷◌, filter, refl, sym, ap, ◌∙◌, subst, ⊎_elim, arith, ne_eqb, div-lt_iff_lt-mul}
+use Rattle.std.proofs.Common.{◌≡◌, ℕ, zero, suc, ◌+◌, ◌-◌, ◌*◌, ◌/◌, ◌<◌, ◌≤◌, ◌==◌, not, cond, Bool, true, false, List, [], ◌∷◌, filter, refl, sym, ap, ◌∙◌, subst, ⊎_elim, arith, div-lt_iff_lt-mul}
 use Rattle.std.specs.Prelude.{Contains, ⊤}
-use Rattle.std.proofs.lemmas.Bool.Decides.{nat_tests}
-use Rattle.std.proofs.lemmas.List.Elements.{All-filter, All-head, All-tail, Contains-append_left, Contains-append_right, Contains-push}
+use Rattle.std.proofs.lemmas.List.Elements.{All-filter}
 use Rattle.fm_base.specs.declared.arena_id.ArenaId.{ArenaId}
-use Rattle.fm_base.specs.Arenas.{State, has_arena, same_id}
+use Rattle.fm_base.specs.Arenas.{State, has_arena}
 use Rattle.fm_base.specs.Calls.{Call, Lend, Back, Entry}
 use Rattle.fm_base.specs.Histories.{IsLegal, state_after}
 use Rattle.fm_base.specs.Machine.{after}
 use Rattle.fm_base.proofs.Growing.{Grows-after}
-use Rattle.fm_base.proofs.Names.{same_id-true}
 use Rattle.fm_pool_facts.specs.Loans.{Loan, loan_of, loans_after, loans_by, lent, HasPart, IsFree, IsRightlyLentFrom, IsRightlyLentIn}
-use Rattle.fm_pool_facts.specs.Scarcity.{has_part, lacking, parts_before}
-use Rattle.fm_pool_facts.specs.Views.{View, IsKnown, IsSound, is_lent, limit_of, one_unless, unlent}
+use Rattle.fm_pool_facts.specs.Scarcity.{lacking, parts_before}
+use Rattle.fm_pool_facts.specs.Views.{View, IsKnown, IsSound, limit_of, unlent}
 use Rattle.fm_pool_facts.proofs.Lending.{loan_cases, loan_was}
-use Rattle.fm_pool_facts.proofs.Scarcity.{lacking_lend, unlent_lend}
+use Rattle.fm_pool_facts.proofs.Moving.{first_loan, more_loans}
+use Rattle.fm_pool_facts.proofs.Scarcity.{block_free, has_part_not, lacking_lend, unlent_lend}
 use Rattle.fm_words.specs.declared.shape.Shape.{Shape}
 
 -- ---- each block once, and as one part
@@ -72,35 +71,6 @@ known_on size limit s loans (e ∷ es) legal r h =
 
 -- ---- counts
 
--- A block that is free isn't lent.
-not_lent : (ls : List Loan) (block : ℕ) → IsFree ls block → is_lent ls block ≡ false
-not_lent [] block free = refl
-not_lent (l ∷ ls) block free =
-    let Other : Loan → Type 0 = λ (x : Loan). ¬ (x.block ≡ block) in
-    ap (λ (b : Bool). if b then true else is_lent ls block) (ne_eqb l.block block (All-head Other l ls free))
-    ∙ not_lent ls block (All-tail Other l ls free)
-
-first_loan : (l : Loan) (ls : List Loan) → Contains (l ∷ ls) l
-first_loan l ls = Contains-append_left (l ∷ []) ls l (Contains-push [] l)
-
-more_loans : (l x : Loan) (ls : List Loan) → Contains ls x → Contains (l ∷ ls) x
-more_loans l x ls i = Contains-append_right (l ∷ []) ls x i
-
--- A part that has no block has none.
-no_part : (ls : List Loan) (a : ArenaId) (i : ℕ) → ¬ (HasPart ls a i) → has_part ls a i ≡ false
-no_part [] a i none = refl
-no_part (l ∷ ls) a i none =
-    go (no_part ls a i (λ has. none (has.0, more_loans l (loan_of has.0 a i) ls has.1))) (same_id l.id a) refl (l.part == i) refl
-  where
-    go : has_part ls a i ≡ false → (b : Bool) → same_id l.id a ≡ b → (d : Bool) → (l.part == i) ≡ d → (if b && d then true else has_part ls a i) ≡ false
-    go rest true e true f =
-        let part : l.part ≡ i = grind (arith, nat_tests) in
-        let id : l.id ≡ a = same_id-true l.id a e in
-        let is : l ≡ loan_of l.block a i = λ j. record { block = l.block; id = id j; part = part j } in
-        absurd (none (l.block, subst (λ (x : Loan). Contains (l ∷ ls) x) is (first_loan l ls)))
-    go rest true e false f = rest
-    go rest false e d f = rest
-
 pub none_lent : (n : ℕ) → unlent n [] ≡ n
 none_lent zero = refl
 none_lent (suc n) = let rest = none_lent n in omega arith
@@ -108,18 +78,6 @@ none_lent (suc n) = let rest = none_lent n in omega arith
 all_lacking : (n : ℕ) (a : ArenaId) → lacking n [] a ≡ n
 all_lacking zero a = refl
 all_lacking (suc n) a = let rest = all_lacking n a in omega arith
-
-one_at_most : (b : Bool) → one_unless b ≤ 1
-one_at_most true = omega arith
-one_at_most false = omega arith
-
--- No more parts lack a block than there are.
-pub lacking_few : (n : ℕ) (loans : List Loan) (a : ArenaId) → lacking n loans a ≤ n
-lacking_few zero loans a = omega arith
-lacking_few (suc n) loans a =
-    let one = one_at_most (has_part loans a n) in
-    let rest = lacking_few n loans a in
-    omega arith
 
 -- the block is one of these, lent as a part of the arena
 record IsPartOf (a : ArenaId) (pages reach : ℕ) (l : Loan) : Type 0 where
@@ -138,10 +96,10 @@ counted pages reach a (l ∷ ls) apart each =
     let none : ¬ (HasPart ls a l.part) = subst (λ (x : ArenaId). ¬ (HasPart ls x l.part)) here.id apart.1 in
     let block : unlent pages (l ∷ ls) + 1 ≡ unlent pages ls =
     subst (λ (x : Loan). unlent pages (x ∷ ls) + 1 ≡ unlent pages ls) (sym is)
-    (unlent_lend l.block a l.part ls pages here.block (not_lent ls l.block apart.0)) in
+    (unlent_lend l.block a l.part ls pages here.block (block_free ls l.block apart.0)) in
     let part : lacking reach (l ∷ ls) a + 1 ≡ lacking reach ls a =
     subst (λ (x : Loan). lacking reach (x ∷ ls) a + 1 ≡ lacking reach ls a) (sym is)
-    (lacking_lend l.block a l.part ls reach here.part (no_part ls a l.part none)) in
+    (lacking_lend l.block a l.part ls reach here.part (has_part_not ls a l.part none)) in
     omega arith
 
 -- ---- a pass

@@ -32,7 +32,10 @@ pub fn shape_for(room: u64, arenas: u32) -> Shape
     ensures wide { LEAST_PAGE ≤ result.page_words }
 {
     let words = room.div_ceil(8);
-    let page_words = words.div_ceil(MOST_PAGES).next_power_of_two().max(LEAST_PAGE);
+    let page_words = words
+        .div_ceil(MOST_PAGES)
+        .next_power_of_two()
+        .max(LEAST_PAGE);
     let reach = words.div_ceil(page_words).max(1) as u32;
     Shape {
         passes: PASSES,

@@ -1,3 +1,4 @@
+mod cut_off;
 mod gates;
 mod relay;
 mod wide;
@@ -109,6 +110,14 @@ fn a_worker_finds_no_page(rt: HostRuntime) {
     let wanted =
         "first open a shared -> ok\nfirst alloc a s 8 8 -> ok 0\n1 open b shared -> ok\n1 alloc b t 1 1 -> refused 11\n\
         1 get t byte 0 -> skipped\nlast alloc a u 1 1 -> refused 10 8\nbytes a 0000000000000000\nbytes b\n";
+    assert_eq!(rt; printed(&rt, text).as_str(), wanted);
+}
+
+#[test]
+fn a_slot_has_one_arena(rt: HostRuntime) {
+    let text = "pool 1 1 8 1 1\nfirst open a shared\nfirst close a\nfirst open b shared\n";
+    let wanted =
+        "first open a shared -> ok\nfirst close a -> ok\nfirst open b shared -> refused 12\n";
     assert_eq!(rt; printed(&rt, text).as_str(), wanted);
 }
 

@@ -1,4 +1,4 @@
-use Rattle.std.proofs.Common.{[], ap, sym, ◌∙◌}
+use Rattle.std.proofs.Common.{ap, sym, ◌∙◌}
 use Rattle.fm_words.specs.declared.shape.Shape.{Shape}
 use Rattle.fm_close.proofs.Parts.{part_empty, part_named, part_unmapped, part_taken, sweeps_same, all_words}
 use Rattle.fm_close.proofs.sweeping.take_back.Goals as goal
