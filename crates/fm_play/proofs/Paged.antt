@@ -88,7 +88,7 @@ module _ {names : Numbers} {lines : List Line} {old new : View} {tasks players :
         lasts = subst (λ (x : Shape × List Entry). EachBehind (AllocatesRightly x.0) x.1 all.last.dones)
             (λ i. (shape_between i, (between_is ∙ sym parts) i)) (all.last.full wholly no_close no_slot);
         first_loans = behind_as (LendsRightly old.shape old.caller all.before.seen) (LendsRightly old.shape old.caller new.seen)
-            (lends_later old.shape old.caller later_first) [] all.first.dones
+            (lends_later old.shape old.caller all.before.seen new.seen later_first) [] all.first.dones
             (subst (λ (es : List Entry). EachBehind (LendsRightly old.shape old.caller all.before.seen) (made_by old.caller es) all.first.dones)
             can.only.unused all.first.loans);
         worker_loans = all_weaker (PagesFound old.shape new.seen) (λ w. EachBehind (LendsRightly old.shape w.caller new.seen) [] w.dones) (λ w f. f.loans)

@@ -43,18 +43,18 @@ goes_on (x ∷ xs) (y ∷ ys) us vs e l =
     let first : x ≡ y = cc in
     let rest : xs ++ us ≡ ys ++ vs = cc in
     let more = goes_on xs ys us vs rest (omega (arith, l)) in
-    (more.0, (λ i. first i ∷ more.1 i), more.2)
+    (more.0, (λ i. sym first i ∷ more.1 i), more.2)
 
 -- What stands in a list, in other words.
-in_own : {x : Entry} (es : List Entry) → IsAmong x es → In x es
-in_own [] i = absurd i
-in_own (e ∷ es) (inl i) = inl i
-in_own (e ∷ es) (inr i) = inr (in_own es i)
+in_own : (x : Entry) (es : List Entry) → IsAmong x es → In x es
+in_own x [] i = absurd i
+in_own x (e ∷ es) (inl i) = inl i
+in_own x (e ∷ es) (inr i) = inr (in_own x es i)
 
-among_own : {x : Entry} (es : List Entry) → In x es → IsAmong x es
-among_own [] i = absurd i
-among_own (e ∷ es) (inl i) = inl i
-among_own (e ∷ es) (inr i) = inr (among_own es i)
+among_own : (x : Entry) (es : List Entry) → In x es → IsAmong x es
+among_own x [] i = absurd i
+among_own x (e ∷ es) (inl i) = inl i
+among_own x (e ∷ es) (inr i) = inr (among_own x es i)
 
 module _ {p q r : View} {own run : List Entry} (w : Went p q own) (v : Went q r run) where
   -- A point of the call.
@@ -107,10 +107,10 @@ module _ {p q r : View} {own run : List Entry} (w : Went p q own) (v : Went q r 
       → is_loan e.call ≡ true
       → (a : ArenaId) × HasEntered a run × pages.LendsInRange p.shape p.caller r.seen (made_by p.caller p.seen ++ own) run a size align e
   lends_so id size align result a e i loan =
-      let mine = a.lends v.more v.seen e (subst (λ (es : List Entry). In e es) (sym v.by_pass) (in_own run i)) loan in
+      let mine = a.lends v.more v.seen e (subst (λ (es : List Entry). In e es) (sym v.by_pass) (in_own e run i)) loan in
       let entered : HasEntered id run = record {
         caller = q.caller;
-        among = subst (λ (es : List Entry). IsAmong (entry_of q.caller (Enter id) Fine) es) v.by_pass (among_own (made_by q.caller v.more) mine.0);
+        among = subst (λ (es : List Entry). IsAmong (entry_of q.caller (Enter id) Fine) es) v.by_pass (among_own (entry_of q.caller (Enter id) Fine) (made_by q.caller v.more) mine.0);
       } in
       (id, entered, lends_in e mine.1)
 
@@ -178,7 +178,7 @@ if_allocates : (c : Command) (P Q : ℕ → ℕ → Type 0) → ((size align : �
 if_allocates (Alloc arena name size align) P Q f h = f size align h
 if_allocates c P Q f h = tt
 
-module _ (z : Shape) (c : Caller) {seen next : List Entry} (b : Begins seen next) where
+module _ (z : Shape) (c : Caller) (seen next : List Entry) (b : Begins seen next) where
   -- A point stays one when the history goes on.
   point_later : (own run at : List Entry) → IsPointOf c seen own run at → IsPointOf c next own run at
   point_later own run at i = record {

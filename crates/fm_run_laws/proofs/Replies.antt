@@ -82,55 +82,55 @@ module _ (c : Caller) (stands : List ℕ → Standing) (out : Outcome) (own : Li
 
   -- A line of each command.
   line_may : (k : Command) → allocates k ≡ false → CallDoes c stands k out own → MayBe out.reply
-  line_may (command.Open name kind) no d =
+  line_may (command.Open name kind) none d =
       coming_may (λ id. outcome reply.Fine (opened_as d.0 kind id)) (λ id. tt) d.1.0 (open_may c own kind d.1.0 d.1.1.1 d.1.1.0) out d.1.2
-  line_may (command.Alloc arena name size align) no d = absurd (cc)
-  line_may (command.Slice segment name offset size) no d =
+  line_may (command.Alloc arena name size align) none d = absurd (cc)
+  line_may (command.Slice segment name offset size) none d =
       on_segment segment (λ r. Called (Answers (slice_of offset size r)) segment_made)
       (λ r e. got (slice_of offset size r) segment_made (λ x. tt) (slice_may offset size r) e) d
-  line_may (command.Readonly segment name) no d =
+  line_may (command.Readonly segment name) none d =
       on_segment segment (λ r. Called (Answers (Ok (read_only_of r))) segment_made) (λ r e. got (Ok (read_only_of r)) segment_made (λ x. tt) tt e) d
-  line_may (command.Get cell) no d =
+  line_may (command.Get cell) none d =
       on_segment cell.segment (Gets c cell)
       (λ r e. coming_may number (λ v. tt) e.0
       (get_may c own r.arena (tree_of cell) (place_of cell.offset (tree_of cell) r) e.0 (place_may cell.offset (tree_of cell) r) e.1) out e.2) d
-  line_may (command.Set cell value) no d =
+  line_may (command.Set cell value) none d =
       on_segment cell.segment (Sets c cell value)
       (λ r e. coming_may fine (λ v. tt) e.2.0
       (set_may c own r.arena (tree_of cell) (writable_place_of cell.offset (tree_of cell) r) e.0 e.2.0 (writable_may cell.offset (tree_of cell) r) e.2.1)
       out e.2.2) d
-  line_may (command.Add cell value) no d =
+  line_may (command.Add cell value) none d =
       on_segment cell.segment (Adds c cell value)
       (λ r e. coming_may number (λ v. tt) e.4.0
       (at_may (update_place_of can_update cell.offset [] e.2 r) (λ place. DoesVisit c r.arena (AddsActs e.2.value.order r.arena place e.0)) e.4.0 own
       (update_may cell.offset e.2 r) (λ place f. visit_may c own r.arena (AddsActs e.2.value.order r.arena place e.0) e.4.0 f) e.4.1) out e.4.2) d
-  line_may (command.Cas cell old new) no d =
+  line_may (command.Cas cell old new) none d =
       on_segment cell.segment (Exchanges c cell old new)
       (λ r e. coming_may number (λ v. tt) e.6.0
       (at_may (update_place_of can_update cell.offset [] e.4 r) (λ place. DoesVisit c r.arena (ExchangesActs e.4.value.order r.arena place e.0 e.2)) e.6.0 own
       (update_may cell.offset e.4 r) (λ place f. visit_may c own r.arena (ExchangesActs e.4.value.order r.arena place e.0 e.2) e.6.0 f) e.6.1) out e.6.2) d
-  line_may (command.Fill segment byte) no d =
+  line_may (command.Fill segment byte) none d =
       on_segment segment (Fills c byte) (λ r e. coming_may fine (λ v. tt) e.0 (fill_may c own r byte e.0 e.1) out e.2) d
-  line_may (command.Copy source target) no d =
+  line_may (command.Copy source target) none d =
       on_segment source (λ r. On (standing.segment_of (stands target)) (Copies c r))
       (λ r e. on_segment target (Copies c r) (λ t f. coming_may fine (λ v. tt) f.0 (copy_may c own r t r.size f.0 f.1) out f.2) e) d
-  line_may (command.Mismatch segment other) no d =
+  line_may (command.Mismatch segment other) none d =
       on_segment segment (λ r. On (standing.segment_of (stands other)) (Compares c r))
       (λ r e. on_segment other (Compares c r)
       (λ t f. coming_may (λ z. plain (reply.Number z)) (λ v. tt) f.0 (mismatch_may c own r t f.0 f.1) out f.2) e) d
-  line_may (command.Alive arena) no d =
+  line_may (command.Alive arena) none d =
       on_arena arena (Asks c) (λ id e. coming_may (λ alive. plain (reply.Truth alive)) (λ v. tt) e.0 (alive_may c own id e.0 e.1) out e.2) d
-  line_may (command.Hold arena name) no d =
+  line_may (command.Hold arena name) none d =
       on_arena arena (Holds c) (λ id e. coming_may (λ u. outcome reply.Fine (held_as e.0 id)) (λ v. tt) e.1.0 (hold_may c own id e.1.0 e.1.1) out e.1.2) d
-  line_may (command.Unhold hold) no d =
+  line_may (command.Unhold hold) none d =
       on_may (standing.hold_of (stands hold)) (Unholds c) out own (λ id e. subst (λ (o : Outcome). MayBe o.reply) (sym e.0) tt) d
-  line_may (command.Again handle name) no d =
+  line_may (command.Again handle name) none d =
       on_may (standing.handle_of (stands handle)) (TakesAgain c) out own
       (λ id e. coming_may (λ u. outcome reply.Fine (handled_as e.0 id)) (λ v. tt) e.1.0 (again_may c own id e.1.0 e.1.1) out e.1.2) d
-  line_may (command.Back handle) no d =
+  line_may (command.Back handle) none d =
       on_may (standing.handle_of (stands handle)) (GivesBack c) out own
       (λ id e. subst (λ (o : Outcome). MayBe o.reply) (sym e.2) (back_may c e.0)) d
-  line_may (command.Close arena) no d =
+  line_may (command.Close arena) none d =
       on_arena arena (Closes c) (λ id e. coming_may fine (λ v. tt) e.0 (close_may c own id e.0 e.1) out e.2) d
 
   -- No allocation takes memory.
