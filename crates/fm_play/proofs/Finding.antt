@@ -133,7 +133,7 @@ module _ (old new : View) (more all : List Entry) (seen : new.seen ≡ old.seen 
   pages_found : (v : View) (w : Player) → HasFound v w → IsFresh old v.caller → IsIn v new → made_by w.caller more ≡ runs w.dones
       → PagesFound new.shape all w
   pages_found v w h fresh within entries =
-      let same : ◌≡◌ {A = Shape × (Caller × List Entry)} (v.shape, v.caller, h.earlier) (new.shape, w.caller, []) =
+      let same : ◌≡◌ {A = Shape × (Caller × List Entry)} (v.shape, (v.caller, h.earlier)) (new.shape, (w.caller, [])) =
       (λ i. (within.shape i, (sym h.caller i, nothing_earlier old new more seen v w h fresh within entries i))) in
       let later : Begins v.seen all =
       (within.rest ++ on.0, on.1 ∙ (ap (λ (es : List Entry). es ++ on.0) within.seen ∙ append_assoc v.seen within.rest on.0)) in
