@@ -45,9 +45,9 @@ use Rattle.fm_pooled.proofs.Shows.{asked, can_ask, is_whole, pooled_is}
 -- ---- room for counts
 
 -- the pass can open a second arena, where the first one is all that it knows
-pub can_second : {pool : Pool} {p q : View} {s : Region} → IsLone pool q → p.seen ≡ [] → ((b : ArenaId) → IsKnown q b → (b ≡ s.arena) ⊎ IsKnown p b)
-    → pool.shape.slots ≡ 2 → pool.shape.pages + 1 ≡ pool.shape.reach + 2 → 256 ≤ pool.shape.page_words → CanOpenSecond pool q s.arena
-can_second {pool = pool} {p = p} {q = q} {s = s} lone none only slots pages wide =
+pub can_second : {pool : Pool} {q : View} (p : View) (s : Region) → IsLone pool q → p.seen ≡ []
+    → ((b : ArenaId) → IsKnown q b → (b ≡ s.arena) ⊎ IsKnown p b) → pool.shape.slots ≡ 2 → pool.shape.pages + 1 ≡ pool.shape.reach + 2 → 256 ≤ pool.shape.page_words → CanOpenSecond pool q s.arena
+can_second {pool = pool} {q = q} p s lone none only slots pages wide =
     let shape : q.shape ≡ pool.shape = lone.outside.of.1 in
     let same_pages : q.shape.pages ≡ pool.shape.pages = ap (λ (z : Shape). z.pages) shape in
     let same_reach : q.shape.reach ≡ pool.shape.reach = ap (λ (z : Shape). z.reach) shape in
@@ -126,8 +126,9 @@ has_room r a words s held shared is =
     })
 
 -- in an arena that is new
-pub beside : {p r : View} {s counts : Region} → HasRoomForCounts r counts → IsKnown p s.arena → ¬ (IsKnown p counts.arena) → IsBeside r s counts
-beside {p = p} room known unknown = record {
+pub beside : {r : View} {s counts : Region} (p : View) → HasRoomForCounts r counts → IsKnown p s.arena → ¬ (IsKnown p counts.arena)
+    → IsBeside r s counts
+beside p room known unknown = record {
   room = room;
   other = λ is. unknown (subst (λ (a : ArenaId). IsKnown p a) (sym is) known);
 }

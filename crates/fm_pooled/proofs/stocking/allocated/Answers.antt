@@ -5,6 +5,10 @@ pub unreachable-unreachable : goal.unreachable-unreachable
 unreachable-unreachable g c =
     never_refused c.args.arena c.args.size c.requires.lone c.requires.empty c.in-Err.field-0 c.requires.room c.requires.pages c.in-Err.ensures
 
+pub unreachable-requires : goal.unreachable-requires
+unreachable-requires g c =
+    never_refused c.args.arena c.args.size c.requires.lone c.requires.empty c.in-Err.field-0 c.requires.room c.requires.pages c.in-Err.ensures
+
 pub returns-clause-lone : goal.returns-clause-lone
 returns-clause-lone g c = allocated_lone c.args.arena c.args.size c.requires.lone c.requires.empty c.in-Ok.field-0 c.in-Ok.ensures
 

@@ -36,4 +36,5 @@ returns-clause-bytes g c =
 
 pub returns-clause-only : goal.returns-clause-only
 returns-clause-only g c b known =
-    only_known c.opened-arena.ensures c.allocated.ensures.elsewhere c.filled-pass.ensures.elsewhere (ap (λ (s : Region). s.arena) c.of.ensures) b known
+    only_known c.allocated.new.pass c.filled-pass.result c.of.result c.opened-arena.ensures c.allocated.ensures.elsewhere c.filled-pass.ensures.elsewhere
+    (ap (λ (s : Region). s.arena) c.of.ensures) b known

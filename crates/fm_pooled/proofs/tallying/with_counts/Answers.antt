@@ -30,7 +30,7 @@ returns-clause-bytes g c =
 
 pub returns-clause-beside : goal.returns-clause-beside
 returns-clause-beside g c =
-    beside
+    beside c.args.pass
     (has_room c.allocated.new.pass c.opened-arena.result _ c.of.result c.allocated.ensures.held c.opened-arena.ensures.shared c.of.ensures)
     c.requires.stocked.known.arena
     (subst (λ (a : ArenaId). ¬ (IsKnown c.args.pass a)) (ap (λ (s : Region). s.arena) (sym c.of.ensures)) c.opened-arena.ensures.unknown)
