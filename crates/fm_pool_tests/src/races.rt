@@ -81,55 +81,53 @@ fn give_words<R: Wait>(
     give_often(rt, pool, pass, a, 8, 30)
 }
 
-/// How many words each of two passes gives of one arena at once, and what another arena is answered then for the four
-/// pages that are left, and for one more.
+/// How many words each of two passes gives of one arena at once. Another arena has the four pages that are left then, and
+/// this is what it is answered for one more.
 fn given_at_once<R: Abort + AllocGlobal + Threads + Wait + Sync>(
     rt: &R,
-) -> ((u64, u64), [Result<u64, Refusal>; 2]) {
+) -> (u64, u64, Result<u64, Refusal>) {
     let (pool, mut pass) = paged(rt, 2, 64, 1, 1);
     let a = open_arena(rt, &pool, &mut pass, Kind::Shared).expect(rt, "a slot");
-    let b = open_arena(rt, &pool, &mut pass, Kind::Shared).expect(rt, "a slot");
     let mut other = drawn(rt, &pool, &mut pass);
     let first = AtomicBool::new(false);
     let second = AtomicBool::new(false);
-    let both = join_mut(
+    let (ours, theirs) = join_mut(
         rt,
         &mut || give_words(rt, &pool, &mut pass, a, &first, &second),
         &mut || give_words(rt, &pool, &mut other, a, &second, &first),
     );
-    let left = allocate(rt, &pool, &mut other, b, 32, 8);
-    (both, [left, allocate(rt, &pool, &mut other, b, 1, 1)])
+    let b = given(rt, &pool, &mut other, Kind::Shared, 32);
+    (ours, theirs, allocate(rt, &pool, &mut other, b, 1, 1))
 }
 
 /// Both want a page for the same part again and again. Who comes second gives its page back.
 #[test]
 fn two_passes_want_pages_at_once(rt: HostRuntime) {
-    let answers = [Ok(0), Err(Refusal::PoolFull)];
     for _ in 0..200 {
-        assert_eq!(rt; given_at_once(&rt), ((30, 30), answers));
+        assert_eq!(rt; given_at_once(&rt), (30, 30, Err(Refusal::PoolFull)));
     }
 }
 
-/// What a close is answered while another pass gives words of the arena, and then an arena that wants all pages.
+/// What a close is answered while another pass gives words of the arena. Another arena has all pages then.
 fn closed_amid_giving<R: Abort + AllocGlobal + Threads + Wait + Sync>(
     rt: &R,
-) -> (Result<(), Refusal>, Result<u64, Refusal>) {
+) -> Result<(), Refusal> {
     let (pool, mut pass) = paged(rt, 2, 64, 1, 1);
     let a = open_arena(rt, &pool, &mut pass, Kind::Shared).expect(rt, "a slot");
-    let b = open_arena(rt, &pool, &mut pass, Kind::Shared).expect(rt, "a slot");
     let mut other = drawn(rt, &pool, &mut pass);
     let (closed, _) = join_mut(
         rt,
         &mut || close(rt, &pool, &mut pass, a),
         &mut || give_often(rt, &pool, &mut other, a, 8, 64),
     );
-    (closed, allocate(rt, &pool, &mut other, b, 512, 8))
+    given(rt, &pool, &mut other, Kind::Shared, 512);
+    closed
 }
 
 #[test]
 fn an_arena_is_closed_while_another_pass_allocates(rt: HostRuntime) {
     for _ in 0..200 {
-        assert_eq!(rt; closed_amid_giving(&rt), (Ok(()), Ok(0)));
+        assert_eq!(rt; closed_amid_giving(&rt), Ok(()));
     }
 }
 
