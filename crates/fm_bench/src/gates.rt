@@ -2,7 +2,7 @@ ghost use Rattle.std.specs.Prelude.{◌≡◌, ◌*◌, ◌<◌, ◌≤◌, leng
 ghost use Rattle.fm_pool_facts.specs.Views.{given_of};
 ghost use Rattle.fm_calls.specs.Kept.{Lasts};
 ghost use Rattle.fm_gate.specs.Standing.{CanVisit, IsOutside};
-ghost use Rattle.fm_bench.specs.Ready.{AreOpen, IsOpen};
+ghost use Rattle.fm_bench.specs.Ready.{AreOpen, IsFree, IsOpen};
 
 use fm_base::{ArenaId, Kind, Refusal};
 use fm_close::close;
@@ -86,7 +86,7 @@ pub fn made(alloc: Global, slots: u32, words: u32) -> Result<(Pool, Pass), Refus
     requires slots { slots ≤ 64 }
     requires word { 0 < words }
     requires words { words ≤ 8192 }
-    ensures outside { IfOk result (λ r. IsOutside r.0 r.1) }
+    ensures free { IfOk result (λ r. IsFree r.0 r.1) }
 {
     let shape = Shape {
         passes: 16,
@@ -101,8 +101,8 @@ pub fn made(alloc: Global, slots: u32, words: u32) -> Result<(Pool, Pass), Refus
 
 /// Opens an arena that gives so many bytes.
 pub fn given<R: Wait>(rt: &R, pool: &Pool, pass: &mut Pass, bytes: u64) -> Result<ArenaId, Refusal>
-    requires { IsOutside pool.now pass.old }
-    ensures outside { IsOutside pool.now pass.new }
+    requires { IsFree pool.now pass.old }
+    ensures free { IsFree pool.now pass.new }
     ensures open { IfOk result (λ a. IsOpen pass.new bytes a) }
     ensures lasts { Lasts pass.old pass.new }
 {
@@ -119,7 +119,7 @@ fn opened<R: Wait>(
     pass: &mut Pass,
     times: u64,
 ) -> Result<Vec<ArenaId>, Refusal>
-    requires outside { IsOutside pool.now pass.old }
+    requires free { IsFree pool.now pass.old }
     ensures arenas { IfOk result (λ arenas. AreOpen pool.now pass.new arenas.items 1024) }
     ensures many { IfOk result (λ arenas. length arenas.items ≡ 64) }
 {
@@ -156,6 +156,7 @@ pub fn visit(pool: &Pool, pass: &mut Pass, arena: ArenaId, word: u64) -> Result<
     requires ready { CanVisit pool.now pass.old arena }
     requires within { 8 * word < given_of pass.old arena }
     ensures outside { IsOutside pool.now pass.new }
+    ensures pages { pass.new.pages ≡ pass.old.pages }
     ensures lasts { Lasts pass.old pass.new }
 {
     enter(pool, pass, arena)?;
@@ -169,6 +170,7 @@ fn put(pool: &Pool, pass: &mut Pass, arena: ArenaId, word: u64, v: u64) -> Resul
     requires ready { CanVisit pool.now pass.old arena }
     requires within { 8 * word < given_of pass.old arena }
     ensures outside { IsOutside pool.now pass.new }
+    ensures pages { pass.new.pages ≡ pass.old.pages }
     ensures lasts { Lasts pass.old pass.new }
 {
     enter(pool, pass, arena)?;

@@ -1,4 +1,4 @@
-ghost use Rattle.fm_gate.specs.Standing.{IsOutside};
+ghost use Rattle.fm_bench.specs.Ready.{IsFree};
 
 use crate::gates::given;
 use crate::reuse::made_again;
@@ -29,7 +29,7 @@ fn turns<R: Wait>(
     bytes: u64,
     count: u64,
 ) -> Result<u64, Refusal>
-    requires { IsOutside pool pass }
+    requires { IsFree pool pass }
 {
     for _ in 0..count {
         let arena = given(rt, &pool, &mut pass, bytes)?;

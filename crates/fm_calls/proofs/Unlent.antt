@@ -1,5 +1,5 @@
--- What had ended stays so as a pass goes on, and words that were taken back from it aren't lent to it again.
-use Rattle.std.proofs.Common.{◌≡◌, true, List, [], ◌++◌, sym, ◌∙◌, subst, arith}
+-- What had ended stays so as a pass goes on: it gives no more, and words that were taken back from it aren't lent to it again.
+use Rattle.std.proofs.Common.{◌≡◌, true, List, [], ◌++◌, sym, ◌∙◌, subst, arith, ◌≤◌}
 use Rattle.std.specs.Prelude.{Contains}
 use Rattle.fm_base.specs.declared.arena_id.ArenaId.{ArenaId}
 use Rattle.fm_base.specs.Arenas.{State, has_arena, arena_of}
@@ -9,7 +9,8 @@ use Rattle.fm_base.specs.Histories.{IsLegal, state_after}
 use Rattle.fm_base.proofs.Growing as growing
 use Rattle.fm_words.specs.declared.shape.Shape.{Shape}
 use Rattle.fm_pool_facts.specs.Loans.{lent, IsUnlent, IsRightlyLent}
-use Rattle.fm_pool_facts.specs.Views.{View, In, IsSound, IsOver, limit_of, state_in}
+use Rattle.fm_pool_facts.specs.Views.{View, In, IsSound, IsOver, given_of, limit_of, state_in}
+use Rattle.fm_pool_facts.proofs.Ending.{given_later}
 use Rattle.fm_pool_facts.proofs.Unlending.{none_lent_later, over_later}
 use Rattle.fm_calls.specs.Kept.{Goes, HasEnded, HasNoWords}
 
@@ -36,6 +37,11 @@ module _ {p q : View} {own : List Entry} (id : ArenaId) (g : Goes p q own) (over
         empty = e.empty;
       }
 
+  -- It has given as many bytes.
+  pub given_on : given_of q id ≡ given_of p id
+  given_on = (λ j. (arena_of (state_after (limit_of (g.same_shape j)) [] (g.seen j)) id).given)
+      ∙ given_later (limit_of p.shape) p.seen g.more id legal over.known done
+
   -- It has no words still.
   pub no_words_on : HasNoWords p id → HasNoWords q id
   no_words_on none =
@@ -47,7 +53,7 @@ pub has_ended : {p : View} {id : ArenaId} → IsOver p id → HasEnded p id
 has_ended o = record { known = o.known; life = o.life }
 
 -- Nothing is lent to an arena whose sweep has come past its last part.
-pub no_words_swept : {p : View} (id : ArenaId) → IsSound p → (c : Close) → In c p.sweeps → c.arena ≡ id → c.visited ≡ p.shape.reach → HasNoWords p id
+pub no_words_swept : {p : View} (id : ArenaId) → IsSound p → (c : Close) → In c p.sweeps → c.arena ≡ id → p.shape.reach ≤ c.visited → HasNoWords p id
 no_words_swept {p = p} id sound c i e n l h q =
     let fits = (sound.loans l h).1 in
     let left = sound.unlent c i l h (q ∙ sym e) in absurd (omega arith)

@@ -1,5 +1,5 @@
 -- Acts inside an arena, and leaving it.
-use Rattle.std.proofs.Common.{◌≡◌, ◌⊎◌, ℕ, ◌/◌, ◌%◌, ◌<◌, List, [], refl, ap, sym, ◌∙◌, subst, inl, ⊎_elim, Option, Some, None}
+use Rattle.std.proofs.Common.{◌≡◌, ℕ, ◌/◌, ◌%◌, ◌<◌, List, [], refl, ap, sym, ◌∙◌, subst, ⊎_elim, Option, Some, None, inl}
 use Rattle.fm_base.specs.declared.caller.Caller.{Caller}
 use Rattle.fm_base.specs.declared.arena_id.ArenaId.{ArenaId}
 use Rattle.fm_base.specs.Calls.{Call, Leave, Reply, Fine, Entry}
@@ -159,6 +159,7 @@ module _ {p q : View} (s : Stepped p q (record p { inside = None; mark = None })
       goes = unmark_goes;
       rest = rest_is s;
     };
-    outside = stands_outside unmark_goes can.inside.of can.inside.no_number (hand_is s ∙ can.inside.no_slot) (swept_is s ∙ can.inside.no_part) (inside_is s) (mark_is s);
+    outside = stands_outside unmark_goes can.inside.of can.inside.no_number (hand_is s ∙ can.inside.no_slot) (swept_is s ∙ can.inside.no_part)
+        (inside_is s) (mark_is s);
     lasts = lasts_on unmark_goes;
   }

@@ -43,7 +43,13 @@ stands_by {pool = pool} {p = p} {q = q} more seen sound s =
         no_slot = s.hand ∙ o.no_slot;
         no_part = s.swept ∙ o.no_part;
       };
-      inside = λ a i. record { of = of i.of; inside = s.inside ∙ i.inside; no_number = s.drawn i.no_number; no_slot = s.hand ∙ i.no_slot; no_part = s.swept ∙ i.no_part };
+      inside = λ a i. record {
+        of = of i.of;
+        inside = s.inside ∙ i.inside;
+        no_number = s.drawn i.no_number;
+        no_slot = s.hand ∙ i.no_slot;
+        no_part = s.swept ∙ i.no_part;
+      };
       held = λ h can. record {
         of = of can.of;
         maker = can.maker ∙ (λ j. record { home = sym s.home j; caller = sym s.caller j });

@@ -68,7 +68,8 @@ module _ {pool : Pool} {p q r : View} {a : ArenaId} (word : ℕ) (can : CanVisit
       let s : Stepped q r (record q { inside = inside_found a found; reads = [] }) own none_noted =
       subst (λ (x : Option ℕ). Stepped q r (record q { inside = inside_found a x; reads = [] }) (entry_of p.caller (Enter a) (enter_found x) ∷ []) none_noted) e
       (subst (λ (c : Caller). Stepped q r
-      (record q { inside = inside_found a (alive_holds a word); reads = [] }) (entry_of c (Enter a) (enter_found (alive_holds a word)) ∷ []) none_noted) n checks) in
+      (record q { inside = inside_found a (alive_holds a word); reads = [] }) (entry_of c (Enter a) (enter_found (alive_holds a word)) ∷ []) none_noted)
+      n checks) in
       let out = ap (λ x. inside_after x own) (sym (marked.inside ∙ can.outside.outside)) in
       let on : IsOn q (record q { inside = inside_found a found; reads = [] }) own = record {
         shape = refl;

@@ -1,33 +1,30 @@
 -- Allocating inside an arena.
-use Rattle.std.proofs.Common.{◌≡◌, ◌≢◌, ℕ, ◌+◌, ◌==◌, ◌≤◌, nat_le, Bool, true, false, if◌then◌else◌, List, [], ◌∷◌, ◌++◌, refl, ap, sym, ◌∙◌, subst, Option, Some, None, Result, Ok, Err, All, eq-eqb, ne_eqb, append_assoc}
+use Rattle.std.proofs.Common.{◌≡◌, ◌≢◌, ℕ, ◌+◌, ◌*◌, ◌/◌, ◌<◌, ◌≤◌, ◌==◌, Bool, true, List, [], ◌∷◌, ◌++◌, refl, ap, sym, ◌∙◌, subst, All, ne_eqb, append_assoc}
 use Rattle.std.proofs.lemmas.List.{append-nil}
 use Rattle.std.proofs.lemmas.List.Elements.{All-append, All-head, All-nil, All-tail, All-weaker}
 use Rattle.fm_words.specs.declared.shape.Shape.{Shape}
 use Rattle.fm_base.specs.declared.caller.Caller.{Caller}
 use Rattle.fm_base.specs.declared.arena_id.ArenaId.{ArenaId}
-use Rattle.fm_base.specs.declared.refusal.Refusal.{Refusal}
-use Rattle.fm_base.specs.declared.refusal.Refusal.TheVariants as refusal
 use Rattle.fm_base.specs.Arenas.{State, arena_of}
-use Rattle.fm_base.specs.Calls.{Allocate, Call, Reply, Given, NoRoom, Entry, entry_of}
-use Rattle.fm_base.specs.Finds.{Close}
+use Rattle.fm_base.specs.Calls.{Allocate, Fine, Lend, Reply, Entry, entry_of}
 use Rattle.fm_base.specs.Histories.{state_after}
-use Rattle.fm_base.specs.Machine.{after, allocate_reply, rounded_up, state_by}
+use Rattle.fm_base.specs.Machine.{after, allocate_reply, rounded_up}
 use Rattle.fm_base.proofs.Making.{state_after-append}
 use Rattle.fm_pool_facts.specs.Scarcity.{IsScarce}
-use Rattle.fm_pool_facts.specs.Steps.{Stepped, none_noted, acted, where_found, room, HasParts}
+use Rattle.fm_pool_facts.specs.Steps.{Stepped, none_noted, acted, where_found}
 use Rattle.fm_pool_facts.specs.Views.{View, given_of, limit_of, state_in}
 use Rattle.fm_rule.specs.declared.pool.Pool.{Pool}
 use Rattle.fm_calls.specs.Kept.{Goes, rest_of}
 use Rattle.fm_pages.specs.Covers.{LendsIn}
-use Rattle.fm_pages.specs.Gives.{Tried, Unpaged, allocates}
+use Rattle.fm_pages.specs.Gives.{Tried, allocates}
 use Rattle.fm_pages.specs.Maps.{Way}
 use Rattle.fm_pages.proofs.Exact.{tried_exact}
 use Rattle.fm_pages.proofs.Gives.{way_allocate}
 use Rattle.fm_pages.proofs.Parts.{way_then, pages_way}
-use Rattle.fm_gate.specs.Giving.{Allocates, CanTry, DoesGive, LendsTo, NonePaged, AfterGive}
-use Rattle.fm_gate.specs.Pages.{FullExactly}
+use Rattle.fm_gate.specs.Giving.{CanTry, LendsTo}
+use Rattle.fm_gate.specs.Pages.{LendsInRange, given_after}
 use Rattle.fm_gate.specs.Standing.{IsInside}
-use Rattle.fm_gate.proofs.Scarce.{scarce_seen, clear}
+use Rattle.fm_gate.proofs.Scarce.{scarce_seen}
 use Rattle.fm_gate.proofs.Standing.{stands_inside}
 
 -- The pass stays inside on such a way.
@@ -43,6 +40,7 @@ rest_on {p = p} w none = ap rest_of w.is ∙ (λ j. record (rest_of p) { pages =
 pub record Giving (pool : Pool) (o p : View) (a : ArenaId) (size align count found : ℕ) : Type 0 where
   pub own : List Entry
   pub are : All (LendsTo o.caller a) own
+  pub in_range : All (LendsInRange o p a size align) own
   pub way : Way o p (own ++ allocates o a count size align found) []
   pub inside : IsInside pool p a
   pub learnt : found ≢ count → found ≡ given_of p a
@@ -50,10 +48,30 @@ pub record Giving (pool : Pool) (o p : View) (a : ArenaId) (size align count fou
   pub first : o.whole ≡ true → found ≢ count → p.seen ≡ o.seen
   pub exact : o.whole ≡ true → found ≡ count → ¬ (IsScarce o a size align)
 
+-- What is lent stays lent for the range.
+lends_on : {o p q : View} {a : ArenaId} {size align : ℕ} {e : Entry} {own : List Entry} → Goes p q own → LendsInRange o p a size align e
+    → LendsInRange o q a size align e
+lends_on w l = record {
+  page = l.page;
+  part = l.part;
+  is = l.is;
+  counted = l.counted;
+  count_stood = record {
+    since = l.count_stood.since;
+    until = (
+      l.count_stood.until.0 ++ w.more,
+      w.seen ∙ (ap (λ (es : List Entry). es ++ w.more) l.count_stood.until.1 ∙ append_assoc l.counted l.count_stood.until.0 w.more),
+    );
+  };
+  after = l.after;
+  before = l.before;
+}
+
 -- where another count was found nothing was given
 missed : (o : View) (a : ArenaId) (count size align found : ℕ) → found ≢ count → allocates o a count size align found ≡ []
 missed o a count size align found n =
-    ap (λ (b : Bool). where_found b (entry_of o.caller (Allocate a size align) (allocate_reply (limit_of o.shape) count size align) ∷ [])) (ne_eqb found count n)
+    let reply : Reply = allocate_reply (limit_of o.shape) count size align in
+    ap (λ (b : Bool). where_found b (entry_of o.caller (Allocate a size align) reply ∷ [])) (ne_eqb found count n)
 
 abbrev Exchanges : View → View → ℕ → ℕ → ℕ → ℕ → Type 0
 Exchanges p q count size align found =
@@ -66,6 +84,7 @@ pub gives_begin : {pool : Pool} {o m p : View} (a : ArenaId) (size align count f
 gives_begin {pool = pool} {o = o} {m = m} {p = p} a size align count found i c s l = record {
   own = [];
   are = All-nil (LendsTo o.caller a);
+  in_range = All-nil (LendsInRange o p a size align);
   way = way;
   inside = here;
   learnt = l;
@@ -73,7 +92,7 @@ gives_begin {pool = pool} {o = o} {m = m} {p = p} a size align count found i c s
   exact = tried_exact a count size align found [] (All-nil (LendsIn o a count (rounded_up count align + size))) way here.inside;
 }
   where
-    same : (m.shape, m.caller) ≡ (o.shape, o.caller)
+    same : ◌≡◌ {A = Shape × Caller} (m.shape, m.caller) (o.shape, o.caller)
     same = λ j. (c.way.goes.same_shape j, c.way.goes.same_caller j)
 
     way : Way o p (allocates o a count size align found) []
@@ -92,7 +111,7 @@ still limit c a s (e ∷ es) h =
     let one : after limit s e ≡ s = ap (λ (k : Entry). after limit s k) f.2 in
     ap (λ (t : State). state_after limit t es) one ∙ still limit c a s es (All-tail (LendsTo c a) e es h)
 
-lends_to : (v : View) (a : ArenaId) (from to : ℕ) (es : List Entry) → All (LendsIn v a from to) es → All (LendsTo v.caller a) es
+pub lends_to : (v : View) (a : ArenaId) (from to : ℕ) (es : List Entry) → All (LendsIn v a from to) es → All (LendsTo v.caller a) es
 lends_to v a from to es h = All-weaker (LendsIn v a from to) (LendsTo v.caller a) (λ e l. (l.0, l.1, l.4)) es h
 
 module _ {pool : Pool} {o p : View} {a : ArenaId} {size align count found : ℕ} (g : Giving pool o p a size align count found) (n : found ≢ count) where
@@ -104,10 +123,35 @@ module _ {pool : Pool} {o p : View} {a : ArenaId} {size align count found : ℕ}
   pub more_lent : (es : List Entry) → All (LendsTo p.caller a) es → All (LendsTo o.caller a) (g.own ++ es)
   more_lent es h = All-append (LendsTo o.caller a) g.own es g.are (subst (λ (c : Caller). All (LendsTo c a) es) g.way.goes.same_caller h)
 
-  module _ {q : View} {now : ℕ} (t : Tried p q a found size align now) where
-    abbrev to : ℕ
-    to = rounded_up found align + size
+  -- the count that the next try expects stood before it
+  pub count_is : given_after o p.seen a ≡ found
+  count_is = (λ j. (arena_of (state_after (limit_of (sym lent_way.goes.same_shape j)) [] p.seen) a).given) ∙ sym (g.learnt n)
 
+  abbrev pub to : ℕ
+  to = rounded_up found align + size
+
+  -- What that try lends is lent for the range too.
+  pub lends_for : {q : View} {es : List Entry} → Goes p q es → (xs : List Entry) → All (LendsIn p a found to) xs
+      → All (LendsInRange o q a size align) (g.own ++ xs)
+  lends_for {q = q} w xs h =
+      All-append (LendsInRange o q a size align) g.own xs (All-weaker (LendsInRange o p a size align) (LendsInRange o q a size align) (λ e l. lends_on w l)
+      g.own g.in_range) (All-weaker (LendsIn p a found to) (LendsInRange o q a size align) lends_now xs h)
+    where
+      same : ◌≡◌ {A = Shape × ℕ} (p.shape, found) (o.shape, given_after o p.seen a)
+      same = λ j. (lent_way.goes.same_shape j, sym count_is j)
+
+      lends_now : (e : Entry) → LendsIn p a found to e → LendsInRange o q a size align e
+      lends_now e l = record {
+        page = l.0;
+        part = l.1;
+        is = l.4 ∙ ap (λ (c : Caller). entry_of c (Lend l.0 a l.1) Fine) lent_way.goes.same_caller;
+        counted = p.seen;
+        count_stood = record { since = (lent_way.goes.more, lent_way.goes.seen); until = (w.more, w.seen) };
+        after = subst (λ (x : Shape × ℕ). x.1 / (x.0.page_words * 8) ≤ l.1) same l.2;
+        before = subst (λ (x : Shape × ℕ). l.1 * (x.0.page_words * 8) < rounded_up x.1 align + size) same l.3;
+      }
+
+  module _ {q : View} {now : ℕ} (t : Tried p q a found size align now) where
     -- a pass that is known to be whole finds the count that it has learnt
     found_still : o.whole ≡ true → now ≢ found → ⊥
     found_still whole other =
@@ -123,13 +167,14 @@ module _ {pool : Pool} {o p : View} {a : ArenaId} {size align count found : ℕ}
     -- A try more.
     pub gives_more : Giving pool o q a size align found now
     gives_more =
-        let same : (p.shape, p.caller) ≡ (o.shape, o.caller) = (λ j. (lent_way.goes.same_shape j, lent_way.goes.same_caller j)) in
+        let same : ◌≡◌ {A = Shape × Caller} (p.shape, p.caller) (o.shape, o.caller) = (λ j. (lent_way.goes.same_shape j, lent_way.goes.same_caller j)) in
         let next : Way p q (t.lends ++ allocates o a found size align now) [] =
         subst (λ (x : Shape × Caller). Way p q (t.lends ++ where_found (now == found) (entry_of x.1 (Allocate a size align)
         (allocate_reply (limit_of x.0) found size align) ∷ [])) []) same t.way in
         record {
           own = g.own ++ t.lends;
           are = more_lent t.lends (lends_to p a found to t.lends t.are);
+          in_range = lends_for t.way.goes t.lends t.are;
           way = subst (λ (es : List Entry). Way o q es []) (sym (append_assoc g.own t.lends (allocates o a found size align now))) (way_then lent_way next);
           inside = inside_on t.way g.inside;
           learnt = t.learnt;

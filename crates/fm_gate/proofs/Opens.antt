@@ -1,5 +1,5 @@
 -- What is learnt of opening an arena.
-use Rattle.std.proofs.Common.{◌≡◌, ℕ, Bool, if◌then◌else◌, List, [], ◌∷◌, refl, sym, ap, ◌∙◌, subst, inl}
+use Rattle.std.proofs.Common.{◌≡◌, ℕ, Bool, true, if◌then◌else◌, List, [], ◌∷◌, refl, sym, ap, ◌∙◌, subst, inl}
 use Rattle.std.specs.Prelude.{Ok, Err}
 use Rattle.fm_base.specs.declared.caller.Caller.{Caller}
 use Rattle.fm_base.specs.declared.arena_id.ArenaId.{ArenaId}
@@ -9,9 +9,11 @@ use Rattle.fm_base.specs.declared.refusal.Refusal.TheVariants as refusal
 use Rattle.fm_base.specs.Calls.{Entry, Open, Fine, entry_of}
 use Rattle.fm_base.proofs.Outcomes.{opened_new}
 use Rattle.fm_pool_facts.specs.Hands.{Hand, nothing}
+use Rattle.fm_pool_facts.specs.Loans.{lent, loans_after}
 use Rattle.fm_pool_facts.specs.Views.{View, In}
 use Rattle.fm_pool_facts.specs.Holds.{is_automatic, handles_with}
 use Rattle.fm_pool_facts.proofs.Gripping.{automatic}
+use Rattle.fm_pool_facts.proofs.Lending.{loans_after-append}
 use Rattle.fm_rule.specs.declared.pool.Pool.{Pool}
 use Rattle.fm_calls.specs.Kept.{Goes, rest_of, slots_told}
 use Rattle.fm_calls.specs.Told.{silent_view}
@@ -32,6 +34,11 @@ no_handle kind.Global hs = refl
 no_handle kind.Automatic hs = refl
 no_handle kind.Confined hs = refl
 no_handle kind.Shared hs = refl
+
+-- A whole pass whose entries lend nothing leaves the loans as they were.
+lends_none : {p q : View} {own : List Entry} → Goes p q own → loans_after (lent p.seen) own ≡ lent p.seen → p.whole ≡ true → lent q.seen ≡ lent p.seen
+lends_none {p = p} g none whole =
+    ap lent g.seen ∙ (loans_after-append [] p.seen g.more ∙ (ap (loans_after (lent p.seen)) (g.alone whole) ∙ none))
 
 -- What is learnt where no slot could be lent.
 pub after_no_slot : {pool : Pool} {p q : View} {k : Kind} → IsOutside pool p → NoneTaken p q → AfterOpen pool p q k (Err refusal.NoSlot)
@@ -56,6 +63,7 @@ after_no_slot {p = p} {q = q} {k = k} out n =
           is = is ∙ ap (λ (x : Hand). record p { seen = q.seen; finds = q.finds; hand = x }) (sym out.no_slot);
         },
       );
+      lends = lends_none n.went.goes refl;
       outside = stands_outside n.went.goes out.of out.no_number (ap (λ (x : View). x.hand) is) (ap (λ (x : View). x.swept) is ∙ out.no_part)
           (ap (λ (x : View). x.inside) is ∙ out.outside) (ap (λ (x : View). x.mark) is ∙ out.unmarked);
       lasts = lasts_on n.went.goes;
@@ -106,6 +114,7 @@ module _ {p m q : View} {a : ArenaId} {slot : ℕ} {k : Kind} (t : SlotTaken p m
     };
     slot = λ w all. t.idle w (all slot t.low);
     no_slot = tt;
+    lends = lends_none goes refl;
     outside = stands_outside goes out.of out.no_number (ap (λ (x : View). x.hand) is) (ap (λ (x : View). x.swept) is ∙ out.no_part)
         (ap (λ (x : View). x.inside) is ∙ out.outside) (ap (λ (x : View). x.mark) is ∙ out.unmarked);
     lasts = lasts_on goes;

@@ -1,8 +1,8 @@
 -- Reading which page each part of a range has.
-use Rattle.std.proofs.Common.{◌≡◌, ◌≢◌, ℕ, ◌+◌, ◌-◌, ◌*◌, ◌/◌, ◌==◌, ◌<◌, ◌≤◌, Bool, true, false, if◌then◌else◌, List, [], ◌∷◌, sym, refl, ap, subst, arith, inl, ne_eqb}
+use Rattle.std.proofs.Common.{◌≡◌, ◌≢◌, ℕ, ◌+◌, ◌-◌, ◌*◌, ◌/◌, ◌==◌, ◌<◌, ◌≤◌, Bool, true, false, if◌then◌else◌, [], ◌∷◌, sym, refl, ap, subst, arith, inl, ne_eqb}
 use Rattle.std.proofs.Math.Nat.{mul-le-mul_right, lt_of_not-le}
 use Rattle.fm_words.specs.declared.shape.Shape.{Shape}
-use Rattle.fm_pool_facts.specs.Parts.{Mapping, mapping_of, reads_after}
+use Rattle.fm_pool_facts.specs.Parts.{mapping_of, reads_after}
 use Rattle.fm_pool_facts.specs.Steps.{Stepped, none_noted}
 use Rattle.fm_pool_facts.specs.Views.{View, In, IsSound}
 use Rattle.fm_calls.proofs.Going.{goes_none}

@@ -1,13 +1,11 @@
 -- Whether pages are too few for an allocation.
-use Rattle.std.proofs.Common.{◌≡◌, ℕ, ◌+◌, ◌<◌, ◌≤◌, Bool, true, List, [], refl, ap, sym, ◌∙◌, subst, ◌&&◌}
+use Rattle.std.proofs.Common.{◌≡◌, ℕ, ◌+◌, ◌<◌, ◌≤◌, true, List, [], ap, sym, subst, ◌&&◌}
 use Rattle.fm_words.specs.declared.shape.Shape.{Shape}
 use Rattle.fm_base.specs.declared.arena_id.ArenaId.{ArenaId}
 use Rattle.fm_base.specs.Arenas.{arena_of}
-use Rattle.fm_base.specs.Calls.{Entry}
-use Rattle.fm_base.specs.Finds.{Close}
 use Rattle.fm_base.specs.Histories.{state_after}
 use Rattle.fm_base.specs.Machine.{rounded_up}
-use Rattle.fm_pool_facts.specs.Hands.{Hand, nothing, slots_in}
+use Rattle.fm_pool_facts.specs.Hands.{nothing, slots_in}
 use Rattle.fm_pool_facts.specs.Loans.{Loan, lent}
 use Rattle.fm_pool_facts.specs.Scarcity.{IsScarce, parts_before, lacking}
 use Rattle.fm_pool_facts.specs.Steps.{is_clear, is_empty}
@@ -23,11 +21,11 @@ scarce_by {p = p} {q = q} {a = a} {size = size} {align = align} shape given loan
 }
 
 -- what is seen alike is given alike
-pub given_by : {p q : View} (a : ArenaId) → q.shape ≡ p.shape → q.seen ≡ p.seen → given_of q a ≡ given_of p a
-given_by a shape seen = λ j. (arena_of (state_after (limit_of (shape j)) [] (seen j)) a).given
+given_by : (p q : View) (a : ArenaId) → q.shape ≡ p.shape → q.seen ≡ p.seen → given_of q a ≡ given_of p a
+given_by p q a shape seen = λ j. (arena_of (state_after (limit_of (shape j)) [] (seen j)) a).given
 
 pub scarce_seen : {p q : View} {a : ArenaId} {size align : ℕ} → q.shape ≡ p.shape → q.seen ≡ p.seen → IsScarce p a size align → IsScarce q a size align
-scarce_seen {a = a} shape seen s = scarce_by shape (given_by a shape seen) (ap lent seen) s
+scarce_seen {p = p} {q = q} {a = a} shape seen s = scarce_by shape (given_by p q a shape seen) (ap lent seen) s
 
 -- A pass is clear that is known to be whole, with no slot or page in its hand and no close that isn't swept.
 pub clear : (p : View) → p.whole ≡ true → p.hand ≡ nothing → p.pages ≡ [] → p.closes ≡ [] → p.sweeps ≡ [] → is_clear p ≡ true

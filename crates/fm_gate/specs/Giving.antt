@@ -8,13 +8,14 @@ use Rattle.fm_base.specs.Calls.{Lend, Allocate, Reply, Fine, Given, NoRoom, Entr
 use Rattle.fm_base.specs.Finds.{FoundNothing, is_page}
 use Rattle.fm_base.specs.Histories.{made_by}
 use Rattle.fm_base.specs.Machine.{rounded_up}
+use Rattle.fm_base.specs.View.{is_loan}
 use Rattle.fm_pool_facts.specs.Loans.{HasPart, lent}
-use Rattle.fm_pool_facts.specs.Views.{View, FewLeft, limit_of}
+use Rattle.fm_pool_facts.specs.Views.{View, FewLeft, In, limit_of}
 use Rattle.fm_pool_facts.specs.Steps.{HasParts}
 use Rattle.fm_rule.specs.declared.pool.Pool.{Pool}
 use Rattle.fm_calls.specs.Kept.{Kept}
 use Rattle.fm_pages.specs.Maps.{Way}
-use Rattle.fm_gate.specs.Pages.{IsDuring, IsInRange, FullExactly, given_after}
+use Rattle.fm_gate.specs.Pages.{IsDuring, IsInRange, FullExactly, LendsInRange, given_after}
 use Rattle.fm_gate.specs.Standing.{IsInside}
 
 -- ---- the count to expect first
@@ -74,3 +75,4 @@ pub record AfterGive (pool : Pool) (old new : View) (id : ArenaId) (size align :
   pub inside : IsInside pool new id
   pub no_page : result ≡ Err refusal.PoolFull → NonePaged old new id size align
   pub exact : old.whole ≡ true → old.closes ≡ [] → old.sweeps ≡ [] → FullExactly old id size align result
+  pub lends : (e : Entry) → In e did.own → is_loan e.call ≡ true → LendsInRange old new id size align e

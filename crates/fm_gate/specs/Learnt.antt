@@ -7,18 +7,19 @@ use Rattle.fm_base.specs.declared.kind.Kind.TheVariants.{Automatic}
 use Rattle.fm_base.specs.declared.refusal.Refusal.{Refusal}
 use Rattle.fm_base.specs.declared.refusal.Refusal.TheVariants.{WrongThread, NoSlot}
 use Rattle.fm_base.specs.declared.refusal.Refusal.TheVariants as refusal
-use Rattle.fm_base.specs.Calls.{Call, Allocate, Hold as Holding, Leave, Reply, Fine, Given, NoRoom, Entry, entry_of}
+use Rattle.fm_base.specs.Calls.{Call, Enter, Hold as Holding, Leave, Reply, Fine, Entry, entry_of}
 use Rattle.fm_base.specs.Finds.{FoundNothing, is_slot}
 use Rattle.fm_base.specs.Does.{DoesEnter, DoesAct, DoesPatch, DoesOpen, DoesAllocate, DoesIsAlive, DoesHold, DoesUnhold, DoesAgain}
 use Rattle.fm_base.specs.Outcomes.{Gives}
-use Rattle.fm_base.specs.View.{but_loans}
+use Rattle.fm_base.specs.View.{but_loans, is_loan}
 use Rattle.fm_pool_facts.specs.Views.{View, In, IsKnown, IsBusy}
+use Rattle.fm_pool_facts.specs.Loans.{lent}
 use Rattle.fm_pool_facts.specs.Holds.{grips, with_grips, holds_after, released}
 use Rattle.fm_pool_facts.specs.Words.{alive_holds, hold_found}
 use Rattle.fm_rule.specs.declared.pool.Pool.{Pool}
 use Rattle.fm_calls.specs.Kept.{Goes, Kept, KeptHolding, KeptHandling, Lasts, rest_of}
 use Rattle.fm_calls.specs.Told.{view_of_pass}
-use Rattle.fm_gate.specs.Pages.{FoundNoPage, FullExactly}
+use Rattle.fm_gate.specs.Pages.{FoundNoPage, FullExactly, LendsInRange}
 use Rattle.fm_gate.specs.Standing.{IsOutside, IsInside, CanUnhold, HasHandle}
 use Rattle.fm_gate.specs.declared.held.Hold.{Hold}
 
@@ -91,6 +92,8 @@ pub record AfterOpen (pool : Pool) (old new : View) (kind : Kind) (result : Resu
   pub handle : kind ≡ Automatic → IfOk result (λ id. HasHandle pool new id)
   pub slot : IfOk result (λ _. old.whole ≡ true → ¬ (AllBusy old))
   pub no_slot : IfErr result (λ refusal. (refusal ≡ NoSlot) × FoundNoSlot old new)
+  -- a pass that is known to be whole leaves the loans as they were: a new arena has no page
+  pub lends : old.whole ≡ true → lent new.seen ≡ lent old.seen
   pub outside : IsOutside pool new
   pub lasts : Lasts old new
 
@@ -107,6 +110,9 @@ pub record AfterAllocate (pool : Pool) (old new : View) (id : ArenaId) (size ali
   pub no_page : result ≡ Err refusal.PoolFull → FoundNoPage old new id size align
   -- a pass that is known to be whole, and has swept what it shut, is refused so exactly where pages are too few
   pub exact : old.whole ≡ true → old.closes ≡ [] → old.sweeps ≡ [] → FullExactly old id size align result
+  -- it lends pages for parts of its range alone, once it has entered
+  pub lends : (e : Entry) → In e did.own → is_loan e.call ≡ true
+      → In (entry_of old.caller (Enter id) Fine) did.own × LendsInRange old new id size align e
   -- then the pass is as it was
   pub bad_alignment : result ≡ Err refusal.BadAlignment → new ≡ old
   pub wrong_thread : result ≡ Err WrongThread → new ≡ old

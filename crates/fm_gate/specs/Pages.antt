@@ -4,7 +4,7 @@ use Rattle.fm_base.specs.declared.arena_id.ArenaId.{ArenaId}
 use Rattle.fm_base.specs.declared.refusal.Refusal.{Refusal}
 use Rattle.fm_base.specs.declared.refusal.Refusal.TheVariants as refusal
 use Rattle.fm_base.specs.Arenas.{arena_of}
-use Rattle.fm_base.specs.Calls.{Entry, Leave, Fine, entry_of}
+use Rattle.fm_base.specs.Calls.{Entry, Lend, Leave, Fine, entry_of}
 use Rattle.fm_base.specs.Finds.{FoundNothing, is_page}
 use Rattle.fm_base.specs.Histories.{made_by, state_after}
 use Rattle.fm_base.specs.Machine.{rounded_up}
@@ -40,6 +40,16 @@ pub record LackedPart (old new : View) (id : ArenaId) (size align : ℕ) : Type 
   pub lacked : ¬ (HasPart (lent at) id part)
   pub no_lend : made_by old.caller later ≡ entry_of old.caller (Leave id) Fine ∷ []
 
+-- the entry lends a page to the arena, as a part with a byte of the range that a count places which stood during the call
+pub record LendsInRange (old new : View) (id : ArenaId) (size align : ℕ) (e : Entry) : Type 0 where
+  pub page : ℕ
+  pub part : ℕ
+  pub is : e ≡ entry_of old.caller (Lend page id part) Fine
+  pub counted : List Entry
+  pub count_stood : IsDuring old new counted
+  pub after : given_after old counted id / (old.shape.page_words * 8) ≤ part
+  pub before : part * (old.shape.page_words * 8) < rounded_up (given_after old counted id) align + size
+
 -- of an allocation that is refused with PoolFull: the word of page bits was 0 at a step of the call
 pub record FoundNoPage (old new : View) (id : ArenaId) (size align : ℕ) : Type 0 where
   pub found : FoundNothing is_page old.finds new.finds
@@ -54,4 +64,5 @@ pub record FoundNoPage (old new : View) (id : ArenaId) (size align : ℕ) : Type
 abbrev pub FullExactly : View → ArenaId → (size align : ℕ) → Result ℕ Refusal → Type 0
 FullExactly old id size align (Ok place) = ¬ (IsScarce old id size align)
 FullExactly old id size align (Err refusal.PoolFull) = IsScarce old id size align
+FullExactly old id size align (Err (refusal.NoRoom given)) = ¬ (IsScarce old id size align)
 FullExactly old id size align (Err r) = ⊤

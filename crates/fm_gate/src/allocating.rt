@@ -67,10 +67,10 @@ fn give<R: Wait>(
     let mut found = step_allocate(pool, pass, a, count, size, align);
     for _ in rt.forever() {
         if found == count {
-            return match room(pool.limit(), count, size, align) {
-                Some(place) => Ok(place),
-                None => Err(Refusal::NoRoom(count)),
-            };
+            match room(pool.limit(), count, size, align) {
+                Some(place) => return Ok(place),
+                None => return Err(Refusal::NoRoom(count)),
+            }
         }
         count = found;
         match try_at(rt, pool, pass, a, count, size, align) {

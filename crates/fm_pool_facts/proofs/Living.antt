@@ -1,44 +1,22 @@
--- The facts of pages while their words are written and wiped, when pages are given back, and over what happens to arenas.
-use Rattle.std.proofs.Common.{◌≡◌, ◌≢◌, ◌⊎◌, ℕ, ◌+◌, ◌*◌, ◌/◌, ◌%◌, ◌<◌, ◌==◌, Bool, true, false, not, cond, filter, List, [], ◌∷◌, Option, Some, None, sym, refl, ap, ◌∙◌, subst, inl, inr, ⊎_elim, arith, eq-eqb, ne_eqb}
-use Rattle.std.specs.Prelude.{Contains}
+-- The facts of pages while their words are written and wiped, and over what happens to arenas.
+use Rattle.std.proofs.Common.{◌≡◌, ◌≢◌, ◌⊎◌, ℕ, ◌+◌, ◌*◌, ◌/◌, ◌%◌, ◌<◌, ◌≤◌, List, Option, Some, None, sym, refl, ap, ◌∙◌, subst, inl, inr, ⊎_elim, arith}
 use mathlib.Core.Logic.{dite}
 use native.Mathlib.Decide.{ℕ_discrete}
 use Rattle.std.proofs.Math.Nat.{div-add-mod}
-use Rattle.std.specs.Int.{bit_at}
-use Rattle.std.proofs.lemmas.List.Elements.{All-contains, filter_passes}
 use Rattle.fm_words.specs.declared.shape.Shape.{Shape}
 use Rattle.fm_base.specs.declared.arena_id.ArenaId.{ArenaId}
-use Rattle.fm_base.specs.Calls.{Lend, Back}
 use Rattle.fm_depicts.specs.Functions.{Stage, Fresh, Lives, Closes, Over, put, put_at}
 use Rattle.fm_depicts.proofs.Putting.{put_here, put_else, put_cases, at_cases}
-use Rattle.fm_pool_facts.specs.Loans.{Loan, loan_of, loans_by, IsFree, HasPart}
+use Rattle.fm_pool_facts.specs.Loans.{Loan}
 use Rattle.fm_pool_facts.specs.Facts.{Session, free, live, shut, IsShown, IsStanding, Sessions}
-use Rattle.fm_pool_facts.proofs.Lending.{loan_cases, loan_was}
-use Rattle.fm_pool_facts.proofs.Standing.{standing_known, standing_shown, one_standing, ended_apart}
-use Rattle.fm_pool_facts.specs.Berths.{Berth, loose, claimed, mapped, unmapped, IsAt, LentAt}
-use Rattle.fm_pool_facts.specs.Pages.{IsBlank, IsMapped, IsUnmapped, Pages}
-use Rattle.fm_pool_facts.proofs.Moving.{first_loan, more_loans}
-
--- an arena that has ended doesn't stand
-over_apart : (x : Stage) → x ≡ Over → ¬ (IsStanding x)
-over_apart x o (inl e) = let q : Over ≡ Lives = sym o ∙ e in absurd (cc)
-over_apart x o (inr e) = let q : Over ≡ Closes = sym o ∙ e in absurd (cc)
-
--- a loan of another block is kept when one is taken back
-kept_loan : (p : Loan → Bool) (loans : List Loan) (x : Loan) → Contains loans x → p x ≡ true → Contains (filter p loans) x
-kept_loan p [] x h e = absurd (let l = h.1 in omega arith)
-kept_loan p (y ∷ ys) x h e = go (p y) refl (loan_cases y x ys h) (λ i. kept_loan p ys x i e)
-  where
-    go : (b : Bool) → p y ≡ b → (y ≡ x) ⊎ Contains ys x → (Contains ys x → Contains (filter p ys) x) → Contains (cond b (y ∷ filter p ys) (filter p ys)) x
-    go true t (inl i) ih = subst (λ (w : Loan). Contains (w ∷ filter p ys) x) (sym i) (first_loan x (filter p ys))
-    go true t (inr i) ih = more_loans y x (filter p ys) (ih i)
-    go false t (inl i) ih = absurd (let q : true ≡ false = sym e ∙ (ap p (sym i) ∙ t) in cc)
-    go false t (inr i) ih = ih i
+use Rattle.fm_pool_facts.proofs.Standing.{standing_known, unstanding, standing_shown, shown_one, one_standing}
+use Rattle.fm_pool_facts.specs.Berths.{Berth, loose, claimed, mapped, unmapped}
+use Rattle.fm_pool_facts.specs.Pages.{IsBlank, IsBeyond, IsMapped, IsUnmapped, Pages}
+use Rattle.fm_pool_facts.proofs.Putting.{two_cases}
 
 module _ (z : Shape) (loans : List Loan) (bits : ℕ) (maps : ℕ → ℕ → Option ℕ) (cells : ℕ → ℕ → ℕ) (berth : ℕ → Berth) (sessions : ℕ → Session)
     (life : ArenaId → Stage) (word : ArenaId → ℕ → ℕ) (given : ArenaId → ℕ)
     (s : Sessions z sessions life) (r : Pages z loans bits maps cells berth sessions life word given) where
-
   -- ---- words
 
   -- the words of another page
@@ -48,6 +26,16 @@ module _ (z : Shape) (loans : List Loan) (bits : ℕ) (maps : ℕ → ℕ → Op
   blank_still : (p o x q : ℕ) → q ≢ p → IsBlank z cells q → IsBlank z (put cells p (put (cells p) o x)) q
   blank_still p o x q n b i h = other_cell p o x q i n ∙ b i h
 
+  -- a page is where it was, with other words or counts
+  mapped_with : {cells' : ℕ → ℕ → ℕ} {given' : ArenaId → ℕ} {q k c : ℕ} (y : IsMapped z loans maps cells sessions given q k c)
+      → IsBeyond z cells' (given' y.arena) q c → IsMapped z loans maps cells' sessions given' q k c
+  mapped_with y b =
+      record { page = y.page; part = y.part; named = y.named; arena = y.arena; slot = y.slot; shown = y.shown; lent = y.lent; beyond = b }
+
+  unmapped_with : {cells' : ℕ → ℕ → ℕ} {given' : ArenaId → ℕ} {q c : ℕ} {b : ArenaId} (y : IsUnmapped z loans cells life given q b c)
+      → IsBeyond z cells' (given' b) q c → IsUnmapped z loans cells' life given' q b c
+  unmapped_with y b = record { page = y.page; part = y.part; lent = y.lent; over = y.over; beyond = b }
+
   -- a page that a sweep has is nobody else's: its words are wiped
   pub pages_wipe : (p j i o : ℕ) (a : ArenaId) → berth p ≡ unmapped j a i
       → Pages z loans bits maps (put cells p (put (cells p) o 0)) berth sessions life word given
@@ -55,8 +43,11 @@ module _ (z : Shape) (loans : List Loan) (bits : ℕ) (maps : ℕ → ℕ → Op
     bit_is = r.bit_is;
     is_bit = r.is_bit;
     map_is = r.map_is;
-    mapped_is = r.mapped_is;
-    unmapped_is = r.unmapped_is;
+    mapped_is = λ q k c h. mapped_with (r.mapped_is q k c h)
+        (λ w n g. other_cell p o 0 q (w % z.page_words) (λ u. let x : mapped k c ≡ unmapped j a i = sym h ∙ (ap berth u ∙ e) in absurd (cc))
+        ∙ (r.mapped_is q k c h).beyond w n g);
+    unmapped_is = λ q k c b h. unmapped_with (r.unmapped_is q k c b h)
+        (λ w n g. two_cases cells p o 0 q (w % z.page_words) (λ (x : ℕ). x ≡ 0) (λ u v. refl) (λ u. (r.unmapped_is q k c b h).beyond w n g));
     claimed_is = λ q k h. let y = r.claimed_is q k h in
         (y.0, blank_still p o 0 q (λ w. let u : claimed k ≡ unmapped j a i = sym h ∙ (ap berth w ∙ e) in absurd (cc)) y.1);
     loose_is = λ q h. blank_still p o 0 q (λ w. let u : loose ≡ unmapped j a i = sym h ∙ (ap berth w ∙ e) in absurd (cc)) (r.loose_is q h);
@@ -72,14 +63,18 @@ module _ (z : Shape) (loans : List Loan) (bits : ℕ) (maps : ℕ → ℕ → Op
   }
 
   -- a word of an arena that stands is written
-  pub pages_write : (a : ArenaId) (w p x : ℕ) → IsStanding (life a) → maps a.slot (w / z.page_words) ≡ Some p
+  pub pages_write : (a : ArenaId) (w p x : ℕ) → IsStanding (life a) → maps a.slot (w / z.page_words) ≡ Some p → 8 * w < given a
       → Pages z loans bits maps (put cells p (put (cells p) (w % z.page_words) x)) berth sessions life (put_at word a (put (word a) w x)) given
-  pages_write a w p x st e = record {
+  pages_write a w p x st e has = record {
     bit_is = r.bit_is;
     is_bit = r.is_bit;
     map_is = r.map_is;
-    mapped_is = r.mapped_is;
-    unmapped_is = r.unmapped_is;
+    mapped_is = λ q k c h. mapped_with (r.mapped_is q k c h)
+        (λ v n g. two_cases cells p o x q (v % z.page_words) (λ (y : ℕ). y ≡ 0) (λ u m. absurd (within q k c h v n g u m))
+        (λ u. (r.mapped_is q k c h).beyond v n g));
+    unmapped_is = λ q k c b h. unmapped_with (r.unmapped_is q k c b h)
+        (λ v n g. other_cell p o x q (v % z.page_words) (λ u. let y : unmapped k b c ≡ mapped a.slot i = sym h ∙ (ap berth u ∙ here) in absurd (cc))
+        ∙ (r.unmapped_is q k c b h).beyond v n g);
     claimed_is = λ q k h. let y = r.claimed_is q k h in
         (y.0, blank_still p o x q (λ u. let n : claimed k ≡ mapped a.slot i = sym h ∙ (ap berth u ∙ here) in absurd (cc)) y.1);
     loose_is = λ q h. blank_still p o x q (λ u. let n : loose ≡ mapped a.slot i = sym h ∙ (ap berth u ∙ here) in absurd (cc)) (r.loose_is q h);
@@ -108,6 +103,22 @@ module _ (z : Shape) (loans : List Loan) (bits : ℕ) (maps : ℕ → ℕ → Op
       here : berth p ≡ mapped a.slot i
       here = r.map_is a.slot i p e
 
+      -- words of one place in one part are one
+      one : (v : ℕ) → v / z.page_words ≡ w / z.page_words → v % z.page_words ≡ w % z.page_words → v ≡ w
+      one v d m = sym (div-add-mod v z.page_words) ∙ ((λ j. z.page_words * d j + m j) ∙ div-add-mod w z.page_words)
+
+      -- a word of the page without a given byte isn't the one that is written
+      within : (q k c : ℕ) (h : berth q ≡ mapped k c) (v : ℕ) → v / z.page_words ≡ c → given (r.mapped_is q k c h).arena ≤ 8 * v → q ≡ p
+          → v % z.page_words ≡ o → ⊥
+      within q k c h v n g u m =
+          let y = r.mapped_is q k c h in
+          let f : mapped k c ≡ mapped a.slot i = sym h ∙ (ap berth u ∙ here) in
+          let slots : k ≡ a.slot = cc in
+          let parts : c ≡ i = cc in
+          let is : y.arena ≡ a = shown_one sessions y.arena a (y.slot ∙ slots) y.shown (standing_shown z sessions life s a st) in
+          let same : v ≡ w = one v (n ∙ parts) m in
+          let count : given y.arena ≡ given a = ap given is in omega arith
+
       -- a word of another page
       apart : (c : ArenaId) (v q : ℕ) → IsStanding (life c) → maps c.slot (v / z.page_words) ≡ Some q → q ≢ p
           → put_at word a (put (word a) w x) c v ≡ put cells p (put (cells p) o x) q (v % z.page_words)
@@ -133,90 +144,6 @@ module _ (z : Shape) (loans : List Loan) (bits : ℕ) (maps : ℕ → ℕ → Op
           (λ n. ap (λ (b : ArenaId). word b v) (sym g) ∙ (r.words c v q sc h ∙ (ap (λ (y : ℕ). cells y (v % z.page_words)) u
           ∙ sym (now ∙ put_else (cells p) o x (v % z.page_words) (λ m. n (one v parts m)))))))
           (λ g. absurd (g is))
-        where
-          one : (v : ℕ) → v / z.page_words ≡ w / z.page_words → v % z.page_words ≡ w % z.page_words → v ≡ w
-          one v d m = sym (div-add-mod v z.page_words) ∙ ((λ j. z.page_words * d j + m j) ∙ div-add-mod w z.page_words)
-
-  -- ---- pages are given back
-
-  module _ (bits' p : ℕ) (is_one : bit_at bits' p ≡ 1) (others : (k : ℕ) → k ≢ p → bit_at bits' k ≡ bit_at bits k) where
-    -- a page in a hand, which had lost the race for its map word or wasn't mapped
-    pub pages_give : (me : ℕ) → berth p ≡ claimed me → Pages z loans bits' maps cells (put berth p loose) sessions life word given
-    pages_give me mine = record {
-      bit_is = λ q e. dite (ℕ_discrete q p)
-          (λ w. (ap (put berth p loose) w ∙ put_here berth p loose, subst (λ (y : ℕ). y < z.pages) (sym w) (r.claimed_is p me mine).0))
-          (λ n. let y = r.bit_is q (sym (others q n) ∙ e) in (put_else berth p loose q n ∙ y.0, y.1));
-      is_bit = λ q h. put_cases berth p loose q (λ (b : Berth). b ≡ loose → bit_at bits' q ≡ 1)
-          (λ w e. ap (bit_at bits') w ∙ is_one)
-          (λ n e. others q n ∙ r.is_bit q h e);
-      map_is = λ k i q e. put_else berth p loose q (λ w. let u : mapped k i ≡ claimed me = sym (r.map_is k i q e) ∙ (ap berth w ∙ mine) in absurd (cc)) ∙ r.map_is k i q e;
-      mapped_is = λ q k i. put_cases berth p loose q (λ (b : Berth). b ≡ mapped k i → IsMapped z loans maps sessions q k i) (λ w e. absurd (cc)) (λ n e. r.mapped_is q k i e);
-      unmapped_is = λ q j i a. put_cases berth p loose q (λ (b : Berth). b ≡ unmapped j a i → IsUnmapped z loans life q a i)
-          (λ w e. absurd (cc)) (λ n e. r.unmapped_is q j i a e);
-      claimed_is = λ q j. put_cases berth p loose q (λ (b : Berth). b ≡ claimed j → (q < z.pages) × IsBlank z cells q) (λ w e. absurd (cc)) (λ n e. r.claimed_is q j e);
-      loose_is = λ q. put_cases berth p loose q (λ (b : Berth). b ≡ loose → IsBlank z cells q)
-          (λ w e. subst (IsBlank z cells) (sym w) (r.claimed_is p me mine).1)
-          (λ n e. r.loose_is q e);
-      lent_is = λ l h. put_cases berth p loose l.block (λ (b : Berth). LentAt b l)
-          (λ w. subst (λ (b : Berth). LentAt b l) (ap berth w ∙ mine) (r.lent_is l h))
-          (λ n. r.lent_is l h);
-      only_loan = r.only_loan;
-      empty = r.empty;
-      words = r.words;
-      bare = r.bare;
-      covered = r.covered;
-      new_words = r.new_words;
-      new_given = r.new_given;
-    }
-
-    -- a page of a sweep that was wiped: its loan is taken back
-    pub pages_back : (me i : ℕ) (a : ArenaId) → berth p ≡ unmapped me a i → IsBlank z cells p
-        → Pages z (loans_by loans (Back p)) bits' maps cells (put berth p loose) sessions life word given
-    pages_back me i a mine blank = record {
-      bit_is = λ q e. dite (ℕ_discrete q p)
-          (λ w. (ap (put berth p loose) w ∙ put_here berth p loose, subst (λ (y : ℕ). y < z.pages) (sym w) (r.unmapped_is p me i a mine).page))
-          (λ n. let y = r.bit_is q (sym (others q n) ∙ e) in (put_else berth p loose q n ∙ y.0, y.1));
-      is_bit = λ q h. put_cases berth p loose q (λ (b : Berth). b ≡ loose → bit_at bits' q ≡ 1)
-          (λ w e. ap (bit_at bits') w ∙ is_one)
-          (λ n e. others q n ∙ r.is_bit q h e);
-      map_is = λ k c q e. put_else berth p loose q (far k c q e) ∙ r.map_is k c q e;
-      mapped_is = λ q k c. put_cases berth p loose q (λ (b : Berth). b ≡ mapped k c → IsMapped z loans' maps sessions q k c)
-          (λ w e. absurd (cc))
-          (λ n e. let y = r.mapped_is q k c e in
-          record { page = y.page; part = y.part; named = y.named; arena = y.arena; slot = y.slot; shown = y.shown; lent = stays (loan_of q y.arena c) y.lent n });
-      unmapped_is = λ q j c b. put_cases berth p loose q (λ (x : Berth). x ≡ unmapped j b c → IsUnmapped z loans' life q b c)
-          (λ w e. absurd (cc))
-          (λ n e. let y = r.unmapped_is q j c b e in record { page = y.page; part = y.part; lent = stays (loan_of q b c) y.lent n; over = y.over });
-      claimed_is = λ q j. put_cases berth p loose q (λ (b : Berth). b ≡ claimed j → (q < z.pages) × IsBlank z cells q) (λ w e. absurd (cc)) (λ n e. r.claimed_is q j e);
-      loose_is = λ q. put_cases berth p loose q (λ (b : Berth). b ≡ loose → IsBlank z cells q)
-          (λ w e. subst (IsBlank z cells) (sym w) blank)
-          (λ n e. r.loose_is q e);
-      lent_is = λ l h. put_cases berth p loose l.block (λ (b : Berth). LentAt b l)
-          (λ w. absurd (gone l h w))
-          (λ n. r.lent_is l (loan_was keep loans l h));
-      only_loan = λ l x h k e. r.only_loan l x (loan_was keep loans l h) (loan_was keep loans x k) e;
-      empty = r.empty;
-      words = r.words;
-      bare = r.bare;
-      covered = r.covered;
-      new_words = r.new_words;
-      new_given = r.new_given;
-    }
-      where
-        keep : Loan → Bool
-        keep l = not (l.block == p)
-
-        loans' : List Loan
-        loans' = filter keep loans
-
-        stays : (l : Loan) → Contains loans l → l.block ≢ p → Contains loans' l
-        stays l h n = kept_loan keep loans l h (ap not (ne_eqb l.block p n))
-
-        gone : (l : Loan) → Contains loans' l → l.block ≢ p
-        gone l h w = let t : not true ≡ true = ap not (sym (eq-eqb l.block p w)) ∙ All-contains (λ x. keep x ≡ true) loans' l (filter_passes keep loans) h in absurd (cc)
-
-        far : (k c q : ℕ) → maps k c ≡ Some q → q ≢ p
-        far k c q e w = let u : mapped k c ≡ unmapped me a i = sym (r.map_is k c q e) ∙ (ap berth w ∙ mine) in absurd (cc)
 
   -- ---- what happens to arenas
 
@@ -229,7 +156,9 @@ module _ (z : Shape) (loans : List Loan) (bits : ℕ) (maps : ℕ → ℕ → Op
     stood : (b : ArenaId) → IsStanding (life' b) → IsStanding (life b) ⊎ ((life b ≡ Fresh) × ((i : ℕ) → maps b.slot i ≡ None))
     fresh : (b : ArenaId) → life' b ≡ Fresh → life b ≡ Fresh
 
-  pub pages_alter : (sessions' : ℕ → Session) (life' : ArenaId → Stage) → Alters sessions' life' → Pages z loans bits maps cells berth sessions' life' word given
+  -- the facts of pages last over such a change
+  pub pages_alter : (sessions' : ℕ → Session) (life' : ArenaId → Stage) → Alters sessions' life'
+      → Pages z loans bits maps cells berth sessions' life' word given
   pages_alter sessions' life' c = record {
     bit_is = r.bit_is;
     is_bit = r.is_bit;
@@ -244,8 +173,10 @@ module _ (z : Shape) (loans : List Loan) (bits : ℕ) (maps : ℕ → ℕ → Op
           slot = y.slot;
           shown = c.shown y.arena i p (ap (λ (x : ℕ). maps x i) y.slot ∙ y.named) y.shown;
           lent = y.lent;
+          beyond = y.beyond;
         };
-    unmapped_is = λ p j i a e. let y = r.unmapped_is p j i a e in record { page = y.page; part = y.part; lent = y.lent; over = c.over a y.over };
+    unmapped_is = λ p j i a e. let y = r.unmapped_is p j i a e in
+        record { page = y.page; part = y.part; lent = y.lent; over = c.over a y.over; beyond = y.beyond };
     claimed_is = r.claimed_is;
     loose_is = r.loose_is;
     lent_is = r.lent_is;
@@ -267,6 +198,7 @@ module _ (z : Shape) (loans : List Loan) (bits : ℕ) (maps : ℕ → ℕ → Op
     new_given = λ b f. r.new_given b (c.fresh b f);
   }
 
+  -- an arena is shut
   pub pages_shut : (a : ArenaId) → life a ≡ Lives → Pages z loans bits maps cells berth (put sessions a.slot (shut a)) (put_at life a Closes) word given
   pages_shut a l = pages_alter (put sessions a.slot (shut a)) (put_at life a Closes) (record {
     shown = λ b i p e h. put_cases sessions a.slot (shut a) b.slot (λ (x : Session). (x ≡ live b) ⊎ (x ≡ shut b))
@@ -281,17 +213,19 @@ module _ (z : Shape) (loans : List Loan) (bits : ℕ) (maps : ℕ → ℕ → Op
     fresh = λ b. at_cases life a Closes b (λ (x : Stage). x ≡ Fresh → life b ≡ Fresh) (λ e q. absurd (cc)) (λ n q. q);
   })
 
+  -- an arena ends
   pub pages_end : (a : ArenaId) → life a ≡ Closes → Pages z loans bits maps cells berth sessions (put_at life a Over) word given
   pages_end a l = pages_alter sessions (put_at life a Over) (record {
     shown = λ b i p e h. h;
     over = λ b o. at_cases life a Over b (λ (x : Stage). x ≡ Over) (λ e. refl) (λ n. o);
     none = r.empty;
     stood = λ b. at_cases life a Over b (λ (x : Stage). IsStanding x → IsStanding (life b) ⊎ ((life b ≡ Fresh) × ((i : ℕ) → maps b.slot i ≡ None)))
-        (λ e q. absurd (over_apart Over refl q))
+        (λ e q. absurd (unstanding Over refl q))
         (λ n q. inl q);
     fresh = λ b. at_cases life a Over b (λ (x : Stage). x ≡ Fresh → life b ≡ Fresh) (λ e q. absurd (cc)) (λ n q. q);
   })
 
+  -- an arena is opened in a free slot
   pub pages_open : (a : ArenaId) → sessions a.slot ≡ free a.generation → life a ≡ Fresh
       → Pages z loans bits maps cells berth (put sessions a.slot (live a)) (put_at life a Lives) word given
   pages_open a f new = pages_alter (put sessions a.slot (live a)) (put_at life a Lives) (record {
@@ -321,15 +255,21 @@ module _ (z : Shape) (loans : List Loan) (bits : ℕ) (maps : ℕ → ℕ → Op
     fresh = λ b q. q;
   })
 
-  -- bytes are given where each of their words has a page
-  pub pages_given : (a : ArenaId) (n : ℕ) → IsStanding (life a) → ((w : ℕ) → 8 * w < n → maps a.slot (w / z.page_words) ≢ None)
+  -- more bytes are given where each of their words has a page
+  pub pages_given : (a : ArenaId) (n : ℕ) → IsStanding (life a) → given a ≤ n → ((w : ℕ) → 8 * w < n → maps a.slot (w / z.page_words) ≢ None)
       → Pages z loans bits maps cells berth sessions life word (put_at given a n)
-  pages_given a n st has = record {
+  pages_given a n st more has = record {
     bit_is = r.bit_is;
     is_bit = r.is_bit;
     map_is = r.map_is;
-    mapped_is = r.mapped_is;
-    unmapped_is = r.unmapped_is;
+    mapped_is = λ q k c h. mapped_with (r.mapped_is q k c h)
+        (λ w u. at_cases given a n (r.mapped_is q k c h).arena (λ (x : ℕ). x ≤ 8 * w → cells q (w % z.page_words) ≡ 0)
+        (λ e g. (r.mapped_is q k c h).beyond w u (let y = ap given e in omega arith))
+        (λ e g. (r.mapped_is q k c h).beyond w u g));
+    unmapped_is = λ q k c b h. unmapped_with (r.unmapped_is q k c b h)
+        (λ w u. at_cases given a n b (λ (x : ℕ). x ≤ 8 * w → cells q (w % z.page_words) ≡ 0)
+        (λ e g. absurd (unstanding (life b) (r.unmapped_is q k c b h).over (subst (λ (y : ArenaId). IsStanding (life y)) (sym e) st)))
+        (λ e g. (r.unmapped_is q k c b h).beyond w u g));
     claimed_is = r.claimed_is;
     loose_is = r.loose_is;
     lent_is = r.lent_is;

@@ -1,61 +1,55 @@
 -- The facts of pages over the steps that move them.
-use Rattle.std.proofs.Common.{◌≡◌, ◌≢◌, ◌⊎◌, ℕ, ◌*◌, ◌/◌, ◌%◌, ◌<◌, ◌==◌, Bool, true, false, not, filter, List, [], ◌∷◌, Option, Some, None, sym, refl, ap, ◌∙◌, subst, inl, inr, ⊎_elim, arith, eq-eqb, ne_eqb}
+use Rattle.std.proofs.Common.{◌≡◌, ◌≢◌, ℕ, ◌/◌, ◌%◌, ◌<◌, List, [], ◌∷◌, Option, Some, None, sym, refl, ap, ◌∙◌, subst, inr, ⊎_elim, arith}
 use Rattle.std.specs.Prelude.{Contains}
 use mathlib.Core.Logic.{dite}
 use native.Mathlib.Decide.{ℕ_discrete}
 use Rattle.std.proofs.Math.Nat.{mod-lt}
 use Rattle.std.specs.Int.{bit_at}
-use Rattle.std.proofs.lemmas.List.Elements.{All-weaker, All-contains, All-contains_itself, filter_passes, Contains-append_left, Contains-append_right, Contains-push}
+use Rattle.std.proofs.lemmas.List.Elements.{All-weaker, All-contains, All-contains_itself, Contains-append_left, Contains-append_right, Contains-push}
 use Rattle.fm_words.specs.declared.shape.Shape.{Shape}
 use Rattle.fm_base.specs.declared.arena_id.ArenaId.{ArenaId}
-use Rattle.fm_base.specs.Calls.{Lend, Back}
-use Rattle.fm_depicts.specs.Functions.{Stage, Fresh, Lives, Closes, Over, put, put_at}
-use Rattle.fm_depicts.proofs.Putting.{put_here, put_else, put_cases, at_cases}
+use Rattle.fm_base.specs.Calls.{Lend}
+use Rattle.fm_depicts.specs.Functions.{Stage, Lives, Closes, Over, put}
+use Rattle.fm_depicts.proofs.Putting.{put_here, put_else, put_cases}
 use Rattle.fm_pool_facts.proofs.Putting.{two_cases}
 use Rattle.fm_pool_facts.specs.Loans.{Loan, loan_of, loans_by, IsFree, HasPart}
 use Rattle.fm_pool_facts.specs.Facts.{Session, free, live, shut, IsShown, IsStanding, Sessions}
-use Rattle.fm_pool_facts.proofs.Lending.{loan_cases, loan_was}
-use Rattle.fm_pool_facts.proofs.Standing.{standing_shown, one_standing, ended_apart}
-use Rattle.fm_pool_facts.specs.Berths.{Berth, loose, claimed, mapped, unmapped, IsAt, LentAt}
-use Rattle.fm_pool_facts.specs.Pages.{IsBlank, IsMapped, IsUnmapped, Pages}
+use Rattle.fm_pool_facts.proofs.Lending.{loan_cases}
+use Rattle.fm_pool_facts.proofs.Standing.{standing_shown, shown_one, ended_apart}
+use Rattle.fm_pool_facts.specs.Berths.{Berth, loose, claimed, mapped, unmapped, LentAt}
+use Rattle.fm_pool_facts.specs.Pages.{IsBlank, IsBeyond, IsMapped, IsUnmapped, Pages}
 
+-- a list of loans has its first one
 pub first_loan : (l : Loan) (loans : List Loan) → Contains (l ∷ loans) l
 first_loan l loans = Contains-append_left (l ∷ []) loans l (Contains-push [] l)
 
+-- and all that come after it
 pub more_loans : (l x : Loan) (loans : List Loan) → Contains loans x → Contains (l ∷ loans) x
 more_loans l x loans h = Contains-append_right (l ∷ []) loans x h
 
 module _ (z : Shape) (loans : List Loan) (bits : ℕ) (maps : ℕ → ℕ → Option ℕ) (cells : ℕ → ℕ → ℕ) (berth : ℕ → Berth) (sessions : ℕ → Session)
     (life : ArenaId → Stage) (word : ArenaId → ℕ → ℕ) (given : ArenaId → ℕ)
     (some_words : 0 < z.page_words) (s : Sessions z sessions life) (r : Pages z loans bits maps cells berth sessions life word given) where
-
   -- ---- what the facts say together
 
   -- a page that no loan may have is free
   pub free_of : (p : ℕ) → ((l : Loan) → ¬ (LentAt (berth p) l)) → IsFree loans p
-  free_of p n = All-weaker (Contains loans) (λ l. l.block ≢ p) (λ l h e. n l (subst (λ (q : ℕ). LentAt (berth q) l) e (r.lent_is l h))) loans (All-contains_itself loans)
+  free_of p n = All-weaker (Contains loans) (λ l. l.block ≢ p) (λ l h e. n l (subst (λ (q : ℕ). LentAt (berth q) l) e (r.lent_is l h))) loans
+      (All-contains_itself loans)
 
+  -- so a page whose bit is 1 is free
   pub loose_free : (p : ℕ) → berth p ≡ loose → IsFree loans p
   loose_free p e = free_of p (λ l. subst (λ (b : Berth). ¬ (LentAt b l)) (sym e) (λ x. x))
 
+  -- and one that is in a hand
   pub claimed_free : (p j : ℕ) → berth p ≡ claimed j → IsFree loans p
   claimed_free p j e = free_of p (λ l. subst (λ (b : Berth). ¬ (LentAt b l)) (sym e) (λ x. x))
-
-  -- what a session shows of a slot is one arena
-  shown_one : (a b : ArenaId) → a.slot ≡ b.slot → IsShown sessions a → IsShown sessions b → a ≡ b
-  shown_one a b e x y = both (subst (λ (k : ℕ). (sessions k ≡ live a) ⊎ (sessions k ≡ shut a)) e x) y
-    where
-      both : (sessions b.slot ≡ live a) ⊎ (sessions b.slot ≡ shut a) → (sessions b.slot ≡ live b) ⊎ (sessions b.slot ≡ shut b) → a ≡ b
-      both (inl u) (inl v) = cc
-      both (inl u) (inr v) = absurd (cc)
-      both (inr u) (inl v) = absurd (cc)
-      both (inr u) (inr v) = cc
 
   -- a mapped part of an arena that its session shows is lent, and its only loan is of that page
   pub mapped_lent : (a : ArenaId) (i p : ℕ) → IsShown sessions a → maps a.slot i ≡ Some p → Contains loans (loan_of p a i)
   mapped_lent a i p x e =
       let y = r.mapped_is p a.slot i (r.map_is a.slot i p e) in
-      subst (λ (b : ArenaId). Contains loans (loan_of p b i)) (shown_one y.arena a y.slot y.shown x) y.lent
+      subst (λ (b : ArenaId). Contains loans (loan_of p b i)) (shown_one sessions y.arena a y.slot y.shown x) y.lent
 
   -- a lent part of an arena that stands is mapped to its page
   pub lent_mapped : (a : ArenaId) (i p : ℕ) → IsStanding (life a) → Contains loans (loan_of p a i) → maps a.slot i ≡ Some p
@@ -87,12 +81,13 @@ module _ (z : Shape) (loans : List Loan) (bits : ℕ) (maps : ℕ → ℕ → Op
         is_bit = λ p low. put_cases berth bit (claimed me) p (λ (b : Berth). b ≡ loose → bit_at bits' p ≡ 1)
             (λ q e. absurd (cc))
             (λ n e. others p n ∙ r.is_bit p low e);
-        map_is = λ k i p e. put_else berth bit (claimed me) p (λ q. let u : loose ≡ mapped k i = sym was.0 ∙ (ap berth (sym q) ∙ r.map_is k i p e) in absurd (cc))
+        map_is = λ k i p e. put_else berth bit (claimed me) p (λ q. let u : loose ≡ mapped k i = sym was.0 ∙ (ap berth (sym q) ∙ r.map_is k i p e) in
+            absurd (cc))
             ∙ r.map_is k i p e;
-        mapped_is = λ p k i. put_cases berth bit (claimed me) p (λ (b : Berth). b ≡ mapped k i → IsMapped z loans maps sessions p k i)
+        mapped_is = λ p k i. put_cases berth bit (claimed me) p (λ (b : Berth). b ≡ mapped k i → IsMapped z loans maps cells sessions given p k i)
             (λ q e. absurd (cc))
             (λ n e. r.mapped_is p k i e);
-        unmapped_is = λ p j i a. put_cases berth bit (claimed me) p (λ (b : Berth). b ≡ unmapped j a i → IsUnmapped z loans life p a i)
+        unmapped_is = λ p j i a. put_cases berth bit (claimed me) p (λ (b : Berth). b ≡ unmapped j a i → IsUnmapped z loans cells life given p a i)
             (λ q e. absurd (cc))
             (λ n e. r.unmapped_is p j i a e);
         claimed_is = λ p j. put_cases berth bit (claimed me) p (λ (b : Berth). b ≡ claimed j → (p < z.pages) × IsBlank z cells p)
@@ -114,7 +109,8 @@ module _ (z : Shape) (loans : List Loan) (bits : ℕ) (maps : ℕ → ℕ → Op
   -- ---- a page in a hand is mapped
 
   pub pages_map : (me : ℕ) (a : ArenaId) (i p : ℕ) → IsStanding (life a) → i < z.reach → maps a.slot i ≡ None → berth p ≡ claimed me
-      → Pages z (loans_by loans (Lend p a i)) bits (put maps a.slot (put (maps a.slot) i (Some p))) cells (put berth p (mapped a.slot i)) sessions life word given
+      → Pages z (loans_by loans (Lend p a i)) bits (put maps a.slot (put (maps a.slot) i (Some p))) cells
+      (put berth p (mapped a.slot i)) sessions life word given
   pages_map me a i p st low none mine = record {
     bit_is = λ q e. let y = r.bit_is q e in
         (put_else berth p here q (λ w. let u : loose ≡ claimed me = sym y.0 ∙ (ap berth w ∙ mine) in absurd (cc)) ∙ y.0, y.1);
@@ -123,7 +119,7 @@ module _ (z : Shape) (loans : List Loan) (bits : ℕ) (maps : ℕ → ℕ → Op
         (λ e f x. let w : p ≡ q = cc in ap (put berth p here) (sym w) ∙ (put_here berth p here ∙ (λ j. mapped (sym e j) (sym f j))))
         (λ ne x. let y = r.map_is k c q x in
         put_else berth p here q (λ w. let u : mapped k c ≡ claimed me = sym y ∙ (ap berth w ∙ mine) in absurd (cc)) ∙ y);
-    mapped_is = λ q k c. put_cases berth p here q (λ (b : Berth). b ≡ mapped k c → IsMapped z loans' maps' sessions q k c)
+    mapped_is = λ q k c. put_cases berth p here q (λ (b : Berth). b ≡ mapped k c → IsMapped z loans' maps' cells sessions given q k c)
         (λ e x. let f : a.slot ≡ k = cc in let g : i ≡ c = cc in new q k c e f g)
         (λ ne x.
         let y = r.mapped_is q k c x in
@@ -136,15 +132,18 @@ module _ (z : Shape) (loans : List Loan) (bits : ℕ) (maps : ℕ → ℕ → Op
           slot = y.slot;
           shown = y.shown;
           lent = more_loans (loan_of p a i) (loan_of q y.arena c) loans y.lent;
+          beyond = y.beyond;
         });
-    unmapped_is = λ q j c b. put_cases berth p here q (λ (x : Berth). x ≡ unmapped j b c → IsUnmapped z loans' life q b c)
+    unmapped_is = λ q j c b. put_cases berth p here q (λ (x : Berth). x ≡ unmapped j b c → IsUnmapped z loans' cells life given q b c)
         (λ e x. absurd (cc))
         (λ ne x. let y = r.unmapped_is q j c b x in
-        record { page = y.page; part = y.part; lent = more_loans (loan_of p a i) (loan_of q b c) loans y.lent; over = y.over });
-    claimed_is = λ q j. put_cases berth p here q (λ (b : Berth). b ≡ claimed j → (q < z.pages) × IsBlank z cells q) (λ e x. absurd (cc)) (λ ne x. r.claimed_is q j x);
+        record { page = y.page; part = y.part; lent = more_loans (loan_of p a i) (loan_of q b c) loans y.lent; over = y.over; beyond = y.beyond });
+    claimed_is = λ q j. put_cases berth p here q (λ (b : Berth). b ≡ claimed j → (q < z.pages) × IsBlank z cells q) (λ e x. absurd (cc))
+        (λ ne x. r.claimed_is q j x);
     loose_is = λ q. put_cases berth p here q (λ (b : Berth). b ≡ loose → IsBlank z cells q) (λ e x. absurd (cc)) (λ ne x. r.loose_is q x);
     lent_is = λ l h. ⊎_elim
-        (λ (e : loan_of p a i ≡ l). subst (λ (x : Loan). LentAt (put berth p here x.block) x) e (subst (λ (b : Berth). LentAt b (loan_of p a i)) (sym (put_here berth p here)) (refl, refl)))
+        (λ (e : loan_of p a i ≡ l). subst (λ (x : Loan). LentAt (put berth p here x.block) x) e
+        (subst (λ (b : Berth). LentAt b (loan_of p a i)) (sym (put_here berth p here)) (refl, refl)))
         (λ (h : Contains loans l). put_cases berth p here l.block (λ (b : Berth). LentAt b l)
         (λ q. absurd (subst (λ (b : Berth). LentAt b l) (ap berth q ∙ mine) (r.lent_is l h)))
         (λ n. r.lent_is l h))
@@ -164,10 +163,13 @@ module _ (z : Shape) (loans : List Loan) (bits : ℕ) (maps : ℕ → ℕ → Op
         (λ n. r.empty k g c f);
     words = λ c w q sc. two_cases maps a.slot i (Some p) c.slot (w / z.page_words) (λ (x : Option ℕ). x ≡ Some q → word c w ≡ cells q (w % z.page_words))
         (λ e f x. let same : p ≡ q = cc in
-        r.bare c w sc ((λ j. maps (e j) (f j)) ∙ none) ∙ sym (ap (λ (y : ℕ). cells y (w % z.page_words)) (sym same) ∙ (r.claimed_is p me mine).1 (w % z.page_words) (mod-lt w some_words)))
+        r.bare c w sc ((λ j. maps (e j) (f j)) ∙ none)
+        ∙ sym (ap (λ (y : ℕ). cells y (w % z.page_words)) (sym same) ∙ (r.claimed_is p me mine).1 (w % z.page_words) (mod-lt w some_words)))
         (λ n x. r.words c w q sc x);
-    bare = λ c w sc. two_cases maps a.slot i (Some p) c.slot (w / z.page_words) (λ (x : Option ℕ). x ≡ None → word c w ≡ 0) (λ e f x. absurd (cc)) (λ n x. r.bare c w sc x);
-    covered = λ c w sc h. two_cases maps a.slot i (Some p) c.slot (w / z.page_words) (λ (x : Option ℕ). x ≢ None) (λ e f x. absurd (cc)) (λ n. r.covered c w sc h);
+    bare = λ c w sc. two_cases maps a.slot i (Some p) c.slot (w / z.page_words) (λ (x : Option ℕ). x ≡ None → word c w ≡ 0) (λ e f x. absurd (cc))
+        (λ n x. r.bare c w sc x);
+    covered = λ c w sc h. two_cases maps a.slot i (Some p) c.slot (w / z.page_words) (λ (x : Option ℕ). x ≢ None) (λ e f x. absurd (cc))
+        (λ n. r.covered c w sc h);
     new_words = r.new_words;
     new_given = r.new_given;
   }
@@ -190,15 +192,17 @@ module _ (z : Shape) (loans : List Loan) (bits : ℕ) (maps : ℕ → ℕ → Op
           (λ (q : sessions a.slot ≡ shut a). let u : free g ≡ shut a = sym f ∙ (ap sessions e ∙ q) in absurd (cc))
           (standing_shown z sessions life s a st)
 
-      new : (q k c : ℕ) → q ≡ p → a.slot ≡ k → i ≡ c → IsMapped z loans' maps' sessions q k c
+      new : (q k c : ℕ) → q ≡ p → a.slot ≡ k → i ≡ c → IsMapped z loans' maps' cells sessions given q k c
       new q k c e f g = record {
         page = subst (λ (x : ℕ). x < z.pages) (sym e) (r.claimed_is p me mine).0;
         part = subst (λ (x : ℕ). x < z.reach) g low;
-        named = (λ j. maps' (sym f j) (sym g j)) ∙ ((λ j. put_here maps a.slot (put (maps a.slot) i (Some p)) j i) ∙ (put_here (maps a.slot) i (Some p) ∙ ap Some (sym e)));
+        named = (λ j. maps' (sym f j) (sym g j))
+            ∙ ((λ j. put_here maps a.slot (put (maps a.slot) i (Some p)) j i) ∙ (put_here (maps a.slot) i (Some p) ∙ ap Some (sym e)));
         arena = a;
         slot = f;
         shown = standing_shown z sessions life s a st;
         lent = subst (λ (x : ℕ × ℕ). Contains loans' (loan_of x.0 a x.1)) (λ j. (sym e j, g j)) (first_loan (loan_of p a i) loans);
+        beyond = λ w n h. ap (λ (x : ℕ). cells x (w % z.page_words)) e ∙ (r.claimed_is p me mine).1 (w % z.page_words) (mod-lt w some_words);
       }
 
   -- ---- a map word of an ended arena is cleared: the sweep has the page
@@ -212,8 +216,9 @@ module _ (z : Shape) (loans : List Loan) (bits : ℕ) (maps : ℕ → ℕ → Op
     map_is = λ k c q. two_cases maps a.slot i None k c (λ (x : Option ℕ). x ≡ Some q → put berth p gone q ≡ mapped k c)
         (λ e f x. absurd (cc))
         (λ ne x. let y = r.map_is k c q x in
-        put_else berth p gone q (λ w. let u : mapped k c ≡ mapped a.slot i = sym y ∙ (ap berth w ∙ here) in let f : k ≡ a.slot = cc in let g : c ≡ i = cc in ne (f, g)) ∙ y);
-    mapped_is = λ q k c. put_cases berth p gone q (λ (b : Berth). b ≡ mapped k c → IsMapped z loans maps' sessions q k c)
+        put_else berth p gone q (λ w. let u : mapped k c ≡ mapped a.slot i = sym y ∙ (ap berth w ∙ here) in let f : k ≡ a.slot = cc in
+        let g : c ≡ i = cc in ne (f, g)) ∙ y);
+    mapped_is = λ q k c. put_cases berth p gone q (λ (b : Berth). b ≡ mapped k c → IsMapped z loans maps' cells sessions given q k c)
         (λ e x. absurd (cc))
         (λ ne x.
         let y = r.mapped_is q k c x in
@@ -226,12 +231,20 @@ module _ (z : Shape) (loans : List Loan) (bits : ℕ) (maps : ℕ → ℕ → Op
           slot = y.slot;
           shown = y.shown;
           lent = y.lent;
+          beyond = y.beyond;
         });
-    unmapped_is = λ q j c b. put_cases berth p gone q (λ (x : Berth). x ≡ unmapped j b c → IsUnmapped z loans life q b c)
+    unmapped_is = λ q j c b. put_cases berth p gone q (λ (x : Berth). x ≡ unmapped j b c → IsUnmapped z loans cells life given q b c)
         (λ e x. let f : a ≡ b = cc in let g : i ≡ c = cc in
-        subst (λ (y : ℕ × ArenaId × ℕ). IsUnmapped z loans life y.0 y.1 y.2) (λ n. (sym e n, f n, g n)) (record { page = was.page; part = was.part; lent = mapped_lent a i p (inr sh) named; over = over }))
+        subst (λ (y : ℕ × ArenaId × ℕ). IsUnmapped z loans cells life given y.0 y.1 y.2) (λ n. (sym e n, f n, g n)) (record {
+          page = was.page;
+          part = was.part;
+          lent = mapped_lent a i p (inr sh) named;
+          over = over;
+          beyond = subst (λ (c : ArenaId). IsBeyond z cells (given c) p i) (shown_one sessions was.arena a was.slot was.shown (inr sh)) was.beyond;
+        }))
         (λ ne x. r.unmapped_is q j c b x);
-    claimed_is = λ q j. put_cases berth p gone q (λ (b : Berth). b ≡ claimed j → (q < z.pages) × IsBlank z cells q) (λ e x. absurd (cc)) (λ ne x. r.claimed_is q j x);
+    claimed_is = λ q j. put_cases berth p gone q (λ (b : Berth). b ≡ claimed j → (q < z.pages) × IsBlank z cells q) (λ e x. absurd (cc))
+        (λ ne x. r.claimed_is q j x);
     loose_is = λ q. put_cases berth p gone q (λ (b : Berth). b ≡ loose → IsBlank z cells q) (λ e x. absurd (cc)) (λ ne x. r.loose_is q x);
     lent_is = λ l h. put_cases berth p gone l.block (λ (b : Berth). LentAt b l)
         (λ q. let x = subst (λ (b : Berth). LentAt b l) (ap berth q ∙ here) (r.lent_is l h) in (only l h q x.0 x.1, x.1))
@@ -254,7 +267,7 @@ module _ (z : Shape) (loans : List Loan) (bits : ℕ) (maps : ℕ → ℕ → Op
       here : berth p ≡ mapped a.slot i
       here = r.map_is a.slot i p named
 
-      was : IsMapped z loans maps sessions p a.slot i
+      was : IsMapped z loans maps cells sessions given p a.slot i
       was = r.mapped_is p a.slot i here
 
       gone : Berth
@@ -274,6 +287,7 @@ module _ (z : Shape) (loans : List Loan) (bits : ℕ) (maps : ℕ → ℕ → Op
       (λ f g. absurd (ended_apart z sessions life s a b sh over st f))
       (λ n. e)
 
+  -- nor does a page that is mapped change what others read
   pub read_mapped : (a : ArenaId) (i p : ℕ) → maps a.slot i ≡ None → (b : ArenaId) (j q : ℕ) → maps b.slot j ≡ Some q
       → put maps a.slot (put (maps a.slot) i (Some p)) b.slot j ≡ Some q
   read_mapped a i p none b j q e = two_cases maps a.slot i (Some p) b.slot j (λ (x : Option ℕ). x ≡ Some q)

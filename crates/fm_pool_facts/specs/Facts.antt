@@ -97,6 +97,8 @@ pub record IsSweeping (z : Shape) (m : Memory) (t : Machine) (o : Owners) (j : �
   pub life : t.life c.arena ≡ Over
   pub session : m.sessions c.arena.slot ≡ shut c.arena
   pub parts : (i : ℕ) → i < c.visited → m.maps c.arena.slot i ≡ None
+  -- the given word shows what it gave, until it is reset
+  pub count : c.visited ≤ z.reach → m.given c.arena.slot ≡ t.given c.arena
   pub reset : z.reach < c.visited → m.given c.arena.slot ≡ 0
 
 -- the part is the next one of the arena's sweep
@@ -124,7 +126,8 @@ abbrev pub IsLone : List ℕ → Type 0
 IsLone ps = (ps ≡ []) ⊎ ((p : ℕ) × (ps ≡ p ∷ []))
 
 -- what the seat j knows of pages
-pub record HasPages (z : Shape) (maps : ℕ → ℕ → Option ℕ) (cells : ℕ → ℕ → ℕ) (berth : ℕ → Berth) (j : ℕ) (inside : Option ArenaId) (reads : List Mapping) (pages : List ℕ) (sweeps : List Close)
+pub record HasPages (z : Shape) (maps : ℕ → ℕ → Option ℕ) (cells : ℕ → ℕ → ℕ) (berth : ℕ → Berth) (j : ℕ) (inside : Option ArenaId)
+    (reads : List Mapping) (pages : List ℕ) (sweeps : List Close)
     (swept : Swept) : Type 0 where
   -- what it has read in a map word stands there, while it is under way
   pub read : (a : ArenaId) → inside ≡ Some a → (x : Mapping) → In x reads → maps a.slot x.part ≡ Some x.page

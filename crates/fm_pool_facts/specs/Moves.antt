@@ -13,7 +13,7 @@ use Rattle.fm_depicts.specs.Functions.{Fresh, Closes, Over, Machine, moved, MayB
 use Rattle.std.specs.Int.{bit_at}
 use Rattle.fm_pool_facts.specs.Hands.{nothing, IsTaker}
 use Rattle.fm_pool_facts.specs.declared.step.Step.{Step}
-use Rattle.fm_pool_facts.specs.declared.step.Step.TheVariants.{Visits, Draws, Holds, Backs, TakesSlot, ReadsMap, Maps, Allocates}
+use Rattle.fm_pool_facts.specs.declared.step.Step.TheVariants.{Visits, Draws, Holds, Backs, TakesSlot, ReadsMap, Maps, Allocates, SweepsGiven, SweepsMap}
 use Rattle.fm_pool_facts.specs.Views.{Met, View, In, IsSound, IsBusy, all_gathered, HasCaller, HasFind, HasAllDrawn, given_of, limit_of}
 use Rattle.fm_pool_facts.specs.Steps.{part, entries, noted}
 use Rattle.fm_pool_facts.specs.Words.{own_word, alive_holds}
@@ -188,8 +188,11 @@ Learns (Holds a word) v x w = In a (grips a v) → alive_holds a x ≢ None
 Learns (Backs a word) v x w = alive_holds a x ≢ None
 Learns (ReadsMap a i) v x w = LearnsMap v a i x w
 Learns (Maps a i p) v x w = x ≤ v.shape.pages
+Learns (SweepsMap a i) v x w = x ≤ v.shape.pages
 -- the count that was found, where another one was expected
 Learns (Allocates expected size align) v x w = (a : ArenaId) → v.inside ≡ Some a → x ≢ expected → x ≡ given_of w a
+-- the arena gave so many bytes
+Learns (SweepsGiven a) v x w = x ≡ given_of w a
 Learns step v x w = ⊤
 
 -- what a step tells its caller that found the word x

@@ -10,7 +10,7 @@ use Rattle.fm_words.specs.declared.shape.Shape.{Shape}
 use Rattle.fm_words.specs.Places.{at, page_word}
 use Rattle.fm_pool_facts.specs.Hands.{nothing, learnt, slots_in, takes, hand_taken, hand_retired}
 use Rattle.fm_pool_facts.specs.declared.step.Step.{Step}
-use Rattle.fm_pool_facts.specs.declared.step.Step.TheVariants.{Draws, Marks, Checks, Loads, Stores, SwapsIf, Adds, Allocates, Holds, Unholds, Backs, Unmarks, Shuts, Visits, TakesSlot, LearnsGeneration, Opens, Claims, Maps, ReadsMap, Unmaps, SweepsMap, Wipes, GivesPage, ReturnsPage, ResetsGiven, Retires, GivesSlot, Looks}
+use Rattle.fm_pool_facts.specs.declared.step.Step.TheVariants.{Draws, Marks, Checks, Loads, Stores, SwapsIf, Adds, Allocates, Holds, Unholds, Backs, Unmarks, Shuts, Visits, TakesSlot, LearnsGeneration, Opens, Claims, Maps, ReadsMap, SweepsGiven, Unmaps, SweepsMap, Wipes, GivesPage, ReturnsPage, ResetsGiven, Retires, GivesSlot, Looks}
 use Rattle.fm_pool_facts.specs.Parts.{mapping_of, unread, wiping, reads_after, reads_mapped, pages_mapped, pages_taken, swept_read}
 use Rattle.fm_pool_facts.specs.Views.{View, In, IsSound, given_of, limit_of, pass_of}
 use Rattle.fm_pool_facts.specs.Words.{alive_holds, enter_found, inside_found, shut_found, hold_found}
@@ -85,6 +85,10 @@ pub record HasPlace (v : View) (word place : ℕ) : Type 0 where
 abbrev pub HasParts : View → (from to : ℕ) → Type 0
 HasParts v from to = (word : ℕ) → from ≤ 8 * word → 8 * word < to → (page : ℕ) × In (mapping_of (word / v.shape.page_words) page) v.reads
 
+-- the words of this part that have a given byte are all among the first so many of its page
+abbrev pub AreAllGiven : View → ArenaId → (index words : ℕ) → Type 0
+AreAllGiven v a index words = (word : ℕ) → word / v.shape.page_words ≡ index → 8 * word < given_of v a → word % v.shape.page_words < words
+
 -- ---- numbers
 
 -- the number that was drawn where so many were expected and found
@@ -139,6 +143,7 @@ part (Opens a) v x = record v { hand = nothing; handles = handles_with a v.handl
 part (Claims expected bit) v x = record v { pages = pages_taken (takes expected bit x) bit v.pages }
 part (Maps a i p) v x = record v { reads = reads_mapped i p x v.reads; pages = pages_mapped x v.pages }
 part (ReadsMap a i) v x = record v { reads = reads_after i x v.reads }
+part (SweepsGiven a) v x = v
 part (SweepsMap a i) v x = record v { swept = swept_read a i x; sweeps = if x == 0 then visited a v.sweeps else v.sweeps }
 part (Unmaps a i p) v x = record v { swept = wiping a i p 0 }
 part (Wipes a i p w) v x = record v { swept = wiping a i p (w + 1) }
@@ -172,6 +177,7 @@ entries (Opens a) v x = entry_of v.caller (Open a) Fine ∷ []
 entries (Claims expected bit) v x = []
 entries (Maps a i p) v x = where_found (x == 0) (entry_of v.caller (Lend p a i) Fine ∷ [])
 entries (ReadsMap a i) v x = []
+entries (SweepsGiven a) v x = []
 entries (SweepsMap a i) v x = []
 entries (Unmaps a i p) v x = []
 entries (Wipes a i p w) v x = []

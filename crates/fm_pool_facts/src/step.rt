@@ -41,6 +41,8 @@ pub enum Step {
     Maps(ArenaId, u32, u32),
     /// Looks which page the arena that the pass is inside has as this part.
     ReadsMap(ArenaId, u32),
+    /// Looks how many bytes an ended arena gave, for its sweep.
+    SweepsGiven(ArenaId),
     /// Looks which page an ended arena has as this part, for its sweep.
     SweepsMap(ArenaId, u32),
     /// Takes this part's page from an ended arena, for its sweep.

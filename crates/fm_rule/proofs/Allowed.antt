@@ -10,7 +10,7 @@ use Rattle.fm_base.specs.Calls.{Entry}
 use Rattle.fm_base.specs.Histories.{made_by}
 use Rattle.fm_base.specs.Finds.{Find, Gathered, Close}
 use Rattle.fm_pool_facts.specs.declared.step.Step.{Step}
-use Rattle.fm_pool_facts.specs.declared.step.Step.TheVariants.{Draws, Marks, Checks, Loads, Stores, SwapsIf, Adds, Allocates, Holds, Unholds, Backs, Unmarks, Shuts, Visits, TakesSlot, LearnsGeneration, Opens, Claims, Maps, ReadsMap, SweepsMap, Unmaps, Wipes, GivesPage, ReturnsPage, ResetsGiven, Retires, GivesSlot, Looks}
+use Rattle.fm_pool_facts.specs.declared.step.Step.TheVariants.{Draws, Marks, Checks, Loads, Stores, SwapsIf, Adds, Allocates, Holds, Unholds, Backs, Unmarks, Shuts, Visits, TakesSlot, LearnsGeneration, Opens, Claims, Maps, ReadsMap, SweepsGiven, SweepsMap, Unmaps, Wipes, GivesPage, ReturnsPage, ResetsGiven, Retires, GivesSlot, Looks}
 use Rattle.fm_pool_facts.specs.Views.{Met, View, In, IsSound, all_gathered, brought}
 use Rattle.fm_pool_facts.specs.Words.{alive_holds, inside_found, shut_found, hold_found}
 use Rattle.fm_pool_facts.specs.Hands.{Hand, nothing, learnt, takes, hand_taken, hand_retired}
@@ -107,6 +107,7 @@ same_part (LearnsGeneration s) v x = alike_but v v.inside v.mark v.closes v.swee
 same_part (Claims e b) v x = alike_pages v v.inside v.sweeps v.swept (pages_taken (takes e b x) b v.pages) v.reads
 same_part (Maps a i p) v x = alike_pages v v.inside v.sweeps v.swept (pages_mapped x v.pages) (reads_mapped i p x v.reads)
 same_part (ReadsMap a i) v x = alike_pages v v.inside v.sweeps v.swept v.pages (reads_after i x v.reads)
+same_part (SweepsGiven a) v x = alike_none v
 same_part (SweepsMap a i) v x = alike_pages v v.inside (if x == 0 then visited a v.sweeps else v.sweeps) (swept_read a i x) v.pages v.reads
 same_part (Unmaps a i p) v x = alike_pages v v.inside v.sweeps (wiping a i p 0) v.pages v.reads
 same_part (Wipes a i p w) v x = alike_pages v v.inside v.sweeps (wiping a i p (w + 1)) v.pages v.reads
@@ -202,7 +203,8 @@ part_on v w part sh more k = record {
   from = k.from ∙ ap (λ (z : Shape). at z (page_word k.mapping.page 0)) (sym sh);
 }
 
-pub keeps_on : (c : Caller) (i : Option ArenaId) (part : Part) (count : ℕ) (v p w : View) (es : List Entry) (fs : ℕ → List Find) (held held' : List (ℕ × Unit {0}))
+pub keeps_on : (c : Caller) (i : Option ArenaId) (part : Part) (count : ℕ) (v p w : View) (es : List Entry) (fs : ℕ → List Find)
+    (held held' : List (ℕ × Unit {0}))
     → Keeps c i part count (v, held) → Alike v p → p.inside ≡ v.inside → ((x : Mapping) → In x v.reads → In x p.reads)
     → Gives v p es fs w → held' ≡ held → Keeps c i part count (w, held')
 keeps_on c i part count v p w es fs held held' k s ins more g e =

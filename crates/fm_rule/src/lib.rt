@@ -38,7 +38,8 @@ pub use steps::{
     step_check, step_load, step_mark, step_open, step_shut, step_store, step_unmark, step_visit,
 };
 pub use sweeping::{
-    step_give_slot, step_reset_given, step_retire, step_return_page, step_sweep_map, step_unmap, step_wipe,
+    step_give_slot, step_reset_given, step_retire, step_return_page, step_sweep_given,
+    step_sweep_map, step_unmap, step_wipe,
 };
 pub use taking::{step_generation, step_take_slot};
 pub use updates::{guess_given, step_add, step_allocate, step_swap_if};

@@ -1,11 +1,12 @@
-//! The steps by which an arena that has ended gives its words and its slot back.
-ghost use Rattle.std.specs.Prelude.{◌≡◌, ◌<◌, ◌+◌, ◌==◌, if◌then◌else◌, [], ◌∷◌, Some};
+//! The steps by which an arena that has ended gives its pages and its slot back.
+ghost use Rattle.std.specs.Prelude.{◌≡◌, ◌<◌, ◌≤◌, ◌+◌, ◌==◌, if◌then◌else◌, [], ◌∷◌, Some};
 ghost use Rattle.fm_base.specs.Calls as machine;
 ghost use Rattle.fm_base.specs.Calls.{entry_of};
 ghost use Rattle.fm_pool_facts.specs.Parts.{unread, named, wiping, swept_read};
 ghost use Rattle.fm_pool_facts.specs.Closes.{visited_of, visited, dropped};
 ghost use Rattle.fm_pool_facts.specs.Hands.{nothing, retired, hand_retired};
-ghost use Rattle.fm_pool_facts.specs.Steps.{Stepped, none_noted};
+ghost use Rattle.fm_pool_facts.specs.Views.{given_of};
+ghost use Rattle.fm_pool_facts.specs.Steps.{Stepped, AreAllGiven, none_noted};
 ghost use Rattle.fm_rule.specs.Passes.{IsOf};
 
 use crate::acts::{load_as, or_as, store_as};
@@ -16,13 +17,26 @@ use fm_base::ArenaId;
 use fm_pool_facts::Step;
 use std::marker::Brand;
 
+/// Answers how many bytes an arena gave that has ended, at the beginning of its sweep. It gives no more.
+pub fn step_sweep_given(pool: &Pool, pass: &mut Pass, a: ArenaId) -> u64
+    requires of { IsOf pool.now pass.old }
+    requires sweep { visited_of pass.old.sweeps a ≡ Some 0 }
+    ensures count { result ≡ given_of pass.new a }
+    ensures stepped { Stepped pass.old pass.new pass.old [] none_noted }
+{
+    let seat = &mut pass.seat;
+    let place = pool.shape.given_place(a.slot);
+    load_as::<Brand>(pool, seat, place, Step::SweepsGiven(a))
+}
+
 /// Answers the map word of the next part that the sweep of the arena comes to. Where it is 0, the part is behind it.
 pub fn step_sweep_map(pool: &Pool, pass: &mut Pass, a: ArenaId, index: u32) -> u64
     requires of { IsOf pool.now pass.old }
     requires sweep { visited_of pass.old.sweeps a ≡ Some index }
     requires low { index < pool.now.shape.reach }
     requires idle { pass.old.swept ≡ unread }
-    ensures { Stepped pass.old pass.new
+    ensures low { result ≤ pass.old.shape.pages }
+    ensures stepped { Stepped pass.old pass.new
         (record pass.old {
           swept = swept_read a index result;
           sweeps = if result == 0 then visited a pass.old.sweeps else pass.old.sweeps;
@@ -60,16 +74,18 @@ pub fn step_wipe(pool: &Pool, pass: &mut Pass, a: ArenaId, index: u32, page: u32
     store_as::<Brand>(pool, seat, place, 0, Step::Wipes(a, index, page, word));
 }
 
-/// Makes the bit of the page 1 that the sweep has wiped: its loan is taken back, and it can be claimed from this step on.
-pub fn step_return_page(pool: &Pool, pass: &mut Pass, a: ArenaId, index: u32, page: u32)
+/// Makes the bit of a page 1 whose first words the sweep has wiped, so many of them: its loan is taken back, and it can
+/// be claimed from this step on. Words without a given byte are 0 as they stand.
+pub fn step_return_page(pool: &Pool, pass: &mut Pass, a: ArenaId, index: u32, page: u32, words: u32)
     requires of { IsOf pool.now pass.old }
     requires sweep { visited_of pass.old.sweeps a ≡ Some index }
     requires low { index < pool.now.shape.reach }
-    requires wiped { pass.old.swept ≡ wiping a index page pool.now.shape.page_words }
+    requires wiped { pass.old.swept ≡ wiping a index page words }
+    requires all { AreAllGiven pass.old a index words }
     ensures { Stepped pass.old pass.new (record pass.old { swept = unread; sweeps = visited a pass.old.sweeps })
         (entry_of pass.old.caller (machine.Back page) machine.Fine ∷ []) none_noted }
 {
-    let _ = index;
+    let _ = (index, words);
     let seat = &mut pass.seat;
     let place = pool.shape.page_bits_place();
     let bits = bit(page);

@@ -14,14 +14,7 @@ use fm_pool_facts::Step;
 use std::marker::Brand;
 
 /// Puts `new` into the word of this index where it is `old`, and answers the word found.
-pub fn step_swap_if(
-    pool: &Pool,
-    pass: &mut Pass,
-    word: u64,
-    place: u64,
-    old: u64,
-    new: u64,
-) -> u64
+pub fn step_swap_if(pool: &Pool, pass: &mut Pass, word: u64, place: u64, old: u64, new: u64) -> u64
     requires of { IsOf pool.now pass.old }
     requires act { CanReach pass.old word }
     requires place { HasPlace pass.old word place }
@@ -61,7 +54,8 @@ pub fn step_allocate(
     requires of { IsOf pool.now pass.old }
     requires inside { pass.old.inside ≡ Some a }
     requires power { IsPower align }
-    requires parts { rounded_up given align + size ≤ limit_of pass.old.shape → HasParts pass.old given (rounded_up given align + size) }
+    requires parts { rounded_up given align + size ≤ limit_of pass.old.shape
+        → HasParts pass.old given (rounded_up given align + size) }
     ensures count { result ≢ given → result ≡ given_of pass.new a }
     ensures stepped { Stepped pass.old pass.new pass.old
         (where_found (result == given) (acted pass.old.inside pass.old.caller (λ b. machine.Allocate b size align)

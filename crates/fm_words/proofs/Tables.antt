@@ -79,12 +79,12 @@ named_from_maps : (z : Shape) (i : ℕ) → maps_from z ≤ i → i < words z �
 unfolding at
 named_from_maps z i h below = elim (cases_lt i (pages_from z)) [
   | inl l ↦ (
-    let n = i - maps_from z in
-    let inside : i - maps_from z < z.slots * z.reach = omega arith in
-    let some : 0 < z.reach = positive z.slots z.reach n inside in
-    let whole = div-add-mod' n z.reach in
-    let slot = div_below n z.reach z.slots some inside in
-    (map (n / z.reach) (n % z.reach), (slot, mod_below n z.reach some), omega (arith, whole)))
+      let n = i - maps_from z in
+      let inside : i - maps_from z < z.slots * z.reach = omega arith in
+      let some : 0 < z.reach = positive z.slots z.reach n inside in
+      let whole = div-add-mod' n z.reach in
+      let slot = div_below n z.reach z.slots some inside in
+      (map (n / z.reach) (n % z.reach), (slot, mod_below n z.reach some), omega (arith, whole)))
   | inr l ↦ named_from_pages z i l below
 ]
 

@@ -4,7 +4,7 @@ use crate::shape::Shape;
 const SINGLE_WORDS: u64 = 4;
 
 /// Places of words in the table, from 0. It has the single words first, then a mark for each pass, a session for each
-/// slot, a count of given bytes for each slot, and last the pages, one after another.
+/// slot, a count of given bytes for each slot, the map words of each slot, and last the pages, one after another.
 impl Shape {
     ghost use Rattle.std.specs.Prelude.{◌≡◌};
     ghost use Rattle.fm_words.specs.Shapes.{IsValid};

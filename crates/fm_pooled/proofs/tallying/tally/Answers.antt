@@ -1,12 +1,8 @@
 use Rattle.std.proofs.Common.{◌≡◌, ◌%◌, ℕ, length, ap, sym, subst, ◌∙◌}
+use Rattle.fm_pooled.proofs.Opening.{begun, can_stock}
 use Rattle.fm_pooled.proofs.Shows.{length-pooled, shows_query}
-use Rattle.fm_pooled.proofs.Tallies.{beside}
+use Rattle.fm_pooled.proofs.Tallies.{can_second}
 use Rattle.fm_pooled.proofs.tallying.tally.Goals as goal
-
-pub count-requires-clause-beside : goal.count-requires-clause-beside
-count-requires-clause-beside g c κs within =
-    beside c.with_counts-pass.result.0 c.stock-pass.result.0 c.stock-pass.result.1 c.with_counts-pass.result.1 c.with_counts-pass.ensures.counts
-    c.stock-pass.ensures.keeps c.stock-pass.ensures.unknown
 
 pub count-requires-clause-even : goal.count-requires-clause-even
 count-requires-clause-even g c κs within =
@@ -16,4 +12,5 @@ count-requires-clause-even g c κs within =
 
 pub returns-clause-shows : goal.returns-clause-shows
 returns-clause-shows g c =
-    shows_query c.args.bytes.items c.in_ok-found.ensures.asked c.in_ok-finished.ensures (c.stock-pass.ensures.bytes ∙ c.deref.ensures.value)
+    shows_query c.args.bytes.items c.in_ok-found.ensures.asked c.in_ok-finished.ensures
+    (c.with_counts-pass.ensures.bytes ∙ (c.stock-pass.ensures.bytes ∙ c.deref.ensures.value))

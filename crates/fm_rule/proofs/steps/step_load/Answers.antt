@@ -1,7 +1,7 @@
-use Rattle.std.proofs.Common.{ap, ◌∙◌}
-use Rattle.fm_pool_facts.specs.Views.{View}
+use Rattle.std.proofs.Common.{ap}
 use Rattle.fm_rule.specs.Views.{numbers_of}
-use Rattle.fm_rule.proofs.Knowing.{WordPlace, word_place, may_load}
+use Rattle.fm_rule.proofs.Knowing.{WordPlace, reaches, word_place}
+use Rattle.fm_rule.proofs.Making.{may_load}
 use Rattle.fm_rule.proofs.Stepping.{load_stepped}
 use Rattle.fm_rule.proofs.Keeping.{load_keeps}
 use Rattle.fm_rule.proofs.steps.step_load.Goals as goal
@@ -16,8 +16,8 @@ load_as-requires-clause-place c = (here (goal.at.load_as-requires-clause-place c
 pub load_as-requires-clause-may : goal.load_as-requires-clause-may
 load_as-requires-clause-may c =
     let p = here (goal.at.load_as-requires-clause-may c).After-pass in
-    may_load _ _ c.pass.inside.seat.me.0 c.pass.invariant.live _ c.requires.act.id (ap (λ (x : View). x.inside) c.pass.view_is ∙ c.requires.act.inside)
-    c.args.word p
+    may_load _ _ c.pass.inside.seat.me.0 c.pass.invariant.live _ c.args.word
+    (reaches _ c.pass.inside.seat.me.0 _ _ c.pass.view_is c.requires.of.1 c.args.word c.requires.act) p
 
 pub invariant_of-pass : goal.invariant_of-pass
 invariant_of-pass c = load_keeps _ _ _ _ _ _ _ _ c.pass.invariant c.load_as.ensures.slots c.args.word _ c.load_as.ensures.tells

@@ -1,7 +1,7 @@
-use Rattle.std.proofs.Common.{ap, ◌∙◌}
-use Rattle.fm_pool_facts.specs.Views.{View}
+use Rattle.std.proofs.Common.{ap}
 use Rattle.fm_rule.specs.Views.{numbers_of}
-use Rattle.fm_rule.proofs.Knowing.{WordPlace, word_place, may_add}
+use Rattle.fm_rule.proofs.Knowing.{WordPlace, reaches, word_place}
+use Rattle.fm_rule.proofs.Making.{may_add}
 use Rattle.fm_rule.proofs.Stepping.{add_stepped}
 use Rattle.fm_rule.proofs.Keeping.{add_keeps}
 use Rattle.fm_rule.proofs.updates.step_add.Goals as goal
@@ -16,8 +16,8 @@ add_as-requires-clause-place c = (here (goal.at.add_as-requires-clause-place c).
 pub add_as-requires-clause-may : goal.add_as-requires-clause-may
 add_as-requires-clause-may c =
     let p = here (goal.at.add_as-requires-clause-may c).After-pass in
-    may_add _ _ c.pass.inside.seat.me.0 c.pass.invariant.live _ c.requires.act.id (ap (λ (x : View). x.inside) c.pass.view_is ∙ c.requires.act.inside)
-    c.args.word p c.args.n
+    may_add _ _ c.pass.inside.seat.me.0 c.pass.invariant.live _ c.args.word
+    (reaches _ c.pass.inside.seat.me.0 _ _ c.pass.view_is c.requires.of.1 c.args.word c.requires.act) p c.args.n
 
 pub invariant_of-pass : goal.invariant_of-pass
 invariant_of-pass c = add_keeps _ _ _ _ _ _ _ _ c.pass.invariant c.add_as.ensures.slots c.args.word c.args.n _ c.add_as.ensures.tells

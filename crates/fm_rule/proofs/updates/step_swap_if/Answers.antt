@@ -1,7 +1,7 @@
-use Rattle.std.proofs.Common.{ap, ◌∙◌}
-use Rattle.fm_pool_facts.specs.Views.{View}
+use Rattle.std.proofs.Common.{ap}
 use Rattle.fm_rule.specs.Views.{numbers_of}
-use Rattle.fm_rule.proofs.Knowing.{WordPlace, word_place, may_swap}
+use Rattle.fm_rule.proofs.Knowing.{WordPlace, reaches, word_place}
+use Rattle.fm_rule.proofs.Making.{may_swap}
 use Rattle.fm_rule.proofs.Stepping.{swap_stepped}
 use Rattle.fm_rule.proofs.Keeping.{swap_keeps}
 use Rattle.fm_rule.proofs.updates.step_swap_if.Goals as goal
@@ -16,8 +16,8 @@ exchange_as-requires-clause-place c = (here (goal.at.exchange_as-requires-clause
 pub exchange_as-requires-clause-may : goal.exchange_as-requires-clause-may
 exchange_as-requires-clause-may c =
     let p = here (goal.at.exchange_as-requires-clause-may c).After-pass in
-    may_swap _ _ c.pass.inside.seat.me.0 c.pass.invariant.live _ c.requires.act.id (ap (λ (x : View). x.inside) c.pass.view_is ∙ c.requires.act.inside)
-    c.args.word p c.args.old c.args.new c.ranges.new.fits
+    may_swap _ _ c.pass.inside.seat.me.0 c.pass.invariant.live _ c.args.word
+    (reaches _ c.pass.inside.seat.me.0 _ _ c.pass.view_is c.requires.of.1 c.args.word c.requires.act) p c.args.old c.args.new c.ranges.new.fits
 
 pub invariant_of-pass : goal.invariant_of-pass
 invariant_of-pass c = swap_keeps _ _ _ _ _ _ _ _ c.pass.invariant c.exchange_as.ensures.slots c.args.word c.args.old c.args.new _ c.exchange_as.ensures.tells

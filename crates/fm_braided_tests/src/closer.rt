@@ -1,0 +1,146 @@
+ghost use Rattle.std.specs.Prelude.{◌≡◌, ◌≤◌, ◌<◌};
+ghost use Rattle.fm_pool_facts.specs.Views.{given_of};
+ghost use Rattle.fm_calls.specs.Kept.{Lasts};
+ghost use Rattle.fm_gate.specs.Standing.{CanVisit, IsOutside};
+ghost use Rattle.fm_close.specs.Learnt.{CanWalk};
+ghost use Rattle.fm_braided_tests.specs.Closers.{IsOnItsWay, StandsAt};
+
+use fm_arena_braided::Turn;
+use fm_base::ArenaId;
+use fm_close::{Shutting, Visit, shut, sweep, visit};
+use fm_gate::{enter, leave, load};
+use fm_rule::{Pass, Pool};
+use std::marker::Model;
+use std::mem::replace;
+use std::process::Abort;
+use std::sync::Wait;
+
+/// What a closer found at its turn: the arena's first three words, and what the visits answered.
+#[derive(Clone, Copy, Debug, PartialEq, Eq)]
+pub(crate) struct Walk {
+    pub(crate) words: [u64; 3],
+    pub(crate) nexts: u32,
+    pub(crate) last: Option<Visit>,
+}
+
+/// Shuts an arena at the turn of one number, by a pass of its own, and visits marks until one names the arena or it has
+/// ended.
+pub(crate) struct Closer<'a> {
+    pool: &'a Pool,
+    pass: Pass,
+    arena: ArenaId,
+    at: u64,
+    shutting: Option<Shutting>,
+    walk: Walk,
+}
+
+impl<'a> Model for Closer<'a> {
+    ghost Value = { Unit };
+
+    ghost view = { λ c. tt };
+
+    ghost invariant = { λ c. StandsAt c.pool.now c.pass c.arena c.shutting × (24 ≤ given_of c.pass c.arena) };
+}
+
+impl<'a> Closer<'a> {
+    /// It comes at the turn `at`.
+    pub(crate) fn new(pool: &'a Pool, pass: Pass, arena: ArenaId, at: u64) -> Closer<'a>
+        requires can { CanVisit pool.now pass arena }
+        requires given { 24 ≤ given_of pass arena }
+    {
+        Closer {
+            pool,
+            pass,
+            arena,
+            at,
+            shutting: None,
+            walk: Walk {
+                words: [0, 0, 0],
+                nexts: 0,
+                last: None,
+            },
+        }
+    }
+
+    /// Shuts the arena, where that wasn't done yet.
+    fn begin(&mut self) {
+        if self.shutting.is_some() {
+            return;
+        }
+        let words = words_of(self.pool, &mut self.pass, self.arena);
+        if let Ok(mut s) = shut(self.pool, &mut self.pass, self.arena) {
+            let (nexts, last) = walk_once(self.pool, &mut self.pass, &mut s);
+            self.walk = Walk { words, nexts, last };
+            // There was none; a close that is under way can't be dropped.
+            if let Some(other) = replace(&mut self.shutting, Some(s)) {
+                sweep(self.pool, &mut self.pass, other);
+            }
+        }
+    }
+
+    /// What it found, and its pass, once the arena is closed. A walk that stood at a mark ends at the next visit.
+    pub(crate) fn finish<R: Abort>(self, rt: &R) -> (Walk, Pass)
+        ensures { IsOutside self.pool.now result.1 }
+    {
+        let Closer {
+            pool,
+            mut pass,
+            arena: _,
+            at: _,
+            shutting,
+            walk,
+        } = self;
+        let mut s = shutting.expect(rt, "a turn");
+        if !s.is_ended() {
+            assert_eq!(rt; visit(pool, &mut pass, &mut s), Visit::Ended);
+        }
+        sweep(pool, &mut pass, s);
+        (walk, pass)
+    }
+}
+
+impl<'a> Turn for Closer<'a> {
+    ghost turns = { λ old at new. Unit };
+
+    fn turn(&mut self, at: u64) {
+        if at == self.at {
+            self.begin();
+        }
+    }
+}
+
+/// The arena's first three words, or zeros where it is closed.
+fn words_of(pool: &Pool, pass: &mut Pass, a: ArenaId) -> [u64; 3]
+    requires can { CanVisit pool.now pass.old a }
+    requires given { 24 ≤ given_of pass.old a }
+    ensures can { CanVisit pool.now pass.new a }
+    ensures given { 24 ≤ given_of pass.new a }
+{
+    if enter(pool, pass, a).is_err() {
+        return [0, 0, 0];
+    }
+    let words = [
+        load(pool, pass, 0),
+        load(pool, pass, 1),
+        load(pool, pass, 2),
+    ];
+    leave(pool, pass);
+    words
+}
+
+/// Visits each mark once, as long as they don't name the arena: how many didn't, and what the last visit answered.
+fn walk_once(pool: &Pool, pass: &mut Pass, s: &mut Shutting) -> (u32, Option<Visit>)
+    requires { CanWalk pool.now pass.old s.old }
+    ensures outside { IsOutside pool.now pass.new }
+    ensures on { IsOnItsWay pass.new s.new.ended s.new }
+    ensures lasts { Lasts pass.old pass.new }
+{
+    let passes = pool.shape().passes;
+    for nexts in 0..passes {
+        let found = visit(pool, pass, s);
+        if found != Visit::Next {
+            return (nexts, Some(found));
+        }
+    }
+    (passes, None)
+}
