@@ -8,7 +8,7 @@
 //! ```
 //! let (mut braided, source, target) = scene(rt, &pool, first, at);
 //! let answer = target.copy_from(rt, &mut braided, &source);
-//! let (mut ours, walk) = ended(rt, braided);
+//! let (mut ours, walk) = ended(rt, braided, &target);
 //! ```
 //!
 //! Here `scene` makes a `Braided` of a pass and a turn that closes the source's arena, and `ended` takes it apart by

@@ -78,10 +78,8 @@ impl<'a> Closer<'a> {
         }
     }
 
-    /// What it found, and its pass, once the arena is closed. A walk that stood at a mark ends at the next visit.
-    pub(crate) fn finish<R: Abort>(self, rt: &R) -> (Walk, Pass)
-        ensures { IsOutside self.pool.now result.1 }
-    {
+    /// What it found, once the arena is closed. A walk that stood at a mark ends at the next visit.
+    pub(crate) fn finish<R: Abort>(self, rt: &R) -> Walk {
         let Closer {
             pool,
             mut pass,
@@ -95,7 +93,7 @@ impl<'a> Closer<'a> {
             assert_eq!(rt; visit(pool, &mut pass, &mut s), Visit::Ended);
         }
         sweep(pool, &mut pass, s);
-        (walk, pass)
+        walk
     }
 }
 
@@ -128,19 +126,19 @@ fn words_of(pool: &Pool, pass: &mut Pass, a: ArenaId) -> [u64; 3]
     words
 }
 
-/// Visits each mark once, as long as they don't name the arena: how many didn't, and what the last visit answered.
+/// Visits the marks of both passes, as long as they don't name the arena: how many didn't, and what the last visit
+/// answered else.
 fn walk_once(pool: &Pool, pass: &mut Pass, s: &mut Shutting) -> (u32, Option<Visit>)
     requires { CanWalk pool.now pass.old s.old }
     ensures outside { IsOutside pool.now pass.new }
     ensures on { IsOnItsWay pass.new s.new.ended s.new }
     ensures lasts { Lasts pass.old pass.new }
 {
-    let passes = pool.shape().passes;
-    for nexts in 0..passes {
-        let found = visit(pool, pass, s);
-        if found != Visit::Next {
-            return (nexts, Some(found));
-        }
+    match visit(pool, pass, s) {
+        Visit::Next => match visit(pool, pass, s) {
+            Visit::Next => (2, None),
+            found => (1, Some(found)),
+        },
+        found => (0, Some(found)),
     }
-    (passes, None)
 }

@@ -16,7 +16,7 @@ fn copy_beside<R: Abort + AllocGlobal + Wait>(
     let (pool, first) = made(rt);
     let (mut braided, source, target) = scene(rt, &pool, first, at);
     let answer = target.copy_from(rt, &mut braided, &source);
-    let (mut ours, walk) = ended(rt, braided);
+    let (mut ours, walk) = ended(rt, braided, &target);
     has_numbers(rt, &mut ours, &target, numbers);
     (walk, answer)
 }

@@ -8,9 +8,9 @@ use std::sync::Wait;
 
 fn fill_beside<R: Abort + AllocGlobal + Wait>(rt: &R, at: u64) -> (Walk, Result<(), Refusal>) {
     let (pool, first) = made(rt);
-    let (mut braided, source, _) = scene(rt, &pool, first, at);
+    let (mut braided, source, target) = scene(rt, &pool, first, at);
     let answer = source.fill(rt, &mut braided, 255);
-    let (_, walk) = ended(rt, braided);
+    let (_, walk) = ended(rt, braided, &target);
     (walk, answer)
 }
 

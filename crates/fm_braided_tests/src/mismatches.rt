@@ -9,9 +9,9 @@ use std::sync::Wait;
 /// Compares the segment with its own bytes.
 fn compare_beside<R: Abort + AllocGlobal + Wait>(rt: &R, at: u64) -> (Walk, Result<i64, Refusal>) {
     let (pool, first) = made(rt);
-    let (mut braided, source, _) = scene(rt, &pool, first, at);
+    let (mut braided, source, target) = scene(rt, &pool, first, at);
     let answer = source.mismatch(&mut braided, &source);
-    let (_, walk) = ended(rt, braided);
+    let (_, walk) = ended(rt, braided, &target);
     (walk, answer)
 }
 

@@ -14,9 +14,9 @@ fn read_beside<R: Abort + AllocGlobal + Wait>(rt: &R, at: u64) -> (Walk, Result<
     let int = Layout::value(ValueKind::Int)
         .with_alignment(1)
         .expect(rt, "a power of two");
-    let (mut braided, source, _) = scene(rt, &pool, first, at);
+    let (mut braided, source, target) = scene(rt, &pool, first, at);
     let answer = source.get(&mut braided, &int, 6);
-    let (_, walk) = ended(rt, braided);
+    let (_, walk) = ended(rt, braided, &target);
     (walk, answer)
 }
 

@@ -1,8 +1,7 @@
 //! Two arenas of a pool, of which one is closed by another pass at a call of this one.
-ghost use Rattle.std.specs.Prelude.{◌≡◌, ◌≤◌, None};
+ghost use Rattle.std.specs.Prelude.{◌≡◌, ◌≤◌, ◌+◌, None};
 ghost use Rattle.fm_pool_facts.specs.Views.{given_of};
 ghost use Rattle.fm_rule.specs.Passes.{IsOf};
-ghost use Rattle.fm_calls.specs.Kept.{Lasts};
 ghost use Rattle.fm_calls.specs.Told.{view_of_pass};
 ghost use Rattle.fm_gate.specs.Standing.{CanVisit, IsOutside};
 ghost use Rattle.fm_segment.specs.Access.{IsKnown};
@@ -43,8 +42,7 @@ fn longs_of<R: Abort + Wait>(rt: &R, m: &mut Shared) -> Segment
     requires { m.old.inside ≡ None }
     ensures outside { m.new.inside ≡ None }
     ensures known { IsKnown (view_of_pass m.new) result }
-    ensures size { 24 ≤ result.size }
-    ensures lasts { Lasts m.old m.new }
+    ensures size { result.size ≡ 24 }
     ensures same { SamePool m.old m.new }
 {
     keeps_its_pool();
@@ -52,33 +50,56 @@ fn longs_of<R: Abort + Wait>(rt: &R, m: &mut Shared) -> Segment
     arena.allocate(rt, m, 24, 8).expect(rt, "bytes")
 }
 
-/// Puts 1, 2 and 3.
-fn put_numbers<R: Abort + Wait>(rt: &R, m: &mut Shared, s: &Segment)
+/// Those of another arena, beside a segment that is known.
+fn longs_beside<R: Abort + Wait>(rt: &R, m: &mut Shared, other: &Segment) -> Segment
+    requires outside { m.old.inside ≡ None }
+    requires other { IsKnown (view_of_pass m.old) other.now }
+    ensures outside { m.new.inside ≡ None }
+    ensures other { IsKnown (view_of_pass m.new) other.now }
+    ensures known { IsKnown (view_of_pass m.new) result }
+    ensures same { SamePool m.old m.new }
+{
+    keeps_its_pool();
+    let arena = Arena::start(rt, m, Kind::Shared).expect(rt, "a slot");
+    arena.allocate(rt, m, 24, 8).expect(rt, "bytes")
+}
+
+/// Puts a long of the segment.
+fn put<R: Abort + Wait>(rt: &R, m: &mut Shared, s: &Segment, offset: u64, number: i64)
     requires outside { m.old.inside ≡ None }
     requires known { IsKnown (view_of_pass m.old) s.now }
     ensures outside { m.new.inside ≡ None }
-    ensures lasts { Lasts m.old m.new }
+    ensures known { IsKnown (view_of_pass m.new) s.now }
     ensures same { SamePool m.old m.new }
 {
     keeps_its_pool();
     let long = Layout::value(ValueKind::Long);
-    for i in 0..3 {
-        let put = s.set(rt, m, &long, i * 8, Value::Long(i as i64 + 1));
-        assert_eq!(rt; put, Ok(()));
-    }
+    let put = s.set(rt, m, &long, offset, Value::Long(number));
+    assert_eq!(rt; put, Ok(()));
 }
 
-/// Whether the segment has these longs.
+/// Whether the segment has this long.
+fn has<R: Abort>(rt: &R, m: &mut Shared, s: &Segment, offset: u64, number: i64)
+    requires outside { m.old.inside ≡ None }
+    requires known { IsKnown (view_of_pass m.old) s.now }
+    ensures outside { m.new.inside ≡ None }
+    ensures known { IsKnown (view_of_pass m.new) s.now }
+{
+    let long = Layout::value(ValueKind::Long);
+    let found = s.get(m, &long, offset);
+    assert_eq!(rt; found, Ok(Value::Long(number)));
+}
+
+/// Whether it has these longs.
 pub(crate) fn has_numbers<R: Abort>(rt: &R, m: &mut Shared, s: &Segment, numbers: [i64; 3])
     requires outside { m.old.inside ≡ None }
     requires known { IsKnown (view_of_pass m.old) s.now }
     ensures outside { m.new.inside ≡ None }
 {
-    let long = Layout::value(ValueKind::Long);
-    for i in 0..3 {
-        let found = s.get(m, &long, i * 8);
-        assert_eq!(rt; found, Ok(Value::Long(numbers[i as usize])));
-    }
+    let [first, second, third] = numbers;
+    has(rt, m, s, 0, first);
+    has(rt, m, s, 8, second);
+    has(rt, m, s, 16, third);
 }
 
 /// The pass learns what the other one has seen.
@@ -113,25 +134,43 @@ pub(crate) fn scene<'a, R: Abort + Wait>(
     let second = pool.draw(rt, &mut first).expect(rt, "a pass");
     let mut ours = Shared::new(pool, second);
     let source = longs_of(rt, &mut ours);
-    let target = longs_of(rt, &mut ours);
-    put_numbers(rt, &mut ours, &source);
+    put(rt, &mut ours, &source, 0, 1);
+    put(rt, &mut ours, &source, 8, 2);
+    put(rt, &mut ours, &source, 16, 3);
+    let target = longs_beside(rt, &mut ours, &source);
     let theirs = told(pool, first, &mut ours, &source);
     let closer = Closer::new(pool, theirs, source.arena(), at);
     (Braided::new(ours, closer), source, target)
 }
 
-/// The memory again, once the arena is closed; what was found of it; the next arena in its slot begins with zeros.
+/// The memory again, once the arena is closed, and what was found of it; the next arena in its slot begins with zeros.
 pub(crate) fn ended<'a, R: Abort + Wait>(
     rt: &R,
     braided: Braided<Shared<'a>, Closer<'a>>,
+    target: &Segment,
 ) -> (Shared<'a>, Walk)
-    requires { braided.memory.inside ≡ None }
+    requires outside { braided.memory.inside ≡ None }
+    requires target { IsKnown (view_of_pass braided.memory) target.now }
     ensures outside { result.0.inside ≡ None }
-    ensures lasts { Lasts braided.memory result.0 }
+    ensures target { IsKnown (view_of_pass result.0) target.now }
 {
     let (mut ours, closer) = braided.into_parts();
-    let (walk, _) = closer.finish(rt);
-    let next = longs_of(rt, &mut ours);
-    has_numbers(rt, &mut ours, &next, [0, 0, 0]);
+    let walk = closer.finish(rt);
+    let next = longs_beside(rt, &mut ours, target);
+    zeros_beside(rt, &mut ours, &next, target);
     (ours, walk)
+}
+
+/// Whether it has zeros, beside a segment that is known.
+fn zeros_beside<R: Abort>(rt: &R, m: &mut Shared, s: &Segment, other: &Segment)
+    requires outside { m.old.inside ≡ None }
+    requires known { IsKnown (view_of_pass m.old) s.now }
+    requires other { IsKnown (view_of_pass m.old) other.now }
+    ensures outside { m.new.inside ≡ None }
+    ensures other { IsKnown (view_of_pass m.new) other.now }
+{
+    let long = Layout::value(ValueKind::Long);
+    assert_eq!(rt; s.get(m, &long, 0), Ok(Value::Long(0)));
+    assert_eq!(rt; s.get(m, &long, 8), Ok(Value::Long(0)));
+    assert_eq!(rt; s.get(m, &long, 16), Ok(Value::Long(0)));
 }

@@ -29,9 +29,9 @@ fn int<R: Abort + AllocGlobal>(rt: &R) -> VarHandle
 fn add_beside<R: Abort + AllocGlobal + Wait>(rt: &R, at: u64) -> (Walk, Result<Value, Refusal>) {
     let (pool, first) = made(rt);
     let int = int(rt);
-    let (mut braided, source, _) = scene(rt, &pool, first, at);
+    let (mut braided, source, target) = scene(rt, &pool, first, at);
     let answer = int.get_and_add(rt, &mut braided, &source, 0, &[], Value::Int(5));
-    let (_, walk) = ended(rt, braided);
+    let (_, walk) = ended(rt, braided, &target);
     (walk, answer)
 }
 
@@ -39,10 +39,10 @@ fn add_beside<R: Abort + AllocGlobal + Wait>(rt: &R, at: u64) -> (Walk, Result<V
 fn set_beside<R: Abort + AllocGlobal + Wait>(rt: &R, at: u64) -> (Walk, Result<bool, Refusal>) {
     let (pool, first) = made(rt);
     let int = int(rt);
-    let (mut braided, source, _) = scene(rt, &pool, first, at);
+    let (mut braided, source, target) = scene(rt, &pool, first, at);
     let (one, nine) = (Value::Int(1), Value::Int(9));
     let answer = int.compare_and_set(rt, &mut braided, &source, 0, &[], one, nine);
-    let (_, walk) = ended(rt, braided);
+    let (_, walk) = ended(rt, braided, &target);
     (walk, answer)
 }
 
