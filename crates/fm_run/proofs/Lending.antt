@@ -196,13 +196,16 @@ module _ (z : Shape) (c : Caller) (seen next : List Entry) (b : Begins seen next
 
   pub lends_later : (own : List Entry) (d : Done) → LendsRightly z c seen own d → LendsRightly z c next own d
   lends_later own d = if_allocates d.line.command _ _ (λ size align h e i loan.
-      let l = h e i loan in
-      (l.0, l.1, record {
-        page = l.2.page;
-        part = l.2.part;
-        lends = l.2.lends;
-        at = l.2.at;
-        point = point_later own d.run l.2.at l.2.point;
-        after = l.2.after;
-        before = l.2.before;
-      }))
+      let l = h e i loan in (
+        l.0,
+        l.1,
+        record {
+          page = l.2.page;
+          part = l.2.part;
+          lends = l.2.lends;
+          at = l.2.at;
+          point = point_later own d.run l.2.at l.2.point;
+          after = l.2.after;
+          before = l.2.before;
+        },
+      ))
