@@ -75,16 +75,20 @@ module _ (c d : Caller) (id e : ArenaId) where
   -- Whom an allocation entered is its arena, and then it was let in.
   let_in : (size align : ℕ) (result : Result ℕ Refusal) (own : List Entry) → DoesAllocate c id size align result own
       → IsAmong (entry_of d (Enter e) Fine) own → (e ≡ id) × IsLetIn result
-  let_in size align (Ok place) own does i =
-      (enters (entry_of c (Allocate id size align) (Given place) ∷ entry_of c (Leave id) Fine ∷ [])
-      (subst (λ (es : List Entry). IsAmong (entry_of d (Enter e) Fine) es) does.2 i) (not_given size align (Given place)), tt)
+  let_in size align (Ok place) own does i = (
+    enters (entry_of c (Allocate id size align) (Given place) ∷ entry_of c (Leave id) Fine ∷ [])
+        (subst (λ (es : List Entry). IsAmong (entry_of d (Enter e) Fine) es) does.2 i) (not_given size align (Given place)),
+    tt,
+  )
   let_in size align (Err refusal.BadAlignment) own does i = absurd (subst (λ (es : List Entry). IsAmong (entry_of d (Enter e) Fine) es) does.1 i)
   let_in size align (Err refusal.WrongThread) own does i = absurd (subst (λ (es : List Entry). IsAmong (entry_of d (Enter e) Fine) es) does.2 i)
   let_in size align (Err refusal.Closed) own does i =
       absurd (not_refused (subst (λ (es : List Entry). IsAmong (entry_of d (Enter e) Fine) es) does.2 i))
-  let_in size align (Err (refusal.NoRoom given)) own does i =
-      (enters (entry_of c (Allocate id size align) (NoRoom given) ∷ entry_of c (Leave id) Fine ∷ [])
-      (subst (λ (es : List Entry). IsAmong (entry_of d (Enter e) Fine) es) does.2 i) (not_given size align (NoRoom given)), tt)
+  let_in size align (Err (refusal.NoRoom given)) own does i = (
+    enters (entry_of c (Allocate id size align) (NoRoom given) ∷ entry_of c (Leave id) Fine ∷ [])
+        (subst (λ (es : List Entry). IsAmong (entry_of d (Enter e) Fine) es) does.2 i) (not_given size align (NoRoom given)),
+    tt,
+  )
   let_in size align (Err refusal.PoolFull) own does i =
       (enters (entry_of c (Leave id) Fine ∷ []) (subst (λ (es : List Entry). IsAmong (entry_of d (Enter e) Fine) es) does.2 i) not_left, tt)
   let_in size align (Err refusal.Memory) own does i = absurd (subst (λ (es : List Entry). IsAmong (entry_of d (Enter e) Fine) es) does.2 i)
