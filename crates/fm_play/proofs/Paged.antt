@@ -1,5 +1,5 @@
 -- What a script's passes did with pages, in the words of its report.
-use Rattle.std.proofs.Common.{◌≡◌, true, List, [], ◌++◌, map, append_assoc, refl, sym, ap, ◌∙◌, subst}
+use Rattle.std.proofs.Common.{◌≡◌, true, List, [], ◌++◌, append_assoc, sym, ap, ◌∙◌, subst}
 use Rattle.std.specs.List.{AllByRecursion}
 use Rattle.std.proofs.lemmas.List.{append-nil}
 use Rattle.std.proofs.lemmas.List.Elements.{filter-append}

@@ -1,5 +1,5 @@
 -- What a line that allocates found at points of its call, and what it lent.
-use Rattle.std.proofs.Common.{◌≡◌, ℕ, ◌+◌, ◌*◌, ◌/◌, ◌<◌, ◌≤◌, true, arith, length, length-append, List, [], ◌∷◌, ◌++◌, refl, ap, sym, ◌∙◌, subst, append_assoc, inl, inr, Option, Some, None, Result, Err}
+use Rattle.std.proofs.Common.{◌≡◌, ℕ, ◌*◌, ◌/◌, ◌<◌, ◌≤◌, true, arith, length, length-append, List, [], ◌∷◌, ◌++◌, refl, ap, sym, ◌∙◌, subst, append_assoc, inl, inr, Option, Some, None, Result, Err}
 use Rattle.std.specs.Prelude.{IfSome}
 use Rattle.std.proofs.lemmas.List.{append-nil}
 use Rattle.std.proofs.lemmas.List.Elements.{filter-append}
@@ -20,7 +20,6 @@ use Rattle.fm_arena.specs.Allocating.{AllocatesExactly}
 use Rattle.fm_script.specs.declared.command.Command.{Command}
 use Rattle.fm_script.specs.declared.command.Command.TheVariants.{Alloc}
 use Rattle.fm_run.specs.declared.outcome.Outcome.{Outcome}
-use Rattle.fm_run.specs.declared.reply.Reply.{Reply}
 use Rattle.fm_run.specs.declared.reply.Reply.TheVariants.{Refused, Skipped}
 use Rattle.fm_run.specs.declared.standing.Standing.{Standing}
 use Rattle.fm_run.specs.Calls.{Allocates, CallDoes, On}
