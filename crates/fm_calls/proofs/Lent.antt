@@ -27,13 +27,13 @@ IsOnceLent loans = (l x : Loan) → Contains loans l → Contains loans x → l.
 once_by : (size : ℕ) (s : State) (loans : List Loan) (call : Call) → IsRightlyLentIn size s loans call → IsOnceLent loans → IsOnceLent (loans_by loans call)
 once_by size s loans (Lend block id part) r o l x i j e = ⊎_elim
     (λ (p : loan_of block id part ≡ l). ⊎_elim
-      (λ (q : loan_of block id part ≡ x). sym p ∙ q)
-      (λ (c : Contains loans x). absurd (All-contains (λ (y : Loan). y.block ≢ block) loans x r.0 c (sym e ∙ ap (λ (y : Loan). y.block) (sym p))))
-      (loan_cases (loan_of block id part) x loans j))
+    (λ (q : loan_of block id part ≡ x). sym p ∙ q)
+    (λ (c : Contains loans x). absurd (All-contains (λ (y : Loan). y.block ≢ block) loans x r.0 c (sym e ∙ ap (λ (y : Loan). y.block) (sym p))))
+    (loan_cases (loan_of block id part) x loans j))
     (λ (c : Contains loans l). ⊎_elim
-      (λ (q : loan_of block id part ≡ x). absurd (All-contains (λ (y : Loan). y.block ≢ block) loans l r.0 c (e ∙ ap (λ (y : Loan). y.block) (sym q))))
-      (λ (d : Contains loans x). o l x c d e)
-      (loan_cases (loan_of block id part) x loans j))
+    (λ (q : loan_of block id part ≡ x). absurd (All-contains (λ (y : Loan). y.block ≢ block) loans l r.0 c (e ∙ ap (λ (y : Loan). y.block) (sym q))))
+    (λ (d : Contains loans x). o l x c d e)
+    (loan_cases (loan_of block id part) x loans j))
     (loan_cases (loan_of block id part) l loans i)
 once_by size s loans (Back block) r o l x i j e = o l x (loan_was (λ y. not (y.block == block)) loans l i) (loan_was (λ y. not (y.block == block)) loans x j) e
 once_by size s loans (Open id) r o l x i j e = o l x i j e

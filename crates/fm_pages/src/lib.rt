@@ -15,3 +15,6 @@ pub use giving::try_at;
 pub use mapping::map;
 pub use page::Page;
 pub use placing::place_of;
+
+#[cfg(test)]
+mod tests;

@@ -1,5 +1,5 @@
 -- An arena that is over gives no more bytes, so its count says for good which of its words have a given byte.
-use Rattle.std.proofs.Common.{◌≡◌, ◌⊎◌, ℕ, ◌+◌, ◌*◌, ◌/◌, ◌%◌, ◌<◌, ◌≤◌, true, List, [], ◌∷◌, ◌++◌, refl, ap, sym, ◌∙◌, subst, arith, inl, inr, mul_comm}
+use Rattle.std.proofs.Common.{◌≡◌, ◌⊎◌, ℕ, ◌+◌, ◌*◌, ◌/◌, ◌%◌, ◌<◌, ◌≤◌, true, List, [], ◌∷◌, ◌++◌, refl, ap, ◌∙◌, subst, arith, inl, inr, mul_comm}
 use Rattle.std.specs.Prelude.{⊤, Contains}
 use Rattle.std.proofs.Math.Nat.{div-add-mod, mod-lt}
 use Rattle.fm_base.specs.declared.caller.Caller.{Caller}
@@ -27,7 +27,8 @@ none_given limit s c (Enter id) Fine may = λ o. refl
 none_given limit s c (Write id word value) reply may = λ o. refl
 none_given limit s c (SwapIf id word old new) (Found found) may = λ o. refl
 none_given limit s c (Add id word n) (Found found) may = λ o. refl
-none_given limit s c (Allocate id size align) (Given place) may = λ o. absurd (let h = (subst (λ (ks : List Caller). Contains ks c) o.empty may.0).1 in omega arith)
+none_given limit s c (Allocate id size align) (Given place) may =
+    λ o. absurd (let h = (subst (λ (ks : List Caller). Contains ks c) o.empty may.0).1 in omega arith)
 none_given limit s c (Leave id) reply may = λ o. refl
 none_given limit s c (Hold id) Fine may = λ o. refl
 none_given limit s c (Unhold id) reply may = λ o. refl

@@ -1,5 +1,5 @@
 -- Which parts of an arena that stands are lent: those that have a page, among them each one in which a byte was given.
-use Rattle.std.proofs.Common.{◌≡◌, ◌≢◌, ℕ, ◌*◌, ◌/◌, ◌<◌, Bool, true, false, List, [], sym, ap, ◌∙◌, subst, inl, inr, refl, Option, Some, None}
+use Rattle.std.proofs.Common.{◌≡◌, ◌≢◌, ℕ, ◌*◌, ◌/◌, ◌<◌, Bool, true, false, List, [], sym, subst, inl, inr, refl, Option, Some, None}
 use Rattle.std.specs.Prelude.{Contains}
 use Rattle.fm_words.specs.declared.shape.Shape.{Shape}
 use Rattle.fm_base.specs.declared.caller.Caller.{Caller}
@@ -7,7 +7,7 @@ use Rattle.fm_base.specs.declared.arena_id.ArenaId.{ArenaId}
 use Rattle.fm_base.specs.Arenas.{Life, Alive, Closing, Ended, State, has_arena, arena_of}
 use Rattle.fm_base.specs.Histories.{state_after}
 use Rattle.fm_base.proofs.Growing.{there_by_life}
-use Rattle.fm_depicts.specs.Functions.{Stage, stage_of}
+use Rattle.fm_depicts.specs.Functions.{stage_of}
 use Rattle.fm_pool_facts.specs.Loans.{loan_of, lent, HasPart}
 use Rattle.fm_pool_facts.specs.Views.{View, limit_of}
 use Rattle.fm_pool_facts.specs.Facts.{IsStanding, Rule}

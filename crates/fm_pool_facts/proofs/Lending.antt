@@ -1,18 +1,15 @@
 -- Loans of a history that goes on.
-use Rattle.std.proofs.Common.{◌≡◌, ◌≢◌, ◌⊎◌, ℕ, ◌/◌, ◌<◌, ◌==◌, Bool, true, false, not, cond, filter, List, [], ◌∷◌, ◌++◌, sym, refl, ap, ◌∙◌, subst, inl, inr, ⊎_elim, arith, eq-eqb, ne_eqb}
-use Rattle.std.proofs.Math.Nat.{div-eq_of_lt}
-use Rattle.std.proofs.lemmas.List.Elements.{All-cons, All-weaker, All-contains, All-contains_itself, All-filter, filter_passes, Contains-append_left, Contains-append_right, Contains-append_cases, Contains-push, Contains-push_cases}
+use Rattle.std.proofs.Common.{◌≡◌, ◌≢◌, ◌⊎◌, ℕ, ◌==◌, Bool, true, false, not, cond, filter, List, [], ◌∷◌, ◌++◌, sym, refl, ap, ◌∙◌, subst, inl, inr, ⊎_elim, arith, eq-eqb}
+use Rattle.std.proofs.lemmas.List.Elements.{All-contains, All-contains_itself, All-filter, Contains-append_left, Contains-append_right, Contains-append_cases, Contains-push, Contains-push_cases}
 use Rattle.std.specs.Prelude.{Contains}
 use Rattle.fm_base.specs.declared.caller.Caller.{Caller}
-use Rattle.fm_base.specs.declared.arena_id.ArenaId.{ArenaId}
 use Rattle.fm_base.specs.Arenas.{Life, Alive, Closing, Ended, State, has_arena, arena_of}
 use Rattle.fm_base.specs.Calls.{Call, Open, Enter, Read, Write, SwapIf, Add, Allocate, Leave, Hold, Unhold, Shut, End, Lend, Back, Entry}
 use Rattle.fm_base.specs.Machine.{after}
 use Rattle.fm_base.specs.Histories.{IsLegal, state_after}
-use Rattle.fm_pool_facts.specs.Loans.{Loan, loan_of, loans_by, loans_after, IsFree, HasPart, IsRightlyLentIn, IsRightlyLentFrom}
+use Rattle.fm_pool_facts.specs.Loans.{Loan, loans_by, loans_after, IsRightlyLentIn, IsRightlyLentFrom}
 use Rattle.fm_base.proofs.Making.{state_after-append}
-use Rattle.fm_depicts.specs.Functions.{put, put_at, Stage, Fresh, Lives, Over, stage_of, Machine, Depicts, moved}
-use Rattle.fm_depicts.proofs.Putting.{put_cases, at_cases}
+use Rattle.fm_depicts.specs.Functions.{Fresh, Over, stage_of, Machine, Depicts, moved}
 use Rattle.fm_pool_facts.specs.Moves.{LendsBy, MayLend, MayMake}
 use Rattle.fm_pool_facts.proofs.Frame.{legal_on}
 

@@ -14,6 +14,7 @@ pub mod Callers
 pub mod Lending
 pub mod Moving
 pub mod Living
+pub mod Returning
 pub mod Scarcity
 pub mod Unlending
 pub mod Ending
@@ -22,4 +23,6 @@ pub mod Founds
 pub mod Drawers
 pub mod Gone
 pub mod Alone
+pub mod Owning
+pub mod Sounding
 pub mod Ruling

@@ -1,40 +1,22 @@
--- The facts of pages while their words are written and wiped, when pages are given back, and over what happens to arenas.
-use Rattle.std.proofs.Common.{◌≡◌, ◌≢◌, ◌⊎◌, ℕ, ◌+◌, ◌*◌, ◌/◌, ◌%◌, ◌<◌, ◌≤◌, ◌==◌, Bool, true, false, not, cond, filter, List, [], ◌∷◌, Option, Some, None, sym, refl, ap, ◌∙◌, subst, inl, inr, ⊎_elim, arith, eq-eqb, ne_eqb}
-use Rattle.std.specs.Prelude.{Contains}
+-- The facts of pages while their words are written and wiped, and over what happens to arenas.
+use Rattle.std.proofs.Common.{◌≡◌, ◌≢◌, ◌⊎◌, ℕ, ◌+◌, ◌*◌, ◌/◌, ◌%◌, ◌<◌, ◌≤◌, List, Option, Some, None, sym, refl, ap, ◌∙◌, subst, inl, inr, ⊎_elim, arith}
 use mathlib.Core.Logic.{dite}
 use native.Mathlib.Decide.{ℕ_discrete}
 use Rattle.std.proofs.Math.Nat.{div-add-mod}
-use Rattle.std.specs.Int.{bit_at}
-use Rattle.std.proofs.lemmas.List.Elements.{All-contains, filter_passes}
 use Rattle.fm_words.specs.declared.shape.Shape.{Shape}
 use Rattle.fm_base.specs.declared.arena_id.ArenaId.{ArenaId}
-use Rattle.fm_base.specs.Calls.{Lend, Back}
 use Rattle.fm_depicts.specs.Functions.{Stage, Fresh, Lives, Closes, Over, put, put_at}
 use Rattle.fm_depicts.proofs.Putting.{put_here, put_else, put_cases, at_cases}
-use Rattle.fm_pool_facts.specs.Loans.{Loan, loan_of, loans_by, IsFree, HasPart}
+use Rattle.fm_pool_facts.specs.Loans.{Loan}
 use Rattle.fm_pool_facts.specs.Facts.{Session, free, live, shut, IsShown, IsStanding, Sessions}
-use Rattle.fm_pool_facts.proofs.Lending.{loan_cases, loan_was}
-use Rattle.fm_pool_facts.proofs.Standing.{standing_known, unstanding, standing_shown, shown_one, one_standing, ended_apart}
-use Rattle.fm_pool_facts.specs.Berths.{Berth, loose, claimed, mapped, unmapped, IsAt, LentAt}
+use Rattle.fm_pool_facts.proofs.Standing.{standing_known, unstanding, standing_shown, shown_one, one_standing}
+use Rattle.fm_pool_facts.specs.Berths.{Berth, loose, claimed, mapped, unmapped}
 use Rattle.fm_pool_facts.specs.Pages.{IsBlank, IsBeyond, IsMapped, IsUnmapped, Pages}
-use Rattle.fm_pool_facts.proofs.Moving.{first_loan, more_loans}
 use Rattle.fm_pool_facts.proofs.Putting.{two_cases}
-
--- a loan of another block is kept when one is taken back
-kept_loan : (p : Loan → Bool) (loans : List Loan) (x : Loan) → Contains loans x → p x ≡ true → Contains (filter p loans) x
-kept_loan p [] x h e = absurd (let l = h.1 in omega arith)
-kept_loan p (y ∷ ys) x h e = go (p y) refl (loan_cases y x ys h) (λ i. kept_loan p ys x i e)
-  where
-    go : (b : Bool) → p y ≡ b → (y ≡ x) ⊎ Contains ys x → (Contains ys x → Contains (filter p ys) x) → Contains (cond b (y ∷ filter p ys) (filter p ys)) x
-    go true t (inl i) ih = subst (λ (w : Loan). Contains (w ∷ filter p ys) x) (sym i) (first_loan x (filter p ys))
-    go true t (inr i) ih = more_loans y x (filter p ys) (ih i)
-    go false t (inl i) ih = absurd (let q : true ≡ false = sym e ∙ (ap p (sym i) ∙ t) in cc)
-    go false t (inr i) ih = ih i
 
 module _ (z : Shape) (loans : List Loan) (bits : ℕ) (maps : ℕ → ℕ → Option ℕ) (cells : ℕ → ℕ → ℕ) (berth : ℕ → Berth) (sessions : ℕ → Session)
     (life : ArenaId → Stage) (word : ArenaId → ℕ → ℕ) (given : ArenaId → ℕ)
     (s : Sessions z sessions life) (r : Pages z loans bits maps cells berth sessions life word given) where
-
   -- ---- words
 
   -- the words of another page
@@ -62,7 +44,8 @@ module _ (z : Shape) (loans : List Loan) (bits : ℕ) (maps : ℕ → ℕ → Op
     is_bit = r.is_bit;
     map_is = r.map_is;
     mapped_is = λ q k c h. mapped_with (r.mapped_is q k c h)
-        (λ w n g. other_cell p o 0 q (w % z.page_words) (λ u. let x : mapped k c ≡ unmapped j a i = sym h ∙ (ap berth u ∙ e) in absurd (cc)) ∙ (r.mapped_is q k c h).beyond w n g);
+        (λ w n g. other_cell p o 0 q (w % z.page_words) (λ u. let x : mapped k c ≡ unmapped j a i = sym h ∙ (ap berth u ∙ e) in absurd (cc))
+        ∙ (r.mapped_is q k c h).beyond w n g);
     unmapped_is = λ q k c b h. unmapped_with (r.unmapped_is q k c b h)
         (λ w n g. two_cases cells p o 0 q (w % z.page_words) (λ (x : ℕ). x ≡ 0) (λ u v. refl) (λ u. (r.unmapped_is q k c b h).beyond w n g));
     claimed_is = λ q k h. let y = r.claimed_is q k h in
@@ -87,7 +70,8 @@ module _ (z : Shape) (loans : List Loan) (bits : ℕ) (maps : ℕ → ℕ → Op
     is_bit = r.is_bit;
     map_is = r.map_is;
     mapped_is = λ q k c h. mapped_with (r.mapped_is q k c h)
-        (λ v n g. two_cases cells p o x q (v % z.page_words) (λ (y : ℕ). y ≡ 0) (λ u m. absurd (within q k c h v n g u m)) (λ u. (r.mapped_is q k c h).beyond v n g));
+        (λ v n g. two_cases cells p o x q (v % z.page_words) (λ (y : ℕ). y ≡ 0) (λ u m. absurd (within q k c h v n g u m))
+        (λ u. (r.mapped_is q k c h).beyond v n g));
     unmapped_is = λ q k c b h. unmapped_with (r.unmapped_is q k c b h)
         (λ v n g. other_cell p o x q (v % z.page_words) (λ u. let y : unmapped k b c ≡ mapped a.slot i = sym h ∙ (ap berth u ∙ here) in absurd (cc))
         ∙ (r.unmapped_is q k c b h).beyond v n g);
@@ -161,87 +145,6 @@ module _ (z : Shape) (loans : List Loan) (bits : ℕ) (maps : ℕ → ℕ → Op
           ∙ sym (now ∙ put_else (cells p) o x (v % z.page_words) (λ m. n (one v parts m)))))))
           (λ g. absurd (g is))
 
-  -- ---- pages are given back
-
-  module _ (bits' p : ℕ) (is_one : bit_at bits' p ≡ 1) (others : (k : ℕ) → k ≢ p → bit_at bits' k ≡ bit_at bits k) where
-    -- a page in a hand, which had lost the race for its map word or wasn't mapped
-    pub pages_give : (me : ℕ) → berth p ≡ claimed me → Pages z loans bits' maps cells (put berth p loose) sessions life word given
-    pages_give me mine = record {
-      bit_is = λ q e. dite (ℕ_discrete q p)
-          (λ w. (ap (put berth p loose) w ∙ put_here berth p loose, subst (λ (y : ℕ). y < z.pages) (sym w) (r.claimed_is p me mine).0))
-          (λ n. let y = r.bit_is q (sym (others q n) ∙ e) in (put_else berth p loose q n ∙ y.0, y.1));
-      is_bit = λ q h. put_cases berth p loose q (λ (b : Berth). b ≡ loose → bit_at bits' q ≡ 1)
-          (λ w e. ap (bit_at bits') w ∙ is_one)
-          (λ n e. others q n ∙ r.is_bit q h e);
-      map_is = λ k i q e. put_else berth p loose q (λ w. let u : mapped k i ≡ claimed me = sym (r.map_is k i q e) ∙ (ap berth w ∙ mine) in absurd (cc)) ∙ r.map_is k i q e;
-      mapped_is = λ q k i. put_cases berth p loose q (λ (b : Berth). b ≡ mapped k i → IsMapped z loans maps cells sessions given q k i) (λ w e. absurd (cc)) (λ n e. r.mapped_is q k i e);
-      unmapped_is = λ q j i a. put_cases berth p loose q (λ (b : Berth). b ≡ unmapped j a i → IsUnmapped z loans cells life given q a i)
-          (λ w e. absurd (cc)) (λ n e. r.unmapped_is q j i a e);
-      claimed_is = λ q j. put_cases berth p loose q (λ (b : Berth). b ≡ claimed j → (q < z.pages) × IsBlank z cells q) (λ w e. absurd (cc)) (λ n e. r.claimed_is q j e);
-      loose_is = λ q. put_cases berth p loose q (λ (b : Berth). b ≡ loose → IsBlank z cells q)
-          (λ w e. subst (IsBlank z cells) (sym w) (r.claimed_is p me mine).1)
-          (λ n e. r.loose_is q e);
-      lent_is = λ l h. put_cases berth p loose l.block (λ (b : Berth). LentAt b l)
-          (λ w. subst (λ (b : Berth). LentAt b l) (ap berth w ∙ mine) (r.lent_is l h))
-          (λ n. r.lent_is l h);
-      only_loan = r.only_loan;
-      empty = r.empty;
-      words = r.words;
-      bare = r.bare;
-      covered = r.covered;
-      new_words = r.new_words;
-      new_given = r.new_given;
-    }
-
-    -- a page of a sweep that was wiped: its loan is taken back
-    pub pages_back : (me i : ℕ) (a : ArenaId) → berth p ≡ unmapped me a i → IsBlank z cells p
-        → Pages z (loans_by loans (Back p)) bits' maps cells (put berth p loose) sessions life word given
-    pages_back me i a mine blank = record {
-      bit_is = λ q e. dite (ℕ_discrete q p)
-          (λ w. (ap (put berth p loose) w ∙ put_here berth p loose, subst (λ (y : ℕ). y < z.pages) (sym w) (r.unmapped_is p me i a mine).page))
-          (λ n. let y = r.bit_is q (sym (others q n) ∙ e) in (put_else berth p loose q n ∙ y.0, y.1));
-      is_bit = λ q h. put_cases berth p loose q (λ (b : Berth). b ≡ loose → bit_at bits' q ≡ 1)
-          (λ w e. ap (bit_at bits') w ∙ is_one)
-          (λ n e. others q n ∙ r.is_bit q h e);
-      map_is = λ k c q e. put_else berth p loose q (far k c q e) ∙ r.map_is k c q e;
-      mapped_is = λ q k c. put_cases berth p loose q (λ (b : Berth). b ≡ mapped k c → IsMapped z loans' maps cells sessions given q k c)
-          (λ w e. absurd (cc))
-          (λ n e. let y = r.mapped_is q k c e in
-          record { page = y.page; part = y.part; named = y.named; arena = y.arena; slot = y.slot; shown = y.shown; lent = stays (loan_of q y.arena c) y.lent n; beyond = y.beyond });
-      unmapped_is = λ q j c b. put_cases berth p loose q (λ (x : Berth). x ≡ unmapped j b c → IsUnmapped z loans' cells life given q b c)
-          (λ w e. absurd (cc))
-          (λ n e. let y = r.unmapped_is q j c b e in record { page = y.page; part = y.part; lent = stays (loan_of q b c) y.lent n; over = y.over; beyond = y.beyond });
-      claimed_is = λ q j. put_cases berth p loose q (λ (b : Berth). b ≡ claimed j → (q < z.pages) × IsBlank z cells q) (λ w e. absurd (cc)) (λ n e. r.claimed_is q j e);
-      loose_is = λ q. put_cases berth p loose q (λ (b : Berth). b ≡ loose → IsBlank z cells q)
-          (λ w e. subst (IsBlank z cells) (sym w) blank)
-          (λ n e. r.loose_is q e);
-      lent_is = λ l h. put_cases berth p loose l.block (λ (b : Berth). LentAt b l)
-          (λ w. absurd (gone l h w))
-          (λ n. r.lent_is l (loan_was keep loans l h));
-      only_loan = λ l x h k e. r.only_loan l x (loan_was keep loans l h) (loan_was keep loans x k) e;
-      empty = r.empty;
-      words = r.words;
-      bare = r.bare;
-      covered = r.covered;
-      new_words = r.new_words;
-      new_given = r.new_given;
-    }
-      where
-        keep : Loan → Bool
-        keep l = not (l.block == p)
-
-        loans' : List Loan
-        loans' = filter keep loans
-
-        stays : (l : Loan) → Contains loans l → l.block ≢ p → Contains loans' l
-        stays l h n = kept_loan keep loans l h (ap not (ne_eqb l.block p n))
-
-        gone : (l : Loan) → Contains loans' l → l.block ≢ p
-        gone l h w = let t : not true ≡ true = ap not (sym (eq-eqb l.block p w)) ∙ All-contains (λ x. keep x ≡ true) loans' l (filter_passes keep loans) h in absurd (cc)
-
-        far : (k c q : ℕ) → maps k c ≡ Some q → q ≢ p
-        far k c q e w = let u : mapped k c ≡ unmapped me a i = sym (r.map_is k c q e) ∙ (ap berth w ∙ mine) in absurd (cc)
-
   -- ---- what happens to arenas
 
   -- A session or a life is changed: a part that is mapped is of the arena that its slot shows still, one that has ended has so still, and one that stands
@@ -253,7 +156,9 @@ module _ (z : Shape) (loans : List Loan) (bits : ℕ) (maps : ℕ → ℕ → Op
     stood : (b : ArenaId) → IsStanding (life' b) → IsStanding (life b) ⊎ ((life b ≡ Fresh) × ((i : ℕ) → maps b.slot i ≡ None))
     fresh : (b : ArenaId) → life' b ≡ Fresh → life b ≡ Fresh
 
-  pub pages_alter : (sessions' : ℕ → Session) (life' : ArenaId → Stage) → Alters sessions' life' → Pages z loans bits maps cells berth sessions' life' word given
+  -- the facts of pages last over such a change
+  pub pages_alter : (sessions' : ℕ → Session) (life' : ArenaId → Stage) → Alters sessions' life'
+      → Pages z loans bits maps cells berth sessions' life' word given
   pages_alter sessions' life' c = record {
     bit_is = r.bit_is;
     is_bit = r.is_bit;
@@ -293,6 +198,7 @@ module _ (z : Shape) (loans : List Loan) (bits : ℕ) (maps : ℕ → ℕ → Op
     new_given = λ b f. r.new_given b (c.fresh b f);
   }
 
+  -- an arena is shut
   pub pages_shut : (a : ArenaId) → life a ≡ Lives → Pages z loans bits maps cells berth (put sessions a.slot (shut a)) (put_at life a Closes) word given
   pages_shut a l = pages_alter (put sessions a.slot (shut a)) (put_at life a Closes) (record {
     shown = λ b i p e h. put_cases sessions a.slot (shut a) b.slot (λ (x : Session). (x ≡ live b) ⊎ (x ≡ shut b))
@@ -307,6 +213,7 @@ module _ (z : Shape) (loans : List Loan) (bits : ℕ) (maps : ℕ → ℕ → Op
     fresh = λ b. at_cases life a Closes b (λ (x : Stage). x ≡ Fresh → life b ≡ Fresh) (λ e q. absurd (cc)) (λ n q. q);
   })
 
+  -- an arena ends
   pub pages_end : (a : ArenaId) → life a ≡ Closes → Pages z loans bits maps cells berth sessions (put_at life a Over) word given
   pages_end a l = pages_alter sessions (put_at life a Over) (record {
     shown = λ b i p e h. h;
@@ -318,6 +225,7 @@ module _ (z : Shape) (loans : List Loan) (bits : ℕ) (maps : ℕ → ℕ → Op
     fresh = λ b. at_cases life a Over b (λ (x : Stage). x ≡ Fresh → life b ≡ Fresh) (λ e q. absurd (cc)) (λ n q. q);
   })
 
+  -- an arena is opened in a free slot
   pub pages_open : (a : ArenaId) → sessions a.slot ≡ free a.generation → life a ≡ Fresh
       → Pages z loans bits maps cells berth (put sessions a.slot (live a)) (put_at life a Lives) word given
   pages_open a f new = pages_alter (put sessions a.slot (live a)) (put_at life a Lives) (record {

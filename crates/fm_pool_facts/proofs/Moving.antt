@@ -1,43 +1,47 @@
 -- The facts of pages over the steps that move them.
-use Rattle.std.proofs.Common.{◌≡◌, ◌≢◌, ◌⊎◌, ℕ, ◌*◌, ◌/◌, ◌%◌, ◌<◌, ◌==◌, Bool, true, false, not, filter, List, [], ◌∷◌, Option, Some, None, sym, refl, ap, ◌∙◌, subst, inl, inr, ⊎_elim, arith, eq-eqb, ne_eqb}
+use Rattle.std.proofs.Common.{◌≡◌, ◌≢◌, ℕ, ◌/◌, ◌%◌, ◌<◌, List, [], ◌∷◌, Option, Some, None, sym, refl, ap, ◌∙◌, subst, inr, ⊎_elim, arith}
 use Rattle.std.specs.Prelude.{Contains}
 use mathlib.Core.Logic.{dite}
 use native.Mathlib.Decide.{ℕ_discrete}
 use Rattle.std.proofs.Math.Nat.{mod-lt}
 use Rattle.std.specs.Int.{bit_at}
-use Rattle.std.proofs.lemmas.List.Elements.{All-weaker, All-contains, All-contains_itself, filter_passes, Contains-append_left, Contains-append_right, Contains-push}
+use Rattle.std.proofs.lemmas.List.Elements.{All-weaker, All-contains, All-contains_itself, Contains-append_left, Contains-append_right, Contains-push}
 use Rattle.fm_words.specs.declared.shape.Shape.{Shape}
 use Rattle.fm_base.specs.declared.arena_id.ArenaId.{ArenaId}
-use Rattle.fm_base.specs.Calls.{Lend, Back}
-use Rattle.fm_depicts.specs.Functions.{Stage, Fresh, Lives, Closes, Over, put, put_at}
-use Rattle.fm_depicts.proofs.Putting.{put_here, put_else, put_cases, at_cases}
+use Rattle.fm_base.specs.Calls.{Lend}
+use Rattle.fm_depicts.specs.Functions.{Stage, Lives, Closes, Over, put}
+use Rattle.fm_depicts.proofs.Putting.{put_here, put_else, put_cases}
 use Rattle.fm_pool_facts.proofs.Putting.{two_cases}
 use Rattle.fm_pool_facts.specs.Loans.{Loan, loan_of, loans_by, IsFree, HasPart}
 use Rattle.fm_pool_facts.specs.Facts.{Session, free, live, shut, IsShown, IsStanding, Sessions}
-use Rattle.fm_pool_facts.proofs.Lending.{loan_cases, loan_was}
-use Rattle.fm_pool_facts.proofs.Standing.{standing_shown, shown_one, one_standing, ended_apart}
-use Rattle.fm_pool_facts.specs.Berths.{Berth, loose, claimed, mapped, unmapped, IsAt, LentAt}
+use Rattle.fm_pool_facts.proofs.Lending.{loan_cases}
+use Rattle.fm_pool_facts.proofs.Standing.{standing_shown, shown_one, ended_apart}
+use Rattle.fm_pool_facts.specs.Berths.{Berth, loose, claimed, mapped, unmapped, LentAt}
 use Rattle.fm_pool_facts.specs.Pages.{IsBlank, IsBeyond, IsMapped, IsUnmapped, Pages}
 
+-- a list of loans has its first one
 pub first_loan : (l : Loan) (loans : List Loan) → Contains (l ∷ loans) l
 first_loan l loans = Contains-append_left (l ∷ []) loans l (Contains-push [] l)
 
+-- and all that come after it
 pub more_loans : (l x : Loan) (loans : List Loan) → Contains loans x → Contains (l ∷ loans) x
 more_loans l x loans h = Contains-append_right (l ∷ []) loans x h
 
 module _ (z : Shape) (loans : List Loan) (bits : ℕ) (maps : ℕ → ℕ → Option ℕ) (cells : ℕ → ℕ → ℕ) (berth : ℕ → Berth) (sessions : ℕ → Session)
     (life : ArenaId → Stage) (word : ArenaId → ℕ → ℕ) (given : ArenaId → ℕ)
     (some_words : 0 < z.page_words) (s : Sessions z sessions life) (r : Pages z loans bits maps cells berth sessions life word given) where
-
   -- ---- what the facts say together
 
   -- a page that no loan may have is free
   pub free_of : (p : ℕ) → ((l : Loan) → ¬ (LentAt (berth p) l)) → IsFree loans p
-  free_of p n = All-weaker (Contains loans) (λ l. l.block ≢ p) (λ l h e. n l (subst (λ (q : ℕ). LentAt (berth q) l) e (r.lent_is l h))) loans (All-contains_itself loans)
+  free_of p n = All-weaker (Contains loans) (λ l. l.block ≢ p) (λ l h e. n l (subst (λ (q : ℕ). LentAt (berth q) l) e (r.lent_is l h))) loans
+      (All-contains_itself loans)
 
+  -- so a page whose bit is 1 is free
   pub loose_free : (p : ℕ) → berth p ≡ loose → IsFree loans p
   loose_free p e = free_of p (λ l. subst (λ (b : Berth). ¬ (LentAt b l)) (sym e) (λ x. x))
 
+  -- and one that is in a hand
   pub claimed_free : (p j : ℕ) → berth p ≡ claimed j → IsFree loans p
   claimed_free p j e = free_of p (λ l. subst (λ (b : Berth). ¬ (LentAt b l)) (sym e) (λ x. x))
 
@@ -77,7 +81,8 @@ module _ (z : Shape) (loans : List Loan) (bits : ℕ) (maps : ℕ → ℕ → Op
         is_bit = λ p low. put_cases berth bit (claimed me) p (λ (b : Berth). b ≡ loose → bit_at bits' p ≡ 1)
             (λ q e. absurd (cc))
             (λ n e. others p n ∙ r.is_bit p low e);
-        map_is = λ k i p e. put_else berth bit (claimed me) p (λ q. let u : loose ≡ mapped k i = sym was.0 ∙ (ap berth (sym q) ∙ r.map_is k i p e) in absurd (cc))
+        map_is = λ k i p e. put_else berth bit (claimed me) p (λ q. let u : loose ≡ mapped k i = sym was.0 ∙ (ap berth (sym q) ∙ r.map_is k i p e) in
+            absurd (cc))
             ∙ r.map_is k i p e;
         mapped_is = λ p k i. put_cases berth bit (claimed me) p (λ (b : Berth). b ≡ mapped k i → IsMapped z loans maps cells sessions given p k i)
             (λ q e. absurd (cc))
@@ -104,7 +109,8 @@ module _ (z : Shape) (loans : List Loan) (bits : ℕ) (maps : ℕ → ℕ → Op
   -- ---- a page in a hand is mapped
 
   pub pages_map : (me : ℕ) (a : ArenaId) (i p : ℕ) → IsStanding (life a) → i < z.reach → maps a.slot i ≡ None → berth p ≡ claimed me
-      → Pages z (loans_by loans (Lend p a i)) bits (put maps a.slot (put (maps a.slot) i (Some p))) cells (put berth p (mapped a.slot i)) sessions life word given
+      → Pages z (loans_by loans (Lend p a i)) bits (put maps a.slot (put (maps a.slot) i (Some p))) cells
+      (put berth p (mapped a.slot i)) sessions life word given
   pages_map me a i p st low none mine = record {
     bit_is = λ q e. let y = r.bit_is q e in
         (put_else berth p here q (λ w. let u : loose ≡ claimed me = sym y.0 ∙ (ap berth w ∙ mine) in absurd (cc)) ∙ y.0, y.1);
@@ -132,10 +138,12 @@ module _ (z : Shape) (loans : List Loan) (bits : ℕ) (maps : ℕ → ℕ → Op
         (λ e x. absurd (cc))
         (λ ne x. let y = r.unmapped_is q j c b x in
         record { page = y.page; part = y.part; lent = more_loans (loan_of p a i) (loan_of q b c) loans y.lent; over = y.over; beyond = y.beyond });
-    claimed_is = λ q j. put_cases berth p here q (λ (b : Berth). b ≡ claimed j → (q < z.pages) × IsBlank z cells q) (λ e x. absurd (cc)) (λ ne x. r.claimed_is q j x);
+    claimed_is = λ q j. put_cases berth p here q (λ (b : Berth). b ≡ claimed j → (q < z.pages) × IsBlank z cells q) (λ e x. absurd (cc))
+        (λ ne x. r.claimed_is q j x);
     loose_is = λ q. put_cases berth p here q (λ (b : Berth). b ≡ loose → IsBlank z cells q) (λ e x. absurd (cc)) (λ ne x. r.loose_is q x);
     lent_is = λ l h. ⊎_elim
-        (λ (e : loan_of p a i ≡ l). subst (λ (x : Loan). LentAt (put berth p here x.block) x) e (subst (λ (b : Berth). LentAt b (loan_of p a i)) (sym (put_here berth p here)) (refl, refl)))
+        (λ (e : loan_of p a i ≡ l). subst (λ (x : Loan). LentAt (put berth p here x.block) x) e
+        (subst (λ (b : Berth). LentAt b (loan_of p a i)) (sym (put_here berth p here)) (refl, refl)))
         (λ (h : Contains loans l). put_cases berth p here l.block (λ (b : Berth). LentAt b l)
         (λ q. absurd (subst (λ (b : Berth). LentAt b l) (ap berth q ∙ mine) (r.lent_is l h)))
         (λ n. r.lent_is l h))
@@ -155,10 +163,13 @@ module _ (z : Shape) (loans : List Loan) (bits : ℕ) (maps : ℕ → ℕ → Op
         (λ n. r.empty k g c f);
     words = λ c w q sc. two_cases maps a.slot i (Some p) c.slot (w / z.page_words) (λ (x : Option ℕ). x ≡ Some q → word c w ≡ cells q (w % z.page_words))
         (λ e f x. let same : p ≡ q = cc in
-        r.bare c w sc ((λ j. maps (e j) (f j)) ∙ none) ∙ sym (ap (λ (y : ℕ). cells y (w % z.page_words)) (sym same) ∙ (r.claimed_is p me mine).1 (w % z.page_words) (mod-lt w some_words)))
+        r.bare c w sc ((λ j. maps (e j) (f j)) ∙ none)
+        ∙ sym (ap (λ (y : ℕ). cells y (w % z.page_words)) (sym same) ∙ (r.claimed_is p me mine).1 (w % z.page_words) (mod-lt w some_words)))
         (λ n x. r.words c w q sc x);
-    bare = λ c w sc. two_cases maps a.slot i (Some p) c.slot (w / z.page_words) (λ (x : Option ℕ). x ≡ None → word c w ≡ 0) (λ e f x. absurd (cc)) (λ n x. r.bare c w sc x);
-    covered = λ c w sc h. two_cases maps a.slot i (Some p) c.slot (w / z.page_words) (λ (x : Option ℕ). x ≢ None) (λ e f x. absurd (cc)) (λ n. r.covered c w sc h);
+    bare = λ c w sc. two_cases maps a.slot i (Some p) c.slot (w / z.page_words) (λ (x : Option ℕ). x ≡ None → word c w ≡ 0) (λ e f x. absurd (cc))
+        (λ n x. r.bare c w sc x);
+    covered = λ c w sc h. two_cases maps a.slot i (Some p) c.slot (w / z.page_words) (λ (x : Option ℕ). x ≢ None) (λ e f x. absurd (cc))
+        (λ n. r.covered c w sc h);
     new_words = r.new_words;
     new_given = r.new_given;
   }
@@ -185,7 +196,8 @@ module _ (z : Shape) (loans : List Loan) (bits : ℕ) (maps : ℕ → ℕ → Op
       new q k c e f g = record {
         page = subst (λ (x : ℕ). x < z.pages) (sym e) (r.claimed_is p me mine).0;
         part = subst (λ (x : ℕ). x < z.reach) g low;
-        named = (λ j. maps' (sym f j) (sym g j)) ∙ ((λ j. put_here maps a.slot (put (maps a.slot) i (Some p)) j i) ∙ (put_here (maps a.slot) i (Some p) ∙ ap Some (sym e)));
+        named = (λ j. maps' (sym f j) (sym g j))
+            ∙ ((λ j. put_here maps a.slot (put (maps a.slot) i (Some p)) j i) ∙ (put_here (maps a.slot) i (Some p) ∙ ap Some (sym e)));
         arena = a;
         slot = f;
         shown = standing_shown z sessions life s a st;
@@ -204,7 +216,8 @@ module _ (z : Shape) (loans : List Loan) (bits : ℕ) (maps : ℕ → ℕ → Op
     map_is = λ k c q. two_cases maps a.slot i None k c (λ (x : Option ℕ). x ≡ Some q → put berth p gone q ≡ mapped k c)
         (λ e f x. absurd (cc))
         (λ ne x. let y = r.map_is k c q x in
-        put_else berth p gone q (λ w. let u : mapped k c ≡ mapped a.slot i = sym y ∙ (ap berth w ∙ here) in let f : k ≡ a.slot = cc in let g : c ≡ i = cc in ne (f, g)) ∙ y);
+        put_else berth p gone q (λ w. let u : mapped k c ≡ mapped a.slot i = sym y ∙ (ap berth w ∙ here) in let f : k ≡ a.slot = cc in
+        let g : c ≡ i = cc in ne (f, g)) ∙ y);
     mapped_is = λ q k c. put_cases berth p gone q (λ (b : Berth). b ≡ mapped k c → IsMapped z loans maps' cells sessions given q k c)
         (λ e x. absurd (cc))
         (λ ne x.
@@ -230,7 +243,8 @@ module _ (z : Shape) (loans : List Loan) (bits : ℕ) (maps : ℕ → ℕ → Op
           beyond = subst (λ (c : ArenaId). IsBeyond z cells (given c) p i) (shown_one sessions was.arena a was.slot was.shown (inr sh)) was.beyond;
         }))
         (λ ne x. r.unmapped_is q j c b x);
-    claimed_is = λ q j. put_cases berth p gone q (λ (b : Berth). b ≡ claimed j → (q < z.pages) × IsBlank z cells q) (λ e x. absurd (cc)) (λ ne x. r.claimed_is q j x);
+    claimed_is = λ q j. put_cases berth p gone q (λ (b : Berth). b ≡ claimed j → (q < z.pages) × IsBlank z cells q) (λ e x. absurd (cc))
+        (λ ne x. r.claimed_is q j x);
     loose_is = λ q. put_cases berth p gone q (λ (b : Berth). b ≡ loose → IsBlank z cells q) (λ e x. absurd (cc)) (λ ne x. r.loose_is q x);
     lent_is = λ l h. put_cases berth p gone l.block (λ (b : Berth). LentAt b l)
         (λ q. let x = subst (λ (b : Berth). LentAt b l) (ap berth q ∙ here) (r.lent_is l h) in (only l h q x.0 x.1, x.1))
@@ -273,6 +287,7 @@ module _ (z : Shape) (loans : List Loan) (bits : ℕ) (maps : ℕ → ℕ → Op
       (λ f g. absurd (ended_apart z sessions life s a b sh over st f))
       (λ n. e)
 
+  -- nor does a page that is mapped change what others read
   pub read_mapped : (a : ArenaId) (i p : ℕ) → maps a.slot i ≡ None → (b : ArenaId) (j q : ℕ) → maps b.slot j ≡ Some q
       → put maps a.slot (put (maps a.slot) i (Some p)) b.slot j ≡ Some q
   read_mapped a i p none b j q e = two_cases maps a.slot i (Some p) b.slot j (λ (x : Option ℕ). x ≡ Some q)

@@ -5,7 +5,7 @@ use Rattle.fm_base.specs.declared.arena_id.ArenaId.{ArenaId}
 use Rattle.fm_depicts.specs.Functions.{Fresh, Over, Machine, put}
 use Rattle.fm_depicts.proofs.Putting.{put_else, put_cases}
 use Rattle.std.specs.Int.{bit_at}
-use Rattle.fm_pool_facts.specs.Views.{Fits, span}
+use Rattle.fm_pool_facts.specs.Views.{Fits}
 use Rattle.fm_pool_facts.specs.Facts.{Session, free, shut, Memory, World}
 use Rattle.fm_pool_facts.proofs.Standing.{ended_apart, sessions_retire, slots_retired, slots_given}
 

@@ -1,8 +1,7 @@
 -- Words beside the memory: distinct places are distinct words, and one word that is set is one place of the memory.
-use Rattle.std.proofs.Common.{◌≡◌, ◌≢◌, ℕ, ◌+◌, ◌*◌, ◌<◌, List, length, get_or, set, Option, sym, refl, ap, ◌∙◌, subst, arith, length-set, get_or-set_other, get_or-set_same, mul_assoc, mul_comm}
+use Rattle.std.proofs.Common.{◌≡◌, ◌≢◌, ℕ, ◌<◌, List, length, get_or, set, Option, sym, refl, ap, ◌∙◌, subst, arith, length-set, get_or-set_other, get_or-set_same}
 use mathlib.Core.Logic.{dite}
 use native.Mathlib.Decide.{ℕ_discrete}
-use Rattle.std.proofs.lemmas.Nat.{mul-add-lt, same_from_place}
 use lib.Seq.{set-get_or}
 use Rattle.fm_words.specs.declared.shape.Shape.{Shape}
 use Rattle.fm_words.specs.Shapes.{IsValid}
@@ -170,14 +169,7 @@ module _ (z : Shape) (v : IsValid z) (ws : List ℕ) (m : Memory) (r : Shows z w
     where
       others : (q : Spot) → q ≢ marked k → word_of z (record m { marks = put m.marks k x }) q ≡ word_of z m q
       others (marked i) n = ap own_word (put_else m.marks k x i (λ e. n (ap marked e)))
-      others fronted n = refl
-      others drawn n = refl
-      others bits n = refl
-      others page_spot n = refl
-      others (seated s) n = refl
-      others (counted s) n = refl
-      others (cell s w) n = refl
-      others (mapping s i) n = refl
+      others q n = refl
 
   pub shows_session : (k : ℕ) (x : Session) (c : ℕ) → k < z.slots
       → Shows z (set ws (at z (session k)) (session_code z.generations x c)) (record m { sessions = put m.sessions k x; counts = put m.counts k c })
@@ -188,14 +180,7 @@ module _ (z : Shape) (v : IsValid z) (ws : List ℕ) (m : Memory) (r : Shows z w
       others : (q : Spot) → q ≢ seated k → word_of z (record m { sessions = put m.sessions k x; counts = put m.counts k c }) q ≡ word_of z m q
       others (seated i) n = λ j.
           session_code z.generations (put_else m.sessions k x i (λ e. n (ap seated e)) j) (put_else m.counts k c i (λ e. n (ap seated e)) j)
-      others fronted n = refl
-      others drawn n = refl
-      others bits n = refl
-      others page_spot n = refl
-      others (marked i) n = refl
-      others (counted s) n = refl
-      others (cell s w) n = refl
-      others (mapping s i) n = refl
+      others q n = refl
 
   pub shows_cell : (k c x : ℕ) → k < z.pages → c < z.page_words
       → Shows z (set ws (at z (page_word k c)) x) (record m { cells = put m.cells k (put (m.cells k) c x) })
@@ -205,14 +190,7 @@ module _ (z : Shape) (v : IsValid z) (ws : List ℕ) (m : Memory) (r : Shows z w
     where
       others : (q : Spot) → q ≢ cell k c → word_of z (record m { cells = put m.cells k (put (m.cells k) c x) }) q ≡ word_of z m q
       others (cell s w) n = two_cases m.cells k c x s w (λ (y : ℕ). y ≡ m.cells s w) (λ e f. absurd (n (λ j. cell (e j) (f j)))) (λ e. refl)
-      others fronted n = refl
-      others drawn n = refl
-      others bits n = refl
-      others page_spot n = refl
-      others (marked i) n = refl
-      others (seated s) n = refl
-      others (counted s) n = refl
-      others (mapping s i) n = refl
+      others q n = refl
 
   pub shows_map : (k c : ℕ) (x : Option ℕ) → k < z.slots → c < z.reach
       → Shows z (set ws (at z (map k c)) (own_map x)) (record m { maps = put m.maps k (put (m.maps k) c x) })
@@ -221,15 +199,9 @@ module _ (z : Shape) (v : IsValid z) (ws : List ℕ) (m : Memory) (r : Shows z w
       (ap own_map ((λ j. put_here m.maps k (put (m.maps k) c x) j c) ∙ put_here (m.maps k) c x)) others
     where
       others : (q : Spot) → q ≢ mapping k c → word_of z (record m { maps = put m.maps k (put (m.maps k) c x) }) q ≡ word_of z m q
-      others (mapping s w) n = two_cases m.maps k c x s w (λ (y : Option ℕ). own_map y ≡ own_map (m.maps s w)) (λ e f. absurd (n (λ j. mapping (e j) (f j)))) (λ e. refl)
-      others fronted n = refl
-      others drawn n = refl
-      others bits n = refl
-      others page_spot n = refl
-      others (marked i) n = refl
-      others (seated s) n = refl
-      others (counted s) n = refl
-      others (cell s i) n = refl
+      others (mapping s w) n =
+          two_cases m.maps k c x s w (λ (y : Option ℕ). own_map y ≡ own_map (m.maps s w)) (λ e f. absurd (n (λ j. mapping (e j) (f j)))) (λ e. refl)
+      others q n = refl
 
   pub shows_page_bits : (n : ℕ) → Shows z (set ws (at z page_bits_place) n) (record m { page_bits = n })
   unfolding spot_at IsSpot word_of
@@ -237,14 +209,7 @@ module _ (z : Shape) (v : IsValid z) (ws : List ℕ) (m : Memory) (r : Shows z w
     where
       others : (q : Spot) → q ≢ page_spot → word_of z (record m { page_bits = n }) q ≡ word_of z m q
       others page_spot ne = absurd (ne refl)
-      others bits ne = refl
-      others drawn ne = refl
-      others fronted ne = refl
-      others (marked i) ne = refl
-      others (seated i) ne = refl
-      others (counted i) ne = refl
-      others (mapping s w) ne = refl
-      others (cell s w) ne = refl
+      others q ne = refl
 
   pub shows_count : (k c : ℕ) → k < z.slots
       → Shows z (set ws (at z (session k)) (session_code z.generations (m.sessions k) c)) (record m { counts = put m.counts k c })
@@ -254,14 +219,7 @@ module _ (z : Shape) (v : IsValid z) (ws : List ℕ) (m : Memory) (r : Shows z w
     where
       others : (q : Spot) → q ≢ seated k → word_of z (record m { counts = put m.counts k c }) q ≡ word_of z m q
       others (seated i) n = ap (session_code z.generations (m.sessions i)) (put_else m.counts k c i (λ e. n (ap seated e)))
-      others fronted n = refl
-      others drawn n = refl
-      others bits n = refl
-      others page_spot n = refl
-      others (marked i) n = refl
-      others (counted s) n = refl
-      others (cell s w) n = refl
-      others (mapping s i) n = refl
+      others q n = refl
 
   pub shows_given : (k c : ℕ) → k < z.slots → Shows z (set ws (at z (given_place k)) c) (record m { given = put m.given k c })
   unfolding spot_at IsSpot word_of
@@ -269,14 +227,7 @@ module _ (z : Shape) (v : IsValid z) (ws : List ℕ) (m : Memory) (r : Shows z w
     where
       others : (q : Spot) → q ≢ counted k → word_of z (record m { given = put m.given k c }) q ≡ word_of z m q
       others (counted i) n = put_else m.given k c i (λ e. n (ap counted e))
-      others fronted n = refl
-      others drawn n = refl
-      others bits n = refl
-      others page_spot n = refl
-      others (marked i) n = refl
-      others (seated i) n = refl
-      others (cell s w) n = refl
-      others (mapping s i) n = refl
+      others q n = refl
 
   pub shows_draw : (n : ℕ) → Shows z (set ws (at z draw_place) n) (record m { draw = n })
   unfolding spot_at IsSpot word_of
@@ -284,14 +235,7 @@ module _ (z : Shape) (v : IsValid z) (ws : List ℕ) (m : Memory) (r : Shows z w
     where
       others : (q : Spot) → q ≢ drawn → word_of z (record m { draw = n }) q ≡ word_of z m q
       others drawn ne = absurd (ne refl)
-      others fronted ne = refl
-      others bits ne = refl
-      others page_spot ne = refl
-      others (marked i) ne = refl
-      others (seated i) ne = refl
-      others (counted i) ne = refl
-      others (cell s w) ne = refl
-      others (mapping s i) ne = refl
+      others q ne = refl
 
   pub shows_bits : (n : ℕ) → Shows z (set ws (at z bits_place) n) (record m { bits = n })
   unfolding spot_at IsSpot word_of
@@ -299,11 +243,4 @@ module _ (z : Shape) (v : IsValid z) (ws : List ℕ) (m : Memory) (r : Shows z w
     where
       others : (q : Spot) → q ≢ bits → word_of z (record m { bits = n }) q ≡ word_of z m q
       others bits ne = absurd (ne refl)
-      others page_spot ne = refl
-      others fronted ne = refl
-      others drawn ne = refl
-      others (marked i) ne = refl
-      others (seated i) ne = refl
-      others (counted i) ne = refl
-      others (cell s w) ne = refl
-      others (mapping s i) ne = refl
+      others q ne = refl

@@ -6,7 +6,7 @@ use Rattle.fm_base.specs.declared.arena_id.ArenaId.{ArenaId}
 use Rattle.fm_depicts.specs.Functions.{Stage, Fresh, Lives, Closes, Over, Machine, put, put_at, put_by}
 use Rattle.fm_depicts.proofs.Putting.{put_here, put_else, put_cases, at_cases, by_cases}
 use Rattle.std.specs.Int.{bit_at}
-use Rattle.fm_pool_facts.specs.Views.{Fits, span}
+use Rattle.fm_pool_facts.specs.Views.{Fits}
 use Rattle.fm_pool_facts.specs.Facts.{Session, free, live, shut, Memory, IsStanding, IsMarked, Counts, Givens, World}
 use Rattle.fm_pool_facts.proofs.Standing.{caller_is, standing_known, one_standing, free_apart, sessions_shut, sessions_end, open_new, sessions_open, slots_used}
 

@@ -1,5 +1,5 @@
 -- Where a page is.
-use Rattle.std.specs.Prelude.{◌≡◌, ℕ, List, Contains}
+use Rattle.std.specs.Prelude.{◌≡◌, ℕ}
 use Rattle.fm_base.specs.declared.arena_id.ArenaId.{ArenaId}
 use Rattle.fm_pool_facts.specs.Loans.{Loan}
 

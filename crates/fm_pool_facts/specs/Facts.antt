@@ -126,7 +126,8 @@ abbrev pub IsLone : List ℕ → Type 0
 IsLone ps = (ps ≡ []) ⊎ ((p : ℕ) × (ps ≡ p ∷ []))
 
 -- what the seat j knows of pages
-pub record HasPages (z : Shape) (maps : ℕ → ℕ → Option ℕ) (cells : ℕ → ℕ → ℕ) (berth : ℕ → Berth) (j : ℕ) (inside : Option ArenaId) (reads : List Mapping) (pages : List ℕ) (sweeps : List Close)
+pub record HasPages (z : Shape) (maps : ℕ → ℕ → Option ℕ) (cells : ℕ → ℕ → ℕ) (berth : ℕ → Berth) (j : ℕ) (inside : Option ArenaId)
+    (reads : List Mapping) (pages : List ℕ) (sweeps : List Close)
     (swept : Swept) : Type 0 where
   -- what it has read in a map word stands there, while it is under way
   pub read : (a : ArenaId) → inside ≡ Some a → (x : Mapping) → In x reads → maps a.slot x.part ≡ Some x.page

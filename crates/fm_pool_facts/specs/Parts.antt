@@ -1,6 +1,5 @@
 -- What a pass knows of the pages of arenas.
-use Rattle.std.specs.Prelude.{◌≡◌, ℕ, ◌+◌, ◌-◌, ◌==◌, Bool, true, false, if◌then◌else◌, List, [], ◌∷◌}
-use Rattle.std.specs.Int.{bit_at}
+use Rattle.std.specs.Prelude.{ℕ, ◌-◌, ◌==◌, Bool, true, false, if◌then◌else◌, List, [], ◌∷◌}
 use Rattle.fm_base.specs.declared.arena_id.ArenaId.{ArenaId}
 
 -- the page that a map word named, by the part of the arena

@@ -1,5 +1,5 @@
 -- Where a pool has too few pages for an allocation.
-use Rattle.std.specs.Prelude.{◌≡◌, ◌<◌, ◌≤◌, ◌+◌, ◌-◌, ◌*◌, ◌/◌, ◌==◌, ◌&&◌, ℕ, Bool, true, false, if◌then◌else◌, List, [], ◌∷◌}
+use Rattle.std.specs.Prelude.{◌<◌, ◌≤◌, ◌+◌, ◌-◌, ◌*◌, ◌/◌, ◌==◌, ◌&&◌, ℕ, Bool, true, false, if◌then◌else◌, List, [], ◌∷◌}
 use Rattle.std.proofs.Common.{zero, suc}
 use Rattle.fm_words.specs.declared.shape.Shape.{Shape}
 use Rattle.fm_base.specs.declared.arena_id.ArenaId.{ArenaId}

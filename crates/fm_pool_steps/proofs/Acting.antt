@@ -19,7 +19,8 @@ use Rattle.fm_pool_facts.proofs.Worlds.{world_mark, world_enter, world_leave}
 use Rattle.fm_pool_facts.proofs.Shown.{shows_same, shows_mark}
 use Rattle.fm_pool_steps.proofs.Reading.{Says, says, enter_says}
 use Rattle.fm_pool_facts.proofs.Founds.{no_draw}
-use Rattle.fm_pool_steps.proofs.Plain.{same_none, own, low, known_now, Made, plain}
+use Rattle.fm_pool_steps.proofs.Quiet.{looks_on}
+use Rattle.fm_pool_steps.proofs.Plain.{same_but, own, low, known_now, Made, plain}
 
 module _ (z : Shape) (me : ℕ) (v : View) (l : v.live ≡ true) where
   -- the mark goes up
@@ -40,18 +41,7 @@ module _ (z : Shape) (me : ℕ) (v : View) (l : v.live ≡ true) where
           still = λ s g f. f;
           back = λ s g f. f;
           bits = refl;
-          same = record {
-            home = refl;
-            shape = refl;
-            live = refl;
-            caller = refl;
-            seen = refl;
-            drawn = refl;
-            met = refl;
-            finds = refl;
-            gathered = refl;
-            whole = refl;
-          };
+          same = same_but;
           closes = refl;
           hand = refl;
           sweeps = refl;
@@ -105,18 +95,7 @@ module _ (z : Shape) (me : ℕ) (v : View) (l : v.live ≡ true) where
             still = λ s g f. f;
             back = λ s g f. f;
             bits = refl;
-            same = record {
-              home = refl;
-              shape = refl;
-              live = refl;
-              caller = refl;
-              seen = refl;
-              drawn = refl;
-              met = refl;
-              finds = refl;
-              gathered = refl;
-              whole = refl;
-            };
+            same = same_but;
             closes = refl;
             hand = refl;
             sweeps = refl;
@@ -149,18 +128,7 @@ module _ (z : Shape) (me : ℕ) (v : View) (l : v.live ≡ true) where
             still = λ s g f. f;
             back = λ s g f. f;
             bits = refl;
-            same = record {
-              home = refl;
-              shape = refl;
-              live = refl;
-              caller = refl;
-              seen = refl;
-              drawn = refl;
-              met = refl;
-              finds = refl;
-              gathered = refl;
-              whole = refl;
-            };
+            same = same_but;
             closes = refl;
             hand = refl;
             sweeps = refl;
@@ -201,18 +169,7 @@ module _ (z : Shape) (me : ℕ) (v : View) (l : v.live ≡ true) where
             still = λ s g f. f;
             back = λ s g f. f;
             bits = refl;
-            same = record {
-              home = refl;
-              shape = refl;
-              live = refl;
-              caller = refl;
-              seen = refl;
-              drawn = refl;
-              met = refl;
-              finds = refl;
-              gathered = refl;
-              whole = refl;
-            };
+            same = same_but;
             closes = refl;
             hand = refl;
             sweeps = refl;
@@ -245,18 +202,7 @@ module _ (z : Shape) (me : ℕ) (v : View) (l : v.live ≡ true) where
             still = λ s g f. f;
             back = λ s g f. f;
             bits = refl;
-            same = record {
-              home = refl;
-              shape = refl;
-              live = refl;
-              caller = refl;
-              seen = refl;
-              drawn = refl;
-              met = refl;
-              finds = refl;
-              gathered = refl;
-              whole = refl;
-            };
+            same = same_but;
             closes = refl;
             hand = refl;
             sweeps = refl;
@@ -282,35 +228,6 @@ module _ (z : Shape) (me : ℕ) (v : View) (l : v.live ≡ true) where
   unfolding part entries noted
   look_steps i = record {
     may = λ ws vs r at.
-        let k = own z ws vs r me v at l in
-        let g = plain z ws vs r me v at l i (get_or ws i 0) v [] none_noted no_draw r.memory (record {
-          may = tt;
-          ends = λ b. tt;
-          marks = λ k h. refl;
-          terms = λ k. refl;
-          draw = refl;
-          still = λ s g f. f;
-          back = λ s g f. f;
-          bits = refl;
-          same = same_none v;
-          closes = refl;
-          hand = refl;
-          sweeps = refl;
-          ended = λ b o f. record { session = f; maps = λ i. refl; given = refl };
-          shown = λ b f. f;
-          was = λ b h. h;
-          holds = λ a. refl;
-          lends = tt;
-          pages = r.pages;
-          maps = refl;
-          cells = λ p j b w. refl;
-          reads = λ a e x i. (e, i);
-          paged = refl;
-          swept = refl;
-          shows = shows_same z r.valid ws r.memory r.shows i;
-          world = r.world;
-          inside = k.inside;
-          mark = k.mark;
-        }) in
+        let g = looks_on z ws vs r me v at l i in
         (g.0, g.1, record { gives = g.2; learns = tt });
   }

@@ -1,7 +1,6 @@
 -- What words that show a history say of one arena.
 use Rattle.std.proofs.Common.{◌≡◌, ◌≢◌, ℕ, ◌%◌, ◌^◌, ◌<◌, ◌≤◌, ◌==◌, Bool, true, false, if◌then◌else◌, List, [], get_or, sym, refl, ap, ◌∙◌, subst, arith, inl, inr, ⊎_elim, Some, None}
 use Rattle.std.proofs.lemmas.Bool.{cases_lt}
-use Rattle.std.specs.Prelude.{Contains}
 use Rattle.fm_words.specs.declared.shape.Shape.{Shape}
 use Rattle.fm_words.specs.declared.session.Session.{Session as Decoded}
 use Rattle.fm_words.specs.Shapes.{IsValid}
@@ -11,13 +10,12 @@ use Rattle.fm_words.proofs.Sessions.{session_word-session_of}
 use Rattle.fm_base.specs.declared.arena_id.ArenaId.{ArenaId}
 use Rattle.fm_base.specs.declared.kind.Kind.{Kind}
 use Rattle.fm_base.specs.declared.kind.Kind.TheVariants.{Global, Automatic, Confined, Shared}
-use Rattle.fm_base.specs.Arenas.{Alive, Ended, State, arena_of, word_in, kind_number}
+use Rattle.fm_base.specs.Arenas.{Alive, Ended, State, arena_of, kind_number}
 use Rattle.fm_base.specs.Calls.{Entry}
 use Rattle.fm_base.specs.Histories.{state_after}
 use Rattle.fm_base.proofs.Growing.{there_by_life}
-use Rattle.fm_pool_facts.specs.Views.{Fits, span, limit_of}
+use Rattle.fm_pool_facts.specs.Views.{Fits, limit_of}
 use Rattle.fm_pool_facts.specs.Words.{alive_word, alive_holds}
-use Rattle.fm_pool_facts.specs.Loans.{lent, loan_of}
 use Rattle.fm_pool_facts.specs.Rest.{ShowsSlot, ShowsHistory, ShowsArena}
 use Rattle.fm_pool_steps.proofs.Reading.{alive_read, reads_alive}
 use Rattle.fm_pool_steps.proofs.Decoding.{alive_session, live_read}

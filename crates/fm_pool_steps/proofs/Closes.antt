@@ -43,8 +43,11 @@ in_visited a c (d ∷ cs) o i = go (same_id d.arena a) refl i (in_visited a c cs
     go false q (inl e) ih = record {
       before = d;
       there = inl refl;
-      how = inr (e, λ p. let s : same_id d.arena a ≡ true = subst (λ (x : ArenaId). same_id x a ≡ true) (sym p ∙ ap (λ (y : Close). y.arena) e)
-          (same_id-self a) in absurd (cc));
+      how = inr (
+        e,
+        λ p. let s : same_id d.arena a ≡ true = subst (λ (x : ArenaId). same_id x a ≡ true) (sym p ∙ ap (λ (y : Close). y.arena) e)
+            (same_id-self a) in absurd (cc),
+      );
     }
     go false q (inr j) ih = let w = ih j in record { before = w.before; there = inr w.there; how = w.how }
 

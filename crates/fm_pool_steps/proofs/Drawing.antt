@@ -16,11 +16,11 @@ use Rattle.fm_pool_facts.specs.declared.step.Step.TheVariants.{Draws}
 use Rattle.fm_pool_facts.specs.Views.{View, In, all_gathered, pass_of}
 use Rattle.fm_pool_facts.specs.Holds.{holds_of}
 use Rattle.fm_pool_facts.specs.Steps.{part, entries, noted, number_drawn, draws, caller_drawn, note_draw, is_clear}
-use Rattle.fm_pool_facts.specs.Facts.{HasNumber, HasGathered, HasDraw, HasClose, HasSweep, KeepsSlot, DrewIn, Owns, Knows, Rule}
+use Rattle.fm_pool_facts.specs.Facts.{HasNumber, HasGathered, HasDraw, HasClose, HasSweep, KeepsSlot, DrewIn, Owns, Knows, Rule, HasPage}
 use Rattle.fm_pool_facts.specs.Moves.{told, Gives, LearnsCount, MayStep}
 use Rattle.fm_pool_facts.specs.Gone.{IsFounded}
-use Rattle.fm_pool_facts.specs.Facts.{HasPage}
 use Rattle.fm_pool_facts.proofs.Ruling.{page_like}
+use Rattle.fm_pool_facts.proofs.Sounding.{sound_of}
 use Rattle.fm_pool_facts.proofs.Gone.{NoSlots, draw_no_slots, none_founded, founded_told}
 use Rattle.fm_pool_facts.proofs.Founds.{AreWithin, looked_within, drew_within, counted_told, counted_set, find_within}
 use Rattle.fm_pool_facts.proofs.Drawers.{complete_counted}
@@ -28,7 +28,6 @@ use Rattle.fm_pool_facts.proofs.Keeping.{none_added, set_there, in_left, stays_s
 use Rattle.fm_pool_facts.proofs.Summing.{total-set}
 use Rattle.fm_pool_facts.proofs.Callers.{counted, has_each, all_counted}
 use Rattle.fm_pool_facts.proofs.Shown.{shows_same}
-use Rattle.fm_pool_facts.proofs.Ruling.{sound_of}
 use Rattle.fm_pool_steps.proofs.Reading.{eqb_true}
 use Rattle.fm_pool_steps.proofs.Plain.{own, Made}
 use Rattle.fm_pool_steps.proofs.Counting.{knows, drew, drew_history}

@@ -2,7 +2,6 @@
 use Rattle.std.proofs.Common.{◌≡◌, ◌≢◌, ℕ, zero, suc, ◌+◌, ◌-◌, ◌<◌, Bool, if◌then◌else◌, List, [], ◌∷◌, length, set, get_or, replicate, None, sym, refl, ap, ◌∙◌, subst, arith, inl, inr, ⊎_elim, ne_eqb, length-set, get_or-set_other, get_or-set_same}
 use mathlib.Core.Option.{some, some-injective, some-ne-none}
 use lib.ListN.{get_elem?, length-replicate}
-use Rattle.std.proofs.lemmas.List.Elements.{All-nil}
 use Rattle.fm_words.specs.declared.shape.Shape.{Shape}
 use Rattle.fm_words.specs.Shapes.{IsValid}
 use Rattle.fm_words.specs.Places.{page_bits as page_bits_place, map, page_word, at as place_at, front, slot_bits, mark, session, given as given_place, words as word_count}
@@ -21,7 +20,7 @@ use Rattle.fm_pool_facts.proofs.Shown.{shows_page_bits, shows_bits}
 use Rattle.fm_pool_facts.specs.Gone.{IsFounded}
 use Rattle.fm_pool_facts.proofs.Gone.{founded_bare}
 use Rattle.fm_pool_facts.proofs.Founds.{counted_bare}
-use Rattle.fm_pool_facts.proofs.Ruling.{sound_of}
+use Rattle.fm_pool_facts.proofs.Sounding.{sound_of}
 use Rattle.fm_pool_facts.proofs.Gripping.{none_held, none_counted}
 
 -- ---- the words
@@ -101,7 +100,8 @@ shows_none z valid = record {
 shows_blank : (z : Shape) → IsValid z → Shows z (words_of z) (blank (ones z.slots) (ones z.pages))
 unfolding blank place_at
 shows_blank z valid =
-    shows_page_bits z valid (slots_set z) (blank (ones z.slots) 0) (shows_bits z valid (zeros_but z) (blank 0 0) (shows_none z valid) (ones z.slots)) (ones z.pages)
+    shows_page_bits z valid (slots_set z) (blank (ones z.slots) 0) (shows_bits z valid (zeros_but z) (blank 0 0) (shows_none z valid) (ones z.slots))
+    (ones z.pages)
 
 -- a bit that is 1 of the word whose first bits are 1
 ones_below : (n p : ℕ) → bit_at (ones n) p ≡ 1 → p < n

@@ -8,6 +8,7 @@ use Rattle.std.specs.Int.{bit_at}
 use Rattle.std.proofs.lemmas.Nat.Bits.{bit_at-lt, bit_at_or, bit_at-pow_same, bit_at-pow_other}
 use Rattle.fm_words.specs.declared.shape.Shape.{Shape}
 use Rattle.fm_words.specs.Places.{at as place_at, slot_bits as bits_place}
+use Rattle.fm_pool_facts.proofs.Keeping.{sweeping_as}
 use Rattle.fm_pool_facts.specs.declared.step.Step.TheVariants.{GivesSlot}
 use Rattle.fm_pool_facts.specs.Hands.{nothing, retired, HasSlot, IsTaker}
 use Rattle.fm_pool_facts.specs.Views.{View}
@@ -18,8 +19,7 @@ use Rattle.fm_pool_facts.proofs.Founds.{no_draw}
 use Rattle.fm_pool_facts.proofs.Retiring.{world_give}
 use Rattle.fm_pool_facts.proofs.Shown.{shows_bits}
 use Rattle.fm_pool_facts.proofs.Ruling.{page_like, keeps}
-use Rattle.fm_pool_steps.proofs.Plain.{own, Made, sweeps_still}
-use Rattle.fm_pool_steps.proofs.Taking.{same_hand}
+use Rattle.fm_pool_steps.proofs.Plain.{same_but, own, Made, sweeps_still}
 
 module _ (z : Shape) (me : ℕ) (v : View) (l : v.live ≡ true) (s : ℕ) (hand : v.hand ≡ retired s) (ws : List ℕ) (vs : List View) (r : Rule z ws vs)
     (at : get_elem? vs me ≡ some v) where
@@ -73,7 +73,7 @@ module _ (z : Shape) (me : ℕ) (v : View) (l : v.live ≡ true) (s : ℕ) (hand
             (λ n. inl (record { taker = x.taker; generation = x.generation; session = x.session; left = x.left; bit = others k n ∙ x.bit }));
         pages = record { others = λ q j b h. (refl, λ w. refl); stay = λ b i q st e. e };
       } in
-      let same : Same v given_part = same_hand v given_part refl in
+      let same : Same v given_part = same_but in
       keeps z ws (set ws i word) vs r me v given_part [] none_noted bits_now r.owners at l d same no_draw tt r.pages
       (λ b h. inr (h, refl, (λ y. y)))
       (sweeps_still me v given_part r.memory r.machine r.owners bits_now r.machine r.owners same refl (λ b q. refl) (λ b q h. (q, h)))
@@ -89,8 +89,7 @@ module _ (z : Shape) (me : ℕ) (v : View) (l : v.live ≡ true) (s : ℕ) (hand
         mark = owned.mark;
         closes = owned.closes;
         once = owned.once;
-        sweeps = λ c j.
-            let y = owned.sweeps c j in record { owner = y.owner; life = y.life; session = y.session; parts = y.parts; count = y.count; reset = y.reset };
+        sweeps = λ c j. sweeping_as (owned.sweeps c j);
         swept_once = owned.swept_once;
         hand = tt;
         took = tt;

@@ -16,13 +16,12 @@ use Rattle.fm_depicts.proofs.Putting.{put_here, put_else}
 use Rattle.fm_pool_facts.specs.Views.{Met, View, In, all_gathered, brought}
 use Rattle.fm_pool_facts.specs.Holds.{holds_of}
 use Rattle.fm_pool_facts.specs.Splits.{number_or, drawn_left, drawn_right}
-use Rattle.fm_pool_facts.specs.Facts.{Owners, HasNumber, HasDraw, HasClose, HasSweep, KeepsSlot, IsGathered, IsDrawn, Somewhere, Owns, Knows, Rule, IsCounted}
+use Rattle.fm_pool_facts.specs.Facts.{Owners, HasNumber, HasDraw, HasClose, HasSweep, KeepsSlot, IsGathered, IsDrawn, Somewhere, Owns, Knows, Rule, IsCounted, HasPage}
 use Rattle.fm_pool_facts.specs.Gone.{IsFounded}
-use Rattle.fm_pool_facts.specs.Facts.{HasPage}
 use Rattle.fm_pool_facts.proofs.Ruling.{page_like}
 use Rattle.fm_pool_facts.proofs.Gone.{founded_bare}
 use Rattle.fm_pool_facts.proofs.Founds.{counted_bare}
-use Rattle.fm_pool_facts.proofs.Keeping.{stays_somewhere, gathered_all, in_left, in_right}
+use Rattle.fm_pool_facts.proofs.Keeping.{stays_somewhere, gathered_all, in_left, in_right, closing_as, sweeping_as}
 use Rattle.fm_pool_facts.proofs.Summing.{total-set, total-snoc}
 use Rattle.fm_pool_facts.proofs.Gripping.{none_held}
 use Rattle.fm_pool_steps.proofs.Splitting.{with_owners, views_set, views_on, on_longer}
@@ -122,9 +121,9 @@ module _ (z : Shape) (ws : List ℕ) (vs : List View) (r : Rule z ws vs) (id : �
           mine = u.mine;
           inside = u.inside;
           mark = u.mark;
-          closes = λ c i. let y = u.closes c i in record { owner = y.owner; life = y.life; visited = y.visited };
+          closes = λ c i. closing_as (u.closes c i);
           once = u.once;
-          sweeps = λ c i. let y = u.sweeps c i in record { owner = y.owner; life = y.life; session = y.session; parts = y.parts; count = y.count; reset = y.reset };
+          sweeps = λ c i. sweeping_as (u.sweeps c i);
           swept_once = u.swept_once;
           hand = u.hand;
           took = u.took;
@@ -192,9 +191,9 @@ module _ (z : Shape) (ws : List ℕ) (vs : List View) (r : Rule z ws vs) (id : �
           mine = x.mine;
           inside = x.inside;
           mark = x.mark;
-          closes = λ c i. let y = x.closes c i in record { owner = y.owner; life = y.life; visited = y.visited };
+          closes = λ c i. closing_as (x.closes c i);
           once = x.once;
-          sweeps = λ c i. let y = x.sweeps c i in record { owner = y.owner; life = y.life; session = y.session; parts = y.parts; count = y.count; reset = y.reset };
+          sweeps = λ c i. sweeping_as (x.sweeps c i);
           swept_once = x.swept_once;
           hand = x.hand;
           took = x.took;

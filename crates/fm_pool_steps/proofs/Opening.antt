@@ -7,7 +7,7 @@ use Rattle.fm_words.specs.Places.{at as place_at, session}
 use Rattle.fm_base.specs.declared.caller.Caller.{Caller}
 use Rattle.fm_base.specs.declared.arena_id.ArenaId.{ArenaId}
 use Rattle.fm_base.specs.Arenas.{owner_of}
-use Rattle.fm_base.specs.Calls.{Entry}
+use Rattle.fm_base.specs.Calls.{Entry, Open, Fine, entry_of}
 use Rattle.fm_depicts.specs.Functions.{Fresh, Lives, Closes, Over, put, put_at}
 use Rattle.fm_depicts.specs.Steps.{moved_by}
 use Rattle.fm_depicts.proofs.Putting.{put_else, put_cases, at_here, at_cases}
@@ -27,14 +27,12 @@ use Rattle.fm_pool_facts.proofs.Founds.{no_draw}
 use Rattle.fm_pool_facts.proofs.Standing.{open_new}
 use Rattle.fm_pool_facts.proofs.Worlds.{world_open}
 use Rattle.fm_pool_facts.specs.Loans.{lent}
-use Rattle.fm_base.specs.Calls.{Open, Fine, entry_of}
 use Rattle.fm_pool_facts.proofs.Living.{pages_open}
-use Rattle.fm_pool_facts.proofs.Ruling.{page_like}
+use Rattle.fm_pool_facts.proofs.Ruling.{page_like, keeps}
 use Rattle.fm_pool_facts.proofs.Shown.{shows_session}
 use Rattle.fm_pool_facts.specs.Holds.{handles_with, one_alive}
 use Rattle.fm_pool_facts.proofs.Gripping.{opened_handles}
-use Rattle.fm_pool_facts.proofs.Ruling.{keeps}
-use Rattle.fm_pool_steps.proofs.Plain.{own, low, Made}
+use Rattle.fm_pool_steps.proofs.Plain.{same_but, own, low, Made}
 
 module _ (z : Shape) (me : ℕ) (v : View) (l : v.live ≡ true) (a : ArenaId) (hand : v.hand ≡ learnt a.slot a.generation) (owner : owner_of a ≡ v.caller)
     (ws : List ℕ) (vs : List View) (r : Rule z ws vs) (at : get_elem? vs me ≡ some v) where
@@ -139,18 +137,7 @@ module _ (z : Shape) (me : ℕ) (v : View) (l : v.live ≡ true) (a : ArenaId) (
 
   opens : Made z ws vs me v (place_at z (session a.slot)) (alive_word a 0) p es none_noted
   opens =
-      let same : Same v p = record {
-        home = refl;
-        shape = refl;
-        live = refl;
-        caller = refl;
-        seen = refl;
-        drawn = refl;
-        met = refl;
-        finds = refl;
-        gathered = refl;
-        whole = refl;
-      } in
+      let same : Same v p = same_but in
       keeps z ws (set ws (place_at z (session a.slot)) (alive_word a 0)) vs r me v p es none_noted m' r.owners at l moved_on same no_draw (
         tt,
         tt,
@@ -177,7 +164,8 @@ module _ (z : Shape) (me : ℕ) (v : View) (l : v.live ≡ true) (a : ArenaId) (
         once = mine.once;
         sweeps = λ c i.
             let y = mine.sweeps c i in
-            sweeping_on (limit_of z) v.caller r.memory r.machine es m' ok (λ k b i. (r.world.marked k b i).stands) z me r.owners r.owners c y refl (ended_on c.arena y.session);
+            sweeping_on (limit_of z) v.caller r.memory r.machine es m' ok (λ k b i. (r.world.marked k b i).stands) z me r.owners r.owners c y refl
+            (ended_on c.arena y.session);
         swept_once = mine.swept_once;
         hand = tt;
         took = tt;

@@ -1,5 +1,5 @@
 -- Steps that leave closes and hands as they are.
-use Rattle.std.proofs.Common.{◌≡◌, ◌≢◌, ℕ, ◌<◌, ◌≤◌, true, List, [], ◌++◌, length, set, get_or, sym, refl, ap, ◌∙◌, subst, arith, inl, inr, Some}
+use Rattle.std.proofs.Common.{◌≡◌, ◌≢◌, ℕ, ◌<◌, ◌≤◌, true, List, [], ◌++◌, length, set, sym, refl, ap, ◌∙◌, subst, arith, inl, inr, Some, Option}
 use mathlib.Core.Option.{some}
 use lib.ListN.{get_elem?}
 use Rattle.fm_words.specs.declared.shape.Shape.{Shape}
@@ -7,53 +7,45 @@ use Rattle.fm_base.specs.declared.caller.Caller.{Caller}
 use Rattle.fm_base.specs.declared.arena_id.ArenaId.{ArenaId}
 use Rattle.fm_base.specs.Arenas.{State, has_arena, arena_of}
 use Rattle.fm_base.specs.Calls.{Entry}
-use Rattle.fm_base.specs.Histories.{state_after}
+use Rattle.fm_base.specs.Histories.{state_after, IsLegal}
 use Rattle.fm_base.specs.Finds.{Find, Close}
 use Rattle.fm_depicts.specs.Functions.{Fresh, Closes, Over, Machine}
 use Rattle.fm_depicts.specs.Steps.{moved_by}
 use Rattle.std.specs.Int.{bit_at}
 use Rattle.fm_pool_facts.specs.Hands.{Hand, HasSlot, IsTaker}
 use Rattle.fm_pool_facts.proofs.Handing.{hand_on}
-use Rattle.fm_pool_facts.specs.Holds.{with_grips}
 use Rattle.fm_pool_facts.specs.Views.{View, In, IsKnown, IsOver, given_of, limit_of}
-use Rattle.fm_pool_facts.specs.Facts.{Memory, free, shut, Shows, World, IsOnce, Owners, HasInHand, HasClose, HasSweep, KeepsSlot, Owns, Rule}
-use Rattle.fm_pool_facts.specs.Moves.{MayMake, NoEnd, StaysEnded, Moved, Same, Part, KeepsCloses, KeepsSweeps, KeepsSlots, KeepsHolds, Gives}
-use Rattle.fm_base.specs.Histories.{IsLegal}
+use Rattle.fm_pool_facts.specs.Facts.{Memory, free, shut, Shows, World, IsOnce, Owners, HasInHand, HasClose, HasSweep, KeepsSlot, Owns, Rule, IsAt, IsLone, HasSwept, HasPages}
+use Rattle.fm_pool_facts.specs.Moves.{MayMake, NoEnd, StaysEnded, Moved, Same, Part, KeepsCloses, KeepsSweeps, KeepsSlots, KeepsHolds, Gives, MayLend, PagesMoved, KeepsPages}
 use Rattle.fm_base.proofs.Making.{state_after-append, IsLegal-split}
 use Rattle.fm_base.proofs.Growing.{Grows-state_after}
 use Rattle.fm_pool_facts.proofs.Keeping.{closing_on, sweeping_on}
 use Rattle.fm_pool_facts.proofs.Frame.{was_over}
 use Rattle.fm_pool_facts.proofs.Ending.{given_later}
-use Rattle.fm_pool_facts.proofs.Founds.{NoneDrawn, NoDraw, no_draw}
-use Rattle.fm_pool_facts.proofs.Shown.{shows_same}
-use Rattle.fm_pool_facts.specs.Steps.{none_noted}
+use Rattle.fm_pool_facts.proofs.Founds.{NoneDrawn, NoDraw}
 use Rattle.fm_pool_facts.specs.Gone.{FoundBy}
 use Rattle.fm_pool_facts.proofs.Gone.{none_founded}
 use Rattle.fm_pool_facts.specs.Loans.{lent}
-use Rattle.fm_pool_facts.specs.Moves.{MayLend}
 use Rattle.fm_pool_facts.specs.Parts.{Mapping, Swept, unread, named, wiping}
-use Rattle.fm_pool_facts.specs.Facts.{Berth, loose, claimed, mapped, unmapped, IsAt, IsLone, HasSwept, HasPages, HasPage}
-use Rattle.fm_pool_facts.specs.Moves.{PagesMoved, KeepsPages}
-use Rattle.fm_pool_facts.proofs.Ruling.{PagesAfter, page_like, keeps_with, opened_life}
+use Rattle.fm_pool_facts.proofs.Ruling.{PagesAfter, page_like, keeps_with}
+use Rattle.fm_pool_facts.proofs.Sounding.{opened_life}
 
--- a step that makes nothing
-pub same_none : (v : View) → Same v v
-same_none v = record {
-  home = refl;
-  shape = refl;
-  live = refl;
-  caller = refl;
-  seen = refl;
-  drawn = refl;
-  met = refl;
-  finds = refl;
-  gathered = refl;
-  whole = refl;
-}
-
--- one that changes its holds
-pub same_held : (a : ArenaId) (hs : List ArenaId) (v : View) → Same v (with_grips a hs v)
-same_held a hs v = record {
+-- a step leaves all but these
+pub same_but : {v : View} {inside mark : Option ArenaId} {closes sweeps : List Close} {swept : Swept} {hand : Hand} {holds handles : List ArenaId}
+    {pages : List ℕ} {reads : List Mapping}
+    → Same v (record v {
+      inside = inside;
+      mark = mark;
+      closes = closes;
+      sweeps = sweeps;
+      swept = swept;
+      hand = hand;
+      holds = holds;
+      handles = handles;
+      pages = pages;
+      reads = reads;
+    })
+same_but = record {
   home = refl;
   shape = refl;
   live = refl;
@@ -134,7 +126,8 @@ module _ (z : Shape) (ws : List ℕ) (vs : List View) (r : Rule z ws vs) (me : �
       let on : state_after limit [] r.history ≡ state_after limit now zs = ap (state_after limit []) k.begins.1 ∙ state_after-append limit [] v.seen zs in
       let more = (Grows-state_after limit now zs later).given a in
       let was : given_of v a ≡ (arena_of now a).given = ap (λ (y : Shape). (arena_of (state_after (limit_of y) [] v.seen) a).given) e in
-      let is : (arena_of (state_after limit now zs) a).given ≡ r.machine.given a = ap (λ (s : State). (arena_of s a).given) (sym on) ∙ sym (r.depicts.given a) in
+      let is : (arena_of (state_after limit now zs) a).given ≡ r.machine.given a =
+      ap (λ (s : State). (arena_of s a).given) (sym on) ∙ sym (r.depicts.given a) in
       omega arith
 
   -- what it has seen of an arena that is over is all that was given
@@ -143,8 +136,10 @@ module _ (z : Shape) (ws : List ℕ) (vs : List View) (r : Rule z ws vs) (me : �
       let k = r.each me v at in
       let sh : z ≡ v.shape = sym (k.shape l) in
       let zs : List Entry = k.begins.0 in
-      let legal : IsLegal (limit_of v.shape) [] (v.seen ++ zs) = subst (λ (x : Shape × List Entry). IsLegal (limit_of x.0) [] x.1) (λ j. (sh j, k.begins.1 j)) r.legal in
-      let same : state_after (limit_of z) [] r.history ≡ state_after (limit_of v.shape) [] (v.seen ++ zs) = (λ j. state_after (limit_of (sh j)) [] (k.begins.1 j)) in
+      let legal : IsLegal (limit_of v.shape) [] (v.seen ++ zs) =
+      subst (λ (x : Shape × List Entry). IsLegal (limit_of x.0) [] x.1) (λ j. (sh j, k.begins.1 j)) r.legal in
+      let same : state_after (limit_of z) [] r.history ≡ state_after (limit_of v.shape) [] (v.seen ++ zs) =
+      (λ j. state_after (limit_of (sh j)) [] (k.begins.1 j)) in
       r.depicts.given a ∙ (ap (λ (s : State). (arena_of s a).given) same
       ∙ given_later (limit_of v.shape) v.seen zs a legal o.known (record { life = o.life; empty = o.empty }))
 
@@ -192,7 +187,8 @@ module _ (z : Shape) (ws : List ℕ) (vs : List View) (r : Rule z ws vs) (me : �
       once = subst (IsOnce (λ (c : Close). c.arena)) (sym cl) own.once;
       sweeps = λ c i.
           let y = own.sweeps c (subst (In c) sw i) in
-          sweeping_on (limit_of z) v.caller r.memory r.machine es m' ok (λ k b i. (r.world.marked k b i).stands) z me r.owners r.owners c y refl (ended c.arena y.life y.session);
+          sweeping_on (limit_of z) v.caller r.memory r.machine es m' ok (λ k b i. (r.world.marked k b i).stands) z me r.owners r.owners c y refl
+          (ended c.arena y.life y.session);
       swept_once = subst (IsOnce (λ (c : Close). c.arena)) (sym sw) own.swept_once;
       hand = subst (HasInHand z m'.bits m'.sessions r.owners.holder me) (sym hd) (hand_still z r.memory m' r.owners.holder me still bits v.hand own.hand);
       took = subst (λ (x : Caller × Hand). IsTaker r.owners.taker x.0 x.1) (λ j. (sym s.caller j, sym hd j)) own.took;
@@ -291,38 +287,3 @@ pub plain : (z : Shape) (ws : List ℕ) (vs : List View) (r : Rule z ws vs) (me 
 plain z ws vs r me v at l i x p es fs nd m' q =
     plain_with z ws vs r me v at l i x p es fs (λ n f i. let y = nd n f i in (y.0, y.1))
     (none_founded z r.history r.memory r.owners.taker r.machine.life v.caller fs (λ n f i. let y = nd n f i in (y.2, y.3)) (length r.history)) m' q
-
--- a step that looks at a word and leaves all as it is
-pub looks_on : (z : Shape) (ws : List ℕ) (vs : List View) (r : Rule z ws vs) (me : ℕ) (v : View) → get_elem? vs me ≡ some v → v.live ≡ true → (i : ℕ)
-    → Made z ws vs me v i (get_or ws i 0) v [] none_noted
-looks_on z ws vs r me v at l i =
-    let k = own z ws vs r me v at l in
-    plain z ws vs r me v at l i (get_or ws i 0) v [] none_noted no_draw r.memory (record {
-      may = tt;
-      ends = λ b. tt;
-      marks = λ n h. refl;
-      terms = λ n. refl;
-      draw = refl;
-      still = λ s g f. f;
-      back = λ s g f. f;
-      bits = refl;
-      same = same_none v;
-      closes = refl;
-      hand = refl;
-      sweeps = refl;
-      ended = λ b o f. stays_ended r.memory b f;
-      shown = λ b f. f;
-      was = λ b h. h;
-      holds = λ b. refl;
-      lends = tt;
-      pages = r.pages;
-      maps = refl;
-      cells = λ p j b w. refl;
-      reads = λ b e x h. (e, h);
-      paged = refl;
-      swept = refl;
-      shows = shows_same z r.valid ws r.memory r.shows i;
-      world = r.world;
-      inside = k.inside;
-      mark = k.mark;
-    })

@@ -1,18 +1,15 @@
 -- The words of a pool whose only pass has no slot in its hand show the history.
-use Rattle.std.proofs.Common.{◌≡◌, ◌≢◌, ◌⊎◌, ℕ, zero, suc, ◌+◌, ◌*◌, ◌/◌, ◌%◌, Option, Some, None, ◌<◌, ◌≤◌, Bool, true, false, List, [], get_or, sym, refl, ap, ◌∙◌, subst, arith, inl, inr, ⊎_elim}
-use Rattle.std.proofs.Math.Nat.{mod-lt}
+use Rattle.std.proofs.Common.{◌≡◌, ◌≢◌, ◌⊎◌, ℕ, zero, suc, ◌+◌, ◌/◌, Option, Some, None, ◌<◌, ◌≤◌, Bool, true, false, List, [], get_or, sym, refl, ap, ◌∙◌, subst, arith, inl, inr, ⊎_elim}
 use Rattle.std.proofs.lemmas.Bool.{cases_lt}
-use Rattle.std.proofs.lemmas.List.Elements.{All-contains}
 use mathlib.Core.Logic.{dite}
 use mathlib.Core.Option.{some}
 use native.Mathlib.Decide.{ℕ_discrete}
 use lib.ListN.{get_elem?}
-use Rattle.std.specs.Prelude.{Contains}
 use Rattle.std.specs.Int.{bit_at}
 use Rattle.std.proofs.lemmas.Nat.Bits.{bit_at-lt}
 use Rattle.fm_words.specs.declared.shape.Shape.{Shape}
 use Rattle.fm_words.specs.declared.session.Session.{Session as Decoded}
-use Rattle.fm_words.specs.Places.{at as place_at, session, slot_bits, page_word}
+use Rattle.fm_words.specs.Places.{at as place_at, session, slot_bits}
 use Rattle.fm_words.specs.Sessions.{session_of, free_session}
 use Rattle.fm_base.specs.declared.arena_id.ArenaId.{ArenaId}
 use Rattle.fm_base.specs.Arenas.{Life, Arena, Alive, Closing, Ended, State, has_arena, arena_of, kind_number}
@@ -21,15 +18,15 @@ use Rattle.fm_base.proofs.Lookup.{arena_of-none}
 use Rattle.fm_depicts.proofs.Putting.{one_arena}
 use Rattle.fm_depicts.specs.Functions.{Stage, Fresh, Lives, Closes, Over, stage_of}
 use Rattle.fm_pool_facts.specs.Hands.{nothing, HasSlot}
-use Rattle.fm_pool_facts.specs.Views.{View, Fits, span, limit_of}
+use Rattle.fm_pool_facts.specs.Views.{View, Fits, limit_of}
 use Rattle.fm_pool_facts.specs.Words.{kept}
-use Rattle.fm_pool_facts.specs.Loans.{Loan, loan_of, lent, IsFree, HasPart}
-use Rattle.fm_pool_facts.specs.Facts.{Session, free, live, shut, session_code, own_map, IsStanding, Berth, loose, claimed, mapped, unmapped, Rule}
+use Rattle.fm_pool_facts.specs.Loans.{lent, HasPart}
+use Rattle.fm_pool_facts.specs.Facts.{Session, free, live, shut, session_code, own_map, IsStanding, Rule}
 use Rattle.fm_pool_facts.proofs.Moving.{lent_mapped, mapped_lent}
 use Rattle.fm_pool_facts.specs.Rest.{IsNamed, IsUsed, ShowsSlot, ShowsWord, ShowsHistory}
 use Rattle.fm_pool_facts.proofs.Standing.{standing_known, standing_shown, free_apart}
-use Rattle.fm_pool_facts.proofs.Ruling.{opened_life, life_opened}
-use Rattle.fm_pool_steps.proofs.Decoding.{kept_else, kept_last, kept_least, alive_session, shut_session, free_read, live_read, shut_read, stands_not}
+use Rattle.fm_pool_facts.proofs.Sounding.{opened_life, life_opened}
+use Rattle.fm_pool_steps.proofs.Decoding.{page_word_of, blank_block, kept_else, kept_last, kept_least, alive_session, shut_session, free_read, live_read, shut_read, stands_not}
 use Rattle.fm_pool_facts.proofs.Alone.{lonely}
 
 module _ (z : Shape) (me : ℕ) (v : View) (l : v.live ≡ true) (ws : List ℕ) (vs : List View) (r : Rule z ws vs) (at : get_elem? vs me ≡ some v)
@@ -258,39 +255,16 @@ module _ (z : Shape) (me : ℕ) (v : View) (l : v.live ≡ true) (ws : List ℕ)
   fits_now : (a : ArenaId) → IsStanding (r.machine.life a) → Fits z a
   fits_now a st = r.world.sessions.fits a (standing_known (r.machine.life a) st)
 
-  some_words : 0 < z.page_words
-  some_words = r.valid.page_words.0
-
-  -- a word of a page that a part of a standing arena has
-  page_word_of : (a : ArenaId) (w p : ℕ) → IsStanding (r.machine.life a) → r.memory.maps a.slot (w / z.page_words) ≡ Some p
-      → r.machine.word a w ≡ get_or ws (place_at z (page_word p (w % z.page_words))) 0
-  page_word_of a w p st e =
-      let y = r.pages.mapped_is p a.slot (w / z.page_words) (r.pages.map_is a.slot (w / z.page_words) p e) in
-      r.pages.words a w p st e ∙ sym (r.shows.cells p (w % z.page_words) y.page (mod-lt w some_words))
-
-  -- a block that isn't lent has zeros
-  blank_block : (b w : ℕ) → w < z.page_words → IsFree (lent r.history) b → r.memory.cells b w ≡ 0
-  blank_block b w h f = go (r.owners.berth b) refl
-    where
-      unlent : (l : Loan) → Contains (lent r.history) l → l.block ≢ b
-      unlent l i = All-contains (λ (x : Loan). x.block ≢ b) (lent r.history) l f i
-
-      go : (x : Berth) → r.owners.berth b ≡ x → r.memory.cells b w ≡ 0
-      go loose e = r.pages.loose_is b e w h
-      go (claimed j) e = (r.pages.claimed_is b j e).1 w h
-      go (mapped k i) e = let y = r.pages.mapped_is b k i e in absurd (unlent (loan_of b y.arena i) y.lent refl)
-      go (unmapped j a i) e = absurd (unlent (loan_of b a i) (r.pages.unmapped_is b j i a e).lent refl)
-
   -- the words show the history
   pub at_rest : ShowsHistory z ws r.history
   at_rest = record {
     in_block = λ a w b n h c.
         let st = standing a n in
-        sym (r.depicts.word a w) ∙ page_word_of a w b st
+        sym (r.depicts.word a w) ∙ page_word_of z ws vs r a w b st
         (lent_mapped z (lent r.history) r.memory.page_bits r.memory.maps r.memory.cells r.owners.berth r.memory.sessions r.machine.life r.machine.word
-        r.machine.given some_words r.world.sessions r.pages a (w / z.page_words) b st c);
+        r.machine.given r.valid.page_words.0 r.world.sessions r.pages a (w / z.page_words) b st c);
     in_none = λ a w n h u. sym (r.depicts.word a w) ∙ none_there a w (standing a n) u (r.memory.maps a.slot (w / z.page_words)) refl;
-    blank = λ b w low h f. r.shows.cells b w low h ∙ blank_block b w h f;
+    blank = λ b w low h f. r.shows.cells b w low h ∙ blank_block z ws vs r b w h f;
     named = λ a w n h. has_page a w (standing a n) (r.pages.covered a w (standing a n) (let e = r.depicts.given a in omega arith))
         (r.memory.maps a.slot (w / z.page_words)) refl;
     fits = λ a h. r.world.sessions.fits a (opened a h);
@@ -301,9 +275,12 @@ module _ (z : Shape) (me : ℕ) (v : View) (l : v.live ≡ true) (ws : List ℕ)
       none_there : (a : ArenaId) (w : ℕ) → IsStanding (r.machine.life a) → ¬ (HasPart (lent r.history) a (w / z.page_words)) → (o : Option ℕ)
           → r.memory.maps a.slot (w / z.page_words) ≡ o → r.machine.word a w ≡ 0
       none_there a w st u None e = r.pages.bare a w st e
-      none_there a w st u (Some p) e = absurd (u (p, mapped_lent z (lent r.history) r.memory.page_bits r.memory.maps r.memory.cells r.owners.berth
-          r.memory.sessions r.machine.life r.machine.word r.machine.given some_words r.world.sessions r.pages a (w / z.page_words) p
-          (standing_shown z r.memory.sessions r.machine.life r.world.sessions a st) e))
+      none_there a w st u (Some p) e = absurd (u (
+        p,
+        mapped_lent z (lent r.history) r.memory.page_bits r.memory.maps r.memory.cells r.owners.berth
+            r.memory.sessions r.machine.life r.machine.word r.machine.given r.valid.page_words.0 r.world.sessions r.pages a (w / z.page_words) p
+            (standing_shown z r.memory.sessions r.machine.life r.world.sessions a st) e,
+      ))
 
       has_page : (a : ArenaId) (w : ℕ) → IsStanding (r.machine.life a) → r.memory.maps a.slot (w / z.page_words) ≢ None → (o : Option ℕ)
           → r.memory.maps a.slot (w / z.page_words) ≡ o → ShowsWord z ws s a w
@@ -315,5 +292,5 @@ module _ (z : Shape) (me : ℕ) (v : View) (l : v.live ≡ true) (ws : List ℕ)
             low = y.page;
             part = y.part;
             named = r.shows.maps a.slot (w / z.page_words) (fits_now a st).slot y.part ∙ ap own_map e;
-            word = sym (r.depicts.word a w) ∙ page_word_of a w p st e;
+            word = sym (r.depicts.word a w) ∙ page_word_of z ws vs r a w p st e;
           }

@@ -1,5 +1,5 @@
 -- The step that retires an arena that was swept.
-use Rattle.std.proofs.Common.{◌≡◌, ◌≢◌, ◌⊎◌, ℕ, ◌+◌, ◌<◌, ◌==◌, Bool, true, false, List, [], ◌∷◌, set, sym, refl, ap, ◌∙◌, subst, arith, inl, inr, Some, None, Option}
+use Rattle.std.proofs.Common.{◌≡◌, ◌≢◌, ◌⊎◌, ℕ, ◌+◌, ◌<◌, ◌==◌, Bool, true, false, List, [], set, sym, refl, ap, ◌∙◌, subst, arith, inl, inr, Some, None, Option}
 use mathlib.Core.Option.{some}
 use mathlib.Core.Logic.{dite}
 use native.Mathlib.Decide.{ℕ_discrete}
@@ -9,22 +9,21 @@ use Rattle.std.proofs.lemmas.Nat.Bits.{bit_at-lt}
 use Rattle.fm_words.specs.declared.shape.Shape.{Shape}
 use Rattle.fm_words.specs.Places.{at as place_at, session}
 use Rattle.fm_base.specs.declared.arena_id.ArenaId.{ArenaId}
-use Rattle.fm_base.specs.Calls.{Back, Fine, Entry, entry_of}
+use Rattle.fm_base.specs.Calls.{Entry}
 use Rattle.fm_depicts.specs.Functions.{Over, put}
 use Rattle.fm_depicts.proofs.Putting.{put_here, put_else, put_cases}
 use Rattle.fm_pool_facts.specs.declared.step.Step.TheVariants.{Retires}
 use Rattle.fm_pool_facts.specs.Hands.{Hand, nothing, HasSlot, IsTaker, hand_retired}
-use Rattle.fm_pool_facts.specs.Views.{View, span, limit_of}
+use Rattle.fm_pool_facts.specs.Views.{View, limit_of}
 use Rattle.fm_pool_facts.specs.Words.{free_word}
 use Rattle.fm_pool_facts.specs.Closes.{visited_of, dropped}
 use Rattle.fm_pool_facts.specs.Steps.{part, entries, noted, none_noted}
 use Rattle.fm_pool_facts.specs.Loans.{lent}
-use Rattle.fm_pool_facts.specs.Facts.{Memory, Session, free, shut, Owners, IsHeld, HasInHand, HasSweep, KeepsSlot, Owns, Rule}
+use Rattle.fm_pool_facts.specs.Facts.{Memory, Session, free, shut, Owners, IsHeld, HasInHand, HasSweep, KeepsSlot, Owns, Rule, HasSwept}
 use Rattle.fm_pool_facts.specs.Moves.{MayMake, StaysEnded, Moved, Same, KeepsSweeps, KeepsSlots, MayStore}
 use Rattle.fm_pool_facts.proofs.Founds.{no_draw}
 use Rattle.fm_pool_facts.proofs.Keeping.{closing_on, sweeping_on}
 use Rattle.fm_pool_facts.specs.Parts.{unread}
-use Rattle.fm_pool_facts.specs.Facts.{HasSwept}
 use Rattle.fm_pool_facts.proofs.Living.{pages_retire}
 use Rattle.fm_pool_facts.proofs.Retiring.{ended_bit, world_retire}
 use Rattle.fm_pool_facts.proofs.Shown.{shows_session}
@@ -32,7 +31,7 @@ use Rattle.fm_pool_facts.proofs.Ruling.{keeps}
 use Rattle.fm_pool_steps.proofs.Reading.{eqb_true, eqb_false}
 use Rattle.fm_pool_steps.proofs.Closes.{in_dropped, dropped_in, once_dropped}
 use Rattle.fm_pool_steps.proofs.Sweeping.{its, its_sweep, ended_now, shut_now, mine_now, apart, fit}
-use Rattle.fm_pool_steps.proofs.Plain.{own, Made, pages_there}
+use Rattle.fm_pool_steps.proofs.Plain.{same_but, own, Made, pages_there}
 
 module _ (z : Shape) (me : ℕ) (v : View) (l : v.live ≡ true) (sh : v.shape ≡ z) (none : v.hand ≡ nothing) (idle : v.swept ≡ unread) (a : ArenaId)
     (has : visited_of v.sweeps a ≡ Some (z.reach + 1)) (ws : List ℕ) (vs : List View) (r : Rule z ws vs) (at : get_elem? vs me ≡ some v) where
@@ -79,18 +78,7 @@ module _ (z : Shape) (me : ℕ) (v : View) (l : v.live ≡ true) (sh : v.shape �
   part_by last = record v { sweeps = dropped a v.sweeps; hand = hand_by last }
 
   same_part : (last : Bool) → Same v (part_by last)
-  same_part last = record {
-    home = refl;
-    shape = refl;
-    live = refl;
-    caller = refl;
-    seen = refl;
-    drawn = refl;
-    met = refl;
-    finds = refl;
-    gathered = refl;
-    whole = refl;
-  }
+  same_part last = same_but
 
   ok : MayMake (limit_of z) r.machine v.caller es
   ok = tt
@@ -222,7 +210,8 @@ module _ (z : Shape) (me : ℕ) (v : View) (l : v.live ≡ true) (sh : v.shape �
           sweeps = λ c i.
               let w = in_dropped a c v.sweeps mine.swept_once i in
               let y = mine.sweeps c w.0 in
-              sweeping_on (limit_of z) v.caller r.memory r.machine es m' ok (λ k b i. (r.world.marked k b i).stands) z me r.owners o' c y refl (ended_on c.arena y.session w.1);
+              sweeping_on (limit_of z) v.caller r.memory r.machine es m' ok (λ k b i. (r.world.marked k b i).stands) z me r.owners o' c y refl
+              (ended_on c.arena y.session w.1);
           swept_once = once_dropped a v.sweeps mine.swept_once;
           hand = in_hand last is;
           took = took_by last;
@@ -234,7 +223,8 @@ module _ (z : Shape) (me : ℕ) (v : View) (l : v.live ≡ true) (sh : v.shape �
           };
         })
 
-pub retire_steps : (z : Shape) (me : ℕ) (v : View) (a : ArenaId) → v.live ≡ true → v.shape ≡ z → v.hand ≡ nothing → v.swept ≡ unread → visited_of v.sweeps a ≡ Some (z.reach + 1)
+pub retire_steps : (z : Shape) (me : ℕ) (v : View) (a : ArenaId) → v.live ≡ true → v.shape ≡ z → v.hand ≡ nothing → v.swept ≡ unread
+    → visited_of v.sweeps a ≡ Some (z.reach + 1)
     → MayStore z (Retires a) me v (place_at z (session a.slot)) (free_word z.generations (a.generation + 1))
 unfolding part entries noted
 retire_steps z me v a l sh none idle has = record {

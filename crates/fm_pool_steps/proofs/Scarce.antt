@@ -7,7 +7,6 @@ use lib.ListN.{get_elem?}
 use Rattle.std.specs.Int.{bit_at}
 use Rattle.std.proofs.lemmas.Nat.Bits.{bit_at-zero}
 use Rattle.fm_words.specs.declared.shape.Shape.{Shape}
-use Rattle.fm_base.specs.declared.caller.Caller.{Caller}
 use Rattle.fm_base.specs.Finds.{Find}
 use Rattle.fm_pool_facts.specs.Loans.{Loan, lent}
 use Rattle.fm_pool_facts.specs.Views.{View, In, is_lent, one_unless, unlent, FewLeft}
@@ -55,7 +54,8 @@ module _ (z : Shape) (me : ℕ) (v : View) (l : v.live ≡ true) (ws : List ℕ)
       taken_up x e h = absurd (let n : true ≡ false = sym (lent_block loans x h) ∙ (ap (is_lent loans) e ∙ free) in cc)
 
       go : (b : Berth) → r.owners.berth q ≡ b → (j : ℕ) × (r.owners.berth q ≡ claimed j)
-      go loose e = absurd (let one = r.pages.is_bit q low e in let n : bit_at r.memory.page_bits q ≡ 0 = ap (λ (x : ℕ). bit_at x q) empty ∙ bit_at-zero q in omega arith)
+      go loose e = absurd (let one = r.pages.is_bit q low e in let n : bit_at r.memory.page_bits q ≡ 0 = ap (λ (x : ℕ). bit_at x q) empty
+          ∙ bit_at-zero q in omega arith)
       go (claimed j) e = (j, e)
       go (mapped k i) e = let y = r.pages.mapped_is q k i e in taken_up (record { block = q; id = y.arena; part = i }) refl y.lent
       go (unmapped j a i) e = let y = r.pages.unmapped_is q j i a e in taken_up (record { block = q; id = a; part = i }) refl y.lent
@@ -114,7 +114,9 @@ module _ (z : Shape) (me : ℕ) (v : View) (l : v.live ≡ true) (ws : List ℕ)
             drawn = λ m. ⊎_elim (λ (q : m ≡ s.view.caller.number). let a = its.number in omega arith) (y.drawn m);
             other = λ m. ⊎_elim
                 (λ (q : m ≡ s.view.caller.number) (p : m ≡ v.caller.number).
-                let same : s.view ≡ v = some-injective s.view v (sym there ∙ (ap (λ (k : ℕ). get_elem? vs (r.owners.number k)) (sym q ∙ p) ∙ (ap (get_elem? vs) mine.seated ∙ at))) in
+                let same : s.view ≡ v =
+                some-injective s.view v
+                (sym there ∙ (ap (λ (k : ℕ). get_elem? vs (r.owners.number k)) (sym q ∙ p) ∙ (ap (get_elem? vs) mine.seated ∙ at))) in
                 subst (In n) (ap (λ (u : View). u.pages) same ∙ none) has.1)
                 (y.other m);
             ones = λ m. ⊎_elim

@@ -1,5 +1,5 @@
 -- The step that shuts an arena.
-use Rattle.std.proofs.Common.{◌≡◌, ◌≢◌, ◌⊎◌, ℕ, ◌+◌, ◌==◌, Bool, true, false, if◌then◌else◌, List, [], ◌∷◌, set, get_or, sym, refl, ap, ◌∙◌, subst, arith, inl, inr, ⊎_elim, Option, Some, None, eq-eqb, ne_eqb}
+use Rattle.std.proofs.Common.{◌≡◌, ◌≢◌, ℕ, ◌==◌, Bool, true, false, if◌then◌else◌, List, [], ◌∷◌, set, get_or, sym, refl, ap, ◌∙◌, subst, arith, inl, inr, ⊎_elim, Option, Some, None, eq-eqb, ne_eqb}
 use mathlib.Core.Option.{some}
 use mathlib.Core.Logic.{dite}
 use lib.ListN.{get_elem?}
@@ -11,30 +11,27 @@ use Rattle.fm_base.specs.declared.kind.Kind.TheVariants.{Global, Automatic}
 use Rattle.fm_base.specs.Arenas.{MayUse}
 use Rattle.fm_base.specs.Calls.{Shut, Reply, Fine, Closed, Held, Entry, entry_of}
 use Rattle.fm_base.specs.Finds.{Close}
-use Rattle.fm_depicts.specs.Functions.{Fresh, Lives, Closes, Over, Machine, put, put_at, shut_stage}
+use Rattle.fm_depicts.specs.Functions.{Fresh, Lives, Closes, Over, put, put_at, shut_stage}
 use Rattle.fm_depicts.specs.Steps.{moved_by}
-use Rattle.fm_depicts.proofs.Putting.{put_else, at_here, at_other, one_arena}
+use Rattle.fm_depicts.proofs.Putting.{put_else, at_here, at_other, one_arena, put_cases, at_cases}
 use Rattle.fm_pool_facts.specs.declared.step.Step.TheVariants.{Shuts}
 use Rattle.fm_pool_facts.specs.Views.{View, In, IsKnown, limit_of}
 use Rattle.fm_pool_facts.specs.Words.{alive_word, closing_word, alive_holds, shut_found}
-use Rattle.fm_pool_facts.specs.Holds.{holds_of, all_holds}
 use Rattle.fm_pool_facts.specs.Closes.{begun, close_of}
 use Rattle.fm_pool_facts.specs.Steps.{part, entries, noted, none_noted}
-use Rattle.fm_pool_facts.specs.Facts.{Memory, free, live, shut, IsShown, Owners, World, IsClosing, HasClose, Rule}
+use Rattle.fm_pool_facts.specs.Facts.{Memory, free, live, shut, Owners, IsClosing, HasClose, Rule}
 use Rattle.fm_pool_facts.specs.Moves.{MayMake, StaysEnded, Moved, Same, KeepsHolds, MayStep}
 use Rattle.fm_pool_facts.proofs.Keeping.{closing_on, sweeping_on}
 use Rattle.fm_pool_facts.proofs.Standing.{free_apart}
 use Rattle.fm_pool_facts.proofs.Worlds.{world_shut}
-use Rattle.fm_pool_facts.specs.Loans.{lent, loans_after}
-use Rattle.fm_depicts.proofs.Putting.{put_cases, at_cases}
+use Rattle.fm_pool_facts.specs.Loans.{lent}
 use Rattle.fm_pool_facts.proofs.Living.{pages_shut}
-use Rattle.fm_pool_facts.proofs.Ruling.{page_like}
-use Rattle.fm_pool_facts.specs.Facts.{Pages}
-use Rattle.fm_pool_facts.proofs.Shown.{shows_same, shows_session}
+use Rattle.fm_pool_facts.proofs.Ruling.{page_like, keeps}
+use Rattle.fm_pool_facts.proofs.Shown.{shows_session}
 use Rattle.fm_pool_facts.proofs.Gripping.{by_hand, same_handles}
-use Rattle.fm_pool_facts.proofs.Ruling.{keeps}
 use Rattle.fm_pool_steps.proofs.Reading.{Says, says, shut_says, alive_read, alive_one, reads_alive, eqb_true, eqb_false}
-use Rattle.fm_pool_steps.proofs.Plain.{same_none, own, known_now, Made, plain, hand_still, sweeps_still, slots_still}
+use Rattle.fm_pool_steps.proofs.Quiet.{answers_on}
+use Rattle.fm_pool_steps.proofs.Plain.{same_but, own, known_now, Made, hand_still, sweeps_still, slots_still}
 use Rattle.fm_pool_facts.proofs.Founds.{no_draw}
 
 module _ (z : Shape) (me : ℕ) (v : View) (l : v.live ≡ true) (a : ArenaId) (known : IsKnown v a) (use_it : MayUse a v.caller) (not_global : a.kind ≢ Global)
@@ -53,38 +50,9 @@ module _ (z : Shape) (me : ℕ) (v : View) (l : v.live ≡ true) (a : ArenaId) (
       → moved_by r.machine (entry_of v.caller (Shut a) reply ∷ []) ≡ r.machine
       → Made z ws vs me v i found (record v { closes = begun a reply v.closes }) (entry_of v.caller (Shut a) reply ∷ []) none_noted
   refused reply is none stays =
-      let k = own z ws vs r me v at l in
       subst (λ (cs : List Close). Made z ws vs me v i found (record v { closes = cs }) (entry_of v.caller (Shut a) reply ∷ []) none_noted) (sym none)
-      (plain z ws vs r me v at l i found v (entry_of v.caller (Shut a) reply ∷ []) none_noted no_draw r.memory (record {
-        may = (refl, (opened, use_it, not_global), is, tt);
-        ends = λ b. ((λ h. h), tt);
-        marks = λ k h. refl;
-        terms = λ k. refl;
-        draw = refl;
-        still = λ s g f. f;
-        back = λ s g f. f;
-        bits = refl;
-        same = same_none v;
-        closes = refl;
-        hand = refl;
-        sweeps = refl;
-        ended = λ b o f. record { session = f; maps = λ i. refl; given = refl };
-        shown = λ b f. f;
-        was = λ b h. ap (λ (t : Machine). t.life b) (sym stays) ∙ h;
-        holds = λ b. ap (λ (t : Machine). holds_of b v + all_holds b t) (sym stays);
-        lends = (tt, tt);
-        pages = subst (λ (t : Machine). Pages z (lent r.history) r.memory.page_bits r.memory.maps r.memory.cells r.owners.berth r.memory.sessions t.life t.word t.given)
-            (sym stays) r.pages;
-        maps = refl;
-        cells = λ p j b w. refl;
-        reads = λ a e x i. (e, i);
-        paged = refl;
-        swept = refl;
-        shows = shows_same z r.valid ws r.memory r.shows i;
-        world = subst (World z r.memory) (sym stays) r.world;
-        inside = ap (λ (t : Machine). t.inside v.caller) stays ∙ k.inside;
-        mark = k.mark;
-      }))
+      (answers_on z ws vs r me v at l i (entry_of v.caller (Shut a) reply ∷ []) (refl, (opened, use_it, not_global), is, tt) (λ b. ((λ h. h), tt))
+      (tt, tt) refl stays)
 
   -- an arena that is alive with no holds is closing from now on
   pub shuts : (hs : List ArenaId) → r.machine.life a ≡ Lives → r.machine.holds a ≡ 0
@@ -116,18 +84,7 @@ module _ (z : Shape) (me : ℕ) (v : View) (l : v.live ≡ true) (a : ArenaId) (
       let was_shut : (b : ArenaId) → b ≢ a → m'.sessions b.slot ≡ shut b → r.memory.sessions b.slot ≡ shut b =
       (λ b n. put_cases r.memory.sessions a.slot (shut a) b.slot (λ y. y ≡ shut b → r.memory.sessions b.slot ≡ shut b)
       (λ e q. absurd (n (cc))) (λ ne q. q)) in
-      let same : Same v p = record {
-        home = refl;
-        shape = refl;
-        live = refl;
-        caller = refl;
-        seen = refl;
-        drawn = refl;
-        met = refl;
-        finds = refl;
-        gathered = refl;
-        whole = refl;
-      } in
+      let same : Same v p = same_but in
       let d : Moved me z v.caller r.memory r.machine r.owners es m' o' = record {
         allowed = ok;
         marks = λ k h. refl;
@@ -168,7 +125,8 @@ module _ (z : Shape) (me : ℕ) (v : View) (l : v.live ≡ true) (a : ArenaId) (
         once = ((λ c j. other c.arena (k.closes c j).life), k.once);
         sweeps = λ c j.
             let y = k.sweeps c j in
-            sweeping_on (limit_of z) v.caller r.memory r.machine es m' ok (λ k b i. (r.world.marked k b i).stands) z me r.owners o' c y (at_other r.owners.closer a me c.arena (ended c.arena y.life))
+            sweeping_on (limit_of z) v.caller r.memory r.machine es m' ok (λ k b i. (r.world.marked k b i).stands) z me r.owners o' c y
+            (at_other r.owners.closer a me c.arena (ended c.arena y.life))
             (stays c.arena y.life y.session);
         swept_once = k.swept_once;
         hand = hand_still z r.memory m' r.owners.holder me still refl v.hand k.hand;

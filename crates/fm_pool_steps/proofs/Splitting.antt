@@ -9,9 +9,8 @@ use Rattle.fm_base.specs.declared.arena_id.ArenaId.{ArenaId}
 use Rattle.fm_depicts.specs.Functions.{Closes, Over}
 use Rattle.fm_pool_facts.specs.Views.{Met, View, In, all_gathered, brought}
 use Rattle.fm_pool_facts.specs.Splits.{note, met, nothing_seen, IsBare}
-use Rattle.fm_pool_facts.specs.Facts.{free, shut, HasNumber, HasDraw, HasClose, HasSweep, KeepsSlot, Somewhere, Begins, Knows, Rule, Memory, IsCounted}
+use Rattle.fm_pool_facts.specs.Facts.{free, shut, HasNumber, HasDraw, HasClose, HasSweep, KeepsSlot, Somewhere, Begins, Knows, Rule, Memory, IsCounted, Berth, loose, claimed, mapped, unmapped, IsAt, HasPage}
 use Rattle.fm_pool_facts.specs.Holds.{grips, holds_of, how_many, total}
-use Rattle.fm_pool_facts.specs.Facts.{Berth, loose, claimed, mapped, unmapped, IsAt, HasPage}
 use Rattle.fm_pool_facts.proofs.Ruling.{page_like}
 use Rattle.fm_pool_facts.proofs.Founds.{counted_bare}
 use Rattle.fm_pool_facts.specs.Gone.{IsFounded}

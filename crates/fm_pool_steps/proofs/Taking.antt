@@ -14,6 +14,7 @@ use Rattle.fm_words.specs.Sessions.{session_word}
 use Rattle.fm_base.specs.Finds.{is_page, Find, TakesSlot as Taking}
 use Rattle.fm_depicts.specs.Functions.{put}
 use Rattle.fm_depicts.proofs.Putting.{put_here, put_else}
+use Rattle.fm_pool_facts.proofs.Keeping.{closing_as, sweeping_as}
 use Rattle.fm_pool_facts.specs.declared.step.Step.TheVariants.{TakesSlot, LearnsGeneration}
 use Rattle.fm_pool_facts.specs.Hands.{nothing, taken, learnt, HasSlot, IsTaker, hand_taken}
 use Rattle.fm_pool_facts.specs.Gone.{FoundBy}
@@ -28,21 +29,8 @@ use Rattle.fm_pool_facts.proofs.Shown.{shows_same, shows_bits}
 use Rattle.fm_pool_facts.proofs.Ruling.{page_like, keeps, keeps_with}
 use Rattle.fm_pool_steps.proofs.Reading.{eqb_true, eqb_false}
 use Rattle.fm_pool_steps.proofs.Telling.{some_bit, idle, busy, none_left}
-use Rattle.fm_pool_steps.proofs.Plain.{same_none, stays_ended, pages_still, own, Made, sweeps_still, plain_with}
-
-pub same_hand : (v p : View) → p ≡ record v { hand = p.hand } → Same v p
-same_hand v p e = record {
-  home = ap (λ (x : View). x.home) e;
-  shape = ap (λ (x : View). x.shape) e;
-  live = ap (λ (x : View). x.live) e;
-  caller = ap (λ (x : View). x.caller) e;
-  seen = ap (λ (x : View). x.seen) e;
-  drawn = ap (λ (x : View). x.drawn) e;
-  met = ap (λ (x : View). x.met) e;
-  finds = ap (λ (x : View). x.finds) e;
-  gathered = ap (λ (x : View). x.gathered) e;
-  whole = ap (λ (x : View). x.whole) e;
-}
+use Rattle.fm_pool_steps.proofs.Quiet.{quiet}
+use Rattle.fm_pool_steps.proofs.Plain.{same_but, stays_ended, pages_still, own, Made, sweeps_still}
 
 module _ (z : Shape) (me : ℕ) (v : View) (l : v.live ≡ true) (ws : List ℕ) (vs : List View) (r : Rule z ws vs) (at : get_elem? vs me ≡ some v) where
   abbrev mine : Owns z r.history r.memory r.machine r.owners me v
@@ -74,35 +62,7 @@ module _ (z : Shape) (me : ℕ) (v : View) (l : v.live ≡ true) (ws : List ℕ)
 
     -- nothing is taken
     stays : Made z ws vs me v i found v [] fs
-    stays = plain_with z ws vs r me v at l i found v [] fs (note_none_drawn (Taking e bit) found v refl) new r.memory (record {
-      may = tt;
-      ends = λ b. tt;
-      marks = λ k h. refl;
-      terms = λ k. refl;
-      draw = refl;
-      still = λ s g f. f;
-      back = λ s g f. f;
-      bits = refl;
-      same = same_none v;
-      closes = refl;
-      hand = refl;
-      sweeps = refl;
-      ended = λ b o f. record { session = f; maps = λ i. refl; given = refl };
-      shown = λ b f. f;
-      was = λ b h. h;
-      holds = λ a. refl;
-      lends = tt;
-      pages = r.pages;
-      maps = refl;
-      cells = λ p j b w. refl;
-      reads = λ a e x i. (e, i);
-      paged = refl;
-      swept = refl;
-      shows = shows_same z r.valid ws r.memory r.shows i;
-      world = r.world;
-      inside = mine.inside;
-      mark = mine.mark;
-    })
+    stays = quiet z ws vs r me v at l i [] fs (note_none_drawn (Taking e bit) found v refl) new tt (λ b. tt) tt refl refl
 
     -- the slot is in the hand
     takes_it : r.memory.bits ≡ e → bit_at e bit ≡ 1 → Made z ws vs me v i next (record v { hand = taken bit }) [] fs
@@ -114,7 +74,7 @@ module _ (z : Shape) (me : ℕ) (v : View) (l : v.live ≡ true) (ws : List ℕ)
         let y : bit_at r.memory.bits s ≡ 1 = (λ j. bit_at (is j) (q j)) ∙ one in omega arith) in
         let bit_on : (s : ℕ) → s ≢ bit → bit_at next s ≡ bit_at r.memory.bits s = (λ s n. without.others s n ∙ ap (λ (w : ℕ). bit_at w s) (sym is)) in
         let f = r.world.slots.bit_is bit (ap (λ (w : ℕ). bit_at w bit) is ∙ one) in
-        let same : Same v p = same_hand v p refl in
+        let same : Same v p = same_but in
         let d : Moved me z v.caller r.memory r.machine r.owners [] m' o' = record {
           allowed = tt;
           marks = λ k h. refl;
@@ -159,10 +119,9 @@ module _ (z : Shape) (me : ℕ) (v : View) (l : v.live ≡ true) (ws : List ℕ)
         (record {
           inside = mine.inside;
           mark = mine.mark;
-          closes = λ c j. let y = mine.closes c j in record { owner = y.owner; life = y.life; visited = y.visited };
+          closes = λ c j. closing_as (mine.closes c j);
           once = mine.once;
-          sweeps = λ c j.
-              let y = mine.sweeps c j in record { owner = y.owner; life = y.life; session = y.session; parts = y.parts; count = y.count; reset = y.reset };
+          sweeps = λ c j. sweeping_as (mine.sweeps c j);
           swept_once = mine.swept_once;
           hand = (f.0, record { owner = put_here r.owners.holder bit me; slot = low; bit = without.zero; session = f.1; left = f.2 });
           took = put_here r.owners.taker bit (Some v.caller);
@@ -217,7 +176,7 @@ module _ (z : Shape) (me : ℕ) (v : View) (l : v.live ≡ true) (ws : List ℕ)
         taken = λ s k x. inl x;
         pages = pages_still;
       } in
-      keeps z ws (set ws i x) vs r me v p [] none_noted r.memory r.owners at l d (same_hand v p refl) no_draw tt r.pages
+      keeps z ws (set ws i x) vs r me v p [] none_noted r.memory r.owners at l d (same_but) no_draw tt r.pages
       (λ b h. inr (h, refl, (λ y. y)))
       (λ b q h. inr (q, h, refl, (λ y. y)))
       (λ k g h q left b. inr (q, b, refl, (λ (y : KeepsSlot k v). (y.0, subst (HasSlot k) in_hand y.1))))

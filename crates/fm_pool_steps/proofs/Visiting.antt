@@ -18,23 +18,22 @@ use Rattle.fm_pool_facts.specs.Views.{View, In, limit_of, pass_of}
 use Rattle.fm_pool_facts.specs.Words.{mark_of, own_word}
 use Rattle.fm_pool_facts.specs.Closes.{close_of, visited_of, visited, dropped, one_more, visit_by, closes_after, sweeps_after, visit_entries}
 use Rattle.fm_pool_facts.specs.Steps.{part, entries, noted, note_of}
-use Rattle.fm_pool_facts.specs.Facts.{shut, IsClosing, IsSweeping, HasClose, HasSweep, Owns, Rule}
+use Rattle.fm_pool_facts.specs.Facts.{shut, IsClosing, IsSweeping, HasClose, HasSweep, Owns, Rule, Berth, HasSwept}
 use Rattle.fm_pool_facts.specs.Moves.{MayMake, Moved, Same, MayStep}
 use Rattle.fm_pool_facts.proofs.Keeping.{closing_on, sweeping_on}
 use Rattle.fm_pool_facts.proofs.Founds.{NoDraw, note_no_draw}
 use Rattle.fm_pool_facts.proofs.Worlds.{world_end}
 use Rattle.fm_pool_facts.specs.Loans.{lent}
 use Rattle.fm_pool_facts.specs.Parts.{Swept, unread, named, wiping}
-use Rattle.fm_pool_facts.specs.Facts.{Berth, HasSwept}
 use Rattle.fm_pool_facts.proofs.Living.{pages_end}
-use Rattle.fm_pool_steps.proofs.Plain.{pages_still, pages_there}
+use Rattle.fm_pool_steps.proofs.Quiet.{looks_with}
+use Rattle.fm_pool_steps.proofs.Plain.{pages_still, pages_there, same_but, stays_ended, own, Made, sweeps_still, slots_still}
 use Rattle.fm_pool_facts.proofs.Shown.{shows_same}
 use Rattle.fm_pool_facts.proofs.Ruling.{keeps}
 use Rattle.fm_pool_facts.specs.Holds.{one_alive}
 use Rattle.fm_pool_facts.proofs.Gripping.{same_handles}
 use Rattle.fm_pool_steps.proofs.Reading.{eqb_true, eqb_false}
 use Rattle.fm_pool_steps.proofs.Closes.{Found, visited_of-found, count_of, in_visited, visited_in, once_visited, in_dropped, dropped_in, once_dropped}
-use Rattle.fm_pool_steps.proofs.Plain.{same_none, stays_ended, own, Made, plain, sweeps_still, slots_still}
 
 -- a sweep is there still where another one begins
 more_swept : (z : Shape) (maps : ℕ → ℕ → Option ℕ) (cells : ℕ → ℕ → ℕ) (berth : ℕ → Berth) (j : ℕ) (c : Close) (cs : List Close) (s : Swept)
@@ -88,52 +87,13 @@ module _ (z : Shape) (me : ℕ) (v : View) (l : v.live ≡ true) (sh : v.shape �
 
   -- the mark names the arena
   stays : Made z ws vs me v i found v [] fs
-  stays = plain z ws vs r me v at l i found v [] fs no_draws r.memory (record {
-    may = tt;
-    ends = λ b. tt;
-    marks = λ k h. refl;
-    terms = λ k. refl;
-    draw = refl;
-    still = λ s g f. f;
-    back = λ s g f. f;
-    bits = refl;
-    same = same_none v;
-    closes = refl;
-    hand = refl;
-    sweeps = refl;
-    ended = λ b o f. record { session = f; maps = λ i. refl; given = refl };
-    shown = λ b f. f;
-    was = λ b h. h;
-    holds = λ a. refl;
-    lends = tt;
-    pages = r.pages;
-    maps = refl;
-    cells = λ p j b w. refl;
-    reads = λ a e x i. (e, i);
-    paged = refl;
-    swept = refl;
-    shows = shows_same z r.valid ws r.memory r.shows i;
-    world = r.world;
-    inside = mine.inside;
-    mark = mine.mark;
-  })
+  stays = looks_with z ws vs r me v at l i fs no_draws
 
   -- the close has visited one mark more
   walks : found ≢ mark_of a → Made z ws vs me v i found (record v { closes = visited a v.closes }) [] fs
   walks n =
       let p : View = record v { closes = visited a v.closes } in
-      let same : Same v p = record {
-        home = refl;
-        shape = refl;
-        live = refl;
-        caller = refl;
-        seen = refl;
-        drawn = refl;
-        met = refl;
-        finds = refl;
-        gathered = refl;
-        whole = refl;
-      } in
+      let same : Same v p = same_but in
       let d : Moved me z v.caller r.memory r.machine r.owners [] r.memory r.owners = record {
         allowed = tt;
         marks = λ k h. refl;
@@ -193,18 +153,7 @@ module _ (z : Shape) (me : ℕ) (v : View) (l : v.live ≡ true) (sh : v.shape �
       let es : List Entry = entry_of v.caller (End a) Fine ∷ [] in
       let p : View = record v { closes = dropped a v.closes; sweeps = close_of a 0 ∷ v.sweeps } in
       let ok : MayMake (limit_of z) r.machine v.caller es = (refl, (closes_now, nobody), refl, tt) in
-      let same : Same v p = record {
-        home = refl;
-        shape = refl;
-        live = refl;
-        caller = refl;
-        seen = refl;
-        drawn = refl;
-        met = refl;
-        finds = refl;
-        gathered = refl;
-        whole = refl;
-      } in
+      let same : Same v p = same_but in
       let d : Moved me z v.caller r.memory r.machine r.owners es r.memory r.owners = record {
         allowed = ok;
         marks = λ k h. refl;
@@ -257,7 +206,8 @@ module _ (z : Shape) (me : ℕ) (v : View) (l : v.live ≡ true) (sh : v.shape �
             }))
             (λ (j : In c v.sweeps).
             let y = mine.sweeps c j in
-            sweeping_on (limit_of z) v.caller r.memory r.machine es r.memory ok (λ k b i. (r.world.marked k b i).stands) z me r.owners r.owners c y refl (stays_ended r.memory c.arena y.session));
+            sweeping_on (limit_of z) v.caller r.memory r.machine es r.memory ok
+            (λ k b i. (r.world.marked k b i).stands) z me r.owners r.owners c y refl (stays_ended r.memory c.arena y.session));
         swept_once = (
           (λ c j e.
               let y : r.machine.life a ≡ Over = ap r.machine.life (sym e) ∙ (mine.sweeps c j).life in

@@ -203,7 +203,8 @@ part_on v w part sh more k = record {
   from = k.from ∙ ap (λ (z : Shape). at z (page_word k.mapping.page 0)) (sym sh);
 }
 
-pub keeps_on : (c : Caller) (i : Option ArenaId) (part : Part) (count : ℕ) (v p w : View) (es : List Entry) (fs : ℕ → List Find) (held held' : List (ℕ × Unit {0}))
+pub keeps_on : (c : Caller) (i : Option ArenaId) (part : Part) (count : ℕ) (v p w : View) (es : List Entry) (fs : ℕ → List Find)
+    (held held' : List (ℕ × Unit {0}))
     → Keeps c i part count (v, held) → Alike v p → p.inside ≡ v.inside → ((x : Mapping) → In x v.reads → In x p.reads)
     → Gives v p es fs w → held' ≡ held → Keeps c i part count (w, held')
 keeps_on c i part count v p w es fs held held' k s ins more g e =

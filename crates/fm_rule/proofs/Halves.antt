@@ -14,15 +14,13 @@ use Rattle.fm_pool_facts.specs.Views.{Met, View, In, IsNew, IsSound, is_automati
 use Rattle.fm_pool_facts.specs.Splits.{view_of, number_or, drawn_left, drawn_right, as_gathered, gather, IsAtRest}
 use Rattle.fm_pool_facts.specs.Steps.{part, entries, noted}
 use Rattle.fm_pool_facts.specs.Facts.{Begins}
-use Rattle.fm_pool_facts.specs.Views.{In}
 use Rattle.fm_rule.specs.declared.pass.Part.{Part}
-use Rattle.fm_rule.proofs.Allowed.{part_on}
+use Rattle.fm_rule.proofs.Allowed.{part_on, sound_homed, all_of_in}
 use Rattle.fm_pool_facts.specs.Moves.{Gives, Tells}
 use Rattle.fm_pool_facts.proofs.Keeping.{none_added}
 use Rattle.fm_rule.specs.Views.{homed, Keeps}
 use Rattle.fm_rule.specs.Draws.{Takes, Drawn, CanGather, Gathers}
 use Rattle.fm_rule.specs.declared.pool.Pool.{Pool}
-use Rattle.fm_rule.proofs.Allowed.{sound_homed, all_of_in}
 
 -- ---- the drawer and the new pass
 

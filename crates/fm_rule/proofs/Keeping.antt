@@ -6,13 +6,12 @@ use Rattle.fm_base.specs.Arenas.{only_caller}
 use Rattle.fm_base.specs.declared.caller.Caller.{Caller}
 use Rattle.fm_base.specs.declared.arena_id.ArenaId.{ArenaId}
 use Rattle.fm_pool_facts.specs.declared.step.Step.TheVariants.{Draws, Marks, Checks, Loads, Stores, SwapsIf, Adds, Allocates, Holds, Unholds, Backs, Unmarks, Shuts, Visits, TakesSlot, LearnsGeneration, Opens, Claims, Maps, ReadsMap, SweepsGiven, SweepsMap, Unmaps, Wipes, GivesPage, ReturnsPage, ResetsGiven, Retires, GivesSlot}
-use Rattle.fm_pool_facts.specs.Views.{View}
+use Rattle.fm_pool_facts.specs.Views.{View, In}
 use Rattle.fm_pool_facts.specs.Splits.{first_view}
 use Rattle.fm_pool_facts.specs.Words.{alive_holds, inside_found}
 use Rattle.fm_pool_facts.specs.Steps.{part, entries, noted, number_drawn, draws}
 use Rattle.fm_words.specs.Maps.{map_word}
 use Rattle.fm_words.specs.Places.{at, page_word}
-use Rattle.fm_pool_facts.specs.Views.{In}
 use Rattle.fm_pool_facts.specs.Parts.{Mapping, mapping_of, reads_after, reads_mapped}
 use Rattle.fm_rule.specs.declared.pass.Part.{Part}
 use Rattle.fm_pool_facts.specs.Moves.{Tells}
@@ -41,7 +40,8 @@ read_more b x ms y i = go (x == 0)
 read_adds : (b p x : ℕ) (ms : List Mapping) → x ≡ suc p → In (mapping_of b p) (reads_after b x ms)
 read_adds b p x ms e =
     let n : (x == 0) ≡ false = ne_eqb x 0 (λ q. absurd (omega arith)) in
-    subst (λ (c : Bool). In (mapping_of b p) (if c then ms else mapping_of b (x - 1) ∷ ms)) (sym n) (inl (ap (mapping_of b) (let h : p ≡ x - 1 = omega arith in h)))
+    subst (λ (c : Bool). In (mapping_of b p) (if c then ms else mapping_of b (x - 1) ∷ ms)) (sym n)
+    (inl (ap (mapping_of b) (let h : p ≡ x - 1 = omega arith in h)))
 
 draws_inside : (o : Option ℕ) (e x : ℕ) (v : View) → (draws o e x v).inside ≡ v.inside
 draws_inside None e x v = refl
@@ -231,7 +231,8 @@ module _ (c : Caller) (i : Option ArenaId) (part' : Part) (count : ℕ) (v w : V
   -- a part is known by what was read last
   pub read_map_keeps : (a : ArenaId) (b x : ℕ) (z : Shape) (new : Part) → Tells (ReadsMap a b) v x w → v.shape ≡ z
       → (x ≡ 0 → new.words ≡ 0)
-      → ((p : ℕ) → x ≡ map_word p → (new.first ≡ b * z.page_words) × (new.words ≡ z.page_words) × (new.from ≡ at z (page_word p 0))) → Keeps c i new count (w, held')
+      → ((p : ℕ) → x ≡ map_word p → (new.first ≡ b * z.page_words) × (new.words ≡ z.page_words) × (new.from ≡ at z (page_word p 0)))
+      → Keeps c i new count (w, held')
   unfolding part entries noted map_word
   read_map_keeps a b x z new t sh none some =
       let base = keeps_on c i part' count v (part (ReadsMap a b) v x) w (entries (ReadsMap a b) v x) (noted (ReadsMap a b) v x) held held' k

@@ -5,17 +5,15 @@ use Rattle.fm_base.specs.Calls.{Open, Lend, Enter, Read, Write, SwapIf, Add, All
 use Rattle.fm_base.specs.Machine.{allocate_reply}
 use Rattle.fm_base.specs.Finds.{Find, Visits as Visiting, TakesSlot as Taking, TakesPage as Claiming, Maps as Mapped}
 use Rattle.fm_pool_facts.specs.declared.step.Step.TheVariants.{Draws, Marks, Checks, Loads, Stores, SwapsIf, Adds, Allocates, Holds, Unholds, Backs, Unmarks, Shuts, Visits, TakesSlot, LearnsGeneration, Opens, Claims, Maps, ReadsMap, SweepsGiven, SweepsMap, Unmaps, Wipes, GivesPage, ReturnsPage, ResetsGiven, Retires, GivesSlot}
-use Rattle.fm_pool_facts.specs.Views.{View, In, limit_of, pass_of}
+use Rattle.fm_pool_facts.specs.Views.{View, In, limit_of, pass_of, given_of}
 use Rattle.fm_pool_facts.specs.Words.{alive_holds, enter_found, inside_found, hold_found, shut_found}
 use Rattle.fm_pool_facts.specs.Hands.{nothing, learnt, takes, hand_taken, hand_retired}
 use Rattle.fm_pool_facts.specs.Holds.{grips, with_grips, holds_after, handles_with, released}
 use Rattle.fm_pool_facts.specs.Handles.{giving, given_back, giving_entries}
 use Rattle.fm_pool_facts.specs.Closes.{begun, visited, dropped, visit_found, closes_after, sweeps_after, visit_entries}
 use Rattle.fm_pool_facts.specs.Steps.{Stepped, number_drawn, draws, note_draw, part, entries, noted, acted, none_noted, where_found, note_of}
-use Rattle.fm_pool_facts.specs.Moves.{LearnsCount, LearnsSlots, Tells}
+use Rattle.fm_pool_facts.specs.Moves.{LearnsCount, LearnsSlots, Tells, LearnsMap}
 use Rattle.fm_pool_facts.specs.Parts.{unread, wiping, reads_after, reads_mapped, pages_mapped, pages_taken, swept_read}
-use Rattle.fm_pool_facts.specs.Moves.{LearnsMap}
-use Rattle.fm_pool_facts.specs.Views.{given_of}
 use Rattle.fm_rule.specs.Views.{homed}
 use Rattle.fm_rule.proofs.Allowed.{same_part, stepped}
 
@@ -189,37 +187,53 @@ module _ (now v w : View) (home home' : List ℕ) (is : homed home v ≡ now) (s
   pub count_swept : (a : ArenaId) (x : ℕ) → Tells (SweepsGiven a) v x w → x ≡ given_of (homed home' w) a
   count_swept a x t = t.learns
 
-  pub sweep_map_stepped : (a : ArenaId) (i : ℕ) (x : ℕ) → Tells (SweepsMap a i) v x w → Stepped now (homed home' w) (record now { swept = swept_read a i x; sweeps = if x == 0 then visited a now.sweeps else now.sweeps }) ([]) (none_noted)
+  pub sweep_map_stepped : (a : ArenaId) (i : ℕ) (x : ℕ) → Tells (SweepsMap a i) v x w
+      → Stepped now (homed home' w) (record now { swept = swept_read a i x; sweeps = if x == 0 then visited a now.sweeps else now.sweeps }) ([]) (none_noted)
   unfolding part entries noted
-  sweep_map_stepped a i x t = stepped_as (λ (y : View). record y { swept = swept_read a i x; sweeps = if x == 0 then visited a y.sweeps else y.sweeps }) (λ (y : View). []) (λ (y : View). none_noted)
+  sweep_map_stepped a i x t =
+      stepped_as (λ (y : View). record y { swept = swept_read a i x; sweeps = if x == 0 then visited a y.sweeps else y.sweeps }) (λ (y : View). [])
+      (λ (y : View). none_noted)
       (stepped home v (part (SweepsMap a i) v x) w (entries (SweepsMap a i) v x) (noted (SweepsMap a i) v x) (same_part (SweepsMap a i) v x) met t.gives)
 
-  pub unmap_stepped : (a : ArenaId) (i p : ℕ) (x : ℕ) → Tells (Unmaps a i p) v x w → Stepped now (homed home' w) (record now { swept = wiping a i p 0 }) ([]) (none_noted)
+  pub unmap_stepped : (a : ArenaId) (i p : ℕ) (x : ℕ) → Tells (Unmaps a i p) v x w
+      → Stepped now (homed home' w) (record now { swept = wiping a i p 0 }) ([]) (none_noted)
   unfolding part entries noted
   unmap_stepped a i p x t = stepped_as (λ (y : View). record y { swept = wiping a i p 0 }) (λ (y : View). []) (λ (y : View). none_noted)
       (stepped home v (part (Unmaps a i p) v x) w (entries (Unmaps a i p) v x) (noted (Unmaps a i p) v x) (same_part (Unmaps a i p) v x) met t.gives)
 
-  pub wipe_stepped : (a : ArenaId) (i p n : ℕ) (x : ℕ) → Tells (Wipes a i p n) v x w → Stepped now (homed home' w) (record now { swept = wiping a i p (n + 1) }) ([]) (none_noted)
+  pub wipe_stepped : (a : ArenaId) (i p n : ℕ) (x : ℕ) → Tells (Wipes a i p n) v x w
+      → Stepped now (homed home' w) (record now { swept = wiping a i p (n + 1) }) ([]) (none_noted)
   unfolding part entries noted
   wipe_stepped a i p n x t = stepped_as (λ (y : View). record y { swept = wiping a i p (n + 1) }) (λ (y : View). []) (λ (y : View). none_noted)
       (stepped home v (part (Wipes a i p n) v x) w (entries (Wipes a i p n) v x) (noted (Wipes a i p n) v x) (same_part (Wipes a i p n) v x) met t.gives)
 
-  pub return_page_stepped : (a : ArenaId) (p : ℕ) (x : ℕ) → Tells (ReturnsPage a p) v x w → Stepped now (homed home' w) (record now { swept = unread; sweeps = visited a now.sweeps }) (entry_of now.caller (Back p) Fine ∷ []) (none_noted)
+  pub return_page_stepped : (a : ArenaId) (p : ℕ) (x : ℕ) → Tells (ReturnsPage a p) v x w
+      → Stepped now (homed home' w) (record now { swept = unread; sweeps = visited a now.sweeps }) (entry_of now.caller (Back p) Fine ∷ []) (none_noted)
   unfolding part entries noted
-  return_page_stepped a p x t = stepped_as (λ (y : View). record y { swept = unread; sweeps = visited a y.sweeps }) (λ (y : View). entry_of y.caller (Back p) Fine ∷ []) (λ (y : View). none_noted)
-      (stepped home v (part (ReturnsPage a p) v x) w (entries (ReturnsPage a p) v x) (noted (ReturnsPage a p) v x) (same_part (ReturnsPage a p) v x) met t.gives)
+  return_page_stepped a p x t =
+      stepped_as (λ (y : View). record y { swept = unread; sweeps = visited a y.sweeps }) (λ (y : View). entry_of y.caller (Back p) Fine ∷ [])
+      (λ (y : View). none_noted)
+      (stepped home v (part (ReturnsPage a p) v x) w (entries (ReturnsPage a p) v x) (noted (ReturnsPage a p) v x)
+      (same_part (ReturnsPage a p) v x) met t.gives)
 
-  pub take_page_stepped : (e bit : ℕ) (x : ℕ) → Tells (Claims e bit) v x w → Stepped now (homed home' w) (record now { pages = pages_taken (takes e bit x) bit now.pages }) ([]) (note_of (Claiming e bit) x now)
+  pub take_page_stepped : (e bit : ℕ) (x : ℕ) → Tells (Claims e bit) v x w
+      → Stepped now (homed home' w) (record now { pages = pages_taken (takes e bit x) bit now.pages }) ([]) (note_of (Claiming e bit) x now)
   unfolding part entries noted
-  take_page_stepped e bit x t = stepped_as (λ (y : View). record y { pages = pages_taken (takes e bit x) bit y.pages }) (λ (y : View). []) (λ (y : View). note_of (Claiming e bit) x y)
+  take_page_stepped e bit x t =
+      stepped_as (λ (y : View). record y { pages = pages_taken (takes e bit x) bit y.pages }) (λ (y : View). []) (λ (y : View). note_of (Claiming e bit) x y)
       (stepped home v (part (Claims e bit) v x) w (entries (Claims e bit) v x) (noted (Claims e bit) v x) (same_part (Claims e bit) v x) met t.gives)
 
-  pub map_stepped : (a : ArenaId) (i p : ℕ) (x : ℕ) → Tells (Maps a i p) v x w → Stepped now (homed home' w) (record now { reads = reads_mapped i p x now.reads; pages = pages_mapped x now.pages }) (where_found (x == 0) (entry_of now.caller (Lend p a i) Fine ∷ [])) (note_of (Mapped a i p) x now)
+  pub map_stepped : (a : ArenaId) (i p : ℕ) (x : ℕ) → Tells (Maps a i p) v x w
+      → Stepped now (homed home' w) (record now { reads = reads_mapped i p x now.reads; pages = pages_mapped x now.pages })
+      (where_found (x == 0) (entry_of now.caller (Lend p a i) Fine ∷ [])) (note_of (Mapped a i p) x now)
   unfolding part entries noted
-  map_stepped a i p x t = stepped_as (λ (y : View). record y { reads = reads_mapped i p x y.reads; pages = pages_mapped x y.pages }) (λ (y : View). where_found (x == 0) (entry_of y.caller (Lend p a i) Fine ∷ [])) (λ (y : View). note_of (Mapped a i p) x y)
+  map_stepped a i p x t =
+      stepped_as (λ (y : View). record y { reads = reads_mapped i p x y.reads; pages = pages_mapped x y.pages })
+      (λ (y : View). where_found (x == 0) (entry_of y.caller (Lend p a i) Fine ∷ [])) (λ (y : View). note_of (Mapped a i p) x y)
       (stepped home v (part (Maps a i p) v x) w (entries (Maps a i p) v x) (noted (Maps a i p) v x) (same_part (Maps a i p) v x) met t.gives)
 
-  pub read_map_stepped : (a : ArenaId) (i : ℕ) (x : ℕ) → Tells (ReadsMap a i) v x w → Stepped now (homed home' w) (record now { reads = reads_after i x now.reads }) ([]) (none_noted)
+  pub read_map_stepped : (a : ArenaId) (i : ℕ) (x : ℕ) → Tells (ReadsMap a i) v x w
+      → Stepped now (homed home' w) (record now { reads = reads_after i x now.reads }) ([]) (none_noted)
   unfolding part entries noted
   read_map_stepped a i x t = stepped_as (λ (y : View). record y { reads = reads_after i x y.reads }) (λ (y : View). []) (λ (y : View). none_noted)
       (stepped home v (part (ReadsMap a i) v x) w (entries (ReadsMap a i) v x) (noted (ReadsMap a i) v x) (same_part (ReadsMap a i) v x) met t.gives)
@@ -239,7 +253,8 @@ module _ (now v w : View) (home home' : List ℕ) (is : homed home v ≡ now) (s
   pub sweep_map_low : (a : ArenaId) (i x : ℕ) → Tells (SweepsMap a i) v x w → x ≤ now.shape.pages
   sweep_map_low a i x t = subst (λ (y : View). x ≤ y.shape.pages) is t.learns
 
-  pub count_found : (given size align x : ℕ) (a : ArenaId) → Tells (Allocates given size align) v x w → now.inside ≡ Some a → x ≢ given → x ≡ given_of (homed home' w) a
+  pub count_found : (given size align x : ℕ) (a : ArenaId) → Tells (Allocates given size align) v x w → now.inside ≡ Some a → x ≢ given
+      → x ≡ given_of (homed home' w) a
   count_found given size align x a t ins n = t.learns a (ap (λ (y : View). y.inside) is ∙ ins) n
 
   pub reset_stepped : (a : ArenaId) (x : ℕ) → Tells (ResetsGiven a) v x w

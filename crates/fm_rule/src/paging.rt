@@ -18,13 +18,14 @@ use fm_pool_facts::Step;
 use fm_words::{map_word, without_bit};
 use std::marker::Brand;
 
-/// Answers the word of page bits. Where it is the expected one, and the page's bit is 1 in it, the bit is 0 from this step
-/// on, and the pass has the page in its hand.
+/// Answers the word of page bits. Where it is the expected one, and the page's bit is 1 in it, the bit is 0 from this
+/// step on, and the pass has the page in its hand.
 pub fn step_take_page(pool: &Pool, pass: &mut Pass, expected: u64, page: u32) -> u64
     requires of { IsOf pool.now pass.old }
     requires none { pass.old.pages ≡ [] }
     requires low { page < pool.now.shape.pages }
-    ensures { Stepped pass.old pass.new (record pass.old { pages = pages_taken (takes expected page result) page pass.old.pages }) []
+    ensures { Stepped pass.old pass.new
+        (record pass.old { pages = pages_taken (takes expected page result) page pass.old.pages }) []
         (note_of (Claiming expected page) result pass.old) }
 {
     let seat = &mut pass.seat;
@@ -34,8 +35,8 @@ pub fn step_take_page(pool: &Pool, pass: &mut Pass, expected: u64, page: u32) ->
     exchange_as::<Brand>(pool, seat, place, expected, next, step)
 }
 
-/// Answers the map word of this part of the arena that the pass is inside. Where it is 0, the page in the pass's hand is the
-/// arena's from this step on, as this part.
+/// Answers the map word of this part of the arena that the pass is inside. Where it is 0, the page in the pass's hand is
+/// the arena's from this step on, as this part.
 pub fn step_map(pool: &Pool, pass: &mut Pass, a: ArenaId, index: u32, page: u32) -> u64
     requires of { IsOf pool.now pass.old }
     requires inside { pass.old.inside ≡ Some a }
@@ -43,7 +44,10 @@ pub fn step_map(pool: &Pool, pass: &mut Pass, a: ArenaId, index: u32, page: u32)
     requires page { pass.old.pages ≡ page ∷ [] }
     ensures low { result ≤ pass.old.shape.pages }
     ensures stepped { Stepped pass.old pass.new
-        (record pass.old { reads = reads_mapped index page result pass.old.reads; pages = pages_mapped result pass.old.pages })
+        (record pass.old {
+          reads = reads_mapped index page result pass.old.reads;
+          pages = pages_mapped result pass.old.pages;
+        })
         (where_found (result == 0) (entry_of pass.old.caller (machine.Lend page a index) machine.Fine ∷ []))
         (note_of (Mapping a index page) result pass.old) }
 {
@@ -54,14 +58,16 @@ pub fn step_map(pool: &Pool, pass: &mut Pass, a: ArenaId, index: u32, page: u32)
     exchange_as::<Brand>(pool, seat, place, 0, new, step)
 }
 
-/// Answers the map word of this part of the arena that the pass is inside. It stands while the pass is inside, unless it is 0.
+/// Answers the map word of this part of the arena that the pass is inside. Unless it is 0, it stands while the pass is
+/// inside.
 #[inline(always)]
 pub fn step_read_map(pool: &Pool, pass: &mut Pass, a: ArenaId, index: u32) -> u64
     requires of { IsOf pool.now pass.old }
     requires inside { pass.old.inside ≡ Some a }
     requires low { index < pool.now.shape.reach }
     ensures map { LearnsMap pass.old a index result pass.new }
-    ensures stepped { Stepped pass.old pass.new (record pass.old { reads = reads_after index result pass.old.reads }) [] none_noted }
+    ensures stepped { Stepped pass.old pass.new
+        (record pass.old { reads = reads_after index result pass.old.reads }) [] none_noted }
 {
     let seat = &mut pass.seat;
     let place = pool.shape.map_place(a.slot, index);

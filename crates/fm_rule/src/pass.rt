@@ -22,8 +22,8 @@ fn inside_of(is_inside: bool, current: ArenaId) -> Option<ArenaId>
     if is_inside { Some(current) } else { None }
 }
 
-/// A part of an arena whose map word a pass has read: its first word, how many words it has, and where they begin in the
-/// table. A part of no words is none.
+/// A part of an arena whose map word a pass has read: its first word, how many words it has, and where they begin in
+/// the table. A part of no words is none.
 #[derive(Clone, Copy)]
 pub struct Part {
     pub(crate) first: u64,

@@ -1,4 +1,4 @@
-//! The steps by which an arena that has ended gives its words and its slot back.
+//! The steps by which an arena that has ended gives its pages and its slot back.
 ghost use Rattle.std.specs.Prelude.{◌≡◌, ◌<◌, ◌≤◌, ◌+◌, ◌==◌, if◌then◌else◌, [], ◌∷◌, Some};
 ghost use Rattle.fm_base.specs.Calls as machine;
 ghost use Rattle.fm_base.specs.Calls.{entry_of};
@@ -74,8 +74,8 @@ pub fn step_wipe(pool: &Pool, pass: &mut Pass, a: ArenaId, index: u32, page: u32
     store_as::<Brand>(pool, seat, place, 0, Step::Wipes(a, index, page, word));
 }
 
-/// Makes the bit of the page 1 whose first words the sweep has wiped, so many of them: its loan is taken back, and it can be
-/// claimed from this step on. Words that no given byte is in are 0 already.
+/// Makes the bit of a page 1 whose first words the sweep has wiped, so many of them: its loan is taken back, and it can
+/// be claimed from this step on. Words without a given byte are 0 as they stand.
 pub fn step_return_page(pool: &Pool, pass: &mut Pass, a: ArenaId, index: u32, page: u32, words: u32)
     requires of { IsOf pool.now pass.old }
     requires sweep { visited_of pass.old.sweeps a ≡ Some index }

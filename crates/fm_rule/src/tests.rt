@@ -60,7 +60,8 @@ fn word_at(pool: &Pool, place: u64) -> Option<u64> {
     }
 }
 
-/// All words are 0 but the count of numbers, the slot bits and the page bits. Of many words the first and the last are looked at.
+/// All words are 0 but the count of numbers, the slot bits and the page bits. Of many words the first and the last are
+/// looked at.
 fn check_words<R: Abort + AllocGlobal>(
     rt: &R,
     shape: Shape,

@@ -54,7 +54,8 @@ pub fn step_allocate(
     requires of { IsOf pool.now pass.old }
     requires inside { pass.old.inside ≡ Some a }
     requires power { IsPower align }
-    requires parts { rounded_up given align + size ≤ limit_of pass.old.shape → HasParts pass.old given (rounded_up given align + size) }
+    requires parts { rounded_up given align + size ≤ limit_of pass.old.shape
+        → HasParts pass.old given (rounded_up given align + size) }
     ensures count { result ≢ given → result ≡ given_of pass.new a }
     ensures stepped { Stepped pass.old pass.new pass.old
         (where_found (result == given) (acted pass.old.inside pass.old.caller (λ b. machine.Allocate b size align)

@@ -42,14 +42,14 @@ pages_told {p = p} {q = q} o id size align result reply some is exact =
     subst (λ (y : Option ArenaId). IfSome y (λ x. PagesTold p q x size align reply)) (sym some) (record { result = result; is = is; exact = exact })
 
 -- A line on no arena tells nothing.
-pub pages_untold : {p q : View} (o : Option ArenaId) (size align : ℕ) (reply : Reply) → o ≡ None → IfSome o (λ x. PagesTold p q x size align reply)
-pages_untold {p = p} {q = q} o size align reply none =
+pub pages_untold : (p q : View) (o : Option ArenaId) (size align : ℕ) (reply : Reply) → o ≡ None → IfSome o (λ x. PagesTold p q x size align reply)
+pages_untold p q o size align reply none =
     subst (λ (y : Option ArenaId). IfSome y (λ x. PagesTold p q x size align reply)) (sym none) tt
 
 -- ---- who was let in
 
 -- the answer comes of an allocation that was let in
-IsLetIn : Result ℕ Refusal → Type 0
+abbrev IsLetIn : Result ℕ Refusal → Type 0
 IsLetIn (Ok place) = ⊤
 IsLetIn (Err refusal.PoolFull) = ⊤
 IsLetIn (Err (refusal.NoRoom given)) = ⊤
@@ -57,34 +57,36 @@ IsLetIn (Err r) = ⊥
 
 module _ (c d : Caller) (id e : ArenaId) where
   enters : (es : List Entry) → IsAmong (entry_of d (Enter e) Fine) (entry_of c (Enter id) Fine ∷ es) → ¬ (IsAmong (entry_of d (Enter e) Fine) es) → e ≡ id
-  enters es (inl i) none = cc
+  enters es (inl i) none = let call : Enter e ≡ Enter id = ap (λ (x : Entry). x.call) i in cc
   enters es (inr i) none = absurd (none i)
 
   not_left : ¬ (IsAmong (entry_of d (Enter e) Fine) (entry_of c (Leave id) Fine ∷ []))
-  not_left (inl i) = cc
+  not_left (inl i) = let call : Enter e ≡ Leave id = ap (λ (x : Entry). x.call) i in absurd (cc)
   not_left (inr i) = i
 
   not_given : (size align : ℕ) (r : machine.Reply) → ¬ (IsAmong (entry_of d (Enter e) Fine) (entry_of c (Allocate id size align) r ∷ entry_of c (Leave id) Fine ∷ []))
-  not_given size align r (inl i) = cc
+  not_given size align r (inl i) = let call : Enter e ≡ Allocate id size align = ap (λ (x : Entry). x.call) i in absurd (cc)
   not_given size align r (inr i) = not_left i
 
   not_refused : ¬ (IsAmong (entry_of d (Enter e) Fine) (entry_of c (Enter id) machine.Closed ∷ []))
-  not_refused (inl i) = cc
+  not_refused (inl i) = let reply : Fine ≡ machine.Closed = ap (λ (x : Entry). x.reply) i in absurd (cc)
   not_refused (inr i) = i
 
   -- Whom an allocation entered is its arena, and then it was let in.
   let_in : (size align : ℕ) (result : Result ℕ Refusal) (own : List Entry) → DoesAllocate c id size align result own
       → IsAmong (entry_of d (Enter e) Fine) own → (e ≡ id) × IsLetIn result
   let_in size align (Ok place) own does i =
-      (enters _ (subst (λ (es : List Entry). IsAmong (entry_of d (Enter e) Fine) es) does.2 i) (not_given size align (Given place)), tt)
+      (enters (entry_of c (Allocate id size align) (Given place) ∷ entry_of c (Leave id) Fine ∷ [])
+      (subst (λ (es : List Entry). IsAmong (entry_of d (Enter e) Fine) es) does.2 i) (not_given size align (Given place)), tt)
   let_in size align (Err refusal.BadAlignment) own does i = absurd (subst (λ (es : List Entry). IsAmong (entry_of d (Enter e) Fine) es) does.1 i)
   let_in size align (Err refusal.WrongThread) own does i = absurd (subst (λ (es : List Entry). IsAmong (entry_of d (Enter e) Fine) es) does.2 i)
   let_in size align (Err refusal.Closed) own does i =
       absurd (not_refused (subst (λ (es : List Entry). IsAmong (entry_of d (Enter e) Fine) es) does.2 i))
   let_in size align (Err (refusal.NoRoom given)) own does i =
-      (enters _ (subst (λ (es : List Entry). IsAmong (entry_of d (Enter e) Fine) es) does.2 i) (not_given size align (NoRoom given)), tt)
+      (enters (entry_of c (Allocate id size align) (NoRoom given) ∷ entry_of c (Leave id) Fine ∷ [])
+      (subst (λ (es : List Entry). IsAmong (entry_of d (Enter e) Fine) es) does.2 i) (not_given size align (NoRoom given)), tt)
   let_in size align (Err refusal.PoolFull) own does i =
-      (enters _ (subst (λ (es : List Entry). IsAmong (entry_of d (Enter e) Fine) es) does.2 i) not_left, tt)
+      (enters (entry_of c (Leave id) Fine ∷ []) (subst (λ (es : List Entry). IsAmong (entry_of d (Enter e) Fine) es) does.2 i) not_left, tt)
   let_in size align (Err refusal.Memory) own does i = absurd (subst (λ (es : List Entry). IsAmong (entry_of d (Enter e) Fine) es) does.2 i)
   let_in size align (Err r) own does i = absurd does
 
@@ -116,7 +118,7 @@ among_passes {A} p x (y ∷ ys) is (inr h) =
 
 -- ---- a pass by itself
 
-module _ {p q r : View} {own : List Entry} (d : Done) (w : Went p q own) (whole : p.whole ≡ true) (closed : p.closes ≡ []) (none : HasNoSlot p) where
+module _ {p q : View} {own : List Entry} (d : Done) (w : Went p q own) (whole : p.whole ≡ true) (closed : p.closes ≡ []) (none : HasNoSlot p) where
   seen_is : q.seen ≡ p.seen ++ own
   seen_is = w.seen ∙ ap (λ (es : List Entry). p.seen ++ es) (w.alone whole)
 
@@ -155,15 +157,15 @@ module _ {p q r : View} {own : List Entry} (d : Done) (w : Went p q own) (whole 
         }
 
     -- What it learnt, in the words of entries.
-    pub full_rightly : (result : Result ℕ Refusal) → d.reply ≡ answered result → DoesAllocate q.caller id size align result (but_loans d.run)
+    pub full_rightly : {r : View} (result : Result ℕ Refusal) → d.reply ≡ answered result → DoesAllocate q.caller id size align result (but_loans d.run)
         → AllocatesExactly q r id size align result → IsFullRightly p.shape (p.seen ++ own) size align d
-    full_rightly result is does a =
+    full_rightly {r = r} result is does a =
         let exact : FullExactly q id size align result =
         a.exact (ap (λ (x : Rest). x.whole) w.rest ∙ whole) (ap (λ (x : Rest). x.closes) w.rest ∙ closed) (ap (λ (x : Rest). x.slots) w.rest ∙ none) in
         record {
           full = λ lacks.
               let full : result ≡ Err refusal.PoolFull = answered_once result (Err refusal.PoolFull) (sym is ∙ lacks) in
-              (id, (entered_if result full does, scarce_behind (scarce_if result full exact)));
+              (id, entered_if result full does, scarce_behind (scarce_if result full exact));
           enough = λ other e entered scarce.
               let here = let_in q.caller entered.caller id e size align result (but_loans d.run) does
               (among_passes (λ x. not (is_loan x.call)) (entry_of entered.caller (Enter e) Fine) d.run refl entered.among) in
@@ -181,22 +183,22 @@ module _ {p q r : View} {own : List Entry} (d : Done) (w : Went p q own) (whole 
             (subst (λ (es : List Entry). IsAmong (entry_of entered.caller (Enter e) Fine) es) s.1 entered.among);
       }
 
-  on_arena : (o : Option ArenaId) (size align : ℕ) → On o (Allocates q.caller size align) (outcome d.reply d.made) d.run
+  on_arena : (r : View) (o : Option ArenaId) (size align : ℕ) → On o (Allocates q.caller size align) (outcome d.reply d.made) d.run
       → IfSome o (λ id. PagesTold q r id size align d.reply) → IsFullRightly p.shape (p.seen ++ own) size align d
-  on_arena None size align does told = skipped_rightly size align d.made does
-  on_arena (Some id) size align does told =
+  on_arena r None size align does told = skipped_rightly size align d.made does
+  on_arena r (Some id) size align does told =
       let is : does.0 ≡ told.result = answered_once does.0 told.result (sym (said_so id size d.reply d.made does.0 does.2) ∙ told.is) in
       full_rightly id size align told.result told.is
       (subst (λ (x : Result ℕ Refusal). DoesAllocate q.caller id size align x (but_loans d.run)) is does.1.1) told.exact
 
   -- A line of a pass by itself.
-  pub allocates_rightly : (stands : List ℕ → Standing) (command : Command) → d.line.command ≡ command
+  pub allocates_rightly : (r : View) (stands : List ℕ → Standing) (command : Command) → d.line.command ≡ command
       → CallDoes q.caller stands command (outcome d.reply d.made) d.run → PagesToldBy stands q r command d.reply
       → AllocatesRightly p.shape (p.seen ++ own) d
-  allocates_rightly stands command is does told =
+  allocates_rightly r stands command is does told =
       subst (λ (c : Command). IfAllocates c (λ size align. IsFullRightly p.shape (p.seen ++ own) size align d)) (sym is) (go command does told)
     where
       go : (c : Command) → CallDoes q.caller stands c (outcome d.reply d.made) d.run → PagesToldBy stands q r c d.reply
           → IfAllocates c (λ size align. IsFullRightly p.shape (p.seen ++ own) size align d)
-      go (Alloc arena name size align) does told = on_arena (arena_of (stands arena)) size align does told
+      go (Alloc arena name size align) does told = on_arena r (arena_of (stands arena)) size align does told
       go c does told = tt

@@ -36,14 +36,25 @@ use Rattle.fm_run.proofs.Opening.{made_after}
 -- ---- one call
 
 -- One beginning of a list goes on from another that is no longer.
-goes_on : {A : Type 0} (xs ys as bs : List A) → xs ++ as ≡ ys ++ bs → length xs ≤ length ys → (zs : List A) × (ys ≡ xs ++ zs) × (as ≡ zs ++ bs)
-goes_on [] ys as bs e l = (ys, refl, e)
-goes_on (x ∷ xs) [] as bs e l = absurd (omega (arith, l))
-goes_on (x ∷ xs) (y ∷ ys) as bs e l =
+goes_on : {A : Type 0} (xs ys us vs : List A) → xs ++ us ≡ ys ++ vs → length xs ≤ length ys → (zs : List A) × (ys ≡ xs ++ zs) × (us ≡ zs ++ vs)
+goes_on [] ys us vs e l = (ys, refl, e)
+goes_on (x ∷ xs) [] us vs e l = absurd (omega (arith, l))
+goes_on (x ∷ xs) (y ∷ ys) us vs e l =
     let first : x ≡ y = cc in
-    let rest : xs ++ as ≡ ys ++ bs = cc in
-    let more = goes_on xs ys as bs rest (omega (arith, l)) in
-    (more.0, (λ i. first i ∷ more.1 i) , more.2)
+    let rest : xs ++ us ≡ ys ++ vs = cc in
+    let more = goes_on xs ys us vs rest (omega (arith, l)) in
+    (more.0, (λ i. sym first i ∷ more.1 i), more.2)
+
+-- What stands in a list, in other words.
+in_own : (x : Entry) (es : List Entry) → IsAmong x es → In x es
+in_own x [] i = absurd i
+in_own x (e ∷ es) (inl i) = inl i
+in_own x (e ∷ es) (inr i) = inr (in_own x es i)
+
+among_own : (x : Entry) (es : List Entry) → In x es → IsAmong x es
+among_own x [] i = absurd i
+among_own x (e ∷ es) (inl i) = inl i
+among_own x (e ∷ es) (inr i) = inr (among_own x es i)
 
 module _ {p q r : View} {own run : List Entry} (w : Went p q own) (v : Went q r run) where
   -- A point of the call.
@@ -92,26 +103,16 @@ module _ {p q r : View} {own run : List Entry} (w : Went p q own) (v : Went q r 
         before = subst (λ (z : Shape). l.part * (z.page_words * 8) < pages.end_behind z l.counted id size align) w.same_shape l.before;
       }
 
-  in_own : {x : Entry} (es : List Entry) → IsAmong x es → In x es
-  in_own [] i = absurd i
-  in_own (e ∷ es) (inl i) = inl i
-  in_own (e ∷ es) (inr i) = inr (in_own es i)
-
-  among_own : {x : Entry} (es : List Entry) → In x es → IsAmong x es
-  among_own [] i = absurd i
-  among_own (e ∷ es) (inl i) = inl i
-  among_own (e ∷ es) (inr i) = inr (among_own es i)
-
   lends_so : (id : ArenaId) (size align : ℕ) (result : Result ℕ Refusal) → AllocatesExactly q r id size align result → (e : Entry) → IsAmong e run
       → is_loan e.call ≡ true
       → (a : ArenaId) × HasEntered a run × pages.LendsInRange p.shape p.caller r.seen (made_by p.caller p.seen ++ own) run a size align e
   lends_so id size align result a e i loan =
-      let mine = a.lends v.more v.seen e (subst (λ (es : List Entry). In e es) (sym v.by_pass) (in_own run i)) loan in
+      let mine = a.lends v.more v.seen e (subst (λ (es : List Entry). In e es) (sym v.by_pass) (in_own e run i)) loan in
       let entered : HasEntered id run = record {
         caller = q.caller;
-        among = subst (λ (es : List Entry). IsAmong (entry_of q.caller (Enter id) Fine) es) v.by_pass (among_own (made_by q.caller v.more) mine.0);
+        among = subst (λ (es : List Entry). IsAmong (entry_of q.caller (Enter id) Fine) es) v.by_pass (among_own (entry_of q.caller (Enter id) Fine) (made_by q.caller v.more) mine.0);
       } in
-      (id, (entered, lends_in e mine.1))
+      (id, entered, lends_in e mine.1)
 
 -- ---- one line
 
@@ -177,7 +178,7 @@ if_allocates : (c : Command) (P Q : ℕ → ℕ → Type 0) → ((size align : �
 if_allocates (Alloc arena name size align) P Q f h = f size align h
 if_allocates c P Q f h = tt
 
-module _ (z : Shape) (c : Caller) {seen next : List Entry} (b : Begins seen next) where
+module _ (z : Shape) (c : Caller) (seen next : List Entry) (b : Begins seen next) where
   -- A point stays one when the history goes on.
   point_later : (own run at : List Entry) → IsPointOf c seen own run at → IsPointOf c next own run at
   point_later own run at i = record {
@@ -196,12 +197,12 @@ module _ (z : Shape) (c : Caller) {seen next : List Entry} (b : Begins seen next
   pub lends_later : (own : List Entry) (d : Done) → LendsRightly z c seen own d → LendsRightly z c next own d
   lends_later own d = if_allocates d.line.command _ _ (λ size align h e i loan.
       let l = h e i loan in
-      (l.0, (l.1.0, record {
-        page = l.1.1.page;
-        part = l.1.1.part;
-        lends = l.1.1.lends;
-        at = l.1.1.at;
-        point = point_later own d.run l.1.1.at l.1.1.point;
-        after = l.1.1.after;
-        before = l.1.1.before;
-      })))
+      (l.0, l.1, record {
+        page = l.2.page;
+        part = l.2.part;
+        lends = l.2.lends;
+        at = l.2.at;
+        point = point_later own d.run l.2.at l.2.point;
+        after = l.2.after;
+        before = l.2.before;
+      }))

@@ -102,12 +102,12 @@ module _ (p : View) (names : Numbers) (base : List Standing) (start : ℕ) (own 
             (λ n. found_at a.went b.went ((b.slots n.opens).found n.refused)
             (line_silent q.caller (λ name. stands_of (standing_at base start now) (number name)) l.command reply b.made b.run n.opens n.refused b.does));
         full = λ whole closed none. behind_more (AllocatesRightly p.shape) p.seen a.dones d (a.full whole closed none)
-            (allocates_rightly d a.went whole closed none stood l.command refl b.does b.pages);
+            (allocates_rightly d a.went whole closed none r stood l.command refl b.does b.pages);
         few = behind_more (FindsFew p.shape p.caller r.seen) mine a.dones d
-            (behind_as (FindsFew p.shape p.caller q.seen) (FindsFew p.shape p.caller r.seen) (few_later p.shape p.caller later) mine a.dones a.few)
+            (behind_as (FindsFew p.shape p.caller q.seen) (FindsFew p.shape p.caller r.seen) (few_later p.shape p.caller q.seen r.seen later) mine a.dones a.few)
             (finds_few d a.went b.went stood l.command refl b.does b.pages);
         loans = behind_more (LendsRightly p.shape p.caller r.seen) mine a.dones d
-            (behind_as (LendsRightly p.shape p.caller q.seen) (LendsRightly p.shape p.caller r.seen) (lends_later p.shape p.caller later) mine a.dones a.loans)
+            (behind_as (LendsRightly p.shape p.caller q.seen) (LendsRightly p.shape p.caller r.seen) (lends_later p.shape p.caller q.seen r.seen later) mine a.dones a.loans)
             (lends_rightly d a.went b.went stood l.command refl b.does b.pages);
       }
 

@@ -1,4 +1,4 @@
-ghost use Rattle.std.specs.Prelude.{◌≡◌, ◌<◌, ◌*◌, None};
+ghost use Rattle.std.specs.Prelude.{◌≡◌, ◌≤◌, ◌<◌, ◌*◌, ◌⊎◌, None};
 ghost use Rattle.fm_base.specs.View.{Did};
 ghost use Rattle.fm_workers.specs.Counts.{CountsToo, HasRoomFor, listed, numbers_listed};
 ghost use Rattle.fm_workers.specs.Tallies.{CanCount, CanTallyPart, DoesCount, DoesTallyPart};
@@ -71,10 +71,11 @@ fn count_records<M: Memory>(
     Ok(counts)
 }
 
-/// How many records of a size are listed at once.
+/// How many records of a size are listed at once: those of 65,536 bytes, or one.
 fn records_at_once(size: u64) -> u64
     requires { 0 < size }
-    ensures { 0 < result }
+    ensures some { 0 < result }
+    ensures few { (result * size ≤ 65536) ⊎ (result ≡ 1) }
 {
     (LISTED_AT_ONCE / size).max(1)
 }

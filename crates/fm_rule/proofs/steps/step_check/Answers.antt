@@ -2,7 +2,8 @@ use Rattle.std.proofs.Common.{ap, ◌∙◌, sym, subst}
 use Rattle.fm_base.specs.Arenas.{MayUse}
 use Rattle.fm_pool_facts.specs.Views.{View}
 use Rattle.fm_rule.specs.Views.{numbers_of}
-use Rattle.fm_rule.proofs.Knowing.{session_below, is_outside, knows, fits, may_check}
+use Rattle.fm_rule.proofs.Knowing.{session_below, is_outside, knows, fits}
+use Rattle.fm_rule.proofs.Making.{may_check}
 use Rattle.fm_rule.proofs.Stepping.{check_stepped}
 use Rattle.fm_rule.proofs.Keeping.{check_keeps}
 use Rattle.fm_rule.proofs.steps.step_check.Goals as goal

@@ -1,7 +1,7 @@
-use Rattle.std.proofs.Common.{ap, ◌∙◌}
-use Rattle.fm_pool_facts.specs.Views.{View}
+use Rattle.std.proofs.Common.{ap}
 use Rattle.fm_rule.specs.Views.{numbers_of}
-use Rattle.fm_rule.proofs.Knowing.{WordPlace, reaches, word_place, may_load}
+use Rattle.fm_rule.proofs.Knowing.{WordPlace, reaches, word_place}
+use Rattle.fm_rule.proofs.Making.{may_load}
 use Rattle.fm_rule.proofs.Stepping.{load_stepped}
 use Rattle.fm_rule.proofs.Keeping.{load_keeps}
 use Rattle.fm_rule.proofs.steps.step_load.Goals as goal

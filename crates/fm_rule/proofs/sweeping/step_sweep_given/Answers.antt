@@ -2,7 +2,8 @@ use Rattle.std.proofs.Common.{ap, ◌∙◌}
 use Rattle.fm_pool_facts.specs.Views.{View}
 use Rattle.fm_pool_facts.specs.Closes.{visited_of}
 use Rattle.fm_rule.specs.Views.{numbers_of}
-use Rattle.fm_rule.proofs.Knowing.{given_below, swept_fits, shape_is, may_sweep_given}
+use Rattle.fm_rule.proofs.Knowing.{given_below, swept_fits, shape_is}
+use Rattle.fm_rule.proofs.Making.{may_sweep_given}
 use Rattle.fm_rule.proofs.Stepping.{sweep_given_stepped, count_swept}
 use Rattle.fm_rule.proofs.Keeping.{sweep_given_keeps}
 use Rattle.fm_rule.proofs.sweeping.step_sweep_given.Goals as goal

@@ -1,7 +1,7 @@
-use Rattle.std.proofs.Common.{ap, ◌∙◌}
-use Rattle.fm_pool_facts.specs.Views.{View}
+use Rattle.std.proofs.Common.{ap}
 use Rattle.fm_rule.specs.Views.{numbers_of}
-use Rattle.fm_rule.proofs.Knowing.{WordPlace, reaches, word_place, may_add}
+use Rattle.fm_rule.proofs.Knowing.{WordPlace, reaches, word_place}
+use Rattle.fm_rule.proofs.Making.{may_add}
 use Rattle.fm_rule.proofs.Stepping.{add_stepped}
 use Rattle.fm_rule.proofs.Keeping.{add_keeps}
 use Rattle.fm_rule.proofs.updates.step_add.Goals as goal

@@ -4,7 +4,8 @@ use Rattle.fm_pool_facts.specs.Views.{View, limit_of}
 use Rattle.fm_base.specs.Machine.{rounded_up}
 use Rattle.fm_pool_facts.specs.Steps.{HasParts}
 use Rattle.fm_rule.specs.Views.{numbers_of}
-use Rattle.fm_rule.proofs.Knowing.{given_below, inside_slot, shape_is, may_allocate}
+use Rattle.fm_rule.proofs.Knowing.{given_below, inside_slot, shape_is}
+use Rattle.fm_rule.proofs.Making.{may_allocate}
 use Rattle.fm_rule.proofs.Stepping.{allocate_stepped, count_found}
 use Rattle.fm_rule.proofs.Keeping.{allocate_keeps}
 use Rattle.fm_rule.proofs.updates.step_allocate.Goals as goal

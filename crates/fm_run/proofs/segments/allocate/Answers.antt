@@ -10,7 +10,8 @@ returns-in_default-clause-ran g c = line_none c.args.m.now c.args.arena
     (Allocates c.args.m.now.caller c.args.size c.args.align) c.plain.result c.in_default.is c.requires.outside c.plain.ensures
 
 pub returns-in_default-clause-pages : goal.returns-in_default-clause-pages
-returns-in_default-clause-pages g c = pages_untold c.args.arena c.args.size c.args.align c.plain.result.reply c.in_default.is
+returns-in_default-clause-pages g c = 
+    pages_untold c.args.m.now c.args.m.now c.args.arena c.args.size c.args.align c.plain.result.reply c.in_default.is
 
 pub returns-in-Ok-clause-pages : goal.returns-in-Ok-clause-pages
 returns-in-Ok-clause-pages g c =

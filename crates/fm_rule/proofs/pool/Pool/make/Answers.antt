@@ -71,7 +71,8 @@ of_words-requires c =
     subst (λ (ws : List ℕ). Rule z ws (first_view z ∷ [])) (sym is) (first_rule z c.requires)
 
 pub invariant_of-pass : goal.invariant_of-pass
-invariant_of-pass c = subst (Keeps only_caller None (record { first = 0; words = 0; from = 0 }) 0) (sym c.in_ok-table.ensures.4) (first_keeps c.args.shape c.requires)
+invariant_of-pass c =
+    subst (Keeps only_caller None (record { first = 0; words = 0; from = 0 }) 0) (sym c.in_ok-table.ensures.4) (first_keeps c.args.shape c.requires)
 
 pub returns-clause-sound : goal.returns-clause-sound
 returns-clause-sound c = sound_homed _ c.in_ok-table.seat.me.0 (subst IsSound (λ j. (sym c.in_ok-table.ensures.4 j).0) (first_sound c.args.shape c.requires))
