@@ -139,10 +139,11 @@ module _ (old new : View) (more all : List Entry) (seen : new.seen ≡ old.seen 
       (within.rest ++ on.0, on.1 ∙ (ap (λ (es : List Entry). es ++ on.0) within.seen ∙ append_assoc v.seen within.rest on.0)) in
       record {
         few = subst (λ (x : Shape × (Caller × List Entry)). EachBehind (FindsFew x.0 x.1.0 all) x.1.1 w.dones) same
-            (behind_as (FindsFew v.shape v.caller v.seen) (FindsFew v.shape v.caller all) (few_later v.shape v.caller v.seen all later) h.earlier w.dones h.few);
+            (behind_as (FindsFew v.shape v.caller v.seen) (FindsFew v.shape v.caller all) (few_later v.shape v.caller v.seen all later)
+            h.earlier w.dones h.few);
         loans = subst (λ (x : Shape × (Caller × List Entry)). EachBehind (LendsRightly x.0 x.1.0 all) x.1.1 w.dones) same
-            (behind_as (LendsRightly v.shape v.caller v.seen) (LendsRightly v.shape v.caller all) (lends_later v.shape v.caller v.seen all later) h.earlier w.dones
-            h.loans);
+            (behind_as (LendsRightly v.shape v.caller v.seen) (LendsRightly v.shape v.caller all) (lends_later v.shape v.caller v.seen all later)
+            h.earlier w.dones h.loans);
       }
 
   -- So it is with all of them, once they are gathered.

@@ -258,7 +258,8 @@ module _ (names : Numbers) (lines : List Line) (old new : View) (tasks players :
               (subst (λ (c : Caller). AreRun c (number_at names) (0 + length (first_names ++ names_lent players))
               (standing_at [] 0 (first_names ++ names_lent players)) last_dones) caller_between all.last.calls)));
           slots = subst (λ (z : Shape). HaveSlots z the_played cut) of_shape have_slots;
-          pages = subst (λ (z : Shape). HavePages z the_played cut) of_shape (have_pages can all workers.ps cut refl workers.found workers.entries wholly no_slot);
+          pages = subst (λ (z : Shape). HavePages z the_played cut) of_shape
+              (have_pages can all workers.ps cut refl workers.found workers.entries wholly no_slot);
         }
 
   -- All replies.

@@ -64,7 +64,8 @@ module _ (c d : Caller) (id e : ArenaId) where
   not_left (inl i) = let call : Enter e ≡ Leave id = ap (λ (x : Entry). x.call) i in absurd (cc)
   not_left (inr i) = i
 
-  not_given : (size align : ℕ) (r : machine.Reply) → ¬ (IsAmong (entry_of d (Enter e) Fine) (entry_of c (Allocate id size align) r ∷ entry_of c (Leave id) Fine ∷ []))
+  not_given : (size align : ℕ) (r : machine.Reply)
+      → ¬ (IsAmong (entry_of d (Enter e) Fine) (entry_of c (Allocate id size align) r ∷ entry_of c (Leave id) Fine ∷ []))
   not_given size align r (inl i) = let call : Enter e ≡ Allocate id size align = ap (λ (x : Entry). x.call) i in absurd (cc)
   not_given size align r (inr i) = not_left i
 

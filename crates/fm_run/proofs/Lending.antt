@@ -109,7 +109,8 @@ module _ {p q r : View} {own run : List Entry} (w : Went p q own) (v : Went q r 
       let mine = a.lends v.more v.seen e (subst (λ (es : List Entry). In e es) (sym v.by_pass) (in_own e run i)) loan in
       let entered : HasEntered id run = record {
         caller = q.caller;
-        among = subst (λ (es : List Entry). IsAmong (entry_of q.caller (Enter id) Fine) es) v.by_pass (among_own (entry_of q.caller (Enter id) Fine) (made_by q.caller v.more) mine.0);
+        among = subst (λ (es : List Entry). IsAmong (entry_of q.caller (Enter id) Fine) es) v.by_pass
+            (among_own (entry_of q.caller (Enter id) Fine) (made_by q.caller v.more) mine.0);
       } in
       (id, entered, lends_in e mine.1)
 

@@ -104,10 +104,12 @@ module _ (p : View) (names : Numbers) (base : List Standing) (start : ℕ) (own 
         full = λ whole closed none. behind_more (AllocatesRightly p.shape) p.seen a.dones d (a.full whole closed none)
             (allocates_rightly d a.went whole closed none r stood l.command refl b.does b.pages);
         few = behind_more (FindsFew p.shape p.caller r.seen) mine a.dones d
-            (behind_as (FindsFew p.shape p.caller q.seen) (FindsFew p.shape p.caller r.seen) (few_later p.shape p.caller q.seen r.seen later) mine a.dones a.few)
+            (behind_as (FindsFew p.shape p.caller q.seen) (FindsFew p.shape p.caller r.seen) (few_later p.shape p.caller q.seen r.seen later)
+            mine a.dones a.few)
             (finds_few d a.went b.went stood l.command refl b.does b.pages);
         loans = behind_more (LendsRightly p.shape p.caller r.seen) mine a.dones d
-            (behind_as (LendsRightly p.shape p.caller q.seen) (LendsRightly p.shape p.caller r.seen) (lends_later p.shape p.caller q.seen r.seen later) mine a.dones a.loans)
+            (behind_as (LendsRightly p.shape p.caller q.seen) (LendsRightly p.shape p.caller r.seen) (lends_later p.shape p.caller q.seen r.seen later)
+            mine a.dones a.loans)
             (lends_rightly d a.went b.went stood l.command refl b.does b.pages);
       }
 

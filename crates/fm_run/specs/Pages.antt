@@ -56,8 +56,10 @@ pub record IsScarceBehind (z : Shape) (es : List Entry) (id : ArenaId) (size ali
 
 -- the line is refused so exactly where the arena lets it in and pages are too scarce for its range
 pub record IsFullRightly (z : Shape) (before : List Entry) (size align : ℕ) (d : Done) : Type 0 where
-  pub full : d.reply ≡ Refused PoolFull → (id : ArenaId) × HasEntered id d.run × IsScarceBehind z before id size align
-  pub enough : d.reply ≢ Refused PoolFull → (id : ArenaId) → HasEntered id d.run → ¬ (IsScarceBehind z before id size align)
+  pub full : d.reply ≡ Refused PoolFull
+      → (id : ArenaId) × HasEntered id d.run × IsScarceBehind z before id size align
+  pub enough : d.reply ≢ Refused PoolFull
+      → (id : ArenaId) → HasEntered id d.run → ¬ (IsScarceBehind z before id size align)
 
 -- so it is if it allocates
 abbrev pub AllocatesRightly : Shape → List Entry → Done → Type 0
@@ -65,7 +67,8 @@ AllocatesRightly z before d = IfAllocates d.line.command (λ size align. IsFullR
 
 -- ---- a pass among others
 
--- The history had come to here at a point of a line's call: behind its caller's entries before the line, and before those behind it
+-- The history had come to here at a point of a line's call: behind its caller's entries before the line, and before
+-- those behind it
 pub record IsPointOf (c : Caller) (history own run at : List Entry) : Type 0 where
   pub begins : Begins at history
   pub done : List Entry
@@ -81,12 +84,15 @@ pub record FoundFew (z : Shape) (c : Caller) (history own run : List Entry) : Ty
 
 -- so it was if the line allocates, and is refused for want of pages
 abbrev pub FindsFew : Shape → Caller → (history own : List Entry) → Done → Type 0
-FindsFew z c history own d = IfAllocates d.line.command (λ size align. d.reply ≡ Refused PoolFull → FoundFew z c history own d.run)
+FindsFew z c history own d =
+    IfAllocates d.line.command (λ size align. d.reply ≡ Refused PoolFull → FoundFew z c history own d.run)
 
 -- ---- what is lent
 
--- The entry lends a page to the arena as a part with a byte of the range, as the arena's count placed it at a point of the line's call
-pub record LendsInRange (z : Shape) (c : Caller) (history own run : List Entry) (id : ArenaId) (size align : ℕ) (e : Entry) : Type 0 where
+-- The entry lends a page to the arena as a part with a byte of the range, as the arena's count placed it at a point of
+-- the line's call
+pub record LendsInRange (z : Shape) (c : Caller) (history own run : List Entry) (id : ArenaId) (size align : ℕ)
+    (e : Entry) : Type 0 where
   pub page : ℕ
   pub part : ℕ
   pub lends : e.call ≡ Lend page id part
@@ -97,12 +103,14 @@ pub record LendsInRange (z : Shape) (c : Caller) (history own run : List Entry) 
 
 -- A line that allocates lends and takes back nothing but so, in the arena that it entered
 abbrev pub LendsRightly : Shape → Caller → (history own : List Entry) → Done → Type 0
-LendsRightly z c history own d = IfAllocates d.line.command (λ size align. (e : Entry) → IsAmong e d.run → is_loan e.call ≡ true
+LendsRightly z c history own d = IfAllocates d.line.command (λ size align.
+    (e : Entry) → IsAmong e d.run → is_loan e.call ≡ true
     → (id : ArenaId) × HasEntered id d.run × LendsInRange z c history own d.run id size align e)
 
 -- ---- all lines
 
--- First and last lines are refused exactly where pages are too scarce, those of workers where they had become few; and all lend pages for their ranges alone
+-- First and last lines are refused exactly where pages are too scarce, those of workers only where they had become few;
+-- and all lend pages for their ranges alone
 pub record HavePages (z : Shape) {history : List Entry} (p : Played) (cut : IsCut history p) : Type 0 where
   pub firsts : EachBehind (AllocatesRightly z) [] p.firsts
   pub workers : AllByRecursion (λ w. EachBehind (FindsFew z w.caller history) [] w.dones) p.players

@@ -165,7 +165,8 @@ row_tells c names k now (d ∷ ds) h = (
 workers_tell : (names : List ℕ → Option ℕ) (k : ℕ) (now : Names) (ws : List Player) → AreWorked names k now ws → TellNoWant (worked ws)
 workers_tell names k now [] h = tt
 workers_tell names k now (w ∷ ws) h =
-    all_both (λ d. TellsNoWant d.line.command d.reply) w.dones (worked ws) (row_tells w.caller names k now w.dones h.0) (workers_tell names (k + length w.dones) now ws h.1)
+    all_both (λ d. TellsNoWant d.line.command d.reply) w.dones (worked ws) (row_tells w.caller names k now w.dones h.0)
+    (workers_tell names (k + length w.dones) now ws h.1)
 
 pub no_line_wants : NoLineWants
 no_line_wants s history p r =
