@@ -114,16 +114,16 @@ fn words_of(pool: &Pool, pass: &mut Pass, a: ArenaId) -> [u64; 3]
     ensures can { CanVisit pool.now pass.new a }
     ensures given { 24 ≤ given_of pass.new a }
 {
-    if enter(pool, pass, a).is_err() {
-        return [0, 0, 0];
+    match enter(pool, pass, a) {
+        Err(_) => [0, 0, 0],
+        Ok(()) => {
+            let first = load(pool, pass, 0);
+            let second = load(pool, pass, 1);
+            let third = load(pool, pass, 2);
+            leave(pool, pass);
+            [first, second, third]
+        }
     }
-    let words = [
-        load(pool, pass, 0),
-        load(pool, pass, 1),
-        load(pool, pass, 2),
-    ];
-    leave(pool, pass);
-    words
 }
 
 /// Visits the marks of both passes, as long as they don't name the arena: how many didn't, and what the last visit
