@@ -1,4 +1,4 @@
-ghost use Rattle.std.specs.Prelude.{◌≡◌, ◌≤◌, ◌<◌};
+ghost use Rattle.std.specs.Prelude.{◌≡◌, ◌≤◌, ◌<◌, ◌*◌};
 ghost use Rattle.fm_pool_facts.specs.Views.{given_of};
 ghost use Rattle.fm_calls.specs.Kept.{Lasts};
 ghost use Rattle.fm_gate.specs.Standing.{CanVisit, IsOutside};
@@ -6,7 +6,7 @@ ghost use Rattle.fm_close.specs.Learnt.{CanWalk};
 ghost use Rattle.fm_braided_tests.specs.Closers.{IsOnItsWay, StandsAt};
 
 use fm_arena_braided::Turn;
-use fm_base::ArenaId;
+use fm_base::{ArenaId, Refusal};
 use fm_close::{Shutting, Visit, shut, sweep, visit};
 use fm_gate::{enter, leave, load};
 use fm_rule::{Pass, Pool};
@@ -107,23 +107,30 @@ impl<'a> Turn for Closer<'a> {
     }
 }
 
+/// A word of the arena, in a visit of its own.
+fn word_of(pool: &Pool, pass: &mut Pass, a: ArenaId, word: u64) -> Result<u64, Refusal>
+    requires can { CanVisit pool.now pass.old a }
+    requires within { 8 * word < given_of pass.old a }
+    ensures outside { IsOutside pool.now pass.new }
+    ensures lasts { Lasts pass.old pass.new }
+{
+    enter(pool, pass, a)?;
+    let found = load(pool, pass, word);
+    leave(pool, pass);
+    Ok(found)
+}
+
 /// The arena's first three words, or zeros where it is closed.
 fn words_of(pool: &Pool, pass: &mut Pass, a: ArenaId) -> [u64; 3]
     requires can { CanVisit pool.now pass.old a }
     requires given { 24 ≤ given_of pass.old a }
-    ensures can { CanVisit pool.now pass.new a }
-    ensures given { 24 ≤ given_of pass.new a }
+    ensures outside { IsOutside pool.now pass.new }
+    ensures lasts { Lasts pass.old pass.new }
 {
-    if enter(pool, pass, a).is_err() {
-        return [0, 0, 0];
-    }
-    let words = [
-        load(pool, pass, 0),
-        load(pool, pass, 1),
-        load(pool, pass, 2),
-    ];
-    leave(pool, pass);
-    words
+    let first = word_of(pool, pass, a, 0).unwrap_or(0);
+    let second = word_of(pool, pass, a, 1).unwrap_or(0);
+    let third = word_of(pool, pass, a, 2).unwrap_or(0);
+    [first, second, third]
 }
 
 /// Visits the marks of both passes, as long as they don't name the arena: how many didn't, and what the last visit

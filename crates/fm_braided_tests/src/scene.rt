@@ -113,7 +113,8 @@ fn told(pool: &Pool, pass: Pass, ours: &mut Shared, s: &Segment) -> Pass
 {
     a_crew_stands();
     let mut pass = pass;
-    pool.meet(&mut pass, ours.note());
+    let note = ours.note();
+    pool.meet(&mut pass, note);
     pass
 }
 

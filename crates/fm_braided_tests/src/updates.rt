@@ -76,15 +76,11 @@ fn an_update_is_cut_off_at_each_call(rt: HostRuntime) {
 #[test]
 fn an_update_stands_before_it_leaves(rt: HostRuntime) {
     let (walk, added) = add_beside(&rt, 3);
-    assert_eq!(rt;
-        (walk.last, walk.words),
-        (Some(Visit::Inside(1)), [6, 2, 3])
-    );
+    assert_eq!(rt; walk.last, Some(Visit::Inside(1)));
+    assert_eq!(rt; walk.words, [6, 2, 3]);
     assert_eq!(rt; added, Ok(Value::Int(1)));
     let (walk, set) = set_beside(&rt, 3);
-    assert_eq!(rt;
-        (walk.last, walk.words),
-        (Some(Visit::Inside(1)), [9, 2, 3])
-    );
+    assert_eq!(rt; walk.last, Some(Visit::Inside(1)));
+    assert_eq!(rt; walk.words, [9, 2, 3]);
     assert_eq!(rt; set, Ok(true));
 }
