@@ -1,5 +1,5 @@
 -- How many pages of a pool are lent, where few arenas are known.
-use Rattle.std.proofs.Common.{◌≡◌, ℕ, zero, suc, ◌+◌, ◌-◌, ◌*◌, ◌/◌, ◌<◌, ◌≤◌, ◌==◌, not, cond, Bool, true, false, List, [], ◌∷◌, filter, refl, sym, ap, ◌∙◌, subst, ⊎_elim, arith, div-lt_iff_lt-mul}
+use Rattle.std.proofs.Common.{◌≡◌, ℕ, zero, suc, ◌+◌, ◌-◌, ◌*◌, ◌/◌, ◌<◌, ◌≤◌, ◌==◌, not, cond, Bool, true, false, List, [], ◌∷◌, filter, refl, sym, ap, subst, ⊎_elim, arith, div-lt_iff_lt-mul}
 use Rattle.std.specs.Prelude.{Contains, ⊤}
 use Rattle.std.proofs.lemmas.List.Elements.{All-filter}
 use Rattle.fm_base.specs.declared.arena_id.ArenaId.{ArenaId}
