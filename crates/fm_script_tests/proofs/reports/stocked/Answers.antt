@@ -5,7 +5,7 @@ use Rattle.fm_script_tests.proofs.reports.stocked.Goals as goal
 
 pub allocate-requires : goal.allocate-requires
 allocate-requires g c =
-    let new = subst (λ r. IfOk r (λ id. IsNew c.args.pass.now c.open_arena.new.pass id)) c.expect.ensures c.open_arena.ensures.is_new in
+    let new = subst (λ r. IfOk r (λ id. IsNew c.args.pass.now c.open_arena.new.pass id)) c.expect-a.ensures c.open_arena.ensures.is_new in
     record {
       visit = record { outside = c.open_arena.ensures.outside; known = new.known };
       no_page = ap (λ (x : Rest). x.pages) c.open_arena.ensures.did.rest ∙ c.requires.no_page;
