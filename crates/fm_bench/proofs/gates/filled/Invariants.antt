@@ -1,4 +1,4 @@
-use Rattle.fm_bench.proofs.gates.gates.Given as goal
+use Rattle.fm_bench.proofs.gates.filled.Given as goal
 use Rattle.fm_bench.specs.Ready.{IsOpen}
 use Rattle.fm_gate.specs.Standing.{IsOutside}
 
