@@ -2,6 +2,7 @@
 //! sequentially consistent. Nothing is checked: it is what a visit that does check is measured against.
 //!
 //!   marks gates COUNT    words of one arena
+//!   marks nexts COUNT    its words one after another
 //!   marks hops COUNT     words of 64 arenas: what was found says which arena is next, too
 use std::hint::black_box;
 use std::sync::atomic::{AtomicU64, Ordering::SeqCst};
@@ -22,6 +23,19 @@ fn gates(words: &[AtomicU64], mark: &AtomicU64, count: u64) -> u64 {
         mark.store(1 << 32, SeqCst);
         joined ^= words[joined.wrapping_add(turn) as usize % WORDS].load(SeqCst);
         mark.store(0, SeqCst);
+    }
+    joined
+}
+
+#[inline(never)]
+fn nexts(words: &[AtomicU64], mark: &AtomicU64, count: u64) -> u64 {
+    let mut joined: u64 = 0;
+    for _ in 0..count / WORDS as u64 {
+        for word in words {
+            mark.store(1 << 32, SeqCst);
+            joined = joined.wrapping_add(word.load(SeqCst));
+            mark.store(0, SeqCst);
+        }
     }
     joined
 }
@@ -49,8 +63,9 @@ fn main() {
     let mark = black_box(AtomicU64::new(0));
     let joined = match what.as_str() {
         "gates" => gates(&words, &mark, count),
+        "nexts" => nexts(&words, &mark, count),
         "hops" => hops(&words, &arenas, &mark, count),
-        _ => panic!("gates or hops"),
+        _ => panic!("gates, nexts or hops"),
     };
     println!("{joined}");
 }

@@ -8,7 +8,11 @@
 //!   words apart COUNT THREADS    the same, of marks that lie 8 words apart
 //!   words opens COUNT            64 bytes allocated and freed
 //!   words wipes COUNT            1,048,576 words made 0, one after another
+//!   words maps COUNT             1 MiB mapped and unmapped
+//!   words grows COUNT            the same, with a byte stored into each 4,096 before it is unmapped
+//!   words gives COUNT            additions of 8 to a count, each by a load and a compare-exchange
 use std::alloc::{alloc, dealloc, Layout};
+use std::ffi::c_void;
 use std::hint::black_box;
 use std::sync::atomic::{AtomicU64, Ordering::SeqCst};
 use std::thread;
@@ -86,6 +90,37 @@ fn wipes(count: u64) -> u64 {
     count
 }
 
+extern "C" {
+    fn mmap(place: *mut c_void, bytes: usize, protection: i32, flags: i32, file: i32, offset: i64) -> *mut c_void;
+    fn munmap(place: *mut c_void, bytes: usize) -> i32;
+}
+
+fn maps(count: u64, touched: bool) -> u64 {
+    const BYTES: usize = 1 << 20;
+    const READ_AND_WRITE: i32 = 3;
+    const PRIVATE_WITHOUT_FILE: i32 = 0x22;
+    for _ in 0..count {
+        let place = unsafe { mmap(std::ptr::null_mut(), BYTES, READ_AND_WRITE, PRIVATE_WITHOUT_FILE, -1, 0) }.cast::<u8>();
+        assert!(place as isize != -1, "no memory");
+        if touched {
+            (0..BYTES).step_by(4_096).for_each(|byte| unsafe { place.add(byte).write_volatile(1) });
+        }
+        assert!(unsafe { munmap(place.cast(), BYTES) } == 0, "not unmapped");
+    }
+    count
+}
+
+#[inline(never)]
+fn gives(given: &AtomicU64, count: u64) -> u64 {
+    for _ in 0..count {
+        let mut found = given.load(SeqCst);
+        while let Err(now) = given.compare_exchange(found, found + 8, SeqCst, SeqCst) {
+            found = now;
+        }
+    }
+    given.load(SeqCst) / 8
+}
+
 fn main() {
     let mut asked = std::env::args().skip(1);
     let what = asked.next().expect("a name");
@@ -100,7 +135,10 @@ fn main() {
         "apart" => crowd(count, threads, 7),
         "opens" => opens(count),
         "wipes" => wipes(count),
-        _ => panic!("adds, swaps, patches, beside, apart, opens or wipes"),
+        "maps" => maps(count, false),
+        "grows" => maps(count, true),
+        "gives" => gives(&word, count),
+        _ => panic!("adds, swaps, patches, beside, apart, opens, wipes, maps, grows or gives"),
     };
     println!("{joined}");
 }

@@ -2,7 +2,7 @@ mod ample;
 mod gates;
 mod tallies;
 
-ghost use Rattle.std.specs.Prelude.{◌≡◌, ◌<◌, ◌≤◌, ◌≢◌};
+ghost use Rattle.std.specs.Prelude.{◌≡◌, ◌<◌, ◌≤◌, ◌≢◌, []};
 ghost use Rattle.fm_calls.specs.Told.{view_of_pass};
 ghost use Rattle.fm_gate.specs.Standing.{IsInside, IsOutside};
 ghost use Rattle.fm_pool_facts.specs.Views.{given_of, span, IsKnown as HasArena};
@@ -31,6 +31,7 @@ fn made<R: Abort + AllocGlobal>(rt: &R, passes: u32) -> (Pool, Pass)
     requires some { 0 < passes }
     requires few { passes < 65 }
     ensures outside { IsOutside result.0 result.1 }
+    ensures no_page { result.1.pages ≡ [] }
     ensures wide { span result.0.shape ≡ 8 }
 {
     let shape = Shape {
@@ -65,6 +66,7 @@ fn write(pool: &Pool, pass: &mut Pass, a: ArenaId, word: u64, v: u64)
     ensures inside { IsInside pool.now pass.new a }
     ensures given { 64 ≤ given_of pass.new a }
     ensures known { HasArena pass.new a }
+    ensures pages { pass.new.pages ≡ pass.old.pages }
 {
     store(pool, pass, word, v);
 }
@@ -72,7 +74,9 @@ fn write(pool: &Pool, pass: &mut Pass, a: ArenaId, word: u64, v: u64)
 /// A segment of those records, in a fresh arena.
 fn stocked<R: Abort + Wait>(rt: &R, pool: &Pool, pass: &mut Pass, kind: Kind) -> Segment
     requires outside { IsOutside pool.now pass.old }
+    requires no_page { pass.old.pages ≡ [] }
     ensures outside { IsOutside pool.now pass.new }
+    ensures no_page { pass.new.pages ≡ [] }
     ensures known { IsKnown (view_of_pass pass.new) result }
     ensures first { result.first ≡ 0 }
     ensures size { result.size ≡ 64 }

@@ -38,20 +38,13 @@ sound_before {p = p} {q = q} g =
 
 -- ---- refusals
 
-abbrev Never : Result ℕ Refusal → Type 0
-Never result = IfErr result (λ r. (r ≢ refusal.PoolFull) × (r ≢ refusal.Memory))
-
--- So such refusals are no matter.
-may_allocate : (result : Result ℕ Refusal) → Never result → MayCome nature_of_shared result
+-- No call takes memory, so that refusal is no matter.
+may_allocate : (result : Result ℕ Refusal) → IfErr result (λ r. r ≢ refusal.Memory) → MayCome nature_of_shared result
 may_allocate (Ok place) n = tt
-may_allocate (Err refusal.Memory) n = absurd (n.1 refl)
+may_allocate (Err refusal.Memory) n = absurd (n refl)
 may_allocate (Err refusal.NoSlot) n = refl
-may_allocate (Err refusal.PoolFull) n = absurd (n.0 refl)
+may_allocate (Err refusal.PoolFull) n = refl
 may_allocate (Err r) n = tt
-
-never_full : (result : Result ℕ Refusal) → Never result → ¬ (result ≡ Err refusal.PoolFull)
-never_full (Ok place) n e = absurd (cc)
-never_full (Err r) n e = let is : r ≡ refusal.PoolFull = cc in n.0 is
 
 -- Arenas of other kinds have no handles.
 no_handle : (kind : Kind) (result : Result ArenaId Refusal) (hs : List ArenaId) → kind ≢ Automatic → gate.handles_opened kind result hs ≡ hs
@@ -107,8 +100,8 @@ module _ {pool : Pool} {p q : View} where
   pub allocates : {id : ArenaId} {size align : ℕ} {result : Result ℕ Refusal} → memory_calls.CanVisit (view_of_pass p) id
       → gate.AfterAllocate pool p q id size align result
       → memory_calls.AfterAllocate nature_of_shared (view_of_pass p) (view_of_pass q) id size align result
-  allocates {result = result} can a = after_allocate can (sound_before a.did.goes) (may_allocate result a.never) (λ e. absurd (never_full result a.never e))
-      (did_of _ _ _ a.did)
+  allocates {result = result} can a =
+      after_allocate can (sound_before a.did.goes) (may_allocate result a.never) (λ full. (a.no_page full).found) (did_of _ _ _ a.did)
 
   pub closes : {id : ArenaId} {result : Result (Unit {0}) Refusal} → memory_calls.CanVisit (view_of_pass p) id
       → closing.AfterClose pool p q id result → memory_calls.AfterClose (view_of_pass p) (view_of_pass q) id result

@@ -1,3 +1,4 @@
+pub mod Allocating
 pub mod Beside
 pub mod Calls
 pub mod Lasting

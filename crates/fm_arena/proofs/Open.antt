@@ -1,7 +1,7 @@
 -- An arena that a pass has a hold or a handle of is open to it.
 use Rattle.std.proofs.Common.{◌≡◌, ◌≢◌, List, ap, sym, ◌∙◌, subst, All}
 use Rattle.fm_base.specs.declared.arena_id.ArenaId.{ArenaId}
-use Rattle.fm_base.specs.Arenas.{Alive, State, arena_of}
+use Rattle.fm_base.specs.Arenas.{State, arena_of}
 use Rattle.fm_base.specs.Calls.{Enter, Closed, Entry}
 use Rattle.fm_base.specs.Finds.{Rest}
 use Rattle.fm_base.specs.View.{Makes}

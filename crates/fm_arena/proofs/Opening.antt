@@ -14,7 +14,7 @@ use Rattle.fm_arena.specs.Handles.{AfterStart}
 use Rattle.fm_arena.specs.Opening.{HasNoSlot, OpensExactly}
 
 -- Where no slot is told, every arena that was ended is swept.
-none_swept : (cs : List Close) (hand : Hand) → slots_told cs hand ≡ [] → cs ≡ []
+pub none_swept : (cs : List Close) (hand : Hand) → slots_told cs hand ≡ [] → cs ≡ []
 unfolding slots_told
 none_swept [] hand e = refl
 none_swept (c ∷ cs) hand e = absurd (cc)

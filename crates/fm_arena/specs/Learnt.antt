@@ -18,10 +18,11 @@ use Rattle.fm_gate.specs.Makers.{made_by_pass}
 use Rattle.fm_gate.specs.Standing.{IsOutside}
 use Rattle.fm_gate.specs.Learnt.{DoesTake, holds_taken}
 
--- of `into_pass`: the pass is the one that the memory told of, outside in the pool that it is of, and sound
+-- of `into_pass`: the pass is the one that the memory told of, outside in the pool that it is of without a page, and sound
 pub record AfterIntoPass (shared pass : View) : Type 0 where
   pub same : pass ≡ shared
   pub outside : (pool : Pool) → IsOf pool shared → IsOutside pool pass
+  pub no_page : pass.pages ≡ []
   pub sound : IsSound pass
 
 -- of `meet`: the history of the note is a beginning of the pass's, which knows what the other knew

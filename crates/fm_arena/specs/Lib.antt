@@ -4,4 +4,5 @@ pub mod Lasting
 pub mod Arenas
 pub mod Open
 pub mod Opening
+pub mod Allocating
 pub mod Handles

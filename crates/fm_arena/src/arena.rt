@@ -33,7 +33,7 @@ impl Arena {
     }
 
     /// A segment of `size` bytes that begins at a multiple of `align`. Its bytes were never given before
-    /// (`Arena.allocate`).
+    /// (`Arena.allocate`). `Shared::allocate_segment` also says where a pool has too few pages.
     ///
     /// Refused, in this order: `BadAlignment`, `WrongThread`, `Closed`, `NoRoom`, `PoolFull`, `Memory`. A refused call
     /// gives nothing.

@@ -8,6 +8,7 @@ use fm_gate::{
     unhold,
 };
 use fm_rule::{Note, Pass, Pool};
+use fm_segment::Segment;
 use std::marker::Model;
 use std::sync::Wait;
 
@@ -34,23 +35,23 @@ impl<'a> Model for Shared<'a> {
 }
 
 impl<'a> Shared<'a> {
-    ghost use Rattle.fm_gate.specs.Standing.{IsOutside};
     ghost use Rattle.fm_base.specs.Learnt.{AfterOpen, CanOpen, CanVisit};
     ghost use Rattle.fm_calls.specs.Told.{view_of_pass};
-    ghost use Rattle.fm_arena.specs.Arenas.{started};
+    ghost use Rattle.fm_arena.specs.Allocating.{AllocatesExactly};
+    ghost use Rattle.fm_arena.specs.Arenas.{AfterAllocate, placed, started};
     ghost use Rattle.fm_arena.specs.Learnt.{AfterHold, AfterIntoPass, AfterIsAlive, AfterMeet, AfterUnhold, CanUnhold};
     ghost use Rattle.fm_arena.specs.Opening.{OpensExactly};
-    ghost use Rattle.fm_arena.specs.Shares.{nature_of_shared};
+    ghost use Rattle.fm_arena.specs.Shares.{CanShare, nature_of_shared};
 
-    /// The memory of a pass that is in no arena.
+    /// The memory of a pass that is in no arena, and has no page in its hand.
     pub fn new(pool: &'a Pool, pass: Pass) -> Shared<'a>
-        requires { IsOutside pool.now pass }
+        requires { CanShare pool.now pass }
         ensures { result ≡ pass }
     {
         Shared { pool, pass }
     }
 
-    /// The pass again, to draw another from it or to be gathered. It is in no arena.
+    /// The pass again, to draw another from it or to be gathered. It is in no arena, and has no page in its hand.
     pub fn into_pass(self) -> Pass
         requires { self.inside ≡ None }
         ensures { AfterIntoPass self.entry result }
@@ -90,6 +91,26 @@ impl<'a> Shared<'a> {
         Ok(Arena { id })
     }
 
+    /// A segment of `size` bytes of the arena, as `Arena::allocate`.
+    ///
+    /// Refused, in this order: `BadAlignment`, `WrongThread`, `Closed`, `NoRoom`, `PoolFull`. The last one only where a
+    /// step found no page; a pass that is known to be whole gets it exactly where fewer pages are left than parts of the
+    /// range have none.
+    pub fn allocate_segment<R: Wait>(
+        &mut self,
+        rt: &R,
+        arena: &Arena,
+        size: u64,
+        align: u64,
+    ) -> Result<Segment, Refusal>
+        requires { CanVisit (view_of_pass self.old) arena.now.id }
+        ensures allocates { AfterAllocate nature_of_shared (view_of_pass self.old) (view_of_pass self.new) arena.now.id size align result }
+        ensures exact { AllocatesExactly self.old self.new arena.now.id size align (placed result) }
+    {
+        let first = self.allocate(rt, arena.id, size, align)?;
+        Ok(Segment::of(arena.id, first, size))
+    }
+
     /// Whether the arena is alive: a visit to it without acts.
     ///
     /// Refused: `WrongThread`.
@@ -127,6 +148,7 @@ impl<'a> Memory for Shared<'a> {
     ghost use Rattle.fm_pool_facts.specs.Views as views;
     ghost use Rattle.fm_pool_facts.specs.Views.{In, grips};
     ghost use Rattle.fm_calls.specs.Told.{view_of_pass};
+    ghost use Rattle.fm_arena.specs.Allocating.{AllocatesExactly};
     ghost use Rattle.fm_arena.specs.Opening.{OpensExactly};
     ghost use Rattle.fm_arena.specs.Shares.{IsGone, nature_of_shared};
 
@@ -190,7 +212,9 @@ impl<'a> Memory for Shared<'a> {
         open_arena(rt, self.pool, &mut self.pass, kind)
     }
 
-    /// As the trait says; and it isn't `Closed` where the pass has a hold or a handle of the arena.
+    /// As the trait says; and it isn't `Closed` where the pass has a hold or a handle of the arena. `PoolFull` only where
+    /// a step found no page, and after the last Lend a part of the range had none; a pass that is known to be whole gets
+    /// it exactly where fewer pages are left than parts of the range have none.
     fn allocate<R: Wait>(
         &mut self,
         rt: &R,
@@ -201,6 +225,7 @@ impl<'a> Memory for Shared<'a> {
         requires { CanVisit (view_of_pass self.old) a }
         ensures allocates { AfterAllocate nature_of_shared (view_of_pass self.old) (view_of_pass self.new) a size align result }
         ensures held { In a (grips a self.old) → result ≢ Err Closed }
+        ensures exact { AllocatesExactly self.old self.new a size align result }
     {
         allocate(rt, self.pool, &mut self.pass, a, size, align)
     }

@@ -1,5 +1,5 @@
 -- Arenas and segments that can be accessed.
-use Rattle.std.specs.Prelude.{◌≡◌, ◌≤◌, ℕ, List, None, All}
+use Rattle.std.specs.Prelude.{◌≡◌, ◌≤◌, ℕ, List, [], None, All}
 use Rattle.fm_base.specs.declared.arena_id.ArenaId.{ArenaId}
 use Rattle.fm_base.specs.Arenas.{arena_of}
 use Rattle.fm_gate.specs.Crews.{HasNothing}
@@ -26,14 +26,19 @@ pub record AreReady (m : Arenas) (a b : Region) : Type 0 where
   pub first : CanAccess m a
   pub second : CanAccess m b
 
+-- the pass is outside, with no page in its hand
+pub record IsFree (pool : Pool) (p : View) : Type 0 where
+  pub outside : IsOutside pool p
+  pub no_page : p.pages ≡ []
+
 -- the pass knows the arena, which has given these bytes
 pub record IsOpen (p : View) (bytes : ℕ) (a : ArenaId) : Type 0 where
   pub known : IsKnownTo p a
   pub given : bytes ≤ given_of p a
 
--- the pass is outside, and the arenas are open so
+-- the pass is free, and the arenas are open so
 pub record AreOpen (pool : Pool) (p : View) (arenas : List ArenaId) (bytes : ℕ) : Type 0 where
-  pub outside : IsOutside pool p
+  pub free : IsFree pool p
   pub each : All (IsOpen p bytes) arenas
 
 -- the pass is outside, the arena is open to it with eight bytes, and it has nothing, so that it can be gathered
@@ -42,7 +47,7 @@ pub record CanWork (pool : Pool) (p : View) (a : ArenaId) : Type 0 where
   pub opened : IsOpen p 8 a
   pub nothing : HasNothing p
 
--- the pass is outside, and the arena is open to it with 64 bytes
+-- the pass is free, and the arena is open to it with 64 bytes
 pub record CanRead (pool : Pool) (p : View) (a : ArenaId) : Type 0 where
-  pub outside : IsOutside pool p
+  pub free : IsFree pool p
   pub opened : IsOpen p 64 a

@@ -1,7 +1,7 @@
 ghost use Rattle.std.specs.Prelude.{◌<◌, ◌≤◌, All, IfOk};
 ghost use Rattle.fm_gate.specs.Crews.{HasNothing, StandsOn};
 ghost use Rattle.fm_gate.specs.Standing.{IsOutside};
-ghost use Rattle.fm_bench.specs.Ready.{CanWork, IsOpen};
+ghost use Rattle.fm_bench.specs.Ready.{CanWork, IsFree, IsOpen};
 
 use crate::gates::given;
 use fm_base::{ArenaId, Refusal};
@@ -25,7 +25,7 @@ pub struct Worker {
 pub fn made_for(alloc: Global, passes: u32) -> Result<(Pool, Pass), Refusal>
     requires some { 0 < passes }
     requires few { passes ≤ 4096 }
-    ensures outside { IfOk result (λ r. IsOutside r.0 r.1) }
+    ensures free { IfOk result (λ r. IsFree r.0 r.1) }
 {
     let shape = Shape {
         passes,

@@ -2,7 +2,7 @@ ghost use Rattle.std.specs.Prelude.{◌≡◌, ◌*◌, ◌<◌, ◌≤◌, leng
 ghost use Rattle.fm_pool_facts.specs.Views.{given_of};
 ghost use Rattle.fm_calls.specs.Kept.{Lasts};
 ghost use Rattle.fm_gate.specs.Standing.{CanVisit, IsOutside};
-ghost use Rattle.fm_bench.specs.Ready.{AreOpen, IsOpen};
+ghost use Rattle.fm_bench.specs.Ready.{AreOpen, IsFree, IsOpen};
 
 use fm_base::{ArenaId, Kind, Refusal};
 use fm_close::close;
@@ -26,12 +26,42 @@ const SHARE: u64 = 128;
 ///
 /// Each visit enters the arena, loads one word and leaves. Word w holds w times `count`, wrapping.
 pub fn gates<R: Wait>(rt: &R, alloc: Global, count: u64) -> Result<u64, Refusal> {
-    let (pool, mut pass) = made(alloc, 1, 8_192)?;
-    let arena = given(rt, &pool, &mut pass, WORDS * 8)?;
-    for word in 0..WORDS {
-        put(&pool, &mut pass, arena, word, word.wrapping_mul(count))?;
-    }
+    let (pool, pass) = made(alloc, 1, 8_192)?;
+    gates_of(rt, pool, pass, count)
+}
+
+/// The same of an arena whose words lie in 64 pages.
+pub fn spreads<R: Wait>(rt: &R, alloc: Global, count: u64) -> Result<u64, Refusal> {
+    let (pool, pass) = spread(alloc, 128)?;
+    gates_of(rt, pool, pass, count)
+}
+
+/// The same, each word after the one before it.
+pub fn nexts<R: Wait>(rt: &R, alloc: Global, count: u64) -> Result<u64, Refusal> {
+    let (pool, mut pass) = spread(alloc, 128)?;
+    let arena = filled(rt, &pool, &mut pass, count)?;
+    rounds(pool, pass, arena, count / WORDS)
+}
+
+/// Fills an arena of the pool and visits it.
+fn gates_of<R: Wait>(rt: &R, pool: Pool, mut pass: Pass, count: u64) -> Result<u64, Refusal>
+    requires { IsFree pool pass }
+{
+    let arena = filled(rt, &pool, &mut pass, count)?;
     visits(pool, pass, arena, count)
+}
+
+/// An arena whose word w holds w times a number, wrapping.
+fn filled<R: Wait>(rt: &R, pool: &Pool, pass: &mut Pass, times: u64) -> Result<ArenaId, Refusal>
+    requires free { IsFree pool.now pass.old }
+    ensures outside { IsOutside pool.now pass.new }
+    ensures open { IfOk result (λ a. IsOpen pass.new 65536 a) }
+{
+    let arena = given(rt, pool, pass, WORDS * 8)?;
+    for word in 0..WORDS {
+        put(pool, pass, arena, word, word.wrapping_mul(times))?;
+    }
+    Ok(arena)
 }
 
 /// The visits alone. The pool and the pass are moved here, so that the compiler knows that nothing else has a name for
@@ -43,6 +73,20 @@ fn visits(pool: Pool, mut pass: Pass, arena: ArenaId, count: u64) -> Result<u64,
     let mut joined: u64 = 0;
     for turn in 0..count {
         joined ^= visit(&pool, &mut pass, arena, joined.wrapping_add(turn) % WORDS)?;
+    }
+    Ok(joined)
+}
+
+/// So many rounds over all words, one after another, alone.
+fn rounds(pool: Pool, mut pass: Pass, arena: ArenaId, count: u64) -> Result<u64, Refusal>
+    requires outside { IsOutside pool pass }
+    requires open { IsOpen pass 65536 arena }
+{
+    let mut joined: u64 = 0;
+    for _ in 0..count {
+        for word in 0..WORDS {
+            joined = joined.wrapping_add(visit(&pool, &mut pass, arena, word)?);
+        }
     }
     Ok(joined)
 }
@@ -86,7 +130,7 @@ pub fn made(alloc: Global, slots: u32, words: u32) -> Result<(Pool, Pass), Refus
     requires slots { slots ≤ 64 }
     requires word { 0 < words }
     requires words { words ≤ 8192 }
-    ensures outside { IfOk result (λ r. IsOutside r.0 r.1) }
+    ensures free { IfOk result (λ r. IsFree r.0 r.1) }
 {
     let shape = Shape {
         passes: 16,
@@ -99,10 +143,27 @@ pub fn made(alloc: Global, slots: u32, words: u32) -> Result<(Pool, Pass), Refus
     Pool::make(alloc, shape)
 }
 
+/// A pool of 16 passes and one slot, whose arena has up to 64 pages of so many words.
+pub fn spread(alloc: Global, page_words: u32) -> Result<(Pool, Pass), Refusal>
+    requires word { 0 < page_words }
+    requires words { page_words ≤ 65536 }
+    ensures free { IfOk result (λ r. IsFree r.0 r.1) }
+{
+    let shape = Shape {
+        passes: 16,
+        slots: 1,
+        pages: 64,
+        page_words,
+        reach: 64,
+        generations: 4_294_967_295,
+    };
+    Pool::make(alloc, shape)
+}
+
 /// Opens an arena that gives so many bytes.
 pub fn given<R: Wait>(rt: &R, pool: &Pool, pass: &mut Pass, bytes: u64) -> Result<ArenaId, Refusal>
-    requires { IsOutside pool.now pass.old }
-    ensures outside { IsOutside pool.now pass.new }
+    requires { IsFree pool.now pass.old }
+    ensures free { IsFree pool.now pass.new }
     ensures open { IfOk result (λ a. IsOpen pass.new bytes a) }
     ensures lasts { Lasts pass.old pass.new }
 {
@@ -119,7 +180,7 @@ fn opened<R: Wait>(
     pass: &mut Pass,
     times: u64,
 ) -> Result<Vec<ArenaId>, Refusal>
-    requires outside { IsOutside pool.now pass.old }
+    requires free { IsFree pool.now pass.old }
     ensures arenas { IfOk result (λ arenas. AreOpen pool.now pass.new arenas.items 1024) }
     ensures many { IfOk result (λ arenas. length arenas.items ≡ 64) }
 {
@@ -156,6 +217,7 @@ pub fn visit(pool: &Pool, pass: &mut Pass, arena: ArenaId, word: u64) -> Result<
     requires ready { CanVisit pool.now pass.old arena }
     requires within { 8 * word < given_of pass.old arena }
     ensures outside { IsOutside pool.now pass.new }
+    ensures pages { pass.new.pages ≡ pass.old.pages }
     ensures lasts { Lasts pass.old pass.new }
 {
     enter(pool, pass, arena)?;
@@ -169,6 +231,7 @@ fn put(pool: &Pool, pass: &mut Pass, arena: ArenaId, word: u64, v: u64) -> Resul
     requires ready { CanVisit pool.now pass.old arena }
     requires within { 8 * word < given_of pass.old arena }
     ensures outside { IsOutside pool.now pass.new }
+    ensures pages { pass.new.pages ≡ pass.old.pages }
     ensures lasts { Lasts pass.old pass.new }
 {
     enter(pool, pass, arena)?;

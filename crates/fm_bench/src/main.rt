@@ -1,6 +1,8 @@
-//! Loops for the benchmarks: `visits COUNT` of the words of a `Mono`'s arena, `gates COUNT` of a pool's arena and
-//! `hops COUNT` of 64 of its arenas, `closes POOLS` of the arenas of so many pools, `opens COUNT` of 64 bytes in one slot
-//! again and again, `wipes COUNT` of 8 MiB there, `loads COUNT` from a plain vector,
+//! Loops for the benchmarks: `visits COUNT` of the words of a `Mono`'s arena, `gates COUNT` of a pool's arena, `spreads
+//! COUNT` of one whose words lie in 64 pages, `nexts COUNT` of that one's words in turn, and `hops COUNT` of 64 of its
+//! arenas, `closes POOLS` of the arenas of so many pools, `opens COUNT` of 64 bytes in one slot again and again, `wipes
+//! COUNT` of 8 MiB there, `grows COUNT` of 1 MiB in 64 pages, `empties COUNT` of up to 32 MiB of which nothing is given,
+//! `gives COUNT` of 8 bytes at a time, `loads COUNT` from a plain vector,
 //! `adds COUNT`, `swaps COUNT` and `patches COUNT` of a word in one visit, `draws POOLS` of the passes of so many pools,
 //! `beside COUNT THREADS` and `apart COUNT THREADS` of visits by threads whose marks lie side by side and 8 apart,
 //! `known COUNT` of a segment by a layout that the compiler knows, `gets COUNT LAYOUT` and `handles COUNT LAYOUT` by a
@@ -28,9 +30,9 @@ mod visits;
 
 use crate::cells::{gets, handles, known};
 use crate::crews::{crowd, draws};
-use crate::gates::{closes, gates, hops};
+use crate::gates::{closes, gates, hops, nexts, spreads};
 use crate::loads::loads;
-use crate::opens::{opens, wipes};
+use crate::opens::{empties, gives, grows, opens, wipes};
 use crate::ranges::{copies, fills, mismatches};
 use crate::reuse::{Count, reuse};
 use crate::stress::stress;
@@ -113,10 +115,15 @@ fn run<R: Threads + Wait + Sync>(
     match what {
         "visits" => visits(rt, alloc, count).ok(),
         "gates" => gates(rt, alloc, count).ok(),
+        "spreads" => spreads(rt, alloc, count).ok(),
+        "nexts" => nexts(rt, alloc, count).ok(),
         "hops" => hops(rt, alloc, count).ok(),
         "closes" => closes(rt, alloc, count).ok(),
         "opens" => opens(rt, alloc, count).ok(),
         "wipes" => wipes(rt, alloc, count).ok(),
+        "grows" => grows(rt, alloc, count).ok(),
+        "empties" => empties(rt, alloc, count).ok(),
+        "gives" => gives(rt, alloc, count).ok(),
         "loads" => loads(alloc, count).ok(),
         "adds" => adds(rt, alloc, count).ok(),
         "swaps" => swaps(rt, alloc, count).ok(),

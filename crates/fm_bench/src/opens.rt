@@ -1,12 +1,16 @@
-ghost use Rattle.fm_gate.specs.Standing.{IsOutside};
+ghost use Rattle.fm_bench.specs.Ready.{IsFree, IsOpen};
 
-use crate::gates::given;
+use crate::gates::{given, spread};
 use crate::reuse::made_again;
-use fm_base::Refusal;
+use fm_base::{ArenaId, Refusal};
 use fm_close::close;
+use fm_gate::allocate;
 use fm_rule::{Pass, Pool};
 use std::alloc::Global;
 use std::sync::Wait;
+
+/// The words of an arena that is filled word by word.
+const WORDS: u32 = 8_192;
 
 /// Opens an arena of a pool of 16 passes, allocates all its 64 bytes and closes it, so often. Answers how often.
 pub fn opens<R: Wait>(rt: &R, alloc: Global, count: u64) -> Result<u64, Refusal> {
@@ -20,6 +24,18 @@ pub fn wipes<R: Wait>(rt: &R, alloc: Global, count: u64) -> Result<u64, Refusal>
     turns(rt, pool, pass, 8_388_608, count)
 }
 
+/// The same of an arena of 1 MiB in 64 pages, each of which is taken, wiped and given back.
+pub fn grows<R: Wait>(rt: &R, alloc: Global, count: u64) -> Result<u64, Refusal> {
+    let (pool, pass) = spread(alloc, 2_048)?;
+    turns(rt, pool, pass, 1_048_576, count)
+}
+
+/// The same of an arena that may have 32 MiB, and gives nothing.
+pub fn empties<R: Wait>(rt: &R, alloc: Global, count: u64) -> Result<u64, Refusal> {
+    let (pool, pass) = spread(alloc, 65_536)?;
+    turns(rt, pool, pass, 0, count)
+}
+
 /// The calls alone. The pool and the pass are moved here, so that the compiler knows that nothing else has a name for
 /// them.
 fn turns<R: Wait>(
@@ -29,11 +45,34 @@ fn turns<R: Wait>(
     bytes: u64,
     count: u64,
 ) -> Result<u64, Refusal>
-    requires { IsOutside pool pass }
+    requires { IsFree pool pass }
 {
     for _ in 0..count {
         let arena = given(rt, &pool, &mut pass, bytes)?;
         close(rt, &pool, &mut pass, arena)?;
     }
     Ok(count)
+}
+
+/// Allocates 8 bytes again and again, 8,192 times in each arena before it is closed. Answers how often.
+pub fn gives<R: Wait>(rt: &R, alloc: Global, count: u64) -> Result<u64, Refusal> {
+    let (pool, mut pass) = made_again(alloc, 16, 1, WORDS)?;
+    for _ in 0..count / u64::from(WORDS) {
+        let arena = given(rt, &pool, &mut pass, 8)?;
+        fill_up(rt, &pool, &mut pass, arena)?;
+        close(rt, &pool, &mut pass, arena)?;
+    }
+    Ok(count)
+}
+
+/// Allocates 8 bytes at a time, until the arena has no more room.
+fn fill_up<R: Wait>(rt: &R, pool: &Pool, pass: &mut Pass, arena: ArenaId) -> Result<(), Refusal>
+    requires free { IsFree pool.now pass.old }
+    requires open { IsOpen pass.old 8 arena }
+    ensures free { IsFree pool.now pass.new }
+{
+    for _ in 1..WORDS {
+        allocate(rt, pool, pass, arena, 8, 8)?;
+    }
+    Ok(())
 }

@@ -1,9 +1,9 @@
 //! Slots that are used again and again by some threads, while others read in an arena that is closed among them.
 ghost use Rattle.std.specs.Prelude.{◌≡◌, ◌<◌, ◌≤◌, All, IfOk, Some};
 ghost use Rattle.fm_calls.specs.Kept.{Lasts};
-ghost use Rattle.fm_gate.specs.Standing.{IsInside, IsOutside};
+ghost use Rattle.fm_gate.specs.Standing.{IsInside};
 ghost use Rattle.fm_pool_facts.specs.Views.{given_of};
-ghost use Rattle.fm_bench.specs.Ready.{CanRead, IsOpen};
+ghost use Rattle.fm_bench.specs.Ready.{CanRead, IsFree, IsOpen};
 
 use crate::gates::{given, visit};
 use fm_base::{ArenaId, Refusal};
@@ -80,7 +80,7 @@ pub fn made_again(
     requires slots { slots ≤ 2 }
     requires word { 0 < words }
     requires words { words ≤ 1048576 }
-    ensures outside { IfOk result (λ r. IsOutside r.0 r.1) }
+    ensures free { IfOk result (λ r. IsFree r.0 r.1) }
 {
     let shape = Shape {
         passes,
@@ -101,9 +101,9 @@ fn hired<R: Wait>(
     pass: &mut Pass,
     count: u32,
 ) -> Result<Vec<Player>, Refusal>
-    requires { IsOutside pool.now pass.old }
-    ensures outside { IsOutside pool.now pass.new }
-    ensures crew { IfOk result (λ crew. All (λ p. IsOutside pool.now p.pass) crew.items) }
+    requires { IsFree pool.now pass.old }
+    ensures free { IsFree pool.now pass.new }
+    ensures crew { IfOk result (λ crew. All (λ p. IsFree pool.now p.pass) crew.items) }
 {
     let mut crew: Vec<Player> = Vec::new(alloc);
     for _ in 0..count {
@@ -125,9 +125,9 @@ fn hired<R: Wait>(
 
 /// A pass is drawn.
 fn drawn<R: Wait>(rt: &R, pool: &Pool, pass: &mut Pass) -> Result<Pass, Refusal>
-    requires { IsOutside pool.now pass.old }
-    ensures outside { IsOutside pool.now pass.new }
-    ensures drawn { IfOk result (λ p. IsOutside pool.now p) }
+    requires { IsFree pool.now pass.old }
+    ensures free { IsFree pool.now pass.new }
+    ensures drawn { IfOk result (λ p. IsFree pool.now p) }
 {
     a_crew_stands();
     pool.draw(rt, pass)
@@ -140,8 +140,8 @@ fn pattern(a: ArenaId) -> u64 {
 
 /// Opens an arena, and puts its pattern into its words.
 fn filled<R: Wait>(rt: &R, pool: &Pool, pass: &mut Pass) -> Result<ArenaId, Refusal>
-    requires { IsOutside pool.now pass.old }
-    ensures outside { IsOutside pool.now pass.new }
+    requires { IsFree pool.now pass.old }
+    ensures free { IsFree pool.now pass.new }
     ensures open { IfOk result (λ a. IsOpen pass.new 64 a) }
     ensures lasts { Lasts pass.old pass.new }
 {
@@ -152,9 +152,9 @@ fn filled<R: Wait>(rt: &R, pool: &Pool, pass: &mut Pass) -> Result<ArenaId, Refu
 
 /// Puts the arena's pattern into its words, and answers whether all of them were 0.
 fn fill(pool: &Pool, pass: &mut Pass, a: ArenaId) -> Result<bool, Refusal>
-    requires outside { IsOutside pool.now pass.old }
+    requires free { IsFree pool.now pass.old }
     requires open { IsOpen pass.old 64 a }
-    ensures outside { IsOutside pool.now pass.new }
+    ensures free { IsFree pool.now pass.new }
     ensures lasts { Lasts pass.old pass.new }
 {
     enter(pool, pass, a)?;
@@ -168,6 +168,7 @@ fn put_all(pool: &Pool, pass: &mut Pass, a: ArenaId) -> u64
     requires inside { IsInside pool.now pass.old a }
     requires given { 64 ≤ given_of pass.old a }
     ensures inside { IsInside pool.now pass.new a }
+    ensures pages { pass.new.pages ≡ pass.old.pages }
     ensures lasts { Lasts pass.old pass.new }
 {
     let mut found: u64 = 0;
@@ -185,10 +186,10 @@ fn told(
     a: ArenaId,
     crew: Vec<Player>,
 ) -> Result<Vec<Player>, Refusal>
-    requires outside { IsOutside pool.now pass.old }
+    requires free { IsFree pool.now pass.old }
     requires open { IsOpen pass.old 64 a }
-    requires crew { All (λ p. IsOutside pool.now p.pass) crew.items }
-    ensures outside { IsOutside pool.now pass.new }
+    requires crew { All (λ p. IsFree pool.now p.pass) crew.items }
+    ensures free { IsFree pool.now pass.new }
     ensures ready { IfOk result (λ ready. All (λ p. CanRead pool.now p.pass a) ready.items) }
 {
     let mut crew = crew;
@@ -207,13 +208,13 @@ fn tell_last(
     crew: &mut Vec<Player>,
     ready: &mut Vec<Player>,
 ) -> Result<(), Refusal>
-    requires outside { IsOutside pool.now pass.old }
+    requires free { IsFree pool.now pass.old }
     requires open { IsOpen pass.old 64 a }
-    requires crew { All (λ p. IsOutside pool.now p.pass) crew.old.items }
+    requires crew { All (λ p. IsFree pool.now p.pass) crew.old.items }
     requires ready { All (λ p. CanRead pool.now p.pass a) ready.old.items }
-    ensures outside { IsOutside pool.now pass.new }
+    ensures free { IsFree pool.now pass.new }
     ensures open { IsOpen pass.new 64 a }
-    ensures crew { All (λ p. IsOutside pool.now p.pass) crew.new.items }
+    ensures crew { All (λ p. IsFree pool.now p.pass) crew.new.items }
     ensures ready { IfOk result (λ _. All (λ p. CanRead pool.now p.pass a) ready.new.items) }
 {
     let Some(mut player) = crew.pop() else {
@@ -229,7 +230,7 @@ fn tell_last(
 /// A pass learns what another has seen.
 fn tell(pool: &Pool, from: &mut Pass, to: &mut Pass, a: ArenaId)
     requires from { CanRead pool.now from.old a }
-    requires to { IsOutside pool.now to.old }
+    requires to { IsFree pool.now to.old }
     ensures from { from.new ≡ from.old }
     ensures to { CanRead pool.now to.new a }
 {
@@ -241,7 +242,7 @@ fn tell(pool: &Pool, from: &mut Pass, to: &mut Pass, a: ArenaId)
 /// Each player plays, in a thread of its own.
 fn play_all<R: Threads + Wait + Sync>(rt: &R, pool: &Pool, crew: &mut [Player], a: ArenaId)
     requires { All (λ p. CanRead pool.now p.pass a) crew.old }
-    ensures { All (λ p. IsOutside pool.now p.pass) crew.new }
+    ensures { All (λ p. IsFree pool.now p.pass) crew.new }
 {
     thread::for_each_mut(
         rt,
@@ -249,7 +250,7 @@ fn play_all<R: Threads + Wait + Sync>(rt: &R, pool: &Pool, crew: &mut [Player], 
         16,
         &|place: usize, player: &mut Player|
             requires { CanRead pool.now player.now.pass a }
-            ensures { IsOutside pool.entry.now player.exit.now.pass }
+            ensures { IsFree pool.entry.now player.exit.now.pass }
         { play(rt, pool, player, a, place) },
     );
 }
@@ -257,7 +258,7 @@ fn play_all<R: Threads + Wait + Sync>(rt: &R, pool: &Pool, crew: &mut [Player], 
 /// Every other player uses slots. The others read, also once the first of them has closed the arena.
 fn play<R: Wait>(rt: &R, pool: &Pool, player: &mut Player, a: ArenaId, place: usize)
     requires { CanRead pool.now player.old.pass a }
-    ensures { IsOutside pool.now player.new.pass }
+    ensures { IsFree pool.now player.new.pass }
 {
     if place % 2 == 0 {
         use_often(rt, pool, player);
@@ -307,8 +308,8 @@ fn read(pool: &Pool, player: &mut Player, a: ArenaId, word: u64)
 
 /// Uses slots one after another.
 fn use_often<R: Wait>(rt: &R, pool: &Pool, player: &mut Player)
-    requires { IsOutside pool.now player.old.pass }
-    ensures { IsOutside pool.now player.new.pass }
+    requires { IsFree pool.now player.old.pass }
+    ensures { IsFree pool.now player.new.pass }
 {
     for _ in 0..TURNS {
         use_once(rt, pool, player);
@@ -317,8 +318,8 @@ fn use_often<R: Wait>(rt: &R, pool: &Pool, player: &mut Player)
 
 /// Opens an arena, fills it, reads it and closes it, and looks whether it is alive then.
 fn use_once<R: Wait>(rt: &R, pool: &Pool, player: &mut Player)
-    requires { IsOutside pool.now player.old.pass }
-    ensures { IsOutside pool.now player.new.pass }
+    requires { IsFree pool.now player.old.pass }
+    ensures { IsFree pool.now player.new.pass }
 {
     let count = &mut player.count;
     match is_used(rt, pool, &mut player.pass) {
@@ -330,8 +331,8 @@ fn use_once<R: Wait>(rt: &R, pool: &Pool, player: &mut Player)
 
 /// Whether an arena of its own was empty at first, kept what was put into it, and was over once it was closed.
 fn is_used<R: Wait>(rt: &R, pool: &Pool, pass: &mut Pass) -> Result<bool, Refusal>
-    requires { IsOutside pool.now pass.old }
-    ensures { IsOutside pool.now pass.new }
+    requires { IsFree pool.now pass.old }
+    ensures { IsFree pool.now pass.new }
 {
     let a = given(rt, pool, pass, 8 * WORDS)?;
     let empty = fill(pool, pass, a)?;

@@ -1,5 +1,5 @@
 ghost use Rattle.std.specs.Prelude.{◌≡◌, None};
-ghost use Rattle.fm_gate.specs.Standing.{IsOutside};
+ghost use Rattle.fm_arena.specs.Shares.{CanShare};
 
 use crate::cells::{gets, handles, known};
 use crate::ranges::{SIZE, copies, fills, mismatches};
@@ -53,7 +53,7 @@ fn over_pool<R: Wait>(
     count: u64,
     text: &str,
 ) -> Option<u64>
-    requires { IsOutside pool pass }
+    requires { CanShare pool pass }
 {
     let mut memory = Shared::new(&pool, pass);
     looped(rt, alloc, &mut memory, what, count, text)

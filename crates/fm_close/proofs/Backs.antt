@@ -2,7 +2,7 @@
 use Rattle.std.proofs.Common.{◌≡◌, ◌≢◌, ℕ, ◌<◌, ◌==◌, Bool, true, List, [], ◌∷◌, refl, ap, sym, ◌∙◌, subst, arith, Some, None, eq-eqb, ne_eqb}
 use Rattle.fm_base.specs.declared.caller.Caller.{Caller}
 use Rattle.fm_base.specs.declared.arena_id.ArenaId.{ArenaId}
-use Rattle.fm_base.specs.Calls.{Unhold, Shut, End, Back, Fine, Entry, entry_of}
+use Rattle.fm_base.specs.Calls.{Unhold, Shut, End, Fine, Entry, entry_of}
 use Rattle.fm_base.specs.Finds.{Close, Rest}
 use Rattle.fm_base.specs.declared.kind.Kind.TheVariants.{Automatic}
 use Rattle.fm_base.specs.Arenas.{Alive, Ended}
@@ -19,14 +19,14 @@ use Rattle.fm_calls.proofs.Going.{goes_of, goes_then, no_draws, made_by-one, res
 use Rattle.fm_calls.proofs.Waiting.{Waited, waits_by, waits_on}
 use Rattle.fm_gate.specs.Makers.{Made, made_by_pass}
 use Rattle.fm_gate.specs.Standing.{IsOutside}
-use Rattle.fm_gate.proofs.Standing.{made_on, stands_outside}
+use Rattle.fm_gate.proofs.Standing.{made_on, stands_outside, swept_is}
 use Rattle.fm_gate.proofs.Handles.{owner_low}
 use Rattle.fm_close.specs.declared.gave_back.GaveBack.TheVariants as gave
 use Rattle.fm_close.specs.declared.shutting.Shutting.{Shutting}
 use Rattle.fm_close.specs.Does.{begun}
 use Rattle.fm_close.specs.Learnt.{CanGiveBack, AfterBack, AfterSpend, AfterGiveBack}
 use Rattle.fm_close.proofs.Closes.{visited_of-begun, dropped-begun}
-use Rattle.fm_close.proofs.Walks.{Finished}
+use Rattle.fm_close.proofs.Walks.{Finished, ends_so}
 
 -- ---- the exchanges
 
@@ -75,6 +75,7 @@ module _ {o p q : View} (a : ArenaId) (word found : ℕ) (w : Waited o p) (s : E
         inside = inside_is hit ∙ ap (λ (x : View). x.inside) w.is;
         mark = mark_is hit ∙ ap (λ (x : View). x.mark) w.is;
         hand = hand_is hit ∙ ap (λ (x : View). x.hand) w.is;
+        swept = swept_is hit ∙ ap (λ (x : View). x.swept) w.is;
       }
 
 -- ---- a handle is spent
@@ -86,7 +87,7 @@ module _ {pool : Pool} {p q : View} {a : ArenaId} {word : ℕ} (can : CanGiveBac
 
   out : IsOutside pool q
   out = stands_outside t.goes can.outside.of can.outside.no_number (t.hand ∙ can.outside.no_slot)
-      (t.inside ∙ can.outside.outside) (t.mark ∙ can.outside.unmarked)
+      (t.swept ∙ can.outside.no_part) (t.inside ∙ can.outside.outside) (t.mark ∙ can.outside.unmarked)
 
   goes_by : (g : Giving) → giving_by (alive_holds a word) ≡ g → Goes p q (giving_entries a g p.caller)
   goes_by g e = subst (λ (x : Giving). Goes p q (giving_entries a x p.caller)) e t.goes
@@ -151,16 +152,15 @@ pub after_ended : {pool : Pool} {p q r : View} {a : ArenaId} {s : Shutting} → 
 after_ended {p = p} {q = q} {r = r} {a = a} {s = s} automatic h w =
     let arena : s.arena ≡ a = ap (λ (x : Shutting). x.arena) h.did.does.0 in
     let g : Goes p q (entry_of p.caller (Shut a) Fine ∷ []) = subst (λ (es : List Entry). Goes p q es) h.did.does.1 h.did.goes in
-    let end : Goes q r (entry_of p.caller (End a) Fine ∷ entry_of p.caller (Back a.slot) Fine ∷ []) = subst
-    (λ (x : Caller × ArenaId). Goes q r (entry_of x.0 (End x.1) Fine ∷ entry_of x.0 (Back x.1.slot) Fine ∷ []))
-    (λ j. (g.same_caller j, arena j)) w.goes in
+    let end : Goes q r (entry_of p.caller (End a) Fine ∷ w.backs) =
+    subst (λ (x : Caller × ArenaId). Goes q r (entry_of x.0 (End x.1) Fine ∷ w.backs)) (λ j. (g.same_caller j, arena j)) w.goes in
     let closes : q.closes ≡ close_of a 0 ∷ p.closes = ap (λ (x : Rest). x.closes) h.did.rest in
     let left : dropped s.arena q.closes ≡ p.closes = ap (λ (i : ArenaId). dropped i q.closes) arena ∙ (ap (dropped a) closes ∙ dropped-begun p.closes a) in
     let all = goes_then g end in
     record {
       did = record {
-        own = entry_of p.caller (Shut a) Fine ∷ entry_of p.caller (End a) Fine ∷ entry_of p.caller (Back a.slot) Fine ∷ [];
-        does = refl;
+        own = entry_of p.caller (Shut a) Fine ∷ entry_of p.caller (End a) Fine ∷ w.backs;
+        does = ends_so p.caller a q.caller w.backs w.are;
         goes = all;
         rest = w.rest ∙ (ap (λ (x : Rest). record x { closes = dropped s.arena q.closes }) h.did.rest
             ∙ ap (λ (xs : List Close). record (rest_of p) { closes = xs; handles = released a p.handles }) left);

@@ -2,6 +2,7 @@ pub mod Closes
 pub mod Shuts
 pub mod Looks
 pub mod Walks
+pub mod Parts
 pub mod Sweeps
 pub mod Backs
 pub mod Lasting

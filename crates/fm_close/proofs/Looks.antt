@@ -19,7 +19,7 @@ use Rattle.fm_calls.specs.Told.{silent_view}
 use Rattle.fm_calls.proofs.Going.{goes_of, made_by-one, NoDraws, rest_is, hand_is, inside_is, mark_is, closes_is, sweeps_is, known_on, lasts_on}
 use Rattle.fm_calls.proofs.Telling.{silent_makes}
 use Rattle.fm_gate.specs.Standing.{IsOutside}
-use Rattle.fm_gate.proofs.Standing.{made_on, stands_outside}
+use Rattle.fm_gate.proofs.Standing.{made_on, stands_outside, swept_is}
 use Rattle.fm_close.specs.declared.shutting.Shutting.{Shutting}
 use Rattle.fm_close.specs.declared.outcome.Visit.TheVariants.{Next, Inside, Ended}
 use Rattle.fm_close.specs.Does.{visit_answer}
@@ -109,7 +109,7 @@ module _ {pool : Pool} {p q : View} {s : Shutting} (found : ℕ) (can : CanWalk 
 
   outside_by : {es : List Entry} → Goes p q es → IsOutside pool q
   outside_by g = stands_outside g can.outside.of can.outside.no_number (hand_is step ∙ can.outside.no_slot)
-      (inside_is step ∙ can.outside.outside) (mark_is step ∙ can.outside.unmarked)
+      (swept_is step ∙ can.outside.no_part) (inside_is step ∙ can.outside.outside) (mark_is step ∙ can.outside.unmarked)
 
   -- What is learnt where the mark names the arena.
   pub after_inside : found ≡ mark_of s.arena → AfterVisit pool p q s s (Inside s.next)

@@ -18,7 +18,7 @@ use Rattle.fm_calls.specs.Kept.{Goes}
 use Rattle.fm_calls.proofs.Going.{goes_of, goes_none, kept_none, made_by-one, no_draws, rest_is, hand_is, inside_is, mark_is, closes_is, sweeps_is, known_on, lasts_on}
 use Rattle.fm_gate.specs.Makers.{Made, made_by_pass}
 use Rattle.fm_gate.specs.Standing.{IsOutside, CanVisit}
-use Rattle.fm_gate.proofs.Standing.{made_on, stands_outside}
+use Rattle.fm_gate.proofs.Standing.{made_on, stands_outside, swept_is}
 use Rattle.fm_close.specs.Does as does
 use Rattle.fm_close.specs.Learnt.{AfterShut}
 use Rattle.fm_close.proofs.Closes.{visited_of-begun}
@@ -77,7 +77,7 @@ module _ {pool : Pool} {p q : View} {a : ArenaId} (word : ℕ) (can : CanVisit p
 
   still_outside : (reply : Reply) → shut_found (alive_holds a word) ≡ reply → IsOutside pool q
   still_outside reply e = stands_outside (shut_goes reply e) can.outside.of can.outside.no_number (hand_is s ∙ can.outside.no_slot)
-      (inside_is s ∙ can.outside.outside) (mark_is s ∙ can.outside.unmarked)
+      (swept_is s ∙ can.outside.no_part) (inside_is s ∙ can.outside.outside) (mark_is s ∙ can.outside.unmarked)
 
   -- What is learnt where the arena wasn't alive.
   pub after_closed : alive_holds a word ≡ None → AfterShut pool p q a (Err refusal.Closed)

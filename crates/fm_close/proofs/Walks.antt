@@ -1,11 +1,12 @@
 -- The walk over the marks, and a close.
 use Rattle.std.proofs.Common.{◌≡◌, ◌≢◌, ℕ, List, [], ◌∷◌, ◌++◌, refl, sym, ap, ◌∙◌, subst}
+use Rattle.std.proofs.lemmas.List.Elements.{All-head, All-tail}
 use Rattle.std.specs.Prelude.{Ok, Err}
 use Rattle.fm_base.specs.declared.caller.Caller.{Caller}
 use Rattle.fm_base.specs.declared.arena_id.ArenaId.{ArenaId}
 use Rattle.fm_base.specs.declared.refusal.Refusal.{Refusal}
 use Rattle.fm_base.specs.declared.refusal.Refusal.TheVariants as refusal
-use Rattle.fm_base.specs.Calls.{Shut, End, Back, Fine, Entry, entry_of}
+use Rattle.fm_base.specs.Calls.{Shut, End, Fine, Entry, entry_of}
 use Rattle.fm_base.specs.Finds.{Close, Rest}
 use Rattle.fm_base.specs.Does.{DoesClose}
 use Rattle.fm_base.specs.View.{but_loans}
@@ -20,7 +21,7 @@ use Rattle.fm_gate.specs.Standing.{IsOutside}
 use Rattle.fm_close.specs.declared.shutting.Shutting.{Shutting}
 use Rattle.fm_close.specs.declared.outcome.Visit.{Visit}
 use Rattle.fm_close.specs.declared.outcome.Visit.TheVariants.{Next, Inside, Ended}
-use Rattle.fm_close.specs.Does.{DoesShut}
+use Rattle.fm_close.specs.Does.{IsBack, AreBacks, DoesShut}
 use Rattle.fm_close.specs.Learnt.{CanWalk, AfterShut, AfterVisit, Walked, AfterSweep, AfterClose}
 use Rattle.fm_close.proofs.Closes.{dropped-visited, dropped-begun}
 
@@ -98,9 +99,22 @@ walk_goes_on v w a goes_on = record { can = walks_on v a goes_on; onward = λ r 
 
 -- ---- the close
 
+-- Pages that are taken back are no matter to who sees no loans.
+but_backs : (c : Caller) (es : List Entry) → AreBacks c es → but_loans es ≡ []
+but_backs c [] backs = refl
+but_backs c (e ∷ es) backs =
+    ap (λ (x : Entry). but_loans (x ∷ es)) (All-head (IsBack c) e es backs).1 ∙ but_backs c es (All-tail (IsBack c) e es backs)
+
+-- A close is its Shut and its End then.
+pub ends_so : (c : Caller) (a : ArenaId) (by : Caller) (es : List Entry) → AreBacks by es
+    → but_loans (entry_of c (Shut a) Fine ∷ entry_of c (End a) Fine ∷ es) ≡ entry_of c (Shut a) Fine ∷ entry_of c (End a) Fine ∷ []
+ends_so c a by es backs = ap (λ (xs : List Entry). entry_of c (Shut a) Fine ∷ entry_of c (End a) Fine ∷ xs) (but_backs by es backs)
+
 -- A walk and a sweep: all that the walk added to what the pass has is gone
 pub record Finished (pool : Pool) (old new : View) (id : ArenaId) : Type 0 where
-  pub goes : Goes old new (entry_of old.caller (End id) Fine ∷ entry_of old.caller (Back id.slot) Fine ∷ [])
+  pub backs : List Entry
+  pub are : AreBacks old.caller backs
+  pub goes : Goes old new (entry_of old.caller (End id) Fine ∷ backs)
   pub rest : rest_of new ≡ record (rest_of old) { closes = dropped id old.closes }
   pub over : HasEnded new id
   pub no_words : HasNoWords new id
@@ -112,14 +126,13 @@ finished {p = p} {q = q} {r = r} {s = s} {t = t} a is none w z =
     let same : t.arena ≡ a = w.arena ∙ is in
     let d = z.did in
     let ends : Goes p q (entry_of p.caller (End a) Fine ∷ []) = subst (λ (i : ArenaId). Goes p q (entry_of p.caller (End i) Fine ∷ [])) is w.goes in
-    let back : Goes q r (entry_of p.caller (Back a.slot) Fine ∷ []) = subst
-    (λ (x : Caller × ArenaId). Goes q r (entry_of x.0 (Back x.1.slot) Fine ∷ [])) (λ j. (ends.same_caller j, same j)) (subst
-    (λ (es : List Entry). Goes q r es) d.does d.goes) in
     let left : dropped t.arena q.sweeps ≡ p.sweeps =
     ap (dropped t.arena) (w.sweeps ∙ (λ j. close_of (sym w.arena j) 0 ∷ p.sweeps)) ∙ dropped-begun p.sweeps t.arena in
     let hand : q.hand ≡ p.hand = w.ends.outside.no_slot ∙ sym none in
     record {
-      goes = goes_then ends back;
+      backs = d.own;
+      are = subst (λ (c : Caller). AreBacks c d.own) ends.same_caller d.does;
+      goes = goes_then ends d.goes;
       rest = d.rest ∙ (ap (λ (x : Rest). record x { slots = slots_told (dropped t.arena q.sweeps) q.hand }) w.rest
           ∙ (λ j. record (rest_of p) { closes = dropped (is j) p.closes; slots = slots_told (left j) (hand j) }));
       over = subst (HasEnded r) same z.ended;
@@ -134,16 +147,15 @@ after_walk {p = p} {q = q} {r = r} {a = a} {s = s} u h w =
     let does = h.did.does in
     let arena : s.arena ≡ a = ap (λ (x : Shutting). x.arena) does.2 in
     let g : Goes p q (entry_of p.caller (Shut a) Fine ∷ []) = subst (λ (es : List Entry). Goes p q es) does.3 h.did.goes in
-    let end : Goes q r (entry_of p.caller (End a) Fine ∷ entry_of p.caller (Back a.slot) Fine ∷ []) = subst
-    (λ (x : Caller × ArenaId). Goes q r (entry_of x.0 (End x.1) Fine ∷ entry_of x.0 (Back x.1.slot) Fine ∷ []))
-    (λ j. (g.same_caller j, arena j)) w.goes in
+    let end : Goes q r (entry_of p.caller (End a) Fine ∷ w.backs) =
+    subst (λ (x : Caller × ArenaId). Goes q r (entry_of x.0 (End x.1) Fine ∷ w.backs)) (λ j. (g.same_caller j, arena j)) w.goes in
     let closes : q.closes ≡ close_of a 0 ∷ p.closes = ap (λ (x : Rest). x.closes) h.did.rest in
     let left : dropped s.arena q.closes ≡ p.closes = ap (λ (i : ArenaId). dropped i q.closes) arena ∙ (ap (dropped a) closes ∙ dropped-begun p.closes a) in
     let all = goes_then g end in
     record {
       did = record {
-        own = entry_of p.caller (Shut a) Fine ∷ entry_of p.caller (End a) Fine ∷ entry_of p.caller (Back a.slot) Fine ∷ [];
-        does = (does.0, does.1, refl);
+        own = entry_of p.caller (Shut a) Fine ∷ entry_of p.caller (End a) Fine ∷ w.backs;
+        does = (does.0, does.1, ends_so p.caller a q.caller w.backs w.are);
         goes = all;
         rest = w.rest ∙ (ap (λ (x : Rest). record x { closes = dropped s.arena q.closes }) h.did.rest
             ∙ ap (λ (xs : List Close). record (rest_of p) { closes = xs }) left);

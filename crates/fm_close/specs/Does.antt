@@ -1,5 +1,5 @@
 -- What shutting, one visit and the return of a handle do: the caller's own entries and the answer.
-use Rattle.std.specs.Prelude.{◌≡◌, ℕ, ◌+◌, ◌<◌, Bool, true, false, List, [], ◌∷◌, Option, Some, None, Result, Ok, Err}
+use Rattle.std.specs.Prelude.{◌≡◌, ℕ, ◌+◌, ◌<◌, Bool, true, false, List, [], ◌∷◌, All, Option, Some, None, Result, Ok, Err}
 use Rattle.fm_base.specs.declared.caller.Caller.{Caller}
 use Rattle.fm_base.specs.declared.arena_id.ArenaId.{ArenaId}
 use Rattle.fm_base.specs.declared.refusal.Refusal.{Refusal}
@@ -48,6 +48,14 @@ abbrev pub DoesVisit : Caller → ArenaId → Visit → List Entry → Type 0
 DoesVisit c id Next own = own ≡ []
 DoesVisit c id (Inside k) own = own ≡ []
 DoesVisit c id Ended own = own ≡ entry_of c (machine.End id) machine.Fine ∷ []
+
+-- the entry takes back a page that was lent
+abbrev pub IsBack : Caller → Entry → Type 0
+IsBack c e = (page : ℕ) × (e ≡ entry_of c (machine.Back page) machine.Fine)
+
+-- so does each of them
+abbrev pub AreBacks : Caller → List Entry → Type 0
+AreBacks c own = All (IsBack c) own
 
 -- a handle is spent: others are left, or it was the last and the close of the arena is begun
 abbrev pub DoesSpend : Made → ArenaId → Option Shutting → List Entry → Type 0

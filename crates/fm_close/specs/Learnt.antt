@@ -4,7 +4,7 @@ use Rattle.fm_base.specs.declared.arena_id.ArenaId.{ArenaId}
 use Rattle.fm_base.specs.declared.kind.Kind.{Kind}
 use Rattle.fm_base.specs.declared.refusal.Refusal.{Refusal}
 use Rattle.fm_base.specs.declared.refusal.Refusal.TheVariants.{WrongThread, CannotClose}
-use Rattle.fm_base.specs.Calls.{End, Back, Fine, Entry, entry_of}
+use Rattle.fm_base.specs.Calls.{End, Fine, Entry, entry_of}
 use Rattle.fm_base.specs.Does.{DoesClose, DoesGiveBack}
 use Rattle.fm_base.specs.Finds.{Close, Find, Visits}
 use Rattle.fm_base.specs.View.{but_loans}
@@ -23,7 +23,7 @@ use Rattle.fm_close.specs.declared.gave_back.GaveBack.TheVariants as gave
 use Rattle.fm_close.specs.declared.shutting.Shutting.{Shutting}
 use Rattle.fm_close.specs.declared.outcome.Visit.{Visit}
 use Rattle.fm_close.specs.declared.outcome.Visit.TheVariants.{Next, Inside, Ended}
-use Rattle.fm_close.specs.Does.{DoesShut, DoesVisit, visit_answer, after_visit, DoesSpend, others_left}
+use Rattle.fm_close.specs.Does.{AreBacks, DoesShut, DoesVisit, visit_answer, after_visit, DoesSpend, others_left}
 
 -- ---- what is asked for
 
@@ -125,10 +125,10 @@ pub record Walked (pool : Pool) (old new : View) (s t : Shutting) : Type 0 where
   pub ends : CanSweep pool new t
   pub over : HasEnded new s.arena
 
--- of `sweep`, whose own entry takes the words of the slot back: none are lent to the arena any more
+-- of `sweep`, whose own entries take back the pages of the arena: none is lent to it any more
 pub record AfterSweep (pool : Pool) (old new : View) (id : ArenaId) : Type 0 where
   pub did : KeptAs old new (record (rest_of old) { slots = slots_told (dropped id old.sweeps) old.hand })
-      (λ own. own ≡ entry_of old.caller (Back id.slot) Fine ∷ [])
+      (AreBacks old.caller)
   pub sweeps : new.sweeps ≡ dropped id old.sweeps
   pub ended : HasEnded new id
   pub no_words : HasNoWords new id
@@ -156,6 +156,7 @@ pub record AfterBack (old new : View) (id : ArenaId) (word : ℕ) : Type 0 where
   pub inside : new.inside ≡ old.inside
   pub mark : new.mark ≡ old.mark
   pub hand : new.hand ≡ old.hand
+  pub swept : new.swept ≡ old.swept
 
 -- the closes of a pass after a handle was spent
 abbrev pub closes_spent : ArenaId → Option Shutting → List Close → List Close

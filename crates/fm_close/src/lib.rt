@@ -2,7 +2,8 @@
 //!
 //! [`shut`] lets nobody in from now on. [`visit`] looks at one mark after another, from number 0: a pass that is inside
 //! has its mark set. So a number whose mark doesn't name the arena is done with for good, and the arena ends at the
-//! last one. [`sweep`] spends the close; [`close`] does all of it, and waits while a mark names the arena.
+//! last one. [`sweep`] spends the close: the words that were given become 0, the pages and the slot free. [`close`]
+//! does all of it, and waits while a mark names the arena.
 //!
 //! An automatic arena isn't shut by hand: [`give_back`] spends a handle of it, and the last one ends it in the same way.
 //!

@@ -1,18 +1,23 @@
 -- Acts inside an arena, and leaving it.
-use Rattle.std.proofs.Common.{◌≡◌, ℕ, refl, sym, ◌∙◌, subst, Option, Some, None}
+use Rattle.std.proofs.Common.{◌≡◌, ℕ, ◌/◌, ◌%◌, ◌<◌, List, [], refl, ap, sym, ◌∙◌, subst, ⊎_elim, Option, Some, None, inl}
 use Rattle.fm_base.specs.declared.caller.Caller.{Caller}
 use Rattle.fm_base.specs.declared.arena_id.ArenaId.{ArenaId}
-use Rattle.fm_base.specs.Calls.{Call, Leave, Reply, Fine}
+use Rattle.fm_base.specs.Calls.{Call, Leave, Reply, Fine, Entry}
 use Rattle.fm_base.specs.View.{inside_after, inside_next}
 use Rattle.fm_base.specs.Does.{DoesAct}
-use Rattle.fm_pool_facts.specs.Views.{View}
-use Rattle.fm_pool_facts.specs.Steps.{Stepped, none_noted, acted}
+use Rattle.fm_words.specs.declared.shape.Shape.{Shape}
+use Rattle.fm_words.specs.Places.{at, page_word}
+use Rattle.fm_pool_facts.specs.Parts.{Mapping, mapping_of}
+use Rattle.fm_pool_facts.specs.Views.{View, In}
+use Rattle.fm_pool_facts.specs.Steps.{Stepped, CanReach as HasGiven, HasPlace, none_noted, acted}
 use Rattle.fm_rule.specs.declared.pool.Pool.{Pool}
-use Rattle.fm_calls.specs.Kept.{Goes}
-use Rattle.fm_calls.proofs.Going.{goes_of, made_by-acted, no_draws, rest_is, hand_is, inside_is, mark_is, lasts_on}
+use Rattle.fm_rule.specs.Passes.{IsOf}
+use Rattle.fm_calls.specs.Kept.{Goes, rest_of}
+use Rattle.fm_calls.proofs.Going.{goes_of, goes_then, made_by-acted, no_draws, rest_is, hand_is, inside_is, mark_is, lasts_on}
+use Rattle.fm_pages.specs.Places.{CanFind, Placed}
 use Rattle.fm_gate.specs.Standing.{CanReach, CanLeave}
 use Rattle.fm_gate.specs.Learnt.{AfterAct, AfterLeave}
-use Rattle.fm_gate.proofs.Standing.{stands_outside, stands_inside}
+use Rattle.fm_gate.proofs.Standing.{swept_is, stands_outside, stands_inside}
 
 -- The call neither comes into an arena nor leaves one
 pub record IsAct (f : ArenaId → Call) (reply : Reply) : Type 0 where
@@ -27,18 +32,77 @@ does_act i id c f reply e = subst (λ (x : Option ArenaId). DoesAct x c f reply 
 
 -- ---- an act
 
-module _ {p q : View} {f : ArenaId → Call} {reply : Reply} (is : IsAct f reply) (s : Stepped p q p (acted p.inside p.caller f reply) none_noted) where
+-- The pass has come from p to m without entries, and has read no more than map words: where it goes from there it goes from p
+pub record Found (p m : View) : Type 0 where
+  pub onward : (q : View) (own : List Entry) → Goes m q own → Goes p q own
+  pub is : m ≡ record p { seen = m.seen; finds = m.finds; reads = m.reads }
+
+-- It has made no step.
+pub found_here : {p m : View} → m ≡ p → Found p m
+found_here {p = p} e = record {
+  onward = λ q own g. subst (λ (x : View). Goes x q own) e g;
+  is = e ∙ (λ j. record p {
+    seen = ap (λ (x : View). x.seen) (sym e) j;
+    finds = ap (λ (x : View). x.finds) (sym e) j;
+    reads = ap (λ (x : View). x.reads) (sym e) j;
+  });
+}
+
+-- It has read a map word.
+pub found_by : {p m : View} (reads : List Mapping) → Stepped p m (record p { reads = reads }) [] none_noted → Found p m
+found_by {p = p} {m = m} reads s =
+    let g : Goes p m [] = goes_of s (record {
+      shape = refl;
+      home = refl;
+      caller = refl;
+      gathered = refl;
+      whole = refl;
+      drawn = refl;
+      inside = refl;
+    }) refl no_draws in
+    record {
+      onward = λ q own h. goes_then g h;
+      is = s.is_part ∙ (λ j. record p {
+        seen = m.seen;
+        finds = ap (λ (x : View). x.finds) (sym s.is_part) j;
+        reads = ap (λ (x : View). x.reads) (sym s.is_part) j;
+      });
+    }
+
+-- Where a word was found.
+pub found_word : {p m : View} {word place : ℕ} → Placed p m word place → Found p m
+found_word {p = p} {m = m} at = ⊎_elim
+    (λ (e : m ≡ p). found_here e)
+    (λ (s : (reads : List Mapping) × Stepped p m (record p { reads = reads }) [] none_noted). found_by s.0 s.1)
+    at.by
+
+-- A word that can be reached can be found,
+pub can_find : {pool : Pool} {p : View} {word : ℕ} → CanReach pool p word → CanFind p word
+can_find r = record { id = r.id; inside = r.inside.inside; part = inl r.given }
+
+-- and be reached where it was found.
+pub found_reach : {pool : Pool} {p m : View} {word place : ℕ} → CanReach pool p word → Placed p m word place → HasGiven m word
+found_reach r at = at.reach (record { id = r.id; inside = r.inside.inside; given = r.given })
+
+-- It is still one of its pool.
+pub found_of : (pool : Pool) {p m : View} → Found p m → IsOf pool p → IsOf pool m
+found_of pool w of = subst (λ (x : View). IsOf pool x) (sym w.is) of
+
+module _ {p m q : View} {f : ArenaId → Call} {reply : Reply} (is : IsAct f reply) (w : Found p m)
+    (s : Stepped m q m (acted m.inside m.caller f reply) none_noted) where
   pub act_goes : Goes p q (acted p.inside p.caller f reply)
-  act_goes = goes_of s (record {
-    shape = refl;
-    home = refl;
-    caller = refl;
-    gathered = refl;
-    whole = refl;
-    drawn = refl;
-    inside = inside_acted p.inside p.caller f reply is;
-  })
-      (made_by-acted p.inside p.caller f reply) no_draws
+  act_goes =
+      let g : Goes m q (acted m.inside m.caller f reply) = goes_of s (record {
+        shape = refl;
+        home = refl;
+        caller = refl;
+        gathered = refl;
+        whole = refl;
+        drawn = refl;
+        inside = inside_acted m.inside m.caller f reply is;
+      })
+      (made_by-acted m.inside m.caller f reply) no_draws in
+      subst (λ (x : View). Goes p q (acted x.inside x.caller f reply)) w.is (w.onward q (acted m.inside m.caller f reply) g)
 
   -- What is learnt of one act.
   pub after_act : {pool : Pool} {word : ℕ} → CanReach pool p word → AfterAct pool p q f reply
@@ -47,11 +111,24 @@ module _ {p q : View} {f : ArenaId → Call} {reply : Reply} (is : IsAct f reply
       own = acted p.inside p.caller f reply;
       does = does_act p.inside can.id p.caller f reply can.inside.inside;
       goes = act_goes;
-      rest = rest_is s;
+      rest = rest_is s ∙ ap rest_of w.is;
     };
-    inside = λ id now. stands_inside act_goes now.of now.no_number (hand_is s ∙ now.no_slot) (inside_is s ∙ now.inside);
+    inside = λ id now. stands_inside act_goes now.of now.no_number (hand_is s ∙ (ap (λ (x : View). x.hand) w.is ∙ now.no_slot))
+        (swept_is s ∙ (ap (λ (x : View). x.swept) w.is ∙ now.no_part)) (inside_is s ∙ (ap (λ (x : View). x.inside) w.is ∙ now.inside));
     lasts = lasts_on act_goes;
   }
+
+  -- A place that was found stands.
+  pub place_on : {word place : ℕ} → HasPlace m word place → HasPlace q word place
+  place_on {word = word} h =
+      let shape : m.shape ≡ q.shape = ap (λ (x : View). x.shape) (sym s.is_part) in
+      let reads : m.reads ≡ q.reads = ap (λ (x : View). x.reads) (sym s.is_part) in
+      record {
+        page = h.page;
+        low = subst (λ (z : Shape). h.page < z.pages) shape h.low;
+        read = subst (λ (x : Shape × List Mapping). In (mapping_of (word / x.0.page_words) h.page) x.1) (λ j. (shape j, reads j)) h.read;
+        is = h.is ∙ ap (λ (z : Shape). at z (page_word h.page (word % z.page_words))) shape;
+      }
 
 -- ---- leaving
 
@@ -82,6 +159,7 @@ module _ {p q : View} (s : Stepped p q (record p { inside = None; mark = None })
       goes = unmark_goes;
       rest = rest_is s;
     };
-    outside = stands_outside unmark_goes can.inside.of can.inside.no_number (hand_is s ∙ can.inside.no_slot) (inside_is s) (mark_is s);
+    outside = stands_outside unmark_goes can.inside.of can.inside.no_number (hand_is s ∙ can.inside.no_slot) (swept_is s ∙ can.inside.no_part)
+        (inside_is s) (mark_is s);
     lasts = lasts_on unmark_goes;
   }

@@ -12,20 +12,20 @@ use Rattle.fm_base.specs.declared.caller.Caller.{Caller}
 use Rattle.fm_base.specs.declared.arena_id.ArenaId.{ArenaId}
 use Rattle.fm_base.specs.declared.kind.Kind.{Kind}
 use Rattle.fm_base.specs.Arenas.{owner_of}
-use Rattle.fm_base.specs.Calls.{Entry}
-use Rattle.fm_base.specs.Histories.{made_by, state_after}
+use Rattle.fm_base.specs.Calls.{Entry, Open, Fine, entry_of}
+use Rattle.fm_base.specs.Histories.{state_after}
 use Rattle.fm_base.specs.Finds.{Find, FindsMore, TakesSlot, is_draw}
 use Rattle.fm_base.proofs.Making.{FindsMore-none}
 use Rattle.fm_pool_facts.specs.Hands.{Hand, nothing, taken, learnt, takes, hand_taken}
 use Rattle.fm_pool_facts.specs.Views.{View, IsBusy, IsBusyIn, limit_of}
 use Rattle.fm_pool_facts.specs.Holds.{handles_with}
-use Rattle.fm_pool_facts.specs.Steps.{Stepped, none_noted, note_of, is_clear, open_entries}
+use Rattle.fm_pool_facts.specs.Steps.{Stepped, none_noted, note_of, is_clear}
 use Rattle.fm_pool_facts.specs.Moves.{LearnsSlots}
 use Rattle.fm_pool_steps.proofs.Reading.{eqb_true}
 use Rattle.fm_rule.specs.declared.pool.Pool.{Pool}
 use Rattle.fm_rule.specs.Passes.{IsOf}
 use Rattle.fm_calls.specs.Kept.{Goes}
-use Rattle.fm_calls.proofs.Going.{NoDraws, IsOn, goes_of, goes_then, no_draws}
+use Rattle.fm_calls.proofs.Going.{NoDraws, IsOn, goes_of, goes_then, no_draws, made_by-one}
 use Rattle.fm_gate.specs.Slots.{Went, SlotTaken, NoneTaken, OpenedIn}
 
 -- ---- the exchanges
@@ -163,9 +163,6 @@ module _ {pool : Pool} {o p q : View} (word bit found : ℕ) (b : Bidding pool o
 
 -- ---- opening
 
-both_mine : (a : ArenaId) (c : Caller) → made_by c (open_entries a c) ≡ open_entries a c
-both_mine a c = rw (eq-eqb c.number c.number refl, eq-eqb c.term c.term refl) refl
-
 -- The generation of a session word is above its low 32 bits.
 pub generation_is : (s : Session) (word : ℕ) → s ≡ session_of word → word / 2 ^ 32 ≡ s.generation
 unfolding session_of
@@ -173,11 +170,11 @@ generation_is s word e = sym (ap (λ (x : Session). x.generation) e)
 
 -- The generation was learnt, and the arena opened.
 pub opened_in : {p m q : View} {kind : Kind} {a : ArenaId} (slot generation : ℕ) → Stepped p m (record p { hand = learnt slot generation }) [] none_noted
-    → Stepped m q (record m { hand = nothing; handles = handles_with a m.handles }) (open_entries a m.caller) none_noted
+    → Stepped m q (record m { hand = nothing; handles = handles_with a m.handles }) (entry_of m.caller (Open a) Fine ∷ []) none_noted
     → a.kind ≡ kind → owner_of a ≡ m.caller → OpenedIn p q slot kind a
 opened_in {p = p} {m = m} {q = q} {kind = kind} {a = a} slot generation learns opens k o =
     let g : Goes p m [] = goes_of learns (hand_on p (learnt slot generation)) refl no_draws in
-    let h : Goes m q (open_entries a m.caller) = goes_of opens (record {
+    let h : Goes m q (entry_of m.caller (Open a) Fine ∷ []) = goes_of opens (record {
       shape = refl;
       home = refl;
       caller = refl;
@@ -185,10 +182,10 @@ opened_in {p = p} {m = m} {q = q} {kind = kind} {a = a} slot generation learns o
       whole = refl;
       drawn = refl;
       inside = refl;
-    }) (both_mine a m.caller) no_draws in
+    }) (made_by-one m.caller (Open a) Fine) no_draws in
     let c : m.caller ≡ p.caller = g.same_caller in
     record {
-      goes = goes_then g (subst (λ (x : Caller). Goes m q (open_entries a x)) c h);
+      goes = goes_then g (subst (λ (x : Caller). Goes m q (entry_of x (Open a) Fine ∷ [])) c h);
       is = opens.is_part ∙ ((λ j. record m {
         seen = q.seen;
         finds = ap (λ (x : View). x.finds) (sym opens.is_part) j;

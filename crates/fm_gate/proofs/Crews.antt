@@ -20,6 +20,7 @@ record Stays (p q : View) : Type 0 where
   pub inside : q.inside ≡ p.inside
   pub mark : q.mark ≡ p.mark
   pub hand : q.hand ≡ p.hand
+  pub swept : q.swept ≡ p.swept
   pub drawn : p.drawn ≡ None → q.drawn ≡ None
   pub holds : q.holds ≡ p.holds
   pub handles : q.handles ≡ p.handles
@@ -40,8 +41,15 @@ stands_by {pool = pool} {p = p} {q = q} more seen sound s =
         unmarked = s.mark ∙ o.unmarked;
         no_number = s.drawn o.no_number;
         no_slot = s.hand ∙ o.no_slot;
+        no_part = s.swept ∙ o.no_part;
       };
-      inside = λ a i. record { of = of i.of; inside = s.inside ∙ i.inside; no_number = s.drawn i.no_number; no_slot = s.hand ∙ i.no_slot };
+      inside = λ a i. record {
+        of = of i.of;
+        inside = s.inside ∙ i.inside;
+        no_number = s.drawn i.no_number;
+        no_slot = s.hand ∙ i.no_slot;
+        no_part = s.swept ∙ i.no_part;
+      };
       held = λ h can. record {
         of = of can.of;
         maker = can.maker ∙ (λ j. record { home = sym s.home j; caller = sym s.caller j });
@@ -73,6 +81,7 @@ asked_stands a sound = stands_by a.more a.seen sound (record {
   inside = ap (λ (x : View). x.inside) a.is;
   mark = ap (λ (x : View). x.mark) a.is;
   hand = ap (λ (x : View). x.hand) a.is;
+  swept = ap (λ (x : View). x.swept) a.is;
   drawn = λ e. ap (λ (x : View). x.drawn) a.is;
   holds = ap (λ (x : View). x.holds) a.is;
   handles = ap (λ (x : View). x.handles) a.is;
@@ -101,6 +110,7 @@ at_draw pool p q d of h =
         unmarked = ap (λ (x : View). x.mark) h.is;
         no_number = ap (λ (x : View). x.drawn) h.is;
         no_slot = ap (λ (x : View). x.hand) h.is;
+        no_part = ap (λ (x : View). x.swept) h.is;
       };
       nothing = record {
         no_hold = ap (λ (x : View). x.holds) h.is;
@@ -123,6 +133,7 @@ gathers_stand g = stands_by g.more g.seen g.sound (record {
   inside = ap (λ (x : View). x.inside) g.is;
   mark = ap (λ (x : View). x.mark) g.is;
   hand = ap (λ (x : View). x.hand) g.is;
+  swept = ap (λ (x : View). x.swept) g.is;
   drawn = λ e. ap (λ (x : View). x.drawn) g.is ∙ e;
   holds = ap (λ (x : View). x.holds) g.is;
   handles = ap (λ (x : View). x.handles) g.is;
@@ -144,6 +155,7 @@ at_meeting pool p q s = stands_by s.others (s.seen ∙ append-nil (p.seen ++ s.o
   inside = ap (λ (x : View). x.inside) s.is_part;
   mark = ap (λ (x : View). x.mark) s.is_part;
   hand = ap (λ (x : View). x.hand) s.is_part;
+  swept = ap (λ (x : View). x.swept) s.is_part;
   drawn = λ e. ap (λ (x : View). x.drawn) s.is_part ∙ e;
   holds = ap (λ (x : View). x.holds) s.is_part;
   handles = ap (λ (x : View). x.handles) s.is_part;

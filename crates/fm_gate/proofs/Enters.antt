@@ -8,6 +8,7 @@ use Rattle.fm_base.specs.Arenas.{MayUse}
 use Rattle.fm_base.specs.Calls.{Enter, Leave, Fine, Closed, entry_of}
 use Rattle.fm_base.specs.Histories.{made_by}
 use Rattle.fm_base.specs.View.{inside_after}
+use Rattle.fm_pool_facts.specs.Parts.{unread}
 use Rattle.fm_pool_facts.specs.Views.{View, IsSound}
 use Rattle.fm_pool_facts.specs.Words.{alive_holds, enter_found, inside_found}
 use Rattle.fm_pool_facts.specs.Steps.{Stepped, none_noted, acted}
@@ -16,7 +17,7 @@ use Rattle.fm_calls.specs.Kept.{Goes, rest_of}
 use Rattle.fm_calls.proofs.Going.{IsOn, goes_of, goes_then, goes_none, kept_none, made_by-one, no_draws, rest_is, hand_is, inside_is, mark_is, lasts_on}
 use Rattle.fm_gate.specs.Standing.{CanVisit}
 use Rattle.fm_gate.specs.Learnt.{AfterEnter}
-use Rattle.fm_gate.proofs.Standing.{stands_outside, stands_inside}
+use Rattle.fm_gate.proofs.Standing.{swept_is, stands_outside, stands_inside}
 use Rattle.fm_gate.proofs.Acts.{unmark_goes}
 use Rattle.fm_gate.proofs.Living.{not_held}
 
@@ -46,13 +47,16 @@ mark_goes s = goes_of s (record {
 
 module _ {pool : Pool} {p q r : View} {a : ArenaId} (word : ℕ) (can : CanVisit pool p a) (may : MayUse a p.caller)
     (marks : Stepped p q (record p { mark = Some a }) [] none_noted)
-    (checks : Stepped q r (record q { inside = inside_found a (alive_holds a word) }) (entry_of q.caller (Enter a) (enter_found
+    (checks : Stepped q r (record q { inside = inside_found a (alive_holds a word); reads = [] }) (entry_of q.caller (Enter a) (enter_found
     (alive_holds a word)) ∷ []) none_noted) where
   marked : Goes p q []
   marked = mark_goes marks
 
   same_rest : rest_of r ≡ rest_of p
   same_rest = rest_is checks ∙ rest_is marks
+
+  unswept : r.swept ≡ unread
+  unswept = swept_is checks ∙ (swept_is marks ∙ can.outside.no_part)
 
   -- The word that was found decides what Enter answers.
   checked : (found : Option ℕ) → alive_holds a word ≡ found
@@ -61,12 +65,13 @@ module _ {pool : Pool} {p q r : View} {a : ArenaId} (word : ℕ) (can : CanVisit
   checked found e i =
       let own = entry_of p.caller (Enter a) (enter_found found) ∷ [] in
       let n = marked.same_caller in
-      let s : Stepped q r (record q { inside = inside_found a found }) own none_noted =
-      subst (λ (x : Option ℕ). Stepped q r (record q { inside = inside_found a x }) (entry_of p.caller (Enter a) (enter_found x) ∷ []) none_noted) e
+      let s : Stepped q r (record q { inside = inside_found a found; reads = [] }) own none_noted =
+      subst (λ (x : Option ℕ). Stepped q r (record q { inside = inside_found a x; reads = [] }) (entry_of p.caller (Enter a) (enter_found x) ∷ []) none_noted) e
       (subst (λ (c : Caller). Stepped q r
-      (record q { inside = inside_found a (alive_holds a word) }) (entry_of c (Enter a) (enter_found (alive_holds a word)) ∷ []) none_noted) n checks) in
+      (record q { inside = inside_found a (alive_holds a word); reads = [] }) (entry_of c (Enter a) (enter_found (alive_holds a word)) ∷ []) none_noted)
+      n checks) in
       let out = ap (λ x. inside_after x own) (sym (marked.inside ∙ can.outside.outside)) in
-      let on : IsOn q (record q { inside = inside_found a found }) own = record {
+      let on : IsOn q (record q { inside = inside_found a found; reads = [] }) own = record {
         shape = refl;
         home = refl;
         caller = refl;
@@ -83,7 +88,7 @@ module _ {pool : Pool} {p q r : View} {a : ArenaId} (word : ℕ) (can : CanVisit
       let g = checked (Some holds) e refl in
       record {
         did = record { own = entry_of p.caller (Enter a) Fine ∷ []; does = (may, refl); goes = g; rest = same_rest };
-        inside = stands_inside g can.outside.of can.outside.no_number (hand_is checks ∙ (hand_is marks ∙ can.outside.no_slot))
+        inside = stands_inside g can.outside.of can.outside.no_number (hand_is checks ∙ (hand_is marks ∙ can.outside.no_slot)) unswept
             (inside_is checks ∙ ap (inside_found a) e);
         outside = tt;
         held = λ i e. absurd (cc);
@@ -112,7 +117,7 @@ module _ {pool : Pool} {p q r : View} {a : ArenaId} (word : ℕ) (can : CanVisit
       inside = tt;
       held = λ i e. not_held p.caller a refused (rest_is unmarks ∙ same_rest) i;
       outside = stands_outside refused can.outside.of can.outside.no_number
-          (hand_is unmarks ∙ (hand_is checks ∙ (hand_is marks ∙ can.outside.no_slot))) (inside_is unmarks) (mark_is unmarks);
+          (hand_is unmarks ∙ (hand_is checks ∙ (hand_is marks ∙ can.outside.no_slot))) (swept_is unmarks ∙ unswept) (inside_is unmarks) (mark_is unmarks);
       wrong_thread = λ e. absurd (cc);
       lasts = lasts_on refused;
     }

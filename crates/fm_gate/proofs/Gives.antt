@@ -1,242 +1,183 @@
--- Allocations.
-use Rattle.std.proofs.Common.{◌≡◌, ◌≢◌, ℕ, ◌+◌, ◌==◌, nat_le, Bool, true, false, if◌then◌else◌, List, [], ◌∷◌, ◌++◌, refl, ap, sym, ◌∙◌, subst, Option, Some, None, Result, Ok, Err, ◌⊎◌, inl, inr, eq-eqb, ne_eqb}
-use Rattle.std.specs.Prelude.{IfErr}
+-- Allocating inside an arena.
+use Rattle.std.proofs.Common.{◌≡◌, ◌≢◌, ℕ, ◌+◌, ◌*◌, ◌/◌, ◌<◌, ◌≤◌, ◌==◌, Bool, true, List, [], ◌∷◌, ◌++◌, refl, ap, sym, ◌∙◌, subst, All, ne_eqb, append_assoc}
+use Rattle.std.proofs.lemmas.List.{append-nil}
+use Rattle.std.proofs.lemmas.List.Elements.{All-append, All-head, All-nil, All-tail, All-weaker}
+use Rattle.fm_words.specs.declared.shape.Shape.{Shape}
 use Rattle.fm_base.specs.declared.caller.Caller.{Caller}
 use Rattle.fm_base.specs.declared.arena_id.ArenaId.{ArenaId}
-use Rattle.fm_base.specs.declared.refusal.Refusal.{Refusal}
-use Rattle.fm_base.specs.declared.refusal.Refusal.TheVariants as refusal
-use Rattle.fm_base.specs.Arenas.{MayUse}
-use Rattle.fm_base.specs.Calls.{Enter, Allocate, Leave, Reply, Fine, Given, NoRoom, Entry, entry_of}
-use Rattle.fm_base.specs.Does.{DoesAct, DoesEnter, DoesAllocate}
-use Rattle.fm_base.specs.Machine.{IsPower, rounded_up, allocate_reply}
-use Rattle.fm_base.specs.View.{but_loans}
-use Rattle.fm_base.proofs.Learning.{allocate_gives}
-use Rattle.fm_pool_facts.specs.Views.{View, IsSound, limit_of}
-use Rattle.fm_pool_facts.specs.Steps.{Stepped, none_noted, acted, where_found, room}
+use Rattle.fm_base.specs.Arenas.{State, arena_of}
+use Rattle.fm_base.specs.Calls.{Allocate, Fine, Lend, Reply, Entry, entry_of}
+use Rattle.fm_base.specs.Histories.{state_after}
+use Rattle.fm_base.specs.Machine.{after, allocate_reply, rounded_up}
+use Rattle.fm_base.proofs.Making.{state_after-append}
+use Rattle.fm_pool_facts.specs.Scarcity.{IsScarce}
+use Rattle.fm_pool_facts.specs.Steps.{Stepped, none_noted, acted, where_found}
+use Rattle.fm_pool_facts.specs.Views.{View, given_of, limit_of, state_in}
 use Rattle.fm_rule.specs.declared.pool.Pool.{Pool}
-use Rattle.fm_calls.specs.Kept.{Goes, rest_of, Kept}
-use Rattle.fm_calls.specs.Told.{view_of_pass}
-use Rattle.fm_calls.proofs.Going.{goes_of, goes_none, goes_then, kept_none, no_draws, rest_is, hand_is, inside_is, lasts_on}
-use Rattle.fm_calls.proofs.Telling.{did_of}
-use Rattle.fm_gate.specs.Standing.{IsInside, CanVisit}
-use Rattle.fm_gate.specs.Learnt.{AfterEnter, AfterLeave, DoesGive, AfterGive, AfterAllocate}
+use Rattle.fm_calls.specs.Kept.{Goes, rest_of}
+use Rattle.fm_pages.specs.Covers.{LendsIn}
+use Rattle.fm_pages.specs.Gives.{Tried, allocates}
+use Rattle.fm_pages.specs.Maps.{Way}
+use Rattle.fm_pages.proofs.Exact.{tried_exact}
+use Rattle.fm_pages.proofs.Gives.{way_allocate}
+use Rattle.fm_pages.proofs.Parts.{way_then, pages_way}
+use Rattle.fm_gate.specs.Giving.{CanTry, LendsTo}
+use Rattle.fm_gate.specs.Pages.{LendsInRange, given_after}
+use Rattle.fm_gate.specs.Standing.{IsInside}
+use Rattle.fm_gate.proofs.Scarce.{scarce_seen}
 use Rattle.fm_gate.proofs.Standing.{stands_inside}
-use Rattle.fm_gate.proofs.Acts.{act_goes}
 
--- ---- the exchanges
+-- The pass stays inside on such a way.
+pub inside_on : {pool : Pool} {p q : View} {a : ArenaId} {own : List Entry} {pages : List ℕ} → Way p q own pages → IsInside pool p a → IsInside pool q a
+inside_on w i = stands_inside w.goes i.of i.no_number (ap (λ (v : View). v.hand) w.is ∙ i.no_slot) (ap (λ (v : View). v.swept) w.is ∙ i.no_part)
+    (ap (λ (v : View). v.inside) w.is ∙ i.inside)
 
--- the pass has come from p to q by exchanges that found another count than they expected
-pub record Giving (pool : Pool) (p q : View) (a : ArenaId) : Type 0 where
-  pub goes : Goes p q []
-  pub rest : rest_of q ≡ rest_of p
-  pub inside : IsInside pool q a
+-- It has what it had.
+pub rest_on : {p q : View} {own : List Entry} → Way p q own [] → p.pages ≡ [] → rest_of q ≡ rest_of p
+rest_on {p = p} w none = ap rest_of w.is ∙ (λ j. record (rest_of p) { pages = sym none j })
 
-pub gives_begin : {pool : Pool} {p : View} {a : ArenaId} → IsInside pool p a → IsSound p → Giving pool p p a
-gives_begin i s = record { goes = goes_none s; rest = refl; inside = i }
+-- The pass lent pages to the arena, and then made an exchange at a count. Where another one was found, it is the arena's
+pub record Giving (pool : Pool) (o p : View) (a : ArenaId) (size align count found : ℕ) : Type 0 where
+  pub own : List Entry
+  pub are : All (LendsTo o.caller a) own
+  pub in_range : All (LendsInRange o p a size align) own
+  pub way : Way o p (own ++ allocates o a count size align found) []
+  pub inside : IsInside pool p a
+  pub learnt : found ≢ count → found ≡ given_of p a
+  -- a pass that is known to be whole finds another one at the first exchange alone, and gives bytes where pages aren't too few
+  pub first : o.whole ≡ true → found ≢ count → p.seen ≡ o.seen
+  pub exact : o.whole ≡ true → found ≡ count → ¬ (IsScarce o a size align)
+
+-- What is lent stays lent for the range.
+lends_on : {o p q : View} {a : ArenaId} {size align : ℕ} {e : Entry} {own : List Entry} → Goes p q own → LendsInRange o p a size align e
+    → LendsInRange o q a size align e
+lends_on w l = record {
+  page = l.page;
+  part = l.part;
+  is = l.is;
+  counted = l.counted;
+  count_stood = record {
+    since = l.count_stood.since;
+    until = (
+      l.count_stood.until.0 ++ w.more,
+      w.seen ∙ (ap (λ (es : List Entry). es ++ w.more) l.count_stood.until.1 ∙ append_assoc l.counted l.count_stood.until.0 w.more),
+    );
+  };
+  after = l.after;
+  before = l.before;
+}
+
+-- where another count was found nothing was given
+missed : (o : View) (a : ArenaId) (count size align found : ℕ) → found ≢ count → allocates o a count size align found ≡ []
+missed o a count size align found n =
+    let reply : Reply = allocate_reply (limit_of o.shape) count size align in
+    ap (λ (b : Bool). where_found b (entry_of o.caller (Allocate a size align) reply ∷ [])) (ne_eqb found count n)
 
 abbrev Exchanges : View → View → ℕ → ℕ → ℕ → ℕ → Type 0
-Exchanges p q given size align found =
+Exchanges p q count size align found =
     Stepped p q p
-    (where_found (found == given) (acted p.inside p.caller (λ b. Allocate b size align) (allocate_reply (limit_of p.shape) given size align))) none_noted
+    (where_found (found == count) (acted p.inside p.caller (λ b. Allocate b size align) (allocate_reply (limit_of p.shape) count size align))) none_noted
 
-module _ {p q : View} (given size align found : ℕ) (s : Exchanges p q given size align found) where
-  missed : found ≢ given → Goes p q []
-  missed n =
-      let e : Stepped p q p [] none_noted = subst
-      (λ (b : Bool). Stepped p q p (where_found b (acted p.inside p.caller (λ b. Allocate b size align) (allocate_reply (limit_of p.shape) given size align)))
-      none_noted) (ne_eqb found given n) s in
-      goes_of e (record { shape = refl; home = refl; caller = refl; gathered = refl; whole = refl; drawn = refl; inside = refl }) refl no_draws
+-- The first exchange.
+pub gives_begin : {pool : Pool} {o m p : View} (a : ArenaId) (size align count found : ℕ) → IsInside pool o a → CanTry o m size align count
+    → Exchanges m p count size align found → (found ≢ count → found ≡ given_of p a) → Giving pool o p a size align count found
+gives_begin {pool = pool} {o = o} {m = m} {p = p} a size align count found i c s l = record {
+  own = [];
+  are = All-nil (LendsTo o.caller a);
+  in_range = All-nil (LendsInRange o p a size align);
+  way = way;
+  inside = here;
+  learnt = l;
+  first = λ w n. way.goes.seen ∙ (ap (λ (es : List Entry). o.seen ++ es) (way.goes.alone w ∙ missed o a count size align found n) ∙ append-nil o.seen);
+  exact = tried_exact a count size align found [] (All-nil (LendsIn o a count (rounded_up count align + size))) way here.inside;
+}
+  where
+    same : ◌≡◌ {A = Shape × Caller} (m.shape, m.caller) (o.shape, o.caller)
+    same = λ j. (c.way.goes.same_shape j, c.way.goes.same_caller j)
 
-  hits : found ≡ given → (reply : Reply) → allocate_reply (limit_of p.shape) given size align ≡ reply
-      → Goes p q (acted p.inside p.caller (λ b. Allocate b size align) reply)
-  hits e reply is =
-      act_goes (record { stays = λ a. refl })
-      (subst (λ (x : Bool × Reply). Stepped p q p (where_found x.0 (acted p.inside p.caller (λ b. Allocate b size align) x.1)) none_noted)
-      (λ j. (eq-eqb found given e j, is j)) s)
+    way : Way o p (allocates o a count size align found) []
+    way = way_then c.way (subst (λ (x : Shape × Caller). Way m p (where_found (found == count) (entry_of x.1 (Allocate a size align)
+        (allocate_reply (limit_of x.0) count size align) ∷ [])) []) same
+        (way_allocate a count size align found (inside_on {pool = pool} c.way i).inside (pages_way c.way) s))
 
-  pub gives_go_on : {pool : Pool} {o : View} {a : ArenaId} → Giving pool o p a → found ≢ given → Giving pool o q a
-  gives_go_on g n =
-      let m = missed n in
-      record {
-        goes = goes_then g.goes m;
-        rest = rest_is s ∙ g.rest;
-        inside = stands_inside m g.inside.of g.inside.no_number (hand_is s ∙ g.inside.no_slot) (inside_is s ∙ g.inside.inside);
+    here : IsInside pool p a
+    here = inside_on way i
+
+-- Loans change no arena.
+still : (limit : ℕ) (c : Caller) (a : ArenaId) (s : State) (es : List Entry) → All (LendsTo c a) es → state_after limit s es ≡ s
+still limit c a s [] h = refl
+still limit c a s (e ∷ es) h =
+    let f = All-head (LendsTo c a) e es h in
+    let one : after limit s e ≡ s = ap (λ (k : Entry). after limit s k) f.2 in
+    ap (λ (t : State). state_after limit t es) one ∙ still limit c a s es (All-tail (LendsTo c a) e es h)
+
+pub lends_to : (v : View) (a : ArenaId) (from to : ℕ) (es : List Entry) → All (LendsIn v a from to) es → All (LendsTo v.caller a) es
+lends_to v a from to es h = All-weaker (LendsIn v a from to) (LendsTo v.caller a) (λ e l. (l.0, l.1, l.4)) es h
+
+module _ {pool : Pool} {o p : View} {a : ArenaId} {size align count found : ℕ} (g : Giving pool o p a size align count found) (n : found ≢ count) where
+  -- the way so far
+  pub lent_way : Way o p g.own []
+  lent_way = subst (λ (es : List Entry). Way o p es []) (ap (λ (es : List Entry). g.own ++ es) (missed o a count size align found n) ∙ append-nil g.own) g.way
+
+  -- what is lent after it is lent by the same caller
+  pub more_lent : (es : List Entry) → All (LendsTo p.caller a) es → All (LendsTo o.caller a) (g.own ++ es)
+  more_lent es h = All-append (LendsTo o.caller a) g.own es g.are (subst (λ (c : Caller). All (LendsTo c a) es) g.way.goes.same_caller h)
+
+  -- the count that the next try expects stood before it
+  pub count_is : given_after o p.seen a ≡ found
+  count_is = (λ j. (arena_of (state_after (limit_of (sym lent_way.goes.same_shape j)) [] p.seen) a).given) ∙ sym (g.learnt n)
+
+  abbrev pub to : ℕ
+  to = rounded_up found align + size
+
+  -- What that try lends is lent for the range too.
+  pub lends_for : {q : View} {es : List Entry} → Goes p q es → (xs : List Entry) → All (LendsIn p a found to) xs
+      → All (LendsInRange o q a size align) (g.own ++ xs)
+  lends_for {q = q} w xs h =
+      All-append (LendsInRange o q a size align) g.own xs (All-weaker (LendsInRange o p a size align) (LendsInRange o q a size align) (λ e l. lends_on w l)
+      g.own g.in_range) (All-weaker (LendsIn p a found to) (LendsInRange o q a size align) lends_now xs h)
+    where
+      same : ◌≡◌ {A = Shape × ℕ} (p.shape, found) (o.shape, given_after o p.seen a)
+      same = λ j. (lent_way.goes.same_shape j, sym count_is j)
+
+      lends_now : (e : Entry) → LendsIn p a found to e → LendsInRange o q a size align e
+      lends_now e l = record {
+        page = l.0;
+        part = l.1;
+        is = l.4 ∙ ap (λ (c : Caller). entry_of c (Lend l.0 a l.1) Fine) lent_way.goes.same_caller;
+        counted = p.seen;
+        count_stood = record { since = (lent_way.goes.more, lent_way.goes.seen); until = (w.more, w.seen) };
+        after = subst (λ (x : Shape × ℕ). x.1 / (x.0.page_words * 8) ≤ l.1) same l.2;
+        before = subst (λ (x : Shape × ℕ). l.1 * (x.0.page_words * 8) < rounded_up x.1 align + size) same l.3;
       }
 
-  -- the call was answered so
-  ended : {pool : Pool} {o : View} {a : ArenaId} → Giving pool o p a → found ≡ given → (reply : Reply)
-      → allocate_reply (limit_of p.shape) given size align ≡ reply → (result : Result ℕ Refusal)
-      → DoesGive o.caller a size align result (entry_of o.caller (Allocate a size align) reply ∷ []) → AfterGive pool o q a size align result
-  ended {o = o} {a = a} g e reply is result does =
-      let own : Goes p q (entry_of o.caller (Allocate a size align) reply ∷ []) = subst
-      (λ (x : Option ArenaId × Caller). Goes p q (acted x.0 x.1 (λ b. Allocate b size align) reply)) (λ j. (g.inside.inside j, g.goes.same_caller j))
-      (hits e reply is) in
-      record {
-        did = record {
-          own = entry_of o.caller (Allocate a size align) reply ∷ [];
-          does = does;
-          goes = goes_then g.goes own;
-          rest = rest_is s ∙ g.rest;
-        };
-        inside = stands_inside own g.inside.of g.inside.no_number (hand_is s ∙ g.inside.no_slot) (inside_is s ∙ g.inside.inside);
-      }
+  module _ {q : View} {now : ℕ} (t : Tried p q a found size align now) where
+    -- a pass that is known to be whole finds the count that it has learnt
+    found_still : o.whole ≡ true → now ≢ found → ⊥
+    found_still whole other =
+        let w = t.way.goes in
+        let limit : ℕ = limit_of p.shape in
+        let alone : w.more ≡ t.lends =
+        w.alone (g.way.goes.same_whole ∙ whole) ∙ (ap (λ (es : List Entry). t.lends ++ es) (missed p a found size align now other) ∙ append-nil t.lends) in
+        let state : state_in q ≡ state_in p =
+        (λ j. state_after (limit_of (w.same_shape j)) [] ((w.seen ∙ ap (λ (es : List Entry). p.seen ++ es) alone) j))
+        ∙ (state_after-append limit [] p.seen t.lends ∙ still limit p.caller a (state_in p) t.lends (lends_to p a found to t.lends t.are)) in
+        other (t.learnt other ∙ (ap (λ (s : State). (arena_of s a).given) state ∙ sym (g.learnt n)))
 
-given_reply : (limit given size align place : ℕ) → Some place ≡ room limit given size align → allocate_reply limit given size align ≡ Given place
-given_reply limit given size align place = go (nat_le (rounded_up given align + size) limit)
-  where
-    go : (b : Bool) → Some place ≡ (if b then Some (rounded_up given align) else None)
-        → (if b then Given (rounded_up given align) else NoRoom given) ≡ Given place
-    go true e = ap Given (let q : rounded_up given align ≡ place = cc in q)
-    go false e = absurd (cc)
-
-full_reply : (limit given size align : ℕ) → None ≡ room limit given size align → allocate_reply limit given size align ≡ NoRoom given
-full_reply limit given size align = go (nat_le (rounded_up given align + size) limit)
-  where
-    go : (b : Bool) → None ≡ (if b then Some (rounded_up given align) else None) → (if b then Given (rounded_up given align) else NoRoom given) ≡ NoRoom given
-    go true e = absurd (cc)
-    go false e = refl
-
-limit_is : {pool : Pool} {o p : View} {a : ArenaId} {limit : ℕ} → Giving pool o p a → limit ≡ limit_of pool.shape → limit ≡ limit_of p.shape
-limit_is g lim = lim ∙ ap limit_of (sym g.inside.of.1)
-
-module _ {pool : Pool} {o p q : View} {a : ArenaId} (given size align found limit : ℕ) (g : Giving pool o p a) (s : Exchanges p q given size align found)
-    (e : found ≡ given) (lim : limit ≡ limit_of pool.shape) where
-  -- What is learnt where the range fits.
-  pub after_fits : (place : ℕ) → Some place ≡ room limit given size align → AfterGive pool o q a size align (Ok place)
-  after_fits place r =
-      ended given size align found s g e (Given place)
-      (given_reply (limit_of p.shape) given size align place (r ∙ ap (λ (n : ℕ). room n given size align) (limit_is g lim))) (Ok place) refl
-
-  -- And where it doesn't.
-  pub after_full : None ≡ room limit given size align → AfterGive pool o q a size align (Err (refusal.NoRoom given))
-  after_full r =
-      ended given size align found s g e (NoRoom given)
-      (full_reply (limit_of p.shape) given size align (r ∙ ap (λ (n : ℕ). room n given size align) (limit_is g lim)))
-      (Err (refusal.NoRoom given)) refl
-
--- ---- the call
-
-abbrev err : Refusal → Result ℕ Refusal
-err r = Err r
-
-abbrev nothing : Refusal → Result (Unit {0}) Refusal
-nothing r = Err r
-
-pub after_bad : {pool : Pool} {p : View} {a : ArenaId} {size align : ℕ} → CanVisit pool p a → IsSound p → ¬ (IsPower align)
-    → AfterAllocate pool p p a size align (Err refusal.BadAlignment)
-after_bad can s n = record {
-  did = kept_none _ _ s (n, refl);
-  gives = tt;
-  held = λ i e. absurd (cc);
-  never = ((λ e. absurd (cc)), (λ e. absurd (cc)));
-  bad_alignment = λ e. refl;
-  wrong_thread = λ e. refl;
-  outside = can.outside;
-  lasts = lasts_on (goes_none s);
-}
-
-pub after_not_his : {pool : Pool} {p : View} {a : ArenaId} {size align : ℕ} → CanVisit pool p a → IsSound p → IsPower align → ¬ (MayUse a p.caller)
-    → AfterAllocate pool p p a size align (Err refusal.WrongThread)
-after_not_his can s power n = record {
-  did = kept_none _ _ s (power, n, refl);
-  gives = tt;
-  held = λ i e. absurd (cc);
-  never = ((λ e. absurd (cc)), (λ e. absurd (cc)));
-  bad_alignment = λ e. refl;
-  wrong_thread = λ e. refl;
-  outside = can.outside;
-  lasts = lasts_on (goes_none s);
-}
-
--- What is learnt where the arena couldn't be entered.
-pub after_no_entrance : {pool : Pool} {p q : View} {a : ArenaId} {size align : ℕ} (r : Refusal) → IsPower align → AfterEnter pool p q a (Err r)
-    → AfterAllocate pool p q a size align (Err r)
-after_no_entrance {p = p} {a = a} {size = size} {align = align} r power h = record {
-  did = record { own = h.did.own; does = does r h.did.does; goes = h.did.goes; rest = h.did.rest };
-  gives = tt;
-  held = λ i e. h.held i (shut r h.did.does e);
-  never = never r h.did.does;
-  bad_alignment = λ e. bad r h.did.does e;
-  wrong_thread = λ e. h.wrong_thread (same r h.did.does e);
-  outside = h.outside;
-  lasts = h.lasts;
-}
-  where
-    does : (r : Refusal) → DoesEnter p.caller a (Err r) h.did.own → DoesAllocate p.caller a size align (Err r) (but_loans h.did.own)
-    does refusal.WrongThread d = (power, d.0, ap but_loans d.1)
-    does refusal.Closed d = (power, d.0, ap but_loans d.1)
-    does r d = absurd d
-
-    never : (r : Refusal) → DoesEnter p.caller a (Err r) h.did.own → (r ≢ refusal.PoolFull) × (r ≢ refusal.Memory)
-    never refusal.WrongThread d = ((λ e. absurd (cc)), (λ e. absurd (cc)))
-    never refusal.Closed d = ((λ e. absurd (cc)), (λ e. absurd (cc)))
-    never r d = absurd d
-
-    same : (r : Refusal) → DoesEnter p.caller a (Err r) h.did.own → err r ≡ err refusal.WrongThread → nothing r ≡ nothing refusal.WrongThread
-    same refusal.WrongThread d e = refl
-    same refusal.Closed d e = absurd (cc)
-    same r d e = absurd d
-
-    shut : (r : Refusal) → DoesEnter p.caller a (Err r) h.did.own → err r ≡ err refusal.Closed → nothing r ≡ nothing refusal.Closed
-    shut refusal.WrongThread d e = absurd (cc)
-    shut refusal.Closed d e = refl
-    shut r d e = absurd d
-
-    bad : {X : Type 0} (r : Refusal) → DoesEnter p.caller a (Err r) h.did.own → err r ≡ err refusal.BadAlignment → X
-    bad refusal.WrongThread d e = absurd (cc)
-    bad refusal.Closed d e = absurd (cc)
-    bad r d e = absurd d
-
--- what was answered inside, and what the call then answers
-alike : (c : Caller) (a : ArenaId) (size align : ℕ) (result : Result ℕ Refusal) (own : List Entry) → IsPower align → MayUse a c
-    → DoesGive c a size align result own
-    → DoesAllocate c a size align result (but_loans (entry_of c (Enter a) Fine ∷ own ++ entry_of c (Leave a) Fine ∷ []))
-alike c a size align (Ok place) own power may d = (power, may, rw d refl)
-alike c a size align (Err (refusal.NoRoom given)) own power may d = (power, may, rw d refl)
-alike c a size align (Err r) own power may d = absurd d
-
-never_so : (c : Caller) (a : ArenaId) (size align : ℕ) (result : Result ℕ Refusal) (own : List Entry) → DoesGive c a size align result own
-    → IfErr result (λ r. (r ≢ refusal.PoolFull) × (r ≢ refusal.Memory))
-never_so c a size align (Ok place) own d = tt
-never_so c a size align (Err (refusal.NoRoom given)) own d = ((λ e. absurd (cc)), (λ e. absurd (cc)))
-never_so c a size align (Err r) own d = absurd d
-
-unlike : {X : Type 0} (c : Caller) (a : ArenaId) (size align : ℕ) (result : Result ℕ Refusal) (own : List Entry) → DoesGive c a size align result own
-    → (result ≡ Err refusal.BadAlignment) ⊎ ((result ≡ Err refusal.WrongThread) ⊎ (result ≡ Err refusal.Closed)) → X
-unlike c a size align (Ok place) own d (inl e) = absurd (cc)
-unlike c a size align (Ok place) own d (inr (inl e)) = absurd (cc)
-unlike c a size align (Ok place) own d (inr (inr e)) = absurd (cc)
-unlike c a size align (Err (refusal.NoRoom given)) own d (inl e) = absurd (cc)
-unlike c a size align (Err (refusal.NoRoom given)) own d (inr (inl e)) = absurd (cc)
-unlike c a size align (Err (refusal.NoRoom given)) own d (inr (inr e)) = absurd (cc)
-unlike c a size align (Err r) own d e = absurd d
-
--- What is learnt of the whole call.
-pub after_allocate : {pool : Pool} {p q r s : View} {a : ArenaId} {size align : ℕ} (result : Result ℕ Refusal) (u : Unit {0}) → IsPower align
-    → AfterEnter pool p q a (Ok u) → AfterGive pool q r a size align result → AfterLeave pool r s → AfterAllocate pool p s a size align result
-after_allocate {p = p} {q = q} {r = r} {s = s} {a = a} {size = size} {align = align} result u power enters gives leaves =
-    let c : Caller = p.caller in
-    let same : q.caller ≡ c = enters.did.goes.same_caller in
-    let does : DoesGive c a size align result gives.did.own = subst (λ (x : Caller). DoesGive x a size align result gives.did.own) same gives.did.does in
-    let first : Goes p q (entry_of c (Enter a) Fine ∷ []) = subst (λ (es : List Entry). Goes p q es) enters.did.does.1 enters.did.goes in
-    let left : leaves.did.own ≡ entry_of r.caller (Leave a) Fine ∷ [] =
-    subst (λ (i : Option ArenaId). DoesAct i r.caller Leave Fine leaves.did.own) gives.inside.inside leaves.did.does in
-    let last : Goes r s (entry_of c (Leave a) Fine ∷ []) = subst (λ (x : Caller). Goes r s (entry_of x (Leave a) Fine ∷ []))
-    (gives.did.goes.same_caller ∙ same) (subst (λ (es : List Entry). Goes r s es) left leaves.did.goes) in
-    let all : Goes p s (entry_of c (Enter a) Fine ∷ gives.did.own ++ entry_of c (Leave a) Fine ∷ []) = goes_then first (goes_then gives.did.goes last) in
-    let did : Kept p s (λ own. DoesAllocate c a size align result (but_loans own)) = record {
-      own = entry_of c (Enter a) Fine ∷ gives.did.own ++ entry_of c (Leave a) Fine ∷ [];
-      does = alike c a size align result gives.did.own power enters.did.does.0 does;
-      goes = all;
-      rest = leaves.did.rest ∙ (gives.did.rest ∙ enters.did.rest);
-    } in
-    record {
-      did = did;
-      gives = allocate_gives (view_of_pass p) (view_of_pass s) a size align result (did_of p s _ did);
-      held = λ i e. unlike c a size align result gives.did.own does (inr (inr e));
-      never = never_so c a size align result gives.did.own does;
-      bad_alignment = λ e. unlike c a size align result gives.did.own does (inl e);
-      wrong_thread = λ e. unlike c a size align result gives.did.own does (inr (inl e));
-      outside = leaves.outside;
-      lasts = lasts_on all;
-    }
+    -- A try more.
+    pub gives_more : Giving pool o q a size align found now
+    gives_more =
+        let same : ◌≡◌ {A = Shape × Caller} (p.shape, p.caller) (o.shape, o.caller) = (λ j. (lent_way.goes.same_shape j, lent_way.goes.same_caller j)) in
+        let next : Way p q (t.lends ++ allocates o a found size align now) [] =
+        subst (λ (x : Shape × Caller). Way p q (t.lends ++ where_found (now == found) (entry_of x.1 (Allocate a size align)
+        (allocate_reply (limit_of x.0) found size align) ∷ [])) []) same t.way in
+        record {
+          own = g.own ++ t.lends;
+          are = more_lent t.lends (lends_to p a found to t.lends t.are);
+          in_range = lends_for t.way.goes t.lends t.are;
+          way = subst (λ (es : List Entry). Way o q es []) (sym (append_assoc g.own t.lends (allocates o a found size align now))) (way_then lent_way next);
+          inside = inside_on t.way g.inside;
+          learnt = t.learnt;
+          first = λ w other. absurd (found_still w other);
+          exact = λ w e s. t.exact (lent_way.goes.same_whole ∙ w) e (scarce_seen lent_way.goes.same_shape (g.first w n) s);
+        }

@@ -56,10 +56,10 @@ module _ {pool : Pool} {p q : View} {a : ArenaId} {word : ℕ} (can : HasHandle 
   }
 
   out : IsOutside pool p → IsOutside pool q
-  out o = stands_outside t.goes o.of o.no_number (t.hand ∙ o.no_slot) (t.inside ∙ o.outside) (t.mark ∙ o.unmarked)
+  out o = stands_outside t.goes o.of o.no_number (t.hand ∙ o.no_slot) (t.swept ∙ o.no_part) (t.inside ∙ o.outside) (t.mark ∙ o.unmarked)
 
   within : (at : ArenaId) → IsInside pool p at → IsInside pool q at
-  within at i = stands_inside t.goes i.of i.no_number (t.hand ∙ i.no_slot) (t.inside ∙ i.inside)
+  within at i = stands_inside t.goes i.of i.no_number (t.hand ∙ i.no_slot) (t.swept ∙ i.no_part) (t.inside ∙ i.inside)
 
   -- Where it has the most holds.
   pub after_most : (n : ℕ) → alive_holds a word ≡ Some n → n ≡ most_holds → AfterAgain pool p q a (Err refusal.TooManyHolds)

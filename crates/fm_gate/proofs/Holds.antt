@@ -20,7 +20,7 @@ use Rattle.fm_gate.specs.declared.held.Hold.{Hold as TheHold}
 use Rattle.fm_gate.specs.Makers.{made_by_pass}
 use Rattle.fm_gate.specs.Standing.{IsOutside, CanVisit, CanUnhold}
 use Rattle.fm_gate.specs.Learnt.{AfterHold, AfterTake, AfterUnhold, DoesTake}
-use Rattle.fm_gate.proofs.Standing.{stands_outside, stands_inside}
+use Rattle.fm_gate.proofs.Standing.{swept_is, stands_outside, stands_inside}
 use Rattle.fm_gate.proofs.Takes.{hold_full, hold_fine}
 
 -- ---- refused before a step
@@ -68,7 +68,7 @@ module _ {pool : Pool} {p q : View} {a : ArenaId} {word : ℕ} (can : CanVisit p
 
   out : IsOutside pool q
   out = stands_outside t.goes can.outside.of can.outside.no_number (t.hand ∙ can.outside.no_slot)
-      (t.inside ∙ can.outside.outside) (t.mark ∙ can.outside.unmarked)
+      (t.swept ∙ can.outside.no_part) (t.inside ∙ can.outside.outside) (t.mark ∙ can.outside.unmarked)
 
   refuses : (reply : Reply) (r : Refusal) (h : Option ℕ) → alive_holds a word ≡ h → hold_found h ≡ reply
       → holds_after true a reply p.holds ≡ p.holds → DoesTake p.caller a (Err r) (entry_of p.caller (Hold a) reply ∷ [])
@@ -140,7 +140,7 @@ after_unhold {pool = pool} {p = p} {q = q} {hold = hold} can s =
     }) (made_by-one p.caller (Unhold hold.arena) Fine) no_draws in
     record {
       did = record { own = entry_of p.caller (Unhold hold.arena) Fine ∷ []; does = refl; goes = g; rest = rest_is s };
-      outside = λ o. stands_outside g o.of o.no_number (hand_is s ∙ o.no_slot) (inside_is s ∙ o.outside) (mark_is s ∙ o.unmarked);
-      inside = λ a i. stands_inside g i.of i.no_number (hand_is s ∙ i.no_slot) (inside_is s ∙ i.inside);
+      outside = λ o. stands_outside g o.of o.no_number (hand_is s ∙ o.no_slot) (swept_is s ∙ o.no_part) (inside_is s ∙ o.outside) (mark_is s ∙ o.unmarked);
+      inside = λ a i. stands_inside g i.of i.no_number (hand_is s ∙ i.no_slot) (swept_is s ∙ i.no_part) (inside_is s ∙ i.inside);
       lasts = lasts_on g;
     }

@@ -4,7 +4,12 @@ pub mod Enters
 pub mod Bids
 pub mod Opens
 pub mod Tries
+pub mod Scarce
+pub mod Readings
 pub mod Gives
+pub mod Given
+pub mod Allocations
+pub mod Visited
 pub mod Takes
 pub mod Holds
 pub mod Handles

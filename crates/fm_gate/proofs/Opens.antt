@@ -1,17 +1,19 @@
 -- What is learnt of opening an arena.
-use Rattle.std.proofs.Common.{◌≡◌, ℕ, Bool, if◌then◌else◌, List, [], ◌∷◌, refl, sym, ap, ◌∙◌, subst, inl}
+use Rattle.std.proofs.Common.{◌≡◌, ℕ, Bool, true, if◌then◌else◌, List, [], ◌∷◌, refl, sym, ap, ◌∙◌, subst, inl}
 use Rattle.std.specs.Prelude.{Ok, Err}
 use Rattle.fm_base.specs.declared.caller.Caller.{Caller}
 use Rattle.fm_base.specs.declared.arena_id.ArenaId.{ArenaId}
 use Rattle.fm_base.specs.declared.kind.Kind.{Kind}
 use Rattle.fm_base.specs.declared.kind.Kind.TheVariants as kind
 use Rattle.fm_base.specs.declared.refusal.Refusal.TheVariants as refusal
+use Rattle.fm_base.specs.Calls.{Entry, Open, Fine, entry_of}
 use Rattle.fm_base.proofs.Outcomes.{opened_new}
 use Rattle.fm_pool_facts.specs.Hands.{Hand, nothing}
+use Rattle.fm_pool_facts.specs.Loans.{lent, loans_after}
 use Rattle.fm_pool_facts.specs.Views.{View, In}
 use Rattle.fm_pool_facts.specs.Holds.{is_automatic, handles_with}
-use Rattle.fm_pool_facts.specs.Steps.{open_entries}
 use Rattle.fm_pool_facts.proofs.Gripping.{automatic}
+use Rattle.fm_pool_facts.proofs.Lending.{loans_after-append}
 use Rattle.fm_rule.specs.declared.pool.Pool.{Pool}
 use Rattle.fm_calls.specs.Kept.{Goes, rest_of, slots_told}
 use Rattle.fm_calls.specs.Told.{silent_view}
@@ -32,6 +34,11 @@ no_handle kind.Global hs = refl
 no_handle kind.Automatic hs = refl
 no_handle kind.Confined hs = refl
 no_handle kind.Shared hs = refl
+
+-- A whole pass whose entries lend nothing leaves the loans as they were.
+lends_none : {p q : View} {own : List Entry} → Goes p q own → loans_after (lent p.seen) own ≡ lent p.seen → p.whole ≡ true → lent q.seen ≡ lent p.seen
+lends_none {p = p} g none whole =
+    ap lent g.seen ∙ (loans_after-append [] p.seen g.more ∙ (ap (loans_after (lent p.seen)) (g.alone whole) ∙ none))
 
 -- What is learnt where no slot could be lent.
 pub after_no_slot : {pool : Pool} {p q : View} {k : Kind} → IsOutside pool p → NoneTaken p q → AfterOpen pool p q k (Err refusal.NoSlot)
@@ -56,8 +63,9 @@ after_no_slot {p = p} {q = q} {k = k} out n =
           is = is ∙ ap (λ (x : Hand). record p { seen = q.seen; finds = q.finds; hand = x }) (sym out.no_slot);
         },
       );
-      outside = stands_outside n.went.goes out.of out.no_number (ap (λ (x : View). x.hand) is) (ap (λ (x : View). x.inside) is ∙ out.outside)
-          (ap (λ (x : View). x.mark) is ∙ out.unmarked);
+      lends = lends_none n.went.goes refl;
+      outside = stands_outside n.went.goes out.of out.no_number (ap (λ (x : View). x.hand) is) (ap (λ (x : View). x.swept) is ∙ out.no_part)
+          (ap (λ (x : View). x.inside) is ∙ out.outside) (ap (λ (x : View). x.mark) is ∙ out.unmarked);
       lasts = lasts_on n.went.goes;
     }
 
@@ -71,9 +79,12 @@ handles_by kind.Automatic a hs e = first_handle a hs e
 handles_by kind.Confined a hs e = ap (λ (x : Kind). if is_automatic x then a ∷ hs else hs) e
 handles_by kind.Shared a hs e = ap (λ (x : Kind). if is_automatic x then a ∷ hs else hs) e
 
+abbrev opens : ArenaId → Caller → List Entry
+opens a c = entry_of c (Open a) Fine ∷ []
+
 module _ {p m q : View} {a : ArenaId} {slot : ℕ} {k : Kind} (t : SlotTaken p m slot) (o : OpenedIn m q slot k a) where
-  goes : Goes p q (open_entries a p.caller)
-  goes = goes_then t.went.goes (subst (λ (c : Caller). Goes m q (open_entries a c)) t.went.goes.same_caller o.goes)
+  goes : Goes p q (opens a p.caller)
+  goes = goes_then t.went.goes (subst (λ (c : Caller). Goes m q (opens a c)) t.went.goes.same_caller o.goes)
 
   is : q ≡ record p { seen = q.seen; finds = q.finds; hand = nothing; handles = handles_with a p.handles }
   is = o.is ∙ ap (λ (x : View). record x { seen = q.seen; finds = q.finds; hand = nothing; handles = handles_with a x.handles }) t.went.is
@@ -81,14 +92,14 @@ module _ {p m q : View} {a : ArenaId} {slot : ℕ} {k : Kind} (t : SlotTaken p m
   -- The arena is new.
   is_new : IsNew p q a
   is_new =
-      let n = opened_new (silent_view p) (silent_view q) (open_entries a p.caller) p.caller a (silent_makes goes) (inl refl) in
+      let n = opened_new (silent_view p) (silent_view q) (opens a p.caller) p.caller a (silent_makes goes) (inl refl) in
       record { unknown = λ h. (let u = n.unknown in absurd (cc)); known = n.known }
 
   -- What is learnt where one was taken.
   pub after_opened : {pool : Pool} → IsOutside pool p → AfterOpen pool p q k (Ok a)
   after_opened {pool = pool} out = record {
     did = record {
-      own = open_entries a p.caller;
+      own = opens a p.caller;
       does = (o.kind, o.owner ∙ t.went.goes.same_caller, refl);
       goes = goes;
       rest = rest_with p q (handles_with a p.handles) out.no_slot is
@@ -103,7 +114,8 @@ module _ {p m q : View} {a : ArenaId} {slot : ℕ} {k : Kind} (t : SlotTaken p m
     };
     slot = λ w all. t.idle w (all slot t.low);
     no_slot = tt;
-    outside = stands_outside goes out.of out.no_number (ap (λ (x : View). x.hand) is) (ap (λ (x : View). x.inside) is ∙ out.outside)
-        (ap (λ (x : View). x.mark) is ∙ out.unmarked);
+    lends = lends_none goes refl;
+    outside = stands_outside goes out.of out.no_number (ap (λ (x : View). x.hand) is) (ap (λ (x : View). x.swept) is ∙ out.no_part)
+        (ap (λ (x : View). x.inside) is ∙ out.outside) (ap (λ (x : View). x.mark) is ∙ out.unmarked);
     lasts = lasts_on goes;
   }

@@ -16,6 +16,7 @@ use Rattle.fm_calls.specs.Kept.{Goes, rest_of}
 use Rattle.fm_calls.proofs.Going.{goes_of, no_draws, made_by-one, rest_is, hand_is, inside_is, mark_is}
 use Rattle.fm_calls.proofs.Waiting.{Waited, waits_on}
 use Rattle.fm_gate.specs.Learnt.{AfterTake}
+use Rattle.fm_gate.proofs.Standing.{swept_is}
 
 -- A pass that has waited is still one of its pool.
 pub waited_of : (pool : Pool) {o p : View} → Waited o p → IsOf pool o → IsOf pool p
@@ -71,4 +72,5 @@ module _ {o p q : View} (a : ArenaId) (word found : ℕ) (w : Waited o p) (s : E
         inside = inside_is hit ∙ ap (λ (x : View). x.inside) w.is;
         mark = mark_is hit ∙ ap (λ (x : View). x.mark) w.is;
         hand = hand_is hit ∙ ap (λ (x : View). x.hand) w.is;
+        swept = swept_is hit ∙ ap (λ (x : View). x.swept) w.is;
       }

@@ -7,17 +7,19 @@ use Rattle.fm_base.specs.declared.kind.Kind.TheVariants.{Automatic}
 use Rattle.fm_base.specs.declared.refusal.Refusal.{Refusal}
 use Rattle.fm_base.specs.declared.refusal.Refusal.TheVariants.{WrongThread, NoSlot}
 use Rattle.fm_base.specs.declared.refusal.Refusal.TheVariants as refusal
-use Rattle.fm_base.specs.Calls.{Call, Allocate, Hold as Holding, Leave, Reply, Fine, Given, NoRoom, Entry, entry_of}
+use Rattle.fm_base.specs.Calls.{Call, Enter, Hold as Holding, Leave, Reply, Fine, Entry, entry_of}
 use Rattle.fm_base.specs.Finds.{FoundNothing, is_slot}
 use Rattle.fm_base.specs.Does.{DoesEnter, DoesAct, DoesPatch, DoesOpen, DoesAllocate, DoesIsAlive, DoesHold, DoesUnhold, DoesAgain}
 use Rattle.fm_base.specs.Outcomes.{Gives}
-use Rattle.fm_base.specs.View.{but_loans}
+use Rattle.fm_base.specs.View.{but_loans, is_loan}
 use Rattle.fm_pool_facts.specs.Views.{View, In, IsKnown, IsBusy}
+use Rattle.fm_pool_facts.specs.Loans.{lent}
 use Rattle.fm_pool_facts.specs.Holds.{grips, with_grips, holds_after, released}
 use Rattle.fm_pool_facts.specs.Words.{alive_holds, hold_found}
 use Rattle.fm_rule.specs.declared.pool.Pool.{Pool}
 use Rattle.fm_calls.specs.Kept.{Goes, Kept, KeptHolding, KeptHandling, Lasts, rest_of}
 use Rattle.fm_calls.specs.Told.{view_of_pass}
+use Rattle.fm_gate.specs.Pages.{FoundNoPage, FullExactly, LendsInRange}
 use Rattle.fm_gate.specs.Standing.{IsOutside, IsInside, CanUnhold, HasHandle}
 use Rattle.fm_gate.specs.declared.held.Hold.{Hold}
 
@@ -90,21 +92,12 @@ pub record AfterOpen (pool : Pool) (old new : View) (kind : Kind) (result : Resu
   pub handle : kind ≡ Automatic → IfOk result (λ id. HasHandle pool new id)
   pub slot : IfOk result (λ _. old.whole ≡ true → ¬ (AllBusy old))
   pub no_slot : IfErr result (λ refusal. (refusal ≡ NoSlot) × FoundNoSlot old new)
+  -- a pass that is known to be whole leaves the loans as they were: a new arena has no page
+  pub lends : old.whole ≡ true → lent new.seen ≡ lent old.seen
   pub outside : IsOutside pool new
   pub lasts : Lasts old new
 
 -- ---- allocations
-
--- one Allocate in the arena
-abbrev pub DoesGive : Caller → ArenaId → ℕ → ℕ → Result ℕ Refusal → List Entry → Type 0
-DoesGive c id size align (Ok place) own = own ≡ entry_of c (Allocate id size align) (Given place) ∷ []
-DoesGive c id size align (Err (refusal.NoRoom given)) own = own ≡ entry_of c (Allocate id size align) (NoRoom given) ∷ []
-DoesGive c id size align (Err r) own = ⊥
-
--- of the act inside `allocate`
-pub record AfterGive (pool : Pool) (old new : View) (id : ArenaId) (size align : ℕ) (result : Result ℕ Refusal) : Type 0 where
-  pub did : Kept old new (DoesGive old.caller id size align result)
-  pub inside : IsInside pool new id
 
 -- of `allocate`: what it gives was never given before
 pub record AfterAllocate (pool : Pool) (old new : View) (id : ArenaId) (size align : ℕ) (result : Result ℕ Refusal) : Type 0 where
@@ -112,8 +105,14 @@ pub record AfterAllocate (pool : Pool) (old new : View) (id : ArenaId) (size ali
   pub gives : IfOk result (λ place. Gives (view_of_pass old) (view_of_pass new) id size align place)
   -- an arena that the pass has a hold or a handle of is alive
   pub held : In id (grips id old) → result ≢ Err refusal.Closed
-  -- slots have all their words, and no memory is taken
-  pub never : IfErr result (λ r. (r ≢ refusal.PoolFull) × (r ≢ refusal.Memory))
+  -- no memory is taken
+  pub never : IfErr result (λ r. r ≢ refusal.Memory)
+  pub no_page : result ≡ Err refusal.PoolFull → FoundNoPage old new id size align
+  -- a pass that is known to be whole, and has swept what it shut, is refused so exactly where pages are too few
+  pub exact : old.whole ≡ true → old.closes ≡ [] → old.sweeps ≡ [] → FullExactly old id size align result
+  -- it lends pages for parts of its range alone, once it has entered
+  pub lends : (e : Entry) → In e did.own → is_loan e.call ≡ true
+      → In (entry_of old.caller (Enter id) Fine) did.own × LendsInRange old new id size align e
   -- then the pass is as it was
   pub bad_alignment : result ≡ Err refusal.BadAlignment → new ≡ old
   pub wrong_thread : result ≡ Err WrongThread → new ≡ old
@@ -130,6 +129,7 @@ pub record AfterTake (old new : View) (id : ArenaId) (word : ℕ) : Type 0 where
   pub inside : new.inside ≡ old.inside
   pub mark : new.mark ≡ old.mark
   pub hand : new.hand ≡ old.hand
+  pub swept : new.swept ≡ old.swept
 
 -- a hold is one of the arena
 abbrev pub DoesTake : Caller → ArenaId → Result Hold Refusal → List Entry → Type 0

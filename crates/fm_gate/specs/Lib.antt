@@ -1,6 +1,8 @@
 pub mod Makers
 pub mod Standing
+pub mod Pages
 pub mod Learnt
+pub mod Giving
 pub mod Lasting
 pub mod Slots
 pub mod Handling

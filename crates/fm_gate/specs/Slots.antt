@@ -1,13 +1,13 @@
 -- What taking a slot does to a pass.
-use Rattle.std.specs.Prelude.{◌≡◌, ◌<◌, ◌≤◌, ℕ, true, [], length}
+use Rattle.std.specs.Prelude.{◌≡◌, ◌<◌, ◌≤◌, ℕ, true, [], ◌∷◌, length}
 use Rattle.fm_base.specs.declared.arena_id.ArenaId.{ArenaId}
 use Rattle.fm_base.specs.declared.kind.Kind.{Kind}
 use Rattle.fm_base.specs.Arenas.{owner_of}
+use Rattle.fm_base.specs.Calls.{Open, Fine, entry_of}
 use Rattle.fm_base.specs.Finds.{FoundNothing, is_slot}
 use Rattle.fm_pool_facts.specs.Hands.{Hand, nothing, taken}
 use Rattle.fm_pool_facts.specs.Views.{View, IsBusy}
 use Rattle.fm_pool_facts.specs.Holds.{handles_with}
-use Rattle.fm_pool_facts.specs.Steps.{open_entries}
 use Rattle.fm_calls.specs.Kept.{Goes}
 use Rattle.fm_gate.specs.Learnt.{AllBusy}
 
@@ -32,7 +32,7 @@ pub record NoneTaken (old new : View) : Type 0 where
 
 -- it opened the arena in the slot that it had taken, and has none in its hand; it has the first handle of an automatic arena
 pub record OpenedIn (old new : View) (slot : ℕ) (k : Kind) (id : ArenaId) : Type 0 where
-  pub goes : Goes old new (open_entries id old.caller)
+  pub goes : Goes old new (entry_of old.caller (Open id) Fine ∷ [])
   pub is : new ≡ record old { seen = new.seen; finds = new.finds; hand = nothing; handles = handles_with id old.handles }
   pub kind : id.kind ≡ k
   pub owner : owner_of id ≡ old.caller

@@ -1,21 +1,23 @@
 -- Where a pass of a pool stands between two calls, and what a call asks for.
-use Rattle.std.specs.Prelude.{◌≡◌, ◌≢◌, ◌<◌, ◌*◌, ℕ, bit_and, Some, None}
+use Rattle.std.specs.Prelude.{◌≡◌, ◌≢◌, ◌<◌, ◌*◌, ℕ, [], bit_and, Some, None}
 use Rattle.fm_base.specs.declared.arena_id.ArenaId.{ArenaId}
 use Rattle.fm_base.specs.declared.kind.Kind.TheVariants.{Automatic}
 use Rattle.fm_pool_facts.specs.Hands.{nothing}
+use Rattle.fm_pool_facts.specs.Parts.{unread}
 use Rattle.fm_pool_facts.specs.Views.{View, In, IsKnown, given_of}
 use Rattle.fm_rule.specs.declared.pool.Pool.{Pool}
 use Rattle.fm_rule.specs.Passes.{IsOf}
 use Rattle.fm_gate.specs.declared.held.Hold.{Hold}
 use Rattle.fm_gate.specs.Makers.{made_by_pass}
 
--- in no arena; it publishes no mark, and has no number and no slot in its hand
+-- in no arena; it publishes no mark, has no number and no slot in its hand, and is at no part of a sweep
 pub record IsOutside (pool : Pool) (p : View) : Type 0 where
   pub of : IsOf pool p
   pub outside : p.inside ≡ None
   pub unmarked : p.mark ≡ None
   pub no_number : p.drawn ≡ None
   pub no_slot : p.hand ≡ nothing
+  pub no_part : p.swept ≡ unread
 
 -- inside the arena
 pub record IsInside (pool : Pool) (p : View) (id : ArenaId) : Type 0 where
@@ -23,11 +25,17 @@ pub record IsInside (pool : Pool) (p : View) (id : ArenaId) : Type 0 where
   pub inside : p.inside ≡ Some id
   pub no_number : p.drawn ≡ None
   pub no_slot : p.hand ≡ nothing
+  pub no_part : p.swept ≡ unread
 
 -- outside, and the arena is known
 pub record CanVisit (pool : Pool) (p : View) (id : ArenaId) : Type 0 where
   pub outside : IsOutside pool p
   pub known : IsKnown p id
+
+-- and it has no page in its hand
+pub record CanAllocate (pool : Pool) (p : View) (id : ArenaId) : Type 0 where
+  pub visit : CanVisit pool p id
+  pub no_page : p.pages ≡ []
 
 -- inside an arena, where the word has a given byte
 pub record CanReach (pool : Pool) (p : View) (word : ℕ) : Type 0 where

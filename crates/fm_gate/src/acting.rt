@@ -2,6 +2,7 @@ ghost use Rattle.fm_base.specs.Calls as machine;
 ghost use Rattle.fm_gate.specs.Standing.{CanReach};
 ghost use Rattle.fm_gate.specs.Learnt.{AfterAct};
 
+use fm_pages::place_of;
 use fm_rule::{Pass, Pool, step_add, step_load, step_store, step_swap_if};
 
 /// The word of this index of the arena that the pass is inside.
@@ -10,7 +11,8 @@ pub fn load(pool: &Pool, pass: &mut Pass, word: u64) -> u64
     requires { CanReach pool.now pass.old word }
     ensures { AfterAct pool.now pass.old pass.new (λ a. machine.Read a word) (machine.Found result) }
 {
-    step_load(pool, pass, word)
+    let place = place_of(pool, pass, word);
+    step_load(pool, pass, word, place)
 }
 
 /// Puts `v` into the word of this index of the arena that the pass is inside.
@@ -19,7 +21,8 @@ pub fn store(pool: &Pool, pass: &mut Pass, word: u64, v: u64)
     requires { CanReach pool.now pass.old word }
     ensures { AfterAct pool.now pass.old pass.new (λ a. machine.Write a word v) machine.Fine }
 {
-    step_store(pool, pass, word, v);
+    let place = place_of(pool, pass, word);
+    step_store(pool, pass, word, place, v);
 }
 
 /// Puts `new` into the word of this index where it is `old`, and answers the word found.
@@ -27,7 +30,8 @@ pub fn swap_if(pool: &Pool, pass: &mut Pass, word: u64, old: u64, new: u64) -> u
     requires { CanReach pool.now pass.old word }
     ensures { AfterAct pool.now pass.old pass.new (λ a. machine.SwapIf a word old new) (machine.Found result) }
 {
-    step_swap_if(pool, pass, word, old, new)
+    let place = place_of(pool, pass, word);
+    step_swap_if(pool, pass, word, place, old, new)
 }
 
 /// Adds `n` to the word of this index, wrapping at 2^64, and answers the word found.
@@ -35,5 +39,6 @@ pub fn add(pool: &Pool, pass: &mut Pass, word: u64, n: u64) -> u64
     requires { CanReach pool.now pass.old word }
     ensures { AfterAct pool.now pass.old pass.new (λ a. machine.Add a word n) (machine.Found result) }
 {
-    step_add(pool, pass, word, n)
+    let place = place_of(pool, pass, word);
+    step_add(pool, pass, word, place, n)
 }

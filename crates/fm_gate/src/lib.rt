@@ -3,6 +3,9 @@
 //! A pass publishes the arena in its mark, and only then looks whether the arena lives; it clears the mark after its
 //! last act. A closer shuts the arena, and only then looks at the marks. So at most one of the two can miss the other.
 //!
+//! The words of an arena stand in pages of the pool. An act finds its word by the map word of the word's part, which
+//! stands while the pass is inside; [`allocate`] sees to it that each part of a range has a page before it gives its bytes.
+//!
 //! No call takes memory. A call that takes a runtime may try again while other passes change the same word; the others
 //! wait for nobody. Where a call is refused the pass stands where it stood: outside, without a mark, but for [`again`],
 //! which may be called inside.

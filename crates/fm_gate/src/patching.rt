@@ -1,8 +1,8 @@
 ghost use Rattle.fm_gate.specs.Standing.{CanPatch};
 ghost use Rattle.fm_gate.specs.Learnt.{AfterPatch};
 
-use crate::acting::{load, swap_if};
-use fm_rule::{Pass, Pool};
+use fm_pages::place_of;
+use fm_rule::{Pass, Pool, step_load, step_swap_if};
 use std::sync::Wait;
 
 /// Puts the word's bits under `mask` to `bits` in one step, and answers the word found at that step.
@@ -12,9 +12,11 @@ pub fn patch<R: Wait>(rt: &R, pool: &Pool, pass: &mut Pass, word: u64, mask: u64
     requires { CanPatch pool.now pass.old word mask bits }
     ensures { AfterPatch pool.now pass.old pass.new word mask bits result }
 {
-    let mut old = load(pool, pass, word);
+    // The word stands there while the pass is inside.
+    let place = place_of(pool, pass, word);
+    let mut old = step_load(pool, pass, word, place);
     for _ in rt.forever() {
-        let found = swap_if(pool, pass, word, old, old & !mask | bits);
+        let found = step_swap_if(pool, pass, word, place, old, old & !mask | bits);
         if found == old {
             return found;
         }

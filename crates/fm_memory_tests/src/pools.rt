@@ -1,7 +1,7 @@
 ghost use Rattle.std.specs.Prelude.{◌≡◌, None};
 ghost use Rattle.fm_calls.specs.Told.{view_of_pass};
-ghost use Rattle.fm_gate.specs.Standing.{IsOutside};
 ghost use Rattle.fm_segment.specs.Access.{IsKnown};
+ghost use Rattle.fm_arena.specs.Shares.{CanShare};
 ghost use Rattle.fm_memory_tests.specs.Beside.{AreBeside};
 
 use crate::Interrupted;
@@ -20,16 +20,16 @@ use std::alloc::AllocGlobal;
 use std::process::Abort;
 use std::sync::Wait;
 
-/// A pool of two passes, whose eight slots have eight words each.
+/// A pool of two passes and eight slots. Each arena has up to eight words, in four pages of two.
 fn made<R: Abort + AllocGlobal>(rt: &R) -> (Pool, Pass)
-    ensures { IsOutside result.0 result.1 }
+    ensures { CanShare result.0 result.1 }
 {
     let shape = Shape {
         passes: 2,
         slots: 8,
-        pages: 8,
-        page_words: 8,
-        reach: 1,
+        pages: 32,
+        page_words: 2,
+        reach: 4,
         generations: 1,
     };
     Pool::make(rt.alloc(), shape).expect(rt, "words")
@@ -37,7 +37,7 @@ fn made<R: Abort + AllocGlobal>(rt: &R) -> (Pool, Pass)
 
 /// Both passes of the pool, the second drawn by the first.
 fn both<'a, R: Abort + Wait>(rt: &R, pool: &'a Pool, pass: Pass) -> (Shared<'a>, Shared<'a>)
-    requires { IsOutside pool.now pass }
+    requires { CanShare pool.now pass }
     ensures outside { result.0.inside ≡ None }
     ensures beside { AreBeside result.0 result.1 }
 {

@@ -2,7 +2,7 @@
 use Rattle.std.proofs.Common.{◌≡◌, ℕ, ◌+◌, ◌-◌, ◌<◌, ◌≤◌, ◌^◌, List, length, sym, ap, ◌∙◌, subst, arith}
 use Rattle.fm_base.specs.declared.caller.Caller.{Caller}
 use Rattle.fm_base.specs.Finds.{Rest}
-use Rattle.fm_gate.specs.Standing.{IsOutside}
+use Rattle.fm_arena.specs.Shares.{CanShare}
 use Rattle.fm_pool_facts.specs.Views.{View, IsSound}
 use Rattle.fm_arena.proofs.Opening.{has_no_slot}
 use Rattle.fm_rule.specs.declared.pool.Pool.{Pool}
@@ -19,13 +19,17 @@ use Rattle.fm_play.specs.declared.player.Player.{Player}
 use Rattle.fm_play.specs.Players.{ArePlayers}
 use Rattle.fm_play.specs.Runs.{CanRun, HasRun, IsWritten, Ran}
 
-pub outside_first : (pool : Pool) (z : Shape) (p : View) → pool.shape ≡ z → p ≡ first_pass (numbers_of pool.table.shared.table_id) z → IsOutside pool p
+pub outside_first : (pool : Pool) (z : Shape) (p : View) → pool.shape ≡ z → p ≡ first_pass (numbers_of pool.table.shared.table_id) z → CanShare pool p
 outside_first pool z p shape is = record {
-  of = (ap (λ (v : View). v.home) is, ap (λ (v : View). v.shape) is ∙ sym shape);
-  outside = ap (λ (v : View). v.inside) is;
-  unmarked = ap (λ (v : View). v.mark) is;
-  no_number = ap (λ (v : View). v.drawn) is;
-  no_slot = ap (λ (v : View). v.hand) is;
+  outside = record {
+    of = (ap (λ (v : View). v.home) is, ap (λ (v : View). v.shape) is ∙ sym shape);
+    outside = ap (λ (v : View). v.inside) is;
+    unmarked = ap (λ (v : View). v.mark) is;
+    no_number = ap (λ (v : View). v.drawn) is;
+    no_slot = ap (λ (v : View). v.hand) is;
+    no_part = ap (λ (v : View). v.swept) is;
+  };
+  no_page = ap (λ (v : View). v.pages) is;
 }
 
 -- A pass for each worker beside the first: so many that their numbers fit.
@@ -64,6 +68,7 @@ module _ (s : ScriptOf) (w : IsWritten s) (order : List Line) (names : Numbers) 
         unused = ap (λ (v : View). v.seen) first;
         first = ap (λ (v : View). v.caller.number) first;
         no_slot = has_no_slot p (ap (λ (v : View). v.hand) first) (ap (λ (v : View). v.sweeps) first);
+        no_close = ap (λ (v : View). v.closes) first;
         alone = ap (λ (v : View). v.gathered) first;
       };
       rules = w.rules;
@@ -97,9 +102,9 @@ module _ (s : ScriptOf) (w : IsWritten s) (order : List Line) (names : Numbers) 
 
 -- The pass that is left speaks for all.
 pub can_finish : (pool : Pool) (names : Numbers) (lines : List Line) (p q : View) (tasks players : List Player) (main : MainLines)
-    → IsOutside pool q → Ran names lines p q tasks players main → CanFinish pool q
+    → CanShare pool q → Ran names lines p q tasks players main → CanFinish pool q
 can_finish pool names lines p q tasks players main outside ran = record {
-  of = outside.of;
+  of = outside.outside.of;
   whole = ap (λ (r : Rest). r.whole) ran.all.last.went.rest ∙ ran.all.worked.crew.crew.whole ran.all.whole;
-  no_slot = outside.no_slot;
+  no_slot = outside.outside.no_slot;
 }

@@ -1,5 +1,5 @@
 -- What the passes of workers found where a line found no slot.
-use Rattle.std.proofs.Common.{◌≡◌, ℕ, true, List, [], ◌∷◌, ◌++◌, length, length-append, map, refl, sym, ap, ◌∙◌, subst, arith, inl, inr}
+use Rattle.std.proofs.Common.{◌≡◌, ℕ, true, List, [], ◌∷◌, ◌++◌, length, length-append, map, refl, sym, ap, ◌∙◌, subst, append_assoc, arith, inl, inr}
 use Rattle.std.specs.Prelude.{⊤}
 use Rattle.std.specs.List.{AllByRecursion}
 use Rattle.std.proofs.lemmas.List.{append-nil}
@@ -10,17 +10,20 @@ use Rattle.fm_base.specs.Finds.{Close, Find, Gathered, Rest, is_slot}
 use Rattle.fm_base.specs.Histories.{made_by}
 use Rattle.fm_pool_facts.specs.Hands.{Hand, nothing, taken, learnt, retired}
 use Rattle.fm_pool_facts.specs.Splits.{as_gathered}
-use Rattle.fm_pool_facts.specs.Views.{View, In, NoneLeft}
+use Rattle.fm_pool_facts.specs.Views.{View, Begins, In, NoneLeft}
 use Rattle.fm_calls.specs.Kept.{slots_told}
 use Rattle.fm_arena.specs.Opening.{HasNoSlot}
 use Rattle.fm_script.specs.declared.line.Line.{Line}
+use Rattle.fm_words.specs.declared.shape.Shape.{Shape}
 use Rattle.fm_run.specs.declared.numbers.Numbers.{Numbers}
 use Rattle.fm_run.specs.declared.reply.Reply.{Reply}
 use Rattle.fm_run.specs.declared.standing.Standing.{Standing}
 use Rattle.fm_run.specs.Playing.{LinesRan}
 use Rattle.fm_run.specs.Report.{Player, runs}
 use Rattle.fm_run.specs.Runs.{Went}
+use Rattle.fm_run.specs.Pages.{EachBehind, FindsFew, LendsRightly}
 use Rattle.fm_run.specs.Slots.{AreFound}
+use Rattle.fm_run.proofs.Lending.{behind_as, few_later, lends_later}
 use Rattle.fm_run_laws.specs.Slots.{FindsTold}
 use Rattle.fm_workers.specs.Crew.{IsFresh, IsIn, callers}
 
@@ -47,6 +50,8 @@ pub record HasFound (v : View) (w : Player) : Type 0 where
   pub earlier : List Entry
   pub made : made_by v.caller v.seen ≡ earlier ++ runs w.dones
   pub found : AreFound v.caller v.finds v.seen earlier w.dones
+  pub few : EachBehind (FindsFew v.shape v.caller v.seen) earlier w.dones
+  pub loans : EachBehind (LendsRightly v.shape v.caller v.seen) earlier w.dones
 
 abbrev pub HaveFound : List View → List Player → Type 0
 HaveFound [] [] = ⊤
@@ -57,12 +62,15 @@ pub has_found : (p v : View) {names : Numbers} {base : List Standing} {start : �
     (r : LinesRan p v names base start own next lines replies) → HasFound v (record { caller = v.caller; dones = r.dones })
 has_found p v r =
     let w = r.went in
+    let same : ◌≡◌ {A = Shape × Caller} (p.shape, p.caller) (v.shape, v.caller) = (λ i. (sym w.same_shape i, sym w.same_caller i)) in
     record {
       caller = refl;
       earlier = made_by v.caller p.seen;
       made = ap (λ (es : List Entry). made_by v.caller es) w.seen ∙ (filter-append _ p.seen w.more
           ∙ ap (λ (es : List Entry). made_by v.caller p.seen ++ es) (ap (λ (c : Caller). made_by c w.more) w.same_caller ∙ w.by_pass));
       found = subst (λ (c : Caller). AreFound c v.finds v.seen (made_by c p.seen) r.dones) (sym w.same_caller) r.found;
+      few = subst (λ (x : Shape × Caller). EachBehind (FindsFew x.0 x.1 v.seen) (made_by x.1 p.seen) r.dones) same r.few;
+      loans = subst (λ (x : Shape × Caller). EachBehind (LendsRightly x.0 x.1 v.seen) (made_by x.1 p.seen) r.dones) same r.loans;
     }
 
 nothing_before : (xs ys : List Entry) → xs ++ ys ≡ ys → xs ≡ []
@@ -74,13 +82,11 @@ nothing_before (x ∷ xs) ys e =
 
 -- ---- all of them, once they are gathered
 
-module _ (old new : View) (more : List Entry) (seen : new.seen ≡ old.seen ++ more)
-    (left : (g : Gathered) (f : Find) → In g new.gathered → In f g.finds → is_slot f.step ≡ true → f.found ≡ 0
-    → NoneLeft new.shape new.seen g.caller f) where
+module _ (old new : View) (more : List Entry) (seen : new.seen ≡ old.seen ++ more) where
   -- Its lines are all that a pass made that had made no entry before.
-  none_before : (v : View) (w : Player) (h : HasFound v w) → IsFresh old v.caller → IsIn v new → made_by w.caller more ≡ runs w.dones
+  nothing_earlier : (v : View) (w : Player) (h : HasFound v w) → IsFresh old v.caller → IsIn v new → made_by w.caller more ≡ runs w.dones
       → h.earlier ≡ []
-  none_before v w h fresh within entries =
+  nothing_earlier v w h fresh within entries =
       let c = v.caller in
       let its : made_by c new.seen ≡ made_by c v.seen =
       ap (λ (es : List Entry). made_by c es) within.seen ∙ (filter-append _ v.seen within.rest
@@ -90,6 +96,9 @@ module _ (old new : View) (more : List Entry) (seen : new.seen ≡ old.seen ++ m
       nothing_before h.earlier (runs w.dones)
       (sym h.made ∙ (sym its ∙ (now ∙ (ap (λ (x : Caller). made_by x more) (sym h.caller) ∙ entries))))
 
+module _ (old new : View) (more : List Entry) (seen : new.seen ≡ old.seen ++ more)
+    (left : (g : Gathered) (f : Find) → In g new.gathered → In f g.finds → is_slot f.step ≡ true → f.found ≡ 0
+    → NoneLeft new.shape new.seen g.caller f) where
   told : (v : View) (w : Player) → HasFound v w → IsFresh old v.caller → IsIn v new → made_by w.caller more ≡ runs w.dones
       → In (as_gathered v) new.gathered → FindsTold new.shape new.seen w
   told v w h fresh within entries among = record {
@@ -97,7 +106,7 @@ module _ (old new : View) (more : List Entry) (seen : new.seen ≡ old.seen ++ m
     seen = v.seen;
     begins = (within.rest, within.seen);
     found = subst (λ (c : Caller). AreFound c v.finds v.seen [] w.dones) (sym h.caller)
-        (subst (λ (es : List Entry). AreFound v.caller v.finds v.seen es w.dones) (none_before v w h fresh within entries) h.found);
+        (subst (λ (es : List Entry). AreFound v.caller v.finds v.seen es w.dones) (nothing_earlier old new more seen v w h fresh within entries) h.found);
     none_left = λ f i step none. subst (λ (c : Caller). NoneLeft new.shape new.seen c f) (sym h.caller) (left (as_gathered v) f among i step none);
   }
 
@@ -112,6 +121,40 @@ module _ (old new : View) (more : List Entry) (seen : new.seen ≡ old.seen ++ m
     told v w h.0 fresh.0 within.0 entries.0 (among (as_gathered v) (inl refl)),
     all_told vs ws h.1 fresh.1 within.1 entries.1 (λ g i. among g (inr i)),
   )
+
+-- ---- what each learnt of pages, in a history that goes on
+
+-- Few pages were left at points of its lines' calls, and it lent them for its ranges.
+pub record PagesFound (z : Shape) (all : List Entry) (w : Player) : Type 0 where
+  pub few : EachBehind (FindsFew z w.caller all) [] w.dones
+  pub loans : EachBehind (LendsRightly z w.caller all) [] w.dones
+
+module _ (old new : View) (more all : List Entry) (seen : new.seen ≡ old.seen ++ more) (on : Begins new.seen all) where
+  pages_found : (v : View) (w : Player) → HasFound v w → IsFresh old v.caller → IsIn v new → made_by w.caller more ≡ runs w.dones
+      → PagesFound new.shape all w
+  pages_found v w h fresh within entries =
+      let same : ◌≡◌ {A = Shape × (Caller × List Entry)} (v.shape, (v.caller, h.earlier)) (new.shape, (w.caller, [])) =
+      (λ i. (within.shape i, (sym h.caller i, nothing_earlier old new more seen v w h fresh within entries i))) in
+      let later : Begins v.seen all =
+      (within.rest ++ on.0, on.1 ∙ (ap (λ (es : List Entry). es ++ on.0) within.seen ∙ append_assoc v.seen within.rest on.0)) in
+      record {
+        few = subst (λ (x : Shape × (Caller × List Entry)). EachBehind (FindsFew x.0 x.1.0 all) x.1.1 w.dones) same
+            (behind_as (FindsFew v.shape v.caller v.seen) (FindsFew v.shape v.caller all) (few_later v.shape v.caller v.seen all later)
+            h.earlier w.dones h.few);
+        loans = subst (λ (x : Shape × (Caller × List Entry)). EachBehind (LendsRightly x.0 x.1.0 all) x.1.1 w.dones) same
+            (behind_as (LendsRightly v.shape v.caller v.seen) (LendsRightly v.shape v.caller all) (lends_later v.shape v.caller v.seen all later)
+            h.earlier w.dones h.loans);
+      }
+
+  -- So it is with all of them, once they are gathered.
+  pub all_pages_found : (vs : List View) (ws : List Player) → HaveFound vs ws → AllByRecursion (IsFresh old) (callers (map as_gathered vs))
+      → AllByRecursion (λ v. IsIn v new) vs → AllByRecursion (λ w. made_by w.caller more ≡ runs w.dones) ws
+      → AllByRecursion (PagesFound new.shape all) ws
+  all_pages_found [] [] h fresh within entries = tt
+  all_pages_found [] (w ∷ ws) h fresh within entries = absurd h
+  all_pages_found (v ∷ vs) [] h fresh within entries = absurd h
+  all_pages_found (v ∷ vs) (w ∷ ws) h fresh within entries =
+      (pages_found v w h.0 fresh.0 within.0 entries.0, all_pages_found vs ws h.1 fresh.1 within.1 entries.1)
 
 -- The callers of passes that were gathered.
 pub callers_gathered : (vs : List View) → map (λ v. v.caller) vs ≡ callers (map as_gathered vs)

@@ -6,6 +6,7 @@ pub mod Finding
 pub mod Reported
 pub mod Running
 pub mod Sharing
+pub mod Paged
 pub mod Telling
 pub mod Ended
 pub mod Beginning

@@ -25,6 +25,7 @@ use Rattle.fm_run.specs.Numbers.{number_at, number_from}
 use Rattle.fm_run.specs.Ordering.{in_order, worker_lines}
 use Rattle.fm_run.specs.Report as report
 use Rattle.fm_run.specs.Report.{AreCounted, Done, Played, AreRun, AreWorked, IsCut, IsReport, all_done, gathered_names, is_first, lines_by, lines_of, lent_names, names_after, none_stands, number_of, runs, worked}
+use Rattle.fm_run.specs.Pages.{HavePages}
 use Rattle.fm_run.specs.Slots.{HaveSlots, OpenRightly}
 use Rattle.fm_run.specs.Standings.{Names, lent, standing_at}
 use Rattle.fm_run_laws.specs.Slots.{FindsTold}
@@ -36,6 +37,7 @@ use Rattle.fm_play.specs.Runs.{AllRan, CanRun, names_lent}
 use Rattle.fm_play.proofs.Finding.{all_told, callers_gathered, no_slot_still, none_held}
 use Rattle.fm_play.proofs.After.{lent_next, lent_twice, made_lent}
 use Rattle.fm_play.proofs.Gathered.{gathered_table, plain_at}
+use Rattle.fm_play.proofs.Paged.{have_pages}
 use Rattle.fm_play.proofs.Reported.{Reported, start_at, worked_lines}
 use Rattle.fm_play.proofs.Counted.{all_counted}
 use Rattle.fm_play.proofs.Running.{as_many, workers_of}
@@ -256,6 +258,8 @@ module _ (names : Numbers) (lines : List Line) (old new : View) (tasks players :
               (subst (λ (c : Caller). AreRun c (number_at names) (0 + length (first_names ++ names_lent players))
               (standing_at [] 0 (first_names ++ names_lent players)) last_dones) caller_between all.last.calls)));
           slots = subst (λ (z : Shape). HaveSlots z the_played cut) of_shape have_slots;
+          pages = subst (λ (z : Shape). HavePages z the_played cut) of_shape
+              (have_pages can all workers.ps cut refl workers.found workers.entries wholly no_slot);
         }
 
   -- All replies.

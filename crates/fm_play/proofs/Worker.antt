@@ -46,6 +46,9 @@ did w p q old now new result r sound number start caller replies lent whole = re
             stands = l.ran.stands;
             exact = l.ran.exact;
             found = l.ran.found;
+            full = l.ran.full;
+            few = l.ran.few;
+            loans = l.ran.loans;
           };
           runs = l.runs;
           lent = ap (λ (v : Vec Lent Global). map standing_as v.items) lent ∙ l.lent;

@@ -37,6 +37,7 @@ pub record IsOnly (p : View) : Type 0 where
   pub unused : p.seen ≡ []
   pub first : p.caller.number ≡ 0
   pub no_slot : HasNoSlot p
+  pub no_close : p.closes ≡ []
   pub alone : p.gathered ≡ []
 
 -- a pass and workers that have played nothing can run the lines, whose numbers are those of the names

@@ -1,6 +1,6 @@
 ghost use Rattle.std.specs.Prelude.{◌≡◌, ◌+◌, ◌≤◌, [], All, IfErr, OnOk, List, length, vec_capacity};
 ghost use Rattle.fm_base.specs.declared.arena_id.ArenaId.{ArenaId};
-ghost use Rattle.fm_gate.specs.Standing.{IsOutside};
+ghost use Rattle.fm_arena.specs.Shares.{CanShare};
 ghost use Rattle.fm_pool_facts.specs.Views.{IsSound};
 ghost use Rattle.fm_script.specs.Syntax.{IsSpelled};
 ghost use Rattle.fm_run.specs.Ordering.{is_by};
@@ -39,7 +39,7 @@ pub(crate) fn play_main<R: Wait>(
     who: Who,
     replies: &mut Vec<Reply>,
 ) -> (Pass, Result<(), Refusal>)
-    requires outside { IsOutside pool.now pass }
+    requires outside { CanShare pool.now pass }
     requires spelled { All (λ l. IsSpelled l.command) lines.now }
     requires room { length table.old.own.items + length (lines_by (is_by who) lines.now) ≤ vec_capacity table.old.own }
     requires ready { IsReady pass table.old.base.now table.old.own.items }
@@ -54,7 +54,7 @@ pub(crate) fn play_main<R: Wait>(
     ensures backs { (holds handles : List ArenaId) → Backs pass holds handles table.old.base.now table.old.own.items
         → Backs result.0 holds handles table.old.base.now table.new.own.items }
     ensures many { length table.new.own.items ≤ length table.old.own.items + length (lines_by (is_by who) lines.now) }
-    ensures outside { IsOutside pool.now result.0 }
+    ensures outside { CanShare pool.now result.0 }
     ensures sound { IsSound result.0 }
     ensures memory { IfErr result.1 (λ refusal. refusal ≡ Refusal.Memory) }
 {

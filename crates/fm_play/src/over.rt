@@ -1,6 +1,6 @@
 ghost use Rattle.std.specs.Prelude.{◌≡◌, ◌+◌, ◌≤◌, ◌++◌, [], All, IfErr, IfOk, OnOk, List, length, vec_capacity};
 ghost use Rattle.fm_base.specs.declared.arena_id.ArenaId.{ArenaId};
-ghost use Rattle.fm_gate.specs.Standing.{IsOutside};
+ghost use Rattle.fm_arena.specs.Shares.{CanShare};
 ghost use Rattle.fm_pool_facts.specs.Views.{View};
 ghost use Rattle.fm_run.specs.declared.standing.Standing.{Standing};
 ghost use Rattle.fm_run.specs.Ordering.{in_order};
@@ -40,11 +40,11 @@ pub(crate) fn run_over<R: Threads + Wait + Sync, G: Gate>(
     players: &mut Vec<Player>,
     gate: &G,
 ) -> (Pass, Result<MainLines, Refusal>)
-    requires outside { IsOutside pool.now pass }
+    requires outside { CanShare pool.now pass }
     requires can { CanRun names.now lines.now pass players.old.items }
     requires all { all ≡ length (in_order (length players.old.items) lines.now) }
     ensures ran { IfOk result.1 (Ran names.now lines.now pass result.0 players.old.items players.new.items) }
-    ensures outside { IsOutside pool.now result.0 }
+    ensures outside { CanShare pool.now result.0 }
     ensures memory { IfErr result.1 (λ refusal. refusal ≡ Refusal.Memory) }
 {
     let Ok(mut firsts) = Vec::with_capacity(alloc, count_lines(lines, Who::First)) else {
@@ -103,7 +103,7 @@ fn run_all<R: Threads + Wait + Sync, G: Gate>(
     lasts: &mut Vec<Reply>,
     gate: &G,
 ) -> (Pass, Result<(), Refusal>)
-    requires outside { IsOutside pool.now pass }
+    requires outside { CanShare pool.now pass }
     requires can { CanRun names.now lines.now pass players.old.items }
     requires no_other { table.old.base.now ≡ [] }
     requires start { table.old.start ≡ 0 }
@@ -120,7 +120,7 @@ fn run_all<R: Threads + Wait + Sync, G: Gate>(
     ensures room { length table.new.own.items ≤ length (in_order (length players.old.items) lines.now) }
     ensures backs { (holds handles : List ArenaId) → Backs pass holds handles [] []
         → Backs result.0 holds handles [] table.new.own.items }
-    ensures outside { IsOutside pool.now result.0 }
+    ensures outside { CanShare pool.now result.0 }
     ensures memory { IfErr result.1 (λ refusal. refusal ≡ Refusal.Memory) }
 {
     let (mut pass, first) = play_main(
@@ -161,7 +161,7 @@ fn work_players<R: Threads + Wait + Sync, G: Gate>(
     work: &Lines<R, G>,
     players: &mut Vec<Player>,
 ) -> Result<(), Refusal>
-    requires outside { IsOutside pool.now pass.old }
+    requires outside { CanShare pool.now pass.old }
     requires can { All (CanPlay (playing work.now.names.now work.now.lines.now work.now.firsts.now) pass.old)
         players.old.items }
     requires whole { IsWhole pass.old }
@@ -170,7 +170,7 @@ fn work_players<R: Threads + Wait + Sync, G: Gate>(
         pass.old pass.new players.old.items players.new.items) }
     ensures backs { (holds handles : List ArenaId) (base own : List Standing) → Backs pass.old holds handles base own
         → Backs pass.new holds handles base own }
-    ensures outside { IsOutside pool.now pass.new }
+    ensures outside { CanShare pool.now pass.new }
     ensures memory { IfErr result (λ refusal. refusal ≡ Refusal.Memory) }
 {
     if let Err(refusal) = work_crew(rt, alloc, pool, pass, work, players, &FreeGate) {

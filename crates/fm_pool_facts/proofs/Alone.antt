@@ -41,7 +41,7 @@ module _ (z : Shape) (me : ℕ) (v : View) (l : v.live ≡ true) (ws : List ℕ)
   pub none_now : v.whole ≡ true → v.hand ≡ nothing → v.seen ≡ r.history → (c : Caller) (f : Find)
       → FoundBy z r.history r.memory r.owners.taker r.machine.life c f → is_slot f.step ≡ true → f.found ≡ 0 → NoneLeft v.shape v.seen c f
   none_now w none q c f by i h =
-      let y = by i h in
+      let y = by.slot i h in
       subst (λ (x : Shape × List Entry). NoneLeft x.0 x.1 c f) (λ j. (sym ((r.each me v at).shape l) j, sym q j)) (record {
         before = y.before;
         begins = y.begins;

@@ -6,7 +6,7 @@ use lib.ListN.{get_elem?}
 use Rattle.atomic_table.proofs.Lists.{at_set}
 use Rattle.fm_base.specs.declared.caller.Caller.{Caller}
 use Rattle.fm_base.specs.Calls.{Entry}
-use Rattle.fm_base.specs.Finds.{Find, FindStep, Gathered, is_draw, is_slot}
+use Rattle.fm_base.specs.Finds.{Find, FindStep, Gathered, is_draw, is_slot, is_page}
 use Rattle.fm_depicts.specs.Functions.{Machine, moved}
 use Rattle.fm_pool_facts.specs.Views.{View, In, HasFind, all_gathered, brought, pass_of}
 use Rattle.fm_pool_facts.specs.Splits.{as_gathered, gather}
@@ -21,9 +21,9 @@ use Rattle.fm_pool_facts.proofs.Keeping.{in_left, in_right, in_append}
 abbrev pub NoneDrawn : (ℕ → List Find) → Type 0
 NoneDrawn fs = (n : ℕ) (f : Find) → In f (fs n) → (is_draw f.step ≡ false) × (f.drew ≡ None)
 
--- nor a find of slots
+-- nor a find of slots or pages
 abbrev pub NoDraw : (ℕ → List Find) → Type 0
-NoDraw fs = (n : ℕ) (f : Find) → In f (fs n) → (is_draw f.step ≡ false) × (f.drew ≡ None) × (is_slot f.step ≡ false)
+NoDraw fs = (n : ℕ) (f : Find) → In f (fs n) → (is_draw f.step ≡ false) × (f.drew ≡ None) × (is_slot f.step ≡ false) × (is_page f.step ≡ false)
 
 pub no_draw : NoDraw none_noted
 no_draw n f i = absurd i
@@ -32,13 +32,14 @@ pub note_none_drawn : (step : FindStep) (x : ℕ) (v : View) → is_draw step �
 note_none_drawn step x v e n f (inl q) = (ap (λ (g : Find). is_draw g.step) q ∙ e, ap (λ (g : Find). g.drew) q)
 note_none_drawn step x v e n f (inr i) = absurd i
 
-pub note_no_draw : (step : FindStep) (x : ℕ) (v : View) → is_draw step ≡ false → is_slot step ≡ false → NoDraw (note_of step x v)
-note_no_draw step x v e s n f (inl q) = (
+pub note_no_draw : (step : FindStep) (x : ℕ) (v : View) → is_draw step ≡ false → is_slot step ≡ false → is_page step ≡ false → NoDraw (note_of step x v)
+note_no_draw step x v e s g n f (inl q) = (
   ap (λ (g : Find). is_draw g.step) q ∙ e,
   ap (λ (g : Find). g.drew) q,
   ap (λ (g : Find). is_slot g.step) q ∙ s,
+  ap (λ (h : Find). is_page h.step) q ∙ g,
 )
-note_no_draw step x v e s n f (inr i) = absurd i
+note_no_draw step x v e s g n f (inr i) = absurd i
 
 -- what a step notes is within the count
 abbrev pub AreWithin : ℕ → (ℕ → List Find) → Type 0

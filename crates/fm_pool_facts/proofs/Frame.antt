@@ -1,5 +1,5 @@
 -- What entries of one caller leave, whatever they are.
-use Rattle.std.proofs.Common.{◌≡◌, ◌≢◌, ℕ, ◌==◌, Bool, true, false, if◌then◌else◌, List, [], ◌∷◌, ◌++◌, refl, ap, sym, ◌∙◌, subst, append_assoc, Some, None}
+use Rattle.std.proofs.Common.{◌≡◌, ◌≢◌, ℕ, ◌+◌, ◌==◌, Bool, true, false, if◌then◌else◌, List, [], ◌∷◌, ◌++◌, refl, ap, sym, ◌∙◌, subst, append_assoc, Some, None}
 use Rattle.std.proofs.lemmas.List.{append-nil}
 use Rattle.fm_base.specs.declared.caller.Caller.{Caller}
 use Rattle.fm_base.specs.declared.arena_id.ArenaId.{ArenaId}
@@ -43,12 +43,12 @@ other_stays t c k (End id) reply n = refl
 other_stays t c k (Lend block id part) reply n = refl
 other_stays t c k (Back block) reply n = refl
 
--- nobody comes into an arena that is closing
-none_comes : (limit : ℕ) (t : Machine) (c k : Caller) (b : ArenaId) (call : Call) (reply : Reply) → reply ≡ reply_by limit t call → t.life b ≡ Closes
-    → t.inside k ≢ Some b → (moved t c call reply).inside k ≢ Some b
+-- nobody comes into an arena that isn't alive
+none_comes : (limit : ℕ) (t : Machine) (c k : Caller) (b : ArenaId) (call : Call) (reply : Reply) → reply ≡ reply_by limit t call
+    → enter_stage (t.life b) ≡ Closed → t.inside k ≢ Some b → (moved t c call reply).inside k ≢ Some b
 none_comes limit t c k b (Open id) reply e l n = n
 none_comes limit t c k b (Enter id) Fine e l n = by_cases t.inside c (Some id) k (λ x. x ≢ Some b)
-    (λ h s. let i : id ≡ b = cc in let f : Fine ≡ Closed = e ∙ (ap (λ a. enter_stage (t.life a)) i ∙ ap enter_stage l) in absurd (cc))
+    (λ h s. let i : id ≡ b = cc in let f : Fine ≡ Closed = e ∙ (ap (λ a. enter_stage (t.life a)) i ∙ l) in absurd (cc))
     (λ h. n)
 none_comes limit t c k b (Enter id) reply e l n = n
 none_comes limit t c k b (Read id word) reply e l n = n
@@ -151,6 +151,33 @@ over_was t c b (End id) reply n l = at_cases t.life id Over b (λ x. x ≡ Over 
 over_was t c b (Lend block id part) reply n l = l
 over_was t c b (Back block) reply n l = l
 
+-- an arena gives nothing to a caller that isn't inside
+given_stays : (limit : ℕ) (t : Machine) (c : Caller) (b : ArenaId) (call : Call) (reply : Reply) → MayBy limit t c call → t.inside c ≢ Some b
+    → (moved t c call reply).given b ≡ t.given b
+given_stays limit t c b (Open id) reply m n = refl
+given_stays limit t c b (Enter id) Fine m n = refl
+given_stays limit t c b (Enter id) reply m n = refl
+given_stays limit t c b (Read id word) reply m n = refl
+given_stays limit t c b (Write id word value) reply m n = refl
+given_stays limit t c b (SwapIf id word old new) (Found found) m n =
+    either_swap (λ u. u.given b ≡ t.given b) t (record t { word = put_at t.word id (put (t.word id) word new) }) (found == old) refl refl
+given_stays limit t c b (SwapIf id word old new) reply m n = refl
+given_stays limit t c b (Add id word k) (Found found) m n = refl
+given_stays limit t c b (Add id word k) reply m n = refl
+given_stays limit t c b (Allocate id size align) (Given place) m n = at_cases t.given id (place + size) b (λ x. x ≡ t.given b)
+    (λ e. absurd (n (m.0 ∙ ap Some (sym e))))
+    (λ e. refl)
+given_stays limit t c b (Allocate id size align) reply m n = refl
+given_stays limit t c b (Leave id) reply m n = refl
+given_stays limit t c b (Hold id) Fine m n = refl
+given_stays limit t c b (Hold id) reply m n = refl
+given_stays limit t c b (Unhold id) reply m n = refl
+given_stays limit t c b (Shut id) Fine m n = refl
+given_stays limit t c b (Shut id) reply m n = refl
+given_stays limit t c b (End id) reply m n = refl
+given_stays limit t c b (Lend block id part) reply m n = refl
+given_stays limit t c b (Back block) reply m n = refl
+
 -- an arena that was opened stays known
 known_stays : (t : Machine) (c : Caller) (b : ArenaId) (call : Call) (reply : Reply) → t.life b ≢ Fresh → (moved t c call reply).life b ≢ Fresh
 known_stays t c b (Open id) reply n = at_cases t.life id Lives b (λ x. x ≢ Fresh) (λ e s. absurd (cc)) (λ e. n)
@@ -187,7 +214,7 @@ module _ (limit : ℕ) (c : Caller) where
   none_come k b [] t p l z n = n
   none_come k b (e ∷ es) t p l z n =
       none_come k b es (moved t e.caller e.call e.reply) p.3 (closing_stays limit t e.caller b e.call e.reply p.1 l z.0) z.1
-      (none_comes limit t e.caller k b e.call e.reply p.2 l n)
+      (none_comes limit t e.caller k b e.call e.reply p.2 (ap enter_stage l) n)
 
   pub still_closing : (b : ArenaId) (es : List Entry) (t : Machine) → MayMake limit t c es → t.life b ≡ Closes → NoEnd es b → (moved_by t es).life b ≡ Closes
   still_closing b [] t p l z = l
@@ -196,6 +223,16 @@ module _ (limit : ℕ) (c : Caller) where
   pub still_over : (b : ArenaId) (es : List Entry) (t : Machine) → MayMake limit t c es → t.life b ≡ Over → (moved_by t es).life b ≡ Over
   still_over b [] t p l = l
   still_over b (e ∷ es) t p l = still_over b es (moved t e.caller e.call e.reply) p.3 (over_stays limit t e.caller b e.call e.reply p.1 p.2 l)
+
+  -- an arena that has ended gives no more
+  pub still_given : (b : ArenaId) (es : List Entry) (t : Machine) → MayMake limit t c es → t.life b ≡ Over → t.inside c ≢ Some b
+      → (moved_by t es).given b ≡ t.given b
+  still_given b [] t p l n = refl
+  still_given b (e ∷ es) t p l n =
+      let out : t.inside e.caller ≢ Some b = (λ i. n (ap t.inside (sym p.0) ∙ i)) in
+      still_given b es (moved t e.caller e.call e.reply) p.3 (over_stays limit t e.caller b e.call e.reply p.1 p.2 l)
+      (none_comes limit t e.caller c b e.call e.reply p.2 (ap enter_stage l) n)
+      ∙ given_stays limit t e.caller b e.call e.reply p.1 out
 
   -- the history goes on with them, and so do the functions
   pub legal_on : (h : List Entry) (es : List Entry) (t : Machine) → IsLegal limit [] h → Depicts limit (state_after limit [] h) t → MayMake limit t c es

@@ -5,7 +5,7 @@ use Rattle.fm_words.specs.declared.shape.Shape.{Shape}
 use Rattle.fm_base.specs.declared.caller.Caller.{Caller}
 use Rattle.fm_base.specs.declared.arena_id.ArenaId.{ArenaId}
 use Rattle.fm_base.specs.Calls.{Entry}
-use Rattle.fm_base.specs.Finds.{Find, Gathered, is_slot}
+use Rattle.fm_base.specs.Finds.{Find, Gathered, is_slot, is_page}
 use Rattle.fm_depicts.specs.Functions.{Stage, Machine}
 use Rattle.fm_depicts.specs.Steps.{moved_by}
 use Rattle.fm_pool_facts.specs.Views.{View, In, all_gathered, brought}
@@ -17,9 +17,9 @@ use Rattle.fm_pool_facts.specs.Moves.{told}
 use Rattle.fm_pool_facts.proofs.Frame.{still_known}
 use Rattle.fm_pool_facts.proofs.Keeping.{begins_on, in_left, in_right, in_append}
 
--- what is noted has no find of slots
+-- what is noted has no find of slots or pages
 abbrev pub NoSlots : (ℕ → List Find) → Type 0
-NoSlots fs = (n : ℕ) (f : Find) → In f (fs n) → is_slot f.step ≡ false
+NoSlots fs = (n : ℕ) (f : Find) → In f (fs n) → (is_slot f.step ≡ false) × (is_page f.step ≡ false)
 
 -- ---- over entries
 
@@ -35,15 +35,20 @@ module _ (z : Shape) (h : List Entry) (m : Memory) (t : Machine) (taker : ℕ �
       (frame s x.0 x.1)
 
   pub found_on : (c : Caller) (f : Find) → FoundBy z h m taker t.life c f → FoundBy z (h ++ es) m' taker' (moved_by t es).life c f
-  found_on c f was i e =
-      let y = was i e in
-      record {
-        before = y.before;
-        begins = begins_on y.before h es y.begins;
-        long = y.long;
-        gone = λ s l. gone_on y.before c s (y.gone s l);
-        busy = y.busy;
-      }
+  found_on c f was = record {
+    slot = λ i e.
+        let y = was.slot i e in
+        record {
+          before = y.before;
+          begins = begins_on y.before h es y.begins;
+          long = y.long;
+          gone = λ s l. gone_on y.before c s (y.gone s l);
+          busy = y.busy;
+        };
+    page = λ i e.
+        let y = was.page i e in
+        record { before = y.before; begins = begins_on y.before h es y.begins; long = y.long; few = y.few; none = y.none };
+  }
 
   pub founded_on : (v : View) → IsFounded z h m taker t.life v → IsFounded z (h ++ es) m' taker' (moved_by t es).life v
   founded_on v y = record { finds = λ f i. found_on v.caller f (y.finds f i); theirs = λ g j f i. found_on g.caller f (y.theirs g j f i) }
@@ -57,9 +62,12 @@ module _ (z : Shape) (h : List Entry) (m m' : Memory) (taker : ℕ → Option Ca
   gone_same before c s (inr x) = inr (x.0, same s x.0 x.1, x.2)
 
   found_same : (c : Caller) (f : Find) → FoundBy z h m taker life c f → FoundBy z h m' taker life c f
-  found_same c f was i e =
-      let y = was i e in
-      record { before = y.before; begins = y.begins; long = y.long; gone = λ s l. gone_same y.before c s (y.gone s l); busy = y.busy }
+  found_same c f was = record {
+    slot = λ i e.
+        let y = was.slot i e in
+        record { before = y.before; begins = y.begins; long = y.long; gone = λ s l. gone_same y.before c s (y.gone s l); busy = y.busy };
+    page = was.page;
+  }
 
   pub founded_same : (v : View) → IsFounded z h m taker life v → IsFounded z h m' taker life v
   founded_same v y = record { finds = λ f i. found_same v.caller f (y.finds f i); theirs = λ g j f i. found_same g.caller f (y.theirs g j f i) }
@@ -105,10 +113,13 @@ module _ (z : Shape) (h : List Entry) (m : Memory) (taker : ℕ → Option Calle
 
 -- a draw notes no find of slots
 pub draw_no_slots : (expected x : ℕ) (v : View) → NoSlots (note_draw expected x v)
-draw_no_slots expected x v n f (inl q) = ap (λ (g : Find). is_slot g.step) q
+draw_no_slots expected x v n f (inl q) = (ap (λ (g : Find). is_slot g.step) q, ap (λ (g : Find). is_page g.step) q)
 draw_no_slots expected x v n f (inr i) = absurd i
 
 -- where nothing was noted of slots, all that was is so
 pub none_founded : (z : Shape) (h : List Entry) (m : Memory) (taker : ℕ → Option Caller) (life : ArenaId → Stage) (c : Caller) (fs : ℕ → List Find)
     → NoSlots fs → (n : ℕ) (f : Find) → In f (fs n) → FoundBy z h m taker life c f
-none_founded z h m taker life c fs slots n f i e = let q : true ≡ false = sym e ∙ slots n f i in absurd (cc)
+none_founded z h m taker life c fs slots n f i = record {
+  slot = λ e. let q : true ≡ false = sym e ∙ (slots n f i).0 in absurd (cc);
+  page = λ e. let q : true ≡ false = sym e ∙ (slots n f i).1 in absurd (cc);
+}

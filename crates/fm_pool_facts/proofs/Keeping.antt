@@ -1,5 +1,5 @@
 -- A step keeps the rule, and tells its caller what others did.
-use Rattle.std.proofs.Common.{◌≡◌, ◌≢◌, ◌⊎◌, ℕ, zero, suc, ◌<◌, true, List, [], ◌∷◌, ◌++◌, set, sym, refl, ap, ◌∙◌, subst, arith, inl, inr, ⊎_elim, append_assoc}
+use Rattle.std.proofs.Common.{Option, ◌≡◌, ◌≢◌, ◌⊎◌, ℕ, zero, suc, ◌<◌, true, List, [], ◌∷◌, ◌++◌, set, sym, refl, ap, ◌∙◌, subst, arith, inl, inr, ⊎_elim, append_assoc, Some}
 use Rattle.std.proofs.lemmas.List.{append-nil}
 use Rattle.std.proofs.lemmas.List.Elements.{filter-append}
 use mathlib.Core.Logic.{dite}
@@ -11,13 +11,16 @@ use Rattle.fm_words.specs.declared.shape.Shape.{Shape}
 use Rattle.fm_base.specs.declared.caller.Caller.{Caller}
 use Rattle.fm_base.specs.Calls.{Entry}
 use Rattle.fm_base.specs.Histories.{made_by}
-use Rattle.fm_base.specs.Finds.{Find, Gathered, Close}
+use Rattle.fm_base.specs.Finds.{Gathered, Close}
 use Rattle.fm_depicts.specs.Functions.{Machine}
 use Rattle.fm_depicts.specs.Steps.{moved_by}
-use Rattle.fm_pool_facts.specs.Views.{Met, View, In, IsSound, all_gathered, brought, limit_of, HasOwnHandles}
-use Rattle.fm_pool_facts.specs.Facts.{Memory, Owners, IsClosing, IsSweeping, IsGathered, IsOnce, IsSilent, Begins, Somewhere, Owns, Knows}
-use Rattle.fm_pool_facts.specs.Moves.{MayMake, NoEnd, StaysEnded, Moved, Same, Part, told, Gives}
-use Rattle.fm_pool_facts.proofs.Frame.{others_stay, none_come, still_closing, still_over, made_by-other}
+use Rattle.fm_pool_facts.specs.Views.{Met, View, In, all_gathered, brought, limit_of}
+use Rattle.fm_base.specs.declared.arena_id.ArenaId.{ArenaId}
+use Rattle.fm_pool_facts.specs.Parts.{Swept, unread, named, wiping}
+use Rattle.fm_pool_facts.specs.Facts.{Memory, Owners, IsStanding, IsAt, IsNext, HasSwept, HasPages, IsClosing, IsSweeping, IsGathered, IsSilent, Begins, Somewhere, Owns, Knows}
+use Rattle.fm_pool_facts.specs.Moves.{MayMake, NoEnd, StaysEnded, Moved}
+use Rattle.fm_pool_facts.proofs.Frame.{others_stay, none_come, still_closing, still_over, still_given, made_by-other}
+use Rattle.fm_pool_facts.proofs.Standing.{unstanding}
 use Rattle.fm_pool_facts.proofs.Handing.{hand_on, took_on}
 
 -- ---- lists
@@ -103,19 +106,32 @@ module _ (limit : ℕ) (h : List Entry) (c : Caller) (m : Memory) (t : Machine) 
   }
 
 -- a sweep goes on where nothing of its arena was changed
-pub sweeping_on : (limit : ℕ) (c : Caller) (m : Memory) (t : Machine) (es : List Entry) (m' : Memory) → MayMake limit t c es → (z : Shape) (j : ℕ)
-    (o o' : Owners) (x : Close) → IsSweeping z m t o j x → o'.closer x.arena ≡ o.closer x.arena → StaysEnded m m' x.arena
-    → IsSweeping z m' (moved_by t es) o' j x
-sweeping_on limit c m t es m' ok z j o o' x k e s = record {
+pub sweeping_on : (limit : ℕ) (c : Caller) (m : Memory) (t : Machine) (es : List Entry) (m' : Memory) → MayMake limit t c es
+    → ((k : Caller) (a : ArenaId) → t.inside k ≡ Some a → IsStanding (t.life a)) → (z : Shape) (j : ℕ) (o o' : Owners) (x : Close)
+    → IsSweeping z m t o j x → o'.closer x.arena ≡ o.closer x.arena → StaysEnded m m' x.arena → IsSweeping z m' (moved_by t es) o' j x
+sweeping_on limit c m t es m' ok stands z j o o' x k e s = record {
   owner = e ∙ k.owner;
   life = still_over limit c x.arena es t ok k.life;
   session = s.session;
-  wiped = λ w l b. s.cells w ∙ k.wiped w l b;
+  parts = λ i l. s.maps i ∙ k.parts i l;
+  count = λ l. s.given ∙ (k.count l
+      ∙ sym (still_given limit c x.arena es t ok k.life (λ i. unstanding (t.life x.arena) k.life (stands c x.arena i))));
   reset = λ l. s.given ∙ k.reset l;
 }
 
+-- where these are as they were, a close and a sweep are a seat's still
+pub closing_as : {t : Machine} {o : Owners} {j : ℕ} {c : Close} {number holder : ℕ → ℕ} {taker : ℕ → Option Caller} → IsClosing t o j c
+    → IsClosing t (record o { number = number; holder = holder; taker = taker }) j c
+closing_as y = record { owner = y.owner; life = y.life; visited = y.visited }
+
+pub sweeping_as : {z : Shape} {m : Memory} {t : Machine} {o : Owners} {j : ℕ} {c : Close} {draw bits : ℕ} {number holder : ℕ → ℕ}
+    {taker : ℕ → Option Caller}
+    → IsSweeping z m t o j c → IsSweeping z (record m { draw = draw; bits = bits }) t (record o { number = number; holder = holder; taker = taker }) j c
+sweeping_as y = record { owner = y.owner; life = y.life; session = y.session; parts = y.parts; count = y.count; reset = y.reset }
+
 module _ (z : Shape) (h : List Entry) (me : ℕ) (c : Caller) (m : Memory) (t : Machine) (o : Owners) (es : List Entry) (m' : Memory) (o' : Owners)
-    (d : Moved me z c m t o es m' o') (own : o.number c.number ≡ me) (low : c.number < m.draw) where
+    (d : Moved me z c m t o es m' o') (own : o.number c.number ≡ me) (low : c.number < m.draw)
+    (stands : (k : Caller) (a : ArenaId) → t.inside k ≡ Some a → IsStanding (t.life a)) where
   abbrev t' : Machine
   t' = moved_by t es
 
@@ -127,6 +143,31 @@ module _ (z : Shape) (h : List Entry) (me : ℕ) (c : Caller) (m : Memory) (t : 
 
   drawn_before : (n : ℕ) → n < m'.draw → n < m.draw
   drawn_before n l = let e = d.draw in omega arith
+
+  -- what another seat knows of pages
+  others_pages : (j : ℕ) (v : View) → j ≢ me → Owns z h m t o j v → HasPages z m'.maps m'.cells o'.berth j v.inside v.reads v.pages v.sweeps v.swept
+  others_pages j v other k = record {
+    read = λ a e x i. d.pages.stay a x.part x.page (stands v.caller a (k.inside ∙ e)) (k.pages.read a e x i);
+    claims = λ p i. let y = k.pages.claims p i in (still p (subst (IsAt j) (sym y) refl)).0 ∙ y;
+    lone = k.pages.lone;
+    sweep = go v.swept k.pages.sweep;
+  }
+    where
+      still : (p : ℕ) → IsAt j (o.berth p) → (o'.berth p ≡ o.berth p) × ((w : ℕ) → m'.cells p w ≡ m.cells p w)
+      still p i = d.pages.others p j i other
+
+      maps_of : (a : ArenaId) (i : ℕ) → IsNext v.sweeps a i → m'.maps a.slot i ≡ m.maps a.slot i
+      maps_of a i n =
+          let y = k.sweeps n.close n.there in
+          let w = d.sweepers n.close.arena y.life y.session (λ e. other (sym y.owner ∙ e)) in
+          subst (λ (b : ArenaId). m'.maps b.slot i ≡ m.maps b.slot i) n.arena (w.1.maps i)
+
+      go : (s : Swept) → HasSwept z m.maps m.cells o.berth j v.sweeps s → HasSwept z m'.maps m'.cells o'.berth j v.sweeps s
+      go unread s = tt
+      go (named a i p) s = (s.0, maps_of a i s.0 ∙ s.1)
+      go (wiping a i p w) s =
+          let y = still p (subst (IsAt j) (sym s.owner) refl) in
+          record { next = s.next; owner = y.0 ∙ s.owner; empty = maps_of a i s.next ∙ s.empty; wiped = λ q l b. y.1 q ∙ s.wiped q l b }
 
   others_own : (j : ℕ) (v : View) → j ≢ me → Owns z h m t o j v → Owns z h' m' t' o' j v
   others_own j v other k = record {
@@ -144,11 +185,12 @@ module _ (z : Shape) (h : List Entry) (me : ℕ) (c : Caller) (m : Memory) (t : 
     sweeps = λ x i.
         let y = k.sweeps x i in
         let w = d.sweepers x.arena y.life y.session (λ e. other (sym y.owner ∙ e)) in
-        sweeping_on (limit_of z) c m t es m' d.allowed z j o o' x y w.0 w.1;
+        sweeping_on (limit_of z) c m t es m' d.allowed stands z j o o' x y w.0 w.1;
     swept_once = k.swept_once;
     hand = hand_on z m.bits m'.bits m.sessions m'.sessions o.holder o'.holder j
         (λ s g f b e. let w = d.holders s g f b (λ q. other (sym e ∙ q)) in (w.0 ∙ e, w.1, w.2)) v.hand k.hand;
     took = took_on z m.bits m.sessions o.holder j o.taker o'.taker v.caller (λ s g f b e. (d.holders s g f b (λ q. other (sym e ∙ q))).3) v.hand k.hand k.took;
+    pages = others_pages j v other k;
     gathered = λ g i. still v.seen g (k.gathered g i);
     coming = λ x j g i. still x.seen g (k.coming x j g i);
     one_each = k.one_each;
@@ -201,94 +243,3 @@ module _ (z : Shape) (h : List Entry) (me : ℕ) (c : Caller) (m : Memory) (t : 
     met = λ x i. begins_on x.seen h es (k.met x i);
     owns = λ l. others_own j v other (k.owns l);
   }
-
--- ---- the caller's own view
-
-module _ (z : Shape) (h zs : List Entry) (me : ℕ) (m m' : Memory) (t : Machine) (o o' : Owners) (es : List Entry) (fs : ℕ → List Find) (v p : View)
-    (k : Knows z h m t o me v) (l : v.live ≡ true) (d : Moved me z v.caller m t o es m' o') (is : h ≡ v.seen ++ zs) (s : Same v p) where
-  abbrev pub w : View
-  w = told p zs es fs
-
-  same_all : all_gathered p ≡ all_gathered v
-  same_all = λ j. s.gathered j ++ brought (s.met j)
-
-  seen_is : w.seen ≡ h ++ es
-  seen_is = ap (λ (xs : List Entry). (xs ++ zs) ++ es) s.seen ∙ ap (λ (xs : List Entry). xs ++ es) (sym is)
-
-  pub own_view : Part z m' (moved_by t es) o' me p → HasOwnHandles w → Knows z (h ++ es) m' (moved_by t es) o' me w
-  own_view q handles =
-      let u = k.owns l in
-      let ok = d.allowed in
-      let num : p.caller.number ≡ v.caller.number = ap (λ (x : Caller). x.number) s.caller in
-      record {
-        shape = λ e. s.shape ∙ k.shape l;
-        begins = ([], sym (append-nil w.seen ∙ seen_is));
-        met = λ x i. absurd i;
-        owns = λ e. record {
-          number = (let a = u.number in let b = d.draw in let c = num in omega arith);
-          term = ap (λ (x : Caller). x.term) s.caller ∙ (u.term ∙ (sym (d.terms v.caller.number) ∙ ap m'.terms (sym num)));
-          seated = ap o'.number num ∙ (d.numbers v.caller.number ∙ u.seated);
-          mine = ap (made_by p.caller) (sym seen_is);
-          inside = q.inside;
-          mark = q.mark;
-          closes = q.closes;
-          once = q.once;
-          sweeps = q.sweeps;
-          swept_once = q.swept_once;
-          hand = q.hand;
-          took = q.took;
-          handles = handles;
-          coming = λ x i. absurd i;
-          one_each = subst (IsOnce (λ (g : Gathered). g.caller.number)) (sym (append-nil (all_gathered p) ∙ same_all)) u.one_each;
-          gathered = λ g i.
-              let y = (gathered_all z h m t o me v u g (subst (In g) same_all i)).1 in
-              let far : g.caller ≢ v.caller = λ e. y.apart (ap (λ (x : Caller). x.number) e) in
-              record {
-                number = (let a = y.number in let b = d.draw in omega arith);
-                seated = d.numbers g.caller.number ∙ y.seated;
-                apart = λ e. y.apart (e ∙ num);
-                outside = others_stay (limit_of z) v.caller g.caller es t far ok ∙ y.outside;
-                mark = d.marks g.caller.number y.apart ∙ y.mark;
-                quiet = ap (made_by g.caller) (sym seen_is);
-              };
-          drawn = λ n e.
-              let y = u.drawn n (sym s.drawn ∙ e) in
-              record {
-                number = (let a = y.number in let b = d.draw in omega arith);
-                later = y.later;
-                seated = d.numbers n ∙ y.seated;
-                apart = λ e. y.apart (e ∙ num);
-                ungathered = λ g i. y.ungathered g (subst (In g) (append-nil (all_gathered p) ∙ same_all) i);
-                silent = silent_on (limit_of z) h v.caller m t es m' ok n y.apart (d.marks n y.apart) y.silent;
-              };
-          whole = λ e n lt ne.
-              let g = u.whole (sym s.whole ∙ e) n (let b = d.draw in omega arith) (λ q. ne (q ∙ sym num)) in
-              (g.0, subst (In g.0) (sym (append-nil (all_gathered p) ∙ same_all)) g.1, g.2);
-          seen_all = λ e. seen_is;
-        };
-      }
-
-  -- what the step tells
-  pub gives_by : IsSound w → Gives v p es fs w
-  gives_by sound =
-      let u = k.owns l in
-      record {
-        others = zs;
-        is = refl;
-        quiet = none_added (made_by v.caller v.seen) (made_by v.caller zs) (sym (filter-append _ v.seen zs) ∙ (ap (made_by v.caller) (sym is) ∙ u.mine));
-        apart = λ g i.
-            let y = u.gathered g i in
-            let far : g.caller ≢ v.caller = λ e. y.apart (ap (λ (x : Caller). x.number) e) in
-            let none =
-            none_added (made_by g.caller v.seen) (made_by g.caller zs) (sym (filter-append _ v.seen zs) ∙ (ap (made_by g.caller) (sym is) ∙ y.quiet)) in
-            filter-append _ zs es ∙ (λ j. none j ++ made_by-other (limit_of z) v.caller g.caller es t far d.allowed j);
-        alone = λ e. none_added v.seen zs (sym is ∙ sym (u.seen_all e));
-        met = λ x i.
-            let b = begins_on x.seen h es (k.met x i) in
-            (b.0, seen_is ∙ b.1);
-        came = λ x j g i.
-            let y = u.coming x j g i in
-            let far : g.caller ≢ v.caller = λ e. y.apart (ap (λ (x : Caller). x.number) e) in
-            ap (made_by g.caller) seen_is ∙ (made_by-on (limit_of z) h v.caller m t es m' d.allowed g.caller far ∙ y.quiet);
-        sound = sound;
-      }

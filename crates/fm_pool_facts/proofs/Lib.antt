@@ -1,5 +1,6 @@
 pub mod Frame
 pub mod Standing
+pub mod Putting
 pub mod Worlds
 pub mod Retiring
 pub mod Shown
@@ -11,9 +12,17 @@ pub mod Handles
 pub mod Counting
 pub mod Callers
 pub mod Lending
+pub mod Moving
+pub mod Living
+pub mod Returning
+pub mod Scarcity
 pub mod Unlending
+pub mod Ending
+pub mod Given
 pub mod Founds
 pub mod Drawers
 pub mod Gone
 pub mod Alone
+pub mod Owning
+pub mod Sounding
 pub mod Ruling

@@ -5,7 +5,7 @@ use Rattle.fm_base.specs.declared.arena_id.ArenaId.{ArenaId}
 use Rattle.fm_depicts.specs.Functions.{Fresh, Over, Machine, put}
 use Rattle.fm_depicts.proofs.Putting.{put_else, put_cases}
 use Rattle.std.specs.Int.{bit_at}
-use Rattle.fm_pool_facts.specs.Views.{Fits, span}
+use Rattle.fm_pool_facts.specs.Views.{Fits}
 use Rattle.fm_pool_facts.specs.Facts.{Session, free, shut, Memory, World}
 use Rattle.fm_pool_facts.proofs.Standing.{ended_apart, sessions_retire, slots_retired, slots_given}
 
@@ -23,22 +23,6 @@ module _ (z : Shape) (m : Memory) (t : Machine) (r : World z m t) where
     pub ended_fits : Fits z a
     ended_fits = r.sessions.fits a (λ n. let q : Over ≡ Fresh = sym o ∙ n in absurd (cc))
 
-    -- a word is wiped
-    pub world_wipe : (w : ℕ) → World z (record m { cells = put m.cells a.slot (put (m.cells a.slot) w 0) }) t
-    world_wipe w = record {
-      marked = r.marked;
-      sessions = r.sessions;
-      slots = r.slots;
-      counts = r.counts;
-      givens = r.givens;
-      cells = record {
-        shown = λ b v l h. r.cells.shown b v l h
-            ∙ sym (λ j. put_else m.cells a.slot (put (m.cells a.slot) w 0) b.slot (ended_apart z m.sessions t.life r.sessions a b f o l) j v);
-        none = r.cells.none;
-        clean = λ k g v q h. (λ j. put_else m.cells a.slot (put (m.cells a.slot) w 0) k (unfree k g q) j v) ∙ r.cells.clean k g v q h;
-      };
-    }
-
     -- the count of given bytes is reset
     pub world_reset : World z (record m { given = put m.given a.slot 0 }) t
     world_reset = record {
@@ -51,13 +35,11 @@ module _ (z : Shape) (m : Memory) (t : Machine) (r : World z m t) where
         none = r.givens.none;
         clean = λ k g q. put_else m.given a.slot 0 k (unfree k g q) ∙ r.givens.clean k g q;
       };
-      cells = r.cells;
     }
 
     -- where all is 0, the slot is free for the next generation
-    pub world_retire : ((w : ℕ) → w < span z → m.cells a.slot w ≡ 0) → m.given a.slot ≡ 0
-        → World z (record m { sessions = put m.sessions a.slot (free (a.generation + 1)); counts = put m.counts a.slot 0 }) t
-    world_retire wiped reset = record {
+    pub world_retire : m.given a.slot ≡ 0 → World z (record m { sessions = put m.sessions a.slot (free (a.generation + 1)); counts = put m.counts a.slot 0 }) t
+    world_retire reset = record {
       marked = r.marked;
       sessions = sessions_retire z m.sessions t.life r.sessions a f o;
       slots = slots_retired z m.bits m.sessions r.slots a.slot (a.generation + 1) ended_bit (let l = ended_fits.generation in omega arith);
@@ -73,13 +55,6 @@ module _ (z : Shape) (m : Memory) (t : Machine) (r : World z m t) where
             (λ e q. ap m.given e ∙ reset)
             (λ n q. r.givens.clean s g q);
       };
-      cells = record {
-        shown = r.cells.shown;
-        none = r.cells.none;
-        clean = λ s g w. put_cases m.sessions a.slot (free (a.generation + 1)) s (λ (x : Session). x ≡ free g → w < span z → m.cells s w ≡ 0)
-            (λ e q h. ap (λ (k : ℕ). m.cells k w) e ∙ wiped w h)
-            (λ n q h. r.cells.clean s g w q h);
-      };
     }
 
   -- the bit is set of a slot that is free and has a generation left
@@ -91,5 +66,4 @@ module _ (z : Shape) (m : Memory) (t : Machine) (r : World z m t) where
     slots = slots_given z m.bits bits m.sessions r.slots k g slot f low others;
     counts = r.counts;
     givens = r.givens;
-    cells = r.cells;
   }

@@ -1,170 +1,30 @@
--- The rule after a step, and that a view that has seen all is sound.
-use Rattle.std.proofs.Common.{◌≡◌, ◌≢◌, ℕ, ◌*◌, ◌^◌, ◌<◌, ◌≤◌, Bool, true, false, List, [], ◌∷◌, ◌++◌, length, set, sym, refl, ap, ◌∙◌, subst, arith, inl, inr, ⊎_elim, mul-le-mul_right, Some, None}
+-- The rule after a step.
+use Rattle.std.proofs.Common.{◌≡◌, ◌≢◌, ℕ, ◌≤◌, true, List, [], ◌++◌, length, set, sym, refl, ap, ◌∙◌, subst, arith, inl, inr, ⊎_elim}
 use mathlib.Core.Option.{some}
 use lib.ListN.{get_elem?}
 use Rattle.atomic_table.proofs.Lists.{at_set}
 use Rattle.fm_words.specs.declared.shape.Shape.{Shape}
-use Rattle.fm_words.specs.Shapes.{IsValid}
 use Rattle.fm_base.specs.declared.caller.Caller.{Caller}
-use Rattle.fm_base.specs.declared.arena_id.ArenaId.{ArenaId}
-use Rattle.fm_base.specs.Arenas.{Life, Alive, Closing, Ended, State, IsUnderWay, has_arena, arena_of}
 use Rattle.fm_base.specs.Calls.{Entry}
-use Rattle.fm_base.specs.Histories.{IsLegal, state_after, made_by}
 use Rattle.fm_base.specs.Finds.{Find, Gathered}
-use Rattle.fm_depicts.specs.Functions.{Stage, Fresh, Lives, Closes, Over, Machine, stage_of}
-use Rattle.fm_depicts.proofs.Putting.{contains_first}
+use Rattle.fm_depicts.specs.Functions.{Closes, Over, Machine}
 use Rattle.fm_depicts.specs.Steps.{moved_by}
-use Rattle.fm_pool_facts.specs.Views.{span, all_gathered, brought, View, Fits, In, IsSound, IsKnown, limit_of, state_in, pass_of}
-use Rattle.fm_pool_facts.specs.Facts.{Memory, free, shut, IsStanding, Owners, Shows, World, HasNumber, HasDraw, HasClose, HasSweep, KeepsSlot, Somewhere, Knows, Rule, IsOnce}
-use Rattle.fm_pool_facts.specs.Moves.{Moved, Same, Part, KeepsCloses, KeepsSweeps, KeepsSlots, KeepsHolds, told, Gives}
+use Rattle.fm_pool_facts.specs.Views.{all_gathered, brought, View, In, limit_of}
+use Rattle.fm_pool_facts.specs.Facts.{Memory, free, shut, Berth, loose, claimed, mapped, unmapped, IsAt, Pages, HasPage, Owners, Shows, World, HasNumber, HasDraw, HasClose, HasSweep, KeepsSlot, Somewhere, Knows, Rule}
+use Rattle.fm_pool_facts.specs.Moves.{Moved, Same, Part, KeepsCloses, KeepsSweeps, KeepsSlots, KeepsPages, KeepsHolds, told, Gives, MayLend}
 use Rattle.std.specs.Int.{bit_at}
-use Rattle.std.specs.Prelude.{Contains}
-use Rattle.fm_pool_facts.proofs.Handing.{slot_below}
-use Rattle.fm_pool_facts.specs.Holds.{grips, holds_of}
-use Rattle.fm_pool_facts.specs.Loans.{Loan, lent, loans_after, IsRightlyLent}
-use Rattle.fm_pool_facts.specs.Facts.{Loans}
-use Rattle.fm_pool_facts.specs.Moves.{MayLend}
-use Rattle.fm_pool_facts.proofs.Lending.{over_now, loans_after-append, lent-append, lent_on}
+use Rattle.fm_pool_facts.specs.Holds.{holds_of}
+use Rattle.fm_pool_facts.specs.Loans.{Loan, lent, loans_after}
+use Rattle.fm_pool_facts.proofs.Lending.{loans_after-append, lent-append, lent_on}
 use Rattle.fm_pool_facts.specs.Gone.{FoundBy, IsFounded}
-use Rattle.fm_pool_facts.proofs.Alone.{none_now}
 use Rattle.fm_pool_facts.proofs.Gone.{none_founded, found_on, founded_on, founded_told}
-use Rattle.fm_pool_facts.proofs.Callers.{all_now, few_gathered, whole_has, knows_callers}
 use Rattle.fm_pool_facts.proofs.Frame.{legal_on}
-use Rattle.fm_pool_facts.proofs.Summing.{total-set, total-has, some_hold}
-use Rattle.fm_pool_facts.proofs.Gripping.{held_now, held_lives}
+use Rattle.fm_pool_facts.proofs.Summing.{total-set}
 use Rattle.fm_pool_facts.proofs.Handles.{handles_told}
-use Rattle.fm_pool_facts.proofs.Founds.{NoneDrawn, NoDraw, none_within, find_within, terms_on, counted_later, counted_told, counted_set}
-use Rattle.fm_pool_facts.proofs.Keeping.{set_there, in_left, stays_somewhere, silent_on, others_know, own_view, gives_by}
-
--- ---- soundness
-
--- an arena of the list was opened
-pub opened_life : (b : Bool) (l : Life) → b ≡ true → stage_of b l ≢ Fresh
-opened_life true Alive h e = absurd (cc)
-opened_life true Closing h e = absurd (cc)
-opened_life true Ended h e = absurd (cc)
-opened_life false l h e = absurd (cc)
-
-pub life_opened : (b : Bool) (l : Life) → stage_of b l ≢ Fresh → b ≡ true
-life_opened true l n = refl
-life_opened false l n = absurd (n refl)
-
--- an arena gives at most 2^40 bytes
-limit_below : (z : Shape) → IsValid z → limit_of z ≤ 2 ^ 40
-limit_below z v =
-    let a : z.reach * z.page_words ≤ z.pages * z.page_words = mul-le-mul_right z.page_words v.reach.1 in
-    let x : ℕ = z.reach * z.page_words in
-    let y : ℕ = z.pages * z.page_words in
-    let b : x ≤ y = a in
-    let c : y ≤ 16777216 = v.words in
-    let d : x * 8 ≤ 2 ^ 40 = omega arith in
-    d
-
--- an arena that is alive
-alive_now : (b : Bool) (l : Life) → stage_of b l ≡ Lives → (b ≡ true) × (l ≡ Alive)
-alive_now true Alive e = (refl, refl)
-alive_now true Closing e = absurd (cc)
-alive_now true Ended e = absurd (cc)
-alive_now false l e = absurd (cc)
-
--- an arena of which a live view has a hold is alive
-lives_held : (z : Shape) (ws : List ℕ) (vs : List View) (r : Rule z ws vs) (me : ℕ) (v : View) → get_elem? vs me ≡ some v → v.live ≡ true
-    → (a : ArenaId) → In a (grips a v) → r.machine.life a ≡ Lives
-lives_held z ws vs r me v at l a i =
-    let here = some_hold a (grips a v) i in
-    let mine = held_now a v l in
-    let most = total-has (holds_of a) vs me v at in
-    let all = r.held a in
-    held_lives a r.machine (r.world.counts.only a) (omega arith)
-
-nobody : (ks : List Caller) → ((k : Caller) → ¬ (Contains ks k)) → ks ≡ []
-nobody [] n = refl
-nobody (k ∷ ks) n = absurd (n k (contains_first ks k))
-
--- what has ended doesn't stand
-unstanding : (x : Stage) → x ≡ Over → ¬ (IsStanding x)
-unstanding x o (inl e) = let q : Over ≡ Lives = sym o ∙ e in absurd (cc)
-unstanding x o (inr e) = let q : Over ≡ Closes = sym o ∙ e in absurd (cc)
-
--- a pass that has seen the whole history is sound
-pub sound_of : (z : Shape) (ws : List ℕ) (vs : List View) (r : Rule z ws vs) (me : ℕ) (v : View) → get_elem? vs me ≡ some v → v.live ≡ true
-    → v.met ≡ [] → v.seen ≡ r.history → IsSound v
-sound_of z ws vs r me v at l lone q =
-    let k = r.each me v at in
-    let u = k.owns l in
-    let e : v.shape ≡ z = k.shape l in
-    let s : State = state_after (limit_of z) [] r.history in
-    let st : state_in v ≡ s = λ i. state_after (limit_of (e i)) [] (q i) in
-    let valid = subst IsValid (sym e) r.valid in
-    let known : (a : ArenaId) → IsKnown v a → r.machine.life a ≢ Fresh = λ a h f.
-    opened_life (has_arena s a) (arena_of s a).life (ap (λ (x : State). has_arena x a) (sym st) ∙ h) (sym (r.depicts.life a) ∙ f) in
-    record {
-      valid = valid;
-      limit = limit_below v.shape valid;
-      legal = subst (λ (x : Shape × List Entry). IsLegal (limit_of x.0) [] x.1) (λ i. (sym e i, sym q i)) r.legal;
-      lent = subst (λ (x : Shape × List Entry). IsRightlyLent (span x.0) (limit_of x.0) x.1) (λ i. (sym e i, sym q i)) r.rightly;
-      number = (let a = u.number in let b = r.few in let c : v.shape.passes ≡ z.passes = ap (λ (x : Shape). x.passes) e in omega arith);
-      inside = λ a i. subst (λ (x : State). IsUnderWay x v.caller a) (sym st) (r.depicts.listed v.caller a (u.inside ∙ i));
-      outside = λ a w. sym u.inside ∙ r.depicts.under v.caller a (subst (λ (x : State). IsUnderWay x v.caller a) st w);
-      fits = λ a h. subst (λ (x : Shape). Fits x a) (sym e) (r.world.sessions.fits a (known a h));
-      hand = λ s i. subst (λ (y : Shape). s < y.slots) (sym e) (slot_below z r.memory.bits r.memory.sessions r.owners.holder me s v.hand u.hand i);
-      swept = λ c i.
-          let y = u.sweeps c i in
-          record {
-            known = ap (λ (x : State). has_arena x c.arena) st ∙ life_opened (has_arena s c.arena) (arena_of s c.arena).life (λ f.
-                let g : Over ≡ Fresh = sym y.life ∙ (r.depicts.life c.arena ∙ f) in absurd (cc));
-            life = ap (λ (x : State). (arena_of x c.arena).life) st
-                ∙ over_now (has_arena s c.arena) (arena_of s c.arena).life (sym (r.depicts.life c.arena) ∙ y.life);
-            empty = ap (λ (x : State). (arena_of x c.arena).under_way) st
-                ∙ nobody (arena_of s c.arena).under_way (λ k w. unstanding (r.machine.life c.arena) y.life
-                (r.world.marked k c.arena (r.depicts.under k c.arena w)).stands);
-          };
-      held = λ a i.
-          let y = alive_now (has_arena s a) (arena_of s a).life (sym (r.depicts.life a) ∙ lives_held z ws vs r me v at l a i) in
-          (ap (λ (x : State). has_arena x a) st ∙ y.0, ap (λ (x : State). (arena_of x a).life) st ∙ y.1);
-      own_handles = u.handles;
-      own_words = λ x i. r.loans.own x (subst (λ (es : List Entry). Contains (lent es) x) q i);
-      none_left = λ w n c f h.
-          none_now z me v l ws vs r at w n q c f (⊎_elim
-          (λ (x : (c ≡ v.caller) × In f v.finds). subst (λ (k : Caller). FoundBy z r.history r.memory r.owners.taker r.machine.life k f) (sym x.0)
-          ((r.founds me v at).finds f x.1))
-          (λ (x : (g : Gathered) × In g v.gathered × (c ≡ g.caller) × In f g.finds).
-          subst (λ (k : Caller). FoundBy z r.history r.memory r.owners.taker r.machine.life k f) (sym x.2)
-          ((r.founds me v at).theirs x.0 (in_left x.0 v.gathered (brought v.met) x.1) f x.3))
-          h);
-      drawn = λ n i.
-          let y = u.drawn n i in
-          record {
-            later = y.later;
-            number = (let a = y.number in let b = r.few in let c : v.shape.passes ≡ z.passes = ap (λ (x : Shape). x.passes) e in omega arith);
-            other = ⊎_elim y.apart (λ (g : (g : Gathered) × In g v.gathered × (g.caller.number ≡ n)).
-                y.ungathered g.0 (in_left g.0 v.gathered (brought v.met) g.1) g.2);
-            silent = ap (made_by (pass_of n)) q ∙ y.silent.calls (pass_of n) refl;
-            outside = λ a w.
-                let none : None ≡ Some a = sym (y.silent.outside (pass_of n) refl)
-                ∙ r.depicts.under (pass_of n) a (subst (λ (x : State). IsUnderWay x (pass_of n) a) st w) in absurd (cc);
-          };
-      few =
-          let a = few_gathered z r.history r.memory r.machine r.owners me v lone u in
-          let b = r.few in
-          let c : v.shape.passes ≡ z.passes = ap (λ (x : Shape). x.passes) e in omega arith;
-      knows = knows_callers z r.history r.memory r.machine r.owners me v lone u r.later q;
-      all_drawn = λ w.
-          let has = whole_has z r.history r.memory r.machine r.owners me v lone u w in
-          record {
-            first = has 0 (let a = u.number in omega arith);
-            others = λ f c h d e. has c.number ((find_within r.memory v (r.counted me v at) f h).drew c e).1;
-          };
-      one_each = subst (IsOnce (λ (g : Gathered). g.caller.number)) (all_now z r.history r.memory r.machine r.owners me v lone u) u.one_each;
-      others = λ g i. (u.gathered g i).apart;
-      terms = record {
-        own = u.term ∙ r.shows.terms v.caller.number;
-        gathered = λ g i. (r.counted me v at).terms g (in_left g v.gathered (brought v.met) i) ∙ r.shows.terms g.caller.number;
-        entries = λ e i. let a = r.terms e (subst (In e) q i) in let b = r.shows.terms e.caller.number in omega arith;
-      };
-    }
-
--- ---- the rule
+use Rattle.fm_pool_facts.proofs.Founds.{NoneDrawn, NoDraw, none_within, terms_on, counted_later, counted_told, counted_set}
+use Rattle.fm_pool_facts.proofs.Keeping.{set_there, in_left, stays_somewhere, silent_on, others_know}
+use Rattle.fm_pool_facts.proofs.Owning.{own_view, gives_by}
+use Rattle.fm_pool_facts.proofs.Sounding.{sound_of}
 
 still_gathered : (v p : View) (zs es : List Entry) (fs : ℕ → List Find) (s : Same v p) (g : Gathered) → In g (all_gathered v)
     → In g (all_gathered (told p zs es fs))
@@ -187,19 +47,45 @@ draw_still v p zs es fs s d n (inl h) =
     )
 draw_still v p zs es fs s d n (inr g) = inr (g.0, still_gathered v p zs es fs s g.0 g.1, g.2, g.3)
 
+-- a page that a view has, it has whatever it is told
+page_told : (i : ℕ) (b : Berth) (p : View) (zs es : List Entry) (fs : ℕ → List Find) → HasPage i b p → HasPage i b (told p zs es fs)
+page_told i loose p zs es fs h = h
+page_told i (claimed j) p zs es fs h = h
+page_told i (mapped k c) p zs es fs h = h
+page_told i (unmapped j a c) p zs es fs h = h
+
+-- where another view has the pages that one had, and the same in its sweep
+pub page_by : (i : ℕ) (b : Berth) (v w : View) → w.live ≡ v.live → (In i v.pages → In i w.pages) → w.swept ≡ v.swept → HasPage i b v → HasPage i b w
+page_by i loose v w l p s h = h
+page_by i (claimed j) v w l p s h = (l ∙ h.0, p h.1)
+page_by i (mapped k c) v w l p s h = h
+page_by i (unmapped j a c) v w l p s h = (l ∙ h.0, (h.1.0, s ∙ h.1.1))
+
+pub page_like : (i : ℕ) (b : Berth) (v w : View) → w.live ≡ v.live → w.pages ≡ v.pages → w.swept ≡ v.swept → HasPage i b v → HasPage i b w
+page_like i loose v w l p s h = h
+page_like i (claimed j) v w l p s h = (l ∙ h.0, subst (In i) (sym p) h.1)
+page_like i (mapped k c) v w l p s h = h
+page_like i (unmapped j a c) v w l p s h = (l ∙ h.0, (h.1.0, s ∙ h.1.1))
+
+-- the facts of pages after entries
+abbrev pub PagesAfter : Shape → List Entry → Memory → Machine → Owners → List Entry → Type 0
+PagesAfter z h m t o es =
+    Pages z (loans_after (lent h) es) m.page_bits m.maps m.cells o.berth m.sessions (moved_by t es).life (moved_by t es).word (moved_by t es).given
+
 -- the rule and what is told after a step of the seat me: what the words, the memory and the caller's part are is the step's own business
 pub keeps_with : (z : Shape) (ws ws' : List ℕ) (vs : List View) (r : Rule z ws vs) (me : ℕ) (v p : View) (es : List Entry) (fs : ℕ → List Find) (m' : Memory)
     (o' : Owners)
     → get_elem? vs me ≡ some v → v.live ≡ true → Moved me z v.caller r.memory r.machine r.owners es m' o' → Same v p → NoneDrawn fs
     → ((f : Find) → In f (fs (length r.history)) → FoundBy z r.history r.memory r.owners.taker r.machine.life v.caller f)
-    → MayLend (span z) r.machine (lent r.history) es → Loans (loans_after (lent r.history) es) m'.sessions (moved_by r.machine es).life
+    → MayLend z.page_words r.machine (lent r.history) es → PagesAfter z r.history m' r.machine o' es
     → KeepsCloses me v p r.machine r.owners (moved_by r.machine es) o'
     → KeepsSweeps me v p r.memory r.machine r.owners m' (moved_by r.machine es) o' → KeepsSlots z me v p r.memory r.owners m' o'
+    → KeepsPages me v p r.owners o'
     → KeepsHolds v p r.machine (moved_by r.machine es)
     → Shows z ws' m' → World z m' (moved_by r.machine es)
     → Part z m' (moved_by r.machine es) o' me p
-    → (w : View) × Rule z ws' (set vs me w) × Gives v p es fs w
-keeps_with z ws ws' vs r me v p es fs m' o' at l d s nd new lends loans kc kw ks kh shows world q =
+    → (w : View) × (rule : Rule z ws' (set vs me w)) × Gives v p es fs w × (w.seen ≡ rule.history)
+keeps_with z ws ws' vs r me v p es fs m' o' at l d s nd new lends pages kc kw ks kp kh shows world q =
     let k = r.each me v at in
     let u = k.owns l in
     let zs : List Entry = k.begins.0 in
@@ -218,9 +104,10 @@ keeps_with z ws ws' vs r me v p es fs m' o' at l d s nd new lends loans kc kw ks
       valid = r.valid;
       legal = on.0;
       rightly =
-          lent-append (span z) (limit_of z) [] [] r.history es r.rightly
-          (lent_on (span z) (limit_of z) v.caller r.history (lent r.history) es r.machine r.legal r.depicts d.allowed lends);
-      loans = subst (λ (ls : List Loan). Loans ls m'.sessions t'.life) (sym (loans_after-append [] r.history es)) loans;
+          lent-append z.page_words (limit_of z) [] [] r.history es r.rightly
+          (lent_on z.page_words (limit_of z) v.caller r.history (lent r.history) es r.machine r.legal r.depicts d.allowed lends);
+      pages = subst (λ (ls : List Loan). Pages z ls m'.page_bits m'.maps m'.cells o'.berth m'.sessions t'.life t'.word t'.given)
+          (sym (loans_after-append [] r.history es)) pages;
       depicts = on.1;
       shows = shows;
       world = world;
@@ -252,6 +139,17 @@ keeps_with z ws ws' vs r me v p es fs m' o' at l d s nd new lends loans kc kw ks
           subst (λ (j : ℕ). Somewhere (set vs me w) j (KeepsSlot i)) (sym x.2)
           (stays_somewhere vs me v w (r.owners.holder i) (KeepsSlot i) at x.3 (r.slots i g low x.0 left x.1)))
           (ks i g low f left b);
+      berths = λ i j b. ⊎_elim
+          (λ (x : (j ≡ me) × HasPage i (o'.berth i) p). record {
+            view = w;
+            there = ap (get_elem? (set vs me w)) x.0 ∙ set_there vs me v w at;
+            holds = page_told i (o'.berth i) p zs es fs x.1;
+          })
+          (λ (x : (o'.berth i ≡ r.owners.berth i) × (HasPage i (r.owners.berth i) v → HasPage i (r.owners.berth i) p)).
+          stays_somewhere vs me v w j (HasPage i (o'.berth i)) at
+          (λ y. page_told i (o'.berth i) p zs es fs (subst (λ (c : Berth). HasPage i c p) (sym x.0) (x.1 (subst (λ (c : Berth). HasPage i c v) x.0 y))))
+          (subst (λ (c : Berth). Somewhere vs j (HasPage i c)) (sym x.0) (r.berths i j (subst (IsAt j) x.0 b))))
+          (kp i j b);
       held = λ a.
           let x = total-set (holds_of a) vs me v w at in
           let y = r.held a in
@@ -262,7 +160,8 @@ keeps_with z ws ws' vs r me v p es fs m' o' at l d s nd new lends loans kc kw ks
           (λ (e : (j ≡ me) × (w ≡ y)). subst (λ (x : ℕ × View). Knows z (r.history ++ es) m' t' o' x.0 x.1) (λ i. (sym e.0 i, e.1 i))
           (own_view z r.history zs me r.memory m' r.machine r.owners o' es fs v p k l d is s q
           (handles_told (limit_of z) r.machine v p r.history zs es fs l d.allowed is u.mine s kh u.handles)))
-          (λ (e : (j ≢ me) × (get_elem? vs j ≡ some y)). others_know z r.history me v.caller r.memory r.machine r.owners es m' o' d u.seated u.number j y e.0
+          (λ (e : (j ≢ me) × (get_elem? vs j ≡ some y)). others_know z r.history me v.caller r.memory r.machine r.owners es m' o' d u.seated u.number
+          (λ c a x. (r.world.marked c a x).stands) j y e.0
           (r.each j y e.1))
           (at_set vs me j w y at');
       counted = counted_set r.memory m' vs me w more d.terms
@@ -280,19 +179,20 @@ keeps_with z ws ws' vs r me v p es fs m' o' at l d s nd new lends loans kc kw ks
     } in
     let seen : w.seen ≡ r.history ++ es = ap (λ (xs : List Entry). (xs ++ zs) ++ es) s.seen ∙ ap (λ (xs : List Entry). xs ++ es) (sym is) in
     let sound = sound_of z ws' (set vs me w) rule me w (set_there vs me v w at) (s.live ∙ l) refl seen in
-    (w, rule, gives_by z r.history zs me r.memory m' r.machine r.owners o' es fs v p k l d is s sound)
+    (w, rule, gives_by z r.history zs me r.memory m' r.machine r.owners o' es fs v p k l d is s sound, seen)
 
 -- where no slot was looked for
 pub keeps : (z : Shape) (ws ws' : List ℕ) (vs : List View) (r : Rule z ws vs) (me : ℕ) (v p : View) (es : List Entry) (fs : ℕ → List Find) (m' : Memory)
     (o' : Owners)
     → get_elem? vs me ≡ some v → v.live ≡ true → Moved me z v.caller r.memory r.machine r.owners es m' o' → Same v p → NoDraw fs
-    → MayLend (span z) r.machine (lent r.history) es → Loans (loans_after (lent r.history) es) m'.sessions (moved_by r.machine es).life
+    → MayLend z.page_words r.machine (lent r.history) es → PagesAfter z r.history m' r.machine o' es
     → KeepsCloses me v p r.machine r.owners (moved_by r.machine es) o'
     → KeepsSweeps me v p r.memory r.machine r.owners m' (moved_by r.machine es) o' → KeepsSlots z me v p r.memory r.owners m' o'
+    → KeepsPages me v p r.owners o'
     → KeepsHolds v p r.machine (moved_by r.machine es)
     → Shows z ws' m' → World z m' (moved_by r.machine es)
     → Part z m' (moved_by r.machine es) o' me p
-    → (w : View) × Rule z ws' (set vs me w) × Gives v p es fs w
+    → (w : View) × (rule : Rule z ws' (set vs me w)) × Gives v p es fs w × (w.seen ≡ rule.history)
 keeps z ws ws' vs r me v p es fs m' o' at l d s nd =
     keeps_with z ws ws' vs r me v p es fs m' o' at l d s (λ n f i. let y = nd n f i in (y.0, y.1))
-    (none_founded z r.history r.memory r.owners.taker r.machine.life v.caller fs (λ n f i. (nd n f i).2) (length r.history))
+    (none_founded z r.history r.memory r.owners.taker r.machine.life v.caller fs (λ n f i. let y = nd n f i in (y.2, y.3)) (length r.history))

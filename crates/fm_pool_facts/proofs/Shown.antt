@@ -1,18 +1,18 @@
 -- Words beside the memory: distinct places are distinct words, and one word that is set is one place of the memory.
-use Rattle.std.proofs.Common.{◌≡◌, ◌≢◌, ℕ, ◌+◌, ◌*◌, ◌<◌, List, length, get_or, set, Option, sym, refl, ap, ◌∙◌, subst, arith, length-set, get_or-set_other, get_or-set_same, mul_assoc, mul_comm}
+use Rattle.std.proofs.Common.{◌≡◌, ◌≢◌, ℕ, ◌<◌, List, length, get_or, set, Option, sym, refl, ap, ◌∙◌, subst, arith, length-set, get_or-set_other, get_or-set_same}
 use mathlib.Core.Logic.{dite}
 use native.Mathlib.Decide.{ℕ_discrete}
-use Rattle.std.proofs.lemmas.Nat.{mul-add-lt, same_from_place}
 use lib.Seq.{set-get_or}
 use Rattle.fm_words.specs.declared.shape.Shape.{Shape}
 use Rattle.fm_words.specs.Shapes.{IsValid}
-use Rattle.fm_words.specs.Places.{at, front as front_place, draw as draw_place, slot_bits as bits_place, mark, session, given as given_place, words as word_count}
+use Rattle.fm_words.specs.Places.{Place, IsPlace, at, front as front_place, draw as draw_place, slot_bits as bits_place, page_bits as page_bits_place, mark, session, given as given_place, map, page_word, words as word_count}
 use Rattle.fm_base.specs.declared.arena_id.ArenaId.{ArenaId}
 use Rattle.fm_depicts.specs.Functions.{put}
 use Rattle.fm_depicts.proofs.Putting.{put_here, put_else}
-use Rattle.fm_pool_facts.specs.Views.{span}
+use Rattle.fm_pool_facts.proofs.Putting.{two_cases}
+use Rattle.fm_words.proofs.Tables.{at-within, at-apart}
 use Rattle.fm_pool_facts.specs.Words.{own_word}
-use Rattle.fm_pool_facts.specs.Facts.{Memory, Session, session_code, cell_at, Shows}
+use Rattle.fm_pool_facts.specs.Facts.{Memory, Session, session_code, own_map, Shows}
 
 -- ---- places
 
@@ -21,76 +21,100 @@ data Spot : Type 0 where
   fronted : Spot
   drawn : Spot
   bits : Spot
+  page_spot : Spot
   marked : ℕ → Spot
   seated : ℕ → Spot
   counted : ℕ → Spot
+  mapping : ℕ → ℕ → Spot
   cell : ℕ → ℕ → Spot
 
 spot_at : Shape → Spot → ℕ
 spot_at z fronted = at z front_place
 spot_at z drawn = at z draw_place
 spot_at z bits = at z bits_place
+spot_at z page_spot = at z page_bits_place
 spot_at z (marked k) = at z (mark k)
 spot_at z (seated s) = at z (session s)
 spot_at z (counted s) = at z (given_place s)
-spot_at z (cell s w) = cell_at z s w
+spot_at z (mapping s i) = at z (map s i)
+spot_at z (cell p w) = at z (page_word p w)
 
 IsSpot : Shape → Spot → Type 0
 IsSpot z fronted = Unit {0}
 IsSpot z drawn = Unit {0}
 IsSpot z bits = Unit {0}
+IsSpot z page_spot = Unit {0}
 IsSpot z (marked k) = k < z.passes
 IsSpot z (seated s) = s < z.slots
 IsSpot z (counted s) = s < z.slots
-IsSpot z (cell s w) = (s < z.slots) × (w < span z)
+IsSpot z (mapping s i) = (s < z.slots) × (i < z.reach)
+IsSpot z (cell p w) = (p < z.pages) × (w < z.page_words)
 
 word_of : Shape → Memory → Spot → ℕ
 word_of z m fronted = 0
 word_of z m drawn = m.draw
 word_of z m bits = m.bits
+word_of z m page_spot = m.page_bits
 word_of z m (marked k) = own_word (m.marks k)
 word_of z m (seated s) = session_code z.generations (m.sessions s) (m.counts s)
 word_of z m (counted s) = m.given s
-word_of z m (cell s w) = m.cells s w
+word_of z m (mapping s i) = own_map (m.maps s i)
+word_of z m (cell p w) = m.cells p w
+
+-- the place of a spot
+place_of : Spot → Place
+place_of fronted = front_place
+place_of drawn = draw_place
+place_of bits = bits_place
+place_of page_spot = page_bits_place
+place_of (marked k) = mark k
+place_of (seated s) = session s
+place_of (counted s) = given_place s
+place_of (mapping s i) = map s i
+place_of (cell p w) = page_word p w
+
+spot_is : (z : Shape) (p : Spot) → spot_at z p ≡ at z (place_of p)
+unfolding spot_at place_of
+spot_is z fronted = refl
+spot_is z drawn = refl
+spot_is z bits = refl
+spot_is z page_spot = refl
+spot_is z (marked k) = refl
+spot_is z (seated s) = refl
+spot_is z (counted s) = refl
+spot_is z (mapping s i) = refl
+spot_is z (cell p w) = refl
+
+spot_place : (z : Shape) (p : Spot) → IsSpot z p → IsPlace z (place_of p)
+unfolding IsSpot place_of
+spot_place z fronted h = tt
+spot_place z drawn h = tt
+spot_place z bits h = tt
+spot_place z page_spot h = tt
+spot_place z (marked k) h = h
+spot_place z (seated s) h = h
+spot_place z (counted s) h = h
+spot_place z (mapping s i) h = h
+spot_place z (cell p w) h = h
+
+same_spot_of : (p q : Spot) → place_of p ≡ place_of q → p ≡ q
+unfolding place_of
+same_spot_of fronted fronted e = refl
+same_spot_of drawn drawn e = refl
+same_spot_of bits bits e = refl
+same_spot_of page_spot page_spot e = refl
+same_spot_of (marked k) (marked i) e = let h : k ≡ i = cc in ap marked h
+same_spot_of (seated k) (seated i) e = let h : k ≡ i = cc in ap seated h
+same_spot_of (counted k) (counted i) e = let h : k ≡ i = cc in ap counted h
+same_spot_of (mapping s i) (mapping t j) e = let h : s ≡ t = cc in let g : i ≡ j = cc in λ n. mapping (h n) (g n)
+same_spot_of (cell s i) (cell t j) e = let h : s ≡ t = cc in let g : i ≡ j = cc in λ n. cell (h n) (g n)
+same_spot_of _ _ e = absurd (cc)
 
 spot_one : (z : Shape) (p q : Spot) → IsSpot z p → IsSpot z q → spot_at z p ≡ spot_at z q → p ≡ q
-unfolding spot_at IsSpot at cell_at
-spot_one z fronted fronted a b e = refl
-spot_one z drawn drawn a b e = refl
-spot_one z bits bits a b e = refl
-spot_one z (marked k) (marked i) a b e = let h : k ≡ i = omega arith in ap marked h
-spot_one z (seated k) (seated i) a b e = let h : k ≡ i = omega arith in ap seated h
-spot_one z (counted k) (counted i) a b e = let h : k ≡ i = omega arith in ap counted h
-spot_one z (cell s w) (cell t v) a b e =
-    let x : ℕ = s * span z in let y : ℕ = t * span z in
-    let g : x + w ≡ y + v = omega arith in
-    let same = same_from_place s w t v (span z) a.1 b.1 g in
-    λ j. cell (same.0 j) (same.1 j)
-spot_one z _ _ a b e = absurd (omega arith)
-
-all_words : (z : Shape) → IsValid z → z.slots * span z ≡ z.pages * z.page_words
-all_words z v = sym (mul_assoc z.slots z.reach z.page_words) ∙ ap (λ (k : ℕ). k * z.page_words) (sym v.owned)
-
--- a word of a slot lies in the table
-pub cell_below : (z : Shape) (s w : ℕ) → IsValid z → s < z.slots → w < span z → cell_at z s w < word_count z
-unfolding cell_at word_count
-cell_below z s w v h l =
-    let all : ℕ = z.pages * z.page_words in
-    let x : ℕ = s * span z in
-    let a = mul-add-lt s (span z) w z.slots h l in
-    let b : x + w < z.slots * span z = subst (λ (k : ℕ). x + w < k) (mul_comm (span z) z.slots) a in
-    let c : x + w < all = subst (λ (k : ℕ). x + w < k) (all_words z v) b in
-    omega arith
+spot_one z p q a b e = same_spot_of p q (at-apart z (place_of p) (place_of q) (spot_place z p a) (spot_place z q b) (sym (spot_is z p) ∙ (e ∙ spot_is z q)))
 
 spot_below : (z : Shape) (p : Spot) → IsValid z → IsSpot z p → spot_at z p < word_count z
-unfolding spot_at IsSpot at word_count
-spot_below z fronted v h = omega arith
-spot_below z drawn v h = omega arith
-spot_below z bits v h = omega arith
-spot_below z (marked k) v h = omega arith
-spot_below z (seated s) v h = omega arith
-spot_below z (counted s) v h = omega arith
-spot_below z (cell s w) v h = cell_below z s w v h.0 h.1
+spot_below z p v h = subst (λ (i : ℕ). i < word_count z) (sym (spot_is z p)) (at-within z (place_of p) (spot_place z p h))
 
 -- ---- words that are set
 
@@ -102,9 +126,11 @@ unfolding spot_at IsSpot word_of
 shown z ws m r fronted h = r.front
 shown z ws m r drawn h = r.draw
 shown z ws m r bits h = r.slot_bits
+shown z ws m r page_spot h = r.page_bits
 shown z ws m r (marked k) h = r.marks k h
 shown z ws m r (seated s) h = r.sessions s h
 shown z ws m r (counted s) h = r.given s h
+shown z ws m r (mapping s i) h = r.maps s i h.0 h.1
 shown z ws m r (cell s w) h = r.cells s w h.0 h.1
 
 shows_by : (z : Shape) (ws : List ℕ) (m : Memory) → length ws ≡ word_count z → ((k : ℕ) → m.terms k ≡ 0)
@@ -115,10 +141,12 @@ shows_by z ws m w t f = record {
   front = f fronted tt;
   draw = f drawn tt;
   slot_bits = f bits tt;
+  page_bits = f page_spot tt;
   terms = t;
   marks = λ k h. f (marked k) h;
   sessions = λ s h. f (seated s) h;
   given = λ s h. f (counted s) h;
+  maps = λ s i a b. f (mapping s i) (a, b);
   cells = λ s w a b. f (cell s w) (a, b);
 }
 
@@ -141,12 +169,7 @@ module _ (z : Shape) (v : IsValid z) (ws : List ℕ) (m : Memory) (r : Shows z w
     where
       others : (q : Spot) → q ≢ marked k → word_of z (record m { marks = put m.marks k x }) q ≡ word_of z m q
       others (marked i) n = ap own_word (put_else m.marks k x i (λ e. n (ap marked e)))
-      others fronted n = refl
-      others drawn n = refl
-      others bits n = refl
-      others (seated s) n = refl
-      others (counted s) n = refl
-      others (cell s w) n = refl
+      others q n = refl
 
   pub shows_session : (k : ℕ) (x : Session) (c : ℕ) → k < z.slots
       → Shows z (set ws (at z (session k)) (session_code z.generations x c)) (record m { sessions = put m.sessions k x; counts = put m.counts k c })
@@ -157,29 +180,36 @@ module _ (z : Shape) (v : IsValid z) (ws : List ℕ) (m : Memory) (r : Shows z w
       others : (q : Spot) → q ≢ seated k → word_of z (record m { sessions = put m.sessions k x; counts = put m.counts k c }) q ≡ word_of z m q
       others (seated i) n = λ j.
           session_code z.generations (put_else m.sessions k x i (λ e. n (ap seated e)) j) (put_else m.counts k c i (λ e. n (ap seated e)) j)
-      others fronted n = refl
-      others drawn n = refl
-      others bits n = refl
-      others (marked i) n = refl
-      others (counted s) n = refl
-      others (cell s w) n = refl
+      others q n = refl
 
-  pub shows_cell : (k c x : ℕ) → k < z.slots → c < span z → Shows z (set ws (cell_at z k c) x) (record m { cells = put m.cells k (put (m.cells k) c x) })
+  pub shows_cell : (k c x : ℕ) → k < z.pages → c < z.page_words
+      → Shows z (set ws (at z (page_word k c)) x) (record m { cells = put m.cells k (put (m.cells k) c x) })
   unfolding spot_at IsSpot word_of
   shows_cell k c x h l = one_set (record m { cells = put m.cells k (put (m.cells k) c x) }) (cell k c) x (h, l) r.terms
       ((λ j. put_here m.cells k (put (m.cells k) c x) j c) ∙ put_here (m.cells k) c x) others
     where
       others : (q : Spot) → q ≢ cell k c → word_of z (record m { cells = put m.cells k (put (m.cells k) c x) }) q ≡ word_of z m q
-      others (cell s w) n = dite (ℕ_discrete s k)
-          (λ e. (λ j. put m.cells k (put (m.cells k) c x) (e j) w) ∙ ((λ j. put_here m.cells k (put (m.cells k) c x) j w)
-          ∙ (put_else (m.cells k) c x w (λ f. n (λ j. cell (e j) (f j))) ∙ (λ j. m.cells (sym e j) w))))
-          (λ e. (λ j. put_else m.cells k (put (m.cells k) c x) s e j w))
-      others fronted n = refl
-      others drawn n = refl
-      others bits n = refl
-      others (marked i) n = refl
-      others (seated s) n = refl
-      others (counted s) n = refl
+      others (cell s w) n = two_cases m.cells k c x s w (λ (y : ℕ). y ≡ m.cells s w) (λ e f. absurd (n (λ j. cell (e j) (f j)))) (λ e. refl)
+      others q n = refl
+
+  pub shows_map : (k c : ℕ) (x : Option ℕ) → k < z.slots → c < z.reach
+      → Shows z (set ws (at z (map k c)) (own_map x)) (record m { maps = put m.maps k (put (m.maps k) c x) })
+  unfolding spot_at IsSpot word_of
+  shows_map k c x h l = one_set (record m { maps = put m.maps k (put (m.maps k) c x) }) (mapping k c) (own_map x) (h, l) r.terms
+      (ap own_map ((λ j. put_here m.maps k (put (m.maps k) c x) j c) ∙ put_here (m.maps k) c x)) others
+    where
+      others : (q : Spot) → q ≢ mapping k c → word_of z (record m { maps = put m.maps k (put (m.maps k) c x) }) q ≡ word_of z m q
+      others (mapping s w) n =
+          two_cases m.maps k c x s w (λ (y : Option ℕ). own_map y ≡ own_map (m.maps s w)) (λ e f. absurd (n (λ j. mapping (e j) (f j)))) (λ e. refl)
+      others q n = refl
+
+  pub shows_page_bits : (n : ℕ) → Shows z (set ws (at z page_bits_place) n) (record m { page_bits = n })
+  unfolding spot_at IsSpot word_of
+  shows_page_bits n = one_set (record m { page_bits = n }) page_spot n tt r.terms refl others
+    where
+      others : (q : Spot) → q ≢ page_spot → word_of z (record m { page_bits = n }) q ≡ word_of z m q
+      others page_spot ne = absurd (ne refl)
+      others q ne = refl
 
   pub shows_count : (k c : ℕ) → k < z.slots
       → Shows z (set ws (at z (session k)) (session_code z.generations (m.sessions k) c)) (record m { counts = put m.counts k c })
@@ -189,12 +219,7 @@ module _ (z : Shape) (v : IsValid z) (ws : List ℕ) (m : Memory) (r : Shows z w
     where
       others : (q : Spot) → q ≢ seated k → word_of z (record m { counts = put m.counts k c }) q ≡ word_of z m q
       others (seated i) n = ap (session_code z.generations (m.sessions i)) (put_else m.counts k c i (λ e. n (ap seated e)))
-      others fronted n = refl
-      others drawn n = refl
-      others bits n = refl
-      others (marked i) n = refl
-      others (counted s) n = refl
-      others (cell s w) n = refl
+      others q n = refl
 
   pub shows_given : (k c : ℕ) → k < z.slots → Shows z (set ws (at z (given_place k)) c) (record m { given = put m.given k c })
   unfolding spot_at IsSpot word_of
@@ -202,12 +227,7 @@ module _ (z : Shape) (v : IsValid z) (ws : List ℕ) (m : Memory) (r : Shows z w
     where
       others : (q : Spot) → q ≢ counted k → word_of z (record m { given = put m.given k c }) q ≡ word_of z m q
       others (counted i) n = put_else m.given k c i (λ e. n (ap counted e))
-      others fronted n = refl
-      others drawn n = refl
-      others bits n = refl
-      others (marked i) n = refl
-      others (seated i) n = refl
-      others (cell s w) n = refl
+      others q n = refl
 
   pub shows_draw : (n : ℕ) → Shows z (set ws (at z draw_place) n) (record m { draw = n })
   unfolding spot_at IsSpot word_of
@@ -215,12 +235,7 @@ module _ (z : Shape) (v : IsValid z) (ws : List ℕ) (m : Memory) (r : Shows z w
     where
       others : (q : Spot) → q ≢ drawn → word_of z (record m { draw = n }) q ≡ word_of z m q
       others drawn ne = absurd (ne refl)
-      others fronted ne = refl
-      others bits ne = refl
-      others (marked i) ne = refl
-      others (seated i) ne = refl
-      others (counted i) ne = refl
-      others (cell s w) ne = refl
+      others q ne = refl
 
   pub shows_bits : (n : ℕ) → Shows z (set ws (at z bits_place) n) (record m { bits = n })
   unfolding spot_at IsSpot word_of
@@ -228,9 +243,4 @@ module _ (z : Shape) (v : IsValid z) (ws : List ℕ) (m : Memory) (r : Shows z w
     where
       others : (q : Spot) → q ≢ bits → word_of z (record m { bits = n }) q ≡ word_of z m q
       others bits ne = absurd (ne refl)
-      others fronted ne = refl
-      others drawn ne = refl
-      others (marked i) ne = refl
-      others (seated i) ne = refl
-      others (counted i) ne = refl
-      others (cell s w) ne = refl
+      others q ne = refl

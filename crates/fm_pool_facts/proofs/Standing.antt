@@ -9,7 +9,7 @@ use Rattle.fm_depicts.specs.Functions.{Stage, Fresh, Lives, Closes, Over, put, p
 use Rattle.fm_depicts.proofs.Putting.{put_here, put_else, at_here, at_other, put_cases, at_cases}
 use Rattle.std.specs.Int.{bit_at}
 use Rattle.fm_pool_facts.specs.Views.{Fits}
-use Rattle.fm_pool_facts.specs.Facts.{Session, free, live, shut, IsStanding, Sessions, Slots}
+use Rattle.fm_pool_facts.specs.Facts.{Session, free, live, shut, IsStanding, IsShown, Sessions, Slots}
 
 -- callers of one number and term are one
 pub caller_is : (c d : Caller) → c.number ≡ d.number → c.term ≡ d.term → c ≡ d
@@ -20,7 +20,22 @@ pub standing_known : (l : Stage) → IsStanding l → l ≢ Fresh
 standing_known l (inl e) f = let g : Lives ≡ Fresh = sym e ∙ f in absurd (cc)
 standing_known l (inr e) f = let g : Closes ≡ Fresh = sym e ∙ f in absurd (cc)
 
+-- what has ended doesn't stand
+pub unstanding : (l : Stage) → l ≡ Over → ¬ (IsStanding l)
+unstanding l o (inl e) = let q : Over ≡ Lives = sym o ∙ e in absurd (cc)
+unstanding l o (inr e) = let q : Over ≡ Closes = sym o ∙ e in absurd (cc)
+
 -- ---- sessions
+
+-- what a session shows of a slot is one arena
+pub shown_one : (sessions : ℕ → Session) (a b : ArenaId) → a.slot ≡ b.slot → IsShown sessions a → IsShown sessions b → a ≡ b
+shown_one sessions a b e x y = both (subst (λ (k : ℕ). (sessions k ≡ live a) ⊎ (sessions k ≡ shut a)) e x) y
+  where
+    both : (sessions b.slot ≡ live a) ⊎ (sessions b.slot ≡ shut a) → (sessions b.slot ≡ live b) ⊎ (sessions b.slot ≡ shut b) → a ≡ b
+    both (inl u) (inl v) = cc
+    both (inl u) (inr v) = absurd (cc)
+    both (inr u) (inl v) = absurd (cc)
+    both (inr u) (inr v) = cc
 
 module _ (z : Shape) (sessions : ℕ → Session) (life : ArenaId → Stage) (r : Sessions z sessions life) where
   pub standing_shown : (c : ArenaId) → IsStanding (life c) → (sessions c.slot ≡ live c) ⊎ (sessions c.slot ≡ shut c)
@@ -29,13 +44,7 @@ module _ (z : Shape) (sessions : ℕ → Session) (life : ArenaId → Stage) (r 
 
   -- two arenas that stand in one slot are one
   pub one_standing : (a b : ArenaId) → IsStanding (life a) → IsStanding (life b) → a.slot ≡ b.slot → a ≡ b
-  one_standing a b p q e = both (subst (λ (s : ℕ). (sessions s ≡ live a) ⊎ (sessions s ≡ shut a)) e (standing_shown a p)) (standing_shown b q)
-    where
-      both : (sessions b.slot ≡ live a) ⊎ (sessions b.slot ≡ shut a) → (sessions b.slot ≡ live b) ⊎ (sessions b.slot ≡ shut b) → a ≡ b
-      both (inl u) (inl v) = cc
-      both (inl u) (inr v) = absurd (cc)
-      both (inr u) (inl v) = absurd (cc)
-      both (inr u) (inr v) = cc
+  one_standing a b p q e = shown_one sessions a b e (standing_shown a p) (standing_shown b q)
 
   -- no arena stands in a free slot
   pub free_apart : (s g : ℕ) (b : ArenaId) → sessions s ≡ free g → IsStanding (life b) → s ≢ b.slot

@@ -1,7 +1,6 @@
 -- No words are lent to an arena that has ended and whose words were taken back.
-use Rattle.std.proofs.Common.{◌≡◌, ℕ, ◌==◌, Bool, true, List, [], ◌∷◌, ◌++◌, sym, ap, ◌∙◌, subst, not, filter, ⊎_elim, eq-eqb}
+use Rattle.std.proofs.Common.{◌≡◌, ℕ, ◌==◌, true, List, [], ◌∷◌, ◌++◌, sym, ap, ◌∙◌, subst, not, ⊎_elim}
 use Rattle.std.specs.Prelude.{Contains}
-use Rattle.std.proofs.lemmas.List.Elements.{All-contains, filter_passes}
 use Rattle.fm_base.specs.declared.arena_id.ArenaId.{ArenaId}
 use Rattle.fm_base.specs.Arenas.{State, Ended, has_arena, arena_of}
 use Rattle.fm_base.specs.Calls.{Call, Open, Enter, Read, Write, SwapIf, Add, Allocate, Leave, Hold, Unhold, Shut, End, Lend, Back, Entry}
@@ -43,19 +42,13 @@ none_lent_on size limit s loans (e ∷ es) a l h o r n =
 
 -- ---- histories
 
--- after an entry that takes a slot's words back nothing is lent to an arena of the slot
-pub none_lent_back : (h : List Entry) (e : Entry) (a : ArenaId) → e.call ≡ Back a.slot
-    → ((l : Loan) → Contains (lent (h ++ e ∷ [])) l → l.block ≡ l.id.slot) → IsUnlent (lent (h ++ e ∷ [])) a
-none_lent_back h e a back own l i q =
-    let p : Loan → Bool = λ x. not (x.block == a.slot) in
-    let is : lent (h ++ e ∷ []) ≡ filter p (lent h) = loans_after-append [] h (e ∷ []) ∙ ap (loans_by (lent h)) back in
-    let passes : not (l.block == a.slot) ≡ true =
-    All-contains (λ x. p x ≡ true) (filter p (lent h)) l (filter_passes p (lent h)) (subst (λ (ls : List Loan). Contains ls l) is i) in
-    let b : l.block ≡ a.slot = own l i ∙ ap (λ (x : ArenaId). x.slot) q in
-    let t : not true ≡ true = ap not (sym (eq-eqb l.block a.slot b)) ∙ passes in
-    absurd (cc)
+-- both parts of a history that is rightly lent are so
+pub lent-first : (size limit : ℕ) (s : State) (loans : List Loan) (es fs : List Entry) → IsRightlyLentFrom size limit s loans (es ++ fs)
+    → IsRightlyLentFrom size limit s loans es
+lent-first size limit s loans [] fs r = tt
+lent-first size limit s loans (e ∷ es) fs r = (r.0, lent-first size limit (after limit s e) (loans_by loans e.call) es fs r.1)
 
-lent-split : (size limit : ℕ) (s : State) (loans : List Loan) (es fs : List Entry) → IsRightlyLentFrom size limit s loans (es ++ fs)
+pub lent-split : (size limit : ℕ) (s : State) (loans : List Loan) (es fs : List Entry) → IsRightlyLentFrom size limit s loans (es ++ fs)
     → IsRightlyLentFrom size limit (state_after limit s es) (loans_after loans es) fs
 lent-split size limit s loans [] fs r = r
 lent-split size limit s loans (e ∷ es) fs r = lent-split size limit (after limit s e) (loans_by loans e.call) es fs r.1

@@ -6,8 +6,8 @@ use Rattle.fm_base.specs.declared.arena_id.ArenaId.{ArenaId}
 use Rattle.fm_depicts.specs.Functions.{Stage, Fresh, Lives, Closes, Over, Machine, put, put_at, put_by}
 use Rattle.fm_depicts.proofs.Putting.{put_here, put_else, put_cases, at_cases, by_cases}
 use Rattle.std.specs.Int.{bit_at}
-use Rattle.fm_pool_facts.specs.Views.{Fits, span}
-use Rattle.fm_pool_facts.specs.Facts.{Session, free, live, shut, Memory, IsStanding, IsMarked, Counts, Givens, Cells, World}
+use Rattle.fm_pool_facts.specs.Views.{Fits}
+use Rattle.fm_pool_facts.specs.Facts.{Session, free, live, shut, Memory, IsStanding, IsMarked, Counts, Givens, World}
 use Rattle.fm_pool_facts.proofs.Standing.{caller_is, standing_known, one_standing, free_apart, sessions_shut, sessions_end, open_new, sessions_open, slots_used}
 
 -- ---- holds, given bytes and words
@@ -68,37 +68,6 @@ module _ (sessions : ℕ → Session) (words : ℕ → ℕ) (life : ArenaId → 
     clean = λ s g. put_cases sessions a.slot (live a) s (λ (x : Session). x ≡ free g → words s ≡ 0) (λ e q. absurd (cc)) (λ n q. r.clean s g q);
   }
 
-module _ (z : Shape) (sessions : ℕ → Session) (cells : ℕ → ℕ → ℕ) (life : ArenaId → Stage) (word : ArenaId → ℕ → ℕ) (r : Cells z sessions cells life word)
-    (a : ArenaId) where
-  pub cells_shut : life a ≡ Lives → Cells z (put sessions a.slot (shut a)) cells (put_at life a Closes) word
-  cells_shut l = record {
-    shown =
-        λ b w. at_cases life a Closes b (λ (x : Stage). IsStanding x → w < span z → word b w ≡ cells b.slot w) (λ e q. r.shown b w (inl (ap life e
-        ∙ l))) (λ n q. r.shown b w q);
-    none = λ b w. at_cases life a Closes b (λ (x : Stage). x ≡ Fresh → word b w ≡ 0) (λ e q. absurd (cc)) (λ n q. r.none b w q);
-    clean =
-        λ s g w. put_cases sessions a.slot (shut a) s (λ (x : Session). x ≡ free g → w < span z → cells s w ≡ 0) (λ e q. absurd (cc)) (λ n q. r.clean s g w q);
-  }
-
-  pub cells_end : Cells z sessions cells (put_at life a Over) word
-  cells_end = record {
-    shown =
-        λ b w. at_cases life a Over b (λ (x : Stage). IsStanding x → w < span z → word b w ≡ cells b.slot w)
-        (λ e. ⊎_elim (λ q. absurd (cc)) (λ q. absurd (cc))) (λ n q. r.shown b w q);
-    none = λ b w. at_cases life a Over b (λ (x : Stage). x ≡ Fresh → word b w ≡ 0) (λ e q. absurd (cc)) (λ n q. r.none b w q);
-    clean = r.clean;
-  }
-
-  pub cells_open : sessions a.slot ≡ free a.generation → life a ≡ Fresh → Cells z (put sessions a.slot (live a)) cells (put_at life a Lives) word
-  cells_open f new = record {
-    shown = λ b w. at_cases life a Lives b (λ (x : Stage). IsStanding x → w < span z → word b w ≡ cells b.slot w)
-        (λ e q h. r.none b w (ap life e ∙ new) ∙ sym ((λ j. cells (e j).slot w) ∙ r.clean a.slot a.generation w f h))
-        (λ n q h. r.shown b w q h);
-    none = λ b w. at_cases life a Lives b (λ (x : Stage). x ≡ Fresh → word b w ≡ 0) (λ e q. absurd (cc)) (λ n q. r.none b w q);
-    clean =
-        λ s g w. put_cases sessions a.slot (live a) s (λ (x : Session). x ≡ free g → w < span z → cells s w ≡ 0) (λ e q. absurd (cc)) (λ n q. r.clean s g w q);
-  }
-
 -- ---- each kind of entry
 
 module _ (z : Shape) (m : Memory) (t : Machine) (r : World z m t) where
@@ -114,7 +83,6 @@ module _ (z : Shape) (m : Memory) (t : Machine) (r : World z m t) where
     slots = r.slots;
     counts = r.counts;
     givens = r.givens;
-    cells = r.cells;
   }
 
   pub world_enter : (c : Caller) (a : ArenaId) → c.number < z.passes → c.term ≡ m.terms c.number → m.marks c.number ≡ Some a → t.life a ≡ Lives
@@ -128,7 +96,6 @@ module _ (z : Shape) (m : Memory) (t : Machine) (r : World z m t) where
     slots = r.slots;
     counts = r.counts;
     givens = r.givens;
-    cells = r.cells;
   }
 
   pub world_leave : (c : Caller) → c.term ≡ m.terms c.number
@@ -144,33 +111,26 @@ module _ (z : Shape) (m : Memory) (t : Machine) (r : World z m t) where
     slots = r.slots;
     counts = r.counts;
     givens = r.givens;
-    cells = r.cells;
   }
 
-  pub world_write : (a : ArenaId) (w x : ℕ) → IsStanding (t.life a)
-      → World z (record m { cells = put m.cells a.slot (put (m.cells a.slot) w x) }) (record t { word = put_at t.word a (put (t.word a) w x) })
-  world_write a w x s = record {
-    marked = r.marked;
+  -- words don't matter
+  pub world_word : (cells : ℕ → ℕ → ℕ) (f : ArenaId → ℕ → ℕ) → World z (record m { cells = cells }) (record t { word = f })
+  world_word cells f = record {
+    marked = λ c b i. let w = r.marked c b i in record { number = w.number; term = w.term; mark = w.mark; stands = w.stands };
     sessions = r.sessions;
     slots = r.slots;
     counts = r.counts;
     givens = r.givens;
-    cells = record {
-      shown = λ b v l h. at_cases t.word a (put (t.word a) w x) b (λ (f : ℕ → ℕ). f v ≡ put m.cells a.slot (put (m.cells a.slot) w x) b.slot v)
-          (λ e. put_cases (t.word a) w x v (λ (y : ℕ). y ≡ put m.cells a.slot (put (m.cells a.slot) w x) b.slot v)
-          (λ q. sym ((λ j. put m.cells a.slot (put (m.cells a.slot) w x) (e j).slot (q j))
-          ∙ ((λ j. put_here m.cells a.slot (put (m.cells a.slot) w x) j w) ∙ put_here (m.cells a.slot) w x)))
-          (λ n. r.cells.shown a v s h ∙ sym ((λ j. put m.cells a.slot (put (m.cells a.slot) w x) (e j).slot v)
-          ∙ ((λ j. put_here m.cells a.slot (put (m.cells a.slot) w x) j v) ∙ put_else (m.cells a.slot) w x v n))))
-          (λ n. r.cells.shown b v l h
-          ∙ (λ j. sym (put_else m.cells a.slot (put (m.cells a.slot) w x) b.slot (λ q. n (one_standing z m.sessions t.life r.sessions b a l s q))) j v));
-      none = λ b v l. at_cases t.word a (put (t.word a) w x) b (λ (f : ℕ → ℕ). f v ≡ 0)
-          (λ e. absurd (standing_known (t.life a) s (ap t.life (sym e) ∙ l)))
-          (λ n. r.cells.none b v l);
-      clean =
-          λ k g v f h. (λ j. put_else m.cells a.slot (put (m.cells a.slot) w x) k (free_apart z m.sessions t.life r.sessions k g a f s) j v)
-          ∙ r.cells.clean k g v f h;
-    };
+  }
+
+  -- nor do pages
+  pub world_pages : (bits : ℕ) (maps : ℕ → ℕ → Option ℕ) (cells : ℕ → ℕ → ℕ) → World z (record m { page_bits = bits; maps = maps; cells = cells }) t
+  world_pages bits maps cells = record {
+    marked = λ c b i. let w = r.marked c b i in record { number = w.number; term = w.term; mark = w.mark; stands = w.stands };
+    sessions = r.sessions;
+    slots = r.slots;
+    counts = r.counts;
+    givens = r.givens;
   }
 
   pub world_shut : (a : ArenaId) → t.life a ≡ Lives → t.holds a ≡ 0
@@ -190,7 +150,6 @@ module _ (z : Shape) (m : Memory) (t : Machine) (r : World z m t) where
         let y = r.slots.bit_is a.slot b in let q : free y.0 ≡ live a = sym y.1 ∙ r.sessions.alive_shown a l in absurd (cc));
     counts = counts_shut m.counts t.life t.holds r.counts a no_holds (λ b q n e. n (one_standing z m.sessions t.life r.sessions b a (inl q) (inl l) e));
     givens = givens_shut m.sessions m.given t.life t.given r.givens a l;
-    cells = cells_shut z m.sessions m.cells t.life t.word r.cells a l;
   }
 
   pub world_end : (a : ArenaId) → t.life a ≡ Closes → ((k : Caller) → t.inside k ≢ Some a) → World z m (record t { life = put_at t.life a Over })
@@ -208,7 +167,6 @@ module _ (z : Shape) (m : Memory) (t : Machine) (r : World z m t) where
     slots = r.slots;
     counts = counts_end m.counts t.life t.holds r.counts a l;
     givens = givens_end m.sessions m.given t.life t.given r.givens a;
-    cells = cells_end z m.sessions m.cells t.life t.word r.cells a;
   }
 
   pub world_open : (a : ArenaId) → m.sessions a.slot ≡ free a.generation → bit_at m.bits a.slot ≢ 1 → Fits z a
@@ -230,7 +188,6 @@ module _ (z : Shape) (m : Memory) (t : Machine) (r : World z m t) where
         counts =
             counts_open m.counts t.life t.holds r.counts a new (λ b q e. free_apart z m.sessions t.life r.sessions a.slot a.generation b f (inl q) (sym e));
         givens = givens_open m.sessions m.given t.life t.given r.givens a f new;
-        cells = cells_open z m.sessions m.cells t.life t.word r.cells a f new;
       }
 
   -- an arena that is alive has this many holds
@@ -248,7 +205,6 @@ module _ (z : Shape) (m : Memory) (t : Machine) (r : World z m t) where
       few = λ b. at_cases t.holds a n b (λ (x : ℕ). x ≤ 65535) (λ e. few) (λ ne. r.counts.few b);
     };
     givens = r.givens;
-    cells = r.cells;
   }
 
   -- an arena that stands has given so many bytes
@@ -268,7 +224,6 @@ module _ (z : Shape) (m : Memory) (t : Machine) (r : World z m t) where
           (λ ne. r.givens.none b q);
       clean = λ k g f. put_else m.given a.slot n k (free_apart z m.sessions t.life r.sessions k g a f s) ∙ r.givens.clean k g f;
     };
-    cells = r.cells;
   }
 
   -- other slot bits
@@ -279,5 +234,4 @@ module _ (z : Shape) (m : Memory) (t : Machine) (r : World z m t) where
     slots = record { bit_is = λ s b. r.slots.bit_is s (less s b); low = λ s b. r.slots.low s (less s b); within = r.slots.within };
     counts = r.counts;
     givens = r.givens;
-    cells = r.cells;
   }

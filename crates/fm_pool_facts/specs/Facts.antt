@@ -1,5 +1,5 @@
 -- The facts that a pool keeps between any two steps: of its words, of the history, and of all views.
-use Rattle.std.specs.Prelude.{◌≡◌, ◌≢◌, ◌⊎◌, ℕ, ◌+◌, ◌<◌, ◌≤◌, true, List, [], Contains, Option, Some, None}
+use Rattle.std.specs.Prelude.{◌≡◌, ◌≢◌, ◌⊎◌, ℕ, ◌+◌, ◌<◌, ◌≤◌, true, List, [], ◌∷◌, Option, Some, None}
 use mathlib.Core.Option.{some}
 use lib.ListN.{get_elem?}
 use Rattle.fm_words.specs.declared.shape.Shape.{Shape}
@@ -8,23 +8,21 @@ use Rattle.fm_base.specs.declared.caller.Caller.{Caller}
 use Rattle.fm_base.specs.declared.arena_id.ArenaId.{ArenaId}
 use Rattle.fm_base.specs.Calls.{Entry}
 use Rattle.fm_base.specs.Histories.{IsLegal, state_after, made_by}
-use Rattle.fm_pool_facts.specs.Loans.{Loan, loan_of, lent, IsFree, HasPart, IsRightlyLent}
+use Rattle.fm_pool_facts.specs.Loans.{lent, IsRightlyLent}
 use Rattle.fm_base.specs.Finds.{Find, Gathered, Close, is_draw}
 use Rattle.fm_depicts.specs.Functions.{Stage, Fresh, Lives, Closes, Over, Machine, Depicts}
 use Rattle.std.specs.Int.{bit_at}
 use Rattle.fm_pool_facts.specs.Hands.{Hand, nothing, taken, learnt, retired, HasSlot, IsTaker}
-use Rattle.fm_pool_facts.specs.Views.{Met, View, Fits, In, HasOwnHandles, all_gathered, span, limit_of}
+use Rattle.fm_pool_facts.specs.Views.{Met, View, Fits, In, HasOwnHandles, all_gathered, limit_of}
 pub use Rattle.fm_pool_facts.specs.Views.{IsOnce, Begins}
-pub use Rattle.fm_pool_facts.specs.Memory.{Session, free, live, shut, Memory, session_code, Shows, IsShown}
-unfoldable pub use Rattle.fm_pool_facts.specs.Memory.{cell_at}
+pub use Rattle.fm_pool_facts.specs.Memory.{Session, free, live, shut, Memory, session_code, own_map, Shows, IsStanding, IsShown}
+pub use Rattle.fm_pool_facts.specs.Berths.{Berth, loose, claimed, mapped, unmapped, IsAt}
+pub use Rattle.fm_pool_facts.specs.Pages.{Pages}
+use Rattle.fm_pool_facts.specs.Parts.{Mapping, Swept, unread, named, wiping}
 use Rattle.fm_pool_facts.specs.Gone.{IsFounded}
 use Rattle.fm_pool_facts.specs.Holds.{holds_of, total, all_holds}
 
 -- ---- the memory beside the machine
-
--- alive, or shut and not ended
-abbrev pub IsStanding : Stage → Type 0
-IsStanding l = (l ≡ Lives) ⊎ (l ≡ Closes)
 
 -- a caller under way has its number's term, and the number's mark names the arena
 pub record IsMarked (z : Shape) (marks : ℕ → Option ArenaId) (terms : ℕ → ℕ) (life : ArenaId → Stage) (c : Caller) (a : ArenaId) : Type 0 where
@@ -66,26 +64,12 @@ pub record Givens (sessions : ℕ → Session) (words : ℕ → ℕ) (life : Are
   pub none : (a : ArenaId) → life a ≡ Fresh → given a ≡ 0
   pub clean : (s g : ℕ) → sessions s ≡ free g → words s ≡ 0
 
--- the words of a slot are those of its arena, until that ends
-pub record Cells (z : Shape) (sessions : ℕ → Session) (cells : ℕ → ℕ → ℕ) (life : ArenaId → Stage) (word : ArenaId → ℕ → ℕ) : Type 0 where
-  pub shown : (a : ArenaId) (w : ℕ) → IsStanding (life a) → w < span z → word a w ≡ cells a.slot w
-  pub none : (a : ArenaId) (w : ℕ) → life a ≡ Fresh → word a w ≡ 0
-  pub clean : (s g w : ℕ) → sessions s ≡ free g → w < span z → cells s w ≡ 0
-
--- the words of a slot are lent to the arena that its session shows, as its only part, and to none where it is free
-pub record Loans (loans : List Loan) (sessions : ℕ → Session) (life : ArenaId → Stage) : Type 0 where
-  pub part : (a : ArenaId) → IsShown sessions a → Contains loans (loan_of a.slot a 0)
-  pub own : (l : Loan) → Contains loans l → l.block ≡ l.id.slot
-  pub none : (a : ArenaId) (part : ℕ) → life a ≡ Fresh → ¬ (HasPart loans a part)
-  pub clean : (s g : ℕ) → sessions s ≡ free g → IsFree loans s
-
 pub record World (z : Shape) (m : Memory) (t : Machine) : Type 0 where
   pub marked : (c : Caller) (a : ArenaId) → t.inside c ≡ Some a → IsMarked z m.marks m.terms t.life c a
   pub sessions : Sessions z m.sessions t.life
   pub slots : Slots z m.bits m.sessions
   pub counts : Counts m.counts t.life t.holds
   pub givens : Givens m.sessions m.given t.life t.given
-  pub cells : Cells z m.sessions m.cells t.life t.word
 
 -- ---- which seat has what
 
@@ -98,6 +82,8 @@ pub record Owners : Type 0 where
   pub holder : ℕ → ℕ
   -- the caller that took it to open an arena there
   pub taker : ℕ → Option Caller
+  -- where each page is
+  pub berth : ℕ → Berth
 
 -- an unfinished close at the seat j
 pub record IsClosing (t : Machine) (o : Owners) (j : ℕ) (c : Close) : Type 0 where
@@ -110,8 +96,44 @@ pub record IsSweeping (z : Shape) (m : Memory) (t : Machine) (o : Owners) (j : �
   pub owner : o.closer c.arena ≡ j
   pub life : t.life c.arena ≡ Over
   pub session : m.sessions c.arena.slot ≡ shut c.arena
-  pub wiped : (w : ℕ) → w < c.visited → w < span z → m.cells c.arena.slot w ≡ 0
-  pub reset : span z < c.visited → m.given c.arena.slot ≡ 0
+  pub parts : (i : ℕ) → i < c.visited → m.maps c.arena.slot i ≡ None
+  -- the given word shows what it gave, until it is reset
+  pub count : c.visited ≤ z.reach → m.given c.arena.slot ≡ t.given c.arena
+  pub reset : z.reach < c.visited → m.given c.arena.slot ≡ 0
+
+-- the part is the next one of the arena's sweep
+pub record IsNext (sweeps : List Close) (a : ArenaId) (i : ℕ) : Type 0 where
+  pub close : Close
+  pub there : In close sweeps
+  pub arena : close.arena ≡ a
+  pub visited : close.visited ≡ i
+
+-- a page that the sweep at the seat j has, of which so many words are 0
+pub record IsWiped (z : Shape) (maps : ℕ → ℕ → Option ℕ) (cells : ℕ → ℕ → ℕ) (berth : ℕ → Berth) (j : ℕ) (sweeps : List Close) (a : ArenaId) (i p w : ℕ)
+    : Type 0 where
+  pub next : IsNext sweeps a i
+  pub owner : berth p ≡ unmapped j a i
+  pub empty : maps a.slot i ≡ None
+  pub wiped : (o : ℕ) → o < w → o < z.page_words → cells p o ≡ 0
+
+abbrev pub HasSwept : (z : Shape) (maps : ℕ → ℕ → Option ℕ) (cells : ℕ → ℕ → ℕ) (berth : ℕ → Berth) (j : ℕ) (sweeps : List Close) → Swept → Type 0
+HasSwept z maps cells berth j sweeps unread = Unit {0}
+HasSwept z maps cells berth j sweeps (named a i p) = IsNext sweeps a i × (maps a.slot i ≡ Some p)
+HasSwept z maps cells berth j sweeps (wiping a i p w) = IsWiped z maps cells berth j sweeps a i p w
+
+-- no more than one
+abbrev pub IsLone : List ℕ → Type 0
+IsLone ps = (ps ≡ []) ⊎ ((p : ℕ) × (ps ≡ p ∷ []))
+
+-- what the seat j knows of pages
+pub record HasPages (z : Shape) (maps : ℕ → ℕ → Option ℕ) (cells : ℕ → ℕ → ℕ) (berth : ℕ → Berth) (j : ℕ) (inside : Option ArenaId)
+    (reads : List Mapping) (pages : List ℕ) (sweeps : List Close)
+    (swept : Swept) : Type 0 where
+  -- what it has read in a map word stands there, while it is under way
+  pub read : (a : ArenaId) → inside ≡ Some a → (x : Mapping) → In x reads → maps a.slot x.part ≡ Some x.page
+  pub claims : (p : ℕ) → In p pages → berth p ≡ claimed j
+  pub lone : IsLone pages
+  pub sweep : HasSwept z maps cells berth j sweeps swept
 
 -- a slot in the hand of the seat j, whose next generation is g
 pub record IsHeld (z : Shape) (bits : ℕ) (sessions : ℕ → Session) (holder : ℕ → ℕ) (j s g : ℕ) : Type 0 where
@@ -169,6 +191,7 @@ pub record Owns (z : Shape) (h : List Entry) (m : Memory) (t : Machine) (o : Own
   pub swept_once : IsOnce (λ (c : Close). c.arena) v.sweeps
   pub hand : HasInHand z m.bits m.sessions o.holder j v.hand
   pub took : IsTaker o.taker v.caller v.hand
+  pub pages : HasPages z m.maps m.cells o.berth j v.inside v.reads v.pages v.sweeps v.swept
   pub handles : HasOwnHandles v
   pub gathered : (g : Gathered) → In g v.gathered → IsGathered h m t o j v v.seen g
   pub coming : (x : Met) → In x v.met → (g : Gathered) → In g x.gathered → IsGathered h m t o j v x.seen g
@@ -224,6 +247,13 @@ HasSweep a v = (v.live ≡ true) × ((c : Close) × In c v.sweeps × (c.arena �
 abbrev pub KeepsSlot : ℕ → View → Type 0
 KeepsSlot s v = (v.live ≡ true) × HasSlot s v.hand
 
+-- the view has the page, which is there
+abbrev pub HasPage : ℕ → Berth → View → Type 0
+HasPage p loose v = ⊥
+HasPage p (claimed j) v = (v.live ≡ true) × In p v.pages
+HasPage p (mapped k i) v = ⊥
+HasPage p (unmapped j a i) v = (v.live ≡ true) × ((w : ℕ) × (v.swept ≡ wiping a i p w))
+
 -- ---- the rule
 
 pub record Rule (z : Shape) (words : List ℕ) (views : List View) : Type 0 where
@@ -233,8 +263,8 @@ pub record Rule (z : Shape) (words : List ℕ) (views : List View) : Type 0 wher
   pub owners : Owners
   pub valid : IsValid z
   pub legal : IsLegal (limit_of z) [] history
-  pub rightly : IsRightlyLent (span z) (limit_of z) history
-  pub loans : Loans (lent history) memory.sessions machine.life
+  pub rightly : IsRightlyLent z.page_words (limit_of z) history
+  pub pages : Pages z (lent history) memory.page_bits memory.maps memory.cells owners.berth memory.sessions machine.life machine.word machine.given
   pub depicts : Depicts (limit_of z) (state_after (limit_of z) [] history) machine
   pub shows : Shows z words memory
   pub world : World z memory machine
@@ -248,6 +278,7 @@ pub record Rule (z : Shape) (words : List ℕ) (views : List View) : Type 0 wher
   pub swept : (a : ArenaId) → memory.sessions a.slot ≡ shut a → machine.life a ≡ Over → Somewhere views (owners.closer a) (HasSweep a)
   pub slots : (s g : ℕ) → s < z.slots → memory.sessions s ≡ free g → g < z.generations → bit_at memory.bits s ≡ 0
       → Somewhere views (owners.holder s) (KeepsSlot s)
+  pub berths : (p j : ℕ) → IsAt j (owners.berth p) → Somewhere views j (HasPage p (owners.berth p))
   -- an arena is held as often as views have a hold of it; of an automatic one that is alive they have one more
   pub held : (a : ArenaId) → total (holds_of a) views ≡ all_holds a machine
   pub each : (j : ℕ) (v : View) → get_elem? views j ≡ some v → Knows z history memory machine owners j v

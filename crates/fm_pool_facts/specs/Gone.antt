@@ -7,9 +7,9 @@ use Rattle.fm_base.specs.declared.arena_id.ArenaId.{ArenaId}
 use Rattle.fm_base.specs.Arenas.{has_arena, owner_of}
 use Rattle.fm_base.specs.Calls.{Entry}
 use Rattle.fm_base.specs.Histories.{state_after}
-use Rattle.fm_base.specs.Finds.{Find, Gathered, is_slot}
+use Rattle.fm_base.specs.Finds.{Find, Gathered, is_slot, is_page}
 use Rattle.fm_depicts.specs.Functions.{Stage, Fresh}
-use Rattle.fm_pool_facts.specs.Views.{View, In, Begins, IsBusyIn, all_gathered, limit_of}
+use Rattle.fm_pool_facts.specs.Views.{View, In, Begins, IsBusyIn, FewLeft, all_gathered, limit_of}
 use Rattle.fm_pool_facts.specs.Memory.{Session, free, Memory}
 
 -- the caller took the slot to open an arena there, and hasn't yet
@@ -46,8 +46,10 @@ pub record HasFound (z : Shape) (h : List Entry) (m : Memory) (taker : ℕ → O
   pub gone : (s : ℕ) → s < z.slots → IsGone z before m taker life c s
   pub busy : f.clear ≡ true → (s : ℕ) → s < z.slots → IsBusyIn z.generations (state_after (limit_of z) [] before) s
 
-abbrev pub FoundBy : (z : Shape) (h : List Entry) (m : Memory) (taker : ℕ → Option Caller) (life : ArenaId → Stage) (c : Caller) (f : Find) → Type 0
-FoundBy z h m taker life c f = is_slot f.step ≡ true → f.found ≡ 0 → HasFound z h m taker life c f
+-- what a find of c says for good
+pub record FoundBy (z : Shape) (h : List Entry) (m : Memory) (taker : ℕ → Option Caller) (life : ArenaId → Stage) (c : Caller) (f : Find) : Type 0 where
+  pub slot : is_slot f.step ≡ true → f.found ≡ 0 → HasFound z h m taker life c f
+  pub page : is_page f.step ≡ true → f.found ≡ 0 → FewLeft z h f
 
 -- what a view has found, and those that are gathered into it
 pub record IsFounded (z : Shape) (h : List Entry) (m : Memory) (taker : ℕ → Option Caller) (life : ArenaId → Stage) (v : View) : Type 0 where

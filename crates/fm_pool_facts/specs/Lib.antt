@@ -1,12 +1,16 @@
 pub mod Loans
+pub mod Berths
+pub mod Parts
 pub mod Hands
 pub mod Views
+pub mod Scarcity
 pub mod Words
 pub mod Closes
 pub mod Holds
 pub mod Handles
 pub mod Steps
 pub mod Memory
+pub mod Pages
 pub mod Gone
 pub mod Facts
 pub mod Moves

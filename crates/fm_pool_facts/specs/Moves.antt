@@ -1,5 +1,5 @@
 -- What one step changes, and what the rule allows.
-use Rattle.std.specs.Prelude.{◌/◌, ◌≡◌, ◌≢◌, ◌⊎◌, ℕ, ◌+◌, ◌<◌, ◌≤◌, true, List, [], ◌∷◌, ◌++◌, length, slice_index, slice_set, Contains, None, ⊤}
+use Rattle.std.specs.Prelude.{◌*◌, ◌/◌, ◌≡◌, ◌≢◌, ◌⊎◌, ℕ, ◌+◌, ◌<◌, ◌≤◌, true, List, [], ◌∷◌, ◌++◌, length, slice_index, slice_set, Contains, Some, None, ⊤}
 use mathlib.Core.Option.{some}
 use lib.ListN.{get_elem?}
 use Rattle.fm_words.specs.declared.shape.Shape.{Shape}
@@ -7,20 +7,20 @@ use Rattle.fm_base.specs.declared.caller.Caller.{Caller}
 use Rattle.fm_base.specs.declared.arena_id.ArenaId.{ArenaId}
 use Rattle.fm_base.specs.Calls.{Call, Read, Write, SwapIf, Add, End, Lend, Back, Entry}
 use Rattle.fm_base.specs.Histories.{made_by}
-use Rattle.fm_pool_facts.specs.Loans.{Loan, loan_of, loans_by, IsFree, HasPart}
+use Rattle.fm_pool_facts.specs.Loans.{lent, Loan, loan_of, loans_by, IsFree, HasPart}
 use Rattle.fm_base.specs.Finds.{Find, Gathered, Close, is_draw}
 use Rattle.fm_depicts.specs.Functions.{Fresh, Closes, Over, Machine, moved, MayBy, reply_by}
 use Rattle.std.specs.Int.{bit_at}
 use Rattle.fm_pool_facts.specs.Hands.{nothing, IsTaker}
 use Rattle.fm_pool_facts.specs.declared.step.Step.{Step}
-use Rattle.fm_pool_facts.specs.declared.step.Step.TheVariants.{Visits, Draws, Holds, Backs, TakesSlot}
-use Rattle.fm_pool_facts.specs.Views.{Met, View, In, IsSound, IsBusy, all_gathered, HasCaller, HasFind, HasAllDrawn, limit_of}
+use Rattle.fm_pool_facts.specs.declared.step.Step.TheVariants.{Visits, Draws, Holds, Backs, TakesSlot, ReadsMap, Maps, Allocates, SweepsGiven, SweepsMap}
+use Rattle.fm_pool_facts.specs.Views.{Met, View, In, IsSound, IsBusy, all_gathered, HasCaller, HasFind, HasAllDrawn, given_of, limit_of}
 use Rattle.fm_pool_facts.specs.Steps.{part, entries, noted}
 use Rattle.fm_pool_facts.specs.Words.{own_word, alive_holds}
 use Rattle.fm_pool_facts.specs.Holds.{grips, holds_of, all_holds}
 use Rattle.fm_pool_facts.specs.Gone.{IsTakenBy, OpenedBy}
 use Rattle.fm_depicts.specs.Steps.{moved_by}
-use Rattle.fm_pool_facts.specs.Facts.{Memory, free, shut, Owners, IsClosing, IsSweeping, IsOnce, HasInHand, HasClose, HasSweep, KeepsSlot, Begins, Rule}
+use Rattle.fm_pool_facts.specs.Facts.{Memory, free, shut, IsStanding, IsAt, HasPages, HasPage, Owners, IsClosing, IsSweeping, IsOnce, HasInHand, HasClose, HasSweep, KeepsSlot, Begins, Rule}
 
 -- entries of one caller that the functions allow
 abbrev pub MayMake : ℕ → Machine → Caller → List Entry → Type 0
@@ -53,8 +53,15 @@ NoEnd (e ∷ es) b = ¬ Ends e.call b × NoEnd es b
 -- nothing of an ended arena that isn't retired was changed
 pub record StaysEnded (m m' : Memory) (b : ArenaId) : Type 0 where
   pub session : m'.sessions b.slot ≡ shut b
-  pub cells : (w : ℕ) → m'.cells b.slot w ≡ m.cells b.slot w
+  pub maps : (i : ℕ) → m'.maps b.slot i ≡ m.maps b.slot i
   pub given : m'.given b.slot ≡ m.given b.slot
+
+-- what a step of the seat `me` may do to what others know of pages
+pub record PagesMoved (me : ℕ) (m : Memory) (t : Machine) (o : Owners) (m' : Memory) (o' : Owners) : Type 0 where
+  -- a page that another seat has
+  pub others : (p j : ℕ) → IsAt j (o.berth p) → j ≢ me → (o'.berth p ≡ o.berth p) × ((w : ℕ) → m'.cells p w ≡ m.cells p w)
+  -- a page of an arena that stands
+  pub stay : (b : ArenaId) (i p : ℕ) → IsStanding (t.life b) → m.maps b.slot i ≡ Some p → m'.maps b.slot i ≡ Some p
 
 -- what a step of the seat `me` by the caller c may do to what others know
 pub record Moved (me : ℕ) (z : Shape) (c : Caller) (m : Memory) (t : Machine) (o : Owners) (es : List Entry) (m' : Memory) (o' : Owners) : Type 0 where
@@ -70,6 +77,7 @@ pub record Moved (me : ℕ) (z : Shape) (c : Caller) (m : Memory) (t : Machine) 
   -- a slot that was taken for an arena is so still, or the arena was opened
   pub taken : (s : ℕ) (k : Caller) → IsTakenBy z m.bits m.sessions o.taker s k
       → IsTakenBy z m'.bits m'.sessions o'.taker s k ⊎ OpenedBy (moved_by t es).life s k
+  pub pages : PagesMoved me m t o m' o'
 
 -- what a step leaves of a view
 pub record Same (v p : View) : Type 0 where
@@ -94,6 +102,7 @@ pub record Part (z : Shape) (m : Memory) (t : Machine) (o : Owners) (j : ℕ) (p
   pub swept_once : IsOnce (λ (c : Close). c.arena) p.sweeps
   pub hand : HasInHand z m.bits m.sessions o.holder j p.hand
   pub took : IsTaker o.taker p.caller p.hand
+  pub pages : HasPages z m.maps m.cells o.berth j p.inside p.reads p.pages p.sweeps p.swept
 
 -- where the close of each arena is after the step
 abbrev pub KeepsCloses : (me : ℕ) (v p : View) (t : Machine) (o : Owners) (t' : Machine) (o' : Owners) → Type 0
@@ -111,6 +120,11 @@ abbrev pub KeepsSlots : (z : Shape) (me : ℕ) (v p : View) (m : Memory) (o : Ow
 KeepsSlots z me v p m o m' o' = (s g : ℕ) → s < z.slots → m'.sessions s ≡ free g → g < z.generations → bit_at m'.bits s ≡ 0
     → ((o'.holder s ≡ me) × KeepsSlot s p)
     ⊎ ((m.sessions s ≡ free g) × (bit_at m.bits s ≡ 0) × (o'.holder s ≡ o.holder s) × (KeepsSlot s v → KeepsSlot s p))
+
+-- where each page is after the step
+abbrev pub KeepsPages : (me : ℕ) (v p : View) (o o' : Owners) → Type 0
+KeepsPages me v p o o' = (q j : ℕ) → IsAt j (o'.berth q)
+    → ((j ≡ me) × HasPage q (o'.berth q) p) ⊎ ((o'.berth q ≡ o.berth q) × (HasPage q (o.berth q) v → HasPage q (o.berth q) p))
 
 -- the pass has as many holds more as the arenas
 abbrev pub KeepsHolds : (v p : View) (t t' : Machine) → Type 0
@@ -156,19 +170,35 @@ pub record LearnsSlots (v : View) (x : ℕ) : Type 0 where
   pub idle : v.whole ≡ true → (s : ℕ) → s < v.shape.slots → bit_at x s ≡ 1 → ¬ (IsBusy v s)
   pub busy : v.whole ≡ true → v.hand ≡ nothing → v.sweeps ≡ [] → (s : ℕ) → s < v.shape.slots → bit_at x s ≡ 0 → IsBusy v s
 
+-- what is learnt by the word x of the map word of a part of an arena that the pass is inside, at the step that left the pass as w
+pub record LearnsMap (v : View) (a : ArenaId) (i x : ℕ) (w : View) : Type 0 where
+  -- a part with a given byte has a page
+  pub given : (word : ℕ) → word / v.shape.page_words ≡ i → 8 * word < given_of v a → x ≢ 0
+  -- a part without a page isn't lent
+  pub none : x ≡ 0 → ¬ (HasPart (lent w.seen) a i)
+  -- it is a page of the pool
+  pub low : x ≤ v.shape.pages
+
 -- what is learnt by the word x that a step found: the mark of its own number is what its view says; an arena that it holds is alive
-abbrev pub Learns : Step → View → ℕ → Type 0
-Learns (Visits a k) v x = k ≡ v.caller.number → x ≡ own_word v.mark
-Learns (Draws expected) v x = LearnsCount v x
-Learns (TakesSlot expected bit) v x = LearnsSlots v x
-Learns (Holds a word) v x = In a (grips a v) → alive_holds a x ≢ None
-Learns (Backs a word) v x = alive_holds a x ≢ None
-Learns step v x = ⊤
+abbrev pub Learns : Step → View → ℕ → View → Type 0
+Learns (Visits a k) v x w = k ≡ v.caller.number → x ≡ own_word v.mark
+Learns (Draws expected) v x w = LearnsCount v x
+Learns (TakesSlot expected bit) v x w = LearnsSlots v x
+Learns (Holds a word) v x w = In a (grips a v) → alive_holds a x ≢ None
+Learns (Backs a word) v x w = alive_holds a x ≢ None
+Learns (ReadsMap a i) v x w = LearnsMap v a i x w
+Learns (Maps a i p) v x w = x ≤ v.shape.pages
+Learns (SweepsMap a i) v x w = x ≤ v.shape.pages
+-- the count that was found, where another one was expected
+Learns (Allocates expected size align) v x w = (a : ArenaId) → v.inside ≡ Some a → x ≢ expected → x ≡ given_of w a
+-- the arena gave so many bytes
+Learns (SweepsGiven a) v x w = x ≡ given_of w a
+Learns step v x w = ⊤
 
 -- what a step tells its caller that found the word x
 pub record Tells (step : Step) (v : View) (x : ℕ) (w : View) : Type 0 where
   pub gives : Gives v (part step v x) (entries step v x) (noted step v x) w
-  pub learns : Learns step v x
+  pub learns : Learns step v x w
 
 -- the seat id, with the view v, may make the step: the word at i becomes f of what it was
 pub record MayStep (z : Shape) (step : Step) (id : ℕ) (v : View) (i : ℕ) (f : ℕ → ℕ) : Type 0 where

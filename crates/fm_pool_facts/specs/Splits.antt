@@ -5,6 +5,7 @@ use Rattle.fm_base.specs.Arenas.{only_caller}
 use Rattle.fm_base.specs.Calls.{Entry}
 use Rattle.fm_base.specs.Finds.{Gathered}
 use Rattle.fm_pool_facts.specs.Hands.{nothing}
+use Rattle.fm_pool_facts.specs.Parts.{unread}
 use Rattle.fm_pool_facts.specs.Views.{View}
 
 abbrev pub view_of : Shape → Bool → List Entry → View
@@ -18,6 +19,7 @@ view_of z live seen = record {
   mark = None;
   closes = [];
   sweeps = [];
+  swept = unread;
   hand = nothing;
   drawn = None;
   met = [];
@@ -27,6 +29,7 @@ view_of z live seen = record {
   holds = [];
   handles = [];
   pages = [];
+  reads = [];
 }
 
 -- the first pass has number 0
@@ -80,5 +83,6 @@ pub record IsAtRest (w : View) : Type 0 where
   pub closes : w.closes ≡ []
   pub sweeps : w.sweeps ≡ []
   pub holds : w.holds ≡ []
+  pub pages : w.pages ≡ []
   pub handles : w.handles ≡ []
   pub met : w.met ≡ []

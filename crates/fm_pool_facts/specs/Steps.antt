@@ -1,16 +1,18 @@
 -- The steps of a pass: what each does to its view, and its entries.
-use Rattle.std.specs.Prelude.{◌≡◌, ℕ, ◌+◌, ◌*◌, ◌/◌, ◌^◌, ◌<◌, nat_le, ◌==◌, ◌&&◌, Bool, true, false, if◌then◌else◌, List, [], ◌∷◌, ◌++◌, length, All, Option, Some, None}
+use Rattle.std.specs.Prelude.{◌≡◌, ℕ, ◌+◌, ◌*◌, ◌/◌, ◌%◌, ◌^◌, ◌<◌, ◌≤◌, nat_le, ◌==◌, ◌&&◌, Bool, true, false, if◌then◌else◌, List, [], ◌∷◌, ◌++◌, length, All, Option, Some, None}
 use Rattle.fm_base.specs.declared.caller.Caller.{Caller}
 use Rattle.fm_base.specs.declared.arena_id.ArenaId.{ArenaId}
 use Rattle.fm_base.specs.Calls.{Call, Open, Enter, Read, Write, SwapIf, Add, Allocate, Leave, Hold, Unhold, Shut, Lend, Back, Reply, Fine, Found, Entry, entry_of}
 use Rattle.fm_base.specs.Machine.{allocate_reply, rounded_up}
 use Rattle.fm_base.specs.Histories.{made_by}
-use Rattle.fm_base.specs.Finds.{Find, FindStep, Draws as Drawing, Visits as Visiting, TakesSlot as Taking}
+use Rattle.fm_base.specs.Finds.{Find, FindStep, Draws as Drawing, Visits as Visiting, TakesSlot as Taking, TakesPage as Claiming, Maps as Mapping}
 use Rattle.fm_words.specs.declared.shape.Shape.{Shape}
+use Rattle.fm_words.specs.Places.{at, page_word}
 use Rattle.fm_pool_facts.specs.Hands.{nothing, learnt, slots_in, takes, hand_taken, hand_retired}
 use Rattle.fm_pool_facts.specs.declared.step.Step.{Step}
-use Rattle.fm_pool_facts.specs.declared.step.Step.TheVariants.{Draws, Marks, Checks, Loads, Stores, SwapsIf, Adds, Allocates, Holds, Unholds, Backs, Unmarks, Shuts, Visits, TakesSlot, LearnsGeneration, Opens, Wipes, ResetsGiven, Retires, GivesSlot, Looks}
-use Rattle.fm_pool_facts.specs.Views.{View, IsSound, given_of, limit_of, pass_of}
+use Rattle.fm_pool_facts.specs.declared.step.Step.TheVariants.{Draws, Marks, Checks, Loads, Stores, SwapsIf, Adds, Allocates, Holds, Unholds, Backs, Unmarks, Shuts, Visits, TakesSlot, LearnsGeneration, Opens, Claims, Maps, ReadsMap, SweepsGiven, Unmaps, SweepsMap, Wipes, GivesPage, ReturnsPage, ResetsGiven, Retires, GivesSlot, Looks}
+use Rattle.fm_pool_facts.specs.Parts.{mapping_of, unread, wiping, reads_after, reads_mapped, pages_mapped, pages_taken, swept_read}
+use Rattle.fm_pool_facts.specs.Views.{View, In, IsSound, given_of, limit_of, pass_of}
 use Rattle.fm_pool_facts.specs.Words.{alive_holds, enter_found, inside_found, shut_found, hold_found}
 use Rattle.fm_pool_facts.specs.Holds.{grips, with_grips, holds_after, handles_with, released}
 use Rattle.fm_pool_facts.specs.Handles.{giving, given_back, giving_entries}
@@ -66,15 +68,26 @@ abbrev pub given_next : (limit given size align : ℕ) → ℕ
 given_next limit given size align =
     if nat_le (rounded_up given align + size) limit then rounded_up given align + size else given
 
--- the entries of opening: the slot's words are lent at once
-abbrev pub open_entries : ArenaId → Caller → List Entry
-open_entries a c = entry_of c (Open a) Fine ∷ entry_of c (Lend a.slot a 0) Fine ∷ []
-
 -- the pass is inside an arena, where the word has a given byte
 pub record CanReach (v : View) (word : ℕ) : Type 0 where
   pub id : ArenaId
   pub inside : v.inside ≡ Some id
   pub given : 8 * word < given_of v id
+
+-- the place is that of the word of the arena that the pass is inside: it has read which page the word's part has
+pub record HasPlace (v : View) (word place : ℕ) : Type 0 where
+  pub page : ℕ
+  pub low : page < v.shape.pages
+  pub read : In (mapping_of (word / v.shape.page_words) page) v.reads
+  pub is : place ≡ at v.shape (page_word page (word % v.shape.page_words))
+
+-- the pass has read which page each part has that has one of the bytes from the one to the other
+abbrev pub HasParts : View → (from to : ℕ) → Type 0
+HasParts v from to = (word : ℕ) → from ≤ 8 * word → 8 * word < to → (page : ℕ) × In (mapping_of (word / v.shape.page_words) page) v.reads
+
+-- the words of this part that have a given byte are all among the first so many of its page
+abbrev pub AreAllGiven : View → ArenaId → (index words : ℕ) → Type 0
+AreAllGiven v a index words = (word : ℕ) → word / v.shape.page_words ≡ index → 8 * word < given_of v a → word % v.shape.page_words < words
 
 -- ---- numbers
 
@@ -109,7 +122,7 @@ note_draw expected found v n = record {
 -- the view after a step that found the word x, but for what it has seen and found
 unfoldable pub part : Step → View → ℕ → View
 part (Marks a) v x = record v { mark = Some a }
-part (Checks a) v x = record v { inside = inside_found a (alive_holds a x) }
+part (Checks a) v x = record v { inside = inside_found a (alive_holds a x); reads = [] }
 part (Loads w) v x = v
 part (Stores w y) v x = v
 part (SwapsIf w old y) v x = v
@@ -127,7 +140,15 @@ part (Visits a k) v x = record v {
 part (TakesSlot expected bit) v x = record v { hand = hand_taken (takes expected bit x) bit v.hand }
 part (LearnsGeneration s) v x = record v { hand = learnt s (x / 2 ^ 32) }
 part (Opens a) v x = record v { hand = nothing; handles = handles_with a v.handles }
-part (Wipes a w) v x = record v { sweeps = visited a v.sweeps }
+part (Claims expected bit) v x = record v { pages = pages_taken (takes expected bit x) bit v.pages }
+part (Maps a i p) v x = record v { reads = reads_mapped i p x v.reads; pages = pages_mapped x v.pages }
+part (ReadsMap a i) v x = record v { reads = reads_after i x v.reads }
+part (SweepsGiven a) v x = v
+part (SweepsMap a i) v x = record v { swept = swept_read a i x; sweeps = if x == 0 then visited a v.sweeps else v.sweeps }
+part (Unmaps a i p) v x = record v { swept = wiping a i p 0 }
+part (Wipes a i p w) v x = record v { swept = wiping a i p (w + 1) }
+part (GivesPage p) v x = record v { pages = [] }
+part (ReturnsPage a p) v x = record v { swept = unread; sweeps = visited a v.sweeps }
 part (ResetsGiven a) v x = record v { sweeps = visited a v.sweeps }
 part (Retires a) v x = record v { sweeps = dropped a v.sweeps; hand = hand_retired (a.generation + 1 == v.shape.generations) a.slot v.hand }
 part (GivesSlot slot) v x = record v { hand = nothing }
@@ -152,10 +173,18 @@ entries (Shuts a) v x = entry_of v.caller (Shut a) (shut_found (alive_holds a x)
 entries (Visits a k) v x = visit_entries a (visit_found v.shape a k x) v.caller
 entries (TakesSlot expected bit) v x = []
 entries (LearnsGeneration s) v x = []
-entries (Opens a) v x = open_entries a v.caller
-entries (Wipes a w) v x = []
+entries (Opens a) v x = entry_of v.caller (Open a) Fine ∷ []
+entries (Claims expected bit) v x = []
+entries (Maps a i p) v x = where_found (x == 0) (entry_of v.caller (Lend p a i) Fine ∷ [])
+entries (ReadsMap a i) v x = []
+entries (SweepsGiven a) v x = []
+entries (SweepsMap a i) v x = []
+entries (Unmaps a i p) v x = []
+entries (Wipes a i p w) v x = []
+entries (GivesPage p) v x = []
+entries (ReturnsPage a p) v x = entry_of v.caller (Back p) Fine ∷ []
 entries (ResetsGiven a) v x = []
-entries (Retires a) v x = entry_of v.caller (Back a.slot) Fine ∷ []
+entries (Retires a) v x = []
 entries (GivesSlot slot) v x = []
 entries (Draws expected) v x = []
 entries Looks v x = []
@@ -165,4 +194,6 @@ unfoldable pub noted : Step → View → ℕ → ℕ → List Find
 noted (Visits a k) v x = note_of (Visiting a (pass_of k)) x v
 noted (Draws expected) v x = note_draw expected x v
 noted (TakesSlot expected bit) v x = note_of (Taking expected bit) x v
+noted (Claims expected bit) v x = note_of (Claiming expected bit) x v
+noted (Maps a i p) v x = note_of (Mapping a i p) x v
 noted step v x = none_noted

@@ -1,5 +1,6 @@
 -- What contracts see of a pass.
-use Rattle.std.specs.Prelude.{◌≡◌, ◌≢◌, ◌⊎◌, ℕ, ◌+◌, ◌*◌, ◌<◌, ◌≤◌, ◌^◌, Bool, true, false, if◌then◌else◌, List, [], ◌∷◌, ◌++◌, length, Contains, Option, Some}
+use Rattle.std.specs.Prelude.{◌≡◌, ◌≢◌, ◌⊎◌, ℕ, ◌+◌, ◌*◌, ◌/◌, ◌<◌, ◌≤◌, ◌^◌, ◌==◌, Bool, true, false, if◌then◌else◌, List, [], ◌∷◌, ◌++◌, length, Contains, Option, Some}
+use Rattle.std.proofs.Common.{zero, suc}
 use Rattle.fm_words.specs.declared.shape.Shape.{Shape}
 use Rattle.fm_words.specs.Shapes.{IsValid}
 use Rattle.fm_base.specs.declared.caller.Caller.{Caller}
@@ -10,9 +11,10 @@ use Rattle.fm_base.specs.Arenas.{State, Alive, Ended, IsUnderWay, has_arena, are
 use Rattle.fm_base.specs.Calls.{Entry}
 use Rattle.fm_base.specs.Histories.{IsLegal, state_after, made_by}
 use Rattle.fm_depicts.specs.Handles.{AreLeft, one_if}
-use Rattle.fm_pool_facts.specs.Loans.{Loan, lent as lent_by, IsRightlyLent}
-use Rattle.fm_base.specs.Finds.{Find, Gathered, Close, is_draw, is_slot}
+use Rattle.fm_pool_facts.specs.Loans.{Loan, loan_of, lent as lent_by, HasPart, IsRightlyLent}
+use Rattle.fm_base.specs.Finds.{Find, Gathered, Close, is_draw, is_slot, is_page}
 use Rattle.fm_pool_facts.specs.Hands.{Hand, nothing, HasSlot}
+use Rattle.fm_pool_facts.specs.Parts.{Mapping, Swept, wiping}
 
 -- what another had seen that a pass has met, and the callers that it brought
 pub record Met : Type 0 where
@@ -36,8 +38,10 @@ pub record View : Type 0 where
   -- the mark that it publishes
   pub mark : Option ArenaId
   pub closes : List Close
-  -- arenas that it ended and hasn't retired, and how many of their words were wiped: the count of given bytes is the last
+  -- arenas that it ended and hasn't retired, and how many of their parts have no page any more: the count of given bytes is the last
   pub sweeps : List Close
+  -- what it has of the part that it sweeps next
+  pub swept : Swept
   -- the slot that it took to open an arena in, or retired
   pub hand : Hand
   -- the number that it drew and hasn't split off
@@ -50,7 +54,10 @@ pub record View : Type 0 where
   pub whole : Bool
   pub holds : List ArenaId
   pub handles : List ArenaId
+  -- the page that it claimed and hasn't mapped or given back
   pub pages : List ℕ
+  -- what it has read in map words of the arena that it is inside
+  pub reads : List Mapping
 
 -- the callers that are gathered into it, those of its last meetings too
 abbrev pub all_gathered : View → List Gathered
@@ -187,23 +194,53 @@ pub record NoneLeft (z : Shape) (seen : List Entry) (c : Caller) (f : Find) : Ty
   -- where it was clear, each slot had an arena that hadn't ended, or its last one
   pub busy : f.clear ≡ true → (s : ℕ) → s < z.slots → IsBusyIn z.generations (state_after (limit_of z) [] before) s
 
+-- the block is lent
+abbrev pub is_lent : List Loan → ℕ → Bool
+is_lent [] block = false
+is_lent (l ∷ ls) block = if l.block == block then true else is_lent ls block
+
+abbrev pub one_unless : Bool → ℕ
+one_unless true = 0
+one_unless false = 1
+
+-- how many of the first blocks aren't lent
+abbrev pub unlent : ℕ → List Loan → ℕ
+unlent zero loans = 0
+unlent (suc n) loans = one_unless (is_lent loans n) + unlent n loans
+
+-- a find of the word 0 of page bits, where as many entries had been seen as f says: fewer blocks weren't lent than there are passes, and none where the
+-- finder was clear
+pub record FewLeft (z : Shape) (seen : List Entry) (f : Find) : Type 0 where
+  pub before : List Entry
+  pub begins : Begins before seen
+  pub long : length before ≡ f.seen
+  pub few : unlent z.pages (lent_by before) < z.passes
+  pub none : f.clear ≡ true → unlent z.pages (lent_by before) ≡ 0
+
 -- what holds of a pass at any time
 pub record IsSound (v : View) : Type 0 where
   pub valid : IsValid v.shape
   pub limit : limit_of v.shape ≤ 2 ^ 40
   pub legal : IsLegal (limit_of v.shape) [] v.seen
-  pub lent : IsRightlyLent (span v.shape) (limit_of v.shape) v.seen
+  pub lent : IsRightlyLent v.shape.page_words (limit_of v.shape) v.seen
   pub number : v.caller.number < v.shape.passes
   pub inside : (a : ArenaId) → v.inside ≡ Some a → IsUnderWay (state_in v) v.caller a
   pub outside : (a : ArenaId) → IsUnderWay (state_in v) v.caller a → v.inside ≡ Some a
   pub fits : (a : ArenaId) → IsKnown v a → Fits v.shape a
   pub hand : (s : ℕ) → HasSlot s v.hand → s < v.shape.slots
   pub swept : (c : Close) → In c v.sweeps → IsOver v c.arena
+  -- each page is one of the pool's, lent as one of the parts that an arena can have
+  pub loans : (l : Loan) → Contains (lent_by v.seen) l → (l.block < v.shape.pages) × (l.part < v.shape.reach)
+  -- of an arena that is swept, parts that have no page any more aren't lent
+  pub unlent : (c : Close) → In c v.sweeps → (l : Loan) → Contains (lent_by v.seen) l → l.id ≡ c.arena → c.visited ≤ l.part
+  -- of an arena that hasn't ended, each part with a given byte is lent
+  pub covered : (a : ArenaId) (word : ℕ) → (arena_of (state_in v) a).life ≢ Ended → 8 * word < given_of v a
+      → HasPart (lent_by v.seen) a (word / v.shape.page_words)
+  -- a page that it has read in a map word of the arena that it is inside is lent so
+  pub reads : (a : ArenaId) (m : Mapping) → v.inside ≡ Some a → In m v.reads → Contains (lent_by v.seen) (loan_of m.page a m.part)
   -- an arena of which it has a hold or a handle
   pub held : (a : ArenaId) → In a (grips a v) → IsAlive v a
   pub own_handles : HasOwnHandles v
-  -- each slot's words are lent to arenas of the slot
-  pub own_words : (l : Loan) → Contains (lent_by v.seen) l → l.block ≡ l.id.slot
   -- the number that it drew and hasn't split off
   pub drawn : (n : ℕ) → v.drawn ≡ Some n → IsNew v n
   pub few : length v.gathered < v.shape.passes
@@ -213,6 +250,10 @@ pub record IsSound (v : View) : Type 0 where
   -- where no slot is in a hand, finds of no slot say of each slot why
   pub none_left : v.whole ≡ true → v.hand ≡ nothing → (c : Caller) (f : Find) → HasFindBy v c f → is_slot f.step ≡ true → f.found ≡ 0
       → NoneLeft v.shape v.seen c f
+  -- the page in its hand, and that of its sweep, are the pool's
+  pub own_pages : (p : ℕ) → In p v.pages → p < v.shape.pages
+  pub swept_page : (a : ArenaId) (i p w : ℕ) → v.swept ≡ wiping a i p w → p < v.shape.pages
+  pub few_left : (f : Find) → HasFind v f → is_page f.step ≡ true → f.found ≡ 0 → FewLeft v.shape v.seen f
   -- no two callers that it has are of one number
   pub one_each : IsOnce (λ (g : Gathered). g.caller.number) v.gathered
   pub others : (g : Gathered) → In g v.gathered → g.caller.number ≢ v.caller.number

@@ -35,11 +35,27 @@ pub enum Step {
     LearnsGeneration(u32),
     /// Opens an arena of this name.
     Opens(ArenaId),
-    /// Makes the word of this index of an ended arena 0, for its sweep.
-    Wipes(ArenaId, u64),
+    /// Where the word of page bits is this one, makes the bit 0; sees which pages can be claimed.
+    Claims(u64, u32),
+    /// Where the arena has no page as this part, has the page as it.
+    Maps(ArenaId, u32, u32),
+    /// Looks which page the arena that the pass is inside has as this part.
+    ReadsMap(ArenaId, u32),
+    /// Looks how many bytes an ended arena gave, for its sweep.
+    SweepsGiven(ArenaId),
+    /// Looks which page an ended arena has as this part, for its sweep.
+    SweepsMap(ArenaId, u32),
+    /// Takes this part's page from an ended arena, for its sweep.
+    Unmaps(ArenaId, u32, u32),
+    /// Makes a word of a page 0 that a sweep has taken from an ended arena.
+    Wipes(ArenaId, u32, u32, u32),
+    /// Makes the bit 1 of a page that was claimed and isn't mapped.
+    GivesPage(u32),
+    /// Makes the bit 1 of a page that a sweep has wiped: it is lent to the arena no more.
+    ReturnsPage(ArenaId, u32),
     /// Makes the count of given bytes of an ended arena 0, for its sweep.
     ResetsGiven(ArenaId),
-    /// Makes the slot of an ended arena free, for its next generation: its words are lent to the arena no more.
+    /// Makes the slot of an ended arena free, for its next generation.
     Retires(ArenaId),
     /// Makes the bit 1 of a slot that was retired.
     GivesSlot(u32),

@@ -19,7 +19,8 @@ use Rattle.fm_pool_facts.proofs.Worlds.{world_mark, world_enter, world_leave}
 use Rattle.fm_pool_facts.proofs.Shown.{shows_same, shows_mark}
 use Rattle.fm_pool_steps.proofs.Reading.{Says, says, enter_says}
 use Rattle.fm_pool_facts.proofs.Founds.{no_draw}
-use Rattle.fm_pool_steps.proofs.Plain.{same_none, own, low, known_now, Made, plain}
+use Rattle.fm_pool_steps.proofs.Quiet.{looks_on}
+use Rattle.fm_pool_steps.proofs.Plain.{same_but, own, low, known_now, Made, plain}
 
 module _ (z : Shape) (me : ℕ) (v : View) (l : v.live ≡ true) where
   -- the mark goes up
@@ -40,27 +41,21 @@ module _ (z : Shape) (me : ℕ) (v : View) (l : v.live ≡ true) where
           still = λ s g f. f;
           back = λ s g f. f;
           bits = refl;
-          same = record {
-            home = refl;
-            shape = refl;
-            live = refl;
-            caller = refl;
-            seen = refl;
-            drawn = refl;
-            met = refl;
-            finds = refl;
-            gathered = refl;
-            whole = refl;
-          };
+          same = same_but;
           closes = refl;
           hand = refl;
           sweeps = refl;
-          ended = λ b o f. record { session = f; cells = λ w. refl; given = refl };
+          ended = λ b o f. record { session = f; maps = λ i. refl; given = refl };
           shown = λ b f. f;
           was = λ b h. h;
           holds = λ a. refl;
           lends = tt;
-          loans = r.loans;
+          pages = r.pages;
+          maps = refl;
+          cells = λ p j b w. refl;
+          reads = λ a e x i. (e, i);
+          paged = refl;
+          swept = refl;
           shows = shows_mark z r.valid ws r.memory r.shows n (Some a) (low z ws vs r me v at l);
           world = world_mark z r.memory r.machine r.world v.caller (Some a) k.term (k.inside ∙ out);
           inside = k.inside;
@@ -85,12 +80,12 @@ module _ (z : Shape) (me : ℕ) (v : View) (l : v.live ≡ true) where
           says z r.memory r.machine r.world r.valid.passes.1 a known' (found ws) (r.shows.sessions a.slot (r.world.sessions.fits a known').slot)
 
       go : (ws : List ℕ) (vs : List View) (r : Rule z ws vs) (at : get_elem? vs me ≡ some v) (o : Option ℕ) → Says r.machine a o
-          → Made z ws vs me v (place_at z (session a.slot)) (found ws) (record v { inside = inside_found a o })
+          → Made z ws vs me v (place_at z (session a.slot)) (found ws) (record v { inside = inside_found a o; reads = [] })
           (entry_of v.caller (Enter a) (enter_found o) ∷ []) none_noted
       go ws vs r at None s =
           let k = own z ws vs r me v at l in
           let quiet = k.inside ∙ out in
-          plain z ws vs r me v at l (place_at z (session a.slot)) (found ws) (record v { inside = None })
+          plain z ws vs r me v at l (place_at z (session a.slot)) (found ws) (record v { inside = None; reads = [] })
           (entry_of v.caller (Enter a) Closed ∷ []) none_noted no_draw r.memory (record {
             may = (refl, (known_now z ws vs r me v at l a known, use_it, quiet), enter_says r.machine a None s, tt);
             ends = λ b. ((λ h. h), tt);
@@ -100,27 +95,21 @@ module _ (z : Shape) (me : ℕ) (v : View) (l : v.live ≡ true) where
             still = λ s g f. f;
             back = λ s g f. f;
             bits = refl;
-            same = record {
-              home = refl;
-              shape = refl;
-              live = refl;
-              caller = refl;
-              seen = refl;
-              drawn = refl;
-              met = refl;
-              finds = refl;
-              gathered = refl;
-              whole = refl;
-            };
+            same = same_but;
             closes = refl;
             hand = refl;
             sweeps = refl;
-            ended = λ b o f. record { session = f; cells = λ w. refl; given = refl };
+            ended = λ b o f. record { session = f; maps = λ i. refl; given = refl };
             shown = λ b f. f;
             was = λ b h. h;
             holds = λ a. refl;
             lends = (tt, tt);
-            loans = r.loans;
+            pages = r.pages;
+            maps = refl;
+            cells = λ p j b w. refl;
+            reads = λ b e x i. absurd i;
+            paged = refl;
+            swept = refl;
             shows = shows_same z r.valid ws r.memory r.shows (place_at z (session a.slot));
             world = r.world;
             inside = quiet;
@@ -129,7 +118,7 @@ module _ (z : Shape) (me : ℕ) (v : View) (l : v.live ≡ true) where
       go ws vs r at (Some n) s =
           let k = own z ws vs r me v at l in
           let quiet = k.inside ∙ out in
-          plain z ws vs r me v at l (place_at z (session a.slot)) (found ws) (record v { inside = Some a })
+          plain z ws vs r me v at l (place_at z (session a.slot)) (found ws) (record v { inside = Some a; reads = [] })
           (entry_of v.caller (Enter a) Fine ∷ []) none_noted no_draw r.memory (record {
             may = (refl, (known_now z ws vs r me v at l a known, use_it, quiet), enter_says r.machine a (Some n) s, tt);
             ends = λ b. ((λ h. h), tt);
@@ -139,27 +128,21 @@ module _ (z : Shape) (me : ℕ) (v : View) (l : v.live ≡ true) where
             still = λ s g f. f;
             back = λ s g f. f;
             bits = refl;
-            same = record {
-              home = refl;
-              shape = refl;
-              live = refl;
-              caller = refl;
-              seen = refl;
-              drawn = refl;
-              met = refl;
-              finds = refl;
-              gathered = refl;
-              whole = refl;
-            };
+            same = same_but;
             closes = refl;
             hand = refl;
             sweeps = refl;
-            ended = λ b o f. record { session = f; cells = λ w. refl; given = refl };
+            ended = λ b o f. record { session = f; maps = λ i. refl; given = refl };
             shown = λ b f. f;
             was = λ b h. h;
             holds = λ a. refl;
             lends = (tt, tt);
-            loans = r.loans;
+            pages = r.pages;
+            maps = refl;
+            cells = λ p j b w. refl;
+            reads = λ b e x i. absurd i;
+            paged = refl;
+            swept = refl;
             shows = shows_same z r.valid ws r.memory r.shows (place_at z (session a.slot));
             world = world_enter z r.memory r.machine r.world v.caller a (low z ws vs r me v at l) k.term (k.mark ∙ marked) s.0;
             inside = by_here r.machine.inside v.caller (Some a);
@@ -186,27 +169,21 @@ module _ (z : Shape) (me : ℕ) (v : View) (l : v.live ≡ true) where
             still = λ s g f. f;
             back = λ s g f. f;
             bits = refl;
-            same = record {
-              home = refl;
-              shape = refl;
-              live = refl;
-              caller = refl;
-              seen = refl;
-              drawn = refl;
-              met = refl;
-              finds = refl;
-              gathered = refl;
-              whole = refl;
-            };
+            same = same_but;
             closes = refl;
             hand = refl;
             sweeps = refl;
-            ended = λ b o f. record { session = f; cells = λ w. refl; given = refl };
+            ended = λ b o f. record { session = f; maps = λ i. refl; given = refl };
             shown = λ b f. f;
             was = λ b h. h;
             holds = λ a. refl;
             lends = tt;
-            loans = r.loans;
+            pages = r.pages;
+            maps = refl;
+            cells = λ p j b w. refl;
+            reads = λ b e x i. absurd (cc);
+            paged = refl;
+            swept = refl;
             shows = shows_mark z r.valid ws r.memory r.shows n None (low z ws vs r me v at l);
             world = world_mark z r.memory r.machine r.world v.caller None k.term (k.inside ∙ e);
             inside = k.inside ∙ e;
@@ -225,27 +202,21 @@ module _ (z : Shape) (me : ℕ) (v : View) (l : v.live ≡ true) where
             still = λ s g f. f;
             back = λ s g f. f;
             bits = refl;
-            same = record {
-              home = refl;
-              shape = refl;
-              live = refl;
-              caller = refl;
-              seen = refl;
-              drawn = refl;
-              met = refl;
-              finds = refl;
-              gathered = refl;
-              whole = refl;
-            };
+            same = same_but;
             closes = refl;
             hand = refl;
             sweeps = refl;
-            ended = λ b o f. record { session = f; cells = λ w. refl; given = refl };
+            ended = λ b o f. record { session = f; maps = λ i. refl; given = refl };
             shown = λ b f. f;
             was = λ b h. h;
             holds = λ a. refl;
             lends = (tt, tt);
-            loans = r.loans;
+            pages = r.pages;
+            maps = refl;
+            cells = λ p j b w. refl;
+            reads = λ b e x i. absurd (cc);
+            paged = refl;
+            swept = refl;
             shows = shows_mark z r.valid ws r.memory r.shows n None (low z ws vs r me v at l);
             world = world_leave z r.memory r.machine r.world v.caller k.term;
             inside = by_here r.machine.inside v.caller None;
@@ -257,30 +228,6 @@ module _ (z : Shape) (me : ℕ) (v : View) (l : v.live ≡ true) where
   unfolding part entries noted
   look_steps i = record {
     may = λ ws vs r at.
-        let k = own z ws vs r me v at l in
-        let g = plain z ws vs r me v at l i (get_or ws i 0) v [] none_noted no_draw r.memory (record {
-          may = tt;
-          ends = λ b. tt;
-          marks = λ k h. refl;
-          terms = λ k. refl;
-          draw = refl;
-          still = λ s g f. f;
-          back = λ s g f. f;
-          bits = refl;
-          same = same_none v;
-          closes = refl;
-          hand = refl;
-          sweeps = refl;
-          ended = λ b o f. record { session = f; cells = λ w. refl; given = refl };
-          shown = λ b f. f;
-          was = λ b h. h;
-          holds = λ a. refl;
-          lends = tt;
-          loans = r.loans;
-          shows = shows_same z r.valid ws r.memory r.shows i;
-          world = r.world;
-          inside = k.inside;
-          mark = k.mark;
-        }) in
+        let g = looks_on z ws vs r me v at l i in
         (g.0, g.1, record { gives = g.2; learns = tt });
   }

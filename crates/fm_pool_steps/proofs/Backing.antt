@@ -19,11 +19,10 @@ use Rattle.fm_pool_facts.specs.Handles.{Kept, last_if, giving_by, giving, given_
 use Rattle.fm_pool_facts.specs.Steps.{part, entries, noted, none_noted}
 use Rattle.fm_pool_facts.specs.Facts.{Rule}
 use Rattle.fm_pool_facts.specs.Moves.{MayStep}
-use Rattle.fm_pool_facts.proofs.Shown.{shows_same}
 use Rattle.fm_pool_facts.proofs.Gripping.{handles_are, with_handles, last_handle}
 use Rattle.fm_pool_steps.proofs.Reading.{Says, says, alive_read, eqb_true, eqb_false}
-use Rattle.fm_pool_facts.proofs.Founds.{no_draw}
-use Rattle.fm_pool_steps.proofs.Plain.{same_none, own, known_now, Made, plain}
+use Rattle.fm_pool_steps.proofs.Quiet.{looks_on}
+use Rattle.fm_pool_steps.proofs.Plain.{known_now, Made}
 use Rattle.fm_pool_steps.proofs.Holding.{known_lives, shows_alive, its_alive, drops, less_word}
 use Rattle.fm_pool_steps.proofs.Shutting.{shuts}
 
@@ -53,32 +52,7 @@ module _ (z : Shape) (me : ℕ) (v : View) (l : v.live ≡ true) (a : ArenaId) (
   not_global e = let f : Automatic ≡ Global = sym auto ∙ e in absurd (cc)
 
   misses : Made z ws vs me v i found v [] none_noted
-  misses =
-      let mine = own z ws vs r me v at l in
-      plain z ws vs r me v at l i found v [] none_noted no_draw r.memory (record {
-        may = tt;
-        ends = λ b. tt;
-        marks = λ k h. refl;
-        terms = λ k. refl;
-        draw = refl;
-        still = λ s g f. f;
-        back = λ s g f. f;
-        bits = refl;
-        same = same_none v;
-        closes = refl;
-        hand = refl;
-        sweeps = refl;
-        ended = λ b o f. record { session = f; cells = λ w. refl; given = refl };
-        shown = λ b f. f;
-        was = λ b h. h;
-        holds = λ b. refl;
-        lends = tt;
-        loans = r.loans;
-        shows = shows_same z r.valid ws r.memory r.shows i;
-        world = r.world;
-        inside = mine.inside;
-        mark = mine.mark;
-      })
+  misses = looks_on z ws vs r me v at l i
 
   -- others are left
   keeps_others : (n : ℕ) → found ≡ alive_word a n → n ≡ r.machine.holds a → 0 < n

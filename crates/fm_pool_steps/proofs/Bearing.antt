@@ -1,8 +1,6 @@
 -- What words that show a history say of one arena.
 use Rattle.std.proofs.Common.{◌≡◌, ◌≢◌, ℕ, ◌%◌, ◌^◌, ◌<◌, ◌≤◌, ◌==◌, Bool, true, false, if◌then◌else◌, List, [], get_or, sym, refl, ap, ◌∙◌, subst, arith, inl, inr, ⊎_elim, Some, None}
-use Rattle.std.proofs.Math.Nat.{div-eq_of_lt, mod-eq_of_lt}
 use Rattle.std.proofs.lemmas.Bool.{cases_lt}
-use Rattle.std.specs.Prelude.{Contains}
 use Rattle.fm_words.specs.declared.shape.Shape.{Shape}
 use Rattle.fm_words.specs.declared.session.Session.{Session as Decoded}
 use Rattle.fm_words.specs.Shapes.{IsValid}
@@ -12,14 +10,12 @@ use Rattle.fm_words.proofs.Sessions.{session_word-session_of}
 use Rattle.fm_base.specs.declared.arena_id.ArenaId.{ArenaId}
 use Rattle.fm_base.specs.declared.kind.Kind.{Kind}
 use Rattle.fm_base.specs.declared.kind.Kind.TheVariants.{Global, Automatic, Confined, Shared}
-use Rattle.fm_base.specs.Arenas.{Alive, Ended, State, arena_of, word_in, kind_number}
+use Rattle.fm_base.specs.Arenas.{Alive, Ended, State, arena_of, kind_number}
 use Rattle.fm_base.specs.Calls.{Entry}
 use Rattle.fm_base.specs.Histories.{state_after}
 use Rattle.fm_base.proofs.Growing.{there_by_life}
-use Rattle.fm_pool_facts.specs.Views.{Fits, span, limit_of}
+use Rattle.fm_pool_facts.specs.Views.{Fits, limit_of}
 use Rattle.fm_pool_facts.specs.Words.{alive_word, alive_holds}
-use Rattle.fm_pool_facts.specs.Loans.{lent, loan_of}
-use Rattle.fm_pool_facts.specs.Facts.{cell_at}
 use Rattle.fm_pool_facts.specs.Rest.{ShowsSlot, ShowsHistory, ShowsArena}
 use Rattle.fm_pool_steps.proofs.Reading.{alive_read, reads_alive}
 use Rattle.fm_pool_steps.proofs.Decoding.{alive_session, live_read}
@@ -61,12 +57,6 @@ module _ (z : Shape) (valid : IsValid z) (ws : List ℕ) (h : List Entry) (shows
   abbrev i : Decoded
   i = session_of word
 
-  -- the words of an arena that hasn't ended
-  words_shown : (arena_of s a).life ≢ Ended → (w : ℕ) → w < span z → word_in s a w ≡ get_or ws (cell_at z a.slot w) 0
-  words_shown n w l =
-      let c = subst (λ (p : ℕ). Contains (lent h) (loan_of a.slot a p)) (sym (div-eq_of_lt l)) (shows.own_block a n) in
-      shows.in_block a w a.slot n l c ∙ (λ j. get_or ws (cell_at z a.slot (mod-eq_of_lt l j)) 0)
-
   unended : (arena_of s a).life ≡ Alive → (arena_of s a).life ≢ Ended
   unended l e = let q : Alive ≡ Ended = sym l ∙ e in absurd (cc)
 
@@ -84,7 +74,7 @@ module _ (z : Shape) (valid : IsValid z) (ws : List ℕ) (h : List Entry) (shows
       record {
         life = l;
         given = subst (λ (b : ArenaId). (arena_of s b).given ≡ get_or ws (place_at z (given_place a.slot)) 0) same y.given;
-        word = words_shown (unended l);
+        word = λ w low. shows.named a w (unended l) low;
       }
 
   as_alive : i.life ≡ alive → a.generation ≡ i.generation → kind_number a.kind ≡ i.kind → a.owner ≡ i.owner → word ≡ alive_word a i.holds

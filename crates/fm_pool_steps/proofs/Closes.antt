@@ -31,16 +31,24 @@ visited_of-found (c ∷ cs) a k e = go (same_id c.arena a) refl e (visited_of-fo
 pub record Went (a : ArenaId) (cs : List Close) (c : Close) : Type 0 where
   pub before : Close
   pub there : In before cs
-  pub how : ((before.arena ≡ a) × (c ≡ one_more before)) ⊎ (c ≡ before)
+  pub how : ((before.arena ≡ a) × (c ≡ one_more before)) ⊎ ((c ≡ before) × (c.arena ≢ a))
 
-pub in_visited : (a : ArenaId) (c : Close) (cs : List Close) → In c (visited a cs) → Went a cs c
-in_visited a c [] i = absurd i
-in_visited a c (d ∷ cs) i = go (same_id d.arena a) refl i (in_visited a c cs)
+pub in_visited : (a : ArenaId) (c : Close) (cs : List Close) → ByArena cs → In c (visited a cs) → Went a cs c
+in_visited a c [] o i = absurd i
+in_visited a c (d ∷ cs) o i = go (same_id d.arena a) refl i (in_visited a c cs o.1)
   where
     go : (b : Bool) → same_id d.arena a ≡ b → In c (if b then one_more d ∷ cs else d ∷ visited a cs) → (In c (visited a cs) → Went a cs c) → Went a (d ∷ cs) c
     go true q (inl e) ih = record { before = d; there = inl refl; how = inl (same_id-true d.arena a q, e) }
-    go true q (inr j) ih = record { before = c; there = inr j; how = inr refl }
-    go false q (inl e) ih = record { before = d; there = inl refl; how = inr e }
+    go true q (inr j) ih = record { before = c; there = inr j; how = inr (refl, λ e. o.0 c j (e ∙ sym (same_id-true d.arena a q))) }
+    go false q (inl e) ih = record {
+      before = d;
+      there = inl refl;
+      how = inr (
+        e,
+        λ p. let s : same_id d.arena a ≡ true = subst (λ (x : ArenaId). same_id x a ≡ true) (sym p ∙ ap (λ (y : Close). y.arena) e)
+            (same_id-self a) in absurd (cc),
+      );
+    }
     go false q (inr j) ih = let w = ih j in record { before = w.before; there = inr w.there; how = w.how }
 
 -- what was there is there still, one mark further or not
@@ -56,12 +64,13 @@ visited_in a c (x ∷ cs) i = go (same_id x.arena a) i (visited_in a c cs)
     go false (inr j) ih = let w = ih j in (w.0, inr w.1, w.2)
 
 -- the arenas stay
-visited_arena : (a : ArenaId) (cs : List Close) (d : Close) → In d (visited a cs) → (c : Close) × In c cs × (c.arena ≡ d.arena)
-visited_arena a cs d i = let w = in_visited a d cs i in go w w.how
+visited_arena : (a : ArenaId) (cs : List Close) (d : Close) → ByArena cs → In d (visited a cs) → (c : Close) × In c cs × (c.arena ≡ d.arena)
+visited_arena a cs d o i = let w = in_visited a d cs o i in go w w.how
   where
-    go : (w : Went a cs d) → ((w.before.arena ≡ a) × (d ≡ one_more w.before)) ⊎ (d ≡ w.before) → (c : Close) × In c cs × (c.arena ≡ d.arena)
+    go : (w : Went a cs d) → ((w.before.arena ≡ a) × (d ≡ one_more w.before)) ⊎ ((d ≡ w.before) × (d.arena ≢ a))
+        → (c : Close) × In c cs × (c.arena ≡ d.arena)
     go w (inl e) = (w.before, w.there, ap (λ (y : Close). y.arena) (sym e.1))
-    go w (inr e) = (w.before, w.there, ap (λ (y : Close). y.arena) (sym e))
+    go w (inr e) = (w.before, w.there, ap (λ (y : Close). y.arena) (sym e.0))
 
 pub once_visited : (a : ArenaId) (cs : List Close) → ByArena cs → ByArena (visited a cs)
 once_visited a [] o = tt
@@ -69,7 +78,7 @@ once_visited a (c ∷ cs) o = go (same_id c.arena a) (once_visited a cs o.1)
   where
     go : (b : Bool) → ByArena (visited a cs) → ByArena (if b then one_more c ∷ cs else c ∷ visited a cs)
     go true ih = (o.0, o.1)
-    go false ih = ((λ d i e. let w = visited_arena a cs d i in o.0 w.0 w.1 (w.2 ∙ e)), ih)
+    go false ih = ((λ d i e. let w = visited_arena a cs d o.1 i in o.0 w.0 w.1 (w.2 ∙ e)), ih)
 
 -- what is there after a close is over was there, and is another arena's
 pub in_dropped : (a : ArenaId) (c : Close) (cs : List Close) → ByArena cs → In c (dropped a cs) → In c cs × (c.arena ≢ a)

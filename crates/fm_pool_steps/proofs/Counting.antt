@@ -15,12 +15,13 @@ use Rattle.fm_depicts.specs.Functions.{put}
 use Rattle.fm_depicts.proofs.Putting.{put_here, put_else}
 use Rattle.fm_pool_facts.specs.Views.{View, In, all_gathered}
 use Rattle.fm_pool_facts.specs.Holds.{holds_of}
-use Rattle.fm_pool_facts.specs.Facts.{Memory, Owners, HasNumber, HasGathered, HasDraw, HasClose, HasSweep, KeepsSlot, DrewIn, IsGathered, IsDrawn, IsOnce, Somewhere, Owns, Knows, Rule}
+use Rattle.fm_pool_facts.specs.Facts.{Memory, Owners, HasNumber, HasGathered, HasDraw, HasClose, HasSweep, KeepsSlot, DrewIn, IsGathered, IsDrawn, IsOnce, Somewhere, Owns, Knows, Rule, HasPage}
 use Rattle.fm_pool_facts.specs.Moves.{told}
 use Rattle.fm_pool_facts.specs.Gone.{IsFounded}
+use Rattle.fm_pool_facts.proofs.Ruling.{page_like}
 use Rattle.fm_pool_facts.proofs.Gone.{NoSlots, none_founded, founded_same, founded_told}
 use Rattle.fm_pool_facts.proofs.Founds.{AreWithin, counted_later, counted_told, counted_set}
-use Rattle.fm_pool_facts.proofs.Keeping.{set_there, in_left, in_right, stays_somewhere, gathered_all, seated_all}
+use Rattle.fm_pool_facts.proofs.Keeping.{set_there, in_left, in_right, stays_somewhere, gathered_all, seated_all, closing_as, sweeping_as}
 use Rattle.fm_pool_facts.proofs.Summing.{total-set}
 use Rattle.fm_pool_facts.proofs.Handles.{handles_still}
 use Rattle.fm_pool_facts.proofs.Shown.{shows_draw}
@@ -87,19 +88,18 @@ module _ (z : Shape) (me : ℕ) (v : View) (l : v.live ≡ true) (lone : v.met �
             mine = ap (made_by v.caller) (sym seen_is);
             inside = u.inside;
             mark = u.mark;
-            closes = λ c j. let y = u.closes c j in record { owner = y.owner; life = y.life; visited = y.visited };
+            closes = λ c j. closing_as (u.closes c j);
             once = u.once;
-            sweeps = λ c j. let y = u.sweeps c j in record { owner = y.owner; life = y.life; session = y.session; wiped = y.wiped; reset = y.reset };
+            sweeps = λ c j. sweeping_as (u.sweeps c j);
             swept_once = u.swept_once;
             hand = u.hand;
             took = u.took;
-            gathered = λ g j.
-                let y = gathered_all z r.history r.memory r.machine r.owners me v u g j in
+            pages = u.pages;
+            gathered = λ g j. let y = gathered_all z r.history r.memory r.machine r.owners me v u g j in
                 gathered_still y.0 g y.1 (ap (made_by g.caller) (sym seen_is));
             coming = λ x j. absurd j;
             one_each = subst (IsOnce (λ (g : Gathered). g.caller.number)) (sym (append-nil (all_gathered v))) u.one_each;
-            drawn = λ n e.
-                let y = drawn n e in
+            drawn = λ n e. let y = drawn n e in
                 record {
                   number = y.number;
                   later = y.later;
@@ -142,17 +142,17 @@ module _ (z : Shape) (me : ℕ) (v : View) (l : v.live ≡ true) (lone : v.met �
           mine = x.mine;
           inside = x.inside;
           mark = x.mark;
-          closes = λ c i. let y = x.closes c i in record { owner = y.owner; life = y.life; visited = y.visited };
+          closes = λ c i. closing_as (x.closes c i);
           once = x.once;
-          sweeps = λ c i. let y = x.sweeps c i in record { owner = y.owner; life = y.life; session = y.session; wiped = y.wiped; reset = y.reset };
+          sweeps = λ c i. sweeping_as (x.sweeps c i);
           swept_once = x.swept_once;
           hand = x.hand;
           took = x.took;
+          pages = x.pages;
           gathered = λ g i. still u.seen g (x.gathered g i);
           coming = λ y j g i. still y.seen g (x.coming y j g i);
           one_each = x.one_each;
-          drawn = λ n e.
-              let y = x.drawn n e in
+          drawn = λ n e. let y = x.drawn n e in
               record {
                 number = (let a = y.number in omega arith);
                 later = y.later;
@@ -201,8 +201,7 @@ module _ (z : Shape) (me : ℕ) (v : View) (l : v.live ≡ true) (lone : v.met �
     number_on k (inr (inr h)) = inr (inr (h.0, in_left h.0 (all_gathered v) [] h.1, h.2))
 
     draw_on : (k c : ℕ) → HasDraw k c v → HasDraw k c drawer
-    draw_on k c (inl h) =
-        let y = h.2 in inl (h.0, h.1, (y.0, in_left y.0 v.finds (fs (length (v.seen ++ zs))) y.1, y.2))
+    draw_on k c (inl h) = let y = h.2 in inl (h.0, h.1, (y.0, in_left y.0 v.finds (fs (length (v.seen ++ zs))) y.1, y.2))
     draw_on k c (inr h) = inr (h.0, in_left h.0 (all_gathered v) [] h.1, h.2, h.3)
 
     here : (k : ℕ) (P : View → Type 0) → k < r.memory.draw → (P v → P drawer) → Somewhere vs (r.owners.number k) P
@@ -222,7 +221,7 @@ module _ (z : Shape) (me : ℕ) (v : View) (l : v.live ≡ true) (lone : v.met �
       valid = r.valid;
       legal = r.legal;
       rightly = r.rightly;
-      loans = r.loans;
+      pages = r.pages;
       depicts = r.depicts;
       shows = shows_draw z r.valid ws r.memory r.shows (n + 1);
       world = record {
@@ -231,7 +230,6 @@ module _ (z : Shape) (me : ℕ) (v : View) (l : v.live ≡ true) (lone : v.met �
         slots = r.world.slots;
         counts = r.world.counts;
         givens = r.world.givens;
-        cells = r.world.cells;
       };
       few = omega arith;
       later = λ k b.
@@ -269,6 +267,8 @@ module _ (z : Shape) (me : ℕ) (v : View) (l : v.live ≡ true) (lone : v.met �
       closed = λ a h. stays_somewhere vs me v drawer (r.owners.closer a) (HasClose a) at (λ q. q) (r.closed a h);
       swept = λ a q o. stays_somewhere vs me v drawer (r.owners.closer a) (HasSweep a) at (λ p. p) (r.swept a q o);
       slots = λ s g h q left b. stays_somewhere vs me v drawer (r.owners.holder s) (KeepsSlot s) at (λ p. p) (r.slots s g h q left b);
+      berths = λ q j b. stays_somewhere vs me v drawer j (HasPage q (r.owners.berth q)) at (page_like q (r.owners.berth q) v drawer refl refl refl)
+          (r.berths q j b);
       held = λ a.
           let x = total-set (holds_of a) vs me v drawer at in
           let y = r.held a in

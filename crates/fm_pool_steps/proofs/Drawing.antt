@@ -16,9 +16,11 @@ use Rattle.fm_pool_facts.specs.declared.step.Step.TheVariants.{Draws}
 use Rattle.fm_pool_facts.specs.Views.{View, In, all_gathered, pass_of}
 use Rattle.fm_pool_facts.specs.Holds.{holds_of}
 use Rattle.fm_pool_facts.specs.Steps.{part, entries, noted, number_drawn, draws, caller_drawn, note_draw, is_clear}
-use Rattle.fm_pool_facts.specs.Facts.{HasNumber, HasGathered, HasDraw, HasClose, HasSweep, KeepsSlot, DrewIn, Owns, Knows, Rule}
+use Rattle.fm_pool_facts.specs.Facts.{HasNumber, HasGathered, HasDraw, HasClose, HasSweep, KeepsSlot, DrewIn, Owns, Knows, Rule, HasPage}
 use Rattle.fm_pool_facts.specs.Moves.{told, Gives, LearnsCount, MayStep}
 use Rattle.fm_pool_facts.specs.Gone.{IsFounded}
+use Rattle.fm_pool_facts.proofs.Ruling.{page_like}
+use Rattle.fm_pool_facts.proofs.Sounding.{sound_of}
 use Rattle.fm_pool_facts.proofs.Gone.{NoSlots, draw_no_slots, none_founded, founded_told}
 use Rattle.fm_pool_facts.proofs.Founds.{AreWithin, looked_within, drew_within, counted_told, counted_set, find_within}
 use Rattle.fm_pool_facts.proofs.Drawers.{complete_counted}
@@ -26,7 +28,6 @@ use Rattle.fm_pool_facts.proofs.Keeping.{none_added, set_there, in_left, stays_s
 use Rattle.fm_pool_facts.proofs.Summing.{total-set}
 use Rattle.fm_pool_facts.proofs.Callers.{counted, has_each, all_counted}
 use Rattle.fm_pool_facts.proofs.Shown.{shows_same}
-use Rattle.fm_pool_facts.proofs.Ruling.{sound_of}
 use Rattle.fm_pool_steps.proofs.Reading.{eqb_true}
 use Rattle.fm_pool_steps.proofs.Plain.{own, Made}
 use Rattle.fm_pool_steps.proofs.Counting.{knows, drew, drew_history}
@@ -35,7 +36,7 @@ both : (a b : Bool) → (a && b) ≡ true → b ≡ true
 both true b e = e
 both false b e = absurd (cc)
 
-nat_le_true : (a b : ℕ) → nat_le a b ≡ true → a ≤ b
+pub nat_le_true : (a b : ℕ) → nat_le a b ≡ true → a ≤ b
 nat_le_true a b e = leb-true a b e
 
 module _ (z : Shape) (me : ℕ) (v : View) (l : v.live ≡ true) (lone : v.met ≡ []) (ws : List ℕ) (vs : List View) (r : Rule z ws vs)
@@ -80,7 +81,7 @@ module _ (z : Shape) (me : ℕ) (v : View) (l : v.live ≡ true) (lone : v.met �
         valid = r.valid;
         legal = r.legal;
         rightly = r.rightly;
-        loans = r.loans;
+        pages = r.pages;
         depicts = r.depicts;
         shows = shows_same z r.valid ws r.memory r.shows i;
         world = r.world;
@@ -94,6 +95,7 @@ module _ (z : Shape) (me : ℕ) (v : View) (l : v.live ≡ true) (lone : v.met �
         closed = λ a h. stays_somewhere vs me v w (r.owners.closer a) (HasClose a) at (λ q. q) (r.closed a h);
         swept = λ a f o. stays_somewhere vs me v w (r.owners.closer a) (HasSweep a) at (λ q. q) (r.swept a f o);
         slots = λ s g h f left b. stays_somewhere vs me v w (r.owners.holder s) (KeepsSlot s) at (λ q. q) (r.slots s g h f left b);
+        berths = λ q j b. stays_somewhere vs me v w j (HasPage q (r.owners.berth q)) at (page_like q (r.owners.berth q) v w refl refl refl) (r.berths q j b);
         held = λ a.
             let x = total-set (holds_of a) vs me v w at in
             let y = r.held a in
@@ -153,6 +155,7 @@ module _ (z : Shape) (me : ℕ) (v : View) (l : v.live ≡ true) (lone : v.met �
         f,
         gives (Some found) false fs (set ws i (found + 1)) f
             (drew_history z me v l lone ws vs r at found is_found fits none fs noted founds slots),
+        (append-nil (v.seen ++ zs) ∙ sym is) ∙ sym (drew_history z me v l lone ws vs r at found is_found fits none fs noted founds slots),
       )
 
   -- and where it didn't
@@ -162,7 +165,7 @@ module _ (z : Shape) (me : ℕ) (v : View) (l : v.live ≡ true) (lone : v.met �
   made_looked expected fs founds slots =
       let wh : Bool = whole_by expected found in
       let f = looked wh fs founds slots (go v.whole refl) in
-      (told (part_of v.drawn wh) zs [] fs, f, gives v.drawn wh fs (set ws i found) f refl)
+      (told (part_of v.drawn wh) zs [] fs, f, gives v.drawn wh fs (set ws i found) f refl, append-nil (v.seen ++ zs) ∙ sym is)
     where
       go : (b : Bool) → v.whole ≡ b → (if b then true else (expected == 0 && (length v.gathered + 1 == found))) ≡ true → (n : ℕ) → n < r.memory.draw
           → n ≢ v.caller.number → HasGathered n v

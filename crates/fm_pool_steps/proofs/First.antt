@@ -2,41 +2,55 @@
 use Rattle.std.proofs.Common.{◌≡◌, ◌≢◌, ℕ, zero, suc, ◌+◌, ◌-◌, ◌<◌, Bool, if◌then◌else◌, List, [], ◌∷◌, length, set, get_or, replicate, None, sym, refl, ap, ◌∙◌, subst, arith, inl, inr, ⊎_elim, ne_eqb, length-set, get_or-set_other, get_or-set_same}
 use mathlib.Core.Option.{some, some-injective, some-ne-none}
 use lib.ListN.{get_elem?, length-replicate}
-use Rattle.std.proofs.lemmas.List.Elements.{All-nil}
 use Rattle.fm_words.specs.declared.shape.Shape.{Shape}
 use Rattle.fm_words.specs.Shapes.{IsValid}
-use Rattle.fm_words.specs.Places.{at as place_at, front, slot_bits, mark, session, given as given_place, words as word_count}
+use Rattle.fm_words.specs.Places.{page_bits as page_bits_place, map, page_word, at as place_at, front, slot_bits, mark, session, given as given_place, words as word_count}
 use Rattle.fm_words.specs.Sessions.{session_word}
 use Rattle.fm_pool_facts.specs.Words.{kept, free_word}
 use Rattle.fm_depicts.specs.Steps.{opening}
 use Rattle.fm_depicts.proofs.Depicting.{always}
 use Rattle.std.specs.Int.{bit_at}
-use Rattle.std.proofs.lemmas.Bool.{cases_lt}
 use Rattle.std.proofs.lemmas.Nat.Bits.{bit_at_ones, bit_at_ones_above}
+use Rattle.std.proofs.lemmas.Bool.{cases_lt}
 use Rattle.fm_words.specs.Bits.{ones}
 use Rattle.fm_pool_facts.specs.Views.{View, IsSound, limit_of}
 use Rattle.fm_pool_facts.specs.Splits.{first_view}
-use Rattle.fm_pool_facts.specs.Facts.{Memory, free, Owners, Shows, Knows, cell_at, Rule, IsCounted}
-use Rattle.fm_pool_facts.proofs.Shown.{shows_bits}
+use Rattle.fm_pool_facts.specs.Facts.{Memory, free, Owners, Shows, Knows, loose, Rule, IsCounted}
+use Rattle.fm_pool_facts.proofs.Shown.{shows_page_bits, shows_bits}
 use Rattle.fm_pool_facts.specs.Gone.{IsFounded}
 use Rattle.fm_pool_facts.proofs.Gone.{founded_bare}
 use Rattle.fm_pool_facts.proofs.Founds.{counted_bare}
-use Rattle.fm_pool_facts.proofs.Ruling.{sound_of}
+use Rattle.fm_pool_facts.proofs.Sounding.{sound_of}
 use Rattle.fm_pool_facts.proofs.Gripping.{none_held, none_counted}
 
 -- ---- the words
 
 -- with these slot bits
-blank : ℕ → Memory
-blank bits = record { draw = 1; terms = λ k. 0; bits = bits; marks = λ k. None; sessions = λ s. free 0; counts = λ s. 0; given = λ s. 0; cells = λ s w. 0 }
+blank : (bits page_bits : ℕ) → Memory
+blank bits page_bits = record {
+  draw = 1;
+  terms = λ k. 0;
+  bits = bits;
+  page_bits = page_bits;
+  marks = λ k. None;
+  sessions = λ s. free 0;
+  counts = λ s. 0;
+  given = λ s. 0;
+  maps = λ s i. None;
+  cells = λ p w. 0;
+}
 
 -- all words are 0 but the count of drawn numbers
 abbrev zeros_but : Shape → List ℕ
 zeros_but z = set (replicate (word_count z) 0) 1 1
 
 -- and the slot bits
+abbrev slots_set : Shape → List ℕ
+slots_set z = set (zeros_but z) 2 (ones z.slots)
+
+-- and the page bits
 abbrev pub words_of : Shape → List ℕ
-words_of z = set (zeros_but z) 2 (ones z.slots)
+words_of z = set (slots_set z) 3 (ones z.pages)
 
 abbrev zeros_of : ℕ → List ℕ
 zeros_of n = replicate n 0
@@ -56,37 +70,52 @@ pub two_words : (z : Shape) → 2 < word_count z
 unfolding word_count
 two_words z = omega arith
 
+pub three_words : (z : Shape) → 3 < word_count z
+unfolding word_count
+three_words z = omega arith
+
 free_code : (generations : ℕ) → 0 < generations → 0 ≡ free_word generations 0
 unfolding session_word free_word kept
 free_code n low =
     let e : kept n 0 ≡ 0 = ap (λ (b : Bool). if b then 0 - 1 else 0) (ne_eqb 0 n (λ q. omega arith)) in omega arith
 
-shows_none : (z : Shape) → IsValid z → Shows z (zeros_but z) (blank 0)
-unfolding blank place_at cell_at
+shows_none : (z : Shape) → IsValid z → Shows z (zeros_but z) (blank 0 0)
+unfolding blank place_at
 shows_none z valid = record {
   wide = length-set (replicate (word_count z) 0) 1 1 ∙ length-replicate (word_count z) 0;
   front = zero_at (word_count z) (place_at z front) (λ e. omega arith);
   draw =
       get_or-set_same (replicate (word_count z) 0) 1 1 0
-      (let a = two_words z in let b : length (zeros_of (word_count z)) ≡ word_count z = length-replicate (word_count z) 0 in omega arith);
+      (let a = three_words z in let b : length (zeros_of (word_count z)) ≡ word_count z = length-replicate (word_count z) 0 in omega arith);
   slot_bits = zero_at (word_count z) (place_at z slot_bits) (λ e. omega arith);
+  page_bits = zero_at (word_count z) (place_at z page_bits_place) (λ e. omega arith);
   terms = λ k. refl;
   marks = λ k h. zero_at (word_count z) (place_at z (mark k)) (λ e. omega arith);
   sessions = λ s h. zero_at (word_count z) (place_at z (session s)) (λ e. omega arith) ∙ free_code z.generations (let l = valid.generations.0 in omega arith);
   given = λ s h. zero_at (word_count z) (place_at z (given_place s)) (λ e. omega arith);
-  cells = λ s w a b. zero_at (word_count z) (cell_at z s w) (λ e. omega arith);
+  maps = λ s i a b. zero_at (word_count z) (place_at z (map s i)) (λ e. omega arith);
+  cells = λ s w a b. zero_at (word_count z) (place_at z (page_word s w)) (λ e. omega arith);
 }
 
-shows_blank : (z : Shape) → IsValid z → Shows z (words_of z) (blank (ones z.slots))
+shows_blank : (z : Shape) → IsValid z → Shows z (words_of z) (blank (ones z.slots) (ones z.pages))
 unfolding blank place_at
-shows_blank z valid = shows_bits z valid (zeros_but z) (blank 0) (shows_none z valid) (ones z.slots)
+shows_blank z valid =
+    shows_page_bits z valid (slots_set z) (blank (ones z.slots) 0) (shows_bits z valid (zeros_but z) (blank 0 0) (shows_none z valid) (ones z.slots))
+    (ones z.pages)
+
+-- a bit that is 1 of the word whose first bits are 1
+ones_below : (n p : ℕ) → bit_at (ones n) p ≡ 1 → p < n
+ones_below n p b = elim (cases_lt p n) [
+  | inl l ↦ l
+  | inr h ↦ absurd (let z = bit_at_ones_above n p h in let q : bit_at (ones n) p ≡ 0 = z in omega arith)
+]
 
 -- ---- the rule
 
 abbrev nobody : Owners
-nobody = record { number = λ n. 0; closer = λ a. 0; holder = λ s. 0; taker = λ s. None }
+nobody = record { number = λ n. 0; closer = λ a. 0; holder = λ s. 0; taker = λ s. None; berth = λ p. loose }
 
-first_knows : (z : Shape) → IsValid z → Knows z [] (blank (ones z.slots)) opening nobody 0 (first_view z)
+first_knows : (z : Shape) → IsValid z → Knows z [] (blank (ones z.slots) (ones z.pages)) opening nobody 0 (first_view z)
 unfolding blank
 first_knows z valid = record {
   shape = λ q. refl;
@@ -105,6 +134,7 @@ first_knows z valid = record {
     swept_once = tt;
     hand = tt;
     took = tt;
+    pages = record { read = λ a e x i. absurd i; claims = λ q i. absurd i; lone = inl refl; sweep = tt };
     handles = λ a k. refl;
     gathered = λ g i. absurd i;
     coming = λ x i. absurd i;
@@ -119,17 +149,28 @@ pub first_rule : (z : Shape) → IsValid z → Rule z (words_of z) (first_view z
 unfolding blank
 first_rule z valid = record {
   history = [];
-  memory = blank (ones z.slots);
+  memory = blank (ones z.slots) (ones z.pages);
   machine = opening;
   owners = nobody;
   valid = valid;
   legal = tt;
   rightly = tt;
-  loans = record {
-    part = λ a. ⊎_elim (λ e. absurd (cc)) (λ e. absurd (cc));
-    own = λ l h. (let b = h.1 in absurd (omega arith));
-    none = λ a p e h. (let b = h.1.1 in absurd (omega arith));
-    clean = λ s g e. All-nil (λ l. l.block ≢ s);
+  pages = record {
+    bit_is = λ p b. (refl, ones_below z.pages p b);
+    is_bit = λ p low e. bit_at_ones z.pages p low;
+    map_is = λ k i p e. absurd (cc);
+    mapped_is = λ p k i e. absurd (cc);
+    unmapped_is = λ p j i a e. absurd (cc);
+    claimed_is = λ p j e. absurd (cc);
+    loose_is = λ p e o h. refl;
+    lent_is = λ l h. (let b = h.1 in absurd (omega arith));
+    only_loan = λ l x h k e. (let b = h.1 in absurd (omega arith));
+    empty = λ k g i e. refl;
+    words = λ a w p. ⊎_elim (λ e. absurd (cc)) (λ e. absurd (cc));
+    bare = λ a w. ⊎_elim (λ e. absurd (cc)) (λ e. absurd (cc));
+    covered = λ a w. ⊎_elim (λ e. absurd (cc)) (λ e. absurd (cc));
+    new_words = λ a w e. refl;
+    new_given = λ a e. refl;
   };
   depicts = always (limit_of z) [] tt;
   shows = shows_blank z valid;
@@ -155,7 +196,6 @@ first_rule z valid = record {
     };
     counts = record { shown = λ a e. absurd (cc); only = λ a e. refl; few = λ a. omega arith };
     givens = record { shown = λ a. ⊎_elim (λ e. absurd (cc)) (λ e. absurd (cc)); none = λ a e. refl; clean = λ s g e. refl };
-    cells = record { shown = λ a w. ⊎_elim (λ e. absurd (cc)) (λ e. absurd (cc)); none = λ a w e. refl; clean = λ s g w e h. refl };
   };
   few = valid.passes.0;
   terms = λ e i. absurd i;
@@ -165,26 +205,27 @@ first_rule z valid = record {
   closed = λ a e. absurd (cc);
   swept = λ a e. absurd (cc);
   slots = λ s g l e left b. absurd (let one = bit_at_ones z.slots s l in let q : bit_at (ones z.slots) s ≡ 0 = b in omega arith);
+  berths = λ p j b. absurd b;
   held = λ a. (let x = none_held a (first_view z) refl refl in let y = none_counted a opening refl refl in omega arith);
   each = go;
   counted = counted;
   founds = founds;
 }
   where
-    counted : (j : ℕ) (v : View) → get_elem? (first_view z ∷ []) j ≡ some v → IsCounted (blank (ones z.slots)) v
+    counted : (j : ℕ) (v : View) → get_elem? (first_view z ∷ []) j ≡ some v → IsCounted (blank (ones z.slots) (ones z.pages)) v
     counted (suc j) v e = absurd (some-ne-none v (sym e))
-    counted zero v e = subst (IsCounted (blank (ones z.slots))) (some-injective (first_view z) v e)
-        (counted_bare (blank (ones z.slots)) (first_view z) refl refl)
+    counted zero v e = subst (IsCounted (blank (ones z.slots) (ones z.pages))) (some-injective (first_view z) v e)
+        (counted_bare (blank (ones z.slots) (ones z.pages)) (first_view z) refl refl)
 
     founds : (j : ℕ) (v : View) → get_elem? (first_view z ∷ []) j ≡ some v
-        → IsFounded z [] (blank (ones z.slots)) nobody.taker opening.life v
+        → IsFounded z [] (blank (ones z.slots) (ones z.pages)) nobody.taker opening.life v
     founds (suc j) v e = absurd (some-ne-none v (sym e))
-    founds zero v e = subst (IsFounded z [] (blank (ones z.slots)) nobody.taker opening.life) (some-injective (first_view z) v e)
-        (founded_bare z [] (blank (ones z.slots)) nobody.taker opening.life (first_view z) refl refl)
+    founds zero v e = subst (IsFounded z [] (blank (ones z.slots) (ones z.pages)) nobody.taker opening.life) (some-injective (first_view z) v e)
+        (founded_bare z [] (blank (ones z.slots) (ones z.pages)) nobody.taker opening.life (first_view z) refl refl)
 
-    go : (j : ℕ) (v : View) → get_elem? (first_view z ∷ []) j ≡ some v → Knows z [] (blank (ones z.slots)) opening nobody j v
+    go : (j : ℕ) (v : View) → get_elem? (first_view z ∷ []) j ≡ some v → Knows z [] (blank (ones z.slots) (ones z.pages)) opening nobody j v
     go (suc j) v e = absurd (some-ne-none v (sym e))
-    go zero v e = subst (Knows z [] (blank (ones z.slots)) opening nobody 0) (some-injective (first_view z) v e) (first_knows z valid)
+    go zero v e = subst (Knows z [] (blank (ones z.slots) (ones z.pages)) opening nobody 0) (some-injective (first_view z) v e) (first_knows z valid)
 
 -- the first pass is sound
 pub first_sound : (z : Shape) → IsValid z → IsSound (first_view z)

@@ -1,6 +1,5 @@
 -- A pass that is outside, with nothing in its hand, is gathered into another.
-use Rattle.std.proofs.Common.{◌≡◌, ◌≢◌, ℕ, ◌==◌, Bool, true, if◌then◌else◌, List, ◌∷◌, ◌++◌, set, sym, refl, ap, ◌∙◌, subst, arith, inl, inr, ⊎_elim, Some, None, eq-eqb, ne_eqb}
-use Rattle.std.proofs.lemmas.List.{append-nil}
+use Rattle.std.proofs.Common.{◌≡◌, ◌≢◌, ℕ, ◌==◌, Bool, true, if◌then◌else◌, List, ◌∷◌, ◌++◌, set, sym, refl, ap, ◌∙◌, subst, arith, inl, inr, ⊎_elim, eq-eqb, ne_eqb}
 use mathlib.Core.Option.{some, some-injective}
 use mathlib.Core.Logic.{dite}
 use native.Mathlib.Decide.{ℕ_discrete}
@@ -13,14 +12,16 @@ use Rattle.fm_pool_facts.specs.Views.{Met, View, In, all_gathered, brought}
 use Rattle.fm_pool_facts.specs.Hands.{HasSlot}
 use Rattle.fm_pool_facts.specs.Holds.{holds_of}
 use Rattle.fm_pool_facts.specs.Splits.{gather, as_gathered, nothing_seen, IsAtRest}
-use Rattle.fm_pool_facts.specs.Facts.{Owners, HasNumber, HasDraw, HasClose, HasSweep, KeepsSlot, IsGathered, IsOnce, Begins, Somewhere, Owns, Knows, Rule, IsCounted}
+use Rattle.fm_pool_facts.specs.Facts.{Owners, HasNumber, HasDraw, HasClose, HasSweep, KeepsSlot, IsGathered, IsOnce, Begins, Somewhere, Owns, Knows, Rule, IsCounted, HasPage}
 use Rattle.fm_pool_facts.specs.Gone.{IsFounded}
+use Rattle.fm_pool_facts.proofs.Ruling.{page_like}
 use Rattle.fm_pool_facts.proofs.Gone.{founded_bare, founded_gather}
 use Rattle.fm_pool_facts.proofs.Founds.{counted_bare, counted_gather}
-use Rattle.fm_pool_facts.proofs.Keeping.{set_there, stays_somewhere, gathered_all, in_left, in_right, in_append}
+use Rattle.fm_pool_facts.proofs.Keeping.{set_there, stays_somewhere, gathered_all, in_left, in_right, in_append, closing_as, sweeping_as}
 use Rattle.fm_pool_facts.proofs.Counting.{between}
 use Rattle.fm_pool_facts.proofs.Summing.{total-set}
 use Rattle.fm_pool_facts.proofs.Gripping.{none_held}
+use Rattle.fm_pool_steps.proofs.Joining.{all_w, number_on, number_comes, draw_on, draw_comes, no_page}
 use Rattle.fm_pool_steps.proofs.Splitting.{with_owners, views_set, there_before}
 
 module _ (z : Shape) (ws : List ℕ) (vs : List View) (r : Rule z ws vs) (id : ℕ) (v : View) (other : ℕ) (w : View) (at : get_elem? vs id ≡ some v)
@@ -66,9 +67,6 @@ module _ (z : Shape) (ws : List ℕ) (vs : List View) (r : Rule z ws vs) (id : �
   abbrev comes : List Gathered
   comes = as_gathered w ∷ w.gathered
 
-  all_w : all_gathered w ≡ w.gathered
-  all_w = ap (λ (x : List Met). w.gathered ++ brought x) rests.met ∙ append-nil w.gathered
-
   seat_comes : (g : Gathered) → In g comes → r.owners.number g.caller.number ≡ other
   seat_comes g (inl e) = ap (λ (x : Gathered). r.owners.number x.caller.number) e ∙ kw.seated
   seat_comes g (inr i) = (kw.gathered g i).seated
@@ -79,33 +77,6 @@ module _ (z : Shape) (ws : List ℕ) (vs : List View) (r : Rule z ws vs) (id : �
   -- no caller of the one is a caller of the other
   unlike : (m n : ℕ) → r.owners.number m ≡ id → r.owners.number n ≡ other → n ≢ m
   unlike m n a b e = id_far (sym a ∙ (ap r.owners.number (sym e) ∙ b))
-
-  in_both : (g : Gathered) → In g (all_gathered v) → In g (all_gathered both)
-  in_both g i = ⊎_elim
-      (λ (j : In g v.gathered). in_left g v.gathered (comes ++ brought v.met) j)
-      (λ (j : In g (brought v.met)). in_right g v.gathered (comes ++ brought v.met) (in_right g comes (brought v.met) j))
-      (in_append g v.gathered (brought v.met) i)
-
-  comes_both : (g : Gathered) → In g comes → In g (all_gathered both)
-  comes_both g i = in_right g v.gathered (comes ++ brought v.met) (in_left g comes (brought v.met) i)
-
-  number_on : (n : ℕ) → HasNumber n v → HasNumber n both
-  number_on n (inl h) = inl h
-  number_on n (inr (inl h)) = inr (inl h)
-  number_on n (inr (inr h)) = inr (inr (h.0, in_both h.0 h.1, h.2))
-
-  number_comes : (n : ℕ) → HasNumber n w → HasNumber n both
-  number_comes n (inl h) = inr (inr (as_gathered w, comes_both (as_gathered w) (inl refl), h.1))
-  number_comes n (inr (inl h)) = absurd (let q : Some n ≡ None = sym h ∙ rests.drawn in cc)
-  number_comes n (inr (inr h)) = inr (inr (h.0, comes_both h.0 (inr (subst (In h.0) all_w h.1)), h.2))
-
-  draw_on : (d n : ℕ) → HasDraw d n v → HasDraw d n both
-  draw_on d n (inl h) = inl h
-  draw_on d n (inr h) = inr (h.0, in_both h.0 h.1, h.2, h.3)
-
-  draw_comes : (d n : ℕ) → HasDraw d n w → HasDraw d n both
-  draw_comes d n (inl h) = inr (as_gathered w, comes_both (as_gathered w) (inl refl), h.1, h.2)
-  draw_comes d n (inr h) = inr (h.0, comes_both h.0 (inr (subst (In h.0) all_w h.1)), h.2, h.3)
 
   -- what was somewhere by its number is there still, or with the pass
   join : (n : ℕ) (P : View → Type 0) → (P w → P both) → (P v → P both) → Somewhere vs (r.owners.number n) P → Somewhere us (f n) P
@@ -155,7 +126,7 @@ module _ (z : Shape) (ws : List ℕ) (vs : List View) (r : Rule z ws vs) (id : �
       }
 
   comes_once : IsOnce (λ (g : Gathered). g.caller.number) comes
-  comes_once = ((λ g i. (kw.gathered g i).apart), subst (IsOnce (λ (g : Gathered). g.caller.number)) all_w kw.one_each)
+  comes_once = ((λ g i. (kw.gathered g i).apart), subst (IsOnce (λ (g : Gathered). g.caller.number)) (all_w v w rests) kw.one_each)
 
   -- a pass that another is gathered into isn't whole
   not_whole : v.whole ≡ true → ⊥
@@ -179,12 +150,13 @@ module _ (z : Shape) (ws : List ℕ) (vs : List View) (r : Rule z ws vs) (id : �
           mine = kv.mine;
           inside = kv.inside;
           mark = kv.mark;
-          closes = λ c i. let y = kv.closes c i in record { owner = y.owner; life = y.life; visited = y.visited };
+          closes = λ c i. closing_as (kv.closes c i);
           once = kv.once;
-          sweeps = λ c i. let y = kv.sweeps c i in record { owner = y.owner; life = y.life; session = y.session; wiped = y.wiped; reset = y.reset };
+          sweeps = λ c i. sweeping_as (kv.sweeps c i);
           swept_once = kv.swept_once;
           hand = kv.hand;
           took = kv.took;
+          pages = kv.pages;
           gathered = λ g i. at_both v.seen g (kv.gathered g i);
           coming = λ x. ⊎_elim
               (λ (p : x ≡ record { seen = w.seen; gathered = comes }) g i.
@@ -238,12 +210,13 @@ module _ (z : Shape) (ws : List ℕ) (vs : List View) (r : Rule z ws vs) (id : �
           mine = x.mine;
           inside = x.inside;
           mark = x.mark;
-          closes = λ c i. let y = x.closes c i in record { owner = y.owner; life = y.life; visited = y.visited };
+          closes = λ c i. closing_as (x.closes c i);
           once = x.once;
-          sweeps = λ c i. let y = x.sweeps c i in record { owner = y.owner; life = y.life; session = y.session; wiped = y.wiped; reset = y.reset };
+          sweeps = λ c i. sweeping_as (x.sweeps c i);
           swept_once = x.swept_once;
           hand = x.hand;
           took = x.took;
+          pages = x.pages;
           gathered = λ g i. still u.seen g (x.gathered g i);
           coming = λ y n g i. still y.seen g (x.coming y n g i);
           one_each = x.one_each;
@@ -270,8 +243,8 @@ module _ (z : Shape) (ws : List ℕ) (vs : List View) (r : Rule z ws vs) (id : �
   pub gather_joins : Rule z ws us
   gather_joins =
       with_owners z ws vs us r f
-      (λ n h. join n (HasNumber n) (number_comes n) (number_on n) (r.numbers n h))
-      (λ n i h. let y = r.drawers n i h in (y.0, y.1, join y.0 (HasDraw y.0 n) (draw_comes y.0 n) (draw_on y.0 n) y.2))
+      (λ n h. join n (HasNumber n) (number_comes v w rests n) (number_on v w rests n) (r.numbers n h))
+      (λ n i h. let y = r.drawers n i h in (y.0, y.1, join y.0 (HasDraw y.0 n) (draw_comes v w rests y.0 n) (draw_on v w rests y.0 n) y.2))
       (λ a h. stays_somewhere (set vs id both) other w nothing_seen (r.owners.closer a) (HasClose a) at'
       (λ (q : HasClose a w). absurd (subst (In q.1.0) rests.closes q.1.1))
       (stays_somewhere vs id v both (r.owners.closer a) (HasClose a) at (λ q. q) (r.closed a h)))
@@ -281,6 +254,9 @@ module _ (z : Shape) (ws : List ℕ) (vs : List View) (r : Rule z ws vs) (id : �
       (λ s g h f left b. stays_somewhere (set vs id both) other w nothing_seen (r.owners.holder s) (KeepsSlot s) at'
       (λ (q : KeepsSlot s w). absurd (subst (HasSlot s) rests.hand q.1))
       (stays_somewhere vs id v both (r.owners.holder s) (KeepsSlot s) at (λ q. q) (r.slots s g h f left b)))
+      (λ q j b. stays_somewhere (set vs id both) other w nothing_seen j (HasPage q (r.owners.berth q)) at'
+      (λ h. absurd (no_page v w rests z r.history r.memory r.machine r.owners other kw q (r.owners.berth q) h))
+      (stays_somewhere vs id v both j (HasPage q (r.owners.berth q)) at (page_like q (r.owners.berth q) v both refl refl refl) (r.berths q j b)))
       (views_set (set vs id both) other nothing_seen (Knows z r.history r.memory r.machine o')
       (record { shape = λ q. absurd (cc); begins = (r.history, refl); met = λ x i. absurd i; owns = λ q. absurd (cc) })
       (λ j u m e. views_set vs id both (λ k y. k ≢ other → Knows z r.history r.memory r.machine o' k y) (λ m. both_knows)

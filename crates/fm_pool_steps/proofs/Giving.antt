@@ -8,6 +8,7 @@ use Rattle.std.specs.Int.{bit_at}
 use Rattle.std.proofs.lemmas.Nat.Bits.{bit_at-lt, bit_at_or, bit_at-pow_same, bit_at-pow_other}
 use Rattle.fm_words.specs.declared.shape.Shape.{Shape}
 use Rattle.fm_words.specs.Places.{at as place_at, slot_bits as bits_place}
+use Rattle.fm_pool_facts.proofs.Keeping.{sweeping_as}
 use Rattle.fm_pool_facts.specs.declared.step.Step.TheVariants.{GivesSlot}
 use Rattle.fm_pool_facts.specs.Hands.{nothing, retired, HasSlot, IsTaker}
 use Rattle.fm_pool_facts.specs.Views.{View}
@@ -17,9 +18,8 @@ use Rattle.fm_pool_facts.specs.Moves.{Moved, Same, MayStep}
 use Rattle.fm_pool_facts.proofs.Founds.{no_draw}
 use Rattle.fm_pool_facts.proofs.Retiring.{world_give}
 use Rattle.fm_pool_facts.proofs.Shown.{shows_bits}
-use Rattle.fm_pool_facts.proofs.Ruling.{keeps}
-use Rattle.fm_pool_steps.proofs.Plain.{own, Made, sweeps_still}
-use Rattle.fm_pool_steps.proofs.Taking.{same_hand}
+use Rattle.fm_pool_facts.proofs.Ruling.{page_like, keeps}
+use Rattle.fm_pool_steps.proofs.Plain.{same_but, own, Made, sweeps_still}
 
 module _ (z : Shape) (me : ℕ) (v : View) (l : v.live ≡ true) (s : ℕ) (hand : v.hand ≡ retired s) (ws : List ℕ) (vs : List View) (r : Rule z ws vs)
     (at : get_elem? vs me ≡ some v) where
@@ -66,19 +66,21 @@ module _ (z : Shape) (me : ℕ) (v : View) (l : v.live ≡ true) (s : ℕ) (hand
         draw = refl;
         numbers = λ k. refl;
         closers = λ b q h. (refl, tt);
-        sweepers = λ b q h n. (refl, record { session = h; cells = λ w. refl; given = refl });
+        sweepers = λ b q h n. (refl, record { session = h; maps = λ i. refl; given = refl });
         holders = λ k g q b h. (refl, q, others k (λ e. h (ap r.owners.holder e ∙ in_its.1.owner)) ∙ b, refl);
         taken = λ k c x. dite (ℕ_discrete k s)
             (λ e. absurd (let q : None ≡ Some c = sym untaken ∙ (ap r.owners.taker (sym e) ∙ x.taker) in cc))
             (λ n. inl (record { taker = x.taker; generation = x.generation; session = x.session; left = x.left; bit = others k n ∙ x.bit }));
+        pages = record { others = λ q j b h. (refl, λ w. refl); stay = λ b i q st e. e };
       } in
-      let same : Same v given_part = same_hand v given_part refl in
-      keeps z ws (set ws i word) vs r me v given_part [] none_noted bits_now r.owners at l d same no_draw tt r.loans
+      let same : Same v given_part = same_but in
+      keeps z ws (set ws i word) vs r me v given_part [] none_noted bits_now r.owners at l d same no_draw tt r.pages
       (λ b h. inr (h, refl, (λ y. y)))
       (sweeps_still me v given_part r.memory r.machine r.owners bits_now r.machine r.owners same refl (λ b q. refl) (λ b q h. (q, h)))
       (λ k g h q left b. dite (ℕ_discrete k s)
       (λ e. absurd (let y = is_one in let n : bit_at word k ≡ bit_at word s = ap (bit_at word) e in omega arith))
       (λ n. inr (q, sym (others k n) ∙ b, refl, (λ (y : KeepsSlot k v). absurd (n (subst (HasSlot k) hand y.1))))))
+      (λ q j b. inr (refl, λ h. page_like q (r.owners.berth q) v given_part refl refl refl h))
       (λ b. refl)
       (shows_bits z r.valid ws r.memory r.shows word)
       (world_give z r.memory r.machine r.world word s (in_its.0 + 1) in_its.1.slot in_its.1.session in_its.1.left others)
@@ -87,11 +89,11 @@ module _ (z : Shape) (me : ℕ) (v : View) (l : v.live ≡ true) (s : ℕ) (hand
         mark = owned.mark;
         closes = owned.closes;
         once = owned.once;
-        sweeps = λ c j.
-            let y = owned.sweeps c j in record { owner = y.owner; life = y.life; session = y.session; wiped = y.wiped; reset = y.reset };
+        sweeps = λ c j. sweeping_as (owned.sweeps c j);
         swept_once = owned.swept_once;
         hand = tt;
         took = tt;
+        pages = owned.pages;
       })
 
 pub give_steps : (z : Shape) (me : ℕ) (v : View) (s : ℕ) → v.live ≡ true → v.hand ≡ retired s

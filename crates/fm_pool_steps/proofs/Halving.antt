@@ -16,11 +16,12 @@ use Rattle.fm_depicts.proofs.Putting.{put_here, put_else}
 use Rattle.fm_pool_facts.specs.Views.{Met, View, In, all_gathered, brought}
 use Rattle.fm_pool_facts.specs.Holds.{holds_of}
 use Rattle.fm_pool_facts.specs.Splits.{number_or, drawn_left, drawn_right}
-use Rattle.fm_pool_facts.specs.Facts.{Owners, HasNumber, HasDraw, HasClose, HasSweep, KeepsSlot, IsGathered, IsDrawn, Somewhere, Owns, Knows, Rule, IsCounted}
+use Rattle.fm_pool_facts.specs.Facts.{Owners, HasNumber, HasDraw, HasClose, HasSweep, KeepsSlot, IsGathered, IsDrawn, Somewhere, Owns, Knows, Rule, IsCounted, HasPage}
 use Rattle.fm_pool_facts.specs.Gone.{IsFounded}
+use Rattle.fm_pool_facts.proofs.Ruling.{page_like}
 use Rattle.fm_pool_facts.proofs.Gone.{founded_bare}
 use Rattle.fm_pool_facts.proofs.Founds.{counted_bare}
-use Rattle.fm_pool_facts.proofs.Keeping.{stays_somewhere, gathered_all, in_left, in_right}
+use Rattle.fm_pool_facts.proofs.Keeping.{stays_somewhere, gathered_all, in_left, in_right, closing_as, sweeping_as}
 use Rattle.fm_pool_facts.proofs.Summing.{total-set, total-snoc}
 use Rattle.fm_pool_facts.proofs.Gripping.{none_held}
 use Rattle.fm_pool_steps.proofs.Splitting.{with_owners, views_set, views_on, on_longer}
@@ -120,12 +121,13 @@ module _ (z : Shape) (ws : List ℕ) (vs : List View) (r : Rule z ws vs) (id : �
           mine = u.mine;
           inside = u.inside;
           mark = u.mark;
-          closes = λ c i. let y = u.closes c i in record { owner = y.owner; life = y.life; visited = y.visited };
+          closes = λ c i. closing_as (u.closes c i);
           once = u.once;
-          sweeps = λ c i. let y = u.sweeps c i in record { owner = y.owner; life = y.life; session = y.session; wiped = y.wiped; reset = y.reset };
+          sweeps = λ c i. sweeping_as (u.sweeps c i);
           swept_once = u.swept_once;
           hand = u.hand;
           took = u.took;
+          pages = u.pages;
           gathered = λ g i. at_left v.seen g (still id v u its.ungathered v.seen g (in_left g v.gathered (brought v.met) i) (u.gathered g i));
           coming = λ x j g i.
               at_left x.seen g (still id v u its.ungathered x.seen g (in_right g v.gathered (brought v.met) (brought_in g x v.met j i)) (u.coming x j g i));
@@ -161,6 +163,7 @@ module _ (z : Shape) (ws : List ℕ) (vs : List View) (r : Rule z ws vs) (id : �
       swept_once = tt;
       hand = tt;
       took = tt;
+      pages = record { read = λ a e x i. absurd i; claims = λ q i. absurd i; lone = inl refl; sweep = tt };
       gathered = λ g i. absurd i;
       coming = λ x i. absurd i;
       one_each = tt;
@@ -188,12 +191,13 @@ module _ (z : Shape) (ws : List ℕ) (vs : List View) (r : Rule z ws vs) (id : �
           mine = x.mine;
           inside = x.inside;
           mark = x.mark;
-          closes = λ c i. let y = x.closes c i in record { owner = y.owner; life = y.life; visited = y.visited };
+          closes = λ c i. closing_as (x.closes c i);
           once = x.once;
-          sweeps = λ c i. let y = x.sweeps c i in record { owner = y.owner; life = y.life; session = y.session; wiped = y.wiped; reset = y.reset };
+          sweeps = λ c i. sweeping_as (x.sweeps c i);
           swept_once = x.swept_once;
           hand = x.hand;
           took = x.took;
+          pages = x.pages;
           gathered = λ g i. still j u x away u.seen g (in_left g u.gathered (brought u.met) i) (x.gathered g i);
           coming = λ y n g i. still j u x away y.seen g (in_right g u.gathered (brought u.met) (brought_in g y u.met n i)) (x.coming y n g i);
           one_each = x.one_each;
@@ -242,6 +246,7 @@ module _ (z : Shape) (ws : List ℕ) (vs : List View) (r : Rule z ws vs) (id : �
       (λ a h. on_left (r.owners.closer a) (HasClose a) (λ q. q) (r.closed a h))
       (λ a f o. on_left (r.owners.closer a) (HasSweep a) (λ q. q) (r.swept a f o))
       (λ s g h f left b. on_left (r.owners.holder s) (KeepsSlot s) (λ q. q) (r.slots s g h f left b))
+      (λ q j b. on_left j (HasPage q (r.owners.berth q)) (page_like q (r.owners.berth q) v left refl refl refl) (r.berths q j b))
       (views_on (set vs id left) right (Knows z r.history r.memory r.machine o') right_knows
       (views_set vs id left (Knows z r.history r.memory r.machine o') left_knows (λ j u far e. other_knows j u far (r.each j u e))))
       (views_on (set vs id left) right (λ j u. IsCounted r.memory u) (counted_bare r.memory right refl refl)

@@ -15,18 +15,18 @@ use Rattle.fm_depicts.specs.Functions.{Stage, Fresh, Lives, Closes, Over, Machin
 use Rattle.fm_pool_facts.specs.declared.step.Step.TheVariants.{Holds, Unholds}
 use Rattle.fm_pool_facts.specs.Views.{View, Fits, In, IsKnown}
 use Rattle.fm_pool_facts.specs.Words.{alive_word, alive_holds, hold_found, held_by, held_word}
-use Rattle.fm_pool_facts.specs.Holds.{grips, with_grips, holds_after, released, holds_of, all_holds}
+use Rattle.fm_pool_facts.specs.Holds.{grips, with_grips, holds_after, released, holds_of}
 use Rattle.fm_pool_facts.specs.Steps.{part, entries, noted, none_noted, where_found}
-use Rattle.fm_pool_facts.specs.Facts.{Loans, World, session_code, Shows, Owns, Rule}
-use Rattle.fm_pool_facts.specs.Loans.{lent}
+use Rattle.fm_pool_facts.specs.Facts.{session_code, Shows, Owns, Rule}
 use Rattle.fm_pool_facts.specs.Moves.{MayStep}
 use Rattle.fm_pool_facts.proofs.Worlds.{world_count}
-use Rattle.fm_pool_facts.proofs.Shown.{shows_same, shows_count}
+use Rattle.fm_pool_facts.proofs.Shown.{shows_count}
 use Rattle.fm_pool_facts.proofs.Summing.{total-has, one_more_hold, some_hold, one_hold_less}
 use Rattle.fm_pool_facts.proofs.Gripping.{holds_are, with_holds, with_same, held_now, held_lives, none_besides, keeps_grips}
 use Rattle.fm_pool_steps.proofs.Reading.{kind_below, Says, says, hold_says, eqb_true, eqb_false}
 use Rattle.fm_pool_facts.proofs.Founds.{no_draw}
-use Rattle.fm_pool_steps.proofs.Plain.{same_held, same_none, own, known_now, Made, plain}
+use Rattle.fm_pool_steps.proofs.Quiet.{answers_on, looks_on}
+use Rattle.fm_pool_steps.proofs.Plain.{same_but, own, known_now, Made, plain}
 
 -- one hold more in a session word
 more_word : (a : ArenaId) (n : ℕ) → alive_word a n + 1 ≡ alive_word a (n + 1)
@@ -88,30 +88,7 @@ module _ (z : Shape) (me : ℕ) (v : View) (l : v.live ≡ true) (a : ArenaId) w
       refuses : (reply : Reply) → reply ≡ hold_stage (r.machine.life a) (r.machine.holds a) → moved r.machine v.caller (Hold a) reply ≡ r.machine
           → Made z ws vs me v i found v (entry_of v.caller (Hold a) reply ∷ []) none_noted
       refuses reply is stays =
-          plain z ws vs r me v at l i found v (entry_of v.caller (Hold a) reply ∷ []) none_noted no_draw r.memory (record {
-            may = (refl, (known, use_it), is, tt);
-            ends = λ b. ((λ h. h), tt);
-            marks = λ k h. refl;
-            terms = λ k. refl;
-            draw = refl;
-            still = λ s g f. f;
-            back = λ s g f. f;
-            bits = refl;
-            same = same_none v;
-            closes = refl;
-            hand = refl;
-            sweeps = refl;
-            ended = λ b o f. record { session = f; cells = λ w. refl; given = refl };
-            shown = λ b f. f;
-            was = λ b h. ap (λ (t : Machine). t.life b) (sym stays) ∙ h;
-            holds = λ b. ap (λ (t : Machine). holds_of b v + all_holds b t) (sym stays);
-            lends = (tt, tt);
-            loans = subst (λ (t : Machine). Loans (lent r.history) r.memory.sessions t.life) (sym stays) r.loans;
-            shows = shows_same z r.valid ws r.memory r.shows i;
-            world = subst (World z r.memory) (sym stays) r.world;
-            inside = ap (λ (t : Machine). t.inside v.caller) stays ∙ mine.inside;
-            mark = mine.mark;
-          })
+          answers_on z ws vs r me v at l i (entry_of v.caller (Hold a) reply ∷ []) (refl, (known, use_it), is, tt) (λ b. ((λ h. h), tt)) (tt, tt) refl stays
 
       takes : (n : ℕ) → r.machine.life a ≡ Lives → n ≡ r.machine.holds a → n ≢ most_holds
           → Made z ws vs me v i (found + 1) (held_as (a ∷ gs)) (entry_of v.caller (Hold a) Fine ∷ []) none_noted
@@ -132,16 +109,21 @@ module _ (z : Shape) (me : ℕ) (v : View) (l : v.live ≡ true) (a : ArenaId) w
             still = λ s g f. f;
             back = λ s g f. f;
             bits = refl;
-            same = same_held a (a ∷ gs) v;
+            same = same_but;
             closes = refl;
             hand = refl;
             sweeps = refl;
-            ended = λ b o f. record { session = f; cells = λ w. refl; given = refl };
+            ended = λ b o f. record { session = f; maps = λ i. refl; given = refl };
             shown = λ b f. f;
             was = λ b h. h;
             holds = keeps_grips v l r.machine a (a ∷ gs) (h + 1) (λ b. one_more_hold a b gs r.machine.holds);
             lends = (tt, tt);
-            loans = r.loans;
+            pages = r.pages;
+            maps = refl;
+            cells = λ p j b w. refl;
+            reads = λ a e x i. (e, i);
+            paged = refl;
+            swept = refl;
             shows = shown (found + 1) (h + 1) al (ap (λ (x : ℕ). x + 1) (is_word al) ∙ more_word a h);
             world = world_count z r.memory r.machine r.world a (h + 1) al below;
             inside = mine.inside;
@@ -163,30 +145,7 @@ module _ (z : Shape) (me : ℕ) (v : View) (l : v.live ≡ true) (a : ArenaId) w
           by false q = takes n s.0 s.1 (eqb_false n most_holds q)
 
       misses : Made z ws vs me v i found v [] none_noted
-      misses = plain z ws vs r me v at l i found v [] none_noted no_draw r.memory (record {
-        may = tt;
-        ends = λ b. tt;
-        marks = λ k h. refl;
-        terms = λ k. refl;
-        draw = refl;
-        still = λ s g f. f;
-        back = λ s g f. f;
-        bits = refl;
-        same = same_none v;
-        closes = refl;
-        hand = refl;
-        sweeps = refl;
-        ended = λ b o f. record { session = f; cells = λ w. refl; given = refl };
-        shown = λ b f. f;
-        was = λ b h. h;
-        holds = λ b. refl;
-        lends = tt;
-        loans = r.loans;
-        shows = shows_same z r.valid ws r.memory r.shows i;
-        world = r.world;
-        inside = mine.inside;
-        mark = mine.mark;
-      })
+      misses = looks_on z ws vs r me v at l i
 
       exchanged : (word : ℕ) → Says r.machine a (alive_holds a found) → (b : Bool) → (found == word) ≡ b
           → Made z ws vs me v i (either b (held_word a word) found) (held_as (holds_after b a (hold_found (alive_holds a word)) gs))
@@ -232,16 +191,21 @@ module _ (z : Shape) (me : ℕ) (v : View) (l : v.live ≡ true) (a : ArenaId) w
           still = λ s g f. f;
           back = λ s g f. f;
           bits = refl;
-          same = same_held a (released a gs) v;
+          same = same_but;
           closes = refl;
           hand = refl;
           sweeps = refl;
-          ended = λ b o f. record { session = f; cells = λ w. refl; given = refl };
+          ended = λ b o f. record { session = f; maps = λ i. refl; given = refl };
           shown = λ b f. f;
           was = λ b h. h;
           holds = keeps_grips v l r.machine a (released a gs) (h - 1) (λ b. one_hold_less a b gs r.machine.holds has held);
           lends = (tt, tt);
-          loans = r.loans;
+          pages = r.pages;
+          maps = refl;
+          cells = λ p j b w. refl;
+          reads = λ a e x i. (e, i);
+          paged = refl;
+          swept = refl;
           shows = shown x (h - 1) al (ap (λ (y : ℕ). (y + (2 ^ 64 - 1)) % 2 ^ 64) (is_word al) ∙ less_word a h low owner held few);
           world = world_count z r.memory r.machine r.world a (h - 1) al (omega arith);
           inside = mine.inside;

@@ -1,5 +1,5 @@
 -- The step that opens an arena.
-use Rattle.std.proofs.Common.{◌≡◌, ◌≢◌, ◌⊎◌, ℕ, true, List, set, sym, refl, ap, ◌∙◌, subst, arith, inl, inr, Some}
+use Rattle.std.proofs.Common.{◌≡◌, ◌≢◌, ◌⊎◌, ℕ, true, List, set, sym, refl, ap, ◌∙◌, subst, arith, inl, inr, Some, ◌∷◌, []}
 use mathlib.Core.Option.{some}
 use lib.ListN.{get_elem?}
 use Rattle.fm_words.specs.declared.shape.Shape.{Shape}
@@ -7,7 +7,7 @@ use Rattle.fm_words.specs.Places.{at as place_at, session}
 use Rattle.fm_base.specs.declared.caller.Caller.{Caller}
 use Rattle.fm_base.specs.declared.arena_id.ArenaId.{ArenaId}
 use Rattle.fm_base.specs.Arenas.{owner_of}
-use Rattle.fm_base.specs.Calls.{Entry}
+use Rattle.fm_base.specs.Calls.{Entry, Open, Fine, entry_of}
 use Rattle.fm_depicts.specs.Functions.{Fresh, Lives, Closes, Over, put, put_at}
 use Rattle.fm_depicts.specs.Steps.{moved_by}
 use Rattle.fm_depicts.proofs.Putting.{put_else, put_cases, at_here, at_cases}
@@ -19,7 +19,7 @@ use native.Mathlib.Decide.{ℕ_discrete}
 use Rattle.fm_pool_facts.specs.declared.step.Step.TheVariants.{Opens}
 use Rattle.fm_pool_facts.specs.Views.{View, Fits, limit_of}
 use Rattle.fm_pool_facts.specs.Words.{alive_word}
-use Rattle.fm_pool_facts.specs.Steps.{part, entries, noted, none_noted, open_entries}
+use Rattle.fm_pool_facts.specs.Steps.{part, entries, noted, none_noted}
 use Rattle.fm_pool_facts.specs.Facts.{Memory, free, live, shut, IsHeld, HasInHand, HasClose, HasSweep, KeepsSlot, Owns, Rule}
 use Rattle.fm_pool_facts.specs.Moves.{MayMake, StaysEnded, Moved, Same, KeepsSweeps, KeepsSlots, MayStore}
 use Rattle.fm_pool_facts.proofs.Keeping.{closing_on, sweeping_on}
@@ -27,12 +27,12 @@ use Rattle.fm_pool_facts.proofs.Founds.{no_draw}
 use Rattle.fm_pool_facts.proofs.Standing.{open_new}
 use Rattle.fm_pool_facts.proofs.Worlds.{world_open}
 use Rattle.fm_pool_facts.specs.Loans.{lent}
-use Rattle.fm_pool_facts.proofs.Lending.{loans_open}
+use Rattle.fm_pool_facts.proofs.Living.{pages_open}
+use Rattle.fm_pool_facts.proofs.Ruling.{page_like, keeps}
 use Rattle.fm_pool_facts.proofs.Shown.{shows_session}
 use Rattle.fm_pool_facts.specs.Holds.{handles_with, one_alive}
 use Rattle.fm_pool_facts.proofs.Gripping.{opened_handles}
-use Rattle.fm_pool_facts.proofs.Ruling.{keeps}
-use Rattle.fm_pool_steps.proofs.Plain.{own, low, Made}
+use Rattle.fm_pool_steps.proofs.Plain.{same_but, own, low, Made}
 
 module _ (z : Shape) (me : ℕ) (v : View) (l : v.live ≡ true) (a : ArenaId) (hand : v.hand ≡ learnt a.slot a.generation) (owner : owner_of a ≡ v.caller)
     (ws : List ℕ) (vs : List View) (r : Rule z ws vs) (at : get_elem? vs me ≡ some v) where
@@ -57,7 +57,7 @@ module _ (z : Shape) (me : ℕ) (v : View) (l : v.live ≡ true) (a : ArenaId) (
   }
 
   abbrev es : List Entry
-  es = open_entries a v.caller
+  es = entry_of v.caller (Open a) Fine ∷ []
 
   abbrev m' : Memory
   m' = record r.memory { sessions = put r.memory.sessions a.slot (live a); counts = put r.memory.counts a.slot 0 }
@@ -69,13 +69,13 @@ module _ (z : Shape) (me : ℕ) (v : View) (l : v.live ≡ true) (a : ArenaId) (
   new = open_new z r.memory.sessions r.machine.life r.world.sessions a free_now
 
   ok : MayMake (limit_of z) r.machine v.caller es
-  ok = (refl, (new, owner), refl, (refl, tt, refl, tt))
+  ok = (refl, (new, owner), refl, tt)
 
   ended_on : (b : ArenaId) → r.memory.sessions b.slot ≡ shut b → StaysEnded r.memory m' b
   ended_on b h = record {
     session = put_else r.memory.sessions a.slot (live a) b.slot (λ e.
         let q : r.memory.sessions b.slot ≡ free a.generation = ap r.memory.sessions e ∙ free_now in absurd (cc)) ∙ h;
-    cells = λ w. refl;
+    maps = λ i. refl;
     given = refl;
   }
 
@@ -97,7 +97,7 @@ module _ (z : Shape) (me : ℕ) (v : View) (l : v.live ≡ true) (a : ArenaId) (
     terms = λ k. refl;
     draw = refl;
     numbers = λ k. refl;
-    closers = λ b f h. (refl, ((λ h. h), ((λ h. h), tt)));
+    closers = λ b f h. (refl, ((λ h. h), tt));
     sweepers = λ b f h n. (refl, ended_on b h);
     holders = λ s g f b h. (refl, put_else r.memory.sessions a.slot (live a) s (λ e. h (ap r.owners.holder e ∙ held.owner)) ∙ f, b, refl);
     taken = λ s k x. dite (ℕ_discrete s a.slot) (λ e. inr (its_open s k e x)) (λ n. inl (record {
@@ -107,6 +107,7 @@ module _ (z : Shape) (me : ℕ) (v : View) (l : v.live ≡ true) (a : ArenaId) (
       left = x.left;
       bit = x.bit;
     }));
+    pages = record { others = λ q j b h. (refl, λ w. refl); stay = λ b i q st e. e };
   }
 
   -- each sweep is where it was
@@ -136,32 +137,13 @@ module _ (z : Shape) (me : ℕ) (v : View) (l : v.live ≡ true) (a : ArenaId) (
 
   opens : Made z ws vs me v (place_at z (session a.slot)) (alive_word a 0) p es none_noted
   opens =
-      let same : Same v p = record {
-        home = refl;
-        shape = refl;
-        live = refl;
-        caller = refl;
-        seen = refl;
-        drawn = refl;
-        met = refl;
-        finds = refl;
-        gathered = refl;
-        whole = refl;
-      } in
+      let same : Same v p = same_but in
       keeps z ws (set ws (place_at z (session a.slot)) (alive_word a 0)) vs r me v p es none_noted m' r.owners at l moved_on same no_draw (
         tt,
-        (
-          (
-            r.loans.clean a.slot a.generation free_now,
-            opened_now,
-            (λ f. let g : Lives ≡ Over = sym (at_here r.machine.life a Lives)
-                ∙ f in absurd (cc)),
-            r.loans.none a 0 new,
-          ),
-          tt,
-        ),
+        tt,
       )
-      (loans_open (lent r.history) r.memory.sessions r.machine.life r.loans a free_now)
+      (pages_open z (lent r.history) r.memory.page_bits r.memory.maps r.memory.cells r.owners.berth r.memory.sessions r.machine.life r.machine.word
+      r.machine.given r.world.sessions r.pages a free_now new)
       (λ b. at_cases r.machine.life a Lives b
       (λ x. x ≡ Closes → ((r.owners.closer b ≡ me) × HasClose b p) ⊎
       ((r.machine.life b ≡ Closes) × (r.owners.closer b ≡ r.owners.closer b) × (HasClose b v → HasClose b p)))
@@ -169,6 +151,7 @@ module _ (z : Shape) (me : ℕ) (v : View) (l : v.live ≡ true) (a : ArenaId) (
       (λ n q. inr (q, refl, (λ y. y))))
       sweeps_on
       slots_on
+      (λ q j b. inr (refl, λ h. page_like q (r.owners.berth q) v p refl refl refl h))
       (opened_handles v l r.machine a (ap one_alive new))
       (shows_session z r.valid ws r.memory r.shows a.slot (live a) 0 fit.slot)
       (world_open z r.memory r.machine r.world a free_now bit_now fit)
@@ -177,14 +160,16 @@ module _ (z : Shape) (me : ℕ) (v : View) (l : v.live ≡ true) (a : ArenaId) (
         mark = mine.mark;
         closes =
             λ c i. closing_on (limit_of z) r.history v.caller r.memory r.machine es m' ok me r.owners r.owners c (mine.closes c i) refl
-            ((λ h. h), ((λ h. h), tt));
+            ((λ h. h), tt);
         once = mine.once;
         sweeps = λ c i.
             let y = mine.sweeps c i in
-            sweeping_on (limit_of z) v.caller r.memory r.machine es m' ok z me r.owners r.owners c y refl (ended_on c.arena y.session);
+            sweeping_on (limit_of z) v.caller r.memory r.machine es m' ok (λ k b i. (r.world.marked k b i).stands) z me r.owners r.owners c y refl
+            (ended_on c.arena y.session);
         swept_once = mine.swept_once;
         hand = tt;
         took = tt;
+        pages = mine.pages;
       })
 
 pub open_steps : (z : Shape) (me : ℕ) (v : View) (a : ArenaId) → v.live ≡ true → v.hand ≡ learnt a.slot a.generation → owner_of a ≡ v.caller

@@ -1,5 +1,5 @@
 -- Steps that leave closes and hands as they are.
-use Rattle.std.proofs.Common.{◌≡◌, ◌≢◌, ℕ, ◌<◌, true, List, [], ◌++◌, length, set, sym, refl, ap, ◌∙◌, subst, arith, inl, inr}
+use Rattle.std.proofs.Common.{◌≡◌, ◌≢◌, ℕ, ◌<◌, ◌≤◌, true, List, [], ◌++◌, length, set, sym, refl, ap, ◌∙◌, subst, arith, inl, inr, Some, Option}
 use mathlib.Core.Option.{some}
 use lib.ListN.{get_elem?}
 use Rattle.fm_words.specs.declared.shape.Shape.{Shape}
@@ -7,49 +7,45 @@ use Rattle.fm_base.specs.declared.caller.Caller.{Caller}
 use Rattle.fm_base.specs.declared.arena_id.ArenaId.{ArenaId}
 use Rattle.fm_base.specs.Arenas.{State, has_arena, arena_of}
 use Rattle.fm_base.specs.Calls.{Entry}
-use Rattle.fm_base.specs.Histories.{state_after}
+use Rattle.fm_base.specs.Histories.{state_after, IsLegal}
 use Rattle.fm_base.specs.Finds.{Find, Close}
 use Rattle.fm_depicts.specs.Functions.{Fresh, Closes, Over, Machine}
 use Rattle.fm_depicts.specs.Steps.{moved_by}
 use Rattle.std.specs.Int.{bit_at}
 use Rattle.fm_pool_facts.specs.Hands.{Hand, HasSlot, IsTaker}
 use Rattle.fm_pool_facts.proofs.Handing.{hand_on}
-use Rattle.fm_pool_facts.specs.Holds.{with_grips}
-use Rattle.fm_pool_facts.specs.Views.{View, In, IsKnown, limit_of}
-use Rattle.fm_pool_facts.specs.Facts.{Memory, free, shut, Shows, World, IsOnce, Owners, HasInHand, HasClose, HasSweep, KeepsSlot, Owns, Rule}
-use Rattle.fm_pool_facts.specs.Moves.{MayMake, NoEnd, StaysEnded, Moved, Same, Part, KeepsCloses, KeepsSweeps, KeepsSlots, KeepsHolds, Gives}
-use Rattle.fm_base.specs.Histories.{IsLegal}
+use Rattle.fm_pool_facts.specs.Views.{View, In, IsKnown, IsOver, given_of, limit_of}
+use Rattle.fm_pool_facts.specs.Facts.{Memory, free, shut, Shows, World, IsOnce, Owners, HasInHand, HasClose, HasSweep, KeepsSlot, Owns, Rule, IsAt, IsLone, HasSwept, HasPages}
+use Rattle.fm_pool_facts.specs.Moves.{MayMake, NoEnd, StaysEnded, Moved, Same, Part, KeepsCloses, KeepsSweeps, KeepsSlots, KeepsHolds, Gives, MayLend, PagesMoved, KeepsPages}
 use Rattle.fm_base.proofs.Making.{state_after-append, IsLegal-split}
 use Rattle.fm_base.proofs.Growing.{Grows-state_after}
 use Rattle.fm_pool_facts.proofs.Keeping.{closing_on, sweeping_on}
 use Rattle.fm_pool_facts.proofs.Frame.{was_over}
+use Rattle.fm_pool_facts.proofs.Ending.{given_later}
 use Rattle.fm_pool_facts.proofs.Founds.{NoneDrawn, NoDraw}
 use Rattle.fm_pool_facts.specs.Gone.{FoundBy}
 use Rattle.fm_pool_facts.proofs.Gone.{none_founded}
-use Rattle.fm_pool_facts.specs.Loans.{lent, loans_after}
-use Rattle.fm_pool_facts.specs.Facts.{Loans}
-use Rattle.fm_pool_facts.specs.Moves.{MayLend}
-use Rattle.fm_pool_facts.specs.Views.{span}
-use Rattle.fm_pool_facts.proofs.Ruling.{keeps_with, opened_life}
+use Rattle.fm_pool_facts.specs.Loans.{lent}
+use Rattle.fm_pool_facts.specs.Parts.{Mapping, Swept, unread, named, wiping}
+use Rattle.fm_pool_facts.proofs.Ruling.{PagesAfter, page_like, keeps_with}
+use Rattle.fm_pool_facts.proofs.Sounding.{opened_life}
 
--- a step that makes nothing
-pub same_none : (v : View) → Same v v
-same_none v = record {
-  home = refl;
-  shape = refl;
-  live = refl;
-  caller = refl;
-  seen = refl;
-  drawn = refl;
-  met = refl;
-  finds = refl;
-  gathered = refl;
-  whole = refl;
-}
-
--- one that changes its holds
-pub same_held : (a : ArenaId) (hs : List ArenaId) (v : View) → Same v (with_grips a hs v)
-same_held a hs v = record {
+-- a step leaves all but these
+pub same_but : {v : View} {inside mark : Option ArenaId} {closes sweeps : List Close} {swept : Swept} {hand : Hand} {holds handles : List ArenaId}
+    {pages : List ℕ} {reads : List Mapping}
+    → Same v (record v {
+      inside = inside;
+      mark = mark;
+      closes = closes;
+      sweeps = sweeps;
+      swept = swept;
+      hand = hand;
+      holds = holds;
+      handles = handles;
+      pages = pages;
+      reads = reads;
+    })
+same_but = record {
   home = refl;
   shape = refl;
   live = refl;
@@ -76,9 +72,16 @@ sweeps_still me v p m t o m' t' o' s sw same was a f h =
     let y = was a f h in
     inr (y.0, y.1, same a y.1, (λ (x : HasSweep a v). (s.live ∙ x.0, (x.1.0, subst (In x.1.0) (sym sw) x.1.1, x.1.2))))
 
+-- where map words, words of pages and their places stay
+pub pages_still : {me : ℕ} {m : Memory} {t : Machine} {o : Owners} → PagesMoved me m t o m o
+pages_still = record { others = λ p j b h. (refl, λ w. refl); stay = λ b i p st e. e }
+
+pub pages_there : (me : ℕ) (o : Owners) (v p : View) → Same v p → p.pages ≡ v.pages → p.swept ≡ v.swept → KeepsPages me v p o o
+pages_there me o v p s paged swept q j b = inr (refl, page_like q (o.berth q) v p s.live paged swept)
+
 -- what a memory that didn't change leaves of ended arenas
 pub stays_ended : (m : Memory) (b : ArenaId) → m.sessions b.slot ≡ shut b → StaysEnded m m b
-stays_ended m b f = record { session = f; cells = λ w. refl; given = refl }
+stays_ended m b f = record { session = f; maps = λ i. refl; given = refl }
 
 -- and each free slot whose bit is 0 is where it was
 pub slots_still : (z : Shape) (me : ℕ) (v p : View) (m : Memory) (o : Owners) (m' : Memory) (o' : Owners) → Same v p → p.hand ≡ v.hand
@@ -110,14 +113,45 @@ module _ (z : Shape) (ws : List ℕ) (vs : List View) (r : Rule z ws vs) (me : �
       ap (λ (s : State). has_arena s a) on ∙ (Grows-state_after limit now zs later).has a known in
       λ f. opened_life (has_arena (state_after limit [] r.history) a) (arena_of (state_after limit [] r.history) a).life still (sym (r.depicts.life a) ∙ f)
 
+  -- what it has seen to be given is given still
+  pub given_now : (a : ArenaId) → given_of v a ≤ r.machine.given a
+  given_now a =
+      let k = r.each me v at in
+      let e : v.shape ≡ z = k.shape l in
+      let zs : List Entry = k.begins.0 in
+      let limit : ℕ = limit_of z in
+      let now : State = state_after limit [] v.seen in
+      let legal : IsLegal limit [] (v.seen ++ zs) = subst (IsLegal limit []) k.begins.1 r.legal in
+      let later = (IsLegal-split limit [] v.seen zs legal).1 in
+      let on : state_after limit [] r.history ≡ state_after limit now zs = ap (state_after limit []) k.begins.1 ∙ state_after-append limit [] v.seen zs in
+      let more = (Grows-state_after limit now zs later).given a in
+      let was : given_of v a ≡ (arena_of now a).given = ap (λ (y : Shape). (arena_of (state_after (limit_of y) [] v.seen) a).given) e in
+      let is : (arena_of (state_after limit now zs) a).given ≡ r.machine.given a =
+      ap (λ (s : State). (arena_of s a).given) (sym on) ∙ sym (r.depicts.given a) in
+      omega arith
+
+  -- what it has seen of an arena that is over is all that was given
+  pub given_over : (a : ArenaId) → IsOver v a → r.machine.given a ≡ given_of v a
+  given_over a o =
+      let k = r.each me v at in
+      let sh : z ≡ v.shape = sym (k.shape l) in
+      let zs : List Entry = k.begins.0 in
+      let legal : IsLegal (limit_of v.shape) [] (v.seen ++ zs) =
+      subst (λ (x : Shape × List Entry). IsLegal (limit_of x.0) [] x.1) (λ j. (sh j, k.begins.1 j)) r.legal in
+      let same : state_after (limit_of z) [] r.history ≡ state_after (limit_of v.shape) [] (v.seen ++ zs) =
+      (λ j. state_after (limit_of (sh j)) [] (k.begins.1 j)) in
+      r.depicts.given a ∙ (ap (λ (s : State). (arena_of s a).given) same
+      ∙ given_later (limit_of v.shape) v.seen zs a legal o.known (record { life = o.life; empty = o.empty }))
+
   module _ (es : List Entry) (m' : Memory) (p : View) where
     -- what a step that leaves closes and slots may do to others
     pub plain_moved : MayMake (limit_of z) r.machine v.caller es → ((b : ArenaId) → NoEnd es b)
         → ((k : ℕ) → k ≢ v.caller.number → m'.marks k ≡ r.memory.marks k) → ((k : ℕ) → m'.terms k ≡ r.memory.terms k) → m'.draw ≡ r.memory.draw
         → ((s g : ℕ) → r.memory.sessions s ≡ free g → m'.sessions s ≡ free g) → m'.bits ≡ r.memory.bits
         → ((b : ArenaId) → r.machine.life b ≡ Over → r.memory.sessions b.slot ≡ shut b → StaysEnded r.memory m' b)
+        → PagesMoved me r.memory r.machine r.owners m' r.owners
         → Moved me z v.caller r.memory r.machine r.owners es m' r.owners
-    plain_moved ok ends marks terms draw still bits ended = record {
+    plain_moved ok ends marks terms draw still bits ended pages = record {
       allowed = ok;
       marks = marks;
       terms = terms;
@@ -133,6 +167,7 @@ module _ (z : Shape) (ws : List ℕ) (vs : List View) (r : Rule z ws vs) (me : �
         left = x.left;
         bit = ap (λ (n : ℕ). bit_at n s) bits ∙ x.bit;
       });
+      pages = pages;
     }
 
     -- and what its own view says then
@@ -140,8 +175,10 @@ module _ (z : Shape) (ws : List ℕ) (vs : List View) (r : Rule z ws vs) (me : �
         → p.hand ≡ v.hand → ((s g : ℕ) → r.memory.sessions s ≡ free g → m'.sessions s ≡ free g) → m'.bits ≡ r.memory.bits
         → ((b : ArenaId) → r.machine.life b ≡ Over → r.memory.sessions b.slot ≡ shut b → StaysEnded r.memory m' b)
         → (moved_by r.machine es).inside p.caller ≡ p.inside → m'.marks p.caller.number ≡ p.mark
+        → HasPages z m'.maps m'.cells r.owners.berth me p.inside p.reads p.pages p.sweeps p.swept
         → Part z m' (moved_by r.machine es) r.owners me p
-    plain_part ok ends s cl sw hd still bits ended inside mark = record {
+    plain_part ok ends s cl sw hd still bits ended inside mark pages = record {
+      pages = pages;
       inside = inside;
       mark = mark;
       closes =
@@ -150,7 +187,8 @@ module _ (z : Shape) (ws : List ℕ) (vs : List View) (r : Rule z ws vs) (me : �
       once = subst (IsOnce (λ (c : Close). c.arena)) (sym cl) own.once;
       sweeps = λ c i.
           let y = own.sweeps c (subst (In c) sw i) in
-          sweeping_on (limit_of z) v.caller r.memory r.machine es m' ok z me r.owners r.owners c y refl (ended c.arena y.life y.session);
+          sweeping_on (limit_of z) v.caller r.memory r.machine es m' ok (λ k b i. (r.world.marked k b i).stands) z me r.owners r.owners c y refl
+          (ended c.arena y.life y.session);
       swept_once = subst (IsOnce (λ (c : Close). c.arena)) (sym sw) own.swept_once;
       hand = subst (HasInHand z m'.bits m'.sessions r.owners.holder me) (sym hd) (hand_still z r.memory m' r.owners.holder me still bits v.hand own.hand);
       took = subst (λ (x : Caller × Hand). IsTaker r.owners.taker x.0 x.1) (λ j. (sym s.caller j, sym hd j)) own.took;
@@ -168,7 +206,7 @@ module _ (z : Shape) (ws : List ℕ) (vs : List View) (r : Rule z ws vs) (me : �
 
 -- the rule after the word at i became x, and what is told by the step that makes p
 abbrev pub Made : (z : Shape) (ws : List ℕ) (vs : List View) (me : ℕ) (v : View) (i x : ℕ) (p : View) (es : List Entry) (fs : ℕ → List Find) → Type 0
-Made z ws vs me v i x p es fs = (w : View) × Rule z (set ws i x) (set vs me w) × Gives v p es fs w
+Made z ws vs me v i x p es fs = (w : View) × (rule : Rule z (set ws i x) (set vs me w)) × Gives v p es fs w × (w.seen ≡ rule.history)
 
 -- what a plain step does to the memory, the machine and its view
 pub record Plain (z : Shape) (ws : List ℕ) (vs : List View) (r : Rule z ws vs) (v : View) (i x : ℕ) (p : View) (es : List Entry) (m' : Memory) : Type 0 where
@@ -188,12 +226,40 @@ pub record Plain (z : Shape) (ws : List ℕ) (vs : List View) (r : Rule z ws vs)
   pub shown : (b : ArenaId) → m'.sessions b.slot ≡ shut b → r.memory.sessions b.slot ≡ shut b
   pub was : (a : ArenaId) → (moved_by r.machine es).life a ≡ Closes → r.machine.life a ≡ Closes
   pub holds : KeepsHolds v p r.machine (moved_by r.machine es)
-  pub lends : MayLend (span z) r.machine (lent r.history) es
-  pub loans : Loans (loans_after (lent r.history) es) m'.sessions (moved_by r.machine es).life
+  pub lends : MayLend z.page_words r.machine (lent r.history) es
+  pub pages : PagesAfter z r.history m' r.machine r.owners es
+  pub maps : m'.maps ≡ r.memory.maps
+  pub cells : (p j : ℕ) → IsAt j (r.owners.berth p) → (w : ℕ) → m'.cells p w ≡ r.memory.cells p w
+  pub reads : (a : ArenaId) → p.inside ≡ Some a → (x : Mapping) → In x p.reads → (v.inside ≡ Some a) × In x v.reads
+  pub paged : p.pages ≡ v.pages
+  pub swept : p.swept ≡ v.swept
   pub shows : Shows z (set ws i x) m'
   pub world : World z m' (moved_by r.machine es)
   pub inside : (moved_by r.machine es).inside p.caller ≡ p.inside
   pub mark : m'.marks p.caller.number ≡ p.mark
+
+-- what a seat knows of pages that stay
+plain_pages : (z : Shape) (m m' : Memory) (o : Owners) (me : ℕ) (v p : View) → HasPages z m.maps m.cells o.berth me v.inside v.reads v.pages v.sweeps v.swept
+    → m'.maps ≡ m.maps → ((p j : ℕ) → IsAt j (o.berth p) → (w : ℕ) → m'.cells p w ≡ m.cells p w)
+    → ((a : ArenaId) → p.inside ≡ Some a → (x : Mapping) → In x p.reads → (v.inside ≡ Some a) × In x v.reads)
+    → p.pages ≡ v.pages → p.sweeps ≡ v.sweeps → p.swept ≡ v.swept
+    → HasPages z m'.maps m'.cells o.berth me p.inside p.reads p.pages p.sweeps p.swept
+plain_pages z m m' o me v p k maps cells reads paged sweeps swept = record {
+  read = λ a e x i. let y = reads a e x i in (λ j. maps j a.slot x.part) ∙ k.read a y.0 x y.1;
+  claims = λ q i. k.claims q (subst (In q) paged i);
+  lone = subst IsLone (sym paged) k.lone;
+  sweep = subst (λ (x : List Close × Swept). HasSwept z m'.maps m'.cells o.berth me x.0 x.1) (λ j. (sym sweeps j, sym swept j)) (go v.swept k.sweep);
+}
+  where
+    go : (s : Swept) → HasSwept z m.maps m.cells o.berth me v.sweeps s → HasSwept z m'.maps m'.cells o.berth me v.sweeps s
+    go unread h = tt
+    go (named a i q) h = (h.0, (λ j. maps j a.slot i) ∙ h.1)
+    go (wiping a i q w) h = record {
+      next = h.next;
+      owner = h.owner;
+      empty = (λ j. maps j a.slot i) ∙ h.empty;
+      wiped = λ n l b. cells q me (subst (IsAt me) (sym h.owner) refl) n ∙ h.wiped n l b;
+    }
 
 pub plain_with : (z : Shape) (ws : List ℕ) (vs : List View) (r : Rule z ws vs) (me : ℕ) (v : View) → get_elem? vs me ≡ some v → v.live ≡ true
     → (i x : ℕ) (p : View) (es : List Entry) (fs : ℕ → List Find) → NoneDrawn fs
@@ -201,14 +267,18 @@ pub plain_with : (z : Shape) (ws : List ℕ) (vs : List View) (r : Rule z ws vs)
     → Plain z ws vs r v i x p es m' → Made z ws vs me v i x p es fs
 plain_with z ws vs r me v at l i x p es fs nd new m' q =
     keeps_with z ws (set ws i x) vs r me v p es fs m' r.owners at l
-    (plain_moved z ws vs r me v at l es m' p q.may q.ends q.marks q.terms q.draw q.still q.bits q.ended)
-    q.same nd new q.lends q.loans
+    (plain_moved z ws vs r me v at l es m' p q.may q.ends q.marks q.terms q.draw q.still q.bits q.ended (record {
+      others = λ c j b h. (refl, q.cells c j b);
+      stay = λ b c n st e. (λ k. q.maps k b.slot c) ∙ e;
+    }))
+    q.same nd new q.lends q.pages
     (plain_closes z ws vs r me v at l es m' p q.same q.closes q.was)
     (sweeps_still me v p r.memory r.machine r.owners m' (moved_by r.machine es) r.owners q.same q.sweeps (λ a h. refl)
     (λ a f h. (q.shown a f, was_over a es r.machine (q.ends a) h)))
-    (plain_slots z ws vs r me v at l es m' p q.same q.hand q.back q.bits) q.holds
+    (plain_slots z ws vs r me v at l es m' p q.same q.hand q.back q.bits) (pages_there me r.owners v p q.same q.paged q.swept) q.holds
     q.shows q.world
-    (plain_part z ws vs r me v at l es m' p q.may q.ends q.same q.closes q.sweeps q.hand q.still q.bits q.ended q.inside q.mark)
+    (plain_part z ws vs r me v at l es m' p q.may q.ends q.same q.closes q.sweeps q.hand q.still q.bits q.ended q.inside q.mark
+    (plain_pages z r.memory m' r.owners me v p (own z ws vs r me v at l).pages q.maps q.cells q.reads q.paged q.sweeps q.swept))
 
 -- where no slot was looked for
 pub plain : (z : Shape) (ws : List ℕ) (vs : List View) (r : Rule z ws vs) (me : ℕ) (v : View) → get_elem? vs me ≡ some v → v.live ≡ true
@@ -216,4 +286,4 @@ pub plain : (z : Shape) (ws : List ℕ) (vs : List View) (r : Rule z ws vs) (me 
     → Plain z ws vs r v i x p es m' → Made z ws vs me v i x p es fs
 plain z ws vs r me v at l i x p es fs nd m' q =
     plain_with z ws vs r me v at l i x p es fs (λ n f i. let y = nd n f i in (y.0, y.1))
-    (none_founded z r.history r.memory r.owners.taker r.machine.life v.caller fs (λ n f i. (nd n f i).2) (length r.history)) m' q
+    (none_founded z r.history r.memory r.owners.taker r.machine.life v.caller fs (λ n f i. let y = nd n f i in (y.2, y.3)) (length r.history)) m' q

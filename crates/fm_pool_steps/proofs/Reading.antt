@@ -1,5 +1,7 @@
--- What a session word that was read says of an arena.
-use Rattle.std.proofs.Common.{◌≡◌, ◌≢◌, ℕ, ◌%◌, ◌^◌, ◌<◌, ◌≤◌, ◌==◌, Bool, true, false, if◌then◌else◌, Option, Some, None, refl, sym, ap, ◌∙◌, arith, inl, eq-eqb, ne_eqb}
+-- What a session word that was read says of an arena, and a map word of a page.
+use Rattle.fm_words.proofs.Maps.{map_word-some}
+use Rattle.fm_words.specs.Maps.{map_word}
+use Rattle.std.proofs.Common.{◌≡◌, ◌≢◌, ℕ, ◌%◌, ◌^◌, ◌<◌, ◌≤◌, ◌==◌, Bool, true, false, if◌then◌else◌, Option, Some, None, refl, sym, ap, ◌∙◌, arith, inl, eq-eqb, ne_eqb, ◌-◌}
 use mathlib.Core.Logic.{dite}
 use native.Mathlib.Decide.{ℕ_discrete}
 use Rattle.fm_words.specs.declared.shape.Shape.{Shape}
@@ -12,7 +14,7 @@ use Rattle.fm_base.specs.Calls.{Closed}
 use Rattle.fm_depicts.specs.Functions.{Stage, Fresh, Lives, Closes, Over, Machine, enter_stage, hold_stage, shut_stage}
 use Rattle.fm_depicts.proofs.Putting.{one_arena}
 use Rattle.fm_pool_facts.specs.Words.{alive_word, closing_word, free_word, alive_holds, enter_found, hold_found, hold_by, shut_found, shut_by}
-use Rattle.fm_pool_facts.specs.Facts.{Session, free, live, shut, Memory, session_code, World}
+use Rattle.fm_pool_facts.specs.Facts.{Session, free, live, shut, Memory, session_code, World, own_map}
 
 pub kind_below : (k : Kind) → kind_number k ≤ 3
 kind_below Global = omega arith
@@ -136,3 +138,20 @@ hold_says t a None s = go (t.life a) s
     go Closes n = refl
     go Over n = refl
 hold_says t a (Some n) s = ap hold_by s.1 ∙ ap (λ (l : Stage). hold_stage l (t.holds a)) (sym s.0)
+
+-- ---- map words
+
+-- the page of a map word is one less
+pub page_back : (p x : ℕ) → x ≡ map_word p → p ≡ x - 1
+unfolding map_word
+page_back p x e = omega arith
+
+-- the word 0 names none
+pub none_read : (o : Option ℕ) → own_map o ≡ 0 → o ≡ None
+none_read None e = refl
+none_read (Some p) e = absurd (map_word-some p e)
+
+-- and each other word names its page
+pub page_read : (o : Option ℕ) (x : ℕ) → x ≡ own_map o → x ≢ 0 → o ≡ Some (x - 1)
+page_read None x e n = absurd (n e)
+page_read (Some p) x e n = ap Some (page_back p x e)

@@ -1,13 +1,10 @@
 -- The words of a pool whose only pass has no slot in its hand show the history.
-use Rattle.std.proofs.Common.{◌≡◌, ◌≢◌, ◌⊎◌, ℕ, zero, suc, ◌+◌, ◌/◌, ◌<◌, ◌≤◌, Bool, true, false, List, [], get_or, sym, refl, ap, ◌∙◌, subst, arith, inl, inr, ⊎_elim}
-use Rattle.std.proofs.Math.Nat.{div-eq_of_lt, mod-eq_of_lt}
+use Rattle.std.proofs.Common.{◌≡◌, ◌≢◌, ◌⊎◌, ℕ, zero, suc, ◌+◌, ◌/◌, Option, Some, None, ◌<◌, ◌≤◌, Bool, true, false, List, [], get_or, sym, refl, ap, ◌∙◌, subst, arith, inl, inr, ⊎_elim}
 use Rattle.std.proofs.lemmas.Bool.{cases_lt}
-use Rattle.std.proofs.lemmas.List.Elements.{All-contains}
 use mathlib.Core.Logic.{dite}
 use mathlib.Core.Option.{some}
 use native.Mathlib.Decide.{ℕ_discrete}
 use lib.ListN.{get_elem?}
-use Rattle.std.specs.Prelude.{Contains}
 use Rattle.std.specs.Int.{bit_at}
 use Rattle.std.proofs.lemmas.Nat.Bits.{bit_at-lt}
 use Rattle.fm_words.specs.declared.shape.Shape.{Shape}
@@ -21,14 +18,15 @@ use Rattle.fm_base.proofs.Lookup.{arena_of-none}
 use Rattle.fm_depicts.proofs.Putting.{one_arena}
 use Rattle.fm_depicts.specs.Functions.{Stage, Fresh, Lives, Closes, Over, stage_of}
 use Rattle.fm_pool_facts.specs.Hands.{nothing, HasSlot}
-use Rattle.fm_pool_facts.specs.Views.{View, Fits, span, limit_of}
+use Rattle.fm_pool_facts.specs.Views.{View, Fits, limit_of}
 use Rattle.fm_pool_facts.specs.Words.{kept}
-use Rattle.fm_pool_facts.specs.Loans.{Loan, loan_of, lent, IsFree}
-use Rattle.fm_pool_facts.specs.Facts.{Session, free, live, shut, session_code, cell_at, IsStanding, Rule}
-use Rattle.fm_pool_facts.specs.Rest.{IsNamed, IsUsed, ShowsSlot, ShowsHistory}
+use Rattle.fm_pool_facts.specs.Loans.{lent, HasPart}
+use Rattle.fm_pool_facts.specs.Facts.{Session, free, live, shut, session_code, own_map, IsStanding, Rule}
+use Rattle.fm_pool_facts.proofs.Moving.{lent_mapped, mapped_lent}
+use Rattle.fm_pool_facts.specs.Rest.{IsNamed, IsUsed, ShowsSlot, ShowsWord, ShowsHistory}
 use Rattle.fm_pool_facts.proofs.Standing.{standing_known, standing_shown, free_apart}
-use Rattle.fm_pool_facts.proofs.Ruling.{opened_life, life_opened}
-use Rattle.fm_pool_steps.proofs.Decoding.{kept_else, kept_last, kept_least, alive_session, shut_session, free_read, live_read, shut_read, stands_not}
+use Rattle.fm_pool_facts.proofs.Sounding.{opened_life, life_opened}
+use Rattle.fm_pool_steps.proofs.Decoding.{page_word_of, blank_block, kept_else, kept_last, kept_least, alive_session, shut_session, free_read, live_read, shut_read, stands_not}
 use Rattle.fm_pool_facts.proofs.Alone.{lonely}
 
 module _ (z : Shape) (me : ℕ) (v : View) (l : v.live ≡ true) (ws : List ℕ) (vs : List View) (r : Rule z ws vs) (at : get_elem? vs me ≡ some v)
@@ -254,35 +252,45 @@ module _ (z : Shape) (me : ℕ) (v : View) (l : v.live ≡ true) (ws : List ℕ)
 
   -- ---- words
 
-  is_part : (a : ArenaId) (w : ℕ) → (arena_of s a).life ≢ Ended → w < span z → Contains (lent r.history) (loan_of a.slot a (w / span z))
-  is_part a w n h =
-      let shown = standing_shown z r.memory.sessions r.machine.life r.world.sessions a (standing a n) in
-      subst (λ (p : ℕ). Contains (lent r.history) (loan_of a.slot a p)) (sym (div-eq_of_lt h)) (r.loans.part a shown)
-
   fits_now : (a : ArenaId) → IsStanding (r.machine.life a) → Fits z a
   fits_now a st = r.world.sessions.fits a (standing_known (r.machine.life a) st)
-
-  blank_block : (x : Session) (b w : ℕ) → r.memory.sessions b ≡ x → w < span z → IsFree (lent r.history) b → r.memory.cells b w ≡ 0
-  blank_block (free g) b w e h f = r.world.cells.clean b g w e h
-  blank_block (live a) b w e h f =
-      let y = r.world.sessions.live_is b a e in
-      absurd (All-contains (λ (x : Loan). x.block ≢ b) (lent r.history) (loan_of a.slot a 0) f (r.loans.part a (inl (ap r.memory.sessions y.0 ∙ e))) y.0)
-  blank_block (shut a) b w e h f =
-      let y = r.world.sessions.shut_is b a e in
-      absurd (All-contains (λ (x : Loan). x.block ≢ b) (lent r.history) (loan_of a.slot a 0) f (r.loans.part a (inr (ap r.memory.sessions y.0 ∙ e))) y.0)
 
   -- the words show the history
   pub at_rest : ShowsHistory z ws r.history
   at_rest = record {
     in_block = λ a w b n h c.
         let st = standing a n in
-        let is : b ≡ a.slot = r.loans.own (loan_of b a (w / span z)) c in
-        sym (r.depicts.word a w) ∙ (r.world.cells.shown a w st h ∙ (sym (r.shows.cells a.slot w (fits_now a st).slot h)
-        ∙ (λ i. get_or ws (cell_at z (sym is i) (sym (mod-eq_of_lt h) i)) 0)));
-    in_none = λ a w n h u. absurd (u (a.slot, is_part a w n h));
-    own_block = λ a n. r.loans.part a (standing_shown z r.memory.sessions r.machine.life r.world.sessions a (standing a n));
+        sym (r.depicts.word a w) ∙ page_word_of z ws vs r a w b st
+        (lent_mapped z (lent r.history) r.memory.page_bits r.memory.maps r.memory.cells r.owners.berth r.memory.sessions r.machine.life r.machine.word
+        r.machine.given r.valid.page_words.0 r.world.sessions r.pages a (w / z.page_words) b st c);
+    in_none = λ a w n h u. sym (r.depicts.word a w) ∙ none_there a w (standing a n) u (r.memory.maps a.slot (w / z.page_words)) refl;
+    blank = λ b w low h f. r.shows.cells b w low h ∙ blank_block z ws vs r b w h f;
+    named = λ a w n h. has_page a w (standing a n) (r.pages.covered a w (standing a n) (let e = r.depicts.given a in omega arith))
+        (r.memory.maps a.slot (w / z.page_words)) refl;
     fits = λ a h. r.world.sessions.fits a (opened a h);
-    blank = λ b w low h f. r.shows.cells b w low h ∙ blank_block (r.memory.sessions b) b w refl h f;
     no_slot = λ k b. r.world.slots.low k (ap (λ (x : ℕ). bit_at x k) (sym r.shows.slot_bits) ∙ b);
     slots = slot_shown;
   }
+    where
+      none_there : (a : ArenaId) (w : ℕ) → IsStanding (r.machine.life a) → ¬ (HasPart (lent r.history) a (w / z.page_words)) → (o : Option ℕ)
+          → r.memory.maps a.slot (w / z.page_words) ≡ o → r.machine.word a w ≡ 0
+      none_there a w st u None e = r.pages.bare a w st e
+      none_there a w st u (Some p) e = absurd (u (
+        p,
+        mapped_lent z (lent r.history) r.memory.page_bits r.memory.maps r.memory.cells r.owners.berth
+            r.memory.sessions r.machine.life r.machine.word r.machine.given r.valid.page_words.0 r.world.sessions r.pages a (w / z.page_words) p
+            (standing_shown z r.memory.sessions r.machine.life r.world.sessions a st) e,
+      ))
+
+      has_page : (a : ArenaId) (w : ℕ) → IsStanding (r.machine.life a) → r.memory.maps a.slot (w / z.page_words) ≢ None → (o : Option ℕ)
+          → r.memory.maps a.slot (w / z.page_words) ≡ o → ShowsWord z ws s a w
+      has_page a w st n None e = absurd (n e)
+      has_page a w st n (Some p) e =
+          let y = r.pages.mapped_is p a.slot (w / z.page_words) (r.pages.map_is a.slot (w / z.page_words) p e) in
+          record {
+            page = p;
+            low = y.page;
+            part = y.part;
+            named = r.shows.maps a.slot (w / z.page_words) (fits_now a st).slot y.part ∙ ap own_map e;
+            word = sym (r.depicts.word a w) ∙ page_word_of z ws vs r a w p st e;
+          }

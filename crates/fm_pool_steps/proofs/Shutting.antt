@@ -1,5 +1,5 @@
 -- The step that shuts an arena.
-use Rattle.std.proofs.Common.{◌≡◌, ◌≢◌, ◌⊎◌, ℕ, ◌+◌, ◌==◌, Bool, true, false, if◌then◌else◌, List, [], ◌∷◌, set, get_or, sym, refl, ap, ◌∙◌, subst, arith, inl, inr, ⊎_elim, Option, Some, None, eq-eqb, ne_eqb}
+use Rattle.std.proofs.Common.{◌≡◌, ◌≢◌, ℕ, ◌==◌, Bool, true, false, if◌then◌else◌, List, [], ◌∷◌, set, get_or, sym, refl, ap, ◌∙◌, subst, arith, inl, inr, ⊎_elim, Option, Some, None, eq-eqb, ne_eqb}
 use mathlib.Core.Option.{some}
 use mathlib.Core.Logic.{dite}
 use lib.ListN.{get_elem?}
@@ -11,29 +11,27 @@ use Rattle.fm_base.specs.declared.kind.Kind.TheVariants.{Global, Automatic}
 use Rattle.fm_base.specs.Arenas.{MayUse}
 use Rattle.fm_base.specs.Calls.{Shut, Reply, Fine, Closed, Held, Entry, entry_of}
 use Rattle.fm_base.specs.Finds.{Close}
-use Rattle.fm_depicts.specs.Functions.{Fresh, Lives, Closes, Over, Machine, put, put_at, shut_stage}
+use Rattle.fm_depicts.specs.Functions.{Fresh, Lives, Closes, Over, put, put_at, shut_stage}
 use Rattle.fm_depicts.specs.Steps.{moved_by}
-use Rattle.fm_depicts.proofs.Putting.{put_else, at_here, at_other, one_arena}
+use Rattle.fm_depicts.proofs.Putting.{put_else, at_here, at_other, one_arena, put_cases, at_cases}
 use Rattle.fm_pool_facts.specs.declared.step.Step.TheVariants.{Shuts}
 use Rattle.fm_pool_facts.specs.Views.{View, In, IsKnown, limit_of}
 use Rattle.fm_pool_facts.specs.Words.{alive_word, closing_word, alive_holds, shut_found}
-use Rattle.fm_pool_facts.specs.Holds.{holds_of, all_holds}
 use Rattle.fm_pool_facts.specs.Closes.{begun, close_of}
 use Rattle.fm_pool_facts.specs.Steps.{part, entries, noted, none_noted}
-use Rattle.fm_pool_facts.specs.Facts.{Memory, free, live, shut, IsShown, Owners, World, IsClosing, HasClose, Rule}
+use Rattle.fm_pool_facts.specs.Facts.{Memory, free, live, shut, Owners, IsClosing, HasClose, Rule}
 use Rattle.fm_pool_facts.specs.Moves.{MayMake, StaysEnded, Moved, Same, KeepsHolds, MayStep}
 use Rattle.fm_pool_facts.proofs.Keeping.{closing_on, sweeping_on}
 use Rattle.fm_pool_facts.proofs.Standing.{free_apart}
 use Rattle.fm_pool_facts.proofs.Worlds.{world_shut}
-use Rattle.fm_pool_facts.specs.Loans.{lent, loans_after}
-use Rattle.fm_pool_facts.specs.Facts.{Loans}
-use Rattle.fm_depicts.proofs.Putting.{put_cases, at_cases}
-use Rattle.fm_pool_facts.proofs.Lending.{loans_still}
-use Rattle.fm_pool_facts.proofs.Shown.{shows_same, shows_session}
+use Rattle.fm_pool_facts.specs.Loans.{lent}
+use Rattle.fm_pool_facts.proofs.Living.{pages_shut}
+use Rattle.fm_pool_facts.proofs.Ruling.{page_like, keeps}
+use Rattle.fm_pool_facts.proofs.Shown.{shows_session}
 use Rattle.fm_pool_facts.proofs.Gripping.{by_hand, same_handles}
-use Rattle.fm_pool_facts.proofs.Ruling.{keeps}
 use Rattle.fm_pool_steps.proofs.Reading.{Says, says, shut_says, alive_read, alive_one, reads_alive, eqb_true, eqb_false}
-use Rattle.fm_pool_steps.proofs.Plain.{same_none, own, known_now, Made, plain, hand_still, sweeps_still, slots_still}
+use Rattle.fm_pool_steps.proofs.Quiet.{answers_on}
+use Rattle.fm_pool_steps.proofs.Plain.{same_but, own, known_now, Made, hand_still, sweeps_still, slots_still}
 use Rattle.fm_pool_facts.proofs.Founds.{no_draw}
 
 module _ (z : Shape) (me : ℕ) (v : View) (l : v.live ≡ true) (a : ArenaId) (known : IsKnown v a) (use_it : MayUse a v.caller) (not_global : a.kind ≢ Global)
@@ -52,33 +50,9 @@ module _ (z : Shape) (me : ℕ) (v : View) (l : v.live ≡ true) (a : ArenaId) (
       → moved_by r.machine (entry_of v.caller (Shut a) reply ∷ []) ≡ r.machine
       → Made z ws vs me v i found (record v { closes = begun a reply v.closes }) (entry_of v.caller (Shut a) reply ∷ []) none_noted
   refused reply is none stays =
-      let k = own z ws vs r me v at l in
       subst (λ (cs : List Close). Made z ws vs me v i found (record v { closes = cs }) (entry_of v.caller (Shut a) reply ∷ []) none_noted) (sym none)
-      (plain z ws vs r me v at l i found v (entry_of v.caller (Shut a) reply ∷ []) none_noted no_draw r.memory (record {
-        may = (refl, (opened, use_it, not_global), is, tt);
-        ends = λ b. ((λ h. h), tt);
-        marks = λ k h. refl;
-        terms = λ k. refl;
-        draw = refl;
-        still = λ s g f. f;
-        back = λ s g f. f;
-        bits = refl;
-        same = same_none v;
-        closes = refl;
-        hand = refl;
-        sweeps = refl;
-        ended = λ b o f. record { session = f; cells = λ w. refl; given = refl };
-        shown = λ b f. f;
-        was = λ b h. ap (λ (t : Machine). t.life b) (sym stays) ∙ h;
-        holds = λ b. ap (λ (t : Machine). holds_of b v + all_holds b t) (sym stays);
-        lends = (tt, tt);
-        loans =
-            subst (λ (t : Machine). Loans (loans_after (lent r.history) (entry_of v.caller (Shut a) reply ∷ [])) r.memory.sessions t.life) (sym stays) r.loans;
-        shows = shows_same z r.valid ws r.memory r.shows i;
-        world = subst (World z r.memory) (sym stays) r.world;
-        inside = ap (λ (t : Machine). t.inside v.caller) stays ∙ k.inside;
-        mark = k.mark;
-      }))
+      (answers_on z ws vs r me v at l i (entry_of v.caller (Shut a) reply ∷ []) (refl, (opened, use_it, not_global), is, tt) (λ b. ((λ h. h), tt))
+      (tt, tt) refl stays)
 
   -- an arena that is alive with no holds is closing from now on
   pub shuts : (hs : List ArenaId) → r.machine.life a ≡ Lives → r.machine.holds a ≡ 0
@@ -102,7 +76,7 @@ module _ (z : Shape) (me : ℕ) (v : View) (l : v.live ≡ true) (a : ArenaId) (
       let stays : (b : ArenaId) → r.machine.life b ≡ Over → r.memory.sessions b.slot ≡ shut b → StaysEnded r.memory m' b = (λ b f h. record {
         session = put_else r.memory.sessions a.slot (shut a) b.slot (λ e.
             let q : r.memory.sessions b.slot ≡ live a = ap r.memory.sessions e ∙ r.world.sessions.alive_shown a al in absurd (cc)) ∙ h;
-        cells = λ w. refl;
+        maps = λ i. refl;
         given = refl;
       }) in
       let was_ended : (b : ArenaId) → put_at r.machine.life a Closes b ≡ Over → (b ≢ a) × (r.machine.life b ≡ Over) =
@@ -110,18 +84,7 @@ module _ (z : Shape) (me : ℕ) (v : View) (l : v.live ≡ true) (a : ArenaId) (
       let was_shut : (b : ArenaId) → b ≢ a → m'.sessions b.slot ≡ shut b → r.memory.sessions b.slot ≡ shut b =
       (λ b n. put_cases r.memory.sessions a.slot (shut a) b.slot (λ y. y ≡ shut b → r.memory.sessions b.slot ≡ shut b)
       (λ e q. absurd (n (cc))) (λ ne q. q)) in
-      let same : Same v p = record {
-        home = refl;
-        shape = refl;
-        live = refl;
-        caller = refl;
-        seen = refl;
-        drawn = refl;
-        met = refl;
-        finds = refl;
-        gathered = refl;
-        whole = refl;
-      } in
+      let same : Same v p = same_but in
       let d : Moved me z v.caller r.memory r.machine r.owners es m' o' = record {
         allowed = ok;
         marks = λ k h. refl;
@@ -132,6 +95,7 @@ module _ (z : Shape) (me : ℕ) (v : View) (l : v.live ≡ true) (a : ArenaId) (
         sweepers = λ b f h n. (at_other r.owners.closer a me b (ended b f), stays b f h);
         holders = λ s g f b h. (refl, still s g f, b, refl);
         taken = λ s k x. inl (record { taker = x.taker; generation = x.generation; session = still s x.generation x.session; left = x.left; bit = x.bit });
+        pages = record { others = λ q j b h. (refl, λ w. refl); stay = λ b i q st e. e };
       } in
       let on : (c : Close) → In c v.closes → IsClosing (moved_by r.machine es) o' me c = (λ c j.
       let y = k.closes c j in
@@ -139,16 +103,15 @@ module _ (z : Shape) (me : ℕ) (v : View) (l : v.live ≡ true) (a : ArenaId) (
       (at_other r.owners.closer a me c.arena (other c.arena y.life)) ((λ h. h), tt)) in
       keeps z ws (set ws i (closing_word a)) vs r me v p es none_noted m' o' at l d same no_draw
       (tt, tt)
-      (loans_still (lent r.history) r.memory.sessions r.machine.life r.loans a Closes m'.sessions (λ e. absurd (cc)) back
-      (λ b. put_cases r.memory.sessions a.slot (shut a) b.slot (λ y. (y ≡ live b) ⊎ (y ≡ shut b) → IsShown r.memory.sessions b)
-      (λ e. ⊎_elim (λ q. absurd (cc))
-      (λ q. let i : a ≡ b = cc in inl (ap r.memory.sessions e ∙ (r.world.sessions.alive_shown a al ∙ ap live i)))) (λ ne q. q)))
+      (pages_shut z (lent r.history) r.memory.page_bits r.memory.maps r.memory.cells r.owners.berth r.memory.sessions r.machine.life r.machine.word
+      r.machine.given r.world.sessions r.pages a al)
       (λ b h. dite (one_arena b a)
       (λ e. inl (ap (put_at r.owners.closer a me) e ∙ at_here r.owners.closer a me, (l, (close_of a 0, inl refl, sym e))))
       (λ n. inr (sym (at_other r.machine.life a Closes b n) ∙ h, at_other r.owners.closer a me b n, (λ (y : HasClose b v). (y.0, (y.1.0, inr y.1.1, y.1.2))))))
       (sweeps_still me v p r.memory r.machine r.owners m' (moved_by r.machine es) o' same refl (λ b f. at_other r.owners.closer a me b (ended b f))
       (λ b f h. let y = was_ended b h in (was_shut b y.0 f, y.1)))
       (slots_still z me v p r.memory r.owners m' o' same refl (λ s. refl) back refl)
+      (λ q j b. inr (refl, λ h. page_like q (r.owners.berth q) v p refl refl refl h))
       held
       (shows_session z r.valid ws r.memory r.shows a.slot (shut a) 0 fit.slot)
       (world_shut z r.memory r.machine r.world a al none)
@@ -162,11 +125,13 @@ module _ (z : Shape) (me : ℕ) (v : View) (l : v.live ≡ true) (a : ArenaId) (
         once = ((λ c j. other c.arena (k.closes c j).life), k.once);
         sweeps = λ c j.
             let y = k.sweeps c j in
-            sweeping_on (limit_of z) v.caller r.memory r.machine es m' ok z me r.owners o' c y (at_other r.owners.closer a me c.arena (ended c.arena y.life))
+            sweeping_on (limit_of z) v.caller r.memory r.machine es m' ok (λ k b i. (r.world.marked k b i).stands) z me r.owners o' c y
+            (at_other r.owners.closer a me c.arena (ended c.arena y.life))
             (stays c.arena y.life y.session);
         swept_once = k.swept_once;
         hand = hand_still z r.memory m' r.owners.holder me still refl v.hand k.hand;
         took = k.took;
+        pages = k.pages;
       })
 
   -- the word is exchanged where it shows the arena alive with no holds

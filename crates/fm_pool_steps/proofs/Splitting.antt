@@ -9,8 +9,9 @@ use Rattle.fm_base.specs.declared.arena_id.ArenaId.{ArenaId}
 use Rattle.fm_depicts.specs.Functions.{Closes, Over}
 use Rattle.fm_pool_facts.specs.Views.{Met, View, In, all_gathered, brought}
 use Rattle.fm_pool_facts.specs.Splits.{note, met, nothing_seen, IsBare}
-use Rattle.fm_pool_facts.specs.Facts.{free, shut, HasNumber, HasDraw, HasClose, HasSweep, KeepsSlot, Somewhere, Begins, Knows, Rule, Memory, IsCounted}
+use Rattle.fm_pool_facts.specs.Facts.{free, shut, HasNumber, HasDraw, HasClose, HasSweep, KeepsSlot, Somewhere, Begins, Knows, Rule, Memory, IsCounted, Berth, loose, claimed, mapped, unmapped, IsAt, HasPage}
 use Rattle.fm_pool_facts.specs.Holds.{grips, holds_of, how_many, total}
+use Rattle.fm_pool_facts.proofs.Ruling.{page_like}
 use Rattle.fm_pool_facts.proofs.Founds.{counted_bare}
 use Rattle.fm_pool_facts.specs.Gone.{IsFounded}
 use Rattle.fm_pool_facts.proofs.Gone.{founded_bare}
@@ -49,6 +50,7 @@ pub data Said : (View → Type 0) → Type 1 where
   close : (a : ArenaId) → Said (HasClose a)
   sweep : (a : ArenaId) → Said (HasSweep a)
   slot : (s : ℕ) → Said (KeepsSlot s)
+  page : (q : ℕ) (b : Berth) → Said (HasPage q b)
 
 -- the rule with other views, and other seats for the numbers
 pub with_owners : (z : Shape) (ws : List ℕ) (vs us : List View) (r : Rule z ws vs) (f : ℕ → ℕ)
@@ -57,11 +59,12 @@ pub with_owners : (z : Shape) (ws : List ℕ) (vs us : List View) (r : Rule z ws
     → ((a : ArenaId) → r.machine.life a ≡ Closes → Somewhere us (r.owners.closer a) (HasClose a))
     → ((a : ArenaId) → r.memory.sessions a.slot ≡ shut a → r.machine.life a ≡ Over → Somewhere us (r.owners.closer a) (HasSweep a))
     → ((s g : ℕ) → s < z.slots → r.memory.sessions s ≡ free g → g < z.generations → bit_at r.memory.bits s ≡ 0 → Somewhere us (r.owners.holder s) (KeepsSlot s))
+    → ((q j : ℕ) → IsAt j (r.owners.berth q) → Somewhere us j (HasPage q (r.owners.berth q)))
     → ((j : ℕ) (u : View) → get_elem? us j ≡ some u → Knows z r.history r.memory r.machine (record r.owners { number = f }) j u)
     → ((j : ℕ) (u : View) → get_elem? us j ≡ some u → IsCounted r.memory u)
     → ((j : ℕ) (u : View) → get_elem? us j ≡ some u → IsFounded z r.history r.memory r.owners.taker r.machine.life u)
     → ((a : ArenaId) → total (holds_of a) us ≡ total (holds_of a) vs) → Rule z ws us
-with_owners z ws vs us r f numbers drawers closed swept slots each counted founded same = record {
+with_owners z ws vs us r f numbers drawers closed swept slots berths each counted founded same = record {
   history = r.history;
   memory = r.memory;
   machine = r.machine;
@@ -69,7 +72,7 @@ with_owners z ws vs us r f numbers drawers closed swept slots each counted found
   valid = r.valid;
   legal = r.legal;
   rightly = r.rightly;
-  loans = r.loans;
+  pages = r.pages;
   depicts = r.depicts;
   shows = r.shows;
   world = r.world;
@@ -81,6 +84,7 @@ with_owners z ws vs us r f numbers drawers closed swept slots each counted found
   closed = closed;
   swept = swept;
   slots = slots;
+  berths = berths;
   held = λ a. same a ∙ r.held a;
   each = each;
   counted = counted;
@@ -100,6 +104,7 @@ with_views z ws vs us r on each counted founded same =
     (λ a h. on (r.owners.closer a) (HasClose a) (close a) (r.closed a h))
     (λ a h o. on (r.owners.closer a) (HasSweep a) (sweep a) (r.swept a h o))
     (λ s g h f left b. on (r.owners.holder s) (KeepsSlot s) (slot s) (r.slots s g h f left b))
+    (λ q j b. on j (HasPage q (r.owners.berth q)) (page q (r.owners.berth q)) (r.berths q j b))
     each counted founded same
 
 -- a note of a view is made
@@ -141,6 +146,10 @@ bare_says w u b _ (draw d n) (inr h) = absurd (subst (In h.0) (bare_none w b) h.
 bare_says w u b _ (close a) h = let l = b.live in let q = h.0 in absurd (cc)
 bare_says w u b _ (sweep a) h = let l = b.live in let q = h.0 in absurd (cc)
 bare_says w u b _ (slot s) h = let l = b.live in let q = h.0 in absurd (cc)
+bare_says w u b _ (page q loose) h = h
+bare_says w u b _ (page q (claimed j)) h = let l = b.live in let q = h.0 in absurd (cc)
+bare_says w u b _ (page q (mapped k i)) h = h
+bare_says w u b _ (page q (unmapped j a i)) h = let l = b.live in let q = h.0 in absurd (cc)
 
 -- having met another changes nothing that is said
 met_says : (v w : View) (P : View → Type 0) → Said P → P v → P (met v w)
@@ -149,6 +158,7 @@ met_says v w _ (draw d n) h = h
 met_says v w _ (close a) h = h
 met_says v w _ (sweep a) h = h
 met_says v w _ (slot s) h = h
+met_says v w _ (page q b) h = page_like q b v (met v w) refl refl refl h
 
 counted_met : (m : Memory) (v w : View) → IsCounted m v → IsCounted m (met v w)
 counted_met m v w c = record { finds = c.finds; theirs = c.theirs; terms = c.terms }
@@ -187,6 +197,7 @@ meet_joins z ws vs r id v other w at n at' bare =
         swept_once = x.swept_once;
         hand = x.hand;
         took = x.took;
+        pages = x.pages;
         gathered =
             λ g i. let y =
             x.gathered g i in record { number = y.number; seated = y.seated; apart = y.apart; outside = y.outside; mark = y.mark; quiet = y.quiet };

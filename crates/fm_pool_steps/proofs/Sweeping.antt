@@ -1,61 +1,54 @@
--- The steps that wipe a word of an ended arena, and reset the count of its given bytes.
-use Rattle.std.proofs.Common.{◌≡◌, ◌≢◌, ◌⊎◌, ℕ, ◌<◌, true, List, [], set, sym, refl, ap, ◌∙◌, subst, arith, inl, inr, Some}
+-- A step of a sweep: it keeps the rule where it keeps the facts of pages and what the sweep says.
+use Rattle.std.proofs.Common.{◌≡◌, ◌≢◌, ◌⊎◌, ℕ, ◌+◌, ◌<◌, true, List, set, sym, refl, ap, ◌∙◌, subst, arith, inl, inr, Option, Some, None}
 use mathlib.Core.Option.{some}
 use mathlib.Core.Logic.{dite}
 use native.Mathlib.Decide.{ℕ_discrete}
 use lib.ListN.{get_elem?}
 use Rattle.fm_words.specs.declared.shape.Shape.{Shape}
-use Rattle.fm_words.specs.Places.{at as place_at, given as given_place}
 use Rattle.fm_base.specs.declared.arena_id.ArenaId.{ArenaId}
+use Rattle.fm_base.specs.Calls.{Entry}
 use Rattle.fm_base.specs.Finds.{Close}
-use Rattle.fm_depicts.specs.Functions.{Over, put}
-use Rattle.fm_depicts.proofs.Putting.{put_here, put_else, put_cases}
-use Rattle.fm_pool_facts.specs.declared.step.Step.TheVariants.{Wipes, ResetsGiven}
-use Rattle.fm_pool_facts.specs.Views.{View, Fits, In, span}
+use Rattle.fm_depicts.specs.Functions.{Over, Machine}
+use Rattle.fm_depicts.specs.Steps.{moved_by}
+use Rattle.fm_pool_facts.specs.Loans.{lent}
+use Rattle.fm_pool_facts.specs.Parts.{Swept, wiping}
+use Rattle.fm_pool_facts.specs.Views.{View, Fits, In, limit_of}
+use Rattle.fm_pool_facts.specs.Holds.{holds_of, all_holds}
 use Rattle.fm_pool_facts.specs.Closes.{visited_of, visited, one_more}
-use Rattle.fm_pool_facts.specs.Steps.{part, entries, noted, none_noted}
-use Rattle.fm_pool_facts.specs.Facts.{Memory, shut, cell_at, IsSweeping, HasSweep, Owns, Shows, World, Rule}
-use Rattle.fm_pool_facts.specs.Moves.{Moved, Same, MayStore}
+use Rattle.fm_pool_facts.specs.Steps.{none_noted}
+use Rattle.fm_pool_facts.specs.Facts.{Memory, Owners, shut, Berth, loose, claimed, mapped, unmapped, IsAt, IsOnce, IsNext, HasSwept, HasPage, IsSweeping, HasSweep, Owns, Shows, World, Rule}
+use Rattle.fm_pool_facts.specs.Moves.{MayMake, MayLend, NoEnd, Moved, KeepsPages}
 use Rattle.fm_pool_facts.proofs.Founds.{no_draw}
-use Rattle.fm_pool_facts.proofs.Retiring.{ended_fits, world_wipe, world_reset}
-use Rattle.fm_pool_facts.proofs.Shown.{shows_cell, shows_given}
-use Rattle.fm_pool_facts.proofs.Ruling.{keeps}
-use Rattle.fm_pool_steps.proofs.Closes.{Found, visited_of-found, count_of, in_visited, visited_in, once_visited}
-use Rattle.fm_pool_steps.proofs.Plain.{own, Made, slots_still}
-
--- a step that changes nothing but sweeps
-pub same_sweeps : (v : View) (cs : List Close) → Same v (record v { sweeps = cs })
-same_sweeps v cs = record {
-  home = refl;
-  shape = refl;
-  live = refl;
-  caller = refl;
-  seen = refl;
-  drawn = refl;
-  met = refl;
-  finds = refl;
-  gathered = refl;
-  whole = refl;
-}
+use Rattle.fm_pool_facts.proofs.Standing.{ended_apart}
+use Rattle.fm_pool_facts.proofs.Retiring.{ended_fits}
+use Rattle.fm_pool_facts.proofs.Keeping.{closing_on}
+use Rattle.fm_pool_facts.proofs.Ruling.{PagesAfter, keeps}
+use Rattle.fm_pool_steps.proofs.Closes.{Found, visited_of-found, count_of, in_visited, visited_in}
+use Rattle.fm_pool_steps.proofs.Plain.{same_but, own, Made}
 
 -- where the sweep of the arena has come so far
 module _ (z : Shape) (me : ℕ) (v : View) (l : v.live ≡ true) (a : ArenaId) (k : ℕ) (has : visited_of v.sweeps a ≡ Some k)
     (ws : List ℕ) (vs : List View) (r : Rule z ws vs) (at : get_elem? vs me ≡ some v) where
-  abbrev mine : Owns z r.history r.memory r.machine r.owners me v
+  abbrev pub mine : Owns z r.history r.memory r.machine r.owners me v
   mine = own z ws vs r me v at l
 
+  -- the sweep that was found
   pub its : Found a k v.sweeps
   its = visited_of-found v.sweeps a k has
 
+  -- what is known of it
   pub its_sweep : IsSweeping z r.memory r.machine r.owners me its.close
   its_sweep = mine.sweeps its.close its.there
 
+  -- its arena has ended
   pub ended_now : r.machine.life a ≡ Over
   ended_now = ap r.machine.life (sym its.arena) ∙ its_sweep.life
 
+  -- the session shows the arena
   pub shut_now : r.memory.sessions a.slot ≡ shut a
   shut_now = subst (λ (b : ArenaId). r.memory.sessions b.slot ≡ shut b) its.arena its_sweep.session
 
+  -- the sweep is at this seat
   pub mine_now : r.owners.closer a ≡ me
   mine_now = ap r.owners.closer (sym its.arena) ∙ its_sweep.owner
 
@@ -63,133 +56,156 @@ module _ (z : Shape) (me : ℕ) (v : View) (l : v.live ≡ true) (a : ArenaId) (
   pub apart : (b : ArenaId) → r.memory.sessions b.slot ≡ shut b → b ≢ a → b.slot ≢ a.slot
   apart b f n e = let q : shut b ≡ shut a = sym f ∙ (ap r.memory.sessions e ∙ shut_now) in n (cc)
 
-  not_mine : (b : ArenaId) → r.owners.closer b ≢ me → b ≢ a
+  pub not_mine : (b : ArenaId) → r.owners.closer b ≢ me → b ≢ a
   not_mine b n e = n (ap r.owners.closer e ∙ mine_now)
 
+  -- the arena has a slot
   pub fit : Fits z a
   fit = ended_fits z r.memory r.machine r.world a shut_now ended_now
 
-  abbrev p : View
-  p = record v { sweeps = visited a v.sweeps }
+  -- each sweep of the arena is this one
+  pub its_count : (b : Close) → In b v.sweeps → b.arena ≡ a → b.visited ≡ k
+  its_count b j e = count_of v.sweeps a k b j e has mine.swept_once
 
-  -- one word more of the slot is 0, or its given count
-  swept_on : (i : ℕ) (cells : ℕ → ℕ → ℕ) (given : ℕ → ℕ)
-      → ((b : ArenaId) → b.slot ≢ a.slot → (w : ℕ) → cells b.slot w ≡ r.memory.cells b.slot w)
-      → ((b : ArenaId) → b.slot ≢ a.slot → given b.slot ≡ r.memory.given b.slot)
-      → Shows z (set ws i 0) (record r.memory { cells = cells; given = given })
-      → World z (record r.memory { cells = cells; given = given }) r.machine
-      → ((c : Close) → In c (visited a v.sweeps) → IsSweeping z (record r.memory { cells = cells; given = given }) r.machine r.owners me c)
-      → Made z ws vs me v i 0 p [] none_noted
-  swept_on i cells given same_cells same_given shows world sweeps =
-      let m' : Memory = record r.memory { cells = cells; given = given } in
-      let d : Moved me z v.caller r.memory r.machine r.owners [] m' r.owners = record {
-        allowed = tt;
+  -- the part is its next one
+  pub next_here : IsNext v.sweeps a k
+  next_here = record { close = its.close; there = its.there; arena = its.arena; visited = its.visited }
+
+  -- what is changed of the memory
+  abbrev pub memory_of : (bits : ℕ) (maps : ℕ → ℕ → Option ℕ) (cells : ℕ → ℕ → ℕ) (given : ℕ → ℕ) → Memory
+  memory_of bits maps cells given = record r.memory { page_bits = bits; maps = maps; cells = cells; given = given }
+
+  -- what a step of the sweep does, and what the view has of its sweeps then
+  pub record Sweeping (i x bits : ℕ) (maps : ℕ → ℕ → Option ℕ) (cells : ℕ → ℕ → ℕ) (given : ℕ → ℕ) (berth : ℕ → Berth) (cs : List Close) (s : Swept)
+      (es : List Entry) : Type 0 where
+    pub may : MayMake (limit_of z) r.machine v.caller es
+    pub ends : (b : ArenaId) → NoEnd es b
+    pub stays : moved_by r.machine es ≡ r.machine
+    pub same_maps : (b : ℕ) → b ≢ a.slot → (n : ℕ) → maps b n ≡ r.memory.maps b n
+    pub same_given : (b : ℕ) → b ≢ a.slot → given b ≡ r.memory.given b
+    pub others : (p j : ℕ) → IsAt j (r.owners.berth p) → j ≢ me → (berth p ≡ r.owners.berth p) × ((w : ℕ) → cells p w ≡ r.memory.cells p w)
+    pub claims : (p : ℕ) → r.owners.berth p ≡ claimed me → berth p ≡ claimed me
+    pub lends : MayLend z.page_words r.machine (lent r.history) es
+    pub pages : PagesAfter z r.history (memory_of bits maps cells given) r.machine (record r.owners { berth = berth }) es
+    pub there : (c : Close) → In c v.sweeps → (d : Close) × In d cs × (d.arena ≡ c.arena)
+    pub keep : KeepsPages me v (record v { sweeps = cs; swept = s }) r.owners (record r.owners { berth = berth })
+    pub shows : Shows z (set ws i x) (memory_of bits maps cells given)
+    pub world : World z (memory_of bits maps cells given) r.machine
+    pub sweeps : (c : Close) → In c cs → IsSweeping z (memory_of bits maps cells given) r.machine (record r.owners { berth = berth }) me c
+    pub once : IsOnce (λ (c : Close). c.arena) cs
+    pub of_page : HasSwept z maps cells berth me cs s
+
+  -- such a step keeps the rule
+  pub sweep_on : (i x bits : ℕ) (maps : ℕ → ℕ → Option ℕ) (cells : ℕ → ℕ → ℕ) (given : ℕ → ℕ) (berth : ℕ → Berth) (cs : List Close) (s : Swept)
+      (es : List Entry)
+      → Sweeping i x bits maps cells given berth cs s es → Made z ws vs me v i x (record v { sweeps = cs; swept = s }) es none_noted
+  sweep_on i x bits maps cells given berth cs s es q =
+      let m' : Memory = memory_of bits maps cells given in
+      let o' : Owners = record r.owners { berth = berth } in
+      let p : View = record v { sweeps = cs; swept = s } in
+      let d : Moved me z v.caller r.memory r.machine r.owners es m' o' = record {
+        allowed = q.may;
         marks = λ k h. refl;
         terms = λ k. refl;
         draw = refl;
         numbers = λ k. refl;
-        closers = λ b f h. (refl, tt);
+        closers = λ b f h. (refl, q.ends b);
         sweepers = λ b f h n.
-            let far = apart b h (not_mine b n) in (refl, record { session = h; cells = same_cells b far; given = same_given b far });
+            let far = apart b h (not_mine b n) in (refl, record { session = h; maps = q.same_maps b.slot far; given = q.same_given b.slot far });
         holders = λ s g f b h. (refl, f, b, refl);
         taken = λ s k x. inl x;
+        pages = record {
+          others = q.others;
+          stay = λ b n p st e. q.same_maps b.slot (ended_apart z r.memory.sessions r.machine.life r.world.sessions a b shut_now ended_now st) n ∙ e;
+        };
       } in
-      keeps z ws (set ws i 0) vs r me v p [] none_noted m' r.owners at l d (same_sweeps v (visited a v.sweeps)) no_draw tt r.loans
-      (λ b h. inr (h, refl, (λ y. y)))
-      (λ b f h. inr (f, h, refl, (λ (y : HasSweep b v). let w = visited_in a y.1.0 v.sweeps y.1.1 in (y.0, (w.0, w.1, w.2 ∙ y.1.2)))))
-      (slots_still z me v p r.memory r.owners m' r.owners (same_sweeps v (visited a v.sweeps)) refl (λ s. refl) (λ s g f. f) refl)
-      (λ b. refl)
-      shows world
+      keeps z ws (set ws i x) vs r me v p es none_noted m' o' at l d same_but no_draw q.lends q.pages
+      (λ b h. inr (ap (λ (t : Machine). t.life b) (sym q.stays) ∙ h, refl, (λ y. y)))
+      (λ b f h. inr (
+        f,
+        ap (λ (t : Machine). t.life b) (sym q.stays) ∙ h,
+        refl,
+        (λ (y : HasSweep b v). let w = q.there y.1.0 y.1.1 in
+            (y.0, (w.0, w.1, w.2 ∙ y.1.2))),
+      ))
+      (λ k g low f left b. inr (f, b, refl, (λ y. y)))
+      q.keep
+      (λ b. ap (λ (t : Machine). holds_of b v + all_holds b t) (sym q.stays))
+      q.shows
+      (subst (World z m') (sym q.stays) q.world)
       (record {
-        inside = mine.inside;
+        inside = ap (λ (t : Machine). t.inside v.caller) q.stays ∙ mine.inside;
         mark = mine.mark;
-        closes = λ c j. let y = mine.closes c j in record { owner = y.owner; life = y.life; visited = y.visited };
+        closes = λ c j.
+            closing_on (limit_of z) r.history v.caller r.memory r.machine es m' q.may me r.owners o' c (mine.closes c j) refl (q.ends c.arena);
         once = mine.once;
-        sweeps = sweeps;
-        swept_once = once_visited a v.sweeps mine.swept_once;
+        sweeps = λ c j. subst (λ (t : Machine). IsSweeping z m' t o' me c) (sym q.stays) (q.sweeps c j);
+        swept_once = q.once;
         hand = mine.hand;
         took = mine.took;
+        pages = record {
+          read = λ b e y j. q.same_maps b.slot (inside_apart b (mine.inside ∙ e)) y.part ∙ mine.pages.read b e y j;
+          claims = λ n j. q.claims n (mine.pages.claims n j);
+          lone = mine.pages.lone;
+          sweep = q.of_page;
+        };
       })
-
-  its_count : (b : Close) → In b v.sweeps → b.arena ≡ a → b.visited ≡ k
-  its_count b j e = count_of v.sweeps a k b j e has mine.swept_once
-
-  -- ---- a word is wiped
-
-  wipes : k < span z → Made z ws vs me v (cell_at z a.slot k) 0 p [] none_noted
-  wipes low = swept_on (cell_at z a.slot k) cells r.memory.given
-      (λ b n w. (λ j. put_else r.memory.cells a.slot (put (r.memory.cells a.slot) k 0) b.slot n j w)) (λ b n. refl)
-      (shows_cell z r.valid ws r.memory r.shows a.slot k 0 fit.slot low)
-      (world_wipe z r.memory r.machine r.world a shut_now ended_now k)
-      (λ c j. let w = in_visited a c v.sweeps j in onward c w.before (mine.sweeps w.before w.there) w.there w.how)
     where
-      cells : ℕ → ℕ → ℕ
-      cells = put r.memory.cells a.slot (put (r.memory.cells a.slot) k 0)
+      inside_apart : (b : ArenaId) → r.machine.inside v.caller ≡ Some b → b.slot ≢ a.slot
+      inside_apart b e = ended_apart z r.memory.sessions r.machine.life r.world.sessions a b shut_now ended_now (r.world.marked v.caller b e).stands
 
-      -- what was 0 is so still
-      zero_stays : (s w : ℕ) → r.memory.cells s w ≡ 0 → cells s w ≡ 0
-      zero_stays s w h = put_cases r.memory.cells a.slot (put (r.memory.cells a.slot) k 0) s (λ (f : ℕ → ℕ). f w ≡ 0)
-          (λ e. put_cases (r.memory.cells a.slot) k 0 w (λ (y : ℕ). y ≡ 0) (λ q. refl) (λ n. ap (λ (i : ℕ). r.memory.cells i w) (sym e) ∙ h))
-          (λ n. h)
+  -- the same sweeps, where parts that had no page have none
+  pub sweeps_kept : (bits : ℕ) (maps : ℕ → ℕ → Option ℕ) (cells : ℕ → ℕ → ℕ) (berth : ℕ → Berth)
+      → ((b n : ℕ) → r.memory.maps b n ≡ None → maps b n ≡ None) → (c : Close) → In c v.sweeps
+      → IsSweeping z (memory_of bits maps cells r.memory.given) r.machine (record r.owners { berth = berth }) me c
+  sweeps_kept bits maps cells berth none c j =
+      let y = mine.sweeps c j in
+      record {
+        owner = y.owner;
+        life = y.life;
+        session = y.session;
+        parts = λ n h. none c.arena.slot n (y.parts n h);
+        count = y.count;
+        reset = y.reset;
+      }
 
-      zero_here : cells a.slot k ≡ 0
-      zero_here = (λ j. put_here r.memory.cells a.slot (put (r.memory.cells a.slot) k 0) j k) ∙ put_here (r.memory.cells a.slot) k 0
-
-      onward : (c b : Close) → IsSweeping z r.memory r.machine r.owners me b → In b v.sweeps → ((b.arena ≡ a) × (c ≡ one_more b)) ⊎ (c ≡ b)
-          → IsSweeping z (record r.memory { cells = cells }) r.machine r.owners me c
-      onward c b s j (inr e) = subst (IsSweeping z (record r.memory { cells = cells }) r.machine r.owners me) (sym e) (record {
-        owner = s.owner;
-        life = s.life;
-        session = s.session;
-        wiped = λ w h t. zero_stays b.arena.slot w (s.wiped w h t);
-        reset = s.reset;
-      })
-      onward c b s j (inl q) = subst (IsSweeping z (record r.memory { cells = cells }) r.machine r.owners me) (sym q.1) (record {
-        owner = s.owner;
-        life = s.life;
-        session = s.session;
-        wiped = λ w h t. dite (ℕ_discrete w k)
-            (λ e. (λ i. cells (q.0 i).slot (e i)) ∙ zero_here)
-            (λ n. zero_stays b.arena.slot w (s.wiped w (let g = its_count b j q.0 in omega arith) t));
-        reset = λ h. absurd (let g = its_count b j q.0 in omega arith);
-      })
-
-  -- ---- the given count is reset
-
-  resets : k ≡ span z → Made z ws vs me v (place_at z (given_place a.slot)) 0 p [] none_noted
-  resets full = swept_on (place_at z (given_place a.slot)) r.memory.cells given (λ b n w. refl) (λ b n. put_else r.memory.given a.slot 0 b.slot n)
-      (shows_given z r.valid ws r.memory r.shows a.slot 0 fit.slot)
-      (world_reset z r.memory r.machine r.world a shut_now ended_now)
-      (λ c j. let w = in_visited a c v.sweeps j in onward c w.before (mine.sweeps w.before w.there) w.there w.how)
+  -- the sweep has one part more behind it, which has no page
+  pub sweeps_more : (bits : ℕ) (maps : ℕ → ℕ → Option ℕ) (cells : ℕ → ℕ → ℕ) (berth : ℕ → Berth)
+      → ((b n : ℕ) → r.memory.maps b n ≡ None → maps b n ≡ None) → maps a.slot k ≡ None → k < z.reach → (c : Close) → In c (visited a v.sweeps)
+      → IsSweeping z (memory_of bits maps cells r.memory.given) r.machine (record r.owners { berth = berth }) me c
+  sweeps_more bits maps cells berth none here low c j = let w = in_visited a c v.sweeps mine.swept_once j in onward w.before w.there w.how
     where
-      given : ℕ → ℕ
-      given = put r.memory.given a.slot 0
+      onward : (b : Close) → In b v.sweeps → ((b.arena ≡ a) × (c ≡ one_more b)) ⊎ ((c ≡ b) × (c.arena ≢ a))
+          → IsSweeping z (memory_of bits maps cells r.memory.given) r.machine (record r.owners { berth = berth }) me c
+      onward b i (inr e) = subst (IsSweeping z (memory_of bits maps cells r.memory.given) r.machine (record r.owners { berth = berth }) me) (sym e.0)
+          (sweeps_kept bits maps cells berth none b i)
+      onward b i (inl q) =
+          let y = mine.sweeps b i in
+          let g = its_count b i q.0 in
+          subst (IsSweeping z (memory_of bits maps cells r.memory.given) r.machine (record r.owners { berth = berth }) me) (sym q.1) (record {
+            owner = y.owner;
+            life = y.life;
+            session = y.session;
+            parts = λ n h. dite (ℕ_discrete n k)
+                (λ e. (λ i. maps (q.0 i).slot (e i)) ∙ here)
+                (λ ne. none b.arena.slot n (y.parts n (omega arith)));
+            count = λ h. y.count (omega arith);
+            reset = λ h. absurd (omega arith);
+          })
 
-      onward : (c b : Close) → IsSweeping z r.memory r.machine r.owners me b → In b v.sweeps → ((b.arena ≡ a) × (c ≡ one_more b)) ⊎ (c ≡ b)
-          → IsSweeping z (record r.memory { given = given }) r.machine r.owners me c
-      onward c b s j (inr e) = subst (IsSweeping z (record r.memory { given = given }) r.machine r.owners me) (sym e) (record {
-        owner = s.owner;
-        life = s.life;
-        session = s.session;
-        wiped = s.wiped;
-        reset = λ h. put_cases r.memory.given a.slot 0 b.arena.slot (λ (y : ℕ). y ≡ 0) (λ q. refl) (λ n. s.reset h);
-      })
-      onward c b s j (inl q) = subst (IsSweeping z (record r.memory { given = given }) r.machine r.owners me) (sym q.1) (record {
-        owner = s.owner;
-        life = s.life;
-        session = s.session;
-        wiped = λ w h t. s.wiped w (let g = its_count b j q.0 in omega arith) t;
-        reset = λ h. ap (λ (x : ArenaId). given x.slot) q.0 ∙ put_here r.memory.given a.slot 0;
-      })
+  -- where one has a part more behind it, the same arenas are swept
+  pub visits : (c : Close) → In c v.sweeps → (d : Close) × In d (visited a v.sweeps) × (d.arena ≡ c.arena)
+  visits c j = let w = visited_in a c v.sweeps j in (w.0, w.1, w.2)
 
-pub wipe_steps : (z : Shape) (me : ℕ) (v : View) (a : ArenaId) (w : ℕ) → v.live ≡ true → visited_of v.sweeps a ≡ Some w → w < span z
-    → MayStore z (Wipes a w) me v (cell_at z a.slot w) 0
-unfolding part entries noted
-wipe_steps z me v a w l has low =
-    record { may = λ ws vs r at. let g = wipes z me v l a w has ws vs r at low in (g.0, g.1, record { gives = g.2; learns = tt }) }
+  -- and where nothing changes
+  pub stays_there : (c : Close) → In c v.sweeps → (d : Close) × In d v.sweeps × (d.arena ≡ c.arena)
+  stays_there c j = (c, j, refl)
 
-pub reset_steps : (z : Shape) (me : ℕ) (v : View) (a : ArenaId) → v.live ≡ true → visited_of v.sweeps a ≡ Some (span z)
-    → MayStore z (ResetsGiven a) me v (place_at z (given_place a.slot)) 0
-unfolding part entries noted
-reset_steps z me v a l has =
-    record { may = λ ws vs r at. let g = resets z me v l a (span z) has ws vs r at refl in (g.0, g.1, record { gives = g.2; learns = tt }) }
+  -- no page is in the hand of this sweep
+  pub not_wiping : (s : Swept) → v.swept ≡ s → ((b : ArenaId) (i p w : ℕ) → s ≢ wiping b i p w) → (q : ℕ) (b : Berth) (p : View) → p.live ≡ v.live
+      → p.pages ≡ v.pages
+      → HasPage q b v → HasPage q b p
+  not_wiping s e n q loose p lv ps h = h
+  not_wiping s e n q (claimed j) p lv ps h = (lv ∙ h.0, subst (In q) (sym ps) h.1)
+  not_wiping s e n q (mapped c i) p lv ps h = h
+  not_wiping s e n q (unmapped j b i) p lv ps h = absurd (n b i q h.1.0 (sym e ∙ h.1.1))

@@ -11,9 +11,10 @@ use Rattle.fm_words.specs.declared.shape.Shape.{Shape}
 use Rattle.fm_words.specs.Bits.{IsWithout}
 use Rattle.fm_words.specs.Places.{at as place_at, session, slot_bits as bits_place}
 use Rattle.fm_words.specs.Sessions.{session_word}
-use Rattle.fm_base.specs.Finds.{Find, TakesSlot as Taking}
+use Rattle.fm_base.specs.Finds.{is_page, Find, TakesSlot as Taking}
 use Rattle.fm_depicts.specs.Functions.{put}
 use Rattle.fm_depicts.proofs.Putting.{put_here, put_else}
+use Rattle.fm_pool_facts.proofs.Keeping.{closing_as, sweeping_as}
 use Rattle.fm_pool_facts.specs.declared.step.Step.TheVariants.{TakesSlot, LearnsGeneration}
 use Rattle.fm_pool_facts.specs.Hands.{nothing, taken, learnt, HasSlot, IsTaker, hand_taken}
 use Rattle.fm_pool_facts.specs.Gone.{FoundBy}
@@ -25,24 +26,11 @@ use Rattle.fm_pool_facts.proofs.Founds.{no_draw, note_none_drawn}
 use Rattle.fm_pool_facts.specs.Words.{kept, free_word}
 use Rattle.fm_pool_facts.proofs.Worlds.{world_bits}
 use Rattle.fm_pool_facts.proofs.Shown.{shows_same, shows_bits}
-use Rattle.fm_pool_facts.proofs.Ruling.{keeps, keeps_with}
+use Rattle.fm_pool_facts.proofs.Ruling.{page_like, keeps, keeps_with}
 use Rattle.fm_pool_steps.proofs.Reading.{eqb_true, eqb_false}
 use Rattle.fm_pool_steps.proofs.Telling.{some_bit, idle, busy, none_left}
-use Rattle.fm_pool_steps.proofs.Plain.{same_none, stays_ended, own, Made, sweeps_still, plain_with}
-
-pub same_hand : (v p : View) → p ≡ record v { hand = p.hand } → Same v p
-same_hand v p e = record {
-  home = ap (λ (x : View). x.home) e;
-  shape = ap (λ (x : View). x.shape) e;
-  live = ap (λ (x : View). x.live) e;
-  caller = ap (λ (x : View). x.caller) e;
-  seen = ap (λ (x : View). x.seen) e;
-  drawn = ap (λ (x : View). x.drawn) e;
-  met = ap (λ (x : View). x.met) e;
-  finds = ap (λ (x : View). x.finds) e;
-  gathered = ap (λ (x : View). x.gathered) e;
-  whole = ap (λ (x : View). x.whole) e;
-}
+use Rattle.fm_pool_steps.proofs.Quiet.{quiet}
+use Rattle.fm_pool_steps.proofs.Plain.{same_but, stays_ended, pages_still, own, Made, sweeps_still}
 
 module _ (z : Shape) (me : ℕ) (v : View) (l : v.live ≡ true) (ws : List ℕ) (vs : List View) (r : Rule z ws vs) (at : get_elem? vs me ≡ some v) where
   abbrev mine : Owns z r.history r.memory r.machine r.owners me v
@@ -66,35 +54,15 @@ module _ (z : Shape) (me : ℕ) (v : View) (l : v.live ≡ true) (ws : List ℕ)
     -- what is noted is so, where no slot was found
     new : (f : Find) → In f (fs (length r.history)) → FoundBy z r.history r.memory r.owners.taker r.machine.life v.caller f
     new f (inr j) = absurd j
-    new f (inl q) = λ j h. none_left z me v l ws vs r at sh none f (ap (λ (g : Find). g.seen) q) (λ c. ap (λ (g : Find). g.clear) (sym q) ∙ c)
-        (sym is_found ∙ (ap (λ (g : Find). g.found) (sym q) ∙ h))
+    new f (inl q) = record {
+      slot = λ j h. none_left z me v l ws vs r at sh none f (ap (λ (g : Find). g.seen) q) (λ c. ap (λ (g : Find). g.clear) (sym q) ∙ c)
+          (sym is_found ∙ (ap (λ (g : Find). g.found) (sym q) ∙ h));
+      page = λ j. absurd (let n : false ≡ true = ap (λ (g : Find). is_page g.step) (sym q) ∙ j in cc);
+    }
 
     -- nothing is taken
     stays : Made z ws vs me v i found v [] fs
-    stays = plain_with z ws vs r me v at l i found v [] fs (note_none_drawn (Taking e bit) found v refl) new r.memory (record {
-      may = tt;
-      ends = λ b. tt;
-      marks = λ k h. refl;
-      terms = λ k. refl;
-      draw = refl;
-      still = λ s g f. f;
-      back = λ s g f. f;
-      bits = refl;
-      same = same_none v;
-      closes = refl;
-      hand = refl;
-      sweeps = refl;
-      ended = λ b o f. record { session = f; cells = λ w. refl; given = refl };
-      shown = λ b f. f;
-      was = λ b h. h;
-      holds = λ a. refl;
-      lends = tt;
-      loans = r.loans;
-      shows = shows_same z r.valid ws r.memory r.shows i;
-      world = r.world;
-      inside = mine.inside;
-      mark = mine.mark;
-    })
+    stays = quiet z ws vs r me v at l i [] fs (note_none_drawn (Taking e bit) found v refl) new tt (λ b. tt) tt refl refl
 
     -- the slot is in the hand
     takes_it : r.memory.bits ≡ e → bit_at e bit ≡ 1 → Made z ws vs me v i next (record v { hand = taken bit }) [] fs
@@ -106,7 +74,7 @@ module _ (z : Shape) (me : ℕ) (v : View) (l : v.live ≡ true) (ws : List ℕ)
         let y : bit_at r.memory.bits s ≡ 1 = (λ j. bit_at (is j) (q j)) ∙ one in omega arith) in
         let bit_on : (s : ℕ) → s ≢ bit → bit_at next s ≡ bit_at r.memory.bits s = (λ s n. without.others s n ∙ ap (λ (w : ℕ). bit_at w s) (sym is)) in
         let f = r.world.slots.bit_is bit (ap (λ (w : ℕ). bit_at w bit) is ∙ one) in
-        let same : Same v p = same_hand v p refl in
+        let same : Same v p = same_but in
         let d : Moved me z v.caller r.memory r.machine r.owners [] m' o' = record {
           allowed = tt;
           marks = λ k h. refl;
@@ -114,7 +82,7 @@ module _ (z : Shape) (me : ℕ) (v : View) (l : v.live ≡ true) (ws : List ℕ)
           draw = refl;
           numbers = λ k. refl;
           closers = λ b q h. (refl, tt);
-          sweepers = λ b q h n. (refl, record { session = h; cells = λ w. refl; given = refl });
+          sweepers = λ b q h n. (refl, record { session = h; maps = λ i. refl; given = refl });
           holders = λ s g q b h. (
             put_else r.owners.holder bit me s (far s b),
             q,
@@ -128,6 +96,7 @@ module _ (z : Shape) (me : ℕ) (v : View) (l : v.live ≡ true) (ws : List ℕ)
             left = x.left;
             bit = bit_on s (far s x.bit) ∙ x.bit;
           });
+          pages = record { others = λ q j b h. (refl, λ w. refl); stay = λ b i q st e. e };
         } in
         let slots : KeepsSlots z me v p r.memory r.owners m' o' = (λ s g h q left b. dite (ℕ_discrete s bit)
         (λ c. inl (ap (put r.owners.holder bit me) c ∙ put_here r.owners.holder bit me, (l, c)))
@@ -137,10 +106,11 @@ module _ (z : Shape) (me : ℕ) (v : View) (l : v.live ≡ true) (ws : List ℕ)
           put_else r.owners.holder bit me s n,
           (λ (y : KeepsSlot s v). absurd (subst (HasSlot s) none y.1)),
         ))) in
-        keeps_with z ws (set ws i next) vs r me v p [] fs m' o' at l d same (note_none_drawn (Taking e bit) found v refl) new tt r.loans
+        keeps_with z ws (set ws i next) vs r me v p [] fs m' o' at l d same (note_none_drawn (Taking e bit) found v refl) new tt r.pages
         (λ b h. inr (h, refl, (λ y. y)))
         (sweeps_still me v p r.memory r.machine r.owners m' r.machine o' same refl (λ b q. refl) (λ b q h. (q, h)))
         slots
+        (λ q j b. inr (refl, λ h. page_like q (r.owners.berth q) v p refl refl refl h))
         (λ b. refl)
         (shows_bits z r.valid ws r.memory r.shows next)
         (world_bits z r.memory r.machine r.world next (λ s b. dite (ℕ_discrete s bit)
@@ -149,13 +119,13 @@ module _ (z : Shape) (me : ℕ) (v : View) (l : v.live ≡ true) (ws : List ℕ)
         (record {
           inside = mine.inside;
           mark = mine.mark;
-          closes = λ c j. let y = mine.closes c j in record { owner = y.owner; life = y.life; visited = y.visited };
+          closes = λ c j. closing_as (mine.closes c j);
           once = mine.once;
-          sweeps = λ c j.
-              let y = mine.sweeps c j in record { owner = y.owner; life = y.life; session = y.session; wiped = y.wiped; reset = y.reset };
+          sweeps = λ c j. sweeping_as (mine.sweeps c j);
           swept_once = mine.swept_once;
           hand = (f.0, record { owner = put_here r.owners.holder bit me; slot = low; bit = without.zero; session = f.1; left = f.2 });
           took = put_here r.owners.taker bit (Some v.caller);
+          pages = mine.pages;
         })
 
     taking : (b c : Bool) → (found == e) ≡ b → (bit_at e bit == 1) ≡ c
@@ -204,11 +174,13 @@ module _ (z : Shape) (me : ℕ) (v : View) (l : v.live ≡ true) (ws : List ℕ)
         sweepers = λ b q h n. (refl, stays_ended r.memory b h);
         holders = λ s g q b h. (refl, q, b, refl);
         taken = λ s k x. inl x;
+        pages = pages_still;
       } in
-      keeps z ws (set ws i x) vs r me v p [] none_noted r.memory r.owners at l d (same_hand v p refl) no_draw tt r.loans
+      keeps z ws (set ws i x) vs r me v p [] none_noted r.memory r.owners at l d (same_but) no_draw tt r.pages
       (λ b h. inr (h, refl, (λ y. y)))
       (λ b q h. inr (q, h, refl, (λ y. y)))
       (λ k g h q left b. inr (q, b, refl, (λ (y : KeepsSlot k v). (y.0, subst (HasSlot k) in_hand y.1))))
+      (λ q j b. inr (refl, λ h. page_like q (r.owners.berth q) v p refl refl refl h))
       (λ b. refl)
       (shows_same z r.valid ws r.memory r.shows i) r.world
       (record {
@@ -226,6 +198,7 @@ module _ (z : Shape) (me : ℕ) (v : View) (l : v.live ≡ true) (ws : List ℕ)
           left = subst (λ (n : ℕ). n < z.generations) gen h.1.left;
         };
         took = subst (IsTaker r.owners.taker v.caller) in_hand mine.took;
+        pages = mine.pages;
       })
 
 pub take_steps : (z : Shape) (me : ℕ) (v : View) (e bit next : ℕ) → v.live ≡ true → v.shape ≡ z → v.hand ≡ nothing → bit < z.slots → IsWithout e bit next

@@ -23,7 +23,7 @@ use Rattle.fm_pool_facts.specs.Views.{View, In, IsKnown, IsBusy, IsBusyIn, limit
 use Rattle.fm_pool_facts.specs.Facts.{Session, free, live, shut, IsStanding, HasInHand, Owns, Rule}
 use Rattle.fm_pool_facts.proofs.Alone.{lonely}
 use Rattle.fm_pool_facts.proofs.Standing.{free_apart}
-use Rattle.fm_pool_facts.proofs.Ruling.{life_opened}
+use Rattle.fm_pool_facts.proofs.Sounding.{life_opened}
 use Rattle.fm_pool_steps.proofs.Plain.{own, known_now}
 
 none_in : {A : Type 0} (xs : List A) → is_empty xs ≡ true → xs ≡ []

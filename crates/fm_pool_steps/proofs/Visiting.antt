@@ -1,5 +1,5 @@
 -- The step that visits a mark for a close.
-use Rattle.std.proofs.Common.{◌≡◌, ◌≢◌, ◌⊎◌, ℕ, ◌+◌, ◌<◌, ◌==◌, Bool, true, false, List, [], ◌∷◌, set, get_or, sym, refl, ap, ◌∙◌, subst, arith, inl, inr, ⊎_elim, Some}
+use Rattle.std.proofs.Common.{◌≡◌, ◌≢◌, ◌⊎◌, ℕ, ◌+◌, ◌<◌, ◌==◌, Bool, true, false, List, [], ◌∷◌, set, get_or, sym, refl, ap, ◌∙◌, subst, arith, inl, inr, ⊎_elim, Some, Option}
 use mathlib.Core.Option.{some}
 use mathlib.Core.Logic.{dite}
 use native.Mathlib.Decide.{ℕ_discrete}
@@ -18,20 +18,37 @@ use Rattle.fm_pool_facts.specs.Views.{View, In, limit_of, pass_of}
 use Rattle.fm_pool_facts.specs.Words.{mark_of, own_word}
 use Rattle.fm_pool_facts.specs.Closes.{close_of, visited_of, visited, dropped, one_more, visit_by, closes_after, sweeps_after, visit_entries}
 use Rattle.fm_pool_facts.specs.Steps.{part, entries, noted, note_of}
-use Rattle.fm_pool_facts.specs.Facts.{shut, IsClosing, IsSweeping, HasClose, HasSweep, Owns, Rule}
+use Rattle.fm_pool_facts.specs.Facts.{shut, IsClosing, IsSweeping, HasClose, HasSweep, Owns, Rule, Berth, HasSwept}
 use Rattle.fm_pool_facts.specs.Moves.{MayMake, Moved, Same, MayStep}
 use Rattle.fm_pool_facts.proofs.Keeping.{closing_on, sweeping_on}
 use Rattle.fm_pool_facts.proofs.Founds.{NoDraw, note_no_draw}
 use Rattle.fm_pool_facts.proofs.Worlds.{world_end}
 use Rattle.fm_pool_facts.specs.Loans.{lent}
-use Rattle.fm_pool_facts.proofs.Lending.{loans_still}
+use Rattle.fm_pool_facts.specs.Parts.{Swept, unread, named, wiping}
+use Rattle.fm_pool_facts.proofs.Living.{pages_end}
+use Rattle.fm_pool_steps.proofs.Quiet.{looks_with}
+use Rattle.fm_pool_steps.proofs.Plain.{pages_still, pages_there, same_but, stays_ended, own, Made, sweeps_still, slots_still}
 use Rattle.fm_pool_facts.proofs.Shown.{shows_same}
 use Rattle.fm_pool_facts.proofs.Ruling.{keeps}
 use Rattle.fm_pool_facts.specs.Holds.{one_alive}
 use Rattle.fm_pool_facts.proofs.Gripping.{same_handles}
 use Rattle.fm_pool_steps.proofs.Reading.{eqb_true, eqb_false}
 use Rattle.fm_pool_steps.proofs.Closes.{Found, visited_of-found, count_of, in_visited, visited_in, once_visited, in_dropped, dropped_in, once_dropped}
-use Rattle.fm_pool_steps.proofs.Plain.{same_none, stays_ended, own, Made, plain, sweeps_still, slots_still}
+
+-- a sweep is there still where another one begins
+more_swept : (z : Shape) (maps : ℕ → ℕ → Option ℕ) (cells : ℕ → ℕ → ℕ) (berth : ℕ → Berth) (j : ℕ) (c : Close) (cs : List Close) (s : Swept)
+    → HasSwept z maps cells berth j cs s → HasSwept z maps cells berth j (c ∷ cs) s
+more_swept z maps cells berth j c cs unread h = tt
+more_swept z maps cells berth j c cs (named a i p) h =
+    let n = h.0 in (record { close = n.close; there = inr n.there; arena = n.arena; visited = n.visited }, h.1)
+more_swept z maps cells berth j c cs (wiping a i p w) h =
+    let n = h.next in
+    record {
+      next = record { close = n.close; there = inr n.there; arena = n.arena; visited = n.visited };
+      owner = h.owner;
+      empty = h.empty;
+      wiped = h.wiped;
+    }
 
 module _ (z : Shape) (me : ℕ) (v : View) (l : v.live ≡ true) (sh : v.shape ≡ z) (a : ArenaId) (k : ℕ) (has : visited_of v.closes a ≡ Some k)
     (low : k < z.passes)
@@ -46,7 +63,7 @@ module _ (z : Shape) (me : ℕ) (v : View) (l : v.live ≡ true) (sh : v.shape �
   fs = note_of (Visiting a (pass_of k)) found v
 
   no_draws : NoDraw fs
-  no_draws = note_no_draw (Visiting a (pass_of k)) found v refl refl
+  no_draws = note_no_draw (Visiting a (pass_of k)) found v refl refl refl
 
   abbrev mine : Owns z r.history r.memory r.machine r.owners me v
   mine = own z ws vs r me v at l
@@ -70,47 +87,13 @@ module _ (z : Shape) (me : ℕ) (v : View) (l : v.live ≡ true) (sh : v.shape �
 
   -- the mark names the arena
   stays : Made z ws vs me v i found v [] fs
-  stays = plain z ws vs r me v at l i found v [] fs no_draws r.memory (record {
-    may = tt;
-    ends = λ b. tt;
-    marks = λ k h. refl;
-    terms = λ k. refl;
-    draw = refl;
-    still = λ s g f. f;
-    back = λ s g f. f;
-    bits = refl;
-    same = same_none v;
-    closes = refl;
-    hand = refl;
-    sweeps = refl;
-    ended = λ b o f. record { session = f; cells = λ w. refl; given = refl };
-    shown = λ b f. f;
-    was = λ b h. h;
-    holds = λ a. refl;
-    lends = tt;
-    loans = r.loans;
-    shows = shows_same z r.valid ws r.memory r.shows i;
-    world = r.world;
-    inside = mine.inside;
-    mark = mine.mark;
-  })
+  stays = looks_with z ws vs r me v at l i fs no_draws
 
   -- the close has visited one mark more
   walks : found ≢ mark_of a → Made z ws vs me v i found (record v { closes = visited a v.closes }) [] fs
   walks n =
       let p : View = record v { closes = visited a v.closes } in
-      let same : Same v p = record {
-        home = refl;
-        shape = refl;
-        live = refl;
-        caller = refl;
-        seen = refl;
-        drawn = refl;
-        met = refl;
-        finds = refl;
-        gathered = refl;
-        whole = refl;
-      } in
+      let same : Same v p = same_but in
       let d : Moved me z v.caller r.memory r.machine r.owners [] r.memory r.owners = record {
         allowed = tt;
         marks = λ k h. refl;
@@ -121,32 +104,35 @@ module _ (z : Shape) (me : ℕ) (v : View) (l : v.live ≡ true) (sh : v.shape �
         sweepers = λ b f h n. (refl, stays_ended r.memory b h);
         holders = λ s g f b h. (refl, f, b, refl);
         taken = λ s k x. inl x;
+        pages = pages_still;
       } in
       keeps z ws (set ws i found) vs r me v p [] fs r.memory r.owners at l d same no_draws
-      tt r.loans
+      tt r.pages
       (λ b h. inr (h, refl, (λ (y : HasClose b v). let w = visited_in a y.1.0 v.closes y.1.1 in (y.0, (w.0, w.1, w.2 ∙ y.1.2)))))
       (sweeps_still me v p r.memory r.machine r.owners r.memory r.machine r.owners same refl (λ b f. refl) (λ b f h. (f, h)))
       (slots_still z me v p r.memory r.owners r.memory r.owners same refl (λ s. refl) (λ s g f. f) refl)
+      (pages_there me r.owners v p same refl refl)
       (λ b. refl)
       (shows_same z r.valid ws r.memory r.shows i) r.world
       (record {
         inside = mine.inside;
         mark = mine.mark;
-        closes = λ c j. let w = in_visited a c v.closes j in onward c w.before (mine.closes w.before w.there) w.there w.how;
+        closes = λ c j. let w = in_visited a c v.closes mine.once j in onward c w.before (mine.closes w.before w.there) w.there w.how;
         once = once_visited a v.closes mine.once;
         sweeps = mine.sweeps;
         swept_once = mine.swept_once;
         hand = mine.hand;
         took = mine.took;
+        pages = mine.pages;
       })
     where
       -- the close of an arena is the one that was found
       its_count : (b : Close) → In b v.closes → b.arena ≡ a → b.visited ≡ k
       its_count b j e = count_of v.closes a k b j e has mine.once
 
-      onward : (c b : Close) → IsClosing r.machine r.owners me b → In b v.closes → ((b.arena ≡ a) × (c ≡ one_more b)) ⊎ (c ≡ b)
+      onward : (c b : Close) → IsClosing r.machine r.owners me b → In b v.closes → ((b.arena ≡ a) × (c ≡ one_more b)) ⊎ ((c ≡ b) × (c.arena ≢ a))
           → IsClosing r.machine r.owners me c
-      onward c b s j (inr e) = subst (IsClosing r.machine r.owners me) (sym e) s
+      onward c b s j (inr e) = subst (IsClosing r.machine r.owners me) (sym e.0) s
       onward c b s j (inl q) = subst (IsClosing r.machine r.owners me) (sym q.1) (record {
         owner = s.owner;
         life = s.life;
@@ -167,18 +153,7 @@ module _ (z : Shape) (me : ℕ) (v : View) (l : v.live ≡ true) (sh : v.shape �
       let es : List Entry = entry_of v.caller (End a) Fine ∷ [] in
       let p : View = record v { closes = dropped a v.closes; sweeps = close_of a 0 ∷ v.sweeps } in
       let ok : MayMake (limit_of z) r.machine v.caller es = (refl, (closes_now, nobody), refl, tt) in
-      let same : Same v p = record {
-        home = refl;
-        shape = refl;
-        live = refl;
-        caller = refl;
-        seen = refl;
-        drawn = refl;
-        met = refl;
-        finds = refl;
-        gathered = refl;
-        whole = refl;
-      } in
+      let same : Same v p = same_but in
       let d : Moved me z v.caller r.memory r.machine r.owners es r.memory r.owners = record {
         allowed = ok;
         marks = λ k h. refl;
@@ -189,12 +164,14 @@ module _ (z : Shape) (me : ℕ) (v : View) (l : v.live ≡ true) (sh : v.shape �
         sweepers = λ b f h n. (refl, stays_ended r.memory b h);
         holders = λ s g f b h. (refl, f, b, refl);
         taken = λ s k x. inl x;
+        pages = pages_still;
       } in
       let other : (b : ArenaId) → put_at r.machine.life a Over b ≡ Closes → b ≢ a =
       (λ b. at_cases r.machine.life a Over b (λ x. x ≡ Closes → b ≢ a) (λ e q. absurd (cc)) (λ ne q. ne)) in
       keeps z ws (set ws i found) vs r me v p es fs r.memory r.owners at l d same no_draws
       (tt, tt)
-      (loans_still (lent r.history) r.memory.sessions r.machine.life r.loans a Over r.memory.sessions (λ e. absurd (cc)) (λ s g f. f) (λ b f. f))
+      (pages_end z (lent r.history) r.memory.page_bits r.memory.maps r.memory.cells r.owners.berth r.memory.sessions r.machine.life r.machine.word
+      r.machine.given r.world.sessions r.pages a closes_now)
       (λ b h. let ne = other b h in inr (
         sym (at_other r.machine.life a Over b ne)
             ∙ h,
@@ -207,6 +184,7 @@ module _ (z : Shape) (me : ℕ) (v : View) (l : v.live ≡ true) (sh : v.shape �
       (λ e q. inl (ap r.owners.closer e ∙ closer_me, (l, (close_of a 0, inl refl, sym e))))
       (λ ne q. inr (f, q, refl, (λ y. (y.0, (y.1.0, inr y.1.1, y.1.2))))))
       (slots_still z me v p r.memory r.owners r.memory r.owners same refl (λ s. refl) (λ s g f. f) refl)
+      (pages_there me r.owners v p same refl refl)
       (same_handles v l r.machine a Over (λ k. sym (ap one_alive closes_now)))
       (shows_same z r.valid ws r.memory r.shows i) (world_end z r.memory r.machine r.world a closes_now nobody)
       (record {
@@ -222,12 +200,14 @@ module _ (z : Shape) (me : ℕ) (v : View) (l : v.live ≡ true) (sh : v.shape �
               owner = closer_me;
               life = at_here r.machine.life a Over;
               session = r.world.sessions.closing_shown a closes_now;
-              wiped = λ w h b. absurd (omega arith);
+              parts = λ i h. absurd (omega arith);
+              count = λ h. r.world.givens.shown a (inr closes_now);
               reset = λ h. absurd (omega arith);
             }))
             (λ (j : In c v.sweeps).
             let y = mine.sweeps c j in
-            sweeping_on (limit_of z) v.caller r.memory r.machine es r.memory ok z me r.owners r.owners c y refl (stays_ended r.memory c.arena y.session));
+            sweeping_on (limit_of z) v.caller r.memory r.machine es r.memory ok
+            (λ k b i. (r.world.marked k b i).stands) z me r.owners r.owners c y refl (stays_ended r.memory c.arena y.session));
         swept_once = (
           (λ c j e.
               let y : r.machine.life a ≡ Over = ap r.machine.life (sym e) ∙ (mine.sweeps c j).life in
@@ -236,6 +216,12 @@ module _ (z : Shape) (me : ℕ) (v : View) (l : v.live ≡ true) (sh : v.shape �
         );
         hand = mine.hand;
         took = mine.took;
+        pages = record {
+          read = mine.pages.read;
+          claims = mine.pages.claims;
+          lone = mine.pages.lone;
+          sweep = more_swept z r.memory.maps r.memory.cells r.owners.berth me (close_of a 0) v.sweeps v.swept mine.pages.sweep;
+        };
       })
 
   visits : (b c : Bool) → (found == mark_of a) ≡ b → (k + 1 == v.shape.passes) ≡ c

@@ -2,10 +2,10 @@ ghost use Rattle.std.specs.Prelude.{◌≡◌, None};
 ghost use Rattle.fm_base.specs.Learnt.{CanVisit};
 ghost use Rattle.fm_calls.specs.Kept.{Lasts};
 ghost use Rattle.fm_calls.specs.Told.{view_of_pass};
-ghost use Rattle.fm_gate.specs.Standing.{IsOutside};
 ghost use Rattle.fm_segment.specs.Access.{IsKnown};
 ghost use Rattle.fm_arena.specs.Handles.{CanGiveBack};
 ghost use Rattle.fm_arena.specs.Lasting.{SamePool};
+ghost use Rattle.fm_arena.specs.Shares.{CanShare};
 
 use crate::pools::pool_of;
 use fm_arena::{Arena, AutoHandle, Shared, a_handle_lasts, a_hold_lasts, keeps_its_pool};
@@ -23,14 +23,14 @@ use std::thread::join_mut;
 
 /// A pool of two passes, whose two slots have eight words each.
 fn made<R: Abort + AllocGlobal>(rt: &R) -> (Pool, Pass)
-    ensures { IsOutside result.0 result.1 }
+    ensures { CanShare result.0 result.1 }
 {
     pool_of(rt, 2, 2, 8, 1)
 }
 
 /// Both passes of the pool.
 fn both<'a, R: Abort + Wait>(rt: &R, pool: &'a Pool, pass: Pass) -> (Shared<'a>, Shared<'a>)
-    requires { IsOutside pool.now pass }
+    requires { CanShare pool.now pass }
     ensures first { result.0.inside ≡ None }
     ensures second { result.1.inside ≡ None }
     ensures same { SamePool result.0 result.1 }

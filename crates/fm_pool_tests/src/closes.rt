@@ -2,7 +2,8 @@ ghost use Rattle.std.specs.Prelude.{◌≡◌, ◌≢◌, ◌<◌, ◌≤◌, If
 ghost use Rattle.fm_pool_facts.specs.Views.{span};
 ghost use Rattle.fm_pool_facts.specs.Views.{IsKnown, given_of};
 ghost use Rattle.fm_calls.specs.Kept.{Lasts};
-ghost use Rattle.fm_gate.specs.Standing.{CanVisit, IsOutside};
+ghost use Rattle.fm_gate.specs.Standing.{CanAllocate, CanVisit, IsOutside};
+ghost use Rattle.fm_arena.specs.Shares.{CanShare};
 ghost use Rattle.fm_close.specs.Learnt.{CanSweep, CanWalk, IsUnderWay, StandsAfter};
 ghost use Rattle.fm_close.specs.Does.{after_visit};
 
@@ -27,7 +28,7 @@ fn made_for<R: Abort + AllocGlobal>(rt: &R, slots: u32, generations: u32) -> (Po
     requires few { slots < 65 }
     requires some { 0 < slots }
     requires one { 0 < generations }
-    ensures outside { IsOutside result.0 result.1 }
+    ensures ready { CanShare result.0 result.1 }
     ensures wide { span result.0.shape ≡ 1 }
     ensures passes { result.0.shape.passes ≡ 3 }
 {
@@ -38,7 +39,7 @@ fn made_for<R: Abort + AllocGlobal>(rt: &R, slots: u32, generations: u32) -> (Po
 fn made<R: Abort + AllocGlobal>(rt: &R, slots: u32) -> (Pool, Pass)
     requires few { slots < 65 }
     requires some { 0 < slots }
-    ensures outside { IsOutside result.0 result.1 }
+    ensures ready { CanShare result.0 result.1 }
     ensures wide { span result.0.shape ≡ 1 }
     ensures passes { result.0.shape.passes ≡ 3 }
 {
@@ -50,6 +51,7 @@ fn put(pool: &Pool, pass: &mut Pass, a: ArenaId, v: u64) -> Result<u64, Refusal>
     requires can { CanVisit pool.now pass.old a }
     requires given { 8 ≤ given_of pass.old a }
     ensures outside { IsOutside pool.now pass.new }
+    ensures pages { pass.new.pages ≡ pass.old.pages }
     ensures lasts { Lasts pass.old pass.new }
 {
     enter(pool, pass, a)?;
@@ -100,8 +102,8 @@ fn close_held<R: Wait>(
     pass: &mut Pass,
     a: ArenaId,
 ) -> Result<Result<(), Refusal>, Refusal>
-    requires { CanVisit pool.now pass.old a }
-    ensures { CanVisit pool.now pass.new a }
+    requires { CanAllocate pool.now pass.old a }
+    ensures { CanAllocate pool.now pass.new a }
 {
     let held = hold(rt, pool, pass, a)?;
     let answer = close(rt, pool, pass, a);
@@ -112,8 +114,8 @@ fn close_held<R: Wait>(
 
 /// The arena takes no hold, and gives nothing.
 fn is_over<R: Wait>(rt: &R, pool: &Pool, pass: &mut Pass, a: ArenaId) -> bool
-    requires { CanVisit pool.now pass.old a }
-    ensures { CanVisit pool.now pass.new a }
+    requires { CanAllocate pool.now pass.old a }
+    ensures { CanAllocate pool.now pass.new a }
 {
     let answer = close_held(rt, pool, pass, a);
     let given = allocate(rt, pool, pass, a, 1, 1);

@@ -1,7 +1,8 @@
 ghost use Rattle.std.specs.Prelude.{◌≡◌, ◌<◌, ◌≤◌, ◌*◌, bit_and};
 ghost use Rattle.fm_pool_facts.specs.Views.{IsKnown, given_of, span};
 ghost use Rattle.fm_calls.specs.Kept.{Lasts};
-ghost use Rattle.fm_gate.specs.Standing.{CanVisit, IsInside, IsOutside};
+ghost use Rattle.fm_gate.specs.Standing.{CanAllocate, CanVisit, IsInside, IsOutside};
+ghost use Rattle.fm_arena.specs.Shares.{CanShare};
 
 mod crews;
 mod finishing;
@@ -22,7 +23,7 @@ use std::sync::Wait;
 fn made<R: Abort + AllocGlobal>(rt: &R, slots: u32) -> (Pool, Pass)
     requires few { slots < 65 }
     requires some { 0 < slots }
-    ensures outside { IsOutside result.0 result.1 }
+    ensures ready { CanShare result.0 result.1 }
     ensures wide { span result.0.shape ≡ 8 }
 {
     pool_of(rt, 3, slots, 8, 1)
@@ -150,8 +151,8 @@ fn give<R: Wait>(
     size: u64,
     align: u64,
 ) -> Result<u64, Refusal>
-    requires { CanVisit pool.now pass.old a }
-    ensures { CanVisit pool.now pass.new a }
+    requires { CanAllocate pool.now pass.old a }
+    ensures { CanAllocate pool.now pass.new a }
 {
     allocate(rt, pool, pass, a, size, align)
 }

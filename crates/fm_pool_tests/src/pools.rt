@@ -3,7 +3,8 @@ ghost use Rattle.std.specs.Prelude.{◌≡◌, ◌<◌, ◌≤◌, ◌*◌};
 ghost use Rattle.fm_pool_facts.specs.Views.{given_of, span};
 ghost use Rattle.fm_calls.specs.Kept.{Lasts};
 ghost use Rattle.fm_gate.specs.Crews.{HasNothing, StandsOn};
-ghost use Rattle.fm_gate.specs.Standing.{CanVisit, IsOutside};
+ghost use Rattle.fm_gate.specs.Standing.{CanAllocate, CanVisit, IsOutside};
+ghost use Rattle.fm_arena.specs.Shares.{CanShare};
 
 use fm_base::{ArenaId, Kind, Refusal};
 use fm_gate::{a_crew_stands, allocate, enter, leave, load, open_arena};
@@ -28,7 +29,7 @@ pub(crate) fn pool_of<R: Abort + AllocGlobal>(
     requires some_words { 0 < page_words }
     requires few_words { page_words ≤ 8192 }
     requires some_generations { 0 < generations }
-    ensures outside { IsOutside result.0 result.1 }
+    ensures ready { CanShare result.0 result.1 }
     ensures wide { span result.0.shape ≡ page_words }
     ensures passes { result.0.shape.passes ≡ passes }
 {
@@ -43,6 +44,34 @@ pub(crate) fn pool_of<R: Abort + AllocGlobal>(
     Pool::make(rt.alloc(), shape).expect(rt, "words")
 }
 
+/// A pool for two passes of so many pages, all of which one arena can have; and its first pass.
+pub(crate) fn paged<R: Abort + AllocGlobal>(
+    rt: &R,
+    slots: u32,
+    pages: u32,
+    page_words: u32,
+    generations: u32,
+) -> (Pool, Pass)
+    requires some_slots { 0 < slots }
+    requires few_slots { slots < 65 }
+    requires some_pages { 0 < pages }
+    requires few_pages { pages < 65 }
+    requires some_words { 0 < page_words }
+    requires few_words { page_words ≤ 8192 }
+    requires some_generations { 0 < generations }
+    ensures { CanShare result.0 result.1 }
+{
+    let shape = Shape {
+        passes: 2,
+        slots,
+        pages,
+        page_words,
+        reach: pages,
+        generations,
+    };
+    Pool::make(rt.alloc(), shape).expect(rt, "words")
+}
+
 /// Opens an arena, and gives its first bytes, so many.
 pub(crate) fn given<R: Abort + Wait>(
     rt: &R,
@@ -51,8 +80,8 @@ pub(crate) fn given<R: Abort + Wait>(
     kind: Kind,
     bytes: u64,
 ) -> ArenaId
-    requires { IsOutside pool.now pass.old }
-    ensures visit { CanVisit pool.now pass.new result }
+    requires { CanShare pool.now pass.old }
+    ensures can { CanAllocate pool.now pass.new result }
     ensures given { bytes ≤ given_of pass.new result }
     ensures lasts { Lasts pass.old pass.new }
 {
@@ -83,6 +112,7 @@ pub(crate) fn word_of(
 pub(crate) fn drawn<R: Abort + Wait>(rt: &R, pool: &Pool, giver: &mut Pass) -> Pass
     requires outside { IsOutside pool.now giver.old }
     ensures giver { StandsOn pool.now giver.old giver.new }
+    ensures pages { giver.new.pages ≡ giver.old.pages }
     ensures outside { IsOutside pool.now result }
     ensures lasts { Lasts giver.old result }
     ensures nothing { HasNothing result }

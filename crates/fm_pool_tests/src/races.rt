@@ -2,10 +2,11 @@
 //! word again never ends. Handles of an automatic arena are one pass's alone, so nobody races for their word.
 ghost use Rattle.std.specs.Prelude.{◌≤◌};
 ghost use Rattle.fm_pool_facts.specs.Views.{IsKnown, given_of};
-ghost use Rattle.fm_gate.specs.Standing.{CanVisit, IsInside, IsOutside};
+ghost use Rattle.fm_gate.specs.Standing.{CanAllocate, CanVisit, IsInside, IsOutside};
 
-use crate::pools::{drawn, given, pool_of, word_of};
+use crate::pools::{drawn, given, paged, pool_of, word_of};
 use fm_base::{ArenaId, Kind, Refusal};
+use fm_close::close;
 use fm_gate::{a_crew_stands, allocate, enter, leave, open_arena, patch};
 use fm_rule::{Pass, Pool};
 use std::alloc::AllocGlobal;
@@ -30,17 +31,24 @@ fn meet(mine: &AtomicBool, other: &AtomicBool) {
     }
 }
 
-/// Gives a byte so often, or until it is refused, and answers how often it did.
-fn give_often<R: Wait>(rt: &R, pool: &Pool, pass: &mut Pass, a: ArenaId) -> u64
-    requires { CanVisit pool.now pass.old a }
-    ensures { CanVisit pool.now pass.new a }
+/// Gives so many bytes so often, or until it is refused, and answers how often it did.
+fn give_often<R: Wait>(
+    rt: &R,
+    pool: &Pool,
+    pass: &mut Pass,
+    a: ArenaId,
+    bytes: u64,
+    times: u64,
+) -> u64
+    requires { CanAllocate pool.now pass.old a }
+    ensures { CanAllocate pool.now pass.new a }
 {
-    for given in 0..TIMES {
-        if allocate(rt, pool, pass, a, 1, 1).is_err() {
+    for given in 0..times {
+        if allocate(rt, pool, pass, a, bytes, bytes).is_err() {
             return given;
         }
     }
-    TIMES
+    times
 }
 
 #[test]
@@ -50,11 +58,77 @@ fn two_passes_allocate_at_once(rt: HostRuntime) {
     let mut other = drawn(&rt, &pool, &mut pass);
     let both = join_mut(
         &rt,
-        &mut || give_often(&rt, &pool, &mut pass, a),
-        &mut || give_often(&rt, &pool, &mut other, a),
+        &mut || give_often(&rt, &pool, &mut pass, a, 1, TIMES),
+        &mut || give_often(&rt, &pool, &mut other, a, 1, TIMES),
     );
     assert_eq!(rt; both, (TIMES, TIMES));
     assert_eq!(rt; allocate(&rt, &pool, &mut pass, a, 0, 1), Ok(2 * TIMES));
+}
+
+/// Gives 30 words once the other came, each of which wants a page, and answers how many it gave.
+fn give_words<R: Wait>(
+    rt: &R,
+    pool: &Pool,
+    pass: &mut Pass,
+    a: ArenaId,
+    mine: &AtomicBool,
+    other: &AtomicBool,
+) -> u64
+    requires { CanAllocate pool.now pass.old a }
+    ensures { CanAllocate pool.now pass.new a }
+{
+    meet(mine, other);
+    give_often(rt, pool, pass, a, 8, 30)
+}
+
+/// How many words each of two passes gives of one arena at once. Another arena has the four pages that are left then, and
+/// this is what it is answered for one more.
+fn given_at_once<R: Abort + AllocGlobal + Threads + Wait + Sync>(
+    rt: &R,
+) -> (u64, u64, Result<u64, Refusal>) {
+    let (pool, mut pass) = paged(rt, 2, 64, 1, 1);
+    let a = open_arena(rt, &pool, &mut pass, Kind::Shared).expect(rt, "a slot");
+    let mut other = drawn(rt, &pool, &mut pass);
+    let first = AtomicBool::new(false);
+    let second = AtomicBool::new(false);
+    let (ours, theirs) = join_mut(
+        rt,
+        &mut || give_words(rt, &pool, &mut pass, a, &first, &second),
+        &mut || give_words(rt, &pool, &mut other, a, &second, &first),
+    );
+    let b = given(rt, &pool, &mut other, Kind::Shared, 32);
+    (ours, theirs, allocate(rt, &pool, &mut other, b, 1, 1))
+}
+
+/// Both want a page for the same part again and again. Who comes second gives its page back.
+#[test]
+fn two_passes_want_pages_at_once(rt: HostRuntime) {
+    for _ in 0..200 {
+        assert_eq!(rt; given_at_once(&rt), (30, 30, Err(Refusal::PoolFull)));
+    }
+}
+
+/// What a close is answered while another pass gives words of the arena. Another arena has all pages then.
+fn closed_amid_giving<R: Abort + AllocGlobal + Threads + Wait + Sync>(
+    rt: &R,
+) -> Result<(), Refusal> {
+    let (pool, mut pass) = paged(rt, 2, 64, 1, 1);
+    let a = open_arena(rt, &pool, &mut pass, Kind::Shared).expect(rt, "a slot");
+    let mut other = drawn(rt, &pool, &mut pass);
+    let (closed, _) = join_mut(
+        rt,
+        &mut || close(rt, &pool, &mut pass, a),
+        &mut || give_often(rt, &pool, &mut other, a, 8, 64),
+    );
+    given(rt, &pool, &mut other, Kind::Shared, 512);
+    closed
+}
+
+#[test]
+fn an_arena_is_closed_while_another_pass_allocates(rt: HostRuntime) {
+    for _ in 0..200 {
+        assert_eq!(rt; closed_amid_giving(&rt), Ok(()));
+    }
 }
 
 /// Puts so many numbers into the word, the first of them `first`, none twice.

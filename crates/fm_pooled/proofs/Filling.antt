@@ -1,13 +1,11 @@
 -- A pool's first pass that puts bytes into an arena that it opened.
 use Rattle.std.proofs.Common.{◌≡◌, ℕ, ◌+◌, ◌≤◌, List, ◌++◌, length, take, drop, Ok, refl, ap, sym, ◌∙◌, subst, inr, arith}
+use Rattle.std.specs.Prelude.{◌⊎◌}
 use Rattle.std.proofs.Math.Seq.{take-append_seam}
 use Rattle.fm_base.specs.declared.arena_id.ArenaId.{ArenaId}
 use Rattle.fm_base.specs.declared.kind.Kind.TheVariants.{Shared}
-use Rattle.fm_base.specs.declared.refusal.Refusal.{Refusal}
-use Rattle.fm_base.specs.declared.refusal.Refusal.TheVariants.{Memory, PoolFull}
 use Rattle.fm_base.specs.Arenas.{State}
 use Rattle.fm_base.specs.Calls.{Entry}
-use Rattle.fm_base.specs.Does.{DidAllocate}
 use Rattle.fm_base.specs.Finds.{Rest}
 use Rattle.fm_base.specs.Histories.{IsLegal, IsTidy}
 use Rattle.fm_base.specs.View.{Did, Makes, given_in}
@@ -21,9 +19,7 @@ use Rattle.fm_arena.proofs.Lasting.{keeps as pool_keeps}
 use Rattle.fm_calls.specs.Told.{view_of_pass}
 use Rattle.fm_calls.proofs.Sweeps.{no_sweeps}
 use Rattle.fm_gate.specs.Standing.{IsOutside}
-use Rattle.fm_base.specs.Machine.{rounded_up}
-use Rattle.fm_arena.specs.Shares.{nature_of_shared}
-use Rattle.fm_load.specs.Held.{HoldsThen, IsEmpty, IsHeld, OnlyIn, Wants, words_at}
+use Rattle.fm_load.specs.Held.{IsHeld, OnlyIn, words_at}
 use Rattle.fm_pool_facts.specs.Views.{View, IsKnown, IsSound, limit_of, state_in}
 use Rattle.fm_records.specs.Alone.{bytes_at_places}
 use Rattle.fm_records.proofs.AnsweringBytes.{places_have}
@@ -31,9 +27,9 @@ use Rattle.fm_rule.specs.declared.pool.Pool.{Pool}
 use Rattle.fm_rule.specs.Passes.{IsOf}
 use Rattle.fm_segment.specs.Region.{Region, region_of}
 use Rattle.fm_words.specs.declared.shape.Shape.{Shape}
-use Rattle.fm_pooled.specs.Stocked.{IsLone, IsStocked, KeepsArenas, bytes_in_pool, pool_passes}
+use Rattle.fm_pooled.specs.Stocked.{IsLone, IsOpened, IsStocked, KeepsArenas, bytes_in_pool, pool_passes}
 use Rattle.fm_access_laws.proofs.Putting.{put_all_stays}
-use Rattle.fm_pooled.proofs.Tidying.{AllChangeNone, loans_too, tidy_none, tidy_on}
+use Rattle.fm_pooled.proofs.Tidying.{tidy_on}
 
 -- ---- calls of a memory
 
@@ -51,23 +47,15 @@ lone_on pool p q own lone makes tidy outside sound = record {
   tidy = tidy_on p q own lone.tidy (outside.of.1 ∙ sym lone.outside.of.1)
       (makes.told.seen ∙ ap (λ (es : List Entry). p.seen ++ es) (makes.alone (inr lone.whole))) tidy;
   none_gathered = ap (λ (x : Rest). x.gathered) makes.told.rest ∙ lone.none_gathered;
+  none_to_end = ap (λ (x : Rest). x.closes) makes.told.rest ∙ lone.none_to_end;
   none_to_sweep = no_sweeps p q makes.told.rest lone.none_to_sweep;
+  no_page = ap (λ (x : Rest). x.pages) makes.told.rest ∙ lone.no_page;
 }
 
 own_legal : (pool : Pool) (p q : View) (own : List Entry) → IsLone pool p → (makes : Makes (view_of_pass p) (view_of_pass q) own)
     → IsLegal (limit_of p.shape) (state_in p) own
 own_legal pool p q own lone makes =
     subst (λ (es : List Entry). IsLegal (limit_of p.shape) (state_in p) es) (makes.alone (inr lone.whole)) makes.legal
-
--- after an allocation
-pub allocated_lone : (pool : Pool) (p m q r : View) (a : ArenaId) (size place : ℕ) → IsLone pool p → m ≡ p
-    → DidAllocate (view_of_pass m) (view_of_pass q) a size 8 (Ok place) → r ≡ q → (IsOf pool q → IsOutside pool r) → IsSound r → IsLone pool r
-allocated_lone pool p m q r a size place lone at did is outside sound =
-    let lone_m : IsLone pool m = subst (λ (v : View). IsLone pool v) (sym at) lone in
-    let makes : Makes (view_of_pass m) (view_of_pass r) did.own = subst (λ (v : View). Makes (view_of_pass m) (view_of_pass v) did.own) (sym is) did.makes in
-    let none : AllChangeNone did.own = loans_too did.own (subst AllChangeNone (sym did.does.2) (tt, (tt, (tt, tt)))) in
-    lone_on pool m r did.own lone_m makes (tidy_none (limit_of m.shape) (state_in m) did.own none)
-    (outside (still_of pool m q did.own did.makes lone_m.outside.of)) sound
 
 -- after bytes were put that were given
 pub put_lone : (pool : Pool) (p m q r : View) (a : ArenaId) (bytes : List ℕ) → IsLone pool p → m ≡ p
@@ -131,30 +119,10 @@ pub only_on : (p m q r : View) (a : ArenaId) → m ≡ p → OnlyIn a (state_in 
 only_on p m q r a at only is =
     subst (λ (v : View). OnlyIn a (state_in p) (state_in v)) (sym is) (subst (λ (v : View). OnlyIn a (state_in v) (state_in q)) at only)
 
--- the arena's first bytes stand at its start
-nothing_given : (p : View) (a : ArenaId) → IsEmpty (view_of_pass p) a → rounded_up (given_in (view_of_pass p) a) 8 ≡ 0
-nothing_given p a empty = ap (λ n. rounded_up n 8) empty.none
+-- ---- which arenas it knows
 
-pub first_room : (pool : Pool) (p : View) (a : ArenaId) (size : ℕ) → IsLone pool p → IsEmpty (view_of_pass p) a → size ≤ limit_of pool.shape
-    → rounded_up (given_in (view_of_pass p) a) 8 + size ≤ limit_of p.shape
-first_room pool p a size lone empty room =
-    let shape : limit_of p.shape ≡ limit_of pool.shape = ap limit_of lone.outside.of.1 in
-    omega (arith, nothing_given p a empty, shape, room)
-
-pub first_held : (p m q r : View) (a : ArenaId) (size place : ℕ) → m ≡ p → IsEmpty (view_of_pass p) a
-    → place ≡ rounded_up (given_in (view_of_pass m) a) 8 → HoldsThen (view_of_pass q) a (place + size) (words_at (view_of_pass m) a) → r ≡ q
-    → HoldsThen (view_of_pass r) a size (words_at (view_of_pass p) a)
-first_held p m q r a size place at empty there held is =
-    let none : place ≡ 0 =
-    there ∙ ap (λ (v : View). rounded_up (given_in (view_of_pass v) a) 8) at ∙ nothing_given p a empty in
-    let all : place + size ≡ size = omega (arith, none) in
-    subst (λ (v : View). HoldsThen (view_of_pass v) a size (words_at (view_of_pass p) a)) (sym is)
-    (subst (λ (n : ℕ). HoldsThen (view_of_pass q) a n (words_at (view_of_pass p) a)) all
-    (subst (λ (v : View). HoldsThen (view_of_pass q) a (place + size) (words_at (view_of_pass v) a)) at held))
-
--- ---- nothing is wanting
-
-pub never_wants : (p q : View) (r : Refusal) → Wants nature_of_shared (view_of_pass p) (view_of_pass q) r → ⊥
-never_wants p q Memory w = absurd (cc)
-never_wants p q PoolFull w = let no = w.0 in absurd (cc)
-never_wants p q r w = absurd w
+-- it knows the one that it opened, and what it knew
+pub only_known : {pool : Pool} {p o : View} {a : ArenaId} (q r : View) (s : Region) → IsOpened pool p o a → OnlyIn a (state_in o) (state_in q)
+    → OnlyIn a (state_in q) (state_in r) → s.arena ≡ a → (b : ArenaId) → IsKnown r b → (b ≡ s.arena) ⊎ IsKnown p b
+only_known {p = p} q r s opened first second is b known =
+    subst (λ (x : ArenaId). (b ≡ x) ⊎ IsKnown p b) (sym is) (opened.only b (sym (first.arenas b) ∙ (sym (second.arenas b) ∙ known)))

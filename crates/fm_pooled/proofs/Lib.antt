@@ -1,6 +1,9 @@
+pub mod Allocating
 pub mod Crews
 pub mod Filling
+pub mod Lent
 pub mod Opening
+pub mod Shapes
 pub mod Shows
 pub mod Tallies
 pub mod Tidying

@@ -1,7 +1,8 @@
 -- Counts beside records in a pool: room for them, and what a crew counts.
-use Rattle.std.proofs.Common.{◌≡◌, ℕ, ◌+◌, ◌*◌, ◌%◌, ◌<◌, ◌≤◌, List, [], ◌∷◌, Result, Ok, Err, IfErr, refl, ap, sym, ◌∙◌, subst, inl, inr, ⊎_elim, arith}
+use Rattle.std.proofs.Common.{◌≡◌, ℕ, ◌+◌, ◌*◌, ◌%◌, ◌<◌, ◌≤◌, List, [], ◌∷◌, map, Result, Ok, Err, IfErr, refl, ap, sym, ◌∙◌, subst, inl, inr, ⊎_elim, arith}
 use Rattle.std.specs.Prelude.{◌⊎◌}
-use Rattle.std.specs.List.{AllByRecursion}
+use Rattle.std.specs.List.{AllByRecursion, range_with_len}
+use Rattle.std.proofs.lemmas.Nat.{mul-le}
 use Rattle.fm_base.specs.declared.arena_id.ArenaId.{ArenaId}
 use Rattle.fm_base.specs.declared.caller.Caller.{Caller}
 use Rattle.fm_base.specs.declared.kind.Kind.TheVariants.{Confined, Shared}
@@ -13,11 +14,15 @@ use Rattle.fm_base.specs.Histories.{made_by}
 use Rattle.fm_base.specs.Untouched.{ComesIn, Spares}
 use Rattle.fm_base.specs.Visits.{visit}
 use Rattle.fm_calls.specs.Told.{view_of_pass}
+use Rattle.fm_bytes.specs.Words.{byte_at}
+use Rattle.fm_gate.specs.Learnt.{AllBusy}
 use Rattle.fm_gate.specs.Standing.{IsOutside}
 use Rattle.fm_lists.specs.Among.{IsAmong}
 use Rattle.fm_lists.proofs.Each.{all_both, all_weaker}
-use Rattle.fm_load.specs.Held.{HoldsThen, OnlyIn}
-use Rattle.fm_pool_facts.specs.Views.{View, IsKnown, IsSound, state_in}
+use Rattle.fm_load.specs.Held.{HoldsThen}
+use Rattle.fm_pool_facts.specs.Loans.{lent}
+use Rattle.fm_pool_facts.specs.Scarcity.{parts_before}
+use Rattle.fm_pool_facts.specs.Views.{View, IsKnown, IsSound, limit_of, state_in, unlent}
 use Rattle.fm_query.specs.Plan.{Plan}
 use Rattle.fm_records.specs.Answers.{answer}
 use Rattle.fm_records.specs.Reads.{IsWordOf}
@@ -30,30 +35,84 @@ use Rattle.fm_workers.specs.Crew.{callers}
 use Rattle.fm_workers.specs.Query.{NobodyElseWrites}
 use Rattle.fm_workers.specs.Tally.{CanTallyWith, OnlyAddsTo, no_more, closed, one_add, OnlyTallies, TalliedWith}
 use Rattle.fm_pooled.specs.Asking.{Asked, HasPasses}
-use Rattle.fm_pooled.specs.Stocked.{CanStock, IsLone, IsOpened, IsStocked, KeepsArenas, bytes_in_pool}
-use Rattle.fm_pooled.specs.Tallied.{CanOpenTwo, HasRoomForCounts, IsBeside}
+use Rattle.fm_pooled.specs.Stocked.{HasPagesFor, IsLone, IsOpened, IsStocked, KeepsArenas, bytes_in_pool}
+use Rattle.fm_pooled.specs.Tallied.{CanOpenSecond, HasRoomForCounts, IsBeside}
 use Rattle.fm_pooled.proofs.Crews.{AllTouch, Touches, bytes_stay, crew_touches, not_stopped, only_reads_touch, records_spared, stays_alive, stocked_still}
-use Rattle.fm_pooled.proofs.Opening.{knows_none}
+use Rattle.fm_pooled.proofs.Lent.{lent_to_one, parts_within}
+use Rattle.fm_pooled.proofs.Opening.{knows_none, pages_left}
 use Rattle.fm_pooled.proofs.Shows.{asked, can_ask, is_whole, pooled_is}
 
 -- ---- room for counts
 
--- of two slots one is left, where only one arena was opened
-pub second_slot : (pool : Pool) (p q r : View) (a : ArenaId) → CanOpenTwo pool p → IsOpened pool p q a → OnlyIn a (state_in q) (state_in r) → IsLone pool r
-    → CanStock pool r
-second_slot pool p q r a can opened only lone =
-    let slots : r.shape.slots ≡ 2 = ap (λ (z : Shape). z.slots) (lone.outside.of.1 ∙ sym can.lone.outside.of.1) ∙ can.slots in
-    let one : (b : ArenaId) → IsKnown r b → b ≡ a =
-    λ b k. ⊎_elim (λ (e : b ≡ a). e) (λ (was : IsKnown p b). absurd (knows_none p b can.none_seen was)) (opened.only b (sym (only.arenas b) ∙ k)) in
+-- the pass can open a second arena, where the first one is all that it knows
+pub can_second : {pool : Pool} {q : View} (p : View) (s : Region) → IsLone pool q → p.seen ≡ []
+    → ((b : ArenaId) → IsKnown q b → (b ≡ s.arena) ⊎ IsKnown p b) → pool.shape.slots ≡ 2 → pool.shape.pages + 1 ≡ pool.shape.reach + 2 → 256 ≤ pool.shape.page_words → CanOpenSecond pool q s.arena
+can_second {pool = pool} {q = q} p s lone none only slots pages wide =
+    let shape : q.shape ≡ pool.shape = lone.outside.of.1 in
+    let same_pages : q.shape.pages ≡ pool.shape.pages = ap (λ (z : Shape). z.pages) shape in
+    let same_reach : q.shape.reach ≡ pool.shape.reach = ap (λ (z : Shape). z.reach) shape in
     record {
       lone = lone;
-      free = λ busy.
-          let first = busy 0 (omega (arith, slots)) in
-          let second = busy 1 (omega (arith, slots)) in
-          let here : a.slot ≡ 0 = ap (λ (x : ArenaId). x.slot) (sym (one first.arena first.known)) ∙ first.in_slot in
-          let there : a.slot ≡ 1 = ap (λ (x : ArenaId). x.slot) (sym (one second.arena second.known)) ∙ second.in_slot in
-          absurd (omega (arith, here, there));
+      only = λ b k. ⊎_elim (λ (e : b ≡ s.arena). e) (λ (was : IsKnown p b). absurd (knows_none p b none was)) (only b k);
+      slots = ap (λ (z : Shape). z.slots) shape ∙ slots;
+      more = omega (arith, same_pages, same_reach, pages);
+      wide = subst (λ (z : Shape). 256 ≤ z.page_words) (sym shape) wide;
     }
+
+-- of two slots one is left, where only one arena was opened
+pub second_free : {pool : Pool} {p : View} {a : ArenaId} → CanOpenSecond pool p a → ¬ (AllBusy p)
+second_free {a = a} can busy =
+    let slots = can.slots in
+    let first = busy 0 (omega (arith, slots)) in
+    let second = busy 1 (omega (arith, slots)) in
+    let here : a.slot ≡ 0 = ap (λ (x : ArenaId). x.slot) (sym (can.only first.arena first.known)) ∙ first.in_slot in
+    let there : a.slot ≡ 1 = ap (λ (x : ArenaId). x.slot) (sym (can.only second.arena second.known)) ∙ second.in_slot in
+    absurd (omega (arith, here, there))
+
+-- and of the pages, since the first arena can't have all
+pub second_pages : {pool : Pool} {p q : View} {a b : ArenaId} → CanOpenSecond pool p a → IsOpened pool p q b → HasPagesFor q 2048
+second_pages {p = p} {a = a} can opened =
+    let z = p.shape in
+    let lent_few = lent_to_one p a can.lone.sound can.only in
+    let wide = can.wide in
+    let more = can.more in
+    let one : parts_before z 2048 ≤ 1 = parts_within z 2048 1 (omega (arith, wide)) (omega (arith, wide)) in
+    let left : parts_before z 2048 ≤ unlent z.pages (lent p.seen) = omega (arith, lent_few, more, one) in
+    pages_left 2048 can.lone opened left
+
+-- which have room for the counts
+pub second_room : {pool : Pool} {p : View} {a : ArenaId} → CanOpenSecond pool p a → 2048 ≤ limit_of pool.shape
+second_room {p = p} can =
+    let z = p.shape in
+    let page : 1 * 256 ≤ z.reach * z.page_words = mul-le 1 256 z.reach z.page_words can.lone.sound.valid.reach.0 can.wide in
+    let room : 2048 ≤ limit_of z = omega (arith, page) in
+    subst (λ (x : Shape). 2048 ≤ limit_of x) can.lone.outside.of.1 room
+
+-- ---- the records stand still
+
+module _ {pool : Pool} {p r : View} {s : Region} (h : IsStocked pool p s) (keeps : KeepsArenas p r) where
+  same_arena : arena_of (state_in r) s.arena ≡ arena_of (state_in p) s.arena
+  same_arena = keeps.same s.arena h.known.arena
+
+  pub stocked_beside : IsLone pool r → IsStocked pool r s
+  stocked_beside lone = record {
+    outside = lone.outside;
+    sound = lone.sound;
+    whole = lone.whole;
+    tidy = lone.tidy;
+    start = h.start;
+    known = record {
+      arena = keeps.known s.arena h.known.arena;
+      given = subst (λ (n : ℕ). s.first + s.size ≤ n) (ap (λ (x : Arena). x.given) (sym same_arena)) h.known.given;
+    };
+    alive = ap (λ (x : Arena). x.life) same_arena ∙ h.alive;
+    shared = h.shared;
+    passes = ap (λ (z : Shape). z.passes) (lone.outside.of.1 ∙ sym h.outside.of.1) ∙ h.passes;
+  }
+
+  pub bytes_beside : bytes_in_pool r s ≡ bytes_in_pool p s
+  unfolding bytes_in_pool
+  bytes_beside = ap (λ (x : Arena). map (byte_at x.words) (range_with_len s.first s.size)) same_arena
 
 pub has_room : (r : View) (a : ArenaId) (words : List ℕ) (s : Region) → HoldsThen (view_of_pass r) a 2048 words → a.kind ≡ Shared → s ≡ region_of a 0 2048
     → HasRoomForCounts r s
@@ -66,24 +125,13 @@ has_room r a words s held shared is =
       written = refl;
     })
 
--- once records stand in an arena that is new
-pub beside : (p q : View) (s counts : Region) → HasRoomForCounts p counts → KeepsArenas p q → ¬ (IsKnown p s.arena) → IsBeside q s counts
-beside p q s counts room keeps unknown =
-    let known = room.known.arena in
-    let same : arena_of (state_in q) counts.arena ≡ arena_of (state_in p) counts.arena = keeps.same counts.arena known in
-    record {
-      room = record {
-        known = record {
-          arena = keeps.known counts.arena known;
-          given = subst (λ (n : ℕ). counts.first + counts.size ≤ n) (ap (λ (x : Arena). x.given) (sym same)) room.known.given;
-        };
-        alive = ap (λ (x : Arena). x.life) same ∙ room.alive;
-        shared = room.shared;
-        longs = room.longs;
-        written = room.written;
-      };
-      other = λ is. unknown (subst (λ (a : ArenaId). IsKnown p a) is known);
-    }
+-- in an arena that is new
+pub beside : {r : View} {s counts : Region} (p : View) → HasRoomForCounts r counts → IsKnown p s.arena → ¬ (IsKnown p counts.arena)
+    → IsBeside r s counts
+beside p room known unknown = record {
+  room = room;
+  other = λ is. unknown (subst (λ (a : ArenaId). IsKnown p a) (sym is) known);
+}
 
 pub can_tally : {pool : Pool} {p : View} {s counts : Region} (plan : Plan) (threads : ℕ) → IsStocked pool p s → IsBeside p s counts → 0 < threads
     → threads ≤ 16 → CanTallyWith pool p plan s counts threads

@@ -7,7 +7,7 @@ use Rattle.fm_base.specs.Calls.{Entry}
 use Rattle.fm_base.specs.Histories.{IsLegal, IsTidy, state_after}
 use Rattle.fm_path.specs.Resolution.{Resolution}
 use Rattle.fm_pool_facts.specs.Loans.{IsRightlyLent}
-use Rattle.fm_pool_facts.specs.Views.{span, limit_of}
+use Rattle.fm_pool_facts.specs.Views.{limit_of}
 use Rattle.fm_query.specs.Plan.{Plan}
 use Rattle.fm_records.specs.Alone.{bytes_at_places}
 use Rattle.fm_records.specs.Bytes.{HasRead}
@@ -18,11 +18,11 @@ use Rattle.fm_rule.specs.Finishing.{FinishedView}
 use Rattle.fm_rule.specs.GivenBytes.{state_of}
 use Rattle.fm_segment.specs.Region.{region_of}
 
--- one history of one-thread arenas, which changes only bytes that were given, and whose words are lent rightly
+-- one history of one-thread arenas, which changes only bytes that were given, and whose pages are lent rightly
 pub record IsHistory (f : FinishedView) : Type 0 where
   pub legal : IsLegal (limit_of f.shape) [] f.history
   pub tidy : IsTidy (limit_of f.shape) [] f.history
-  pub lent : IsRightlyLent (span f.shape) (limit_of f.shape) f.history
+  pub lent : IsRightlyLent f.shape.page_words (limit_of f.shape) f.history
 
 -- another than the pool's first pass has read the word
 pub record IsReadByOther (es : List Entry) (id : ArenaId) (word : ℕ) : Type 0 where

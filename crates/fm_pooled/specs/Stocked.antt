@@ -1,5 +1,5 @@
 -- Where the first pass of a pool stands, before bytes are put into an arena of it, and then.
-use Rattle.std.specs.Prelude.{◌≡◌, ◌⊎◌, ℕ, true, List, []}
+use Rattle.std.specs.Prelude.{◌≡◌, ◌⊎◌, ℕ, ◌≤◌, true, List, []}
 use Rattle.fm_base.specs.declared.arena_id.ArenaId.{ArenaId}
 use Rattle.fm_base.specs.declared.kind.Kind.TheVariants.{Shared}
 use Rattle.fm_base.specs.Arenas.{Alive, arena_of}
@@ -8,7 +8,9 @@ use Rattle.fm_calls.specs.Told.{view_of_pass}
 use Rattle.fm_gate.specs.Learnt.{AllBusy}
 use Rattle.fm_gate.specs.Standing.{IsOutside}
 use Rattle.fm_load.specs.Held.{IsEmpty}
-use Rattle.fm_pool_facts.specs.Views.{View, IsKnown, IsSound, limit_of, state_in}
+use Rattle.fm_pool_facts.specs.Loans.{lent}
+use Rattle.fm_pool_facts.specs.Scarcity.{parts_before}
+use Rattle.fm_pool_facts.specs.Views.{View, IsKnown, IsSound, limit_of, state_in, unlent}
 use Rattle.fm_records.specs.Alone.{bytes_at_places}
 use Rattle.fm_rule.specs.declared.pool.Pool.{Pool}
 use Rattle.fm_segment.specs.Access.{IsKnown as IsKnownTo}
@@ -22,26 +24,34 @@ pool_passes = 40
 abbrev pub IsTidyPass : View → Type 0
 IsTidyPass p = IsTidy (limit_of p.shape) [] p.seen
 
--- The first pass of the pool, before another was drawn: it is known to be whole, has swept all that it ended, and its entries are tidy
+-- The first pass of the pool, before another was drawn: it is known to be whole, has no page in its hand and none of its arenas to end or
+-- to sweep, and its entries are tidy
 pub record IsLone (pool : Pool) (p : View) : Type 0 where
   pub outside : IsOutside pool p
   pub sound : IsSound p
   pub whole : p.whole ≡ true
   pub tidy : IsTidyPass p
   pub none_gathered : p.gathered ≡ []
+  pub none_to_end : p.closes ≡ []
   pub none_to_sweep : p.sweeps ≡ []
+  pub no_page : p.pages ≡ []
 
--- and a slot is left to it
-pub record CanStock (pool : Pool) (p : View) : Type 0 where
+-- an arena has no more parts for so many bytes than there are pages that aren't lent
+abbrev pub HasPagesFor : View → (size : ℕ) → Type 0
+HasPagesFor p size = parts_before p.shape size ≤ unlent p.shape.pages (lent p.seen)
+
+-- and a slot and the pages for so many bytes are left to it
+pub record CanStock (pool : Pool) (p : View) (size : ℕ) : Type 0 where
   pub lone : IsLone pool p
   pub free : ¬ (AllBusy p)
+  pub pages : HasPagesFor p size
 
 -- what was known is known, and stands as it was
 pub record KeepsArenas (p q : View) : Type 0 where
   pub known : (b : ArenaId) → IsKnown p b → IsKnown q b
   pub same : (b : ArenaId) → IsKnown p b → arena_of (state_in q) b ≡ arena_of (state_in p) b
 
--- it opened a shared arena, and no other
+-- it opened a shared arena, and no other; nothing was lent
 pub record IsOpened (pool : Pool) (p q : View) (a : ArenaId) : Type 0 where
   pub lone : IsLone pool q
   pub empty : IsEmpty (view_of_pass q) a
@@ -49,6 +59,7 @@ pub record IsOpened (pool : Pool) (p q : View) (a : ArenaId) : Type 0 where
   pub unknown : ¬ (IsKnown p a)
   pub only : (b : ArenaId) → IsKnown q b → (b ≡ a) ⊎ IsKnown p b
   pub keeps : KeepsArenas p q
+  pub loans : lent q.seen ≡ lent p.seen
 
 -- the bytes that stand in the segment
 unfoldable pub bytes_in_pool : View → Region → List ℕ

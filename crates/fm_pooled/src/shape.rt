@@ -1,4 +1,4 @@
-ghost use Rattle.std.specs.Prelude.{◌≡◌, ◌≤◌, ◌<◌};
+ghost use Rattle.std.specs.Prelude.{◌≡◌, ◌≤◌, ◌<◌, ◌+◌, ◌-◌, ◌*◌};
 ghost use Rattle.fm_pool_facts.specs.Views.{limit_of};
 ghost use Rattle.fm_pooled.specs.Stocked.{pool_passes};
 ghost use Rattle.fm_words.specs.Shapes.{IsValid};
@@ -7,29 +7,42 @@ use fm_load::RECORD_FILE_LIMIT;
 use fm_words::Shape;
 
 /// Two crews of 16 and the first pass, and seven marks that nobody uses: so no mark that is used lies in one line of 64
-/// bytes with the session or the count of given bytes.
+/// bytes with a session, a count of given bytes or a map word.
 const PASSES: u32 = 40;
 
-/// How many pages an arena has.
-const PAGES: u32 = 8;
+/// How many pages an arena has at most: a few long ones, since a visit asks for its page anew.
+const MOST_PAGES: u64 = 32;
 
-/// The shape of a pool for so many arenas, one or two, each with room for so many bytes.
+/// The words of the least page, in which 256 counts have room.
+const LEAST_PAGE: u64 = 256;
+
+/// The shape of a pool for one or two arenas: there are pages for so many bytes in one of them, and one page for the
+/// other. A page has a power of two of words.
 pub fn shape_for(room: u64, arenas: u32) -> Shape
     requires room { room ≤ RECORD_FILE_LIMIT }
     requires some { 0 < arenas }
     requires few { arenas ≤ 2 }
     ensures valid { IsValid result }
     ensures room { room ≤ limit_of result }
+    // One page less has no room for them, unless it is the only one.
+    ensures spare { 1 < result.reach → (result.reach - 1) * result.page_words * 8 < room }
     ensures passes { result.passes ≡ pool_passes }
     ensures slots { result.slots ≡ arenas }
+    ensures pages { result.pages + 1 ≡ result.reach + arenas }
+    ensures wide { LEAST_PAGE ≤ result.page_words }
 {
-    let page_words = (room / 64 + 1).min(1_048_576);
+    let words = room.div_ceil(8);
+    let page_words = words
+        .div_ceil(MOST_PAGES)
+        .next_power_of_two()
+        .max(LEAST_PAGE);
+    let reach = words.div_ceil(page_words).max(1) as u32;
     Shape {
         passes: PASSES,
         slots: arenas,
-        pages: arenas * PAGES,
+        pages: reach + (arenas - 1),
         page_words: page_words as u32,
-        reach: PAGES,
+        reach,
         generations: 1,
     }
 }

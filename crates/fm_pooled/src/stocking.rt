@@ -1,40 +1,42 @@
-ghost use Rattle.std.specs.Prelude.{◌≡◌, ◌≢◌, ◌≤◌, [], length};
+ghost use Rattle.std.specs.Prelude.{◌≡◌, ◌⊎◌, ◌≤◌, [], length};
 ghost use Rattle.fm_access.specs.Alone.{bytes_of_arena, with_bytes};
 ghost use Rattle.fm_base.specs.View.{given_in};
 ghost use Rattle.fm_calls.specs.Told.{view_of_pass};
+ghost use Rattle.fm_gate.specs.Learnt.{AllBusy};
 ghost use Rattle.fm_load.specs.Held.{HoldsThen, IsEmpty, IsHeld, OnlyIn, words_at};
 ghost use Rattle.fm_pool_facts.specs.Views.{IsKnown, limit_of, state_in};
-ghost use Rattle.fm_pooled.specs.Stocked.{CanStock, IsLone, IsOpened, IsStocked, KeepsArenas, bytes_in_pool, pool_passes};
+ghost use Rattle.fm_pooled.specs.Stocked.{CanStock, HasPagesFor, IsLone, IsOpened, IsStocked, bytes_in_pool, pool_passes};
 
 use fm_arena::Shared;
 use fm_base::{ArenaId, Kind};
-use fm_gate::open_arena;
-use fm_load::{allocate_held, put_held};
+use fm_gate::{allocate, open_arena};
+use fm_load::put_held;
 use fm_rule::{Pass, Pool};
 use fm_segment::Segment;
 use std::sync::Wait;
 
 /// Puts the bytes into an arena of their own, from its start on, by the pool's first pass while no other was drawn.
 pub fn stock<R: Wait>(rt: &R, pool: &Pool, mut pass: Pass, bytes: &[u8]) -> (Pass, Segment)
-    requires can { CanStock pool.now pass }
+    requires can { CanStock pool.now pass (length bytes.now) }
     requires room { length bytes.now ≤ limit_of pool.now.shape }
     requires passes { pool.now.shape.passes ≡ pool_passes }
     ensures stocked { IsStocked pool.now result.0 result.1 }
     ensures bytes { bytes_in_pool result.0 result.1 ≡ bytes.now }
-    ensures none_gathered { result.0.gathered ≡ [] }
-    ensures unknown { ¬ (IsKnown pass result.1.arena) }
-    ensures keeps { KeepsArenas pass result.0 }
+    ensures lone { IsLone pool.now result.0 }
+    // What else it knows it knew.
+    ensures only { (b : ArenaId) → IsKnown result.0 b → (b ≡ result.1.arena) ⊎ IsKnown pass b }
 {
     let size = bytes.len() as u64;
     let arena = opened(rt, pool, &mut pass);
-    let pass = allocated(rt, pool, pass, arena, size);
+    allocated(rt, pool, &mut pass, arena, size);
     let pass = filled(rt, pool, pass, arena, bytes);
     (pass, Segment::of(arena, 0, size))
 }
 
-/// Opens a shared arena, for which there is a slot.
+/// Opens a shared arena, for which there is a slot. It has no page yet.
 pub fn opened<R: Wait>(rt: &R, pool: &Pool, pass: &mut Pass) -> ArenaId
-    requires { CanStock pool.now pass.old }
+    requires lone { IsLone pool.now pass.old }
+    requires free { ¬ (AllBusy pass.old) }
     ensures { IsOpened pool.now pass.old pass.new result }
 {
     match open_arena(rt, pool, pass, Kind::Shared) {
@@ -44,19 +46,19 @@ pub fn opened<R: Wait>(rt: &R, pool: &Pool, pass: &mut Pass) -> ArenaId
     }
 }
 
-/// Has the arena give its first bytes.
-pub fn allocated<R: Wait>(rt: &R, pool: &Pool, pass: Pass, arena: ArenaId, size: u64) -> Pass
-    requires lone { IsLone pool.now pass }
-    requires empty { IsEmpty (view_of_pass pass) arena }
+/// Has the arena give its first bytes, for which there are pages.
+pub fn allocated<R: Wait>(rt: &R, pool: &Pool, pass: &mut Pass, arena: ArenaId, size: u64)
+    requires lone { IsLone pool.now pass.old }
+    requires empty { IsEmpty (view_of_pass pass.old) arena }
     requires room { size ≤ limit_of pool.now.shape }
-    ensures lone { IsLone pool.now result }
-    ensures held { HoldsThen (view_of_pass result) arena size (words_at (view_of_pass pass) arena) }
-    ensures elsewhere { OnlyIn arena (state_in pass) (state_in result) }
+    requires pages { HasPagesFor pass.old size }
+    ensures lone { IsLone pool.now pass.new }
+    ensures held { HoldsThen (view_of_pass pass.new) arena size (words_at (view_of_pass pass.old) arena) }
+    ensures elsewhere { OnlyIn arena (state_in pass.old) (state_in pass.new) }
 {
-    let mut memory = Shared::new(pool, pass);
-    match allocate_held(rt, &mut memory, arena, size) {
-        Ok(_) => memory.into_pass(),
-        // There is room, and all words are the arena's from the first.
+    match allocate(rt, pool, pass, arena, size, 8) {
+        Ok(_) => {}
+        // There is room, and a page for each part of it.
         Err(_) => unreachable!(),
     }
 }

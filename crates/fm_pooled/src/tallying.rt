@@ -1,8 +1,8 @@
-ghost use Rattle.std.specs.Prelude.{◌≡◌, ◌%◌, ◌<◌, ◌≤◌, length, IfOk};
+ghost use Rattle.std.specs.Prelude.{◌≡◌, ◌%◌, ◌<◌, ◌≤◌, [], length, IfOk};
 ghost use Rattle.fm_pooled.specs.Asking.{Asked, HasPasses};
 ghost use Rattle.fm_pooled.specs.Shown.{ShowsQuery};
-ghost use Rattle.fm_pooled.specs.Stocked.{CanStock, IsLone, IsStocked, bytes_in_pool};
-ghost use Rattle.fm_pooled.specs.Tallied.{CanOpenTwo, HasRoomForCounts, IsBeside};
+ghost use Rattle.fm_pooled.specs.Stocked.{IsStocked, bytes_in_pool};
+ghost use Rattle.fm_pooled.specs.Tallied.{CanOpenSecond, IsBeside};
 ghost use Rattle.fm_records.specs.Answers.{answer};
 ghost use Rattle.fm_workers.specs.Counts.{AreCounts, IsTally, listed};
 
@@ -42,13 +42,14 @@ pub fn tally<R: Threads + Wait + Sync, G: Gate>(
     ensures counts { IfOk result (λ r. AreCounts (listed (answer q.now bytes.items)) r.0) }
     ensures shows { IfOk result (λ r. ShowsQuery r.1 q.now bytes.items) }
 {
-    let shape = shape_for((bytes.len() as u64).max(COUNTS_SIZE), 2);
+    let shape = shape_for(bytes.len() as u64, 2);
     let Ok((pool, pass)) = Pool::make(alloc, shape) else {
         return Err(AllocError);
     };
-    let (pass, counts) = with_counts(rt, &pool, pass);
-    let (mut pass, segment) = stock(rt, &pool, pass, &bytes);
+    let (pass, segment) = stock(rt, &pool, pass, &bytes);
     drop(bytes);
+    // The counts come last: what the passes add to lies apart from the words that they all read.
+    let (mut pass, counts) = with_counts(rt, &pool, pass, &segment);
     let found = count(
         rt, alloc, &pool, &mut pass, &segment, &counts, q, threads, gate,
     )?;
@@ -56,14 +57,17 @@ pub fn tally<R: Threads + Wait + Sync, G: Gate>(
     Ok((found, finished))
 }
 
-/// Opens an arena for the counts, which gives just them.
-fn with_counts<R: Wait>(rt: &R, pool: &Pool, mut pass: Pass) -> (Pass, Segment)
-    requires { CanOpenTwo pool.now pass }
-    ensures can { CanStock pool.now result.0 }
-    ensures counts { HasRoomForCounts result.0 result.1 }
+/// Opens an arena for the counts beside the records, which gives just them.
+fn with_counts<R: Wait>(rt: &R, pool: &Pool, mut pass: Pass, s: &Segment) -> (Pass, Segment)
+    requires stocked { IsStocked pool.now pass s.now }
+    requires second { CanOpenSecond pool.now pass s.now.arena }
+    ensures stocked { IsStocked pool.now result.0 s.now }
+    ensures bytes { bytes_in_pool result.0 s.now ≡ bytes_in_pool pass s.now }
+    ensures beside { IsBeside result.0 s.now result.1 }
+    ensures none_gathered { result.0.gathered ≡ [] }
 {
     let arena = opened(rt, pool, &mut pass);
-    let pass = allocated(rt, pool, pass, arena, COUNTS_SIZE);
+    allocated(rt, pool, &mut pass, arena, COUNTS_SIZE);
     (pass, Segment::of(arena, 0, COUNTS_SIZE))
 }
 

@@ -1,5 +1,5 @@
 -- What a step needs is what the table asks, and what a step tells is that it stepped.
-use Rattle.std.proofs.Common.{◌≡◌, ℕ, ◌+◌, ◌/◌, ◌^◌, ◌==◌, List, [], ◌∷◌, ◌++◌, length, set, slice_index, All, Option, Some, None, inl, inr, sym, refl, ap, ◌∙◌, subst}
+use Rattle.std.proofs.Common.{◌≡◌, ℕ, ◌+◌, ◌*◌, ◌/◌, ◌^◌, ◌<◌, ◌==◌, if◌then◌else◌, List, [], ◌∷◌, ◌++◌, length, set, slice_index, All, Option, Some, None, inl, inr, sym, refl, ap, ◌∙◌, subst}
 use Rattle.std.proofs.lemmas.List.{append-nil}
 use Rattle.std.proofs.lemmas.List.Elements.{All-nil, All-cons}
 use Rattle.atomic_table.specs.Table.{State, Me, keeps, Allows}
@@ -10,7 +10,7 @@ use Rattle.fm_base.specs.Calls.{Entry}
 use Rattle.fm_base.specs.Histories.{made_by}
 use Rattle.fm_base.specs.Finds.{Find, Gathered, Close}
 use Rattle.fm_pool_facts.specs.declared.step.Step.{Step}
-use Rattle.fm_pool_facts.specs.declared.step.Step.TheVariants.{Draws, Marks, Checks, Loads, Stores, SwapsIf, Adds, Allocates, Holds, Unholds, Backs, Unmarks, Shuts, Visits, TakesSlot, LearnsGeneration, Opens, Wipes, ResetsGiven, Retires, GivesSlot, Looks}
+use Rattle.fm_pool_facts.specs.declared.step.Step.TheVariants.{Draws, Marks, Checks, Loads, Stores, SwapsIf, Adds, Allocates, Holds, Unholds, Backs, Unmarks, Shuts, Visits, TakesSlot, LearnsGeneration, Opens, Claims, Maps, ReadsMap, SweepsGiven, SweepsMap, Unmaps, Wipes, GivesPage, ReturnsPage, ResetsGiven, Retires, GivesSlot, Looks}
 use Rattle.fm_pool_facts.specs.Views.{Met, View, In, IsSound, all_gathered, brought}
 use Rattle.fm_pool_facts.specs.Words.{alive_holds, inside_found, shut_found, hold_found}
 use Rattle.fm_pool_facts.specs.Hands.{Hand, nothing, learnt, takes, hand_taken, hand_retired}
@@ -18,9 +18,12 @@ use Rattle.fm_pool_facts.specs.Holds.{grips, with_grips, holds_after, handles_wi
 use Rattle.fm_pool_facts.specs.Handles.{giving, given_back}
 use Rattle.fm_pool_facts.specs.Closes.{begun, visited, dropped, visit_found, closes_after, sweeps_after}
 use Rattle.fm_pool_facts.specs.Steps.{Stepped, part, number_drawn, draws}
-use Rattle.fm_pool_facts.specs.Facts.{Rule, cell_at}
+use Rattle.fm_pool_facts.specs.Facts.{Rule}
+use Rattle.fm_pool_facts.specs.Parts.{Mapping, Swept, unread, wiping, reads_after, reads_mapped, pages_mapped, pages_taken, swept_read}
+use Rattle.fm_rule.specs.declared.pass.Part.{Part}
 use Rattle.fm_pool_facts.specs.Moves.{Gives, Tells, MayStep, MayStore}
-use Rattle.fm_rule.specs.Views.{homed, Keeps}
+use Rattle.fm_words.specs.Places.{at, page_word}
+use Rattle.fm_rule.specs.Views.{homed, IsPart, Keeps}
 
 abbrev pub Keeping : Shape → State (Unit {0}) View → Type 0
 Keeping z s = Rule z s.words s.views
@@ -73,10 +76,15 @@ alike_but : (v : View) (i m : Option ArenaId) (cs ss : List Close) (hand : Hand)
 alike_but v i m cs ss hand hs gs =
     record { home = refl; shape = refl; live = refl; caller = refl; seen = refl; met = refl; finds = refl; gathered = refl }
 
+-- and these
+alike_pages : (v : View) (i : Option ArenaId) (ss : List Close) (w : Swept) (ps : List ℕ) (ms : List Mapping)
+    → Alike v (record v { inside = i; sweeps = ss; swept = w; pages = ps; reads = ms })
+alike_pages v i ss w ps ms = record { home = refl; shape = refl; live = refl; caller = refl; seen = refl; met = refl; finds = refl; gathered = refl }
+
 pub same_part : (s : Step) (v : View) (x : ℕ) → Alike v (part s v x)
 unfolding part
 same_part (Marks a) v x = alike_but v v.inside (Some a) v.closes v.sweeps v.hand v.holds v.handles
-same_part (Checks a) v x = alike_but v (inside_found a (alive_holds a x)) v.mark v.closes v.sweeps v.hand v.holds v.handles
+same_part (Checks a) v x = alike_pages v (inside_found a (alive_holds a x)) v.sweeps v.swept v.pages []
 same_part (Loads w) v x = alike_none v
 same_part (Stores w y) v x = alike_none v
 same_part (SwapsIf w o y) v x = alike_none v
@@ -96,7 +104,15 @@ same_part (Visits a k) v x =
 same_part (Opens a) v x = alike_but v v.inside v.mark v.closes v.sweeps nothing v.holds (handles_with a v.handles)
 same_part (TakesSlot e b) v x = alike_but v v.inside v.mark v.closes v.sweeps (hand_taken (takes e b x) b v.hand) v.holds v.handles
 same_part (LearnsGeneration s) v x = alike_but v v.inside v.mark v.closes v.sweeps (learnt s (x / 2 ^ 32)) v.holds v.handles
-same_part (Wipes a w) v x = alike_but v v.inside v.mark v.closes (visited a v.sweeps) v.hand v.holds v.handles
+same_part (Claims e b) v x = alike_pages v v.inside v.sweeps v.swept (pages_taken (takes e b x) b v.pages) v.reads
+same_part (Maps a i p) v x = alike_pages v v.inside v.sweeps v.swept (pages_mapped x v.pages) (reads_mapped i p x v.reads)
+same_part (ReadsMap a i) v x = alike_pages v v.inside v.sweeps v.swept v.pages (reads_after i x v.reads)
+same_part (SweepsGiven a) v x = alike_none v
+same_part (SweepsMap a i) v x = alike_pages v v.inside (if x == 0 then visited a v.sweeps else v.sweeps) (swept_read a i x) v.pages v.reads
+same_part (Unmaps a i p) v x = alike_pages v v.inside v.sweeps (wiping a i p 0) v.pages v.reads
+same_part (Wipes a i p w) v x = alike_pages v v.inside v.sweeps (wiping a i p (w + 1)) v.pages v.reads
+same_part (GivesPage p) v x = alike_pages v v.inside v.sweeps v.swept [] v.reads
+same_part (ReturnsPage a p) v x = alike_pages v v.inside (visited a v.sweeps) unread v.pages v.reads
 same_part (ResetsGiven a) v x = alike_but v v.inside v.mark v.closes (visited a v.sweeps) v.hand v.holds v.handles
 same_part (Retires a) v x =
     let h = hand_retired (a.generation + 1 == v.shape.generations) a.slot v.hand in
@@ -122,9 +138,15 @@ sound_homed home v s = record {
   fits = s.fits;
   hand = s.hand;
   swept = λ c i. let o = s.swept c i in record { known = o.known; life = o.life; empty = o.empty };
+  loans = s.loans;
+  unlent = s.unlent;
+  covered = s.covered;
+  reads = s.reads;
+  own_pages = s.own_pages;
+  swept_page = s.swept_page;
+  few_left = s.few_left;
   held = s.held;
   own_handles = s.own_handles;
-  own_words = s.own_words;
   none_left = s.none_left;
   drawn = λ n e.
       let y = s.drawn n e in record { later = y.later; number = y.number; other = y.other; silent = y.silent; outside = y.outside };
@@ -171,17 +193,28 @@ still_counted count v w e m g =
     e ∙ ap (λ (gs : List Gathered). length gs) (sym (g ∙ (ap (λ (xs : List Met). v.gathered ++ brought xs) m ∙ append-nil v.gathered)))
 
 -- after a step that leaves the arena that it is inside
-pub keeps_on : (c : Caller) (i : Option ArenaId) (from count : ℕ) (v p w : View) (es : List Entry) (fs : ℕ → List Find) (held held' : List (ℕ × Unit {0}))
-    → Keeps c i from count (v, held) → Alike v p → p.inside ≡ v.inside
-    → Gives v p es fs w → held' ≡ held → Keeps c i from count (w, held')
-keeps_on c i from count v p w es fs held held' k s ins g e =
+pub part_on : (v w : View) (part : Part) → w.shape ≡ v.shape → ((x : Mapping) → In x v.reads → In x w.reads) → IsPart v part → IsPart w part
+part_on v w part sh more k = record {
+  mapping = k.mapping;
+  read = more k.mapping k.read;
+  low = subst (λ (z : Shape). k.mapping.page < z.pages) (sym sh) k.low;
+  words = k.words ∙ ap (λ (z : Shape). z.page_words) (sym sh);
+  first = k.first ∙ ap (λ (z : Shape). k.mapping.part * z.page_words) (sym sh);
+  from = k.from ∙ ap (λ (z : Shape). at z (page_word k.mapping.page 0)) (sym sh);
+}
+
+pub keeps_on : (c : Caller) (i : Option ArenaId) (part : Part) (count : ℕ) (v p w : View) (es : List Entry) (fs : ℕ → List Find)
+    (held held' : List (ℕ × Unit {0}))
+    → Keeps c i part count (v, held) → Alike v p → p.inside ≡ v.inside → ((x : Mapping) → In x v.reads → In x p.reads)
+    → Gives v p es fs w → held' ≡ held → Keeps c i part count (w, held')
+keeps_on c i part count v p w es fs held held' k s ins more g e =
     let inside : w.inside ≡ v.inside = ap (λ (x : View). x.inside) g.is ∙ ins in
     let shape : w.shape ≡ v.shape = ap (λ (x : View). x.shape) g.is ∙ s.shape in
     record {
       live = ap (λ (x : View). x.live) g.is ∙ (s.live ∙ k.live);
       caller = k.caller ∙ sym (ap (λ (x : View). x.caller) g.is ∙ s.caller);
       inside = k.inside ∙ sym inside;
-      cells = λ a q. k.cells a (sym inside ∙ q) ∙ ap (λ (z : Shape). cell_at z a.slot 0) (sym shape);
+      part_is = λ l. part_on v w part shape (λ x j. subst (In x) (sym (ap (λ (u : View). u.reads) g.is)) (more x j)) (k.part_is l);
       met = ap (λ (x : View). x.met) g.is;
       counted = still_counted count v w k.counted k.met (ap (λ (x : View). x.gathered) g.is ∙ (λ j. s.gathered j ++ brought (s.met j)));
       sound = g.sound;

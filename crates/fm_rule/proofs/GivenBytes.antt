@@ -1,21 +1,22 @@
 -- The bytes of an arena stand in the words of its slot.
-use Rattle.std.proofs.Common.{◌≡◌, ◌≢◌, Some, None, ℕ, ◌+◌, ◌*◌, ◌/◌, ◌%◌, ◌<◌, ◌≤◌, List, [], ◌∷◌, ◌++◌, length, take, get_or, sym, ap, ◌∙◌, subst, arith, mul_assoc}
-use Rattle.fm_words.specs.Places.{at, page_word, pages_from, session, given as given_place}
+use Rattle.std.proofs.Common.{◌≡◌, ◌≢◌, Some, None, ℕ, ◌+◌, ◌*◌, ◌/◌, ◌%◌, ◌<◌, ◌≤◌, List, [], ◌∷◌, ◌++◌, length, take, get_or, sym, ap, ◌∙◌, subst, arith}
+use Rattle.fm_words.specs.Places.{at, map, page_word, words, session, given as given_place}
 use Rattle.fm_pool_steps.proofs.Bearing.{shown_alive, shown_unalive}
 use Rattle.fm_pool_facts.specs.Words.{alive_holds}
-use Rattle.fm_rule.proofs.Knowing.{cell_from}
 use Rattle.fm_words.specs.Shapes.{IsValid}
 use Rattle.std.proofs.lemmas.List.{take_more}
 use Rattle.fm_words.specs.declared.shape.Shape.{Shape}
 use Rattle.fm_base.specs.declared.arena_id.ArenaId.{ArenaId}
-use Rattle.fm_base.specs.Arenas.{Alive, Ended, arena_of}
+use Rattle.fm_base.specs.Arenas.{Alive, Ended, arena_of, word_in}
 use Rattle.fm_base.specs.Histories.{IsWhole}
 use Rattle.fm_base.proofs.Growing.{there_by_life}
 use Rattle.fm_base.proofs.Wholeness.{whole_always}
 use Rattle.fm_bytes.specs.Words.{bytes_in, byte_of}
 use Rattle.fm_bytes.proofs.Words.{length-bytes_in, get_or-bytes_in}
 use Rattle.fm_pool_facts.specs.Views.{Fits, span, limit_of}
-use Rattle.fm_pool_facts.specs.Facts.{cell_at}
+use Rattle.fm_words.specs.Maps.{map_word}
+use Rattle.std.proofs.Math.Nat.{mod-lt}
+use Rattle.fm_rule.proofs.Knowing.{map_below, page_below}
 use Rattle.fm_rule.specs.Finishing.{FinishedView, IsFinished}
 use Rattle.fm_rule.specs.GivenBytes.{HasBytes, given_bytes, state_of}
 
@@ -37,7 +38,7 @@ module _ (f : FinishedView) (i : IsFinished f) (a : ArenaId) (has : HasBytes f a
 
   -- one byte more
   pub one_byte : (k b : ℕ) → k < (arena_of (state_of f) a).given
-      → b ≡ byte_of (get_or f.words (cell_at f.shape a.slot (k / 8)) 0) (k % 8)
+      → b ≡ byte_of (word_in (state_of f) a (k / 8)) (k % 8)
       → take k (bytes_in (arena_of (state_of f) a).words) ++ b ∷ [] ≡ take (k + 1) (bytes_in (arena_of (state_of f) a).words)
   one_byte k b l is =
       let words : List ℕ = (arena_of (state_of f) a).words in
@@ -47,17 +48,40 @@ module _ (f : FinishedView) (i : IsFinished f) (a : ArenaId) (has : HasBytes f a
       let all = length-bytes_in words in
       let there : k < length (bytes_in words) = omega arith in
       let byte : get_or (bytes_in words) k 0 ≡ b =
-      get_or-bytes_in words k below ∙ (ap (λ w. byte_of w (k % 8)) (has.shows.word (k / 8) low) ∙ sym is) in
+      get_or-bytes_in words k below ∙ sym is in
       sym (take_more (bytes_in words) k 0 there ∙ ap (λ x. take k (bytes_in words) ++ x ∷ []) byte)
 
--- where the words of a slot begin, by pages
-pub slot_from : (z : Shape) (s p : ℕ) → p ≡ at z (page_word (s * z.reach) 0) → p ≡ cell_at z s 0
-unfolding at cell_at
-slot_from z s p e = e ∙ ap (λ (n : ℕ). pages_from z + (n + 0)) (mul_assoc s z.reach z.page_words)
+-- where a byte that was given stands, in a shape that is the same
+pub record Stands (f : FinishedView) (a : ArenaId) (k : ℕ) (y : Shape) (size : ℕ) : Type 0 where
+  pub slot : a.slot < y.slots
+  pub part : k / 8 / size < y.reach
+  pub few : y.reach ≤ 64
+  pub page : ℕ
+  pub low : page < y.pages
+  pub in_page : k / 8 % size < y.page_words
+  pub map_low : (p : ℕ) → p ≡ at y (map a.slot (k / 8 / size)) → p < words f.shape
+  pub map_is : (p : ℕ) → p ≡ at y (map a.slot (k / 8 / size)) → get_or f.words p 0 ≡ map_word page
+  pub page_low : (p : ℕ) → p ≡ at y (page_word page (k / 8 % size)) → p < words f.shape
+  pub word : (p : ℕ) → p ≡ at y (page_word page (k / 8 % size)) → get_or f.words p 0 ≡ word_in (state_of f) a (k / 8)
 
--- the place of a word of a slot, in a shape that is the same
-pub word_place : (y z : Shape) → y ≡ z → (s w p : ℕ) → p ≡ at y (page_word (s * y.reach) 0) → p + w ≡ cell_at z s w
-word_place y z same s w p e = ap (λ (n : ℕ). n + w) (slot_from y s p e) ∙ (cell_from y s w ∙ ap (λ (x : Shape). cell_at x s w) same)
+pub stands : (f : FinishedView) → IsFinished f → (a : ArenaId) → HasBytes f a → (k : ℕ) → k < (arena_of (state_of f) a).given → (y : Shape) → y ≡ f.shape
+    → (size : ℕ) → size ≡ y.page_words → Stands f a k y size
+stands f i a has k l y same size is =
+    let z : Shape = f.shape in
+    let s = has.shows.word (k / 8) (omega arith) in
+    let base : Stands f a k z z.page_words = record {
+      slot = has.fits.slot;
+      part = s.part;
+      few = (let p = i.valid.reach.1 in let q = i.valid.pages.1 in omega arith);
+      page = s.page;
+      low = s.low;
+      in_page = mod-lt (k / 8) i.valid.page_words.0;
+      map_low = λ p e. map_below z a.slot (k / 8 / z.page_words) p has.fits.slot s.part e;
+      map_is = λ p e. ap (λ (n : ℕ). get_or f.words n 0) e ∙ s.named;
+      page_low = λ p e. page_below z s.page (k / 8 % z.page_words) p s.low (mod-lt (k / 8) i.valid.page_words.0) e;
+      word = λ p e. ap (λ (n : ℕ). get_or f.words n 0) e ∙ sym s.word;
+    } in
+    subst (λ (x : Shape × ℕ). Stands f a k x.0 x.1) (λ j. (sym same j, sym (is ∙ ap (λ (x : Shape). x.page_words) same) j)) base
 
 pub valid_in : (y z : Shape) → y ≡ z → IsValid y → IsValid z
 valid_in y z same = subst IsValid same

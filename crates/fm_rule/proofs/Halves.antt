@@ -1,8 +1,7 @@
 -- A pass and the one that is split off from it, and a pass that another is gathered into.
-use Rattle.std.proofs.Common.{◌≡◌, ℕ, suc, ◌+◌, ◌<◌, Bool, true, false, if◌then◌else◌, List, [], ◌∷◌, ◌++◌, length, sym, refl, ap, ◌∙◌, subst, arith, inl, inr, Option, Some, None}
+use Rattle.std.proofs.Common.{◌≡◌, ℕ, suc, ◌+◌, ◌<◌, Bool, true, false, if◌then◌else◌, List, [], ◌∷◌, ◌++◌, length, sym, refl, ap, ◌∙◌, subst, arith, inl, inr, Option, Some, None, ⊎_elim}
 use Rattle.std.proofs.lemmas.List.{append-nil, length-append}
 use Rattle.std.proofs.lemmas.List.Elements.{filter-append}
-use Rattle.fm_words.specs.declared.shape.Shape.{Shape}
 use Rattle.fm_base.specs.declared.caller.Caller.{Caller}
 use Rattle.fm_base.specs.declared.arena_id.ArenaId.{ArenaId}
 use Rattle.fm_base.specs.Arenas.{IsUnderWay}
@@ -14,13 +13,14 @@ use Rattle.fm_pool_facts.specs.declared.step.Step.TheVariants.{Looks}
 use Rattle.fm_pool_facts.specs.Views.{Met, View, In, IsNew, IsSound, is_automatic, brought, pass_of, state_in}
 use Rattle.fm_pool_facts.specs.Splits.{view_of, number_or, drawn_left, drawn_right, as_gathered, gather, IsAtRest}
 use Rattle.fm_pool_facts.specs.Steps.{part, entries, noted}
-use Rattle.fm_pool_facts.specs.Facts.{Begins, cell_at}
+use Rattle.fm_pool_facts.specs.Facts.{Begins}
+use Rattle.fm_rule.specs.declared.pass.Part.{Part}
+use Rattle.fm_rule.proofs.Allowed.{part_on, sound_homed, all_of_in}
 use Rattle.fm_pool_facts.specs.Moves.{Gives, Tells}
 use Rattle.fm_pool_facts.proofs.Keeping.{none_added}
 use Rattle.fm_rule.specs.Views.{homed, Keeps}
 use Rattle.fm_rule.specs.Draws.{Takes, Drawn, CanGather, Gathers}
 use Rattle.fm_rule.specs.declared.pool.Pool.{Pool}
-use Rattle.fm_rule.proofs.Allowed.{sound_homed, all_of_in}
 
 -- ---- the drawer and the new pass
 
@@ -36,9 +36,15 @@ left_sound v s = record {
   fits = s.fits;
   hand = s.hand;
   swept = λ c i. let o = s.swept c i in record { known = o.known; life = o.life; empty = o.empty };
+  loans = s.loans;
+  unlent = s.unlent;
+  covered = s.covered;
+  reads = s.reads;
+  own_pages = s.own_pages;
+  swept_page = s.swept_page;
+  few_left = s.few_left;
   held = s.held;
   own_handles = s.own_handles;
-  own_words = s.own_words;
   none_left = s.none_left;
   drawn = λ n e. absurd (cc);
   few = s.few;
@@ -73,9 +79,15 @@ right_sound v n e s =
       outside = λ a w. absurd (y.outside a (subst (λ (k : ℕ). IsUnderWay (state_in v) (pass_of k) a) is w));
       fits = s.fits;
       swept = λ c i. absurd i;
+      loans = s.loans;
+      unlent = λ c i. absurd i;
+      covered = s.covered;
+      reads = λ a m q. absurd (cc);
+      own_pages = λ p i. absurd i;
+      swept_page = λ a i p w q. absurd (cc);
+      few_left = λ f. ⊎_elim (λ i. absurd i) (λ (g : (g : Gathered) × In g [] × In f g.finds). absurd g.1);
       held = λ a i. absurd (none_gripped a (is_automatic a.kind) i);
       own_handles = λ a k. subst (λ (es : List Entry). AreLeft a es 0) (sym (ap (λ (k : ℕ). made_by (pass_of k) v.seen) is ∙ y.silent)) refl;
-      own_words = s.own_words;
       none_left = λ w. absurd (cc);
       hand = λ x i. absurd i;
       drawn = λ k q. absurd (cc);
@@ -90,25 +102,25 @@ right_sound v n e s =
 abbrev Held : Type 0
 Held = List (ℕ × Unit {0})
 
-pub left_keeps : (c : Caller) (i : Option ArenaId) (from count : ℕ) (v : View) (held : Held) → Keeps c i from count (v, held)
-    → Keeps c i from count (drawn_left v, held)
-left_keeps c i from count v held k = record {
+pub left_keeps : (c : Caller) (i : Option ArenaId) (part' : Part) (count : ℕ) (v : View) (held : Held) → Keeps c i part' count (v, held)
+    → Keeps c i part' count (drawn_left v, held)
+left_keeps c i part' count v held k = record {
   live = k.live;
   caller = k.caller;
   inside = k.inside;
-  cells = k.cells;
+  part_is = λ l. part_on v (drawn_left v) part' refl (λ x j. j) (k.part_is l);
   met = k.met;
   counted = k.counted;
   sound = left_sound v k.sound;
   empty = k.empty;
 }
 
-pub right_keeps : (n : ℕ) (v : View) → v.drawn ≡ Some n → IsSound v → Keeps (pass_of n) None 0 0 (drawn_right v, [])
+pub right_keeps : (n : ℕ) (v : View) → v.drawn ≡ Some n → IsSound v → Keeps (pass_of n) None (record { first = 0; words = 0; from = 0 }) 0 (drawn_right v, [])
 right_keeps n v e s = record {
   live = refl;
   caller = λ i. pass_of (ap number_or (sym e) i);
   inside = refl;
-  cells = λ a q. absurd (cc);
+  part_is = λ l. absurd (omega arith);
   met = refl;
   counted = refl;
   sound = right_sound v n e s;
@@ -158,6 +170,7 @@ at_rest now v home is l m can = record {
   closes = ap (λ (x : View). x.closes) is ∙ can.no_close;
   sweeps = ap (λ (x : View). x.sweeps) is ∙ can.no_sweep;
   holds = ap (λ (x : View). x.holds) is ∙ can.no_hold;
+  pages = ap (λ (x : View). x.pages) is ∙ can.no_page;
   handles = ap (λ (x : View). x.handles) is ∙ can.no_handle;
   met = m;
 }
@@ -217,9 +230,9 @@ module _ (v o u w : View) (x : ℕ) (is : u ≡ gather v o) (met : v.met ≡ [])
       gathered_is' : w.gathered ≡ v.gathered ++ ((as_gathered o ∷ o.gathered) ++ brought v.met)
       gathered_is' = ap (λ (y : View). y.gathered) told_of.is
 
-  pub gather_keeps : (c : Caller) (i : Option ArenaId) (from count more : ℕ) (held held' : Held) → Keeps c i from count (v, held)
-      → more ≡ length o.gathered → held' ≡ held → Keeps c i from (count + 1 + more) (w, held')
-  gather_keeps c i from count more held held' k m e =
+  pub gather_keeps : (c : Caller) (i : Option ArenaId) (part' : Part) (count more : ℕ) (held held' : Held) → Keeps c i part' count (v, held)
+      → more ≡ length o.gathered → held' ≡ held → Keeps c i part' (count + 1 + more) (w, held')
+  gather_keeps c i part' count more held held' k m e =
       let g = told_of in
       let inside : w.inside ≡ v.inside = ap (λ (y : View). y.inside) g.is in
       let shape : w.shape ≡ v.shape = ap (λ (y : View). y.shape) g.is in
@@ -230,7 +243,7 @@ module _ (v o u w : View) (x : ℕ) (is : u ≡ gather v o) (met : v.met ≡ [])
         live = ap (λ (y : View). y.live) g.is ∙ k.live;
         caller = k.caller ∙ sym (ap (λ (y : View). y.caller) g.is);
         inside = k.inside ∙ sym inside;
-        cells = λ a q. k.cells a (sym inside ∙ q) ∙ ap (λ (z : Shape). cell_at z a.slot 0) (sym shape);
+        part_is = λ l. part_on v w part' shape (λ x j. subst (In x) (sym (ap (λ (y : View). y.reads) g.is)) j) (k.part_is l);
         met = ap (λ (y : View). y.met) g.is;
         counted = (let a = count_is in let b = long in omega arith);
         sound = g.sound;

@@ -1,128 +1,149 @@
 -- What a pass keeps over each step.
-use Rattle.std.proofs.Common.{◌≡◌, ℕ, List, [], Option, Some, None, sym, refl, ap, ◌∙◌}
+use Rattle.std.proofs.Common.{◌≡◌, ◌==◌, if◌then◌else◌, Bool, true, false, ◌∷◌, ne_eqb, ℕ, zero, suc, ◌+◌, ◌-◌, ◌*◌, ◌<◌, inl, inr, arith, subst, List, [], Option, Some, None, sym, refl, ap, ◌∙◌}
 use Rattle.fm_words.specs.declared.shape.Shape.{Shape}
 use Rattle.fm_words.specs.Shapes.{IsValid}
 use Rattle.fm_base.specs.Arenas.{only_caller}
 use Rattle.fm_base.specs.declared.caller.Caller.{Caller}
 use Rattle.fm_base.specs.declared.arena_id.ArenaId.{ArenaId}
-use Rattle.fm_pool_facts.specs.declared.step.Step.TheVariants.{Draws, Marks, Checks, Loads, Stores, SwapsIf, Adds, Allocates, Holds, Unholds, Backs, Unmarks, Shuts, Visits, TakesSlot, LearnsGeneration, Opens, Wipes, ResetsGiven, Retires, GivesSlot}
-use Rattle.fm_pool_facts.specs.Views.{View}
+use Rattle.fm_pool_facts.specs.declared.step.Step.TheVariants.{Draws, Marks, Checks, Loads, Stores, SwapsIf, Adds, Allocates, Holds, Unholds, Backs, Unmarks, Shuts, Visits, TakesSlot, LearnsGeneration, Opens, Claims, Maps, ReadsMap, SweepsGiven, SweepsMap, Unmaps, Wipes, GivesPage, ReturnsPage, ResetsGiven, Retires, GivesSlot}
+use Rattle.fm_pool_facts.specs.Views.{View, In}
 use Rattle.fm_pool_facts.specs.Splits.{first_view}
 use Rattle.fm_pool_facts.specs.Words.{alive_holds, inside_found}
 use Rattle.fm_pool_facts.specs.Steps.{part, entries, noted, number_drawn, draws}
-use Rattle.fm_pool_facts.specs.Facts.{cell_at}
+use Rattle.fm_words.specs.Maps.{map_word}
+use Rattle.fm_words.specs.Places.{at, page_word}
+use Rattle.fm_pool_facts.specs.Parts.{Mapping, mapping_of, reads_after, reads_mapped}
+use Rattle.fm_rule.specs.declared.pass.Part.{Part}
 use Rattle.fm_pool_facts.specs.Moves.{Tells}
 use Rattle.fm_pool_steps.proofs.First.{first_sound}
-use Rattle.fm_rule.specs.Views.{Keeps}
-use Rattle.fm_rule.proofs.Allowed.{same_part, still_counted, keeps_on}
+use Rattle.fm_rule.specs.Views.{IsPart, Keeps}
+use Rattle.fm_rule.proofs.Allowed.{same_part, still_counted, part_on, keeps_on}
 
 abbrev Held : Type 0
 Held = List (ℕ × Unit {0})
+
+mapped_more : (b p x : ℕ) (ms : List Mapping) (y : Mapping) → In y ms → In y (reads_mapped b p x ms)
+mapped_more b p x ms y i = go (x == 0)
+  where
+    go : (c : Bool) → In y (if c then mapping_of b p ∷ ms else mapping_of b (x - 1) ∷ ms)
+    go true = inr i
+    go false = inr i
+
+read_more : (b x : ℕ) (ms : List Mapping) (y : Mapping) → In y ms → In y (reads_after b x ms)
+read_more b x ms y i = go (x == 0)
+  where
+    go : (c : Bool) → In y (if c then ms else mapping_of b (x - 1) ∷ ms)
+    go true = i
+    go false = inr i
+
+-- a word that isn't 0 adds its page
+read_adds : (b p x : ℕ) (ms : List Mapping) → x ≡ suc p → In (mapping_of b p) (reads_after b x ms)
+read_adds b p x ms e =
+    let n : (x == 0) ≡ false = ne_eqb x 0 (λ q. absurd (omega arith)) in
+    subst (λ (c : Bool). In (mapping_of b p) (if c then ms else mapping_of b (x - 1) ∷ ms)) (sym n)
+    (inl (ap (mapping_of b) (let h : p ≡ x - 1 = omega arith in h)))
 
 draws_inside : (o : Option ℕ) (e x : ℕ) (v : View) → (draws o e x v).inside ≡ v.inside
 draws_inside None e x v = refl
 draws_inside (Some n) e x v = refl
 
-module _ (c : Caller) (i : Option ArenaId) (from count : ℕ) (v w : View) (held held' : Held) (k : Keeps c i from count (v, held))
+draws_reads : (o : Option ℕ) (e x : ℕ) (v : View) (y : Mapping) → In y v.reads → In y (draws o e x v).reads
+draws_reads None e x v y i = i
+draws_reads (Some n) e x v y i = i
+
+module _ (c : Caller) (i : Option ArenaId) (part' : Part) (count : ℕ) (v w : View) (held held' : Held) (k : Keeps c i part' count (v, held))
     (e : held' ≡ held) where
-  pub mark_keeps : (a : ArenaId) (x : ℕ) → Tells (Marks a) v x w → Keeps c i from count (w, held')
+  pub mark_keeps : (a : ArenaId) (x : ℕ) → Tells (Marks a) v x w → Keeps c i part' count (w, held')
   unfolding part entries noted
   mark_keeps a x t =
-      keeps_on c i from count v (part (Marks a) v x) w (entries (Marks a) v x) (noted (Marks a) v x) held held' k
-      (same_part (Marks a) v x) refl t.gives e
+      keeps_on c i part' count v (part (Marks a) v x) w (entries (Marks a) v x) (noted (Marks a) v x) held held' k
+      (same_part (Marks a) v x) refl (λ x j. j) t.gives e
 
-  pub load_keeps : (b x : ℕ) → Tells (Loads b) v x w → Keeps c i from count (w, held')
+  pub load_keeps : (b x : ℕ) → Tells (Loads b) v x w → Keeps c i part' count (w, held')
   unfolding part entries noted
   load_keeps b x t =
-      keeps_on c i from count v (part (Loads b) v x) w (entries (Loads b) v x) (noted (Loads b) v x) held held' k
-      (same_part (Loads b) v x) refl t.gives e
+      keeps_on c i part' count v (part (Loads b) v x) w (entries (Loads b) v x) (noted (Loads b) v x) held held' k
+      (same_part (Loads b) v x) refl (λ x j. j) t.gives e
 
-  pub store_keeps : (b y x : ℕ) → Tells (Stores b y) v x w → Keeps c i from count (w, held')
+  pub store_keeps : (b y x : ℕ) → Tells (Stores b y) v x w → Keeps c i part' count (w, held')
   unfolding part entries noted
   store_keeps b y x t =
-      keeps_on c i from count v (part (Stores b y) v x) w (entries (Stores b y) v x) (noted (Stores b y) v x) held held' k
-      (same_part (Stores b y) v x) refl t.gives e
+      keeps_on c i part' count v (part (Stores b y) v x) w (entries (Stores b y) v x) (noted (Stores b y) v x) held held' k
+      (same_part (Stores b y) v x) refl (λ x j. j) t.gives e
 
-  pub swap_keeps : (b o y x : ℕ) → Tells (SwapsIf b o y) v x w → Keeps c i from count (w, held')
+  pub swap_keeps : (b o y x : ℕ) → Tells (SwapsIf b o y) v x w → Keeps c i part' count (w, held')
   unfolding part entries noted
   swap_keeps b o y x t =
-      keeps_on c i from count v (part (SwapsIf b o y) v x) w (entries (SwapsIf b o y) v x) (noted (SwapsIf b o y) v x) held held' k
-      (same_part (SwapsIf b o y) v x) refl t.gives e
+      keeps_on c i part' count v (part (SwapsIf b o y) v x) w (entries (SwapsIf b o y) v x) (noted (SwapsIf b o y) v x) held held' k
+      (same_part (SwapsIf b o y) v x) refl (λ x j. j) t.gives e
 
-  pub add_keeps : (b n x : ℕ) → Tells (Adds b n) v x w → Keeps c i from count (w, held')
+  pub add_keeps : (b n x : ℕ) → Tells (Adds b n) v x w → Keeps c i part' count (w, held')
   unfolding part entries noted
   add_keeps b n x t =
-      keeps_on c i from count v (part (Adds b n) v x) w (entries (Adds b n) v x) (noted (Adds b n) v x) held held' k
-      (same_part (Adds b n) v x) refl t.gives e
+      keeps_on c i part' count v (part (Adds b n) v x) w (entries (Adds b n) v x) (noted (Adds b n) v x) held held' k
+      (same_part (Adds b n) v x) refl (λ x j. j) t.gives e
 
-  pub allocate_keeps : (b n y x : ℕ) → Tells (Allocates b n y) v x w → Keeps c i from count (w, held')
+  pub allocate_keeps : (b n y x : ℕ) → Tells (Allocates b n y) v x w → Keeps c i part' count (w, held')
   unfolding part entries noted
   allocate_keeps b n y x t =
-      keeps_on c i from count v (part (Allocates b n y) v x) w (entries (Allocates b n y) v x) (noted (Allocates b n y) v x) held held' k
-      (same_part (Allocates b n y) v x) refl t.gives e
+      keeps_on c i part' count v (part (Allocates b n y) v x) w (entries (Allocates b n y) v x) (noted (Allocates b n y) v x) held held' k
+      (same_part (Allocates b n y) v x) refl (λ x j. j) t.gives e
 
-  pub hold_keeps : (a : ArenaId) (b x : ℕ) → Tells (Holds a b) v x w → Keeps c i from count (w, held')
+  pub hold_keeps : (a : ArenaId) (b x : ℕ) → Tells (Holds a b) v x w → Keeps c i part' count (w, held')
   unfolding part entries noted
   hold_keeps a b x t =
-      keeps_on c i from count v (part (Holds a b) v x) w (entries (Holds a b) v x) (noted (Holds a b) v x) held held' k
-      (same_part (Holds a b) v x) refl t.gives e
+      keeps_on c i part' count v (part (Holds a b) v x) w (entries (Holds a b) v x) (noted (Holds a b) v x) held held' k
+      (same_part (Holds a b) v x) refl (λ x j. j) t.gives e
 
-  pub unhold_keeps : (a : ArenaId) (x : ℕ) → Tells (Unholds a) v x w → Keeps c i from count (w, held')
+  pub unhold_keeps : (a : ArenaId) (x : ℕ) → Tells (Unholds a) v x w → Keeps c i part' count (w, held')
   unfolding part entries noted
   unhold_keeps a x t =
-      keeps_on c i from count v (part (Unholds a) v x) w (entries (Unholds a) v x) (noted (Unholds a) v x) held held' k
-      (same_part (Unholds a) v x) refl t.gives e
+      keeps_on c i part' count v (part (Unholds a) v x) w (entries (Unholds a) v x) (noted (Unholds a) v x) held held' k
+      (same_part (Unholds a) v x) refl (λ x j. j) t.gives e
 
-  pub back_keeps : (a : ArenaId) (b x : ℕ) → Tells (Backs a b) v x w → Keeps c i from count (w, held')
+  pub back_keeps : (a : ArenaId) (b x : ℕ) → Tells (Backs a b) v x w → Keeps c i part' count (w, held')
   unfolding part entries noted
   back_keeps a b x t =
-      keeps_on c i from count v (part (Backs a b) v x) w (entries (Backs a b) v x) (noted (Backs a b) v x) held held' k
-      (same_part (Backs a b) v x) refl t.gives e
+      keeps_on c i part' count v (part (Backs a b) v x) w (entries (Backs a b) v x) (noted (Backs a b) v x) held held' k
+      (same_part (Backs a b) v x) refl (λ x j. j) t.gives e
 
-  pub draw_keeps : (b x : ℕ) → Tells (Draws b) v x w → Keeps c i from count (w, held')
+  pub draw_keeps : (b x : ℕ) → Tells (Draws b) v x w → Keeps c i part' count (w, held')
   unfolding part entries noted
   draw_keeps b x t =
-      keeps_on c i from count v (part (Draws b) v x) w (entries (Draws b) v x) (noted (Draws b) v x) held held' k
-      (same_part (Draws b) v x) (draws_inside (number_drawn v.shape b x) b x v) t.gives e
+      keeps_on c i part' count v (part (Draws b) v x) w (entries (Draws b) v x) (noted (Draws b) v x) held held' k
+      (same_part (Draws b) v x) (draws_inside (number_drawn v.shape b x) b x v) (draws_reads (number_drawn v.shape b x) b x v) t.gives e
 
-  pub shut_keeps : (a : ArenaId) (x : ℕ) → Tells (Shuts a) v x w → Keeps c i from count (w, held')
+  pub shut_keeps : (a : ArenaId) (x : ℕ) → Tells (Shuts a) v x w → Keeps c i part' count (w, held')
   unfolding part entries noted
   shut_keeps a x t =
-      keeps_on c i from count v (part (Shuts a) v x) w (entries (Shuts a) v x) (noted (Shuts a) v x) held held' k
-      (same_part (Shuts a) v x) refl t.gives e
+      keeps_on c i part' count v (part (Shuts a) v x) w (entries (Shuts a) v x) (noted (Shuts a) v x) held held' k
+      (same_part (Shuts a) v x) refl (λ x j. j) t.gives e
 
-  pub visit_keeps : (a : ArenaId) (b x : ℕ) → Tells (Visits a b) v x w → Keeps c i from count (w, held')
+  pub visit_keeps : (a : ArenaId) (b x : ℕ) → Tells (Visits a b) v x w → Keeps c i part' count (w, held')
   unfolding part entries noted
   visit_keeps a b x t =
-      keeps_on c i from count v (part (Visits a b) v x) w (entries (Visits a b) v x) (noted (Visits a b) v x) held held' k
-      (same_part (Visits a b) v x) refl t.gives e
+      keeps_on c i part' count v (part (Visits a b) v x) w (entries (Visits a b) v x) (noted (Visits a b) v x) held held' k
+      (same_part (Visits a b) v x) refl (λ x j. j) t.gives e
 
-  -- where it is inside, and where the words begin there
-  pub check_keeps : (a : ArenaId) (x : ℕ) (z : Shape) (i' : Option ArenaId) (from' : ℕ) → Tells (Checks a) v x w → v.shape ≡ z
-      → i' ≡ inside_found a (alive_holds a x) → from' ≡ cell_at z a.slot 0 → Keeps c i' from' count (w, held')
+  -- where it is inside, and that no part is known there
+  pub check_keeps : (a : ArenaId) (x : ℕ) (i' : Option ArenaId) → Tells (Checks a) v x w
+      → i' ≡ inside_found a (alive_holds a x) → Keeps c i' (record { first = 0; words = 0; from = 0 }) count (w, held')
   unfolding part entries noted
-  check_keeps a x z i' from' t sh ins fr =
+  check_keeps a x i' t ins =
       let g = t.gives in
-      let shape : w.shape ≡ v.shape = ap (λ (u : View). u.shape) g.is in
       let inside : w.inside ≡ inside_found a (alive_holds a x) = ap (λ (u : View). u.inside) g.is in
       record {
         live = ap (λ (u : View). u.live) g.is ∙ k.live;
         caller = k.caller ∙ sym (ap (λ (u : View). u.caller) g.is);
         inside = ins ∙ sym inside;
-        cells =
-            λ b q. fr ∙ ((λ j. cell_at (sym (shape ∙ sh) j) a.slot 0)
-            ∙ ap (λ (d : ArenaId). cell_at w.shape d.slot 0) (one a b (alive_holds a x) (sym inside ∙ q)));
+        part_is = λ l. absurd (omega arith);
         met = ap (λ (u : View). u.met) g.is;
         counted = still_counted count v w k.counted k.met (ap (λ (u : View). u.gathered) g.is);
         sound = g.sound;
         empty = e ∙ k.empty;
       }
-    where
-      one : (a b : ArenaId) (o : Option ℕ) → inside_found a o ≡ Some b → a ≡ b
-      one a b None q = absurd (cc)
-      one a b (Some n) q = cc
 
-  pub unmark_keeps : (x : ℕ) → Tells Unmarks v x w → Keeps c None from count (w, held')
+  pub unmark_keeps : (x : ℕ) → Tells Unmarks v x w → Keeps c None part' count (w, held')
   unfolding part entries noted
   unmark_keeps x t =
       let g = t.gives in
@@ -132,7 +153,7 @@ module _ (c : Caller) (i : Option ArenaId) (from count : ℕ) (v w : View) (held
         live = ap (λ (u : View). u.live) g.is ∙ k.live;
         caller = k.caller ∙ sym (ap (λ (u : View). u.caller) g.is);
         inside = sym inside;
-        cells = λ b q. absurd (let f : None ≡ Some b = sym inside ∙ q in cc);
+        part_is = λ l. part_on v w part' shape (λ y j. subst (In y) (sym (ap (λ (u : View). u.reads) g.is)) j) (k.part_is l);
         met = ap (λ (u : View). u.met) g.is;
         counted = still_counted count v w k.counted k.met (ap (λ (u : View). u.gathered) g.is);
         sound = g.sound;
@@ -140,56 +161,134 @@ module _ (c : Caller) (i : Option ArenaId) (from count : ℕ) (v w : View) (held
       }
 
   -- steps that change the hand
-  pub take_keeps : (b d x : ℕ) → Tells (TakesSlot b d) v x w → Keeps c i from count (w, held')
+  pub take_keeps : (b d x : ℕ) → Tells (TakesSlot b d) v x w → Keeps c i part' count (w, held')
   unfolding part entries noted
   take_keeps b d x t =
-      keeps_on c i from count v (part (TakesSlot b d) v x) w (entries (TakesSlot b d) v x) (noted (TakesSlot b d) v x) held held' k
-      (same_part (TakesSlot b d) v x) refl t.gives e
+      keeps_on c i part' count v (part (TakesSlot b d) v x) w (entries (TakesSlot b d) v x) (noted (TakesSlot b d) v x) held held' k
+      (same_part (TakesSlot b d) v x) refl (λ x j. j) t.gives e
 
-  pub generation_keeps : (b x : ℕ) → Tells (LearnsGeneration b) v x w → Keeps c i from count (w, held')
+  pub generation_keeps : (b x : ℕ) → Tells (LearnsGeneration b) v x w → Keeps c i part' count (w, held')
   unfolding part entries noted
   generation_keeps b x t =
-      keeps_on c i from count v (part (LearnsGeneration b) v x) w (entries (LearnsGeneration b) v x) (noted (LearnsGeneration b) v x) held held' k
-      (same_part (LearnsGeneration b) v x) refl t.gives e
+      keeps_on c i part' count v (part (LearnsGeneration b) v x) w (entries (LearnsGeneration b) v x) (noted (LearnsGeneration b) v x) held held' k
+      (same_part (LearnsGeneration b) v x) refl (λ x j. j) t.gives e
 
-  pub open_keeps : (a : ArenaId) (x : ℕ) → Tells (Opens a) v x w → Keeps c i from count (w, held')
+  pub open_keeps : (a : ArenaId) (x : ℕ) → Tells (Opens a) v x w → Keeps c i part' count (w, held')
   unfolding part entries noted
   open_keeps a x t =
-      keeps_on c i from count v (part (Opens a) v x) w (entries (Opens a) v x) (noted (Opens a) v x) held held' k
-      (same_part (Opens a) v x) refl t.gives e
+      keeps_on c i part' count v (part (Opens a) v x) w (entries (Opens a) v x) (noted (Opens a) v x) held held' k
+      (same_part (Opens a) v x) refl (λ x j. j) t.gives e
 
   -- steps of a sweep
-  pub wipe_keeps : (a : ArenaId) (b x : ℕ) → Tells (Wipes a b) v x w → Keeps c i from count (w, held')
+  pub sweep_given_keeps : (a : ArenaId) (x : ℕ) → Tells (SweepsGiven a) v x w → Keeps c i part' count (w, held')
   unfolding part entries noted
-  wipe_keeps a b x t =
-      keeps_on c i from count v (part (Wipes a b) v x) w (entries (Wipes a b) v x) (noted (Wipes a b) v x) held held' k
-      (same_part (Wipes a b) v x) refl t.gives e
+  sweep_given_keeps a x t =
+      keeps_on c i part' count v (part (SweepsGiven a) v x) w (entries (SweepsGiven a) v x) (noted (SweepsGiven a) v x) held held' k
+      (same_part (SweepsGiven a) v x) refl (λ y j. j) t.gives e
 
-  pub reset_keeps : (a : ArenaId) (x : ℕ) → Tells (ResetsGiven a) v x w → Keeps c i from count (w, held')
+  pub sweep_map_keeps : (a : ArenaId) (b : ℕ) (x : ℕ) → Tells (SweepsMap a b) v x w → Keeps c i part' count (w, held')
+  unfolding part entries noted
+  sweep_map_keeps a b x t =
+      keeps_on c i part' count v (part (SweepsMap a b) v x) w (entries (SweepsMap a b) v x) (noted (SweepsMap a b) v x) held held' k
+      (same_part (SweepsMap a b) v x) refl (λ y j. j) t.gives e
+
+  pub unmap_keeps : (a : ArenaId) (b p : ℕ) (x : ℕ) → Tells (Unmaps a b p) v x w → Keeps c i part' count (w, held')
+  unfolding part entries noted
+  unmap_keeps a b p x t =
+      keeps_on c i part' count v (part (Unmaps a b p) v x) w (entries (Unmaps a b p) v x) (noted (Unmaps a b p) v x) held held' k
+      (same_part (Unmaps a b p) v x) refl (λ y j. j) t.gives e
+
+  pub wipe_keeps : (a : ArenaId) (b p n : ℕ) (x : ℕ) → Tells (Wipes a b p n) v x w → Keeps c i part' count (w, held')
+  unfolding part entries noted
+  wipe_keeps a b p n x t =
+      keeps_on c i part' count v (part (Wipes a b p n) v x) w (entries (Wipes a b p n) v x) (noted (Wipes a b p n) v x) held held' k
+      (same_part (Wipes a b p n) v x) refl (λ y j. j) t.gives e
+
+  pub return_page_keeps : (a : ArenaId) (p : ℕ) (x : ℕ) → Tells (ReturnsPage a p) v x w → Keeps c i part' count (w, held')
+  unfolding part entries noted
+  return_page_keeps a p x t =
+      keeps_on c i part' count v (part (ReturnsPage a p) v x) w (entries (ReturnsPage a p) v x) (noted (ReturnsPage a p) v x) held held' k
+      (same_part (ReturnsPage a p) v x) refl (λ y j. j) t.gives e
+
+  pub take_page_keeps : (b d : ℕ) (x : ℕ) → Tells (Claims b d) v x w → Keeps c i part' count (w, held')
+  unfolding part entries noted
+  take_page_keeps b d x t =
+      keeps_on c i part' count v (part (Claims b d) v x) w (entries (Claims b d) v x) (noted (Claims b d) v x) held held' k
+      (same_part (Claims b d) v x) refl (λ y j. j) t.gives e
+
+  pub give_page_keeps : (p : ℕ) (x : ℕ) → Tells (GivesPage p) v x w → Keeps c i part' count (w, held')
+  unfolding part entries noted
+  give_page_keeps p x t =
+      keeps_on c i part' count v (part (GivesPage p) v x) w (entries (GivesPage p) v x) (noted (GivesPage p) v x) held held' k
+      (same_part (GivesPage p) v x) refl (λ y j. j) t.gives e
+
+  pub map_keeps : (a : ArenaId) (b p : ℕ) (x : ℕ) → Tells (Maps a b p) v x w → Keeps c i part' count (w, held')
+  unfolding part entries noted
+  map_keeps a b p x t =
+      keeps_on c i part' count v (part (Maps a b p) v x) w (entries (Maps a b p) v x) (noted (Maps a b p) v x) held held' k
+      (same_part (Maps a b p) v x) refl (mapped_more b p x v.reads) t.gives e
+
+  -- a part is known by what was read last
+  pub read_map_keeps : (a : ArenaId) (b x : ℕ) (z : Shape) (new : Part) → Tells (ReadsMap a b) v x w → v.shape ≡ z
+      → (x ≡ 0 → new.words ≡ 0)
+      → ((p : ℕ) → x ≡ map_word p → (new.first ≡ b * z.page_words) × (new.words ≡ z.page_words) × (new.from ≡ at z (page_word p 0)))
+      → Keeps c i new count (w, held')
+  unfolding part entries noted map_word
+  read_map_keeps a b x z new t sh none some =
+      let base = keeps_on c i part' count v (part (ReadsMap a b) v x) w (entries (ReadsMap a b) v x) (noted (ReadsMap a b) v x) held held' k
+      (same_part (ReadsMap a b) v x) refl (read_more b x v.reads) t.gives e in
+      let shape : w.shape ≡ z = ap (λ (u : View). u.shape) t.gives.is ∙ sh in
+      record {
+        live = base.live;
+        caller = base.caller;
+        inside = base.inside;
+        part_is = λ l. go x refl l;
+        met = base.met;
+        counted = base.counted;
+        sound = base.sound;
+        empty = base.empty;
+      }
+    where
+      go : (y : ℕ) → x ≡ y → 0 < new.words → IsPart w new
+      go zero q l = absurd (let n = none q in omega arith)
+      go (suc p) q l =
+          let shape : w.shape ≡ z = ap (λ (u : View). u.shape) t.gives.is ∙ sh in
+          let y = some p (q ∙ (let h : suc p ≡ p + 1 = omega arith in h)) in
+          let reads : w.reads ≡ reads_after b x v.reads = ap (λ (u : View). u.reads) t.gives.is in
+          record {
+            mapping = mapping_of b p;
+            read = subst (In (mapping_of b p)) (sym reads) (read_adds b p x v.reads q);
+            low = (let a = t.learns.low in let s : w.shape.pages ≡ v.shape.pages = ap (λ (u : View). u.shape.pages) t.gives.is in omega arith);
+            words = y.1 ∙ ap (λ (u : Shape). u.page_words) (sym shape);
+            first = y.0 ∙ ap (λ (u : Shape). b * u.page_words) (sym shape);
+            from = y.2 ∙ ap (λ (u : Shape). at u (page_word p 0)) (sym shape);
+          }
+
+  pub reset_keeps : (a : ArenaId) (x : ℕ) → Tells (ResetsGiven a) v x w → Keeps c i part' count (w, held')
   unfolding part entries noted
   reset_keeps a x t =
-      keeps_on c i from count v (part (ResetsGiven a) v x) w (entries (ResetsGiven a) v x) (noted (ResetsGiven a) v x) held held' k
-      (same_part (ResetsGiven a) v x) refl t.gives e
+      keeps_on c i part' count v (part (ResetsGiven a) v x) w (entries (ResetsGiven a) v x) (noted (ResetsGiven a) v x) held held' k
+      (same_part (ResetsGiven a) v x) refl (λ x j. j) t.gives e
 
-  pub retire_keeps : (a : ArenaId) (x : ℕ) → Tells (Retires a) v x w → Keeps c i from count (w, held')
+  pub retire_keeps : (a : ArenaId) (x : ℕ) → Tells (Retires a) v x w → Keeps c i part' count (w, held')
   unfolding part entries noted
   retire_keeps a x t =
-      keeps_on c i from count v (part (Retires a) v x) w (entries (Retires a) v x) (noted (Retires a) v x) held held' k
-      (same_part (Retires a) v x) refl t.gives e
+      keeps_on c i part' count v (part (Retires a) v x) w (entries (Retires a) v x) (noted (Retires a) v x) held held' k
+      (same_part (Retires a) v x) refl (λ x j. j) t.gives e
 
-  pub give_keeps : (b x : ℕ) → Tells (GivesSlot b) v x w → Keeps c i from count (w, held')
+  pub give_keeps : (b x : ℕ) → Tells (GivesSlot b) v x w → Keeps c i part' count (w, held')
   unfolding part entries noted
   give_keeps b x t =
-      keeps_on c i from count v (part (GivesSlot b) v x) w (entries (GivesSlot b) v x) (noted (GivesSlot b) v x) held held' k
-      (same_part (GivesSlot b) v x) refl t.gives e
+      keeps_on c i part' count v (part (GivesSlot b) v x) w (entries (GivesSlot b) v x) (noted (GivesSlot b) v x) held held' k
+      (same_part (GivesSlot b) v x) refl (λ x j. j) t.gives e
 
 -- a new pool's first pass
-pub first_keeps : (z : Shape) → IsValid z → Keeps only_caller None 0 0 (first_view z, [])
+pub first_keeps : (z : Shape) → IsValid z → Keeps only_caller None (record { first = 0; words = 0; from = 0 }) 0 (first_view z, [])
 first_keeps z valid = record {
   live = refl;
   caller = refl;
   inside = refl;
-  cells = λ a q. absurd (cc);
+  part_is = λ l. absurd (omega arith);
   met = refl;
   counted = refl;
   sound = first_sound z valid;

@@ -1,5 +1,6 @@
 pub mod Allowed
 pub mod Knowing
+pub mod Making
 pub mod Stepping
 pub mod Keeping
 pub mod Noting

@@ -8,16 +8,16 @@ use Rattle.fm_base.specs.declared.caller.Caller.{Caller}
 use Rattle.fm_base.specs.declared.arena_id.ArenaId.{ArenaId}
 use Rattle.fm_base.specs.Calls.{Entry, Fine, TooManyHolds}
 use Rattle.fm_pool_facts.specs.declared.step.Step.TheVariants.{Looks}
-use Rattle.fm_pool_facts.specs.Views.{View}
+use Rattle.fm_pool_facts.specs.Views.{View, In}
 use Rattle.fm_pool_facts.specs.Words.{held_by, held_word, hold_found, alive_word, alive_holds, closing_word}
 use Rattle.fm_pool_facts.specs.Handles.{last_if, giving_by, word_given, back_word}
 use Rattle.fm_pool_facts.specs.Splits.{met}
 use Rattle.fm_pool_facts.specs.Steps.{Stepped, part, entries, noted, none_noted}
-use Rattle.fm_pool_facts.specs.Facts.{cell_at}
+use Rattle.fm_rule.specs.declared.pass.Part.{Part}
+use Rattle.fm_rule.proofs.Allowed.{part_on, stepped, still_counted, alike_none}
 use Rattle.fm_pool_facts.specs.Moves.{Gives, Tells}
 use Rattle.fm_pool_steps.proofs.First.{two_words}
 use Rattle.fm_rule.specs.Views.{numbers_of, homed, Keeps}
-use Rattle.fm_rule.proofs.Allowed.{stepped, still_counted, alike_none}
 
 -- numbers tell one table
 pub one_table : (s t : TableId) → numbers_of s ≡ numbers_of t → s ≡ t
@@ -65,10 +65,10 @@ meet_stepped now v n u w home home' x is stays m e t =
     subst (λ (y : View × List ℕ). Stepped y.0 (homed y.1 w) y.0 [] none_noted) (λ j. (is j, sym stays j))
     (stepped home v v w [] none_noted (alike_none v) m (met_gives v n w x (subst (λ (y : View). Tells Looks y x w) e t)))
 
-pub meet_keeps : (c : Caller) (i : Option ArenaId) (from count : ℕ) (v n u w : View) (held held' : List (ℕ × Unit {0})) (x : ℕ)
-    → Keeps c i from count (v, held)
-    → u ≡ met v n → Tells Looks u x w → held' ≡ held → Keeps c i from count (w, held')
-meet_keeps c i from count v n u w held held' x k e t h =
+pub meet_keeps : (c : Caller) (i : Option ArenaId) (part' : Part) (count : ℕ) (v n u w : View) (held held' : List (ℕ × Unit {0})) (x : ℕ)
+    → Keeps c i part' count (v, held)
+    → u ≡ met v n → Tells Looks u x w → held' ≡ held → Keeps c i part' count (w, held')
+meet_keeps c i part' count v n u w held held' x k e t h =
     let g = met_gives v n w x (subst (λ (y : View). Tells Looks y x w) e t) in
     let inside : w.inside ≡ v.inside = ap (λ (y : View). y.inside) g.is in
     let shape : w.shape ≡ v.shape = ap (λ (y : View). y.shape) g.is in
@@ -76,7 +76,7 @@ meet_keeps c i from count v n u w held held' x k e t h =
       live = ap (λ (y : View). y.live) g.is ∙ k.live;
       caller = k.caller ∙ sym (ap (λ (y : View). y.caller) g.is);
       inside = k.inside ∙ sym inside;
-      cells = λ a q. k.cells a (sym inside ∙ q) ∙ ap (λ (z : Shape). cell_at z a.slot 0) (sym shape);
+      part_is = λ l. part_on v w part' shape (λ x j. subst (In x) (sym (ap (λ (y : View). y.reads) g.is)) j) (k.part_is l);
       met = ap (λ (y : View). y.met) g.is;
       counted = still_counted count v w k.counted k.met (ap (λ (y : View). y.gathered) g.is);
       sound = g.sound;

@@ -11,7 +11,7 @@ use Rattle.fm_base.specs.Histories.{IsLegal}
 use Rattle.fm_pool_facts.specs.Hands.{nothing}
 use Rattle.fm_pool_facts.specs.Rest.{ShowsHistory}
 use Rattle.fm_pool_facts.specs.Loans.{IsRightlyLent}
-use Rattle.fm_pool_facts.specs.Views.{View, IsSound, span, limit_of}
+use Rattle.fm_pool_facts.specs.Views.{View, IsSound, limit_of}
 use Rattle.fm_pool_facts.specs.Facts.{Rule}
 use Rattle.fm_pool_steps.proofs.Plain.{own}
 use Rattle.fm_pool_steps.proofs.Resting.{at_rest}
@@ -53,7 +53,7 @@ finished z key id v now home ws xs history is same sh f l sound w none eq =
     record {
       valid = subst IsValid sh sound.valid;
       legal = subst (λ (x : Shape × List Entry). IsLegal (limit_of x.0) [] x.1) (λ j. (sh j, seen j)) sound.legal;
-      lent = subst (λ (x : Shape × List Entry). IsRightlyLent (span x.0) (limit_of x.0) x.1) (λ j. (sh j, seen j)) sound.lent;
+      lent = subst (λ (x : Shape × List Entry). IsRightlyLent x.0.page_words (limit_of x.0) x.1) (λ j. (sh j, seen j)) sound.lent;
       wide = s.wide ∙ ap word_count (sym same);
       shows = subst (λ (x : Shape × List Entry). ShowsHistory x.0 ws x.1) (λ j. (sym same j, seen j)) s.shows;
     }

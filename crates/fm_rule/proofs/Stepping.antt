@@ -1,18 +1,19 @@
 -- What each step tells is that the pass stepped.
-use Rattle.std.proofs.Common.{◌≡◌, ◌≢◌, ℕ, ◌+◌, ◌/◌, ◌^◌, ◌==◌, List, [], ◌∷◌, Option, Some, None, refl, sym, subst}
+use Rattle.std.proofs.Common.{◌≡◌, ◌≢◌, ℕ, ◌+◌, ◌/◌, ◌^◌, ◌≤◌, ◌==◌, if◌then◌else◌, ap, ◌∙◌, List, [], ◌∷◌, Option, Some, None, refl, sym, subst}
 use Rattle.fm_base.specs.declared.arena_id.ArenaId.{ArenaId}
-use Rattle.fm_base.specs.Calls.{Enter, Read, Write, SwapIf, Add, Allocate, Leave, Hold, Unhold, Shut, Back, Fine, Found, Entry, entry_of}
+use Rattle.fm_base.specs.Calls.{Open, Lend, Enter, Read, Write, SwapIf, Add, Allocate, Leave, Hold, Unhold, Shut, Back, Fine, Found, Entry, entry_of}
 use Rattle.fm_base.specs.Machine.{allocate_reply}
-use Rattle.fm_base.specs.Finds.{Find, Visits as Visiting, TakesSlot as Taking}
-use Rattle.fm_pool_facts.specs.declared.step.Step.TheVariants.{Draws, Marks, Checks, Loads, Stores, SwapsIf, Adds, Allocates, Holds, Unholds, Backs, Unmarks, Shuts, Visits, TakesSlot, LearnsGeneration, Opens, Wipes, ResetsGiven, Retires, GivesSlot}
-use Rattle.fm_pool_facts.specs.Views.{View, In, limit_of, pass_of}
+use Rattle.fm_base.specs.Finds.{Find, Visits as Visiting, TakesSlot as Taking, TakesPage as Claiming, Maps as Mapped}
+use Rattle.fm_pool_facts.specs.declared.step.Step.TheVariants.{Draws, Marks, Checks, Loads, Stores, SwapsIf, Adds, Allocates, Holds, Unholds, Backs, Unmarks, Shuts, Visits, TakesSlot, LearnsGeneration, Opens, Claims, Maps, ReadsMap, SweepsGiven, SweepsMap, Unmaps, Wipes, GivesPage, ReturnsPage, ResetsGiven, Retires, GivesSlot}
+use Rattle.fm_pool_facts.specs.Views.{View, In, limit_of, pass_of, given_of}
 use Rattle.fm_pool_facts.specs.Words.{alive_holds, enter_found, inside_found, hold_found, shut_found}
 use Rattle.fm_pool_facts.specs.Hands.{nothing, learnt, takes, hand_taken, hand_retired}
 use Rattle.fm_pool_facts.specs.Holds.{grips, with_grips, holds_after, handles_with, released}
 use Rattle.fm_pool_facts.specs.Handles.{giving, given_back, giving_entries}
 use Rattle.fm_pool_facts.specs.Closes.{begun, visited, dropped, visit_found, closes_after, sweeps_after, visit_entries}
-use Rattle.fm_pool_facts.specs.Steps.{Stepped, number_drawn, draws, note_draw, part, entries, noted, acted, none_noted, where_found, note_of, open_entries}
-use Rattle.fm_pool_facts.specs.Moves.{LearnsCount, LearnsSlots, Tells}
+use Rattle.fm_pool_facts.specs.Steps.{Stepped, number_drawn, draws, note_draw, part, entries, noted, acted, none_noted, where_found, note_of}
+use Rattle.fm_pool_facts.specs.Moves.{LearnsCount, LearnsSlots, Tells, LearnsMap}
+use Rattle.fm_pool_facts.specs.Parts.{unread, wiping, reads_after, reads_mapped, pages_mapped, pages_taken, swept_read}
 use Rattle.fm_rule.specs.Views.{homed}
 use Rattle.fm_rule.proofs.Allowed.{same_part, stepped}
 
@@ -53,11 +54,11 @@ module _ (now v w : View) (home home' : List ℕ) (is : homed home v ≡ now) (s
       (stepped home v (part (Marks a) v x) w [] none_noted (same_part (Marks a) v x) met t.gives)
 
   pub check_stepped : (a : ArenaId) (x : ℕ) → Tells (Checks a) v x w
-      → Stepped now (homed home' w) (record now { inside = inside_found a (alive_holds a x) })
+      → Stepped now (homed home' w) (record now { inside = inside_found a (alive_holds a x); reads = [] })
       (entry_of now.caller (Enter a) (enter_found (alive_holds a x)) ∷ []) none_noted
   unfolding part entries noted
   check_stepped a x t =
-      stepped_as (λ (y : View). record y { inside = inside_found a (alive_holds a x) })
+      stepped_as (λ (y : View). record y { inside = inside_found a (alive_holds a x); reads = [] })
       (λ (y : View). entry_of y.caller (Enter a) (enter_found (alive_holds a x)) ∷ []) (λ y. none_noted)
       (stepped home v (part (Checks a) v x) w (entries (Checks a) v x) none_noted (same_part (Checks a) v x) met t.gives)
 
@@ -170,18 +171,91 @@ module _ (now v w : View) (home home' : List ℕ) (is : homed home v ≡ now) (s
       (stepped home v (part (LearnsGeneration s) v x) w [] none_noted (same_part (LearnsGeneration s) v x) met t.gives)
 
   pub open_stepped : (a : ArenaId) (x : ℕ) → Tells (Opens a) v x w
-      → Stepped now (homed home' w) (record now { hand = nothing; handles = handles_with a now.handles }) (open_entries a now.caller) none_noted
+      → Stepped now (homed home' w) (record now { hand = nothing; handles = handles_with a now.handles }) (entry_of now.caller (Open a) Fine ∷ []) none_noted
   unfolding part entries noted
   open_stepped a x t =
       stepped_as (λ (y : View). record y { hand = nothing; handles = handles_with a y.handles })
-      (λ (y : View). open_entries a y.caller) (λ y. none_noted)
+      (λ (y : View). entry_of y.caller (Open a) Fine ∷ []) (λ y. none_noted)
       (stepped home v (part (Opens a) v x) w (entries (Opens a) v x) none_noted (same_part (Opens a) v x) met t.gives)
 
-  pub wipe_stepped : (a : ArenaId) (c x : ℕ) → Tells (Wipes a c) v x w
-      → Stepped now (homed home' w) (record now { sweeps = visited a now.sweeps }) [] none_noted
+  pub sweep_given_stepped : (a : ArenaId) (x : ℕ) → Tells (SweepsGiven a) v x w → Stepped now (homed home' w) now [] none_noted
   unfolding part entries noted
-  wipe_stepped a c x t = stepped_as (λ (y : View). record y { sweeps = visited a y.sweeps }) (λ y. []) (λ y. none_noted)
-      (stepped home v (part (Wipes a c) v x) w [] none_noted (same_part (Wipes a c) v x) met t.gives)
+  sweep_given_stepped a x t = stepped_as (λ (y : View). y) (λ (y : View). []) (λ (y : View). none_noted)
+      (stepped home v v w [] none_noted (same_part (SweepsGiven a) v x) met t.gives)
+
+  -- what the arena gave that it sweeps
+  pub count_swept : (a : ArenaId) (x : ℕ) → Tells (SweepsGiven a) v x w → x ≡ given_of (homed home' w) a
+  count_swept a x t = t.learns
+
+  pub sweep_map_stepped : (a : ArenaId) (i : ℕ) (x : ℕ) → Tells (SweepsMap a i) v x w
+      → Stepped now (homed home' w) (record now { swept = swept_read a i x; sweeps = if x == 0 then visited a now.sweeps else now.sweeps }) ([]) (none_noted)
+  unfolding part entries noted
+  sweep_map_stepped a i x t =
+      stepped_as (λ (y : View). record y { swept = swept_read a i x; sweeps = if x == 0 then visited a y.sweeps else y.sweeps }) (λ (y : View). [])
+      (λ (y : View). none_noted)
+      (stepped home v (part (SweepsMap a i) v x) w (entries (SweepsMap a i) v x) (noted (SweepsMap a i) v x) (same_part (SweepsMap a i) v x) met t.gives)
+
+  pub unmap_stepped : (a : ArenaId) (i p : ℕ) (x : ℕ) → Tells (Unmaps a i p) v x w
+      → Stepped now (homed home' w) (record now { swept = wiping a i p 0 }) ([]) (none_noted)
+  unfolding part entries noted
+  unmap_stepped a i p x t = stepped_as (λ (y : View). record y { swept = wiping a i p 0 }) (λ (y : View). []) (λ (y : View). none_noted)
+      (stepped home v (part (Unmaps a i p) v x) w (entries (Unmaps a i p) v x) (noted (Unmaps a i p) v x) (same_part (Unmaps a i p) v x) met t.gives)
+
+  pub wipe_stepped : (a : ArenaId) (i p n : ℕ) (x : ℕ) → Tells (Wipes a i p n) v x w
+      → Stepped now (homed home' w) (record now { swept = wiping a i p (n + 1) }) ([]) (none_noted)
+  unfolding part entries noted
+  wipe_stepped a i p n x t = stepped_as (λ (y : View). record y { swept = wiping a i p (n + 1) }) (λ (y : View). []) (λ (y : View). none_noted)
+      (stepped home v (part (Wipes a i p n) v x) w (entries (Wipes a i p n) v x) (noted (Wipes a i p n) v x) (same_part (Wipes a i p n) v x) met t.gives)
+
+  pub return_page_stepped : (a : ArenaId) (p : ℕ) (x : ℕ) → Tells (ReturnsPage a p) v x w
+      → Stepped now (homed home' w) (record now { swept = unread; sweeps = visited a now.sweeps }) (entry_of now.caller (Back p) Fine ∷ []) (none_noted)
+  unfolding part entries noted
+  return_page_stepped a p x t =
+      stepped_as (λ (y : View). record y { swept = unread; sweeps = visited a y.sweeps }) (λ (y : View). entry_of y.caller (Back p) Fine ∷ [])
+      (λ (y : View). none_noted)
+      (stepped home v (part (ReturnsPage a p) v x) w (entries (ReturnsPage a p) v x) (noted (ReturnsPage a p) v x)
+      (same_part (ReturnsPage a p) v x) met t.gives)
+
+  pub take_page_stepped : (e bit : ℕ) (x : ℕ) → Tells (Claims e bit) v x w
+      → Stepped now (homed home' w) (record now { pages = pages_taken (takes e bit x) bit now.pages }) ([]) (note_of (Claiming e bit) x now)
+  unfolding part entries noted
+  take_page_stepped e bit x t =
+      stepped_as (λ (y : View). record y { pages = pages_taken (takes e bit x) bit y.pages }) (λ (y : View). []) (λ (y : View). note_of (Claiming e bit) x y)
+      (stepped home v (part (Claims e bit) v x) w (entries (Claims e bit) v x) (noted (Claims e bit) v x) (same_part (Claims e bit) v x) met t.gives)
+
+  pub map_stepped : (a : ArenaId) (i p : ℕ) (x : ℕ) → Tells (Maps a i p) v x w
+      → Stepped now (homed home' w) (record now { reads = reads_mapped i p x now.reads; pages = pages_mapped x now.pages })
+      (where_found (x == 0) (entry_of now.caller (Lend p a i) Fine ∷ [])) (note_of (Mapped a i p) x now)
+  unfolding part entries noted
+  map_stepped a i p x t =
+      stepped_as (λ (y : View). record y { reads = reads_mapped i p x y.reads; pages = pages_mapped x y.pages })
+      (λ (y : View). where_found (x == 0) (entry_of y.caller (Lend p a i) Fine ∷ [])) (λ (y : View). note_of (Mapped a i p) x y)
+      (stepped home v (part (Maps a i p) v x) w (entries (Maps a i p) v x) (noted (Maps a i p) v x) (same_part (Maps a i p) v x) met t.gives)
+
+  pub read_map_stepped : (a : ArenaId) (i : ℕ) (x : ℕ) → Tells (ReadsMap a i) v x w
+      → Stepped now (homed home' w) (record now { reads = reads_after i x now.reads }) ([]) (none_noted)
+  unfolding part entries noted
+  read_map_stepped a i x t = stepped_as (λ (y : View). record y { reads = reads_after i x y.reads }) (λ (y : View). []) (λ (y : View). none_noted)
+      (stepped home v (part (ReadsMap a i) v x) w (entries (ReadsMap a i) v x) (noted (ReadsMap a i) v x) (same_part (ReadsMap a i) v x) met t.gives)
+
+  pub give_page_stepped : (p : ℕ) (x : ℕ) → Tells (GivesPage p) v x w → Stepped now (homed home' w) (record now { pages = [] }) ([]) (none_noted)
+  unfolding part entries noted
+  give_page_stepped p x t = stepped_as (λ (y : View). record y { pages = [] }) (λ (y : View). []) (λ (y : View). none_noted)
+      (stepped home v (part (GivesPage p) v x) w (entries (GivesPage p) v x) (noted (GivesPage p) v x) (same_part (GivesPage p) v x) met t.gives)
+
+  -- what a map word tells
+  pub map_learnt : (a : ArenaId) (i x : ℕ) → Tells (ReadsMap a i) v x w → LearnsMap now a i x (homed home' w)
+  map_learnt a i x t = subst (λ (y : View). LearnsMap y a i x (homed home' w)) is (record { given = t.learns.given; none = t.learns.none; low = t.learns.low })
+
+  pub map_low : (a : ArenaId) (i p x : ℕ) → Tells (Maps a i p) v x w → x ≤ now.shape.pages
+  map_low a i p x t = subst (λ (y : View). x ≤ y.shape.pages) is t.learns
+
+  pub sweep_map_low : (a : ArenaId) (i x : ℕ) → Tells (SweepsMap a i) v x w → x ≤ now.shape.pages
+  sweep_map_low a i x t = subst (λ (y : View). x ≤ y.shape.pages) is t.learns
+
+  pub count_found : (given size align x : ℕ) (a : ArenaId) → Tells (Allocates given size align) v x w → now.inside ≡ Some a → x ≢ given
+      → x ≡ given_of (homed home' w) a
+  count_found given size align x a t ins n = t.learns a (ap (λ (y : View). y.inside) is ∙ ins) n
 
   pub reset_stepped : (a : ArenaId) (x : ℕ) → Tells (ResetsGiven a) v x w
       → Stepped now (homed home' w) (record now { sweeps = visited a now.sweeps }) [] none_noted
@@ -193,12 +267,12 @@ module _ (now v w : View) (home home' : List ℕ) (is : homed home v ≡ now) (s
       → Stepped now (homed home' w) (record now {
         sweeps = dropped a now.sweeps;
         hand = hand_retired (a.generation + 1 == now.shape.generations) a.slot now.hand;
-      }) (entry_of now.caller (Back a.slot) Fine ∷ []) none_noted
+      }) [] none_noted
   unfolding part entries noted
   retire_stepped a x t =
       stepped_as
       (λ (y : View). record y { sweeps = dropped a y.sweeps; hand = hand_retired (a.generation + 1 == y.shape.generations) a.slot y.hand })
-      (λ (y : View). entry_of y.caller (Back a.slot) Fine ∷ []) (λ y. none_noted)
+      (λ y. []) (λ y. none_noted)
       (stepped home v (part (Retires a) v x) w (entries (Retires a) v x) none_noted (same_part (Retires a) v x) met t.gives)
 
   pub give_stepped : (s x : ℕ) → Tells (GivesSlot s) v x w → Stepped now (homed home' w) (record now { hand = nothing }) [] none_noted

@@ -8,7 +8,7 @@ use Rattle.fm_base.specs.Histories.{IsLegal}
 use Rattle.fm_pool_facts.specs.Hands.{nothing}
 use Rattle.fm_pool_facts.specs.Loans.{IsRightlyLent}
 use Rattle.fm_pool_facts.specs.Rest.{ShowsHistory}
-use Rattle.fm_pool_facts.specs.Views.{View, span, limit_of}
+use Rattle.fm_pool_facts.specs.Views.{View, limit_of}
 use Rattle.fm_rule.specs.Passes.{IsOf}
 use Rattle.fm_rule.specs.declared.pool.Pool.{Pool}
 
@@ -22,7 +22,7 @@ pub record FinishedView : Type 0 where
 pub record IsFinished (f : FinishedView) : Type 0 where
   pub valid : IsValid f.shape
   pub legal : IsLegal (limit_of f.shape) [] f.history
-  pub lent : IsRightlyLent (span f.shape) (limit_of f.shape) f.history
+  pub lent : IsRightlyLent f.shape.page_words (limit_of f.shape) f.history
   pub wide : length f.words ≡ word_count f.shape
   pub shows : ShowsHistory f.shape f.words f.history
 

@@ -1,14 +1,17 @@
 -- Views of the passes and notes of a pool, and what a pass keeps beside its seat.
-use Rattle.std.specs.Prelude.{◌≡◌, ℕ, Bool, true, false, List, [], ◌∷◌, length, Option, Some, None}
+use Rattle.std.specs.Prelude.{◌≡◌, ◌*◌, ◌<◌, ℕ, Bool, true, false, List, [], ◌∷◌, length, Option, Some, None}
 use Rattle.atomic_table.specs.Seated.{TableId}
 use Rattle.atomic_table.specs.Table.{Me}
 use Rattle.fm_words.specs.declared.shape.Shape.{Shape}
 use Rattle.fm_base.specs.declared.caller.Caller.{Caller}
 use Rattle.fm_base.specs.declared.arena_id.ArenaId.{ArenaId}
 use Rattle.fm_base.specs.Calls.{Entry}
-use Rattle.fm_pool_facts.specs.Views.{View, IsSound}
+use Rattle.fm_pool_facts.specs.Views.{View, IsSound, In}
 use Rattle.fm_pool_facts.specs.Splits.{first_view}
-use Rattle.fm_pool_facts.specs.Facts.{cell_at}
+use Rattle.fm_words.specs.Places.{at, page_word}
+use Rattle.fm_words.specs.Maps.{map_word}
+use Rattle.fm_pool_facts.specs.Parts.{Mapping}
+use Rattle.fm_rule.specs.declared.pass.Part.{Part}
 
 -- numbers that tell a table
 abbrev pub numbers_of : TableId → List ℕ
@@ -30,12 +33,26 @@ abbrev pub inside_of : Bool → ArenaId → Option ArenaId
 inside_of true a = Some a
 inside_of false a = None
 
--- what a pass keeps beside its seat: its caller, the arena that it is inside, where that arena's words begin, and how many callers are gathered into it
-pub record Keeps (c : Caller) (i : Option ArenaId) (from count : ℕ) (me : Me (Unit {0}) View) : Type 0 where
+-- a part whose page the pass has read, and where its words begin in the table; one without words is none
+pub record IsPart (v : View) (part : Part) : Type 0 where
+  pub mapping : Mapping
+  pub read : In mapping v.reads
+  pub low : mapping.page < v.shape.pages
+  pub words : part.words ≡ v.shape.page_words
+  pub first : part.first ≡ mapping.part * v.shape.page_words
+  pub from : part.from ≡ at v.shape (page_word mapping.page 0)
+
+-- the part of this index, where its map word is this one
+abbrev pub HasPart : Shape → (index word : ℕ) → Part → Type 0
+HasPart z index word part =
+    (page : ℕ) → word ≡ map_word page → (part.first ≡ index * z.page_words) × (part.words ≡ z.page_words) × (part.from ≡ at z (page_word page 0))
+
+-- what a pass keeps beside its seat: its caller, the arena that it is inside, the part that it read last, and how many callers are gathered into it
+pub record Keeps (c : Caller) (i : Option ArenaId) (part : Part) (count : ℕ) (me : Me (Unit {0}) View) : Type 0 where
   pub live : me.0.live ≡ true
   pub caller : c ≡ me.0.caller
   pub inside : i ≡ me.0.inside
-  pub cells : (a : ArenaId) → me.0.inside ≡ Some a → from ≡ cell_at me.0.shape a.slot 0
+  pub part_is : 0 < part.words → IsPart me.0 part
   pub met : me.0.met ≡ []
   pub counted : count ≡ length me.0.gathered
   pub sound : IsSound me.0

@@ -10,7 +10,7 @@ ghost use Rattle.fm_rule.specs.Passes.{IsOf};
 ghost use Rattle.fm_rule.specs.Draws.{Takes, Drawn, NoneDrawn};
 
 use crate::acts::exchange_as;
-use crate::pass::{NO_ARENA, Pass};
+use crate::pass::{NO_ARENA, NO_PART, Pass};
 use crate::pool::Pool;
 use crate::seen::Seen;
 use atomic_table::Split;
@@ -115,7 +115,7 @@ impl Pool {
             caller: Caller { number, term: 0 },
             is_inside: false,
             current: NO_ARENA,
-            cells_from: 0,
+            part: NO_PART,
             gathered: 0,
         }
     }

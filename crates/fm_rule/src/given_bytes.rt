@@ -1,11 +1,10 @@
 //! The bytes that the arenas of a finished pool have given.
 ghost use Rattle.std.specs.Prelude.{◌≡◌, ◌<◌, ◌/◌, ◌%◌, slice_index, IfOk, IfErr, IfSome, IsSome, IsTrue, ◌↔◌};
 ghost use Rattle.fm_base.specs.declared.refusal.Refusal.TheVariants.{Memory};
-ghost use Rattle.fm_base.specs.Arenas.{Alive, arena_of};
+ghost use Rattle.fm_base.specs.Arenas.{Alive, arena_of, word_in};
 ghost use Rattle.fm_bytes.specs.Words.{byte_of};
 ghost use Rattle.fm_words.specs.Places.{words};
-ghost use Rattle.fm_pool_facts.specs.Views.{Fits, span};
-ghost use Rattle.fm_pool_facts.specs.Facts.{cell_at};
+ghost use Rattle.fm_pool_facts.specs.Views.{Fits};
 ghost use Rattle.fm_rule.specs.GivenBytes.{TellsAlive, HasBytes, given_bytes, state_of};
 
 use crate::finishing::Finished;
@@ -50,14 +49,16 @@ impl Finished {
         self.table.word(place as usize)
     }
 
-    /// Byte `k` of the words of a slot.
-    fn byte(&self, slot: u32, k: u64) -> u8
-        requires slot { slot < self.now.shape.slots }
-        requires low { k / 8 < span self.now.shape }
-        ensures { result ≡ byte_of (slice_index self.now.words (cell_at self.now.shape slot (k / 8))) (k % 8) }
+    /// Byte `k` that the arena has given.
+    fn byte(&self, a: ArenaId, k: u64) -> u8
+        requires has { HasBytes self.now a }
+        requires low { k < (arena_of (state_of self.now) a).given }
+        ensures { result ≡ byte_of (word_in (state_of self.now) a (k / 8)) (k % 8) }
     {
-        let from = self.shape.page_place(slot * self.shape.reach, 0);
-        let word = self.word(from + k / 8);
+        let size = u64::from(self.shape.page_words);
+        let part = k / 8 / size;
+        let page = self.word(self.shape.map_place(a.slot, part as u32)) - 1;
+        let word = self.word(self.shape.page_place(page as u32, (k / 8 % size) as u32));
         ((word >> (8 * (k % 8))) % 256) as u8
     }
 
@@ -70,7 +71,7 @@ impl Finished {
         let given = self.word(self.shape.given_place(a.slot));
         let mut bytes = Vec::new(alloc);
         for k in 0..given {
-            let byte = self.byte(a.slot, k);
+            let byte = self.byte(a, k);
             if bytes.push(byte).is_err() {
                 return Err(Refusal::Memory);
             }

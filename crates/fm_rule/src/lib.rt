@@ -16,6 +16,7 @@ mod gathering;
 mod given_bytes;
 mod holding;
 mod notes;
+mod paging;
 mod pass;
 mod pool;
 mod seen;
@@ -30,12 +31,16 @@ pub use finishing::Finished;
 pub use fitting::room;
 pub use holding::{step_back, step_hold, step_unhold};
 pub use notes::Note;
-pub use pass::Pass;
+pub use paging::{step_give_page, step_map, step_read_map, step_take_page};
+pub use pass::{Part, Pass};
 pub use pool::Pool;
 pub use steps::{
     step_check, step_load, step_mark, step_open, step_shut, step_store, step_unmark, step_visit,
 };
-pub use sweeping::{step_give_slot, step_reset_given, step_retire, step_wipe};
+pub use sweeping::{
+    step_give_slot, step_reset_given, step_retire, step_return_page, step_sweep_given,
+    step_sweep_map, step_unmap, step_wipe,
+};
 pub use taking::{step_generation, step_take_slot};
 pub use updates::{guess_given, step_add, step_allocate, step_swap_if};
 pub use words::{MOST_HOLDS, alive_holds, mark_of};

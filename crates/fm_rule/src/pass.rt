@@ -22,6 +22,22 @@ fn inside_of(is_inside: bool, current: ArenaId) -> Option<ArenaId>
     if is_inside { Some(current) } else { None }
 }
 
+/// A part of an arena whose map word a pass has read: its first word, how many words it has, and where they begin in
+/// the table. A part of no words is none.
+#[derive(Clone, Copy)]
+pub struct Part {
+    pub(crate) first: u64,
+    pub(crate) words: u64,
+    pub(crate) from: u64,
+}
+
+/// No part.
+pub(crate) const NO_PART: Part = Part {
+    first: 0,
+    words: 0,
+    from: 0,
+};
+
 /// One user of a pool. At most one step of it is under way at a time.
 #[derive(Drop)]
 pub struct Pass {
@@ -31,8 +47,8 @@ pub struct Pass {
     pub(crate) is_inside: bool,
     /// The arena whose session it looked at last; an option of it would be put together anew at each visit.
     pub(crate) current: ArenaId,
-    /// Where that arena's words begin.
-    pub(crate) cells_from: u64,
+    /// The part of that arena whose page it read last.
+    pub(crate) part: Part,
     /// How many callers are gathered into it.
     pub(crate) gathered: u32,
 }
@@ -45,12 +61,14 @@ impl Model for Pass {
 
     ghost view = { λ p. homed (numbers_of p.seat.table_id) p.seat.me.0 };
 
-    ghost invariant = { λ p. Keeps p.caller (inside_of p.is_inside p.current) p.cells_from p.gathered p.seat.me };
+    ghost invariant = { λ p. Keeps p.caller (inside_of p.is_inside p.current) p.part p.gathered p.seat.me };
 }
 
 impl Pass {
     ghost use Rattle.std.specs.Prelude.{◌≡◌};
+    ghost use Rattle.std.specs.Prelude.{IfSome};
     ghost use Rattle.fm_pool_facts.specs.Views.{IsSound};
+    ghost use Rattle.fm_pool_facts.specs.Steps.{HasPlace};
 
     /// The caller that it is.
     pub fn caller(&self) -> Caller
@@ -66,6 +84,18 @@ impl Pass {
         ensures sound { IsSound self.now }
     {
         self.caller.number
+    }
+
+    /// Where the word of this index of the arena stands that the pass is inside, if it has read its part last.
+    #[inline(always)]
+    pub fn known_place(&self, word: u64) -> Option<u64>
+        ensures { IfSome result (λ place. HasPlace self.now word place) }
+    {
+        let part = self.part;
+        if part.first <= word && word - part.first < part.words {
+            return Some(part.from + (word - part.first));
+        }
+        None
     }
 
     /// The arena in which it is under way; None exactly where it is outside.

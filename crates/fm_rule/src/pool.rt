@@ -1,18 +1,17 @@
-ghost use Rattle.std.specs.Prelude.{◌≡◌, ◌<◌, IfOk, IfErr, length};
+ghost use Rattle.std.specs.Prelude.{◌≡◌, ◌<◌, ◌≤◌, IfOk, IfErr, length};
 ghost use Rattle.fm_words.specs.Shapes.{IsValid};
 ghost use Rattle.fm_words.specs.Places.{words};
 ghost use Rattle.fm_base.specs.declared.refusal.Refusal.TheVariants.{Memory};
 ghost use Rattle.fm_pool_facts.specs.declared.step.Step.TheVariants.{Looks};
 ghost use Rattle.fm_pool_facts.specs.Views.{IsSound, limit_of, span};
 ghost use Rattle.fm_pool_facts.specs.Moves.{Tells};
-ghost use Rattle.fm_pool_facts.specs.Facts.{cell_at};
-ghost use Rattle.fm_rule.specs.Views.{first_pass, numbers_of};
+ghost use Rattle.fm_rule.specs.Views.{first_pass, numbers_of, HasPart};
 
-use crate::pass::{NO_ARENA, Pass};
+use crate::pass::{NO_ARENA, NO_PART, Part, Pass};
 use crate::seen::Seen;
 use atomic_table::{Play, Table, TableRule};
 use fm_base::{Caller, Refusal};
-use fm_words::{Shape, ones};
+use fm_words::{Shape, map_of, ones};
 use std::alloc::Global;
 use std::marker::{Brand, PhantomData};
 
@@ -62,7 +61,8 @@ pub struct Pool {
 }
 
 impl Pool {
-    /// A pool of this shape and its first pass, which has number 0. Every slot can be lent.
+    /// A pool of this shape and its first pass, which has number 0. Every slot can be lent, and every
+    /// page claimed.
     ///
     /// All memory is taken here. Refused: `Memory`.
     pub fn make(alloc: Global, shape: Shape) -> Result<(Pool, Pass), Refusal>
@@ -75,13 +75,14 @@ impl Pool {
         let mut words = vec![in alloc; 0u64; shape.words() as usize]?;
         words[shape.draw_place() as usize] = 1;
         words[shape.slot_bits_place() as usize] = ones(shape.slots);
+        words[shape.page_bits_place() as usize] = ones(shape.pages);
         let (table, seat) = Table::of_words(alloc, &words, &shape)?;
         let pass = Pass {
             seat,
             caller: Caller { number: 0, term: 0 },
             is_inside: false,
             current: NO_ARENA,
-            cells_from: 0,
+            part: NO_PART,
             gathered: 0,
         };
         Ok((Pool { table, shape }, pass))
@@ -109,13 +110,21 @@ impl Pool {
         self.span() * 8
     }
 
-    /// Where the words of a slot begin.
+    /// The part of this index, where this is its map word.
     #[inline(always)]
-    pub(crate) fn cells_from(&self, slot: u32) -> u64
-        requires { slot < self.now.shape.slots }
-        ensures { result ≡ cell_at self.now.shape slot 0 }
+    pub(crate) fn part_of(&self, index: u32, word: u64) -> Part
+        requires { word ≤ self.now.shape.pages }
+        ensures none { word ≡ 0 → result.words ≡ 0 }
+        ensures some { HasPart self.now.shape index word result }
     {
-        self.shape.page_place(slot * self.shape.reach, 0)
+        match map_of(word) {
+            Some(page) => Part {
+                first: u64::from(index) * u64::from(self.shape.page_words),
+                words: u64::from(self.shape.page_words),
+                from: self.shape.page_place(page, 0),
+            },
+            None => NO_PART,
+        }
     }
 
     /// A guess at the session word of a slot; 0 where there is no such slot. It tells nothing.
@@ -130,6 +139,11 @@ impl Pool {
     /// A guess at the word of slot bits. It tells nothing.
     pub fn guess_slots(&self) -> u64 {
         self.peek(self.shape.slot_bits_place())
+    }
+
+    /// A guess at the word of page bits. It tells nothing.
+    pub fn guess_pages(&self) -> u64 {
+        self.peek(self.shape.page_bits_place())
     }
 
     /// A load of the word at this place. It tells nothing.

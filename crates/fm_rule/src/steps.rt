@@ -8,12 +8,12 @@ ghost use Rattle.fm_pool_facts.specs.Views.{IsKnown, pass_of};
 ghost use Rattle.fm_pool_facts.specs.Words.{alive_holds, enter_found, inside_found, own_word, shut_found};
 ghost use Rattle.fm_pool_facts.specs.Holds.{handles_with};
 ghost use Rattle.fm_pool_facts.specs.Closes.{begun, visited_of, visit_found, closes_after, sweeps_after, visit_entries};
-ghost use Rattle.fm_pool_facts.specs.Steps.{Stepped, CanReach, none_noted, note_of, acted, open_entries};
+ghost use Rattle.fm_pool_facts.specs.Steps.{Stepped, CanReach, HasPlace, none_noted, note_of, acted};
 ghost use Rattle.fm_pool_facts.specs.Hands.{nothing, learnt};
 ghost use Rattle.fm_rule.specs.Passes.{IsOf};
 
 use crate::acts::{exchange_as, load_as, store_as};
-use crate::pass::Pass;
+use crate::pass::{NO_PART, Pass};
 use crate::pool::Pool;
 use crate::words::{alive_word, closing_word, is_alive, mark_of};
 use fm_base::{ArenaId, Kind};
@@ -43,7 +43,7 @@ pub fn step_check(pool: &Pool, pass: &mut Pass, a: ArenaId) -> u64
     requires known { IsKnown pass.old a }
     requires may { MayUse a pass.old.caller }
     ensures { Stepped pass.old pass.new
-        (record pass.old { inside = inside_found a (alive_holds a result) })
+        (record pass.old { inside = inside_found a (alive_holds a result); reads = [] })
         (entry_of pass.old.caller (machine.Enter a) (enter_found (alive_holds a result)) ∷ []) none_noted }
 {
     let seat = &mut pass.seat;
@@ -51,31 +51,31 @@ pub fn step_check(pool: &Pool, pass: &mut Pass, a: ArenaId) -> u64
     let word = load_as::<Brand>(pool, seat, place, Step::Checks(a));
     pass.is_inside = is_alive(a, word);
     pass.current = a;
-    pass.cells_from = pool.cells_from(a.slot);
+    pass.part = NO_PART;
     word
 }
 
 /// The word of this index of the arena that the pass is inside.
 #[inline(always)]
-pub fn step_load(pool: &Pool, pass: &mut Pass, word: u64) -> u64
+pub fn step_load(pool: &Pool, pass: &mut Pass, word: u64, place: u64) -> u64
     requires of { IsOf pool.now pass.old }
     requires act { CanReach pass.old word }
+    requires place { HasPlace pass.old word place }
     ensures { Stepped pass.old pass.new pass.old
         (acted pass.old.inside pass.old.caller (λ a. machine.Read a word) (machine.Found result)) none_noted }
 {
-    let place = pass.cells_from + word;
     load_as::<Brand>(pool, &mut pass.seat, place, Step::Loads(word))
 }
 
 /// Puts `v` into the word of this index of the arena that the pass is inside.
 #[inline(always)]
-pub fn step_store(pool: &Pool, pass: &mut Pass, word: u64, v: u64)
+pub fn step_store(pool: &Pool, pass: &mut Pass, word: u64, place: u64, v: u64)
     requires of { IsOf pool.now pass.old }
     requires act { CanReach pass.old word }
+    requires place { HasPlace pass.old word place }
     ensures { Stepped pass.old pass.new pass.old
         (acted pass.old.inside pass.old.caller (λ a. machine.Write a word v) machine.Fine) none_noted }
 {
-    let place = pass.cells_from + word;
     store_as::<Brand>(pool, &mut pass.seat, place, v, Step::Stores(word, v));
 }
 
@@ -127,8 +127,8 @@ pub fn step_visit(pool: &Pool, pass: &mut Pass, a: ArenaId, k: u32) -> u64
     load_as::<Brand>(pool, &mut pass.seat, place, Step::Visits(a, k))
 }
 
-/// Opens an arena of this kind in the slot that the pass took. The slot's words are lent to it at this step. The pass has
-/// a handle of it, where it is automatic.
+/// Opens an arena of this kind in the slot that the pass took. The pass has a handle of it, where it is
+/// automatic.
 pub fn step_open(pool: &Pool, pass: &mut Pass, slot: Slot, kind: Kind) -> ArenaId
     requires of { IsOf pool.now pass.old }
     requires hand { pass.old.hand ≡ learnt slot.slot slot.generation }
@@ -140,7 +140,7 @@ pub fn step_open(pool: &Pool, pass: &mut Pass, slot: Slot, kind: Kind) -> ArenaI
       term = pass.old.caller.term;
     } }
     ensures stepped { Stepped pass.old pass.new (record pass.old { hand = nothing; handles = handles_with result pass.old.handles })
-        (open_entries result pass.old.caller) none_noted }
+        (entry_of pass.old.caller (machine.Open result) machine.Fine ∷ []) none_noted }
 {
     let a = ArenaId {
         slot: slot.slot,

@@ -1,14 +1,15 @@
-//! The steps by which an arena that has ended gives its words and its slot back.
-ghost use Rattle.std.specs.Prelude.{◌≡◌, ◌<◌, ◌+◌, ◌==◌, [], ◌∷◌, Some};
+//! The steps by which an arena that has ended gives its pages and its slot back.
+ghost use Rattle.std.specs.Prelude.{◌≡◌, ◌<◌, ◌≤◌, ◌+◌, ◌==◌, if◌then◌else◌, [], ◌∷◌, Some};
 ghost use Rattle.fm_base.specs.Calls as machine;
 ghost use Rattle.fm_base.specs.Calls.{entry_of};
-ghost use Rattle.fm_pool_facts.specs.Views.{span};
+ghost use Rattle.fm_pool_facts.specs.Parts.{unread, named, wiping, swept_read};
 ghost use Rattle.fm_pool_facts.specs.Closes.{visited_of, visited, dropped};
 ghost use Rattle.fm_pool_facts.specs.Hands.{nothing, retired, hand_retired};
-ghost use Rattle.fm_pool_facts.specs.Steps.{Stepped, none_noted};
+ghost use Rattle.fm_pool_facts.specs.Views.{given_of};
+ghost use Rattle.fm_pool_facts.specs.Steps.{Stepped, AreAllGiven, none_noted};
 ghost use Rattle.fm_rule.specs.Passes.{IsOf};
 
-use crate::acts::{or_as, store_as};
+use crate::acts::{load_as, or_as, store_as};
 use crate::pass::Pass;
 use crate::pool::Pool;
 use crate::words::{bit, retired_word};
@@ -16,24 +17,86 @@ use fm_base::ArenaId;
 use fm_pool_facts::Step;
 use std::marker::Brand;
 
-/// Makes the word of this index 0, the next one that the sweep of the arena wipes.
-///
-/// The arena has ended, and its slot isn't lent again: nobody else uses the word.
-pub fn step_wipe(pool: &Pool, pass: &mut Pass, a: ArenaId, word: u64)
+/// Answers how many bytes an arena gave that has ended, at the beginning of its sweep. It gives no more.
+pub fn step_sweep_given(pool: &Pool, pass: &mut Pass, a: ArenaId) -> u64
     requires of { IsOf pool.now pass.old }
-    requires sweep { visited_of pass.old.sweeps a ≡ Some word }
-    requires low { word < span pool.now.shape }
-    ensures { Stepped pass.old pass.new (record pass.old { sweeps = visited a pass.old.sweeps }) [] none_noted }
+    requires sweep { visited_of pass.old.sweeps a ≡ Some 0 }
+    ensures count { result ≡ given_of pass.new a }
+    ensures stepped { Stepped pass.old pass.new pass.old [] none_noted }
 {
     let seat = &mut pass.seat;
-    let place = pool.cells_from(a.slot) + word;
-    store_as::<Brand>(pool, seat, place, 0, Step::Wipes(a, word));
+    let place = pool.shape.given_place(a.slot);
+    load_as::<Brand>(pool, seat, place, Step::SweepsGiven(a))
 }
 
-/// Makes the count of bytes 0 that the arena has given. All its words were wiped.
+/// Answers the map word of the next part that the sweep of the arena comes to. Where it is 0, the part is behind it.
+pub fn step_sweep_map(pool: &Pool, pass: &mut Pass, a: ArenaId, index: u32) -> u64
+    requires of { IsOf pool.now pass.old }
+    requires sweep { visited_of pass.old.sweeps a ≡ Some index }
+    requires low { index < pool.now.shape.reach }
+    requires idle { pass.old.swept ≡ unread }
+    ensures low { result ≤ pass.old.shape.pages }
+    ensures stepped { Stepped pass.old pass.new
+        (record pass.old {
+          swept = swept_read a index result;
+          sweeps = if result == 0 then visited a pass.old.sweeps else pass.old.sweeps;
+        }) [] none_noted }
+{
+    let seat = &mut pass.seat;
+    let place = pool.shape.map_place(a.slot, index);
+    load_as::<Brand>(pool, seat, place, Step::SweepsMap(a, index))
+}
+
+/// Makes the map word of this part 0, which named the page.
+pub fn step_unmap(pool: &Pool, pass: &mut Pass, a: ArenaId, index: u32, page: u32)
+    requires of { IsOf pool.now pass.old }
+    requires sweep { visited_of pass.old.sweeps a ≡ Some index }
+    requires low { index < pool.now.shape.reach }
+    requires named { pass.old.swept ≡ named a index page }
+    ensures { Stepped pass.old pass.new (record pass.old { swept = wiping a index page 0 }) [] none_noted }
+{
+    let seat = &mut pass.seat;
+    let place = pool.shape.map_place(a.slot, index);
+    store_as::<Brand>(pool, seat, place, 0, Step::Unmaps(a, index, page));
+}
+
+/// Makes the word of this index of the page 0, the next one that the sweep wipes. Nobody else uses the page.
+pub fn step_wipe(pool: &Pool, pass: &mut Pass, a: ArenaId, index: u32, page: u32, word: u32)
+    requires of { IsOf pool.now pass.old }
+    requires sweep { visited_of pass.old.sweeps a ≡ Some index }
+    requires low { index < pool.now.shape.reach }
+    requires wiped { pass.old.swept ≡ wiping a index page word }
+    requires word { word < pool.now.shape.page_words }
+    ensures { Stepped pass.old pass.new (record pass.old { swept = wiping a index page (word + 1) }) [] none_noted }
+{
+    let seat = &mut pass.seat;
+    let place = pool.shape.page_place(page, word);
+    store_as::<Brand>(pool, seat, place, 0, Step::Wipes(a, index, page, word));
+}
+
+/// Makes the bit of a page 1 whose first words the sweep has wiped, so many of them: its loan is taken back, and it can
+/// be claimed from this step on. Words without a given byte are 0 as they stand.
+pub fn step_return_page(pool: &Pool, pass: &mut Pass, a: ArenaId, index: u32, page: u32, words: u32)
+    requires of { IsOf pool.now pass.old }
+    requires sweep { visited_of pass.old.sweeps a ≡ Some index }
+    requires low { index < pool.now.shape.reach }
+    requires wiped { pass.old.swept ≡ wiping a index page words }
+    requires all { AreAllGiven pass.old a index words }
+    ensures { Stepped pass.old pass.new (record pass.old { swept = unread; sweeps = visited a pass.old.sweeps })
+        (entry_of pass.old.caller (machine.Back page) machine.Fine ∷ []) none_noted }
+{
+    let _ = (index, words);
+    let seat = &mut pass.seat;
+    let place = pool.shape.page_bits_place();
+    let bits = bit(page);
+    or_as::<Brand>(pool, seat, place, bits, Step::ReturnsPage(a, page));
+}
+
+/// Makes the count of bytes 0 that the arena has given. None of its parts has a page any more.
 pub fn step_reset_given(pool: &Pool, pass: &mut Pass, a: ArenaId)
     requires of { IsOf pool.now pass.old }
-    requires sweep { visited_of pass.old.sweeps a ≡ Some (span pool.now.shape) }
+    requires sweep { visited_of pass.old.sweeps a ≡ Some pool.now.shape.reach }
+    requires idle { pass.old.swept ≡ unread }
     ensures { Stepped pass.old pass.new (record pass.old { sweeps = visited a pass.old.sweeps }) [] none_noted }
 {
     let seat = &mut pass.seat;
@@ -41,18 +104,19 @@ pub fn step_reset_given(pool: &Pool, pass: &mut Pass, a: ArenaId)
     store_as::<Brand>(pool, seat, place, 0, Step::ResetsGiven(a));
 }
 
-/// Takes the slot's words back from the arena. The next arena of the slot has the next generation; there is none after
+/// The next arena of the slot has the next generation; there is none after
 /// the last, else the pass has the slot in its hand.
 pub fn step_retire(pool: &Pool, pass: &mut Pass, a: ArenaId)
     requires of { IsOf pool.now pass.old }
     requires none { pass.old.hand ≡ nothing }
-    requires sweep { visited_of pass.old.sweeps a ≡ Some (span pool.now.shape + 1) }
+    requires sweep { visited_of pass.old.sweeps a ≡ Some (pool.now.shape.reach + 1) }
+    requires idle { pass.old.swept ≡ unread }
     ensures { Stepped pass.old pass.new
         (record pass.old {
           sweeps = dropped a pass.old.sweeps;
           hand = hand_retired (a.generation + 1 == pass.old.shape.generations) a.slot pass.old.hand;
         })
-        (entry_of pass.old.caller (machine.Back a.slot) machine.Fine ∷ []) none_noted }
+        [] none_noted }
 {
     let seat = &mut pass.seat;
     let place = pool.shape.session_place(a.slot);

@@ -1,6 +1,7 @@
+ghost use Rattle.std.specs.Prelude.{◌<◌};
 ghost use Rattle.fm_words.specs.Shapes.{IsValid};
 
-use crate::{Pool, alive_holds, mark_of, step_unmark};
+use crate::{Pool, alive_holds, mark_of, step_take_page, step_unmark};
 use fm_base::{ArenaId, Kind};
 use fm_words::Shape;
 use std::alloc::AllocGlobal;
@@ -59,33 +60,50 @@ fn word_at(pool: &Pool, place: u64) -> Option<u64> {
     }
 }
 
-/// All words are 0 but the count of numbers and the slot bits.
-fn check_words<R: Abort + AllocGlobal>(rt: &R, shape: Shape, words: u64, slot_bits: u64)
-    requires { IsValid shape }
+/// All words are 0 but the count of numbers, the slot bits and the page bits. Of many words the first and the last are
+/// looked at.
+fn check_words<R: Abort + AllocGlobal>(
+    rt: &R,
+    shape: Shape,
+    words: u64,
+    slot_bits: u64,
+    page_bits: u64,
+)
+    requires valid { IsValid shape }
+    requires some { 0 < words }
 {
     let (pool, _) = Pool::make(rt.alloc(), shape).expect(rt, "words");
-    for place in 0..words {
+    for place in 0..words.min(10_000) {
         let expected = match place {
             1 => 1,
             2 => slot_bits,
+            3 => page_bits,
             _ => 0,
         };
         assert_eq!(rt; word_at(&pool, place), Some(expected));
     }
+    assert_eq!(rt; word_at(&pool, words - 1), Some(0));
     assert_eq!(rt; word_at(&pool, words), None);
 }
 
 #[test]
-fn pools_begin_with_zeros_one_number_and_slot_bits(rt: HostRuntime) {
-    check_words(&rt, LEAST, 7, 1);
-    check_words(&rt, LARGER, 42, 3);
+fn pools_begin_with_zeros_one_number_and_the_bits_of_slots_and_pages(rt: HostRuntime) {
+    check_words(&rt, LEAST, 9, 1, 1);
+    check_words(&rt, LARGER, 47, 3, 15);
 }
 
 #[test]
 fn pools_of_the_greatest_shapes_can_be_had(rt: HostRuntime) {
-    check_words(&rt, GREATEST, 16_781_443, u64::MAX);
-    check_words(&rt, FARTHEST, 16_781_317, 1);
-    check_words(&rt, WIDEST, 16_781_347, 0xffff);
+    check_words(&rt, GREATEST, 16_781_508, u64::MAX, u64::MAX);
+    check_words(&rt, FARTHEST, 16_781_382, 1, u64::MAX);
+    check_words(&rt, WIDEST, 16_781_364, 0xffff, 0xffff);
+}
+
+#[test]
+fn a_page_is_taken_by_its_bit(rt: HostRuntime) {
+    let (pool, mut pass) = Pool::make(rt.alloc(), LARGER).expect(&rt, "words");
+    assert_eq!(rt; step_take_page(&pool, &mut pass, 0b1111, 2), 0b1111);
+    assert_eq!(rt; word_at(&pool, 3), Some(0b1011));
 }
 
 #[test]

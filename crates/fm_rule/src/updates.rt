@@ -1,8 +1,8 @@
-ghost use Rattle.std.specs.Prelude.{◌≡◌, ◌<◌, ◌==◌, ◌∷◌, [], Some};
+ghost use Rattle.std.specs.Prelude.{◌≡◌, ◌≢◌, ◌≤◌, ◌+◌, ◌==◌, ◌∷◌, [], None, Some};
 ghost use Rattle.fm_base.specs.Calls as machine;
-ghost use Rattle.fm_base.specs.Machine.{IsPower, allocate_reply};
-ghost use Rattle.fm_pool_facts.specs.Views.{limit_of};
-ghost use Rattle.fm_pool_facts.specs.Steps.{Stepped, CanReach, none_noted, acted, where_found};
+ghost use Rattle.fm_base.specs.Machine.{IsPower, allocate_reply, rounded_up};
+ghost use Rattle.fm_pool_facts.specs.Views.{limit_of, given_of};
+ghost use Rattle.fm_pool_facts.specs.Steps.{Stepped, CanReach, HasPlace, HasParts, none_noted, acted, where_found};
 ghost use Rattle.fm_rule.specs.Passes.{IsOf};
 
 use crate::acts::{add_as, exchange_as};
@@ -14,13 +14,13 @@ use fm_pool_facts::Step;
 use std::marker::Brand;
 
 /// Puts `new` into the word of this index where it is `old`, and answers the word found.
-pub fn step_swap_if(pool: &Pool, pass: &mut Pass, word: u64, old: u64, new: u64) -> u64
+pub fn step_swap_if(pool: &Pool, pass: &mut Pass, word: u64, place: u64, old: u64, new: u64) -> u64
     requires of { IsOf pool.now pass.old }
     requires act { CanReach pass.old word }
+    requires place { HasPlace pass.old word place }
     ensures { Stepped pass.old pass.new pass.old
         (acted pass.old.inside pass.old.caller (λ a. machine.SwapIf a word old new) (machine.Found result)) none_noted }
 {
-    let place = pass.cells_from + word;
     exchange_as::<Brand>(
         pool,
         &mut pass.seat,
@@ -32,13 +32,13 @@ pub fn step_swap_if(pool: &Pool, pass: &mut Pass, word: u64, old: u64, new: u64)
 }
 
 /// Adds `n` to the word of this index, wrapping at 2^64, and answers the word found.
-pub fn step_add(pool: &Pool, pass: &mut Pass, word: u64, n: u64) -> u64
+pub fn step_add(pool: &Pool, pass: &mut Pass, word: u64, place: u64, n: u64) -> u64
     requires of { IsOf pool.now pass.old }
     requires act { CanReach pass.old word }
+    requires place { HasPlace pass.old word place }
     ensures { Stepped pass.old pass.new pass.old
         (acted pass.old.inside pass.old.caller (λ a. machine.Add a word n) (machine.Found result)) none_noted }
 {
-    let place = pass.cells_from + word;
     add_as::<Brand>(pool, &mut pass.seat, place, n, Step::Adds(word, n))
 }
 
@@ -54,7 +54,10 @@ pub fn step_allocate(
     requires of { IsOf pool.now pass.old }
     requires inside { pass.old.inside ≡ Some a }
     requires power { IsPower align }
-    ensures { Stepped pass.old pass.new pass.old
+    requires parts { rounded_up given align + size ≤ limit_of pass.old.shape
+        → HasParts pass.old given (rounded_up given align + size) }
+    ensures count { result ≢ given → result ≡ given_of pass.new a }
+    ensures stepped { Stepped pass.old pass.new pass.old
         (where_found (result == given) (acted pass.old.inside pass.old.caller (λ b. machine.Allocate b size align)
         (allocate_reply (limit_of pass.old.shape) given size align))) none_noted }
 {

@@ -9,6 +9,8 @@ pub mod Settled
 pub mod Picking
 pub mod Numbering
 pub mod Opening
+pub mod Allocating
+pub mod Lending
 pub mod Rows
 pub mod Returning
 pub mod AdmittedNames

@@ -83,7 +83,7 @@ line_silent c stands (Open name kind) reply made run o lacks does =
 line_silent c stands command reply made run o lacks does = absurd (cc)
 
 -- The entries of a pass, behind some of its own.
-made_after : {p q : View} {own : List Entry} → Went p q own → made_by p.caller q.seen ≡ made_by p.caller p.seen ++ own
+pub made_after : {p q : View} {own : List Entry} → Went p q own → made_by p.caller q.seen ≡ made_by p.caller p.seen ++ own
 made_after {p = p} w =
     ap (λ (es : List Entry). made_by p.caller es) w.seen
     ∙ (filter-append _ p.seen w.more ∙ ap (λ (es : List Entry). made_by p.caller p.seen ++ es) w.by_pass)

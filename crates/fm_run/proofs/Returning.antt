@@ -16,6 +16,7 @@ use Rattle.fm_run.specs.Calls.{CallDoes, keeps_tokens}
 use Rattle.fm_run.specs.Lines.{LineRan, behind, is_number}
 use Rattle.fm_run.specs.Numbers.{number_at}
 use Rattle.fm_run.specs.Outcomes.{outcome, plain}
+use Rattle.fm_run.specs.Pages.{PagesToldBy}
 use Rattle.fm_run.specs.Runs.{RanLine, Went}
 use Rattle.fm_run.specs.Slots.{SlotsTold, opens}
 use Rattle.fm_run.specs.Standings.{standing_at, standing_of}
@@ -69,8 +70,10 @@ module _ (p q : View) (names : Numbers) (base : List Standing) (start : ℕ) (ow
   -- A line that gives nothing back.
   pub line_kept : (out : Outcome) → keeps_tokens command ≡ true → next ≡ own ++ out.made ∷ [] → reply ≡ out.reply
       → RanLine p q (CallDoes p.caller (λ name. standing_of base start own (number_at names name)) command) out
-      → (opens command ≡ true → SlotsTold p q out.reply) → LineRan p q names base start own next command reply
-  line_kept out kept is said r told = record {
+      → (opens command ≡ true → SlotsTold p q out.reply)
+      → PagesToldBy (λ name. standing_of base start own (number_at names name)) p q command out.reply
+      → LineRan p q names base start own next command reply
+  line_kept out kept is said r told paged = record {
     made = out.made;
     run = r.ran.own;
     does = subst (λ (x : Reply). CallDoes p.caller (λ name. standing_of base start own (number_at names name)) command (outcome x out.made) r.ran.own)
@@ -83,6 +86,7 @@ module _ (p q : View) (names : Numbers) (base : List Standing) (start : ℕ) (ow
         ∙ ap (λ (s : Standing). if n == start + length own then out.made else s)
         (sym (behind-kept (number_at names) command n (standing_at base start own n) kept)));
     slots = λ o. subst (λ (x : Reply). SlotsTold p q x) (sym said) (told o);
+    pages = subst (λ (x : Reply). PagesToldBy (λ name. standing_of base start own (number_at names name)) p q command x) (sym said) paged;
   }
 
   pub backs_kept : (out : Outcome) (holds handles : List ArenaId) → next ≡ own ++ out.made ∷ []
@@ -97,8 +101,10 @@ module _ (p q : View) (names : Numbers) (base : List Standing) (start : ℕ) (ow
       → ((n : ℕ) (s : Standing) → behind (number_at names) command n s ≡ (if is_number number n then f s else s))
       → Left f base start own number left → length left ≡ length own → next ≡ left ++ Nothing ∷ []
       → CallDoes p.caller (λ name. standing_of base start own (number_at names name)) command (plain reply) run → Went p q run → q.inside ≡ None
-      → Lasts (view_of_pass p) (view_of_pass q) → opens command ≡ false → LineRan p q names base start own next command reply
-  line_took left number f run behind_is stands many is does went outside lasts shuts = record {
+      → Lasts (view_of_pass p) (view_of_pass q) → opens command ≡ false
+      → PagesToldBy (λ name. standing_of base start own (number_at names name)) p q command reply
+      → LineRan p q names base start own next command reply
+  line_took left number f run behind_is stands many is does went outside lasts shuts paged = record {
     made = Nothing;
     run = run;
     does = does;
@@ -109,4 +115,5 @@ module _ (p q : View) (names : Numbers) (base : List Standing) (start : ℕ) (ow
     stands = λ n. ap (λ (xs : List Standing). standing_at base start xs n) is ∙ (stands n
         ∙ ap (λ (s : Standing). if n == start + length own then Nothing else s) (sym (behind_is n (standing_at base start own n))));
     slots = λ o. absurd (cc);
+    pages = paged;
   }

@@ -7,7 +7,7 @@ use Rattle.fm_base.specs.declared.arena_id.ArenaId.{ArenaId}
 use Rattle.fm_base.specs.declared.caller.Caller.{Caller}
 use Rattle.fm_base.specs.Calls.{Entry}
 use Rattle.fm_base.specs.Histories.{made_by}
-use Rattle.fm_pool_facts.specs.Views.{View}
+use Rattle.fm_pool_facts.specs.Views.{View, Begins}
 use Rattle.fm_script.specs.declared.line.Line.{Line}
 use Rattle.fm_run.specs.declared.numbers.Numbers.{Numbers}
 use Rattle.fm_run.specs.declared.reply.Reply.{Reply}
@@ -17,12 +17,15 @@ use Rattle.fm_run.specs.Calls.{CallDoes}
 use Rattle.fm_run.specs.Lines.{LineRan}
 use Rattle.fm_run.specs.Numbers.{number_at}
 use Rattle.fm_run.specs.Outcomes.{outcome}
+use Rattle.fm_run.specs.Pages.{AllocatesRightly, FindsFew, LendsRightly}
 use Rattle.fm_run.specs.Playing.{LinesRan}
 use Rattle.fm_run.specs.Report.{Done, AreRun, names_after, names_behind, runs}
 use Rattle.fm_run.specs.Runs.{Went, WentOn}
-use Rattle.fm_run.specs.Standings.{Names, stands_of, standing_at}
+use Rattle.fm_run.specs.Standings.{Names, stands_of, standing_at, standing_of}
 use Rattle.fm_run.specs.Tokens.{Backs}
+use Rattle.fm_run.proofs.Allocating.{allocates_rightly}
 use Rattle.fm_run.proofs.Going.{lasts_then, went_none, went_then}
+use Rattle.fm_run.proofs.Lending.{behind_as, behind_more, few_later, finds_few, lends_later, lends_rightly}
 use Rattle.fm_run.proofs.Opening.{found_at, found_later, found_more, line_silent, opens_more, opens_rightly}
 
 -- What one more line leaves of names.
@@ -59,6 +62,9 @@ module _ (p : View) (names : Numbers) (base : List Standing) (start : ℕ) (own 
     stands = refl;
     exact = λ whole none. tt;
     found = tt;
+    full = λ whole closed none. tt;
+    few = tt;
+    loans = tt;
   }
 
   -- A line more.
@@ -69,8 +75,10 @@ module _ (p : View) (names : Numbers) (base : List Standing) (start : ℕ) (own 
       let number = number_at names in
       let k = start + length own in
       let d : Done = record { line = l; reply = reply; run = b.run; made = b.made } in
+      let mine : List Entry = made_by p.caller p.seen in
+      let stood : List ℕ → Standing = λ name. standing_of base start now (number name) in
+      let later : Begins q.seen r.seen = (b.went.more, b.went.seen) in
       let here : start + length now ≡ k + length a.dones = let m = a.many in omega (arith, m) in
-      let moved : Names = names_after number k a.dones (standing_at base start own) in
       record {
         dones = a.dones ++ d ∷ [];
         are = map-append (λ (x : Done). x.line) a.dones (d ∷ []) ∙ ap (λ (ls : List Line). ls ++ l ∷ []) a.are;
@@ -93,6 +101,16 @@ module _ (p : View) (names : Numbers) (base : List Standing) (start : ℕ) (own 
             (found_later p.caller q.finds q.seen r.finds r.seen b.went.finds (b.went.more, b.went.seen) (made_by p.caller p.seen) a.dones a.found)
             (λ n. found_at a.went b.went ((b.slots n.opens).found n.refused)
             (line_silent q.caller (λ name. stands_of (standing_at base start now) (number name)) l.command reply b.made b.run n.opens n.refused b.does));
+        full = λ whole closed none. behind_more (AllocatesRightly p.shape) p.seen a.dones d (a.full whole closed none)
+            (allocates_rightly d a.went whole closed none r stood l.command refl b.does b.pages);
+        few = behind_more (FindsFew p.shape p.caller r.seen) mine a.dones d
+            (behind_as (FindsFew p.shape p.caller q.seen) (FindsFew p.shape p.caller r.seen) (few_later p.shape p.caller q.seen r.seen later)
+            mine a.dones a.few)
+            (finds_few d a.went b.went stood l.command refl b.does b.pages);
+        loans = behind_more (LendsRightly p.shape p.caller r.seen) mine a.dones d
+            (behind_as (LendsRightly p.shape p.caller q.seen) (LendsRightly p.shape p.caller r.seen) (lends_later p.shape p.caller q.seen r.seen later)
+            mine a.dones a.loans)
+            (lends_rightly d a.went b.went stood l.command refl b.does b.pages);
       }
 
 -- Whatever the lines were.

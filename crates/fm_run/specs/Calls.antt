@@ -62,7 +62,7 @@ Called {X} Does ok out own = (result : Result X Refusal) × Does result own × (
 abbrev pub CalledBut : {X : Type 0} → (Result X Refusal → List Entry → Type 0) → (X → Outcome) → Line
 CalledBut Does ok = Called (λ result own. Does result (but_loans own)) ok
 
--- a call's answer that may come over a pool, whose calls take no memory and find each page there
+-- a call's answer that may come over a pool, whose calls take no memory
 abbrev pub OverPool : {X : Type 0} → (Result X Refusal → List Entry → Type 0) → Result X Refusal → List Entry → Type 0
 OverPool Does result own = MayCome nature_of_shared result × Does result own
 

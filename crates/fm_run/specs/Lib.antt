@@ -7,6 +7,7 @@ pub mod Numbers
 pub mod Ordering
 pub mod Laws
 pub mod Lines
+pub mod Pages
 pub mod Played
 pub mod Playing
 pub mod Report

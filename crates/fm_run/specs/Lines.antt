@@ -12,6 +12,7 @@ use Rattle.fm_run.specs.declared.standing.Standing.{Standing}
 use Rattle.fm_run.specs.Calls.{CallDoes}
 use Rattle.fm_run.specs.Numbers.{number_at}
 use Rattle.fm_run.specs.Outcomes.{outcome}
+use Rattle.fm_run.specs.Pages.{PagesToldBy}
 use Rattle.fm_run.specs.Runs.{Went}
 use Rattle.fm_run.specs.Slots.{SlotsTold, opens}
 use Rattle.fm_run.specs.Standings.{standing_at, standing_of, unheld, handed_back}
@@ -41,3 +42,5 @@ pub record LineRan (old new : View) (names : Numbers) (base : List Standing) (st
       ≡ (if n == start + length own then made else behind (number_at names) command n (standing_at base start own n))
   -- where it opens an arena, what it tells of slots
   pub slots : opens command ≡ true → SlotsTold old new reply
+  -- where it allocates, what it tells of pages
+  pub pages : PagesToldBy (λ name. standing_of base start own (number_at names name)) old new command reply

@@ -1,5 +1,5 @@
 -- What a pass's lines in a row do.
-use Rattle.std.specs.Prelude.{◌≡◌, ℕ, ◌+◌, true, length, map, None, List}
+use Rattle.std.specs.Prelude.{◌≡◌, ℕ, ◌+◌, true, length, map, None, List, []}
 use Rattle.fm_base.specs.Histories.{made_by}
 use Rattle.fm_base.specs.Outcomes.{Lasts}
 use Rattle.fm_pool_facts.specs.Views.{View}
@@ -10,6 +10,7 @@ use Rattle.fm_run.specs.declared.numbers.Numbers.{Numbers}
 use Rattle.fm_run.specs.declared.reply.Reply.{Reply}
 use Rattle.fm_run.specs.declared.standing.Standing.{Standing}
 use Rattle.fm_run.specs.Numbers.{number_at}
+use Rattle.fm_run.specs.Pages.{AllocatesRightly, EachBehind, FindsFew, LendsRightly}
 use Rattle.fm_run.specs.Report.{Done, AreRun, lines_of, names_after, runs}
 use Rattle.fm_run.specs.Runs.{Went}
 use Rattle.fm_run.specs.Slots.{AreFound, OpenRightly}
@@ -30,3 +31,7 @@ pub record LinesRan (old new : View) (names : Numbers) (base : List Standing) (s
   -- where the pass is by itself its lines are refused exactly where no slot is free; whenever one is, the pass found none
   pub exact : old.whole ≡ true → HasNoSlot old → OpenRightly old.shape old.seen dones
   pub found : AreFound old.caller new.finds new.seen (made_by old.caller old.seen) dones
+  -- the same of pages, where it has no close under way; and whom they lend pages
+  pub full : old.whole ≡ true → old.closes ≡ [] → HasNoSlot old → EachBehind (AllocatesRightly old.shape) old.seen dones
+  pub few : EachBehind (FindsFew old.shape old.caller new.seen) (made_by old.caller old.seen) dones
+  pub loans : EachBehind (LendsRightly old.shape old.caller new.seen) (made_by old.caller old.seen) dones

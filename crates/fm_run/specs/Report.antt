@@ -13,6 +13,7 @@ use Rattle.fm_run.specs.Lines.{behind}
 use Rattle.fm_run.specs.Numbers.{number_from}
 use Rattle.fm_run.specs.Outcomes.{outcome}
 pub use Rattle.fm_run.specs.Played.{Done, Player, Played, IsCut, AreCounted, runs, lines_of, worked, all_done, callers}
+use Rattle.fm_run.specs.Pages.{HavePages}
 use Rattle.fm_run.specs.Slots.{HaveSlots}
 use Rattle.fm_run.specs.Standings.{Names, stands_of, lent}
 
@@ -102,5 +103,6 @@ pub record IsReport (s : ScriptOf) (history : List Entry) (p : Played) : Type 0 
       (lent_names (names_after (number_of p) 0 p.firsts none_stands)) p.players
   pub last_calls : AreRun p.main (number_of p) (length p.firsts + length (worked p.players))
       (gathered_names (number_of p) (length p.firsts) p.players (names_after (number_of p) 0 p.firsts none_stands)) p.lasts
-  -- where lines are refused for want of a slot
+  -- where lines are refused for want of a slot, and where for want of pages
   pub slots : HaveSlots s.shape p cut
+  pub pages : HavePages s.shape p cut

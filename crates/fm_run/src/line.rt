@@ -4,6 +4,7 @@ ghost use Rattle.fm_script.specs.Syntax.{IsSpelled};
 ghost use Rattle.fm_run.specs.Calls.{CallDoes, keeps_tokens, takes_memory};
 ghost use Rattle.fm_run.specs.Lines.{LineRan};
 ghost use Rattle.fm_run.specs.Numbers.{number_at};
+ghost use Rattle.fm_run.specs.Pages.{PagesToldBy};
 ghost use Rattle.fm_run.specs.Runs.{RanLine};
 ghost use Rattle.fm_run.specs.Slots.{SlotsTold, opens};
 ghost use Rattle.fm_run.specs.Standings.{standing_of};
@@ -79,6 +80,9 @@ fn run_call<R: Wait>(
     ensures ran { IfOk result (RanLine m.old m.new (CallDoes m.old.caller (λ name.
         standing_of table.now.base.now table.now.start table.now.own.items (number_at names.now name)) command.now)) }
     ensures slots { IfOk result (λ out. opens command.now ≡ true → SlotsTold m.old m.new out.reply) }
+    ensures pages { IfOk result (λ out. PagesToldBy (λ name.
+        standing_of table.now.base.now table.now.start table.now.own.items (number_at names.now name))
+        m.old m.new command.now out.reply) }
     ensures kept { OnErr result (m.new ≡ m.old) }
     ensures memory { IfErr result (λ refusal. refusal ≡ Refusal.Memory) }
     ensures takes { IfErr result (λ _. takes_memory command.now ≡ true) }

@@ -1,6 +1,7 @@
 ghost use Rattle.std.specs.Prelude.{◌≡◌, None, true};
 ghost use Rattle.fm_run.specs.Calls.{CallDoes, is_on_arena};
 ghost use Rattle.fm_run.specs.Numbers.{number_at};
+ghost use Rattle.fm_run.specs.Pages.{PagesToldBy};
 ghost use Rattle.fm_run.specs.Runs.{RanLine};
 ghost use Rattle.fm_run.specs.Slots.{SlotsTold, opens};
 ghost use Rattle.fm_run.specs.Standings.{standing_of};
@@ -31,6 +32,9 @@ pub(crate) fn run_on_arena<R: Wait>(
         standing_of table.now.base.now table.now.start table.now.own.items (number_at names.now name))
         command.now) result }
     ensures slots { opens command.now ≡ true → SlotsTold m.old m.new result.reply }
+    ensures pages { PagesToldBy (λ name.
+        standing_of table.now.base.now table.now.start table.now.own.items (number_at names.now name))
+        m.old m.new command.now result.reply }
 {
     match command {
         Command::Open { kind, .. } => open(rt, m, *kind),

@@ -6,6 +6,7 @@ ghost use Rattle.fm_segment.specs.Access.{IsKnown};
 ghost use Rattle.fm_segment.specs.Region.{read_only_of};
 ghost use Rattle.fm_segment.specs.Slices.{slice_of};
 ghost use Rattle.fm_run.specs.Calls.{On, Allocates, Answers, Called, segment_made};
+ghost use Rattle.fm_run.specs.Pages.{PagesTold};
 ghost use Rattle.fm_run.specs.Runs.{RanLine};
 
 use crate::outcome::Outcome;
@@ -26,7 +27,8 @@ pub(crate) fn allocate<R: Wait>(
 ) -> Outcome
     requires outside { m.old.inside ≡ None }
     requires known { IfSome arena (pass.IsKnown m.old) }
-    ensures { RanLine m.old m.new (On arena (Allocates m.old.caller size align)) result }
+    ensures ran { RanLine m.old m.new (On arena (Allocates m.old.caller size align)) result }
+    ensures pages { IfSome arena (λ id. PagesTold m.old m.new id size align result.reply) }
 {
     let Some(arena) = arena else {
         return Outcome::plain(Reply::Skipped);

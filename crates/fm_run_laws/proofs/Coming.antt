@@ -1,15 +1,16 @@
--- What a line's call answers may come over a pool.
+-- What a line's call answers may come over a pool, where it wants no page.
 use Rattle.std.proofs.Common.{◌≡◌, ℕ, ◌+◌, ◌==◌, nat_le, nat_lt, nat_eq, if◌then◌else◌, Bool, true, false, MatchBool, Result, Ok, Err, List, [], ◌∷◌, replicate, refl, sym, subst, ℤ}
 use Rattle.std.specs.Prelude.{◌%◌, ◌&&◌}
 use Rattle.fm_access.specs.Found.{DoesAt}
 use Rattle.fm_access.specs.Ranges.{DoesFill, DoesPut}
 use Rattle.fm_base.specs.declared.arena_id.ArenaId.{ArenaId}
 use Rattle.fm_base.specs.declared.caller.Caller.{Caller}
+use Rattle.fm_base.specs.declared.kind.Kind.{Kind}
 use Rattle.fm_base.specs.declared.refusal.Refusal.{Refusal}
 use Rattle.fm_base.specs.declared.refusal.Refusal.TheVariants as refusal
 use Rattle.fm_base.specs.Calls.{Entry}
-use Rattle.fm_base.specs.Does.{DoesClose, DoesEnter, DoesIsAlive, DoesHold, DoesAgain}
-use Rattle.fm_base.specs.Outcomes.{MayCome, MayRefuse}
+use Rattle.fm_base.specs.Does.{DoesOpen, DoesClose, DoesEnter, DoesIsAlive, DoesHold, DoesAgain}
+use Rattle.fm_base.specs.Outcomes.{MayCome, MayRefuse, Nature}
 use Rattle.fm_base.specs.View.{but_loans}
 use Rattle.fm_base.specs.Visits.{Acts}
 use Rattle.fm_arena.specs.Shares.{nature_of_shared}
@@ -32,9 +33,13 @@ use Rattle.fm_segment.specs.Copies.{DoesCopySegment}
 use Rattle.fm_segment.specs.Fills.{DoesAfter, DoesFillSegment}
 use Rattle.fm_segment.specs.Region.{Region}
 
--- it may come over a pool
+-- what a pool answers to calls that take neither memory nor pages
+abbrev pub without_pages : Nature
+without_pages = record { alone = false; memory = false; no_slot = true; pool_full = false }
+
+-- it may come of one
 abbrev pub May : {X : Type 0} → Result X Refusal → Type 0
-May result = MayCome nature_of_shared result
+May result = MayCome without_pages result
 
 -- ---- places
 
@@ -80,7 +85,7 @@ after_may (Err e) Does result own h f d = subst (λ (x : Result (Unit {0}) Refus
 after_may (Ok u) Does result own h f d = f d
 
 module _ (c : Caller) (own : List Entry) where
-  enter_may : (id : ArenaId) (r : Refusal) → DoesEnter c id (Err r) own → MayRefuse nature_of_shared r
+  enter_may : (id : ArenaId) (r : Refusal) → DoesEnter c id (Err r) own → MayRefuse without_pages r
   enter_may id refusal.Memory d = absurd d
   enter_may id refusal.PoolFull d = absurd d
   enter_may id refusal.NoSlot d = refl
@@ -137,7 +142,7 @@ module _ (c : Caller) (own : List Entry) where
       (if_may (nat_le (0 + n) source.size && nat_le (0 + n) target.size) (Ok tt) (Err refusal.Bounds) tt tt))
       (λ f. both_may x y n result f) d
 
-  compare_may : (x y : Side) (count : ℕ) (r : Refusal) → DoesCompare c x y count (Err r) own → MayRefuse nature_of_shared r
+  compare_may : (x y : Side) (count : ℕ) (r : Refusal) → DoesCompare c x y count (Err r) own → MayRefuse without_pages r
   compare_may x y count refusal.Memory d = absurd d
   compare_may x y count refusal.PoolFull d = absurd d
   compare_may x y count refusal.NoSlot d = refl
@@ -157,6 +162,12 @@ module _ (c : Caller) (own : List Entry) where
   alive_may id (Err refusal.PoolFull) d = absurd d
   alive_may id (Err refusal.NoSlot) d = refl
   alive_may id (Err r) d = tt
+
+  pub open_may : (kind : Kind) (result : Result ArenaId Refusal) → DoesOpen c kind result (but_loans own) → MayCome nature_of_shared result → May result
+  open_may kind (Ok id) d m = tt
+  open_may kind (Err refusal.Memory) d m = absurd (cc)
+  open_may kind (Err refusal.NoSlot) d m = refl
+  open_may kind (Err r) d m = absurd d
 
   pub close_may : (id : ArenaId) (result : Result (Unit {0}) Refusal) → DoesClose c id result (but_loans own) → May result
   close_may id (Ok u) d = tt

@@ -1,5 +1,5 @@
 -- An arena that is there was opened, and by a line that says so.
-use Rattle.std.proofs.Common.{◌≡◌, ℕ, Bool, true, false, not, cond, filter, if◌then◌else◌, List, [], ◌∷◌, ◌++◌, refl, sym, ap, ◌∙◌, subst, ◌⊎◌, inl, inr}
+use Rattle.std.proofs.Common.{◌≡◌, ℕ, Bool, true, false, not, if◌then◌else◌, List, [], ◌∷◌, ◌++◌, refl, sym, ap, ◌∙◌, subst, ◌⊎◌, inl, inr}
 use Rattle.fm_base.specs.declared.arena_id.ArenaId.{ArenaId}
 use Rattle.fm_base.specs.declared.caller.Caller.{Caller}
 use Rattle.fm_base.specs.Arenas.{Arena, State, are_one, has_arena, owner_of, same_id}
@@ -11,20 +11,10 @@ use Rattle.fm_base.proofs.Lookup.{changed_has}
 use Rattle.fm_base.proofs.Names.{are_one-self, same_id-true}
 use Rattle.fm_lists.specs.Among.{IsAmong}
 use Rattle.fm_lists.proofs.Each.{all_among, all_of_among}
+use Rattle.fm_run.proofs.Allocating.{among_passes}
 use Rattle.fm_run_laws.proofs.Accessing.{AllOpenNone, OpensNone, open_as}
 
 -- ---- entries
-
--- What a filter passes is kept.
-pub among_passes : {A : Type 0} (p : A → Bool) (x : A) (xs : List A) → p x ≡ true → IsAmong x xs → IsAmong x (filter p xs)
-among_passes p x [] is h = absurd h
-among_passes {A} p x (y ∷ ys) is (inl e) =
-    subst (λ (b : Bool). IsAmong x (cond b (y ∷ filter p ys) (filter p ys))) (sym (ap p (sym e) ∙ is)) (inl e)
-among_passes {A} p x (y ∷ ys) is (inr h) =
-    let rest = among_passes p x ys is h in
-    let P : Bool → Type 0 = λ b. IsAmong x (cond b (y ∷ filter p ys) (filter p ys)) in
-    let go : (b : Bool) → P b = λ b. elim b as P [ true ↦ inr rest | false ↦ rest ] in
-    go (p y)
 
 -- A caller's entry is among those that it made.
 pub among_own : (c : Caller) (e : Entry) (es : List Entry) → e.caller ≡ c → IsAmong e es → IsAmong e (made_by c es)

@@ -11,7 +11,7 @@ use Rattle.fm_run.specs.Slots.{FindRightly, Opened, WorkersFind}
 use Rattle.fm_run.specs.Standings.{arena_of}
 use Rattle.fm_words.specs.declared.shape.Shape.{Shape}
 use Rattle.fm_run_laws.specs.Openings.{FindMany, ReportsFindMany, WorkersFindMany, how_many_open, is_fine, is_opening}
-use Rattle.fm_run_laws.proofs.Opened.{among_passes}
+use Rattle.fm_run.proofs.Allocating.{among_passes}
 
 -- ---- numbers
 

@@ -35,8 +35,7 @@ pub fn reports_find_many()
     ensures { ReportsFindMany }
 {}
 
-/// No line of a report is answered `Memory` or `PoolFull`: a pool's calls take no memory, and an arena has each of its
-/// pages from the first.
+/// No line of a report is answered `Memory`, since a pool's calls take none, and none but those that allocate `PoolFull`.
 pub fn lines_want_nothing()
     ensures { NoLineWants }
 {}

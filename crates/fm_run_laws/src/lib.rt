@@ -1,5 +1,5 @@
 //! Laws of lines of scripts: they change only bytes that their arenas have given, a worker's line finds no slot only
-//! where others had each, and none is refused for want of memory or of a page.
+//! where others had each, and none is refused for want of memory, nor of a page unless it allocates.
 #![tactic(auto)]
 
 mod laws;

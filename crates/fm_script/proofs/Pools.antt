@@ -28,7 +28,6 @@ valid_one z v = record {
   reach = v.reach;
   generations = v.generations;
   words = v.words;
-  owned = v.owned;
 }
 
 -- the line of a valid shape is read as it, but for the passes
@@ -136,7 +135,6 @@ with_passes text z n says some few =
         reach = v.reach;
         generations = v.generations;
         words = v.words;
-        owned = v.owned;
       };
       small = says.small;
       spelled = says.spelled;

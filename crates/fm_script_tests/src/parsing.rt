@@ -13,7 +13,7 @@ fn refused_at(alloc: Global, text: &str) -> Option<u64> {
     }
 }
 
-const WORKED: [&str; 12] = [
+const WORKED: [&str; 13] = [
     "pool 1 1 8 1000 1\nfirst open a shared\nfirst alloc a s 8 8\nfirst set s long 0 7\nfirst close a\n\
      first open b shared\nfirst alloc b t 8 8\nfirst get t long 0\nfirst get s long 0\n",
     "pool 1 1 8 1000 1\nfirst open a shared\nfirst alloc a s 8 8\n1 add s long 0 5\n2 add s long 0 7\nlast get s long 0\n",
@@ -34,6 +34,7 @@ const WORKED: [&str; 12] = [
      first set s int-be 0 1\nfirst get s int 0\n",
     "pool 1 1 8 1000 1\nfirst open a shared\nfirst alloc a s 8 8\nfirst alloc a t 8 8\nfirst fill s 255\nfirst mismatch s t\n\
      first copy s t\nfirst slice s u 0 4\nfirst mismatch u s\nfirst copy s u\nfirst alive a\n",
+    "pool 2 2 8 1000 2\nfirst open a shared\nfirst open b shared\nfirst alloc a s 128 8\nfirst alloc b t 8 8\n",
 ];
 
 #[test]
@@ -229,7 +230,14 @@ fn refuses_pools(rt: HostRuntime) {
         ("#\n\n", 3),
         ("# \u{e9}\n", 1),
         ("first open a shared\n", 1),
-        ("\npool 1 1 8 1 2\n", 2),
+        ("\npool 1 1 8 1 2\n", 0),
+        ("\npool 1 2 8 1 1\n", 2),
+        ("pool 2 2 8 1000 1\n", 1),
+        ("pool 2 2 8 1000 2\n", 0),
+        ("pool 2 2 8 1000 3\n", 0),
+        ("pool 2 2 8 1000 5\n", 0),
+        ("pool 1 1 8 1 64\n", 0),
+        ("pool 1 1 8 1 65\n", 1),
         ("pool 1 1 8 1\n", 1),
         ("pool 1 1 8 1 1 1\n", 1),
         ("pool 1 1 8 1 1", 0),

@@ -1,3 +1,4 @@
+mod cut_off;
 mod gates;
 mod relay;
 mod wide;
@@ -59,6 +60,64 @@ fn a_confined_arena_is_its_owners(rt: HostRuntime) {
         "pool 1 1 8 1 1\nfirst open a confined\nfirst alloc a s 8 8\nfirst close a\n1 get s long 0\n";
     let wanted =
         "first open a confined -> ok\nfirst alloc a s 8 8 -> ok 0\nfirst close a -> ok\n1 get s long 0 -> refused 2\n";
+    assert_eq!(rt; printed(&rt, text).as_str(), wanted);
+}
+
+/// Scripts of the first lines alone, and what they print: pages run out, an arena keeps those that a refused line got,
+/// and they come back with its close.
+const PAGES: [(&str, &str); 4] = [
+    (
+        "pool 2 2 8 1000 2\nfirst open a shared\nfirst open b shared\nfirst alloc a s 128 8\nfirst alloc b t 8 8\n\
+        first alloc b t2 0 8\nfirst alloc b u 129 8\nfirst close a\nfirst alloc b v 8 8\n",
+        "first open a shared -> ok\nfirst open b shared -> ok\nfirst alloc a s 128 8 -> ok 0\n\
+        first alloc b t 8 8 -> refused 11\nfirst alloc b t2 0 8 -> ok 0\nfirst alloc b u 129 8 -> refused 10 0\n\
+        first close a -> ok\nfirst alloc b v 8 8 -> ok 0\nbytes b 0000000000000000\n",
+    ),
+    (
+        "pool 2 2 8 1000 3\nfirst open a shared\nfirst open b shared\nfirst alloc a s 128 8\nfirst alloc b t 8 8\n\
+        first close a\n",
+        "first open a shared -> ok\nfirst open b shared -> ok\nfirst alloc a s 128 8 -> ok 0\n\
+        first alloc b t 8 8 -> ok 0\nfirst close a -> ok\nbytes b 0000000000000000\n",
+    ),
+    (
+        "pool 3 2 1 1000 3\nfirst open a shared\nfirst open b shared\nfirst open c shared\nfirst alloc a s 16 8\n\
+        first alloc b t 16 8\nfirst alloc c u 8 8\nfirst alloc b v 8 8\nfirst fill v 7\nfirst close b\n\
+        first alloc c w 8 8\nfirst get w long 0\n",
+        "first open a shared -> ok\nfirst open b shared -> ok\nfirst open c shared -> ok\n\
+        first alloc a s 16 8 -> ok 0\nfirst alloc b t 16 8 -> refused 11\nfirst alloc c u 8 8 -> refused 11\n\
+        first alloc b v 8 8 -> ok 0\nfirst fill v 7 -> ok\nfirst close b -> ok\nfirst alloc c w 8 8 -> ok 0\n\
+        first get w long 0 -> 0\nbytes a 00000000000000000000000000000000\nbytes c 0000000000000000\n",
+    ),
+    (
+        "pool 1 1 1 1000 5\nfirst open a shared\nfirst alloc a s 3 1\nfirst alloc a t 1 4\nfirst alloc a u 4 4\n",
+        "first open a shared -> ok\nfirst alloc a s 3 1 -> ok 0\nfirst alloc a t 1 4 -> ok 4\n\
+        first alloc a u 4 4 -> refused 10 5\nbytes a 0000000000\n",
+    ),
+];
+
+#[test]
+fn pages_run_out(rt: HostRuntime) {
+    for (text, wanted) in PAGES {
+        assert_eq!(rt; printed(&rt, text).as_str(), wanted);
+    }
+}
+
+#[test]
+fn a_worker_finds_no_page(rt: HostRuntime) {
+    let text =
+        "pool 2 1 1 1 1\nfirst open a shared\nfirst alloc a s 8 8\n1 open b shared\n1 alloc b t 1 1\n1 get t byte 0\n\
+        last alloc a u 1 1\n";
+    let wanted =
+        "first open a shared -> ok\nfirst alloc a s 8 8 -> ok 0\n1 open b shared -> ok\n1 alloc b t 1 1 -> refused 11\n\
+        1 get t byte 0 -> skipped\nlast alloc a u 1 1 -> refused 10 8\nbytes a 0000000000000000\nbytes b\n";
+    assert_eq!(rt; printed(&rt, text).as_str(), wanted);
+}
+
+#[test]
+fn a_slot_has_one_arena(rt: HostRuntime) {
+    let text = "pool 1 1 8 1 1\nfirst open a shared\nfirst close a\nfirst open b shared\n";
+    let wanted =
+        "first open a shared -> ok\nfirst close a -> ok\nfirst open b shared -> refused 12\n";
     assert_eq!(rt; printed(&rt, text).as_str(), wanted);
 }
 

@@ -1,4 +1,5 @@
 ghost use Rattle.std.specs.Prelude.{◌≡◌, ◌≤◌, length};
+ghost use Rattle.fm_arena.specs.Shares.{CanShare};
 ghost use Rattle.fm_gate.specs.Standing.{CanVisit, IsInside, IsOutside};
 ghost use Rattle.fm_pool_facts.specs.Views.{given_of};
 
@@ -33,7 +34,7 @@ fn write(pool: &Pool, pass: &mut Pass, a: ArenaId)
 
 /// Opens an arena of eight bytes.
 fn stocked<R: Abort + Wait>(rt: &R, pool: &Pool, pass: &mut Pass) -> ArenaId
-    requires { IsOutside pool.now pass.old }
+    requires { CanShare pool.now pass.old }
     ensures { IsOutside pool.now pass.new }
 {
     let a = open_arena(rt, pool, pass, Kind::Shared).expect(rt, "a slot");

@@ -10,12 +10,16 @@ pub data Place : Type 0 where
   draw : Place
   -- bit k is 1 where slot k can be lent
   slot_bits : Place
+  -- bit k is 1 where page k can be claimed
+  page_bits : Place
   -- the mark of a pass
   mark : ℕ → Place
   -- the session of a slot
   session : ℕ → Place
   -- the count of bytes that the arena in a slot has given
   given : ℕ → Place
+  -- of a slot, the map word of a part
+  map : ℕ → ℕ → Place
   -- of a page, one of its words
   page_word : ℕ → ℕ → Place
 
@@ -24,14 +28,16 @@ abbrev pub IsPlace : Shape → Place → Type 0
 IsPlace z front = Unit {0}
 IsPlace z draw = Unit {0}
 IsPlace z slot_bits = Unit {0}
+IsPlace z page_bits = Unit {0}
 IsPlace z (mark k) = k < z.passes
 IsPlace z (session s) = s < z.slots
 IsPlace z (given s) = s < z.slots
+IsPlace z (map s i) = (s < z.slots) × (i < z.reach)
 IsPlace z (page_word k w) = (k < z.pages) × (w < z.page_words)
 
 -- where the words of each kind begin: where those of the kind before end
 abbrev pub marks_from : Shape → ℕ
-marks_from z = 3
+marks_from z = 4
 
 abbrev pub sessions_from : Shape → ℕ
 sessions_from z = marks_from z + z.passes
@@ -39,8 +45,11 @@ sessions_from z = marks_from z + z.passes
 abbrev pub given_from : Shape → ℕ
 given_from z = sessions_from z + z.slots
 
+abbrev pub maps_from : Shape → ℕ
+maps_from z = given_from z + z.slots
+
 abbrev pub pages_from : Shape → ℕ
-pages_from z = given_from z + z.slots
+pages_from z = maps_from z + z.slots * z.reach
 
 -- how many words the table has
 unfoldable pub words : Shape → ℕ
@@ -51,9 +60,11 @@ unfoldable pub at : Shape → Place → ℕ
 at z front = 0
 at z draw = 1
 at z slot_bits = 2
+at z page_bits = 3
 at z (mark k) = marks_from z + k
 at z (session s) = sessions_from z + s
 at z (given s) = given_from z + s
+at z (map s i) = maps_from z + (s * z.reach + i)
 at z (page_word k w) = pages_from z + (k * z.page_words + w)
 
 -- each place lies in the table, no two at the same word, and each word of the table has a place

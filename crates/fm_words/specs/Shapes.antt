@@ -1,5 +1,5 @@
 -- The shapes that a pool can have.
-use Rattle.std.specs.Prelude.{◌≡◌, ◌*◌, ◌≤◌}
+use Rattle.std.specs.Prelude.{◌*◌, ◌≤◌}
 use Rattle.fm_words.specs.Within.{Within}
 use Rattle.fm_words.specs.declared.shape.Shape.{Shape}
 
@@ -11,5 +11,3 @@ pub record IsValid (z : Shape) : Type 0 where
   pub reach : Within 1 z.pages z.reach
   pub generations : Within 1 4294967295 z.generations
   pub words : z.pages * z.page_words ≤ 16777216
-  -- slot k owns the pages k times reach to k times reach plus reach minus 1
-  pub owned : z.pages ≡ z.slots * z.reach

@@ -1,10 +1,10 @@
 use crate::shape::Shape;
 
-/// The words before the marks: front, draw and slot bits.
-const SINGLE_WORDS: u64 = 3;
+/// The words before the marks: front, draw, slot bits and page bits.
+const SINGLE_WORDS: u64 = 4;
 
 /// Places of words in the table, from 0. It has the single words first, then a mark for each pass, a session for each
-/// slot, a count of given bytes for each slot, and last the pages, one after another.
+/// slot, a count of given bytes for each slot, the map words of each slot, and last the pages, one after another.
 impl Shape {
     ghost use Rattle.std.specs.Prelude.{◌≡◌};
     ghost use Rattle.fm_words.specs.Shapes.{IsValid};
@@ -14,13 +14,16 @@ impl Shape {
       draw,
       front,
       given,
+      map,
       mark,
+      page_bits,
       page_word,
       session,
       slot_bits,
       words,
       sessions_from,
       given_from,
+      maps_from,
       pages_from,
     };
 
@@ -53,6 +56,13 @@ impl Shape {
         2
     }
 
+    /// The place of the word whose bit k is 1 where page k can be claimed.
+    pub fn page_bits_place(&self) -> u64
+        ensures { result ≡ at self.now page_bits }
+    {
+        3
+    }
+
     /// The place of a pass's mark.
     pub fn mark_place(&self, pass: u32) -> u64
         requires { IsPlace self.now (mark pass) }
@@ -77,6 +87,15 @@ impl Shape {
         self.given_from() + u64::from(slot)
     }
 
+    /// The place of a slot's map word of this part.
+    pub fn map_place(&self, slot: u32, index: u32) -> u64
+        requires valid { IsValid self.now }
+        requires place { IsPlace self.now (map slot index) }
+        ensures { result ≡ at self.now (map slot index) }
+    {
+        self.maps_from() + u64::from(slot) * u64::from(self.reach) + u64::from(index)
+    }
+
     /// The place of a word of a page.
     pub fn page_place(&self, page: u32, word: u32) -> u64
         requires valid { IsValid self.now }
@@ -98,9 +117,16 @@ impl Shape {
         self.sessions_from() + u64::from(self.slots)
     }
 
-    fn pages_from(&self) -> u64
-        ensures { result ≡ pages_from self.now }
+    fn maps_from(&self) -> u64
+        ensures { result ≡ maps_from self.now }
     {
         self.given_from() + u64::from(self.slots)
+    }
+
+    fn pages_from(&self) -> u64
+        requires { IsValid self.now }
+        ensures { result ≡ pages_from self.now }
+    {
+        self.maps_from() + u64::from(self.slots) * u64::from(self.reach)
     }
 }

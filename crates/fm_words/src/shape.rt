@@ -32,24 +32,18 @@ impl Shape {
     ghost use Rattle.std.specs.Prelude.{◌↔◌, IsTrue};
     ghost use Rattle.fm_words.specs.Shapes.{IsValid};
 
-    /// Whether a pool can have this shape: each number lies within its limits, all pages together have at most
-    /// 16,777,216 words, and each slot has `reach` pages of its own.
+    /// Whether a pool can have this shape: each number lies within its limits, and all pages together have at
+    /// most 16,777,216 words.
     pub fn is_valid(&self) -> bool
         ensures { IsTrue result ↔ IsValid self.now }
     {
-        let (pages, slots, reach) = (
-            u64::from(self.pages),
-            u64::from(self.slots),
-            u64::from(self.reach),
-        );
         is_within(self.passes, MOST_PASSES)
             && is_within(self.slots, MOST_SLOTS)
             && is_within(self.pages, MOST_PAGES)
             && is_within(self.page_words, MOST_PAGE_WORDS)
             && is_within(self.reach, self.pages)
             && is_within(self.generations, u32::MAX)
-            && pages * u64::from(self.page_words) <= MOST_WORDS
-            && pages == slots * reach
+            && u64::from(self.pages) * u64::from(self.page_words) <= MOST_WORDS
     }
 }
 

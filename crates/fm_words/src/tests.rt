@@ -158,41 +158,61 @@ fn the_least_shape_has_one_of_each(rt: HostRuntime) {
     assert_eq!(rt; LEAST.front_place(), 0);
     assert_eq!(rt; LEAST.draw_place(), 1);
     assert_eq!(rt; LEAST.slot_bits_place(), 2);
-    assert_eq!(rt; LEAST.mark_place(0), 3);
-    assert_eq!(rt; LEAST.session_place(0), 4);
-    assert_eq!(rt; LEAST.given_place(0), 5);
-    assert_eq!(rt; LEAST.page_place(0, 0), 6);
-    assert_eq!(rt; LEAST.words(), 7);
+    assert_eq!(rt; LEAST.page_bits_place(), 3);
+    assert_eq!(rt; LEAST.mark_place(0), 4);
+    assert_eq!(rt; LEAST.session_place(0), 5);
+    assert_eq!(rt; LEAST.given_place(0), 6);
+    assert_eq!(rt; LEAST.map_place(0, 0), 7);
+    assert_eq!(rt; LEAST.page_place(0, 0), 8);
+    assert_eq!(rt; LEAST.words(), 9);
 }
 
 #[test]
 fn the_greatest_shape_has_128_mebibytes(rt: HostRuntime) {
     assert!(rt; GREATEST.is_valid());
-    assert_eq!(rt; GREATEST.mark_place(4_095), 4_098);
-    assert_eq!(rt; GREATEST.session_place(0), 4_099);
-    assert_eq!(rt; GREATEST.session_place(63), 4_162);
-    assert_eq!(rt; GREATEST.given_place(0), 4_163);
-    assert_eq!(rt; GREATEST.given_place(63), 4_226);
-    assert_eq!(rt; GREATEST.page_place(0, 0), 4_227);
-    assert_eq!(rt; GREATEST.page_place(63, 262_143), 16_781_442);
-    assert_eq!(rt; GREATEST.words(), 16_781_443);
+    assert_eq!(rt; GREATEST.mark_place(4_095), 4_099);
+    assert_eq!(rt; GREATEST.session_place(0), 4_100);
+    assert_eq!(rt; GREATEST.session_place(63), 4_163);
+    assert_eq!(rt; GREATEST.given_place(0), 4_164);
+    assert_eq!(rt; GREATEST.given_place(63), 4_227);
+    assert_eq!(rt; GREATEST.map_place(0, 0), 4_228);
+    assert_eq!(rt; GREATEST.map_place(63, 0), 4_291);
+    assert_eq!(rt; GREATEST.page_place(0, 0), 4_292);
+    assert_eq!(rt; GREATEST.page_place(63, 262_143), 16_781_507);
+    assert_eq!(rt; GREATEST.words(), 16_781_508);
 }
 
 #[test]
-fn pages_lie_one_after_another(rt: HostRuntime) {
+fn map_words_and_pages_lie_one_after_another(rt: HostRuntime) {
     every_word_has_one_place();
     assert!(rt; SMALL.is_valid());
-    assert_eq!(rt; SMALL.mark_place(2), 5);
-    assert_eq!(rt; SMALL.session_place(1), 7);
-    assert_eq!(rt; SMALL.given_place(1), 9);
-    assert_eq!(rt; SMALL.page_place(0, 15), 25);
-    assert_eq!(rt; SMALL.page_place(1, 0), 26);
-    assert_eq!(rt; SMALL.page_place(7, 15), 137);
-    assert_eq!(rt; SMALL.words(), 138);
+    assert_eq!(rt; SMALL.mark_place(2), 6);
+    assert_eq!(rt; SMALL.session_place(1), 8);
+    assert_eq!(rt; SMALL.given_place(1), 10);
+    assert_eq!(rt; SMALL.map_place(0, 3), 14);
+    assert_eq!(rt; SMALL.map_place(1, 0), 15);
+    assert_eq!(rt; SMALL.map_place(1, 3), 18);
+    assert_eq!(rt; SMALL.page_place(0, 15), 34);
+    assert_eq!(rt; SMALL.page_place(1, 0), 35);
+    assert_eq!(rt; SMALL.page_place(7, 15), 146);
+    assert_eq!(rt; SMALL.words(), 147);
 }
 
-/// Each row breaks one rule of `SMALL`. By now pages are counted by slots and reach, so a number of slots, pages or
-/// `reach` out of its limits breaks the rule on their product as well, or a limit of another.
+#[test]
+fn pages_may_be_more_or_fewer_than_slots_can_map(rt: HostRuntime) {
+    for shape in [
+        Shape { pages: 7, ..SMALL },
+        Shape { pages: 9, ..SMALL },
+        Shape { pages: 64, ..SMALL },
+        Shape { reach: 1, ..SMALL },
+        Shape { reach: 8, ..SMALL },
+        Shape { slots: 64, ..SMALL },
+    ] {
+        assert!(rt; shape.is_valid());
+    }
+}
+
+/// Each row breaks one rule of `SMALL`, but for the one without pages: no reach is within these.
 #[test]
 fn shapes_beyond_a_limit_are_refused(rt: HostRuntime) {
     for shape in [
@@ -201,58 +221,29 @@ fn shapes_beyond_a_limit_are_refused(rt: HostRuntime) {
             passes: 4_097,
             ..SMALL
         },
-        Shape {
-            slots: 0,
-            pages: 0,
-            ..SMALL
-        },
         Shape { slots: 0, ..SMALL },
-        Shape {
-            slots: 65,
-            pages: 65,
-            reach: 1,
-            ..SMALL
-        },
-        Shape {
-            pages: 0,
-            reach: 0,
-            ..SMALL
-        },
-        Shape {
-            pages: 66,
-            reach: 33,
-            ..SMALL
-        },
+        Shape { slots: 65, ..SMALL },
+        Shape { pages: 0, ..SMALL },
+        Shape { pages: 65, ..SMALL },
         Shape {
             page_words: 0,
             ..SMALL
         },
         Shape {
             page_words: 1_048_577,
-            pages: 1,
-            slots: 1,
-            reach: 1,
             ..SMALL
         },
         Shape { reach: 0, ..SMALL },
-        Shape {
-            pages: 1,
-            slots: 1,
-            ..SMALL
-        },
+        Shape { reach: 9, ..SMALL },
         Shape {
             generations: 0,
             ..SMALL
         },
         Shape {
             pages: 64,
-            reach: 32,
             page_words: 262_145,
             ..SMALL
         },
-        Shape { pages: 7, ..SMALL },
-        Shape { pages: 9, ..SMALL },
-        Shape { reach: 3, ..SMALL },
     ] {
         assert!(rt; !shape.is_valid());
     }

@@ -17,6 +17,7 @@ use Rattle.fm_pool_facts.proofs.Keeping.{in_append, in_right}
 use Rattle.fm_rule.specs.declared.pool.Pool.{Pool}
 use Rattle.fm_rule.specs.Draws.{Asked, Drawn, NoneDrawn, FoundAll, Looked}
 use Rattle.fm_gate.specs.Standing.{IsOutside}
+use Rattle.fm_arena.specs.Shares.{CanShare}
 use Rattle.fm_workers.specs.declared.worker.Worker.{Worker}
 use Rattle.fm_workers.specs.Crew.{DrewOne, DrewEach, FoundAllDrawn}
 use Rattle.fm_workers.specs.Rounds.{Went, IsDrawn, DrewCrew, AfterDraws, AreSteady, EndsDraws, order_of, tasks_of}
@@ -195,6 +196,7 @@ outside_asked o a = record {
   unmarked = ap (λ (v : View). v.mark) a.is ∙ o.unmarked;
   no_number = ap (λ (v : View). v.drawn) a.is;
   no_slot = ap (λ (v : View). v.hand) a.is ∙ o.no_slot;
+  no_part = ap (λ (v : View). v.swept) a.is ∙ o.no_part;
 }
 
 pub outside_drew : {pool : Pool} {p q d : View} → IsOutside pool p → Drawn p q d → IsOutside pool q
@@ -216,4 +218,9 @@ outside_new o k =
       unmarked = ap (λ (v : View). v.mark) k.is;
       no_number = ap (λ (v : View). v.drawn) k.is;
       no_slot = ap (λ (v : View). v.hand) k.is;
+      no_part = ap (λ (v : View). v.swept) k.is;
     }
+
+-- and has nothing, so it can be a memory.
+pub shares_new : {pool : Pool} {p q d : View} → IsOutside pool p → Drawn p q d → CanShare pool d
+shares_new o k = record { outside = outside_new o k; no_page = ap (λ (v : View). v.pages) k.is }

@@ -40,8 +40,10 @@ can_gather {pool = pool} {d = d} {p = p} e s o = record {
   no_sweep = ap (λ (v : View). v.sweeps) e ∙ s.no_sweep;
 }
 
-pub in_still : {d now next : View} (more : List Entry) → next.seen ≡ now.seen ++ more → made_by d.caller more ≡ [] → IsIn d now → IsIn d next
-in_still {d = d} more seen quiet i = record {
+pub in_still : {d now next : View} (more : List Entry) → next.shape ≡ now.shape → next.seen ≡ now.seen ++ more → made_by d.caller more ≡ [] → IsIn d now
+    → IsIn d next
+in_still {d = d} more shape seen quiet i = record {
+  shape = i.shape ∙ sym shape;
   rest = i.rest ++ more;
   seen = seen ∙ (ap (λ (es : List Entry). es ++ more) i.seen ∙ append_assoc d.seen i.rest more);
   quiet = made_behind d.caller i.rest more i.quiet ∙ quiet;
@@ -49,12 +51,13 @@ in_still {d = d} more seen quiet i = record {
 
 module _ {T : Type 0} where
   -- Who was gathered makes no entry any more.
-  pub all_in_still : (now next : View) (more : List Entry) (ws : List (Worker T)) → next.seen ≡ now.seen ++ more → AllByRecursion (Made more) (crew_of ws)
-      → AllByRecursion (λ (w : Worker T). IsIn w.memory now) ws → AllByRecursion (λ (w : Worker T). IsIn w.memory next) ws
-  all_in_still now next more [] seen q i = tt
-  all_in_still now next more (w ∷ ws) seen q i =
+  pub all_in_still : (now next : View) (more : List Entry) (ws : List (Worker T)) → next.shape ≡ now.shape → next.seen ≡ now.seen ++ more
+      → AllByRecursion (Made more) (crew_of ws) → AllByRecursion (λ (w : Worker T). IsIn w.memory now) ws
+      → AllByRecursion (λ (w : Worker T). IsIn w.memory next) ws
+  all_in_still now next more [] shape seen q i = tt
+  all_in_still now next more (w ∷ ws) shape seen q i =
       let parts = all_split (Made more) (crew_of ws) (as_gathered w.memory ∷ []) q in
-      (in_still more seen parts.1.0 i.0, all_in_still now next more ws seen parts.0 i.1)
+      (in_still more shape seen parts.1.0 i.0, all_in_still now next more ws shape seen parts.0 i.1)
 
   pub gathered_none : (p : View) → GatheredCrew {T = T} p p []
   gathered_none p = record {
@@ -82,8 +85,10 @@ module _ {T : Type 0} where
         (subst (λ (gs : List Gathered). All (Made more) gs) gathered_is a))).1
 
     -- One more is gathered.
-    pub gathered_more : {next : View} (w : Worker T) → w.memory.gathered ≡ [] → Gathers now w.memory next → GatheredCrew old next (w ∷ done)
-    gathered_more {next = next} w none k =
+    pub gathered_more : {next : View} (w : Worker T) → w.memory.gathered ≡ [] → w.memory.shape ≡ now.shape → Gathers now w.memory next
+        → GatheredCrew old next (w ∷ done)
+    gathered_more {next = next} w none shape k =
+        let same : next.shape ≡ now.shape = ap (λ (v : View). v.shape) k.is in
         let before = apart_before k.more k.apart in
         let all : now.gathered ++ (as_gathered w.memory ∷ w.memory.gathered) ≡ old.gathered ++ crew_of (w ∷ done) =
         ap (λ (gs : List Gathered). gs ++ (as_gathered w.memory ∷ w.memory.gathered)) gathered_is
@@ -97,8 +102,8 @@ module _ {T : Type 0} where
           is = k.is ∙ (ap (λ (v : View). record v { seen = next.seen; gathered = now.gathered ++ (as_gathered w.memory ∷ w.memory.gathered) }) m.is
               ∙ (λ i. record old { seen = next.seen; gathered = all i }));
           workers = (
-            record { rest = k.rest; seen = k.its_seen; quiet = k.its_quiet },
-            all_in_still now next k.more done k.seen (apart_since k.more k.apart) m.workers,
+            record { shape = shape ∙ sym same; rest = k.rest; seen = k.its_seen; quiet = k.its_quiet },
+            all_in_still now next k.more done same k.seen (apart_since k.more k.apart) m.workers,
           );
         }
 
@@ -109,6 +114,7 @@ outside_gathered o k = record {
   unmarked = ap (λ (v : View). v.mark) k.is ∙ o.unmarked;
   no_number = ap (λ (v : View). v.drawn) k.is ∙ o.no_number;
   no_slot = ap (λ (v : View). v.hand) k.is ∙ o.no_slot;
+  no_part = ap (λ (v : View). v.swept) k.is ∙ o.no_part;
 }
 
 -- What holds of all of a list holds of one in its middle.

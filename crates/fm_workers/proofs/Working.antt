@@ -70,7 +70,7 @@ module _ {T : Type 0} {old drew got new : View} {vs : List (Worker T)} {b : Bool
       ∙ (λ i. record old { seen = new.seen; finds = new.finds; whole = new.whole; drawn = sym none i; gathered = gathered_still m i ++ crew_of vs })))
 
   within : AllByRecursion (λ (v : Worker T). IsIn v.memory new) vs
-  within = all_in_still got new l.asked.more vs l.asked.seen (apart_since g l.asked.more l.asked.apart) g.workers
+  within = all_in_still got new l.asked.more vs (ap (λ (v : View). v.shape) l.asked.is) l.asked.seen (apart_since g l.asked.more l.asked.apart) g.workers
 
   module _ (fresh : AllByRecursion (λ (v : Worker T). IsFresh old v.memory.caller) vs)
       (drew_each : DrewEach m.draws (callers (crew_of vs))) (steady : AreSteady (callers (crew_of vs)))

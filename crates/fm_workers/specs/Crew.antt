@@ -47,8 +47,9 @@ pub record IsWhole (p : View) : Type 0 where
   pub sound : IsSound p
   pub whole : p.whole ≡ true
 
--- who drew and gathered has seen all that the pass had seen, and since then it made no entry
+-- who drew and gathered is of the pass's pool and has seen all that the pass had seen, and since then it made no entry
 pub record IsIn (d new : View) : Type 0 where
+  pub shape : d.shape ≡ new.shape
   pub rest : List Entry
   pub seen : new.seen ≡ d.seen ++ rest
   pub quiet : made_by d.caller rest ≡ []

@@ -1,4 +1,4 @@
-ghost use Rattle.std.specs.Prelude.{◌≡◌, ◌<◌, ◌≤◌};
+ghost use Rattle.std.specs.Prelude.{◌≡◌, ◌<◌, ◌≤◌, []};
 ghost use Rattle.fm_calls.specs.Told.{view_of_pass};
 ghost use Rattle.fm_gate.specs.Standing.{IsOutside};
 ghost use Rattle.fm_segment.specs.Access.{IsKnown};
@@ -22,6 +22,7 @@ use std::test::Fail;
 /// A pool whose arenas have 16,384 words each, for 16 passes beside the first.
 fn made_large<R: Abort + AllocGlobal>(rt: &R) -> (Pool, Pass)
     ensures outside { IsOutside result.0 result.1 }
+    ensures no_page { result.1.pages ≡ [] }
 {
     let shape = Shape {
         passes: 17,
@@ -37,8 +38,10 @@ fn made_large<R: Abort + AllocGlobal>(rt: &R) -> (Pool, Pass)
 /// So many bytes of a fresh arena, each of them 0.
 fn zero_bytes<R: Abort + Wait>(rt: &R, pool: &Pool, pass: &mut Pass, count: u64) -> Segment
     requires outside { IsOutside pool.now pass.old }
+    requires no_page { pass.old.pages ≡ [] }
     requires few { count ≤ 131072 }
     ensures outside { IsOutside pool.now pass.new }
+    ensures no_page { pass.new.pages ≡ [] }
     ensures known { IsKnown (view_of_pass pass.new) result }
 {
     let a = open_arena(rt, pool, pass, Kind::Shared).expect(rt, "a slot");

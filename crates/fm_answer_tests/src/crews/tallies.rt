@@ -1,4 +1,4 @@
-ghost use Rattle.std.specs.Prelude.{◌≡◌, ◌≢◌, ◌<◌, ◌≤◌};
+ghost use Rattle.std.specs.Prelude.{◌≡◌, ◌≢◌, ◌<◌, ◌≤◌, []};
 ghost use Rattle.fm_calls.specs.Told.{view_of_pass};
 ghost use Rattle.fm_gate.specs.Standing.{IsOutside};
 ghost use Rattle.fm_segment.specs.Access.{IsKnown};
@@ -26,6 +26,7 @@ pub(crate) fn made_wide<R: Abort + AllocGlobal>(rt: &R, passes: u32) -> (Pool, P
     requires some { 0 < passes }
     requires few { passes < 65 }
     ensures outside { IsOutside result.0 result.1 }
+    ensures no_page { result.1.pages ≡ [] }
 {
     let shape = Shape {
         passes,
@@ -47,6 +48,7 @@ pub(crate) fn zeros<R: Abort + Wait>(
     beside: &Segment,
 ) -> Segment
     requires outside { IsOutside pool.now pass.old }
+    requires no_page { pass.old.pages ≡ [] }
     requires there { IsKnown (view_of_pass pass.old) beside.now }
     ensures outside { IsOutside pool.now pass.new }
     ensures there { IsKnown (view_of_pass pass.new) beside.now }

@@ -1,6 +1,7 @@
 ghost use Rattle.std.specs.Prelude.{◌≡◌, ◌≤◌};
 ghost use Rattle.fm_pool_facts.specs.Views.{given_of, span};
-ghost use Rattle.fm_gate.specs.Standing.{CanVisit, IsInside, IsOutside};
+ghost use Rattle.fm_gate.specs.Standing.{CanAllocate, CanVisit, IsInside};
+ghost use Rattle.fm_arena.specs.Shares.{CanShare};
 
 use super::{made, made_for, put};
 use crate::pools::{drawn, given};
@@ -13,9 +14,9 @@ use std::sync::Wait;
 
 /// An arena of eight bytes, and two passes beside that know it.
 fn drawn_twice<R: Abort + Wait>(rt: &R, pool: &Pool, pass: &mut Pass) -> (ArenaId, Pass, Pass)
-    requires outside { IsOutside pool.now pass.old }
+    requires ready { CanShare pool.now pass.old }
     requires wide { span pool.now.shape ≡ 1 }
-    ensures pass { CanVisit pool.now pass.new result.0 }
+    ensures pass { CanAllocate pool.now pass.new result.0 }
     ensures one { CanVisit pool.now result.1 result.0 }
     ensures given { 8 ≤ given_of result.1 result.0 }
     ensures two { CanVisit pool.now result.2 result.0 }

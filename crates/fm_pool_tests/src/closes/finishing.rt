@@ -1,4 +1,5 @@
 ghost use Rattle.fm_gate.specs.Standing.{IsOutside};
+ghost use Rattle.fm_arena.specs.Shares.{CanShare};
 
 use super::{made, put};
 use crate::pools::{drawn, given, is_whole, takes_in};
@@ -35,7 +36,7 @@ fn first_byte<R: Abort + AllocGlobal>(
 
 /// Opens two arenas of eight bytes, and closes the second.
 fn one_open_one_closed<R: Abort + Wait>(rt: &R, pool: &Pool, pass: &mut Pass) -> (ArenaId, ArenaId)
-    requires { IsOutside pool.now pass.old }
+    requires { CanShare pool.now pass.old }
     ensures { IsOutside pool.now pass.new }
 {
     let kept = given(rt, pool, pass, Kind::Shared, 8);

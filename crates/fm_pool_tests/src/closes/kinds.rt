@@ -1,6 +1,6 @@
 ghost use Rattle.std.specs.Prelude.{◌<◌};
 ghost use Rattle.fm_pool_facts.specs.Holds.{how_many};
-ghost use Rattle.fm_gate.specs.Standing.{CanVisit, IsOutside};
+ghost use Rattle.fm_gate.specs.Standing.{CanAllocate, CanVisit, IsOutside};
 ghost use Rattle.fm_close.specs.Learnt.{CanGiveBack};
 
 use super::made;
@@ -92,8 +92,8 @@ fn an_automatic_arena_ends_with_its_last_handle(rt: HostRuntime) {
 
 /// Each use of the arena by the pass is refused by its name.
 fn is_refused<R: Wait>(rt: &R, pool: &Pool, pass: &mut Pass, a: ArenaId) -> bool
-    requires { CanVisit pool.now pass.old a }
-    ensures { CanVisit pool.now pass.new a }
+    requires { CanAllocate pool.now pass.old a }
+    ensures { CanAllocate pool.now pass.new a }
 {
     let alive = is_alive(pool, pass, a);
     let given = allocate(rt, pool, pass, a, 8, 8);

@@ -2,6 +2,7 @@ ghost use Rattle.std.specs.Prelude.{◌≡◌, ◌<◌, ◌≤◌};
 ghost use Rattle.fm_pool_facts.specs.Views.{span};
 ghost use Rattle.fm_calls.specs.Kept.{Lasts};
 ghost use Rattle.fm_gate.specs.Standing.{CanVisit, IsOutside};
+ghost use Rattle.fm_arena.specs.Shares.{CanShare};
 
 use super::put;
 use crate::pools::{drawn, given, is_whole, pool_of, takes_in, word_of};
@@ -16,7 +17,7 @@ use std::sync::Wait;
 fn made_for<R: Abort + AllocGlobal>(rt: &R, passes: u32) -> (Pool, Pass)
     requires some { 0 < passes }
     requires few { passes ≤ 3 }
-    ensures outside { IsOutside result.0 result.1 }
+    ensures ready { CanShare result.0 result.1 }
     ensures wide { span result.0.shape ≡ 8 }
 {
     pool_of(rt, passes, 1, 8, 1)

@@ -1,6 +1,7 @@
 ghost use Rattle.std.specs.Prelude.{◌≡◌, ◌≤◌, true};
 ghost use Rattle.fm_pool_facts.specs.Views.{given_of};
 ghost use Rattle.fm_gate.specs.Standing.{IsInside, IsOutside};
+ghost use Rattle.fm_arena.specs.Shares.{CanShare};
 
 use fm_base::{ArenaId, Kind};
 use fm_gate::{allocate, enter, leave, open_arena, store};
@@ -23,7 +24,7 @@ fn store_nine(pool: &Pool, pass: &mut Pass, a: ArenaId)
 
 /// Opens an arena of eight bytes, the lowest of which is 9.
 fn nine<R: Abort + Wait>(rt: &R, pool: &Pool, pass: &mut Pass) -> ArenaId
-    requires outside { IsOutside pool.now pass.old }
+    requires ready { CanShare pool.now pass.old }
     requires whole { pass.old.whole ≡ true }
     ensures outside { IsOutside pool.now pass.new }
     ensures whole { pass.new.whole ≡ true }

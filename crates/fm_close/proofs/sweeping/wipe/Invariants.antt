@@ -1,6 +1,7 @@
-use Rattle.fm_rule.specs.Passes.{IsOf}
-use Rattle.fm_close.specs.Sweeps.{Wiped}
+use Rattle.std.proofs.Common.{[]}
+use Rattle.fm_pool_facts.specs.Parts.{wiping}
+use Rattle.fm_close.specs.Sweeps.{SweepsOn}
 use Rattle.fm_close.proofs.sweeping.wipe.Given as goal
 
 abbrev pub invariant-loop-word : goal.invariant-loop-word
-invariant-loop-word l = IsOf l.pool l.pass × Wiped l.fn.pass l.pass l.fn.a l.word
+invariant-loop-word l = SweepsOn l.fn.pass l.pass [] (wiping l.fn.a l.fn.part l.fn.page l.word) l.fn.pass.sweeps

@@ -1,17 +1,23 @@
 use Rattle.std.proofs.Common.{◌∙◌, sym}
-use Rattle.fm_gate.proofs.Gives.{gives_begin, gives_go_on, after_fits, after_full}
+use Rattle.fm_gate.proofs.Gives.{gives_begin, gives_more}
+use Rattle.fm_gate.proofs.Given.{after_fits, after_past, after_unpaged}
 use Rattle.fm_gate.proofs.allocating.give.Goals as goal
 
 pub loop-init : goal.loop-init
-loop-init g c = gives_begin c.requires.inside c.requires.sound
+loop-init g c =
+    gives_begin c.args.a c.args.size c.args.align c.first_count-count.result c.step_allocate-found.result c.requires.inside c.first_count-count.ensures
+    c.step_allocate-found.ensures.stepped c.step_allocate-found.ensures.count
 
 pub returns-in-Some-room : goal.returns-in-Some-room
 returns-in-Some-room g c =
-    after_fits _ _ _ _ _ c.loop.invariant c.step_allocate-found.ensures c.if-found-given.true c.limit.ensures _ (sym c.in-Some-room.is ∙ c.room.ensures)
+    after_fits c.loop.invariant c.requires.none c.limit.result c.if-found-count.true c.limit.ensures _ (sym c.in-Some-room.is ∙ c.room.ensures)
 
 pub returns-in-None-room : goal.returns-in-None-room
 returns-in-None-room g c =
-    after_full _ _ _ _ _ c.loop.invariant c.step_allocate-found.ensures c.if-found-given.true c.limit.ensures (sym c.in-None-room.is ∙ c.room.ensures)
+    after_past c.loop.invariant c.requires.none c.limit.result c.if-found-count.true c.limit.ensures (sym c.in-None-room.is ∙ c.room.ensures)
 
 pub loop-preserved : goal.loop-preserved
-loop-preserved g c = gives_go_on _ _ _ _ c.step_allocate-found.ensures c.loop.invariant c.if-found-given.false
+loop-preserved g c = gives_more c.loop.invariant c.if-found-count.false c.in-Some-try_at.ensures
+
+pub returns-in-None-try_at : goal.returns-in-None-try_at
+returns-in-None-try_at g c = after_unpaged c.loop.invariant c.requires.none c.if-found-count.false c.in-None-try_at.ensures

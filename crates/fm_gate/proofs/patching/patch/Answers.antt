@@ -1,20 +1,44 @@
 use Rattle.std.proofs.Common.{refl}
 use Rattle.fm_base.specs.Does.{patched}
+use Rattle.fm_gate.proofs.Acts.{after_act, can_find, found_here, found_reach, found_of, found_word, place_on}
 use Rattle.fm_gate.proofs.Tries.{tries_begin, tries_go_on, tries_end, tries_reach}
 use Rattle.fm_gate.proofs.patching.patch.Goals as goal
 
-pub load-old-requires : goal.load-old-requires
-load-old-requires g c = c.requires.reach
+pub place_of-place-requires-clause-find : goal.place_of-place-requires-clause-find
+place_of-place-requires-clause-find g c = can_find c.requires.reach
+
+pub step_load-old-requires-clause-act : goal.step_load-old-requires-clause-act
+step_load-old-requires-clause-act g c = found_reach c.requires.reach c.place_of-place.ensures
+
+pub step_load-old-requires-clause-of : goal.step_load-old-requires-clause-of
+step_load-old-requires-clause-of g c = found_of c.args.pool.now (found_word c.place_of-place.ensures) c.requires.reach.inside.of
 
 pub loop-init : goal.loop-init
-loop-init g c = tries_begin c.requires.reach c.load-old.ensures
+loop-init g c =
+    let w = found_word c.place_of-place.ensures in (
+      tries_begin c.requires.reach (after_act (record { stays = λ a. refl }) w c.step_load-old.ensures c.requires.reach),
+      place_on (record { stays = λ a. refl }) w c.step_load-old.ensures c.place_of-place.ensures.place,
+    )
 
-pub swap_if-found-requires : goal.swap_if-found-requires
-swap_if-found-requires g c = tries_reach c.loop.invariant
+pub step_swap_if-found-requires-clause-of : goal.step_swap_if-found-requires-clause-of
+step_swap_if-found-requires-clause-of g c = c.loop.invariant.0.inside.of
+
+pub step_swap_if-found-requires-clause-act : goal.step_swap_if-found-requires-clause-act
+step_swap_if-found-requires-clause-act g c =
+    let t = c.loop.invariant.0 in record { id = t.id; inside = t.inside.inside; given = t.given }
+
+pub step_swap_if-found-requires-clause-place : goal.step_swap_if-found-requires-clause-place
+step_swap_if-found-requires-clause-place g c = c.loop.invariant.1
 
 pub returns-then-found-old : goal.returns-then-found-old
 unfolding patched
-returns-then-found-old g c = tries_end _ _ _ c.loop.invariant c.if-found-old.true refl c.swap_if-found.ensures
+returns-then-found-old g c =
+    let t = c.loop.invariant.0 in
+    tries_end _ _ _ t c.if-found-old.true refl (after_act (record { stays = λ a. refl }) (found_here refl) c.step_swap_if-found.ensures (tries_reach t))
 
 pub loop-preserved : goal.loop-preserved
-loop-preserved g c = tries_go_on _ _ _ c.loop.invariant c.if-found-old.false c.swap_if-found.ensures
+loop-preserved g c =
+    let t = c.loop.invariant.0 in (
+      tries_go_on _ _ _ t c.if-found-old.false (after_act (record { stays = λ a. refl }) (found_here refl) c.step_swap_if-found.ensures (tries_reach t)),
+      place_on (record { stays = λ a. refl }) (found_here refl) c.step_swap_if-found.ensures c.loop.invariant.1,
+    )

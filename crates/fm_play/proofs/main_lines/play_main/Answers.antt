@@ -14,7 +14,9 @@ returns-clause-backs g c holds handles b =
     (subst (λ (p : View). Backs p holds handles base c.args.table.now.own.items) (sym c.new-memory.ensures) b))
 
 pub returns-clause-outside : goal.returns-clause-outside
-returns-clause-outside g c =
-    c.into_pass-pass.ensures.outside c.args.pool.now
-    (still_of c.args.pool.now c.new-memory.result c.play-played.new.m c.play-played.ensures.went.went
-    (subst (λ (p : View). IsOf c.args.pool.now p) (sym c.new-memory.ensures) c.requires.outside.of))
+returns-clause-outside g c = record {
+  outside = c.into_pass-pass.ensures.outside c.args.pool.now
+      (still_of c.args.pool.now c.new-memory.result c.play-played.new.m c.play-played.ensures.went.went
+      (subst (λ (p : View). IsOf c.args.pool.now p) (sym c.new-memory.ensures) c.requires.outside.outside.of));
+  no_page = c.into_pass-pass.ensures.no_page;
+}

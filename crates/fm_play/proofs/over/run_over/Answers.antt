@@ -43,13 +43,17 @@ returns-in-Ok-ran-clause-ran g c =
     }
 
 pub returns-in-Ok-ran-clause-outside : goal.returns-in-Ok-ran-clause-outside
-returns-in-Ok-ran-clause-outside g c =
-    c.into_pass-pass.ensures.outside c.args.pool.now
-    (still_of c.args.pool.now c.new-memory.result c.settle.new.m c.settle.ensures.went.went
-    (subst (λ (p : View). IsOf c.args.pool.now p) (sym c.new-memory.ensures) c.run_all-pass.ensures.outside.of))
+returns-in-Ok-ran-clause-outside g c = record {
+  outside = c.into_pass-pass.ensures.outside c.args.pool.now
+      (still_of c.args.pool.now c.new-memory.result c.settle.new.m c.settle.ensures.went.went
+      (subst (λ (p : View). IsOf c.args.pool.now p) (sym c.new-memory.ensures) c.run_all-pass.ensures.outside.outside.of));
+  no_page = c.into_pass-pass.ensures.no_page;
+}
 
 pub returns-in-Err-ran-clause-outside : goal.returns-in-Err-ran-clause-outside
-returns-in-Err-ran-clause-outside g c =
-    c.into_pass-pass.ensures.outside c.args.pool.now
-    (still_of c.args.pool.now c.new-memory.result c.settle.new.m c.settle.ensures.went.went
-    (subst (λ (p : View). IsOf c.args.pool.now p) (sym c.new-memory.ensures) c.run_all-pass.ensures.outside.of))
+returns-in-Err-ran-clause-outside g c = record {
+  outside = c.into_pass-pass.ensures.outside c.args.pool.now
+      (still_of c.args.pool.now c.new-memory.result c.settle.new.m c.settle.ensures.went.went
+      (subst (λ (p : View). IsOf c.args.pool.now p) (sym c.new-memory.ensures) c.run_all-pass.ensures.outside.outside.of));
+  no_page = c.into_pass-pass.ensures.no_page;
+}

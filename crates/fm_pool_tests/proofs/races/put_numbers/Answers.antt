@@ -1,4 +1,4 @@
-use Rattle.std.proofs.Common.{◌≤◌, arith}
+use Rattle.std.proofs.Common.{arith}
 use Rattle.fm_pool_tests.proofs.races.put_numbers.Goals as goal
 
 pub loop-number-preserved : goal.loop-number-preserved

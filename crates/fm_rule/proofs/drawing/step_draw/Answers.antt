@@ -1,7 +1,8 @@
 use Rattle.std.proofs.Common.{ap, ◌∙◌}
 use Rattle.fm_pool_facts.specs.Views.{View}
 use Rattle.fm_rule.specs.Views.{numbers_of}
-use Rattle.fm_rule.proofs.Knowing.{draw_below, shape_is, may_draw}
+use Rattle.fm_rule.proofs.Knowing.{draw_below, shape_is}
+use Rattle.fm_rule.proofs.Making.{may_draw}
 use Rattle.fm_rule.proofs.Stepping.{draw_stepped, count_learnt}
 use Rattle.fm_rule.proofs.Keeping.{draw_keeps}
 use Rattle.fm_rule.proofs.drawing.step_draw.Goals as goal

@@ -1,7 +1,8 @@
 use Rattle.std.proofs.Common.{ap, sym, subst}
 use Rattle.fm_pool_facts.specs.Views.{View, In}
 use Rattle.fm_rule.specs.Views.{numbers_of}
-use Rattle.fm_rule.proofs.Knowing.{session_below, knows, fits, owner_below, may_back}
+use Rattle.fm_rule.proofs.Knowing.{session_below, knows, fits, owner_below}
+use Rattle.fm_rule.proofs.Making.{may_back}
 use Rattle.fm_rule.proofs.Stepping.{back_stepped}
 use Rattle.fm_rule.proofs.Keeping.{back_keeps}
 use Rattle.fm_rule.proofs.holding.step_back.Goals as goal

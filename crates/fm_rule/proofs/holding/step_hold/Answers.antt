@@ -2,7 +2,8 @@ use Rattle.std.proofs.Common.{ap, sym, subst}
 use Rattle.fm_base.specs.Arenas.{MayUse}
 use Rattle.fm_pool_facts.specs.Views.{View}
 use Rattle.fm_rule.specs.Views.{numbers_of}
-use Rattle.fm_rule.proofs.Knowing.{session_below, knows, fits, owner_below, may_hold}
+use Rattle.fm_rule.proofs.Knowing.{session_below, knows, fits, owner_below}
+use Rattle.fm_rule.proofs.Making.{may_hold}
 use Rattle.fm_rule.proofs.Stepping.{hold_stepped, hold_learnt}
 use Rattle.fm_rule.proofs.Keeping.{hold_keeps}
 use Rattle.fm_rule.proofs.holding.step_hold.Goals as goal

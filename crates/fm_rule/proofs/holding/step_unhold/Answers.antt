@@ -1,7 +1,8 @@
 use Rattle.std.proofs.Common.{ap, sym, subst}
 use Rattle.fm_pool_facts.specs.Views.{View, In}
 use Rattle.fm_rule.specs.Views.{numbers_of}
-use Rattle.fm_rule.proofs.Knowing.{session_below, fits, may_unhold}
+use Rattle.fm_rule.proofs.Knowing.{session_below, fits}
+use Rattle.fm_rule.proofs.Making.{may_unhold}
 use Rattle.fm_rule.proofs.Stepping.{unhold_stepped}
 use Rattle.fm_rule.proofs.Keeping.{unhold_keeps}
 use Rattle.fm_rule.proofs.holding.step_unhold.Goals as goal

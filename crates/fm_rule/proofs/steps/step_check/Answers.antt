@@ -2,7 +2,8 @@ use Rattle.std.proofs.Common.{ap, ◌∙◌, sym, subst}
 use Rattle.fm_base.specs.Arenas.{MayUse}
 use Rattle.fm_pool_facts.specs.Views.{View}
 use Rattle.fm_rule.specs.Views.{numbers_of}
-use Rattle.fm_rule.proofs.Knowing.{session_below, shape_is, is_outside, knows, fits, may_check}
+use Rattle.fm_rule.proofs.Knowing.{session_below, is_outside, knows, fits}
+use Rattle.fm_rule.proofs.Making.{may_check}
 use Rattle.fm_rule.proofs.Stepping.{check_stepped}
 use Rattle.fm_rule.proofs.Keeping.{check_keeps}
 use Rattle.fm_rule.proofs.steps.step_check.Goals as goal
@@ -24,8 +25,8 @@ load_as-word-requires-clause-may c =
 
 pub invariant_of-pass : goal.invariant_of-pass
 invariant_of-pass c =
-    check_keeps _ _ _ _ c.pass.inside.seat.me.0 _ _ _ c.pass.invariant c.load_as-word.ensures.slots c.args.a _ _ _ _ c.load_as-word.ensures.tells
-    (shape_is _ c.pass.inside.seat.me.0 _ _ c.pass.view_is c.requires.of.1) c.is_alive-pass-inside.ensures c.cells_from-pass-inside.ensures
+    check_keeps _ _ _ _ c.pass.inside.seat.me.0 _ _ _ c.pass.invariant c.load_as-word.ensures.slots c.args.a _ _ c.load_as-word.ensures.tells
+    c.is_alive-pass-inside.ensures
 
 pub returns : goal.returns
 returns c = check_stepped _ _ _ _ _ c.pass.view_is (ap numbers_of c.load_as-word.ensures.table) c.pass.invariant.met c.args.a _ c.load_as-word.ensures.tells

@@ -1,17 +1,14 @@
-use Rattle.std.proofs.Common.{ap, arith}
+use Rattle.std.proofs.Common.{ap}
 use Rattle.fm_rule.specs.Views.{numbers_of}
-use Rattle.fm_rule.proofs.Knowing.{WordPlace, word_place, may_load}
+use Rattle.fm_rule.proofs.Knowing.{WordPlace, reaches, word_place}
+use Rattle.fm_rule.proofs.Making.{may_load}
 use Rattle.fm_rule.proofs.Stepping.{load_stepped}
 use Rattle.fm_rule.proofs.Keeping.{load_keeps}
 use Rattle.fm_rule.proofs.steps.step_load.Goals as goal
 use Rattle.fm_rule.proofs.steps.step_load.Goals.{After-pass}
 
-here : (c : After-pass)
-    → WordPlace c.args.pool.now.shape c.pass.inside.seat.me.0 c.requires.act.id c.args.word c.pass.inside.cells_from
-here c = word_place _ c.pass.inside.seat.me.0 _ _ c.pass.view_is c.requires.of.1 c.pass.invariant.sound c.args.word _ c.requires.act c.pass.invariant.cells
-
-pub overflow_add-place : goal.overflow_add-place
-overflow_add-place c = let p = (here c).fits in omega arith
+here : (c : After-pass) → WordPlace c.args.pool.now.shape c.pass.inside.seat.me.0 c.args.word c.args.place
+here c = word_place _ c.pass.inside.seat.me.0 _ _ c.pass.view_is c.requires.of.1 c.pass.invariant.sound c.args.word _ c.requires.place
 
 pub load_as-requires-clause-place : goal.load_as-requires-clause-place
 load_as-requires-clause-place c = (here (goal.at.load_as-requires-clause-place c).After-pass).low
@@ -19,10 +16,13 @@ load_as-requires-clause-place c = (here (goal.at.load_as-requires-clause-place c
 pub load_as-requires-clause-may : goal.load_as-requires-clause-may
 load_as-requires-clause-may c =
     let p = here (goal.at.load_as-requires-clause-may c).After-pass in
-    may_load _ _ c.pass.inside.seat.me.0 c.pass.invariant.live _ c.requires.act.id c.args.word p.inside p.within p.place
+    may_load _ _ c.pass.inside.seat.me.0 c.pass.invariant.live _ c.args.word
+    (reaches _ c.pass.inside.seat.me.0 _ _ c.pass.view_is c.requires.of.1 c.args.word c.requires.act) p
 
 pub invariant_of-pass : goal.invariant_of-pass
 invariant_of-pass c = load_keeps _ _ _ _ _ _ _ _ c.pass.invariant c.load_as.ensures.slots c.args.word _ c.load_as.ensures.tells
 
 pub returns : goal.returns
-returns c = load_stepped _ _ _ _ _ c.pass.view_is (ap numbers_of c.load_as.ensures.table) c.pass.invariant.met c.args.word _ c.load_as.ensures.tells
+returns c =
+    load_stepped _ _ _ _ _ c.pass.view_is (ap numbers_of c.load_as.ensures.table) c.pass.invariant.met c.args.word _
+    c.load_as.ensures.tells

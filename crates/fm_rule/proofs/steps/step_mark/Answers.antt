@@ -1,7 +1,8 @@
 use Rattle.std.proofs.Common.{ap, ◌<◌, sym, subst}
 use Rattle.fm_base.specs.declared.caller.Caller.{Caller}
 use Rattle.fm_rule.specs.Views.{numbers_of}
-use Rattle.fm_rule.proofs.Knowing.{mark_below, is_outside, number_below, may_mark}
+use Rattle.fm_rule.proofs.Knowing.{mark_below, is_outside, number_below}
+use Rattle.fm_rule.proofs.Making.{may_mark}
 use Rattle.fm_rule.proofs.Stepping.{mark_stepped}
 use Rattle.fm_rule.proofs.Keeping.{mark_keeps}
 use Rattle.fm_rule.proofs.steps.step_mark.Goals as goal

@@ -3,7 +3,8 @@ use Rattle.fm_base.specs.declared.caller.Caller.{Caller}
 use Rattle.fm_pool_facts.specs.Hands.{learnt}
 use Rattle.fm_pool_facts.specs.Views.{View}
 use Rattle.fm_rule.specs.Views.{numbers_of}
-use Rattle.fm_rule.proofs.Knowing.{session_below, valid, number_below, slot_in_hand, may_open}
+use Rattle.fm_rule.proofs.Knowing.{session_below, valid, number_below, slot_in_hand}
+use Rattle.fm_rule.proofs.Making.{may_open}
 use Rattle.fm_rule.proofs.Stepping.{open_stepped}
 use Rattle.fm_rule.proofs.Keeping.{open_keeps}
 use Rattle.fm_rule.proofs.steps.step_open.Goals as goal

@@ -1,17 +1,14 @@
-use Rattle.std.proofs.Common.{ap, arith}
+use Rattle.std.proofs.Common.{ap}
 use Rattle.fm_rule.specs.Views.{numbers_of}
-use Rattle.fm_rule.proofs.Knowing.{WordPlace, word_place, may_store}
+use Rattle.fm_rule.proofs.Knowing.{WordPlace, reaches, word_place}
+use Rattle.fm_rule.proofs.Making.{may_store}
 use Rattle.fm_rule.proofs.Stepping.{store_stepped}
 use Rattle.fm_rule.proofs.Keeping.{store_keeps}
 use Rattle.fm_rule.proofs.steps.step_store.Goals as goal
 use Rattle.fm_rule.proofs.steps.step_store.Goals.{After-pass}
 
-here : (c : After-pass)
-    → WordPlace c.args.pool.now.shape c.pass.inside.seat.me.0 c.requires.act.id c.args.word c.pass.inside.cells_from
-here c = word_place _ c.pass.inside.seat.me.0 _ _ c.pass.view_is c.requires.of.1 c.pass.invariant.sound c.args.word _ c.requires.act c.pass.invariant.cells
-
-pub overflow_add-place : goal.overflow_add-place
-overflow_add-place c = let p = (here c).fits in omega arith
+here : (c : After-pass) → WordPlace c.args.pool.now.shape c.pass.inside.seat.me.0 c.args.word c.args.place
+here c = word_place _ c.pass.inside.seat.me.0 _ _ c.pass.view_is c.requires.of.1 c.pass.invariant.sound c.args.word _ c.requires.place
 
 pub store_as-requires-clause-place : goal.store_as-requires-clause-place
 store_as-requires-clause-place c = (here (goal.at.store_as-requires-clause-place c).After-pass).low
@@ -19,10 +16,13 @@ store_as-requires-clause-place c = (here (goal.at.store_as-requires-clause-place
 pub store_as-requires-clause-may : goal.store_as-requires-clause-may
 store_as-requires-clause-may c =
     let p = here (goal.at.store_as-requires-clause-may c).After-pass in
-    may_store _ _ c.pass.inside.seat.me.0 c.pass.invariant.live _ c.requires.act.id c.args.word c.args.v p.inside p.within c.ranges.v.fits p.place
+    may_store _ _ c.pass.inside.seat.me.0 c.pass.invariant.live _ c.args.word
+    (reaches _ c.pass.inside.seat.me.0 _ _ c.pass.view_is c.requires.of.1 c.args.word c.requires.act) p c.args.v c.ranges.v.fits
 
 pub invariant_of-pass : goal.invariant_of-pass
 invariant_of-pass c = store_keeps _ _ _ _ _ _ _ _ c.pass.invariant c.store_as.ensures.slots c.args.word c.args.v _ c.store_as.ensures.tells
 
 pub returns : goal.returns
-returns c = store_stepped _ _ _ _ _ c.pass.view_is (ap numbers_of c.store_as.ensures.table) c.pass.invariant.met c.args.word c.args.v _ c.store_as.ensures.tells
+returns c =
+    store_stepped _ _ _ _ _ c.pass.view_is (ap numbers_of c.store_as.ensures.table) c.pass.invariant.met c.args.word c.args.v _
+    c.store_as.ensures.tells

@@ -1,7 +1,8 @@
 use Rattle.std.proofs.Common.{ap, ◌<◌, sym, subst}
 use Rattle.fm_base.specs.declared.caller.Caller.{Caller}
 use Rattle.fm_rule.specs.Views.{numbers_of}
-use Rattle.fm_rule.proofs.Knowing.{mark_below, number_below, may_unmark}
+use Rattle.fm_rule.proofs.Knowing.{mark_below, number_below}
+use Rattle.fm_rule.proofs.Making.{may_unmark}
 use Rattle.fm_rule.proofs.Stepping.{unmark_stepped}
 use Rattle.fm_rule.proofs.Keeping.{unmark_keeps}
 use Rattle.fm_rule.proofs.steps.step_unmark.Goals as goal

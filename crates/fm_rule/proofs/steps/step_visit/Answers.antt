@@ -4,7 +4,8 @@ use Rattle.fm_pool_facts.specs.Views.{View}
 use Rattle.fm_pool_facts.specs.Closes.{visited_of}
 use Rattle.fm_pool_facts.specs.Words.{own_word}
 use Rattle.fm_rule.specs.Views.{numbers_of}
-use Rattle.fm_rule.proofs.Knowing.{mark_below, shape_is, may_visit}
+use Rattle.fm_rule.proofs.Knowing.{mark_below, shape_is}
+use Rattle.fm_rule.proofs.Making.{may_visit}
 use Rattle.fm_rule.proofs.Stepping.{visit_stepped}
 use Rattle.fm_rule.proofs.Keeping.{visit_keeps}
 use Rattle.fm_rule.proofs.steps.step_visit.Goals as goal

@@ -2,7 +2,8 @@ use Rattle.std.proofs.Common.{ap, ◌∙◌, refl, arith}
 use Rattle.fm_pool_facts.specs.Views.{View}
 use Rattle.fm_pool_facts.specs.Hands.{retired}
 use Rattle.fm_rule.specs.Views.{numbers_of}
-use Rattle.fm_rule.proofs.Knowing.{bits_below, valid, slot_in_hand, may_give}
+use Rattle.fm_rule.proofs.Knowing.{bits_below, valid, slot_in_hand}
+use Rattle.fm_rule.proofs.Making.{may_give}
 use Rattle.fm_rule.proofs.Stepping.{give_stepped}
 use Rattle.fm_rule.proofs.Keeping.{give_keeps}
 use Rattle.fm_rule.proofs.sweeping.step_give_slot.Goals as goal

@@ -2,7 +2,8 @@ use Rattle.std.proofs.Common.{ap, ◌∙◌, refl}
 use Rattle.fm_pool_facts.specs.Hands.{taken}
 use Rattle.fm_pool_facts.specs.Views.{View}
 use Rattle.fm_rule.specs.Views.{numbers_of}
-use Rattle.fm_rule.proofs.Knowing.{session_below, slot_in_hand, may_learn_generation}
+use Rattle.fm_rule.proofs.Knowing.{session_below, slot_in_hand}
+use Rattle.fm_rule.proofs.Making.{may_learn_generation}
 use Rattle.fm_rule.proofs.Stepping.{generation_stepped}
 use Rattle.fm_rule.proofs.Keeping.{generation_keeps}
 use Rattle.fm_rule.proofs.taking.step_generation.Goals as goal

@@ -1,7 +1,8 @@
 use Rattle.std.proofs.Common.{ap, ◌∙◌, arith}
 use Rattle.fm_pool_facts.specs.Views.{View}
 use Rattle.fm_rule.specs.Views.{numbers_of}
-use Rattle.fm_rule.proofs.Knowing.{bits_below, shape_is, valid, may_take}
+use Rattle.fm_rule.proofs.Knowing.{bits_below, shape_is, valid}
+use Rattle.fm_rule.proofs.Making.{may_take}
 use Rattle.fm_rule.proofs.Stepping.{take_stepped, slots_learnt}
 use Rattle.fm_rule.proofs.Keeping.{take_keeps}
 use Rattle.fm_rule.proofs.taking.step_take_slot.Goals as goal

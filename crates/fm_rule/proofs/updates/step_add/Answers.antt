@@ -1,17 +1,14 @@
-use Rattle.std.proofs.Common.{ap, arith}
+use Rattle.std.proofs.Common.{ap}
 use Rattle.fm_rule.specs.Views.{numbers_of}
-use Rattle.fm_rule.proofs.Knowing.{WordPlace, word_place, may_add}
+use Rattle.fm_rule.proofs.Knowing.{WordPlace, reaches, word_place}
+use Rattle.fm_rule.proofs.Making.{may_add}
 use Rattle.fm_rule.proofs.Stepping.{add_stepped}
 use Rattle.fm_rule.proofs.Keeping.{add_keeps}
 use Rattle.fm_rule.proofs.updates.step_add.Goals as goal
 use Rattle.fm_rule.proofs.updates.step_add.Goals.{After-pass}
 
-here : (c : After-pass)
-    → WordPlace c.args.pool.now.shape c.pass.inside.seat.me.0 c.requires.act.id c.args.word c.pass.inside.cells_from
-here c = word_place _ c.pass.inside.seat.me.0 _ _ c.pass.view_is c.requires.of.1 c.pass.invariant.sound c.args.word _ c.requires.act c.pass.invariant.cells
-
-pub overflow_add-place : goal.overflow_add-place
-overflow_add-place c = let p = (here c).fits in omega arith
+here : (c : After-pass) → WordPlace c.args.pool.now.shape c.pass.inside.seat.me.0 c.args.word c.args.place
+here c = word_place _ c.pass.inside.seat.me.0 _ _ c.pass.view_is c.requires.of.1 c.pass.invariant.sound c.args.word _ c.requires.place
 
 pub add_as-requires-clause-place : goal.add_as-requires-clause-place
 add_as-requires-clause-place c = (here (goal.at.add_as-requires-clause-place c).After-pass).low
@@ -19,10 +16,13 @@ add_as-requires-clause-place c = (here (goal.at.add_as-requires-clause-place c).
 pub add_as-requires-clause-may : goal.add_as-requires-clause-may
 add_as-requires-clause-may c =
     let p = here (goal.at.add_as-requires-clause-may c).After-pass in
-    may_add _ _ c.pass.inside.seat.me.0 c.pass.invariant.live _ c.requires.act.id c.args.word c.args.n p.inside p.within p.place
+    may_add _ _ c.pass.inside.seat.me.0 c.pass.invariant.live _ c.args.word
+    (reaches _ c.pass.inside.seat.me.0 _ _ c.pass.view_is c.requires.of.1 c.args.word c.requires.act) p c.args.n
 
 pub invariant_of-pass : goal.invariant_of-pass
 invariant_of-pass c = add_keeps _ _ _ _ _ _ _ _ c.pass.invariant c.add_as.ensures.slots c.args.word c.args.n _ c.add_as.ensures.tells
 
 pub returns : goal.returns
-returns c = add_stepped _ _ _ _ _ c.pass.view_is (ap numbers_of c.add_as.ensures.table) c.pass.invariant.met c.args.word c.args.n _ c.add_as.ensures.tells
+returns c =
+    add_stepped _ _ _ _ _ c.pass.view_is (ap numbers_of c.add_as.ensures.table) c.pass.invariant.met c.args.word c.args.n _
+    c.add_as.ensures.tells

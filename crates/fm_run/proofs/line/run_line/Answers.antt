@@ -13,7 +13,7 @@ returns-in-Ok g c =
       room = c.take_in.ensures.room;
       ran = line_kept p q c.args.names.now t.base.now t.start t.own.items c.take_in.new.self.own.items c.args.command.now c.take_in.result t.behind
           c.in-Ok.out kept c.take_in.ensures.own c.take_in.ensures.reply c.in-Ok.ensures.ran
-          c.in-Ok.ensures.slots;
+          c.in-Ok.ensures.slots c.in-Ok.ensures.pages;
       backs = λ holds handles b. backs_kept p q c.args.names.now t.base.now t.start t.own.items c.take_in.new.self.own.items c.args.command.now
           c.take_in.result t.behind c.in-Ok.out holds handles c.take_in.ensures.own c.in-Ok.ensures.ran b;
       kept = tt;

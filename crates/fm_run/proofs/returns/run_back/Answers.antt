@@ -40,7 +40,7 @@ returns-in_default-clause-ran g c =
     (handed-same _ (ap (option_map (λ (h : AutoHandle). h.arena)) took.0)))
     (ap (λ (xs : List Standing). length xs) took.1) next
     (subst (λ (o : Option ArenaId). On o (GivesBack p.caller) (plain c.take_in.result) []) (sym none) (ap plain said, refl))
-    (went_none p) c.requires.outside (record { known = λ id k. k; given = λ id. omega arith; limit = refl; caller = refl }) refl
+    (went_none p) c.requires.outside (record { known = λ id k. k; given = λ id. omega arith; limit = refl; caller = refl }) refl tt
 
 pub returns-in_default-clause-backs : goal.returns-in_default-clause-backs
 returns-in_default-clause-backs g c holds handles b =
@@ -81,7 +81,7 @@ returns-clause-ran g c =
     (ap (λ (xs : List Standing). length xs) took.1.1.new_is ∙ length-set own took.1.0 (handed_back (get_or own took.1.0 Nothing))) next
     (subst (λ (o : Option ArenaId). On o (GivesBack p.caller) (plain c.take_in-2.result) r.own) (sym some)
     (subst (λ (x : Reply). GivesBack p.caller c.in-Some.handle.arena (plain x) r.own) (sym said) r.does))
-    r.went r.outside r.lasts refl
+    r.went r.outside r.lasts refl tt
 
 pub returns-clause-backs : goal.returns-clause-backs
 returns-clause-backs g c holds handles b =

@@ -40,7 +40,7 @@ returns-in_default-clause-ran c =
     (unheld-same _ (ap (option_map (λ (h : held.Hold). h.arena)) took.0)))
     (ap (λ (xs : List Standing). length xs) took.1) next
     (subst (λ (o : Option ArenaId). On o (Unholds p.caller) (plain c.take_in.result) []) (sym none) (ap plain said, refl))
-    (went_none p) c.requires.outside (record { known = λ id k. k; given = λ id. omega arith; limit = refl; caller = refl }) refl
+    (went_none p) c.requires.outside (record { known = λ id k. k; given = λ id. omega arith; limit = refl; caller = refl }) refl tt
 
 pub returns-in_default-clause-backs : goal.returns-in_default-clause-backs
 returns-in_default-clause-backs c holds handles b =
@@ -77,7 +77,7 @@ returns-clause-ran c =
     (ap (λ (xs : List Standing). length xs) took.1.1.new_is ∙ length-set own took.1.0 (unheld (get_or own took.1.0 Nothing))) next
     (subst (λ (o : Option ArenaId). On o (Unholds p.caller) (plain c.take_in-2.result) c.unhold.ensures.own) (sym some)
     (subst (λ (r : Reply). Unholds p.caller c.in-Some.hold.arena (plain r) c.unhold.ensures.own) (sym said) c.unhold.ensures.does))
-    c.unhold.ensures.went c.unhold.ensures.outside c.unhold.ensures.lasts refl
+    c.unhold.ensures.went c.unhold.ensures.outside c.unhold.ensures.lasts refl tt
 
 pub returns-clause-backs : goal.returns-clause-backs
 returns-clause-backs c holds handles b =

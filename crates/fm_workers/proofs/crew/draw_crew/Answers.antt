@@ -3,7 +3,7 @@ use Rattle.std.proofs.lemmas.List.{append-nil}
 use Rattle.fm_rule.specs.Draws.{Drawn}
 use Rattle.fm_workers.specs.declared.worker.Worker.{Worker}
 use Rattle.fm_workers.specs.Rounds.{DrewCrew, tasks_of}
-use Rattle.fm_workers.proofs.Drawing.{drew_nobody, drew_more, refused_draws, tasks_moved, outside_drew}
+use Rattle.fm_workers.proofs.Drawing.{drew_nobody, drew_more, refused_draws, tasks_moved, outside_drew, shares_new}
 use Rattle.fm_workers.proofs.crew.draw_crew.Goals as goal
 
 pub loop-task-init : goal.loop-task-init
@@ -18,6 +18,9 @@ loop-task-init g c =
       room = search rules;
       count = search rules;
     }
+
+pub new-requires : goal.new-requires
+new-requires g c = shares_new c.loop-task.invariant.outside c.in-Ok.ensures.drawn
 
 pub loop-task-preserved : goal.loop-task-preserved
 loop-task-preserved g c =

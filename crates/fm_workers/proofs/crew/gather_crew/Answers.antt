@@ -44,7 +44,7 @@ loop-worker-preserved g c =
     record {
       done = w ∷ i.done;
       split = split_more c.args.crew.items c.loop-worker.crew.items c.pop.new.self.items i.done w i.split c.in-Some.ensures.items;
-      gathered = gathered_more i.gathered w s.no_other k;
+      gathered = gathered_more i.gathered w s.no_other (s.of.1 ∙ sym i.outside.of.1) k;
       outside = outside_gathered i.outside k;
       tasks = c.push_reserved.ensures.items ∙ (ap (λ (ts : List g.row.T.Denot). ts ++ w.task ∷ []) i.tasks
           ∙ append_assoc c.args.tasks.now.items (tasks_of i.done) (w.task ∷ []));

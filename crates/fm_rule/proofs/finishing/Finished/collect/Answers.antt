@@ -3,7 +3,7 @@ use Rattle.std.specs.Prelude.{is_ok}
 use Rattle.fm_words.specs.declared.shape.Shape.{Shape}
 use Rattle.fm_words.specs.Places.{at, given as given_place}
 use Rattle.fm_rule.proofs.Knowing.{given_below as place_below}
-use Rattle.fm_rule.proofs.GivenBytes.{shape_in, finished_in, given_now, given_below, one_byte}
+use Rattle.fm_rule.proofs.GivenBytes.{shape_in, finished_in, given_now, one_byte}
 use Rattle.fm_rule.proofs.finishing.Finished.collect.Goals as goal
 
 pub word-given-requires : goal.word-given-requires
@@ -13,9 +13,8 @@ word-given-requires c =
 
 pub byte-byte-requires-clause-low : goal.byte-byte-requires-clause-low
 byte-byte-requires-clause-low c =
-    given_below c.args.self.now (finished_in _ _ c.self.view_is c.self.invariant) c.args.a c.requires c.loop-k.k
-    (subst (λ (n : ℕ). c.loop-k.k < n) (given_now c.args.self.now c.args.a c.requires c.self.inside.shape (shape_in _ _ c.self.view_is) c.given_place.result
-    c.word-given.result c.given_place.ensures c.word-given.ensures) c.loop-k-test.true)
+    subst (λ (n : ℕ). c.loop-k.k < n) (given_now c.args.self.now c.args.a c.requires c.self.inside.shape (shape_in _ _ c.self.view_is) c.given_place.result
+    c.word-given.result c.given_place.ensures c.word-given.ensures) c.loop-k-test.true
 
 pub loop-k-preserved : goal.loop-k-preserved
 loop-k-preserved c =

@@ -2,7 +2,8 @@ use Rattle.std.proofs.Common.{ap, ◌∙◌}
 use Rattle.fm_pool_facts.specs.Views.{View}
 use Rattle.fm_pool_steps.proofs.Gathering.{gather_joins}
 use Rattle.fm_rule.specs.Views.{numbers_of}
-use Rattle.fm_rule.proofs.Knowing.{front_below, may_look}
+use Rattle.fm_rule.proofs.Knowing.{front_below}
+use Rattle.fm_rule.proofs.Making.{may_look}
 use Rattle.fm_rule.proofs.Noting.{one_table, some_words}
 use Rattle.fm_rule.proofs.Halves.{at_rest, gathers, gather_keeps}
 use Rattle.fm_rule.proofs.pool.Pool.gather.Goals as goal

@@ -3,7 +3,8 @@ use Rattle.fm_pool_facts.specs.Views.{View}
 use Rattle.fm_pool_steps.proofs.Splitting.{meet_joins}
 use Rattle.fm_rule.specs.Passes.{GoesOnFrom}
 use Rattle.fm_rule.specs.Views.{NoteView, numbers_of}
-use Rattle.fm_rule.proofs.Knowing.{front_below, may_look}
+use Rattle.fm_rule.proofs.Knowing.{front_below}
+use Rattle.fm_rule.proofs.Making.{may_look}
 use Rattle.fm_rule.proofs.Noting.{one_table, some_words, meet_met, meet_stepped, meet_keeps}
 use Rattle.fm_rule.proofs.pool.Pool.meet.Goals as goal
 

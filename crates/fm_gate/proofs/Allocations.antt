@@ -1,0 +1,200 @@
+-- What is learnt of allocating.
+use Rattle.std.proofs.Common.{◌≡◌, ◌≢◌, ◌⊎◌, ℕ, Bool, true, not, List, [], ◌∷◌, ◌++◌, refl, ap, sym, ◌∙◌, subst, inl, inr, Result, Ok, Err, All}
+use Rattle.std.specs.Prelude.{IfErr}
+use Rattle.std.proofs.lemmas.List.{append-nil}
+use Rattle.std.proofs.lemmas.List.Elements.{All-head, All-tail, filter-append}
+use Rattle.fm_base.specs.declared.caller.Caller.{Caller}
+use Rattle.fm_base.specs.declared.arena_id.ArenaId.{ArenaId}
+use Rattle.fm_base.specs.declared.refusal.Refusal.{Refusal}
+use Rattle.fm_base.specs.declared.refusal.Refusal.TheVariants as refusal
+use Rattle.fm_base.specs.Arenas.{MayUse}
+use Rattle.fm_base.specs.Calls.{Enter, Allocate, Leave, Fine, Given, NoRoom, Entry, entry_of}
+use Rattle.fm_base.specs.Does.{DoesEnter, DoesAllocate}
+use Rattle.fm_base.specs.Machine.{IsPower}
+use Rattle.fm_base.specs.View.{but_loans, is_loan}
+use Rattle.fm_base.specs.Visits.{refused_visit}
+use Rattle.fm_pool_facts.specs.Loans.{lent}
+use Rattle.fm_pool_facts.specs.Views.{View, In, IsSound, given_of}
+use Rattle.fm_rule.specs.declared.pool.Pool.{Pool}
+use Rattle.fm_calls.proofs.Going.{goes_none, lasts_on}
+use Rattle.fm_gate.specs.Giving.{DoesGive, LendsTo}
+use Rattle.fm_gate.specs.Learnt.{AfterEnter, AfterAllocate}
+use Rattle.fm_gate.specs.Pages.{FullExactly}
+use Rattle.fm_gate.specs.Standing.{CanAllocate}
+use Rattle.fm_gate.proofs.Scarce.{scarce_by}
+
+abbrev err : Refusal → Result ℕ Refusal
+err r = Err r
+
+abbrev nothing : Refusal → Result (Unit {0}) Refusal
+nothing r = Err r
+
+-- ---- refused before the arena is entered
+
+pub after_bad : {pool : Pool} {p : View} {a : ArenaId} {size align : ℕ} → CanAllocate pool p a → IsSound p → ¬ (IsPower align)
+    → AfterAllocate pool p p a size align (Err refusal.BadAlignment)
+after_bad {p = p} can s n = record {
+  did = record { own = []; does = (n, refl); goes = goes_none s; rest = refl };
+  gives = tt;
+  held = λ i e. absurd (cc);
+  never = λ e. absurd (cc);
+  no_page = λ e. absurd (cc);
+  exact = λ w c s. tt;
+  lends = λ e i loan. absurd i;
+  bad_alignment = λ e. refl;
+  wrong_thread = λ e. refl;
+  outside = can.visit.outside;
+  lasts = lasts_on (goes_none s);
+}
+
+pub after_not_his : {pool : Pool} {p : View} {a : ArenaId} {size align : ℕ} → CanAllocate pool p a → IsSound p → IsPower align → ¬ (MayUse a p.caller)
+    → AfterAllocate pool p p a size align (Err refusal.WrongThread)
+after_not_his can s power n = record {
+  did = record { own = []; does = (power, n, refl); goes = goes_none s; rest = refl };
+  gives = tt;
+  held = λ i e. absurd (cc);
+  never = λ e. absurd (cc);
+  no_page = λ e. absurd (cc);
+  exact = λ w c s. tt;
+  lends = λ e i loan. absurd i;
+  bad_alignment = λ e. refl;
+  wrong_thread = λ e. refl;
+  outside = can.visit.outside;
+  lasts = lasts_on (goes_none s);
+}
+
+-- What is learnt where the arena couldn't be entered.
+pub after_no_entrance : {pool : Pool} {p q : View} {a : ArenaId} {size align : ℕ} (r : Refusal) → IsPower align → AfterEnter pool p q a (Err r)
+    → AfterAllocate pool p q a size align (Err r)
+after_no_entrance {p = p} {q = q} {a = a} {size = size} {align = align} r power h = record {
+  did = record { own = h.did.own; does = does r h.did.does; goes = h.did.goes; rest = h.did.rest };
+  gives = tt;
+  held = λ i e. h.held i (shut r h.did.does e);
+  never = never r h.did.does;
+  no_page = λ e. full r h.did.does e;
+  exact = λ w c s. exact r h.did.does;
+  lends = λ e i loan. absurd (no_loan r h.did.does e i loan);
+  bad_alignment = λ e. bad r h.did.does e;
+  wrong_thread = λ e. h.wrong_thread (same r h.did.does e);
+  outside = h.outside;
+  lasts = h.lasts;
+}
+  where
+    -- entering lends nothing
+    not_lent : (e : Entry) → In e (refused_visit p.caller a) → is_loan e.call ≡ true → ⊥
+    not_lent e (inl i) loan = let call : e.call ≡ Enter a = ap (λ (k : Entry). k.call) i in absurd (cc)
+    not_lent e (inr i) loan = i
+
+    does : (r : Refusal) → DoesEnter p.caller a (Err r) h.did.own → DoesAllocate p.caller a size align (Err r) (but_loans h.did.own)
+    does refusal.WrongThread d = (power, d.0, ap but_loans d.1)
+    does refusal.Closed d = (power, d.0, ap but_loans d.1)
+    does r d = absurd d
+
+    never : (r : Refusal) → DoesEnter p.caller a (Err r) h.did.own → r ≢ refusal.Memory
+    never refusal.WrongThread d = λ e. absurd (cc)
+    never refusal.Closed d = λ e. absurd (cc)
+    never r d = absurd d
+
+    full : {X : Type 0} (r : Refusal) → DoesEnter p.caller a (Err r) h.did.own → err r ≡ err refusal.PoolFull → X
+    full refusal.WrongThread d e = absurd (cc)
+    full refusal.Closed d e = absurd (cc)
+    full r d e = absurd d
+
+    exact : (r : Refusal) → DoesEnter p.caller a (Err r) h.did.own → FullExactly p a size align (Err r)
+    exact refusal.WrongThread d = tt
+    exact refusal.Closed d = tt
+    exact r d = absurd d
+
+    no_loan : (r : Refusal) → DoesEnter p.caller a (Err r) h.did.own → (e : Entry) → In e h.did.own → is_loan e.call ≡ true → ⊥
+    no_loan refusal.WrongThread d e i loan = subst (λ (es : List Entry). In e es) d.1 i
+    no_loan refusal.Closed d e i loan = not_lent e (subst (λ (es : List Entry). In e es) d.1 i) loan
+    no_loan r d e i loan = absurd d
+
+    same : (r : Refusal) → DoesEnter p.caller a (Err r) h.did.own → err r ≡ err refusal.WrongThread → nothing r ≡ nothing refusal.WrongThread
+    same refusal.WrongThread d e = refl
+    same refusal.Closed d e = absurd (cc)
+    same r d e = absurd d
+
+    shut : (r : Refusal) → DoesEnter p.caller a (Err r) h.did.own → err r ≡ err refusal.Closed → nothing r ≡ nothing refusal.Closed
+    shut refusal.WrongThread d e = absurd (cc)
+    shut refusal.Closed d e = refl
+    shut r d e = absurd d
+
+    bad : {X : Type 0} (r : Refusal) → DoesEnter p.caller a (Err r) h.did.own → err r ≡ err refusal.BadAlignment → X
+    bad refusal.WrongThread d e = absurd (cc)
+    bad refusal.Closed d e = absurd (cc)
+    bad r d e = absurd d
+
+-- ---- what was answered inside, and what the call then answers
+
+-- Loans are left out.
+no_loans : (c : Caller) (a : ArenaId) (es : List Entry) → All (LendsTo c a) es → but_loans es ≡ []
+no_loans c a [] h = refl
+no_loans c a (e ∷ es) h =
+    let f = All-head (LendsTo c a) e es h in
+    ap (λ (x : Entry). but_loans (x ∷ es)) f.2 ∙ no_loans c a es (All-tail (LendsTo c a) e es h)
+
+keeps : Entry → Bool
+keeps e = not (is_loan e.call)
+
+-- What is left of a visit in which loans came first.
+visit_loans : (c : Caller) (a : ArenaId) (lends acts : List Entry) → All (LendsTo c a) lends
+    → but_loans (entry_of c (Enter a) Fine ∷ (lends ++ acts) ++ entry_of c (Leave a) Fine ∷ [])
+    ≡ entry_of c (Enter a) Fine ∷ but_loans acts ++ entry_of c (Leave a) Fine ∷ []
+unfolding keeps
+visit_loans c a lends acts h =
+    let left : List Entry = entry_of c (Leave a) Fine ∷ [] in
+    ap (λ (es : List Entry). entry_of c (Enter a) Fine ∷ es)
+    (filter-append keeps (lends ++ acts) left
+    ∙ ap (λ (es : List Entry). es ++ left) (filter-append keeps lends acts ∙ ap (λ (es : List Entry). es ++ but_loans acts) (no_loans c a lends h)))
+
+pub alike : (c : Caller) (a : ArenaId) (size align : ℕ) (result : Result ℕ Refusal) (own : List Entry) → IsPower align → MayUse a c
+    → DoesGive c a size align result own
+    → DoesAllocate c a size align result (but_loans (entry_of c (Enter a) Fine ∷ own ++ entry_of c (Leave a) Fine ∷ []))
+alike c a size align (Ok place) own power may d = (
+  power,
+  may,
+  ap (λ (es : List Entry). but_loans (entry_of c (Enter a) Fine ∷ es ++ entry_of c (Leave a) Fine ∷ [])) d.is
+      ∙ visit_loans c a d.lends (entry_of c (Allocate a size align) (Given place) ∷ []) d.are,
+)
+alike c a size align (Err (refusal.NoRoom given)) own power may d = (
+  power,
+  may,
+  ap (λ (es : List Entry). but_loans (entry_of c (Enter a) Fine ∷ es ++ entry_of c (Leave a) Fine ∷ [])) d.is
+      ∙ visit_loans c a d.lends (entry_of c (Allocate a size align) (NoRoom given) ∷ []) d.are,
+)
+alike c a size align (Err refusal.PoolFull) own power may d = (
+  power,
+  may,
+  ap (λ (es : List Entry). but_loans (entry_of c (Enter a) Fine ∷ es ++ entry_of c (Leave a) Fine ∷ [])) (sym (append-nil own))
+      ∙ visit_loans c a own [] d,
+)
+alike c a size align (Err r) own power may d = absurd d
+
+pub never_so : (c : Caller) (a : ArenaId) (size align : ℕ) (result : Result ℕ Refusal) (own : List Entry) → DoesGive c a size align result own
+    → IfErr result (λ r. r ≢ refusal.Memory)
+never_so c a size align (Ok place) own d = tt
+never_so c a size align (Err (refusal.NoRoom given)) own d = λ e. absurd (cc)
+never_so c a size align (Err refusal.PoolFull) own d = λ e. absurd (cc)
+never_so c a size align (Err r) own d = absurd d
+
+pub unlike : {X : Type 0} (c : Caller) (a : ArenaId) (size align : ℕ) (result : Result ℕ Refusal) (own : List Entry) → DoesGive c a size align result own
+    → (result ≡ Err refusal.BadAlignment) ⊎ ((result ≡ Err refusal.WrongThread) ⊎ (result ≡ Err refusal.Closed)) → X
+unlike c a size align (Ok place) own d (inl e) = absurd (cc)
+unlike c a size align (Ok place) own d (inr (inl e)) = absurd (cc)
+unlike c a size align (Ok place) own d (inr (inr e)) = absurd (cc)
+unlike c a size align (Err (refusal.NoRoom given)) own d (inl e) = absurd (cc)
+unlike c a size align (Err (refusal.NoRoom given)) own d (inr (inl e)) = absurd (cc)
+unlike c a size align (Err (refusal.NoRoom given)) own d (inr (inr e)) = absurd (cc)
+unlike c a size align (Err refusal.PoolFull) own d (inl e) = absurd (cc)
+unlike c a size align (Err refusal.PoolFull) own d (inr (inl e)) = absurd (cc)
+unlike c a size align (Err refusal.PoolFull) own d (inr (inr e)) = absurd (cc)
+unlike c a size align (Err r) own d e = absurd d
+
+-- where pages were too few before the arena was entered they are so after it, and the other way round
+pub exact_by : (p q : View) (a : ArenaId) (size align : ℕ) (result : Result ℕ Refusal) → q.shape ≡ p.shape → given_of q a ≡ given_of p a
+    → lent q.seen ≡ lent p.seen → FullExactly q a size align result → FullExactly p a size align result
+exact_by p q a size align (Ok place) shape given loans x = λ s. x (scarce_by shape given loans s)
+exact_by p q a size align (Err (refusal.NoRoom given)) shape count loans x = λ s. x (scarce_by shape count loans s)
+exact_by p q a size align (Err refusal.PoolFull) shape given loans x = scarce_by (sym shape) (sym given) (sym loans) x
+exact_by p q a size align (Err r) shape given loans x = tt

@@ -1,0 +1,184 @@
+-- What is learnt of allocating inside an arena.
+use Rattle.std.proofs.Common.{◌≡◌, ◌≢◌, ℕ, ◌+◌, ◌*◌, ◌/◌, ◌<◌, ◌≤◌, nat_le, Bool, true, false, if◌then◌else◌, List, [], ◌∷◌, ◌++◌, length, refl, ap, sym, ◌∙◌, subst, inl, inr, ⊎_elim, All, Some, None, Result, Ok, Err, eq-eqb, append_assoc, arith}
+use Rattle.std.proofs.lemmas.List.{length-append}
+use Rattle.std.proofs.lemmas.List.Elements.{All-head, All-tail, Contains-append_right}
+use Rattle.fm_words.specs.declared.shape.Shape.{Shape}
+use Rattle.fm_base.specs.declared.caller.Caller.{Caller}
+use Rattle.fm_base.specs.declared.arena_id.ArenaId.{ArenaId}
+use Rattle.fm_base.specs.declared.refusal.Refusal.{Refusal}
+use Rattle.fm_base.specs.declared.refusal.Refusal.TheVariants as refusal
+use Rattle.fm_base.specs.Calls.{Allocate, Reply, Given, NoRoom, Entry, entry_of}
+use Rattle.fm_base.specs.Finds.{Find}
+use Rattle.fm_base.specs.Histories.{made_by}
+use Rattle.fm_base.specs.Machine.{allocate_reply, rounded_up}
+use Rattle.fm_base.specs.View.{is_loan}
+use Rattle.fm_pool_facts.specs.Steps.{where_found, room}
+use Rattle.fm_pool_facts.specs.Views.{View, In, limit_of}
+use Rattle.fm_pool_facts.proofs.Keeping.{in_append}
+use Rattle.fm_rule.specs.declared.pool.Pool.{Pool}
+use Rattle.fm_pages.specs.Gives.{Unpaged}
+use Rattle.fm_pages.specs.Maps.{Way}
+use Rattle.fm_pages.proofs.Parts.{way_then, pages_way}
+use Rattle.fm_gate.specs.Giving.{NonePaged, AfterGive}
+use Rattle.fm_gate.specs.Pages.{IsInRange, LendsInRange, given_after}
+use Rattle.fm_gate.proofs.Gives.{Giving, count_is, inside_on, rest_on, lends_for, lent_way, lends_to, more_lent}
+use Rattle.fm_gate.proofs.Scarce.{scarce_seen, clear}
+
+-- What holds of all of a list holds of one in it.
+each : (P : Entry → Type 0) (es : List Entry) → All P es → (e : Entry) → In e es → P e
+each P [] h e i = absurd i
+each P (x ∷ xs) h e (inl i) = subst P (sym i) (All-head P x xs h)
+each P (x ∷ xs) h e (inr i) = each P xs (All-tail P x xs h) e i
+
+-- ---- the reply
+
+given_reply : (limit given size align place : ℕ) → Some place ≡ room limit given size align → allocate_reply limit given size align ≡ Given place
+given_reply limit given size align place = go (nat_le (rounded_up given align + size) limit)
+  where
+    go : (b : Bool) → Some place ≡ (if b then Some (rounded_up given align) else None)
+        → (if b then Given (rounded_up given align) else NoRoom given) ≡ Given place
+    go true e = ap Given (let q : rounded_up given align ≡ place = cc in q)
+    go false e = absurd (cc)
+
+full_reply : (limit given size align : ℕ) → None ≡ room limit given size align → allocate_reply limit given size align ≡ NoRoom given
+full_reply limit given size align = go (nat_le (rounded_up given align + size) limit)
+  where
+    go : (b : Bool) → None ≡ (if b then Some (rounded_up given align) else None) → (if b then Given (rounded_up given align) else NoRoom given) ≡ NoRoom given
+    go true e = absurd (cc)
+    go false e = refl
+
+abbrev full : Result ℕ Refusal
+full = Err refusal.PoolFull
+
+module _ {pool : Pool} {o p : View} {a : ArenaId} {size align count found : ℕ} (g : Giving pool o p a size align count found) (none : o.pages ≡ []) where
+  -- ---- the count was found
+
+  module _ (limit : ℕ) (e : found ≡ count) (lim : limit ≡ limit_of pool.shape) where
+    limit_is : limit ≡ limit_of o.shape
+    limit_is = lim ∙ (ap limit_of (sym g.inside.of.1) ∙ ap limit_of g.way.goes.same_shape)
+
+    -- the exchange lends nothing
+    no_loan : (reply : Reply) (x : Entry) → In x (entry_of o.caller (Allocate a size align) reply ∷ []) → is_loan x.call ≡ true → ⊥
+    no_loan reply x (inl i) loan = let call : x.call ≡ Allocate a size align = ap (λ (k : Entry). k.call) i in absurd (cc)
+    no_loan reply x (inr i) loan = i
+
+    -- the exchange was answered so
+    answered : (reply : Reply) → allocate_reply (limit_of o.shape) count size align ≡ reply
+        → Way o p (g.own ++ entry_of o.caller (Allocate a size align) reply ∷ []) []
+    answered reply is =
+        subst (λ (x : Bool × Reply). Way o p (g.own ++ where_found x.0 (entry_of o.caller (Allocate a size align) x.1 ∷ [])) [])
+        (λ j. (eq-eqb found count e j, is j)) g.way
+
+    -- All loans came before it.
+    lends_before : (reply : Reply) (x : Entry) → In x (g.own ++ entry_of o.caller (Allocate a size align) reply ∷ []) → is_loan x.call ≡ true
+        → LendsInRange o p a size align x
+    lends_before reply x i loan = ⊎_elim (λ l. each (LendsInRange o p a size align) g.own g.in_range x l)
+        (λ r. absurd (no_loan reply x r loan)) (in_append x g.own (entry_of o.caller (Allocate a size align) reply ∷ []) i)
+
+    -- What is learnt where the range fits.
+    pub after_fits : (place : ℕ) → Some place ≡ room limit count size align → AfterGive pool o p a size align (Ok place)
+    after_fits place r =
+        let w = answered (Given place)
+        (given_reply (limit_of o.shape) count size align place (r ∙ ap (λ (n : ℕ). room n count size align) limit_is)) in
+        record {
+          did = record {
+            own = g.own ++ entry_of o.caller (Allocate a size align) (Given place) ∷ [];
+            does = record { lends = g.own; are = g.are; is = refl };
+            goes = w.goes;
+            rest = rest_on w none;
+          };
+          inside = g.inside;
+          no_page = λ q. absurd (cc);
+          exact = λ w c s. g.exact w e;
+          lends = lends_before (Given place);
+        }
+
+    -- And where it doesn't.
+    pub after_past : None ≡ room limit count size align → AfterGive pool o p a size align (Err (refusal.NoRoom count))
+    after_past r =
+        let w = answered (NoRoom count) (full_reply (limit_of o.shape) count size align (r ∙ ap (λ (n : ℕ). room n count size align) limit_is)) in
+        record {
+          did = record {
+            own = g.own ++ entry_of o.caller (Allocate a size align) (NoRoom count) ∷ [];
+            does = record { lends = g.own; are = g.are; is = refl };
+            goes = w.goes;
+            rest = rest_on w none;
+          };
+          inside = g.inside;
+          no_page = λ q. absurd (cc);
+          exact = λ w c s. g.exact w e;
+          lends = lends_before (NoRoom count);
+        }
+
+  -- ---- no page was free
+
+  module _ {q : View} (n : found ≢ count) (u : Unpaged p q a found size align) where
+    before : Way o p g.own []
+    before = lent_way g n
+
+    whole_way : Way o q (g.own ++ u.lends) []
+    whole_way = way_then before u.way
+
+    in_range : IsInRange o (given_after o p.seen a) size align u.lacks.part
+    in_range =
+        let same : ◌≡◌ {A = Shape × ℕ} (p.shape, found) (o.shape, given_after o p.seen a) = (λ j. (before.goes.same_shape j, sym (count_is g n) j)) in
+        record {
+          fits = subst (λ (x : Shape × ℕ). rounded_up x.1 align + size ≤ limit_of x.0) same u.fits;
+          after = subst (λ (x : Shape × ℕ). x.1 / (x.0.page_words * 8) ≤ u.lacks.part) same u.lacks.low;
+          before = subst (λ (x : Shape × ℕ). u.lacks.part * (x.0.page_words * 8) < rounded_up x.1 align + size) same u.lacks.high;
+        }
+
+    none_paged : NonePaged o q a size align
+    none_paged =
+        let x = u.lacks.none in
+        let long : length p.seen ≡ length o.seen + length before.goes.more =
+        ap (λ (es : List Entry). length es) before.goes.seen ∙ length-append o.seen before.goes.more in
+        let late = x.early in
+        record {
+          found = record {
+            more = before.goes.finds.more ++ x.found.more;
+            grown = x.found.grown ∙ (ap (λ (fs : List Find). fs ++ x.found.more) before.goes.finds.grown
+                ∙ append_assoc o.finds before.goes.finds.more x.found.more);
+            find = x.found.find;
+            among = Contains-append_right before.goes.finds.more x.found.more x.found.find x.found.among;
+            step = x.found.step;
+            nothing = x.found.nothing;
+          };
+          early = omega arith;
+          late = x.late;
+          left = x.left;
+          counted = p.seen;
+          count_stood = record { since = (before.goes.more, before.goes.seen); until = (u.way.goes.more, u.way.goes.seen) };
+          part = u.lacks.part;
+          in_range = in_range;
+          at = x.before;
+          later = x.later;
+          at_stood = record {
+            since = (
+              before.goes.more ++ x.since.0,
+              x.since.1 ∙ (ap (λ (es : List Entry). es ++ x.since.0) before.goes.seen ∙ append_assoc o.seen before.goes.more x.since.0),
+            );
+            until = (x.later, x.seen);
+          };
+          seen = x.seen;
+          lacked = x.lacked;
+          quiet = subst (λ (c : Caller). made_by c x.later ≡ []) before.goes.same_caller x.quiet;
+        }
+
+    -- What is learnt then.
+    pub after_unpaged : AfterGive pool o q a size align full
+    after_unpaged = record {
+      did = record {
+        own = g.own ++ u.lends;
+        does = more_lent g n u.lends (lends_to p a found (rounded_up found align + size) u.lends u.are);
+        goes = whole_way.goes;
+        rest = rest_on whole_way none;
+      };
+      inside = inside_on u.way g.inside;
+      no_page = λ e. none_paged;
+      lends = λ e i loan. each (LendsInRange o q a size align) (g.own ++ u.lends) (lends_for g n u.way.goes u.lends u.are) e i;
+      exact = λ w c s.
+          scarce_seen (sym before.goes.same_shape) (sym (g.first w n))
+          (u.exact (clear p (before.goes.same_whole ∙ w) g.inside.no_slot (pages_way before) (ap (λ (v : View). v.closes) before.is ∙ c)
+          (ap (λ (v : View). v.sweeps) before.is ∙ s)) (g.learnt n));
+    }

@@ -1,0 +1,33 @@
+-- Whether pages are too few for an allocation.
+use Rattle.std.proofs.Common.{◌≡◌, ℕ, ◌+◌, ◌<◌, ◌≤◌, true, List, [], ap, sym, subst, ◌&&◌}
+use Rattle.fm_words.specs.declared.shape.Shape.{Shape}
+use Rattle.fm_base.specs.declared.arena_id.ArenaId.{ArenaId}
+use Rattle.fm_base.specs.Arenas.{arena_of}
+use Rattle.fm_base.specs.Histories.{state_after}
+use Rattle.fm_base.specs.Machine.{rounded_up}
+use Rattle.fm_pool_facts.specs.Hands.{nothing, slots_in}
+use Rattle.fm_pool_facts.specs.Loans.{Loan, lent}
+use Rattle.fm_pool_facts.specs.Scarcity.{IsScarce, parts_before, lacking}
+use Rattle.fm_pool_facts.specs.Steps.{is_clear, is_empty}
+use Rattle.fm_pool_facts.specs.Views.{View, given_of, limit_of, unlent}
+
+-- They are so in two views alike, where the arena has given the same bytes and the same blocks are lent.
+pub scarce_by : {p q : View} {a : ArenaId} {size align : ℕ} → q.shape ≡ p.shape → given_of q a ≡ given_of p a → lent q.seen ≡ lent p.seen
+    → IsScarce p a size align → IsScarce q a size align
+scarce_by {p = p} {q = q} {a = a} {size = size} {align = align} shape given loans s = record {
+  fits = subst (λ (x : Shape × ℕ). rounded_up x.1 align + size ≤ limit_of x.0) (λ j. (sym shape j, sym given j)) s.fits;
+  few = subst (λ (x : Shape × ℕ × List Loan). unlent x.0.pages x.2 < lacking (parts_before x.0 (rounded_up x.1 align + size)) x.2 a)
+      (λ j. (sym shape j, sym given j, sym loans j)) s.few;
+}
+
+-- what is seen alike is given alike
+given_by : (p q : View) (a : ArenaId) → q.shape ≡ p.shape → q.seen ≡ p.seen → given_of q a ≡ given_of p a
+given_by p q a shape seen = λ j. (arena_of (state_after (limit_of (shape j)) [] (seen j)) a).given
+
+pub scarce_seen : {p q : View} {a : ArenaId} {size align : ℕ} → q.shape ≡ p.shape → q.seen ≡ p.seen → IsScarce p a size align → IsScarce q a size align
+scarce_seen {p = p} {q = q} {a = a} shape seen s = scarce_by shape (given_by p q a shape seen) (ap lent seen) s
+
+-- A pass is clear that is known to be whole, with no slot or page in its hand and no close that isn't swept.
+pub clear : (p : View) → p.whole ≡ true → p.hand ≡ nothing → p.pages ≡ [] → p.closes ≡ [] → p.sweeps ≡ [] → is_clear p ≡ true
+clear p whole hand pages closes sweeps =
+    λ j. whole j && is_empty (slots_in (hand j)) && is_empty (pages j) && is_empty (closes j) && is_empty (sweeps j)

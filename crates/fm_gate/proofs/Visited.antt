@@ -1,0 +1,186 @@
+-- What is learnt of allocating, from entering the arena to leaving it.
+use Rattle.std.proofs.Common.{◌≡◌, ℕ, ◌+◌, ◌*◌, ◌/◌, ◌<◌, ◌≤◌, true, List, [], ◌∷◌, ◌++◌, length, refl, ap, sym, ◌∙◌, subst, inl, inr, ⊎_elim, Option, Result, Ok, append_assoc, arith}
+use Rattle.std.proofs.lemmas.List.{length-append}
+use Rattle.std.proofs.lemmas.List.Elements.{Contains-append_left, Contains-append_right, filter-append}
+use Rattle.fm_words.specs.declared.shape.Shape.{Shape}
+use Rattle.fm_base.specs.declared.caller.Caller.{Caller}
+use Rattle.fm_base.specs.declared.arena_id.ArenaId.{ArenaId}
+use Rattle.fm_base.specs.declared.refusal.Refusal.{Refusal}
+use Rattle.fm_base.specs.Arenas.{State, arena_of}
+use Rattle.fm_base.specs.Calls.{Enter, Leave, Lend, Fine, Entry, entry_of}
+use Rattle.fm_base.specs.Does.{DoesAct, DoesAllocate}
+use Rattle.fm_base.specs.Finds.{Find, Rest}
+use Rattle.fm_base.specs.Histories.{made_by, state_after}
+use Rattle.fm_base.specs.Machine.{IsPower, entered, rounded_up}
+use Rattle.fm_base.specs.View.{but_loans, is_loan}
+use Rattle.fm_base.proofs.Learning.{allocate_gives}
+use Rattle.fm_base.proofs.Lookup.{changed_lookup}
+use Rattle.fm_base.proofs.Making.{state_after-append}
+use Rattle.fm_pool_facts.specs.Loans.{lent}
+use Rattle.fm_pool_facts.specs.Views.{View, FewLeft, In, given_of, limit_of, state_in, unlent}
+use Rattle.fm_pool_facts.proofs.Keeping.{in_append}
+use Rattle.fm_pool_facts.proofs.Lending.{loans_after-append}
+use Rattle.fm_rule.specs.declared.pool.Pool.{Pool}
+use Rattle.fm_calls.specs.Kept.{Goes, Kept}
+use Rattle.fm_calls.specs.Told.{view_of_pass}
+use Rattle.fm_calls.proofs.Going.{goes_then, lasts_on}
+use Rattle.fm_calls.proofs.Sweeps.{no_sweeps}
+use Rattle.fm_calls.proofs.Telling.{did_of}
+use Rattle.fm_gate.specs.Giving.{AfterGive, DoesGive, NonePaged}
+use Rattle.fm_gate.specs.Learnt.{AfterEnter, AfterLeave, AfterAllocate}
+use Rattle.fm_gate.specs.Pages.{FoundNoPage, IsDuring, IsInRange, LendsInRange, given_after}
+use Rattle.fm_gate.proofs.Allocations.{alike, exact_by, never_so, unlike}
+
+-- ---- no page was free
+
+-- What was so inside is so in the whole call.
+during_on : {p q r s : View} {es fs at : List Entry} → Goes p q es → Goes r s fs → IsDuring q r at → IsDuring p s at
+during_on {p = p} {at = at} first last d = record {
+  since = (first.more ++ d.since.0, d.since.1 ∙ (ap (λ (xs : List Entry). xs ++ d.since.0) first.seen ∙ append_assoc p.seen first.more d.since.0));
+  until = (d.until.0 ++ last.more, last.seen ∙ (ap (λ (xs : List Entry). xs ++ last.more) d.until.1 ∙ append_assoc at d.until.0 last.more));
+}
+
+few_on : {r s : View} {fs : List Entry} {f : Find} → Goes r s fs → FewLeft r.shape r.seen f → FewLeft s.shape s.seen f
+few_on {f = f} last l =
+    let shape = sym last.same_shape in
+    record {
+      before = l.before;
+      begins = (
+        l.begins.0 ++ last.more,
+        last.seen ∙ (ap (λ (xs : List Entry). xs ++ last.more) l.begins.1 ∙ append_assoc l.before l.begins.0 last.more),
+      );
+      long = l.long;
+      few = subst (λ (z : Shape). unlent z.pages (lent l.before) < z.passes) shape l.few;
+      none = subst (λ (z : Shape). f.clear ≡ true → unlent z.pages (lent l.before) ≡ 0) shape l.none;
+    }
+
+range_on : {p q : View} {es : List Entry} (a : ArenaId) (size align part : ℕ) (counted : List Entry) → Goes p q es
+    → IsInRange q (given_after q counted a) size align part → IsInRange p (given_after p counted a) size align part
+range_on a size align part counted first x =
+    let count : Shape → ℕ = λ z. (arena_of (state_after (limit_of z) [] counted) a).given in
+    let shape = first.same_shape in
+    record {
+      fits = subst (λ (z : Shape). rounded_up (count z) align + size ≤ limit_of z) shape x.fits;
+      after = subst (λ (z : Shape). count z / (z.page_words * 8) ≤ part) shape x.after;
+      before = subst (λ (z : Shape). part * (z.page_words * 8) < rounded_up (count z) align + size) shape x.before;
+    }
+
+module _ {p q : View} {a : ArenaId} (first : Goes p q (entry_of p.caller (Enter a) Fine ∷ [])) where
+  found_no_page : {r s : View} {size align : ℕ} {own : List Entry} → Goes q r own → Goes r s (entry_of p.caller (Leave a) Fine ∷ [])
+      → NonePaged q r a size align → FoundNoPage p s a size align
+  found_no_page {r = r} {s = s} {size = size} {align = align} between last x =
+      let same : q.caller ≡ p.caller = first.same_caller in
+      let long : length q.seen ≡ length p.seen + length first.more = ap (λ (es : List Entry). length es) first.seen ∙ length-append p.seen first.more in
+      let longer : length s.seen ≡ length r.seen + length last.more = ap (λ (es : List Entry). length es) last.seen ∙ length-append r.seen last.more in
+      let early = x.early in
+      let late = x.late in
+      record {
+        found = record {
+          more = first.finds.more ++ (x.found.more ++ last.finds.more);
+          grown = last.finds.grown ∙ (ap (λ (fs : List Find). fs ++ last.finds.more) (x.found.grown
+              ∙ ap (λ (fs : List Find). fs ++ x.found.more) first.finds.grown)
+              ∙ (append_assoc (p.finds ++ first.finds.more) x.found.more last.finds.more
+              ∙ append_assoc p.finds first.finds.more (x.found.more ++ last.finds.more)));
+          find = x.found.find;
+          among = Contains-append_right first.finds.more (x.found.more ++ last.finds.more) x.found.find
+              (Contains-append_left x.found.more last.finds.more x.found.find x.found.among);
+          step = x.found.step;
+          nothing = x.found.nothing;
+        };
+        early = omega arith;
+        late = omega arith;
+        left = few_on last x.left;
+        lacked = record {
+          counted = x.counted;
+          count_stood = during_on first last x.count_stood;
+          part = x.part;
+          in_range = range_on a size align x.part x.counted first x.in_range;
+          at = x.at;
+          later = x.later ++ last.more;
+          at_stood = during_on first last x.at_stood;
+          seen = last.seen ∙ (ap (λ (es : List Entry). es ++ last.more) x.seen ∙ append_assoc x.at x.later last.more);
+          lacked = x.lacked;
+          no_lend = filter-append _ x.later last.more
+              ∙ (λ j. subst (λ (c : Caller). made_by c x.later ≡ []) same x.quiet j
+              ++ subst (λ (c : Caller). made_by c last.more ≡ entry_of p.caller (Leave a) Fine ∷ []) (between.same_caller ∙ same) last.by_pass j);
+        };
+      }
+
+  -- What is lent inside is lent in the whole call, and nothing else is.
+  lent_whole : {r s : View} {size align : ℕ} → Goes r s (entry_of p.caller (Leave a) Fine ∷ []) → (e : Entry) (own : List Entry)
+      → ((x : Entry) → In x own → is_loan x.call ≡ true → LendsInRange q r a size align x)
+      → In e (entry_of p.caller (Enter a) Fine ∷ own ++ entry_of p.caller (Leave a) Fine ∷ []) → is_loan e.call ≡ true
+      → LendsInRange p s a size align e
+  lent_whole last e own lends (inl i) loan = let call : e.call ≡ Enter a = ap (λ (k : Entry). k.call) i in absurd (cc)
+  lent_whole {r = r} {s = s} {size = size} {align = align} last e own lends (inr i) loan =
+      ⊎_elim (λ l. lent_on (lends e l loan)) (λ l. absurd (not_leaving l)) (in_append e own (entry_of p.caller (Leave a) Fine ∷ []) i)
+    where
+      not_leaving : In e (entry_of p.caller (Leave a) Fine ∷ []) → ⊥
+      not_leaving (inl j) = let call : e.call ≡ Leave a = ap (λ (k : Entry). k.call) j in absurd (cc)
+      not_leaving (inr j) = j
+
+      lent_on : LendsInRange q r a size align e → LendsInRange p s a size align e
+      lent_on l =
+          let count : Shape → ℕ = λ z. (arena_of (state_after (limit_of z) [] l.counted) a).given in
+          let shape = first.same_shape in
+          record {
+            page = l.page;
+            part = l.part;
+            is = l.is ∙ ap (λ (c : Caller). entry_of c (Lend l.page a l.part) Fine) first.same_caller;
+            counted = l.counted;
+            count_stood = during_on first last l.count_stood;
+            after = subst (λ (z : Shape). count z / (z.page_words * 8) ≤ l.part) shape l.after;
+            before = subst (λ (z : Shape). l.part * (z.page_words * 8) < rounded_up (count z) align + size) shape l.before;
+          }
+
+  -- ---- whether pages are too few
+
+  module _ (whole : p.whole ≡ true) where
+    entered_seen : q.seen ≡ p.seen ++ entry_of p.caller (Enter a) Fine ∷ []
+    entered_seen = first.seen ∙ ap (λ (es : List Entry). p.seen ++ es) (first.alone whole)
+
+    pub entered_loans : lent q.seen ≡ lent p.seen
+    entered_loans = ap lent entered_seen ∙ loans_after-append [] p.seen (entry_of p.caller (Enter a) Fine ∷ [])
+
+    pub entered_given : given_of q a ≡ given_of p a
+    entered_given =
+        let limit : ℕ = limit_of p.shape in
+        (λ j. (arena_of (state_after (limit_of (first.same_shape j)) [] (entered_seen j)) a).given)
+        ∙ (ap (λ (s : State). (arena_of s a).given) (state_after-append limit [] p.seen (entry_of p.caller (Enter a) Fine ∷ []))
+        ∙ changed_lookup (λ x y. y.given ≡ x.given) (entered p.caller) (λ x. refl) (λ x. refl) (state_in p) a refl a)
+
+-- ---- the whole call
+
+pub after_allocate : {pool : Pool} {p q r s : View} {a : ArenaId} {size align : ℕ} (result : Result ℕ Refusal) (u : Unit {0}) → IsPower align
+    → AfterEnter pool p q a (Ok u) → AfterGive pool q r a size align result → AfterLeave pool r s → AfterAllocate pool p s a size align result
+after_allocate {p = p} {q = q} {r = r} {s = s} {a = a} {size = size} {align = align} result u power enters gives leaves =
+    let c : Caller = p.caller in
+    let same : q.caller ≡ c = enters.did.goes.same_caller in
+    let does : DoesGive c a size align result gives.did.own = subst (λ (x : Caller). DoesGive x a size align result gives.did.own) same gives.did.does in
+    let first : Goes p q (entry_of c (Enter a) Fine ∷ []) = subst (λ (es : List Entry). Goes p q es) enters.did.does.1 enters.did.goes in
+    let left : leaves.did.own ≡ entry_of r.caller (Leave a) Fine ∷ [] =
+    subst (λ (i : Option ArenaId). DoesAct i r.caller Leave Fine leaves.did.own) gives.inside.inside leaves.did.does in
+    let last : Goes r s (entry_of c (Leave a) Fine ∷ []) = subst (λ (x : Caller). Goes r s (entry_of x (Leave a) Fine ∷ []))
+    (gives.did.goes.same_caller ∙ same) (subst (λ (es : List Entry). Goes r s es) left leaves.did.goes) in
+    let all : Goes p s (entry_of c (Enter a) Fine ∷ gives.did.own ++ entry_of c (Leave a) Fine ∷ []) = goes_then first (goes_then gives.did.goes last) in
+    let did : Kept p s (λ own. DoesAllocate c a size align result (but_loans own)) = record {
+      own = entry_of c (Enter a) Fine ∷ gives.did.own ++ entry_of c (Leave a) Fine ∷ [];
+      does = alike c a size align result gives.did.own power enters.did.does.0 does;
+      goes = all;
+      rest = leaves.did.rest ∙ (gives.did.rest ∙ enters.did.rest);
+    } in
+    record {
+      did = did;
+      gives = allocate_gives (view_of_pass p) (view_of_pass s) a size align result (did_of p s _ did);
+      held = λ i e. unlike c a size align result gives.did.own does (inr (inr e));
+      never = never_so c a size align result gives.did.own does;
+      no_page = λ e. found_no_page first gives.did.goes last (gives.no_page e);
+      exact = λ w closes sweeps.
+          exact_by p q a size align result first.same_shape (entered_given first w) (entered_loans first w)
+          (gives.exact (first.same_whole ∙ w) (ap (λ (x : Rest). x.closes) enters.did.rest ∙ closes) (no_sweeps p q enters.did.rest sweeps));
+      lends = λ e i loan. (inl refl, lent_whole first last e gives.did.own gives.lends i loan);
+      bad_alignment = λ e. unlike c a size align result gives.did.own does (inl e);
+      wrong_thread = λ e. unlike c a size align result gives.did.own does (inr (inl e));
+      outside = leaves.outside;
+      lasts = lasts_on all;
+    }

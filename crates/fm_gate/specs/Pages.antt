@@ -1,0 +1,68 @@
+-- Where an allocation finds no page.
+use Rattle.std.specs.Prelude.{◌≡◌, ◌<◌, ◌≤◌, ◌+◌, ◌*◌, ◌/◌, ℕ, List, [], ◌∷◌, ◌++◌, length, Result, Ok, Err, ⊤}
+use Rattle.fm_base.specs.declared.arena_id.ArenaId.{ArenaId}
+use Rattle.fm_base.specs.declared.refusal.Refusal.{Refusal}
+use Rattle.fm_base.specs.declared.refusal.Refusal.TheVariants as refusal
+use Rattle.fm_base.specs.Arenas.{arena_of}
+use Rattle.fm_base.specs.Calls.{Entry, Lend, Leave, Fine, entry_of}
+use Rattle.fm_base.specs.Finds.{FoundNothing, is_page}
+use Rattle.fm_base.specs.Histories.{made_by, state_after}
+use Rattle.fm_base.specs.Machine.{rounded_up}
+use Rattle.fm_pool_facts.specs.Loans.{HasPart, lent}
+use Rattle.fm_pool_facts.specs.Scarcity.{IsScarce}
+use Rattle.fm_pool_facts.specs.Views.{View, Begins, FewLeft, limit_of}
+
+-- how many bytes the arena had given after these entries
+abbrev pub given_after : View → List Entry → ArenaId → ℕ
+given_after v seen id = (arena_of (state_after (limit_of v.shape) [] seen) id).given
+
+-- a history that began with what had been seen before the call, and goes on to what is seen after it
+pub record IsDuring (old new : View) (at : List Entry) : Type 0 where
+  pub since : Begins old.seen at
+  pub until : Begins at new.seen
+
+-- the part has a byte of the range that begins at this count
+pub record IsInRange (v : View) (count size align part : ℕ) : Type 0 where
+  pub fits : rounded_up count align + size ≤ limit_of v.shape
+  pub after : count / (v.shape.page_words * 8) ≤ part
+  pub before : part * (v.shape.page_words * 8) < rounded_up count align + size
+
+-- after the call's last Lend a part of its range, as placed by a count that stood during the call, had no page
+pub record LackedPart (old new : View) (id : ArenaId) (size align : ℕ) : Type 0 where
+  pub counted : List Entry
+  pub count_stood : IsDuring old new counted
+  pub part : ℕ
+  pub in_range : IsInRange old (given_after old counted id) size align part
+  pub at : List Entry
+  pub later : List Entry
+  pub at_stood : IsDuring old new at
+  pub seen : new.seen ≡ at ++ later
+  pub lacked : ¬ (HasPart (lent at) id part)
+  pub no_lend : made_by old.caller later ≡ entry_of old.caller (Leave id) Fine ∷ []
+
+-- the entry lends a page to the arena, as a part with a byte of the range that a count places which stood during the call
+pub record LendsInRange (old new : View) (id : ArenaId) (size align : ℕ) (e : Entry) : Type 0 where
+  pub page : ℕ
+  pub part : ℕ
+  pub is : e ≡ entry_of old.caller (Lend page id part) Fine
+  pub counted : List Entry
+  pub count_stood : IsDuring old new counted
+  pub after : given_after old counted id / (old.shape.page_words * 8) ≤ part
+  pub before : part * (old.shape.page_words * 8) < rounded_up (given_after old counted id) align + size
+
+-- of an allocation that is refused with PoolFull: the word of page bits was 0 at a step of the call
+pub record FoundNoPage (old new : View) (id : ArenaId) (size align : ℕ) : Type 0 where
+  pub found : FoundNothing is_page old.finds new.finds
+  -- at that step as much had been seen as at no time before the call, or after it
+  pub early : length old.seen ≤ found.find.seen
+  pub late : found.find.seen ≤ length new.seen
+  -- then fewer pages weren't lent than there are passes
+  pub left : FewLeft new.shape new.seen found.find
+  pub lacked : LackedPart old new id size align
+
+-- pages are too few exactly where it is refused with PoolFull; other refusals come before
+abbrev pub FullExactly : View → ArenaId → (size align : ℕ) → Result ℕ Refusal → Type 0
+FullExactly old id size align (Ok place) = ¬ (IsScarce old id size align)
+FullExactly old id size align (Err refusal.PoolFull) = IsScarce old id size align
+FullExactly old id size align (Err (refusal.NoRoom given)) = ¬ (IsScarce old id size align)
+FullExactly old id size align (Err r) = ⊤

@@ -1,0 +1,38 @@
+-- What claiming a page and giving one back does to a pass.
+use Rattle.std.specs.Prelude.{◌≡◌, ◌<◌, ◌≤◌, ℕ, true, List, [], ◌∷◌, length, Result, Ok, Err}
+use Rattle.fm_base.specs.declared.refusal.Refusal.{Refusal}
+use Rattle.fm_base.specs.declared.refusal.Refusal.TheVariants as refusal
+use Rattle.fm_base.specs.Finds.{FoundNothing, is_page}
+use Rattle.fm_pool_facts.specs.Loans.{lent}
+use Rattle.fm_pool_facts.specs.Steps.{is_clear}
+use Rattle.fm_pool_facts.specs.Views.{View, FewLeft, unlent}
+use Rattle.fm_calls.specs.Kept.{Goes}
+use Rattle.fm_pages.specs.declared.page.Page.{Page}
+
+-- the pass went on without entries of its own, found words of page bits, and has these pages in its hand
+pub record Went (old new : View) (pages : List ℕ) : Type 0 where
+  pub goes : Goes old new []
+  pub is : new ≡ record old { seen = new.seen; finds = new.finds; pages = pages }
+
+-- it claimed the page
+pub record PageClaimed (old new : View) (page : ℕ) : Type 0 where
+  pub went : Went old new (page ∷ [])
+  pub low : page < old.shape.pages
+
+-- the word of page bits was 0 at a step of the call
+pub record NoneClaimed (old new : View) : Type 0 where
+  pub went : Went old new []
+  pub found : FoundNothing is_page old.finds new.finds
+  -- at that step as much had been seen as at no time before the call, or after it
+  pub early : length old.seen ≤ found.find.seen
+  pub late : found.find.seen ≤ length new.seen
+  -- then fewer blocks weren't lent than there are passes
+  pub left : FewLeft new.shape new.seen found.find
+  -- where the pass was clear, all are lent
+  pub all_lent : is_clear old ≡ true → unlent new.shape.pages (lent new.seen) ≡ 0
+
+-- of `claim`
+abbrev pub ClaimOutcome : View → View → Result Page Refusal → Type 0
+ClaimOutcome old new (Ok page) = PageClaimed old new page.index
+ClaimOutcome old new (Err refusal.PoolFull) = NoneClaimed old new
+ClaimOutcome old new (Err r) = ⊥

@@ -1,0 +1,50 @@
+-- What a pass does that gives a part of its arena a page, where it has none.
+use Rattle.std.specs.Prelude.{◌≡◌, ◌⊎◌, ◌≤◌, ℕ, Bool, true, false, List, [], ◌∷◌, ◌++◌, length}
+use Rattle.fm_base.specs.declared.caller.Caller.{Caller}
+use Rattle.fm_base.specs.declared.arena_id.ArenaId.{ArenaId}
+use Rattle.fm_base.specs.Calls.{Entry, Lend, Fine, entry_of}
+use Rattle.fm_base.specs.Finds.{FoundNothing, is_page}
+use Rattle.fm_base.specs.Histories.{made_by}
+use Rattle.fm_pool_facts.specs.Loans.{HasPart, lent}
+use Rattle.fm_pool_facts.specs.Parts.{mapping_of}
+use Rattle.fm_pool_facts.specs.Steps.{is_clear}
+use Rattle.fm_pool_facts.specs.Views.{View, In, Begins, FewLeft, unlent}
+use Rattle.fm_pages.specs.Maps.{Way}
+
+-- none, or the entry that lends a page to the arena as this part
+abbrev pub LendsPart : Caller → ArenaId → ℕ → List Entry → Type 0
+LendsPart c a i es = (es ≡ []) ⊎ ((page : ℕ) × (es ≡ entry_of c (Lend page a i) Fine ∷ []))
+
+-- all blocks are lent, and none as this part
+pub record AllLentBut (old new : View) (a : ArenaId) (i : ℕ) : Type 0 where
+  pub all_lent : unlent old.shape.pages (lent new.seen) ≡ 0
+  pub lacks : ¬ (HasPart (lent new.seen) a i)
+
+-- no page was free at a step of the call, and the part had none at an earlier one
+pub record NoneFree (old new : View) (a : ArenaId) (i : ℕ) : Type 0 where
+  pub found : FoundNothing is_page old.finds new.finds
+  -- at that step as much had been seen as at no time before the call, or after it
+  pub early : length old.seen ≤ found.find.seen
+  pub late : found.find.seen ≤ length new.seen
+  -- then fewer blocks weren't lent than there are passes
+  pub left : FewLeft new.shape new.seen found.find
+  -- what had been seen when the part had none, and what the call saw later, in which the pass made no entry
+  pub before : List Entry
+  pub later : List Entry
+  pub since : Begins old.seen before
+  pub seen : new.seen ≡ before ++ later
+  pub quiet : made_by old.caller later ≡ []
+  pub lacked : ¬ (HasPart (lent before) a i)
+  -- where the pass was clear, all blocks are lent, and the part has none, after the call
+  pub exact : is_clear old ≡ true → AllLentBut old new a i
+
+abbrev pub Outcome : Bool → View → View → ArenaId → ℕ → Type 0
+Outcome true old new a i = (page : ℕ) × In (mapping_of i page) new.reads
+Outcome false old new a i = NoneFree old new a i
+
+-- of `provide`
+pub record Provided (old new : View) (a : ArenaId) (i : ℕ) (done : Bool) : Type 0 where
+  pub own : List Entry
+  pub lends : LendsPart old.caller a i own
+  pub way : Way old new own []
+  pub outcome : Outcome done old new a i

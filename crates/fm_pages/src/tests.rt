@@ -1,0 +1,150 @@
+ghost use Rattle.std.specs.Prelude.{◌≡◌, ◌<◌, [], None, Some};
+ghost use Rattle.fm_words.specs.Shapes.{IsValid};
+ghost use Rattle.fm_pool_facts.specs.Hands.{learnt, nothing};
+ghost use Rattle.fm_rule.specs.Passes.{IsOf};
+ghost use Rattle.fm_pages.specs.Claims.{PageClaimed};
+
+use crate::{Page, claim, free_page, map, place_of, try_at};
+use fm_base::{ArenaId, Kind, Refusal};
+use fm_pool_facts::Slot;
+use fm_rule::{Pass, Pool, step_check, step_generation, step_mark, step_open, step_take_slot};
+use fm_words::Shape;
+use std::alloc::AllocGlobal;
+use std::process::Abort;
+use std::sync::Wait;
+
+/// Two pages of four words, which one arena can have.
+const TWO: Shape = Shape {
+    passes: 2,
+    slots: 1,
+    pages: 2,
+    page_words: 4,
+    reach: 2,
+    generations: 1,
+};
+
+/// The first slot of a pool that has just been made.
+fn first_slot<R: Abort>(rt: &R, pool: &Pool, pass: &mut Pass) -> Slot
+    requires of { IsOf pool.now pass.old }
+    requires some { 0 < pool.now.shape.slots }
+    requires empty { pass.old.hand ≡ nothing }
+    ensures hand { pass.new.hand ≡ learnt result.slot result.generation }
+    ensures is { pass.new ≡ record pass.old { seen = pass.new.seen; finds = pass.new.finds; hand = pass.new.hand } }
+{
+    let found = step_take_slot(pool, pass, 1, 0);
+    assert!(rt; found == 1);
+    let word = step_generation(pool, pass, 0);
+    Slot {
+        slot: 0,
+        generation: (word >> 32) as u32,
+    }
+}
+
+/// The first pass of a new pool of one slot, inside an arena.
+fn entered<R: Abort + AllocGlobal>(rt: &R, shape: Shape) -> (Pool, Pass, ArenaId)
+    requires { IsValid shape }
+    ensures shape { result.0.shape ≡ shape }
+    ensures of { IsOf result.0 result.1 }
+    ensures inside { result.1.inside ≡ Some result.2 }
+    ensures none { result.1.pages ≡ [] }
+    ensures no_number { result.1.drawn ≡ None }
+{
+    let (pool, mut pass) = Pool::make(rt.alloc(), shape).expect(rt, "words");
+    let slot = first_slot(rt, &pool, &mut pass);
+    let opened = step_open(&pool, &mut pass, slot, Kind::Global);
+    step_mark(&pool, &mut pass, opened);
+    step_check(&pool, &mut pass, opened);
+    let a = pass.inside().expect(rt, "an arena that is alive");
+    (pool, pass, a)
+}
+
+/// Claims the free page, which is this one.
+fn claimed<R: Abort + Wait>(rt: &R, pool: &Pool, pass: &mut Pass, index: u32) -> Page
+    requires of { IsOf pool.now pass.old }
+    requires none { pass.old.pages ≡ [] }
+    ensures { PageClaimed pass.old pass.new result.index }
+{
+    match claim(rt, pool, pass) {
+        Ok(page) => {
+            assert_eq!(rt; page.index(), index);
+            page
+        }
+        Err(_) => panic!(rt; "no page"),
+    }
+}
+
+/// Gives bytes of an arena that has given so many.
+fn given<R: Abort + Wait>(rt: &R, pool: &Pool, pass: &mut Pass, a: ArenaId, count: u64, size: u64)
+    requires of { IsOf pool.now pass.old }
+    requires none { pass.old.pages ≡ [] }
+    requires inside { pass.old.inside ≡ Some a }
+    ensures of { IsOf pool.now pass.new }
+    ensures none { pass.new.pages ≡ [] }
+    ensures inside { pass.new.inside ≡ Some a }
+{
+    assert_eq!(rt; try_at(rt, pool, pass, a, count, size, 8), Some(count));
+}
+
+#[test]
+fn a_page_is_claimed_and_given_back(rt: HostRuntime) {
+    let (pool, mut pass, _) = entered(&rt, TWO);
+    let page = claimed(&rt, &pool, &mut pass, 0);
+    free_page(&pool, &mut pass, page);
+    let page = claimed(&rt, &pool, &mut pass, 0);
+    free_page(&pool, &mut pass, page);
+}
+
+#[test]
+fn a_page_that_is_mapped_has_the_words_of_its_part(rt: HostRuntime) {
+    let (pool, mut pass, a) = entered(&rt, TWO);
+    let page = claimed(&rt, &pool, &mut pass, 0);
+    match map(&pool, &mut pass, a, 1, page) {
+        Some(page) => {
+            free_page(&pool, &mut pass, page);
+            panic!(&rt; "the part had a page")
+        }
+        None => {
+            let place = place_of(&pool, &mut pass, 5);
+            assert_eq!(rt; place, pool.shape().page_place(0, 1));
+        }
+    }
+}
+
+#[test]
+fn a_page_comes_back_from_a_part_that_has_one(rt: HostRuntime) {
+    let (pool, mut pass, a) = entered(&rt, TWO);
+    given(&rt, &pool, &mut pass, a, 0, 8);
+    let page = claimed(&rt, &pool, &mut pass, 1);
+    match map(&pool, &mut pass, a, 0, page) {
+        Some(page) => {
+            assert_eq!(rt; page.index(), 1);
+            free_page(&pool, &mut pass, page);
+        }
+        None => panic!(&rt; "the part had no page"),
+    }
+}
+
+#[test]
+fn a_pool_is_full_once_all_pages_are_mapped(rt: HostRuntime) {
+    let (pool, mut pass, a) = entered(&rt, TWO);
+    given(&rt, &pool, &mut pass, a, 0, 40);
+    match claim(&rt, &pool, &mut pass) {
+        Ok(page) => {
+            free_page(&pool, &mut pass, page);
+            panic!(&rt; "a page was free")
+        }
+        Err(refusal) => assert_eq!(rt; refusal, Refusal::PoolFull),
+    }
+}
+
+#[test]
+fn a_try_finds_no_page_while_another_pass_has_it(rt: HostRuntime) {
+    let (pool, mut pass, a) = entered(&rt, TWO);
+    let mut other = pool.draw(&rt, &mut pass).expect(&rt, "a pass");
+    given(&rt, &pool, &mut pass, a, 0, 8);
+    let page = claimed(&rt, &pool, &mut other, 1);
+    assert_eq!(rt; try_at(&rt, &pool, &mut pass, a, 8, 32, 8), None);
+    free_page(&pool, &mut other, page);
+    assert_eq!(rt; try_at(&rt, &pool, &mut pass, a, 0, 32, 8), Some(8));
+    given(&rt, &pool, &mut pass, a, 8, 32);
+}

@@ -1,0 +1,106 @@
+-- What a view says after its own step, and what the step tells.
+use Rattle.std.proofs.Common.{◌≡◌, ◌≢◌, ℕ, true, List, [], ◌++◌, sym, refl, ap, ◌∙◌, subst, arith}
+use Rattle.std.proofs.lemmas.List.{append-nil}
+use Rattle.std.proofs.lemmas.List.Elements.{filter-append}
+use Rattle.fm_words.specs.declared.shape.Shape.{Shape}
+use Rattle.fm_base.specs.declared.caller.Caller.{Caller}
+use Rattle.fm_base.specs.Calls.{Entry}
+use Rattle.fm_base.specs.Histories.{made_by}
+use Rattle.fm_base.specs.Finds.{Find, Gathered}
+use Rattle.fm_depicts.specs.Functions.{Machine}
+use Rattle.fm_depicts.specs.Steps.{moved_by}
+use Rattle.fm_pool_facts.specs.Views.{View, In, IsSound, all_gathered, brought, limit_of, HasOwnHandles}
+use Rattle.fm_pool_facts.specs.Facts.{Memory, Owners, IsOnce, Knows}
+use Rattle.fm_pool_facts.specs.Moves.{Moved, Same, Part, told, Gives}
+use Rattle.fm_pool_facts.proofs.Frame.{others_stay, made_by-other}
+use Rattle.fm_pool_facts.proofs.Keeping.{none_added, begins_on, gathered_all, made_by-on, silent_on}
+
+module _ (z : Shape) (h zs : List Entry) (me : ℕ) (m m' : Memory) (t : Machine) (o o' : Owners) (es : List Entry) (fs : ℕ → List Find) (v p : View)
+    (k : Knows z h m t o me v) (l : v.live ≡ true) (d : Moved me z v.caller m t o es m' o') (is : h ≡ v.seen ++ zs) (s : Same v p) where
+  abbrev pub w : View
+  w = told p zs es fs
+
+  same_all : all_gathered p ≡ all_gathered v
+  same_all = λ j. s.gathered j ++ brought (s.met j)
+
+  seen_is : w.seen ≡ h ++ es
+  seen_is = ap (λ (xs : List Entry). (xs ++ zs) ++ es) s.seen ∙ ap (λ (xs : List Entry). xs ++ es) (sym is)
+
+  pub own_view : Part z m' (moved_by t es) o' me p → HasOwnHandles w → Knows z (h ++ es) m' (moved_by t es) o' me w
+  own_view q handles =
+      let u = k.owns l in
+      let ok = d.allowed in
+      let num : p.caller.number ≡ v.caller.number = ap (λ (x : Caller). x.number) s.caller in
+      record {
+        shape = λ e. s.shape ∙ k.shape l;
+        begins = ([], sym (append-nil w.seen ∙ seen_is));
+        met = λ x i. absurd i;
+        owns = λ e. record {
+          number = (let a = u.number in let b = d.draw in let c = num in omega arith);
+          term = ap (λ (x : Caller). x.term) s.caller ∙ (u.term ∙ (sym (d.terms v.caller.number) ∙ ap m'.terms (sym num)));
+          seated = ap o'.number num ∙ (d.numbers v.caller.number ∙ u.seated);
+          mine = ap (made_by p.caller) (sym seen_is);
+          inside = q.inside;
+          mark = q.mark;
+          closes = q.closes;
+          once = q.once;
+          sweeps = q.sweeps;
+          swept_once = q.swept_once;
+          hand = q.hand;
+          took = q.took;
+          pages = q.pages;
+          handles = handles;
+          coming = λ x i. absurd i;
+          one_each = subst (IsOnce (λ (g : Gathered). g.caller.number)) (sym (append-nil (all_gathered p) ∙ same_all)) u.one_each;
+          gathered = λ g i.
+              let y = (gathered_all z h m t o me v u g (subst (In g) same_all i)).1 in
+              let far : g.caller ≢ v.caller = λ e. y.apart (ap (λ (x : Caller). x.number) e) in
+              record {
+                number = (let a = y.number in let b = d.draw in omega arith);
+                seated = d.numbers g.caller.number ∙ y.seated;
+                apart = λ e. y.apart (e ∙ num);
+                outside = others_stay (limit_of z) v.caller g.caller es t far ok ∙ y.outside;
+                mark = d.marks g.caller.number y.apart ∙ y.mark;
+                quiet = ap (made_by g.caller) (sym seen_is);
+              };
+          drawn = λ n e.
+              let y = u.drawn n (sym s.drawn ∙ e) in
+              record {
+                number = (let a = y.number in let b = d.draw in omega arith);
+                later = y.later;
+                seated = d.numbers n ∙ y.seated;
+                apart = λ e. y.apart (e ∙ num);
+                ungathered = λ g i. y.ungathered g (subst (In g) (append-nil (all_gathered p) ∙ same_all) i);
+                silent = silent_on (limit_of z) h v.caller m t es m' ok n y.apart (d.marks n y.apart) y.silent;
+              };
+          whole = λ e n lt ne.
+              let g = u.whole (sym s.whole ∙ e) n (let b = d.draw in omega arith) (λ q. ne (q ∙ sym num)) in
+              (g.0, subst (In g.0) (sym (append-nil (all_gathered p) ∙ same_all)) g.1, g.2);
+          seen_all = λ e. seen_is;
+        };
+      }
+
+  -- what the step tells
+  pub gives_by : IsSound w → Gives v p es fs w
+  gives_by sound =
+      let u = k.owns l in
+      record {
+        others = zs;
+        is = refl;
+        quiet = none_added (made_by v.caller v.seen) (made_by v.caller zs) (sym (filter-append _ v.seen zs) ∙ (ap (made_by v.caller) (sym is) ∙ u.mine));
+        apart = λ g i.
+            let y = u.gathered g i in
+            let far : g.caller ≢ v.caller = λ e. y.apart (ap (λ (x : Caller). x.number) e) in
+            let none =
+            none_added (made_by g.caller v.seen) (made_by g.caller zs) (sym (filter-append _ v.seen zs) ∙ (ap (made_by g.caller) (sym is) ∙ y.quiet)) in
+            filter-append _ zs es ∙ (λ j. none j ++ made_by-other (limit_of z) v.caller g.caller es t far d.allowed j);
+        alone = λ e. none_added v.seen zs (sym is ∙ sym (u.seen_all e));
+        met = λ x i.
+            let b = begins_on x.seen h es (k.met x i) in
+            (b.0, seen_is ∙ b.1);
+        came = λ x j g i.
+            let y = u.coming x j g i in
+            let far : g.caller ≢ v.caller = λ e. y.apart (ap (λ (x : Caller). x.number) e) in
+            ap (made_by g.caller) seen_is ∙ (made_by-on (limit_of z) h v.caller m t es m' d.allowed g.caller far ∙ y.quiet);
+        sound = sound;
+      }

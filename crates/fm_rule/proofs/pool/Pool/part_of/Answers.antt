@@ -1,0 +1,27 @@
+use Rattle.std.proofs.Common.{◌≡◌, ◌*◌, ◌<◌, ◌≤◌, ℕ, Some, None, ap, ◌∙◌, arith}
+use Rattle.fm_words.specs.Places.{at, page_word}
+use Rattle.fm_words.specs.Maps.{map_word, map_of}
+use Rattle.fm_words.proofs.Maps.{map_of-map_word}
+use Rattle.fm_rule.proofs.pool.Pool.part_of.Goals as goal
+
+one_page : (p q : ℕ) → map_word p ≡ map_word q → p ≡ q
+unfolding map_word
+one_page p q e = omega arith
+
+low_page : (p x n : ℕ) → map_word p ≡ x → x ≤ n → p < n
+unfolding map_word
+low_page p x n e h = omega arith
+
+pub page_place-requires-clause-place : goal.page_place-requires-clause-place
+page_place-requires-clause-place c =
+    (low_page c.in-Some.page c.args.word c.args.self.now.shape.pages c.in-Some.ensures.back c.requires, c.args.self.now.valid.page_words.0)
+
+pub returns-in-Some-clause-some : goal.returns-in-Some-clause-some
+returns-in-Some-clause-some c = λ page e. (
+  (λ j. c.from.ensures j * c.from-in-Some.ensures j),
+  c.from-in-Some-2.ensures,
+  c.page_place.ensures ∙ ap (λ (p : ℕ). at c.args.self.now.shape (page_word p 0)) (one_page _ _ (c.in-Some.ensures.back ∙ e)),
+)
+
+pub returns-in-None-clause-some : goal.returns-in-None-clause-some
+returns-in-None-clause-some c = λ page e. absurd (let q : None ≡ Some page = c.in-None.ensures.page ∙ (ap map_of e ∙ map_of-map_word page) in cc)

@@ -1,0 +1,89 @@
+//! The steps by which a pass gets pages for an arena, and finds them.
+ghost use Rattle.std.specs.Prelude.{◌≡◌, ◌<◌, ◌≤◌, ◌==◌, [], ◌∷◌, Some};
+ghost use Rattle.fm_base.specs.Calls as machine;
+ghost use Rattle.fm_base.specs.Calls.{entry_of};
+ghost use Rattle.fm_base.specs.Finds.{TakesPage as Claiming, Maps as Mapping};
+ghost use Rattle.fm_pool_facts.specs.Hands.{takes};
+ghost use Rattle.fm_pool_facts.specs.Parts.{pages_mapped, pages_taken, reads_after, reads_mapped};
+ghost use Rattle.fm_pool_facts.specs.Moves.{LearnsMap};
+ghost use Rattle.fm_pool_facts.specs.Steps.{Stepped, none_noted, note_of, where_found};
+ghost use Rattle.fm_rule.specs.Passes.{IsOf};
+
+use crate::acts::{exchange_as, load_as, or_as};
+use crate::pass::Pass;
+use crate::pool::Pool;
+use crate::words::bit;
+use fm_base::ArenaId;
+use fm_pool_facts::Step;
+use fm_words::{map_word, without_bit};
+use std::marker::Brand;
+
+/// Answers the word of page bits. Where it is the expected one, and the page's bit is 1 in it, the bit is 0 from this
+/// step on, and the pass has the page in its hand.
+pub fn step_take_page(pool: &Pool, pass: &mut Pass, expected: u64, page: u32) -> u64
+    requires of { IsOf pool.now pass.old }
+    requires none { pass.old.pages ≡ [] }
+    requires low { page < pool.now.shape.pages }
+    ensures { Stepped pass.old pass.new
+        (record pass.old { pages = pages_taken (takes expected page result) page pass.old.pages }) []
+        (note_of (Claiming expected page) result pass.old) }
+{
+    let seat = &mut pass.seat;
+    let place = pool.shape.page_bits_place();
+    let next = without_bit(expected, page);
+    let step = Step::Claims(expected, page);
+    exchange_as::<Brand>(pool, seat, place, expected, next, step)
+}
+
+/// Answers the map word of this part of the arena that the pass is inside. Where it is 0, the page in the pass's hand is
+/// the arena's from this step on, as this part.
+pub fn step_map(pool: &Pool, pass: &mut Pass, a: ArenaId, index: u32, page: u32) -> u64
+    requires of { IsOf pool.now pass.old }
+    requires inside { pass.old.inside ≡ Some a }
+    requires low { index < pool.now.shape.reach }
+    requires page { pass.old.pages ≡ page ∷ [] }
+    ensures low { result ≤ pass.old.shape.pages }
+    ensures stepped { Stepped pass.old pass.new
+        (record pass.old {
+          reads = reads_mapped index page result pass.old.reads;
+          pages = pages_mapped result pass.old.pages;
+        })
+        (where_found (result == 0) (entry_of pass.old.caller (machine.Lend page a index) machine.Fine ∷ []))
+        (note_of (Mapping a index page) result pass.old) }
+{
+    let seat = &mut pass.seat;
+    let place = pool.shape.map_place(a.slot, index);
+    let new = map_word(page);
+    let step = Step::Maps(a, index, page);
+    exchange_as::<Brand>(pool, seat, place, 0, new, step)
+}
+
+/// Answers the map word of this part of the arena that the pass is inside. Unless it is 0, it stands while the pass is
+/// inside.
+#[inline(always)]
+pub fn step_read_map(pool: &Pool, pass: &mut Pass, a: ArenaId, index: u32) -> u64
+    requires of { IsOf pool.now pass.old }
+    requires inside { pass.old.inside ≡ Some a }
+    requires low { index < pool.now.shape.reach }
+    ensures map { LearnsMap pass.old a index result pass.new }
+    ensures stepped { Stepped pass.old pass.new
+        (record pass.old { reads = reads_after index result pass.old.reads }) [] none_noted }
+{
+    let seat = &mut pass.seat;
+    let place = pool.shape.map_place(a.slot, index);
+    let word = load_as::<Brand>(pool, seat, place, Step::ReadsMap(a, index));
+    pass.part = pool.part_of(index, word);
+    word
+}
+
+/// Makes the bit of the page 1 that the pass has in its hand: it can be claimed from this step on.
+pub fn step_give_page(pool: &Pool, pass: &mut Pass, page: u32)
+    requires of { IsOf pool.now pass.old }
+    requires page { pass.old.pages ≡ page ∷ [] }
+    ensures { Stepped pass.old pass.new (record pass.old { pages = [] }) [] none_noted }
+{
+    let seat = &mut pass.seat;
+    let place = pool.shape.page_bits_place();
+    let bits = bit(page);
+    or_as::<Brand>(pool, seat, place, bits, Step::GivesPage(page));
+}
