@@ -10,6 +10,7 @@ mod querying;
 mod record;
 mod stored;
 mod values;
+mod words;
 mod writing;
 
 pub use answer::{Answer, of_no_records};
