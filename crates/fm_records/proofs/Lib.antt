@@ -11,6 +11,7 @@ pub mod Items
 pub mod Joining
 pub mod Keeping
 pub mod Learning
+pub mod Once
 pub mod Ordered
 pub mod Plans
 pub mod Reaching
