@@ -84,20 +84,22 @@ module _ (s : Region) (place : ℕ) (a : Asked) {f : Fold} {r : Resolution} {n :
       let same = ap (λ k. value_places place k ds) is_n ∙ ap (value_places place r.offset) is_ds ∙ wide_places place r.offset r.dims in
       subst (λ (w : ValueSpec). P w (value_places place r.offset r.dims)) is_v (subst (P v) same h)
 
-  -- they can be added
+  -- they stand in the segment, and can be added
+  pub item_inside : IsReadable s place a → ReachesInside s place n ds v
+  item_inside readable =
+      let within = wide_inside s place r.offset r.dims r.value (subst (λ (b : Asked). IsReadable s place b) is readable) in
+      subst (λ (w : ValueSpec). ReachesInside s place n ds w) (sym is_v)
+      (subst (λ (k : ℕ). ReachesInside s place k ds r.value) (sym is_n)
+      (subst (λ (xs : List Dim). ReachesInside s place r.offset xs r.value) (sym is_ds) within))
+
+  pub item_room : (found : Found) → HasRoom found (how_many a) → HasRoom found (length (index_lists ds))
+  item_room found room =
+      let many = ap (λ (xs : List Dim). length (index_lists xs)) is_ds ∙ wide_many r.dims in
+      subst (HasRoom found) (ap how_many is ∙ sym many) room
+
   pub item_can : {view : View} {found : Found} → CanRead view s → HasIndices ds → IsReadable s place a → HasRoom found (how_many a)
       → CanAddAll view s place n ds v found
-  item_can {view} {found} can some readable room =
-      let many = ap (λ (xs : List Dim). length (index_lists xs)) is_ds ∙ wide_many r.dims in
-      let within = wide_inside s place r.offset r.dims r.value (subst (λ (b : Asked). IsReadable s place b) is readable) in
-      record {
-        can = can;
-        some = some;
-        inside = subst (λ (w : ValueSpec). ReachesInside s place n ds w) (sym is_v)
-            (subst (λ (k : ℕ). ReachesInside s place k ds r.value) (sym is_n)
-            (subst (λ (xs : List Dim). ReachesInside s place r.offset xs r.value) (sym is_ds) within));
-        room = subst (HasRoom found) (ap how_many is ∙ sym many) room;
-      }
+  item_can {view} {found} can some readable room = record { can = can; some = some; inside = item_inside readable; room = item_room found room }
 
   -- what was read of them is what the item finds
   found_there : (k l : List Seen) (g h : Found) (result : Result (Unit {0}) Refusal) (own : List Seen) (ns : List ℤ) → IsFoundOf a g
@@ -132,13 +134,12 @@ module _ (s : Region) (place : ℕ) (a : Asked) {f : Fold} {r : Resolution} {n :
       found_there k k g h result d.does.seen x.given kind x.added
       (by_rows ds k m (value_places place n ds) result d.does.seen x.given wide x.reads))
 
-  -- there are none
-  pub item_empty : {old : View} (k : List Seen) (g : Found) → ds ≢ [] → IsFoundOf a g → index_lists ds ≡ []
-      → Sees old old s (AddsItem place k a g g k) (Ok (tt {0}))
-  item_empty {old} k g wide kind none =
-      item_open k [] g g (Ok (tt {0})) wide kind (subst (λ (iss : List (List ℕ)). Sees old old s
-      (AddsNumbers kept_last v [] (map (λ is. place + offset_at n ds is) iss) g g []) (Ok (tt {0}))) (sym none)
-      (turn_none (TakesNumber kept_last v) with_number old g []))
+-- where there are no values, none are added
+pub none_open : {v : View} {s : Region} (place at : ℕ) (ds : List Dim) (spec : ValueSpec) (f : Found) → index_lists ds ≡ []
+    → AddsAll kept_last v v s place at ds spec [] [] f f (Ok (tt {0}))
+none_open {v} {s} place at ds spec f none =
+    subst (λ (iss : List (List ℕ)). Sees v v s (AddsNumbers kept_last spec [] (map (λ is. place + offset_at at ds is) iss) f f []) (Ok (tt {0}))) (sym none)
+    (turn_none (TakesNumber kept_last spec) with_number v f [])
 
 -- a count
 pub item_counted : (old : View) (s : Region) (place : ℕ) (k : List Seen) (a : Asked) (g h : Found) → a ≡ asked.Count → h ≡ both g (Count 1)

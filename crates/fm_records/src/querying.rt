@@ -1,17 +1,18 @@
-ghost use Rattle.std.specs.Prelude.{◌≡◌, ◌≢◌, [], true, false};
+ghost use Rattle.std.specs.Prelude.{◌≡◌, List, [], true, false, length};
 ghost use Rattle.std.specs.List.{AllByRecursion, AllZip};
 ghost use Rattle.fm_records.specs.Answers as answers;
-ghost use Rattle.fm_records.specs.Few.{IsOpen};
-ghost use Rattle.fm_records.specs.Adds.{AddsItem, AddsItems, IsItemReadable, IsTestable};
+ghost use Rattle.fm_records.specs.Few.{HasRoom, IsOpen};
+ghost use Rattle.fm_records.specs.Adds.{AddsItem, AddsItems, IsItemReadable, IsTestable, ReachesInside};
 ghost use Rattle.fm_records.specs.Reads.{CanRead, Sees, Tests, TestsConditions};
-ghost use Rattle.fm_records.specs.Paths.{HasIndices};
+ghost use Rattle.fm_records.specs.Paths.{AddsAll, HasIndices};
 ghost use Rattle.fm_records.specs.Values.{index_lists};
+ghost use Rattle.fm_records.specs.Words.{Seen, kept_last};
 
 use crate::found::Found;
 use crate::values::{add_all, add_value, number_at};
 use crate::words::{Kept, Last};
 use fm_base::{Memory, Refusal};
-use fm_path::Dim;
+use fm_path::{Dim, ValueSpec};
 use fm_query::{Asked, Condition, Item, Operator};
 use fm_segment::Segment;
 
@@ -127,22 +128,34 @@ fn add_item<M: Memory>(
             if dims.is_empty() {
                 return add_value(m, s, place, path.offset(), *path.value(), kept, found);
             }
-            if has_no_values(dims) {
-                return Ok(());
-            }
-            let mut last = Last::None;
-            add_all(
-                m,
-                s,
-                place,
-                path.offset(),
-                dims,
-                *path.value(),
-                &mut last,
-                found,
-            )
+            add_open(m, s, place, path.offset(), dims, *path.value(), found)
         }
     }
+}
+
+/// Adds the values of a path in the record at a place, which may be none. It keeps its own last two words in place of the
+/// record's. It isn't inlined, so that a path with no open step pays nothing for it.
+#[inline(never)]
+fn add_open<M: Memory>(
+    m: &mut M,
+    s: &Segment,
+    place: u64,
+    at: u64,
+    dims: &[Dim],
+    value: ValueSpec,
+    found: &mut Found,
+) -> Result<(), Refusal>
+    requires can { CanRead (M.view m.old) s.now }
+    requires inside { ReachesInside s.now place at dims.now value }
+    requires room { HasRoom found.old (length (index_lists dims.now)) }
+    ensures { (last : List Seen) × AddsAll kept_last (M.view m.old) (M.view m.new) s.now place at dims.now value
+        [] last found.old found.new result }
+{
+    if has_no_values(dims) {
+        return Ok(());
+    }
+    let mut last = Last::None;
+    add_all(m, s, place, at, dims, value, &mut last, found)
 }
 
 /// Whether a bound is 0: then no indices are admitted.

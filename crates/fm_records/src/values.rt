@@ -11,12 +11,12 @@ ghost use Rattle.fm_records.specs.Words.{across, kept_last, number_of};
 use crate::found::Found;
 use crate::words::{Keep, Last, fetch, learn};
 use fm_base::{Memory, Refusal};
-use fm_lanes::{decode, read, turned};
+use fm_lanes::{ValueKind, decode, read, turned};
 use fm_path::{Dim, ValueSpec};
 use fm_segment::Segment;
 
 /// The number of the segment's value that stands at a place, by the words that are kept and those that aren't, which are
-/// read. Refused: `Closed`.
+/// read. Refused: `Closed`. Each kind has a branch of its own, so that the width is a constant in each.
 #[inline(always)]
 pub(crate) fn number_at<M: Memory, K: Keep>(
     m: &mut M,
@@ -30,8 +30,34 @@ pub(crate) fn number_at<M: Memory, K: Keep>(
     ensures { Sees (M.view m.old) (M.view m.new) s.now
         (λ r own. GetsNumber K.keeps (K.kept kept.old) value place r own (K.kept kept.new)) result }
 {
-    if place % 8 + u64::from(value.kind.width()) <= 8 {
-        number_inside(m, s, place, value, kept)
+    match value.kind {
+        ValueKind::Byte => number_as(m, s, place, ValueKind::Byte, value, kept),
+        ValueKind::Boolean => number_as(m, s, place, ValueKind::Boolean, value, kept),
+        ValueKind::Char => number_as(m, s, place, ValueKind::Char, value, kept),
+        ValueKind::Short => number_as(m, s, place, ValueKind::Short, value, kept),
+        ValueKind::Int => number_as(m, s, place, ValueKind::Int, value, kept),
+        ValueKind::Long => number_as(m, s, place, ValueKind::Long, value, kept),
+    }
+}
+
+/// The same, for one of those branches.
+#[inline(always)]
+fn number_as<M: Memory, K: Keep>(
+    m: &mut M,
+    s: &Segment,
+    place: u64,
+    kind: ValueKind,
+    value: ValueSpec,
+    kept: &mut K,
+) -> Result<i64, Refusal>
+    requires can { CanRead (M.view m.old) s.now }
+    requires lies { LiesIn s.now place (width_of value.kind) }
+    requires kind { kind ≡ value.kind }
+    ensures { Sees (M.view m.old) (M.view m.new) s.now
+        (λ r own. GetsNumber K.keeps (K.kept kept.old) value place r own (K.kept kept.new)) result }
+{
+    if place % 8 + u64::from(kind.width()) <= 8 {
+        number_inside(m, s, place, kind, value, kept)
     } else {
         number_across(m, s, place, value, kept)
     }
@@ -43,11 +69,13 @@ fn number_inside<M: Memory, K: Keep>(
     m: &mut M,
     s: &Segment,
     place: u64,
+    kind: ValueKind,
     value: ValueSpec,
     kept: &mut K,
 ) -> Result<i64, Refusal>
     requires can { CanRead (M.view m.old) s.now }
     requires lies { LiesIn s.now place (width_of value.kind) }
+    requires kind { kind ≡ value.kind }
     requires fits { place % 8 + width_of value.kind ≤ 8 }
     ensures { Sees (M.view m.old) (M.view m.new) s.now
         (λ r own. GetsNumber K.keeps (K.kept kept.old) value place r own (K.kept kept.new)) result }
@@ -59,7 +87,7 @@ fn number_inside<M: Memory, K: Keep>(
         Err(refusal) => return Err(refusal),
     };
     learn(kept, word, known, found);
-    Ok(number_in(found, (place % 8) as u32, value))
+    Ok(number_in(found, (place % 8) as u32, kind, value))
 }
 
 /// The same of a value in two words.
@@ -92,13 +120,15 @@ fn number_across<M: Memory, K: Keep>(
     Ok(number_between(low, high, (place % 8) as u32, value))
 }
 
-/// The number of a value in a word, from byte `at` on.
+/// The number of a value of this kind in a word, from byte `at` on.
 #[inline(always)]
-fn number_in(word: u64, at: u32, value: ValueSpec) -> i64
-    requires { at + width_of value.kind ≤ 8 }
+fn number_in(word: u64, at: u32, kind: ValueKind, value: ValueSpec) -> i64
+    requires fits { at + width_of value.kind ≤ 8 }
+    requires kind { kind ≡ value.kind }
     ensures { result ≡ number_of value (lane word at (width_of value.kind)) }
 {
-    meant(read(word, at, value.kind.width()), value)
+    let number = read(word, at, kind.width());
+    decode(kind, turned(kind.width(), number, value.order)).number()
 }
 
 /// The number of a value in two words, of which the lower has its bytes from `at` on.
@@ -116,7 +146,6 @@ fn number_between(low: u64, high: u64, at: u32, value: ValueSpec) -> i64
 }
 
 /// The number that the bytes of a value make, as the value means it.
-#[inline(always)]
 fn meant(number: u64, value: ValueSpec) -> i64
     ensures { result ≡ number_of value number }
 {
@@ -140,6 +169,29 @@ pub(crate) fn add_value<M: Memory, K: Keep>(
         found.old found.new result }
 {
     match number_at(m, s, place + at, value, kept) {
+        Ok(number) => found.add_number(number),
+        Err(refusal) => Err(refusal),
+    }
+}
+
+/// The same, of a value of this kind.
+#[inline(always)]
+fn add_value_as<M: Memory>(
+    m: &mut M,
+    s: &Segment,
+    place: u64,
+    at: u64,
+    kind: ValueKind,
+    value: ValueSpec,
+    last: &mut Last,
+    found: &mut Found,
+) -> Result<(), Refusal>
+    requires can { CanAddAll (M.view m.old) s.now place at [] value found.old }
+    requires kind { kind ≡ value.kind }
+    ensures { AddsAll kept_last (M.view m.old) (M.view m.new) s.now place at [] value
+        (words_of last.old) (words_of last.new) found.old found.new result }
+{
+    match number_as(m, s, place + at, kind, value, last) {
         Ok(number) => found.add_number(number),
         Err(refusal) => Err(refusal),
     }
@@ -207,8 +259,7 @@ fn add_rows<M: Memory>(
     Ok(())
 }
 
-/// The same for one dim: the values side by side, with no call for a value or a row. With a loop for each kind of value, or
-/// of what is found, it would be too large to be inlined, and each value would take longer.
+/// The same for one dim: the values side by side, with no call for a value or a row, and a loop for each kind of value.
 #[inline(always)]
 fn add_row<M: Memory>(
     m: &mut M,
@@ -224,8 +275,46 @@ fn add_row<M: Memory>(
     ensures { AddsAll kept_last (M.view m.old) (M.view m.new) s.now place at (dim ∷ []) value
         (words_of last.old) (words_of last.new) found.old found.new result }
 {
+    match value.kind {
+        ValueKind::Byte => add_row_as(m, s, place, at, dim, ValueKind::Byte, value, last, found),
+        ValueKind::Boolean => add_row_as(
+            m,
+            s,
+            place,
+            at,
+            dim,
+            ValueKind::Boolean,
+            value,
+            last,
+            found,
+        ),
+        ValueKind::Char => add_row_as(m, s, place, at, dim, ValueKind::Char, value, last, found),
+        ValueKind::Short => add_row_as(m, s, place, at, dim, ValueKind::Short, value, last, found),
+        ValueKind::Int => add_row_as(m, s, place, at, dim, ValueKind::Int, value, last, found),
+        ValueKind::Long => add_row_as(m, s, place, at, dim, ValueKind::Long, value, last, found),
+    }
+}
+
+/// The loop for one kind.
+#[inline(always)]
+fn add_row_as<M: Memory>(
+    m: &mut M,
+    s: &Segment,
+    place: u64,
+    at: u64,
+    dim: Dim,
+    kind: ValueKind,
+    value: ValueSpec,
+    last: &mut Last,
+    found: &mut Found,
+) -> Result<(), Refusal>
+    requires can { CanAddAll (M.view m.old) s.now place at (dim ∷ []) value found.old }
+    requires kind { kind ≡ value.kind }
+    ensures { AddsAll kept_last (M.view m.old) (M.view m.new) s.now place at (dim ∷ []) value
+        (words_of last.old) (words_of last.new) found.old found.new result }
+{
     for i in 0..dim.bound {
-        match add_value(m, s, place, reach_of(at, dim, i), value, last, found) {
+        match add_value_as(m, s, place, reach_of(at, dim, i), kind, value, last, found) {
             Ok(()) => {}
             Err(refusal) => return Err(refusal),
         }

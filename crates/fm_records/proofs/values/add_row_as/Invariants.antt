@@ -1,7 +1,7 @@
 use Rattle.std.proofs.Common.{[]}
 use Rattle.fm_records.specs.Rows.{words_of}
 use Rattle.fm_records.proofs.Adding.{AreAdded}
-use Rattle.fm_records.proofs.values.add_row.Given as goal
+use Rattle.fm_records.proofs.values.add_row_as.Given as goal
 
 abbrev pub invariant-loop-i : goal.invariant-loop-i
 invariant-loop-i g l =
