@@ -13,6 +13,8 @@ mod crews;
 #[cfg(test)]
 mod joining;
 #[cfg(test)]
+mod packed;
+#[cfg(test)]
 mod printed;
 #[cfg(test)]
 mod records;

@@ -27,7 +27,7 @@ pub(crate) fn order(alloc: Global) -> Result<Layout, Fail> {
 }
 
 /// What the query of this text answers over the segment's records.
-fn asked<R: Abort, M: Memory>(
+pub(crate) fn asked<R: Abort, M: Memory>(
     alloc: Global,
     rt: &R,
     m: &mut M,

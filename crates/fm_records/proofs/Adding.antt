@@ -5,10 +5,8 @@ use Rattle.std.specs.List.{flat_map, range_with_len}
 use Rattle.std.proofs.lemmas.List.{append-nil, length-map, length-append}
 use Rattle.std.proofs.lemmas.Grind.{flat_map-append}
 use Rattle.fm_lists.proofs.Mapped.{map-map, map-flat_map, flat_map-same}
-use Rattle.fm_base.specs.declared.caller.Caller.{Caller}
 use Rattle.fm_base.specs.declared.refusal.Refusal.{Refusal}
 use Rattle.fm_base.specs.declared.refusal.Refusal.TheVariants.{Closed, Memory}
-use Rattle.fm_base.specs.Calls.{Entry}
 use Rattle.fm_base.specs.View.{View}
 use Rattle.fm_segment.specs.Region.{Region}
 use Rattle.fm_path_meaning.specs.Walk.{offset_at, reach}
@@ -19,45 +17,38 @@ use Rattle.fm_records.specs.Values.{index_lists}
 use Rattle.fm_records.specs.Few.{HasRoom}
 use Rattle.fm_records.specs.Adds.{AddsNumbers, with_number}
 use Rattle.fm_records.specs.Paths.{AddsAll}
-use Rattle.fm_records.specs.Reads.{AreReadsUpTo, GetsNumber, Reads, TakesNumber, value_places}
+use Rattle.fm_records.specs.Reads.{GetsNumber, Sees, TakesNumber, value_places}
+use Rattle.fm_records.specs.Words.{Seen, kept_last}
 use Rattle.fm_records.proofs.Behind.{range_append}
 use Rattle.fm_records.proofs.Few.{adds_room, room_less}
-use Rattle.fm_records.proofs.Ordered.{adds_one, added_cut, added_none, added_on}
+use Rattle.fm_records.proofs.Seeing.{sees_err, sees_ok, sees_want}
+use Rattle.fm_records.proofs.Turns.{turn_cut, turn_none, turn_on, turn_one}
 
 -- ---- one value
 
-module _ {old new : View} (s : Region) (spec : ValueSpec) (place : ℕ) where
+module _ (spec : ValueSpec) (place : ℕ) (keeps : List Seen → Seen → List Seen) (k l : List Seen) where
+  abbrev Gets : Result ℤ Refusal → List Seen → Type 0
+  Gets r own = GetsNumber keeps k spec place r own l
+
+module _ {old new : View} (s : Region) (spec : ValueSpec) (place : ℕ) (keeps : List Seen → Seen → List Seen) (k l : List Seen) where
   -- its number is read, and then added or refused
   pub value_added : (n z : ℤ) (f g : Found) (result : Result (Unit {0}) Refusal) → z ≡ n → OnOk result (g ≡ with_number f z) → OnErr result (g ≡ f)
-      → IfErr result (λ e. e ≡ Memory) → Reads old new s (λ c. GetsNumber c s.arena spec place) (Ok n)
-      → Reads old new s (λ c. AddsNumbers c s.arena spec (place ∷ []) f g) result
-  value_added n z f g (Ok u) same ok kept err d = record {
-    own = d.own;
-    does = (
-      d.does.0,
-      adds_one (TakesNumber old.caller s.arena spec) with_number place f g (Ok u) d.own (n ∷ []) (n, d.does.1, refl) (ok ∙ ap (with_number f) same),
-    );
-    makes = d.makes;
-  }
-  value_added n z f g (Err r) same ok kept err d = record {
-    own = d.own;
-    does = subst (λ (e : Refusal). AreReadsUpTo old.caller s e d.own × AddsNumbers old.caller s.arena spec (place ∷ []) f g (Err e) d.own) (sym err) (
-      d.does.0,
-      adds_one (TakesNumber old.caller s.arena spec) with_number place f g (Err Memory) d.own [] (n, d.does.1, refl) kept,
-    );
-    makes = d.makes;
-  }
+      → IfErr result (λ e. e ≡ Memory) → Sees old new s (Gets spec place keeps k l) (Ok n) → Sees old new s (AddsNumbers keeps spec k (place ∷ []) f g l) result
+  value_added n z f g (Ok u) same ok kept err d =
+      sees_ok (Gets spec place keeps k l) (AddsNumbers keeps spec k (place ∷ []) f g l) n u d (λ h.
+      turn_one (TakesNumber keeps spec) with_number place f g (Ok u) d.does.seen (n ∷ []) (n, h, refl) (ok ∙ ap (with_number f) same))
+  value_added n z f g (Err r) same ok kept err d =
+      subst (λ (e : Refusal). Sees old new s (AddsNumbers keeps spec k (place ∷ []) f g l) (Err e)) (sym err)
+      (sees_want (Gets spec place keeps k l) (AddsNumbers keeps spec k (place ∷ []) f g l) n d (λ h.
+      turn_one (TakesNumber keeps spec) with_number place f g (Err Memory) d.does.seen [] (n, h, refl) kept))
 
   -- it isn't read
-  pub value_stops : (f : Found) (r : Refusal) → Reads old new s (λ c. GetsNumber c s.arena spec place) (Err r)
-      → Reads old new s (λ c. AddsNumbers c s.arena spec (place ∷ []) f f) (Err r)
-  value_stops f r d = record {
-    own = d.own;
-    does = (d.does.0, adds_one (TakesNumber old.caller s.arena spec) with_number place f f (Err r) d.own [] (by r d.does.1) refl);
-    makes = d.makes;
-  }
+  pub value_stops : (f : Found) (r : Refusal) → Sees old new s (Gets spec place keeps k l) (Err r) → Sees old new s (AddsNumbers keeps spec k (place ∷ []) f f l) (Err r)
+  value_stops f r d =
+      sees_err (Gets spec place keeps k l) (AddsNumbers keeps spec k (place ∷ []) f f l) r d (λ h.
+      turn_one (TakesNumber keeps spec) with_number place f f (Err r) d.does.seen [] (by r h) refl)
     where
-      by : (e : Refusal) → GetsNumber old.caller s.arena spec place (Err e) d.own → TakesNumber old.caller s.arena spec place (Err e) d.own []
+      by : (e : Refusal) → GetsNumber keeps k spec place (Err e) d.does.seen l → TakesNumber keeps spec k place (Err e) d.does.seen [] l
       by Closed h = (h, refl)
       by e h = absurd h
 
@@ -94,38 +85,39 @@ module _ (place at : ℕ) (d : Dim) (ds : List Dim) where
       let sum : d.bound ≡ i + (d.bound - i) = omega (arith, within) in
       sym (places_by_first place at d ds ∙ ap (rows 0) sum ∙ rows_split 0 i (d.bound - i) ∙ ap (λ j. rows 0 i ++ rows j (d.bound - i)) here)
 
--- what was found when the values at the first indices below i were added
-pub record AreAdded (old now : View) (s : Region) (place at : ℕ) (d : Dim) (ds : List Dim) (spec : ValueSpec) (f g : Found) (i : ℕ) : Type 0 where
-  pub did : Reads old now s (λ c. AddsNumbers c s.arena spec (rows place at d ds 0 i) f g) (Ok (tt {0}))
+-- what was found when the values at the first indices below i were added, and what is kept then
+pub record AreAdded (old now : View) (s : Region) (place at : ℕ) (d : Dim) (ds : List Dim) (spec : ValueSpec) (k l : List Seen) (f g : Found) (i : ℕ) : Type 0 where
+  pub did : Sees old now s (AddsNumbers kept_last spec k (rows place at d ds 0 i) f g l) (Ok (tt {0}))
 
 -- no value yet
-pub added_start : {s : Region} {place at : ℕ} {d : Dim} {ds : List Dim} {spec : ValueSpec} {f : Found} (v : View) → AreAdded v v s place at d ds spec f f 0
-added_start {s} {spec = spec} {f = f} v = record { did = added_none (λ c. TakesNumber c s.arena spec) with_number v f }
+pub added_start : {s : Region} {place at : ℕ} {d : Dim} {ds : List Dim} {spec : ValueSpec} {k : List Seen} {f : Found} (v : View)
+    → AreAdded v v s place at d ds spec k k f f 0
+added_start {spec = spec} {k} {f} v = record { did = turn_none (TakesNumber kept_last spec) with_number v f k }
 
-module _ {old now : View} {s : Region} {place at : ℕ} {d : Dim} {ds : List Dim} {spec : ValueSpec} {f g : Found} {i : ℕ}
-    (a : AreAdded old now s place at d ds spec f g i) where
+module _ {old now : View} {s : Region} {place at : ℕ} {d : Dim} {ds : List Dim} {spec : ValueSpec} {k l : List Seen} {f g : Found} {i : ℕ}
+    (a : AreAdded old now s place at d ds spec k l f g i) where
   -- the values at the next first index were read
-  pub added_more : {next : View} {h : Found} (u : Unit {0}) → AddsAll now next s place (reach at d.stride i) ds spec g h (Ok u)
-      → AreAdded old next s place at d ds spec f h (i + 1)
-  added_more {next} {h} u did = record {
-    did = subst (λ (ps : List ℕ). Reads old next s (λ c. AddsNumbers c s.arena spec ps f h) (Ok u)) (rows_more place at d ds i)
-        (added_on (λ c. TakesNumber c s.arena spec) with_number (rows place at d ds 0 i) (row place at d ds i) f g h (Ok u) a.did did);
+  pub added_more : {next : View} {m : List Seen} {h : Found} (u : Unit {0}) → AddsAll kept_last now next s place (reach at d.stride i) ds spec l m g h (Ok u)
+      → AreAdded old next s place at d ds spec k m f h (i + 1)
+  added_more {next} {m} {h} u did = record {
+    did = subst (λ (ps : List ℕ). Sees old next s (AddsNumbers kept_last spec k ps f h m) (Ok u)) (rows_more place at d ds i)
+        (turn_on (TakesNumber kept_last spec) with_number (rows place at d ds 0 i) (row place at d ds i) f g h (Ok u) a.did did);
   }
 
   -- or up to a refusal
-  pub added_stops : {next : View} (h : Found) (r : Refusal) → i < d.bound → AddsAll now next s place (reach at d.stride i) ds spec g h (Err r)
-      → AddsAll old next s place at (d ∷ ds) spec f h (Err r)
-  added_stops {next} h r below did =
-      let T : Caller → ℕ → Result (Unit {0}) Refusal → List Entry → List ℤ → Type 0 = λ c. TakesNumber c s.arena spec in
-      let here = subst (λ (ps : List ℕ). Reads old next s (λ c. AddsNumbers c s.arena spec ps f h) (Err r)) (rows_more place at d ds i)
-      (added_on T with_number (rows place at d ds 0 i) (row place at d ds i) f g h (Err r) a.did did) in
-      subst (λ (ps : List ℕ). Reads old next s (λ c. AddsNumbers c s.arena spec ps f h) (Err r)) (rows_all place at d ds (i + 1) (omega (arith, below)))
-      (added_cut T with_number s (rows place at d ds 0 (i + 1)) (rows place at d ds (i + 1) (d.bound - (i + 1))) f h r here)
+  pub added_stops : {next : View} {m : List Seen} (h : Found) (r : Refusal) → i < d.bound
+      → AddsAll kept_last now next s place (reach at d.stride i) ds spec l m g h (Err r) → AddsAll kept_last old next s place at (d ∷ ds) spec k m f h (Err r)
+  added_stops {next} {m} h r below did =
+      let T = TakesNumber kept_last spec in
+      let here = subst (λ (ps : List ℕ). Sees old next s (AddsNumbers kept_last spec k ps f h m) (Err r)) (rows_more place at d ds i)
+      (turn_on (TakesNumber kept_last spec) with_number (rows place at d ds 0 i) (row place at d ds i) f g h (Err r) a.did did) in
+      subst (λ (ps : List ℕ). Sees old next s (AddsNumbers kept_last spec k ps f h m) (Err r)) (rows_all place at d ds (i + 1) (omega (arith, below)))
+      (turn_cut T with_number (rows place at d ds 0 (i + 1)) (rows place at d ds (i + 1) (d.bound - (i + 1))) f h r here)
 
   -- all were
-  pub added_all : i ≡ d.bound → AddsAll old now s place at (d ∷ ds) spec f g (Ok (tt {0}))
+  pub added_all : i ≡ d.bound → AddsAll kept_last old now s place at (d ∷ ds) spec k l f g (Ok (tt {0}))
   added_all is =
-      subst (λ (ps : List ℕ). Reads old now s (λ c. AddsNumbers c s.arena spec ps f g) (Ok (tt {0})))
+      subst (λ (ps : List ℕ). Sees old now s (AddsNumbers kept_last spec k ps f g l) (Ok (tt {0})))
       (ap (rows place at d ds 0) is ∙ sym (places_by_first place at d ds)) a.did
 
   -- there is room for the values at the next one
@@ -137,5 +129,5 @@ module _ {old now : View} {s : Region} {place at : ℕ} {d : Dim} {ds : List Dim
       let more = ap length (sym (rows_more place at d ds i)) ∙ length-append before (row place at d ds i) in
       let one = length-map (index_lists ds) (λ is. place + offset_at (reach at d.stride i) ds is) in
       let long = length-map (index_lists (d ∷ ds)) (λ is. place + offset_at at (d ∷ ds) is) in
-      adds_room (length (index_lists ds)) a.did.does.1 (room_less f (length (index_lists (d ∷ ds))) (length (rows place at d ds 0 i) + length (index_lists ds))
-      (omega (arith, all, more, one, long)) room)
+      adds_room (length (index_lists ds)) a.did.does.does
+      (room_less f (length (index_lists (d ∷ ds))) (length (rows place at d ds 0 i) + length (index_lists ds)) (omega (arith, all, more, one, long)) room)

@@ -17,7 +17,9 @@ use Rattle.fm_lanes.specs.Value.{number_of_value}
 use Rattle.fm_lanes.specs.declared.value.Value.TheVariants.{Boolean}
 use Rattle.fm_lanes.specs.declared.value_kind.ValueKind.{ValueKind}
 use Rattle.fm_lanes.specs.declared.value_kind.ValueKind.TheVariants as kind
+use Rattle.fm_path.specs.Wide.{wide_dims}
 use Rattle.fm_path.specs.declared.value_spec.ValueSpec.{ValueSpec}
+use Rattle.fm_path_meaning.specs.declared.dim.Dim.{Dim}
 use Rattle.fm_path_meaning.specs.Walk.{offset_at}
 use Rattle.fm_query.specs.Plan.{Plan, IsPlan}
 use Rattle.fm_query.specs.declared.fold.Fold.{Fold}
@@ -31,7 +33,8 @@ use Rattle.fm_records.specs.Answers.{sum_of, folded, found_in, item_found, found
 use Rattle.fm_records.specs.Few.{IsSumBy, IsFoundBy, IsFew, AreFew, AnswersAreFew, FewCanJoin, HasRoom, HaveRoom, IsOpen, how_many}
 use Rattle.fm_records.specs.Joined.{CanJoinFound, CanJoin, both, joined}
 use Rattle.fm_records.specs.Adds.{AddsNumbers, all_added, with_number}
-use Rattle.fm_records.specs.Reads.{value_places, ReadsNumber, InOrder, all_done, one_more, comes_short, TakesNumbers, FindsAsked, FindsItems, ReadsRecord, chosen, passed_over, untested, record_places}
+use Rattle.fm_records.specs.Reads.{value_places, InOrder, all_done, one_more, comes_short, no_turn, next_turn, short_turn, TakesNumbers, TakesPath, FindsAsked, FindsItems, FindsRecord, ReadsRecord, chosen, passed_over, untested, record_places}
+use Rattle.fm_records.specs.Words.{Seen, kept_all, kept_last, number_by}
 use Rattle.fm_records.specs.Texts.{IsFolded, IsFoundOf, IsItemFound}
 use Rattle.fm_records.specs.Values.{index_lists}
 use Rattle.fm_records.proofs.Behind.{length-record_places}
@@ -79,8 +82,8 @@ one_decoded kind.Long n = fits_one _ (FitsBytes-signed_of 8 (n % 2 ^ 64) (omega 
 -- ---- what one record comes to
 
 -- a number that was read has at most 64 bits
-pub one_number : (c : Caller) (id : ArenaId) (spec : ValueSpec) (place : ℕ) (own : List Entry) (n : ℤ) → ReadsNumber c id spec place own n → IsSumBy 1 n
-one_number c id spec place own n r = subst (IsSumBy 1) (sym (r.number ∙ ap number_of_value r.reads.value)) (one_decoded spec.kind _)
+pub one_number : (seen : List Seen) (spec : ValueSpec) (place : ℕ) → IsSumBy 1 (number_by seen spec place)
+one_number seen spec place = one_decoded spec.kind _
 
 -- one number more
 number_few : (n : ℕ) (f : Found) (z : ℤ) → IsSumBy 1 z → IsFoundBy n f → IsFoundBy (n + 1) (with_number f z)
@@ -88,36 +91,39 @@ number_few n (Count k) z one h = omega arith
 number_few n (Sum x) z one h = sum_more n 1 x z h one
 number_few n f z one h = tt
 
-numbers_few : (c : Caller) (id : ArenaId) (spec : ValueSpec) (places : List ℕ) (result : Result (Unit {0}) Refusal) (own : List Entry) (ns : List ℤ) (n : ℕ)
-    (f : Found) → TakesNumbers c id spec places result own ns → result ≡ Ok tt → IsFoundBy n f → IsFoundBy (n + length places) (all_added with_number f ns)
-numbers_few c id spec places result own ns n f all_done e h = let none : n ≡ n + 0 = omega arith in subst (λ (k : ℕ). IsFoundBy k f) none h
-numbers_few c id spec places result own ns n f (one_more {x = place} {xs = left} first rest given more r others) e h =
-    let sum : n + 1 + length left ≡ n + suc (length left) = omega arith in
-    let z = r.0 in
-    subst (λ (zs : List ℤ). IsFoundBy (n + suc (length left)) (all_added with_number f (zs ++ more))) (sym r.2)
-    (subst (λ (k : ℕ). IsFoundBy k (all_added with_number (with_number f z) more)) sum
-    (numbers_few c id spec left result rest more (n + 1) (with_number f z) others e (number_few n f z (one_number c id spec place first z r.1) h)))
-numbers_few c id spec places result own ns n f (comes_short first given apart r) e h = absurd (apart e)
+module _ (keeps : List Seen → Seen → List Seen) (spec : ValueSpec) where
+  numbers_few : (k l : List Seen) (places : List ℕ) (result : Result (Unit {0}) Refusal) (own : List Seen) (ns : List ℤ) (n : ℕ) (f : Found)
+      → TakesNumbers keeps spec k places result own ns l → result ≡ Ok tt → IsFoundBy n f → IsFoundBy (n + length places) (all_added with_number f ns)
+  numbers_few k l places result own ns n f no_turn e h = let none : n ≡ n + 0 = omega arith in subst (λ (k : ℕ). IsFoundBy k f) none h
+  numbers_few k l places result own ns n f (next_turn {x = place} {xs = left} j first rest given more r others) e h =
+      let sum : n + 1 + length left ≡ n + suc (length left) = omega arith in
+      let z = r.0 in
+      let one = subst (IsSumBy 1) (sym r.1.number) (one_number (k ++ first) spec place) in
+      subst (λ (zs : List ℤ). IsFoundBy (n + suc (length left)) (all_added with_number f (zs ++ more))) (sym r.2)
+      (subst (λ (i : ℕ). IsFoundBy i (all_added with_number (with_number f z) more)) sum
+      (numbers_few j l left result rest more (n + 1) (with_number f z) others e (number_few n f z one h)))
+  numbers_few k l places result own ns n f (short_turn first given apart r) e h = absurd (apart e)
 
 pub sums : (x : ℤ) (ns : List ℤ) → all_added with_number (Sum x) ns ≡ Sum (x +ℤ sum_of ns)
 sums x [] = let e : x ≡ x +ℤ pos 0 = omega (arith, ints) in ap Sum e
 sums x (n ∷ ns) = let e : x +ℤ n +ℤ sum_of ns ≡ x +ℤ (n +ℤ sum_of ns) = omega (arith, ints) in sums (x +ℤ n) ns ∙ ap Sum e
 
 -- what they come to by themselves
-numbers_sum : (c : Caller) (id : ArenaId) (spec : ValueSpec) (places : List ℕ) (own : List Entry) (ns : List ℤ) → TakesNumbers c id spec places (Ok tt) own ns
-    → IsSumBy (length places) (sum_of ns)
-numbers_sum c id spec places own ns h =
+numbers_sum : (keeps : List Seen → Seen → List Seen) (spec : ValueSpec) (k l : List Seen) (places : List ℕ) (own : List Seen) (ns : List ℤ)
+    → TakesNumbers keeps spec k places (Ok tt) own ns l → IsSumBy (length places) (sum_of ns)
+numbers_sum keeps spec k l places own ns h =
     let by : IsSumBy (0 + length places) (pos 0 +ℤ sum_of ns) =
-    subst (IsFoundBy (0 + length places)) (sums (pos 0) ns) (numbers_few c id spec places (Ok tt) own ns 0 (Sum (pos 0)) h refl no_sum) in
+    subst (IsFoundBy (0 + length places)) (sums (pos 0) ns) (numbers_few keeps spec k l places (Ok tt) own ns 0 (Sum (pos 0)) h refl no_sum) in
     record { low = (let a = by.low in omega (arith, ints)); high = (let a = by.high in omega (arith, ints)) }
 
 -- so there is room for those that are left
-pub adds_room : {c : Caller} {id : ArenaId} {spec : ValueSpec} {places : List ℕ} {f g : Found} {own : List Entry} (more : ℕ)
-    → AddsNumbers c id spec places f g (Ok tt) own → HasRoom f (length places + more) → HasRoom g more
-adds_room {c} {id} {spec} {places} {f} {g} {own} more a room = (
+pub adds_room : {keeps : List Seen → Seen → List Seen} {spec : ValueSpec} {k l : List Seen} {places : List ℕ} {f g : Found} {own : List Seen} (more : ℕ)
+    → AddsNumbers keeps spec k places f g l (Ok tt) own → HasRoom f (length places + more) → HasRoom g more
+adds_room {keeps} {spec} {k} {l} {places} {f} {g} {own} more a room = (
   room.0 + length places,
   omega (arith, room.1),
-  subst (IsFoundBy (room.0 + length places)) (sym a.added) (numbers_few c id spec places (Ok tt) own a.given room.0 f a.reads refl room.2),
+  subst (IsFoundBy (room.0 + length places)) (sym a.added)
+      (numbers_few keeps spec k l places (Ok tt) own a.given room.0 f a.reads refl room.2),
 )
 
 -- room for fewer
@@ -138,12 +144,17 @@ record FindsFew (n : ℕ) (a : Asked) (fs : List Found) : Type 0 where
   is : fs ≡ found ∷ []
   few : IsFewOf n a found
 
-item_few : (c : Caller) (id : ArenaId) (place size : ℕ) (a : Asked) (own : List Entry) (fs : List Found) → how_many a ≤ size
-    → FindsAsked c id place a (Ok tt) own fs → FindsFew size a fs
-item_few c id place size asked.Count own fs few h = record { found = Count 1; is = h.2; few = (tt, few) }
-item_few c id place size (asked.Of f r) own fs few h =
+path_sum : (ds : List Dim) (spec : ValueSpec) (k l : List Seen) (places : List ℕ) (own : List Seen) (ns : List ℤ) → TakesPath ds spec k places (Ok tt) own ns l
+    → IsSumBy (length places) (sum_of ns)
+path_sum [] spec k l places own ns h = numbers_sum kept_all spec k l places own ns h
+path_sum (d ∷ ds) spec k l places own ns h = numbers_sum kept_last spec [] h.0 places own ns h.1
+
+item_few : (place size : ℕ) (k l : List Seen) (a : Asked) (own : List Seen) (fs : List Found) → how_many a ≤ size → FindsAsked place k a (Ok tt) own fs l
+    → FindsFew size a fs
+item_few place size k l asked.Count own fs few h = record { found = Count 1; is = h.2; few = (tt, few) }
+item_few place size k l (asked.Of f r) own fs few h =
     let places = value_places place r.offset r.dims in
-    let by = numbers_sum c id r.value places own h.0 h.1 in
+    let by = path_sum (wide_dims r.dims) r.value k l places own h.0 h.1 in
     let long : length (value_places place r.offset r.dims) ≤ size =
     omega (arith, few, length-map (index_lists r.dims) (λ is. place + offset_at r.offset r.dims is)) in
     record { found = folded f h.0; is = h.2; few = folded_few f r size h.0 (sum_less (length places) size (sum_of h.0) long by) }
@@ -152,14 +163,14 @@ item_few c id place size (asked.Of f r) own fs few h =
 of_item : (n : ℕ) (item : Item) (found : Found) → IsFewOf n item.asked found → IsFew n item found
 of_item n item found h = record { kind = h.0; by = h.1 }
 
-items_few : (c : Caller) (id : ArenaId) (place size : ℕ) (items : List Item) (result : Result (Unit {0}) Refusal) (own : List Entry) (fs : List Found)
-    → AllByRecursion (IsItemFew size) items → FindsItems c id place items result own fs → result ≡ Ok tt → AllZip (IsFew size) items fs
-items_few c id place size items result own fs few all_done e = tt
-items_few c id place size items result own fs few (one_more {x = item} {xs = left} first rest given more h others) e =
-    let one = item_few c id place size item.asked first given few.0 h in
+items_few : (place size : ℕ) (k l : List Seen) (items : List Item) (result : Result (Unit {0}) Refusal) (own : List Seen) (fs : List Found)
+    → AllByRecursion (IsItemFew size) items → FindsItems place k items result own fs l → result ≡ Ok tt → AllZip (IsFew size) items fs
+items_few place size k l items result own fs few no_turn e = tt
+items_few place size k l items result own fs few (next_turn {x = item} {xs = left} j first rest given more h others) e =
+    let one = item_few place size k j item.asked first given few.0 h in
     subst (λ (gs : List Found). AllZip (IsFew size) (item ∷ left) (gs ++ more)) (sym one.is)
-    (of_item size item one.found one.few, items_few c id place size left result rest more few.1 others e)
-items_few c id place size items result own fs few (comes_short first given apart h) e = absurd (apart e)
+    (of_item size item one.found one.few, items_few place size j l left result rest more few.1 others e)
+items_few place size k l items result own fs few (short_turn first given apart h) e = absurd (apart e)
 
 -- ---- two finds of one item
 
@@ -233,13 +244,12 @@ pub nothing_few : (items : List Item) → AllZip (IsFew 0) items (map (item_foun
 nothing_few [] = tt
 nothing_few (i ∷ is) = (of_item 0 i (found_in [] i.asked) (none_few i.asked), nothing_few is)
 
-record_few : (c : Caller) (id : ArenaId) (p : Plan) (place m : ℕ) (result : Result (Unit {0}) Refusal) (own : List Entry) (seen : List (List Found))
-    (so_far : List Found) → IsPlan p → ReadsRecord c id p place result own seen → result ≡ Ok tt → AreFew m p so_far
-    → AreFew (m + p.size) p (all_added joined so_far seen)
-record_few c id p place m result own seen so_far plan (chosen one rest fs t h) e few =
-    (all_few m p.size p.items so_far fs few (items_few c id place p.size p.items result rest fs (plan_items_few p plan) h e)).few
-record_few c id p place m result own seen so_far plan (passed_over one t) e few = few_less m (m + p.size) p.items so_far (omega arith) few
-record_few c id p place m result own seen so_far plan (untested one t) e few = absurd (cc)
+record_few : (p : Plan) (place m : ℕ) (result : Result (Unit {0}) Refusal) (own : List Seen) (seen : List (List Found)) (so_far : List Found) → IsPlan p
+    → FindsRecord p place result own seen → result ≡ Ok tt → AreFew m p so_far → AreFew (m + p.size) p (all_added joined so_far seen)
+record_few p place m result own seen so_far plan (chosen k l one rest fs t h) e few =
+    (all_few m p.size p.items so_far fs few (items_few place p.size k l p.items result rest fs (plan_items_few p plan) h e)).few
+record_few p place m result own seen so_far plan (passed_over k one t) e few = few_less m (m + p.size) p.items so_far (omega arith) few
+record_few p place m result own seen so_far plan (untested k one t) e few = absurd (cc)
 
 pub records_few : (c : Caller) (id : ArenaId) (p : Plan) (places : List ℕ) (m : ℕ) (result : Result (Unit {0}) Refusal) (own : List Entry)
     (all : List (List Found)) (so_far : List Found) → IsPlan p → InOrder (Ok tt) (ReadsRecord c id p) places result own all → result ≡ Ok tt
@@ -251,7 +261,7 @@ records_few c id p places m result own all so_far plan (one_more {x = place} {xs
     subst (λ (fs : List Found). AreFew (m + suc (length left) * p.size) p fs) (sym (all_added-append joined so_far seen more))
     (subst (λ (n : ℕ). AreFew n p (all_added joined (all_added joined so_far seen) more)) sum
     (records_few c id p left (m + p.size) result rest more (all_added joined so_far seen) plan others e
-    (record_few c id p place m (Ok tt) first seen so_far plan r refl few)))
+    (record_few p place m (Ok tt) r.seen seen so_far plan r.finds refl few)))
 records_few c id p places m result own all so_far plan (comes_short first seen apart r) e few = absurd (apart e)
 
 pub answers_few : AnswersAreFew

@@ -4,10 +4,7 @@ use Rattle.std.specs.Prelude.{ℤ, ◌≢◌}
 use Rattle.std.specs.List.{AllZip}
 use Rattle.std.proofs.lemmas.List.{append-nil, take-append-drop, take_more, take_all, length-take-le, length-append}
 use Rattle.std.proofs.lemmas.Slice.Zip.{AllZip-long}
-use Rattle.fm_base.specs.declared.caller.Caller.{Caller}
-use Rattle.fm_base.specs.declared.arena_id.ArenaId.{ArenaId}
 use Rattle.fm_base.specs.declared.refusal.Refusal.{Refusal}
-use Rattle.fm_base.specs.Calls.{Entry}
 use Rattle.fm_base.specs.View.{View}
 use Rattle.fm_segment.specs.Region.{Region}
 use Rattle.fm_path.specs.Resolution.{Resolution}
@@ -28,14 +25,15 @@ use Rattle.fm_records.specs.Adds.{AddsItem, AddsItems, AddsNumbers, all_added, I
 use Rattle.fm_records.specs.Few.{HasRoom, how_many, IsOpen}
 use Rattle.fm_records.specs.Paths.{AddsAll, CanAddAll, HasIndices}
 use Rattle.fm_records.specs.Values.{index_lists}
-use Rattle.fm_records.specs.Reads.{all_done, CanRead, comes_short, FindsAsked, FindsItems, one_more, Reads, TakesNumber, TakesNumbers, value_places}
+use Rattle.fm_records.specs.Reads.{no_turn, CanRead, short_turn, FindsAsked, FindsItems, next_turn, Sees, TakesNumber, TakesNumbers, TakesPath, value_places}
+use Rattle.fm_records.specs.Words.{Seen, kept_all, kept_last}
 use Rattle.fm_records.specs.Texts.{IsFolded, IsFoundOf}
 use Rattle.fm_records.proofs.Ends.{lesser-lesser, greater-greater}
 use Rattle.fm_records.proofs.Few.{sums}
-use Rattle.fm_records.proofs.Ordered.{added_none, in_order_on, in_order_cut, in_order_one}
 use Rattle.fm_records.proofs.Reaching.{wide_inside, wide_many, wide_places}
 use Rattle.fm_records.proofs.Steps.{zip_at}
-use Rattle.fm_records.proofs.Visiting.{reads_none, reads_on}
+use Rattle.fm_records.proofs.Seeing.{sees_as, sees_none, sees_on}
+use Rattle.fm_records.proofs.Turns.{in_turn_on, in_turn_cut, in_turn_one, turn_none}
 
 -- ---- one item
 
@@ -67,6 +65,17 @@ with_numbers_both fold.Greatest (Greatest o) ns is = greatests o ns
 with_numbers_both fold.All (Listed zs) ns is = lists zs ns
 with_numbers_both f found ns is = absurd is
 
+-- no open steps, or some
+pub is_none : {ds : List Dim} → length ds ≡ 0 → ds ≡ []
+is_none {ds = []} h = refl
+is_none {ds = d ∷ ds} h = absurd (omega (arith, h))
+
+pub is_some : {ds : List Dim} → ¬ (length ds ≡ 0) → ds ≢ []
+is_some {ds} h e = h (ap length e)
+
+pub some_none : {ds : List Dim} → ds ≡ [] → HasIndices ds
+some_none {ds} e = subst HasIndices (sym e) ([], tt)
+
 -- a path's values, by what calls gave of it
 module _ (s : Region) (place : ℕ) (a : Asked) {f : Fold} {r : Resolution} {n : ℕ} {ds : List Dim} {v : ValueSpec} (is : a ≡ asked.Of f r)
     (is_n : n ≡ r.offset) (is_ds : ds ≡ wide_dims r.dims) (is_v : v ≡ r.value) where
@@ -75,52 +84,69 @@ module _ (s : Region) (place : ℕ) (a : Asked) {f : Fold} {r : Resolution} {n :
       let same = ap (λ k. value_places place k ds) is_n ∙ ap (value_places place r.offset) is_ds ∙ wide_places place r.offset r.dims in
       subst (λ (w : ValueSpec). P w (value_places place r.offset r.dims)) is_v (subst (P v) same h)
 
-  -- they can be added
+  -- they stand in the segment, and can be added
+  pub item_inside : IsReadable s place a → ReachesInside s place n ds v
+  item_inside readable =
+      let within = wide_inside s place r.offset r.dims r.value (subst (λ (b : Asked). IsReadable s place b) is readable) in
+      subst (λ (w : ValueSpec). ReachesInside s place n ds w) (sym is_v)
+      (subst (λ (k : ℕ). ReachesInside s place k ds r.value) (sym is_n)
+      (subst (λ (xs : List Dim). ReachesInside s place r.offset xs r.value) (sym is_ds) within))
+
+  pub item_room : (found : Found) → HasRoom found (how_many a) → HasRoom found (length (index_lists ds))
+  item_room found room =
+      let many = ap (λ (xs : List Dim). length (index_lists xs)) is_ds ∙ wide_many r.dims in
+      subst (HasRoom found) (ap how_many is ∙ sym many) room
+
   pub item_can : {view : View} {found : Found} → CanRead view s → HasIndices ds → IsReadable s place a → HasRoom found (how_many a)
       → CanAddAll view s place n ds v found
-  item_can {view} {found} can some readable room =
-      let many = ap (λ (xs : List Dim). length (index_lists xs)) is_ds ∙ wide_many r.dims in
-      let within = wide_inside s place r.offset r.dims r.value (subst (λ (b : Asked). IsReadable s place b) is readable) in
-      record {
-        can = can;
-        some = some;
-        inside = subst (λ (w : ValueSpec). ReachesInside s place n ds w) (sym is_v)
-            (subst (λ (k : ℕ). ReachesInside s place k ds r.value) (sym is_n)
-            (subst (λ (xs : List Dim). ReachesInside s place r.offset xs r.value) (sym is_ds) within));
-        room = subst (HasRoom found) (ap how_many is ∙ sym many) room;
-      }
+  item_can {view} {found} can some readable room = record { can = can; some = some; inside = item_inside readable; room = item_room found room }
 
-  -- they were read
-  pub item_read : {old new : View} (g h : Found) (result : Result (Unit {0}) Refusal) → IsFoundOf a g → AddsAll old new s place n ds v g h result
-      → Reads old new s (λ c. AddsItem c s.arena place a g h) result
-  item_read {old} {new} g h result kind d =
-      let x = d.does.1 in
-      record {
-        own = d.own;
-        does = (
-          d.does.0,
-          subst (λ (b : Asked). AddsItem old.caller s.arena place b g h result d.own) (sym is) (record {
-            found = folded f x.given;
-            finds = (x.given, there (λ w ps. TakesNumbers old.caller s.arena w ps result d.own x.given) x.reads, refl);
-            added = x.added ∙ with_numbers_both f g x.given (subst (λ (b : Asked). IsFoundOf b g) is kind);
-          }),
-        );
-        makes = d.makes;
-      }
+  -- what was read of them is what the item finds
+  found_there : (k l : List Seen) (g h : Found) (result : Result (Unit {0}) Refusal) (own : List Seen) (ns : List ℤ) → IsFoundOf a g
+      → h ≡ all_added with_number g ns → TakesPath ds v k (value_places place n ds) result own ns l → AddsItem place k a g h l result own
+  found_there k l g h result own ns kind added t =
+      let path = there (λ w ps. TakesPath (wide_dims r.dims) w k ps result own ns l)
+      (subst (λ (ws : List Dim). TakesPath ws v k (value_places place n ds) result own ns l) is_ds t) in
+      subst (λ (b : Asked). AddsItem place k b g h l result own) (sym is) (record {
+        found = folded f ns;
+        finds = (ns, path, refl);
+        added = added ∙ with_numbers_both f g ns (subst (λ (b : Asked). IsFoundOf b g) is kind);
+      })
 
-  -- there are none
-  pub item_empty : {old : View} (g : Found) → IsFoundOf a g → index_lists ds ≡ [] → Reads old old s (λ c. AddsItem c s.arena place a g g) (Ok (tt {0}))
-  item_empty {old} g kind none =
-      item_read g g (Ok (tt {0})) kind (subst (λ (iss : List (List ℕ)). Reads old old s
-      (λ c. AddsNumbers c s.arena v (map (λ is. place + offset_at n ds is) iss) g g) (Ok (tt {0}))) (sym none)
-      (added_none (λ c. TakesNumber c s.arena v) with_number old g))
+  -- of a path with no wide step
+  pub item_closed : {old new : View} (k l : List Seen) (g h : Found) (result : Result (Unit {0}) Refusal) → ds ≡ [] → IsFoundOf a g
+      → AddsAll kept_all old new s place n [] v k l g h result → Sees old new s (AddsItem place k a g h l) result
+  item_closed {old} {new} k l g h result none kind d =
+      sees_as (AddsNumbers kept_all v k (value_places place n []) g h l) (AddsItem place k a g h l) result d (λ x.
+      found_there k l g h result d.does.seen x.given kind x.added
+      (subst (λ (ws : List Dim). TakesPath ws v k (value_places place n ws) result d.does.seen x.given l) (sym none) x.reads))
+
+  -- of one with wide steps
+  by_rows : (ws : List Dim) (k m : List Seen) (places : List ℕ) (result : Result (Unit {0}) Refusal) (own : List Seen) (ns : List ℤ) → ws ≢ []
+      → TakesNumbers kept_last v [] places result own ns m → TakesPath ws v k places result own ns k
+  by_rows [] k m places result own ns wide t = absurd (wide refl)
+  by_rows (w ∷ ws) k m places result own ns wide t = (m, t, refl)
+
+  pub item_open : {old new : View} (k m : List Seen) (g h : Found) (result : Result (Unit {0}) Refusal) → ds ≢ [] → IsFoundOf a g
+      → AddsAll kept_last old new s place n ds v [] m g h result → Sees old new s (AddsItem place k a g h k) result
+  item_open {old} {new} k m g h result wide kind d =
+      sees_as (AddsNumbers kept_last v [] (value_places place n ds) g h m) (AddsItem place k a g h k) result d (λ x.
+      found_there k k g h result d.does.seen x.given kind x.added
+      (by_rows ds k m (value_places place n ds) result d.does.seen x.given wide x.reads))
+
+-- where there are no values, none are added
+pub none_open : {v : View} {s : Region} (place at : ℕ) (ds : List Dim) (spec : ValueSpec) (f : Found) → index_lists ds ≡ []
+    → AddsAll kept_last v v s place at ds spec [] [] f f (Ok (tt {0}))
+none_open {v} {s} place at ds spec f none =
+    subst (λ (iss : List (List ℕ)). Sees v v s (AddsNumbers kept_last spec [] (map (λ is. place + offset_at at ds is) iss) f f []) (Ok (tt {0}))) (sym none)
+    (turn_none (TakesNumber kept_last spec) with_number v f [])
 
 -- a count
-pub item_counted : (old : View) (s : Region) (place : ℕ) (a : Asked) (g h : Found) → a ≡ asked.Count → h ≡ both g (Count 1)
-    → Reads old old s (λ c. AddsItem c s.arena place a g h) (Ok (tt {0}))
-item_counted old s place a g h is e =
-    reads_none old s (subst (λ (b : Asked). AddsItem old.caller s.arena place b g h (Ok (tt {0})) []) (sym is)
-    (record { found = Count 1; finds = (refl, refl, refl); added = e }))
+pub item_counted : (old : View) (s : Region) (place : ℕ) (k : List Seen) (a : Asked) (g h : Found) → a ≡ asked.Count → h ≡ both g (Count 1)
+    → Sees old old s (AddsItem place k a g h k) (Ok (tt {0}))
+item_counted old s place k a g h is e =
+    sees_none old s tt (subst (λ (b : Asked). AddsItem place k b g h k (Ok (tt {0})) []) (sym is)
+    (record { found = Count 1; finds = (refl, refl, refl, refl); added = e }))
 
 -- ---- finds, joined one by one
 
@@ -153,99 +179,93 @@ joined-more (f ∷ fs) (x ∷ gs) (suc k) g h e long below is =
 -- ---- items in order
 
 -- each finds one
-one_found : (c : Caller) (id : ArenaId) (place : ℕ) (a : Asked) (result : Result (Unit {0}) Refusal) (own : List Entry) (fs : List Found)
-    → FindsAsked c id place a result own fs → length fs ≡ 1
-one_found c id place asked.Count result own fs h = ap length h.2
-one_found c id place (asked.Of f r) result own fs h = ap length h.2
+one_found : (place : ℕ) (k l : List Seen) (a : Asked) (result : Result (Unit {0}) Refusal) (own : List Seen) (fs : List Found)
+    → FindsAsked place k a result own fs l → length fs ≡ 1
+one_found place k l asked.Count result own fs h = ap length h.2
+one_found place k l (asked.Of f r) result own fs h = ap length h.2
 
-as_many : (c : Caller) (id : ArenaId) (place : ℕ) (items : List Item) (result : Result (Unit {0}) Refusal) (own : List Entry) (fs : List Found)
-    → FindsItems c id place items result own fs → result ≡ Ok tt → length fs ≡ length items
-as_many c id place items result own fs all_done e = refl
-as_many c id place items result own fs (one_more {x = x} {xs = left} first rest given more h t) e =
-    let one = one_found c id place x.asked (Ok tt) first given h in
-    let others = as_many c id place left result rest more t e in
+as_many : (place : ℕ) (k l : List Seen) (items : List Item) (result : Result (Unit {0}) Refusal) (own : List Seen) (fs : List Found)
+    → FindsItems place k items result own fs l → result ≡ Ok tt → length fs ≡ length items
+as_many place k l items result own fs no_turn e = refl
+as_many place k l items result own fs (next_turn {x = x} {xs = left} j first rest given more h t) e =
+    let one = one_found place k j x.asked (Ok tt) first given h in
+    let others = as_many place j l left result rest more t e in
     omega (arith, one, others, length-append given more)
-as_many c id place items result own fs (comes_short first given apart h) e = absurd (apart e)
+as_many place k l items result own fs (short_turn first given apart h) e = absurd (apart e)
 
 -- one item alone
-item_one : (c : Caller) (id : ArenaId) (place : ℕ) (x : Item) (result : Result (Unit {0}) Refusal) (own : List Entry) (fs : List Found)
-    → FindsAsked c id place x.asked result own fs → FindsItems c id place (x ∷ []) result own fs
-item_one c id place x (Ok u) own fs h = in_order_one x own fs h
-item_one c id place x (Err r) own fs h = comes_short own fs (λ e. cc) h
+item_one : (place : ℕ) (k l : List Seen) (x : Item) (result : Result (Unit {0}) Refusal) (own : List Seen) (fs : List Found)
+    → FindsAsked place k x.asked result own fs l → FindsItems place k (x ∷ []) result own fs l
+item_one place k l x (Ok u) own fs h = in_turn_one x own fs h
+item_one place k l x (Err r) own fs h = short_turn own fs (λ e. cc) h
 
--- the first k items were added
-pub record AreItemsAdded (old now : View) (s : Region) (place : ℕ) (items : List Item) (fs gs : List Found) (k : ℕ) : Type 0 where
-  pub did : Reads old now s (λ c. AddsItems c s.arena place (take k items) fs gs) (Ok (tt {0}))
+-- the first i items were added
+pub record AreItemsAdded (old now : View) (s : Region) (place : ℕ) (k l : List Seen) (items : List Item) (fs gs : List Found) (i : ℕ) : Type 0 where
+  pub did : Sees old now s (AddsItems place k (take i items) fs gs l) (Ok (tt {0}))
 
 -- none yet
-pub items_start : (old : View) (s : Region) (place : ℕ) (items : List Item) (fs : List Found) → AreItemsAdded old old s place items fs fs 0
-items_start old s place items fs = record { did = reads_none old s (record { found = []; finds = all_done; added = sym (joined-none fs) }) }
+pub items_start : (old : View) (s : Region) (place : ℕ) (k : List Seen) (items : List Item) (fs : List Found) → AreItemsAdded old old s place k k items fs fs 0
+items_start old s place k items fs = record { did = sees_none old s tt (record { found = []; finds = no_turn; added = sym (joined-none fs) }) }
 
-module _ {old now : View} {s : Region} {place : ℕ} {items : List Item} {fs gs : List Found} {k : ℕ} (a : AreItemsAdded old now s place items fs gs k)
-    (are : AllZip IsOpen items fs) (below : k < length items) where
+module _ {old now : View} {s : Region} {place : ℕ} {k l : List Seen} {items : List Item} {fs gs : List Found} {i : ℕ}
+    (a : AreItemsAdded old now s place k l items fs gs i) (are : AllZip IsOpen items fs) (below : i < length items) where
   -- there is a find for the next item
-  pub next_within : k < length gs
-  next_within = omega (arith, below, AllZip-long IsOpen items fs are, ap length a.did.does.1.added, length-joined fs a.did.does.1.found)
+  pub next_within : i < length gs
+  next_within = omega (arith, below, AllZip-long IsOpen items fs are, ap length a.did.does.does.added, length-joined fs a.did.does.does.found)
 
-  module _ (x : Item) (here : x ≡ get_or items k x) where
-    many : length a.did.does.1.found ≡ k
+  module _ (x : Item) (here : x ≡ get_or items i x) where
+    many : length a.did.does.does.found ≡ i
     many =
-        as_many old.caller s.arena place (take k items) (Ok tt) a.did.own a.did.does.1.found a.did.does.1.finds refl
-        ∙ length-take-le k items (omega (arith, below))
+        as_many place k l (take i items) (Ok tt) a.did.does.seen a.did.does.does.found a.did.does.does.finds refl
+        ∙ length-take-le i items (omega (arith, below))
 
     -- which is as it was
-    still : (e : Found) → get_or gs k e ≡ get_or fs k e
-    still e = ap (λ xs. get_or xs k e) a.did.does.1.added ∙ joined-past fs a.did.does.1.found k e (omega (arith, many))
+    still : (e : Found) → get_or gs i e ≡ get_or fs i e
+    still e = ap (λ xs. get_or xs i e) a.did.does.does.added ∙ joined-past fs a.did.does.does.found i e (omega (arith, many))
 
     -- It can be added to.
-    pub next_open : (e : Found) → IsOpen x (get_or gs k e)
+    pub next_open : (e : Found) → IsOpen x (get_or gs i e)
     next_open e =
-        subst (λ y. IsOpen y (get_or gs k e)) (sym here) (subst (IsOpen (get_or items k x)) (sym (still e))
-        (zip_at IsOpen items fs k x e are below))
+        subst (λ y. IsOpen y (get_or gs i e)) (sym here) (subst (IsOpen (get_or items i x)) (sym (still e))
+        (zip_at IsOpen items fs i x e are below))
 
-    module _ {next : View} (g e : Found) (result : Result (Unit {0}) Refusal)
-        (d : Reads now next s (λ c. AddsItem c s.arena place x.asked (get_or gs k e) g) result) where
-      to : take k items ++ x ∷ [] ≡ take (k + 1) items
-      to = ap (λ y. take k items ++ y ∷ []) here ∙ sym (take_more items k x below)
+    module _ {next : View} {m : List Seen} (g e : Found) (result : Result (Unit {0}) Refusal)
+        (d : Sees now next s (AddsItem place l x.asked (get_or gs i e) g m) result) where
+      to : take i items ++ x ∷ [] ≡ take (i + 1) items
+      to = ap (λ y. take i items ++ y ∷ []) here ∙ sym (take_more items i x below)
 
       -- One item more is added, as far as reading comes.
-      more : Reads old next s (λ c. AddsItems c s.arena place (take (k + 1) items) fs (slice_set gs k g)) result
+      more : Sees old next s (AddsItems place k (take (i + 1) items) fs (slice_set gs i g) m) result
       more =
-          subst (λ (ys : List Item). Reads old next s (λ c. AddsItems c s.arena place ys fs (slice_set gs k g)) result) to
-          (reads_on (λ c. AddsItem c s.arena place x.asked (get_or gs k e) g)
-          (λ c. AddsItems c s.arena place (take k items ++ x ∷ []) fs (slice_set gs k g)) result a.did d (λ h. record {
-            found = a.did.does.1.found ++ h.found ∷ [];
-            finds = in_order_on (take k items) (x ∷ []) (Ok tt) result a.did.own d.own a.did.does.1.found (h.found ∷ []) a.did.does.1.finds refl
-                (item_one old.caller s.arena place x result d.own (h.found ∷ []) h.finds);
-            added = ap (λ xs. slice_set xs k g) a.did.does.1.added
-                ∙ joined-more fs a.did.does.1.found k g h.found e many (omega (arith, below, AllZip-long IsOpen items fs are))
+          let before = a.did.does.does in
+          subst (λ (ys : List Item). Sees old next s (AddsItems place k ys fs (slice_set gs i g) m) result) to
+          (sees_on (AddsItem place l x.asked (get_or gs i e) g m) (AddsItems place k (take i items ++ x ∷ []) fs (slice_set gs i g) m) result a.did d (λ h.
+          record {
+            found = before.found ++ h.found ∷ [];
+            finds = in_turn_on (take i items) (x ∷ []) (Ok tt) result a.did.does.seen d.does.seen before.found (h.found ∷ []) before.finds refl
+                (item_one place l m x result d.does.seen (h.found ∷ []) h.finds);
+            added = ap (λ xs. slice_set xs i g) before.added
+                ∙ joined-more fs before.found i g h.found e many (omega (arith, below, AllZip-long IsOpen items fs are))
                 (h.added ∙ ap (λ y. both y h.found) (still e));
           }))
 
       -- It is.
-      pub item_more : result ≡ Ok tt → AreItemsAdded old next s place items fs (slice_set gs k g) (k + 1)
-      item_more is = record { did = subst (Reads old next s (λ c. AddsItems c s.arena place (take (k + 1) items) fs (slice_set gs k g))) is more }
+      pub item_more : result ≡ Ok tt → AreItemsAdded old next s place k m items fs (slice_set gs i g) (i + 1)
+      item_more is = record { did = subst (Sees old next s (AddsItems place k (take (i + 1) items) fs (slice_set gs i g) m)) is more }
 
       -- Or it stops.
-      pub item_refused : result ≢ Ok tt → Reads old next s (λ c. AddsItems c s.arena place items fs (slice_set gs k g)) result
+      pub item_refused : result ≢ Ok tt → Sees old next s (AddsItems place k items fs (slice_set gs i g) m) result
       item_refused apart =
-          let m = more in
-          subst (λ (ys : List Item). Reads old next s (λ c. AddsItems c s.arena place ys fs (slice_set gs k g)) result) (take-append-drop (k + 1) items)
-          (record {
-            own = m.own;
-            does = (
-              m.does.0,
-              record {
-                found = m.does.1.found;
-                finds = in_order_cut (take (k + 1) items) (drop (k + 1) items) result m.own m.does.1.found m.does.1.finds apart;
-                added = m.does.1.added;
-              },
-            );
-            makes = m.makes;
-          })
+          subst (λ (ys : List Item). Sees old next s (AddsItems place k ys fs (slice_set gs i g) m) result) (take-append-drop (i + 1) items)
+          (sees_as (AddsItems place k (take (i + 1) items) fs (slice_set gs i g) m)
+          (AddsItems place k (take (i + 1) items ++ drop (i + 1) items) fs (slice_set gs i g) m) result more (λ h. record {
+            found = h.found;
+            finds = in_turn_cut (take (i + 1) items) (drop (i + 1) items) result more.does.seen h.found h.finds apart;
+            added = h.added;
+          }))
 
 -- None is left.
-pub items_all : {old now : View} {s : Region} {place : ℕ} {items : List Item} {fs gs : List Found} {k : ℕ} → AreItemsAdded old now s place items fs gs k
-    → length items ≤ k → Reads old now s (λ c. AddsItems c s.arena place items fs gs) (Ok (tt {0}))
-items_all {old} {now} {s} {place} {items} {fs} {gs} {k} a past =
-    subst (λ (ys : List Item). Reads old now s (λ c. AddsItems c s.arena place ys fs gs) (Ok (tt {0}))) (take_all k items past) a.did
+pub items_all : {old now : View} {s : Region} {place : ℕ} {k l : List Seen} {items : List Item} {fs gs : List Found} {i : ℕ}
+    → AreItemsAdded old now s place k l items fs gs i → length items ≤ i → Sees old now s (AddsItems place k items fs gs l) (Ok (tt {0}))
+items_all {old} {now} {s} {place} {k} {l} {items} {fs} {gs} {i} a past =
+    subst (λ (ys : List Item). Sees old now s (AddsItems place k ys fs gs l) (Ok (tt {0}))) (take_all i items past) a.did

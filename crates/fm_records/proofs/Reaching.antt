@@ -20,7 +20,8 @@ use Rattle.fm_records.specs.Reads.{LiesIn, value_places}
 use Rattle.fm_records.specs.Values.{index_lists}
 use Rattle.fm_lists.proofs.Mapped.{flat_map-same}
 use Rattle.fm_records.proofs.Adding.{AreAdded, added_more, added_room, added_stops, places_by_first}
-use Rattle.fm_records.proofs.Visiting.{can_still}
+use Rattle.fm_records.specs.Words.{Seen, kept_last}
+use Rattle.fm_records.proofs.Seeing.{sees_still}
 
 -- indices behind a path's first open step
 pub some_behind : (d : Dim) (ds : List Dim) → HasIndices (d ∷ ds) → HasIndices ds
@@ -31,15 +32,15 @@ some_behind d ds h = by h.0 h.1
     by (i ∷ is) a = (is, a.1)
 
 -- the next turn of a loop over that step: what it may do, and what it did
-module _ {old now : View} {s : Region} {place at : ℕ} {d : Dim} {ds : List Dim} {spec : ValueSpec} {f g : Found} {i : ℕ}
-    (can : CanAddAll old s place at (d ∷ ds) spec f) (a : AreAdded old now s place at d ds spec f g i) (below : i < d.bound) where
+module _ {old now : View} {s : Region} {place at : ℕ} {d : Dim} {ds : List Dim} {spec : ValueSpec} {k l : List Seen} {f g : Found} {i : ℕ}
+    (can : CanAddAll old s place at (d ∷ ds) spec f) (a : AreAdded old now s place at d ds spec k l f g i) (below : i < d.bound) where
   pub turn_inside : IsInside at d.stride i
   turn_inside = let some = some_behind d ds can.some in (can.inside.steady (i ∷ some.0) (below, some.1)).0
 
   module _ {next : ℕ} (comes : next ≡ reach at d.stride i) where
     pub turn_can : CanAddAll now s place next ds spec g
     turn_can = subst (λ (n : ℕ). CanAddAll now s place n ds spec g) (sym comes) (record {
-      can = can_still can.can a.did;
+      can = sees_still can.can a.did;
       some = some_behind d ds can.some;
       inside = record {
         steady = λ is h. (can.inside.steady (i ∷ is) (below, h)).1;
@@ -48,13 +49,13 @@ module _ {old now : View} {s : Region} {place at : ℕ} {d : Dim} {ds : List Dim
       room = added_room a below can.room;
     })
 
-    pub turn_added : {new : View} (h : Found) (u : Unit {0}) → AddsAll now new s place next ds spec g h (Ok u)
-        → AreAdded old new s place at d ds spec f h (i + 1)
-    turn_added {new} h u e = added_more a u (subst (λ (n : ℕ). AddsAll now new s place n ds spec g h (Ok u)) comes e)
+    pub turn_added : {new : View} {m : List Seen} (h : Found) (u : Unit {0}) → AddsAll kept_last now new s place next ds spec l m g h (Ok u)
+        → AreAdded old new s place at d ds spec k m f h (i + 1)
+    turn_added {new} {m} h u e = added_more a u (subst (λ (n : ℕ). AddsAll kept_last now new s place n ds spec l m g h (Ok u)) comes e)
 
-    pub turn_stops : {new : View} (h : Found) (r : Refusal) → AddsAll now new s place next ds spec g h (Err r)
-        → AddsAll old new s place at (d ∷ ds) spec f h (Err r)
-    turn_stops {new} h r e = added_stops a h r below (subst (λ (n : ℕ). AddsAll now new s place n ds spec g h (Err r)) comes e)
+    pub turn_stops : {new : View} {m : List Seen} (h : Found) (r : Refusal) → AddsAll kept_last now new s place next ds spec l m g h (Err r)
+        → AddsAll kept_last old new s place at (d ∷ ds) spec k m f h (Err r)
+    turn_stops {new} {m} h r e = added_stops a h r below (subst (λ (n : ℕ). AddsAll kept_last now new s place n ds spec l m g h (Err r)) comes e)
 
 -- with no open step
 pub closed_lies : {v : View} {s : Region} {place at : ℕ} {spec : ValueSpec} {f : Found} → CanAddAll v s place at [] spec f

@@ -6,7 +6,6 @@ use Rattle.fm_base.specs.declared.arena_id.ArenaId.{ArenaId}
 use Rattle.fm_base.specs.declared.refusal.Refusal.{Refusal}
 use Rattle.fm_base.specs.declared.refusal.Refusal.TheVariants.{Closed, Memory}
 use Rattle.fm_base.specs.Arenas.{MayUse}
-use Rattle.fm_base.specs.Calls.{Entry}
 use Rattle.fm_base.specs.View.{View, Did}
 use Rattle.fm_base.proofs.Making.{Makes-none}
 use Rattle.fm_segment.specs.Region.{EndsByLimit, Region}
@@ -19,60 +18,68 @@ use Rattle.fm_records.specs.Few.{AreFew, HaveRoom}
 use Rattle.fm_records.specs.Adds.{AddsItems, AddsRecords, all_added}
 use Rattle.fm_records.specs.Joined.{joined}
 use Rattle.fm_records.specs.Query.{DoesQuery, ReadsSegment}
-use Rattle.fm_records.specs.Reads.{AreReadsUpTo, FindsItems, LiesIn, Reads, ReadsRecord, chosen, passed_over, untested, record_places, TestsConditions}
+use Rattle.fm_records.specs.Reads.{AreReadsUpTo, FindsItems, FindsRecord, LiesIn, Reads, ReadsRecord, Sees, chosen, passed_over, untested, record_places, TestsConditions}
+use Rattle.fm_records.specs.Words.{Seen}
 use Rattle.fm_records.specs.Records.{pieces}
 use Rattle.fm_records.proofs.Behind.{length-record_places, places_split}
 use Rattle.fm_records.proofs.Few.{records_few}
 use Rattle.fm_records.proofs.Ordered.{adds_one, added_cut, added_none, added_on}
-use Rattle.fm_records.proofs.Visiting.{AreReads-none, reads_on}
+use Rattle.fm_records.proofs.Seeing.{seen_reads, sees_err, sees_ok, sees_on}
+use Rattle.fm_records.proofs.Visiting.{AreReads-none}
 
 -- ---- one record
 
-abbrev Tested : Region → ℕ → List Condition → View → View → Result Bool Refusal → Type 0
-Tested s place cs old now result = Reads old now s (λ c. TestsConditions c s.arena place cs) result
+abbrev Tested : Region → ℕ → List Condition → List Seen → View → View → Result Bool Refusal → List Seen → Type 0
+Tested s place cs start old now result k = Sees old now s (λ r own. TestsConditions place start cs r own k) result
 
 abbrev Recorded : Region → Plan → ℕ → View → View → List Found → List Found → Result (Unit {0}) Refusal → Type 0
 Recorded s p place old new fs gs result = Reads old new s (λ c. AddsRecords c s.arena p (place ∷ []) fs gs) result
 
-module _ (s : Region) (p : Plan) (place : ℕ) {cs : List Condition} (conditions : cs ≡ p.conditions) where
-  all_test : (c : Caller) (result end : Result Bool Refusal) (own : List Entry) → result ≡ end → TestsConditions c s.arena place cs result own
-      → TestsConditions c s.arena place p.conditions end own
-  all_test c result end own e h =
-      subst (λ (ys : List Condition). TestsConditions c s.arena place ys end own) conditions
-      (subst (λ (r : Result Bool Refusal). TestsConditions c s.arena place cs r own) e h)
+module _ (s : Region) (p : Plan) (place : ℕ) {cs : List Condition} (conditions : cs ≡ p.conditions) {start : List Seen} (none : start ≡ []) where
+  all_test : (result end : Result Bool Refusal) (own k : List Seen) → result ≡ end → TestsConditions place start cs result own k
+      → TestsConditions place [] p.conditions end own k
+  all_test result end own k e h =
+      subst (λ (xs : List Seen). TestsConditions place xs p.conditions end own k) none
+      (subst (λ (ys : List Condition). TestsConditions place start ys end own k) conditions
+      (subst (λ (r : Result Bool Refusal). TestsConditions place start cs r own k) e h))
+
+  -- what the words of a record came to was added
+  recorded : {old now : View} (fs gs : List Found) (result : Result (Unit {0}) Refusal) (given : List (List Found)) → gs ≡ all_added joined fs given
+      → Sees old now s (λ r own. FindsRecord p place r own given) result → Recorded s p place old now fs gs result
+  recorded {old} {now} fs gs result given added d = record {
+    own = d.own;
+    does = (
+      seen_reads result d.does,
+      adds_one (ReadsRecord old.caller s.arena p) joined place fs gs result d.own given
+          (record { seen = d.does.seen; visits = d.does.visits; finds = d.does.does }) added,
+    );
+    makes = d.makes;
+  }
 
   -- one that isn't chosen
-  pub record_passed : {old now : View} {b : Bool} (fs : List Found) → b ≡ false → Tested s place cs old now (Ok b) → Recorded s p place old now fs fs (Ok tt)
-  record_passed {old} {now} {b} fs is d = record {
-    own = d.own;
-    does = (
-      d.does.0,
-      adds_one (ReadsRecord old.caller s.arena p) joined place fs fs (Ok tt) d.own []
-          (passed_over d.own (all_test old.caller (Ok b) (Ok false) d.own (ap Ok is) d.does.1)) refl,
-    );
-    makes = d.makes;
-  }
+  pub record_passed : {old now : View} {b : Bool} {k : List Seen} (fs : List Found) → b ≡ false → Tested s place cs start old now (Ok b) k
+      → Recorded s p place old now fs fs (Ok tt)
+  record_passed {old} {now} {b} {k} fs is d =
+      recorded fs fs (Ok tt) [] refl (sees_ok (λ r own. TestsConditions place start cs r own k) (λ r own. FindsRecord p place r own []) b tt d (λ h.
+      passed_over k d.does.seen (all_test (Ok b) (Ok false) d.does.seen k (ap Ok is) h)))
 
   -- one whose conditions came to no end
-  pub record_stopped : {old now : View} (fs : List Found) (r : Refusal) → Tested s place cs old now (Err r) → Recorded s p place old now fs fs (Err r)
-  record_stopped {old} {now} fs r d = record {
-    own = d.own;
-    does = (
-      d.does.0,
-      adds_one (ReadsRecord old.caller s.arena p) joined place fs fs (Err r) d.own []
-          (untested d.own (all_test old.caller (Err r) (Err r) d.own refl d.does.1)) refl,
-    );
-    makes = d.makes;
-  }
+  pub record_stopped : {old now : View} {k : List Seen} (fs : List Found) (r : Refusal) → Tested s place cs start old now (Err r) k
+      → Recorded s p place old now fs fs (Err r)
+  record_stopped {old} {now} {k} fs r d =
+      recorded fs fs (Err r) [] refl (sees_err (λ e own. TestsConditions place start cs e own k) (λ e own. FindsRecord p place e own []) r d (λ h.
+      untested k d.does.seen (all_test (Err r) (Err r) d.does.seen k refl h)))
 
   -- one that is chosen: its items are read, up to a refusal
-  pub record_chosen : {b : Bool} {old now new : View} {items : List Item} (fs gs : List Found) (result : Result (Unit {0}) Refusal) → items ≡ p.items → b ≡ true
-      → Tested s place cs old now (Ok b) → Reads now new s (λ c. AddsItems c s.arena place items fs gs) result → Recorded s p place old new fs gs result
-  record_chosen {b} {old} {now} {new} {items} fs gs result same is t d =
-      reads_on (λ c. AddsItems c s.arena place items fs gs) (λ c. AddsRecords c s.arena p (place ∷ []) fs gs) result t d (λ a.
-      adds_one (ReadsRecord old.caller s.arena p) joined place fs gs result (t.own ++ d.own) (a.found ∷ [])
-      (chosen t.own d.own a.found (all_test old.caller (Ok b) (Ok true) t.own (ap Ok is) t.does.1)
-      (subst (λ (ys : List Item). FindsItems old.caller s.arena place ys result d.own a.found) same a.finds)) a.added)
+  pub record_chosen : {b : Bool} {k l : List Seen} {old now new : View} {items : List Item} (fs gs : List Found) (result : Result (Unit {0}) Refusal)
+      → items ≡ p.items → b ≡ true → Tested s place cs start old now (Ok b) k → Sees now new s (AddsItems place k items fs gs l) result
+      → Recorded s p place old new fs gs result
+  record_chosen {b} {k} {l} {old} {now} {new} {items} fs gs result same is t d =
+      let a = d.does.does in
+      recorded fs gs result (a.found ∷ []) a.added
+      (sees_on (AddsItems place k items fs gs l) (λ r own. FindsRecord p place r own (a.found ∷ [])) result t d (λ h.
+      chosen k l t.does.seen d.does.seen a.found (all_test (Ok b) (Ok true) t.does.seen k (ap Ok is) t.does.does)
+      (subst (λ (ys : List Item). FindsItems place k ys result d.does.seen a.found l) same a.finds)))
 
 -- ---- records in order
 

@@ -20,7 +20,8 @@ use Rattle.fm_records.specs.declared.found.Found.{Found}
 use Rattle.fm_records.specs.declared.found.Found.TheVariants.{Count, Sum, Least, Greatest, Listed}
 use Rattle.fm_records.specs.Answers.{lesser, greater}
 use Rattle.fm_records.specs.Joined.{both, joined}
-use Rattle.fm_records.specs.Reads.{FindsAsked, FindsItems, InOrder, LiesIn, ReadsRecord, TakesNumber}
+use Rattle.fm_records.specs.Reads.{FindsAsked, FindsItems, InOrder, InTurn, LiesIn, ReadsRecord, TakesNumber}
+use Rattle.fm_records.specs.Words.{Seen}
 
 -- the condition's one value stands in the segment, where its record begins at the place
 pub record IsTestable (s : Region) (place : ℕ) (x : Condition) : Type 0 where
@@ -62,21 +63,29 @@ with_number (Least o) z = Least (lesser o (Some z))
 with_number (Greatest o) z = Greatest (greater o (Some z))
 with_number (Listed zs) z = Listed (zs ++ z ∷ [])
 
+-- the same of elements that read words in turn
+pub record AddsTurn {A B S : Type 0} (T : List Seen → A → Result (Unit {0}) Refusal → List Seen → List B → List Seen → Type 0) (add : S → B → S) (k : List Seen)
+    (xs : List A) (old new : S) (l : List Seen) (result : Result (Unit {0}) Refusal) (own : List Seen) : Type 0 where
+  pub given : List B
+  pub reads : InTurn (Ok tt) T k xs result own given l
+  pub added : new ≡ all_added add old given
+
 -- the values at these places
-abbrev pub AddsNumbers : Caller → ArenaId → ValueSpec → List ℕ → Found → Found → Result (Unit {0}) Refusal → List Entry → Type 0
-AddsNumbers c id spec = Adds (TakesNumber c id spec) with_number
+abbrev pub AddsNumbers : (List Seen → Seen → List Seen) → ValueSpec → List Seen → List ℕ → Found → Found → List Seen → Result (Unit {0}) Refusal → List Seen
+    → Type 0
+AddsNumbers keeps spec = AddsTurn (TakesNumber keeps spec) with_number
 
 -- what an item finds in a record
-pub record AddsItem (c : Caller) (id : ArenaId) (place : ℕ) (a : Asked) (old new : Found) (result : Result (Unit {0}) Refusal) (own : List Entry) : Type 0 where
+pub record AddsItem (place : ℕ) (k : List Seen) (a : Asked) (old new : Found) (l : List Seen) (result : Result (Unit {0}) Refusal) (own : List Seen) : Type 0 where
   pub found : Found
-  pub finds : FindsAsked c id place a result own (found ∷ [])
+  pub finds : FindsAsked place k a result own (found ∷ []) l
   pub added : new ≡ both old found
 
 -- the same for items in order
-pub record AddsItems (c : Caller) (id : ArenaId) (place : ℕ) (items : List Item) (old new : List Found) (result : Result (Unit {0}) Refusal)
-    (own : List Entry) : Type 0 where
+pub record AddsItems (place : ℕ) (k : List Seen) (items : List Item) (old new : List Found) (l : List Seen) (result : Result (Unit {0}) Refusal)
+    (own : List Seen) : Type 0 where
   pub found : List Found
-  pub finds : FindsItems c id place items result own found
+  pub finds : FindsItems place k items result own found l
   pub added : new ≡ joined old found
 
 -- what the records at these places give

@@ -1,22 +1,26 @@
 -- What holds of every answer.
-use Rattle.std.specs.Prelude.{◌≡◌, ℕ, ◌+◌, ◌*◌, ◌%◌, ◌<◌, ◌≤◌, ◌↔◌, true, List, [], ◌++◌, length, ℤ, ◌≤ℤ◌, Some, MatchOption}
+use Rattle.std.specs.Prelude.{◌≡◌, ℕ, ◌+◌, ◌*◌, ◌%◌, ◌<◌, ◌≤◌, ◌↔◌, true, List, [], ◌++◌, length, ℤ, ◌≤ℤ◌, Some, MatchOption, Result, map}
 use Rattle.std.specs.List.{AllByRecursion, list_all, slice_get}
+use Rattle.fm_base.specs.declared.arena_id.ArenaId.{ArenaId}
 use Rattle.fm_base.specs.declared.caller.Caller.{Caller}
+use Rattle.fm_base.specs.declared.refusal.Refusal.{Refusal}
 use Rattle.fm_base.specs.Arenas.{State}
 use Rattle.fm_base.specs.Calls.{Entry}
 use Rattle.fm_lanes.specs.Kind.{width_of}
 use Rattle.fm_layout.specs.Tree.{Tree, Value}
 use Rattle.fm_path_meaning.specs.Found.{Finds}
-use Rattle.fm_lists.specs.Among.{IsAmong}
+use Rattle.fm_lists.specs.Among.{AreApart, IsAmong}
 use Rattle.fm_path_meaning.specs.Walk.{AreAdmitted, offset_at}
 use Rattle.fm_path_meaning.specs.declared.dim.Dim.{Dim}
 use Rattle.fm_path.specs.Resolution.{Resolution, IsResolved}
+use Rattle.fm_path.specs.Wide.{wide_dims}
 use Rattle.fm_path_text.specs.declared.step.PathStep.{PathStep}
 use Rattle.fm_access.specs.Alone.{bytes_of_arena}
 use Rattle.fm_segment.specs.Alone.{bytes_of_region}
 use Rattle.fm_segment.specs.Region.{Region, part_of}
-use Rattle.fm_query.specs.Plan.{Plan}
+use Rattle.fm_query.specs.Plan.{IsPlan, Plan}
 use Rattle.fm_query.specs.declared.fold.Fold.{Fold}
+use Rattle.fm_query.specs.declared.item.Asked.{Asked}
 use Rattle.fm_query.specs.declared.item.Asked.TheVariants as asked
 use Rattle.fm_query.specs.declared.item.Item.{Item}
 use Rattle.fm_records.specs.declared.found.Found.{Found}
@@ -24,7 +28,7 @@ use Rattle.fm_records.specs.Alone.{bytes_at_places}
 use Rattle.fm_records.specs.Answers.{answer, holds, least_of, greatest_of}
 use Rattle.fm_records.specs.Bytes.{HasRead, IsAnswered}
 use Rattle.fm_records.specs.Joined.{joined}
-use Rattle.fm_records.specs.Reads.{IsWordOf}
+use Rattle.fm_records.specs.Reads.{IsWordOf, ReadsRecord}
 use Rattle.fm_records.specs.Records.{records}
 use Rattle.fm_records.specs.Texts.{IsAnswerOf}
 use Rattle.fm_records.specs.Values.{index_lists, number_there, number_at}
@@ -103,3 +107,17 @@ ReadsWhatIsAsked =
     (index : ℕ) (r : Resolution) (is : List ℕ) (word : ℕ)
     → IsAnswered c p s bytes a own → IsAsked p bytes index r is
     → IsWordOf (value_in p s index r is) word → HasRead c s.arena word own
+
+-- ---- how often words are read
+
+-- the path has no open step
+abbrev pub IsFixed : Asked → Type 0
+IsFixed asked.Count = Unit {0}
+IsFixed (asked.Of f r) = wide_dims r.dims ≡ []
+
+-- where no path of a query has an open step, no word of a record is read twice
+abbrev pub ReadsWordsOnce : Type 0
+ReadsWordsOnce =
+    (c : Caller) (id : ArenaId) (p : Plan) (place : ℕ) (result : Result (Unit {0}) Refusal) (own : List Entry) (given : List (List Found))
+    → IsPlan p → AllByRecursion (λ (item : Item). IsFixed item.asked) p.items → (r : ReadsRecord c id p place result own given)
+    → AreApart (map (λ x. x.0) r.seen)

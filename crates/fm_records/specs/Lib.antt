@@ -11,7 +11,9 @@ pub mod Paths
 pub mod Query
 pub mod Reads
 pub mod Records
+pub mod Rows
 pub mod Shares
 pub mod Stored
 pub mod Texts
 pub mod Values
+pub mod Words

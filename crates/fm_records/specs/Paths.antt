@@ -9,8 +9,9 @@ use Rattle.fm_segment.specs.Region.{Region}
 use Rattle.fm_records.specs.declared.found.Found.{Found}
 use Rattle.fm_records.specs.Adds.{AddsNumbers, ReachesInside}
 use Rattle.fm_records.specs.Few.{HasRoom}
-use Rattle.fm_records.specs.Reads.{CanRead, Reads, value_places}
+use Rattle.fm_records.specs.Reads.{CanRead, Sees, value_places}
 use Rattle.fm_records.specs.Values.{index_lists}
+use Rattle.fm_records.specs.Words.{Seen}
 
 -- some indices are admitted
 abbrev pub HasIndices : List Dim → Type 0
@@ -24,5 +25,6 @@ pub record CanAddAll (v : View) (s : Region) (place at : ℕ) (dims : List Dim) 
   pub room : HasRoom found (length (index_lists dims))
 
 -- they were read and added, in the order of index lists
-abbrev pub AddsAll : View → View → Region → ℕ → ℕ → List Dim → ValueSpec → Found → Found → Result (Unit {0}) Refusal → Type 0
-AddsAll old new s place at dims spec f g result = Reads old new s (λ c. AddsNumbers c s.arena spec (value_places place at dims) f g) result
+abbrev pub AddsAll : (List Seen → Seen → List Seen) → View → View → Region → ℕ → ℕ → List Dim → ValueSpec → List Seen → List Seen → Found → Found
+    → Result (Unit {0}) Refusal → Type 0
+AddsAll keeps old new s place at dims spec k l f g result = Sees old new s (AddsNumbers keeps spec k (value_places place at dims) f g l) result

@@ -1,5 +1,5 @@
 -- What the visits of a query read of a segment, record by record, up to its end or to a value where reading stops.
-use Rattle.std.specs.Prelude.{◌≡◌, ◌≢◌, ℕ, ◌+◌, ◌*◌, ◌<◌, ◌≤◌, List, [], ◌∷◌, ◌++◌, map, Bool, true, false, ℤ, None, Result, Ok, Err}
+use Rattle.std.specs.Prelude.{◌≡◌, ◌≢◌, ℕ, ◌+◌, ◌*◌, ◌<◌, ◌≤◌, List, [], ◌∷◌, ◌++◌, map, Bool, true, false, ℤ, Option, None, Result, Ok, Err}
 use Rattle.std.proofs.Common.{zero, suc}
 use Rattle.std.specs.List.{AllByRecursion, flat_map}
 use Rattle.fm_base.specs.declared.caller.Caller.{Caller}
@@ -11,13 +11,10 @@ use Rattle.fm_base.specs.Calls.{Read, Found as Found_word, Entry}
 use Rattle.fm_base.specs.View.{View, Did}
 use Rattle.fm_base.specs.Visits.{visit, refused_visit}
 use Rattle.fm_lanes.specs.Kind.{width_of}
-use Rattle.fm_lanes.specs.declared.value.Value.{Value}
-use Rattle.fm_lanes.specs.Value.{number_of_value}
+use Rattle.fm_path.specs.Wide.{wide_dims}
 use Rattle.fm_path.specs.declared.value_spec.ValueSpec.{ValueSpec}
 use Rattle.fm_path_meaning.specs.declared.dim.Dim.{Dim}
 use Rattle.fm_path_meaning.specs.Walk.{offset_at}
-use Rattle.fm_access.specs.Ranges.{ReadsRange}
-use Rattle.fm_access.specs.Values.{ReadsValue}
 use Rattle.fm_segment.specs.Access.{IsKnown}
 use Rattle.fm_segment.specs.Region.{EndsByLimit, Region}
 use Rattle.fm_query.specs.Plan.{Plan}
@@ -29,6 +26,7 @@ use Rattle.fm_records.specs.declared.found.Found.{Found}
 use Rattle.fm_records.specs.declared.found.Found.TheVariants.{Count}
 use Rattle.fm_records.specs.Answers.{compares, folded}
 use Rattle.fm_records.specs.Values.{index_lists}
+use Rattle.fm_records.specs.Words.{IsKnownAs, Seen, if_new, kept_after, kept_all, kept_last, number_by, unkept, words_at}
 
 -- ---- visits that read
 
@@ -90,64 +88,123 @@ pub data InOrder {A B R : Type 0} (goes : R) (T : A → R → List Entry → Lis
   comes_short : {x : A} {xs : List A} {r : R} → (own : List Entry) (given : List B) → r ≢ goes → T x r own given
       → InOrder goes T (x ∷ xs) r own given
 
+-- ---- words that are read in turn
+
+-- Elements are gone through in order: T says of each what is kept before it, its result, the words that are read, what it gives, and
+-- what is kept behind it. All of them, or up to the first whose result isn't `goes`
+pub data InTurn {A B R : Type 0} (goes : R) (T : List Seen → A → R → List Seen → List B → List Seen → Type 0) : List Seen → List A → R → List Seen
+    → List B → List Seen → Type 0 where
+  no_turn : {k : List Seen} → InTurn goes T k [] goes [] [] k
+  next_turn : {k : List Seen} {x : A} {xs : List A} {r : R} {m : List Seen} → (l : List Seen) (own rest : List Seen) (given more : List B)
+      → T k x goes own given l → InTurn goes T l xs r rest more m → InTurn goes T k (x ∷ xs) r (own ++ rest) (given ++ more) m
+  short_turn : {k : List Seen} {x : A} {xs : List A} {r : R} {l : List Seen} → (own : List Seen) (given : List B) → r ≢ goes → T k x r own given l
+      → InTurn goes T k (x ∷ xs) r own given l
+
 -- ---- one record, whose first byte stands at the place
 
 -- the places of a path's values in the record at a place, in the order of index lists; `at` is the offset at index 0
 abbrev pub value_places : ℕ → ℕ → List Dim → List ℕ
 value_places place at dims = map (λ is. place + offset_at at dims is) (index_lists dims)
 
--- the visits read the value at a place, whose number this is
-pub record ReadsNumber (c : Caller) (id : ArenaId) (spec : ValueSpec) (place : ℕ) (own : List Entry) (n : ℤ) : Type 0 where
-  pub value : Value
-  pub reads : ReadsValue c spec.kind spec.order id place value own
-  pub number : n ≡ number_of_value value
+-- The words of the value at a place are read that aren't kept, the lower one first; its number is by what was found there, then or before
+pub record ReadsNumber (keeps : List Seen → Seen → List Seen) (k : List Seen) (spec : ValueSpec) (place : ℕ) (own : List Seen) (n : ℤ) (l : List Seen) : Type 0 where
+  pub words : map (λ x. x.0) own ≡ unkept k (words_at place (width_of spec.kind))
+  pub number : n ≡ number_by (k ++ own) spec place
+  pub kept : l ≡ kept_after keeps k own
 
--- or they find the arena closed
-abbrev pub FindsClosed : Caller → ArenaId → ValueSpec → ℕ → List Entry → Type 0
-FindsClosed c id spec place own = ReadsRange c id place (place + width_of spec.kind) own None
+-- or the arena was found closed at one of these words
+pub record FindsClosed (k : List Seen) (spec : ValueSpec) (place : ℕ) (own : List Seen) : Type 0 where
+  pub word : ℕ
+  pub behind : List ℕ
+  pub words : map (λ x. x.0) own ++ word ∷ behind ≡ unkept k (words_at place (width_of spec.kind))
 
-abbrev pub GetsNumber : Caller → ArenaId → ValueSpec → ℕ → Result ℤ Refusal → List Entry → Type 0
-GetsNumber c id spec place (Ok n) own = ReadsNumber c id spec place own n
-GetsNumber c id spec place (Err Closed) own = FindsClosed c id spec place own
-GetsNumber c id spec place (Err r) own = ⊥
+module _ (keeps : List Seen → Seen → List Seen) where
+  abbrev pub GetsNumber : List Seen → ValueSpec → ℕ → Result ℤ Refusal → List Seen → List Seen → Type 0
+  GetsNumber k spec place (Ok n) own l = ReadsNumber keeps k spec place own n l
+  GetsNumber k spec place (Err Closed) own l = FindsClosed k spec place own
+  GetsNumber k spec place (Err r) own l = ⊥
 
--- the number is read and given; at `Memory` it was read, and couldn't be listed
-abbrev pub TakesNumber : Caller → ArenaId → ValueSpec → ℕ → Result (Unit {0}) Refusal → List Entry → List ℤ → Type 0
-TakesNumber c id spec place (Ok u) own ns = (n : ℤ) × ReadsNumber c id spec place own n × (ns ≡ n ∷ [])
-TakesNumber c id spec place (Err Closed) own ns = FindsClosed c id spec place own × (ns ≡ [])
-TakesNumber c id spec place (Err Memory) own ns = (n : ℤ) × ReadsNumber c id spec place own n × (ns ≡ [])
-TakesNumber c id spec place (Err r) own ns = ⊥
+  -- the number is read and given; at `Memory` it was read, and couldn't be listed
+  abbrev pub TakesNumber : ValueSpec → List Seen → ℕ → Result (Unit {0}) Refusal → List Seen → List ℤ → List Seen → Type 0
+  TakesNumber spec k place (Ok u) own ns l = (n : ℤ) × ReadsNumber keeps k spec place own n l × (ns ≡ n ∷ [])
+  TakesNumber spec k place (Err Closed) own ns l = FindsClosed k spec place own × (ns ≡ [])
+  TakesNumber spec k place (Err Memory) own ns l = (n : ℤ) × ReadsNumber keeps k spec place own n l × (ns ≡ [])
+  TakesNumber spec k place (Err r) own ns l = ⊥
 
--- the values at these places, in their order
-abbrev pub TakesNumbers : Caller → ArenaId → ValueSpec → List ℕ → Result (Unit {0}) Refusal → List Entry → List ℤ → Type 0
-TakesNumbers c id spec = InOrder (Ok tt) (TakesNumber c id spec)
+  -- the values at these places, in their order
+  abbrev pub TakesNumbers : ValueSpec → List Seen → List ℕ → Result (Unit {0}) Refusal → List Seen → List ℤ → List Seen → Type 0
+  TakesNumbers spec = InTurn (Ok tt) (TakesNumber spec)
 
--- the visits read a condition's value, and it compares so
-abbrev pub Tests : Caller → ArenaId → ℕ → Condition → Result Bool Refusal → List Entry → Type 0
-Tests c id place x (Ok holds) own =
-    (n : ℤ) × ReadsNumber c id x.path.value (place + x.path.offset) own n × (compares x.operator n x.literal ≡ holds)
-Tests c id place x (Err r) own = GetsNumber c id x.path.value (place + x.path.offset) (Err r) own
+-- a condition's value is read, and it compares so
+abbrev pub Tests : ℕ → List Seen → Condition → Result Bool Refusal → List Seen → List Seen → Type 0
+Tests place k x (Ok holds) own l =
+    (n : ℤ) × ReadsNumber kept_all k x.path.value (place + x.path.offset) own n l × (compares x.operator n x.literal ≡ holds)
+Tests place k x (Err r) own l = GetsNumber kept_all k x.path.value (place + x.path.offset) (Err r) own l
 
 -- the conditions are tested in order, up to the first that fails
-abbrev pub TestsConditions : Caller → ArenaId → ℕ → List Condition → Result Bool Refusal → List Entry → Type 0
-TestsConditions c id place cs result own = InOrder {B = ℤ} (Ok true) (λ x r es none. Tests c id place x r es) cs result own []
+abbrev pub TestsConditions : ℕ → List Seen → List Condition → Result Bool Refusal → List Seen → List Seen → Type 0
+TestsConditions place k cs result own l = InTurn {B = ℤ} (Ok true) (λ j x r es none m. Tests place j x r es m) k cs result own [] l
+
+-- A path with no open step reads words that aren't kept of the record. One with open steps begins with none, and keeps none behind it
+abbrev pub TakesPath : List Dim → ValueSpec → List Seen → List ℕ → Result (Unit {0}) Refusal → List Seen → List ℤ → List Seen → Type 0
+TakesPath [] spec k places result own ns l = TakesNumbers kept_all spec k places result own ns l
+TakesPath (d ∷ ds) spec k places result own ns l = (m : List Seen) × TakesNumbers kept_last spec [] places result own ns m × (l ≡ k)
 
 -- what an item finds in a chosen record, by the numbers read; or before the value where reading stops
-abbrev pub FindsAsked : Caller → ArenaId → ℕ → Asked → Result (Unit {0}) Refusal → List Entry → List Found → Type 0
-FindsAsked c id place asked.Count result own found = (result ≡ Ok tt) × (own ≡ []) × (found ≡ Count 1 ∷ [])
-FindsAsked c id place (asked.Of f r) result own found =
-    (ns : List ℤ) × TakesNumbers c id r.value (value_places place r.offset r.dims) result own ns × (found ≡ folded f ns ∷ [])
+abbrev pub FindsAsked : ℕ → List Seen → Asked → Result (Unit {0}) Refusal → List Seen → List Found → List Seen → Type 0
+FindsAsked place k asked.Count result own found l = (result ≡ Ok tt) × (own ≡ []) × (found ≡ Count 1 ∷ []) × (l ≡ k)
+FindsAsked place k (asked.Of f r) result own found l =
+    (ns : List ℤ) × TakesPath (wide_dims r.dims) r.value k (value_places place r.offset r.dims) result own ns l × (found ≡ folded f ns ∷ [])
 
 -- the items are gone through in order
-abbrev pub FindsItems : Caller → ArenaId → ℕ → List Item → Result (Unit {0}) Refusal → List Entry → List Found → Type 0
-FindsItems c id place = InOrder (Ok tt) (λ item. FindsAsked c id place item.asked)
+abbrev pub FindsItems : ℕ → List Seen → List Item → Result (Unit {0}) Refusal → List Seen → List Found → List Seen → Type 0
+FindsItems place = InTurn (Ok tt) (λ k item. FindsAsked place k item.asked)
 
 -- A record is chosen, and its items find these; or it isn't, and gives nothing. At a condition's value nothing was found
-pub data ReadsRecord (c : Caller) (id : ArenaId) (p : Plan) (place : ℕ) : Result (Unit {0}) Refusal → List Entry → List (List Found) → Type 0 where
-  chosen : {result : Result (Unit {0}) Refusal} → (own rest : List Entry) (fs : List Found) → TestsConditions c id place p.conditions (Ok true) own
-      → FindsItems c id place p.items result rest fs → ReadsRecord c id p place result (own ++ rest) (fs ∷ [])
-  passed_over : (own : List Entry) → TestsConditions c id place p.conditions (Ok false) own → ReadsRecord c id p place (Ok tt) own []
-  untested : {r : Refusal} → (own : List Entry) → TestsConditions c id place p.conditions (Err r) own → ReadsRecord c id p place (Err r) own []
+pub data FindsRecord (p : Plan) (place : ℕ) : Result (Unit {0}) Refusal → List Seen → List (List Found) → Type 0 where
+  chosen : {result : Result (Unit {0}) Refusal} → (k l own rest : List Seen) (fs : List Found) → TestsConditions place [] p.conditions (Ok true) own k
+      → FindsItems place k p.items result rest fs l → FindsRecord p place result (own ++ rest) (fs ∷ [])
+  passed_over : (k own : List Seen) → TestsConditions place [] p.conditions (Ok false) own k → FindsRecord p place (Ok tt) own []
+  untested : {r : Refusal} → (k own : List Seen) → TestsConditions place [] p.conditions (Err r) own k → FindsRecord p place (Err r) own []
+
+-- these words are read, one after the other; the last visit finds the arena closed where the result says so
+abbrev pub visits_to : {X : Type 0} → Caller → ArenaId → Result X Refusal → List Seen → List Entry
+visits_to c id (Ok x) seen = flat_map (read_visit c id) seen
+visits_to c id (Err Closed) seen = flat_map (read_visit c id) seen ++ refused_visit c id
+visits_to c id (Err r) seen = flat_map (read_visit c id) seen
+
+-- the caller's visits read a record's words
+pub record ReadsRecord (c : Caller) (id : ArenaId) (p : Plan) (place : ℕ) (result : Result (Unit {0}) Refusal) (own : List Entry)
+    (given : List (List Found)) : Type 0 where
+  pub seen : List Seen
+  pub visits : own ≡ visits_to c id result seen
+  pub finds : FindsRecord p place result seen given
+
+-- ---- what a call does that reads words of a record
+
+-- it ends, or is refused so
+abbrev pub IsReadTo : {X : Type 0} → Result X Refusal → Type 0
+IsReadTo (Ok x) = Unit {0}
+IsReadTo (Err Closed) = Unit {0}
+IsReadTo (Err Memory) = Unit {0}
+IsReadTo (Err r) = ⊥
+
+-- the visits read words of the segment, of which P says the rest
+pub record SeesWords {X : Type 0} (c : Caller) (s : Region) (P : Result X Refusal → List Seen → Type 0) (result : Result X Refusal) (own : List Entry) : Type 0 where
+  pub seen : List Seen
+  pub within : AllByRecursion (λ x. IsWordOf s x.0) seen
+  pub visits : own ≡ visits_to c s.arena result seen
+  pub to : IsReadTo result
+  pub does : P result seen
+
+abbrev pub Sees : {X : Type 0} → View → View → Region → (Result X Refusal → List Seen → Type 0) → Result X Refusal → Type 0
+Sees old new s P result = Did old new (SeesWords old.caller s P result)
+
+-- what was found at a word: it is known, or read in one visit; or the arena is found closed
+abbrev pub Fetches : Option ℕ → ℕ → Result ℕ Refusal → List Seen → Type 0
+Fetches known word (Ok found) own = (own ≡ if_new known word found) × IsKnownAs known found
+Fetches known word (Err Closed) own = (known ≡ None) × (own ≡ [])
+Fetches known word (Err r) own = ⊥
 
 -- ---- records, one behind the other
 

@@ -1,4 +1,4 @@
-ghost use Rattle.fm_records.specs.Laws.{NumbersStandAtPlaces, ListsAdmitted, AnswersJoin, LeastIsLeast, GreatestIsGreatest, AnswersAreOfTheQuery, PlacesHaveTheBytes, AnswersOverBytes, ReadsWhatIsAsked};
+ghost use Rattle.fm_records.specs.Laws.{NumbersStandAtPlaces, ListsAdmitted, AnswersJoin, LeastIsLeast, GreatestIsGreatest, AnswersAreOfTheQuery, PlacesHaveTheBytes, AnswersOverBytes, ReadsWhatIsAsked, ReadsWordsOnce};
 ghost use Rattle.fm_records.specs.Few.{AnswersAreFew, FewCanJoin};
 ghost use Rattle.fm_records.specs.Shares.{SparedAreFound, SharesJoin, SharesAnswer, SharesRead};
 
@@ -51,6 +51,11 @@ pub fn answers_over_bytes()
 /// Such a query has read each word of each value that an item asks for in a chosen record.
 pub fn reads_what_is_asked()
     ensures { ReadsWhatIsAsked }
+{}
+
+/// Where no path of a query has an open step, no word of a record is read twice.
+pub fn reads_words_once()
+    ensures { ReadsWordsOnce }
 {}
 
 /// An answer over a segment comes from no more numbers than the segment has bytes.

@@ -10,6 +10,7 @@ mod querying;
 mod record;
 mod stored;
 mod values;
+mod words;
 mod writing;
 
 pub use answer::{Answer, of_no_records};
@@ -18,8 +19,8 @@ pub use found::Found;
 pub use laws::{
     answers_are_few, answers_are_of_the_query, answers_join, answers_over_bytes, few_can_join,
     greatest_is_greatest, least_is_least, lists_admitted, numbers_stand_at_places,
-    places_have_the_bytes, reads_what_is_asked, shares_answer, shares_join, shares_read,
-    spared_are_found,
+    places_have_the_bytes, reads_what_is_asked, reads_words_once, shares_answer, shares_join,
+    shares_read, spared_are_found,
 };
 pub use numbers::Numbers;
 pub use query::query_segment;

@@ -7,6 +7,7 @@ ghost use Rattle.fm_records.specs.Reads.{CanRead, Reads, record_places};
 use crate::answer::{Answer, of_no_records};
 use crate::found::Found;
 use crate::record::add_record;
+use crate::words::Kept;
 use fm_access::may_use;
 use fm_base::{Memory, Refusal};
 use fm_query::Query;
@@ -63,9 +64,10 @@ fn add_records<M: Memory>(
 {
     let size = q.record_size();
     let count = s.size() / size;
+    let mut kept = Kept::none();
     let mut place = s.first();
     for _ in 0..count {
-        match add_record(m, s, place, q, found) {
+        match add_record(m, s, place, q, &mut kept, found) {
             Ok(()) => {}
             Err(refusal) => return Err(refusal),
         }

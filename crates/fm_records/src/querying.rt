@@ -1,16 +1,18 @@
-ghost use Rattle.std.specs.Prelude.{◌≡◌, [], true, false};
+ghost use Rattle.std.specs.Prelude.{◌≡◌, List, [], true, false, length};
 ghost use Rattle.std.specs.List.{AllByRecursion, AllZip};
 ghost use Rattle.fm_records.specs.Answers as answers;
-ghost use Rattle.fm_records.specs.Few.{IsOpen};
-ghost use Rattle.fm_records.specs.Adds.{AddsItem, AddsItems, IsItemReadable, IsTestable};
-ghost use Rattle.fm_records.specs.Reads.{CanRead, Reads, Tests, TestsConditions};
-ghost use Rattle.fm_records.specs.Paths.{HasIndices};
+ghost use Rattle.fm_records.specs.Few.{HasRoom, IsOpen};
+ghost use Rattle.fm_records.specs.Adds.{AddsItem, AddsItems, IsItemReadable, IsTestable, ReachesInside};
+ghost use Rattle.fm_records.specs.Reads.{CanRead, Sees, Tests, TestsConditions};
+ghost use Rattle.fm_records.specs.Paths.{AddsAll, HasIndices};
 ghost use Rattle.fm_records.specs.Values.{index_lists};
+ghost use Rattle.fm_records.specs.Words.{Seen, kept_last};
 
 use crate::found::Found;
-use crate::values::{add_all, number_at};
+use crate::values::{add_all, add_value, number_at};
+use crate::words::{Kept, Last};
 use fm_base::{Memory, Refusal};
-use fm_path::Dim;
+use fm_path::{Dim, ValueSpec};
 use fm_query::{Asked, Condition, Item, Operator};
 use fm_segment::Segment;
 
@@ -23,14 +25,15 @@ pub(crate) fn chooses<M: Memory>(
     s: &Segment,
     place: u64,
     conditions: &[Condition],
+    kept: &mut Kept,
 ) -> Result<bool, Refusal>
     requires can { CanRead (M.view m.old) s.now }
     requires testable { AllByRecursion (IsTestable s.now place) conditions.now }
-    ensures { Reads (M.view m.old) (M.view m.new) s.now
-        (λ c. TestsConditions c s.now.arena place conditions.now) result }
+    ensures { Sees (M.view m.old) (M.view m.new) s.now
+        (λ r own. TestsConditions place kept.old conditions.now r own kept.new) result }
 {
     for condition in conditions {
-        match holds_at(m, s, place, condition) {
+        match holds_at(m, s, place, condition, kept) {
             Ok(true) => {}
             Ok(false) => return Ok(false),
             Err(refusal) => return Err(refusal),
@@ -45,13 +48,15 @@ fn holds_at<M: Memory>(
     s: &Segment,
     place: u64,
     condition: &Condition,
+    kept: &mut Kept,
 ) -> Result<bool, Refusal>
     requires can { CanRead (M.view m.old) s.now }
     requires testable { IsTestable s.now place condition.now }
-    ensures { Reads (M.view m.old) (M.view m.new) s.now (λ c. Tests c s.now.arena place condition.now) result }
+    ensures { Sees (M.view m.old) (M.view m.new) s.now
+        (λ r own. Tests place kept.old condition.now r own kept.new) result }
 {
     let at = place + condition.path.offset();
-    match number_at(m, s, at, *condition.path.value()) {
+    match number_at(m, s, at, *condition.path.value(), kept) {
         Ok(number) => Ok(compares(condition.operator, number, condition.literal)),
         Err(refusal) => Err(refusal),
     }
@@ -80,16 +85,17 @@ pub(crate) fn add_items<M: Memory>(
     s: &Segment,
     place: u64,
     items: &[Item],
+    kept: &mut Kept,
     found: &mut [Found],
 ) -> Result<(), Refusal>
     requires can { CanRead (M.view m.old) s.now }
     requires readable { AllByRecursion (IsItemReadable s.now place) items.now }
     requires open { AllZip IsOpen items.now found.old }
-    ensures { Reads (M.view m.old) (M.view m.new) s.now
-        (λ c. AddsItems c s.now.arena place items.now found.old found.new) result }
+    ensures { Sees (M.view m.old) (M.view m.new) s.now
+        (AddsItems place kept.old items.now found.old found.new kept.new) result }
 {
     for k in 0..items.len() {
-        match add_item(m, s, place, &items[k], &mut found[k]) {
+        match add_item(m, s, place, &items[k], kept, &mut found[k]) {
             Ok(()) => {}
             Err(refusal) => return Err(refusal),
         }
@@ -103,13 +109,14 @@ fn add_item<M: Memory>(
     s: &Segment,
     place: u64,
     item: &Item,
+    kept: &mut Kept,
     found: &mut Found,
 ) -> Result<(), Refusal>
     requires can { CanRead (M.view m.old) s.now }
     requires readable { IsItemReadable s.now place item.now }
     requires open { IsOpen item.now found.old }
-    ensures { Reads (M.view m.old) (M.view m.new) s.now
-        (λ c. AddsItem c s.now.arena place item.now.asked found.old found.new) result }
+    ensures { Sees (M.view m.old) (M.view m.new) s.now
+        (AddsItem place kept.old item.now.asked found.old found.new kept.new) result }
 {
     match &item.asked {
         Asked::Count => {
@@ -118,12 +125,37 @@ fn add_item<M: Memory>(
         }
         Asked::Of(_, path) => {
             let dims = path.dims().wide();
-            if has_no_values(dims) {
-                return Ok(());
+            if dims.is_empty() {
+                return add_value(m, s, place, path.offset(), *path.value(), kept, found);
             }
-            add_all(m, s, place, path.offset(), dims, *path.value(), found)
+            add_open(m, s, place, path.offset(), dims, *path.value(), found)
         }
     }
+}
+
+/// Adds the values of a path in the record at a place, which may be none. It keeps its own last two words in place of the
+/// record's. It isn't inlined, so that a path with no open step pays nothing for it.
+#[inline(never)]
+fn add_open<M: Memory>(
+    m: &mut M,
+    s: &Segment,
+    place: u64,
+    at: u64,
+    dims: &[Dim],
+    value: ValueSpec,
+    found: &mut Found,
+) -> Result<(), Refusal>
+    requires can { CanRead (M.view m.old) s.now }
+    requires inside { ReachesInside s.now place at dims.now value }
+    requires room { HasRoom found.old (length (index_lists dims.now)) }
+    ensures { (last : List Seen) × AddsAll kept_last (M.view m.old) (M.view m.new) s.now place at dims.now value
+        [] last found.old found.new result }
+{
+    if has_no_values(dims) {
+        return Ok(());
+    }
+    let mut last = Last::None;
+    add_all(m, s, place, at, dims, value, &mut last, found)
 }
 
 /// Whether a bound is 0: then no indices are admitted.

@@ -5,6 +5,7 @@ ghost use Rattle.fm_records.specs.Reads.{CanRead, LiesIn, Reads};
 
 use crate::found::Found;
 use crate::querying::{add_items, chooses};
+use crate::words::Kept;
 use fm_base::{Memory, Refusal};
 use fm_query::Query;
 use fm_segment::Segment;
@@ -18,6 +19,7 @@ pub(crate) fn add_record<M: Memory>(
     s: &Segment,
     place: u64,
     q: &Query,
+    kept: &mut Kept,
     found: &mut [Found],
 ) -> Result<(), Refusal>
     requires can { CanRead (M.view m.old) s.now }
@@ -26,8 +28,9 @@ pub(crate) fn add_record<M: Memory>(
     ensures { Reads (M.view m.old) (M.view m.new) s.now
         (λ c. AddsRecords c s.now.arena q.now (place ∷ []) found.old found.new) result }
 {
-    match chooses(m, s, place, q.conditions()) {
-        Ok(true) => add_items(m, s, place, q.items(), found),
+    kept.clear();
+    match chooses(m, s, place, q.conditions(), kept) {
+        Ok(true) => add_items(m, s, place, q.items(), kept, found),
         Ok(false) => Ok(()),
         Err(refusal) => Err(refusal),
     }

@@ -1,49 +1,197 @@
-ghost use Rattle.std.specs.Prelude.{◌≡◌, ◌∷◌, []};
+ghost use Rattle.std.specs.Prelude.{◌≡◌, ◌∷◌, [], ◌+◌, ◌%◌, ◌<◌, ◌≤◌};
+ghost use Rattle.fm_bytes.specs.Bytes.{lane};
 ghost use Rattle.fm_lanes.specs.Kind.{width_of};
 ghost use Rattle.fm_path_meaning.specs.Steady.{IsInside};
 ghost use Rattle.fm_path_meaning.specs.Walk.{reach};
 ghost use Rattle.fm_records.specs.Paths.{CanAddAll, AddsAll};
-ghost use Rattle.fm_records.specs.Reads.{CanRead, GetsNumber, LiesIn, Reads};
+ghost use Rattle.fm_records.specs.Reads.{CanRead, GetsNumber, LiesIn, Sees};
+ghost use Rattle.fm_records.specs.Rows.{words_of};
+ghost use Rattle.fm_records.specs.Words.{across, kept_last, number_of};
 
 use crate::found::Found;
-use fm_access::get_value;
+use crate::words::{Keep, Last, fetch, learn};
 use fm_base::{Memory, Refusal};
+use fm_lanes::{ValueKind, decode, read, turned};
 use fm_path::{Dim, ValueSpec};
 use fm_segment::Segment;
 
-/// The number of the segment's value that stands at a place. Refused: `Closed`.
+/// The number of the segment's value that stands at a place, by the words that are kept and those that aren't, which are
+/// read. Refused: `Closed`. Each kind has a branch of its own, so that the width is a constant in each.
 #[inline(always)]
-pub(crate) fn number_at<M: Memory>(
+pub(crate) fn number_at<M: Memory, K: Keep>(
     m: &mut M,
     s: &Segment,
     place: u64,
     value: ValueSpec,
+    kept: &mut K,
 ) -> Result<i64, Refusal>
     requires can { CanRead (M.view m.old) s.now }
     requires lies { LiesIn s.now place (width_of value.kind) }
-    ensures { Reads (M.view m.old) (M.view m.new) s.now (λ c. GetsNumber c s.now.arena value place) result }
+    ensures { Sees (M.view m.old) (M.view m.new) s.now
+        (λ r own. GetsNumber K.keeps (K.kept kept.old) value place r own (K.kept kept.new)) result }
 {
-    match get_value(m, s.arena(), place, value.kind, value.order) {
-        Ok(value) => Ok(value.number()),
-        Err(refusal) => Err(refusal),
+    match value.kind {
+        ValueKind::Byte => number_as(m, s, place, ValueKind::Byte, value, kept),
+        ValueKind::Boolean => number_as(m, s, place, ValueKind::Boolean, value, kept),
+        ValueKind::Char => number_as(m, s, place, ValueKind::Char, value, kept),
+        ValueKind::Short => number_as(m, s, place, ValueKind::Short, value, kept),
+        ValueKind::Int => number_as(m, s, place, ValueKind::Int, value, kept),
+        ValueKind::Long => number_as(m, s, place, ValueKind::Long, value, kept),
     }
+}
+
+/// The same, for one of those branches.
+#[inline(always)]
+fn number_as<M: Memory, K: Keep>(
+    m: &mut M,
+    s: &Segment,
+    place: u64,
+    kind: ValueKind,
+    value: ValueSpec,
+    kept: &mut K,
+) -> Result<i64, Refusal>
+    requires can { CanRead (M.view m.old) s.now }
+    requires lies { LiesIn s.now place (width_of value.kind) }
+    requires kind { kind ≡ value.kind }
+    ensures { Sees (M.view m.old) (M.view m.new) s.now
+        (λ r own. GetsNumber K.keeps (K.kept kept.old) value place r own (K.kept kept.new)) result }
+{
+    if place % 8 + u64::from(kind.width()) <= 8 {
+        number_inside(m, s, place, kind, value, kept)
+    } else {
+        number_across(m, s, place, value, kept)
+    }
+}
+
+/// The same of a value in one word.
+#[inline(always)]
+fn number_inside<M: Memory, K: Keep>(
+    m: &mut M,
+    s: &Segment,
+    place: u64,
+    kind: ValueKind,
+    value: ValueSpec,
+    kept: &mut K,
+) -> Result<i64, Refusal>
+    requires can { CanRead (M.view m.old) s.now }
+    requires lies { LiesIn s.now place (width_of value.kind) }
+    requires kind { kind ≡ value.kind }
+    requires fits { place % 8 + width_of value.kind ≤ 8 }
+    ensures { Sees (M.view m.old) (M.view m.new) s.now
+        (λ r own. GetsNumber K.keeps (K.kept kept.old) value place r own (K.kept kept.new)) result }
+{
+    let word = place / 8;
+    let known = kept.find(word);
+    let found = match fetch(m, s, word, known) {
+        Ok(found) => found,
+        Err(refusal) => return Err(refusal),
+    };
+    learn(kept, word, known, found);
+    Ok(number_in(found, (place % 8) as u32, kind, value))
+}
+
+/// The same of a value in two words.
+fn number_across<M: Memory, K: Keep>(
+    m: &mut M,
+    s: &Segment,
+    place: u64,
+    value: ValueSpec,
+    kept: &mut K,
+) -> Result<i64, Refusal>
+    requires can { CanRead (M.view m.old) s.now }
+    requires lies { LiesIn s.now place (width_of value.kind) }
+    requires across { 8 < place % 8 + width_of value.kind }
+    ensures { Sees (M.view m.old) (M.view m.new) s.now
+        (λ r own. GetsNumber K.keeps (K.kept kept.old) value place r own (K.kept kept.new)) result }
+{
+    let word = place / 8;
+    let known = kept.find(word);
+    let known_above = kept.find(word + 1);
+    let low = match fetch(m, s, word, known) {
+        Ok(low) => low,
+        Err(refusal) => return Err(refusal),
+    };
+    let high = match fetch(m, s, word + 1, known_above) {
+        Ok(high) => high,
+        Err(refusal) => return Err(refusal),
+    };
+    learn(kept, word, known, low);
+    learn(kept, word + 1, known_above, high);
+    Ok(number_between(low, high, (place % 8) as u32, value))
+}
+
+/// The number of a value of this kind in a word, from byte `at` on.
+#[inline(always)]
+fn number_in(word: u64, at: u32, kind: ValueKind, value: ValueSpec) -> i64
+    requires fits { at + width_of value.kind ≤ 8 }
+    requires kind { kind ≡ value.kind }
+    ensures { result ≡ number_of value (lane word at (width_of value.kind)) }
+{
+    let number = read(word, at, kind.width());
+    decode(kind, turned(kind.width(), number, value.order)).number()
+}
+
+/// The number of a value in two words, of which the lower has its bytes from `at` on.
+fn number_between(low: u64, high: u64, at: u32, value: ValueSpec) -> i64
+    requires at { at < 8 }
+    requires across { 8 < at + width_of value.kind }
+    ensures { result ≡ number_of value (across low high at (width_of value.kind)) }
+{
+    let first = 8 - at;
+    let rest = value.kind.width() - first;
+    meant(
+        read(low, at, first) + (read(high, 0, rest) << (8 * first)),
+        value,
+    )
+}
+
+/// The number that the bytes of a value make, as the value means it.
+fn meant(number: u64, value: ValueSpec) -> i64
+    ensures { result ≡ number_of value number }
+{
+    decode(value.kind, turned(value.kind.width(), number, value.order)).number()
 }
 
 /// Adds the number of the value at an offset of the record at a place. Refused: `Closed`; `Memory` where it can't be
 /// listed. Then nothing is added.
 #[inline(always)]
-fn add_value<M: Memory>(
+pub(crate) fn add_value<M: Memory, K: Keep>(
     m: &mut M,
     s: &Segment,
     place: u64,
     at: u64,
     value: ValueSpec,
+    kept: &mut K,
     found: &mut Found,
 ) -> Result<(), Refusal>
     requires { CanAddAll (M.view m.old) s.now place at [] value found.old }
-    ensures { AddsAll (M.view m.old) (M.view m.new) s.now place at [] value found.old found.new result }
+    ensures { AddsAll K.keeps (M.view m.old) (M.view m.new) s.now place at [] value (K.kept kept.old) (K.kept kept.new)
+        found.old found.new result }
 {
-    match number_at(m, s, place + at, value) {
+    match number_at(m, s, place + at, value, kept) {
+        Ok(number) => found.add_number(number),
+        Err(refusal) => Err(refusal),
+    }
+}
+
+/// The same, of a value of this kind.
+#[inline(always)]
+fn add_value_as<M: Memory>(
+    m: &mut M,
+    s: &Segment,
+    place: u64,
+    at: u64,
+    kind: ValueKind,
+    value: ValueSpec,
+    last: &mut Last,
+    found: &mut Found,
+) -> Result<(), Refusal>
+    requires can { CanAddAll (M.view m.old) s.now place at [] value found.old }
+    requires kind { kind ≡ value.kind }
+    ensures { AddsAll kept_last (M.view m.old) (M.view m.new) s.now place at [] value
+        (words_of last.old) (words_of last.new) found.old found.new result }
+{
+    match number_as(m, s, place + at, kind, value, last) {
         Ok(number) => found.add_number(number),
         Err(refusal) => Err(refusal),
     }
@@ -71,15 +219,17 @@ pub(crate) fn add_all<M: Memory>(
     at: u64,
     dims: &[Dim],
     value: ValueSpec,
+    last: &mut Last,
     found: &mut Found,
 ) -> Result<(), Refusal>
     requires { CanAddAll (M.view m.old) s.now place at dims.now value found.old }
-    ensures { AddsAll (M.view m.old) (M.view m.new) s.now place at dims.now value found.old found.new result }
+    ensures { AddsAll kept_last (M.view m.old) (M.view m.new) s.now place at dims.now value
+        (words_of last.old) (words_of last.new) found.old found.new result }
 {
     match dims {
-        [] => add_value(m, s, place, at, value, found),
-        [dim] => add_row(m, s, place, at, *dim, value, found),
-        [dim, rest @ ..] => add_rows(m, s, place, at, *dim, rest, value, found),
+        [] => add_value(m, s, place, at, value, last, found),
+        [dim] => add_row(m, s, place, at, *dim, value, last, found),
+        [dim, rest @ ..] => add_rows(m, s, place, at, *dim, rest, value, last, found),
     }
 }
 
@@ -93,14 +243,15 @@ fn add_rows<M: Memory>(
     dim: Dim,
     rest: &[Dim],
     value: ValueSpec,
+    last: &mut Last,
     found: &mut Found,
 ) -> Result<(), Refusal>
     requires { CanAddAll (M.view m.old) s.now place at (dim ∷ rest.now) value found.old }
-    ensures { AddsAll (M.view m.old) (M.view m.new) s.now place at (dim ∷ rest.now) value
-        found.old found.new result }
+    ensures { AddsAll kept_last (M.view m.old) (M.view m.new) s.now place at (dim ∷ rest.now) value
+        (words_of last.old) (words_of last.new) found.old found.new result }
 {
     for i in 0..dim.bound {
-        match add_all(m, s, place, reach_of(at, dim, i), rest, value, found) {
+        match add_all(m, s, place, reach_of(at, dim, i), rest, value, last, found) {
             Ok(()) => {}
             Err(refusal) => return Err(refusal),
         }
@@ -108,8 +259,7 @@ fn add_rows<M: Memory>(
     Ok(())
 }
 
-/// The same for one dim: the values side by side, with no call for a value or a row. With a loop for each kind of value, or
-/// of what is found, it would be too large to be inlined, and each value would take longer.
+/// The same for one dim: the values side by side, with no call for a value or a row, and a loop for each kind of value.
 #[inline(always)]
 fn add_row<M: Memory>(
     m: &mut M,
@@ -118,13 +268,53 @@ fn add_row<M: Memory>(
     at: u64,
     dim: Dim,
     value: ValueSpec,
+    last: &mut Last,
     found: &mut Found,
 ) -> Result<(), Refusal>
     requires { CanAddAll (M.view m.old) s.now place at (dim ∷ []) value found.old }
-    ensures { AddsAll (M.view m.old) (M.view m.new) s.now place at (dim ∷ []) value found.old found.new result }
+    ensures { AddsAll kept_last (M.view m.old) (M.view m.new) s.now place at (dim ∷ []) value
+        (words_of last.old) (words_of last.new) found.old found.new result }
+{
+    match value.kind {
+        ValueKind::Byte => add_row_as(m, s, place, at, dim, ValueKind::Byte, value, last, found),
+        ValueKind::Boolean => add_row_as(
+            m,
+            s,
+            place,
+            at,
+            dim,
+            ValueKind::Boolean,
+            value,
+            last,
+            found,
+        ),
+        ValueKind::Char => add_row_as(m, s, place, at, dim, ValueKind::Char, value, last, found),
+        ValueKind::Short => add_row_as(m, s, place, at, dim, ValueKind::Short, value, last, found),
+        ValueKind::Int => add_row_as(m, s, place, at, dim, ValueKind::Int, value, last, found),
+        ValueKind::Long => add_row_as(m, s, place, at, dim, ValueKind::Long, value, last, found),
+    }
+}
+
+/// The loop for one kind.
+#[inline(always)]
+fn add_row_as<M: Memory>(
+    m: &mut M,
+    s: &Segment,
+    place: u64,
+    at: u64,
+    dim: Dim,
+    kind: ValueKind,
+    value: ValueSpec,
+    last: &mut Last,
+    found: &mut Found,
+) -> Result<(), Refusal>
+    requires can { CanAddAll (M.view m.old) s.now place at (dim ∷ []) value found.old }
+    requires kind { kind ≡ value.kind }
+    ensures { AddsAll kept_last (M.view m.old) (M.view m.new) s.now place at (dim ∷ []) value
+        (words_of last.old) (words_of last.new) found.old found.new result }
 {
     for i in 0..dim.bound {
-        match add_value(m, s, place, reach_of(at, dim, i), value, found) {
+        match add_value_as(m, s, place, reach_of(at, dim, i), kind, value, last, found) {
             Ok(()) => {}
             Err(refusal) => return Err(refusal),
         }

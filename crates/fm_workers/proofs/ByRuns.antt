@@ -12,7 +12,9 @@ use Rattle.fm_base.specs.Calls.{Entry}
 use Rattle.fm_base.specs.View.{Did, Makes, View}
 use Rattle.fm_base.proofs.Making.{Makes-none, Makes-then}
 use Rattle.fm_base.proofs.Outcomes.{Makes-lasts}
+use Rattle.fm_path.specs.Wide.{wide_dims}
 use Rattle.fm_path.specs.declared.value_spec.ValueSpec.{ValueSpec}
+use Rattle.fm_path_meaning.specs.declared.dim.Dim.{Dim}
 use Rattle.fm_path_meaning.specs.Walk.{offset_at}
 use Rattle.fm_segment.specs.Region.{Region}
 use Rattle.fm_segment.proofs.Access.{known_still}
@@ -30,7 +32,8 @@ use Rattle.fm_records.specs.Few.{how_many}
 use Rattle.fm_records.specs.Joined.{joined}
 use Rattle.fm_records.specs.Learnt.{CanQuery, Queried}
 use Rattle.fm_records.specs.Query.{DoesQuery}
-use Rattle.fm_records.specs.Reads.{all_done, AreReads, chosen, comes_short, FindsAsked, FindsItems, InOrder, one_more, passed_over, ReadsRecord, record_places, TakesNumbers, untested, value_places}
+use Rattle.fm_records.specs.Reads.{all_done, AreReads, chosen, comes_short, FindsAsked, FindsItems, FindsRecord, InOrder, next_turn, no_turn, one_more, passed_over, ReadsRecord, record_places, short_turn, TakesNumbers, TakesPath, untested, value_places}
+use Rattle.fm_records.specs.Words.{Seen, kept_all, kept_last}
 use Rattle.fm_records.specs.Values.{index_lists}
 use Rattle.fm_records.proofs.Behind.{length-record_places, places_split}
 use Rattle.fm_records.proofs.Ordered.{adds_on, all_added-append}
@@ -49,29 +52,34 @@ record Lists (most : ℕ) (fs : List Found) : Type 0 where
   is : fs ≡ Listed numbers ∷ []
   few : length numbers ≤ most
 
-as_many : {c : Caller} {id : ArenaId} (spec : ValueSpec) (places : List ℕ) (result : Result (Unit {0}) Refusal) (own : List Entry) (ns : List ℤ)
-    → TakesNumbers c id spec places result own ns → result ≡ Ok tt → length ns ≡ length places
-as_many spec places result own ns all_done e = refl
-as_many spec places result own ns (one_more {xs = left} first rest given more h others) e =
-    ap (λ gs. length (gs ++ more)) h.2 ∙ ap suc (as_many spec left result rest more others e)
-as_many spec places result own ns (comes_short first given apart h) e = absurd (apart e)
+as_many : (keeps : List Seen → Seen → List Seen) (spec : ValueSpec) (k l : List Seen) (places : List ℕ) (result : Result (Unit {0}) Refusal) (own : List Seen)
+    (ns : List ℤ) → TakesNumbers keeps spec k places result own ns l → result ≡ Ok tt → length ns ≡ length places
+as_many keeps spec k l places result own ns no_turn e = refl
+as_many keeps spec k l places result own ns (next_turn {xs = left} j first rest given more h others) e =
+    ap (λ gs. length (gs ++ more)) h.2 ∙ ap suc (as_many keeps spec j l left result rest more others e)
+as_many keeps spec k l places result own ns (short_turn first given apart h) e = absurd (apart e)
 
-asked_lists : (c : Caller) (id : ArenaId) (place most : ℕ) (a : Asked) (own : List Entry) (fs : List Found) → ListsBytes a → how_many a ≤ most
-    → FindsAsked c id place a (Ok tt) own fs → Lists most fs
-asked_lists c id place most (asked.Of fold.All r) own fs lists few h =
+as_many_of : (ds : List Dim) (spec : ValueSpec) (k l : List Seen) (places : List ℕ) (own : List Seen) (ns : List ℤ) → TakesPath ds spec k places (Ok tt) own ns l
+    → length ns ≡ length places
+as_many_of [] spec k l places own ns t = as_many kept_all spec k l places (Ok tt) own ns t refl
+as_many_of (d ∷ ds) spec k l places own ns t = as_many kept_last spec [] t.0 places (Ok tt) own ns t.1 refl
+
+asked_lists : (place most : ℕ) (k l : List Seen) (a : Asked) (own : List Seen) (fs : List Found) → ListsBytes a → how_many a ≤ most
+    → FindsAsked place k a (Ok tt) own fs l → Lists most fs
+asked_lists place most k l (asked.Of fold.All r) own fs lists few h =
     let at : List ℕ = value_places place r.offset r.dims in
-    let long : length h.0 ≡ length at = as_many r.value at (Ok tt) own h.0 h.1 refl in
+    let long : length h.0 ≡ length at = as_many_of (wide_dims r.dims) r.value k l at own h.0 h.1 in
     let many : length at ≡ length (index_lists r.dims) = length-map (index_lists r.dims) (λ is. place + offset_at r.offset r.dims is) in
     record { numbers = h.0; is = h.2; few = omega (arith, few, long, many) }
-asked_lists c id place most a own fs lists few h = absurd lists
+asked_lists place most k l a own fs lists few h = absurd lists
 
-items_list : (c : Caller) (id : ArenaId) (place most : ℕ) (items : List Item) (result : Result (Unit {0}) Refusal) (own : List Entry) (fs : List Found)
-    → AreTallied items → AllByRecursion (IsItemFew most) items → FindsItems c id place items result own fs → result ≡ Ok tt → Lists most fs
-items_list c id place most (item ∷ []) result own fs tally few (one_more one rest given more h all_done) e =
-    let l = asked_lists c id place most item.asked one given tally few.0 h in
-    record { numbers = l.numbers; is = ap (λ gs. gs ++ []) l.is; few = l.few }
-items_list c id place most (item ∷ []) result own fs tally few (comes_short one given apart h) e = absurd (apart e)
-items_list c id place most items result own fs tally few h e = absurd tally
+items_list : (place most : ℕ) (k l : List Seen) (items : List Item) (result : Result (Unit {0}) Refusal) (own : List Seen) (fs : List Found)
+    → AreTallied items → AllByRecursion (IsItemFew most) items → FindsItems place k items result own fs l → result ≡ Ok tt → Lists most fs
+items_list place most k l (item ∷ []) result own fs tally few (next_turn j one rest given more h no_turn) e =
+    let all = asked_lists place most k j item.asked one given tally few.0 h in
+    record { numbers = all.numbers; is = ap (λ gs. gs ++ []) all.is; few = all.few }
+items_list place most k l (item ∷ []) result own fs tally few (short_turn one given apart h) e = absurd (apart e)
+items_list place most k l items result own fs tally few h e = absurd tally
 
 -- what records add to listed numbers, whichever these are
 record AddsListed (most : ℕ) (all : List (List Found)) : Type 0 where
@@ -83,13 +91,17 @@ lists_none : (most : ℕ) → AddsListed most []
 lists_none most = record { numbers = []; few = omega arith; adds = λ xs. ap (λ ns. Listed ns ∷ []) (sym (append-nil xs)) }
 
 module _ (c : Caller) (id : ArenaId) (p : Plan) (plan : IsPlan p) (tally : IsTally p) where
+  finds_add : (place : ℕ) (result : Result (Unit {0}) Refusal) (words : List Seen) (seen : List (List Found)) → FindsRecord p place result words seen
+      → result ≡ Ok tt → AddsListed p.size seen
+  finds_add place result words seen (chosen k l one rest fs t h) e =
+      let all = items_list place p.size k l p.items result rest fs tally (plan_items_few p plan) h e in
+      record { numbers = all.numbers; few = all.few; adds = λ xs. ap (λ gs. joined (Listed xs ∷ []) gs) all.is }
+  finds_add place result words seen (passed_over k one t) e = lists_none p.size
+  finds_add place result words seen (untested k one t) e = absurd (cc)
+
   record_adds : (place : ℕ) (result : Result (Unit {0}) Refusal) (own : List Entry) (seen : List (List Found)) → ReadsRecord c id p place result own seen
       → result ≡ Ok tt → AddsListed p.size seen
-  record_adds place result own seen (chosen one rest fs t h) e =
-      let l = items_list c id place p.size p.items result rest fs tally (plan_items_few p plan) h e in
-      record { numbers = l.numbers; few = l.few; adds = λ xs. ap (λ gs. joined (Listed xs ∷ []) gs) l.is }
-  record_adds place result own seen (passed_over one t) e = lists_none p.size
-  record_adds place result own seen (untested one t) e = absurd (cc)
+  record_adds place result own seen r e = finds_add place result r.seen seen r.finds e
 
   -- ---- records, one behind the other
 

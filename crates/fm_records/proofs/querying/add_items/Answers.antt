@@ -3,17 +3,17 @@ use Rattle.std.proofs.Common.{Err, refl, sym, subst}
 use Rattle.fm_lists.proofs.Each.{all_at}
 use Rattle.fm_records.specs.Adds.{IsItemReadable}
 use Rattle.fm_records.proofs.Items.{items_start, next_within, next_open, item_more, item_refused, items_all}
-use Rattle.fm_records.proofs.Visiting.{can_still}
+use Rattle.fm_records.proofs.Seeing.{sees_still}
 use Rattle.fm_records.proofs.querying.add_items.Goals as goal
 
 pub loop-k-init : goal.loop-k-init
-loop-k-init g c = items_start (g.M.Memory.view c.args.m.now) c.args.s.now c.args.place c.args.items.now c.args.found.now
+loop-k-init g c = items_start (g.M.Memory.view c.args.m.now) c.args.s.now c.args.place c.args.kept.now c.args.items.now c.args.found.now
 
 pub bounds-found-k : goal.bounds-found-k
 bounds-found-k g c = next_within c.loop-k.invariant c.requires.open c.loop-k-test.true
 
 pub add_item-requires-clause-can : goal.add_item-requires-clause-can
-add_item-requires-clause-can g c = can_still c.requires.can c.loop-k.invariant.did
+add_item-requires-clause-can g c = sees_still c.requires.can c.loop-k.invariant.did
 
 pub add_item-requires-clause-readable : goal.add_item-requires-clause-readable
 add_item-requires-clause-readable g c =

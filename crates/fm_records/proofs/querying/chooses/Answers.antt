@@ -3,14 +3,14 @@ use Rattle.std.proofs.Common.{false, Ok, Err, refl, ap, sym, subst}
 use Rattle.fm_lists.proofs.Each.{all_at}
 use Rattle.fm_records.specs.Adds.{IsTestable}
 use Rattle.fm_records.proofs.Testing.{none_tested, test_holds, test_ends, all_tested}
-use Rattle.fm_records.proofs.Visiting.{can_still}
+use Rattle.fm_records.proofs.Seeing.{sees_still}
 use Rattle.fm_records.proofs.querying.chooses.Goals as goal
 
 pub loop-condition-init : goal.loop-condition-init
-loop-condition-init g c = none_tested (g.M.Memory.view c.args.m.now) c.args.s.now c.args.place c.args.conditions.now
+loop-condition-init g c = none_tested (g.M.Memory.view c.args.m.now) c.args.s.now c.args.place c.args.kept.now c.args.conditions.now
 
 pub holds_at-requires-clause-can : goal.holds_at-requires-clause-can
-holds_at-requires-clause-can g c = can_still c.requires.can c.loop-condition.invariant.did
+holds_at-requires-clause-can g c = sees_still c.requires.can c.loop-condition.invariant.did
 
 pub holds_at-requires-clause-testable : goal.holds_at-requires-clause-testable
 holds_at-requires-clause-testable g c =

@@ -20,10 +20,10 @@ returns-in-Ok g c =
     let x = c.args.condition.now in
     let n : to_z w64 (of_z w64 c.in-Ok.number) ≡ c.in-Ok.number = to_z-of_z w64 c.in-Ok.number (search rules) in
     let l : to_z w64 (of_z w64 c.args.condition.now.literal) ≡ c.args.condition.now.literal = to_z-of_z w64 c.args.condition.now.literal (search rules) in
-    test_done c.args.s.now c.args.place x c.value.result.now c.offset.result c.value.ensures c.offset.ensures c.in-Ok.number c.compares.result
+    test_done c.args.s.now c.args.place x c.args.kept.now c.number_at.new.kept c.value.result.now c.offset.result c.value.ensures c.offset.ensures c.in-Ok.number c.compares.result
     (c.compares.ensures ∙ ap (λ z. compares x.operator z (to_z w64 (of_z w64 x.literal))) n ∙ ap (compares x.operator c.in-Ok.number) l) c.in-Ok.ensures
 
 pub returns-in-Err : goal.returns-in-Err
 returns-in-Err g c =
-    test_closed c.args.s.now c.args.place c.args.condition.now c.value.result.now c.offset.result c.value.ensures c.offset.ensures c.in-Err.refusal
+    test_closed c.args.s.now c.args.place c.args.condition.now c.args.kept.now c.number_at.new.kept c.value.result.now c.offset.result c.value.ensures c.offset.ensures c.in-Err.refusal
     c.in-Err.ensures

@@ -1,0 +1,25 @@
+-- One value's number is read, and then added.
+use Rattle.std.proofs.Common.{◌+◌, w64, rules, arith}
+use Rattle.std.proofs.lemmas.Int.{to_z-of_z}
+use Rattle.fm_records.specs.Rows.{words_of}
+use Rattle.fm_records.specs.Words.{kept_last}
+use Rattle.fm_records.proofs.Adding.{value_added, value_stops}
+use Rattle.fm_records.proofs.Reaching.{closed_lies}
+use Rattle.fm_records.proofs.values.add_value_as.Goals as goal
+
+pub overflow_add-place : goal.overflow_add-place
+overflow_add-place g c = let within = (closed_lies c.requires.can).within in let ends = c.requires.can.can.ends in omega (arith, within, ends)
+
+pub number_as-requires-clause-lies : goal.number_as-requires-clause-lies
+number_as-requires-clause-lies g c = closed_lies c.requires.can
+
+pub returns-in-Ok : goal.returns-in-Ok
+returns-in-Ok g c =
+    value_added c.args.s.now c.args.value (c.args.place + c.args.at) kept_last (words_of c.args.last.now) (words_of c.number_as.new.kept)
+    c.in-Ok.number _ c.args.found.now c.add_number.new.self c.add_number.result
+    (to_z-of_z w64 c.in-Ok.number (search rules)) c.add_number.ensures.ok c.add_number.ensures.same c.add_number.ensures.memory c.in-Ok.ensures
+
+pub returns-in-Err : goal.returns-in-Err
+returns-in-Err g c =
+    value_stops c.args.s.now c.args.value (c.args.place + c.args.at) kept_last (words_of c.args.last.now) (words_of c.number_as.new.kept)
+    c.args.found.now c.in-Err.refusal c.in-Err.ensures
