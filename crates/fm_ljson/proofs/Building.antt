@@ -12,7 +12,8 @@ use Rattle.fm_layout.specs.Parts.{IsPadding}
 use Rattle.fm_layout.specs.Views.{trees}
 use Rattle.fm_ljson.specs.Node.{Content, Padding, Sequence, Struct, Union, Node, node_of}
 use Rattle.fm_ljson.specs.Node as said
-use Rattle.fm_ljson.specs.Built.{aligned, all_of, built, built_if_any, content_built, named, node_built, OrMemory, then}
+use Rattle.fm_ljson.specs.Built.{aligned, all_of, built, built_if_any, content_built, copied, copied_as, named, node_built, OrMemory, then}
+use Rattle.fm_ljson.specs.Refs.{Ref, ref_of}
 use Rattle.fm_ljson.specs.Views.{IsPaddingContent, MayBeAligned}
 use Rattle.fm_ljson.proofs.Inside.{node_of-good}
 
@@ -61,22 +62,24 @@ pub building_end : (done : List Tree) (all : Result Trees Refusal) → IsBuildin
 building_end done all h = sym (h ∙ ap Ok (followed_trees done))
 
 -- What is built of a node.
-pub built_node : (levels : ℕ) (d : Data) (x : Node) → 0 < levels → Some x ≡ node_of d → built levels d ≡ node_built (built (levels - 1)) x
+pub built_node : (known : List ℕ → Option Tree) (levels : ℕ) (d : Data) (x : Node) → 0 < levels → Some x ≡ node_of d
+    → built known levels d ≡ node_built (built known (levels - 1)) x
 unfolding built
-built_node zero d x deep is = absurd (omega arith)
-built_node (suc levels) d x deep is =
+built_node known zero d x deep is = absurd (omega arith)
+built_node known (suc levels) d x deep is =
     let down : levels ≡ suc levels - 1 = omega arith in
-    ap (built_if_any (built levels)) (sym is) ∙ ap (λ n. node_built (built n) x) down
+    ap (built_if_any (built known levels) (copied known (ref_of d))) (sym is) ∙ ap (λ n. node_built (built known n) x) down
 
-pub built_none : (levels : ℕ) (d : Data) → None ≡ node_of d → built levels d ≡ Err (BadShape 0)
+-- What isn't one is a copy of what its ref names.
+pub built_none : (known : List ℕ → Option Tree) (levels : ℕ) (d : Data) → 0 < levels → None ≡ node_of d → built known levels d ≡ copied known (ref_of d)
 unfolding built
-built_none zero d is = refl
-built_none (suc levels) d is = ap (built_if_any (built levels)) (sym is)
+built_none known zero d deep is = absurd (omega arith)
+built_none known (suc levels) d deep is = ap (built_if_any (built known levels) (copied known (ref_of d))) (sym is)
 
-pub built_too_deep : (levels : ℕ) (d : Data) → levels ≡ 0 → built levels d ≡ Err (BadShape 0)
+pub built_too_deep : (known : List ℕ → Option Tree) (levels : ℕ) (d : Data) → levels ≡ 0 → built known levels d ≡ Err (BadShape 0)
 unfolding built
-built_too_deep zero d is = refl
-built_too_deep (suc levels) d is = absurd (omega arith)
+built_too_deep known zero d is = refl
+built_too_deep known (suc levels) d is = absurd (omega arith)
 
 -- ---- want of memory is free
 
@@ -94,19 +97,24 @@ or_memory r s u e (inl h) = inl h
 or_memory r s u e (inr h) = inr (h ∙ e)
 
 -- The name of a layout whose content is built, and its alignment.
-pub built_finished : (levels : ℕ) (d : Data) (x : Node) (t : Tree) (r : Result Tree Refusal) → 0 < levels → Some x ≡ node_of d
-    → OrMemory (Ok t) (content_built (built (levels - 1)) x.content)
-    → OrMemory r (then (λ u. Ok (named x.name u)) (aligned x.align t)) → OrMemory r (built levels d)
-built_finished levels d x t r deep is made h =
-    let whole = built_node levels d x deep is in
+pub built_finished : (known : List ℕ → Option Tree) (levels : ℕ) (d : Data) (x : Node) (t : Tree) (r : Result Tree Refusal) → 0 < levels → Some x ≡ node_of d
+    → OrMemory (Ok t) (content_built (built known (levels - 1)) x.content)
+    → OrMemory r (then (λ u. Ok (named x.name u)) (aligned x.align t)) → OrMemory r (built known levels d)
+built_finished known levels d x t r deep is made h =
+    let whole = built_node known levels d x deep is in
     let content = not_refused t _ made in
     or_memory r _ _ (sym (whole ∙ ap (then (λ u. then (λ v. Ok (named x.name v)) (aligned x.align u))) (sym content))) h
 
-pub built_refused : (levels : ℕ) (d : Data) (x : Node) (e : Refusal) → 0 < levels → Some x ≡ node_of d
-    → OrMemory (Err e) (content_built (built (levels - 1)) x.content) → OrMemory (Err e) (built levels d)
-built_refused levels d x e deep is h =
-    let whole = built_node levels d x deep is in
+pub built_refused : (known : List ℕ → Option Tree) (levels : ℕ) (d : Data) (x : Node) (e : Refusal) → 0 < levels → Some x ≡ node_of d
+    → OrMemory (Err e) (content_built (built known (levels - 1)) x.content) → OrMemory (Err e) (built known levels d)
+built_refused known levels d x e deep is h =
+    let whole = built_node known levels d x deep is in
     same_refused e _ _ (λ s. sym (whole ∙ ap (then (λ u. then (λ v. Ok (named x.name v)) (aligned x.align u))) (sym s))) h
+
+-- An equal copy of the type that a ref names, under its name.
+pub copied_ref : (known : List ℕ → Option Tree) (d : Data) (x : Ref) (o : Option Tree) (r : Result Tree Refusal) → Some x ≡ ref_of d → o ≡ known x.of
+    → OrMemory r (copied_as x.name o) → OrMemory r (copied known (ref_of d))
+copied_ref known d x o r is found h = or_memory r _ _ (ap (copied_as x.name) found ∙ ap (copied known) is) h
 
 -- ---- padding
 

@@ -14,7 +14,9 @@ use Rattle.fm_layout.proofs.Names.{IsNameEnd-from_all, list_all-IsNameEnd}
 use Rattle.fm_ljson.specs.declared.type_name.TypeName.{TypeName}
 use Rattle.fm_ljson.specs.declared.type_name.TypeName.TheVariants as type_name
 use Rattle.fm_ljson.specs.Node.{Content, Value, Sequence, Struct, Union, Node, align_in, content_in, has_only, if_any, is_name, list_of, members_in, name_in, name_of, node, node_in, node_of, node_of_type, optional, order_in, required, type_of, whole_of}
-use Rattle.fm_ljson.specs.Types.{keys_of}
+use Rattle.fm_ljson.specs.Refs.{Ref, ref, ref_in, ref_named, ref_of, says_ref}
+use Rattle.fm_ljson.specs.Types.{keys_in, keys_of}
+use Rattle.fm_ljson.specs.declared.role.Role.TheVariants as role
 use Rattle.fm_ljson.specs.Views.{IsPaddingContent, MayBeAligned}
 
 -- The items of a list are the list.
@@ -113,3 +115,29 @@ good_of_object (Some ms) n h = good_of_typed ms (required type_of (codes "type")
 pub node_of-good : (d : Data) (n : Node) → Some n ≡ node_of d → IsGood n
 unfolding node_of
 node_of-good d n h = good_of_object (as_object d) n (sym h)
+
+-- ---- refs
+
+ref_mapped : (of : List ℕ) (o : Option (Option (List ℕ))) (r : Ref) → option_map (ref of) o ≡ Some r → o ≡ Some r.name
+ref_mapped of None r h = absurd (none-some r h)
+ref_mapped of (Some name) r h = ap (λ (x : Ref). Some x.name) (same_Some (ref of name) r h)
+
+ref_known : (o : Option (List ℕ)) (ms : Members) (r : Ref) → option_and_then (ref_named ms) o ≡ Some r → optional name_of (codes "name") ms ≡ Some r.name
+ref_known None ms r h = absurd (none-some r h)
+ref_known (Some of) ms r h = ref_mapped of (optional name_of (codes "name") ms) r h
+
+ref_tested : (b : Bool) (o : Option (List ℕ)) (ms : Members) (r : Ref) → cond b (option_and_then (ref_named ms) o) None ≡ Some r
+    → optional name_of (codes "name") ms ≡ Some r.name
+ref_tested true o ms r h = ref_known o ms r h
+ref_tested false o ms r h = absurd (none-some r h)
+
+ref_of_object : (o : Option Members) (r : Ref) → option_and_then ref_in o ≡ Some r → IsNameIfAny r.name
+ref_of_object None r h = absurd (none-some r h)
+ref_of_object (Some ms) r h =
+    name_at_key (get_member (codes "name") ms) r.name
+    (ref_tested (has_only (keys_in role.Ref) ms && says_ref ms) (required as_str (codes "of") ms) ms r h)
+
+-- The name of a ref, if any, is a name.
+pub ref_of-named : (d : Data) (r : Ref) → Some r ≡ ref_of d → IsNameIfAny r.name
+unfolding ref_of
+ref_of-named d r h = ref_of_object (as_object d) r (sym h)

@@ -1,14 +1,26 @@
--- Bytes that have a reading, and bytes that have none.
-use Rattle.std.proofs.Common.{◌≡◌, ℕ, Bool, true, false, cond, List, Some, None, Result, Err, IsUtf8, refl, sym, ap, ◌∙◌, true≢false}
+-- Bytes that have a reading, and bytes that have none; what is answered of a value that was read.
+use Rattle.std.proofs.Common.{◌≡◌, ℕ, Bool, true, false, cond, List, [], Option, Some, None, Result, Err, inl, inr, IsUtf8, refl, sym, ap, subst, ◌∙◌, true≢false}
 use Rattle.std.specs.Str.{is_utf8}
 use Rattle.std.proofs.lemmas.Str.{IsUtf8-from_is_utf8, is_utf8-from_IsUtf8}
 use Rattle.serde_json.specs.Data.{Data}
 use Rattle.serde_json.specs.Read.{read}
 use Rattle.fm_base.specs.declared.refusal.Refusal.{Refusal}
-use Rattle.fm_base.specs.declared.refusal.Refusal.TheVariants.{BadJson}
+use Rattle.std.specs.BTreeMap.{BTreeMap, get_by_text, is_at}
+use Rattle.std.specs.Map.{lookup}
+use Rattle.std.proofs.lemmas.Map.Text.{text_cmp}
+use Rattle.std.specs.BTreeSet.{BTreeSet, contains_text}
+use Rattle.std.specs.Prelude.{String}
+use Rattle.std.specs.declared.alloc.Global.{Global}
+use Rattle.fm_base.specs.declared.refusal.Refusal.TheVariants.{BadJson, BadShape}
 use Rattle.fm_layout.specs.Tree.{Tree}
-use Rattle.fm_ljson.specs.Answer.{layout_if_read, layout_of_data, layout_of_json}
-use Rattle.fm_ljson.specs.Built.{OrMemory}
+use Rattle.fm_ljson.specs.Answer.{fault_in_document, layout_if_read, layout_of_data, layout_of_json, layout_of_text, shaped}
+use Rattle.fm_ljson.specs.Built.{OrMemory, built, built_behind, built_of}
+use Rattle.fm_ljson.specs.Counted.{AreSound}
+use Rattle.fm_ljson.specs.Documents.{One, Parts, Two, document, first_broken_of, first_of}
+use Rattle.fm_ljson.specs.Loops.{AreParts, IsAt, IsBadShape}
+use Rattle.fm_ljson.specs.Measured.{large_in, large_of}
+use Rattle.fm_ljson.specs.Nodes.{first_broken, most_levels, most_nodes, nodes}
+use Rattle.fm_ljson.specs.Refs.{none_known, unknown}
 use Rattle.fm_ljson.proofs.Building.{or_memory}
 
 -- What has a reading is answered as its value is.
@@ -29,3 +41,71 @@ not_read bytes none = unread_by bytes (is_utf8 bytes) refl none
 
 pub not_so : (b : Bool) (P : Type 0) → (P → b ≡ true) → b ≡ false → ¬ P
 not_so b P h e p = true≢false (sym (h p) ∙ e)
+
+-- ---- a text that names no types
+
+-- No name is in a set that is empty.
+pub none_contained : (s : BTreeSet (String Global)) → s.keys ≡ [] → contains_text s ≡ none_known
+none_contained s h = ap (λ (ks : List (String Global)). contains_text (record { keys = ks })) h
+
+-- Nothing is known of any name in a map that is empty.
+pub none_defined : {A : Type 0} (m : BTreeMap (String Global) A) → m.entries ≡ [] → get_by_text m ≡ unknown
+none_defined {A} m h = ap (λ (es : List (String Global × A)). λ (name : List ℕ). lookup (is_at (text_cmp name)) es) h
+
+one_shape : (known : List ℕ → Bool) (d : Data) (o : Option ℕ) → known ≡ none_known → first_broken known most_nodes 0 (nodes most_levels d) ≡ o
+    → layout_of_text (One d) ≡ shaped o (built unknown most_levels d)
+one_shape known d o none is =
+    ap (λ p. shaped p (built unknown most_levels d)) (ap (λ f. first_broken f most_nodes 0 (nodes most_levels d)) (sym none) ∙ is)
+
+pub one_built : (known : List ℕ → Bool) (trees : List ℕ → Option Tree) (d : Data) (m : ℕ) (r : Result Tree Refusal) → known ≡ none_known → trees ≡ unknown
+    → AreSound known most_nodes 0 m (nodes most_levels d) → OrMemory r (built trees most_levels d) → OrMemory r (layout_of_text (One d))
+one_built known trees d m r none nothing sound h =
+    or_memory r _ _ (ap (λ f. built f most_levels d) nothing ∙ sym (one_shape known d None none sound.none)) h
+
+pub one_refused : (known : List ℕ → Bool) (d : Data) (n : ℕ) → known ≡ none_known → first_broken known most_nodes 0 (nodes most_levels d) ≡ Some n
+    → OrMemory (Err (BadShape n)) (layout_of_text (One d))
+one_refused known d n none is = inr (sym (one_shape known d (Some n) none is))
+
+-- ---- a text that names types
+
+at_node : (o : Option ℕ) (r : Refusal) (made : Result Tree Refusal) → IsAt o r → Err r ≡ shaped o made
+at_node None r made h = absurd h
+at_node (Some n) r made h = ap Err h
+
+first_at : (a b : Option ℕ) (r : Refusal) → IsAt a r → IsAt (first_of a b) r
+first_at None b r h = absurd h
+first_at (Some n) b r h = h
+
+-- the node that is refused, unless memory ran out
+refused_at : (o : Option ℕ) (r : Refusal) (made : Result Tree Refusal) → IsBadShape o r → OrMemory (Err r) (shaped o made)
+refused_at o r made (inl h) = inl (ap Err h)
+refused_at o r made (inr h) = inr (at_node o r made h)
+
+first_refused : (a b : Option ℕ) (r : Refusal) → IsBadShape a r → IsBadShape (first_of a b) r
+first_refused a b r (inl h) = inl h
+first_refused a b r (inr h) = inr (first_at a b r h)
+
+pub two_broken : (types : List Data) (layout : Data) (r : Refusal) → IsBadShape (first_broken_of none_known 1 types layout) r
+    → OrMemory (Err r) (layout_of_text (Two (document layout types)))
+two_broken types layout r h =
+    refused_at (fault_in_document (document layout types)) r (built_of (document layout types))
+    (first_refused (first_broken_of none_known 1 types layout) (large_of (document layout types)) r h)
+
+-- where no written rule is broken, the first that is too large is refused
+two_measured : (types : List Data) (layout : Data) (parts : Parts) → AreParts types layout parts
+    → fault_in_document (document layout types) ≡ large_in parts layout
+two_measured types layout parts are =
+    ap (λ o. first_of o (large_of (document layout types))) are.none ∙ ap (λ (p : Parts). large_in p layout) (sym are.same)
+
+pub two_large : (types : List Data) (layout : Data) (parts : Parts) (r : Refusal) → AreParts types layout parts → IsBadShape (large_in parts layout) r
+    → OrMemory (Err r) (layout_of_text (Two (document layout types)))
+two_large types layout parts r are h =
+    refused_at (fault_in_document (document layout types)) r (built_of (document layout types))
+    (subst (λ o. IsBadShape o r) (sym (two_measured types layout parts are)) h)
+
+pub two_built : (types : List Data) (layout : Data) (parts : Parts) (r : Result Tree Refusal) → AreParts types layout parts → large_in parts layout ≡ None
+    → OrMemory r (built_behind unknown parts.entries layout) → OrMemory r (layout_of_text (Two (document layout types)))
+two_built types layout parts r are small h =
+    or_memory r _ _
+    (ap (λ (p : Parts). built_behind unknown p.entries layout) are.same
+    ∙ sym (ap (λ o. shaped o (built_of (document layout types))) (two_measured types layout parts are ∙ small))) h

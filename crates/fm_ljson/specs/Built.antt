@@ -9,6 +9,9 @@ use Rattle.fm_layout.specs.Tree.{Tree, Trees, NoMore, More}
 use Rattle.fm_layout.specs.Made.{value_of, padding_of, sequence_of, struct_of, union_of, with_alignment, with_name, with_order}
 use Rattle.fm_ljson.specs.Node.{Content, Padding, Sequence, Struct, Union, Node, node_of}
 use Rattle.fm_ljson.specs.Node as said
+use Rattle.fm_ljson.specs.Documents.{Document, Numbered, parts_from}
+use Rattle.fm_ljson.specs.Nodes.{most_written_levels}
+use Rattle.fm_ljson.specs.Refs.{Ref, knowing, ref_of, unknown}
 
 -- what f makes of the first, or the first's refusal
 abbrev pub then : {A B : Type 0} → (A → Result B Refusal) → Result A Refusal → Result B Refusal
@@ -48,16 +51,36 @@ finished align name t = then (λ u. Ok (named name u)) (aligned align t)
 abbrev pub node_built : (Data → Result Tree Refusal) → Node → Result Tree Refusal
 node_built build n = then (finished n.align n.name) (content_built build n.content)
 
--- a node that breaks a rule is never built
-abbrev pub built_if_any : (Data → Result Tree Refusal) → Option Node → Result Tree Refusal
-built_if_any build None = Err (BadShape 0)
-built_if_any build (Some n) = node_built build n
+-- an equal copy of the layout that is known, under the name of the ref, if it has one; a ref to no known type is never built
+abbrev pub copied_as : Option (List ℕ) → Option Tree → Result Tree Refusal
+copied_as name None = Err (BadShape 0)
+copied_as name (Some t) = Ok (named name t)
 
--- the layout of a node with so many levels from it down
-unfoldable pub built : ℕ → Data → Result Tree Refusal
-built zero d = built_if_any (λ _. Err (BadShape 0)) None
-built (suc levels) d = built_if_any (built levels) (node_of d)
+abbrev pub copied : (List ℕ → Option Tree) → Option Ref → Result Tree Refusal
+copied known None = Err (BadShape 0)
+copied known (Some r) = copied_as r.name (known r.of)
+
+abbrev pub built_if_any : (Data → Result Tree Refusal) → Result Tree Refusal → Option Node → Result Tree Refusal
+built_if_any build other None = other
+built_if_any build other (Some n) = node_built build n
+
+-- The layout of a node with so many levels from it down, where these types are known. One that breaks a rule is never
+-- built.
+unfoldable pub built : (List ℕ → Option Tree) → ℕ → Data → Result Tree Refusal
+built known zero d = Err (BadShape 0)
+built known (suc levels) d = built_if_any (built known levels) (copied known (ref_of d)) (node_of d)
 
 -- the layouts of these nodes
-abbrev pub all_built : ℕ → List Value → Result Trees Refusal
-all_built levels vs = all_of (map (built levels) (map view vs))
+abbrev pub all_built : (List ℕ → Option Tree) → ℕ → List Value → Result Trees Refusal
+all_built known levels vs = all_of (map (built known levels) (map view vs))
+
+-- ---- types
+
+-- the layout that may refer to what each entry defines; each entry is built behind the earlier ones, and `layout` last
+abbrev pub built_behind : (List ℕ → Option Tree) → List Numbered → Data → Result Tree Refusal
+built_behind known [] layout = built known most_written_levels layout
+built_behind known (e ∷ es) layout =
+    then (λ t. built_behind (knowing e.name t known) es layout) (built known most_written_levels e.layout)
+
+abbrev pub built_of : Document → Result Tree Refusal
+built_of x = built_behind unknown (parts_from 1 x.types).entries x.layout

@@ -2,7 +2,11 @@ pub mod Answer
 pub mod Built
 pub mod Causes
 pub mod Counted
+pub mod Documents
+pub mod Loops
+pub mod Measured
 pub mod Node
 pub mod Nodes
+pub mod Refs
 pub mod Types
 pub mod Views

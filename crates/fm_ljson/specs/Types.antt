@@ -1,9 +1,11 @@
--- The types of layout objects, and the keys that an object of each may have.
+-- The types of layout objects, and the keys that an object may have.
 use Rattle.std.specs.Prelude.{ℕ, Option, List, [], ◌∷◌, codes, bytes_eq, find}
 use Rattle.fm_lanes.specs.declared.value_kind.ValueKind.TheVariants.{Byte, Boolean, Char, Short, Int, Long}
 use Rattle.fm_lanes.specs.Named.{kind_text}
 use Rattle.fm_ljson.specs.declared.type_name.TypeName.{TypeName}
 use Rattle.fm_ljson.specs.declared.type_name.TypeName.TheVariants.{Value, Padding, Sequence, Struct, Union}
+use Rattle.fm_ljson.specs.declared.role.Role.{Role}
+use Rattle.fm_ljson.specs.declared.role.Role.TheVariants.{Document, Entry, Layout, Ref}
 
 -- what the key `type` has for it
 abbrev pub type_text : TypeName → List ℕ
@@ -29,3 +31,10 @@ keys_of Padding = codes "type" ∷ codes "name" ∷ codes "size" ∷ []
 keys_of Sequence = codes "type" ∷ codes "name" ∷ codes "align" ∷ codes "count" ∷ codes "element" ∷ []
 keys_of Struct = codes "type" ∷ codes "name" ∷ codes "align" ∷ codes "members" ∷ []
 keys_of Union = codes "type" ∷ codes "name" ∷ codes "align" ∷ codes "members" ∷ []
+
+-- the keys that an object in this role may have
+abbrev pub keys_in : Role → List (List ℕ)
+keys_in (Layout t) = keys_of t
+keys_in Ref = codes "type" ∷ codes "of" ∷ codes "name" ∷ []
+keys_in Entry = codes "define" ∷ codes "layout" ∷ []
+keys_in Document = codes "version" ∷ codes "types" ∷ codes "layout" ∷ []

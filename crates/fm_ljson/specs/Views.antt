@@ -1,4 +1,4 @@
--- What a node that refers into a value says.
+-- What is said by what refers into a value.
 use Rattle.std.specs.Prelude.{Option, Some, None, String, map, option_copied}
 use Rattle.std.specs.BTreeMap.{BTreeMap}
 use Rattle.std.specs.declared.alloc.Global.{Global}
@@ -10,6 +10,16 @@ use Rattle.fm_ljson.specs.Node as node
 use Rattle.fm_ljson.specs.declared.node.ContentRef.{ContentRef}
 use Rattle.fm_ljson.specs.declared.node.ContentRef.TheVariants.{Value, Padding, Sequence, Struct, Union}
 use Rattle.fm_ljson.specs.declared.node.NodeRef.{NodeRef}
+use Rattle.fm_ljson.specs.Documents.{Document, Entry, Numbered, Parts, Text}
+use Rattle.fm_ljson.specs.Documents as document
+use Rattle.fm_ljson.specs.Refs.{Ref}
+use Rattle.fm_ljson.specs.declared.document.DocumentRef.{DocumentRef}
+use Rattle.fm_ljson.specs.declared.document.EntryRef.{EntryRef}
+use Rattle.fm_ljson.specs.declared.document.TextRef.{TextRef}
+use Rattle.fm_ljson.specs.declared.document.TextRef.TheVariants.{One, Two, Neither}
+use Rattle.fm_ljson.specs.declared.refs.TypeRef.{TypeRef}
+use Rattle.fm_ljson.specs.declared.types.NumberedRef.{NumberedRef}
+use Rattle.fm_ljson.specs.declared.types.PartsRef.{PartsRef}
 
 -- the members of an object
 abbrev pub object_view : BTreeMap (String Global) json.Value → Members
@@ -33,3 +43,23 @@ IsPaddingContent c = ⊥
 abbrev pub MayBeAligned : {A : Type 0} → Option A → Type 0 → Type 0
 MayBeAligned None P = Unit {0}
 MayBeAligned (Some n) P = ¬ P
+
+abbrev pub ref_view : TypeRef → Ref
+ref_view r = record { of = r.of.now; name = option_copied r.name }
+
+abbrev pub document_view : DocumentRef → Document
+document_view x = record { types = map view x.types.now; layout = view x.layout.now }
+
+abbrev pub text_view : TextRef → Text
+text_view (One v) = document.One (view v.now)
+text_view (Two x) = document.Two (document_view x)
+text_view Neither = document.Neither
+
+abbrev pub entry_view : EntryRef → Entry
+entry_view e = record { name = e.name.now; layout = view e.layout.now }
+
+abbrev pub numbered_view : NumberedRef → Numbered
+numbered_view e = record { name = e.name.now; layout = view e.layout.now; number = e.number }
+
+abbrev pub parts_view : PartsRef → Parts
+parts_view p = record { entries = map numbered_view p.entries.items; number = p.number }

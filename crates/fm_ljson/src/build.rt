@@ -1,53 +1,68 @@
 ghost use Rattle.std.specs.Prelude.{◌≡◌, ◌⊎◌, option_copied, IfOk, IfErr};
+ghost use Rattle.std.specs.BTreeMap.{get_by_text};
 ghost use Rattle.serde_json.specs.View.{view};
 ghost use Rattle.fm_layout.specs.Named.{IsNameIfAny};
 ghost use Rattle.fm_layout.specs.Parts.{IsPadding};
 ghost use Rattle.fm_layout.specs.Views.{trees};
-ghost use Rattle.fm_ljson.specs.Built.{aligned, all_built, built, content_built, finished, named, OrMemory};
+ghost use Rattle.fm_ljson.specs.Built.{aligned, all_built, built, content_built, copied, finished, named, OrMemory};
+ghost use Rattle.fm_ljson.specs.Refs.{ref_of};
 ghost use Rattle.fm_ljson.specs.Views.{content_view, MayBeAligned};
 
 use crate::node::{ContentRef, node_of};
+use crate::refs::ref_of;
 use fm_base::Refusal;
 use fm_layout::Layout;
 use serde_json::Value;
 use std::alloc::Global;
+use std::collections::BTreeMap;
 
-/// The layout of a node with so many levels from it down.
+/// The layout of a node with so many levels from it down, whose refs are to these types.
 ///
 /// Refused: as the first constructor refuses, parts before their node, from the first to the last; `Memory`. No node
 /// here breaks a rule; one that did would be `BadShape`.
 #[cycle(build)]
-pub(crate) fn build(alloc: Global, value: &Value, levels: u64) -> Result<Layout, Refusal>
-    ensures { OrMemory result (built levels (view value.now)) }
+pub(crate) fn build(
+    alloc: Global,
+    value: &Value,
+    levels: u64,
+    types: &BTreeMap<String, Layout>,
+) -> Result<Layout, Refusal>
+    ensures { OrMemory result (built (get_by_text types.now) levels (view value.now)) }
 {
     if levels == 0 {
         return Err(Refusal::BadShape(0));
     }
     match node_of(value) {
-        Some(node) => match build_content(alloc, node.content, levels - 1) {
+        Some(node) => match build_content(alloc, node.content, levels - 1, types) {
             Ok(layout) => finish(alloc, layout, node.align, node.name),
             Err(refusal) => Err(refusal),
         },
-        None => Err(Refusal::BadShape(0)),
+        None => copy_of(alloc, value, types),
     }
 }
 
 #[cycle(build)]
-fn build_content(alloc: Global, content: ContentRef<'_>, levels: u64) -> Result<Layout, Refusal>
-    ensures { OrMemory result (content_built (built levels) (content_view content.entry)) }
+fn build_content(
+    alloc: Global,
+    content: ContentRef<'_>,
+    levels: u64,
+    types: &BTreeMap<String, Layout>,
+) -> Result<Layout, Refusal>
+    ensures { OrMemory result
+        (content_built (built (get_by_text types.now) levels) (content_view content.entry)) }
 {
     match content {
         ContentRef::Value(kind, order) => Ok(Layout::value(kind).with_order(order)),
         ContentRef::Padding(size) => Layout::padding(size),
-        ContentRef::Sequence(count, element) => match build(alloc, element, levels) {
+        ContentRef::Sequence(count, element) => match build(alloc, element, levels, types) {
             Ok(element) => Layout::sequence(alloc, count, element),
             Err(refusal) => Err(refusal),
         },
-        ContentRef::Struct(members) => match build_all(alloc, members, levels) {
+        ContentRef::Struct(members) => match build_all(alloc, members, levels, types) {
             Ok(members) => Layout::structure(members),
             Err(refusal) => Err(refusal),
         },
-        ContentRef::Union(members) => match build_all(alloc, members, levels) {
+        ContentRef::Union(members) => match build_all(alloc, members, levels, types) {
             Ok(members) => Ok(Layout::union_of(members)),
             Err(refusal) => Err(refusal),
         },
@@ -56,13 +71,20 @@ fn build_content(alloc: Global, content: ContentRef<'_>, levels: u64) -> Result<
 
 /// The layouts of these nodes in order, or the first refusal.
 #[cycle(build)]
-fn build_all(alloc: Global, values: &[Value], levels: u64) -> Result<Vec<Layout>, Refusal>
-    ensures ok { IfOk result (λ v. Ok (trees v.items) ≡ all_built levels values.now) }
-    ensures err { IfErr result (λ r. (r ≡ Refusal.Memory) ⊎ (Err r ≡ all_built levels values.now)) }
+fn build_all(
+    alloc: Global,
+    values: &[Value],
+    levels: u64,
+    types: &BTreeMap<String, Layout>,
+) -> Result<Vec<Layout>, Refusal>
+    ensures ok { IfOk result (λ v.
+        Ok (trees v.items) ≡ all_built (get_by_text types.now) levels values.now) }
+    ensures err { IfErr result (λ r.
+        (r ≡ Refusal.Memory) ⊎ (Err r ≡ all_built (get_by_text types.now) levels values.now)) }
 {
     let mut layouts = Vec::new(alloc);
     for value in values {
-        let layout = match build(alloc, value, levels) {
+        let layout = match build(alloc, value, levels, types) {
             Ok(layout) => layout,
             Err(refusal) => return Err(refusal),
         };
@@ -71,6 +93,26 @@ fn build_all(alloc: Global, values: &[Value], levels: u64) -> Result<Vec<Layout>
         };
     }
     Ok(layouts)
+}
+
+/// An equal copy of the type that a ref names, under the ref's name, if it has one.
+fn copy_of(
+    alloc: Global,
+    value: &Value,
+    types: &BTreeMap<String, Layout>,
+) -> Result<Layout, Refusal>
+    ensures { OrMemory result (copied (get_by_text types.now) (ref_of (view value.now))) }
+{
+    let Some(reference) = ref_of(value) else {
+        return Err(Refusal::BadShape(0));
+    };
+    match types.get(reference.of) {
+        Some(layout) => match layout.try_clone(alloc) {
+            Ok(copy) => named(alloc, copy, reference.name),
+            Err(refusal) => Err(refusal),
+        },
+        None => Err(Refusal::BadShape(0)),
+    }
 }
 
 /// The layout with this alignment and this name.

@@ -1,11 +1,14 @@
 ghost use Rattle.std.specs.Prelude.{◌≡◌, codes, map, option_copied, option_map};
-ghost use Rattle.serde_json.specs.Find.{get_member};
+ghost use Rattle.serde_json.specs.Find.{as_str, get_member};
 ghost use Rattle.serde_json.specs.View.{view};
 ghost use Rattle.fm_ljson.specs.Node.{align_in, has_only, members_in, name_of, optional, order_in, required, type_of, whole_of};
-ghost use Rattle.fm_ljson.specs.Types.{keys_of};
+ghost use Rattle.fm_ljson.specs.Documents.{is_two, unsigned_of};
+ghost use Rattle.fm_ljson.specs.Refs.{says_ref};
+ghost use Rattle.fm_ljson.specs.Types.{keys_in};
 ghost use Rattle.fm_ljson.specs.Views.{object_view};
 
-use crate::type_name::{TypeName, is_key_of};
+use crate::role::{Role, is_key_in};
+use crate::type_name::TypeName;
 use crate::values;
 use fm_lanes::Order;
 use serde_json::{Map, Value};
@@ -17,12 +20,12 @@ pub(crate) fn member<'v>(object: &'v Map<String, Value>, key: &str) -> Option<&'
     object.get(key)
 }
 
-/// Whether an object of this type may have all keys of this one.
-pub(crate) fn has_only(type_name: TypeName, object: &Map<String, Value>) -> bool
-    ensures { result ≡ has_only (keys_of type_name) (object_view object.now) }
+/// Whether an object in this role may have all keys of this one.
+pub(crate) fn has_only(role: Role, object: &Map<String, Value>) -> bool
+    ensures { result ≡ has_only (keys_in role) (object_view object.now) }
 {
     for (key, _value) in object.iter() {
-        if !is_key_of(type_name, key) {
+        if !is_key_in(role, key) {
             return false;
         }
     }
@@ -39,6 +42,46 @@ pub(crate) fn type_at(object: &Map<String, Value>) -> Option<TypeName>
     }
 }
 
+/// Whether the type is `ref`.
+pub(crate) fn says_ref(object: &Map<String, Value>) -> bool
+    ensures { result ≡ says_ref (object_view object.now) }
+{
+    match text_at(object, "type") {
+        Some(text) => text == "ref",
+        None => false,
+    }
+}
+
+/// A text, which has to be there.
+pub(crate) fn text_at<'v>(object: &'v Map<String, Value>, key: &str) -> Option<&'v str>
+    ensures { option_copied result ≡ required as_str key.now (object_view object.now) }
+{
+    match member(object, key) {
+        Some(value) => value.as_str(),
+        None => None,
+    }
+}
+
+/// A name, which has to be there.
+pub(crate) fn definition_at(object: &Map<String, Value>) -> Option<&str>
+    ensures { option_copied result ≡ required name_of (codes "define") (object_view object.now) }
+{
+    match member(object, "define") {
+        Some(value) => values::name_of(value),
+        None => None,
+    }
+}
+
+/// Whether the version is 2.
+pub(crate) fn is_version_two(object: &Map<String, Value>) -> bool
+    ensures { result ≡ is_two (required unsigned_of (codes "version") (object_view object.now)) }
+{
+    match member(object, "version") {
+        Some(value) => values::is_two(value),
+        None => false,
+    }
+}
+
 /// A whole number, which has to be there.
 pub(crate) fn whole_at(object: &Map<String, Value>, key: &str) -> Option<u64>
     ensures { result ≡ required whole_of key.now (object_view object.now) }
@@ -49,12 +92,12 @@ pub(crate) fn whole_at(object: &Map<String, Value>, key: &str) -> Option<u64>
     }
 }
 
-/// The members of a group, which have to be there.
-pub(crate) fn members_at(object: &Map<String, Value>) -> Option<&[Value]>
+/// The items of an array, which has to be there.
+pub(crate) fn items_at<'v>(object: &'v Map<String, Value>, key: &str) -> Option<&'v [Value]>
     ensures { option_map (λ s. map view s.now) result
-        ≡ required members_in (codes "members") (object_view object.now) }
+        ≡ required members_in key.now (object_view object.now) }
 {
-    match member(object, "members") {
+    match member(object, key) {
         Some(value) => values::members_in(value),
         None => None,
     }

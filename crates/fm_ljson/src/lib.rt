@@ -1,4 +1,4 @@
-//! Layouts as JSON (version 1 of the format): what layout the text of an object stands for.
+//! Layouts as JSON: what layout a text stands for.
 //!
 //! A layout is an object with the key `type`: a value's kind (`byte`, `boolean`, `char`, `short`, `int` or `long`),
 //! `padding` with its `size`, `sequence` with `count` and `element`, or `struct` or `union` with `members`. Each may
@@ -9,17 +9,31 @@
 //! {"type":"struct","members":[{"type":"int","name":"id"},{"type":"padding","size":4},{"type":"long","align":8}]}
 //! ```
 //!
+//! A root with the key `version`, which is 2, names types and a layout that may refer to them:
+//!
+//! ```
+//! {"version":2,"types":[{"define":"point","layout":{"type":"struct","members":[{"type":"int","name":"x"},{"type":"int","name":"y"}]}}],"layout":{"type":"struct","members":[{"type":"ref","of":"point","name":"from"},{"type":"ref","of":"point","name":"to"}]}}
+//! ```
+//!
+//! A ref stands for an equal copy of the type that it names, which an earlier entry defines.
+//!
 //! A text is refused whole at the first node that breaks a rule; nodes are counted from 0, each before what stands in
 //! it. Only then is a layout built.
 #![tactic(auto)]
 
 mod build;
+mod document;
 mod keys;
+mod measure;
 mod node;
 mod read;
+mod refs;
+mod role;
 mod shape;
 mod type_name;
+mod types;
 mod values;
 
+pub use measure::Extent;
 pub use read::layout_from_json;
 pub use type_name::TypeName;

@@ -4,6 +4,7 @@ ghost use Rattle.fm_ljson.specs.Node.{content_in, node_in, node_of, node_of_type
 ghost use Rattle.fm_ljson.specs.Views.{content_view, node_view, object_view};
 
 use crate::keys;
+use crate::role::Role;
 use crate::type_name::TypeName;
 use fm_lanes::{Order, ValueKind};
 use serde_json::{Map, Value};
@@ -61,7 +62,7 @@ fn node_in(object: &Map<String, Value>) -> Option<NodeRef<'_>>
 fn node_of_type<'v>(object: &'v Map<String, Value>, type_name: TypeName) -> Option<NodeRef<'v>>
     ensures { option_map node_view result ≡ node_of_type (object_view object.now) type_name }
 {
-    if !keys::has_only(type_name, object) {
+    if !keys::has_only(Role::Layout(type_name), object) {
         return None;
     }
     let Some(content) = content_of(object, type_name) else {
@@ -93,11 +94,11 @@ fn content_of<'v>(object: &'v Map<String, Value>, type_name: TypeName) -> Option
             None => None,
         },
         TypeName::Sequence => sequence_of(object),
-        TypeName::Struct => match keys::members_at(object) {
+        TypeName::Struct => match keys::items_at(object, "members") {
             Some(members) => Some(ContentRef::Struct(members)),
             None => None,
         },
-        TypeName::Union => match keys::members_at(object) {
+        TypeName::Union => match keys::items_at(object, "members") {
             Some(members) => Some(ContentRef::Union(members)),
             None => None,
         },

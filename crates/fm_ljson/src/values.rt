@@ -1,5 +1,6 @@
 ghost use Rattle.std.specs.Prelude.{◌≡◌, map, option_copied, option_map};
 ghost use Rattle.serde_json.specs.View.{view};
+ghost use Rattle.fm_ljson.specs.Documents.{is_two, unsigned_of};
 ghost use Rattle.fm_ljson.specs.Node.{is_name, members_in, name_in, name_of, order_of, type_of, whole_of, within};
 
 use crate::type_name::{TypeName, type_named};
@@ -23,6 +24,16 @@ fn within(n: u64) -> Option<u64>
     ensures { result ≡ within n }
 {
     if n <= LIMIT { Some(n) } else { None }
+}
+
+/// Whether the value is the number 2, written in decimal digits alone.
+pub(crate) fn is_two(value: &Value) -> bool
+    ensures { result ≡ is_two (unsigned_of (view value.now)) }
+{
+    match value.as_u64() {
+        Some(n) => n == 2,
+        None => false,
+    }
 }
 
 /// A text that is a name.

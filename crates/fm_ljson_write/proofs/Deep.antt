@@ -1,5 +1,5 @@
 -- How deep the canonical JSON nests.
-use Rattle.std.proofs.Common.{◌≡◌, refl, ℕ, suc, ◌*◌, ◌≤◌, List, Option, Some, None, codes, arith}
+use Rattle.std.proofs.Common.{◌≡◌, refl, ℕ, suc, ◌+◌, ◌*◌, ◌≤◌, List, Option, Some, None, codes, arith}
 use Rattle.serde_json.specs.Data.{Data, array, Members, member, depth, items_depth, members_depth}
 use Rattle.fm_lanes.specs.Kind.{width_of}
 use Rattle.fm_layout.specs.Depth.{deepest}
@@ -8,7 +8,7 @@ use Rattle.fm_layout.specs.Size.{greatest_alignment}
 use Rattle.fm_layout.specs.Tree.{Label, Tree, Trees, Value, Padding, Sequence, Struct, Union, NoMore, More, alignment_of}
 use Rattle.fm_lanes.specs.Named.{kind_text}
 use Rattle.fm_ljson_write.proofs.Maybe.{IsIfAny, IsOfBoth, of_align, of_name, of_order}
-use Rattle.fm_ljson_write.specs.Canonical.{align_of, all_json, if_any, json_of, name_of, order_of, typed, whole}
+use Rattle.fm_ljson_write.specs.Canonical.{align_of, all_json, document_json, if_any, json_of, name_of, order_of, typed, whole}
 
 -- a value that nests in nothing
 abbrev IsFlat : Data → Type 0
@@ -53,3 +53,7 @@ mutual
   jsons_depth : (ts : Trees) → items_depth (all_json ts) ≤ 2 * deepest ts
   jsons_depth NoMore = omega arith
   jsons_depth (More t ts) = omega (arith, json_depth t, jsons_depth ts)
+
+-- one level more
+pub document_depth : (t : Tree) → depth (document_json t) ≤ 2 * layout.depth t + 2
+document_depth t = omega (arith, json_depth t)

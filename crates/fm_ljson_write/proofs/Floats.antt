@@ -7,7 +7,7 @@ use Rattle.fm_layout.specs.Size.{greatest_alignment}
 use Rattle.fm_lanes.specs.Kind.{width_of}
 use Rattle.fm_lanes.specs.Named.{kind_text}
 use Rattle.fm_ljson_write.proofs.Maybe.{IsIfAny, IsOfBoth, of_align, of_name, of_order}
-use Rattle.fm_ljson_write.specs.Canonical.{align_of, all_json, if_any, json_of, name_of, order_of, typed, whole}
+use Rattle.fm_ljson_write.specs.Canonical.{align_of, all_json, document_json, if_any, json_of, name_of, order_of, typed, whole}
 
 abbrev HasNone : Data → Type 0
 HasNone d = has_float d ≡ false
@@ -54,3 +54,6 @@ mutual
   no_floats : (ts : Trees) → items_have_float (all_json ts) ≡ false
   no_floats NoMore = refl
   no_floats (More t ts) = rw (no_float t, no_floats ts) refl
+
+pub no_float_document : (t : Tree) → has_float (document_json t) ≡ false
+no_float_document t = rw (no_float t) refl

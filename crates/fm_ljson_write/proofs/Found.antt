@@ -16,12 +16,13 @@ use Rattle.fm_layout.specs.Tree.{Label, Tree, Value, Padding, Sequence, Struct, 
 use Rattle.fm_layout.specs.WellFormed.{limit, IsWellFormed}
 use Rattle.fm_layout.proofs.Names.{list_all-IsNameEnd}
 use Rattle.fm_lanes.specs.Named.{kind_text}
+use Rattle.fm_ljson.specs.Documents.{One, Two, document, text_of}
 use Rattle.fm_ljson.specs.Node as node
 use Rattle.fm_ljson.specs.Node.{Content, Node, node_of, content_in, align_in, optional, has_only, is_name, list_of, whole_of}
 use Rattle.fm_ljson.specs.Types.{type_named, type_text, keys_of}
 use Rattle.fm_ljson.specs.declared.type_name.TypeName.{TypeName}
 use Rattle.fm_ljson.specs.declared.type_name.TypeName.TheVariants as type_name
-use Rattle.fm_ljson_write.specs.Canonical.{align_of, all_json, if_any, json_of, name_of, order_of, typed, whole}
+use Rattle.fm_ljson_write.specs.Canonical.{align_of, all_json, document_json, if_any, json_of, name_of, order_of, typed, whole}
 use Rattle.fm_ljson_write.specs.Limits.{AreCountsSmall}
 
 -- ---- what each node says
@@ -62,23 +63,24 @@ type_again type_name.Sequence = refl
 type_again type_name.Struct = refl
 type_again type_name.Union = refl
 
--- the type, the name and the alignment that stand in members, which have no other keys than those of the type
+-- the type, the name and the alignment that stand in members, which have no other keys than those of the type, so no version
 record Says (t : TypeName) (n a : Option Data) (ms : Members) : Type 0 where
   type : get_member (codes "type") ms ≡ Some (string (type_text t))
   only : has_only (keys_of t) ms ≡ true
   name : get_member (codes "name") ms ≡ n
   align : get_member (codes "align") ms ≡ a
+  plain : get_member (codes "version") ms ≡ None
 
 value_says : (k : ValueKind) (a n o : Option Data)
     → Says (type_name.Value k) n a (if_any (codes "align") a (if_any (codes "name") n (if_any (codes "order") o (typed (kind_text k)))))
-value_says k None None None = record { type = refl; only = refl; name = refl; align = refl }
-value_says k None None (Some o) = record { type = refl; only = refl; name = refl; align = refl }
-value_says k None (Some n) None = record { type = refl; only = refl; name = refl; align = refl }
-value_says k None (Some n) (Some o) = record { type = refl; only = refl; name = refl; align = refl }
-value_says k (Some a) None None = record { type = refl; only = refl; name = refl; align = refl }
-value_says k (Some a) None (Some o) = record { type = refl; only = refl; name = refl; align = refl }
-value_says k (Some a) (Some n) None = record { type = refl; only = refl; name = refl; align = refl }
-value_says k (Some a) (Some n) (Some o) = record { type = refl; only = refl; name = refl; align = refl }
+value_says k None None None = record { type = refl; only = refl; name = refl; align = refl; plain = refl }
+value_says k None None (Some o) = record { type = refl; only = refl; name = refl; align = refl; plain = refl }
+value_says k None (Some n) None = record { type = refl; only = refl; name = refl; align = refl; plain = refl }
+value_says k None (Some n) (Some o) = record { type = refl; only = refl; name = refl; align = refl; plain = refl }
+value_says k (Some a) None None = record { type = refl; only = refl; name = refl; align = refl; plain = refl }
+value_says k (Some a) None (Some o) = record { type = refl; only = refl; name = refl; align = refl; plain = refl }
+value_says k (Some a) (Some n) None = record { type = refl; only = refl; name = refl; align = refl; plain = refl }
+value_says k (Some a) (Some n) (Some o) = record { type = refl; only = refl; name = refl; align = refl; plain = refl }
 
 value_order : (k : ValueKind) (a n o : Option Data)
     → get_member (codes "order") (if_any (codes "align") a (if_any (codes "name") n (if_any (codes "order") o (typed (kind_text k))))) ≡ o
@@ -92,8 +94,8 @@ value_order k (Some a) (Some n) None = refl
 value_order k (Some a) (Some n) (Some o) = refl
 
 padding_says : (d : Data) (n : Option Data) → Says type_name.Padding n None (if_any (codes "name") n (member (codes "size") d (typed (codes "padding"))))
-padding_says d None = record { type = refl; only = refl; name = refl; align = refl }
-padding_says d (Some n) = record { type = refl; only = refl; name = refl; align = refl }
+padding_says d None = record { type = refl; only = refl; name = refl; align = refl; plain = refl }
+padding_says d (Some n) = record { type = refl; only = refl; name = refl; align = refl; plain = refl }
 
 padding_size : (d : Data) (n : Option Data) → get_member (codes "size") (if_any (codes "name") n (member (codes "size") d (typed (codes "padding")))) ≡ Some d
 padding_size d None = refl
@@ -104,10 +106,10 @@ abbrev row : Option Data → Data → Data → Option Data → Members
 row a c e n = if_any (codes "align") a (member (codes "count") c (member (codes "element") e (if_any (codes "name") n (typed (codes "sequence")))))
 
 sequence_says : (c e : Data) (a n : Option Data) → Says type_name.Sequence n a (row a c e n)
-sequence_says c e None None = record { type = refl; only = refl; name = refl; align = refl }
-sequence_says c e None (Some n) = record { type = refl; only = refl; name = refl; align = refl }
-sequence_says c e (Some a) None = record { type = refl; only = refl; name = refl; align = refl }
-sequence_says c e (Some a) (Some n) = record { type = refl; only = refl; name = refl; align = refl }
+sequence_says c e None None = record { type = refl; only = refl; name = refl; align = refl; plain = refl }
+sequence_says c e None (Some n) = record { type = refl; only = refl; name = refl; align = refl; plain = refl }
+sequence_says c e (Some a) None = record { type = refl; only = refl; name = refl; align = refl; plain = refl }
+sequence_says c e (Some a) (Some n) = record { type = refl; only = refl; name = refl; align = refl; plain = refl }
 
 sequence_count : (c e : Data) (a n : Option Data) → get_member (codes "count") (row a c e n) ≡ Some c
 sequence_count c e None None = refl
@@ -126,16 +128,16 @@ abbrev group : List ℕ → Option Data → Data → Option Data → Members
 group word a d n = if_any (codes "align") a (member (codes "members") d (if_any (codes "name") n (typed word)))
 
 struct_says : (d : Data) (a n : Option Data) → Says type_name.Struct n a (group (codes "struct") a d n)
-struct_says d None None = record { type = refl; only = refl; name = refl; align = refl }
-struct_says d None (Some n) = record { type = refl; only = refl; name = refl; align = refl }
-struct_says d (Some a) None = record { type = refl; only = refl; name = refl; align = refl }
-struct_says d (Some a) (Some n) = record { type = refl; only = refl; name = refl; align = refl }
+struct_says d None None = record { type = refl; only = refl; name = refl; align = refl; plain = refl }
+struct_says d None (Some n) = record { type = refl; only = refl; name = refl; align = refl; plain = refl }
+struct_says d (Some a) None = record { type = refl; only = refl; name = refl; align = refl; plain = refl }
+struct_says d (Some a) (Some n) = record { type = refl; only = refl; name = refl; align = refl; plain = refl }
 
 union_says : (d : Data) (a n : Option Data) → Says type_name.Union n a (group (codes "union") a d n)
-union_says d None None = record { type = refl; only = refl; name = refl; align = refl }
-union_says d None (Some n) = record { type = refl; only = refl; name = refl; align = refl }
-union_says d (Some a) None = record { type = refl; only = refl; name = refl; align = refl }
-union_says d (Some a) (Some n) = record { type = refl; only = refl; name = refl; align = refl }
+union_says d None None = record { type = refl; only = refl; name = refl; align = refl; plain = refl }
+union_says d None (Some n) = record { type = refl; only = refl; name = refl; align = refl; plain = refl }
+union_says d (Some a) None = record { type = refl; only = refl; name = refl; align = refl; plain = refl }
+union_says d (Some a) (Some n) = record { type = refl; only = refl; name = refl; align = refl; plain = refl }
 
 group_members : (word : List ℕ) (d : Data) (a n : Option Data) → get_member (codes "members") (group word a d n) ≡ Some d
 group_members word d None None = refl
@@ -218,3 +220,28 @@ said (Union ms l) w named small =
     (rw (group_members (codes "union") d a n) refl)
     (name_read l.name named.0)
     (ap (node.if_any whole_of) says.align ∙ align_read (nat_eq l.alignment (greatest_alignment ms)) l.alignment w.0.greatest)
+
+-- ---- which version they are
+
+without_version : (t : TypeName) (n a : Option Data) (ms : Members) → Says t n a ms → text_of (object ms) ≡ One (object ms)
+unfolding text_of
+without_version t n a ms says = rw says.plain refl
+
+-- The canonical JSON of a layout is a layout.
+pub said_alone : (t : Tree) → text_of (json_of t) ≡ One (json_of t)
+said_alone (Value k o l) =
+    without_version (type_name.Value k) (name_of l) (align_of (width_of k) l) _ (value_says k (align_of (width_of k) l) (name_of l) (order_of o))
+said_alone (Padding n l) = without_version type_name.Padding (name_of l) None _ (padding_says (whole n) (name_of l))
+said_alone (Sequence n e l) =
+    without_version type_name.Sequence (name_of l) (align_of (alignment_of e) l) _ (sequence_says (whole n) (json_of e) (align_of (alignment_of e) l) (name_of l))
+said_alone (Struct ms l) =
+    without_version type_name.Struct (name_of l) (align_of (greatest_alignment ms) l) _
+    (struct_says (array (all_json ms)) (align_of (greatest_alignment ms) l) (name_of l))
+said_alone (Union ms l) =
+    without_version type_name.Union (name_of l) (align_of (greatest_alignment ms) l) _
+    (union_says (array (all_json ms)) (align_of (greatest_alignment ms) l) (name_of l))
+
+-- The JSON that names no types for it has the layout's.
+pub said_document : (t : Tree) → text_of (document_json t) ≡ Two (document (json_of t) [])
+unfolding text_of
+said_document t = refl

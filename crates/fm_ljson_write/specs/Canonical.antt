@@ -55,3 +55,13 @@ abbrev mutual
 -- the canonical text, with no space
 abbrev pub canonical_text : Tree → List ℕ
 canonical_text t = compact_text (json_of t)
+
+-- ---- the text that may name types
+
+-- it names none
+abbrev pub document_json : Tree → Data
+document_json t =
+    object (member (codes "layout") (json_of t) (member (codes "types") (array no_items) (member (codes "version") (whole 2) no_members)))
+
+abbrev pub document_text : Tree → List ℕ
+document_text t = compact_text (document_json t)

@@ -3,15 +3,26 @@ ghost use Rattle.serde_json.specs.View.{view, items_view};
 ghost use Rattle.fm_layout.specs.Parts.{form_of, count_of, element_of};
 ghost use Rattle.fm_layout.specs.Size.{greatest_alignment};
 ghost use Rattle.fm_layout.specs.Tree.{label_of};
-ghost use Rattle.fm_ljson_write.specs.Canonical.{json_of as canonical, all_json};
+ghost use Rattle.fm_ljson_write.specs.Canonical.{json_of as canonical, document_json as document, all_json};
 ghost use Rattle.fm_lanes.specs.Named.{kind_text};
 ghost use Rattle.fm_ljson_write.specs.Groups.{group_json as group_data, members_of};
 
 use crate::members::{head_of, put_order};
 use fm_lanes::{Order, ValueKind};
 use fm_layout::{Form, Layout};
-use serde_json::{Value, put};
+use serde_json::{Map, Value, put};
 use std::alloc::{AllocError, Global};
+
+/// The JSON that names no types, and has the canonical JSON of the layout.
+pub fn document_json(alloc: Global, layout: &Layout) -> Result<Value, AllocError>
+    ensures { IfOk result (λ value. view value ≡ document layout.now) }
+{
+    let mut members = Map::new(alloc);
+    put(&mut members, alloc, "layout", json_of(alloc, layout)?)?;
+    put(&mut members, alloc, "types", Value::Array(Vec::new(alloc)))?;
+    put(&mut members, alloc, "version", Value::from(2u64))?;
+    Ok(Value::Object(members))
+}
 
 /// The canonical JSON of the layout.
 #[cycle(writing)]

@@ -1,9 +1,9 @@
 ghost use Rattle.std.specs.Prelude.{◌≡◌, IfOk, IfErr, Ok};
 ghost use Rattle.fm_ljson.specs.Answer.{layout_of_json};
-ghost use Rattle.fm_ljson_write.specs.Canonical.{canonical_text};
+ghost use Rattle.fm_ljson_write.specs.Canonical.{canonical_text, document_text};
 ghost use Rattle.fm_ljson_write.specs.Limits.{IsWithinLimits};
 
-use crate::canonical::json_of;
+use crate::canonical::{document_json, json_of};
 use fm_base::Refusal;
 use fm_layout::Layout;
 use std::alloc::Global;
@@ -20,6 +20,26 @@ pub fn layout_to_json(alloc: Global, layout: &Layout) -> Result<Vec<u8>, Refusal
 {
     let _size = layout.size();
     let Ok(value) = json_of(alloc, layout) else {
+        return Err(Refusal::Memory);
+    };
+    match value.to_vec(alloc) {
+        Ok(bytes) => Ok(bytes),
+        Err(_) => Err(Refusal::Memory),
+    }
+}
+
+/// The text in the version that may name types: it names none, and has the canonical text of the layout. Refused:
+/// `Memory`.
+///
+/// It reads as an equal layout where that of `layout_to_json` does.
+pub fn layout_to_json2(alloc: Global, layout: &Layout) -> Result<Vec<u8>, Refusal>
+    ensures text { IfOk result (λ bytes. bytes.items ≡ document_text layout.now) }
+    ensures reads_back { IfOk result (λ bytes. IsWithinLimits layout.now →
+        layout_of_json bytes.items ≡ Ok layout.now) }
+    ensures memory { IfErr result (λ refusal. refusal ≡ Refusal.Memory) }
+{
+    let _size = layout.size();
+    let Ok(value) = document_json(alloc, layout) else {
         return Err(Refusal::Memory);
     };
     match value.to_vec(alloc) {

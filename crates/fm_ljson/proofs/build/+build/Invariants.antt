@@ -1,4 +1,5 @@
 use Rattle.std.proofs.Common.{◌+◌, ◌*◌, drop, map}
+use Rattle.std.specs.BTreeMap.{get_by_text}
 use Rattle.serde_json.specs.View.{view}
 use Rattle.fm_ljson.specs.Built.{all_of, built}
 use Rattle.fm_ljson.proofs.Building.{IsBuilding}
@@ -15,4 +16,4 @@ decreases-build_all l = 3 * l.levels + 1
 
 abbrev pub invariant-build_all-loop-value : goal.invariant-build_all-loop-value
 invariant-build_all-loop-value l =
-    IsBuilding l.layouts.items (all_of (map (built l.levels) (map view l.values))) (all_of (map (built l.levels) (map view (drop l.value-index l.values))))
+    IsBuilding l.layouts.items (all_of (map (built (get_by_text l.types) l.levels) (map view l.values))) (all_of (map (built (get_by_text l.types) l.levels) (map view (drop l.value-index l.values))))

@@ -1,5 +1,6 @@
 use Rattle.std.proofs.Common.{◌+◌, ◌*◌, drop, map}
 use Rattle.std.specs.Prelude.{flat_map}
+use Rattle.std.specs.BTreeSet.{contains_text}
 use Rattle.serde_json.specs.View.{view}
 use Rattle.fm_ljson.specs.Counted.{IsCounting}
 use Rattle.fm_ljson.specs.Nodes.{nodes}
@@ -13,4 +14,4 @@ decreases-check_all l = 2 * l.levels + 1
 
 abbrev pub invariant-check_all-loop-value : goal.invariant-check_all-loop-value
 invariant-check_all-loop-value l =
-    IsCounting l.fn.number l.number (flat_map (nodes l.levels) (map view l.values)) (flat_map (nodes l.levels) (map view (drop l.value-index l.values)))
+    IsCounting (contains_text l.names) l.most l.fn.number l.number (flat_map (nodes l.levels) (map view l.values)) (flat_map (nodes l.levels) (map view (drop l.value-index l.values)))
