@@ -27,7 +27,7 @@ _fmem() {
   current=${COMP_WORDS[COMP_CWORD]} command=${COMP_WORDS[1]}
   COMPREPLY=()
   if [ "$COMP_CWORD" = 1 ]; then
-    mapfile -t COMPREPLY < <(compgen -W 'sum layout query tally demo run' -- "$current")
+    mapfile -t COMPREPLY < <(compgen -W 'sum layout migrate query tally demo run' -- "$current")
     return
   fi
   for ((k = 2; k < COMP_CWORD; k++)); do # the words that aren't of the option
@@ -55,7 +55,7 @@ _fmem() {
     done) ;;
     query/1) mapfile -t COMPREPLY < <(_fmem_query "${words[0]}" "${current#"$quote"}")
       compopt -o nospace 2> /dev/null ;;
-    layout/0 | run/0 | sum/3 | query/[02] | tally/[02])
+    layout/0 | migrate/0 | run/0 | sum/3 | query/[02] | tally/[02])
       compopt -o filenames 2> /dev/null
       mapfile -t COMPREPLY < <(compgen -f -- "$current") ;;
   esac

@@ -173,7 +173,8 @@ RestRefusesSo types layout =
     (known : List ℕ → Bool) (n : ℕ) (trees : List ℕ → Option Tree) → StandsFor known trees → first_broken_of known n types layout ≡ None
     → RefusesSo (built_behind trees (parts_from n types).entries layout)
 
-entry_refuses : (ds : List Data) (layout : Data) → RestRefusesSo ds layout → (known : List ℕ → Bool) (n : ℕ) (trees : List ℕ → Option Tree) (d : Data) (o p : Option Entry)
+entry_refuses : (ds : List Data) (layout : Data) → RestRefusesSo ds layout
+    → (known : List ℕ → Bool) (n : ℕ) (trees : List ℕ → Option Tree) (d : Data) (o p : Option Entry)
     → new_entry known n d ≡ o → entry_of d ≡ p → StandsFor known trees
     → at_entry n o (λ e. first_of (broken_at known (n + 1) e.layout) (first_broken_of (also_known e.name known) (behind (n + 1) e.layout) ds layout)) ≡ None
     → RefusesSo (built_behind trees (parts_at n p (λ m. parts_from m ds)).entries layout)

@@ -37,32 +37,37 @@ all_false a b c p q r = rw (p, q, r) refl
 -- where these names are known, and no node has this number
 module _ (known : List ℕ → Bool) (most : ℕ) where
   -- Past nodes that break no rule, the first that breaks one is the first of the others.
-  first_broken-append : (n : ℕ) (xs ys : List (ℕ × Data)) → first_broken known most n xs ≡ None → first_broken known most n (xs ++ ys) ≡ first_broken known most (n + length xs) ys
+  first_broken-append : (n : ℕ) (xs ys : List (ℕ × Data)) → first_broken known most n xs ≡ None
+      → first_broken known most n (xs ++ ys) ≡ first_broken known most (n + length xs) ys
   first_broken-append n [] ys h = let same : n ≡ n + 0 = omega arith in ap (λ k. first_broken known most k ys) same
   first_broken-append n (x ∷ xs) ys h =
       let same : n + 1 + length xs ≡ n + length (x ∷ xs) = omega arith in
-      none_past (is_broken known most n x) n (first_broken known most (n + 1) xs) (first_broken known most (n + 1) (xs ++ ys)) (first_broken known most (n + length (x ∷ xs)) ys)
+      none_past (is_broken known most n x) n (first_broken known most (n + 1) xs) (first_broken known most (n + 1) (xs ++ ys))
+          (first_broken known most (n + length (x ∷ xs)) ys)
       (λ e. first_broken-append (n + 1) xs ys e ∙ ap (λ k. first_broken known most k ys) same) h
 
   -- A node that breaks a rule comes before all that follow.
   first_broken-front : (n m : ℕ) (xs ys : List (ℕ × Data)) → first_broken known most n xs ≡ Some m → first_broken known most n (xs ++ ys) ≡ Some m
   first_broken-front n m [] ys h = cc
   first_broken-front n m (x ∷ xs) ys h =
-      some_past (is_broken known most n x) n m (first_broken known most (n + 1) xs) (first_broken known most (n + 1) (xs ++ ys)) (first_broken-front (n + 1) m xs ys) h
+      some_past (is_broken known most n x) n m (first_broken known most (n + 1) xs) (first_broken known most (n + 1) (xs ++ ys))
+          (first_broken-front (n + 1) m xs ys) h
 
   -- ---- through parts
 
   pub counting_start : (n : ℕ) (all : List (ℕ × Data)) → n ≤ most → IsCounting known most n n all all
   counting_start n all few = record { same = refl; next = refl; few = few }
 
-  pub counting_more : (n k m : ℕ) (all first rest : List (ℕ × Data)) → IsCounting known most n k all (first ++ rest) → AreSound known most k m first → IsCounting known most n m all rest
+  pub counting_more : (n k m : ℕ) (all first rest : List (ℕ × Data)) → IsCounting known most n k all (first ++ rest) → AreSound known most k m first
+      → IsCounting known most n m all rest
   counting_more n k m all first rest c s = record {
     same = c.same ∙ first_broken-append k first rest s.none ∙ ap (λ j. first_broken known most j rest) (sym s.next);
     next = omega (arith, c.next, s.next, length-append first rest);
     few = s.few;
   }
 
-  pub counting_broken : (n k m : ℕ) (all first rest : List (ℕ × Data)) → IsCounting known most n k all (first ++ rest) → first_broken known most k first ≡ Some m
+  pub counting_broken : (n k m : ℕ) (all first rest : List (ℕ × Data)) → IsCounting known most n k all (first ++ rest)
+      → first_broken known most k first ≡ Some m
       → first_broken known most n all ≡ Some m
   counting_broken n k m all first rest c h = c.same ∙ first_broken-front k m first rest h
 
@@ -92,7 +97,8 @@ module _ (known : List ℕ → Bool) (most : ℕ) where
 
   -- The nodes from this one down, where it breaks no rule.
   pub whole_here : (n levels : ℕ) (d : Data) (x : Node) → n < most → Some x ≡ node_of d
-      → first_broken known most n ((suc levels, d) ∷ flat_map (nodes levels) (parts_of d)) ≡ first_broken known most (n + 1) (flat_map (nodes levels) (parts_in x.content))
+      → first_broken known most n ((suc levels, d) ∷ flat_map (nodes levels) (parts_of d)) ≡ first_broken known most (n + 1)
+      (flat_map (nodes levels) (parts_in x.content))
   whole_here n levels d x few is =
       ap (λ b. cond b (Some n) (first_broken known most (n + 1) (flat_map (nodes levels) (parts_of d))))
       (all_false (nat_le most n) (nat_eq (suc levels) 0) (not (is_sound known d)) (lt-leb most n few)
@@ -164,7 +170,8 @@ module _ (known : List ℕ → Bool) (most : ℕ) where
 
   pub one_broken : (n levels : ℕ) (d : Data) (x : Node) (parts : List Data) (r : Result ℕ ℕ) → n < most → 0 < levels → Some x ≡ node_of d
       → parts ≡ parts_in x.content
-      → IfErr r (λ m. first_broken known most (n + 1) (flat_map (nodes (levels - 1)) parts) ≡ Some m) → IfErr r (λ m. first_broken known most n (nodes levels d) ≡ Some m)
+      → IfErr r (λ m. first_broken known most (n + 1) (flat_map (nodes (levels - 1)) parts) ≡ Some m)
+      → IfErr r (λ m. first_broken known most n (nodes levels d) ≡ Some m)
   one_broken n levels d x parts (Ok m) few deep is same h = tt
   one_broken n levels d x parts (Err e) few deep is same h =
       broken_below n e levels d x few deep is (subst (λ ds. first_broken known most (n + 1) (flat_map (nodes (levels - 1)) ds) ≡ Some e) same h)

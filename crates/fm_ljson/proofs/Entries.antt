@@ -61,7 +61,8 @@ reading_more known new es n m types rest layout d e r s noted =
     let says : entry_of d ≡ Some (entry e.layout e.name) = new_entry-says known n d (entry e.layout e.name) s.says in
     record {
       same = r.same
-          ∙ ap (λ o. at_entry n o (λ f. first_of (broken_at known (n + 1) f.layout) (first_broken_of (also_known f.name known) (behind (n + 1) f.layout) rest layout))) s.says
+          ∙ ap (λ o. at_entry n o (λ f. first_of (broken_at known (n + 1) f.layout) (first_broken_of (also_known f.name known)
+          (behind (n + 1) f.layout) rest layout))) s.says
           ∙ ap (λ o. first_of o (first_broken_of (also_known e.name known) (behind (n + 1) e.layout) rest layout)) s.none
           ∙ ap (λ k. first_broken_of k (behind (n + 1) e.layout) rest layout) name
           ∙ ap (λ k. first_broken_of new k rest layout) at;
@@ -94,7 +95,8 @@ bad_at o n is = inr (subst (λ p. IsAt p (BadShape n)) (sym is) refl)
 -- ---- at a value
 
 -- The next of the values is the first of those left.
-pub reading_item : (known : List ℕ → Bool) (es : List Numbered) (n : ℕ) (types : List Data) (layout : Data) (vs : List Value) (i : ℕ) (v : Value) → i < length vs
+pub reading_item : (known : List ℕ → Bool) (es : List Numbered) (n : ℕ) (types : List Data) (layout : Data) (vs : List Value) (i : ℕ) (v : Value)
+    → i < length vs
     → v ≡ get_or vs i v → IsReading known es n types (map view (drop i vs)) layout
     → IsReading known es n types (view v ∷ map view (drop (i + 1) vs)) layout
 reading_item known es n types layout vs i v here is r =

@@ -219,9 +219,11 @@ module _ (known : List ℕ → Option Extent) where
     measured_again : (t : Tree) (levels : ℕ) → IsWellFormed t → HasNames t → AreCountsSmall t → depth t ≤ levels
         → measure known levels (json_of t) ≡ measured (depth t) (node_count t)
     measured_again (Value k o l) zero w names small deep = absurd (omega (arith, deep))
-    measured_again (Value k o l) (suc levels) w names small deep = measure_step known levels (json_of (Value k o l)) (Value k o l) (said (Value k o l) w names small)
+    measured_again (Value k o l) (suc levels) w names small deep = measure_step known levels (json_of (Value k o l)) (Value k o l)
+        (said (Value k o l) w names small)
     measured_again (Padding n l) zero w names small deep = absurd (omega (arith, deep))
-    measured_again (Padding n l) (suc levels) w names small deep = measure_step known levels (json_of (Padding n l)) (Padding n l) (said (Padding n l) w names small)
+    measured_again (Padding n l) (suc levels) w names small deep = measure_step known levels (json_of (Padding n l)) (Padding n l)
+        (said (Padding n l) w names small)
     measured_again (Sequence n e l) zero w names small deep = absurd (omega (arith, deep))
     measured_again (Sequence n e l) (suc levels) w names small deep =
         measure_step known levels (json_of (Sequence n e l)) (Sequence n e l) (said (Sequence n e l) w names small)
@@ -247,7 +249,8 @@ module _ (known : List ℕ → Option Extent) where
 
 -- ---- the whole
 
-none_broken : (known : List ℕ → Bool) (most levels n : ℕ) (t : Tree) → IsWellFormed t → HasNames t → AreCountsSmall t → depth t ≤ levels → n + node_count t ≤ most
+none_broken : (known : List ℕ → Bool) (most levels n : ℕ) (t : Tree) → IsWellFormed t → HasNames t → AreCountsSmall t → depth t ≤ levels
+    → n + node_count t ≤ most
     → first_broken known most n (nodes levels (json_of t)) ≡ None
 none_broken known most levels n t w names small deep few =
     ap (first_broken known most n) (sym (append-nil (nodes levels (json_of t)))) ∙ sound_nodes known most t levels n [] w names small deep few

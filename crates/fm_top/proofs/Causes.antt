@@ -8,11 +8,12 @@ use Rattle.fm_layout.specs.Tree.{Tree}
 use Rattle.fm_ljson.specs.Answer.{layout_of_json}
 use Rattle.fm_query.specs.Plan.{Plan}
 use Rattle.fm_top.specs.Causes.{LacksFile, HasLongFile, HasRefusedLayout, HasRefusedQuery, HasRaggedFile, HasRefusedScript}
-use Rattle.fm_top.specs.Outcome.{Outcome, RecordsEnd, no_file, too_many, uneven, even, IsSummed, layout_outcome, listing, layout_file_limit, too_long}
+use Rattle.fm_top.specs.Outcome.{Outcome, RecordsEnd, no_file, too_many, uneven, even, IsSummed, layout_outcome, shows, layout_file_limit, too_long}
 use Rattle.fm_top.specs.Queries.{IsRecordLayout, IsPlanned, IsAnswered, TextEnds, unplanned, planned, AskEnds, no_layout, long_layout, bad_layout, over_layout}
 use Rattle.fm_top.specs.Run.{EndsBy}
 use Rattle.fm_top.specs.Scripts.{ScriptEnds, no_script, long_script, bad_script, ran}
 use Rattle.fm_top.specs.Words.{Request, Sum, Layout, Ask, Demo, Run}
+use Rattle.fm_top.specs.declared.layout_text.LayoutText.{LayoutText}
 use Rattle.fm_top.specs.declared.question.Question.{Question}
 use Rattle.fm_top.specs.declared.status.Status.{Status}
 use Rattle.fm_top.specs.declared.status.Status.TheVariants.{Answered, Missing, LayoutRefused, QueryRefused, Ragged, TooLong, ScriptRefused}
@@ -45,15 +46,17 @@ within : (limit n : ℕ) → nat_lt limit n ≡ false → n ≤ limit
 within limit n test = let over = not_from_Decides (nat_lt limit n) (Decides-ltb limit n) test in omega (arith, over)
 
 -- a layout's
-listed_cause : (name bytes : List ℕ) (last : Option (List ℕ)) (long : Bool) (r : Result Tree Refusal) → nat_lt layout_file_limit (length bytes) ≡ long
-    → layout_of_json bytes ≡ r → CauseOf (if long then too_long else listing r).status (Layout name) (Some bytes) last
-listed_cause name bytes last true r test is = (Decides-ltb layout_file_limit (length bytes)).0 test
-listed_cause name bytes last false (Ok layout) test is = tt
-listed_cause name bytes last false (Err refusal) test is = (within layout_file_limit (length bytes) test, (refusal, is))
+listed_cause : (text : LayoutText) (name bytes : List ℕ) (last : Option (List ℕ)) (long : Bool) (r : Result Tree Refusal)
+    → nat_lt layout_file_limit (length bytes) ≡ long
+    → layout_of_json bytes ≡ r → CauseOf (if long then too_long else shows text r).status (Layout text name) (Some bytes) last
+listed_cause text name bytes last true r test is = (Decides-ltb layout_file_limit (length bytes)).0 test
+listed_cause text name bytes last false (Ok layout) test is = tt
+listed_cause text name bytes last false (Err refusal) test is = (within layout_file_limit (length bytes) test, (refusal, is))
 
-layout_cause : (name : List ℕ) (first last : Option (List ℕ)) → CauseOf (layout_outcome name first).status (Layout name) first last
-layout_cause name None last = refl
-layout_cause name (Some bytes) last = listed_cause name bytes last (nat_lt layout_file_limit (length bytes)) (layout_of_json bytes) refl refl
+layout_cause : (text : LayoutText) (name : List ℕ) (first last : Option (List ℕ))
+    → CauseOf (layout_outcome text name first).status (Layout text name) first last
+layout_cause text name None last = refl
+layout_cause text name (Some bytes) last = listed_cause text name bytes last (nat_lt layout_file_limit (length bytes)) (layout_of_json bytes) refl refl
 
 -- that of a query or a tally
 module _ (q : Question) (threads : ℕ) (layout text file bytes : List ℕ) (t : Tree) (is : IsRecordLayout bytes t) where
@@ -86,7 +89,8 @@ script_cause file first last o (ran bytes s report short script tells) = tt
 -- each outcome's status has its cause
 pub end_cause : (request : Request) (first last : Option (List ℕ)) (o : Outcome) → EndsBy request first last o → CauseOf o.status request first last
 end_cause (Sum size at kind file) first last o ends = sum_cause size at kind file first last o ends
-end_cause (Layout file) first last o is = subst (λ (x : Outcome). CauseOf x.status (Layout file) first last) (sym is) (layout_cause file first last)
+end_cause (Layout text file) first last o is = subst (λ (x : Outcome). CauseOf x.status (Layout text file) first last) (sym is)
+    (layout_cause text file first last)
 end_cause (Ask q threads layout text file) first last o ends = ask_cause q threads layout text file first last o ends
 end_cause (Demo threads count) first last o ends = answer_cause (Demo threads count) first last o (ap (λ (x : Outcome). x.status) (sym ends.outcome))
 end_cause (Run file) first last o ends = script_cause file first last o ends

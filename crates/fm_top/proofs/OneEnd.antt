@@ -155,7 +155,7 @@ request_once : (request : Request) (contents : Contents) (o x : Outcome) → IsO
     → IsOutcomeOver request contents x → PrintAlike o x
 request_once (Sum size at kind file) contents o x one a b =
     records_once size file (IsSummed size at kind) (summed_once size at kind) (file_of contents file) o x a b
-request_once (Layout file) contents o x one a b = alike o x (a ∙ sym b)
+request_once (Layout text file) contents o x one a b = alike o x (a ∙ sym b)
 request_once (Ask q threads layout text file) contents o x one a b =
     ask_once q layout text file (file_of contents file) (file_of contents layout) o x a b
 request_once (Demo threads count) contents o x one a b = demo_once count o x a b
@@ -164,7 +164,7 @@ request_once (Run file) contents o x one a b = absurd one
 -- words that run no script ask for another thing
 is_one : (words : List (List ℕ)) (request : Request) → ((file : List ℕ) → IsRun words file → ⊥) → Asks words request → IsOne request
 is_one words (Sum size at kind file) none asks = tt
-is_one words (Layout file) none asks = tt
+is_one words (Layout text file) none asks = tt
 is_one words (Ask q threads layout text file) none asks = tt
 is_one words (Demo threads count) none asks = tt
 is_one words (Run file) none asks = none file asks

@@ -14,6 +14,7 @@ use Rattle.fm_top.specs.Queries.{IsLayoutRefused, IsUnplanned, TextEnds, unplann
 use Rattle.fm_top.specs.Run.{HasOutcome}
 use Rattle.fm_load.specs.Whole.{IsWhole, IsOver}
 use Rattle.fm_top.specs.Words.{Layout, Ask}
+use Rattle.fm_top.specs.declared.layout_text.LayoutText.{LayoutText}
 use Rattle.fm_top.specs.declared.question.Question.{Question}
 
 -- ---- what is found
@@ -40,13 +41,13 @@ long_found (Some held) name limit long = long_of limit (file_of held name) long
 
 -- ---- layouts
 
-pub layout-whole : (name bytes : List ℕ) (told : Option Contents) (o : Outcome) → IsWhole told name bytes → o ≡ layout_of_file bytes
-    → HasOutcome (Layout name) told o
-layout-whole name bytes told o whole is = (Some bytes, whole, is)
+pub layout-whole : (text : LayoutText) (name bytes : List ℕ) (told : Option Contents) (o : Outcome) → IsWhole told name bytes → o ≡ layout_of_file text bytes
+    → HasOutcome (Layout text name) told o
+layout-whole text name bytes told o whole is = (Some bytes, whole, is)
 
 -- a layout that is too long
-pub long_layout_ends : (bytes : List ℕ) → layout_file_limit < length bytes → layout_of_file bytes ≡ too_long
-long_layout_ends bytes long =
+pub long_layout_ends : (text : LayoutText) (bytes : List ℕ) → layout_file_limit < length bytes → layout_of_file text bytes ≡ too_long
+long_layout_ends text bytes long =
     let test : nat_lt layout_file_limit (length bytes) ≡ true = (Decides-ltb layout_file_limit (length bytes)).1 long in
     rw test refl
 

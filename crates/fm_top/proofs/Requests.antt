@@ -8,7 +8,9 @@ use Rattle.fm_lanes.specs.Named.{kind_text}
 use Rattle.fm_lanes.specs.declared.value_kind.ValueKind.{ValueKind}
 use Rattle.fm_options.proofs.Said.{one_saying}
 use Rattle.fm_options.specs.Options.{Say}
-use Rattle.fm_top.specs.Words.{Request, Sum, Layout, Ask, Demo, Run, Asks, IsSum, IsOfFile, IsThreaded, IsAsk, IsCount, IsDemo, AreThreadsBy, question_word, three}
+use Rattle.fm_top.specs.Words.{Request, Sum, Layout, Ask, Demo, Run, Asks, IsSum, IsOfFile, IsThreaded, IsAsk, IsCount, IsDemo, AreThreadsBy, IsLayout, layout_word, question_word, three}
+use Rattle.fm_top.specs.declared.layout_text.LayoutText.{LayoutText}
+use Rattle.fm_top.specs.declared.layout_text.LayoutText.TheVariants.{Places, Json}
 use Rattle.fm_top.specs.declared.question.Question.{Question}
 use Rattle.fm_top.specs.declared.question.Question.TheVariants.{Query, Tally}
 use Rattle.fm_top.proofs.Threaded.{one_count}
@@ -60,17 +62,37 @@ same_word words command command' threads threads' names names' a b =
     let two = b.spelled in
     cc
 
--- q isn't t
-other_letter : (n m : ℕ) → n ≡ 113 → m ≡ 116 → n ≡ m → ⊥
-other_letter n m q t same = omega (arith, q, t, same)
+-- words that begin otherwise are others
+other_letter : (n m q t : ℕ) → (q ≡ t → ⊥) → n ≡ q → m ≡ t → n ≡ m → ⊥
+other_letter n m q t other is_q is_t same = other (sym is_q ∙ same ∙ is_t)
 
 one_question : (q r : Question) → question_word q ≡ question_word r → q ≡ r
 one_question Query Query is = refl
 one_question Query Tally is =
-    absurd (other_letter (get_or (codes "query") 0 0) (get_or (codes "tally") 0 0) refl refl (ap (λ (w : List ℕ). get_or w 0 0) is))
+    absurd (other_letter (get_or (codes "query") 0 0) (get_or (codes "tally") 0 0) 113 116 (λ e. omega (arith, e)) refl refl
+        (ap (λ (w : List ℕ). get_or w 0 0) is))
 one_question Tally Query is =
-    absurd (other_letter (get_or (codes "query") 0 0) (get_or (codes "tally") 0 0) refl refl (sym (ap (λ (w : List ℕ). get_or w 0 0) is)))
+    absurd (other_letter (get_or (codes "query") 0 0) (get_or (codes "tally") 0 0) 113 116 (λ e. omega (arith, e)) refl refl
+        (sym (ap (λ (w : List ℕ). get_or w 0 0) is)))
 one_question Tally Tally is = refl
+
+one_text : (t u : LayoutText) → layout_word t ≡ layout_word u → t ≡ u
+one_text Places Places is = refl
+one_text Places Json is = absurd (other_letter (get_or (codes "layout") 0 0) (get_or (codes "migrate") 0 0) 108 109 (λ e. omega (arith, e)) refl refl
+    (ap (λ (w : List ℕ). get_or w 0 0) is))
+one_text Json Places is = absurd (other_letter (get_or (codes "layout") 0 0) (get_or (codes "migrate") 0 0) 108 109 (λ e. omega (arith, e)) refl refl
+    (sym (ap (λ (w : List ℕ). get_or w 0 0) is)))
+one_text Json Json is = refl
+
+same_layout : (words : List (List ℕ)) (text text' : LayoutText) (file file' : List ℕ) → IsLayout words text file → IsLayout words text' file'
+    → Layout text file ≡ Layout text' file'
+same_layout words text text' file file' a b =
+    let one = a.spelled in
+    let two = b.spelled in
+    let word : layout_word text ≡ layout_word text' = cc in
+    let name : file ≡ file' = cc in
+    let same : text ≡ text' = one_text text text' word in
+    cc
 
 same_ask : (words : List (List ℕ)) (q q' : Question) (threads threads' : ℕ) (layout text file layout' text' file' : List ℕ)
     → IsAsk words q threads layout text file → IsAsk words q' threads' layout' text' file'
@@ -98,15 +120,15 @@ same_demo words threads threads' count count' a b =
 -- the place of a command among the commands
 sort : Request → ℕ
 sort (Sum n m kind file) = 0
-sort (Layout file) = 1
+sort (Layout text file) = 1
 sort (Ask q threads layout text file) = 2
 sort (Demo threads count) = 3
 sort (Run file) = 4
 
 word_sort : List ℕ → ℕ
 word_sort w =
-    if bytes_eq w (codes "sum") then 0 else if bytes_eq w (codes "layout") then 1 else if bytes_eq w (codes "demo") then 3
-    else if bytes_eq w (codes "run") then 4 else 2
+    if bytes_eq w (codes "sum") then 0 else if bytes_eq w (codes "layout") then 1 else if bytes_eq w (codes "migrate") then 1
+    else if bytes_eq w (codes "demo") then 3 else if bytes_eq w (codes "run") then 4 else 2
 
 words_sort : List (List ℕ) → ℕ
 words_sort [] = 5
@@ -117,10 +139,15 @@ unfolding word_sort
 question_sort Query = refl
 question_sort Tally = refl
 
+text_sort : (text : LayoutText) → word_sort (layout_word text) ≡ 1
+unfolding word_sort
+text_sort Places = refl
+text_sort Json = refl
+
 sort_is : (words : List (List ℕ)) (r : Request) → Asks words r → words_sort words ≡ sort r
 unfolding sort word_sort words_sort
 sort_is words (Sum n m kind file) asks = ap words_sort asks.spelled
-sort_is words (Layout file) asks = ap words_sort asks.spelled
+sort_is words (Layout text file) asks = ap words_sort asks.spelled ∙ text_sort text
 sort_is words (Ask q threads layout text file) asks = ap words_sort asks.spelled ∙ question_sort q
 sort_is words (Demo threads count) asks = ap words_sort asks.threaded.spelled
 sort_is words (Run file) asks = ap words_sort asks.spelled
@@ -128,7 +155,7 @@ sort_is words (Run file) asks = ap words_sort asks.spelled
 pub same_request : (words : List (List ℕ)) (r s : Request) → Asks words r → Asks words s → r ≡ s
 unfolding sort
 same_request words (Sum n m kind file) (Sum n' m' kind' file') a b = same_sum words n m n' m' kind kind' file file' a b
-same_request words (Layout file) (Layout file') a b = ap Layout (same_file words (codes "layout") file file' a b)
+same_request words (Layout text file) (Layout text' file') a b = same_layout words text text' file file' a b
 same_request words (Run file) (Run file') a b = ap Run (same_file words (codes "run") file file' a b)
 same_request words (Ask q threads layout text file) (Ask q' threads' layout' text' file') a b =
     same_ask words q q' threads threads' layout text file layout' text' file' a b

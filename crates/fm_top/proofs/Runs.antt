@@ -17,7 +17,7 @@ use Rattle.fm_top.proofs.Causes.{CauseOf, end_cause}
 -- what words ask for can be asked
 pub can_be_asked : (words : List (List ℕ)) (request : Request) → Asks words request → CanBeAsked request
 can_be_asked words (Sum size at kind file) asks = asks.has_value
-can_be_asked words (Layout file) asks = tt
+can_be_asked words (Layout text file) asks = tt
 can_be_asked words (Ask q threads layout text file) asks = are_threads asks.text threads asks.are_threads
 can_be_asked words (Run file) asks = tt
 can_be_asked words (Demo threads count) asks = (are_threads asks.threaded.text threads asks.threaded.are_threads, asks.is_count)

@@ -38,7 +38,7 @@ IsLong found limit = IsSomeAnd found (λ bytes. limit < length bytes)
 -- a file has more bytes than its limit
 abbrev pub HasLongFile : Request → Option (List ℕ) → Option (List ℕ) → Type 0
 HasLongFile (Sum size at kind file) first last = IsLong first record_file_limit
-HasLongFile (Layout file) first last = IsLong first layout_file_limit
+HasLongFile (Layout text file) first last = IsLong first layout_file_limit
 HasLongFile (Ask q threads layout text file) first last =
     IsLong first layout_file_limit ⊎ ((p : Plan) × IsAsked q first text p × IsLong last record_file_limit)
 HasLongFile (Demo threads count) first last = ⊥
@@ -46,7 +46,7 @@ HasLongFile (Run file) first last = IsLong first script_file_limit
 
 -- the layout is refused
 abbrev pub HasRefusedLayout : Request → Option (List ℕ) → Option (List ℕ) → Type 0
-HasRefusedLayout (Layout file) first last =
+HasRefusedLayout (Layout text file) first last =
     IsSomeAnd first (λ bytes. (length bytes ≤ layout_file_limit) × IsRefused (layout_of_json bytes))
 HasRefusedLayout (Ask q threads layout text file) first last = IsSomeAnd first (λ bytes. (e : Refusal) × IsLayoutRefused bytes e)
 HasRefusedLayout request first last = ⊥

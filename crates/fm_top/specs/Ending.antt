@@ -8,7 +8,7 @@ use Rattle.fm_top.specs.declared.ending.Ending.{Ending}
 use Rattle.fm_top.specs.declared.status.Status.{Status}
 use Rattle.fm_top.specs.declared.status.Status.TheVariants.{Missing}
 use Rattle.fm_top.specs.declared.text.Text.{Text}
-use Rattle.fm_top.specs.declared.text.Text.TheVariants.{Whole, NoFile, Answer, Both}
+use Rattle.fm_top.specs.declared.text.Text.TheVariants.{Whole, Bytes, NoFile, Answer, Both}
 use Rattle.fm_top.specs.declared.stop.Stop.{Stop}
 
 abbrev pub answered_text : Answered → List ℕ
@@ -16,6 +16,7 @@ answered_text a = answer_text a.query a.answer
 
 abbrev pub text_of : Text → List ℕ
 text_of (Whole text) = string_bytes text
+text_of (Bytes bytes) = bytes.items
 text_of (NoFile file) = (missing file.now).text
 text_of (Answer answered) = answered_text answered
 text_of (Both first second) = answered_text first ++ answered_text second

@@ -7,11 +7,14 @@ use Rattle.fm_base.specs.declared.refusal.Refusal.{Refusal}
 use Rattle.fm_lanes.specs.declared.value_kind.ValueKind.{ValueKind}
 use Rattle.fm_layout.specs.Tree.{Tree}
 use Rattle.fm_ljson.specs.Answer.{layout_of_json}
+use Rattle.fm_ljson_write.specs.Canonical.{document_text}
 use Rattle.fm_path.specs.Listing.{list_text}
 use Rattle.fm_report.specs.Texts.{report_text}
 use Rattle.fm_report.specs.Views.{ReportView}
 use Rattle.fm_rule.specs.Finishing.{FinishedView}
 use Rattle.fm_top.specs.Records.{sum_of_values}
+use Rattle.fm_top.specs.declared.layout_text.LayoutText.{LayoutText}
+use Rattle.fm_top.specs.declared.layout_text.LayoutText.TheVariants.{Places, Json}
 use Rattle.fm_top.specs.declared.left.Left.{Left}
 use Rattle.fm_top.specs.declared.left.Left.TheVariants.{Nothing, Pool, Report}
 use Rattle.fm_top.specs.declared.status.Status.{Status}
@@ -102,17 +105,22 @@ IsSummed size at kind bytes o = o ≡ answered (sum_text size at kind bytes)
 abbrev pub SumEnds : ℕ → ℕ → ValueKind → List ℕ → Option (List ℕ) → Outcome → Type 0
 SumEnds size at kind file found o = RecordsEnd size file (IsSummed size at kind) found o
 
--- what `layout` prints of a layout, or of its refusal
-abbrev pub listing : Result Tree Refusal → Outcome
-listing (Ok layout) = answered (list_text layout)
-listing (Err refusal) = layout_refused refusal
+-- what `layout` prints of a layout, and what `migrate` prints
+abbrev pub printed : LayoutText → Tree → List ℕ
+printed Places layout = list_text layout
+printed Json layout = line (document_text layout)
 
--- how `layout` ends for a file of these bytes
-abbrev pub layout_of_file : List ℕ → Outcome
-layout_of_file bytes =
+-- how they end for a layout, or for its refusal
+abbrev pub shows : LayoutText → Result Tree Refusal → Outcome
+shows text (Ok layout) = answered (printed text layout)
+shows text (Err refusal) = layout_refused refusal
+
+-- how they end for a file of these bytes
+abbrev pub layout_of_file : LayoutText → List ℕ → Outcome
+layout_of_file text bytes =
     if nat_lt layout_file_limit (length bytes) then too_long
-    else listing (layout_of_json bytes)
+    else shows text (layout_of_json bytes)
 
-abbrev pub layout_outcome : List ℕ → Option (List ℕ) → Outcome
-layout_outcome file None = missing file
-layout_outcome file (Some bytes) = layout_of_file bytes
+abbrev pub layout_outcome : LayoutText → List ℕ → Option (List ℕ) → Outcome
+layout_outcome text file None = missing file
+layout_outcome text file (Some bytes) = layout_of_file text bytes

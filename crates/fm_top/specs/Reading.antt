@@ -25,7 +25,7 @@ AreReadsOf (Some name) limit reads = Follow name piece_limit (limit + 1) (At 0) 
 -- the most bytes of the file that is read first
 abbrev pub first_limit : Request → ℕ
 first_limit (Sum size at kind file) = record_file_limit
-first_limit (Layout file) = layout_file_limit
+first_limit (Layout text file) = layout_file_limit
 first_limit (Ask q threads layout text file) = layout_file_limit
 first_limit (Demo threads count) = 0
 first_limit (Run file) = script_file_limit
@@ -33,7 +33,7 @@ first_limit (Run file) = script_file_limit
 -- for this that was found first, a second file is read: the layout and the text stand
 abbrev pub NeedsLast : Request → Option (List ℕ) → Type 0
 NeedsLast (Sum size at kind file) first = ⊥
-NeedsLast (Layout file) first = ⊥
+NeedsLast (Layout text file) first = ⊥
 NeedsLast (Ask q threads layout text file) first = (p : Plan) × IsAsked q first text p
 NeedsLast (Demo threads count) first = ⊥
 NeedsLast (Run file) first = ⊥

@@ -5,6 +5,8 @@ use Rattle.fm_lanes.specs.declared.value_kind.ValueKind.{ValueKind}
 use Rattle.fm_lanes.specs.Kind.{width_of}
 use Rattle.fm_lanes.specs.Named.{kind_text}
 use Rattle.fm_options.specs.Options.{Say}
+use Rattle.fm_top.specs.declared.layout_text.LayoutText.{LayoutText}
+use Rattle.fm_top.specs.declared.layout_text.LayoutText.TheVariants as layout_text
 use Rattle.fm_top.specs.declared.question.Question.{Question}
 use Rattle.fm_top.specs.declared.question.Question.TheVariants as question
 
@@ -12,8 +14,8 @@ use Rattle.fm_top.specs.declared.question.Question.TheVariants as question
 pub data Request : Type 0 where
   -- the sum of the value of this kind at byte `at` of each record of `size` bytes
   Sum : (size at : ℕ) (kind : ValueKind) (file : List ℕ) → Request
-  -- what stands where in the layout that the file has
-  Layout : (file : List ℕ) → Request
+  -- this text of the layout that the file has
+  Layout : (text : LayoutText) (file : List ℕ) → Request
   -- what this text asks of the records of the file, by the layout that its file has, on so many threads
   Ask : (question : Question) (threads : ℕ) (layout text file : List ℕ) → Request
   -- what two queries answer over so many records that are made, on so many threads
@@ -24,7 +26,7 @@ pub data Request : Type 0 where
 -- the name of the file that is read first, if one is read
 abbrev pub first_file : Request → Option (List ℕ)
 first_file (Sum size at kind file) = Some file
-first_file (Layout file) = Some file
+first_file (Layout text file) = Some file
 first_file (Ask question threads layout text file) = Some layout
 first_file (Demo threads count) = None
 first_file (Run file) = Some file
@@ -32,7 +34,7 @@ first_file (Run file) = Some file
 -- the name of the file that is read behind it, if a second one is read
 abbrev pub last_file : Request → Option (List ℕ)
 last_file (Sum size at kind file) = None
-last_file (Layout file) = None
+last_file (Layout text file) = None
 last_file (Ask question threads layout text file) = Some file
 last_file (Demo threads count) = None
 last_file (Run file) = None
@@ -69,9 +71,14 @@ pub record IsOfFile (words : List (List ℕ)) (command file : List ℕ) : Type 0
   pub spelled : words ≡ two command file
   pub file_word : IsFileWord file
 
--- `layout FILE`
-abbrev pub IsLayout : List (List ℕ) → List ℕ → Type 0
-IsLayout words file = IsOfFile words (codes "layout") file
+-- the command by which the text of a layout is asked for
+abbrev pub layout_word : LayoutText → List ℕ
+layout_word layout_text.Places = codes "layout"
+layout_word layout_text.Json = codes "migrate"
+
+-- `layout FILE` or `migrate FILE`
+abbrev pub IsLayout : List (List ℕ) → LayoutText → List ℕ → Type 0
+IsLayout words text file = IsOfFile words (layout_word text) file
 
 -- `run FILE`
 abbrev pub IsRun : List (List ℕ) → List ℕ → Type 0
@@ -120,7 +127,7 @@ pub record IsDemo (words : List (List ℕ)) (threads count : ℕ) : Type 0 where
 -- the words ask for this
 abbrev pub Asks : List (List ℕ) → Request → Type 0
 Asks words (Sum size at kind file) = IsSum words size at kind file
-Asks words (Layout file) = IsLayout words file
+Asks words (Layout text file) = IsLayout words text file
 Asks words (Ask q threads layout text file) = IsAsk words q threads layout text file
 Asks words (Demo threads count) = IsDemo words threads count
 Asks words (Run file) = IsRun words file
@@ -128,7 +135,7 @@ Asks words (Run file) = IsRun words file
 -- what some words ask for
 abbrev pub CanBeAsked : Request → Type 0
 CanBeAsked (Sum size at kind file) = HasValue size at kind
-CanBeAsked (Layout file) = Unit {0}
+CanBeAsked (Layout text file) = Unit {0}
 CanBeAsked (Ask q threads layout text file) = AreThreads threads
 CanBeAsked (Demo threads count) = AreThreads threads × IsCount count
 CanBeAsked (Run file) = Unit {0}

@@ -12,8 +12,9 @@ use crate::asking::ask_ending;
 use crate::demo::demo_ending;
 use crate::demo_words::{DemoCommand, demo_words};
 use crate::ending::Ending;
-use crate::file_words::{LayoutCommand, RunCommand, file_words};
-use crate::layout::listing_ending;
+use crate::file_words::{LayoutCommand, RunCommand, file_words, layout_words};
+use crate::layout::layout_file_ending;
+use crate::layout_text::LayoutText;
 use crate::question::Question;
 use crate::scripting::script_ending;
 use crate::stop::Stop;
@@ -40,8 +41,11 @@ pub fn command_of<'a>(alloc: Global, words: &'a [String]) -> Result<Option<Comma
         IfSome found (λ command. Asks (texts words.now) (request_of command))) }
     ensures none { IfOk result (λ found. IfNone found (AreFaulty (texts words.now))) }
 {
-    if let Some(file) = file_words(words, "layout") {
-        return Ok(Some(Command::Layout(LayoutCommand { file })));
+    if let Some(layout) = layout_words(words, LayoutText::Places) {
+        return Ok(Some(Command::Layout(layout)));
+    }
+    if let Some(layout) = layout_words(words, LayoutText::Json) {
+        return Ok(Some(Command::Layout(layout)));
     }
     if let Some(file) = file_words(words, "run") {
         return Ok(Some(Command::Run(RunCommand { file })));
@@ -108,7 +112,7 @@ fn command_ending<'a, R: Threads + Wait + Sync, F: Files, G: Gate>(
 {
     match command {
         Command::Sum(sum) => sum_ending(rt, alloc, files, sum),
-        Command::Layout(layout) => listing_ending(alloc, files, layout.file),
+        Command::Layout(layout) => layout_file_ending(alloc, files, layout),
         Command::Ask(ask) => ask_ending(rt, alloc, files, ask, gate),
         Command::Demo(demo) => Ok(demo_ending(rt, alloc, demo, gate)?),
         Command::Run(run) => script_ending(rt, alloc, files, run.file, gate),

@@ -102,10 +102,14 @@ impl<'a> Ending<'a> {
     }
 
     /// The answer, which is this text.
-    pub fn answered(text: String) -> Ending<'a>
-        ensures { shown result ≡ answered (string_bytes text) }
+    pub fn answered(text: Text<'a>) -> Ending<'a>
+        ensures { shown result ≡ answered (text_of text.entry) }
     {
-        Ending::bare(Status::Answered, text)
+        Ending {
+            status: Status::Answered,
+            text,
+            left: Left::Nothing,
+        }
     }
 
     /// The answer, and the pool that gave it.
@@ -136,7 +140,7 @@ impl<'a> Ending<'a> {
         ensures { IfOk result (λ ending. shown ending ≡ answered (line (codes "sum " ++ signed_decimal sum))) }
     {
         let text = text_line(alloc, "sum ", Buffer::new().format(sum))?;
-        Ok(Ending::answered(text))
+        Ok(Ending::answered(Text::Whole(text)))
     }
 
     /// An end that leaves nothing.

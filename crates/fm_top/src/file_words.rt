@@ -1,12 +1,14 @@
 ghost use Rattle.std.specs.Prelude.{IfSome, IfNone, List, ℕ};
 ghost use Rattle.fm_options.specs.Options.{texts};
-ghost use Rattle.fm_top.specs.Words.{IsOfFile, two};
+ghost use Rattle.fm_top.specs.Words.{IsLayout, IsOfFile, two};
 
+use crate::layout_text::LayoutText;
 use crate::plain::is_file_word;
 
-/// `layout FILE`: what stands where in the layout that the file has.
+/// `layout FILE` or `migrate FILE`: what stands where in the layout that the file has, or its JSON.
 #[derive(Clone, Copy, Debug)]
 pub struct LayoutCommand<'a> {
+    pub text: LayoutText,
     pub file: &'a str,
 }
 
@@ -14,6 +16,17 @@ pub struct LayoutCommand<'a> {
 #[derive(Clone, Copy, Debug)]
 pub struct RunCommand<'a> {
     pub file: &'a str,
+}
+
+/// The command by which the words ask for this text of a layout, if they do.
+pub fn layout_words<'a>(words: &'a [String], text: LayoutText) -> Option<LayoutCommand<'a>>
+    ensures found { IfSome result (λ command. IsLayout (texts words.now) command.text command.file.now) }
+    ensures none { IfNone result ((file : List ℕ) → IsLayout (texts words.now) text file → ⊥) }
+{
+    match file_words(words, text.word()) {
+        Some(file) => Some(LayoutCommand { text, file }),
+        None => None,
+    }
 }
 
 /// The file that the words name behind this command, if they are just these two.

@@ -13,6 +13,8 @@ use std::alloc::Global;
 pub enum Text<'a> {
     /// This text.
     Whole(String),
+    /// The text of these bytes.
+    Bytes(Vec<u8>),
     /// That there is no file of this name: written part by part, so that it takes no memory.
     NoFile(&'a str),
     /// The answer of a query, of which lists can be long: its text is made as it is written.
@@ -32,6 +34,7 @@ impl Text<'_> {
     {
         match self {
             Text::Whole(text) => write_text(out, text.as_str().as_bytes()),
+            Text::Bytes(bytes) => write_text(out, bytes),
             Text::NoFile(file) => write_missing(out, file),
             Text::Answer(answered) => answered.write(alloc, out),
             Text::Both(first, second) => {

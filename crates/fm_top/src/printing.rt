@@ -1,0 +1,40 @@
+ghost use Rattle.std.specs.Prelude.{◌≡◌, IfOk, IfErr};
+ghost use Rattle.fm_ljson_write.specs.Canonical.{document_text};
+ghost use Rattle.fm_top.specs.Ending.{text_of};
+ghost use Rattle.fm_top.specs.Outcome.{line, printed};
+
+use crate::layout_text::LayoutText;
+use crate::stop::Stop;
+use crate::text::Text;
+use fm_layout::Layout;
+use fm_ljson_write::layout_to_json2;
+use fm_path::list_places;
+use std::alloc::Global;
+
+/// What is printed of a layout.
+pub fn text_of_layout<'a>(alloc: Global, text: LayoutText, layout: &Layout) -> Result<Text<'a>, Stop>
+    ensures text { IfOk result (λ printed_text. text_of printed_text ≡ printed text layout.now) }
+    ensures memory { IfErr result (λ stop. stop ≡ Stop.Memory) }
+{
+    match text {
+        LayoutText::Places => match list_places(alloc, layout) {
+            Ok(text) => Ok(Text::Whole(text)),
+            Err(_) => Err(Stop::Memory),
+        },
+        LayoutText::Json => json_line(alloc, layout),
+    }
+}
+
+/// The JSON of a layout, as a line.
+fn json_line<'a>(alloc: Global, layout: &Layout) -> Result<Text<'a>, Stop>
+    ensures text { IfOk result (λ text. text_of text ≡ line (document_text layout.now)) }
+    ensures memory { IfErr result (λ stop. stop ≡ Stop.Memory) }
+{
+    let Ok(mut bytes) = layout_to_json2(alloc, layout) else {
+        return Err(Stop::Memory);
+    };
+    let Ok(()) = bytes.push(b'\n') else {
+        return Err(Stop::Memory);
+    };
+    Ok(Text::Bytes(bytes))
+}
