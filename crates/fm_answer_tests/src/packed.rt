@@ -15,7 +15,9 @@ fn packed(alloc: Global) -> Result<Layout, Fail> {
     members.push(Layout::value(ValueKind::Byte).with_name(alloc, "a")?)?;
     let b = Layout::value(ValueKind::Int).with_alignment(1)?;
     members.push(b.with_name(alloc, "b")?)?;
-    let c = Layout::value(ValueKind::Long).with_order(Order::Big).with_alignment(1)?;
+    let c = Layout::value(ValueKind::Long)
+        .with_order(Order::Big)
+        .with_alignment(1)?;
     members.push(c.with_name(alloc, "c")?)?;
     let t = Layout::sequence(alloc, 3, Layout::value(ValueKind::Short).with_alignment(1)?)?;
     members.push(t.with_name(alloc, "t")?)?;
@@ -56,7 +58,10 @@ const ANSWERS: [(&str, &str); 5] = [
         "sum(.c) -2091636071594768297\nlist(.a) 37 90 24\n",
     ),
     ("count where .c>0 and .a<0", "count 1\n"),
-    ("list(.t[1]),list(.t[0:2]) where .a=24", "list(.t[1]) -16024\nlist(.t[0:2]) 4017 30751\n"),
+    (
+        "list(.t[1]),list(.t[0:2]) where .a=24",
+        "list(.t[1]) -16024\nlist(.t[0:2]) 4017 30751\n",
+    ),
 ];
 
 #[test]
@@ -68,7 +73,10 @@ fn values_that_cross_words_are_found(rt: HostRuntime) -> Result<(), Fail> {
     let all = Segment::of(arena, first, 120);
     let word = Layout::value(ValueKind::Long);
     for (k, n) in WORDS.iter().enumerate() {
-        assert_eq!(rt; all.set(&rt, &mut m, &word, 8 * k as u64, Value::Long(*n)), Ok(()));
+        assert_eq!(rt;
+            all.set(&rt, &mut m, &word, 8 * k as u64, Value::Long(*n)),
+            Ok(())
+        );
     }
     let s = Segment::of(arena, first, 114);
     let layout = packed(alloc)?;

@@ -43,7 +43,7 @@ module _ (known : List ℕ → Bool) (most : ℕ) where
   first_broken-append n (x ∷ xs) ys h =
       let same : n + 1 + length xs ≡ n + length (x ∷ xs) = omega arith in
       none_past (is_broken known most n x) n (first_broken known most (n + 1) xs) (first_broken known most (n + 1) (xs ++ ys))
-          (first_broken known most (n + length (x ∷ xs)) ys)
+      (first_broken known most (n + length (x ∷ xs)) ys)
       (λ e. first_broken-append (n + 1) xs ys e ∙ ap (λ k. first_broken known most k ys) same) h
 
   -- A node that breaks a rule comes before all that follow.
@@ -51,7 +51,7 @@ module _ (known : List ℕ → Bool) (most : ℕ) where
   first_broken-front n m [] ys h = cc
   first_broken-front n m (x ∷ xs) ys h =
       some_past (is_broken known most n x) n m (first_broken known most (n + 1) xs) (first_broken known most (n + 1) (xs ++ ys))
-          (first_broken-front (n + 1) m xs ys) h
+      (first_broken-front (n + 1) m xs ys) h
 
   -- ---- through parts
 

@@ -138,7 +138,7 @@ large_test m (inr h) =
 pub not_large : (n : ℕ) (k m : Extent) → IsExactly k m → large_at n m ≡ None
 not_large n k m is =
     ap (λ b. cond b (Some n) None) (small_test m (omega (arith, ap (λ (x : Extent). x.levels) is.same, is.levels))
-        (omega (arith, ap (λ (x : Extent). x.nodes) is.same, is.nodes)))
+    (omega (arith, ap (λ (x : Extent). x.nodes) is.same, is.nodes)))
 
 pub too_large : (n : ℕ) (m : Extent) → IsLarge m → large_at n m ≡ Some n
 too_large n m h = ap (λ b. cond b (Some n) None) (large_test m h)

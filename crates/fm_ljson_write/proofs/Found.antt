@@ -234,7 +234,7 @@ said_alone (Value k o l) =
 said_alone (Padding n l) = without_version type_name.Padding (name_of l) None _ (padding_says (whole n) (name_of l))
 said_alone (Sequence n e l) =
     without_version type_name.Sequence (name_of l) (align_of (alignment_of e) l) _ (sequence_says (whole n) (json_of e) (align_of (alignment_of e) l)
-        (name_of l))
+    (name_of l))
 said_alone (Struct ms l) =
     without_version type_name.Struct (name_of l) (align_of (greatest_alignment ms) l) _
     (struct_says (array (all_json ms)) (align_of (greatest_alignment ms) l) (name_of l))

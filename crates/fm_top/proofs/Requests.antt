@@ -70,10 +70,10 @@ one_question : (q r : Question) → question_word q ≡ question_word r → q �
 one_question Query Query is = refl
 one_question Query Tally is =
     absurd (other_letter (get_or (codes "query") 0 0) (get_or (codes "tally") 0 0) 113 116 (λ e. omega (arith, e)) refl refl
-        (ap (λ (w : List ℕ). get_or w 0 0) is))
+    (ap (λ (w : List ℕ). get_or w 0 0) is))
 one_question Tally Query is =
     absurd (other_letter (get_or (codes "query") 0 0) (get_or (codes "tally") 0 0) 113 116 (λ e. omega (arith, e)) refl refl
-        (sym (ap (λ (w : List ℕ). get_or w 0 0) is)))
+    (sym (ap (λ (w : List ℕ). get_or w 0 0) is)))
 one_question Tally Tally is = refl
 
 one_text : (t u : LayoutText) → layout_word t ≡ layout_word u → t ≡ u

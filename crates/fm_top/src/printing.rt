@@ -12,7 +12,11 @@ use fm_path::list_places;
 use std::alloc::Global;
 
 /// What is printed of a layout.
-pub fn text_of_layout<'a>(alloc: Global, text: LayoutText, layout: &Layout) -> Result<Text<'a>, Stop>
+pub fn text_of_layout<'a>(
+    alloc: Global,
+    text: LayoutText,
+    layout: &Layout,
+) -> Result<Text<'a>, Stop>
     ensures text { IfOk result (λ printed_text. text_of printed_text ≡ printed text layout.now) }
     ensures memory { IfErr result (λ stop. stop ≡ Stop.Memory) }
 {

@@ -14,7 +14,7 @@ build-returns-then-levels-eq0 t c = inr (sym (built_too_deep _ _ _ c.if-levels-e
 pub build-finish-requires-clause-aligned : goal.build-finish-requires-clause-aligned
 build-finish-requires-clause-aligned t c =
     built_aligned (built (get_by_text c.args.types.now) (c.args.levels - 1)) (view c.args.value.now) (node_view c.in-Some.node) c.in-Ok.layout
-        c.in-Some.ensures c.in-Ok.ensures
+    c.in-Some.ensures c.in-Ok.ensures
 
 pub build-finish-requires-clause-named : goal.build-finish-requires-clause-named
 build-finish-requires-clause-named t c = (node_of-good (view c.args.value.now) (node_view c.in-Some.node) c.in-Some.ensures).named
@@ -37,7 +37,7 @@ build-returns-in-None t c =
 pub build_all-loop-value-preserved : goal.build_all-loop-value-preserved
 build_all-loop-value-preserved t c =
     building_pushed (built (get_by_text c.args.types.now) c.args.levels) c.loop-value.layouts.items c.push.new.self.items c.in-Ok.layout _
-        c.args.values.now c.loop-value.value-index
+    c.args.values.now c.loop-value.value-index
     c.value-item.result
     c.loop-value-test.true c.value-item.is c.loop-value.invariant c.in-Ok.ensures c.in-Ok-push.ensures.items
 

@@ -17,4 +17,4 @@ decreases-build_all l = 3 * l.levels + 1
 abbrev pub invariant-build_all-loop-value : goal.invariant-build_all-loop-value
 invariant-build_all-loop-value l =
     IsBuilding l.layouts.items (all_of (map (built (get_by_text l.types) l.levels) (map view l.values)))
-        (all_of (map (built (get_by_text l.types) l.levels) (map view (drop l.value-index l.values))))
+    (all_of (map (built (get_by_text l.types) l.levels) (map view (drop l.value-index l.values))))

@@ -36,4 +36,4 @@ pub measure-returns-in-None : goal.measure-returns-in-None
 measure-returns-in-None t c =
     let some : 0 < c.args.levels = omega arith in
     measured_as c.within-in-None.result _ _ (c.measure_ref.ensures ∙ measure_none (get_by_text c.args.known.now) c.args.levels (view c.args.value.now)
-        some c.in-None.ensures) c.within-in-None.ensures
+    some c.in-None.ensures) c.within-in-None.ensures

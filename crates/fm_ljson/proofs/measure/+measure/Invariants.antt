@@ -15,4 +15,4 @@ decreases-measure_all l = 2 * l.levels + 1
 abbrev pub invariant-measure_all-loop-value : goal.invariant-measure_all-loop-value
 invariant-measure_all-loop-value l =
     IsSumming l.all (all_parts (get_by_text l.known) l.levels l.values) (all_measured (measure (get_by_text l.known) l.levels)
-        (map view (drop l.value-index l.values)))
+    (map view (drop l.value-index l.values)))

@@ -15,4 +15,4 @@ decreases-check_all l = 2 * l.levels + 1
 abbrev pub invariant-check_all-loop-value : goal.invariant-check_all-loop-value
 invariant-check_all-loop-value l =
     IsCounting (contains_text l.names) l.most l.fn.number l.number (flat_map (nodes l.levels) (map view l.values))
-        (flat_map (nodes l.levels) (map view (drop l.value-index l.values)))
+    (flat_map (nodes l.levels) (map view (drop l.value-index l.values)))

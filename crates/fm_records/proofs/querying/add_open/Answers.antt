@@ -14,4 +14,3 @@ add_all-requires g c = record {
   inside = c.requires.inside;
   room = c.requires.room;
 }
-

@@ -11,7 +11,7 @@ returns-in-Sum-clause-reads g c =
 pub returns-in-Layout-clause-reads : goal.returns-in-Layout-clause-reads
 returns-in-Layout-clause-reads g c =
     rw c.in-Layout.is (first_reads (Layout c.in-Layout.layout.text c.in-Layout.layout.file.now) (g.F.Files.holds c.args.files.now) refl
-        c.layout_file_ending.ensures.reads)
+    c.layout_file_ending.ensures.reads)
 
 pub returns-in-Run-clause-reads : goal.returns-in-Run-clause-reads
 returns-in-Run-clause-reads g c =

@@ -10,7 +10,7 @@ pub returns-in-Ok-clause-outcome : goal.returns-in-Ok-clause-outcome
 returns-in-Ok-clause-outcome g c =
     IfOk-weaker c.bytes_ending.result _ _
     (λ ending is. layout-whole c.args.layout.now.text c.args.layout.now.file.now c.in-Ok.bytes.items (g.F.Files.holds c.args.files.now) (shown ending)
-        c.in-Ok.ensures.whole (is
+    c.in-Ok.ensures.whole (is
     ∙ ap (layout_of_file c.args.layout.now.text) c.deref.ensures.value)) c.bytes_ending.ensures.ending
 
 pub returns-in-Err-clause-outcome : goal.returns-in-Err-clause-outcome
