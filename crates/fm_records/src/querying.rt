@@ -4,12 +4,12 @@ ghost use Rattle.fm_records.specs.Answers as answers;
 ghost use Rattle.fm_records.specs.Few.{HasRoom, IsOpen};
 ghost use Rattle.fm_records.specs.Adds.{AddsItem, AddsItems, IsItemReadable, IsTestable, ReachesInside};
 ghost use Rattle.fm_records.specs.Reads.{CanRead, Sees, Tests, TestsConditions};
-ghost use Rattle.fm_records.specs.Paths.{AddsAll, HasIndices};
+ghost use Rattle.fm_records.specs.Paths.{AddsAll, CanAddAll, HasIndices};
 ghost use Rattle.fm_records.specs.Values.{index_lists};
 ghost use Rattle.fm_records.specs.Words.{Seen, kept_last};
 
 use crate::found::Found;
-use crate::values::{add_all, add_value, number_at};
+use crate::values::{add_all, add_one_row, add_value, number_at};
 use crate::words::{Kept, Last};
 use fm_base::{Memory, Refusal};
 use fm_path::{Dim, ValueSpec};
@@ -56,7 +56,7 @@ fn holds_at<M: Memory>(
         (λ r own. Tests place kept.old condition.now r own kept.new) result }
 {
     let at = place + condition.path.offset();
-    match number_at(m, s, at, *condition.path.value(), kept) {
+    match number_at(m, s, at, condition.path.value(), kept) {
         Ok(number) => Ok(compares(condition.operator, number, condition.literal)),
         Err(refusal) => Err(refusal),
     }
@@ -126,34 +126,54 @@ fn add_item<M: Memory>(
         Asked::Of(_, path) => {
             let dims = path.dims().wide();
             if dims.is_empty() {
-                return add_value(m, s, place, path.offset(), *path.value(), kept, found);
+                return add_value(m, s, place, path.offset(), path.value(), kept, found);
             }
-            add_open(m, s, place, path.offset(), dims, *path.value(), found)
+            add_open(m, s, place, path.offset(), dims, path.value(), found)
         }
     }
 }
 
 /// Adds the values of a path in the record at a place, which may be none. It keeps its own last two words in place of the
-/// record's. It isn't inlined, so that a path with no open step pays nothing for it.
-#[inline(never)]
+/// record's.
 fn add_open<M: Memory>(
     m: &mut M,
     s: &Segment,
     place: u64,
     at: u64,
     dims: &[Dim],
-    value: ValueSpec,
+    value: &ValueSpec,
     found: &mut Found,
 ) -> Result<(), Refusal>
     requires can { CanRead (M.view m.old) s.now }
-    requires inside { ReachesInside s.now place at dims.now value }
+    requires inside { ReachesInside s.now place at dims.now value.now }
     requires room { HasRoom found.old (length (index_lists dims.now)) }
-    ensures { (last : List Seen) × AddsAll kept_last (M.view m.old) (M.view m.new) s.now place at dims.now value
+    ensures { (last : List Seen) × AddsAll kept_last (M.view m.old) (M.view m.new) s.now place at dims.now value.now
         [] last found.old found.new result }
 {
     if has_no_values(dims) {
         return Ok(());
     }
+    match dims {
+        [dim] => add_one_row(m, s, place, at, *dim, value, found),
+        _ => add_many_rows(m, s, place, at, dims, value, found),
+    }
+}
+
+/// The same of several rows. It isn't inlined, so that other paths pay nothing for it.
+#[inline(never)]
+fn add_many_rows<M: Memory>(
+    m: &mut M,
+    s: &Segment,
+    place: u64,
+    at: u64,
+    dims: &[Dim],
+    value: &ValueSpec,
+    found: &mut Found,
+) -> Result<(), Refusal>
+    requires { CanAddAll (M.view m.old) s.now place at dims.now value.now found.old }
+    ensures { (last : List Seen) × AddsAll kept_last (M.view m.old) (M.view m.new) s.now place at dims.now value.now
+        [] last found.old found.new result }
+{
     let mut last = Last::None;
     add_all(m, s, place, at, dims, value, &mut last, found)
 }

@@ -1,4 +1,4 @@
-ghost use Rattle.std.specs.Prelude.{◌≡◌, ◌∷◌, [], ◌+◌, ◌%◌, ◌<◌, ◌≤◌};
+ghost use Rattle.std.specs.Prelude.{◌≡◌, List, ◌∷◌, [], ◌+◌, ◌%◌, ◌<◌, ◌≤◌};
 ghost use Rattle.fm_bytes.specs.Bytes.{lane};
 ghost use Rattle.fm_lanes.specs.Kind.{width_of};
 ghost use Rattle.fm_path_meaning.specs.Steady.{IsInside};
@@ -6,7 +6,7 @@ ghost use Rattle.fm_path_meaning.specs.Walk.{reach};
 ghost use Rattle.fm_records.specs.Paths.{CanAddAll, AddsAll};
 ghost use Rattle.fm_records.specs.Reads.{CanRead, GetsNumber, LiesIn, Sees};
 ghost use Rattle.fm_records.specs.Rows.{words_of};
-ghost use Rattle.fm_records.specs.Words.{across, kept_last, number_of};
+ghost use Rattle.fm_records.specs.Words.{Seen, across, kept_last, number_of};
 
 use crate::found::Found;
 use crate::words::{Keep, Last, fetch, learn};
@@ -22,13 +22,13 @@ pub(crate) fn number_at<M: Memory, K: Keep>(
     m: &mut M,
     s: &Segment,
     place: u64,
-    value: ValueSpec,
+    value: &ValueSpec,
     kept: &mut K,
 ) -> Result<i64, Refusal>
     requires can { CanRead (M.view m.old) s.now }
-    requires lies { LiesIn s.now place (width_of value.kind) }
+    requires lies { LiesIn s.now place (width_of value.now.kind) }
     ensures { Sees (M.view m.old) (M.view m.new) s.now
-        (λ r own. GetsNumber K.keeps (K.kept kept.old) value place r own (K.kept kept.new)) result }
+        (λ r own. GetsNumber K.keeps (K.kept kept.old) value.now place r own (K.kept kept.new)) result }
 {
     match value.kind {
         ValueKind::Byte => number_as(m, s, place, ValueKind::Byte, value, kept),
@@ -47,14 +47,14 @@ fn number_as<M: Memory, K: Keep>(
     s: &Segment,
     place: u64,
     kind: ValueKind,
-    value: ValueSpec,
+    value: &ValueSpec,
     kept: &mut K,
 ) -> Result<i64, Refusal>
     requires can { CanRead (M.view m.old) s.now }
-    requires lies { LiesIn s.now place (width_of value.kind) }
-    requires kind { kind ≡ value.kind }
+    requires lies { LiesIn s.now place (width_of value.now.kind) }
+    requires kind { kind ≡ value.now.kind }
     ensures { Sees (M.view m.old) (M.view m.new) s.now
-        (λ r own. GetsNumber K.keeps (K.kept kept.old) value place r own (K.kept kept.new)) result }
+        (λ r own. GetsNumber K.keeps (K.kept kept.old) value.now place r own (K.kept kept.new)) result }
 {
     if place % 8 + u64::from(kind.width()) <= 8 {
         number_inside(m, s, place, kind, value, kept)
@@ -70,15 +70,15 @@ fn number_inside<M: Memory, K: Keep>(
     s: &Segment,
     place: u64,
     kind: ValueKind,
-    value: ValueSpec,
+    value: &ValueSpec,
     kept: &mut K,
 ) -> Result<i64, Refusal>
     requires can { CanRead (M.view m.old) s.now }
-    requires lies { LiesIn s.now place (width_of value.kind) }
-    requires kind { kind ≡ value.kind }
-    requires fits { place % 8 + width_of value.kind ≤ 8 }
+    requires lies { LiesIn s.now place (width_of value.now.kind) }
+    requires kind { kind ≡ value.now.kind }
+    requires fits { place % 8 + width_of value.now.kind ≤ 8 }
     ensures { Sees (M.view m.old) (M.view m.new) s.now
-        (λ r own. GetsNumber K.keeps (K.kept kept.old) value place r own (K.kept kept.new)) result }
+        (λ r own. GetsNumber K.keeps (K.kept kept.old) value.now place r own (K.kept kept.new)) result }
 {
     let word = place / 8;
     let known = kept.find(word);
@@ -95,14 +95,14 @@ fn number_across<M: Memory, K: Keep>(
     m: &mut M,
     s: &Segment,
     place: u64,
-    value: ValueSpec,
+    value: &ValueSpec,
     kept: &mut K,
 ) -> Result<i64, Refusal>
     requires can { CanRead (M.view m.old) s.now }
-    requires lies { LiesIn s.now place (width_of value.kind) }
-    requires across { 8 < place % 8 + width_of value.kind }
+    requires lies { LiesIn s.now place (width_of value.now.kind) }
+    requires across { 8 < place % 8 + width_of value.now.kind }
     ensures { Sees (M.view m.old) (M.view m.new) s.now
-        (λ r own. GetsNumber K.keeps (K.kept kept.old) value place r own (K.kept kept.new)) result }
+        (λ r own. GetsNumber K.keeps (K.kept kept.old) value.now place r own (K.kept kept.new)) result }
 {
     let word = place / 8;
     let known = kept.find(word);
@@ -122,20 +122,20 @@ fn number_across<M: Memory, K: Keep>(
 
 /// The number of a value of this kind in a word, from byte `at` on.
 #[inline(always)]
-fn number_in(word: u64, at: u32, kind: ValueKind, value: ValueSpec) -> i64
-    requires fits { at + width_of value.kind ≤ 8 }
-    requires kind { kind ≡ value.kind }
-    ensures { result ≡ number_of value (lane word at (width_of value.kind)) }
+fn number_in(word: u64, at: u32, kind: ValueKind, value: &ValueSpec) -> i64
+    requires fits { at + width_of value.now.kind ≤ 8 }
+    requires kind { kind ≡ value.now.kind }
+    ensures { result ≡ number_of value.now (lane word at (width_of value.now.kind)) }
 {
     let number = read(word, at, kind.width());
     decode(kind, turned(kind.width(), number, value.order)).number()
 }
 
 /// The number of a value in two words, of which the lower has its bytes from `at` on.
-fn number_between(low: u64, high: u64, at: u32, value: ValueSpec) -> i64
+fn number_between(low: u64, high: u64, at: u32, value: &ValueSpec) -> i64
     requires at { at < 8 }
-    requires across { 8 < at + width_of value.kind }
-    ensures { result ≡ number_of value (across low high at (width_of value.kind)) }
+    requires across { 8 < at + width_of value.now.kind }
+    ensures { result ≡ number_of value.now (across low high at (width_of value.now.kind)) }
 {
     let first = 8 - at;
     let rest = value.kind.width() - first;
@@ -146,8 +146,8 @@ fn number_between(low: u64, high: u64, at: u32, value: ValueSpec) -> i64
 }
 
 /// The number that the bytes of a value make, as the value means it.
-fn meant(number: u64, value: ValueSpec) -> i64
-    ensures { result ≡ number_of value number }
+fn meant(number: u64, value: &ValueSpec) -> i64
+    ensures { result ≡ number_of value.now number }
 {
     decode(value.kind, turned(value.kind.width(), number, value.order)).number()
 }
@@ -160,12 +160,12 @@ pub(crate) fn add_value<M: Memory, K: Keep>(
     s: &Segment,
     place: u64,
     at: u64,
-    value: ValueSpec,
+    value: &ValueSpec,
     kept: &mut K,
     found: &mut Found,
 ) -> Result<(), Refusal>
-    requires { CanAddAll (M.view m.old) s.now place at [] value found.old }
-    ensures { AddsAll K.keeps (M.view m.old) (M.view m.new) s.now place at [] value (K.kept kept.old) (K.kept kept.new)
+    requires { CanAddAll (M.view m.old) s.now place at [] value.now found.old }
+    ensures { AddsAll K.keeps (M.view m.old) (M.view m.new) s.now place at [] value.now (K.kept kept.old) (K.kept kept.new)
         found.old found.new result }
 {
     match number_at(m, s, place + at, value, kept) {
@@ -182,13 +182,13 @@ fn add_value_as<M: Memory>(
     place: u64,
     at: u64,
     kind: ValueKind,
-    value: ValueSpec,
+    value: &ValueSpec,
     last: &mut Last,
     found: &mut Found,
 ) -> Result<(), Refusal>
-    requires can { CanAddAll (M.view m.old) s.now place at [] value found.old }
-    requires kind { kind ≡ value.kind }
-    ensures { AddsAll kept_last (M.view m.old) (M.view m.new) s.now place at [] value
+    requires can { CanAddAll (M.view m.old) s.now place at [] value.now found.old }
+    requires kind { kind ≡ value.now.kind }
+    ensures { AddsAll kept_last (M.view m.old) (M.view m.new) s.now place at [] value.now
         (words_of last.old) (words_of last.new) found.old found.new result }
 {
     match number_as(m, s, place + at, kind, value, last) {
@@ -218,12 +218,12 @@ pub(crate) fn add_all<M: Memory>(
     place: u64,
     at: u64,
     dims: &[Dim],
-    value: ValueSpec,
+    value: &ValueSpec,
     last: &mut Last,
     found: &mut Found,
 ) -> Result<(), Refusal>
-    requires { CanAddAll (M.view m.old) s.now place at dims.now value found.old }
-    ensures { AddsAll kept_last (M.view m.old) (M.view m.new) s.now place at dims.now value
+    requires { CanAddAll (M.view m.old) s.now place at dims.now value.now found.old }
+    ensures { AddsAll kept_last (M.view m.old) (M.view m.new) s.now place at dims.now value.now
         (words_of last.old) (words_of last.new) found.old found.new result }
 {
     match dims {
@@ -242,12 +242,12 @@ fn add_rows<M: Memory>(
     at: u64,
     dim: Dim,
     rest: &[Dim],
-    value: ValueSpec,
+    value: &ValueSpec,
     last: &mut Last,
     found: &mut Found,
 ) -> Result<(), Refusal>
-    requires { CanAddAll (M.view m.old) s.now place at (dim ∷ rest.now) value found.old }
-    ensures { AddsAll kept_last (M.view m.old) (M.view m.new) s.now place at (dim ∷ rest.now) value
+    requires { CanAddAll (M.view m.old) s.now place at (dim ∷ rest.now) value.now found.old }
+    ensures { AddsAll kept_last (M.view m.old) (M.view m.new) s.now place at (dim ∷ rest.now) value.now
         (words_of last.old) (words_of last.new) found.old found.new result }
 {
     for i in 0..dim.bound {
@@ -267,12 +267,12 @@ fn add_row<M: Memory>(
     place: u64,
     at: u64,
     dim: Dim,
-    value: ValueSpec,
+    value: &ValueSpec,
     last: &mut Last,
     found: &mut Found,
 ) -> Result<(), Refusal>
-    requires { CanAddAll (M.view m.old) s.now place at (dim ∷ []) value found.old }
-    ensures { AddsAll kept_last (M.view m.old) (M.view m.new) s.now place at (dim ∷ []) value
+    requires { CanAddAll (M.view m.old) s.now place at (dim ∷ []) value.now found.old }
+    ensures { AddsAll kept_last (M.view m.old) (M.view m.new) s.now place at (dim ∷ []) value.now
         (words_of last.old) (words_of last.new) found.old found.new result }
 {
     match value.kind {
@@ -295,6 +295,91 @@ fn add_row<M: Memory>(
     }
 }
 
+/// A row by itself, whose last two words nobody else has.
+pub(crate) fn add_one_row<M: Memory>(
+    m: &mut M,
+    s: &Segment,
+    place: u64,
+    at: u64,
+    dim: Dim,
+    value: &ValueSpec,
+    found: &mut Found,
+) -> Result<(), Refusal>
+    requires { CanAddAll (M.view m.old) s.now place at (dim ∷ []) value.now found.old }
+    ensures { (last : List Seen) × AddsAll kept_last (M.view m.old) (M.view m.new) s.now place at (dim ∷ []) value.now
+        [] last found.old found.new result }
+{
+    let mut last = Last::None;
+    match value.kind {
+        ValueKind::Byte => add_row_as(
+            m,
+            s,
+            place,
+            at,
+            dim,
+            ValueKind::Byte,
+            value,
+            &mut last,
+            found,
+        ),
+        ValueKind::Boolean => add_row_as(
+            m,
+            s,
+            place,
+            at,
+            dim,
+            ValueKind::Boolean,
+            value,
+            &mut last,
+            found,
+        ),
+        ValueKind::Char => add_row_as(
+            m,
+            s,
+            place,
+            at,
+            dim,
+            ValueKind::Char,
+            value,
+            &mut last,
+            found,
+        ),
+        ValueKind::Short => add_row_as(
+            m,
+            s,
+            place,
+            at,
+            dim,
+            ValueKind::Short,
+            value,
+            &mut last,
+            found,
+        ),
+        ValueKind::Int => add_row_as(
+            m,
+            s,
+            place,
+            at,
+            dim,
+            ValueKind::Int,
+            value,
+            &mut last,
+            found,
+        ),
+        ValueKind::Long => add_row_as(
+            m,
+            s,
+            place,
+            at,
+            dim,
+            ValueKind::Long,
+            value,
+            &mut last,
+            found,
+        ),
+    }
+}
+
 /// The loop for one kind.
 #[inline(always)]
 fn add_row_as<M: Memory>(
@@ -304,13 +389,13 @@ fn add_row_as<M: Memory>(
     at: u64,
     dim: Dim,
     kind: ValueKind,
-    value: ValueSpec,
+    value: &ValueSpec,
     last: &mut Last,
     found: &mut Found,
 ) -> Result<(), Refusal>
-    requires can { CanAddAll (M.view m.old) s.now place at (dim ∷ []) value found.old }
-    requires kind { kind ≡ value.kind }
-    ensures { AddsAll kept_last (M.view m.old) (M.view m.new) s.now place at (dim ∷ []) value
+    requires can { CanAddAll (M.view m.old) s.now place at (dim ∷ []) value.now found.old }
+    requires kind { kind ≡ value.now.kind }
+    ensures { AddsAll kept_last (M.view m.old) (M.view m.new) s.now place at (dim ∷ []) value.now
         (words_of last.old) (words_of last.new) found.old found.new result }
 {
     for i in 0..dim.bound {

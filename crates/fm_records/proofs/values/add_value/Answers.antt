@@ -13,11 +13,11 @@ number_at-requires-clause-lies g c = closed_lies c.requires
 
 pub returns-in-Ok : goal.returns-in-Ok
 returns-in-Ok g c =
-    value_added c.args.s.now c.args.value (c.args.place + c.args.at) g.K.Keep.keeps (g.K.Keep.kept c.args.kept.now) (g.K.Keep.kept c.number_at.new.kept)
+    value_added c.args.s.now c.args.value.now (c.args.place + c.args.at) g.K.Keep.keeps (g.K.Keep.kept c.args.kept.now) (g.K.Keep.kept c.number_at.new.kept)
     c.in-Ok.number _ c.args.found.now c.add_number.new.self c.add_number.result
     (to_z-of_z w64 c.in-Ok.number (search rules)) c.add_number.ensures.ok c.add_number.ensures.same c.add_number.ensures.memory c.in-Ok.ensures
 
 pub returns-in-Err : goal.returns-in-Err
 returns-in-Err g c =
-    value_stops c.args.s.now c.args.value (c.args.place + c.args.at) g.K.Keep.keeps (g.K.Keep.kept c.args.kept.now) (g.K.Keep.kept c.number_at.new.kept)
+    value_stops c.args.s.now c.args.value.now (c.args.place + c.args.at) g.K.Keep.keeps (g.K.Keep.kept c.args.kept.now) (g.K.Keep.kept c.number_at.new.kept)
     c.args.found.now c.in-Err.refusal c.in-Err.ensures

@@ -9,11 +9,11 @@ use Rattle.fm_records.proofs.values.number_between.Goals as goal
 
 pub overflow_add-read : goal.overflow_add-read
 overflow_add-read c =
-    let p = placed c.args.low c.args.high c.args.at (width_of c.args.value.kind) c.requires.at c.requires.across (width_of-bounds c.args.value.kind).1 in
+    let p = placed c.args.low c.args.high c.args.at (width_of c.args.value.now.kind) c.requires.at c.requires.across (width_of-bounds c.args.value.now.kind).1 in
     rw (c.read.ensures, c.read-2.ensures, c.width.ensures, p.whole) (let f = p.fits in omega arith)
 
 pub returns : goal.returns
 returns c =
-    let p = placed c.args.low c.args.high c.args.at (width_of c.args.value.kind) c.requires.at c.requires.across (width_of-bounds c.args.value.kind).1 in
+    let p = placed c.args.low c.args.high c.args.at (width_of c.args.value.now.kind) c.requires.at c.requires.across (width_of-bounds c.args.value.now.kind).1 in
     to_z-of_z w64 c.meant.result (search rules) ∙ c.meant.ensures
-    ∙ ap (number_of c.args.value) (rw (c.read.ensures, c.read-2.ensures, c.width.ensures, p.whole) refl)
+    ∙ ap (number_of c.args.value.now) (rw (c.read.ensures, c.read-2.ensures, c.width.ensures, p.whole) refl)

@@ -8,7 +8,7 @@ use Rattle.fm_records.proofs.Seeing.{word_of_place}
 use Rattle.fm_records.proofs.values.number_inside.Goals as goal
 
 pub fetch-requires-clause-word : goal.fetch-requires-clause-word
-fetch-requires-clause-word g c = word_of_place c.requires.lies (width_of-bounds c.args.value.kind).0
+fetch-requires-clause-word g c = word_of_place c.requires.lies (width_of-bounds c.args.value.now.kind).0
 
 pub returns-in-Err : goal.returns-in-Err
 returns-in-Err g c =
