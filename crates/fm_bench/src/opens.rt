@@ -70,6 +70,7 @@ fn fill_up<R: Wait>(rt: &R, pool: &Pool, pass: &mut Pass, arena: ArenaId) -> Res
     requires free { IsFree pool.now pass.old }
     requires open { IsOpen pass.old 8 arena }
     ensures free { IsFree pool.now pass.new }
+    ensures open { IsOpen pass.new 8 arena }
 {
     for _ in 1..WORDS {
         allocate(rt, pool, pass, arena, 8, 8)?;

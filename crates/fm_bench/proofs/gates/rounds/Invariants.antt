@@ -2,8 +2,8 @@ use Rattle.fm_bench.proofs.gates.rounds.Given as goal
 use Rattle.fm_bench.specs.Ready.{IsOpen}
 use Rattle.fm_gate.specs.Standing.{IsOutside}
 
-abbrev pub invariant-loop-2 : goal.invariant-loop-2
-invariant-loop-2 l = IsOutside l.fn.pool l.pass × IsOpen l.pass 65536 l.fn.arena
+abbrev pub invariant-loop : goal.invariant-loop
+invariant-loop l = IsOutside l.fn.pool l.pass × IsOpen l.pass 65536 l.fn.arena
 
 abbrev pub invariant-loop-word : goal.invariant-loop-word
 invariant-loop-word l = IsOutside l.fn.pool l.pass × IsOpen l.pass 65536 l.fn.arena
