@@ -6,7 +6,7 @@ use std::alloc::{AllocError, Global};
 use std::test::Fail;
 
 /// The layout of a text that has `'` for each quotation mark.
-fn read(alloc: Global, text: &str) -> Result<Layout, Refusal> {
+pub(crate) fn read(alloc: Global, text: &str) -> Result<Layout, Refusal> {
     let mut json = String::new(alloc);
     for c in text.chars() {
         json.push(if c == '\'' { '"' } else { c })?;
@@ -182,7 +182,7 @@ fn refuses_as_the_constructors_do(rt: HostRuntime) -> Result<(), Fail> {
 }
 
 /// An int in so many sequences of one.
-fn nested(alloc: Global, levels: u64) -> Result<String, Fail> {
+pub(crate) fn nested(alloc: Global, levels: u64) -> Result<String, Fail> {
     let mut text = String::new(alloc);
     for _ in 0..levels {
         text.push_str("{'type':'sequence','count':1,'element':")?;
@@ -211,7 +211,7 @@ fn reads_forty_levels(rt: HostRuntime) -> Result<(), Fail> {
 }
 
 /// A struct of so many bytes.
-fn wide(alloc: Global, members: u64) -> Result<String, Fail> {
+pub(crate) fn wide(alloc: Global, members: u64) -> Result<String, Fail> {
     let mut text = String::new(alloc);
     text.push_str("{'type':'struct','members':[{'type':'byte'}")?;
     for _ in 1..members {

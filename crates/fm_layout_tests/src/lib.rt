@@ -6,6 +6,8 @@ mod demos;
 #[cfg(test)]
 mod layouts;
 #[cfg(test)]
+mod layouts_named;
+#[cfg(test)]
 mod layouts_read;
 #[cfg(test)]
 mod layouts_written;

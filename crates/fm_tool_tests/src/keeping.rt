@@ -33,6 +33,7 @@ demo --threads 2 3 -> 0 kept
 query L1 count Ragged -> 6 none
 query L1 count E -> 0 kept
 layout L1 -> 0 none
+migrate L1 -> 0 none
 tally L1 .tags[] E -> 0 kept
 sum 8 0 long R1 -> 0 none
 query --threads 16 L1 count R1 -> 0 kept

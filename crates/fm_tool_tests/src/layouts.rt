@@ -20,7 +20,7 @@ const LISTING: &str =
     "size 24\nalignment 8\n.id 0 int little\n.kind 4 short little\n.price 8 long little\n.tags[] 16 byte little 1*4\n";
 
 /// The files where `L` has this text, and each read gives at most so many bytes.
-fn layout_file(alloc: Global, text: &str, most: usize) -> Result<MemFiles, AllocError> {
+pub fn layout_file(alloc: Global, text: &str, most: usize) -> Result<MemFiles, AllocError> {
     let file = text_file(alloc, "L", text)?;
     Ok(MemFiles::new(vec![in alloc; file]?, Vec::new(alloc)).with_piece(most.max(1)))
 }

@@ -19,6 +19,8 @@ mod kinds;
 #[cfg(test)]
 mod layouts;
 #[cfg(test)]
+mod migrations;
+#[cfg(test)]
 mod queries;
 #[cfg(test)]
 mod scripts;
