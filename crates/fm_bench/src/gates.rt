@@ -213,6 +213,7 @@ fn hop(pool: &Pool, pass: &mut Pass, arenas: &[ArenaId], word: u64) -> Result<u6
 }
 
 /// Loads a word in a visit of its own.
+#[inline(always)]
 pub fn visit(pool: &Pool, pass: &mut Pass, arena: ArenaId, word: u64) -> Result<u64, Refusal>
     requires ready { CanVisit pool.now pass.old arena }
     requires within { 8 * word < given_of pass.old arena }
