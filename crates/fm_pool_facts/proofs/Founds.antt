@@ -33,6 +33,10 @@ pub note_none_drawn : (step : FindStep) (x : ℕ) (v : View) → is_draw step �
 note_none_drawn step x v e n f (inl q) = (ap (λ (g : Find). is_draw g.step) q ∙ e, ap (λ (g : Find). g.drew) q)
 note_none_drawn step x v e n f (inr i) = absurd i
 
+pub note_no_number : (step : FindStep) (x : ℕ) (v : View) → is_number step ≡ false → (n : ℕ) (f : Find) → In f (note_of step x v n) → is_number f.step ≡ false
+note_no_number step x v e n f (inl q) = ap (λ (g : Find). is_number g.step) q ∙ e
+note_no_number step x v e n f (inr i) = absurd i
+
 pub note_no_draw : (step : FindStep) (x : ℕ) (v : View) → is_draw step ≡ false → is_slot step ≡ false → is_page step ≡ false → is_number step ≡ false
     → NoDraw (note_of step x v)
 note_no_draw step x v e s p u n f (inl q) = (

@@ -117,13 +117,15 @@ sweeping_on limit c m t es m' ok stands z j o o' x k e s = record {
 }
 
 -- where these are as they were, a close and a sweep are a seat's still
-pub closing_as : {t : Machine} {o : Owners} {j : ℕ} {c : Close} {number holder : ℕ → ℕ} {taker : ℕ → Option Caller} → IsClosing t o j c
-    → IsClosing t (record o { number = number; holder = holder; taker = taker }) j c
+pub closing_as : {t : Machine} {o : Owners} {j : ℕ} {c : Close} {who : ℕ → Caller} {rank seat : Caller → ℕ} {number holder : ℕ → ℕ}
+    {taker : ℕ → Option Caller} → IsClosing t o j c
+    → IsClosing t (record o { who = who; rank = rank; seat = seat; number = number; holder = holder; taker = taker }) j c
 closing_as y = record { owner = y.owner; life = y.life; visited = y.visited }
 
-pub sweeping_as : {z : Shape} {m : Memory} {t : Machine} {o : Owners} {j : ℕ} {c : Close} {draw bits : ℕ} {number holder : ℕ → ℕ}
-    {taker : ℕ → Option Caller}
-    → IsSweeping z m t o j c → IsSweeping z (record m { draw = draw; bits = bits }) t (record o { number = number; holder = holder; taker = taker }) j c
+pub sweeping_as : {z : Shape} {m : Memory} {t : Machine} {o : Owners} {j : ℕ} {c : Close} {draw bits : ℕ} {numbers terms : ℕ → ℕ} {who : ℕ → Caller}
+    {rank seat : Caller → ℕ} {number holder : ℕ → ℕ} {taker : ℕ → Option Caller}
+    → IsSweeping z m t o j c → IsSweeping z (record m { draw = draw; bits = bits; numbers = numbers; terms = terms }) t
+    (record o { who = who; rank = rank; seat = seat; number = number; holder = holder; taker = taker }) j c
 sweeping_as y = record { owner = y.owner; life = y.life; session = y.session; parts = y.parts; count = y.count; reset = y.reset }
 
 -- who was drawn is so after a step, and nobody else

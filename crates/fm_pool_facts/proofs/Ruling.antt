@@ -80,12 +80,26 @@ abbrev pub PagesAfter : Shape → List Entry → Memory → Machine → Owners �
 PagesAfter z h m t o es =
     Pages z (loans_after (lent h) es) m.page_bits m.maps m.cells o.berth m.sessions (moved_by t es).life (moved_by t es).word (moved_by t es).given
 
+-- what a step by v notes of numbers: each find says how many were gathered, and of each number of its group who has it
+abbrev pub AreLooked : {z : Shape} {ws : List ℕ} {vs : List View} → Rule z ws vs → View → (ℕ → List Find) → Type 0
+AreLooked {z} {ws} {vs} r v fs = (f : Find) → In f (fs (length r.history))
+    → (is_number f.step ≡ true → f.gathered ≡ length v.gathered) × LookedBy z r.memory r.owners vs v.gathered f
+
+-- it may note none
+abbrev pub NoNumbers : (ℕ → List Find) → Type 0
+NoNumbers fs = (n : ℕ) (f : Find) → In f (fs n) → is_number f.step ≡ false
+
+pub unlooked : {z : Shape} {ws : List ℕ} {vs : List View} (r : Rule z ws vs) (v : View) (fs : ℕ → List Find) → NoNumbers fs → AreLooked r v fs
+unlooked {z} {ws} {vs} r v fs none f i =
+    let no : is_number f.step ≡ false = none (length r.history) f i in
+    ((λ q. absurd (let e : true ≡ false = sym q ∙ no in cc)), none_looked z r.memory r.owners vs v.gathered f no)
+
 -- the rule and what is told after a step of the seat me: what the words, the memory and the caller's part are is the step's own business
 pub keeps_with : (z : Shape) (ws ws' : List ℕ) (vs : List View) (r : Rule z ws vs) (me : ℕ) (v p : View) (es : List Entry) (fs : ℕ → List Find) (m' : Memory)
     (o' : Owners)
     → get_elem? vs me ≡ some v → v.live ≡ true → Moved me z v.caller r.memory r.machine r.owners es m' o' → Same v p → NoneDrawn fs
     → ((f : Find) → In f (fs (length r.history)) → FoundBy z r.history r.memory r.owners.taker r.machine.life v.caller f)
-    → ((f : Find) → In f (fs (length r.history)) → (is_number f.step ≡ true → f.gathered ≡ length v.gathered) × LookedBy z r.memory r.owners vs v.gathered f)
+    → AreLooked r v fs
     → MayLend z.page_words r.machine (lent r.history) es → PagesAfter z r.history m' r.machine o' es
     → KeepsCloses me v p r.machine r.owners (moved_by r.machine es) o'
     → KeepsSweeps me v p r.memory r.machine r.owners m' (moved_by r.machine es) o' → KeepsSlots z me v p r.memory r.owners m' o'
@@ -259,6 +273,4 @@ pub keeps : (z : Shape) (ws ws' : List ℕ) (vs : List View) (r : Rule z ws vs) 
 keeps z ws ws' vs r me v p es fs m' o' at l d s nd =
     keeps_with z ws ws' vs r me v p es fs m' o' at l d s (λ n f i. let y = nd n f i in (y.0, y.1))
     (none_founded z r.history r.memory r.owners.taker r.machine.life v.caller fs (λ n f i. let y = nd n f i in (y.2, y.3)) (length r.history))
-    (λ f i.
-    let no : is_number f.step ≡ false = (nd (length r.history) f i).4 in
-    ((λ q. absurd (let e : true ≡ false = sym q ∙ no in cc)), none_looked z r.memory r.owners vs v.gathered f no))
+    (unlooked r v fs (λ n f i. (nd n f i).4))
