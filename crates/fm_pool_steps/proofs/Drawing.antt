@@ -21,7 +21,7 @@ use Rattle.fm_pool_facts.specs.declared.step.Step.TheVariants.{Draws}
 use Rattle.fm_pool_facts.specs.Hands.{Number, no_number, number_learnt, number_drawn, number_left, HasNumberIn, drawn_by, number_after, most_draws}
 use Rattle.fm_pool_facts.specs.Views.{View, In, all_gathered}
 use Rattle.fm_pool_facts.specs.Holds.{holds_of}
-use Rattle.fm_pool_facts.specs.Steps.{part, entries, noted, draws, note_draw, is_clear, draw_next}
+use Rattle.fm_pool_facts.specs.Steps.{part, entries, noted, draws, note_draw, is_clear, draw_next, CanDraw, can_draw, can_look}
 use Rattle.fm_pool_facts.specs.Facts.{HasGathered, HasDraw, HasClose, HasSweep, KeepsSlot, DrewIn, Owns, Knows, Rule, HasPage, WasDrawn, IsUndrawn, HasNumberInHand, KeepsCaller, KeepsNumber, WantsNumber, IsUsed, wanted, full, IsLooked, Somewhere}
 use Rattle.fm_pool_facts.specs.Moves.{told, Gives, LearnsCount, MayStep}
 use Rattle.fm_pool_facts.specs.Gone.{IsFounded}
@@ -313,11 +313,6 @@ module _ (z : Shape) (me : ℕ) (v : View) (l : v.live ≡ true) (lone : v.met �
     complete = λ h. is_found ∙ complete_counted z ws vs r me v at l lone h;
     later = λ f h e. let a = (find_within r.memory.draw r.owners.who r.owners.rank v (r.counted me v at) f h).found e in let y = is_found in omega arith;
   }
-
--- a number whose term is known is in the hand, or nothing is, and nobody is expected to be drawn
-pub data CanDraw (v : View) (expected : ℕ) : Type 0 where
-  can_draw : (n k : ℕ) → v.number ≡ number_learnt n k → CanDraw v expected
-  can_look : v.number ≡ no_number → expected ≡ 0 → CanDraw v expected
 
 -- the count of draws is exchanged for one more where it is the expected one, and fits
 pub draw_steps : (z : Shape) (me : ℕ) (v : View) (expected : ℕ) → v.live ≡ true → v.met ≡ [] → CanDraw v expected
