@@ -29,7 +29,7 @@ no_draw p word bit found n = All-cons (λ f. is_draw f.step ≡ false) _ [] refl
 
 -- It leaves all else of the pass.
 pages_on : (p : View) (pages : List ℕ) → IsOn p (record p { pages = pages }) []
-pages_on p pages = record { shape = refl; home = refl; caller = refl; gathered = refl; whole = refl; drawn = refl; inside = refl }
+pages_on p pages = record { shape = refl; home = refl; caller = refl; gathered = refl; whole = refl; number = refl; inside = refl }
 
 -- a pass that was clear is so without a page, whatever it has seen, found and read
 pub clear_still : (v : View) (seen : List Entry) (finds : List Find) (reads : List Mapping) → is_clear v ≡ true
@@ -138,7 +138,7 @@ module _ {pool : Pool} {o p q : View} (word bit found : ℕ) (b : Bidding pool o
       let w = went_to [] (empty (found == word) refl) in
       let t = step_to [] (empty (found == word) refl) in
       let n : ℕ = length (p.seen ++ t.others) in
-      let here : Find = record { step = TakesPage word bit; found = found; seen = n; clear = is_clear p; drew = None } in
+      let here : Find = record { step = TakesPage word bit; found = found; seen = n; clear = is_clear p; gathered = length p.gathered; drew = None } in
       let grown : q.finds ≡ p.finds ++ here ∷ [] = ap (λ (x : View). x.finds) t.is_part in
       let added : q.finds ≡ o.finds ++ (m.finds.more ++ here ∷ []) =
       grown ∙ (ap (λ (fs : List Find). fs ++ here ∷ []) m.finds.grown ∙ append_assoc o.finds m.finds.more (here ∷ [])) in

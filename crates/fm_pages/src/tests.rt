@@ -1,6 +1,6 @@
 ghost use Rattle.std.specs.Prelude.{◌≡◌, ◌<◌, [], None, Some};
 ghost use Rattle.fm_words.specs.Shapes.{IsValid};
-ghost use Rattle.fm_pool_facts.specs.Hands.{learnt, nothing};
+ghost use Rattle.fm_pool_facts.specs.Hands.{learnt, no_number, nothing};
 ghost use Rattle.fm_rule.specs.Passes.{IsOf};
 ghost use Rattle.fm_pages.specs.Claims.{PageClaimed};
 
@@ -47,7 +47,7 @@ fn entered<R: Abort + AllocGlobal>(rt: &R, shape: Shape) -> (Pool, Pass, ArenaId
     ensures of { IsOf result.0 result.1 }
     ensures inside { result.1.inside ≡ Some result.2 }
     ensures none { result.1.pages ≡ [] }
-    ensures no_number { result.1.drawn ≡ None }
+    ensures no_number { result.1.number ≡ no_number }
 {
     let (pool, mut pass) = Pool::make(rt.alloc(), shape).expect(rt, "words");
     let slot = first_slot(rt, &pool, &mut pass);

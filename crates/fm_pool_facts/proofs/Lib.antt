@@ -11,6 +11,7 @@ pub mod Gripping
 pub mod Handles
 pub mod Counting
 pub mod Callers
+pub mod Looking
 pub mod Lending
 pub mod Moving
 pub mod Living
@@ -26,3 +27,5 @@ pub mod Alone
 pub mod Owning
 pub mod Sounding
 pub mod Ruling
+pub mod Wanting
+pub mod Terming

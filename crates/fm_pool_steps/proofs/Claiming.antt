@@ -21,11 +21,11 @@ use Rattle.fm_pool_facts.specs.Views.{View, In}
 use Rattle.fm_pool_facts.specs.Steps.{part, entries, noted, none_noted, note_of, is_clear, is_empty}
 use Rattle.fm_pool_facts.specs.Facts.{Berth, loose, claimed, unmapped, IsAt, HasPage, Owns, Rule}
 use Rattle.fm_pool_facts.specs.Moves.{MayStep}
-use Rattle.fm_pool_facts.proofs.Founds.{note_none_drawn}
+use Rattle.fm_pool_facts.proofs.Founds.{note_none_drawn, note_no_number}
 use Rattle.fm_pool_facts.proofs.Moving.{pages_take}
 use Rattle.fm_pool_facts.proofs.Returning.{pages_give}
 use Rattle.fm_pool_facts.proofs.Shown.{shows_same, shows_page_bits}
-use Rattle.fm_pool_facts.proofs.Ruling.{page_by, page_like}
+use Rattle.fm_pool_facts.proofs.Ruling.{page_by, page_like, AreLooked, unlooked}
 use Rattle.fm_pool_steps.proofs.Reading.{eqb_true, eqb_false}
 use Rattle.fm_pool_steps.proofs.Plain.{own, Made}
 use Rattle.fm_pool_steps.proofs.Scarce.{few_left}
@@ -68,9 +68,12 @@ module _ (z : Shape) (me : ℕ) (v : View) (l : v.live ≡ true) (ws : List ℕ)
           (λ c. whole_clear v (ap (λ (g : Find). g.clear) (sym q) ∙ c));
     }
 
+    looks : AreLooked r v fs
+    looks = unlooked r v fs (note_no_number (Claiming e bit) found v refl)
+
     claim_misses : Made z ws vs me v bits_at found (record v { pages = v.pages; reads = v.reads }) [] fs
     claim_misses = paged z me v l ws vs r at bits_at found r.memory.page_bits r.memory.maps r.owners.berth v.pages v.reads [] fs
-        (note_none_drawn (Claiming e bit) found v refl) new (record {
+        (note_none_drawn (Claiming e bit) found v refl) new looks (record {
           may = tt;
           ends = λ b. tt;
           stays = refl;
@@ -90,7 +93,7 @@ module _ (z : Shape) (me : ℕ) (v : View) (l : v.live ≡ true) (ws : List ℕ)
         let others : (k : ℕ) → k ≢ bit → bit_at next k ≡ bit_at r.memory.page_bits k = (λ k n. without.others k n ∙ ap (λ (w : ℕ). bit_at w k) (sym is)) in
         let far : (q j : ℕ) → IsAt j (r.owners.berth q) → q ≢ bit = (λ q j b n. subst (IsAt j) (ap r.owners.berth n ∙ was.0) b) in
         paged z me v l ws vs r at bits_at next next r.memory.maps (put r.owners.berth bit (claimed me)) (bit ∷ v.pages) v.reads [] fs
-        (note_none_drawn (Claiming e bit) found v refl) new (record {
+        (note_none_drawn (Claiming e bit) found v refl) new looks (record {
           may = tt;
           ends = λ b. tt;
           stays = refl;
@@ -156,7 +159,7 @@ module _ (z : Shape) (me : ℕ) (v : View) (l : v.live ≡ true) (ws : List ℕ)
     gives_page =
         let p' : View = record v { pages = []; reads = v.reads } in
         paged z me v l ws vs r at bits_place_at word word r.memory.maps (put r.owners.berth p loose) [] v.reads [] none_noted (λ n f j. absurd j)
-        (founded none_noted (λ n f j. absurd j)) (record {
+        (founded none_noted (λ n f j. absurd j)) (λ f j. absurd j) (record {
           may = tt;
           ends = λ b. tt;
           stays = refl;

@@ -144,7 +144,7 @@ module _ (z : Shape) (me : ℕ) (v : View) (l : v.live ≡ true) (ws : List ℕ)
     named : (a : ArenaId) (i : Decoded) → a.slot ≡ k → a.generation ≡ i.generation → kind_number a.kind ≡ i.kind → a.owner ≡ i.owner
         → r.machine.life a ≢ Fresh → IsNamed s k i a
     named a i q g kd o n =
-        record { slot = q; generation = g; kind = kd; owner = o; term = (r.world.sessions.fits a n).term; known = known a n }
+        record { slot = q; generation = g; kind = kd; owner = o; known = known a n }
 
     -- no other arena of the slot stands, and none is newer
     module _ (a : ArenaId) (shown : (r.memory.sessions k ≡ live a) ⊎ (r.memory.sessions k ≡ shut a)) where

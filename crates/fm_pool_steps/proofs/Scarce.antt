@@ -73,7 +73,7 @@ module _ (z : Shape) (me : ℕ) (v : View) (l : v.live ≡ true) (ws : List ℕ)
     nums : List ℕ
     long : length nums ≡ unlent n loans
     distinct : Distinct nums
-    drawn : (m : ℕ) → In m nums → m < r.memory.draw
+    low : (m : ℕ) → In m nums → m < z.passes
     other : (m : ℕ) → In m nums → m ≢ v.caller.number
     ones : (m : ℕ) → In m nums → HasOne n m
 
@@ -81,7 +81,7 @@ module _ (z : Shape) (me : ℕ) (v : View) (l : v.live ≡ true) (ws : List ℕ)
   more n m h = record { page = h.page; low = (let a = h.low in omega arith); view = h.view; there = h.there; has = h.has }
 
   holders : (n : ℕ) → n ≤ z.pages → Holders n
-  holders zero h = record { nums = []; long = refl; distinct = tt; drawn = λ m i. absurd i; other = λ m i. absurd i; ones = λ m i. absurd i }
+  holders zero h = record { nums = []; long = refl; distinct = tt; low = λ m i. absurd i; other = λ m i. absurd i; ones = λ m i. absurd i }
   holders (suc n) h = go (is_lent loans n) refl (holders n (omega arith))
     where
       go : (b : Bool) → is_lent loans n ≡ b → Holders n → Holders (suc n)
@@ -89,7 +89,7 @@ module _ (z : Shape) (me : ℕ) (v : View) (l : v.live ≡ true) (ws : List ℕ)
         nums = y.nums;
         long = (let a = y.long in let b : unlent (suc n) loans ≡ 0 + unlent n loans = ap (λ (b : Bool). one_unless b + unlent n loans) e in omega arith);
         distinct = y.distinct;
-        drawn = y.drawn;
+        low = y.low;
         other = y.other;
         ones = λ m i. more n m (y.ones m i);
       }
@@ -98,7 +98,7 @@ module _ (z : Shape) (me : ℕ) (v : View) (l : v.live ≡ true) (ws : List ℕ)
           let s = r.berths n c.0 (subst (IsAt c.0) (sym c.1) refl) in
           let has : (s.view.live ≡ true) × In n s.view.pages = subst (λ (b : Berth). HasPage n b s.view) c.1 s.holds in
           let its = (r.each c.0 s.view s.there).owns has.0 in
-          let there : get_elem? vs (r.owners.number s.view.caller.number) ≡ some s.view = ap (get_elem? vs) its.seated ∙ s.there in
+          let there : get_elem? vs (r.owners.number s.view.caller.number) ≡ some s.view = ap (get_elem? vs) its.owner ∙ s.there in
           record {
             nums = s.view.caller.number ∷ y.nums;
             long = (let a = y.long in
@@ -111,12 +111,12 @@ module _ (z : Shape) (me : ℕ) (v : View) (l : v.live ≡ true) (ws : List ℕ)
                   let a = o.low in absurd (omega arith)),
               y.distinct,
             );
-            drawn = λ m. ⊎_elim (λ (q : m ≡ s.view.caller.number). let a = its.number in omega arith) (y.drawn m);
+            low = λ m. ⊎_elim (λ (q : m ≡ s.view.caller.number). let a = (r.terms s.view.caller its.drawn).0 in omega arith) (y.low m);
             other = λ m. ⊎_elim
                 (λ (q : m ≡ s.view.caller.number) (p : m ≡ v.caller.number).
                 let same : s.view ≡ v =
                 some-injective s.view v
-                (sym there ∙ (ap (λ (k : ℕ). get_elem? vs (r.owners.number k)) (sym q ∙ p) ∙ (ap (get_elem? vs) mine.seated ∙ at))) in
+                (sym there ∙ (ap (λ (k : ℕ). get_elem? vs (r.owners.number k)) (sym q ∙ p) ∙ (ap (get_elem? vs) mine.owner ∙ at))) in
                 subst (In n) (ap (λ (u : View). u.pages) same ∙ none) has.1)
                 (y.other m);
             ones = λ m. ⊎_elim
@@ -134,9 +134,9 @@ module _ (z : Shape) (me : ℕ) (v : View) (l : v.live ≡ true) (ws : List ℕ)
   pub few_free : unlent z.pages loans < z.passes
   few_free =
       let y = holders z.pages (omega arith) in
-      let most = at_most r.memory.draw (v.caller.number ∷ y.nums) ((λ i. y.other v.caller.number i refl), y.distinct)
-      (λ m. ⊎_elim (λ (q : m ≡ v.caller.number). let a = mine.number in omega arith) (y.drawn m)) in
-      let a = y.long in let b = r.few in omega arith
+      let most = at_most z.passes (v.caller.number ∷ y.nums) ((λ i. y.other v.caller.number i refl), y.distinct)
+      (λ m. ⊎_elim (λ (q : m ≡ v.caller.number). let a = (r.terms v.caller mine.drawn).0 in omega arith) (y.low m)) in
+      let a = y.long in omega arith
 
   -- and where the finder is known to be whole, all are lent
   pub none_free : v.whole ≡ true → unlent z.pages loans ≡ 0

@@ -24,7 +24,7 @@ use Rattle.fm_pool_facts.proofs.Retiring.{ended_fits}
 use Rattle.fm_pool_facts.proofs.Keeping.{closing_on}
 use Rattle.fm_pool_facts.proofs.Ruling.{PagesAfter, keeps}
 use Rattle.fm_pool_steps.proofs.Closes.{Found, visited_of-found, count_of, in_visited, visited_in}
-use Rattle.fm_pool_steps.proofs.Plain.{same_but, own, Made}
+use Rattle.fm_pool_steps.proofs.Plain.{same_but, own, Made, numbers_stay, number_stays}
 
 -- where the sweep of the arena has come so far
 module _ (z : Shape) (me : ℕ) (v : View) (l : v.live ≡ true) (a : ArenaId) (k : ℕ) (has : visited_of v.sweeps a ≡ Some k)
@@ -106,9 +106,12 @@ module _ (z : Shape) (me : ℕ) (v : View) (l : v.live ≡ true) (a : ArenaId) (
       let d : Moved me z v.caller r.memory r.machine r.owners es m' o' = record {
         allowed = q.may;
         marks = λ k h. refl;
-        terms = λ k. refl;
         draw = refl;
-        numbers = λ k. refl;
+        who = λ k. refl;
+        rank = λ k. refl;
+        seat = λ k. refl;
+        own = record { owner = refl; bit = refl; term = refl };
+        numbers = λ n b f. (refl, b, refl);
         closers = λ b f h. (refl, q.ends b);
         sweepers = λ b f h n.
             let far = apart b h (not_mine b n) in (refl, record { session = h; maps = q.same_maps b.slot far; given = q.same_given b.slot far });
@@ -131,13 +134,14 @@ module _ (z : Shape) (me : ℕ) (v : View) (l : v.live ≡ true) (a : ArenaId) (
       (λ k g low f left b. inr (f, b, refl, (λ y. y)))
       q.keep
       (λ b. ap (λ (t : Machine). holds_of b v + all_holds b t) (sym q.stays))
+      (numbers_stay z ws vs r me v at l es m' o' p d same_but refl (λ k. refl) (λ k. refl) (λ k. refl))
       q.shows
       (subst (World z m') (sym q.stays) q.world)
       (record {
         inside = ap (λ (t : Machine). t.inside v.caller) q.stays ∙ mine.inside;
         mark = mine.mark;
         closes = λ c j.
-            closing_on (limit_of z) r.history v.caller r.memory r.machine es m' q.may me r.owners o' c (mine.closes c j) refl (q.ends c.arena);
+            closing_on (limit_of z) r.history v.caller r.machine es q.may me r.owners o' c (mine.closes c j) refl (q.ends c.arena);
         once = mine.once;
         sweeps = λ c j. subst (λ (t : Machine). IsSweeping z m' t o' me c) (sym q.stays) (q.sweeps c j);
         swept_once = q.once;
@@ -149,6 +153,7 @@ module _ (z : Shape) (me : ℕ) (v : View) (l : v.live ≡ true) (a : ArenaId) (
           lone = mine.pages.lone;
           sweep = q.of_page;
         };
+        number = number_stays z ws vs r me v at l es m' o' p d same_but refl (λ k. refl) (λ k. refl) (λ k. refl);
       })
     where
       inside_apart : (b : ArenaId) → r.machine.inside v.caller ≡ Some b → b.slot ≢ a.slot

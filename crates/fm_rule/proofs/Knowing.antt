@@ -2,13 +2,13 @@
 use Rattle.std.proofs.Common.{◌≡◌, ℕ, ◌+◌, ◌-◌, ◌*◌, ◌/◌, ◌%◌, ◌^◌, ◌<◌, ◌≤◌, List, [], ◌∷◌, inl, refl, Some, None, sym, ap, ◌∙◌, subst, arith}
 use Rattle.fm_words.specs.declared.shape.Shape.{Shape}
 use Rattle.fm_words.specs.Shapes.{IsValid}
-use Rattle.fm_words.specs.Places.{at, draw, slot_bits, page_bits, map, page_word, mark, session, given, words, front}
+use Rattle.fm_words.specs.Places.{at, draw, slot_bits, page_bits, map, page_word, mark, session, given, number_bits, term, groups, words, front}
 use Rattle.fm_words.proofs.Tables.{at-within, words-le}
 use Rattle.fm_base.specs.declared.arena_id.ArenaId.{ArenaId}
 use Rattle.fm_pool_facts.specs.Hands.{Hand, HasSlot}
 use Rattle.fm_pool_facts.specs.Views.{View, Fits, In, IsKnown, IsOver, IsSound}
 use Rattle.fm_pool_facts.specs.Closes.{visited_of}
-use Rattle.fm_pool_facts.specs.Steps.{CanReach, HasPlace, AreAllGiven}
+use Rattle.fm_pool_facts.specs.Steps.{CanReach, HasPlace, AreAllGiven, number_at, CanDraw, can_draw, can_look}
 use Rattle.fm_pool_facts.specs.Parts.{wiping, mapping_of}
 use Rattle.std.proofs.Math.Nat.{mod-lt}
 use Rattle.fm_pool_steps.proofs.Closes.{visited_of-found}
@@ -29,6 +29,22 @@ given_below z s i h e = subst (λ (n : ℕ). n < words z) (sym e) (at-within z (
 
 pub draw_below : (z : Shape) (i : ℕ) → i ≡ at z draw → i < words z
 draw_below z i e = subst (λ (n : ℕ). n < words z) (sym e) (at-within z draw tt)
+
+pub numbers_below : (z : Shape) (g i : ℕ) → g < groups z → i ≡ at z (number_bits g) → i < words z
+numbers_below z g i h e = subst (λ (n : ℕ). n < words z) (sym e) (at-within z (number_bits g) h)
+
+pub term_below : (z : Shape) (k i : ℕ) → k < z.passes → i ≡ at z (term k) → i < words z
+term_below z k i h e = subst (λ (n : ℕ). n < words z) (sym e) (at-within z (term k) h)
+
+-- the word and the bit of a number
+pub group_low : (z : Shape) (n : ℕ) → n < z.passes → n / 64 < groups z
+group_low z n h = let p : ℕ = z.passes in let l : n < p = h in omega arith
+
+pub group_of_low : (z : Shape) (g bit : ℕ) → number_at g bit < z.passes → g < groups z
+group_of_low z g bit h = let p : ℕ = z.passes in let l : g * 64 + bit < p = h in omega arith
+
+pub at_number : (n : ℕ) → n ≡ number_at (n / 64) (n % 64)
+at_number n = omega arith
 
 pub bits_below : (z : Shape) (i : ℕ) → i ≡ at z slot_bits → i < words z
 bits_below z i e = subst (λ (n : ℕ). n < words z) (sym e) (at-within z slot_bits tt)
@@ -133,6 +149,11 @@ module _ (now v : View) (home : List ℕ) (z : Shape) (is : homed home v ≡ now
     -- and that of its sweep
     pub page_in_sweep : (a : ArenaId) (i p w : ℕ) → now.swept ≡ wiping a i p w → p < z.pages
     page_in_sweep a i p w e = subst (λ (x : Shape). p < x.pages) shape_is (sound.swept_page a i p w (ap (λ (x : View). x.swept) is ∙ e))
+
+-- what it may draw is the same in every pool
+pub can_draw_in : (now v : View) (home : List ℕ) (e : ℕ) → homed home v ≡ now → CanDraw now e → CanDraw v e
+can_draw_in now v home e is (can_draw n k h) = can_draw n k (ap (λ (x : View). x.number) is ∙ h)
+can_draw_in now v home e is (can_look h z) = can_look (ap (λ (x : View). x.number) is ∙ h) z
 
 -- ---- places that are known
 

@@ -1,17 +1,18 @@
 ghost use Rattle.std.specs.Prelude.{◌≡◌, ◌<◌, ◌≤◌, IfOk, IfErr, length};
 ghost use Rattle.fm_words.specs.Shapes.{IsValid};
-ghost use Rattle.fm_words.specs.Places.{words};
+ghost use Rattle.fm_words.specs.Places.{groups, words};
 ghost use Rattle.fm_base.specs.declared.refusal.Refusal.TheVariants.{Memory};
 ghost use Rattle.fm_pool_facts.specs.declared.step.Step.TheVariants.{Looks};
 ghost use Rattle.fm_pool_facts.specs.Views.{IsSound, limit_of, span};
 ghost use Rattle.fm_pool_facts.specs.Moves.{Tells};
 ghost use Rattle.fm_rule.specs.Views.{first_pass, numbers_of, HasPart};
+ghost use Rattle.fm_rule.specs.Numbers.{AreFirst};
 
 use crate::pass::{NO_ARENA, NO_PART, Part, Pass};
 use crate::seen::Seen;
 use atomic_table::{Play, Table, TableRule};
 use fm_base::{Caller, Refusal};
-use fm_words::{Shape, map_of, ones};
+use fm_words::{Shape, map_of, ones, without_bit};
 use std::alloc::Global;
 use std::marker::{Brand, PhantomData};
 
@@ -60,9 +61,19 @@ pub struct Pool {
     ghost valid: { IsValid shape },
 }
 
+/// A word of number bits of a new pool: each number of the group is free but number 0, which the first pass has.
+fn first_numbers(shape: Shape, group: u32) -> u64
+    requires valid { IsValid shape }
+    requires low { group < groups shape }
+    ensures { AreFirst shape group result }
+{
+    let numbers = ones((shape.passes - 64 * group).min(64));
+    if group == 0 { without_bit(numbers, 0) } else { numbers }
+}
+
 impl Pool {
-    /// A pool of this shape and its first pass, which has number 0. Every slot can be lent, and every
-    /// page claimed.
+    /// A pool of this shape and its first pass, which has number 0. Every slot can be lent, every page claimed, and every
+    /// other number drawn.
     ///
     /// All memory is taken here. Refused: `Memory`.
     pub fn make(alloc: Global, shape: Shape) -> Result<(Pool, Pass), Refusal>
@@ -76,6 +87,9 @@ impl Pool {
         words[shape.draw_place() as usize] = 1;
         words[shape.slot_bits_place() as usize] = ones(shape.slots);
         words[shape.page_bits_place() as usize] = ones(shape.pages);
+        for group in 0..shape.groups() {
+            words[shape.number_bits_place(group) as usize] = first_numbers(shape, group);
+        }
         let (table, seat) = Table::of_words(alloc, &words, &shape)?;
         let pass = Pass {
             seat,

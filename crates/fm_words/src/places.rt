@@ -4,7 +4,8 @@ use crate::shape::Shape;
 const SINGLE_WORDS: u64 = 4;
 
 /// Places of words in the table, from 0. It has the single words first, then a mark for each pass, a session for each
-/// slot, a count of given bytes for each slot, the map words of each slot, and last the pages, one after another.
+/// slot, a count of given bytes for each slot, the map words of each slot, the words of number bits, a term for each
+/// number, and last the pages, one after another.
 impl Shape {
     ghost use Rattle.std.specs.Prelude.{◌≡◌};
     ghost use Rattle.fm_words.specs.Shapes.{IsValid};
@@ -20,10 +21,15 @@ impl Shape {
       page_word,
       session,
       slot_bits,
+      number_bits,
+      term,
       words,
+      groups,
       sessions_from,
       given_from,
       maps_from,
+      numbers_from,
+      terms_from,
       pages_from,
     };
 
@@ -96,6 +102,32 @@ impl Shape {
         self.maps_from() + u64::from(slot) * u64::from(self.reach) + u64::from(index)
     }
 
+    /// How many words of number bits there are.
+    pub fn groups(&self) -> u32
+        requires { IsValid self.now }
+        ensures { result ≡ groups self.now }
+    {
+        (self.passes + 63) / 64
+    }
+
+    /// The place of the word whose bit k is 1 where the number `64 * group + k` can be drawn.
+    pub fn number_bits_place(&self, group: u32) -> u64
+        requires valid { IsValid self.now }
+        requires place { IsPlace self.now (number_bits group) }
+        ensures { result ≡ at self.now (number_bits group) }
+    {
+        self.numbers_from() + u64::from(group)
+    }
+
+    /// The place of a number's term.
+    pub fn term_place(&self, number: u32) -> u64
+        requires valid { IsValid self.now }
+        requires place { IsPlace self.now (term number) }
+        ensures { result ≡ at self.now (term number) }
+    {
+        self.terms_from() + u64::from(number)
+    }
+
     /// The place of a word of a page.
     pub fn page_place(&self, page: u32, word: u32) -> u64
         requires valid { IsValid self.now }
@@ -123,10 +155,24 @@ impl Shape {
         self.given_from() + u64::from(self.slots)
     }
 
+    fn numbers_from(&self) -> u64
+        requires { IsValid self.now }
+        ensures { result ≡ numbers_from self.now }
+    {
+        self.maps_from() + u64::from(self.slots) * u64::from(self.reach)
+    }
+
+    fn terms_from(&self) -> u64
+        requires { IsValid self.now }
+        ensures { result ≡ terms_from self.now }
+    {
+        self.numbers_from() + u64::from(self.groups())
+    }
+
     fn pages_from(&self) -> u64
         requires { IsValid self.now }
         ensures { result ≡ pages_from self.now }
     {
-        self.maps_from() + u64::from(self.slots) * u64::from(self.reach)
+        self.terms_from() + u64::from(self.passes)
     }
 }

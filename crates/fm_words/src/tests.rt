@@ -163,8 +163,11 @@ fn the_least_shape_has_one_of_each(rt: HostRuntime) {
     assert_eq!(rt; LEAST.session_place(0), 5);
     assert_eq!(rt; LEAST.given_place(0), 6);
     assert_eq!(rt; LEAST.map_place(0, 0), 7);
-    assert_eq!(rt; LEAST.page_place(0, 0), 8);
-    assert_eq!(rt; LEAST.words(), 9);
+    assert_eq!(rt; LEAST.groups(), 1);
+    assert_eq!(rt; LEAST.number_bits_place(0), 8);
+    assert_eq!(rt; LEAST.term_place(0), 9);
+    assert_eq!(rt; LEAST.page_place(0, 0), 10);
+    assert_eq!(rt; LEAST.words(), 11);
 }
 
 #[test]
@@ -177,13 +180,18 @@ fn the_greatest_shape_has_128_mebibytes(rt: HostRuntime) {
     assert_eq!(rt; GREATEST.given_place(63), 4_227);
     assert_eq!(rt; GREATEST.map_place(0, 0), 4_228);
     assert_eq!(rt; GREATEST.map_place(63, 0), 4_291);
-    assert_eq!(rt; GREATEST.page_place(0, 0), 4_292);
-    assert_eq!(rt; GREATEST.page_place(63, 262_143), 16_781_507);
-    assert_eq!(rt; GREATEST.words(), 16_781_508);
+    assert_eq!(rt; GREATEST.groups(), 64);
+    assert_eq!(rt; GREATEST.number_bits_place(0), 4_292);
+    assert_eq!(rt; GREATEST.number_bits_place(63), 4_355);
+    assert_eq!(rt; GREATEST.term_place(0), 4_356);
+    assert_eq!(rt; GREATEST.term_place(4_095), 8_451);
+    assert_eq!(rt; GREATEST.page_place(0, 0), 8_452);
+    assert_eq!(rt; GREATEST.page_place(63, 262_143), 16_785_667);
+    assert_eq!(rt; GREATEST.words(), 16_785_668);
 }
 
 #[test]
-fn map_words_and_pages_lie_one_after_another(rt: HostRuntime) {
+fn words_of_each_kind_lie_one_after_another(rt: HostRuntime) {
     every_word_has_one_place();
     assert!(rt; SMALL.is_valid());
     assert_eq!(rt; SMALL.mark_place(2), 6);
@@ -192,10 +200,21 @@ fn map_words_and_pages_lie_one_after_another(rt: HostRuntime) {
     assert_eq!(rt; SMALL.map_place(0, 3), 14);
     assert_eq!(rt; SMALL.map_place(1, 0), 15);
     assert_eq!(rt; SMALL.map_place(1, 3), 18);
-    assert_eq!(rt; SMALL.page_place(0, 15), 34);
-    assert_eq!(rt; SMALL.page_place(1, 0), 35);
-    assert_eq!(rt; SMALL.page_place(7, 15), 146);
-    assert_eq!(rt; SMALL.words(), 147);
+    assert_eq!(rt; SMALL.number_bits_place(0), 19);
+    assert_eq!(rt; SMALL.term_place(2), 22);
+    assert_eq!(rt; SMALL.page_place(0, 15), 38);
+    assert_eq!(rt; SMALL.page_place(1, 0), 39);
+    assert_eq!(rt; SMALL.page_place(7, 15), 150);
+    assert_eq!(rt; SMALL.words(), 151);
+}
+
+#[test]
+fn number_bits_fill_words_of_64(rt: HostRuntime) {
+    for (passes, groups) in [(1, 1), (63, 1), (64, 1), (65, 2), (128, 2), (129, 3), (4_096, 64)] {
+        let shape = Shape { passes, ..SMALL };
+        assert!(rt; shape.is_valid());
+        assert_eq!(rt; shape.groups(), groups);
+    }
 }
 
 #[test]

