@@ -10,7 +10,7 @@ pub mod Covered
 pub mod Drawing
 pub mod Gathering
 pub mod Queried
-pub mod Rising
+pub mod Orders
 pub mod Runs
 pub mod Sharing
 pub mod Sparing
@@ -19,6 +19,7 @@ pub mod Tallying
 pub mod Totals
 pub mod Touching
 pub mod Turning
+pub mod Wanting
 pub mod Wholes
 pub mod Workers
 pub mod Working

@@ -1,5 +1,5 @@
 -- What a tally by a crew comes to.
-use Rattle.std.proofs.Common.{◌≡◌, ◌≢◌, ℕ, ◌+◌, ◌/◌, ◌%◌, ◌^◌, ◌<◌, ◌≤◌, List, [], ◌∷◌, length, slice_index, refl, sym, ap, ◌∙◌, subst, arith, inl, inr, ⊎_elim, Result, Ok, Err}
+use Rattle.std.proofs.Common.{◌≡◌, ◌≢◌, ℕ, ◌/◌, ◌%◌, ◌^◌, ◌<◌, List, [], ◌∷◌, length, slice_index, refl, sym, ap, ◌∙◌, subst, arith, inl, inr, ⊎_elim, Result, Ok, Err}
 use Rattle.std.specs.Prelude.{◌⊎◌, ⊤}
 use Rattle.std.specs.List.{AllByRecursion}
 use Rattle.fm_lists.specs.Among.{IsAmong}
@@ -30,11 +30,11 @@ use Rattle.fm_records.specs.Shares.{IsSpared}
 use Rattle.fm_workers.specs.Adding.{HasCounts, count_word}
 use Rattle.fm_workers.specs.Asking.{known_later}
 use Rattle.fm_workers.specs.Counts.{AreCounts, IsTally, listed}
-use Rattle.fm_workers.specs.Crew.{CrewWorked, by_caller, callers}
+use Rattle.fm_workers.specs.Crew.{AreTooMany, CrewWorked, by_caller, callers}
 use Rattle.fm_workers.specs.Parts.{AreLevel, IsCut, least_in}
 use Rattle.fm_workers.specs.Query.{IsReadByCrew, NobodyElseWrites}
 use Rattle.fm_workers.specs.Tallies.{SumsTo, Tallied, Tallies, Tallying}
-use Rattle.fm_workers.specs.Tally.{AreAllRead, AreAsked, AreHeld, AreTheCounts, CanBeTallied, EndsTally, LeavesWord, OnlyAddsTo, OnlyTallies, TalliedBy, TalliedWith, closed, no_more, one_add}
+use Rattle.fm_workers.specs.Tally.{AreAllRead, AreHeld, AreTheCounts, CanBeTallied, EndsTally, LeavesWord, OnlyAddsTo, OnlyTallies, TalliedBy, TalliedWith, closed, no_more, one_add}
 use Rattle.fm_workers.proofs.Callers.{AreDoneBy, worked_by_callers}
 use Rattle.fm_workers.proofs.Added.{by_crew, crew_adds}
 use Rattle.fm_workers.proofs.Counted.{runs_counted}
@@ -80,13 +80,6 @@ IsFirst WrongThread = ⊤
 IsFirst Memory = ⊤
 IsFirst r = ⊥
 
-asked_none : {X : Type 0} (r : Refusal) → IsFirst r → AreAsked (Err r) → X
-asked_none Unsupported first h = absurd h
-asked_none (Ragged n) first h = absurd h
-asked_none WrongThread first h = absurd h
-asked_none Memory first h = absurd h
-asked_none r first h = absurd first
-
 first_not : (r : Refusal) → IsFirst r → ¬ (r ≡ NoPass)
 first_not Unsupported first e = absurd (cc)
 first_not (Ragged n) first e = absurd (cc)
@@ -101,12 +94,12 @@ unfolding nobody
 tallied_none v p s counts threads r first known counts_known ends = record {
   crew = nobody v;
   one_each = omega arith;
+  one_less = λ e. let is : r ≡ NoPass = cc in absurd (first_not r first is);
   visits = tt;
   ends = ends;
   value = tt;
   read = tt;
   held = tt;
-  suffice = asked_none r first;
   wanting = λ w e. let is : r ≡ NoPass = cc in absurd (first_not r first is);
   lasts = lasts_none v;
   known = known;
@@ -119,16 +112,16 @@ tallied_none v p s counts threads r first known counts_known ends = record {
 pub tallied_refused : {old new : View} {w : Tallying} {s : Region} {threads : ℕ} {ts us : List Tallied} (r : Refusal)
     → CrewWorked (by_caller (Tallies w)) old new ts us (Err r) → length ts ≡ threads → CanBeTallied w.plan s w.counts → IsKnown (view_of_pass old) s
     → IsKnown (view_of_pass old) w.counts → TalliedWith threads old new w.plan s w.counts (Err r)
-tallied_refused {w = k} {s = s} NoPass w count can known counts_known = record {
+tallied_refused {old = old} {w = k} {s = s} NoPass w count can known counts_known = record {
   crew = w.crew;
   one_each = (let l = w.ends.1 in omega (arith, count, l));
+  one_less = λ e. let l = w.ends.1 in omega (arith, count, l);
   visits = idle_tallies s k.counts w.crew.more (callers w.crew.crew) w.ends.2;
   ends = (can, w.ends.0);
   value = tt;
   read = tt;
   held = tt;
-  suffice = λ h. absurd h;
-  wanting = λ x e. let l = w.wanting x refl in omega (arith, count, l);
+  wanting = λ x e. subst (AreTooMany old) count (w.wanting x refl);
   lasts = w.lasts;
   known = known_later w.lasts known;
   counts_known = known_later w.lasts counts_known;
@@ -138,12 +131,12 @@ tallied_refused {w = k} {s = s} NoPass w count can known counts_known = record {
 tallied_refused {w = k} {s = s} Memory w count can known counts_known = record {
   crew = w.crew;
   one_each = (let e : length w.crew.crew ≡ 0 = ap (λ (gs : List Gathered). length gs) w.ends.1 in omega (arith, e));
+  one_less = λ e. absurd (cc);
   visits = subst (λ (gs : List Gathered). AllByRecursion (λ c. OnlyTallies s k.counts c (made_by c w.crew.more)) (callers gs)) (sym w.ends.1) tt;
   ends = can;
   value = tt;
   read = tt;
   held = tt;
-  suffice = λ h. absurd h;
   wanting = λ x e. absurd (cc);
   lasts = w.lasts;
   known = known_later w.lasts known;
@@ -166,9 +159,6 @@ module _ {old new : View} {k : Tallying} {s : Region} {threads : ℕ} {ts us : L
 
   visits : AllByRecursion (λ c. OnlyTallies s k.counts c (made_by c w.crew.more)) (callers w.crew.crew)
   visits = crew_tallies k s 0 (s.size / k.plan.size) w.crew.more (callers w.crew.crew) ts us longs (omega arith) done cut
-
-  enough : length old.gathered + (1 + threads) ≤ old.shape.passes
-  enough = let l = w.suffice in omega (arith, count, l)
 
   is_sound : IsSound new
   is_sound = w.sound (λ e. absurd (cc))
@@ -237,12 +227,12 @@ module _ {old new : View} {k : Tallying} {s : Region} {threads : ℕ} {ts us : L
   tallied (Err e) sums = record {
     crew = w.crew;
     one_each = (let n = as_many in omega (arith, n));
+    one_less = λ q. let is : e ≡ NoPass = cc in absurd (stop_not e (stopped e sums) is);
     visits = visits;
     ends = stop_ends e (stopped e sums);
     value = tt;
     read = tt;
     held = tt;
-    suffice = λ h. enough;
     wanting = λ v q. let is : e ≡ NoPass = cc in absurd (stop_not e (stopped e sums) is);
     lasts = w.lasts;
     known = known_later w.lasts known;
@@ -253,12 +243,12 @@ module _ {old new : View} {k : Tallying} {s : Region} {threads : ℕ} {ts us : L
   tallied (Ok ns) sums = record {
     crew = w.crew;
     one_each = (let n = as_many in omega (arith, n));
+    one_less = λ e. absurd (cc);
     visits = visits;
     ends = (can, by_shares ns sums);
     value = the_counts ns sums;
     read = all_read ns sums;
     held = are_held ns sums;
-    suffice = λ h. enough;
     wanting = λ v e. absurd (cc);
     lasts = w.lasts;
     known = known_later w.lasts known;

@@ -1,5 +1,5 @@
 -- What a tally by a crew asks for, and what its caller learns.
-use Rattle.std.specs.Prelude.{◌≡◌, ◌≢◌, ◌⊎◌, ℕ, ◌+◌, ◌<◌, ◌≤◌, ◌%◌, List, [], ◌∷◌, ◌++◌, length, slice_index, ℤ, false, Result, Ok, Err, IfOk, ⊤}
+use Rattle.std.specs.Prelude.{◌≡◌, ◌≢◌, ◌⊎◌, ℕ, ◌<◌, ◌≤◌, ◌%◌, List, [], ◌∷◌, ◌++◌, length, slice_index, ℤ, false, Result, Ok, Err, IfOk}
 use Rattle.std.specs.List.{AllByRecursion}
 use Rattle.fm_base.specs.declared.arena_id.ArenaId.{ArenaId}
 use Rattle.fm_base.specs.declared.caller.Caller.{Caller}
@@ -29,7 +29,7 @@ use Rattle.fm_records.specs.Reads.{IsWordOf}
 use Rattle.fm_records.specs.Shares.{AreCut, Share}
 use Rattle.fm_workers.specs.Adding.{AddsBelow, HasCounts, count_word}
 use Rattle.fm_workers.specs.Counts.{AreCounts, IsTally, listed}
-use Rattle.fm_workers.specs.Crew.{CrewGathered, FoundAllDrawn, IsWhole, callers}
+use Rattle.fm_workers.specs.Crew.{AreTooMany, CrewGathered, FoundNoNumber, IsWhole, callers}
 use Rattle.fm_workers.specs.Parts.{IsLevel, least_in}
 use Rattle.fm_workers.specs.Query.{CanQueryWith, IsReadByCrew, NobodyElseWrites, OnlyReads}
 
@@ -110,15 +110,9 @@ EndsTally few old new p s counts more crew draws (Err (Ragged rest)) = IsTally p
 EndsTally few old new p s counts more crew draws (Err WrongThread) =
     IsTally p × (s.size % p.size ≡ 0) × ((s.arena.kind ≡ Confined) ⊎ (counts.arena.kind ≡ Confined)) × (new ≡ old)
 EndsTally few old new p s counts more crew draws (Err Closed) = CanBeTallied p s counts × FoundEitherClosed s counts (callers crew) more
-EndsTally few old new p s counts more crew draws (Err NoPass) = CanBeTallied p s counts × FoundAllDrawn old.shape.passes draws
+EndsTally few old new p s counts more crew draws (Err NoPass) = CanBeTallied p s counts × FoundNoNumber old.shape draws
 EndsTally few old new p s counts more crew draws (Err Memory) = CanBeTallied p s counts
 EndsTally few old new p s counts more crew draws (Err r) = ⊥
-
--- the parts were asked
-abbrev pub AreAsked : Result (List ℕ) Refusal → Type 0
-AreAsked (Ok ns) = ⊤
-AreAsked (Err Closed) = ⊤
-AreAsked (Err r) = ⊥
 
 -- ---- the numbers
 
@@ -149,16 +143,16 @@ AreAllRead old p s crew more =
 
 pub record TalliedWith (threads : ℕ) (old new : View) (p : Plan) (s counts : Region) (result : Result (List ℕ) Refusal) : Type 0 where
   pub crew : CrewGathered old new
-  -- at most one pass a worker
+  -- at most one pass a worker, and where a draw found no number it is one of as many
   pub one_each : length crew.crew ≤ threads
+  pub one_less : result ≡ Err NoPass → length crew.crew < threads
   pub visits : AllByRecursion (λ c. OnlyTallies s counts c (made_by c crew.more)) (callers crew.crew)
   pub ends : EndsTally (least_in p s threads) old new p s counts crew.more crew.crew crew.draws result
   pub value : IfOk result (AreTheCounts old p s (callers crew.crew) crew.more)
   pub read : IfOk result (λ _. AreAllRead old p s (callers crew.crew) crew.more)
   pub held : IfOk result (AreHeld old new counts (callers crew.crew) crew.more)
-  -- parts are asked only where there are enough passes; where the pass was known to be whole, a pass is wanting only where there aren't
-  pub suffice : AreAsked result → length old.gathered + (1 + threads) ≤ old.shape.passes
-  pub wanting : IsWhole old → result ≡ Err NoPass → old.shape.passes < length old.gathered + (1 + threads)
+  -- where the pass was known to be whole, a pass is wanting only where the workers are too many
+  pub wanting : IsWhole old → result ≡ Err NoPass → AreTooMany old threads
   pub lasts : Lasts old new
   pub known : IsKnown (view_of_pass new) s
   pub counts_known : IsKnown (view_of_pass new) counts
