@@ -22,17 +22,17 @@ fn reading<R: Abort + AllocGlobal>(rt: &R) -> String {
 fn reads_stay_refused_behind_a_close(rt: HostRuntime) {
     let script = reading(&rt);
     let report = printed(&rt, script.as_str());
-    let mut reads = 0;
+    let mut reads: u32 = 0;
     let mut is_closed = false;
     for line in report.as_str().lines() {
         match line {
             "1 get s long 0 -> 0" => {
                 assert!(rt; !is_closed);
-                reads += 1;
+                reads = reads.saturating_add(1);
             }
             "1 get s long 0 -> refused 1" => {
                 is_closed = true;
-                reads += 1;
+                reads = reads.saturating_add(1);
             }
             _ => {}
         }
