@@ -2,6 +2,7 @@
 use Rattle.std.specs.Prelude.{◌≡◌, ℕ, ◌+◌, ◌≤◌, List, [], ◌++◌, length, map, None, Ok}
 use Rattle.std.specs.List.{AllByRecursion, flat_map}
 use Rattle.fm_base.specs.declared.caller.Caller.{Caller}
+use Rattle.fm_base.specs.Arenas.{only_caller}
 use Rattle.fm_pool_facts.specs.Views.{View}
 use Rattle.fm_arena.specs.Opening.{HasNoSlot}
 use Rattle.fm_rule.specs.Finishing.{FinishedView, IsFinished}
@@ -35,7 +36,7 @@ pub record IsWritten (s : ScriptOf) : Type 0 where
 pub record IsOnly (p : View) : Type 0 where
   pub whole : IsWhole p
   pub unused : p.seen ≡ []
-  pub first : p.caller.number ≡ 0
+  pub first : p.caller ≡ only_caller
   pub no_slot : HasNoSlot p
   pub no_close : p.closes ≡ []
   pub alone : p.gathered ≡ []
