@@ -14,4 +14,4 @@ pub returns : goal.returns
 returns g c = λ a known.
     let stands = c.a_crew_stands.ensures.at_look c.args.pool c.args.pass c.whole.new.pass c.whole.result c.whole.ensures in
     let done = subst (λ (r : Result FinishedView Refusal). IfOk r (λ f. Finishes c.args.pool c.whole.new.pass f)) c.expect.ensures c.finish.ensures.finishes in
-    is_known (stands.of c.requires.of) done (stands.lasts.known a known)
+    is_known c.args.pool c.whole.new.pass c.expect.result a (stands.of c.requires.of) done (stands.lasts.known a known)
