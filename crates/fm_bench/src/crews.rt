@@ -38,26 +38,22 @@ pub fn made_for(alloc: Global, passes: u32) -> Result<(Pool, Pass), Refusal>
     Pool::make(alloc, shape)
 }
 
-/// Draws each number of so many pools of 4,096 passes, and gathers it at once. Answers how many were drawn.
-pub fn draws<R: Wait>(rt: &R, alloc: Global, pools: u64) -> Result<u64, Refusal> {
-    let mut drawn: u64 = 0;
-    for _ in 0..pools {
-        let (pool, mut pass) = made_for(alloc, 4_096)?;
-        drawn = drawn.wrapping_add(draw_all(rt, &pool, &mut pass));
-    }
-    Ok(drawn)
+/// Draws the other pass of a pool of two so often, and gathers it each time. Answers how often.
+pub fn draws<R: Wait>(rt: &R, alloc: Global, count: u64) -> Result<u64, Refusal> {
+    let (pool, mut pass) = made_for(alloc, 2)?;
+    Ok(draw_often(rt, &pool, &mut pass, count))
 }
 
-/// Draws and gathers until no number is left.
-fn draw_all<R: Wait>(rt: &R, pool: &Pool, pass: &mut Pass) -> u64
+/// Draws and gathers so often, or until it is refused.
+fn draw_often<R: Wait>(rt: &R, pool: &Pool, pass: &mut Pass, count: u64) -> u64
     requires { IsOutside pool.now pass.old }
 {
-    for drawn in 0..4_096 {
+    for drawn in 0..count {
         if draw_one(rt, pool, pass).is_err() {
             return drawn;
         }
     }
-    4_096
+    count
 }
 
 fn draw_one<R: Wait>(rt: &R, pool: &Pool, pass: &mut Pass) -> Result<(), Refusal>
@@ -112,7 +108,7 @@ fn pass_over<R: Wait>(
     Ok(())
 }
 
-/// So many workers, behind each of which so many numbers are passed over.
+/// So many workers, behind each of which so many passes are drawn that nobody uses.
 pub fn crew_of<R: Wait>(
     rt: &R,
     alloc: Global,
@@ -143,7 +139,9 @@ pub fn crew_of<R: Wait>(
     Ok(crew)
 }
 
-/// Threads visit an arena at once, so often each, with so many marks between theirs. Answers how often they came in.
+/// Threads visit an arena at once, so often each. Of 64 passes numbers that are 8 apart are drawn first, so their marks
+/// share no cache line; where 7 passes are drawn between two workers, one's number is the other's and 1. Answers how often
+/// they came in.
 pub fn crowd<R: Threads + Wait + Sync>(
     rt: &R,
     alloc: Global,

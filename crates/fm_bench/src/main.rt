@@ -3,7 +3,7 @@
 //! arenas, `closes POOLS` of the arenas of so many pools, `opens COUNT` of 64 bytes in one slot again and again, `wipes
 //! COUNT` of 8 MiB there, `grows COUNT` of 1 MiB in 64 pages, `empties COUNT` of up to 32 MiB of which nothing is given,
 //! `gives COUNT` of 8 bytes at a time, `loads COUNT` from a plain vector,
-//! `adds COUNT`, `swaps COUNT` and `patches COUNT` of a word in one visit, `draws POOLS` of the passes of so many pools,
+//! `adds COUNT`, `swaps COUNT` and `patches COUNT` of a word in one visit, `draws COUNT` of a pass that is gathered each time,
 //! `beside COUNT THREADS` and `apart COUNT THREADS` of visits by threads whose marks lie side by side and 8 apart,
 //! `known COUNT` of a segment by a layout that the compiler knows, `gets COUNT LAYOUT` and `handles COUNT LAYOUT` by a
 //! layout that is read as JSON, at offsets and by a path, and `fills COUNT`, `copies COUNT` and `mismatches COUNT` of
@@ -129,8 +129,8 @@ fn run<R: Threads + Wait + Sync>(
         "swaps" => swaps(rt, alloc, count).ok(),
         "patches" => patches(rt, alloc, count).ok(),
         "draws" => draws(rt, alloc, count).ok(),
-        "beside" => crowd(rt, alloc, count, text.parse::<u64>().ok()?, 0).ok(),
-        "apart" => crowd(rt, alloc, count, text.parse::<u64>().ok()?, 7).ok(),
+        "beside" => crowd(rt, alloc, count, text.parse::<u64>().ok()?, 7).ok(),
+        "apart" => crowd(rt, alloc, count, text.parse::<u64>().ok()?, 0).ok(),
         "stress" => stress(rt, alloc, count).ok(),
         "known" => known(rt, alloc, count).ok(),
         "gets" => gets(rt, alloc, count, text).ok(),

@@ -35,7 +35,7 @@ pub fn stress<R: Threads + Wait + Sync>(
     Ok(fine)
 }
 
-/// Whether the word shows what all workers added, and the pass has every number once it has gathered them.
+/// Whether the word shows what all workers added, and the pass is whole once it has gathered them.
 fn adds_add_up<R: Threads + Wait + Sync>(rt: &R, alloc: Global) -> Result<bool, Refusal> {
     let (pool, mut pass) = made_for(alloc, 5)?;
     let a = given(rt, &pool, &mut pass, 8)?;
@@ -71,7 +71,7 @@ fn next_word(crew: &Vec<Worker>) -> u64 {
     next
 }
 
-/// Gathers all workers, and answers whether the pass has every number then.
+/// Gathers all workers, and answers whether the pass is whole then.
 fn is_whole_with(pool: &Pool, pass: &mut Pass, a: ArenaId, mut crew: Vec<Worker>) -> bool
     requires outside { IsOutside pool.now pass.old }
     requires open { IsOpen pass.old 8 a }
@@ -85,7 +85,7 @@ fn is_whole_with(pool: &Pool, pass: &mut Pass, a: ArenaId, mut crew: Vec<Worker>
     look(pool, pass, a)
 }
 
-/// Whether the pass has every number.
+/// Whether the pass has every caller that was drawn.
 fn look(pool: &Pool, pass: &mut Pass, a: ArenaId) -> bool
     requires outside { IsOutside pool.now pass.old }
     requires open { IsOpen pass.old 8 a }

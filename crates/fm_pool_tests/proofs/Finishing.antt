@@ -11,8 +11,9 @@ use Rattle.fm_rule.specs.Passes.{IsOf}
 use Rattle.fm_rule.specs.Finishing.{FinishedView, Finishes}
 use Rattle.fm_rule.specs.GivenBytes.{state_of}
 
-pub is_known : {pool : Pool} {p : View} {f : FinishedView} {a : ArenaId} → IsOf pool p → Finishes pool p f → IsKnown p a → has_arena (state_of f) a ≡ true
-is_known {pool = pool} {p = p} {f = f} {a = a} of done known =
+pub is_known : (pool : Pool) (p : View) (f : FinishedView) (a : ArenaId) → IsOf pool p → Finishes pool p f → IsKnown p a
+    → has_arena (state_of f) a ≡ true
+is_known pool p f a of done known =
     let shape : f.shape ≡ p.shape = done.shape ∙ sym of.1 in
     ap (λ (z : Shape). has_arena (state_after (limit_of z) [] f.history) a) shape
     ∙ (ap (λ (es : List Entry). has_arena (state_after (limit_of p.shape) [] es) a) done.history ∙ known)

@@ -1,11 +1,13 @@
 ghost use Rattle.std.specs.Prelude.{◌≡◌, ◌≤◌, true};
+ghost use Rattle.fm_base.specs.Arenas.{has_arena};
 ghost use Rattle.fm_pool_facts.specs.Views.{IsKnown, given_of};
+ghost use Rattle.fm_rule.specs.GivenBytes.{state_of};
 ghost use Rattle.fm_gate.specs.Standing.{IsInside, IsOutside};
 ghost use Rattle.fm_arena.specs.Shares.{CanShare};
 
 use fm_base::{ArenaId, Kind};
 use fm_gate::{allocate, enter, leave, open_arena, store};
-use fm_rule::{Pass, Pool};
+use fm_rule::{Finished, Pass, Pool};
 use fm_words::Shape;
 use std::alloc::AllocGlobal;
 use std::process::Abort;
@@ -40,8 +42,17 @@ fn nine<R: Abort + Wait>(rt: &R, pool: &Pool, pass: &mut Pass) -> ArenaId
     a
 }
 
+/// Finishes the pool by a pass that is known to be whole; it knows the arena then.
+fn finished<R: Abort + AllocGlobal>(rt: &R, pool: Pool, pass: Pass, a: ArenaId) -> Finished
+    requires outside { IsOutside pool pass }
+    requires whole { pass.whole ≡ true }
+    requires known { IsKnown pass a }
+    ensures { has_arena (state_of result) a ≡ true }
+{
+    pool.finish(rt.alloc(), pass).expect(rt, "words")
+}
+
 #[test]
-#[tactic(auto, using(crate::proofs::Finishing::is_known))]
 fn a_finished_pool_tells_the_bytes_of_its_arenas(rt: HostRuntime) {
     let shape = Shape {
         passes: 1,
@@ -53,7 +64,7 @@ fn a_finished_pool_tells_the_bytes_of_its_arenas(rt: HostRuntime) {
     };
     let (pool, mut pass) = Pool::make(rt.alloc(), shape).expect(&rt, "words");
     let a = nine(&rt, &pool, &mut pass);
-    let finished = pool.finish(rt.alloc(), pass).expect(&rt, "words");
+    let finished = finished(&rt, pool, pass, a);
     let bytes = finished
         .bytes_of(rt.alloc(), a)
         .expect(&rt, "bytes")

@@ -1,4 +1,4 @@
-use Rattle.fm_bench.proofs.crews.draw_all.Given as goal
+use Rattle.fm_bench.proofs.crews.draw_often.Given as goal
 use Rattle.fm_gate.specs.Standing.{IsOutside}
 
 abbrev pub invariant-loop-drawn : goal.invariant-loop-drawn
