@@ -15,30 +15,32 @@ fn packed(alloc: Global) -> Result<Layout, Fail> {
     members.push(Layout::value(ValueKind::Byte).with_name(alloc, "a")?)?;
     let b = Layout::value(ValueKind::Int).with_alignment(1)?;
     members.push(b.with_name(alloc, "b")?)?;
-    let c = Layout::value(ValueKind::Long).with_order(Order::Big).with_alignment(1)?;
+    let c = Layout::value(ValueKind::Long)
+        .with_order(Order::Big)
+        .with_alignment(1)?;
     members.push(c.with_name(alloc, "c")?)?;
     let t = Layout::sequence(alloc, 3, Layout::value(ValueKind::Short).with_alignment(1)?)?;
     members.push(t.with_name(alloc, "t")?)?;
     Ok(Layout::structure(members)?)
 }
 
-/// The words of six such records: byte k of them is (89 k + 37) mod 251, and the bytes behind byte 113 are 0.
-const WORDS: [i64; 15] = [
-    -7041967844349215195,
-    8438829142999193079,
-    5543532280003505358,
-    2577585193642361765,
-    -748648784871565956,
-    -3714595871232709549,
-    -6680266980158831830,
-    8800530007189576193,
-    5905233144193888723,
-    2939286057832745130,
-    -386947920681182591,
-    -3352895007042326184,
-    -6318566115968448465,
-    9162230871379959558,
-    14040,
+/// The words of six such records, by their offset: byte k of them is (89 k + 37) mod 251, and the bytes behind byte 113 are 0.
+const WORDS: [(u64, i64); 15] = [
+    (0, -7041967844349215195),
+    (8, 8438829142999193079),
+    (16, 5543532280003505358),
+    (24, 2577585193642361765),
+    (32, -748648784871565956),
+    (40, -3714595871232709549),
+    (48, -6680266980158831830),
+    (56, 8800530007189576193),
+    (64, 5905233144193888723),
+    (72, 2939286057832745130),
+    (80, -386947920681182591),
+    (88, -3352895007042326184),
+    (96, -6318566115968448465),
+    (104, 9162230871379959558),
+    (112, 14040),
 ];
 
 /// What queries answer over them, by another program.
@@ -56,7 +58,10 @@ const ANSWERS: [(&str, &str); 5] = [
         "sum(.c) -2091636071594768297\nlist(.a) 37 90 24\n",
     ),
     ("count where .c>0 and .a<0", "count 1\n"),
-    ("list(.t[1]),list(.t[0:2]) where .a=24", "list(.t[1]) -16024\nlist(.t[0:2]) 4017 30751\n"),
+    (
+        "list(.t[1]),list(.t[0:2]) where .a=24",
+        "list(.t[1]) -16024\nlist(.t[0:2]) 4017 30751\n",
+    ),
 ];
 
 #[test]
@@ -67,8 +72,8 @@ fn values_that_cross_words_are_found(rt: HostRuntime) -> Result<(), Fail> {
     let first = m.allocate(&rt, arena, 120, 8)?;
     let all = Segment::of(arena, first, 120);
     let word = Layout::value(ValueKind::Long);
-    for (k, n) in WORDS.iter().enumerate() {
-        assert_eq!(rt; all.set(&rt, &mut m, &word, 8 * k as u64, Value::Long(*n)), Ok(()));
+    for (at, n) in WORDS.iter() {
+        assert_eq!(rt; all.set(&rt, &mut m, &word, *at, Value::Long(*n)), Ok(()));
     }
     let s = Segment::of(arena, first, 114);
     let layout = packed(alloc)?;

@@ -75,7 +75,7 @@ fn compares(operator: Operator, x: i64, y: i64) -> bool
 }
 
 /// Adds what the items find in the record at a place: their values are read in the order of the items and of index
-/// lists. A value takes one visit of the arena a piece, and nothing is held between visits.
+/// lists. A word that is kept isn't read again.
 ///
 /// Refused: `Closed` at the first value that is read then, or `Memory` at the first number that can't be listed. Then what
 /// the values before it come to is added.
