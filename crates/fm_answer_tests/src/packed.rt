@@ -1,4 +1,6 @@
-use crate::printed::printed;
+ghost use Rattle.std.specs.Prelude.{◌≡◌, None};
+ghost use Rattle.fm_segment.specs.Access.{IsKnown};
+
 use crate::records::asked;
 use fm_base::{Kind, Memory};
 use fm_lanes::{Order, Value, ValueKind};
@@ -6,6 +8,8 @@ use fm_layout::Layout;
 use fm_mono::Mono;
 use fm_segment::Segment;
 use std::alloc::Global;
+use std::process::Abort;
+use std::sync::Wait;
 use std::test::Fail;
 
 /// A struct of 19 bytes in which values cross words: byte `a`, int `b`, long `c` whose highest byte comes first, and three
@@ -64,18 +68,29 @@ const ANSWERS: [(&str, &str); 5] = [
     ),
 ];
 
+/// A segment of a fresh shared arena with those six records.
+fn six_records<R: Abort + Wait, M: Memory>(rt: &R, m: &mut M) -> Segment
+    requires { (M.view m.old).inside ≡ None }
+    ensures outside { (M.view m.new).inside ≡ None }
+    ensures known { IsKnown (M.view m.new) result }
+    ensures size { result.size ≡ 120 }
+{
+    let arena = m.open_arena(rt, Kind::Shared).expect(rt, "an arena");
+    let first = m.allocate(rt, arena, 120, 8).expect(rt, "six records");
+    let s = Segment::of(arena, first, 120);
+    let word = Layout::value(ValueKind::Long);
+    for (at, n) in WORDS.iter() {
+        assert_eq!(rt; s.set(rt, m, &word, *at, Value::Long(*n)), Ok(()));
+    }
+    s
+}
+
 #[test]
 fn values_that_cross_words_are_found(rt: HostRuntime) -> Result<(), Fail> {
     let alloc = rt.alloc();
     let mut m = Mono::make(alloc, 1024);
-    let arena = m.open_arena(&rt, Kind::Shared)?;
-    let first = m.allocate(&rt, arena, 120, 8)?;
-    let all = Segment::of(arena, first, 120);
-    let word = Layout::value(ValueKind::Long);
-    for (at, n) in WORDS.iter() {
-        assert_eq!(rt; all.set(&rt, &mut m, &word, *at, Value::Long(*n)), Ok(()));
-    }
-    let s = Segment::of(arena, first, 114);
+    let all = six_records(&rt, &mut m);
+    let s = Segment::of(all.arena(), all.first(), 114);
     let layout = packed(alloc)?;
     for (text, answer) in ANSWERS.iter() {
         let found = asked(alloc, &rt, &mut m, &layout, &s, text)?;
