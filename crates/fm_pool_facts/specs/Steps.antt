@@ -94,6 +94,11 @@ AreAllGiven v a index words = (word : ℕ) → word / v.shape.page_words ≡ ind
 abbrev pub draw_next : ℕ → ℕ
 draw_next drawn = if drawn == most_draws then drawn else drawn + 1
 
+-- a number whose term is known is in the hand, or nothing is, and no draw is expected
+pub data CanDraw (v : View) (expected : ℕ) : Type 0 where
+  can_draw : (n k : ℕ) → v.number ≡ number_learnt n k → CanDraw v expected
+  can_look : v.number ≡ no_number → expected ≡ 0 → CanDraw v expected
+
 -- a pass that drew is not known to be whole any more; one that looks, since no pool has made 0 draws, and found as many as it has callers, is
 abbrev pub draws : Option Caller → Number → (expected found : ℕ) → View → View
 draws (Some c) number expected found v = record v { number = number; whole = false }

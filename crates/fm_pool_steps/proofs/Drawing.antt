@@ -21,7 +21,7 @@ use Rattle.fm_pool_facts.specs.declared.step.Step.TheVariants.{Draws}
 use Rattle.fm_pool_facts.specs.Hands.{Number, no_number, number_learnt, number_drawn, number_left, HasNumberIn, drawn_by, number_after, most_draws}
 use Rattle.fm_pool_facts.specs.Views.{View, In, all_gathered}
 use Rattle.fm_pool_facts.specs.Holds.{holds_of}
-use Rattle.fm_pool_facts.specs.Steps.{part, entries, noted, draws, note_draw, is_clear, draw_next}
+use Rattle.fm_pool_facts.specs.Steps.{part, entries, noted, draws, note_draw, is_clear, draw_next, CanDraw, can_draw, can_look}
 use Rattle.fm_pool_facts.specs.Facts.{HasGathered, HasDraw, HasClose, HasSweep, KeepsSlot, DrewIn, Owns, Knows, Rule, HasPage, WasDrawn, IsUndrawn, HasNumberInHand, KeepsCaller, KeepsNumber, WantsNumber, IsUsed, wanted, full, IsLooked, Somewhere}
 use Rattle.fm_pool_facts.specs.Moves.{told, Gives, LearnsCount, MayStep}
 use Rattle.fm_pool_facts.specs.Gone.{IsFounded}
@@ -140,12 +140,13 @@ module _ (z : Shape) (me : ℕ) (v : View) (l : v.live ≡ true) (lone : v.met �
         looked = λ j y at'. ⊎_elim
             (λ (e : (j ≡ me) × (w ≡ y)). subst (IsLooked z r.memory r.owners (set vs me w)) e.1
             (looked_now w (looked_told z r.memory r.owners vs v (part_of x wh) zs [] fs refl refl refl
-            (λ f i. ((λ q. absurd (let u : true ≡ false = sym q ∙ idle (length (v.seen ++ zs)) f i in cc)),
-            none_looked z r.memory r.owners vs v.gathered f (idle (length (v.seen ++ zs)) f i))) (r.looked me v at))))
+            (λ f i. (
+              (λ q. absurd (let u : true ≡ false = sym q ∙ idle (length (v.seen ++ zs)) f i in cc)),
+              none_looked z r.memory r.owners vs v.gathered f (idle (length (v.seen ++ zs)) f i),
+            )) (r.looked me v at))))
             (λ (e : (j ≢ me) × (get_elem? vs j ≡ some y)). looked_now y (r.looked j y e.1))
             (at_set vs me j w y at');
       }
-
     where
       wants_on : (before : List Gathered) → ((g : Gathered) → In g before → WasDrawn r.memory.draw r.owners.who r.owners.rank g.caller) → (n : ℕ)
           → Somewhere vs (r.owners.number n) (WantsNumber n) → IsUsed r.memory r.owners (set vs me (looker x wh fs)) before n
@@ -314,11 +315,6 @@ module _ (z : Shape) (me : ℕ) (v : View) (l : v.live ≡ true) (lone : v.met �
     later = λ f h e. let a = (find_within r.memory.draw r.owners.who r.owners.rank v (r.counted me v at) f h).found e in let y = is_found in omega arith;
   }
 
--- a number whose term is known is in the hand, or nothing is, and nobody is expected to be drawn
-pub data CanDraw (v : View) (expected : ℕ) : Type 0 where
-  can_draw : (n k : ℕ) → v.number ≡ number_learnt n k → CanDraw v expected
-  can_look : v.number ≡ no_number → expected ≡ 0 → CanDraw v expected
-
 -- the count of draws is exchanged for one more where it is the expected one, and fits
 pub draw_steps : (z : Shape) (me : ℕ) (v : View) (expected : ℕ) → v.live ≡ true → v.met ≡ [] → CanDraw v expected
     → MayStep z (Draws expected) me v (place_at z draw_place) (λ n. either (n == expected) (draw_next expected) n)
@@ -331,8 +327,8 @@ draw_steps z me v expected l lone (can_draw n k learnt) = record {
 }
 draw_steps z me v expected l lone (can_look none zero) = subst
     (λ (e : ℕ). MayStep z (Draws e) me v (place_at z draw_place) (λ n. either (n == e) (draw_next e) n)) (sym zero) (record {
-  may = λ ws vs r at.
-      let x : ℕ = get_or ws (place_at z draw_place) 0 in
-      let g = looks z me v l lone ws vs r at none (x == 0) refl in
-      (g.0, g.1, record { gives = g.2; learns = learns_count z me v l lone ws vs r at });
-})
+      may = λ ws vs r at.
+          let x : ℕ = get_or ws (place_at z draw_place) 0 in
+          let g = looks z me v l lone ws vs r at none (x == 0) refl in
+          (g.0, g.1, record { gives = g.2; learns = learns_count z me v l lone ws vs r at });
+    })

@@ -60,27 +60,14 @@ slots_set z = set (zeros_but z) 2 (ones z.slots)
 abbrev pub bits_set : Shape → List ℕ
 bits_set z = set (slots_set z) 3 (ones z.pages)
 
--- the words of number bits of the first groups
-abbrev pub numbers_to : (ℕ → ℕ) → ℕ → ℕ → ℕ
-numbers_to f zero = λ g. 0
-numbers_to f (suc k) = put (numbers_to f k) k (f k)
-
-abbrev pub with_numbers : Shape → (ℕ → ℕ) → ℕ → List ℕ → List ℕ
-with_numbers z f zero ws = ws
-with_numbers z f (suc k) ws = set (with_numbers z f k ws) (place_at z (number_bits k)) (f k)
-
--- and the number bits
-abbrev pub words_of : Shape → (ℕ → ℕ) → List ℕ
-words_of z f = with_numbers z f (groups z) (bits_set z)
-
 -- every number but the first can be drawn
 pub record AreFree (z : Shape) (numbers : ℕ → ℕ) : Type 0 where
   pub taken : number_bit numbers 0 ≡ 0
   pub free : (n : ℕ) → n ≢ 0 → n < z.passes → number_bit numbers n ≡ 1
 
--- the memory of a new pool
-abbrev first_memory : Shape → (ℕ → ℕ) → Memory
-first_memory z f = blank (ones z.slots) (ones z.pages) (numbers_to f (groups z))
+-- the memory of a new pool with these number bits
+abbrev pub first_memory : Shape → (ℕ → ℕ) → Memory
+first_memory z numbers = blank (ones z.slots) (ones z.pages) numbers
 
 abbrev zeros_of : ℕ → List ℕ
 zeros_of n = replicate n 0
@@ -128,22 +115,18 @@ shows_none z valid = record {
   cells = λ s w a b. zero_at (word_count z) (place_at z (page_word s w)) (λ e. omega arith);
 }
 
-shows_blank : (z : Shape) → IsValid z → Shows z (bits_set z) (blank (ones z.slots) (ones z.pages) (λ g. 0))
+pub shows_blank : (z : Shape) → IsValid z → Shows z (bits_set z) (first_memory z (λ g. 0))
 unfolding blank place_at
 shows_blank z valid =
     shows_page_bits z valid (slots_set z) (blank (ones z.slots) 0 (λ g. 0))
     (shows_bits z valid (zeros_but z) (blank 0 0 (λ g. 0)) (shows_none z valid) (ones z.slots))
     (ones z.pages)
 
-shows_to : (z : Shape) → IsValid z → (f : ℕ → ℕ) (k : ℕ) → k ≤ groups z
-    → Shows z (with_numbers z f k (bits_set z)) (blank (ones z.slots) (ones z.pages) (numbers_to f k))
+-- and so it does where a word of number bits was set
+pub shows_group : (z : Shape) → IsValid z → (ws : List ℕ) (numbers : ℕ → ℕ) (g w : ℕ) → g < groups z → Shows z ws (first_memory z numbers)
+    → Shows z (set ws (place_at z (number_bits g)) w) (first_memory z (put numbers g w))
 unfolding blank
-shows_to z valid f zero h = shows_blank z valid
-shows_to z valid f (suc k) h =
-    let n : ℕ = groups z in
-    let low : k < n = (let l : suc k ≤ n = h in omega arith) in
-    let less : k ≤ n = omega arith in
-    shows_numbers z valid (with_numbers z f k (bits_set z)) (blank (ones z.slots) (ones z.pages) (numbers_to f k)) (shows_to z valid f k less) k (f k) low
+shows_group z valid ws numbers g w low shows = shows_numbers z valid ws (first_memory z numbers) shows g w low
 
 -- a bit that is 1 of the word whose first bits are 1
 ones_below : (n p : ℕ) → bit_at (ones n) p ≡ 1 → p < n
@@ -176,7 +159,7 @@ first_drawn = let e = first_rank in (omega arith, refl)
 only_drawn : (c : Caller) → WasDrawn 1 nobody.who nobody.rank c → c ≡ only_caller
 only_drawn c d = sym d.1
 
-first_knows : (z : Shape) (f : ℕ → ℕ) → IsValid z → AreFree z (numbers_to f (groups z)) → Knows z [] (first_memory z f) opening nobody 0 (first_view z)
+first_knows : (z : Shape) (f : ℕ → ℕ) → IsValid z → AreFree z f → Knows z [] (first_memory z f) opening nobody 0 (first_view z)
 unfolding blank
 first_knows z f valid bits = record {
   shape = λ q. refl;
@@ -209,9 +192,9 @@ first_knows z f valid bits = record {
   };
 }
 
-pub first_rule : (z : Shape) (f : ℕ → ℕ) → IsValid z → AreFree z (numbers_to f (groups z)) → Rule z (words_of z f) (first_view z ∷ [])
+pub first_rule : (z : Shape) (ws : List ℕ) (f : ℕ → ℕ) → IsValid z → Shows z ws (first_memory z f) → AreFree z f → Rule z ws (first_view z ∷ [])
 unfolding blank
-first_rule z f valid bits = record {
+first_rule z ws f valid shows bits = record {
   history = [];
   memory = first_memory z f;
   machine = opening;
@@ -237,7 +220,7 @@ first_rule z f valid bits = record {
     new_given = λ a e. refl;
   };
   depicts = always (limit_of z) [] tt;
-  shows = shows_to z valid f (groups z) (omega arith);
+  shows = shows;
   world = record {
     marked = λ c a e. absurd (cc);
     sessions = record {
@@ -274,10 +257,17 @@ first_rule z f valid bits = record {
     mark = refl;
     fresh = λ q.
         let e : n ≡ 0 = ap (λ (x : Caller). x.number) (only_drawn (record { number = n; term = 0 }) q) in
-        let one : number_bit (numbers_to f (groups z)) 0 ≡ 1 = ap (number_bit (numbers_to f (groups z))) (sym e) ∙ b in let zero = bits.taken in omega arith;
+        let one : number_bit f 0 ≡ 1 = ap (number_bit f) (sym e) ∙ b in let zero = bits.taken in omega arith;
   };
-  numbers = λ n low b. inl (record { view = first_view z; there = refl; holds = (refl, inl (dite (ℕ_discrete n 0) (λ e. sym e) (λ ne.
-      let one = bits.free n ne low in absurd (let zero : number_bit (numbers_to f (groups z)) n ≡ 0 = b in omega arith)))) });
+  numbers = λ n low b. inl (record {
+    view = first_view z;
+    there = refl;
+    holds = (
+      refl,
+      inl (dite (ℕ_discrete n 0) (λ e. sym e) (λ ne.
+          let one = bits.free n ne low in absurd (let zero : number_bit f n ≡ 0 = b in omega arith))),
+    );
+  });
   drawers = λ n a b. absurd (omega arith);
   closed = λ a e. absurd (cc);
   swept = λ a e. absurd (cc);
@@ -310,6 +300,6 @@ first_rule z f valid bits = record {
     go zero v e = subst (Knows z [] (first_memory z f) opening nobody 0) (some-injective (first_view z) v e) (first_knows z f valid bits)
 
 -- the first pass is sound
-pub first_sound : (z : Shape) (f : ℕ → ℕ) → IsValid z → AreFree z (numbers_to f (groups z)) → IsSound (first_view z)
+pub first_sound : (z : Shape) (ws : List ℕ) (f : ℕ → ℕ) → IsValid z → Shows z ws (first_memory z f) → AreFree z f → IsSound (first_view z)
 unfolding first_rule
-first_sound z f valid bits = sound_of z (words_of z f) (first_view z ∷ []) (first_rule z f valid bits) 0 (first_view z) refl refl refl refl
+first_sound z ws f valid shows bits = sound_of z ws (first_view z ∷ []) (first_rule z ws f valid shows bits) 0 (first_view z) refl refl refl refl
