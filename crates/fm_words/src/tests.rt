@@ -18,9 +18,9 @@ const LEAST: Shape = Shape {
 const GREATEST: Shape = Shape {
     passes: 4_096,
     slots: 64,
-    pages: 64,
-    page_words: 262_144,
-    reach: 1,
+    pages: 4_096,
+    page_words: 4_096,
+    reach: 4_096,
     generations: u32::MAX,
 };
 
@@ -158,7 +158,7 @@ fn the_least_shape_has_one_of_each(rt: HostRuntime) {
     assert_eq!(rt; LEAST.front_place(), 0);
     assert_eq!(rt; LEAST.draw_place(), 1);
     assert_eq!(rt; LEAST.slot_bits_place(), 2);
-    assert_eq!(rt; LEAST.page_bits_place(), 3);
+    assert_eq!(rt; LEAST.page_bits_place(0), 3);
     assert_eq!(rt; LEAST.mark_place(0), 4);
     assert_eq!(rt; LEAST.session_place(0), 5);
     assert_eq!(rt; LEAST.given_place(0), 6);
@@ -173,21 +173,23 @@ fn the_least_shape_has_one_of_each(rt: HostRuntime) {
 #[test]
 fn the_greatest_shape_has_128_mebibytes(rt: HostRuntime) {
     assert!(rt; GREATEST.is_valid());
-    assert_eq!(rt; GREATEST.mark_place(4_095), 4_099);
-    assert_eq!(rt; GREATEST.session_place(0), 4_100);
-    assert_eq!(rt; GREATEST.session_place(63), 4_163);
-    assert_eq!(rt; GREATEST.given_place(0), 4_164);
-    assert_eq!(rt; GREATEST.given_place(63), 4_227);
-    assert_eq!(rt; GREATEST.map_place(0, 0), 4_228);
-    assert_eq!(rt; GREATEST.map_place(63, 0), 4_291);
+    assert_eq!(rt; GREATEST.page_groups(), 64);
+    assert_eq!(rt; GREATEST.page_bits_place(63), 66);
+    assert_eq!(rt; GREATEST.mark_place(4_095), 4_162);
+    assert_eq!(rt; GREATEST.session_place(0), 4_163);
+    assert_eq!(rt; GREATEST.session_place(63), 4_226);
+    assert_eq!(rt; GREATEST.given_place(0), 4_227);
+    assert_eq!(rt; GREATEST.given_place(63), 4_290);
+    assert_eq!(rt; GREATEST.map_place(0, 0), 4_291);
+    assert_eq!(rt; GREATEST.map_place(63, 4_095), 266_434);
     assert_eq!(rt; GREATEST.groups(), 64);
-    assert_eq!(rt; GREATEST.number_bits_place(0), 4_292);
-    assert_eq!(rt; GREATEST.number_bits_place(63), 4_355);
-    assert_eq!(rt; GREATEST.term_place(0), 4_356);
-    assert_eq!(rt; GREATEST.term_place(4_095), 8_451);
-    assert_eq!(rt; GREATEST.page_place(0, 0), 8_452);
-    assert_eq!(rt; GREATEST.page_place(63, 262_143), 16_785_667);
-    assert_eq!(rt; GREATEST.words(), 16_785_668);
+    assert_eq!(rt; GREATEST.number_bits_place(0), 266_435);
+    assert_eq!(rt; GREATEST.number_bits_place(63), 266_498);
+    assert_eq!(rt; GREATEST.term_place(0), 266_499);
+    assert_eq!(rt; GREATEST.term_place(4_095), 270_594);
+    assert_eq!(rt; GREATEST.page_place(0, 0), 270_595);
+    assert_eq!(rt; GREATEST.page_place(4_095, 4_095), 17_047_810);
+    assert_eq!(rt; GREATEST.words(), 17_047_811);
 }
 
 #[test]
@@ -209,8 +211,8 @@ fn words_of_each_kind_lie_one_after_another(rt: HostRuntime) {
 }
 
 #[test]
-fn number_bits_fill_words_of_64(rt: HostRuntime) {
-    for (passes, groups) in [
+fn bits_fill_words_of_64(rt: HostRuntime) {
+    for (count, groups) in [
         (1, 1),
         (63, 1),
         (64, 1),
@@ -219,9 +221,18 @@ fn number_bits_fill_words_of_64(rt: HostRuntime) {
         (129, 3),
         (4_096, 64),
     ] {
-        let shape = Shape { passes, ..SMALL };
+        let shape = Shape {
+            passes: count,
+            ..LEAST
+        };
         assert!(rt; shape.is_valid());
         assert_eq!(rt; shape.groups(), groups);
+        let shape = Shape {
+            pages: count,
+            ..LEAST
+        };
+        assert!(rt; shape.is_valid());
+        assert_eq!(rt; shape.page_groups(), groups);
     }
 }
 
@@ -231,6 +242,13 @@ fn pages_may_be_more_or_fewer_than_slots_can_map(rt: HostRuntime) {
         Shape { pages: 7, ..SMALL },
         Shape { pages: 9, ..SMALL },
         Shape { pages: 64, ..SMALL },
+        Shape { pages: 65, ..SMALL },
+        Shape {
+            pages: 4_096,
+            reach: 4_096,
+            slots: 64,
+            ..SMALL
+        },
         Shape { reach: 1, ..SMALL },
         Shape { reach: 8, ..SMALL },
         Shape { slots: 64, ..SMALL },
@@ -251,7 +269,10 @@ fn shapes_beyond_a_limit_are_refused(rt: HostRuntime) {
         Shape { slots: 0, ..SMALL },
         Shape { slots: 65, ..SMALL },
         Shape { pages: 0, ..SMALL },
-        Shape { pages: 65, ..SMALL },
+        Shape {
+            pages: 4_097,
+            ..SMALL
+        },
         Shape {
             page_words: 0,
             ..SMALL
