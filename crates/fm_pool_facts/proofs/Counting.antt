@@ -1,4 +1,4 @@
--- How many numbers a list of distinct ones has.
+-- How many callers a list of distinct ones has.
 use Rattle.std.proofs.Common.{◌≡◌, ◌≢◌, ℕ, zero, suc, ◌+◌, ◌<◌, ◌≤◌, List, [], ◌∷◌, ◌++◌, length, sym, refl, ap, ◌∙◌, subst, arith, inl, inr, ⊎_elim}
 use native.Mathlib.Decide.{ℕ_discrete}
 use Rattle.fm_base.specs.Finds.{Gathered}
