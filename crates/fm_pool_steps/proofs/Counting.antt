@@ -15,7 +15,7 @@ use Rattle.fm_depicts.specs.Functions.{put, put_by}
 use Rattle.fm_depicts.proofs.Putting.{put_here, put_else, by_here, by_else}
 use Rattle.fm_pool_facts.specs.Views.{View, In, all_gathered}
 use Rattle.fm_pool_facts.specs.Holds.{holds_of}
-use Rattle.fm_pool_facts.specs.Facts.{Memory, Owners, HasGathered, HasDraw, HasClose, HasSweep, KeepsSlot, DrewIn, IsGathered, IsDrawn, IsOnce, Somewhere, Owns, Knows, Rule, HasPage, WantsNumber, IsUsed, used, wanted, IsLooked, WasDrawn, number_bit, next_of, IsUndrawn, IsSpent, IsCounted, HasNumberInHand, KeepsCaller, KeepsNumber}
+use Rattle.fm_pool_facts.specs.Facts.{Memory, Owners, HasGathered, HasDraw, HasClose, HasSweep, KeepsSlot, DrewIn, IsGathered, IsDrawn, IsOnce, Somewhere, Owns, Knows, Rule, HasPage, WantsNumber, IsUsed, used, wanted, IsLooked, WasDrawn, bit_of, next_of, IsUndrawn, IsSpent, IsCounted, HasNumberInHand, KeepsCaller, KeepsNumber}
 use Rattle.fm_base.specs.declared.caller.Caller.{Caller}
 use Rattle.fm_pool_facts.specs.Hands.{Number, no_number, number_taken, number_learnt, number_drawn, number_left, number_joined, HasNumberIn, most_draws}
 use Rattle.fm_pool_facts.proofs.Looking.{looked_on, looked_told, none_looked, wants_in}
@@ -382,7 +382,7 @@ module _ (z : Shape) (me : ℕ) (v : View) (l : v.live ≡ true) (lone : v.met �
             mark = y.mark;
             fresh = λ q. elim (same_caller (next_of r.memory.terms x) c) [
               | yes e ↦ absurd (let e' : x ≡ n = ap (λ (y : Caller). y.number) e in
-                  let zero : number_bit r.memory.numbers x ≡ 0 = ap (number_bit r.memory.numbers) e' ∙ its.0.loose.bit in omega arith)
+                  let zero : bit_of r.memory.numbers x ≡ 0 = ap (bit_of r.memory.numbers) e' ∙ its.0.loose.bit in omega arith)
               | no ne ↦ y.fresh (back (next_of r.memory.terms x) ne q)
             ];
           };

@@ -16,7 +16,7 @@ use native.Mathlib.Decide.{ℕ_discrete}
 use Rattle.fm_pool_facts.specs.Hands.{Hand, HasSlot, IsTaker, Number, no_number, number_taken, number_learnt, number_drawn, number_left, number_joined, HasNumberIn, most_draws}
 use Rattle.fm_pool_facts.proofs.Handing.{hand_on}
 use Rattle.fm_pool_facts.specs.Views.{View, In, IsKnown, IsOver, given_of, limit_of, all_gathered, brought}
-use Rattle.fm_pool_facts.specs.Facts.{Memory, free, shut, Shows, World, IsOnce, Owners, HasInHand, HasClose, HasSweep, KeepsSlot, Owns, Rule, IsAt, IsLone, HasSwept, HasPages, WasDrawn, number_bit, next_of, IsLoose, KeepsNumber, HasNumberInHand, IsUndrawn}
+use Rattle.fm_pool_facts.specs.Facts.{Memory, free, shut, Shows, World, IsOnce, Owners, HasInHand, HasClose, HasSweep, KeepsSlot, Owns, Rule, IsAt, IsLone, HasSwept, HasPages, WasDrawn, bit_of, next_of, IsLoose, KeepsNumber, HasNumberInHand, IsUndrawn}
 use Rattle.fm_pool_facts.specs.Moves.{MayMake, NoEnd, StaysEnded, Moved, Same, Part, KeepsCloses, KeepsSweeps, KeepsSlots, KeepsHolds, Gives, MayLend, PagesMoved, KeepsPages, NumbersOn, KeepsHand}
 use Rattle.fm_base.proofs.Making.{state_after-append, IsLegal-split}
 use Rattle.fm_base.proofs.Growing.{Grows-state_after}
@@ -147,7 +147,7 @@ module _ (z : Shape) (ws : List ℕ) (vs : List View) (r : Rule z ws vs) (me : �
   module _ (es : List Entry) (m' : Memory) (o' : Owners) (p : View) (d : Moved me z v.caller r.memory r.machine r.owners es m' o') (s : Same v p)
       (hand : p.number ≡ v.number) (numbers : (g : ℕ) → m'.numbers g ≡ r.memory.numbers g) (terms : (n : ℕ) → m'.terms n ≡ r.memory.terms n)
       (owner : (n : ℕ) → o'.number n ≡ r.owners.number n) where
-    bit_is : (n : ℕ) → number_bit m'.numbers n ≡ number_bit r.memory.numbers n
+    bit_is : (n : ℕ) → bit_of m'.numbers n ≡ bit_of r.memory.numbers n
     bit_is n = ap (λ (w : ℕ). bit_at w (n % 64)) (numbers (n / 64))
 
     still : (c : Caller) → WasDrawn r.memory.draw r.owners.who r.owners.rank c → WasDrawn m'.draw o'.who o'.rank c
@@ -179,9 +179,9 @@ module _ (z : Shape) (ws : List ℕ) (vs : List View) (r : Rule z ws vs) (me : �
         ))
       ];
       freed = λ n b.
-          let bit : number_bit r.memory.numbers n ≡ 1 = sym (bit_is n) ∙ b in
+          let bit : bit_of r.memory.numbers n ≡ 1 = sym (bit_is n) ∙ b in
           let y = r.free_numbers n bit in
-          let ne : n ≢ v.caller.number = (λ e. let z : number_bit r.memory.numbers n ≡ 0 = ap (number_bit r.memory.numbers) e ∙ own.bit in omega arith) in
+          let ne : n ≢ v.caller.number = (λ e. let z : bit_of r.memory.numbers n ≡ 0 = ap (bit_of r.memory.numbers) e ∙ own.bit in omega arith) in
           record { mark = d.marks n ne ∙ y.mark; fresh = fresh_on n y.fresh };
       terms = record {
         terms = λ n. (let e = terms n in omega arith);
