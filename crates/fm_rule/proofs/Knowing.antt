@@ -2,7 +2,7 @@
 use Rattle.std.proofs.Common.{◌≡◌, ℕ, ◌+◌, ◌-◌, ◌*◌, ◌/◌, ◌%◌, ◌^◌, ◌<◌, ◌≤◌, List, [], ◌∷◌, inl, refl, Some, None, sym, ap, ◌∙◌, subst, arith}
 use Rattle.fm_words.specs.declared.shape.Shape.{Shape}
 use Rattle.fm_words.specs.Shapes.{IsValid}
-use Rattle.fm_words.specs.Places.{at, draw, slot_bits, page_bits, map, page_word, mark, session, given, number_bits, term, groups, words, front}
+use Rattle.fm_words.specs.Places.{at, draw, slot_bits, page_bits, page_groups, map, page_word, mark, session, given, number_bits, term, groups, words, front}
 use Rattle.fm_words.proofs.Tables.{at-within, words-le}
 use Rattle.fm_base.specs.declared.arena_id.ArenaId.{ArenaId}
 use Rattle.fm_pool_facts.specs.Hands.{Hand, HasSlot}
@@ -52,8 +52,8 @@ bits_below z i e = subst (λ (n : ℕ). n < words z) (sym e) (at-within z slot_b
 pub front_below : (z : Shape) (i : ℕ) → i ≡ at z front → i < words z
 front_below z i e = subst (λ (n : ℕ). n < words z) (sym e) (at-within z front tt)
 
-pub page_bits_below : (z : Shape) (i : ℕ) → i ≡ at z page_bits → i < words z
-page_bits_below z i e = subst (λ (n : ℕ). n < words z) (sym e) (at-within z page_bits tt)
+pub page_bits_below : (z : Shape) (g i : ℕ) → g < page_groups z → i ≡ at z (page_bits g) → i < words z
+page_bits_below z g i h e = subst (λ (n : ℕ). n < words z) (sym e) (at-within z (page_bits g) h)
 
 pub map_below : (z : Shape) (s k i : ℕ) → s < z.slots → k < z.reach → i ≡ at z (map s k) → i < words z
 map_below z s k i h l e = subst (λ (n : ℕ). n < words z) (sym e) (at-within z (map s k) (h, l))

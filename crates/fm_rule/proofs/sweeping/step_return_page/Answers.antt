@@ -1,20 +1,22 @@
-use Rattle.std.proofs.Common.{ap, ◌∙◌, arith}
+use Rattle.std.proofs.Common.{ap, ◌∙◌}
 use Rattle.fm_pool_facts.specs.Views.{View}
 use Rattle.fm_pool_facts.specs.Closes.{visited_of}
+use Rattle.fm_pool_facts.proofs.Groups.{page_group}
 use Rattle.fm_rule.specs.Views.{numbers_of}
-use Rattle.fm_rule.proofs.Knowing.{page_bits_below, all_swept, swept_over, page_in_sweep, valid}
+use Rattle.fm_rule.proofs.Knowing.{page_bits_below, all_swept, swept_over, page_in_sweep}
 use Rattle.fm_rule.proofs.Making.{may_return_page}
 use Rattle.fm_rule.proofs.Stepping.{return_page_stepped}
 use Rattle.fm_rule.proofs.Keeping.{return_page_keeps}
 use Rattle.fm_rule.proofs.sweeping.step_return_page.Goals as goal
 
-pub bit-bits-requires : goal.bit-bits-requires
-bit-bits-requires c = let s = (valid _ c.pass.inside.seat.me.0 _ _ c.pass.view_is c.requires.of.1 c.pass.invariant.sound).pages.1 in let l =
-    (page_in_sweep _ c.pass.inside.seat.me.0 _ _ c.pass.view_is c.requires.of.1 c.pass.invariant.sound c.args.a c.args.index c.args.page _
-    c.requires.wiped) in omega arith
+pub page_bits_place-place-requires : goal.page_bits_place-place-requires
+page_bits_place-place-requires c = page_group c.args.pool.now.shape c.args.page
+    (page_in_sweep _ c.pass.inside.seat.me.0 _ _ c.pass.view_is c.requires.of.1 c.pass.invariant.sound c.args.a c.args.index c.args.page _ c.requires.wiped)
 
 pub or_as-requires-clause-place : goal.or_as-requires-clause-place
-or_as-requires-clause-place c = page_bits_below _ _ c.page_bits_place-place.ensures
+or_as-requires-clause-place c = page_bits_below _ _ _ (page_group c.args.pool.now.shape c.args.page
+    (page_in_sweep _ c.pass.inside.seat.me.0 _ _ c.pass.view_is c.requires.of.1 c.pass.invariant.sound c.args.a c.args.index c.args.page _ c.requires.wiped))
+    c.page_bits_place-place.ensures
 
 pub or_as-requires-clause-may : goal.or_as-requires-clause-may
 or_as-requires-clause-may c =
