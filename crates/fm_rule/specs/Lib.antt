@@ -4,3 +4,4 @@ pub mod Beginning
 pub mod Draws
 pub mod Finishing
 pub mod GivenBytes
+pub mod Acts
