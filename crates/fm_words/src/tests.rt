@@ -1,8 +1,8 @@
 ghost use Rattle.fm_words.specs.Sessions.{IsSession};
 
 use crate::{
-    ALIVE, CLOSING, FREE, Session, Shape, every_word_has_one_place, lowest_bit, map_of, map_word,
-    mark_of, mark_word, ones, session_of, session_word, without_bit,
+    Life, Session, Shape, every_word_has_one_place, lowest_bit, map_of, map_word, mark_of,
+    mark_word, ones, session_of, session_word, without_bit,
 };
 use std::process::Abort;
 
@@ -35,7 +35,7 @@ const SMALL: Shape = Shape {
 
 const ZERO: Session = Session {
     generation: 0,
-    life: FREE,
+    life: Life::Free,
     kind: 0,
     owner: 0,
     holds: 0,
@@ -52,7 +52,7 @@ fn is_coded<R: Abort>(rt: &R, session: Session, word: u64)
 fn a_session_is_a_word(rt: HostRuntime) {
     let held = Session {
         generation: 5,
-        life: ALIVE,
+        life: Life::Alive,
         kind: 2,
         owner: 3,
         holds: 2,
@@ -60,7 +60,7 @@ fn a_session_is_a_word(rt: HostRuntime) {
     is_coded(&rt, held, 23_085_645_826);
     is_coded(&rt, held, 0x0000_0005_6003_0002);
     let shut = Session {
-        life: CLOSING,
+        life: Life::Closing,
         holds: 0,
         ..held
     };
@@ -81,7 +81,7 @@ fn fields_lie_apart_in_a_word(rt: HostRuntime) {
     is_coded(
         &rt,
         Session {
-            life: CLOSING,
+            life: Life::Closing,
             ..ZERO
         },
         0x8000_0000,
@@ -105,7 +105,7 @@ fn fields_lie_apart_in_a_word(rt: HostRuntime) {
     );
     let all = Session {
         generation: u32::MAX,
-        life: CLOSING,
+        life: Life::Closing,
         kind: 3,
         owner: 4_095,
         holds: 65_535,
@@ -114,10 +114,10 @@ fn fields_lie_apart_in_a_word(rt: HostRuntime) {
 }
 
 #[test]
-fn a_life_of_3_is_read(rt: HostRuntime) {
+fn each_two_bits_are_read_as_a_life(rt: HostRuntime) {
     let all = Session {
         generation: u32::MAX,
-        life: 3,
+        life: Life::Unused,
         kind: 3,
         owner: 4_095,
         holds: 65_535,
