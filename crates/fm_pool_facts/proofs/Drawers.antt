@@ -1,4 +1,4 @@
--- A view that has the first number, and each number that its finds drew, has all numbers.
+-- A view that has the first caller, and each caller that its finds drew, has all callers.
 use Rattle.std.proofs.Common.{◌≡◌, ℕ, zero, suc, ◌+◌, ◌<◌, true, List, [], length, sym, ap, ◌∙◌, subst, arith, inl, inr}
 use mathlib.Core.Option.{some, some-injective}
 use mathlib.Core.Logic.{dite}

@@ -17,7 +17,7 @@ use Rattle.fm_depicts.specs.Steps.{moved_by}
 use Rattle.fm_pool_facts.specs.Views.{Met, View, In, all_gathered, brought, limit_of}
 use Rattle.fm_base.specs.declared.arena_id.ArenaId.{ArenaId}
 use Rattle.fm_pool_facts.specs.Parts.{Swept, unread, named, wiping}
-use Rattle.fm_pool_facts.specs.Facts.{Memory, Owners, IsStanding, IsAt, IsNext, HasSwept, HasPages, IsClosing, IsSweeping, IsGathered, IsSilent, Begins, Somewhere, Owns, Knows, WasDrawn, number_bit, next_of, IsLoose, IsUndrawn, HasNumberInHand}
+use Rattle.fm_pool_facts.specs.Facts.{Memory, Owners, IsStanding, IsAt, IsNext, HasSwept, HasPages, IsClosing, IsSweeping, IsGathered, IsSilent, Begins, Somewhere, Owns, Knows, WasDrawn, bit_of, next_of, IsLoose, IsUndrawn, HasNumberInHand}
 use Rattle.fm_pool_facts.specs.Moves.{MayMake, NoEnd, StaysEnded, Moved}
 use Rattle.fm_pool_facts.proofs.Frame.{others_stay, none_come, still_closing, still_over, still_given, made_by-other}
 use Rattle.fm_pool_facts.proofs.Standing.{unstanding}
@@ -259,8 +259,8 @@ module _ (z : Shape) (h : List Entry) (me : ℕ) (c : Caller) (m : Memory) (t : 
     seen_all = λ e. absurd (lone e);
   }
     where
-      kept : (n : ℕ) → number_bit m.numbers n ≡ 0 → o.number n ≡ j
-          → (o'.number n ≡ o.number n) × (number_bit m'.numbers n ≡ 0) × (m'.terms n ≡ m.terms n)
+      kept : (n : ℕ) → bit_of m.numbers n ≡ 0 → o.number n ≡ j
+          → (o'.number n ≡ o.number n) × (bit_of m'.numbers n ≡ 0) × (m'.terms n ≡ m.terms n)
       kept n b e = d.numbers n b (at_other j other n e)
 
       far : v.caller ≢ c

@@ -16,6 +16,7 @@ pub mod Lending
 pub mod Moving
 pub mod Living
 pub mod Returning
+pub mod Groups
 pub mod Scarcity
 pub mod Unlending
 pub mod Ending

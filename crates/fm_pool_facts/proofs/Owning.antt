@@ -10,7 +10,7 @@ use Rattle.fm_base.specs.Finds.{Find, Gathered}
 use Rattle.fm_depicts.specs.Functions.{Machine}
 use Rattle.fm_depicts.specs.Steps.{moved_by}
 use Rattle.fm_pool_facts.specs.Views.{View, In, IsSound, all_gathered, brought, limit_of, HasOwnHandles}
-use Rattle.fm_pool_facts.specs.Facts.{Memory, Owners, IsOnce, Knows, WasDrawn, number_bit, HasNumberInHand}
+use Rattle.fm_pool_facts.specs.Facts.{Memory, Owners, IsOnce, Knows, WasDrawn, bit_of, HasNumberInHand}
 use Rattle.fm_pool_facts.specs.Hands.{Number, no_number, number_taken, number_learnt, number_drawn, number_left, number_joined}
 use Rattle.fm_pool_facts.specs.Moves.{Moved, Same, Part, told, Gives}
 use Rattle.fm_pool_facts.proofs.Frame.{others_stay, made_by-other}
@@ -45,7 +45,7 @@ module _ (z : Shape) (h zs : List Entry) (me : ℕ) (m m' : Memory) (t : Machine
   number_told (number_left n) y = (
     y.0,
     ⊎_elim inl (λ (q : (g : Gathered) × In g (all_gathered p) × (g.caller.number ≡ n)).
-    inr (q.0, subst (In q.0) (sym (append-nil (all_gathered p))) q.1, q.2)) y.1,
+        inr (q.0, subst (In q.0) (sym (append-nil (all_gathered p))) q.1, q.2)) y.1,
   )
   number_told (number_joined k) y = record {
     loose = y.loose;
@@ -69,7 +69,7 @@ module _ (z : Shape) (h zs : List Entry) (me : ℕ) (m m' : Memory) (t : Machine
           term = ap (λ (x : Caller). x.term) s.caller ∙ (u.term ∙ (sym d.own.term ∙ ap m'.terms (sym num)));
           seated = ap o'.seat s.caller ∙ (d.seat v.caller ∙ u.seated);
           owner = ap o'.number num ∙ (d.own.owner ∙ u.owner);
-          bit = ap (number_bit m'.numbers) num ∙ (d.own.bit ∙ u.bit);
+          bit = ap (bit_of m'.numbers) num ∙ (d.own.bit ∙ u.bit);
           mine = ap (made_by p.caller) (sym seen_is);
           inside = q.inside;
           mark = q.mark;

@@ -10,7 +10,7 @@ use Rattle.fm_base.specs.Finds.{Find, Gathered, is_number}
 use Rattle.fm_depicts.specs.Functions.{Closes, Over, Machine}
 use Rattle.fm_depicts.specs.Steps.{moved_by}
 use Rattle.fm_pool_facts.specs.Views.{all_gathered, brought, View, In, limit_of}
-use Rattle.fm_pool_facts.specs.Facts.{Memory, free, shut, Berth, loose, claimed, mapped, unmapped, IsAt, Pages, HasPage, Owners, Shows, World, HasDraw, HasClose, HasSweep, KeepsSlot, Somewhere, Knows, Rule, KeepsCaller, WantsNumber, IsUsed, wanted, IsLooked, LookedBy, KeepsNumber, WasDrawn, number_bit, IsSpent}
+use Rattle.fm_pool_facts.specs.Facts.{Memory, free, shut, Berth, loose, claimed, mapped, unmapped, IsAt, Pages, HasPage, Owners, Shows, World, HasDraw, HasClose, HasSweep, KeepsSlot, Somewhere, Knows, Rule, KeepsCaller, WantsNumber, IsUsed, wanted, IsLooked, LookedBy, KeepsNumber, WasDrawn, bit_of, IsSpent}
 use Rattle.fm_pool_facts.specs.Moves.{Moved, Same, Part, KeepsCloses, KeepsSweeps, KeepsSlots, KeepsPages, KeepsHolds, told, Gives, MayLend, NumbersOn}
 use Rattle.std.specs.Int.{bit_at}
 use Rattle.fm_pool_facts.specs.Hands.{number_drawn}
@@ -176,8 +176,8 @@ keeps_with z ws ws' vs r me v p es fs m' o' at l d s nd new looks lends pages kc
             holds = x.1;
           }))
           (⊎_elim
-          (λ (x : (number_bit r.memory.numbers n ≡ 0) × (o'.number n ≡ r.owners.number n) × (m'.terms n ≡ r.memory.terms n) × (m'.marks n ≡ r.memory.marks n)
-              × (KeepsNumber n v → KeepsNumber n p)). ⊎_elim
+          (λ (x : (bit_of r.memory.numbers n ≡ 0) × (o'.number n ≡ r.owners.number n) × (m'.terms n ≡ r.memory.terms n) × (m'.marks n ≡ r.memory.marks n)
+          × (KeepsNumber n v → KeepsNumber n p)). ⊎_elim
           (λ (y : Somewhere vs (r.owners.number n) (KeepsNumber n)). inl (subst (λ (j : ℕ). Somewhere (set vs me w) j (KeepsNumber n)) (sym x.1)
           (stays_somewhere vs me v w (r.owners.number n) (KeepsNumber n) at x.4 y)))
           (λ (y : IsSpent r.memory r.owners n). inr (record {

@@ -10,7 +10,7 @@ use Rattle.fm_base.specs.Calls.{Entry}
 use Rattle.fm_base.specs.Histories.{made_by}
 use Rattle.fm_pool_facts.specs.Hands.{Number, no_number, number_taken, number_learnt, number_drawn, number_left, number_joined, HasNumberIn}
 use Rattle.fm_pool_facts.specs.Views.{View, In}
-use Rattle.fm_pool_facts.specs.Facts.{WasDrawn, number_bit, next_of, IsSpent, Somewhere, KeepsNumber, HasNumberInHand, Rule}
+use Rattle.fm_pool_facts.specs.Facts.{WasDrawn, bit_of, next_of, IsSpent, Somewhere, KeepsNumber, HasNumberInHand, Rule}
 use Rattle.fm_pool_facts.proofs.Standing.{caller_is}
 use Rattle.fm_pool_facts.proofs.Callers.{made_in, drawn_or}
 
@@ -18,7 +18,7 @@ use Rattle.fm_pool_facts.proofs.Callers.{made_in, drawn_or}
 abbrev pub HasStill : Caller → View → Type 0
 HasStill c v = (v.live ≡ true) × ((v.caller ≡ c) ⊎ (v.number ≡ number_joined c))
 
-bit_is_bit : (words : ℕ → ℕ) (k : ℕ) → number_bit words k < 2
+bit_is_bit : (words : ℕ → ℕ) (k : ℕ) → bit_of words k < 2
 bit_is_bit words k = let y = bit_at-lt (words (k / 64)) (k % 64) in y
 
 module _ (z : Shape) (ws : List ℕ) (vs : List View) (r : Rule z ws vs) where
@@ -53,10 +53,10 @@ module _ (z : Shape) (ws : List ℕ) (vs : List View) (r : Rule z ws vs) where
     in_hand v j (number_joined c) k y = ap number_joined (caller_is c e.caller (sym k) (y.term ∙ (ap r.memory.terms (sym k) ∙ sym same)))
 
     still : Somewhere vs (r.owners.number n) (HasStill e.caller) ⊎ IsSpent r.memory r.owners n
-    still = dite (ℕ_discrete (number_bit r.memory.numbers n) 1)
+    still = dite (ℕ_discrete (bit_of r.memory.numbers n) 1)
         (λ one. absurd (stale (r.free_numbers n one).fresh))
         (λ ne.
-        let zero : number_bit r.memory.numbers n ≡ 0 = zero_bit (r.memory.numbers) ne in
+        let zero : bit_of r.memory.numbers n ≡ 0 = zero_bit (r.memory.numbers) ne in
         ⊎_elim
         (λ (s : Somewhere vs (r.owners.number n) (KeepsNumber n)).
         let x = (r.each (r.owners.number n) s.view s.there).owns s.holds.0 in
@@ -74,8 +74,8 @@ module _ (z : Shape) (ws : List ℕ) (vs : List View) (r : Rule z ws vs) where
         inr
         (r.numbers n (r.terms e.caller (made e i)).0 zero))
       where
-        zero_bit : (words : ℕ → ℕ) → number_bit words n ≢ 1 → number_bit words n ≡ 0
-        zero_bit words ne = let y = bit_is_bit words n in let x : ℕ = number_bit words n in let m : x ≢ 1 = ne in omega arith
+        zero_bit : (words : ℕ → ℕ) → bit_of words n ≢ 1 → bit_of words n ≡ 0
+        zero_bit words ne = let y = bit_is_bit words n in let x : ℕ = bit_of words n in let m : x ≢ 1 = ne in omega arith
 
   pub entry_terms : (e : Entry) → In e r.history → (e.caller.term < r.memory.terms e.caller.number)
       ⊎ ((e.caller.term ≡ r.memory.terms e.caller.number)
@@ -83,5 +83,5 @@ module _ (z : Shape) (ws : List ℕ) (vs : List View) (r : Rule z ws vs) where
   entry_terms e i = elim (cases_lt e.caller.term (r.memory.terms e.caller.number)) [
     | inl l ↦ inl l
     | inr l ↦ (let a = (r.terms e.caller (made e i)).1 in
-      let same : e.caller.term ≡ r.memory.terms e.caller.number = omega arith in inr (same, still e i same))
+        let same : e.caller.term ≡ r.memory.terms e.caller.number = omega arith in inr (same, still e i same))
   ]

@@ -1,5 +1,5 @@
 -- The facts that a pool keeps between any two steps: of its words, of the history, and of all views.
-use Rattle.std.specs.Prelude.{◌≡◌, ◌≢◌, ◌⊎◌, ℕ, ◌+◌, ◌<◌, ◌≤◌, true, List, [], ◌∷◌, Option, Some, None, ◌/◌, ◌%◌, length}
+use Rattle.std.specs.Prelude.{◌≡◌, ◌≢◌, ◌⊎◌, ℕ, ◌+◌, ◌<◌, ◌≤◌, true, List, [], ◌∷◌, Option, Some, None, ◌/◌, length}
 use mathlib.Core.Option.{some}
 use lib.ListN.{get_elem?}
 use Rattle.fm_words.specs.declared.shape.Shape.{Shape}
@@ -19,6 +19,7 @@ pub use Rattle.fm_pool_facts.specs.Views.{IsOnce, Begins}
 pub use Rattle.fm_pool_facts.specs.Memory.{Session, free, live, shut, Memory, session_code, own_map, Shows, IsStanding, IsShown}
 pub use Rattle.fm_pool_facts.specs.Berths.{Berth, loose, claimed, mapped, unmapped, IsAt}
 pub use Rattle.fm_pool_facts.specs.Pages.{Pages}
+pub use Rattle.fm_words.specs.Bits.{bit_of}
 use Rattle.fm_pool_facts.specs.Parts.{Mapping, Swept, unread, named, wiping}
 use Rattle.fm_pool_facts.specs.Gone.{IsFounded}
 use Rattle.fm_pool_facts.specs.Holds.{holds_of, total, all_holds}
@@ -77,10 +78,6 @@ pub record World (z : Shape) (m : Memory) (t : Machine) : Type 0 where
 -- c is one of the first callers that were drawn: `who` has them in their order, and `rank` says which one a caller is
 abbrev pub WasDrawn : (draw : ℕ) → (who : ℕ → Caller) → (rank : Caller → ℕ) → Caller → Type 0
 WasDrawn draw who rank c = (rank c < draw) × (who (rank c) ≡ c)
-
--- the bit of a number: 1 where it can be drawn
-abbrev pub number_bit : (ℕ → ℕ) → ℕ → ℕ
-number_bit words n = bit_at (words (n / 64)) (n % 64)
 
 -- the next caller of a number that nobody has
 abbrev pub next_of : (terms : ℕ → ℕ) → ℕ → Caller
@@ -178,7 +175,7 @@ pub record IsSilent (c : Caller) (h : List Entry) (t : Machine) : Type 0 where
 pub record IsLoose (z : Shape) (m : Memory) (o : Owners) (j n : ℕ) : Type 0 where
   pub low : n < z.passes
   pub owner : o.number n ≡ j
-  pub bit : number_bit m.numbers n ≡ 0
+  pub bit : bit_of m.numbers n ≡ 0
   pub mark : m.marks n ≡ None
 
 -- and whose next caller wasn't drawn
@@ -235,7 +232,7 @@ pub record Owns (z : Shape) (h : List Entry) (m : Memory) (t : Machine) (o : Own
   pub term : v.caller.term ≡ m.terms v.caller.number
   pub seated : o.seat v.caller ≡ j
   pub owner : o.number v.caller.number ≡ j
-  pub bit : number_bit m.numbers v.caller.number ≡ 0
+  pub bit : bit_of m.numbers v.caller.number ≡ 0
   pub mine : made_by v.caller h ≡ made_by v.caller v.seen
   pub inside : t.inside v.caller ≡ v.inside
   pub mark : m.marks v.caller.number ≡ v.mark
@@ -377,8 +374,8 @@ pub record Rule (z : Shape) (words : List ℕ) (views : List View) : Type 0 wher
   pub drawers : (k : ℕ) → 0 < k → k < memory.draw
       → (d : ℕ) × (d < k) × Somewhere views (owners.seat (owners.who d)) (HasDraw (owners.who d) (owners.who k))
   -- each number is free, or in one view, or had its last term
-  pub free_numbers : (n : ℕ) → number_bit memory.numbers n ≡ 1 → IsFreeNumber memory owners n
-  pub numbers : (n : ℕ) → n < z.passes → number_bit memory.numbers n ≡ 0
+  pub free_numbers : (n : ℕ) → bit_of memory.numbers n ≡ 1 → IsFreeNumber memory owners n
+  pub numbers : (n : ℕ) → n < z.passes → bit_of memory.numbers n ≡ 0
       → Somewhere views (owners.number n) (KeepsNumber n) ⊎ IsSpent memory owners n
   pub closed : (a : ArenaId) → machine.life a ≡ Closes → Somewhere views (owners.closer a) (HasClose a)
   pub swept : (a : ArenaId) → memory.sessions a.slot ≡ shut a → machine.life a ≡ Over → Somewhere views (owners.closer a) (HasSweep a)

@@ -20,7 +20,7 @@ use Rattle.fm_pool_facts.specs.Words.{own_word, alive_holds}
 use Rattle.fm_pool_facts.specs.Holds.{grips, holds_of, all_holds}
 use Rattle.fm_pool_facts.specs.Gone.{IsTakenBy, OpenedBy}
 use Rattle.fm_depicts.specs.Steps.{moved_by}
-use Rattle.fm_pool_facts.specs.Facts.{Memory, free, shut, IsStanding, IsAt, HasPages, HasPage, Owners, IsClosing, IsSweeping, IsOnce, HasInHand, HasClose, HasSweep, KeepsSlot, Begins, Rule, number_bit, KeepsNumber, WantsNumber, IsSpent, IsFreeNumber, HasNumberInHand}
+use Rattle.fm_pool_facts.specs.Facts.{Memory, free, shut, IsStanding, IsAt, HasPages, HasPage, Owners, IsClosing, IsSweeping, IsOnce, HasInHand, HasClose, HasSweep, KeepsSlot, Begins, Rule, bit_of, KeepsNumber, WantsNumber, IsSpent, IsFreeNumber, HasNumberInHand}
 
 -- entries of one caller that the functions allow
 abbrev pub MayMake : ℕ → Machine → Caller → List Entry → Type 0
@@ -66,7 +66,7 @@ pub record PagesMoved (me : ℕ) (m : Memory) (t : Machine) (o : Owners) (m' : M
 -- the caller's own number stays its own
 pub record KeepsOwn (me n : ℕ) (m : Memory) (o : Owners) (m' : Memory) (o' : Owners) : Type 0 where
   pub owner : o'.number n ≡ o.number n
-  pub bit : number_bit m'.numbers n ≡ number_bit m.numbers n
+  pub bit : bit_of m'.numbers n ≡ bit_of m.numbers n
   pub term : m'.terms n ≡ m.terms n
 
 -- where all numbers and their terms are as they were
@@ -77,14 +77,14 @@ pub record NumbersStay (m : Memory) (o : Owners) (m' : Memory) (o' : Owners) : T
 
 -- where each number whose bit is 0 is after the step
 abbrev pub KeepsNumbers : (z : Shape) (me : ℕ) (v p : View) (m : Memory) (o : Owners) (m' : Memory) (o' : Owners) → Type 0
-KeepsNumbers z me v p m o m' o' = (n : ℕ) → n < z.passes → number_bit m'.numbers n ≡ 0
+KeepsNumbers z me v p m o m' o' = (n : ℕ) → n < z.passes → bit_of m'.numbers n ≡ 0
     → ((o'.number n ≡ me) × KeepsNumber n p)
-    ⊎ (((number_bit m.numbers n ≡ 0) × (o'.number n ≡ o.number n) × (m'.terms n ≡ m.terms n) × (m'.marks n ≡ m.marks n) × (KeepsNumber n v → KeepsNumber n p))
+    ⊎ (((bit_of m.numbers n ≡ 0) × (o'.number n ≡ o.number n) × (m'.terms n ≡ m.terms n) × (m'.marks n ≡ m.marks n) × (KeepsNumber n v → KeepsNumber n p))
     ⊎ IsSpent m' o' n)
 
 -- and which can be drawn
 abbrev pub FreesNumbers : (m' : Memory) (o' : Owners) → Type 0
-FreesNumbers m' o' = (n : ℕ) → number_bit m'.numbers n ≡ 1 → IsFreeNumber m' o' n
+FreesNumbers m' o' = (n : ℕ) → bit_of m'.numbers n ≡ 1 → IsFreeNumber m' o' n
 
 -- who was drawn has no later term, and terms stay within
 pub record KeepsTerms (z : Shape) (m : Memory) (o : Owners) (m' : Memory) : Type 0 where
@@ -110,8 +110,8 @@ pub record Moved (me : ℕ) (z : Shape) (c : Caller) (m : Memory) (t : Machine) 
   pub seat : (k : Caller) → o'.seat k ≡ o.seat k
   pub own : KeepsOwn me c.number m o m' o'
   -- a number at another seat stays there
-  pub numbers : (n : ℕ) → number_bit m.numbers n ≡ 0 → o.number n ≢ me
-      → (o'.number n ≡ o.number n) × (number_bit m'.numbers n ≡ 0) × (m'.terms n ≡ m.terms n)
+  pub numbers : (n : ℕ) → bit_of m.numbers n ≡ 0 → o.number n ≢ me
+      → (o'.number n ≡ o.number n) × (bit_of m'.numbers n ≡ 0) × (m'.terms n ≡ m.terms n)
   pub closers : (b : ArenaId) → t.life b ≡ Closes → o.closer b ≢ me → (o'.closer b ≡ o.closer b) × NoEnd es b
   pub sweepers : (b : ArenaId) → t.life b ≡ Over → m.sessions b.slot ≡ shut b → o.closer b ≢ me → (o'.closer b ≡ o.closer b) × StaysEnded m m' b
   pub holders : (s g : ℕ) → m.sessions s ≡ free g → bit_at m.bits s ≡ 0 → o.holder s ≢ me

@@ -6,6 +6,7 @@ use Rattle.fm_base.specs.Calls.{Call, Open, Enter, Read, Write, SwapIf, Add, All
 use Rattle.fm_base.specs.Machine.{allocate_reply, rounded_up}
 use Rattle.fm_base.specs.Histories.{made_by}
 use Rattle.fm_base.specs.Finds.{Find, FindStep, Draws as Drawing, Visits as Visiting, TakesSlot as Taking, TakesPage as Claiming, Maps as Mapping, TakesNumber as TakingNumber}
+pub use Rattle.fm_words.specs.Bits.{number_at}
 use Rattle.fm_words.specs.Places.{at, page_word}
 use Rattle.fm_pool_facts.specs.Hands.{nothing, learnt, slots_in, takes, hand_taken, hand_retired, Number, number_learnt, number_left, no_number, number_taken_by, number_after, drawn_by, most_draws}
 use Rattle.fm_pool_facts.specs.declared.step.Step.{Step}
@@ -107,10 +108,6 @@ draws None number expected found v = record v {
   whole = if v.whole then true else (expected == 0 && (length v.gathered + 1 == found));
 }
 
--- a word of number bits and a bit of it
-abbrev pub number_at : (group bit : ℕ) → ℕ
-number_at group bit = group * 64 + bit
-
 abbrev pub note_draw : (expected found : ℕ) → View → ℕ → List Find
 note_draw expected found v n = record {
   step = Drawing expected;
@@ -144,7 +141,7 @@ part (Visits a k) v x = record v {
 part (TakesSlot expected bit) v x = record v { hand = hand_taken (takes expected bit x) bit v.hand }
 part (LearnsGeneration s) v x = record v { hand = learnt s (x / 2 ^ 32) }
 part (Opens a) v x = record v { hand = nothing; handles = handles_with a v.handles }
-part (Claims expected bit) v x = record v { pages = pages_taken (takes expected bit x) bit v.pages }
+part (Claims group expected bit) v x = record v { pages = pages_taken (takes expected bit x) (number_at group bit) v.pages }
 part (Maps a i p) v x = record v { reads = reads_mapped i p x v.reads; pages = pages_mapped x v.pages }
 part (ReadsMap a i) v x = record v { reads = reads_after i x v.reads }
 part (SweepsGiven a) v x = v
@@ -182,7 +179,7 @@ entries (Visits a k) v x = visit_entries a (visit_found v.shape a k x) v.caller
 entries (TakesSlot expected bit) v x = []
 entries (LearnsGeneration s) v x = []
 entries (Opens a) v x = entry_of v.caller (Open a) Fine ∷ []
-entries (Claims expected bit) v x = []
+entries (Claims group expected bit) v x = []
 entries (Maps a i p) v x = where_found (x == 0) (entry_of v.caller (Lend p a i) Fine ∷ [])
 entries (ReadsMap a i) v x = []
 entries (SweepsGiven a) v x = []
@@ -206,7 +203,7 @@ unfoldable pub noted : Step → View → ℕ → ℕ → List Find
 noted (Visits a k) v x = note_of (Visiting a k) x v
 noted (Draws expected) v x = note_draw expected x v
 noted (TakesSlot expected bit) v x = note_of (Taking expected bit) x v
-noted (Claims expected bit) v x = note_of (Claiming expected bit) x v
+noted (Claims group expected bit) v x = note_of (Claiming group expected bit) x v
 noted (Maps a i p) v x = note_of (Mapping a i p) x v
 noted (TakesNumber group expected bit) v x = note_of (TakingNumber group expected bit) x v
 noted step v x = none_noted

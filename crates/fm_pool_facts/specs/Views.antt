@@ -1,7 +1,8 @@
 -- What contracts see of a pass.
-use Rattle.std.specs.Prelude.{◌≡◌, ◌≢◌, ◌⊎◌, ℕ, ◌+◌, ◌*◌, ◌/◌, ◌<◌, ◌≤◌, ◌^◌, ◌==◌, Bool, true, false, if◌then◌else◌, List, [], ◌∷◌, ◌++◌, length, Contains, Option, Some, zero, suc}
+use Rattle.std.specs.Prelude.{◌≡◌, ◌≢◌, ◌⊎◌, ℕ, ◌+◌, ◌-◌, min, ◌*◌, ◌/◌, ◌<◌, ◌≤◌, ◌^◌, ◌==◌, Bool, true, false, if◌then◌else◌, List, [], ◌∷◌, ◌++◌, length, Contains, Option, Some, zero, suc}
 use Rattle.fm_words.specs.declared.shape.Shape.{Shape}
 use Rattle.fm_words.specs.Shapes.{IsValid}
+use Rattle.fm_words.specs.Bits.{number_at}
 use Rattle.fm_base.specs.declared.caller.Caller.{Caller}
 use Rattle.fm_base.specs.declared.arena_id.ArenaId.{ArenaId}
 use Rattle.fm_base.specs.declared.kind.Kind.{Kind}
@@ -196,14 +197,27 @@ abbrev pub unlent : ℕ → List Loan → ℕ
 unlent zero loans = 0
 unlent (suc n) loans = one_unless (is_lent loans n) + unlent n loans
 
--- a find of the word 0 of page bits, where as many entries had been seen as f says: fewer blocks weren't lent than there are passes, and none where the
--- finder was clear
+-- and of so many from the first one on
+abbrev pub unlent_from : (first count : ℕ) → List Loan → ℕ
+unlent_from first zero loans = 0
+unlent_from first (suc n) loans = one_unless (is_lent loans (first + n)) + unlent_from first n loans
+
+-- how many pages the pool has that have their bits in the word of a group
+abbrev pub pages_in : Shape → (group : ℕ) → ℕ
+pages_in z group = min 64 (z.pages - number_at group 0)
+
+-- how many of them aren't lent
+abbrev pub unlent_in : Shape → (group : ℕ) → List Loan → ℕ
+unlent_in z group loans = unlent_from (number_at group 0) (pages_in z group) loans
+
+-- a find of the word 0 of page bits, where as many entries had been seen as f says: of the pages of that word fewer weren't lent than there are passes,
+-- and none where the finder was clear
 pub record FewLeft (z : Shape) (seen : List Entry) (f : Find) : Type 0 where
   pub before : List Entry
   pub begins : Begins before seen
   pub long : length before ≡ f.seen
-  pub few : unlent z.pages (lent_by before) < z.passes
-  pub none : f.clear ≡ true → unlent z.pages (lent_by before) ≡ 0
+  pub few : unlent_in z (group_of f.step) (lent_by before) < z.passes
+  pub none : f.clear ≡ true → unlent_in z (group_of f.step) (lent_by before) ≡ 0
 
 -- the first so many
 abbrev pub prefix : ℕ → List Gathered → List Gathered

@@ -35,8 +35,8 @@ pub enum Step {
     LearnsGeneration(u32),
     /// Opens an arena of this name.
     Opens(ArenaId),
-    /// Where the word of page bits is this one, makes the bit 0; sees which pages can be claimed.
-    Claims(u64, u32),
+    /// Where the group's word of page bits is this one, makes the bit 0; sees which pages can be claimed.
+    Claims(u32, u64, u32),
     /// Where the arena has no page as this part, has the page as it.
     Maps(ArenaId, u32, u32),
     /// Looks which page the arena that the pass is inside has as this part.

@@ -16,7 +16,7 @@ use Rattle.fm_depicts.proofs.Putting.{put_here, put_else, by_here, by_else}
 use Rattle.fm_pool_facts.specs.Views.{Met, View, In, all_gathered, brought}
 use Rattle.fm_pool_facts.specs.Holds.{holds_of}
 use Rattle.fm_pool_facts.specs.Splits.{drawn_left, drawn_right, caller_or}
-use Rattle.fm_pool_facts.specs.Facts.{Owners, HasDraw, HasClose, HasSweep, KeepsSlot, IsGathered, IsDrawn, Somewhere, Owns, Knows, Rule, IsCounted, HasPage, WantsNumber, IsLooked, HasNumberInHand, WasDrawn, number_bit, KeepsCaller, KeepsNumber}
+use Rattle.fm_pool_facts.specs.Facts.{Owners, HasDraw, HasClose, HasSweep, KeepsSlot, IsGathered, IsDrawn, Somewhere, Owns, Knows, Rule, IsCounted, HasPage, WantsNumber, IsLooked, HasNumberInHand, WasDrawn, bit_of, KeepsCaller, KeepsNumber}
 use Rattle.fm_pool_facts.specs.Hands.{number_taken, number_learnt, number_drawn, HasNumberIn}
 use Rattle.fm_pool_facts.proofs.Looking.{looked_bare}
 use Rattle.fm_pool_facts.proofs.Callers.{same_caller}
@@ -173,7 +173,7 @@ module _ (z : Shape) (ws : List ℕ) (vs : List View) (r : Rule z ws vs) (id : �
       term = subst (λ (c : Caller). c.term ≡ r.memory.terms c.number) (sym caller_is) its.term;
       seated = ap f caller_is ∙ by_here r.owners.seat d last;
       owner = ap (λ (c : Caller). g c.number) caller_is ∙ put_here r.owners.number d.number last;
-      bit = ap (λ (c : Caller). number_bit r.memory.numbers c.number) caller_is ∙ its.loose.bit;
+      bit = ap (λ (c : Caller). bit_of r.memory.numbers c.number) caller_is ∙ its.loose.bit;
       mine = ap (λ (c : Caller). made_by c r.history) caller_is ∙ (its.silent.calls ∙ sym right_silent);
       inside = ap r.machine.inside caller_is ∙ its.silent.outside;
       mark = ap (λ (c : Caller). r.memory.marks c.number) caller_is ∙ its.loose.mark;
@@ -256,10 +256,10 @@ module _ (z : Shape) (ws : List ℕ) (vs : List View) (r : Rule z ws vs) (id : �
       with_owners z ws vs us r f g
       (λ c h. elim (same_caller c d) [
         | yes e ↦ record {
-            view = right;
-            there = ap (get_elem? us) (ap f e ∙ by_here r.owners.seat d last) ∙ at_last (set vs id left) right;
-            holds = inl (refl, caller_is ∙ sym e);
-          }
+          view = right;
+          there = ap (get_elem? us) (ap f e ∙ by_here r.owners.seat d last) ∙ at_last (set vs id left) right;
+          holds = inl (refl, caller_is ∙ sym e);
+        }
         | no ne ↦ subst (λ (i : ℕ). Somewhere us i (KeepsCaller c)) (sym (by_else r.owners.seat d last c ne))
             (on_left (r.owners.seat c) (KeepsCaller c) (caller_on c ne) (r.callers c h))
       ])

@@ -6,7 +6,7 @@ use native.Mathlib.Decide.{ℕ_discrete}
 use lib.ListN.{get_elem?}
 use prog.Atomic.{either}
 use Rattle.std.specs.Int.{bit_at}
-use Rattle.std.proofs.lemmas.Nat.Bits.{bit_at-lt, bit_at-zero, bit_at_or, bit_at-pow_same, bit_at-pow_other}
+use Rattle.std.proofs.lemmas.Nat.Bits.{bit_at-lt, bit_at-zero}
 use Rattle.fm_words.specs.declared.shape.Shape.{Shape}
 use Rattle.fm_words.specs.Bits.{IsWithout}
 use Rattle.fm_words.specs.Places.{at as place_at, groups, number_bits, term}
@@ -19,12 +19,13 @@ use Rattle.fm_pool_facts.specs.declared.step.Step.TheVariants.{TakesNumber, Lear
 use Rattle.fm_pool_facts.specs.Hands.{Number, no_number, number_taken, number_learnt, number_drawn, number_left, number_joined, number_taken_by, HasNumberIn, last_term}
 use Rattle.fm_pool_facts.specs.Views.{View}
 use Rattle.fm_pool_facts.specs.Steps.{part, entries, noted, none_noted, note_of, number_at}
-use Rattle.fm_pool_facts.specs.Facts.{Memory, Owners, WasDrawn, number_bit, next_of, IsUndrawn, IsMarked, IsJoined, KeepsNumber, HasNumberInHand, Shows, World, Owns, Rule}
+use Rattle.fm_pool_facts.specs.Facts.{Memory, Owners, WasDrawn, bit_of, next_of, IsUndrawn, IsMarked, IsJoined, KeepsNumber, HasNumberInHand, Shows, World, Owns, Rule}
 use Rattle.fm_pool_facts.specs.Moves.{Moved, Same, KeepsOwn, NumbersOn, KeepsHand, MayStep, MayStore}
 use mathlib.Core.Option.{some-injective}
 use Rattle.fm_base.specs.Finds.{Gathered, is_slot, is_page, group_of}
 use Rattle.fm_pool_facts.specs.Views.{In, all_gathered}
 use Rattle.fm_pool_facts.specs.Facts.{Somewhere, IsUsed, used, wanted, full, IsSpent}
+use Rattle.fm_pool_facts.proofs.Groups.{bit_here, bit_else, bit_was, or_here, or_else}
 use Rattle.fm_pool_facts.proofs.Looking.{wants_in}
 use Rattle.fm_pool_facts.proofs.Gone.{NoSlots, none_founded}
 use Rattle.fm_pool_facts.proofs.Founds.{NoneDrawn, note_none_drawn}
@@ -35,23 +36,6 @@ use Rattle.fm_pool_facts.proofs.Ruling.{AreLooked, page_like, keeps_with}
 use Rattle.fm_pool_steps.proofs.Reading.{eqb_true, eqb_false}
 use Rattle.fm_pool_steps.proofs.Plain.{own, Made, slots_still, sweeps_still}
 use Rattle.fm_pool_steps.proofs.Quiet.{quiet}
-
--- ---- a bit of a word of number bits
-
-module _ (words : ℕ → ℕ) (g bit x : ℕ) (low : bit < 64) where
-  pub bit_here : number_bit (put words g x) (number_at g bit) ≡ bit_at x bit
-  bit_here =
-      let a : number_at g bit / 64 ≡ g = omega arith in
-      let b : number_at g bit % 64 ≡ bit = omega arith in
-      (λ j. bit_at (put words g x (a j)) (b j)) ∙ ap (λ (w : ℕ). bit_at w bit) (put_here words g x)
-
-  pub bit_else : ((k : ℕ) → k ≢ bit → bit_at x k ≡ bit_at (words g) k) → (n : ℕ) → n ≢ number_at g bit → number_bit (put words g x) n ≡ number_bit words n
-  bit_else others n ne = dite (ℕ_discrete (n / 64) g)
-      (λ e.
-      let far : n % 64 ≢ bit = (λ q. ne (omega arith)) in
-      (λ j. bit_at (put words g x (e j)) (n % 64)) ∙ (ap (λ (w : ℕ). bit_at w (n % 64)) (put_here words g x) ∙ (others (n % 64) far
-      ∙ (λ j. bit_at (words (sym e j)) (n % 64)))))
-      (λ f. ap (λ (w : ℕ). bit_at w (n % 64)) (put_else words g x (n / 64) f))
 
 module _ (z : Shape) (me : ℕ) (v : View) (l : v.live ≡ true) (ws : List ℕ) (vs : List View) (r : Rule z ws vs) (at : get_elem? vs me ≡ some v) where
   abbrev mine : Owns z r.history r.memory r.machine r.owners me v
@@ -74,8 +58,8 @@ module _ (z : Shape) (me : ℕ) (v : View) (l : v.live ≡ true) (ws : List ℕ)
 
     turns : (i y : ℕ) (fs : ℕ → List Find) → NoneDrawn fs → NoSlots fs
         → AreLooked r v fs → KeepsOwn me v.caller.number r.memory r.owners m' o'
-        → ((n : ℕ) → number_bit r.memory.numbers n ≡ 0 → r.owners.number n ≢ me
-        → (number' n ≡ r.owners.number n) × (number_bit numbers' n ≡ 0) × (terms' n ≡ r.memory.terms n))
+        → ((n : ℕ) → bit_of r.memory.numbers n ≡ 0 → r.owners.number n ≢ me
+        → (number' n ≡ r.owners.number n) × (bit_of numbers' n ≡ 0) × (terms' n ≡ r.memory.terms n))
         → NumbersOn z me v p r.memory r.owners m' o' → KeepsHand z (r.history ++ []) v m' r.machine o' me p
         → ((c : Caller) (a : ArenaId) → r.machine.inside c ≡ Some a → IsMarked z r.memory.marks terms' r.machine.life c a) → Shows z (set ws i y) m'
         → Made z ws vs me v i y p [] fs
@@ -162,7 +146,7 @@ module _ (z : Shape) (me : ℕ) (v : View) (l : v.live ≡ true) (ws : List ℕ)
 
     -- what the word 0 says of each number
     module _ (zero : r.memory.numbers g ≡ 0) (k : ℕ) (of : k / 64 ≡ g) (below : k < z.passes) where
-      is_zero : number_bit r.memory.numbers k ≡ 0
+      is_zero : bit_of r.memory.numbers k ≡ 0
       is_zero = (λ j. bit_at (r.memory.numbers (of j)) (k % 64)) ∙ (ap (λ (w : ℕ). bit_at w (k % 64)) zero ∙ bit_at-zero (k % 64))
 
       -- a caller that is at a seat of another number's isn't gathered into this one
@@ -211,11 +195,11 @@ module _ (z : Shape) (me : ℕ) (v : View) (l : v.live ≡ true) (ws : List ℕ)
     looks f (inl q) = (
       (λ i. ap (λ (x : Find). x.gathered) q),
       (λ i h.
-      let zero : r.memory.numbers g ≡ 0 = sym is_found ∙ (ap (λ (x : Find). x.found) (sym q) ∙ h) in
-      record {
-        drawn = λ x j. (mine.gathered x j).drawn;
-        all = λ k of below. is_used zero k (of ∙ ap (λ (x : Find). group_of x.step) q) below;
-      }),
+          let zero : r.memory.numbers g ≡ 0 = sym is_found ∙ (ap (λ (x : Find). x.found) (sym q) ∙ h) in
+          record {
+            drawn = λ x j. (mine.gathered x j).drawn;
+            all = λ k of below. is_used zero k (of ∙ ap (λ (x : Find). group_of x.step) q) below;
+          }),
     )
 
     -- nothing is taken
@@ -228,16 +212,12 @@ module _ (z : Shape) (me : ℕ) (v : View) (l : v.live ≡ true) (ws : List ℕ)
     takes_it is one =
         let numbers' : ℕ → ℕ = put r.memory.numbers g next in
         let number' : ℕ → ℕ = put r.owners.number n me in
-        let old : ℕ → ℕ = (λ k. number_bit r.memory.numbers k) in
-        let same_word : put r.memory.numbers g e ≡ put r.memory.numbers g e = refl in
-        let bit_on : (k : ℕ) → k ≢ n → number_bit numbers' k ≡ number_bit r.memory.numbers k =
+        let bit_on : (k : ℕ) → k ≢ n → bit_of numbers' k ≡ bit_of r.memory.numbers k =
         bit_else r.memory.numbers g bit next few (λ k ne. without.others k ne ∙ ap (λ (w : ℕ). bit_at w k) (sym is)) in
-        let zero : number_bit numbers' n ≡ 0 = bit_here r.memory.numbers g bit next few ∙ without.zero in
-        let was : number_bit r.memory.numbers n ≡ 1 =
-        (let a : n / 64 ≡ g = omega arith in let b : n % 64 ≡ bit = omega arith in
-        (λ j. bit_at (r.memory.numbers (a j)) (b j)) ∙ (ap (λ (w : ℕ). bit_at w bit) is ∙ one)) in
-        let far : (k : ℕ) → number_bit r.memory.numbers k ≡ 0 → k ≢ n = (λ k b q.
-        let y : number_bit r.memory.numbers k ≡ 1 = ap (number_bit r.memory.numbers) q ∙ was in omega arith) in
+        let zero : bit_of numbers' n ≡ 0 = bit_here r.memory.numbers g bit next few ∙ without.zero in
+        let was : bit_of r.memory.numbers n ≡ 1 = bit_was r.memory.numbers g bit next few e is ∙ one in
+        let far : (k : ℕ) → bit_of r.memory.numbers k ≡ 0 → k ≢ n = (λ k b q.
+        let y : bit_of r.memory.numbers k ≡ 1 = ap (bit_of r.memory.numbers) q ∙ was in omega arith) in
         let mine_far : v.caller.number ≢ n = far v.caller.number mine.bit in
         let free = r.free_numbers n was in
         turns numbers' r.memory.terms number' (number_taken n) i next fs none_drawn no_slots looks
@@ -254,7 +234,7 @@ module _ (z : Shape) (me : ℕ) (v : View) (l : v.live ≡ true) (ws : List ℕ)
                 (λ (y : KeepsNumber k v). (y.0, ⊎_elim inl (λ (h : HasNumberIn k v.number). absurd (nothing_in k h)) y.1)),
               )));
           freed = λ k b.
-              let ne : k ≢ n = (λ q. let y : number_bit numbers' k ≡ 0 = ap (number_bit numbers') q ∙ zero in omega arith) in
+              let ne : k ≢ n = (λ q. let y : bit_of numbers' k ≡ 0 = ap (bit_of numbers') q ∙ zero in omega arith) in
               let y = r.free_numbers k (sym (bit_on k ne) ∙ b) in record { mark = y.mark; fresh = y.fresh };
           terms = record { terms = λ k. omega arith; last = r.last };
           wants = λ k h. absurd (nothing_in k (wants_in k v h));
@@ -344,7 +324,7 @@ module _ (z : Shape) (me : ℕ) (v : View) (l : v.live ≡ true) (ws : List ℕ)
               (λ (y : KeepsNumber k v). (y.0, ⊎_elim inl (λ (q : HasNumberIn k v.number). absurd (ne (subst (HasNumberIn k) in_hand q))) y.1)),
             )));
         freed = λ k b.
-            let ne : k ≢ n = (λ e. let q : number_bit r.memory.numbers k ≡ 0 = ap (number_bit r.memory.numbers) e ∙ h.loose.bit in omega arith) in
+            let ne : k ≢ n = (λ e. let q : bit_of r.memory.numbers k ≡ 0 = ap (bit_of r.memory.numbers) e ∙ h.loose.bit in omega arith) in
             let y = r.free_numbers k b in
             record {
               mark = y.mark;
@@ -394,21 +374,18 @@ module _ (z : Shape) (me : ℕ) (v : View) (l : v.live ≡ true) (ws : List ℕ)
       let is_found : found ≡ r.memory.numbers g = r.shows.numbers g low in
       let h : IsUndrawn z r.memory r.owners me n = (subst (HasNumberInHand z r.history r.memory r.machine r.owners me v) in_hand mine.number).0 in
       let numbers' : ℕ → ℕ = put r.memory.numbers g word in
-      let is_one : bit_at word bit ≡ 1 =
-      (let a = bit_at_or found (2 ^ bit) bit in let b = bit_at-pow_same bit in let c = bit_at-lt found bit in omega arith) in
-      let others : (k : ℕ) → k ≢ bit → bit_at word k ≡ bit_at (r.memory.numbers g) k = (λ k ne.
-      let a = bit_at_or found (2 ^ bit) k in
-      let b = bit_at-pow_other bit k ne in
-      let c : bit_at found k ≡ bit_at (r.memory.numbers g) k = ap (λ (x : ℕ). bit_at x k) is_found in omega arith) in
-      let bit_on : (k : ℕ) → k ≢ n → number_bit numbers' k ≡ number_bit r.memory.numbers k = bit_else r.memory.numbers g bit word few others in
-      let now : number_bit numbers' n ≡ 1 = bit_here r.memory.numbers g bit word few ∙ is_one in
+      let is_one : bit_at word bit ≡ 1 = or_here found bit in
+      let others : (k : ℕ) → k ≢ bit → bit_at word k ≡ bit_at (r.memory.numbers g) k =
+      (λ k ne. or_else found bit k ne ∙ ap (λ (x : ℕ). bit_at x k) is_found) in
+      let bit_on : (k : ℕ) → k ≢ n → bit_of numbers' k ≡ bit_of r.memory.numbers k = bit_else r.memory.numbers g bit word few others in
+      let now : bit_of numbers' n ≡ 1 = bit_here r.memory.numbers g bit word few ∙ is_one in
       let mine_far : n ≢ v.caller.number = mine.not_own n (subst (HasNumberIn n) (sym in_hand) refl) in
       turns numbers' r.memory.terms r.owners.number no_number i word none_noted drawn_none slots_none looks_none
       (record { owner = refl; bit = bit_on v.caller.number (λ e. mine_far (sym e)); term = refl })
       (λ k b f. (refl, bit_on k (λ e. f (ap r.owners.number e ∙ h.loose.owner)) ∙ b, refl))
       (record {
         kept = λ k q b.
-            let ne : k ≢ n = (λ e. let y : number_bit numbers' k ≡ 1 = ap (number_bit numbers') e ∙ now in omega arith) in
+            let ne : k ≢ n = (λ e. let y : bit_of numbers' k ≡ 1 = ap (bit_of numbers') e ∙ now in omega arith) in
             inr (inl (
               sym (bit_on k ne) ∙ b,
               refl,

@@ -25,7 +25,7 @@ module _ (z : Shape) (me : ℕ) (v : View) (l : v.live ≡ true) (ws : List ℕ)
   mine = own z ws vs r me v at l
 
   -- what a step does to page bits, map words and the places of pages, and what the view has of them then
-  pub record Paging (i x bits : ℕ) (maps : ℕ → ℕ → Option ℕ) (berth : ℕ → Berth) (ps : List ℕ) (ms : List Mapping) (es : List Entry) : Type 0 where
+  pub record Paging (i x : ℕ) (bits : ℕ → ℕ) (maps : ℕ → ℕ → Option ℕ) (berth : ℕ → Berth) (ps : List ℕ) (ms : List Mapping) (es : List Entry) : Type 0 where
     pub may : MayMake (limit_of z) r.machine v.caller es
     pub ends : (b : ArenaId) → NoEnd es b
     pub stays : moved_by r.machine es ≡ r.machine
@@ -38,7 +38,7 @@ module _ (z : Shape) (me : ℕ) (v : View) (l : v.live ≡ true) (ws : List ℕ)
     pub has : HasPages z maps r.memory.cells berth me v.inside ms ps v.sweeps v.swept
 
   -- such a step keeps the rule
-  pub paged : (i x bits : ℕ) (maps : ℕ → ℕ → Option ℕ) (berth : ℕ → Berth) (ps : List ℕ) (ms : List Mapping) (es : List Entry) (fs : ℕ → List Find)
+  pub paged : (i x : ℕ) (bits : ℕ → ℕ) (maps : ℕ → ℕ → Option ℕ) (berth : ℕ → Berth) (ps : List ℕ) (ms : List Mapping) (es : List Entry) (fs : ℕ → List Find)
       → NoneDrawn fs → ((f : Find) → In f (fs (length r.history)) → FoundBy z r.history r.memory r.owners.taker r.machine.life v.caller f)
       → AreLooked r v fs → Paging i x bits maps berth ps ms es → Made z ws vs me v i x (record v { pages = ps; reads = ms }) es fs
   paged i x bits maps berth ps ms es fs nd new looks q =

@@ -16,7 +16,7 @@ use native.Mathlib.Decide.{ℕ_discrete}
 use Rattle.fm_pool_facts.specs.Hands.{Hand, HasSlot, IsTaker, Number, no_number, number_taken, number_learnt, number_drawn, number_left, number_joined, HasNumberIn, most_draws}
 use Rattle.fm_pool_facts.proofs.Handing.{hand_on}
 use Rattle.fm_pool_facts.specs.Views.{View, In, IsKnown, IsOver, given_of, limit_of, all_gathered, brought}
-use Rattle.fm_pool_facts.specs.Facts.{Memory, free, shut, Shows, World, IsOnce, Owners, HasInHand, HasClose, HasSweep, KeepsSlot, Owns, Rule, IsAt, IsLone, HasSwept, HasPages, WasDrawn, number_bit, next_of, IsLoose, KeepsNumber, HasNumberInHand, IsUndrawn}
+use Rattle.fm_pool_facts.specs.Facts.{Memory, free, shut, Shows, World, IsOnce, Owners, HasInHand, HasClose, HasSweep, KeepsSlot, Owns, Rule, IsAt, IsLone, HasSwept, HasPages, WasDrawn, bit_of, next_of, IsLoose, KeepsNumber, HasNumberInHand, IsUndrawn}
 use Rattle.fm_pool_facts.specs.Moves.{MayMake, NoEnd, StaysEnded, Moved, Same, Part, KeepsCloses, KeepsSweeps, KeepsSlots, KeepsHolds, Gives, MayLend, PagesMoved, KeepsPages, NumbersOn, KeepsHand}
 use Rattle.fm_base.proofs.Making.{state_after-append, IsLegal-split}
 use Rattle.fm_base.proofs.Growing.{Grows-state_after}
@@ -147,7 +147,7 @@ module _ (z : Shape) (ws : List ℕ) (vs : List View) (r : Rule z ws vs) (me : �
   module _ (es : List Entry) (m' : Memory) (o' : Owners) (p : View) (d : Moved me z v.caller r.memory r.machine r.owners es m' o') (s : Same v p)
       (hand : p.number ≡ v.number) (numbers : (g : ℕ) → m'.numbers g ≡ r.memory.numbers g) (terms : (n : ℕ) → m'.terms n ≡ r.memory.terms n)
       (owner : (n : ℕ) → o'.number n ≡ r.owners.number n) where
-    bit_is : (n : ℕ) → number_bit m'.numbers n ≡ number_bit r.memory.numbers n
+    bit_is : (n : ℕ) → bit_of m'.numbers n ≡ bit_of r.memory.numbers n
     bit_is n = ap (λ (w : ℕ). bit_at w (n % 64)) (numbers (n / 64))
 
     still : (c : Caller) → WasDrawn r.memory.draw r.owners.who r.owners.rank c → WasDrawn m'.draw o'.who o'.rank c
@@ -169,23 +169,32 @@ module _ (z : Shape) (ws : List ℕ) (vs : List View) (r : Rule z ws vs) (me : �
           owner n,
           terms n,
           d.marks n ne,
-          (λ (y : KeepsNumber n v). (s.live ∙ y.0, ⊎_elim
-          (λ (q : v.caller.number ≡ n). inl (ap (λ (x : Caller). x.number) s.caller ∙ q))
-          (λ (q : HasNumberIn n v.number). inr (subst (HasNumberIn n) (sym hand) q))
-          y.1)),
+          (λ (y : KeepsNumber n v). (
+            s.live ∙ y.0,
+            ⊎_elim
+                (λ (q : v.caller.number ≡ n). inl (ap (λ (x : Caller). x.number) s.caller ∙ q))
+                (λ (q : HasNumberIn n v.number). inr (subst (HasNumberIn n) (sym hand) q))
+                y.1,
+          )),
         ))
       ];
       freed = λ n b.
-          let bit : number_bit r.memory.numbers n ≡ 1 = sym (bit_is n) ∙ b in
+          let bit : bit_of r.memory.numbers n ≡ 1 = sym (bit_is n) ∙ b in
           let y = r.free_numbers n bit in
-          let ne : n ≢ v.caller.number = (λ e. let z : number_bit r.memory.numbers n ≡ 0 = ap (number_bit r.memory.numbers) e ∙ own.bit in omega arith) in
+          let ne : n ≢ v.caller.number = (λ e. let z : bit_of r.memory.numbers n ≡ 0 = ap (bit_of r.memory.numbers) e ∙ own.bit in omega arith) in
           record { mark = d.marks n ne ∙ y.mark; fresh = fresh_on n y.fresh };
       terms = record {
         terms = λ n. (let e = terms n in omega arith);
         last = λ n. (let e = terms n in let y = r.last n in omega arith);
       };
-      wants = λ n h. ((s.live ∙ l, ⊎_elim (λ (e : v.number ≡ number_taken n). inl (hand ∙ e))
-          (λ (e : (t : ℕ) × (v.number ≡ number_learnt n t)). inr (e.0, hand ∙ e.1)) h.1), owner n);
+      wants = λ n h. (
+        (
+          s.live ∙ l,
+          ⊎_elim (λ (e : v.number ≡ number_taken n). inl (hand ∙ e))
+              (λ (e : (t : ℕ) × (v.number ≡ number_learnt n t)). inr (e.0, hand ∙ e.1)) h.1,
+        ),
+        owner n,
+      );
     }
 
     loose_stays : (n : ℕ) → n ≢ v.caller.number → IsLoose z r.memory r.owners me n → IsLoose z m' o' me n
@@ -215,7 +224,7 @@ module _ (z : Shape) (ws : List ℕ) (vs : List View) (r : Rule z ws vs) (me : �
     hand_stays (number_left n) ne y = (
       next_stays n (ne n refl) y.0,
       ⊎_elim (λ (e : r.memory.draw ≡ most_draws). inl (d.draw ∙ e)) (λ (q : (g : Gathered) × In g (all_gathered v) × (g.caller.number ≡ n)).
-      inr (q.0, subst (In q.0) (sym same_all) q.1, q.2)) y.1,
+          inr (q.0, subst (In q.0) (sym same_all) q.1, q.2)) y.1,
     )
     hand_stays (number_joined c) ne y = record {
       loose = loose_stays c.number (ne c.number refl) y.loose;
@@ -230,6 +239,7 @@ module _ (z : Shape) (ws : List ℕ) (vs : List View) (r : Rule z ws vs) (me : �
       not_own = λ n i e. own.not_own n (subst (HasNumberIn n) hand i) (e ∙ ap (λ (x : Caller). x.number) s.caller);
       stays = λ c e. hand ∙ e;
     }
+
   module _ (es : List Entry) (m' : Memory) (p : View) where
     -- what a step that leaves closes and slots may do to others
     pub plain_moved : MayMake (limit_of z) r.machine v.caller es → ((b : ArenaId) → NoEnd es b)

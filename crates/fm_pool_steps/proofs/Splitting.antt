@@ -9,7 +9,7 @@ use Rattle.fm_base.specs.declared.arena_id.ArenaId.{ArenaId}
 use Rattle.fm_depicts.specs.Functions.{Closes, Over}
 use Rattle.fm_pool_facts.specs.Views.{Met, View, In, all_gathered, brought}
 use Rattle.fm_pool_facts.specs.Splits.{note, met, nothing_seen, IsBare}
-use Rattle.fm_pool_facts.specs.Facts.{free, shut, HasDraw, HasClose, HasSweep, KeepsSlot, Somewhere, Begins, Knows, Rule, IsCounted, Berth, loose, claimed, mapped, unmapped, IsAt, HasPage, WasDrawn, number_bit, KeepsCaller, KeepsNumber, WantsNumber, IsLooked, wanted, IsSpent}
+use Rattle.fm_pool_facts.specs.Facts.{free, shut, HasDraw, HasClose, HasSweep, KeepsSlot, Somewhere, Begins, Knows, Rule, IsCounted, Berth, loose, claimed, mapped, unmapped, IsAt, HasPage, WasDrawn, bit_of, KeepsCaller, KeepsNumber, WantsNumber, IsLooked, wanted, IsSpent}
 use Rattle.fm_pool_facts.specs.Holds.{grips, holds_of, how_many, total}
 use Rattle.fm_pool_facts.proofs.Ruling.{page_like}
 use Rattle.fm_base.specs.declared.caller.Caller.{Caller}
@@ -62,7 +62,7 @@ pub with_owners : (z : Shape) (ws : List ℕ) (vs us : List View) (r : Rule z ws
     → ((c : Caller) → WasDrawn r.memory.draw r.owners.who r.owners.rank c → Somewhere us (f c) (KeepsCaller c))
     → ((k : ℕ) → 0 < k → k < r.memory.draw
     → (d : ℕ) × (d < k) × Somewhere us (f (r.owners.who d)) (HasDraw (r.owners.who d) (r.owners.who k)))
-    → ((n : ℕ) → n < z.passes → number_bit r.memory.numbers n ≡ 0 → Somewhere us (g n) (KeepsNumber n) ⊎ IsSpent r.memory r.owners n)
+    → ((n : ℕ) → n < z.passes → bit_of r.memory.numbers n ≡ 0 → Somewhere us (g n) (KeepsNumber n) ⊎ IsSpent r.memory r.owners n)
     → ((a : ArenaId) → r.machine.life a ≡ Closes → Somewhere us (r.owners.closer a) (HasClose a))
     → ((a : ArenaId) → r.memory.sessions a.slot ≡ shut a → r.machine.life a ≡ Over → Somewhere us (r.owners.closer a) (HasSweep a))
     → ((s g : ℕ) → s < z.slots → r.memory.sessions s ≡ free g → g < z.generations → bit_at r.memory.bits s ≡ 0 → Somewhere us (r.owners.holder s) (KeepsSlot s))

@@ -72,11 +72,11 @@ module _ (z : Shape) (me : ℕ) (v : View) (l : v.live ≡ true) (a : ArenaId) (
   next_here = record { close = its.close; there = its.there; arena = its.arena; visited = its.visited }
 
   -- what is changed of the memory
-  abbrev pub memory_of : (bits : ℕ) (maps : ℕ → ℕ → Option ℕ) (cells : ℕ → ℕ → ℕ) (given : ℕ → ℕ) → Memory
+  abbrev pub memory_of : (bits : ℕ → ℕ) (maps : ℕ → ℕ → Option ℕ) (cells : ℕ → ℕ → ℕ) (given : ℕ → ℕ) → Memory
   memory_of bits maps cells given = record r.memory { page_bits = bits; maps = maps; cells = cells; given = given }
 
   -- what a step of the sweep does, and what the view has of its sweeps then
-  pub record Sweeping (i x bits : ℕ) (maps : ℕ → ℕ → Option ℕ) (cells : ℕ → ℕ → ℕ) (given : ℕ → ℕ) (berth : ℕ → Berth) (cs : List Close) (s : Swept)
+  pub record Sweeping (i x : ℕ) (bits : ℕ → ℕ) (maps : ℕ → ℕ → Option ℕ) (cells : ℕ → ℕ → ℕ) (given : ℕ → ℕ) (berth : ℕ → Berth) (cs : List Close) (s : Swept)
       (es : List Entry) : Type 0 where
     pub may : MayMake (limit_of z) r.machine v.caller es
     pub ends : (b : ArenaId) → NoEnd es b
@@ -96,7 +96,7 @@ module _ (z : Shape) (me : ℕ) (v : View) (l : v.live ≡ true) (a : ArenaId) (
     pub of_page : HasSwept z maps cells berth me cs s
 
   -- such a step keeps the rule
-  pub sweep_on : (i x bits : ℕ) (maps : ℕ → ℕ → Option ℕ) (cells : ℕ → ℕ → ℕ) (given : ℕ → ℕ) (berth : ℕ → Berth) (cs : List Close) (s : Swept)
+  pub sweep_on : (i x : ℕ) (bits : ℕ → ℕ) (maps : ℕ → ℕ → Option ℕ) (cells : ℕ → ℕ → ℕ) (given : ℕ → ℕ) (berth : ℕ → Berth) (cs : List Close) (s : Swept)
       (es : List Entry)
       → Sweeping i x bits maps cells given berth cs s es → Made z ws vs me v i x (record v { sweeps = cs; swept = s }) es none_noted
   sweep_on i x bits maps cells given berth cs s es q =
@@ -160,7 +160,7 @@ module _ (z : Shape) (me : ℕ) (v : View) (l : v.live ≡ true) (a : ArenaId) (
       inside_apart b e = ended_apart z r.memory.sessions r.machine.life r.world.sessions a b shut_now ended_now (r.world.marked v.caller b e).stands
 
   -- the same sweeps, where parts that had no page have none
-  pub sweeps_kept : (bits : ℕ) (maps : ℕ → ℕ → Option ℕ) (cells : ℕ → ℕ → ℕ) (berth : ℕ → Berth)
+  pub sweeps_kept : (bits : ℕ → ℕ) (maps : ℕ → ℕ → Option ℕ) (cells : ℕ → ℕ → ℕ) (berth : ℕ → Berth)
       → ((b n : ℕ) → r.memory.maps b n ≡ None → maps b n ≡ None) → (c : Close) → In c v.sweeps
       → IsSweeping z (memory_of bits maps cells r.memory.given) r.machine (record r.owners { berth = berth }) me c
   sweeps_kept bits maps cells berth none c j =
@@ -175,7 +175,7 @@ module _ (z : Shape) (me : ℕ) (v : View) (l : v.live ≡ true) (a : ArenaId) (
       }
 
   -- the sweep has one part more behind it, which has no page
-  pub sweeps_more : (bits : ℕ) (maps : ℕ → ℕ → Option ℕ) (cells : ℕ → ℕ → ℕ) (berth : ℕ → Berth)
+  pub sweeps_more : (bits : ℕ → ℕ) (maps : ℕ → ℕ → Option ℕ) (cells : ℕ → ℕ → ℕ) (berth : ℕ → Berth)
       → ((b n : ℕ) → r.memory.maps b n ≡ None → maps b n ≡ None) → maps a.slot k ≡ None → k < z.reach → (c : Close) → In c (visited a v.sweeps)
       → IsSweeping z (memory_of bits maps cells r.memory.given) r.machine (record r.owners { berth = berth }) me c
   sweeps_more bits maps cells berth none here low c j = let w = in_visited a c v.sweeps mine.swept_once j in onward w.before w.there w.how

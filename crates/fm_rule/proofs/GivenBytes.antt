@@ -55,7 +55,7 @@ module _ (f : FinishedView) (i : IsFinished f) (a : ArenaId) (has : HasBytes f a
 pub record Stands (f : FinishedView) (a : ArenaId) (k : ℕ) (y : Shape) (size : ℕ) : Type 0 where
   pub slot : a.slot < y.slots
   pub part : k / 8 / size < y.reach
-  pub few : y.reach ≤ 64
+  pub few : y.reach ≤ 4096
   pub page : ℕ
   pub low : page < y.pages
   pub in_page : k / 8 % size < y.page_words

@@ -210,11 +210,11 @@ module _ (c : Caller) (i : Option ArenaId) (part' : Part) (count : ℕ) (v w : V
       keeps_on c i part' count v (part (ReturnsPage a p) v x) w (entries (ReturnsPage a p) v x) (noted (ReturnsPage a p) v x) held held' k
       (same_part (ReturnsPage a p) v x) refl (λ y j. j) t.gives e
 
-  pub take_page_keeps : (b d : ℕ) (x : ℕ) → Tells (Claims b d) v x w → Keeps c i part' count (w, held')
+  pub take_page_keeps : (g b d x : ℕ) → Tells (Claims g b d) v x w → Keeps c i part' count (w, held')
   unfolding part entries noted
-  take_page_keeps b d x t =
-      keeps_on c i part' count v (part (Claims b d) v x) w (entries (Claims b d) v x) (noted (Claims b d) v x) held held' k
-      (same_part (Claims b d) v x) refl (λ y j. j) t.gives e
+  take_page_keeps g b d x t =
+      keeps_on c i part' count v (part (Claims g b d) v x) w (entries (Claims g b d) v x) (noted (Claims g b d) v x) held held' k
+      (same_part (Claims g b d) v x) refl (λ y j. j) t.gives e
 
   pub give_page_keeps : (p : ℕ) (x : ℕ) → Tells (GivesPage p) v x w → Keeps c i part' count (w, held')
   unfolding part entries noted

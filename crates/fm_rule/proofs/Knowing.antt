@@ -2,7 +2,7 @@
 use Rattle.std.proofs.Common.{◌≡◌, ℕ, ◌+◌, ◌-◌, ◌*◌, ◌/◌, ◌%◌, ◌^◌, ◌<◌, ◌≤◌, List, [], ◌∷◌, inl, refl, Some, None, sym, ap, ◌∙◌, subst, arith}
 use Rattle.fm_words.specs.declared.shape.Shape.{Shape}
 use Rattle.fm_words.specs.Shapes.{IsValid}
-use Rattle.fm_words.specs.Places.{at, draw, slot_bits, page_bits, map, page_word, mark, session, given, number_bits, term, groups, words, front}
+use Rattle.fm_words.specs.Places.{at, draw, slot_bits, page_bits, page_groups, map, page_word, mark, session, given, number_bits, term, groups, words, front}
 use Rattle.fm_words.proofs.Tables.{at-within, words-le}
 use Rattle.fm_base.specs.declared.arena_id.ArenaId.{ArenaId}
 use Rattle.fm_pool_facts.specs.Hands.{Hand, HasSlot}
@@ -14,7 +14,28 @@ use Rattle.std.proofs.Math.Nat.{mod-lt}
 use Rattle.fm_pool_steps.proofs.Closes.{visited_of-found}
 use Rattle.fm_rule.specs.declared.pass.Part.{Part}
 use Rattle.std.proofs.lemmas.Nat.{div-mul-add, mod-mul-add}
-use Rattle.fm_rule.specs.Views.{homed, IsPart}
+use Rattle.atomic_table.specs.Seated.{TableId}
+use Rattle.fm_rule.specs.declared.pool.Pool.{Pool}
+use Rattle.fm_rule.specs.Passes.{IsOf}
+use Rattle.fm_rule.specs.Views.{homed, numbers_of, IsPart}
+
+-- ---- the table
+
+-- numbers tell one table
+pub one_table : (s t : TableId) → numbers_of s ≡ numbers_of t → s ≡ t
+one_table s t e =
+    let a : s.words ≡ t.words = cc in
+    let b : s.slots ≡ t.slots = cc in
+    let c : s.views_name ≡ t.views_name = cc in
+    let d : s.atom ≡ t.atom = cc in
+    let f : s.block ≡ t.block = cc in
+    let g : s.offset ≡ t.offset = cc in
+    let h : s.slot_names ≡ t.slot_names = cc in
+    λ i. record { words = a i; slots = b i; views_name = c i; atom = d i; block = f i; offset = g i; slot_names = h i }
+
+-- a pass of a pool has a seat at its table
+pub in_pool : (t : TableId) (v now : View) (pool : Pool) → homed (numbers_of t) v ≡ now → IsOf pool now → t ≡ pool.table.shared.table_id
+in_pool t v now pool is of = one_table t pool.table.shared.table_id (ap (λ (x : View). x.home) is ∙ of.0)
 
 -- ---- places
 
@@ -52,8 +73,8 @@ bits_below z i e = subst (λ (n : ℕ). n < words z) (sym e) (at-within z slot_b
 pub front_below : (z : Shape) (i : ℕ) → i ≡ at z front → i < words z
 front_below z i e = subst (λ (n : ℕ). n < words z) (sym e) (at-within z front tt)
 
-pub page_bits_below : (z : Shape) (i : ℕ) → i ≡ at z page_bits → i < words z
-page_bits_below z i e = subst (λ (n : ℕ). n < words z) (sym e) (at-within z page_bits tt)
+pub page_bits_below : (z : Shape) (g i : ℕ) → g < page_groups z → i ≡ at z (page_bits g) → i < words z
+page_bits_below z g i h e = subst (λ (n : ℕ). n < words z) (sym e) (at-within z (page_bits g) h)
 
 pub map_below : (z : Shape) (s k i : ℕ) → s < z.slots → k < z.reach → i ≡ at z (map s k) → i < words z
 map_below z s k i h l e = subst (λ (n : ℕ). n < words z) (sym e) (at-within z (map s k) (h, l))

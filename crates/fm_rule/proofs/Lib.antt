@@ -5,7 +5,7 @@ pub mod Stepping
 pub mod Keeping
 pub mod Noting
 pub mod Following
-pub mod Numbers
+pub mod Beginning
 pub mod Asking
 pub mod Seeking
 pub mod Halves

@@ -161,7 +161,7 @@ module _ (z : Shape) (id : ℕ) (v : View) (l : v.live ≡ true) (i : ℕ) where
   may_wipe a k q w s h u f p = subst (λ (x : ℕ). MayStore z (Wipes a k q w) id v x 0) (sym p) (wipe_steps z id v a k l s q w h u f)
 
   pub may_return_page : (a : ArenaId) (k q w n : ℕ) → visited_of v.sweeps a ≡ Some k → k < z.reach → v.swept ≡ wiping a k q w → AreAllGiven v a k w
-      → IsOver v a → i ≡ at z page_bits → n ≡ 2 ^ q → MayStep z (ReturnsPage a q) id v i (λ w. bit_or w n)
+      → IsOver v a → i ≡ at z (page_bits (q / 64)) → n ≡ 2 ^ (q % 64) → MayStep z (ReturnsPage a q) id v i (λ w. bit_or w n)
   may_return_page a k q w n s h u g o p e =
       subst (λ (x : ℕ × ℕ). MayStep z (ReturnsPage a q) id v x.0 (λ w. bit_or w x.1)) (λ j. (sym p j, sym e j)) (return_steps z id v a k l s q w h u g o)
 
@@ -172,10 +172,10 @@ module _ (z : Shape) (id : ℕ) (v : View) (l : v.live ≡ true) (i : ℕ) where
       → i ≡ at z (session a.slot) → y ≡ free_word z.generations (a.generation + 1) → MayStore z (Retires a) id v i y
   may_retire a y e h u s p q = subst (λ (x : ℕ × ℕ). MayStore z (Retires a) id v x.0 x.1) (λ j. (sym p j, sym q j)) (retire_steps z id v a l e h u s)
 
-  pub may_take_page : (e q next : ℕ) → v.pages ≡ [] → q < z.pages → IsWithout e q next → i ≡ at z page_bits
-      → MayStep z (Claims e q) id v i (λ n. either (n == e) next n)
-  may_take_page e q next h low w p =
-      subst (λ (x : ℕ). MayStep z (Claims e q) id v x (λ n. either (n == e) next n)) (sym p) (claim_steps z id v e q next l h low w)
+  pub may_take_page : (g e bit next : ℕ) → v.pages ≡ [] → bit < 64 → number_at g bit < z.pages → IsWithout e bit next → i ≡ at z (page_bits g)
+      → MayStep z (Claims g e bit) id v i (λ n. either (n == e) next n)
+  may_take_page g e bit next h few low w p =
+      subst (λ (x : ℕ). MayStep z (Claims g e bit) id v x (λ n. either (n == e) next n)) (sym p) (claim_steps z id v g e bit next l h few low w)
 
   pub may_map : (a : ArenaId) (k q new : ℕ) → v.shape ≡ z → v.inside ≡ Some a → k < z.reach → v.pages ≡ q ∷ [] → i ≡ at z (map a.slot k) → new ≡ map_word q
       → MayStep z (Maps a k q) id v i (λ n. either (n == 0) new n)
@@ -185,7 +185,7 @@ module _ (z : Shape) (id : ℕ) (v : View) (l : v.live ≡ true) (i : ℕ) where
   pub may_read_map : (a : ArenaId) (k : ℕ) → v.shape ≡ z → v.inside ≡ Some a → k < z.reach → i ≡ at z (map a.slot k) → MayStep z (ReadsMap a k) id v i (λ n. n)
   may_read_map a k sh ins low p = subst (λ (x : ℕ). MayStep z (ReadsMap a k) id v x (λ n. n)) (sym p) (read_map_steps z id v a k l sh ins low)
 
-  pub may_give_page : (q n : ℕ) → v.pages ≡ q ∷ [] → i ≡ at z page_bits → n ≡ 2 ^ q → MayStep z (GivesPage q) id v i (λ w. bit_or w n)
+  pub may_give_page : (q n : ℕ) → v.pages ≡ q ∷ [] → i ≡ at z (page_bits (q / 64)) → n ≡ 2 ^ (q % 64) → MayStep z (GivesPage q) id v i (λ w. bit_or w n)
   may_give_page q n h p e =
       subst (λ (x : ℕ × ℕ). MayStep z (GivesPage q) id v x.0 (λ w. bit_or w x.1)) (λ j. (sym p j, sym e j)) (give_page_steps z id v q l h)
 

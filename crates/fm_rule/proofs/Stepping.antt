@@ -240,12 +240,13 @@ module _ (now v w : View) (home home' : List ℕ) (is : homed home v ≡ now) (s
       (stepped home v (part (ReturnsPage a p) v x) w (entries (ReturnsPage a p) v x) (noted (ReturnsPage a p) v x)
       (same_part (ReturnsPage a p) v x) met t.gives)
 
-  pub take_page_stepped : (e bit : ℕ) (x : ℕ) → Tells (Claims e bit) v x w
-      → Stepped now (homed home' w) (record now { pages = pages_taken (takes e bit x) bit now.pages }) ([]) (note_of (Claiming e bit) x now)
+  pub take_page_stepped : (g e bit x : ℕ) → Tells (Claims g e bit) v x w
+      → Stepped now (homed home' w) (record now { pages = pages_taken (takes e bit x) (number_at g bit) now.pages }) [] (note_of (Claiming g e bit) x now)
   unfolding part entries noted
-  take_page_stepped e bit x t =
-      stepped_as (λ (y : View). record y { pages = pages_taken (takes e bit x) bit y.pages }) (λ (y : View). []) (λ (y : View). note_of (Claiming e bit) x y)
-      (stepped home v (part (Claims e bit) v x) w (entries (Claims e bit) v x) (noted (Claims e bit) v x) (same_part (Claims e bit) v x) met t.gives)
+  take_page_stepped g e bit x t =
+      stepped_as (λ (y : View). record y { pages = pages_taken (takes e bit x) (number_at g bit) y.pages }) (λ (y : View). [])
+      (λ (y : View). note_of (Claiming g e bit) x y)
+      (stepped home v (part (Claims g e bit) v x) w (entries (Claims g e bit) v x) (noted (Claims g e bit) v x) (same_part (Claims g e bit) v x) met t.gives)
 
   pub map_stepped : (a : ArenaId) (i p : ℕ) (x : ℕ) → Tells (Maps a i p) v x w
       → Stepped now (homed home' w) (record now { reads = reads_mapped i p x now.reads; pages = pages_mapped x now.pages })

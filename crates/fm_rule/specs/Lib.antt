@@ -1,6 +1,7 @@
 pub mod Views
 pub mod Passes
-pub mod Numbers
+pub mod Beginning
 pub mod Draws
 pub mod Finishing
 pub mod GivenBytes
+pub mod Acts

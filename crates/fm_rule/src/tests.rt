@@ -1,7 +1,7 @@
 ghost use Rattle.std.specs.Prelude.{◌<◌};
 ghost use Rattle.fm_words.specs.Shapes.{IsValid};
 
-use crate::{Pool, alive_holds, mark_of, step_take_page, step_unmark};
+use crate::{Pool, alive_holds, mark_of, step_give_page, step_take_page, step_unmark};
 use fm_base::{ArenaId, Kind};
 use fm_words::Shape;
 use std::alloc::AllocGlobal;
@@ -25,29 +25,22 @@ const LARGER: Shape = Shape {
     generations: 5,
 };
 
-/// The most passes, slots, pages, words and generations. Pages of the most words are fewer, and an arena of many pages
-/// leaves fewer slots.
+/// The most passes, slots, pages, parts and generations, and so the most words.
 const GREATEST: Shape = Shape {
     passes: 4_096,
     slots: 64,
-    pages: 64,
-    page_words: 262_144,
-    reach: 1,
+    pages: 4_096,
+    page_words: 4_096,
+    reach: 4_096,
     generations: u32::MAX,
 };
 
-/// One slot that has all pages.
-const FARTHEST: Shape = Shape {
-    slots: 1,
-    reach: 64,
-    ..GREATEST
-};
-
-/// Pages of the most words.
+/// Pages of the most words, which are fewer.
 const WIDEST: Shape = Shape {
     slots: 16,
     pages: 16,
     page_words: 1_048_576,
+    reach: 1,
     ..GREATEST
 };
 
@@ -60,7 +53,8 @@ fn word_at(pool: &Pool, place: u64) -> Option<u64> {
     }
 }
 
-/// The first words of a pool that aren't 0: the slot bits, the page bits, and a word of number bits at its place.
+/// The first words of a pool that aren't 0: the slot bits, the last word of page bits, and the first word of number bits at
+/// its place.
 #[derive(Clone, Copy)]
 struct FirstWords {
     slot_bits: u64,
@@ -69,23 +63,26 @@ struct FirstWords {
     number_bits: u64,
 }
 
-/// All words are 0 but the count of draws and these; of more words of number bits each is full. Of many words the first
-/// and the last are looked at.
+/// All words are 0 but the count of draws and these; of more words of page bits or of number bits each is full. Of many
+/// words the first and the last are looked at.
 fn check_words<R: Abort + AllocGlobal>(rt: &R, shape: Shape, words: u64, first: FirstWords)
     requires valid { IsValid shape }
     requires some { 0 < words }
 {
     let (pool, _) = Pool::make(rt.alloc(), shape).expect(rt, "words");
+    let pages_end = shape.mark_place(0);
     let terms_at = shape.term_place(0);
-    for place in 0..words.min(10_000) {
+    for place in 0..words.min(300_000) {
         let expected = match place {
+            0 => 0,
             1 => 1,
             2 => first.slot_bits,
-            3 => first.page_bits,
             _ => {
-                if place == first.numbers_at {
+                if place + 1 == pages_end {
+                    first.page_bits
+                } else if place == first.numbers_at {
                     first.number_bits
-                } else if first.numbers_at < place && place < terms_at {
+                } else if place < pages_end || first.numbers_at < place && place < terms_at {
                     u64::MAX
                 } else {
                     0
@@ -130,7 +127,10 @@ fn every_number_but_the_first_is_free(rt: HostRuntime) {
         let (pool, _) = Pool::make(rt.alloc(), shape).expect(&rt, "words");
         let first_at = shape.number_bits_place(0);
         let last_at = shape.number_bits_place(shape.groups() - 1);
-        assert_eq!(rt; (word_at(&pool, first_at), word_at(&pool, last_at)), (Some(word), Some(last)));
+        assert_eq!(rt;
+            (word_at(&pool, first_at), word_at(&pool, last_at)),
+            (Some(word), Some(last))
+        );
     }
 }
 
@@ -139,16 +139,10 @@ fn pools_of_the_greatest_shapes_can_be_had(rt: HostRuntime) {
     let greatest = FirstWords {
         slot_bits: u64::MAX,
         page_bits: u64::MAX,
-        numbers_at: 4_292,
+        numbers_at: 266_435,
         number_bits: u64::MAX - 1,
     };
-    check_words(&rt, GREATEST, 16_785_668, greatest);
-    let farthest = FirstWords {
-        slot_bits: 1,
-        numbers_at: 4_166,
-        ..greatest
-    };
-    check_words(&rt, FARTHEST, 16_785_542, farthest);
+    check_words(&rt, GREATEST, 17_047_811, greatest);
     let widest = FirstWords {
         slot_bits: 0xffff,
         page_bits: 0xffff,
@@ -159,10 +153,40 @@ fn pools_of_the_greatest_shapes_can_be_had(rt: HostRuntime) {
 }
 
 #[test]
+fn every_page_is_free(rt: HostRuntime) {
+    for (pages, first, last) in [
+        (1, 1, 1),
+        (63, u64::MAX / 2, u64::MAX / 2),
+        (64, u64::MAX, u64::MAX),
+        (65, u64::MAX, 1),
+        (4_096, u64::MAX, u64::MAX),
+    ] {
+        let shape = Shape { pages, ..LEAST };
+        let (pool, _) = Pool::make(rt.alloc(), shape).expect(&rt, "words");
+        assert_eq!(rt; pool.guess_pages(0), first);
+        assert_eq!(rt; pool.guess_pages(shape.page_groups() - 1), last);
+    }
+}
+
+#[test]
 fn a_page_is_taken_by_its_bit(rt: HostRuntime) {
     let (pool, mut pass) = Pool::make(rt.alloc(), LARGER).expect(&rt, "words");
-    assert_eq!(rt; step_take_page(&pool, &mut pass, 0b1111, 2), 0b1111);
+    assert_eq!(rt; step_take_page(&pool, &mut pass, 0, 0b1111, 2), 0b1111);
     assert_eq!(rt; word_at(&pool, 3), Some(0b1011));
+}
+
+#[test]
+fn a_page_of_another_group_is_taken_by_its_bit(rt: HostRuntime) {
+    let shape = Shape {
+        pages: 66,
+        ..LARGER
+    };
+    let (pool, mut pass) = Pool::make(rt.alloc(), shape).expect(&rt, "words");
+    assert_eq!(rt; step_take_page(&pool, &mut pass, 1, 0b11, 1), 0b11);
+    assert_eq!(rt; pool.guess_pages(0), u64::MAX);
+    assert_eq!(rt; pool.guess_pages(1), 0b01);
+    step_give_page(&pool, &mut pass, 65);
+    assert_eq!(rt; pool.guess_pages(1), 0b11);
 }
 
 #[test]

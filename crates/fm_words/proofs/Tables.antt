@@ -6,7 +6,7 @@ use Rattle.std.proofs.lemmas.Bool.{cases_lt}
 use Rattle.std.proofs.lemmas.Nat.{mul-add-lt, same_from_place, div-add-mod', mod_below, div_below}
 use Rattle.fm_words.specs.declared.shape.Shape.{Shape}
 use Rattle.fm_words.specs.Shapes.{IsValid}
-use Rattle.fm_words.specs.Places.{Place, front, draw, slot_bits, mark, page_bits, session, given, map, number_bits, term, page_word, IsPlace, groups, marks_from, sessions_from, given_from, maps_from, numbers_from, terms_from, pages_from, at, words, NamesEachWordOnce}
+use Rattle.fm_words.specs.Places.{Place, front, draw, slot_bits, mark, page_bits, session, given, map, number_bits, term, page_word, IsPlace, page_groups, groups, marks_from, sessions_from, given_from, maps_from, numbers_from, terms_from, pages_from, at, words, NamesEachWordOnce}
 
 -- Places lie within the table.
 pub at-within : (z : Shape) (p : Place) → IsPlace z p → at z p < words z
@@ -14,7 +14,7 @@ unfolding at words
 at-within z front h = omega arith
 at-within z draw h = omega arith
 at-within z slot_bits h = omega arith
-at-within z page_bits h = omega arith
+at-within z (page_bits g) h = let n : ℕ = page_groups z in let l : g < n = h in omega arith
 at-within z (mark k) h = omega arith
 at-within z (session s) h = omega arith
 at-within z (given s) h = omega arith
@@ -42,7 +42,7 @@ unfolding at
 at-apart z front front a b e = refl
 at-apart z draw draw a b e = refl
 at-apart z slot_bits slot_bits a b e = refl
-at-apart z page_bits page_bits a b e = refl
+at-apart z (page_bits g) (page_bits h) a b e = let q : g ≡ h = omega arith in ap page_bits q
 at-apart z (mark k) (mark i) a b e = let h : k ≡ i = omega arith in ap mark h
 at-apart z (session s) (session t) a b e = let h : s ≡ t = omega arith in ap session h
 at-apart z (given s) (given t) a b e = let h : s ≡ t = omega arith in ap given h
@@ -132,14 +132,20 @@ named_from_marks z i h below = elim (cases_lt i (sessions_from z)) [
   | inr l ↦ named_from_sessions z i l below
 ]
 
+named_from_page_bits : (z : Shape) (i : ℕ) → 3 ≤ i → i < words z → PlaceAt z i
+unfolding at
+named_from_page_bits z i h below = elim (cases_lt i (marks_from z)) [
+  | inl l ↦ (page_bits (i - 3), omega arith, omega arith)
+  | inr l ↦ named_from_marks z i l below
+]
+
 -- Each word of the table has a place.
 pub at-named : (z : Shape) (i : ℕ) → i < words z → PlaceAt z i
 unfolding at
 at-named z zero h = (front, tt, refl)
 at-named z (suc zero) h = (draw, tt, refl)
 at-named z (suc (suc zero)) h = (slot_bits, tt, refl)
-at-named z (suc (suc (suc zero))) h = (page_bits, tt, refl)
-at-named z (suc (suc (suc (suc i)))) h = named_from_marks z (suc (suc (suc (suc i)))) (omega arith) h
+at-named z (suc (suc (suc i))) h = named_from_page_bits z (suc (suc (suc i))) (omega arith) h
 
 -- So the places name each word once.
 pub every_word : (z : Shape) → NamesEachWordOnce z
@@ -159,11 +165,12 @@ pub at-set_other : (z : Shape) (table : List ℕ) (p q : Place) (x : ℕ) → Is
     → slice_index (set table (at z p) x) (at z q) ≡ slice_index table (at z q)
 at-set_other z table p q x a b ne = get_or-set_other table (at z p) (at z q) x 0 (λ e. ne (at-apart z q p b a e))
 
--- A table has at most 4 + 4,096 + 128 + 4,096 + 64 + 4,096 + 2^24 words.
-pub words-le : (z : Shape) → IsValid z → words z ≤ 16789700
+-- A table has at most 3 + 64 + 4,096 + 128 + 64 * 4,096 + 64 + 4,096 + 2^24 words.
+pub words-le : (z : Shape) → IsValid z → words z ≤ 17047811
 unfolding words
 words-le z v =
     let passes = v.passes.1 in let slots = v.slots.1 in let pages = v.words in
-    let most : z.reach ≤ 64 = (let a = v.reach.1 in let b = v.pages.1 in omega arith) in
-    let maps : z.slots * z.reach ≤ z.slots * 64 = mul-le-mul_left z.slots most in
+    let most : z.reach ≤ 4096 = (let a = v.reach.1 in let b = v.pages.1 in omega arith) in
+    let all : z.pages ≤ 4096 = v.pages.1 in
+    let maps : z.slots * z.reach ≤ z.slots * 4096 = mul-le-mul_left z.slots most in
     omega arith

@@ -10,8 +10,8 @@ pub data Place : Type 0 where
   draw : Place
   -- bit k is 1 where slot k can be lent
   slot_bits : Place
-  -- bit k is 1 where page k can be claimed
-  page_bits : Place
+  -- a word of page bits: bit k of word g is 1 where the page 64 g + k can be claimed
+  page_bits : ℕ → Place
   -- the mark of a pass
   mark : ℕ → Place
   -- the session of a slot
@@ -27,7 +27,11 @@ pub data Place : Type 0 where
   -- of a page, one of its words
   page_word : ℕ → ℕ → Place
 
--- how many words of number bits there are
+-- how many words of page bits there are
+abbrev pub page_groups : Shape → ℕ
+page_groups z = (z.pages + 63) / 64
+
+-- and of number bits
 abbrev pub groups : Shape → ℕ
 groups z = (z.passes + 63) / 64
 
@@ -36,7 +40,7 @@ abbrev pub IsPlace : Shape → Place → Type 0
 IsPlace z front = Unit {0}
 IsPlace z draw = Unit {0}
 IsPlace z slot_bits = Unit {0}
-IsPlace z page_bits = Unit {0}
+IsPlace z (page_bits g) = g < page_groups z
 IsPlace z (mark k) = k < z.passes
 IsPlace z (session s) = s < z.slots
 IsPlace z (given s) = s < z.slots
@@ -47,7 +51,7 @@ IsPlace z (page_word k w) = (k < z.pages) × (w < z.page_words)
 
 -- where the words of each kind begin: where those of the kind before end
 abbrev pub marks_from : Shape → ℕ
-marks_from z = 4
+marks_from z = 3 + page_groups z
 
 abbrev pub sessions_from : Shape → ℕ
 sessions_from z = marks_from z + z.passes
@@ -76,7 +80,7 @@ unfoldable pub at : Shape → Place → ℕ
 at z front = 0
 at z draw = 1
 at z slot_bits = 2
-at z page_bits = 3
+at z (page_bits g) = 3 + g
 at z (mark k) = marks_from z + k
 at z (session s) = sessions_from z + s
 at z (given s) = given_from z + s

@@ -1,8 +1,8 @@
 ghost use Rattle.fm_words.specs.Sessions.{IsSession};
 
 use crate::{
-    ALIVE, CLOSING, FREE, Session, Shape, every_word_has_one_place, lowest_bit, map_of, map_word,
-    mark_of, mark_word, ones, session_of, session_word, without_bit,
+    Life, Session, Shape, every_word_has_one_place, lowest_bit, map_of, map_word, mark_of,
+    mark_word, ones, session_of, session_word, without_bit,
 };
 use std::process::Abort;
 
@@ -18,9 +18,9 @@ const LEAST: Shape = Shape {
 const GREATEST: Shape = Shape {
     passes: 4_096,
     slots: 64,
-    pages: 64,
-    page_words: 262_144,
-    reach: 1,
+    pages: 4_096,
+    page_words: 4_096,
+    reach: 4_096,
     generations: u32::MAX,
 };
 
@@ -35,7 +35,7 @@ const SMALL: Shape = Shape {
 
 const ZERO: Session = Session {
     generation: 0,
-    life: FREE,
+    life: Life::Free,
     kind: 0,
     owner: 0,
     holds: 0,
@@ -52,7 +52,7 @@ fn is_coded<R: Abort>(rt: &R, session: Session, word: u64)
 fn a_session_is_a_word(rt: HostRuntime) {
     let held = Session {
         generation: 5,
-        life: ALIVE,
+        life: Life::Alive,
         kind: 2,
         owner: 3,
         holds: 2,
@@ -60,7 +60,7 @@ fn a_session_is_a_word(rt: HostRuntime) {
     is_coded(&rt, held, 23_085_645_826);
     is_coded(&rt, held, 0x0000_0005_6003_0002);
     let shut = Session {
-        life: CLOSING,
+        life: Life::Closing,
         holds: 0,
         ..held
     };
@@ -81,7 +81,7 @@ fn fields_lie_apart_in_a_word(rt: HostRuntime) {
     is_coded(
         &rt,
         Session {
-            life: CLOSING,
+            life: Life::Closing,
             ..ZERO
         },
         0x8000_0000,
@@ -105,7 +105,7 @@ fn fields_lie_apart_in_a_word(rt: HostRuntime) {
     );
     let all = Session {
         generation: u32::MAX,
-        life: CLOSING,
+        life: Life::Closing,
         kind: 3,
         owner: 4_095,
         holds: 65_535,
@@ -114,10 +114,10 @@ fn fields_lie_apart_in_a_word(rt: HostRuntime) {
 }
 
 #[test]
-fn a_life_of_3_is_read(rt: HostRuntime) {
+fn each_two_bits_are_read_as_a_life(rt: HostRuntime) {
     let all = Session {
         generation: u32::MAX,
-        life: 3,
+        life: Life::Unused,
         kind: 3,
         owner: 4_095,
         holds: 65_535,
@@ -158,7 +158,7 @@ fn the_least_shape_has_one_of_each(rt: HostRuntime) {
     assert_eq!(rt; LEAST.front_place(), 0);
     assert_eq!(rt; LEAST.draw_place(), 1);
     assert_eq!(rt; LEAST.slot_bits_place(), 2);
-    assert_eq!(rt; LEAST.page_bits_place(), 3);
+    assert_eq!(rt; LEAST.page_bits_place(0), 3);
     assert_eq!(rt; LEAST.mark_place(0), 4);
     assert_eq!(rt; LEAST.session_place(0), 5);
     assert_eq!(rt; LEAST.given_place(0), 6);
@@ -173,21 +173,23 @@ fn the_least_shape_has_one_of_each(rt: HostRuntime) {
 #[test]
 fn the_greatest_shape_has_128_mebibytes(rt: HostRuntime) {
     assert!(rt; GREATEST.is_valid());
-    assert_eq!(rt; GREATEST.mark_place(4_095), 4_099);
-    assert_eq!(rt; GREATEST.session_place(0), 4_100);
-    assert_eq!(rt; GREATEST.session_place(63), 4_163);
-    assert_eq!(rt; GREATEST.given_place(0), 4_164);
-    assert_eq!(rt; GREATEST.given_place(63), 4_227);
-    assert_eq!(rt; GREATEST.map_place(0, 0), 4_228);
-    assert_eq!(rt; GREATEST.map_place(63, 0), 4_291);
+    assert_eq!(rt; GREATEST.page_groups(), 64);
+    assert_eq!(rt; GREATEST.page_bits_place(63), 66);
+    assert_eq!(rt; GREATEST.mark_place(4_095), 4_162);
+    assert_eq!(rt; GREATEST.session_place(0), 4_163);
+    assert_eq!(rt; GREATEST.session_place(63), 4_226);
+    assert_eq!(rt; GREATEST.given_place(0), 4_227);
+    assert_eq!(rt; GREATEST.given_place(63), 4_290);
+    assert_eq!(rt; GREATEST.map_place(0, 0), 4_291);
+    assert_eq!(rt; GREATEST.map_place(63, 4_095), 266_434);
     assert_eq!(rt; GREATEST.groups(), 64);
-    assert_eq!(rt; GREATEST.number_bits_place(0), 4_292);
-    assert_eq!(rt; GREATEST.number_bits_place(63), 4_355);
-    assert_eq!(rt; GREATEST.term_place(0), 4_356);
-    assert_eq!(rt; GREATEST.term_place(4_095), 8_451);
-    assert_eq!(rt; GREATEST.page_place(0, 0), 8_452);
-    assert_eq!(rt; GREATEST.page_place(63, 262_143), 16_785_667);
-    assert_eq!(rt; GREATEST.words(), 16_785_668);
+    assert_eq!(rt; GREATEST.number_bits_place(0), 266_435);
+    assert_eq!(rt; GREATEST.number_bits_place(63), 266_498);
+    assert_eq!(rt; GREATEST.term_place(0), 266_499);
+    assert_eq!(rt; GREATEST.term_place(4_095), 270_594);
+    assert_eq!(rt; GREATEST.page_place(0, 0), 270_595);
+    assert_eq!(rt; GREATEST.page_place(4_095, 4_095), 17_047_810);
+    assert_eq!(rt; GREATEST.words(), 17_047_811);
 }
 
 #[test]
@@ -209,11 +211,28 @@ fn words_of_each_kind_lie_one_after_another(rt: HostRuntime) {
 }
 
 #[test]
-fn number_bits_fill_words_of_64(rt: HostRuntime) {
-    for (passes, groups) in [(1, 1), (63, 1), (64, 1), (65, 2), (128, 2), (129, 3), (4_096, 64)] {
-        let shape = Shape { passes, ..SMALL };
+fn bits_fill_words_of_64(rt: HostRuntime) {
+    for (count, groups) in [
+        (1, 1),
+        (63, 1),
+        (64, 1),
+        (65, 2),
+        (128, 2),
+        (129, 3),
+        (4_096, 64),
+    ] {
+        let shape = Shape {
+            passes: count,
+            ..LEAST
+        };
         assert!(rt; shape.is_valid());
         assert_eq!(rt; shape.groups(), groups);
+        let shape = Shape {
+            pages: count,
+            ..LEAST
+        };
+        assert!(rt; shape.is_valid());
+        assert_eq!(rt; shape.page_groups(), groups);
     }
 }
 
@@ -223,6 +242,13 @@ fn pages_may_be_more_or_fewer_than_slots_can_map(rt: HostRuntime) {
         Shape { pages: 7, ..SMALL },
         Shape { pages: 9, ..SMALL },
         Shape { pages: 64, ..SMALL },
+        Shape { pages: 65, ..SMALL },
+        Shape {
+            pages: 4_096,
+            reach: 4_096,
+            slots: 64,
+            ..SMALL
+        },
         Shape { reach: 1, ..SMALL },
         Shape { reach: 8, ..SMALL },
         Shape { slots: 64, ..SMALL },
@@ -243,7 +269,10 @@ fn shapes_beyond_a_limit_are_refused(rt: HostRuntime) {
         Shape { slots: 0, ..SMALL },
         Shape { slots: 65, ..SMALL },
         Shape { pages: 0, ..SMALL },
-        Shape { pages: 65, ..SMALL },
+        Shape {
+            pages: 4_097,
+            ..SMALL
+        },
         Shape {
             page_words: 0,
             ..SMALL

@@ -2,9 +2,9 @@ use Rattle.std.proofs.Common.{ap, ◌∙◌, arith}
 use Rattle.fm_pool_facts.specs.Views.{View}
 use Rattle.fm_pool_steps.proofs.Gathering.{gather_joins}
 use Rattle.fm_rule.specs.Views.{numbers_of}
-use Rattle.fm_rule.proofs.Knowing.{front_below}
+use Rattle.fm_rule.proofs.Knowing.{one_table, in_pool, front_below}
 use Rattle.fm_rule.proofs.Making.{may_look}
-use Rattle.fm_rule.proofs.Noting.{one_table, some_words}
+use Rattle.fm_rule.proofs.Noting.{some_words}
 use Rattle.fm_rule.proofs.Halves.{at_rest, gathers, gather_keeps, few_after}
 use Rattle.fm_rule.proofs.pool.Pool.join_in.Goals as goal
 
@@ -18,11 +18,12 @@ join_seat-requires c = (
       (at_rest _ c.other.inside.seat.me.0 _ c.other.view_is c.other.invariant.live c.other.invariant.met c.requires.other),
 )
 
-pub load_as-requires-clause-place : goal.load_as-requires-clause-place
-load_as-requires-clause-place c = front_below _ _ c.front_place-place.ensures
-
-pub load_as-requires-clause-may : goal.load_as-requires-clause-may
-load_as-requires-clause-may c = may_look _ _ _ ((λ j. (c.join_seat.ensures.2 j).0.live) ∙ c.pass.invariant.live) _
+pub load_as-requires-clause-can : goal.load_as-requires-clause-can
+load_as-requires-clause-can c = record {
+  table = c.join_seat.ensures.0 ∙ in_pool _ c.pass.inside.seat.me.0 _ c.args.self.now c.pass.view_is c.requires.pass;
+  place = front_below _ _ c.front_place-place.ensures;
+  may = may_look _ _ _ ((λ j. (c.join_seat.ensures.2 j).0.live) ∙ c.pass.invariant.live) _;
+}
 
 pub invariant_of-pass : goal.invariant_of-pass
 invariant_of-pass c =

@@ -1,9 +1,10 @@
+use Rattle.fm_rule.proofs.Knowing.{one_table}
 use Rattle.std.proofs.Common.{ap, sym, ◌∙◌, subst, None}
 use Rattle.fm_pool_facts.specs.Views.{View, IsSound}
 use Rattle.fm_pool_steps.proofs.Halving.{draw_splits}
 use Rattle.fm_rule.specs.Views.{inside_of, Keeps}
 use Rattle.fm_rule.proofs.Allowed.{sound_homed}
-use Rattle.fm_rule.proofs.Noting.{one_table, some_words}
+use Rattle.fm_rule.proofs.Noting.{some_words}
 use Rattle.fm_rule.proofs.Halves.{left_keeps, right_keeps, right_sound}
 use Rattle.fm_rule.proofs.pool.Pool.split_off.Goals as goal
 
