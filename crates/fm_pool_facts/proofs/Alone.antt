@@ -33,7 +33,7 @@ module _ (z : Shape) (me : ℕ) (v : View) (l : v.live ≡ true) (ws : List ℕ)
       let here : j ≡ me = elim (same_caller u.caller v.caller) [
         | yes e ↦ sym x.seated ∙ (ap r.owners.seat e ∙ mine.seated)
         | no ne ↦ (let g = mine.whole w u.caller x.drawn ne in
-          sym x.seated ∙ (ap r.owners.seat (sym g.2) ∙ seated_all z r.history r.memory r.machine r.owners me v mine g.0 g.1))
+            sym x.seated ∙ (ap r.owners.seat (sym g.2) ∙ seated_all z r.history r.memory r.machine r.owners me v mine g.0 g.1))
       ] in
       some-injective u v (sym at' ∙ (ap (get_elem? vs) here ∙ at))
 

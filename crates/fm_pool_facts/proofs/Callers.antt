@@ -70,7 +70,7 @@ module _ (z : Shape) (h : List Entry) (m : Memory) (t : Machine) (o : Owners) (j
   nums_apart : Distinct nums
   nums_apart = (
     (λ i. let y = has_rank o.rank (o.rank v.caller) v.gathered i in
-    (u.gathered y.0 y.1).apart (one_rank o.rank m.draw o.who y.0.caller v.caller (its_drawn y.0 y.1) u.drawn y.2)),
+        (u.gathered y.0 y.1).apart (one_rank o.rank m.draw o.who y.0.caller v.caller (its_drawn y.0 y.1) u.drawn y.2)),
     ranks_apart o.rank m.draw o.who v.gathered its_drawn (subst (IsOnce (λ (g : Gathered). g.caller)) all_now u.one_each),
   )
 

@@ -131,6 +131,6 @@ module _ (rank : Caller → ℕ) where
   ranks_apart draw who [] f o = tt
   ranks_apart draw who (g ∷ gs) f o = (
     (λ i. let y = has_rank (rank g.caller) gs i in
-    o.0 y.0 y.1 (one_rank draw who y.0.caller g.caller (f y.0 (inr y.1)) (f g (inl refl)) y.2)),
+        o.0 y.0 y.1 (one_rank draw who y.0.caller g.caller (f y.0 (inr y.1)) (f g (inl refl)) y.2)),
     ranks_apart draw who gs (λ x i. f x (inr i)) o.1,
   )

@@ -45,7 +45,7 @@ module _ (z : Shape) (h zs : List Entry) (me : ℕ) (m m' : Memory) (t : Machine
   number_told (number_left n) y = (
     y.0,
     ⊎_elim inl (λ (q : (g : Gathered) × In g (all_gathered p) × (g.caller.number ≡ n)).
-    inr (q.0, subst (In q.0) (sym (append-nil (all_gathered p))) q.1, q.2)) y.1,
+        inr (q.0, subst (In q.0) (sym (append-nil (all_gathered p))) q.1, q.2)) y.1,
   )
   number_told (number_joined k) y = record {
     loose = y.loose;

@@ -177,7 +177,7 @@ keeps_with z ws ws' vs r me v p es fs m' o' at l d s nd new looks lends pages kc
           }))
           (⊎_elim
           (λ (x : (number_bit r.memory.numbers n ≡ 0) × (o'.number n ≡ r.owners.number n) × (m'.terms n ≡ r.memory.terms n) × (m'.marks n ≡ r.memory.marks n)
-              × (KeepsNumber n v → KeepsNumber n p)). ⊎_elim
+          × (KeepsNumber n v → KeepsNumber n p)). ⊎_elim
           (λ (y : Somewhere vs (r.owners.number n) (KeepsNumber n)). inl (subst (λ (j : ℕ). Somewhere (set vs me w) j (KeepsNumber n)) (sym x.1)
           (stays_somewhere vs me v w (r.owners.number n) (KeepsNumber n) at x.4 y)))
           (λ (y : IsSpent r.memory r.owners n). inr (record {

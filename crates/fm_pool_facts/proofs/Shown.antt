@@ -184,7 +184,7 @@ module _ (z : Shape) (v : IsValid z) (ws : List ℕ) (m : Memory) (r : Shows z w
 
   pub shows_mark : (k : ℕ) (x : Option ArenaId) → k < z.passes → Shows z (set ws (at z (mark k)) (own_word x)) (record m { marks = put m.marks k x })
   unfolding spot_at IsSpot word_of
-  shows_mark k x h = one_set (record m { marks = put m.marks k x }) (marked k) (own_word x) h  (ap own_word (put_here m.marks k x)) others
+  shows_mark k x h = one_set (record m { marks = put m.marks k x }) (marked k) (own_word x) h (ap own_word (put_here m.marks k x)) others
     where
       others : (q : Spot) → q ≢ marked k → word_of z (record m { marks = put m.marks k x }) q ≡ word_of z m q
       others (marked i) n = ap own_word (put_else m.marks k x i (λ e. n (ap marked e)))
@@ -193,7 +193,7 @@ module _ (z : Shape) (v : IsValid z) (ws : List ℕ) (m : Memory) (r : Shows z w
   pub shows_session : (k : ℕ) (x : Session) (c : ℕ) → k < z.slots
       → Shows z (set ws (at z (session k)) (session_code z.generations x c)) (record m { sessions = put m.sessions k x; counts = put m.counts k c })
   unfolding spot_at IsSpot word_of
-  shows_session k x c h = one_set (record m { sessions = put m.sessions k x; counts = put m.counts k c }) (seated k) (session_code z.generations x c) h 
+  shows_session k x c h = one_set (record m { sessions = put m.sessions k x; counts = put m.counts k c }) (seated k) (session_code z.generations x c) h
       (λ j. session_code z.generations (put_here m.sessions k x j) (put_here m.counts k c j)) others
     where
       others : (q : Spot) → q ≢ seated k → word_of z (record m { sessions = put m.sessions k x; counts = put m.counts k c }) q ≡ word_of z m q
@@ -204,7 +204,7 @@ module _ (z : Shape) (v : IsValid z) (ws : List ℕ) (m : Memory) (r : Shows z w
   pub shows_cell : (k c x : ℕ) → k < z.pages → c < z.page_words
       → Shows z (set ws (at z (page_word k c)) x) (record m { cells = put m.cells k (put (m.cells k) c x) })
   unfolding spot_at IsSpot word_of
-  shows_cell k c x h l = one_set (record m { cells = put m.cells k (put (m.cells k) c x) }) (cell k c) x (h, l) 
+  shows_cell k c x h l = one_set (record m { cells = put m.cells k (put (m.cells k) c x) }) (cell k c) x (h, l)
       ((λ j. put_here m.cells k (put (m.cells k) c x) j c) ∙ put_here (m.cells k) c x) others
     where
       others : (q : Spot) → q ≢ cell k c → word_of z (record m { cells = put m.cells k (put (m.cells k) c x) }) q ≡ word_of z m q
@@ -233,7 +233,7 @@ module _ (z : Shape) (v : IsValid z) (ws : List ℕ) (m : Memory) (r : Shows z w
   pub shows_count : (k c : ℕ) → k < z.slots
       → Shows z (set ws (at z (session k)) (session_code z.generations (m.sessions k) c)) (record m { counts = put m.counts k c })
   unfolding spot_at IsSpot word_of
-  shows_count k c h = one_set (record m { counts = put m.counts k c }) (seated k) (session_code z.generations (m.sessions k) c) h 
+  shows_count k c h = one_set (record m { counts = put m.counts k c }) (seated k) (session_code z.generations (m.sessions k) c) h
       (ap (session_code z.generations (m.sessions k)) (put_here m.counts k c)) others
     where
       others : (q : Spot) → q ≢ seated k → word_of z (record m { counts = put m.counts k c }) q ≡ word_of z m q
@@ -242,7 +242,7 @@ module _ (z : Shape) (v : IsValid z) (ws : List ℕ) (m : Memory) (r : Shows z w
 
   pub shows_given : (k c : ℕ) → k < z.slots → Shows z (set ws (at z (given_place k)) c) (record m { given = put m.given k c })
   unfolding spot_at IsSpot word_of
-  shows_given k c h = one_set (record m { given = put m.given k c }) (counted k) c h  (put_here m.given k c) others
+  shows_given k c h = one_set (record m { given = put m.given k c }) (counted k) c h (put_here m.given k c) others
     where
       others : (q : Spot) → q ≢ counted k → word_of z (record m { given = put m.given k c }) q ≡ word_of z m q
       others (counted i) n = put_else m.given k c i (λ e. n (ap counted e))

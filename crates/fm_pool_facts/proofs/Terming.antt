@@ -83,5 +83,5 @@ module _ (z : Shape) (ws : List ℕ) (vs : List View) (r : Rule z ws vs) where
   entry_terms e i = elim (cases_lt e.caller.term (r.memory.terms e.caller.number)) [
     | inl l ↦ inl l
     | inr l ↦ (let a = (r.terms e.caller (made e i)).1 in
-      let same : e.caller.term ≡ r.memory.terms e.caller.number = omega arith in inr (same, still e i same))
+        let same : e.caller.term ≡ r.memory.terms e.caller.number = omega arith in inr (same, still e i same))
   ]

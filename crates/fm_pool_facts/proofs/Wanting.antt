@@ -51,9 +51,13 @@ module _ (v : View) (s : IsSound v) (whole : v.whole ≡ true) (none : v.number 
       ⊎_elim (λ e. absurd (room e))
       (λ (x : (c : Caller) × HasCaller v c × (c.number ≡ n)
       × ((c.term ≡ last_term) ⊎ ((g : Gathered) → In g (prefix y.0.gathered v.gathered) → g.caller ≢ c))).
-      let gone : (c : Caller) × HasCaller v c × (c.number ≡ n) × ((c.term ≡ last_term) ⊎ ((g : Gathered) → In g old → g.caller ≢ c)) =
-      (x.0, x.1, x.2, ⊎_elim inl (λ (f : (g : Gathered) → In g (prefix y.0.gathered v.gathered) → g.caller ≢ x.0).
-      inr (λ g i. f g (subst (In g) (sym (ap (λ (k : ℕ). prefix k v.gathered) y.5 ∙ before)) i))) x.3) in
+      let gone : (c : Caller) × HasCaller v c × (c.number ≡ n) × ((c.term ≡ last_term) ⊎ ((g : Gathered) → In g old → g.caller ≢ c)) = (
+        x.0,
+        x.1,
+        x.2,
+        ⊎_elim inl (λ (f : (g : Gathered) → In g (prefix y.0.gathered v.gathered) → g.caller ≢ x.0).
+            inr (λ g i. f g (subst (In g) (sym (ap (λ (k : ℕ). prefix k v.gathered) y.5 ∙ before)) i))) x.3,
+      ) in
       ⊎_elim
       (λ (e : gone.0 ≡ v.caller). inl (sym gone.2 ∙ ap (λ (c : Caller). c.number) e))
       (λ (h : (g : Gathered) × In g v.gathered × (g.caller ≡ gone.0)).

@@ -343,10 +343,10 @@ module _ (z : Shape) (me : ℕ) (v : View) (l : v.live ≡ true) (lone : v.met �
       last = r.last;
       callers = λ x q. elim (same_caller x c) [
         | yes e ↦ record {
-            view = drawer;
-            there = ap (get_elem? (set vs me drawer)) (ap seat' e ∙ by_here r.owners.seat c me) ∙ set_there vs me v drawer at;
-            holds = inr (inl (ap number_drawn (sym e)));
-          }
+          view = drawer;
+          there = ap (get_elem? (set vs me drawer)) (ap seat' e ∙ by_here r.owners.seat c me) ∙ set_there vs me v drawer at;
+          holds = inr (inl (ap number_drawn (sym e)));
+        }
         | no ne ↦ (let was = back x ne q in here x (KeepsCaller x) was (caller_on x) (r.callers x was))
       ];
       drawers = λ j a b. dite (ℕ_discrete j d)
@@ -356,14 +356,14 @@ module _ (z : Shape) (me : ℕ) (v : View) (l : v.live ≡ true) (lone : v.met �
             subst (λ (x : Caller × Caller). Somewhere (set vs me drawer) (seat' x.0) (HasDraw x.0 x.1))
                 (λ q. (sym (who_on (r.owners.rank v.caller) mine.drawn.0 ∙ mine.drawn.1) q, sym (ap who' e ∙ put_here r.owners.who d c) q))
                 (record {
-              view = drawer;
-              there = ap (get_elem? (set vs me drawer)) (seat_on v.caller mine.drawn ∙ mine.seated) ∙ set_there vs me v drawer at;
-              holds = inl (
-                l,
-                refl,
-                (let y = noted (length (v.seen ++ zs)) in (y.0, in_right y.0 v.finds (fs (length (v.seen ++ zs))) y.1, y.2)),
-              );
-            }),
+                  view = drawer;
+                  there = ap (get_elem? (set vs me drawer)) (seat_on v.caller mine.drawn ∙ mine.seated) ∙ set_there vs me v drawer at;
+                  holds = inl (
+                    l,
+                    refl,
+                    (let y = noted (length (v.seen ++ zs)) in (y.0, in_right y.0 v.finds (fs (length (v.seen ++ zs))) y.1, y.2)),
+                  );
+                }),
           ))
           (λ ne.
           let low : j < d = omega arith in
@@ -382,7 +382,7 @@ module _ (z : Shape) (me : ℕ) (v : View) (l : v.live ≡ true) (lone : v.met �
             mark = y.mark;
             fresh = λ q. elim (same_caller (next_of r.memory.terms x) c) [
               | yes e ↦ absurd (let e' : x ≡ n = ap (λ (y : Caller). y.number) e in
-                let zero : number_bit r.memory.numbers x ≡ 0 = ap (number_bit r.memory.numbers) e' ∙ its.0.loose.bit in omega arith)
+                  let zero : number_bit r.memory.numbers x ≡ 0 = ap (number_bit r.memory.numbers) e' ∙ its.0.loose.bit in omega arith)
               | no ne ↦ y.fresh (back (next_of r.memory.terms x) ne q)
             ];
           };
@@ -420,8 +420,10 @@ module _ (z : Shape) (me : ℕ) (v : View) (l : v.live ≡ true) (lone : v.met �
       looked = λ j y at'. ⊎_elim
           (λ (e : (j ≡ me) × (drawer ≡ y)). subst (IsLooked z m1 o1 (set vs me drawer)) e.1
           (looked_now drawer (looked_told z r.memory r.owners vs v (part_of (number_drawn c) false) zs [] fs refl refl refl
-          (λ f i. ((λ q. absurd (let u : true ≡ false = sym q ∙ idle (length (v.seen ++ zs)) f i in cc)),
-          none_looked z r.memory r.owners vs v.gathered f (idle (length (v.seen ++ zs)) f i))) (r.looked me v at))))
+          (λ f i. (
+            (λ q. absurd (let u : true ≡ false = sym q ∙ idle (length (v.seen ++ zs)) f i in cc)),
+            none_looked z r.memory r.owners vs v.gathered f (idle (length (v.seen ++ zs)) f i),
+          )) (r.looked me v at))))
           (λ (e : (j ≢ me) × (get_elem? vs j ≡ some y)). looked_now y (r.looked j y e.1))
           (at_set vs me j drawer y at');
     }

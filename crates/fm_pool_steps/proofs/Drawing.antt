@@ -140,12 +140,13 @@ module _ (z : Shape) (me : ℕ) (v : View) (l : v.live ≡ true) (lone : v.met �
         looked = λ j y at'. ⊎_elim
             (λ (e : (j ≡ me) × (w ≡ y)). subst (IsLooked z r.memory r.owners (set vs me w)) e.1
             (looked_now w (looked_told z r.memory r.owners vs v (part_of x wh) zs [] fs refl refl refl
-            (λ f i. ((λ q. absurd (let u : true ≡ false = sym q ∙ idle (length (v.seen ++ zs)) f i in cc)),
-            none_looked z r.memory r.owners vs v.gathered f (idle (length (v.seen ++ zs)) f i))) (r.looked me v at))))
+            (λ f i. (
+              (λ q. absurd (let u : true ≡ false = sym q ∙ idle (length (v.seen ++ zs)) f i in cc)),
+              none_looked z r.memory r.owners vs v.gathered f (idle (length (v.seen ++ zs)) f i),
+            )) (r.looked me v at))))
             (λ (e : (j ≢ me) × (get_elem? vs j ≡ some y)). looked_now y (r.looked j y e.1))
             (at_set vs me j w y at');
       }
-
     where
       wants_on : (before : List Gathered) → ((g : Gathered) → In g before → WasDrawn r.memory.draw r.owners.who r.owners.rank g.caller) → (n : ℕ)
           → Somewhere vs (r.owners.number n) (WantsNumber n) → IsUsed r.memory r.owners (set vs me (looker x wh fs)) before n
@@ -326,8 +327,8 @@ draw_steps z me v expected l lone (can_draw n k learnt) = record {
 }
 draw_steps z me v expected l lone (can_look none zero) = subst
     (λ (e : ℕ). MayStep z (Draws e) me v (place_at z draw_place) (λ n. either (n == e) (draw_next e) n)) (sym zero) (record {
-  may = λ ws vs r at.
-      let x : ℕ = get_or ws (place_at z draw_place) 0 in
-      let g = looks z me v l lone ws vs r at none (x == 0) refl in
-      (g.0, g.1, record { gives = g.2; learns = learns_count z me v l lone ws vs r at });
-})
+      may = λ ws vs r at.
+          let x : ℕ = get_or ws (place_at z draw_place) 0 in
+          let g = looks z me v l lone ws vs r at none (x == 0) refl in
+          (g.0, g.1, record { gives = g.2; learns = learns_count z me v l lone ws vs r at });
+    })

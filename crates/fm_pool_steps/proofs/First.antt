@@ -259,8 +259,15 @@ first_rule z ws f valid shows bits = record {
         let e : n ≡ 0 = ap (λ (x : Caller). x.number) (only_drawn (record { number = n; term = 0 }) q) in
         let one : number_bit f 0 ≡ 1 = ap (number_bit f) (sym e) ∙ b in let zero = bits.taken in omega arith;
   };
-  numbers = λ n low b. inl (record { view = first_view z; there = refl; holds = (refl, inl (dite (ℕ_discrete n 0) (λ e. sym e) (λ ne.
-      let one = bits.free n ne low in absurd (let zero : number_bit f n ≡ 0 = b in omega arith)))) });
+  numbers = λ n low b. inl (record {
+    view = first_view z;
+    there = refl;
+    holds = (
+      refl,
+      inl (dite (ℕ_discrete n 0) (λ e. sym e) (λ ne.
+          let one = bits.free n ne low in absurd (let zero : number_bit f n ≡ 0 = b in omega arith))),
+    );
+  });
   drawers = λ n a b. absurd (omega arith);
   closed = λ a e. absurd (cc);
   swept = λ a e. absurd (cc);

@@ -256,10 +256,10 @@ module _ (z : Shape) (ws : List ℕ) (vs : List View) (r : Rule z ws vs) (id : �
       with_owners z ws vs us r f g
       (λ c h. elim (same_caller c d) [
         | yes e ↦ record {
-            view = right;
-            there = ap (get_elem? us) (ap f e ∙ by_here r.owners.seat d last) ∙ at_last (set vs id left) right;
-            holds = inl (refl, caller_is ∙ sym e);
-          }
+          view = right;
+          there = ap (get_elem? us) (ap f e ∙ by_here r.owners.seat d last) ∙ at_last (set vs id left) right;
+          holds = inl (refl, caller_is ∙ sym e);
+        }
         | no ne ↦ subst (λ (i : ℕ). Somewhere us i (KeepsCaller c)) (sym (by_else r.owners.seat d last c ne))
             (on_left (r.owners.seat c) (KeepsCaller c) (caller_on c ne) (r.callers c h))
       ])

@@ -211,11 +211,11 @@ module _ (z : Shape) (me : ℕ) (v : View) (l : v.live ≡ true) (ws : List ℕ)
     looks f (inl q) = (
       (λ i. ap (λ (x : Find). x.gathered) q),
       (λ i h.
-      let zero : r.memory.numbers g ≡ 0 = sym is_found ∙ (ap (λ (x : Find). x.found) (sym q) ∙ h) in
-      record {
-        drawn = λ x j. (mine.gathered x j).drawn;
-        all = λ k of below. is_used zero k (of ∙ ap (λ (x : Find). group_of x.step) q) below;
-      }),
+          let zero : r.memory.numbers g ≡ 0 = sym is_found ∙ (ap (λ (x : Find). x.found) (sym q) ∙ h) in
+          record {
+            drawn = λ x j. (mine.gathered x j).drawn;
+            all = λ k of below. is_used zero k (of ∙ ap (λ (x : Find). group_of x.step) q) below;
+          }),
     )
 
     -- nothing is taken

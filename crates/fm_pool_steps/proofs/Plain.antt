@@ -169,10 +169,13 @@ module _ (z : Shape) (ws : List ℕ) (vs : List View) (r : Rule z ws vs) (me : �
           owner n,
           terms n,
           d.marks n ne,
-          (λ (y : KeepsNumber n v). (s.live ∙ y.0, ⊎_elim
-          (λ (q : v.caller.number ≡ n). inl (ap (λ (x : Caller). x.number) s.caller ∙ q))
-          (λ (q : HasNumberIn n v.number). inr (subst (HasNumberIn n) (sym hand) q))
-          y.1)),
+          (λ (y : KeepsNumber n v). (
+            s.live ∙ y.0,
+            ⊎_elim
+                (λ (q : v.caller.number ≡ n). inl (ap (λ (x : Caller). x.number) s.caller ∙ q))
+                (λ (q : HasNumberIn n v.number). inr (subst (HasNumberIn n) (sym hand) q))
+                y.1,
+          )),
         ))
       ];
       freed = λ n b.
@@ -184,8 +187,14 @@ module _ (z : Shape) (ws : List ℕ) (vs : List View) (r : Rule z ws vs) (me : �
         terms = λ n. (let e = terms n in omega arith);
         last = λ n. (let e = terms n in let y = r.last n in omega arith);
       };
-      wants = λ n h. ((s.live ∙ l, ⊎_elim (λ (e : v.number ≡ number_taken n). inl (hand ∙ e))
-          (λ (e : (t : ℕ) × (v.number ≡ number_learnt n t)). inr (e.0, hand ∙ e.1)) h.1), owner n);
+      wants = λ n h. (
+        (
+          s.live ∙ l,
+          ⊎_elim (λ (e : v.number ≡ number_taken n). inl (hand ∙ e))
+              (λ (e : (t : ℕ) × (v.number ≡ number_learnt n t)). inr (e.0, hand ∙ e.1)) h.1,
+        ),
+        owner n,
+      );
     }
 
     loose_stays : (n : ℕ) → n ≢ v.caller.number → IsLoose z r.memory r.owners me n → IsLoose z m' o' me n
@@ -215,7 +224,7 @@ module _ (z : Shape) (ws : List ℕ) (vs : List View) (r : Rule z ws vs) (me : �
     hand_stays (number_left n) ne y = (
       next_stays n (ne n refl) y.0,
       ⊎_elim (λ (e : r.memory.draw ≡ most_draws). inl (d.draw ∙ e)) (λ (q : (g : Gathered) × In g (all_gathered v) × (g.caller.number ≡ n)).
-      inr (q.0, subst (In q.0) (sym same_all) q.1, q.2)) y.1,
+          inr (q.0, subst (In q.0) (sym same_all) q.1, q.2)) y.1,
     )
     hand_stays (number_joined c) ne y = record {
       loose = loose_stays c.number (ne c.number refl) y.loose;
@@ -230,6 +239,7 @@ module _ (z : Shape) (ws : List ℕ) (vs : List View) (r : Rule z ws vs) (me : �
       not_own = λ n i e. own.not_own n (subst (HasNumberIn n) hand i) (e ∙ ap (λ (x : Caller). x.number) s.caller);
       stays = λ c e. hand ∙ e;
     }
+
   module _ (es : List Entry) (m' : Memory) (p : View) where
     -- what a step that leaves closes and slots may do to others
     pub plain_moved : MayMake (limit_of z) r.machine v.caller es → ((b : ArenaId) → NoEnd es b)

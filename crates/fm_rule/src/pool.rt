@@ -68,7 +68,11 @@ fn first_numbers(shape: Shape, group: u32) -> u64
     ensures { AreFirst shape group result }
 {
     let numbers = ones((shape.passes - 64 * group).min(64));
-    if group == 0 { without_bit(numbers, 0) } else { numbers }
+    if group == 0 {
+        without_bit(numbers, 0)
+    } else {
+        numbers
+    }
 }
 
 impl Pool {

@@ -130,7 +130,10 @@ fn every_number_but_the_first_is_free(rt: HostRuntime) {
         let (pool, _) = Pool::make(rt.alloc(), shape).expect(&rt, "words");
         let first_at = shape.number_bits_place(0);
         let last_at = shape.number_bits_place(shape.groups() - 1);
-        assert_eq!(rt; (word_at(&pool, first_at), word_at(&pool, last_at)), (Some(word), Some(last)));
+        assert_eq!(rt;
+            (word_at(&pool, first_at), word_at(&pool, last_at)),
+            (Some(word), Some(last))
+        );
     }
 }
 

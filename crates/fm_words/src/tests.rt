@@ -210,7 +210,15 @@ fn words_of_each_kind_lie_one_after_another(rt: HostRuntime) {
 
 #[test]
 fn number_bits_fill_words_of_64(rt: HostRuntime) {
-    for (passes, groups) in [(1, 1), (63, 1), (64, 1), (65, 2), (128, 2), (129, 3), (4_096, 64)] {
+    for (passes, groups) in [
+        (1, 1),
+        (63, 1),
+        (64, 1),
+        (65, 2),
+        (128, 2),
+        (129, 3),
+        (4_096, 64),
+    ] {
         let shape = Shape { passes, ..SMALL };
         assert!(rt; shape.is_valid());
         assert_eq!(rt; shape.groups(), groups);

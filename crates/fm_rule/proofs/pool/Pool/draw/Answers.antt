@@ -16,5 +16,8 @@ pub returns-in_err-count_draw-clause-no_pass : goal.returns-in_err-count_draw-cl
 returns-in_err-count_draw-clause-no_pass g c =
     let p = err_from_is_err_and c.from_residual-in_err-count_draw.result c.from_residual-in_err-count_draw.ensures.1 in
     let y = c.in_err-count_draw.ensures.no_pass in
-    rw (p.1, p.2) (y.0, none_after c.args.self.now c.args.giver.now c.step_learn_term-term.new.pass c.count_draw.new.giver _ c.requires.of
-    (learnt_then _ _ _ _ _ _ c.in_ok-number.ensures.takes c.step_learn_term-term.ensures.stepped) y.1)
+    rw (p.1, p.2) (
+      y.0,
+      none_after c.args.self.now c.args.giver.now c.step_learn_term-term.new.pass c.count_draw.new.giver _ c.requires.of
+          (learnt_then _ _ _ _ _ _ c.in_ok-number.ensures.takes c.step_learn_term-term.ensures.stepped) y.1,
+    )
