@@ -56,9 +56,9 @@ pub(crate) fn paged<R: Abort + AllocGlobal>(
     requires some_slots { 0 < slots }
     requires few_slots { slots < 65 }
     requires some_pages { 0 < pages }
-    requires few_pages { pages < 65 }
+    requires few_pages { pages ≤ 4096 }
     requires some_words { 0 < page_words }
-    requires few_words { page_words ≤ 8192 }
+    requires few_words { page_words ≤ 4096 }
     requires some_generations { 0 < generations }
     ensures { CanShare result.0 result.1 }
 {
