@@ -23,7 +23,7 @@ use Rattle.fm_calls.specs.Kept.{Goes, Kept, rest_of}
 use Rattle.fm_calls.specs.Told.{view_of_pass}
 use Rattle.fm_calls.proofs.Telling.{did_of}
 use Rattle.fm_gate.specs.Learnt as gate
-use Rattle.fm_gate.proofs.Empty.{one_empty}
+use Rattle.fm_gate.proofs.Scarce.{one_empty}
 use Rattle.fm_close.specs.Learnt as closing
 use Rattle.fm_arena.specs.Shares.{nature_of_shared}
 

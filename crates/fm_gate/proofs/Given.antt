@@ -16,10 +16,10 @@ use Rattle.fm_pool_facts.proofs.Keeping.{in_append}
 use Rattle.fm_rule.specs.declared.pool.Pool.{Pool}
 use Rattle.fm_pages.specs.Gives.{Unpaged}
 use Rattle.fm_pages.specs.Maps.{Way}
+use Rattle.fm_pages.proofs.Looking.{all_earlier}
 use Rattle.fm_pages.proofs.Parts.{way_then, pages_way}
 use Rattle.fm_gate.specs.Giving.{NonePaged, AfterGive}
 use Rattle.fm_gate.specs.Pages.{IsInRange, LendsInRange, given_after}
-use Rattle.fm_gate.proofs.Empty.{all_since}
 use Rattle.fm_gate.proofs.Gives.{Giving, count_is, inside_on, rest_on, lends_for, lent_way, lends_to, more_lent}
 use Rattle.fm_gate.proofs.Scarce.{scarce_seen, clear}
 
@@ -131,7 +131,7 @@ module _ {pool : Pool} {o p : View} {a : ArenaId} {size align count found : ℕ}
     none_paged =
         let x = u.lacks.none in
         record {
-          found = all_since before.goes x.found;
+          found = all_earlier before.goes x.found;
           counted = p.seen;
           count_stood = record { since = (before.goes.more, before.goes.seen); until = (u.way.goes.more, u.way.goes.seen) };
           part = u.lacks.part;

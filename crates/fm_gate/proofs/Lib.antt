@@ -6,7 +6,6 @@ pub mod Opens
 pub mod Tries
 pub mod Scarce
 pub mod Readings
-pub mod Empty
 pub mod Gives
 pub mod Given
 pub mod Allocations

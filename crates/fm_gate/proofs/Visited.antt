@@ -25,11 +25,11 @@ use Rattle.fm_calls.specs.Told.{view_of_pass}
 use Rattle.fm_calls.proofs.Going.{goes_then, lasts_on}
 use Rattle.fm_calls.proofs.Sweeps.{no_sweeps}
 use Rattle.fm_calls.proofs.Telling.{did_of}
+use Rattle.fm_pages.proofs.Looking.{all_earlier, found_later}
 use Rattle.fm_gate.specs.Giving.{AfterGive, DoesGive, NonePaged}
 use Rattle.fm_gate.specs.Learnt.{AfterEnter, AfterLeave, AfterAllocate}
 use Rattle.fm_gate.specs.Pages.{FoundNoPage, IsDuring, IsInRange, LendsInRange, given_after}
 use Rattle.fm_gate.proofs.Allocations.{alike, exact_by, never_so, unlike}
-use Rattle.fm_gate.proofs.Empty.{all_since, all_until}
 
 -- ---- no page was free
 
@@ -57,7 +57,7 @@ module _ {p q : View} {a : ArenaId} (first : Goes p q (entry_of p.caller (Enter 
   found_no_page {r = r} {s = s} {size = size} {align = align} between last x =
       let same : q.caller ≡ p.caller = first.same_caller in
       record {
-        found = all_until last (all_since first x.found);
+        found = λ g low. found_later (all_earlier first x.found g low) last;
         lacked = record {
           counted = x.counted;
           count_stood = during_on first last x.count_stood;

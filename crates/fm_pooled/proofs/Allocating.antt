@@ -13,7 +13,7 @@ use Rattle.fm_calls.specs.Told.{view_of_pass}
 use Rattle.fm_calls.proofs.Sweeps.{no_sweeps}
 use Rattle.fm_calls.proofs.Telling.{did_of}
 use Rattle.fm_gate.specs.Learnt.{AfterAllocate}
-use Rattle.fm_gate.proofs.Empty.{one_empty}
+use Rattle.fm_gate.proofs.Scarce.{one_empty}
 use Rattle.fm_load.specs.Held.{HoldsThen, IsEmpty, OnlyIn, Wants, words_at}
 use Rattle.fm_load.proofs.Holding.{allocated_held, allocated_only, refusal_wants}
 use Rattle.fm_pool_facts.specs.Loans.{lent}
