@@ -109,19 +109,20 @@ fn two_passes_want_pages_at_once(rt: HostRuntime) {
     }
 }
 
-/// What a close is answered while another pass gives words of the arena. Another arena has all pages then.
+/// What a close is answered while another pass gives words of the arena. Another arena has all pages then, whose bits stand
+/// in two words.
 fn closed_amid_giving<R: Abort + AllocGlobal + Threads + Wait + Sync>(
     rt: &R,
 ) -> Result<(), Refusal> {
-    let (pool, mut pass) = paged(rt, 2, 64, 1, 1);
+    let (pool, mut pass) = paged(rt, 2, 100, 1, 1);
     let a = open_arena(rt, &pool, &mut pass, Kind::Shared).expect(rt, "a slot");
     let mut other = drawn(rt, &pool, &mut pass);
     let (closed, _) = join_mut(
         rt,
         &mut || close(rt, &pool, &mut pass, a),
-        &mut || give_often(rt, &pool, &mut other, a, 8, 64),
+        &mut || give_often(rt, &pool, &mut other, a, 8, 100),
     );
-    given(rt, &pool, &mut other, Kind::Shared, 512);
+    given(rt, &pool, &mut other, Kind::Shared, 800);
     closed
 }
 
