@@ -1,5 +1,5 @@
 -- What claiming a page and giving one back does to a pass.
-use Rattle.std.specs.Prelude.{◌≡◌, ◌<◌, ◌≤◌, ℕ, true, List, [], ◌∷◌, length, Result, Ok, Err}
+use Rattle.std.specs.Prelude.{◌≡◌, ◌<◌, ◌≤◌, ℕ, Bool, true, false, List, [], ◌∷◌, length, Result, Ok, Err}
 use Rattle.fm_base.specs.declared.refusal.Refusal.{Refusal}
 use Rattle.fm_base.specs.declared.refusal.Refusal.TheVariants as refusal
 use Rattle.fm_base.specs.Finds.{FoundNothing, is_page, group_of}
@@ -40,6 +40,16 @@ pub record NoneClaimed (old new : View) : Type 0 where
   pub found : AllFoundEmpty old new
   -- where the pass was clear, all pages are lent
   pub all_lent : is_clear old ≡ true → unlent new.shape.pages (lent new.seen) ≡ 0
+
+-- of one try: it claimed the page, or none
+abbrev pub TryOutcome : View → View → ℕ → Bool → Type 0
+TryOutcome old new page true = PageClaimed old new page
+TryOutcome old new page false = Went old new []
+
+-- of a look at each word of page bits: all were found 0, or not
+abbrev pub LookOutcome : View → View → Bool → Type 0
+LookOutcome old new true = NoneClaimed old new
+LookOutcome old new false = Went old new []
 
 -- of `claim`
 abbrev pub ClaimOutcome : View → View → Result Page Refusal → Type 0
