@@ -41,6 +41,13 @@ crew_refused Does old new tasks done NoPass w whole enough = elim (w.wanting who
 crew_refused Does old new tasks done Memory w whole enough = refl
 crew_refused Does old new tasks done r w whole enough = absurd w.ends
 
+-- And then no task was begun.
+pub crew_unbegun : {T : Type 0} (Does : View → T → T → List Entry → Type 0) (old new : View) (tasks done : List T) (r : Refusal)
+    → CrewWorked Does old new tasks done (Err r) → done ≡ tasks
+crew_unbegun Does old new tasks done NoPass w = w.ends.3
+crew_unbegun Does old new tasks done Memory w = w.ends.3
+crew_unbegun Does old new tasks done r w = absurd w.ends
+
 lasts_of : (p q : View) → Lasts p q → q.shape ≡ p.shape → q.caller ≡ p.caller → memory.Lasts (view_of_pass p) (view_of_pass q)
 lasts_of p q l shape caller = record { known = l.known; given = l.given; limit = ap limit_of shape; caller = caller }
 

@@ -1,5 +1,5 @@
 -- What all lines of a script did, pass by pass, and which scripts are run.
-use Rattle.std.specs.Prelude.{◌≡◌, ℕ, ◌+◌, ◌≤◌, List, [], ◌++◌, length, map, None, Ok}
+use Rattle.std.specs.Prelude.{◌≡◌, ◌⊎◌, ℕ, ◌+◌, ◌≤◌, List, [], ◌++◌, length, map, None, Ok}
 use Rattle.std.specs.List.{AllByRecursion, flat_map}
 use Rattle.fm_base.specs.declared.caller.Caller.{Caller}
 use Rattle.fm_base.specs.Arenas.{only_caller}
@@ -59,6 +59,10 @@ names_lent ps = flat_map (λ p. map standing_as p.lent.items) ps
 -- no worker's lines were cut off
 abbrev pub AllPlayed : List Player → Type 0
 AllPlayed ps = AllByRecursion (λ p. p.refusal ≡ None) ps
+
+-- no worker began, or the lines of one were cut off
+abbrev pub IsCutOff : (tasks players : List Player) → Type 0
+IsCutOff tasks players = (players ≡ tasks) ⊎ ¬ (AllPlayed players)
 
 -- the workers have played, each as a pass of its own
 pub record Worked (w : Playing) (old new : View) (tasks players : List Player) : Type 0 where

@@ -8,6 +8,7 @@ pub mod ByRuns
 pub mod Numbers
 pub mod Covered
 pub mod Drawing
+pub mod FewCounted
 pub mod Gathering
 pub mod Queried
 pub mod Orders

@@ -21,9 +21,9 @@ use Rattle.fm_records.specs.declared.found.Found.{Found}
 use Rattle.fm_records.specs.Few.{AreFew}
 use Rattle.fm_workers.specs.Crew.{AreTooMany, CrewWorked, by_caller, callers}
 use Rattle.fm_workers.specs.Parts.{Asked, AreLevel, AreRuns, Answers, ComesTo, IsCut, bytes_in, least_in}
-use Rattle.fm_workers.specs.Query.{OnlyReads, AnsweredBy, FoundClosed, IsOpenToAll, EndsQuery, QueriedWith}
+use Rattle.fm_workers.specs.Query.{OnlyReads, AnsweredBy, FoundClosed, HasAnswered, IsOpenToAll, EndsQuery, QueriedWith, WantedMemory}
 use Rattle.fm_workers.proofs.Callers.{AreDoneBy, worked_by_callers}
-use Rattle.fm_workers.proofs.Asked.{bytes_of_runs, count_done, crew_reads, crew_stopped, idle_reads}
+use Rattle.fm_workers.proofs.Asked.{HaveStopped, bytes_of_runs, count_done, crew_reads, crew_stopped, idle_reads}
 use Rattle.fm_workers.proofs.Working.{nobody, lasts_none}
 use Rattle.fm_workers.proofs.Sharing.{answered_runs, whole_piece}
 use Rattle.fm_workers.proofs.Sparing.{is_answer}
@@ -83,12 +83,12 @@ queried_refused {old = old} {s = s} NoPass w count shared known = record {
   sound = tt;
   still_sound = w.still_sound;
 }
-queried_refused {s = s} Memory w count shared known = record {
+queried_refused {p = p} {s = s} Memory w count shared known = record {
   crew = w.crew;
   one_each = (let e : length w.crew.crew ≡ 0 = ap (λ (gs : List Gathered). length gs) w.ends.1 in omega (arith, e));
   one_less = λ e. absurd (cc);
   visits = subst (λ (gs : List Gathered). AllByRecursion (λ c. OnlyReads s c (made_by c w.crew.more)) (callers gs)) (sym w.ends.1) tt;
-  ends = shared;
+  ends = (shared, inr (subst (λ (gs : List Gathered). AllByRecursion (HasAnswered p s w.crew.more) (callers gs)) (sym w.ends.1) tt));
   value = tt;
   answer = tt;
   few = tt;
@@ -112,12 +112,12 @@ module _ {old new : View} {p : Plan} {s : Region} {threads : ℕ} {ts us : List 
   visits : AllByRecursion (λ c. OnlyReads s c (made_by c w.crew.more)) (callers w.crew.crew)
   visits = crew_reads p s 0 (s.size / p.size) w.crew.more (callers w.crew.crew) ts us (omega arith) done cut
 
-  never_wanting : (e : Refusal) → (e ≡ Memory) ⊎ ((e ≡ Closed) × FoundClosed s (callers w.crew.crew) w.crew.more) → ¬ (e ≡ NoPass)
-  never_wanting e (inl m) q = let other : Memory ≡ NoPass = sym m ∙ q in absurd (cc)
+  never_wanting : (e : Refusal) → HaveStopped p s (callers w.crew.crew) w.crew.more e → ¬ (e ≡ NoPass)
+  never_wanting e (inl m) q = let other : Memory ≡ NoPass = sym m.0 ∙ q in absurd (cc)
   never_wanting e (inr f) q = let other : Closed ≡ NoPass = sym f.0 ∙ q in absurd (cc)
 
   -- An answer is wanting for want of memory, or since the arena was found closed.
-  stopped : (e : Refusal) → ComesTo p us (Err e) → (e ≡ Memory) ⊎ ((e ≡ Closed) × FoundClosed s (callers w.crew.crew) w.crew.more)
+  stopped : (e : Refusal) → ComesTo p us (Err e) → HaveStopped p s (callers w.crew.crew) w.crew.more e
   stopped e comes =
       crew_stopped p s 0 (s.size / p.size) w.crew.more (callers w.crew.crew) ts us e (omega arith) (λ c is. absurd (shared.shared is)) done cut comes
 
@@ -130,8 +130,9 @@ module _ {old new : View} {p : Plan} {s : Region} {threads : ℕ} {ts us : List 
     one_less = λ q. let is : e ≡ NoPass = cc in absurd (never_wanting e (stopped e comes) is);
     visits = visits;
     ends = ⊎_elim
-        (λ (m : e ≡ Memory). subst (λ (x : Refusal). EndsQuery (least_in p s threads) old new p s w.crew.more w.crew.crew w.crew.draws (Err x)) (sym m) shared)
-        (λ (f : (e ≡ Closed) × FoundClosed s (callers w.crew.crew) w.crew.more).
+        (λ (m : (e ≡ Memory) × WantedMemory p s (callers w.crew.crew) w.crew.more).
+        subst (λ (x : Refusal). EndsQuery (least_in p s threads) old new p s w.crew.more w.crew.crew w.crew.draws (Err x)) (sym m.0) (shared, m.1))
+        (λ (f : (e ≡ Closed) × FoundClosed p s (callers w.crew.crew) w.crew.more).
         subst (λ (x : Refusal). EndsQuery (least_in p s threads) old new p s w.crew.more w.crew.crew w.crew.draws (Err x)) (sym f.0) (shared, f.1))
         (stopped e comes);
     value = tt;

@@ -1,5 +1,5 @@
 -- What a tally by a crew comes to.
-use Rattle.std.proofs.Common.{◌≡◌, ◌≢◌, ℕ, ◌/◌, ◌%◌, ◌^◌, ◌<◌, List, [], ◌∷◌, length, slice_index, refl, sym, ap, ◌∙◌, subst, arith, inl, inr, ⊎_elim, Result, Ok, Err}
+use Rattle.std.proofs.Common.{◌≡◌, ◌≢◌, ℕ, ◌/◌, ◌%◌, ◌^◌, ◌<◌, ◌≤◌, List, [], ◌∷◌, length, slice_index, refl, sym, ap, ◌∙◌, subst, arith, inl, inr, ⊎_elim, Result, Ok, Err}
 use Rattle.std.specs.Prelude.{◌⊎◌, ⊤}
 use Rattle.std.specs.List.{AllByRecursion}
 use Rattle.fm_lists.specs.Among.{IsAmong}
@@ -133,7 +133,7 @@ tallied_refused {w = k} {s = s} Memory w count can known counts_known = record {
   one_each = (let e : length w.crew.crew ≡ 0 = ap (λ (gs : List Gathered). length gs) w.ends.1 in omega (arith, e));
   one_less = λ e. absurd (cc);
   visits = subst (λ (gs : List Gathered). AllByRecursion (λ c. OnlyTallies s k.counts c (made_by c w.crew.more)) (callers gs)) (sym w.ends.1) tt;
-  ends = can;
+  ends = (can, inr (ap callers w.ends.1));
   value = tt;
   read = tt;
   held = tt;
@@ -150,7 +150,7 @@ module _ {old new : View} {k : Tallying} {s : Region} {threads : ℕ} {ts us : L
     (w : CrewWorked (by_caller (Tallies k)) old new ts us (Ok u)) (plan : IsPlan k.plan) (cut : IsCut k.plan s ts)
     (level : AreLevel k.plan (least_in k.plan s threads) ts) (count : length ts ≡ threads)
     (can : CanBeTallied k.plan s k.counts) (longs : HasCounts k.counts) (other : k.counts.arena ≢ s.arena)
-    (known : IsKnown (view_of_pass old) s) (counts_known : IsKnown (view_of_pass old) k.counts) where
+    (known : IsKnown (view_of_pass old) s) (counts_known : IsKnown (view_of_pass old) k.counts) (small : s.size ≤ 2 ^ 40) where
   done : AreDoneBy (Tallies k) w.crew.more (callers w.crew.crew) ts us
   done = worked_by_callers (Tallies k) w
 
@@ -208,19 +208,19 @@ module _ {old new : View} {k : Tallying} {s : Region} {threads : ℕ} {ts us : L
       let fits = total_fits us ns i below sums in
       ap (λ x. word_in x k.counts.arena (count_word k.counts i)) r.state ∙ omega (arith, zero_there, now, all, sum, fits)
 
-  stop_not : (e : Refusal) → IsStop e s k.counts (callers w.crew.crew) w.crew.more → ¬ (e ≡ NoPass)
-  stop_not e (inl m) q = let apart : Memory ≡ NoPass = sym m ∙ q in absurd (cc)
+  stop_not : (e : Refusal) → IsStop e k.plan s k.counts (callers w.crew.crew) w.crew.more → ¬ (e ≡ NoPass)
+  stop_not e (inl m) q = let apart : Memory ≡ NoPass = sym m.0 ∙ q in absurd (cc)
   stop_not e (inr f) q = let apart : Closed ≡ NoPass = sym f.0 ∙ q in absurd (cc)
 
-  stop_ends : (e : Refusal) → IsStop e s k.counts (callers w.crew.crew) w.crew.more
+  stop_ends : (e : Refusal) → IsStop e k.plan s k.counts (callers w.crew.crew) w.crew.more
       → EndsTally (least_in k.plan s threads) old new k.plan s k.counts w.crew.more w.crew.crew w.crew.draws (Err e)
   stop_ends e (inl m) =
-      subst (λ (x : Refusal). EndsTally (least_in k.plan s threads) old new k.plan s k.counts w.crew.more w.crew.crew w.crew.draws (Err x)) (sym m) can
+      subst (λ (x : Refusal). EndsTally (least_in k.plan s threads) old new k.plan s k.counts w.crew.more w.crew.crew w.crew.draws (Err x)) (sym m.0) (can, m.1)
   stop_ends e (inr f) =
       subst (λ (x : Refusal). EndsTally (least_in k.plan s threads) old new k.plan s k.counts w.crew.more w.crew.crew w.crew.draws (Err x)) (sym f.0) (can, f.1)
 
-  stopped : (e : Refusal) → SumsTo us (Err e) → IsStop e s k.counts (callers w.crew.crew) w.crew.more
-  stopped e sums = crew_stops k s 0 (s.size / k.plan.size) w.crew.more (callers w.crew.crew) ts us e (omega arith) done cut sums
+  stopped : (e : Refusal) → SumsTo us (Err e) → IsStop e k.plan s k.counts (callers w.crew.crew) w.crew.more
+  stopped e sums = crew_stops k s w.crew.more plan can.tally small 0 (s.size / k.plan.size) (callers w.crew.crew) ts us e (omega arith) done cut sums
 
   -- All were asked.
   pub tallied : (r : Result (List ℕ) Refusal) → SumsTo us r → TalliedWith threads old new k.plan s k.counts r

@@ -1,9 +1,10 @@
 -- What workers play is lent to their threads. What a `&` to it holds doesn't depend on how its lifetime is called.
 use denote.RattleType.{RattleType}
+use Rattle.std.proofs.Common.{inl}
 use denote.Ref.{NamedLft}
 use denote.Signature.{static_lft}
 use denote.Param.Send.{IsSync, param_sync}
-use Rattle.fm_play.proofs.Crewed.{crew_refused}
+use Rattle.fm_play.proofs.Crewed.{crew_refused, crew_unbegun}
 use Rattle.fm_play.proofs.Sharing.{lines_sync}
 use Rattle.fm_play.proofs.over.work_players.Goals as goal
 use Rattle.fm_play.proofs.over.work_players.Lts as lts
@@ -19,3 +20,8 @@ pub returns-in-Err-clause-memory : goal.returns-in-Err-clause-memory
 returns-in-Err-clause-memory g c =
     crew_refused _ c.args.pass.now c.work_crew.new.pass c.args.players.now.items c.work_crew.new.tasks.items c.in-Err.refusal c.in-Err.ensures.worked
     c.requires.whole c.requires.enough
+
+pub returns-in-Err-clause-cut : goal.returns-in-Err-clause-cut
+returns-in-Err-clause-cut g c =
+    inl (crew_unbegun _ c.args.pass.now c.work_crew.new.pass c.args.players.now.items c.work_crew.new.tasks.items c.in-Err.refusal
+    c.in-Err.ensures.worked)
