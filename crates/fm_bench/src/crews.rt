@@ -19,6 +19,9 @@ pub struct Worker {
     pub pass: Pass,
     pub visits: u64,
     pub last: u64,
+    /// Workers stand in one list, and each visit stores in its worker: 128 bytes of nothing keep the next one off its
+    /// cache lines.
+    pub gap: [u64; 16],
 }
 
 /// A pool of so many passes, with two arenas of eight words.
@@ -78,11 +81,12 @@ pub fn take_in(pool: &Pool, pass: &mut Pass, other: Pass)
 }
 
 /// A pass that knows the arena is drawn.
-fn hire<R: Wait>(rt: &R, pool: &Pool, pass: &mut Pass, a: ArenaId) -> Result<Pass, Refusal>
+pub fn hire<R: Wait>(rt: &R, pool: &Pool, pass: &mut Pass, a: ArenaId) -> Result<Pass, Refusal>
     requires outside { IsOutside pool.now pass.old }
     requires open { IsOpen pass.old 8 a }
     ensures outside { IsOutside pool.now pass.new }
     ensures open { IsOpen pass.new 8 a }
+    ensures nothing { HasNothing pass.old → HasNothing pass.new }
     ensures hired { IfOk result (λ p. CanWork pool.now p a) }
 {
     a_crew_stands();
@@ -130,6 +134,7 @@ pub fn crew_of<R: Wait>(
             pass: hire(rt, pool, pass, a)?,
             visits: 0,
             last: 0,
+            gap: [0; 16],
         };
         pass_over(rt, pool, pass, a, between)?;
         if crew.push(worker).is_err() {

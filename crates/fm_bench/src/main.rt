@@ -10,7 +10,8 @@
 //! segments of 64 MiB.
 //!
 //! `stress ROUNDS` is no benchmark: threads add to a word, and close the arena while others add, and it prints how many
-//! of the rounds came out as they should. `reuse ROUNDS THREADS` is none either: every other thread opens arenas, fills,
+//! of the rounds came out as they should. So does `recruits ROUNDS`, whose threads draw a pass for each addition and gather
+//! it again, while one of them closes the arena. `reuse ROUNDS THREADS` is none either: every other thread opens arenas, fills,
 //! reads and closes them, while the others read in one that is closed in the midst. It prints how often a slot was used,
 //! what was read, what was refused, how many words were wrong, and the seconds that it took.
 //!
@@ -23,6 +24,7 @@ mod gates;
 mod loads;
 mod opens;
 mod ranges;
+mod recruits;
 mod reuse;
 mod stress;
 mod updates;
@@ -34,6 +36,7 @@ use crate::gates::{closes, gates, hops, nexts, spreads};
 use crate::loads::loads;
 use crate::opens::{empties, gives, grows, opens, wipes};
 use crate::ranges::{copies, fills, mismatches};
+use crate::recruits::recruits;
 use crate::reuse::{Count, reuse};
 use crate::stress::stress;
 use crate::updates::{adds, patches, swaps};
@@ -132,6 +135,7 @@ fn run<R: Threads + Wait + Sync>(
         "beside" => crowd(rt, alloc, count, text.parse::<u64>().ok()?, 7).ok(),
         "apart" => crowd(rt, alloc, count, text.parse::<u64>().ok()?, 0).ok(),
         "stress" => stress(rt, alloc, count).ok(),
+        "recruits" => recruits(rt, alloc, count).ok(),
         "known" => known(rt, alloc, count).ok(),
         "gets" => gets(rt, alloc, count, text).ok(),
         "handles" => handles(rt, alloc, count, text).ok(),
