@@ -1,9 +1,8 @@
-ghost use Rattle.std.specs.Prelude.{◌≡◌, ◌<◌, [], None, Some};
+ghost use Rattle.std.specs.Prelude.{◌≡◌, ◌<◌, ◌≤◌, [], None, Some};
 ghost use Rattle.fm_words.specs.Shapes.{IsValid};
 ghost use Rattle.fm_pool_facts.specs.Hands.{learnt, no_number, nothing};
 ghost use Rattle.fm_rule.specs.Passes.{IsOf};
 ghost use Rattle.fm_pages.specs.Claims.{PageClaimed, Went};
-ghost use Rattle.fm_words.specs.Places.{page_groups};
 
 use crate::{Page, claim, free_page, map, place_of, try_at};
 use fm_base::{ArenaId, Kind, Refusal};
@@ -121,9 +120,9 @@ fn found_full<R: Abort + Wait>(rt: &R, pool: &Pool, pass: &mut Pass)
 fn found_empty<R: Abort>(rt: &R, pool: &Pool, pass: &mut Pass, group: u32)
     requires of { IsOf pool.now pass.old }
     requires none { pass.old.pages ≡ [] }
-    requires low { group < page_groups pool.now.shape }
     ensures { Went pass.old pass.new [] }
 {
+    assert!(rt; group < pool.shape().page_groups());
     assert_eq!(rt; step_take_page(pool, pass, group, 0, 0), 0);
 }
 
