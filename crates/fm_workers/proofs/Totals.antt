@@ -24,10 +24,13 @@ pub comes_more : (p : Plan) (t : Asked) (ts : List Asked) (behind r : Result (Li
     → ComesTo p (t ∷ ts) r
 comes_more p t ts behind (Ok a) h j = (j.0, j.1, j.2, subst (λ x. ComesTo p ts x) j.3 h, j.4)
 comes_more p t ts behind (Err e) h (inl q) = inl q
-comes_more p t ts behind (Err e) h (inr q) = inr (q.0, ⊎_elim (λ (b : behind ≡ Err e). subst (λ x. ComesTo p ts x) b h)
-    (λ (m : (e ≡ Memory) × ((y : List Found) × (behind ≡ Ok y))).
-    subst (λ (x : Refusal). ComesTo p ts (Err x)) (sym m.0) (want_of p ts m.1.0 (subst (λ x. ComesTo p ts x) m.1.1 h)))
-    q.1)
+comes_more p t ts behind (Err e) h (inr q) = inr (
+  q.0,
+  ⊎_elim (λ (b : behind ≡ Err e). subst (λ x. ComesTo p ts x) b h)
+      (λ (m : (e ≡ Memory) × ((y : List Found) × (behind ≡ Ok y))).
+      subst (λ (x : Refusal). ComesTo p ts (Err x)) (sym m.0) (want_of p ts m.1.0 (subst (λ x. ComesTo p ts x) m.1.1 h)))
+      q.1,
+)
 
 pub bytes_append : (ts us : List Asked) → bytes_in (ts ++ us) ≡ bytes_in ts + bytes_in us
 bytes_append [] us = omega arith
