@@ -66,7 +66,8 @@ returns-in-Ok-work_crew-clause-tallied g c =
     c.if-not-is_tally.ensures c.size.ensures.size c.record_size.ensures.size c.if-rest-ne0.false c.arena.ensures
     (c.is_confined.ensures.no c.if-is_confined.false) c.arena-2.ensures (c.is_confined-2.ensures.no c.if-is_confined-2.false) in
     tallied {k = record { plan = c.args.q.now; counts = c.args.counts.now }} c.in-Ok-work_crew.ensures.worked c.record_size.ensures.plan c.in-Ok.ensures.cut
-    c.in-Ok.ensures.level c.in-Ok.ensures.count can c.requires.longs c.requires.other c.requires.query.known c.requires.known (let ends = c.size.ensures.ends in omega (arith, ends)) c.total_of.result
+    c.in-Ok.ensures.level c.in-Ok.ensures.count can c.requires.longs c.requires.other c.requires.query.known c.requires.known
+    (let ends = c.size.ensures.ends in omega (arith, ends)) c.total_of.result
     (subst (λ ts. SumsTo ts c.total_of.result) c.as_slice.ensures.value c.total_of.ensures)
 
 pub returns-clause-tallied : goal.returns-clause-tallied
