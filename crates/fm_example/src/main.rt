@@ -5,10 +5,13 @@
 //! of its own each: the first one's pass is gathered, and the second one gets its number again.
 #![tactic(auto)]
 
-ghost use Rattle.std.specs.Prelude.{◌≡◌, IfOk, None, length};
+ghost use Rattle.std.specs.Prelude.{◌≡◌, IfOk, None, [], length};
+ghost use Rattle.fm_base.specs.Learnt.{AfterClose, CanVisit};
 ghost use Rattle.fm_arena.specs.Lasting.{SamePool};
 ghost use Rattle.fm_arena.specs.Shares.{CanShare};
+ghost use Rattle.fm_calls.specs.Told.{view_of_pass};
 ghost use Rattle.fm_gate.specs.Crews.{HasNothing};
+ghost use Rattle.fm_handle.specs.Learnt.{CanPut};
 
 use fm_arena::{Arena, Shared, a_worker_can_be_gathered, keeps_its_pool};
 use fm_base::{Kind, Refusal};
@@ -18,6 +21,7 @@ use fm_lanes::{Value, ValueKind};
 use fm_ljson::layout_from_json;
 use fm_path::{parse_path, resolve};
 use fm_rule::{Pass, Pool};
+use fm_segment::Segment;
 use fm_words::Shape;
 use std::alloc::Global;
 use std::process::ExitCode;
@@ -139,12 +143,52 @@ fn share<R: Threads + Wait + Sync>(
     price.set(rt, ours, &sale, 0, &[], Value::Long(250))?;
     let put = price.get(ours, &sale, 0, &[])?;
     theirs.meet(ours.note());
-    let (added, closed) = join_mut(
-        rt,
-        &mut || price.get_and_add(rt, theirs, &sale, 0, &[], Value::Long(50)),
-        &mut || arena.close(rt, ours),
-    );
+    let (added, closed) = race(rt, price, ours, theirs, arena, &sale, Value::Long(50));
     closed?;
-    let after = price.get(theirs, &sale, 0, &[]);
+    let after = price.get(ours, &sale, 0, &[]);
     Ok(Found { put, added, after })
+}
+
+/// Closes the arena while the worker adds to the price in a thread of its own.
+fn race<R: Threads + Wait + Sync>(
+    rt: &R,
+    price: &VarHandle,
+    ours: &mut Shared,
+    theirs: &mut Shared,
+    arena: Arena,
+    sale: &Segment,
+    more: Value,
+) -> (Result<Value, Refusal>, Result<(), Refusal>)
+    requires can { CanPut (view_of_pass theirs.old) price.now sale.now [] more }
+    requires known { CanVisit (view_of_pass ours.old) arena.id }
+    requires nothing { HasNothing theirs.old }
+    ensures closed { AfterClose (view_of_pass ours.old) (view_of_pass ours.new) arena.id result.1 }
+    ensures outside { theirs.new.inside ≡ None }
+    ensures same { SamePool theirs.old theirs.new }
+    ensures nothing { HasNothing theirs.new }
+{
+    join_mut(
+        rt,
+        &mut || add(rt, price, theirs, sale, more),
+        &mut || arena.close(rt, ours),
+    )
+}
+
+/// The worker's part: it adds to the price, or comes too late.
+fn add<R: Wait>(
+    rt: &R,
+    price: &VarHandle,
+    theirs: &mut Shared,
+    sale: &Segment,
+    more: Value,
+) -> Result<Value, Refusal>
+    requires can { CanPut (view_of_pass theirs.old) price.now sale.now [] more }
+    requires nothing { HasNothing theirs.old }
+    ensures outside { theirs.new.inside ≡ None }
+    ensures same { SamePool theirs.old theirs.new }
+    ensures nothing { HasNothing theirs.new }
+{
+    keeps_its_pool();
+    a_worker_can_be_gathered();
+    price.get_and_add(rt, theirs, sale, 0, &[], more)
 }
