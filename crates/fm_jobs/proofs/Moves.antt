@@ -1,5 +1,5 @@
 -- Each move keeps the rule of the queue.
-use Rattle.std.proofs.Common.{◌≡◌, ◌+◌, ◌-◌, ◌<◌, ◌≤◌, ℕ, zero, suc, List, [], ◌∷◌, ◌++◌, length, set, sym, refl, ap, ◌∙◌, subst, arith}
+use Rattle.std.proofs.Common.{◌≡◌, ◌+◌, ◌<◌, ℕ, zero, suc, List, [], ◌∷◌, ◌++◌, length, set, sym, refl, ap, ◌∙◌, subst, arith}
 use Rattle.std.specs.Prelude.{sum_by}
 use Rattle.std.proofs.lemmas.List.Sums.{sum_by-append, sum_by-cons, sum_by_push}
 use mathlib.Core.Option.{some}
@@ -12,7 +12,7 @@ use Rattle.fm_jobs.specs.declared.item.Item.{Item}
 use Rattle.fm_jobs.specs.declared.item.Item.TheVariants.{Job, Stop}
 use Rattle.fm_jobs.specs.Accounts.{giver, taker, spent, after_push, after_pop, after_turn, after_absorb}
 use Rattle.fm_jobs.specs.Items.{jobs_in, stops_in, AreLined}
-use Rattle.fm_jobs.specs.Rule.{gives, takes, PushedNothing, TookNothing, Fits, Each, Knows, IsFair, AtMostPushed, AddsUp}
+use Rattle.fm_jobs.specs.Rule.{gives, takes, PushedNothing, TookNothing, Fits, Knows, IsFair, AtMostPushed, AddsUp}
 use Rattle.fm_jobs.specs.Turns.{MayFollow}
 use Rattle.fm_jobs.proofs.Items.{jobs_in-job, jobs_in-stop, stops_in-job, stops_in-stop, lined_job, lined_stop, length-items, length-jobs}
 use Rattle.fm_jobs.proofs.Places.{each_set, each_snoc, each_one, at_other}
@@ -115,8 +115,7 @@ pushes_job n place v job role unstopped items turns room fair at =
     let stops = fair.stops in
     let none_left : stops_in items ≡ 0 = omega arith in
     let none_ended : (u : Account) (j : ℕ) → get_elem? turns j ≡ some u → u.ended ≡ 0 = λ u j e.
-        let le = own-le-sum_by (λ y. y.ended) turns j u e in omega arith in
-    (
+    let le = own-le-sum_by (λ y. y.ended) turns j u e in omega arith in (
       w,
       record {
         giver = let s = sum_by-set (λ u. gives u.role) turns place v w at in let g = fair.giver in omega arith;
@@ -145,8 +144,7 @@ pushes_job n place v job role unstopped items turns room fair at =
 -- It pushes a stop.
 pub pushes_stop : (n place : ℕ) (v : Account) → v.role ≡ Giver → Pushes IsFair n place v Stop (λ w. w ≡ after_push v Stop)
 pushes_stop n place v role items turns room fair at =
-    let w = after_push v Stop in
-    (
+    let w = after_push v Stop in (
       w,
       record {
         giver = let s = sum_by-set (λ u. gives u.role) turns place v w at in let g = fair.giver in omega arith;
@@ -232,11 +230,11 @@ takes_stop place v items turns role fair at =
       lined = all_stops items fair.lined;
       done = each_set (Knows items) turns place w (λ ended. fair.lined) (λ j u e ended. fair.lined);
     }
-    where
-      all_stops : (xs : List Item) → jobs_in xs ≡ [] → AreLined xs
-      all_stops [] none = tt
-      all_stops (Job x ∷ xs) none = let no = ap length none in absurd (omega arith)
-      all_stops (Stop ∷ xs) none = none
+  where
+    all_stops : (xs : List Item) → jobs_in xs ≡ [] → AreLined xs
+    all_stops [] none = tt
+    all_stops (Job x ∷ xs) none = let no = ap length none in absurd (omega arith)
+    all_stops (Stop ∷ xs) none = none
 
 pub pops : (place : ℕ) (v : Account) → v.role ≡ Taker → Pops IsFair place v (λ item w. w ≡ after_pop v item)
 pops place v role (Job job) items turns fair at = (after_pop v (Job job), takes_job place v job items turns role fair at, refl)
@@ -316,7 +314,7 @@ merges place v other u role role' items turns fair at apart at' =
       done = each_set (Knows items) vs other spent (λ ended. absurd (omega arith))
           (each_set (Knows items) turns place w (either v.ended u.ended (fair.done place v at) (fair.done other u before)) fair.done);
     }
-    where
-      either : (m n : ℕ) {A : Type 0} → (0 < m → A) → (0 < n → A) → 0 < m + n → A
-      either zero n f g some_ended = g (omega arith)
-      either (suc m) n f g some_ended = f (omega arith)
+  where
+    either : (m n : ℕ) {A : Type 0} → (0 < m → A) → (0 < n → A) → 0 < m + n → A
+    either zero n f g some_ended = g (omega arith)
+    either (suc m) n f g some_ended = f (omega arith)

@@ -1,9 +1,8 @@
 -- What the giver knows in the end says what became of the jobs.
-use Rattle.std.proofs.Common.{◌≡◌, ◌+◌, ◌<◌, ◌≤◌, ◌==◌, ℕ, List, sym, ap, ◌∙◌, arith, cond}
+use Rattle.std.proofs.Common.{◌≡◌, ◌<◌, ◌≤◌, ◌==◌, ℕ, List, ap, arith, cond}
 use Rattle.std.specs.Prelude.{sum_by}
 use Rattle.fm_jobs.specs.declared.account.Account.{Account}
 use Rattle.fm_jobs.specs.declared.item.Item.{Item}
-use Rattle.fm_jobs.specs.Items.{jobs_in}
 use Rattle.fm_jobs.specs.Rule.{AddsUp}
 use Rattle.fm_jobs.specs.Turns.{IsSettled}
 
@@ -17,5 +16,6 @@ settles v items sums = record {
   where
     at_most : (weight : ℕ → ℕ) → sum_by weight v.taken ≤ sum_by weight v.pushed
     at_most weight = let j = sums.jobs weight in omega arith
+
     all : 0 < v.ended → (weight : ℕ → ℕ) → sum_by weight v.taken ≡ sum_by weight v.pushed
     all ended weight = let j = sums.jobs weight in let none = ap (sum_by weight) (sums.done ended) in omega arith

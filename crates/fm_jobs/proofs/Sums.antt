@@ -1,5 +1,5 @@
 -- Sums over turns: after one of them changed, and where all but one have nothing.
-use Rattle.std.proofs.Common.{◌≡◌, ◌+◌, ◌<◌, ◌≤◌, ℕ, zero, suc, List, [], ◌∷◌, ◌++◌, set, sym, refl, ap, arith}
+use Rattle.std.proofs.Common.{◌≡◌, ◌+◌, ◌≤◌, ℕ, zero, suc, List, [], ◌∷◌, set, sym, refl, ap, arith}
 use Rattle.std.specs.Prelude.{sum_by}
 use Rattle.std.proofs.lemmas.List.Sums.{sum_by-cons}
 use mathlib.Core.Option.{some, some-injective, some-ne-none}
@@ -38,7 +38,7 @@ sum_by-own g f (x ∷ xs) zero v none e alone =
     let in_g = ap g (some-injective x v e) in
     let rest : sum_by g xs ≡ 0 = omega (arith, sum_by-cons g x xs) in
     let others : Each (λ u. f u ≡ 0) xs = λ j u at.
-        let le = own-le-sum_by g xs j u at in let zero_g : g u ≡ 0 = omega arith in none (suc j) u at zero_g in
+    let le = own-le-sum_by g xs j u at in let zero_g : g u ≡ 0 = omega arith in none (suc j) u at zero_g in
     let nothing = sum_by-none f xs others in omega (arith, sum_by-cons f x xs)
 sum_by-own g f (x ∷ xs) (suc j) v none e alone =
     let le = own-le-sum_by g xs j v e in

@@ -1,5 +1,5 @@
 -- What a turn pushed and took, and how its account goes on.
-use Rattle.std.specs.Prelude.{◌≡◌, ◌+◌, ◌-◌, ℕ, Option, Some, None, List, [], ◌∷◌, ◌++◌}
+use Rattle.std.specs.Prelude.{◌+◌, ◌-◌, ℕ, Option, Some, None, [], ◌∷◌, ◌++◌}
 use Rattle.std.specs.List.{range_with_len}
 use Rattle.fm_jobs.specs.declared.account.Account.{Account}
 use Rattle.fm_jobs.specs.declared.account.Role.{Role}

@@ -69,7 +69,12 @@ fn take_all<R: Wait>(
 }
 
 /// How often each of the first jobs stands in both lists.
-fn times(alloc: Global, first: &[u32], second: &[u32], count: usize) -> Result<Vec<u8>, AllocError> {
+fn times(
+    alloc: Global,
+    first: &[u32],
+    second: &[u32],
+    count: usize,
+) -> Result<Vec<u8>, AllocError> {
     let mut times = Vec::from_elem(alloc, 0u8, count)?;
     for job in first.iter().chain(second.iter()) {
         if let Some(n) = times.get_mut(*job as usize) {
@@ -107,7 +112,12 @@ fn each_job_is_taken_once(rt: HostRuntime) -> Result<(), Fail> {
     jobs.absorb(&mut giver, first);
     jobs.absorb(&mut giver, second);
     jobs.settle(&mut giver);
-    let times = times(rt.alloc(), by_first?.as_slice(), by_second?.as_slice(), 20_000)?;
+    let times = times(
+        rt.alloc(),
+        by_first?.as_slice(),
+        by_second?.as_slice(),
+        20_000,
+    )?;
     assert!(rt; times.iter().all(|n| *n == 1));
     Ok(())
 }

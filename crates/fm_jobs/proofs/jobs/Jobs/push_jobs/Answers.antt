@@ -1,4 +1,4 @@
-use Rattle.std.proofs.Common.{◌+◌, ◌-◌, ◌≤◌, ap, ◌∙◌, length, arith}
+use Rattle.std.proofs.Common.{◌+◌, ap, ◌∙◌, length, arith}
 use Rattle.fm_jobs.specs.declared.account.Account.{Account}
 use Rattle.fm_jobs.specs.Accounts.{after_push}
 use Rattle.fm_jobs.specs.declared.item.Item.TheVariants.{Job}
@@ -26,8 +26,7 @@ pub loop-job-preserved : goal.loop-job-preserved
 loop-job-preserved g c =
     let old = account_of c.args.turn.now in
     let below = c.loop-job-test.true in
-    let from_on = c.loop-job.auto.job in
-    (
+    let from_on = c.loop-job.auto.job in (
       record {
         is_of = c.push_job.ensures.is_of;
         is = c.push_job.ensures.is ∙ ap (λ (v : Account). after_push v (Job c.loop-job.job)) c.loop-job.invariant.0.is
