@@ -10,7 +10,7 @@
 //! - **turn**: what one thread pushed and took. It has no bytes; the first one, the giver's, comes with the queue, and the
 //!   takers' are made of it, and absorbed by it again.
 //!
-//! Not promised: in which order takers take, how many jobs each gets, or that a taker waits for no other one.
+//! Not promised: which taker gets which job, or how many.
 #![tactic(auto)]
 
 mod account;
