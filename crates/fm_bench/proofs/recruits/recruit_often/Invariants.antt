@@ -2,4 +2,4 @@ use Rattle.fm_bench.proofs.recruits.recruit_often.Given as goal
 use Rattle.fm_bench.specs.Ready.{CanWork}
 
 abbrev pub invariant-loop : goal.invariant-loop
-invariant-loop l = CanWork l.fn.pool l.worker.pass l.fn.a
+invariant-loop g l = CanWork l.fn.pool l.worker.pass l.fn.a
