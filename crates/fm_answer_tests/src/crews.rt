@@ -1,3 +1,4 @@
+mod again;
 mod ample;
 mod gates;
 mod tallies;
@@ -139,7 +140,7 @@ const ANSWER: &[u8] = b"count 5\nsum(.amount) 26\nlist(.id) 1 3 5 6 8\n";
 #[test]
 fn answers_are_the_same_for_each_count_of_threads(rt: HostRuntime) -> Result<(), Fail> {
     let q = query(rt.alloc())?;
-    let (pool, mut pass) = made(&rt, 28);
+    let (pool, mut pass) = made(&rt, 17);
     let s = stocked(&rt, &pool, &mut pass, Kind::Shared);
     let by_one = asked(&rt, &pool, &mut pass, &q, &s, 1, &FreeGate);
     assert_eq!(rt; by_one.as_deref(), Ok(ANSWER));

@@ -23,6 +23,7 @@ use Rattle.fm_calls.specs.Kept.{Goes, Kept, rest_of}
 use Rattle.fm_calls.specs.Told.{view_of_pass}
 use Rattle.fm_calls.proofs.Telling.{did_of}
 use Rattle.fm_gate.specs.Learnt as gate
+use Rattle.fm_gate.proofs.Scarce.{one_empty}
 use Rattle.fm_close.specs.Learnt as closing
 use Rattle.fm_arena.specs.Shares.{nature_of_shared}
 
@@ -101,7 +102,7 @@ module _ {pool : Pool} {p q : View} where
       → gate.AfterAllocate pool p q id size align result
       → memory_calls.AfterAllocate nature_of_shared (view_of_pass p) (view_of_pass q) id size align result
   allocates {result = result} can a =
-      after_allocate can (sound_before a.did.goes) (may_allocate result a.never) (λ full. (a.no_page full).found) (did_of _ _ _ a.did)
+      after_allocate can (sound_before a.did.goes) (may_allocate result a.never) (λ full. (one_empty a.did.goes (a.no_page full).found).found) (did_of _ _ _ a.did)
 
   pub closes : {id : ArenaId} {result : Result (Unit {0}) Refusal} → memory_calls.CanVisit (view_of_pass p) id
       → closing.AfterClose pool p q id result → memory_calls.AfterClose (view_of_pass p) (view_of_pass q) id result

@@ -1,6 +1,7 @@
 pub mod Allocating
 pub mod Beside
 pub mod Calls
+pub mod Gathering
 pub mod Lasting
 pub mod Meeting
 pub mod Open

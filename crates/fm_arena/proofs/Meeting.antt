@@ -30,7 +30,7 @@ meets {p = p} {q = q} {seen = seen} s on =
       caller = refl;
       gathered = refl;
       whole = refl;
-      drawn = refl;
+      number = refl;
       inside = refl;
     }) refl no_draws in
     let g = grown (limit_of q.shape) seen on.0 q.seen on.1 goes.sound.legal in

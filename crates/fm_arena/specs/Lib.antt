@@ -1,6 +1,7 @@
 pub mod Shares
 pub mod Learnt
 pub mod Lasting
+pub mod Gathering
 pub mod Arenas
 pub mod Open
 pub mod Opening

@@ -3,7 +3,7 @@ use Rattle.std.specs.Prelude.{◌≡◌, true, false, [], None}
 use Rattle.fm_base.specs.declared.arena_id.ArenaId.{ArenaId}
 use Rattle.fm_base.specs.Outcomes.{Nature}
 use Rattle.fm_pool_facts.specs.Views.{View}
-use Rattle.fm_pool_facts.specs.Hands.{nothing}
+use Rattle.fm_pool_facts.specs.Hands.{nothing, no_number}
 use Rattle.fm_pool_facts.specs.Parts.{unread}
 use Rattle.fm_rule.specs.declared.pool.Pool.{Pool}
 use Rattle.fm_calls.specs.Kept.{HasEnded, HasNoWords}
@@ -18,7 +18,7 @@ pub record CanShare (pool : Pool) (p : View) : Type 0 where
 -- Outside the pass publishes no mark; it has no number, no slot and no page in its hand, and is at no part of a sweep
 pub record IsQuiet (p : View) : Type 0 where
   pub unmarked : p.inside ≡ None → p.mark ≡ None
-  pub no_number : p.drawn ≡ None
+  pub no_number : p.number ≡ no_number
   pub no_slot : p.hand ≡ nothing
   pub no_part : p.swept ≡ unread
   pub no_page : p.pages ≡ []

@@ -1,5 +1,6 @@
 ghost use Rattle.fm_arena.specs.Lasting.{KeepsItsPool, HoldLasts, HandleLasts};
 ghost use Rattle.fm_arena.specs.Open.{HeldIsOpen};
+ghost use Rattle.fm_arena.specs.Gathering.{WorkerLasts};
 
 /// The pass of a `Shared` is one of the same pool after any calls of `Memory`.
 pub fn keeps_its_pool()
@@ -20,4 +21,10 @@ pub fn what_is_held_is_open()
 /// A handle can be used after any calls of `Memory`, and others that leave the pass its handles.
 pub fn a_handle_lasts()
     ensures { HandleLasts }
+{}
+
+/// A pass that has no hold, handle or close has none after any calls of `Memory`, nor after it met what another pass had
+/// seen; and so its pool can gather it, and its number comes back.
+pub fn a_worker_can_be_gathered()
+    ensures { WorkerLasts }
 {}

@@ -22,5 +22,7 @@ mod shared;
 pub use arena::Arena;
 pub use fm_arena_braided::{Braided, Turn};
 pub use handle::AutoHandle;
-pub use laws::{a_handle_lasts, a_hold_lasts, keeps_its_pool, what_is_held_is_open};
+pub use laws::{
+    a_handle_lasts, a_hold_lasts, a_worker_can_be_gathered, keeps_its_pool, what_is_held_is_open,
+};
 pub use shared::Shared;

@@ -93,9 +93,9 @@ impl<'a> Shared<'a> {
 
     /// A segment of `size` bytes of the arena, as `Arena::allocate`.
     ///
-    /// Refused, in this order: `BadAlignment`, `WrongThread`, `Closed`, `NoRoom`, `PoolFull`. The last one only where a
-    /// step found no page; a pass that is known to be whole gets it exactly where fewer pages are left than parts of the
-    /// range have none.
+    /// Refused, in this order: `BadAlignment`, `WrongThread`, `Closed`, `NoRoom`, `PoolFull`. The last one only where each
+    /// word of page bits was 0 at a step; a pass that is known to be whole gets it exactly where fewer pages are left than
+    /// parts of the range have none.
     pub fn allocate_segment<R: Wait>(
         &mut self,
         rt: &R,
@@ -213,8 +213,8 @@ impl<'a> Memory for Shared<'a> {
     }
 
     /// As the trait says; and it isn't `Closed` where the pass has a hold or a handle of the arena. `PoolFull` only where
-    /// a step found no page, and after the last Lend a part of the range had none; a pass that is known to be whole gets
-    /// it exactly where fewer pages are left than parts of the range have none.
+    /// each word of page bits was 0 at a step, and after the last Lend a part of the range had no page; a pass that is
+    /// known to be whole gets it exactly where fewer pages are left than parts of the range have none.
     fn allocate<R: Wait>(
         &mut self,
         rt: &R,

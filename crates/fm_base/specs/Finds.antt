@@ -6,9 +6,9 @@ use Rattle.fm_base.specs.declared.arena_id.ArenaId.{ArenaId}
 -- the steps whose finds are kept, with their arguments
 pub data FindStep : Type 0 where
   Draws : (expected : ℕ) → FindStep
-  Visits : (id : ArenaId) (pass : Caller) → FindStep
+  Visits : (id : ArenaId) (number : ℕ) → FindStep
   TakesSlot : (expected bit : ℕ) → FindStep
-  TakesPage : (expected bit : ℕ) → FindStep
+  TakesPage : (group expected bit : ℕ) → FindStep
   Maps : (id : ArenaId) (part page : ℕ) → FindStep
   TakesNumber : (group expected bit : ℕ) → FindStep
 
@@ -20,6 +20,8 @@ pub record Find : Type 0 where
   pub seen : ℕ
   -- whether the caller was clear before the step
   pub clear : Bool
+  -- how many callers were gathered into the caller before the step
+  pub gathered : ℕ
   -- the caller that a draw drew
   pub drew : Option Caller
 
@@ -50,25 +52,42 @@ pub record Rest : Type 0 where
 
 abbrev pub is_draw : FindStep → Bool
 is_draw (Draws expected) = true
-is_draw (Visits id pass) = false
+is_draw (Visits id number) = false
 is_draw (TakesSlot expected bit) = false
-is_draw (TakesPage expected bit) = false
+is_draw (TakesPage group expected bit) = false
 is_draw (Maps id part page) = false
 is_draw (TakesNumber group expected bit) = false
 
 abbrev pub is_slot : FindStep → Bool
 is_slot (Draws expected) = false
-is_slot (Visits id pass) = false
+is_slot (Visits id number) = false
 is_slot (TakesSlot expected bit) = true
-is_slot (TakesPage expected bit) = false
+is_slot (TakesPage group expected bit) = false
 is_slot (Maps id part page) = false
 is_slot (TakesNumber group expected bit) = false
 
+abbrev pub is_number : FindStep → Bool
+is_number (Draws expected) = false
+is_number (Visits id number) = false
+is_number (TakesSlot expected bit) = false
+is_number (TakesPage group expected bit) = false
+is_number (Maps id part page) = false
+is_number (TakesNumber group expected bit) = true
+
+-- the word of page bits or number bits that the step exchanged
+abbrev pub group_of : FindStep → ℕ
+group_of (Draws expected) = 0
+group_of (Visits id number) = 0
+group_of (TakesSlot expected bit) = 0
+group_of (TakesPage group expected bit) = group
+group_of (Maps id part page) = 0
+group_of (TakesNumber group expected bit) = group
+
 abbrev pub is_page : FindStep → Bool
 is_page (Draws expected) = false
-is_page (Visits id pass) = false
+is_page (Visits id number) = false
 is_page (TakesSlot expected bit) = false
-is_page (TakesPage expected bit) = true
+is_page (TakesPage group expected bit) = true
 is_page (Maps id part page) = false
 is_page (TakesNumber group expected bit) = false
 

@@ -44,3 +44,10 @@ idle_on {p = p} {q = q} {a = a} stand was kept lasts =
 
 pub works : {pool : Pool} {p : View} {a : ArenaId} → IsOutside pool p → IsIdle p a → CanWork pool p a
 works outside now = record { outside = outside; opened = now.opened; nothing = now.nothing }
+
+-- the arena stays open to a pass that knows what another one knew
+pub still_open : (p q : View) (a : ArenaId) → Lasts p q → IsOpen p 8 a → IsOpen q 8 a
+still_open p q a lasts was =
+    let more = lasts.given a in
+    let given = was.given in
+    record { known = lasts.known a was.known; given = omega arith }

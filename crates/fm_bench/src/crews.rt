@@ -19,6 +19,9 @@ pub struct Worker {
     pub pass: Pass,
     pub visits: u64,
     pub last: u64,
+    /// Workers stand in one list, and each visit stores in its worker: 128 bytes of nothing keep the next one off its
+    /// cache lines.
+    pub gap: [u64; 16],
 }
 
 /// A pool of so many passes, with two arenas of eight words.
@@ -38,26 +41,22 @@ pub fn made_for(alloc: Global, passes: u32) -> Result<(Pool, Pass), Refusal>
     Pool::make(alloc, shape)
 }
 
-/// Draws each number of so many pools of 4,096 passes, and gathers it at once. Answers how many were drawn.
-pub fn draws<R: Wait>(rt: &R, alloc: Global, pools: u64) -> Result<u64, Refusal> {
-    let mut drawn: u64 = 0;
-    for _ in 0..pools {
-        let (pool, mut pass) = made_for(alloc, 4_096)?;
-        drawn = drawn.wrapping_add(draw_all(rt, &pool, &mut pass));
-    }
-    Ok(drawn)
+/// Draws the other pass of a pool of two so often, and gathers it each time. Answers how often.
+pub fn draws<R: Wait>(rt: &R, alloc: Global, count: u64) -> Result<u64, Refusal> {
+    let (pool, mut pass) = made_for(alloc, 2)?;
+    Ok(draw_often(rt, &pool, &mut pass, count))
 }
 
-/// Draws and gathers until no number is left.
-fn draw_all<R: Wait>(rt: &R, pool: &Pool, pass: &mut Pass) -> u64
+/// Draws and gathers so often, or until it is refused.
+fn draw_often<R: Wait>(rt: &R, pool: &Pool, pass: &mut Pass, count: u64) -> u64
     requires { IsOutside pool.now pass.old }
 {
-    for drawn in 0..4_096 {
+    for drawn in 0..count {
         if draw_one(rt, pool, pass).is_err() {
             return drawn;
         }
     }
-    4_096
+    count
 }
 
 fn draw_one<R: Wait>(rt: &R, pool: &Pool, pass: &mut Pass) -> Result<(), Refusal>
@@ -82,11 +81,12 @@ pub fn take_in(pool: &Pool, pass: &mut Pass, other: Pass)
 }
 
 /// A pass that knows the arena is drawn.
-fn hire<R: Wait>(rt: &R, pool: &Pool, pass: &mut Pass, a: ArenaId) -> Result<Pass, Refusal>
+pub fn hire<R: Wait>(rt: &R, pool: &Pool, pass: &mut Pass, a: ArenaId) -> Result<Pass, Refusal>
     requires outside { IsOutside pool.now pass.old }
     requires open { IsOpen pass.old 8 a }
     ensures outside { IsOutside pool.now pass.new }
     ensures open { IsOpen pass.new 8 a }
+    ensures nothing { HasNothing pass.old → HasNothing pass.new }
     ensures hired { IfOk result (λ p. CanWork pool.now p a) }
 {
     a_crew_stands();
@@ -112,7 +112,7 @@ fn pass_over<R: Wait>(
     Ok(())
 }
 
-/// So many workers, behind each of which so many numbers are passed over.
+/// So many workers, behind each of which so many passes are drawn that nobody uses.
 pub fn crew_of<R: Wait>(
     rt: &R,
     alloc: Global,
@@ -134,6 +134,7 @@ pub fn crew_of<R: Wait>(
             pass: hire(rt, pool, pass, a)?,
             visits: 0,
             last: 0,
+            gap: [0; 16],
         };
         pass_over(rt, pool, pass, a, between)?;
         if crew.push(worker).is_err() {
@@ -143,7 +144,9 @@ pub fn crew_of<R: Wait>(
     Ok(crew)
 }
 
-/// Threads visit an arena at once, so often each, with so many marks between theirs. Answers how often they came in.
+/// Threads visit an arena at once, so often each. Of 64 passes numbers that are 8 apart are drawn first, so their marks
+/// share no cache line; where 7 passes are drawn between two workers, one's number is the other's and 1. Answers how often
+/// they came in.
 pub fn crowd<R: Threads + Wait + Sync>(
     rt: &R,
     alloc: Global,

@@ -3,14 +3,15 @@
 //! arenas, `closes POOLS` of the arenas of so many pools, `opens COUNT` of 64 bytes in one slot again and again, `wipes
 //! COUNT` of 8 MiB there, `grows COUNT` of 1 MiB in 64 pages, `empties COUNT` of up to 32 MiB of which nothing is given,
 //! `gives COUNT` of 8 bytes at a time, `loads COUNT` from a plain vector,
-//! `adds COUNT`, `swaps COUNT` and `patches COUNT` of a word in one visit, `draws POOLS` of the passes of so many pools,
+//! `adds COUNT`, `swaps COUNT` and `patches COUNT` of a word in one visit, `draws COUNT` of a pass that is gathered each time,
 //! `beside COUNT THREADS` and `apart COUNT THREADS` of visits by threads whose marks lie side by side and 8 apart,
 //! `known COUNT` of a segment by a layout that the compiler knows, `gets COUNT LAYOUT` and `handles COUNT LAYOUT` by a
 //! layout that is read as JSON, at offsets and by a path, and `fills COUNT`, `copies COUNT` and `mismatches COUNT` of
 //! segments of 64 MiB.
 //!
 //! `stress ROUNDS` is no benchmark: threads add to a word, and close the arena while others add, and it prints how many
-//! of the rounds came out as they should. `reuse ROUNDS THREADS` is none either: every other thread opens arenas, fills,
+//! of the rounds came out as they should. So does `recruits ROUNDS`, whose threads draw a pass for each addition and gather
+//! it again, while one of them closes the arena. `reuse ROUNDS THREADS` is none either: every other thread opens arenas, fills,
 //! reads and closes them, while the others read in one that is closed in the midst. It prints how often a slot was used,
 //! what was read, what was refused, how many words were wrong, and the seconds that it took.
 //!
@@ -23,6 +24,7 @@ mod gates;
 mod loads;
 mod opens;
 mod ranges;
+mod recruits;
 mod reuse;
 mod stress;
 mod updates;
@@ -34,6 +36,7 @@ use crate::gates::{closes, gates, hops, nexts, spreads};
 use crate::loads::loads;
 use crate::opens::{empties, gives, grows, opens, wipes};
 use crate::ranges::{copies, fills, mismatches};
+use crate::recruits::recruits;
 use crate::reuse::{Count, reuse};
 use crate::stress::stress;
 use crate::updates::{adds, patches, swaps};
@@ -129,9 +132,10 @@ fn run<R: Threads + Wait + Sync>(
         "swaps" => swaps(rt, alloc, count).ok(),
         "patches" => patches(rt, alloc, count).ok(),
         "draws" => draws(rt, alloc, count).ok(),
-        "beside" => crowd(rt, alloc, count, text.parse::<u64>().ok()?, 0).ok(),
-        "apart" => crowd(rt, alloc, count, text.parse::<u64>().ok()?, 7).ok(),
+        "beside" => crowd(rt, alloc, count, text.parse::<u64>().ok()?, 7).ok(),
+        "apart" => crowd(rt, alloc, count, text.parse::<u64>().ok()?, 0).ok(),
         "stress" => stress(rt, alloc, count).ok(),
+        "recruits" => recruits(rt, alloc, count).ok(),
         "known" => known(rt, alloc, count).ok(),
         "gets" => gets(rt, alloc, count, text).ok(),
         "handles" => handles(rt, alloc, count, text).ok(),

@@ -14,10 +14,10 @@ use std::thread;
 use std::thread::Threads;
 
 /// The threads of a round, each of which has a pass.
-const WORKERS: u64 = 4;
+pub const WORKERS: u64 = 4;
 
 /// How often a worker adds.
-const TIMES: u64 = 10_000;
+pub const TIMES: u64 = 10_000;
 
 /// So many rounds of workers that add to one word, and of workers that add while one of them closes the arena. Answers
 /// how many rounds came out as they should.
@@ -35,7 +35,7 @@ pub fn stress<R: Threads + Wait + Sync>(
     Ok(fine)
 }
 
-/// Whether the word shows what all workers added, and the pass has every number once it has gathered them.
+/// Whether the word shows what all workers added, and the pass is whole once it has gathered them.
 fn adds_add_up<R: Threads + Wait + Sync>(rt: &R, alloc: Global) -> Result<bool, Refusal> {
     let (pool, mut pass) = made_for(alloc, 5)?;
     let a = given(rt, &pool, &mut pass, 8)?;
@@ -61,7 +61,7 @@ fn close_is_final<R: Threads + Wait + Sync>(rt: &R, alloc: Global) -> Result<boo
 }
 
 /// The word after all additions, by what the workers found: 0 where none came in.
-fn next_word(crew: &Vec<Worker>) -> u64 {
+pub fn next_word(crew: &Vec<Worker>) -> u64 {
     let mut next: u64 = 0;
     for worker in crew.iter() {
         if worker.visits > 0 {
@@ -71,8 +71,8 @@ fn next_word(crew: &Vec<Worker>) -> u64 {
     next
 }
 
-/// Gathers all workers, and answers whether the pass has every number then.
-fn is_whole_with(pool: &Pool, pass: &mut Pass, a: ArenaId, mut crew: Vec<Worker>) -> bool
+/// Gathers all workers, and answers whether the pass is whole then.
+pub fn is_whole_with(pool: &Pool, pass: &mut Pass, a: ArenaId, mut crew: Vec<Worker>) -> bool
     requires outside { IsOutside pool.now pass.old }
     requires open { IsOpen pass.old 8 a }
     requires crew { All (λ w. CanWork pool.now w.pass a) crew.items }
@@ -85,7 +85,7 @@ fn is_whole_with(pool: &Pool, pass: &mut Pass, a: ArenaId, mut crew: Vec<Worker>
     look(pool, pass, a)
 }
 
-/// Whether the pass has every number.
+/// Whether the pass has every caller that was drawn.
 fn look(pool: &Pool, pass: &mut Pass, a: ArenaId) -> bool
     requires outside { IsOutside pool.now pass.old }
     requires open { IsOpen pass.old 8 a }
@@ -148,7 +148,7 @@ fn close_amid_adds<R: Threads + Wait + Sync>(rt: &R, pool: &Pool, crew: &mut [Wo
 }
 
 /// Closes the arena, if nobody else did.
-fn close_once<R: Wait>(rt: &R, pool: &Pool, pass: &mut Pass, a: ArenaId)
+pub fn close_once<R: Wait>(rt: &R, pool: &Pool, pass: &mut Pass, a: ArenaId)
     requires { CanWork pool.now pass.old a }
     ensures { CanWork pool.now pass.new a }
 {
@@ -173,7 +173,7 @@ fn add_often(pool: &Pool, worker: &mut Worker, a: ArenaId)
 }
 
 /// Adds 1 to the arena's word in a visit of its own.
-fn add_once(pool: &Pool, pass: &mut Pass, a: ArenaId) -> Result<u64, Refusal>
+pub fn add_once(pool: &Pool, pass: &mut Pass, a: ArenaId) -> Result<u64, Refusal>
     requires { CanWork pool.now pass.old a }
     ensures { CanWork pool.now pass.new a }
 {

@@ -42,7 +42,7 @@ pub record IsOn (p part : View) (own : List Entry) : Type 0 where
   pub caller : part.caller ≡ p.caller
   pub gathered : part.gathered ≡ p.gathered
   pub whole : part.whole ≡ p.whole
-  pub drawn : part.drawn ≡ p.drawn
+  pub number : part.number ≡ p.number
   pub inside : part.inside ≡ inside_after p.inside own
 
 -- A step is the pass's way by the step's own entries.
@@ -61,7 +61,7 @@ goes_of {p = p} {q = q} {part = part} {own = own} {noted = noted} s on m d = rec
   same_caller = ap (λ (x : View). x.caller) s.is_part ∙ on.caller;
   same_gathered = ap (λ (x : View). x.gathered) s.is_part ∙ on.gathered;
   same_whole = ap (λ (x : View). x.whole) s.is_part ∙ on.whole;
-  same_drawn = ap (λ (x : View). x.drawn) s.is_part ∙ on.drawn;
+  same_number = ap (λ (x : View). x.number) s.is_part ∙ on.number;
   sound = s.sound;
 }
 
@@ -104,7 +104,7 @@ goes_then {p = p} {q = q} {r = r} {es = es} {fs = fs} a b = record {
   same_caller = b.same_caller ∙ a.same_caller;
   same_gathered = b.same_gathered ∙ a.same_gathered;
   same_whole = b.same_whole ∙ a.same_whole;
-  same_drawn = b.same_drawn ∙ a.same_drawn;
+  same_number = b.same_number ∙ a.same_number;
   sound = b.sound;
 }
 
@@ -123,7 +123,7 @@ goes_none {p = p} s = record {
   same_caller = refl;
   same_gathered = refl;
   same_whole = refl;
-  same_drawn = refl;
+  same_number = refl;
   sound = s;
 }
 

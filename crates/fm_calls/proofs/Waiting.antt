@@ -25,7 +25,7 @@ waits_by s = goes_of s (record {
   caller = refl;
   gathered = refl;
   whole = refl;
-  drawn = refl;
+  number = refl;
   inside = refl;
 }) refl no_draws
 

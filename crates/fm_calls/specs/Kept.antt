@@ -27,7 +27,7 @@ pub record Goes (old new : View) (own : List Entry) : Type 0 where
   pub same_caller : new.caller ≡ old.caller
   pub same_gathered : new.gathered ≡ old.gathered
   pub same_whole : new.whole ≡ old.whole
-  pub same_drawn : new.drawn ≡ old.drawn
+  pub same_number : new.number ≡ old.number
   pub sound : IsSound new
 
 abbrev pub shape_numbers : Shape → List ℕ

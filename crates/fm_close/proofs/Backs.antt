@@ -40,7 +40,7 @@ goes_given {p = p} a Kept s = goes_of s (record {
   caller = refl;
   gathered = refl;
   whole = refl;
-  drawn = refl;
+  number = refl;
   inside = refl;
 }) (made_by-one p.caller (Unhold a) Fine) no_draws
 goes_given {p = p} a Last s = goes_of s (record {
@@ -49,7 +49,7 @@ goes_given {p = p} a Last s = goes_of s (record {
   caller = refl;
   gathered = refl;
   whole = refl;
-  drawn = refl;
+  number = refl;
   inside = refl;
 }) (made_by-one p.caller (Shut a) Fine) no_draws
 

@@ -8,7 +8,7 @@ use Rattle.fm_base.specs.Calls.{End, Fine, Entry, entry_of}
 use Rattle.fm_base.specs.Finds.{Visits, is_draw}
 use Rattle.fm_base.proofs.Outcomes.{closed_ended}
 use Rattle.fm_words.specs.Marks.{mark_word}
-use Rattle.fm_pool_facts.specs.Views.{View, pass_of}
+use Rattle.fm_pool_facts.specs.Views.{View}
 use Rattle.fm_pool_facts.specs.Words.{mark_of, own_word}
 use Rattle.fm_pool_facts.specs.Closes as closes
 use Rattle.fm_pool_facts.specs.Closes.{visit_by, visit_found, closes_after, sweeps_after, visit_entries, visited_of, visited}
@@ -32,20 +32,20 @@ unfolding mark_of mark_word
 mark_of-positive a = grind (arith, nat_tests)
 
 -- What a visit notes is no draw.
-no_draw : (p : View) (a : ArenaId) (k found : ℕ) → NoDraws (note_of (Visits a (pass_of k)) found p)
+no_draw : (p : View) (a : ArenaId) (k found : ℕ) → NoDraws (note_of (Visits a k) found p)
 no_draw p a k found n = All-cons (λ f. is_draw f.step ≡ false) _ [] refl (All-nil (λ f. is_draw f.step ≡ false))
 
 module _ {pool : Pool} {p q : View} {s : Shutting} (found : ℕ) (can : CanWalk pool p s) (own : s.next ≡ p.caller.number → found ≡ own_word p.mark)
     (step : Stepped p q (record p {
       closes = closes_after s.arena (visit_found p.shape s.arena s.next found) p.closes;
       sweeps = sweeps_after s.arena (visit_found p.shape s.arena s.next found) p.sweeps;
-    }) (visit_entries s.arena (visit_found p.shape s.arena s.next found) p.caller) (note_of (Visits s.arena (pass_of s.next)) found p)) where
+    }) (visit_entries s.arena (visit_found p.shape s.arena s.next found) p.caller) (note_of (Visits s.arena s.next) found p)) where
   step_as : (v : closes.Visit) → visit_found p.shape s.arena s.next found ≡ v
       → Stepped p q (record p { closes = closes_after s.arena v p.closes; sweeps = sweeps_after s.arena v p.sweeps }) (visit_entries s.arena v p.caller)
-      (note_of (Visits s.arena (pass_of s.next)) found p)
+      (note_of (Visits s.arena s.next) found p)
   step_as v e = subst (λ (x : closes.Visit). Stepped p q
       (record p { closes = closes_after s.arena x p.closes; sweeps = sweeps_after s.arena x p.sweeps }) (visit_entries s.arena x p.caller)
-      (note_of (Visits s.arena (pass_of s.next)) found p)) e step
+      (note_of (Visits s.arena s.next) found p)) e step
 
   -- The mark was loaded once, and it is the one noted.
   looked : (v : closes.Visit) → visit_found p.shape s.arena s.next found ≡ v → Looked p q s (visit_entries s.arena v p.caller)
@@ -56,10 +56,11 @@ module _ {pool : Pool} {p q : View} {s : Shutting} (found : ℕ) (can : CanWalk 
       ∙ ap (λ (x : closes.Visit). length before + length (visit_entries s.arena x p.caller)) e) in
       record {
         find = record {
-          step = Visits s.arena (pass_of s.next);
+          step = Visits s.arena s.next;
           found = found;
           seen = length before;
           clear = is_clear p;
+          gathered = length p.gathered;
           drew = None;
         };
         step = refl;
@@ -76,7 +77,7 @@ module _ {pool : Pool} {p q : View} {s : Shutting} (found : ℕ) (can : CanWalk 
     caller = refl;
     gathered = refl;
     whole = refl;
-    drawn = refl;
+    number = refl;
     inside = refl;
   }) refl (no_draw p s.arena s.next found)
   goes_as closes.Next e = goes_of (step_as closes.Next e) (record {
@@ -85,7 +86,7 @@ module _ {pool : Pool} {p q : View} {s : Shutting} (found : ℕ) (can : CanWalk 
     caller = refl;
     gathered = refl;
     whole = refl;
-    drawn = refl;
+    number = refl;
     inside = refl;
   }) refl (no_draw p s.arena s.next found)
   goes_as closes.Ended e = goes_of (step_as closes.Ended e) (record {
@@ -94,7 +95,7 @@ module _ {pool : Pool} {p q : View} {s : Shutting} (found : ℕ) (can : CanWalk 
     caller = refl;
     gathered = refl;
     whole = refl;
-    drawn = refl;
+    number = refl;
     inside = refl;
   })
       (made_by-one p.caller (End s.arena) Fine) (no_draw p s.arena s.next found)

@@ -41,7 +41,7 @@ sweeps_step {p = p} {q = q} {own = own} {s = s} {cs = cs} made inside t = record
     caller = refl;
     gathered = refl;
     whole = refl;
-    drawn = refl;
+    number = refl;
     inside = inside;
   }) made no_draws;
   is = t.is_part ∙ (λ j. record p { seen = q.seen; finds = sym (ap (λ (x : View). x.finds) t.is_part) j; swept = s; sweeps = cs });

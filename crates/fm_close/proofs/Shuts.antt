@@ -71,7 +71,7 @@ module _ {pool : Pool} {p q : View} {a : ArenaId} (word : ℕ) (can : CanVisit p
     caller = refl;
     gathered = refl;
     whole = refl;
-    drawn = refl;
+    number = refl;
     inside = refl;
   }) (made_by-one p.caller (Shut a) reply) no_draws
 

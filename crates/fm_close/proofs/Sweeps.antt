@@ -46,7 +46,7 @@ retire_goes a s = goes_of s (record {
   caller = refl;
   gathered = refl;
   whole = refl;
-  drawn = refl;
+  number = refl;
   inside = refl;
 }) refl no_draws
 
@@ -57,7 +57,7 @@ give_goes s = goes_of s (record {
   caller = refl;
   gathered = refl;
   whole = refl;
-  drawn = refl;
+  number = refl;
   inside = refl;
 }) refl no_draws
 

@@ -8,7 +8,7 @@ use Rattle.fm_base.specs.Calls.{End, Fine, Entry, entry_of}
 use Rattle.fm_base.specs.Does.{DoesClose, DoesGiveBack}
 use Rattle.fm_base.specs.Finds.{Close, Find, Visits}
 use Rattle.fm_base.specs.View.{but_loans}
-use Rattle.fm_pool_facts.specs.Views.{View, In, IsKnown, pass_of}
+use Rattle.fm_pool_facts.specs.Views.{View, In, IsKnown}
 use Rattle.fm_pool_facts.specs.Closes.{close_of, visited_of, visited, dropped}
 use Rattle.fm_pool_facts.specs.Steps.{is_clear}
 use Rattle.fm_pool_facts.specs.Words.{mark_of, alive_holds}
@@ -93,7 +93,7 @@ StandsAfter p s Ended = HasEnded p s.arena × IsToSweep p s
 -- The one mark that the visit loaded, of the walk's next number, as the finds keep it; these are the visit's own entries
 pub record Looked (old new : View) (s : Shutting) (own : List Entry) : Type 0 where
   pub find : Find
-  pub step : find.step ≡ Visits s.arena (pass_of s.next)
+  pub step : find.step ≡ Visits s.arena s.next
   pub seen : find.seen + length own ≡ length new.seen
   pub clear : find.clear ≡ is_clear old
   pub drew : find.drew ≡ None

@@ -1,19 +1,27 @@
 //! A program to begin with: copy this folder, give it a name and a line of its own in `crates.txt`, and change it.
 //!
 //! A sale stands in an arena that two threads share. Its price is put and read through a handle; then one thread adds to
-//! it while the other closes the arena, and whoever comes later is refused.
+//! it while the other closes the arena, and whoever comes later is refused. So it goes on each of two days, with a worker
+//! of its own each: the first one's pass is gathered, and the second one gets its number again.
 #![tactic(auto)]
 
-ghost use Rattle.std.specs.Prelude.{◌≡◌, IfOk, None, length};
+ghost use Rattle.std.specs.Prelude.{◌≡◌, IfOk, None, [], length};
+ghost use Rattle.fm_base.specs.Learnt.{AfterClose, CanVisit};
 ghost use Rattle.fm_arena.specs.Lasting.{SamePool};
+ghost use Rattle.fm_arena.specs.Shares.{CanShare};
+ghost use Rattle.fm_calls.specs.Told.{view_of_pass};
+ghost use Rattle.fm_gate.specs.Crews.{HasNothing};
+ghost use Rattle.fm_handle.specs.Learnt.{CanPut};
 
-use fm_arena::{Arena, Shared, keeps_its_pool};
+use fm_arena::{Arena, Shared, a_worker_can_be_gathered, keeps_its_pool};
 use fm_base::{Kind, Refusal};
+use fm_gate::a_crew_stands;
 use fm_handle::VarHandle;
 use fm_lanes::{Value, ValueKind};
 use fm_ljson::layout_from_json;
 use fm_path::{parse_path, resolve};
-use fm_rule::Pool;
+use fm_rule::{Pass, Pool};
+use fm_segment::Segment;
 use fm_words::Shape;
 use std::alloc::Global;
 use std::process::ExitCode;
@@ -24,17 +32,17 @@ use std::thread::{Threads, join_mut};
 const SALE: &str =
     r#"{"type":"struct","members":[{"type":"long","name":"id"},{"type":"long","name":"price"}]}"#;
 
-/// One page of 64 bytes for the one arena, and a pass for each thread.
+/// One page of 64 bytes and one slot for the arenas of both days, and a pass for each thread.
 const SHAPE: Shape = Shape {
     passes: 2,
     slots: 1,
     pages: 1,
     page_words: 8,
     reach: 1,
-    generations: 1,
+    generations: 2,
 };
 
-/// What was found.
+/// What was found on a day.
 #[derive(Clone, Copy, Debug)]
 struct Found {
     /// The price that was put.
@@ -47,13 +55,7 @@ struct Found {
 
 fn main(rt: HostRuntime) -> ExitCode {
     let printed = match sell(&rt, rt.alloc()) {
-        Ok(found) => {
-            let in_time = found.added == Ok(found.put) || found.added == Err(Refusal::Closed);
-            println!(rt;
-                "put {:?}\nadded or too late {in_time}\nafter {:?}",
-                found.put, found.after
-            )
-        }
+        Ok((first, second)) => print_day(&rt, 1, first).and_then(|()| print_day(&rt, 2, second)),
         Err(refusal) => println!(rt; "refused {refusal}"),
     };
     match printed {
@@ -62,14 +64,45 @@ fn main(rt: HostRuntime) -> ExitCode {
     }
 }
 
-/// Makes the handle, and a pool with a pass for each of two threads.
-fn sell<R: Threads + Wait + Sync>(rt: &R, alloc: Global) -> Result<Found, Refusal> {
+/// Prints what was found on a day.
+fn print_day(rt: &HostRuntime, day: u32, found: Found) -> std::io::Result<()> {
+    let in_time = found.added == Ok(found.put) || found.added == Err(Refusal::Closed);
+    println!(rt;
+        "day {day}: put {:?}\nadded or too late {in_time}\nafter {:?}",
+        found.put, found.after
+    )
+}
+
+/// Makes the handle and a pool, and sells on two days.
+fn sell<R: Threads + Wait + Sync>(rt: &R, alloc: Global) -> Result<(Found, Found), Refusal> {
     let price = price_of_a_sale(alloc)?;
-    let (pool, mut first) = Pool::make(alloc, SHAPE)?;
-    let second = pool.draw(rt, &mut first)?;
-    let mut ours = Shared::new(&pool, first);
-    let mut theirs = Shared::new(&pool, second);
-    share(rt, &price, &mut ours, &mut theirs)
+    let (pool, ours) = Pool::make(alloc, SHAPE)?;
+    let (ours, first) = sell_for_a_day(rt, &pool, ours, &price)?;
+    let (_, second) = sell_for_a_day(rt, &pool, ours, &price)?;
+    Ok((first, second))
+}
+
+/// Draws a pass for the day's worker, and gathers it at the end, so that its number comes back.
+fn sell_for_a_day<R: Threads + Wait + Sync>(
+    rt: &R,
+    pool: &Pool,
+    mut ours: Pass,
+    price: &VarHandle,
+) -> Result<(Pass, Found), Refusal>
+    requires ours { CanShare pool.now ours }
+    requires closed { length price.now.dims ≡ 0 }
+    requires long { price.now.value.kind ≡ ValueKind.Long }
+    ensures { IfOk result (λ r. CanShare pool.now r.0) }
+{
+    a_crew_stands();
+    a_worker_can_be_gathered();
+    let theirs = pool.draw(rt, &mut ours)?;
+    let mut ours = Shared::new(pool, ours);
+    let mut theirs = Shared::new(pool, theirs);
+    let found = share(rt, price, &mut ours, &mut theirs)?;
+    let mut ours = ours.into_pass();
+    pool.gather(&mut ours, theirs.into_pass());
+    Ok((ours, found))
 }
 
 /// A handle for the price. What a layout that is read may have otherwise is tested, once.
@@ -98,19 +131,64 @@ fn share<R: Threads + Wait + Sync>(
     requires same { SamePool ours.old theirs.old }
     requires ours { ours.old.inside ≡ None }
     requires theirs { theirs.old.inside ≡ None }
+    requires nothing { HasNothing theirs.old }
+    ensures ours { IfOk result (λ found. SamePool ours.old ours.new × (ours.new.inside ≡ None)) }
+    ensures theirs { IfOk result (λ found. SamePool theirs.old theirs.new × (theirs.new.inside ≡ None)) }
+    ensures nothing { IfOk result (λ found. HasNothing theirs.new) }
 {
     keeps_its_pool();
+    a_worker_can_be_gathered();
     let arena = Arena::start(rt, ours, Kind::Shared)?;
     let sale = arena.allocate(rt, ours, 16, 8)?;
     price.set(rt, ours, &sale, 0, &[], Value::Long(250))?;
     let put = price.get(ours, &sale, 0, &[])?;
     theirs.meet(ours.note());
-    let (added, closed) = join_mut(
-        rt,
-        &mut || price.get_and_add(rt, theirs, &sale, 0, &[], Value::Long(50)),
-        &mut || arena.close(rt, ours),
-    );
+    let (added, closed) = race(rt, price, ours, theirs, arena, &sale, Value::Long(50));
     closed?;
-    let after = price.get(theirs, &sale, 0, &[]);
+    let after = price.get(ours, &sale, 0, &[]);
     Ok(Found { put, added, after })
+}
+
+/// Closes the arena while the worker adds to the price in a thread of its own.
+fn race<R: Threads + Wait + Sync>(
+    rt: &R,
+    price: &VarHandle,
+    ours: &mut Shared,
+    theirs: &mut Shared,
+    arena: Arena,
+    sale: &Segment,
+    more: Value,
+) -> (Result<Value, Refusal>, Result<(), Refusal>)
+    requires can { CanPut (view_of_pass theirs.old) price.now sale.now [] more }
+    requires known { CanVisit (view_of_pass ours.old) arena.id }
+    requires nothing { HasNothing theirs.old }
+    ensures closed { AfterClose (view_of_pass ours.old) (view_of_pass ours.new) arena.id result.1 }
+    ensures outside { theirs.new.inside ≡ None }
+    ensures same { SamePool theirs.old theirs.new }
+    ensures nothing { HasNothing theirs.new }
+{
+    join_mut(
+        rt,
+        &mut || add(rt, price, theirs, sale, more),
+        &mut || arena.close(rt, ours),
+    )
+}
+
+/// The worker's part: it adds to the price, or comes too late.
+fn add<R: Wait>(
+    rt: &R,
+    price: &VarHandle,
+    theirs: &mut Shared,
+    sale: &Segment,
+    more: Value,
+) -> Result<Value, Refusal>
+    requires can { CanPut (view_of_pass theirs.old) price.now sale.now [] more }
+    requires nothing { HasNothing theirs.old }
+    ensures outside { theirs.new.inside ≡ None }
+    ensures same { SamePool theirs.old theirs.new }
+    ensures nothing { HasNothing theirs.new }
+{
+    keeps_its_pool();
+    a_worker_can_be_gathered();
+    price.get_and_add(rt, theirs, sale, 0, &[], more)
 }

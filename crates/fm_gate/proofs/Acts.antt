@@ -57,7 +57,7 @@ found_by {p = p} {m = m} reads s =
       caller = refl;
       gathered = refl;
       whole = refl;
-      drawn = refl;
+      number = refl;
       inside = refl;
     }) refl no_draws in
     record {
@@ -98,7 +98,7 @@ module _ {p m q : View} {f : ArenaId → Call} {reply : Reply} (is : IsAct f rep
         caller = refl;
         gathered = refl;
         whole = refl;
-        drawn = refl;
+        number = refl;
         inside = inside_acted m.inside m.caller f reply is;
       })
       (made_by-acted m.inside m.caller f reply) no_draws in
@@ -145,7 +145,7 @@ module _ {p q : View} (s : Stepped p q (record p { inside = None; mark = None })
     caller = refl;
     gathered = refl;
     whole = refl;
-    drawn = refl;
+    number = refl;
     inside = leaves_to p.inside p.caller;
   })
       (made_by-acted p.inside p.caller Leave Fine) no_draws

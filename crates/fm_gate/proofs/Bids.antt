@@ -39,7 +39,7 @@ no_draw p word bit found n = All-cons (λ f. is_draw f.step ≡ false) _ [] refl
 
 -- It leaves all else of the pass.
 hand_on : (p : View) (hand : Hand) → IsOn p (record p { hand = hand }) []
-hand_on p hand = record { shape = refl; home = refl; caller = refl; gathered = refl; whole = refl; drawn = refl; inside = refl }
+hand_on p hand = record { shape = refl; home = refl; caller = refl; gathered = refl; whole = refl; number = refl; inside = refl }
 
 -- the pass has come from p to q by exchanges that took nothing
 pub record Bidding (pool : Pool) (p q : View) : Type 0 where
@@ -135,7 +135,7 @@ module _ {pool : Pool} {o p q : View} (word bit found : ℕ) (b : Bidding pool o
       let w = went_to nothing (empty (found == word) refl) in
       let t = step_to nothing (empty (found == word) refl) in
       let n : ℕ = length (p.seen ++ t.others) in
-      let here : Find = record { step = TakesSlot word bit; found = found; seen = n; clear = is_clear p; drew = None } in
+      let here : Find = record { step = TakesSlot word bit; found = found; seen = n; clear = is_clear p; gathered = length p.gathered; drew = None } in
       let grown : q.finds ≡ p.finds ++ here ∷ [] = ap (λ (x : View). x.finds) t.is_part in
       record {
         went = w;
@@ -180,7 +180,7 @@ opened_in {p = p} {m = m} {q = q} {kind = kind} {a = a} slot generation learns o
       caller = refl;
       gathered = refl;
       whole = refl;
-      drawn = refl;
+      number = refl;
       inside = refl;
     }) (made_by-one m.caller (Open a) Fine) no_draws in
     let c : m.caller ≡ p.caller = g.same_caller in

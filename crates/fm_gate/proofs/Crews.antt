@@ -1,9 +1,10 @@
 -- Where passes stand once others are drawn from them, met and gathered.
-use Rattle.std.proofs.Common.{◌≡◌, ◌∙◌, ◌++◌, List, None, sym, ap, subst, append-nil}
+use Rattle.std.proofs.Common.{◌≡◌, ◌∙◌, ◌++◌, List, sym, ap, subst, append-nil}
 use Rattle.fm_base.specs.declared.arena_id.ArenaId.{ArenaId}
 use Rattle.fm_base.specs.Calls.{Entry}
 use Rattle.fm_base.specs.Finds.{Find, Rest}
 use Rattle.fm_pool_facts.specs.Views.{View, In, IsSound}
+use Rattle.fm_pool_facts.specs.Hands.{no_number}
 use Rattle.fm_rule.specs.declared.pool.Pool.{Pool}
 use Rattle.fm_rule.specs.Passes.{IsOf}
 use Rattle.fm_rule.specs.Draws.{Asked, Gathers}
@@ -21,7 +22,7 @@ record Stays (p q : View) : Type 0 where
   pub mark : q.mark ≡ p.mark
   pub hand : q.hand ≡ p.hand
   pub swept : q.swept ≡ p.swept
-  pub drawn : p.drawn ≡ None → q.drawn ≡ None
+  pub number : p.number ≡ no_number → q.number ≡ no_number
   pub holds : q.holds ≡ p.holds
   pub handles : q.handles ≡ p.handles
   pub pages : q.pages ≡ p.pages
@@ -39,14 +40,14 @@ stands_by {pool = pool} {p = p} {q = q} more seen sound s =
         of = of o.of;
         outside = s.inside ∙ o.outside;
         unmarked = s.mark ∙ o.unmarked;
-        no_number = s.drawn o.no_number;
+        no_number = s.number o.no_number;
         no_slot = s.hand ∙ o.no_slot;
         no_part = s.swept ∙ o.no_part;
       };
       inside = λ a i. record {
         of = of i.of;
         inside = s.inside ∙ i.inside;
-        no_number = s.drawn i.no_number;
+        no_number = s.number i.no_number;
         no_slot = s.hand ∙ i.no_slot;
         no_part = s.swept ∙ i.no_part;
       };
@@ -72,8 +73,8 @@ stands_by {pool = pool} {p = p} {q = q} more seen sound s =
       lasts = l;
     }
 
--- A pass that asked how many numbers were drawn, and has none in its hand.
-asked_stands : {pool : Pool} {p q : View} {draws : List Find} → Asked p q draws None → IsSound q → StandsOn pool p q
+-- A pass that looked for a number or for the count of draws, and has no number in its hand.
+asked_stands : {pool : Pool} {p q : View} {finds : List Find} → Asked p q finds no_number → IsSound q → StandsOn pool p q
 asked_stands a sound = stands_by a.more a.seen sound (record {
   home = ap (λ (x : View). x.home) a.is;
   shape = ap (λ (x : View). x.shape) a.is;
@@ -82,7 +83,7 @@ asked_stands a sound = stands_by a.more a.seen sound (record {
   mark = ap (λ (x : View). x.mark) a.is;
   hand = ap (λ (x : View). x.hand) a.is;
   swept = ap (λ (x : View). x.swept) a.is;
-  drawn = λ e. ap (λ (x : View). x.drawn) a.is;
+  number = λ e. ap (λ (x : View). x.number) a.is;
   holds = ap (λ (x : View). x.holds) a.is;
   handles = ap (λ (x : View). x.handles) a.is;
   pages = ap (λ (x : View). x.pages) a.is;
@@ -108,7 +109,7 @@ at_draw pool p q d of h =
         of = (ap (λ (x : View). x.home) h.is ∙ o.0, ap (λ (x : View). x.shape) h.is ∙ o.1);
         outside = ap (λ (x : View). x.inside) h.is;
         unmarked = ap (λ (x : View). x.mark) h.is;
-        no_number = ap (λ (x : View). x.drawn) h.is;
+        no_number = ap (λ (x : View). x.number) h.is;
         no_slot = ap (λ (x : View). x.hand) h.is;
         no_part = ap (λ (x : View). x.swept) h.is;
       };
@@ -125,7 +126,7 @@ at_draw pool p q d of h =
 seen_is_known : SeenIsKnown
 seen_is_known pool other p o of sound on = lasts_by (reached_by on.0 on.1 (of.1 ∙ sym o.1) sound)
 
-gathers_stand : {pool : Pool} {p other q : View} → Gathers p other q → StandsOn pool p q
+gathers_stand : {pool : Pool} {p other q : View} → Gathers p other no_number q → StandsOn pool p q
 gathers_stand g = stands_by g.more g.seen g.sound (record {
   home = ap (λ (x : View). x.home) g.is;
   shape = ap (λ (x : View). x.shape) g.is;
@@ -134,7 +135,7 @@ gathers_stand g = stands_by g.more g.seen g.sound (record {
   mark = ap (λ (x : View). x.mark) g.is;
   hand = ap (λ (x : View). x.hand) g.is;
   swept = ap (λ (x : View). x.swept) g.is;
-  drawn = λ e. ap (λ (x : View). x.drawn) g.is ∙ e;
+  number = λ e. ap (λ (x : View). x.number) g.is;
   holds = ap (λ (x : View). x.holds) g.is;
   handles = ap (λ (x : View). x.handles) g.is;
   pages = ap (λ (x : View). x.pages) g.is;
@@ -156,7 +157,7 @@ at_meeting pool p q s = stands_by s.others (s.seen ∙ append-nil (p.seen ++ s.o
   mark = ap (λ (x : View). x.mark) s.is_part;
   hand = ap (λ (x : View). x.hand) s.is_part;
   swept = ap (λ (x : View). x.swept) s.is_part;
-  drawn = λ e. ap (λ (x : View). x.drawn) s.is_part ∙ e;
+  number = λ e. ap (λ (x : View). x.number) s.is_part ∙ e;
   holds = ap (λ (x : View). x.holds) s.is_part;
   handles = ap (λ (x : View). x.handles) s.is_part;
   pages = ap (λ (x : View). x.pages) s.is_part;

@@ -41,7 +41,7 @@ mark_goes s = goes_of s (record {
   caller = refl;
   gathered = refl;
   whole = refl;
-  drawn = refl;
+  number = refl;
   inside = refl;
 }) refl no_draws
 
@@ -77,7 +77,7 @@ module _ {pool : Pool} {p q r : View} {a : ArenaId} (word : ℕ) (can : CanVisit
         caller = refl;
         gathered = refl;
         whole = refl;
-        drawn = refl;
+        number = refl;
         inside = i ∙ out;
       } in
       goes_then marked (goes_of s on (ap (λ c. made_by c own) n ∙ made_by-one p.caller (Enter a) (enter_found found)) no_draws)

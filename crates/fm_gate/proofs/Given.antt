@@ -1,14 +1,12 @@
 -- What is learnt of allocating inside an arena.
-use Rattle.std.proofs.Common.{◌≡◌, ◌≢◌, ℕ, ◌+◌, ◌*◌, ◌/◌, ◌<◌, ◌≤◌, nat_le, Bool, true, false, if◌then◌else◌, List, [], ◌∷◌, ◌++◌, length, refl, ap, sym, ◌∙◌, subst, inl, inr, ⊎_elim, All, Some, None, Result, Ok, Err, eq-eqb, append_assoc, arith}
-use Rattle.std.proofs.lemmas.List.{length-append}
-use Rattle.std.proofs.lemmas.List.Elements.{All-head, All-tail, Contains-append_right}
+use Rattle.std.proofs.Common.{◌≡◌, ◌≢◌, ℕ, ◌+◌, ◌*◌, ◌/◌, ◌<◌, ◌≤◌, nat_le, Bool, true, false, if◌then◌else◌, List, [], ◌∷◌, ◌++◌, refl, ap, sym, ◌∙◌, subst, inl, inr, ⊎_elim, All, Some, None, Result, Ok, Err, eq-eqb, append_assoc}
+use Rattle.std.proofs.lemmas.List.Elements.{All-head, All-tail}
 use Rattle.fm_words.specs.declared.shape.Shape.{Shape}
 use Rattle.fm_base.specs.declared.caller.Caller.{Caller}
 use Rattle.fm_base.specs.declared.arena_id.ArenaId.{ArenaId}
 use Rattle.fm_base.specs.declared.refusal.Refusal.{Refusal}
 use Rattle.fm_base.specs.declared.refusal.Refusal.TheVariants as refusal
 use Rattle.fm_base.specs.Calls.{Allocate, Reply, Given, NoRoom, Entry, entry_of}
-use Rattle.fm_base.specs.Finds.{Find}
 use Rattle.fm_base.specs.Histories.{made_by}
 use Rattle.fm_base.specs.Machine.{allocate_reply, rounded_up}
 use Rattle.fm_base.specs.View.{is_loan}
@@ -18,6 +16,7 @@ use Rattle.fm_pool_facts.proofs.Keeping.{in_append}
 use Rattle.fm_rule.specs.declared.pool.Pool.{Pool}
 use Rattle.fm_pages.specs.Gives.{Unpaged}
 use Rattle.fm_pages.specs.Maps.{Way}
+use Rattle.fm_pages.proofs.Looking.{all_earlier}
 use Rattle.fm_pages.proofs.Parts.{way_then, pages_way}
 use Rattle.fm_gate.specs.Giving.{NonePaged, AfterGive}
 use Rattle.fm_gate.specs.Pages.{IsInRange, LendsInRange, given_after}
@@ -131,22 +130,8 @@ module _ {pool : Pool} {o p : View} {a : ArenaId} {size align count found : ℕ}
     none_paged : NonePaged o q a size align
     none_paged =
         let x = u.lacks.none in
-        let long : length p.seen ≡ length o.seen + length before.goes.more =
-        ap (λ (es : List Entry). length es) before.goes.seen ∙ length-append o.seen before.goes.more in
-        let late = x.early in
         record {
-          found = record {
-            more = before.goes.finds.more ++ x.found.more;
-            grown = x.found.grown ∙ (ap (λ (fs : List Find). fs ++ x.found.more) before.goes.finds.grown
-                ∙ append_assoc o.finds before.goes.finds.more x.found.more);
-            find = x.found.find;
-            among = Contains-append_right before.goes.finds.more x.found.more x.found.find x.found.among;
-            step = x.found.step;
-            nothing = x.found.nothing;
-          };
-          early = omega arith;
-          late = x.late;
-          left = x.left;
+          found = all_earlier before.goes x.found;
           counted = p.seen;
           count_stood = record { since = (before.goes.more, before.goes.seen); until = (u.way.goes.more, u.way.goes.seen) };
           part = u.lacks.part;

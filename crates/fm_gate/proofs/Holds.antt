@@ -135,7 +135,7 @@ after_unhold {pool = pool} {p = p} {q = q} {hold = hold} can s =
       caller = refl;
       gathered = refl;
       whole = refl;
-      drawn = refl;
+      number = refl;
       inside = refl;
     }) (made_by-one p.caller (Unhold hold.arena) Fine) no_draws in
     record {

@@ -1,8 +1,9 @@
 -- Whether pages are too few for an allocation.
-use Rattle.std.proofs.Common.{◌≡◌, ℕ, ◌+◌, ◌<◌, ◌≤◌, true, List, [], ap, sym, subst, ◌&&◌}
+use Rattle.std.proofs.Common.{◌≡◌, ℕ, ◌+◌, ◌<◌, ◌≤◌, true, List, [], ap, sym, subst, ◌&&◌, arith}
 use Rattle.fm_words.specs.declared.shape.Shape.{Shape}
 use Rattle.fm_base.specs.declared.arena_id.ArenaId.{ArenaId}
 use Rattle.fm_base.specs.Arenas.{arena_of}
+use Rattle.fm_base.specs.Calls.{Entry}
 use Rattle.fm_base.specs.Histories.{state_after}
 use Rattle.fm_base.specs.Machine.{rounded_up}
 use Rattle.fm_pool_facts.specs.Hands.{nothing, slots_in}
@@ -10,6 +11,8 @@ use Rattle.fm_pool_facts.specs.Loans.{Loan, lent}
 use Rattle.fm_pool_facts.specs.Scarcity.{IsScarce, parts_before, lacking}
 use Rattle.fm_pool_facts.specs.Steps.{is_clear, is_empty}
 use Rattle.fm_pool_facts.specs.Views.{View, given_of, limit_of, unlent}
+use Rattle.fm_calls.specs.Kept.{Goes}
+use Rattle.fm_pages.specs.Claims.{AllFoundEmpty, FoundEmpty}
 
 -- They are so in two views alike, where the arena has given the same bytes and the same blocks are lent.
 pub scarce_by : {p q : View} {a : ArenaId} {size align : ℕ} → q.shape ≡ p.shape → given_of q a ≡ given_of p a → lent q.seen ≡ lent p.seen
@@ -31,3 +34,9 @@ scarce_seen {p = p} {q = q} {a = a} shape seen s = scarce_by shape (given_by p q
 pub clear : (p : View) → p.whole ≡ true → p.hand ≡ nothing → p.pages ≡ [] → p.closes ≡ [] → p.sweeps ≡ [] → is_clear p ≡ true
 clear p whole hand pages closes sweeps =
     λ j. whole j && is_empty (slots_in (hand j)) && is_empty (pages j) && is_empty (closes j) && is_empty (sweeps j)
+
+-- A pool has a word of page bits.
+pub one_empty : {p q : View} {es : List Entry} → Goes p q es → AllFoundEmpty p q → FoundEmpty p q 0
+one_empty {p = p} g all =
+    let some : 1 ≤ p.shape.pages = subst (λ (z : Shape). 1 ≤ z.pages) g.same_shape g.sound.valid.pages.0 in
+    all 0 (let n : ℕ = p.shape.pages in omega (arith, some))

@@ -3,7 +3,7 @@ use Rattle.std.proofs.Common.{◌≡◌, ◌∙◌, ℕ, List, ap, Some, None}
 use Rattle.fm_base.specs.declared.arena_id.ArenaId.{ArenaId}
 use Rattle.fm_base.specs.Calls.{Entry}
 use Rattle.fm_base.specs.Finds.{Find}
-use Rattle.fm_pool_facts.specs.Hands.{nothing}
+use Rattle.fm_pool_facts.specs.Hands.{nothing, no_number}
 use Rattle.fm_pool_facts.specs.Parts.{unread}
 use Rattle.fm_pool_facts.specs.Views.{View}
 use Rattle.fm_pool_facts.specs.Steps.{Stepped}
@@ -26,12 +26,12 @@ pub swept_is : {p q part : View} {own : List Entry} {noted : ℕ → List Find} 
 swept_is s = ap (λ (x : View). x.swept) s.is_part
 
 -- Outside, where it is in no arena and publishes no mark.
-pub stands_outside : {pool : Pool} {p q : View} {own : List Entry} → Goes p q own → IsOf pool p → p.drawn ≡ None → q.hand ≡ nothing
+pub stands_outside : {pool : Pool} {p q : View} {own : List Entry} → Goes p q own → IsOf pool p → p.number ≡ no_number → q.hand ≡ nothing
     → q.swept ≡ unread → q.inside ≡ None → q.mark ≡ None → IsOutside pool q
 stands_outside {pool = pool} g o d h w i m =
-    record { of = of_on pool g o; outside = i; unmarked = m; no_number = g.same_drawn ∙ d; no_slot = h; no_part = w }
+    record { of = of_on pool g o; outside = i; unmarked = m; no_number = g.same_number ∙ d; no_slot = h; no_part = w }
 
 -- Inside.
-pub stands_inside : {pool : Pool} {p q : View} {own : List Entry} {a : ArenaId} → Goes p q own → IsOf pool p → p.drawn ≡ None → q.hand ≡ nothing
+pub stands_inside : {pool : Pool} {p q : View} {own : List Entry} {a : ArenaId} → Goes p q own → IsOf pool p → p.number ≡ no_number → q.hand ≡ nothing
     → q.swept ≡ unread → q.inside ≡ Some a → IsInside pool q a
-stands_inside {pool = pool} g o d h w i = record { of = of_on pool g o; inside = i; no_number = g.same_drawn ∙ d; no_slot = h; no_part = w }
+stands_inside {pool = pool} g o d h w i = record { of = of_on pool g o; inside = i; no_number = g.same_number ∙ d; no_slot = h; no_part = w }

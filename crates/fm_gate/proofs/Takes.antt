@@ -60,7 +60,7 @@ module _ {o p q : View} (a : ArenaId) (word found : ℕ) (w : Waited o p) (s : E
         caller = refl;
         gathered = refl;
         whole = refl;
-        drawn = refl;
+        number = refl;
         inside = refl;
       }) (made_by-one p.caller (Hold a) (reply_at a word)) no_draws in
       let same : p.caller ≡ o.caller = ap (λ (x : View). x.caller) w.is in

@@ -1,7 +1,6 @@
 -- What is learnt of allocating, from entering the arena to leaving it.
-use Rattle.std.proofs.Common.{◌≡◌, ℕ, ◌+◌, ◌*◌, ◌/◌, ◌<◌, ◌≤◌, true, List, [], ◌∷◌, ◌++◌, length, refl, ap, sym, ◌∙◌, subst, inl, inr, ⊎_elim, Option, Result, Ok, append_assoc, arith}
-use Rattle.std.proofs.lemmas.List.{length-append}
-use Rattle.std.proofs.lemmas.List.Elements.{Contains-append_left, Contains-append_right, filter-append}
+use Rattle.std.proofs.Common.{◌≡◌, ℕ, ◌+◌, ◌*◌, ◌/◌, ◌<◌, ◌≤◌, true, List, [], ◌∷◌, ◌++◌, refl, ap, ◌∙◌, subst, inl, inr, ⊎_elim, Option, Result, Ok, append_assoc}
+use Rattle.std.proofs.lemmas.List.Elements.{filter-append}
 use Rattle.fm_words.specs.declared.shape.Shape.{Shape}
 use Rattle.fm_base.specs.declared.caller.Caller.{Caller}
 use Rattle.fm_base.specs.declared.arena_id.ArenaId.{ArenaId}
@@ -9,7 +8,7 @@ use Rattle.fm_base.specs.declared.refusal.Refusal.{Refusal}
 use Rattle.fm_base.specs.Arenas.{State, arena_of}
 use Rattle.fm_base.specs.Calls.{Enter, Leave, Lend, Fine, Entry, entry_of}
 use Rattle.fm_base.specs.Does.{DoesAct, DoesAllocate}
-use Rattle.fm_base.specs.Finds.{Find, Rest}
+use Rattle.fm_base.specs.Finds.{Rest}
 use Rattle.fm_base.specs.Histories.{made_by, state_after}
 use Rattle.fm_base.specs.Machine.{IsPower, entered, rounded_up}
 use Rattle.fm_base.specs.View.{but_loans, is_loan}
@@ -17,7 +16,7 @@ use Rattle.fm_base.proofs.Learning.{allocate_gives}
 use Rattle.fm_base.proofs.Lookup.{changed_lookup}
 use Rattle.fm_base.proofs.Making.{state_after-append}
 use Rattle.fm_pool_facts.specs.Loans.{lent}
-use Rattle.fm_pool_facts.specs.Views.{View, FewLeft, In, given_of, limit_of, state_in, unlent}
+use Rattle.fm_pool_facts.specs.Views.{View, In, given_of, limit_of, state_in}
 use Rattle.fm_pool_facts.proofs.Keeping.{in_append}
 use Rattle.fm_pool_facts.proofs.Lending.{loans_after-append}
 use Rattle.fm_rule.specs.declared.pool.Pool.{Pool}
@@ -26,6 +25,7 @@ use Rattle.fm_calls.specs.Told.{view_of_pass}
 use Rattle.fm_calls.proofs.Going.{goes_then, lasts_on}
 use Rattle.fm_calls.proofs.Sweeps.{no_sweeps}
 use Rattle.fm_calls.proofs.Telling.{did_of}
+use Rattle.fm_pages.proofs.Looking.{all_earlier, found_later}
 use Rattle.fm_gate.specs.Giving.{AfterGive, DoesGive, NonePaged}
 use Rattle.fm_gate.specs.Learnt.{AfterEnter, AfterLeave, AfterAllocate}
 use Rattle.fm_gate.specs.Pages.{FoundNoPage, IsDuring, IsInRange, LendsInRange, given_after}
@@ -39,20 +39,6 @@ during_on {p = p} {at = at} first last d = record {
   since = (first.more ++ d.since.0, d.since.1 ∙ (ap (λ (xs : List Entry). xs ++ d.since.0) first.seen ∙ append_assoc p.seen first.more d.since.0));
   until = (d.until.0 ++ last.more, last.seen ∙ (ap (λ (xs : List Entry). xs ++ last.more) d.until.1 ∙ append_assoc at d.until.0 last.more));
 }
-
-few_on : {r s : View} {fs : List Entry} {f : Find} → Goes r s fs → FewLeft r.shape r.seen f → FewLeft s.shape s.seen f
-few_on {f = f} last l =
-    let shape = sym last.same_shape in
-    record {
-      before = l.before;
-      begins = (
-        l.begins.0 ++ last.more,
-        last.seen ∙ (ap (λ (xs : List Entry). xs ++ last.more) l.begins.1 ∙ append_assoc l.before l.begins.0 last.more),
-      );
-      long = l.long;
-      few = subst (λ (z : Shape). unlent z.pages (lent l.before) < z.passes) shape l.few;
-      none = subst (λ (z : Shape). f.clear ≡ true → unlent z.pages (lent l.before) ≡ 0) shape l.none;
-    }
 
 range_on : {p q : View} {es : List Entry} (a : ArenaId) (size align part : ℕ) (counted : List Entry) → Goes p q es
     → IsInRange q (given_after q counted a) size align part → IsInRange p (given_after p counted a) size align part
@@ -70,26 +56,8 @@ module _ {p q : View} {a : ArenaId} (first : Goes p q (entry_of p.caller (Enter 
       → NonePaged q r a size align → FoundNoPage p s a size align
   found_no_page {r = r} {s = s} {size = size} {align = align} between last x =
       let same : q.caller ≡ p.caller = first.same_caller in
-      let long : length q.seen ≡ length p.seen + length first.more = ap (λ (es : List Entry). length es) first.seen ∙ length-append p.seen first.more in
-      let longer : length s.seen ≡ length r.seen + length last.more = ap (λ (es : List Entry). length es) last.seen ∙ length-append r.seen last.more in
-      let early = x.early in
-      let late = x.late in
       record {
-        found = record {
-          more = first.finds.more ++ (x.found.more ++ last.finds.more);
-          grown = last.finds.grown ∙ (ap (λ (fs : List Find). fs ++ last.finds.more) (x.found.grown
-              ∙ ap (λ (fs : List Find). fs ++ x.found.more) first.finds.grown)
-              ∙ (append_assoc (p.finds ++ first.finds.more) x.found.more last.finds.more
-              ∙ append_assoc p.finds first.finds.more (x.found.more ++ last.finds.more)));
-          find = x.found.find;
-          among = Contains-append_right first.finds.more (x.found.more ++ last.finds.more) x.found.find
-              (Contains-append_left x.found.more last.finds.more x.found.find x.found.among);
-          step = x.found.step;
-          nothing = x.found.nothing;
-        };
-        early = omega arith;
-        late = omega arith;
-        left = few_on last x.left;
+        found = λ g low. found_later (all_earlier first x.found g low) last;
         lacked = record {
           counted = x.counted;
           count_stood = during_on first last x.count_stood;

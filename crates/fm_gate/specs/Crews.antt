@@ -4,6 +4,7 @@ use Rattle.fm_base.specs.declared.arena_id.ArenaId.{ArenaId}
 use Rattle.fm_base.specs.Calls.{Entry}
 use Rattle.fm_pool_facts.specs.Views.{View, IsSound}
 use Rattle.fm_pool_facts.specs.Steps.{Stepped, none_noted}
+use Rattle.fm_pool_facts.specs.Hands.{no_number}
 use Rattle.fm_rule.specs.declared.pool.Pool.{Pool}
 use Rattle.fm_rule.specs.Passes.{IsOf, GoesOnFrom}
 use Rattle.fm_rule.specs.Draws.{Drawn, NoneDrawn, Looked, CanGather, Gathers}
@@ -58,7 +59,7 @@ StandsAtLook = (pool : Pool) (old new : View) (result : Bool) → Looked old new
 
 abbrev pub StandsAtGather : Type 0
 StandsAtGather =
-    (pool : Pool) (old other new : View) → IsOf pool old → CanGather pool other → Gathers old other new
+    (pool : Pool) (old other new : View) → IsOf pool old → CanGather pool other → Gathers old other no_number new
     → StandsAfterGather pool old other new
 
 -- where a pass met a note

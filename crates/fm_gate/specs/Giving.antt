@@ -1,19 +1,19 @@
 -- What the parts of `allocate` do inside the arena.
-use Rattle.std.specs.Prelude.{◌≡◌, ◌≤◌, ◌+◌, ◌++◌, ℕ, Bool, true, false, List, [], ◌∷◌, length, All, Result, Ok, Err, ⊤}
+use Rattle.std.specs.Prelude.{◌≡◌, ◌≤◌, ◌+◌, ◌++◌, ℕ, Bool, true, false, List, [], ◌∷◌, All, Result, Ok, Err, ⊤}
 use Rattle.fm_base.specs.declared.caller.Caller.{Caller}
 use Rattle.fm_base.specs.declared.arena_id.ArenaId.{ArenaId}
 use Rattle.fm_base.specs.declared.refusal.Refusal.{Refusal}
 use Rattle.fm_base.specs.declared.refusal.Refusal.TheVariants as refusal
 use Rattle.fm_base.specs.Calls.{Lend, Allocate, Reply, Fine, Given, NoRoom, Entry, entry_of}
-use Rattle.fm_base.specs.Finds.{FoundNothing, is_page}
 use Rattle.fm_base.specs.Histories.{made_by}
 use Rattle.fm_base.specs.Machine.{rounded_up}
 use Rattle.fm_base.specs.View.{is_loan}
 use Rattle.fm_pool_facts.specs.Loans.{HasPart, lent}
-use Rattle.fm_pool_facts.specs.Views.{View, FewLeft, In, limit_of}
+use Rattle.fm_pool_facts.specs.Views.{View, In, limit_of}
 use Rattle.fm_pool_facts.specs.Steps.{HasParts}
 use Rattle.fm_rule.specs.declared.pool.Pool.{Pool}
 use Rattle.fm_calls.specs.Kept.{Kept}
+use Rattle.fm_pages.specs.Claims.{AllFoundEmpty}
 use Rattle.fm_pages.specs.Maps.{Way}
 use Rattle.fm_gate.specs.Pages.{IsDuring, IsInRange, FullExactly, LendsInRange, given_after}
 use Rattle.fm_gate.specs.Standing.{IsInside}
@@ -54,10 +54,7 @@ DoesGive c id size align (Err r) own = ⊥
 
 -- a part of the range had no page, and none was free, as `FoundNoPage` says it of the whole call
 pub record NonePaged (old new : View) (id : ArenaId) (size align : ℕ) : Type 0 where
-  pub found : FoundNothing is_page old.finds new.finds
-  pub early : length old.seen ≤ found.find.seen
-  pub late : found.find.seen ≤ length new.seen
-  pub left : FewLeft new.shape new.seen found.find
+  pub found : AllFoundEmpty old new
   pub counted : List Entry
   pub count_stood : IsDuring old new counted
   pub part : ℕ

@@ -1,16 +1,16 @@
 -- Where an allocation finds no page.
-use Rattle.std.specs.Prelude.{◌≡◌, ◌<◌, ◌≤◌, ◌+◌, ◌*◌, ◌/◌, ℕ, List, [], ◌∷◌, ◌++◌, length, Result, Ok, Err, ⊤}
+use Rattle.std.specs.Prelude.{◌≡◌, ◌<◌, ◌≤◌, ◌+◌, ◌*◌, ◌/◌, ℕ, List, [], ◌∷◌, ◌++◌, Result, Ok, Err, ⊤}
 use Rattle.fm_base.specs.declared.arena_id.ArenaId.{ArenaId}
 use Rattle.fm_base.specs.declared.refusal.Refusal.{Refusal}
 use Rattle.fm_base.specs.declared.refusal.Refusal.TheVariants as refusal
 use Rattle.fm_base.specs.Arenas.{arena_of}
 use Rattle.fm_base.specs.Calls.{Entry, Lend, Leave, Fine, entry_of}
-use Rattle.fm_base.specs.Finds.{FoundNothing, is_page}
 use Rattle.fm_base.specs.Histories.{made_by, state_after}
 use Rattle.fm_base.specs.Machine.{rounded_up}
 use Rattle.fm_pool_facts.specs.Loans.{HasPart, lent}
 use Rattle.fm_pool_facts.specs.Scarcity.{IsScarce}
-use Rattle.fm_pool_facts.specs.Views.{View, Begins, FewLeft, limit_of}
+use Rattle.fm_pool_facts.specs.Views.{View, Begins, limit_of}
+use Rattle.fm_pages.specs.Claims.{AllFoundEmpty}
 
 -- how many bytes the arena had given after these entries
 abbrev pub given_after : View → List Entry → ArenaId → ℕ
@@ -50,14 +50,9 @@ pub record LendsInRange (old new : View) (id : ArenaId) (size align : ℕ) (e : 
   pub after : given_after old counted id / (old.shape.page_words * 8) ≤ part
   pub before : part * (old.shape.page_words * 8) < rounded_up (given_after old counted id) align + size
 
--- of an allocation that is refused with PoolFull: the word of page bits was 0 at a step of the call
+-- of an allocation that is refused with PoolFull: each word of page bits was 0 at a step of the call
 pub record FoundNoPage (old new : View) (id : ArenaId) (size align : ℕ) : Type 0 where
-  pub found : FoundNothing is_page old.finds new.finds
-  -- at that step as much had been seen as at no time before the call, or after it
-  pub early : length old.seen ≤ found.find.seen
-  pub late : found.find.seen ≤ length new.seen
-  -- then fewer pages weren't lent than there are passes
-  pub left : FewLeft new.shape new.seen found.find
+  pub found : AllFoundEmpty old new
   pub lacked : LackedPart old new id size align
 
 -- pages are too few exactly where it is refused with PoolFull; other refusals come before

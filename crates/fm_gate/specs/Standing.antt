@@ -2,7 +2,7 @@
 use Rattle.std.specs.Prelude.{◌≡◌, ◌≢◌, ◌<◌, ◌*◌, ℕ, [], bit_and, Some, None}
 use Rattle.fm_base.specs.declared.arena_id.ArenaId.{ArenaId}
 use Rattle.fm_base.specs.declared.kind.Kind.TheVariants.{Automatic}
-use Rattle.fm_pool_facts.specs.Hands.{nothing}
+use Rattle.fm_pool_facts.specs.Hands.{nothing, no_number}
 use Rattle.fm_pool_facts.specs.Parts.{unread}
 use Rattle.fm_pool_facts.specs.Views.{View, In, IsKnown, given_of}
 use Rattle.fm_rule.specs.declared.pool.Pool.{Pool}
@@ -15,7 +15,7 @@ pub record IsOutside (pool : Pool) (p : View) : Type 0 where
   pub of : IsOf pool p
   pub outside : p.inside ≡ None
   pub unmarked : p.mark ≡ None
-  pub no_number : p.drawn ≡ None
+  pub no_number : p.number ≡ no_number
   pub no_slot : p.hand ≡ nothing
   pub no_part : p.swept ≡ unread
 
@@ -23,7 +23,7 @@ pub record IsOutside (pool : Pool) (p : View) : Type 0 where
 pub record IsInside (pool : Pool) (p : View) (id : ArenaId) : Type 0 where
   pub of : IsOf pool p
   pub inside : p.inside ≡ Some id
-  pub no_number : p.drawn ≡ None
+  pub no_number : p.number ≡ no_number
   pub no_slot : p.hand ≡ nothing
   pub no_part : p.swept ≡ unread
 

@@ -9,6 +9,6 @@ pub enum LoadFault {
     TooLong,
     /// Memory ran out.
     Memory,
-    /// The arena's pool had no page left. It comes only of loads into an arena.
+    /// A step found no free page for the arena. It comes only of loads into an arena.
     PoolFull,
 }

@@ -52,7 +52,7 @@ entries_in (h ∷ hs) = entries_by h ++ entries_in hs
 
 -- where an `open_arena` found no slot, a step found no bit to take, after so many entries
 abbrev pub finds_by : ℕ → Heard → List Find
-finds_by seen (Open (Err refusal.NoSlot)) = record { step = TakesSlot 0 0; found = 0; seen = seen; clear = true; drew = None } ∷ []
+finds_by seen (Open (Err refusal.NoSlot)) = record { step = TakesSlot 0 0; found = 0; seen = seen; clear = true; gathered = 1; drew = None } ∷ []
 finds_by seen h = []
 
 abbrev pub finds_in : ℕ → List Heard → List Find

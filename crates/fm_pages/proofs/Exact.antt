@@ -26,7 +26,7 @@ use Rattle.fm_calls.proofs.UnderWay.{stands_under_way}
 use Rattle.fm_pages.specs.Covers.{LendsIn, Lacks}
 use Rattle.fm_pages.specs.Gives.{allocates}
 use Rattle.fm_pages.specs.Maps.{Way}
-use Rattle.fm_pages.proofs.Parts.{whole_clear}
+use Rattle.fm_pages.proofs.Clear.{whole_clear}
 
 -- ---- parts of a range
 

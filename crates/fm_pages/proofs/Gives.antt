@@ -50,7 +50,7 @@ way_allocate {p = p} {q = q} a count size align found ins none s =
         caller = refl;
         gathered = refl;
         whole = refl;
-        drawn = refl;
+        number = refl;
         inside = inside_same (found == count) p.inside p.caller a size align reply;
       }) (made_same (found == count) p.caller a size align reply) no_draws;
       is = t.is_part ∙ (λ j. record p {

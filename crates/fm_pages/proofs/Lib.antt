@@ -1,5 +1,7 @@
 pub mod Finding
+pub mod Clear
 pub mod Bids
+pub mod Looking
 pub mod Parts
 pub mod Mapped
 pub mod Provided

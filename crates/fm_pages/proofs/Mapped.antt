@@ -46,7 +46,7 @@ way_map {q = q} {r = r} a i page y s =
         caller = refl;
         gathered = refl;
         whole = refl;
-        drawn = refl;
+        number = refl;
         inside = inside_lent (y == 0) q.inside q.caller a i page;
       }) (made_lent (y == 0) q.caller a i page) (draws_none q a i page y);
       is = s.is_part ∙ (λ j. record q {

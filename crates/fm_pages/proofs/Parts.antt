@@ -1,18 +1,15 @@
 -- Ways of a pass that maps pages, and reads which page a part has.
-use Rattle.std.proofs.Common.{◌≡◌, ◌≢◌, ℕ, ◌-◌, ◌==◌, ◌&&◌, Bool, true, false, if◌then◌else◌, List, [], ◌∷◌, ◌++◌, refl, ap, sym, ◌∙◌, subst, inl, inr, Some, ne_eqb}
-use Rattle.std.proofs.lemmas.List.{append-nil}
+use Rattle.std.proofs.Common.{◌≡◌, ◌≢◌, ℕ, ◌-◌, ◌==◌, Bool, true, false, if◌then◌else◌, List, [], ◌∷◌, ◌++◌, refl, ap, sym, ◌∙◌, subst, inl, inr, Some, ne_eqb}
 use Rattle.fm_base.specs.declared.arena_id.ArenaId.{ArenaId}
 use Rattle.fm_base.specs.Calls.{Entry}
-use Rattle.fm_pool_facts.specs.Hands.{slots_in}
 use Rattle.fm_pool_facts.specs.Parts.{Mapping, mapping_of, reads_after}
 use Rattle.fm_pool_facts.specs.Views.{View, In}
-use Rattle.fm_pool_facts.specs.Steps.{Stepped, none_noted, is_clear, is_empty}
+use Rattle.fm_pool_facts.specs.Steps.{Stepped, none_noted, is_clear}
 use Rattle.fm_rule.specs.declared.pool.Pool.{Pool}
 use Rattle.fm_rule.specs.Passes.{IsOf}
-use Rattle.fm_calls.specs.Kept.{Goes}
 use Rattle.fm_calls.proofs.Going.{goes_of, goes_then, no_draws}
 use Rattle.fm_pages.specs.Claims.{Went}
-use Rattle.fm_pages.proofs.Bids.{clear_still}
+use Rattle.fm_pages.proofs.Clear.{clear_still}
 use Rattle.fm_pages.specs.Maps.{Way}
 
 -- ---- ways
@@ -46,18 +43,6 @@ pages_way w = ap (λ (x : View). x.pages) w.is
 pub clear_way : {p q : View} {es : List Entry} → Way p q es [] → is_clear p ≡ true → is_clear q ≡ true
 clear_way {p = p} {q = q} w h = ap is_clear w.is ∙ clear_still p q.seen q.finds q.reads h
 
--- and is known to be whole
-pub whole_clear : (v : View) → is_clear v ≡ true → v.whole ≡ true
-whole_clear v = go v.whole (is_empty (slots_in v.hand)) (is_empty v.pages) (is_empty v.closes) (is_empty v.sweeps)
-  where
-    go : (a b c d e : Bool) → (a && b && c && d && e) ≡ true → a ≡ true
-    go true b c d e h = refl
-    go false b c d e h = h
-
--- nobody made an entry while it made none, if it is known to be whole
-pub still_seen : {p q : View} → Goes p q [] → p.whole ≡ true → q.seen ≡ p.seen
-still_seen {p = p} g w = g.seen ∙ (ap (λ (es : List Entry). p.seen ++ es) (g.alone w) ∙ append-nil p.seen)
-
 -- ---- reading a map word
 
 read_keeps : (b : Bool) (m n : Mapping) (ms : List Mapping) → In m ms → In m (if b then ms else n ∷ ms)
@@ -69,7 +54,7 @@ way_read {p = p} {q = q} i x none s =
     let finds : p.finds ++ [] ≡ q.finds = sym (ap (λ (v : View). v.finds) s.is_part) in
     let reads : reads_after i x p.reads ≡ q.reads = sym (ap (λ (v : View). v.reads) s.is_part) in
     record {
-      goes = goes_of s (record { shape = refl; home = refl; caller = refl; gathered = refl; whole = refl; drawn = refl; inside = refl }) refl no_draws;
+      goes = goes_of s (record { shape = refl; home = refl; caller = refl; gathered = refl; whole = refl; number = refl; inside = refl }) refl no_draws;
       is = s.is_part ∙ (λ j. record p { seen = q.seen; finds = finds j; reads = reads j; pages = none j });
       keeps = λ m k. subst (In m) reads (read_keeps (x == 0) m (mapping_of i (x - 1)) p.reads k);
     }

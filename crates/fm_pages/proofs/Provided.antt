@@ -1,18 +1,15 @@
 -- A part gets a page, where it has none and one is free.
-use Rattle.std.proofs.Common.{◌≡◌, ◌≢◌, ℕ, ◌+◌, ◌-◌, ◌≤◌, true, false, List, [], ◌∷◌, ◌++◌, length, refl, ap, sym, ◌∙◌, subst, inl, inr, Err, arith}
-use Rattle.std.proofs.lemmas.List.{append-nil, length-append}
+use Rattle.std.proofs.Common.{◌≡◌, ◌≢◌, ℕ, ◌-◌, true, false, List, [], ◌∷◌, refl, ap, sym, ◌∙◌, subst, inl, inr, Err}
 use Rattle.fm_words.specs.declared.shape.Shape.{Shape}
 use Rattle.fm_base.specs.declared.caller.Caller.{Caller}
 use Rattle.fm_base.specs.declared.arena_id.ArenaId.{ArenaId}
 use Rattle.fm_base.specs.Calls.{Entry, Lend, Fine, entry_of}
 use Rattle.fm_base.specs.Histories.{made_by}
-use Rattle.fm_base.specs.Finds.{Find}
 use Rattle.fm_pool_facts.specs.Loans.{HasPart, lent}
 use Rattle.fm_pool_facts.specs.Parts.{mapping_of, reads_after}
 use Rattle.fm_pool_facts.specs.Views.{View, unlent}
 use Rattle.fm_pool_facts.specs.Moves.{LearnsMap}
 use Rattle.fm_pool_facts.specs.Steps.{Stepped, none_noted}
-use Rattle.fm_calls.specs.Kept.{Goes}
 use Rattle.fm_pages.specs.Claims.{Went, PageClaimed, NoneClaimed}
 use Rattle.fm_pages.specs.Maps.{Way}
 use Rattle.fm_base.specs.declared.refusal.Refusal.{Refusal}
@@ -20,7 +17,9 @@ use Rattle.fm_base.specs.declared.refusal.Refusal.TheVariants as refusal
 use Rattle.fm_pages.specs.Claims.{ClaimOutcome}
 use Rattle.fm_pages.specs.Maps.{PageMapped, PartTaken}
 use Rattle.fm_pages.specs.Provides.{Provided}
-use Rattle.fm_pages.proofs.Parts.{way_then, way_went, way_read, read_there, clear_way, whole_clear, still_seen}
+use Rattle.fm_pages.proofs.Clear.{still_seen, whole_clear}
+use Rattle.fm_pages.proofs.Looking.{all_earlier}
+use Rattle.fm_pages.proofs.Parts.{way_then, way_went, way_read, read_there, clear_way}
 
 -- `claim` is refused with nothing else
 pub refused : {q r : View} (f : Refusal) → ClaimOutcome q r (Err f) → NoneClaimed q r
@@ -34,33 +33,16 @@ had_page a i x n none s = record { own = []; lends = inl refl; way = way_read i 
 
 -- ---- no page is free
 
-grows : {p q : View} {es : List Entry} → Goes p q es → length p.seen ≤ length q.seen
-grows {p = p} {q = q} g =
-    let l : length q.seen ≡ length p.seen + length g.more = ap (λ (es : List Entry). length es) g.seen ∙ length-append p.seen g.more in
-    omega arith
-
 pub none_free : {p q r : View} (a : ArenaId) (i x : ℕ) → x ≡ 0 → p.pages ≡ [] → Stepped p q (record p { reads = reads_after i x p.reads }) [] none_noted
     → LearnsMap p a i x q → NoneClaimed q r → Provided p r a i false
 none_free {p = p} {q = q} {r = r} a i x zero none s l c =
     let v = way_read i x none s in
-    let finds : q.finds ≡ p.finds = ap (λ (u : View). u.finds) s.is_part ∙ append-nil p.finds in
-    let up = grows v.goes in let low = c.early in
     record {
       own = [];
       lends = inl refl;
       way = way_then v (way_went c.went);
       outcome = record {
-        found = record {
-          more = c.found.more;
-          grown = c.found.grown ∙ ap (λ (fs : List Find). fs ++ c.found.more) finds;
-          find = c.found.find;
-          among = c.found.among;
-          step = c.found.step;
-          nothing = c.found.nothing;
-        };
-        early = omega arith;
-        late = c.late;
-        left = c.left;
+        found = all_earlier v.goes c.found;
         before = q.seen;
         later = c.went.goes.more;
         since = (v.goes.more, v.goes.seen);

@@ -1,13 +1,11 @@
 -- Giving all parts of a range pages.
-use Rattle.std.proofs.Common.{◌≡◌, ◌≢◌, ℕ, ◌+◌, ◌*◌, ◌/◌, ◌==◌, ◌<◌, ◌≤◌, Bool, true, false, List, [], ◌∷◌, ◌++◌, length, refl, ap, sym, ◌∙◌, subst, ⊎_elim, All, arith, append_assoc}
-use Rattle.std.proofs.lemmas.List.Elements.{All-append, All-cons, All-nil, Contains-append_right}
-use Rattle.std.proofs.lemmas.List.{length-append}
+use Rattle.std.proofs.Common.{◌≡◌, ◌≢◌, ℕ, ◌+◌, ◌*◌, ◌/◌, ◌==◌, ◌<◌, ◌≤◌, Bool, true, false, List, [], ◌∷◌, ◌++◌, refl, ap, sym, ◌∙◌, subst, ⊎_elim, All, arith, append_assoc}
+use Rattle.std.proofs.lemmas.List.Elements.{All-append, All-cons, All-nil}
 use Rattle.std.proofs.Math.Nat.{mul-le-mul_right, mul_assoc, lt_of_not-le}
 use Rattle.fm_words.specs.declared.shape.Shape.{Shape}
 use Rattle.fm_base.specs.declared.caller.Caller.{Caller}
 use Rattle.fm_base.specs.declared.arena_id.ArenaId.{ArenaId}
 use Rattle.fm_base.specs.Calls.{Entry, Lend, Fine, entry_of}
-use Rattle.fm_base.specs.Finds.{Find}
 use Rattle.fm_base.specs.Histories.{made_by}
 use Rattle.fm_pool_facts.specs.Loans.{lent}
 use Rattle.fm_pool_facts.specs.Parts.{mapping_of}
@@ -17,6 +15,7 @@ use Rattle.fm_pages.specs.Maps.{Way}
 use Rattle.fm_pages.specs.Provides.{Provided, LendsPart}
 use Rattle.fm_pages.specs.Covers.{Covering, Covered, LendsIn, page_bytes}
 use Rattle.fm_pages.proofs.Finding.{parts_cover}
+use Rattle.fm_pages.proofs.Looking.{all_earlier}
 use Rattle.fm_pages.proofs.Parts.{way_then, clear_way}
 use Rattle.fm_pool_steps.proofs.Reading.{eqb_true, eqb_false}
 
@@ -83,9 +82,6 @@ pub covering_lacks : {v m r : View} {a : ArenaId} {from to n : ℕ} → Covering
     → Provided m r a n false → Covered v r a from to false
 covering_lacks {v = v} {m = m} {r = r} {a = a} {from = from} {to = to} {n = n} c low high t =
     let o = t.outcome in
-    let long : length m.seen ≡ length v.seen + length c.way.goes.more =
-    ap (λ (es : List Entry). length es) c.way.goes.seen ∙ length-append v.seen c.way.goes.more in
-    let e1 = o.early in
     record {
       own = c.own ++ t.own;
       lends = all_lends false c low high t;
@@ -95,18 +91,7 @@ covering_lacks {v = v} {m = m} {r = r} {a = a} {from = from} {to = to} {n = n} c
         low = low;
         high = high;
         none = record {
-          found = record {
-            more = c.way.goes.finds.more ++ o.found.more;
-            grown = o.found.grown ∙ (ap (λ (fs : List Find). fs ++ o.found.more) c.way.goes.finds.grown
-                ∙ append_assoc v.finds c.way.goes.finds.more o.found.more);
-            find = o.found.find;
-            among = Contains-append_right c.way.goes.finds.more o.found.more o.found.find o.found.among;
-            step = o.found.step;
-            nothing = o.found.nothing;
-          };
-          early = omega arith;
-          late = o.late;
-          left = o.left;
+          found = all_earlier c.way.goes o.found;
           before = o.before;
           later = o.later;
           since = (

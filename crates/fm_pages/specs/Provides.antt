@@ -1,14 +1,14 @@
 -- What a pass does that gives a part of its arena a page, where it has none.
-use Rattle.std.specs.Prelude.{◌≡◌, ◌⊎◌, ◌≤◌, ℕ, Bool, true, false, List, [], ◌∷◌, ◌++◌, length}
+use Rattle.std.specs.Prelude.{◌≡◌, ◌⊎◌, ℕ, Bool, true, false, List, [], ◌∷◌, ◌++◌}
 use Rattle.fm_base.specs.declared.caller.Caller.{Caller}
 use Rattle.fm_base.specs.declared.arena_id.ArenaId.{ArenaId}
 use Rattle.fm_base.specs.Calls.{Entry, Lend, Fine, entry_of}
-use Rattle.fm_base.specs.Finds.{FoundNothing, is_page}
 use Rattle.fm_base.specs.Histories.{made_by}
 use Rattle.fm_pool_facts.specs.Loans.{HasPart, lent}
 use Rattle.fm_pool_facts.specs.Parts.{mapping_of}
 use Rattle.fm_pool_facts.specs.Steps.{is_clear}
-use Rattle.fm_pool_facts.specs.Views.{View, In, Begins, FewLeft, unlent}
+use Rattle.fm_pool_facts.specs.Views.{View, In, Begins, unlent}
+use Rattle.fm_pages.specs.Claims.{AllFoundEmpty}
 use Rattle.fm_pages.specs.Maps.{Way}
 
 -- none, or the entry that lends a page to the arena as this part
@@ -20,14 +20,9 @@ pub record AllLentBut (old new : View) (a : ArenaId) (i : ℕ) : Type 0 where
   pub all_lent : unlent old.shape.pages (lent new.seen) ≡ 0
   pub lacks : ¬ (HasPart (lent new.seen) a i)
 
--- no page was free at a step of the call, and the part had none at an earlier one
+-- each word of page bits was 0 at a step of the call, and the part had no page at an earlier one
 pub record NoneFree (old new : View) (a : ArenaId) (i : ℕ) : Type 0 where
-  pub found : FoundNothing is_page old.finds new.finds
-  -- at that step as much had been seen as at no time before the call, or after it
-  pub early : length old.seen ≤ found.find.seen
-  pub late : found.find.seen ≤ length new.seen
-  -- then fewer blocks weren't lent than there are passes
-  pub left : FewLeft new.shape new.seen found.find
+  pub found : AllFoundEmpty old new
   -- what had been seen when the part had none, and what the call saw later, in which the pass made no entry
   pub before : List Entry
   pub later : List Entry

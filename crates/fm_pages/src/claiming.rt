@@ -1,7 +1,7 @@
-ghost use Rattle.std.specs.Prelude.{◌≡◌, ◌≢◌, ◌<◌, ◌≤◌, [], ◌∷◌};
+ghost use Rattle.std.specs.Prelude.{◌≡◌, ◌<◌, ◌%◌, [], ◌∷◌, IfSome};
 ghost use Rattle.std.specs.Int.{bit_at};
 ghost use Rattle.fm_rule.specs.Passes.{IsOf};
-ghost use Rattle.fm_pages.specs.Claims.{ClaimOutcome, Went};
+ghost use Rattle.fm_pages.specs.Claims.{ClaimOutcome, LookOutcome, TryOutcome, Went};
 
 use crate::page::Page;
 use fm_base::Refusal;
@@ -9,29 +9,16 @@ use fm_rule::{Pass, Pool, step_give_page, step_take_page};
 use fm_words::lowest_bit;
 use std::sync::Wait;
 
-/// The word of page bits to expect, and a bit that is 1 in it; where there is none, the word is 0.
+/// A page to try, and the word of page bits to expect, in which its bit is 1.
 #[derive(Clone, Copy)]
 struct Bid {
+    page: u32,
     word: u64,
-    bit: u32,
+    ghost has: { bit_at word (page % 64) ≡ 1 },
 }
 
-impl Bid {
-    /// By what was found. The lowest page is taken.
-    fn of(found: u64, pages: u32) -> Bid
-        requires some { 0 < pages }
-        requires few { pages ≤ 64 }
-        ensures low { result.bit < pages }
-        ensures has { result.word ≢ 0 → bit_at result.word result.bit ≡ 1 }
-    {
-        match lowest_bit(found, pages) {
-            Some(bit) => Bid { word: found, bit },
-            None => Bid { word: 0, bit: 0 },
-        }
-    }
-}
-
-/// Takes a free page into the pass's hand. `PoolFull` comes only where none was free at a step of the call.
+/// Takes a free page into the pass's hand: the lowest one of the first word of page bits that shows any. `PoolFull` comes
+/// only where each word was 0 at a step of the call.
 ///
 /// It tries until no other pass took or gave a page between its look and its exchange.
 pub fn claim<R: Wait>(rt: &R, pool: &Pool, pass: &mut Pass) -> Result<Page, Refusal>
@@ -39,19 +26,65 @@ pub fn claim<R: Wait>(rt: &R, pool: &Pool, pass: &mut Pass) -> Result<Page, Refu
     requires none { pass.old.pages ≡ [] }
     ensures { ClaimOutcome pass.old pass.new result }
 {
-    let pages = pool.shape().pages;
-    let mut found = pool.guess_pages();
     for _ in rt.forever() {
-        let bid = Bid::of(found, pages);
-        found = step_take_page(pool, pass, bid.word, bid.bit);
-        if found == 0 {
-            return Err(Refusal::PoolFull);
-        }
-        if found == bid.word {
-            return Ok(Page { index: bid.bit });
+        match guess(pool) {
+            Some(bid) => {
+                if try_page(pool, pass, bid) {
+                    return Ok(Page { index: bid.page });
+                }
+            }
+            None => {
+                if finds_none(pool, pass) {
+                    return Err(Refusal::PoolFull);
+                }
+            }
         }
     }
     unreachable!()
+}
+
+/// The first page that a load of its word shows free. It tells nothing.
+fn guess(pool: &Pool) -> Option<Bid>
+    ensures { IfSome result (λ bid. bid.page < pool.now.shape.pages) }
+{
+    let shape = pool.shape();
+    for group in 0..shape.page_groups() {
+        let word = pool.guess_pages(group);
+        let first = 64 * group;
+        if let Some(bit) = lowest_bit(word, (shape.pages - first).min(64)) {
+            return Some(Bid {
+                page: first + bit,
+                word,
+            });
+        }
+    }
+    None
+}
+
+/// Whether it took the page.
+fn try_page(pool: &Pool, pass: &mut Pass, bid: Bid) -> bool
+    requires of { IsOf pool.now pass.old }
+    requires none { pass.old.pages ≡ [] }
+    requires low { bid.page < pool.now.shape.pages }
+    ensures { TryOutcome pass.old pass.new bid.page result }
+{
+    let found = step_take_page(pool, pass, bid.page / 64, bid.word, bid.page % 64);
+    found == bid.word
+}
+
+/// Whether each word of page bits was found 0.
+fn finds_none(pool: &Pool, pass: &mut Pass) -> bool
+    requires of { IsOf pool.now pass.old }
+    requires none { pass.old.pages ≡ [] }
+    ensures { LookOutcome pass.old pass.new result }
+{
+    let groups = pool.shape().page_groups();
+    for group in 0..groups {
+        if step_take_page(pool, pass, group, 0, 0) != 0 {
+            return false;
+        }
+    }
+    true
 }
 
 /// Gives the page in the pass's hand back.

@@ -1,13 +1,15 @@
-ghost use Rattle.std.specs.Prelude.{◌≡◌, ◌<◌, [], None, Some};
+ghost use Rattle.std.specs.Prelude.{◌≡◌, ◌<◌, ◌≤◌, [], None, Some};
 ghost use Rattle.fm_words.specs.Shapes.{IsValid};
-ghost use Rattle.fm_pool_facts.specs.Hands.{learnt, nothing};
+ghost use Rattle.fm_pool_facts.specs.Hands.{learnt, no_number, nothing};
 ghost use Rattle.fm_rule.specs.Passes.{IsOf};
-ghost use Rattle.fm_pages.specs.Claims.{PageClaimed};
+ghost use Rattle.fm_pages.specs.Claims.{PageClaimed, Went};
 
 use crate::{Page, claim, free_page, map, place_of, try_at};
 use fm_base::{ArenaId, Kind, Refusal};
 use fm_pool_facts::Slot;
-use fm_rule::{Pass, Pool, step_check, step_generation, step_mark, step_open, step_take_slot};
+use fm_rule::{
+    Pass, Pool, step_check, step_generation, step_mark, step_open, step_take_page, step_take_slot,
+};
 use fm_words::Shape;
 use std::alloc::AllocGlobal;
 use std::process::Abort;
@@ -22,6 +24,20 @@ const TWO: Shape = Shape {
     reach: 2,
     generations: 1,
 };
+
+/// So many pages of one word, which one arena can have.
+fn of_pages(pages: u32) -> Shape
+    requires some { 0 < pages }
+    requires few { pages ≤ 4096 }
+    ensures valid { IsValid result }
+{
+    Shape {
+        pages,
+        page_words: 1,
+        reach: pages,
+        ..TWO
+    }
+}
 
 /// The first slot of a pool that has just been made.
 fn first_slot<R: Abort>(rt: &R, pool: &Pool, pass: &mut Pass) -> Slot
@@ -47,7 +63,7 @@ fn entered<R: Abort + AllocGlobal>(rt: &R, shape: Shape) -> (Pool, Pass, ArenaId
     ensures of { IsOf result.0 result.1 }
     ensures inside { result.1.inside ≡ Some result.2 }
     ensures none { result.1.pages ≡ [] }
-    ensures no_number { result.1.drawn ≡ None }
+    ensures no_number { result.1.number ≡ no_number }
 {
     let (pool, mut pass) = Pool::make(rt.alloc(), shape).expect(rt, "words");
     let slot = first_slot(rt, &pool, &mut pass);
@@ -83,6 +99,31 @@ fn given<R: Abort + Wait>(rt: &R, pool: &Pool, pass: &mut Pass, a: ArenaId, coun
     ensures inside { pass.new.inside ≡ Some a }
 {
     assert_eq!(rt; try_at(rt, pool, pass, a, count, size, 8), Some(count));
+}
+
+/// Finds no page to claim.
+fn found_full<R: Abort + Wait>(rt: &R, pool: &Pool, pass: &mut Pass)
+    requires of { IsOf pool.now pass.old }
+    requires none { pass.old.pages ≡ [] }
+    ensures { Went pass.old pass.new [] }
+{
+    match claim(rt, pool, pass) {
+        Ok(page) => {
+            free_page(pool, pass, page);
+            panic!(rt; "a page was free")
+        }
+        Err(refusal) => assert_eq!(rt; refusal, Refusal::PoolFull),
+    }
+}
+
+/// Finds no bit in this word of page bits.
+fn found_empty<R: Abort>(rt: &R, pool: &Pool, pass: &mut Pass, group: u32)
+    requires of { IsOf pool.now pass.old }
+    requires none { pass.old.pages ≡ [] }
+    ensures { Went pass.old pass.new [] }
+{
+    assert!(rt; group < pool.shape().page_groups());
+    assert_eq!(rt; step_take_page(pool, pass, group, 0, 0), 0);
 }
 
 #[test]
@@ -128,13 +169,51 @@ fn a_page_comes_back_from_a_part_that_has_one(rt: HostRuntime) {
 fn a_pool_is_full_once_all_pages_are_mapped(rt: HostRuntime) {
     let (pool, mut pass, a) = entered(&rt, TWO);
     given(&rt, &pool, &mut pass, a, 0, 40);
-    match claim(&rt, &pool, &mut pass) {
-        Ok(page) => {
-            free_page(&pool, &mut pass, page);
-            panic!(&rt; "a page was free")
-        }
-        Err(refusal) => assert_eq!(rt; refusal, Refusal::PoolFull),
+    found_full(&rt, &pool, &mut pass);
+}
+
+#[test]
+fn the_lowest_free_page_of_all_words_is_claimed(rt: HostRuntime) {
+    // of so many pages, so many are lent
+    let rows = [
+        (64, 63),
+        (65, 0),
+        (65, 63),
+        (65, 64),
+        (129, 128),
+        (4_096, 64),
+        (4_096, 4_095),
+    ];
+    for (pages, lent) in rows {
+        let (pool, mut pass, a) = entered(&rt, of_pages(pages));
+        given(&rt, &pool, &mut pass, a, 0, 8 * u64::from(lent));
+        let page = claimed(&rt, &pool, &mut pass, lent);
+        free_page(&pool, &mut pass, page);
     }
+}
+
+#[test]
+fn a_pool_is_full_once_the_pages_of_all_words_are_mapped(rt: HostRuntime) {
+    for pages in [64, 65, 128, 4_096] {
+        let (pool, mut pass, a) = entered(&rt, of_pages(pages));
+        given(&rt, &pool, &mut pass, a, 0, 8 * u64::from(pages));
+        found_full(&rt, &pool, &mut pass);
+    }
+}
+
+#[test]
+fn a_page_that_comes_free_behind_a_look_is_found_by_the_next(rt: HostRuntime) {
+    let (pool, mut pass, a) = entered(&rt, of_pages(65));
+    let mut other = pool.draw(&rt, &mut pass).expect(&rt, "a pass");
+    let page = claimed(&rt, &pool, &mut other, 0);
+    given(&rt, &pool, &mut pass, a, 0, 512);
+    found_full(&rt, &pool, &mut pass);
+    // The page comes free in the first word while the second is looked at: each was found empty, though not at one time.
+    found_empty(&rt, &pool, &mut pass, 0);
+    free_page(&pool, &mut other, page);
+    found_empty(&rt, &pool, &mut pass, 1);
+    let page = claimed(&rt, &pool, &mut pass, 0);
+    free_page(&pool, &mut pass, page);
 }
 
 #[test]

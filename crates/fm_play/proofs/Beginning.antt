@@ -25,7 +25,7 @@ outside_first pool z p shape is = record {
     of = (ap (λ (v : View). v.home) is, ap (λ (v : View). v.shape) is ∙ sym shape);
     outside = ap (λ (v : View). v.inside) is;
     unmarked = ap (λ (v : View). v.mark) is;
-    no_number = ap (λ (v : View). v.drawn) is;
+    no_number = ap (λ (v : View). v.number) is;
     no_slot = ap (λ (v : View). v.hand) is;
     no_part = ap (λ (v : View). v.swept) is;
   };
@@ -66,7 +66,7 @@ module _ (s : ScriptOf) (w : IsWritten s) (order : List Line) (names : Numbers) 
       only = record {
         whole = record { sound = sound; whole = ap (λ (v : View). v.whole) first };
         unused = ap (λ (v : View). v.seen) first;
-        first = ap (λ (v : View). v.caller.number) first;
+        first = ap (λ (v : View). v.caller) first;
         no_slot = has_no_slot p (ap (λ (v : View). v.hand) first) (ap (λ (v : View). v.sweeps) first);
         no_close = ap (λ (v : View). v.closes) first;
         alone = ap (λ (v : View). v.gathered) first;

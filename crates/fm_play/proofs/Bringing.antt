@@ -138,7 +138,7 @@ module _ (a : ArenaId) where
       (all_both Brings (worked p.players) p.lasts (workers_bring (number_of p) _ _ p.players r.worker_calls)
       (row_brings p.main (number_of p) _ _ p.lasts r.last_calls))
 
-  one_at : (ds : List Done) → AllByRecursion Brings ds → (i : ℕ) → get_or (opened_of ds) i None ≡ Some a → 1 ≤ opened_by a ds
+  pub one_at : (ds : List Done) → AllByRecursion Brings ds → (i : ℕ) → get_or (opened_of ds) i None ≡ Some a → 1 ≤ opened_by a ds
   one_at [] h i e = absurd (let no : ⊥ = cc in no)
   one_at (d ∷ ds) h zero e = let here = h.0 e in omega (arith, here)
   one_at (d ∷ ds) h (suc i) e = let rest = one_at ds h.1 i e in omega (arith, rest)

@@ -1,5 +1,5 @@
 -- What a crew of workers leaves to the pass that gathered it.
-use Rattle.std.proofs.Common.{◌≡◌, ℕ, suc, ◌+◌, ◌<◌, ◌≤◌, nat_lt, Bool, true, false, List, [], ◌∷◌, length, map, get_or, All, refl, sym, ap, ◌∙◌, subst, arith, Err, Result}
+use Rattle.std.proofs.Common.{◌≡◌, ℕ, suc, ◌+◌, ◌<◌, ◌≤◌, nat_lt, Bool, true, false, List, [], ◌∷◌, length, map, get_or, All, refl, sym, ap, ◌∙◌, subst, arith, inl, inr, Err, Result}
 use Rattle.std.proofs.lemmas.Bool.{ltb-true, ltb-false}
 use Rattle.std.proofs.lemmas.List.{length-map, get_or-map, get_or_past}
 use Rattle.std.proofs.lemmas.List.Elements.{All-append, All-nil}
@@ -23,6 +23,7 @@ use Rattle.fm_run.specs.Tokens.{Backs}
 use Rattle.fm_gate.specs.Makers.{made_by_pass}
 use Rattle.fm_run.proofs.Backing.{backs_still}
 use Rattle.fm_workers.specs.Crew.{AreDone, CrewWorked, IsWhole}
+use Rattle.fm_workers.proofs.Wanting.{few_last}
 use Rattle.fm_play.specs.declared.player.Player.{Player}
 use Rattle.fm_play.specs.Players.{Playing, Plays, PlaysLines}
 use Rattle.fm_play.specs.Runs.{AllPlayed, names_lent}
@@ -33,9 +34,19 @@ use Rattle.fm_play.proofs.Made.{names_known}
 -- A crew that has a pass for each task is refused for want of memory alone.
 pub crew_refused : {T : Type 0} (Does : View → T → T → List Entry → Type 0) (old new : View) (tasks done : List T) (r : Refusal)
     → CrewWorked Does old new tasks done (Err r) → IsWhole old → length old.gathered + (1 + length tasks) ≤ old.shape.passes → r ≡ Memory
-crew_refused Does old new tasks done NoPass w whole enough = let no = w.wanting whole refl in absurd (omega (arith, no, enough))
+crew_refused Does old new tasks done NoPass w whole enough = elim (w.wanting whole refl) [
+  | inl few ↦ (let last = few_last old.gathered in absurd (omega (arith, few, last, enough)))
+  | inr many ↦ (let passes = whole.sound.valid.passes.1 in absurd (omega (arith, many, passes, enough)))
+]
 crew_refused Does old new tasks done Memory w whole enough = refl
 crew_refused Does old new tasks done r w whole enough = absurd w.ends
+
+-- And then no task was begun.
+pub crew_unbegun : {T : Type 0} (Does : View → T → T → List Entry → Type 0) (old new : View) (tasks done : List T) (r : Refusal)
+    → CrewWorked Does old new tasks done (Err r) → done ≡ tasks
+crew_unbegun Does old new tasks done NoPass w = w.ends.3
+crew_unbegun Does old new tasks done Memory w = w.ends.3
+crew_unbegun Does old new tasks done r w = absurd w.ends
 
 lasts_of : (p q : View) → Lasts p q → q.shape ≡ p.shape → q.caller ≡ p.caller → memory.Lasts (view_of_pass p) (view_of_pass q)
 lasts_of p q l shape caller = record { known = l.known; given = l.given; limit = ap limit_of shape; caller = caller }

@@ -20,7 +20,7 @@ use Rattle.fm_run.specs.Standings.{arena_of, standing_as}
 use Rattle.fm_run.proofs.Naming.{lent_seen}
 use Rattle.fm_run_laws.proofs.Reports.{report_tidy}
 use Rattle.fm_report.specs.declared.line.ReportLine.{ReportLine}
-use Rattle.fm_report.specs.Alive.{arena_by}
+use Rattle.fm_report.specs.Alive.{AreOpened, arena_by}
 use Rattle.fm_report.specs.Told.{AreTold, IsRunOf, opened_of, report_of}
 use Rattle.fm_report.specs.Views.{ReportView}
 use Rattle.fm_report.proofs.Telling.{tells}
@@ -28,6 +28,7 @@ use Rattle.fm_play.specs.declared.main_lines.MainLines.{MainLines}
 use Rattle.fm_play.specs.declared.player.Player.{Player}
 use Rattle.fm_play.specs.Runs.{HasRun}
 use Rattle.fm_play.proofs.After.{made_lent}
+use Rattle.fm_play.proofs.Opened.{were_opened}
 use Rattle.fm_play.proofs.Telling as telling
 
 -- the arenas that names stand for
@@ -78,6 +79,12 @@ module _ (s : ScriptOf) (order : List Line) (names : Numbers) (caller : Caller) 
   did =
       subst (λ (es : List Entry). IsReport s es played) (sym h.history)
       (telling.is_report names s.lines h.old h.new h.tasks players h.ran.own main.firsts.items main.lasts.items h.can h.ran.all s refl h.of_shape h.passes)
+
+  -- The arenas of names were opened in the pool's history.
+  pub all_opened : (opened : List (Option ArenaId)) → opened ≡ arenas_lent main.lent.items → AreOpened f opened
+  all_opened opened are =
+      subst (λ (os : List (Option ArenaId)). AreOpened f os) (sym (are ∙ opened_are))
+      (were_opened s (limit_of f.shape) f.history played h.finished.legal did)
 
   all_callers : caller ∷ map (λ (p : Player). p.caller) players ≡ callers played
   all_callers =

@@ -18,5 +18,5 @@ pub mod Crewed
 pub mod Passing
 pub mod Once
 pub mod Bringing
+pub mod Opened
 pub mod Alive
-pub mod Counted

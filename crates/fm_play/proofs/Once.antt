@@ -6,7 +6,7 @@ use Rattle.fm_base.specs.declared.arena_id.ArenaId.{ArenaId}
 use Rattle.fm_base.specs.declared.caller.Caller.{Caller}
 use Rattle.fm_base.specs.Arenas.{State, are_one, has_arena, same_id}
 use Rattle.fm_base.specs.Calls.{Call, Entry, Open}
-use Rattle.fm_base.specs.Histories.{IsLegal, made_by}
+use Rattle.fm_base.specs.Histories.{IsLegal, made_by, state_after}
 use Rattle.fm_base.specs.Machine.{MayCall, after}
 use Rattle.fm_base.proofs.Growing.{Grows-after}
 use Rattle.fm_base.proofs.Names.{are_one-not, are_one-true, same_id-true}
@@ -145,11 +145,9 @@ module _ (a : ArenaId) where
       let rest = of_workers ws es h.1 in
       omega (arith, parts, mine, own, rest)
 
-  -- All lines of a report opened it once at most.
-  pub all_once : (limit : ℕ) (history : List Entry) (p : Played) → AreApart (callers p) → IsCut history p → IsLegal limit [] history
-      → opened_by (all_done p) ≤ 1
-  all_once limit history p apart cut legal =
-      let one = once limit [] history legal in
+  -- The history has what the lines of a report opened.
+  pub in_history : (history : List Entry) (p : Played) → AreApart (callers p) → IsCut history p → opened_by (all_done p) ≤ openings history
+  in_history history p apart cut =
       let whole : openings history ≡ openings (cut.before ++ (cut.between ++ cut.after)) = ap openings cut.parts in
       let outer = openings-append cut.before (cut.between ++ cut.after) in
       let inner = openings-append cut.between cut.after in
@@ -163,4 +161,22 @@ module _ (a : ArenaId) where
       let last_is = in_runs p.lasts in
       let all = opened_by-append p.firsts (worked p.players ++ p.lasts) in
       let rest = opened_by-append (worked p.players) p.lasts in
-      omega (arith, one, whole, outer, inner, first, first_own, first_is, workers, workers_is, last, last_own, last_is, all, rest)
+      omega (arith, whole, outer, inner, first, first_own, first_is, workers, workers_is, last, last_own, last_is, all, rest)
+
+  -- So they opened it once at most.
+  pub all_once : (limit : ℕ) (history : List Entry) (p : Played) → AreApart (callers p) → IsCut history p → IsLegal limit [] history
+      → opened_by (all_done p) ≤ 1
+  all_once limit history p apart cut legal =
+      let one = once limit [] history legal in
+      let all = in_history history p apart cut in
+      omega (arith, one, all)
+
+  -- An arena that a history opens is there behind it.
+  pub opened_behind : (limit : ℕ) (s : State) (es : List Entry) → IsLegal limit s es → 1 ≤ openings es → has_arena (state_after limit s es) a ≡ true
+  opened_behind limit s [] l some = absurd (omega (arith, some))
+  opened_behind limit s (e ∷ es) l some = go (is_opening e.call) refl (opened_behind limit (after limit s e) es l.2)
+    where
+      go : (b : Bool) → is_opening e.call ≡ b → (1 ≤ openings es → has_arena (state_after limit (after limit s e) es) a ≡ true)
+          → has_arena (state_after limit s (e ∷ es)) a ≡ true
+      go true is rest = opened_there limit s (e ∷ es) e a l (inl refl) (opening_is e.call is)
+      go false is rest = let one : one_if (is_opening e.call) ≡ 0 = ap one_if is in rest (omega (arith, one, some))

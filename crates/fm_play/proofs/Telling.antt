@@ -1,5 +1,5 @@
 -- What a script's passes did is its report.
-use Rattle.std.proofs.Common.{◌≡◌, ℕ, ◌+◌, ◌<◌, ◌≤◌, Bool, true, false, if◌then◌else◌, List, [], ◌∷◌, ◌++◌, length, length-append, map, append_assoc, refl, sym, ap, ◌∙◌, subst, arith, inl, inr, Option}
+use Rattle.std.proofs.Common.{◌≡◌, ℕ, ◌+◌, ◌<◌, Bool, true, false, if◌then◌else◌, List, [], ◌∷◌, ◌++◌, length, length-append, map, append_assoc, refl, sym, ap, ◌∙◌, subst, arith, inl, inr, Option}
 use Rattle.std.specs.List.{AllByRecursion, flat_map}
 use Rattle.std.proofs.lemmas.List.{length-map, get_or_past, map-append}
 use Rattle.fm_base.specs.declared.caller.Caller.{Caller}
@@ -24,7 +24,7 @@ use Rattle.fm_run.specs.declared.standing.Standing.TheVariants.{Nothing}
 use Rattle.fm_run.specs.Numbers.{number_at, number_from}
 use Rattle.fm_run.specs.Ordering.{in_order, worker_lines}
 use Rattle.fm_run.specs.Report as report
-use Rattle.fm_run.specs.Report.{AreCounted, Done, Played, AreRun, AreWorked, IsCut, IsReport, all_done, gathered_names, is_first, lines_by, lines_of, lent_names, names_after, none_stands, number_of, runs, worked}
+use Rattle.fm_run.specs.Report.{AreDrawn, Done, Played, AreRun, AreWorked, IsCut, IsReport, all_done, gathered_names, is_first, lines_by, lines_of, lent_names, names_after, none_stands, number_of, runs, worked}
 use Rattle.fm_run.specs.Pages.{HavePages}
 use Rattle.fm_run.specs.Slots.{HaveSlots, OpenRightly}
 use Rattle.fm_run.specs.Standings.{Names, lent, standing_at}
@@ -39,7 +39,6 @@ use Rattle.fm_play.proofs.After.{lent_next, lent_twice, made_lent}
 use Rattle.fm_play.proofs.Gathered.{gathered_table, plain_at}
 use Rattle.fm_play.proofs.Paged.{have_pages}
 use Rattle.fm_play.proofs.Reported.{Reported, start_at, worked_lines}
-use Rattle.fm_play.proofs.Counted.{all_counted}
 use Rattle.fm_play.proofs.Running.{as_many, workers_of}
 
 -- The entries of one caller are its own.
@@ -133,23 +132,20 @@ module _ (names : Numbers) (lines : List Line) (old new : View) (tasks players :
   apart : AreApart (report.callers the_played)
   apart = (
     (λ i. let among = subst (λ (cs : List Caller). IsAmong old.caller cs) crew_called i in
-        (all_among (IsFresh all.before) old.caller (crew_callers crew.crew) crew.fresh among).other (inl (ap (λ (c : Caller). c.number) (sym caller_before)))),
+        (all_among (IsFresh all.before) old.caller (crew_callers crew.crew) crew.fresh among).other (inl (sym caller_before))),
     subst AreApart (sym crew_called) crew.distinct,
   )
 
-  -- Their numbers rise, and there are no more than the pool has passes.
-  workers_counted : 1 + length tasks ≡ old.shape.passes → AreCounted 1 (crew_callers crew.crew)
-  workers_counted enough =
+  -- The first pass drew them, each with a number of the pool.
+  are_drawn : AreDrawn old.shape.passes the_played
+  are_drawn =
       let shape : all.before.shape.passes ≡ old.shape.passes = ap (λ (z : Shape). z.passes) all.first.went.same_shape in
-      let many : length (crew_callers crew.crew) ≡ length tasks =
-      sym (ap (λ (cs : List Caller). length cs) crew_called) ∙ (length-map workers.ps (λ (w : report.Player). w.caller) ∙ workers.many) in
-      all_counted old.shape.passes 1 (crew_callers crew.crew) (omega (arith, many, enough)) crew.rising
-      (all_weaker (IsFresh all.before) (λ c. 1 ≤ c.number) (λ c f. let later = f.later in omega (arith, later)) (crew_callers crew.crew) crew.fresh)
-      (all_weaker (IsFresh all.before) (λ c. c.number < old.shape.passes) (λ c f. let few = f.number in omega (arith, few, shape)) (crew_callers crew.crew)
-      crew.fresh)
-
-  counted : 1 + length tasks ≡ old.shape.passes → AreCounted 0 (report.callers the_played)
-  counted enough = (can.only.first, subst (λ (cs : List Caller). AreCounted 1 cs) (sym crew_called) (workers_counted enough))
+      record {
+        first = can.only.first;
+        numbers = subst (λ (cs : List Caller). AllByRecursion (λ c. c.number < old.shape.passes) cs) (sym crew_called)
+            (all_weaker (IsFresh all.before) (λ c. c.number < old.shape.passes) (λ c f. let few = f.number in omega (arith, few, shape))
+            (crew_callers crew.crew) crew.fresh);
+      }
 
   begun : all.before.seen ≡ all.first.went.more
   begun = all.first.went.seen ∙ ap (λ (es : List Entry). es ++ all.first.went.more) can.only.unused
@@ -246,7 +242,7 @@ module _ (names : Numbers) (lines : List Line) (old new : View) (tasks players :
         record {
           lines = subst (λ (ls : List Line). report.AreLinesOf (record { shape = s.shape; lines = ls }) the_played) (sym same_lines)
               (record { firsts = all.first.are; many = ap (λ (n : ℕ). 1 + n) workers.many ∙ passes; workers = workers.lines; lasts = all.last.are });
-          counted = counted (passes ∙ sym (ap (λ (z : Shape). z.passes) of_shape));
+          drawn = subst (λ (z : Shape). AreDrawn z.passes the_played) of_shape are_drawn;
           apart = apart;
           cut = cut;
           first_calls = first_calls;

@@ -1,7 +1,8 @@
 -- What all lines of a script did, pass by pass, and which scripts are run.
-use Rattle.std.specs.Prelude.{◌≡◌, ℕ, ◌+◌, ◌≤◌, List, [], ◌++◌, length, map, None, Ok}
+use Rattle.std.specs.Prelude.{◌≡◌, ◌⊎◌, ℕ, ◌+◌, ◌≤◌, List, [], ◌++◌, length, map, None, Ok}
 use Rattle.std.specs.List.{AllByRecursion, flat_map}
 use Rattle.fm_base.specs.declared.caller.Caller.{Caller}
+use Rattle.fm_base.specs.Arenas.{only_caller}
 use Rattle.fm_pool_facts.specs.Views.{View}
 use Rattle.fm_arena.specs.Opening.{HasNoSlot}
 use Rattle.fm_rule.specs.Finishing.{FinishedView, IsFinished}
@@ -35,7 +36,7 @@ pub record IsWritten (s : ScriptOf) : Type 0 where
 pub record IsOnly (p : View) : Type 0 where
   pub whole : IsWhole p
   pub unused : p.seen ≡ []
-  pub first : p.caller.number ≡ 0
+  pub first : p.caller ≡ only_caller
   pub no_slot : HasNoSlot p
   pub no_close : p.closes ≡ []
   pub alone : p.gathered ≡ []
@@ -58,6 +59,10 @@ names_lent ps = flat_map (λ p. map standing_as p.lent.items) ps
 -- no worker's lines were cut off
 abbrev pub AllPlayed : List Player → Type 0
 AllPlayed ps = AllByRecursion (λ p. p.refusal ≡ None) ps
+
+-- no worker began, or the lines of one were cut off
+abbrev pub IsCutOff : (tasks players : List Player) → Type 0
+IsCutOff tasks players = (players ≡ tasks) ⊎ ¬ (AllPlayed players)
 
 -- the workers have played, each as a pass of its own
 pub record Worked (w : Playing) (old new : View) (tasks players : List Player) : Type 0 where

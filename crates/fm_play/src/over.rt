@@ -1,4 +1,4 @@
-ghost use Rattle.std.specs.Prelude.{◌≡◌, ◌+◌, ◌≤◌, ◌++◌, [], All, IfErr, IfOk, OnOk, List, length, vec_capacity};
+ghost use Rattle.std.specs.Prelude.{◌≡◌, ◌+◌, ◌≤◌, ◌++◌, [], All, IfErr, IfOk, OnErr, OnOk, List, length, vec_capacity};
 ghost use Rattle.fm_base.specs.declared.arena_id.ArenaId.{ArenaId};
 ghost use Rattle.fm_arena.specs.Shares.{CanShare};
 ghost use Rattle.fm_pool_facts.specs.Views.{View};
@@ -9,7 +9,7 @@ ghost use Rattle.fm_run.specs.Standings.{IsBacked};
 ghost use Rattle.fm_run.specs.Tokens.{Backs};
 ghost use Rattle.fm_workers.specs.Crew.{IsWhole};
 ghost use Rattle.fm_play.specs.Players.{CanPlay, playing};
-ghost use Rattle.fm_play.specs.Runs.{AllRan, CanRun, Ran, Worked, names_lent};
+ghost use Rattle.fm_play.specs.Runs.{AllRan, CanRun, IsCutOff, Ran, Worked, names_lent};
 
 use crate::lines::Lines;
 use crate::main_lines::{MainLines, play_main};
@@ -152,7 +152,7 @@ fn run_all<R: Threads + Wait + Sync, G: Gate>(
     play_main(rt, alloc, pool, pass, names, table, lines, Who::Last, lasts)
 }
 
-/// The workers, each by a pass of its own. Refused: `Memory`.
+/// The workers, each by a pass of its own. Refused: `Memory`, before one begins, or where it cut the lines of one off.
 fn work_players<R: Threads + Wait + Sync, G: Gate>(
     rt: &R,
     alloc: Global,
@@ -172,6 +172,7 @@ fn work_players<R: Threads + Wait + Sync, G: Gate>(
         → Backs pass.new holds handles base own }
     ensures outside { CanShare pool.now pass.new }
     ensures memory { IfErr result (λ refusal. refusal ≡ Refusal.Memory) }
+    ensures cut { OnErr result (IsCutOff players.old.items players.new.items) }
 {
     if let Err(refusal) = work_crew(rt, alloc, pool, pass, work, players, &FreeGate) {
         return Err(refusal);

@@ -1,4 +1,4 @@
-ghost use Rattle.std.specs.Prelude.{◌≡◌, ◌<◌, ◌^◌, true, IfErr, IfOk, length};
+ghost use Rattle.std.specs.Prelude.{◌≡◌, ◌<◌, ◌^◌, MatchBool, IfErr, IfOk, length};
 ghost use Rattle.fm_play.specs.Players.{ArePlayers, IsPlayer};
 ghost use Rattle.fm_play.specs.Runs.{AllPlayed};
 
@@ -52,7 +52,7 @@ fn player_of(alloc: Global, lines: &[Line], number: u32, start: usize) -> Result
 
 /// Whether all of them played their lines, so that memory was wanting to none.
 pub(crate) fn all_played(players: &[Player]) -> bool
-    ensures { result ≡ true → AllPlayed players.now }
+    ensures { MatchBool result (AllPlayed players.now) (¬ (AllPlayed players.now)) }
 {
     for player in players {
         if player.refusal.is_some() {

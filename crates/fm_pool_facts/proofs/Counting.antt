@@ -1,9 +1,10 @@
--- How many numbers a list of distinct ones has.
+-- How many callers a list of distinct ones has.
 use Rattle.std.proofs.Common.{◌≡◌, ◌≢◌, ℕ, zero, suc, ◌+◌, ◌<◌, ◌≤◌, List, [], ◌∷◌, ◌++◌, length, sym, refl, ap, ◌∙◌, subst, arith, inl, inr, ⊎_elim}
 use native.Mathlib.Decide.{ℕ_discrete}
 use Rattle.fm_base.specs.Finds.{Gathered}
 use Rattle.fm_pool_facts.specs.Views.{In}
-use Rattle.fm_pool_facts.specs.Facts.{IsOnce}
+use Rattle.fm_base.specs.declared.caller.Caller.{Caller}
+use Rattle.fm_pool_facts.specs.Facts.{IsOnce, WasDrawn}
 use Rattle.fm_pool_facts.proofs.Keeping.{in_left, in_right, in_append}
 
 abbrev pub Distinct : List ℕ → Type 0
@@ -82,7 +83,7 @@ all_below n xs d b e m l = go (in_dec m xs)
 -- ---- lists put together
 
 -- lists without a value in common, put together
-apart_both : {A : Type 0} (f : A → ℕ) (xs ys : List A) → IsOnce f xs → IsOnce f ys → ((x y : A) → In x xs → In y ys → f y ≢ f x) → IsOnce f (xs ++ ys)
+apart_both : {A B : Type 0} (f : A → B) (xs ys : List A) → IsOnce f xs → IsOnce f ys → ((x y : A) → In x xs → In y ys → f y ≢ f x) → IsOnce f (xs ++ ys)
 apart_both f [] ys a b n = b
 apart_both f (x ∷ xs) ys a b n = (
   (λ y i. ⊎_elim (a.0 y) (λ (j : In y ys). n x y (inl refl) j) (in_append y xs ys i)),
@@ -90,7 +91,7 @@ apart_both f (x ∷ xs) ys a b n = (
 )
 
 -- and one list between two
-pub between : {A : Type 0} (f : A → ℕ) (xs ys zs : List A) → IsOnce f (xs ++ ys) → IsOnce f zs → ((x z : A) → In x (xs ++ ys) → In z zs → f z ≢ f x)
+pub between : {A B : Type 0} (f : A → B) (xs ys zs : List A) → IsOnce f (xs ++ ys) → IsOnce f zs → ((x z : A) → In x (xs ++ ys) → In z zs → f z ≢ f x)
     → IsOnce f (xs ++ (zs ++ ys))
 between f [] ys zs a b n = apart_both f zs ys b a (λ z y i j e. n y z j i (sym e))
 between f (x ∷ xs) ys zs a b n = (
@@ -100,26 +101,36 @@ between f (x ∷ xs) ys zs a b n = (
   between f xs ys zs a.1 b (λ c z i j. n c z (inr i) j),
 )
 
--- ---- the numbers of gathered callers
+-- ---- the ranks of gathered callers
 
-abbrev pub numbers : List Gathered → List ℕ
-numbers [] = []
-numbers (g ∷ gs) = g.caller.number ∷ numbers gs
+module _ (rank : Caller → ℕ) where
+  abbrev pub ranks : List Gathered → List ℕ
+  ranks [] = []
+  ranks (g ∷ gs) = rank g.caller ∷ ranks gs
 
-pub numbers_long : (gs : List Gathered) → length (numbers gs) ≡ length gs
-numbers_long [] = refl
-numbers_long (g ∷ gs) = let h = numbers_long gs in omega arith
+  pub ranks_long : (gs : List Gathered) → length (ranks gs) ≡ length gs
+  ranks_long [] = refl
+  ranks_long (g ∷ gs) = let h = ranks_long gs in omega arith
 
-pub has_number : (n : ℕ) (gs : List Gathered) → In n (numbers gs) → (g : Gathered) × In g gs × (g.caller.number ≡ n)
-has_number n [] i = absurd i
-has_number n (g ∷ gs) (inl e) = (g, inl refl, sym e)
-has_number n (g ∷ gs) (inr i) = let y = has_number n gs i in (y.0, inr y.1, y.2)
+  pub has_rank : (n : ℕ) (gs : List Gathered) → In n (ranks gs) → (g : Gathered) × In g gs × (rank g.caller ≡ n)
+  has_rank n [] i = absurd i
+  has_rank n (g ∷ gs) (inl e) = (g, inl refl, sym e)
+  has_rank n (g ∷ gs) (inr i) = let y = has_rank n gs i in (y.0, inr y.1, y.2)
 
-pub in_numbers : (g : Gathered) (gs : List Gathered) → In g gs → In g.caller.number (numbers gs)
-in_numbers g [] i = absurd i
-in_numbers g (x ∷ gs) (inl e) = inl (ap (λ (y : Gathered). y.caller.number) e)
-in_numbers g (x ∷ gs) (inr i) = inr (in_numbers g gs i)
+  pub in_ranks : (g : Gathered) (gs : List Gathered) → In g gs → In (rank g.caller) (ranks gs)
+  in_ranks g [] i = absurd i
+  in_ranks g (x ∷ gs) (inl e) = inl (ap (λ (y : Gathered). rank y.caller) e)
+  in_ranks g (x ∷ gs) (inr i) = inr (in_ranks g gs i)
 
-pub numbers_apart : (gs : List Gathered) → IsOnce (λ (g : Gathered). g.caller.number) gs → Distinct (numbers gs)
-numbers_apart [] o = tt
-numbers_apart (g ∷ gs) o = ((λ i. let y = has_number g.caller.number gs i in o.0 y.0 y.1 y.2), numbers_apart gs o.1)
+  -- callers that were drawn are one where their ranks are
+  pub one_rank : (draw : ℕ) (who : ℕ → Caller) (c d : Caller) → WasDrawn draw who rank c → WasDrawn draw who rank d → rank c ≡ rank d → c ≡ d
+  one_rank draw who c d p q e = sym p.1 ∙ (ap who e ∙ q.1)
+
+  pub ranks_apart : (draw : ℕ) (who : ℕ → Caller) (gs : List Gathered) → ((g : Gathered) → In g gs → WasDrawn draw who rank g.caller)
+      → IsOnce (λ (g : Gathered). g.caller) gs → Distinct (ranks gs)
+  ranks_apart draw who [] f o = tt
+  ranks_apart draw who (g ∷ gs) f o = (
+    (λ i. let y = has_rank (rank g.caller) gs i in
+        o.0 y.0 y.1 (one_rank draw who y.0.caller g.caller (f y.0 (inr y.1)) (f g (inl refl)) y.2)),
+    ranks_apart draw who gs (λ x i. f x (inr i)) o.1,
+  )

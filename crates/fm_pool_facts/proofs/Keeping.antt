@@ -1,5 +1,5 @@
 -- A step keeps the rule, and tells its caller what others did.
-use Rattle.std.proofs.Common.{Option, ◌≡◌, ◌≢◌, ◌⊎◌, ℕ, zero, suc, ◌<◌, true, List, [], ◌∷◌, ◌++◌, set, sym, refl, ap, ◌∙◌, subst, arith, inl, inr, ⊎_elim, append_assoc, Some}
+use Rattle.std.proofs.Common.{Option, ◌≡◌, ◌≢◌, ◌⊎◌, ℕ, zero, suc, true, List, [], ◌∷◌, ◌++◌, set, sym, refl, ap, ◌∙◌, subst, arith, inl, inr, ⊎_elim, append_assoc, Some}
 use Rattle.std.proofs.lemmas.List.{append-nil}
 use Rattle.std.proofs.lemmas.List.Elements.{filter-append}
 use mathlib.Core.Logic.{dite}
@@ -17,10 +17,11 @@ use Rattle.fm_depicts.specs.Steps.{moved_by}
 use Rattle.fm_pool_facts.specs.Views.{Met, View, In, all_gathered, brought, limit_of}
 use Rattle.fm_base.specs.declared.arena_id.ArenaId.{ArenaId}
 use Rattle.fm_pool_facts.specs.Parts.{Swept, unread, named, wiping}
-use Rattle.fm_pool_facts.specs.Facts.{Memory, Owners, IsStanding, IsAt, IsNext, HasSwept, HasPages, IsClosing, IsSweeping, IsGathered, IsSilent, Begins, Somewhere, Owns, Knows}
+use Rattle.fm_pool_facts.specs.Facts.{Memory, Owners, IsStanding, IsAt, IsNext, HasSwept, HasPages, IsClosing, IsSweeping, IsGathered, IsSilent, Begins, Somewhere, Owns, Knows, WasDrawn, bit_of, next_of, IsLoose, IsUndrawn, HasNumberInHand}
 use Rattle.fm_pool_facts.specs.Moves.{MayMake, NoEnd, StaysEnded, Moved}
 use Rattle.fm_pool_facts.proofs.Frame.{others_stay, none_come, still_closing, still_over, still_given, made_by-other}
 use Rattle.fm_pool_facts.proofs.Standing.{unstanding}
+use Rattle.fm_pool_facts.specs.Hands.{Number, no_number, number_taken, number_learnt, number_drawn, number_left, number_joined, most_draws}
 use Rattle.fm_pool_facts.proofs.Handing.{hand_on, took_on}
 
 -- ---- lists
@@ -81,21 +82,17 @@ module _ (z : Shape) (h : List Entry) (m : Memory) (t : Machine) (o : Owners) (j
       (λ (i : In g (brought v.met)). let y = in_brought g v.met i in (y.0.seen, k.coming y.0 y.1 g y.2))
       (in_append g v.gathered (brought v.met) i)
 
-  pub seated_all : (g : Gathered) → In g (all_gathered v) → o.number g.caller.number ≡ j
+  pub seated_all : (g : Gathered) → In g (all_gathered v) → o.seat g.caller ≡ j
   seated_all g i = (gathered_all g i).1.seated
 
 -- ---- other views
 
-module _ (limit : ℕ) (h : List Entry) (c : Caller) (m : Memory) (t : Machine) (es : List Entry) (m' : Memory) (ok : MayMake limit t c es) where
+module _ (limit : ℕ) (h : List Entry) (c : Caller) (t : Machine) (es : List Entry) (ok : MayMake limit t c es) where
   pub made_by-on : (k : Caller) → k ≢ c → made_by k (h ++ es) ≡ made_by k h
   made_by-on k n = filter-append _ h es ∙ (ap (λ (l : List Entry). made_by k h ++ l) (made_by-other limit c k es t n ok) ∙ append-nil (made_by k h))
 
-  pub silent_on : (k : ℕ) → k ≢ c.number → m'.marks k ≡ m.marks k → IsSilent k h m t → IsSilent k (h ++ es) m' (moved_by t es)
-  silent_on k n mk s = record {
-    calls = λ d e. made_by-on d (λ q. n (sym e ∙ ap (λ (x : Caller). x.number) q)) ∙ s.calls d e;
-    outside = λ d e. others_stay limit c d es t (λ q. n (sym e ∙ ap (λ (x : Caller). x.number) q)) ok ∙ s.outside d e;
-    mark = mk ∙ s.mark;
-  }
+  pub silent_on : (k : Caller) → k ≢ c → IsSilent k h t → IsSilent k (h ++ es) (moved_by t es)
+  silent_on k n s = record { calls = made_by-on k n ∙ s.calls; outside = others_stay limit c k es t n ok ∙ s.outside }
 
   pub closing_on : (j : ℕ) (o o' : Owners) (x : Close) → IsClosing t o j x → o'.closer x.arena ≡ o.closer x.arena → NoEnd es x.arena
       → IsClosing (moved_by t es) o' j x
@@ -120,17 +117,34 @@ sweeping_on limit c m t es m' ok stands z j o o' x k e s = record {
 }
 
 -- where these are as they were, a close and a sweep are a seat's still
-pub closing_as : {t : Machine} {o : Owners} {j : ℕ} {c : Close} {number holder : ℕ → ℕ} {taker : ℕ → Option Caller} → IsClosing t o j c
-    → IsClosing t (record o { number = number; holder = holder; taker = taker }) j c
+pub closing_as : {t : Machine} {o : Owners} {j : ℕ} {c : Close} {who : ℕ → Caller} {rank seat : Caller → ℕ} {number holder : ℕ → ℕ}
+    {taker : ℕ → Option Caller} → IsClosing t o j c
+    → IsClosing t (record o { who = who; rank = rank; seat = seat; number = number; holder = holder; taker = taker }) j c
 closing_as y = record { owner = y.owner; life = y.life; visited = y.visited }
 
-pub sweeping_as : {z : Shape} {m : Memory} {t : Machine} {o : Owners} {j : ℕ} {c : Close} {draw bits : ℕ} {number holder : ℕ → ℕ}
-    {taker : ℕ → Option Caller}
-    → IsSweeping z m t o j c → IsSweeping z (record m { draw = draw; bits = bits }) t (record o { number = number; holder = holder; taker = taker }) j c
+pub sweeping_as : {z : Shape} {m : Memory} {t : Machine} {o : Owners} {j : ℕ} {c : Close} {draw bits : ℕ} {numbers terms : ℕ → ℕ} {who : ℕ → Caller}
+    {rank seat : Caller → ℕ} {number holder : ℕ → ℕ} {taker : ℕ → Option Caller}
+    → IsSweeping z m t o j c → IsSweeping z (record m { draw = draw; bits = bits; numbers = numbers; terms = terms }) t
+    (record o { who = who; rank = rank; seat = seat; number = number; holder = holder; taker = taker }) j c
 sweeping_as y = record { owner = y.owner; life = y.life; session = y.session; parts = y.parts; count = y.count; reset = y.reset }
 
+-- who was drawn is so after a step, and nobody else
+module _ {me : ℕ} {z : Shape} {c : Caller} {m : Memory} {t : Machine} {o : Owners} {es : List Entry} {m' : Memory} {o' : Owners}
+    (d : Moved me z c m t o es m' o') where
+  pub drawn_still : (k : Caller) → WasDrawn m.draw o.who o.rank k → WasDrawn m'.draw o'.who o'.rank k
+  drawn_still k y = (
+    (let a = d.draw in let b = d.rank k in let l = y.0 in omega arith),
+    d.who (o'.rank k) ∙ (ap o.who (d.rank k) ∙ y.1),
+  )
+
+  pub drawn_before : (k : Caller) → WasDrawn m'.draw o'.who o'.rank k → WasDrawn m.draw o.who o.rank k
+  drawn_before k y = (
+    (let a = d.draw in let b = d.rank k in let l = y.0 in omega arith),
+    sym (d.who (o.rank k)) ∙ (ap o'.who (sym (d.rank k)) ∙ y.1),
+  )
+
 module _ (z : Shape) (h : List Entry) (me : ℕ) (c : Caller) (m : Memory) (t : Machine) (o : Owners) (es : List Entry) (m' : Memory) (o' : Owners)
-    (d : Moved me z c m t o es m' o') (own : o.number c.number ≡ me) (low : c.number < m.draw)
+    (d : Moved me z c m t o es m' o') (own : o.seat c ≡ me) (held : o.number c.number ≡ me) (was : WasDrawn m.draw o.who o.rank c)
     (stands : (k : Caller) (a : ArenaId) → t.inside k ≡ Some a → IsStanding (t.life a)) where
   abbrev t' : Machine
   t' = moved_by t es
@@ -138,11 +152,53 @@ module _ (z : Shape) (h : List Entry) (me : ℕ) (c : Caller) (m : Memory) (t : 
   abbrev h' : List Entry
   h' = h ++ es
 
-  drawn_still : (n : ℕ) → n < m.draw → n < m'.draw
-  drawn_still n l = let e = d.draw in omega arith
+  -- another seat's number
+  module _ (j : ℕ) (other : j ≢ me) where
+    at_other : (n : ℕ) → o.number n ≡ j → o.number n ≢ me
+    at_other n e q = other (sym e ∙ q)
 
-  drawn_before : (n : ℕ) → n < m'.draw → n < m.draw
-  drawn_before n l = let e = d.draw in omega arith
+    away : (n : ℕ) → o.number n ≡ j → n ≢ c.number
+    away n s q = other (sym s ∙ (ap o.number q ∙ held))
+
+    apart : (k : Caller) → o.seat k ≡ j → k ≢ c
+    apart k s q = other (sym s ∙ (ap o.seat q ∙ own))
+
+    loose_on : (n : ℕ) → IsLoose z m o j n → IsLoose z m' o' j n
+    loose_on n y =
+        let w = d.numbers n y.bit (at_other n y.owner) in
+        record { low = y.low; owner = w.0 ∙ y.owner; bit = w.1; mark = d.marks n (away n y.owner) ∙ y.mark }
+
+    term_on : (n : ℕ) → IsLoose z m o j n → m'.terms n ≡ m.terms n
+    term_on n y = (d.numbers n y.bit (at_other n y.owner)).2
+
+    next_on : (n : ℕ) → IsUndrawn z m o j n → IsUndrawn z m' o' j n
+    next_on n y = record {
+      loose = loose_on n y.loose;
+      fresh = λ q. y.fresh (drawn_before d (next_of m.terms n)
+          (subst (λ (x : ℕ). WasDrawn m'.draw o'.who o'.rank (record { number = n; term = x })) (term_on n y.loose) q));
+    }
+
+    pub number_on : (v : View) (hand : Number) → HasNumberInHand z h m t o j v hand → HasNumberInHand z h' m' t' o' j v hand
+    number_on v no_number y = tt
+    number_on v (number_taken n) y = next_on n y
+    number_on v (number_learnt n x) y = (next_on n y.0, y.1 ∙ sym (term_on n y.0.loose))
+    number_on v (number_drawn k) y = record {
+      loose = loose_on k.number y.loose;
+      term = y.term ∙ sym (term_on k.number y.loose);
+      drawn = drawn_still d k y.drawn;
+      later = y.later;
+      seated = d.seat k ∙ y.seated;
+      apart = y.apart;
+      ungathered = y.ungathered;
+      silent = silent_on (limit_of z) h c t es d.allowed k (apart k y.seated) y.silent;
+    }
+    number_on v (number_left n) y = (next_on n y.0, ⊎_elim (λ (e : m.draw ≡ most_draws). inl (d.draw ∙ e)) inr y.1)
+    number_on v (number_joined k) y = record {
+      loose = loose_on k.number y.loose;
+      term = y.term ∙ sym (term_on k.number y.loose);
+      left = y.left;
+      gathered = y.gathered;
+    }
 
   -- what another seat knows of pages
   others_pages : (j : ℕ) (v : View) → j ≢ me → Owns z h m t o j v → HasPages z m'.maps m'.cells o'.berth j v.inside v.reads v.pages v.sweeps v.swept
@@ -171,16 +227,18 @@ module _ (z : Shape) (h : List Entry) (me : ℕ) (c : Caller) (m : Memory) (t : 
 
   others_own : (j : ℕ) (v : View) → j ≢ me → Owns z h m t o j v → Owns z h' m' t' o' j v
   others_own j v other k = record {
-    number = drawn_still v.caller.number k.number;
-    term = k.term ∙ sym (d.terms v.caller.number);
-    seated = d.numbers v.caller.number ∙ k.seated;
-    mine = made_by-on (limit_of z) h c m t es m' d.allowed v.caller apart ∙ k.mine;
-    inside = others_stay (limit_of z) c v.caller es t apart d.allowed ∙ k.inside;
-    mark = d.marks v.caller.number (away v.caller.number k.seated) ∙ k.mark;
+    drawn = drawn_still d v.caller k.drawn;
+    term = k.term ∙ sym (kept v.caller.number k.bit k.owner).2;
+    seated = d.seat v.caller ∙ k.seated;
+    owner = (kept v.caller.number k.bit k.owner).0 ∙ k.owner;
+    bit = (kept v.caller.number k.bit k.owner).1;
+    mine = made_by-on (limit_of z) h c t es d.allowed v.caller far ∙ k.mine;
+    inside = others_stay (limit_of z) c v.caller es t far d.allowed ∙ k.inside;
+    mark = d.marks v.caller.number (away j other v.caller.number k.owner) ∙ k.mark;
     closes = λ x i.
         let y = k.closes x i in
         let w = d.closers x.arena y.life (λ e. other (sym y.owner ∙ e)) in
-        closing_on (limit_of z) h c m t es m' d.allowed j o o' x y w.0 w.1;
+        closing_on (limit_of z) h c t es d.allowed j o o' x y w.0 w.1;
     once = k.once;
     sweeps = λ x i.
         let y = k.sweeps x i in
@@ -194,47 +252,37 @@ module _ (z : Shape) (h : List Entry) (me : ℕ) (c : Caller) (m : Memory) (t : 
     gathered = λ g i. still v.seen g (k.gathered g i);
     coming = λ x j g i. still x.seen g (k.coming x j g i);
     one_each = k.one_each;
-    drawn = λ n e.
-        let y = k.drawn n e in
-        let far = away n y.seated in
-        record {
-          number = drawn_still n y.number;
-          later = y.later;
-          seated = d.numbers n ∙ y.seated;
-          apart = y.apart;
-          ungathered = y.ungathered;
-          silent = silent_on (limit_of z) h c m t es m' d.allowed n far (d.marks n far) y.silent;
-        };
+    number = number_on j other v v.number k.number;
+    not_own = k.not_own;
     handles = k.handles;
     whole = λ e. absurd (lone e);
     seen_all = λ e. absurd (lone e);
   }
     where
-      away : (n : ℕ) → o.number n ≡ j → n ≢ c.number
-      away n s q = other (sym s ∙ (ap o.number q ∙ own))
+      kept : (n : ℕ) → bit_of m.numbers n ≡ 0 → o.number n ≡ j
+          → (o'.number n ≡ o.number n) × (bit_of m'.numbers n ≡ 0) × (m'.terms n ≡ m.terms n)
+      kept n b e = d.numbers n b (at_other j other n e)
 
-      apart : v.caller ≢ c
-      apart q = away v.caller.number k.seated (ap (λ (x : Caller). x.number) q)
+      far : v.caller ≢ c
+      far = apart j other v.caller k.seated
 
       -- a caller that is gathered is so still
       still : (xs : List Entry) (g : Gathered) → IsGathered h m t o j v xs g → IsGathered h' m' t' o' j v xs g
       still xs g y =
-          let far = away g.caller.number y.seated in
-          let apart' : g.caller ≢ c = λ q. far (ap (λ (x : Caller). x.number) q) in
+          let apart' : g.caller ≢ c = apart j other g.caller y.seated in
           record {
-            number = drawn_still g.caller.number y.number;
-            seated = d.numbers g.caller.number ∙ y.seated;
+            drawn = drawn_still d g.caller y.drawn;
+            seated = d.seat g.caller ∙ y.seated;
             apart = y.apart;
             outside = others_stay (limit_of z) c g.caller es t apart' d.allowed ∙ y.outside;
-            mark = d.marks g.caller.number far ∙ y.mark;
-            quiet = made_by-on (limit_of z) h c m t es m' d.allowed g.caller apart' ∙ y.quiet;
+            quiet = made_by-on (limit_of z) h c t es d.allowed g.caller apart' ∙ y.quiet;
           }
 
-      -- a view that is known to be whole is the only one with a number
+      -- a view that is known to be whole is the only one with a caller
       lone : v.whole ≡ true → ⊥
       lone e =
-          let g = k.whole e c.number low (λ q. away v.caller.number k.seated (sym q)) in
-          away g.0.caller.number (seated_all z h m t o j v k g.0 g.1) g.2
+          let g = k.whole e c was (λ q. far (sym q)) in
+          apart j other g.0.caller (seated_all z h m t o j v k g.0 g.1) g.2
 
   pub others_know : (j : ℕ) (v : View) → j ≢ me → Knows z h m t o j v → Knows z (h ++ es) m' (moved_by t es) o' j v
   others_know j v other k = record {

@@ -11,10 +11,12 @@ pub mod Gripping
 pub mod Handles
 pub mod Counting
 pub mod Callers
+pub mod Looking
 pub mod Lending
 pub mod Moving
 pub mod Living
 pub mod Returning
+pub mod Groups
 pub mod Scarcity
 pub mod Unlending
 pub mod Ending
@@ -26,3 +28,5 @@ pub mod Alone
 pub mod Owning
 pub mod Sounding
 pub mod Ruling
+pub mod Wanting
+pub mod Terming

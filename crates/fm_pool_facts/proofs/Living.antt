@@ -14,7 +14,7 @@ use Rattle.fm_pool_facts.specs.Berths.{Berth, loose, claimed, mapped, unmapped}
 use Rattle.fm_pool_facts.specs.Pages.{IsBlank, IsBeyond, IsMapped, IsUnmapped, Pages}
 use Rattle.fm_pool_facts.proofs.Putting.{two_cases}
 
-module _ (z : Shape) (loans : List Loan) (bits : ℕ) (maps : ℕ → ℕ → Option ℕ) (cells : ℕ → ℕ → ℕ) (berth : ℕ → Berth) (sessions : ℕ → Session)
+module _ (z : Shape) (loans : List Loan) (bits : ℕ → ℕ) (maps : ℕ → ℕ → Option ℕ) (cells : ℕ → ℕ → ℕ) (berth : ℕ → Berth) (sessions : ℕ → Session)
     (life : ArenaId → Stage) (word : ArenaId → ℕ → ℕ) (given : ArenaId → ℕ)
     (s : Sessions z sessions life) (r : Pages z loans bits maps cells berth sessions life word given) where
   -- ---- words

@@ -4,7 +4,7 @@ use Rattle.std.specs.Prelude.{Contains}
 use mathlib.Core.Logic.{dite}
 use native.Mathlib.Decide.{ℕ_discrete}
 use Rattle.std.proofs.Math.Nat.{mod-lt}
-use Rattle.std.specs.Int.{bit_at}
+use Rattle.fm_words.specs.Bits.{bit_of}
 use Rattle.std.proofs.lemmas.List.Elements.{All-weaker, All-contains, All-contains_itself, Contains-append_left, Contains-append_right, Contains-push}
 use Rattle.fm_words.specs.declared.shape.Shape.{Shape}
 use Rattle.fm_base.specs.declared.arena_id.ArenaId.{ArenaId}
@@ -27,7 +27,7 @@ first_loan l loans = Contains-append_left (l ∷ []) loans l (Contains-push [] l
 pub more_loans : (l x : Loan) (loans : List Loan) → Contains loans x → Contains (l ∷ loans) x
 more_loans l x loans h = Contains-append_right (l ∷ []) loans x h
 
-module _ (z : Shape) (loans : List Loan) (bits : ℕ) (maps : ℕ → ℕ → Option ℕ) (cells : ℕ → ℕ → ℕ) (berth : ℕ → Berth) (sessions : ℕ → Session)
+module _ (z : Shape) (loans : List Loan) (bits : ℕ → ℕ) (maps : ℕ → ℕ → Option ℕ) (cells : ℕ → ℕ → ℕ) (berth : ℕ → Berth) (sessions : ℕ → Session)
     (life : ArenaId → Stage) (word : ArenaId → ℕ → ℕ) (given : ArenaId → ℕ)
     (some_words : 0 < z.page_words) (s : Sessions z sessions life) (r : Pages z loans bits maps cells berth sessions life word given) where
   -- ---- what the facts say together
@@ -70,15 +70,15 @@ module _ (z : Shape) (loans : List Loan) (bits : ℕ) (maps : ℕ → ℕ → Op
 
   -- ---- a page is taken by its bit
 
-  pub pages_take : (bits' me bit : ℕ) → bit_at bits bit ≡ 1 → bit_at bits' bit ≡ 0 → ((k : ℕ) → k ≢ bit → bit_at bits' k ≡ bit_at bits k)
+  pub pages_take : (bits' : ℕ → ℕ) (me bit : ℕ) → bit_of bits bit ≡ 1 → bit_of bits' bit ≡ 0 → ((k : ℕ) → k ≢ bit → bit_of bits' k ≡ bit_of bits k)
       → Pages z loans bits' maps cells (put berth bit (claimed me)) sessions life word given
   pages_take bits' me bit one zero others =
       let was = r.bit_is bit one in
       record {
         bit_is = λ p e. dite (ℕ_discrete p bit)
-            (λ q. absurd (let u : bit_at bits' bit ≡ 1 = ap (bit_at bits') (sym q) ∙ e in omega arith))
+            (λ q. absurd (let u : bit_of bits' bit ≡ 1 = ap (bit_of bits') (sym q) ∙ e in omega arith))
             (λ n. let y = r.bit_is p (sym (others p n) ∙ e) in (put_else berth bit (claimed me) p n ∙ y.0, y.1));
-        is_bit = λ p low. put_cases berth bit (claimed me) p (λ (b : Berth). b ≡ loose → bit_at bits' p ≡ 1)
+        is_bit = λ p low. put_cases berth bit (claimed me) p (λ (b : Berth). b ≡ loose → bit_of bits' p ≡ 1)
             (λ q e. absurd (cc))
             (λ n e. others p n ∙ r.is_bit p low e);
         map_is = λ k i p e. put_else berth bit (claimed me) p (λ q. let u : loose ≡ mapped k i = sym was.0 ∙ (ap berth (sym q) ∙ r.map_is k i p e) in
@@ -114,7 +114,7 @@ module _ (z : Shape) (loans : List Loan) (bits : ℕ) (maps : ℕ → ℕ → Op
   pages_map me a i p st low none mine = record {
     bit_is = λ q e. let y = r.bit_is q e in
         (put_else berth p here q (λ w. let u : loose ≡ claimed me = sym y.0 ∙ (ap berth w ∙ mine) in absurd (cc)) ∙ y.0, y.1);
-    is_bit = λ q h. put_cases berth p here q (λ (b : Berth). b ≡ loose → bit_at bits q ≡ 1) (λ w e. absurd (cc)) (λ n e. r.is_bit q h e);
+    is_bit = λ q h. put_cases berth p here q (λ (b : Berth). b ≡ loose → bit_of bits q ≡ 1) (λ w e. absurd (cc)) (λ n e. r.is_bit q h e);
     map_is = λ k c q. two_cases maps a.slot i (Some p) k c (λ (x : Option ℕ). x ≡ Some q → put berth p here q ≡ mapped k c)
         (λ e f x. let w : p ≡ q = cc in ap (put berth p here) (sym w) ∙ (put_here berth p here ∙ (λ j. mapped (sym e j) (sym f j))))
         (λ ne x. let y = r.map_is k c q x in
@@ -212,7 +212,7 @@ module _ (z : Shape) (loans : List Loan) (bits : ℕ) (maps : ℕ → ℕ → Op
   pages_unmap me a i p over sh named = record {
     bit_is = λ q e. let y = r.bit_is q e in
         (put_else berth p gone q (λ w. let u : loose ≡ mapped a.slot i = sym y.0 ∙ (ap berth w ∙ here) in absurd (cc)) ∙ y.0, y.1);
-    is_bit = λ q h. put_cases berth p gone q (λ (b : Berth). b ≡ loose → bit_at bits q ≡ 1) (λ w e. absurd (cc)) (λ n e. r.is_bit q h e);
+    is_bit = λ q h. put_cases berth p gone q (λ (b : Berth). b ≡ loose → bit_of bits q ≡ 1) (λ w e. absurd (cc)) (λ n e. r.is_bit q h e);
     map_is = λ k c q. two_cases maps a.slot i None k c (λ (x : Option ℕ). x ≡ Some q → put berth p gone q ≡ mapped k c)
         (λ e f x. absurd (cc))
         (λ ne x. let y = r.map_is k c q x in

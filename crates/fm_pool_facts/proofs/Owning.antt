@@ -1,5 +1,5 @@
 -- What a view says after its own step, and what the step tells.
-use Rattle.std.proofs.Common.{◌≡◌, ◌≢◌, ℕ, true, List, [], ◌++◌, sym, refl, ap, ◌∙◌, subst, arith}
+use Rattle.std.proofs.Common.{◌≡◌, ◌≢◌, ℕ, true, List, [], ◌++◌, sym, refl, ap, ◌∙◌, subst, inl, inr, ⊎_elim}
 use Rattle.std.proofs.lemmas.List.{append-nil}
 use Rattle.std.proofs.lemmas.List.Elements.{filter-append}
 use Rattle.fm_words.specs.declared.shape.Shape.{Shape}
@@ -10,10 +10,11 @@ use Rattle.fm_base.specs.Finds.{Find, Gathered}
 use Rattle.fm_depicts.specs.Functions.{Machine}
 use Rattle.fm_depicts.specs.Steps.{moved_by}
 use Rattle.fm_pool_facts.specs.Views.{View, In, IsSound, all_gathered, brought, limit_of, HasOwnHandles}
-use Rattle.fm_pool_facts.specs.Facts.{Memory, Owners, IsOnce, Knows}
+use Rattle.fm_pool_facts.specs.Facts.{Memory, Owners, IsOnce, Knows, WasDrawn, bit_of, HasNumberInHand}
+use Rattle.fm_pool_facts.specs.Hands.{Number, no_number, number_taken, number_learnt, number_drawn, number_left, number_joined}
 use Rattle.fm_pool_facts.specs.Moves.{Moved, Same, Part, told, Gives}
 use Rattle.fm_pool_facts.proofs.Frame.{others_stay, made_by-other}
-use Rattle.fm_pool_facts.proofs.Keeping.{none_added, begins_on, gathered_all, made_by-on, silent_on}
+use Rattle.fm_pool_facts.proofs.Keeping.{none_added, begins_on, gathered_all, made_by-on, drawn_still, drawn_before}
 
 module _ (z : Shape) (h zs : List Entry) (me : ℕ) (m m' : Memory) (t : Machine) (o o' : Owners) (es : List Entry) (fs : ℕ → List Find) (v p : View)
     (k : Knows z h m t o me v) (l : v.live ≡ true) (d : Moved me z v.caller m t o es m' o') (is : h ≡ v.seen ++ zs) (s : Same v p) where
@@ -26,19 +27,49 @@ module _ (z : Shape) (h zs : List Entry) (me : ℕ) (m m' : Memory) (t : Machine
   seen_is : w.seen ≡ h ++ es
   seen_is = ap (λ (xs : List Entry). (xs ++ zs) ++ es) s.seen ∙ ap (λ (xs : List Entry). xs ++ es) (sym is)
 
-  pub own_view : Part z m' (moved_by t es) o' me p → HasOwnHandles w → Knows z (h ++ es) m' (moved_by t es) o' me w
+  -- the number in the hand of what is told
+  number_told : (hand : Number) → HasNumberInHand z (h ++ es) m' (moved_by t es) o' me p hand → HasNumberInHand z (h ++ es) m' (moved_by t es) o' me w hand
+  number_told no_number y = tt
+  number_told (number_taken n) y = y
+  number_told (number_learnt n x) y = y
+  number_told (number_drawn k) y = record {
+    loose = y.loose;
+    term = y.term;
+    drawn = y.drawn;
+    later = y.later;
+    seated = y.seated;
+    apart = y.apart;
+    ungathered = λ g i. y.ungathered g (subst (In g) (append-nil (all_gathered p)) i);
+    silent = y.silent;
+  }
+  number_told (number_left n) y = (
+    y.0,
+    ⊎_elim inl (λ (q : (g : Gathered) × In g (all_gathered p) × (g.caller.number ≡ n)).
+        inr (q.0, subst (In q.0) (sym (append-nil (all_gathered p))) q.1, q.2)) y.1,
+  )
+  number_told (number_joined k) y = record {
+    loose = y.loose;
+    term = y.term;
+    left = y.left;
+    gathered = (y.gathered.0, subst (In y.gathered.0) (sym (append-nil (all_gathered p))) y.gathered.1, y.gathered.2);
+  }
+
+  pub own_view : Part z (h ++ es) v m' (moved_by t es) o' me p → HasOwnHandles w → Knows z (h ++ es) m' (moved_by t es) o' me w
   own_view q handles =
       let u = k.owns l in
       let ok = d.allowed in
       let num : p.caller.number ≡ v.caller.number = ap (λ (x : Caller). x.number) s.caller in
+      let still : (c : Caller) → WasDrawn m.draw o.who o.rank c → WasDrawn m'.draw o'.who o'.rank c = drawn_still d in
       record {
         shape = λ e. s.shape ∙ k.shape l;
         begins = ([], sym (append-nil w.seen ∙ seen_is));
         met = λ x i. absurd i;
         owns = λ e. record {
-          number = (let a = u.number in let b = d.draw in let c = num in omega arith);
-          term = ap (λ (x : Caller). x.term) s.caller ∙ (u.term ∙ (sym (d.terms v.caller.number) ∙ ap m'.terms (sym num)));
-          seated = ap o'.number num ∙ (d.numbers v.caller.number ∙ u.seated);
+          drawn = subst (WasDrawn m'.draw o'.who o'.rank) (sym s.caller) (still v.caller u.drawn);
+          term = ap (λ (x : Caller). x.term) s.caller ∙ (u.term ∙ (sym d.own.term ∙ ap m'.terms (sym num)));
+          seated = ap o'.seat s.caller ∙ (d.seat v.caller ∙ u.seated);
+          owner = ap o'.number num ∙ (d.own.owner ∙ u.owner);
+          bit = ap (bit_of m'.numbers) num ∙ (d.own.bit ∙ u.bit);
           mine = ap (made_by p.caller) (sym seen_is);
           inside = q.inside;
           mark = q.mark;
@@ -51,30 +82,21 @@ module _ (z : Shape) (h zs : List Entry) (me : ℕ) (m m' : Memory) (t : Machine
           pages = q.pages;
           handles = handles;
           coming = λ x i. absurd i;
-          one_each = subst (IsOnce (λ (g : Gathered). g.caller.number)) (sym (append-nil (all_gathered p) ∙ same_all)) u.one_each;
+          one_each = subst (IsOnce (λ (g : Gathered). g.caller)) (sym (append-nil (all_gathered p) ∙ same_all)) u.one_each;
           gathered = λ g i.
               let y = (gathered_all z h m t o me v u g (subst (In g) same_all i)).1 in
-              let far : g.caller ≢ v.caller = λ e. y.apart (ap (λ (x : Caller). x.number) e) in
               record {
-                number = (let a = y.number in let b = d.draw in omega arith);
-                seated = d.numbers g.caller.number ∙ y.seated;
-                apart = λ e. y.apart (e ∙ num);
-                outside = others_stay (limit_of z) v.caller g.caller es t far ok ∙ y.outside;
-                mark = d.marks g.caller.number y.apart ∙ y.mark;
+                drawn = still g.caller y.drawn;
+                seated = d.seat g.caller ∙ y.seated;
+                apart = λ e. y.apart (e ∙ s.caller);
+                outside = others_stay (limit_of z) v.caller g.caller es t y.apart ok ∙ y.outside;
                 quiet = ap (made_by g.caller) (sym seen_is);
               };
-          drawn = λ n e.
-              let y = u.drawn n (sym s.drawn ∙ e) in
-              record {
-                number = (let a = y.number in let b = d.draw in omega arith);
-                later = y.later;
-                seated = d.numbers n ∙ y.seated;
-                apart = λ e. y.apart (e ∙ num);
-                ungathered = λ g i. y.ungathered g (subst (In g) (append-nil (all_gathered p) ∙ same_all) i);
-                silent = silent_on (limit_of z) h v.caller m t es m' ok n y.apart (d.marks n y.apart) y.silent;
-              };
+          number = number_told p.number q.number.number;
+          not_own = q.number.not_own;
           whole = λ e n lt ne.
-              let g = u.whole (sym s.whole ∙ e) n (let b = d.draw in omega arith) (λ q. ne (q ∙ sym num)) in
+              let before : WasDrawn m.draw o.who o.rank n = drawn_before d n lt in
+              let g = u.whole (sym s.whole ∙ e) n before (λ q. ne (q ∙ sym s.caller)) in
               (g.0, subst (In g.0) (sym (append-nil (all_gathered p) ∙ same_all)) g.1, g.2);
           seen_all = λ e. seen_is;
         };
@@ -90,7 +112,7 @@ module _ (z : Shape) (h zs : List Entry) (me : ℕ) (m m' : Memory) (t : Machine
         quiet = none_added (made_by v.caller v.seen) (made_by v.caller zs) (sym (filter-append _ v.seen zs) ∙ (ap (made_by v.caller) (sym is) ∙ u.mine));
         apart = λ g i.
             let y = u.gathered g i in
-            let far : g.caller ≢ v.caller = λ e. y.apart (ap (λ (x : Caller). x.number) e) in
+            let far : g.caller ≢ v.caller = y.apart in
             let none =
             none_added (made_by g.caller v.seen) (made_by g.caller zs) (sym (filter-append _ v.seen zs) ∙ (ap (made_by g.caller) (sym is) ∙ y.quiet)) in
             filter-append _ zs es ∙ (λ j. none j ++ made_by-other (limit_of z) v.caller g.caller es t far d.allowed j);
@@ -100,7 +122,7 @@ module _ (z : Shape) (h zs : List Entry) (me : ℕ) (m m' : Memory) (t : Machine
             (b.0, seen_is ∙ b.1);
         came = λ x j g i.
             let y = u.coming x j g i in
-            let far : g.caller ≢ v.caller = λ e. y.apart (ap (λ (x : Caller). x.number) e) in
-            ap (made_by g.caller) seen_is ∙ (made_by-on (limit_of z) h v.caller m t es m' d.allowed g.caller far ∙ y.quiet);
+            let far : g.caller ≢ v.caller = y.apart in
+            ap (made_by g.caller) seen_is ∙ (made_by-on (limit_of z) h v.caller t es d.allowed g.caller far ∙ y.quiet);
         sound = sound;
       }

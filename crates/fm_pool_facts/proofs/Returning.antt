@@ -3,7 +3,7 @@ use Rattle.std.proofs.Common.{◌≡◌, ◌≢◌, ℕ, ◌<◌, ◌==◌, Bool
 use Rattle.std.specs.Prelude.{Contains}
 use mathlib.Core.Logic.{dite}
 use native.Mathlib.Decide.{ℕ_discrete}
-use Rattle.std.specs.Int.{bit_at}
+use Rattle.fm_words.specs.Bits.{bit_of}
 use Rattle.std.proofs.lemmas.List.Elements.{All-contains, filter_passes}
 use Rattle.fm_words.specs.declared.shape.Shape.{Shape}
 use Rattle.fm_base.specs.declared.arena_id.ArenaId.{ArenaId}
@@ -16,18 +16,18 @@ use Rattle.fm_pool_facts.proofs.Lending.{loan_kept, loan_was}
 use Rattle.fm_pool_facts.specs.Berths.{Berth, loose, claimed, mapped, unmapped, LentAt}
 use Rattle.fm_pool_facts.specs.Pages.{IsBlank, IsMapped, IsUnmapped, Pages}
 
-module _ (z : Shape) (loans : List Loan) (bits : ℕ) (maps : ℕ → ℕ → Option ℕ) (cells : ℕ → ℕ → ℕ) (berth : ℕ → Berth) (sessions : ℕ → Session)
+module _ (z : Shape) (loans : List Loan) (bits : ℕ → ℕ) (maps : ℕ → ℕ → Option ℕ) (cells : ℕ → ℕ → ℕ) (berth : ℕ → Berth) (sessions : ℕ → Session)
     (life : ArenaId → Stage) (word : ArenaId → ℕ → ℕ) (given : ArenaId → ℕ)
     (s : Sessions z sessions life) (r : Pages z loans bits maps cells berth sessions life word given) where
-  module _ (bits' p : ℕ) (is_one : bit_at bits' p ≡ 1) (others : (k : ℕ) → k ≢ p → bit_at bits' k ≡ bit_at bits k) where
+  module _ (bits' : ℕ → ℕ) (p : ℕ) (is_one : bit_of bits' p ≡ 1) (others : (k : ℕ) → k ≢ p → bit_of bits' k ≡ bit_of bits k) where
     -- a page in a hand, which had lost the race for its map word or wasn't mapped
     pub pages_give : (me : ℕ) → berth p ≡ claimed me → Pages z loans bits' maps cells (put berth p loose) sessions life word given
     pages_give me mine = record {
       bit_is = λ q e. dite (ℕ_discrete q p)
           (λ w. (ap (put berth p loose) w ∙ put_here berth p loose, subst (λ (y : ℕ). y < z.pages) (sym w) (r.claimed_is p me mine).0))
           (λ n. let y = r.bit_is q (sym (others q n) ∙ e) in (put_else berth p loose q n ∙ y.0, y.1));
-      is_bit = λ q h. put_cases berth p loose q (λ (b : Berth). b ≡ loose → bit_at bits' q ≡ 1)
-          (λ w e. ap (bit_at bits') w ∙ is_one)
+      is_bit = λ q h. put_cases berth p loose q (λ (b : Berth). b ≡ loose → bit_of bits' q ≡ 1)
+          (λ w e. ap (bit_of bits') w ∙ is_one)
           (λ n e. others q n ∙ r.is_bit q h e);
       map_is = λ k i q e. put_else berth p loose q (λ w. let u : mapped k i ≡ claimed me = sym (r.map_is k i q e) ∙ (ap berth w ∙ mine) in
           absurd (cc)) ∙ r.map_is k i q e;
@@ -59,8 +59,8 @@ module _ (z : Shape) (loans : List Loan) (bits : ℕ) (maps : ℕ → ℕ → Op
       bit_is = λ q e. dite (ℕ_discrete q p)
           (λ w. (ap (put berth p loose) w ∙ put_here berth p loose, subst (λ (y : ℕ). y < z.pages) (sym w) (r.unmapped_is p me i a mine).page))
           (λ n. let y = r.bit_is q (sym (others q n) ∙ e) in (put_else berth p loose q n ∙ y.0, y.1));
-      is_bit = λ q h. put_cases berth p loose q (λ (b : Berth). b ≡ loose → bit_at bits' q ≡ 1)
-          (λ w e. ap (bit_at bits') w ∙ is_one)
+      is_bit = λ q h. put_cases berth p loose q (λ (b : Berth). b ≡ loose → bit_of bits' q ≡ 1)
+          (λ w e. ap (bit_of bits') w ∙ is_one)
           (λ n e. others q n ∙ r.is_bit q h e);
       map_is = λ k c q e. put_else berth p loose q (far k c q e) ∙ r.map_is k c q e;
       mapped_is = λ q k c. put_cases berth p loose q (λ (b : Berth). b ≡ mapped k c → IsMapped z loans' maps cells sessions given q k c)

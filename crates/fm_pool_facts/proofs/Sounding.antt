@@ -6,7 +6,7 @@ use Rattle.fm_words.specs.declared.shape.Shape.{Shape}
 use Rattle.fm_words.specs.Shapes.{IsValid}
 use Rattle.fm_base.specs.declared.caller.Caller.{Caller}
 use Rattle.fm_base.specs.declared.arena_id.ArenaId.{ArenaId}
-use Rattle.fm_base.specs.Arenas.{Life, Alive, Closing, Ended, State, IsUnderWay, has_arena, arena_of}
+use Rattle.fm_base.specs.Arenas.{only_caller, Life, Alive, Closing, Ended, State, IsUnderWay, has_arena, arena_of}
 use Rattle.fm_base.specs.Calls.{Entry}
 use Rattle.fm_base.specs.Histories.{IsLegal, state_after, made_by}
 use Rattle.fm_base.specs.Finds.{Gathered, Close}
@@ -15,15 +15,15 @@ use Rattle.fm_pool_facts.specs.Berths.{LentAt}
 use Rattle.fm_pool_facts.specs.Parts.{wiping}
 use Rattle.fm_depicts.specs.Functions.{Fresh, Lives, Over, stage_of}
 use Rattle.fm_depicts.proofs.Putting.{contains_first}
-use Rattle.fm_pool_facts.specs.Views.{FewLeft, brought, View, Fits, In, IsSound, IsKnown, limit_of, state_in, pass_of}
-use Rattle.fm_pool_facts.specs.Facts.{Berth, loose, claimed, mapped, unmapped, IsAt, IsSweeping, IsWiped, HasSwept, HasPage, Owns, Rule, IsOnce}
+use Rattle.fm_pool_facts.specs.Views.{FewLeft, brought, View, Fits, In, IsSound, IsKnown, limit_of, state_in}
+use Rattle.fm_pool_facts.specs.Facts.{Berth, loose, claimed, mapped, unmapped, IsAt, IsSweeping, IsWiped, HasSwept, HasPage, Owns, Rule, IsOnce, WasDrawn, IsDrawn, HasNumberInHand}
 use Rattle.std.specs.Prelude.{Contains}
 use Rattle.fm_pool_facts.proofs.Handing.{slot_below}
 use Rattle.fm_pool_facts.specs.Holds.{grips, holds_of}
 use Rattle.fm_pool_facts.specs.Loans.{Loan, lent, IsRightlyLent, loan_of, HasPart}
 use Rattle.fm_pool_facts.proofs.Lending.{over_now}
 use Rattle.fm_pool_facts.specs.Gone.{FoundBy}
-use Rattle.fm_pool_facts.proofs.Alone.{none_now}
+use Rattle.fm_pool_facts.proofs.Alone.{none_now, numbers_gone}
 use Rattle.fm_pool_facts.proofs.Given.{given_lent, mapped_part}
 use Rattle.fm_pool_facts.proofs.Callers.{all_now, few_gathered, whole_has, knows_callers}
 use Rattle.fm_pool_facts.proofs.Standing.{unstanding}
@@ -151,7 +151,7 @@ sound_of z ws vs r me v at l lone q =
       limit = limit_below v.shape valid;
       legal = subst (λ (x : Shape × List Entry). IsLegal (limit_of x.0) [] x.1) (λ i. (sym e i, sym q i)) r.legal;
       lent = subst (λ (x : Shape × List Entry). IsRightlyLent x.0.page_words (limit_of x.0) x.1) (λ i. (sym e i, sym q i)) r.rightly;
-      number = (let a = u.number in let b = r.few in let c : v.shape.passes ≡ z.passes = ap (λ (x : Shape). x.passes) e in omega arith);
+      number = (let a = (r.terms v.caller u.drawn).0 in let c : v.shape.passes ≡ z.passes = ap (λ (x : Shape). x.passes) e in omega arith);
       inside = λ a i. subst (λ (x : State). IsUnderWay x v.caller a) (sym st) (r.depicts.listed v.caller a (u.inside ∙ i));
       outside = λ a w. sym u.inside ∙ r.depicts.under v.caller a (subst (λ (x : State). IsUnderWay x v.caller a) st w);
       fits = λ a h. subst (λ (x : Shape). Fits x a) (sym e) (r.world.sessions.fits a (known a h));
@@ -199,34 +199,36 @@ sound_of z ws vs r me v at l lone q =
           subst (λ (k : Caller). FoundBy z r.history r.memory r.owners.taker r.machine.life k f) (sym x.2)
           ((r.founds me v at).theirs x.0 (in_left x.0 v.gathered (brought v.met) x.1) f x.3))
           h);
-      drawn = λ n i.
-          let y = u.drawn n i in
+      drawn = λ c i.
+          let y : IsDrawn z r.history r.memory r.machine r.owners me v c =
+          subst (HasNumberInHand z r.history r.memory r.machine r.owners me v) i u.number in
           record {
             later = y.later;
-            number = (let a = y.number in let b = r.few in let c : v.shape.passes ≡ z.passes = ap (λ (x : Shape). x.passes) e in omega arith);
-            other = ⊎_elim y.apart (λ (g : (g : Gathered) × In g v.gathered × (g.caller.number ≡ n)).
+            number = (let a = y.loose.low in let b : v.shape.passes ≡ z.passes = ap (λ (x : Shape). x.passes) e in omega arith);
+            term = (let a = (r.terms c y.drawn).1 in let b = r.last c.number in omega arith);
+            other = ⊎_elim y.apart (λ (g : (g : Gathered) × In g v.gathered × (g.caller ≡ c)).
                 y.ungathered g.0 (in_left g.0 v.gathered (brought v.met) g.1) g.2);
-            silent = ap (made_by (pass_of n)) q ∙ y.silent.calls (pass_of n) refl;
+            silent = ap (made_by c) q ∙ y.silent.calls;
             outside = λ a w.
-                let none : None ≡ Some a = sym (y.silent.outside (pass_of n) refl)
-                ∙ r.depicts.under (pass_of n) a (subst (λ (x : State). IsUnderWay x (pass_of n) a) st w) in absurd (cc);
+                let none : None ≡ Some a = sym y.silent.outside
+                ∙ r.depicts.under c a (subst (λ (x : State). IsUnderWay x c a) st w) in absurd (cc);
           };
       few =
           let a = few_gathered z r.history r.memory r.machine r.owners me v lone u in
-          let b = r.few in
-          let c : v.shape.passes ≡ z.passes = ap (λ (x : Shape). x.passes) e in omega arith;
+          let b = r.few in omega arith;
       knows = knows_callers z r.history r.memory r.machine r.owners me v lone u r.later q;
       all_drawn = λ w.
           let has = whole_has z r.history r.memory r.machine r.owners me v lone u w in
           record {
-            first = has 0 (let a = u.number in omega arith);
-            others = λ f c h d e. has c.number ((find_within r.memory v (r.counted me v at) f h).drew c e).1;
+            first = has only_caller (subst (WasDrawn r.memory.draw r.owners.who r.owners.rank) r.first (
+              (let a = r.ranks 0 r.begun in let b = r.begun in omega arith),
+              ap r.owners.who (r.ranks 0 r.begun),
+            ));
+            others = λ f c h d e. has c ((find_within r.memory.draw r.owners.who r.owners.rank v (r.counted me v at) f h).drew c e).1;
           };
-      one_each = subst (IsOnce (λ (g : Gathered). g.caller.number)) (all_now z r.history r.memory r.machine r.owners me v lone u) u.one_each;
+      numbers_gone = λ w none f i s h n of below.
+          numbers_gone z me v l ws vs r at lone w none f i s h n of (subst (λ (x : Shape). n < x.passes) e below);
+      one_each = subst (IsOnce (λ (g : Gathered). g.caller)) (all_now z r.history r.memory r.machine r.owners me v lone u) u.one_each;
       others = λ g i. (u.gathered g i).apart;
-      terms = record {
-        own = u.term ∙ r.shows.terms v.caller.number;
-        gathered = λ g i. (r.counted me v at).terms g (in_left g v.gathered (brought v.met) i) ∙ r.shows.terms g.caller.number;
-        entries = λ e i. let a = r.terms e (subst (In e) q i) in let b = r.shows.terms e.caller.number in omega arith;
-      };
+      term = (let a = (r.terms v.caller u.drawn).1 in let b = r.last v.caller.number in omega arith);
     }

@@ -124,7 +124,7 @@ module _ (z : Shape) (m : Memory) (t : Machine) (r : World z m t) where
   }
 
   -- nor do pages
-  pub world_pages : (bits : ℕ) (maps : ℕ → ℕ → Option ℕ) (cells : ℕ → ℕ → ℕ) → World z (record m { page_bits = bits; maps = maps; cells = cells }) t
+  pub world_pages : (bits : ℕ → ℕ) (maps : ℕ → ℕ → Option ℕ) (cells : ℕ → ℕ → ℕ) → World z (record m { page_bits = bits; maps = maps; cells = cells }) t
   world_pages bits maps cells = record {
     marked = λ c b i. let w = r.marked c b i in record { number = w.number; term = w.term; mark = w.mark; stands = w.stands };
     sessions = r.sessions;

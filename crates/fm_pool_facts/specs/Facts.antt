@@ -1,5 +1,5 @@
 -- The facts that a pool keeps between any two steps: of its words, of the history, and of all views.
-use Rattle.std.specs.Prelude.{◌≡◌, ◌≢◌, ◌⊎◌, ℕ, ◌+◌, ◌<◌, ◌≤◌, true, List, [], ◌∷◌, Option, Some, None}
+use Rattle.std.specs.Prelude.{◌≡◌, ◌≢◌, ◌⊎◌, ℕ, ◌+◌, ◌<◌, ◌≤◌, true, List, [], ◌∷◌, Option, Some, None, ◌/◌, length}
 use mathlib.Core.Option.{some}
 use lib.ListN.{get_elem?}
 use Rattle.fm_words.specs.declared.shape.Shape.{Shape}
@@ -9,15 +9,17 @@ use Rattle.fm_base.specs.declared.arena_id.ArenaId.{ArenaId}
 use Rattle.fm_base.specs.Calls.{Entry}
 use Rattle.fm_base.specs.Histories.{IsLegal, state_after, made_by}
 use Rattle.fm_pool_facts.specs.Loans.{lent, IsRightlyLent}
-use Rattle.fm_base.specs.Finds.{Find, Gathered, Close, is_draw}
+use Rattle.fm_base.specs.Finds.{Find, Gathered, Close, is_draw, is_number, group_of}
 use Rattle.fm_depicts.specs.Functions.{Stage, Fresh, Lives, Closes, Over, Machine, Depicts}
 use Rattle.std.specs.Int.{bit_at}
-use Rattle.fm_pool_facts.specs.Hands.{Hand, nothing, taken, learnt, retired, HasSlot, IsTaker}
-use Rattle.fm_pool_facts.specs.Views.{Met, View, Fits, In, HasOwnHandles, all_gathered, limit_of}
+use Rattle.fm_pool_facts.specs.Hands.{Hand, nothing, taken, learnt, retired, HasSlot, IsTaker, Number, no_number, number_taken, number_learnt, number_drawn, number_left, number_joined, HasNumberIn, last_term, most_draws}
+use Rattle.fm_pool_facts.specs.Views.{Met, View, Fits, In, HasOwnHandles, all_gathered, limit_of, prefix}
+use Rattle.fm_base.specs.Arenas.{only_caller}
 pub use Rattle.fm_pool_facts.specs.Views.{IsOnce, Begins}
 pub use Rattle.fm_pool_facts.specs.Memory.{Session, free, live, shut, Memory, session_code, own_map, Shows, IsStanding, IsShown}
 pub use Rattle.fm_pool_facts.specs.Berths.{Berth, loose, claimed, mapped, unmapped, IsAt}
 pub use Rattle.fm_pool_facts.specs.Pages.{Pages}
+pub use Rattle.fm_words.specs.Bits.{bit_of}
 use Rattle.fm_pool_facts.specs.Parts.{Mapping, Swept, unread, named, wiping}
 use Rattle.fm_pool_facts.specs.Gone.{IsFounded}
 use Rattle.fm_pool_facts.specs.Holds.{holds_of, total, all_holds}
@@ -71,10 +73,25 @@ pub record World (z : Shape) (m : Memory) (t : Machine) : Type 0 where
   pub counts : Counts m.counts t.life t.holds
   pub givens : Givens m.sessions m.given t.life t.given
 
+-- ---- callers that were drawn, and numbers
+
+-- c is one of the first callers that were drawn: `who` has them in their order, and `rank` says which one a caller is
+abbrev pub WasDrawn : (draw : ℕ) → (who : ℕ → Caller) → (rank : Caller → ℕ) → Caller → Type 0
+WasDrawn draw who rank c = (rank c < draw) × (who (rank c) ≡ c)
+
+-- the next caller of a number that nobody has
+abbrev pub next_of : (terms : ℕ → ℕ) → ℕ → Caller
+next_of terms n = record { number = n; term = terms n }
+
 -- ---- which seat has what
 
 pub record Owners : Type 0 where
-  -- a drawn number
+  -- the callers in the order in which they were drawn, and the place of each among them
+  pub who : ℕ → Caller
+  pub rank : Caller → ℕ
+  -- the pass of a drawn caller, or the one into which it is gathered
+  pub seat : Caller → ℕ
+  -- a number whose bit is 0: the pass that has it as its own, or in its hand
   pub number : ℕ → ℕ
   -- the close of an arena, and its sweep
   pub closer : ArenaId → ℕ
@@ -149,39 +166,73 @@ HasInHand z bits sessions holder j (taken s) = (g : ℕ) × IsHeld z bits sessio
 HasInHand z bits sessions holder j (learnt s g) = IsHeld z bits sessions holder j s g
 HasInHand z bits sessions holder j (retired s) = (g : ℕ) × IsHeld z bits sessions holder j s (g + 1)
 
--- no caller of the number has made an entry or is under way, and its mark is 0
-pub record IsSilent (k : ℕ) (h : List Entry) (m : Memory) (t : Machine) : Type 0 where
-  pub calls : (c : Caller) → c.number ≡ k → made_by c h ≡ []
-  pub outside : (c : Caller) → c.number ≡ k → t.inside c ≡ None
-  pub mark : m.marks k ≡ None
+-- the caller has made no entry and is under way nowhere
+pub record IsSilent (c : Caller) (h : List Entry) (t : Machine) : Type 0 where
+  pub calls : made_by c h ≡ []
+  pub outside : t.inside c ≡ None
+
+-- a number whose bit is 0, at the seat j, that no live pass has as its own
+pub record IsLoose (z : Shape) (m : Memory) (o : Owners) (j n : ℕ) : Type 0 where
+  pub low : n < z.passes
+  pub owner : o.number n ≡ j
+  pub bit : bit_of m.numbers n ≡ 0
+  pub mark : m.marks n ≡ None
+
+-- and whose next caller wasn't drawn
+pub record IsUndrawn (z : Shape) (m : Memory) (o : Owners) (j n : ℕ) : Type 0 where
+  pub loose : IsLoose z m o j n
+  pub fresh : ¬ (WasDrawn m.draw o.who o.rank (next_of m.terms n))
 
 -- a caller that is gathered into the view v at the seat j, and was so when xs was seen
 pub record IsGathered (h : List Entry) (m : Memory) (t : Machine) (o : Owners) (j : ℕ) (v : View) (xs : List Entry) (g : Gathered) : Type 0 where
-  pub number : g.caller.number < m.draw
-  pub seated : o.number g.caller.number ≡ j
-  pub apart : g.caller.number ≢ v.caller.number
+  pub drawn : WasDrawn m.draw o.who o.rank g.caller
+  pub seated : o.seat g.caller ≡ j
+  pub apart : g.caller ≢ v.caller
   pub outside : t.inside g.caller ≡ None
-  pub mark : m.marks g.caller.number ≡ None
   pub quiet : made_by g.caller h ≡ made_by g.caller xs
 
--- a number that was drawn at the seat j and isn't split off
-pub record IsDrawn (h : List Entry) (m : Memory) (t : Machine) (o : Owners) (j : ℕ) (v : View) (d : ℕ) : Type 0 where
-  pub number : d < m.draw
-  pub later : 0 < d
-  pub seated : o.number d ≡ j
-  pub apart : d ≢ v.caller.number
-  pub ungathered : (g : Gathered) → In g (all_gathered v) → g.caller.number ≢ d
-  pub silent : IsSilent d h m t
+-- a caller that was drawn at the seat j and isn't split off
+pub record IsDrawn (z : Shape) (h : List Entry) (m : Memory) (t : Machine) (o : Owners) (j : ℕ) (v : View) (c : Caller) : Type 0 where
+  pub loose : IsLoose z m o j c.number
+  pub term : c.term ≡ m.terms c.number
+  pub drawn : WasDrawn m.draw o.who o.rank c
+  pub later : c ≢ only_caller
+  pub seated : o.seat c ≡ j
+  pub apart : c ≢ v.caller
+  pub ungathered : (g : Gathered) → In g (all_gathered v) → g.caller ≢ c
+  pub silent : IsSilent c h t
+
+-- a caller that is gathered into v, and whose number is to be returned
+pub record IsJoined (z : Shape) (m : Memory) (o : Owners) (j : ℕ) (v : View) (c : Caller) : Type 0 where
+  pub loose : IsLoose z m o j c.number
+  pub term : c.term ≡ m.terms c.number
+  pub left : c.term < last_term
+  pub gathered : (g : Gathered) × In g (all_gathered v) × (g.caller ≡ c)
+
+-- a caller of the number is gathered into v, or nobody can be drawn any more
+abbrev pub WasLeft : Memory → View → ℕ → Type 0
+WasLeft m v n = (m.draw ≡ most_draws) ⊎ ((g : Gathered) × In g (all_gathered v) × (g.caller.number ≡ n))
+
+-- what is known of the number in the hand of v
+abbrev pub HasNumberInHand : (z : Shape) (h : List Entry) (m : Memory) (t : Machine) (o : Owners) (j : ℕ) (v : View) → Number → Type 0
+HasNumberInHand z h m t o j v no_number = Unit {0}
+HasNumberInHand z h m t o j v (number_taken n) = IsUndrawn z m o j n
+HasNumberInHand z h m t o j v (number_learnt n term) = IsUndrawn z m o j n × (term ≡ m.terms n)
+HasNumberInHand z h m t o j v (number_drawn c) = IsDrawn z h m t o j v c
+HasNumberInHand z h m t o j v (number_left n) = IsUndrawn z m o j n × WasLeft m v n
+HasNumberInHand z h m t o j v (number_joined c) = IsJoined z m o j v c
 
 -- ---- what a view says
 
-abbrev pub HasGathered : ℕ → View → Type 0
-HasGathered n v = (g : Gathered) × In g (all_gathered v) × (g.caller.number ≡ n)
+abbrev pub HasGathered : Caller → View → Type 0
+HasGathered c v = (g : Gathered) × In g (all_gathered v) × (g.caller ≡ c)
 
 pub record Owns (z : Shape) (h : List Entry) (m : Memory) (t : Machine) (o : Owners) (j : ℕ) (v : View) : Type 0 where
-  pub number : v.caller.number < m.draw
+  pub drawn : WasDrawn m.draw o.who o.rank v.caller
   pub term : v.caller.term ≡ m.terms v.caller.number
-  pub seated : o.number v.caller.number ≡ j
+  pub seated : o.seat v.caller ≡ j
+  pub owner : o.number v.caller.number ≡ j
+  pub bit : bit_of m.numbers v.caller.number ≡ 0
   pub mine : made_by v.caller h ≡ made_by v.caller v.seen
   pub inside : t.inside v.caller ≡ v.inside
   pub mark : m.marks v.caller.number ≡ v.mark
@@ -195,9 +246,10 @@ pub record Owns (z : Shape) (h : List Entry) (m : Memory) (t : Machine) (o : Own
   pub handles : HasOwnHandles v
   pub gathered : (g : Gathered) → In g v.gathered → IsGathered h m t o j v v.seen g
   pub coming : (x : Met) → In x v.met → (g : Gathered) → In g x.gathered → IsGathered h m t o j v x.seen g
-  pub one_each : IsOnce (λ (g : Gathered). g.caller.number) (all_gathered v)
-  pub drawn : (d : ℕ) → v.drawn ≡ Some d → IsDrawn h m t o j v d
-  pub whole : v.whole ≡ true → (n : ℕ) → n < m.draw → n ≢ v.caller.number → HasGathered n v
+  pub one_each : IsOnce (λ (g : Gathered). g.caller) (all_gathered v)
+  pub number : HasNumberInHand z h m t o j v v.number
+  pub not_own : (n : ℕ) → HasNumberIn n v.number → n ≢ v.caller.number
+  pub whole : v.whole ≡ true → (c : Caller) → WasDrawn m.draw o.who o.rank c → c ≢ v.caller → HasGathered c v
   pub seen_all : v.whole ≡ true → v.seen ≡ h
 
 pub record Knows (z : Shape) (h : List Entry) (m : Memory) (t : Machine) (o : Owners) (j : ℕ) (v : View) : Type 0 where
@@ -206,16 +258,15 @@ pub record Knows (z : Shape) (h : List Entry) (m : Memory) (t : Machine) (o : Ow
   pub met : (x : Met) → In x v.met → Begins x.seen h
   pub owns : v.live ≡ true → Owns z h m t o j v
 
--- where so many numbers are drawn, a draw found no more, and who was drawn has one of these
-pub record IsWithin (drawn : ℕ) (f : Find) : Type 0 where
-  pub found : is_draw f.step ≡ true → f.found ≤ drawn
-  pub drew : (c : Caller) → f.drew ≡ Some c → (is_draw f.step ≡ true) × (c.number < drawn)
+-- where so many draws were made, a draw found no more, and who was drawn is one of these
+pub record IsWithin (draw : ℕ) (who : ℕ → Caller) (rank : Caller → ℕ) (f : Find) : Type 0 where
+  pub found : is_draw f.step ≡ true → f.found ≤ draw
+  pub drew : (c : Caller) → f.drew ≡ Some c → (is_draw f.step ≡ true) × WasDrawn draw who rank c
 
--- the finds that a view has are within the count of drawn numbers, and who is gathered is of its number's term
-pub record IsCounted (m : Memory) (v : View) : Type 0 where
-  pub finds : (f : Find) → In f v.finds → IsWithin m.draw f
-  pub theirs : (g : Gathered) → In g (all_gathered v) → (f : Find) → In f g.finds → IsWithin m.draw f
-  pub terms : (g : Gathered) → In g (all_gathered v) → g.caller.term ≡ m.terms g.caller.number
+-- the finds that a view has are within the count of draws
+pub record IsCounted (draw : ℕ) (who : ℕ → Caller) (rank : Caller → ℕ) (v : View) : Type 0 where
+  pub finds : (f : Find) → In f v.finds → IsWithin draw who rank f
+  pub theirs : (g : Gathered) → In g (all_gathered v) → (f : Find) → In f g.finds → IsWithin draw who rank f
 
 -- ---- what some view has
 
@@ -225,18 +276,33 @@ pub record Somewhere (views : List View) (i : ℕ) (P : View → Type 0) : Type 
   pub there : get_elem? views i ≡ some view
   pub holds : P view
 
--- the number is the view's own, in its hand, or gathered into it
-abbrev pub HasNumber : ℕ → View → Type 0
-HasNumber n v = ((v.live ≡ true) × (v.caller.number ≡ n)) ⊎ ((v.drawn ≡ Some n) ⊎ HasGathered n v)
+-- the caller is the view's own, in its hand, or gathered into it
+abbrev pub KeepsCaller : Caller → View → Type 0
+KeepsCaller c v = ((v.live ≡ true) × (v.caller ≡ c)) ⊎ ((v.number ≡ number_drawn c) ⊎ HasGathered c v)
 
--- among the finds is the drawing of n
-abbrev pub DrewIn : ℕ → List Find → Type 0
-DrewIn n fs = (f : Find) × In f fs × ((c : Caller) × (c.number ≡ n) × (f.drew ≡ Some c))
+-- the number is the view's own, or in its hand
+abbrev pub KeepsNumber : ℕ → View → Type 0
+KeepsNumber n v = (v.live ≡ true) × ((v.caller.number ≡ n) ⊎ HasNumberIn n v.number)
 
--- the view has the finds of d, among them the drawing of n
-abbrev pub HasDraw : ℕ → ℕ → View → Type 0
-HasDraw d n v = ((v.live ≡ true) × (v.caller.number ≡ d) × DrewIn n v.finds)
-    ⊎ ((g : Gathered) × In g (all_gathered v) × (g.caller.number ≡ d) × DrewIn n g.finds)
+-- a number that was returned, and can be drawn
+pub record IsFreeNumber (m : Memory) (o : Owners) (n : ℕ) : Type 0 where
+  pub mark : m.marks n ≡ None
+  pub fresh : ¬ (WasDrawn m.draw o.who o.rank (next_of m.terms n))
+
+-- a number that had its last term
+pub record IsSpent (m : Memory) (o : Owners) (n : ℕ) : Type 0 where
+  pub mark : m.marks n ≡ None
+  pub last : m.terms n ≡ last_term
+  pub drawn : WasDrawn m.draw o.who o.rank (next_of m.terms n)
+
+-- among the finds is the drawing of c
+abbrev pub DrewIn : Caller → List Find → Type 0
+DrewIn c fs = (f : Find) × In f fs × (f.drew ≡ Some c)
+
+-- the view has the finds of d, among them the drawing of c
+abbrev pub HasDraw : Caller → Caller → View → Type 0
+HasDraw d c v = ((v.live ≡ true) × (v.caller ≡ d) × DrewIn c v.finds)
+    ⊎ ((g : Gathered) × In g (all_gathered v) × (g.caller ≡ d) × DrewIn c g.finds)
 
 abbrev pub HasClose : ArenaId → View → Type 0
 HasClose a v = (v.live ≡ true) × ((c : Close) × In c v.closes × (c.arena ≡ a))
@@ -254,6 +320,32 @@ HasPage p (claimed j) v = (v.live ≡ true) × In p v.pages
 HasPage p (mapped k i) v = ⊥
 HasPage p (unmapped j a i) v = (v.live ≡ true) × ((w : ℕ) × (v.swept ≡ wiping a i p w))
 
+-- ---- finds of no number
+
+-- the number was taken to draw its next caller
+abbrev pub WantsNumber : ℕ → View → Type 0
+WantsNumber n v = (v.live ≡ true) × ((v.number ≡ number_taken n) ⊎ ((term : ℕ) × (v.number ≡ number_learnt n term)))
+
+-- a caller of the number was drawn that isn't one of these, or is its last; or another is about to be drawn; or nobody can be any more
+pub data IsUsed (m : Memory) (o : Owners) (views : List View) (before : List Gathered) (n : ℕ) : Type 0 where
+  used : (c : Caller) → c.number ≡ n → WasDrawn m.draw o.who o.rank c → (c.term ≡ last_term) ⊎ ((g : Gathered) → In g before → g.caller ≢ c)
+      → IsUsed m o views before n
+  wanted : Somewhere views (o.number n) (WantsNumber n) → IsUsed m o views before n
+  full : m.draw ≡ most_draws → IsUsed m o views before n
+
+-- the find of a word 0 of number bits, where these were gathered
+pub record HasLooked (z : Shape) (m : Memory) (o : Owners) (views : List View) (before : List Gathered) (f : Find) : Type 0 where
+  pub drawn : (g : Gathered) → In g before → WasDrawn m.draw o.who o.rank g.caller
+  pub all : (n : ℕ) → n / 64 ≡ group_of f.step → n < z.passes → IsUsed m o views before n
+
+abbrev pub LookedBy : (z : Shape) (m : Memory) (o : Owners) (views : List View) (before : List Gathered) (f : Find) → Type 0
+LookedBy z m o views before f = is_number f.step ≡ true → f.found ≡ 0 → HasLooked z m o views before f
+
+pub record IsLooked (z : Shape) (m : Memory) (o : Owners) (views : List View) (v : View) : Type 0 where
+  pub few : (f : Find) → In f v.finds → is_number f.step ≡ true → f.gathered ≤ length v.gathered
+  pub finds : (f : Find) → In f v.finds → LookedBy z m o views (prefix f.gathered v.gathered) f
+  pub theirs : (g : Gathered) → In g (all_gathered v) → (f : Find) → In f g.finds → LookedBy z m o views [] f
+
 -- ---- the rule
 
 pub record Rule (z : Shape) (words : List ℕ) (views : List View) : Type 0 where
@@ -268,12 +360,23 @@ pub record Rule (z : Shape) (words : List ℕ) (views : List View) : Type 0 wher
   pub depicts : Depicts (limit_of z) (state_after (limit_of z) [] history) machine
   pub shows : Shows z words memory
   pub world : World z memory machine
-  pub few : memory.draw ≤ z.passes
-  pub later : (k : ℕ) → memory.draw ≤ k → IsSilent k history memory machine
-  -- no entry is of a later term than its caller's number
-  pub terms : (e : Entry) → In e history → e.caller.term ≤ memory.terms e.caller.number
-  pub numbers : (n : ℕ) → n < memory.draw → Somewhere views (owners.number n) (HasNumber n)
-  pub drawers : (n : ℕ) → 0 < n → n < memory.draw → (d : ℕ) × (d < n) × Somewhere views (owners.number d) (HasDraw d n)
+  pub few : memory.draw ≤ most_draws
+  pub begun : 0 < memory.draw
+  pub first : owners.who 0 ≡ only_caller
+  pub ranks : (k : ℕ) → k < memory.draw → owners.rank (owners.who k) ≡ k
+  -- who wasn't drawn has done nothing
+  pub later : (c : Caller) → ¬ (WasDrawn memory.draw owners.who owners.rank c) → IsSilent c history machine
+  -- who was drawn has a number of the pool, and no later term than it
+  pub terms : (c : Caller) → WasDrawn memory.draw owners.who owners.rank c → (c.number < z.passes) × (c.term ≤ memory.terms c.number)
+  pub last : (n : ℕ) → memory.terms n ≤ last_term
+  pub callers : (c : Caller) → WasDrawn memory.draw owners.who owners.rank c → Somewhere views (owners.seat c) (KeepsCaller c)
+  -- each caller but the first was drawn by one that was drawn earlier
+  pub drawers : (k : ℕ) → 0 < k → k < memory.draw
+      → (d : ℕ) × (d < k) × Somewhere views (owners.seat (owners.who d)) (HasDraw (owners.who d) (owners.who k))
+  -- each number is free, or in one view, or had its last term
+  pub free_numbers : (n : ℕ) → bit_of memory.numbers n ≡ 1 → IsFreeNumber memory owners n
+  pub numbers : (n : ℕ) → n < z.passes → bit_of memory.numbers n ≡ 0
+      → Somewhere views (owners.number n) (KeepsNumber n) ⊎ IsSpent memory owners n
   pub closed : (a : ArenaId) → machine.life a ≡ Closes → Somewhere views (owners.closer a) (HasClose a)
   pub swept : (a : ArenaId) → memory.sessions a.slot ≡ shut a → machine.life a ≡ Over → Somewhere views (owners.closer a) (HasSweep a)
   pub slots : (s g : ℕ) → s < z.slots → memory.sessions s ≡ free g → g < z.generations → bit_at memory.bits s ≡ 0
@@ -282,5 +385,6 @@ pub record Rule (z : Shape) (words : List ℕ) (views : List View) : Type 0 wher
   -- an arena is held as often as views have a hold of it; of an automatic one that is alive they have one more
   pub held : (a : ArenaId) → total (holds_of a) views ≡ all_holds a machine
   pub each : (j : ℕ) (v : View) → get_elem? views j ≡ some v → Knows z history memory machine owners j v
-  pub counted : (j : ℕ) (v : View) → get_elem? views j ≡ some v → IsCounted memory v
+  pub counted : (j : ℕ) (v : View) → get_elem? views j ≡ some v → IsCounted memory.draw owners.who owners.rank v
   pub founds : (j : ℕ) (v : View) → get_elem? views j ≡ some v → IsFounded z history memory owners.taker machine.life v
+  pub looked : (j : ℕ) (v : View) → get_elem? views j ≡ some v → IsLooked z memory owners views v

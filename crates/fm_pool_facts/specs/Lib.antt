@@ -10,6 +10,7 @@ pub mod Holds
 pub mod Handles
 pub mod Steps
 pub mod Memory
+pub mod Beginning
 pub mod Pages
 pub mod Gone
 pub mod Facts

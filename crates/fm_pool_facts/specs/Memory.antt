@@ -1,7 +1,7 @@
 -- The words of a pool, decoded.
 use Rattle.std.specs.Prelude.{◌≡◌, ◌⊎◌, ℕ, ◌<◌, List, length, slice_index, Option, Some, None}
 use Rattle.fm_words.specs.declared.shape.Shape.{Shape}
-use Rattle.fm_words.specs.Places.{at, front, draw as draw_place, slot_bits, page_bits as page_bits_place, mark, session, given as given_place, map, page_word, words as word_count}
+use Rattle.fm_words.specs.Places.{at, front, draw as draw_place, slot_bits, page_bits as page_bits_place, page_groups, mark, session, given as given_place, map, page_word, words as word_count, number_bits, term, groups}
 use Rattle.fm_words.specs.Maps.{map_word}
 use Rattle.fm_depicts.specs.Functions.{Stage, Lives, Closes}
 use Rattle.fm_base.specs.declared.arena_id.ArenaId.{ArenaId}
@@ -16,12 +16,14 @@ pub data Session : Type 0 where
 pub record Memory : Type 0 where
   -- how many numbers were drawn
   pub draw : ℕ
+  -- the words of number bits
+  pub numbers : ℕ → ℕ
   -- the term of a number
   pub terms : ℕ → ℕ
   -- the word of slot bits
   pub bits : ℕ
-  -- the word of page bits
-  pub page_bits : ℕ
+  -- the words of page bits
+  pub page_bits : ℕ → ℕ
   pub marks : ℕ → Option ArenaId
   pub sessions : ℕ → Session
   -- the holds that a session word counts
@@ -46,9 +48,9 @@ pub record Shows (z : Shape) (words : List ℕ) (m : Memory) : Type 0 where
   pub front : slice_index words (at z front) ≡ 0
   pub draw : slice_index words (at z draw_place) ≡ m.draw
   pub slot_bits : slice_index words (at z slot_bits) ≡ m.bits
-  pub page_bits : slice_index words (at z page_bits_place) ≡ m.page_bits
-  -- until numbers come back
-  pub terms : (k : ℕ) → m.terms k ≡ 0
+  pub page_bits : (g : ℕ) → g < page_groups z → slice_index words (at z (page_bits_place g)) ≡ m.page_bits g
+  pub numbers : (g : ℕ) → g < groups z → slice_index words (at z (number_bits g)) ≡ m.numbers g
+  pub terms : (k : ℕ) → k < z.passes → slice_index words (at z (term k)) ≡ m.terms k
   pub marks : (k : ℕ) → k < z.passes → slice_index words (at z (mark k)) ≡ own_word (m.marks k)
   pub sessions : (s : ℕ) → s < z.slots → slice_index words (at z (session s)) ≡ session_code z.generations (m.sessions s) (m.counts s)
   pub given : (s : ℕ) → s < z.slots → slice_index words (at z (given_place s)) ≡ m.given s

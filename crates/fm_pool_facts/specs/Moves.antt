@@ -11,16 +11,16 @@ use Rattle.fm_pool_facts.specs.Loans.{lent, Loan, loan_of, loans_by, IsFree, Has
 use Rattle.fm_base.specs.Finds.{Find, Gathered, Close, is_draw}
 use Rattle.fm_depicts.specs.Functions.{Fresh, Closes, Over, Machine, moved, MayBy, reply_by}
 use Rattle.std.specs.Int.{bit_at}
-use Rattle.fm_pool_facts.specs.Hands.{nothing, IsTaker}
+use Rattle.fm_pool_facts.specs.Hands.{nothing, IsTaker, number_drawn, HasNumberIn, last_term, most_draws}
 use Rattle.fm_pool_facts.specs.declared.step.Step.{Step}
-use Rattle.fm_pool_facts.specs.declared.step.Step.TheVariants.{Visits, Draws, Holds, Backs, TakesSlot, ReadsMap, Maps, Allocates, SweepsGiven, SweepsMap}
-use Rattle.fm_pool_facts.specs.Views.{Met, View, In, IsSound, IsBusy, all_gathered, HasCaller, HasFind, HasAllDrawn, given_of, limit_of}
+use Rattle.fm_pool_facts.specs.declared.step.Step.TheVariants.{Visits, Draws, Holds, Backs, TakesSlot, ReadsMap, Maps, Allocates, SweepsGiven, SweepsMap, LearnsTerm}
+use Rattle.fm_pool_facts.specs.Views.{Met, View, In, IsSound, IsBusy, all_gathered, HasFind, HasAllDrawn, given_of, limit_of}
 use Rattle.fm_pool_facts.specs.Steps.{part, entries, noted}
 use Rattle.fm_pool_facts.specs.Words.{own_word, alive_holds}
 use Rattle.fm_pool_facts.specs.Holds.{grips, holds_of, all_holds}
 use Rattle.fm_pool_facts.specs.Gone.{IsTakenBy, OpenedBy}
 use Rattle.fm_depicts.specs.Steps.{moved_by}
-use Rattle.fm_pool_facts.specs.Facts.{Memory, free, shut, IsStanding, IsAt, HasPages, HasPage, Owners, IsClosing, IsSweeping, IsOnce, HasInHand, HasClose, HasSweep, KeepsSlot, Begins, Rule}
+use Rattle.fm_pool_facts.specs.Facts.{Memory, free, shut, IsStanding, IsAt, HasPages, HasPage, Owners, IsClosing, IsSweeping, IsOnce, HasInHand, HasClose, HasSweep, KeepsSlot, Begins, Rule, bit_of, KeepsNumber, WantsNumber, IsSpent, IsFreeNumber, HasNumberInHand}
 
 -- entries of one caller that the functions allow
 abbrev pub MayMake : ℕ → Machine → Caller → List Entry → Type 0
@@ -63,13 +63,55 @@ pub record PagesMoved (me : ℕ) (m : Memory) (t : Machine) (o : Owners) (m' : M
   -- a page of an arena that stands
   pub stay : (b : ArenaId) (i p : ℕ) → IsStanding (t.life b) → m.maps b.slot i ≡ Some p → m'.maps b.slot i ≡ Some p
 
+-- the caller's own number stays its own
+pub record KeepsOwn (me n : ℕ) (m : Memory) (o : Owners) (m' : Memory) (o' : Owners) : Type 0 where
+  pub owner : o'.number n ≡ o.number n
+  pub bit : bit_of m'.numbers n ≡ bit_of m.numbers n
+  pub term : m'.terms n ≡ m.terms n
+
+-- where all numbers and their terms are as they were
+pub record NumbersStay (m : Memory) (o : Owners) (m' : Memory) (o' : Owners) : Type 0 where
+  pub numbers : (g : ℕ) → m'.numbers g ≡ m.numbers g
+  pub terms : (n : ℕ) → m'.terms n ≡ m.terms n
+  pub owner : (n : ℕ) → o'.number n ≡ o.number n
+
+-- where each number whose bit is 0 is after the step
+abbrev pub KeepsNumbers : (z : Shape) (me : ℕ) (v p : View) (m : Memory) (o : Owners) (m' : Memory) (o' : Owners) → Type 0
+KeepsNumbers z me v p m o m' o' = (n : ℕ) → n < z.passes → bit_of m'.numbers n ≡ 0
+    → ((o'.number n ≡ me) × KeepsNumber n p)
+    ⊎ (((bit_of m.numbers n ≡ 0) × (o'.number n ≡ o.number n) × (m'.terms n ≡ m.terms n) × (m'.marks n ≡ m.marks n) × (KeepsNumber n v → KeepsNumber n p))
+    ⊎ IsSpent m' o' n)
+
+-- and which can be drawn
+abbrev pub FreesNumbers : (m' : Memory) (o' : Owners) → Type 0
+FreesNumbers m' o' = (n : ℕ) → bit_of m'.numbers n ≡ 1 → IsFreeNumber m' o' n
+
+-- who was drawn has no later term, and terms stay within
+pub record KeepsTerms (z : Shape) (m : Memory) (o : Owners) (m' : Memory) : Type 0 where
+  pub terms : (n : ℕ) → m.terms n ≤ m'.terms n
+  pub last : (n : ℕ) → m'.terms n ≤ last_term
+
+-- where numbers and terms are after the step
+pub record NumbersOn (z : Shape) (me : ℕ) (v p : View) (m : Memory) (o : Owners) (m' : Memory) (o' : Owners) : Type 0 where
+  pub kept : KeepsNumbers z me v p m o m' o'
+  pub freed : FreesNumbers m' o'
+  pub terms : KeepsTerms z m o m'
+  -- a number that is wanted is so still
+  pub wants : (n : ℕ) → WantsNumber n v → WantsNumber n p × (o'.number n ≡ o.number n)
+
 -- what a step of the seat `me` by the caller c may do to what others know
 pub record Moved (me : ℕ) (z : Shape) (c : Caller) (m : Memory) (t : Machine) (o : Owners) (es : List Entry) (m' : Memory) (o' : Owners) : Type 0 where
   pub allowed : MayMake (limit_of z) t c es
   pub marks : (k : ℕ) → k ≢ c.number → m'.marks k ≡ m.marks k
-  pub terms : (k : ℕ) → m'.terms k ≡ m.terms k
   pub draw : m'.draw ≡ m.draw
-  pub numbers : (k : ℕ) → o'.number k ≡ o.number k
+  -- nobody was drawn, and each stays where it is
+  pub who : (k : ℕ) → o'.who k ≡ o.who k
+  pub rank : (k : Caller) → o'.rank k ≡ o.rank k
+  pub seat : (k : Caller) → o'.seat k ≡ o.seat k
+  pub own : KeepsOwn me c.number m o m' o'
+  -- a number at another seat stays there
+  pub numbers : (n : ℕ) → bit_of m.numbers n ≡ 0 → o.number n ≢ me
+      → (o'.number n ≡ o.number n) × (bit_of m'.numbers n ≡ 0) × (m'.terms n ≡ m.terms n)
   pub closers : (b : ArenaId) → t.life b ≡ Closes → o.closer b ≢ me → (o'.closer b ≡ o.closer b) × NoEnd es b
   pub sweepers : (b : ArenaId) → t.life b ≡ Over → m.sessions b.slot ≡ shut b → o.closer b ≢ me → (o'.closer b ≡ o.closer b) × StaysEnded m m' b
   pub holders : (s g : ℕ) → m.sessions s ≡ free g → bit_at m.bits s ≡ 0 → o.holder s ≢ me
@@ -86,14 +128,20 @@ pub record Same (v p : View) : Type 0 where
   pub live : p.live ≡ v.live
   pub caller : p.caller ≡ v.caller
   pub seen : p.seen ≡ v.seen
-  pub drawn : p.drawn ≡ v.drawn
   pub met : p.met ≡ v.met
   pub finds : p.finds ≡ v.finds
   pub gathered : p.gathered ≡ v.gathered
   pub whole : p.whole ≡ v.whole
 
+-- the number in the hand after the step
+pub record KeepsHand (z : Shape) (h : List Entry) (v : View) (m : Memory) (t : Machine) (o : Owners) (j : ℕ) (p : View) : Type 0 where
+  pub number : HasNumberInHand z h m t o j p p.number
+  pub not_own : (n : ℕ) → HasNumberIn n p.number → n ≢ p.caller.number
+  -- a caller that isn't split off stays in the hand
+  pub stays : (c : Caller) → v.number ≡ number_drawn c → p.number ≡ number_drawn c
+
 -- what the caller's own view says after the step, but for what it has seen
-pub record Part (z : Shape) (m : Memory) (t : Machine) (o : Owners) (j : ℕ) (p : View) : Type 0 where
+pub record Part (z : Shape) (h : List Entry) (v : View) (m : Memory) (t : Machine) (o : Owners) (j : ℕ) (p : View) : Type 0 where
   pub inside : t.inside p.caller ≡ p.inside
   pub mark : m.marks p.caller.number ≡ p.mark
   pub closes : (c : Close) → In c p.closes → IsClosing t o j c
@@ -103,6 +151,7 @@ pub record Part (z : Shape) (m : Memory) (t : Machine) (o : Owners) (j : ℕ) (p
   pub hand : HasInHand z m.bits m.sessions o.holder j p.hand
   pub took : IsTaker o.taker p.caller p.hand
   pub pages : HasPages z m.maps m.cells o.berth j p.inside p.reads p.pages p.sweeps p.swept
+  pub number : KeepsHand z h v m t o j p
 
 -- where the close of each arena is after the step
 abbrev pub KeepsCloses : (me : ℕ) (v p : View) (t : Machine) (o : Owners) (t' : Machine) (o' : Owners) → Type 0
@@ -151,14 +200,12 @@ pub record Gives (v p : View) (own : List Entry) (noted : ℕ → List Find) (w 
   pub came : (x : Met) → In x v.met → (g : Gathered) → In g x.gathered → made_by g.caller w.seen ≡ made_by g.caller x.seen
   pub sound : IsSound w
 
--- what is learnt by the count x of drawn numbers: its own is one of them, and a whole pass has them all
+-- what is learnt by the count x of draws: a whole pass has all that were drawn
 pub record LearnsCount (v : View) (x : ℕ) : Type 0 where
-  pub own : v.caller.number < x
-  pub few : x ≤ v.shape.passes
+  pub some : 0 < x
+  pub few : x ≤ most_draws
   pub whole : v.whole ≡ true → x ≡ length v.gathered + 1
-  -- one that has as many has each of them
-  pub all : length v.gathered + 1 ≡ x → (n : ℕ) → n < x → HasCaller v n
-  -- a pass that has the first number and each that its finds drew has them all too
+  -- a pass that has the first caller and each that its finds drew has them all too
   pub complete : HasAllDrawn v → x ≡ length v.gathered + 1
   -- and the count never falls
   pub later : (f : Find) → HasFind v f → is_draw f.step ≡ true → f.found ≤ x
@@ -193,6 +240,7 @@ Learns (SweepsMap a i) v x w = x ≤ v.shape.pages
 Learns (Allocates expected size align) v x w = (a : ArenaId) → v.inside ≡ Some a → x ≢ expected → x ≡ given_of w a
 -- the arena gave so many bytes
 Learns (SweepsGiven a) v x w = x ≡ given_of w a
+Learns (LearnsTerm n) v x w = x ≤ last_term
 Learns step v x w = ⊤
 
 -- what a step tells its caller that found the word x

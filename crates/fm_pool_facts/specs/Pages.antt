@@ -1,6 +1,6 @@
 -- Pages beside the machine: where each one is, and what its words say.
 use Rattle.std.specs.Prelude.{◌≡◌, ◌≢◌, ℕ, ◌*◌, ◌/◌, ◌%◌, ◌<◌, ◌≤◌, List, Contains, Option, Some, None}
-use Rattle.std.specs.Int.{bit_at}
+use Rattle.fm_words.specs.Bits.{bit_of}
 use Rattle.fm_words.specs.declared.shape.Shape.{Shape}
 use Rattle.fm_base.specs.declared.arena_id.ArenaId.{ArenaId}
 use Rattle.fm_depicts.specs.Functions.{Stage, Fresh, Over}
@@ -37,11 +37,11 @@ pub record IsUnmapped (z : Shape) (loans : List Loan) (cells : ℕ → ℕ → �
   pub over : life a ≡ Over
   pub beyond : IsBeyond z cells (given a) p i
 
-pub record Pages (z : Shape) (loans : List Loan) (bits : ℕ) (maps : ℕ → ℕ → Option ℕ) (cells : ℕ → ℕ → ℕ) (berth : ℕ → Berth)
+pub record Pages (z : Shape) (loans : List Loan) (bits : ℕ → ℕ) (maps : ℕ → ℕ → Option ℕ) (cells : ℕ → ℕ → ℕ) (berth : ℕ → Berth)
     (sessions : ℕ → Session) (life : ArenaId → Stage) (word : ArenaId → ℕ → ℕ) (given : ArenaId → ℕ) : Type 0 where
   -- ---- where each page is
-  pub bit_is : (p : ℕ) → bit_at bits p ≡ 1 → (berth p ≡ loose) × (p < z.pages)
-  pub is_bit : (p : ℕ) → p < z.pages → berth p ≡ loose → bit_at bits p ≡ 1
+  pub bit_is : (p : ℕ) → bit_of bits p ≡ 1 → (berth p ≡ loose) × (p < z.pages)
+  pub is_bit : (p : ℕ) → p < z.pages → berth p ≡ loose → bit_of bits p ≡ 1
   pub map_is : (k i p : ℕ) → maps k i ≡ Some p → berth p ≡ mapped k i
   pub mapped_is : (p k i : ℕ) → berth p ≡ mapped k i → IsMapped z loans maps cells sessions given p k i
   pub unmapped_is : (p j i : ℕ) (a : ArenaId) → berth p ≡ unmapped j a i → IsUnmapped z loans cells life given p a i

@@ -22,9 +22,9 @@ reads_mapped i p x ms = if x == 0 then mapping_of i p ∷ ms else mapping_of i (
 abbrev pub pages_mapped : (x : ℕ) → List ℕ → List ℕ
 pages_mapped x ps = if x == 0 then [] else ps
 
-abbrev pub pages_taken : Bool → (bit : ℕ) → List ℕ → List ℕ
-pages_taken true bit ps = bit ∷ ps
-pages_taken false bit ps = ps
+abbrev pub pages_taken : Bool → (page : ℕ) → List ℕ → List ℕ
+pages_taken true page ps = page ∷ ps
+pages_taken false page ps = ps
 
 -- what a sweep has of the part of the arena that is next
 pub data Swept : Type 0 where

@@ -19,8 +19,6 @@ pub record IsNamed (s : State) (k : ℕ) (i : Session) (a : ArenaId) : Type 0 wh
   pub generation : a.generation ≡ i.generation
   pub kind : kind_number a.kind ≡ i.kind
   pub owner : a.owner ≡ i.owner
-  -- until numbers come back
-  pub term : a.term ≡ 0
   pub known : has_arena s a ≡ true
 
 -- it is the only one of its slot and generation

@@ -5,14 +5,14 @@ use Rattle.fm_base.specs.declared.arena_id.ArenaId.{ArenaId}
 use Rattle.fm_base.specs.Calls.{Call, Open, Enter, Read, Write, SwapIf, Add, Allocate, Leave, Hold, Unhold, Shut, Lend, Back, Reply, Fine, Found, Entry, entry_of}
 use Rattle.fm_base.specs.Machine.{allocate_reply, rounded_up}
 use Rattle.fm_base.specs.Histories.{made_by}
-use Rattle.fm_base.specs.Finds.{Find, FindStep, Draws as Drawing, Visits as Visiting, TakesSlot as Taking, TakesPage as Claiming, Maps as Mapping}
-use Rattle.fm_words.specs.declared.shape.Shape.{Shape}
+use Rattle.fm_base.specs.Finds.{Find, FindStep, Draws as Drawing, Visits as Visiting, TakesSlot as Taking, TakesPage as Claiming, Maps as Mapping, TakesNumber as TakingNumber}
+pub use Rattle.fm_words.specs.Bits.{number_at}
 use Rattle.fm_words.specs.Places.{at, page_word}
-use Rattle.fm_pool_facts.specs.Hands.{nothing, learnt, slots_in, takes, hand_taken, hand_retired}
+use Rattle.fm_pool_facts.specs.Hands.{nothing, learnt, slots_in, takes, hand_taken, hand_retired, Number, number_learnt, number_left, no_number, number_taken_by, number_after, drawn_by, most_draws}
 use Rattle.fm_pool_facts.specs.declared.step.Step.{Step}
-use Rattle.fm_pool_facts.specs.declared.step.Step.TheVariants.{Draws, Marks, Checks, Loads, Stores, SwapsIf, Adds, Allocates, Holds, Unholds, Backs, Unmarks, Shuts, Visits, TakesSlot, LearnsGeneration, Opens, Claims, Maps, ReadsMap, SweepsGiven, Unmaps, SweepsMap, Wipes, GivesPage, ReturnsPage, ResetsGiven, Retires, GivesSlot, Looks}
+use Rattle.fm_pool_facts.specs.declared.step.Step.TheVariants.{Draws, Marks, Checks, Loads, Stores, SwapsIf, Adds, Allocates, Holds, Unholds, Backs, Unmarks, Shuts, Visits, TakesSlot, LearnsGeneration, Opens, Claims, Maps, ReadsMap, SweepsGiven, Unmaps, SweepsMap, Wipes, GivesPage, ReturnsPage, ResetsGiven, Retires, GivesSlot, Looks, TakesNumber, LearnsTerm, RaisesTerm, GivesNumber}
 use Rattle.fm_pool_facts.specs.Parts.{mapping_of, unread, wiping, reads_after, reads_mapped, pages_mapped, pages_taken, swept_read}
-use Rattle.fm_pool_facts.specs.Views.{View, In, IsSound, given_of, limit_of, pass_of}
+use Rattle.fm_pool_facts.specs.Views.{View, In, IsSound, given_of, limit_of}
 use Rattle.fm_pool_facts.specs.Words.{alive_holds, enter_found, inside_found, shut_found, hold_found}
 use Rattle.fm_pool_facts.specs.Holds.{grips, with_grips, holds_after, handles_with, released}
 use Rattle.fm_pool_facts.specs.Handles.{giving, given_back, giving_entries}
@@ -45,7 +45,7 @@ abbrev pub is_clear : View → Bool
 is_clear v = v.whole && is_empty (slots_in v.hand) && is_empty v.pages && is_empty v.closes && is_empty v.sweeps
 
 abbrev pub note_of : FindStep → ℕ → View → ℕ → List Find
-note_of step found v n = record { step = step; found = found; seen = n; clear = is_clear v; drew = None } ∷ []
+note_of step found v n = record { step = step; found = found; seen = n; clear = is_clear v; gathered = length v.gathered; drew = None } ∷ []
 
 -- ---- entries
 
@@ -91,22 +91,22 @@ AreAllGiven v a index words = (word : ℕ) → word / v.shape.page_words ≡ ind
 
 -- ---- numbers
 
--- the number that was drawn where so many were expected and found
-abbrev pub number_drawn : Shape → (expected found : ℕ) → Option ℕ
-number_drawn z expected found = if found == expected then (if nat_le (expected + 1) z.passes then Some found else None) else None
+-- the count of draws after a draw that finds so many
+abbrev pub draw_next : ℕ → ℕ
+draw_next drawn = if drawn == most_draws then drawn else drawn + 1
 
--- the count of drawn numbers after a draw that finds so many
-abbrev pub draw_next : (drawn passes : ℕ) → ℕ
-draw_next drawn passes = if nat_le (drawn + 1) passes then drawn + 1 else drawn
+-- a number whose term is known is in the hand, or nothing is, and no draw is expected
+pub data CanDraw (v : View) (expected : ℕ) : Type 0 where
+  can_draw : (n k : ℕ) → v.number ≡ number_learnt n k → CanDraw v expected
+  can_look : v.number ≡ no_number → expected ≡ 0 → CanDraw v expected
 
--- a pass that drew is not known to be whole any more; one that looks, since no pool has drawn 0 numbers, and found as many as it has, is
-abbrev pub draws : Option ℕ → (expected found : ℕ) → View → View
-draws (Some n) expected found v = record v { drawn = Some n; whole = false }
-draws None expected found v = record v { whole = if v.whole then true else (expected == 0 && (length v.gathered + 1 == found)) }
-
-abbrev pub caller_drawn : Option ℕ → Option Caller
-caller_drawn None = None
-caller_drawn (Some n) = Some (pass_of n)
+-- a pass that drew is not known to be whole any more; one that looks, since no pool has made 0 draws, and found as many as it has callers, is
+abbrev pub draws : Option Caller → Number → (expected found : ℕ) → View → View
+draws (Some c) number expected found v = record v { number = number; whole = false }
+draws None number expected found v = record v {
+  number = number;
+  whole = if v.whole then true else (expected == 0 && (length v.gathered + 1 == found));
+}
 
 abbrev pub note_draw : (expected found : ℕ) → View → ℕ → List Find
 note_draw expected found v n = record {
@@ -114,7 +114,8 @@ note_draw expected found v n = record {
   found = found;
   seen = n;
   clear = is_clear v;
-  drew = caller_drawn (number_drawn v.shape expected found);
+  gathered = length v.gathered;
+  drew = drawn_by v.number expected found;
 } ∷ []
 
 -- ---- each step
@@ -140,7 +141,7 @@ part (Visits a k) v x = record v {
 part (TakesSlot expected bit) v x = record v { hand = hand_taken (takes expected bit x) bit v.hand }
 part (LearnsGeneration s) v x = record v { hand = learnt s (x / 2 ^ 32) }
 part (Opens a) v x = record v { hand = nothing; handles = handles_with a v.handles }
-part (Claims expected bit) v x = record v { pages = pages_taken (takes expected bit x) bit v.pages }
+part (Claims group expected bit) v x = record v { pages = pages_taken (takes expected bit x) (number_at group bit) v.pages }
 part (Maps a i p) v x = record v { reads = reads_mapped i p x v.reads; pages = pages_mapped x v.pages }
 part (ReadsMap a i) v x = record v { reads = reads_after i x v.reads }
 part (SweepsGiven a) v x = v
@@ -152,7 +153,11 @@ part (ReturnsPage a p) v x = record v { swept = unread; sweeps = visited a v.swe
 part (ResetsGiven a) v x = record v { sweeps = visited a v.sweeps }
 part (Retires a) v x = record v { sweeps = dropped a v.sweeps; hand = hand_retired (a.generation + 1 == v.shape.generations) a.slot v.hand }
 part (GivesSlot slot) v x = record v { hand = nothing }
-part (Draws expected) v x = draws (number_drawn v.shape expected x) expected x v
+part (TakesNumber group expected bit) v x = record v { number = number_taken_by (takes expected bit x) (number_at group bit) v.number }
+part (LearnsTerm n) v x = record v { number = number_learnt n x }
+part (Draws expected) v x = draws (drawn_by v.number expected x) (number_after v.number expected x) expected x v
+part (RaisesTerm n) v x = record v { number = number_left n }
+part (GivesNumber n) v x = record v { number = no_number }
 part Looks v x = v
 
 -- the entries that it makes
@@ -174,7 +179,7 @@ entries (Visits a k) v x = visit_entries a (visit_found v.shape a k x) v.caller
 entries (TakesSlot expected bit) v x = []
 entries (LearnsGeneration s) v x = []
 entries (Opens a) v x = entry_of v.caller (Open a) Fine ∷ []
-entries (Claims expected bit) v x = []
+entries (Claims group expected bit) v x = []
 entries (Maps a i p) v x = where_found (x == 0) (entry_of v.caller (Lend p a i) Fine ∷ [])
 entries (ReadsMap a i) v x = []
 entries (SweepsGiven a) v x = []
@@ -186,14 +191,19 @@ entries (ReturnsPage a p) v x = entry_of v.caller (Back p) Fine ∷ []
 entries (ResetsGiven a) v x = []
 entries (Retires a) v x = []
 entries (GivesSlot slot) v x = []
+entries (TakesNumber group expected bit) v x = []
+entries (LearnsTerm n) v x = []
 entries (Draws expected) v x = []
+entries (RaisesTerm n) v x = []
+entries (GivesNumber n) v x = []
 entries Looks v x = []
 
 -- what it adds to the finds, where so many entries were seen before
 unfoldable pub noted : Step → View → ℕ → ℕ → List Find
-noted (Visits a k) v x = note_of (Visiting a (pass_of k)) x v
+noted (Visits a k) v x = note_of (Visiting a k) x v
 noted (Draws expected) v x = note_draw expected x v
 noted (TakesSlot expected bit) v x = note_of (Taking expected bit) x v
-noted (Claims expected bit) v x = note_of (Claiming expected bit) x v
+noted (Claims group expected bit) v x = note_of (Claiming group expected bit) x v
 noted (Maps a i p) v x = note_of (Mapping a i p) x v
+noted (TakesNumber group expected bit) v x = note_of (TakingNumber group expected bit) x v
 noted step v x = none_noted

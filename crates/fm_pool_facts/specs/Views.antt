@@ -1,19 +1,19 @@
 -- What contracts see of a pass.
-use Rattle.std.specs.Prelude.{◌≡◌, ◌≢◌, ◌⊎◌, ℕ, ◌+◌, ◌*◌, ◌/◌, ◌<◌, ◌≤◌, ◌^◌, ◌==◌, Bool, true, false, if◌then◌else◌, List, [], ◌∷◌, ◌++◌, length, Contains, Option, Some}
-use Rattle.std.proofs.Common.{zero, suc}
+use Rattle.std.specs.Prelude.{◌≡◌, ◌≢◌, ◌⊎◌, ℕ, ◌+◌, ◌-◌, min, ◌*◌, ◌/◌, ◌<◌, ◌≤◌, ◌^◌, ◌==◌, Bool, true, false, if◌then◌else◌, List, [], ◌∷◌, ◌++◌, length, Contains, Option, Some, zero, suc}
 use Rattle.fm_words.specs.declared.shape.Shape.{Shape}
 use Rattle.fm_words.specs.Shapes.{IsValid}
+use Rattle.fm_words.specs.Bits.{number_at}
 use Rattle.fm_base.specs.declared.caller.Caller.{Caller}
 use Rattle.fm_base.specs.declared.arena_id.ArenaId.{ArenaId}
 use Rattle.fm_base.specs.declared.kind.Kind.{Kind}
 use Rattle.fm_base.specs.declared.kind.Kind.TheVariants.{Automatic}
-use Rattle.fm_base.specs.Arenas.{State, Alive, Ended, IsUnderWay, has_arena, arena_of, owner_of, same_id}
+use Rattle.fm_base.specs.Arenas.{State, Alive, Ended, IsUnderWay, has_arena, arena_of, owner_of, same_id, only_caller}
 use Rattle.fm_base.specs.Calls.{Entry}
 use Rattle.fm_base.specs.Histories.{IsLegal, state_after, made_by}
 use Rattle.fm_depicts.specs.Handles.{AreLeft, one_if}
 use Rattle.fm_pool_facts.specs.Loans.{Loan, loan_of, lent as lent_by, HasPart, IsRightlyLent}
-use Rattle.fm_base.specs.Finds.{Find, Gathered, Close, is_draw, is_slot, is_page}
-use Rattle.fm_pool_facts.specs.Hands.{Hand, nothing, HasSlot}
+use Rattle.fm_base.specs.Finds.{Find, Gathered, Close, is_draw, is_slot, is_page, is_number, group_of}
+use Rattle.fm_pool_facts.specs.Hands.{Hand, nothing, HasSlot, Number, no_number, number_drawn, last_term, most_draws}
 use Rattle.fm_pool_facts.specs.Parts.{Mapping, Swept, wiping}
 
 -- what another had seen that a pass has met, and the callers that it brought
@@ -44,8 +44,8 @@ pub record View : Type 0 where
   pub swept : Swept
   -- the slot that it took to open an arena in, or retired
   pub hand : Hand
-  -- the number that it drew and hasn't split off
-  pub drawn : Option ℕ
+  -- the number that it took to draw it, or returns
+  pub number : Number
   -- those that it has met since its last step
   pub met : List Met
   pub finds : List Find
@@ -86,8 +86,6 @@ pub record Fits (z : Shape) (a : ArenaId) : Type 0 where
   pub slot : a.slot < z.slots
   pub owner : a.owner < z.passes
   pub generation : a.generation < z.generations
-  -- until numbers come back
-  pub term : a.term ≡ 0
 
 -- the arena has ended
 pub record IsOver (v : View) (a : ArenaId) : Type 0 where
@@ -139,40 +137,31 @@ abbrev pub IsOnce : {A B : Type 0} → (A → B) → List A → Type 0
 IsOnce f [] = Unit {0}
 IsOnce {A} f (x ∷ xs) = ((y : A) → In y xs → f y ≢ f x) × IsOnce f xs
 
--- the caller of that number, in its first term
-abbrev pub pass_of : ℕ → Caller
-pass_of k = record { number = k; term = 0 }
-
--- the number is the pass's own, or that of a caller that is gathered into it
-abbrev pub HasCaller : View → ℕ → Type 0
-HasCaller v n = (n ≡ v.caller.number) ⊎ ((g : Gathered) × In g v.gathered × (g.caller.number ≡ n))
+-- the caller is the pass's own, or one that is gathered into it
+abbrev pub HasCaller : View → Caller → Type 0
+HasCaller v c = (c ≡ v.caller) ⊎ ((g : Gathered) × In g v.gathered × (g.caller ≡ c))
 
 -- the find is the pass's own, or that of a caller that is gathered into it
 abbrev pub HasFind : View → Find → Type 0
 HasFind v f = In f v.finds ⊎ ((g : Gathered) × In g v.gathered × In f g.finds)
 
--- the pass has the first number, and each number that one of its draws drew
+-- the pass has the first caller, and each caller that one of its draws drew
 pub record HasAllDrawn (v : View) : Type 0 where
-  pub first : HasCaller v 0
-  pub others : (f : Find) (c : Caller) → HasFind v f → is_draw f.step ≡ true → f.drew ≡ Some c → HasCaller v c.number
-
--- the pass, the callers that it has and those that made entries are all in their first terms
-pub record IsOfFirstTerm (v : View) : Type 0 where
-  pub own : v.caller.term ≡ 0
-  pub gathered : (g : Gathered) → In g v.gathered → g.caller.term ≡ 0
-  pub entries : (e : Entry) → In e v.seen → e.caller.term ≡ 0
+  pub first : HasCaller v only_caller
+  pub others : (f : Find) (c : Caller) → HasFind v f → is_draw f.step ≡ true → f.drew ≡ Some c → HasCaller v c
 
 -- every entry that was seen is by a caller that the pass has
 abbrev pub KnowsCallers : View → Type 0
-KnowsCallers v = (e : Entry) → In e v.seen → HasCaller v e.caller.number
+KnowsCallers v = (e : Entry) → In e v.seen → HasCaller v e.caller
 
--- no entry is by the number's caller, and the pass hasn't it yet
-pub record IsNew (v : View) (n : ℕ) : Type 0 where
-  pub later : 0 < n
-  pub number : n < v.shape.passes
-  pub other : ¬ (HasCaller v n)
-  pub silent : made_by (pass_of n) v.seen ≡ []
-  pub outside : (a : ArenaId) → ¬ (IsUnderWay (state_in v) (pass_of n) a)
+-- no entry is by the caller, and the pass hasn't it yet
+pub record IsNew (v : View) (c : Caller) : Type 0 where
+  pub later : c ≢ only_caller
+  pub number : c.number < v.shape.passes
+  pub term : c.term ≤ last_term
+  pub other : ¬ (HasCaller v c)
+  pub silent : made_by c v.seen ≡ []
+  pub outside : (a : ArenaId) → ¬ (IsUnderWay (state_in v) c a)
 
 -- the find is by the caller c: the pass's own, or one that is gathered into it
 abbrev pub HasFindBy : View → Caller → Find → Type 0
@@ -208,14 +197,39 @@ abbrev pub unlent : ℕ → List Loan → ℕ
 unlent zero loans = 0
 unlent (suc n) loans = one_unless (is_lent loans n) + unlent n loans
 
--- a find of the word 0 of page bits, where as many entries had been seen as f says: fewer blocks weren't lent than there are passes, and none where the
--- finder was clear
+-- and of so many from the first one on
+abbrev pub unlent_from : (first count : ℕ) → List Loan → ℕ
+unlent_from first zero loans = 0
+unlent_from first (suc n) loans = one_unless (is_lent loans (first + n)) + unlent_from first n loans
+
+-- how many pages the pool has that have their bits in the word of a group
+abbrev pub pages_in : Shape → (group : ℕ) → ℕ
+pages_in z group = min 64 (z.pages - number_at group 0)
+
+-- how many of them aren't lent
+abbrev pub unlent_in : Shape → (group : ℕ) → List Loan → ℕ
+unlent_in z group loans = unlent_from (number_at group 0) (pages_in z group) loans
+
+-- a find of the word 0 of page bits, where as many entries had been seen as f says: of the pages of that word fewer weren't lent than there are passes,
+-- and none where the finder was clear
 pub record FewLeft (z : Shape) (seen : List Entry) (f : Find) : Type 0 where
   pub before : List Entry
   pub begins : Begins before seen
   pub long : length before ≡ f.seen
-  pub few : unlent z.pages (lent_by before) < z.passes
-  pub none : f.clear ≡ true → unlent z.pages (lent_by before) ≡ 0
+  pub few : unlent_in z (group_of f.step) (lent_by before) < z.passes
+  pub none : f.clear ≡ true → unlent_in z (group_of f.step) (lent_by before) ≡ 0
+
+-- the first so many
+abbrev pub prefix : ℕ → List Gathered → List Gathered
+prefix zero gs = []
+prefix (suc k) [] = []
+prefix (suc k) (g ∷ gs) = g ∷ prefix k gs
+
+-- a find of no number, by a pass that is known to be whole: each number of the group is its own, or of a caller that was gathered since, or had its
+-- last term; or nobody can be drawn any more
+abbrev pub IsNumberGone : View → Find → ℕ → Type 0
+IsNumberGone v f n = (length v.gathered + 1 ≡ most_draws)
+    ⊎ ((c : Caller) × HasCaller v c × (c.number ≡ n) × ((c.term ≡ last_term) ⊎ ((g : Gathered) → In g (prefix f.gathered v.gathered) → g.caller ≢ c)))
 
 -- what holds of a pass at any time
 pub record IsSound (v : View) : Type 0 where
@@ -241,9 +255,9 @@ pub record IsSound (v : View) : Type 0 where
   -- an arena of which it has a hold or a handle
   pub held : (a : ArenaId) → In a (grips a v) → IsAlive v a
   pub own_handles : HasOwnHandles v
-  -- the number that it drew and hasn't split off
-  pub drawn : (n : ℕ) → v.drawn ≡ Some n → IsNew v n
-  pub few : length v.gathered < v.shape.passes
+  -- the caller that it drew and hasn't split off
+  pub drawn : (c : Caller) → v.number ≡ number_drawn c → IsNew v c
+  pub few : length v.gathered < most_draws
   -- a pass that is known to be whole has the callers of the whole history, and all that were drawn
   pub knows : v.whole ≡ true → KnowsCallers v
   pub all_drawn : v.whole ≡ true → HasAllDrawn v
@@ -254,8 +268,10 @@ pub record IsSound (v : View) : Type 0 where
   pub own_pages : (p : ℕ) → In p v.pages → p < v.shape.pages
   pub swept_page : (a : ArenaId) (i p w : ℕ) → v.swept ≡ wiping a i p w → p < v.shape.pages
   pub few_left : (f : Find) → HasFind v f → is_page f.step ≡ true → f.found ≡ 0 → FewLeft v.shape v.seen f
-  -- no two callers that it has are of one number
-  pub one_each : IsOnce (λ (g : Gathered). g.caller.number) v.gathered
-  pub others : (g : Gathered) → In g v.gathered → g.caller.number ≢ v.caller.number
-  -- until numbers come back
-  pub terms : IsOfFirstTerm v
+  -- where no number is in its hand, its own finds of no number say of each number why
+  pub numbers_gone : v.whole ≡ true → v.number ≡ no_number → (f : Find) → In f v.finds → is_number f.step ≡ true → f.found ≡ 0 → (n : ℕ)
+      → n / 64 ≡ group_of f.step → n < v.shape.passes → IsNumberGone v f n
+  -- no two callers that it has are one
+  pub one_each : IsOnce (λ (g : Gathered). g.caller) v.gathered
+  pub others : (g : Gathered) → In g v.gathered → g.caller ≢ v.caller
+  pub term : v.caller.term ≤ last_term

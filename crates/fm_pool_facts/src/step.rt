@@ -35,8 +35,8 @@ pub enum Step {
     LearnsGeneration(u32),
     /// Opens an arena of this name.
     Opens(ArenaId),
-    /// Where the word of page bits is this one, makes the bit 0; sees which pages can be claimed.
-    Claims(u64, u32),
+    /// Where the group's word of page bits is this one, makes the bit 0; sees which pages can be claimed.
+    Claims(u32, u64, u32),
     /// Where the arena has no page as this part, has the page as it.
     Maps(ArenaId, u32, u32),
     /// Looks which page the arena that the pass is inside has as this part.
@@ -59,8 +59,16 @@ pub enum Step {
     Retires(ArenaId),
     /// Makes the bit 1 of a slot that was retired.
     GivesSlot(u32),
-    /// Where so many numbers were drawn, draws the next one; sees how many were drawn.
+    /// Where the group's word of number bits is this one, makes the bit 0; sees which numbers are free.
+    TakesNumber(u32, u64, u32),
+    /// Looks which term the number that was taken has.
+    LearnsTerm(u32),
+    /// Where so many draws were made, draws the number in the hand; sees how many were made.
     Draws(u64),
+    /// Raises the term of a number whose caller was gathered.
+    RaisesTerm(u32),
+    /// Makes the number's bit 1.
+    GivesNumber(u32),
     /// Sees what others did.
     Looks,
 }

@@ -36,6 +36,8 @@ module _ (z : Shape) (me : ℕ) (v : View) (l : v.live ≡ true) where
           may = tt;
           ends = λ b. tt;
           marks = put_else r.memory.marks n (Some a);
+          numbers = λ k. refl;
+          number = refl;
           terms = λ k. refl;
           draw = refl;
           still = λ s g f. f;
@@ -90,6 +92,8 @@ module _ (z : Shape) (me : ℕ) (v : View) (l : v.live ≡ true) where
             may = (refl, (known_now z ws vs r me v at l a known, use_it, quiet), enter_says r.machine a None s, tt);
             ends = λ b. ((λ h. h), tt);
             marks = λ k h. refl;
+            numbers = λ k. refl;
+            number = refl;
             terms = λ k. refl;
             draw = refl;
             still = λ s g f. f;
@@ -123,6 +127,8 @@ module _ (z : Shape) (me : ℕ) (v : View) (l : v.live ≡ true) where
             may = (refl, (known_now z ws vs r me v at l a known, use_it, quiet), enter_says r.machine a (Some n) s, tt);
             ends = λ b. ((λ h. h), tt);
             marks = λ k h. refl;
+            numbers = λ k. refl;
+            number = refl;
             terms = λ k. refl;
             draw = refl;
             still = λ s g f. f;
@@ -164,6 +170,8 @@ module _ (z : Shape) (me : ℕ) (v : View) (l : v.live ≡ true) where
             may = tt;
             ends = λ b. tt;
             marks = put_else r.memory.marks n None;
+            numbers = λ k. refl;
+            number = refl;
             terms = λ k. refl;
             draw = refl;
             still = λ s g f. f;
@@ -197,6 +205,8 @@ module _ (z : Shape) (me : ℕ) (v : View) (l : v.live ≡ true) where
             may = (refl, k.inside ∙ e, refl, tt);
             ends = λ b. ((λ h. h), tt);
             marks = put_else r.memory.marks n None;
+            numbers = λ k. refl;
+            number = refl;
             terms = λ k. refl;
             draw = refl;
             still = λ s g f. f;

@@ -10,7 +10,7 @@ use Rattle.fm_words.proofs.Sessions.{session_word-session_of}
 use Rattle.fm_base.specs.declared.arena_id.ArenaId.{ArenaId}
 use Rattle.fm_base.specs.declared.kind.Kind.{Kind}
 use Rattle.fm_base.specs.declared.kind.Kind.TheVariants.{Global, Automatic, Confined, Shared}
-use Rattle.fm_base.specs.Arenas.{Alive, Ended, State, arena_of, kind_number}
+use Rattle.fm_base.specs.Arenas.{Alive, Ended, State, arena_of, kind_number, has_arena}
 use Rattle.fm_base.specs.Calls.{Entry}
 use Rattle.fm_base.specs.Histories.{state_after}
 use Rattle.fm_base.proofs.Growing.{there_by_life}
@@ -61,15 +61,14 @@ module _ (z : Shape) (valid : IsValid z) (ws : List ℕ) (h : List Entry) (shows
   unended l e = let q : Alive ≡ Ended = sym l ∙ e in absurd (cc)
 
   -- where the session's word shows the arena alive, it is
-  pub shown_alive : Fits z a → (n : ℕ) → alive_holds a word ≡ Some n → ShowsArena z ws s a
-  shown_alive fit n e =
+  pub shown_alive : Fits z a → has_arena s a ≡ true → (n : ℕ) → alive_holds a word ≡ Some n → ShowsArena z ws s a
+  shown_alive fit known n e =
       let low = few_read a word n e in
       let own : a.owner < 4096 = (let f = fit.owner in let p = valid.passes.1 in omega arith) in
       let is : i ≡ alive_session a n = ap session_of (alive_read a word n e) ∙ live_read a n own low in
       let t = subst (ShowsSlot z ws s a.slot) is (shows.slots a.slot fit.slot) in
       let y = t.alive refl in
-      let same : y.arena ≡ a =
-      one_name y.arena a y.named.slot y.named.generation y.named.owner (y.named.term ∙ sym fit.term) y.named.kind in
+      let same : y.arena ≡ a = sym (y.only a (sym y.named.slot) refl known) in
       let l : (arena_of s a).life ≡ Alive = subst (λ (b : ArenaId). (arena_of s b).life ≡ Alive) same y.life in
       record {
         life = l;

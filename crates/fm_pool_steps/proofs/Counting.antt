@@ -1,5 +1,5 @@
--- The rule over a draw: a number was drawn, or how many were.
-use Rattle.std.proofs.Common.{◌≡◌, ◌≢◌, ℕ, ◌+◌, ◌<◌, ◌≤◌, Bool, true, false, List, [], ◌++◌, length, set, sym, refl, ap, ◌∙◌, subst, arith, inl, inr, ⊎_elim, Option, Some, None}
+-- The rule over a draw: a caller was drawn.
+use Rattle.std.proofs.Common.{◌≡◌, ◌≢◌, ◌⊎◌, ℕ, ◌+◌, ◌<◌, ◌≤◌, Bool, true, false, List, [], ◌++◌, length, set, sym, refl, ap, ◌∙◌, subst, arith, inl, inr, ⊎_elim}
 use Rattle.std.proofs.lemmas.List.{append-nil}
 use mathlib.Core.Option.{some}
 use mathlib.Core.Logic.{dite}
@@ -10,12 +10,19 @@ use Rattle.fm_words.specs.declared.shape.Shape.{Shape}
 use Rattle.fm_words.specs.Places.{at as place_at, draw as draw_place}
 use Rattle.fm_base.specs.Calls.{Entry}
 use Rattle.fm_base.specs.Histories.{made_by}
-use Rattle.fm_base.specs.Finds.{Find, Gathered}
-use Rattle.fm_depicts.specs.Functions.{put}
-use Rattle.fm_depicts.proofs.Putting.{put_here, put_else}
+use Rattle.fm_base.specs.Finds.{Find, Gathered, is_number}
+use Rattle.fm_depicts.specs.Functions.{put, put_by}
+use Rattle.fm_depicts.proofs.Putting.{put_here, put_else, by_here, by_else}
 use Rattle.fm_pool_facts.specs.Views.{View, In, all_gathered}
 use Rattle.fm_pool_facts.specs.Holds.{holds_of}
-use Rattle.fm_pool_facts.specs.Facts.{Memory, Owners, HasNumber, HasGathered, HasDraw, HasClose, HasSweep, KeepsSlot, DrewIn, IsGathered, IsDrawn, IsOnce, Somewhere, Owns, Knows, Rule, HasPage}
+use Rattle.fm_pool_facts.specs.Facts.{Memory, Owners, HasGathered, HasDraw, HasClose, HasSweep, KeepsSlot, DrewIn, IsGathered, IsDrawn, IsOnce, Somewhere, Owns, Knows, Rule, HasPage, WantsNumber, IsUsed, used, wanted, IsLooked, WasDrawn, bit_of, next_of, IsUndrawn, IsSpent, IsCounted, HasNumberInHand, KeepsCaller, KeepsNumber}
+use Rattle.fm_base.specs.declared.caller.Caller.{Caller}
+use Rattle.fm_pool_facts.specs.Hands.{Number, no_number, number_taken, number_learnt, number_drawn, number_left, number_joined, HasNumberIn, most_draws}
+use Rattle.fm_pool_facts.proofs.Looking.{looked_on, looked_told, none_looked, wants_in}
+use Rattle.atomic_table.proofs.Lists.{set_else}
+use mathlib.Core.Option.{some-injective}
+use Rattle.fm_pool_facts.proofs.Handing.{hand_view}
+use Rattle.fm_pool_facts.proofs.Callers.{same_caller}
 use Rattle.fm_pool_facts.specs.Moves.{told}
 use Rattle.fm_pool_facts.specs.Gone.{IsFounded}
 use Rattle.fm_pool_facts.proofs.Ruling.{page_like}
@@ -41,189 +48,277 @@ module _ (z : Shape) (me : ℕ) (v : View) (l : v.live ≡ true) (lone : v.met �
   abbrev is : r.history ≡ v.seen ++ zs
   is = (r.each me v at).begins.1
 
-  -- the memory and the owners where so many numbers are drawn
+  -- the memory where so many draws were made, and the owners where these callers were drawn
   abbrev memory_at : ℕ → Memory
   memory_at d = record r.memory { draw = d }
 
-  abbrev owners_at : (ℕ → ℕ) → Owners
-  owners_at f = record r.owners { number = f }
+  abbrev owners_at : (ℕ → Caller) → (Caller → ℕ) → (Caller → ℕ) → Owners
+  owners_at who rank seat = record r.owners { who = who; rank = rank; seat = seat }
 
-  abbrev pub part_of : Option ℕ → Bool → View
-  part_of dr wh = record v { drawn = dr; whole = wh }
+  abbrev pub part_of : Number → Bool → View
+  part_of x wh = record v { number = x; whole = wh }
 
-  -- what the view says after the step
-  module _ (d : ℕ) (f : ℕ → ℕ) (dr : Option ℕ) (wh : Bool) (fs : ℕ → List Find) (more : r.memory.draw ≤ d)
-      (same : (n : ℕ) → n < r.memory.draw → f n ≡ r.owners.number n)
-      (drawn : (n : ℕ) → dr ≡ Some n → IsDrawn r.history (memory_at d) r.machine (owners_at f) me v n)
-      (whole : wh ≡ true → (n : ℕ) → n < d → n ≢ v.caller.number → HasGathered n v) where
-    abbrev w : View
-    w = told (part_of dr wh) zs [] fs
+  abbrev Was : Caller → Type 0
+  Was c = WasDrawn r.memory.draw r.owners.who r.owners.rank c
 
-    seen_is : w.seen ≡ r.history
-    seen_is = append-nil (v.seen ++ zs) ∙ sym is
+  module _ (d : ℕ) (who : ℕ → Caller) (rank : Caller → ℕ) (seat : Caller → ℕ) (on : (c : Caller) → Was c → WasDrawn d who rank c)
+      (same : (c : Caller) → Was c → seat c ≡ r.owners.seat c) where
+    abbrev m' : Memory
+    m' = memory_at d
 
-    gathered_still : (xs : List Entry) (g : Gathered) → IsGathered r.history r.memory r.machine r.owners me v xs g
-        → made_by g.caller r.history ≡ made_by g.caller w.seen
-        → IsGathered r.history (memory_at d) r.machine (owners_at f) me w w.seen g
-    gathered_still xs g y q = record {
-      number = (let a = y.number in omega arith);
-      seated = same g.caller.number y.number ∙ y.seated;
-      apart = y.apart;
-      outside = y.outside;
-      mark = y.mark;
-      quiet = q;
+    abbrev o' : Owners
+    o' = owners_at who rank seat
+
+    -- what the view says after the step
+    module _ (x : Number) (wh : Bool) (fs : ℕ → List Find) (hand : HasNumberInHand z r.history m' r.machine o' me v x)
+        (not_own : (n : ℕ) → HasNumberIn n x → n ≢ v.caller.number)
+        (whole : wh ≡ true → (c : Caller) → WasDrawn d who rank c → c ≢ v.caller → HasGathered c v) where
+      abbrev w : View
+      w = told (part_of x wh) zs [] fs
+
+      seen_is : w.seen ≡ r.history
+      seen_is = append-nil (v.seen ++ zs) ∙ sym is
+
+      pub knows : Knows z r.history m' r.machine o' me w
+      knows =
+          let u = mine in
+          record {
+            shape = (r.each me v at).shape;
+            begins = ([], sym (append-nil w.seen ∙ seen_is));
+            met = λ x j. absurd j;
+            owns = λ e. record {
+              drawn = on v.caller u.drawn;
+              term = u.term;
+              seated = same v.caller u.drawn ∙ u.seated;
+              owner = u.owner;
+              bit = u.bit;
+              mine = ap (made_by v.caller) (sym seen_is);
+              inside = u.inside;
+              mark = u.mark;
+              closes = λ c j. closing_as (u.closes c j);
+              once = u.once;
+              sweeps = λ c j. sweeping_as (u.sweeps c j);
+              swept_once = u.swept_once;
+              hand = u.hand;
+              took = u.took;
+              pages = u.pages;
+              gathered = λ g j.
+                  let y = (gathered_all z r.history r.memory r.machine r.owners me v u g j).1 in
+                  record {
+                    drawn = on g.caller y.drawn;
+                    seated = same g.caller y.drawn ∙ y.seated;
+                    apart = y.apart;
+                    outside = y.outside;
+                    quiet = ap (made_by g.caller) (sym seen_is);
+                  };
+              coming = λ x j. absurd j;
+              one_each = subst (IsOnce (λ (g : Gathered). g.caller)) (sym (append-nil (all_gathered v))) u.one_each;
+              number = hand_view z r.history m' r.machine o' me v w refl (λ g j. subst (In g) (append-nil (all_gathered v)) j)
+                  (λ g j. subst (In g) (sym (append-nil (all_gathered v))) j) x hand;
+              not_own = not_own;
+              whole = λ e c b ne. let g = whole e c b ne in (g.0, subst (In g.0) (sym (append-nil (all_gathered v))) g.1, g.2);
+              handles = handles_still v w.seen (ap (made_by v.caller) seen_is ∙ u.mine) u.handles;
+              seen_all = λ e. seen_is;
+            };
+          }
+
+    -- what another view says
+    module _ (back : (c : Caller) → WasDrawn d who rank c → Was c ⊎ (r.owners.number c.number ≡ me))
+        (most : r.memory.draw ≡ most_draws → d ≡ most_draws) (j : ℕ) (u : View) (ne : j ≢ me) where
+      next_on : (n : ℕ) → IsUndrawn z r.memory r.owners j n → IsUndrawn z m' o' j n
+      next_on n y = record {
+        loose = record { low = y.loose.low; owner = y.loose.owner; bit = y.loose.bit; mark = y.loose.mark };
+        fresh = λ q. ⊎_elim y.fresh (λ (e : r.owners.number n ≡ me). ne (sym y.loose.owner ∙ e)) (back (next_of r.memory.terms n) q);
+      }
+
+      hand_on : (x : Number) → HasNumberInHand z r.history r.memory r.machine r.owners j u x → HasNumberInHand z r.history m' r.machine o' j u x
+      hand_on no_number y = tt
+      hand_on (number_taken n) y = next_on n y
+      hand_on (number_learnt n t) y = (next_on n y.0, y.1)
+      hand_on (number_drawn c) y = record {
+        loose = record { low = y.loose.low; owner = y.loose.owner; bit = y.loose.bit; mark = y.loose.mark };
+        term = y.term;
+        drawn = on c y.drawn;
+        later = y.later;
+        seated = same c y.drawn ∙ y.seated;
+        apart = y.apart;
+        ungathered = y.ungathered;
+        silent = y.silent;
+      }
+      hand_on (number_left n) y = (next_on n y.0, ⊎_elim (λ (e : r.memory.draw ≡ most_draws). inl (most e)) inr y.1)
+      hand_on (number_joined c) y = record {
+        loose = record { low = y.loose.low; owner = y.loose.owner; bit = y.loose.bit; mark = y.loose.mark };
+        term = y.term;
+        left = y.left;
+        gathered = y.gathered;
+      }
+
+      pub other_knows : Knows z r.history r.memory r.machine r.owners j u → Knows z r.history m' r.machine o' j u
+      other_knows k = record {
+        shape = k.shape;
+        begins = k.begins;
+        met = k.met;
+        owns = λ q.
+            let x = k.owns q in
+            let still : (xs : List Entry) (g : Gathered) → IsGathered r.history r.memory r.machine r.owners j u xs g
+            → IsGathered r.history m' r.machine o' j u xs g = (λ xs g y. record {
+              drawn = on g.caller y.drawn;
+              seated = same g.caller y.drawn ∙ y.seated;
+              apart = y.apart;
+              outside = y.outside;
+              quiet = y.quiet;
+            }) in
+            let alone : u.whole ≡ true → ⊥ = (λ e.
+            let g = x.whole e v.caller mine.drawn (λ p. ne (sym x.seated ∙ (ap r.owners.seat (sym p) ∙ mine.seated))) in
+            ne (sym (seated_all z r.history r.memory r.machine r.owners j u x g.0 g.1) ∙ (ap r.owners.seat g.2 ∙ mine.seated))) in
+            record {
+              drawn = on u.caller x.drawn;
+              term = x.term;
+              seated = same u.caller x.drawn ∙ x.seated;
+              owner = x.owner;
+              bit = x.bit;
+              mine = x.mine;
+              inside = x.inside;
+              mark = x.mark;
+              closes = λ c i. closing_as (x.closes c i);
+              once = x.once;
+              sweeps = λ c i. sweeping_as (x.sweeps c i);
+              swept_once = x.swept_once;
+              hand = x.hand;
+              took = x.took;
+              pages = x.pages;
+              gathered = λ g i. still u.seen g (x.gathered g i);
+              coming = λ y n g i. still y.seen g (x.coming y n g i);
+              one_each = x.one_each;
+              number = hand_on u.number x.number;
+              not_own = x.not_own;
+              whole = λ e. absurd (alone e);
+              handles = x.handles;
+              seen_all = λ e. absurd (alone e);
+            };
+      }
+
+  -- the rule where the step drew the next caller of the number n in the hand
+  module _ (n k : ℕ) (learnt : v.number ≡ number_learnt n k) (room : r.memory.draw ≢ most_draws) (fs : ℕ → List Find)
+      (noted : (i : ℕ) → DrewIn (record { number = n; term = k }) (fs i)) (slots : NoSlots fs)
+      (idle : (k : ℕ) (f : Find) → In f (fs k) → is_number f.step ≡ false) where
+    abbrev pub c : Caller
+    c = record { number = n; term = k }
+
+    abbrev d : ℕ
+    d = r.memory.draw
+
+    abbrev pub who' : ℕ → Caller
+    who' = put r.owners.who d c
+
+    abbrev pub rank' : Caller → ℕ
+    rank' = put_by r.owners.rank c d
+
+    abbrev seat' : Caller → ℕ
+    seat' = put_by r.owners.seat c me
+
+    its : IsUndrawn z r.memory r.owners me n × (k ≡ r.memory.terms n)
+    its = subst (HasNumberInHand z r.history r.memory r.machine r.owners me v) learnt mine.number
+
+    not_own : n ≢ v.caller.number
+    not_own = mine.not_own n (subst (HasNumberIn n) (sym learnt) refl)
+
+    new : ¬ (Was c)
+    new q = its.0.fresh (subst (λ (t : ℕ). Was (record { number = n; term = t })) its.1 q)
+
+    was_else : (x : Caller) → Was x → x ≢ c
+    was_else x q e = new (subst Was e q)
+
+    on : (x : Caller) → Was x → WasDrawn (d + 1) who' rank' x
+    on x q =
+        let same : rank' x ≡ r.owners.rank x = by_else r.owners.rank c d x (was_else x q) in
+        let low = q.0 in (
+          omega arith,
+          ap who' same ∙ (put_else r.owners.who d c (r.owners.rank x) (λ e. omega arith) ∙ q.1),
+        )
+
+    pub now : WasDrawn (d + 1) who' rank' c
+    now = let e : rank' c ≡ d = by_here r.owners.rank c d in (omega arith, ap who' e ∙ put_here r.owners.who d c)
+
+    back : (x : Caller) → x ≢ c → WasDrawn (d + 1) who' rank' x → Was x
+    back x ne q =
+        let same : rank' x ≡ r.owners.rank x = by_else r.owners.rank c d x ne in
+        let far : r.owners.rank x ≢ d = (λ e. ne (sym q.1 ∙ (ap who' (same ∙ e) ∙ put_here r.owners.who d c))) in
+        let low = q.0 in (
+          omega arith,
+          sym (put_else r.owners.who d c (r.owners.rank x) far) ∙ (ap who' (sym same) ∙ q.1),
+        )
+
+    seat_on : (x : Caller) → Was x → seat' x ≡ r.owners.seat x
+    seat_on x q = by_else r.owners.seat c me x (was_else x q)
+
+    mine_only : (x : Caller) → WasDrawn (d + 1) who' rank' x → Was x ⊎ (r.owners.number x.number ≡ me)
+    mine_only x q = elim (same_caller x c) [
+      | yes e ↦ inr (ap (λ (y : Caller). r.owners.number y.number) e ∙ its.0.loose.owner)
+      | no ne ↦ inl (back x ne q)
+    ]
+
+    abbrev m1 : Memory
+    m1 = memory_at (d + 1)
+
+    abbrev o1 : Owners
+    o1 = owners_at who' rank' seat'
+
+    drawn_now : IsDrawn z r.history m1 r.machine o1 me v c
+    drawn_now = record {
+      loose = record { low = its.0.loose.low; owner = its.0.loose.owner; bit = its.0.loose.bit; mark = its.0.loose.mark };
+      term = its.1;
+      drawn = now;
+      later = λ e. new (subst Was (r.first ∙ sym e) (
+        (let a = r.ranks 0 r.begun in let b = r.begun in omega arith),
+        ap r.owners.who (r.ranks 0 r.begun),
+      ));
+      seated = by_here r.owners.seat c me;
+      apart = λ e. not_own (ap (λ (x : Caller). x.number) e);
+      ungathered = λ g j e. new (subst Was e (gathered_all z r.history r.memory r.machine r.owners me v mine g j).1.drawn);
+      silent = let y = r.later c new in record { calls = y.calls; outside = y.outside };
     }
 
-    pub knows : Knows z r.history (memory_at d) r.machine (owners_at f) me w
-    knows =
-        let u = mine in
-        record {
-          shape = (r.each me v at).shape;
-          begins = ([], sym (append-nil w.seen ∙ seen_is));
-          met = λ x j. absurd j;
-          owns = λ e. record {
-            number = (let a = u.number in omega arith);
-            term = u.term;
-            seated = same v.caller.number u.number ∙ u.seated;
-            mine = ap (made_by v.caller) (sym seen_is);
-            inside = u.inside;
-            mark = u.mark;
-            closes = λ c j. closing_as (u.closes c j);
-            once = u.once;
-            sweeps = λ c j. sweeping_as (u.sweeps c j);
-            swept_once = u.swept_once;
-            hand = u.hand;
-            took = u.took;
-            pages = u.pages;
-            gathered = λ g j. let y = gathered_all z r.history r.memory r.machine r.owners me v u g j in
-                gathered_still y.0 g y.1 (ap (made_by g.caller) (sym seen_is));
-            coming = λ x j. absurd j;
-            one_each = subst (IsOnce (λ (g : Gathered). g.caller.number)) (sym (append-nil (all_gathered v))) u.one_each;
-            drawn = λ n e. let y = drawn n e in
-                record {
-                  number = y.number;
-                  later = y.later;
-                  seated = y.seated;
-                  apart = y.apart;
-                  ungathered = λ g j. y.ungathered g (subst (In g) (append-nil (all_gathered v)) j);
-                  silent = record { calls = y.silent.calls; outside = y.silent.outside; mark = y.silent.mark };
-                };
-            whole = λ e n b ne. let g = whole e n b ne in (g.0, subst (In g.0) (sym (append-nil (all_gathered v))) g.1, g.2);
-            handles = handles_still v w.seen (ap (made_by v.caller) seen_is ∙ u.mine) u.handles;
-            seen_all = λ e. seen_is;
-          };
-        }
-
-  -- what another view says
-  other_knows : (d : ℕ) (f : ℕ → ℕ) → r.memory.draw ≤ d → ((n : ℕ) → n < r.memory.draw → f n ≡ r.owners.number n) → (j : ℕ) (u : View) → j ≢ me
-      → Knows z r.history r.memory r.machine r.owners j u → Knows z r.history (memory_at d) r.machine (owners_at f) j u
-  other_knows d f more same j u ne k = record {
-    shape = k.shape;
-    begins = k.begins;
-    met = k.met;
-    owns = λ q.
-        let x = k.owns q in
-        let still : (xs : List Entry) (g : Gathered) → IsGathered r.history r.memory r.machine r.owners j u xs g
-        → IsGathered r.history (memory_at d) r.machine (owners_at f) j u xs g = (λ xs g y. record {
-          number = (let a = y.number in omega arith);
-          seated = same g.caller.number y.number ∙ y.seated;
-          apart = y.apart;
-          outside = y.outside;
-          mark = y.mark;
-          quiet = y.quiet;
-        }) in
-        let alone : u.whole ≡ true → ⊥ = (λ e.
-        let g = x.whole e v.caller.number mine.number (λ p. ne (sym x.seated ∙ (ap r.owners.number (sym p) ∙ mine.seated))) in
-        ne (sym (seated_all z r.history r.memory r.machine r.owners j u x g.0 g.1) ∙ (ap r.owners.number g.2 ∙ mine.seated))) in
-        record {
-          number = (let a = x.number in omega arith);
-          term = x.term;
-          seated = same u.caller.number x.number ∙ x.seated;
-          mine = x.mine;
-          inside = x.inside;
-          mark = x.mark;
-          closes = λ c i. closing_as (x.closes c i);
-          once = x.once;
-          sweeps = λ c i. sweeping_as (x.sweeps c i);
-          swept_once = x.swept_once;
-          hand = x.hand;
-          took = x.took;
-          pages = x.pages;
-          gathered = λ g i. still u.seen g (x.gathered g i);
-          coming = λ y j g i. still y.seen g (x.coming y j g i);
-          one_each = x.one_each;
-          drawn = λ n e. let y = x.drawn n e in
-              record {
-                number = (let a = y.number in omega arith);
-                later = y.later;
-                seated = same n y.number ∙ y.seated;
-                apart = y.apart;
-                ungathered = y.ungathered;
-                silent = record { calls = y.silent.calls; outside = y.silent.outside; mark = y.silent.mark };
-              };
-          whole = λ e. absurd (alone e);
-          handles = x.handles;
-          seen_all = λ e. absurd (alone e);
-        };
-  }
-
-  -- the rule where the number d was drawn by the step
-  module _ (n : ℕ) (is_draw : n ≡ r.memory.draw) (fits : n < z.passes) (none : v.drawn ≡ None) (fs : ℕ → List Find)
-      (noted : (k : ℕ) → DrewIn n (fs k)) (founds : AreWithin (n + 1) fs) (slots : NoSlots fs) where
-    abbrev f : ℕ → ℕ
-    f = put r.owners.number n me
-
-    below : (k : ℕ) → k < r.memory.draw → k ≢ n
-    below k h e = let q = is_draw in absurd (omega arith)
-
-    same_numbers : (k : ℕ) → k < r.memory.draw → f k ≡ r.owners.number k
-    same_numbers k h = put_else r.owners.number n me k (below k h)
-
-    is_drawn : (k : ℕ) → Some n ≡ Some k → IsDrawn r.history (memory_at (n + 1)) r.machine (owners_at f) me v k
-    is_drawn k e =
-        let q : n ≡ k = cc in
-        subst (IsDrawn r.history (memory_at (n + 1)) r.machine (owners_at f) me v) q (record {
-          number = omega arith;
-          later = (let x = mine.number in let q = is_draw in omega arith);
-          seated = put_here r.owners.number n me;
-          apart = λ p. below v.caller.number mine.number (sym p);
-          ungathered = λ g j p.
-              below g.caller.number (gathered_all z r.history r.memory r.machine r.owners me v mine g j).1.number p;
-          silent = (let y = r.later n (let q = is_draw in omega arith) in record { calls = y.calls; outside = y.outside; mark = y.mark });
-        })
-
     abbrev pub drawer : View
-    drawer = told (part_of (Some n) false) zs [] fs
+    drawer = told (part_of (number_drawn c) false) zs [] fs
 
-    number_on : (k : ℕ) → HasNumber k v → HasNumber k drawer
-    number_on k (inl h) = inl h
-    number_on k (inr (inl h)) = absurd (cc)
-    number_on k (inr (inr h)) = inr (inr (h.0, in_left h.0 (all_gathered v) [] h.1, h.2))
+    caller_on : (x : Caller) → KeepsCaller x v → KeepsCaller x drawer
+    caller_on x (inl h) = inl h
+    caller_on x (inr (inl h)) = absurd (let e : number_learnt n k ≡ number_drawn x = sym learnt ∙ h in cc)
+    caller_on x (inr (inr h)) = inr (inr (h.0, in_left h.0 (all_gathered v) [] h.1, h.2))
 
-    draw_on : (k c : ℕ) → HasDraw k c v → HasDraw k c drawer
-    draw_on k c (inl h) = let y = h.2 in inl (h.0, h.1, (y.0, in_left y.0 v.finds (fs (length (v.seen ++ zs))) y.1, y.2))
-    draw_on k c (inr h) = inr (h.0, in_left h.0 (all_gathered v) [] h.1, h.2, h.3)
+    draw_on : (x y : Caller) → HasDraw x y v → HasDraw x y drawer
+    draw_on x y (inl h) = let q = h.2 in inl (h.0, h.1, (q.0, in_left q.0 v.finds (fs (length (v.seen ++ zs))) q.1, q.2))
+    draw_on x y (inr h) = inr (h.0, in_left h.0 (all_gathered v) [] h.1, h.2, h.3)
 
-    here : (k : ℕ) (P : View → Type 0) → k < r.memory.draw → (P v → P drawer) → Somewhere vs (r.owners.number k) P
-        → Somewhere (set vs me drawer) (f k) P
-    here k P b g y = subst (λ (j : ℕ). Somewhere (set vs me drawer) j P) (sym (same_numbers k b))
-        (stays_somewhere vs me v drawer (r.owners.number k) P at g y)
+    number_on : (x : ℕ) → KeepsNumber x v → KeepsNumber x drawer
+    number_on x h = (h.0, ⊎_elim inl (λ (i : HasNumberIn x v.number). inr (subst (HasNumberIn x) learnt i)) h.1)
 
-    more : r.memory.draw ≤ n + 1
-    more = let q = is_draw in omega arith
+    here : (x : Caller) (P : View → Type 0) → Was x → (P v → P drawer) → Somewhere vs (r.owners.seat x) P → Somewhere (set vs me drawer) (seat' x) P
+    here x P b g y = subst (λ (j : ℕ). Somewhere (set vs me drawer) j P) (sym (seat_on x b)) (stays_somewhere vs me v drawer (r.owners.seat x) P at g y)
 
-    pub drew : Rule z (set ws i (n + 1)) (set vs me drawer)
-    drew = record {
+    was_who : (j : ℕ) → j < d → Was (r.owners.who j)
+    was_who j l = (let a = r.ranks j l in omega arith, ap r.owners.who (r.ranks j l))
+
+    who_on : (j : ℕ) → j < d → who' j ≡ r.owners.who j
+    who_on j l = put_else r.owners.who d c j (λ e. omega arith)
+
+    founds : AreWithin (d + 1) who' rank' fs → IsCounted (d + 1) who' rank' drawer
+    founds few = counted_told (d + 1) who' rank' v (part_of (number_drawn c) false) zs [] fs refl refl few
+        (counted_later d r.owners.who r.owners.rank (d + 1) who' rank' (omega arith) on v (r.counted me v at))
+
+    pub drew : AreWithin (d + 1) who' rank' fs → Rule z (set ws i (d + 1)) (set vs me drawer)
+    drew few = record {
       history = r.history;
-      memory = memory_at (n + 1);
+      memory = m1;
       machine = r.machine;
-      owners = owners_at f;
+      owners = o1;
       valid = r.valid;
       legal = r.legal;
       rightly = r.rightly;
       pages = r.pages;
       depicts = r.depicts;
-      shows = shows_draw z r.valid ws r.memory r.shows (n + 1);
+      shows = shows_draw z r.valid ws r.memory r.shows (d + 1);
       world = record {
         marked = r.world.marked;
         sessions = r.world.sessions;
@@ -231,39 +326,71 @@ module _ (z : Shape) (me : ℕ) (v : View) (l : v.live ≡ true) (lone : v.met �
         counts = r.world.counts;
         givens = r.world.givens;
       };
-      few = omega arith;
-      later = λ k b.
-          let y = r.later k (let q = is_draw in omega arith) in record { calls = y.calls; outside = y.outside; mark = y.mark };
-      terms = r.terms;
-      numbers = λ k b. dite (ℕ_discrete k n)
-          (λ e. record {
-            view = drawer;
-            there = ap (get_elem? (set vs me drawer)) (ap f e ∙ put_here r.owners.number n me) ∙ set_there vs me v drawer at;
-            holds = inr (inl (ap Some (sym e)));
-          })
-          (λ ne. let low : k < r.memory.draw = (let q = is_draw in omega arith) in here k (HasNumber k) low (number_on k) (r.numbers k low));
-      drawers = λ k a b. dite (ℕ_discrete k n)
+      few = (let a = r.few in let b : ℕ = most_draws in let ne : d ≢ b = room in omega arith);
+      begun = omega arith;
+      first = who_on 0 r.begun ∙ r.first;
+      ranks = λ j l. dite (ℕ_discrete j d)
+          (λ e. ap (λ (x : ℕ). rank' (who' x)) e ∙ (ap rank' (put_here r.owners.who d c) ∙ (by_here r.owners.rank c d ∙ sym e)))
+          (λ ne.
+          let low : j < d = omega arith in
+          ap rank' (who_on j low) ∙ (by_else r.owners.rank c d (r.owners.who j) (was_else (r.owners.who j) (was_who j low)) ∙ r.ranks j low));
+      later = λ x n. r.later x (λ y. n (on x y));
+      terms = λ x q. elim (same_caller x c) [
+        | yes e ↦ subst (λ (y : Caller). (y.number < z.passes) × (y.term ≤ r.memory.terms y.number)) (sym e)
+            (its.0.loose.low, (let a = its.1 in omega arith))
+        | no ne ↦ r.terms x (back x ne q)
+      ];
+      last = r.last;
+      callers = λ x q. elim (same_caller x c) [
+        | yes e ↦ record {
+          view = drawer;
+          there = ap (get_elem? (set vs me drawer)) (ap seat' e ∙ by_here r.owners.seat c me) ∙ set_there vs me v drawer at;
+          holds = inr (inl (ap number_drawn (sym e)));
+        }
+        | no ne ↦ (let was = back x ne q in here x (KeepsCaller x) was (caller_on x) (r.callers x was))
+      ];
+      drawers = λ j a b. dite (ℕ_discrete j d)
           (λ e. (
-            v.caller.number,
-            (let x = mine.number in let q = is_draw in omega arith),
-            record {
-              view = drawer;
-              there = ap (get_elem? (set vs me drawer)) (same_numbers v.caller.number mine.number ∙ mine.seated) ∙ set_there vs me v drawer at;
-              holds = inl (
-                l,
-                refl,
-                (let y = noted (length (v.seen ++ zs)) in (
-                  y.0,
-                  in_right y.0 v.finds (fs (length (v.seen ++ zs))) y.1,
-                  (y.2.0, y.2.1 ∙ sym e, y.2.2),
-                )),
-              );
-            },
+            r.owners.rank v.caller,
+            (let x = mine.drawn.0 in omega arith),
+            subst (λ (x : Caller × Caller). Somewhere (set vs me drawer) (seat' x.0) (HasDraw x.0 x.1))
+                (λ q. (sym (who_on (r.owners.rank v.caller) mine.drawn.0 ∙ mine.drawn.1) q, sym (ap who' e ∙ put_here r.owners.who d c) q))
+                (record {
+                  view = drawer;
+                  there = ap (get_elem? (set vs me drawer)) (seat_on v.caller mine.drawn ∙ mine.seated) ∙ set_there vs me v drawer at;
+                  holds = inl (
+                    l,
+                    refl,
+                    (let y = noted (length (v.seen ++ zs)) in (y.0, in_right y.0 v.finds (fs (length (v.seen ++ zs))) y.1, y.2)),
+                  );
+                }),
           ))
           (λ ne.
-          let low : k < r.memory.draw = (let q = is_draw in omega arith) in
-          let y = r.drawers k a low in
-          (y.0, y.1, here y.0 (HasDraw y.0 k) (let c = y.1 in omega arith) (draw_on y.0 k) y.2));
+          let low : j < d = omega arith in
+          let y = r.drawers j a low in
+          let lt : y.0 < d = (let x = y.1 in omega arith) in
+          let p : Caller = r.owners.who y.0 in
+          let q : Caller = r.owners.who j in (
+            y.0,
+            y.1,
+            subst (λ (x : Caller × Caller). Somewhere (set vs me drawer) (seat' x.0) (HasDraw x.0 x.1)) (λ e. (sym (who_on y.0 lt) e, sym (who_on j low) e))
+                (here p (HasDraw p q) (was_who y.0 lt) (draw_on p q) y.2),
+          ));
+      free_numbers = λ x b.
+          let y = r.free_numbers x b in
+          record {
+            mark = y.mark;
+            fresh = λ q. elim (same_caller (next_of r.memory.terms x) c) [
+              | yes e ↦ absurd (let e' : x ≡ n = ap (λ (y : Caller). y.number) e in
+                  let zero : bit_of r.memory.numbers x ≡ 0 = ap (bit_of r.memory.numbers) e' ∙ its.0.loose.bit in omega arith)
+              | no ne ↦ y.fresh (back (next_of r.memory.terms x) ne q)
+            ];
+          };
+      numbers = λ x low b. ⊎_elim
+          (λ (y : Somewhere vs (r.owners.number x) (KeepsNumber x)). inl
+          (stays_somewhere vs me v drawer (r.owners.number x) (KeepsNumber x) at (number_on x) y))
+          (λ (y : IsSpent r.memory r.owners x). inr (record { mark = y.mark; last = y.last; drawn = on (next_of r.memory.terms x) y.drawn }))
+          (r.numbers x low b);
       closed = λ a h. stays_somewhere vs me v drawer (r.owners.closer a) (HasClose a) at (λ q. q) (r.closed a h);
       swept = λ a q o. stays_somewhere vs me v drawer (r.owners.closer a) (HasSweep a) at (λ p. p) (r.swept a q o);
       slots = λ s g h q left b. stays_somewhere vs me v drawer (r.owners.holder s) (KeepsSlot s) at (λ p. p) (r.slots s g h q left b);
@@ -275,25 +402,48 @@ module _ (z : Shape) (me : ℕ) (v : View) (l : v.live ≡ true) (lone : v.met �
           let s : holds_of a drawer ≡ holds_of a v = refl in
           omega arith;
       each = λ j y at'. ⊎_elim
-          (λ (e : (j ≡ me) × (drawer ≡ y)). subst (λ (x : ℕ × View). Knows z r.history (memory_at (n + 1)) r.machine (owners_at f) x.0 x.1)
+          (λ (e : (j ≡ me) × (drawer ≡ y)). subst (λ (x : ℕ × View). Knows z r.history m1 r.machine o1 x.0 x.1)
           (λ k. (sym e.0 k, e.1 k))
-          (knows (n + 1) f (Some n) false fs (let q = is_draw in omega arith) same_numbers is_drawn (λ e. absurd (cc))))
+          (knows (d + 1) who' rank' seat' on seat_on (number_drawn c) false fs drawn_now (λ n e. not_own_is n e) (λ e. absurd (cc))))
           (λ (e : (j ≢ me) × (get_elem? vs j ≡ some y)).
-          other_knows (n + 1) f (let q = is_draw in omega arith) same_numbers j y e.0 (r.each j y e.1))
+          other_knows (d + 1) who' rank' seat' on seat_on mine_only (λ e. absurd (room e)) j y e.0 (r.each j y e.1))
           (at_set vs me j drawer y at');
-      counted = counted_set r.memory (memory_at (n + 1)) vs me drawer more (λ k. refl)
-          (counted_told (memory_at (n + 1)) v (part_of (Some n) false) zs [] fs refl refl founds
-          (counted_later r.memory (memory_at (n + 1)) v more (λ k. refl) (r.counted me v at))) r.counted;
+      counted = counted_set d r.owners.who r.owners.rank (d + 1) who' rank' (omega arith) on vs me drawer (founds few) r.counted;
       founds = λ j y at'. ⊎_elim
-          (λ (e : (j ≡ me) × (drawer ≡ y)). subst (IsFounded z r.history (memory_at (n + 1)) r.owners.taker r.machine.life) e.1
-          (founded_told z r.history (memory_at (n + 1)) r.owners.taker r.machine.life v (part_of (Some n) false) zs [] fs refl refl refl
-          (none_founded z r.history (memory_at (n + 1)) r.owners.taker r.machine.life v.caller fs slots (length (v.seen ++ zs)))
-          (founded_same z r.history r.memory (memory_at (n + 1)) r.owners.taker r.machine.life (λ s k x. x) v (r.founds me v at))))
+          (λ (e : (j ≡ me) × (drawer ≡ y)). subst (IsFounded z r.history m1 r.owners.taker r.machine.life) e.1
+          (founded_told z r.history m1 r.owners.taker r.machine.life v (part_of (number_drawn c) false) zs [] fs refl refl refl
+          (none_founded z r.history m1 r.owners.taker r.machine.life v.caller fs slots (length (v.seen ++ zs)))
+          (founded_same z r.history r.memory m1 r.owners.taker r.machine.life (λ s k x. x) v (r.founds me v at))))
           (λ (e : (j ≢ me) × (get_elem? vs j ≡ some y)).
-          founded_same z r.history r.memory (memory_at (n + 1)) r.owners.taker r.machine.life (λ s k x. x) y (r.founds j y e.1))
+          founded_same z r.history r.memory m1 r.owners.taker r.machine.life (λ s k x. x) y (r.founds j y e.1))
+          (at_set vs me j drawer y at');
+      looked = λ j y at'. ⊎_elim
+          (λ (e : (j ≡ me) × (drawer ≡ y)). subst (IsLooked z m1 o1 (set vs me drawer)) e.1
+          (looked_now drawer (looked_told z r.memory r.owners vs v (part_of (number_drawn c) false) zs [] fs refl refl refl
+          (λ f i. (
+            (λ q. absurd (let u : true ≡ false = sym q ∙ idle (length (v.seen ++ zs)) f i in cc)),
+            none_looked z r.memory r.owners vs v.gathered f (idle (length (v.seen ++ zs)) f i),
+          )) (r.looked me v at))))
+          (λ (e : (j ≢ me) × (get_elem? vs j ≡ some y)). looked_now y (r.looked j y e.1))
           (at_set vs me j drawer y at');
     }
+      where
+        -- who wants the number draws its next caller
+        wants : (before : List Gathered) → ((x : Gathered) → In x before → Was x.caller) → (x : ℕ) → Somewhere vs (r.owners.number x) (WantsNumber x)
+            → IsUsed m1 o1 (set vs me drawer) before x
+        wants before b x y = dite (ℕ_discrete (r.owners.number x) me)
+            (λ e.
+            let same : y.view ≡ v = some-injective y.view v (sym y.there ∙ (ap (get_elem? vs) e ∙ at)) in
+            let q : x ≡ n = subst (HasNumberIn x) learnt (wants_in x v (subst (WantsNumber x) same y.holds)) in
+            used c (sym q) now (inr (λ g i. was_else g.caller (b g i))))
+            (λ ne. wanted (record { view = y.view; there = set_else vs me (r.owners.number x) drawer ne ∙ y.there; holds = y.holds }))
 
-    pub drew_history : drew.history ≡ r.history
+        looked_now : (u : View) → IsLooked z r.memory r.owners vs u → IsLooked z m1 o1 (set vs me drawer) u
+        looked_now = looked_on z r.memory r.owners vs m1 o1 (set vs me drawer) on (λ e. absurd (room e)) wants
+
+        not_own_is : (x : ℕ) → x ≡ n → x ≢ v.caller.number
+        not_own_is x e q = not_own (sym e ∙ q)
+
+    pub drew_history : (few : AreWithin (d + 1) who' rank' fs) → (drew few).history ≡ r.history
     unfolding drew
-    drew_history = refl
+    drew_history few = refl

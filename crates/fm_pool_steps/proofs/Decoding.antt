@@ -43,17 +43,17 @@ shut_session a = record { generation = a.generation; life = closing; kind = kind
 pub free_read : (n g : ℕ) → session_of (free_word n g) ≡ free_session (kept n g)
 unfolding free_word
 free_read n g = session_of-session_word (free_session (kept n g))
-    (record { life = omega arith; kind = omega arith; owner = omega arith; holds = omega arith })
+    (record { kind = omega arith; owner = omega arith; holds = omega arith })
 
 pub live_read : (a : ArenaId) (c : ℕ) → a.owner < 4096 → c ≤ 65535 → session_of (alive_word a c) ≡ alive_session a c
 unfolding alive_word
 live_read a c o h =
-    session_of-session_word (alive_session a c) (record { life = omega arith; kind = kind_below a.kind; owner = o; holds = h })
+    session_of-session_word (alive_session a c) (record { kind = kind_below a.kind; owner = o; holds = h })
 
 pub shut_read : (a : ArenaId) → a.owner < 4096 → session_of (closing_word a) ≡ shut_session a
 unfolding closing_word
 shut_read a o =
-    session_of-session_word (shut_session a) (record { life = omega arith; kind = kind_below a.kind; owner = o; holds = omega arith })
+    session_of-session_word (shut_session a) (record { kind = kind_below a.kind; owner = o; holds = omega arith })
 
 pub stands_not : (x : Stage) → x ≢ Lives → x ≢ Closes → ¬ (IsStanding x)
 stands_not x n m (inl e) = n e

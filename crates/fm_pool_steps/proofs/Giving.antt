@@ -19,7 +19,7 @@ use Rattle.fm_pool_facts.proofs.Founds.{no_draw}
 use Rattle.fm_pool_facts.proofs.Retiring.{world_give}
 use Rattle.fm_pool_facts.proofs.Shown.{shows_bits}
 use Rattle.fm_pool_facts.proofs.Ruling.{page_like, keeps}
-use Rattle.fm_pool_steps.proofs.Plain.{same_but, own, Made, sweeps_still}
+use Rattle.fm_pool_steps.proofs.Plain.{same_but, own, Made, sweeps_still, numbers_stay, number_stays}
 
 module _ (z : Shape) (me : ℕ) (v : View) (l : v.live ≡ true) (s : ℕ) (hand : v.hand ≡ retired s) (ws : List ℕ) (vs : List View) (r : Rule z ws vs)
     (at : get_elem? vs me ≡ some v) where
@@ -62,9 +62,12 @@ module _ (z : Shape) (me : ℕ) (v : View) (l : v.live ≡ true) (s : ℕ) (hand
       let d : Moved me z v.caller r.memory r.machine r.owners [] bits_now r.owners = record {
         allowed = tt;
         marks = λ k h. refl;
-        terms = λ k. refl;
         draw = refl;
-        numbers = λ k. refl;
+        who = λ k. refl;
+        rank = λ k. refl;
+        seat = λ k. refl;
+        own = record { owner = refl; bit = refl; term = refl };
+        numbers = λ n b f. (refl, b, refl);
         closers = λ b q h. (refl, tt);
         sweepers = λ b q h n. (refl, record { session = h; maps = λ i. refl; given = refl });
         holders = λ k g q b h. (refl, q, others k (λ e. h (ap r.owners.holder e ∙ in_its.1.owner)) ∙ b, refl);
@@ -82,6 +85,7 @@ module _ (z : Shape) (me : ℕ) (v : View) (l : v.live ≡ true) (s : ℕ) (hand
       (λ n. inr (q, sym (others k n) ∙ b, refl, (λ (y : KeepsSlot k v). absurd (n (subst (HasSlot k) hand y.1))))))
       (λ q j b. inr (refl, λ h. page_like q (r.owners.berth q) v given_part refl refl refl h))
       (λ b. refl)
+      (numbers_stay z ws vs r me v at l [] bits_now r.owners given_part d same refl (λ k. refl) (λ k. refl) (λ k. refl))
       (shows_bits z r.valid ws r.memory r.shows word)
       (world_give z r.memory r.machine r.world word s (in_its.0 + 1) in_its.1.slot in_its.1.session in_its.1.left others)
       (record {
@@ -94,6 +98,7 @@ module _ (z : Shape) (me : ℕ) (v : View) (l : v.live ≡ true) (s : ℕ) (hand
         hand = tt;
         took = tt;
         pages = owned.pages;
+        number = number_stays z ws vs r me v at l [] bits_now r.owners given_part d same refl (λ k. refl) (λ k. refl) (λ k. refl);
       })
 
 pub give_steps : (z : Shape) (me : ℕ) (v : View) (s : ℕ) → v.live ≡ true → v.hand ≡ retired s

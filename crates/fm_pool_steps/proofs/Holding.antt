@@ -104,6 +104,8 @@ module _ (z : Shape) (me : ℕ) (v : View) (l : v.live ≡ true) (a : ArenaId) w
             may = (refl, (known, use_it), answer, tt);
             ends = λ b. ((λ h. h), tt);
             marks = λ k h. refl;
+            numbers = λ k. refl;
+            number = refl;
             terms = λ k. refl;
             draw = refl;
             still = λ s g f. f;
@@ -186,6 +188,8 @@ module _ (z : Shape) (me : ℕ) (v : View) (l : v.live ≡ true) (a : ArenaId) w
           may = (refl, (al, held), refl, tt);
           ends = λ b. ((λ h. h), tt);
           marks = λ k h. refl;
+          numbers = λ k. refl;
+          number = refl;
           terms = λ k. refl;
           draw = refl;
           still = λ s g f. f;

@@ -1,5 +1,5 @@
 -- Whom a pass has that another was gathered into.
-use Rattle.std.proofs.Common.{◌≡◌, ℕ, List, ◌∷◌, ◌++◌, sym, refl, ap, ◌∙◌, subst, inl, inr, ⊎_elim, Some, None}
+use Rattle.std.proofs.Common.{◌≡◌, ℕ, List, ◌∷◌, ◌++◌, sym, refl, ap, ◌∙◌, subst, inl, inr, ⊎_elim}
 use Rattle.std.proofs.lemmas.List.{append-nil}
 use Rattle.fm_words.specs.declared.shape.Shape.{Shape}
 use Rattle.fm_base.specs.Calls.{Entry}
@@ -7,7 +7,9 @@ use Rattle.fm_base.specs.Finds.{Gathered}
 use Rattle.fm_depicts.specs.Functions.{Machine}
 use Rattle.fm_pool_facts.specs.Views.{Met, View, In, all_gathered, brought}
 use Rattle.fm_pool_facts.specs.Splits.{gather, as_gathered, IsAtRest}
-use Rattle.fm_pool_facts.specs.Facts.{Owners, HasNumber, HasDraw, Owns, Berth, loose, claimed, mapped, unmapped, IsWiped, HasSwept, HasPage, Memory}
+use Rattle.fm_base.specs.declared.caller.Caller.{Caller}
+use Rattle.fm_pool_facts.specs.Hands.{no_number, number_drawn, HasNumberIn}
+use Rattle.fm_pool_facts.specs.Facts.{Owners, KeepsCaller, KeepsNumber, HasDraw, Owns, Berth, loose, claimed, mapped, unmapped, IsWiped, HasSwept, HasPage, Memory}
 use Rattle.fm_pool_facts.proofs.Keeping.{in_left, in_right, in_append}
 
 module _ (v w : View) (rests : IsAtRest w) where
@@ -32,23 +34,28 @@ module _ (v w : View) (rests : IsAtRest w) where
   pub comes_both : (g : Gathered) → In g comes → In g (all_gathered both)
   comes_both g i = in_right g v.gathered (comes ++ brought v.met) (in_left g comes (brought v.met) i)
 
-  pub number_on : (n : ℕ) → HasNumber n v → HasNumber n both
-  number_on n (inl h) = inl h
-  number_on n (inr (inl h)) = inr (inl h)
-  number_on n (inr (inr h)) = inr (inr (h.0, in_both h.0 h.1, h.2))
+  pub caller_comes : (c : Caller) → KeepsCaller c w → KeepsCaller c both
+  caller_comes c (inl h) = inr (inr (as_gathered w, comes_both (as_gathered w) (inl refl), h.1))
+  caller_comes c (inr (inl h)) = absurd (let q : no_number ≡ number_drawn c = sym rests.number ∙ h in cc)
+  caller_comes c (inr (inr h)) = inr (inr (h.0, comes_both h.0 (inr (subst (In h.0) all_w h.1)), h.2))
 
-  pub number_comes : (n : ℕ) → HasNumber n w → HasNumber n both
-  number_comes n (inl h) = inr (inr (as_gathered w, comes_both (as_gathered w) (inl refl), h.1))
-  number_comes n (inr (inl h)) = absurd (let q : Some n ≡ None = sym h ∙ rests.drawn in cc)
-  number_comes n (inr (inr h)) = inr (inr (h.0, comes_both h.0 (inr (subst (In h.0) all_w h.1)), h.2))
-
-  pub draw_on : (d n : ℕ) → HasDraw d n v → HasDraw d n both
+  pub draw_on : (d n : Caller) → HasDraw d n v → HasDraw d n both
   draw_on d n (inl h) = inl h
   draw_on d n (inr h) = inr (h.0, in_both h.0 h.1, h.2, h.3)
 
-  pub draw_comes : (d n : ℕ) → HasDraw d n w → HasDraw d n both
+  pub draw_comes : (d n : Caller) → HasDraw d n w → HasDraw d n both
   draw_comes d n (inl h) = inr (as_gathered w, comes_both (as_gathered w) (inl refl), h.1, h.2)
   draw_comes d n (inr h) = inr (h.0, comes_both h.0 (inr (subst (In h.0) all_w h.1)), h.2, h.3)
+
+  -- the pass itself has no number in its hand
+  module _ (free : v.number ≡ no_number) where
+    pub caller_on : (c : Caller) → KeepsCaller c v → KeepsCaller c both
+    caller_on c (inl h) = inl h
+    caller_on c (inr (inl h)) = absurd (let q : no_number ≡ number_drawn c = sym free ∙ h in cc)
+    caller_on c (inr (inr h)) = inr (inr (h.0, in_both h.0 h.1, h.2))
+
+    pub number_on : (n : ℕ) → KeepsNumber n v → KeepsNumber n both
+    number_on n h = (h.0, ⊎_elim inl (λ (i : HasNumberIn n v.number). absurd (subst (HasNumberIn n) free i)) h.1)
 
   module _ (z : Shape) (h : List Entry) (m : Memory) (t : Machine) (o : Owners) (j : ℕ) (k : Owns z h m t o j w) where
     -- a pass that can be gathered has no page

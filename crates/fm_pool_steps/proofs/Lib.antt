@@ -25,6 +25,7 @@ pub mod Wiping
 pub mod Resetting
 pub mod Retiring
 pub mod Giving
+pub mod Numbering
 pub mod Opening
 pub mod Splitting
 pub mod Halving

@@ -20,7 +20,7 @@ use Rattle.fm_pool_facts.specs.Views.{View, In}
 use Rattle.fm_pool_facts.specs.Steps.{part, entries, noted, none_noted, note_of, where_found}
 use Rattle.fm_pool_facts.specs.Facts.{own_map, shut, IsStanding, Berth, claimed, mapped, unmapped, IsAt, HasPage, Owns, Rule}
 use Rattle.fm_pool_facts.specs.Moves.{LearnsMap, MayStep}
-use Rattle.fm_pool_facts.proofs.Founds.{NoneDrawn, note_none_drawn, note_no_draw}
+use Rattle.fm_pool_facts.proofs.Founds.{NoneDrawn, NoDraw, no_draw, note_no_draw}
 use Rattle.fm_pool_facts.proofs.Standing.{standing_known, ended_apart, unstanding}
 use Rattle.fm_pool_facts.proofs.Moving.{pages_map, no_part, claimed_free, read_mapped}
 use Rattle.fm_pool_facts.proofs.Shown.{shows_same, shows_map}
@@ -28,16 +28,25 @@ use Rattle.fm_pool_facts.proofs.Ruling.{page_by, page_like}
 use Rattle.fm_pool_facts.proofs.Keeping.{set_there}
 use Rattle.fm_pool_steps.proofs.Reading.{eqb_true, eqb_false, none_read, page_read, page_back}
 use Rattle.fm_pool_steps.proofs.Plain.{own, given_now, Made}
-use Rattle.fm_pool_facts.proofs.Gone.{NoSlots, none_founded}
+use Rattle.fm_pool_facts.proofs.Gone.{none_founded}
+use Rattle.fm_pool_facts.proofs.Ruling.{AreLooked, unlooked}
 use Rattle.fm_pool_steps.proofs.Paging.{paged, swept_still}
 
 module _ (z : Shape) (me : ℕ) (v : View) (l : v.live ≡ true) (ws : List ℕ) (vs : List View) (r : Rule z ws vs) (at : get_elem? vs me ≡ some v) where
   abbrev mine : Owns z r.history r.memory r.machine r.owners me v
   mine = own z ws vs r me v at l
 
-  founded : (fs : ℕ → List Find) → NoSlots fs → (f : Find) → In f (fs (length r.history))
+  -- nothing is noted of draws, slots, pages and numbers
+  none_drawn : (fs : ℕ → List Find) → NoDraw fs → NoneDrawn fs
+  none_drawn fs nd n f i = let y = nd n f i in (y.0, y.1)
+
+  founded : (fs : ℕ → List Find) → NoDraw fs → (f : Find) → In f (fs (length r.history))
       → FoundBy z r.history r.memory r.owners.taker r.machine.life v.caller f
-  founded fs n = none_founded z r.history r.memory r.owners.taker r.machine.life v.caller fs n (length r.history)
+  founded fs nd =
+      none_founded z r.history r.memory r.owners.taker r.machine.life v.caller fs (λ n f i. let y = nd n f i in (y.2, y.3)) (length r.history)
+
+  looks : (fs : ℕ → List Find) → NoDraw fs → AreLooked r v fs
+  looks fs nd = unlooked r v fs (λ n f i. (nd n f i).4)
 
   -- ---- a page in the hand is mapped
 
@@ -82,11 +91,11 @@ module _ (z : Shape) (me : ℕ) (v : View) (l : v.live ≡ true) (ws : List ℕ)
           (subst (λ (c : ArenaId). IsStanding (r.machine.life c)) (let w : Some a ≡ Some b = sym ins ∙ h in cc) stands) (mine.pages.read b h x j)
 
       -- another one was there
-      map_loses : (fs : ℕ → List Find) → NoneDrawn fs → NoSlots fs → seen ≢ 0
+      map_loses : (fs : ℕ → List Find) → NoDraw fs → seen ≢ 0
           → Made z ws vs me v map_at seen (record v { pages = v.pages; reads = mapping_of i (seen - 1) ∷ v.reads }) [] fs
-      map_loses fs nd ns n =
-          paged z me v l ws vs r at map_at seen r.memory.page_bits r.memory.maps r.owners.berth v.pages (mapping_of i (seen - 1) ∷ v.reads) [] fs nd
-          (founded fs ns) (record {
+      map_loses fs nd n =
+          paged z me v l ws vs r at map_at seen r.memory.page_bits r.memory.maps r.owners.berth v.pages (mapping_of i (seen - 1) ∷ v.reads) [] fs (none_drawn fs nd)
+          (founded fs nd) (looks fs nd) (record {
             may = tt;
             ends = λ b. tt;
             stays = refl;
@@ -109,10 +118,10 @@ module _ (z : Shape) (me : ℕ) (v : View) (l : v.live ≡ true) (ws : List ℕ)
           })
 
       -- nothing was there: the page is lent to the arena as this part
-      map_wins : (p : ℕ) (fs : ℕ → List Find) → NoneDrawn fs → NoSlots fs
+      map_wins : (p : ℕ) (fs : ℕ → List Find) → NoDraw fs
           → v.pages ≡ p ∷ [] → seen ≡ 0
           → Made z ws vs me v map_at (map_word p) (record v { pages = []; reads = mapping_of i p ∷ v.reads }) (entry_of v.caller (Lend p a i) Fine ∷ []) fs
-      map_wins p fs nd ns has zero_word =
+      map_wins p fs nd has zero_word =
           let none = says_none zero_word in
           let at_hand : r.owners.berth p ≡ claimed me = mine.pages.claims p (subst (In p) (sym has) (inl refl)) in
           let maps' : ℕ → ℕ → Option ℕ = put r.memory.maps a.slot (put (r.memory.maps a.slot) i (Some p)) in
@@ -127,7 +136,7 @@ module _ (z : Shape) (me : ℕ) (v : View) (l : v.live ≡ true) (ws : List ℕ)
           let ended : (b : ArenaId) → r.machine.life b ≡ Over → r.memory.sessions b.slot ≡ shut b → (k : ℕ) → maps' b.slot k ≡ r.memory.maps b.slot k =
           (λ b o f k. λ j. put_else r.memory.maps a.slot (put (r.memory.maps a.slot) i (Some p)) b.slot (apart b f o) j k) in
           paged z me v l ws vs r at map_at (map_word p) r.memory.page_bits maps' berth' [] (mapping_of i p ∷ v.reads)
-          (entry_of v.caller (Lend p a i) Fine ∷ []) fs nd (founded fs ns) (record {
+          (entry_of v.caller (Lend p a i) Fine ∷ []) fs (none_drawn fs nd) (founded fs nd) (looks fs nd) (record {
             may = (refl, tt, refl, tt);
             ends = λ b. ((λ h. h), tt);
             stays = refl;
@@ -171,9 +180,9 @@ module _ (z : Shape) (me : ℕ) (v : View) (l : v.live ≡ true) (ws : List ℕ)
       -- a map word is read
       reads : (b : Bool) → (seen == 0) ≡ b
           → Made z ws vs me v map_at seen (record v { pages = v.pages; reads = if b then v.reads else mapping_of i (seen - 1) ∷ v.reads }) [] none_noted
-      reads false e = map_loses none_noted (λ n f j. absurd j) (λ n f j. absurd j) (eqb_false seen 0 e)
+      reads false e = map_loses none_noted no_draw (eqb_false seen 0 e)
       reads true e = paged z me v l ws vs r at map_at seen r.memory.page_bits r.memory.maps r.owners.berth v.pages v.reads [] none_noted
-          (λ n f j. absurd j) (founded none_noted (λ n f j. absurd j)) (record {
+          (λ n f j. absurd j) (founded none_noted no_draw) (looks none_noted no_draw) (record {
             may = tt;
             ends = λ b. tt;
             stays = refl;
@@ -186,18 +195,16 @@ module _ (z : Shape) (me : ℕ) (v : View) (l : v.live ≡ true) (ws : List ℕ)
             has = mine.pages;
           })
 
-      no_slots : (p : ℕ) → NoSlots (note_of (Mapped a i p) seen v)
-      no_slots p n f j = let y = note_no_draw (Mapped a i p) seen v refl refl refl n f j in (y.2, y.3)
+      no_draws : (p : ℕ) → NoDraw (note_of (Mapped a i p) seen v)
+      no_draws p = note_no_draw (Mapped a i p) seen v refl refl refl refl
 
       -- what the exchange does
       maps_it : (p : ℕ) → v.pages ≡ p ∷ [] → (b : Bool) → (seen == 0) ≡ b
           → Made z ws vs me v map_at (either b (map_word p) seen)
           (record v { pages = if b then [] else v.pages; reads = if b then mapping_of i p ∷ v.reads else mapping_of i (seen - 1) ∷ v.reads })
           (where_found b (entry_of v.caller (Lend p a i) Fine ∷ [])) (note_of (Mapped a i p) seen v)
-      maps_it p has true e = map_wins p (note_of (Mapped a i p) seen v) (note_none_drawn (Mapped a i p) seen v refl)
-          (no_slots p) has (eqb_true seen 0 e)
-      maps_it p has false e = map_loses (note_of (Mapped a i p) seen v) (note_none_drawn (Mapped a i p) seen v refl)
-          (no_slots p) (eqb_false seen 0 e)
+      maps_it p has true e = map_wins p (note_of (Mapped a i p) seen v) (no_draws p) has (eqb_true seen 0 e)
+      maps_it p has false e = map_loses (note_of (Mapped a i p) seen v) (no_draws p) (eqb_false seen 0 e)
 
       -- ---- what a map word tells
 

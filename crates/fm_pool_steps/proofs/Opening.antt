@@ -32,7 +32,7 @@ use Rattle.fm_pool_facts.proofs.Ruling.{page_like, keeps}
 use Rattle.fm_pool_facts.proofs.Shown.{shows_session}
 use Rattle.fm_pool_facts.specs.Holds.{handles_with, one_alive}
 use Rattle.fm_pool_facts.proofs.Gripping.{opened_handles}
-use Rattle.fm_pool_steps.proofs.Plain.{same_but, own, low, Made}
+use Rattle.fm_pool_steps.proofs.Plain.{same_but, own, low, Made, numbers_stay, number_stays}
 
 module _ (z : Shape) (me : ℕ) (v : View) (l : v.live ≡ true) (a : ArenaId) (hand : v.hand ≡ learnt a.slot a.generation) (owner : owner_of a ≡ v.caller)
     (ws : List ℕ) (vs : List View) (r : Rule z ws vs) (at : get_elem? vs me ≡ some v) where
@@ -53,7 +53,6 @@ module _ (z : Shape) (me : ℕ) (v : View) (l : v.live ≡ true) (a : ArenaId) (
     slot = held.slot;
     owner = (let h = low z ws vs r me v at l in let e : a.owner ≡ v.caller.number = ap (λ (c : Caller). c.number) owner in omega arith);
     generation = held.left;
-    term = ap (λ (c : Caller). c.term) owner ∙ (mine.term ∙ r.shows.terms v.caller.number);
   }
 
   abbrev es : List Entry
@@ -94,9 +93,12 @@ module _ (z : Shape) (me : ℕ) (v : View) (l : v.live ≡ true) (a : ArenaId) (
   moved_on = record {
     allowed = ok;
     marks = λ k h. refl;
-    terms = λ k. refl;
     draw = refl;
-    numbers = λ k. refl;
+    who = λ k. refl;
+    rank = λ k. refl;
+    seat = λ k. refl;
+    own = record { owner = refl; bit = refl; term = refl };
+    numbers = λ n b f. (refl, b, refl);
     closers = λ b f h. (refl, ((λ h. h), tt));
     sweepers = λ b f h n. (refl, ended_on b h);
     holders = λ s g f b h. (refl, put_else r.memory.sessions a.slot (live a) s (λ e. h (ap r.owners.holder e ∙ held.owner)) ∙ f, b, refl);
@@ -153,13 +155,14 @@ module _ (z : Shape) (me : ℕ) (v : View) (l : v.live ≡ true) (a : ArenaId) (
       slots_on
       (λ q j b. inr (refl, λ h. page_like q (r.owners.berth q) v p refl refl refl h))
       (opened_handles v l r.machine a (ap one_alive new))
+      (numbers_stay z ws vs r me v at l es m' r.owners p moved_on same refl (λ k. refl) (λ k. refl) (λ k. refl))
       (shows_session z r.valid ws r.memory r.shows a.slot (live a) 0 fit.slot)
       (world_open z r.memory r.machine r.world a free_now bit_now fit)
       (record {
         inside = mine.inside;
         mark = mine.mark;
         closes =
-            λ c i. closing_on (limit_of z) r.history v.caller r.memory r.machine es m' ok me r.owners r.owners c (mine.closes c i) refl
+            λ c i. closing_on (limit_of z) r.history v.caller r.machine es ok me r.owners r.owners c (mine.closes c i) refl
             ((λ h. h), tt);
         once = mine.once;
         sweeps = λ c i.
@@ -170,6 +173,7 @@ module _ (z : Shape) (me : ℕ) (v : View) (l : v.live ≡ true) (a : ArenaId) (
         hand = tt;
         took = tt;
         pages = mine.pages;
+        number = number_stays z ws vs r me v at l es m' r.owners p moved_on same refl (λ k. refl) (λ k. refl) (λ k. refl);
       })
 
 pub open_steps : (z : Shape) (me : ℕ) (v : View) (a : ArenaId) → v.live ≡ true → v.hand ≡ learnt a.slot a.generation → owner_of a ≡ v.caller

@@ -16,16 +16,16 @@ use Rattle.fm_pool_facts.specs.Views.{View, In, limit_of}
 use Rattle.fm_pool_facts.specs.Facts.{Memory, Owners, shut, Berth, unmapped, IsNext, HasSwept, HasPages, World, Shows, Owns, Rule}
 use Rattle.fm_pool_facts.specs.Moves.{MayMake, NoEnd, StaysEnded, Moved, Same, PagesMoved, KeepsPages, MayLend}
 use Rattle.fm_pool_facts.proofs.Founds.{NoneDrawn}
-use Rattle.fm_pool_facts.proofs.Ruling.{PagesAfter, keeps_with}
+use Rattle.fm_pool_facts.proofs.Ruling.{PagesAfter, AreLooked, keeps_with}
 use Rattle.fm_pool_facts.proofs.Keeping.{closing_on, sweeping_on}
-use Rattle.fm_pool_steps.proofs.Plain.{same_but, own, Made}
+use Rattle.fm_pool_steps.proofs.Plain.{same_but, own, Made, numbers_stay, number_stays}
 
 module _ (z : Shape) (me : ℕ) (v : View) (l : v.live ≡ true) (ws : List ℕ) (vs : List View) (r : Rule z ws vs) (at : get_elem? vs me ≡ some v) where
   abbrev mine : Owns z r.history r.memory r.machine r.owners me v
   mine = own z ws vs r me v at l
 
   -- what a step does to page bits, map words and the places of pages, and what the view has of them then
-  pub record Paging (i x bits : ℕ) (maps : ℕ → ℕ → Option ℕ) (berth : ℕ → Berth) (ps : List ℕ) (ms : List Mapping) (es : List Entry) : Type 0 where
+  pub record Paging (i x : ℕ) (bits : ℕ → ℕ) (maps : ℕ → ℕ → Option ℕ) (berth : ℕ → Berth) (ps : List ℕ) (ms : List Mapping) (es : List Entry) : Type 0 where
     pub may : MayMake (limit_of z) r.machine v.caller es
     pub ends : (b : ArenaId) → NoEnd es b
     pub stays : moved_by r.machine es ≡ r.machine
@@ -38,10 +38,10 @@ module _ (z : Shape) (me : ℕ) (v : View) (l : v.live ≡ true) (ws : List ℕ)
     pub has : HasPages z maps r.memory.cells berth me v.inside ms ps v.sweeps v.swept
 
   -- such a step keeps the rule
-  pub paged : (i x bits : ℕ) (maps : ℕ → ℕ → Option ℕ) (berth : ℕ → Berth) (ps : List ℕ) (ms : List Mapping) (es : List Entry) (fs : ℕ → List Find)
+  pub paged : (i x : ℕ) (bits : ℕ → ℕ) (maps : ℕ → ℕ → Option ℕ) (berth : ℕ → Berth) (ps : List ℕ) (ms : List Mapping) (es : List Entry) (fs : ℕ → List Find)
       → NoneDrawn fs → ((f : Find) → In f (fs (length r.history)) → FoundBy z r.history r.memory r.owners.taker r.machine.life v.caller f)
-      → Paging i x bits maps berth ps ms es → Made z ws vs me v i x (record v { pages = ps; reads = ms }) es fs
-  paged i x bits maps berth ps ms es fs nd new q =
+      → AreLooked r v fs → Paging i x bits maps berth ps ms es → Made z ws vs me v i x (record v { pages = ps; reads = ms }) es fs
+  paged i x bits maps berth ps ms es fs nd new looks q =
       let m' : Memory = record r.memory { page_bits = bits; maps = maps } in
       let o' : Owners = record r.owners { berth = berth } in
       let p : View = record v { pages = ps; reads = ms } in
@@ -52,21 +52,25 @@ module _ (z : Shape) (me : ℕ) (v : View) (l : v.live ≡ true) (ws : List ℕ)
       let d : Moved me z v.caller r.memory r.machine r.owners es m' o' = record {
         allowed = q.may;
         marks = λ k h. refl;
-        terms = λ k. refl;
         draw = refl;
-        numbers = λ k. refl;
+        who = λ k. refl;
+        rank = λ k. refl;
+        seat = λ k. refl;
+        own = record { owner = refl; bit = refl; term = refl };
+        numbers = λ n b f. (refl, b, refl);
         closers = λ b f h. (refl, q.ends b);
         sweepers = λ b f h n. (refl, stays_ended b f h);
         holders = λ s g f b h. (refl, f, b, refl);
         taken = λ s k x. inl x;
         pages = q.moved;
       } in
-      keeps_with z ws (set ws i x) vs r me v p es fs m' o' at l d same nd new q.lends q.pages
+      keeps_with z ws (set ws i x) vs r me v p es fs m' o' at l d same nd new looks q.lends q.pages
       (λ b h. inr (ap (λ (t : Machine). t.life b) (sym q.stays) ∙ h, refl, (λ y. y)))
       (λ b f h. inr (f, ap (λ (t : Machine). t.life b) (sym q.stays) ∙ h, refl, (λ y. y)))
       (λ k g low f left b. inr (f, b, refl, (λ y. y)))
       q.keep
       (λ b. ap (λ (t : Machine). holds_of b v + all_holds b t) (sym q.stays))
+      (numbers_stay z ws vs r me v at l es m' o' p d same refl (λ k. refl) (λ k. refl) (λ k. refl))
       q.shows
       (subst (World z m') (sym q.stays) (record {
         marked = λ c b j. let w = r.world.marked c b j in record { number = w.number; term = w.term; mark = w.mark; stands = w.stands };
@@ -79,7 +83,7 @@ module _ (z : Shape) (me : ℕ) (v : View) (l : v.live ≡ true) (ws : List ℕ)
         inside = ap (λ (t : Machine). t.inside v.caller) q.stays ∙ mine.inside;
         mark = mine.mark;
         closes = λ c j.
-            closing_on (limit_of z) r.history v.caller r.memory r.machine es m' q.may me r.owners o' c (mine.closes c j) refl (q.ends c.arena);
+            closing_on (limit_of z) r.history v.caller r.machine es q.may me r.owners o' c (mine.closes c j) refl (q.ends c.arena);
         once = mine.once;
         sweeps = λ c j.
             let y = mine.sweeps c j in
@@ -89,6 +93,7 @@ module _ (z : Shape) (me : ℕ) (v : View) (l : v.live ≡ true) (ws : List ℕ)
         hand = mine.hand;
         took = mine.took;
         pages = q.has;
+        number = number_stays z ws vs r me v at l es m' o' p d same refl (λ k. refl) (λ k. refl) (λ k. refl);
       })
 
   -- what a sweep has is there still, where its map words and pages are

@@ -1,5 +1,5 @@
 -- Steps that leave closes and hands as they are.
-use Rattle.std.proofs.Common.{◌≡◌, ◌≢◌, ℕ, ◌<◌, ◌≤◌, true, List, [], ◌++◌, length, set, sym, refl, ap, ◌∙◌, subst, arith, inl, inr, Some, Option}
+use Rattle.std.proofs.Common.{◌≡◌, ◌≢◌, ℕ, ◌<◌, ◌≤◌, true, List, [], ◌++◌, length, set, sym, refl, ap, ◌∙◌, subst, arith, inl, inr, Some, Option, ⊎_elim, ◌/◌, ◌%◌}
 use mathlib.Core.Option.{some}
 use lib.ListN.{get_elem?}
 use Rattle.fm_words.specs.declared.shape.Shape.{Shape}
@@ -8,18 +8,19 @@ use Rattle.fm_base.specs.declared.arena_id.ArenaId.{ArenaId}
 use Rattle.fm_base.specs.Arenas.{State, has_arena, arena_of}
 use Rattle.fm_base.specs.Calls.{Entry}
 use Rattle.fm_base.specs.Histories.{state_after, IsLegal}
-use Rattle.fm_base.specs.Finds.{Find, Close}
+use Rattle.fm_base.specs.Finds.{Find, Close, Gathered}
 use Rattle.fm_depicts.specs.Functions.{Fresh, Closes, Over, Machine}
 use Rattle.fm_depicts.specs.Steps.{moved_by}
 use Rattle.std.specs.Int.{bit_at}
-use Rattle.fm_pool_facts.specs.Hands.{Hand, HasSlot, IsTaker}
+use native.Mathlib.Decide.{ℕ_discrete}
+use Rattle.fm_pool_facts.specs.Hands.{Hand, HasSlot, IsTaker, Number, no_number, number_taken, number_learnt, number_drawn, number_left, number_joined, HasNumberIn, most_draws}
 use Rattle.fm_pool_facts.proofs.Handing.{hand_on}
-use Rattle.fm_pool_facts.specs.Views.{View, In, IsKnown, IsOver, given_of, limit_of}
-use Rattle.fm_pool_facts.specs.Facts.{Memory, free, shut, Shows, World, IsOnce, Owners, HasInHand, HasClose, HasSweep, KeepsSlot, Owns, Rule, IsAt, IsLone, HasSwept, HasPages}
-use Rattle.fm_pool_facts.specs.Moves.{MayMake, NoEnd, StaysEnded, Moved, Same, Part, KeepsCloses, KeepsSweeps, KeepsSlots, KeepsHolds, Gives, MayLend, PagesMoved, KeepsPages}
+use Rattle.fm_pool_facts.specs.Views.{View, In, IsKnown, IsOver, given_of, limit_of, all_gathered, brought}
+use Rattle.fm_pool_facts.specs.Facts.{Memory, free, shut, Shows, World, IsOnce, Owners, HasInHand, HasClose, HasSweep, KeepsSlot, Owns, Rule, IsAt, IsLone, HasSwept, HasPages, WasDrawn, bit_of, next_of, IsLoose, KeepsNumber, HasNumberInHand, IsUndrawn}
+use Rattle.fm_pool_facts.specs.Moves.{MayMake, NoEnd, StaysEnded, Moved, Same, Part, KeepsCloses, KeepsSweeps, KeepsSlots, KeepsHolds, Gives, MayLend, PagesMoved, KeepsPages, NumbersOn, KeepsHand}
 use Rattle.fm_base.proofs.Making.{state_after-append, IsLegal-split}
 use Rattle.fm_base.proofs.Growing.{Grows-state_after}
-use Rattle.fm_pool_facts.proofs.Keeping.{closing_on, sweeping_on}
+use Rattle.fm_pool_facts.proofs.Keeping.{closing_on, sweeping_on, silent_on, drawn_still, drawn_before}
 use Rattle.fm_pool_facts.proofs.Frame.{was_over}
 use Rattle.fm_pool_facts.proofs.Ending.{given_later}
 use Rattle.fm_pool_facts.proofs.Founds.{NoneDrawn, NoDraw}
@@ -27,7 +28,7 @@ use Rattle.fm_pool_facts.specs.Gone.{FoundBy}
 use Rattle.fm_pool_facts.proofs.Gone.{none_founded}
 use Rattle.fm_pool_facts.specs.Loans.{lent}
 use Rattle.fm_pool_facts.specs.Parts.{Mapping, Swept, unread, named, wiping}
-use Rattle.fm_pool_facts.proofs.Ruling.{PagesAfter, page_like, keeps_with}
+use Rattle.fm_pool_facts.proofs.Ruling.{PagesAfter, AreLooked, unlooked, page_like, keeps_with}
 use Rattle.fm_pool_facts.proofs.Sounding.{opened_life}
 
 -- a step leaves all but these
@@ -51,7 +52,6 @@ same_but = record {
   live = refl;
   caller = refl;
   seen = refl;
-  drawn = refl;
   met = refl;
   finds = refl;
   gathered = refl;
@@ -95,7 +95,7 @@ module _ (z : Shape) (ws : List ℕ) (vs : List View) (r : Rule z ws vs) (me : �
   own = (r.each me v at).owns l
 
   pub low : v.caller.number < z.passes
-  low = let a = own.number in let b = r.few in omega arith
+  low = (r.terms v.caller own.drawn).0
 
   -- an arena that the pass knows was opened
   pub known_now : (a : ArenaId) → IsKnown v a → r.machine.life a ≢ Fresh
@@ -143,20 +143,124 @@ module _ (z : Shape) (ws : List ℕ) (vs : List View) (r : Rule z ws vs) (me : �
       r.depicts.given a ∙ (ap (λ (s : State). (arena_of s a).given) same
       ∙ given_later (limit_of v.shape) v.seen zs a legal o.known (record { life = o.life; empty = o.empty }))
 
+  -- where a step leaves numbers and terms as they are, so does the hand
+  module _ (es : List Entry) (m' : Memory) (o' : Owners) (p : View) (d : Moved me z v.caller r.memory r.machine r.owners es m' o') (s : Same v p)
+      (hand : p.number ≡ v.number) (numbers : (g : ℕ) → m'.numbers g ≡ r.memory.numbers g) (terms : (n : ℕ) → m'.terms n ≡ r.memory.terms n)
+      (owner : (n : ℕ) → o'.number n ≡ r.owners.number n) where
+    bit_is : (n : ℕ) → bit_of m'.numbers n ≡ bit_of r.memory.numbers n
+    bit_is n = ap (λ (w : ℕ). bit_at w (n % 64)) (numbers (n / 64))
+
+    still : (c : Caller) → WasDrawn r.memory.draw r.owners.who r.owners.rank c → WasDrawn m'.draw o'.who o'.rank c
+    still = drawn_still d
+
+    before : (c : Caller) → WasDrawn m'.draw o'.who o'.rank c → WasDrawn r.memory.draw r.owners.who r.owners.rank c
+    before = drawn_before d
+
+    fresh_on : (n : ℕ) → ¬ (WasDrawn r.memory.draw r.owners.who r.owners.rank (next_of r.memory.terms n)) → ¬ (WasDrawn m'.draw o'.who o'.rank (next_of m'.terms n))
+    fresh_on n f q = f (before (next_of r.memory.terms n)
+        (subst (λ (x : ℕ). WasDrawn m'.draw o'.who o'.rank (record { number = n; term = x })) (terms n) q))
+
+    pub numbers_stay : NumbersOn z me v p r.memory r.owners m' o'
+    numbers_stay = record {
+      kept = λ n low b. elim (ℕ_discrete n v.caller.number) [
+        | yes e ↦ inl (ap o'.number e ∙ (owner v.caller.number ∙ own.owner), (s.live ∙ l, inl (ap (λ (x : Caller). x.number) s.caller ∙ sym e)))
+        | no ne ↦ inr (inl (
+          sym (bit_is n) ∙ b,
+          owner n,
+          terms n,
+          d.marks n ne,
+          (λ (y : KeepsNumber n v). (
+            s.live ∙ y.0,
+            ⊎_elim
+                (λ (q : v.caller.number ≡ n). inl (ap (λ (x : Caller). x.number) s.caller ∙ q))
+                (λ (q : HasNumberIn n v.number). inr (subst (HasNumberIn n) (sym hand) q))
+                y.1,
+          )),
+        ))
+      ];
+      freed = λ n b.
+          let bit : bit_of r.memory.numbers n ≡ 1 = sym (bit_is n) ∙ b in
+          let y = r.free_numbers n bit in
+          let ne : n ≢ v.caller.number = (λ e. let z : bit_of r.memory.numbers n ≡ 0 = ap (bit_of r.memory.numbers) e ∙ own.bit in omega arith) in
+          record { mark = d.marks n ne ∙ y.mark; fresh = fresh_on n y.fresh };
+      terms = record {
+        terms = λ n. (let e = terms n in omega arith);
+        last = λ n. (let e = terms n in let y = r.last n in omega arith);
+      };
+      wants = λ n h. (
+        (
+          s.live ∙ l,
+          ⊎_elim (λ (e : v.number ≡ number_taken n). inl (hand ∙ e))
+              (λ (e : (t : ℕ) × (v.number ≡ number_learnt n t)). inr (e.0, hand ∙ e.1)) h.1,
+        ),
+        owner n,
+      );
+    }
+
+    loose_stays : (n : ℕ) → n ≢ v.caller.number → IsLoose z r.memory r.owners me n → IsLoose z m' o' me n
+    loose_stays n ne y = record { low = y.low; owner = owner n ∙ y.owner; bit = bit_is n ∙ y.bit; mark = d.marks n ne ∙ y.mark }
+
+    next_stays : (n : ℕ) → n ≢ v.caller.number → IsUndrawn z r.memory r.owners me n → IsUndrawn z m' o' me n
+    next_stays n ne y = record { loose = loose_stays n ne y.loose; fresh = fresh_on n y.fresh }
+
+    same_all : all_gathered p ≡ all_gathered v
+    same_all = λ j. s.gathered j ++ brought (s.met j)
+
+    hand_stays : (x : Number) → ((n : ℕ) → HasNumberIn n x → n ≢ v.caller.number) → HasNumberInHand z r.history r.memory r.machine r.owners me v x
+        → HasNumberInHand z (r.history ++ es) m' (moved_by r.machine es) o' me p x
+    hand_stays no_number ne y = tt
+    hand_stays (number_taken n) ne y = next_stays n (ne n refl) y
+    hand_stays (number_learnt n x) ne y = (next_stays n (ne n refl) y.0, y.1 ∙ sym (terms n))
+    hand_stays (number_drawn c) ne y = record {
+      loose = loose_stays c.number (ne c.number refl) y.loose;
+      term = y.term ∙ sym (terms c.number);
+      drawn = still c y.drawn;
+      later = y.later;
+      seated = d.seat c ∙ y.seated;
+      apart = λ e. y.apart (e ∙ s.caller);
+      ungathered = λ g i. y.ungathered g (subst (In g) same_all i);
+      silent = silent_on (limit_of z) r.history v.caller r.machine es d.allowed c y.apart y.silent;
+    }
+    hand_stays (number_left n) ne y = (
+      next_stays n (ne n refl) y.0,
+      ⊎_elim (λ (e : r.memory.draw ≡ most_draws). inl (d.draw ∙ e)) (λ (q : (g : Gathered) × In g (all_gathered v) × (g.caller.number ≡ n)).
+          inr (q.0, subst (In q.0) (sym same_all) q.1, q.2)) y.1,
+    )
+    hand_stays (number_joined c) ne y = record {
+      loose = loose_stays c.number (ne c.number refl) y.loose;
+      term = y.term ∙ sym (terms c.number);
+      left = y.left;
+      gathered = (y.gathered.0, subst (In y.gathered.0) (sym same_all) y.gathered.1, y.gathered.2);
+    }
+
+    pub number_stays : KeepsHand z (r.history ++ es) v m' (moved_by r.machine es) o' me p
+    number_stays = record {
+      number = subst (HasNumberInHand z (r.history ++ es) m' (moved_by r.machine es) o' me p) (sym hand) (hand_stays v.number own.not_own own.number);
+      not_own = λ n i e. own.not_own n (subst (HasNumberIn n) hand i) (e ∙ ap (λ (x : Caller). x.number) s.caller);
+      stays = λ c e. hand ∙ e;
+    }
+
   module _ (es : List Entry) (m' : Memory) (p : View) where
     -- what a step that leaves closes and slots may do to others
     pub plain_moved : MayMake (limit_of z) r.machine v.caller es → ((b : ArenaId) → NoEnd es b)
-        → ((k : ℕ) → k ≢ v.caller.number → m'.marks k ≡ r.memory.marks k) → ((k : ℕ) → m'.terms k ≡ r.memory.terms k) → m'.draw ≡ r.memory.draw
+        → ((k : ℕ) → k ≢ v.caller.number → m'.marks k ≡ r.memory.marks k) → ((k : ℕ) → m'.numbers k ≡ r.memory.numbers k) → ((k : ℕ) → m'.terms k ≡ r.memory.terms k) → m'.draw ≡ r.memory.draw
         → ((s g : ℕ) → r.memory.sessions s ≡ free g → m'.sessions s ≡ free g) → m'.bits ≡ r.memory.bits
         → ((b : ArenaId) → r.machine.life b ≡ Over → r.memory.sessions b.slot ≡ shut b → StaysEnded r.memory m' b)
         → PagesMoved me r.memory r.machine r.owners m' r.owners
         → Moved me z v.caller r.memory r.machine r.owners es m' r.owners
-    plain_moved ok ends marks terms draw still bits ended pages = record {
+    plain_moved ok ends marks numbers terms draw still bits ended pages = record {
       allowed = ok;
       marks = marks;
-      terms = terms;
       draw = draw;
-      numbers = λ k. refl;
+      who = λ k. refl;
+      rank = λ k. refl;
+      seat = λ k. refl;
+      own = record {
+        owner = refl;
+        bit = ap (λ (w : ℕ). bit_at w (v.caller.number % 64)) (numbers (v.caller.number / 64));
+        term = terms v.caller.number;
+      };
+      numbers = λ n b f. (refl, ap (λ (w : ℕ). bit_at w (n % 64)) (numbers (n / 64)) ∙ b, terms n);
       closers = λ b f h. (refl, ends b);
       sweepers = λ b f h n. (refl, ended b f h);
       holders = λ s g f b h. (refl, still s g f, ap (λ (n : ℕ). bit_at n s) bits ∙ b, refl);
@@ -176,13 +280,14 @@ module _ (z : Shape) (ws : List ℕ) (vs : List View) (r : Rule z ws vs) (me : �
         → ((b : ArenaId) → r.machine.life b ≡ Over → r.memory.sessions b.slot ≡ shut b → StaysEnded r.memory m' b)
         → (moved_by r.machine es).inside p.caller ≡ p.inside → m'.marks p.caller.number ≡ p.mark
         → HasPages z m'.maps m'.cells r.owners.berth me p.inside p.reads p.pages p.sweeps p.swept
-        → Part z m' (moved_by r.machine es) r.owners me p
-    plain_part ok ends s cl sw hd still bits ended inside mark pages = record {
+        → KeepsHand z (r.history ++ es) v m' (moved_by r.machine es) r.owners me p
+        → Part z (r.history ++ es) v m' (moved_by r.machine es) r.owners me p
+    plain_part ok ends s cl sw hd still bits ended inside mark pages number = record {
       pages = pages;
       inside = inside;
       mark = mark;
       closes =
-          λ c i. closing_on (limit_of z) r.history v.caller r.memory r.machine es m' ok me r.owners r.owners c (own.closes c (subst (In c) cl i)) refl
+          λ c i. closing_on (limit_of z) r.history v.caller r.machine es ok me r.owners r.owners c (own.closes c (subst (In c) cl i)) refl
           (ends c.arena);
       once = subst (IsOnce (λ (c : Close). c.arena)) (sym cl) own.once;
       sweeps = λ c i.
@@ -191,6 +296,7 @@ module _ (z : Shape) (ws : List ℕ) (vs : List View) (r : Rule z ws vs) (me : �
           (ended c.arena y.life y.session);
       swept_once = subst (IsOnce (λ (c : Close). c.arena)) (sym sw) own.swept_once;
       hand = subst (HasInHand z m'.bits m'.sessions r.owners.holder me) (sym hd) (hand_still z r.memory m' r.owners.holder me still bits v.hand own.hand);
+      number = number;
       took = subst (λ (x : Caller × Hand). IsTaker r.owners.taker x.0 x.1) (λ j. (sym s.caller j, sym hd j)) own.took;
     }
 
@@ -213,12 +319,14 @@ pub record Plain (z : Shape) (ws : List ℕ) (vs : List View) (r : Rule z ws vs)
   pub may : MayMake (limit_of z) r.machine v.caller es
   pub ends : (b : ArenaId) → NoEnd es b
   pub marks : (k : ℕ) → k ≢ v.caller.number → m'.marks k ≡ r.memory.marks k
+  pub numbers : (k : ℕ) → m'.numbers k ≡ r.memory.numbers k
   pub terms : (k : ℕ) → m'.terms k ≡ r.memory.terms k
   pub draw : m'.draw ≡ r.memory.draw
   pub still : (s g : ℕ) → r.memory.sessions s ≡ free g → m'.sessions s ≡ free g
   pub back : (s g : ℕ) → m'.sessions s ≡ free g → r.memory.sessions s ≡ free g
   pub bits : m'.bits ≡ r.memory.bits
   pub same : Same v p
+  pub number : p.number ≡ v.number
   pub closes : p.closes ≡ v.closes
   pub hand : p.hand ≡ v.hand
   pub sweeps : p.sweeps ≡ v.sweeps
@@ -263,22 +371,26 @@ plain_pages z m m' o me v p k maps cells reads paged sweeps swept = record {
 
 pub plain_with : (z : Shape) (ws : List ℕ) (vs : List View) (r : Rule z ws vs) (me : ℕ) (v : View) → get_elem? vs me ≡ some v → v.live ≡ true
     → (i x : ℕ) (p : View) (es : List Entry) (fs : ℕ → List Find) → NoneDrawn fs
-    → ((f : Find) → In f (fs (length r.history)) → FoundBy z r.history r.memory r.owners.taker r.machine.life v.caller f) → (m' : Memory)
+    → ((f : Find) → In f (fs (length r.history)) → FoundBy z r.history r.memory r.owners.taker r.machine.life v.caller f)
+    → AreLooked r v fs
+    → (m' : Memory)
     → Plain z ws vs r v i x p es m' → Made z ws vs me v i x p es fs
-plain_with z ws vs r me v at l i x p es fs nd new m' q =
-    keeps_with z ws (set ws i x) vs r me v p es fs m' r.owners at l
-    (plain_moved z ws vs r me v at l es m' p q.may q.ends q.marks q.terms q.draw q.still q.bits q.ended (record {
+plain_with z ws vs r me v at l i x p es fs nd new looks m' q =
+    let d = plain_moved z ws vs r me v at l es m' p q.may q.ends q.marks q.numbers q.terms q.draw q.still q.bits q.ended (record {
       others = λ c j b h. (refl, q.cells c j b);
       stay = λ b c n st e. (λ k. q.maps k b.slot c) ∙ e;
-    }))
-    q.same nd new q.lends q.pages
+    }) in
+    keeps_with z ws (set ws i x) vs r me v p es fs m' r.owners at l d
+    q.same nd new looks q.lends q.pages
     (plain_closes z ws vs r me v at l es m' p q.same q.closes q.was)
     (sweeps_still me v p r.memory r.machine r.owners m' (moved_by r.machine es) r.owners q.same q.sweeps (λ a h. refl)
     (λ a f h. (q.shown a f, was_over a es r.machine (q.ends a) h)))
     (plain_slots z ws vs r me v at l es m' p q.same q.hand q.back q.bits) (pages_there me r.owners v p q.same q.paged q.swept) q.holds
+    (numbers_stay z ws vs r me v at l es m' r.owners p d q.same q.number q.numbers q.terms (λ n. refl))
     q.shows q.world
     (plain_part z ws vs r me v at l es m' p q.may q.ends q.same q.closes q.sweeps q.hand q.still q.bits q.ended q.inside q.mark
-    (plain_pages z r.memory m' r.owners me v p (own z ws vs r me v at l).pages q.maps q.cells q.reads q.paged q.sweeps q.swept))
+    (plain_pages z r.memory m' r.owners me v p (own z ws vs r me v at l).pages q.maps q.cells q.reads q.paged q.sweeps q.swept)
+    (number_stays z ws vs r me v at l es m' r.owners p d q.same q.number q.numbers q.terms (λ n. refl)))
 
 -- where no slot was looked for
 pub plain : (z : Shape) (ws : List ℕ) (vs : List View) (r : Rule z ws vs) (me : ℕ) (v : View) → get_elem? vs me ≡ some v → v.live ≡ true
@@ -286,4 +398,5 @@ pub plain : (z : Shape) (ws : List ℕ) (vs : List View) (r : Rule z ws vs) (me 
     → Plain z ws vs r v i x p es m' → Made z ws vs me v i x p es fs
 plain z ws vs r me v at l i x p es fs nd m' q =
     plain_with z ws vs r me v at l i x p es fs (λ n f i. let y = nd n f i in (y.0, y.1))
-    (none_founded z r.history r.memory r.owners.taker r.machine.life v.caller fs (λ n f i. let y = nd n f i in (y.2, y.3)) (length r.history)) m' q
+    (none_founded z r.history r.memory r.owners.taker r.machine.life v.caller fs (λ n f i. let y = nd n f i in (y.2, y.3)) (length r.history))
+    (unlooked r v fs (λ n f i. (nd n f i).4)) m' q

@@ -17,6 +17,7 @@ use Rattle.fm_pool_facts.specs.Gone.{FoundBy}
 use Rattle.fm_pool_facts.specs.Moves.{MayMake, MayLend, NoEnd}
 use Rattle.fm_pool_facts.proofs.Founds.{NoneDrawn, NoDraw, no_draw}
 use Rattle.fm_pool_facts.proofs.Gone.{none_founded}
+use Rattle.fm_pool_facts.proofs.Ruling.{AreLooked, unlooked}
 use Rattle.fm_pool_facts.proofs.Shown.{shows_same}
 use Rattle.fm_pool_steps.proofs.Plain.{Made, own, same_but, stays_ended, plain_with}
 
@@ -24,14 +25,17 @@ module _ (z : Shape) (ws : List ℕ) (vs : List View) (r : Rule z ws vs) (me : �
   -- entries that move nothing and lend nothing
   pub quiet : (es : List Entry) (fs : ℕ → List Find) → NoneDrawn fs
       → ((f : Find) → In f (fs (length r.history)) → FoundBy z r.history r.memory r.owners.taker r.machine.life v.caller f)
-      → MayMake (limit_of z) r.machine v.caller es → ((b : ArenaId) → NoEnd es b) → MayLend z.page_words r.machine (lent r.history) es
+      → AreLooked r v fs → MayMake (limit_of z) r.machine v.caller es → ((b : ArenaId) → NoEnd es b)
+      → MayLend z.page_words r.machine (lent r.history) es
       → loans_after (lent r.history) es ≡ lent r.history → moved_by r.machine es ≡ r.machine → Made z ws vs me v i (get_or ws i 0) v es fs
-  quiet es fs nd new may ends lends same stays =
+  quiet es fs nd new looks may ends lends same stays =
       let mine = own z ws vs r me v at l in
-      plain_with z ws vs r me v at l i (get_or ws i 0) v es fs nd new r.memory (record {
+      plain_with z ws vs r me v at l i (get_or ws i 0) v es fs nd new looks r.memory (record {
         may = may;
         ends = ends;
         marks = λ k h. refl;
+        numbers = λ k. refl;
+        number = refl;
         terms = λ k. refl;
         draw = refl;
         still = λ s g f. f;
@@ -73,11 +77,11 @@ module _ (z : Shape) (ws : List ℕ) (vs : List View) (r : Rule z ws vs) (me : �
   pub answers_on : (es : List Entry) → MayMake (limit_of z) r.machine v.caller es → ((b : ArenaId) → NoEnd es b)
       → MayLend z.page_words r.machine (lent r.history) es → loans_after (lent r.history) es ≡ lent r.history → moved_by r.machine es ≡ r.machine
       → Made z ws vs me v i (get_or ws i 0) v es none_noted
-  answers_on es = quiet es none_noted (none_drawn none_noted no_draw) (unfound none_noted no_draw)
+  answers_on es = quiet es none_noted (none_drawn none_noted no_draw) (unfound none_noted no_draw) (unlooked r v none_noted (λ n f i. absurd i))
 
   -- a look, of which something may be noted
   pub looks_with : (fs : ℕ → List Find) → NoDraw fs → Made z ws vs me v i (get_or ws i 0) v [] fs
-  looks_with fs nd = quiet [] fs (none_drawn fs nd) (unfound fs nd) tt (λ b. tt) tt refl refl
+  looks_with fs nd = quiet [] fs (none_drawn fs nd) (unfound fs nd) (unlooked r v fs (λ n f i. (nd n f i).4)) tt (λ b. tt) tt refl refl
 
   -- nothing is noted of most looks
   pub looks_on : Made z ws vs me v i (get_or ws i 0) v [] none_noted

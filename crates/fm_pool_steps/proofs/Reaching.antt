@@ -74,6 +74,8 @@ module _ (z : Shape) (me : ℕ) (v : View) (l : v.live ≡ true) (a : ArenaId) (
           may = (refl, may, answer, tt);
           ends = λ b. (ends b, tt);
           marks = λ k h. refl;
+          numbers = λ k. refl;
+          number = refl;
           terms = λ k. refl;
           draw = refl;
           still = λ s g f. f;

@@ -98,8 +98,8 @@ module _ (z : Shape) (me : ℕ) (v : View) (l : v.live ≡ true) (ws : List ℕ)
     free_slot : (g : ℕ) → r.memory.sessions k ≡ free g → ShowsSlot z ws s k (free_session (kept z.generations g))
     free_slot g f = record {
       lives = inl refl;
-      alive = λ e. absurd (omega arith);
-      closing = λ e. absurd (omega arith);
+      alive = λ e. absurd (cc);
+      closing = λ e. absurd (cc);
       free = λ e. over;
       older = λ a q h. over a q;
       newest = λ a q h. let b = below a q h in let c = kept_least z.generations g in omega arith;
@@ -144,7 +144,7 @@ module _ (z : Shape) (me : ℕ) (v : View) (l : v.live ≡ true) (ws : List ℕ)
     named : (a : ArenaId) (i : Decoded) → a.slot ≡ k → a.generation ≡ i.generation → kind_number a.kind ≡ i.kind → a.owner ≡ i.owner
         → r.machine.life a ≢ Fresh → IsNamed s k i a
     named a i q g kd o n =
-        record { slot = q; generation = g; kind = kd; owner = o; term = (r.world.sessions.fits a n).term; known = known a n }
+        record { slot = q; generation = g; kind = kd; owner = o; known = known a n }
 
     -- no other arena of the slot stands, and none is newer
     module _ (a : ArenaId) (shown : (r.memory.sessions k ≡ live a) ⊎ (r.memory.sessions k ≡ shut a)) where
@@ -197,12 +197,12 @@ module _ (z : Shape) (me : ℕ) (v : View) (l : v.live ≡ true) (ws : List ℕ)
             holds = sym (r.depicts.holds a) ∙ (sym (r.world.counts.shown a y.1) ∙ ap r.memory.counts y.0);
             given = sym (r.depicts.given a) ∙ (sym (r.world.givens.shown a (inl y.1)) ∙ (ap r.memory.given y.0 ∙ sym (r.shows.given k low)));
           };
-          closing = λ e. absurd (omega arith);
-          free = λ e. absurd (omega arith);
+          closing = λ e. absurd (cc);
+          free = λ e. absurd (cc);
           older = older a (inl f);
           newest = newest a (inl f);
           bit_is = λ b. absurd (unfree (live a) f (λ g q. absurd (cc)) b);
-          is_bit = λ e. absurd (omega arith);
+          is_bit = λ e. absurd (cc);
         }
 
     shut_slot : (a : ArenaId) → r.memory.sessions k ≡ shut a → ShowsSlot z ws s k (shut_session a)
@@ -210,18 +210,18 @@ module _ (z : Shape) (me : ℕ) (v : View) (l : v.live ≡ true) (ws : List ℕ)
         let y = r.world.sessions.shut_is k a f in
         record {
           lives = inr (inr refl);
-          alive = λ e. absurd (omega arith);
+          alive = λ e. absurd (cc);
           closing = λ e. record {
             arena = a;
             only = only a (inr f);
             named = named a (shut_session a) y.0 refl refl refl y.1;
             life = unliving a y.1 (λ q. let u : shut a ≡ live a = sym f ∙ (ap r.memory.sessions (sym y.0) ∙ r.world.sessions.alive_shown a q) in absurd (cc));
           };
-          free = λ e. absurd (omega arith);
+          free = λ e. absurd (cc);
           older = older a (inr f);
           newest = newest a (inr f);
           bit_is = λ b. absurd (unfree (shut a) f (λ g q. absurd (cc)) b);
-          is_bit = λ e. absurd (omega arith);
+          is_bit = λ e. absurd (cc);
         }
 
     few_holds : (a : ArenaId) → r.memory.sessions k ≡ live a → r.memory.counts k ≤ 65535

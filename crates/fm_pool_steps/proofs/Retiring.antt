@@ -31,7 +31,7 @@ use Rattle.fm_pool_facts.proofs.Ruling.{keeps}
 use Rattle.fm_pool_steps.proofs.Reading.{eqb_true, eqb_false}
 use Rattle.fm_pool_steps.proofs.Closes.{in_dropped, dropped_in, once_dropped}
 use Rattle.fm_pool_steps.proofs.Sweeping.{its, its_sweep, ended_now, shut_now, mine_now, apart, fit}
-use Rattle.fm_pool_steps.proofs.Plain.{same_but, own, Made, pages_there}
+use Rattle.fm_pool_steps.proofs.Plain.{same_but, own, Made, pages_there, numbers_stay, number_stays}
 
 module _ (z : Shape) (me : ℕ) (v : View) (l : v.live ≡ true) (sh : v.shape ≡ z) (none : v.hand ≡ nothing) (idle : v.swept ≡ unread) (a : ArenaId)
     (has : visited_of v.sweeps a ≡ Some (z.reach + 1)) (ws : List ℕ) (vs : List View) (r : Rule z ws vs) (at : get_elem? vs me ≡ some v) where
@@ -96,9 +96,12 @@ module _ (z : Shape) (me : ℕ) (v : View) (l : v.live ≡ true) (sh : v.shape �
   moved_on = record {
     allowed = ok;
     marks = λ k h. refl;
-    terms = λ k. refl;
     draw = refl;
-    numbers = λ k. refl;
+    who = λ k. refl;
+    rank = λ k. refl;
+    seat = λ k. refl;
+    own = record { owner = refl; bit = refl; term = refl };
+    numbers = λ n b f. (refl, b, refl);
     closers = λ b f h. (refl, tt);
     sweepers = λ b f h n. (refl, ended_on b h (λ e. n (ap r.owners.closer e ∙ mine_now z me v l a (z.reach + 1) has ws vs r at)));
     holders = λ s g f b h. (
@@ -197,6 +200,7 @@ module _ (z : Shape) (me : ℕ) (v : View) (l : v.live ≡ true) (sh : v.shape �
         slots_on
         (pages_there me r.owners v (part_by last) (same_part last) refl refl)
         (λ b. refl)
+        (numbers_stay z ws vs r me v at l es m' o' (part_by last) moved_on (same_part last) refl (λ k. refl) (λ k. refl) (λ k. refl))
         (shows_session z r.valid ws r.memory r.shows a.slot (free next) 0 (fit z me v l a (z.reach + 1) has ws vs r at).slot)
         (world_retire z r.memory r.machine r.world a shown over
         (ap (λ (x : ArenaId). r.memory.given x.slot) (sym t.arena) ∙ mine_sweep.reset (omega arith)))
@@ -204,7 +208,7 @@ module _ (z : Shape) (me : ℕ) (v : View) (l : v.live ≡ true) (sh : v.shape �
           inside = mine.inside;
           mark = mine.mark;
           closes =
-              λ c i. closing_on (limit_of z) r.history v.caller r.memory r.machine es m' ok me r.owners o' c (mine.closes c i) refl
+              λ c i. closing_on (limit_of z) r.history v.caller r.machine es ok me r.owners o' c (mine.closes c i) refl
               tt;
           once = mine.once;
           sweeps = λ c i.
@@ -221,6 +225,7 @@ module _ (z : Shape) (me : ℕ) (v : View) (l : v.live ≡ true) (sh : v.shape �
             lone = mine.pages.lone;
             sweep = subst (HasSwept z r.memory.maps r.memory.cells r.owners.berth me (dropped a v.sweeps)) (sym idle) tt;
           };
+          number = number_stays z ws vs r me v at l es m' o' (part_by last) moved_on (same_part last) refl (λ k. refl) (λ k. refl) (λ k. refl);
         })
 
 pub retire_steps : (z : Shape) (me : ℕ) (v : View) (a : ArenaId) → v.live ≡ true → v.shape ≡ z → v.hand ≡ nothing → v.swept ≡ unread

@@ -31,7 +31,7 @@ use Rattle.fm_pool_facts.proofs.Shown.{shows_session}
 use Rattle.fm_pool_facts.proofs.Gripping.{by_hand, same_handles}
 use Rattle.fm_pool_steps.proofs.Reading.{Says, says, shut_says, alive_read, alive_one, reads_alive, eqb_true, eqb_false}
 use Rattle.fm_pool_steps.proofs.Quiet.{answers_on}
-use Rattle.fm_pool_steps.proofs.Plain.{same_but, own, known_now, Made, hand_still, sweeps_still, slots_still}
+use Rattle.fm_pool_steps.proofs.Plain.{same_but, own, known_now, Made, hand_still, sweeps_still, slots_still, numbers_stay, number_stays}
 use Rattle.fm_pool_facts.proofs.Founds.{no_draw}
 
 module _ (z : Shape) (me : ℕ) (v : View) (l : v.live ≡ true) (a : ArenaId) (known : IsKnown v a) (use_it : MayUse a v.caller) (not_global : a.kind ≢ Global)
@@ -88,9 +88,12 @@ module _ (z : Shape) (me : ℕ) (v : View) (l : v.live ≡ true) (a : ArenaId) (
       let d : Moved me z v.caller r.memory r.machine r.owners es m' o' = record {
         allowed = ok;
         marks = λ k h. refl;
-        terms = λ k. refl;
         draw = refl;
-        numbers = λ k. refl;
+        who = λ k. refl;
+        rank = λ k. refl;
+        seat = λ k. refl;
+        own = record { owner = refl; bit = refl; term = refl };
+        numbers = λ n b f. (refl, b, refl);
         closers = λ b f h. (at_other r.owners.closer a me b (other b f), ((λ h. h), tt));
         sweepers = λ b f h n. (at_other r.owners.closer a me b (ended b f), stays b f h);
         holders = λ s g f b h. (refl, still s g f, b, refl);
@@ -99,7 +102,7 @@ module _ (z : Shape) (me : ℕ) (v : View) (l : v.live ≡ true) (a : ArenaId) (
       } in
       let on : (c : Close) → In c v.closes → IsClosing (moved_by r.machine es) o' me c = (λ c j.
       let y = k.closes c j in
-      closing_on (limit_of z) r.history v.caller r.memory r.machine es m' ok me r.owners o' c y
+      closing_on (limit_of z) r.history v.caller r.machine es ok me r.owners o' c y
       (at_other r.owners.closer a me c.arena (other c.arena y.life)) ((λ h. h), tt)) in
       keeps z ws (set ws i (closing_word a)) vs r me v p es none_noted m' o' at l d same no_draw
       (tt, tt)
@@ -113,6 +116,7 @@ module _ (z : Shape) (me : ℕ) (v : View) (l : v.live ≡ true) (a : ArenaId) (
       (slots_still z me v p r.memory r.owners m' o' same refl (λ s. refl) back refl)
       (λ q j b. inr (refl, λ h. page_like q (r.owners.berth q) v p refl refl refl h))
       held
+      (numbers_stay z ws vs r me v at l es m' o' p d same refl (λ k. refl) (λ k. refl) (λ k. refl))
       (shows_session z r.valid ws r.memory r.shows a.slot (shut a) 0 fit.slot)
       (world_shut z r.memory r.machine r.world a al none)
       (record {
@@ -132,6 +136,7 @@ module _ (z : Shape) (me : ℕ) (v : View) (l : v.live ≡ true) (a : ArenaId) (
         hand = hand_still z r.memory m' r.owners.holder me still refl v.hand k.hand;
         took = k.took;
         pages = k.pages;
+        number = number_stays z ws vs r me v at l es m' o' p d same refl (λ k. refl) (λ k. refl) (λ k. refl);
       })
 
   -- the word is exchanged where it shows the arena alive with no holds

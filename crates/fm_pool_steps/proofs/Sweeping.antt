@@ -24,7 +24,7 @@ use Rattle.fm_pool_facts.proofs.Retiring.{ended_fits}
 use Rattle.fm_pool_facts.proofs.Keeping.{closing_on}
 use Rattle.fm_pool_facts.proofs.Ruling.{PagesAfter, keeps}
 use Rattle.fm_pool_steps.proofs.Closes.{Found, visited_of-found, count_of, in_visited, visited_in}
-use Rattle.fm_pool_steps.proofs.Plain.{same_but, own, Made}
+use Rattle.fm_pool_steps.proofs.Plain.{same_but, own, Made, numbers_stay, number_stays}
 
 -- where the sweep of the arena has come so far
 module _ (z : Shape) (me : ℕ) (v : View) (l : v.live ≡ true) (a : ArenaId) (k : ℕ) (has : visited_of v.sweeps a ≡ Some k)
@@ -72,11 +72,11 @@ module _ (z : Shape) (me : ℕ) (v : View) (l : v.live ≡ true) (a : ArenaId) (
   next_here = record { close = its.close; there = its.there; arena = its.arena; visited = its.visited }
 
   -- what is changed of the memory
-  abbrev pub memory_of : (bits : ℕ) (maps : ℕ → ℕ → Option ℕ) (cells : ℕ → ℕ → ℕ) (given : ℕ → ℕ) → Memory
+  abbrev pub memory_of : (bits : ℕ → ℕ) (maps : ℕ → ℕ → Option ℕ) (cells : ℕ → ℕ → ℕ) (given : ℕ → ℕ) → Memory
   memory_of bits maps cells given = record r.memory { page_bits = bits; maps = maps; cells = cells; given = given }
 
   -- what a step of the sweep does, and what the view has of its sweeps then
-  pub record Sweeping (i x bits : ℕ) (maps : ℕ → ℕ → Option ℕ) (cells : ℕ → ℕ → ℕ) (given : ℕ → ℕ) (berth : ℕ → Berth) (cs : List Close) (s : Swept)
+  pub record Sweeping (i x : ℕ) (bits : ℕ → ℕ) (maps : ℕ → ℕ → Option ℕ) (cells : ℕ → ℕ → ℕ) (given : ℕ → ℕ) (berth : ℕ → Berth) (cs : List Close) (s : Swept)
       (es : List Entry) : Type 0 where
     pub may : MayMake (limit_of z) r.machine v.caller es
     pub ends : (b : ArenaId) → NoEnd es b
@@ -96,7 +96,7 @@ module _ (z : Shape) (me : ℕ) (v : View) (l : v.live ≡ true) (a : ArenaId) (
     pub of_page : HasSwept z maps cells berth me cs s
 
   -- such a step keeps the rule
-  pub sweep_on : (i x bits : ℕ) (maps : ℕ → ℕ → Option ℕ) (cells : ℕ → ℕ → ℕ) (given : ℕ → ℕ) (berth : ℕ → Berth) (cs : List Close) (s : Swept)
+  pub sweep_on : (i x : ℕ) (bits : ℕ → ℕ) (maps : ℕ → ℕ → Option ℕ) (cells : ℕ → ℕ → ℕ) (given : ℕ → ℕ) (berth : ℕ → Berth) (cs : List Close) (s : Swept)
       (es : List Entry)
       → Sweeping i x bits maps cells given berth cs s es → Made z ws vs me v i x (record v { sweeps = cs; swept = s }) es none_noted
   sweep_on i x bits maps cells given berth cs s es q =
@@ -106,9 +106,12 @@ module _ (z : Shape) (me : ℕ) (v : View) (l : v.live ≡ true) (a : ArenaId) (
       let d : Moved me z v.caller r.memory r.machine r.owners es m' o' = record {
         allowed = q.may;
         marks = λ k h. refl;
-        terms = λ k. refl;
         draw = refl;
-        numbers = λ k. refl;
+        who = λ k. refl;
+        rank = λ k. refl;
+        seat = λ k. refl;
+        own = record { owner = refl; bit = refl; term = refl };
+        numbers = λ n b f. (refl, b, refl);
         closers = λ b f h. (refl, q.ends b);
         sweepers = λ b f h n.
             let far = apart b h (not_mine b n) in (refl, record { session = h; maps = q.same_maps b.slot far; given = q.same_given b.slot far });
@@ -131,13 +134,14 @@ module _ (z : Shape) (me : ℕ) (v : View) (l : v.live ≡ true) (a : ArenaId) (
       (λ k g low f left b. inr (f, b, refl, (λ y. y)))
       q.keep
       (λ b. ap (λ (t : Machine). holds_of b v + all_holds b t) (sym q.stays))
+      (numbers_stay z ws vs r me v at l es m' o' p d same_but refl (λ k. refl) (λ k. refl) (λ k. refl))
       q.shows
       (subst (World z m') (sym q.stays) q.world)
       (record {
         inside = ap (λ (t : Machine). t.inside v.caller) q.stays ∙ mine.inside;
         mark = mine.mark;
         closes = λ c j.
-            closing_on (limit_of z) r.history v.caller r.memory r.machine es m' q.may me r.owners o' c (mine.closes c j) refl (q.ends c.arena);
+            closing_on (limit_of z) r.history v.caller r.machine es q.may me r.owners o' c (mine.closes c j) refl (q.ends c.arena);
         once = mine.once;
         sweeps = λ c j. subst (λ (t : Machine). IsSweeping z m' t o' me c) (sym q.stays) (q.sweeps c j);
         swept_once = q.once;
@@ -149,13 +153,14 @@ module _ (z : Shape) (me : ℕ) (v : View) (l : v.live ≡ true) (a : ArenaId) (
           lone = mine.pages.lone;
           sweep = q.of_page;
         };
+        number = number_stays z ws vs r me v at l es m' o' p d same_but refl (λ k. refl) (λ k. refl) (λ k. refl);
       })
     where
       inside_apart : (b : ArenaId) → r.machine.inside v.caller ≡ Some b → b.slot ≢ a.slot
       inside_apart b e = ended_apart z r.memory.sessions r.machine.life r.world.sessions a b shut_now ended_now (r.world.marked v.caller b e).stands
 
   -- the same sweeps, where parts that had no page have none
-  pub sweeps_kept : (bits : ℕ) (maps : ℕ → ℕ → Option ℕ) (cells : ℕ → ℕ → ℕ) (berth : ℕ → Berth)
+  pub sweeps_kept : (bits : ℕ → ℕ) (maps : ℕ → ℕ → Option ℕ) (cells : ℕ → ℕ → ℕ) (berth : ℕ → Berth)
       → ((b n : ℕ) → r.memory.maps b n ≡ None → maps b n ≡ None) → (c : Close) → In c v.sweeps
       → IsSweeping z (memory_of bits maps cells r.memory.given) r.machine (record r.owners { berth = berth }) me c
   sweeps_kept bits maps cells berth none c j =
@@ -170,7 +175,7 @@ module _ (z : Shape) (me : ℕ) (v : View) (l : v.live ≡ true) (a : ArenaId) (
       }
 
   -- the sweep has one part more behind it, which has no page
-  pub sweeps_more : (bits : ℕ) (maps : ℕ → ℕ → Option ℕ) (cells : ℕ → ℕ → ℕ) (berth : ℕ → Berth)
+  pub sweeps_more : (bits : ℕ → ℕ) (maps : ℕ → ℕ → Option ℕ) (cells : ℕ → ℕ → ℕ) (berth : ℕ → Berth)
       → ((b n : ℕ) → r.memory.maps b n ≡ None → maps b n ≡ None) → maps a.slot k ≡ None → k < z.reach → (c : Close) → In c (visited a v.sweeps)
       → IsSweeping z (memory_of bits maps cells r.memory.given) r.machine (record r.owners { berth = berth }) me c
   sweeps_more bits maps cells berth none here low c j = let w = in_visited a c v.sweeps mine.swept_once j in onward w.before w.there w.how

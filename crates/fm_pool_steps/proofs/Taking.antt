@@ -22,15 +22,15 @@ use Rattle.fm_pool_facts.specs.Views.{View, In}
 use Rattle.fm_pool_facts.specs.Steps.{part, entries, noted, none_noted, note_of}
 use Rattle.fm_pool_facts.specs.Facts.{Memory, Session, free, session_code, Owners, HasInHand, KeepsSlot, Owns, Rule}
 use Rattle.fm_pool_facts.specs.Moves.{Moved, Same, KeepsSlots, LearnsSlots, MayStep}
-use Rattle.fm_pool_facts.proofs.Founds.{no_draw, note_none_drawn}
+use Rattle.fm_pool_facts.proofs.Founds.{no_draw, note_none_drawn, note_no_number}
 use Rattle.fm_pool_facts.specs.Words.{kept, free_word}
 use Rattle.fm_pool_facts.proofs.Worlds.{world_bits}
 use Rattle.fm_pool_facts.proofs.Shown.{shows_same, shows_bits}
-use Rattle.fm_pool_facts.proofs.Ruling.{page_like, keeps, keeps_with}
+use Rattle.fm_pool_facts.proofs.Ruling.{AreLooked, unlooked, page_like, keeps, keeps_with}
 use Rattle.fm_pool_steps.proofs.Reading.{eqb_true, eqb_false}
 use Rattle.fm_pool_steps.proofs.Telling.{some_bit, idle, busy, none_left}
 use Rattle.fm_pool_steps.proofs.Quiet.{quiet}
-use Rattle.fm_pool_steps.proofs.Plain.{same_but, stays_ended, pages_still, own, Made, sweeps_still}
+use Rattle.fm_pool_steps.proofs.Plain.{same_but, stays_ended, pages_still, own, Made, sweeps_still, numbers_stay, number_stays}
 
 module _ (z : Shape) (me : ℕ) (v : View) (l : v.live ≡ true) (ws : List ℕ) (vs : List View) (r : Rule z ws vs) (at : get_elem? vs me ≡ some v) where
   abbrev mine : Owns z r.history r.memory r.machine r.owners me v
@@ -60,9 +60,12 @@ module _ (z : Shape) (me : ℕ) (v : View) (l : v.live ≡ true) (ws : List ℕ)
       page = λ j. absurd (let n : false ≡ true = ap (λ (g : Find). is_page g.step) (sym q) ∙ j in cc);
     }
 
+    looks : AreLooked r v fs
+    looks = unlooked r v fs (note_no_number (Taking e bit) found v refl)
+
     -- nothing is taken
     stays : Made z ws vs me v i found v [] fs
-    stays = quiet z ws vs r me v at l i [] fs (note_none_drawn (Taking e bit) found v refl) new tt (λ b. tt) tt refl refl
+    stays = quiet z ws vs r me v at l i [] fs (note_none_drawn (Taking e bit) found v refl) new looks tt (λ b. tt) tt refl refl
 
     -- the slot is in the hand
     takes_it : r.memory.bits ≡ e → bit_at e bit ≡ 1 → Made z ws vs me v i next (record v { hand = taken bit }) [] fs
@@ -78,9 +81,12 @@ module _ (z : Shape) (me : ℕ) (v : View) (l : v.live ≡ true) (ws : List ℕ)
         let d : Moved me z v.caller r.memory r.machine r.owners [] m' o' = record {
           allowed = tt;
           marks = λ k h. refl;
-          terms = λ k. refl;
           draw = refl;
-          numbers = λ k. refl;
+          who = λ k. refl;
+          rank = λ k. refl;
+          seat = λ k. refl;
+          own = record { owner = refl; bit = refl; term = refl };
+          numbers = λ n b f. (refl, b, refl);
           closers = λ b q h. (refl, tt);
           sweepers = λ b q h n. (refl, record { session = h; maps = λ i. refl; given = refl });
           holders = λ s g q b h. (
@@ -106,12 +112,13 @@ module _ (z : Shape) (me : ℕ) (v : View) (l : v.live ≡ true) (ws : List ℕ)
           put_else r.owners.holder bit me s n,
           (λ (y : KeepsSlot s v). absurd (subst (HasSlot s) none y.1)),
         ))) in
-        keeps_with z ws (set ws i next) vs r me v p [] fs m' o' at l d same (note_none_drawn (Taking e bit) found v refl) new tt r.pages
+        keeps_with z ws (set ws i next) vs r me v p [] fs m' o' at l d same (note_none_drawn (Taking e bit) found v refl) new looks tt r.pages
         (λ b h. inr (h, refl, (λ y. y)))
         (sweeps_still me v p r.memory r.machine r.owners m' r.machine o' same refl (λ b q. refl) (λ b q h. (q, h)))
         slots
         (λ q j b. inr (refl, λ h. page_like q (r.owners.berth q) v p refl refl refl h))
         (λ b. refl)
+        (numbers_stay z ws vs r me v at l [] m' o' p d same refl (λ k. refl) (λ k. refl) (λ k. refl))
         (shows_bits z r.valid ws r.memory r.shows next)
         (world_bits z r.memory r.machine r.world next (λ s b. dite (ℕ_discrete s bit)
         (λ c. absurd (let y = without.zero in let q : bit_at next bit ≡ 1 = ap (bit_at next) (sym c) ∙ b in omega arith))
@@ -126,6 +133,7 @@ module _ (z : Shape) (me : ℕ) (v : View) (l : v.live ≡ true) (ws : List ℕ)
           hand = (f.0, record { owner = put_here r.owners.holder bit me; slot = low; bit = without.zero; session = f.1; left = f.2 });
           took = put_here r.owners.taker bit (Some v.caller);
           pages = mine.pages;
+          number = number_stays z ws vs r me v at l [] m' o' p d same refl (λ k. refl) (λ k. refl) (λ k. refl);
         })
 
     taking : (b c : Bool) → (found == e) ≡ b → (bit_at e bit == 1) ≡ c
@@ -167,9 +175,12 @@ module _ (z : Shape) (me : ℕ) (v : View) (l : v.live ≡ true) (ws : List ℕ)
       let d : Moved me z v.caller r.memory r.machine r.owners [] r.memory r.owners = record {
         allowed = tt;
         marks = λ k h. refl;
-        terms = λ k. refl;
         draw = refl;
-        numbers = λ k. refl;
+        who = λ k. refl;
+        rank = λ k. refl;
+        seat = λ k. refl;
+        own = record { owner = refl; bit = refl; term = refl };
+        numbers = λ n b f. (refl, b, refl);
         closers = λ b q h. (refl, tt);
         sweepers = λ b q h n. (refl, stays_ended r.memory b h);
         holders = λ s g q b h. (refl, q, b, refl);
@@ -182,6 +193,7 @@ module _ (z : Shape) (me : ℕ) (v : View) (l : v.live ≡ true) (ws : List ℕ)
       (λ k g h q left b. inr (q, b, refl, (λ (y : KeepsSlot k v). (y.0, subst (HasSlot k) in_hand y.1))))
       (λ q j b. inr (refl, λ h. page_like q (r.owners.berth q) v p refl refl refl h))
       (λ b. refl)
+      (numbers_stay z ws vs r me v at l [] r.memory r.owners p d same_but refl (λ k. refl) (λ k. refl) (λ k. refl))
       (shows_same z r.valid ws r.memory r.shows i) r.world
       (record {
         inside = mine.inside;
@@ -199,6 +211,7 @@ module _ (z : Shape) (me : ℕ) (v : View) (l : v.live ≡ true) (ws : List ℕ)
         };
         took = subst (IsTaker r.owners.taker v.caller) in_hand mine.took;
         pages = mine.pages;
+        number = number_stays z ws vs r me v at l [] r.memory r.owners p d same_but refl (λ k. refl) (λ k. refl) (λ k. refl);
       })
 
 pub take_steps : (z : Shape) (me : ℕ) (v : View) (e bit next : ℕ) → v.live ≡ true → v.shape ≡ z → v.hand ≡ nothing → bit < z.slots → IsWithout e bit next

@@ -148,7 +148,7 @@ module _ (z : Shape) (me : ℕ) (v : View) (l : v.live ≡ true) (ws : List ℕ)
       let y = r.slots s 0 low f left b in
       let x = (r.each (r.owners.holder s) y.view y.there).owns y.holds.0 in
       let other : y.view.caller ≢ v.caller = (λ e.
-      let seat : r.owners.holder s ≡ me = sym x.seated ∙ (ap (λ (c : Caller). r.owners.number c.number) e ∙ mine.seated) in
+      let seat : r.owners.holder s ≡ me = sym x.seated ∙ (ap r.owners.seat e ∙ mine.seated) in
       let same : y.view ≡ v = some-injective y.view v (sym y.there ∙ (ap (get_elem? vs) seat ∙ at)) in
       subst (HasSlot s) (ap (λ (u : View). u.hand) same ∙ none) y.holds.1) in
       let t = takes y.view.hand y.holds.1 x.hand x.took in

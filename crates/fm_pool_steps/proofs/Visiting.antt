@@ -14,7 +14,7 @@ use Rattle.fm_depicts.specs.Functions.{Closes, Over, put_at}
 use Rattle.fm_depicts.specs.Steps.{moved_by}
 use Rattle.fm_depicts.proofs.Putting.{at_here, at_other, at_cases}
 use Rattle.fm_pool_facts.specs.declared.step.Step.TheVariants.{Visits}
-use Rattle.fm_pool_facts.specs.Views.{View, In, limit_of, pass_of}
+use Rattle.fm_pool_facts.specs.Views.{View, In, limit_of}
 use Rattle.fm_pool_facts.specs.Words.{mark_of, own_word}
 use Rattle.fm_pool_facts.specs.Closes.{close_of, visited_of, visited, dropped, one_more, visit_by, closes_after, sweeps_after, visit_entries}
 use Rattle.fm_pool_facts.specs.Steps.{part, entries, noted, note_of}
@@ -27,7 +27,7 @@ use Rattle.fm_pool_facts.specs.Loans.{lent}
 use Rattle.fm_pool_facts.specs.Parts.{Swept, unread, named, wiping}
 use Rattle.fm_pool_facts.proofs.Living.{pages_end}
 use Rattle.fm_pool_steps.proofs.Quiet.{looks_with}
-use Rattle.fm_pool_steps.proofs.Plain.{pages_still, pages_there, same_but, stays_ended, own, Made, sweeps_still, slots_still}
+use Rattle.fm_pool_steps.proofs.Plain.{pages_still, pages_there, same_but, stays_ended, own, Made, sweeps_still, slots_still, numbers_stay, number_stays}
 use Rattle.fm_pool_facts.proofs.Shown.{shows_same}
 use Rattle.fm_pool_facts.proofs.Ruling.{keeps}
 use Rattle.fm_pool_facts.specs.Holds.{one_alive}
@@ -60,10 +60,10 @@ module _ (z : Shape) (me : ℕ) (v : View) (l : v.live ≡ true) (sh : v.shape �
   found = get_or ws i 0
 
   abbrev fs : ℕ → List Find
-  fs = note_of (Visiting a (pass_of k)) found v
+  fs = note_of (Visiting a k) found v
 
   no_draws : NoDraw fs
-  no_draws = note_no_draw (Visiting a (pass_of k)) found v refl refl refl
+  no_draws = note_no_draw (Visiting a k) found v refl refl refl refl
 
   abbrev mine : Owns z r.history r.memory r.machine r.owners me v
   mine = own z ws vs r me v at l
@@ -97,9 +97,12 @@ module _ (z : Shape) (me : ℕ) (v : View) (l : v.live ≡ true) (sh : v.shape �
       let d : Moved me z v.caller r.memory r.machine r.owners [] r.memory r.owners = record {
         allowed = tt;
         marks = λ k h. refl;
-        terms = λ k. refl;
         draw = refl;
-        numbers = λ k. refl;
+        who = λ k. refl;
+        rank = λ k. refl;
+        seat = λ k. refl;
+        own = record { owner = refl; bit = refl; term = refl };
+        numbers = λ n b f. (refl, b, refl);
         closers = λ b f h. (refl, tt);
         sweepers = λ b f h n. (refl, stays_ended r.memory b h);
         holders = λ s g f b h. (refl, f, b, refl);
@@ -113,6 +116,7 @@ module _ (z : Shape) (me : ℕ) (v : View) (l : v.live ≡ true) (sh : v.shape �
       (slots_still z me v p r.memory r.owners r.memory r.owners same refl (λ s. refl) (λ s g f. f) refl)
       (pages_there me r.owners v p same refl refl)
       (λ b. refl)
+      (numbers_stay z ws vs r me v at l [] r.memory r.owners p d same refl (λ k. refl) (λ k. refl) (λ k. refl))
       (shows_same z r.valid ws r.memory r.shows i) r.world
       (record {
         inside = mine.inside;
@@ -124,6 +128,7 @@ module _ (z : Shape) (me : ℕ) (v : View) (l : v.live ≡ true) (sh : v.shape �
         hand = mine.hand;
         took = mine.took;
         pages = mine.pages;
+        number = number_stays z ws vs r me v at l [] r.memory r.owners p d same refl (λ k. refl) (λ k. refl) (λ k. refl);
       })
     where
       -- the close of an arena is the one that was found
@@ -157,9 +162,12 @@ module _ (z : Shape) (me : ℕ) (v : View) (l : v.live ≡ true) (sh : v.shape �
       let d : Moved me z v.caller r.memory r.machine r.owners es r.memory r.owners = record {
         allowed = ok;
         marks = λ k h. refl;
-        terms = λ k. refl;
         draw = refl;
-        numbers = λ k. refl;
+        who = λ k. refl;
+        rank = λ k. refl;
+        seat = λ k. refl;
+        own = record { owner = refl; bit = refl; term = refl };
+        numbers = λ n b f. (refl, b, refl);
         closers = λ b f h. (refl, ((λ e. h (ap r.owners.closer (sym e ∙ sym its.arena) ∙ its_closing.owner)), tt));
         sweepers = λ b f h n. (refl, stays_ended r.memory b h);
         holders = λ s g f b h. (refl, f, b, refl);
@@ -186,13 +194,14 @@ module _ (z : Shape) (me : ℕ) (v : View) (l : v.live ≡ true) (sh : v.shape �
       (slots_still z me v p r.memory r.owners r.memory r.owners same refl (λ s. refl) (λ s g f. f) refl)
       (pages_there me r.owners v p same refl refl)
       (same_handles v l r.machine a Over (λ k. sym (ap one_alive closes_now)))
+      (numbers_stay z ws vs r me v at l es r.memory r.owners p d same refl (λ k. refl) (λ k. refl) (λ k. refl))
       (shows_same z r.valid ws r.memory r.shows i) (world_end z r.memory r.machine r.world a closes_now nobody)
       (record {
         inside = mine.inside;
         mark = mine.mark;
         closes = λ c j.
             let y = in_dropped a c v.closes mine.once j in
-            closing_on (limit_of z) r.history v.caller r.memory r.machine es r.memory ok me r.owners r.owners c (mine.closes c y.0) refl
+            closing_on (limit_of z) r.history v.caller r.machine es ok me r.owners r.owners c (mine.closes c y.0) refl
             ((λ e. y.1 (sym e)), tt);
         once = once_dropped a v.closes mine.once;
         sweeps = λ c. ⊎_elim
@@ -222,6 +231,7 @@ module _ (z : Shape) (me : ℕ) (v : View) (l : v.live ≡ true) (sh : v.shape �
           lone = mine.pages.lone;
           sweep = more_swept z r.memory.maps r.memory.cells r.owners.berth me (close_of a 0) v.sweeps v.swept mine.pages.sweep;
         };
+        number = number_stays z ws vs r me v at l es r.memory r.owners p d same refl (λ k. refl) (λ k. refl) (λ k. refl);
       })
 
   visits : (b c : Bool) → (found == mark_of a) ≡ b → (k + 1 == v.shape.passes) ≡ c

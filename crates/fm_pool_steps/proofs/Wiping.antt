@@ -2,12 +2,10 @@
 use Rattle.std.proofs.Common.{◌≡◌, ◌≢◌, ◌⊎◌, ℕ, ◌+◌, ◌-◌, ◌*◌, ◌/◌, ◌%◌, ◌^◌, ◌<◌, ◌≤◌, ◌==◌, Bool, true, false, if◌then◌else◌, List, [], ◌∷◌, get_or, bit_or, sym, refl, ap, ◌∙◌, subst, arith, inl, inr, Option, Some, None}
 use mathlib.Core.Option.{some}
 use lib.ListN.{get_elem?}
-use Rattle.std.specs.Int.{bit_at}
 use Rattle.std.proofs.lemmas.Bool.{cases_lt}
 use Rattle.std.proofs.lemmas.Nat.{div-mul-add, mod-mul-add}
-use Rattle.std.proofs.lemmas.Nat.Bits.{bit_at-lt, bit_at_or, bit_at-pow_same, bit_at-pow_other}
 use Rattle.fm_words.specs.declared.shape.Shape.{Shape}
-use Rattle.fm_words.specs.Places.{at as place_at, page_bits as bits_place, map, page_word}
+use Rattle.fm_words.specs.Places.{at as place_at, page_bits as bits_place, page_groups, map, page_word}
 use Rattle.fm_base.specs.declared.arena_id.ArenaId.{ArenaId}
 use Rattle.fm_base.specs.Calls.{Back, Fine, entry_of}
 use Rattle.fm_depicts.specs.Functions.{Over, put}
@@ -27,6 +25,7 @@ use Rattle.fm_pool_facts.proofs.Moving.{pages_unmap}
 use Rattle.fm_pool_facts.proofs.Living.{pages_wipe}
 use Rattle.fm_pool_facts.proofs.Returning.{pages_back}
 use Rattle.fm_pool_facts.proofs.Shown.{shows_same, shows_map, shows_cell, shows_page_bits}
+use Rattle.fm_pool_facts.proofs.Groups.{set_here, set_else, page_group}
 use Rattle.fm_pool_steps.proofs.Closes.{once_visited}
 use Rattle.fm_pool_steps.proofs.Reading.{eqb_true, eqb_false, none_read, page_read, page_back}
 use Rattle.fm_pool_steps.proofs.Plain.{own, given_over, Made}
@@ -232,21 +231,19 @@ module _ (z : Shape) (me : ℕ) (v : View) (l : v.live ≡ true) (a : ArenaId) (
 
       -- it is given back, and its loan is taken back
       returns : AreAllGiven v a k w → IsOver v a
-          → Made z ws vs me v (place_at z bits_place) (bit_or (get_or ws (place_at z bits_place) 0) (2 ^ p))
+          → Made z ws vs me v (place_at z (bits_place (p / 64))) (bit_or (get_or ws (place_at z (bits_place (p / 64))) 0) (2 ^ (p % 64)))
           (record v { sweeps = visited a v.sweeps; swept = unread })
           (entry_of v.caller (Back p) Fine ∷ []) none_noted
       returns all over =
-          let i : ℕ = place_at z bits_place in
-          let word : ℕ = bit_or (get_or ws i 0) (2 ^ p) in
-          let is_one : bit_at word p ≡ 1 =
-          (let x = bit_at_or (get_or ws i 0) (2 ^ p) p in let y = bit_at-pow_same p in let c = bit_at-lt (get_or ws i 0) p in omega arith) in
-          let others : (n : ℕ) → n ≢ p → bit_at word n ≡ bit_at r.memory.page_bits n = (λ n ne.
-          let x = bit_at_or (get_or ws i 0) (2 ^ p) n in
-          let y = bit_at-pow_other p n ne in
-          let c : bit_at (get_or ws i 0) n ≡ bit_at r.memory.page_bits n = ap (λ (x : ℕ). bit_at x n) r.shows.page_bits in omega arith) in
+          let i : ℕ = place_at z (bits_place (p / 64)) in
+          let found : ℕ = get_or ws i 0 in
+          let word : ℕ = bit_or found (2 ^ (p % 64)) in
+          let group : p / 64 < page_groups z = page_group z p (r.pages.unmapped_is p me k a held.owner).page in
+          let is : found ≡ r.memory.page_bits (p / 64) = r.shows.page_bits (p / 64) group in
+          let bits' : ℕ → ℕ = put r.memory.page_bits (p / 64) word in
           let berth' : ℕ → Berth = put r.owners.berth p loose in
           let p' : View = record v { sweeps = visited a v.sweeps; swept = unread } in
-          sweep_on z me v l a k has ws vs r at i word word r.memory.maps r.memory.cells r.memory.given berth' (visited a v.sweeps) unread
+          sweep_on z me v l a k has ws vs r at i word bits' r.memory.maps r.memory.cells r.memory.given berth' (visited a v.sweeps) unread
           (entry_of v.caller (Back p) Fine ∷ []) (record {
             may = (refl, tt, refl, tt);
             ends = λ b. ((λ h. h), tt);
@@ -258,16 +255,17 @@ module _ (z : Shape) (me : ℕ) (v : View) (l : v.live ≡ true) (a : ArenaId) (
                 (λ n. absurd (let u : unmapped me a k ≡ claimed me = sym held.owner ∙ (ap r.owners.berth (sym n) ∙ e) in cc)) ∙ e;
             lends = ((a, k, (r.pages.unmapped_is p me k a held.owner).lent, is_over), tt);
             pages = pages_back z (lent r.history) r.memory.page_bits r.memory.maps r.memory.cells r.owners.berth r.memory.sessions r.machine.life r.machine.word
-                r.machine.given r.world.sessions r.pages word p is_one others me k a held.owner (is_blank all over);
+                r.machine.given r.world.sessions r.pages bits' p (set_here r.memory.page_bits p found is) (set_else r.memory.page_bits p found is) me k a held.owner
+                (is_blank all over);
             there = visits z me v l a k has ws vs r at;
             keep = λ q j. put_cases r.owners.berth p loose q
                 (λ (c : Berth). IsAt j c → ((j ≡ me) × HasPage q c p')
                 ⊎ ((c ≡ r.owners.berth q) × (HasPage q (r.owners.berth q) v → HasPage q (r.owners.berth q) p')))
                 (λ n b. absurd b)
                 (λ n b. inr (refl, gone q n (r.owners.berth q)));
-            shows = shows_page_bits z r.valid ws r.memory r.shows word;
-            world = world_pages z r.memory r.machine r.world word r.memory.maps r.memory.cells;
-            sweeps = sweeps_more z me v l a k has ws vs r at word r.memory.maps r.memory.cells berth' (λ b n h. h) held.empty low;
+            shows = shows_page_bits z r.valid ws r.memory r.shows (p / 64) word group;
+            world = world_pages z r.memory r.machine r.world bits' r.memory.maps r.memory.cells;
+            sweeps = sweeps_more z me v l a k has ws vs r at bits' r.memory.maps r.memory.cells berth' (λ b n h. h) held.empty low;
             once = once_visited a v.sweeps mine.swept_once;
             of_page = tt;
           })
@@ -304,7 +302,7 @@ module _ (z : Shape) (me : ℕ) (v : View) (a : ArenaId) (i : ℕ) (l : v.live �
 
   -- where the words with a given byte are wiped, the page is given back
   pub return_steps : (p w : ℕ) → i < z.reach → v.swept ≡ wiping a i p w → AreAllGiven v a i w → IsOver v a
-      → MayStep z (ReturnsPage a p) me v (place_at z bits_place) (λ n. bit_or n (2 ^ p))
+      → MayStep z (ReturnsPage a p) me v (place_at z (bits_place (p / 64))) (λ n. bit_or n (2 ^ (p % 64)))
   unfolding part entries noted
   return_steps p w low is all over =
       record { may = λ ws vs r at. let g = returns z me v l a i has ws vs r at low p w is all over in (g.0, g.1, record { gives = g.2; learns = tt }) }

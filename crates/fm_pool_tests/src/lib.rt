@@ -8,6 +8,8 @@ mod closes;
 #[cfg(test)]
 mod gates;
 #[cfg(test)]
+mod numbers;
+#[cfg(test)]
 mod pages;
 #[cfg(test)]
 mod pools;

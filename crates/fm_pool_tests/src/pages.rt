@@ -1,5 +1,5 @@
 //! Pages, which an arena gets one by one as it allocates, and gives back as it ends.
-ghost use Rattle.std.specs.Prelude.{◌≡◌, ◌<◌, None};
+ghost use Rattle.std.specs.Prelude.{◌≡◌, ◌<◌, ◌≤◌, None};
 ghost use Rattle.fm_base.specs.Learnt.{CanVisit};
 ghost use Rattle.fm_calls.specs.Told.{view_of_pass};
 ghost use Rattle.fm_segment.specs.Access.{IsKnown};
@@ -169,7 +169,7 @@ fn all_and_more<R: Abort + AllocGlobal + Wait>(
     pages: u32,
 ) -> (Result<u64, Refusal>, Result<u64, Refusal>)
     requires some { 0 < pages }
-    requires few { pages < 65 }
+    requires few { pages ≤ 4096 }
 {
     let (pool, pass) = paged(rt, 2, pages, 1, 1);
     let mut m = Shared::new(&pool, pass);
@@ -181,7 +181,8 @@ fn all_and_more<R: Abort + AllocGlobal + Wait>(
 
 #[test]
 fn a_pool_has_as_many_pages_as_it_was_made_with(rt: HostRuntime) {
-    for pages in 1..65 {
+    for pages in 1..131 {
         assert_eq!(rt; all_and_more(&rt, pages), (Ok(0), Err(Refusal::PoolFull)));
     }
+    assert_eq!(rt; all_and_more(&rt, 4_096), (Ok(0), Err(Refusal::PoolFull)));
 }

@@ -30,6 +30,7 @@ pub(crate) fn pool_of<R: Abort + AllocGlobal>(
     requires few_words { page_words ≤ 8192 }
     requires some_generations { 0 < generations }
     ensures ready { CanShare result.0 result.1 }
+    ensures nothing { HasNothing result.1 }
     ensures wide { span result.0.shape ≡ page_words }
     ensures passes { result.0.shape.passes ≡ passes }
 {
@@ -55,9 +56,9 @@ pub(crate) fn paged<R: Abort + AllocGlobal>(
     requires some_slots { 0 < slots }
     requires few_slots { slots < 65 }
     requires some_pages { 0 < pages }
-    requires few_pages { pages < 65 }
+    requires few_pages { pages ≤ 4096 }
     requires some_words { 0 < page_words }
-    requires few_words { page_words ≤ 8192 }
+    requires few_words { page_words ≤ 4096 }
     requires some_generations { 0 < generations }
     ensures { CanShare result.0 result.1 }
 {
@@ -121,10 +122,11 @@ pub(crate) fn drawn<R: Abort + Wait>(rt: &R, pool: &Pool, giver: &mut Pass) -> P
     pool.draw(rt, giver).expect(rt, "a number")
 }
 
-/// Whether the pass has every number.
+/// Whether the pass has every caller that was drawn.
 pub(crate) fn is_whole(pool: &Pool, pass: &mut Pass) -> bool
     requires outside { IsOutside pool.now pass.old }
     ensures outside { IsOutside pool.now pass.new }
+    ensures lasts { Lasts pass.old pass.new }
 {
     a_crew_stands();
     pool.whole(pass)

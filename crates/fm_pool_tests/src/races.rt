@@ -2,9 +2,10 @@
 //! word again never ends. Handles of an automatic arena are one pass's alone, so nobody races for their word.
 ghost use Rattle.std.specs.Prelude.{◌≤◌};
 ghost use Rattle.fm_pool_facts.specs.Views.{IsKnown, given_of};
+ghost use Rattle.fm_gate.specs.Crews.{HasNothing};
 ghost use Rattle.fm_gate.specs.Standing.{CanAllocate, CanVisit, IsInside, IsOutside};
 
-use crate::pools::{drawn, given, paged, pool_of, word_of};
+use crate::pools::{drawn, given, is_whole, paged, pool_of, takes_in, word_of};
 use fm_base::{ArenaId, Kind, Refusal};
 use fm_close::close;
 use fm_gate::{a_crew_stands, allocate, enter, leave, open_arena, patch};
@@ -108,19 +109,20 @@ fn two_passes_want_pages_at_once(rt: HostRuntime) {
     }
 }
 
-/// What a close is answered while another pass gives words of the arena. Another arena has all pages then.
+/// What a close is answered while another pass gives words of the arena. Another arena has all pages then, whose bits stand
+/// in two words.
 fn closed_amid_giving<R: Abort + AllocGlobal + Threads + Wait + Sync>(
     rt: &R,
 ) -> Result<(), Refusal> {
-    let (pool, mut pass) = paged(rt, 2, 64, 1, 1);
+    let (pool, mut pass) = paged(rt, 2, 100, 1, 1);
     let a = open_arena(rt, &pool, &mut pass, Kind::Shared).expect(rt, "a slot");
     let mut other = drawn(rt, &pool, &mut pass);
     let (closed, _) = join_mut(
         rt,
         &mut || close(rt, &pool, &mut pass, a),
-        &mut || give_often(rt, &pool, &mut other, a, 8, 64),
+        &mut || give_often(rt, &pool, &mut other, a, 8, 100),
     );
-    given(rt, &pool, &mut other, Kind::Shared, 512);
+    given(rt, &pool, &mut other, Kind::Shared, 800);
     closed
 }
 
@@ -225,6 +227,55 @@ fn two_passes_draw_at_once(rt: HostRuntime) {
         &mut || draw_often(&rt, &pool, &mut other, &second, &first),
     );
     assert_eq!(rt; both, (2_000, 2_000));
+}
+
+/// Draws 2,000 passes once the other came, each of which it gathers before the next.
+fn renew_often<R: Abort + Wait>(
+    rt: &R,
+    pool: &Pool,
+    pass: &mut Pass,
+    mine: &AtomicBool,
+    other: &AtomicBool,
+)
+    requires outside { IsOutside pool.now pass.old }
+    requires nothing { HasNothing pass.old }
+    ensures outside { IsOutside pool.now pass.new }
+    ensures nothing { HasNothing pass.new }
+{
+    meet(mine, other);
+    for _ in 0..2_000 {
+        let next = drawn(rt, pool, pass);
+        takes_in(pool, pass, next);
+    }
+}
+
+/// The term of number 1, which is drawn once more, and of the other two together.
+fn terms_of_three<R: Abort + Wait>(rt: &R, pool: &Pool, pass: &mut Pass) -> [u32; 2]
+    requires { IsOutside pool.now pass.old }
+{
+    let one = drawn(rt, pool, pass);
+    let two = drawn(rt, pool, pass);
+    let three = drawn(rt, pool, pass);
+    [one.term(), two.term().wrapping_add(three.term())]
+}
+
+/// Two numbers are left for both, so each finds one at any time. Each number that came back is of its next term, so the
+/// terms that come next count all draws, and no draw is lost.
+#[test]
+fn two_passes_draw_and_gather_at_once(rt: HostRuntime) {
+    let (pool, mut pass) = pool_of(&rt, 4, 1, 1, 1);
+    let mut other = drawn(&rt, &pool, &mut pass);
+    let first = AtomicBool::new(false);
+    let second = AtomicBool::new(false);
+    join_mut(
+        &rt,
+        &mut || renew_often(&rt, &pool, &mut pass, &first, &second),
+        &mut || renew_often(&rt, &pool, &mut other, &second, &first),
+    );
+    assert_eq!(rt; is_whole(&pool, &mut pass), false);
+    takes_in(&pool, &mut pass, other);
+    assert_eq!(rt; is_whole(&pool, &mut pass), true);
+    assert_eq!(rt; terms_of_three(&rt, &pool, &mut pass), [1, 4_000]);
 }
 
 /// Opens 30 arenas once the other came, and answers how many it opened.

@@ -13,6 +13,7 @@ use Rattle.fm_calls.specs.Told.{view_of_pass}
 use Rattle.fm_calls.proofs.Sweeps.{no_sweeps}
 use Rattle.fm_calls.proofs.Telling.{did_of}
 use Rattle.fm_gate.specs.Learnt.{AfterAllocate}
+use Rattle.fm_gate.proofs.Scarce.{one_empty}
 use Rattle.fm_load.specs.Held.{HoldsThen, IsEmpty, OnlyIn, Wants, words_at}
 use Rattle.fm_load.proofs.Holding.{allocated_held, allocated_only, refusal_wants}
 use Rattle.fm_pool_facts.specs.Loans.{lent}
@@ -71,7 +72,7 @@ module _ {pool : Pool} {p q : View} (a : ArenaId) (size : ℕ) (lone : IsLone po
       did_of p q (λ own. DoesAllocate p.caller a size 8 (Err r) (but_loans own)) after.did in
       neither r pages after
       (refusal_wants any (view_of_pass p) (view_of_pass q) a size r empty.held (first_room pool p a size lone empty room) did (may_any r)
-      (λ is. (after.no_page (ap Err is)).found))
+      (λ is. (one_empty after.did.goes (after.no_page (ap Err is)).found).found))
 
   -- ---- bytes are given
 

@@ -36,7 +36,7 @@ begun pool z p shape is sound = record {
     of = (ap (λ (v : View). v.home) is, ap (λ (v : View). v.shape) is ∙ sym shape);
     outside = ap (λ (v : View). v.inside) is;
     unmarked = ap (λ (v : View). v.mark) is;
-    no_number = ap (λ (v : View). v.drawn) is;
+    no_number = ap (λ (v : View). v.number) is;
     no_slot = ap (λ (v : View). v.hand) is;
     no_part = ap (λ (v : View). v.swept) is;
   };

@@ -30,8 +30,9 @@ use Rattle.fm_rule.specs.Finishing.{FinishedView, Finishes}
 use Rattle.fm_rule.specs.GivenBytes.{state_of}
 use Rattle.fm_segment.specs.Region.{Region, region_of}
 use Rattle.fm_words.specs.declared.shape.Shape.{Shape}
-use Rattle.fm_workers.specs.Crew.{CrewGathered, IsFresh, IsWhole, callers}
+use Rattle.fm_workers.specs.Crew.{AreTooMany, CrewGathered, IsFresh, IsWhole, callers}
 use Rattle.fm_workers.specs.Query.{CanQueryWith, IsReadByCrew, NobodyElseWrites, OnlyReads, QueriedWith}
+use Rattle.fm_workers.proofs.Wanting.{few_last}
 use Rattle.fm_pooled.specs.Asking.{Asked, HasPasses, KeepsHistory}
 use Rattle.fm_pooled.specs.Shown.{AreRead, AsksWord, IsReadByOther, ShowsBoth, ShowsQuery, ShowsRecords, state_before}
 use Rattle.fm_pooled.specs.Stocked.{IsStocked, bytes_in_pool}
@@ -106,6 +107,11 @@ asked {p = p} {q = q} threads plan h crew few read stocked same spared = record 
   drawn = omega (arith, ap (λ (v : View). length v.gathered) crew.is, length-append p.gathered crew.crew, few);
 }
 
+-- there is a number for each worker
+pub never_wanting : {pool : Pool} {p : View} {s : Region} (threads : ℕ) → IsStocked pool p s → HasPasses p threads → AreTooMany p threads → ⊥
+never_wanting {p = p} threads h passes (inl few) = let last = few_last p.gathered in omega (arith, few, last, passes)
+never_wanting threads h passes (inr most) = let all = h.passes in omega (arith, most, all, passes)
+
 -- ---- a query
 
 -- a query adds to no word
@@ -136,8 +142,7 @@ module _ {pool : Pool} {p q : View} {s : Region} {plan : Plan} {threads : ℕ} (
       absurd (not_stopped s.arena found.caller w.crew.more found.stops.before
       (stays_alive NoneMayAdd h w.crew sound (touch w) s.arena h.known.arena h.alive).1 found.stops.stops)
   only_wants (Err NoPass) w even passes =
-      let wanting = w.wanting (is_whole h) refl in
-      absurd (omega (arith, wanting, passes))
+      absurd (never_wanting threads h passes (w.wanting (is_whole h) refl))
   only_wants (Err Memory) w even passes = refl
   only_wants (Err r) w even passes = absurd w.ends
 
@@ -241,7 +246,7 @@ shows_both {p = p} {s = s} {a = a} {b = b} bytes one two kept are =
 
 -- ---- passes
 
--- two crews of 16 can be drawn, one after the other
+-- crews of 16 can be drawn, one after the other
 pub has_passes : {pool : Pool} {p : View} {s : Region} (drawn threads : ℕ) → IsStocked pool p s → length p.gathered ≤ drawn → drawn ≤ 16 → threads ≤ 16
     → HasPasses p threads
 has_passes drawn threads h gathered few more = let passes = h.passes in omega (arith, passes, gathered, few, more)

@@ -40,7 +40,7 @@ use Rattle.fm_pooled.specs.Tallied.{CanOpenSecond, HasRoomForCounts, IsBeside}
 use Rattle.fm_pooled.proofs.Crews.{AllTouch, Touches, bytes_stay, crew_touches, not_stopped, only_reads_touch, records_spared, stays_alive, stocked_still}
 use Rattle.fm_pooled.proofs.Lent.{lent_to_one, parts_within}
 use Rattle.fm_pooled.proofs.Opening.{knows_none, pages_left}
-use Rattle.fm_pooled.proofs.Shows.{asked, can_ask, is_whole, pooled_is}
+use Rattle.fm_pooled.proofs.Shows.{asked, can_ask, is_whole, never_wanting, pooled_is}
 
 -- ---- room for counts
 
@@ -206,8 +206,7 @@ module _ {pool : Pool} {p q : View} {s counts : Region} {plan : Plan} {threads :
       let found = w.ends.1 in
       absurd (not_stopped found.arena found.caller w.crew.more found.before (all_come w found.arena found.either) found.last)
   only_wants (Err NoPass) w tally even passes =
-      let wanting = w.wanting (is_whole h) refl in
-      absurd (omega (arith, wanting, passes))
+      absurd (never_wanting threads h passes (w.wanting (is_whole h) refl))
   only_wants (Err Memory) w tally even passes = refl
   only_wants (Err r) w tally even passes = absurd w.ends
 

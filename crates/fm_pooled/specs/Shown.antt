@@ -2,7 +2,7 @@
 use Rattle.std.specs.Prelude.{◌≡◌, ◌≢◌, ◌⊎◌, ℕ, true, List, [], ◌++◌, length}
 use Rattle.fm_base.specs.declared.arena_id.ArenaId.{ArenaId}
 use Rattle.fm_base.specs.declared.caller.Caller.{Caller}
-use Rattle.fm_base.specs.Arenas.{State, has_arena}
+use Rattle.fm_base.specs.Arenas.{State, has_arena, only_caller}
 use Rattle.fm_base.specs.Calls.{Entry}
 use Rattle.fm_base.specs.Histories.{IsLegal, IsTidy, state_after}
 use Rattle.fm_path.specs.Resolution.{Resolution}
@@ -27,7 +27,7 @@ pub record IsHistory (f : FinishedView) : Type 0 where
 -- another than the pool's first pass has read the word
 pub record IsReadByOther (es : List Entry) (id : ArenaId) (word : ℕ) : Type 0 where
   pub caller : Caller
-  pub other : caller.number ≢ 0
+  pub other : caller ≢ only_caller
   pub read : HasRead caller id word es
 
 -- a value that the query asks for in a chosen record has this word, where the records stand from place 0 of the arena

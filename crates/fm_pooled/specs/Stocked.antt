@@ -18,7 +18,7 @@ use Rattle.fm_segment.specs.Region.{Region, region_of}
 
 -- how many passes a pool has
 abbrev pub pool_passes : ℕ
-pool_passes = 40
+pool_passes = 136
 
 -- the history that it has seen changes only bytes that were given
 abbrev pub IsTidyPass : View → Type 0

@@ -150,14 +150,14 @@ word_read {x} {y} {u} {v} s word found a w same is enter act leave = record {
 }
 
 closed_there : (c : Caller) (s : Region) (word : ℕ) (r : Refusal) (own : List Entry) → MayUse s.arena c → DoesEnter c s.arena (Err r) own
-    → SeesWords c s (Fetches None word) (Err r) own
+    → SeesWords c s (Fetches None word) (Err Closed) own
 closed_there c s word Closed own may d = record { seen = []; within = tt; visits = d.1; to = tt; does = (refl, refl) }
 closed_there c s word WrongThread own may d = absurd (d.0 may)
 closed_there c s word r own may d = absurd d
 
 -- Or the arena is found closed.
 pub word_closed : {x y : View} (s : Region) (word : ℕ) (a : ArenaId) (r : Refusal) → a ≡ s.arena → CanRead x s → Did x y (DoesEnter x.caller a (Err r))
-    → Sees x y s (Fetches None word) (Err r)
+    → Sees x y s (Fetches None word) (Err Closed)
 word_closed {x} s word a r same can d = record {
   own = d.own;
   does = closed_there x.caller s word r d.own can.may (subst (λ (i : ArenaId). DoesEnter x.caller i (Err r) d.own) same d.does);

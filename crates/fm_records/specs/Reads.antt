@@ -1,5 +1,5 @@
 -- What the visits of a query read of a segment, record by record, up to its end or to a value where reading stops.
-use Rattle.std.specs.Prelude.{◌≡◌, ◌≢◌, ℕ, ◌+◌, ◌*◌, ◌<◌, ◌≤◌, List, [], ◌∷◌, ◌++◌, map, Bool, true, false, ℤ, Option, None, Result, Ok, Err}
+use Rattle.std.specs.Prelude.{◌≡◌, ◌≢◌, ℕ, ◌+◌, ◌*◌, ◌<◌, ◌≤◌, List, [], ◌∷◌, ◌++◌, map, Bool, true, false, ℤ, Option, None, Some, Result, Ok, Err}
 use Rattle.std.proofs.Common.{zero, suc}
 use Rattle.std.specs.List.{AllByRecursion, flat_map}
 use Rattle.fm_base.specs.declared.caller.Caller.{Caller}
@@ -199,6 +199,11 @@ pub record SeesWords {X : Type 0} (c : Caller) (s : Region) (P : Result X Refusa
 
 abbrev pub Sees : {X : Type 0} → View → View → Region → (Result X Refusal → List Seen → Type 0) → Result X Refusal → Type 0
 Sees old new s P result = Did old new (SeesWords old.caller s P result)
+
+-- none stands for an arena that was found closed
+abbrev pub or_closed : {X : Type 0} → Option X → Result X Refusal
+or_closed {X = X} None = Err Closed
+or_closed {X = X} (Some x) = Ok x
 
 -- what was found at a word: it is known, or read in one visit; or the arena is found closed
 abbrev pub Fetches : Option ℕ → ℕ → Result ℕ Refusal → List Seen → Type 0

@@ -15,11 +15,11 @@ use fm_segment::Segment;
 use std::alloc::Global;
 
 /// What a query answers over the records of a segment: for each record its conditions are tested in order, and where
-/// all hold its items' values are read. A value takes one visit of the arena a piece, and nothing is held between
-/// visits: others may write between them.
+/// all hold its items' values are read. Each word of a record is read once, in a visit of its own, and each word of a row
+/// of values once a row; nothing is held between visits: others may write between them.
 ///
 /// Refused, in this order: `Ragged` with the number of bytes behind the last whole record; `WrongThread`, also where no
-/// value would be read; then `Closed` at the first value that is asked for then, or `Memory`.
+/// value would be read; then `Closed` at the first word that is read then, or `Memory`.
 pub fn query_segment<M: Memory>(
     alloc: Global,
     m: &mut M,

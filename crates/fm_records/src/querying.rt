@@ -3,7 +3,7 @@ ghost use Rattle.std.specs.List.{AllByRecursion, AllZip};
 ghost use Rattle.fm_records.specs.Answers as answers;
 ghost use Rattle.fm_records.specs.Few.{HasRoom, IsOpen};
 ghost use Rattle.fm_records.specs.Adds.{AddsItem, AddsItems, IsItemReadable, IsTestable, ReachesInside};
-ghost use Rattle.fm_records.specs.Reads.{CanRead, Sees, Tests, TestsConditions};
+ghost use Rattle.fm_records.specs.Reads.{CanRead, Sees, Tests, TestsConditions, or_closed};
 ghost use Rattle.fm_records.specs.Paths.{AddsAll, CanAddAll, HasIndices};
 ghost use Rattle.fm_records.specs.Values.{index_lists};
 ghost use Rattle.fm_records.specs.Words.{Seen, kept_last};
@@ -16,9 +16,8 @@ use fm_path::{Dim, ValueSpec};
 use fm_query::{Asked, Condition, Item, Operator};
 use fm_segment::Segment;
 
-/// Whether all conditions hold for the record at a place. Those behind the first that fails aren't tested.
-///
-/// Refused: `Closed` at the first value that is read then.
+/// Whether all conditions hold for the record at a place. Those behind the first that fails aren't tested. None where the
+/// arena is found closed.
 #[inline(always)]
 pub(crate) fn chooses<M: Memory>(
     m: &mut M,
@@ -26,39 +25,39 @@ pub(crate) fn chooses<M: Memory>(
     place: u64,
     conditions: &[Condition],
     kept: &mut Kept,
-) -> Result<bool, Refusal>
+) -> Option<bool>
     requires can { CanRead (M.view m.old) s.now }
     requires testable { AllByRecursion (IsTestable s.now place) conditions.now }
     ensures { Sees (M.view m.old) (M.view m.new) s.now
-        (λ r own. TestsConditions place kept.old conditions.now r own kept.new) result }
+        (λ r own. TestsConditions place kept.old conditions.now r own kept.new) (or_closed result) }
 {
     for condition in conditions {
         match holds_at(m, s, place, condition, kept) {
-            Ok(true) => {}
-            Ok(false) => return Ok(false),
-            Err(refusal) => return Err(refusal),
+            Some(true) => {}
+            Some(false) => return Some(false),
+            None => return None,
         }
     }
-    Ok(true)
+    Some(true)
 }
 
-/// Whether a condition holds for the record at a place.
+/// Whether a condition holds for the record at a place; none where the arena is found closed.
 fn holds_at<M: Memory>(
     m: &mut M,
     s: &Segment,
     place: u64,
     condition: &Condition,
     kept: &mut Kept,
-) -> Result<bool, Refusal>
+) -> Option<bool>
     requires can { CanRead (M.view m.old) s.now }
     requires testable { IsTestable s.now place condition.now }
     ensures { Sees (M.view m.old) (M.view m.new) s.now
-        (λ r own. Tests place kept.old condition.now r own kept.new) result }
+        (λ r own. Tests place kept.old condition.now r own kept.new) (or_closed result) }
 {
     let at = place + condition.path.offset();
     match number_at(m, s, at, condition.path.value(), kept) {
-        Ok(number) => Ok(compares(condition.operator, number, condition.literal)),
-        Err(refusal) => Err(refusal),
+        Some(number) => Some(compares(condition.operator, number, condition.literal)),
+        None => None,
     }
 }
 
@@ -76,7 +75,7 @@ fn compares(operator: Operator, x: i64, y: i64) -> bool
 }
 
 /// Adds what the items find in the record at a place: their values are read in the order of the items and of index
-/// lists. A value takes one visit of the arena a piece, and nothing is held between visits.
+/// lists. A word that is kept isn't read again.
 ///
 /// Refused: `Closed` at the first value that is read then, or `Memory` at the first number that can't be listed. Then what
 /// the values before it come to is added.

@@ -30,8 +30,8 @@ pub(crate) fn add_record<M: Memory>(
 {
     kept.clear();
     match chooses(m, s, place, q.conditions(), kept) {
-        Ok(true) => add_items(m, s, place, q.items(), kept, found),
-        Ok(false) => Ok(()),
-        Err(refusal) => Err(refusal),
+        Some(true) => add_items(m, s, place, q.items(), kept, found),
+        Some(false) => Ok(()),
+        None => Err(Refusal::Closed),
     }
 }

@@ -4,7 +4,7 @@ ghost use Rattle.fm_lanes.specs.Kind.{width_of};
 ghost use Rattle.fm_path_meaning.specs.Steady.{IsInside};
 ghost use Rattle.fm_path_meaning.specs.Walk.{reach};
 ghost use Rattle.fm_records.specs.Paths.{CanAddAll, AddsAll};
-ghost use Rattle.fm_records.specs.Reads.{CanRead, GetsNumber, LiesIn, Sees};
+ghost use Rattle.fm_records.specs.Reads.{CanRead, GetsNumber, LiesIn, Sees, or_closed};
 ghost use Rattle.fm_records.specs.Rows.{words_of};
 ghost use Rattle.fm_records.specs.Words.{Seen, across, kept_last, number_of};
 
@@ -16,7 +16,7 @@ use fm_path::{Dim, ValueSpec};
 use fm_segment::Segment;
 
 /// The number of the segment's value that stands at a place, by the words that are kept and those that aren't, which are
-/// read. Refused: `Closed`. Each kind has a branch of its own, so that the width is a constant in each.
+/// read; none where the arena is found closed. Each kind has a branch of its own, so that the width is a constant in each.
 #[inline(always)]
 pub(crate) fn number_at<M: Memory, K: Keep>(
     m: &mut M,
@@ -24,11 +24,11 @@ pub(crate) fn number_at<M: Memory, K: Keep>(
     place: u64,
     value: &ValueSpec,
     kept: &mut K,
-) -> Result<i64, Refusal>
+) -> Option<i64>
     requires can { CanRead (M.view m.old) s.now }
     requires lies { LiesIn s.now place (width_of value.now.kind) }
     ensures { Sees (M.view m.old) (M.view m.new) s.now
-        (λ r own. GetsNumber K.keeps (K.kept kept.old) value.now place r own (K.kept kept.new)) result }
+        (λ r own. GetsNumber K.keeps (K.kept kept.old) value.now place r own (K.kept kept.new)) (or_closed result) }
 {
     match value.kind {
         ValueKind::Byte => number_as(m, s, place, ValueKind::Byte, value, kept),
@@ -49,12 +49,12 @@ fn number_as<M: Memory, K: Keep>(
     kind: ValueKind,
     value: &ValueSpec,
     kept: &mut K,
-) -> Result<i64, Refusal>
+) -> Option<i64>
     requires can { CanRead (M.view m.old) s.now }
     requires lies { LiesIn s.now place (width_of value.now.kind) }
     requires kind { kind ≡ value.now.kind }
     ensures { Sees (M.view m.old) (M.view m.new) s.now
-        (λ r own. GetsNumber K.keeps (K.kept kept.old) value.now place r own (K.kept kept.new)) result }
+        (λ r own. GetsNumber K.keeps (K.kept kept.old) value.now place r own (K.kept kept.new)) (or_closed result) }
 {
     if place % 8 + u64::from(kind.width()) <= 8 {
         number_inside(m, s, place, kind, value, kept)
@@ -72,22 +72,22 @@ fn number_inside<M: Memory, K: Keep>(
     kind: ValueKind,
     value: &ValueSpec,
     kept: &mut K,
-) -> Result<i64, Refusal>
+) -> Option<i64>
     requires can { CanRead (M.view m.old) s.now }
     requires lies { LiesIn s.now place (width_of value.now.kind) }
     requires kind { kind ≡ value.now.kind }
     requires fits { place % 8 + width_of value.now.kind ≤ 8 }
     ensures { Sees (M.view m.old) (M.view m.new) s.now
-        (λ r own. GetsNumber K.keeps (K.kept kept.old) value.now place r own (K.kept kept.new)) result }
+        (λ r own. GetsNumber K.keeps (K.kept kept.old) value.now place r own (K.kept kept.new)) (or_closed result) }
 {
     let word = place / 8;
     let known = kept.find(word);
     let found = match fetch(m, s, word, known) {
-        Ok(found) => found,
-        Err(refusal) => return Err(refusal),
+        Some(found) => found,
+        None => return None,
     };
     learn(kept, word, known, found);
-    Ok(number_in(found, (place % 8) as u32, kind, value))
+    Some(number_in(found, (place % 8) as u32, kind, value))
 }
 
 /// The same of a value in two words.
@@ -97,27 +97,27 @@ fn number_across<M: Memory, K: Keep>(
     place: u64,
     value: &ValueSpec,
     kept: &mut K,
-) -> Result<i64, Refusal>
+) -> Option<i64>
     requires can { CanRead (M.view m.old) s.now }
     requires lies { LiesIn s.now place (width_of value.now.kind) }
     requires across { 8 < place % 8 + width_of value.now.kind }
     ensures { Sees (M.view m.old) (M.view m.new) s.now
-        (λ r own. GetsNumber K.keeps (K.kept kept.old) value.now place r own (K.kept kept.new)) result }
+        (λ r own. GetsNumber K.keeps (K.kept kept.old) value.now place r own (K.kept kept.new)) (or_closed result) }
 {
     let word = place / 8;
     let known = kept.find(word);
     let known_above = kept.find(word + 1);
     let low = match fetch(m, s, word, known) {
-        Ok(low) => low,
-        Err(refusal) => return Err(refusal),
+        Some(low) => low,
+        None => return None,
     };
     let high = match fetch(m, s, word + 1, known_above) {
-        Ok(high) => high,
-        Err(refusal) => return Err(refusal),
+        Some(high) => high,
+        None => return None,
     };
     learn(kept, word, known, low);
     learn(kept, word + 1, known_above, high);
-    Ok(number_between(low, high, (place % 8) as u32, value))
+    Some(number_between(low, high, (place % 8) as u32, value))
 }
 
 /// The number of a value of this kind in a word, from byte `at` on.
@@ -169,8 +169,8 @@ pub(crate) fn add_value<M: Memory, K: Keep>(
         found.old found.new result }
 {
     match number_at(m, s, place + at, value, kept) {
-        Ok(number) => found.add_number(number),
-        Err(refusal) => Err(refusal),
+        Some(number) => found.add_number(number),
+        None => Err(Refusal::Closed),
     }
 }
 
@@ -192,8 +192,8 @@ fn add_value_as<M: Memory>(
         (words_of last.old) (words_of last.new) found.old found.new result }
 {
     match number_as(m, s, place + at, kind, value, last) {
-        Ok(number) => found.add_number(number),
-        Err(refusal) => Err(refusal),
+        Some(number) => found.add_number(number),
+        None => Err(Refusal::Closed),
     }
 }
 

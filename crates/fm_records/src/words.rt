@@ -1,8 +1,8 @@
 ghost use Rattle.std.specs.Prelude.{◌≡◌, [], true, false, Some, None};
-ghost use Rattle.fm_records.specs.Reads.{CanRead, Fetches, IsWordOf, Sees};
+ghost use Rattle.fm_records.specs.Reads.{CanRead, Fetches, IsWordOf, Sees, or_closed};
 ghost use Rattle.fm_records.specs.Words.{found_at, if_new, kept_after};
 
-use fm_base::{Memory, Refusal};
+use fm_base::Memory;
 use fm_segment::Segment;
 use std::marker::Model;
 
@@ -143,28 +143,24 @@ fn found_if(is: bool, found: u64) -> Option<u64>
     if is { Some(found) } else { None }
 }
 
-/// What was found at a word that is known, or is found there in a visit. Refused: `Closed`.
+/// What was found at a word that is known, or is found there in a visit; none where the arena is closed.
 #[inline(always)]
-pub(crate) fn fetch<M: Memory>(
-    m: &mut M,
-    s: &Segment,
-    word: u64,
-    known: Option<u64>,
-) -> Result<u64, Refusal>
+pub(crate) fn fetch<M: Memory>(m: &mut M, s: &Segment, word: u64, known: Option<u64>) -> Option<u64>
     requires can { CanRead (M.view m.old) s.now }
     requires word { IsWordOf s.now word }
-    ensures { Sees (M.view m.old) (M.view m.new) s.now (Fetches known word) result }
+    ensures { Sees (M.view m.old) (M.view m.new) s.now (Fetches known word) (or_closed result) }
 {
     if let Some(found) = known {
-        return Ok(found);
+        return Some(found);
     }
     match m.enter(s.arena()) {
         Ok(()) => {}
-        Err(refusal) => return Err(refusal),
+        // The caller may use the arena.
+        Err(_) => return None,
     }
     let found = m.load(word);
     m.leave();
-    Ok(found)
+    Some(found)
 }
 
 /// Keeps a word that wasn't known.

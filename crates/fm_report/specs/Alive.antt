@@ -1,8 +1,8 @@
 -- The arenas that are alive at the end of a script's run, and the bytes that they have given.
-use Rattle.std.specs.Prelude.{ℕ, List, [], ◌∷◌, Option, Some, None, get_or}
-use Rattle.std.specs.List.{flat_map}
+use Rattle.std.specs.Prelude.{◌≡◌, ℕ, true, List, [], ◌∷◌, Option, Some, None, IfSome, get_or}
+use Rattle.std.specs.List.{AllByRecursion, flat_map}
 use Rattle.fm_base.specs.declared.arena_id.ArenaId.{ArenaId}
-use Rattle.fm_base.specs.Arenas.{Life, Alive, Closing, Ended, arena_of}
+use Rattle.fm_base.specs.Arenas.{Life, Alive, Closing, Ended, arena_of, has_arena}
 use Rattle.fm_rule.specs.Finishing.{FinishedView}
 use Rattle.fm_rule.specs.GivenBytes.{state_of, given_bytes}
 use Rattle.fm_script.specs.declared.command.Command.{Command}
@@ -18,6 +18,10 @@ opened_at opened (Some n) = get_or opened n None
 -- what the line that makes this name opened, where that line has the name's number
 abbrev pub arena_by : (List ℕ → Option ℕ) → List (Option ArenaId) → List ℕ → Option ArenaId
 arena_by number opened name = opened_at opened (number name)
+
+-- each of the arenas was opened in the history
+abbrev pub AreOpened : FinishedView → List (Option ArenaId) → Type 0
+AreOpened f opened = AllByRecursion (λ o. IfSome o (λ id. has_arena (state_of f) id ≡ true)) opened
 
 -- the arena of this name, while its life is such
 abbrev pub while_alive : Life → List ℕ → List ℕ → List AliveArena

@@ -1,6 +1,8 @@
-ghost use Rattle.std.specs.Prelude.{◌≡◌, ◌++◌, IfOk, OnOk, IfErr};
+ghost use Rattle.std.specs.Prelude.{◌≡◌, ◌++◌, true, IfOk, OnOk, IfErr};
+ghost use Rattle.fm_base.specs.Arenas.{has_arena};
+ghost use Rattle.fm_rule.specs.GivenBytes.{state_of};
 ghost use Rattle.fm_run.specs.Numbers.{number_at};
-ghost use Rattle.fm_report.specs.Alive.{alive_at, alive_by, alive_of, arena_by};
+ghost use Rattle.fm_report.specs.Alive.{AreOpened, alive_at, alive_by, alive_of, arena_by};
 
 use crate::arena::AliveArena;
 use crate::given::Given;
@@ -19,6 +21,7 @@ pub(crate) fn alive_arenas(
     opened: &[Option<ArenaId>],
     lines: &[Line],
 ) -> Result<Vec<AliveArena>, Refusal>
+    requires { AreOpened finished.now opened.now }
     ensures alive { IfOk result (λ alive. alive.items
         ≡ alive_of finished.now (arena_by (number_at names.now) opened.now) lines.now) }
     ensures memory { IfErr result (λ refusal. refusal ≡ Refusal.Memory) }
@@ -39,6 +42,7 @@ fn push_opened(
     opened: &[Option<ArenaId>],
     command: &Command,
 ) -> Result<(), Refusal>
+    requires { AreOpened finished.now opened.now }
     ensures pushed { OnOk result (alive.new.items ≡ alive.old.items
         ++ alive_by finished.now (arena_by (number_at names.now) opened.now) command.now) }
     ensures memory { IfErr result (λ refusal. refusal ≡ Refusal.Memory) }
@@ -68,6 +72,7 @@ fn push_alive(
     name: &NameText,
     id: ArenaId,
 ) -> Result<(), Refusal>
+    requires { has_arena (state_of finished.now) id ≡ true }
     ensures pushed { OnOk result (alive.new.items ≡ alive.old.items ++ alive_at finished.now name.now (Some id)) }
     ensures memory { IfErr result (λ refusal. refusal ≡ Refusal.Memory) }
 {

@@ -1,6 +1,6 @@
 ghost use Rattle.std.specs.Prelude.{◌≡◌, IfOk, IfErr};
 ghost use Rattle.fm_run.specs.Numbers.{number_at};
-ghost use Rattle.fm_report.specs.Alive.{arena_by};
+ghost use Rattle.fm_report.specs.Alive.{AreOpened, arena_by};
 ghost use Rattle.fm_report.specs.Told.{report_of};
 
 use crate::alive::alive_arenas;
@@ -38,7 +38,7 @@ impl Model for Report {
 
 impl Report {
     /// The report of a run of this script, whose lines, in the order of printing, have these numbers by the names that
-    /// they make, opened these arenas and are told so. The callers are pass 0's and the workers'.
+    /// they make, opened these arenas over this pool and are told so. The callers are pass 0's and the workers'.
     ///
     /// Refused: `Memory`.
     pub fn of(
@@ -50,6 +50,7 @@ impl Report {
         callers: Vec<Caller>,
         finished: Finished,
     ) -> Result<Report, Refusal>
+        requires { AreOpened finished opened.now }
         ensures report { IfOk result (λ r. r ≡ report_of (arena_by (number_at names.now) opened.now)
             script.now.lines lines.items callers.items finished) }
         ensures memory { IfErr result (λ refusal. refusal ≡ Refusal.Memory) }

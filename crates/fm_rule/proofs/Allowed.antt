@@ -10,14 +10,14 @@ use Rattle.fm_base.specs.Calls.{Entry}
 use Rattle.fm_base.specs.Histories.{made_by}
 use Rattle.fm_base.specs.Finds.{Find, Gathered, Close}
 use Rattle.fm_pool_facts.specs.declared.step.Step.{Step}
-use Rattle.fm_pool_facts.specs.declared.step.Step.TheVariants.{Draws, Marks, Checks, Loads, Stores, SwapsIf, Adds, Allocates, Holds, Unholds, Backs, Unmarks, Shuts, Visits, TakesSlot, LearnsGeneration, Opens, Claims, Maps, ReadsMap, SweepsGiven, SweepsMap, Unmaps, Wipes, GivesPage, ReturnsPage, ResetsGiven, Retires, GivesSlot, Looks}
+use Rattle.fm_pool_facts.specs.declared.step.Step.TheVariants.{Draws, Marks, Checks, Loads, Stores, SwapsIf, Adds, Allocates, Holds, Unholds, Backs, Unmarks, Shuts, Visits, TakesSlot, LearnsGeneration, Opens, Claims, Maps, ReadsMap, SweepsGiven, SweepsMap, Unmaps, Wipes, GivesPage, ReturnsPage, ResetsGiven, Retires, GivesSlot, Looks, TakesNumber, LearnsTerm, RaisesTerm, GivesNumber}
 use Rattle.fm_pool_facts.specs.Views.{Met, View, In, IsSound, all_gathered, brought}
 use Rattle.fm_pool_facts.specs.Words.{alive_holds, inside_found, shut_found, hold_found}
-use Rattle.fm_pool_facts.specs.Hands.{Hand, nothing, learnt, takes, hand_taken, hand_retired}
+use Rattle.fm_pool_facts.specs.Hands.{Hand, nothing, learnt, takes, hand_taken, hand_retired, Number, no_number, number_learnt, number_left, number_taken_by, number_after, drawn_by}
 use Rattle.fm_pool_facts.specs.Holds.{grips, with_grips, holds_after, handles_with, released}
 use Rattle.fm_pool_facts.specs.Handles.{giving, given_back}
 use Rattle.fm_pool_facts.specs.Closes.{begun, visited, dropped, visit_found, closes_after, sweeps_after}
-use Rattle.fm_pool_facts.specs.Steps.{Stepped, part, number_drawn, draws}
+use Rattle.fm_pool_facts.specs.Steps.{Stepped, part, draws, number_at}
 use Rattle.fm_pool_facts.specs.Facts.{Rule}
 use Rattle.fm_pool_facts.specs.Parts.{Mapping, Swept, unread, wiping, reads_after, reads_mapped, pages_mapped, pages_taken, swept_read}
 use Rattle.fm_rule.specs.declared.pass.Part.{Part}
@@ -66,9 +66,12 @@ pub record Alike (v p : View) : Type 0 where
 pub alike_none : (v : View) → Alike v v
 alike_none v = record { home = refl; shape = refl; live = refl; caller = refl; seen = refl; met = refl; finds = refl; gathered = refl }
 
-alike_draws : (o : Option ℕ) (e x : ℕ) (v : View) → Alike v (draws o e x v)
-alike_draws None e x v = record { home = refl; shape = refl; live = refl; caller = refl; seen = refl; met = refl; finds = refl; gathered = refl }
-alike_draws (Some n) e x v = record { home = refl; shape = refl; live = refl; caller = refl; seen = refl; met = refl; finds = refl; gathered = refl }
+alike_draws : (o : Option Caller) (k : Number) (e x : ℕ) (v : View) → Alike v (draws o k e x v)
+alike_draws None k e x v = record { home = refl; shape = refl; live = refl; caller = refl; seen = refl; met = refl; finds = refl; gathered = refl }
+alike_draws (Some n) k e x v = record { home = refl; shape = refl; live = refl; caller = refl; seen = refl; met = refl; finds = refl; gathered = refl }
+
+alike_number : (v : View) (k : Number) → Alike v (record v { number = k })
+alike_number v k = record { home = refl; shape = refl; live = refl; caller = refl; seen = refl; met = refl; finds = refl; gathered = refl }
 
 -- a step may change these
 alike_but : (v : View) (i m : Option ArenaId) (cs ss : List Close) (hand : Hand) (hs gs : List ArenaId)
@@ -104,7 +107,7 @@ same_part (Visits a k) v x =
 same_part (Opens a) v x = alike_but v v.inside v.mark v.closes v.sweeps nothing v.holds (handles_with a v.handles)
 same_part (TakesSlot e b) v x = alike_but v v.inside v.mark v.closes v.sweeps (hand_taken (takes e b x) b v.hand) v.holds v.handles
 same_part (LearnsGeneration s) v x = alike_but v v.inside v.mark v.closes v.sweeps (learnt s (x / 2 ^ 32)) v.holds v.handles
-same_part (Claims e b) v x = alike_pages v v.inside v.sweeps v.swept (pages_taken (takes e b x) b v.pages) v.reads
+same_part (Claims g e b) v x = alike_pages v v.inside v.sweeps v.swept (pages_taken (takes e b x) (number_at g b) v.pages) v.reads
 same_part (Maps a i p) v x = alike_pages v v.inside v.sweeps v.swept (pages_mapped x v.pages) (reads_mapped i p x v.reads)
 same_part (ReadsMap a i) v x = alike_pages v v.inside v.sweeps v.swept v.pages (reads_after i x v.reads)
 same_part (SweepsGiven a) v x = alike_none v
@@ -119,7 +122,11 @@ same_part (Retires a) v x =
     alike_but v v.inside v.mark v.closes (dropped a v.sweeps) h v.holds v.handles
 same_part (GivesSlot s) v x = alike_but v v.inside v.mark v.closes v.sweeps nothing v.holds v.handles
 same_part Looks v x = alike_none v
-same_part (Draws e) v x = alike_draws (number_drawn v.shape e x) e x v
+same_part (Draws e) v x = alike_draws (drawn_by v.number e x) (number_after v.number e x) e x v
+same_part (TakesNumber g e b) v x = alike_number v (number_taken_by (takes e b x) (number_at g b) v.number)
+same_part (LearnsTerm n) v x = alike_number v (number_learnt n x)
+same_part (RaisesTerm n) v x = alike_number v (number_left n)
+same_part (GivesNumber n) v x = alike_number v no_number
 
 pub all_of_in : {A : Type 0} (P : A → Type 0) (xs : List A) → ((x : A) → In x xs → P x) → All P xs
 all_of_in P [] f = All-nil P
@@ -149,13 +156,14 @@ sound_homed home v s = record {
   own_handles = s.own_handles;
   none_left = s.none_left;
   drawn = λ n e.
-      let y = s.drawn n e in record { later = y.later; number = y.number; other = y.other; silent = y.silent; outside = y.outside };
+      let y = s.drawn n e in record { later = y.later; number = y.number; term = y.term; other = y.other; silent = y.silent; outside = y.outside };
   few = s.few;
   knows = s.knows;
   all_drawn = λ w. let h = s.all_drawn w in record { first = h.first; others = h.others };
   one_each = s.one_each;
   others = s.others;
-  terms = record { own = s.terms.own; gathered = s.terms.gathered; entries = s.terms.entries };
+  term = s.term;
+  numbers_gone = s.numbers_gone;
 }
 
 pub sound_now : (now v : View) (home : List ℕ) → homed home v ≡ now → IsSound v → IsSound now

@@ -1,5 +1,5 @@
 -- The bytes of an arena stand in the words of its slot.
-use Rattle.std.proofs.Common.{◌≡◌, ◌≢◌, Some, None, ℕ, ◌+◌, ◌*◌, ◌/◌, ◌%◌, ◌<◌, ◌≤◌, List, [], ◌∷◌, ◌++◌, length, take, get_or, sym, ap, ◌∙◌, subst, arith}
+use Rattle.std.proofs.Common.{◌≡◌, ◌≢◌, Some, None, ℕ, ◌+◌, ◌*◌, ◌/◌, ◌%◌, ◌<◌, ◌≤◌, List, [], ◌∷◌, ◌++◌, length, take, get_or, sym, ap, ◌∙◌, subst, arith, true}
 use Rattle.fm_words.specs.Places.{at, map, page_word, words, session, given as given_place}
 use Rattle.fm_pool_steps.proofs.Bearing.{shown_alive, shown_unalive}
 use Rattle.fm_pool_facts.specs.Words.{alive_holds}
@@ -7,7 +7,7 @@ use Rattle.fm_words.specs.Shapes.{IsValid}
 use Rattle.std.proofs.lemmas.List.{take_more}
 use Rattle.fm_words.specs.declared.shape.Shape.{Shape}
 use Rattle.fm_base.specs.declared.arena_id.ArenaId.{ArenaId}
-use Rattle.fm_base.specs.Arenas.{Alive, Ended, arena_of, word_in}
+use Rattle.fm_base.specs.Arenas.{Alive, Ended, arena_of, word_in, has_arena}
 use Rattle.fm_base.specs.Histories.{IsWhole}
 use Rattle.fm_base.proofs.Growing.{there_by_life}
 use Rattle.fm_base.proofs.Wholeness.{whole_always}
@@ -55,7 +55,7 @@ module _ (f : FinishedView) (i : IsFinished f) (a : ArenaId) (has : HasBytes f a
 pub record Stands (f : FinishedView) (a : ArenaId) (k : ℕ) (y : Shape) (size : ℕ) : Type 0 where
   pub slot : a.slot < y.slots
   pub part : k / 8 / size < y.reach
-  pub few : y.reach ≤ 64
+  pub few : y.reach ≤ 4096
   pub page : ℕ
   pub low : page < y.pages
   pub in_page : k / 8 % size < y.page_words
@@ -98,11 +98,11 @@ pub all_given : (f : FinishedView) (a : ArenaId) → HasBytes f a → (given k :
 all_given f a has given k e d = ap (λ n. take n (bytes_in (arena_of (state_of f) a).words)) (d ∙ (e ∙ sym has.shows.given))
 
 -- whether the session's word shows the arena alive
-pub alive_by : (f : FinishedView) → IsFinished f → (a : ArenaId) → Fits f.shape a → (n word : ℕ)
+pub alive_by : (f : FinishedView) → IsFinished f → (a : ArenaId) → Fits f.shape a → has_arena (state_of f) a ≡ true → (n word : ℕ)
     → word ≡ get_or f.words (at f.shape (session a.slot)) 0 → alive_holds a word ≡ Some n → HasBytes f a
-alive_by f i a fit n word w e = record {
+alive_by f i a fit known n word w e = record {
   fits = fit;
-  shows = shown_alive f.shape i.valid f.words f.history i.shows a fit n (ap (alive_holds a) (sym w) ∙ e);
+  shows = shown_alive f.shape i.valid f.words f.history i.shows a fit known n (ap (alive_holds a) (sym w) ∙ e);
 }
 
 pub unalive_by : (f : FinishedView) → IsFinished f → (a : ArenaId) → (word : ℕ)

@@ -1,5 +1,5 @@
 -- A pass and the one that is split off from it, and a pass that another is gathered into.
-use Rattle.std.proofs.Common.{◌≡◌, ℕ, suc, ◌+◌, ◌<◌, Bool, true, false, if◌then◌else◌, List, [], ◌∷◌, ◌++◌, length, sym, refl, ap, ◌∙◌, subst, arith, inl, inr, Option, Some, None, ⊎_elim}
+use Rattle.std.proofs.Common.{◌≡◌, ℕ, suc, ◌+◌, ◌<◌, Bool, true, false, if◌then◌else◌, List, [], ◌∷◌, ◌++◌, length, sym, refl, ap, ◌∙◌, subst, arith, inl, inr, Option, None, ⊎_elim, ◌≢◌, All, append_assoc, eq-eqb, ne_eqb, ◌^◌, ◌≤◌}
 use Rattle.std.proofs.lemmas.List.{append-nil, length-append}
 use Rattle.std.proofs.lemmas.List.Elements.{filter-append}
 use Rattle.fm_base.specs.declared.caller.Caller.{Caller}
@@ -10,8 +10,9 @@ use Rattle.fm_base.specs.Histories.{made_by}
 use Rattle.fm_base.specs.Finds.{Gathered}
 use Rattle.fm_depicts.specs.Handles.{AreLeft}
 use Rattle.fm_pool_facts.specs.declared.step.Step.TheVariants.{Looks}
-use Rattle.fm_pool_facts.specs.Views.{Met, View, In, IsNew, IsSound, is_automatic, brought, pass_of, state_in}
-use Rattle.fm_pool_facts.specs.Splits.{view_of, number_or, drawn_left, drawn_right, as_gathered, gather, IsAtRest}
+use Rattle.fm_pool_facts.specs.Views.{Met, View, In, IsSound, is_automatic, brought, state_in}
+use Rattle.fm_pool_facts.specs.Splits.{drawn_left, drawn_right, as_gathered, gather, IsAtRest, caller_or}
+use Rattle.fm_pool_facts.specs.Hands.{Number, no_number, number_joined, number_drawn, number_of_joined, last_term}
 use Rattle.fm_pool_facts.specs.Steps.{part, entries, noted}
 use Rattle.fm_pool_facts.specs.Facts.{Begins}
 use Rattle.fm_rule.specs.declared.pass.Part.{Part}
@@ -19,13 +20,16 @@ use Rattle.fm_rule.proofs.Allowed.{part_on, sound_homed, all_of_in}
 use Rattle.fm_pool_facts.specs.Moves.{Gives, Tells}
 use Rattle.fm_pool_facts.proofs.Keeping.{none_added}
 use Rattle.fm_rule.specs.Views.{homed, Keeps}
-use Rattle.fm_rule.specs.Draws.{Takes, Drawn, CanGather, Gathers}
+use Rattle.fm_rule.specs.Draws.{CanGather, Gathers, GivesBack}
+use Rattle.fm_pool_facts.proofs.Keeping.{in_left, in_right}
+use Rattle.fm_base.specs.Calls.{Entry}
 use Rattle.fm_rule.specs.declared.pool.Pool.{Pool}
 
 -- ---- the drawer and the new pass
 
-pub left_sound : (v : View) → IsSound v → IsSound (drawn_left v)
-left_sound v s = record {
+-- (a pass that drew isn't known to be whole)
+pub left_sound : (v : View) → v.whole ≡ false → IsSound v → IsSound (drawn_left v)
+left_sound v not_whole s = record {
   valid = s.valid;
   limit = s.limit;
   legal = s.legal;
@@ -52,31 +56,27 @@ left_sound v s = record {
   all_drawn = λ w. let h = s.all_drawn w in record { first = h.first; others = h.others };
   one_each = s.one_each;
   others = s.others;
-  terms = record { own = s.terms.own; gathered = s.terms.gathered; entries = s.terms.entries };
+  term = s.term;
+  numbers_gone = λ w. absurd (let q : false ≡ true = sym not_whole ∙ w in cc);
 }
-
-pub left_new : (v : View) (n : ℕ) → IsNew v n → IsNew (drawn_left v) n
-left_new v n y = record { later = y.later; number = y.number; other = y.other; silent = y.silent; outside = y.outside }
 
 -- a view without holds and handles has none of any sort
 none_gripped : (a : ArenaId) (b : Bool) → ¬ (In a (if b then [] else []))
 none_gripped a true i = i
 none_gripped a false i = i
 
-pub right_sound : (v : View) (n : ℕ) → v.drawn ≡ Some n → IsSound v → IsSound (drawn_right v)
-right_sound v n e s =
-    let y = s.drawn n e in
-    let is : number_or v.drawn ≡ n = ap number_or e in
-    let p : ℕ = v.shape.passes in
-    let low : n < p = y.number in
+pub right_sound : (v : View) (c : Caller) → v.number ≡ number_drawn c → IsSound v → IsSound (drawn_right v)
+right_sound v c e s =
+    let y = s.drawn c e in
+    let is : caller_or v.number ≡ c = ap caller_or e in
     record {
       valid = s.valid;
       limit = s.limit;
       legal = s.legal;
       lent = s.lent;
-      number = subst (λ (k : ℕ). k < p) (sym is) low;
+      number = subst (λ (k : Caller). k.number < v.shape.passes) (sym is) y.number;
       inside = λ a q. absurd (cc);
-      outside = λ a w. absurd (y.outside a (subst (λ (k : ℕ). IsUnderWay (state_in v) (pass_of k) a) is w));
+      outside = λ a w. absurd (y.outside a (subst (λ (k : Caller). IsUnderWay (state_in v) k a) is w));
       fits = s.fits;
       swept = λ c i. absurd i;
       loans = s.loans;
@@ -87,75 +87,52 @@ right_sound v n e s =
       swept_page = λ a i p w q. absurd (cc);
       few_left = λ f. ⊎_elim (λ i. absurd i) (λ (g : (g : Gathered) × In g [] × In f g.finds). absurd g.1);
       held = λ a i. absurd (none_gripped a (is_automatic a.kind) i);
-      own_handles = λ a k. subst (λ (es : List Entry). AreLeft a es 0) (sym (ap (λ (k : ℕ). made_by (pass_of k) v.seen) is ∙ y.silent)) refl;
+      own_handles = λ a k. subst (λ (es : List Entry). AreLeft a es 0) (sym (ap (λ (k : Caller). made_by k v.seen) is ∙ y.silent)) refl;
       none_left = λ w. absurd (cc);
       hand = λ x i. absurd i;
       drawn = λ k q. absurd (cc);
-      few = (let q : 0 < p = omega arith in q);
+      few = omega arith;
       knows = λ w. absurd (cc);
       all_drawn = λ w. absurd (cc);
+      numbers_gone = λ w. absurd (cc);
       one_each = tt;
       others = λ g i. absurd i;
-      terms = record { own = refl; gathered = λ g i. absurd i; entries = s.terms.entries };
+      term = subst (λ (k : Caller). k.term ≤ last_term) (sym is) y.term;
     }
 
 abbrev Held : Type 0
 Held = List (ℕ × Unit {0})
 
-pub left_keeps : (c : Caller) (i : Option ArenaId) (part' : Part) (count : ℕ) (v : View) (held : Held) → Keeps c i part' count (v, held)
+pub left_keeps : (c : Caller) (i : Option ArenaId) (part' : Part) (count : ℕ) (v : View) (held : Held) → v.whole ≡ false → Keeps c i part' count (v, held)
     → Keeps c i part' count (drawn_left v, held)
-left_keeps c i part' count v held k = record {
+left_keeps c i part' count v held w k = record {
   live = k.live;
   caller = k.caller;
   inside = k.inside;
   part_is = λ l. part_on v (drawn_left v) part' refl (λ x j. j) (k.part_is l);
   met = k.met;
   counted = k.counted;
-  sound = left_sound v k.sound;
+  sound = left_sound v w k.sound;
   empty = k.empty;
 }
 
-pub right_keeps : (n : ℕ) (v : View) → v.drawn ≡ Some n → IsSound v → Keeps (pass_of n) None (record { first = 0; words = 0; from = 0 }) 0 (drawn_right v, [])
-right_keeps n v e s = record {
+pub right_keeps : (c : Caller) (v : View) → v.number ≡ number_drawn c → IsSound v
+    → Keeps c None (record { first = 0; words = 0; from = 0 }) 0 (drawn_right v, [])
+right_keeps c v e s = record {
   live = refl;
-  caller = λ i. pass_of (ap number_or (sym e) i);
+  caller = ap caller_or (sym e);
   inside = refl;
   part_is = λ l. absurd (omega arith);
   met = refl;
   counted = refl;
-  sound = right_sound v n e s;
+  sound = right_sound v c e s;
   empty = refl;
 }
 
--- what a draw and a split make together
-pub drawn_of : (old mid d : View) (n : ℕ) → Takes old mid n
-    → d ≡ record (view_of mid.shape true mid.seen) { home = mid.home; caller = pass_of n } → IsSound d → Drawn old (drawn_left mid) d
-drawn_of old mid d n t is sound =
-    let a = t.asked in
-    let drawn : mid.drawn ≡ Some n = ap (λ (x : View). x.drawn) a.is in
-    record {
-      number = n;
-      draws = t.draws;
-      asked = record {
-        more = a.more;
-        seen = a.seen;
-        quiet = a.quiet;
-        apart = a.apart;
-        alone = a.alone;
-        finds = a.finds;
-        only_draws = a.only_draws;
-        later = a.later;
-        is = λ i. record (a.is i) { drawn = None };
-      };
-      tries = record { guess = t.tries.guess; follow = t.tries.follow };
-      drew = t.drew;
-      fresh = left_new mid n (t.sound.drawn n drawn);
-      whole = t.whole;
-      suffice = t.suffice;
-      is = is;
-      giver_sound = left_sound mid t.sound;
-      sound = sound;
-    }
+in_all : {A : Type 0} (P : A → Type 0) (xs : List A) → All P xs → (x : A) → In x xs → P x
+in_all P [] a x i = absurd i
+in_all P (y ∷ xs) a x (inl e) = subst P (sym e) (a 0 y (omega arith))
+in_all P (y ∷ xs) a x (inr i) = in_all P xs (λ j d l. a (suc j) d (omega arith)) x i
 
 -- ---- gathering
 
@@ -165,7 +142,7 @@ at_rest now v home is l m can = record {
   live = l;
   inside = ap (λ (x : View). x.inside) is ∙ can.outside;
   mark = ap (λ (x : View). x.mark) is ∙ can.unmarked;
-  drawn = ap (λ (x : View). x.drawn) is ∙ can.no_number;
+  number = ap (λ (x : View). x.number) is ∙ can.no_number;
   hand = ap (λ (x : View). x.hand) is ∙ can.no_slot;
   closes = ap (λ (x : View). x.closes) is ∙ can.no_close;
   sweeps = ap (λ (x : View). x.sweeps) is ∙ can.no_sweep;
@@ -202,9 +179,9 @@ module _ (v o u w : View) (x : ℕ) (is : u ≡ gather v o) (met : v.met ≡ [])
       (sym (filter-append _ o.seen begins.0) ∙ (ap (made_by g.caller) (sym begins.1) ∙ told_of.came its (inl refl) g i))
 
   pub gathers : (old other : View) (home home' last : List ℕ) → homed home v ≡ old → homed home' o ≡ other → last ≡ home
-      → Gathers old other (homed last w)
+      → Gathers old other (number_of_joined other.caller) (homed last w)
   gathers old other home home' last is-old is-other stays =
-      subst (λ (y : View × View × List ℕ). Gathers y.0 y.1 (homed y.2 w)) (λ i. (is-old i, is-other i, sym stays i)) (record {
+      subst (λ (y : View × View × List ℕ). Gathers y.0 y.1 (number_of_joined y.1.caller) (homed y.2 w)) (λ i. (is-old i, is-other i, sym stays i)) (record {
         more = told_of.others;
         seen = seen_is;
         quiet = told_of.quiet;
@@ -219,6 +196,7 @@ module _ (v o u w : View) (x : ℕ) (is : u ≡ gather v o) (met : v.met ≡ [])
           seen = sym seen_is' i;
           finds = append-nil v.finds i;
           gathered = (sym gathered_is' ∙ gathered_is) i;
+          number = number_of_joined o.caller;
           met = sym met i;
         });
         sound = sound_homed home w told_of.sound;
@@ -229,6 +207,14 @@ module _ (v o u w : View) (x : ℕ) (is : u ≡ gather v o) (met : v.met ≡ [])
 
       gathered_is' : w.gathered ≡ v.gathered ++ ((as_gathered o ∷ o.gathered) ++ brought v.met)
       gathered_is' = ap (λ (y : View). y.gathered) told_of.is
+
+  -- so many callers can be counted
+  pub few_after : (count more : ℕ) → count ≡ length v.gathered → more ≡ length o.gathered → count + 1 + more < 2 ^ 64
+  few_after count more a b =
+      let g = told_of.sound.few in
+      let long : length w.gathered ≡ length v.gathered + suc (length o.gathered) =
+      ap (λ (gs : List Gathered). length gs) gathered_is ∙ length-append v.gathered (as_gathered o ∷ o.gathered) in
+      omega arith
 
   pub gather_keeps : (c : Caller) (i : Option ArenaId) (part' : Part) (count more : ℕ) (held held' : Held) → Keeps c i part' count (v, held)
       → more ≡ length o.gathered → held' ≡ held → Keeps c i part' (count + 1 + more) (w, held')
@@ -249,3 +235,38 @@ module _ (v o u w : View) (x : ℕ) (is : u ≡ gather v o) (met : v.met ≡ [])
         sound = g.sound;
         empty = e ∙ k.empty;
       }
+
+-- the number of the other was given back
+pub gathered_back : (old other mid new : View) → Gathers old other (number_of_joined other.caller) mid → GivesBack mid new → Gathers old other no_number new
+gathered_back old other mid new g b =
+    let same : mid.caller ≡ old.caller = ap (λ (v : View). v.caller) g.is in
+    let all : mid.gathered ≡ old.gathered ++ (as_gathered other ∷ other.gathered) = ap (λ (v : View). v.gathered) g.is in
+    let since : (x : Gathered) → In x (old.gathered ++ (as_gathered other ∷ other.gathered)) → made_by x.caller b.more ≡ [] =
+    (λ x i. in_all (λ (y : Gathered). made_by y.caller b.more ≡ []) mid.gathered b.apart x (subst (In x) (sym all) i)) in
+    record {
+      more = g.more ++ b.more;
+      seen = b.seen ∙ (ap (λ (xs : List Entry). xs ++ b.more) g.seen ∙ append_assoc old.seen g.more b.more);
+      quiet = filter-append _ g.more b.more ∙ (λ j. g.quiet j ++ (ap (λ (c : Caller). made_by c b.more) (sym same) ∙ b.quiet) j);
+      apart = all_of_in (λ (x : Gathered). made_by x.caller (g.more ++ b.more) ≡ []) old.gathered (λ x i.
+          filter-append _ g.more b.more ∙ (λ j. in_all (λ (y : Gathered). made_by y.caller g.more ≡ []) old.gathered g.apart x i j
+          ++ since x (in_left x old.gathered (as_gathered other ∷ other.gathered) i) j));
+      alone = λ w. (λ j. g.alone w j ++ b.alone (ap (λ (v : View). v.whole) g.is ∙ w) j);
+      rest = g.rest ++ b.more;
+      its_seen = b.seen ∙ (ap (λ (xs : List Entry). xs ++ b.more) g.its_seen ∙ append_assoc other.seen g.rest b.more);
+      its_quiet = filter-append _ g.rest b.more
+          ∙ (λ j. g.its_quiet j ++ since (as_gathered other) (in_right (as_gathered other) old.gathered (as_gathered other ∷ other.gathered) (inl refl)) j);
+      its_apart = λ x i. filter-append _ g.rest b.more
+          ∙ (λ j. g.its_apart x i j ++ since x (in_right x old.gathered (as_gathered other ∷ other.gathered) (inr i)) j);
+      is = b.is ∙ (λ j. record (g.is j) { seen = new.seen; number = no_number });
+      sound = b.sound;
+    }
+
+-- or it had its last term
+pub gathered_last : (old other mid : View) → other.caller.term ≡ last_term → Gathers old other (number_of_joined other.caller) mid → Gathers old other no_number mid
+gathered_last old other mid e g = subst (λ (k : Number). Gathers old other k mid)
+    (ap (λ (b : Bool). if b then no_number else number_joined other.caller) (eq-eqb other.caller.term last_term e)) g
+
+pub joined_before : (old other mid : View) → other.caller.term ≢ last_term → Gathers old other (number_of_joined other.caller) mid
+    → mid.number ≡ number_joined other.caller
+joined_before old other mid ne g = ap (λ (v : View). v.number) g.is
+    ∙ ap (λ (b : Bool). if b then no_number else number_joined other.caller) (ne_eqb other.caller.term last_term ne)

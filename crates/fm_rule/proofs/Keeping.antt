@@ -1,21 +1,20 @@
 -- What a pass keeps over each step.
 use Rattle.std.proofs.Common.{◌≡◌, ◌==◌, if◌then◌else◌, Bool, true, false, ◌∷◌, ne_eqb, ℕ, zero, suc, ◌+◌, ◌-◌, ◌*◌, ◌<◌, inl, inr, arith, subst, List, [], Option, Some, None, sym, refl, ap, ◌∙◌}
 use Rattle.fm_words.specs.declared.shape.Shape.{Shape}
-use Rattle.fm_words.specs.Shapes.{IsValid}
 use Rattle.fm_base.specs.Arenas.{only_caller}
 use Rattle.fm_base.specs.declared.caller.Caller.{Caller}
 use Rattle.fm_base.specs.declared.arena_id.ArenaId.{ArenaId}
-use Rattle.fm_pool_facts.specs.declared.step.Step.TheVariants.{Draws, Marks, Checks, Loads, Stores, SwapsIf, Adds, Allocates, Holds, Unholds, Backs, Unmarks, Shuts, Visits, TakesSlot, LearnsGeneration, Opens, Claims, Maps, ReadsMap, SweepsGiven, SweepsMap, Unmaps, Wipes, GivesPage, ReturnsPage, ResetsGiven, Retires, GivesSlot}
-use Rattle.fm_pool_facts.specs.Views.{View, In}
+use Rattle.fm_pool_facts.specs.declared.step.Step.TheVariants.{Draws, Marks, Checks, Loads, Stores, SwapsIf, Adds, Allocates, Holds, Unholds, Backs, Unmarks, Shuts, Visits, TakesSlot, LearnsGeneration, Opens, Claims, Maps, ReadsMap, SweepsGiven, SweepsMap, Unmaps, Wipes, GivesPage, ReturnsPage, ResetsGiven, Retires, GivesSlot, TakesNumber, LearnsTerm, RaisesTerm, GivesNumber}
+use Rattle.fm_pool_facts.specs.Views.{View, In, IsSound}
 use Rattle.fm_pool_facts.specs.Splits.{first_view}
 use Rattle.fm_pool_facts.specs.Words.{alive_holds, inside_found}
-use Rattle.fm_pool_facts.specs.Steps.{part, entries, noted, number_drawn, draws}
+use Rattle.fm_pool_facts.specs.Steps.{part, entries, noted, draws}
 use Rattle.fm_words.specs.Maps.{map_word}
 use Rattle.fm_words.specs.Places.{at, page_word}
 use Rattle.fm_pool_facts.specs.Parts.{Mapping, mapping_of, reads_after, reads_mapped}
 use Rattle.fm_rule.specs.declared.pass.Part.{Part}
+use Rattle.fm_pool_facts.specs.Hands.{Number, drawn_by, number_after}
 use Rattle.fm_pool_facts.specs.Moves.{Tells}
-use Rattle.fm_pool_steps.proofs.First.{first_sound}
 use Rattle.fm_rule.specs.Views.{IsPart, Keeps}
 use Rattle.fm_rule.proofs.Allowed.{same_part, still_counted, part_on, keeps_on}
 
@@ -43,13 +42,13 @@ read_adds b p x ms e =
     subst (λ (c : Bool). In (mapping_of b p) (if c then ms else mapping_of b (x - 1) ∷ ms)) (sym n)
     (inl (ap (mapping_of b) (let h : p ≡ x - 1 = omega arith in h)))
 
-draws_inside : (o : Option ℕ) (e x : ℕ) (v : View) → (draws o e x v).inside ≡ v.inside
-draws_inside None e x v = refl
-draws_inside (Some n) e x v = refl
+draws_inside : (o : Option Caller) (k : Number) (e x : ℕ) (v : View) → (draws o k e x v).inside ≡ v.inside
+draws_inside None k e x v = refl
+draws_inside (Some n) k e x v = refl
 
-draws_reads : (o : Option ℕ) (e x : ℕ) (v : View) (y : Mapping) → In y v.reads → In y (draws o e x v).reads
-draws_reads None e x v y i = i
-draws_reads (Some n) e x v y i = i
+draws_reads : (o : Option Caller) (k : Number) (e x : ℕ) (v : View) (y : Mapping) → In y v.reads → In y (draws o k e x v).reads
+draws_reads None k e x v y i = i
+draws_reads (Some n) k e x v y i = i
 
 module _ (c : Caller) (i : Option ArenaId) (part' : Part) (count : ℕ) (v w : View) (held held' : Held) (k : Keeps c i part' count (v, held))
     (e : held' ≡ held) where
@@ -111,7 +110,8 @@ module _ (c : Caller) (i : Option ArenaId) (part' : Part) (count : ℕ) (v w : V
   unfolding part entries noted
   draw_keeps b x t =
       keeps_on c i part' count v (part (Draws b) v x) w (entries (Draws b) v x) (noted (Draws b) v x) held held' k
-      (same_part (Draws b) v x) (draws_inside (number_drawn v.shape b x) b x v) (draws_reads (number_drawn v.shape b x) b x v) t.gives e
+      (same_part (Draws b) v x) (draws_inside (drawn_by v.number b x) (number_after v.number b x) b x v)
+      (draws_reads (drawn_by v.number b x) (number_after v.number b x) b x v) t.gives e
 
   pub shut_keeps : (a : ArenaId) (x : ℕ) → Tells (Shuts a) v x w → Keeps c i part' count (w, held')
   unfolding part entries noted
@@ -210,11 +210,11 @@ module _ (c : Caller) (i : Option ArenaId) (part' : Part) (count : ℕ) (v w : V
       keeps_on c i part' count v (part (ReturnsPage a p) v x) w (entries (ReturnsPage a p) v x) (noted (ReturnsPage a p) v x) held held' k
       (same_part (ReturnsPage a p) v x) refl (λ y j. j) t.gives e
 
-  pub take_page_keeps : (b d : ℕ) (x : ℕ) → Tells (Claims b d) v x w → Keeps c i part' count (w, held')
+  pub take_page_keeps : (g b d x : ℕ) → Tells (Claims g b d) v x w → Keeps c i part' count (w, held')
   unfolding part entries noted
-  take_page_keeps b d x t =
-      keeps_on c i part' count v (part (Claims b d) v x) w (entries (Claims b d) v x) (noted (Claims b d) v x) held held' k
-      (same_part (Claims b d) v x) refl (λ y j. j) t.gives e
+  take_page_keeps g b d x t =
+      keeps_on c i part' count v (part (Claims g b d) v x) w (entries (Claims g b d) v x) (noted (Claims g b d) v x) held held' k
+      (same_part (Claims g b d) v x) refl (λ y j. j) t.gives e
 
   pub give_page_keeps : (p : ℕ) (x : ℕ) → Tells (GivesPage p) v x w → Keeps c i part' count (w, held')
   unfolding part entries noted
@@ -282,15 +282,39 @@ module _ (c : Caller) (i : Option ArenaId) (part' : Part) (count : ℕ) (v w : V
       keeps_on c i part' count v (part (GivesSlot b) v x) w (entries (GivesSlot b) v x) (noted (GivesSlot b) v x) held held' k
       (same_part (GivesSlot b) v x) refl (λ x j. j) t.gives e
 
+  pub take_number_keeps : (g b n x : ℕ) → Tells (TakesNumber g b n) v x w → Keeps c i part' count (w, held')
+  unfolding part entries noted
+  take_number_keeps g b n x t =
+      keeps_on c i part' count v (part (TakesNumber g b n) v x) w (entries (TakesNumber g b n) v x) (noted (TakesNumber g b n) v x) held held' k
+      (same_part (TakesNumber g b n) v x) refl (λ y j. j) t.gives e
+
+  pub learn_term_keeps : (b x : ℕ) → Tells (LearnsTerm b) v x w → Keeps c i part' count (w, held')
+  unfolding part entries noted
+  learn_term_keeps b x t =
+      keeps_on c i part' count v (part (LearnsTerm b) v x) w (entries (LearnsTerm b) v x) (noted (LearnsTerm b) v x) held held' k
+      (same_part (LearnsTerm b) v x) refl (λ y j. j) t.gives e
+
+  pub raise_term_keeps : (b x : ℕ) → Tells (RaisesTerm b) v x w → Keeps c i part' count (w, held')
+  unfolding part entries noted
+  raise_term_keeps b x t =
+      keeps_on c i part' count v (part (RaisesTerm b) v x) w (entries (RaisesTerm b) v x) (noted (RaisesTerm b) v x) held held' k
+      (same_part (RaisesTerm b) v x) refl (λ y j. j) t.gives e
+
+  pub give_number_keeps : (b x : ℕ) → Tells (GivesNumber b) v x w → Keeps c i part' count (w, held')
+  unfolding part entries noted
+  give_number_keeps b x t =
+      keeps_on c i part' count v (part (GivesNumber b) v x) w (entries (GivesNumber b) v x) (noted (GivesNumber b) v x) held held' k
+      (same_part (GivesNumber b) v x) refl (λ y j. j) t.gives e
+
 -- a new pool's first pass
-pub first_keeps : (z : Shape) → IsValid z → Keeps only_caller None (record { first = 0; words = 0; from = 0 }) 0 (first_view z, [])
-first_keeps z valid = record {
+pub first_keeps : (z : Shape) → IsSound (first_view z) → Keeps only_caller None (record { first = 0; words = 0; from = 0 }) 0 (first_view z, [])
+first_keeps z sound = record {
   live = refl;
   caller = refl;
   inside = refl;
   part_is = λ l. absurd (omega arith);
   met = refl;
   counted = refl;
-  sound = first_sound z valid;
+  sound = sound;
   empty = refl;
 }

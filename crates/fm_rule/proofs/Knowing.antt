@@ -2,19 +2,40 @@
 use Rattle.std.proofs.Common.{◌≡◌, ℕ, ◌+◌, ◌-◌, ◌*◌, ◌/◌, ◌%◌, ◌^◌, ◌<◌, ◌≤◌, List, [], ◌∷◌, inl, refl, Some, None, sym, ap, ◌∙◌, subst, arith}
 use Rattle.fm_words.specs.declared.shape.Shape.{Shape}
 use Rattle.fm_words.specs.Shapes.{IsValid}
-use Rattle.fm_words.specs.Places.{at, draw, slot_bits, page_bits, map, page_word, mark, session, given, words, front}
+use Rattle.fm_words.specs.Places.{at, draw, slot_bits, page_bits, page_groups, map, page_word, mark, session, given, number_bits, term, groups, words, front}
 use Rattle.fm_words.proofs.Tables.{at-within, words-le}
 use Rattle.fm_base.specs.declared.arena_id.ArenaId.{ArenaId}
 use Rattle.fm_pool_facts.specs.Hands.{Hand, HasSlot}
 use Rattle.fm_pool_facts.specs.Views.{View, Fits, In, IsKnown, IsOver, IsSound}
 use Rattle.fm_pool_facts.specs.Closes.{visited_of}
-use Rattle.fm_pool_facts.specs.Steps.{CanReach, HasPlace, AreAllGiven}
+use Rattle.fm_pool_facts.specs.Steps.{CanReach, HasPlace, AreAllGiven, number_at, CanDraw, can_draw, can_look}
 use Rattle.fm_pool_facts.specs.Parts.{wiping, mapping_of}
 use Rattle.std.proofs.Math.Nat.{mod-lt}
 use Rattle.fm_pool_steps.proofs.Closes.{visited_of-found}
 use Rattle.fm_rule.specs.declared.pass.Part.{Part}
 use Rattle.std.proofs.lemmas.Nat.{div-mul-add, mod-mul-add}
-use Rattle.fm_rule.specs.Views.{homed, IsPart}
+use Rattle.atomic_table.specs.Seated.{TableId}
+use Rattle.fm_rule.specs.declared.pool.Pool.{Pool}
+use Rattle.fm_rule.specs.Passes.{IsOf}
+use Rattle.fm_rule.specs.Views.{homed, numbers_of, IsPart}
+
+-- ---- the table
+
+-- numbers tell one table
+pub one_table : (s t : TableId) → numbers_of s ≡ numbers_of t → s ≡ t
+one_table s t e =
+    let a : s.words ≡ t.words = cc in
+    let b : s.slots ≡ t.slots = cc in
+    let c : s.views_name ≡ t.views_name = cc in
+    let d : s.atom ≡ t.atom = cc in
+    let f : s.block ≡ t.block = cc in
+    let g : s.offset ≡ t.offset = cc in
+    let h : s.slot_names ≡ t.slot_names = cc in
+    λ i. record { words = a i; slots = b i; views_name = c i; atom = d i; block = f i; offset = g i; slot_names = h i }
+
+-- a pass of a pool has a seat at its table
+pub in_pool : (t : TableId) (v now : View) (pool : Pool) → homed (numbers_of t) v ≡ now → IsOf pool now → t ≡ pool.table.shared.table_id
+in_pool t v now pool is of = one_table t pool.table.shared.table_id (ap (λ (x : View). x.home) is ∙ of.0)
 
 -- ---- places
 
@@ -30,14 +51,30 @@ given_below z s i h e = subst (λ (n : ℕ). n < words z) (sym e) (at-within z (
 pub draw_below : (z : Shape) (i : ℕ) → i ≡ at z draw → i < words z
 draw_below z i e = subst (λ (n : ℕ). n < words z) (sym e) (at-within z draw tt)
 
+pub numbers_below : (z : Shape) (g i : ℕ) → g < groups z → i ≡ at z (number_bits g) → i < words z
+numbers_below z g i h e = subst (λ (n : ℕ). n < words z) (sym e) (at-within z (number_bits g) h)
+
+pub term_below : (z : Shape) (k i : ℕ) → k < z.passes → i ≡ at z (term k) → i < words z
+term_below z k i h e = subst (λ (n : ℕ). n < words z) (sym e) (at-within z (term k) h)
+
+-- the word and the bit of a number
+pub group_low : (z : Shape) (n : ℕ) → n < z.passes → n / 64 < groups z
+group_low z n h = let p : ℕ = z.passes in let l : n < p = h in omega arith
+
+pub group_of_low : (z : Shape) (g bit : ℕ) → number_at g bit < z.passes → g < groups z
+group_of_low z g bit h = let p : ℕ = z.passes in let l : g * 64 + bit < p = h in omega arith
+
+pub at_number : (n : ℕ) → n ≡ number_at (n / 64) (n % 64)
+at_number n = omega arith
+
 pub bits_below : (z : Shape) (i : ℕ) → i ≡ at z slot_bits → i < words z
 bits_below z i e = subst (λ (n : ℕ). n < words z) (sym e) (at-within z slot_bits tt)
 
 pub front_below : (z : Shape) (i : ℕ) → i ≡ at z front → i < words z
 front_below z i e = subst (λ (n : ℕ). n < words z) (sym e) (at-within z front tt)
 
-pub page_bits_below : (z : Shape) (i : ℕ) → i ≡ at z page_bits → i < words z
-page_bits_below z i e = subst (λ (n : ℕ). n < words z) (sym e) (at-within z page_bits tt)
+pub page_bits_below : (z : Shape) (g i : ℕ) → g < page_groups z → i ≡ at z (page_bits g) → i < words z
+page_bits_below z g i h e = subst (λ (n : ℕ). n < words z) (sym e) (at-within z (page_bits g) h)
 
 pub map_below : (z : Shape) (s k i : ℕ) → s < z.slots → k < z.reach → i ≡ at z (map s k) → i < words z
 map_below z s k i h l e = subst (λ (n : ℕ). n < words z) (sym e) (at-within z (map s k) (h, l))
@@ -133,6 +170,11 @@ module _ (now v : View) (home : List ℕ) (z : Shape) (is : homed home v ≡ now
     -- and that of its sweep
     pub page_in_sweep : (a : ArenaId) (i p w : ℕ) → now.swept ≡ wiping a i p w → p < z.pages
     page_in_sweep a i p w e = subst (λ (x : Shape). p < x.pages) shape_is (sound.swept_page a i p w (ap (λ (x : View). x.swept) is ∙ e))
+
+-- what it may draw is the same in every pool
+pub can_draw_in : (now v : View) (home : List ℕ) (e : ℕ) → homed home v ≡ now → CanDraw now e → CanDraw v e
+can_draw_in now v home e is (can_draw n k h) = can_draw n k (ap (λ (x : View). x.number) is ∙ h)
+can_draw_in now v home e is (can_look h z) = can_look (ap (λ (x : View). x.number) is ∙ h) z
 
 -- ---- places that are known
 

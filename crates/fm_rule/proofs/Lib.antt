@@ -5,7 +5,10 @@ pub mod Stepping
 pub mod Keeping
 pub mod Noting
 pub mod Following
+pub mod Beginning
 pub mod Asking
+pub mod Seeking
 pub mod Halves
+pub mod Counting
 pub mod Resting
 pub mod GivenBytes

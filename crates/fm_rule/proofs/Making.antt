@@ -1,21 +1,22 @@
 -- The steps that a pass of a pool may make, by what is known at the call.
 use Rattle.std.proofs.Common.{◌≡◌, ◌≢◌, ℕ, ◌+◌, ◌-◌, ◌/◌, ◌%◌, ◌^◌, ◌<◌, ◌≤◌, ◌==◌, bit_or, true, [], ◌∷◌, Some, None, sym, ap, ◌∙◌, subst, arith}
 use prog.Atomic.{either}
+use Rattle.std.proofs.lemmas.Bool.{leb-true}
 use Rattle.fm_words.specs.declared.shape.Shape.{Shape}
-use Rattle.fm_words.specs.Places.{at, draw, slot_bits, page_bits, map, page_word, mark, session, given}
+use Rattle.fm_words.specs.Places.{at, draw, slot_bits, page_bits, map, page_word, mark, session, given, number_bits, term, groups}
 use Rattle.fm_base.specs.declared.caller.Caller.{Caller}
 use Rattle.fm_base.specs.declared.arena_id.ArenaId.{ArenaId}
 use Rattle.fm_base.specs.declared.kind.Kind.TheVariants.{Global, Automatic}
 use Rattle.fm_base.specs.Machine.{IsPower, rounded_up}
 use Rattle.fm_base.specs.Arenas.{MayUse, owner_of}
 use Rattle.fm_words.specs.Bits.{IsWithout}
-use Rattle.fm_pool_facts.specs.Hands.{nothing, taken, learnt, retired}
-use Rattle.fm_pool_facts.specs.declared.step.Step.TheVariants.{Draws, Marks, Checks, Loads, Stores, SwapsIf, Adds, Allocates, Holds, Unholds, Backs, Unmarks, Shuts, Visits, TakesSlot, LearnsGeneration, Opens, Claims, Maps, ReadsMap, SweepsGiven, SweepsMap, Unmaps, Wipes, GivesPage, ReturnsPage, ResetsGiven, Retires, GivesSlot, Looks}
+use Rattle.fm_pool_facts.specs.Hands.{nothing, taken, learnt, retired, no_number, number_taken, number_left, number_joined}
+use Rattle.fm_pool_facts.specs.declared.step.Step.TheVariants.{Draws, Marks, Checks, Loads, Stores, SwapsIf, Adds, Allocates, Holds, Unholds, Backs, Unmarks, Shuts, Visits, TakesSlot, LearnsGeneration, Opens, Claims, Maps, ReadsMap, SweepsGiven, SweepsMap, Unmaps, Wipes, GivesPage, ReturnsPage, ResetsGiven, Retires, GivesSlot, TakesNumber, LearnsTerm, RaisesTerm, GivesNumber, Looks}
 use Rattle.fm_pool_facts.specs.Views.{View, In, IsKnown, IsOver, limit_of}
 use Rattle.fm_pool_facts.specs.Words.{alive_word, closing_word, free_word, held_word, mark_of}
 use Rattle.fm_pool_facts.specs.Handles.{back_word}
 use Rattle.fm_pool_facts.specs.Closes.{visited_of}
-use Rattle.fm_pool_facts.specs.Steps.{draw_next, CanReach, HasParts, AreAllGiven, given_next}
+use Rattle.fm_pool_facts.specs.Steps.{draw_next, number_at, CanDraw, CanReach, HasParts, AreAllGiven, given_next}
 use Rattle.fm_words.specs.Maps.{map_word}
 use Rattle.fm_pool_facts.specs.Parts.{unread, named, wiping, mapping_of}
 use Rattle.fm_pool_facts.specs.Moves.{MayStep, MayStore}
@@ -24,7 +25,8 @@ use Rattle.fm_pool_steps.proofs.Reaching.{load_steps, store_steps, swap_steps, a
 use Rattle.fm_pool_steps.proofs.Allocating.{allocate_steps}
 use Rattle.fm_pool_steps.proofs.Holding.{hold_steps, unhold_steps}
 use Rattle.fm_pool_steps.proofs.Backing.{back_steps}
-use Rattle.fm_pool_steps.proofs.Drawing.{draw_steps, nat_le_true}
+use Rattle.fm_pool_steps.proofs.Drawing.{draw_steps}
+use Rattle.fm_pool_steps.proofs.Numbering.{take_number_steps, learn_term_steps, raise_term_steps, give_number_steps}
 use Rattle.fm_pool_steps.proofs.Shutting.{shut_steps}
 use Rattle.fm_pool_steps.proofs.Visiting.{visit_steps}
 use Rattle.fm_pool_steps.proofs.Taking.{take_steps, generation_steps}
@@ -35,7 +37,7 @@ use Rattle.fm_pool_steps.proofs.Claiming.{claim_steps, give_page_steps}
 use Rattle.fm_pool_steps.proofs.Mapping.{map_steps, read_map_steps}
 use Rattle.fm_pool_steps.proofs.Retiring.{retire_steps}
 use Rattle.fm_pool_steps.proofs.Giving.{give_steps}
-use Rattle.fm_rule.proofs.Knowing.{WordPlace}
+use Rattle.fm_rule.proofs.Knowing.{WordPlace, group_low, at_number}
 
 module _ (z : Shape) (id : ℕ) (v : View) (l : v.live ≡ true) (i : ℕ) where
   pub may_mark : (a : ArenaId) (c : Caller) (y : ℕ) → v.inside ≡ None → c ≡ v.caller → i ≡ at z (mark c.number) → y ≡ mark_of a → MayStore z (Marks a) id v i y
@@ -75,15 +77,34 @@ module _ (z : Shape) (id : ℕ) (v : View) (l : v.live ≡ true) (i : ℕ) where
       (λ j. (sym p j, sym (is ∙ ap (λ (k : ℕ). given_next k count size align) lim) j))
       (allocate_steps z id v l a e count size align q (λ fits w low h.
       let round : ℕ = rounded_up count align in
-      let below : round + size ≤ limit_of z = nat_le_true (round + size) (limit_of z) fits in
+      let below : round + size ≤ limit_of z = leb-true (round + size) (limit_of z) fits in
       let y = parts (subst (λ (x : Shape). round + size ≤ limit_of x) (sym s) below) w low h in
       (y.0, subst (λ (x : Shape). In (mapping_of (w / x.page_words) y.0) v.reads) s y.1)) s)
 
-  pub may_draw : (e next : ℕ) → v.met ≡ [] → v.drawn ≡ None → v.shape ≡ z → i ≡ at z draw → next ≡ draw_next e z.passes
+  pub may_draw : (e next : ℕ) → v.met ≡ [] → CanDraw v e → i ≡ at z draw → next ≡ draw_next e
       → MayStep z (Draws e) id v i (λ n. either (n == e) next n)
-  may_draw e next m d s p is =
-      subst (λ (x : ℕ × ℕ). MayStep z (Draws e) id v x.0 (λ n. either (n == e) x.1 n))
-      (λ j. (sym p j, (ap (λ (y : Shape). draw_next e y.passes) s ∙ sym is) j)) (draw_steps z id v e l m d s)
+  may_draw e next m d p is =
+      subst (λ (x : ℕ × ℕ). MayStep z (Draws e) id v x.0 (λ n. either (n == e) x.1 n)) (λ j. (sym p j, sym is j)) (draw_steps z id v e l m d)
+
+  pub may_take_number : (g e bit next : ℕ) → v.number ≡ no_number → g < groups z → bit < 64 → number_at g bit < z.passes → IsWithout e bit next
+      → i ≡ at z (number_bits g) → MayStep z (TakesNumber g e bit) id v i (λ n. either (n == e) next n)
+  may_take_number g e bit next none low few fits w p =
+      subst (λ (x : ℕ). MayStep z (TakesNumber g e bit) id v x (λ n. either (n == e) next n)) (sym p)
+      (take_number_steps z id v g e bit next l none low few fits w)
+
+  pub may_learn_term : (n : ℕ) → v.number ≡ number_taken n → i ≡ at z (term n) → MayStep z (LearnsTerm n) id v i (λ x. x)
+  may_learn_term n h p = subst (λ (x : ℕ). MayStep z (LearnsTerm n) id v x (λ y. y)) (sym p) (learn_term_steps z id v n l h)
+
+  pub may_raise_term : (c : Caller) (y : ℕ) → v.number ≡ number_joined c → i ≡ at z (term c.number) → y ≡ c.term + 1
+      → MayStore z (RaisesTerm c.number) id v i y
+  may_raise_term c y h p q =
+      subst (λ (x : ℕ × ℕ). MayStore z (RaisesTerm c.number) id v x.0 x.1) (λ j. (sym p j, sym q j)) (raise_term_steps z id v c l h)
+
+  pub may_give_number : (n w : ℕ) → v.number ≡ number_left n → n < z.passes → i ≡ at z (number_bits (n / 64)) → w ≡ 2 ^ (n % 64)
+      → MayStep z (GivesNumber n) id v i (λ x. bit_or x w)
+  may_give_number n w h low p q =
+      subst (λ (x : ℕ × ℕ). MayStep z (GivesNumber n) id v x.0 (λ y. bit_or y x.1)) (λ j. (sym p j, sym q j))
+      (give_number_steps z id v n (n / 64) (n % 64) l (at_number n) (group_low z n low) (omega arith) (h ∙ ap number_left (at_number n)))
 
   pub may_hold : (a : ArenaId) (word next : ℕ) → IsKnown v a → MayUse a v.caller → i ≡ at z (session a.slot) → next ≡ held_word a word
       → MayStep z (Holds a word) id v i (λ n. either (n == word) next n)
@@ -140,7 +161,7 @@ module _ (z : Shape) (id : ℕ) (v : View) (l : v.live ≡ true) (i : ℕ) where
   may_wipe a k q w s h u f p = subst (λ (x : ℕ). MayStore z (Wipes a k q w) id v x 0) (sym p) (wipe_steps z id v a k l s q w h u f)
 
   pub may_return_page : (a : ArenaId) (k q w n : ℕ) → visited_of v.sweeps a ≡ Some k → k < z.reach → v.swept ≡ wiping a k q w → AreAllGiven v a k w
-      → IsOver v a → i ≡ at z page_bits → n ≡ 2 ^ q → MayStep z (ReturnsPage a q) id v i (λ w. bit_or w n)
+      → IsOver v a → i ≡ at z (page_bits (q / 64)) → n ≡ 2 ^ (q % 64) → MayStep z (ReturnsPage a q) id v i (λ w. bit_or w n)
   may_return_page a k q w n s h u g o p e =
       subst (λ (x : ℕ × ℕ). MayStep z (ReturnsPage a q) id v x.0 (λ w. bit_or w x.1)) (λ j. (sym p j, sym e j)) (return_steps z id v a k l s q w h u g o)
 
@@ -151,10 +172,10 @@ module _ (z : Shape) (id : ℕ) (v : View) (l : v.live ≡ true) (i : ℕ) where
       → i ≡ at z (session a.slot) → y ≡ free_word z.generations (a.generation + 1) → MayStore z (Retires a) id v i y
   may_retire a y e h u s p q = subst (λ (x : ℕ × ℕ). MayStore z (Retires a) id v x.0 x.1) (λ j. (sym p j, sym q j)) (retire_steps z id v a l e h u s)
 
-  pub may_take_page : (e q next : ℕ) → v.pages ≡ [] → q < z.pages → IsWithout e q next → i ≡ at z page_bits
-      → MayStep z (Claims e q) id v i (λ n. either (n == e) next n)
-  may_take_page e q next h low w p =
-      subst (λ (x : ℕ). MayStep z (Claims e q) id v x (λ n. either (n == e) next n)) (sym p) (claim_steps z id v e q next l h low w)
+  pub may_take_page : (g e bit next : ℕ) → v.pages ≡ [] → bit < 64 → number_at g bit < z.pages → IsWithout e bit next → i ≡ at z (page_bits g)
+      → MayStep z (Claims g e bit) id v i (λ n. either (n == e) next n)
+  may_take_page g e bit next h few low w p =
+      subst (λ (x : ℕ). MayStep z (Claims g e bit) id v x (λ n. either (n == e) next n)) (sym p) (claim_steps z id v g e bit next l h few low w)
 
   pub may_map : (a : ArenaId) (k q new : ℕ) → v.shape ≡ z → v.inside ≡ Some a → k < z.reach → v.pages ≡ q ∷ [] → i ≡ at z (map a.slot k) → new ≡ map_word q
       → MayStep z (Maps a k q) id v i (λ n. either (n == 0) new n)
@@ -164,7 +185,7 @@ module _ (z : Shape) (id : ℕ) (v : View) (l : v.live ≡ true) (i : ℕ) where
   pub may_read_map : (a : ArenaId) (k : ℕ) → v.shape ≡ z → v.inside ≡ Some a → k < z.reach → i ≡ at z (map a.slot k) → MayStep z (ReadsMap a k) id v i (λ n. n)
   may_read_map a k sh ins low p = subst (λ (x : ℕ). MayStep z (ReadsMap a k) id v x (λ n. n)) (sym p) (read_map_steps z id v a k l sh ins low)
 
-  pub may_give_page : (q n : ℕ) → v.pages ≡ q ∷ [] → i ≡ at z page_bits → n ≡ 2 ^ q → MayStep z (GivesPage q) id v i (λ w. bit_or w n)
+  pub may_give_page : (q n : ℕ) → v.pages ≡ q ∷ [] → i ≡ at z (page_bits (q / 64)) → n ≡ 2 ^ (q % 64) → MayStep z (GivesPage q) id v i (λ w. bit_or w n)
   may_give_page q n h p e =
       subst (λ (x : ℕ × ℕ). MayStep z (GivesPage q) id v x.0 (λ w. bit_or w x.1)) (λ j. (sym p j, sym e j)) (give_page_steps z id v q l h)
 

@@ -1,7 +1,6 @@
 -- Notes are made and met.
 use Rattle.std.proofs.Common.{◌≡◌, ◌≢◌, ℕ, ◌+◌, ◌-◌, ◌%◌, ◌^◌, ◌<◌, ◌≤◌, ◌==◌, Bool, true, false, if◌then◌else◌, bit_and, List, [], Option, Some, None, inl, inr, refl, ◌++◌, sym, ap, ◌∙◌, subst, arith, eq-eqb, ne_eqb}
 use Rattle.std.proofs.lemmas.Nat.{and_mask}
-use Rattle.atomic_table.specs.Seated.{TableId}
 use Rattle.fm_words.specs.declared.shape.Shape.{Shape}
 use Rattle.fm_words.specs.Places.{words}
 use Rattle.fm_base.specs.declared.caller.Caller.{Caller}
@@ -17,19 +16,7 @@ use Rattle.fm_rule.specs.declared.pass.Part.{Part}
 use Rattle.fm_rule.proofs.Allowed.{part_on, stepped, still_counted, alike_none}
 use Rattle.fm_pool_facts.specs.Moves.{Gives, Tells}
 use Rattle.fm_pool_steps.proofs.First.{two_words}
-use Rattle.fm_rule.specs.Views.{numbers_of, homed, Keeps}
-
--- numbers tell one table
-pub one_table : (s t : TableId) → numbers_of s ≡ numbers_of t → s ≡ t
-one_table s t e =
-    let a : s.words ≡ t.words = cc in
-    let b : s.slots ≡ t.slots = cc in
-    let c : s.views_name ≡ t.views_name = cc in
-    let d : s.atom ≡ t.atom = cc in
-    let f : s.block ≡ t.block = cc in
-    let g : s.offset ≡ t.offset = cc in
-    let h : s.slot_names ≡ t.slot_names = cc in
-    λ i. record { words = a i; slots = b i; views_name = c i; atom = d i; block = f i; offset = g i; slot_names = h i }
+use Rattle.fm_rule.specs.Views.{homed, Keeps}
 
 -- a table has words
 pub some_words : (z : Shape) (n : ℕ) → n ≡ words z → 0 < n

@@ -3,31 +3,31 @@ use Rattle.std.proofs.Common.{◌≡◌, ◌≢◌, ℕ, ◌+◌, ◌/◌, ◌^�
 use Rattle.fm_base.specs.declared.arena_id.ArenaId.{ArenaId}
 use Rattle.fm_base.specs.Calls.{Open, Lend, Enter, Read, Write, SwapIf, Add, Allocate, Leave, Hold, Unhold, Shut, Back, Fine, Found, Entry, entry_of}
 use Rattle.fm_base.specs.Machine.{allocate_reply}
-use Rattle.fm_base.specs.Finds.{Find, Visits as Visiting, TakesSlot as Taking, TakesPage as Claiming, Maps as Mapped}
-use Rattle.fm_pool_facts.specs.declared.step.Step.TheVariants.{Draws, Marks, Checks, Loads, Stores, SwapsIf, Adds, Allocates, Holds, Unholds, Backs, Unmarks, Shuts, Visits, TakesSlot, LearnsGeneration, Opens, Claims, Maps, ReadsMap, SweepsGiven, SweepsMap, Unmaps, Wipes, GivesPage, ReturnsPage, ResetsGiven, Retires, GivesSlot}
-use Rattle.fm_pool_facts.specs.Views.{View, In, limit_of, pass_of, given_of}
+use Rattle.fm_base.specs.Finds.{Find, Visits as Visiting, TakesSlot as Taking, TakesPage as Claiming, Maps as Mapped, TakesNumber as TakingNumber}
+use Rattle.fm_pool_facts.specs.declared.step.Step.TheVariants.{Draws, Marks, Checks, Loads, Stores, SwapsIf, Adds, Allocates, Holds, Unholds, Backs, Unmarks, Shuts, Visits, TakesSlot, LearnsGeneration, Opens, Claims, Maps, ReadsMap, SweepsGiven, SweepsMap, Unmaps, Wipes, GivesPage, ReturnsPage, ResetsGiven, Retires, GivesSlot, TakesNumber, LearnsTerm, RaisesTerm, GivesNumber}
+use Rattle.fm_pool_facts.specs.Views.{View, In, limit_of, given_of}
+use Rattle.fm_base.specs.declared.caller.Caller.{Caller}
 use Rattle.fm_pool_facts.specs.Words.{alive_holds, enter_found, inside_found, hold_found, shut_found}
-use Rattle.fm_pool_facts.specs.Hands.{nothing, learnt, takes, hand_taken, hand_retired}
+use Rattle.fm_pool_facts.specs.Hands.{nothing, learnt, takes, hand_taken, hand_retired, Number, no_number, number_learnt, number_left, number_taken_by, number_after, drawn_by}
 use Rattle.fm_pool_facts.specs.Holds.{grips, with_grips, holds_after, handles_with, released}
 use Rattle.fm_pool_facts.specs.Handles.{giving, given_back, giving_entries}
 use Rattle.fm_pool_facts.specs.Closes.{begun, visited, dropped, visit_found, closes_after, sweeps_after, visit_entries}
-use Rattle.fm_pool_facts.specs.Steps.{Stepped, number_drawn, draws, note_draw, part, entries, noted, acted, none_noted, where_found, note_of}
+use Rattle.fm_pool_facts.specs.Steps.{Stepped, draws, note_draw, part, entries, noted, acted, none_noted, where_found, note_of, number_at}
 use Rattle.fm_pool_facts.specs.Moves.{LearnsCount, LearnsSlots, Tells, LearnsMap}
 use Rattle.fm_pool_facts.specs.Parts.{unread, wiping, reads_after, reads_mapped, pages_mapped, pages_taken, swept_read}
 use Rattle.fm_rule.specs.Views.{homed}
 use Rattle.fm_rule.proofs.Allowed.{same_part, stepped}
 
-homed_draws : (o : Option ℕ) (e x : ℕ) (home : List ℕ) (v : View) → homed home (draws o e x v) ≡ draws o e x (homed home v)
-homed_draws None e x home v = refl
-homed_draws (Some n) e x home v = refl
+homed_draws : (o : Option Caller) (k : Number) (e x : ℕ) (home : List ℕ) (v : View) → homed home (draws o k e x v) ≡ draws o k e x (homed home v)
+homed_draws None k e x home v = refl
+homed_draws (Some n) k e x home v = refl
 
 -- what a count tells is the same in every pool
 pub count_learnt : (now v : View) (home : List ℕ) (x : ℕ) → homed home v ≡ now → LearnsCount v x → LearnsCount now x
 count_learnt now v home x is l = subst (λ (y : View). LearnsCount y x) is (record {
-  own = l.own;
+  some = l.some;
   few = l.few;
   whole = l.whole;
-  all = l.all;
   complete = λ h. l.complete (record { first = h.first; others = h.others });
   later = l.later;
 })
@@ -127,11 +127,12 @@ module _ (now v w : View) (home home' : List ℕ) (is : homed home v ≡ now) (s
       (stepped home v (part Unmarks v x) w (entries Unmarks v x) none_noted (same_part Unmarks v x) met t.gives)
 
   pub draw_stepped : (e x : ℕ) → Tells (Draws e) v x w
-      → Stepped now (homed home' w) (draws (number_drawn now.shape e x) e x now) [] (note_draw e x now)
+      → Stepped now (homed home' w) (draws (drawn_by now.number e x) (number_after now.number e x) e x now) [] (note_draw e x now)
   unfolding part entries noted
   draw_stepped e x t =
-      stepped_as (λ (y : View). draws (number_drawn y.shape e x) e x y) (λ y. []) (λ (y : View). note_draw e x y)
-      (subst (λ (p : View). Stepped (homed home v) (homed home w) p [] (note_draw e x v)) (homed_draws (number_drawn v.shape e x) e x home v)
+      stepped_as (λ (y : View). draws (drawn_by y.number e x) (number_after y.number e x) e x y) (λ y. []) (λ (y : View). note_draw e x y)
+      (subst (λ (p : View). Stepped (homed home v) (homed home w) p [] (note_draw e x v))
+      (homed_draws (drawn_by v.number e x) (number_after v.number e x) e x home v)
       (stepped home v (part (Draws e) v x) w (entries (Draws e) v x) (noted (Draws e) v x) (same_part (Draws e) v x) met t.gives))
 
   pub shut_stepped : (a : ArenaId) (x : ℕ) → Tells (Shuts a) v x w
@@ -148,14 +149,14 @@ module _ (now v w : View) (home home' : List ℕ) (is : homed home v ≡ now) (s
         closes = closes_after a (visit_found now.shape a k x) now.closes;
         sweeps = sweeps_after a (visit_found now.shape a k x) now.sweeps;
       })
-      (visit_entries a (visit_found now.shape a k x) now.caller) (note_of (Visiting a (pass_of k)) x now)
+      (visit_entries a (visit_found now.shape a k x) now.caller) (note_of (Visiting a k) x now)
   unfolding part entries noted
   visit_stepped a k x t =
       stepped_as (λ (y : View). record y {
         closes = closes_after a (visit_found y.shape a k x) y.closes;
         sweeps = sweeps_after a (visit_found y.shape a k x) y.sweeps;
       })
-      (λ (y : View). visit_entries a (visit_found y.shape a k x) y.caller) (λ (y : View). note_of (Visiting a (pass_of k)) x y)
+      (λ (y : View). visit_entries a (visit_found y.shape a k x) y.caller) (λ (y : View). note_of (Visiting a k) x y)
       (stepped home v (part (Visits a k) v x) w (entries (Visits a k) v x) (noted (Visits a k) v x) (same_part (Visits a k) v x) met t.gives)
 
   pub take_stepped : (e bit x : ℕ) → Tells (TakesSlot e bit) v x w
@@ -163,6 +164,29 @@ module _ (now v w : View) (home home' : List ℕ) (is : homed home v ≡ now) (s
   unfolding part entries noted
   take_stepped e bit x t = stepped_as (λ (y : View). record y { hand = hand_taken (takes e bit x) bit y.hand }) (λ y. []) (note_of (Taking e bit) x)
       (stepped home v (part (TakesSlot e bit) v x) w [] (note_of (Taking e bit) x v) (same_part (TakesSlot e bit) v x) met t.gives)
+
+  pub take_number_stepped : (g e bit x : ℕ) → Tells (TakesNumber g e bit) v x w
+      → Stepped now (homed home' w) (record now { number = number_taken_by (takes e bit x) (number_at g bit) now.number }) []
+      (note_of (TakingNumber g e bit) x now)
+  unfolding part entries noted
+  take_number_stepped g e bit x t = stepped_as (λ (y : View). record y { number = number_taken_by (takes e bit x) (number_at g bit) y.number }) (λ y. [])
+      (note_of (TakingNumber g e bit) x)
+      (stepped home v (part (TakesNumber g e bit) v x) w [] (note_of (TakingNumber g e bit) x v) (same_part (TakesNumber g e bit) v x) met t.gives)
+
+  pub learn_term_stepped : (n x : ℕ) → Tells (LearnsTerm n) v x w → Stepped now (homed home' w) (record now { number = number_learnt n x }) [] none_noted
+  unfolding part entries noted
+  learn_term_stepped n x t = stepped_as (λ (y : View). record y { number = number_learnt n x }) (λ y. []) (λ y. none_noted)
+      (stepped home v (part (LearnsTerm n) v x) w [] none_noted (same_part (LearnsTerm n) v x) met t.gives)
+
+  pub raise_term_stepped : (n x : ℕ) → Tells (RaisesTerm n) v x w → Stepped now (homed home' w) (record now { number = number_left n }) [] none_noted
+  unfolding part entries noted
+  raise_term_stepped n x t = stepped_as (λ (y : View). record y { number = number_left n }) (λ y. []) (λ y. none_noted)
+      (stepped home v (part (RaisesTerm n) v x) w [] none_noted (same_part (RaisesTerm n) v x) met t.gives)
+
+  pub give_number_stepped : (n x : ℕ) → Tells (GivesNumber n) v x w → Stepped now (homed home' w) (record now { number = no_number }) [] none_noted
+  unfolding part entries noted
+  give_number_stepped n x t = stepped_as (λ (y : View). record y { number = no_number }) (λ y. []) (λ y. none_noted)
+      (stepped home v (part (GivesNumber n) v x) w [] none_noted (same_part (GivesNumber n) v x) met t.gives)
 
   pub generation_stepped : (s x : ℕ) → Tells (LearnsGeneration s) v x w
       → Stepped now (homed home' w) (record now { hand = learnt s (x / 2 ^ 32) }) [] none_noted
@@ -216,12 +240,13 @@ module _ (now v w : View) (home home' : List ℕ) (is : homed home v ≡ now) (s
       (stepped home v (part (ReturnsPage a p) v x) w (entries (ReturnsPage a p) v x) (noted (ReturnsPage a p) v x)
       (same_part (ReturnsPage a p) v x) met t.gives)
 
-  pub take_page_stepped : (e bit : ℕ) (x : ℕ) → Tells (Claims e bit) v x w
-      → Stepped now (homed home' w) (record now { pages = pages_taken (takes e bit x) bit now.pages }) ([]) (note_of (Claiming e bit) x now)
+  pub take_page_stepped : (g e bit x : ℕ) → Tells (Claims g e bit) v x w
+      → Stepped now (homed home' w) (record now { pages = pages_taken (takes e bit x) (number_at g bit) now.pages }) [] (note_of (Claiming g e bit) x now)
   unfolding part entries noted
-  take_page_stepped e bit x t =
-      stepped_as (λ (y : View). record y { pages = pages_taken (takes e bit x) bit y.pages }) (λ (y : View). []) (λ (y : View). note_of (Claiming e bit) x y)
-      (stepped home v (part (Claims e bit) v x) w (entries (Claims e bit) v x) (noted (Claims e bit) v x) (same_part (Claims e bit) v x) met t.gives)
+  take_page_stepped g e bit x t =
+      stepped_as (λ (y : View). record y { pages = pages_taken (takes e bit x) (number_at g bit) y.pages }) (λ (y : View). [])
+      (λ (y : View). note_of (Claiming g e bit) x y)
+      (stepped home v (part (Claims g e bit) v x) w (entries (Claims g e bit) v x) (noted (Claims g e bit) v x) (same_part (Claims g e bit) v x) met t.gives)
 
   pub map_stepped : (a : ArenaId) (i p : ℕ) (x : ℕ) → Tells (Maps a i p) v x w
       → Stepped now (homed home' w) (record now { reads = reads_mapped i p x now.reads; pages = pages_mapped x now.pages })

@@ -1,8 +1,7 @@
 //! One atomic step each, of the kind that the caller picks.
-ghost use Rattle.std.specs.Prelude.{◌≡◌, ◌<◌, ◌==◌, ◌+◌, ◌-◌, ◌%◌, ◌^◌, bit_or};
+ghost use Rattle.std.specs.Prelude.{◌≡◌, ◌==◌, ◌+◌, ◌-◌, ◌%◌, ◌^◌, bit_or};
 ghost use prog.Atomic.{either};
-ghost use Rattle.fm_words.specs.Places.{words};
-ghost use Rattle.fm_pool_facts.specs.Moves.{Tells, MayStep, MayStore};
+ghost use Rattle.fm_rule.specs.Acts.{Acted, CanAct, CanStore};
 
 use crate::pool::{Aim, Pool, Told};
 use crate::seen::Seen;
@@ -13,13 +12,8 @@ use fm_pool_facts::Step;
 #[inline(always)]
 pub(crate) fn load_as<J: Aim>(pool: &Pool, seat: &mut Seat<(), Seen>, place: u64, step: Step) -> u64
     requires step { J.step ≡ step }
-    requires table { seat.old.table_id ≡ pool.now.table.shared.table_id }
-    requires place { place < words pool.now.shape }
-    requires may { MayStep pool.now.shape step seat.old.id seat.old.me.0 place (λ n. n) }
-    ensures table { seat.new.table_id ≡ seat.old.table_id }
-    ensures id { seat.new.id ≡ seat.old.id }
-    ensures slots { seat.new.me.1 ≡ seat.old.me.1 }
-    ensures tells { Tells step seat.old.me.0 result seat.new.me.0 }
+    requires can { CanAct pool.now seat.old place step (λ n. n) }
+    ensures { Acted seat.old seat.new step result }
 {
     let _ = step;
     pool.table.shared.load::<Told<J>>(seat, place as usize)
@@ -35,13 +29,8 @@ pub(crate) fn store_as<J: Aim>(
     step: Step,
 )
     requires step { J.step ≡ step }
-    requires table { seat.old.table_id ≡ pool.now.table.shared.table_id }
-    requires place { place < words pool.now.shape }
-    requires may { MayStore pool.now.shape step seat.old.id seat.old.me.0 place new }
-    ensures table { seat.new.table_id ≡ seat.old.table_id }
-    ensures id { seat.new.id ≡ seat.old.id }
-    ensures slots { seat.new.me.1 ≡ seat.old.me.1 }
-    ensures tells { Tells step seat.old.me.0 new seat.new.me.0 }
+    requires can { CanStore pool.now seat.old place step new }
+    ensures { Acted seat.old seat.new step new }
 {
     let _ = step;
     pool.table
@@ -59,13 +48,8 @@ pub(crate) fn exchange_as<J: Aim>(
     step: Step,
 ) -> u64
     requires step { J.step ≡ step }
-    requires table { seat.old.table_id ≡ pool.now.table.shared.table_id }
-    requires place { place < words pool.now.shape }
-    requires may { MayStep pool.now.shape step seat.old.id seat.old.me.0 place (λ n. either (n == old) new n) }
-    ensures table { seat.new.table_id ≡ seat.old.table_id }
-    ensures id { seat.new.id ≡ seat.old.id }
-    ensures slots { seat.new.me.1 ≡ seat.old.me.1 }
-    ensures tells { Tells step seat.old.me.0 result seat.new.me.0 }
+    requires can { CanAct pool.now seat.old place step (λ n. either (n == old) new n) }
+    ensures { Acted seat.old seat.new step result }
 {
     let _ = step;
     pool.table
@@ -82,13 +66,8 @@ pub(crate) fn add_as<J: Aim>(
     step: Step,
 ) -> u64
     requires step { J.step ≡ step }
-    requires table { seat.old.table_id ≡ pool.now.table.shared.table_id }
-    requires place { place < words pool.now.shape }
-    requires may { MayStep pool.now.shape step seat.old.id seat.old.me.0 place (λ w. (w + n) % 2 ^ 64) }
-    ensures table { seat.new.table_id ≡ seat.old.table_id }
-    ensures id { seat.new.id ≡ seat.old.id }
-    ensures slots { seat.new.me.1 ≡ seat.old.me.1 }
-    ensures tells { Tells step seat.old.me.0 result seat.new.me.0 }
+    requires can { CanAct pool.now seat.old place step (λ w. (w + n) % 2 ^ 64) }
+    ensures { Acted seat.old seat.new step result }
 {
     let _ = step;
     pool.table
@@ -105,13 +84,8 @@ pub(crate) fn subtract_as<J: Aim>(
     step: Step,
 ) -> u64
     requires step { J.step ≡ step }
-    requires table { seat.old.table_id ≡ pool.now.table.shared.table_id }
-    requires place { place < words pool.now.shape }
-    requires may { MayStep pool.now.shape step seat.old.id seat.old.me.0 place (λ w. (w + (2 ^ 64 - n)) % 2 ^ 64) }
-    ensures table { seat.new.table_id ≡ seat.old.table_id }
-    ensures id { seat.new.id ≡ seat.old.id }
-    ensures slots { seat.new.me.1 ≡ seat.old.me.1 }
-    ensures tells { Tells step seat.old.me.0 result seat.new.me.0 }
+    requires can { CanAct pool.now seat.old place step (λ w. (w + (2 ^ 64 - n)) % 2 ^ 64) }
+    ensures { Acted seat.old seat.new step result }
 {
     let _ = step;
     pool.table
@@ -128,13 +102,8 @@ pub(crate) fn or_as<J: Aim>(
     step: Step,
 ) -> u64
     requires step { J.step ≡ step }
-    requires table { seat.old.table_id ≡ pool.now.table.shared.table_id }
-    requires place { place < words pool.now.shape }
-    requires may { MayStep pool.now.shape step seat.old.id seat.old.me.0 place (λ w. bit_or w n) }
-    ensures table { seat.new.table_id ≡ seat.old.table_id }
-    ensures id { seat.new.id ≡ seat.old.id }
-    ensures slots { seat.new.me.1 ≡ seat.old.me.1 }
-    ensures tells { Tells step seat.old.me.0 result seat.new.me.0 }
+    requires can { CanAct pool.now seat.old place step (λ w. bit_or w n) }
+    ensures { Acted seat.old seat.new step result }
 {
     let _ = step;
     pool.table

@@ -1,7 +1,7 @@
 //! The bytes that the arenas of a finished pool have given.
-ghost use Rattle.std.specs.Prelude.{◌≡◌, ◌<◌, ◌/◌, ◌%◌, slice_index, IfOk, IfErr, IfSome, IsSome, IsTrue, ◌↔◌};
+ghost use Rattle.std.specs.Prelude.{◌≡◌, ◌<◌, ◌/◌, ◌%◌, slice_index, IfOk, IfErr, IfSome, IsSome, IsTrue, ◌↔◌, true};
 ghost use Rattle.fm_base.specs.declared.refusal.Refusal.TheVariants.{Memory};
-ghost use Rattle.fm_base.specs.Arenas.{Alive, arena_of, word_in};
+ghost use Rattle.fm_base.specs.Arenas.{Alive, arena_of, has_arena, word_in};
 ghost use Rattle.fm_bytes.specs.Words.{byte_of};
 ghost use Rattle.fm_words.specs.Places.{words};
 ghost use Rattle.fm_pool_facts.specs.Views.{Fits};
@@ -14,8 +14,12 @@ use fm_words::Shape;
 use std::alloc::Global;
 
 impl Finished {
-    /// The bytes that the arena has given; None exactly where it isn't alive. Refused: `Memory`.
+    /// The bytes that the arena, which was opened in the history, has given; None exactly where it isn't alive. Words tell
+    /// arenas of one slot and generation apart by the history alone.
+    ///
+    /// Refused: `Memory`.
     pub fn bytes_of(&self, alloc: Global, a: ArenaId) -> Result<Option<Vec<u8>>, Refusal>
+        requires { has_arena (state_of self.now) a ≡ true }
         ensures alive { IfOk result (λ o. IsSome o ↔ ((arena_of (state_of self.now) a).life ≡ Alive)) }
         ensures bytes { IfOk result (λ o. IfSome o (λ bytes. bytes.items ≡ given_bytes self.now a)) }
         ensures memory { IfErr result (λ e. e ≡ Memory) }
@@ -29,6 +33,7 @@ impl Finished {
 
     /// Whether the arena is alive.
     fn shows_alive(&self, a: ArenaId) -> bool
+        requires { has_arena (state_of self.now) a ≡ true }
         ensures { TellsAlive self.now a result }
     {
         let shape = self.shape;
@@ -84,5 +89,5 @@ impl Finished {
 fn can_have(z: Shape, a: ArenaId) -> bool
     ensures { IsTrue result ↔ Fits z a }
 {
-    a.slot < z.slots && a.owner < z.passes && a.generation < z.generations && a.term == 0
+    a.slot < z.slots && a.owner < z.passes && a.generation < z.generations
 }

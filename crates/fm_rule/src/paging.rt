@@ -6,6 +6,7 @@ ghost use Rattle.fm_base.specs.Finds.{TakesPage as Claiming, Maps as Mapping};
 ghost use Rattle.fm_pool_facts.specs.Hands.{takes};
 ghost use Rattle.fm_pool_facts.specs.Parts.{pages_mapped, pages_taken, reads_after, reads_mapped};
 ghost use Rattle.fm_pool_facts.specs.Moves.{LearnsMap};
+ghost use Rattle.fm_words.specs.Bits.{number_at};
 ghost use Rattle.fm_pool_facts.specs.Steps.{Stepped, none_noted, note_of, where_found};
 ghost use Rattle.fm_rule.specs.Passes.{IsOf};
 
@@ -18,20 +19,21 @@ use fm_pool_facts::Step;
 use fm_words::{map_word, without_bit};
 use std::marker::Brand;
 
-/// Answers the word of page bits. Where it is the expected one, and the page's bit is 1 in it, the bit is 0 from this
-/// step on, and the pass has the page in its hand.
-pub fn step_take_page(pool: &Pool, pass: &mut Pass, expected: u64, page: u32) -> u64
+/// Answers a word of page bits. Where it is the expected one, and the page's bit is 1 in it, the bit is 0 from this step
+/// on, and the pass has the page in its hand.
+pub fn step_take_page(pool: &Pool, pass: &mut Pass, group: u32, expected: u64, bit: u32) -> u64
     requires of { IsOf pool.now pass.old }
     requires none { pass.old.pages ≡ [] }
-    requires low { page < pool.now.shape.pages }
+    requires few { bit < 64 }
+    requires fits { number_at group bit < pool.now.shape.pages }
     ensures { Stepped pass.old pass.new
-        (record pass.old { pages = pages_taken (takes expected page result) page pass.old.pages }) []
-        (note_of (Claiming expected page) result pass.old) }
+        (record pass.old { pages = pages_taken (takes expected bit result) (number_at group bit) pass.old.pages }) []
+        (note_of (Claiming group expected bit) result pass.old) }
 {
     let seat = &mut pass.seat;
-    let place = pool.shape.page_bits_place();
-    let next = without_bit(expected, page);
-    let step = Step::Claims(expected, page);
+    let place = pool.shape.page_bits_place(group);
+    let next = without_bit(expected, bit);
+    let step = Step::Claims(group, expected, bit);
     exchange_as::<Brand>(pool, seat, place, expected, next, step)
 }
 
@@ -83,7 +85,7 @@ pub fn step_give_page(pool: &Pool, pass: &mut Pass, page: u32)
     ensures { Stepped pass.old pass.new (record pass.old { pages = [] }) [] none_noted }
 {
     let seat = &mut pass.seat;
-    let place = pool.shape.page_bits_place();
-    let bits = bit(page);
+    let place = pool.shape.page_bits_place(page / 64);
+    let bits = bit(page % 64);
     or_as::<Brand>(pool, seat, place, bits, Step::GivesPage(page));
 }

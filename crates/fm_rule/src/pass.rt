@@ -50,7 +50,7 @@ pub struct Pass {
     /// The part of that arena whose page it read last.
     pub(crate) part: Part,
     /// How many callers are gathered into it.
-    pub(crate) gathered: u32,
+    pub(crate) gathered: u64,
 }
 
 impl Model for Pass {
@@ -84,6 +84,14 @@ impl Pass {
         ensures sound { IsSound self.now }
     {
         self.caller.number
+    }
+
+    /// Its term: how often its number was drawn and returned before.
+    pub fn term(&self) -> u32
+        ensures term { result ≡ self.now.caller.term }
+        ensures sound { IsSound self.now }
+    {
+        self.caller.term
     }
 
     /// Where the word of this index of the arena stands that the pass is inside, if it has read its part last.

@@ -1,17 +1,19 @@
 ghost use Rattle.std.specs.Prelude.{◌≡◌, ◌<◌, ◌≤◌, IfOk, IfErr, length};
 ghost use Rattle.fm_words.specs.Shapes.{IsValid};
-ghost use Rattle.fm_words.specs.Places.{words};
+ghost use Rattle.fm_words.specs.Places.{groups, page_groups, words};
 ghost use Rattle.fm_base.specs.declared.refusal.Refusal.TheVariants.{Memory};
 ghost use Rattle.fm_pool_facts.specs.declared.step.Step.TheVariants.{Looks};
 ghost use Rattle.fm_pool_facts.specs.Views.{IsSound, limit_of, span};
 ghost use Rattle.fm_pool_facts.specs.Moves.{Tells};
 ghost use Rattle.fm_rule.specs.Views.{first_pass, numbers_of, HasPart};
+ghost use Rattle.fm_rule.specs.Beginning.{AreFirst, IsBegun, IsFull};
+ghost use Rattle.fm_words.specs.Bits.{number_at};
 
 use crate::pass::{NO_ARENA, NO_PART, Part, Pass};
 use crate::seen::Seen;
 use atomic_table::{Play, Table, TableRule};
 use fm_base::{Caller, Refusal};
-use fm_words::{Shape, map_of, ones};
+use fm_words::{Shape, map_of, ones, without_bit};
 use std::alloc::Global;
 use std::marker::{Brand, PhantomData};
 
@@ -60,9 +62,52 @@ pub struct Pool {
     ghost valid: { IsValid shape },
 }
 
+/// A group's word of bits for so many things: each has its bit 1.
+fn group_ones(count: u32, group: u32) -> u64
+    requires { number_at group 0 < count }
+    ensures { IsFull count group result }
+{
+    ones((count - 64 * group).min(64))
+}
+
+/// A word of number bits of a new pool: each number of the group is free but number 0, which the first pass has.
+fn first_numbers(shape: Shape, group: u32) -> u64
+    requires { number_at group 0 < shape.passes }
+    ensures { AreFirst shape group result }
+{
+    let word = group_ones(shape.passes, group);
+    if group == 0 {
+        without_bit(word, 0)
+    } else {
+        word
+    }
+}
+
+/// Sets the page bits of a new pool.
+fn set_page_bits(words: &mut Vec<u64>, shape: Shape)
+    requires valid { IsValid shape }
+    requires begun { IsBegun shape words.old.items 0 0 }
+    ensures { IsBegun shape words.new.items (page_groups shape) 0 }
+{
+    for group in 0..shape.page_groups() {
+        words[shape.page_bits_place(group) as usize] = group_ones(shape.pages, group);
+    }
+}
+
+/// Sets the number bits of a new pool, whose page bits are set.
+fn set_number_bits(words: &mut Vec<u64>, shape: Shape)
+    requires valid { IsValid shape }
+    requires begun { IsBegun shape words.old.items (page_groups shape) 0 }
+    ensures { IsBegun shape words.new.items (page_groups shape) (groups shape) }
+{
+    for group in 0..shape.groups() {
+        words[shape.number_bits_place(group) as usize] = first_numbers(shape, group);
+    }
+}
+
 impl Pool {
-    /// A pool of this shape and its first pass, which has number 0. Every slot can be lent, and every
-    /// page claimed.
+    /// A pool of this shape and its first pass, which has number 0. Every slot can be lent, every page claimed, and every
+    /// other number drawn.
     ///
     /// All memory is taken here. Refused: `Memory`.
     pub fn make(alloc: Global, shape: Shape) -> Result<(Pool, Pass), Refusal>
@@ -75,7 +120,8 @@ impl Pool {
         let mut words = vec![in alloc; 0u64; shape.words() as usize]?;
         words[shape.draw_place() as usize] = 1;
         words[shape.slot_bits_place() as usize] = ones(shape.slots);
-        words[shape.page_bits_place() as usize] = ones(shape.pages);
+        set_page_bits(&mut words, shape);
+        set_number_bits(&mut words, shape);
         let (table, seat) = Table::of_words(alloc, &words, &shape)?;
         let pass = Pass {
             seat,
@@ -141,9 +187,11 @@ impl Pool {
         self.peek(self.shape.slot_bits_place())
     }
 
-    /// A guess at the word of page bits. It tells nothing.
-    pub fn guess_pages(&self) -> u64 {
-        self.peek(self.shape.page_bits_place())
+    /// A guess at a group's word of page bits. It tells nothing.
+    pub fn guess_pages(&self, group: u32) -> u64
+        requires { group < page_groups self.now.shape }
+    {
+        self.peek(self.shape.page_bits_place(group))
     }
 
     /// A load of the word at this place. It tells nothing.

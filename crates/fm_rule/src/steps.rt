@@ -4,7 +4,7 @@ ghost use Rattle.fm_base.specs.Arenas.{MayUse};
 ghost use Rattle.fm_base.specs.Calls as machine;
 ghost use Rattle.fm_base.specs.Calls.{entry_of};
 ghost use Rattle.fm_base.specs.Finds.{Visits as Visiting};
-ghost use Rattle.fm_pool_facts.specs.Views.{IsKnown, pass_of};
+ghost use Rattle.fm_pool_facts.specs.Views.{IsKnown};
 ghost use Rattle.fm_pool_facts.specs.Words.{alive_holds, enter_found, inside_found, own_word, shut_found};
 ghost use Rattle.fm_pool_facts.specs.Holds.{handles_with};
 ghost use Rattle.fm_pool_facts.specs.Closes.{begun, visited_of, visit_found, closes_after, sweeps_after, visit_entries};
@@ -121,7 +121,7 @@ pub fn step_visit(pool: &Pool, pass: &mut Pass, a: ArenaId, k: u32) -> u64
           sweeps = sweeps_after a (visit_found pass.old.shape a k result) pass.old.sweeps;
         })
         (visit_entries a (visit_found pass.old.shape a k result) pass.old.caller)
-        (note_of (Visiting a (pass_of k)) result pass.old) }
+        (note_of (Visiting a k) result pass.old) }
 {
     let place = pool.shape.mark_place(k);
     load_as::<Brand>(pool, &mut pass.seat, place, Step::Visits(a, k))

@@ -87,8 +87,8 @@ pub fn step_return_page(pool: &Pool, pass: &mut Pass, a: ArenaId, index: u32, pa
 {
     let _ = (index, words);
     let seat = &mut pass.seat;
-    let place = pool.shape.page_bits_place();
-    let bits = bit(page);
+    let place = pool.shape.page_bits_place(page / 64);
+    let bits = bit(page % 64);
     or_as::<Brand>(pool, seat, place, bits, Step::ReturnsPage(a, page));
 }
 

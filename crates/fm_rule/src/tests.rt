@@ -1,7 +1,7 @@
 ghost use Rattle.std.specs.Prelude.{◌<◌};
 ghost use Rattle.fm_words.specs.Shapes.{IsValid};
 
-use crate::{Pool, alive_holds, mark_of, step_take_page, step_unmark};
+use crate::{Pool, alive_holds, mark_of, step_give_page, step_take_page, step_unmark};
 use fm_base::{ArenaId, Kind};
 use fm_words::Shape;
 use std::alloc::AllocGlobal;
@@ -25,29 +25,22 @@ const LARGER: Shape = Shape {
     generations: 5,
 };
 
-/// The most passes, slots, pages, words and generations. Pages of the most words are fewer, and an arena of many pages
-/// leaves fewer slots.
+/// The most passes, slots, pages, parts and generations, and so the most words.
 const GREATEST: Shape = Shape {
     passes: 4_096,
     slots: 64,
-    pages: 64,
-    page_words: 262_144,
-    reach: 1,
+    pages: 4_096,
+    page_words: 4_096,
+    reach: 4_096,
     generations: u32::MAX,
 };
 
-/// One slot that has all pages.
-const FARTHEST: Shape = Shape {
-    slots: 1,
-    reach: 64,
-    ..GREATEST
-};
-
-/// Pages of the most words.
+/// Pages of the most words, which are fewer.
 const WIDEST: Shape = Shape {
     slots: 16,
     pages: 16,
     page_words: 1_048_576,
+    reach: 1,
     ..GREATEST
 };
 
@@ -60,25 +53,41 @@ fn word_at(pool: &Pool, place: u64) -> Option<u64> {
     }
 }
 
-/// All words are 0 but the count of numbers, the slot bits and the page bits. Of many words the first and the last are
-/// looked at.
-fn check_words<R: Abort + AllocGlobal>(
-    rt: &R,
-    shape: Shape,
-    words: u64,
+/// The first words of a pool that aren't 0: the slot bits, the last word of page bits, and the first word of number bits at
+/// its place.
+#[derive(Clone, Copy)]
+struct FirstWords {
     slot_bits: u64,
     page_bits: u64,
-)
+    numbers_at: u64,
+    number_bits: u64,
+}
+
+/// All words are 0 but the count of draws and these; of more words of page bits or of number bits each is full. Of many
+/// words the first and the last are looked at.
+fn check_words<R: Abort + AllocGlobal>(rt: &R, shape: Shape, words: u64, first: FirstWords)
     requires valid { IsValid shape }
     requires some { 0 < words }
 {
     let (pool, _) = Pool::make(rt.alloc(), shape).expect(rt, "words");
-    for place in 0..words.min(10_000) {
+    let pages_end = shape.mark_place(0);
+    let terms_at = shape.term_place(0);
+    for place in 0..words.min(300_000) {
         let expected = match place {
+            0 => 0,
             1 => 1,
-            2 => slot_bits,
-            3 => page_bits,
-            _ => 0,
+            2 => first.slot_bits,
+            _ => {
+                if place + 1 == pages_end {
+                    first.page_bits
+                } else if place == first.numbers_at {
+                    first.number_bits
+                } else if place < pages_end || first.numbers_at < place && place < terms_at {
+                    u64::MAX
+                } else {
+                    0
+                }
+            }
         };
         assert_eq!(rt; word_at(&pool, place), Some(expected));
     }
@@ -87,23 +96,97 @@ fn check_words<R: Abort + AllocGlobal>(
 }
 
 #[test]
-fn pools_begin_with_zeros_one_number_and_the_bits_of_slots_and_pages(rt: HostRuntime) {
-    check_words(&rt, LEAST, 9, 1, 1);
-    check_words(&rt, LARGER, 47, 3, 15);
+fn pools_begin_with_zeros_one_draw_and_bits(rt: HostRuntime) {
+    let least = FirstWords {
+        slot_bits: 1,
+        page_bits: 1,
+        numbers_at: 8,
+        number_bits: 0,
+    };
+    check_words(&rt, LEAST, 11, least);
+    let larger = FirstWords {
+        slot_bits: 3,
+        page_bits: 15,
+        numbers_at: 15,
+        number_bits: 0b110,
+    };
+    check_words(&rt, LARGER, 51, larger);
+}
+
+#[test]
+fn every_number_but_the_first_is_free(rt: HostRuntime) {
+    for (passes, word, last) in [
+        (1, 0, 0),
+        (2, 0b10, 0b10),
+        (63, u64::MAX / 2 - 1, u64::MAX / 2 - 1),
+        (64, u64::MAX - 1, u64::MAX - 1),
+        (65, u64::MAX - 1, 1),
+        (4_096, u64::MAX - 1, u64::MAX),
+    ] {
+        let shape = Shape { passes, ..LEAST };
+        let (pool, _) = Pool::make(rt.alloc(), shape).expect(&rt, "words");
+        let first_at = shape.number_bits_place(0);
+        let last_at = shape.number_bits_place(shape.groups() - 1);
+        assert_eq!(rt;
+            (word_at(&pool, first_at), word_at(&pool, last_at)),
+            (Some(word), Some(last))
+        );
+    }
 }
 
 #[test]
 fn pools_of_the_greatest_shapes_can_be_had(rt: HostRuntime) {
-    check_words(&rt, GREATEST, 16_781_508, u64::MAX, u64::MAX);
-    check_words(&rt, FARTHEST, 16_781_382, 1, u64::MAX);
-    check_words(&rt, WIDEST, 16_781_364, 0xffff, 0xffff);
+    let greatest = FirstWords {
+        slot_bits: u64::MAX,
+        page_bits: u64::MAX,
+        numbers_at: 266_435,
+        number_bits: u64::MAX - 1,
+    };
+    check_words(&rt, GREATEST, 17_047_811, greatest);
+    let widest = FirstWords {
+        slot_bits: 0xffff,
+        page_bits: 0xffff,
+        numbers_at: 4_148,
+        ..greatest
+    };
+    check_words(&rt, WIDEST, 16_785_524, widest);
+}
+
+#[test]
+fn every_page_is_free(rt: HostRuntime) {
+    for (pages, first, last) in [
+        (1, 1, 1),
+        (63, u64::MAX / 2, u64::MAX / 2),
+        (64, u64::MAX, u64::MAX),
+        (65, u64::MAX, 1),
+        (4_096, u64::MAX, u64::MAX),
+    ] {
+        let shape = Shape { pages, ..LEAST };
+        let (pool, _) = Pool::make(rt.alloc(), shape).expect(&rt, "words");
+        assert_eq!(rt; pool.guess_pages(0), first);
+        assert_eq!(rt; pool.guess_pages(shape.page_groups() - 1), last);
+    }
 }
 
 #[test]
 fn a_page_is_taken_by_its_bit(rt: HostRuntime) {
     let (pool, mut pass) = Pool::make(rt.alloc(), LARGER).expect(&rt, "words");
-    assert_eq!(rt; step_take_page(&pool, &mut pass, 0b1111, 2), 0b1111);
+    assert_eq!(rt; step_take_page(&pool, &mut pass, 0, 0b1111, 2), 0b1111);
     assert_eq!(rt; word_at(&pool, 3), Some(0b1011));
+}
+
+#[test]
+fn a_page_of_another_group_is_taken_by_its_bit(rt: HostRuntime) {
+    let shape = Shape {
+        pages: 66,
+        ..LARGER
+    };
+    let (pool, mut pass) = Pool::make(rt.alloc(), shape).expect(&rt, "words");
+    assert_eq!(rt; step_take_page(&pool, &mut pass, 1, 0b11, 1), 0b11);
+    assert_eq!(rt; pool.guess_pages(0), u64::MAX);
+    assert_eq!(rt; pool.guess_pages(1), 0b01);
+    step_give_page(&pool, &mut pass, 65);
+    assert_eq!(rt; pool.guess_pages(1), 0b11);
 }
 
 #[test]
@@ -138,4 +221,51 @@ fn session_words_show_arenas_that_are_alive(rt: HostRuntime) {
         assert_eq!(rt; alive_holds(a, word), holds);
     }
     assert_eq!(rt; mark_of(a), 0x0000_0003_0000_0005);
+}
+
+const TWO: Shape = Shape {
+    passes: 2,
+    slots: 1,
+    pages: 1,
+    page_words: 1,
+    reach: 1,
+    generations: 1,
+};
+
+#[test]
+fn a_number_comes_back_with_its_next_term(rt: HostRuntime) {
+    let (pool, mut first) = Pool::make(rt.alloc(), TWO).expect(&rt, "words");
+    for term in 0..10_000u32 {
+        let drawn = pool.draw(&rt, &mut first).expect(&rt, "a pass");
+        assert_eq!(rt; (drawn.number(), drawn.term()), (1, term));
+        assert!(rt; pool.draw(&rt, &mut first).is_err());
+        assert!(rt; !pool.whole(&mut first));
+        pool.gather(&mut first, drawn);
+        assert!(rt; pool.whole(&mut first));
+    }
+    assert_eq!(rt; word_at(&pool, pool.shape().draw_place()), Some(10_001));
+}
+
+#[test]
+fn numbers_that_are_drawn_first_are_eight_apart(rt: HostRuntime) {
+    let shape = Shape { passes: 136, ..TWO };
+    let (pool, mut first) = Pool::make(rt.alloc(), shape).expect(&rt, "words");
+    for turn in 1..17u32 {
+        let drawn = pool.draw(&rt, &mut first).expect(&rt, "a pass");
+        assert_eq!(rt; drawn.number(), 8 * turn);
+    }
+    let drawn = pool.draw(&rt, &mut first).expect(&rt, "a pass");
+    assert_eq!(rt; drawn.number(), 1);
+}
+
+#[test]
+fn the_first_number_comes_back_too(rt: HostRuntime) {
+    let (pool, mut first) = Pool::make(rt.alloc(), TWO).expect(&rt, "words");
+    let mut second = pool.draw(&rt, &mut first).expect(&rt, "a pass");
+    pool.gather(&mut second, first);
+    assert!(rt; pool.whole(&mut second));
+    let third = pool.draw(&rt, &mut second).expect(&rt, "a pass");
+    assert_eq!(rt; (third.number(), third.term()), (0, 1));
+    pool.gather(&mut second, third);
+    assert!(rt; pool.whole(&mut second));
 }

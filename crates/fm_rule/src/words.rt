@@ -4,7 +4,7 @@ ghost use Rattle.fm_pool_facts.specs.Handles as handles;
 ghost use Rattle.fm_rule.specs.Views.{inside_of};
 
 use fm_base::ArenaId;
-use fm_words::{ALIVE, CLOSING, FREE, Session, mark_word, session_word};
+use fm_words::{Life, Session, mark_word, session_word};
 
 const HOLDS: u64 = 0xffff;
 /// How often an arena can be held at a time.
@@ -53,7 +53,7 @@ pub(crate) fn alive_word(a: ArenaId, holds: u32) -> u64
 {
     session_word(Session {
         generation: a.generation,
-        life: ALIVE,
+        life: Life::Alive,
         kind: a.kind.number() as u32,
         owner: a.owner,
         holds,
@@ -66,7 +66,7 @@ pub(crate) fn closing_word(a: ArenaId) -> u64
 {
     session_word(Session {
         generation: a.generation,
-        life: CLOSING,
+        life: Life::Closing,
         kind: a.kind.number() as u32,
         owner: a.owner,
         holds: 0,
@@ -92,7 +92,7 @@ pub(crate) fn retired_word(generation: u32, generations: u32) -> u64
 {
     session_word(Session {
         generation: generation_after(generation, generations),
-        life: FREE,
+        life: Life::Free,
         kind: 0,
         owner: 0,
         holds: 0,

@@ -4,6 +4,7 @@ use Rattle.std.specs.Prelude.{IfSome}
 use Rattle.std.proofs.lemmas.List.{append-nil}
 use Rattle.std.proofs.lemmas.List.Elements.{filter-append}
 use Rattle.fm_words.specs.declared.shape.Shape.{Shape}
+use Rattle.fm_words.specs.Places.{page_groups}
 use Rattle.fm_base.specs.declared.arena_id.ArenaId.{ArenaId}
 use Rattle.fm_base.specs.declared.caller.Caller.{Caller}
 use Rattle.fm_base.specs.declared.refusal.Refusal.{Refusal}
@@ -13,7 +14,7 @@ use Rattle.fm_base.specs.Histories.{made_by}
 use Rattle.fm_base.specs.View.{is_loan}
 use Rattle.fm_lists.specs.Among.{IsAmong}
 use Rattle.fm_pool_facts.specs.Loans.{lent}
-use Rattle.fm_pool_facts.specs.Views.{View, Begins, In, unlent}
+use Rattle.fm_pool_facts.specs.Views.{View, Begins, In, unlent_in}
 use Rattle.fm_pool_facts.proofs.Keeping.{begins_on}
 use Rattle.fm_gate.specs.Pages.{FoundNoPage, LendsInRange}
 use Rattle.fm_arena.specs.Allocating.{AllocatesExactly}
@@ -73,16 +74,18 @@ module _ {p q r : View} {own run : List Entry} (w : Went p q own) (v : Went q r 
   shape_is : r.shape ≡ p.shape
   shape_is = v.same_shape ∙ w.same_shape
 
-  -- There pages had become few.
-  found_few : {id : ArenaId} {size align : ℕ} → FoundNoPage q r id size align → FoundFew p.shape p.caller r.seen (made_by p.caller p.seen ++ own) run
-  found_few f =
-      let left = f.left in
-      let early = f.early in
+  -- There pages of each word had become few.
+  found_few : {id : ArenaId} {size align : ℕ} → FoundNoPage q r id size align → (g : ℕ) → g < page_groups p.shape
+      → FoundFew p.shape p.caller r.seen (made_by p.caller p.seen ++ own) run g
+  found_few f g low =
+      let x = f.found g (subst (λ (z : Shape). g < page_groups z) (sym w.same_shape) low) in
+      let left = x.left in
+      let early = x.early in
       let long = left.long in
       record {
         at = left.before;
         point = point_of left.before left.begins.0 left.begins.1 (omega (arith, early, long));
-        few = subst (λ (z : Shape). unlent z.pages (lent left.before) < z.passes) shape_is left.few;
+        few = subst (λ (y : Shape × ℕ). unlent_in y.0 y.1 (lent left.before) < y.0.passes) (λ j. (shape_is j, x.of j)) left.few;
       }
 
   -- What is lent is a part of the range.
@@ -119,7 +122,7 @@ module _ {p q r : View} {own run : List Entry} (w : Went p q own) (v : Went q r 
 module _ {p q r : View} {own : List Entry} (d : Done) (w : Went p q own) (v : Went q r d.run) (stands : List ℕ → Standing) where
   few_on : (o : Option ArenaId) (size align : ℕ) → On o (Allocates q.caller size align) (outcome d.reply d.made) d.run
       → IfSome o (λ id. PagesTold q r id size align d.reply) → d.reply ≡ Refused PoolFull
-      → FoundFew p.shape p.caller r.seen (made_by p.caller p.seen ++ own) d.run
+      → (g : ℕ) → g < page_groups p.shape → FoundFew p.shape p.caller r.seen (made_by p.caller p.seen ++ own) d.run g
   few_on None size align does told lacks = let said : d.reply ≡ Skipped = ap (λ (o : Outcome). o.reply) does.0 in absurd (cc)
   few_on (Some id) size align does told lacks =
       found_few w v (told.exact.found (answered_once told.result (Err PoolFull) (sym told.is ∙ lacks)))
@@ -135,11 +138,13 @@ module _ {p q r : View} {own : List Entry} (d : Done) (w : Went p q own) (v : We
   pub finds_few : (command : Command) → d.line.command ≡ command → CallDoes q.caller stands command (outcome d.reply d.made) d.run
       → PagesToldBy stands q r command d.reply → FindsFew p.shape p.caller r.seen (made_by p.caller p.seen ++ own) d
   finds_few command is does told =
-      subst (λ (c : Command). IfAllocates c (λ size align. d.reply ≡ Refused PoolFull
-      → FoundFew p.shape p.caller r.seen (made_by p.caller p.seen ++ own) d.run)) (sym is) (go command does told)
+      subst (λ (c : Command). IfAllocates c Finds) (sym is) (go command does told)
     where
-      go : (c : Command) → CallDoes q.caller stands c (outcome d.reply d.made) d.run → PagesToldBy stands q r c d.reply
-          → IfAllocates c (λ size align. d.reply ≡ Refused PoolFull → FoundFew p.shape p.caller r.seen (made_by p.caller p.seen ++ own) d.run)
+      Finds : ℕ → ℕ → Type 0
+      Finds size align = d.reply ≡ Refused PoolFull → (g : ℕ) → g < page_groups p.shape
+          → FoundFew p.shape p.caller r.seen (made_by p.caller p.seen ++ own) d.run g
+
+      go : (c : Command) → CallDoes q.caller stands c (outcome d.reply d.made) d.run → PagesToldBy stands q r c d.reply → IfAllocates c Finds
       go (Alloc arena name size align) does told = few_on (arena_of (stands arena)) size align does told
       go c does told = tt
 
@@ -190,8 +195,8 @@ module _ (z : Shape) (c : Caller) (seen next : List Entry) (b : Begins seen next
   }
 
   pub few_later : (own : List Entry) (d : Done) → FindsFew z c seen own d → FindsFew z c next own d
-  few_later own d = if_allocates d.line.command _ _ (λ size align h lacks.
-      let f = h lacks in
+  few_later own d = if_allocates d.line.command _ _ (λ size align h lacks g low.
+      let f = h lacks g low in
       record { at = f.at; point = point_later own d.run f.at f.point; few = f.few })
 
   pub lends_later : (own : List Entry) (d : Done) → LendsRightly z c seen own d → LendsRightly z c next own d

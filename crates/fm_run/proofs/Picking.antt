@@ -21,6 +21,14 @@ module _ (is : Who → Bool) (ls : List Line) (k : ℕ) (l : Line) (below : k < 
   pub by_none : is l.who ≡ false → lines_by is (take (k + 1) ls) ≡ lines_by is (take k ls)
   by_none e = by_more ∙ (ap (λ (b : Bool). lines_by is (take k ls) ++ (if b then l ∷ [] else [])) e ∙ append-nil (lines_by is (take k ls)))
 
+  -- And the others are behind it.
+  pub by_split : is l.who ≡ true → lines_by is ls ≡ lines_by is (take k ls) ++ l ∷ lines_by is (drop (k + 1) ls)
+  by_split e =
+      ap (λ (xs : List Line). lines_by is xs) (sym (take-append-drop (k + 1) ls))
+      ∙ (filter-append (λ (x : Line). is x.who) (take (k + 1) ls) (drop (k + 1) ls)
+      ∙ (ap (λ (xs : List Line). xs ++ lines_by is (drop (k + 1) ls)) (by_one e)
+      ∙ append_assoc (lines_by is (take k ls)) (l ∷ []) (lines_by is (drop (k + 1) ls))))
+
 -- Those of the first lines are not more than those of all.
 pub by_few : (is : Who → Bool) (ls : List Line) (k : ℕ) → length (lines_by is (take k ls)) ≤ length (lines_by is ls)
 by_few is ls k =

@@ -2,6 +2,7 @@
 use Rattle.std.specs.Prelude.{◌≡◌, ◌≢◌, ◌<◌, ◌≤◌, ◌+◌, ◌*◌, ◌/◌, ℕ, true, List, [], ◌∷◌, ◌++◌, Result, Ok, Err, IfSome, ⊤}
 use Rattle.std.specs.List.{AllByRecursion}
 use Rattle.fm_words.specs.declared.shape.Shape.{Shape}
+use Rattle.fm_words.specs.Places.{page_groups}
 use Rattle.fm_base.specs.declared.arena_id.ArenaId.{ArenaId}
 use Rattle.fm_base.specs.declared.caller.Caller.{Caller}
 use Rattle.fm_base.specs.declared.refusal.Refusal.{Refusal}
@@ -14,7 +15,7 @@ use Rattle.fm_base.specs.View.{is_loan}
 use Rattle.fm_lists.specs.Among.{IsAmong}
 use Rattle.fm_pool_facts.specs.Loans.{lent}
 use Rattle.fm_pool_facts.specs.Scarcity.{lacking, parts_before}
-use Rattle.fm_pool_facts.specs.Views.{View, Begins, limit_of, unlent}
+use Rattle.fm_pool_facts.specs.Views.{View, Begins, limit_of, unlent, unlent_in}
 use Rattle.fm_arena.specs.Allocating.{AllocatesExactly}
 use Rattle.fm_script.specs.declared.command.Command.{Command}
 use Rattle.fm_script.specs.declared.command.Command.TheVariants as command
@@ -76,16 +77,16 @@ pub record IsPointOf (c : Caller) (history own run at : List Entry) : Type 0 whe
   pub parts : run ≡ done ++ left
   pub own_at : made_by c at ≡ own ++ done
 
--- at a point of the line's call fewer pages weren't lent than the pool has passes
-pub record FoundFew (z : Shape) (c : Caller) (history own run : List Entry) : Type 0 where
+-- at a point of the line's call fewer pages of a word of page bits weren't lent than the pool has passes
+pub record FoundFew (z : Shape) (c : Caller) (history own run : List Entry) (group : ℕ) : Type 0 where
   pub at : List Entry
   pub point : IsPointOf c history own run at
-  pub few : unlent z.pages (lent at) < z.passes
+  pub few : unlent_in z group (lent at) < z.passes
 
--- so it was if the line allocates, and is refused for want of pages
+-- so it was for each word of page bits, if the line allocates, and is refused for want of pages
 abbrev pub FindsFew : Shape → Caller → (history own : List Entry) → Done → Type 0
-FindsFew z c history own d =
-    IfAllocates d.line.command (λ size align. d.reply ≡ Refused PoolFull → FoundFew z c history own d.run)
+FindsFew z c history own d = IfAllocates d.line.command (λ size align.
+    d.reply ≡ Refused PoolFull → (group : ℕ) → group < page_groups z → FoundFew z c history own d.run group)
 
 -- ---- what is lent
 

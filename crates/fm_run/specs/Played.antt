@@ -1,7 +1,8 @@
 -- Lines that ran, those of one caller and those of a script, and their entries in a history.
-use Rattle.std.specs.Prelude.{◌≡◌, ℕ, ◌+◌, List, [], ◌∷◌, ◌++◌, map, ⊤}
+use Rattle.std.specs.Prelude.{◌≡◌, ℕ, ◌<◌, List, ◌∷◌, ◌++◌, map}
 use Rattle.std.specs.List.{AllByRecursion, flat_map}
 use Rattle.fm_base.specs.declared.caller.Caller.{Caller}
+use Rattle.fm_base.specs.Arenas.{only_caller}
 use Rattle.fm_base.specs.Calls.{Entry}
 use Rattle.fm_base.specs.Histories.{made_by}
 use Rattle.fm_lists.specs.Among.{IsAmong}
@@ -45,10 +46,10 @@ all_done p = p.firsts ++ (worked p.players ++ p.lasts)
 abbrev pub callers : Played → List Caller
 callers p = p.main ∷ map (λ w. w.caller) p.players
 
--- they have the numbers from this one on, in their order
-abbrev pub AreCounted : ℕ → List Caller → Type 0
-AreCounted k [] = ⊤
-AreCounted k (c ∷ cs) = (c.number ≡ k) × AreCounted (k + 1) cs
+-- the first lines' caller is the first one of a pool of so many passes, and each worker's has a number of the pool
+pub record AreDrawn (passes : ℕ) (p : Played) : Type 0 where
+  pub first : p.main ≡ only_caller
+  pub numbers : AllByRecursion (λ c. c.number < passes) (map (λ w. w.caller) p.players)
 
 -- the first lines' entries stand before the workers', and these before the last lines'
 pub record IsCut (history : List Entry) (p : Played) : Type 0 where

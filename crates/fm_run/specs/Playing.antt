@@ -1,5 +1,5 @@
 -- What a pass's lines in a row do.
-use Rattle.std.specs.Prelude.{◌≡◌, ℕ, ◌+◌, true, length, map, None, List, []}
+use Rattle.std.specs.Prelude.{◌≡◌, ℕ, ◌+◌, true, length, map, None, List, [], ◌∷◌, ◌++◌}
 use Rattle.fm_base.specs.Histories.{made_by}
 use Rattle.fm_base.specs.Outcomes.{Lasts}
 use Rattle.fm_pool_facts.specs.Views.{View}
@@ -9,6 +9,7 @@ use Rattle.fm_script.specs.declared.line.Line.{Line}
 use Rattle.fm_run.specs.declared.numbers.Numbers.{Numbers}
 use Rattle.fm_run.specs.declared.reply.Reply.{Reply}
 use Rattle.fm_run.specs.declared.standing.Standing.{Standing}
+use Rattle.fm_run.specs.Calls.{takes_memory}
 use Rattle.fm_run.specs.Numbers.{number_at}
 use Rattle.fm_run.specs.Pages.{AllocatesRightly, EachBehind, FindsFew, LendsRightly}
 use Rattle.fm_run.specs.Report.{Done, AreRun, lines_of, names_after, runs}
@@ -35,3 +36,13 @@ pub record LinesRan (old new : View) (names : Numbers) (base : List Standing) (s
   pub full : old.whole ≡ true → old.closes ≡ [] → HasNoSlot old → EachBehind (AllocatesRightly old.shape) old.seen dones
   pub few : EachBehind (FindsFew old.shape old.caller new.seen) (made_by old.caller old.seen) dones
   pub loans : EachBehind (LendsRightly old.shape old.caller new.seen) (made_by old.caller old.seen) dones
+
+-- Memory was wanting to one of the lines, whose call takes memory of its own: those before it ran, and it made no call
+pub record StopsAt (old new : View) (names : Numbers) (base : List Standing) (start : ℕ) (own next : List Standing) (lines : List Line)
+    (replies : List Reply) : Type 0 where
+  pub before : List Line
+  pub line : Line
+  pub behind : List Line
+  pub parts : lines ≡ before ++ line ∷ behind
+  pub takes : takes_memory line.command ≡ true
+  pub ran : LinesRan old new names base start own next before replies

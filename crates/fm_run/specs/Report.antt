@@ -12,7 +12,7 @@ use Rattle.fm_run.specs.Calls.{CallDoes}
 use Rattle.fm_run.specs.Lines.{behind}
 use Rattle.fm_run.specs.Numbers.{number_from}
 use Rattle.fm_run.specs.Outcomes.{outcome}
-pub use Rattle.fm_run.specs.Played.{Done, Player, Played, IsCut, AreCounted, runs, lines_of, worked, all_done, callers}
+pub use Rattle.fm_run.specs.Played.{Done, Player, Played, IsCut, AreDrawn, runs, lines_of, worked, all_done, callers}
 use Rattle.fm_run.specs.Pages.{HavePages}
 use Rattle.fm_run.specs.Slots.{HaveSlots}
 use Rattle.fm_run.specs.Standings.{Names, stands_of, lent}
@@ -94,8 +94,8 @@ pub record AreLinesOf (s : ScriptOf) (p : Played) : Type 0 where
 -- What the script's lines did in the history, line by line
 pub record IsReport (s : ScriptOf) (history : List Entry) (p : Played) : Type 0 where
   pub lines : AreLinesOf s p
-  -- the pool's first pass ran the first lines and the last, and the k-th that was drawn those of worker k
-  pub counted : AreCounted 0 (callers p)
+  -- the pool's first caller ran the first lines and the last, and each worker's lines another one, of whatever number its pass drew
+  pub drawn : AreDrawn s.shape.passes p
   pub apart : AreApart (callers p)
   pub cut : IsCut history p
   pub first_calls : AreRun p.main (number_of p) 0 none_stands p.firsts

@@ -1,8 +1,8 @@
-ghost use Rattle.std.specs.Prelude.{◌≡◌, ◌+◌, ◌≤◌, [], None, All, IfErr, OnOk, List, length, vec_capacity};
+ghost use Rattle.std.specs.Prelude.{◌≡◌, ◌+◌, ◌≤◌, [], None, All, IfErr, OnErr, OnOk, List, length, vec_capacity};
 ghost use Rattle.fm_base.specs.declared.arena_id.ArenaId.{ArenaId};
 ghost use Rattle.fm_script.specs.Syntax.{IsSpelled};
 ghost use Rattle.fm_run.specs.Ordering.{is_by};
-ghost use Rattle.fm_run.specs.Playing.{LinesRan};
+ghost use Rattle.fm_run.specs.Playing.{LinesRan, StopsAt};
 ghost use Rattle.fm_run.specs.Report.{lines_by};
 ghost use Rattle.fm_run.specs.Runs.{WentOn};
 ghost use Rattle.fm_run.specs.Tokens.{Backs, IsReady};
@@ -22,7 +22,7 @@ use std::sync::Wait;
 /// Runs those of a script's lines that are a pass's next ones, in their order, each in its turn, and puts their
 /// replies behind each other.
 ///
-/// Refused: `Memory`. Then the lines from one on did not run.
+/// Refused: `Memory`, at an `add` or a `cas` alone. Then the lines before it ran, and those from it on did not.
 pub fn play<R: Wait, T: Turns>(
     rt: &R,
     alloc: Global,
@@ -51,6 +51,8 @@ pub fn play<R: Wait, T: Turns>(
         → Backs m.new holds handles table.old.base.now table.new.own.items }
     ensures many { length table.new.own.items ≤ length table.old.own.items + length (lines_by (is_by who) lines.now) }
     ensures memory { IfErr result (λ refusal. refusal ≡ Refusal.Memory) }
+    ensures stops { OnErr result (StopsAt m.old m.new names.now table.old.base.now table.old.start table.old.own.items
+        table.new.own.items (lines_by (is_by who) lines.now) replies.new.items) }
 {
     for line in lines {
         if is_by(who, line.who) {

@@ -24,7 +24,14 @@ from_the_first bytes rest number is one = cc
 pub lines_refused : (bytes : List ℕ) (pool : Source) (rest : List Source) (z : Shape) (e : Refusal) → sources_of bytes ≡ pool ∷ rest → SaysPool pool.text z
     → AreNoLines rest e → IsNoScript bytes e
 lines_refused bytes pool rest z (BadScript line) sources says breaks = bad_line pool rest z sources says breaks
-lines_refused bytes pool rest z Memory sources says breaks = tt
+lines_refused bytes pool rest z Memory sources says wants = record {
+  pool = pool;
+  rest = rest;
+  shape = z;
+  sources = sources;
+  says_pool = says;
+  wants = wants;
+}
 lines_refused bytes pool rest z _ sources says breaks = absurd breaks
 
 -- ---- what isn't given back

@@ -1,13 +1,18 @@
 -- Lines are taken one after the other.
-use Rattle.std.proofs.Common.{◌≡◌, refl, sym, ap, subst, ◌∙◌, ◌+◌, max, Bool, true, false, not, Some, None, List, [], ◌∷◌, ◌++◌, map, arith, append_assoc}
+use Rattle.std.proofs.Common.{◌≡◌, ℕ, refl, sym, ap, subst, ◌∙◌, ◌+◌, max, Bool, true, false, not, Some, None, List, [], ◌∷◌, ◌++◌, map, arith, append_assoc}
 use Rattle.std.specs.Prelude.{find}
 use Rattle.std.specs.List.{AllByRecursion}
 use Rattle.std.proofs.lemmas.Bool.{cond_both, not-true, not-false}
 use Rattle.std.proofs.lemmas.List.{append-nil}
 use Rattle.std.proofs.lemmas.Option.{same_Some}
+use Rattle.fm_base.specs.declared.refusal.Refusal.{Refusal}
+use Rattle.fm_base.specs.declared.refusal.Refusal.TheVariants.{BadScript, Memory}
 use Rattle.fm_script.specs.declared.line.Line.{Line}
+use Rattle.fm_script.specs.declared.names.Names.{Names}
+use Rattle.fm_script.specs.Knowing.{Knows}
 use Rattle.fm_script.specs.Rules.{IsAdmitted, pass_of, passes_of}
-use Rattle.fm_script.specs.Scripts.{AreAdmitted, AreLines, IsSaid, Source, source_of}
+use Rattle.fm_script.specs.Scripts.{AreAdmitted, AreLines, IsSaid, Source, WantsAt, source, source_of}
+use Rattle.fm_script.specs.Taking.{AreNoLines, IsNoLine, IsTaken}
 
 -- ---- one line more
 
@@ -41,6 +46,45 @@ left_more all ls l s left more e f g =
     mapped : (ls : List Line) (l : Line) → map source_of (ls ++ l ∷ []) ≡ map source_of ls ++ source_of l ∷ []
     mapped [] l = refl
     mapped (m ∷ ls) l = ap (λ t. source_of m ∷ t) (mapped ls l)
+
+-- ---- a line that isn't taken
+
+-- Why it isn't, all lines aren't.
+pub none_taken : (all : List Source) (ls : List Line) (names : Names) (number : ℕ) (text : List ℕ) (left : List Source) (r : Refusal)
+    → all ≡ map source_of ls ++ source number text ∷ left → AreLines (map source_of ls) ls → Knows names ls → IsNoLine number text names r
+    → AreNoLines all r
+none_taken all ls names number text left (BadScript line) are lines knows h = record {
+  before = ls;
+  text = text;
+  rest = left;
+  lines = lines;
+  are = are ∙ ap (λ (n : ℕ). map source_of ls ++ source n text ∷ left) (sym h.0);
+  breaks = λ l says admitted. h.1 ls knows l says admitted;
+}
+none_taken all ls names number text left Memory are lines knows h = record {
+  before = ls;
+  line = record { number = number; text = text; who = h.who; command = h.command };
+  rest = left;
+  lines = lines;
+  are = are;
+  said = h.says;
+  admitted = h.admitted ls knows;
+}
+none_taken all ls names number text left r are lines knows h = absurd h
+
+-- It could be taken, but not put behind the others.
+pub not_pushed : (all : List Source) (ls : List Line) (names after : Names) (number : ℕ) (text : List ℕ) (left : List Source) (l : Line)
+    → all ≡ map source_of ls ++ source number text ∷ left → AreLines (map source_of ls) ls → Knows names ls → IsTaken number text names after l
+    → WantsAt all
+not_pushed all ls names after number text left l are lines knows h = record {
+  before = ls;
+  line = l;
+  rest = left;
+  lines = lines;
+  are = are ∙ ap (λ (s : Source). map source_of ls ++ s ∷ left) (sym h.source);
+  said = h.said;
+  admitted = h.admitted ls knows;
+}
 
 -- ---- the passes
 

@@ -110,8 +110,27 @@ pub data IsRefused (bytes : List ℕ) (number : ℕ) : Type 0 where
   not_settled : (pool : Source) (rest : List Source) (z : Shape) (lines : List Line) → sources_of bytes ≡ pool ∷ rest → SaysPool pool.text z
       → AreLines rest lines → KeptAt lines number → IsRefused bytes number
 
+-- memory was wanting to take this line in, which breaks no rule behind those before it
+pub record WantsAt (sources : List Source) : Type 0 where
+  pub before : List Line
+  pub line : Line
+  pub rest : List Source
+  pub lines : AreLines (map source_of before) before
+  pub are : sources ≡ map source_of before ++ source_of line ∷ rest
+  pub said : IsSaid line
+  pub admitted : IsAdmitted before line.who line.command
+
+-- the text's first line says a pool, and memory was wanting behind it
+pub record WantsMemory (bytes : List ℕ) : Type 0 where
+  pub pool : Source
+  pub rest : List Source
+  pub shape : Shape
+  pub sources : sources_of bytes ≡ pool ∷ rest
+  pub says_pool : SaysPool pool.text shape
+  pub wants : WantsAt rest
+
 -- what reading a script may answer in place of it
 abbrev pub IsNoScript : List ℕ → Refusal → Type 0
 IsNoScript bytes (BadScript line) = IsRefused bytes line
-IsNoScript bytes Memory = Unit {0}
+IsNoScript bytes Memory = WantsMemory bytes
 IsNoScript bytes _ = ⊥

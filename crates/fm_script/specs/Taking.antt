@@ -2,11 +2,13 @@
 use Rattle.std.specs.Prelude.{◌≡◌, ℕ, not, Option, List, [], ◌∷◌, ◌++◌, find}
 use Rattle.fm_base.specs.declared.refusal.Refusal.{Refusal}
 use Rattle.fm_base.specs.declared.refusal.Refusal.TheVariants.{BadScript, Memory}
+use Rattle.fm_script.specs.declared.command.Command.{Command}
 use Rattle.fm_script.specs.declared.line.Line.{Line}
 use Rattle.fm_script.specs.declared.names.Names.{Names}
+use Rattle.fm_script.specs.declared.who.Who.{Who}
 use Rattle.fm_script.specs.Knowing.{Knows, is_spent_at}
 use Rattle.fm_script.specs.Rules.{IsAdmitted, made, is_settled}
-use Rattle.fm_script.specs.Scripts.{AreLines, BreaksAt, IsSaid, Source, source, source_of}
+use Rattle.fm_script.specs.Scripts.{AreLines, BreaksAt, IsSaid, Source, WantsAt, source, source_of}
 use Rattle.fm_script.specs.Syntax.{Says}
 
 -- the line is what this one says, which is admitted, and its names are taken in
@@ -16,11 +18,18 @@ pub record IsTaken (number : ℕ) (text : List ℕ) (old new : Names) (l : Line)
   pub admitted : (before : List Line) → Knows old before → IsAdmitted before l.who l.command
   pub knows : (before : List Line) → Knows old before → Knows new (before ++ l ∷ [])
 
--- why a line isn't taken: it says nothing, or what it says isn't admitted
+-- the line says what is admitted
+pub record IsToTake (text : List ℕ) (old : Names) : Type 0 where
+  pub who : Who
+  pub command : Command
+  pub says : Says text who command
+  pub admitted : (before : List Line) → Knows old before → IsAdmitted before who command
+
+-- why a line isn't taken: it says nothing, or what it says isn't admitted; or it is, and memory was wanting
 abbrev pub IsNoLine : ℕ → List ℕ → Names → Refusal → Type 0
 IsNoLine number text old (BadScript line) =
     (line ≡ number) × ((before : List Line) → Knows old before → (l : Line) → Says text l.who l.command → IsAdmitted before l.who l.command → ⊥)
-IsNoLine number text old Memory = Unit {0}
+IsNoLine number text old Memory = IsToTake text old
 IsNoLine number text old _ = ⊥
 
 -- these lines are all the sources, and the names are theirs
@@ -30,7 +39,7 @@ pub record IsAll (sources : List Source) (all : List Line) (names : Names) : Typ
 
 abbrev pub AreNoLines : List Source → Refusal → Type 0
 AreNoLines sources (BadScript line) = BreaksAt sources line
-AreNoLines sources Memory = Unit {0}
+AreNoLines sources Memory = WantsAt sources
 AreNoLines sources _ = ⊥
 
 -- the first line that makes what isn't given back

@@ -25,7 +25,7 @@ use std::str;
 ///
 /// Refused: `BadScript` with the number, from 1, of the first line that breaks a rule, the lines taken in order; of the
 /// line behind the last one where all are skipped; and where each line keeps the rules, but a hold or a handle isn't
-/// given back, of the line that made the first such. `Memory`.
+/// given back, of the line that made the first such. `Memory`, at a line behind the pool's that breaks no rule.
 pub fn parse_script(alloc: Global, bytes: &[u8]) -> Result<Script, Refusal>
     ensures script { IfOk result (IsScript bytes.now) }
     ensures refused { IfErr result (IsNoScript bytes.now) }

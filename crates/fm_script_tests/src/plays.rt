@@ -64,8 +64,8 @@ fn a_confined_arena_is_its_owners(rt: HostRuntime) {
 }
 
 /// Scripts of the first lines alone, and what they print: pages run out, an arena keeps those that a refused line got,
-/// and they come back with its close.
-const PAGES: [(&str, &str); 4] = [
+/// and they come back with its close. The last one's pages have their bits in two words.
+const PAGES: [(&str, &str); 5] = [
     (
         "pool 2 2 8 1000 2\nfirst open a shared\nfirst open b shared\nfirst alloc a s 128 8\nfirst alloc b t 8 8\n\
         first alloc b t2 0 8\nfirst alloc b u 129 8\nfirst close a\nfirst alloc b v 8 8\n",
@@ -92,6 +92,13 @@ const PAGES: [(&str, &str); 4] = [
         "pool 1 1 1 1000 5\nfirst open a shared\nfirst alloc a s 3 1\nfirst alloc a t 1 4\nfirst alloc a u 4 4\n",
         "first open a shared -> ok\nfirst alloc a s 3 1 -> ok 0\nfirst alloc a t 1 4 -> ok 4\n\
         first alloc a u 4 4 -> refused 10 5\nbytes a 0000000000\n",
+    ),
+    (
+        "pool 2 100 8 1000 100\nfirst open a shared\nfirst open b shared\nfirst alloc a s 6400 8\nfirst alloc a x 1 1\n\
+        first alloc b t 8 8\nfirst close a\nfirst alloc b u 8 8\n",
+        "first open a shared -> ok\nfirst open b shared -> ok\nfirst alloc a s 6400 8 -> ok 0\n\
+        first alloc a x 1 1 -> refused 10 6400\nfirst alloc b t 8 8 -> refused 11\nfirst close a -> ok\n\
+        first alloc b u 8 8 -> ok 0\nbytes b 0000000000000000\n",
     ),
 ];
 

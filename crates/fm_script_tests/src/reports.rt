@@ -1,11 +1,14 @@
-ghost use Rattle.std.specs.Prelude.{◌≡◌, ◌≤◌, length};
+ghost use Rattle.std.specs.Prelude.{◌≡◌, ◌≤◌, length, true};
+ghost use Rattle.fm_base.specs.Arenas.{has_arena};
+ghost use Rattle.fm_calls.specs.Kept.{Lasts};
 ghost use Rattle.fm_arena.specs.Shares.{CanShare};
 ghost use Rattle.fm_gate.specs.Standing.{CanVisit, IsInside, IsOutside};
-ghost use Rattle.fm_pool_facts.specs.Views.{given_of};
+ghost use Rattle.fm_pool_facts.specs.Views.{IsKnown, given_of};
+ghost use Rattle.fm_rule.specs.GivenBytes.{state_of};
 
 use fm_base::{ArenaId, Caller, Kind, Refusal};
 use fm_close::close;
-use fm_gate::{allocate, enter, leave, open_arena, store};
+use fm_gate::{a_crew_stands, allocate, enter, leave, open_arena, store};
 use fm_report::{Report, print_report, report_lines};
 use fm_rule::{Finished, Pass, Pool};
 use fm_run::{Numbers, Reply};
@@ -28,6 +31,7 @@ fn write(pool: &Pool, pass: &mut Pass, a: ArenaId)
     requires inside { IsInside pool.now pass.old a }
     requires given { 8 ≤ given_of pass.old a }
     ensures inside { IsInside pool.now pass.new a }
+    ensures lasts { Lasts pass.old pass.new }
 {
     store(pool, pass, 0, 0x0000_0000_00ab_000f);
 }
@@ -35,7 +39,8 @@ fn write(pool: &Pool, pass: &mut Pass, a: ArenaId)
 /// Opens an arena of eight bytes.
 fn stocked<R: Abort + Wait>(rt: &R, pool: &Pool, pass: &mut Pass) -> ArenaId
     requires { CanShare pool.now pass.old }
-    ensures { IsOutside pool.now pass.new }
+    ensures outside { IsOutside pool.now pass.new }
+    ensures known { IsKnown pass.new result }
 {
     let a = open_arena(rt, pool, pass, Kind::Shared).expect(rt, "a slot");
     assert_eq!(rt; allocate(rt, pool, pass, a, 8, 8), Ok(0));
@@ -48,15 +53,32 @@ fn stocked<R: Abort + Wait>(rt: &R, pool: &Pool, pass: &mut Pass) -> ArenaId
 /// Opens an arena and closes it.
 fn ended<R: Abort + Wait>(rt: &R, pool: &Pool, pass: &mut Pass) -> ArenaId
     requires { IsOutside pool.now pass.old }
-    ensures { IsOutside pool.now pass.new }
+    ensures outside { IsOutside pool.now pass.new }
+    ensures known { IsKnown pass.new result }
+    ensures lasts { Lasts pass.old pass.new }
 {
     let a = open_arena(rt, pool, pass, Kind::Shared).expect(rt, "a slot");
     assert_eq!(rt; close(rt, pool, pass, a), Ok(()));
     a
 }
 
+/// Finishes the pool, which knows the arenas that the pass knows.
+fn finished<R: Abort + AllocGlobal>(rt: &R, pool: Pool, pass: Pass) -> Finished
+    requires { IsOutside pool pass }
+    ensures { (a : _) → IsKnown pass a → has_arena (state_of result) a ≡ true }
+{
+    a_crew_stands();
+    let mut pass = pass;
+    assert!(rt; pool.whole(&mut pass));
+    pool.finish(rt.alloc(), pass).expect(rt, "words")
+}
+
 /// A pool with an arena that has given bytes, one that has given none, and one that has ended.
-fn left<R: Abort + AllocGlobal + Wait>(rt: &R) -> (Finished, Arenas) {
+fn left<R: Abort + AllocGlobal + Wait>(rt: &R) -> (Finished, Arenas)
+    ensures stocked { has_arena (state_of result.0) result.1.stocked ≡ true }
+    ensures bare { has_arena (state_of result.0) result.1.bare ≡ true }
+    ensures ended { has_arena (state_of result.0) result.1.ended ≡ true }
+{
     let shape = Shape {
         passes: 1,
         slots: 3,
@@ -69,10 +91,8 @@ fn left<R: Abort + AllocGlobal + Wait>(rt: &R) -> (Finished, Arenas) {
     let stocked = stocked(rt, &pool, &mut pass);
     let bare = open_arena(rt, &pool, &mut pass, Kind::Global).expect(rt, "a slot");
     let ended = ended(rt, &pool, &mut pass);
-    assert!(rt; pool.whole(&mut pass));
-    let finished = pool.finish(rt.alloc(), pass).expect(rt, "words");
     (
-        finished,
+        finished(rt, pool, pass),
         Arenas {
             stocked,
             bare,

@@ -1,5 +1,5 @@
--- Words of bits: bit k is for the thing of number k.
-use Rattle.std.specs.Prelude.{◌≡◌, ◌≢◌, ℕ, ◌-◌, ◌<◌, ◌^◌}
+-- Words of bits: bit k is for the thing of number k; of many words, bit k of word g for that of number 64 g + k.
+use Rattle.std.specs.Prelude.{◌≡◌, ◌≢◌, ℕ, ◌+◌, ◌-◌, ◌*◌, ◌/◌, ◌%◌, ◌<◌, ◌^◌}
 use Rattle.std.specs.Int.{bit_at}
 
 -- the word whose first bits are 1, this many
@@ -17,3 +17,11 @@ pub record IsWithout (w bit x : ℕ) : Type 0 where
   pub zero : bit_at x bit ≡ 0
   pub others : (k : ℕ) → k ≢ bit → bit_at x k ≡ bit_at w k
   pub same : bit_at w bit ≡ 0 → x ≡ w
+
+-- the number of the thing at this bit of the word of a group
+abbrev pub number_at : (group bit : ℕ) → ℕ
+number_at group bit = group * 64 + bit
+
+-- the bit of the thing of this number
+abbrev pub bit_of : (ℕ → ℕ) → ℕ → ℕ
+bit_of words n = bit_at (words (n / 64)) (n % 64)

@@ -1,5 +1,5 @@
 -- The places of a pool's words in their one table.
-use Rattle.std.specs.Prelude.{◌≡◌, ℕ, ◌+◌, ◌*◌, ◌<◌}
+use Rattle.std.specs.Prelude.{◌≡◌, ℕ, ◌+◌, ◌*◌, ◌/◌, ◌<◌}
 use Rattle.fm_words.specs.declared.shape.Shape.{Shape}
 
 -- what a word is for, in the order of the table
@@ -10,8 +10,8 @@ pub data Place : Type 0 where
   draw : Place
   -- bit k is 1 where slot k can be lent
   slot_bits : Place
-  -- bit k is 1 where page k can be claimed
-  page_bits : Place
+  -- a word of page bits: bit k of word g is 1 where the page 64 g + k can be claimed
+  page_bits : ℕ → Place
   -- the mark of a pass
   mark : ℕ → Place
   -- the session of a slot
@@ -20,24 +20,38 @@ pub data Place : Type 0 where
   given : ℕ → Place
   -- of a slot, the map word of a part
   map : ℕ → ℕ → Place
+  -- a word of number bits: bit k of word g is 1 where the number 64 g + k can be drawn
+  number_bits : ℕ → Place
+  -- the term of a number
+  term : ℕ → Place
   -- of a page, one of its words
   page_word : ℕ → ℕ → Place
+
+-- how many words of page bits there are
+abbrev pub page_groups : Shape → ℕ
+page_groups z = (z.pages + 63) / 64
+
+-- and of number bits
+abbrev pub groups : Shape → ℕ
+groups z = (z.passes + 63) / 64
 
 -- a pool of this shape has the place
 abbrev pub IsPlace : Shape → Place → Type 0
 IsPlace z front = Unit {0}
 IsPlace z draw = Unit {0}
 IsPlace z slot_bits = Unit {0}
-IsPlace z page_bits = Unit {0}
+IsPlace z (page_bits g) = g < page_groups z
 IsPlace z (mark k) = k < z.passes
 IsPlace z (session s) = s < z.slots
 IsPlace z (given s) = s < z.slots
 IsPlace z (map s i) = (s < z.slots) × (i < z.reach)
+IsPlace z (number_bits g) = g < groups z
+IsPlace z (term k) = k < z.passes
 IsPlace z (page_word k w) = (k < z.pages) × (w < z.page_words)
 
 -- where the words of each kind begin: where those of the kind before end
 abbrev pub marks_from : Shape → ℕ
-marks_from z = 4
+marks_from z = 3 + page_groups z
 
 abbrev pub sessions_from : Shape → ℕ
 sessions_from z = marks_from z + z.passes
@@ -48,8 +62,14 @@ given_from z = sessions_from z + z.slots
 abbrev pub maps_from : Shape → ℕ
 maps_from z = given_from z + z.slots
 
+abbrev pub numbers_from : Shape → ℕ
+numbers_from z = maps_from z + z.slots * z.reach
+
+abbrev pub terms_from : Shape → ℕ
+terms_from z = numbers_from z + groups z
+
 abbrev pub pages_from : Shape → ℕ
-pages_from z = maps_from z + z.slots * z.reach
+pages_from z = terms_from z + z.passes
 
 -- how many words the table has
 unfoldable pub words : Shape → ℕ
@@ -60,11 +80,13 @@ unfoldable pub at : Shape → Place → ℕ
 at z front = 0
 at z draw = 1
 at z slot_bits = 2
-at z page_bits = 3
+at z (page_bits g) = 3 + g
 at z (mark k) = marks_from z + k
 at z (session s) = sessions_from z + s
 at z (given s) = given_from z + s
 at z (map s i) = maps_from z + (s * z.reach + i)
+at z (number_bits g) = numbers_from z + g
+at z (term k) = terms_from z + k
 at z (page_word k w) = pages_from z + (k * z.page_words + w)
 
 -- each place lies in the table, no two at the same word, and each word of the table has a place

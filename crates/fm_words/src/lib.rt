@@ -7,6 +7,7 @@
 mod bits;
 mod halves;
 mod laws;
+mod life;
 mod map;
 mod mark;
 mod places;
@@ -17,7 +18,8 @@ mod tests;
 
 pub use bits::{lowest_bit, ones, without_bit};
 pub use laws::every_word_has_one_place;
+pub use life::Life;
 pub use map::{map_of, map_word};
 pub use mark::{mark_of, mark_word};
-pub use session::{ALIVE, CLOSING, FREE, Session, session_of, session_word};
+pub use session::{Session, session_of, session_word};
 pub use shape::Shape;

@@ -1,10 +1,11 @@
 use crate::shape::Shape;
 
-/// The words before the marks: front, draw, slot bits and page bits.
-const SINGLE_WORDS: u64 = 4;
+/// The words before the page bits: front, draw and slot bits.
+const SINGLE_WORDS: u64 = 3;
 
-/// Places of words in the table, from 0. It has the single words first, then a mark for each pass, a session for each
-/// slot, a count of given bytes for each slot, the map words of each slot, and last the pages, one after another.
+/// Places of words in the table, from 0. It has the single words first, then the words of page bits, a mark for each
+/// pass, a session for each slot, a count of given bytes for each slot, the map words of each slot, the words of number
+/// bits, a term for each number, and last the pages, one after another.
 impl Shape {
     ghost use Rattle.std.specs.Prelude.{◌≡◌};
     ghost use Rattle.fm_words.specs.Shapes.{IsValid};
@@ -20,10 +21,17 @@ impl Shape {
       page_word,
       session,
       slot_bits,
+      number_bits,
+      term,
       words,
+      page_groups,
+      groups,
+      marks_from,
       sessions_from,
       given_from,
       maps_from,
+      numbers_from,
+      terms_from,
       pages_from,
     };
 
@@ -56,11 +64,20 @@ impl Shape {
         2
     }
 
-    /// The place of the word whose bit k is 1 where page k can be claimed.
-    pub fn page_bits_place(&self) -> u64
-        ensures { result ≡ at self.now page_bits }
+    /// How many words of page bits there are.
+    pub fn page_groups(&self) -> u32
+        requires { IsValid self.now }
+        ensures { result ≡ page_groups self.now }
     {
-        3
+        (self.pages + 63) / 64
+    }
+
+    /// The place of the word whose bit k is 1 where the page `64 * group + k` can be claimed.
+    pub fn page_bits_place(&self, group: u32) -> u64
+        requires { IsPlace self.now (page_bits group) }
+        ensures { result ≡ at self.now (page_bits group) }
+    {
+        SINGLE_WORDS + u64::from(group)
     }
 
     /// The place of a pass's mark.
@@ -68,7 +85,7 @@ impl Shape {
         requires { IsPlace self.now (mark pass) }
         ensures { result ≡ at self.now (mark pass) }
     {
-        SINGLE_WORDS + u64::from(pass)
+        self.marks_from() + u64::from(pass)
     }
 
     /// The place of a slot's session.
@@ -96,6 +113,32 @@ impl Shape {
         self.maps_from() + u64::from(slot) * u64::from(self.reach) + u64::from(index)
     }
 
+    /// How many words of number bits there are.
+    pub fn groups(&self) -> u32
+        requires { IsValid self.now }
+        ensures { result ≡ groups self.now }
+    {
+        (self.passes + 63) / 64
+    }
+
+    /// The place of the word whose bit k is 1 where the number `64 * group + k` can be drawn.
+    pub fn number_bits_place(&self, group: u32) -> u64
+        requires valid { IsValid self.now }
+        requires place { IsPlace self.now (number_bits group) }
+        ensures { result ≡ at self.now (number_bits group) }
+    {
+        self.numbers_from() + u64::from(group)
+    }
+
+    /// The place of a number's term.
+    pub fn term_place(&self, number: u32) -> u64
+        requires valid { IsValid self.now }
+        requires place { IsPlace self.now (term number) }
+        ensures { result ≡ at self.now (term number) }
+    {
+        self.terms_from() + u64::from(number)
+    }
+
     /// The place of a word of a page.
     pub fn page_place(&self, page: u32, word: u32) -> u64
         requires valid { IsValid self.now }
@@ -105,10 +148,16 @@ impl Shape {
         self.pages_from() + u64::from(page) * u64::from(self.page_words) + u64::from(word)
     }
 
+    fn marks_from(&self) -> u64
+        ensures { result ≡ marks_from self.now }
+    {
+        SINGLE_WORDS + (u64::from(self.pages) + 63) / 64
+    }
+
     fn sessions_from(&self) -> u64
         ensures { result ≡ sessions_from self.now }
     {
-        SINGLE_WORDS + u64::from(self.passes)
+        self.marks_from() + u64::from(self.passes)
     }
 
     fn given_from(&self) -> u64
@@ -123,10 +172,24 @@ impl Shape {
         self.given_from() + u64::from(self.slots)
     }
 
+    fn numbers_from(&self) -> u64
+        requires { IsValid self.now }
+        ensures { result ≡ numbers_from self.now }
+    {
+        self.maps_from() + u64::from(self.slots) * u64::from(self.reach)
+    }
+
+    fn terms_from(&self) -> u64
+        requires { IsValid self.now }
+        ensures { result ≡ terms_from self.now }
+    {
+        self.numbers_from() + u64::from(self.groups())
+    }
+
     fn pages_from(&self) -> u64
         requires { IsValid self.now }
         ensures { result ≡ pages_from self.now }
     {
-        self.maps_from() + u64::from(self.slots) * u64::from(self.reach)
+        self.terms_from() + u64::from(self.passes)
     }
 }

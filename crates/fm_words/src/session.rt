@@ -2,13 +2,7 @@ ghost use Rattle.std.specs.Prelude.{◌≡◌};
 ghost use Rattle.fm_words.specs.Sessions.{IsSession, session_of, session_word};
 
 use crate::halves::{halves, joined};
-
-/// The slot has no arena.
-pub const FREE: u32 = 0;
-/// The slot's arena is open.
-pub const ALIVE: u32 = 1;
-/// The slot's arena was shut: nobody comes into it again.
-pub const CLOSING: u32 = 2;
+use crate::life::Life;
 
 /// What the session word of a slot says of its arena.
 ///
@@ -23,8 +17,7 @@ pub const CLOSING: u32 = 2;
 pub struct Session {
     /// Which of the slot's arenas it is, from 0; of a free slot the next one, or the last one where no more can come.
     pub generation: u32,
-    /// [`FREE`], [`ALIVE`] or [`CLOSING`].
-    pub life: u32,
+    pub life: Life,
     /// The arena's kind as its number: 0 global, 1 automatic, 2 confined, 3 shared.
     pub kind: u32,
     /// The number of the caller that opened the arena, below 4,096.
@@ -39,7 +32,7 @@ pub fn session_word(s: Session) -> u64
     ensures word { result ≡ session_word s }
     ensures back { session_of result ≡ s }
 {
-    let low = (((((s.life << 2) | s.kind) << 12) | s.owner) << 16) | s.holds;
+    let low = (((((s.life.bits() << 2) | s.kind) << 12) | s.owner) << 16) | s.holds;
     joined(s.generation, low)
 }
 
@@ -51,7 +44,7 @@ pub fn session_of(word: u64) -> Session
     let (generation, rest) = halves(word);
     Session {
         generation,
-        life: rest >> 30,
+        life: Life::of_bits(rest >> 30),
         kind: (rest >> 28) & 0b11,
         owner: (rest >> 16) & 0xfff,
         holds: rest & 0xffff,

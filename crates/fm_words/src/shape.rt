@@ -5,7 +5,7 @@ const MOST_PASSES: u32 = 4_096;
 
 const MOST_SLOTS: u32 = 64;
 
-const MOST_PAGES: u32 = 64;
+const MOST_PAGES: u32 = 4_096;
 
 const MOST_PAGE_WORDS: u32 = 1_048_576;
 /// In all pages together: 128 MiB.
@@ -18,7 +18,7 @@ pub struct Shape {
     pub passes: u32,
     /// Arenas at a time: 1 to 64.
     pub slots: u32,
-    /// Pages of memory: 1 to 64.
+    /// Pages of memory: 1 to 4,096.
     pub pages: u32,
     /// Words of eight bytes in a page: 1 to 1,048,576.
     pub page_words: u32,

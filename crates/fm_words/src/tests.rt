@@ -1,8 +1,8 @@
 ghost use Rattle.fm_words.specs.Sessions.{IsSession};
 
 use crate::{
-    ALIVE, CLOSING, FREE, Session, Shape, every_word_has_one_place, lowest_bit, map_of, map_word,
-    mark_of, mark_word, ones, session_of, session_word, without_bit,
+    Life, Session, Shape, every_word_has_one_place, lowest_bit, map_of, map_word, mark_of,
+    mark_word, ones, session_of, session_word, without_bit,
 };
 use std::process::Abort;
 
@@ -18,9 +18,9 @@ const LEAST: Shape = Shape {
 const GREATEST: Shape = Shape {
     passes: 4_096,
     slots: 64,
-    pages: 64,
-    page_words: 262_144,
-    reach: 1,
+    pages: 4_096,
+    page_words: 4_096,
+    reach: 4_096,
     generations: u32::MAX,
 };
 
@@ -35,7 +35,7 @@ const SMALL: Shape = Shape {
 
 const ZERO: Session = Session {
     generation: 0,
-    life: FREE,
+    life: Life::Free,
     kind: 0,
     owner: 0,
     holds: 0,
@@ -52,7 +52,7 @@ fn is_coded<R: Abort>(rt: &R, session: Session, word: u64)
 fn a_session_is_a_word(rt: HostRuntime) {
     let held = Session {
         generation: 5,
-        life: ALIVE,
+        life: Life::Alive,
         kind: 2,
         owner: 3,
         holds: 2,
@@ -60,7 +60,7 @@ fn a_session_is_a_word(rt: HostRuntime) {
     is_coded(&rt, held, 23_085_645_826);
     is_coded(&rt, held, 0x0000_0005_6003_0002);
     let shut = Session {
-        life: CLOSING,
+        life: Life::Closing,
         holds: 0,
         ..held
     };
@@ -81,7 +81,7 @@ fn fields_lie_apart_in_a_word(rt: HostRuntime) {
     is_coded(
         &rt,
         Session {
-            life: CLOSING,
+            life: Life::Closing,
             ..ZERO
         },
         0x8000_0000,
@@ -105,7 +105,7 @@ fn fields_lie_apart_in_a_word(rt: HostRuntime) {
     );
     let all = Session {
         generation: u32::MAX,
-        life: CLOSING,
+        life: Life::Closing,
         kind: 3,
         owner: 4_095,
         holds: 65_535,
@@ -114,10 +114,10 @@ fn fields_lie_apart_in_a_word(rt: HostRuntime) {
 }
 
 #[test]
-fn a_life_of_3_is_read(rt: HostRuntime) {
+fn each_two_bits_are_read_as_a_life(rt: HostRuntime) {
     let all = Session {
         generation: u32::MAX,
-        life: 3,
+        life: Life::Unused,
         kind: 3,
         owner: 4_095,
         holds: 65_535,
@@ -158,32 +158,42 @@ fn the_least_shape_has_one_of_each(rt: HostRuntime) {
     assert_eq!(rt; LEAST.front_place(), 0);
     assert_eq!(rt; LEAST.draw_place(), 1);
     assert_eq!(rt; LEAST.slot_bits_place(), 2);
-    assert_eq!(rt; LEAST.page_bits_place(), 3);
+    assert_eq!(rt; LEAST.page_bits_place(0), 3);
     assert_eq!(rt; LEAST.mark_place(0), 4);
     assert_eq!(rt; LEAST.session_place(0), 5);
     assert_eq!(rt; LEAST.given_place(0), 6);
     assert_eq!(rt; LEAST.map_place(0, 0), 7);
-    assert_eq!(rt; LEAST.page_place(0, 0), 8);
-    assert_eq!(rt; LEAST.words(), 9);
+    assert_eq!(rt; LEAST.groups(), 1);
+    assert_eq!(rt; LEAST.number_bits_place(0), 8);
+    assert_eq!(rt; LEAST.term_place(0), 9);
+    assert_eq!(rt; LEAST.page_place(0, 0), 10);
+    assert_eq!(rt; LEAST.words(), 11);
 }
 
 #[test]
 fn the_greatest_shape_has_128_mebibytes(rt: HostRuntime) {
     assert!(rt; GREATEST.is_valid());
-    assert_eq!(rt; GREATEST.mark_place(4_095), 4_099);
-    assert_eq!(rt; GREATEST.session_place(0), 4_100);
-    assert_eq!(rt; GREATEST.session_place(63), 4_163);
-    assert_eq!(rt; GREATEST.given_place(0), 4_164);
-    assert_eq!(rt; GREATEST.given_place(63), 4_227);
-    assert_eq!(rt; GREATEST.map_place(0, 0), 4_228);
-    assert_eq!(rt; GREATEST.map_place(63, 0), 4_291);
-    assert_eq!(rt; GREATEST.page_place(0, 0), 4_292);
-    assert_eq!(rt; GREATEST.page_place(63, 262_143), 16_781_507);
-    assert_eq!(rt; GREATEST.words(), 16_781_508);
+    assert_eq!(rt; GREATEST.page_groups(), 64);
+    assert_eq!(rt; GREATEST.page_bits_place(63), 66);
+    assert_eq!(rt; GREATEST.mark_place(4_095), 4_162);
+    assert_eq!(rt; GREATEST.session_place(0), 4_163);
+    assert_eq!(rt; GREATEST.session_place(63), 4_226);
+    assert_eq!(rt; GREATEST.given_place(0), 4_227);
+    assert_eq!(rt; GREATEST.given_place(63), 4_290);
+    assert_eq!(rt; GREATEST.map_place(0, 0), 4_291);
+    assert_eq!(rt; GREATEST.map_place(63, 4_095), 266_434);
+    assert_eq!(rt; GREATEST.groups(), 64);
+    assert_eq!(rt; GREATEST.number_bits_place(0), 266_435);
+    assert_eq!(rt; GREATEST.number_bits_place(63), 266_498);
+    assert_eq!(rt; GREATEST.term_place(0), 266_499);
+    assert_eq!(rt; GREATEST.term_place(4_095), 270_594);
+    assert_eq!(rt; GREATEST.page_place(0, 0), 270_595);
+    assert_eq!(rt; GREATEST.page_place(4_095, 4_095), 17_047_810);
+    assert_eq!(rt; GREATEST.words(), 17_047_811);
 }
 
 #[test]
-fn map_words_and_pages_lie_one_after_another(rt: HostRuntime) {
+fn words_of_each_kind_lie_one_after_another(rt: HostRuntime) {
     every_word_has_one_place();
     assert!(rt; SMALL.is_valid());
     assert_eq!(rt; SMALL.mark_place(2), 6);
@@ -192,10 +202,38 @@ fn map_words_and_pages_lie_one_after_another(rt: HostRuntime) {
     assert_eq!(rt; SMALL.map_place(0, 3), 14);
     assert_eq!(rt; SMALL.map_place(1, 0), 15);
     assert_eq!(rt; SMALL.map_place(1, 3), 18);
-    assert_eq!(rt; SMALL.page_place(0, 15), 34);
-    assert_eq!(rt; SMALL.page_place(1, 0), 35);
-    assert_eq!(rt; SMALL.page_place(7, 15), 146);
-    assert_eq!(rt; SMALL.words(), 147);
+    assert_eq!(rt; SMALL.number_bits_place(0), 19);
+    assert_eq!(rt; SMALL.term_place(2), 22);
+    assert_eq!(rt; SMALL.page_place(0, 15), 38);
+    assert_eq!(rt; SMALL.page_place(1, 0), 39);
+    assert_eq!(rt; SMALL.page_place(7, 15), 150);
+    assert_eq!(rt; SMALL.words(), 151);
+}
+
+#[test]
+fn bits_fill_words_of_64(rt: HostRuntime) {
+    for (count, groups) in [
+        (1, 1),
+        (63, 1),
+        (64, 1),
+        (65, 2),
+        (128, 2),
+        (129, 3),
+        (4_096, 64),
+    ] {
+        let shape = Shape {
+            passes: count,
+            ..LEAST
+        };
+        assert!(rt; shape.is_valid());
+        assert_eq!(rt; shape.groups(), groups);
+        let shape = Shape {
+            pages: count,
+            ..LEAST
+        };
+        assert!(rt; shape.is_valid());
+        assert_eq!(rt; shape.page_groups(), groups);
+    }
 }
 
 #[test]
@@ -204,6 +242,13 @@ fn pages_may_be_more_or_fewer_than_slots_can_map(rt: HostRuntime) {
         Shape { pages: 7, ..SMALL },
         Shape { pages: 9, ..SMALL },
         Shape { pages: 64, ..SMALL },
+        Shape { pages: 65, ..SMALL },
+        Shape {
+            pages: 4_096,
+            reach: 4_096,
+            slots: 64,
+            ..SMALL
+        },
         Shape { reach: 1, ..SMALL },
         Shape { reach: 8, ..SMALL },
         Shape { slots: 64, ..SMALL },
@@ -224,7 +269,10 @@ fn shapes_beyond_a_limit_are_refused(rt: HostRuntime) {
         Shape { slots: 0, ..SMALL },
         Shape { slots: 65, ..SMALL },
         Shape { pages: 0, ..SMALL },
-        Shape { pages: 65, ..SMALL },
+        Shape {
+            pages: 4_097,
+            ..SMALL
+        },
         Shape {
             page_words: 0,
             ..SMALL

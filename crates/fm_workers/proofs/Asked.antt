@@ -22,7 +22,7 @@ use Rattle.fm_records.specs.Query.{DoesQuery}
 use Rattle.fm_records.specs.Reads.{AreReads, StopsReading, IsWordOf, read_visit}
 use Rattle.fm_workers.specs.declared.part.Part.{Part}
 use Rattle.fm_workers.specs.Parts.{Asked, IsRun, AreRuns, CanAsk, Answers, AnswersFew, ComesTo, bytes_in}
-use Rattle.fm_workers.specs.Query.{OnlyReads, reads, stops, FoundClosed}
+use Rattle.fm_workers.specs.Query.{AsksRun, FoundClosed, HasAnswered, IsFirstRefused, OnlyReads, WantedMemory, reads, stops}
 use Rattle.fm_workers.specs.Tallies.{DoesCount}
 use Rattle.fm_workers.proofs.Callers.{AreDoneBy}
 use Rattle.fm_workers.proofs.Runs.{run_ends, run_fits, runs_order}
@@ -161,22 +161,74 @@ stopped_by c p part Closed own even may d = inr (refl, d.2)
 stopped_by c p part Memory own even may d = inl refl
 stopped_by c p part r own even may d = absurd d
 
+-- memory was wanting, or the first that wasn't answered found the arena closed
+abbrev pub HaveStopped : Plan → Region → List Caller → List Entry → Refusal → Type 0
+HaveStopped p s cs more r = ((r ≡ Memory) × WantedMemory p s cs more) ⊎ ((r ≡ Closed) × FoundClosed p s cs more)
+
+-- One that was answered stands before them.
+module _ {p : Plan} {s : Region} {more : List Entry} {c : Caller} {cs : List Caller} (mine : HasAnswered p s more c) where
+  first_later : {r : Refusal} {x : Caller} → IsFirstRefused p s cs more r x → IsFirstRefused p s (c ∷ cs) more r x
+  first_later f = record {
+    before = c ∷ f.before;
+    after = f.after;
+    parts = ap (λ (ys : List Caller). c ∷ ys) f.parts;
+    answered = (mine, f.answered);
+    refused = f.refused;
+  }
+
+  want_later : WantedMemory p s cs more → WantedMemory p s (c ∷ cs) more
+  want_later (inl w) = inl (w.0, first_later w.1)
+  want_later (inr all) = inr (mine, all)
+
+  stopped_later : {r : Refusal} → HaveStopped p s cs more r → HaveStopped p s (c ∷ cs) more r
+  stopped_later (inl m) = inl (m.0, want_later m.1)
+  stopped_later (inr f) = inr (f.0, record { caller = f.1.caller; first = first_later f.1.first; stops = f.1.stops })
+
+-- The first of them wasn't answered.
+first_here : {p : Plan} {s : Region} {more : List Entry} {r : Refusal} (c : Caller) (cs : List Caller) → AsksRun p s more (Err r) c
+    → IsFirstRefused p s (c ∷ cs) more r c
+first_here c cs h = record { before = []; after = cs; parts = refl; answered = tt; refused = h }
+
 pub crew_stopped : (p : Plan) (s : Region) (from to : ℕ) (more : List Entry) (cs : List Caller) (ts us : List Asked) (r : Refusal) → to ≤ s.size / p.size
     → ((c : Caller) → MayUse s.arena c) → AreDoneBy (Answers p) more cs ts us → AreRuns p s from ts to → ComesTo p us (Err r)
-    → (r ≡ Memory) ⊎ ((r ≡ Closed) × FoundClosed s cs more)
-crew_stopped p s from to more [] [] [] r within may d h e = inl e
-crew_stopped p s from to more (c ∷ cs) (t ∷ ts) (u ∷ us) r within may d h (inr (inl m)) = inl m
-crew_stopped p s from to more (c ∷ cs) (t ∷ ts) (u ∷ us) r within may d h (inr (inr e)) =
-    ⊎_elim (λ m. inl m) (λ (f : (r ≡ Closed) × FoundClosed s cs more). inr (f.0, record { caller = f.1.caller; among = inr f.1.among; stops = f.1.stops }))
-    (crew_stopped p s h.0 to more cs ts us r within may d.1 h.2 e)
+    → HaveStopped p s cs more r
+crew_stopped p s from to more [] [] [] r within may d h e = inl (e, inr tt)
+crew_stopped p s from to more (c ∷ cs) (t ∷ ts) (u ∷ us) r within may d h (inr e) =
+    let later = runs_order p s h.0 to ts h.2 in
+    let did = subst (λ (x : Result (List Found) Refusal). DoesQuery c p t.region x (made_by c more)) e.0.1 d.0.did in
+    let mine : HasAnswered p s more c = (
+      e.0.0,
+      record {
+        from = from;
+        to = h.0;
+        order = h.1.order;
+        within = omega (arith, later, within);
+        does = subst (λ (x : Region). DoesQuery c p x (Ok e.0.0) (made_by c more)) h.1.region did;
+      },
+    ) in
+    stopped_later mine (crew_stopped p s h.0 to more cs ts us r within may d.1 h.2 e.1)
 crew_stopped p s from to more (c ∷ cs) (t ∷ ts) (u ∷ us) r within may d h (inl e) =
-    let w = run_within p s from h.0 to t (runs_order p s h.0 to ts h.2) within h.1 in
+    let later = runs_order p s h.0 to ts h.2 in
+    let w = run_within p s from h.0 to t later within h.1 in
     let even : t.region.size % p.size ≡ 0 = ap (λ (x : Region). x.size % p.size) h.1.region ∙ mul-mod_left (h.0 - from) p.size in
     let mine : MayUse t.region.arena c = subst (λ a. MayUse a c) (sym w.arena) (may c) in
     let did = subst (λ (x : Result (List Found) Refusal). DoesQuery c p t.region x (made_by c more)) e d.0.did in
-    ⊎_elim (λ m. inl m)
-    (λ (f : (r ≡ Closed) × StopsReading c t.region (made_by c more)).
-    inr (f.0, record { caller = c; among = inl refl; stops = stops_wider c t.region s (made_by c more) w f.1 }))
+    let first : IsFirstRefused p s (c ∷ cs) more r c = first_here c cs (record {
+      from = from;
+      to = h.0;
+      order = h.1.order;
+      within = omega (arith, later, within);
+      does = subst (λ (x : Region). DoesQuery c p x (Err r) (made_by c more)) h.1.region did;
+    }) in
+    ⊎_elim (λ (m : r ≡ Memory). inl (m, inl (c, subst (λ (x : Refusal). IsFirstRefused p s (c ∷ cs) more x c) m first)))
+    (λ (f : (r ≡ Closed) × StopsReading c t.region (made_by c more)). inr (
+      f.0,
+      record {
+        caller = c;
+        first = subst (λ (x : Refusal). IsFirstRefused p s (c ∷ cs) more x c) f.0 first;
+        stops = stops_wider c t.region s (made_by c more) w f.1;
+      },
+    ))
     (stopped_by c p t.region r (made_by c more) even mine did)
 crew_stopped p s from to more cs ts us r within may d h e = absurd d
 

@@ -82,10 +82,10 @@ items_list place most k l (item ∷ []) result own fs tally few (short_turn one 
 items_list place most k l items result own fs tally few h e = absurd tally
 
 -- what records add to listed numbers, whichever these are
-record AddsListed (most : ℕ) (all : List (List Found)) : Type 0 where
-  numbers : List ℤ
-  few : length numbers ≤ most
-  adds : (xs : List ℤ) → all_added joined (Listed xs ∷ []) all ≡ Listed (xs ++ numbers) ∷ []
+pub record AddsListed (most : ℕ) (all : List (List Found)) : Type 0 where
+  pub numbers : List ℤ
+  pub few : length numbers ≤ most
+  pub adds : (xs : List ℤ) → all_added joined (Listed xs ∷ []) all ≡ Listed (xs ++ numbers) ∷ []
 
 lists_none : (most : ℕ) → AddsListed most []
 lists_none most = record { numbers = []; few = omega arith; adds = λ xs. ap (λ ns. Listed ns ∷ []) (sym (append-nil xs)) }
@@ -105,7 +105,7 @@ module _ (c : Caller) (id : ArenaId) (p : Plan) (plan : IsPlan p) (tally : IsTal
 
   -- ---- records, one behind the other
 
-  records_add : (places : List ℕ) (result : Result (Unit {0}) Refusal) (own : List Entry) (all : List (List Found))
+  pub records_add : (places : List ℕ) (result : Result (Unit {0}) Refusal) (own : List Entry) (all : List (List Found))
       → InOrder (Ok tt) (ReadsRecord c id p) places result own all → result ≡ Ok tt → AddsListed (length places * p.size) all
   records_add places result own all all_done e = lists_none (0 * p.size)
   records_add places result own all (one_more {x = place} {xs = left} one rest seen more r others) e =
@@ -135,7 +135,7 @@ pub items_none : (items : List Item) (conditions : List Condition) → AreTallie
 items_none (item ∷ []) conditions h = ap (λ (f : Found). f ∷ []) (asked_none item.asked h)
 items_none items conditions h = absurd h
 
-none_found : (p : Plan) → IsTally p → found_over p [] ≡ Listed [] ∷ []
+pub none_found : (p : Plan) → IsTally p → found_over p [] ≡ Listed [] ∷ []
 none_found p h = items_none p.items p.conditions h
 
 -- the numbers of the records before this one were read and counted

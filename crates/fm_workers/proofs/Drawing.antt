@@ -1,5 +1,5 @@
 -- Passes that are drawn one by one.
-use Rattle.std.proofs.Common.{◌≡◌, ℕ, ◌+◌, ◌≤◌, true, List, [], ◌∷◌, ◌++◌, length, refl, ap, sym, ◌∙◌, subst, arith, append_assoc, ⊎_elim, inl, inr, All, get_or, None, Err, Bool, length-append}
+use Rattle.std.proofs.Common.{◌≡◌, ◌+◌, ◌<◌, true, List, [], ◌∷◌, ◌++◌, length, refl, ap, sym, ◌∙◌, subst, arith, append_assoc, ⊎_elim, inl, inr, All, get_or, Err, Bool, length-append}
 use Rattle.std.specs.List.{AllByRecursion}
 use Rattle.std.proofs.lemmas.List.{append-nil, map-append}
 use Rattle.std.proofs.lemmas.List.Elements.{filter-append}
@@ -11,17 +11,19 @@ use Rattle.fm_base.specs.declared.refusal.Refusal.TheVariants.{NoPass}
 use Rattle.fm_base.specs.Calls.{Entry}
 use Rattle.fm_base.specs.Histories.{made_by}
 use Rattle.fm_base.specs.Finds.{Find, Gathered}
-use Rattle.fm_pool_facts.specs.Views.{View, In, HasCaller, pass_of}
+use Rattle.fm_words.specs.Places.{groups}
+use Rattle.fm_pool_facts.specs.Hands.{no_number}
+use Rattle.fm_pool_facts.specs.Views.{View, In, HasCaller}
 use Rattle.fm_pool_facts.specs.Splits.{view_of}
-use Rattle.fm_pool_facts.proofs.Keeping.{in_append, in_right}
+use Rattle.fm_pool_facts.proofs.Keeping.{in_append}
 use Rattle.fm_rule.specs.declared.pool.Pool.{Pool}
-use Rattle.fm_rule.specs.Draws.{Asked, Drawn, NoneDrawn, FoundAll, Looked}
+use Rattle.fm_rule.specs.Draws.{Asked, Drawn, Drew, NoneDrawn, FoundNone, Looked}
 use Rattle.fm_gate.specs.Standing.{IsOutside}
 use Rattle.fm_arena.specs.Shares.{CanShare}
 use Rattle.fm_workers.specs.declared.worker.Worker.{Worker}
-use Rattle.fm_workers.specs.Crew.{DrewOne, DrewEach, FoundAllDrawn}
-use Rattle.fm_workers.specs.Rounds.{Went, IsDrawn, DrewCrew, AfterDraws, AreSteady, EndsDraws, order_of, tasks_of}
-use Rattle.fm_workers.proofs.Rising.{at_most, drew_each_more, drew_each_push, drew_one, steady_push}
+use Rattle.fm_workers.specs.Crew.{DrewEach, FoundNoNumber}
+use Rattle.fm_workers.specs.Rounds.{Went, IsDrawn, DrewCrew, AfterDraws, EndsDraws, order_of, tasks_of}
+use Rattle.fm_workers.proofs.Orders.{drew_each_more, drew_each_push}
 
 -- Where two lists together are nothing, both are.
 pub nil_left : {X : Type 0} (xs ys : List X) → xs ++ ys ≡ [] → xs ≡ []
@@ -46,6 +48,7 @@ went_none p = record {
   draws = [];
   finds = sym (append-nil p.finds);
   only_draws = λ f i. absurd i;
+  gathered = λ f i. absurd i;
   is = refl;
 }
 
@@ -63,7 +66,7 @@ module _ {old now : View} (m : Went old now) where
   home_still = ap (λ (x : View). x.home) m.is
 
   -- The pass looked once more.
-  pub went_on : {next : View} {ds : List Find} → old.drawn ≡ None → Asked now next ds None → Went old next
+  pub went_on : {next : View} {ds : List Find} → old.number ≡ no_number → Asked now next ds no_number → Went old next
   went_on {next = next} {ds = ds} none a =
       let later = subst (λ (gs : List Gathered). All (λ g. made_by g.caller a.more ≡ []) gs) gathered_still a.apart in
       record {
@@ -72,32 +75,33 @@ module _ {old now : View} (m : Went old now) where
         own = made_behind old.caller m.more a.more m.own ∙ (ap (λ (c : Caller). made_by c a.more) (sym caller_still) ∙ a.quiet);
         apart = λ i g l. made_behind (get_or old.gathered i g).caller m.more a.more (m.apart i g l) ∙ later i g l;
         draws = m.draws ++ ds;
-        finds = a.finds ∙ (ap (λ (fs : List Find). fs ++ ds) m.finds ∙ append_assoc old.finds m.draws ds);
-        only_draws = λ f i. ⊎_elim (m.only_draws f) (a.only_draws f) (in_append f m.draws ds i);
-        is = a.is ∙ (ap (λ (v : View). record v { seen = next.seen; finds = next.finds; whole = next.whole; drawn = None }) m.is
-            ∙ (λ i. record old { seen = next.seen; finds = next.finds; whole = next.whole; drawn = sym none i }));
+        finds = a.found ∙ (ap (λ (fs : List Find). fs ++ ds) m.finds ∙ append_assoc old.finds m.draws ds);
+        only_draws = λ f i. ⊎_elim (m.only_draws f) (a.only f) (in_append f m.draws ds i);
+        gathered = λ f i. ⊎_elim (m.gathered f) (λ (j : In f ds). a.gathered f j ∙ ap (λ (gs : List Gathered). length gs) gathered_still)
+            (in_append f m.draws ds i);
+        is = a.is ∙ (ap (λ (v : View). record v { seen = next.seen; finds = next.finds; whole = next.whole; number = no_number }) m.is
+            ∙ (λ i. record old { seen = next.seen; finds = next.finds; whole = next.whole; number = sym none i }));
       }
 
-has_caller_by : (p q : View) (n : ℕ) → q.caller ≡ p.caller → q.gathered ≡ p.gathered → HasCaller p n → HasCaller q n
-has_caller_by p q n c g (inl e) = inl (e ∙ ap (λ (x : Caller). x.number) (sym c))
-has_caller_by p q n c g (inr h) = inr (h.0, subst (λ (gs : List Gathered). In h.0 gs) (sym g) h.1, h.2)
+has_caller_by : (p q : View) (c : Caller) → q.caller ≡ p.caller → q.gathered ≡ p.gathered → HasCaller p c → HasCaller q c
+has_caller_by p q c same g (inl e) = inl (e ∙ sym same)
+has_caller_by p q c same g (inr h) = inr (h.0, subst (λ (gs : List Gathered). In h.0 gs) (sym g) h.1, h.2)
 
 -- A pass that was drawn now was drawn since.
-pub drawn_since : {old now next d : View} → old.drawn ≡ None → Went old now → Drawn now next d → IsDrawn old d
+pub drawn_since : {old now next d : View} → old.number ≡ no_number → Went old now → Drawn now next d → IsDrawn old d
 drawn_since {old = old} {now = now} {next = next} {d = d} none m k =
     let w = went_on m none k.asked in
-    let c : d.caller ≡ pass_of k.number = ap (λ (x : View). x.caller) k.is in
+    let c : d.caller ≡ k.caller = ap (λ (x : View). x.caller) k.is in
     let s : d.seen ≡ next.seen = ap (λ (x : View). x.seen) k.is in
     let silent : made_by d.caller (old.seen ++ w.more) ≡ [] =
     ap (made_by d.caller) (sym w.seen) ∙ (ap (λ (x : Caller). made_by x next.seen) c ∙ k.fresh.silent) in
     let parts : made_by d.caller old.seen ++ made_by d.caller w.more ≡ [] = sym (filter-append _ old.seen w.more) ∙ silent in
     record {
       fresh = record {
-        number = let l = k.fresh.number in let n : d.caller.number ≡ k.number = ap (λ (x : Caller). x.number) c in
-            let z : next.shape.passes ≡ old.shape.passes = ap (λ (x : Shape). x.passes) (shape_still w) in omega (arith, l, n, z);
-        later = λ e. let l = k.fresh.later in let n : d.caller.number ≡ k.number = ap (λ (x : Caller). x.number) c in omega arith;
-        other = λ h. k.fresh.other (has_caller_by old next k.number (caller_still w) (gathered_still w)
-            (subst (λ (n : ℕ). HasCaller old n) (ap (λ (x : Caller). x.number) c) h));
+        number = subst (λ (x : Caller). x.number < old.shape.passes) (sym c)
+            (subst (λ (z : Shape). k.caller.number < z.passes) (shape_still w) k.fresh.number);
+        later = λ e. k.fresh.later (sym c ∙ e);
+        other = λ h. k.fresh.other (has_caller_by old next k.caller (caller_still w) (gathered_still w) (subst (λ (x : Caller). HasCaller old x) c h));
         silent = nil_left (made_by d.caller old.seen) (made_by d.caller w.more) parts;
       };
       begun = w.more;
@@ -110,69 +114,55 @@ drawn_since {old = old} {now = now} {next = next} {d = d} none m k =
 module _ {T : Type 0} where
   pub drew_nobody : (p : View) → DrewCrew {T = T} p p []
   unfolding went_none
-  drew_nobody p = record { went = went_none p; drew = λ f i. absurd i; steady = tt; workers = tt }
+  drew_nobody p = record { went = went_none p; drew = λ f i. absurd i; workers = tt }
 
 module _ {T : Type 0} {old now next : View} {ws : List (Worker T)} where
-  -- No number that was drawn before is higher.
-  found_before : (m : DrewCrew old now ws) (d : View) (k : Drawn now next d) → AllByRecursion (λ c. c.number ≤ k.number) (order_of ws)
-  found_before m d k =
-      at_most k.number m.went.draws (order_of ws)
-      (λ f i. subst (λ n. f.found ≤ n) k.drew.found
-      (k.asked.later f k.drew.find (inl (subst (In f) (sym m.went.finds) (in_right f old.finds m.went.draws i))) (m.went.only_draws f i) k.drew.among))
-      m.drew
-
   -- One more was drawn.
-  pub drew_more : {vs : List (Worker T)} (w : Worker T) → old.drawn ≡ None → DrewCrew old now ws → vs ≡ ws ++ w ∷ [] → Drawn now next w.memory
+  pub drew_more : {vs : List (Worker T)} (w : Worker T) → old.number ≡ no_number → DrewCrew old now ws → vs ≡ ws ++ w ∷ [] → Drawn now next w.memory
       → DrewCrew old next vs
   unfolding went_on
   drew_more w none m e k =
-      let is : w.memory.caller ≡ pass_of k.number = ap (λ (x : View). x.caller) k.is in
-      let n : w.memory.caller.number ≡ k.number = ap (λ (x : Caller). x.number) is in
+      let is : w.memory.caller ≡ k.caller = ap (λ (x : View). x.caller) k.is in
       let order : order_of (ws ++ w ∷ []) ≡ order_of ws ++ w.memory.caller ∷ [] = map-append (λ (u : Worker T). u.memory.caller) ws (w ∷ []) in
-      let one : DrewOne w.memory.caller k.draws = subst (λ (c : Caller). DrewOne c k.draws) (sym is) (drew_one k.drew) in
-      let before : AllByRecursion (λ c. c.number ≤ w.memory.caller.number) (order_of ws) =
-      subst (λ (h : ℕ). AllByRecursion (λ c. c.number ≤ h) (order_of ws)) (sym n) (found_before m w.memory k) in
+      let one : Drew w.memory.caller k.finds = subst (λ (c : Caller). Drew c k.finds) (sym is) k.drew in
       record {
         went = went_on m.went none k.asked;
-        drew = subst (λ (cs : List Caller). DrewEach (m.went.draws ++ k.draws) cs) (sym order ∙ ap (λ (us : List (Worker T)). order_of us) (sym e))
-            (drew_each_push m.went.draws k.draws (order_of ws) m.drew one);
-        steady = subst (λ (cs : List Caller). AreSteady cs) (sym order ∙ ap (λ (us : List (Worker T)). order_of us) (sym e))
-            (steady_push (order_of ws) w.memory.caller m.steady before);
+        drew = subst (λ (cs : List Caller). DrewEach (m.went.draws ++ k.finds) cs) (sym order ∙ ap (λ (us : List (Worker T)). order_of us) (sym e))
+            (drew_each_push m.went.draws k.finds (order_of ws) m.drew one);
         workers = subst (λ (us : List (Worker T)). AllByRecursion (λ (u : Worker T). IsDrawn old u.memory) us) (sym e)
             (all_both (λ (u : Worker T). IsDrawn old u.memory) ws (w ∷ []) m.workers (drawn_since none m.went k, tt));
       }
 
   -- No more was drawn.
-  pub drew_none : old.drawn ≡ None → DrewCrew old now ws → NoneDrawn now next → DrewCrew old next ws
+  pub drew_none : old.number ≡ no_number → DrewCrew old now ws → NoneDrawn now next → DrewCrew old next ws
   unfolding went_on
   drew_none none m k = record {
     went = went_on m.went none k.asked;
-    drew = drew_each_more m.went.draws k.draws (order_of ws) m.drew k.all.none;
-    steady = m.steady;
+    drew = drew_each_more m.went.draws k.finds (order_of ws) m.drew k.all.none;
     workers = m.workers;
   }
 
-  pub found_all : (none : old.drawn ≡ None) (m : DrewCrew old now ws) (k : NoneDrawn now next)
-      → FoundAllDrawn old.shape.passes (drew_none none m k).went.draws
+  pub found_none : (none : old.number ≡ no_number) (m : DrewCrew old now ws) (k : NoneDrawn now next)
+      → FoundNoNumber old.shape (drew_none none m k).went.draws
   unfolding drew_none went_on
-  found_all none m k = record {
+  found_none none m k = record {
     before = m.went.draws;
-    these = k.draws;
+    these = k.finds;
     after = [];
-    parts = ap (λ (fs : List Find). m.went.draws ++ fs) (sym (append-nil k.draws));
-    all = subst (λ (z : Shape). FoundAll z.passes k.draws) (shape_still m.went) k.all;
+    parts = ap (λ (fs : List Find). m.went.draws ++ fs) (sym (append-nil k.finds));
+    all = subst (λ (z : Shape). FoundNone (groups z) k.finds) (shape_still m.went) k.all;
   }
 
   -- No pass was left for the last task.
-  pub refused_draws : {tasks left : List T} (before : List T) (t : T) (r : Refusal) → old.drawn ≡ None → DrewCrew old now ws → (r ≡ NoPass) × NoneDrawn now next
+  pub refused_draws : {tasks left : List T} (before : List T) (t : T) (r : Refusal) → old.number ≡ no_number → DrewCrew old now ws → (r ≡ NoPass) × NoneDrawn now next
       → tasks ≡ left ++ tasks_of ws → left ≡ before ++ t ∷ [] → AfterDraws old next tasks left ws (Err r)
   refused_draws {left = left} before t r none m k parts last =
       let long : length left ≡ length before + 1 = ap (λ (ts : List T). length ts) last ∙ length-append before (t ∷ []) in
       record {
         drew = drew_none none m k.1;
         parts = parts;
-        ends = subst (λ (e : Refusal). EndsDraws old.shape.passes left (drew_none none m k.1).went.draws (Err e)) (sym k.0)
-            (found_all none m k.1, omega (arith, long));
+        ends = subst (λ (e : Refusal). EndsDraws old.shape left (drew_none none m k.1).went.draws (Err e)) (sym k.0)
+            (found_none none m k.1, omega (arith, long));
       }
 
 module _ {T : Type 0} where
@@ -189,12 +179,12 @@ module _ {T : Type 0} where
       ∙ sym (ap (λ (ts : List T). next ++ ts) (ap (λ (ws : List (Worker T)). tasks_of ws) m ∙ (tasks_push crew w ∙ ap (λ (x : T). x ∷ tasks_of crew) e)))))
 
 -- Who looked is outside still.
-outside_asked : {pool : Pool} {p q : View} {ds : List Find} → IsOutside pool p → Asked p q ds None → IsOutside pool q
+outside_asked : {pool : Pool} {p q : View} {ds : List Find} → IsOutside pool p → Asked p q ds no_number → IsOutside pool q
 outside_asked o a = record {
   of = (ap (λ (v : View). v.home) a.is ∙ o.of.0, ap (λ (v : View). v.shape) a.is ∙ o.of.1);
   outside = ap (λ (v : View). v.inside) a.is ∙ o.outside;
   unmarked = ap (λ (v : View). v.mark) a.is ∙ o.unmarked;
-  no_number = ap (λ (v : View). v.drawn) a.is;
+  no_number = ap (λ (v : View). v.number) a.is;
   no_slot = ap (λ (v : View). v.hand) a.is ∙ o.no_slot;
   no_part = ap (λ (v : View). v.swept) a.is ∙ o.no_part;
 }
@@ -216,7 +206,7 @@ outside_new o k =
       of = (ap (λ (v : View). v.home) k.is ∙ q.of.0, ap (λ (v : View). v.shape) k.is ∙ q.of.1);
       outside = ap (λ (v : View). v.inside) k.is;
       unmarked = ap (λ (v : View). v.mark) k.is;
-      no_number = ap (λ (v : View). v.drawn) k.is;
+      no_number = ap (λ (v : View). v.number) k.is;
       no_slot = ap (λ (v : View). v.hand) k.is;
       no_part = ap (λ (v : View). v.swept) k.is;
     }

@@ -8,6 +8,7 @@ use Rattle.fm_base.specs.declared.caller.Caller.{Caller}
 use Rattle.fm_base.specs.Calls.{Entry}
 use Rattle.fm_base.specs.Histories.{made_by}
 use Rattle.fm_base.specs.Finds.{Gathered}
+use Rattle.fm_pool_facts.specs.Hands.{no_number}
 use Rattle.fm_pool_facts.specs.Views.{View}
 use Rattle.fm_pool_facts.specs.Splits.{as_gathered}
 use Rattle.fm_rule.specs.declared.pool.Pool.{Pool}
@@ -85,9 +86,9 @@ module _ {T : Type 0} where
         (subst (λ (gs : List Gathered). All (Made more) gs) gathered_is a))).1
 
     -- One more is gathered.
-    pub gathered_more : {next : View} (w : Worker T) → w.memory.gathered ≡ [] → w.memory.shape ≡ now.shape → Gathers now w.memory next
-        → GatheredCrew old next (w ∷ done)
-    gathered_more {next = next} w none shape k =
+    pub gathered_more : {next : View} (w : Worker T) → old.number ≡ no_number → w.memory.gathered ≡ [] → w.memory.shape ≡ now.shape
+        → Gathers now w.memory no_number next → GatheredCrew old next (w ∷ done)
+    gathered_more {next = next} w number none shape k =
         let same : next.shape ≡ now.shape = ap (λ (v : View). v.shape) k.is in
         let before = apart_before k.more k.apart in
         let all : now.gathered ++ (as_gathered w.memory ∷ w.memory.gathered) ≡ old.gathered ++ crew_of (w ∷ done) =
@@ -99,20 +100,23 @@ module _ {T : Type 0} where
           seen = k.seen ∙ (ap (λ (es : List Entry). es ++ k.more) m.seen ∙ append_assoc old.seen m.more k.more);
           own = made_behind old.caller m.more k.more m.own ∙ (ap (λ (c : Caller). made_by c k.more) (sym gatherer_still) ∙ k.quiet);
           apart = λ i g l. made_behind (get_or old.gathered i g).caller m.more k.more (m.apart i g l) ∙ before i g l;
-          is = k.is ∙ (ap (λ (v : View). record v { seen = next.seen; gathered = now.gathered ++ (as_gathered w.memory ∷ w.memory.gathered) }) m.is
-              ∙ (λ i. record old { seen = next.seen; gathered = all i }));
+          is = k.is ∙ (ap (λ (v : View). record v {
+            seen = next.seen;
+            gathered = now.gathered ++ (as_gathered w.memory ∷ w.memory.gathered);
+            number = no_number;
+          }) m.is ∙ (λ i. record old { seen = next.seen; gathered = all i; number = sym number i }));
           workers = (
             record { shape = shape ∙ sym same; rest = k.rest; seen = k.its_seen; quiet = k.its_quiet },
             all_in_still now next k.more done same k.seen (apart_since k.more k.apart) m.workers,
           );
         }
 
-pub outside_gathered : {pool : Pool} {p d q : View} → IsOutside pool p → Gathers p d q → IsOutside pool q
+pub outside_gathered : {pool : Pool} {p d q : View} → IsOutside pool p → Gathers p d no_number q → IsOutside pool q
 outside_gathered o k = record {
   of = (ap (λ (v : View). v.home) k.is ∙ o.of.0, ap (λ (v : View). v.shape) k.is ∙ o.of.1);
   outside = ap (λ (v : View). v.inside) k.is ∙ o.outside;
   unmarked = ap (λ (v : View). v.mark) k.is ∙ o.unmarked;
-  no_number = ap (λ (v : View). v.drawn) k.is ∙ o.no_number;
+  no_number = ap (λ (v : View). v.number) k.is;
   no_slot = ap (λ (v : View). v.hand) k.is ∙ o.no_slot;
   no_part = ap (λ (v : View). v.swept) k.is ∙ o.no_part;
 }

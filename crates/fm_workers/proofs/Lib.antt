@@ -8,9 +8,10 @@ pub mod ByRuns
 pub mod Numbers
 pub mod Covered
 pub mod Drawing
+pub mod FewCounted
 pub mod Gathering
 pub mod Queried
-pub mod Rising
+pub mod Orders
 pub mod Runs
 pub mod Sharing
 pub mod Sparing
@@ -19,6 +20,7 @@ pub mod Tallying
 pub mod Totals
 pub mod Touching
 pub mod Turning
+pub mod Wanting
 pub mod Wholes
 pub mod Workers
 pub mod Working

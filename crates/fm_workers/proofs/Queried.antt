@@ -3,7 +3,7 @@ use Rattle.fm_workers.specs.Asking.{known_later}
 use Rattle.fm_records.proofs.Few.{few_answer}
 use Rattle.fm_segment.specs.Access.{IsKnown}
 use Rattle.fm_calls.specs.Told.{view_of_pass}
-use Rattle.std.proofs.Common.{◌≡◌, ℕ, ◌+◌, ◌/◌, ◌%◌, ◌≤◌, List, [], length, refl, sym, ap, ◌∙◌, subst, arith, inl, inr, ⊎_elim, Result, Ok, Err, IfOk}
+use Rattle.std.proofs.Common.{◌≡◌, ℕ, ◌/◌, ◌%◌, List, [], length, refl, sym, ap, ◌∙◌, subst, arith, inl, inr, ⊎_elim, Result, Ok, Err, IfOk}
 use Rattle.std.specs.Prelude.{◌⊎◌, ⊤}
 use Rattle.std.specs.List.{AllByRecursion}
 use Rattle.std.proofs.lemmas.List.{length-map}
@@ -19,11 +19,11 @@ use Rattle.fm_segment.specs.Region.{Region}
 use Rattle.fm_query.specs.Plan.{Plan, IsPlan}
 use Rattle.fm_records.specs.declared.found.Found.{Found}
 use Rattle.fm_records.specs.Few.{AreFew}
-use Rattle.fm_workers.specs.Crew.{CrewWorked, by_caller, callers}
+use Rattle.fm_workers.specs.Crew.{AreTooMany, CrewWorked, by_caller, callers}
 use Rattle.fm_workers.specs.Parts.{Asked, AreLevel, AreRuns, Answers, ComesTo, IsCut, bytes_in, least_in}
-use Rattle.fm_workers.specs.Query.{OnlyReads, AnsweredBy, FoundClosed, IsOpenToAll, EndsQuery, ArePartsAsked, QueriedWith}
+use Rattle.fm_workers.specs.Query.{OnlyReads, AnsweredBy, FoundClosed, HasAnswered, IsOpenToAll, EndsQuery, QueriedWith, WantedMemory}
 use Rattle.fm_workers.proofs.Callers.{AreDoneBy, worked_by_callers}
-use Rattle.fm_workers.proofs.Asked.{bytes_of_runs, count_done, crew_reads, crew_stopped, idle_reads}
+use Rattle.fm_workers.proofs.Asked.{HaveStopped, bytes_of_runs, count_done, crew_reads, crew_stopped, idle_reads}
 use Rattle.fm_workers.proofs.Working.{nobody, lasts_none}
 use Rattle.fm_workers.proofs.Sharing.{answered_runs, whole_piece}
 use Rattle.fm_workers.proofs.Sparing.{is_answer}
@@ -38,12 +38,6 @@ IsEarly WrongThread = ⊤
 IsEarly Memory = ⊤
 IsEarly r = ⊥
 
-asked_none : {X : Type 0} (r : Refusal) → IsEarly r → ArePartsAsked (Err r) → X
-asked_none (Ragged n) early h = absurd h
-asked_none WrongThread early h = absurd h
-asked_none Memory early h = absurd h
-asked_none r early h = absurd early
-
 early_not : (r : Refusal) → IsEarly r → ¬ (r ≡ NoPass)
 early_not (Ragged n) early e = absurd (cc)
 early_not WrongThread early e = absurd (cc)
@@ -57,12 +51,12 @@ unfolding nobody
 queried_none v p s threads r early known ends = record {
   crew = nobody v;
   one_each = omega arith;
+  one_less = λ e. let is : r ≡ NoPass = cc in absurd (early_not r early is);
   visits = tt;
   ends = ends;
   value = tt;
   answer = tt;
   few = tt;
-  suffice = asked_none r early;
   wanting = λ w e. let is : r ≡ NoPass = cc in absurd (early_not r early is);
   lasts = lasts_none v;
   known = known;
@@ -74,30 +68,30 @@ queried_none v p s threads r early known ends = record {
 pub queried_refused : {old new : View} {p : Plan} {s : Region} {threads : ℕ} {ts us : List Asked} (r : Refusal)
     → CrewWorked (by_caller (Answers p)) old new ts us (Err r) → length ts ≡ threads → IsOpenToAll p s → IsKnown (view_of_pass old) s
     → QueriedWith threads old new p s (Err r)
-queried_refused {s = s} NoPass w count shared known = record {
+queried_refused {old = old} {s = s} NoPass w count shared known = record {
   crew = w.crew;
   one_each = (let l = w.ends.1 in omega (arith, count, l));
+  one_less = λ e. let l = w.ends.1 in omega (arith, count, l);
   visits = idle_reads s w.crew.more (callers w.crew.crew) w.ends.2;
   ends = (shared, w.ends.0);
   value = tt;
   answer = tt;
   few = tt;
-  suffice = λ h. absurd h;
-  wanting = λ k e. let l = w.wanting k refl in omega (arith, count, l);
+  wanting = λ k e. subst (AreTooMany old) count (w.wanting k refl);
   lasts = w.lasts;
   known = known_later w.lasts known;
   sound = tt;
   still_sound = w.still_sound;
 }
-queried_refused {s = s} Memory w count shared known = record {
+queried_refused {p = p} {s = s} Memory w count shared known = record {
   crew = w.crew;
   one_each = (let e : length w.crew.crew ≡ 0 = ap (λ (gs : List Gathered). length gs) w.ends.1 in omega (arith, e));
+  one_less = λ e. absurd (cc);
   visits = subst (λ (gs : List Gathered). AllByRecursion (λ c. OnlyReads s c (made_by c w.crew.more)) (callers gs)) (sym w.ends.1) tt;
-  ends = shared;
+  ends = (shared, inr (subst (λ (gs : List Gathered). AllByRecursion (HasAnswered p s w.crew.more) (callers gs)) (sym w.ends.1) tt));
   value = tt;
   answer = tt;
   few = tt;
-  suffice = λ h. absurd h;
   wanting = λ k e. absurd (cc);
   lasts = w.lasts;
   known = known_later w.lasts known;
@@ -118,12 +112,14 @@ module _ {old new : View} {p : Plan} {s : Region} {threads : ℕ} {ts us : List 
   visits : AllByRecursion (λ c. OnlyReads s c (made_by c w.crew.more)) (callers w.crew.crew)
   visits = crew_reads p s 0 (s.size / p.size) w.crew.more (callers w.crew.crew) ts us (omega arith) done cut
 
-  enough : length old.gathered + (1 + threads) ≤ old.shape.passes
-  enough = let l = w.suffice in omega (arith, count, l)
-
-  never_wanting : (e : Refusal) → (e ≡ Memory) ⊎ ((e ≡ Closed) × FoundClosed s (callers w.crew.crew) w.crew.more) → ¬ (e ≡ NoPass)
-  never_wanting e (inl m) q = let other : Memory ≡ NoPass = sym m ∙ q in absurd (cc)
+  never_wanting : (e : Refusal) → HaveStopped p s (callers w.crew.crew) w.crew.more e → ¬ (e ≡ NoPass)
+  never_wanting e (inl m) q = let other : Memory ≡ NoPass = sym m.0 ∙ q in absurd (cc)
   never_wanting e (inr f) q = let other : Closed ≡ NoPass = sym f.0 ∙ q in absurd (cc)
+
+  -- An answer is wanting for want of memory, or since the arena was found closed.
+  stopped : (e : Refusal) → ComesTo p us (Err e) → HaveStopped p s (callers w.crew.crew) w.crew.more e
+  stopped e comes =
+      crew_stopped p s 0 (s.size / p.size) w.crew.more (callers w.crew.crew) ts us e (omega arith) (λ c is. absurd (shared.shared is)) done cut comes
 
   -- All were asked.
   pub queried : (r : Result (List Found) Refusal) → ComesTo p us r → IfOk r (AreFew (bytes_in us) p) → AreRuns p s 0 us (s.size / p.size)
@@ -131,19 +127,18 @@ module _ {old new : View} {p : Plan} {s : Region} {threads : ℕ} {ts us : List 
   queried (Err e) comes few runs = record {
     crew = w.crew;
     one_each = (let k = as_many in omega (arith, k));
+    one_less = λ q. let is : e ≡ NoPass = cc in absurd (never_wanting e (stopped e comes) is);
     visits = visits;
     ends = ⊎_elim
-        (λ (m : e ≡ Memory). subst (λ (x : Refusal). EndsQuery (least_in p s threads) old new p s w.crew.more w.crew.crew w.crew.draws (Err x)) (sym m) shared)
-        (λ (f : (e ≡ Closed) × FoundClosed s (callers w.crew.crew) w.crew.more).
+        (λ (m : (e ≡ Memory) × WantedMemory p s (callers w.crew.crew) w.crew.more).
+        subst (λ (x : Refusal). EndsQuery (least_in p s threads) old new p s w.crew.more w.crew.crew w.crew.draws (Err x)) (sym m.0) (shared, m.1))
+        (λ (f : (e ≡ Closed) × FoundClosed p s (callers w.crew.crew) w.crew.more).
         subst (λ (x : Refusal). EndsQuery (least_in p s threads) old new p s w.crew.more w.crew.crew w.crew.draws (Err x)) (sym f.0) (shared, f.1))
-        (crew_stopped p s 0 (s.size / p.size) w.crew.more (callers w.crew.crew) ts us e (omega arith) (λ c is. absurd (shared.shared is)) done cut comes);
+        (stopped e comes);
     value = tt;
     answer = tt;
     few = tt;
-    suffice = λ h. enough;
-    wanting = λ k q. let is : e ≡ NoPass = cc in absurd (never_wanting e
-        (crew_stopped p s 0 (s.size / p.size) w.crew.more (callers w.crew.crew) ts us e (omega arith)
-        (λ c is. absurd (shared.shared is)) done cut comes) is);
+    wanting = λ k q. let is : e ≡ NoPass = cc in absurd (never_wanting e (stopped e comes) is);
     lasts = w.lasts;
     known = known_later w.lasts known;
     sound = tt;
@@ -161,12 +156,12 @@ module _ {old new : View} {p : Plan} {s : Region} {threads : ℕ} {ts us : List 
       record {
         crew = w.crew;
         one_each = omega (arith, k);
+        one_less = λ e. absurd (cc);
         visits = visits;
         ends = (shared, by);
         value = is_answer w.crew plan sound by visits;
         answer = few_answer (bytes_in us) p.items a few;
         few = subst (λ (n : ℕ). AreFew n p a) all few;
-        suffice = λ h. enough;
         wanting = λ v e. absurd (cc);
         lasts = w.lasts;
         known = known_later w.lasts known;

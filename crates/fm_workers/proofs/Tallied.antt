@@ -1,5 +1,5 @@
 -- What a tally by a crew comes to.
-use Rattle.std.proofs.Common.{◌≡◌, ◌≢◌, ℕ, ◌+◌, ◌/◌, ◌%◌, ◌^◌, ◌<◌, ◌≤◌, List, [], ◌∷◌, length, slice_index, refl, sym, ap, ◌∙◌, subst, arith, inl, inr, ⊎_elim, Result, Ok, Err}
+use Rattle.std.proofs.Common.{◌≡◌, ◌≢◌, ℕ, ◌/◌, ◌%◌, ◌^◌, ◌<◌, ◌≤◌, List, [], ◌∷◌, length, slice_index, refl, sym, ap, ◌∙◌, subst, arith, inl, inr, ⊎_elim, Result, Ok, Err}
 use Rattle.std.specs.Prelude.{◌⊎◌, ⊤}
 use Rattle.std.specs.List.{AllByRecursion}
 use Rattle.fm_lists.specs.Among.{IsAmong}
@@ -30,11 +30,11 @@ use Rattle.fm_records.specs.Shares.{IsSpared}
 use Rattle.fm_workers.specs.Adding.{HasCounts, count_word}
 use Rattle.fm_workers.specs.Asking.{known_later}
 use Rattle.fm_workers.specs.Counts.{AreCounts, IsTally, listed}
-use Rattle.fm_workers.specs.Crew.{CrewWorked, by_caller, callers}
+use Rattle.fm_workers.specs.Crew.{AreTooMany, CrewWorked, by_caller, callers}
 use Rattle.fm_workers.specs.Parts.{AreLevel, IsCut, least_in}
 use Rattle.fm_workers.specs.Query.{IsReadByCrew, NobodyElseWrites}
 use Rattle.fm_workers.specs.Tallies.{SumsTo, Tallied, Tallies, Tallying}
-use Rattle.fm_workers.specs.Tally.{AreAllRead, AreAsked, AreHeld, AreTheCounts, CanBeTallied, EndsTally, LeavesWord, OnlyAddsTo, OnlyTallies, TalliedBy, TalliedWith, closed, no_more, one_add}
+use Rattle.fm_workers.specs.Tally.{AreAllRead, AreHeld, AreTheCounts, CanBeTallied, EndsTally, LeavesWord, OnlyAddsTo, OnlyTallies, TalliedBy, TalliedWith, closed, no_more, one_add}
 use Rattle.fm_workers.proofs.Callers.{AreDoneBy, worked_by_callers}
 use Rattle.fm_workers.proofs.Added.{by_crew, crew_adds}
 use Rattle.fm_workers.proofs.Counted.{runs_counted}
@@ -80,13 +80,6 @@ IsFirst WrongThread = ⊤
 IsFirst Memory = ⊤
 IsFirst r = ⊥
 
-asked_none : {X : Type 0} (r : Refusal) → IsFirst r → AreAsked (Err r) → X
-asked_none Unsupported first h = absurd h
-asked_none (Ragged n) first h = absurd h
-asked_none WrongThread first h = absurd h
-asked_none Memory first h = absurd h
-asked_none r first h = absurd first
-
 first_not : (r : Refusal) → IsFirst r → ¬ (r ≡ NoPass)
 first_not Unsupported first e = absurd (cc)
 first_not (Ragged n) first e = absurd (cc)
@@ -101,12 +94,12 @@ unfolding nobody
 tallied_none v p s counts threads r first known counts_known ends = record {
   crew = nobody v;
   one_each = omega arith;
+  one_less = λ e. let is : r ≡ NoPass = cc in absurd (first_not r first is);
   visits = tt;
   ends = ends;
   value = tt;
   read = tt;
   held = tt;
-  suffice = asked_none r first;
   wanting = λ w e. let is : r ≡ NoPass = cc in absurd (first_not r first is);
   lasts = lasts_none v;
   known = known;
@@ -119,16 +112,16 @@ tallied_none v p s counts threads r first known counts_known ends = record {
 pub tallied_refused : {old new : View} {w : Tallying} {s : Region} {threads : ℕ} {ts us : List Tallied} (r : Refusal)
     → CrewWorked (by_caller (Tallies w)) old new ts us (Err r) → length ts ≡ threads → CanBeTallied w.plan s w.counts → IsKnown (view_of_pass old) s
     → IsKnown (view_of_pass old) w.counts → TalliedWith threads old new w.plan s w.counts (Err r)
-tallied_refused {w = k} {s = s} NoPass w count can known counts_known = record {
+tallied_refused {old = old} {w = k} {s = s} NoPass w count can known counts_known = record {
   crew = w.crew;
   one_each = (let l = w.ends.1 in omega (arith, count, l));
+  one_less = λ e. let l = w.ends.1 in omega (arith, count, l);
   visits = idle_tallies s k.counts w.crew.more (callers w.crew.crew) w.ends.2;
   ends = (can, w.ends.0);
   value = tt;
   read = tt;
   held = tt;
-  suffice = λ h. absurd h;
-  wanting = λ x e. let l = w.wanting x refl in omega (arith, count, l);
+  wanting = λ x e. subst (AreTooMany old) count (w.wanting x refl);
   lasts = w.lasts;
   known = known_later w.lasts known;
   counts_known = known_later w.lasts counts_known;
@@ -138,12 +131,12 @@ tallied_refused {w = k} {s = s} NoPass w count can known counts_known = record {
 tallied_refused {w = k} {s = s} Memory w count can known counts_known = record {
   crew = w.crew;
   one_each = (let e : length w.crew.crew ≡ 0 = ap (λ (gs : List Gathered). length gs) w.ends.1 in omega (arith, e));
+  one_less = λ e. absurd (cc);
   visits = subst (λ (gs : List Gathered). AllByRecursion (λ c. OnlyTallies s k.counts c (made_by c w.crew.more)) (callers gs)) (sym w.ends.1) tt;
-  ends = can;
+  ends = (can, inr (ap callers w.ends.1));
   value = tt;
   read = tt;
   held = tt;
-  suffice = λ h. absurd h;
   wanting = λ x e. absurd (cc);
   lasts = w.lasts;
   known = known_later w.lasts known;
@@ -157,7 +150,7 @@ module _ {old new : View} {k : Tallying} {s : Region} {threads : ℕ} {ts us : L
     (w : CrewWorked (by_caller (Tallies k)) old new ts us (Ok u)) (plan : IsPlan k.plan) (cut : IsCut k.plan s ts)
     (level : AreLevel k.plan (least_in k.plan s threads) ts) (count : length ts ≡ threads)
     (can : CanBeTallied k.plan s k.counts) (longs : HasCounts k.counts) (other : k.counts.arena ≢ s.arena)
-    (known : IsKnown (view_of_pass old) s) (counts_known : IsKnown (view_of_pass old) k.counts) where
+    (known : IsKnown (view_of_pass old) s) (counts_known : IsKnown (view_of_pass old) k.counts) (small : s.size ≤ 2 ^ 40) where
   done : AreDoneBy (Tallies k) w.crew.more (callers w.crew.crew) ts us
   done = worked_by_callers (Tallies k) w
 
@@ -166,9 +159,6 @@ module _ {old new : View} {k : Tallying} {s : Region} {threads : ℕ} {ts us : L
 
   visits : AllByRecursion (λ c. OnlyTallies s k.counts c (made_by c w.crew.more)) (callers w.crew.crew)
   visits = crew_tallies k s 0 (s.size / k.plan.size) w.crew.more (callers w.crew.crew) ts us longs (omega arith) done cut
-
-  enough : length old.gathered + (1 + threads) ≤ old.shape.passes
-  enough = let l = w.suffice in omega (arith, count, l)
 
   is_sound : IsSound new
   is_sound = w.sound (λ e. absurd (cc))
@@ -218,31 +208,31 @@ module _ {old new : View} {k : Tallying} {s : Region} {threads : ℕ} {ts us : L
       let fits = total_fits us ns i below sums in
       ap (λ x. word_in x k.counts.arena (count_word k.counts i)) r.state ∙ omega (arith, zero_there, now, all, sum, fits)
 
-  stop_not : (e : Refusal) → IsStop e s k.counts (callers w.crew.crew) w.crew.more → ¬ (e ≡ NoPass)
-  stop_not e (inl m) q = let apart : Memory ≡ NoPass = sym m ∙ q in absurd (cc)
+  stop_not : (e : Refusal) → IsStop e k.plan s k.counts (callers w.crew.crew) w.crew.more → ¬ (e ≡ NoPass)
+  stop_not e (inl m) q = let apart : Memory ≡ NoPass = sym m.0 ∙ q in absurd (cc)
   stop_not e (inr f) q = let apart : Closed ≡ NoPass = sym f.0 ∙ q in absurd (cc)
 
-  stop_ends : (e : Refusal) → IsStop e s k.counts (callers w.crew.crew) w.crew.more
+  stop_ends : (e : Refusal) → IsStop e k.plan s k.counts (callers w.crew.crew) w.crew.more
       → EndsTally (least_in k.plan s threads) old new k.plan s k.counts w.crew.more w.crew.crew w.crew.draws (Err e)
   stop_ends e (inl m) =
-      subst (λ (x : Refusal). EndsTally (least_in k.plan s threads) old new k.plan s k.counts w.crew.more w.crew.crew w.crew.draws (Err x)) (sym m) can
+      subst (λ (x : Refusal). EndsTally (least_in k.plan s threads) old new k.plan s k.counts w.crew.more w.crew.crew w.crew.draws (Err x)) (sym m.0) (can, m.1)
   stop_ends e (inr f) =
       subst (λ (x : Refusal). EndsTally (least_in k.plan s threads) old new k.plan s k.counts w.crew.more w.crew.crew w.crew.draws (Err x)) (sym f.0) (can, f.1)
 
-  stopped : (e : Refusal) → SumsTo us (Err e) → IsStop e s k.counts (callers w.crew.crew) w.crew.more
-  stopped e sums = crew_stops k s 0 (s.size / k.plan.size) w.crew.more (callers w.crew.crew) ts us e (omega arith) done cut sums
+  stopped : (e : Refusal) → SumsTo us (Err e) → IsStop e k.plan s k.counts (callers w.crew.crew) w.crew.more
+  stopped e sums = crew_stops k s w.crew.more plan can.tally small 0 (s.size / k.plan.size) (callers w.crew.crew) ts us e (omega arith) done cut sums
 
   -- All were asked.
   pub tallied : (r : Result (List ℕ) Refusal) → SumsTo us r → TalliedWith threads old new k.plan s k.counts r
   tallied (Err e) sums = record {
     crew = w.crew;
     one_each = (let n = as_many in omega (arith, n));
+    one_less = λ q. let is : e ≡ NoPass = cc in absurd (stop_not e (stopped e sums) is);
     visits = visits;
     ends = stop_ends e (stopped e sums);
     value = tt;
     read = tt;
     held = tt;
-    suffice = λ h. enough;
     wanting = λ v q. let is : e ≡ NoPass = cc in absurd (stop_not e (stopped e sums) is);
     lasts = w.lasts;
     known = known_later w.lasts known;
@@ -253,12 +243,12 @@ module _ {old new : View} {k : Tallying} {s : Region} {threads : ℕ} {ts us : L
   tallied (Ok ns) sums = record {
     crew = w.crew;
     one_each = (let n = as_many in omega (arith, n));
+    one_less = λ e. absurd (cc);
     visits = visits;
     ends = (can, by_shares ns sums);
     value = the_counts ns sums;
     read = all_read ns sums;
     held = are_held ns sums;
-    suffice = λ h. enough;
     wanting = λ v e. absurd (cc);
     lasts = w.lasts;
     known = known_later w.lasts known;

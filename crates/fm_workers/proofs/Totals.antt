@@ -1,5 +1,5 @@
 -- Answers of parts, joined from the last part to the first.
-use Rattle.std.proofs.Common.{◌≡◌, ℕ, ◌+◌, ◌^◌, ◌≤◌, List, [], ◌∷◌, ◌++◌, sym, ap, ◌∙◌, subst, arith, inl, inr, Result, Ok, Err, IfOk}
+use Rattle.std.proofs.Common.{◌≡◌, ℕ, ◌+◌, ◌^◌, ◌≤◌, List, [], ◌∷◌, ◌++◌, refl, sym, ap, ◌∙◌, subst, arith, inl, inr, ⊎_elim, Result, Ok, Err, IfOk}
 use Rattle.std.specs.Prelude.{IfErr}
 use Rattle.fm_base.specs.declared.refusal.Refusal.{Refusal}
 use Rattle.fm_base.specs.declared.refusal.Refusal.TheVariants.{Memory}
@@ -14,13 +14,23 @@ pub comes_none : (p : Plan) (r : Result (List Found) Refusal) → IfOk r (λ a. 
 comes_none p (Ok a) is memory = is
 comes_none p (Err e) is memory = memory
 
+-- Where all are answered, memory may be wanting.
+want_of : (p : Plan) (ts : List Asked) (a : List Found) → ComesTo p ts (Ok a) → ComesTo p ts (Err Memory)
+want_of p [] a h = refl
+want_of p (t ∷ ts) a h = inr ((h.0, h.2), want_of p ts h.1 h.3)
+
 -- One part before them.
 pub comes_more : (p : Plan) (t : Asked) (ts : List Asked) (behind r : Result (List Found) Refusal) → ComesTo p ts behind → JoinsPart t behind r
     → ComesTo p (t ∷ ts) r
 comes_more p t ts behind (Ok a) h j = (j.0, j.1, j.2, subst (λ x. ComesTo p ts x) j.3 h, j.4)
 comes_more p t ts behind (Err e) h (inl q) = inl q
-comes_more p t ts behind (Err e) h (inr (inl m)) = inr (inl m)
-comes_more p t ts behind (Err e) h (inr (inr q)) = inr (inr (subst (λ x. ComesTo p ts x) q h))
+comes_more p t ts behind (Err e) h (inr q) = inr (
+  q.0,
+  ⊎_elim (λ (b : behind ≡ Err e). subst (λ x. ComesTo p ts x) b h)
+      (λ (m : (e ≡ Memory) × ((y : List Found) × (behind ≡ Ok y))).
+      subst (λ (x : Refusal). ComesTo p ts (Err x)) (sym m.0) (want_of p ts m.1.0 (subst (λ x. ComesTo p ts x) m.1.1 h)))
+      q.1,
+)
 
 pub bytes_append : (ts us : List Asked) → bytes_in (ts ++ us) ≡ bytes_in ts + bytes_in us
 bytes_append [] us = omega arith

@@ -1,8 +1,9 @@
 -- What the passes of a tally did.
-use Rattle.std.proofs.Common.{◌≡◌, ℕ, ◌/◌, ◌<◌, ◌≤◌, List, [], ◌∷◌, ◌++◌, length, refl, sym, ap, ◌∙◌, subst, arith, append_assoc, inl, inr, ⊎_elim, Result, Ok, Err}
+use Rattle.std.proofs.Common.{◌≡◌, ℕ, ◌/◌, ◌^◌, ◌<◌, ◌≤◌, List, [], ◌∷◌, ◌++◌, length, refl, sym, ap, ◌∙◌, subst, arith, append_assoc, inl, inr, ⊎_elim, Result, Ok, Err}
 use Rattle.std.specs.Prelude.{◌⊎◌}
 use Rattle.std.specs.List.{AllByRecursion}
 use Rattle.std.proofs.lemmas.List.{append-nil}
+use Rattle.fm_base.specs.declared.arena_id.ArenaId.{ArenaId}
 use Rattle.fm_base.specs.declared.caller.Caller.{Caller}
 use Rattle.fm_base.specs.declared.refusal.Refusal.{Refusal}
 use Rattle.fm_base.specs.declared.refusal.Refusal.TheVariants.{Closed, Memory}
@@ -10,14 +11,16 @@ use Rattle.fm_base.specs.Calls.{Entry}
 use Rattle.fm_base.specs.Histories.{made_by}
 use Rattle.fm_base.specs.Visits.{refused_visit}
 use Rattle.fm_segment.specs.Region.{Region}
-use Rattle.fm_query.specs.Plan.{Plan}
+use Rattle.fm_query.specs.Plan.{IsPlan, Plan}
 use Rattle.fm_records.specs.Reads.{IsWordOf}
 use Rattle.fm_workers.specs.Adding.{AddsAt, AddsBelow, DoesAdd, HasCounts, adds, count_word, none_yet, nothing, one_more}
 use Rattle.fm_workers.specs.Parts.{AreRuns}
-use Rattle.fm_workers.specs.Tallies.{CountsPart, DoesCount, DoesTallyPart, StopsPart, SumsTo, Tallied, Tallies, Tallying, unadded, uncounted}
-use Rattle.fm_workers.specs.Tally.{FoundEitherClosed, OnlyAddsTo, OnlyTallies, closed, no_more, one_add}
+use Rattle.fm_workers.specs.Counts.{IsTally}
+use Rattle.fm_workers.specs.Tallies.{CountsPart, DoesCount, DoesTallyPart, IsCountedPart, PassesPart, StopsPart, SumsTo, Tallied, Tallies, Tallying, unadded, uncounted}
+use Rattle.fm_workers.specs.Tally.{CountsRun, FoundEitherClosed, HasCounted, IsFirstUncounted, OnlyAddsTo, OnlyTallies, WantedMemory, closed, no_more, one_add}
 use Rattle.fm_workers.proofs.Callers.{AreDoneBy}
 use Rattle.fm_workers.proofs.Asked.{IsWithin, no_reads, query_reads, run_within, stops_count}
+use Rattle.fm_workers.proofs.FewCounted.{never_passes}
 use Rattle.fm_workers.proofs.Runs.{runs_order}
 
 pub tasks_count : {T : Type 0} (Does : Caller → T → T → List Entry → Type 0) (more : List Entry) (cs : List Caller) (ts us : List T)
@@ -109,39 +112,102 @@ add_stopped c counts ns Closed more reads own parts d =
     (refl, (reads ++ d.before, parts ∙ ap (λ es. reads ++ es) d.stops ∙ sym (append_assoc reads d.before (refused_visit c counts.arena))))
 add_stopped c counts ns r more reads own parts d = absurd d
 
--- they were refused for want of memory, or since a pass found an arena closed
-abbrev pub IsStop : Refusal → Region → Region → List Caller → List Entry → Type 0
-IsStop r s counts cs more = (r ≡ Memory) ⊎ ((r ≡ Closed) × FoundEitherClosed s counts cs more)
+-- the first that didn't count all wanted memory, or found an arena closed
+abbrev pub IsStop : Refusal → Plan → Region → Region → List Caller → List Entry → Type 0
+IsStop r p s counts cs more = ((r ≡ Memory) × WantedMemory p s counts cs more) ⊎ ((r ≡ Closed) × FoundEitherClosed p s counts cs more)
 
-count_stopped : (c : Caller) (p : Plan) (part s counts : Region) (r : Refusal) (cs : List Caller) (more : List Entry) → part.arena ≡ s.arena
-    → DoesCount c p part (Err r) (made_by c more) → IsStop r s counts (c ∷ cs) more
-count_stopped c p part s counts Closed cs more same d =
-    inr (refl, record { caller = c; among = inl refl; arena = part.arena; either = inl same; before = d.before; last = d.stops })
-count_stopped c p part s counts Memory cs more same d = inl refl
-count_stopped c p part s counts r cs more same d = absurd d
+-- the caller's entries end where an arena was found closed
+record EndsAs (c : Caller) (s counts : Region) (own : List Entry) : Type 0 where
+  arena : ArenaId
+  either : (arena ≡ s.arena) ⊎ (arena ≡ counts.arena)
+  before : List Entry
+  last : own ≡ before ++ refused_visit c arena
 
-part_stopped : (c : Caller) (p : Plan) (part s counts : Region) (r : Refusal) (cs : List Caller) (more : List Entry) → part.arena ≡ s.arena
-    → StopsPart c p part counts r (made_by c more) → IsStop r s counts (c ∷ cs) more
-part_stopped c p part s counts r cs more same (uncounted d) = count_stopped c p part s counts r cs more same d
-part_stopped c p part s counts r cs more same (unadded ns h) =
-    let e = add_stopped c counts ns r h.adds h.reads (made_by c more) h.parts h.added in
-    inr (e.0, record { caller = c; among = inl refl; arena = counts.arena; either = inr refl; before = e.1.0; last = e.1.1 })
+count_stopped : (c : Caller) (p : Plan) (part s counts : Region) (r : Refusal) (own : List Entry) → part.arena ≡ s.arena
+    → DoesCount c p part (Err r) own → (r ≡ Memory) ⊎ ((r ≡ Closed) × EndsAs c s counts own)
+count_stopped c p part s counts Closed own same d =
+    inr (refl, record { arena = part.arena; either = inl same; before = d.before; last = d.stops })
+count_stopped c p part s counts Memory own same d = inl refl
+count_stopped c p part s counts r own same d = absurd d
 
-pub crew_stops : (w : Tallying) (s : Region) (from to : ℕ) (more : List Entry) (cs : List Caller) (ts us : List Tallied) (r : Refusal)
-    → to ≤ s.size / w.plan.size → AreDoneBy (Tallies w) more cs ts us → AreRuns w.plan s from ts to → SumsTo us (Err r) → IsStop r s w.counts cs more
-crew_stops w s from to more [] [] [] r within d h e = absurd e
-crew_stops w s from to more (c ∷ cs) (t ∷ ts) (u ∷ us) r within d h e =
-    let x = run_within w.plan s from h.0 to t (runs_order w.plan s h.0 to ts h.2) within h.1 in
-    ⊎_elim
-    (λ (q : u.answer ≡ Err r). part_stopped c w.plan t.region s w.counts r cs more x.arena
-    (subst (λ (y : Result (List ℕ) Refusal). DoesTallyPart c w.plan t.region w.counts y (made_by c more)) q d.0.did))
-    (λ (q : (r ≡ Memory) ⊎ (e.behind ≡ Err r)). ⊎_elim (λ m. inl m)
-    (λ (b : e.behind ≡ Err r). later (crew_stops w s h.0 to more cs ts us r within d.1 h.2 (subst (SumsTo us) b e.comes))) q)
-    e.part
-  where
-    later : IsStop r s w.counts cs more → IsStop r s w.counts (c ∷ cs) more
-    later (inl m) = inl m
-    later (inr f) =
-        let x = f.1 in
-        inr (f.0, record { caller = x.caller; among = inr x.among; arena = x.arena; either = x.either; before = x.before; last = x.last })
-crew_stops w s from to more cs ts us r within d h e = absurd d
+part_stopped : (c : Caller) (p : Plan) (part s counts : Region) (r : Refusal) (own : List Entry) → part.arena ≡ s.arena
+    → StopsPart c p part counts r own → (r ≡ Memory) ⊎ ((r ≡ Closed) × EndsAs c s counts own)
+part_stopped c p part s counts r own same (uncounted d) = count_stopped c p part s counts r own same d
+part_stopped c p part s counts r own same (unadded ns h) =
+    let e = add_stopped c counts ns r h.adds h.reads own h.parts h.added in
+    inr (e.0, record { arena = counts.arena; either = inr refl; before = e.1.0; last = e.1.1 })
+
+-- One that counted all stands before them.
+module _ {p : Plan} {s counts : Region} {more : List Entry} {c : Caller} {cs : List Caller} (mine : HasCounted p s counts more c) where
+  uncounted_later : {r : Refusal} {x : Caller} → IsFirstUncounted p s counts cs more r x → IsFirstUncounted p s counts (c ∷ cs) more r x
+  uncounted_later f = record {
+    before = c ∷ f.before;
+    after = f.after;
+    parts = ap (λ (ys : List Caller). c ∷ ys) f.parts;
+    counted = (mine, f.counted);
+    refused = f.refused;
+  }
+
+-- The first of them didn't count all.
+uncounted_here : {p : Plan} {s counts : Region} {more : List Entry} {r : Refusal} (c : Caller) (cs : List Caller) → CountsRun p s counts more (Err r) c
+    → IsFirstUncounted p s counts (c ∷ cs) more r c
+uncounted_here c cs h = record { before = []; after = cs; parts = refl; counted = tt; refused = h }
+
+-- how some of a crew were refused, of whom there are some
+abbrev HaveStopped : Refusal → Plan → Region → Region → List Caller → List Entry → Type 0
+HaveStopped r p s counts cs more =
+    ((r ≡ Memory) × ((c : Caller) × IsFirstUncounted p s counts cs more Memory c)) ⊎ ((r ≡ Closed) × FoundEitherClosed p s counts cs more)
+
+stopped_later : {r : Refusal} {p : Plan} {s counts : Region} {more : List Entry} (c : Caller) (cs : List Caller) → HasCounted p s counts more c
+    → HaveStopped r p s counts cs more → HaveStopped r p s counts (c ∷ cs) more
+stopped_later c cs mine (inl m) = inl (m.0, (m.1.0, uncounted_later mine m.1.1))
+stopped_later c cs mine (inr f) =
+    let x = f.1 in
+    inr (f.0, record { caller = x.caller; first = uncounted_later mine x.first; arena = x.arena; either = x.either; before = x.before; last = x.last })
+
+module _ (w : Tallying) (s : Region) (more : List Entry) (plan : IsPlan w.plan) (tally : IsTally w.plan) (small : s.size ≤ 2 ^ 40) where
+  have_stopped : (from to : ℕ) (cs : List Caller) (ts us : List Tallied) (r : Refusal) → to ≤ s.size / w.plan.size
+      → AreDoneBy (Tallies w) more cs ts us → AreRuns w.plan s from ts to → SumsTo us (Err r) → HaveStopped r w.plan s w.counts cs more
+  have_stopped from to [] [] [] r within d h e = absurd e
+  have_stopped from to (c ∷ cs) (t ∷ ts) (u ∷ us) r within d h e =
+      let later = runs_order w.plan s h.0 to ts h.2 in
+      let x = run_within w.plan s from h.0 to t later within h.1 in
+      let run : (y : Result (List ℕ) Refusal) → u.answer ≡ y → CountsRun w.plan s w.counts more y c = λ y q. record {
+        from = from;
+        to = h.0;
+        order = h.1.order;
+        within = omega (arith, later, within);
+        does = subst (λ (z : Region). DoesTallyPart c w.plan z w.counts y (made_by c more)) h.1.region
+            (subst (λ (z : Result (List ℕ) Refusal). DoesTallyPart c w.plan t.region w.counts z (made_by c more)) q d.0.did);
+      } in
+      ⊎_elim
+      (λ (q : u.answer ≡ Err r).
+      let first : IsFirstUncounted w.plan s w.counts (c ∷ cs) more r c = uncounted_here c cs (run (Err r) q) in
+      ⊎_elim (λ (m : r ≡ Memory). inl (m, (c, subst (λ (z : Refusal). IsFirstUncounted w.plan s w.counts (c ∷ cs) more z c) m first)))
+      (λ (f : (r ≡ Closed) × EndsAs c s w.counts (made_by c more)). inr (
+        f.0,
+        record {
+          caller = c;
+          first = subst (λ (z : Refusal). IsFirstUncounted w.plan s w.counts (c ∷ cs) more z c) f.0 first;
+          arena = f.1.arena;
+          either = f.1.either;
+          before = f.1.before;
+          last = f.1.last;
+        },
+      ))
+      (part_stopped c w.plan t.region s w.counts r (made_by c more) x.arena
+      (subst (λ (y : Result (List ℕ) Refusal). DoesTallyPart c w.plan t.region w.counts y (made_by c more)) q d.0.did)))
+      (λ (q : (IsCountedPart u × (e.behind ≡ Err r)) ⊎ ((r ≡ Memory) × PassesPart u e.behind)). ⊎_elim
+      (λ (b : IsCountedPart u × (e.behind ≡ Err r)). stopped_later c cs (b.0.0, run (Ok b.0.0) b.0.1)
+      (have_stopped h.0 to cs ts us r within d.1 h.2 (subst (SumsTo us) b.1 e.comes)))
+      (λ (b : (r ≡ Memory) × PassesPart u e.behind).
+      absurd (never_passes w plan tally s from to more c cs t u ts us e.behind small within d h e.comes b.1))
+      q)
+      e.part
+  have_stopped from to cs ts us r within d h e = absurd d
+
+  pub crew_stops : (from to : ℕ) (cs : List Caller) (ts us : List Tallied) (r : Refusal) → to ≤ s.size / w.plan.size
+      → AreDoneBy (Tallies w) more cs ts us → AreRuns w.plan s from ts to → SumsTo us (Err r) → IsStop r w.plan s w.counts cs more
+  crew_stops from to cs ts us r within d h e =
+      ⊎_elim (λ (m : (r ≡ Memory) × ((c : Caller) × IsFirstUncounted w.plan s w.counts cs more Memory c)). inl (m.0, inl m.1))
+      (λ (f : (r ≡ Closed) × FoundEitherClosed w.plan s w.counts cs more). inr f) (have_stopped from to cs ts us r within d h e)

@@ -10,7 +10,7 @@ use Rattle.fm_pool_facts.specs.Views.{View}
 use Rattle.fm_pool_facts.specs.Splits.{as_gathered}
 use Rattle.fm_workers.specs.declared.worker.Worker.{Worker}
 use Rattle.fm_workers.specs.Crew.{DrewEach, callers}
-use Rattle.fm_workers.specs.Rounds.{AfterDraws, AreSteady, CalledUp, IsDrawn, crew_of, order_of, tasks_of}
+use Rattle.fm_workers.specs.Rounds.{AfterDraws, CalledUp, IsDrawn, crew_of, order_of, tasks_of}
 use Rattle.fm_workers.proofs.Drawing.{tasks_push}
 
 -- The first stands last then.
@@ -51,7 +51,6 @@ module _ {T : Type 0} where
       (record {
         went = a.drew.went;
         drew = subst (λ (cs : List Caller). DrewEach a.drew.went.draws cs) (sym (crew_turned ws)) a.drew.drew;
-        steady = subst (λ (cs : List Caller). AreSteady cs) (sym (crew_turned ws)) a.drew.steady;
         workers = all_turned (λ (w : Worker T). IsDrawn old w.memory) ws a.drew.workers;
         parts = a.parts ∙ ap (λ (ts : List T). left ++ ts) (sym (tasks_turned ws));
         ends = a.ends;

@@ -1,9 +1,10 @@
 -- A pass that was known to be whole is so again once its crew is gathered.
-use Rattle.std.proofs.Common.{◌≡◌, ℕ, true, false, List, [], ◌∷◌, ◌++◌, refl, ap, sym, ◌∙◌, subst, ⊎_elim, inl, inr, All, Some}
+use Rattle.std.proofs.Common.{◌≡◌, true, false, List, [], ◌∷◌, ◌++◌, refl, ap, sym, ◌∙◌, subst, ⊎_elim, inl, inr, All, Some}
 use Rattle.std.specs.List.{AllByRecursion}
 use Rattle.std.proofs.lemmas.List.Elements.{recursion_from_All}
 use Rattle.fm_lists.specs.Among.{IsAmong, AreApart}
 use Rattle.fm_base.specs.declared.caller.Caller.{Caller}
+use Rattle.fm_base.specs.Arenas.{only_caller}
 use Rattle.fm_base.specs.Calls.{Entry}
 use Rattle.fm_base.specs.Histories.{made_by}
 use Rattle.fm_base.specs.Finds.{Find, Gathered, is_draw}
@@ -29,24 +30,19 @@ gathered_among g [] i = absurd i
 gathered_among g (x ∷ gs) (inl e) = inl (ap (λ (y : Gathered). y.caller) e)
 gathered_among g (x ∷ gs) (inr i) = inr (gathered_among g gs i)
 
--- Whose numbers differ are apart.
-apart_each : (gs : List Gathered) → IsOnce (λ (g : Gathered). g.caller.number) gs → AreApart (callers gs)
+-- Callers that differ are apart.
+apart_each : (gs : List Gathered) → IsOnce (λ (g : Gathered). g.caller) gs → AreApart (callers gs)
 apart_each [] h = tt
-apart_each (g ∷ gs) h =
-    ((λ i. let r = among_gathered g.caller gs i in h.0 r.0 r.1 (ap (λ (c : Caller). c.number) r.2)), apart_each gs h.1)
+apart_each (g ∷ gs) h = ((λ i. let r = among_gathered g.caller gs i in h.0 r.0 r.1 r.2), apart_each gs h.1)
 
-once_right : (xs ys : List Gathered) → IsOnce (λ (g : Gathered). g.caller.number) (xs ++ ys) → IsOnce (λ (g : Gathered). g.caller.number) ys
+once_right : (xs ys : List Gathered) → IsOnce (λ (g : Gathered). g.caller) (xs ++ ys) → IsOnce (λ (g : Gathered). g.caller) ys
 once_right [] ys h = h
 once_right (x ∷ xs) ys h = once_right xs ys h.1
 
--- No two of a crew are of one number.
-pub crew_once : (old new : View) (crew : List Gathered) → new.gathered ≡ old.gathered ++ crew → IsSound new
-    → IsOnce (λ (g : Gathered). g.caller.number) crew
-crew_once old new crew e sound =
-    once_right old.gathered crew (subst (λ (gs : List Gathered). IsOnce (λ (g : Gathered). g.caller.number) gs) e sound.one_each)
-
+-- No two of a crew are one.
 pub crew_apart : (old new : View) (crew : List Gathered) → new.gathered ≡ old.gathered ++ crew → IsSound new → AreApart (callers crew)
-crew_apart old new crew e sound = apart_each crew (crew_once old new crew e sound)
+crew_apart old new crew e sound =
+    apart_each crew (once_right old.gathered crew (subst (λ (gs : List Gathered). IsOnce (λ (g : Gathered). g.caller) gs) e sound.one_each))
 
 -- ---- nobody else made an entry
 
@@ -59,38 +55,30 @@ all_in P [] x h i = absurd i
 all_in P (y ∷ xs) x h (inl e) = subst P (sym e) h.0
 all_in P (y ∷ xs) x h (inr i) = all_in P xs x h.1 i
 
-same_caller : (c d : Caller) → c.number ≡ d.number → c.term ≡ 0 → d.term ≡ 0 → c ≡ d
-same_caller c d n t u = λ i. record { number = n i; term = (t ∙ sym u) i }
-
 module _ (old new : View) (more : List Entry) (crew : List Gathered) (seen : new.seen ≡ old.seen ++ more) (caller : new.caller ≡ old.caller)
     (gathered : new.gathered ≡ old.gathered ++ crew) (own : made_by old.caller more ≡ []) (apart : All (Made more) old.gathered) (sound : IsSound new)
     (whole : new.whole ≡ true) where
   by_crew : (e : Entry) → In e more → IsAmong e.caller (callers crew)
   by_crew e i =
-      let there : In e new.seen = subst (In e) (sym seen) (in_right e old.seen more i) in
-      let t = sound.terms.entries e there in
       ⊎_elim
-      (λ (n : e.caller.number ≡ new.caller.number).
-      let is = same_caller e.caller new.caller n t sound.terms.own in
-      absurd (made_in e more i (ap (λ (c : Caller). made_by c more) (is ∙ caller) ∙ own)))
-      (λ (h : (g : Gathered) × In g new.gathered × (g.caller.number ≡ e.caller.number)).
-      let is = same_caller e.caller h.0.caller (sym h.2) t (sound.terms.gathered h.0 h.1) in
+      (λ (is : e.caller ≡ new.caller). absurd (made_in e more i (ap (λ (c : Caller). made_by c more) (is ∙ caller) ∙ own)))
+      (λ (h : (g : Gathered) × In g new.gathered × (g.caller ≡ e.caller)).
       ⊎_elim
       (λ (a : In h.0 old.gathered).
       let none = all_in (Made more) old.gathered h.0 (recursion_from_All (Made more) old.gathered apart) a in
-      absurd (made_in e more i (ap (λ (c : Caller). made_by c more) is ∙ none)))
-      (λ (b : In h.0 crew). subst (λ (c : Caller). IsAmong c (callers crew)) (sym is) (gathered_among h.0 crew b))
+      absurd (made_in e more i (ap (λ (c : Caller). made_by c more) (sym h.2) ∙ none)))
+      (λ (b : In h.0 crew). subst (λ (c : Caller). IsAmong c (callers crew)) h.2 (gathered_among h.0 crew b))
       (in_append h.0 old.gathered crew (subst (In h.0) gathered h.1)))
-      (sound.knows whole e there)
+      (sound.knows whole e (subst (In e) (sym seen) (in_right e old.seen more i)))
 
   pub only_crew : AllByRecursion (λ e. IsAmong e.caller (callers crew)) more
   only_crew = each_in (λ e. IsAmong e.caller (callers crew)) more by_crew
 
--- ---- every number that was drawn is there again
+-- ---- every caller that was drawn is there again
 
-keeps_caller : (p q : View) (gs : List Gathered) (n : ℕ) → q.caller ≡ p.caller → q.gathered ≡ p.gathered ++ gs → HasCaller p n → HasCaller q n
-keeps_caller p q gs n c g (inl e) = inl (e ∙ ap (λ (x : Caller). x.number) (sym c))
-keeps_caller p q gs n c g (inr h) = inr (h.0, subst (In h.0) (sym g) (in_left h.0 p.gathered gs h.1), h.2)
+keeps_caller : (p q : View) (gs : List Gathered) (c : Caller) → q.caller ≡ p.caller → q.gathered ≡ p.gathered ++ gs → HasCaller p c → HasCaller q c
+keeps_caller p q gs c same g (inl e) = inl (e ∙ sym same)
+keeps_caller p q gs c same g (inr h) = inr (h.0, subst (In h.0) (sym g) (in_left h.0 p.gathered gs h.1), h.2)
 
 unfoldable pub NoDraws : View → Type 0
 NoDraws v = (f : Find) → In f v.finds → is_draw f.step ≡ false
@@ -114,23 +102,23 @@ module _ {T : Type 0} {old drew got : View} {vs : List (Worker T)} (m : Went old
   pub finds_again : got.finds ≡ old.finds ++ m.draws
   finds_again = ap (λ (v : View). v.finds) k.is ∙ m.finds
 
-  still : (n : ℕ) → HasCaller old n → HasCaller got n
-  still n h = keeps_caller old got (crew_of vs) n caller_again gathered_again h
+  still : (c : Caller) → HasCaller old c → HasCaller got c
+  still c h = keeps_caller old got (crew_of vs) c caller_again gathered_again h
 
-  crew_has : (c : Caller) → IsAmong c (callers (crew_of vs)) → HasCaller got c.number
+  crew_has : (c : Caller) → IsAmong c (callers (crew_of vs)) → HasCaller got c
   crew_has c i =
       let r = among_gathered c (crew_of vs) i in
-      inr (r.0, subst (In r.0) (sym gathered_again) (in_right r.0 old.gathered (crew_of vs) r.1), ap (λ (x : Caller). x.number) r.2)
+      inr (r.0, subst (In r.0) (sym gathered_again) (in_right r.0 old.gathered (crew_of vs) r.1), r.2)
 
   pub all_drawn_again : ((f : Find) (c : Caller) → In f m.draws → f.drew ≡ Some c → IsAmong c (callers (crew_of vs)))
       → AllByRecursion (λ (v : Worker T). NoDraws v.memory) vs → HasAllDrawn old → HasAllDrawn got
   all_drawn_again only undrawn h = record {
-    first = still 0 h.first;
+    first = still only_caller h.first;
     others = λ f c i draw drew. ⊎_elim
-        (λ (j : In f got.finds). ⊎_elim (λ (a : In f old.finds). still c.number (h.others f c (inl a) draw drew))
+        (λ (j : In f got.finds). ⊎_elim (λ (a : In f old.finds). still c (h.others f c (inl a) draw drew))
         (λ (b : In f m.draws). crew_has c (only f c b drew)) (in_append f old.finds m.draws (subst (In f) finds_again j)))
         (λ (j : (g : Gathered) × In g got.gathered × In f g.finds).
-        ⊎_elim (λ (a : In j.0 old.gathered). still c.number (h.others f c (inr (j.0, a, j.2)) draw drew))
+        ⊎_elim (λ (a : In j.0 old.gathered). still c (h.others f c (inr (j.0, a, j.2)) draw drew))
         (λ (b : In j.0 (crew_of vs)). let not : true ≡ false = sym draw ∙ undrawn_in vs undrawn j.0 b f j.2 in absurd (cc))
         (in_append j.0 old.gathered (crew_of vs) (subst (In j.0) gathered_again j.1)))
         i;

@@ -3,13 +3,14 @@ use Rattle.std.proofs.Common.{inl, inr, reverse, ◌≡◌, ℕ, ◌+◌, ◌<�
 use Rattle.std.specs.Prelude.{slice_index_or}
 use Rattle.std.specs.List.{AllByRecursion, AllZip}
 use Rattle.std.proofs.lemmas.List.{append-nil, length-reverse}
-use Rattle.std.proofs.lemmas.List.Elements.{length_all_zip}
 use Rattle.fm_base.specs.declared.caller.Caller.{Caller}
 use Rattle.fm_base.specs.declared.refusal.Refusal.{Refusal}
 use Rattle.fm_base.specs.declared.refusal.Refusal.TheVariants.{Memory, NoPass}
 use Rattle.fm_base.specs.Calls.{Entry}
 use Rattle.fm_base.specs.Histories.{made_by}
 use Rattle.fm_base.specs.Finds.{Find, Gathered, is_draw}
+use Rattle.fm_words.specs.declared.shape.Shape.{Shape}
+use Rattle.fm_pool_facts.specs.Hands.{no_number}
 use Rattle.fm_pool_facts.specs.Views.{View, In}
 use Rattle.fm_pool_facts.specs.Splits.{as_gathered}
 use Rattle.fm_pool_facts.proofs.Keeping.{in_append, in_left, in_right}
@@ -18,16 +19,17 @@ use Rattle.fm_pool_steps.proofs.Reading.{eqb_true}
 use Rattle.fm_calls.specs.Kept.{Lasts}
 use Rattle.fm_calls.proofs.Going.{reached_by, lasts_by}
 use Rattle.fm_workers.specs.declared.worker.Worker.{Worker}
-use Rattle.fm_workers.specs.Crew.{DrewEach, IsFresh, IsIn, IsWhole, FoundAllDrawn, CrewGathered, CrewWorked, AreDone, callers}
-use Rattle.fm_workers.specs.Rounds.{Went, AreSteady, CalledUp, IsWorked, GatheredCrew, tasks_of, crew_of, passes_of}
+use Rattle.fm_workers.specs.Crew.{DrewEach, IsFresh, IsIn, IsWhole, FoundNoNumber, CrewGathered, CrewWorked, AreDone, callers}
+use Rattle.fm_workers.specs.Rounds.{Went, CalledUp, IsWorked, GatheredCrew, tasks_of, crew_of, passes_of}
 use Rattle.fm_workers.proofs.Drawing.{made_behind, caller_still, gathered_still}
-use Rattle.fm_workers.proofs.Wholes.{NoDraws, all_drawn_again, crew_apart, crew_once, finds_again, gathered_again, only_crew}
+use Rattle.fm_workers.proofs.Wholes.{NoDraws, all_drawn_again, crew_apart, finds_again, gathered_again, only_crew}
 use Rattle.fm_workers.proofs.Gathering.{Made, gatherer_still, apart_before, apart_since, all_in_still}
-use Rattle.fm_workers.proofs.Rising.{drew_among, drew_each_more, rising}
+use Rattle.fm_workers.proofs.Orders.{drew_among, drew_each_more}
 use Rattle.fm_workers.proofs.Turning.{moved_back}
+use Rattle.fm_workers.proofs.Wanting.{IsAgain, too_many}
 use Rattle.fm_workers.proofs.Workers.{zip_all, fresh_all, idle_all, crew_are, each_caller, each_pass, fresh_after, done_all, undrawn_all, undrawn_after, callers_after}
 
-more_found : {passes : ℕ} {draws : List Find} (fs : List Find) → FoundAllDrawn passes draws → FoundAllDrawn passes (draws ++ fs)
+more_found : {z : Shape} {draws : List Find} (fs : List Find) → FoundNoNumber z draws → FoundNoNumber z (draws ++ fs)
 more_found fs f = record {
   before = f.before;
   these = f.these;
@@ -41,7 +43,7 @@ looked_nobody : {got new : View} {b : Bool} (l : Looked got new b) → (f : Find
 looked_nobody l f (inl e) = ap (λ (x : Find). x.drew) e ∙ l.none
 looked_nobody l f (inr i) = absurd i
 
-module _ {T : Type 0} {old drew got new : View} {vs : List (Worker T)} {b : Bool} (none : old.drawn ≡ None) (m : Went old drew)
+module _ {T : Type 0} {old drew got new : View} {vs : List (Worker T)} {b : Bool} (none : old.number ≡ no_number) (m : Went old drew)
     (g : GatheredCrew drew got vs) (l : Looked got new b) where
   round_seen : new.seen ≡ old.seen ++ (m.more ++ (g.more ++ l.asked.more))
   round_seen =
@@ -65,16 +67,15 @@ module _ {T : Type 0} {old drew got new : View} {vs : List (Worker T)} {b : Bool
 
   round_is : new ≡ record old { seen = new.seen; finds = new.finds; gathered = old.gathered ++ crew_of vs; whole = new.whole }
   round_is =
-      l.asked.is ∙ (ap (λ (v : View). record v { seen = new.seen; finds = new.finds; whole = new.whole; drawn = None }) g.is
-      ∙ (ap (λ (v : View). record v { seen = new.seen; finds = new.finds; whole = new.whole; drawn = None; gathered = drew.gathered ++ crew_of vs }) m.is
-      ∙ (λ i. record old { seen = new.seen; finds = new.finds; whole = new.whole; drawn = sym none i; gathered = gathered_still m i ++ crew_of vs })))
+      l.asked.is ∙ (ap (λ (v : View). record v { seen = new.seen; finds = new.finds; whole = new.whole; number = no_number }) g.is
+      ∙ (ap (λ (v : View). record v { seen = new.seen; finds = new.finds; whole = new.whole; number = no_number; gathered = drew.gathered ++ crew_of vs }) m.is
+      ∙ (λ i. record old { seen = new.seen; finds = new.finds; whole = new.whole; number = sym none i; gathered = gathered_still m i ++ crew_of vs })))
 
   within : AllByRecursion (λ (v : Worker T). IsIn v.memory new) vs
   within = all_in_still got new l.asked.more vs (ap (λ (v : View). v.shape) l.asked.is) l.asked.seen (apart_since g l.asked.more l.asked.apart) g.workers
 
   module _ (fresh : AllByRecursion (λ (v : Worker T). IsFresh old v.memory.caller) vs)
-      (drew_each : DrewEach m.draws (callers (crew_of vs))) (steady : AreSteady (callers (crew_of vs)))
-      (undrawn : AllByRecursion (λ (v : Worker T). NoDraws v.memory) vs) where
+      (drew_each : DrewEach m.draws (callers (crew_of vs))) (undrawn : AllByRecursion (λ (v : Worker T). NoDraws v.memory) vs) where
     -- the look found every number
     found_whole : IsWhole old → b ≡ true
     found_whole w = l.complete (all_drawn_again m g (drew_among m.draws (callers (crew_of vs)) drew_each) undrawn (w.sound.all_drawn w.whole))
@@ -95,10 +96,9 @@ module _ {T : Type 0} {old drew got new : View} {vs : List (Worker T)} {b : Bool
       distinct = crew_apart old new (crew_of vs) gathered_now l.sound;
       fresh = each_caller (IsFresh old) vs fresh;
       draws = m.draws ++ (l.find ∷ []);
-      finds = l.asked.finds ∙ (ap (λ (fs : List Find). fs ++ (l.find ∷ [])) (finds_again m g) ∙ append_assoc old.finds m.draws (l.find ∷ []));
-      only_draws = λ f i. ⊎_elim (m.only_draws f) (l.asked.only_draws f) (in_append f m.draws (l.find ∷ []) i);
+      finds = l.asked.found ∙ (ap (λ (fs : List Find). fs ++ (l.find ∷ [])) (finds_again m g) ∙ append_assoc old.finds m.draws (l.find ∷ []));
+      only_draws = λ f i. ⊎_elim (m.only_draws f) (l.asked.only f) (in_append f m.draws (l.find ∷ []) i);
       drew = drew_each_more m.draws (l.find ∷ []) (callers (crew_of vs)) drew_each (looked_nobody l);
-      rising = rising (crew_of vs) (crew_once old new (crew_of vs) gathered_now l.sound) steady;
       is = round_is;
       whole = λ w. l.whole ∙ found_whole w;
       alone = λ w. only_crew old new (m.more ++ (g.more ++ l.asked.more)) (crew_of vs) round_seen (ap (λ (v : View). v.caller) round_is)
@@ -114,17 +114,27 @@ module _ {T : Type 0} {old drew got new : View} {vs : List (Worker T)} {b : Bool
         let found = eqb_true (length got.gathered + 1) l.find.found all in
         omega (arith, long, found)
 
-    -- and no fewer than the draw before it that found all of them drawn
-    found_later : {passes : ℕ} → FoundAllDrawn passes m.draws → passes ≤ l.find.found
-    found_later f =
-        let here : In f.all.find m.draws = subst (λ (fs : List Find). In f.all.find fs) (sym f.parts)
-        (in_right f.all.find f.before (f.these ++ f.after) (in_left f.all.find f.these f.after f.all.among)) in
-        let there : In f.all.find got.finds =
-        subst (λ (fs : List Find). In f.all.find fs) (sym (finds_again m g)) (in_right f.all.find old.finds m.draws here) in
-        let draw : is_draw f.all.find.step ≡ true = ap is_draw f.all.step in
-        let most = l.asked.later f.all.find l.find (inl there) draw (inl refl) in
-        let is = f.all.found in
-        omega (arith, most, is)
+    -- and no fewer than any draw before it
+    found_most : IsWhole old → (f : Find) → In f m.draws → is_draw f.step ≡ true → f.found ≤ length old.gathered + length (crew_of vs) + 1
+    found_most w f i draw =
+        let there : In f got.finds = subst (In f) (sym (finds_again m g)) (in_right f old.finds m.draws i) in
+        let step : is_draw l.find.step ≡ true = ap is_draw l.step in
+        let most = l.asked.later f l.find (inl there) draw (inl refl) step in
+        let count = found_count w in
+        omega (arith, most, count)
+
+    -- The pass is whole again, and each find of its draws is among its own.
+    again : IsWhole old → IsAgain old new (crew_of vs) m.draws
+    again w = record {
+      sound = l.sound;
+      whole = l.whole ∙ found_whole w;
+      number = ap (λ (v : View). v.number) l.asked.is;
+      shape = ap (λ (v : View). v.shape) round_is;
+      gathered = gathered_now;
+      finds = λ f i. subst (In f) (sym l.asked.found) (in_left f got.finds (l.find ∷ []) (subst (In f) (sym (finds_again m g)) (in_right f old.finds m.draws i)));
+      before = m.gathered;
+      count = found_most w;
+    }
 
 -- What isn't touched lasts.
 pub lasts_none : (p : View) → Lasts p p
@@ -147,7 +157,6 @@ nobody p = record {
   finds = sym (append-nil p.finds);
   only_draws = λ f i. absurd i;
   drew = λ f i. absurd i;
-  rising = tt;
   is = λ i. record p { gathered = sym (append-nil p.gathered) i };
   whole = λ w. w.whole;
   alone = λ w. tt;
@@ -168,7 +177,6 @@ module _ {T : Type 0} where
   crew_none Does p tasks = record {
     crew = nobody p;
     ends = (refl, refl, refl, refl);
-    suffice = tt;
     wanting = λ w e. absurd (cc);
     lasts = lasts_none p;
     sound = λ ne. absurd (ne refl);
@@ -181,7 +189,7 @@ module _ {T : Type 0} where
 
 module _ {T : Type 0} (Does : View → T → T → List Entry → Type 0) {old drew got new : View} {b : Bool} where
   -- All tasks were done.
-  pub crew_worked : {todo tasks left done : List T} {u : Unit {0}} (ws vs : List (Worker T)) → old.drawn ≡ None → CalledUp old drew todo left ws (Ok u)
+  pub crew_worked : {todo tasks left done : List T} {u : Unit {0}} (ws vs : List (Worker T)) → old.number ≡ no_number → CalledUp old drew todo left ws (Ok u)
       → AllZip (IsWorked Does) ws vs → GatheredCrew drew got vs → Looked got new b → todo ≡ reverse tasks → done ≡ tasks_of vs
       → CrewWorked Does old new tasks done (Ok tt)
   unfolding round
@@ -192,20 +200,11 @@ module _ {T : Type 0} (Does : View → T → T → List Entry → Type 0) {old d
       moved_back tasks left ws turned d.parts ∙ (ap (λ (ts : List T). tasks_of ws ++ reverse ts) none_left ∙ append-nil (tasks_of ws)) in
       let made = done_all Does old new (m.more ++ (g.more ++ l.asked.more)) ws vs d.workers z (within none m g l) (round_seen none m g l) in
       let after : callers (crew_of ws) ≡ callers (crew_of vs) = sym (callers_after Does ws vs z) in
-      let gathered : new.gathered ≡ old.gathered ++ crew_of vs = ap (λ (v : View). v.gathered) (round_is none m g l) in
-      let long : length new.gathered ≡ length old.gathered + length (crew_of vs) =
-      ap (λ (gs : List Gathered). length gs) gathered ∙ length-append old.gathered (crew_of vs) in
-      let passes : new.shape.passes ≡ old.shape.passes = ap (λ (v : View). v.shape.passes) (round_is none m g l) in
-      let few = l.sound.few in
-      let count_done : length tasks ≡ length ws = ap (λ (ts : List T). length ts) first ∙ length_tasks ws in
-      let count_vs = length_crew vs in
-      let same = length_all_zip (IsWorked Does) ws vs z in
       record {
         crew = round none m g l (fresh_after Does old ws vs d.workers z) (subst (λ (cs : List Caller). DrewEach m.draws cs) after d.drew)
-            (subst (λ (cs : List Caller). AreSteady cs) after d.steady) (undrawn_after Does old ws vs d.workers z);
+            (undrawn_after Does old ws vs d.workers z);
         ends = subst (λ (x : List T × List T). AreDone Does (m.more ++ (g.more ++ l.asked.more)) (passes_of vs) x.0 x.1)
             (λ i. (sym first i, sym last i)) made;
-        suffice = omega (arith, long, passes, few, count_done, count_vs, same);
         wanting = λ w e. absurd (cc);
         lasts = lasts_by (reached_by (m.more ++ (g.more ++ l.asked.more)) (round_seen none m g l) (ap (λ (v : View). v.shape) (round_is none m g l)) l.sound);
         sound = λ ne. l.sound;
@@ -213,7 +212,7 @@ module _ {T : Type 0} (Does : View → T → T → List Entry → Type 0) {old d
       }
 
   -- A pass was wanting, and no task was begun.
-  pub crew_refused : {todo tasks left done : List T} (ws : List (Worker T)) (r : Refusal) → old.drawn ≡ None → CalledUp old drew todo left ws (Err r)
+  pub crew_refused : {todo tasks left done : List T} (ws : List (Worker T)) (r : Refusal) → old.number ≡ no_number → CalledUp old drew todo left ws (Err r)
       → GatheredCrew drew got ws → Looked got new b → todo ≡ reverse tasks → done ≡ tasks_of ws ++ reverse left → CrewWorked Does old new tasks done (Err r)
   unfolding round
   crew_refused {tasks = tasks} {left = left} {done = done} ws NoPass none d g l turned back =
@@ -227,20 +226,17 @@ module _ {T : Type 0} (Does : View → T → T → List Entry → Type 0) {old d
       let some = d.ends.1 in
       let fresh = fresh_all old ws d.workers in
       let undrawn = undrawn_all old ws d.workers in
+      let less : length (crew_of ws) < length tasks = omega (arith, long, as_many, so_many, over, some) in
       record {
-        crew = round none m g l (fresh_all old ws d.workers) d.drew d.steady (undrawn_all old ws d.workers);
+        crew = round none m g l fresh d.drew undrawn;
         ends = (
           more_found (l.find ∷ []) d.ends.0,
-          omega (arith, long, as_many, so_many, over, some),
+          less,
           each_caller (λ c. made_by c (m.more ++ (g.more ++ l.asked.more)) ≡ []) ws
               (idle_all old new (m.more ++ (g.more ++ l.asked.more)) ws d.workers (within none m g l) (round_seen none m g l)),
           back ∙ sym first,
         );
-        suffice = tt;
-        wanting = λ w e.
-            let count = found_count none m g l fresh d.drew d.steady undrawn w in
-            let all = found_later none m g l fresh d.drew d.steady undrawn d.ends.0 in
-            omega (arith, count, all, long, as_many, so_many, over, some);
+        wanting = λ w e. too_many (again none m g l fresh d.drew undrawn w) (length tasks) less d.ends.0;
         lasts = lasts_by (reached_by (m.more ++ (g.more ++ l.asked.more)) (round_seen none m g l) (ap (λ (v : View). v.shape) (round_is none m g l)) l.sound);
         sound = λ ne. l.sound;
         still_sound = λ h. l.sound;

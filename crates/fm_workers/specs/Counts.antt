@@ -1,5 +1,5 @@
 -- How often each value of a byte comes among numbers.
-use Rattle.std.specs.Prelude.{◌≡◌, ℕ, ◌+◌, ◌-◌, ◌^◌, ◌<◌, nat_lt, if◌then◌else◌, List, [], ◌∷◌, ◌++◌, length, slice_index, ℤ, pos, negsuc, ⊤}
+use Rattle.std.specs.Prelude.{◌≡◌, ℕ, ◌+◌, ◌-◌, ◌^◌, ◌<◌, ◌≤◌, nat_lt, if◌then◌else◌, List, [], ◌∷◌, ◌++◌, length, slice_index, ℤ, pos, negsuc, ⊤}
 use Rattle.std.specs.Ordering.{int_eq}
 use Rattle.fm_lanes.specs.declared.value_kind.ValueKind.{ValueKind}
 use Rattle.fm_lanes.specs.declared.value_kind.ValueKind.TheVariants as kind
@@ -40,6 +40,12 @@ pub record AreSums (xs ys counts : List ℕ) : Type 0 where
   pub all : length counts ≡ 256
   pub each : (k : ℕ) → k < 256 → slice_index counts k ≡ slice_index xs k + slice_index ys k
   pub fits : (k : ℕ) → k < 256 → slice_index counts k < 2 ^ 64
+
+-- a sum of both passes 64 bits
+pub record PassSums (xs ys : List ℕ) : Type 0 where
+  pub place : ℕ
+  pub within : place < 256
+  pub passes : 2 ^ 64 ≤ slice_index xs place + slice_index ys place
 
 -- ---- queries whose numbers can be counted
 

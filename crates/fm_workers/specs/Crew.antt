@@ -1,45 +1,36 @@
 -- What a crew of passes did, each at a task of its own, for the pass that drew them and gathered them again.
 use Rattle.fm_calls.specs.Kept.{Lasts}
-use Rattle.std.specs.Prelude.{OnOk, ◌≡◌, ◌≢◌, ◌<◌, true, ℕ, List, [], ◌∷◌, ◌++◌, length, map, All, Result, Ok, Err, Some, None, ⊤, ◌+◌, ◌≤◌}
+use Rattle.std.specs.Prelude.{◌≡◌, ◌≢◌, ◌⊎◌, ◌+◌, ◌<◌, ◌==◌, true, if◌then◌else◌, ℕ, List, [], ◌∷◌, ◌++◌, length, map, All, Result, Ok, Err, None, ⊤}
 use Rattle.std.specs.List.{AllByRecursion}
+use Rattle.fm_words.specs.declared.shape.Shape.{Shape}
+use Rattle.fm_words.specs.Places.{groups}
 use Rattle.fm_base.specs.declared.caller.Caller.{Caller}
 use Rattle.fm_base.specs.declared.refusal.Refusal.{Refusal}
 use Rattle.fm_base.specs.declared.refusal.Refusal.TheVariants.{Memory, NoPass}
 use Rattle.fm_base.specs.Calls.{Entry}
 use Rattle.fm_lists.specs.Among.{IsAmong, AreApart}
 use Rattle.fm_base.specs.Histories.{made_by}
-use Rattle.fm_base.specs.Finds.{Find, Gathered, is_draw}
+use Rattle.fm_base.specs.Arenas.{only_caller}
+use Rattle.fm_base.specs.Finds.{Find, Gathered, is_draw, is_number}
+use Rattle.fm_pool_facts.specs.Hands.{last_term, most_draws}
 use Rattle.fm_pool_facts.specs.Splits.{as_gathered}
 use Rattle.fm_pool_facts.specs.Views.{View, In, IsSound, HasCaller}
-use Rattle.fm_rule.specs.Draws.{FoundAll}
+use Rattle.fm_rule.specs.Draws.{Drew, FoundNone}
 
 -- the callers, in their order
 abbrev pub callers : List Gathered → List Caller
 callers gs = map (λ g. g.caller) gs
 
--- some of the finds drew the caller, of whose number they found so many, and none of them drew another
-pub record DrewOne (c : Caller) (finds : List Find) : Type 0 where
-  pub find : Find
-  pub among : In find finds
-  pub drew : find.drew ≡ Some c
-  pub found : find.found ≡ c.number
-  pub only : (f : Find) (d : Caller) → In f finds → f.drew ≡ Some d → d ≡ c
-
 -- the finds drew just these, one after the other: each was drawn by a run of its own, and those behind drew nobody
 abbrev pub DrewEach : List Find → List Caller → Type 0
 DrewEach finds [] = (f : Find) → In f finds → f.drew ≡ None
-DrewEach finds (c ∷ cs) = (run : List Find) × (behind : List Find) × (finds ≡ run ++ behind) × DrewOne c run × DrewEach behind cs
+DrewEach finds (c ∷ cs) = (run : List Find) × (behind : List Find) × (finds ≡ run ++ behind) × Drew c run × DrewEach behind cs
 
--- each has a lower number than those behind it
-abbrev pub AreRising : List Caller → Type 0
-AreRising [] = ⊤
-AreRising (c ∷ cs) = AllByRecursion (λ d. c.number < d.number) cs × AreRising cs
-
--- the caller is of none of the numbers that the pass has, nor the first, and had made no entry
+-- the caller isn't the pool's first, nor one that the pass has, and had made no entry
 pub record IsFresh (p : View) (c : Caller) : Type 0 where
   pub number : c.number < p.shape.passes
-  pub later : c.number ≢ 0
-  pub other : ¬ (HasCaller p c.number)
+  pub later : c ≢ only_caller
+  pub other : ¬ (HasCaller p c)
   pub silent : made_by c p.seen ≡ []
 
 -- a pass that is known to be whole
@@ -69,13 +60,12 @@ pub record CrewGathered (old new : View) : Type 0 where
   pub are_passes : crew ≡ map as_gathered passes
   pub distinct : AreApart (callers crew)
   pub fresh : AllByRecursion (IsFresh old) (callers crew)
-  -- the finds of this call, all of them draws
+  -- the finds of this call, all of them draws or looks for a number
   pub draws : List Find
   pub finds : new.finds ≡ old.finds ++ draws
-  pub only_draws : (f : Find) → In f draws → is_draw f.step ≡ true
+  pub only_draws : (f : Find) → In f draws → (is_draw f.step ≡ true) ⊎ (is_number f.step ≡ true)
   -- they drew the crew, and nobody else: who did the first task was drawn first
   pub drew : DrewEach draws (callers crew)
-  pub rising : AreRising (callers crew)
   -- all else that the pass has it had before
   pub is : new ≡ record old { seen = new.seen; finds = new.finds; gathered = old.gathered ++ crew; whole = new.whole }
   -- a pass that was known to be whole is so again, and nobody else made an entry
@@ -96,30 +86,38 @@ by_caller Does p = Does p.caller
 abbrev pub AreIdle : List Entry → List Caller → Type 0
 AreIdle more cs = AllByRecursion (λ c. made_by c more ≡ []) cs
 
--- a draw of this call found that every number was drawn
-pub record FoundAllDrawn (passes : ℕ) (draws : List Find) : Type 0 where
+-- a draw of this call drew nobody: it found the word of each group of numbers 0, or as many draws as can be counted
+pub record FoundNoNumber (z : Shape) (draws : List Find) : Type 0 where
   pub before : List Find
   pub these : List Find
   pub after : List Find
   pub parts : draws ≡ before ++ (these ++ after)
-  pub all : FoundAll passes these
+  pub all : FoundNone (groups z) these
+
+-- how many of them were of their number's last term: these numbers never come back
+abbrev pub how_many_last : List Gathered → ℕ
+how_many_last [] = 0
+how_many_last (g ∷ gs) = (if g.caller.term == last_term then 1 else 0) + how_many_last gs
+
+-- for so many passes more a whole pass has too few numbers, or the draws can't be counted any more
+abbrev pub AreTooMany : View → (more : ℕ) → Type 0
+AreTooMany p more = (p.shape.passes < how_many_last p.gathered + (1 + more)) ⊎ (most_draws < length p.gathered + (1 + more))
 
 -- What comes of it. Memory is wanting before the first draw; a pass is wanting before any task is begun
-abbrev pub EndsCrew : {T : Type 0} → (View → T → T → List Entry → Type 0) → ℕ → (tasks done : List T) → List Entry → List View → List Gathered
+abbrev pub EndsCrew : {T : Type 0} → (View → T → T → List Entry → Type 0) → Shape → (tasks done : List T) → List Entry → List View → List Gathered
     → List Find → Result (Unit {0}) Refusal → Type 0
-EndsCrew Does many tasks done more passes crew draws (Ok u) = AreDone Does more passes tasks done
-EndsCrew Does many tasks done more passes crew draws (Err NoPass) =
-    FoundAllDrawn many draws × (length crew < length tasks) × AreIdle more (callers crew) × (done ≡ tasks)
-EndsCrew Does many tasks done more passes crew draws (Err Memory) = (more ≡ []) × (crew ≡ []) × (draws ≡ []) × (done ≡ tasks)
-EndsCrew Does many tasks done more passes crew draws (Err r) = ⊥
+EndsCrew Does z tasks done more passes crew draws (Ok u) = AreDone Does more passes tasks done
+EndsCrew Does z tasks done more passes crew draws (Err NoPass) =
+    FoundNoNumber z draws × (length crew < length tasks) × AreIdle more (callers crew) × (done ≡ tasks)
+EndsCrew Does z tasks done more passes crew draws (Err Memory) = (more ≡ []) × (crew ≡ []) × (draws ≡ []) × (done ≡ tasks)
+EndsCrew Does z tasks done more passes crew draws (Err r) = ⊥
 
 pub record CrewWorked {T : Type 0} (Does : View → T → T → List Entry → Type 0) (old new : View) (tasks done : List T)
     (result : Result (Unit {0}) Refusal) : Type 0 where
   pub crew : CrewGathered old new
-  pub ends : EndsCrew Does old.shape.passes tasks done crew.more crew.passes crew.crew crew.draws result
-  -- there are enough passes; where the pass was known to be whole, it is refused only where there aren't
-  pub suffice : OnOk result (length old.gathered + (1 + length tasks) ≤ old.shape.passes)
-  pub wanting : IsWhole old → result ≡ Err NoPass → old.shape.passes < length old.gathered + (1 + length tasks)
+  pub ends : EndsCrew Does old.shape tasks done crew.more crew.passes crew.crew crew.draws result
+  -- where the pass was known to be whole, it is refused only where the tasks are too many
+  pub wanting : IsWhole old → result ≡ Err NoPass → AreTooMany old (length tasks)
   pub lasts : Lasts old new
   pub sound : result ≢ Err Memory → IsSound new
   pub still_sound : IsSound old → IsSound new

@@ -71,17 +71,22 @@ bytes_in (t ∷ ts) = t.region.size + bytes_in ts
 abbrev pub AnswersFew : Plan → List Asked → Type 0
 AnswersFew p ts = AllByRecursion (λ t. IfOk t.answer (AreFew t.region.size p)) ts
 
--- what they come to: the answers joined in their order; or one of them is refused so, or memory was wanting
+-- the part was answered
+abbrev pub IsAnswered : Asked → Type 0
+IsAnswered t = (a : List Found) × (t.answer ≡ Ok a)
+
+-- what they come to: the answers joined in their order; or the first part that is refused is refused so; or all are answered, and memory was wanting
 abbrev pub ComesTo : Plan → List Asked → Result (List Found) Refusal → Type 0
 ComesTo p [] (Ok a) = a ≡ answer p []
 ComesTo p [] (Err r) = r ≡ Memory
 ComesTo p (t ∷ ts) (Ok a) = (x : List Found) × (y : List Found) × (t.answer ≡ Ok x) × ComesTo p ts (Ok y) × (a ≡ joined x y)
-ComesTo p (t ∷ ts) (Err r) = (t.answer ≡ Err r) ⊎ ((r ≡ Memory) ⊎ ComesTo p ts (Err r))
+ComesTo p (t ∷ ts) (Err r) = (t.answer ≡ Err r) ⊎ (IsAnswered t × ComesTo p ts (Err r))
 
 -- one part's answer can be joined with what those behind it come to
 abbrev pub CanJoinPart : Asked → Result (List Found) Refusal → Type 0
 CanJoinPart t behind = (x y : List Found) → t.answer ≡ Ok x → behind ≡ Ok y → CanJoin x y
 
+-- both are joined; or the part is refused so; or it is answered, and those behind it are refused so, or memory was wanting to join both
 abbrev pub JoinsPart : Asked → Result (List Found) Refusal → Result (List Found) Refusal → Type 0
 JoinsPart t behind (Ok a) = (x : List Found) × (y : List Found) × (t.answer ≡ Ok x) × (behind ≡ Ok y) × (a ≡ joined x y)
-JoinsPart t behind (Err r) = (t.answer ≡ Err r) ⊎ ((r ≡ Memory) ⊎ (behind ≡ Err r))
+JoinsPart t behind (Err r) = (t.answer ≡ Err r) ⊎ (IsAnswered t × ((behind ≡ Err r) ⊎ ((r ≡ Memory) × ((y : List Found) × (behind ≡ Ok y)))))

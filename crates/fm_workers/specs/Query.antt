@@ -1,7 +1,7 @@
 -- What a query by a crew asks for, and what its caller learns.
 use Rattle.fm_records.specs.Texts.{IsAnswerOf}
 use Rattle.fm_calls.specs.Kept.{Lasts}
-use Rattle.std.specs.Prelude.{◌≡◌, ◌≢◌, ◌⊎◌, ◌+◌, ◌<◌, ◌≤◌, ◌%◌, ℕ, List, length, Result, Ok, Err, IfOk, ⊤}
+use Rattle.std.specs.Prelude.{◌≡◌, ◌≢◌, ◌⊎◌, ◌+◌, ◌-◌, ◌*◌, ◌/◌, ◌<◌, ◌≤◌, ◌%◌, ℕ, List, ◌∷◌, ◌++◌, length, Result, Ok, Err, IfOk}
 use Rattle.std.specs.List.{AllByRecursion}
 use Rattle.fm_base.specs.declared.caller.Caller.{Caller}
 use Rattle.fm_base.specs.declared.kind.Kind.TheVariants.{Confined}
@@ -18,7 +18,7 @@ use Rattle.fm_calls.specs.Told.{view_of_pass}
 use Rattle.fm_rule.specs.declared.pool.Pool.{Pool}
 use Rattle.fm_gate.specs.Standing.{IsOutside}
 use Rattle.fm_segment.specs.Access.{IsKnown}
-use Rattle.fm_segment.specs.Region.{Region}
+use Rattle.fm_segment.specs.Region.{Region, part_of}
 use Rattle.fm_query.specs.Plan.{Plan}
 use Rattle.fm_records.specs.declared.found.Found.{Found}
 use Rattle.fm_records.specs.Alone.{bytes_at_places}
@@ -26,9 +26,10 @@ use Rattle.fm_records.specs.Answers.{answer}
 use Rattle.fm_records.specs.Bytes.{HasRead}
 use Rattle.fm_records.specs.Few.{AreFew}
 use Rattle.fm_records.specs.Laws.{IsAsked, value_in}
+use Rattle.fm_records.specs.Query.{DoesQuery}
 use Rattle.fm_records.specs.Reads.{AreReads, StopsReading, IsWordOf}
 use Rattle.fm_records.specs.Shares.{Share, AreDone, AreCut, all_joined}
-use Rattle.fm_workers.specs.Crew.{CrewGathered, FoundAllDrawn, IsWhole, callers}
+use Rattle.fm_workers.specs.Crew.{AreTooMany, CrewGathered, FoundNoNumber, IsWhole, callers}
 use Rattle.fm_workers.specs.Parts.{IsLevel, least_in}
 
 -- outside; the segment is known and its first record aligned; and there are 1 to 16 workers
@@ -54,11 +55,35 @@ pub record AnsweredBy (p : Plan) (s : Region) (few : ℕ) (crew : List Caller) (
   pub done : AreDone p more shares
   pub joined : a ≡ all_joined p shares
 
--- a caller of the crew found the arena closed
-pub record FoundClosed (s : Region) (crew : List Caller) (more : List Entry) : Type 0 where
+-- among these entries the caller's are a query over some of the segment's records, which comes to this
+pub record AsksRun (p : Plan) (s : Region) (es : List Entry) (result : Result (List Found) Refusal) (c : Caller) : Type 0 where
+  pub from : ℕ
+  pub to : ℕ
+  pub order : from ≤ to
+  pub within : to ≤ s.size / p.size
+  pub does : DoesQuery c p (part_of (from * p.size) ((to - from) * p.size) s) result (made_by c es)
+
+-- it is answered
+abbrev pub HasAnswered : Plan → Region → List Entry → Caller → Type 0
+HasAnswered p s es c = (a : List Found) × AsksRun p s es (Ok a) c
+
+-- the first of the crew that wasn't answered: those who were drawn before it were, each over a run before its own
+pub record IsFirstRefused (p : Plan) (s : Region) (crew : List Caller) (more : List Entry) (r : Refusal) (c : Caller) : Type 0 where
+  pub before : List Caller
+  pub after : List Caller
+  pub parts : crew ≡ before ++ c ∷ after
+  pub answered : AllByRecursion (HasAnswered p s more) before
+  pub refused : AsksRun p s more (Err r) c
+
+-- the first that wasn't answered found the arena closed
+pub record FoundClosed (p : Plan) (s : Region) (crew : List Caller) (more : List Entry) : Type 0 where
   pub caller : Caller
-  pub among : IsAmong caller crew
+  pub first : IsFirstRefused p s crew more Closed caller
   pub stops : StopsReading caller s (made_by caller more)
+
+-- the first that wasn't answered wanted memory; or all were, if any was drawn, and memory was wanting before that or to join the answers
+abbrev pub WantedMemory : Plan → Region → List Caller → List Entry → Type 0
+WantedMemory p s crew more = ((c : Caller) × IsFirstRefused p s crew more Memory c) ⊎ AllByRecursion (HasAnswered p s more) crew
 
 -- whole records of an arena that isn't confined
 pub record IsOpenToAll (p : Plan) (s : Region) : Type 0 where
@@ -70,9 +95,9 @@ abbrev pub EndsQuery : (few : ℕ) → View → View → Plan → Region → Lis
 EndsQuery few old new p s more crew draws (Ok a) = IsOpenToAll p s × AnsweredBy p s few (callers crew) more a
 EndsQuery few old new p s more crew draws (Err (Ragged rest)) = (rest ≡ s.size % p.size) × (0 < rest) × (new ≡ old)
 EndsQuery few old new p s more crew draws (Err WrongThread) = (s.size % p.size ≡ 0) × (s.arena.kind ≡ Confined) × (new ≡ old)
-EndsQuery few old new p s more crew draws (Err Closed) = IsOpenToAll p s × FoundClosed s (callers crew) more
-EndsQuery few old new p s more crew draws (Err NoPass) = IsOpenToAll p s × FoundAllDrawn old.shape.passes draws
-EndsQuery few old new p s more crew draws (Err Memory) = IsOpenToAll p s
+EndsQuery few old new p s more crew draws (Err Closed) = IsOpenToAll p s × FoundClosed p s (callers crew) more
+EndsQuery few old new p s more crew draws (Err NoPass) = IsOpenToAll p s × FoundNoNumber old.shape draws
+EndsQuery few old new p s more crew draws (Err Memory) = IsOpenToAll p s × WantedMemory p s (callers crew) more
 EndsQuery few old new p s more crew draws (Err r) = ⊥
 
 -- ---- what the answer is
@@ -95,25 +120,19 @@ pub record IsAnswer (old : View) (p : Plan) (s : Region) (crew : List Caller) (m
   pub read : (index : ℕ) (r : Resolution) (is : List ℕ) (word : ℕ) → IsAsked p (bytes_at_places (state_in old) s) index r is
       → IsWordOf (value_in p s index r is) word → IsReadByCrew s crew more word
 
--- the parts were asked
-abbrev pub ArePartsAsked : Result (List Found) Refusal → Type 0
-ArePartsAsked (Ok a) = ⊤
-ArePartsAsked (Err Closed) = ⊤
-ArePartsAsked (Err r) = ⊥
-
 pub record QueriedWith (threads : ℕ) (old new : View) (p : Plan) (s : Region) (result : Result (List Found) Refusal) : Type 0 where
   pub crew : CrewGathered old new
-  -- at most one pass a worker
+  -- at most one pass a worker, and where a draw found no number it is one of as many
   pub one_each : length crew.crew ≤ threads
+  pub one_less : result ≡ Err NoPass → length crew.crew < threads
   pub visits : AllByRecursion (λ c. OnlyReads s c (made_by c crew.more)) (callers crew.crew)
   pub ends : EndsQuery (least_in p s threads) old new p s crew.more crew.crew crew.draws result
   pub value : IfOk result (λ a. NobodyElseWrites s (callers crew.crew) crew.more → IsAnswer old p s (callers crew.crew) crew.more a)
   -- it can be printed, and joined with another such answer
   pub answer : IfOk result (IsAnswerOf p)
   pub few : IfOk result (AreFew s.size p)
-  -- parts are asked only where there are enough passes; where the pass was known to be whole, a pass is wanting only where there aren't
-  pub suffice : ArePartsAsked result → length old.gathered + (1 + threads) ≤ old.shape.passes
-  pub wanting : IsWhole old → result ≡ Err NoPass → old.shape.passes < length old.gathered + (1 + threads)
+  -- where the pass was known to be whole, a pass is wanting only where the workers are too many
+  pub wanting : IsWhole old → result ≡ Err NoPass → AreTooMany old threads
   pub lasts : Lasts old new
   pub known : IsKnown (view_of_pass new) s
   pub sound : IfOk result (λ _. IsSound new)

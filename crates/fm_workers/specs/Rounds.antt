@@ -1,12 +1,13 @@
 -- How a crew is drawn, works, and is gathered.
-use Rattle.std.specs.Prelude.{◌≡◌, ◌<◌, ◌≤◌, true, ℕ, List, [], ◌∷◌, ◌++◌, length, map, reverse, All, None, Result, Ok, Err, ⊤}
+use Rattle.std.specs.Prelude.{◌≡◌, ◌⊎◌, ◌<◌, true, List, [], ◌∷◌, ◌++◌, length, map, reverse, All, None, Result, Ok, Err}
 use Rattle.std.specs.List.{AllByRecursion}
+use Rattle.fm_words.specs.declared.shape.Shape.{Shape}
 use Rattle.fm_base.specs.declared.caller.Caller.{Caller}
 use Rattle.fm_base.specs.declared.refusal.Refusal.{Refusal}
 use Rattle.fm_base.specs.declared.refusal.Refusal.TheVariants.{NoPass}
 use Rattle.fm_base.specs.Calls.{Entry}
 use Rattle.fm_base.specs.Histories.{made_by}
-use Rattle.fm_base.specs.Finds.{Find, Gathered, is_draw}
+use Rattle.fm_base.specs.Finds.{Find, Gathered, is_draw, is_number}
 use Rattle.fm_base.specs.View.{Did}
 use Rattle.fm_pool_facts.specs.Views.{View, In, IsSound}
 use Rattle.fm_pool_facts.specs.Splits.{view_of, as_gathered}
@@ -14,9 +15,9 @@ use Rattle.fm_calls.specs.Told.{view_of_pass}
 use Rattle.fm_rule.specs.declared.pool.Pool.{Pool}
 use Rattle.fm_rule.specs.Passes.{IsOf}
 use Rattle.fm_workers.specs.declared.worker.Worker.{Worker}
-use Rattle.fm_workers.specs.Crew.{DrewEach, IsFresh, IsIn, FoundAllDrawn, callers}
+use Rattle.fm_workers.specs.Crew.{DrewEach, IsFresh, IsIn, FoundNoNumber, callers}
 
--- the pass looked at the count of drawn numbers, and made no entry
+-- the pass looked for numbers and at the count of draws, and made no entry
 pub record Went (old now : View) : Type 0 where
   pub more : List Entry
   pub seen : now.seen ≡ old.seen ++ more
@@ -24,7 +25,8 @@ pub record Went (old now : View) : Type 0 where
   pub apart : All (λ g. made_by g.caller more ≡ []) old.gathered
   pub draws : List Find
   pub finds : now.finds ≡ old.finds ++ draws
-  pub only_draws : (f : Find) → In f draws → is_draw f.step ≡ true
+  pub only_draws : (f : Find) → In f draws → (is_draw f.step ≡ true) ⊎ (is_number f.step ≡ true)
+  pub gathered : (f : Find) → In f draws → f.gathered ≡ length old.gathered
   pub is : now ≡ record old { seen = now.seen; finds = now.finds; whole = now.whole }
 
 -- a pass that was drawn since the old view, and has nothing
@@ -35,11 +37,6 @@ pub record IsDrawn (old d : View) : Type 0 where
   pub silent : made_by d.caller begun ≡ []
   pub is : d ≡ record (view_of old.shape true d.seen) { home = old.home; caller = d.caller }
   pub sound : IsSound d
-
--- none has a higher number than those behind it
-abbrev pub AreSteady : List Caller → Type 0
-AreSteady [] = ⊤
-AreSteady (c ∷ cs) = AllByRecursion (λ d. c.number ≤ d.number) cs × AreSteady cs
 
 -- outside, with nothing: it can be gathered once its memory is taken apart
 pub record IsSpare (pool : Pool) (d : View) : Type 0 where
@@ -76,28 +73,26 @@ module _ {T : Type 0} where
   pub record DrewCrew (old now : View) (ws : List (Worker T)) : Type 0 where
     pub went : Went old now
     pub drew : DrewEach went.draws (order_of ws)
-    pub steady : AreSteady (order_of ws)
     pub workers : AllByRecursion (λ w. IsDrawn old w.memory) ws
 
-  abbrev pub EndsDraws : ℕ → List T → List Find → Result (Unit {0}) Refusal → Type 0
-  EndsDraws passes left draws (Ok u) = left ≡ []
-  EndsDraws passes left draws (Err NoPass) = FoundAllDrawn passes draws × (0 < length left)
-  EndsDraws passes left draws (Err r) = ⊥
+  abbrev pub EndsDraws : Shape → List T → List Find → Result (Unit {0}) Refusal → Type 0
+  EndsDraws z left draws (Ok u) = left ≡ []
+  EndsDraws z left draws (Err NoPass) = FoundNoNumber z draws × (0 < length left)
+  EndsDraws z left draws (Err r) = ⊥
 
   -- of `draw_crew`, which takes the last task first
   pub record AfterDraws (old now : View) (tasks left : List T) (ws : List (Worker T)) (result : Result (Unit {0}) Refusal) : Type 0 where
     pub drew : DrewCrew old now ws
     pub parts : tasks ≡ left ++ tasks_of ws
-    pub ends : EndsDraws old.shape.passes left drew.went.draws result
+    pub ends : EndsDraws old.shape left drew.went.draws result
 
   -- of `call_up`, where who was drawn first is the last worker
   pub record CalledUp (old now : View) (tasks left : List T) (ws : List (Worker T)) (result : Result (Unit {0}) Refusal) : Type 0 where
     pub went : Went old now
     pub drew : DrewEach went.draws (callers (crew_of ws))
-    pub steady : AreSteady (callers (crew_of ws))
     pub workers : AllByRecursion (λ w. IsDrawn old w.memory) ws
     pub parts : tasks ≡ left ++ reverse (tasks_of ws)
-    pub ends : EndsDraws old.shape.passes left went.draws result
+    pub ends : EndsDraws old.shape left went.draws result
 
   -- a worker before and after its work
   pub record IsWorked (Does : View → T → T → List Entry → Type 0) (old new : Worker T) : Type 0 where

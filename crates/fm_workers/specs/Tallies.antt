@@ -19,7 +19,7 @@ use Rattle.fm_records.specs.Reads.{AreReads, StopsReading}
 use Rattle.fm_workers.specs.declared.part.Part.{Part}
 use Rattle.fm_workers.specs.Parts.{CanAsk}
 use Rattle.fm_workers.specs.Adding.{CanAdd, DoesAdd, HasCounts}
-use Rattle.fm_workers.specs.Counts.{AreCounts, AreSums, IsTally, listed}
+use Rattle.fm_workers.specs.Counts.{AreCounts, AreSums, IsTally, PassSums, listed}
 
 -- the query lists bytes, and can be asked of whole records that the caller may use
 pub record CanCount (v : memory.View) (p : Plan) (region : Region) : Type 0 where
@@ -95,10 +95,22 @@ pub record AddsPart (t : Tallied) (behind : Result (List ℕ) Refusal) (ns : Lis
   pub is_rest : behind ≡ Ok rest
   pub sums : AreSums first rest ns
 
--- the counts of a part and of those behind it; or the part is refused so, or those behind it are, or a sum can't be kept
+-- a sum of a part's counts and of those behind it passes 64 bits
+pub record PassesPart (t : Tallied) (behind : Result (List ℕ) Refusal) : Type 0 where
+  pub first : List ℕ
+  pub rest : List ℕ
+  pub is_first : t.answer ≡ Ok first
+  pub is_rest : behind ≡ Ok rest
+  pub passes : PassSums first rest
+
+-- the part was counted
+abbrev pub IsCountedPart : Tallied → Type 0
+IsCountedPart t = (ns : List ℕ) × (t.answer ≡ Ok ns)
+
+-- the counts of a part and of those behind it; or the part is refused so; or it was counted, and those behind it are; or a sum can't be kept
 abbrev pub SumsPart : Tallied → Result (List ℕ) Refusal → Result (List ℕ) Refusal → Type 0
 SumsPart t behind (Ok ns) = AddsPart t behind ns
-SumsPart t behind (Err r) = (t.answer ≡ Err r) ⊎ ((r ≡ Memory) ⊎ (behind ≡ Err r))
+SumsPart t behind (Err r) = (t.answer ≡ Err r) ⊎ ((IsCountedPart t × (behind ≡ Err r)) ⊎ ((r ≡ Memory) × PassesPart t behind))
 
 -- the same, where B says what those behind it come to
 pub record SumsBefore (t : Tallied) (B : Result (List ℕ) Refusal → Type 0) (result : Result (List ℕ) Refusal) : Type 0 where

@@ -1,5 +1,5 @@
 -- What a tally by a crew asks for, and what its caller learns.
-use Rattle.std.specs.Prelude.{◌≡◌, ◌≢◌, ◌⊎◌, ℕ, ◌+◌, ◌<◌, ◌≤◌, ◌%◌, List, [], ◌∷◌, ◌++◌, length, slice_index, ℤ, false, Result, Ok, Err, IfOk, ⊤}
+use Rattle.std.specs.Prelude.{◌≡◌, ◌≢◌, ◌⊎◌, ℕ, ◌-◌, ◌*◌, ◌/◌, ◌<◌, ◌≤◌, ◌%◌, List, [], ◌∷◌, ◌++◌, length, slice_index, ℤ, false, Result, Ok, Err, IfOk}
 use Rattle.std.specs.List.{AllByRecursion}
 use Rattle.fm_base.specs.declared.arena_id.ArenaId.{ArenaId}
 use Rattle.fm_base.specs.declared.caller.Caller.{Caller}
@@ -19,7 +19,7 @@ use Rattle.fm_calls.specs.Told.{view_of_pass}
 use Rattle.fm_rule.specs.declared.pool.Pool.{Pool}
 use Rattle.fm_path.specs.Resolution.{Resolution}
 use Rattle.fm_segment.specs.Access.{IsKnown}
-use Rattle.fm_segment.specs.Region.{Region}
+use Rattle.fm_segment.specs.Region.{Region, part_of}
 use Rattle.fm_query.specs.Plan.{Plan}
 use Rattle.fm_records.specs.Alone.{bytes_at_places}
 use Rattle.fm_records.specs.Answers.{answer}
@@ -29,8 +29,9 @@ use Rattle.fm_records.specs.Reads.{IsWordOf}
 use Rattle.fm_records.specs.Shares.{AreCut, Share}
 use Rattle.fm_workers.specs.Adding.{AddsBelow, HasCounts, count_word}
 use Rattle.fm_workers.specs.Counts.{AreCounts, IsTally, listed}
-use Rattle.fm_workers.specs.Crew.{CrewGathered, FoundAllDrawn, IsWhole, callers}
+use Rattle.fm_workers.specs.Crew.{AreTooMany, CrewGathered, FoundNoNumber, IsWhole, callers}
 use Rattle.fm_workers.specs.Parts.{IsLevel, least_in}
+use Rattle.fm_workers.specs.Tallies.{DoesTallyPart}
 use Rattle.fm_workers.specs.Query.{CanQueryWith, IsReadByCrew, NobodyElseWrites, OnlyReads}
 
 -- as for a query; the counts are 256 longs that the pass knows, to be written, in another arena
@@ -93,14 +94,38 @@ pub record TalliedBy (p : Plan) (s counts : Region) (few : ℕ) (crew : List Cal
   pub done : AllByRecursion (IsCounted p counts more) shares
   pub are : AreCounts (all_listed shares) ns
 
--- a caller of the crew found an arena closed, at its last entry
-pub record FoundEitherClosed (s counts : Region) (crew : List Caller) (more : List Entry) : Type 0 where
+-- among these entries the caller's count the numbers of some of the segment's records and add them to the counts, which comes to this
+pub record CountsRun (p : Plan) (s counts : Region) (es : List Entry) (result : Result (List ℕ) Refusal) (c : Caller) : Type 0 where
+  pub from : ℕ
+  pub to : ℕ
+  pub order : from ≤ to
+  pub within : to ≤ s.size / p.size
+  pub does : DoesTallyPart c p (part_of (from * p.size) ((to - from) * p.size) s) counts result (made_by c es)
+
+-- it counted all of them
+abbrev pub HasCounted : Plan → Region → Region → List Entry → Caller → Type 0
+HasCounted p s counts es c = (ns : List ℕ) × CountsRun p s counts es (Ok ns) c
+
+-- the first of the crew that didn't count all of its run: those who were drawn before it did, each over a run before its own
+pub record IsFirstUncounted (p : Plan) (s counts : Region) (crew : List Caller) (more : List Entry) (r : Refusal) (c : Caller) : Type 0 where
+  pub before : List Caller
+  pub after : List Caller
+  pub parts : crew ≡ before ++ c ∷ after
+  pub counted : AllByRecursion (HasCounted p s counts more) before
+  pub refused : CountsRun p s counts more (Err r) c
+
+-- the first that didn't found an arena closed, at its last entry
+pub record FoundEitherClosed (p : Plan) (s counts : Region) (crew : List Caller) (more : List Entry) : Type 0 where
   pub caller : Caller
-  pub among : IsAmong caller crew
+  pub first : IsFirstUncounted p s counts crew more Closed caller
   pub arena : ArenaId
   pub either : (arena ≡ s.arena) ⊎ (arena ≡ counts.arena)
   pub before : List Entry
   pub last : made_by caller more ≡ before ++ refused_visit caller arena
+
+-- the first that didn't wanted memory; or nobody was drawn
+abbrev pub WantedMemory : Plan → Region → Region → List Caller → List Entry → Type 0
+WantedMemory p s counts crew more = ((c : Caller) × IsFirstUncounted p s counts crew more Memory c) ⊎ (crew ≡ [])
 
 -- what comes of it, the refusals in the order of the checks
 abbrev pub EndsTally : (few : ℕ) → View → View → Plan → Region → Region → List Entry → List Gathered → List Find → Result (List ℕ) Refusal → Type 0
@@ -109,16 +134,10 @@ EndsTally few old new p s counts more crew draws (Err Unsupported) = ¬ (IsTally
 EndsTally few old new p s counts more crew draws (Err (Ragged rest)) = IsTally p × (rest ≡ s.size % p.size) × (0 < rest) × (new ≡ old)
 EndsTally few old new p s counts more crew draws (Err WrongThread) =
     IsTally p × (s.size % p.size ≡ 0) × ((s.arena.kind ≡ Confined) ⊎ (counts.arena.kind ≡ Confined)) × (new ≡ old)
-EndsTally few old new p s counts more crew draws (Err Closed) = CanBeTallied p s counts × FoundEitherClosed s counts (callers crew) more
-EndsTally few old new p s counts more crew draws (Err NoPass) = CanBeTallied p s counts × FoundAllDrawn old.shape.passes draws
-EndsTally few old new p s counts more crew draws (Err Memory) = CanBeTallied p s counts
+EndsTally few old new p s counts more crew draws (Err Closed) = CanBeTallied p s counts × FoundEitherClosed p s counts (callers crew) more
+EndsTally few old new p s counts more crew draws (Err NoPass) = CanBeTallied p s counts × FoundNoNumber old.shape draws
+EndsTally few old new p s counts more crew draws (Err Memory) = CanBeTallied p s counts × WantedMemory p s counts (callers crew) more
 EndsTally few old new p s counts more crew draws (Err r) = ⊥
-
--- the parts were asked
-abbrev pub AreAsked : Result (List ℕ) Refusal → Type 0
-AreAsked (Ok ns) = ⊤
-AreAsked (Err Closed) = ⊤
-AreAsked (Err r) = ⊥
 
 -- ---- the numbers
 
@@ -149,16 +168,16 @@ AreAllRead old p s crew more =
 
 pub record TalliedWith (threads : ℕ) (old new : View) (p : Plan) (s counts : Region) (result : Result (List ℕ) Refusal) : Type 0 where
   pub crew : CrewGathered old new
-  -- at most one pass a worker
+  -- at most one pass a worker, and where a draw found no number it is one of as many
   pub one_each : length crew.crew ≤ threads
+  pub one_less : result ≡ Err NoPass → length crew.crew < threads
   pub visits : AllByRecursion (λ c. OnlyTallies s counts c (made_by c crew.more)) (callers crew.crew)
   pub ends : EndsTally (least_in p s threads) old new p s counts crew.more crew.crew crew.draws result
   pub value : IfOk result (AreTheCounts old p s (callers crew.crew) crew.more)
   pub read : IfOk result (λ _. AreAllRead old p s (callers crew.crew) crew.more)
   pub held : IfOk result (AreHeld old new counts (callers crew.crew) crew.more)
-  -- parts are asked only where there are enough passes; where the pass was known to be whole, a pass is wanting only where there aren't
-  pub suffice : AreAsked result → length old.gathered + (1 + threads) ≤ old.shape.passes
-  pub wanting : IsWhole old → result ≡ Err NoPass → old.shape.passes < length old.gathered + (1 + threads)
+  -- where the pass was known to be whole, a pass is wanting only where the workers are too many
+  pub wanting : IsWhole old → result ≡ Err NoPass → AreTooMany old threads
   pub lasts : Lasts old new
   pub known : IsKnown (view_of_pass new) s
   pub counts_known : IsKnown (view_of_pass new) counts

@@ -1,5 +1,5 @@
-ghost use Rattle.std.specs.Prelude.{◌≡◌, ◌≢◌, ◌<◌, ◌-◌, ◌^◌, ◌∷◌, ℕ, [], slice_index, sum, None, IfSome, IfOk, IfErr};
-ghost use Rattle.fm_workers.specs.Counts.{AreCounts, AreSums, CountsToo, number_of};
+ghost use Rattle.std.specs.Prelude.{◌≡◌, ◌≢◌, ◌<◌, ◌≤◌, ◌-◌, ◌^◌, ◌∷◌, ℕ, [], slice_index, sum, None, IfSome, IfOk, IfErr};
+ghost use Rattle.fm_workers.specs.Counts.{AreCounts, AreSums, CountsToo, PassSums, number_of};
 
 use fm_base::Refusal;
 use std::marker::Model;
@@ -39,10 +39,10 @@ impl Counts {
         self.items[place] += 1;
     }
 
-    /// How many there are together. Refused: `Memory`, where they pass 64 bits.
+    /// How many there are together. Refused: `Memory`, exactly where they pass 64 bits.
     pub(crate) fn total(&self) -> Result<u64, Refusal>
         ensures total { IfOk result (λ total. total ≡ sum self.now) }
-        ensures memory { IfErr result (λ refusal. refusal ≡ Refusal.Memory) }
+        ensures memory { IfErr result (λ refusal. (refusal ≡ Refusal.Memory) × (2 ^ 64 ≤ sum self.now)) }
     {
         let mut total = 0u64;
         for k in 0..256 {
@@ -54,10 +54,10 @@ impl Counts {
         Ok(total)
     }
 
-    /// Both added. Refused: `Memory`, where a sum passes 64 bits.
+    /// Both added. Refused: `Memory`, exactly where a sum passes 64 bits.
     pub(crate) fn sum(&self, more: &Counts) -> Result<Counts, Refusal>
         ensures sums { IfOk result (λ counts. AreSums self.now more.now counts) }
-        ensures memory { IfErr result (λ refusal. refusal ≡ Refusal.Memory) }
+        ensures memory { IfErr result (λ refusal. (refusal ≡ Refusal.Memory) × PassSums self.now more.now) }
     {
         let mut items = [0u64; 256];
         for k in 0..256 {

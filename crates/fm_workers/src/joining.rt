@@ -10,7 +10,7 @@ use std::alloc::Global;
 
 /// The answer over all parts, from the answers over each.
 ///
-/// Refused: as the first part is that was refused, or `Memory`.
+/// Refused: as the first part is that was refused; where none was, `Memory`.
 pub(crate) fn join_parts(
     alloc: Global,
     q: &Query,

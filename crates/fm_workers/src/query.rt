@@ -41,8 +41,9 @@ impl Work<Part<Answer>> for Query {
 /// one call of the gate.
 ///
 /// Refused, in this order: `Ragged` with the number of bytes behind the last whole record; `WrongThread`, exactly where
-/// the arena is confined; `Memory`, or `NoPass` where a draw finds that all numbers are drawn; then `Closed` or
-/// `Memory` as the first run's pass is refused. Then numbers that were drawn stay drawn.
+/// the arena is confined; `Memory`, or `NoPass` where a draw finds no free number, or no draw can be counted any more;
+/// then `Closed` or `Memory`, as the pass of the first run was that was refused; where none was, `Memory` when the
+/// answers are joined. Numbers that were drawn are free again, but those of their last term.
 pub fn query_with<R: Threads + Wait + Sync, G: Gate>(
     rt: &R,
     alloc: Global,

@@ -6,7 +6,7 @@ use fm_base::Refusal;
 
 /// The counts of all parts together.
 ///
-/// Refused: as the first part is that was refused, or `Memory` where a sum passes 64 bits.
+/// Refused: as the first part is that was refused; `Memory`, where the sums of those behind it pass 64 bits.
 pub(crate) fn total_of(parts: &[Part<Counts>]) -> Result<Counts, Refusal>
     ensures { SumsTo parts.now result }
 {

@@ -63,8 +63,9 @@ impl<'a> Work<Part<Counts>> for Tally<'a> {
 ///
 /// Refused, in this order: `Unsupported`, where the query doesn't list just one path of bytes or booleans; `Ragged`
 /// with the number of bytes behind the last whole record; `WrongThread`, exactly where one of the arenas is confined;
-/// `Memory`, or `NoPass` where a draw finds that all numbers are drawn; then `Closed` or `Memory` as the first run's
-/// pass is refused. What `counts` then holds is open.
+/// `Memory`, or `NoPass` where a draw finds no free number, or no draw can be counted any more; then `Closed` or
+/// `Memory`, as the pass of the first run was that was refused. What `counts` then holds is open. Numbers that were
+/// drawn are free again, but those of their last term.
 pub fn tally_with<R: Threads + Wait + Sync, G: Gate>(
     rt: &R,
     alloc: Global,

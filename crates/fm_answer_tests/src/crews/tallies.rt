@@ -97,7 +97,13 @@ pub(crate) fn tallied<R: Abort + AllocGlobal + Threads + Wait + Sync, G: Gate>(
 }
 
 /// What the shared count of this place holds.
-fn held<R: Abort>(rt: &R, pool: &Pool, pass: &mut Pass, counts: &Segment, place: u64) -> u64
+pub(crate) fn held<R: Abort>(
+    rt: &R,
+    pool: &Pool,
+    pass: &mut Pass,
+    counts: &Segment,
+    place: u64,
+) -> u64
     requires outside { IsOutside pool.now pass.old }
     requires known { IsKnown (view_of_pass pass.old) counts.now }
     requires first { counts.now.first ≡ 0 }

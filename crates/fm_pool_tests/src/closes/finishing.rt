@@ -1,3 +1,7 @@
+ghost use Rattle.std.specs.Prelude.{◌≡◌, true, IfSome};
+ghost use Rattle.fm_base.specs.Arenas.{has_arena};
+ghost use Rattle.fm_pool_facts.specs.Views.{IsKnown};
+ghost use Rattle.fm_rule.specs.GivenBytes.{state_of};
 ghost use Rattle.fm_gate.specs.Standing.{IsOutside};
 ghost use Rattle.fm_arena.specs.Shares.{CanShare};
 
@@ -14,6 +18,7 @@ use std::sync::Wait;
 /// Finishes the pool by a pass that has every number; none where it hasn't.
 fn finished<R: Abort + AllocGlobal>(rt: &R, pool: Pool, pass: Pass) -> Option<Finished>
     requires { IsOutside pool pass }
+    ensures { IfSome result (λ f. (a : _) → IsKnown pass a → has_arena (state_of f) a ≡ true) }
 {
     a_crew_stands();
     let mut pass = pass;
@@ -28,7 +33,9 @@ fn first_byte<R: Abort + AllocGlobal>(
     rt: &R,
     finished: &Finished,
     a: ArenaId,
-) -> Option<(usize, u8)> {
+) -> Option<(usize, u8)>
+    requires { has_arena (state_of finished.now) a ≡ true }
+{
     let bytes = finished.bytes_of(rt.alloc(), a).expect(rt, "bytes")?;
     let first = bytes.first()?;
     Some((bytes.len(), *first))
@@ -37,7 +44,9 @@ fn first_byte<R: Abort + AllocGlobal>(
 /// Opens two arenas of eight bytes, and closes the second.
 fn one_open_one_closed<R: Abort + Wait>(rt: &R, pool: &Pool, pass: &mut Pass) -> (ArenaId, ArenaId)
     requires { CanShare pool.now pass.old }
-    ensures { IsOutside pool.now pass.new }
+    ensures outside { IsOutside pool.now pass.new }
+    ensures kept { IsKnown pass.new result.0 }
+    ensures closed { IsKnown pass.new result.1 }
 {
     let kept = given(rt, pool, pass, Kind::Shared, 8);
     assert_eq!(rt; put(pool, pass, kept, 9), Ok(0));

@@ -40,7 +40,7 @@ fn the_only_pass_draws_none(rt: HostRuntime) {
 }
 
 #[test]
-fn a_gathered_number_is_not_drawn_again(rt: HostRuntime) {
+fn passes_that_others_drew_are_gathered_with_them(rt: HostRuntime) {
     let (pool, mut pass) = made_for(&rt, 3);
     let mut one = drawn(&rt, &pool, &mut pass);
     let two = drawn(&rt, &pool, &mut one);
@@ -49,7 +49,6 @@ fn a_gathered_number_is_not_drawn_again(rt: HostRuntime) {
     assert_eq!(rt; is_whole(&pool, &mut pass), false);
     takes_in(&pool, &mut pass, one);
     assert_eq!(rt; is_whole(&pool, &mut pass), true);
-    assert_eq!(rt; draws_none(&rt, &pool, &mut pass), Some(Refusal::NoPass));
 }
 
 /// The pass learns what the other has seen.

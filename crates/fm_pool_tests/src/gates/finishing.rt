@@ -1,11 +1,13 @@
 ghost use Rattle.std.specs.Prelude.{◌≡◌, ◌≤◌, true};
-ghost use Rattle.fm_pool_facts.specs.Views.{given_of};
+ghost use Rattle.fm_base.specs.Arenas.{has_arena};
+ghost use Rattle.fm_pool_facts.specs.Views.{IsKnown, given_of};
+ghost use Rattle.fm_rule.specs.GivenBytes.{state_of};
 ghost use Rattle.fm_gate.specs.Standing.{IsInside, IsOutside};
 ghost use Rattle.fm_arena.specs.Shares.{CanShare};
 
 use fm_base::{ArenaId, Kind};
 use fm_gate::{allocate, enter, leave, open_arena, store};
-use fm_rule::{Pass, Pool};
+use fm_rule::{Finished, Pass, Pool};
 use fm_words::Shape;
 use std::alloc::AllocGlobal;
 use std::process::Abort;
@@ -16,8 +18,10 @@ fn store_nine(pool: &Pool, pass: &mut Pass, a: ArenaId)
     requires inside { IsInside pool.now pass.old a }
     requires given { 8 ≤ given_of pass.old a }
     requires whole { pass.old.whole ≡ true }
+    requires known { IsKnown pass.old a }
     ensures inside { IsInside pool.now pass.new a }
     ensures whole { pass.new.whole ≡ true }
+    ensures known { IsKnown pass.new a }
 {
     store(pool, pass, 0, 9);
 }
@@ -28,6 +32,7 @@ fn nine<R: Abort + Wait>(rt: &R, pool: &Pool, pass: &mut Pass) -> ArenaId
     requires whole { pass.old.whole ≡ true }
     ensures outside { IsOutside pool.now pass.new }
     ensures whole { pass.new.whole ≡ true }
+    ensures known { IsKnown pass.new result }
 {
     let a = open_arena(rt, pool, pass, Kind::Shared).expect(rt, "a slot");
     assert_eq!(rt; allocate(rt, pool, pass, a, 8, 8), Ok(0));
@@ -35,6 +40,16 @@ fn nine<R: Abort + Wait>(rt: &R, pool: &Pool, pass: &mut Pass) -> ArenaId
     store_nine(pool, pass, a);
     leave(pool, pass);
     a
+}
+
+/// Finishes the pool by a pass that is known to be whole; it knows the arena then.
+fn finished<R: Abort + AllocGlobal>(rt: &R, pool: Pool, pass: Pass, a: ArenaId) -> Finished
+    requires outside { IsOutside pool pass }
+    requires whole { pass.whole ≡ true }
+    requires known { IsKnown pass a }
+    ensures { has_arena (state_of result) a ≡ true }
+{
+    pool.finish(rt.alloc(), pass).expect(rt, "words")
 }
 
 #[test]
@@ -49,14 +64,11 @@ fn a_finished_pool_tells_the_bytes_of_its_arenas(rt: HostRuntime) {
     };
     let (pool, mut pass) = Pool::make(rt.alloc(), shape).expect(&rt, "words");
     let a = nine(&rt, &pool, &mut pass);
-    let finished = pool.finish(rt.alloc(), pass).expect(&rt, "words");
+    let finished = finished(&rt, pool, pass, a);
     let bytes = finished
         .bytes_of(rt.alloc(), a)
         .expect(&rt, "bytes")
         .expect(&rt, "alive");
     assert_eq!(rt; bytes.len(), 8);
     assert_eq!(rt; (bytes[0], bytes[7]), (9, 0));
-    let never = ArenaId { generation: 1, ..a };
-    let none = finished.bytes_of(rt.alloc(), never).expect(&rt, "bytes");
-    assert!(rt; none.is_none());
 }

@@ -1,4 +1,3 @@
-use Rattle.std.proofs.Common.{arith}
 use Rattle.std.specs.Prelude.{◌≡◌, Result, Ok, Err, IfOk, IfErr}
 use Rattle.fm_base.specs.declared.arena_id.ArenaId.{ArenaId}
 use Rattle.fm_base.specs.declared.refusal.Refusal.{Refusal}
@@ -7,16 +6,10 @@ use Rattle.fm_pool_facts.specs.Views.{View}
 use Rattle.fm_rule.specs.declared.pool.Pool.{Pool}
 use Rattle.fm_rule.specs.Passes.{IsOf}
 use Rattle.fm_rule.specs.Draws.{Drawn, NoneDrawn}
-use Rattle.fm_calls.specs.Kept.{Lasts}
 use Rattle.fm_gate.specs.Crews.{CrewStands, StandsOn}
 use Rattle.fm_bench.specs.Ready.{CanWork, IsOpen}
+use Rattle.fm_bench.proofs.Working.{still_open}
 use Rattle.fm_bench.proofs.crews.hire.Goals as goal
-
-still_open : (p q : View) (a : ArenaId) → Lasts p q → IsOpen p 8 a → IsOpen q 8 a
-still_open p q a l open_now =
-    let more = l.given a in
-    let given = open_now.given in
-    record { known = l.known a open_now.known; given = omega arith }
 
 -- The giver stands on, whatever the answer.
 giver : CrewStands → (pool : Pool) (p q : View) → IsOf pool p → (r : Result View Refusal) → IfOk r (λ d. Drawn p q d)
@@ -35,6 +28,10 @@ pub returns-clause-open : goal.returns-clause-open
 returns-clause-open g c =
     let stands = giver c.a_crew_stands.ensures c.args.pool.now _ _ c.requires.outside.of c.draw.result c.draw.ensures.drawn c.draw.ensures.no_pass in
     still_open _ _ c.args.a stands.lasts c.requires.«open»
+
+pub returns-clause-nothing : goal.returns-clause-nothing
+returns-clause-nothing g c =
+    (giver c.a_crew_stands.ensures c.args.pool.now _ _ c.requires.outside.of c.draw.result c.draw.ensures.drawn c.draw.ensures.no_pass).nothing
 
 pub returns-clause-hired : goal.returns-clause-hired
 returns-clause-hired g c =

@@ -1,28 +1,30 @@
-use Rattle.std.proofs.Common.{◌<◌, ◌∙◌, subst}
-use Rattle.fm_words.specs.declared.shape.Shape.{Shape}
-use Rattle.fm_pages.proofs.Bids.{bids_begin, bids_go_on, bid_claimed, bid_none}
+use Rattle.fm_pages.proofs.Bids.{bids_begin, bids_go_on, bid_claimed}
+use Rattle.fm_pages.proofs.Looking.{bid_none}
 use Rattle.fm_pages.proofs.claiming.claim.Goals as goal
 
 pub loop-init : goal.loop-init
 loop-init g c = bids_begin c.requires.of c.requires.none
 
-pub step_take_page-found-requires-clause-of : goal.step_take_page-found-requires-clause-of
-step_take_page-found-requires-clause-of g c = c.loop.invariant.of
+pub try_page-requires-clause-of : goal.try_page-requires-clause-of
+try_page-requires-clause-of g c = c.loop.invariant.of
 
-pub step_take_page-found-requires-clause-none : goal.step_take_page-found-requires-clause-none
-step_take_page-found-requires-clause-none g c = c.loop.invariant.none
+pub try_page-requires-clause-none : goal.try_page-requires-clause-none
+try_page-requires-clause-none g c = c.loop.invariant.none
 
-pub returns-then-found-eq0 : goal.returns-then-found-eq0
-returns-then-found-eq0 g c =
-    bid_none c.of-bid.result.word c.of-bid.result.bit _ c.loop.invariant c.step_take_page-found.ensures
-    c.if-found-eq0.true c.of-bid.ensures.has
+pub finds_none-requires-clause-of : goal.finds_none-requires-clause-of
+finds_none-requires-clause-of g c = c.loop.invariant.of
 
-pub returns-then-found-bid : goal.returns-then-found-bid
-returns-then-found-bid g c =
-    bid_claimed c.of-bid.result.word c.of-bid.result.bit _ c.loop.invariant c.step_take_page-found.ensures
-    (subst (λ (z : Shape). c.of-bid.result.bit < z.pages) c.shape-pages.ensures.shape c.of-bid.ensures.low) c.if-found-bid.true
-    (c.of-bid.ensures.has (λ e. c.if-found-eq0.false (c.if-found-bid.true ∙ e)))
+pub finds_none-requires-clause-none : goal.finds_none-requires-clause-none
+finds_none-requires-clause-none g c = c.loop.invariant.none
+
+pub returns-then-try_page : goal.returns-then-try_page
+returns-then-try_page g c = bid_claimed c.loop.invariant _ c.if-try_page.ensures
+
+pub loop-preserved-else-try_page : goal.loop-preserved-else-try_page
+loop-preserved-else-try_page g c = bids_go_on c.loop.invariant c.if-try_page.ensures
+
+pub returns-then-finds_none : goal.returns-then-finds_none
+returns-then-finds_none g c = bid_none c.loop.invariant c.if-finds_none.ensures
 
 pub loop-preserved : goal.loop-preserved
-loop-preserved g c =
-    bids_go_on c.of-bid.result.word c.of-bid.result.bit _ c.loop.invariant c.step_take_page-found.ensures c.if-found-bid.false
+loop-preserved g c = bids_go_on c.loop.invariant c.if-finds_none.ensures

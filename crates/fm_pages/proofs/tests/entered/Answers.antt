@@ -26,5 +26,5 @@ step_mark-requires-clause-known g c = opened_known c.step_open-opened.result c.s
 pub step_check-requires-clause-known : goal.step_check-requires-clause-known
 step_check-requires-clause-known g c =
     known_on (goes_of c.step_mark.ensures
-    (record { shape = refl; home = refl; caller = refl; gathered = refl; whole = refl; drawn = refl; inside = refl }) refl no_draws)
+    (record { shape = refl; home = refl; caller = refl; gathered = refl; whole = refl; number = refl; inside = refl }) refl no_draws)
     c.step_open-opened.result (opened_known c.step_open-opened.result c.step_open-opened.ensures.stepped)

@@ -8,7 +8,7 @@ use Rattle.fm_run.specs.declared.lent.Lent.{Lent}
 use Rattle.fm_run.specs.declared.reply.Reply.{Reply}
 use Rattle.fm_run.specs.Ordering.{lines_at}
 use Rattle.fm_play.specs.declared.player.Player.{Player}
-use Rattle.fm_play.proofs.Ended.{all_replies, arenas_lent, replies_many, run_told}
+use Rattle.fm_play.proofs.Ended.{all_opened, all_replies, arenas_lent, replies_many, run_told}
 use Rattle.fm_play.proofs.joining.report_run.Goals as goal
 
 pub report_lines-requires : goal.report_lines-requires
@@ -25,6 +25,14 @@ report_lines-requires c =
     ap (λ (rs : List Reply). length rs) parts
     ∙ (replies_many c.args.script.now order c.args.names.now c.args.caller players main c.args.finished h
     ∙ length-map c.args.order.now (λ (l : Bor Line). l.now))
+
+pub of-requires : goal.of-requires
+of-requires c =
+    let main = c.args.main in
+    let arenas : c.as_slice-4.result.now ≡ arenas_lent main.lent.items =
+    c.as_slice-4.ensures.value ∙ (c.in_ok-opened.ensures.opened ∙ ap (λ (ls : List Lent). arenas_lent ls) c.as_slice.ensures.value) in
+    all_opened c.args.script.now (lines_at c.args.order.now) c.args.names.now c.args.caller c.args.players.now main c.args.finished c.requires
+    c.as_slice-4.result.now arenas
 
 pub returns-clause-report : goal.returns-clause-report
 returns-clause-report c =

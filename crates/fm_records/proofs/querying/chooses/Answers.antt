@@ -1,5 +1,6 @@
 -- The conditions are tested one by one.
 use Rattle.std.proofs.Common.{false, Ok, Err, refl, ap, sym, subst}
+use Rattle.fm_base.specs.declared.refusal.Refusal.TheVariants.{Closed}
 use Rattle.fm_lists.proofs.Each.{all_at}
 use Rattle.fm_records.specs.Adds.{IsTestable}
 use Rattle.fm_records.proofs.Testing.{none_tested, test_holds, test_ends, all_tested}
@@ -20,17 +21,17 @@ holds_at-requires-clause-testable g c =
 pub loop-condition-preserved : goal.loop-condition-preserved
 loop-condition-preserved g c =
     test_holds c.args.conditions.now c.loop-condition.condition-index c.condition-item.result c.loop-condition.invariant c.loop-condition-test.true
-    c.condition-item.is (Ok c.in-Ok-true.field-0) c.in-Ok-true.ensures (ap Ok c.in-Ok-true.field-0-test)
+    c.condition-item.is (Ok c.in-Some-true.field-0) c.in-Some-true.ensures (ap Ok c.in-Some-true.field-0-test)
 
-pub returns-in-Ok-false : goal.returns-in-Ok-false
-returns-in-Ok-false g c =
+pub returns-in-Some-false : goal.returns-in-Some-false
+returns-in-Some-false g c =
     test_ends c.args.conditions.now c.loop-condition.condition-index c.condition-item.result c.loop-condition.invariant c.loop-condition-test.true
-    c.condition-item.is (Ok c.in-Ok-false.field-0) c.in-Ok-false.ensures (Ok false) (ap Ok c.in-Ok-false.field-0-test) (λ e. cc)
+    c.condition-item.is (Ok c.in-Some-false.field-0) c.in-Some-false.ensures (Ok false) (ap Ok c.in-Some-false.field-0-test) (λ e. cc)
 
-pub returns-in-Err : goal.returns-in-Err
-returns-in-Err g c =
+pub returns-in-None : goal.returns-in-None
+returns-in-None g c =
     test_ends c.args.conditions.now c.loop-condition.condition-index c.condition-item.result c.loop-condition.invariant c.loop-condition-test.true
-    c.condition-item.is (Err c.in-Err.refusal) c.in-Err.ensures (Err c.in-Err.refusal) refl (λ e. cc)
+    c.condition-item.is (Err Closed) c.in-None.ensures (Err Closed) refl (λ e. cc)
 
 pub returns : goal.returns
 returns g c = all_tested c.args.conditions.now c.loop-condition.condition-index c.loop-condition.invariant c.loop-condition-test.false

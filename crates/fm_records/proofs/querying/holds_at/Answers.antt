@@ -2,6 +2,7 @@
 use Rattle.std.proofs.Common.{◌≡◌, refl, ap, ◌∙◌, arith, w64, rules}
 use Rattle.std.proofs.lemmas.Int.{to_z-of_z}
 use mir.Val.{to_z, of_z}
+use Rattle.fm_base.specs.declared.refusal.Refusal.TheVariants.{Closed}
 use Rattle.fm_records.specs.Answers.{compares}
 use Rattle.fm_records.proofs.Testing.{test_closed, test_done, testable_lies}
 use Rattle.fm_records.proofs.querying.holds_at.Goals as goal
@@ -15,15 +16,15 @@ overflow_add-at g c =
 pub number_at-requires-clause-lies : goal.number_at-requires-clause-lies
 number_at-requires-clause-lies g c = testable_lies c.value.result.now c.requires.testable c.value.ensures c.offset.ensures
 
-pub returns-in-Ok : goal.returns-in-Ok
-returns-in-Ok g c =
+pub returns-in-Some : goal.returns-in-Some
+returns-in-Some g c =
     let x = c.args.condition.now in
-    let n : to_z w64 (of_z w64 c.in-Ok.number) ≡ c.in-Ok.number = to_z-of_z w64 c.in-Ok.number (search rules) in
+    let n : to_z w64 (of_z w64 c.in-Some.number) ≡ c.in-Some.number = to_z-of_z w64 c.in-Some.number (search rules) in
     let l : to_z w64 (of_z w64 c.args.condition.now.literal) ≡ c.args.condition.now.literal = to_z-of_z w64 c.args.condition.now.literal (search rules) in
-    test_done c.args.s.now c.args.place x c.args.kept.now c.number_at.new.kept c.value.result.now c.offset.result c.value.ensures c.offset.ensures c.in-Ok.number c.compares.result
-    (c.compares.ensures ∙ ap (λ z. compares x.operator z (to_z w64 (of_z w64 x.literal))) n ∙ ap (compares x.operator c.in-Ok.number) l) c.in-Ok.ensures
+    test_done c.args.s.now c.args.place x c.args.kept.now c.number_at.new.kept c.value.result.now c.offset.result c.value.ensures c.offset.ensures c.in-Some.number c.compares.result
+    (c.compares.ensures ∙ ap (λ z. compares x.operator z (to_z w64 (of_z w64 x.literal))) n ∙ ap (compares x.operator c.in-Some.number) l) c.in-Some.ensures
 
-pub returns-in-Err : goal.returns-in-Err
-returns-in-Err g c =
-    test_closed c.args.s.now c.args.place c.args.condition.now c.args.kept.now c.number_at.new.kept c.value.result.now c.offset.result c.value.ensures c.offset.ensures c.in-Err.refusal
-    c.in-Err.ensures
+pub returns-in-None : goal.returns-in-None
+returns-in-None g c =
+    test_closed c.args.s.now c.args.place c.args.condition.now c.args.kept.now c.number_at.new.kept c.value.result.now c.offset.result c.value.ensures c.offset.ensures Closed
+    c.in-None.ensures

@@ -1,6 +1,7 @@
 -- One value's number is read, and then added.
 use Rattle.std.proofs.Common.{◌+◌, w64, rules, arith}
 use Rattle.std.proofs.lemmas.Int.{to_z-of_z}
+use Rattle.fm_base.specs.declared.refusal.Refusal.TheVariants.{Closed}
 use Rattle.fm_records.specs.Rows.{words_of}
 use Rattle.fm_records.specs.Words.{kept_last}
 use Rattle.fm_records.proofs.Adding.{value_added, value_stops}
@@ -13,13 +14,13 @@ overflow_add-place g c = let within = (closed_lies c.requires.can).within in let
 pub number_as-requires-clause-lies : goal.number_as-requires-clause-lies
 number_as-requires-clause-lies g c = closed_lies c.requires.can
 
-pub returns-in-Ok : goal.returns-in-Ok
-returns-in-Ok g c =
+pub returns-in-Some : goal.returns-in-Some
+returns-in-Some g c =
     value_added c.args.s.now c.args.value.now (c.args.place + c.args.at) kept_last (words_of c.args.last.now) (words_of c.number_as.new.kept)
-    c.in-Ok.number _ c.args.found.now c.add_number.new.self c.add_number.result
-    (to_z-of_z w64 c.in-Ok.number (search rules)) c.add_number.ensures.ok c.add_number.ensures.same c.add_number.ensures.memory c.in-Ok.ensures
+    c.in-Some.number _ c.args.found.now c.add_number.new.self c.add_number.result
+    (to_z-of_z w64 c.in-Some.number (search rules)) c.add_number.ensures.ok c.add_number.ensures.same c.add_number.ensures.memory c.in-Some.ensures
 
-pub returns-in-Err : goal.returns-in-Err
-returns-in-Err g c =
+pub returns-in-None : goal.returns-in-None
+returns-in-None g c =
     value_stops c.args.s.now c.args.value.now (c.args.place + c.args.at) kept_last (words_of c.args.last.now) (words_of c.number_as.new.kept)
-    c.args.found.now c.in-Err.refusal c.in-Err.ensures
+    c.args.found.now Closed c.in-None.ensures

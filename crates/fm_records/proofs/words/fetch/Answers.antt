@@ -1,5 +1,6 @@
 -- A word is known, or it is read.
 use Rattle.std.proofs.Common.{Err, Ok, refl, subst, sym}
+use Rattle.fm_base.specs.declared.refusal.Refusal.TheVariants.{Closed}
 use Rattle.fm_records.specs.Reads.{Fetches, Sees}
 use Rattle.fm_records.proofs.Seeing.{reaches_word, sees_none, word_closed, word_read}
 use Rattle.fm_records.proofs.words.fetch.Goals as goal
@@ -12,8 +13,8 @@ returns-in-Some g c =
 pub returns-in-Err : goal.returns-in-Err
 returns-in-Err g c =
     let v = g.M.Memory.view in
-    subst (λ o. Sees (v c.args.m.now) (v c.enter.new.self) c.args.s.now (Fetches o c.args.word) (Err c.in-Err.refusal)) (sym c.in_default.is)
-    (word_closed c.args.s.now c.args.word c.arena.result c.in-Err.refusal c.arena.ensures c.requires.can c.in-Err.ensures.did)
+    subst (λ o. Sees (v c.args.m.now) (v c.enter.new.self) c.args.s.now (Fetches o c.args.word) (Err Closed)) (sym c.in_default.is)
+    (word_closed c.args.s.now c.args.word c.arena.result c.in-Err.field-0 c.arena.ensures c.requires.can c.in-Err.ensures.did)
 
 pub load-found-requires : goal.load-found-requires
 load-found-requires g c = reaches_word c.in-Ok.field-0 c.arena.ensures c.requires.can c.requires.word c.in-Ok.ensures.did

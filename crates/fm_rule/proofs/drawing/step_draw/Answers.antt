@@ -1,20 +1,19 @@
-use Rattle.std.proofs.Common.{ap, ◌∙◌}
-use Rattle.fm_pool_facts.specs.Views.{View}
+use Rattle.std.proofs.Common.{ap}
 use Rattle.fm_rule.specs.Views.{numbers_of}
-use Rattle.fm_rule.proofs.Knowing.{draw_below, shape_is}
+use Rattle.fm_rule.proofs.Knowing.{in_pool, draw_below, can_draw_in}
 use Rattle.fm_rule.proofs.Making.{may_draw}
 use Rattle.fm_rule.proofs.Stepping.{draw_stepped, count_learnt}
 use Rattle.fm_rule.proofs.Keeping.{draw_keeps}
 use Rattle.fm_rule.proofs.drawing.step_draw.Goals as goal
 
-pub exchange_as-requires-clause-place : goal.exchange_as-requires-clause-place
-exchange_as-requires-clause-place c = draw_below _ _ c.draw_place-place.ensures
-
-pub exchange_as-requires-clause-may : goal.exchange_as-requires-clause-may
-exchange_as-requires-clause-may c =
-    may_draw _ _ c.pass.inside.seat.me.0 c.pass.invariant.live _ c.args.expected _ c.pass.invariant.met
-    (ap (λ (x : View). x.drawn) c.pass.view_is ∙ c.requires.none) (shape_is _ c.pass.inside.seat.me.0 _ _ c.pass.view_is c.requires.of.1)
-    c.draw_place-place.ensures c.draw_next-next.ensures
+pub exchange_as-requires-clause-can : goal.exchange_as-requires-clause-can
+exchange_as-requires-clause-can c = record {
+  table = in_pool _ c.pass.inside.seat.me.0 _ c.args.pool.now c.pass.view_is c.requires.of;
+  place = draw_below _ _ c.draw_place-place.ensures;
+  may = may_draw _ _ c.pass.inside.seat.me.0 c.pass.invariant.live _ c.args.expected _ c.pass.invariant.met
+      (can_draw_in _ c.pass.inside.seat.me.0 _ c.args.expected c.pass.view_is c.requires.can)
+      c.draw_place-place.ensures c.draw_next-next.ensures;
+}
 
 pub invariant_of-pass : goal.invariant_of-pass
 invariant_of-pass c = draw_keeps _ _ _ _ _ _ _ _ c.pass.invariant c.exchange_as.ensures.slots c.args.expected _ c.exchange_as.ensures.tells

@@ -2,7 +2,7 @@ use Rattle.std.proofs.Common.{ap, ◌∙◌, arith}
 use Rattle.fm_words.specs.declared.shape.Shape.{Shape}
 use Rattle.fm_pool_facts.specs.Views.{View}
 use Rattle.fm_rule.specs.Views.{numbers_of}
-use Rattle.fm_rule.proofs.Knowing.{map_below, shape_is, inside_slot, valid}
+use Rattle.fm_rule.proofs.Knowing.{in_pool, map_below, shape_is, inside_slot, valid}
 use Rattle.fm_rule.proofs.Making.{may_read_map}
 use Rattle.fm_rule.proofs.Stepping.{read_map_stepped, map_learnt}
 use Rattle.fm_rule.proofs.Keeping.{read_map_keeps}
@@ -15,16 +15,15 @@ map_place-place-requires-clause-place c =
 pub map_place-place-requires-clause-valid : goal.map_place-place-requires-clause-valid
 map_place-place-requires-clause-valid c = valid _ c.pass.inside.seat.me.0 _ _ c.pass.view_is c.requires.of.1 c.pass.invariant.sound
 
-pub load_as-word-requires-clause-place : goal.load_as-word-requires-clause-place
-load_as-word-requires-clause-place c =
-    map_below _ _ _ _ (inside_slot _ c.pass.inside.seat.me.0 _ _ c.pass.view_is c.requires.of.1 c.pass.invariant.sound c.args.a c.requires.inside)
-    c.requires.low c.map_place-place.ensures
-
-pub load_as-word-requires-clause-may : goal.load_as-word-requires-clause-may
-load_as-word-requires-clause-may c =
-    may_read_map _ _ c.pass.inside.seat.me.0 c.pass.invariant.live _ c.args.a c.args.index
-    (shape_is _ c.pass.inside.seat.me.0 _ _ c.pass.view_is c.requires.of.1)
-    (ap (λ (x : View). x.inside) c.pass.view_is ∙ c.requires.inside) c.requires.low c.map_place-place.ensures
+pub load_as-word-requires-clause-can : goal.load_as-word-requires-clause-can
+load_as-word-requires-clause-can c = record {
+  table = in_pool _ c.pass.inside.seat.me.0 _ c.args.pool.now c.pass.view_is c.requires.of;
+  place = map_below _ _ _ _ (inside_slot _ c.pass.inside.seat.me.0 _ _ c.pass.view_is c.requires.of.1 c.pass.invariant.sound c.args.a c.requires.inside)
+      c.requires.low c.map_place-place.ensures;
+  may = may_read_map _ _ c.pass.inside.seat.me.0 c.pass.invariant.live _ c.args.a c.args.index
+      (shape_is _ c.pass.inside.seat.me.0 _ _ c.pass.view_is c.requires.of.1)
+      (ap (λ (x : View). x.inside) c.pass.view_is ∙ c.requires.inside) c.requires.low c.map_place-place.ensures;
+}
 
 pub part_of-pass-inside-requires : goal.part_of-pass-inside-requires
 part_of-pass-inside-requires c =

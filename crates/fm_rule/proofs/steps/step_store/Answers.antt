@@ -1,6 +1,6 @@
 use Rattle.std.proofs.Common.{ap}
 use Rattle.fm_rule.specs.Views.{numbers_of}
-use Rattle.fm_rule.proofs.Knowing.{WordPlace, reaches, word_place}
+use Rattle.fm_rule.proofs.Knowing.{in_pool, WordPlace, reaches, word_place}
 use Rattle.fm_rule.proofs.Making.{may_store}
 use Rattle.fm_rule.proofs.Stepping.{store_stepped}
 use Rattle.fm_rule.proofs.Keeping.{store_keeps}
@@ -10,14 +10,14 @@ use Rattle.fm_rule.proofs.steps.step_store.Goals.{After-pass}
 here : (c : After-pass) → WordPlace c.args.pool.now.shape c.pass.inside.seat.me.0 c.args.word c.args.place
 here c = word_place _ c.pass.inside.seat.me.0 _ _ c.pass.view_is c.requires.of.1 c.pass.invariant.sound c.args.word _ c.requires.place
 
-pub store_as-requires-clause-place : goal.store_as-requires-clause-place
-store_as-requires-clause-place c = (here (goal.at.store_as-requires-clause-place c).After-pass).low
-
-pub store_as-requires-clause-may : goal.store_as-requires-clause-may
-store_as-requires-clause-may c =
-    let p = here (goal.at.store_as-requires-clause-may c).After-pass in
-    may_store _ _ c.pass.inside.seat.me.0 c.pass.invariant.live _ c.args.word
-    (reaches _ c.pass.inside.seat.me.0 _ _ c.pass.view_is c.requires.of.1 c.args.word c.requires.act) p c.args.v c.ranges.v.fits
+pub store_as-requires-clause-can : goal.store_as-requires-clause-can
+store_as-requires-clause-can c = record {
+  table = in_pool _ c.pass.inside.seat.me.0 _ c.args.pool.now c.pass.view_is c.requires.of;
+  place = (here (goal.at.store_as-requires-clause-can c).After-pass).low;
+  may = (let p = here (goal.at.store_as-requires-clause-can c).After-pass in
+      may_store _ _ c.pass.inside.seat.me.0 c.pass.invariant.live _ c.args.word
+      (reaches _ c.pass.inside.seat.me.0 _ _ c.pass.view_is c.requires.of.1 c.args.word c.requires.act) p c.args.v c.ranges.v.fits);
+}
 
 pub invariant_of-pass : goal.invariant_of-pass
 invariant_of-pass c = store_keeps _ _ _ _ _ _ _ _ c.pass.invariant c.store_as.ensures.slots c.args.word c.args.v _ c.store_as.ensures.tells

@@ -4,20 +4,20 @@ use Rattle.fm_pool_facts.specs.Views.{View}
 use Rattle.fm_pool_facts.specs.Closes.{visited_of}
 use Rattle.fm_pool_facts.specs.Words.{own_word}
 use Rattle.fm_rule.specs.Views.{numbers_of}
-use Rattle.fm_rule.proofs.Knowing.{mark_below, shape_is}
+use Rattle.fm_rule.proofs.Knowing.{in_pool, mark_below, shape_is}
 use Rattle.fm_rule.proofs.Making.{may_visit}
 use Rattle.fm_rule.proofs.Stepping.{visit_stepped}
 use Rattle.fm_rule.proofs.Keeping.{visit_keeps}
 use Rattle.fm_rule.proofs.steps.step_visit.Goals as goal
 
-pub load_as-requires-clause-place : goal.load_as-requires-clause-place
-load_as-requires-clause-place c = mark_below _ _ _ (subst (λ (x : Shape). c.args.k < x.passes) c.requires.of.1 c.requires.low) c.mark_place-place.ensures
-
-pub load_as-requires-clause-may : goal.load_as-requires-clause-may
-load_as-requires-clause-may c =
-    may_visit _ _ c.pass.inside.seat.me.0 c.pass.invariant.live _ c.args.a c.args.k (shape_is _ c.pass.inside.seat.me.0 _ _ c.pass.view_is c.requires.of.1)
-    (ap (λ (x : View). visited_of x.closes c.args.a) c.pass.view_is
-    ∙ c.requires.close) (subst (λ (x : Shape). c.args.k < x.passes) c.requires.of.1 c.requires.low) c.mark_place-place.ensures
+pub load_as-requires-clause-can : goal.load_as-requires-clause-can
+load_as-requires-clause-can c = record {
+  table = in_pool _ c.pass.inside.seat.me.0 _ c.args.pool.now c.pass.view_is c.requires.of;
+  place = mark_below _ _ _ (subst (λ (x : Shape). c.args.k < x.passes) c.requires.of.1 c.requires.low) c.mark_place-place.ensures;
+  may = may_visit _ _ c.pass.inside.seat.me.0 c.pass.invariant.live _ c.args.a c.args.k (shape_is _ c.pass.inside.seat.me.0 _ _ c.pass.view_is c.requires.of.1)
+      (ap (λ (x : View). visited_of x.closes c.args.a) c.pass.view_is
+      ∙ c.requires.close) (subst (λ (x : Shape). c.args.k < x.passes) c.requires.of.1 c.requires.low) c.mark_place-place.ensures;
+}
 
 pub invariant_of-pass : goal.invariant_of-pass
 invariant_of-pass c = visit_keeps _ _ _ _ _ _ _ _ c.pass.invariant c.load_as.ensures.slots c.args.a c.args.k _ c.load_as.ensures.tells

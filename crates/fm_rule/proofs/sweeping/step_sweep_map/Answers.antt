@@ -2,7 +2,7 @@ use Rattle.std.proofs.Common.{ap, ◌∙◌}
 use Rattle.fm_pool_facts.specs.Views.{View}
 use Rattle.fm_pool_facts.specs.Closes.{visited_of}
 use Rattle.fm_rule.specs.Views.{numbers_of}
-use Rattle.fm_rule.proofs.Knowing.{map_below, shape_is, swept_fits, valid}
+use Rattle.fm_rule.proofs.Knowing.{in_pool, map_below, shape_is, swept_fits, valid}
 use Rattle.fm_rule.proofs.Making.{may_sweep_map}
 use Rattle.fm_rule.proofs.Stepping.{sweep_map_stepped, sweep_map_low}
 use Rattle.fm_rule.proofs.Keeping.{sweep_map_keeps}
@@ -15,17 +15,16 @@ pub map_place-place-requires-clause-place : goal.map_place-place-requires-clause
 map_place-place-requires-clause-place c =
     ((swept_fits _ c.pass.inside.seat.me.0 _ _ c.pass.view_is c.requires.of.1 c.pass.invariant.sound c.args.a _ c.requires.sweep).slot, c.requires.low)
 
-pub load_as-requires-clause-place : goal.load_as-requires-clause-place
-load_as-requires-clause-place c =
-    map_below _ _ _ _ (swept_fits _ c.pass.inside.seat.me.0 _ _ c.pass.view_is c.requires.of.1 c.pass.invariant.sound c.args.a _
-    c.requires.sweep).slot c.requires.low c.map_place-place.ensures
-
-pub load_as-requires-clause-may : goal.load_as-requires-clause-may
-load_as-requires-clause-may c =
-    may_sweep_map _ _ c.pass.inside.seat.me.0 c.pass.invariant.live _ c.args.a c.args.index
-    (shape_is _ c.pass.inside.seat.me.0 _ _ c.pass.view_is c.requires.of.1)
-    (ap (λ (x : View). visited_of x.sweeps c.args.a) c.pass.view_is ∙ c.requires.sweep) c.requires.low
-    (ap (λ (x : View). x.swept) c.pass.view_is ∙ c.requires.idle) c.map_place-place.ensures
+pub load_as-requires-clause-can : goal.load_as-requires-clause-can
+load_as-requires-clause-can c = record {
+  table = in_pool _ c.pass.inside.seat.me.0 _ c.args.pool.now c.pass.view_is c.requires.of;
+  place = map_below _ _ _ _ (swept_fits _ c.pass.inside.seat.me.0 _ _ c.pass.view_is c.requires.of.1 c.pass.invariant.sound c.args.a _
+      c.requires.sweep).slot c.requires.low c.map_place-place.ensures;
+  may = may_sweep_map _ _ c.pass.inside.seat.me.0 c.pass.invariant.live _ c.args.a c.args.index
+      (shape_is _ c.pass.inside.seat.me.0 _ _ c.pass.view_is c.requires.of.1)
+      (ap (λ (x : View). visited_of x.sweeps c.args.a) c.pass.view_is ∙ c.requires.sweep) c.requires.low
+      (ap (λ (x : View). x.swept) c.pass.view_is ∙ c.requires.idle) c.map_place-place.ensures;
+}
 
 pub invariant_of-pass : goal.invariant_of-pass
 invariant_of-pass c = sweep_map_keeps _ _ _ _ _ _ _ _ c.pass.invariant c.load_as.ensures.slots c.args.a c.args.index _ c.load_as.ensures.tells

@@ -2,7 +2,7 @@ use Rattle.std.proofs.Common.{ap, ◌∙◌}
 use Rattle.fm_pool_facts.specs.Views.{View}
 use Rattle.fm_pool_facts.specs.Closes.{visited_of}
 use Rattle.fm_rule.specs.Views.{numbers_of}
-use Rattle.fm_rule.proofs.Knowing.{map_below, swept_fits, valid}
+use Rattle.fm_rule.proofs.Knowing.{in_pool, map_below, swept_fits, valid}
 use Rattle.fm_rule.proofs.Making.{may_unmap}
 use Rattle.fm_rule.proofs.Stepping.{unmap_stepped}
 use Rattle.fm_rule.proofs.Keeping.{unmap_keeps}
@@ -15,16 +15,15 @@ pub map_place-place-requires-clause-place : goal.map_place-place-requires-clause
 map_place-place-requires-clause-place c =
     ((swept_fits _ c.pass.inside.seat.me.0 _ _ c.pass.view_is c.requires.of.1 c.pass.invariant.sound c.args.a _ c.requires.sweep).slot, c.requires.low)
 
-pub store_as-requires-clause-place : goal.store_as-requires-clause-place
-store_as-requires-clause-place c =
-    map_below _ _ _ _ (swept_fits _ c.pass.inside.seat.me.0 _ _ c.pass.view_is c.requires.of.1 c.pass.invariant.sound c.args.a _
-    c.requires.sweep).slot c.requires.low c.map_place-place.ensures
-
-pub store_as-requires-clause-may : goal.store_as-requires-clause-may
-store_as-requires-clause-may c =
-    may_unmap _ _ c.pass.inside.seat.me.0 c.pass.invariant.live _ c.args.a c.args.index c.args.page
-    (ap (λ (x : View). visited_of x.sweeps c.args.a) c.pass.view_is ∙ c.requires.sweep) c.requires.low
-    (ap (λ (x : View). x.swept) c.pass.view_is ∙ c.requires.named) c.map_place-place.ensures
+pub store_as-requires-clause-can : goal.store_as-requires-clause-can
+store_as-requires-clause-can c = record {
+  table = in_pool _ c.pass.inside.seat.me.0 _ c.args.pool.now c.pass.view_is c.requires.of;
+  place = map_below _ _ _ _ (swept_fits _ c.pass.inside.seat.me.0 _ _ c.pass.view_is c.requires.of.1 c.pass.invariant.sound c.args.a _
+      c.requires.sweep).slot c.requires.low c.map_place-place.ensures;
+  may = may_unmap _ _ c.pass.inside.seat.me.0 c.pass.invariant.live _ c.args.a c.args.index c.args.page
+      (ap (λ (x : View). visited_of x.sweeps c.args.a) c.pass.view_is ∙ c.requires.sweep) c.requires.low
+      (ap (λ (x : View). x.swept) c.pass.view_is ∙ c.requires.named) c.map_place-place.ensures;
+}
 
 pub invariant_of-pass : goal.invariant_of-pass
 invariant_of-pass c = unmap_keeps _ _ _ _ _ _ _ _ c.pass.invariant c.store_as.ensures.slots c.args.a c.args.index c.args.page _ c.store_as.ensures.tells

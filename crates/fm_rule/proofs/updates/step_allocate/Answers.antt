@@ -4,7 +4,7 @@ use Rattle.fm_pool_facts.specs.Views.{View, limit_of}
 use Rattle.fm_base.specs.Machine.{rounded_up}
 use Rattle.fm_pool_facts.specs.Steps.{HasParts}
 use Rattle.fm_rule.specs.Views.{numbers_of}
-use Rattle.fm_rule.proofs.Knowing.{given_below, inside_slot, shape_is}
+use Rattle.fm_rule.proofs.Knowing.{in_pool, given_below, inside_slot, shape_is}
 use Rattle.fm_rule.proofs.Making.{may_allocate}
 use Rattle.fm_rule.proofs.Stepping.{allocate_stepped, count_found}
 use Rattle.fm_rule.proofs.Keeping.{allocate_keeps}
@@ -23,17 +23,16 @@ given_place-place-requires c = inside_slot _ c.pass.inside.seat.me.0 _ _ c.pass.
 pub given_next-next-requires : goal.given_next-next-requires
 given_next-next-requires c = power_pos c.args.align c.requires.power
 
-pub exchange_as-requires-clause-place : goal.exchange_as-requires-clause-place
-exchange_as-requires-clause-place c =
-    given_below _ _ _ (inside_slot _ c.pass.inside.seat.me.0 _ _ c.pass.view_is c.requires.of.1 c.pass.invariant.sound c.args.a c.requires.inside)
-    c.given_place-place.ensures
-
-pub exchange_as-requires-clause-may : goal.exchange_as-requires-clause-may
-exchange_as-requires-clause-may c =
-    may_allocate _ _ c.pass.inside.seat.me.0 c.pass.invariant.live _ c.args.a c.args.given c.args.size c.args.align _ _
-    (ap (λ (x : View). x.inside) c.pass.view_is ∙ c.requires.inside) c.requires.power
-    (shape_is _ c.pass.inside.seat.me.0 _ _ c.pass.view_is c.requires.of.1) (parts (goal.at.exchange_as-requires-clause-may c).After-pass)
-    c.given_place-place.ensures c.limit.ensures c.given_next-next.ensures
+pub exchange_as-requires-clause-can : goal.exchange_as-requires-clause-can
+exchange_as-requires-clause-can c = record {
+  table = in_pool _ c.pass.inside.seat.me.0 _ c.args.pool.now c.pass.view_is c.requires.of;
+  place = given_below _ _ _ (inside_slot _ c.pass.inside.seat.me.0 _ _ c.pass.view_is c.requires.of.1 c.pass.invariant.sound c.args.a c.requires.inside)
+      c.given_place-place.ensures;
+  may = may_allocate _ _ c.pass.inside.seat.me.0 c.pass.invariant.live _ c.args.a c.args.given c.args.size c.args.align _ _
+      (ap (λ (x : View). x.inside) c.pass.view_is ∙ c.requires.inside) c.requires.power
+      (shape_is _ c.pass.inside.seat.me.0 _ _ c.pass.view_is c.requires.of.1) (parts (goal.at.exchange_as-requires-clause-can c).After-pass)
+      c.given_place-place.ensures c.limit.ensures c.given_next-next.ensures;
+}
 
 pub invariant_of-pass : goal.invariant_of-pass
 invariant_of-pass c =

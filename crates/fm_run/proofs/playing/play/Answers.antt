@@ -1,6 +1,6 @@
 use Rattle.std.specs.Prelude.{Vec}
 use Rattle.std.specs.declared.alloc.Global.{Global}
-use Rattle.std.proofs.Common.{◌≡◌, ℕ, ◌+◌, Bool, List, [], length, take, refl, sym, ap, ◌∙◌, subst, arith, vec_capacity}
+use Rattle.std.proofs.Common.{◌≡◌, ℕ, ◌+◌, Bool, List, [], length, take, drop, refl, sym, ap, ◌∙◌, subst, arith, vec_capacity}
 use Rattle.fm_pool_facts.specs.Views.{View}
 use Rattle.fm_script.specs.declared.line.Line.{Line}
 use Rattle.fm_script.specs.declared.who.Who.{Who}
@@ -12,7 +12,7 @@ use Rattle.fm_run.specs.Playing.{LinesRan}
 use Rattle.fm_run.specs.Report.{lines_by}
 use Rattle.fm_run.specs.Runs.{WentOn}
 use Rattle.fm_run.specs.Tokens.{Backs}
-use Rattle.fm_run.proofs.Picking.{by_few, by_none, by_one, by_room}
+use Rattle.fm_run.proofs.Picking.{by_few, by_none, by_one, by_room, by_split}
 use Rattle.fm_run.proofs.Rows.{SoFar, lines_none, ran_many, ran_on, replied_many, so_far_more}
 use Rattle.fm_run.proofs.playing.play.Goals as goal
 use Rattle.fm_run.proofs.playing.play.Goals.{then-is_by+in-Ok, else-is_by}
@@ -114,6 +114,28 @@ returns-in-Err-clause-many g c =
     let few = by_few (is_by c.args.who) c.args.lines.now c.loop-line.line-index in
     let same = ap (λ (t : Table). length t.own.items) c.in-Err.ensures.same in
     omega (arith, many, few, same)
+
+pub returns-in-Err-clause-stops : goal.returns-in-Err-clause-stops
+returns-in-Err-clause-stops g c =
+    let p = c.args.m.now in
+    let names = c.args.names.now in
+    let was : Table = c.args.table.now in
+    let is : Who → Bool = is_by c.args.who in
+    let ls : List Line = c.args.lines.now in
+    let k = c.loop-line.line-index in
+    let ran : List Line = lines_by is (take k ls) in
+    let rs : List Reply = c.loop-line.replies.items in
+    record {
+      before = ran;
+      line = c.line-item.result;
+      behind = lines_by is (drop (k + 1) ls);
+      parts = by_split is ls k c.line-item.result c.loop-line-test.true c.line-item.is (sym c.is_by.ensures ∙ c.if-is_by.true);
+      takes = c.in-Err.ensures.takes;
+      ran = subst (λ (q : View). LinesRan p q names was.base.now was.start was.own.items c.run_line-run.new.table.own.items ran rs)
+          (sym c.in-Err.ensures.kept)
+          (subst (λ (t : Table). LinesRan p c.loop-line.m names was.base.now was.start was.own.items t.own.items ran rs) (sym c.in-Err.ensures.same)
+          c.loop-line.invariant.ran);
+    }
 
 pub returns-clause-went : goal.returns-clause-went
 returns-clause-went g c = ran_on c.loop-line.invariant.ran

@@ -1,5 +1,6 @@
 use Rattle.std.proofs.Common.{rules, refl, ◌++◌, List, [], ◌∷◌, sym, ap, ◌∙◌, subst, append_assoc}
 use Rattle.std.proofs.lemmas.List.{append-nil}
+use Rattle.fm_pool_facts.specs.Hands.{no_number}
 use Rattle.fm_pool_facts.specs.Views.{View}
 use Rattle.fm_rule.specs.Draws.{Gathers}
 use Rattle.fm_workers.specs.declared.worker.Worker.{Worker}
@@ -39,12 +40,12 @@ loop-worker-preserved g c =
     let s : IsSpare c.args.pool.now w.memory =
     middle (λ (u : Worker g.row.T.Denot). IsSpare c.args.pool.now u.memory) c.args.crew.items c.loop-worker.crew.items c.pop.new.self.items i.done
     w i.split c.in-Some.ensures.items c.requires.spare in
-    let k : Gathers c.loop-worker.pass w.memory c.gather.new.pass =
-    subst (λ (d : View). Gathers c.loop-worker.pass d c.gather.new.pass) c.into_pass.ensures.same c.gather.ensures in
+    let k : Gathers c.loop-worker.pass w.memory no_number c.gather.new.pass =
+    subst (λ (d : View). Gathers c.loop-worker.pass d no_number c.gather.new.pass) c.into_pass.ensures.same c.gather.ensures in
     record {
       done = w ∷ i.done;
       split = split_more c.args.crew.items c.loop-worker.crew.items c.pop.new.self.items i.done w i.split c.in-Some.ensures.items;
-      gathered = gathered_more i.gathered w s.no_other (s.of.1 ∙ sym i.outside.of.1) k;
+      gathered = gathered_more i.gathered w c.requires.outside.no_number s.no_other (s.of.1 ∙ sym i.outside.of.1) k;
       outside = outside_gathered i.outside k;
       tasks = c.push_reserved.ensures.items ∙ (ap (λ (ts : List g.row.T.Denot). ts ++ w.task ∷ []) i.tasks
           ∙ append_assoc c.args.tasks.now.items (tasks_of i.done) (w.task ∷ []));

@@ -1,4 +1,4 @@
-use Rattle.std.proofs.Common.{◌≡◌, ◌%◌, ◌/◌, arith, refl, sym, ap, ◌∙◌, subst, Err}
+use Rattle.std.proofs.Common.{◌≡◌, ◌%◌, ◌/◌, arith, refl, sym, ap, ◌∙◌, subst, inr, Err}
 use Rattle.std.proofs.lemmas.List.Elements.{All-from_recursion}
 use Rattle.fm_base.specs.declared.arena_id.ArenaId.{ArenaId}
 use Rattle.fm_base.specs.declared.refusal.Refusal.{Refusal}
@@ -28,7 +28,7 @@ returns-in-Err-clause-queried g c =
     let shared = open_to_all c.args.q.now c.args.s.now c.size.result c.record_size.result c.arena.result c.size.ensures.size c.record_size.ensures.size
     c.if-rest-ne0.false c.arena.ensures (c.is_confined.ensures.no c.if-is_confined.false) in
     subst (λ (r : Refusal). QueriedWith c.args.threads c.args.pass.now c.args.pass.now c.args.q.now c.args.s.now (Err r)) (sym c.in-Err.ensures.memory)
-    (queried_none c.args.pass.now c.args.q.now c.args.s.now c.args.threads Memory tt c.requires.known shared)
+    (queried_none c.args.pass.now c.args.q.now c.args.s.now c.args.threads Memory tt c.requires.known (shared, inr tt))
 
 pub work_crew-requires-clause-can : goal.work_crew-requires-clause-can
 work_crew-requires-clause-can g c κs within =

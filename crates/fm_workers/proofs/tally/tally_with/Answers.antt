@@ -45,7 +45,7 @@ returns-in-Err-clause-tallied g c =
     (c.is_confined.ensures.no c.if-is_confined.false) c.arena-2.ensures (c.is_confined-2.ensures.no c.if-is_confined-2.false) in
     subst (λ (r : Refusal). TalliedWith c.args.threads c.args.pass.now c.args.pass.now c.args.q.now c.args.s.now c.args.counts.now (Err r))
     (sym c.in-Err.ensures.memory)
-    (tallied_none c.args.pass.now c.args.q.now c.args.s.now c.args.counts.now c.args.threads Memory tt c.requires.query.known c.requires.known can)
+    (tallied_none c.args.pass.now c.args.q.now c.args.s.now c.args.counts.now c.args.threads Memory tt c.requires.query.known c.requires.known (can, inr refl))
 
 pub work_crew-requires-clause-can : goal.work_crew-requires-clause-can
 work_crew-requires-clause-can g c κs within =
@@ -66,7 +66,8 @@ returns-in-Ok-work_crew-clause-tallied g c =
     c.if-not-is_tally.ensures c.size.ensures.size c.record_size.ensures.size c.if-rest-ne0.false c.arena.ensures
     (c.is_confined.ensures.no c.if-is_confined.false) c.arena-2.ensures (c.is_confined-2.ensures.no c.if-is_confined-2.false) in
     tallied {k = record { plan = c.args.q.now; counts = c.args.counts.now }} c.in-Ok-work_crew.ensures.worked c.record_size.ensures.plan c.in-Ok.ensures.cut
-    c.in-Ok.ensures.level c.in-Ok.ensures.count can c.requires.longs c.requires.other c.requires.query.known c.requires.known c.total_of.result
+    c.in-Ok.ensures.level c.in-Ok.ensures.count can c.requires.longs c.requires.other c.requires.query.known c.requires.known
+    (let ends = c.size.ensures.ends in omega (arith, ends)) c.total_of.result
     (subst (λ ts. SumsTo ts c.total_of.result) c.as_slice.ensures.value c.total_of.ensures)
 
 pub returns-clause-tallied : goal.returns-clause-tallied

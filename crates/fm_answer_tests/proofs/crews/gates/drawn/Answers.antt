@@ -4,6 +4,7 @@ use Rattle.fm_pool_facts.specs.Views.{View}
 use Rattle.fm_rule.specs.Draws.{Drawn}
 use Rattle.fm_workers.proofs.Drawing.{outside_drew, outside_new}
 use Rattle.fm_workers.specs.Asking.{known_later}
+use Rattle.fm_answer_tests.proofs.Known.{known_drew}
 use Rattle.fm_answer_tests.proofs.crews.gates.drawn.Goals as goal
 
 pub returns-clause-outside : goal.returns-clause-outside
@@ -14,8 +15,7 @@ returns-clause-outside g c =
 pub returns-clause-known : goal.returns-clause-known
 returns-clause-known g c =
     let k = subst (λ r. IfOk r (λ d. Drawn c.args.pass.now c.draw.new.giver d)) c.expect.ensures c.draw.ensures.drawn in
-    known_later (lasts_by (reached_by {p = c.args.pass.now} {q = c.draw.new.giver} k.asked.more k.asked.seen (ap (λ (v : View). v.shape) k.asked.is)
-    k.giver_sound)) c.requires.known
+    known_drew k c.requires.known
 
 pub returns-clause-new_outside : goal.returns-clause-new_outside
 returns-clause-new_outside g c =

@@ -3,6 +3,7 @@ use Rattle.std.specs.Prelude.{IfSome}
 use Rattle.std.proofs.lemmas.List.Elements.{All-pop}
 use Rattle.fm_base.specs.declared.arena_id.ArenaId.{ArenaId}
 use Rattle.fm_pool_facts.specs.Views.{View, given_of}
+use Rattle.fm_pool_facts.specs.Hands.{no_number}
 use Rattle.fm_rule.specs.declared.pool.Pool.{Pool}
 use Rattle.fm_rule.specs.Draws.{Gathers}
 use Rattle.fm_gate.specs.Crews.{CrewStands, HasNothing}
@@ -11,7 +12,7 @@ use Rattle.fm_pool_tests.proofs.closes.threads.gather_last.Goals as goal
 
 -- The pass that took the other in stands on.
 stands : CrewStands → (pool : Pool) (p other q : View) (a : ArenaId) → CanVisit pool p a → 8 ≤ given_of p a
-    → CanVisit pool other a × (8 ≤ given_of other a) × HasNothing other → Gathers p other q → CanVisit pool q a × (8 ≤ given_of q a)
+    → CanVisit pool other a × (8 ≤ given_of other a) × HasNothing other → Gathers p other no_number q → CanVisit pool q a × (8 ≤ given_of q a)
 stands law pool p other q a can given ready gathers =
     let stood = (law.at_gather pool p other q can.outside.of (law.can_gather pool other ready.0.outside ready.2) gathers).stands in
     let more = stood.lasts.given a in

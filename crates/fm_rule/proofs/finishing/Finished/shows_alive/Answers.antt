@@ -24,7 +24,7 @@ pub returns-in-Some : goal.returns-in-Some
 returns-in-Some c =
     let same = shape_in _ _ c.self.view_is in
     alive_by _ (finished_in _ _ c.self.view_is c.self.invariant) c.args.a
-    (subst (λ (x : Shape). Fits x c.args.a) same (c.can_have.ensures.0 c.if-not-can_have.false)) c.in-Some.field-0 c.word-word.result
+    (subst (λ (x : Shape). Fits x c.args.a) same (c.can_have.ensures.0 c.if-not-can_have.false)) c.requires c.in-Some.field-0 c.word-word.result
     (c.word-word.ensures ∙ ap (λ (n : ℕ). get_or c.args.self.now.words n 0)
     (c.session_place.ensures ∙ ap (λ (x : Shape). at x (session c.args.a.slot)) same))
     (sym c.alive_holds.ensures ∙ c.in-Some.is)

@@ -1,35 +1,5 @@
-use Rattle.std.proofs.Common.{ap, ◌∙◌}
-use Rattle.fm_pool_facts.specs.Views.{View}
-use Rattle.fm_pool_steps.proofs.Gathering.{gather_joins}
-use Rattle.fm_rule.specs.Views.{numbers_of}
-use Rattle.fm_rule.proofs.Knowing.{front_below}
-use Rattle.fm_rule.proofs.Making.{may_look}
-use Rattle.fm_rule.proofs.Noting.{one_table, some_words}
-use Rattle.fm_rule.proofs.Halves.{at_rest, gathers, gather_keeps}
+use Rattle.fm_rule.proofs.Halves.{gathered_back}
 use Rattle.fm_rule.proofs.pool.Pool.gather.Goals as goal
 
-pub join_seat-requires : goal.join_seat-requires
-join_seat-requires c = (
-  one_table _ _ (ap (λ (x : View). x.home) c.pass.view_is ∙ c.requires.pass.0),
-  one_table _ _ (ap (λ (x : View). x.home) c.other.view_is ∙ c.requires.other.of.0),
-  c.other.invariant.empty,
-  some_words _ _ c.args.self.now.sized,
-  λ s h at ne at'. gather_joins _ _ _ h _ _ _ _ at ne at' c.pass.invariant.live
-      (at_rest _ c.other.inside.seat.me.0 _ c.other.view_is c.other.invariant.live c.other.invariant.met c.requires.other),
-)
-
-pub load_as-requires-clause-place : goal.load_as-requires-clause-place
-load_as-requires-clause-place c = front_below _ _ c.front_place-place.ensures
-
-pub load_as-requires-clause-may : goal.load_as-requires-clause-may
-load_as-requires-clause-may c = may_look _ _ _ ((λ j. (c.join_seat.ensures.2 j).0.live) ∙ c.pass.invariant.live) _
-
-pub invariant_of-pass : goal.invariant_of-pass
-invariant_of-pass c =
-    gather_keeps c.pass.inside.seat.me.0 c.other.inside.seat.me.0 _ _ _ (λ j. (c.join_seat.ensures.2 j).0) c.pass.invariant.met c.load_as.ensures.tells
-    _ _ _ _ _ _ _ c.pass.invariant c.other.invariant.counted (c.load_as.ensures.slots ∙ (λ j. (c.join_seat.ensures.2 j).1))
-
-pub returns : goal.returns
-returns c =
-    gathers c.pass.inside.seat.me.0 c.other.inside.seat.me.0 _ _ _ (λ j. (c.join_seat.ensures.2 j).0) c.pass.invariant.met c.load_as.ensures.tells
-    _ _ _ _ _ c.pass.view_is c.other.view_is (ap numbers_of (c.load_as.ensures.table ∙ c.join_seat.ensures.0))
+pub returns-then-caller-lt4294967295 : goal.returns-then-caller-lt4294967295
+returns-then-caller-lt4294967295 c = gathered_back _ _ _ _ c.join_in.ensures c.give_back.ensures

@@ -1,13 +1,15 @@
 use Rattle.std.proofs.Common.{rules, arith, ap, sym, ◌∙◌, subst, ◌≡◌, ◌<◌, ◌≤◌, ℕ, List, [], ◌∷◌, replicate, length, None}
 use lib.ListN.{set, length-replicate}
 use Rattle.fm_words.specs.declared.shape.Shape.{Shape}
-use Rattle.fm_words.specs.Places.{at, draw, slot_bits, page_bits}
+use Rattle.fm_words.specs.Places.{at, draw, slot_bits}
 use Rattle.fm_words.specs.Bits.{ones}
 use Rattle.fm_base.specs.Arenas.{only_caller}
 use Rattle.fm_pool_facts.specs.Views.{IsSound}
 use Rattle.fm_pool_facts.specs.Splits.{first_view}
 use Rattle.fm_pool_facts.specs.Facts.{Rule}
-use Rattle.fm_pool_steps.proofs.First.{three_words, first_rule, first_sound}
+use Rattle.fm_pool_steps.proofs.First.{two_words}
+use Rattle.fm_rule.specs.Beginning.{IsBegun}
+use Rattle.fm_rule.proofs.Beginning.{begun_none, begun_rule, begun_sound}
 use Rattle.fm_rule.specs.Views.{Keeps}
 use Rattle.fm_rule.proofs.Allowed.{sound_homed}
 use Rattle.fm_rule.proofs.Keeping.{first_keeps}
@@ -21,58 +23,49 @@ bits_is : (z : Shape) (i : ℕ) → i ≡ at z slot_bits → i ≡ 2
 unfolding at
 bits_is z i e = e
 
-page_bits_is : (z : Shape) (i : ℕ) → i ≡ at z page_bits → i ≡ 3
-unfolding at
-page_bits_is z i e = e
-
-below : {i k n m : ℕ} → i ≤ 3 → k ≡ n → n ≡ m → 3 < m → i < k
+below : {i k n m : ℕ} → i ≤ 2 → k ≡ n → n ≡ m → 2 < m → i < k
 below a e f h = omega arith
 
 pub index_mut-requires : goal.index_mut-requires
 index_mut-requires c =
     let v = c.in_ok-words.ensures.items_if_clones_equal (λ y e. e) in
-    let p = three_words c.args.shape in
+    let p = two_words c.args.shape in
     let l : length c.in_ok-words.words.items ≡ c.words.result = ap length v ∙ length-replicate c.words.result 0 in
     let k = c.in_ok-words.words.len in
     let d : c.draw_place.result ≡ 1 = draw_is _ _ c.draw_place.ensures in
-    let low : c.draw_place.result ≤ 3 = omega arith in
+    let low : c.draw_place.result ≤ 2 = omega arith in
     let b = below low l c.words.ensures p in
     search (rules, b, k)
 
 pub index_mut-requires-2 : goal.index_mut-requires-2
 index_mut-requires-2 c =
     let v = c.in_ok-words.ensures.items_if_clones_equal (λ y e. e) in
-    let p = three_words c.args.shape in
+    let p = two_words c.args.shape in
     let l : length c.in_ok-words.words.items ≡ c.words.result = ap length v ∙ length-replicate c.words.result 0 in
     let k = c.in_ok-words.words.len in
     let d : c.slot_bits_place.result ≡ 2 = bits_is _ _ c.slot_bits_place.ensures in
-    let low : c.slot_bits_place.result ≤ 3 = omega arith in
+    let low : c.slot_bits_place.result ≤ 2 = omega arith in
     let b = below low l c.words.ensures p in
     search (rules, b, k)
 
-pub index_mut-requires-3 : goal.index_mut-requires-3
-index_mut-requires-3 c =
-    let v = c.in_ok-words.ensures.items_if_clones_equal (λ y e. e) in
-    let p = three_words c.args.shape in
-    let l : length c.in_ok-words.words.items ≡ c.words.result = ap length v ∙ length-replicate c.words.result 0 in
-    let k = c.in_ok-words.words.len in
-    let d : c.page_bits_place.result ≡ 3 = page_bits_is _ _ c.page_bits_place.ensures in
-    let low : c.page_bits_place.result ≤ 3 = omega arith in
-    let b = below low l c.words.ensures p in
-    search (rules, b, k)
+pub set_page_bits-requires-clause-begun : goal.set_page_bits-requires-clause-begun
+set_page_bits-requires-clause-begun c =
+    let z : Shape = c.args.shape in
+    let is = (λ j. set (set (c.in_ok-words.ensures.items_if_clones_equal (λ y e. e) j) (draw_is _ _ c.draw_place.ensures j) 1)
+    (bits_is _ _ c.slot_bits_place.ensures j) (c.ones.ensures j))
+    ∙ (λ j. set (set (replicate (c.words.ensures j) 0) 1 1) 2 (ones z.slots)) in
+    subst (λ (ws : List ℕ). IsBegun z ws 0 0) (sym is) (begun_none z c.requires)
 
 pub of_words-requires : goal.of_words-requires
 of_words-requires c =
-    let z : Shape = c.args.shape in
-    let is = c.deref.ensures.value
-    ∙ ((λ j. set (set (set (c.in_ok-words.ensures.items_if_clones_equal (λ y e. e) j) (draw_is _ _ c.draw_place.ensures j) 1)
-    (bits_is _ _ c.slot_bits_place.ensures j) (c.ones.ensures j)) (page_bits_is _ _ c.page_bits_place.ensures j) (c.ones-2.ensures j))
-    ∙ (λ j. set (set (set (replicate (c.words.ensures j) 0) 1 1) 2 (ones z.slots)) 3 (ones z.pages))) in
-    subst (λ (ws : List ℕ). Rule z ws (first_view z ∷ [])) (sym is) (first_rule z c.requires)
+    subst (λ (ws : List ℕ). Rule c.args.shape ws (first_view c.args.shape ∷ [])) (sym c.deref.ensures.value)
+    (begun_rule c.args.shape _ c.requires c.set_number_bits.ensures)
 
 pub invariant_of-pass : goal.invariant_of-pass
 invariant_of-pass c =
-    subst (Keeps only_caller None (record { first = 0; words = 0; from = 0 }) 0) (sym c.in_ok-table.ensures.4) (first_keeps c.args.shape c.requires)
+    subst (Keeps only_caller None (record { first = 0; words = 0; from = 0 }) 0) (sym c.in_ok-table.ensures.4)
+    (first_keeps c.args.shape (begun_sound c.args.shape _ c.requires c.set_number_bits.ensures))
 
 pub returns-clause-sound : goal.returns-clause-sound
-returns-clause-sound c = sound_homed _ c.in_ok-table.seat.me.0 (subst IsSound (λ j. (sym c.in_ok-table.ensures.4 j).0) (first_sound c.args.shape c.requires))
+returns-clause-sound c =
+    sound_homed _ c.in_ok-table.seat.me.0 (subst IsSound (λ j. (sym c.in_ok-table.ensures.4 j).0) (begun_sound c.args.shape _ c.requires c.set_number_bits.ensures))

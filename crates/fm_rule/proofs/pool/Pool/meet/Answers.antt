@@ -3,9 +3,9 @@ use Rattle.fm_pool_facts.specs.Views.{View}
 use Rattle.fm_pool_steps.proofs.Splitting.{meet_joins}
 use Rattle.fm_rule.specs.Passes.{GoesOnFrom}
 use Rattle.fm_rule.specs.Views.{NoteView, numbers_of}
-use Rattle.fm_rule.proofs.Knowing.{front_below}
+use Rattle.fm_rule.proofs.Knowing.{one_table, in_pool, front_below}
 use Rattle.fm_rule.proofs.Making.{may_look}
-use Rattle.fm_rule.proofs.Noting.{one_table, some_words, meet_met, meet_stepped, meet_keeps}
+use Rattle.fm_rule.proofs.Noting.{some_words, meet_met, meet_stepped, meet_keeps}
 use Rattle.fm_rule.proofs.pool.Pool.meet.Goals as goal
 
 pub join_seat-requires : goal.join_seat-requires
@@ -17,11 +17,12 @@ join_seat-requires c = (
   λ s h at ne at'. meet_joins _ _ _ h _ _ _ _ at ne at' c.note.invariant.0,
 )
 
-pub load_as-requires-clause-place : goal.load_as-requires-clause-place
-load_as-requires-clause-place c = front_below _ _ c.front_place-place.ensures
-
-pub load_as-requires-clause-may : goal.load_as-requires-clause-may
-load_as-requires-clause-may c = may_look _ _ _ ((λ j. (c.join_seat.ensures.2 j).0.live) ∙ c.pass.invariant.live) _
+pub load_as-requires-clause-can : goal.load_as-requires-clause-can
+load_as-requires-clause-can c = record {
+  table = c.join_seat.ensures.0 ∙ in_pool _ c.pass.inside.seat.me.0 _ c.args.self.now c.pass.view_is c.requires.pass;
+  place = front_below _ _ c.front_place-place.ensures;
+  may = may_look _ _ _ ((λ j. (c.join_seat.ensures.2 j).0.live) ∙ c.pass.invariant.live) _;
+}
 
 pub invariant_of-pass : goal.invariant_of-pass
 invariant_of-pass c =

@@ -1,7 +1,8 @@
+use Rattle.fm_rule.proofs.Knowing.{one_table}
 use Rattle.std.proofs.Common.{ap, ◌∙◌}
 use Rattle.fm_pool_facts.specs.Views.{View}
 use Rattle.fm_pool_steps.proofs.Splitting.{note_splits}
-use Rattle.fm_rule.proofs.Noting.{one_table, some_words}
+use Rattle.fm_rule.proofs.Noting.{some_words}
 use Rattle.fm_rule.proofs.pool.Pool.note.Goals as goal
 
 pub split_seat-seat-requires : goal.split_seat-seat-requires

@@ -1,0 +1,4 @@
+pub mod Items
+pub mod Accounts
+pub mod Rule
+pub mod Turns

@@ -1,4 +1,0 @@
-use Rattle.fm_rule.proofs.pool.Pool.gather.Given as goal
-
-abbrev pub ghosts-load_as : goal.ghosts-load_as
-ghosts-load_as a = record { step = a.step }
