@@ -1,14 +1,9 @@
-use crate::endings::{ends, run};
-use crate::files::named;
-use crate::files::text_file;
-use fm_io::{Fault, Files, FreeGate, MemFiles, Piece, SureSink};
-use fm_top::{Kept, run_tool};
-use std::alloc::{AllocError, AllocGlobal, Global};
-use std::process::Abort;
-use std::random::RandomSource;
-use std::sync::Wait;
+use crate::endings::{ends, parts_of};
+use crate::files::{named, text_file};
+use fm_io::{Fault, Files, MemFiles, Piece};
+use fm_top::RECORD_FILE_LIMIT;
+use std::alloc::{AllocError, Global};
 use std::test::Fail;
-use std::thread::Threads;
 
 /// Files whose sizes are guessed so, rightly or not.
 #[derive(Drop)]
@@ -74,11 +69,22 @@ const SIZES: &str = "\
 
 /// Guesses that are right, too small, too large, wrong by a byte or a word, or no guesses of a record file at all.
 fn guesses(alloc: Global, count: u64) -> Result<Vec<Option<u64>>, AllocError> {
-    vec![in alloc;
-        None, Some(0), Some(1), Some(8), Some(65_536), Some(count / 2), Some(count.saturating_sub(8)),
-        Some(count.saturating_sub(1)), Some(count), Some(count + 1), Some(count + 8), Some(3 * count),
-        Some(RECORD_FILE_LIMIT + 1), Some(u64::MAX)
-    ]
+    Ok(vec![in alloc;
+        None,
+        Some(0),
+        Some(1),
+        Some(8),
+        Some(65_536),
+        Some(count / 2),
+        Some(count.saturating_sub(8)),
+        Some(count.saturating_sub(1)),
+        Some(count),
+        Some(count + 1),
+        Some(count + 8),
+        Some(3 * count),
+        Some(RECORD_FILE_LIMIT + 1),
+        Some(u64::MAX),
+    ]?)
 }
 
 #[test]
@@ -89,7 +95,13 @@ fn an_answer_does_not_depend_on_the_guess(rt: HostRuntime) -> Result<(), Fail> {
         let count: u64 = line.parse().unwrap_or(0);
         for guess in guesses(alloc, count)? {
             let mut files = guessed(alloc, count as usize, guess)?;
-            ends(&rt, &mut files, &["query", "L", "count,sum(.a)", "R"], status, &text)?;
+            ends(
+                &rt,
+                &mut files,
+                &["query", "L", "count,sum(.a)", "R"],
+                status,
+                &text,
+            )?;
         }
     }
     Ok(())
