@@ -1,5 +1,5 @@
 -- A pool's first pass that reads a file into an arena, piece by piece.
-use Rattle.std.proofs.Common.{◌≡◌, ℕ, ◌+◌, ◌≤◌, true, List, [], ◌∷◌, ◌++◌, length, take, Ok, refl, ap, sym, ◌∙◌, subst, ⊎_elim, arith}
+use Rattle.std.proofs.Common.{◌≡◌, ℕ, ◌+◌, ◌≤◌, Bool, true, false, Option, List, [], ◌∷◌, ◌++◌, length, take, Ok, refl, ap, sym, ◌∙◌, subst, ⊎_elim, arith}
 use Rattle.std.specs.Prelude.{◌⊎◌}
 use Rattle.std.proofs.lemmas.List.{take-take}
 use Rattle.fm_base.specs.declared.arena_id.ArenaId.{ArenaId}
@@ -14,8 +14,12 @@ use Rattle.fm_access_laws.proofs.Putting.{put_all_stays}
 use Rattle.fm_access_laws.proofs.Staying.{StayBelow}
 use Rattle.fm_calls.specs.Told.{view_of_pass}
 use Rattle.fm_gate.specs.Standing.{IsOutside}
+use Rattle.fm_io.specs.Reads.{Read, At}
 use Rattle.fm_load.specs.Filling.{Puts, no_run, run}
 use Rattle.fm_load.specs.Held.{IsHeld, OnlyIn}
+use Rattle.fm_load.specs.Limits.{record_file_limit}
+use Rattle.fm_load.specs.Reading.{GoesBy, ReadsBehind, ReadsSome, ReadsUpTo}
+use Rattle.fm_load.proofs.Following.{chunk_reads, reads_then}
 use Rattle.fm_pool_facts.specs.Views.{View, IsKnown, IsSound, limit_of, state_in}
 use Rattle.fm_records.proofs.AnsweringBytes.{places_have}
 use Rattle.fm_records.specs.Alone.{bytes_at_places}
@@ -114,3 +118,16 @@ pub taken : {p : View} {f : FinishedView} (a : ArenaId) (count : ℕ) → state_
 taken {p} {f} a count is within =
     ap (λ (s : State). take count (take (arena_of s a).given (bytes_in (arena_of s a).words))) is
     ∙ take-take count (given_in (view_of_pass p) a) (bytes_of_arena (state_in p) a) within
+
+-- ---- reads
+
+-- what was read up to a chunk that has no room, and then what is behind it
+pub reads_on : (ended : Bool) (old mid new : Option (List Read)) (name : List ℕ) (place : ℕ)
+    → ReadsUpTo old mid name record_file_limit (λ next. GoesBy ended place next) → ReadsBehind ended mid new name place → ReadsSome old new name record_file_limit
+reads_on true old mid new name place first behind =
+    subst (λ (r : Option (List Read)). ReadsSome old r name record_file_limit) (sym (behind.none refl))
+    (chunk_reads {Goes = λ next. GoesBy true place next} {Says = λ next. Unit {0}} first refl (λ next goes. tt))
+reads_on false old mid new name place first behind =
+    reads_then {Goes = λ next. Unit {0}} {Says = λ next. Unit {0}}
+    (chunk_reads {Goes = λ next. GoesBy false place next} {Says = λ next. next ≡ At place} first refl (λ next goes. goes.1 refl))
+    (behind.rest refl) (λ next goes. tt)

@@ -1,4 +1,4 @@
-ghost use Rattle.std.specs.Prelude.{◌≡◌, ◌≢◌, ◌+◌, ◌<◌, ◌≤◌, length, take, IfOk, IfErr, IsErrOf, Err};
+ghost use Rattle.std.specs.Prelude.{◌≡◌, ◌≢◌, ◌+◌, ◌<◌, ◌≤◌, length, take, IfOk, IsErrOf, Err};
 ghost use Rattle.fm_access.specs.Alone.{bytes_of_arena};
 ghost use Rattle.fm_base.specs.View.{given_in};
 ghost use Rattle.fm_calls.specs.Told.{view_of_pass};
@@ -42,7 +42,7 @@ pub fn load_stock<R: Wait, F: Files>(
     requires few { arenas ≤ 2 }
     ensures stock { IfOk result (λ s. IsStock arenas s.pool s.pass s.segment) }
     ensures whole { IfOk result (λ s. IsWhole (F.holds files.old) name.now (bytes_in_pool s.pass s.segment)) }
-    ensures short { IfOk result (λ s. s.segment.size ≤ RECORD_FILE_LIMIT) }
+    ensures short { IfOk result (λ s. length (bytes_in_pool s.pass s.segment) ≤ RECORD_FILE_LIMIT) }
     ensures too_long { IsErrOf result LoadFault.TooLong → IsOver (F.holds files.old) name.now RECORD_FILE_LIMIT }
     ensures absent { IsErrOf result LoadFault.Missing → IsAbsent (F.holds files.old) name.now }
     ensures missing { IsErrOf result LoadFault.Missing → Rose (F.misses files.old) (F.misses files.new) }
@@ -75,7 +75,7 @@ fn load_list<R: Wait, F: Files>(
     requires few { arenas ≤ 2 }
     ensures stock { IfOk result (λ s. IsStock arenas s.pool s.pass s.segment) }
     ensures whole { IfOk result (λ s. IsWhole (F.holds files.old) name.now (bytes_in_pool s.pass s.segment)) }
-    ensures short { IfOk result (λ s. s.segment.size ≤ RECORD_FILE_LIMIT) }
+    ensures short { IfOk result (λ s. length (bytes_in_pool s.pass s.segment) ≤ RECORD_FILE_LIMIT) }
     ensures too_long { IsErrOf result LoadFault.TooLong → IsOver (F.holds files.old) name.now RECORD_FILE_LIMIT }
     ensures absent { IsErrOf result LoadFault.Missing → IsAbsent (F.holds files.old) name.now }
     ensures missing { IsErrOf result LoadFault.Missing → Rose (F.misses files.old) (F.misses files.new) }
@@ -88,27 +88,10 @@ fn load_list<R: Wait, F: Files>(
     ensures faults_stay { F.faults files.old ≤ F.faults files.new }
     ensures misses_stay { F.misses files.old ≤ F.misses files.new }
 {
-    match read_whole(alloc, files, name, RECORD_FILE_LIMIT) {
-        Ok(bytes) => stock_list(rt, alloc, bytes, arenas),
-        Err(fault) => Err(fault),
-    }
-}
-
-/// The list of bytes in a pool.
-fn stock_list<R: Wait>(
-    rt: &R,
-    alloc: Global,
-    bytes: Vec<u8>,
-    arenas: u32,
-) -> Result<Stock, LoadFault>
-    requires short { length bytes.items ≤ RECORD_FILE_LIMIT }
-    requires some { 0 < arenas }
-    requires few { arenas ≤ 2 }
-    ensures stock { IfOk result (λ s. IsStock arenas s.pool s.pass s.segment) }
-    ensures bytes { IfOk result (λ s. bytes_in_pool s.pass s.segment ≡ bytes.items) }
-    ensures short { IfOk result (λ s. s.segment.size ≤ RECORD_FILE_LIMIT) }
-    ensures wants { IfErr result (λ fault. fault ≡ LoadFault.Memory) }
-{
+    let bytes = match read_whole(alloc, files, name, RECORD_FILE_LIMIT) {
+        Ok(bytes) => bytes,
+        Err(fault) => return Err(fault),
+    };
     match stock_of_bytes(rt, alloc, bytes, arenas) {
         Ok(stock) => Ok(stock),
         Err(_) => Err(LoadFault::Memory),
@@ -129,7 +112,7 @@ fn load_guessed<R: Wait, F: Files>(
     requires few { arenas ≤ 2 }
     ensures stock { IfOk result (λ s. IsStock arenas s.pool s.pass s.segment) }
     ensures whole { IfOk result (λ s. IsWhole (F.holds files.old) name.now (bytes_in_pool s.pass s.segment)) }
-    ensures short { IfOk result (λ s. s.segment.size ≤ RECORD_FILE_LIMIT) }
+    ensures short { IfOk result (λ s. length (bytes_in_pool s.pass s.segment) ≤ RECORD_FILE_LIMIT) }
     ensures too_long { IsErrOf result LoadFault.TooLong → IsOver (F.holds files.old) name.now RECORD_FILE_LIMIT }
     ensures absent { IsErrOf result LoadFault.Missing → IsAbsent (F.holds files.old) name.now }
     ensures missing { IsErrOf result LoadFault.Missing → Rose (F.misses files.old) (F.misses files.new) }
@@ -148,21 +131,69 @@ fn load_guessed<R: Wait, F: Files>(
     let Ok((pool, pass, arena)) = made(rt, alloc, size, arenas) else {
         return Err(LoadFault::Memory);
     };
-    match read_in(rt, files, name, &mut buffer, &pool, pass, arena, size) {
-        Ok((pass, Reached::End(count))) => Ok(Stock {
+    load_into_room(
+        rt,
+        alloc,
+        files,
+        name,
+        &mut buffer,
+        pool,
+        pass,
+        arena,
+        size,
+        arenas,
+    )
+}
+
+/// Reads the file into the arena, which has room for so many bytes, or into another pool.
+fn load_into_room<R: Wait, F: Files>(
+    rt: &R,
+    alloc: Global,
+    files: &mut F,
+    name: &str,
+    buffer: &mut [u8],
+    pool: Pool,
+    pass: Pass,
+    arena: ArenaId,
+    room: u64,
+    arenas: u32,
+) -> Result<Stock, LoadFault>
+    requires buffer { length buffer.old ≡ CHUNK }
+    requires room { HasRoomIn room pool pass arena }
+    requires made { IsMadeFor arenas pool.shape }
+    requires some { 0 < arenas }
+    requires few { arenas ≤ 2 }
+    ensures stock { IfOk result (λ s. IsStock arenas s.pool s.pass s.segment) }
+    ensures whole { IfOk result (λ s. IsWhole (F.holds files.old) name.now (bytes_in_pool s.pass s.segment)) }
+    ensures short { IfOk result (λ s. length (bytes_in_pool s.pass s.segment) ≤ RECORD_FILE_LIMIT) }
+    ensures too_long { IsErrOf result LoadFault.TooLong → IsOver (F.holds files.old) name.now RECORD_FILE_LIMIT }
+    ensures absent { IsErrOf result LoadFault.Missing → IsAbsent (F.holds files.old) name.now }
+    ensures missing { IsErrOf result LoadFault.Missing → Rose (F.misses files.old) (F.misses files.new) }
+    ensures failed { IsErrOf result LoadFault.Failed → Rose (F.faults files.old) (F.faults files.new) }
+    ensures reads { ReadsSome (F.reads files.old) (F.reads files.new) name.now RECORD_FILE_LIMIT }
+    ensures never { result ≢ Err LoadFault.PoolFull }
+    ensures quiet { result ≢ Err LoadFault.Failed → F.faults files.new ≡ F.faults files.old }
+    ensures found { result ≢ Err LoadFault.Missing → F.misses files.new ≡ F.misses files.old }
+    ensures held { F.holds files.new ≡ F.holds files.old }
+    ensures faults_stay { F.faults files.old ≤ F.faults files.new }
+    ensures misses_stay { F.misses files.old ≤ F.misses files.new }
+{
+    let (pass, reached) = match read_in(rt, files, name, buffer, &pool, pass, arena, room) {
+        Ok(read) => read,
+        Err(fault) => return Err(fault),
+    };
+    match reached {
+        Reached::End(count) => Ok(Stock {
             pool,
             pass,
             segment: Segment::of(arena, 0, count),
         }),
-        Ok((pass, Reached::Full(count, chunk))) => {
-            match taken_out(alloc, pool, pass, arena, count) {
-                Ok(bytes) => {
-                    load_longer(rt, alloc, files, name, &mut buffer, chunk, bytes, arenas)
-                }
-                Err(_) => Err(LoadFault::Memory),
-            }
+        Reached::Full(count, chunk) => {
+            let Ok(bytes) = taken_out(alloc, pool, pass, arena, count) else {
+                return Err(LoadFault::Memory);
+            };
+            load_longer(rt, alloc, files, name, buffer, chunk, bytes, arenas)
         }
-        Err(fault) => Err(fault),
     }
 }
 
@@ -267,7 +298,7 @@ fn load_longer<R: Wait, F: Files>(
     requires few { arenas ≤ 2 }
     ensures stock { IfOk result (λ s. IsStock arenas s.pool s.pass s.segment) }
     ensures whole { IfOk result (λ s. IsWhole (F.holds files.old) name.now (bytes_in_pool s.pass s.segment)) }
-    ensures short { IfOk result (λ s. s.segment.size ≤ RECORD_FILE_LIMIT) }
+    ensures short { IfOk result (λ s. length (bytes_in_pool s.pass s.segment) ≤ RECORD_FILE_LIMIT) }
     ensures too_long { IsErrOf result LoadFault.TooLong → IsOver (F.holds files.old) name.now RECORD_FILE_LIMIT }
     ensures absent { IsErrOf result LoadFault.Missing → IsAbsent (F.holds files.old) name.now }
     ensures missing { IsErrOf result LoadFault.Missing → Rose (F.misses files.old) (F.misses files.new) }
@@ -282,7 +313,11 @@ fn load_longer<R: Wait, F: Files>(
     ensures misses_stay { F.misses files.old ≤ F.misses files.new }
 {
     match read_behind(files, name, buffer, chunk, &mut bytes) {
-        Ok(()) => stock_list(rt, alloc, bytes, arenas),
-        Err(fault) => Err(fault),
+        Ok(()) => {}
+        Err(fault) => return Err(fault),
+    }
+    match stock_of_bytes(rt, alloc, bytes, arenas) {
+        Ok(stock) => Ok(stock),
+        Err(_) => Err(LoadFault::Memory),
     }
 }
