@@ -55,4 +55,11 @@ pub trait Files {
         ensures found { result ≢ Ok Piece.Missing → misses self.new ≡ misses self.old }
         ensures faults_stay { faults self.old ≤ faults self.new }
         ensures misses_stay { misses self.old ≤ misses self.new };
+
+    /// Guesses how many bytes the file `name` has, for a caller that makes room before it reads; None where that can't be said.
+    ///
+    /// It is no read, and tells nothing: when the file is read it may have fewer bytes or more, or not be there.
+    fn guess(&self, _name: &str) -> Option<u64> {
+        None
+    }
 }

@@ -129,4 +129,8 @@ impl<S: System> Files for HostFiles<S> {
             piece => piece,
         }
     }
+
+    fn guess(&self, name: &str) -> Option<u64> {
+        self.system.guess(name)
+    }
 }

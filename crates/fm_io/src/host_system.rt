@@ -51,4 +51,12 @@ impl<R: rt::Files> System for HostSystem<R> {
         }
         read_uninterrupted(file, buf)
     }
+
+    /// What the system tells of a file's size; of what is no file, as a pipe or a folder, it tells none.
+    fn guess(&self, name: &str) -> Option<u64> {
+        match self.rt.metadata(name) {
+            Ok(found) if found.is_file() => Some(found.len()),
+            _ => None,
+        }
+    }
 }

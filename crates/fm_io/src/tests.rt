@@ -256,6 +256,23 @@ fn a_file_that_is_replaced_is_read_on(rt: HostRuntime) -> Result<(), Fail> {
 }
 
 #[test]
+fn the_host_guesses_sizes_of_files_alone(rt: HostRuntime) -> Result<(), Fail> {
+    let path = own_path(&rt, "guessed")?;
+    let path = path.as_str();
+    let files = HostFiles::new(rt.alloc(), HostSystem::new(&rt));
+    assert_eq!(rt; files.guess(path), None);
+    assert!(rt; put_file(&rt, path, TEXT)?);
+    assert_eq!(rt; files.guess(path), Some(7));
+    fs::remove_file(&rt, path)?;
+    for other in ["/dev/null", "/tmp", ""] {
+        assert_eq!(rt; files.guess(other), None, "{other}");
+    }
+    let sure = SureFiles::new(one_file(rt.alloc())?);
+    assert_eq!(rt; sure.guess("f"), None);
+    Ok(())
+}
+
+#[test]
 fn a_host_sink_that_takes_nothing_fails(rt: HostRuntime) -> Result<(), Fail> {
     let mut full = HostSink::new(File::create(&rt, "/dev/full")?);
     assert_eq!(rt; full.write(TEXT), Err(Fault::Failed));
