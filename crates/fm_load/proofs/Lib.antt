@@ -3,3 +3,4 @@ pub mod Filling
 pub mod Following
 pub mod GivenBytes
 pub mod Holding
+pub mod Placing

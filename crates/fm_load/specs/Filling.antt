@@ -1,11 +1,12 @@
 -- What a load does in its arena: runs of bytes, each given by the arena behind those before, and then put.
-use Rattle.std.specs.Prelude.{◌≡◌, ℕ, List, [], ◌++◌, length, Result, Ok, Err}
+use Rattle.std.specs.Prelude.{◌≡◌, ℕ, ◌+◌, ◌≤◌, List, [], ◌++◌, length, Result, Ok, Err}
 use Rattle.fm_base.specs.declared.caller.Caller.{Caller}
 use Rattle.fm_base.specs.declared.arena_id.ArenaId.{ArenaId}
 use Rattle.fm_base.specs.declared.refusal.Refusal.{Refusal}
 use Rattle.fm_base.specs.Calls.{Entry}
 use Rattle.fm_base.specs.Does.{DoesAllocate}
 use Rattle.fm_base.specs.View.{View, Did, but_loans}
+use Rattle.fm_bytes.specs.Bytes.{AreBytes}
 use Rattle.fm_access.specs.Runs.{DoesPutAll}
 use Rattle.fm_segment.specs.Region.{Region}
 use Rattle.fm_load.specs.Held.{loaded_in}
@@ -42,3 +43,9 @@ LoadsAll old new a t = Did old new (Fills old.caller a [] (loaded_in new t))
 -- the same with some bytes
 abbrev pub LoadsSome : View → View → ArenaId → Type 0
 LoadsSome old new a = Did old new (λ own. (bytes : List ℕ) × Fills old.caller a [] bytes own)
+
+-- runs of bytes were put, each within so many of the arena's first ones
+pub data Puts (c : Caller) (a : ArenaId) (room : ℕ) : List Entry → Type 0 where
+  no_run : Puts c a room []
+  run : (place : ℕ) (bytes : List ℕ) (before own : List Entry) → Puts c a room before → AreBytes bytes → place + length bytes ≤ room
+      → DoesPutAll c a place bytes (Ok tt) own → Puts c a room (before ++ own)

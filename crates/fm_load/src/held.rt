@@ -1,6 +1,7 @@
 ghost use Rattle.std.specs.Prelude.{◌≡◌, ◌+◌, ◌%◌, ◌≤◌, [], ◌++◌, length, Ok, IfOk, IfErr, OnOk, OnErr};
 ghost use Rattle.fm_access.specs.Alone.{bytes_of_arena, with_bytes};
 ghost use Rattle.fm_access.specs.Runs.{DoesPutAll};
+ghost use Rattle.fm_bytes.specs.Bytes.{AreBytes};
 ghost use Rattle.fm_base.specs.Does.{DidAllocate};
 ghost use Rattle.fm_base.specs.Learnt.{CanOpen};
 ghost use Rattle.fm_base.specs.Machine.{rounded_up};
@@ -60,6 +61,7 @@ pub fn put_held<R: Wait, M: Memory>(rt: &R, m: &mut M, arena: ArenaId, place: u6
     requires given { place + length bytes.now ≤ given_in (M.view m.old) arena }
     requires room { place + length bytes.now ≤ (M.view m.old).limit }
     ensures did { Did (M.view m.old) (M.view m.new) (DoesPutAll (M.view m.old).caller arena place bytes.now (Ok tt)) }
+    ensures are { AreBytes bytes.now }
     ensures held { IsHeld (M.view m.new) arena }
     ensures given { given_in (M.view m.new) arena ≡ given_in (M.view m.old) arena }
     ensures bytes { bytes_of_arena (M.view m.new).state arena

@@ -7,10 +7,14 @@ mod held;
 mod load_fault;
 mod loaded;
 mod loading;
+mod reaching;
 mod whole_file;
 
+pub use buffers::zero_bytes;
+pub use chunk::{CHUNK, Chunk};
 pub use held::{RECORD_FILE_LIMIT, allocate_held, open_held, put_held};
 pub use load_fault::LoadFault;
 pub use loaded::{Loaded, load};
 pub use loading::load_into;
-pub use whole_file::{LAYOUT_FILE_LIMIT, read_whole};
+pub use reaching::{Reached, load_within};
+pub use whole_file::{LAYOUT_FILE_LIMIT, read_behind, read_whole};

@@ -1,3 +1,5 @@
+use Rattle.std.proofs.Common.{◌<◌, arith}
+use Rattle.std.proofs.lemmas.List.Elements.{All-from_get_or}
 use Rattle.fm_load.proofs.Holding.{put_only, put_still}
 use Rattle.fm_load.proofs.held.put_held.Goals as goal
 
@@ -19,3 +21,6 @@ pub returns-clause-elsewhere : goal.returns-clause-elsewhere
 returns-clause-elsewhere g c =
     let v = g.M.Memory.view in
     put_only (v c.args.m.now) (v c.put_bytes.new.m) c.args.arena c.args.place c.args.bytes.now (c.in-Ok.ensures.alone c.requires.held.by_itself)
+
+pub returns-clause-are : goal.returns-clause-are
+returns-clause-are g c = All-from_get_or (λ b. b < 256) c.args.bytes.now 0 (λ i below. omega (arith, c.type_inv.bytes i))
