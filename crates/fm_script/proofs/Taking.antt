@@ -72,20 +72,6 @@ none_taken all ls names number text left Memory are lines knows h = record {
 }
 none_taken all ls names number text left r are lines knows h = absurd h
 
--- It could be taken, but not put behind the others.
-pub not_pushed : (all : List Source) (ls : List Line) (names after : Names) (number : ℕ) (text : List ℕ) (left : List Source) (l : Line)
-    → all ≡ map source_of ls ++ source number text ∷ left → AreLines (map source_of ls) ls → Knows names ls → IsTaken number text names after l
-    → WantsAt all
-not_pushed all ls names after number text left l are lines knows h = record {
-  before = ls;
-  line = l;
-  rest = left;
-  lines = lines;
-  are = are ∙ ap (λ (s : Source). map source_of ls ++ s ∷ left) (sym h.source);
-  said = h.said;
-  admitted = h.admitted ls knows;
-}
-
 -- ---- the passes
 
 -- a line more needs the passes up to its own

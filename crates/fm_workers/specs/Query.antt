@@ -67,7 +67,7 @@ pub record AsksRun (p : Plan) (s : Region) (es : List Entry) (result : Result (L
 abbrev pub HasAnswered : Plan → Region → List Entry → Caller → Type 0
 HasAnswered p s es c = (a : List Found) × AsksRun p s es (Ok a) c
 
--- the first of the crew that wasn't answered: those who were drawn before it were, each over a run before its own
+-- the first of the crew, in the order of the draws, that wasn't answered over its run of the records: those before it were
 pub record IsFirstRefused (p : Plan) (s : Region) (crew : List Caller) (more : List Entry) (r : Refusal) (c : Caller) : Type 0 where
   pub before : List Caller
   pub after : List Caller

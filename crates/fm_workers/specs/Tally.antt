@@ -106,7 +106,7 @@ pub record CountsRun (p : Plan) (s counts : Region) (es : List Entry) (result : 
 abbrev pub HasCounted : Plan → Region → Region → List Entry → Caller → Type 0
 HasCounted p s counts es c = (ns : List ℕ) × CountsRun p s counts es (Ok ns) c
 
--- the first of the crew that didn't count all of its run: those who were drawn before it did, each over a run before its own
+-- the first of the crew, in the order of the draws, that didn't count all of its run: those before it did
 pub record IsFirstUncounted (p : Plan) (s counts : Region) (crew : List Caller) (more : List Entry) (r : Refusal) (c : Caller) : Type 0 where
   pub before : List Caller
   pub after : List Caller
