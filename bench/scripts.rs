@@ -1,7 +1,8 @@
 //! Scripts for `fmem run`.
 //!
 //! `scripts random SEED WORKERS LINES` writes a script of random calls by so many workers, each with so many lines, which
-//! keeps all rules on names. `scripts long LINES` writes one worker's lines, each behind the one before; `scripts adds
+//! keeps all rules on names; `scripts scarce SEED WORKERS LINES` the same over a pool with fewer pages than its arenas
+//! may have together. `scripts long LINES` writes one worker's lines, each behind the one before; `scripts adds
 //! WORKERS LINES` lines of workers that all add to one long.
 use std::env::args;
 use std::process::exit;
@@ -133,6 +134,13 @@ impl Script {
         }
     }
 
+    /// Random lines over a pool of this shape.
+    fn over(&mut self, shape: &str, seed: usize, workers: usize, lines: usize) {
+        self.numbers = Numbers(seed as u64);
+        self.lines.push(format!("pool {shape}"));
+        self.random(workers, lines);
+    }
+
     fn random(&mut self, workers: usize, lines: usize) {
         let mut main = Scope::default();
         for _ in 0..4 {
@@ -159,10 +167,12 @@ fn main() {
     let mut script = Script { numbers: Numbers(1), names: 0, lines: Vec::new() };
     match (words.first().map(String::as_str), numbers.as_deref()) {
         (Some("random"), Some([seed, workers, lines])) => {
-            script.numbers = Numbers(*seed as u64);
             let slots = 4 + seed % 8;
-            script.lines.push(format!("pool {slots} 1 512 {} {slots}", 1 + seed % 5));
-            script.random(*workers, *lines);
+            script.over(&format!("{slots} 1 512 {} {slots}", 1 + seed % 5), *seed, *workers, *lines);
+        }
+        (Some("scarce"), Some([seed, workers, lines])) => {
+            let shape = format!("{} 4 32 {} {}", 4 + seed % 8, 1 + seed % 5, 4 + seed % 5);
+            script.over(&shape, *seed, *workers, *lines);
         }
         (Some("long"), Some([lines])) => {
             script.lines = ["pool 1 1 4096 1 1", "first open a shared", "first alloc a n 16384 8"].map(String::from).into();

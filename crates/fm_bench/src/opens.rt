@@ -1,3 +1,4 @@
+ghost use Rattle.std.specs.Prelude.{IfOk};
 ghost use Rattle.fm_bench.specs.Ready.{IsFree, IsOpen};
 
 use crate::gates::{given, spread};
@@ -6,6 +7,7 @@ use fm_base::{ArenaId, Refusal};
 use fm_close::close;
 use fm_gate::allocate;
 use fm_rule::{Pass, Pool};
+use fm_words::Shape;
 use std::alloc::Global;
 use std::sync::Wait;
 
@@ -34,6 +36,28 @@ pub fn grows<R: Wait>(rt: &R, alloc: Global, count: u64) -> Result<u64, Refusal>
 pub fn empties<R: Wait>(rt: &R, alloc: Global, count: u64) -> Result<u64, Refusal> {
     let (pool, pass) = spread(alloc, 65_536)?;
     turns(rt, pool, pass, 0, count)
+}
+
+/// The same of an arena of 64 bytes, which takes the last page of 4,096: another arena has the others.
+pub fn lasts<R: Wait>(rt: &R, alloc: Global, count: u64) -> Result<u64, Refusal> {
+    let (pool, mut pass) = many_paged(alloc)?;
+    given(rt, &pool, &mut pass, 4_095 * 64)?;
+    turns(rt, pool, pass, 64, count)
+}
+
+/// A pool of two slots and 4,096 pages of 64 bytes, all but one of which an arena can have.
+fn many_paged(alloc: Global) -> Result<(Pool, Pass), Refusal>
+    ensures free { IfOk result (λ r. IsFree r.0 r.1) }
+{
+    let shape = Shape {
+        passes: 16,
+        slots: 2,
+        pages: 4_096,
+        page_words: 8,
+        reach: 4_095,
+        generations: 4_294_967_295,
+    };
+    Pool::make(alloc, shape)
 }
 
 /// The calls alone. The pool and the pass are moved here, so that the compiler knows that nothing else has a name for
