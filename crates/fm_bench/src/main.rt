@@ -2,7 +2,7 @@
 //! COUNT` of one whose words lie in 64 pages, `nexts COUNT` of that one's words in turn, and `hops COUNT` of 64 of its
 //! arenas, `closes POOLS` of the arenas of so many pools, `opens COUNT` of 64 bytes in one slot again and again, `wipes
 //! COUNT` of 8 MiB there, `grows COUNT` of 1 MiB in 64 pages, `empties COUNT` of up to 32 MiB of which nothing is given,
-//! `lasts COUNT` of 64 bytes in the last page of 4,096,
+//! `firsts COUNT` and `lasts COUNT` of 64 bytes in the first and in the last page of 4,096,
 //! `gives COUNT` of 8 bytes at a time, `loads COUNT` from a plain vector,
 //! `adds COUNT`, `swaps COUNT` and `patches COUNT` of a word in one visit, `draws COUNT` of a pass that is gathered each time,
 //! `beside COUNT THREADS` and `apart COUNT THREADS` of visits by threads whose marks lie side by side and 8 apart,
@@ -35,7 +35,7 @@ use crate::cells::{gets, handles, known};
 use crate::crews::{crowd, draws};
 use crate::gates::{closes, gates, hops, nexts, spreads};
 use crate::loads::loads;
-use crate::opens::{empties, gives, grows, lasts, opens, wipes};
+use crate::opens::{empties, firsts, gives, grows, lasts, opens, wipes};
 use crate::ranges::{copies, fills, mismatches};
 use crate::recruits::recruits;
 use crate::reuse::{Count, reuse};
@@ -127,6 +127,7 @@ fn run<R: Threads + Wait + Sync>(
         "wipes" => wipes(rt, alloc, count).ok(),
         "grows" => grows(rt, alloc, count).ok(),
         "empties" => empties(rt, alloc, count).ok(),
+        "firsts" => firsts(rt, alloc, count).ok(),
         "lasts" => lasts(rt, alloc, count).ok(),
         "gives" => gives(rt, alloc, count).ok(),
         "loads" => loads(alloc, count).ok(),

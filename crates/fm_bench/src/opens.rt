@@ -38,23 +38,31 @@ pub fn empties<R: Wait>(rt: &R, alloc: Global, count: u64) -> Result<u64, Refusa
     turns(rt, pool, pass, 0, count)
 }
 
-/// The same of an arena of 64 bytes, which takes the last page of 4,096: another arena has the others.
-pub fn lasts<R: Wait>(rt: &R, alloc: Global, count: u64) -> Result<u64, Refusal> {
-    let (pool, mut pass) = many_paged(alloc)?;
-    given(rt, &pool, &mut pass, 4_095 * 64)?;
+/// The same of an arena of 64 bytes in a pool of 4,096 pages, which takes the first one.
+pub fn firsts<R: Wait>(rt: &R, alloc: Global, count: u64) -> Result<u64, Refusal> {
+    let (pool, pass) = many_paged(alloc)?;
     turns(rt, pool, pass, 64, count)
 }
 
-/// A pool of two slots and 4,096 pages of 64 bytes, all but one of which an arena can have.
+/// The same where other arenas have all other pages, so that it takes the last one.
+pub fn lasts<R: Wait>(rt: &R, alloc: Global, count: u64) -> Result<u64, Refusal> {
+    let (pool, mut pass) = many_paged(alloc)?;
+    for _ in 1..64 {
+        given(rt, &pool, &mut pass, 65 * 64)?;
+    }
+    turns(rt, pool, pass, 64, count)
+}
+
+/// A pool of 64 slots and 4,096 pages of 64 bytes, of which an arena has 65 at most: 63 arenas leave one page.
 fn many_paged(alloc: Global) -> Result<(Pool, Pass), Refusal>
     ensures free { IfOk result (λ r. IsFree r.0 r.1) }
 {
     let shape = Shape {
         passes: 16,
-        slots: 2,
+        slots: 64,
         pages: 4_096,
         page_words: 8,
-        reach: 4_095,
+        reach: 65,
         generations: 4_294_967_295,
     };
     Pool::make(alloc, shape)
