@@ -14,7 +14,7 @@ use Rattle.fm_bytes.proofs.Words.{length-bytes_in}
 use Rattle.fm_access.specs.Alone.{bytes_of_arena, with_bytes}
 use Rattle.fm_access.specs.Runs.{DoesPutAll}
 use Rattle.fm_access.proofs.Splicing.{keeps_count}
-use Rattle.fm_access_laws.proofs.Staying.{tidy_alone}
+use Rattle.fm_access_laws.proofs.Staying.{StayBelow, tidy_alone}
 use Rattle.fm_arena.proofs.Lasting.{keeps as pool_keeps}
 use Rattle.fm_calls.specs.Told.{view_of_pass}
 use Rattle.fm_calls.proofs.Sweeps.{no_sweeps}
@@ -57,18 +57,25 @@ own_legal : (pool : Pool) (p q : View) (own : List Entry) → IsLone pool p → 
 own_legal pool p q own lone makes =
     subst (λ (es : List Entry). IsLegal (limit_of p.shape) (state_in p) es) (makes.alone (inr lone.whole)) makes.legal
 
+-- after entries that stay below what was given
+pub stay_lone : (pool : Pool) (p m q r : View) (a : ArenaId) (end : ℕ) (own : List Entry) → IsLone pool p → m ≡ p
+    → (makes : Makes (view_of_pass m) (view_of_pass q) own) → StayBelow a end own → end ≤ given_in (view_of_pass p) a
+    → r ≡ q → (IsOf pool q → IsOutside pool r) → IsSound r → IsLone pool r
+stay_lone pool p m q r a end own lone at made stays given is outside sound =
+    let lone_m : IsLone pool m = subst (λ (v : View). IsLone pool v) (sym at) lone in
+    let makes : Makes (view_of_pass m) (view_of_pass r) own = subst (λ (v : View). Makes (view_of_pass m) (view_of_pass v) own) (sym is) made in
+    let room : end ≤ given_in (view_of_pass m) a = subst (λ (v : View). end ≤ given_in (view_of_pass v) a) (sym at) given in
+    lone_on pool m r own lone_m makes
+    (tidy_alone (limit_of m.shape) end a (state_in m) own (own_legal pool m q own lone_m made) room stays)
+    (outside (still_of pool m q own made lone_m.outside.of)) sound
+
 -- after bytes were put that were given
 pub put_lone : (pool : Pool) (p m q r : View) (a : ArenaId) (bytes : List ℕ) → IsLone pool p → m ≡ p
     → Did (view_of_pass m) (view_of_pass q) (DoesPutAll m.caller a 0 bytes (Ok tt)) → AreBytes bytes → length bytes ≤ given_in (view_of_pass p) a
     → r ≡ q → (IsOf pool q → IsOutside pool r) → IsSound r → IsLone pool r
 put_lone pool p m q r a bytes lone at did are given is outside sound =
-    let lone_m : IsLone pool m = subst (λ (v : View). IsLone pool v) (sym at) lone in
-    let makes : Makes (view_of_pass m) (view_of_pass r) did.own = subst (λ (v : View). Makes (view_of_pass m) (view_of_pass v) did.own) (sym is) did.makes in
-    let room : length bytes ≤ given_in (view_of_pass m) a = subst (λ (v : View). length bytes ≤ given_in (view_of_pass v) a) (sym at) given in
-    let stays = put_all_stays m.caller a (length bytes) 0 bytes (Ok tt) did.own are (omega arith) did.does in
-    lone_on pool m r did.own lone_m makes
-    (tidy_alone (limit_of m.shape) (length bytes) a (state_in m) did.own (own_legal pool m q did.own lone_m did.makes) room stays)
-    (outside (still_of pool m q did.own did.makes lone_m.outside.of)) sound
+    stay_lone pool p m q r a (length bytes) did.own lone at did.makes
+    (put_all_stays m.caller a (length bytes) 0 bytes (Ok tt) did.own are (omega arith) did.does) given is outside sound
 
 -- ---- what stands in the arena
 

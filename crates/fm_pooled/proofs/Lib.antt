@@ -2,6 +2,7 @@ pub mod Allocating
 pub mod Crews
 pub mod Filling
 pub mod Lent
+pub mod Filed
 pub mod Opening
 pub mod Shapes
 pub mod Shows

@@ -1,5 +1,5 @@
 -- Counts beside records in a pool: room for them, and what a crew counts.
-use Rattle.std.proofs.Common.{◌≡◌, ℕ, ◌+◌, ◌*◌, ◌%◌, ◌<◌, ◌≤◌, List, [], ◌∷◌, map, Result, Ok, Err, IfErr, refl, ap, sym, ◌∙◌, subst, inl, inr, ⊎_elim, arith}
+use Rattle.std.proofs.Common.{◌≡◌, ℕ, ◌+◌, ◌*◌, ◌%◌, ◌<◌, ◌≤◌, List, [], ◌∷◌, map, Result, Ok, Err, IfErr, refl, ap, sym, ◌∙◌, subst, inl, inr, arith}
 use Rattle.std.specs.Prelude.{◌⊎◌}
 use Rattle.std.specs.List.{AllByRecursion, range_with_len}
 use Rattle.std.proofs.lemmas.Nat.{mul-le}
@@ -35,28 +35,28 @@ use Rattle.fm_workers.specs.Crew.{callers}
 use Rattle.fm_workers.specs.Query.{NobodyElseWrites}
 use Rattle.fm_workers.specs.Tally.{CanTallyWith, OnlyAddsTo, no_more, closed, one_add, OnlyTallies, TalliedWith}
 use Rattle.fm_pooled.specs.Asking.{Asked, HasPasses}
-use Rattle.fm_pooled.specs.Stocked.{HasPagesFor, IsLone, IsOpened, IsStocked, KeepsArenas, bytes_in_pool}
+use Rattle.fm_pooled.specs.Stocked.{HasPagesFor, IsLone, IsOpened, IsStock, IsStocked, KeepsArenas, bytes_in_pool}
 use Rattle.fm_pooled.specs.Tallied.{CanOpenSecond, HasRoomForCounts, IsBeside}
 use Rattle.fm_pooled.proofs.Crews.{AllTouch, Touches, bytes_stay, crew_touches, not_stopped, only_reads_touch, records_spared, stays_alive, stocked_still}
 use Rattle.fm_pooled.proofs.Lent.{lent_to_one, parts_within}
-use Rattle.fm_pooled.proofs.Opening.{knows_none, pages_left}
+use Rattle.fm_pooled.proofs.Opening.{pages_left}
 use Rattle.fm_pooled.proofs.Shows.{asked, can_ask, is_whole, never_wanting, pooled_is}
 
 -- ---- room for counts
 
 -- the pass can open a second arena, where the first one is all that it knows
-pub can_second : {pool : Pool} {q : View} (p : View) (s : Region) → IsLone pool q → p.seen ≡ []
-    → ((b : ArenaId) → IsKnown q b → (b ≡ s.arena) ⊎ IsKnown p b) → pool.shape.slots ≡ 2 → pool.shape.pages + 1 ≡ pool.shape.reach + 2 → 256 ≤ pool.shape.page_words → CanOpenSecond pool q s.arena
-can_second {pool = pool} {q = q} p s lone none only slots pages wide =
-    let shape : q.shape ≡ pool.shape = lone.outside.of.1 in
+pub can_second : {pool : Pool} {q : View} (s : Region) → IsStock 2 pool q s → CanOpenSecond pool q s.arena
+can_second {pool = pool} {q = q} s h =
+    let shape : q.shape ≡ pool.shape = h.lone.outside.of.1 in
     let same_pages : q.shape.pages ≡ pool.shape.pages = ap (λ (z : Shape). z.pages) shape in
     let same_reach : q.shape.reach ≡ pool.shape.reach = ap (λ (z : Shape). z.reach) shape in
+    let pages = h.made.pages in
     record {
-      lone = lone;
-      only = λ b k. ⊎_elim (λ (e : b ≡ s.arena). e) (λ (was : IsKnown p b). absurd (knows_none p b none was)) (only b k);
-      slots = ap (λ (z : Shape). z.slots) shape ∙ slots;
+      lone = h.lone;
+      only = h.only;
+      slots = ap (λ (z : Shape). z.slots) shape ∙ h.made.slots;
       more = omega (arith, same_pages, same_reach, pages);
-      wide = subst (λ (z : Shape). 256 ≤ z.page_words) (sym shape) wide;
+      wide = subst (λ (z : Shape). 256 ≤ z.page_words) (sym shape) h.made.wide;
     }
 
 -- of two slots one is left, where only one arena was opened

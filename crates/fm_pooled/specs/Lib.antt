@@ -1,4 +1,5 @@
 pub mod Asking
+pub mod Counted
 pub mod Pooled
 pub mod Shown
 pub mod Stocked

@@ -1,5 +1,5 @@
 -- Where the first pass of a pool stands, before bytes are put into an arena of it, and then.
-use Rattle.std.specs.Prelude.{◌≡◌, ◌⊎◌, ℕ, ◌≤◌, true, List, []}
+use Rattle.std.specs.Prelude.{◌≡◌, ◌⊎◌, ℕ, ◌+◌, ◌≤◌, true, List, []}
 use Rattle.fm_base.specs.declared.arena_id.ArenaId.{ArenaId}
 use Rattle.fm_base.specs.declared.kind.Kind.TheVariants.{Shared}
 use Rattle.fm_base.specs.Arenas.{Alive, arena_of}
@@ -7,7 +7,8 @@ use Rattle.fm_base.specs.Histories.{IsTidy}
 use Rattle.fm_calls.specs.Told.{view_of_pass}
 use Rattle.fm_gate.specs.Learnt.{AllBusy}
 use Rattle.fm_gate.specs.Standing.{IsOutside}
-use Rattle.fm_load.specs.Held.{IsEmpty}
+use Rattle.fm_base.specs.View.{given_in}
+use Rattle.fm_load.specs.Held.{IsEmpty, IsHeld}
 use Rattle.fm_pool_facts.specs.Loans.{lent}
 use Rattle.fm_pool_facts.specs.Scarcity.{parts_before}
 use Rattle.fm_pool_facts.specs.Views.{View, IsKnown, IsSound, limit_of, state_in, unlent}
@@ -15,6 +16,7 @@ use Rattle.fm_records.specs.Alone.{bytes_at_places}
 use Rattle.fm_rule.specs.declared.pool.Pool.{Pool}
 use Rattle.fm_segment.specs.Access.{IsKnown as IsKnownTo}
 use Rattle.fm_segment.specs.Region.{Region, region_of}
+use Rattle.fm_words.specs.declared.shape.Shape.{Shape}
 
 -- how many passes a pool has
 abbrev pub pool_passes : ℕ
@@ -76,3 +78,26 @@ pub record IsStocked (pool : Pool) (p : View) (s : Region) : Type 0 where
   pub alive : (arena_of (state_in p) s.arena).life ≡ Alive
   pub shared : s.arena.kind ≡ Shared
   pub passes : p.shape.passes ≡ pool_passes
+
+-- the pool was made for so many arenas: it has a page for each part of one, and one for another
+pub record IsMadeFor (arenas : ℕ) (z : Shape) : Type 0 where
+  pub passes : z.passes ≡ pool_passes
+  pub slots : z.slots ≡ arenas
+  pub pages : z.pages + 1 ≡ z.reach + arenas
+  pub wide : 256 ≤ z.page_words
+
+-- the first pass, before another was drawn, knows just this shared arena, which is alive and has given so many bytes
+pub record HasRoomIn (room : ℕ) (pool : Pool) (p : View) (a : ArenaId) : Type 0 where
+  pub lone : IsLone pool p
+  pub held : IsHeld (view_of_pass p) a
+  pub given : given_in (view_of_pass p) a ≡ room
+  pub limit : room ≤ limit_of pool.shape
+  pub shared : a.kind ≡ Shared
+  pub only : (b : ArenaId) → IsKnown p b → b ≡ a
+
+-- bytes stand alone in a pool that was made for so many arenas
+pub record IsStock (arenas : ℕ) (pool : Pool) (p : View) (s : Region) : Type 0 where
+  pub stocked : IsStocked pool p s
+  pub lone : IsLone pool p
+  pub only : (b : ArenaId) → IsKnown p b → b ≡ s.arena
+  pub made : IsMadeFor arenas pool.shape

@@ -3,11 +3,13 @@
 
 mod asking;
 mod finishing;
+mod loading;
 mod pooled;
 mod shape;
+mod stock;
 mod stocking;
 mod tallying;
 mod wanting;
 
 pub use pooled::Pooled;
-pub use tallying::tally;
+pub use tallying::PooledWithCounts;

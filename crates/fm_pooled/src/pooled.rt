@@ -1,13 +1,17 @@
-ghost use Rattle.std.specs.Prelude.{◌≡◌, ◌%◌, ◌<◌, ◌≤◌, length, IfOk};
+ghost use Rattle.std.specs.Prelude.{◌≡◌, ◌≢◌, ◌%◌, ◌<◌, ◌≤◌, length, IfOk, IsErrOf, Err};
+ghost use Rattle.fm_io.specs.Count.{Rose};
+ghost use Rattle.fm_io.specs.Files.{IsAbsent};
+ghost use Rattle.fm_load.specs.Reading.{ReadsSome};
+ghost use Rattle.fm_load.specs.Whole.{IsOver, IsWhole};
 ghost use Rattle.fm_pooled.specs.Shown.{ShowsBoth, ShowsQuery};
 ghost use Rattle.fm_records.specs.Answers.{answer};
 
 use crate::asking::ask;
 use crate::finishing::finish;
-use crate::shape::shape_for;
-use crate::stocking::stock;
-use fm_io::Gate;
-use fm_load::RECORD_FILE_LIMIT;
+use crate::loading::load_stock;
+use crate::stock::{Stock, stock_of_bytes};
+use fm_io::{Files, Gate};
+use fm_load::{LoadFault, RECORD_FILE_LIMIT};
 use fm_query::Query;
 use fm_records::Answer;
 use fm_rule::{Finished, Pass, Pool};
@@ -43,16 +47,55 @@ impl Pooled {
         requires { length bytes.items ≤ RECORD_FILE_LIMIT }
         ensures { IfOk result (λ pooled. pooled ≡ bytes.items) }
     {
-        let shape = shape_for(bytes.len() as u64, 1);
-        let Ok((pool, pass)) = Pool::make(alloc, shape) else {
-            return Err(AllocError);
-        };
-        let (pass, segment) = stock(rt, &pool, pass, &bytes);
+        let Stock {
+            pool,
+            pass,
+            segment,
+        } = stock_of_bytes(rt, alloc, bytes, 1)?;
         Ok(Pooled {
             pool,
             pass,
             segment,
         })
+    }
+
+    /// Reads a whole record file into a pool. A guess of its size, in bytes, saves memory where it is right or too
+    /// large; what is read doesn't depend on it.
+    pub fn load<R: Wait, F: Files>(
+        rt: &R,
+        alloc: Global,
+        files: &mut F,
+        name: &str,
+        guess: Option<u64>,
+    ) -> Result<Pooled, LoadFault>
+        ensures whole { IfOk result (IsWhole (F.holds files.old) name.now) }
+        ensures short { IfOk result (λ pooled. length pooled ≤ RECORD_FILE_LIMIT) }
+        ensures too_long { IsErrOf result LoadFault.TooLong → IsOver (F.holds files.old) name.now RECORD_FILE_LIMIT }
+        ensures absent { IsErrOf result LoadFault.Missing → IsAbsent (F.holds files.old) name.now }
+        ensures missing { IsErrOf result LoadFault.Missing → Rose (F.misses files.old) (F.misses files.new) }
+        ensures failed { IsErrOf result LoadFault.Failed → Rose (F.faults files.old) (F.faults files.new) }
+        ensures reads { ReadsSome (F.reads files.old) (F.reads files.new) name.now RECORD_FILE_LIMIT }
+        ensures never { result ≢ Err LoadFault.PoolFull }
+        ensures quiet { result ≢ Err LoadFault.Failed → F.faults files.new ≡ F.faults files.old }
+        ensures found { result ≢ Err LoadFault.Missing → F.misses files.new ≡ F.misses files.old }
+        ensures held { F.holds files.new ≡ F.holds files.old }
+        ensures faults_stay { F.faults files.old ≤ F.faults files.new }
+        ensures misses_stay { F.misses files.old ≤ F.misses files.new }
+    {
+        match load_stock(rt, alloc, files, name, guess, 1) {
+            Ok(
+                Stock {
+                    pool,
+                    pass,
+                    segment,
+                },
+            ) => Ok(Pooled {
+                pool,
+                pass,
+                segment,
+            }),
+            Err(fault) => Err(fault),
+        }
     }
 
     /// How many bytes there are.

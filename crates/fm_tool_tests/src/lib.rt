@@ -1,4 +1,4 @@
-//! Tests of the tool over files and a sink: a module a command, and one each of failing reads and writes, of what it
+//! Tests of the tool over files and a sink: a module a command, and one each of failing reads and writes, of guesses at files, of what it
 //! keeps, of who passes its gate, and of sizes at which nothing may be wanting.
 #![tactic(auto)]
 
@@ -12,6 +12,8 @@ mod faults;
 mod files;
 #[cfg(test)]
 mod gates;
+#[cfg(test)]
+mod guesses;
 #[cfg(test)]
 mod keeping;
 #[cfg(test)]

@@ -84,12 +84,7 @@ pub both_ok : {T E : Type 0} (r : Result T E) (P Q R : T → Type 0) → ((x : T
 both_ok (Ok x) P Q R f p q = f x p q
 both_ok (Err e) P Q R f p q = tt
 
--- a length that was divided by the record's size
-pub divided : (size n m : ℕ) (bytes : List ℕ) → n ≡ length bytes → m ≡ size → n % m ≡ length bytes % size
-divided size n m bytes is_n is_m = ap (λ (x : ℕ). x % m) is_n ∙ ap (λ (x : ℕ). length bytes % x) is_m
-
-pub records-uneven : (size n m : ℕ) (file : List ℕ) (Answers : List ℕ → Outcome → Type 0) (bytes : List ℕ) (o : Outcome)
-    → length bytes ≤ record_file_limit → n % m ≡ length bytes % size → (n % m ≡ 0 → ⊥) → o ≡ ragged (n % m)
-    → RecordsEnd size file Answers (Some bytes) o
-records-uneven size n m file Answers bytes o short same rest is =
-    subst (λ (x : Outcome). RecordsEnd size file Answers (Some bytes) x) (sym (is ∙ ap ragged same)) (uneven bytes short (λ whole. rest (same ∙ whole)))
+pub records-rest : (size rest : ℕ) (file : List ℕ) (Answers : List ℕ → Outcome → Type 0) (bytes : List ℕ) (o : Outcome)
+    → length bytes ≤ record_file_limit → rest ≡ length bytes % size → (rest ≡ 0 → ⊥) → o ≡ ragged rest → RecordsEnd size file Answers (Some bytes) o
+records-rest size rest file Answers bytes o short same some is =
+    subst (λ (x : Outcome). RecordsEnd size file Answers (Some bytes) x) (sym (is ∙ ap ragged same)) (uneven bytes short (λ whole. some (same ∙ whole)))

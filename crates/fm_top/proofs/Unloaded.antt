@@ -6,12 +6,15 @@ use Rattle.fm_io.specs.Count.{Rose}
 use Rattle.fm_io.specs.Files.{Contents, IsAbsent}
 use Rattle.fm_top.specs.Ending.{shown, TellsMisses}
 use Rattle.fm_top.specs.Found.{OfFound}
-use Rattle.fm_top.specs.Outcome.{Outcome, missing, too_long}
+use Rattle.fm_query.specs.Plan.{Plan}
+use Rattle.fm_top.specs.Outcome.{Outcome, missing, too_long, no_file, too_many, uneven, even}
+use Rattle.fm_top.specs.Queries.{PlanEnds}
 use Rattle.fm_top.specs.Unloaded.{EndsUnloaded}
 use Rattle.fm_load.specs.Whole.{IsOver}
 use Rattle.fm_top.specs.declared.ending.Ending.{Ending}
 use Rattle.fm_load.specs.declared.load_fault.LoadFault.{LoadFault}
 use Rattle.fm_load.specs.declared.load_fault.LoadFault.TheVariants.{Missing, Failed, TooLong, Memory, PoolFull}
+use Rattle.fm_top.specs.declared.question.Question.{Question}
 use Rattle.fm_top.specs.declared.status.Status.TheVariants as status
 use Rattle.fm_top.specs.declared.stop.Stop.{Stop}
 use Rattle.fm_top.proofs.Outcomes.{long_found}
@@ -61,3 +64,22 @@ pub unloaded_tells : {X : Type 0} {r : Result X LoadFault} {fault : LoadFault} {
     → IfOk end (λ ending. EndsUnloaded fault name (shown ending)) → (fault ≡ Missing → IsOk end) → TellsMisses before now end
 unloaded_tells {X} {r} {fault} {before} {now} name end had rose same ends told =
     tells before now name fault end (λ is. rose (had ∙ ap Err is)) (λ other. same (λ is. other (cc))) ends told
+
+-- ---- a file that was loaded
+
+-- an end over bytes that were found has another status
+not_missing : (q : Question) (p : Plan) (file bytes : List ℕ) (found : Option (List ℕ)) (o : Outcome) → PlanEnds q p file found o → found ≡ Some bytes
+    → o.status ≡ status.Missing → ⊥
+not_missing q p file bytes found o no_file some is = absurd (cc)
+not_missing q p file bytes found o (too_many all long) some is = let same : status.TooLong ≡ status.Missing = is in absurd (cc)
+not_missing q p file bytes found o (uneven all short rest) some is = let same : status.Ragged ≡ status.Missing = is in absurd (cc)
+not_missing q p file bytes found o (even all x short whole answer) some is =
+    let same : status.Answered ≡ status.Missing = sym (ap (λ (y : Outcome). y.status) answer.outcome) ∙ is in absurd (cc)
+
+-- so it tells of no missing file
+pub found_tells : (before now : ℕ) (q : Question) (p : Plan) (file bytes : List ℕ) (ending : Ending) → now ≡ before
+    → PlanEnds q p file (Some bytes) (shown ending) → TellsMisses before now (Ok ending)
+found_tells before now q p file bytes ending same ends = record {
+  rose = λ is. absurd (not_missing q p file bytes (Some bytes) (shown ending) ends refl is);
+  well = λ other. same;
+}
