@@ -44,7 +44,7 @@ fn bytes(alloc: Global, count: usize) -> Result<Vec<u8>, AllocError> {
 }
 
 /// A layout of records of 8 bytes, and a record file `R` of so many bytes, whose size is guessed so.
-fn guessed(alloc: Global, count: usize, guess: Option<u64>) -> Result<Guessed, AllocError> {
+fn with_guess(alloc: Global, count: usize, guess: Option<u64>) -> Result<Guessed, AllocError> {
     let layout =
         "{\"type\":\"struct\",\"members\":[{\"type\":\"byte\",\"name\":\"a\"},{\"type\":\"padding\",\"size\":7}]}";
     let all = vec![in alloc;
@@ -57,7 +57,7 @@ fn guessed(alloc: Global, count: usize, guess: Option<u64>) -> Result<Guessed, A
     })
 }
 
-/// How many bytes the record file has, and what its query and its tally end with.
+/// How many bytes the record file has, and what a query of it ends with.
 const SIZES: &str = "\
 0 -> 0 count 0|sum(.a) 0|
 8 -> 0 count 1|sum(.a) 0|
@@ -94,7 +94,7 @@ fn an_answer_does_not_depend_on_the_guess(rt: HostRuntime) -> Result<(), Fail> {
         let (line, status, text) = parts_of(alloc, row)?;
         let count: u64 = line.parse().unwrap_or(0);
         for guess in guesses(alloc, count)? {
-            let mut files = guessed(alloc, count as usize, guess)?;
+            let mut files = with_guess(alloc, count as usize, guess)?;
             ends(
                 &rt,
                 &mut files,
@@ -103,6 +103,22 @@ fn an_answer_does_not_depend_on_the_guess(rt: HostRuntime) -> Result<(), Fail> {
                 &text,
             )?;
         }
+    }
+    Ok(())
+}
+
+#[test]
+fn a_tally_does_not_depend_on_the_guess(rt: HostRuntime) -> Result<(), Fail> {
+    let alloc = rt.alloc();
+    for guess in guesses(alloc, 16)? {
+        let mut files = with_guess(alloc, 16, guess)?;
+        ends(
+            &rt,
+            &mut files,
+            &["tally", "L", ".a", "R"],
+            0,
+            "0 1\n8 1\ntotal 2\n",
+        )?;
     }
     Ok(())
 }
