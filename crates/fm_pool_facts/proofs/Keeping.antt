@@ -11,7 +11,7 @@ use Rattle.fm_words.specs.declared.shape.Shape.{Shape}
 use Rattle.fm_base.specs.declared.caller.Caller.{Caller}
 use Rattle.fm_base.specs.Calls.{Entry}
 use Rattle.fm_base.specs.Histories.{made_by}
-use Rattle.fm_base.specs.Finds.{Gathered, Close}
+use Rattle.fm_base.specs.Finds.{Gathered, Close, Sweep}
 use Rattle.fm_depicts.specs.Functions.{Machine}
 use Rattle.fm_depicts.specs.Steps.{moved_by}
 use Rattle.fm_pool_facts.specs.Views.{Met, View, In, all_gathered, brought, limit_of}
@@ -99,7 +99,7 @@ module _ (limit : ℕ) (h : List Entry) (c : Caller) (t : Machine) (es : List En
   closing_on j o o' x k e z = record {
     owner = e ∙ k.owner;
     life = still_closing limit c x.arena es t ok k.life z;
-    visited = λ i l. none_come limit c i x.arena es t ok k.life z (k.visited i l);
+    passed = λ i l. none_come limit c i x.arena es t ok k.life z (k.passed i l);
   }
 
 -- a sweep goes on where nothing of its arena was changed
@@ -120,9 +120,9 @@ sweeping_on limit c m t es m' ok stands z j o o' x k e s = record {
 pub closing_as : {t : Machine} {o : Owners} {j : ℕ} {c : Close} {who : ℕ → Caller} {rank seat : Caller → ℕ} {number holder : ℕ → ℕ}
     {taker : ℕ → Option Caller} → IsClosing t o j c
     → IsClosing t (record o { who = who; rank = rank; seat = seat; number = number; holder = holder; taker = taker }) j c
-closing_as y = record { owner = y.owner; life = y.life; visited = y.visited }
+closing_as y = record { owner = y.owner; life = y.life; passed = y.passed }
 
-pub sweeping_as : {z : Shape} {m : Memory} {t : Machine} {o : Owners} {j : ℕ} {c : Close} {draw bits : ℕ} {numbers terms : ℕ → ℕ} {who : ℕ → Caller}
+pub sweeping_as : {z : Shape} {m : Memory} {t : Machine} {o : Owners} {j : ℕ} {c : Sweep} {draw bits : ℕ} {numbers terms : ℕ → ℕ} {who : ℕ → Caller}
     {rank seat : Caller → ℕ} {number holder : ℕ → ℕ} {taker : ℕ → Option Caller}
     → IsSweeping z m t o j c → IsSweeping z (record m { draw = draw; bits = bits; numbers = numbers; terms = terms }) t
     (record o { who = who; rank = rank; seat = seat; number = number; holder = holder; taker = taker }) j c
