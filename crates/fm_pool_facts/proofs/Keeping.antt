@@ -104,7 +104,7 @@ module _ (limit : ℕ) (h : List Entry) (c : Caller) (t : Machine) (es : List En
 
 -- a sweep goes on where nothing of its arena was changed
 pub sweeping_on : (limit : ℕ) (c : Caller) (m : Memory) (t : Machine) (es : List Entry) (m' : Memory) → MayMake limit t c es
-    → ((k : Caller) (a : ArenaId) → t.inside k ≡ Some a → IsStanding (t.life a)) → (z : Shape) (j : ℕ) (o o' : Owners) (x : Close)
+    → ((k : Caller) (a : ArenaId) → t.inside k ≡ Some a → IsStanding (t.life a)) → (z : Shape) (j : ℕ) (o o' : Owners) (x : Sweep)
     → IsSweeping z m t o j x → o'.closer x.arena ≡ o.closer x.arena → StaysEnded m m' x.arena → IsSweeping z m' (moved_by t es) o' j x
 sweeping_on limit c m t es m' ok stands z j o o' x k e s = record {
   owner = e ∙ k.owner;
@@ -214,8 +214,8 @@ module _ (z : Shape) (h : List Entry) (me : ℕ) (c : Caller) (m : Memory) (t : 
 
       maps_of : (a : ArenaId) (i : ℕ) → IsNext v.sweeps a i → m'.maps a.slot i ≡ m.maps a.slot i
       maps_of a i n =
-          let y = k.sweeps n.close n.there in
-          let w = d.sweepers n.close.arena y.life y.session (λ e. other (sym y.owner ∙ e)) in
+          let y = k.sweeps n.sweep n.there in
+          let w = d.sweepers n.sweep.arena y.life y.session (λ e. other (sym y.owner ∙ e)) in
           subst (λ (b : ArenaId). m'.maps b.slot i ≡ m.maps b.slot i) n.arena (w.1.maps i)
 
       go : (s : Swept) → HasSwept z m.maps m.cells o.berth j v.sweeps s → HasSwept z m'.maps m'.cells o'.berth j v.sweeps s
