@@ -9,8 +9,8 @@ use Rattle.fm_rule.proofs.Stepping.{return_page_stepped}
 use Rattle.fm_rule.proofs.Keeping.{return_page_keeps}
 use Rattle.fm_rule.proofs.sweeping.step_return_page.Goals as goal
 
-pub page_bits_place-place-requires : goal.page_bits_place-place-requires
-page_bits_place-place-requires c = page_group c.args.pool.now.shape c.args.page
+pub page_bits_place-place-requires-clause-place : goal.page_bits_place-place-requires-clause-place
+page_bits_place-place-requires-clause-place c = page_group c.args.pool.now.shape c.args.page
     (page_in_sweep _ c.pass.inside.seat.me.0 _ _ c.pass.view_is c.requires.of.1 c.pass.invariant.sound c.args.a c.args.index c.args.page _ c.requires.wiped)
 
 pub or_as-requires-clause-can : goal.or_as-requires-clause-can
