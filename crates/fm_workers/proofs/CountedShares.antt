@@ -27,10 +27,10 @@ counted_runs w s few from to more (c ∷ cs) (t ∷ ts) (u ∷ us) ns d h l e =
     let rest = counted_runs w s few h.0 to more cs ts us e.part.rest d.1 h.2 l.1 (subst (λ r. SumsTo us r) e.part.is_rest e.comes) in
     let later = runs_order w.plan s h.0 to ts h.2 in
     let mine = subst (λ r. DoesTallyPart c w.plan t.region w.counts r (made_by c more)) e.part.is_first d.0.did in
-    let share : Share = record { caller = c; region = t.region; found = mine.counted.found } in
+    let share : Share = record { caller = c; region = t.region; found = mine.counted.found; own = mine.reads } in
     let is_behind = behind_piece w.plan s t.region from h.0 to h.1.order later h.1.region in
     record {
-      shares = record { caller = c; region = t.region; found = mine.counted.found } ∷ rest.shares;
+      shares = record { caller = c; region = t.region; found = mine.counted.found; own = mine.reads } ∷ rest.shares;
       cut = (
         first_of_piece w.plan s from h.0 to share h.1.order later h.1.region,
         subst (λ (r : Region). AreCut w.plan r rest.shares) is_behind rest.cut,
@@ -39,7 +39,6 @@ counted_runs w s few from to more (c ∷ cs) (t ∷ ts) (u ∷ us) ns d h l e =
       callers = (inl refl, later_callers c cs rest.shares rest.callers);
       done = (
         record {
-          reads = mine.reads;
           adds = mine.adds;
           parts = mine.parts;
           does = mine.counted.did;

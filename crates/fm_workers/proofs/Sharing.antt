@@ -2,6 +2,7 @@
 use Rattle.std.proofs.Common.{◌≡◌, ℕ, ◌+◌, ◌-◌, ◌*◌, ◌/◌, ◌%◌, ◌≤◌, List, [], ◌∷◌, refl, sym, ap, ◌∙◌, subst, arith, inl, inr, Result, Ok}
 use Rattle.std.specs.List.{AllByRecursion}
 use Rattle.std.proofs.Math.Nat.{mul-le-mul_right, mul-mod_left}
+use Rattle.std.proofs.lemmas.List.{append-nil}
 use Rattle.std.proofs.lemmas.Nat.{div-add-mod'}
 use Rattle.fm_lists.specs.Among.{IsAmong}
 use Rattle.fm_base.specs.declared.caller.Caller.{Caller}
@@ -59,20 +60,27 @@ pub answered_runs : (p : Plan) (s : Region) (few from to : ℕ) (more : List Ent
 answered_runs p s few from to more [] [] [] a d h l e =
     let same : from * p.size ≡ to * p.size = ap (λ (n : ℕ). n * p.size) h in
     let ends = run_ends from to p.size (omega (arith, h)) in
-    record { shares = []; cut = omega (arith, same, ends); level = tt; callers = tt; done = tt; joined = e }
+    record { shares = []; cut = omega (arith, same, ends); level = tt; callers = tt; done = tt; alone = tt; joined = e }
 answered_runs p s few from to more (c ∷ cs) (t ∷ ts) (u ∷ us) a d h l e =
     let rest = answered_runs p s few h.0 to more cs ts us e.1 d.1 h.2 l.1 e.3 in
     let later = runs_order p s h.0 to ts h.2 in
     let ur : u.region ≡ part_of (from * p.size) ((h.0 - from) * p.size) s = d.0.same ∙ h.1.region in
-    let share : Share = record { caller = c; region = u.region; found = e.0 } in
+    let share : Share = record { caller = c; region = u.region; found = e.0; own = made_by c more } in
     let is_behind = behind_piece p s u.region from h.0 to h.1.order later ur in
     let did = subst (λ (x : Result (List Found) Refusal). DoesQuery c p t.region x (made_by c more)) e.2 d.0.did in
     record {
-      shares = record { caller = c; region = u.region; found = e.0 } ∷ rest.shares;
+      shares = share ∷ rest.shares;
       cut = (first_of_piece p s from h.0 to share h.1.order later ur, subst (λ (r : Region). AreCut p r rest.shares) is_behind rest.cut);
       level = (subst (λ (r : Region). IsLevel p few r) (sym d.0.same) l.0, rest.level);
       callers = (inl refl, later_callers c cs rest.shares rest.callers);
-      done = (record { does = subst (λ (r : Region). DoesQuery c p r (Ok e.0) (made_by c more)) (sym d.0.same) did }, rest.done);
+      done = (
+        record {
+          run = record { earlier = []; later = []; run = sym (append-nil (made_by c more)) };
+          does = subst (λ (r : Region). DoesQuery c p r (Ok e.0) (made_by c more)) (sym d.0.same) did;
+        },
+        rest.done,
+      );
+      alone = (refl, rest.alone);
       joined = e.4 ∙ ap (λ (y : List Found). joined e.0 y) rest.joined;
     }
 answered_runs p s few from to more cs ts us a d h l e = absurd d

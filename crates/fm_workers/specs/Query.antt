@@ -53,6 +53,8 @@ pub record AnsweredBy (p : Plan) (s : Region) (few : ℕ) (crew : List Caller) (
   pub level : AllByRecursion (λ w. IsLevel p few w.region) shares
   pub callers : AllByRecursion (λ w. IsAmong w.caller crew) shares
   pub done : AreDone p more shares
+  -- by all its entries
+  pub alone : AllByRecursion (λ w. made_by w.caller more ≡ w.own) shares
   pub joined : a ≡ all_joined p shares
 
 -- among these entries the caller's are a query over some of the segment's records, which comes to this
