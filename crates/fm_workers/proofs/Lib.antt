@@ -15,9 +15,9 @@ pub mod Orders
 pub mod Runs
 pub mod Sharing
 pub mod Sparing
+pub mod Taking
 pub mod Tallied
 pub mod Tallying
-pub mod Totals
 pub mod Touching
 pub mod Turning
 pub mod Wanting

@@ -15,9 +15,6 @@ use Rattle.fm_records.specs.declared.found.Found.{Found}
 use Rattle.fm_records.specs.Joined.{joined}
 use Rattle.fm_records.specs.Query.{DoesQuery}
 use Rattle.fm_records.specs.Shares.{Share, AreCut, IsFirst, behind}
-use Rattle.fm_workers.specs.Parts.{Asked, AreLevel, AreRuns, Answers, ComesTo, IsLevel}
-use Rattle.fm_workers.specs.Query.{AnsweredBy}
-use Rattle.fm_workers.proofs.Callers.{AreDoneBy}
 use Rattle.fm_workers.proofs.Asked.{piece}
 use Rattle.fm_workers.proofs.Runs.{run_ends, runs_order}
 
@@ -53,43 +50,3 @@ behind_piece p s region from next to order later is =
     let first : s.first + next * p.size ≡ s.first + from * p.size + region.size = omega (arith, size, ends_here) in
     let left : (to - next) * p.size ≡ (to - from) * p.size - region.size = omega (arith, size, ends_here, ends_all, ends_rest) in
     λ i. record { arena = s.arena; first = first i; size = left i; read_only = s.read_only }
-
--- Runs that were answered are shares of their piece.
-pub answered_runs : (p : Plan) (s : Region) (few from to : ℕ) (more : List Entry) (cs : List Caller) (ts us : List Asked) (a : List Found)
-    → AreDoneBy (Answers p) more cs ts us → AreRuns p s from ts to → AreLevel p few ts → ComesTo p us (Ok a) → AnsweredBy p (piece p s from to) few cs more a
-answered_runs p s few from to more [] [] [] a d h l e =
-    let same : from * p.size ≡ to * p.size = ap (λ (n : ℕ). n * p.size) h in
-    let ends = run_ends from to p.size (omega (arith, h)) in
-    record { shares = []; cut = omega (arith, same, ends); level = tt; callers = tt; done = tt; alone = tt; joined = e }
-answered_runs p s few from to more (c ∷ cs) (t ∷ ts) (u ∷ us) a d h l e =
-    let rest = answered_runs p s few h.0 to more cs ts us e.1 d.1 h.2 l.1 e.3 in
-    let later = runs_order p s h.0 to ts h.2 in
-    let ur : u.region ≡ part_of (from * p.size) ((h.0 - from) * p.size) s = d.0.same ∙ h.1.region in
-    let share : Share = record { caller = c; region = u.region; found = e.0; own = made_by c more } in
-    let is_behind = behind_piece p s u.region from h.0 to h.1.order later ur in
-    let did = subst (λ (x : Result (List Found) Refusal). DoesQuery c p t.region x (made_by c more)) e.2 d.0.did in
-    record {
-      shares = share ∷ rest.shares;
-      cut = (first_of_piece p s from h.0 to share h.1.order later ur, subst (λ (r : Region). AreCut p r rest.shares) is_behind rest.cut);
-      level = (subst (λ (r : Region). IsLevel p few r) (sym d.0.same) l.0, rest.level);
-      callers = (inl refl, later_callers c cs rest.shares rest.callers);
-      done = (
-        record {
-          run = record { earlier = []; later = []; run = sym (append-nil (made_by c more)) };
-          does = subst (λ (r : Region). DoesQuery c p r (Ok e.0) (made_by c more)) (sym d.0.same) did;
-        },
-        rest.done,
-      );
-      alone = (refl, rest.alone);
-      joined = e.4 ∙ ap (λ (y : List Found). joined e.0 y) rest.joined;
-    }
-answered_runs p s few from to more cs ts us a d h l e = absurd d
-
--- All records are the segment.
-pub whole_piece : (p : Plan) (s : Region) → s.size % p.size ≡ 0 → piece p s 0 (s.size / p.size) ≡ s
-whole_piece p s even =
-    let ends = run_ends 0 (s.size / p.size) p.size (omega arith) in
-    let parts = div-add-mod' s.size p.size in
-    let first : s.first + 0 * p.size ≡ s.first = omega arith in
-    let size : (s.size / p.size - 0) * p.size ≡ s.size = omega (arith, ends, parts, even) in
-    λ i. record { arena = s.arena; first = first i; size = size i; read_only = s.read_only }

@@ -6,5 +6,6 @@ pub mod Parts
 pub mod Printed
 pub mod Query
 pub mod Rounds
+pub mod Taking
 pub mod Tallies
 pub mod Tally

@@ -6,7 +6,6 @@ mod counting;
 mod counts;
 mod crew;
 mod cutting;
-mod joining;
 mod part;
 mod printing;
 mod query;

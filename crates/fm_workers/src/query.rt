@@ -3,36 +3,56 @@ ghost use Rattle.fm_gate.specs.Standing.{IsOutside};
 ghost use Rattle.fm_workers.specs.Query.{CanQueryWith, QueriedWith};
 
 use crate::crew::work_crew;
-use crate::cutting::cut;
-use crate::joining::join_parts;
-use crate::part::Part;
 use crate::work::Work;
 use fm_arena::Shared;
 use fm_base::{ArenaId, Kind, Refusal};
-use fm_io::Gate;
+use fm_io::{FreeGate, Gate};
+use fm_jobs::Jobs;
 use fm_query::Query;
-use fm_records::{Answer, query_segment};
+use fm_records::Answer;
 use fm_rule::{Pass, Pool};
 use fm_segment::Segment;
+use fm_shares::{Batch, Taker, count_shares, finish, records_each, take_shares};
 use std::alloc::Global;
 use std::sync::Wait;
 use std::thread::Threads;
 
-/// Each pass answers the query over its part.
-impl Work<Part<Answer>> for Query {
-    ghost use Rattle.fm_workers.specs.Parts.{Answers, CanAsk};
-    ghost use Rattle.fm_workers.specs.Asking.{can_ask_later};
+/// What a crew takes: the shares of a segment's records, of which the query is asked.
+#[derive(Drop)]
+struct Asking<'a, R, G> {
+    rt: &'a R,
+    gate: &'a G,
+    jobs: &'a Jobs,
+    query: &'a Query,
+    segment: Segment,
+    /// How many records a share has.
+    each: u64,
+}
+
+/// Each pass takes shares up to its stop, and answers the query over them.
+impl<'a, R: Wait + Sync, G: Gate> Work<Taker> for Asking<'a, R, G> {
     ghost use Rattle.fm_workers.specs.Crew.{by_caller};
+    ghost use Rattle.fm_workers.specs.Taking.{CanTakeShares, Takes, asking, can_take_later};
 
-    ghost can = { CanAsk };
+    ghost can = { λ w. CanTakeShares (asking w.jobs.now w.query.now w.segment w.each) };
 
-    ghost does = { λ p. by_caller (Answers p) };
+    ghost does = { λ w. by_caller (Takes (asking w.jobs.now w.query.now w.segment w.each)) };
 
-    fn work(&self, alloc: Global, memory: &mut Shared, task: &mut Part<Answer>) {
-        task.answer = query_segment(alloc, memory, self, &task.region);
+    fn work(&self, alloc: Global, memory: &mut Shared, taker: &mut Taker) {
+        take_shares(
+            self.rt,
+            alloc,
+            self.gate,
+            self.jobs,
+            memory,
+            self.query,
+            &self.segment,
+            self.each,
+            taker,
+        );
     }
 
-    ghost stays = { can_ask_later };
+    ghost stays = { λ w. can_take_later (asking w.jobs.now w.query.now w.segment w.each) };
 }
 
 /// What a query answers over the records of a segment, by so many passes that are drawn for it, each over a run of the
@@ -65,12 +85,28 @@ pub fn query_with<R: Threads + Wait + Sync, G: Gate>(
     if is_confined(s.arena()) {
         return Err(Refusal::WrongThread);
     }
-    let mut parts = match cut(alloc, q, s, threads) {
-        Ok(parts) => parts,
+    let count = s.size() / q.record_size();
+    let each = records_each(count, threads);
+    let batch = match Batch::new(rt, alloc, count_shares(count, threads), threads) {
+        Ok(batch) => batch,
         Err(refusal) => return Err(refusal),
     };
-    match work_crew(rt, alloc, pool, pass, q, &mut parts, gate) {
-        Ok(()) => join_parts(alloc, q, parts),
+    let Batch {
+        jobs,
+        giver,
+        mut takers,
+        slots,
+    } = batch;
+    let work = Asking {
+        rt,
+        gate,
+        jobs: &jobs,
+        query: q,
+        segment: *s,
+        each,
+    };
+    match work_crew(rt, alloc, pool, pass, &work, &mut takers, &FreeGate) {
+        Ok(()) => finish(alloc, q, s, each, &jobs, giver, takers, slots),
         Err(refusal) => Err(refusal),
     }
 }
