@@ -1,6 +1,7 @@
 -- What files tell of a file that was read whole, or was too long.
-use Rattle.std.specs.Prelude.{◌≡◌, ℕ, ◌+◌, ◌%◌, ◌<◌, ◌≤◌, List, ◌++◌, length, Bool, true, false, Option, Some, IfSome, IsSomeAnd}
+use Rattle.std.specs.Prelude.{◌≡◌, ℕ, ◌+◌, ◌%◌, ◌<◌, ◌≤◌, List, ◌++◌, length, min, Bool, true, false, Option, Some, IfSome, IsSomeAnd}
 use Rattle.fm_io.specs.Files.{Contents, file_of, AreBytesFrom, EndsBefore}
+use Rattle.fm_load.specs.Reading.{piece_limit}
 
 -- where the files tell, these are the bytes of the file of that name
 abbrev pub IsWhole : Option Contents → List ℕ → List ℕ → Type 0
@@ -17,6 +18,15 @@ pub record IsChunk (limit : ℕ) (told : Option Contents) (name : List ℕ) (pla
   pub short : place + length piece ≤ limit
   pub whole : ended ≡ false → length piece % 8 ≡ 0
   pub grows : ended ≡ false → 0 < length piece
+  pub ends : ended ≡ true → EndsBefore told name (place + length piece)
+
+-- These are the next bytes of the file of that name, which may have so many, from the place on; `ended` says that it ends with them. They are
+-- as many as one read may bring, and at most `most`; fewer only where it ends.
+pub record IsPiece (limit most : ℕ) (told : Option Contents) (name : List ℕ) (place : ℕ) (piece : List ℕ) (ended : Bool) : Type 0 where
+  pub bytes : AreBytesFrom told name place piece
+  pub short : place + length piece ≤ limit
+  pub within : length piece ≤ min piece_limit most
+  pub full : ended ≡ false → length piece ≡ min piece_limit most
   pub ends : ended ≡ true → EndsBefore told name (place + length piece)
 
 -- Such bytes were put behind those of old.

@@ -11,7 +11,7 @@ mod reaching;
 mod whole_file;
 
 pub use buffers::zero_bytes;
-pub use chunk::{CHUNK, Chunk};
+pub use chunk::{CHUNK, Chunk, read_piece};
 pub use held::{RECORD_FILE_LIMIT, allocate_held, open_held, put_held};
 pub use load_fault::LoadFault;
 pub use loaded::{Loaded, load};
