@@ -1,5 +1,5 @@
-pub mod Filling
+pub mod Asking
 pub mod Pieces
 pub mod Next
-pub mod Reading
-pub mod Serving
+pub mod Telling
+pub mod Handling

@@ -51,6 +51,7 @@ module _ {limit most : ℕ} {told : Option Contents} {name : List ℕ} {place : 
         known = subst (IsKnown z) (sym p.region) known;
       }
 
+module _ {most : ℕ} {x y z : View} {a : ArenaId} where
   pub stopped_putting : (at : ℕ) (r : Refusal) → Started most x y a (Ok at) → at ≡ 0 → Did y z (StopsPutting y.caller a r) → Did x z (StopsFilling most x.caller)
   stopped_putting at r s none e =
       let d = s.did in

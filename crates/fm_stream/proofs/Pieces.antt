@@ -12,7 +12,7 @@ use Rattle.fm_segment.specs.Region.{Region, region_of}
 use Rattle.fm_stream_laws.specs.Filling.{ArePut}
 use Rattle.fm_stream.specs.Filled.{IsChunkOf, PutChunk}
 use Rattle.fm_stream.specs.declared.filling.Filled.{Filled}
-use Rattle.fm_stream.proofs.Filling.{puts_none, puts_then}
+use Rattle.fm_stream.proofs.Asking.{puts_none, puts_then}
 
 -- so many bytes of the chunk, whole words, stand in the arena, and more are to come
 pub record Pieces (most : ℕ) (told : Option Contents) (name : List ℕ) (at size : ℕ) (old now : View) (a : ArenaId) : Type 0 where

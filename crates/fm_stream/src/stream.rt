@@ -1,4 +1,11 @@
+ghost use Rattle.std.specs.Prelude.{◌≡◌, ◌≢◌, ◌≤◌, ℕ, IfOk, IsErrOf, Err};
+ghost use Rattle.fm_io.specs.Count.{Rose};
+ghost use Rattle.fm_io.specs.Files.{IsAbsent};
+ghost use Rattle.fm_load.specs.Whole.{IsOver};
+ghost use Rattle.fm_stream.specs.Shown.{CanStream, IsRagged, Streams};
+
 use crate::crew::{draw_workers, gather_workers};
+use crate::reading::STREAM_FILE_LIMIT;
 use crate::rounds::run_rounds;
 use crate::shape::{chunk_bytes, shape_of};
 use crate::stream_fault::{Stop, StreamFault};
@@ -29,7 +36,21 @@ pub fn stream_with<R: Threads + Wait + Sync, F: Files, G: Gate>(
     q: &Query,
     threads: u32,
     gate: &G,
-) -> Result<(Answer, Finished), StreamFault> {
+) -> Result<(Answer, Finished), StreamFault>
+    requires { CanStream q.now threads }
+    ensures streams { IfOk result (λ r. Streams threads (F.holds files.old) name.now q.now r.0 r.1) }
+    ensures ragged { (rest : ℕ) → IsErrOf result (StreamFault.Ragged rest) →
+        IsRagged (F.holds files.old) name.now q.now rest }
+    ensures too_long { IsErrOf result StreamFault.TooLong → IsOver (F.holds files.old) name.now STREAM_FILE_LIMIT }
+    ensures absent { IsErrOf result StreamFault.Missing → IsAbsent (F.holds files.old) name.now }
+    ensures missing { IsErrOf result StreamFault.Missing → Rose (F.misses files.old) (F.misses files.new) }
+    ensures failed { IsErrOf result StreamFault.Read → Rose (F.faults files.old) (F.faults files.new) }
+    ensures quiet { result ≢ Err StreamFault.Read → F.faults files.new ≡ F.faults files.old }
+    ensures found { result ≢ Err StreamFault.Missing → F.misses files.new ≡ F.misses files.old }
+    ensures held { F.holds files.new ≡ F.holds files.old }
+    ensures faults_stay { F.faults files.old ≤ F.faults files.new }
+    ensures misses_stay { F.misses files.old ≤ F.misses files.new }
+{
     let Ok((pool, pass)) = Pool::make(alloc, shape_of(threads)) else {
         return Err(StreamFault::Memory);
     };

@@ -1,5 +1,5 @@
 use Rattle.fm_calls.specs.Told.{view_of_pass}
-use Rattle.fm_stream.proofs.Filling.{asks_then, no_memory, waits_more, waits_none}
+use Rattle.fm_stream.proofs.Asking.{asks_then, no_memory, waits_more, waits_none}
 use Rattle.fm_stream.proofs.filling.allocate.Goals as goal
 
 pub loop-init : goal.loop-init

@@ -1,7 +1,7 @@
 use Rattle.std.proofs.Common.{◌≡◌, None}
 use Rattle.fm_base.specs.Learnt.{CanVisit}
 use Rattle.fm_calls.specs.Told.{view_of_pass}
-use Rattle.fm_stream.proofs.Filling.{Waits}
+use Rattle.fm_stream.proofs.Asking.{Waits}
 use Rattle.fm_stream.proofs.filling.allocate.Given as goal
 
 abbrev pub invariant-loop : goal.invariant-loop

@@ -1,5 +1,5 @@
 use Rattle.fm_calls.specs.Told.{view_of_pass}
-use Rattle.fm_stream.proofs.Filling.{idles_more, idles_none, never_refused, opens_then}
+use Rattle.fm_stream.proofs.Asking.{idles_more, idles_none, never_refused, opens_then}
 use Rattle.fm_stream.proofs.filling.open_arena.Goals as goal
 
 pub loop-init : goal.loop-init

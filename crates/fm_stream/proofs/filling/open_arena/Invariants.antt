@@ -1,6 +1,6 @@
 use Rattle.std.proofs.Common.{◌≡◌, None}
 use Rattle.fm_calls.specs.Told.{view_of_pass}
-use Rattle.fm_stream.proofs.Filling.{Idles}
+use Rattle.fm_stream.proofs.Asking.{Idles}
 use Rattle.fm_stream.proofs.filling.open_arena.Given as goal
 
 abbrev pub invariant-loop : goal.invariant-loop

@@ -1,4 +1,4 @@
-use Rattle.fm_stream.proofs.Reading.{tells_fault, tells_ok}
+use Rattle.fm_stream.proofs.Telling.{tells_fault, tells_ok}
 use Rattle.fm_stream.proofs.reading.read_next.Goals as goal
 
 pub returns-in-Ok-clause-tells : goal.returns-in-Ok-clause-tells

@@ -1,4 +1,4 @@
-use Rattle.fm_stream.proofs.Serving.{serves_then, unclosed_then, unread_did}
+use Rattle.fm_stream.proofs.Handling.{serves_then, unclosed_then, unread_did}
 use Rattle.fm_stream.proofs.serving.serve.Goals as goal
 
 pub returns-in-Err-clause-did : goal.returns-in-Err-clause-did

@@ -69,8 +69,8 @@ Waits old new a = Did old new (λ own. AreWaits old.caller a (but_loans own))
 pub waits_none : (v : View) (a : ArenaId) → Waits v v a
 waits_none v a = record { own = []; does = no_wait; makes = Makes-none v }
 
-pub waits_more : {x y z : View} {a : ArenaId} {size : ℕ} → Waits x y a → DidAllocate y z a size 8 (Err PoolFull) → Waits x z a
-waits_more {x} {y} {z} {a} d e =
+pub waits_more : {x y z : View} {a : ArenaId} (size : ℕ) → Waits x y a → DidAllocate y z a size 8 (Err PoolFull) → Waits x z a
+waits_more {x} {y} {z} {a} size d e =
     let one : but_loans e.own ≡ visit x.caller a [] = e.does.2 ∙ ap (λ c. visit c a []) d.makes.same_caller in
     record {
       own = d.own ++ e.own;
