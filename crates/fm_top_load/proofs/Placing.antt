@@ -1,5 +1,5 @@
 -- A file that is put into an arena piece by piece.
-use Rattle.std.proofs.Common.{◌≡◌, ℕ, ◌+◌, ◌≤◌, List, [], ◌∷◌, ◌++◌, length, take, Bool, Option, Ok, refl, ap, sym, subst, ◌∙◌, arith}
+use Rattle.std.proofs.Common.{◌≡◌, ℕ, ◌+◌, ◌-◌, ◌≤◌, List, [], ◌∷◌, ◌++◌, length, take, Bool, Option, Ok, refl, ap, sym, subst, ◌∙◌, arith}
 use Rattle.std.proofs.lemmas.List.{length-take-le}
 use Rattle.fm_base.specs.declared.arena_id.ArenaId.{ArenaId}
 use Rattle.fm_base.specs.declared.caller.Caller.{Caller}
@@ -12,7 +12,9 @@ use Rattle.fm_segment_access.specs.Runs.{DoesPutAll}
 use Rattle.fm_io.specs.Files.{Contents}
 use Rattle.fm_top_load.specs.Filling.{no_run, run}
 use Rattle.fm_top_load.specs.Held.{IsHeld, PutsHeld, words_at}
-use Rattle.fm_top_load.specs.Reached.{PutsWithin}
+use Rattle.fm_top_load.specs.Reached.{IsNext, PutsWithin}
+use Rattle.fm_top_load.specs.Reading.{piece_limit}
+use Rattle.fm_top_load.specs.declared.chunk.Chunk.{Chunk}
 use Rattle.fm_top_load.specs.Whole.{IsChunk, TakesChunk}
 use Rattle.fm_top_load.proofs.Chunks.{takes_chunk}
 use Rattle.fm_top_load.proofs.GivenBytes.{put_behind}
@@ -27,7 +29,7 @@ puts_none {x} {a} room held = record {
 }
 
 -- one run behind others
-pub puts_then : {x y z : View} {a : ArenaId} {room : ℕ} (place : ℕ) (bytes : List ℕ) → PutsWithin x y a room → AreBytes bytes
+puts_then : {x y z : View} {a : ArenaId} {room : ℕ} (place : ℕ) (bytes : List ℕ) → PutsWithin x y a room → AreBytes bytes
     → place + length bytes ≤ room → Did y z (DoesPutAll y.caller a place bytes (Ok tt)) → PutsHeld y z a place bytes → PutsWithin x z a room
 puts_then {x} {y} {z} {a} {room} place bytes first are fits e put =
     let d = first.did in
@@ -45,19 +47,43 @@ puts_then {x} {y} {z} {a} {room} place bytes first are fits e put =
     }
 
 -- an arena that is held has bytes for all that is within the limit
-pub has_bytes : {v : View} {a : ArenaId} (n : ℕ) → IsHeld v a → n ≤ v.limit → n ≤ length (bytes_of_arena v.state a)
+has_bytes : {v : View} {a : ArenaId} (n : ℕ) → IsHeld v a → n ≤ v.limit → n ≤ length (bytes_of_arena v.state a)
 has_bytes {v} {a} n held within =
     let size = held.size in
     omega (arith, length-bytes_in (words_at v a), size, within)
 
 -- a chunk that was put behind the file's first bytes
-pub placed : {limit : ℕ} {told : Option Contents} {name after piece : List ℕ} {at : ℕ} {ended : Bool} (before : List ℕ) (count : ℕ) → at ≤ length before
+placed : {limit : ℕ} {told : Option Contents} {name after piece : List ℕ} {at : ℕ} {ended : Bool} (before : List ℕ) (count : ℕ) → at ≤ length before
     → length piece ≡ count → after ≡ with_bytes before at piece → IsChunk limit told name at piece ended
     → TakesChunk limit told name (take at before) (take (at + count) after) ended
 placed {after = after} {piece = piece} {at = at} before count fits long is chunk =
     takes_chunk
     (ap (take (at + count)) is ∙ ap (λ n. take (at + n) (with_bytes before at piece)) (sym long) ∙ put_behind before piece at fits)
     (sym (length-take-le at before fits)) chunk
+
+-- What a chunk leaves that was put behind the file's first bytes: one run more, and it fits.
+pub record PutsChunk (old new : View) (a : ArenaId) (room : ℕ) (limit : ℕ) (told : Option Contents) (name before after : List ℕ) (at count : ℕ) (ended : Bool) : Type 0 where
+  pub puts : PutsWithin old new a room
+  pub took : TakesChunk limit told name (take at before) (take (at + count) after) ended
+  pub short : at + count ≤ limit
+
+pub puts_chunk : {x y z : View} {a : ArenaId} {room limit at : ℕ} {told : Option Contents} {name buffer : List ℕ} {chunk : Chunk}
+    → PutsWithin x y a room → room ≤ x.limit → at ≤ room → chunk.count ≤ room - at → length buffer ≡ piece_limit → IsNext limit told name at buffer chunk
+    → AreBytes (take chunk.count buffer) → Did y z (DoesPutAll y.caller a at (take chunk.count buffer) (Ok tt))
+    → PutsHeld y z a at (take chunk.count buffer)
+    → PutsChunk x z a room limit told name (bytes_of_arena y.state a) (bytes_of_arena z.state a) at chunk.count chunk.ended
+puts_chunk {x} {y} {z} {a} {room} {limit} {at} {told} {name} {buffer} {chunk} old all within fits sized next are did put =
+    let piece = take chunk.count buffer in
+    let small = next.small in
+    let long : length (take chunk.count buffer) ≡ chunk.count = length-take-le chunk.count buffer (omega (arith, small, sized)) in
+    let limits = old.did.makes.same_limit in
+    let there : at ≤ length (bytes_of_arena y.state a) = has_bytes at old.still (omega (arith, within, all, limits)) in
+    let short = next.bytes.short in
+    record {
+      puts = puts_then at piece old are (omega (arith, within, fits, long)) did put;
+      took = placed (bytes_of_arena y.state a) chunk.count there long put.stand next.bytes;
+      short = omega (arith, short, long);
+    }
 
 -- the first no bytes
 pub none_taken : (bytes : List ℕ) → take 0 bytes ≡ []

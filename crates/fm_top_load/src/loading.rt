@@ -1,4 +1,4 @@
-ghost use Rattle.std.specs.Prelude.{◌≡◌, ◌≢◌, ◌+◌, length, IfOk, IfErr};
+ghost use Rattle.std.specs.Prelude.{◌≡◌, ◌≢◌, ◌↔◌, ◌+◌, length, IfOk, IfErr};
 ghost use Rattle.std.specs.Result.{result_err};
 ghost use Rattle.fm_io.specs.Files.{AreBytesFrom};
 ghost use Rattle.fm_io.specs.Reads.{ReadsFile};
@@ -112,7 +112,7 @@ fn load_chunk<R: Wait, F: Files, M: Memory>(
 
 /// Why nothing was loaded where bytes that fit weren't given.
 fn fault_of(refusal: Refusal) -> LoadFault
-    ensures full { result ≡ LoadFault.PoolFull → refusal ≡ Refusal.PoolFull }
+    ensures full { (result ≡ LoadFault.PoolFull) ↔ (refusal ≡ Refusal.PoolFull) }
     ensures other { result ≢ LoadFault.PoolFull → result ≡ LoadFault.Memory }
 {
     match refusal {

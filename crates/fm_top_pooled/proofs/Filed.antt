@@ -35,7 +35,7 @@ use Rattle.fm_rule.specs.GivenBytes.{given_bytes, state_of}
 use Rattle.fm_rule.specs.Passes.{IsOf}
 use Rattle.fm_segment.specs.Region.{Region, region_of}
 use Rattle.fm_words.specs.declared.shape.Shape.{Shape}
-use Rattle.fm_top_pooled.specs.Stocked.{HasRoomIn, HoldsWhole, IsLone, IsMadeFor, IsStock, bytes_in_pool}
+use Rattle.fm_top_pooled.specs.Stocked.{HasRoomIn, HoldsWhole, IsLone, IsMadeFor, IsStock, ReadsIn, bytes_in_pool}
 use Rattle.fm_top_pooled.proofs.Filling.{held_room, only_on, stay_lone}
 use Rattle.fm_top_pooled.proofs.Opening.{knows_none}
 
@@ -68,10 +68,20 @@ room_still pool p m q r a room h at puts is outside sound =
 pub one_known : (p q : View) (a : ArenaId) → p.seen ≡ [] → ((b : ArenaId) → IsKnown q b → (b ≡ a) ⊎ IsKnown p b) → (b : ArenaId) → IsKnown q b → b ≡ a
 one_known p q a none only b known = ⊎_elim (λ (e : b ≡ a). e) (λ (was : IsKnown p b). absurd (knows_none p b none was)) (only b known)
 
+-- ---- how far a file was read
+
+module _ {told : Option Contents} {name : List ℕ} {room count : ℕ} {buffer : List ℕ} {pool : Pool} {a : ArenaId} {p : View} {r : Reached} where
+  pub ended : r ≡ End count → ReadsIn told name room buffer pool a p r → HasWhole told name room count (bytes_of_arena (state_in p) a)
+  ended is reads = subst (λ (x : Reached). Reaches told name room buffer (bytes_of_arena (state_in p) a) x) is reads.reached
+
+  pub filled : {chunk : Chunk} → r ≡ Full count chunk → ReadsIn told name room buffer pool a p r
+      → HasFirst told name room count (bytes_of_arena (state_in p) a) buffer chunk
+  filled is reads = subst (λ (x : Reached). Reaches told name room buffer (bytes_of_arena (state_in p) a) x) is reads.reached
+
 -- ---- what stands in the arena
 
 -- the arena has bytes for all its room
-pub has_room : {room : ℕ} {pool : Pool} {p : View} {a : ArenaId} (count : ℕ) → HasRoomIn room pool p a → count ≤ room
+has_room : {room : ℕ} {pool : Pool} {p : View} {a : ArenaId} (count : ℕ) → HasRoomIn room pool p a → count ≤ room
     → count ≤ length (bytes_of_arena (state_in p) a)
 has_room {room} {pool} {p} {a} count h within =
     let limit : limit_of p.shape ≡ limit_of pool.shape = ap limit_of h.lone.outside.of.1 in
@@ -117,13 +127,15 @@ count_stands p s count limit is within =
 
 -- a file that was read whole into the arena is a stock of it
 pub whole_stands : {told : Option Contents} {name : List ℕ} {room arenas : ℕ} {pool : Pool} {p : View} {a : ArenaId} (s : Region) (count : ℕ)
-    → HasRoomIn room pool p a → IsMadeFor arenas pool.shape → HasWhole told name room count (bytes_of_arena (state_in p) a) → s ≡ region_of a 0 count
+    {buffer : List ℕ} {r : Reached} → ReadsIn told name room buffer pool a p r → r ≡ End count → IsMadeFor arenas pool.shape → s ≡ region_of a 0 count
     → HoldsWhole arenas told name pool p s
-whole_stands {told} {name} {room} {arenas} {pool} {p} {a} s count h made whole is = record {
-  stock = stands s count h made whole.within is;
-  whole = subst (λ (bs : List ℕ). IsWhole told name bs) (sym (first_bytes s count h whole.within is)) whole.whole;
-  short = count_stands p s count record_file_limit is whole.short;
-}
+whole_stands {told} {name} {room} {arenas} {pool} {p} {a} s count reads far made is =
+    let whole = ended far reads in
+    record {
+      stock = stands s count reads.still made whole.within is;
+      whole = subst (λ (bs : List ℕ). IsWhole told name bs) (sym (first_bytes s count reads.still whole.within is)) whole.whole;
+      short = count_stands p s count record_file_limit is whole.short;
+    }
 
 -- a list of it was put into a pool
 pub list_stands : {told : Option Contents} {name bytes : List ℕ} {arenas : ℕ} {pool : Pool} {p : View} {s : Region} → IsStock arenas pool p s
@@ -133,15 +145,6 @@ list_stands {told} {name} {bytes} {arenas} {pool} {p} {s} stock is whole short =
   whole = subst (λ (bs : List ℕ). IsWhole told name bs) (sym is) whole;
   short = subst (λ (bs : List ℕ). length bs ≤ record_file_limit) (sym is) short;
 }
-
--- ---- how far a file was read
-
-module _ (told : Option Contents) (name : List ℕ) (room count : ℕ) (buffer bytes : List ℕ) (r : Reached) where
-  pub ended : r ≡ End count → Reaches told name room buffer bytes r → HasWhole told name room count bytes
-  ended is reaches = subst (λ (x : Reached). Reaches told name room buffer bytes x) is reaches
-
-  pub filled : (chunk : Chunk) → r ≡ Full count chunk → Reaches told name room buffer bytes r → HasFirst told name room count bytes buffer chunk
-  filled chunk is reaches = subst (λ (x : Reached). Reaches told name room buffer bytes x) is reaches
 
 -- ---- a pool that is taken apart
 
@@ -161,21 +164,6 @@ taken p f a count is within =
     ap (λ (s : State). take count (take (arena_of s a).given (bytes_in (arena_of s a).words))) is
     ∙ take-take count (given_in (view_of_pass p) a) (bytes_of_arena (state_in p) a) within
 
--- so many of them were taken
-pub taken_count : (count : ℕ) (all bytes : List ℕ) → bytes ≡ take count all → count ≤ length all → length bytes ≡ count
-taken_count count all bytes is fits = ap length is ∙ length-take-le count all fits
-
-module _ {told was : Option Contents} {name all buffer bytes : List ℕ} {room count : ℕ} {chunk : Chunk} (same : told ≡ was) (is : bytes ≡ take count all)
-    (has : HasFirst was name room count all buffer chunk) where
-  -- what is read on from there
-  pub next_taken : length buffer ≡ piece_limit → count ≤ length all → CanReadBehind told name bytes buffer chunk
-  next_taken piece fits =
-      subst (λ (t : Option Contents). CanReadBehind t name bytes buffer chunk) (sym same) (record {
-        room = piece;
-        first = subst (λ (bs : List ℕ). AreBytesFrom was name 0 bs) (sym is) has.first;
-        next = subst (λ (n : ℕ). IsNext record_file_limit was name n buffer chunk) (sym (taken_count count all bytes is fits)) has.next;
-      })
-
 -- ---- reads
 
 -- what was read up to a chunk, and then what is behind it
@@ -190,14 +178,28 @@ reads_on false old mid new name place first behind =
     (chunk_reads {Goes = λ next. GoesBy false place next} {Says = λ next. next ≡ At place} first refl (λ next goes. goes.1 refl))
     (behind.rest refl) (λ next goes. tt)
 
--- what was read up to a chunk that has no room, and then what is behind it
-pub reads_longer : (old mid new : Option (List Read)) (name : List ℕ) (count size : ℕ) (chunk : Chunk) (r : Reached) → r ≡ Full count chunk
-    → ReadsUpTo old mid name record_file_limit (λ next. GoesBeyond r next) → size ≡ count → ReadsBehind chunk.ended mid new name (size + chunk.count)
-    → ReadsSome old new name record_file_limit
-reads_longer old mid new name count size chunk r is first same behind =
-    reads_on chunk.ended old mid new name (count + chunk.count)
-    (subst (λ (x : Reached). ReadsUpTo old mid name record_file_limit (λ next. GoesBeyond x next)) is first)
-    (subst (λ (n : ℕ). ReadsBehind chunk.ended mid new name (n + chunk.count)) same behind)
+-- A file that goes on behind the room, of which these bytes were taken out.
+module _ {was : Option Contents} {name buffer bytes : List ℕ} {room count : ℕ} {pool : Pool} {a : ArenaId} {p : View} {r : Reached} {chunk : Chunk}
+    (far : r ≡ Full count chunk) (reads : ReadsIn was name room buffer pool a p r) (is : bytes ≡ take count (bytes_of_arena (state_in p) a)) where
+  taken_count : length bytes ≡ count
+  taken_count = ap length is ∙ length-take-le count (bytes_of_arena (state_in p) a) (has_room count reads.still (filled far reads).within)
+
+  -- it is read on from there
+  pub next_taken : {told : Option Contents} → told ≡ was → length buffer ≡ piece_limit → CanReadBehind told name bytes buffer chunk
+  next_taken {told} same piece =
+      subst (λ (t : Option Contents). CanReadBehind t name bytes buffer chunk) (sym same) (record {
+        room = piece;
+        first = subst (λ (bs : List ℕ). AreBytesFrom was name 0 bs) (sym is) (filled far reads).first;
+        next = subst (λ (n : ℕ). IsNext record_file_limit was name n buffer chunk) (sym taken_count) (filled far reads).next;
+      })
+
+  -- so it was read up to the chunk, and then what is behind that
+  pub reads_longer : (old mid new : Option (List Read)) → ReadsUpTo old mid name record_file_limit (λ next. GoesBeyond r next)
+      → ReadsBehind chunk.ended mid new name (length bytes + chunk.count) → ReadsSome old new name record_file_limit
+  reads_longer old mid new first behind =
+      reads_on chunk.ended old mid new name (count + chunk.count)
+      (subst (λ (x : Reached). ReadsUpTo old mid name record_file_limit (λ next. GoesBeyond x next)) far first)
+      (subst (λ (n : ℕ). ReadsBehind chunk.ended mid new name (n + chunk.count)) taken_count behind)
 
 -- whatever followed
 pub reads_some : {old new : Option (List Read)} {name : List ℕ} {Goes : Next → Type 0} → ReadsUpTo old new name record_file_limit Goes

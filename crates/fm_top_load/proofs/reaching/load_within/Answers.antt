@@ -1,5 +1,4 @@
 use Rattle.std.proofs.Common.{◌≡◌, ◌+◌, ◌≤◌, ℕ, List, length, take, arith}
-use Rattle.std.proofs.lemmas.List.{length-take}
 use Rattle.fm_segment_access.specs.Alone.{bytes_of_arena}
 use Rattle.fm_io.proofs.Followed.{ReadsFile-none}
 use Rattle.fm_io.proofs.Left.{leaves_none, leaves_then}
@@ -7,7 +6,7 @@ use Rattle.fm_top_load.specs.Limits.{record_file_limit}
 use Rattle.fm_top_load.specs.Reading.{piece_limit}
 use Rattle.fm_top_load.proofs.Chunks.{AreBytesFrom-took, IsWhole-took, no_bytes_from}
 use Rattle.fm_top_load.proofs.Following.{reads_then}
-use Rattle.fm_top_load.proofs.Placing.{has_bytes, none_taken, placed, puts_none, puts_then}
+use Rattle.fm_top_load.proofs.Placing.{none_taken, puts_chunk, puts_none}
 use Rattle.fm_top_load.proofs.Telling.{read_quietly, tells_then}
 use Rattle.fm_top_load.proofs.reaching.load_within.Goals as goal
 
@@ -30,18 +29,12 @@ loop-chunk-preserved g c =
     let old = c.loop-chunk.invariant in
     let step = c.in-Ok.ensures in
     let put = c.put_held.ensures in
-    let count = c.in-Ok.chunk.count in
-    let piece : List ℕ = take count c.read_chunk.new.bytes in
-    let before : List ℕ = bytes_of_arena (g.M.Memory.view c.loop-chunk.m).state c.args.arena in
-    let long : length piece ≡ count = omega (arith, length-take {A = ℕ}, step.took.small, step.buffer) in
-    let fits : c.loop-chunk.at ≤ length before =
-    has_bytes c.loop-chunk.at old.puts.still (omega (arith, old.within, c.requires.limit, old.puts.did.makes.same_limit)) in
-    let within : c.loop-chunk.at + count ≤ c.args.room = omega (arith, c.if-count-room.false, old.within) in
+    let next = puts_chunk old.puts c.requires.limit old.within c.if-count-room.false step.buffer step.took put.are put.did put.puts in
     record {
-      can = record { room = step.buffer; small = omega arith; short = omega (arith, step.took.bytes.short, long) };
-      within = within;
-      puts = puts_then c.loop-chunk.at piece old.puts put.are (omega (arith, within, long)) put.did put.puts;
-      first = AreBytesFrom-took old.left.held old.first (placed before count fits long put.puts.stand step.took.bytes);
+      can = record { room = step.buffer; small = omega arith; short = next.short };
+      within = omega (arith, c.if-count-room.false, old.within);
+      puts = next.puts;
+      first = AreBytesFrom-took old.left.held old.first next.took;
       reads = reads_then old.reads step.reads (λ next goes. goes.1 c.if-chunk.false);
       left = leaves_then old.left (read_quietly step.tells);
     }
@@ -50,16 +43,12 @@ pub returns-then-chunk-clause-reached : goal.returns-then-chunk-clause-reached
 returns-then-chunk-clause-reached g c =
     let old = c.loop-chunk.invariant in
     let step = c.in-Ok.ensures in
-    let count = c.in-Ok.chunk.count in
-    let piece : List ℕ = take count c.read_chunk.new.bytes in
-    let before : List ℕ = bytes_of_arena (g.M.Memory.view c.loop-chunk.m).state c.args.arena in
-    let long : length piece ≡ count = omega (arith, length-take {A = ℕ}, step.took.small, step.buffer) in
-    let fits : c.loop-chunk.at ≤ length before =
-    has_bytes c.loop-chunk.at old.puts.still (omega (arith, old.within, c.requires.limit, old.puts.did.makes.same_limit)) in
+    let put = c.put_held.ensures in
+    let next = puts_chunk old.puts c.requires.limit old.within c.if-count-room.false step.buffer step.took put.are put.did put.puts in
     record {
       within = omega (arith, c.if-count-room.false, old.within);
-      short = omega (arith, step.took.bytes.short, long);
-      whole = IsWhole-took old.left.held old.first (placed before count fits long c.put_held.ensures.puts.stand step.took.bytes) c.if-chunk.true;
+      short = next.short;
+      whole = IsWhole-took old.left.held old.first next.took c.if-chunk.true;
     }
 
 pub returns-then-chunk-clause-puts : goal.returns-then-chunk-clause-puts
@@ -67,10 +56,7 @@ returns-then-chunk-clause-puts g c =
     let old = c.loop-chunk.invariant in
     let step = c.in-Ok.ensures in
     let put = c.put_held.ensures in
-    let count = c.in-Ok.chunk.count in
-    let piece : List ℕ = take count c.read_chunk.new.bytes in
-    let long : length piece ≡ count = omega (arith, length-take {A = ℕ}, step.took.small, step.buffer) in
-    puts_then c.loop-chunk.at piece old.puts put.are (omega (arith, c.if-count-room.false, old.within, long)) put.did put.puts
+    (puts_chunk old.puts c.requires.limit old.within c.if-count-room.false step.buffer step.took put.are put.did put.puts).puts
 
 pub returns-then-chunk-clause-reads : goal.returns-then-chunk-clause-reads
 returns-then-chunk-clause-reads g c = reads_then c.loop-chunk.invariant.reads c.in-Ok.ensures.reads (λ next goes. goes.0 c.if-chunk.true)
