@@ -1,5 +1,5 @@
 //! The bytes that the arenas of a finished pool have given.
-ghost use Rattle.std.specs.Prelude.{◌≡◌, ◌<◌, ◌/◌, ◌%◌, slice_index, IfOk, IfErr, IfSome, IsSome, IsTrue, ◌↔◌, true};
+ghost use Rattle.std.specs.Prelude.{◌≡◌, ◌⊎◌, ◌<◌, ◌/◌, ◌%◌, slice_index, IfOk, IfErr, IfSome, IsSome, IsTrue, ◌↔◌, true};
 ghost use Rattle.fm_base.specs.declared.refusal.Refusal.TheVariants.{Memory};
 ghost use Rattle.fm_base.specs.Arenas.{Alive, arena_of, has_arena, word_in};
 ghost use Rattle.fm_base_bytes.specs.Words.{byte_of};
@@ -54,17 +54,32 @@ impl Finished {
         self.table.word(place as usize)
     }
 
-    /// Byte `k` that the arena has given.
-    fn byte(&self, a: ArenaId, k: u64) -> u8
+    /// The word with byte `k` that the arena has given.
+    fn word_with(&self, a: ArenaId, k: u64) -> u64
         requires has { HasBytes self.now a }
         requires low { k < (arena_of (state_of self.now) a).given }
-        ensures { result ≡ byte_of (word_in (state_of self.now) a (k / 8)) (k % 8) }
+        ensures { result ≡ word_in (state_of self.now) a (k / 8) }
     {
         let size = u64::from(self.shape.page_words);
         let part = k / 8 / size;
         let page = self.word(self.shape.map_place(a.slot, part as u32)) - 1;
-        let word = self.word(self.shape.page_place(page as u32, (k / 8 % size) as u32));
-        ((word >> (8 * (k % 8))) % 256) as u8
+        self.word(self.shape.page_place(page as u32, (k / 8 % size) as u32))
+    }
+
+    /// The word with byte `k` that the arena has given, where this is the word with the byte before it: each word is
+    /// looked up once.
+    #[inline(always)]
+    fn word_after(&self, a: ArenaId, k: u64, last: u64) -> u64
+        requires has { HasBytes self.now a }
+        requires low { k < (arena_of (state_of self.now) a).given }
+        requires last { (k % 8 ≡ 0) ⊎ (last ≡ word_in (state_of self.now) a (k / 8)) }
+        ensures { result ≡ word_in (state_of self.now) a (k / 8) }
+    {
+        if k % 8 == 0 {
+            self.word_with(a, k)
+        } else {
+            last
+        }
     }
 
     /// The bytes that an arena has given that is alive. Refused: `Memory`.
@@ -75,8 +90,10 @@ impl Finished {
     {
         let given = self.word(self.shape.given_place(a.slot));
         let mut bytes = Vec::new(alloc);
+        let mut word = 0;
         for k in 0..given {
-            let byte = self.byte(a, k);
+            word = self.word_after(a, k, word);
+            let byte = ((word >> (8 * (k % 8))) % 256) as u8;
             if bytes.push(byte).is_err() {
                 return Err(Refusal::Memory);
             }

@@ -1,10 +1,9 @@
 use Rattle.std.proofs.Common.{◌≡◌, ◌<◌, ◌-◌, ◌/◌, ◌%◌, ℕ, ap, ◌∙◌, arith}
 use Rattle.fm_words.specs.Places.{at, page_word}
 use Rattle.fm_words.specs.Maps.{map_word}
-use Rattle.fm_base_bytes.specs.Words.{byte_of}
 use Rattle.fm_rule.proofs.GivenBytes.{Stands, stands, shape_in, finished_in}
-use Rattle.fm_rule.proofs.finishing.Finished.byte.Goals as goal
-use Rattle.fm_rule.proofs.finishing.Finished.byte.Goals.{After-from-size}
+use Rattle.fm_rule.proofs.finishing.Finished.word_with.Goals as goal
+use Rattle.fm_rule.proofs.finishing.Finished.word_with.Goals.{After-from-size}
 
 here : (c : After-from-size) → Stands c.args.self.now c.args.a c.args.k c.self.inside.shape c.from-size.result
 here c = stands c.args.self.now (finished_in _ _ c.self.view_is c.self.invariant) c.args.a c.requires.has c.args.k c.requires.low c.self.inside.shape
@@ -42,9 +41,9 @@ is_page : (x p : ℕ) → x ≡ map_word p → x - 1 ≡ p
 unfolding map_word
 is_page x p e = omega arith
 
-pub word-word-requires : goal.word-word-requires
-word-word-requires c =
-    let s = here (goal.at.word-word-requires c).After-from-size in
+pub word-requires : goal.word-requires
+word-requires c =
+    let s = here (goal.at.word-requires c).After-from-size in
     let e = c.word-page.ensures ∙ s.map_is _ c.map_place.ensures in
     s.page_low _ (c.page_place.ensures ∙ ap (λ (p : ℕ). at c.self.inside.shape (page_word p (c.args.k / 8 % c.from-size.result))) (is_page _ _ e))
 
@@ -52,5 +51,4 @@ pub returns : goal.returns
 returns c =
     let s = here (goal.at.returns c).After-from-size in
     let e = c.word-page.ensures ∙ s.map_is _ c.map_place.ensures in
-    ap (λ (n : ℕ). byte_of n (c.args.k % 8)) (c.word-word.ensures
-    ∙ s.word _ (c.page_place.ensures ∙ ap (λ (p : ℕ). at c.self.inside.shape (page_word p (c.args.k / 8 % c.from-size.result))) (is_page _ _ e)))
+    c.word.ensures ∙ s.word _ (c.page_place.ensures ∙ ap (λ (p : ℕ). at c.self.inside.shape (page_word p (c.args.k / 8 % c.from-size.result))) (is_page _ _ e))
