@@ -1,5 +1,23 @@
 //! The tool: what its words ask for, how a run ends, and what it prints. Each command has a file for its words and one
 //! for its end.
+//!
+//! **The problem.** A run can go wrong at its words, at a file, at a limit, in a query or in the writing, and more than
+//! one of these may apply. What is printed must not be half of an answer over data that was read in part, and the
+//! status has to say what was wrong.
+//!
+//! **The idea.** Words ask for one request or for none (`Asks`). A request and what the files hold have an outcome: a
+//! status, a text, and what is kept. [`run_tool`] comes to the outcome first, and only then writes its text.
+//!
+//! **Both sides.** Files and the sink are the caller's, and may tell what they hold and count their faults (`fm_io`).
+//! The outcome is said over what they tell, and a fault is answered only where a count rose.
+//!
+//! **Why it is safe.** The status, what was written and what is kept are those of one outcome (`runs`), each status has
+//! its cause by one table (`causes`), and input to which no other cause applies is answered whole, but for want of
+//! memory (`complete`). What an earlier run kept is gone first.
+//!
+//! **What is not promised.** Which of its possible reports a script's run gives. That memory is there: want of it may
+//! end any run. That a text which was written in part is taken back: after a failed write a prefix of it stands in the
+//! sink.
 #![tactic(auto)]
 
 mod answered;
