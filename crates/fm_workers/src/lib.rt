@@ -9,7 +9,7 @@
 //! where one worker is refused, what the others have added is neither a whole answer nor that of any run of records.
 //!
 //! **The idea.** Shares are cut before anything starts, and each worker has a task of its own, with an answer of its
-//! own. [`work_crew`] takes all memory first, draws a pass for each task, or begins none; lets each work between two
+//! own. `work_crew` takes all memory first, draws a pass for each task, or begins none; lets each work between two
 //! calls of the gate; gathers all of them in the order of their tasks, whatever they answered; and only then are
 //! answers joined. [`query_with`] joins them; the passes of [`tally_with`] add each count to one of 256 longs, in a
 //! visit with one Add.
@@ -26,21 +26,16 @@
 mod adding;
 mod counting;
 mod counts;
-mod crew;
 mod cutting;
 mod joining;
-mod part;
 mod printing;
 mod query;
+mod share;
 mod summing;
 mod tally;
-mod work;
-mod worker;
 
 pub use counts::Counts;
-pub use crew::work_crew;
-pub use part::Part;
 pub use printing::print_counts;
 pub use query::query_with;
+pub use share::Share;
 pub use tally::{is_tally, tally_with};
-pub use work::Work;
