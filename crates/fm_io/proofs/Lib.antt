@@ -1,5 +1,7 @@
 pub mod Appended
+pub mod Counting
 pub mod Filled
 pub mod Listed
 pub mod Followed
+pub mod Left
 pub mod Sent

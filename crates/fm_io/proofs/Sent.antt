@@ -2,12 +2,12 @@
 use Rattle.std.proofs.Common.{◌≡◌, ℕ, List, [], ◌++◌, length, take, drop, Option, None, Some, Result, Ok, Err, refl, ap, sym, subst, ◌∙◌, append_assoc, arith}
 use Rattle.std.proofs.Math.Seq.{take-append_seam}
 use Rattle.std.proofs.lemmas.List.{append-nil, length-append, take-append-drop}
-use Rattle.fm_io.specs.Count.{Raised}
 use Rattle.fm_io.specs.Sink.{Appends, AppendsPrefix}
 use Rattle.fm_io.specs.Sending.{Passes, Sends}
 use Rattle.fm_io.specs.declared.fault.Fault.{Fault}
 use Rattle.fm_io.specs.declared.fault.Fault.TheVariants.{Memory}
 use Rattle.fm_io.proofs.Appended.{Appends-append}
+use Rattle.fm_io.proofs.Counting.{counts_none, counts_then}
 
 -- these are the first of the bytes
 front : (old new : Option (List ℕ)) (xs rest bytes : List ℕ) → Appends old new xs → xs ++ rest ≡ bytes → AppendsPrefix old new bytes
@@ -31,9 +31,7 @@ pub nothing_sent : (told : Option (List ℕ)) (faults : ℕ) (before : List ℕ)
 nothing_sent told faults before = record {
   passes = record { written = []; appended = Appends-none told; whole = sym (append-nil before) };
   prefix = tt;
-  failed = λ e. absurd (cc);
-  quiet = λ _. refl;
-  faults_stay = omega arith;
+  counted = counts_none faults (λ e. absurd (cc));
 }
 
 -- bytes pend behind those that did
@@ -42,9 +40,7 @@ pub pushed : (told : Option (List ℕ)) (faults : ℕ) (before after bytes : Lis
 pushed told faults before after bytes is = record {
   passes = record { written = []; appended = Appends-none told; whole = is };
   prefix = tt;
-  failed = λ e. absurd (cc);
-  quiet = λ _. refl;
-  faults_stay = omega arith;
+  counted = counts_none faults (λ e. absurd (cc));
 }
 
 -- memory ran out before they pend
@@ -52,9 +48,7 @@ pub not_pushed : (told : Option (List ℕ)) (faults : ℕ) (before after bytes :
 not_pushed told faults before after bytes = record {
   passes = tt;
   prefix = front told told [] (before ++ bytes) (before ++ bytes) (Appends-none told) refl;
-  failed = λ e. absurd (cc);
-  quiet = λ _. refl;
-  faults_stay = omega arith;
+  counted = counts_none faults (λ e. absurd (cc));
 }
 
 -- what passes in two steps
@@ -89,16 +83,12 @@ pub sent_then : {old mid new : Option (List ℕ)} {f g h : ℕ} {a b c xs ys : L
 sent_then {r = Ok tt} p q = record {
   passes = passes-append _ _ _ _ _ _ _ _ p.passes q.passes;
   prefix = tt;
-  failed = λ e. absurd (cc);
-  quiet = λ _. q.quiet (λ e. absurd (cc)) ∙ p.quiet (λ e. absurd (cc));
-  faults_stay = omega (arith, p.faults_stay, q.faults_stay);
+  counted = counts_then p.counted (λ e. absurd (cc)) q.counted;
 }
 sent_then {h = h} {r = Err e} p q = record {
   passes = tt;
   prefix = prefix-behind _ _ _ _ _ _ _ p.passes q.prefix;
-  failed = λ is. subst (λ (n : ℕ). Raised n h) (p.quiet (λ e. absurd (cc))) (q.failed is);
-  quiet = λ other. q.quiet other ∙ p.quiet (λ e. absurd (cc));
-  faults_stay = omega (arith, p.faults_stay, q.faults_stay);
+  counted = counts_then p.counted (λ e. absurd (cc)) q.counted;
 }
 
 -- what stopped at these bytes stops at more
@@ -107,9 +97,7 @@ pub sent_stop : {old new : Option (List ℕ)} {f g : ℕ} {a b c xs : List ℕ} 
 sent_stop {old = old} {new = new} {a = a} {xs = xs} ys p = record {
   passes = tt;
   prefix = subst (λ (t : List ℕ). AppendsPrefix old new t) (append_assoc a xs ys) (prefix-more old new (a ++ xs) ys p.prefix);
-  failed = p.failed;
-  quiet = p.quiet;
-  faults_stay = p.faults_stay;
+  counted = p.counted;
 }
 
 -- nothing pended before what was sent, and then the rest was written: so far a prefix of it came out

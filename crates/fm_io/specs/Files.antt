@@ -1,5 +1,5 @@
 -- What a source of files tells of its files, and what a read of one may answer.
-use Rattle.std.specs.Prelude.{◌≡◌, ℕ, ◌≤◌, ◌<◌, List, [], map, length, take, drop, Option, None, MatchOption, IfSome, IsSomeAnd, String, Vec, string_bytes}
+use Rattle.std.specs.Prelude.{◌≡◌, ◌≢◌, ℕ, ◌+◌, ◌≤◌, ◌<◌, List, [], map, length, take, drop, Option, None, MatchOption, IfSome, IsSomeAnd, String, Vec, string_bytes}
 use Rattle.std.specs.Ordering.{nat_cmp}
 use Rattle.std.specs.Cmp.Lexicographic.{slice_cmp}
 use Rattle.std.specs.FinMap.{FinMap, from_entries, get}
@@ -49,3 +49,9 @@ EndsBefore told name place = IfSome told (λ contents.
 -- the files tell that there is no file of that name
 abbrev pub IsAbsent : Option Contents → List ℕ → Type 0
 IsAbsent told name = IfSome told (λ contents. file_of contents name ≡ None)
+
+-- the first so many bytes of a buffer with this room are those of the file from the place on, and fewer than the room only where the file ends
+pub record IsFilled (told : Option Contents) (name : List ℕ) (at room : ℕ) (buffer : List ℕ) (n : ℕ) : Type 0 where
+  pub count : n ≤ room
+  pub bytes : AreBytesFrom told name at (take n buffer)
+  pub ended : n ≢ room → EndsBefore told name (at + n)

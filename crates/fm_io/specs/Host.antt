@@ -6,7 +6,7 @@ use Rattle.std.specs.IoError.{error_kind}
 use Rattle.std.specs.declared.io.Error.{Error}
 use Rattle.std.specs.declared.io.ErrorKind.TheVariants.{NotFound}
 use Rattle.fm_io.specs.declared.fault.Fault.{Fault}
-use Rattle.fm_io.specs.declared.fault.Fault.TheVariants.{Failed}
+use Rattle.fm_io.specs.declared.fault.Fault.TheVariants.{Failed, Memory}
 use Rattle.fm_io.specs.declared.files.Piece.{Piece}
 use Rattle.fm_io.specs.declared.files.Piece.TheVariants.{Got, End, Missing}
 use Rattle.fm_io.specs.declared.system.Way.{Way}
@@ -51,3 +51,12 @@ pub record Asks (old new : Option (List Question)) (way : Way) (name : List ℕ)
   pub noted : AsksOn old new (question way name place room answer)
   pub told : ComesTo answer result
   pub left : EndsAt place answer next
+
+-- One question is put to the system, and its answer is handed on, unless the name of a file that is to be opened couldn't be kept. The
+-- system, the name that is kept and where the next read would follow are those before and after.
+pub record AsksOnce {S : Type 0} (told : S → Option (List Question)) (old new : S) (next : Option ℕ) (had has name : List ℕ) (place room : ℕ) (result : Result Piece Fault) (after : Option ℕ) : Type 0 where
+  pub asked : result ≢ Err Memory → Asks (told old) (told new) (way_to next had name place) name place room result after
+  pub kept : result ≢ Err Memory → has ≡ name
+  pub opens : result ≡ Err Memory → way_to next had name place ≡ Open
+  pub unasked : result ≡ Err Memory → new ≡ old
+  pub closed : result ≡ Err Memory → after ≡ None

@@ -1,20 +1,28 @@
 -- What contracts see of the files and the sinks in memory.
-use Rattle.std.specs.Prelude.{ℕ, ◌↔◌, List, Bool, IsTrue, Result, IsErrOf}
-use Rattle.fm_io.specs.Files.{Contents, contents_of}
+use Rattle.std.specs.Prelude.{◌≡◌, ◌≢◌, ℕ, ◌↔◌, List, Bool, None, Some, IsTrue, Result, Ok, Err, IfOk, IsErrOf, is_err}
+use Rattle.fm_io.specs.Count.{Raised}
+use Rattle.fm_io.specs.Files.{Contents, HasBytes, contents_of}
+use Rattle.fm_io.specs.View.{FilesView}
 use Rattle.fm_io.specs.declared.sure_files.SureFiles.{SureFiles}
 use Rattle.fm_io.specs.declared.mem_files.MemFiles.{MemFiles}
 use Rattle.fm_io.specs.declared.mem_sink.MemSink.{MemSink}
 use Rattle.fm_io.specs.declared.sure_sink.SureSink.{SureSink}
 use Rattle.fm_io.specs.declared.failing.Failing.{Failing}
 use Rattle.fm_io.specs.declared.fault.Fault.{Fault}
-use Rattle.fm_io.specs.declared.fault.Fault.TheVariants.{Failed}
-use Rattle.fm_io.specs.Failing.{CountsCall}
+use Rattle.fm_io.specs.declared.fault.Fault.TheVariants.{Failed, Memory}
+use Rattle.fm_io.specs.declared.files.Piece.{Piece}
+use Rattle.fm_io.specs.declared.files.Piece.TheVariants.{Missing}
+use Rattle.fm_io.specs.Failing.{CountsCall, calls_failed}
 
 abbrev pub sure_contents : SureFiles → Contents
 sure_contents f = contents_of f.files.items
 
 abbrev pub sure_misses : SureFiles → ℕ
 sure_misses f = f.misses
+
+-- they tell their files, and not their reads
+abbrev pub sure_view : SureFiles → FilesView
+sure_view f = record { holds = Some (sure_contents f); reads = None; faults = 0; misses = sure_misses f }
 
 abbrev pub mem_contents : MemFiles → Contents
 mem_contents f = contents_of f.files.items
@@ -29,6 +37,17 @@ mem_reads f = f.reads
 -- the most bytes that a read gives
 abbrev pub read_limit : MemFiles → ℕ
 read_limit f = f.most
+
+abbrev pub mem_view : MemFiles → FilesView
+mem_view f = record { holds = Some (mem_contents f); reads = None; faults = calls_failed (mem_reads f); misses = mem_misses f }
+
+-- A read of files in memory fails exactly where the call is one of those listed, and gives no more bytes than their limit.
+pub record ReadsAsListed (old new : MemFiles) (result : Result Piece Fault) : Type 0 where
+  pub fails : CountsCall (mem_reads old) (mem_reads new) (is_err result)
+  pub never_memory : result ≢ Err Memory
+  pub most : IfOk result (HasBytes (read_limit old))
+  pub limit : read_limit new ≡ read_limit old
+  pub missing : result ≡ Ok Missing → Raised (mem_misses old) (mem_misses new)
 
 -- which writes fail, and how many have
 abbrev pub mem_writes : MemSink → Failing

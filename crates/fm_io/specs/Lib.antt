@@ -6,3 +6,4 @@ pub mod InMemory
 pub mod Reads
 pub mod Sink
 pub mod Sending
+pub mod View

@@ -1,6 +1,6 @@
 -- Text on its way to a sink: what was written of it, and what pends behind that.
-use Rattle.std.specs.Prelude.{◌≡◌, ◌≢◌, ℕ, ◌≤◌, List, ◌++◌, Option, Result, Err, OnOk, OnErr, IsErrOf}
-use Rattle.fm_io.specs.Count.{Raised}
+use Rattle.std.specs.Prelude.{◌≡◌, ℕ, List, ◌++◌, Option, Result, OnOk, OnErr, IsErrOf}
+use Rattle.fm_io.specs.Count.{Counts, Raised}
 use Rattle.fm_io.specs.Sink.{Appends, AppendsPrefix}
 use Rattle.fm_io.specs.declared.fault.Fault.{Fault}
 use Rattle.fm_io.specs.declared.fault.Fault.TheVariants.{Failed}
@@ -15,6 +15,4 @@ pub record Passes (old new : Option (List ℕ)) (before after bytes : List ℕ) 
 pub record Sends (old new : Option (List ℕ)) (faults_old faults_new : ℕ) (before after bytes : List ℕ) (result : Result (Unit {0}) Fault) : Type 0 where
   pub passes : OnOk result (Passes old new before after bytes)
   pub prefix : OnErr result (AppendsPrefix old new (before ++ bytes))
-  pub failed : IsErrOf result Failed → Raised faults_old faults_new
-  pub quiet : result ≢ Err Failed → faults_new ≡ faults_old
-  pub faults_stay : faults_old ≤ faults_new
+  pub counted : Counts Raised (IsErrOf result Failed) faults_old faults_new

@@ -1,7 +1,7 @@
-ghost use Rattle.std.specs.Prelude.{◌≡◌, ◌<◌, ◌≤◌, ℕ, List, length, Option, IfOk, IfSome, IsErrOf, ◌≢◌, Ok, Err, ◌∷◌, []};
-ghost use Rattle.fm_io.specs.Count.{Rose};
-ghost use Rattle.fm_io.specs.Files.{Contents, HasBytes, TellsPiece};
-ghost use Rattle.fm_io.specs.Reads.{Read, read, ReadsOn};
+ghost use Rattle.std.specs.Prelude.{◌≡◌, ◌<◌, length, IfOk, IfSome, IsErrOf, Ok, ◌∷◌, []};
+ghost use Rattle.fm_io.specs.Files.{HasBytes, TellsPiece};
+ghost use Rattle.fm_io.specs.Reads.{read, ReadsOn};
+ghost use Rattle.fm_io.specs.View.{FilesView, Leaves};
 
 use crate::fault::Fault;
 
@@ -23,17 +23,8 @@ pub enum Piece {
 /// greatest `u64`. It may tell its reads too, which each call lengthens by just its own. Code that is
 /// generic over the trait can't raise a count by itself, and can't hide a read.
 pub trait Files {
-    /// The files that are there, where they are told.
-    ghost holds: { Self → Option Contents };
-
-    /// How many reads failed.
-    ghost faults: { Self → ℕ };
-
-    /// How many reads found no file of their name.
-    ghost misses: { Self → ℕ };
-
-    /// All reads so far, in their order, where they are told.
-    ghost reads: { Self → Option (List Read) };
+    /// The files that are there and all reads so far, where they are told, and how many reads failed and found no file.
+    ghost view: { Self → FilesView };
 
     /// Reads bytes of the file `name` from the place `at` on, counted in bytes from its beginning.
     ///
@@ -43,18 +34,11 @@ pub trait Files {
         requires { 0 < length buf.old }
         ensures bytes { IfOk result (HasBytes (length buf.old)) }
         ensures content { IfOk result (λ piece.
-            IfSome (holds self.old) (λ files. TellsPiece files name.now at buf.new piece)) }
-        ensures held { holds self.new ≡ holds self.old }
-
-        ensures noted { ReadsOn (reads self.old) (reads self.new) (read name.now at (length buf.old) result ∷ []) }
-
+            IfSome (view self.old).holds (λ files. TellsPiece files name.now at buf.new piece)) }
+        ensures noted { ReadsOn (view self.old).reads (view self.new).reads
+            (read name.now at (length buf.old) result ∷ []) }
         // A fault or a missing file is answered only where its count shows it, and no other answer changes the count.
-        ensures failed { IsErrOf result Fault.Failed → Rose (faults self.old) (faults self.new) }
-        ensures missing { result ≡ Ok Piece.Missing → Rose (misses self.old) (misses self.new) }
-        ensures quiet { result ≢ Err Fault.Failed → faults self.new ≡ faults self.old }
-        ensures found { result ≢ Ok Piece.Missing → misses self.new ≡ misses self.old }
-        ensures faults_stay { faults self.old ≤ faults self.new }
-        ensures misses_stay { misses self.old ≤ misses self.new };
+        ensures left { Leaves (IsErrOf result Fault.Failed) (result ≡ Ok Piece.Missing) (view self.old) (view self.new) };
 
     /// Guesses how many bytes the file `name` has, for a caller that makes room before it reads; None where that can't be said.
     ///

@@ -1,7 +1,7 @@
-ghost use Rattle.std.specs.Prelude.{◌≡◌, ◌≢◌, ◌≤◌, ◌<◌, None, length, IfOk, OnOk, OnErr, IsErrOf, Ok, Err, string_bytes};
-ghost use Rattle.fm_io.specs.Count.{Raised};
+ghost use Rattle.std.specs.Prelude.{◌≡◌, ◌<◌, None, length, IfOk, OnOk, OnErr, IsErrOf, Ok, string_bytes};
+ghost use Rattle.fm_io.specs.Count.{Counts, Raised};
 ghost use Rattle.fm_io.specs.Files.{HasBytes};
-ghost use Rattle.fm_io.specs.Host.{Asks, ComesTo, EndsAt, way_to};
+ghost use Rattle.fm_io.specs.Host.{AsksOnce, ComesTo, EndsAt, way_to};
 
 use crate::count::raised;
 use crate::fault::Fault;
@@ -48,9 +48,7 @@ impl<S: System> HostFiles<S> {
         ensures kept { OnOk result (string_bytes self.new.name ≡ name.now) }
         ensures opens { OnErr result (way_to self.old.next (string_bytes self.old.name) name.now at ≡ Way.Open) }
         ensures closed { OnErr result (self.new.next ≡ None) }
-        ensures system { self.new.system ≡ self.old.system }
-        ensures faults { self.new.faults ≡ self.old.faults }
-        ensures misses { self.new.misses ≡ self.old.misses }
+        ensures rest { self.new ≡ record self.old { name = self.new.name; next = self.new.next } }
     {
         if let Some(next) = self.next {
             if self.name.as_str() == name {
@@ -87,32 +85,15 @@ fn piece_of(read: io::Result<usize>) -> Result<Piece, Fault>
 }
 
 impl<S: System> Files for HostFiles<S> {
-    ghost holds = { λ _. None };
-
-    ghost faults = { λ f. f.faults };
-
-    ghost misses = { λ f. f.misses };
-
-    ghost reads = { λ _. None };
+    ghost view = { λ f. record { holds = None; reads = None; faults = f.faults; misses = f.misses } };
 
     fn read_at(&mut self, name: &str, at: u64, buf: &mut [u8]) -> Result<Piece, Fault>
         requires { 0 < length buf.old }
         ensures bytes { IfOk result (HasBytes (length buf.old)) }
-
-        // One question is put to the system, and its answer is handed on, unless the name of a file that is to be opened couldn't be kept.
-        ensures asked { result ≢ Err Fault.Memory → Asks (S.asked self.old.system) (S.asked self.new.system)
-            (way_to self.old.next (string_bytes self.old.name) name.now at) name.now at (length buf.old) result self.new.next }
-        ensures kept { result ≢ Err Fault.Memory → string_bytes self.new.name ≡ name.now }
-        ensures opens { result ≡ Err Fault.Memory → way_to self.old.next (string_bytes self.old.name) name.now at ≡ Way.Open }
-        ensures unasked { result ≡ Err Fault.Memory → self.new.system ≡ self.old.system }
-        ensures closed { result ≡ Err Fault.Memory → self.new.next ≡ None }
-
-        ensures failed { IsErrOf result Fault.Failed → Raised self.old.faults self.new.faults }
-        ensures missing { result ≡ Ok Piece.Missing → Raised self.old.misses self.new.misses }
-        ensures quiet { result ≢ Err Fault.Failed → self.new.faults ≡ self.old.faults }
-        ensures found { result ≢ Ok Piece.Missing → self.new.misses ≡ self.old.misses }
-        ensures faults_stay { self.old.faults ≤ self.new.faults }
-        ensures misses_stay { self.old.misses ≤ self.new.misses }
+        ensures asks { AsksOnce S.asked self.old.system self.new.system self.old.next
+            (string_bytes self.old.name) (string_bytes self.new.name) name.now at (length buf.old) result self.new.next }
+        ensures faults { Counts Raised (IsErrOf result Fault.Failed) self.old.faults self.new.faults }
+        ensures misses { Counts Raised (result ≡ Ok Piece.Missing) self.old.misses self.new.misses }
     {
         let way = self.way_to(name, at)?;
         let read = self.system.read_by(way, name, at, buf);

@@ -1,6 +1,6 @@
 ghost use Rattle.std.specs.Prelude.{◌≡◌, ◌≢◌, ◌<◌, ◌≤◌, None, IfOk, IsErrOf, length, Err};
 ghost use Rattle.std.specs.Io.KnownBytes.{WriteAppends};
-ghost use Rattle.fm_io.specs.Count.{Raised};
+ghost use Rattle.fm_io.specs.Count.{Counts, Raised};
 ghost use Rattle.fm_io.specs.Sink.{TookPiece};
 
 use crate::count::raised;
@@ -37,9 +37,7 @@ impl<W: Write> Sink for HostSink<W> {
         ensures took { TookPiece None None piece.now result }
         ensures passed { WriteAppends (W.contents self.old.writer) (W.contents self.new.writer) result piece.now }
         ensures never_memory { result ≢ Err Fault.Memory }
-        ensures failed { IsErrOf result Fault.Failed → Raised self.old.faults self.new.faults }
-        ensures quiet { result ≢ Err Fault.Failed → self.new.faults ≡ self.old.faults }
-        ensures faults_stay { self.old.faults ≤ self.new.faults }
+        ensures counted { Counts Raised (IsErrOf result Fault.Failed) self.old.faults self.new.faults }
     {
         match self.writer.write(piece) {
             Ok(n) if n > 0 => Ok(n),

@@ -1,6 +1,6 @@
-ghost use Rattle.std.specs.Prelude.{◌≡◌, ◌≢◌, ◌≤◌, ◌<◌, None, Some, length, IfOk, is_err, ◌+◌, min};
-ghost use Rattle.fm_io.specs.Count.{last_count};
+ghost use Rattle.std.specs.Prelude.{◌≡◌, ◌<◌, length, IfOk, IsErrOf, Ok};
 ghost use Rattle.fm_io.specs.Files.{contents_of, HasBytes, TellsPiece};
+ghost use Rattle.fm_io.specs.View.{Leaves};
 
 use crate::count::raised;
 use crate::failing::Failing;
@@ -64,31 +64,16 @@ impl MemFiles {
 }
 
 impl Files for MemFiles {
-    ghost use Rattle.fm_io.specs.Failing.{calls_failed, CountsCall};
-    ghost use Rattle.fm_io.specs.InMemory.{mem_contents, mem_misses, mem_reads, read_limit};
+    ghost use Rattle.fm_io.specs.InMemory.{ReadsAsListed, mem_contents, mem_view};
 
-    ghost holds = { λ f. Some (mem_contents f) };
-
-    ghost faults = { λ f. calls_failed (mem_reads f) };
-
-    ghost misses = { mem_misses };
-
-    ghost reads = { λ _. None };
+    ghost view = { mem_view };
 
     fn read_at(&mut self, name: &str, at: u64, buf: &mut [u8]) -> Result<Piece, Fault>
         requires { 0 < length buf.old }
-
-        // It fails exactly where the call is one of those listed.
-        ensures fails { CountsCall (mem_reads self.old) (mem_reads self.new) (is_err result) }
-        ensures never_memory { result ≢ Err Fault.Memory }
+        ensures listed { ReadsAsListed self.old self.new result }
         ensures bytes { IfOk result (HasBytes (length buf.old)) }
-        ensures most { IfOk result (HasBytes (read_limit self.old)) }
         ensures content { IfOk result (TellsPiece (mem_contents self.old) name.now at buf.new) }
-        ensures held { mem_contents self.new ≡ mem_contents self.old }
-        ensures limit { read_limit self.new ≡ read_limit self.old }
-        ensures missing { result ≡ Ok Piece.Missing → mem_misses self.new ≡ min (mem_misses self.old + 1) last_count }
-        ensures found { result ≢ Ok Piece.Missing → mem_misses self.new ≡ mem_misses self.old }
-        ensures misses_stay { mem_misses self.old ≤ mem_misses self.new }
+        ensures left { Leaves (IsErrOf result Fault.Failed) (result ≡ Ok Piece.Missing) (mem_view self.old) (mem_view self.new) }
     {
         if self.reads.counts_call() {
             return Err(Fault::Failed);

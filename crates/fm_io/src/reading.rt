@@ -1,7 +1,7 @@
-ghost use Rattle.std.specs.Prelude.{◌≡◌, ◌+◌, ◌<◌, ◌≤◌, ◌^◌, length, take, IfOk, IfSome, IsErrOf, ◌≢◌, Err};
-ghost use Rattle.fm_io.specs.Count.{Rose};
-ghost use Rattle.fm_io.specs.Files.{AreBytesFrom, EndsBefore, IsAbsent, HasBytes, TellsPiece};
+ghost use Rattle.std.specs.Prelude.{◌+◌, ◌<◌, ◌^◌, length, IfOk, IsErrOf};
+ghost use Rattle.fm_io.specs.Files.{IsAbsent, IsFilled};
 ghost use Rattle.fm_io.specs.Reads.{GoesOn, ReadsFile};
+ghost use Rattle.fm_io.specs.View.{Leaves};
 
 use crate::fault::Fault;
 use crate::files::{Files, Piece};
@@ -29,23 +29,13 @@ pub fn fill<F: Files>(
 ) -> Result<usize, ReadFault>
     requires room { 0 < length buf.old }
     requires place { at + length buf.old < 2 ^ 64 }
-
-    ensures count { IfOk result (λ n. n ≤ length buf.old) }
-    ensures bytes { IfOk result (λ n. AreBytesFrom (F.holds files.old) name.now at (take n buf.new)) }
-    ensures ended { IfOk result (λ n. n ≢ length buf.old → EndsBefore (F.holds files.old) name.now (at + n)) }
-    ensures held { F.holds files.new ≡ F.holds files.old }
-
+    ensures filled { IfOk result (IsFilled (F.view files.old).holds name.now at (length buf.old) buf.new) }
+    ensures absent { IsErrOf result ReadFault.Missing → IsAbsent (F.view files.old).holds name.now }
     // It reads where the bytes of its last read end, up to the buffer's end, and not again after another answer.
-    ensures reads { ReadsFile (F.reads files.old) (F.reads files.new) name.now (length buf.old) (at + length buf.old) at
-        (λ next. IfOk result (λ n. GoesOn at (length buf.old) n next)) }
-
-    ensures missing { IsErrOf result ReadFault.Missing → Rose (F.misses files.old) (F.misses files.new) }
-    ensures absent { IsErrOf result ReadFault.Missing → IsAbsent (F.holds files.old) name.now }
-    ensures failed { IsErrOf result ReadFault.Failed → Rose (F.faults files.old) (F.faults files.new) }
-    ensures quiet { result ≢ Err ReadFault.Failed → F.faults files.new ≡ F.faults files.old }
-    ensures found { result ≢ Err ReadFault.Missing → F.misses files.new ≡ F.misses files.old }
-    ensures faults_stay { F.faults files.old ≤ F.faults files.new }
-    ensures misses_stay { F.misses files.old ≤ F.misses files.new }
+    ensures reads { ReadsFile (F.view files.old).reads (F.view files.new).reads name.now (length buf.old)
+        (at + length buf.old) at (λ next. IfOk result (λ n. GoesOn at (length buf.old) n next)) }
+    ensures left { Leaves (IsErrOf result ReadFault.Failed) (IsErrOf result ReadFault.Missing)
+        (F.view files.old) (F.view files.new) }
 {
     let mut n = 0;
     while n < buf.len() {

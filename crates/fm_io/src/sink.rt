@@ -1,5 +1,5 @@
-ghost use Rattle.std.specs.Prelude.{◌≡◌, ◌<◌, ◌≤◌, ℕ, List, length, Option, IfOk, IsErrOf, ◌≢◌, Err};
-ghost use Rattle.fm_io.specs.Count.{Raised};
+ghost use Rattle.std.specs.Prelude.{◌<◌, ◌≤◌, ℕ, List, length, Option, IfOk, IsErrOf};
+ghost use Rattle.fm_io.specs.Count.{Counts, Raised};
 ghost use Rattle.fm_io.specs.Sink.{TookPiece};
 
 use crate::fault::Fault;
@@ -20,7 +20,5 @@ pub trait Sink {
         requires { 0 < length piece.now }
         ensures bytes { IfOk result (λ n. (0 < n) × (n ≤ length piece.now)) }
         ensures took { TookPiece (written self.old) (written self.new) piece.now result }
-        ensures failed { IsErrOf result Fault.Failed → Raised (faults self.old) (faults self.new) }
-        ensures quiet { result ≢ Err Fault.Failed → faults self.new ≡ faults self.old }
-        ensures faults_stay { faults self.old ≤ faults self.new };
+        ensures counted { Counts Raised (IsErrOf result Fault.Failed) (faults self.old) (faults self.new) };
 }

@@ -1,6 +1,7 @@
-ghost use Rattle.std.specs.Prelude.{◌≡◌, ◌≤◌, ◌<◌, None, Some, length, IfOk, IsOk, ◌≢◌, Ok, ◌+◌, min};
-ghost use Rattle.fm_io.specs.Count.{last_count};
+ghost use Rattle.std.specs.Prelude.{◌≡◌, ◌<◌, length, IfOk, IsErrOf, IsOk, Ok};
+ghost use Rattle.fm_io.specs.Count.{Raised};
 ghost use Rattle.fm_io.specs.Files.{contents_of, HasBytes, TellsPiece};
+ghost use Rattle.fm_io.specs.View.{Leaves};
 
 use crate::count::raised;
 use crate::fault::Fault;
@@ -27,25 +28,17 @@ impl SureFiles {
 }
 
 impl Files for SureFiles {
-    ghost use Rattle.fm_io.specs.InMemory.{sure_contents, sure_misses};
+    ghost use Rattle.fm_io.specs.InMemory.{sure_contents, sure_misses, sure_view};
 
-    ghost holds = { λ f. Some (sure_contents f) };
-
-    ghost faults = { λ f. 0 };
-
-    ghost misses = { sure_misses };
-
-    ghost reads = { λ _. None };
+    ghost view = { sure_view };
 
     fn read_at(&mut self, name: &str, at: u64, buf: &mut [u8]) -> Result<Piece, Fault>
         requires { 0 < length buf.old }
         ensures sure { IsOk result }
         ensures bytes { IfOk result (HasBytes (length buf.old)) }
         ensures content { IfOk result (TellsPiece (sure_contents self.old) name.now at buf.new) }
-        ensures held { sure_contents self.new ≡ sure_contents self.old }
-        ensures missing { result ≡ Ok Piece.Missing → sure_misses self.new ≡ min (sure_misses self.old + 1) last_count }
-        ensures found { result ≢ Ok Piece.Missing → sure_misses self.new ≡ sure_misses self.old }
-        ensures misses_stay { sure_misses self.old ≤ sure_misses self.new }
+        ensures missing { result ≡ Ok Piece.Missing → Raised (sure_misses self.old) (sure_misses self.new) }
+        ensures left { Leaves (IsErrOf result Fault.Failed) (result ≡ Ok Piece.Missing) (sure_view self.old) (sure_view self.new) }
     {
         let piece = read_listed(&self.files, name, at, buf, usize::MAX);
         if piece == Piece::Missing {

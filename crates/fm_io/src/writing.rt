@@ -1,5 +1,5 @@
 ghost use Rattle.std.specs.Prelude.{◌≡◌, ◌≤◌, IsErrOf, OnOk, ◌≢◌, Err};
-ghost use Rattle.fm_io.specs.Count.{Raised};
+ghost use Rattle.fm_io.specs.Count.{Counts, Raised};
 ghost use Rattle.fm_io.specs.Sink.{Appends, AppendsPrefix};
 
 use crate::fault::Fault;
@@ -9,9 +9,7 @@ use crate::sink::Sink;
 pub fn write_text<O: Sink>(out: &mut O, text: &[u8]) -> Result<(), Fault>
     ensures whole { OnOk result (Appends (O.written out.old) (O.written out.new) text.now) }
     ensures prefix { AppendsPrefix (O.written out.old) (O.written out.new) text.now }
-    ensures failed { IsErrOf result Fault.Failed → Raised (O.faults out.old) (O.faults out.new) }
-    ensures quiet { result ≢ Err Fault.Failed → O.faults out.new ≡ O.faults out.old }
-    ensures faults_stay { O.faults out.old ≤ O.faults out.new }
+    ensures counted { Counts Raised (IsErrOf result Fault.Failed) (O.faults out.old) (O.faults out.new) }
 {
     let mut taken = 0;
     while taken < text.len() {

@@ -1,5 +1,5 @@
 -- What loads do in their arenas, one after another.
-use Rattle.std.proofs.Common.{ap, ◌≡◌, ℕ, List, [], ◌++◌, length, Option, None, Some, Result, Ok, Err, refl, sym, subst, append_assoc, ◌∙◌}
+use Rattle.std.proofs.Common.{ap, ◌≡◌, ℕ, ◌≤◌, List, [], ◌++◌, length, Option, None, Some, Result, Ok, Err, refl, sym, subst, append_assoc, ◌∙◌}
 use Rattle.std.specs.Prelude.{OnOk, OnErr}
 use Rattle.std.proofs.lemmas.List.{append-nil}
 use Rattle.std.proofs.lemmas.List.Elements.{Contains-append_right}
@@ -15,8 +15,9 @@ use Rattle.fm_base.proofs.Making.{Makes-then, Makes-none}
 use Rattle.fm_segment_access.specs.Runs.{DoesPutAll}
 use Rattle.fm_segment.specs.Region.{Region}
 use Rattle.fm_top_load.specs.Filling.{GivesAndPuts, DoesPush, Fills, nothing, further, refused, Loads, LoadsAll, LoadsSome}
-use Rattle.fm_top_load.specs.declared.load_fault.LoadFault.{LoadFault}
-use Rattle.fm_top_load.specs.Held.{FoundFull, loaded_in}
+use Rattle.fm_top_load.specs.Held.{FoundFull, IsReady, PushesHeld, loaded_in}
+use Rattle.fm_top_load.specs.Limits.{record_file_limit}
+use Rattle.fm_top_load.specs.Loading.{LoadsOn}
 
 -- bytes that were given, and then put
 pub gave_and_put : {x y z : View} (a : ArenaId) (size place : ℕ) (bytes : List ℕ) → DidAllocate x y a size 8 (Ok place)
@@ -51,27 +52,41 @@ fills_by c a all bytes now own (Err r) does ok err =
     subst (λ (xs : List ℕ). Fills c a all xs own) (sym err) (refused all (length bytes) r [] own nothing does)
 
 -- bytes that were put behind those of a segment, or were not
-pub push_loads : {x y : View} (s t : Region) (bytes : List ℕ) (r : Result (Unit {0}) Refusal)
-    → Did x y (DoesPush x.caller s.arena (length (loaded_in x s)) bytes r)
-    → OnOk r (loaded_in y t ≡ loaded_in x s ++ bytes) → OnErr r (loaded_in y t ≡ loaded_in x s) → Loads x y s t
-push_loads {x} {y} s t bytes r d ok err = record {
-  own = d.own;
-  does = fills_by x.caller s.arena (loaded_in x s) bytes (loaded_in y t) d.own r d.does ok err;
-  makes = d.makes;
+pub push_loads : {x y : View} {s t : Region} {bytes : List ℕ} {r : Result (Unit {0}) Refusal}
+    → Did x y (DoesPush x.caller s.arena (length (loaded_in x s)) bytes r) → PushesHeld x y s t bytes r → length (loaded_in y t) ≤ record_file_limit
+    → LoadsOn x y s t
+push_loads {x} {y} {s} {t} {bytes} {r} d pushes short = record {
+  did = record {
+    own = d.own;
+    does = fills_by x.caller s.arena (loaded_in x s) bytes (loaded_in y t) d.own r d.does pushes.ok pushes.err;
+    makes = d.makes;
+  };
+  ready = pushes.ready;
+  arena = pushes.arena;
+  short = short;
 }
 
 -- nothing was loaded
-pub loads_none : (x : View) (s : Region) → Loads x x s s
-loads_none x s = record { own = []; does = nothing; makes = Makes-none x }
+pub loads_none : {x : View} {s : Region} → IsReady x s → length (loaded_in x s) ≤ record_file_limit → LoadsOn x x s s
+loads_none {x} {s} ready short = record { did = record { own = []; does = nothing; makes = Makes-none x }; ready = ready; arena = refl; short = short }
 
 -- one load behind another
-pub loads_then : {x y z : View} (s t u : Region) → Loads x y s t → Loads y z t u → t.arena ≡ s.arena → Loads x z s u
+loads_then : {x y z : View} (s t u : Region) → Loads x y s t → Loads y z t u → t.arena ≡ s.arena → Loads x z s u
 loads_then {x} {y} {z} s t u d e is = record {
   own = d.own ++ e.own;
   does = fills_then x.caller s.arena (loaded_in x s) (loaded_in y t) (loaded_in z u) d.own e.own d.does
       (subst (λ (a : ArenaId). Fills x.caller a (loaded_in y t) (loaded_in z u) e.own) is
       (subst (λ (c : Caller). Fills c t.arena (loaded_in y t) (loaded_in z u) e.own) d.makes.same_caller e.does));
   makes = Makes-then x y z d.own e.own d.makes e.makes;
+}
+
+-- the same, with what the segments are
+pub loads_on : {x y z : View} {s t u : Region} → LoadsOn x y s t → LoadsOn y z t u → LoadsOn x z s u
+loads_on {x} {y} {z} {s} {t} {u} first then = record {
+  did = loads_then s t u first.did then.did first.arena;
+  ready = then.ready;
+  arena = then.arena ∙ first.arena;
+  short = then.short;
 }
 
 -- a load that began with no bytes
@@ -107,7 +122,3 @@ since (Some t) (Some u) (Some w) all own on found = record {
 -- what was found in a later call was found since an earlier one
 pub found_since : {x y : View} (z : View) {own : List Entry} (nature : Nature) → Makes x y own → FoundFull nature y z → FoundFull nature x z
 found_since {x} {y} z {own} nature makes found = (found.0, since x.told y.told z.told makes.all own makes.told found.1)
-
--- a load has one fault
-pub same_fault : {T : Type 0} (r : Result T LoadFault) (a b : LoadFault) → r ≡ Err a → r ≡ Err b → a ≡ b
-same_fault r a b one two = cc

@@ -4,3 +4,4 @@ pub mod Following
 pub mod GivenBytes
 pub mod Holding
 pub mod Placing
+pub mod Telling

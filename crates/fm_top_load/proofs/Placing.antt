@@ -3,7 +3,6 @@ use Rattle.std.proofs.Common.{◌≡◌, ℕ, ◌+◌, ◌≤◌, List, [], ◌�
 use Rattle.std.proofs.lemmas.List.{length-take-le}
 use Rattle.fm_base.specs.declared.arena_id.ArenaId.{ArenaId}
 use Rattle.fm_base.specs.declared.caller.Caller.{Caller}
-use Rattle.fm_base.specs.Arenas.{State}
 use Rattle.fm_base.specs.View.{View, Did}
 use Rattle.fm_base.proofs.Making.{Makes-then, Makes-none}
 use Rattle.fm_base_bytes.specs.Bytes.{AreBytes}
@@ -11,32 +10,39 @@ use Rattle.fm_base_bytes.proofs.Words.{length-bytes_in}
 use Rattle.fm_segment_access.specs.Alone.{bytes_of_arena, with_bytes}
 use Rattle.fm_segment_access.specs.Runs.{DoesPutAll}
 use Rattle.fm_io.specs.Files.{Contents}
-use Rattle.fm_top_load.specs.Filling.{Puts, no_run, run}
-use Rattle.fm_top_load.specs.Held.{IsHeld, OnlyIn, words_at}
+use Rattle.fm_top_load.specs.Filling.{no_run, run}
+use Rattle.fm_top_load.specs.Held.{IsHeld, PutsHeld, words_at}
+use Rattle.fm_top_load.specs.Reached.{PutsWithin}
 use Rattle.fm_top_load.specs.Whole.{IsChunk, TakesChunk}
 use Rattle.fm_top_load.proofs.Chunks.{takes_chunk}
 use Rattle.fm_top_load.proofs.GivenBytes.{put_behind}
 
 -- nothing was put
-pub puts_none : (x : View) (a : ArenaId) (room : ℕ) → Did x x (Puts x.caller a room)
-puts_none x a room = record { own = []; does = no_run; makes = Makes-none x }
-
--- one run behind others
-pub puts_then : {x y z : View} {a : ArenaId} {room : ℕ} (place : ℕ) (bytes : List ℕ) → Did x y (Puts x.caller a room) → AreBytes bytes
-    → place + length bytes ≤ room → Did y z (DoesPutAll y.caller a place bytes (Ok tt)) → Did x z (Puts x.caller a room)
-puts_then {x} {y} {z} {a} {room} place bytes d are fits e = record {
-  own = d.own ++ e.own;
-  does = run place bytes d.own e.own d.does are fits
-      (subst (λ (c : Caller). DoesPutAll c a place bytes (Ok tt) e.own) d.makes.same_caller e.does);
-  makes = Makes-then x y z d.own e.own d.makes e.makes;
+pub puts_none : {x : View} {a : ArenaId} (room : ℕ) → IsHeld x a → PutsWithin x x a room
+puts_none {x} {a} room held = record {
+  did = record { own = []; does = no_run; makes = Makes-none x };
+  still = held;
+  given = refl;
+  elsewhere = record { arenas = λ b. refl; others = λ b n. refl };
 }
 
--- what stays elsewhere stays
-pub only_none : (a : ArenaId) (s : State) → OnlyIn a s s
-only_none a s = record { arenas = λ b. refl; others = λ b n. refl }
-
-pub only_then : {a : ArenaId} {s t u : State} → OnlyIn a s t → OnlyIn a t u → OnlyIn a s u
-only_then first second = record { arenas = λ b. second.arenas b ∙ first.arenas b; others = λ b n. second.others b n ∙ first.others b n }
+-- one run behind others
+pub puts_then : {x y z : View} {a : ArenaId} {room : ℕ} (place : ℕ) (bytes : List ℕ) → PutsWithin x y a room → AreBytes bytes
+    → place + length bytes ≤ room → Did y z (DoesPutAll y.caller a place bytes (Ok tt)) → PutsHeld y z a place bytes → PutsWithin x z a room
+puts_then {x} {y} {z} {a} {room} place bytes first are fits e put =
+    let d = first.did in
+    let only = first.elsewhere in
+    record {
+      did = record {
+        own = d.own ++ e.own;
+        does = run place bytes d.own e.own d.does are fits
+            (subst (λ (c : Caller). DoesPutAll c a place bytes (Ok tt) e.own) d.makes.same_caller e.does);
+        makes = Makes-then x y z d.own e.own d.makes e.makes;
+      };
+      still = put.held;
+      given = put.given ∙ first.given;
+      elsewhere = record { arenas = λ b. put.elsewhere.arenas b ∙ only.arenas b; others = λ b n. put.elsewhere.others b n ∙ only.others b n };
+    }
 
 -- an arena that is held has bytes for all that is within the limit
 pub has_bytes : {v : View} {a : ArenaId} (n : ℕ) → IsHeld v a → n ≤ v.limit → n ≤ length (bytes_of_arena v.state a)

@@ -1,13 +1,14 @@
 -- An arena that a caller by itself holds, and the bytes that were loaded into it.
-use Rattle.std.specs.Prelude.{◌≡◌, ◌≢◌, ℕ, ◌≤◌, ◌^◌, true, List, None, length, IsTrue}
+use Rattle.std.specs.Prelude.{◌≡◌, ◌≢◌, ℕ, ◌+◌, ◌≤◌, ◌^◌, true, List, ◌++◌, None, Result, IfOk, OnOk, OnErr, length, IsTrue}
 use Rattle.fm_base.specs.declared.arena_id.ArenaId.{ArenaId}
 use Rattle.fm_base.specs.declared.refusal.Refusal.{Refusal}
 use Rattle.fm_base.specs.declared.refusal.Refusal.TheVariants.{Memory, PoolFull}
 use Rattle.fm_base.specs.Arenas.{State, Alive, arena_of, has_arena, MayUse}
-use Rattle.fm_base.specs.Machine.{words_within}
+use Rattle.fm_base.specs.Machine.{rounded_up, words_within}
 use Rattle.fm_base.specs.Finds.{is_page}
 use Rattle.fm_base.specs.Outcomes.{Nature, FoundNoneFree}
 use Rattle.fm_base.specs.View.{View, IsByItself, given_in}
+use Rattle.fm_segment_access.specs.Alone.{bytes_of_arena, with_bytes}
 use Rattle.fm_segment.specs.Alone.{bytes_of_region}
 use Rattle.fm_segment.specs.Region.{Region}
 
@@ -66,3 +67,24 @@ abbrev pub Wants : Nature → View → View → Refusal → Type 0
 Wants nature old new Memory = IsTrue nature.memory
 Wants nature old new PoolFull = FoundFull nature old new
 Wants nature old new r = ⊥
+
+-- The arena gave so many bytes at the next multiple of 8, or it was refused and all is as it was. Nothing else changed.
+pub record AllocatesHeld (old new : View) (a : ArenaId) (size : ℕ) (result : Result ℕ Refusal) : Type 0 where
+  pub place : IfOk result (λ at. at ≡ rounded_up (given_in old a) 8)
+  pub given : IfOk result (λ at. HoldsThen new a (at + size) (words_at old a))
+  pub same : OnErr result (HoldsThen new a (given_in old a) (words_at old a))
+  pub elsewhere : OnlyIn a old.state new.state
+
+-- The bytes stand at the place, in an arena that is held still and has given as much. Nothing else changed.
+pub record PutsHeld (old new : View) (a : ArenaId) (place : ℕ) (bytes : List ℕ) : Type 0 where
+  pub held : IsHeld new a
+  pub given : given_in new a ≡ given_in old a
+  pub stand : bytes_of_arena new.state a ≡ with_bytes (bytes_of_arena old.state a) place bytes
+  pub elsewhere : OnlyIn a old.state new.state
+
+-- The bytes were put behind those of the segment, or they weren't given, and it has what it had.
+pub record PushesHeld (old new : View) (s t : Region) (bytes : List ℕ) (result : Result (Unit {0}) Refusal) : Type 0 where
+  pub ready : IsReady new t
+  pub arena : t.arena ≡ s.arena
+  pub ok : OnOk result (loaded_in new t ≡ loaded_in old s ++ bytes)
+  pub err : OnErr result (loaded_in new t ≡ loaded_in old s)

@@ -2,6 +2,7 @@ pub mod Filling
 pub mod Held
 pub mod Limits
 pub mod Loaded
+pub mod Loading
 pub mod Reached
 pub mod Reading
 pub mod Whole

@@ -1,18 +1,28 @@
 -- How far a file was read into an arena that has room for so many bytes.
-use Rattle.std.specs.Prelude.{◌≡◌, ℕ, ◌+◌, ◌<◌, ◌≤◌, List, take, Option}
+use Rattle.std.specs.Prelude.{◌≡◌, ℕ, ◌+◌, ◌<◌, ◌≤◌, List, length, take, Option}
+use Rattle.fm_base.specs.declared.arena_id.ArenaId.{ArenaId}
+use Rattle.fm_base.specs.View.{View, Did, given_in}
 use Rattle.fm_io.specs.Files.{Contents, AreBytesFrom}
 use Rattle.fm_io.specs.Reads.{Next, Ended}
 use Rattle.fm_top_load.specs.declared.chunk.Chunk.{Chunk}
 use Rattle.fm_top_load.specs.declared.reaching.Reached.{Reached}
 use Rattle.fm_top_load.specs.declared.reaching.Reached.TheVariants.{End, Full}
+use Rattle.fm_top_load.specs.Filling.{Puts}
+use Rattle.fm_top_load.specs.Held.{IsHeld, OnlyIn}
 use Rattle.fm_top_load.specs.Limits.{record_file_limit}
 use Rattle.fm_top_load.specs.Reading.{GoesBy, piece_limit}
 use Rattle.fm_top_load.specs.Whole.{IsChunk, IsWhole}
 
--- the next chunk of a record file from the place on lies at the start of the buffer
-pub record IsNext (told : Option Contents) (name : List ℕ) (place : ℕ) (buffer : List ℕ) (chunk : Chunk) : Type 0 where
+-- the next chunk of a file, which may have so many bytes, from the place on lies at the start of the buffer
+pub record IsNext (limit : ℕ) (told : Option Contents) (name : List ℕ) (place : ℕ) (buffer : List ℕ) (chunk : Chunk) : Type 0 where
   pub small : chunk.count ≤ piece_limit
-  pub bytes : IsChunk record_file_limit told name place (take chunk.count buffer) chunk.ended
+  pub bytes : IsChunk limit told name place (take chunk.count buffer) chunk.ended
+
+-- what was read of a record file so far: its first bytes, and in the buffer the next chunk of it
+pub record CanReadBehind (told : Option Contents) (name bytes buffer : List ℕ) (chunk : Chunk) : Type 0 where
+  pub room : length buffer ≡ piece_limit
+  pub first : AreBytesFrom told name 0 bytes
+  pub next : IsNext record_file_limit told name (length bytes) buffer chunk
 
 -- the first bytes are those of a whole record file, for which there was room
 pub record HasWhole (told : Option Contents) (name : List ℕ) (room count : ℕ) (bytes : List ℕ) : Type 0 where
@@ -25,7 +35,7 @@ pub record HasFirst (told : Option Contents) (name : List ℕ) (room count : ℕ
   pub within : count ≤ room
   pub over : room < count + chunk.count
   pub first : AreBytesFrom told name 0 (take count bytes)
-  pub next : IsNext told name count buffer chunk
+  pub next : IsNext record_file_limit told name count buffer chunk
 
 -- what stands in the arena, of which these are the bytes, and in the buffer
 abbrev pub Reaches : Option Contents → List ℕ → ℕ → List ℕ → List ℕ → Reached → Type 0
@@ -36,3 +46,17 @@ Reaches told name room buffer bytes (Full count chunk) = HasFirst told name room
 abbrev pub GoesBeyond : Reached → Next → Type 0
 GoesBeyond (End count) next = next ≡ Ended
 GoesBeyond (Full count chunk) next = GoesBy chunk.ended (count + chunk.count) next
+
+-- an arena is held that has given room for so many bytes, and a buffer has room for a piece
+pub record CanReach (v : View) (a : ArenaId) (room : ℕ) (buffer : List ℕ) : Type 0 where
+  pub piece : length buffer ≡ piece_limit
+  pub held : IsHeld v a
+  pub given : room ≤ given_in v a
+  pub limit : room ≤ v.limit
+
+-- Runs of bytes were put within that room of the arena, which is held still and has given as much, and nothing else changed.
+pub record PutsWithin (old new : View) (a : ArenaId) (room : ℕ) : Type 0 where
+  pub did : Did old new (Puts old.caller a room)
+  pub still : IsHeld new a
+  pub given : given_in new a ≡ given_in old a
+  pub elsewhere : OnlyIn a old.state new.state

@@ -1,6 +1,10 @@
 -- What files tell of a file that was read whole, or was too long.
-use Rattle.std.specs.Prelude.{◌≡◌, ℕ, ◌+◌, ◌%◌, ◌<◌, ◌≤◌, List, ◌++◌, length, Bool, true, false, Option, Some, IfSome, IsSomeAnd}
-use Rattle.fm_io.specs.Files.{Contents, file_of, AreBytesFrom, EndsBefore}
+use Rattle.std.specs.Prelude.{◌≡◌, ℕ, ◌+◌, ◌%◌, ◌<◌, ◌≤◌, List, ◌++◌, ◌^◌, length, Bool, true, false, Option, Some, IfSome, IsSomeAnd}
+use Rattle.fm_io.specs.Files.{Contents, file_of, AreBytesFrom, EndsBefore, IsAbsent}
+use Rattle.fm_io.specs.View.{FilesView, Leaves}
+use Rattle.fm_top_load.specs.Reading.{piece_limit}
+use Rattle.fm_top_load.specs.declared.load_fault.LoadFault.{LoadFault}
+use Rattle.fm_top_load.specs.declared.load_fault.LoadFault.TheVariants.{Missing, Failed, TooLong, PoolFull}
 
 -- where the files tell, these are the bytes of the file of that name
 abbrev pub IsWhole : Option Contents → List ℕ → List ℕ → Type 0
@@ -10,6 +14,14 @@ IsWhole told name bytes = IfSome told (λ contents. file_of contents name ≡ So
 abbrev pub IsOver : Option Contents → List ℕ → ℕ → Type 0
 IsOver told name limit = IfSome told (λ contents.
     IsSomeAnd (file_of contents name) (λ file. limit < length file))
+
+-- What a load tells of the files, whose file may have so many bytes: what it leaves of them, and why it came to nothing, where it came to this
+-- fault. `Full` is what a full pool takes.
+pub record TellsLoad (Full : Type 0) (limit : ℕ) (old new : FilesView) (name : List ℕ) (fault : Option LoadFault) : Type 0 where
+  pub left : Leaves (fault ≡ Some Failed) (fault ≡ Some Missing) old new
+  pub too_long : fault ≡ Some TooLong → IsOver old.holds name limit
+  pub absent : fault ≡ Some Missing → IsAbsent old.holds name
+  pub pool_full : fault ≡ Some PoolFull → Full
 
 -- These are the next bytes of the file of that name, which may have so many, from the place on; `ended` says that it ends with them. Else they are whole words.
 pub record IsChunk (limit : ℕ) (told : Option Contents) (name : List ℕ) (place : ℕ) (piece : List ℕ) (ended : Bool) : Type 0 where
@@ -28,3 +40,9 @@ pub record TakesChunk (limit : ℕ) (told : Option Contents) (name old new : Lis
   pub whole : ended ≡ false → length old % 8 ≡ 0 → length new % 8 ≡ 0
   pub grows : ended ≡ false → length old < length new
   pub ends : ended ≡ true → EndsBefore told name (length new)
+
+-- a file may have so many bytes, and is read from this place on into a buffer with room for a piece
+pub record CanRead (limit at : ℕ) (buffer : List ℕ) : Type 0 where
+  pub room : length buffer ≡ piece_limit
+  pub small : limit < 2 ^ 40
+  pub short : at ≤ limit

@@ -1,9 +1,9 @@
-ghost use Rattle.std.specs.Prelude.{◌≡◌, ◌≢◌, ◌+◌, ◌<◌, ◌≤◌, ◌^◌, length, take, IfOk, IsErrOf, Err};
-ghost use Rattle.fm_io.specs.Count.{Rose};
-ghost use Rattle.fm_io.specs.Files.{IsAbsent};
+ghost use Rattle.std.specs.Prelude.{◌≡◌, ◌+◌, length, IfOk};
+ghost use Rattle.std.specs.Result.{result_err};
 ghost use Rattle.fm_io.specs.Reads.{ReadsFile};
+ghost use Rattle.fm_top_load.specs.Reached.{IsNext};
 ghost use Rattle.fm_top_load.specs.Reading.{GoesBy, piece_limit};
-ghost use Rattle.fm_top_load.specs.Whole.{IsChunk, IsOver};
+ghost use Rattle.fm_top_load.specs.Whole.{CanRead, TellsLoad};
 
 use crate::load_fault::LoadFault;
 use fm_io::{Files, ReadFault, fill};
@@ -26,25 +26,12 @@ pub fn read_chunk<F: Files>(
     at: u64,
     bytes: &mut [u8],
 ) -> Result<Chunk, LoadFault>
-    requires room { length bytes.old ≡ CHUNK }
-    requires limit { limit < 2 ^ 40 }
-    requires short { at ≤ limit }
+    requires { CanRead limit at bytes.old }
     ensures buffer { length bytes.new ≡ CHUNK }
-    ensures count { IfOk result (λ chunk. chunk.count ≤ CHUNK) }
-    ensures took { IfOk result (λ chunk.
-        IsChunk limit (F.holds files.old) name.now at (take chunk.count bytes.new) chunk.ended) }
-    ensures too_long { IsErrOf result LoadFault.TooLong → IsOver (F.holds files.old) name.now limit }
-    ensures absent { IsErrOf result LoadFault.Missing → IsAbsent (F.holds files.old) name.now }
-    ensures missing { IsErrOf result LoadFault.Missing → Rose (F.misses files.old) (F.misses files.new) }
-    ensures failed { IsErrOf result LoadFault.Failed → Rose (F.faults files.old) (F.faults files.new) }
-    ensures reads { ReadsFile (F.reads files.old) (F.reads files.new) name.now piece_limit (limit + 1) at
+    ensures took { IfOk result (IsNext limit (F.view files.old).holds name.now at bytes.new) }
+    ensures reads { ReadsFile (F.view files.old).reads (F.view files.new).reads name.now piece_limit (limit + 1) at
         (λ next. IfOk result (λ chunk. GoesBy chunk.ended (at + chunk.count) next)) }
-    ensures never { result ≢ Err LoadFault.PoolFull }
-    ensures quiet { result ≢ Err LoadFault.Failed → F.faults files.new ≡ F.faults files.old }
-    ensures found { result ≢ Err LoadFault.Missing → F.misses files.new ≡ F.misses files.old }
-    ensures held { F.holds files.new ≡ F.holds files.old }
-    ensures faults_stay { F.faults files.old ≤ F.faults files.new }
-    ensures misses_stay { F.misses files.old ≤ F.misses files.new }
+    ensures tells { TellsLoad ⊥ limit (F.view files.old) (F.view files.new) name.now (result_err result) }
 {
     let rest = (limit - at) as usize;
     let room = CHUNK.min(rest + 1);

@@ -1,5 +1,4 @@
-ghost use Rattle.std.specs.Prelude.{◌≡◌, ◌+◌, ◌%◌, ◌≤◌, [], ◌++◌, length, Ok, IfOk, IfErr, OnOk, OnErr};
-ghost use Rattle.fm_segment_access.specs.Alone.{bytes_of_arena, with_bytes};
+ghost use Rattle.std.specs.Prelude.{◌≡◌, ◌+◌, ◌%◌, ◌≤◌, [], length, Ok, IfOk, IfErr};
 ghost use Rattle.fm_segment_access.specs.Runs.{DoesPutAll};
 ghost use Rattle.fm_base_bytes.specs.Bytes.{AreBytes};
 ghost use Rattle.fm_base.specs.Does.{DidAllocate};
@@ -7,7 +6,7 @@ ghost use Rattle.fm_base.specs.Learnt.{CanOpen};
 ghost use Rattle.fm_base.specs.Machine.{rounded_up};
 ghost use Rattle.fm_base.specs.View.{Did, IsByItself, given_in};
 ghost use Rattle.fm_top_load.specs.Filling.{DoesPush};
-ghost use Rattle.fm_top_load.specs.Held.{IsHeld, IsEmpty, IsReady, HoldsThen, OnlyIn, Wants, loaded_in, words_at};
+ghost use Rattle.fm_top_load.specs.Held.{AllocatesHeld, IsHeld, IsEmpty, IsReady, PushesHeld, PutsHeld, Wants, loaded_in};
 
 use fm_base::{ArenaId, Kind, Memory, Refusal};
 use fm_segment::Segment;
@@ -42,12 +41,7 @@ pub fn allocate_held<R: Wait, M: Memory>(
     requires room { rounded_up (given_in (M.view m.old) arena) 8 + size ≤ (M.view m.old).limit }
     ensures did { DidAllocate (M.view m.old) (M.view m.new) arena size 8 result }
     ensures wants { IfErr result (Wants M.nature (M.view m.old) (M.view m.new)) }
-    ensures place { IfOk result (λ place. place ≡ rounded_up (given_in (M.view m.old) arena) 8) }
-    ensures given { IfOk result (λ place.
-        HoldsThen (M.view m.new) arena (place + size) (words_at (M.view m.old) arena)) }
-    ensures same { OnErr result
-        (HoldsThen (M.view m.new) arena (given_in (M.view m.old) arena) (words_at (M.view m.old) arena)) }
-    ensures elsewhere { OnlyIn arena (M.view m.old).state (M.view m.new).state }
+    ensures gives { AllocatesHeld (M.view m.old) (M.view m.new) arena size result }
 {
     match m.allocate(rt, arena, size, 8) {
         Ok(place) => Ok(place),
@@ -62,11 +56,7 @@ pub fn put_held<R: Wait, M: Memory>(rt: &R, m: &mut M, arena: ArenaId, place: u6
     requires room { place + length bytes.now ≤ (M.view m.old).limit }
     ensures did { Did (M.view m.old) (M.view m.new) (DoesPutAll (M.view m.old).caller arena place bytes.now (Ok tt)) }
     ensures are { AreBytes bytes.now }
-    ensures held { IsHeld (M.view m.new) arena }
-    ensures given { given_in (M.view m.new) arena ≡ given_in (M.view m.old) arena }
-    ensures bytes { bytes_of_arena (M.view m.new).state arena
-        ≡ with_bytes (bytes_of_arena (M.view m.old).state arena) place bytes.now }
-    ensures elsewhere { OnlyIn arena (M.view m.old).state (M.view m.new).state }
+    ensures puts { PutsHeld (M.view m.old) (M.view m.new) arena place bytes.now }
 {
     match put_bytes(rt, m, arena, place, bytes) {
         Ok(()) => {}
@@ -106,10 +96,7 @@ pub fn push_held<R: Wait, M: Memory>(
     ensures did { Did (M.view m.old) (M.view m.new) (DoesPush (M.view m.old).caller segment.old.arena
         (length (loaded_in (M.view m.old) segment.old)) bytes.now result) }
     ensures wants { IfErr result (Wants M.nature (M.view m.old) (M.view m.new)) }
-    ensures ready { IsReady (M.view m.new) segment.new }
-    ensures arena { segment.new.arena ≡ segment.old.arena }
-    ensures ok { OnOk result (loaded_in (M.view m.new) segment.new ≡ loaded_in (M.view m.old) segment.old ++ bytes.now) }
-    ensures err { OnErr result (loaded_in (M.view m.new) segment.new ≡ loaded_in (M.view m.old) segment.old) }
+    ensures pushes { PushesHeld (M.view m.old) (M.view m.new) segment.old segment.new bytes.now result }
 {
     let size = bytes.len() as u64;
     let arena = segment.arena();

@@ -1,6 +1,5 @@
-ghost use Rattle.std.specs.Prelude.{◌≡◌, ◌≢◌, ◌+◌, ◌%◌, ◌≤◌, length, take, drop, IfOk, IsErrOf, Err};
-ghost use Rattle.fm_io.specs.Count.{Rose};
-ghost use Rattle.fm_io.specs.Files.{IsAbsent};
+ghost use Rattle.std.specs.Prelude.{◌≡◌, ◌+◌, ◌%◌, ◌≤◌, length, take, drop, IfOk};
+ghost use Rattle.std.specs.Result.{result_err};
 ghost use Rattle.fm_layout.specs.Parts.{IsValue};
 ghost use Rattle.fm_layout.specs.Size.{size_of};
 ghost use Rattle.fm_layout.specs.Tree.{alignment_of};
@@ -8,7 +7,7 @@ ghost use Rattle.fm_mono.specs.Shown.{view_of};
 ghost use Rattle.fm_segment.specs.Alone.{Means};
 ghost use Rattle.fm_top_load.specs.Held.{IsReady, loaded_in};
 ghost use Rattle.fm_top_load.specs.Reading.{ReadsSome};
-ghost use Rattle.fm_top_load.specs.Whole.{IsWhole, IsOver};
+ghost use Rattle.fm_top_load.specs.Whole.{IsWhole, TellsLoad};
 
 use crate::held::{RECORD_FILE_LIMIT, open_held};
 use crate::load_fault::LoadFault;
@@ -84,22 +83,11 @@ pub fn load<R: Wait, F: Files>(
     files: &mut F,
     name: &str,
 ) -> Result<Loaded, LoadFault>
-    ensures whole { IfOk result (IsWhole (F.holds files.old) name.now) }
+    ensures whole { IfOk result (IsWhole (F.view files.old).holds name.now) }
     ensures short { IfOk result (λ bytes. length bytes ≤ RECORD_FILE_LIMIT) }
-    ensures too_long { IsErrOf result LoadFault.TooLong →
-        IsOver (F.holds files.old) name.now RECORD_FILE_LIMIT }
-    ensures absent { IsErrOf result LoadFault.Missing → IsAbsent (F.holds files.old) name.now }
-    ensures missing { IsErrOf result LoadFault.Missing → Rose (F.misses files.old) (F.misses files.new) }
-    ensures failed { IsErrOf result LoadFault.Failed → Rose (F.faults files.old) (F.faults files.new) }
-    ensures never { result ≢ Err LoadFault.PoolFull }
-
     // It reads on where the bytes of its last read end, in pieces, and up to the first byte past the limit at most.
-    ensures reads { ReadsSome (F.reads files.old) (F.reads files.new) name.now RECORD_FILE_LIMIT }
-    ensures quiet { result ≢ Err LoadFault.Failed → F.faults files.new ≡ F.faults files.old }
-    ensures found { result ≢ Err LoadFault.Missing → F.misses files.new ≡ F.misses files.old }
-    ensures held { F.holds files.new ≡ F.holds files.old }
-    ensures faults_stay { F.faults files.old ≤ F.faults files.new }
-    ensures misses_stay { F.misses files.old ≤ F.misses files.new }
+    ensures reads { ReadsSome (F.view files.old).reads (F.view files.new).reads name.now RECORD_FILE_LIMIT }
+    ensures tells { TellsLoad ⊥ RECORD_FILE_LIMIT (F.view files.old) (F.view files.new) name.now (result_err result) }
 {
     let mut memory = Mono::make(alloc, RECORD_FILE_LIMIT);
     let Ok(arena) = open_held(rt, &mut memory, Kind::Confined) else {

@@ -1,11 +1,11 @@
-ghost use Rattle.std.specs.Prelude.{◌≡◌, ◌≢◌, ◌≤◌, ◌+◌, ◌%◌, length, IfOk, IfErr, IsErrOf, Err};
-ghost use Rattle.fm_io.specs.Count.{Rose};
-ghost use Rattle.fm_io.specs.Files.{AreBytesFrom, IsAbsent};
+ghost use Rattle.std.specs.Prelude.{◌≡◌, ◌≢◌, ◌+◌, length, IfOk, IfErr};
+ghost use Rattle.std.specs.Result.{result_err};
+ghost use Rattle.fm_io.specs.Files.{AreBytesFrom};
 ghost use Rattle.fm_io.specs.Reads.{ReadsFile};
-ghost use Rattle.fm_top_load.specs.Filling.{Loads, LoadsAll, LoadsSome};
-ghost use Rattle.fm_top_load.specs.Held.{FoundFull, HasRoom, IsHeld, IsReady, loaded_in};
+ghost use Rattle.fm_top_load.specs.Held.{FoundFull, HasRoom, loaded_in};
+ghost use Rattle.fm_top_load.specs.Loading.{CanLoadOn, HasBegun, HasLoaded, LoadsOn};
 ghost use Rattle.fm_top_load.specs.Reading.{GoesBy, ReadsSome, piece_limit};
-ghost use Rattle.fm_top_load.specs.Whole.{IsWhole, IsOver, TakesChunk};
+ghost use Rattle.fm_top_load.specs.Whole.{IsWhole, TakesChunk, TellsLoad};
 
 use crate::buffers::zero_bytes;
 use crate::chunk::{CHUNK, read_chunk};
@@ -30,26 +30,12 @@ pub fn load_into<R: Wait, F: Files, M: Memory>(
     arena: ArenaId,
 ) -> Result<Segment, LoadFault>
     requires { HasRoom RECORD_FILE_LIMIT (M.view m.old) arena }
-    ensures ready { IfOk result (IsReady (M.view m.new)) }
-    ensures arena { IfOk result (λ s. s.arena ≡ arena) }
-    ensures short { IfOk result (λ s. s.size ≤ RECORD_FILE_LIMIT) }
-    ensures whole { IfOk result (λ s. IsWhole (F.holds files.old) name.now (loaded_in (M.view m.new) s)) }
-    ensures did { IfOk result (LoadsAll (M.view m.old) (M.view m.new) arena) }
-    ensures left { IfErr result (λ _. LoadsSome (M.view m.old) (M.view m.new) arena × IsHeld (M.view m.new) arena) }
-    ensures too_long { IsErrOf result LoadFault.TooLong →
-        IsOver (F.holds files.old) name.now RECORD_FILE_LIMIT }
-    ensures absent { IsErrOf result LoadFault.Missing → IsAbsent (F.holds files.old) name.now }
-    ensures missing { IsErrOf result LoadFault.Missing → Rose (F.misses files.old) (F.misses files.new) }
-    ensures failed { IsErrOf result LoadFault.Failed → Rose (F.faults files.old) (F.faults files.new) }
-    ensures pool_full { IsErrOf result LoadFault.PoolFull → FoundFull M.nature (M.view m.old) (M.view m.new) }
-
+    ensures loaded { IfOk result (HasLoaded (F.view files.old).holds name.now (M.view m.old) (M.view m.new) arena) }
+    ensures left { IfErr result (λ _. HasBegun (M.view m.old) (M.view m.new) arena) }
     // It reads on where the bytes of its last read end, in pieces, and up to the first byte past the limit at most.
-    ensures reads { ReadsSome (F.reads files.old) (F.reads files.new) name.now RECORD_FILE_LIMIT }
-    ensures quiet { result ≢ Err LoadFault.Failed → F.faults files.new ≡ F.faults files.old }
-    ensures found { result ≢ Err LoadFault.Missing → F.misses files.new ≡ F.misses files.old }
-    ensures held { F.holds files.new ≡ F.holds files.old }
-    ensures faults_stay { F.faults files.old ≤ F.faults files.new }
-    ensures misses_stay { F.misses files.old ≤ F.misses files.new }
+    ensures reads { ReadsSome (F.view files.old).reads (F.view files.new).reads name.now RECORD_FILE_LIMIT }
+    ensures tells { TellsLoad (FoundFull M.nature (M.view m.old) (M.view m.new)) RECORD_FILE_LIMIT
+        (F.view files.old) (F.view files.new) name.now (result_err result) }
 {
     let Ok(mut bytes) = zero_bytes(alloc, CHUNK) else {
         return Err(LoadFault::Memory);
@@ -70,30 +56,15 @@ fn load_pieces<R: Wait, F: Files, M: Memory>(
     m: &mut M,
     segment: &mut Segment,
 ) -> Result<(), LoadFault>
-    requires buffer { length bytes.old ≡ CHUNK }
-    requires limit { RECORD_FILE_LIMIT ≤ (M.view m.old).limit }
-    requires ready { IsReady (M.view m.old) segment.old }
-    requires first { AreBytesFrom (F.holds files.old) name.now 0 (loaded_in (M.view m.old) segment.old) }
-    requires even { length (loaded_in (M.view m.old) segment.old) % 8 ≡ 0 }
-    requires short { length (loaded_in (M.view m.old) segment.old) ≤ RECORD_FILE_LIMIT }
-    ensures ready { IsReady (M.view m.new) segment.new }
-    ensures arena { segment.new.arena ≡ segment.old.arena }
-    ensures short { length (loaded_in (M.view m.new) segment.new) ≤ RECORD_FILE_LIMIT }
-    ensures whole { IfOk result (λ _. IsWhole (F.holds files.old) name.now (loaded_in (M.view m.new) segment.new)) }
-    ensures did { Loads (M.view m.old) (M.view m.new) segment.old segment.new }
-    ensures too_long { IsErrOf result LoadFault.TooLong →
-        IsOver (F.holds files.old) name.now RECORD_FILE_LIMIT }
-    ensures absent { IsErrOf result LoadFault.Missing → IsAbsent (F.holds files.old) name.now }
-    ensures missing { IsErrOf result LoadFault.Missing → Rose (F.misses files.old) (F.misses files.new) }
-    ensures failed { IsErrOf result LoadFault.Failed → Rose (F.faults files.old) (F.faults files.new) }
-    ensures pool_full { IsErrOf result LoadFault.PoolFull → FoundFull M.nature (M.view m.old) (M.view m.new) }
-    ensures reads { ReadsFile (F.reads files.old) (F.reads files.new) name.now piece_limit (RECORD_FILE_LIMIT + 1)
-        (length (loaded_in (M.view m.old) segment.old)) (λ next. Unit {0}) }
-    ensures quiet { result ≢ Err LoadFault.Failed → F.faults files.new ≡ F.faults files.old }
-    ensures found { result ≢ Err LoadFault.Missing → F.misses files.new ≡ F.misses files.old }
-    ensures held { F.holds files.new ≡ F.holds files.old }
-    ensures faults_stay { F.faults files.old ≤ F.faults files.new }
-    ensures misses_stay { F.misses files.old ≤ F.misses files.new }
+    requires can { CanLoadOn bytes.old (M.view m.old) segment.old }
+    requires first { AreBytesFrom (F.view files.old).holds name.now 0 (loaded_in (M.view m.old) segment.old) }
+    ensures loads { LoadsOn (M.view m.old) (M.view m.new) segment.old segment.new }
+    ensures whole { IfOk result (λ _.
+        IsWhole (F.view files.old).holds name.now (loaded_in (M.view m.new) segment.new)) }
+    ensures reads { ReadsFile (F.view files.old).reads (F.view files.new).reads name.now piece_limit
+        (RECORD_FILE_LIMIT + 1) (length (loaded_in (M.view m.old) segment.old)) (λ next. Unit {0}) }
+    ensures tells { TellsLoad (FoundFull M.nature (M.view m.old) (M.view m.new)) RECORD_FILE_LIMIT
+        (F.view files.old) (F.view files.new) name.now (result_err result) }
 {
     loop {
         match load_chunk(rt, files, name, bytes, m, segment) {
@@ -114,32 +85,16 @@ fn load_chunk<R: Wait, F: Files, M: Memory>(
     m: &mut M,
     segment: &mut Segment,
 ) -> Result<bool, LoadFault>
-    requires buffer { length bytes.old ≡ CHUNK }
-    requires limit { RECORD_FILE_LIMIT ≤ (M.view m.old).limit }
-    requires ready { IsReady (M.view m.old) segment.old }
-    requires even { length (loaded_in (M.view m.old) segment.old) % 8 ≡ 0 }
-    requires short { length (loaded_in (M.view m.old) segment.old) ≤ RECORD_FILE_LIMIT }
+    requires { CanLoadOn bytes.old (M.view m.old) segment.old }
     ensures buffer { length bytes.new ≡ CHUNK }
-    ensures ready { IsReady (M.view m.new) segment.new }
-    ensures arena { segment.new.arena ≡ segment.old.arena }
-    ensures short { length (loaded_in (M.view m.new) segment.new) ≤ RECORD_FILE_LIMIT }
-    ensures took { IfOk result (TakesChunk RECORD_FILE_LIMIT (F.holds files.old) name.now
+    ensures loads { LoadsOn (M.view m.old) (M.view m.new) segment.old segment.new }
+    ensures took { IfOk result (TakesChunk RECORD_FILE_LIMIT (F.view files.old).holds name.now
         (loaded_in (M.view m.old) segment.old) (loaded_in (M.view m.new) segment.new)) }
-    ensures did { Loads (M.view m.old) (M.view m.new) segment.old segment.new }
-    ensures too_long { IsErrOf result LoadFault.TooLong →
-        IsOver (F.holds files.old) name.now RECORD_FILE_LIMIT }
-    ensures absent { IsErrOf result LoadFault.Missing → IsAbsent (F.holds files.old) name.now }
-    ensures missing { IsErrOf result LoadFault.Missing → Rose (F.misses files.old) (F.misses files.new) }
-    ensures failed { IsErrOf result LoadFault.Failed → Rose (F.faults files.old) (F.faults files.new) }
-    ensures pool_full { IsErrOf result LoadFault.PoolFull → FoundFull M.nature (M.view m.old) (M.view m.new) }
-    ensures reads { ReadsFile (F.reads files.old) (F.reads files.new) name.now piece_limit (RECORD_FILE_LIMIT + 1)
-        (length (loaded_in (M.view m.old) segment.old))
+    ensures reads { ReadsFile (F.view files.old).reads (F.view files.new).reads name.now piece_limit
+        (RECORD_FILE_LIMIT + 1) (length (loaded_in (M.view m.old) segment.old))
         (λ next. IfOk result (λ ended. GoesBy ended (length (loaded_in (M.view m.new) segment.new)) next)) }
-    ensures quiet { result ≢ Err LoadFault.Failed → F.faults files.new ≡ F.faults files.old }
-    ensures found { result ≢ Err LoadFault.Missing → F.misses files.new ≡ F.misses files.old }
-    ensures held { F.holds files.new ≡ F.holds files.old }
-    ensures faults_stay { F.faults files.old ≤ F.faults files.new }
-    ensures misses_stay { F.misses files.old ≤ F.misses files.new }
+    ensures tells { TellsLoad (FoundFull M.nature (M.view m.old) (M.view m.new)) RECORD_FILE_LIMIT
+        (F.view files.old) (F.view files.new) name.now (result_err result) }
 {
     let at = loaded_size(m, segment);
     let chunk = match read_chunk(files, name, RECORD_FILE_LIMIT, at, bytes) {

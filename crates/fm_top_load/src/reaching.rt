@@ -1,13 +1,9 @@
-ghost use Rattle.std.specs.Prelude.{◌≡◌, ◌≢◌, ◌≤◌, length, IfOk, IsErrOf, Err};
+ghost use Rattle.std.specs.Prelude.{◌≡◌, length, IfOk};
+ghost use Rattle.std.specs.Result.{result_err};
 ghost use Rattle.fm_segment_access.specs.Alone.{bytes_of_arena};
-ghost use Rattle.fm_base.specs.View.{Did, given_in};
-ghost use Rattle.fm_io.specs.Count.{Rose};
-ghost use Rattle.fm_io.specs.Files.{IsAbsent};
-ghost use Rattle.fm_top_load.specs.Filling.{Puts};
-ghost use Rattle.fm_top_load.specs.Held.{IsHeld, OnlyIn};
-ghost use Rattle.fm_top_load.specs.Reached.{GoesBeyond, Reaches};
+ghost use Rattle.fm_top_load.specs.Reached.{CanReach, GoesBeyond, PutsWithin, Reaches};
 ghost use Rattle.fm_top_load.specs.Reading.{ReadsUpTo};
-ghost use Rattle.fm_top_load.specs.Whole.{IsOver};
+ghost use Rattle.fm_top_load.specs.Whole.{TellsLoad};
 
 use crate::chunk::{CHUNK, Chunk, read_chunk};
 use crate::held::{RECORD_FILE_LIMIT, put_held};
@@ -36,30 +32,14 @@ pub fn load_within<R: Wait, F: Files, M: Memory>(
     arena: ArenaId,
     room: u64,
 ) -> Result<Reached, LoadFault>
-    requires buffer { length buffer.old ≡ CHUNK }
-    requires held { IsHeld (M.view m.old) arena }
-    requires given { room ≤ given_in (M.view m.old) arena }
-    requires limit { room ≤ (M.view m.old).limit }
+    requires { CanReach (M.view m.old) arena room buffer.old }
     ensures buffer { length buffer.new ≡ CHUNK }
-    ensures reached { IfOk result (Reaches (F.holds files.old) name.now room buffer.new
+    ensures reached { IfOk result (Reaches (F.view files.old).holds name.now room buffer.new
         (bytes_of_arena (M.view m.new).state arena)) }
-    ensures did { Did (M.view m.old) (M.view m.new) (Puts (M.view m.old).caller arena room) }
-    ensures still { IsHeld (M.view m.new) arena }
-    ensures given { given_in (M.view m.new) arena ≡ given_in (M.view m.old) arena }
-    ensures elsewhere { OnlyIn arena (M.view m.old).state (M.view m.new).state }
-    ensures too_long { IsErrOf result LoadFault.TooLong →
-        IsOver (F.holds files.old) name.now RECORD_FILE_LIMIT }
-    ensures absent { IsErrOf result LoadFault.Missing → IsAbsent (F.holds files.old) name.now }
-    ensures missing { IsErrOf result LoadFault.Missing → Rose (F.misses files.old) (F.misses files.new) }
-    ensures failed { IsErrOf result LoadFault.Failed → Rose (F.faults files.old) (F.faults files.new) }
-    ensures reads { ReadsUpTo (F.reads files.old) (F.reads files.new) name.now RECORD_FILE_LIMIT
+    ensures puts { PutsWithin (M.view m.old) (M.view m.new) arena room }
+    ensures reads { ReadsUpTo (F.view files.old).reads (F.view files.new).reads name.now RECORD_FILE_LIMIT
         (λ next. IfOk result (λ reached. GoesBeyond reached next)) }
-    ensures never { result ≢ Err LoadFault.PoolFull }
-    ensures quiet { result ≢ Err LoadFault.Failed → F.faults files.new ≡ F.faults files.old }
-    ensures found { result ≢ Err LoadFault.Missing → F.misses files.new ≡ F.misses files.old }
-    ensures held { F.holds files.new ≡ F.holds files.old }
-    ensures faults_stay { F.faults files.old ≤ F.faults files.new }
-    ensures misses_stay { F.misses files.old ≤ F.misses files.new }
+    ensures tells { TellsLoad ⊥ RECORD_FILE_LIMIT (F.view files.old) (F.view files.new) name.now (result_err result) }
 {
     let mut at = 0;
     loop {

@@ -1,10 +1,10 @@
-ghost use Rattle.std.specs.Prelude.{◌≡◌, ◌≤◌, ◌<◌, ◌^◌, length, IfOk, IsErrOf, ◌≢◌, Err, ◌+◌};
-ghost use Rattle.fm_io.specs.Count.{Rose};
-ghost use Rattle.fm_io.specs.Files.{AreBytesFrom, IsAbsent};
+ghost use Rattle.std.specs.Prelude.{◌≡◌, ◌≤◌, ◌<◌, ◌^◌, length, IfOk, ◌+◌};
+ghost use Rattle.std.specs.Result.{result_err};
+ghost use Rattle.fm_io.specs.Files.{AreBytesFrom};
 ghost use Rattle.fm_io.specs.Reads.{Ended, ReadsFile};
+ghost use Rattle.fm_top_load.specs.Reached.{CanReadBehind};
 ghost use Rattle.fm_top_load.specs.Reading.{GoesBy, ReadsBehind, ReadsSome, ReadsUpTo, piece_limit};
-ghost use Rattle.fm_top_load.specs.Reached.{IsNext};
-ghost use Rattle.fm_top_load.specs.Whole.{IsWhole, IsOver, TakesChunk};
+ghost use Rattle.fm_top_load.specs.Whole.{CanRead, IsWhole, TakesChunk, TellsLoad};
 
 use crate::buffers::zero_bytes;
 use crate::chunk::{CHUNK, Chunk, read_chunk};
@@ -26,23 +26,13 @@ pub fn read_whole<F: Files>(
     limit: u64,
 ) -> Result<Vec<u8>, LoadFault>
     requires { limit < 2 ^ 40 }
-    ensures whole { IfOk result (λ bytes. IsWhole (F.holds files.old) name.now bytes.items) }
+    ensures whole { IfOk result (λ bytes. IsWhole (F.view files.old).holds name.now bytes.items) }
     ensures short { IfOk result (λ bytes. length bytes.items ≤ limit) }
-    ensures too_long { IsErrOf result LoadFault.TooLong → IsOver (F.holds files.old) name.now limit }
-    ensures absent { IsErrOf result LoadFault.Missing → IsAbsent (F.holds files.old) name.now }
-    ensures missing { IsErrOf result LoadFault.Missing → Rose (F.misses files.old) (F.misses files.new) }
-    ensures failed { IsErrOf result LoadFault.Failed → Rose (F.faults files.old) (F.faults files.new) }
-
     // It reads on where the bytes of its last read end, in pieces, and up to the first byte past the limit at most.
-    ensures reads { ReadsSome (F.reads files.old) (F.reads files.new) name.now limit }
-    ensures reads_whole { ReadsUpTo (F.reads files.old) (F.reads files.new) name.now limit
+    ensures reads { ReadsSome (F.view files.old).reads (F.view files.new).reads name.now limit }
+    ensures reads_whole { ReadsUpTo (F.view files.old).reads (F.view files.new).reads name.now limit
         (λ next. IfOk result (λ _. next ≡ Ended)) }
-    ensures never { result ≢ Err LoadFault.PoolFull }
-    ensures quiet { result ≢ Err LoadFault.Failed → F.faults files.new ≡ F.faults files.old }
-    ensures found { result ≢ Err LoadFault.Missing → F.misses files.new ≡ F.misses files.old }
-    ensures held { F.holds files.new ≡ F.holds files.old }
-    ensures faults_stay { F.faults files.old ≤ F.faults files.new }
-    ensures misses_stay { F.misses files.old ≤ F.misses files.new }
+    ensures tells { TellsLoad ⊥ limit (F.view files.old) (F.view files.new) name.now (result_err result) }
 {
     let Ok(mut buffer) = zero_bytes(alloc, CHUNK) else {
         return Err(LoadFault::Memory);
@@ -62,23 +52,12 @@ pub fn read_behind<F: Files>(
     chunk: Chunk,
     bytes: &mut Vec<u8>,
 ) -> Result<(), LoadFault>
-    requires room { length buffer.old ≡ CHUNK }
-    requires first { AreBytesFrom (F.holds files.old) name.now 0 bytes.old.items }
-    requires next { IsNext (F.holds files.old) name.now (length bytes.old.items) buffer.old chunk }
-    ensures whole { IfOk result (λ _. IsWhole (F.holds files.old) name.now bytes.new.items) }
+    requires { CanReadBehind (F.view files.old).holds name.now bytes.old.items buffer.old chunk }
+    ensures whole { IfOk result (λ _. IsWhole (F.view files.old).holds name.now bytes.new.items) }
     ensures short { IfOk result (λ _. length bytes.new.items ≤ RECORD_FILE_LIMIT) }
-    ensures too_long { IsErrOf result LoadFault.TooLong → IsOver (F.holds files.old) name.now RECORD_FILE_LIMIT }
-    ensures absent { IsErrOf result LoadFault.Missing → IsAbsent (F.holds files.old) name.now }
-    ensures missing { IsErrOf result LoadFault.Missing → Rose (F.misses files.old) (F.misses files.new) }
-    ensures failed { IsErrOf result LoadFault.Failed → Rose (F.faults files.old) (F.faults files.new) }
-    ensures reads { ReadsBehind chunk.ended (F.reads files.old) (F.reads files.new) name.now
+    ensures reads { ReadsBehind chunk.ended (F.view files.old).reads (F.view files.new).reads name.now
         (length bytes.old.items + chunk.count) }
-    ensures never { result ≢ Err LoadFault.PoolFull }
-    ensures quiet { result ≢ Err LoadFault.Failed → F.faults files.new ≡ F.faults files.old }
-    ensures found { result ≢ Err LoadFault.Missing → F.misses files.new ≡ F.misses files.old }
-    ensures held { F.holds files.new ≡ F.holds files.old }
-    ensures faults_stay { F.faults files.old ≤ F.faults files.new }
-    ensures misses_stay { F.misses files.old ≤ F.misses files.new }
+    ensures tells { TellsLoad ⊥ RECORD_FILE_LIMIT (F.view files.old) (F.view files.new) name.now (result_err result) }
 {
     if bytes.extend_from_slice(&buffer[..chunk.count]).is_err() {
         return Err(LoadFault::Memory);
@@ -97,24 +76,13 @@ fn read_on<F: Files>(
     buffer: &mut [u8],
     bytes: &mut Vec<u8>,
 ) -> Result<(), LoadFault>
-    requires room { length buffer.old ≡ CHUNK }
-    requires limit { limit < 2 ^ 40 }
-    requires short { length bytes.old.items ≤ limit }
-    requires first { AreBytesFrom (F.holds files.old) name.now 0 bytes.old.items }
-    ensures whole { IfOk result (λ _. IsWhole (F.holds files.old) name.now bytes.new.items) }
+    requires can { CanRead limit (length bytes.old.items) buffer.old }
+    requires first { AreBytesFrom (F.view files.old).holds name.now 0 bytes.old.items }
+    ensures whole { IfOk result (λ _. IsWhole (F.view files.old).holds name.now bytes.new.items) }
     ensures short { IfOk result (λ _. length bytes.new.items ≤ limit) }
-    ensures too_long { IsErrOf result LoadFault.TooLong → IsOver (F.holds files.old) name.now limit }
-    ensures absent { IsErrOf result LoadFault.Missing → IsAbsent (F.holds files.old) name.now }
-    ensures missing { IsErrOf result LoadFault.Missing → Rose (F.misses files.old) (F.misses files.new) }
-    ensures failed { IsErrOf result LoadFault.Failed → Rose (F.faults files.old) (F.faults files.new) }
-    ensures reads { ReadsFile (F.reads files.old) (F.reads files.new) name.now piece_limit (limit + 1) (length bytes.old.items)
-        (λ next. IfOk result (λ _. next ≡ Ended)) }
-    ensures never { result ≢ Err LoadFault.PoolFull }
-    ensures quiet { result ≢ Err LoadFault.Failed → F.faults files.new ≡ F.faults files.old }
-    ensures found { result ≢ Err LoadFault.Missing → F.misses files.new ≡ F.misses files.old }
-    ensures held { F.holds files.new ≡ F.holds files.old }
-    ensures faults_stay { F.faults files.old ≤ F.faults files.new }
-    ensures misses_stay { F.misses files.old ≤ F.misses files.new }
+    ensures reads { ReadsFile (F.view files.old).reads (F.view files.new).reads name.now piece_limit (limit + 1)
+        (length bytes.old.items) (λ next. IfOk result (λ _. next ≡ Ended)) }
+    ensures tells { TellsLoad ⊥ limit (F.view files.old) (F.view files.new) name.now (result_err result) }
 {
     loop {
         match read_more(files, name, limit, buffer, bytes) {
@@ -134,23 +102,13 @@ fn read_more<F: Files>(
     buffer: &mut [u8],
     bytes: &mut Vec<u8>,
 ) -> Result<bool, LoadFault>
-    requires room { length buffer.old ≡ CHUNK }
-    requires limit { limit < 2 ^ 40 }
-    requires short { length bytes.old.items ≤ limit }
+    requires { CanRead limit (length bytes.old.items) buffer.old }
     ensures buffer { length buffer.new ≡ CHUNK }
-    ensures took { IfOk result (TakesChunk limit (F.holds files.old) name.now bytes.old.items bytes.new.items) }
-    ensures too_long { IsErrOf result LoadFault.TooLong → IsOver (F.holds files.old) name.now limit }
-    ensures absent { IsErrOf result LoadFault.Missing → IsAbsent (F.holds files.old) name.now }
-    ensures missing { IsErrOf result LoadFault.Missing → Rose (F.misses files.old) (F.misses files.new) }
-    ensures failed { IsErrOf result LoadFault.Failed → Rose (F.faults files.old) (F.faults files.new) }
-    ensures reads { ReadsFile (F.reads files.old) (F.reads files.new) name.now piece_limit (limit + 1) (length bytes.old.items)
-        (λ next. IfOk result (λ ended. GoesBy ended (length bytes.new.items) next)) }
-    ensures never { result ≢ Err LoadFault.PoolFull }
-    ensures quiet { result ≢ Err LoadFault.Failed → F.faults files.new ≡ F.faults files.old }
-    ensures found { result ≢ Err LoadFault.Missing → F.misses files.new ≡ F.misses files.old }
-    ensures held { F.holds files.new ≡ F.holds files.old }
-    ensures faults_stay { F.faults files.old ≤ F.faults files.new }
-    ensures misses_stay { F.misses files.old ≤ F.misses files.new }
+    ensures took { IfOk result
+        (TakesChunk limit (F.view files.old).holds name.now bytes.old.items bytes.new.items) }
+    ensures reads { ReadsFile (F.view files.old).reads (F.view files.new).reads name.now piece_limit (limit + 1)
+        (length bytes.old.items) (λ next. IfOk result (λ ended. GoesBy ended (length bytes.new.items) next)) }
+    ensures tells { TellsLoad ⊥ limit (F.view files.old) (F.view files.new) name.now (result_err result) }
 {
     let at = bytes.len() as u64;
     let chunk = match read_chunk(files, name, limit, at, buffer) {

@@ -1,4 +1,5 @@
-use Rattle.std.proofs.Common.{◌≡◌, ◌≤◌, ◌-◌, length, take}
+use Rattle.std.proofs.Common.{◌≤◌, ◌-◌, length, take}
+use Rattle.fm_io.specs.Count.{Counts, Raised}
 use Rattle.fm_io.specs.Sink.{Appends}
 use Rattle.fm_io.proofs.writing.write_text.Given as goal
 
@@ -9,8 +10,7 @@ invariant-loop-taken g l =
     record {
       within : l.taken ≤ length l.text;
       written : Appends (out.written l.fn.out) (out.written l.out) (take l.taken l.text);
-      quiet : out.faults l.out ≡ out.faults l.fn.out;
-      faults_stay : out.faults l.fn.out ≤ out.faults l.out;
+      counted : Counts Raised ⊥ (out.faults l.fn.out) (out.faults l.out);
     }
 
 abbrev pub decreases-loop-taken : goal.decreases-loop-taken

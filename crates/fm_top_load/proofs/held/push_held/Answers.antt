@@ -15,27 +15,15 @@ allocate_held-requires-clause-room g c =
 pub put_held-requires-clause-room : goal.put_held-requires-clause-room
 put_held-requires-clause-room g c =
     let next = next_place c.requires.ready c.arena-arena.ensures c.requires.whole in
-    omega (arith, next, length-loaded c.requires.ready, c.requires.room, c.in-Ok.ensures.place, c.in-Ok.ensures.did.makes.same_limit)
+    omega (arith, next, length-loaded c.requires.ready, c.requires.room, c.in-Ok.ensures.gives.place, c.in-Ok.ensures.did.makes.same_limit)
 
 pub of-requires : goal.of-requires
 of-requires g c =
     let next = next_place c.requires.ready c.arena-arena.ensures c.requires.whole in
-    omega (arith, next, length-loaded c.requires.ready, c.requires.room, c.in-Ok.ensures.place, c.requires.ready.held.small)
+    omega (arith, next, length-loaded c.requires.ready, c.requires.room, c.in-Ok.ensures.gives.place, c.requires.ready.held.small)
 
-pub returns-clause-ready : goal.returns-clause-ready
-returns-clause-ready g c =
-    let next = next_place c.requires.ready c.arena-arena.ensures c.requires.whole in
-    let size = length-loaded c.requires.ready in
-    let limit = c.put_held.ensures.did.makes.same_limit in
-    subst (λ (r : Region). IsReady (g.M.Memory.view c.put_held.new.m) r) (sym c.of.ensures) (record {
-      held = c.put_held.ensures.held;
-      whole = refl;
-      counted = c.put_held.ensures.given ∙ c.in-Ok.ensures.given.given_is;
-      within = omega (arith, next, size, c.requires.room, c.in-Ok.ensures.place, c.in-Ok.ensures.did.makes.same_limit, limit);
-    })
-
-pub returns-clause-ok : goal.returns-clause-ok
-returns-clause-ok g c =
+pub returns-clause-pushes : goal.returns-clause-pushes
+returns-clause-pushes g c =
     let v = g.M.Memory.view in
     let old = v c.args.m.now in
     let new = v c.put_held.new.m in
@@ -43,38 +31,61 @@ returns-clause-ok g c =
     let a = c.arena-arena.result in
     let bytes = c.args.bytes.now in
     let place = c.in-Ok.place in
-    let at : c.in-Ok.place ≡ s.size =
-    c.in-Ok.ensures.place ∙ next_place c.requires.ready c.arena-arena.ensures c.requires.whole in
+    let puts = c.put_held.ensures.puts in
+    let next = next_place c.requires.ready c.arena-arena.ensures c.requires.whole in
+    let at : c.in-Ok.place ≡ s.size = c.in-Ok.ensures.gives.place ∙ next in
     let mid : bytes_of_arena (v c.allocate_held.new.m).state a ≡ bytes_of_arena old.state s.arena =
-    ap bytes_in c.in-Ok.ensures.given.words_are ∙ ap (λ (b : ArenaId). bytes_of_arena old.state b) c.arena-arena.ensures in
+    ap bytes_in c.in-Ok.ensures.gives.given.words_are ∙ ap (λ (b : ArenaId). bytes_of_arena old.state b) c.arena-arena.ensures in
     let all = bytes_of_arena (v c.allocate_held.new.m).state a in
     let room : c.in-Ok.place ≤ length (bytes_of_arena (v c.allocate_held.new.m).state a) =
     omega (arith, at, ap length mid, ready_room c.requires.ready) in
-    ap (loaded_in new) c.of.ensures
-    ∙ loaded_first new (region_of a 0 (place + length bytes)) refl
-    ∙ ap (take (place + length bytes)) c.put_held.ensures.bytes
-    ∙ put_behind all bytes place room
-    ∙ ap (λ n. take n all ++ bytes) at
-    ∙ ap (λ bs. take s.size bs ++ bytes) mid
-    ∙ ap (λ bs. bs ++ bytes) (sym (loaded_first old s c.requires.ready.whole))
+    let limit = c.put_held.ensures.did.makes.same_limit in
+    record {
+      ready = subst (λ (r : Region). IsReady new r) (sym c.of.ensures) (record {
+        held = puts.held;
+        whole = refl;
+        counted = puts.given ∙ c.in-Ok.ensures.gives.given.given_is;
+        within = omega (arith, at, length-loaded c.requires.ready, c.requires.room, c.in-Ok.ensures.did.makes.same_limit, limit);
+      });
+      arena = ap (λ (r : Region). r.arena) c.of.ensures ∙ c.arena-arena.ensures;
+      ok = ap (loaded_in new) c.of.ensures
+          ∙ loaded_first new (region_of a 0 (place + length bytes)) refl
+          ∙ ap (take (place + length bytes)) puts.stand
+          ∙ put_behind all bytes place room
+          ∙ ap (λ n. take n all ++ bytes) at
+          ∙ ap (λ bs. take s.size bs ++ bytes) mid
+          ∙ ap (λ bs. bs ++ bytes) (sym (loaded_first old s c.requires.ready.whole));
+      err = tt;
+    }
 
-pub returns-in-Err-clause-err : goal.returns-in-Err-clause-err
-returns-in-Err-clause-err g c =
+pub returns-in-Err-clause-pushes : goal.returns-in-Err-clause-pushes
+returns-in-Err-clause-pushes g c =
     let v = g.M.Memory.view in
     let old = v c.args.m.now in
     let mid = v c.allocate_held.new.m in
     let s = c.args.segment.now in
     let same : bytes_of_arena mid.state s.arena ≡ bytes_of_arena old.state s.arena =
-    sym (ap (λ (b : ArenaId). bytes_of_arena mid.state b) c.arena-arena.ensures) ∙ ap bytes_in c.in-Err.ensures.same.words_are
+    sym (ap (λ (b : ArenaId). bytes_of_arena mid.state b) c.arena-arena.ensures) ∙ ap bytes_in c.in-Err.ensures.gives.same.words_are
     ∙ ap (λ (b : ArenaId). bytes_of_arena old.state b) c.arena-arena.ensures in
     let whole = c.requires.ready.whole in
-    loaded_first mid s whole ∙ ap (take s.size) same ∙ sym (loaded_first old s whole)
+    let still = rw c.arena-arena.ensures at c.in-Err.ensures.gives.same in
+    record {
+      ready = record {
+        held = still.held;
+        whole = whole;
+        counted = still.given_is ∙ c.requires.ready.counted;
+        within = omega (arith, c.requires.ready.within, c.in-Err.ensures.did.makes.same_limit);
+      };
+      arena = refl;
+      ok = tt;
+      err = loaded_first mid s whole ∙ ap (take s.size) same ∙ sym (loaded_first old s whole);
+    }
 
 pub returns-clause-did : goal.returns-clause-did
 returns-clause-did g c =
     let v = g.M.Memory.view in
     let s = c.args.segment.now in
     let at : c.in-Ok.place ≡ length (loaded_in (v c.args.m.now) s) =
-    c.in-Ok.ensures.place ∙ next_place c.requires.ready c.arena-arena.ensures c.requires.whole ∙ sym (length-loaded c.requires.ready) in
+    c.in-Ok.ensures.gives.place ∙ next_place c.requires.ready c.arena-arena.ensures c.requires.whole ∙ sym (length-loaded c.requires.ready) in
     rw (← at, ← c.arena-arena.ensures) (gave_and_put c.arena-arena.result (length c.args.bytes.now) c.in-Ok.place c.args.bytes.now c.in-Ok.ensures.did
     c.put_held.ensures.did refl)
