@@ -19,7 +19,9 @@
 //! it grows, and a list that can't grow ends the query with `Memory`.
 #![tactic(auto)]
 
+mod adder;
 mod answer;
+mod column;
 mod found;
 mod laws;
 mod numbers;
