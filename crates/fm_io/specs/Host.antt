@@ -54,7 +54,8 @@ pub record Asks (old new : Option (List Question)) (way : Way) (name : List ℕ)
 
 -- One question is put to the system, and its answer is handed on, unless the name of a file that is to be opened couldn't be kept. The
 -- system, the name that is kept and where the next read would follow are those before and after.
-pub record AsksOnce {S : Type 0} (told : S → Option (List Question)) (old new : S) (next : Option ℕ) (had has name : List ℕ) (place room : ℕ) (result : Result Piece Fault) (after : Option ℕ) : Type 0 where
+pub record AsksOnce {S : Type 0} (told : S → Option (List Question)) (old new : S) (next : Option ℕ) (had has name : List ℕ) (place room : ℕ)
+    (result : Result Piece Fault) (after : Option ℕ) : Type 0 where
   pub asked : result ≢ Err Memory → Asks (told old) (told new) (way_to next had name place) name place room result after
   pub kept : result ≢ Err Memory → has ≡ name
   pub opens : result ≡ Err Memory → way_to next had name place ≡ Open

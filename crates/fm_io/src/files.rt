@@ -38,7 +38,8 @@ pub trait Files {
         ensures noted { ReadsOn (view self.old).reads (view self.new).reads
             (read name.now at (length buf.old) result ∷ []) }
         // A fault or a missing file is answered only where its count shows it, and no other answer changes the count.
-        ensures left { Leaves (IsErrOf result Fault.Failed) (result ≡ Ok Piece.Missing) (view self.old) (view self.new) };
+        ensures left { Leaves (IsErrOf result Fault.Failed) (result ≡ Ok Piece.Missing)
+            (view self.old) (view self.new) };
 
     /// Guesses how many bytes the file `name` has, for a caller that makes room before it reads; None where that can't be said.
     ///

@@ -44,9 +44,11 @@ impl<S: System> HostFiles<S> {
 
     /// How the next read comes by its place. A name that is opened is kept, which may want memory.
     fn way_to(&mut self, name: &str, at: u64) -> Result<Way, AllocError>
-        ensures way { IfOk result (λ way. way ≡ way_to self.old.next (string_bytes self.old.name) name.now at) }
+        ensures way { IfOk result
+            (λ way. way ≡ way_to self.old.next (string_bytes self.old.name) name.now at) }
         ensures kept { OnOk result (string_bytes self.new.name ≡ name.now) }
-        ensures opens { OnErr result (way_to self.old.next (string_bytes self.old.name) name.now at ≡ Way.Open) }
+        ensures opens { OnErr result
+            (way_to self.old.next (string_bytes self.old.name) name.now at ≡ Way.Open) }
         ensures closed { OnErr result (self.new.next ≡ None) }
         ensures rest { self.new ≡ record self.old { name = self.new.name; next = self.new.next } }
     {

@@ -35,9 +35,11 @@ impl<W: Write> Sink for HostSink<W> {
         requires { 0 < length piece.now }
         ensures bytes { IfOk result (λ n. (0 < n) × (n ≤ length piece.now)) }
         ensures took { TookPiece None None piece.now result }
-        ensures passed { WriteAppends (W.contents self.old.writer) (W.contents self.new.writer) result piece.now }
+        ensures passed { WriteAppends (W.contents self.old.writer) (W.contents self.new.writer)
+            result piece.now }
         ensures never_memory { result ≢ Err Fault.Memory }
-        ensures counted { Counts Raised (IsErrOf result Fault.Failed) self.old.faults self.new.faults }
+        ensures counted { Counts Raised (IsErrOf result Fault.Failed) self.old.faults
+            self.new.faults }
     {
         match self.writer.write(piece) {
             Ok(n) if n > 0 => Ok(n),

@@ -73,7 +73,8 @@ impl Files for MemFiles {
         ensures listed { ReadsAsListed self.old self.new result }
         ensures bytes { IfOk result (HasBytes (length buf.old)) }
         ensures content { IfOk result (TellsPiece (mem_contents self.old) name.now at buf.new) }
-        ensures left { Leaves (IsErrOf result Fault.Failed) (result ≡ Ok Piece.Missing) (mem_view self.old) (mem_view self.new) }
+        ensures left { Leaves (IsErrOf result Fault.Failed) (result ≡ Ok Piece.Missing)
+            (mem_view self.old) (mem_view self.new) }
     {
         if self.reads.counts_call() {
             return Err(Fault::Failed);

@@ -76,7 +76,8 @@ impl Sink for MemSink {
         ensures fails { FailsAsListed (mem_writes self.old) (mem_writes self.new) result }
         ensures bytes { IfOk result (λ n. (0 < n) × (n ≤ length piece.now)) }
         ensures most { IfOk result (λ n. n ≤ write_limit self.old) }
-        ensures took { TookPiece (Some (mem_written self.old)) (Some (mem_written self.new)) piece.now result }
+        ensures took { TookPiece (Some (mem_written self.old)) (Some (mem_written self.new))
+            piece.now result }
         ensures limit { write_limit self.new ≡ write_limit self.old }
     {
         if self.writes.counts_call() {

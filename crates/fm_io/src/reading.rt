@@ -29,7 +29,8 @@ pub fn fill<F: Files>(
 ) -> Result<usize, ReadFault>
     requires room { 0 < length buf.old }
     requires place { at + length buf.old < 2 ^ 64 }
-    ensures filled { IfOk result (IsFilled (F.view files.old).holds name.now at (length buf.old) buf.new) }
+    ensures filled { IfOk result
+        (IsFilled (F.view files.old).holds name.now at (length buf.old) buf.new) }
     ensures absent { IsErrOf result ReadFault.Missing → IsAbsent (F.view files.old).holds name.now }
     // It reads where the bytes of its last read end, up to the buffer's end, and not again after another answer.
     ensures reads { ReadsFile (F.view files.old).reads (F.view files.new).reads name.now (length buf.old)

@@ -16,7 +16,8 @@ pub fn send_piece<O: Sink>(out: &mut O, text: &mut String) -> Result<(), Fault>
     ensures sends { Sends (O.written out.old) (O.written out.new) (O.faults out.old) (O.faults out.new)
         (string_bytes text.old) (string_bytes text.new) [] result }
     ensures short { OnOk result (length (string_bytes text.new) < PIECE) }
-    ensures waits { length (string_bytes text.old) < PIECE → string_bytes text.new ≡ string_bytes text.old }
+    ensures waits { length (string_bytes text.old) < PIECE → string_bytes text.new ≡ string_bytes
+        text.old }
 {
     if text.len() < PIECE {
         return Ok(());

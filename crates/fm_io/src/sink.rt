@@ -20,5 +20,6 @@ pub trait Sink {
         requires { 0 < length piece.now }
         ensures bytes { IfOk result (λ n. (0 < n) × (n ≤ length piece.now)) }
         ensures took { TookPiece (written self.old) (written self.new) piece.now result }
-        ensures counted { Counts Raised (IsErrOf result Fault.Failed) (faults self.old) (faults self.new) };
+        ensures counted { Counts Raised (IsErrOf result Fault.Failed) (faults self.old)
+            (faults self.new) };
 }

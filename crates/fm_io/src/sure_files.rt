@@ -37,8 +37,10 @@ impl Files for SureFiles {
         ensures sure { IsOk result }
         ensures bytes { IfOk result (HasBytes (length buf.old)) }
         ensures content { IfOk result (TellsPiece (sure_contents self.old) name.now at buf.new) }
-        ensures missing { result ≡ Ok Piece.Missing → Raised (sure_misses self.old) (sure_misses self.new) }
-        ensures left { Leaves (IsErrOf result Fault.Failed) (result ≡ Ok Piece.Missing) (sure_view self.old) (sure_view self.new) }
+        ensures missing { result ≡ Ok Piece.Missing → Raised (sure_misses self.old)
+            (sure_misses self.new) }
+        ensures left { Leaves (IsErrOf result Fault.Failed) (result ≡ Ok Piece.Missing)
+            (sure_view self.old) (sure_view self.new) }
     {
         let piece = read_listed(&self.files, name, at, buf, usize::MAX);
         if piece == Piece::Missing {

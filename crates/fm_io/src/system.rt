@@ -27,7 +27,8 @@ pub trait System {
     /// A `way` other than `Open` speaks of the file that was opened last.
     fn read_by(&mut self, way: Way, name: &str, at: u64, buf: &mut [u8]) -> io::Result<usize>
         ensures bound { IfOk result (λ n. n ≤ length buf.old) }
-        ensures noted { AsksOn (asked self.old) (asked self.new) (question way name.now at (length buf.old) result) };
+        ensures noted { AsksOn (asked self.old) (asked self.new)
+            (question way name.now at (length buf.old) result) };
 
     /// Guesses how many bytes the file `name` has; None where that can't be said. It is no read, and tells nothing.
     fn guess(&self, _name: &str) -> Option<u64> {

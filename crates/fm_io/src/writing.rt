@@ -9,7 +9,8 @@ use crate::sink::Sink;
 pub fn write_text<O: Sink>(out: &mut O, text: &[u8]) -> Result<(), Fault>
     ensures whole { OnOk result (Appends (O.written out.old) (O.written out.new) text.now) }
     ensures prefix { AppendsPrefix (O.written out.old) (O.written out.new) text.now }
-    ensures counted { Counts Raised (IsErrOf result Fault.Failed) (O.faults out.old) (O.faults out.new) }
+    ensures counted { Counts Raised (IsErrOf result Fault.Failed) (O.faults out.old)
+        (O.faults out.new) }
 {
     let mut taken = 0;
     while taken < text.len() {

@@ -31,7 +31,8 @@ pub fn read_chunk<F: Files>(
     ensures took { IfOk result (IsNext limit (F.view files.old).holds name.now at bytes.new) }
     ensures reads { ReadsFile (F.view files.old).reads (F.view files.new).reads name.now piece_limit (limit + 1) at
         (λ next. IfOk result (λ chunk. GoesBy chunk.ended (at + chunk.count) next)) }
-    ensures tells { TellsLoad ⊥ limit (F.view files.old) (F.view files.new) name.now (result_err result) }
+    ensures tells { TellsLoad ⊥ limit (F.view files.old) (F.view files.new) name.now
+        (result_err result) }
 {
     let rest = (limit - at) as usize;
     let room = CHUNK.min(rest + 1);

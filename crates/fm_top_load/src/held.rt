@@ -54,7 +54,8 @@ pub fn put_held<R: Wait, M: Memory>(rt: &R, m: &mut M, arena: ArenaId, place: u6
     requires held { IsHeld (M.view m.old) arena }
     requires given { place + length bytes.now ≤ given_in (M.view m.old) arena }
     requires room { place + length bytes.now ≤ (M.view m.old).limit }
-    ensures did { Did (M.view m.old) (M.view m.new) (DoesPutAll (M.view m.old).caller arena place bytes.now (Ok tt)) }
+    ensures did { Did (M.view m.old) (M.view m.new)
+        (DoesPutAll (M.view m.old).caller arena place bytes.now (Ok tt)) }
     ensures are { AreBytes bytes.now }
     ensures puts { PutsHeld (M.view m.old) (M.view m.new) arena place bytes.now }
 {
@@ -92,11 +93,13 @@ pub fn push_held<R: Wait, M: Memory>(
 ) -> Result<(), Refusal>
     requires ready { IsReady (M.view m.old) segment.old }
     requires whole { length (loaded_in (M.view m.old) segment.old) % 8 ≡ 0 }
-    requires room { length (loaded_in (M.view m.old) segment.old) + length bytes.now ≤ (M.view m.old).limit }
+    requires room { length (loaded_in (M.view m.old) segment.old) + length bytes.now ≤
+        (M.view m.old).limit }
     ensures did { Did (M.view m.old) (M.view m.new) (DoesPush (M.view m.old).caller segment.old.arena
         (length (loaded_in (M.view m.old) segment.old)) bytes.now result) }
     ensures wants { IfErr result (Wants M.nature (M.view m.old) (M.view m.new)) }
-    ensures pushes { PushesHeld (M.view m.old) (M.view m.new) segment.old segment.new bytes.now result }
+    ensures pushes { PushesHeld (M.view m.old) (M.view m.new) segment.old segment.new bytes.now
+        result }
 {
     let size = bytes.len() as u64;
     let arena = segment.arena();

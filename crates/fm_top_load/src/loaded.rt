@@ -86,8 +86,10 @@ pub fn load<R: Wait, F: Files>(
     ensures whole { IfOk result (IsWhole (F.view files.old).holds name.now) }
     ensures short { IfOk result (λ bytes. length bytes ≤ RECORD_FILE_LIMIT) }
     // It reads on where the bytes of its last read end, in pieces, and up to the first byte past the limit at most.
-    ensures reads { ReadsSome (F.view files.old).reads (F.view files.new).reads name.now RECORD_FILE_LIMIT }
-    ensures tells { TellsLoad ⊥ RECORD_FILE_LIMIT (F.view files.old) (F.view files.new) name.now (result_err result) }
+    ensures reads { ReadsSome (F.view files.old).reads (F.view files.new).reads name.now
+        RECORD_FILE_LIMIT }
+    ensures tells { TellsLoad ⊥ RECORD_FILE_LIMIT (F.view files.old) (F.view files.new) name.now
+        (result_err result) }
 {
     let mut memory = Mono::make(alloc, RECORD_FILE_LIMIT);
     let Ok(arena) = open_held(rt, &mut memory, Kind::Confined) else {

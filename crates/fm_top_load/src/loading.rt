@@ -30,10 +30,12 @@ pub fn load_into<R: Wait, F: Files, M: Memory>(
     arena: ArenaId,
 ) -> Result<Segment, LoadFault>
     requires { HasRoom RECORD_FILE_LIMIT (M.view m.old) arena }
-    ensures loaded { IfOk result (HasLoaded (F.view files.old).holds name.now (M.view m.old) (M.view m.new) arena) }
+    ensures loaded { IfOk result
+        (HasLoaded (F.view files.old).holds name.now (M.view m.old) (M.view m.new) arena) }
     ensures left { IfErr result (λ _. HasBegun (M.view m.old) (M.view m.new) arena) }
     // It reads on where the bytes of its last read end, in pieces, and up to the first byte past the limit at most.
-    ensures reads { ReadsSome (F.view files.old).reads (F.view files.new).reads name.now RECORD_FILE_LIMIT }
+    ensures reads { ReadsSome (F.view files.old).reads (F.view files.new).reads name.now
+        RECORD_FILE_LIMIT }
     ensures tells { TellsLoad (FoundFull M.nature (M.view m.old) (M.view m.new)) RECORD_FILE_LIMIT
         (F.view files.old) (F.view files.new) name.now (result_err result) }
 {
@@ -57,7 +59,8 @@ fn load_pieces<R: Wait, F: Files, M: Memory>(
     segment: &mut Segment,
 ) -> Result<(), LoadFault>
     requires can { CanLoadOn bytes.old (M.view m.old) segment.old }
-    requires first { AreBytesFrom (F.view files.old).holds name.now 0 (loaded_in (M.view m.old) segment.old) }
+    requires first { AreBytesFrom (F.view files.old).holds name.now 0
+        (loaded_in (M.view m.old) segment.old) }
     ensures loads { LoadsOn (M.view m.old) (M.view m.new) segment.old segment.new }
     ensures whole { IfOk result (λ _.
         IsWhole (F.view files.old).holds name.now (loaded_in (M.view m.new) segment.new)) }

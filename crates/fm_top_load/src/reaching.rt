@@ -39,7 +39,8 @@ pub fn load_within<R: Wait, F: Files, M: Memory>(
     ensures puts { PutsWithin (M.view m.old) (M.view m.new) arena room }
     ensures reads { ReadsUpTo (F.view files.old).reads (F.view files.new).reads name.now RECORD_FILE_LIMIT
         (λ next. IfOk result (λ reached. GoesBeyond reached next)) }
-    ensures tells { TellsLoad ⊥ RECORD_FILE_LIMIT (F.view files.old) (F.view files.new) name.now (result_err result) }
+    ensures tells { TellsLoad ⊥ RECORD_FILE_LIMIT (F.view files.old) (F.view files.new) name.now
+        (result_err result) }
 {
     let mut at = 0;
     loop {

@@ -32,7 +32,8 @@ pub fn read_whole<F: Files>(
     ensures reads { ReadsSome (F.view files.old).reads (F.view files.new).reads name.now limit }
     ensures reads_whole { ReadsUpTo (F.view files.old).reads (F.view files.new).reads name.now limit
         (λ next. IfOk result (λ _. next ≡ Ended)) }
-    ensures tells { TellsLoad ⊥ limit (F.view files.old) (F.view files.new) name.now (result_err result) }
+    ensures tells { TellsLoad ⊥ limit (F.view files.old) (F.view files.new) name.now
+        (result_err result) }
 {
     let Ok(mut buffer) = zero_bytes(alloc, CHUNK) else {
         return Err(LoadFault::Memory);
@@ -57,7 +58,8 @@ pub fn read_behind<F: Files>(
     ensures short { IfOk result (λ _. length bytes.new.items ≤ RECORD_FILE_LIMIT) }
     ensures reads { ReadsBehind chunk.ended (F.view files.old).reads (F.view files.new).reads name.now
         (length bytes.old.items + chunk.count) }
-    ensures tells { TellsLoad ⊥ RECORD_FILE_LIMIT (F.view files.old) (F.view files.new) name.now (result_err result) }
+    ensures tells { TellsLoad ⊥ RECORD_FILE_LIMIT (F.view files.old) (F.view files.new) name.now
+        (result_err result) }
 {
     if bytes.extend_from_slice(&buffer[..chunk.count]).is_err() {
         return Err(LoadFault::Memory);
@@ -82,7 +84,8 @@ fn read_on<F: Files>(
     ensures short { IfOk result (λ _. length bytes.new.items ≤ limit) }
     ensures reads { ReadsFile (F.view files.old).reads (F.view files.new).reads name.now piece_limit (limit + 1)
         (length bytes.old.items) (λ next. IfOk result (λ _. next ≡ Ended)) }
-    ensures tells { TellsLoad ⊥ limit (F.view files.old) (F.view files.new) name.now (result_err result) }
+    ensures tells { TellsLoad ⊥ limit (F.view files.old) (F.view files.new) name.now
+        (result_err result) }
 {
     loop {
         match read_more(files, name, limit, buffer, bytes) {
@@ -108,7 +111,8 @@ fn read_more<F: Files>(
         (TakesChunk limit (F.view files.old).holds name.now bytes.old.items bytes.new.items) }
     ensures reads { ReadsFile (F.view files.old).reads (F.view files.new).reads name.now piece_limit (limit + 1)
         (length bytes.old.items) (λ next. IfOk result (λ ended. GoesBy ended (length bytes.new.items) next)) }
-    ensures tells { TellsLoad ⊥ limit (F.view files.old) (F.view files.new) name.now (result_err result) }
+    ensures tells { TellsLoad ⊥ limit (F.view files.old) (F.view files.new) name.now
+        (result_err result) }
 {
     let at = bytes.len() as u64;
     let chunk = match read_chunk(files, name, limit, at, buffer) {

@@ -70,6 +70,7 @@ all_left p size sound none room =
 -- so there are a slot and pages for the first one
 pub can_stock : (pool : Pool) (p : View) (size : ℕ) → IsLone pool p → p.seen ≡ [] → size ≤ limit_of pool.shape → CanStock pool p size
 can_stock pool p size lone none room = record {
+  room = room;
   lone = lone;
   free = λ busy. let one = busy 0 (let some = lone.sound.valid.slots in omega (arith, some)) in knows_none p one.arena none one.known;
   pages = all_left p size lone.sound none (subst (λ (z : Shape). size ≤ limit_of z) (sym lone.outside.of.1) room);

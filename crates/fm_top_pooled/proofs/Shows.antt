@@ -243,10 +243,3 @@ shows_both {p = p} {s = s} {a = a} {b = b} bytes one two kept are =
     (two.seen ∙ (ap (λ (es : List Entry). es ++ two.more) one.seen ∙ append_assoc p.seen one.more two.more)) are (two.same ∙ (one.same ∙ are))
     (λ place from below. all_both (λ e. Spares s.arena place e.call) one.more two.more (one.spared place from below) (two.spared place from below))
     (both_read bytes one two are)
-
--- ---- passes
-
--- crews of 16 can be drawn, one after the other
-pub has_passes : {pool : Pool} {p : View} {s : Region} (drawn threads : ℕ) → IsStocked pool p s → length p.gathered ≤ drawn → drawn ≤ 16 → threads ≤ 16
-    → HasPasses p threads
-has_passes drawn threads h gathered few more = let passes = h.passes in omega (arith, passes, gathered, few, more)

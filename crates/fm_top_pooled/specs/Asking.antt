@@ -1,5 +1,5 @@
 -- What a crew leaves that was asked of records in a pool, and what a finished pool keeps of its pass.
-use Rattle.std.specs.Prelude.{◌≡◌, ℕ, ◌+◌, ◌≤◌, List, ◌++◌, length}
+use Rattle.std.specs.Prelude.{◌≡◌, ℕ, ◌+◌, ◌<◌, ◌≤◌, List, ◌++◌, length}
 use Rattle.fm_base.specs.Calls.{Entry}
 use Rattle.fm_rule_facts.specs.Views.{View}
 use Rattle.fm_records_query.specs.Plan.{Plan}
@@ -10,9 +10,15 @@ use Rattle.fm_segment.specs.Region.{Region}
 use Rattle.fm_top_pooled.specs.Shown.{AreRead, AsksWord, IsHistory}
 use Rattle.fm_top_pooled.specs.Stocked.{IsStocked, bytes_in_pool}
 
--- so many passes can be drawn still
-abbrev pub HasPasses : View → ℕ → Type 0
-HasPasses p threads = length p.gathered + (1 + threads) ≤ p.shape.passes
+-- so many passes are a crew
+pub record IsCrew (threads : ℕ) : Type 0 where
+  pub some : 0 < threads
+  pub few : threads ≤ 16
+
+-- such a crew can be drawn still
+pub record HasPasses (p : View) (threads : ℕ) : Type 0 where
+  pub left : length p.gathered + (1 + threads) ≤ p.shape.passes
+  pub crew : IsCrew threads
 
 -- At most so many passes were drawn; the records stood, nobody changed them, and then others have read each word that is asked for
 pub record Asked (threads : ℕ) (pool : Pool) (old new : View) (p : Plan) (s : Region) : Type 0 where

@@ -1,5 +1,5 @@
 -- Where the first pass of a pool stands, before bytes are put into an arena of it, and then.
-use Rattle.std.specs.Prelude.{◌≡◌, ◌⊎◌, ℕ, ◌+◌, ◌≤◌, true, List, []}
+use Rattle.std.specs.Prelude.{◌≡◌, ◌⊎◌, ℕ, ◌+◌, ◌<◌, ◌≤◌, true, List, [], Option, length}
 use Rattle.fm_base.specs.declared.arena_id.ArenaId.{ArenaId}
 use Rattle.fm_base.specs.declared.kind.Kind.TheVariants.{Shared}
 use Rattle.fm_base.specs.Arenas.{Alive, arena_of}
@@ -8,7 +8,13 @@ use Rattle.fm_rule_calls.specs.Told.{view_of_pass}
 use Rattle.fm_gate.specs.Learnt.{AllBusy}
 use Rattle.fm_gate.specs.Standing.{IsOutside}
 use Rattle.fm_base.specs.View.{given_in}
-use Rattle.fm_top_load.specs.Held.{IsEmpty, IsHeld}
+use Rattle.fm_io.specs.Files.{Contents}
+use Rattle.fm_segment_access.specs.Alone.{bytes_of_arena}
+use Rattle.fm_top_load.specs.declared.reaching.Reached.{Reached}
+use Rattle.fm_top_load.specs.Held.{HoldsThen, IsEmpty, IsHeld, OnlyIn, words_at}
+use Rattle.fm_top_load.specs.Limits.{record_file_limit}
+use Rattle.fm_top_load.specs.Reached.{Reaches}
+use Rattle.fm_top_load.specs.Whole.{IsWhole}
 use Rattle.fm_rule_facts.specs.Loans.{lent}
 use Rattle.fm_rule_facts.specs.Scarcity.{parts_before}
 use Rattle.fm_rule_facts.specs.Views.{View, IsKnown, IsSound, limit_of, state_in, unlent}
@@ -42,10 +48,11 @@ pub record IsLone (pool : Pool) (p : View) : Type 0 where
 abbrev pub HasPagesFor : View → (size : ℕ) → Type 0
 HasPagesFor p size = parts_before p.shape size ≤ unlent p.shape.pages (lent p.seen)
 
--- and a slot and the pages for so many bytes are left to it
+-- and a slot is left to it, and room and the pages for so many bytes
 pub record CanStock (pool : Pool) (p : View) (size : ℕ) : Type 0 where
   pub lone : IsLone pool p
   pub free : ¬ (AllBusy p)
+  pub room : size ≤ limit_of pool.shape
   pub pages : HasPagesFor p size
 
 -- what was known is known, and stands as it was
@@ -63,6 +70,12 @@ pub record IsOpened (pool : Pool) (p q : View) (a : ArenaId) : Type 0 where
   pub keeps : KeepsArenas p q
   pub loans : lent q.seen ≡ lent p.seen
 
+-- the arena, of which nothing was given, gave so many bytes, and no other has changed
+pub record HasGiven (pool : Pool) (p q : View) (a : ArenaId) (size : ℕ) : Type 0 where
+  pub lone : IsLone pool q
+  pub held : HoldsThen (view_of_pass q) a size (words_at (view_of_pass p) a)
+  pub elsewhere : OnlyIn a (state_in p) (state_in q)
+
 -- the bytes that stand in the segment
 unfoldable pub bytes_in_pool : View → Region → List ℕ
 bytes_in_pool p s = bytes_at_places (state_in p) s
@@ -78,6 +91,11 @@ pub record IsStocked (pool : Pool) (p : View) (s : Region) : Type 0 where
   pub alive : (arena_of (state_in p) s.arena).life ≡ Alive
   pub shared : s.arena.kind ≡ Shared
   pub passes : p.shape.passes ≡ pool_passes
+
+-- a pool is made for so many arenas
+pub record AreArenas (arenas : ℕ) : Type 0 where
+  pub some : 0 < arenas
+  pub few : arenas ≤ 2
 
 -- the pool was made for so many arenas: it has a page for each part of one, and one for another
 pub record IsMadeFor (arenas : ℕ) (z : Shape) : Type 0 where
@@ -95,9 +113,25 @@ pub record HasRoomIn (room : ℕ) (pool : Pool) (p : View) (a : ArenaId) : Type 
   pub shared : a.kind ≡ Shared
   pub only : (b : ArenaId) → IsKnown p b → b ≡ a
 
+-- and its pool was made for so many arenas
+pub record HasRoomAmong (arenas room : ℕ) (pool : Pool) (p : View) (a : ArenaId) : Type 0 where
+  pub room_in : HasRoomIn room pool p a
+  pub made : IsMadeFor arenas pool.shape
+
 -- bytes stand alone in a pool that was made for so many arenas
 pub record IsStock (arenas : ℕ) (pool : Pool) (p : View) (s : Region) : Type 0 where
   pub stocked : IsStocked pool p s
   pub lone : IsLone pool p
   pub only : (b : ArenaId) → IsKnown p b → b ≡ s.arena
   pub made : IsMadeFor arenas pool.shape
+
+-- and they are those of the whole record file, where the files tell
+pub record HoldsWhole (arenas : ℕ) (told : Option Contents) (name : List ℕ) (pool : Pool) (p : View) (s : Region) : Type 0 where
+  pub stock : IsStock arenas pool p s
+  pub whole : IsWhole told name (bytes_in_pool p s)
+  pub short : length (bytes_in_pool p s) ≤ record_file_limit
+
+-- a file was read this far into the arena, which has the room still
+pub record ReadsIn (told : Option Contents) (name : List ℕ) (room : ℕ) (buffer : List ℕ) (pool : Pool) (a : ArenaId) (p : View) (r : Reached) : Type 0 where
+  pub still : HasRoomIn room pool p a
+  pub reached : Reaches told name room buffer (bytes_of_arena (state_in p) a) r

@@ -1,5 +1,5 @@
 -- Counts in a second arena of the pool in which records stand.
-use Rattle.std.specs.Prelude.{◌≡◌, ◌≢◌, ◌<◌, ◌≤◌, false}
+use Rattle.std.specs.Prelude.{◌≡◌, ◌≢◌, ◌%◌, ◌<◌, ◌≤◌, false}
 use Rattle.fm_base.specs.declared.arena_id.ArenaId.{ArenaId}
 use Rattle.fm_base.specs.declared.kind.Kind.TheVariants.{Shared}
 use Rattle.fm_base.specs.Arenas.{Alive, arena_of}
@@ -8,8 +8,10 @@ use Rattle.fm_rule_facts.specs.Views.{View, IsKnown as HasArena, state_in}
 use Rattle.fm_rule.specs.declared.pool.Pool.{Pool}
 use Rattle.fm_segment.specs.Access.{IsKnown}
 use Rattle.fm_segment.specs.Region.{Region}
+use Rattle.fm_records_query.specs.Plan.{Plan}
 use Rattle.fm_workers.specs.Adding.{HasCounts}
-use Rattle.fm_top_pooled.specs.Stocked.{IsLone}
+use Rattle.fm_workers.specs.Counts.{IsTally}
+use Rattle.fm_top_pooled.specs.Stocked.{IsLone, IsStocked}
 
 -- the first pass of a pool of two slots, which knows this arena alone; there is a page more than an arena can have, with room for the counts
 pub record CanOpenSecond (pool : Pool) (p : View) (a : ArenaId) : Type 0 where
@@ -31,3 +33,10 @@ pub record HasRoomForCounts (p : View) (counts : Region) : Type 0 where
 pub record IsBeside (p : View) (s counts : Region) : Type 0 where
   pub room : HasRoomForCounts p counts
   pub other : counts.arena ≢ s.arena
+
+-- and a query counts over them, of which there is a whole number
+pub record CanCount (pool : Pool) (p : View) (s counts : Region) (q : Plan) : Type 0 where
+  pub stocked : IsStocked pool p s
+  pub beside : IsBeside p s counts
+  pub tally : IsTally q
+  pub even : s.size % q.size ≡ 0

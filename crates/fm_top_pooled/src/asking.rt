@@ -1,4 +1,4 @@
-ghost use Rattle.std.specs.Prelude.{◌≡◌, ◌<◌, ◌%◌, ◌≤◌, IfOk};
+ghost use Rattle.std.specs.Prelude.{◌≡◌, ◌%◌, IfOk};
 ghost use Rattle.fm_top_pooled.specs.Asking.{Asked, HasPasses};
 ghost use Rattle.fm_top_pooled.specs.Stocked.{IsStocked, bytes_in_pool};
 ghost use Rattle.fm_records.specs.Answers.{answer};
@@ -28,8 +28,6 @@ pub fn ask<R: Threads + Wait + Sync, G: Gate>(
     requires stocked { IsStocked pool.now pass.old s.now }
     requires passes { HasPasses pass.old threads }
     requires even { s.now.size % q.now.size ≡ 0 }
-    requires some { 0 < threads }
-    requires few { threads ≤ 16 }
     ensures value { IfOk result (λ a. a ≡ answer q.now (bytes_in_pool pass.old s.now)) }
     ensures asked { IfOk result (λ _. Asked threads pool.now pass.old pass.new q.now s.now) }
 {

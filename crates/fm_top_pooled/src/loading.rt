@@ -1,14 +1,13 @@
-ghost use Rattle.std.specs.Prelude.{◌≡◌, ◌≢◌, ◌+◌, ◌<◌, ◌≤◌, length, take, IfOk, IsErrOf, Err};
+ghost use Rattle.std.specs.Prelude.{◌≡◌, ◌+◌, ◌≤◌, length, take, IfOk};
+ghost use Rattle.std.specs.Result.{result_err};
 ghost use Rattle.fm_segment_access.specs.Alone.{bytes_of_arena};
 ghost use Rattle.fm_base.specs.View.{given_in};
 ghost use Rattle.fm_rule_calls.specs.Told.{view_of_pass};
-ghost use Rattle.fm_io.specs.Count.{Rose};
-ghost use Rattle.fm_io.specs.Files.{AreBytesFrom, IsAbsent};
-ghost use Rattle.fm_top_load.specs.Reached.{GoesBeyond, IsNext, Reaches};
+ghost use Rattle.fm_top_load.specs.Reached.{CanReadBehind, GoesBeyond};
 ghost use Rattle.fm_top_load.specs.Reading.{ReadsBehind, ReadsSome, ReadsUpTo};
-ghost use Rattle.fm_top_load.specs.Whole.{IsOver, IsWhole};
+ghost use Rattle.fm_top_load.specs.Whole.{TellsLoad};
 ghost use Rattle.fm_rule_facts.specs.Views.{state_in};
-ghost use Rattle.fm_top_pooled.specs.Stocked.{HasRoomIn, IsMadeFor, IsStock, bytes_in_pool};
+ghost use Rattle.fm_top_pooled.specs.Stocked.{AreArenas, HasRoomAmong, HasRoomIn, HoldsWhole, ReadsIn};
 
 use crate::shape::shape_for;
 use crate::stock::{Stock, stock_of_bytes};
@@ -38,22 +37,13 @@ pub fn load_stock<R: Wait, F: Files>(
     guess: Option<u64>,
     arenas: u32,
 ) -> Result<Stock, LoadFault>
-    requires some { 0 < arenas }
-    requires few { arenas ≤ 2 }
-    ensures stock { IfOk result (λ s. IsStock arenas s.pool s.pass s.segment) }
-    ensures whole { IfOk result (λ s. IsWhole (F.holds files.old) name.now (bytes_in_pool s.pass s.segment)) }
-    ensures short { IfOk result (λ s. length (bytes_in_pool s.pass s.segment) ≤ RECORD_FILE_LIMIT) }
-    ensures too_long { IsErrOf result LoadFault.TooLong → IsOver (F.holds files.old) name.now RECORD_FILE_LIMIT }
-    ensures absent { IsErrOf result LoadFault.Missing → IsAbsent (F.holds files.old) name.now }
-    ensures missing { IsErrOf result LoadFault.Missing → Rose (F.misses files.old) (F.misses files.new) }
-    ensures failed { IsErrOf result LoadFault.Failed → Rose (F.faults files.old) (F.faults files.new) }
-    ensures reads { ReadsSome (F.reads files.old) (F.reads files.new) name.now RECORD_FILE_LIMIT }
-    ensures never { result ≢ Err LoadFault.PoolFull }
-    ensures quiet { result ≢ Err LoadFault.Failed → F.faults files.new ≡ F.faults files.old }
-    ensures found { result ≢ Err LoadFault.Missing → F.misses files.new ≡ F.misses files.old }
-    ensures held { F.holds files.new ≡ F.holds files.old }
-    ensures faults_stay { F.faults files.old ≤ F.faults files.new }
-    ensures misses_stay { F.misses files.old ≤ F.misses files.new }
+    requires arenas { AreArenas arenas }
+    ensures holds { IfOk result (λ s.
+        HoldsWhole arenas (F.view files.old).holds name.now s.pool s.pass s.segment) }
+    ensures reads { ReadsSome (F.view files.old).reads (F.view files.new).reads name.now
+        RECORD_FILE_LIMIT }
+    ensures tells { TellsLoad ⊥ RECORD_FILE_LIMIT (F.view files.old) (F.view files.new) name.now
+        (result_err result) }
 {
     match guess {
         Some(size) if 0 < size && size <= RECORD_FILE_LIMIT => {
@@ -71,22 +61,13 @@ fn load_list<R: Wait, F: Files>(
     name: &str,
     arenas: u32,
 ) -> Result<Stock, LoadFault>
-    requires some { 0 < arenas }
-    requires few { arenas ≤ 2 }
-    ensures stock { IfOk result (λ s. IsStock arenas s.pool s.pass s.segment) }
-    ensures whole { IfOk result (λ s. IsWhole (F.holds files.old) name.now (bytes_in_pool s.pass s.segment)) }
-    ensures short { IfOk result (λ s. length (bytes_in_pool s.pass s.segment) ≤ RECORD_FILE_LIMIT) }
-    ensures too_long { IsErrOf result LoadFault.TooLong → IsOver (F.holds files.old) name.now RECORD_FILE_LIMIT }
-    ensures absent { IsErrOf result LoadFault.Missing → IsAbsent (F.holds files.old) name.now }
-    ensures missing { IsErrOf result LoadFault.Missing → Rose (F.misses files.old) (F.misses files.new) }
-    ensures failed { IsErrOf result LoadFault.Failed → Rose (F.faults files.old) (F.faults files.new) }
-    ensures reads { ReadsSome (F.reads files.old) (F.reads files.new) name.now RECORD_FILE_LIMIT }
-    ensures never { result ≢ Err LoadFault.PoolFull }
-    ensures quiet { result ≢ Err LoadFault.Failed → F.faults files.new ≡ F.faults files.old }
-    ensures found { result ≢ Err LoadFault.Missing → F.misses files.new ≡ F.misses files.old }
-    ensures held { F.holds files.new ≡ F.holds files.old }
-    ensures faults_stay { F.faults files.old ≤ F.faults files.new }
-    ensures misses_stay { F.misses files.old ≤ F.misses files.new }
+    requires arenas { AreArenas arenas }
+    ensures holds { IfOk result (λ s.
+        HoldsWhole arenas (F.view files.old).holds name.now s.pool s.pass s.segment) }
+    ensures reads { ReadsSome (F.view files.old).reads (F.view files.new).reads name.now
+        RECORD_FILE_LIMIT }
+    ensures tells { TellsLoad ⊥ RECORD_FILE_LIMIT (F.view files.old) (F.view files.new) name.now
+        (result_err result) }
 {
     let bytes = match read_whole(alloc, files, name, RECORD_FILE_LIMIT) {
         Ok(bytes) => bytes,
@@ -108,22 +89,13 @@ fn load_guessed<R: Wait, F: Files>(
     arenas: u32,
 ) -> Result<Stock, LoadFault>
     requires limit { size ≤ RECORD_FILE_LIMIT }
-    requires some { 0 < arenas }
-    requires few { arenas ≤ 2 }
-    ensures stock { IfOk result (λ s. IsStock arenas s.pool s.pass s.segment) }
-    ensures whole { IfOk result (λ s. IsWhole (F.holds files.old) name.now (bytes_in_pool s.pass s.segment)) }
-    ensures short { IfOk result (λ s. length (bytes_in_pool s.pass s.segment) ≤ RECORD_FILE_LIMIT) }
-    ensures too_long { IsErrOf result LoadFault.TooLong → IsOver (F.holds files.old) name.now RECORD_FILE_LIMIT }
-    ensures absent { IsErrOf result LoadFault.Missing → IsAbsent (F.holds files.old) name.now }
-    ensures missing { IsErrOf result LoadFault.Missing → Rose (F.misses files.old) (F.misses files.new) }
-    ensures failed { IsErrOf result LoadFault.Failed → Rose (F.faults files.old) (F.faults files.new) }
-    ensures reads { ReadsSome (F.reads files.old) (F.reads files.new) name.now RECORD_FILE_LIMIT }
-    ensures never { result ≢ Err LoadFault.PoolFull }
-    ensures quiet { result ≢ Err LoadFault.Failed → F.faults files.new ≡ F.faults files.old }
-    ensures found { result ≢ Err LoadFault.Missing → F.misses files.new ≡ F.misses files.old }
-    ensures held { F.holds files.new ≡ F.holds files.old }
-    ensures faults_stay { F.faults files.old ≤ F.faults files.new }
-    ensures misses_stay { F.misses files.old ≤ F.misses files.new }
+    requires arenas { AreArenas arenas }
+    ensures holds { IfOk result (λ s.
+        HoldsWhole arenas (F.view files.old).holds name.now s.pool s.pass s.segment) }
+    ensures reads { ReadsSome (F.view files.old).reads (F.view files.new).reads name.now
+        RECORD_FILE_LIMIT }
+    ensures tells { TellsLoad ⊥ RECORD_FILE_LIMIT (F.view files.old) (F.view files.new) name.now
+        (result_err result) }
 {
     let Ok(mut buffer) = zero_bytes(alloc, CHUNK) else {
         return Err(LoadFault::Memory);
@@ -159,24 +131,14 @@ fn load_into_room<R: Wait, F: Files>(
     arenas: u32,
 ) -> Result<Stock, LoadFault>
     requires buffer { length buffer.old ≡ CHUNK }
-    requires room { HasRoomIn room pool pass arena }
-    requires made { IsMadeFor arenas pool.shape }
-    requires some { 0 < arenas }
-    requires few { arenas ≤ 2 }
-    ensures stock { IfOk result (λ s. IsStock arenas s.pool s.pass s.segment) }
-    ensures whole { IfOk result (λ s. IsWhole (F.holds files.old) name.now (bytes_in_pool s.pass s.segment)) }
-    ensures short { IfOk result (λ s. length (bytes_in_pool s.pass s.segment) ≤ RECORD_FILE_LIMIT) }
-    ensures too_long { IsErrOf result LoadFault.TooLong → IsOver (F.holds files.old) name.now RECORD_FILE_LIMIT }
-    ensures absent { IsErrOf result LoadFault.Missing → IsAbsent (F.holds files.old) name.now }
-    ensures missing { IsErrOf result LoadFault.Missing → Rose (F.misses files.old) (F.misses files.new) }
-    ensures failed { IsErrOf result LoadFault.Failed → Rose (F.faults files.old) (F.faults files.new) }
-    ensures reads { ReadsSome (F.reads files.old) (F.reads files.new) name.now RECORD_FILE_LIMIT }
-    ensures never { result ≢ Err LoadFault.PoolFull }
-    ensures quiet { result ≢ Err LoadFault.Failed → F.faults files.new ≡ F.faults files.old }
-    ensures found { result ≢ Err LoadFault.Missing → F.misses files.new ≡ F.misses files.old }
-    ensures held { F.holds files.new ≡ F.holds files.old }
-    ensures faults_stay { F.faults files.old ≤ F.faults files.new }
-    ensures misses_stay { F.misses files.old ≤ F.misses files.new }
+    requires room { HasRoomAmong arenas room pool pass arena }
+    requires arenas { AreArenas arenas }
+    ensures holds { IfOk result (λ s.
+        HoldsWhole arenas (F.view files.old).holds name.now s.pool s.pass s.segment) }
+    ensures reads { ReadsSome (F.view files.old).reads (F.view files.new).reads name.now
+        RECORD_FILE_LIMIT }
+    ensures tells { TellsLoad ⊥ RECORD_FILE_LIMIT (F.view files.old) (F.view files.new) name.now
+        (result_err result) }
 {
     let (pass, reached) = match read_in(rt, files, name, buffer, &pool, pass, arena, room) {
         Ok(read) => read,
@@ -205,10 +167,8 @@ fn made<R: Wait>(
     arenas: u32,
 ) -> Result<(Pool, Pass, ArenaId), AllocError>
     requires limit { size ≤ RECORD_FILE_LIMIT }
-    requires some { 0 < arenas }
-    requires few { arenas ≤ 2 }
-    ensures room { IfOk result (λ r. HasRoomIn size r.0 r.1 r.2) }
-    ensures made { IfOk result (λ r. IsMadeFor arenas r.0.shape) }
+    requires arenas { AreArenas arenas }
+    ensures { IfOk result (λ r. HasRoomAmong arenas size r.0 r.1 r.2) }
 {
     let shape = shape_for(size, arenas);
     let Ok((pool, mut pass)) = Pool::make(alloc, shape) else {
@@ -233,21 +193,12 @@ fn read_in<R: Wait, F: Files>(
     requires buffer { length buffer.old ≡ CHUNK }
     requires room { HasRoomIn room pool.now pass arena }
     ensures buffer { length buffer.new ≡ CHUNK }
-    ensures still { IfOk result (λ r. HasRoomIn room pool.now r.0 arena) }
-    ensures reached { IfOk result (λ r. Reaches (F.holds files.old) name.now room buffer.new
-        (bytes_of_arena (state_in r.0) arena) r.1) }
-    ensures too_long { IsErrOf result LoadFault.TooLong → IsOver (F.holds files.old) name.now RECORD_FILE_LIMIT }
-    ensures absent { IsErrOf result LoadFault.Missing → IsAbsent (F.holds files.old) name.now }
-    ensures missing { IsErrOf result LoadFault.Missing → Rose (F.misses files.old) (F.misses files.new) }
-    ensures failed { IsErrOf result LoadFault.Failed → Rose (F.faults files.old) (F.faults files.new) }
-    ensures reads { ReadsUpTo (F.reads files.old) (F.reads files.new) name.now RECORD_FILE_LIMIT
+    ensures read { IfOk result (λ r.
+        ReadsIn (F.view files.old).holds name.now room buffer.new pool.now arena r.0 r.1) }
+    ensures reads { ReadsUpTo (F.view files.old).reads (F.view files.new).reads name.now RECORD_FILE_LIMIT
         (λ next. IfOk result (λ r. GoesBeyond r.1 next)) }
-    ensures never { result ≢ Err LoadFault.PoolFull }
-    ensures quiet { result ≢ Err LoadFault.Failed → F.faults files.new ≡ F.faults files.old }
-    ensures found { result ≢ Err LoadFault.Missing → F.misses files.new ≡ F.misses files.old }
-    ensures held { F.holds files.new ≡ F.holds files.old }
-    ensures faults_stay { F.faults files.old ≤ F.faults files.new }
-    ensures misses_stay { F.misses files.old ≤ F.misses files.new }
+    ensures tells { TellsLoad ⊥ RECORD_FILE_LIMIT (F.view files.old) (F.view files.new) name.now
+        (result_err result) }
 {
     let mut memory = Shared::new(pool, pass);
     match load_within(rt, files, name, buffer, &mut memory, arena, room) {
@@ -291,26 +242,14 @@ fn load_longer<R: Wait, F: Files>(
     mut bytes: Vec<u8>,
     arenas: u32,
 ) -> Result<Stock, LoadFault>
-    requires buffer { length buffer.old ≡ CHUNK }
-    requires first { AreBytesFrom (F.holds files.old) name.now 0 bytes.items }
-    requires next { IsNext (F.holds files.old) name.now (length bytes.items) buffer.old chunk }
-    requires some { 0 < arenas }
-    requires few { arenas ≤ 2 }
-    ensures stock { IfOk result (λ s. IsStock arenas s.pool s.pass s.segment) }
-    ensures whole { IfOk result (λ s. IsWhole (F.holds files.old) name.now (bytes_in_pool s.pass s.segment)) }
-    ensures short { IfOk result (λ s. length (bytes_in_pool s.pass s.segment) ≤ RECORD_FILE_LIMIT) }
-    ensures too_long { IsErrOf result LoadFault.TooLong → IsOver (F.holds files.old) name.now RECORD_FILE_LIMIT }
-    ensures absent { IsErrOf result LoadFault.Missing → IsAbsent (F.holds files.old) name.now }
-    ensures missing { IsErrOf result LoadFault.Missing → Rose (F.misses files.old) (F.misses files.new) }
-    ensures failed { IsErrOf result LoadFault.Failed → Rose (F.faults files.old) (F.faults files.new) }
-    ensures reads { ReadsBehind chunk.ended (F.reads files.old) (F.reads files.new) name.now
+    requires behind { CanReadBehind (F.view files.old).holds name.now bytes.items buffer.old chunk }
+    requires arenas { AreArenas arenas }
+    ensures holds { IfOk result (λ s.
+        HoldsWhole arenas (F.view files.old).holds name.now s.pool s.pass s.segment) }
+    ensures reads { ReadsBehind chunk.ended (F.view files.old).reads (F.view files.new).reads name.now
         (length bytes.items + chunk.count) }
-    ensures never { result ≢ Err LoadFault.PoolFull }
-    ensures quiet { result ≢ Err LoadFault.Failed → F.faults files.new ≡ F.faults files.old }
-    ensures found { result ≢ Err LoadFault.Missing → F.misses files.new ≡ F.misses files.old }
-    ensures held { F.holds files.new ≡ F.holds files.old }
-    ensures faults_stay { F.faults files.old ≤ F.faults files.new }
-    ensures misses_stay { F.misses files.old ≤ F.misses files.new }
+    ensures tells { TellsLoad ⊥ RECORD_FILE_LIMIT (F.view files.old) (F.view files.new) name.now
+        (result_err result) }
 {
     match read_behind(files, name, buffer, chunk, &mut bytes) {
         Ok(()) => {}

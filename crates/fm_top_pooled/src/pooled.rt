@@ -1,8 +1,8 @@
-ghost use Rattle.std.specs.Prelude.{◌≡◌, ◌≢◌, ◌%◌, ◌<◌, ◌≤◌, length, IfOk, IsErrOf, Err};
-ghost use Rattle.fm_io.specs.Count.{Rose};
-ghost use Rattle.fm_io.specs.Files.{IsAbsent};
+ghost use Rattle.std.specs.Prelude.{◌≡◌, ◌%◌, ◌≤◌, length, IfOk};
+ghost use Rattle.std.specs.Result.{result_err};
 ghost use Rattle.fm_top_load.specs.Reading.{ReadsSome};
-ghost use Rattle.fm_top_load.specs.Whole.{IsOver, IsWhole};
+ghost use Rattle.fm_top_load.specs.Whole.{IsWhole, TellsLoad};
+ghost use Rattle.fm_top_pooled.specs.Asking.{IsCrew};
 ghost use Rattle.fm_top_pooled.specs.Shown.{ShowsBoth, ShowsQuery};
 ghost use Rattle.fm_records.specs.Answers.{answer};
 
@@ -68,19 +68,12 @@ impl Pooled {
         name: &str,
         guess: Option<u64>,
     ) -> Result<Pooled, LoadFault>
-        ensures whole { IfOk result (IsWhole (F.holds files.old) name.now) }
+        ensures whole { IfOk result (IsWhole (F.view files.old).holds name.now) }
         ensures short { IfOk result (λ pooled. length pooled ≤ RECORD_FILE_LIMIT) }
-        ensures too_long { IsErrOf result LoadFault.TooLong → IsOver (F.holds files.old) name.now RECORD_FILE_LIMIT }
-        ensures absent { IsErrOf result LoadFault.Missing → IsAbsent (F.holds files.old) name.now }
-        ensures missing { IsErrOf result LoadFault.Missing → Rose (F.misses files.old) (F.misses files.new) }
-        ensures failed { IsErrOf result LoadFault.Failed → Rose (F.faults files.old) (F.faults files.new) }
-        ensures reads { ReadsSome (F.reads files.old) (F.reads files.new) name.now RECORD_FILE_LIMIT }
-        ensures never { result ≢ Err LoadFault.PoolFull }
-        ensures quiet { result ≢ Err LoadFault.Failed → F.faults files.new ≡ F.faults files.old }
-        ensures found { result ≢ Err LoadFault.Missing → F.misses files.new ≡ F.misses files.old }
-        ensures held { F.holds files.new ≡ F.holds files.old }
-        ensures faults_stay { F.faults files.old ≤ F.faults files.new }
-        ensures misses_stay { F.misses files.old ≤ F.misses files.new }
+        ensures reads { ReadsSome (F.view files.old).reads (F.view files.new).reads name.now
+            RECORD_FILE_LIMIT }
+        ensures tells { TellsLoad ⊥ RECORD_FILE_LIMIT (F.view files.old) (F.view files.new) name.now
+            (result_err result) }
     {
         match load_stock(rt, alloc, files, name, guess, 1) {
             Ok(
@@ -116,8 +109,7 @@ impl Pooled {
         gate: &G,
     ) -> Result<(Answer, Finished), AllocError>
         requires even { length self % q.now.size ≡ 0 }
-        requires some { 0 < threads }
-        requires few { threads ≤ 16 }
+        requires crew { IsCrew threads }
         ensures answer { IfOk result (λ r. r.0 ≡ answer q.now self) }
         ensures shows { IfOk result (λ r. ShowsQuery r.1 q.now self) }
     {
@@ -143,8 +135,7 @@ impl Pooled {
     ) -> Result<(Answer, Answer, Finished), AllocError>
         requires first_even { length self % p.now.size ≡ 0 }
         requires second_even { length self % q.now.size ≡ 0 }
-        requires some { 0 < threads }
-        requires few { threads ≤ 16 }
+        requires crew { IsCrew threads }
         ensures first { IfOk result (λ r. r.0 ≡ answer p.now self) }
         ensures second { IfOk result (λ r. r.1 ≡ answer q.now self) }
         ensures shows { IfOk result (λ r. ShowsBoth r.2 p.now q.now self) }

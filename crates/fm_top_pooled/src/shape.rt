@@ -1,6 +1,6 @@
-ghost use Rattle.std.specs.Prelude.{◌≡◌, ◌≤◌, ◌<◌, ◌+◌, ◌-◌, ◌*◌};
+ghost use Rattle.std.specs.Prelude.{◌≤◌, ◌<◌, ◌-◌, ◌*◌};
 ghost use Rattle.fm_rule_facts.specs.Views.{limit_of};
-ghost use Rattle.fm_top_pooled.specs.Stocked.{pool_passes};
+ghost use Rattle.fm_top_pooled.specs.Stocked.{AreArenas, IsMadeFor};
 ghost use Rattle.fm_words.specs.Shapes.{IsValid};
 
 use fm_top_load::RECORD_FILE_LIMIT;
@@ -20,16 +20,12 @@ const LEAST_PAGE: u64 = 256;
 /// other. A page has a power of two of words.
 pub fn shape_for(room: u64, arenas: u32) -> Shape
     requires room { room ≤ RECORD_FILE_LIMIT }
-    requires some { 0 < arenas }
-    requires few { arenas ≤ 2 }
+    requires arenas { AreArenas arenas }
     ensures valid { IsValid result }
     ensures room { room ≤ limit_of result }
     // One page less has no room for them, unless it is the only one.
     ensures spare { 1 < result.reach → (result.reach - 1) * result.page_words * 8 < room }
-    ensures passes { result.passes ≡ pool_passes }
-    ensures slots { result.slots ≡ arenas }
-    ensures pages { result.pages + 1 ≡ result.reach + arenas }
-    ensures wide { LEAST_PAGE ≤ result.page_words }
+    ensures made { IsMadeFor arenas result }
 {
     let words = room.div_ceil(8);
     let page_words = words

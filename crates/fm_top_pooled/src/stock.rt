@@ -1,5 +1,5 @@
-ghost use Rattle.std.specs.Prelude.{◌≡◌, ◌<◌, ◌≤◌, length, IfOk};
-ghost use Rattle.fm_top_pooled.specs.Stocked.{IsStock, bytes_in_pool};
+ghost use Rattle.std.specs.Prelude.{◌≡◌, ◌≤◌, length, IfOk};
+ghost use Rattle.fm_top_pooled.specs.Stocked.{AreArenas, IsStock, bytes_in_pool};
 
 use crate::shape::shape_for;
 use crate::stocking::stock;
@@ -25,8 +25,7 @@ pub fn stock_of_bytes<R: Wait>(
     arenas: u32,
 ) -> Result<Stock, AllocError>
     requires short { length bytes.items ≤ RECORD_FILE_LIMIT }
-    requires some { 0 < arenas }
-    requires few { arenas ≤ 2 }
+    requires arenas { AreArenas arenas }
     ensures stock { IfOk result (λ s. IsStock arenas s.pool s.pass s.segment) }
     ensures bytes { IfOk result (λ s. bytes_in_pool s.pass s.segment ≡ bytes.items) }
 {

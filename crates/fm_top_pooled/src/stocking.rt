@@ -1,11 +1,10 @@
-ghost use Rattle.std.specs.Prelude.{◌≡◌, ◌⊎◌, ◌≤◌, [], length};
-ghost use Rattle.fm_segment_access.specs.Alone.{bytes_of_arena, with_bytes};
+ghost use Rattle.std.specs.Prelude.{◌≡◌, ◌⊎◌, ◌≤◌, length};
 ghost use Rattle.fm_base.specs.View.{given_in};
 ghost use Rattle.fm_rule_calls.specs.Told.{view_of_pass};
 ghost use Rattle.fm_gate.specs.Learnt.{AllBusy};
-ghost use Rattle.fm_top_load.specs.Held.{HoldsThen, IsEmpty, IsHeld, OnlyIn, words_at};
-ghost use Rattle.fm_rule_facts.specs.Views.{IsKnown, limit_of, state_in};
-ghost use Rattle.fm_top_pooled.specs.Stocked.{CanStock, HasPagesFor, IsLone, IsOpened, IsStocked, bytes_in_pool, pool_passes};
+ghost use Rattle.fm_top_load.specs.Held.{IsEmpty, IsHeld, PutsHeld};
+ghost use Rattle.fm_rule_facts.specs.Views.{IsKnown, limit_of};
+ghost use Rattle.fm_top_pooled.specs.Stocked.{CanStock, HasGiven, HasPagesFor, IsLone, IsOpened, IsStocked, bytes_in_pool, pool_passes};
 
 use fm_arena::Shared;
 use fm_base::{ArenaId, Kind};
@@ -18,7 +17,6 @@ use std::sync::Wait;
 /// Puts the bytes into an arena of their own, from its start on, by the pool's first pass while no other was drawn.
 pub fn stock<R: Wait>(rt: &R, pool: &Pool, mut pass: Pass, bytes: &[u8]) -> (Pass, Segment)
     requires can { CanStock pool.now pass (length bytes.now) }
-    requires room { length bytes.now ≤ limit_of pool.now.shape }
     requires passes { pool.now.shape.passes ≡ pool_passes }
     ensures stocked { IsStocked pool.now result.0 result.1 }
     ensures bytes { bytes_in_pool result.0 result.1 ≡ bytes.now }
@@ -52,9 +50,7 @@ pub fn allocated<R: Wait>(rt: &R, pool: &Pool, pass: &mut Pass, arena: ArenaId, 
     requires empty { IsEmpty (view_of_pass pass.old) arena }
     requires room { size ≤ limit_of pool.now.shape }
     requires pages { HasPagesFor pass.old size }
-    ensures lone { IsLone pool.now pass.new }
-    ensures held { HoldsThen (view_of_pass pass.new) arena size (words_at (view_of_pass pass.old) arena) }
-    ensures elsewhere { OnlyIn arena (state_in pass.old) (state_in pass.new) }
+    ensures { HasGiven pool.now pass.old pass.new arena size }
 {
     match allocate(rt, pool, pass, arena, size, 8) {
         Ok(_) => {}
@@ -70,10 +66,7 @@ fn filled<R: Wait>(rt: &R, pool: &Pool, pass: Pass, arena: ArenaId, bytes: &[u8]
     requires given { length bytes.now ≤ given_in (view_of_pass pass) arena }
     requires room { length bytes.now ≤ limit_of pool.now.shape }
     ensures lone { IsLone pool.now result }
-    ensures held { IsHeld (view_of_pass result) arena }
-    ensures given { given_in (view_of_pass result) arena ≡ given_in (view_of_pass pass) arena }
-    ensures bytes { bytes_of_arena (state_in result) arena ≡ with_bytes (bytes_of_arena (state_in pass) arena) 0 bytes.now }
-    ensures elsewhere { OnlyIn arena (state_in pass) (state_in result) }
+    ensures puts { PutsHeld (view_of_pass pass) (view_of_pass result) arena 0 bytes.now }
 {
     let mut memory = Shared::new(pool, pass);
     put_held(rt, &mut memory, arena, 0, bytes);

@@ -1,12 +1,11 @@
-ghost use Rattle.std.specs.Prelude.{◌≡◌, ◌≢◌, ◌%◌, ◌<◌, ◌≤◌, [], length, IfOk, IsErrOf, Err};
-ghost use Rattle.fm_io.specs.Count.{Rose};
-ghost use Rattle.fm_io.specs.Files.{IsAbsent};
+ghost use Rattle.std.specs.Prelude.{◌≡◌, ◌%◌, ◌≤◌, [], length, IfOk};
+ghost use Rattle.std.specs.Result.{result_err};
 ghost use Rattle.fm_top_load.specs.Reading.{ReadsSome};
-ghost use Rattle.fm_top_load.specs.Whole.{IsOver, IsWhole};
-ghost use Rattle.fm_top_pooled.specs.Asking.{Asked, HasPasses};
+ghost use Rattle.fm_top_load.specs.Whole.{IsWhole, TellsLoad};
+ghost use Rattle.fm_top_pooled.specs.Asking.{Asked, HasPasses, IsCrew};
 ghost use Rattle.fm_top_pooled.specs.Shown.{ShowsQuery};
 ghost use Rattle.fm_top_pooled.specs.Stocked.{IsStock, IsStocked, bytes_in_pool};
-ghost use Rattle.fm_top_pooled.specs.Tallied.{CanOpenSecond, IsBeside};
+ghost use Rattle.fm_top_pooled.specs.Tallied.{CanCount, CanOpenSecond, IsBeside};
 ghost use Rattle.fm_records.specs.Answers.{answer};
 ghost use Rattle.fm_workers.specs.Counts.{AreCounts, IsTally, listed};
 
@@ -60,19 +59,12 @@ impl PooledWithCounts {
         name: &str,
         guess: Option<u64>,
     ) -> Result<PooledWithCounts, LoadFault>
-        ensures whole { IfOk result (IsWhole (F.holds files.old) name.now) }
+        ensures whole { IfOk result (IsWhole (F.view files.old).holds name.now) }
         ensures short { IfOk result (λ pooled. length pooled ≤ RECORD_FILE_LIMIT) }
-        ensures too_long { IsErrOf result LoadFault.TooLong → IsOver (F.holds files.old) name.now RECORD_FILE_LIMIT }
-        ensures absent { IsErrOf result LoadFault.Missing → IsAbsent (F.holds files.old) name.now }
-        ensures missing { IsErrOf result LoadFault.Missing → Rose (F.misses files.old) (F.misses files.new) }
-        ensures failed { IsErrOf result LoadFault.Failed → Rose (F.faults files.old) (F.faults files.new) }
-        ensures reads { ReadsSome (F.reads files.old) (F.reads files.new) name.now RECORD_FILE_LIMIT }
-        ensures never { result ≢ Err LoadFault.PoolFull }
-        ensures quiet { result ≢ Err LoadFault.Failed → F.faults files.new ≡ F.faults files.old }
-        ensures found { result ≢ Err LoadFault.Missing → F.misses files.new ≡ F.misses files.old }
-        ensures held { F.holds files.new ≡ F.holds files.old }
-        ensures faults_stay { F.faults files.old ≤ F.faults files.new }
-        ensures misses_stay { F.misses files.old ≤ F.misses files.new }
+        ensures reads { ReadsSome (F.view files.old).reads (F.view files.new).reads name.now
+            RECORD_FILE_LIMIT }
+        ensures tells { TellsLoad ⊥ RECORD_FILE_LIMIT (F.view files.old) (F.view files.new) name.now
+            (result_err result) }
     {
         match load_stock(rt, alloc, files, name, guess, 2) {
             Ok(stock) => Ok(beside(rt, stock)),
@@ -100,8 +92,7 @@ impl PooledWithCounts {
     ) -> Result<(Counts, Finished), AllocError>
         requires tally { IsTally q.now }
         requires even { length self % q.now.size ≡ 0 }
-        requires some { 0 < threads }
-        requires few { threads ≤ 16 }
+        requires crew { IsCrew threads }
         ensures counts { IfOk result (λ r. AreCounts (listed (answer q.now self)) r.0) }
         ensures shows { IfOk result (λ r. ShowsQuery r.1 q.now self) }
     {
@@ -164,13 +155,8 @@ fn count<R: Threads + Wait + Sync, G: Gate>(
     threads: u32,
     gate: &G,
 ) -> Result<Counts, AllocError>
-    requires stocked { IsStocked pool.now pass.old s.now }
-    requires beside { IsBeside pass.old s.now counts.now }
+    requires can { CanCount pool.now pass.old s.now counts.now q.now }
     requires passes { HasPasses pass.old threads }
-    requires tally { IsTally q.now }
-    requires even { s.now.size % q.now.size ≡ 0 }
-    requires some { 0 < threads }
-    requires few { threads ≤ 16 }
     ensures value { IfOk result (AreCounts (listed (answer q.now (bytes_in_pool pass.old s.now)))) }
     ensures asked { IfOk result (λ _. Asked threads pool.now pass.old pass.new q.now s.now) }
 {

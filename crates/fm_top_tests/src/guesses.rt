@@ -13,17 +13,9 @@ struct Guessed {
 }
 
 impl Files for Guessed {
-    ghost use Rattle.fm_io.specs.Failing.{calls_failed};
-    ghost use Rattle.fm_io.specs.InMemory.{mem_contents, mem_misses, mem_reads};
-    ghost use Rattle.std.specs.Prelude.{Some, None};
+    ghost use Rattle.fm_io.specs.InMemory.{mem_view};
 
-    ghost holds = { λ f. Some (mem_contents f.files) };
-
-    ghost faults = { λ f. calls_failed (mem_reads f.files) };
-
-    ghost misses = { λ f. mem_misses f.files };
-
-    ghost reads = { λ _. None };
+    ghost view = { λ f. mem_view f.files };
 
     fn read_at(&mut self, name: &str, at: u64, buf: &mut [u8]) -> Result<Piece, Fault> {
         self.files.read_at(name, at, buf)

@@ -5,7 +5,8 @@ use Rattle.fm_top_pooled.proofs.Shows.{answers, can_ask, only_wants, was_asked}
 use Rattle.fm_top_pooled.proofs.asking.ask.Goals as goal
 
 pub query_with-found-requires-after_bounds : goal.query_with-found-requires-after_bounds
-query_with-found-requires-after_bounds g c κs within = can_ask c.args.q.now c.args.threads c.requires.stocked c.requires.some c.requires.few
+query_with-found-requires-after_bounds g c κs within =
+    can_ask c.args.q.now c.args.threads c.requires.stocked c.requires.passes.crew.some c.requires.passes.crew.few
 
 pub unless_wanting-requires : goal.unless_wanting-requires
 unless_wanting-requires g c =

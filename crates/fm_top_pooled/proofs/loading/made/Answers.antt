@@ -30,22 +30,19 @@ allocated-requires-clause-pages g c =
     pages_left c.args.size lone c.opened-arena.ensures
     (can_stock c.in-Ok.pool c.in-Ok.pass c.args.size lone (ap (λ (v : View). v.seen) made.pass) room).pages
 
-pub returns-clause-room : goal.returns-clause-room
-returns-clause-room g c =
+pub returns : goal.returns
+returns g c =
     let made = c.in-Ok.ensures in
     let given = c.allocated.ensures in
     record {
-      lone = given.lone;
-      held = given.held.held;
-      given = given.held.given_is;
-      limit = subst (λ (z : Shape). c.args.size ≤ limit_of z) (sym made.pool) c.shape_for-shape.ensures.room;
-      shared = c.opened-arena.ensures.shared;
-      only = one_known c.in-Ok.pass c.allocated.new.pass c.opened-arena.result (ap (λ (v : View). v.seen) made.pass)
-          (λ b k. c.opened-arena.ensures.only b (sym (given.elsewhere.arenas b) ∙ k));
+      room_in = record {
+        lone = given.lone;
+        held = given.held.held;
+        given = given.held.given_is;
+        limit = subst (λ (z : Shape). c.args.size ≤ limit_of z) (sym made.pool) c.shape_for-shape.ensures.room;
+        shared = c.opened-arena.ensures.shared;
+        only = one_known c.in-Ok.pass c.allocated.new.pass c.opened-arena.result (ap (λ (v : View). v.seen) made.pass)
+            (λ b k. c.opened-arena.ensures.only b (sym (given.elsewhere.arenas b) ∙ k));
+      };
+      made = subst (λ (z : Shape). IsMadeFor c.args.arenas z) (sym made.pool) c.shape_for-shape.ensures.made;
     }
-
-pub returns-clause-made : goal.returns-clause-made
-returns-clause-made g c =
-    let shaped = c.shape_for-shape.ensures in
-    subst (λ (z : Shape). IsMadeFor c.args.arenas z) (sym c.in-Ok.ensures.pool)
-    (record { passes = shaped.passes; slots = shaped.slots; pages = shaped.pages; wide = shaped.wide })

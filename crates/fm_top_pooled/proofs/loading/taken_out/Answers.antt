@@ -31,4 +31,5 @@ returns-in-Ok-Some c =
     state_left c.requires.room.lone (subst (λ r. IfOk r (λ x. Finishes c.args.pool c.args.pass x)) c.in_ok-finished.ensures c.finish.ensures.finishes) in
     let all : c.in-Ok-Some.bytes.items ≡ given_bytes c.in_ok-finished.finished c.args.arena =
     subst (λ o. IfSome o (λ bytes. bytes.items ≡ given_bytes c.in_ok-finished.finished c.args.arena)) c.in-Ok-Some.field-0-is c.in-Ok-Some.ensures.bytes in
-    c.truncate.ensures.items ∙ ap (λ (bytes : List ℕ). take c.args.count bytes) all ∙ taken c.args.pass c.in_ok-finished.finished c.args.arena c.args.count is c.requires.within
+    c.truncate.ensures.items ∙ ap (λ (bytes : List ℕ). take c.args.count bytes) all
+    ∙ taken c.args.pass c.in_ok-finished.finished c.args.arena c.args.count is c.requires.within

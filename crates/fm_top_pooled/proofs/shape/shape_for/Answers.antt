@@ -12,7 +12,7 @@ returns-clause-valid c =
     let wide : c.div_ceil.result ≤ w = grind (arith, common_steps) in
     let few : c.div_ceil-2.result ≤ 32 = subst (λ (n : ℕ). n ≤ 32) (sym c.div_ceil-2.ensures)
     (few_parts c.div_ceil-words.result w (grind (arith, common_steps)) (subst (λ (n : ℕ). n ≤ w) c.div_ceil.ensures wide)) in
-    can_be c.args.arenas c.max-reach.result w c.requires.some c.requires.few (grind (arith, common_steps)) (grind (arith, common_steps))
+    can_be c.args.arenas c.max-reach.result w c.requires.arenas.some c.requires.arenas.few (grind (arith, common_steps)) (grind (arith, common_steps))
     (grind (arith, common_steps)) (grind (arith, common_steps))
 
 pub returns-clause-room : goal.returns-clause-room

@@ -16,12 +16,10 @@ stock-pass-requires-clause-can g c =
 pub returns-clause-stock : goal.returns-clause-stock
 returns-clause-stock g c =
     let made = c.in-Ok.ensures in
-    let shaped = c.shape_for-shape.ensures in
     let put = c.stock-pass.ensures in
     record {
       stocked = put.stocked;
       lone = put.lone;
       only = one_known c.in-Ok.pass c.stock-pass.result.0 c.stock-pass.result.1.arena (ap (λ (v : View). v.seen) made.pass) put.only;
-      made = subst (λ (z : Shape). IsMadeFor c.args.arenas z) (sym made.pool)
-          (record { passes = shaped.passes; slots = shaped.slots; pages = shaped.pages; wide = shaped.wide });
+      made = subst (λ (z : Shape). IsMadeFor c.args.arenas z) (sym made.pool) c.shape_for-shape.ensures.made;
     }
