@@ -11,9 +11,9 @@ use Rattle.fm_base.specs.View.{Did, given_in}
 use Rattle.fm_base_bytes.specs.Words.{bytes_in}
 use Rattle.fm_segment_access.specs.Alone.{bytes_of_arena}
 use Rattle.fm_segment_laws.proofs.Putting.{put_all_stays}
-use Rattle.fm_segment_laws.proofs.Staying.{StayBelow}
+use Rattle.fm_segment_laws.proofs.Staying.{StayBelow, stay_append}
 use Rattle.fm_rule_calls.specs.Told.{view_of_pass}
-use Rattle.fm_gate.specs.Standing.{IsOutside}
+use Rattle.fm_gate.specs.Needs.{IsOutside}
 use Rattle.fm_io.specs.Files.{Contents, AreBytesFrom}
 use Rattle.fm_io.specs.Reads.{Read, Next, At}
 use Rattle.fm_top_load.specs.Filling.{Puts, no_run, run}
@@ -40,15 +40,11 @@ use Rattle.fm_top_pooled.proofs.Opening.{knows_none}
 
 -- ---- runs of bytes
 
-below_append : (a : ArenaId) (end : ℕ) (es fs : List Entry) → StayBelow a end es → StayBelow a end fs → StayBelow a end (es ++ fs)
-below_append a end [] fs h k = k
-below_append a end (e ∷ es) fs h k = (h.0, below_append a end es fs h.1 k)
-
 -- Runs that are put within some room stay below it.
 puts_stay : (c : Caller) (a : ArenaId) (room : ℕ) (own : List Entry) → Puts c a room own → StayBelow a room own
 puts_stay c a room own no_run = tt
 puts_stay c a room own (run place bytes before now puts are fits does) =
-    below_append a room before now (puts_stay c a room before puts) (put_all_stays c a room place bytes (Ok tt) now are fits does)
+    stay_append a room before now (puts_stay c a room before puts) (put_all_stays c a room place bytes (Ok tt) now are fits does)
 
 -- The arena has the room still behind them.
 pub room_still : (pool : Pool) (p m q r : View) (a : ArenaId) (room : ℕ) → HasRoomIn room pool p a → m ≡ p

@@ -1,5 +1,4 @@
-ghost use Rattle.std.specs.Prelude.{◌≡◌, true, false};
-ghost use Rattle.fm_gate.specs.Standing.{IsOutside};
+ghost use Rattle.fm_gate.specs.Needs.{IsOutside};
 ghost use Rattle.fm_workers.specs.Query.{CanQueryWith, QueriedWith};
 
 use crate::crew::work_crew;
@@ -8,7 +7,7 @@ use crate::joining::join_parts;
 use crate::part::Part;
 use crate::work::Work;
 use fm_arena::Shared;
-use fm_base::{ArenaId, Kind, Refusal};
+use fm_base::Refusal;
 use fm_io::Gate;
 use fm_records::{Answer, query_segment};
 use fm_records_query::Query;
@@ -62,7 +61,7 @@ pub fn query_with<R: Threads + Wait + Sync, G: Gate>(
     if rest != 0 {
         return Err(Refusal::Ragged(rest));
     }
-    if is_confined(s.arena()) {
+    if s.arena().is_confined() {
         return Err(Refusal::WrongThread);
     }
     let mut parts = match cut(alloc, q, s, threads) {
@@ -72,16 +71,5 @@ pub fn query_with<R: Threads + Wait + Sync, G: Gate>(
     match work_crew(rt, alloc, pool, pass, q, &mut parts, gate) {
         Ok(()) => join_parts(alloc, q, parts),
         Err(refusal) => Err(refusal),
-    }
-}
-
-/// Whether only the arena's owner may use it.
-pub(crate) fn is_confined(a: ArenaId) -> bool
-    ensures yes { result ≡ true → a.kind ≡ Kind.Confined }
-    ensures no { result ≡ false → ¬ (a.kind ≡ Kind.Confined) }
-{
-    match a.kind {
-        Kind::Confined => true,
-        Kind::Global | Kind::Automatic | Kind::Shared => false,
     }
 }

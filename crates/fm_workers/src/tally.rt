@@ -1,5 +1,5 @@
 ghost use Rattle.std.specs.Prelude.{◌≡◌, MatchBool};
-ghost use Rattle.fm_gate.specs.Standing.{IsOutside};
+ghost use Rattle.fm_gate.specs.Needs.{IsOutside};
 ghost use Rattle.fm_workers.specs.Counts.{IsTally, IsByteKind, ListsBytes};
 ghost use Rattle.fm_workers.specs.Tally.{CanTallyWith, TalliedWith};
 
@@ -8,7 +8,6 @@ use crate::counts::Counts;
 use crate::crew::work_crew;
 use crate::cutting::cut;
 use crate::part::Part;
-use crate::query::is_confined;
 use crate::summing::total_of;
 use crate::work::Work;
 use fm_arena::Shared;
@@ -88,10 +87,10 @@ pub fn tally_with<R: Threads + Wait + Sync, G: Gate>(
     if rest != 0 {
         return Err(Refusal::Ragged(rest));
     }
-    if is_confined(s.arena()) {
+    if s.arena().is_confined() {
         return Err(Refusal::WrongThread);
     }
-    if is_confined(counts.arena()) {
+    if counts.arena().is_confined() {
         return Err(Refusal::WrongThread);
     }
     let mut parts = match cut(alloc, q, s, threads) {
