@@ -23,7 +23,6 @@
 //! wait.
 #![tactic(auto)]
 
-mod closable;
 mod closing;
 mod gave_back;
 mod giving;

@@ -33,7 +33,6 @@ mod leaving;
 mod maker;
 mod opening;
 mod patching;
-mod usable;
 
 pub use acting::{add, load, store, swap_if};
 pub use alive::is_alive;
@@ -47,4 +46,3 @@ pub use leaving::leave;
 pub use maker::Maker;
 pub use opening::open_arena;
 pub use patching::patch;
-pub use usable::may_use;

@@ -33,8 +33,7 @@
 //! stop where `resolved().dims().len()` and `resolved().value().kind` are others.
 //!
 //! **Why it is safe.** The bytes touched are those of the place that following the path finds in the layout
-//! (`stands_at_its_path`), within the segment. An update is one visit: another caller's write comes before it or after
-//! it.
+//! (`stands_at_its_path`), within the segment. An update changes the value in one step of one visit.
 //!
 //! **What is not promised.** That `get` and `set` of a value that crosses a word are one step: they go piece by piece.
 //! An update works where the value lies in one word alone: an int or a long whose alignment is at least its size. Those

@@ -7,9 +7,9 @@
 //! can say that a fault is answered only where the object that was handed in had one, and that every other answer is by
 //! the bytes that the files have.
 //!
-//! **Both sides.** An implementation ([`HostFiles`], [`HostSink`], and those in memory) has to raise its count at each
-//! fault and at nothing else. Code that is generic over them can't raise it by itself, and where reads are told can't
-//! hide one.
+//! **Both sides.** An implementation ([`HostFiles`], [`HostSink`], and those in memory) has to count each fault, and
+//! nothing else. Code that is generic over them can't raise the count by itself, and where reads are told can't hide
+//! one.
 //!
 //! **Why it is safe.** [`fill`] and [`write_text`] go on piece by piece, in whatever pieces the host gives or takes:
 //! what was read is the file's bytes from the place on, what was written is a prefix of the text, the whole of it

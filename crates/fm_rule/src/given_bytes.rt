@@ -18,30 +18,30 @@ impl Finished {
     /// arenas of one slot and generation apart by the history alone.
     ///
     /// Refused: `Memory`.
-    pub fn bytes_of(&self, alloc: Global, a: ArenaId) -> Result<Option<Vec<u8>>, Refusal>
-        requires { has_arena (state_of self.now) a ≡ true }
-        ensures alive { IfOk result (λ o. IsSome o ↔ ((arena_of (state_of self.now) a).life ≡ Alive)) }
-        ensures bytes { IfOk result (λ o. IfSome o (λ bytes. bytes.items ≡ given_bytes self.now a)) }
+    pub fn bytes_of(&self, alloc: Global, id: ArenaId) -> Result<Option<Vec<u8>>, Refusal>
+        requires { has_arena (state_of self.now) id ≡ true }
+        ensures alive { IfOk result (λ o. IsSome o ↔ ((arena_of (state_of self.now) id).life ≡ Alive)) }
+        ensures bytes { IfOk result (λ o. IfSome o (λ bytes. bytes.items ≡ given_bytes self.now id)) }
         ensures memory { IfErr result (λ e. e ≡ Memory) }
     {
-        if !self.shows_alive(a) {
+        if !self.shows_alive(id) {
             return Ok(None);
         }
-        let bytes = self.collect(alloc, a)?;
+        let bytes = self.collect(alloc, id)?;
         Ok(Some(bytes))
     }
 
     /// Whether the arena is alive.
-    fn shows_alive(&self, a: ArenaId) -> bool
-        requires { has_arena (state_of self.now) a ≡ true }
-        ensures { TellsAlive self.now a result }
+    fn shows_alive(&self, id: ArenaId) -> bool
+        requires { has_arena (state_of self.now) id ≡ true }
+        ensures { TellsAlive self.now id result }
     {
         let shape = self.shape;
-        if !can_have(shape, a) {
+        if !can_have(shape, id) {
             return false;
         }
-        let word = self.word(shape.session_place(a.slot));
-        match alive_holds(a, word) {
+        let word = self.word(shape.session_place(id.slot));
+        match alive_holds(id, word) {
             Some(_) => true,
             None => false,
         }
@@ -55,44 +55,44 @@ impl Finished {
     }
 
     /// The word with byte `k` that the arena has given.
-    fn word_with(&self, a: ArenaId, k: u64) -> u64
-        requires has { HasBytes self.now a }
-        requires low { k < (arena_of (state_of self.now) a).given }
-        ensures { result ≡ word_in (state_of self.now) a (k / 8) }
+    fn word_with(&self, id: ArenaId, k: u64) -> u64
+        requires has { HasBytes self.now id }
+        requires low { k < (arena_of (state_of self.now) id).given }
+        ensures { result ≡ word_in (state_of self.now) id (k / 8) }
     {
         let size = u64::from(self.shape.page_words);
         let part = k / 8 / size;
-        let page = self.word(self.shape.map_place(a.slot, part as u32)) - 1;
+        let page = self.word(self.shape.map_place(id.slot, part as u32)) - 1;
         self.word(self.shape.page_place(page as u32, (k / 8 % size) as u32))
     }
 
     /// The word with byte `k` that the arena has given, where this is the word with the byte before it: each word is
     /// looked up once.
     #[inline(always)]
-    fn word_after(&self, a: ArenaId, k: u64, last: u64) -> u64
-        requires has { HasBytes self.now a }
-        requires low { k < (arena_of (state_of self.now) a).given }
-        requires last { (k % 8 ≡ 0) ⊎ (last ≡ word_in (state_of self.now) a (k / 8)) }
-        ensures { result ≡ word_in (state_of self.now) a (k / 8) }
+    fn word_after(&self, id: ArenaId, k: u64, last: u64) -> u64
+        requires has { HasBytes self.now id }
+        requires low { k < (arena_of (state_of self.now) id).given }
+        requires last { (k % 8 ≡ 0) ⊎ (last ≡ word_in (state_of self.now) id (k / 8)) }
+        ensures { result ≡ word_in (state_of self.now) id (k / 8) }
     {
         if k % 8 == 0 {
-            self.word_with(a, k)
+            self.word_with(id, k)
         } else {
             last
         }
     }
 
     /// The bytes that an arena has given that is alive. Refused: `Memory`.
-    fn collect(&self, alloc: Global, a: ArenaId) -> Result<Vec<u8>, Refusal>
-        requires { HasBytes self.now a }
-        ensures bytes { IfOk result (λ bytes. bytes.items ≡ given_bytes self.now a) }
+    fn collect(&self, alloc: Global, id: ArenaId) -> Result<Vec<u8>, Refusal>
+        requires { HasBytes self.now id }
+        ensures bytes { IfOk result (λ bytes. bytes.items ≡ given_bytes self.now id) }
         ensures memory { IfErr result (λ e. e ≡ Memory) }
     {
-        let given = self.word(self.shape.given_place(a.slot));
+        let given = self.word(self.shape.given_place(id.slot));
         let mut bytes = Vec::new(alloc);
         let mut word = 0;
         for k in 0..given {
-            word = self.word_after(a, k, word);
+            word = self.word_after(id, k, word);
             let byte = ((word >> (8 * (k % 8))) % 256) as u8;
             if bytes.push(byte).is_err() {
                 return Err(Refusal::Memory);
@@ -103,8 +103,8 @@ impl Finished {
 }
 
 /// Whether a pool of this shape can have had an arena of this name.
-fn can_have(z: Shape, a: ArenaId) -> bool
-    ensures { IsTrue result ↔ Fits z a }
+fn can_have(z: Shape, id: ArenaId) -> bool
+    ensures { IsTrue result ↔ Fits z id }
 {
-    a.slot < z.slots && a.owner < z.passes && a.generation < z.generations
+    id.slot < z.slots && id.owner < z.passes && id.generation < z.generations
 }

@@ -11,7 +11,7 @@
 //! status, a text, and what is kept. [`run_tool`] comes to the outcome first, and only then writes its text.
 //!
 //! **Both sides.** Files and the sink are the caller's, and may tell what they hold and count their faults (`fm_io`).
-//! The outcome is said over what they tell, and a fault is answered only where a count rose.
+//! The outcome is said over what they tell, and a fault is answered only where one of them shows it.
 //!
 //! **Why it is safe.** The status, what was written and what is kept are those of one outcome (`runs`), each status has
 //! its cause by one table (`causes`), and input to which no other cause applies is answered whole, but for want of

@@ -16,7 +16,7 @@ use Rattle.fm_base_bytes.specs.Words.{byte_at}
 use Rattle.fm_segment_laws.proofs.Staying.{ChangesBelow, StayBelow, tidy_alone}
 use Rattle.fm_rule_calls.specs.Told.{view_of_pass}
 use Rattle.fm_rule_calls.proofs.Going.{Reached, reached_by}
-use Rattle.fm_gate.specs.Standing.{IsOutside}
+use Rattle.fm_gate.specs.Needs.{IsOutside}
 use Rattle.fm_base_lists.specs.Among.{IsAmong}
 use Rattle.fm_base_lists.proofs.Each.{all_both, all_weaker}
 use Rattle.fm_rule_facts.specs.Views.{View, IsSound, limit_of, state_in}

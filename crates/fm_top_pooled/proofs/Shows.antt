@@ -11,7 +11,7 @@ use Rattle.fm_base.specs.Arenas.{State, are_one, has_arena}
 use Rattle.fm_base.specs.Calls.{Entry, Read, Found as Found_word, entry_of}
 use Rattle.fm_base.specs.Histories.{IsTidy, made_by, state_after}
 use Rattle.fm_base.specs.Untouched.{Spares}
-use Rattle.fm_gate.specs.Standing.{IsOutside}
+use Rattle.fm_gate.specs.Needs.{IsOutside}
 use Rattle.fm_base_lists.specs.Among.{IsAmong}
 use Rattle.fm_base_lists.proofs.Among.{among_kept, among_left, among_right}
 use Rattle.fm_base_lists.proofs.Each.{all_among, all_both, all_weaker}

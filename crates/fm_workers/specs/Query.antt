@@ -16,7 +16,7 @@ use Rattle.fm_path.specs.Resolution.{Resolution}
 use Rattle.fm_rule_facts.specs.Views.{View, IsSound, state_in}
 use Rattle.fm_rule_calls.specs.Told.{view_of_pass}
 use Rattle.fm_rule.specs.declared.pool.Pool.{Pool}
-use Rattle.fm_gate.specs.Standing.{IsOutside}
+use Rattle.fm_gate.specs.Needs.{IsOutside}
 use Rattle.fm_segment.specs.Access.{IsKnown}
 use Rattle.fm_segment.specs.Region.{Region, part_of}
 use Rattle.fm_records_query.specs.Plan.{Plan}

@@ -1,12 +1,11 @@
-ghost use Rattle.std.specs.Prelude.{◌≡◌, true, false};
-ghost use Rattle.fm_gate.specs.Standing.{IsOutside};
+ghost use Rattle.fm_gate.specs.Needs.{IsOutside};
 ghost use Rattle.fm_workers.specs.Query.{CanQueryWith, QueriedWith};
 
 use crate::cutting::cut;
 use crate::joining::join_shares;
 use crate::share::Share;
 use fm_arena::Shared;
-use fm_base::{ArenaId, Kind, Refusal};
+use fm_base::Refusal;
 use fm_io::Gate;
 use fm_records::{Answer, query_segment};
 use fm_records_query::Query;
@@ -61,7 +60,7 @@ pub fn query_with<R: Threads + Wait + Sync, G: Gate>(
     if rest != 0 {
         return Err(Refusal::Ragged(rest));
     }
-    if is_confined(s.arena()) {
+    if s.arena().is_confined() {
         return Err(Refusal::WrongThread);
     }
     let mut shares = match cut(alloc, q, s, threads) {
@@ -71,16 +70,5 @@ pub fn query_with<R: Threads + Wait + Sync, G: Gate>(
     match work_crew(rt, alloc, pool, pass, q, &mut shares, gate) {
         Ok(()) => join_shares(alloc, q, shares),
         Err(refusal) => Err(refusal),
-    }
-}
-
-/// Whether only the arena's owner may use it.
-pub(crate) fn is_confined(a: ArenaId) -> bool
-    ensures yes { result ≡ true → a.kind ≡ Kind.Confined }
-    ensures no { result ≡ false → ¬ (a.kind ≡ Kind.Confined) }
-{
-    match a.kind {
-        Kind::Confined => true,
-        Kind::Global | Kind::Automatic | Kind::Shared => false,
     }
 }

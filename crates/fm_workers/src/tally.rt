@@ -1,12 +1,11 @@
 ghost use Rattle.std.specs.Prelude.{◌≡◌, MatchBool};
-ghost use Rattle.fm_gate.specs.Standing.{IsOutside};
+ghost use Rattle.fm_gate.specs.Needs.{IsOutside};
 ghost use Rattle.fm_workers.specs.Counts.{IsTally, IsByteKind, ListsBytes};
 ghost use Rattle.fm_workers.specs.Tally.{CanTallyWith, TalliedWith};
 
 use crate::counting::count_region;
 use crate::counts::Counts;
 use crate::cutting::cut;
-use crate::query::is_confined;
 use crate::share::Share;
 use crate::summing::total_of;
 use fm_arena::Shared;
@@ -87,10 +86,10 @@ pub fn tally_with<R: Threads + Wait + Sync, G: Gate>(
     if rest != 0 {
         return Err(Refusal::Ragged(rest));
     }
-    if is_confined(s.arena()) {
+    if s.arena().is_confined() {
         return Err(Refusal::WrongThread);
     }
-    if is_confined(counts.arena()) {
+    if counts.arena().is_confined() {
         return Err(Refusal::WrongThread);
     }
     let mut shares = match cut(alloc, q, s, threads) {

@@ -18,7 +18,7 @@ use Rattle.fm_rule_facts.specs.Splits.{view_of}
 use Rattle.fm_rule_facts.proofs.Keeping.{in_append}
 use Rattle.fm_rule.specs.declared.pool.Pool.{Pool}
 use Rattle.fm_rule.specs.Draws.{Asked, Drawn, Drew, NoneDrawn, FoundNone, Looked}
-use Rattle.fm_gate.specs.Standing.{IsOutside}
+use Rattle.fm_gate.specs.Needs.{IsOutside}
 use Rattle.fm_arena.specs.Shares.{CanShare}
 use Rattle.fm_workers_crew.specs.declared.worker.Worker.{Worker}
 use Rattle.fm_workers_crew.specs.Crew.{DrewEach, FoundNoNumber}

@@ -13,7 +13,7 @@ use Rattle.fm_rule_facts.specs.Views.{View}
 use Rattle.fm_rule_facts.specs.Splits.{as_gathered}
 use Rattle.fm_rule.specs.declared.pool.Pool.{Pool}
 use Rattle.fm_rule.specs.Draws.{CanGather, Gathers}
-use Rattle.fm_gate.specs.Standing.{IsOutside}
+use Rattle.fm_gate.specs.Needs.{IsOutside}
 use Rattle.fm_workers_crew.specs.declared.worker.Worker.{Worker}
 use Rattle.fm_workers_crew.specs.Crew.{IsIn}
 use Rattle.fm_workers_crew.specs.Rounds.{IsSpare, GatheredCrew, crew_of}

@@ -1,6 +1,6 @@
 ghost use Rattle.std.specs.Prelude.{◌≡◌, ◌+◌, ◌<◌, ◌≤◌, ◌++◌, ℕ, [], None, All, length, reverse, slice_index_or, vec_len, vec_capacity};
 ghost use Rattle.std.specs.List.{AllByRecursion};
-ghost use Rattle.fm_gate.specs.Standing.{IsOutside};
+ghost use Rattle.fm_gate.specs.Needs.{IsOutside};
 ghost use Rattle.fm_workers_crew.specs.Crew.{CrewWorked};
 ghost use Rattle.fm_workers_crew.specs.Rounds.{AfterDraws, CalledUp, GatheredCrew, IsSpare, IsWorked, tasks_of};
 

@@ -1,5 +1,5 @@
 use Rattle.std.proofs.Common.{◌≡◌, ◌+◌, ◌≤◌, ◌++◌, vec_len, vec_capacity}
-use Rattle.fm_gate.specs.Standing.{IsOutside}
+use Rattle.fm_gate.specs.Needs.{IsOutside}
 use Rattle.fm_workers_crew.specs.Rounds.{DrewCrew, tasks_of}
 use Rattle.fm_workers_crew.proofs.crew.draw_crew.Given as goal
 

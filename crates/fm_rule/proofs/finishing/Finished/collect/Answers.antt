@@ -11,12 +11,12 @@ use Rattle.fm_rule.proofs.finishing.Finished.collect.Goals as goal
 
 pub word-given-requires : goal.word-given-requires
 word-given-requires c =
-    place_below _ c.args.a.slot _ c.requires.fits.slot
-    (c.given_place.ensures ∙ ap (λ (x : Shape). at x (given_place c.args.a.slot)) (shape_in _ _ c.self.view_is))
+    place_below _ c.args.id.slot _ c.requires.fits.slot
+    (c.given_place.ensures ∙ ap (λ (x : Shape). at x (given_place c.args.id.slot)) (shape_in _ _ c.self.view_is))
 
 pub word_after-word-requires-clause-low : goal.word_after-word-requires-clause-low
 word_after-word-requires-clause-low c =
-    subst (λ (n : ℕ). c.loop-k.k < n) (given_now c.args.self.now c.args.a c.requires c.self.inside.shape (shape_in _ _ c.self.view_is) c.given_place.result
+    subst (λ (n : ℕ). c.loop-k.k < n) (given_now c.args.self.now c.args.id c.requires c.self.inside.shape (shape_in _ _ c.self.view_is) c.given_place.result
     c.word-given.result c.given_place.ensures c.word-given.ensures) c.loop-k-test.true
 
 -- the next byte stands in the same word, or is the first of its word
@@ -30,11 +30,11 @@ loop-k-preserved c =
     let old : List ℕ = c.loop-k.bytes.items in
     let value : ℕ = byte_of c.word_after-word.result (c.loop-k.k % 8) in
     let ok : is_ok c.push.result ≡ true = c.is_err.ensures.negation ∙ ap not c.if-is_err.false in
-    let low = subst (λ (n : ℕ). c.loop-k.k < n) (given_now c.args.self.now c.args.a c.requires c.self.inside.shape (shape_in _ _ c.self.view_is)
+    let low = subst (λ (n : ℕ). c.loop-k.k < n) (given_now c.args.self.now c.args.id c.requires c.self.inside.shape (shape_in _ _ c.self.view_is)
     c.given_place.result c.word-given.result c.given_place.ensures c.word-given.ensures) c.loop-k-test.true in (
       c.push.ensures.items ∙ (ap (λ (b : Bool). if b then old ++ value ∷ [] else old) ok
           ∙ (ap (λ (bs : List ℕ). bs ++ value ∷ []) c.loop-k.invariant.0
-          ∙ one_byte c.args.self.now (finished_in _ _ c.self.view_is c.self.invariant) c.args.a c.requires c.loop-k.k value low
+          ∙ one_byte c.args.self.now (finished_in _ _ c.self.view_is c.self.invariant) c.args.id c.requires c.loop-k.k value low
           (ap (λ (w : ℕ). byte_of w (c.loop-k.k % 8)) c.word_after-word.ensures))),
       next _ _ c.loop-k.k _ _ refl c.word_after-word.ensures,
     )

@@ -6,5 +6,5 @@ use Rattle.fm_rule.proofs.finishing.Finished.collect.Given as goal
 
 abbrev pub invariant-loop-k : goal.invariant-loop-k
 invariant-loop-k l =
-    (l.bytes.items ≡ take l.k (bytes_in (arena_of (state_of l.fn.self) l.fn.a).words))
-    × ((l.k % 8 ≡ 0) ⊎ (l.word ≡ word_in (state_of l.fn.self) l.fn.a (l.k / 8)))
+    (l.bytes.items ≡ take l.k (bytes_in (arena_of (state_of l.fn.self) l.fn.id).words))
+    × ((l.k % 8 ≡ 0) ⊎ (l.word ≡ word_in (state_of l.fn.self) l.fn.id (l.k / 8)))

@@ -11,7 +11,7 @@ use Rattle.fm_rule.specs.declared.pool.Pool.{Pool}
 use Rattle.fm_rule.specs.Passes.{IsOf}
 use Rattle.fm_rule_calls.specs.Kept.{Goes}
 use Rattle.fm_gate.specs.Makers.{made_by_pass}
-use Rattle.fm_gate.specs.Standing.{IsOutside, IsInside}
+use Rattle.fm_gate.specs.Needs.{IsOutside, IsInside}
 
 -- It is the maker that it was.
 pub made_on : {p q : View} {own : List Entry} → Goes p q own → made_by_pass q ≡ made_by_pass p

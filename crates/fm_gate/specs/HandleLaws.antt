@@ -8,7 +8,7 @@ use Rattle.fm_rule_facts.specs.Views.{View}
 use Rattle.fm_rule_facts.specs.Holds.{how_many}
 use Rattle.fm_rule.specs.declared.pool.Pool.{Pool}
 use Rattle.fm_rule_calls.specs.Kept.{Goes}
-use Rattle.fm_gate.specs.Standing.{HasHandle}
+use Rattle.fm_gate.specs.Needs.{HasHandle}
 use Rattle.fm_gate.specs.Learnt.{AfterOpen, AfterAgain}
 
 -- a pass that goes on and has the handles that it had can still use each of them

@@ -10,7 +10,7 @@ use Rattle.fm_rule.specs.declared.pool.Pool.{Pool}
 use Rattle.fm_rule_calls.specs.Kept.{Goes, rest_of}
 use Rattle.fm_gate.specs.declared.held.Hold.{Hold}
 use Rattle.fm_gate.specs.Crews.{StandsOn}
-use Rattle.fm_gate.specs.Standing.{IsOutside}
+use Rattle.fm_gate.specs.Needs.{IsOutside}
 use Rattle.fm_gate.specs.Learnt.{AfterHold, AfterUnhold, AfterOpen, AfterAgain}
 use Rattle.fm_close.specs.declared.gave_back.GaveBack.{GaveBack}
 use Rattle.fm_close.specs.declared.shutting.Shutting.{Shutting}

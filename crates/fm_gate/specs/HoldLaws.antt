@@ -9,7 +9,7 @@ use Rattle.fm_rule_facts.specs.Holds.{how_many}
 use Rattle.fm_rule.specs.declared.pool.Pool.{Pool}
 use Rattle.fm_rule_calls.specs.Kept.{Goes, rest_of}
 use Rattle.fm_gate.specs.declared.held.Hold.{Hold}
-use Rattle.fm_gate.specs.Standing.{CanUnhold}
+use Rattle.fm_gate.specs.Needs.{CanUnhold}
 use Rattle.fm_gate.specs.Learnt.{AfterHold, AfterUnhold}
 
 -- two holds of one arena
