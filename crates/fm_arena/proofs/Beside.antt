@@ -12,13 +12,15 @@ use Rattle.fm_rule_facts.proofs.Summing.{some_hold, one_less}
 use Rattle.fm_gate.specs.declared.held.Hold.{Hold}
 use Rattle.fm_gate.specs.Learnt.{holds_taken, handles_opened, handles_again}
 use Rattle.fm_gate.proofs.Counted.{some_in, in_released}
-use Rattle.fm_gate.proofs.Standing.{made_on}
+use Rattle.fm_gate.proofs.Outside.{made_on}
 use Rattle.fm_base.specs.declared.kind.Kind.TheVariants.{Automatic}
 use Rattle.fm_arena.specs.declared.handle.AutoHandle.{AutoHandle}
 use Rattle.fm_arena.specs.Learnt.{AfterHold, CanUnhold}
 use Rattle.fm_arena.specs.Handles.{HasHandle, AfterAgain, named, whether}
 use Rattle.fm_arena.specs.Lasting.{HasBoth, HoldsStand, HasTwo, HandlesStand, HoldLasts, HandleLasts}
 use Rattle.fm_arena.proofs.Lasting.{hold_on, hold_same, hold_after, handle_on, handle_same, handle_after}
+use Rattle.fm_gate.proofs.Both.{in_taken}
+use Rattle.fm_gate.proofs.Outliving.{in_again, in_opened}
 
 -- Of two in a list one is left where one is left out.
 left_of_two : (a : ArenaId) (hs ks : List ArenaId) → ks ≡ released a hs → In a hs → 1 < how_many a hs → In a ks
@@ -35,10 +37,6 @@ two_of_one a hs ks is has =
     let before = some_hold a hs has in omega arith
 
 -- ---- holds
-
-in_taken : (a b : ArenaId) (result : Result Hold Refusal) (hs : List ArenaId) → In a hs → In a (holds_taken b result hs)
-in_taken a b (Ok h) hs i = inr i
-in_taken a b (Err r) hs i = i
 
 holds_beside : HoldsStand
 holds_beside = record {
@@ -78,20 +76,12 @@ holds_beside = record {
 
 -- ---- handles
 
-in_opened : (a : ArenaId) (result : Result ArenaId Refusal) (hs : List ArenaId) → In a hs → In a (handles_opened Automatic result hs)
-in_opened a (Ok id) hs i = inr i
-in_opened a (Err r) hs i = i
-
-in_again : (a b : ArenaId) (result : Result (Unit {0}) Refusal) (hs : List ArenaId) → In a hs → In a (handles_again b result hs)
-in_again a b (Ok u) hs i = inr i
-in_again a b (Err r) hs i = i
-
 handles_beside : HandlesStand
 handles_beside = record {
   at_start = λ p q result handle a can.
       handle_on p q handle a.lasts.known (made_on a.did.goes)
       (subst (λ (hs : List ArenaId). In handle.arena hs) (sym (ap (λ (x : Rest). x.handles) a.did.rest))
-      (in_opened handle.arena (named result) p.handles can.handled.has)) can;
+      (in_opened handle.arena Automatic (named result) p.handles can.handled.has)) can;
   at_again = at_again;
   both = λ p q first result a can. both p q first result a can;
   both_by_memory = λ p q own first second m b. record {

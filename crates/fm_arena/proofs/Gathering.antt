@@ -9,7 +9,7 @@ use Rattle.fm_rule_calls.specs.Kept.{rest_of}
 use Rattle.fm_rule_calls.proofs.Sweeps.{no_sweeps}
 use Rattle.fm_gate.specs.Crews.{HasNothing}
 use Rattle.fm_arena.specs.Learnt.{AfterIntoPass}
-use Rattle.fm_arena.specs.Gathering.{WorkerLasts}
+use Rattle.fm_arena.specs.WorkerLaws.{WorkerLasts}
 
 nothing_on : (p q : View) → rest_of q ≡ rest_of p → HasNothing p → HasNothing q
 nothing_on p q rest n = record {

@@ -73,15 +73,14 @@ hold_after p q own hold m can = hold_same p q hold (known_after p q own m) (made
 pub handled_on : (p q : View) (id : ArenaId) → ((id : ArenaId) → IsKnown p id → IsKnown q id) → In id q.handles → IsHandled p id → IsHandled q id
 handled_on p q id known has can = record { known = known id can.known; has = has; automatic = can.automatic }
 
--- A handle of an arena of which the pass still has one can still be used.
-pub handle_on : (p q : View) (handle : AutoHandle) → ((id : ArenaId) → IsKnown p id → IsKnown q id) → made_by_pass q ≡ made_by_pass p
-    → In handle.arena q.handles → HasHandle p handle → HasHandle q handle
-handle_on p q handle known made has can = record { maker = can.maker ∙ sym made; handled = handled_on p q handle.arena known has can.handled }
+module _ (p q : View) (handle : AutoHandle) (known : (id : ArenaId) → IsKnown p id → IsKnown q id) (made : made_by_pass q ≡ made_by_pass p) where
+  -- A handle of an arena of which the pass still has one can still be used.
+  pub handle_on : In handle.arena q.handles → HasHandle p handle → HasHandle q handle
+  handle_on has can = record { maker = can.maker ∙ sym made; handled = handled_on p q handle.arena known has can.handled }
 
-pub handle_same : (p q : View) (handle : AutoHandle) → ((id : ArenaId) → IsKnown p id → IsKnown q id) → made_by_pass q ≡ made_by_pass p
-    → q.handles ≡ p.handles → HasHandle p handle → HasHandle q handle
-handle_same p q handle known made same can =
-    handle_on p q handle known made (subst (λ (hs : List ArenaId). In handle.arena hs) (sym same) can.handled.has) can
+  -- So can each where the pass has the handles that it had.
+  pub handle_same : q.handles ≡ p.handles → HasHandle p handle → HasHandle q handle
+  handle_same same can = handle_on (subst (λ (hs : List ArenaId). In handle.arena hs) (sym same) can.handled.has) can
 
 pub handle_after : (p q : View) (own : List Entry) (handle : AutoHandle) → Makes (view_of_pass p) (view_of_pass q) own → HasHandle p handle
     → HasHandle q handle

@@ -8,7 +8,7 @@ use Rattle.fm_base.specs.View.{Makes}
 use Rattle.fm_rule_facts.specs.Views.{View, In, IsSound, grips, limit_of, state_in}
 use Rattle.fm_rule_calls.specs.Told.{view_of_pass}
 use Rattle.fm_gate.proofs.Living.{none_shut_out, grips_are}
-use Rattle.fm_arena.specs.Open.{HeldIsOpen}
+use Rattle.fm_arena.specs.OpenLaws.{HeldIsOpen}
 
 -- What is alive behind the entries of a call shut nobody out between them.
 never : (p q : View) (own : List Entry) (id : ArenaId) → Makes (view_of_pass p) (view_of_pass q) own → IsSound q → In id (grips id p)

@@ -6,9 +6,22 @@ use Rattle.fm_base.specs.declared.refusal.Refusal.TheVariants.{PoolFull}
 use Rattle.fm_base.specs.Calls.{Entry, Enter, Fine, entry_of}
 use Rattle.fm_base.specs.Histories.{made_by}
 use Rattle.fm_base.specs.View.{is_loan}
+use Rattle.fm_base.specs.Learnt as memory
 use Rattle.fm_rule_facts.specs.Views.{View, In}
 use Rattle.fm_gate.specs.Pages.{FoundNoPage, FullExactly, LendsInRange}
+use Rattle.fm_rule_calls.specs.Told.{view_of_pass}
+use Rattle.fm_segment.specs.Region.{Region}
+use Rattle.fm_arena.specs.Arenas as arena
 use Rattle.fm_arena.specs.Opening.{HasNoSlot}
+use Rattle.fm_arena.specs.Shares.{nature_of_shared}
+
+-- what each memory teaches of allocating, of a pass
+abbrev pub Allocates : View → View → ArenaId → ℕ → ℕ → Result ℕ Refusal → Type 0
+Allocates old new id size align result = memory.AfterAllocate nature_of_shared (view_of_pass old) (view_of_pass new) id size align result
+
+-- and each arena, of the segment
+abbrev pub AllocatesSegment : View → View → ArenaId → ℕ → ℕ → Result Region Refusal → Type 0
+AllocatesSegment old new id size align result = arena.AfterAllocate nature_of_shared (view_of_pass old) (view_of_pass new) id size align result
 
 -- A pass that is known to be whole, has no close under way and no slot in its hand is refused with PoolFull exactly where fewer pages aren't lent than parts of
 -- the range have none; any pass only where each word of page bits was 0 at a step, and a part of the range had no page after its last Lend

@@ -15,7 +15,7 @@ use Rattle.fm_rule.specs.Passes.{IsOf, GoesOnFrom}
 use Rattle.fm_rule_calls.specs.Kept.{Kept, KeptHolding, Lasts}
 use Rattle.fm_gate.specs.declared.held.Hold.{Hold}
 use Rattle.fm_gate.specs.Makers.{made_by_pass}
-use Rattle.fm_gate.specs.Standing.{IsOutside}
+use Rattle.fm_gate.specs.Needs.{IsOutside}
 use Rattle.fm_gate.specs.Learnt.{DoesTake, holds_taken}
 
 -- of `into_pass`: the pass is the one that the memory told of, outside in the pool that it is of without a page, and sound

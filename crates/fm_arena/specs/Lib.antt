@@ -1,9 +1,9 @@
 pub mod Shares
 pub mod Learnt
 pub mod Lasting
-pub mod Gathering
+pub mod WorkerLaws
 pub mod Arenas
-pub mod Open
+pub mod OpenLaws
 pub mod Opening
 pub mod Allocating
 pub mod Handles

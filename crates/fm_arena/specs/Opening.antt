@@ -1,10 +1,19 @@
 -- Where a pass finds no slot for an arena.
 use Rattle.std.specs.Prelude.{◌≡◌, ◌≤◌, true, [], length, Result, IfOk, IfErr}
+use Rattle.fm_base.specs.declared.arena_id.ArenaId.{ArenaId}
+use Rattle.fm_base.specs.declared.kind.Kind.{Kind}
 use Rattle.fm_base.specs.declared.refusal.Refusal.{Refusal}
 use Rattle.fm_base.specs.Finds.{FoundNothing, is_slot}
+use Rattle.fm_base.specs.Learnt.{AfterOpen}
 use Rattle.fm_rule_facts.specs.Views.{View}
 use Rattle.fm_rule_calls.specs.Kept.{rest_of}
+use Rattle.fm_rule_calls.specs.Told.{view_of_pass}
 use Rattle.fm_gate.specs.Learnt.{AllBusy}
+use Rattle.fm_arena.specs.Shares.{nature_of_shared}
+
+-- what each memory teaches of opening, of a pass
+abbrev pub Opens : View → View → Kind → Result ArenaId Refusal → Type 0
+Opens old new kind result = AfterOpen nature_of_shared (view_of_pass old) (view_of_pass new) kind result
 
 -- no slot in its hand, nor that of an arena that it ended and hasn't swept
 abbrev pub HasNoSlot : View → Type 0

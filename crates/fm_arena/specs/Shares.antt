@@ -7,7 +7,7 @@ use Rattle.fm_rule_facts.specs.Hands.{nothing, no_number}
 use Rattle.fm_rule_facts.specs.Parts.{unread}
 use Rattle.fm_rule.specs.declared.pool.Pool.{Pool}
 use Rattle.fm_rule_calls.specs.Kept.{HasEnded, HasNoWords}
-use Rattle.fm_gate.specs.Standing.{IsOutside}
+use Rattle.fm_gate.specs.Needs.{IsOutside}
 use Rattle.fm_rule.specs.Passes.{IsOf}
 
 -- outside, with no page in its hand

@@ -7,9 +7,16 @@ use std::sync::Wait;
 
 /// An arena of a memory (`Arena`, JEP 454, Java SE 22): segments are allocated from it, and end with it.
 ///
-/// `Arena.ofShared()` is `start` with `Kind::Shared`, `Arena.ofConfined()` with `Kind::Confined`. `Arena.global()` is
-/// `start` with `Kind::Global`: it can't be closed, but each call opens an arena of its own, where Java has only one.
-/// `Arena.ofAuto()` is `AutoHandle::start`.
+/// | Kind | opened by | used by | ended by | closable |
+/// |---|---|---|---|---|
+/// | `Global` | `start` | every caller | nobody | no |
+/// | `Automatic` | `AutoHandle::start` | every caller | `give_back` of its last handle | no |
+/// | `Confined` | `start` | its owner, who opened it | `close` by its owner | yes |
+/// | `Shared` | `start` | every caller | `close` by any caller | yes |
+///
+/// Java has `Arena.global()`, `ofAuto()`, `ofConfined()` and `ofShared()` for these. Each `start` with `Kind::Global`
+/// opens an arena of its own, where Java has only one. Who isn't the owner is refused `WrongThread`, and a close of an
+/// arena that isn't closable `CannotClose`.
 ///
 /// It is the arena's name and no more: a copy names the same arena, and is used by other callers of the memory as this
 /// one is.

@@ -1,6 +1,6 @@
 ghost use Rattle.fm_arena.specs.Lasting.{KeepsItsPool, HoldLasts, HandleLasts};
-ghost use Rattle.fm_arena.specs.Open.{HeldIsOpen};
-ghost use Rattle.fm_arena.specs.Gathering.{WorkerLasts};
+ghost use Rattle.fm_arena.specs.OpenLaws.{HeldIsOpen};
+ghost use Rattle.fm_arena.specs.WorkerLaws.{WorkerLasts};
 
 /// The pass of a `Shared` is one of the same pool after any calls of `Memory`.
 pub fn keeps_its_pool()

@@ -1,7 +1,11 @@
 //! The arenas of a pool that threads share, as a memory (`Arena`, JEP 454, Java SE 22).
 //!
-//! Each thread has a pass of the pool, and a `Shared` of it: a `Memory` over which all code for segments and handles
-//! runs. An `Arena` allocates segments and closes, over any memory; an `AutoHandle` keeps an automatic arena open.
+//! **The problem.** Segments, handles and queries are written once, over any `Memory`; but the calls of a pool are made
+//! on a pass, and say what a pass had seen and found.
+//!
+//! **The idea.** Each thread has a pass of the pool, and a [`Shared`] of it: a `Memory` that tells the history as the
+//! pass has seen it. An [`Arena`] allocates segments and closes, over any memory; an [`AutoHandle`] keeps an automatic
+//! arena open.
 //!
 //! ```
 //! let mut memory = Shared::new(&pool, pass);
@@ -11,7 +15,16 @@
 //! arena.close(&rt, &mut memory)?;
 //! ```
 //!
-//! No call of a `Shared` takes memory. A call that takes a runtime may wait for other passes.
+//! **Both sides.** Who accesses enters and leaves at each word (`fm_gate`); who closes shuts, looks at every mark and
+//! ends the arena (`fm_close`). Neither knows of the other but by the pool's words.
+//!
+//! **Why it is safe.** Each call's entries are legal in the one history of the pool, whatever other passes do between,
+//! so all that is proved over a `Memory` holds here. What is held is open (`what_is_held_is_open`).
+//!
+//! **What is not promised.** That [`Arena::close`] or a last [`AutoHandle::give_back`] returns while a pass stays
+//! inside; that another pass knows of an arena before it has seen what its opener had seen; that a slot, a page or a
+//! number is left: `NoSlot` and `PoolFull` say what was found. No call of a `Shared` takes memory. A call that takes a
+//! runtime may wait for other passes.
 #![tactic(auto)]
 
 mod arena;

@@ -35,13 +35,13 @@ impl<'a> Model for Shared<'a> {
 }
 
 impl<'a> Shared<'a> {
-    ghost use Rattle.fm_base.specs.Learnt.{AfterOpen, CanOpen, CanVisit};
+    ghost use Rattle.fm_base.specs.Learnt.{CanOpen, CanVisit};
     ghost use Rattle.fm_rule_calls.specs.Told.{view_of_pass};
-    ghost use Rattle.fm_arena.specs.Allocating.{AllocatesExactly};
-    ghost use Rattle.fm_arena.specs.Arenas.{AfterAllocate, placed, started};
+    ghost use Rattle.fm_arena.specs.Allocating.{AllocatesExactly, AllocatesSegment};
+    ghost use Rattle.fm_arena.specs.Arenas.{placed, started};
     ghost use Rattle.fm_arena.specs.Learnt.{AfterHold, AfterIntoPass, AfterIsAlive, AfterMeet, AfterUnhold, CanUnhold};
-    ghost use Rattle.fm_arena.specs.Opening.{OpensExactly};
-    ghost use Rattle.fm_arena.specs.Shares.{CanShare, nature_of_shared};
+    ghost use Rattle.fm_arena.specs.Opening.{Opens, OpensExactly};
+    ghost use Rattle.fm_arena.specs.Shares.{CanShare};
 
     /// The memory of a pass that is in no arena, and has no page in its hand.
     pub fn new(pool: &'a Pool, pass: Pass) -> Shared<'a>
@@ -84,7 +84,7 @@ impl<'a> Shared<'a> {
     /// has an arena that hasn't ended, or has had its last generation.
     pub fn start<R: Wait>(&mut self, rt: &R, kind: Kind) -> Result<Arena, Refusal>
         requires { CanOpen (view_of_pass self.old) kind }
-        ensures opens { AfterOpen nature_of_shared (view_of_pass self.old) (view_of_pass self.new) kind (started result) }
+        ensures opens { Opens self.old self.new kind (started result) }
         ensures exact { OpensExactly self.old self.new result }
     {
         let id = self.open_arena(rt, kind)?;
@@ -104,7 +104,7 @@ impl<'a> Shared<'a> {
         align: u64,
     ) -> Result<Segment, Refusal>
         requires { CanVisit (view_of_pass self.old) arena.now.id }
-        ensures allocates { AfterAllocate nature_of_shared (view_of_pass self.old) (view_of_pass self.new) arena.now.id size align result }
+        ensures allocates { AllocatesSegment self.old self.new arena.now.id size align result }
         ensures exact { AllocatesExactly self.old self.new arena.now.id size align (placed result) }
     {
         let first = self.allocate(rt, arena.id, size, align)?;
@@ -114,21 +114,21 @@ impl<'a> Shared<'a> {
     /// Whether the arena is alive: a visit to it without acts.
     ///
     /// Refused: `WrongThread`.
-    pub fn is_alive(&mut self, a: ArenaId) -> Result<bool, Refusal>
-        requires { CanVisit (view_of_pass self.old) a }
-        ensures { AfterIsAlive self.old self.new a result }
+    pub fn is_alive(&mut self, id: ArenaId) -> Result<bool, Refusal>
+        requires { CanVisit (view_of_pass self.old) id }
+        ensures { AfterIsAlive self.old self.new id result }
     {
-        is_alive(self.pool, &mut self.pass, a)
+        is_alive(self.pool, &mut self.pass, id)
     }
 
     /// Holds the arena: until the hold is spent nobody can shut it.
     ///
     /// Refused, in this order: `Unsupported`, `WrongThread`, `Closed`, `TooManyHolds`. A refused call changes nothing.
-    pub fn hold<R: Wait>(&mut self, rt: &R, a: ArenaId) -> Result<Hold, Refusal>
-        requires { CanVisit (view_of_pass self.old) a }
-        ensures { AfterHold self.old self.new a result }
+    pub fn hold<R: Wait>(&mut self, rt: &R, id: ArenaId) -> Result<Hold, Refusal>
+        requires { CanVisit (view_of_pass self.old) id }
+        ensures { AfterHold self.old self.new id result }
     {
-        hold(rt, self.pool, &mut self.pass, a)
+        hold(rt, self.pool, &mut self.pass, id)
     }
 
     /// Spends a hold.
@@ -143,13 +143,13 @@ impl<'a> Shared<'a> {
 impl<'a> Memory for Shared<'a> {
     ghost use Rattle.std.specs.Prelude.{◌≢◌, Err, IfOk, refl};
     ghost use Rattle.fm_base.specs.declared.refusal.Refusal.TheVariants.{Closed};
-    ghost use Rattle.fm_base.specs.Learnt.{AfterAllocate, AfterClose, AfterEnter, AfterOpen, CanOpen, CanVisit};
+    ghost use Rattle.fm_base.specs.Learnt.{AfterClose, AfterEnter, CanOpen, CanVisit};
     ghost use Rattle.fm_base.specs.View.{IsSound};
     ghost use Rattle.fm_rule_facts.specs.Views as views;
     ghost use Rattle.fm_rule_facts.specs.Views.{In, grips};
     ghost use Rattle.fm_rule_calls.specs.Told.{view_of_pass};
-    ghost use Rattle.fm_arena.specs.Allocating.{AllocatesExactly};
-    ghost use Rattle.fm_arena.specs.Opening.{OpensExactly};
+    ghost use Rattle.fm_arena.specs.Allocating.{Allocates, AllocatesExactly};
+    ghost use Rattle.fm_arena.specs.Opening.{Opens, OpensExactly};
     ghost use Rattle.fm_arena.specs.Shares.{IsGone, nature_of_shared};
 
     ghost nature = { nature_of_shared };
@@ -167,12 +167,12 @@ impl<'a> Memory for Shared<'a> {
 
     /// As the trait says; and it isn't `Closed` where the pass has a hold or a handle of the arena.
     #[inline(always)]
-    fn enter(&mut self, a: ArenaId) -> Result<(), Refusal>
-        requires { CanVisit (view_of_pass self.old) a }
-        ensures enters { AfterEnter (view_of_pass self.old) (view_of_pass self.new) a result }
-        ensures held { In a (grips a self.old) → result ≢ Err Closed }
+    fn enter(&mut self, id: ArenaId) -> Result<(), Refusal>
+        requires { CanVisit (view_of_pass self.old) id }
+        ensures enters { AfterEnter (view_of_pass self.old) (view_of_pass self.new) id result }
+        ensures held { In id (grips id self.old) → result ≢ Err Closed }
     {
-        enter(self.pool, &mut self.pass, a)
+        enter(self.pool, &mut self.pass, id)
     }
 
     #[inline(always)]
@@ -206,7 +206,7 @@ impl<'a> Memory for Shared<'a> {
     /// that found no slot had seen no more than the pass has seen afterwards.
     fn open_arena<R: Wait>(&mut self, rt: &R, kind: Kind) -> Result<ArenaId, Refusal>
         requires { CanOpen (view_of_pass self.old) kind }
-        ensures opens { AfterOpen nature_of_shared (view_of_pass self.old) (view_of_pass self.new) kind result }
+        ensures opens { Opens self.old self.new kind result }
         ensures exact { OpensExactly self.old self.new result }
     {
         open_arena(rt, self.pool, &mut self.pass, kind)
@@ -218,25 +218,25 @@ impl<'a> Memory for Shared<'a> {
     fn allocate<R: Wait>(
         &mut self,
         rt: &R,
-        a: ArenaId,
+        id: ArenaId,
         size: u64,
         align: u64,
     ) -> Result<u64, Refusal>
-        requires { CanVisit (view_of_pass self.old) a }
-        ensures allocates { AfterAllocate nature_of_shared (view_of_pass self.old) (view_of_pass self.new) a size align result }
-        ensures held { In a (grips a self.old) → result ≢ Err Closed }
-        ensures exact { AllocatesExactly self.old self.new a size align result }
+        requires { CanVisit (view_of_pass self.old) id }
+        ensures allocates { Allocates self.old self.new id size align result }
+        ensures held { In id (grips id self.old) → result ≢ Err Closed }
+        ensures exact { AllocatesExactly self.old self.new id size align result }
     {
-        allocate(rt, self.pool, &mut self.pass, a, size, align)
+        allocate(rt, self.pool, &mut self.pass, id, size, align)
     }
 
     /// As the trait says; and an arena that was closed has ended, and no word of the pool is lent to it any more.
-    fn close<R: Wait>(&mut self, rt: &R, a: ArenaId) -> Result<(), Refusal>
-        requires { CanVisit (view_of_pass self.old) a }
-        ensures closes { AfterClose (view_of_pass self.old) (view_of_pass self.new) a result }
-        ensures gone { IfOk result (λ _. IsGone self.new a) }
+    fn close<R: Wait>(&mut self, rt: &R, id: ArenaId) -> Result<(), Refusal>
+        requires { CanVisit (view_of_pass self.old) id }
+        ensures closes { AfterClose (view_of_pass self.old) (view_of_pass self.new) id result }
+        ensures gone { IfOk result (λ _. IsGone self.new id) }
     {
-        close(rt, self.pool, &mut self.pass, a)
+        close(rt, self.pool, &mut self.pass, id)
     }
 
     ghost alone_is = { λ m. refl };

@@ -1,5 +1,8 @@
 -- What a memory is before whose calls somebody else has a turn.
 use Rattle.std.specs.Prelude.{◌≡◌, ℕ, ◌+◌, ◌-◌, ◌^◌, ◌==◌, if◌then◌else◌, false}
+use Rattle.fm_base.specs.declared.arena_id.ArenaId.{ArenaId}
+use Rattle.fm_base.specs.Calls.{Call, Reply}
+use Rattle.fm_base.specs.Learnt.{AfterAct, AfterPatch}
 use Rattle.fm_base.specs.Outcomes.{Nature}
 use Rattle.fm_base.specs.View.{View}
 
@@ -9,6 +12,14 @@ beside v = record v { alone = false }
 
 abbrev pub nature_beside : Nature → Nature
 nature_beside n = record n { alone = false }
+
+-- what an act of the memory below teaches, where other callers exist
+abbrev pub Acted : {X : Type 0} → (X → View) → X → X → (ArenaId → Call) → Reply → Type 0
+Acted view old new call reply = AfterAct (beside (view old)) (beside (view new)) call reply
+
+-- and a patch
+abbrev pub Patched : {X : Type 0} → (X → View) → X → X → (word mask bits found : ℕ) → Type 0
+Patched view old new word mask bits found = AfterPatch (beside (view old)) (beside (view new)) word mask bits found
 
 -- how many numbered calls were made after one more: the last number stays
 abbrev pub called_once_more : ℕ → ℕ

@@ -59,8 +59,8 @@ impl<M: Memory, T: Turn> Memory for Braided<M, T> {
     ghost use Rattle.std.specs.Prelude.{refl, IsSome};
     ghost use Rattle.fm_base.specs.Calls as machine;
     ghost use Rattle.fm_base.specs.Does.{CanReach};
-    ghost use Rattle.fm_base.specs.Learnt.{CanVisit, CanPatch, AfterEnter, AfterAct, AfterPatch, AfterLeave};
-    ghost use Rattle.fm_arena_braided.specs.Turns.{HadTurn, beside, nature_beside};
+    ghost use Rattle.fm_base.specs.Learnt.{CanVisit, CanPatch, AfterEnter, AfterLeave};
+    ghost use Rattle.fm_arena_braided.specs.Turns.{Acted, HadTurn, Patched, beside, nature_beside};
 
     ghost nature = { nature_beside M.nature };
 
@@ -70,18 +70,19 @@ impl<M: Memory, T: Turn> Memory for Braided<M, T> {
         self.memory.caller()
     }
 
-    fn enter(&mut self, a: ArenaId) -> Result<(), Refusal>
-        requires { CanVisit (beside (M.view self.old.memory)) a }
-        ensures does { AfterEnter (beside (M.view self.old.memory)) (beside (M.view self.new.memory)) a result }
+    fn enter(&mut self, id: ArenaId) -> Result<(), Refusal>
+        requires { CanVisit (beside (M.view self.old.memory)) id }
+        ensures does { AfterEnter (beside (M.view self.old.memory)) (beside (M.view self.new.memory)) id result }
         ensures turn { HadTurn T.turns self.old.turn self.old.calls self.new.turn self.new.calls }
     {
         self.give_turn();
-        self.memory.enter(a)
+        self.memory.enter(id)
     }
 
     fn load(&mut self, word: u64) -> u64
         requires { CanReach (beside (M.view self.old.memory)) word }
-        ensures does { AfterAct (beside (M.view self.old.memory)) (beside (M.view self.new.memory)) (λ a. machine.Read a word) (machine.Found result) }
+        ensures does { Acted M.view self.old.memory self.new.memory
+            (λ id. machine.Read id word) (machine.Found result) }
         ensures turn { HadTurn T.turns self.old.turn self.old.calls self.new.turn self.new.calls }
     {
         self.give_turn();
@@ -90,7 +91,8 @@ impl<M: Memory, T: Turn> Memory for Braided<M, T> {
 
     fn store(&mut self, word: u64, v: u64)
         requires { CanReach (beside (M.view self.old.memory)) word }
-        ensures does { AfterAct (beside (M.view self.old.memory)) (beside (M.view self.new.memory)) (λ a. machine.Write a word v) machine.Fine }
+        ensures does { Acted M.view self.old.memory self.new.memory
+            (λ id. machine.Write id word v) machine.Fine }
         ensures turn { HadTurn T.turns self.old.turn self.old.calls self.new.turn self.new.calls }
     {
         self.give_turn();
@@ -99,7 +101,8 @@ impl<M: Memory, T: Turn> Memory for Braided<M, T> {
 
     fn swap_if(&mut self, word: u64, old: u64, new: u64) -> u64
         requires { CanReach (beside (M.view self.old.memory)) word }
-        ensures does { AfterAct (beside (M.view self.old.memory)) (beside (M.view self.new.memory)) (λ a. machine.SwapIf a word old new) (machine.Found result) }
+        ensures does { Acted M.view self.old.memory self.new.memory
+            (λ id. machine.SwapIf id word old new) (machine.Found result) }
         ensures turn { HadTurn T.turns self.old.turn self.old.calls self.new.turn self.new.calls }
     {
         self.give_turn();
@@ -108,7 +111,8 @@ impl<M: Memory, T: Turn> Memory for Braided<M, T> {
 
     fn add(&mut self, word: u64, n: u64) -> u64
         requires { CanReach (beside (M.view self.old.memory)) word }
-        ensures does { AfterAct (beside (M.view self.old.memory)) (beside (M.view self.new.memory)) (λ a. machine.Add a word n) (machine.Found result) }
+        ensures does { Acted M.view self.old.memory self.new.memory
+            (λ id. machine.Add id word n) (machine.Found result) }
         ensures turn { HadTurn T.turns self.old.turn self.old.calls self.new.turn self.new.calls }
     {
         self.give_turn();
@@ -117,7 +121,7 @@ impl<M: Memory, T: Turn> Memory for Braided<M, T> {
 
     fn patch<R: Wait>(&mut self, rt: &R, word: u64, mask: u64, bits: u64) -> u64
         requires { CanPatch (beside (M.view self.old.memory)) word mask bits }
-        ensures does { AfterPatch (beside (M.view self.old.memory)) (beside (M.view self.new.memory)) word mask bits result }
+        ensures does { Patched M.view self.old.memory self.new.memory word mask bits result }
         ensures turn { HadTurn T.turns self.old.turn self.old.calls self.new.turn self.new.calls }
     {
         self.give_turn();
@@ -140,15 +144,15 @@ impl<M: Memory, T: Turn> Memory for Braided<M, T> {
     fn allocate<R: Wait>(
         &mut self,
         rt: &R,
-        a: ArenaId,
+        id: ArenaId,
         size: u64,
         align: u64,
     ) -> Result<u64, Refusal> {
-        self.memory.allocate(rt, a, size, align)
+        self.memory.allocate(rt, id, size, align)
     }
 
-    fn close<R: Wait>(&mut self, rt: &R, a: ArenaId) -> Result<(), Refusal> {
-        self.memory.close(rt, a)
+    fn close<R: Wait>(&mut self, rt: &R, id: ArenaId) -> Result<(), Refusal> {
+        self.memory.close(rt, id)
     }
 
     ghost alone_is = { λ b. refl };

@@ -1,7 +1,7 @@
 ghost use Rattle.std.specs.Prelude.{◌≡◌, ◌≤◌, ◌<◌, ◌*◌};
 ghost use Rattle.fm_rule_facts.specs.Views.{given_of};
 ghost use Rattle.fm_rule_calls.specs.Kept.{Lasts};
-ghost use Rattle.fm_gate.specs.Standing.{CanVisit, IsOutside};
+ghost use Rattle.fm_gate.specs.Needs.{CanVisit, IsOutside};
 ghost use Rattle.fm_close.specs.Learnt.{CanWalk};
 ghost use Rattle.fm_arena_braided_tests.specs.Closers.{IsOnItsWay, StandsAt};
 

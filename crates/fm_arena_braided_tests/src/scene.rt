@@ -3,7 +3,7 @@ ghost use Rattle.std.specs.Prelude.{◌≡◌, ◌≤◌, ◌+◌, None};
 ghost use Rattle.fm_rule_facts.specs.Views.{given_of};
 ghost use Rattle.fm_rule.specs.Passes.{IsOf};
 ghost use Rattle.fm_rule_calls.specs.Told.{view_of_pass};
-ghost use Rattle.fm_gate.specs.Standing.{CanVisit, IsOutside};
+ghost use Rattle.fm_gate.specs.Needs.{CanVisit, IsOutside};
 ghost use Rattle.fm_segment.specs.Access.{IsKnown};
 ghost use Rattle.fm_arena.specs.Lasting.{SamePool};
 ghost use Rattle.fm_arena.specs.Shares.{CanShare};

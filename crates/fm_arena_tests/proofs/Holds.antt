@@ -12,10 +12,10 @@ use Rattle.fm_rule_facts.proofs.Summing.{one_less}
 use Rattle.fm_rule.specs.declared.pool.Pool.{Pool}
 use Rattle.fm_gate.specs.declared.held.Hold.{Hold}
 use Rattle.fm_gate.specs.Makers.{Made, made_by_pass}
-use Rattle.fm_gate.specs.Standing.{CanUnhold}
+use Rattle.fm_gate.specs.Needs.{CanUnhold}
 use Rattle.fm_gate.specs.Learnt.{AfterHold, AfterUnhold}
 use Rattle.fm_gate.proofs.Counted.{some_in}
-use Rattle.fm_gate.proofs.Standing.{made_on}
+use Rattle.fm_gate.proofs.Outside.{made_on}
 use Rattle.fm_arena_tests.specs.Holds.{IsHoldOf, AreHeld}
 
 -- One more is held.

@@ -7,7 +7,7 @@ use Rattle.fm_rule_facts.specs.Holds.{how_many}
 use Rattle.fm_rule.specs.declared.pool.Pool.{Pool}
 use Rattle.fm_gate.specs.declared.held.Hold.{Hold}
 use Rattle.fm_gate.specs.Makers.{Made, made_by_pass}
-use Rattle.fm_gate.specs.Standing.{CanVisit}
+use Rattle.fm_gate.specs.Needs.{CanVisit}
 
 -- a hold of the arena, which isn't automatic, that this pass made
 abbrev pub IsHoldOf : Made → ArenaId → Hold → Type 0

@@ -2,7 +2,7 @@ ghost use Rattle.std.specs.Prelude.{◌≡◌, ◌≢◌, ◌<◌, ◌≤◌, If
 ghost use Rattle.fm_rule_facts.specs.Views.{span};
 ghost use Rattle.fm_rule_facts.specs.Views.{IsKnown, given_of};
 ghost use Rattle.fm_rule_calls.specs.Kept.{Lasts};
-ghost use Rattle.fm_gate.specs.Standing.{CanAllocate, CanVisit, IsOutside};
+ghost use Rattle.fm_gate.specs.Needs.{CanAllocate, CanVisit, IsOutside};
 ghost use Rattle.fm_arena.specs.Shares.{CanShare};
 ghost use Rattle.fm_close.specs.Learnt.{CanSweep, CanWalk, IsUnderWay, StandsAfter};
 ghost use Rattle.fm_close.specs.Does.{after_visit};

@@ -1,7 +1,7 @@
 ghost use Rattle.std.specs.Prelude.{◌≡◌, ◌<◌, ◌≤◌, ◌*◌, bit_and};
 ghost use Rattle.fm_rule_facts.specs.Views.{IsKnown, given_of, span};
 ghost use Rattle.fm_rule_calls.specs.Kept.{Lasts};
-ghost use Rattle.fm_gate.specs.Standing.{CanAllocate, CanVisit, IsInside, IsOutside};
+ghost use Rattle.fm_gate.specs.Needs.{CanAllocate, CanVisit, IsInside, IsOutside};
 ghost use Rattle.fm_arena.specs.Shares.{CanShare};
 
 mod crews;

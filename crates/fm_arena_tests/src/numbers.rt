@@ -4,7 +4,7 @@ ghost use Rattle.fm_base.specs.Arenas.{owner_of};
 ghost use Rattle.fm_close.specs.Learnt.{CanWalk, StandsAfter};
 ghost use Rattle.fm_close.specs.Does.{after_visit};
 ghost use Rattle.fm_gate.specs.Crews.{HasNothing};
-ghost use Rattle.fm_gate.specs.Standing.{CanVisit, IsInside, IsOutside};
+ghost use Rattle.fm_gate.specs.Needs.{CanVisit, IsInside, IsOutside};
 ghost use Rattle.fm_arena.specs.Shares.{CanShare};
 
 use crate::pools::{drawn, is_whole, pool_of, takes_in};

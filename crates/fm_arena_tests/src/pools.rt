@@ -3,7 +3,7 @@ ghost use Rattle.std.specs.Prelude.{◌≡◌, ◌<◌, ◌≤◌, ◌*◌};
 ghost use Rattle.fm_rule_facts.specs.Views.{given_of, span};
 ghost use Rattle.fm_rule_calls.specs.Kept.{Lasts};
 ghost use Rattle.fm_gate.specs.Crews.{HasNothing, StandsOn};
-ghost use Rattle.fm_gate.specs.Standing.{CanAllocate, CanVisit, IsOutside};
+ghost use Rattle.fm_gate.specs.Needs.{CanAllocate, CanVisit, IsOutside};
 ghost use Rattle.fm_arena.specs.Shares.{CanShare};
 
 use fm_base::{ArenaId, Kind, Refusal};

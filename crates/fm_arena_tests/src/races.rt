@@ -3,7 +3,7 @@
 ghost use Rattle.std.specs.Prelude.{◌≤◌};
 ghost use Rattle.fm_rule_facts.specs.Views.{IsKnown, given_of};
 ghost use Rattle.fm_gate.specs.Crews.{HasNothing};
-ghost use Rattle.fm_gate.specs.Standing.{CanAllocate, CanVisit, IsInside, IsOutside};
+ghost use Rattle.fm_gate.specs.Needs.{CanAllocate, CanVisit, IsInside, IsOutside};
 
 use crate::pools::{drawn, given, is_whole, paged, pool_of, takes_in, word_of};
 use fm_base::{ArenaId, Kind, Refusal};

@@ -13,7 +13,7 @@ use Rattle.fm_base.specs.Calls.{Call, Open, Enter, Write, SwapIf, Add, Allocate,
 use Rattle.fm_base.specs.Machine.{MayCall, reply_to, change_of, state_by, after, written, words_within}
 use Rattle.fm_base.specs.Histories.{made_by}
 use Rattle.fm_base.specs.Counting.{adds_to, all_added, OnlyAdds, AddsCount, total, AddsByCallers}
-use Rattle.fm_base.proofs.Lookup.{Relates, made_lookup, lookup_changed, arena_of-id}
+use Rattle.fm_base.proofs.Lookup.{Relates, Same, made_lookup, lookup_changed, arena_of-id}
 use Rattle.fm_base.proofs.Names.{same_id-true, same_id-self, are_one-self, are_one-not}
 use Rattle.fm_base.proofs.Placing.{there_by_way}
 use Rattle.fm_base.proofs.Tidiness.{zeros_at}
@@ -27,10 +27,6 @@ Leaves id word (SwapIf a w old new) = ¬ ((a ≡ id) × (w ≡ word))
 Leaves id word (Add a w n) = ¬ ((a ≡ id) × (w ≡ word))
 Leaves id word call = ⊤
 
--- an arena of this name has the word as before
-SameWord : ArenaId → ℕ → Arena → Arena → Type 0
-SameWord id word a b = a.id ≡ id → slice_index b.words word ≡ slice_index a.words word
-
 -- Another word is put.
 other_word : (s : State) (a id : ArenaId) (w v word : ℕ) → ¬ ((a ≡ id) × (w ≡ word)) → (arena_of s a).id ≡ id
     → slice_index (slice_set (arena_of s a).words w v) word ≡ slice_index (arena_of s a).words word
@@ -39,8 +35,8 @@ other_word s a id w v word other e =
 
 -- A call that leaves the word.
 word_by : (limit : ℕ) (s : State) (c : Caller) (call : Call) (reply : Reply) (id : ArenaId) (word : ℕ) → Leaves id word call
-    → Relates (SameWord id word) s (change_of limit c call reply)
-unfolding SameWord
+    → Relates (Same (λ a. slice_index a.words word) id) s (change_of limit c call reply)
+unfolding Same
 word_by limit s c (Open a) reply id word leaves = λ e. zeros_at (words_within limit) word
 word_by limit s c (Enter a) Fine id word leaves = λ e. refl
 word_by limit s c (Write a w v) reply id word leaves = other_word s a id w v word leaves
@@ -62,9 +58,10 @@ word_by limit s c call reply id word leaves = tt
 -- So it stays where it is looked up.
 word_still : (limit : ℕ) (s : State) (c : Caller) (call : Call) (reply : Reply) (id : ArenaId) (word : ℕ) → Leaves id word call
     → word_in (state_by limit s c call reply) id word ≡ word_in s id word
-unfolding SameWord
+unfolding Same
 word_still limit s c call reply id word leaves =
-    made_lookup (SameWord id word) (λ a e. refl) s (change_of limit c call reply) (word_by limit s c call reply id word leaves) id (arena_of-id s id)
+    made_lookup (Same (λ a. slice_index a.words word) id) (λ a e. refl) s (change_of limit c call reply) (word_by limit s c call reply id word leaves) id
+    (arena_of-id s id)
 
 -- an Add to this word
 abbrev IsAddTo : ArenaId → ℕ → Call → Type 0

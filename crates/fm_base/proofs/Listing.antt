@@ -10,7 +10,7 @@ use Rattle.fm_base.specs.Machine.{MayCall, Change, Opens, Alters, Rests, made, c
 use Rattle.fm_base.specs.Histories.{IsLegal, state_after}
 use Rattle.fm_base.specs.Lasting.{LooksUp}
 use Rattle.fm_base.proofs.Names.{same_id-self, same_id-true}
-use Rattle.fm_base.proofs.Lookup.{KeepsName}
+use Rattle.fm_base.proofs.Lookup.{KeepsName, changed_has}
 
 -- no name stands twice in the list
 abbrev AreDistinct : State → Type 0
@@ -48,20 +48,12 @@ listed (a ∷ s) d =
 
 -- ---- names stay apart
 
-same_names : (f : Arena → Arena) → KeepsName f → (s : State) (id other : ArenaId) → has_arena (changed s id f) other ≡ has_arena s other
-same_names f named [] id other = refl
-same_names f named (a ∷ s) id other =
-    elim (same_id a.id id) as (λ b. has_arena (if b then f a ∷ s else a ∷ changed s id f) other ≡ has_arena (a ∷ s) other) [
-      | true ↦ ap (λ i. if same_id i other then true else has_arena s other) (named a)
-      | false ↦ ap (λ (x : Bool). if same_id a.id other then true else x) (same_names f named s id other)
-    ]
-
 distinct_changed : (f : Arena → Arena) → KeepsName f → (s : State) (id : ArenaId) → AreDistinct s → AreDistinct (changed s id f)
 distinct_changed f named [] id d = tt
 distinct_changed f named (a ∷ s) id d =
     elim (same_id a.id id) as (λ b. AreDistinct (if b then f a ∷ s else a ∷ changed s id f)) [
       | true ↦ (subst (λ (i : ArenaId). has_arena s i ≡ false) (sym (named a)) d.0, d.1)
-      | false ↦ (same_names f named s id a.id ∙ d.0, distinct_changed f named s id d.1)
+      | false ↦ (changed_has f named s id a.id ∙ d.0, distinct_changed f named s id d.1)
     ]
 
 no_longer : (s : State) (o : Arena) (id : ArenaId) → has_arena s id ≡ false → same_id o.id id ≡ false → has_arena (s ++ o ∷ []) id ≡ false

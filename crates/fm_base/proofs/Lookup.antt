@@ -153,6 +153,10 @@ arena_of-opened (a ∷ s) o h =
 
 -- ---- changes of the state
 
+-- an arena of this name has it as before
+unfoldable pub Same : {X : Type 0} → (Arena → X) → ArenaId → Arena → Arena → Type 0
+Same has id a b = a.id ≡ id → has b ≡ has a
+
 -- the one arena that a change opens or alters is related to what was looked up before
 abbrev pub Relates : (Arena → Arena → Type 0) → State → Change → Type 0
 Relates P s (Opens o) = P (no_arena o.id) o

@@ -45,7 +45,7 @@ unfolding same_id
 same_id-slot a b h = let e : (a.slot == b.slot) ≡ false = grind (arith, nat_tests) in rw e refl
 
 -- a kind is told by its number
-kind_same : (j k : Kind) → kind_number j ≡ kind_number k → j ≡ k
+pub kind_same : (j k : Kind) → kind_number j ≡ kind_number k → j ≡ k
 kind_same Global Global e = refl
 kind_same Automatic Automatic e = refl
 kind_same Confined Confined e = refl

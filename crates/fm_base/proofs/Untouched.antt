@@ -12,14 +12,10 @@ use Rattle.fm_base.specs.Calls.{Call, Open, Enter, Write, SwapIf, Add, Allocate,
 use Rattle.fm_base.specs.Machine.{MayCall, reply_to, enter_reply, Change, Opens, Alters, Rests, made, change_of, after, words_within}
 use Rattle.fm_base.specs.Untouched.{Spares, SparedStays, FindsByte, SparedIsFound, LeavesOpen, StaysAlive}
 use Rattle.fm_base.proofs.Growing.{Grows-after}
-use Rattle.fm_base.proofs.Lookup.{Relates, made_lookup, changed_lookup, arena_of-append, arena_of-id}
+use Rattle.fm_base.proofs.Lookup.{Relates, Same, made_lookup, changed_lookup, arena_of-append, arena_of-id}
 use Rattle.fm_base.proofs.Tidiness.{zeros_at}
 
 -- ---- bytes
-
--- an arena of this name has the byte as before
-SameByte : ArenaId → ℕ → Arena → Arena → Type 0
-SameByte id place a b = a.id ≡ id → byte_at b.words place ≡ byte_at a.words place
 
 -- A word is put that leaves the byte.
 put_byte : (words : List ℕ) (word v place : ℕ) → word < length words → (word ≡ place / 8 → byte_of v (place % 8) ≡ byte_at words place)
@@ -39,8 +35,8 @@ put_byte words word v place within same =
 -- A call that spares the byte leaves it.
 byte_by : (limit : ℕ) (s : State) (c : Caller) (call : Call) (reply : Reply) (id : ArenaId) (place : ℕ) → MayCall s c call → reply ≡ reply_to limit s call
     → Spares id place call
-    → Relates (SameByte id place) s (change_of limit c call reply)
-unfolding SameByte
+    → Relates (Same (λ a. byte_at a.words place) id) s (change_of limit c call reply)
+unfolding Same
 byte_by limit s c (Open a) reply id place may is spares = λ e. ap (λ n. byte_of n (place % 8)) (zeros_at (words_within limit) (place / 8))
 byte_by limit s c (Enter a) Fine id place may is spares = λ e. refl
 byte_by limit s c (Write a word v) reply id place may is spares =
@@ -72,10 +68,10 @@ byte_by limit s c call reply id place may is spares = tt
 byte_still : (limit : ℕ) (s : State) (e : Entry) (id : ArenaId) (place : ℕ) → MayCall s e.caller e.call → e.reply ≡ reply_to limit s e.call
     → Spares id place e.call
     → byte_at (arena_of (after limit s e) id).words place ≡ byte_at (arena_of s id).words place
-unfolding SameByte
+unfolding Same
 byte_still limit s e id place may is spares =
-    made_lookup (SameByte id place) (λ a n. refl) s (change_of limit e.caller e.call e.reply) (byte_by limit s e.caller e.call e.reply id place may is spares)
-    id (arena_of-id s id)
+    made_lookup (Same (λ a. byte_at a.words place) id) (λ a n. refl) s (change_of limit e.caller e.call e.reply)
+    (byte_by limit s e.caller e.call e.reply id place may is spares) id (arena_of-id s id)
 
 -- A byte that all entries spare stays.
 pub spared : SparedStays
@@ -95,10 +91,6 @@ spared_found limit s (e ∷ es) id place legal all = (
 )
 
 -- ---- arenas
-
--- an arena of this name lives as before
-SameLife : ArenaId → Arena → Arena → Type 0
-SameLife id a b = a.id ≡ id → b.life ≡ a.life
 
 -- the change leaves the life of this arena
 abbrev LifeStays : ArenaId → State → Change → Type 0
@@ -122,10 +114,10 @@ life_by limit s c call reply id leaves = tt
 
 -- So the arena that is looked up lives as before.
 life_still : (s : State) (h : Change) (id : ArenaId) → has_arena s id ≡ true → LifeStays id s h → (arena_of (made h s) id).life ≡ (arena_of s id).life
-unfolding SameLife
+unfolding Same
 life_still s (Opens o) id there stays = ap (λ (x : Arena). x.life) (arena_of-append s (o ∷ []) id there)
 life_still s (Alters a f named) id there stays =
-    changed_lookup (SameLife id) f named (λ x e. refl) s a (λ e. stays (sym (arena_of-id s a) ∙ e)) id (arena_of-id s id)
+    changed_lookup (Same (λ a. a.life) id) f named (λ x e. refl) s a (λ e. stays (sym (arena_of-id s a) ∙ e)) id (arena_of-id s id)
 life_still s Rests id there stays = refl
 
 -- An arena that no entry closes stays alive, and everyone comes in.

@@ -16,8 +16,20 @@ pub enum Kind {
 }
 
 impl Kind {
-    ghost use Rattle.std.specs.Prelude.{◌≡◌};
+    ghost use Rattle.std.specs.Prelude.{◌≡◌, true, false};
     ghost use Rattle.fm_base.specs.Arenas.{kind_number};
+    ghost use Rattle.fm_base.specs.Does.{IsClosable};
+
+    /// Whether an arena of this kind is closed by hand.
+    pub fn is_closable(self) -> bool
+        ensures yes { result ≡ true → IsClosable self }
+        ensures no { result ≡ false → ¬ (IsClosable self) }
+    {
+        match self {
+            Kind::Global | Kind::Automatic => false,
+            Kind::Confined | Kind::Shared => true,
+        }
+    }
 
     /// The number by which the kind is printed.
     pub fn number(self) -> u64

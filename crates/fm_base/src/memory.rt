@@ -37,21 +37,21 @@ pub trait Memory {
     /// Comes into the arena, in which it may act until it leaves.
     ///
     /// Refused, in this order: `WrongThread`, `Closed`. A refused caller stays outside.
-    fn enter(&mut self, a: ArenaId) -> Result<(), Refusal>
-        requires { CanVisit (view self.old) a }
-        ensures { AfterEnter (view self.old) (view self.new) a result };
+    fn enter(&mut self, id: ArenaId) -> Result<(), Refusal>
+        requires { CanVisit (view self.old) id }
+        ensures { AfterEnter (view self.old) (view self.new) id result };
 
     /// The word of this index.
     fn load(&mut self, word: u64) -> u64
         requires { CanReach (view self.old) word }
         ensures { AfterAct (view self.old) (view self.new)
-            (λ a. machine.Read a word) (machine.Found result) };
+            (λ id. machine.Read id word) (machine.Found result) };
 
     /// Puts `v` into the word of this index.
     fn store(&mut self, word: u64, v: u64)
         requires { CanReach (view self.old) word }
         ensures { AfterAct (view self.old) (view self.new)
-            (λ a. machine.Write a word v) machine.Fine };
+            (λ id. machine.Write id word v) machine.Fine };
 
     /// Puts these words, the first of them at the index `first`, one after the other.
     ///
@@ -71,13 +71,13 @@ pub trait Memory {
     fn swap_if(&mut self, word: u64, old: u64, new: u64) -> u64
         requires { CanReach (view self.old) word }
         ensures { AfterAct (view self.old) (view self.new)
-            (λ a. machine.SwapIf a word old new) (machine.Found result) };
+            (λ id. machine.SwapIf id word old new) (machine.Found result) };
 
     /// Adds `n` to the word, wrapping at 2^64, and answers the word found.
     fn add(&mut self, word: u64, n: u64) -> u64
         requires { CanReach (view self.old) word }
         ensures { AfterAct (view self.old) (view self.new)
-            (λ a. machine.Add a word n) (machine.Found result) };
+            (λ id. machine.Add id word n) (machine.Found result) };
 
     /// Puts the word's bits under `mask` to `bits` in one step, and answers the word found at that step.
     ///
@@ -105,19 +105,19 @@ pub trait Memory {
     fn allocate<R: Wait>(
         &mut self,
         rt: &R,
-        a: ArenaId,
+        id: ArenaId,
         size: u64,
         align: u64,
     ) -> Result<u64, Refusal>
-        requires { CanVisit (view self.old) a }
-        ensures { AfterAllocate nature (view self.old) (view self.new) a size align result };
+        requires { CanVisit (view self.old) id }
+        ensures { AfterAllocate nature (view self.old) (view self.new) id size align result };
 
     /// Ends the arena, once nobody is under way in it.
     ///
     /// Refused, in this order: `CannotClose`, `WrongThread`, `Closed`, `Held`. A refused call changes nothing.
-    fn close<R: Wait>(&mut self, rt: &R, a: ArenaId) -> Result<(), Refusal>
-        requires { CanVisit (view self.old) a }
-        ensures { AfterClose (view self.old) (view self.new) a result };
+    fn close<R: Wait>(&mut self, rt: &R, id: ArenaId) -> Result<(), Refusal>
+        requires { CanVisit (view self.old) id }
+        ensures { AfterClose (view self.old) (view self.new) id result };
 
     /// Whether the caller is alone is a constant of the type.
     ghost alone_is: { (m : Self) → (view m).alone ≡ nature.alone };

@@ -44,6 +44,33 @@ fn a_name_differs_in_each_part(rt: HostRuntime) {
 }
 
 #[test]
+fn kinds_say_who_may_use_an_arena_and_who_ends_it(rt: HostRuntime) {
+    let owner = Caller { number: 3, term: 4 };
+    let others = [Caller { number: 2, ..owner }, Caller { term: 5, ..owner }];
+    let rows = [
+        (Kind::Global, false, true),
+        (Kind::Automatic, false, true),
+        (Kind::Confined, true, false),
+        (Kind::Shared, true, true),
+    ];
+    for (kind, closable, open_to_all) in rows {
+        let a = ArenaId {
+            slot: 1,
+            generation: 2,
+            kind,
+            owner: owner.number,
+            term: owner.term,
+        };
+        assert_eq!(rt; kind.is_closable(), closable);
+        assert_eq!(rt; a.is_confined(), !open_to_all);
+        assert!(rt; a.may_be_used_by(owner));
+        for other in others {
+            assert_eq!(rt; a.may_be_used_by(other), open_to_all);
+        }
+    }
+}
+
+#[test]
 fn a_number_of_another_term_is_another_caller(rt: HostRuntime) {
     let first = Caller { number: 3, term: 0 };
     assert!(rt; first != Caller { term: 1, ..first });

@@ -5,19 +5,15 @@ use Rattle.fm_base.specs.declared.arena_id.ArenaId.{ArenaId}
 use Rattle.fm_base.specs.Arenas.{State, Arena, arena_of}
 use Rattle.fm_base.specs.Calls.{Call, Open, Enter, Write, SwapIf, Add, Allocate, Leave, Hold, Unhold, Shut, End, Reply, Fine, Found, Given, Entry}
 use Rattle.fm_base.specs.Machine.{change_of, after}
-use Rattle.fm_base.proofs.Lookup.{Relates, made_lookup, arena_of-id}
+use Rattle.fm_base.proofs.Lookup.{Relates, Same, made_lookup, arena_of-id}
 use Rattle.fm_base_laws.specs.Counts.{AsksNone, GivenStays, HoldsNone, StaysUnheld}
 
 -- ---- what was given
 
--- an arena of this name has given as much
-SameGiven : ArenaId → Arena → Arena → Type 0
-SameGiven id a b = a.id ≡ id → b.given ≡ a.given
-
 -- A call that asks none of its bytes leaves the count.
 given_by : (limit : ℕ) (s : State) (c : Caller) (call : Call) (reply : Reply) (id : ArenaId) → AsksNone id call
-    → Relates (SameGiven id) s (change_of limit c call reply)
-unfolding SameGiven
+    → Relates (Same (λ a. a.given) id) s (change_of limit c call reply)
+unfolding Same
 given_by limit s c (Open a) reply id none = λ e. refl
 given_by limit s c (Enter a) Fine id none = λ e. refl
 given_by limit s c (Write a word v) reply id none = λ e. refl
@@ -33,9 +29,9 @@ given_by limit s c call reply id none = tt
 
 -- So it stays where it is looked up.
 given_still : (limit : ℕ) (s : State) (e : Entry) (id : ArenaId) → AsksNone id e.call → (arena_of (after limit s e) id).given ≡ (arena_of s id).given
-unfolding SameGiven
+unfolding Same
 given_still limit s e id none =
-    made_lookup (SameGiven id) (λ a n. refl) s (change_of limit e.caller e.call e.reply)
+    made_lookup (Same (λ a. a.given) id) (λ a n. refl) s (change_of limit e.caller e.call e.reply)
     (given_by limit s e.caller e.call e.reply id none) id (arena_of-id s id)
 
 pub given_stays : GivenStays

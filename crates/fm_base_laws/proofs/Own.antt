@@ -10,7 +10,7 @@ use Rattle.fm_base.specs.Calls.{Call, Open, Enter, Read, Write, SwapIf, Add, All
 use Rattle.fm_base.specs.Histories.{made_by}
 use Rattle.fm_base.specs.Machine.{MayCall, reply_to, Alters, made, change_of, after, written}
 use Rattle.fm_base.specs.Untouched.{Spares}
-use Rattle.fm_base.proofs.Lookup.{made_lookup, arena_of-id, arena_of-none, lookup_changed, swapped_hit, swapped_miss}
+use Rattle.fm_base.proofs.Lookup.{Same, made_lookup, arena_of-id, arena_of-none, lookup_changed, swapped_hit, swapped_miss}
 use Rattle.fm_base.proofs.Names.{same_id-true, same_id-self, are_one-self}
 use Rattle.fm_base.proofs.Untouched.{spared}
 use Rattle.fm_base_laws.specs.Own.{byte_put, byte_left, byte_behind, OwnDecide}
@@ -43,16 +43,12 @@ there_by_word s a word within =
     ] in
     go (has_arena s a) refl
 
--- an arena of this name stays
-Stays : ArenaId → Arena → Arena → Type 0
-Stays id a b = a.id ≡ id → b ≡ a
-
 -- A change of one arena leaves another.
 changed_other : (s : State) (a id : ArenaId) (f : Arena → Arena) (named : (x : Arena) → (f x).id ≡ x.id) → same_id a id ≡ false
     → arena_of (changed s a f) id ≡ arena_of s id
-unfolding Stays
+unfolding Same
 changed_other s a id f named e =
-    made_lookup (Stays id) (λ x n. refl) s (Alters a f named)
+    made_lookup (Same (λ a. a) id) (λ x n. refl) s (Alters a f named)
     (λ n. let same : a ≡ id = sym (arena_of-id s a) ∙ n in
     let yes = subst (λ (i : ArenaId). same_id a i ≡ true) same (same_id-self a) in absurd (let no : ⊥ = cc in no)) id (arena_of-id s id)
 

@@ -18,7 +18,8 @@ is_fresh true Alive e = absurd (cc)
 is_fresh true Closing e = absurd (cc)
 is_fresh true Ended e = absurd (cc)
 
-not_fresh : (b : Bool) (l : Life) → stage_of b l ≢ Fresh → b ≡ true
+-- An arena whose stage isn't Fresh is one of the list.
+pub not_fresh : (b : Bool) (l : Life) → stage_of b l ≢ Fresh → b ≡ true
 not_fresh false l n = absurd (n refl)
 not_fresh true l n = refl
 

@@ -1,4 +1,4 @@
-//! The list of arenas beside functions.
+//! The one-thread machine as functions, beside its list of arenas.
 #![tactic(auto)]
 
 ghost use Rattle.fm_base_machine.specs.Steps.{AlwaysDepicts, AlwaysAllows, AlwaysGoesOn};

@@ -5,7 +5,7 @@ use Rattle.fm_base.specs.Calls.{Call, Reply, Entry}
 use Rattle.fm_rule_calls.specs.Kept.{Kept, Lasts}
 use Rattle.fm_gate.specs.Crews.{CrewStands, HasNothing}
 use Rattle.fm_gate.specs.Learnt.{AfterAct}
-use Rattle.fm_gate.specs.Standing.{CanReach, IsInside, IsOutside}
+use Rattle.fm_gate.specs.Needs.{CanReach, IsInside, IsOutside}
 use Rattle.fm_rule_facts.specs.Views.{View}
 use Rattle.fm_rule.specs.declared.pool.Pool.{Pool}
 use Rattle.fm_bench.specs.Ready.{CanWork, IsOpen}

@@ -1,6 +1,6 @@
 ghost use Rattle.std.specs.Prelude.{◌<◌, ◌≤◌, All, IfOk};
 ghost use Rattle.fm_gate.specs.Crews.{HasNothing, StandsOn};
-ghost use Rattle.fm_gate.specs.Standing.{IsOutside};
+ghost use Rattle.fm_gate.specs.Needs.{IsOutside};
 ghost use Rattle.fm_bench.specs.Ready.{CanWork, IsFree, IsOpen};
 
 use crate::gates::given;

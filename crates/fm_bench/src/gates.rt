@@ -1,7 +1,7 @@
 ghost use Rattle.std.specs.Prelude.{◌≡◌, ◌*◌, ◌<◌, ◌≤◌, length, IfOk};
 ghost use Rattle.fm_rule_facts.specs.Views.{given_of};
 ghost use Rattle.fm_rule_calls.specs.Kept.{Lasts};
-ghost use Rattle.fm_gate.specs.Standing.{CanVisit, IsOutside};
+ghost use Rattle.fm_gate.specs.Needs.{CanVisit, IsOutside};
 ghost use Rattle.fm_bench.specs.Ready.{AreOpen, IsFree, IsOpen};
 
 use fm_base::{ArenaId, Kind, Refusal};

@@ -1,5 +1,5 @@
 ghost use Rattle.std.specs.Prelude.{All};
-ghost use Rattle.fm_gate.specs.Standing.{IsOutside};
+ghost use Rattle.fm_gate.specs.Needs.{IsOutside};
 ghost use Rattle.fm_bench.specs.Ready.{CanWork, IsOpen};
 
 use crate::crews::{Worker, crew_of, made_for, take_in, visits_of};

@@ -1,5 +1,5 @@
 ghost use Rattle.std.specs.Prelude.{◌≡◌, bit_and};
-ghost use Rattle.fm_gate.specs.Standing.{CanReach};
+ghost use Rattle.fm_gate.specs.Needs.{CanReach};
 
 use crate::gates::{given, made};
 use fm_base::Refusal;

@@ -18,8 +18,8 @@ use Rattle.fm_rule_calls.specs.Kept.{Goes, rest_of, HasEnded, HasNoWords}
 use Rattle.fm_rule_calls.proofs.Going.{goes_of, goes_then, no_draws, made_by-one, rest_is, hand_is, inside_is, mark_is, known_on, lasts_on}
 use Rattle.fm_rule_calls.proofs.Waiting.{Waited, waits_by, waits_on}
 use Rattle.fm_gate.specs.Makers.{Made, made_by_pass}
-use Rattle.fm_gate.specs.Standing.{IsOutside}
-use Rattle.fm_gate.proofs.Standing.{made_on, stands_outside, swept_is}
+use Rattle.fm_gate.specs.Needs.{IsOutside}
+use Rattle.fm_gate.proofs.Outside.{made_on, stands_outside, swept_is}
 use Rattle.fm_gate.proofs.Handles.{owner_low}
 use Rattle.fm_close.specs.declared.gave_back.GaveBack.TheVariants as gave
 use Rattle.fm_close.specs.declared.shutting.Shutting.{Shutting}

@@ -15,12 +15,12 @@ use Rattle.fm_rule_calls.specs.Kept.{Goes, rest_of}
 use Rattle.fm_rule_calls.proofs.Going.{known_on}
 use Rattle.fm_rule_calls.proofs.Sweeps.{same_sweeps}
 use Rattle.fm_gate.specs.Makers.{made_by_pass}
-use Rattle.fm_gate.proofs.Standing.{made_on}
+use Rattle.fm_gate.proofs.Outside.{made_on}
 use Rattle.fm_close.specs.declared.shutting.Shutting.{Shutting}
 use Rattle.fm_close.specs.declared.outcome.Visit.{Visit}
 use Rattle.fm_close.specs.declared.outcome.Visit.TheVariants.{Next, Inside, Ended}
 use Rattle.fm_close.specs.Learnt.{IsUnderWay, IsToSweep, closes_shut, closes_visited, sweeps_visited}
-use Rattle.fm_close.specs.Lasting.{CloseStands, SweepStands, StandsBeside, StandsThrough, CloseLasts}
+use Rattle.fm_close.specs.CloseLaws.{CloseStands, SweepStands, StandsBeside, StandsThrough, CloseLasts}
 
 -- ---- closes and sweeps of other arenas in the lists
 

@@ -18,8 +18,8 @@ use Rattle.fm_rule_calls.specs.Kept.{Goes, HasEnded}
 use Rattle.fm_rule_calls.specs.Told.{silent_view}
 use Rattle.fm_rule_calls.proofs.Going.{goes_of, made_by-one, NoDraws, rest_is, hand_is, inside_is, mark_is, closes_is, sweeps_is, known_on, lasts_on}
 use Rattle.fm_rule_calls.proofs.Telling.{silent_makes}
-use Rattle.fm_gate.specs.Standing.{IsOutside}
-use Rattle.fm_gate.proofs.Standing.{made_on, stands_outside, swept_is}
+use Rattle.fm_gate.specs.Needs.{IsOutside}
+use Rattle.fm_gate.proofs.Outside.{made_on, stands_outside, swept_is}
 use Rattle.fm_close.specs.declared.shutting.Shutting.{Shutting}
 use Rattle.fm_close.specs.declared.outcome.Visit.TheVariants.{Next, Inside, Ended}
 use Rattle.fm_close.specs.Does.{visit_answer}

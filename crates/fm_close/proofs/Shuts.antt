@@ -17,8 +17,8 @@ use Rattle.fm_rule.specs.Passes.{IsOf}
 use Rattle.fm_rule_calls.specs.Kept.{Goes}
 use Rattle.fm_rule_calls.proofs.Going.{goes_of, goes_none, kept_none, made_by-one, no_draws, rest_is, hand_is, inside_is, mark_is, closes_is, sweeps_is, known_on, lasts_on}
 use Rattle.fm_gate.specs.Makers.{Made, made_by_pass}
-use Rattle.fm_gate.specs.Standing.{IsOutside, CanVisit}
-use Rattle.fm_gate.proofs.Standing.{made_on, stands_outside, swept_is}
+use Rattle.fm_gate.specs.Needs.{IsOutside, CanVisit}
+use Rattle.fm_gate.proofs.Outside.{made_on, stands_outside, swept_is}
 use Rattle.fm_close.specs.Does as does
 use Rattle.fm_close.specs.Learnt.{AfterShut}
 use Rattle.fm_close.proofs.Closes.{passed_of-begun}

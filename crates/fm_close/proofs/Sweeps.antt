@@ -16,7 +16,7 @@ use Rattle.fm_rule.specs.declared.pool.Pool.{Pool}
 use Rattle.fm_rule_calls.specs.Kept.{Goes, rest_of, slots_told, HasNoWords}
 use Rattle.fm_rule_calls.proofs.Going.{goes_of, goes_then, no_draws, lasts_on}
 use Rattle.fm_rule_calls.proofs.Unlent.{over_on, no_words_on, no_words_swept, has_ended}
-use Rattle.fm_gate.proofs.Standing.{stands_outside}
+use Rattle.fm_gate.proofs.Outside.{stands_outside}
 use Rattle.fm_close.specs.declared.shutting.Shutting.{Shutting}
 use Rattle.fm_close.specs.Does.{AreBacks}
 use Rattle.fm_close.specs.Learnt.{CanSweep, AfterSweep}

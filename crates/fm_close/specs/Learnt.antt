@@ -17,7 +17,7 @@ use Rattle.fm_rule_facts.specs.Handles.{giving_by, given_back, giving_entries}
 use Rattle.fm_rule.specs.declared.pool.Pool.{Pool}
 use Rattle.fm_rule_calls.specs.Kept.{Goes, KeptAs, KeptBut, KeptHandling, Kept, rest_of, slots_told, HasEnded, HasNoWords, Lasts}
 use Rattle.fm_gate.specs.Makers.{made_by_pass}
-use Rattle.fm_gate.specs.Standing.{IsOutside, HasHandle}
+use Rattle.fm_gate.specs.Needs.{IsOutside, HasHandle}
 use Rattle.fm_close.specs.declared.gave_back.GaveBack.{GaveBack}
 use Rattle.fm_close.specs.declared.gave_back.GaveBack.TheVariants as gave
 use Rattle.fm_close.specs.declared.shutting.Shutting.{Shutting}

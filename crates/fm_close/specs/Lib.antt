@@ -1,5 +1,5 @@
 pub mod Does
 pub mod Learnt
-pub mod Lasting
+pub mod CloseLaws
 pub mod Sweeps
 pub mod Handles

@@ -1,4 +1,4 @@
-ghost use Rattle.fm_gate.specs.Standing.{CanVisit};
+ghost use Rattle.fm_gate.specs.Needs.{CanVisit};
 ghost use Rattle.fm_close.specs.Learnt.{CanWalk, AfterClose, Walked};
 
 use crate::outcome::Visit;
@@ -12,11 +12,11 @@ use std::sync::Wait;
 /// Ends the arena, once nobody is under way in it.
 ///
 /// Refused, in this order: `CannotClose`, `WrongThread`, `Closed`, `Held`. A refused call changes nothing.
-pub fn close<R: Wait>(rt: &R, pool: &Pool, pass: &mut Pass, a: ArenaId) -> Result<(), Refusal>
-    requires { CanVisit pool.now pass.old a }
-    ensures { AfterClose pool.now pass.old pass.new a result }
+pub fn close<R: Wait>(rt: &R, pool: &Pool, pass: &mut Pass, id: ArenaId) -> Result<(), Refusal>
+    requires { CanVisit pool.now pass.old id }
+    ensures { AfterClose pool.now pass.old pass.new id result }
 {
-    match shut(pool, pass, a) {
+    match shut(pool, pass, id) {
         Err(refusal) => Err(refusal),
         Ok(mut s) => {
             walk(rt, pool, pass, &mut s);

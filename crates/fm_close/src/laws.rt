@@ -1,4 +1,4 @@
-ghost use Rattle.fm_close.specs.Lasting.{CloseLasts};
+ghost use Rattle.fm_close.specs.CloseLaws.{CloseLasts};
 
 /// A close under way stands, at the same mark, through calls that leave the pass what it has, such as visits to arenas,
 /// through closes of other arenas, while holds and handles are taken and spent and arenas opened, and while other

@@ -1,10 +1,9 @@
 ghost use Rattle.std.specs.Prelude.{◌≡◌};
-ghost use Rattle.fm_gate.specs.Standing.{CanVisit};
+ghost use Rattle.fm_gate.specs.Needs.{CanVisit};
 ghost use Rattle.fm_close.specs.Learnt.{AfterShut};
 
-use crate::closable::is_closable;
 use fm_base::{ArenaId, Refusal};
-use fm_gate::{Maker, may_use};
+use fm_gate::Maker;
 use fm_rule::{Pass, Pool, alive_holds, step_shut};
 
 /// A close under way: the arena was shut, and marks of so many numbers were visited. It must be spent by
@@ -35,27 +34,27 @@ impl Shutting {
 /// Shuts the arena: nobody comes into it from now on. Its marks are still to be visited, from number 0.
 ///
 /// Refused, in this order: `CannotClose`, `WrongThread`, `Closed`, `Held`. A refused call changes nothing.
-pub fn shut(pool: &Pool, pass: &mut Pass, a: ArenaId) -> Result<Shutting, Refusal>
-    requires { CanVisit pool.now pass.old a }
-    ensures { AfterShut pool.now pass.old pass.new a result }
+pub fn shut(pool: &Pool, pass: &mut Pass, id: ArenaId) -> Result<Shutting, Refusal>
+    requires { CanVisit pool.now pass.old id }
+    ensures { AfterShut pool.now pass.old pass.new id result }
 {
     let caller = pass.caller();
-    if !is_closable(a.kind) {
-        return Err(Refusal::CannotClose(a.kind));
+    if !id.kind.is_closable() {
+        return Err(Refusal::CannotClose(id.kind));
     }
-    if !may_use(caller, a) {
+    if !id.may_be_used_by(caller) {
         return Err(Refusal::WrongThread);
     }
     // The arena is shut before a mark is looked at: who marks it after that look finds it shut.
-    let word = step_shut(pool, pass, a);
-    let Some(holds) = alive_holds(a, word) else {
+    let word = step_shut(pool, pass, id);
+    let Some(holds) = alive_holds(id, word) else {
         return Err(Refusal::Closed);
     };
     if holds > 0 {
         return Err(Refusal::Held(holds));
     }
     Ok(Shutting {
-        arena: a,
+        arena: id,
         next: 0,
         ended: false,
         maker: Maker::of(pool, pass),

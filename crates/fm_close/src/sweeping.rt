@@ -16,7 +16,7 @@ use fm_rule::{
 /// Gives back the pages and the slot of an arena that has ended.
 ///
 /// Page after page, the words that have a given byte become 0 and the page free; then the count of given bytes is 0. From
-/// then on the slot can be lent to an arena of the next generation; where there is none, the slot isn't used again.
+/// then on the slot can be taken for an arena of the next generation; where there is none, the slot isn't used again.
 pub fn sweep(pool: &Pool, pass: &mut Pass, s: Shutting)
     requires { CanSweep pool.now pass.old s }
     ensures { AfterSweep pool.now pass.old pass.new s.arena }
@@ -39,39 +39,39 @@ pub fn sweep(pool: &Pool, pass: &mut Pass, s: Shutting)
 }
 
 /// Takes back all pages of an arena that has ended, and gave so many bytes.
-fn take_pages_back(pool: &Pool, pass: &mut Pass, a: ArenaId, given: u64)
+fn take_pages_back(pool: &Pool, pass: &mut Pass, id: ArenaId, given: u64)
     requires of { IsOf pool.now pass.old }
     requires sound { IsSound pass.old }
-    requires begun { passed_of pass.old.sweeps a ≡ Some 0 }
+    requires begun { passed_of pass.old.sweeps id ≡ Some 0 }
     requires idle { pass.old.swept ≡ unread }
-    requires gave { given_of pass.old a ≡ given }
-    ensures { PartsTaken pass.old pass.new a pool.now.shape.reach }
+    requires gave { given_of pass.old id ≡ given }
+    ensures { PartsTaken pass.old pass.new id pool.now.shape.reach }
 {
     for part in 0..pool.shape().reach {
-        take_back(pool, pass, a, part, given);
+        take_back(pool, pass, id, part, given);
     }
 }
 
 /// Takes back the page of this part of the arena, where it has one.
-fn take_back(pool: &Pool, pass: &mut Pass, a: ArenaId, part: u32, given: u64)
+fn take_back(pool: &Pool, pass: &mut Pass, id: ArenaId, part: u32, given: u64)
     requires of { IsOf pool.now pass.old }
     requires sound { IsSound pass.old }
-    requires sweep { passed_of pass.old.sweeps a ≡ Some part }
+    requires sweep { passed_of pass.old.sweeps id ≡ Some part }
     requires low { part < pool.now.shape.reach }
     requires idle { pass.old.swept ≡ unread }
-    requires gave { given_of pass.old a ≡ given }
-    ensures { PartTaken pass.old pass.new a }
+    requires gave { given_of pass.old id ≡ given }
+    ensures { PartTaken pass.old pass.new id }
 {
-    let word = step_sweep_map(pool, pass, a, part);
+    let word = step_sweep_map(pool, pass, id, part);
     if word == 0 {
         return;
     }
     let page = (word - 1) as u32;
-    step_unmap(pool, pass, a, part, page);
+    step_unmap(pool, pass, id, part, page);
     let words = given_words(given, part, pool.shape().page_words);
     // Another arena can have the page as soon as its bit is 1, and finds all its words 0.
-    wipe(pool, pass, a, part, page, words);
-    step_return_page(pool, pass, a, part, page, words);
+    wipe(pool, pass, id, part, page, words);
+    step_return_page(pool, pass, id, part, page, words);
 }
 
 /// How many words of the part have a given byte, where the arena gave so many: they are the first of the page's `size` words.
@@ -86,16 +86,16 @@ fn given_words(given: u64, part: u32, size: u32) -> u32
 }
 
 /// Makes the first words of the page 0, so many of them.
-fn wipe(pool: &Pool, pass: &mut Pass, a: ArenaId, part: u32, page: u32, words: u32)
+fn wipe(pool: &Pool, pass: &mut Pass, id: ArenaId, part: u32, page: u32, words: u32)
     requires of { IsOf pool.now pass.old }
     requires sound { IsSound pass.old }
-    requires sweep { passed_of pass.old.sweeps a ≡ Some part }
+    requires sweep { passed_of pass.old.sweeps id ≡ Some part }
     requires low { part < pool.now.shape.reach }
-    requires begun { pass.old.swept ≡ wiping a part page 0 }
+    requires begun { pass.old.swept ≡ wiping id part page 0 }
     requires few { words ≤ pool.now.shape.page_words }
-    ensures { SweepsOn pass.old pass.new [] (wiping a part page words) pass.old.sweeps }
+    ensures { SweepsOn pass.old pass.new [] (wiping id part page words) pass.old.sweeps }
 {
     for word in 0..words {
-        step_wipe(pool, pass, a, part, page, word);
+        step_wipe(pool, pass, id, part, page, word);
     }
 }

@@ -15,9 +15,9 @@ use Rattle.fm_rule.specs.Passes.{IsOf}
 use Rattle.fm_rule_calls.specs.Kept.{Goes, rest_of}
 use Rattle.fm_rule_calls.proofs.Going.{goes_of, goes_then, made_by-acted, no_draws, rest_is, hand_is, inside_is, mark_is, lasts_on}
 use Rattle.fm_pages.specs.Places.{CanFind, Placed}
-use Rattle.fm_gate.specs.Standing.{CanReach, CanLeave}
+use Rattle.fm_gate.specs.Needs.{CanReach, CanLeave}
 use Rattle.fm_gate.specs.Learnt.{AfterAct, AfterLeave}
-use Rattle.fm_gate.proofs.Standing.{swept_is, stands_outside, stands_inside}
+use Rattle.fm_gate.proofs.Outside.{swept_is, stands_outside, stands_inside}
 
 -- The call neither comes into an arena nor leaves one
 pub record IsAct (f : ArenaId → Call) (reply : Reply) : Type 0 where

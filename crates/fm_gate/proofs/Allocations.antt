@@ -13,14 +13,14 @@ use Rattle.fm_base.specs.Does.{DoesEnter, DoesAllocate}
 use Rattle.fm_base.specs.Machine.{IsPower}
 use Rattle.fm_base.specs.View.{but_loans, is_loan}
 use Rattle.fm_base.specs.Visits.{refused_visit}
-use Rattle.fm_rule_facts.specs.Loans.{lent}
+use Rattle.fm_rule_facts.specs.Loans.{loans_of}
 use Rattle.fm_rule_facts.specs.Views.{View, In, IsSound, given_of}
 use Rattle.fm_rule.specs.declared.pool.Pool.{Pool}
 use Rattle.fm_rule_calls.proofs.Going.{goes_none, lasts_on}
 use Rattle.fm_gate.specs.Giving.{DoesGive, LendsTo}
 use Rattle.fm_gate.specs.Learnt.{AfterEnter, AfterAllocate}
 use Rattle.fm_gate.specs.Pages.{FullExactly}
-use Rattle.fm_gate.specs.Standing.{CanAllocate}
+use Rattle.fm_gate.specs.Needs.{CanAllocate}
 use Rattle.fm_gate.proofs.Scarce.{scarce_by}
 
 abbrev err : Refusal → Result ℕ Refusal
@@ -193,7 +193,7 @@ unlike c a size align (Err r) own d e = absurd d
 
 -- where pages were too few before the arena was entered they are so after it, and the other way round
 pub exact_by : (p q : View) (a : ArenaId) (size align : ℕ) (result : Result ℕ Refusal) → q.shape ≡ p.shape → given_of q a ≡ given_of p a
-    → lent q.seen ≡ lent p.seen → FullExactly q a size align result → FullExactly p a size align result
+    → loans_of q.seen ≡ loans_of p.seen → FullExactly q a size align result → FullExactly p a size align result
 exact_by p q a size align (Ok place) shape given loans x = λ s. x (scarce_by shape given loans s)
 exact_by p q a size align (Err (refusal.NoRoom given)) shape count loans x = λ s. x (scarce_by shape count loans s)
 exact_by p q a size align (Err refusal.PoolFull) shape given loans x = scarce_by (sym shape) (sym given) (sym loans) x

@@ -13,11 +13,11 @@ use Rattle.fm_rule.specs.declared.pool.Pool.{Pool}
 use Rattle.fm_rule_calls.specs.Kept.{Goes}
 use Rattle.fm_rule_calls.proofs.Going.{known_on}
 use Rattle.fm_gate.specs.declared.held.Hold.{Hold}
-use Rattle.fm_gate.specs.Standing.{CanUnhold}
+use Rattle.fm_gate.specs.Needs.{CanUnhold}
 use Rattle.fm_gate.specs.Learnt.{holds_taken}
-use Rattle.fm_gate.specs.Holding.{StandsAtHold, BothAtHold, BothStand, OneIsLeft, OthersAreLeft, HoldsStand}
+use Rattle.fm_gate.specs.HoldLaws.{StandsAtHold, BothAtHold, BothStand, OneIsLeft, OthersAreLeft, HoldsStand}
 use Rattle.fm_gate.proofs.Counted.{some_in, in_released}
-use Rattle.fm_gate.proofs.Standing.{made_on, of_on}
+use Rattle.fm_gate.proofs.Outside.{made_on, of_on}
 
 -- A hold whose arena the pass still has among its holds can still be spent.
 held_on : (pool : Pool) {p q : View} {own : List Entry} (hold : Hold) → Goes p q own → In hold.arena q.holds → CanUnhold pool p hold
@@ -30,7 +30,8 @@ held_on pool hold g i can = record {
   by_hand = can.by_hand;
 }
 
-in_taken : (a b : ArenaId) (result : Result Hold Refusal) (hs : List ArenaId) → In a hs → In a (holds_taken b result hs)
+-- What is held is held once another hold was taken, or refused.
+pub in_taken : (a b : ArenaId) (result : Result Hold Refusal) (hs : List ArenaId) → In a hs → In a (holds_taken b result hs)
 in_taken a b (Ok h) hs i = inr i
 in_taken a b (Err r) hs i = i
 

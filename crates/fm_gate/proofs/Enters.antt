@@ -15,9 +15,9 @@ use Rattle.fm_rule_facts.specs.Steps.{Stepped, none_noted, acted}
 use Rattle.fm_rule.specs.declared.pool.Pool.{Pool}
 use Rattle.fm_rule_calls.specs.Kept.{Goes, rest_of}
 use Rattle.fm_rule_calls.proofs.Going.{IsOn, goes_of, goes_then, goes_none, kept_none, made_by-one, no_draws, rest_is, hand_is, inside_is, mark_is, lasts_on}
-use Rattle.fm_gate.specs.Standing.{CanVisit}
+use Rattle.fm_gate.specs.Needs.{CanVisit}
 use Rattle.fm_gate.specs.Learnt.{AfterEnter}
-use Rattle.fm_gate.proofs.Standing.{swept_is, stands_outside, stands_inside}
+use Rattle.fm_gate.proofs.Outside.{swept_is, stands_outside, stands_inside}
 use Rattle.fm_gate.proofs.Acts.{unmark_goes}
 use Rattle.fm_gate.proofs.Living.{not_held}
 

@@ -23,9 +23,9 @@ use Rattle.fm_pages.proofs.Gives.{way_allocate}
 use Rattle.fm_pages.proofs.Parts.{way_then, pages_way}
 use Rattle.fm_gate.specs.Giving.{CanTry, LendsTo}
 use Rattle.fm_gate.specs.Pages.{LendsInRange, given_after}
-use Rattle.fm_gate.specs.Standing.{IsInside}
+use Rattle.fm_gate.specs.Needs.{IsInside}
 use Rattle.fm_gate.proofs.Scarce.{scarce_seen}
-use Rattle.fm_gate.proofs.Standing.{stands_inside}
+use Rattle.fm_gate.proofs.Outside.{stands_inside}
 
 -- The pass stays inside on such a way.
 pub inside_on : {pool : Pool} {p q : View} {a : ArenaId} {own : List Entry} {pages : List ℕ} → Way p q own pages → IsInside pool p a → IsInside pool q a

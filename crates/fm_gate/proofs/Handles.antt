@@ -16,9 +16,9 @@ use Rattle.fm_rule_facts.proofs.Gripping.{handles_are, with_handles}
 use Rattle.fm_rule.specs.declared.pool.Pool.{Pool}
 use Rattle.fm_rule_calls.specs.Kept.{Goes, rest_of}
 use Rattle.fm_rule_calls.proofs.Going.{known_on, lasts_on}
-use Rattle.fm_gate.specs.Standing.{IsOutside, IsInside, HasHandle}
+use Rattle.fm_gate.specs.Needs.{IsOutside, IsInside, HasHandle}
 use Rattle.fm_gate.specs.Learnt.{AfterTake, AfterAgain}
-use Rattle.fm_gate.proofs.Standing.{of_on, stands_outside, stands_inside}
+use Rattle.fm_gate.proofs.Outside.{of_on, stands_outside, stands_inside}
 use Rattle.fm_gate.proofs.Takes.{hold_full, hold_fine}
 
 -- The owner of a known arena is one of at most 4096 numbers.

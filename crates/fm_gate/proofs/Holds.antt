@@ -18,9 +18,9 @@ use Rattle.fm_rule_calls.specs.Kept.{Goes, rest_of}
 use Rattle.fm_rule_calls.proofs.Going.{goes_of, goes_none, no_draws, made_by-one, rest_is, hand_is, inside_is, mark_is, known_on, lasts_on}
 use Rattle.fm_gate.specs.declared.held.Hold.{Hold as TheHold}
 use Rattle.fm_gate.specs.Makers.{made_by_pass}
-use Rattle.fm_gate.specs.Standing.{IsOutside, CanVisit, CanUnhold}
+use Rattle.fm_gate.specs.Needs.{IsOutside, CanVisit, CanUnhold}
 use Rattle.fm_gate.specs.Learnt.{AfterHold, AfterTake, AfterUnhold, DoesTake}
-use Rattle.fm_gate.proofs.Standing.{swept_is, stands_outside, stands_inside}
+use Rattle.fm_gate.proofs.Outside.{swept_is, stands_outside, stands_inside}
 use Rattle.fm_gate.proofs.Takes.{hold_full, hold_fine}
 
 -- ---- refused before a step

@@ -1,4 +1,4 @@
-pub mod Standing
+pub mod Outside
 pub mod Acts
 pub mod Enters
 pub mod Bids

@@ -9,7 +9,7 @@ use Rattle.fm_base.specs.declared.refusal.Refusal.TheVariants as refusal
 use Rattle.fm_base.specs.Calls.{Entry, Open, Fine, entry_of}
 use Rattle.fm_base.proofs.Outcomes.{opened_new}
 use Rattle.fm_rule_facts.specs.Hands.{Hand, nothing}
-use Rattle.fm_rule_facts.specs.Loans.{lent, loans_after}
+use Rattle.fm_rule_facts.specs.Loans.{loans_of, loans_after}
 use Rattle.fm_rule_facts.specs.Views.{View, In}
 use Rattle.fm_rule_facts.specs.Holds.{is_automatic, handles_with}
 use Rattle.fm_rule_facts.proofs.Gripping.{automatic}
@@ -19,10 +19,10 @@ use Rattle.fm_rule_calls.specs.Kept.{Goes, rest_of, slots_told}
 use Rattle.fm_rule_calls.specs.Told.{silent_view}
 use Rattle.fm_rule_calls.proofs.Going.{goes_then, lasts_on}
 use Rattle.fm_rule_calls.proofs.Telling.{silent_makes}
-use Rattle.fm_gate.specs.Standing.{IsOutside}
+use Rattle.fm_gate.specs.Needs.{IsOutside}
 use Rattle.fm_gate.specs.Slots.{SlotTaken, NoneTaken, OpenedIn}
 use Rattle.fm_gate.specs.Learnt.{IsNew, handles_opened, AfterOpen}
-use Rattle.fm_gate.proofs.Standing.{of_on, stands_outside}
+use Rattle.fm_gate.proofs.Outside.{of_on, stands_outside}
 
 -- What the pass has then is what it had, but for these handles: it has no slot.
 rest_with : (p q : View) (hs : List ArenaId) → p.hand ≡ nothing → q ≡ record p { seen = q.seen; finds = q.finds; hand = nothing; handles = hs }
@@ -36,11 +36,12 @@ no_handle kind.Confined hs = refl
 no_handle kind.Shared hs = refl
 
 -- A whole pass whose entries lend nothing leaves the loans as they were.
-lends_none : {p q : View} {own : List Entry} → Goes p q own → loans_after (lent p.seen) own ≡ lent p.seen → p.whole ≡ true → lent q.seen ≡ lent p.seen
+lends_none : {p q : View} {own : List Entry} → Goes p q own → loans_after (loans_of p.seen) own ≡ loans_of p.seen
+    → p.whole ≡ true → loans_of q.seen ≡ loans_of p.seen
 lends_none {p = p} g none whole =
-    ap lent g.seen ∙ (loans_after-append [] p.seen g.more ∙ (ap (loans_after (lent p.seen)) (g.alone whole) ∙ none))
+    ap loans_of g.seen ∙ (loans_after-append [] p.seen g.more ∙ (ap (loans_after (loans_of p.seen)) (g.alone whole) ∙ none))
 
--- What is learnt where no slot could be lent.
+-- What is learnt where no slot could be taken.
 pub after_no_slot : {pool : Pool} {p q : View} {k : Kind} → IsOutside pool p → NoneTaken p q → AfterOpen pool p q k (Err refusal.NoSlot)
 after_no_slot {p = p} {q = q} {k = k} out n =
     let is = n.went.is in

@@ -14,23 +14,25 @@ use Rattle.fm_rule_facts.proofs.Summing.{some_hold}
 use Rattle.fm_rule.specs.declared.pool.Pool.{Pool}
 use Rattle.fm_rule_calls.specs.Kept.{Goes}
 use Rattle.fm_rule_calls.proofs.Going.{known_on}
-use Rattle.fm_gate.specs.Standing.{HasHandle}
+use Rattle.fm_gate.specs.Needs.{HasHandle}
 use Rattle.fm_gate.specs.Learnt.{handles_opened, handles_again}
-use Rattle.fm_gate.specs.Handling.{HandleLasts}
-use Rattle.fm_gate.proofs.Standing.{of_on}
+use Rattle.fm_gate.specs.HandleLaws.{HandleLasts}
+use Rattle.fm_gate.proofs.Outside.{of_on}
 
 -- A handle that the pass still has can still be used.
 pub has_on : (pool : Pool) {p q : View} {own : List Entry} (id : ArenaId) → Goes p q own → In id q.handles → HasHandle pool p id → HasHandle pool q id
 has_on pool id g i can = record { of = of_on pool g can.of; known = known_on g id can.known; has = i; automatic = can.automatic }
 
-in_opened : (a : ArenaId) (kind : Kind) (result : Result ArenaId Refusal) (hs : List ArenaId) → In a hs → In a (handles_opened kind result hs)
+-- And once an arena was opened.
+pub in_opened : (a : ArenaId) (kind : Kind) (result : Result ArenaId Refusal) (hs : List ArenaId) → In a hs → In a (handles_opened kind result hs)
 in_opened a kind.Automatic (Ok id) hs i = inr i
 in_opened a kind.Automatic (Err r) hs i = i
 in_opened a kind.Global result hs i = i
 in_opened a kind.Confined result hs i = i
 in_opened a kind.Shared result hs i = i
 
-in_again : (a b : ArenaId) (result : Result (Unit {0}) Refusal) (hs : List ArenaId) → In a hs → In a (handles_again b result hs)
+-- A handle that is had is had once another was taken, or refused.
+pub in_again : (a b : ArenaId) (result : Result (Unit {0}) Refusal) (hs : List ArenaId) → In a hs → In a (handles_again b result hs)
 in_again a b (Ok u) hs i = inr i
 in_again a b (Err r) hs i = i
 

@@ -7,7 +7,7 @@ use Rattle.fm_base.specs.Calls.{Entry}
 use Rattle.fm_base.specs.Histories.{state_after}
 use Rattle.fm_base.specs.Machine.{rounded_up}
 use Rattle.fm_rule_facts.specs.Hands.{nothing, slots_in}
-use Rattle.fm_rule_facts.specs.Loans.{Loan, lent}
+use Rattle.fm_rule_facts.specs.Loans.{Loan, loans_of}
 use Rattle.fm_rule_facts.specs.Scarcity.{IsScarce, parts_before, lacking}
 use Rattle.fm_rule_facts.specs.Steps.{is_clear, is_empty}
 use Rattle.fm_rule_facts.specs.Views.{View, given_of, limit_of, unlent}
@@ -15,7 +15,7 @@ use Rattle.fm_rule_calls.specs.Kept.{Goes}
 use Rattle.fm_pages.specs.Claims.{AllFoundEmpty, FoundEmpty}
 
 -- They are so in two views alike, where the arena has given the same bytes and the same blocks are lent.
-pub scarce_by : {p q : View} {a : ArenaId} {size align : ℕ} → q.shape ≡ p.shape → given_of q a ≡ given_of p a → lent q.seen ≡ lent p.seen
+pub scarce_by : {p q : View} {a : ArenaId} {size align : ℕ} → q.shape ≡ p.shape → given_of q a ≡ given_of p a → loans_of q.seen ≡ loans_of p.seen
     → IsScarce p a size align → IsScarce q a size align
 scarce_by {p = p} {q = q} {a = a} {size = size} {align = align} shape given loans s = record {
   fits = subst (λ (x : Shape × ℕ). rounded_up x.1 align + size ≤ limit_of x.0) (λ j. (sym shape j, sym given j)) s.fits;
@@ -28,7 +28,7 @@ given_by : (p q : View) (a : ArenaId) → q.shape ≡ p.shape → q.seen ≡ p.s
 given_by p q a shape seen = λ j. (arena_of (state_after (limit_of (shape j)) [] (seen j)) a).given
 
 pub scarce_seen : {p q : View} {a : ArenaId} {size align : ℕ} → q.shape ≡ p.shape → q.seen ≡ p.seen → IsScarce p a size align → IsScarce q a size align
-scarce_seen {p = p} {q = q} {a = a} shape seen s = scarce_by shape (given_by p q a shape seen) (ap lent seen) s
+scarce_seen {p = p} {q = q} {a = a} shape seen s = scarce_by shape (given_by p q a shape seen) (ap loans_of seen) s
 
 -- A pass is clear that is known to be whole, with no slot or page in its hand and no close that isn't swept.
 pub clear : (p : View) → p.whole ≡ true → p.hand ≡ nothing → p.pages ≡ [] → p.closes ≡ [] → p.sweeps ≡ [] → is_clear p ≡ true

@@ -16,7 +16,7 @@ use Rattle.fm_rule_calls.specs.Kept.{Goes, rest_of}
 use Rattle.fm_rule_calls.proofs.Going.{goes_of, no_draws, made_by-one, rest_is, hand_is, inside_is, mark_is}
 use Rattle.fm_rule_calls.proofs.Waiting.{Waited, waits_on}
 use Rattle.fm_gate.specs.Learnt.{AfterTake}
-use Rattle.fm_gate.proofs.Standing.{swept_is}
+use Rattle.fm_gate.proofs.Outside.{swept_is}
 
 -- A pass that has waited is still one of its pool.
 pub waited_of : (pool : Pool) {o p : View} → Waited o p → IsOf pool o → IsOf pool p

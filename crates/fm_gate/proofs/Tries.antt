@@ -9,7 +9,7 @@ use Rattle.fm_rule_facts.specs.Views.{View, given_of}
 use Rattle.fm_rule.specs.declared.pool.Pool.{Pool}
 use Rattle.fm_rule_calls.specs.Kept.{Goes, rest_of, Lasts}
 use Rattle.fm_rule_calls.proofs.Going.{goes_then, lasts_on}
-use Rattle.fm_gate.specs.Standing.{IsInside, CanReach}
+use Rattle.fm_gate.specs.Needs.{IsInside, CanReach}
 use Rattle.fm_gate.specs.Learnt.{AfterAct, AfterPatch}
 
 -- What one act did where it is known which arena the pass is inside.

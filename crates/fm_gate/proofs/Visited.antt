@@ -15,7 +15,7 @@ use Rattle.fm_base.specs.View.{but_loans, is_loan}
 use Rattle.fm_base.proofs.Learning.{allocate_gives}
 use Rattle.fm_base.proofs.Lookup.{changed_lookup}
 use Rattle.fm_base.proofs.Making.{state_after-append}
-use Rattle.fm_rule_facts.specs.Loans.{lent}
+use Rattle.fm_rule_facts.specs.Loans.{loans_of}
 use Rattle.fm_rule_facts.specs.Views.{View, In, given_of, limit_of, state_in}
 use Rattle.fm_rule_facts.proofs.Keeping.{in_append}
 use Rattle.fm_rule_facts.proofs.Lending.{loans_after-append}
@@ -107,8 +107,8 @@ module _ {p q : View} {a : ArenaId} (first : Goes p q (entry_of p.caller (Enter 
     entered_seen : q.seen ≡ p.seen ++ entry_of p.caller (Enter a) Fine ∷ []
     entered_seen = first.seen ∙ ap (λ (es : List Entry). p.seen ++ es) (first.alone whole)
 
-    pub entered_loans : lent q.seen ≡ lent p.seen
-    entered_loans = ap lent entered_seen ∙ loans_after-append [] p.seen (entry_of p.caller (Enter a) Fine ∷ [])
+    pub entered_loans : loans_of q.seen ≡ loans_of p.seen
+    entered_loans = ap loans_of entered_seen ∙ loans_after-append [] p.seen (entry_of p.caller (Enter a) Fine ∷ [])
 
     pub entered_given : given_of q a ≡ given_of p a
     entered_given =

@@ -10,7 +10,7 @@ use Rattle.fm_rule.specs.Passes.{IsOf, GoesOnFrom}
 use Rattle.fm_rule.specs.Draws.{Drawn, NoneDrawn, Looked, CanGather, Gathers}
 use Rattle.fm_rule_calls.specs.Kept.{Goes, Lasts, rest_of}
 use Rattle.fm_gate.specs.declared.held.Hold.{Hold}
-use Rattle.fm_gate.specs.Standing.{IsOutside, IsInside, CanUnhold}
+use Rattle.fm_gate.specs.Needs.{IsOutside, IsInside, CanUnhold}
 
 -- no hold, handle or page, and no close that isn't swept
 pub record HasNothing (p : View) : Type 0 where

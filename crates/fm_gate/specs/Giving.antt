@@ -8,7 +8,7 @@ use Rattle.fm_base.specs.Calls.{Lend, Allocate, Reply, Fine, Given, NoRoom, Entr
 use Rattle.fm_base.specs.Histories.{made_by}
 use Rattle.fm_base.specs.Machine.{rounded_up}
 use Rattle.fm_base.specs.View.{is_loan}
-use Rattle.fm_rule_facts.specs.Loans.{HasPart, lent}
+use Rattle.fm_rule_facts.specs.Loans.{HasPart, loans_of}
 use Rattle.fm_rule_facts.specs.Views.{View, In, limit_of}
 use Rattle.fm_rule_facts.specs.Steps.{HasParts}
 use Rattle.fm_rule.specs.declared.pool.Pool.{Pool}
@@ -16,7 +16,7 @@ use Rattle.fm_rule_calls.specs.Kept.{Kept}
 use Rattle.fm_pages.specs.Claims.{AllFoundEmpty}
 use Rattle.fm_pages.specs.Maps.{Way}
 use Rattle.fm_gate.specs.Pages.{IsDuring, IsInRange, FullExactly, LendsInRange, given_after}
-use Rattle.fm_gate.specs.Standing.{IsInside}
+use Rattle.fm_gate.specs.Needs.{IsInside}
 
 -- ---- the count to expect first
 
@@ -63,7 +63,7 @@ pub record NonePaged (old new : View) (id : ArenaId) (size align : ℕ) : Type 0
   pub later : List Entry
   pub at_stood : IsDuring old new at
   pub seen : new.seen ≡ at ++ later
-  pub lacked : ¬ (HasPart (lent at) id part)
+  pub lacked : ¬ (HasPart (loans_of at) id part)
   pub quiet : made_by old.caller later ≡ []
 
 -- of the part of `allocate` that is inside the arena

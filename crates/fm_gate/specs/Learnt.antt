@@ -13,14 +13,14 @@ use Rattle.fm_base.specs.Does.{DoesEnter, DoesAct, DoesPatch, DoesOpen, DoesAllo
 use Rattle.fm_base.specs.Outcomes.{Gives}
 use Rattle.fm_base.specs.View.{but_loans, is_loan}
 use Rattle.fm_rule_facts.specs.Views.{View, In, IsKnown, IsBusy}
-use Rattle.fm_rule_facts.specs.Loans.{lent}
+use Rattle.fm_rule_facts.specs.Loans.{loans_of}
 use Rattle.fm_rule_facts.specs.Holds.{grips, with_grips, holds_after, released}
 use Rattle.fm_rule_facts.specs.Words.{alive_holds, hold_found}
 use Rattle.fm_rule.specs.declared.pool.Pool.{Pool}
 use Rattle.fm_rule_calls.specs.Kept.{Goes, Kept, KeptHolding, KeptHandling, Lasts, rest_of}
 use Rattle.fm_rule_calls.specs.Told.{view_of_pass}
 use Rattle.fm_gate.specs.Pages.{FoundNoPage, FullExactly, LendsInRange}
-use Rattle.fm_gate.specs.Standing.{IsOutside, IsInside, CanUnhold, HasHandle}
+use Rattle.fm_gate.specs.Needs.{IsOutside, IsInside, CanUnhold, HasHandle}
 use Rattle.fm_gate.specs.declared.held.Hold.{Hold}
 
 -- of `enter`
@@ -71,7 +71,7 @@ pub record IsNew (old new : View) (id : ArenaId) : Type 0 where
   pub unknown : ¬ (IsKnown old id)
   pub known : IsKnown new id
 
--- A step found that no slot could be lent; the pass is as it was, but for what it has seen and found
+-- A step found that no slot could be taken; the pass is as it was, but for what it has seen and found
 pub record FoundNoSlot (old new : View) : Type 0 where
   pub find : FoundNothing is_slot old.finds new.finds
   -- all that had been seen at that step is among what is seen now
@@ -93,7 +93,7 @@ pub record AfterOpen (pool : Pool) (old new : View) (kind : Kind) (result : Resu
   pub slot : IfOk result (λ _. old.whole ≡ true → ¬ (AllBusy old))
   pub no_slot : IfErr result (λ refusal. (refusal ≡ NoSlot) × FoundNoSlot old new)
   -- a pass that is known to be whole leaves the loans as they were: a new arena has no page
-  pub lends : old.whole ≡ true → lent new.seen ≡ lent old.seen
+  pub lends : old.whole ≡ true → loans_of new.seen ≡ loans_of old.seen
   pub outside : IsOutside pool new
   pub lasts : Lasts old new
 

@@ -1,10 +1,10 @@
 pub mod Makers
-pub mod Standing
+pub mod Needs
 pub mod Pages
 pub mod Learnt
 pub mod Giving
 pub mod Lasting
 pub mod Slots
-pub mod Handling
+pub mod HandleLaws
 pub mod Crews
-pub mod Holding
+pub mod HoldLaws

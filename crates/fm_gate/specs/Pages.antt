@@ -7,7 +7,7 @@ use Rattle.fm_base.specs.Arenas.{arena_of}
 use Rattle.fm_base.specs.Calls.{Entry, Lend, Leave, Fine, entry_of}
 use Rattle.fm_base.specs.Histories.{made_by, state_after}
 use Rattle.fm_base.specs.Machine.{rounded_up}
-use Rattle.fm_rule_facts.specs.Loans.{HasPart, lent}
+use Rattle.fm_rule_facts.specs.Loans.{HasPart, loans_of}
 use Rattle.fm_rule_facts.specs.Scarcity.{IsScarce}
 use Rattle.fm_rule_facts.specs.Views.{View, Begins, limit_of}
 use Rattle.fm_pages.specs.Claims.{AllFoundEmpty}
@@ -37,7 +37,7 @@ pub record LackedPart (old new : View) (id : ArenaId) (size align : ℕ) : Type 
   pub later : List Entry
   pub at_stood : IsDuring old new at
   pub seen : new.seen ≡ at ++ later
-  pub lacked : ¬ (HasPart (lent at) id part)
+  pub lacked : ¬ (HasPart (loans_of at) id part)
   pub no_lend : made_by old.caller later ≡ entry_of old.caller (Leave id) Fine ∷ []
 
 -- the entry lends a page to the arena, as a part with a byte of the range that a count places which stood during the call

@@ -1,5 +1,5 @@
 ghost use Rattle.fm_base.specs.Calls as machine;
-ghost use Rattle.fm_gate.specs.Standing.{CanReach};
+ghost use Rattle.fm_gate.specs.Needs.{CanReach};
 ghost use Rattle.fm_gate.specs.Learnt.{AfterAct};
 
 use fm_pages::place_of;
@@ -9,7 +9,7 @@ use fm_rule::{Pass, Pool, step_add, step_load, step_store, step_swap_if};
 #[inline(always)]
 pub fn load(pool: &Pool, pass: &mut Pass, word: u64) -> u64
     requires { CanReach pool.now pass.old word }
-    ensures { AfterAct pool.now pass.old pass.new (λ a. machine.Read a word) (machine.Found result) }
+    ensures { AfterAct pool.now pass.old pass.new (λ id. machine.Read id word) (machine.Found result) }
 {
     let place = place_of(pool, pass, word);
     step_load(pool, pass, word, place)
@@ -19,7 +19,7 @@ pub fn load(pool: &Pool, pass: &mut Pass, word: u64) -> u64
 #[inline(always)]
 pub fn store(pool: &Pool, pass: &mut Pass, word: u64, v: u64)
     requires { CanReach pool.now pass.old word }
-    ensures { AfterAct pool.now pass.old pass.new (λ a. machine.Write a word v) machine.Fine }
+    ensures { AfterAct pool.now pass.old pass.new (λ id. machine.Write id word v) machine.Fine }
 {
     let place = place_of(pool, pass, word);
     step_store(pool, pass, word, place, v);
@@ -28,7 +28,7 @@ pub fn store(pool: &Pool, pass: &mut Pass, word: u64, v: u64)
 /// Puts `new` into the word of this index where it is `old`, and answers the word found.
 pub fn swap_if(pool: &Pool, pass: &mut Pass, word: u64, old: u64, new: u64) -> u64
     requires { CanReach pool.now pass.old word }
-    ensures { AfterAct pool.now pass.old pass.new (λ a. machine.SwapIf a word old new) (machine.Found result) }
+    ensures { AfterAct pool.now pass.old pass.new (λ id. machine.SwapIf id word old new) (machine.Found result) }
 {
     let place = place_of(pool, pass, word);
     step_swap_if(pool, pass, word, place, old, new)
@@ -37,7 +37,7 @@ pub fn swap_if(pool: &Pool, pass: &mut Pass, word: u64, old: u64, new: u64) -> u
 /// Adds `n` to the word of this index, wrapping at 2^64, and answers the word found.
 pub fn add(pool: &Pool, pass: &mut Pass, word: u64, n: u64) -> u64
     requires { CanReach pool.now pass.old word }
-    ensures { AfterAct pool.now pass.old pass.new (λ a. machine.Add a word n) (machine.Found result) }
+    ensures { AfterAct pool.now pass.old pass.new (λ id. machine.Add id word n) (machine.Found result) }
 {
     let place = place_of(pool, pass, word);
     step_add(pool, pass, word, place, n)

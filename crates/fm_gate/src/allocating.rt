@@ -2,13 +2,12 @@ ghost use Rattle.std.specs.Prelude.{◌≡◌, ◌≤◌, [], Some};
 ghost use Rattle.fm_base.specs.Machine.{IsPower};
 ghost use Rattle.fm_rule_facts.specs.Views.{IsSound, limit_of};
 ghost use Rattle.fm_rule.specs.Passes.{IsOf};
-ghost use Rattle.fm_gate.specs.Standing.{CanAllocate, IsInside};
+ghost use Rattle.fm_gate.specs.Needs.{CanAllocate, IsInside};
 ghost use Rattle.fm_gate.specs.Learnt.{AfterAllocate};
 ghost use Rattle.fm_gate.specs.Giving.{AfterGive, CanTry, HasRead};
 
 use crate::entering::enter;
 use crate::leaving::leave;
-use crate::usable::may_use;
 use fm_base::{ArenaId, Refusal};
 use fm_pages::try_at;
 use fm_rule::{Pass, Pool, guess_given, room, step_allocate, step_read_map};
@@ -23,24 +22,24 @@ pub fn allocate<R: Wait>(
     rt: &R,
     pool: &Pool,
     pass: &mut Pass,
-    a: ArenaId,
+    id: ArenaId,
     size: u64,
     align: u64,
 ) -> Result<u64, Refusal>
-    requires { CanAllocate pool.now pass.old a }
-    ensures { AfterAllocate pool.now pass.old pass.new a size align result }
+    requires { CanAllocate pool.now pass.old id }
+    ensures { AfterAllocate pool.now pass.old pass.new id size align result }
 {
     let caller = pass.caller();
     if !align.is_power_of_two() {
         return Err(Refusal::BadAlignment);
     }
-    if !may_use(caller, a) {
+    if !id.may_be_used_by(caller) {
         return Err(Refusal::WrongThread);
     }
-    match enter(pool, pass, a) {
+    match enter(pool, pass, id) {
         Err(refusal) => Err(refusal),
         Ok(()) => {
-            let result = give(rt, pool, pass, a, size, align);
+            let result = give(rt, pool, pass, id, size, align);
             leave(pool, pass);
             result
         }
@@ -53,18 +52,18 @@ fn give<R: Wait>(
     rt: &R,
     pool: &Pool,
     pass: &mut Pass,
-    a: ArenaId,
+    id: ArenaId,
     size: u64,
     align: u64,
 ) -> Result<u64, Refusal>
-    requires inside { IsInside pool.now pass.old a }
+    requires inside { IsInside pool.now pass.old id }
     requires none { pass.old.pages ≡ [] }
     requires sound { IsSound pass.old }
     requires power { IsPower align }
-    ensures { AfterGive pool.now pass.old pass.new a size align result }
+    ensures { AfterGive pool.now pass.old pass.new id size align result }
 {
-    let mut count = first_count(pool, pass, a, size, align);
-    let mut found = step_allocate(pool, pass, a, count, size, align);
+    let mut count = first_count(pool, pass, id, size, align);
+    let mut found = step_allocate(pool, pass, id, count, size, align);
     for _ in rt.forever() {
         if found == count {
             match room(pool.limit(), count, size, align) {
@@ -73,7 +72,7 @@ fn give<R: Wait>(
             }
         }
         count = found;
-        match try_at(rt, pool, pass, a, count, size, align) {
+        match try_at(rt, pool, pass, id, count, size, align) {
             Some(now) => found = now,
             None => return Err(Refusal::PoolFull),
         }
@@ -82,8 +81,8 @@ fn give<R: Wait>(
 }
 
 /// The count to expect first: a guess, where each part of its range has a page, else one that no arena has.
-fn first_count(pool: &Pool, pass: &mut Pass, a: ArenaId, size: u64, align: u64) -> u64
-    requires inside { IsInside pool.now pass.old a }
+fn first_count(pool: &Pool, pass: &mut Pass, id: ArenaId, size: u64, align: u64) -> u64
+    requires inside { IsInside pool.now pass.old id }
     requires none { pass.old.pages ≡ [] }
     requires sound { IsSound pass.old }
     requires power { IsPower align }
@@ -93,7 +92,7 @@ fn first_count(pool: &Pool, pass: &mut Pass, a: ArenaId, size: u64, align: u64) 
     match room(pool.limit(), guess, size, align) {
         None => guess,
         Some(place) => {
-            if has_parts(pool, pass, a, guess, place + size) {
+            if has_parts(pool, pass, id, guess, place + size) {
                 guess
             } else {
                 u64::MAX
@@ -103,8 +102,8 @@ fn first_count(pool: &Pool, pass: &mut Pass, a: ArenaId, size: u64, align: u64) 
 }
 
 /// Whether each part with a byte in this range has a page, of the arena that the pass is inside.
-fn has_parts(pool: &Pool, pass: &mut Pass, a: ArenaId, from: u64, to: u64) -> bool
-    requires inside { IsInside pool.now pass.old a }
+fn has_parts(pool: &Pool, pass: &mut Pass, id: ArenaId, from: u64, to: u64) -> bool
+    requires inside { IsInside pool.now pass.old id }
     requires none { pass.old.pages ≡ [] }
     requires sound { IsSound pass.old }
     requires up { from ≤ to }
@@ -118,7 +117,7 @@ fn has_parts(pool: &Pool, pass: &mut Pass, a: ArenaId, from: u64, to: u64) -> bo
         if u64::from(part) * bytes >= to {
             return true;
         }
-        if step_read_map(pool, pass, a, part) == 0 {
+        if step_read_map(pool, pass, id, part) == 0 {
             return false;
         }
     }

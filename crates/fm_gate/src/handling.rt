@@ -1,6 +1,6 @@
-ghost use Rattle.fm_gate.specs.Standing.{HasHandle};
+ghost use Rattle.fm_gate.specs.Needs.{HasHandle};
 ghost use Rattle.fm_gate.specs.Learnt.{AfterAgain};
-ghost use Rattle.fm_gate.specs.Handling.{HandleLasts};
+ghost use Rattle.fm_gate.specs.HandleLaws.{HandleLasts};
 
 use crate::holding::take;
 use fm_base::{ArenaId, Refusal};
@@ -10,12 +10,12 @@ use std::sync::Wait;
 /// Takes another handle of an automatic arena of which the pass has one, wherever the pass stands.
 ///
 /// Refused: `TooManyHolds`. A refused call changes nothing. The arena is alive while the pass has a handle of it.
-pub fn again<R: Wait>(rt: &R, pool: &Pool, pass: &mut Pass, a: ArenaId) -> Result<(), Refusal>
-    requires { HasHandle pool.now pass.old a }
-    ensures { AfterAgain pool.now pass.old pass.new a result }
+pub fn again<R: Wait>(rt: &R, pool: &Pool, pass: &mut Pass, id: ArenaId) -> Result<(), Refusal>
+    requires { HasHandle pool.now pass.old id }
+    ensures { AfterAgain pool.now pass.old pass.new id result }
 {
-    let word = take(rt, pool, pass, a);
-    match alive_holds(a, word) {
+    let word = take(rt, pool, pass, id);
+    match alive_holds(id, word) {
         None => unreachable!(),
         Some(holds) => {
             if holds == MOST_HOLDS {

@@ -1,5 +1,5 @@
 ghost use Rattle.fm_gate.specs.Lasting.{HoldStands};
-ghost use Rattle.fm_gate.specs.Holding.{HoldsStand};
+ghost use Rattle.fm_gate.specs.HoldLaws.{HoldsStand};
 ghost use Rattle.fm_gate.specs.Crews.{CrewStands};
 
 /// A hold can be spent after any calls that leave the pass its holds, such as those of `fm_close`.

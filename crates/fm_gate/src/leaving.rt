@@ -1,4 +1,4 @@
-ghost use Rattle.fm_gate.specs.Standing.{CanLeave};
+ghost use Rattle.fm_gate.specs.Needs.{CanLeave};
 ghost use Rattle.fm_gate.specs.Learnt.{AfterLeave};
 
 use fm_rule::{Pass, Pool, step_unmark};

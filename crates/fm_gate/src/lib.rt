@@ -1,14 +1,24 @@
 //! The gate of a pool's arenas: a pass enters one, acts on its words, and leaves it, while others may close it.
 //!
-//! A pass publishes the arena in its mark, and only then looks whether the arena lives; it clears the mark after its
-//! last act. A closer shuts the arena, and only then looks at the marks. So at most one of the two can miss the other.
+//! **The problem.** A closer must not end an arena while a pass is inside, and no pass may come into one that has
+//! ended.
 //!
-//! The words of an arena stand in pages of the pool. An act finds its word by the map word of the word's part, which
-//! stands while the pass is inside; [`allocate`] sees to it that each part of a range has a page before it gives its bytes.
+//! **The reader's side.** [`enter`] publishes the arena in the pass's mark, and only then looks whether it lives;
+//! [`leave`] clears the mark after the last act. An act finds its word by the map word of the word's part; [`allocate`]
+//! sees to it that each part of a range has a page before it gives its bytes.
 //!
-//! No call takes memory. A call that takes a runtime may try again while other passes change the same word; the others
-//! wait for nobody. Where a call is refused the pass stands where it stood: outside, without a mark, but for [`again`],
-//! which may be called inside.
+//! **The closer's side** is `fm_close`: it shuts the arena, and only then looks at the marks.
+//!
+//! **Why it is safe.** Both write first and look second, so at most one of them can miss the other; and the entry of
+//! each call says which of the two it was. While a pass is inside, a map word that it has read stands. A [`Hold`] or a
+//! handle keeps the arena alive: who has one is never refused `Closed`.
+//!
+//! **What is not promised.** That an arena is still alive after [`is_alive`] was true, without a hold. That a call
+//! which takes a runtime returns: it tries again while other passes change the same word; the others wait for nobody.
+//! That nothing stays of an [`allocate`] that was refused with `PoolFull`: the arena may keep pages that it got.
+//!
+//! No call takes memory. Where a call is refused the pass stands where it stood: outside, without a mark, but for
+//! [`again`], which may be called inside.
 #![tactic(auto)]
 
 mod acting;
@@ -23,7 +33,6 @@ mod leaving;
 mod maker;
 mod opening;
 mod patching;
-mod usable;
 
 pub use acting::{add, load, store, swap_if};
 pub use alive::is_alive;
@@ -37,4 +46,3 @@ pub use leaving::leave;
 pub use maker::Maker;
 pub use opening::open_arena;
 pub use patching::patch;
-pub use usable::may_use;

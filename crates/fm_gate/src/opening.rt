@@ -5,7 +5,7 @@ ghost use Rattle.fm_rule_facts.specs.Hands.{nothing, taken};
 ghost use Rattle.fm_rule.specs.Passes.{IsOf};
 ghost use Rattle.fm_gate.specs.Learnt.{AfterOpen};
 ghost use Rattle.fm_gate.specs.Slots.{NoneTaken, OpenedIn, SlotTaken};
-ghost use Rattle.fm_gate.specs.Standing.{IsOutside};
+ghost use Rattle.fm_gate.specs.Needs.{IsOutside};
 
 use fm_base::{ArenaId, Kind, Refusal};
 use fm_rule::{Pass, Pool, step_generation, step_open, step_take_slot};
@@ -16,9 +16,9 @@ use std::sync::Wait;
 /// Opens an arena of this kind, alive, whose words are 0. Its name was never used before. An automatic arena has one
 /// handle, which is the pass's.
 ///
-/// Refused: `NoSlot`, only where no slot could be lent at a step of the call; a pass that is known to be whole, and has
-/// swept what it ended, gets it exactly where every slot has an arena that hasn't ended, or has had its last generation.
-/// Which of the slots it takes isn't promised.
+/// Refused: `NoSlot`, only where no slot could be taken at a step of the call; a pass that is known to be whole, and
+/// has swept what it ended, gets it exactly where every slot has an arena that hasn't ended, or has had its last
+/// generation. Which of the slots it takes isn't promised.
 pub fn open_arena<R: Wait>(
     rt: &R,
     pool: &Pool,

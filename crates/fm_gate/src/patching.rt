@@ -1,4 +1,4 @@
-ghost use Rattle.fm_gate.specs.Standing.{CanPatch};
+ghost use Rattle.fm_gate.specs.Needs.{CanPatch};
 ghost use Rattle.fm_gate.specs.Learnt.{AfterPatch};
 
 use fm_pages::place_of;

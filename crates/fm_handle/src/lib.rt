@@ -1,8 +1,11 @@
 //! Handles: accesses to the value that a path into a layout leads to (`VarHandle`, JEP 454, Java SE 22).
 //!
-//! A handle is made of a layout and a path, once, and then reads, puts and updates the value wherever the layout stands:
-//! a call takes a segment, a base, which is the layout's offset in it in bytes, and an index for each step that the
-//! path leaves open. Offsets are a sum over the indices; no call walks the layout or takes memory.
+//! **The problem.** Where a value stands follows from a layout, a path, and an index for each step that the path leaves
+//! open. Worked out by hand an offset goes wrong unseen; found anew at each access it costs a walk through the layout.
+//!
+//! **The idea.** A handle is made of a layout and a path, once, and then reads, puts and updates the value wherever the
+//! layout stands: a call takes a segment, a base, which is the layout's offset in it in bytes, and the indices. Offsets
+//! are a sum over the indices; no call walks the layout or takes memory.
 //!
 //! In Java, adding 100 to an amount in a table of accounts behind their count:
 //!
@@ -29,9 +32,13 @@
 //! A call asks for as many indices as the path leaves open, and for a value of the layout's kind: `takes` and `holds`
 //! stop where `resolved().dims().len()` and `resolved().value().kind` are others.
 //!
-//! `get` and `set` work on every value. The updates work where the value lies in one word: an int or a long whose
-//! alignment is at least its size. Those with a `long` in their names wait for nobody; the others take `rt`, since they
-//! try again where another caller came between.
+//! **Why it is safe.** The bytes touched are those of the place that following the path finds in the layout
+//! (`stands_at_its_path`), within the segment. An update changes the value in one step of one visit.
+//!
+//! **What is not promised.** That `get` and `set` of a value that crosses a word are one step: they go piece by piece.
+//! An update works where the value lies in one word alone: an int or a long whose alignment is at least its size. Those
+//! with a `long` in their names wait for nobody; the others take `rt`, since they try again where another caller came
+//! between.
 #![tactic(auto)]
 
 mod handle;

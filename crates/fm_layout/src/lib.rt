@@ -1,8 +1,11 @@
 //! Memory layouts, as trees that mean what Java's `MemoryLayout` means (JEP 454, Java SE 22).
 //!
-//! A layout says what stands where in a run of bytes: a value, padding, a sequence of one element, a struct of members
-//! one after the other, or a union of members that all stand at the start. It has a size and an alignment in bytes, and
-//! perhaps a name. Every layout is well formed: a constructor refuses what isn't.
+//! **The problem.** A value that stands where its alignment forbids it, or a size that wraps, is found out late: at an
+//! access that is far from where the layout was made.
+//!
+//! **The idea.** A layout says what stands where in a run of bytes: a value, padding, a sequence of one element, a
+//! struct of members one after the other, or a union of members that all stand at the start. It has a size and an
+//! alignment in bytes, and perhaps a name.
 //!
 //! A record of 24 bytes, an id, a kind, a price and four tags:
 //!
@@ -25,8 +28,12 @@
 //!
 //! (`record.rt` of `fm_layout_tests` has these lines; what a `vec!` hands back in its error is no `Refusal`.)
 //!
-//! No padding is put in by itself: without the 2 bytes of padding `structure` answers that member 2 would stand at
-//! offset 6, which is no multiple of its alignment.
+//! **Why it is safe.** Every layout is well formed: a constructor refuses what isn't, by the first rule that is broken.
+//! So who has a layout asks nothing of it any more.
+//!
+//! **What is not promised.** Padding that is put in by itself: without the 2 bytes of padding `structure` answers that
+//! member 2 would stand at offset 6, which is no multiple of its alignment. Any depth: dropping, copying and comparing
+//! go down the tree by recursion, and how many levels fit depends on the stack.
 #![tactic(auto)]
 
 mod form;

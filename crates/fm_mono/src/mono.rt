@@ -85,25 +85,25 @@ impl Mono {
         arena.words[first..first + words.len()].copy_from_slice(words);
     }
 
-    fn is_alive(&self, a: ArenaId) -> bool
-        requires { CanVisit (view_of self.now) a }
-        ensures life { (arena_of self.now.state a).life ≡ (if result then Alive else Ended) }
-        ensures can { CanEnter self.now a }
+    fn is_alive(&self, id: ArenaId) -> bool
+        requires { CanVisit (view_of self.now) id }
+        ensures life { (arena_of self.now.state id).life ≡ (if result then Alive else Ended) }
+        ensures can { CanEnter self.now id }
         ensures small { self.now.limit ≤ 2 ^ 40 }
     {
-        self.arenas[a.slot as usize].is_alive
+        self.arenas[id.slot as usize].is_alive
     }
 
-    fn come_in(&mut self, a: ArenaId)
+    fn come_in(&mut self, id: ArenaId)
         requires outside { self.old.inside ≡ None }
-        requires known { has_arena self.old.state a ≡ true }
-        requires alive { (arena_of self.old.state a).life ≡ Alive }
+        requires known { has_arena self.old.state id ≡ true }
+        requires alive { (arena_of self.old.state id).life ≡ Alive }
         ensures { self.new ≡ record self.old {
-          state = changed self.old.state a (entered only_caller);
-          inside = Some a;
+          state = changed self.old.state id (entered only_caller);
+          inside = Some id;
         } }
     {
-        self.current = a.slot as usize;
+        self.current = id.slot as usize;
         self.is_inside = true;
     }
 

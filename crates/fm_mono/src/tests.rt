@@ -16,22 +16,22 @@ fn open<R: Abort + Wait>(rt: &R, m: &mut Mono, kind: Kind) -> ArenaId
 }
 
 /// Allocates, and says what became of it.
-fn give<R: Wait>(rt: &R, m: &mut Mono, a: ArenaId, size: u64, align: u64) -> Result<u64, Refusal>
+fn give<R: Wait>(rt: &R, m: &mut Mono, id: ArenaId, size: u64, align: u64) -> Result<u64, Refusal>
     requires outside { m.old.inside ≡ None }
-    requires known { IsKnown m.old a }
+    requires known { IsKnown m.old id }
     ensures outside { m.new.inside ≡ None }
-    ensures known { IsKnown m.new a }
+    ensures known { IsKnown m.new id }
 {
-    m.allocate(rt, a, size, align)
+    m.allocate(rt, id, size, align)
 }
 
-fn end<R: Wait>(rt: &R, m: &mut Mono, a: ArenaId) -> Result<(), Refusal>
+fn end<R: Wait>(rt: &R, m: &mut Mono, id: ArenaId) -> Result<(), Refusal>
     requires outside { m.old.inside ≡ None }
-    requires known { IsKnown m.old a }
+    requires known { IsKnown m.old id }
     ensures outside { m.new.inside ≡ None }
-    ensures known { IsKnown m.new a }
+    ensures known { IsKnown m.new id }
 {
-    m.close(rt, a)
+    m.close(rt, id)
 }
 
 #[test]

@@ -20,14 +20,6 @@ clear_still v seen finds reads = go v.whole (is_empty (slots_in v.hand)) (is_emp
     go true false c d e h = absurd (cc)
     go false b c d e h = absurd (cc)
 
--- it is known to be whole
-pub whole_clear : (v : View) → is_clear v ≡ true → v.whole ≡ true
-whole_clear v = go v.whole (is_empty (slots_in v.hand)) (is_empty v.pages) (is_empty v.closes) (is_empty v.sweeps)
-  where
-    go : (a b c d e : Bool) → (a && b && c && d && e) ≡ true → a ≡ true
-    go true b c d e h = refl
-    go false b c d e h = h
-
 -- nobody made an entry while it made none, if it is known to be whole
 pub still_seen : {p q : View} → Goes p q [] → p.whole ≡ true → q.seen ≡ p.seen
 still_seen {p = p} g w = g.seen ∙ (ap (λ (es : List Entry). p.seen ++ es) (g.alone w) ∙ append-nil p.seen)

@@ -15,7 +15,7 @@ use Rattle.fm_base.proofs.Growing.{given_is}
 use Rattle.fm_base.proofs.Lookup.{lookup_changed}
 use Rattle.fm_base.proofs.Making.{IsLegal-split, state_after-append}
 use Rattle.fm_base.proofs.Placing.{there_by_way}
-use Rattle.fm_rule_facts.specs.Loans.{Loan, lent, loans_after, HasPart, IsRightlyLent}
+use Rattle.fm_rule_facts.specs.Loans.{Loan, loans_of, loans_after, HasPart, IsRightlyLent}
 use Rattle.fm_rule_facts.specs.Scarcity.{IsScarce, has_part, lacking, parts_before, end_of}
 use Rattle.fm_rule_facts.specs.Steps.{is_clear, where_found}
 use Rattle.fm_rule_facts.specs.Views.{View, IsSound, given_of, limit_of, state_in, unlent}
@@ -26,7 +26,7 @@ use Rattle.fm_rule_calls.proofs.UnderWay.{stands_under_way}
 use Rattle.fm_pages.specs.Covers.{LendsIn, Lacks}
 use Rattle.fm_pages.specs.Gives.{allocates}
 use Rattle.fm_pages.specs.Maps.{Way}
-use Rattle.fm_pages.proofs.Clear.{whole_clear}
+use Rattle.fm_rule_steps.proofs.Claiming.{whole_clear}
 
 -- ---- parts of a range
 
@@ -68,25 +68,25 @@ still_by limit n a s (e ∷ es) h =
 
 -- as many blocks fewer aren't lent as parts of the range have one more, by entries that lend
 even_by : (v : View) (a : ArenaId) (from to : ℕ) (es : List Entry) → 0 < v.shape.page_words → IsRightlyLent v.shape.page_words (limit_of v.shape) (v.seen ++ es)
-    → ((l : Loan) → Contains (lent (v.seen ++ es)) l → l.block < v.shape.pages) → All (LendsIn v a from to) es
-    → unlent v.shape.pages (lent v.seen) + lacking (parts_before v.shape to) (lent (v.seen ++ es)) a
-    ≡ unlent v.shape.pages (lent (v.seen ++ es)) + lacking (parts_before v.shape to) (lent v.seen) a
+    → ((l : Loan) → Contains (loans_of (v.seen ++ es)) l → l.block < v.shape.pages) → All (LendsIn v a from to) es
+    → unlent v.shape.pages (loans_of v.seen) + lacking (parts_before v.shape to) (loans_of (v.seen ++ es)) a
+    ≡ unlent v.shape.pages (loans_of (v.seen ++ es)) + lacking (parts_before v.shape to) (loans_of v.seen) a
 even_by v a from to es some right low h =
     let n : ℕ = parts_before v.shape to in
     let limit : ℕ = limit_of v.shape in
-    let is : loans_after (lent v.seen) es ≡ lent (v.seen ++ es) = sym (loans_after-append [] v.seen es) in
-    let e = lends_even v.shape.page_words limit v.shape.pages n a (state_in v) (lent v.seen) es
+    let is : loans_after (loans_of v.seen) es ≡ loans_of (v.seen ++ es) = sym (loans_after-append [] v.seen es) in
+    let e = lends_even v.shape.page_words limit v.shape.pages n a (state_in v) (loans_of v.seen) es
     (lent-split v.shape.page_words limit [] [] v.seen es right) (lends_first v a from to some es h)
     (λ l c. low l (subst (λ (ls : List Loan). Contains ls l) is c)) in
-    subst (λ (ls : List Loan). unlent v.shape.pages (lent v.seen) + lacking n ls a ≡ unlent v.shape.pages ls + lacking n (lent v.seen) a) is e
+    subst (λ (ls : List Loan). unlent v.shape.pages (loans_of v.seen) + lacking n ls a ≡ unlent v.shape.pages ls + lacking n (loans_of v.seen) a) is e
 
 -- what is sound in the shape that was
 right_in : (z : Shape) (q : View) (es : List Entry) → q.shape ≡ z → q.seen ≡ es → IsSound q → IsRightlyLent z.page_words (limit_of z) es
 right_in z q es shape seen sound = subst (λ (x : Shape × List Entry). IsRightlyLent x.0.page_words (limit_of x.0) x.1) (λ j. (shape j, seen j)) sound.lent
 
-low_in : (z : Shape) (q : View) (es : List Entry) → q.shape ≡ z → q.seen ≡ es → IsSound q → (l : Loan) → Contains (lent es) l → l.block < z.pages
+low_in : (z : Shape) (q : View) (es : List Entry) → q.shape ≡ z → q.seen ≡ es → IsSound q → (l : Loan) → Contains (loans_of es) l → l.block < z.pages
 low_in z q es shape seen sound l c =
-    subst (λ (y : Shape). l.block < y.pages) shape (sound.loans l (subst (λ (xs : List Entry). Contains (lent xs) l) (sym seen) c)).0
+    subst (λ (y : Shape). l.block < y.pages) shape (sound.loans l (subst (λ (xs : List Entry). Contains (loans_of xs) l) (sym seen) c)).0
 
 -- ---- no page is left
 
@@ -104,14 +104,14 @@ unpaged_exact {p = p} {m = m} a count size align own fits are w lacks clear is =
     let low = low_in p.shape m (p.seen ++ own) shape seen w.goes.sound in
     let even = even_by p a count to own some right low are in
     let none = lacks.none.exact clear in
-    let all : unlent p.shape.pages (lent (p.seen ++ own)) ≡ 0 = subst (λ (es : List Entry). unlent p.shape.pages (lent es) ≡ 0) seen none.all_lent in
-    let bare : ¬ (HasPart (lent (p.seen ++ own)) a lacks.part) = subst (λ (es : List Entry). ¬ (HasPart (lent es) a lacks.part)) seen none.lacks in
-    let one = some_lacking n lacks.part (lent (p.seen ++ own)) a (part_first p.shape lacks.part to some lacks.high)
-    (has_part_not (lent (p.seen ++ own)) a lacks.part bare) in
+    let all : unlent p.shape.pages (loans_of (p.seen ++ own)) ≡ 0 = subst (λ (es : List Entry). unlent p.shape.pages (loans_of es) ≡ 0) seen none.all_lent in
+    let bare : ¬ (HasPart (loans_of (p.seen ++ own)) a lacks.part) = subst (λ (es : List Entry). ¬ (HasPart (loans_of es) a lacks.part)) seen none.lacks in
+    let one = some_lacking n lacks.part (loans_of (p.seen ++ own)) a (part_first p.shape lacks.part to some lacks.high)
+    (has_part_not (loans_of (p.seen ++ own)) a lacks.part bare) in
     let end : to ≡ end_of p a size align = ap (λ (g : ℕ). rounded_up g align + size) is in
     record {
       fits = subst (λ (x : ℕ). x ≤ limit_of p.shape) end fits;
-      few = subst (λ (x : ℕ). unlent p.shape.pages (lent p.seen) < lacking (parts_before p.shape x) (lent p.seen) a) end (omega arith);
+      few = subst (λ (x : ℕ). unlent p.shape.pages (loans_of p.seen) < lacking (parts_before p.shape x) (loans_of p.seen) a) end (omega arith);
     }
 
 -- ---- bytes are given
@@ -179,7 +179,7 @@ module _ {p q : View} (a : ArenaId) (count size align found : ℕ) (lends : List
       (there_by_way (state_in p) p.caller a last.0.0) reply_is
 
   -- so each part of it is lent
-  each : (i : ℕ) → i < parts_before p.shape (end_of p a size align) → has_part (lent q.seen) a i ≡ true
+  each : (i : ℕ) → i < parts_before p.shape (end_of p a size align) → has_part (loans_of q.seen) a i ≡ true
   each i low =
       let size_is : p.shape.page_words ≡ q.shape.page_words = ap (λ (z : Shape). z.page_words) (sym w.goes.same_shape) in
       let words : ℕ = p.shape.page_words in
@@ -188,22 +188,22 @@ module _ {p q : View} (a : ArenaId) (count size align found : ℕ) (lends : List
       let byte : 8 * (i * words) < given_of q a = subst (λ (x : ℕ). 8 * (i * words) < x) (sym given_now) (omega arith) in
       let stands = stands_under_way (limit_of q.shape) q.seen w.goes.sound.legal q.caller a (w.goes.sound.inside a ins) in
       let its : i * words / q.shape.page_words ≡ i = ap (λ (x : ℕ). i * words / x) (sym size_is) ∙ mul-div_cancel i some in
-      has_part_of (lent q.seen) a i (subst (HasPart (lent q.seen) a) its (w.goes.sound.covered a (i * words) stands byte))
+      has_part_of (loans_of q.seen) a i (subst (HasPart (loans_of q.seen) a) its (w.goes.sound.covered a (i * words) stands byte))
 
   -- Where a pass that is known to be whole gave bytes, pages weren't too few.
-  pub gives_enough : lacking (parts_before p.shape (end_of p a size align)) (lent p.seen) a ≤ unlent p.shape.pages (lent p.seen)
+  pub gives_enough : lacking (parts_before p.shape (end_of p a size align)) (loans_of p.seen) a ≤ unlent p.shape.pages (loans_of p.seen)
   gives_enough =
       let n : ℕ = parts_before p.shape (end_of p a size align) in
-      let loans : lent q.seen ≡ lent (p.seen ++ lends) =
-      ap lent (seen ∙ sym (append_assoc p.seen lends (entry ∷ []))) ∙ loans_after-append [] (p.seen ++ lends) (entry ∷ []) in
+      let loans : loans_of q.seen ≡ loans_of (p.seen ++ lends) =
+      ap loans_of (seen ∙ sym (append_assoc p.seen lends (entry ∷ []))) ∙ loans_after-append [] (p.seen ++ lends) (entry ∷ []) in
       let end : rounded_up count align + size ≡ end_of p a size align = ap (λ (x : ℕ). x + size) (sym place_is) in
       let right = lent-first p.shape.page_words limit [] [] (p.seen ++ lends) (entry ∷ [])
       (right_in p.shape q ((p.seen ++ lends) ++ entry ∷ []) w.goes.same_shape (seen ∙ sym (append_assoc p.seen lends (entry ∷ []))) w.goes.sound) in
-      let low : (l : Loan) → Contains (lent (p.seen ++ lends)) l → l.block < p.shape.pages =
+      let low : (l : Loan) → Contains (loans_of (p.seen ++ lends)) l → l.block < p.shape.pages =
       (λ l c. low_in p.shape q q.seen w.goes.same_shape refl w.goes.sound l (subst (λ (ls : List Loan). Contains ls l) (sym loans) c)) in
       let even = even_by p a count (end_of p a size align) lends some right low (subst (λ (x : ℕ). All (LendsIn p a count x) lends) end are) in
-      let none : lacking n (lent (p.seen ++ lends)) a ≡ 0 =
-      subst (λ (ls : List Loan). lacking n ls a ≡ 0) loans (none_lacking n (lent q.seen) a each) in
+      let none : lacking n (loans_of (p.seen ++ lends)) a ≡ 0 =
+      subst (λ (ls : List Loan). lacking n ls a ≡ 0) loans (none_lacking n (loans_of q.seen) a each) in
       omega arith
 
 pub tried_exact : {p q : View} (a : ArenaId) (count size align found : ℕ) (lends : List Entry)

@@ -13,7 +13,7 @@ use Rattle.fm_rule_facts.specs.Parts.{Mapping, mapping_of, reads_after}
 use Rattle.fm_rule_facts.specs.Views.{View, In, IsSound, given_of, limit_of, state_in}
 use Rattle.fm_rule_facts.specs.Moves.{LearnsMap}
 use Rattle.fm_rule_facts.specs.Steps.{Stepped, CanReach, HasPlace, HasParts, none_noted}
-use Rattle.fm_rule_facts.specs.Loans.{HasPart, lent, loan_of}
+use Rattle.fm_rule_facts.specs.Loans.{HasPart, loans_of, loan_of}
 use Rattle.fm_base.proofs.Placing.{there_by_way}
 use Rattle.fm_rule_calls.proofs.Lent.{part_on}
 use Rattle.fm_rule_calls.proofs.UnderWay.{stands_under_way}
@@ -21,11 +21,11 @@ use Rattle.std.specs.Prelude.{Contains}
 use Rattle.fm_pages.specs.Places.{CanFind, Placed}
 
 -- the part of a word that can be found is lent
-find_part : (v : View) (word : ℕ) → IsSound v → (can : CanFind v word) → HasPart (lent v.seen) can.id (word / v.shape.page_words)
+find_part : (v : View) (word : ℕ) → IsSound v → (can : CanFind v word) → HasPart (loans_of v.seen) can.id (word / v.shape.page_words)
 find_part v word s can = ⊎_elim
     (λ (given : 8 * word < given_of v can.id).
     s.covered can.id word (stands_under_way (limit_of v.shape) v.seen s.legal v.caller can.id (s.inside can.id can.inside)) given)
-    (λ (h : HasPart (lent v.seen) can.id (word / v.shape.page_words)). h)
+    (λ (h : HasPart (loans_of v.seen) can.id (word / v.shape.page_words)). h)
     can.part
 
 -- and one that arenas have
@@ -70,8 +70,8 @@ module _ (v w : View) (word x : ℕ) (a : ArenaId) (sound : IsSound v) (can : Ca
   mapped =
       let same : can.id ≡ a = (let q : Some can.id ≡ Some a = sym can.inside ∙ ins in cc) in
       let seen : w.seen ≡ v.seen ++ (s.others ++ []) = s.seen ∙ append_assoc v.seen s.others [] in
-      let h : HasPart (lent v.seen) a (word / v.shape.page_words) =
-      subst (λ (b : ArenaId). HasPart (lent v.seen) b (word / v.shape.page_words)) same (find_part v word sound can) in
+      let h : HasPart (loans_of v.seen) a (word / v.shape.page_words) =
+      subst (λ (b : ArenaId). HasPart (loans_of v.seen) b (word / v.shape.page_words)) same (find_part v word sound can) in
       let now = part_on v w (s.others ++ []) seen (ap (λ (u : View). u.shape) s.is_part) s.sound a
       (there_by_way (state_in v) v.caller a (sound.inside a ins)) inside_now (word / v.shape.page_words) h in
       let m : x ≢ 0 = (λ e. l.none e now) in omega arith
@@ -96,7 +96,7 @@ module _ (v w : View) (word x : ℕ) (a : ArenaId) (sound : IsSound v) (can : Ca
         };
         lent_so = λ id q.
             let same : a ≡ id = (let e : Some a ≡ Some id = sym ins ∙ q in cc) in
-            subst (λ (b : ArenaId × Shape). Contains (lent w.seen) (loan_of (x - 1) b.0 (word / b.1.page_words))) (λ j. (same j, sym shape j))
+            subst (λ (b : ArenaId × Shape). Contains (loans_of w.seen) (loan_of (x - 1) b.0 (word / b.1.page_words))) (λ j. (same j, sym shape j))
             (s.sound.reads a (mapping_of i (x - 1)) inside_now read);
         reach = λ c. reach_on v w word (reads_after i x v.reads) c s;
         by = inr (reads_after i x v.reads, s);

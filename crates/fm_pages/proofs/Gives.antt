@@ -37,31 +37,6 @@ Exchanges p q count size align found =
     Stepped p q p
     (where_found (found == count) (acted p.inside p.caller (λ b. Allocate b size align) (allocate_reply (limit_of p.shape) count size align))) none_noted
 
-pub way_allocate : {p q : View} (a : ArenaId) (count size align found : ℕ) → p.inside ≡ Some a → p.pages ≡ [] → Exchanges p q count size align found
-    → Way p q (allocates p a count size align found) []
-way_allocate {p = p} {q = q} a count size align found ins none s =
-    let reply : Reply = allocate_reply (limit_of p.shape) count size align in
-    let t : Stepped p q p (allocates p a count size align found) none_noted =
-    subst (λ (i : Option ArenaId). Stepped p q p (where_found (found == count) (acted i p.caller (λ b. Allocate b size align) reply)) none_noted) ins s in
-    record {
-      goes = goes_of t (record {
-        shape = refl;
-        home = refl;
-        caller = refl;
-        gathered = refl;
-        whole = refl;
-        number = refl;
-        inside = inside_same (found == count) p.inside p.caller a size align reply;
-      }) (made_same (found == count) p.caller a size align reply) no_draws;
-      is = t.is_part ∙ (λ j. record p {
-        seen = q.seen;
-        finds = sym (ap (λ (v : View). v.finds) t.is_part) j;
-        reads = sym (ap (λ (v : View). v.reads) t.is_part) j;
-        pages = none j;
-      });
-      keeps = λ m k. subst (λ (ms : List Mapping). In m ms) (sym (ap (λ (v : View). v.reads) t.is_part)) k;
-    }
-
 -- ---- what room says
 
 pub room_some : (limit count size align place : ℕ) → Some place ≡ room limit count size align
@@ -82,16 +57,43 @@ room_none limit count size align e l = go (nat_le (rounded_up count align + size
 
 -- ---- a try
 
-pub tried_past : {p q : View} (a : ArenaId) (count size align found : ℕ) → p.inside ≡ Some a → p.pages ≡ [] → Exchanges p q count size align found
-    → (found ≢ count → found ≡ given_of q a) → Tried p q a count size align found
-tried_past {p = p} a count size align found ins none s l = record {
-  lends = [];
-  are = All-nil (LendsIn p a count (rounded_up count align + size));
-  way = way_allocate a count size align found ins none s;
-  learnt = l;
-  exact = tried_exact a count size align found [] (All-nil (LendsIn p a count (rounded_up count align + size)))
-      (way_allocate a count size align found ins none s) (ap (λ (v : View). v.inside) s.is_part ∙ ins);
-}
+module _ {p q : View} (a : ArenaId) (count size align found : ℕ) (ins : p.inside ≡ Some a) (none : p.pages ≡ [])
+    (s : Exchanges p q count size align found) where
+  -- The exchange as the pass's way.
+  pub way_allocate : Way p q (allocates p a count size align found) []
+  way_allocate =
+      let reply : Reply = allocate_reply (limit_of p.shape) count size align in
+      let t : Stepped p q p (allocates p a count size align found) none_noted =
+      subst (λ (i : Option ArenaId). Stepped p q p (where_found (found == count) (acted i p.caller (λ b. Allocate b size align) reply)) none_noted) ins s in
+      record {
+        goes = goes_of t (record {
+          shape = refl;
+          home = refl;
+          caller = refl;
+          gathered = refl;
+          whole = refl;
+          number = refl;
+          inside = inside_same (found == count) p.inside p.caller a size align reply;
+        }) (made_same (found == count) p.caller a size align reply) no_draws;
+        is = t.is_part ∙ (λ j. record p {
+          seen = q.seen;
+          finds = sym (ap (λ (v : View). v.finds) t.is_part) j;
+          reads = sym (ap (λ (v : View). v.reads) t.is_part) j;
+          pages = none j;
+        });
+        keeps = λ m k. subst (λ (ms : List Mapping). In m ms) (sym (ap (λ (v : View). v.reads) t.is_part)) k;
+      }
+
+  -- It is a try that lends nothing.
+  pub tried_past : (found ≢ count → found ≡ given_of q a) → Tried p q a count size align found
+  tried_past l = record {
+    lends = [];
+    are = All-nil (LendsIn p a count (rounded_up count align + size));
+    way = way_allocate;
+    learnt = l;
+    exact = tried_exact a count size align found [] (All-nil (LendsIn p a count (rounded_up count align + size)))
+        (way_allocate) (ap (λ (v : View). v.inside) s.is_part ∙ ins);
+  }
 
 pub tried_covered : {p m q : View} (a : ArenaId) (count size align found : ℕ) → p.inside ≡ Some a
     → Covered p m a count (rounded_up count align + size) true → Exchanges m q count size align found

@@ -8,7 +8,7 @@ use Rattle.fm_words.specs.declared.shape.Shape.{Shape}
 use Rattle.fm_words.specs.Places.{page_groups}
 use Rattle.fm_base.specs.Calls.{Entry}
 use Rattle.fm_base.specs.Finds.{Find, TakesPage}
-use Rattle.fm_rule_facts.specs.Loans.{lent}
+use Rattle.fm_rule_facts.specs.Loans.{loans_of}
 use Rattle.fm_rule_facts.specs.Views.{View, In, FewLeft, unlent_in}
 use Rattle.fm_rule_facts.specs.Steps.{is_clear}
 use Rattle.fm_rule_facts.proofs.Groups.{none_in_all}
@@ -18,8 +18,9 @@ use Rattle.fm_rule.specs.Passes.{IsOf}
 use Rattle.fm_rule.proofs.Seeking.{takes_zero}
 use Rattle.fm_rule_calls.specs.Kept.{Goes}
 use Rattle.fm_pages.specs.Claims.{Went, FoundEmpty, AllFoundEmpty, NoneClaimed}
-use Rattle.fm_pages.proofs.Clear.{begins_all, still_seen, whole_clear}
+use Rattle.fm_pages.proofs.Clear.{begins_all, still_seen}
 use Rattle.fm_pages.proofs.Bids.{Bidding, Takes, bids_begin, bids_clear, bids_go_on, bids_shape, took, went_on}
+use Rattle.fm_rule_steps.proofs.Claiming.{whole_clear}
 
 -- ---- a find of a part of a way is one of the whole way
 
@@ -84,7 +85,7 @@ pub record Looking (pool : Pool) (o p : View) (many : ℕ) : Type 0 where
   pub went : 0 < many → Went o p []
   pub each : (group : ℕ) → group < many → FoundEmpty o p group
   -- where the pass was clear, no page of these words is left
-  pub none : is_clear o ≡ true → (group : ℕ) → group < many → unlent_in p.shape group (lent p.seen) ≡ 0
+  pub none : is_clear o ≡ true → (group : ℕ) → group < many → unlent_in p.shape group (loans_of p.seen) ≡ 0
 
 pub looks_begin : {pool : Pool} {p : View} → IsOf pool p → p.pages ≡ [] → Looking pool p p 0
 looks_begin o h = record {
@@ -131,15 +132,15 @@ module _ {pool : Pool} {o p q : View} {many : ℕ} (found : ℕ) (y : Looking po
         (λ (w : Went o p []). found_earlier w.goes found_here)
         y.bids.went
 
-    none_here : is_clear p ≡ true → unlent_in q.shape many (lent q.seen) ≡ 0
+    none_here : is_clear p ≡ true → unlent_in q.shape many (loans_of q.seen) ≡ 0
     none_here c =
         let all : left.before ≡ q.seen = begins_all left.before q.seen left.begins (left.long ∙ sym long) in
-        subst (λ (es : List Entry). unlent_in q.shape many (lent es) ≡ 0) all (left.none c)
+        subst (λ (es : List Entry). unlent_in q.shape many (loans_of es) ≡ 0) all (left.none c)
 
-    none_before : is_clear o ≡ true → (group : ℕ) → group < many → unlent_in q.shape group (lent q.seen) ≡ 0
+    none_before : is_clear o ≡ true → (group : ℕ) → group < many → unlent_in q.shape group (loans_of q.seen) ≡ 0
     none_before c group low =
         let seen = still_seen looked.goes (whole_clear p (bids_clear y.bids c)) in
-        subst (λ (x : Shape × List Entry). unlent_in x.0 group (lent x.1) ≡ 0) (λ j. (sym looked.goes.same_shape j, sym seen j)) (y.none c group low)
+        subst (λ (x : Shape × List Entry). unlent_in x.0 group (loans_of x.1) ≡ 0) (λ j. (sym looked.goes.same_shape j, sym seen j)) (y.none c group low)
 
     -- this word was 0 too
     pub looks_on : Looking pool o q (many + 1)
@@ -150,7 +151,7 @@ module _ {pool : Pool} {o p q : View} {many : ℕ} (found : ℕ) (y : Looking po
           (λ e. subst (λ (n : ℕ). FoundEmpty o q n) (sym e) from_first)
           (λ ne. found_later (y.each group (omega arith)) looked.goes);
       none = λ c group low. dite (ℕ_discrete group many)
-          (λ e. subst (λ (n : ℕ). unlent_in q.shape n (lent q.seen) ≡ 0) (sym e) (none_here (bids_clear y.bids c)))
+          (λ e. subst (λ (n : ℕ). unlent_in q.shape n (loans_of q.seen) ≡ 0) (sym e) (none_here (bids_clear y.bids c)))
           (λ ne. none_before c group (omega arith));
     }
 
@@ -162,7 +163,7 @@ looks_all {o = o} {p = p} {many = many} y some all =
     record {
       went = y.went some;
       found = λ group low. y.each group (omega arith);
-      all_lent = λ c. none_in_all p.shape (lent p.seen) (λ group low. y.none c group (omega arith));
+      all_lent = λ c. none_in_all p.shape (loans_of p.seen) (λ group low. y.none c group (omega arith));
     }
 
 -- after tries that took nothing

@@ -5,7 +5,7 @@ use Rattle.fm_base.specs.declared.caller.Caller.{Caller}
 use Rattle.fm_base.specs.declared.arena_id.ArenaId.{ArenaId}
 use Rattle.fm_base.specs.Calls.{Entry, Lend, Fine, entry_of}
 use Rattle.fm_base.specs.Histories.{made_by}
-use Rattle.fm_rule_facts.specs.Loans.{HasPart, lent}
+use Rattle.fm_rule_facts.specs.Loans.{HasPart, loans_of}
 use Rattle.fm_rule_facts.specs.Parts.{mapping_of, reads_after}
 use Rattle.fm_rule_facts.specs.Views.{View, unlent}
 use Rattle.fm_rule_facts.specs.Moves.{LearnsMap}
@@ -17,9 +17,10 @@ use Rattle.fm_base.specs.declared.refusal.Refusal.TheVariants as refusal
 use Rattle.fm_pages.specs.Claims.{ClaimOutcome}
 use Rattle.fm_pages.specs.Maps.{PageMapped, PartTaken}
 use Rattle.fm_pages.specs.Provides.{Provided}
-use Rattle.fm_pages.proofs.Clear.{still_seen, whole_clear}
+use Rattle.fm_pages.proofs.Clear.{still_seen}
 use Rattle.fm_pages.proofs.Looking.{all_earlier}
 use Rattle.fm_pages.proofs.Parts.{way_then, way_went, way_read, read_there, clear_way}
+use Rattle.fm_rule_steps.proofs.Claiming.{whole_clear}
 
 -- `claim` is refused with nothing else
 pub refused : {q r : View} (f : Refusal) → ClaimOutcome q r (Err f) → NoneClaimed q r
@@ -52,8 +53,8 @@ none_free {p = p} {q = q} {r = r} a i x zero none s l c =
         exact = λ h.
             let now = clear_way v h in
             let shape : r.shape ≡ p.shape = c.went.goes.same_shape ∙ v.goes.same_shape in record {
-              all_lent = subst (λ (z : Shape). unlent z.pages (lent r.seen) ≡ 0) shape (c.all_lent now);
-              lacks = subst (λ (es : List Entry). ¬ (HasPart (lent es) a i)) (sym (still_seen c.went.goes (whole_clear q now))) (l.none zero);
+              all_lent = subst (λ (z : Shape). unlent z.pages (loans_of r.seen) ≡ 0) shape (c.all_lent now);
+              lacks = subst (λ (es : List Entry). ¬ (HasPart (loans_of es) a i)) (sym (still_seen c.went.goes (whole_clear q now))) (l.none zero);
             };
       };
     }

@@ -7,7 +7,7 @@ use Rattle.fm_base.specs.declared.caller.Caller.{Caller}
 use Rattle.fm_base.specs.declared.arena_id.ArenaId.{ArenaId}
 use Rattle.fm_base.specs.Calls.{Entry, Lend, Fine, entry_of}
 use Rattle.fm_base.specs.Histories.{made_by}
-use Rattle.fm_rule_facts.specs.Loans.{lent}
+use Rattle.fm_rule_facts.specs.Loans.{loans_of}
 use Rattle.fm_rule_facts.specs.Parts.{mapping_of}
 use Rattle.fm_rule_facts.specs.Views.{View, In, IsSound, limit_of, unlent}
 use Rattle.fm_rule_calls.proofs.Going.{goes_none}
@@ -46,21 +46,6 @@ module _ {v m r : View} {a : ArenaId} {from to n : ℕ} (b : Bool) (c : Covering
   pub whole_way : Way v r (c.own ++ t.own) []
   whole_way = way_then c.way t.way
 
-pub covering_more : {v m r : View} {a : ArenaId} {from to n : ℕ} → Covering v m a from to n → from / page_bytes v ≤ n → n * page_bytes v < to
-    → Provided m r a n true → Covering v r a from to (n + 1)
-covering_more {v = v} {m = m} {r = r} {a = a} {from = from} {to = to} {n = n} c low high t = record {
-  own = c.own ++ t.own;
-  lends = all_lends true c low high t;
-  way = whole_way true c low high t;
-  each = λ i l h. one_of i l h (i == n) refl;
-}
-  where
-    one_of : (i : ℕ) → from / page_bytes v ≤ i → i < n + 1 → (b : Bool) → (i == n) ≡ b → (page : ℕ) × In (mapping_of i page) r.reads
-    one_of i l h true e = (t.outcome.0, subst (λ (k : ℕ). In (mapping_of k t.outcome.0) r.reads) (sym (eqb_true i n e)) t.outcome.1)
-    one_of i l h false e =
-        let d : i ≢ n = eqb_false i n e in
-        let had = c.each i l (omega arith) in (had.0, t.way.keeps (mapping_of i had.0) had.1)
-
 pub covering_all : {v r : View} {a : ArenaId} {from to n : ℕ} → Covering v r a from to n → IsSound v → to ≤ n * page_bytes v → Covered v r a from to true
 covering_all {v = v} {r = r} {a = a} {from = from} {to = to} {n = n} c sound all =
     let shape : r.shape ≡ v.shape = c.way.goes.same_shape in
@@ -78,37 +63,54 @@ covering_all {v = v} {r = r} {a = a} {from = from} {to = to} {n = n} c sound all
     below : (i : ℕ) → i * page_bytes v < to → i < n
     below i h = lt_of_not-le (λ (le : n ≤ i). let k : n * page_bytes v ≤ i * page_bytes v = mul-le-mul_right (page_bytes v) le in absurd (omega arith))
 
-pub covering_lacks : {v m r : View} {a : ArenaId} {from to n : ℕ} → Covering v m a from to n → from / page_bytes v ≤ n → n * page_bytes v < to
-    → Provided m r a n false → Covered v r a from to false
-covering_lacks {v = v} {m = m} {r = r} {a = a} {from = from} {to = to} {n = n} c low high t =
-    let o = t.outcome in
-    record {
-      own = c.own ++ t.own;
-      lends = all_lends false c low high t;
-      way = whole_way false c low high t;
-      outcome = record {
-        part = n;
-        low = low;
-        high = high;
-        none = record {
-          found = all_earlier c.way.goes o.found;
-          before = o.before;
-          later = o.later;
-          since = (
-            c.way.goes.more ++ o.since.0,
-            o.since.1 ∙ (ap (λ (es : List Entry). es ++ o.since.0) c.way.goes.seen
-                ∙ append_assoc v.seen c.way.goes.more o.since.0),
-          );
-          seen = o.seen;
-          quiet = ap (λ (k : Caller). made_by k o.later) (sym c.way.goes.same_caller) ∙ o.quiet;
-          lacked = o.lacked;
-          exact = λ h. let e = o.exact (clear_way c.way h) in record {
-            all_lent = subst (λ (z : Shape). unlent z.pages (lent r.seen) ≡ 0) c.way.goes.same_shape e.all_lent;
-            lacks = e.lacks;
+-- The parts before n have pages, and n is one of the range.
+module _ {v m r : View} {a : ArenaId} {from to n : ℕ} (c : Covering v m a from to n) (low : from / page_bytes v ≤ n) (high : n * page_bytes v < to) where
+  -- It gets one.
+  pub covering_more : Provided m r a n true → Covering v r a from to (n + 1)
+  covering_more t = record {
+    own = c.own ++ t.own;
+    lends = all_lends true c low high t;
+    way = whole_way true c low high t;
+    each = λ i l h. one_of i l h (i == n) refl;
+  }
+    where
+      one_of : (i : ℕ) → from / page_bytes v ≤ i → i < n + 1 → (b : Bool) → (i == n) ≡ b → (page : ℕ) × In (mapping_of i page) r.reads
+      one_of i l h true e = (t.outcome.0, subst (λ (k : ℕ). In (mapping_of k t.outcome.0) r.reads) (sym (eqb_true i n e)) t.outcome.1)
+      one_of i l h false e =
+          let d : i ≢ n = eqb_false i n e in
+          let had = c.each i l (omega arith) in (had.0, t.way.keeps (mapping_of i had.0) had.1)
+
+  -- It gets none.
+  pub covering_lacks : Provided m r a n false → Covered v r a from to false
+  covering_lacks t =
+      let o = t.outcome in
+      record {
+        own = c.own ++ t.own;
+        lends = all_lends false c low high t;
+        way = whole_way false c low high t;
+        outcome = record {
+          part = n;
+          low = low;
+          high = high;
+          none = record {
+            found = all_earlier c.way.goes o.found;
+            before = o.before;
+            later = o.later;
+            since = (
+              c.way.goes.more ++ o.since.0,
+              o.since.1 ∙ (ap (λ (es : List Entry). es ++ o.since.0) c.way.goes.seen
+                  ∙ append_assoc v.seen c.way.goes.more o.since.0),
+            );
+            seen = o.seen;
+            quiet = ap (λ (k : Caller). made_by k o.later) (sym c.way.goes.same_caller) ∙ o.quiet;
+            lacked = o.lacked;
+            exact = λ h. let e = o.exact (clear_way c.way h) in record {
+              all_lent = subst (λ (z : Shape). unlent z.pages (loans_of r.seen) ≡ 0) c.way.goes.same_shape e.all_lent;
+              lacks = e.lacks;
+            };
           };
         };
-      };
-    }
+      }
 
 -- All parts are done: none is left from the shape's number on.
 pub past_reach : (z : Shape) (n to : ℕ) → z.reach ≤ n → to ≤ limit_of z → to ≤ n * (z.page_words * 8)

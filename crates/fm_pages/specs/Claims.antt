@@ -4,7 +4,7 @@ use Rattle.fm_base.specs.declared.refusal.Refusal.{Refusal}
 use Rattle.fm_base.specs.declared.refusal.Refusal.TheVariants as refusal
 use Rattle.fm_base.specs.Finds.{FoundNothing, is_page, group_of}
 use Rattle.fm_words.specs.Places.{page_groups}
-use Rattle.fm_rule_facts.specs.Loans.{lent}
+use Rattle.fm_rule_facts.specs.Loans.{loans_of}
 use Rattle.fm_rule_facts.specs.Steps.{is_clear}
 use Rattle.fm_rule_facts.specs.Views.{View, FewLeft, unlent}
 use Rattle.fm_rule_calls.specs.Kept.{Goes}
@@ -39,7 +39,7 @@ pub record NoneClaimed (old new : View) : Type 0 where
   pub went : Went old new []
   pub found : AllFoundEmpty old new
   -- where the pass was clear, all pages are lent
-  pub all_lent : is_clear old ≡ true → unlent new.shape.pages (lent new.seen) ≡ 0
+  pub all_lent : is_clear old ≡ true → unlent new.shape.pages (loans_of new.seen) ≡ 0
 
 -- of one try: it claimed the page, or none
 abbrev pub TryOutcome : View → View → ℕ → Bool → Type 0

@@ -2,7 +2,7 @@
 use Rattle.std.specs.Prelude.{◌≡◌, ℕ, List, [], ◌∷◌, Contains, Option, Some, None}
 use Rattle.fm_base.specs.declared.arena_id.ArenaId.{ArenaId}
 use Rattle.fm_base.specs.Calls.{Entry, Lend, Fine, entry_of}
-use Rattle.fm_rule_facts.specs.Loans.{lent, loan_of}
+use Rattle.fm_rule_facts.specs.Loans.{loans_of, loan_of}
 use Rattle.fm_rule_facts.specs.Parts.{Mapping, mapping_of}
 use Rattle.fm_rule_facts.specs.Views.{View, In}
 use Rattle.fm_rule_calls.specs.Kept.{Goes}
@@ -25,7 +25,7 @@ pub record PartTaken (old new : View) (a : ArenaId) (index page : ℕ) : Type 0 
   pub way : Way old new [] (page ∷ [])
   pub other : ℕ
   pub read : In (mapping_of index other) new.reads
-  pub lent_so : Contains (lent new.seen) (loan_of other a index)
+  pub lent_so : Contains (loans_of new.seen) (loan_of other a index)
 
 -- of `map`
 abbrev pub MapOutcome : View → View → ArenaId → (index page : ℕ) → Option Page → Type 0

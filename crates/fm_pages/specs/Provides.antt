@@ -4,7 +4,7 @@ use Rattle.fm_base.specs.declared.caller.Caller.{Caller}
 use Rattle.fm_base.specs.declared.arena_id.ArenaId.{ArenaId}
 use Rattle.fm_base.specs.Calls.{Entry, Lend, Fine, entry_of}
 use Rattle.fm_base.specs.Histories.{made_by}
-use Rattle.fm_rule_facts.specs.Loans.{HasPart, lent}
+use Rattle.fm_rule_facts.specs.Loans.{HasPart, loans_of}
 use Rattle.fm_rule_facts.specs.Parts.{mapping_of}
 use Rattle.fm_rule_facts.specs.Steps.{is_clear}
 use Rattle.fm_rule_facts.specs.Views.{View, In, Begins, unlent}
@@ -17,8 +17,8 @@ LendsPart c a i es = (es ≡ []) ⊎ ((page : ℕ) × (es ≡ entry_of c (Lend p
 
 -- all blocks are lent, and none as this part
 pub record AllLentBut (old new : View) (a : ArenaId) (i : ℕ) : Type 0 where
-  pub all_lent : unlent old.shape.pages (lent new.seen) ≡ 0
-  pub lacks : ¬ (HasPart (lent new.seen) a i)
+  pub all_lent : unlent old.shape.pages (loans_of new.seen) ≡ 0
+  pub lacks : ¬ (HasPart (loans_of new.seen) a i)
 
 -- each word of page bits was 0 at a step of the call, and the part had no page at an earlier one
 pub record NoneFree (old new : View) (a : ArenaId) (i : ℕ) : Type 0 where
@@ -29,7 +29,7 @@ pub record NoneFree (old new : View) (a : ArenaId) (i : ℕ) : Type 0 where
   pub since : Begins old.seen before
   pub seen : new.seen ≡ before ++ later
   pub quiet : made_by old.caller later ≡ []
-  pub lacked : ¬ (HasPart (lent before) a i)
+  pub lacked : ¬ (HasPart (loans_of before) a i)
   -- where the pass was clear, all blocks are lent, and the part has none, after the call
   pub exact : is_clear old ≡ true → AllLentBut old new a i
 

@@ -10,13 +10,13 @@ use std::sync::Wait;
 
 /// Whether each part with a byte in this range has a page, of the arena that the pass is inside. Those without one get
 /// one while there are free ones.
-pub fn cover<R: Wait>(rt: &R, pool: &Pool, pass: &mut Pass, a: ArenaId, from: u64, to: u64) -> bool
+pub fn cover<R: Wait>(rt: &R, pool: &Pool, pass: &mut Pass, id: ArenaId, from: u64, to: u64) -> bool
     requires of { IsOf pool.now pass.old }
     requires none { pass.old.pages ≡ [] }
-    requires inside { pass.old.inside ≡ Some a }
+    requires inside { pass.old.inside ≡ Some id }
     requires up { from ≤ to }
     requires within { to ≤ limit_of pool.now.shape }
-    ensures { Covered pass.old pass.new a from to result }
+    ensures { Covered pass.old pass.new id from to result }
 {
     // Any pass is sound, which its calls alone tell.
     let _number = pass.number();
@@ -27,7 +27,7 @@ pub fn cover<R: Wait>(rt: &R, pool: &Pool, pass: &mut Pass, a: ArenaId, from: u6
         if u64::from(part) * bytes >= to {
             return true;
         }
-        if !provide(rt, pool, pass, a, part) {
+        if !provide(rt, pool, pass, id, part) {
             return false;
         }
     }

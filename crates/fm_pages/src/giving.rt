@@ -14,28 +14,28 @@ pub fn try_at<R: Wait>(
     rt: &R,
     pool: &Pool,
     pass: &mut Pass,
-    a: ArenaId,
+    id: ArenaId,
     count: u64,
     size: u64,
     align: u64,
 ) -> Option<u64>
     requires of { IsOf pool.now pass.old }
     requires none { pass.old.pages ≡ [] }
-    requires inside { pass.old.inside ≡ Some a }
+    requires inside { pass.old.inside ≡ Some id }
     requires power { IsPower align }
-    ensures { TriedOutcome pass.old pass.new a count size align result }
+    ensures { TriedOutcome pass.old pass.new id count size align result }
 {
     match room(pool.limit(), count, size, align) {
         None => {
-            let found = step_allocate(pool, pass, a, count, size, align);
+            let found = step_allocate(pool, pass, id, count, size, align);
             Some(found)
         }
         Some(place) => {
-            let covered = cover(rt, pool, pass, a, count, place + size);
+            let covered = cover(rt, pool, pass, id, count, place + size);
             if !covered {
                 return None;
             }
-            let found = step_allocate(pool, pass, a, count, size, align);
+            let found = step_allocate(pool, pass, id, count, size, align);
             Some(found)
         }
     }

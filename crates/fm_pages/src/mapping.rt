@@ -7,14 +7,14 @@ use fm_base::ArenaId;
 use fm_rule::{Pass, Pool, step_map};
 
 /// Makes the page this part of the arena that the pass is inside. It comes back exactly where the part had another one.
-pub fn map(pool: &Pool, pass: &mut Pass, a: ArenaId, index: u32, page: Page) -> Option<Page>
+pub fn map(pool: &Pool, pass: &mut Pass, id: ArenaId, index: u32, page: Page) -> Option<Page>
     requires of { IsOf pool.now pass.old }
-    requires inside { pass.old.inside ≡ Some a }
+    requires inside { pass.old.inside ≡ Some id }
     requires low { index < pool.now.shape.reach }
     requires page { pass.old.pages ≡ page.index ∷ [] }
-    ensures { MapOutcome pass.old pass.new a index page.index result }
+    ensures { MapOutcome pass.old pass.new id index page.index result }
 {
-    let other = step_map(pool, pass, a, index, page.index);
+    let other = step_map(pool, pass, id, index, page.index);
     if other != 0 {
         return Some(page);
     }

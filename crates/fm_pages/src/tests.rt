@@ -90,15 +90,15 @@ fn claimed<R: Abort + Wait>(rt: &R, pool: &Pool, pass: &mut Pass, index: u32) ->
 }
 
 /// Gives bytes of an arena that has given so many.
-fn given<R: Abort + Wait>(rt: &R, pool: &Pool, pass: &mut Pass, a: ArenaId, count: u64, size: u64)
+fn given<R: Abort + Wait>(rt: &R, pool: &Pool, pass: &mut Pass, id: ArenaId, count: u64, size: u64)
     requires of { IsOf pool.now pass.old }
     requires none { pass.old.pages ≡ [] }
-    requires inside { pass.old.inside ≡ Some a }
+    requires inside { pass.old.inside ≡ Some id }
     ensures of { IsOf pool.now pass.new }
     ensures none { pass.new.pages ≡ [] }
-    ensures inside { pass.new.inside ≡ Some a }
+    ensures inside { pass.new.inside ≡ Some id }
 {
-    assert_eq!(rt; try_at(rt, pool, pass, a, count, size, 8), Some(count));
+    assert_eq!(rt; try_at(rt, pool, pass, id, count, size, 8), Some(count));
 }
 
 /// Finds no page to claim.

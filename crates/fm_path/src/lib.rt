@@ -1,4 +1,23 @@
 //! Paths into layouts: where they lead, and what their open indices do to the offset.
+//!
+//! **The problem.** A path such as `.rows[].amount` leads to as many places as there are rows. Which place an access
+//! means is known only with its indices, and a walk through the layout at each access, or a list of all places, would
+//! be the price of it.
+//!
+//! **The idea.** Following a path is a sum: each step adds a fixed offset, and each open step a stride times its index.
+//! [`resolve`] goes along the path once and keeps the offset, and of each open step the stride and the bound
+//! ([`Resolved`]). From then on an offset is a sum over the indices, each tested against its bound.
+//!
+//! **Both sides.** What a path means is said by the list of all places of a layout (`fm_path_meaning`), and knows
+//! nothing of strides; what is computed knows nothing of the list.
+//!
+//! **Why it is safe.** At admitted indices the two agree: the offset is that of the place which following the path
+//! finds, and that place lies inside the root (`places_lie_inside`). Values lie apart but in unions
+//! (`values_lie_apart`).
+//!
+//! **What is not promised.** A value at the end of each path: one to a group or a sequence has an offset
+//! ([`byte_offset`]), and [`resolve`] refuses it. The list of a layout's values ([`list_places`]) takes memory and goes
+//! down by recursion, once a level.
 #![tactic(auto)]
 
 mod dims;

@@ -10,7 +10,7 @@ use Rattle.std.proofs.lemmas.List.FromFn.{get_or-map-range_with_len, length-map-
 use Rattle.std.proofs.lemmas.Nat.{shl_whole}
 use Rattle.fm_base_bytes.specs.Bytes.{bytes_of, lane, number_of as number_of_bytes}
 use Rattle.fm_base_bytes.specs.Words.{byte_of}
-use Rattle.fm_base_bytes.proofs.Bytes.{AreBytes-bytes_of, bytes_of-lane, bytes_of-number_of, get_or-bytes_of, lane-lt, length-bytes_of, number_of-append, number_of-bytes_of, pow_bytes}
+use Rattle.fm_base_bytes.proofs.Bytes.{AreBytes-bytes_of, bytes_of-lane, bytes_of-number_of, get_or-bytes_of, lane-lt, length-bytes_of, number_of-append, number_of-bytes_of}
 use Rattle.fm_lanes.specs.Coding.{decoded, lowest_first, value_of}
 use Rattle.fm_lanes.specs.Kind.{width_of}
 use Rattle.fm_lanes.specs.Value.{number_of_value}
@@ -19,6 +19,7 @@ use Rattle.fm_lanes.proofs.Turning.{turned_number}
 use Rattle.fm_path.specs.declared.value_spec.ValueSpec.{ValueSpec}
 use Rattle.fm_records.specs.Words.{Seen, across, byte_by, bytes_by, found_at, number_by, number_of, or_zero}
 use Rattle.fm_records.proofs.Behind.{range_append}
+use Rattle.fm_segment_access.proofs.Getting.{below_behind}
 
 -- ---- what was found at a word
 
@@ -92,9 +93,6 @@ inside_by seen spec place found is fits =
 pub record ArePlaced (low high shift : ℕ) : Type 0 where
   pub whole : high * 2 ^ shift % 2 ^ 64 ≡ high * 2 ^ shift
   pub fits : low + high * 2 ^ shift < 2 ^ 64
-
-below_behind : (m v n k : ℕ) → m < 2 ^ (8 * n) → v < 2 ^ (8 * k) → m + v * 2 ^ (8 * n) < 2 ^ (8 * (n + k))
-below_behind m v n k p q = rw (pow_bytes n k) (grind arith)
 
 pub placed : (low high at width : ℕ) → at < 8 → 8 < at + width → width ≤ 8 → ArePlaced (lane low at (8 - at)) (lane high 0 (width - (8 - at))) (8 * (8 - at))
 placed low high at width small crosses few =

@@ -26,7 +26,7 @@ use Rattle.fm_rule_steps.proofs.Allocating.{allocate_steps}
 use Rattle.fm_rule_steps.proofs.Holding.{hold_steps, unhold_steps}
 use Rattle.fm_rule_steps.proofs.Backing.{back_steps}
 use Rattle.fm_rule_steps.proofs.Drawing.{draw_steps}
-use Rattle.fm_rule_steps.proofs.Numbering.{take_number_steps, learn_term_steps, raise_term_steps, give_number_steps}
+use Rattle.fm_rule_steps.proofs.Numbering.{learn_term_steps, raise_term_steps, give_number_steps}
 use Rattle.fm_rule_steps.proofs.Shutting.{shut_steps}
 use Rattle.fm_rule_steps.proofs.Visiting.{visit_steps}
 use Rattle.fm_rule_steps.proofs.Taking.{take_steps, generation_steps}
@@ -38,6 +38,7 @@ use Rattle.fm_rule_steps.proofs.Mapping.{map_steps, read_map_steps}
 use Rattle.fm_rule_steps.proofs.Retiring.{retire_steps}
 use Rattle.fm_rule_steps.proofs.Giving.{give_steps}
 use Rattle.fm_rule.proofs.Knowing.{WordPlace, group_low, at_number}
+use Rattle.fm_rule_steps.proofs.TakingNumbers.{take_number_steps}
 
 module _ (z : Shape) (id : ℕ) (v : View) (l : v.live ≡ true) (i : ℕ) where
   pub may_mark : (a : ArenaId) (c : Caller) (y : ℕ) → v.inside ≡ None → c ≡ v.caller → i ≡ at z (mark c.number) → y ≡ mark_of a → MayStore z (Marks a) id v i y

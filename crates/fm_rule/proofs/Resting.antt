@@ -13,7 +13,7 @@ use Rattle.fm_rule_facts.specs.Rest.{ShowsHistory}
 use Rattle.fm_rule_facts.specs.Loans.{IsRightlyLent}
 use Rattle.fm_rule_facts.specs.Views.{View, IsSound, limit_of}
 use Rattle.fm_rule_facts.specs.Facts.{Rule}
-use Rattle.fm_rule_steps.proofs.Plain.{own}
+use Rattle.fm_rule_steps.proofs.Knowing.{own}
 use Rattle.fm_rule_steps.proofs.Resting.{at_rest}
 use Rattle.fm_rule.proofs.Allowed.{Keeping}
 use Rattle.fm_rule.specs.Views.{homed}

@@ -1,11 +1,23 @@
 //! The pool's words, shared by passes, and the steps of a pass: each is one atomic step on one word.
 //!
-//! A pass publishes which arena it uses in its mark, before it looks whether the arena lives; a closer shuts the arena,
-//! then looks at every mark. All words change by the functions of this crate alone. Whatever the interleaving, the
-//! facts of `fm_rule_facts` hold between any two steps, so every step tells its pass the whole history: what others
-//! did since its last step, and then its own entries.
+//! **The problem.** A pass reads words of an arena while another one ends it and lends its pages on. No lock is taken,
+//! so a look at "is it alive?" may be out of date before the first word is read.
 //!
-//! All memory is taken in [`Pool::make`]. No step waits.
+//! **The reader's side.** A pass publishes in its mark which arena it is about to use (`step_mark`), and only then
+//! looks whether the arena lives (`step_check`). It clears the mark after its last act (`step_unmark`).
+//!
+//! **The closer's side.** It shuts the arena (`step_shut`), and only then looks at every mark (`step_visit`). At the
+//! last one the arena ends; then its words are wiped and its pages given back, one by one.
+//!
+//! **Why it is safe.** All steps have one order. A mark that comes before the shut is found by the walk; one that comes
+//! after it is followed by a look that finds the arena shut. All words change by the functions of this crate alone, and
+//! the facts of `fm_rule_facts` hold between any two steps of any passes. So each step tells its pass what is true of
+//! the whole history: what others did since its last step, and then its own entries.
+//!
+//! **What is not promised.** No step waits, and none tries again: an exchange that finds another word than it expects
+//! says so, and changes nothing. A pass that is dropped keeps its mark, its number and what is in its hand. A slot has
+//! as many arenas as the shape says, a number as many terms as fit in a word of 32 bits. All memory is taken in
+//! [`Pool::make`].
 #![tactic(auto)]
 
 mod acts;

@@ -39,9 +39,9 @@ pub fn step_take_page(pool: &Pool, pass: &mut Pass, group: u32, expected: u64, b
 
 /// Answers the map word of this part of the arena that the pass is inside. Where it is 0, the page in the pass's hand is
 /// the arena's from this step on, as this part.
-pub fn step_map(pool: &Pool, pass: &mut Pass, a: ArenaId, index: u32, page: u32) -> u64
+pub fn step_map(pool: &Pool, pass: &mut Pass, id: ArenaId, index: u32, page: u32) -> u64
     requires of { IsOf pool.now pass.old }
-    requires inside { pass.old.inside ≡ Some a }
+    requires inside { pass.old.inside ≡ Some id }
     requires low { index < pool.now.shape.reach }
     requires page { pass.old.pages ≡ page ∷ [] }
     ensures low { result ≤ pass.old.shape.pages }
@@ -50,30 +50,30 @@ pub fn step_map(pool: &Pool, pass: &mut Pass, a: ArenaId, index: u32, page: u32)
           reads = reads_mapped index page result pass.old.reads;
           pages = pages_mapped result pass.old.pages;
         })
-        (where_found (result == 0) (entry_of pass.old.caller (machine.Lend page a index) machine.Fine ∷ []))
-        (note_of (Mapping a index page) result pass.old) }
+        (where_found (result == 0) (entry_of pass.old.caller (machine.Lend page id index) machine.Fine ∷ []))
+        (note_of (Mapping id index page) result pass.old) }
 {
     let seat = &mut pass.seat;
-    let place = pool.shape.map_place(a.slot, index);
+    let place = pool.shape.map_place(id.slot, index);
     let new = map_word(page);
-    let step = Step::Maps(a, index, page);
+    let step = Step::Maps(id, index, page);
     exchange_as::<Brand>(pool, seat, place, 0, new, step)
 }
 
 /// Answers the map word of this part of the arena that the pass is inside. Unless it is 0, it stands while the pass is
 /// inside.
 #[inline(always)]
-pub fn step_read_map(pool: &Pool, pass: &mut Pass, a: ArenaId, index: u32) -> u64
+pub fn step_read_map(pool: &Pool, pass: &mut Pass, id: ArenaId, index: u32) -> u64
     requires of { IsOf pool.now pass.old }
-    requires inside { pass.old.inside ≡ Some a }
+    requires inside { pass.old.inside ≡ Some id }
     requires low { index < pool.now.shape.reach }
-    ensures map { LearnsMap pass.old a index result pass.new }
+    ensures map { LearnsMap pass.old id index result pass.new }
     ensures stepped { Stepped pass.old pass.new
         (record pass.old { reads = reads_after index result pass.old.reads }) [] none_noted }
 {
     let seat = &mut pass.seat;
-    let place = pool.shape.map_place(a.slot, index);
-    let word = load_as::<Brand>(pool, seat, place, Step::ReadsMap(a, index));
+    let place = pool.shape.map_place(id.slot, index);
+    let word = load_as::<Brand>(pool, seat, place, Step::ReadsMap(id, index));
     pass.part = pool.part_of(index, word);
     word
 }

@@ -106,8 +106,8 @@ fn set_number_bits(words: &mut Vec<u64>, shape: Shape)
 }
 
 impl Pool {
-    /// A pool of this shape and its first pass, which has number 0. Every slot can be lent, every page claimed, and every
-    /// other number drawn.
+    /// A pool of this shape and its first pass, which has number 0. Every slot can be taken, every page claimed, and
+    /// every other number drawn.
     ///
     /// All memory is taken here. Refused: `Memory`.
     pub fn make(alloc: Global, shape: Shape) -> Result<(Pool, Pass), Refusal>

@@ -22,35 +22,35 @@ use std::marker::Brand;
 
 /// Publishes that the pass is about to use the arena: a closer that looks from now on finds it.
 #[inline(always)]
-pub fn step_mark(pool: &Pool, pass: &mut Pass, a: ArenaId)
+pub fn step_mark(pool: &Pool, pass: &mut Pass, id: ArenaId)
     requires of { IsOf pool.now pass.old }
     requires outside { pass.old.inside ≡ None }
-    requires known { IsKnown pass.old a }
-    ensures { Stepped pass.old pass.new (record pass.old { mark = Some a }) [] none_noted }
+    requires known { IsKnown pass.old id }
+    ensures { Stepped pass.old pass.new (record pass.old { mark = Some id }) [] none_noted }
 {
     let place = pool.shape.mark_place(pass.caller.number);
-    store_as::<Brand>(pool, &mut pass.seat, place, mark_of(a), Step::Marks(a));
+    store_as::<Brand>(pool, &mut pass.seat, place, mark_of(id), Step::Marks(id));
 }
 
 /// Answers the arena's session word. Where it shows the arena alive, the pass is inside from this step on.
 ///
 /// The mark stands before this step: a closer that shuts the arena after it finds the mark.
 #[inline(always)]
-pub fn step_check(pool: &Pool, pass: &mut Pass, a: ArenaId) -> u64
+pub fn step_check(pool: &Pool, pass: &mut Pass, id: ArenaId) -> u64
     requires of { IsOf pool.now pass.old }
     requires outside { pass.old.inside ≡ None }
-    requires marked { pass.old.mark ≡ Some a }
-    requires known { IsKnown pass.old a }
-    requires may { MayUse a pass.old.caller }
+    requires marked { pass.old.mark ≡ Some id }
+    requires known { IsKnown pass.old id }
+    requires may { MayUse id pass.old.caller }
     ensures { Stepped pass.old pass.new
-        (record pass.old { inside = inside_found a (alive_holds a result); reads = [] })
-        (entry_of pass.old.caller (machine.Enter a) (enter_found (alive_holds a result)) ∷ []) none_noted }
+        (record pass.old { inside = inside_found id (alive_holds id result); reads = [] })
+        (entry_of pass.old.caller (machine.Enter id) (enter_found (alive_holds id result)) ∷ []) none_noted }
 {
     let seat = &mut pass.seat;
-    let place = pool.shape.session_place(a.slot);
-    let word = load_as::<Brand>(pool, seat, place, Step::Checks(a));
-    pass.is_inside = is_alive(a, word);
-    pass.current = a;
+    let place = pool.shape.session_place(id.slot);
+    let word = load_as::<Brand>(pool, seat, place, Step::Checks(id));
+    pass.is_inside = is_alive(id, word);
+    pass.current = id;
     pass.part = NO_PART;
     word
 }
@@ -62,7 +62,7 @@ pub fn step_load(pool: &Pool, pass: &mut Pass, word: u64, place: u64) -> u64
     requires act { CanReach pass.old word }
     requires place { HasPlace pass.old word place }
     ensures { Stepped pass.old pass.new pass.old
-        (acted pass.old.inside pass.old.caller (λ a. machine.Read a word) (machine.Found result)) none_noted }
+        (acted pass.old.inside pass.old.caller (λ id. machine.Read id word) (machine.Found result)) none_noted }
 {
     load_as::<Brand>(pool, &mut pass.seat, place, Step::Loads(word))
 }
@@ -74,7 +74,7 @@ pub fn step_store(pool: &Pool, pass: &mut Pass, word: u64, place: u64, v: u64)
     requires act { CanReach pass.old word }
     requires place { HasPlace pass.old word place }
     ensures { Stepped pass.old pass.new pass.old
-        (acted pass.old.inside pass.old.caller (λ a. machine.Write a word v) machine.Fine) none_noted }
+        (acted pass.old.inside pass.old.caller (λ id. machine.Write id word v) machine.Fine) none_noted }
 {
     store_as::<Brand>(pool, &mut pass.seat, place, v, Step::Stores(word, v));
 }
@@ -93,38 +93,38 @@ pub fn step_unmark(pool: &Pool, pass: &mut Pass)
 
 /// Answers the arena's session word. Where it shows the arena alive with no holds, the arena is Closing from this step
 /// on: nobody comes into it again. A close is begun, which has visited no mark.
-pub fn step_shut(pool: &Pool, pass: &mut Pass, a: ArenaId) -> u64
+pub fn step_shut(pool: &Pool, pass: &mut Pass, id: ArenaId) -> u64
     requires of { IsOf pool.now pass.old }
-    requires known { IsKnown pass.old a }
-    requires may { MayUse a pass.old.caller }
-    requires by_hand { (a.kind ≢ Kind.Global) × (a.kind ≢ Kind.Automatic) }
+    requires known { IsKnown pass.old id }
+    requires may { MayUse id pass.old.caller }
+    requires by_hand { (id.kind ≢ Kind.Global) × (id.kind ≢ Kind.Automatic) }
     ensures { Stepped pass.old pass.new
-        (record pass.old { closes = begun a (shut_found (alive_holds a result)) pass.old.closes })
-        (entry_of pass.old.caller (machine.Shut a) (shut_found (alive_holds a result)) ∷ []) none_noted }
+        (record pass.old { closes = begun id (shut_found (alive_holds id result)) pass.old.closes })
+        (entry_of pass.old.caller (machine.Shut id) (shut_found (alive_holds id result)) ∷ []) none_noted }
 {
     let seat = &mut pass.seat;
-    let place = pool.shape.session_place(a.slot);
-    let (alive, closing) = (alive_word(a, 0), closing_word(a));
-    exchange_as::<Brand>(pool, seat, place, alive, closing, Step::Shuts(a))
+    let place = pool.shape.session_place(id.slot);
+    let (alive, closing) = (alive_word(id, 0), closing_word(id));
+    exchange_as::<Brand>(pool, seat, place, alive, closing, Step::Shuts(id))
 }
 
 /// Answers the mark of number `k`, the next that the close of the arena visits. Where it doesn't name the arena, the
 /// close has visited it; where it was the last one, nobody is under way, and the arena ends at this step: its sweep is begun.
-pub fn step_visit(pool: &Pool, pass: &mut Pass, a: ArenaId, k: u32) -> u64
+pub fn step_visit(pool: &Pool, pass: &mut Pass, id: ArenaId, k: u32) -> u64
     requires of { IsOf pool.now pass.old }
-    requires close { passed_of pass.old.closes a ≡ Some k }
+    requires close { passed_of pass.old.closes id ≡ Some k }
     requires low { k < pass.old.shape.passes }
     ensures own { k ≡ pass.old.caller.number → result ≡ own_word pass.old.mark }
     ensures stepped { Stepped pass.old pass.new
         (record pass.old {
-          closes = closes_after a (visit_found pass.old.shape a k result) pass.old.closes;
-          sweeps = sweeps_after a (visit_found pass.old.shape a k result) pass.old.sweeps;
+          closes = closes_after id (visit_found pass.old.shape id k result) pass.old.closes;
+          sweeps = sweeps_after id (visit_found pass.old.shape id k result) pass.old.sweeps;
         })
-        (visit_entries a (visit_found pass.old.shape a k result) pass.old.caller)
-        (note_of (Visiting a k) result pass.old) }
+        (visit_entries id (visit_found pass.old.shape id k result) pass.old.caller)
+        (note_of (Visiting id k) result pass.old) }
 {
     let place = pool.shape.mark_place(k);
-    load_as::<Brand>(pool, &mut pass.seat, place, Step::Visits(a, k))
+    load_as::<Brand>(pool, &mut pass.seat, place, Step::Visits(id, k))
 }
 
 /// Opens an arena of this kind in the slot that the pass took. The pass has a handle of it, where it is

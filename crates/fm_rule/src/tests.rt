@@ -53,10 +53,10 @@ fn word_at(pool: &Pool, place: u64) -> Option<u64> {
     }
 }
 
-/// The first words of a pool that aren't 0: the slot bits, the last word of page bits, and the first word of number bits at
-/// its place.
+/// The words of a new pool that aren't 0, beside the count of draws: the slot bits, the last word of page bits, and the first
+/// word of number bits at its place.
 #[derive(Clone, Copy)]
-struct FirstWords {
+struct SetWords {
     slot_bits: u64,
     page_bits: u64,
     numbers_at: u64,
@@ -65,7 +65,7 @@ struct FirstWords {
 
 /// All words are 0 but the count of draws and these; of more words of page bits or of number bits each is full. Of many
 /// words the first and the last are looked at.
-fn check_words<R: Abort + AllocGlobal>(rt: &R, shape: Shape, words: u64, first: FirstWords)
+fn check_words<R: Abort + AllocGlobal>(rt: &R, shape: Shape, words: u64, set: SetWords)
     requires valid { IsValid shape }
     requires some { 0 < words }
 {
@@ -76,12 +76,12 @@ fn check_words<R: Abort + AllocGlobal>(rt: &R, shape: Shape, words: u64, first: 
         for place in [offset, words - 1 - offset] {
             let expected = match place {
                 1 => 1,
-                2 => first.slot_bits,
+                2 => set.slot_bits,
                 _ => {
-                    if place + 1 == first.numbers_at {
-                        first.page_bits
-                    } else if place == first.numbers_at {
-                        first.number_bits
+                    if place + 1 == set.numbers_at {
+                        set.page_bits
+                    } else if place == set.numbers_at {
+                        set.number_bits
                     } else if page_bits_at <= place && place < terms_at {
                         u64::MAX
                     } else {
@@ -97,14 +97,14 @@ fn check_words<R: Abort + AllocGlobal>(rt: &R, shape: Shape, words: u64, first: 
 
 #[test]
 fn pools_begin_with_zeros_one_draw_and_bits(rt: HostRuntime) {
-    let least = FirstWords {
+    let least = SetWords {
         slot_bits: 1,
         page_bits: 1,
         numbers_at: 9,
         number_bits: 0,
     };
     check_words(&rt, LEAST, 11, least);
-    let larger = FirstWords {
+    let larger = SetWords {
         slot_bits: 3,
         page_bits: 15,
         numbers_at: 47,
@@ -136,14 +136,14 @@ fn every_number_but_the_first_is_free(rt: HostRuntime) {
 
 #[test]
 fn pools_of_the_greatest_shapes_can_be_had(rt: HostRuntime) {
-    let greatest = FirstWords {
+    let greatest = SetWords {
         slot_bits: u64::MAX,
         page_bits: u64::MAX,
         numbers_at: 17_043_651,
         number_bits: u64::MAX - 1,
     };
     check_words(&rt, GREATEST, 17_047_811, greatest);
-    let widest = FirstWords {
+    let widest = SetWords {
         slot_bits: 0xffff,
         page_bits: 0xffff,
         numbers_at: 16_781_364,

@@ -19,7 +19,8 @@ pub fn step_swap_if(pool: &Pool, pass: &mut Pass, word: u64, place: u64, old: u6
     requires act { CanReach pass.old word }
     requires place { HasPlace pass.old word place }
     ensures { Stepped pass.old pass.new pass.old
-        (acted pass.old.inside pass.old.caller (λ a. machine.SwapIf a word old new) (machine.Found result)) none_noted }
+        (acted pass.old.inside pass.old.caller (λ id. machine.SwapIf id word old new)
+        (machine.Found result)) none_noted }
 {
     exchange_as::<Brand>(
         pool,
@@ -37,7 +38,7 @@ pub fn step_add(pool: &Pool, pass: &mut Pass, word: u64, place: u64, n: u64) -> 
     requires act { CanReach pass.old word }
     requires place { HasPlace pass.old word place }
     ensures { Stepped pass.old pass.new pass.old
-        (acted pass.old.inside pass.old.caller (λ a. machine.Add a word n) (machine.Found result)) none_noted }
+        (acted pass.old.inside pass.old.caller (λ id. machine.Add id word n) (machine.Found result)) none_noted }
 {
     add_as::<Brand>(pool, &mut pass.seat, place, n, Step::Adds(word, n))
 }
@@ -46,23 +47,23 @@ pub fn step_add(pool: &Pool, pass: &mut Pass, word: u64, place: u64, n: u64) -> 
 pub fn step_allocate(
     pool: &Pool,
     pass: &mut Pass,
-    a: ArenaId,
+    id: ArenaId,
     given: u64,
     size: u64,
     align: u64,
 ) -> u64
     requires of { IsOf pool.now pass.old }
-    requires inside { pass.old.inside ≡ Some a }
+    requires inside { pass.old.inside ≡ Some id }
     requires power { IsPower align }
     requires parts { rounded_up given align + size ≤ limit_of pass.old.shape
         → HasParts pass.old given (rounded_up given align + size) }
-    ensures count { result ≢ given → result ≡ given_of pass.new a }
+    ensures count { result ≢ given → result ≡ given_of pass.new id }
     ensures stepped { Stepped pass.old pass.new pass.old
         (where_found (result == given) (acted pass.old.inside pass.old.caller (λ b. machine.Allocate b size align)
         (allocate_reply (limit_of pass.old.shape) given size align))) none_noted }
 {
     let seat = &mut pass.seat;
-    let place = pool.shape.given_place(a.slot);
+    let place = pool.shape.given_place(id.slot);
     let next = given_next(pool.limit(), given, size, align);
     let step = Step::Allocates(given, size, align);
     exchange_as::<Brand>(pool, seat, place, given, next, step)

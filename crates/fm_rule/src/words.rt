@@ -12,12 +12,12 @@ pub const MOST_HOLDS: u64 = 65535;
 
 /// The number of holds, where a session word shows the arena alive.
 #[inline(always)]
-pub fn alive_holds(a: ArenaId, word: u64) -> Option<u64>
-    requires { a.owner < 4096 }
-    ensures { result ≡ words.alive_holds a word }
+pub fn alive_holds(id: ArenaId, word: u64) -> Option<u64>
+    requires { id.owner < 4096 }
+    ensures { result ≡ words.alive_holds id word }
 {
     let holds = word & HOLDS;
-    if word == alive_word(a, holds as u32) {
+    if word == alive_word(id, holds as u32) {
         Some(holds)
     } else {
         None
@@ -26,49 +26,49 @@ pub fn alive_holds(a: ArenaId, word: u64) -> Option<u64>
 
 /// The mark of an arena.
 #[inline(always)]
-pub fn mark_of(a: ArenaId) -> u64
-    requires { a.slot < 64 }
-    ensures { result ≡ words.mark_of a }
+pub fn mark_of(id: ArenaId) -> u64
+    requires { id.slot < 64 }
+    ensures { result ≡ words.mark_of id }
 {
-    mark_word(a.slot, a.generation)
+    mark_word(id.slot, id.generation)
 }
 
 /// Whether a session word shows the arena alive.
 #[inline(always)]
-pub(crate) fn is_alive(a: ArenaId, word: u64) -> bool
-    requires { a.owner < 4096 }
-    ensures { inside_of result a ≡ words.inside_found a (words.alive_holds a word) }
+pub(crate) fn is_alive(id: ArenaId, word: u64) -> bool
+    requires { id.owner < 4096 }
+    ensures { inside_of result id ≡ words.inside_found id (words.alive_holds id word) }
 {
-    match alive_holds(a, word) {
+    match alive_holds(id, word) {
         Some(_) => true,
         None => false,
     }
 }
 
 #[inline(always)]
-pub(crate) fn alive_word(a: ArenaId, holds: u32) -> u64
-    requires owner { a.owner < 4096 }
+pub(crate) fn alive_word(id: ArenaId, holds: u32) -> u64
+    requires owner { id.owner < 4096 }
     requires holds { holds < 65536 }
-    ensures { result ≡ words.alive_word a holds }
+    ensures { result ≡ words.alive_word id holds }
 {
     session_word(Session {
-        generation: a.generation,
+        generation: id.generation,
         life: Life::Alive,
-        kind: a.kind.number() as u32,
-        owner: a.owner,
+        kind: id.kind.number() as u32,
+        owner: id.owner,
         holds,
     })
 }
 
-pub(crate) fn closing_word(a: ArenaId) -> u64
-    requires { a.owner < 4096 }
-    ensures { result ≡ words.closing_word a }
+pub(crate) fn closing_word(id: ArenaId) -> u64
+    requires { id.owner < 4096 }
+    ensures { result ≡ words.closing_word id }
 {
     session_word(Session {
-        generation: a.generation,
+        generation: id.generation,
         life: Life::Closing,
-        kind: a.kind.number() as u32,
-        owner: a.owner,
+        kind: id.kind.number() as u32,
+        owner: id.owner,
         holds: 0,
     })
 }
@@ -109,26 +109,26 @@ pub(crate) fn bit(slot: u32) -> u64
 
 /// The session word that a hold leaves where it finds this one: one hold more, where the arena is alive and has room
 /// for it.
-pub(crate) fn held_word(a: ArenaId, word: u64) -> u64
-    requires { a.owner < 4096 }
-    ensures { result ≡ words.held_word a word }
+pub(crate) fn held_word(id: ArenaId, word: u64) -> u64
+    requires { id.owner < 4096 }
+    ensures { result ≡ words.held_word id word }
 {
-    match alive_holds(a, word) {
+    match alive_holds(id, word) {
         Some(holds) if holds < MOST_HOLDS => word + 1,
         _ => word,
     }
 }
 
 /// The session word that a handle's return leaves where it finds this one: one hold less, or closing where there is none.
-pub(crate) fn back_word(a: ArenaId, word: u64) -> u64
-    requires { a.owner < 4096 }
-    ensures { result ≡ handles.back_word a word }
+pub(crate) fn back_word(id: ArenaId, word: u64) -> u64
+    requires { id.owner < 4096 }
+    ensures { result ≡ handles.back_word id word }
 {
-    match alive_holds(a, word) {
+    match alive_holds(id, word) {
         None => word,
         Some(holds) => {
             if holds == 0 {
-                closing_word(a)
+                closing_word(id)
             } else {
                 word - 1
             }

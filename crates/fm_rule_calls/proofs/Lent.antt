@@ -11,10 +11,9 @@ use Rattle.fm_base.specs.Histories.{IsLegal, state_after}
 use Rattle.fm_base.proofs.Growing.{Grows-after}
 use Rattle.fm_base.proofs.Making.{IsLegal-split, state_after-append}
 use Rattle.fm_base.proofs.Placing.{there_by_way}
-use Rattle.fm_rule_facts.specs.Loans.{Loan, loan_of, loans_by, loans_after, lent, HasPart, IsRightlyLent, IsRightlyLentIn, IsRightlyLentFrom}
+use Rattle.fm_rule_facts.specs.Loans.{Loan, loan_of, loans_by, loans_after, loans_of, HasPart, IsRightlyLent, IsRightlyLentIn, IsRightlyLentFrom}
 use Rattle.fm_rule_facts.specs.Views.{View, IsKnown, IsSound, limit_of, state_in}
-use Rattle.fm_rule_facts.proofs.Lending.{loan_cases, loan_kept, loan_was, loans_after-append}
-use Rattle.fm_rule_facts.proofs.Moving.{more_loans}
+use Rattle.fm_rule_facts.proofs.Lending.{loan_cases, loan_kept, loan_was, loans_after-append, more_loans}
 use Rattle.fm_rule_facts.proofs.Unlending.{lent-first, lent-split}
 use Rattle.fm_rule_calls.proofs.Lasting.{ended_after}
 use Rattle.fm_rule_calls.proofs.UnderWay.{stands_under_way}
@@ -88,7 +87,7 @@ module _ (a : ArenaId) (i p : ℕ) where
 
 -- A part of the arena that the pass is inside is lent still.
 pub part_on : (p q : View) (more : List Entry) → q.seen ≡ p.seen ++ more → q.shape ≡ p.shape → IsSound q → (a : ArenaId) → IsKnown p a → q.inside ≡ Some a
-    → (i : ℕ) → HasPart (lent p.seen) a i → HasPart (lent q.seen) a i
+    → (i : ℕ) → HasPart (loans_of p.seen) a i → HasPart (loans_of q.seen) a i
 part_on p q more seen shape sound a known inside i h =
     let n : ℕ = limit_of p.shape in
     let legal : IsLegal n [] (p.seen ++ more) = subst (λ (x : Shape × List Entry). IsLegal (limit_of x.0) [] x.1) (λ j. (shape j, seen j)) sound.legal in
@@ -98,9 +97,9 @@ part_on p q more seen shape sound a known inside i h =
     let stands : (arena_of (state_in q) a).life ≢ Ended = stands_under_way (limit_of q.shape) q.seen sound.legal q.caller a (sound.inside a inside) in
     let now : state_in q ≡ state_after n (state_in p) more =
     (λ j. state_after (limit_of (shape j)) [] (seen j)) ∙ state_after-append n [] p.seen more in
-    let once : IsOnceLent (lent p.seen) = once_after p.shape.page_words n [] [] p.seen (lent-first p.shape.page_words n [] [] p.seen more right)
+    let once : IsOnceLent (loans_of p.seen) = once_after p.shape.page_words n [] [] p.seen (lent-first p.shape.page_words n [] [] p.seen more right)
     (λ l x c d e. absurd (let b = c.1 in omega arith)) in
     let later = lent-split p.shape.page_words n [] [] p.seen more right in
-    let kept = kept_after a i h.0 p.shape.page_words n (state_in p) (lent p.seen) more parts.1 later once known
+    let kept = kept_after a i h.0 p.shape.page_words n (state_in p) (loans_of p.seen) more parts.1 later once known
     (subst (λ (s : State). (arena_of s a).life ≢ Ended) now stands) h.1 in
-    (h.0, subst (λ (ls : List Loan). Contains ls (loan_of h.0 a i)) (sym (ap lent seen ∙ loans_after-append [] p.seen more)) kept)
+    (h.0, subst (λ (ls : List Loan). Contains ls (loan_of h.0 a i)) (sym (ap loans_of seen ∙ loans_after-append [] p.seen more)) kept)

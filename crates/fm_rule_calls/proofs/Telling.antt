@@ -14,7 +14,8 @@ use Rattle.fm_rule_calls.proofs.Going.{reached}
 pub sound_view : (p : View) → IsSound p → memory.IsSound (view_of_pass p)
 sound_view p s = record { limit = s.limit; told = (s.legal, refl, refl) }
 
-by_itself : (p : View) → IsByItself (view_of_pass p) → p.whole ≡ true
+-- A pass that is by itself is known to be whole.
+pub by_itself : (p : View) → IsByItself (view_of_pass p) → p.whole ≡ true
 by_itself p (inl e) = absurd (cc)
 by_itself p (inr w) = w
 

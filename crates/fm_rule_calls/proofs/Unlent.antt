@@ -8,7 +8,7 @@ use Rattle.fm_base.specs.Finds.{Sweep}
 use Rattle.fm_base.specs.Histories.{IsLegal, state_after}
 use Rattle.fm_base.proofs.Growing as growing
 use Rattle.fm_words.specs.declared.shape.Shape.{Shape}
-use Rattle.fm_rule_facts.specs.Loans.{lent, IsUnlent, IsRightlyLent}
+use Rattle.fm_rule_facts.specs.Loans.{loans_of, IsUnlent, IsRightlyLent}
 use Rattle.fm_rule_facts.specs.Views.{View, In, IsSound, IsOver, given_of, limit_of, state_in}
 use Rattle.fm_rule_facts.proofs.Ending.{given_later}
 use Rattle.fm_rule_facts.proofs.Unlending.{none_lent_later, over_later}
@@ -45,7 +45,7 @@ module _ {p q : View} {own : List Entry} (id : ArenaId) (g : Goes p q own) (over
   -- It has no words still.
   pub no_words_on : HasNoWords p id → HasNoWords q id
   no_words_on none =
-      subst (λ (es : List Entry). IsUnlent (lent es) id) (sym g.seen)
+      subst (λ (es : List Entry). IsUnlent (loans_of es) id) (sym g.seen)
       (none_lent_later p.shape.page_words (limit_of p.shape) p.seen g.more id legal right over.known done none)
 
 -- What is over has ended.

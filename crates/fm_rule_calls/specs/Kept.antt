@@ -8,7 +8,7 @@ use Rattle.fm_base.specs.Finds.{Close, Sweep, Rest, FindsMore}
 use Rattle.fm_base.specs.View.{inside_after}
 use Rattle.fm_words.specs.declared.shape.Shape.{Shape}
 use Rattle.fm_rule_facts.specs.Hands.{Hand, slots_in}
-use Rattle.fm_rule_facts.specs.Loans.{lent, IsUnlent}
+use Rattle.fm_rule_facts.specs.Loans.{loans_of, IsUnlent}
 use Rattle.fm_rule_facts.specs.Views.{View, IsKnown, IsSound, given_of, state_in}
 
 -- The pass goes on by entries, of which these are its own, wholly after all that it had seen
@@ -85,7 +85,7 @@ pub record HasEnded (p : View) (id : ArenaId) : Type 0 where
 
 -- no words of the pool are lent to the arena
 abbrev pub HasNoWords : View → ArenaId → Type 0
-HasNoWords p id = IsUnlent (lent p.seen) id
+HasNoWords p id = IsUnlent (loans_of p.seen) id
 
 -- what was known is known, what was given is given, and what had ended has ended
 pub record Lasts (old new : View) : Type 0 where

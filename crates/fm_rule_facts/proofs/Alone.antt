@@ -1,14 +1,13 @@
 -- A pass that is known to be whole is the only one that has anything.
-use Rattle.std.proofs.Common.{◌≡◌, ◌≢◌, ℕ, ◌/◌, ◌<◌, Bool, true, false, refl, List, [], sym, ap, ◌∙◌, subst, inl, inr}
+use Rattle.std.proofs.Common.{◌≡◌, ℕ, ◌/◌, ◌<◌, true, List, [], sym, ap, ◌∙◌, subst, inl, inr}
 use mathlib.Core.Option.{some, some-injective}
 use lib.ListN.{get_elem?}
 use Rattle.fm_words.specs.declared.shape.Shape.{Shape}
 use Rattle.fm_base.specs.declared.caller.Caller.{Caller}
-use Rattle.fm_base.specs.Arenas.{Life, State, has_arena, arena_of}
+use Rattle.fm_base.specs.Arenas.{State, has_arena, arena_of}
 use Rattle.fm_base.specs.Calls.{Entry}
 use Rattle.fm_base.specs.Histories.{state_after}
 use Rattle.fm_base.specs.Finds.{Find, is_slot, is_number, group_of}
-use Rattle.fm_base_machine.specs.Functions.{Fresh, stage_of}
 use Rattle.fm_rule_facts.specs.Hands.{nothing, HasSlot, no_number, HasNumberIn}
 use Rattle.fm_rule_facts.specs.Views.{View, In, OpenedBut, NoneLeft, IsNumberGone, prefix, limit_of}
 use Rattle.fm_rule_facts.specs.Facts.{Owns, Rule, IsUsed, used, wanted, full}
@@ -16,11 +15,7 @@ use Rattle.fm_rule_facts.specs.Gone.{IsGone, FoundBy}
 use Rattle.fm_rule_facts.proofs.Callers.{same_caller, whole_has, all_counted}
 use Rattle.fm_rule_facts.proofs.Looking.{wants_in}
 use Rattle.fm_rule_facts.proofs.Keeping.{seated_all}
-
--- an arena whose stage isn't Fresh is one of the list
-pub life_known : (b : Bool) (l : Life) → stage_of b l ≢ Fresh → b ≡ true
-life_known true l n = refl
-life_known false l n = absurd (n refl)
+use Rattle.fm_base_machine.proofs.Allowing.{not_fresh}
 
 module _ (z : Shape) (me : ℕ) (v : View) (l : v.live ≡ true) (ws : List ℕ) (vs : List View) (r : Rule z ws vs) (at : get_elem? vs me ≡ some v) where
   abbrev mine : Owns z r.history r.memory r.machine r.owners me v
@@ -57,7 +52,7 @@ module _ (z : Shape) (me : ℕ) (v : View) (l : v.live ≡ true) (ws : List ℕ)
           record {
             arena = o.arena;
             in_slot = o.in_slot;
-            known = life_known (has_arena now o.arena) (arena_of now o.arena).life (λ n. o.opened (r.depicts.life o.arena ∙ n));
+            known = not_fresh (has_arena now o.arena) (arena_of now o.arena).life (λ n. o.opened (r.depicts.life o.arena ∙ n));
             apart = o.apart;
           }
       opened before s (inr x) low =

@@ -1,5 +1,5 @@
 -- The callers that a pass has: its own, those that are gathered into it, and the one that it drew.
-use Rattle.std.proofs.Common.{◌≡◌, ◌≢◌, ℕ, ◌+◌, ◌<◌, ◌≤◌, Bool, true, false, cond, List, [], ◌∷◌, ◌++◌, length, sym, refl, ap, ◌∙◌, subst, arith, inl, inr, ⊎_elim, eq-eqb}
+use Rattle.std.proofs.Common.{◌≡◌, ◌≢◌, ℕ, ◌+◌, ◌<◌, ◌≤◌, Bool, true, false, cond, List, [], ◌∷◌, ◌++◌, length, sym, ap, ◌∙◌, subst, arith, inl, inr, ⊎_elim}
 use Rattle.std.proofs.lemmas.Bool.{cases_lt}
 use Rattle.std.proofs.lemmas.List.{append-nil}
 use native.Mathlib.Decide.{ℕ_discrete}
@@ -13,11 +13,9 @@ use Rattle.fm_base_machine.specs.Functions.{Machine}
 use Rattle.fm_rule_facts.specs.Views.{Met, View, In, HasCaller, KnowsCallers, all_gathered, brought}
 use Rattle.fm_rule_facts.specs.Facts.{Memory, Owners, WasDrawn, HasGathered, IsSilent, IsOnce, Owns}
 use Rattle.fm_rule_facts.proofs.Counting.{ranks, ranks_long, has_rank, in_ranks, ranks_apart, one_rank, at_most, at_least, all_below, Distinct}
+use Rattle.fm_base.proofs.Names.{are_one-self}
 
 -- ---- who made an entry
-
-are_same : (c : Caller) → are_one c c ≡ true
-are_same c = rw (eq-eqb c.number c.number refl, eq-eqb c.term c.term refl) refl
 
 hit : (b : Bool) (x : Entry) (us : List Entry) → b ≡ true → ¬ (cond b (x ∷ us) us ≡ [])
 hit true x us t q = absurd (cc)
@@ -31,7 +29,7 @@ miss false x us q = q
 pub made_in : (e : Entry) (es : List Entry) → In e es → ¬ (made_by e.caller es ≡ [])
 made_in e [] i q = i
 made_in e (x ∷ xs) (inl p) q =
-    hit (are_one x.caller e.caller) x (made_by e.caller xs) (ap (λ (y : Entry). are_one y.caller e.caller) (sym p) ∙ are_same e.caller) q
+    hit (are_one x.caller e.caller) x (made_by e.caller xs) (ap (λ (y : Entry). are_one y.caller e.caller) (sym p) ∙ are_one-self e.caller) q
 made_in e (x ∷ xs) (inr i) q = made_in e xs i (miss (are_one x.caller e.caller) x (made_by e.caller xs) q)
 
 -- whether two callers are one

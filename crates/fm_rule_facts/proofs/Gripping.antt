@@ -6,11 +6,11 @@ use Rattle.fm_base.specs.declared.kind.Kind.TheVariants.{Global, Automatic, Conf
 use Rattle.fm_base.specs.Arenas.{same_id}
 use Rattle.fm_base.proofs.Names.{same_id-self}
 use Rattle.fm_base_machine.specs.Functions.{Stage, Fresh, Lives, Closes, Over, Machine, put_at}
-use Rattle.fm_base_machine.proofs.Putting.{at_cases, at_other}
+use Rattle.fm_base_machine.proofs.Putting.{at_cases, at_other, same_id-not}
 use Rattle.fm_rule_facts.specs.Views.{View, In}
 use Rattle.fm_rule_facts.specs.Holds.{is_automatic, grips, with_grips, handles_with, released, one_if, how_many, holds_of, one_alive, all_holds}
 use Rattle.fm_rule_facts.specs.Moves.{KeepsHolds}
-use Rattle.fm_rule_facts.proofs.Summing.{same_not, one_less}
+use Rattle.fm_rule_facts.proofs.Summing.{one_less}
 
 -- ---- kinds
 
@@ -167,7 +167,7 @@ module _ (v : View) (l : v.live ≡ true) (t : Machine) (a : ArenaId) where
           (λ e.
           let p : one_if (same_id a b) ≡ 1 = ap one_if ((λ j. same_id a (e j)) ∙ same_id-self a) in
           let q : one_alive (t.life b) ≡ one_alive (t.life a) = ap (λ (c : ArenaId). one_alive (t.life c)) e in omega arith)
-          (λ n. let p : one_if (same_id a b) ≡ 0 = ap one_if (same_not a b (λ e. n (sym e))) in omega arith)
+          (λ n. let p : one_if (same_id a b) ≡ 0 = ap one_if (same_id-not a b (λ e. n (sym e))) in omega arith)
       by b f false g = let p : one_alive (put_at t.life a Lives b) ≡ one_alive (t.life b) =
           ap one_alive (at_other t.life a Lives b (two_sorts a b false true g f (λ q. absurd (cc)))) in omega arith
 
@@ -181,5 +181,5 @@ module _ (v : View) (l : v.live ≡ true) (t : Machine) (a : ArenaId) where
       let q : one_alive (t.life b) ≡ 1 = ap one_alive (ap t.life e ∙ al) in
       let r = one_less a b v.handles has in omega arith)
       (λ n.
-      let p : one_if (same_id b a) ≡ 0 = ap one_if (same_not b a n) in
+      let p : one_if (same_id b a) ≡ 0 = ap one_if (same_id-not b a n) in
       let r = one_less a b v.handles has in omega arith))

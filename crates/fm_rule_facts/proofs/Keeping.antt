@@ -20,7 +20,7 @@ use Rattle.fm_rule_facts.specs.Parts.{Swept, unread, named, wiping}
 use Rattle.fm_rule_facts.specs.Facts.{Memory, Owners, IsStanding, IsAt, IsNext, HasSwept, HasPages, IsClosing, IsSweeping, IsGathered, IsSilent, Begins, Somewhere, Owns, Knows, WasDrawn, bit_of, next_of, IsLoose, IsUndrawn, HasNumberInHand}
 use Rattle.fm_rule_facts.specs.Moves.{MayMake, NoEnd, StaysEnded, Moved}
 use Rattle.fm_rule_facts.proofs.Frame.{others_stay, none_come, still_closing, still_over, still_given, made_by-other}
-use Rattle.fm_rule_facts.proofs.Standing.{unstanding}
+use Rattle.fm_rule_facts.proofs.Sessions.{unstanding}
 use Rattle.fm_rule_facts.specs.Hands.{Number, no_number, number_taken, number_learnt, number_drawn, number_left, number_joined, most_draws}
 use Rattle.fm_rule_facts.proofs.Handing.{hand_on, took_on}
 

@@ -12,6 +12,7 @@ use Rattle.fm_base.proofs.Making.{state_after-append}
 use Rattle.fm_base_machine.specs.Functions.{Fresh, Over, stage_of, Machine, Depicts, moved}
 use Rattle.fm_rule_facts.specs.Moves.{LendsBy, MayLend, MayMake}
 use Rattle.fm_rule_facts.proofs.Frame.{legal_on}
+use Rattle.fm_base_machine.proofs.Allowing.{not_fresh}
 
 -- ---- histories put together
 
@@ -25,10 +26,6 @@ lent-append size limit s loans [] fs p q = q
 lent-append size limit s loans (e ∷ es) fs p q = (p.0, lent-append size limit (after limit s e) (loans_by loans e.call) es fs p.1 q)
 
 -- ---- what the functions allow is right
-
-there : (b : Bool) (l : Life) → stage_of b l ≢ Fresh → b ≡ true
-there true l n = refl
-there false l n = absurd (n refl)
 
 on_going : (b : Bool) (l : Life) → stage_of b l ≢ Fresh → stage_of b l ≢ Over → l ≢ Ended
 on_going true Alive n o e = absurd (cc)
@@ -46,7 +43,7 @@ right_by : (size limit : ℕ) (s : State) (t : Machine) (loans : List Loan) (cal
     → IsRightlyLentIn size s loans call
 right_by size limit s t loans (Lend block id part) d m =
     let n : stage_of (has_arena s id) (arena_of s id).life ≢ Fresh = (λ f. m.1 (d.life id ∙ f)) in
-    (m.0, there (has_arena s id) (arena_of s id).life n, on_going (has_arena s id) (arena_of s id).life n (λ f. m.2 (d.life id ∙ f)), m.3)
+    (m.0, not_fresh (has_arena s id) (arena_of s id).life n, on_going (has_arena s id) (arena_of s id).life n (λ f. m.2 (d.life id ∙ f)), m.3)
 right_by size limit s t loans (Back block) d m = (m.0, m.1, m.2, over_now (has_arena s m.0) (arena_of s m.0).life (sym (d.life m.0) ∙ m.3))
 right_by size limit s t loans (Read id word) d m = m
 right_by size limit s t loans (Write id word value) d m = m
@@ -75,10 +72,12 @@ lent_on size limit c h loans (e ∷ es) t l d p m =
 
 -- ---- loans after each kind of entry
 
-first_loan : (l : Loan) (loans : List Loan) → Contains (l ∷ loans) l
+-- a list of loans has its first one
+pub first_loan : (l : Loan) (loans : List Loan) → Contains (l ∷ loans) l
 first_loan l loans = Contains-append_left (l ∷ []) loans l (Contains-push [] l)
 
-more_loans : (l x : Loan) (loans : List Loan) → Contains loans x → Contains (l ∷ loans) x
+-- and all that come after it
+pub more_loans : (l x : Loan) (loans : List Loan) → Contains loans x → Contains (l ∷ loans) x
 more_loans l x loans h = Contains-append_right (l ∷ []) loans x h
 
 pub loan_cases : (l x : Loan) (loans : List Loan) → Contains (l ∷ loans) x → (l ≡ x) ⊎ Contains loans x

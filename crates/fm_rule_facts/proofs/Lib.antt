@@ -1,5 +1,5 @@
 pub mod Frame
-pub mod Standing
+pub mod Sessions
 pub mod Putting
 pub mod Worlds
 pub mod Retiring

@@ -9,7 +9,7 @@ use Rattle.fm_base_machine.specs.Functions.{Stage, Fresh, Lives, Closes, Over, p
 use Rattle.fm_base_machine.proofs.Putting.{put_here, put_else, put_cases, at_cases}
 use Rattle.fm_rule_facts.specs.Loans.{Loan}
 use Rattle.fm_rule_facts.specs.Facts.{Session, free, live, shut, IsShown, IsStanding, Sessions}
-use Rattle.fm_rule_facts.proofs.Standing.{standing_known, unstanding, standing_shown, shown_one, one_standing}
+use Rattle.fm_rule_facts.proofs.Sessions.{standing_known, unstanding, standing_shown, shown_one, one_standing}
 use Rattle.fm_rule_facts.specs.Berths.{Berth, loose, claimed, mapped, unmapped}
 use Rattle.fm_rule_facts.specs.Pages.{IsBlank, IsBeyond, IsMapped, IsUnmapped, Pages}
 use Rattle.fm_rule_facts.proofs.Putting.{two_cases}

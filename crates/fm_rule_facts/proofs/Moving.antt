@@ -1,11 +1,11 @@
 -- The facts of pages over the steps that move them.
-use Rattle.std.proofs.Common.{◌≡◌, ◌≢◌, ℕ, ◌/◌, ◌%◌, ◌<◌, List, [], ◌∷◌, Option, Some, None, sym, refl, ap, ◌∙◌, subst, inr, ⊎_elim, arith}
+use Rattle.std.proofs.Common.{◌≡◌, ◌≢◌, ℕ, ◌/◌, ◌%◌, ◌<◌, List, ◌∷◌, Option, Some, None, sym, refl, ap, ◌∙◌, subst, inr, ⊎_elim, arith}
 use Rattle.std.specs.Prelude.{Contains}
 use mathlib.Core.Logic.{dite}
 use native.Mathlib.Decide.{ℕ_discrete}
 use Rattle.std.proofs.Math.Nat.{mod-lt}
 use Rattle.fm_words.specs.Bits.{bit_of}
-use Rattle.std.proofs.lemmas.List.Elements.{All-weaker, All-contains, All-contains_itself, Contains-append_left, Contains-append_right, Contains-push}
+use Rattle.std.proofs.lemmas.List.Elements.{All-weaker, All-contains, All-contains_itself}
 use Rattle.fm_words.specs.declared.shape.Shape.{Shape}
 use Rattle.fm_base.specs.declared.arena_id.ArenaId.{ArenaId}
 use Rattle.fm_base.specs.Calls.{Lend}
@@ -14,18 +14,10 @@ use Rattle.fm_base_machine.proofs.Putting.{put_here, put_else, put_cases}
 use Rattle.fm_rule_facts.proofs.Putting.{two_cases}
 use Rattle.fm_rule_facts.specs.Loans.{Loan, loan_of, loans_by, IsFree, HasPart}
 use Rattle.fm_rule_facts.specs.Facts.{Session, free, live, shut, IsShown, IsStanding, Sessions}
-use Rattle.fm_rule_facts.proofs.Lending.{loan_cases}
-use Rattle.fm_rule_facts.proofs.Standing.{standing_shown, shown_one, ended_apart}
+use Rattle.fm_rule_facts.proofs.Lending.{loan_cases, first_loan, more_loans}
+use Rattle.fm_rule_facts.proofs.Sessions.{standing_shown, shown_one, ended_apart}
 use Rattle.fm_rule_facts.specs.Berths.{Berth, loose, claimed, mapped, unmapped, LentAt}
 use Rattle.fm_rule_facts.specs.Pages.{IsBlank, IsBeyond, IsMapped, IsUnmapped, Pages}
-
--- a list of loans has its first one
-pub first_loan : (l : Loan) (loans : List Loan) → Contains (l ∷ loans) l
-first_loan l loans = Contains-append_left (l ∷ []) loans l (Contains-push [] l)
-
--- and all that come after it
-pub more_loans : (l x : Loan) (loans : List Loan) → Contains loans x → Contains (l ∷ loans) x
-more_loans l x loans h = Contains-append_right (l ∷ []) loans x h
 
 module _ (z : Shape) (loans : List Loan) (bits : ℕ → ℕ) (maps : ℕ → ℕ → Option ℕ) (cells : ℕ → ℕ → ℕ) (berth : ℕ → Berth) (sessions : ℕ → Session)
     (life : ArenaId → Stage) (word : ArenaId → ℕ → ℕ) (given : ArenaId → ℕ)

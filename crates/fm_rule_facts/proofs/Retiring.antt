@@ -7,7 +7,7 @@ use Rattle.fm_base_machine.proofs.Putting.{put_else, put_cases}
 use Rattle.std.specs.Int.{bit_at}
 use Rattle.fm_rule_facts.specs.Views.{Fits}
 use Rattle.fm_rule_facts.specs.Facts.{Session, free, shut, Memory, World}
-use Rattle.fm_rule_facts.proofs.Standing.{ended_apart, sessions_retire, slots_retired, slots_given}
+use Rattle.fm_rule_facts.proofs.Sessions.{ended_apart, sessions_retire, slots_retired, slots_given}
 
 module _ (z : Shape) (m : Memory) (t : Machine) (r : World z m t) where
   -- ---- an arena that has ended and isn't retired

@@ -15,7 +15,7 @@ use Rattle.fm_rule_facts.specs.Moves.{Moved, Same, Part, KeepsCloses, KeepsSweep
 use Rattle.std.specs.Int.{bit_at}
 use Rattle.fm_rule_facts.specs.Hands.{number_drawn}
 use Rattle.fm_rule_facts.specs.Holds.{holds_of}
-use Rattle.fm_rule_facts.specs.Loans.{Loan, lent, loans_after}
+use Rattle.fm_rule_facts.specs.Loans.{Loan, loans_of, loans_after}
 use Rattle.fm_rule_facts.proofs.Lending.{loans_after-append, lent-append, lent_on}
 use Rattle.fm_rule_facts.specs.Gone.{FoundBy, IsFounded}
 use mathlib.Core.Option.{some-injective}
@@ -78,7 +78,7 @@ page_like i (unmapped j a c) v w l p s h = (l ∙ h.0, (h.1.0, s ∙ h.1.1))
 -- the facts of pages after entries
 abbrev pub PagesAfter : Shape → List Entry → Memory → Machine → Owners → List Entry → Type 0
 PagesAfter z h m t o es =
-    Pages z (loans_after (lent h) es) m.page_bits m.maps m.cells o.berth m.sessions (moved_by t es).life (moved_by t es).word (moved_by t es).given
+    Pages z (loans_after (loans_of h) es) m.page_bits m.maps m.cells o.berth m.sessions (moved_by t es).life (moved_by t es).word (moved_by t es).given
 
 -- what a step by v notes of numbers: each find says how many were gathered, and of each number of its group who has it
 abbrev pub AreLooked : {z : Shape} {ws : List ℕ} {vs : List View} → Rule z ws vs → View → (ℕ → List Find) → Type 0
@@ -100,7 +100,7 @@ pub keeps_with : (z : Shape) (ws ws' : List ℕ) (vs : List View) (r : Rule z ws
     → get_elem? vs me ≡ some v → v.live ≡ true → Moved me z v.caller r.memory r.machine r.owners es m' o' → Same v p → NoneDrawn fs
     → ((f : Find) → In f (fs (length r.history)) → FoundBy z r.history r.memory r.owners.taker r.machine.life v.caller f)
     → AreLooked r v fs
-    → MayLend z.page_words r.machine (lent r.history) es → PagesAfter z r.history m' r.machine o' es
+    → MayLend z.page_words r.machine (loans_of r.history) es → PagesAfter z r.history m' r.machine o' es
     → KeepsCloses me v p r.machine r.owners (moved_by r.machine es) o'
     → KeepsSweeps me v p r.memory r.machine r.owners m' (moved_by r.machine es) o' → KeepsSlots z me v p r.memory r.owners m' o'
     → KeepsPages me v p r.owners o'
@@ -143,7 +143,7 @@ keeps_with z ws ws' vs r me v p es fs m' o' at l d s nd new looks lends pages kc
       legal = on.0;
       rightly =
           lent-append z.page_words (limit_of z) [] [] r.history es r.rightly
-          (lent_on z.page_words (limit_of z) v.caller r.history (lent r.history) es r.machine r.legal r.depicts d.allowed lends);
+          (lent_on z.page_words (limit_of z) v.caller r.history (loans_of r.history) es r.machine r.legal r.depicts d.allowed lends);
       pages = subst (λ (ls : List Loan). Pages z ls m'.page_bits m'.maps m'.cells o'.berth m'.sessions t'.life t'.word t'.given)
           (sym (loans_after-append [] r.history es)) pages;
       depicts = on.1;
@@ -262,7 +262,7 @@ keeps_with z ws ws' vs r me v p es fs m' o' at l d s nd new looks lends pages kc
 pub keeps : (z : Shape) (ws ws' : List ℕ) (vs : List View) (r : Rule z ws vs) (me : ℕ) (v p : View) (es : List Entry) (fs : ℕ → List Find) (m' : Memory)
     (o' : Owners)
     → get_elem? vs me ≡ some v → v.live ≡ true → Moved me z v.caller r.memory r.machine r.owners es m' o' → Same v p → NoDraw fs
-    → MayLend z.page_words r.machine (lent r.history) es → PagesAfter z r.history m' r.machine o' es
+    → MayLend z.page_words r.machine (loans_of r.history) es → PagesAfter z r.history m' r.machine o' es
     → KeepsCloses me v p r.machine r.owners (moved_by r.machine es) o'
     → KeepsSweeps me v p r.memory r.machine r.owners m' (moved_by r.machine es) o' → KeepsSlots z me v p r.memory r.owners m' o'
     → KeepsPages me v p r.owners o'

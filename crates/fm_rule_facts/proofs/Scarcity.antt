@@ -13,8 +13,7 @@ use Rattle.fm_base.proofs.Names.{same_id-self, same_id-true}
 use Rattle.fm_rule_facts.specs.Loans.{Loan, loan_of, loans_by, loans_after, IsFree, HasPart, IsRightlyLentIn, IsRightlyLentFrom}
 use Rattle.fm_rule_facts.specs.Views.{is_lent, one_unless, unlent}
 use Rattle.fm_rule_facts.specs.Scarcity.{has_part, lacking}
-use Rattle.fm_rule_facts.proofs.Lending.{loan_cases}
-use Rattle.fm_rule_facts.proofs.Moving.{first_loan, more_loans}
+use Rattle.fm_rule_facts.proofs.Lending.{loan_cases, first_loan, more_loans}
 
 module _ (p : ℕ) (a : ArenaId) (i : ℕ) (loans : List Loan) where
   abbrev now : List Loan

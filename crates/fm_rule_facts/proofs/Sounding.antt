@@ -20,17 +20,18 @@ use Rattle.fm_rule_facts.specs.Facts.{Berth, loose, claimed, mapped, unmapped, I
 use Rattle.std.specs.Prelude.{Contains}
 use Rattle.fm_rule_facts.proofs.Handing.{slot_below}
 use Rattle.fm_rule_facts.specs.Holds.{grips, holds_of}
-use Rattle.fm_rule_facts.specs.Loans.{Loan, lent, IsRightlyLent, loan_of, HasPart}
+use Rattle.fm_rule_facts.specs.Loans.{Loan, loans_of, IsRightlyLent, loan_of, HasPart}
 use Rattle.fm_rule_facts.proofs.Lending.{over_now}
 use Rattle.fm_rule_facts.specs.Gone.{FoundBy}
 use Rattle.fm_rule_facts.proofs.Alone.{none_now, numbers_gone}
 use Rattle.fm_rule_facts.proofs.Given.{given_lent, mapped_part}
 use Rattle.fm_rule_facts.proofs.Callers.{all_now, few_gathered, whole_has, knows_callers}
-use Rattle.fm_rule_facts.proofs.Standing.{unstanding}
+use Rattle.fm_rule_facts.proofs.Sessions.{unstanding}
 use Rattle.fm_rule_facts.proofs.Summing.{total-has, some_hold}
 use Rattle.fm_rule_facts.proofs.Gripping.{held_now, held_lives}
 use Rattle.fm_rule_facts.proofs.Founds.{find_within}
 use Rattle.fm_rule_facts.proofs.Keeping.{in_left}
+use Rattle.fm_base_machine.proofs.Allowing.{not_fresh}
 
 -- an arena of the list was opened
 pub opened_life : (b : Bool) (l : Life) → b ≡ true → stage_of b l ≢ Fresh
@@ -38,10 +39,6 @@ opened_life true Alive h e = absurd (cc)
 opened_life true Closing h e = absurd (cc)
 opened_life true Ended h e = absurd (cc)
 opened_life false l h e = absurd (cc)
-
-pub life_opened : (b : Bool) (l : Life) → stage_of b l ≢ Fresh → b ≡ true
-life_opened true l n = refl
-life_opened false l n = absurd (n refl)
 
 -- an arena gives at most 2^40 bytes
 limit_below : (z : Shape) → IsValid z → limit_of z ≤ 2 ^ 40
@@ -87,7 +84,7 @@ one_sweep (x ∷ xs) o c d (inr i) (inr j) e = one_sweep xs o.1 c d i j e
 
 module _ (z : Shape) (ws : List ℕ) (vs : List View) (r : Rule z ws vs) where
   -- a loan is of a page of the pool, as a part that arenas have
-  loan_fits : (l : Loan) → Contains (lent r.history) l → (l.block < z.pages) × (l.part < z.reach)
+  loan_fits : (l : Loan) → Contains (loans_of r.history) l → (l.block < z.pages) × (l.part < z.reach)
   loan_fits l h = go (r.owners.berth l.block) refl (r.pages.lent_is l h)
     where
       go : (b : Berth) → r.owners.berth l.block ≡ b → LentAt b l → (l.block < z.pages) × (l.part < z.reach)
@@ -97,7 +94,7 @@ module _ (z : Shape) (ws : List ℕ) (vs : List View) (r : Rule z ws vs) where
       go (unmapped j a i) e q = let y = r.pages.unmapped_is l.block j i a e in (y.page, subst (λ (x : ℕ). x < z.reach) (sym q.1) y.part)
 
   -- of an arena that is swept at the seat, parts that have no page any more aren't lent
-  loan_left : (me : ℕ) (v : View) → get_elem? vs me ≡ some v → v.live ≡ true → (c : Sweep) → In c v.sweeps → (l : Loan) → Contains (lent r.history) l
+  loan_left : (me : ℕ) (v : View) → get_elem? vs me ≡ some v → v.live ≡ true → (c : Sweep) → In c v.sweeps → (l : Loan) → Contains (loans_of r.history) l
       → l.id ≡ c.arena → c.passed ≤ l.part
   loan_left me v at live c i l h same = go (r.owners.berth l.block) refl (r.pages.lent_is l h)
     where
@@ -159,7 +156,7 @@ sound_of z ws vs r me v at l lone q =
       swept = λ c i.
           let y = u.sweeps c i in
           record {
-            known = ap (λ (x : State). has_arena x c.arena) st ∙ life_opened (has_arena s c.arena) (arena_of s c.arena).life (λ f.
+            known = ap (λ (x : State). has_arena x c.arena) st ∙ not_fresh (has_arena s c.arena) (arena_of s c.arena).life (λ f.
                 let g : Over ≡ Fresh = sym y.life ∙ (r.depicts.life c.arena ∙ f) in absurd (cc));
             life = ap (λ (x : State). (arena_of x c.arena).life) st
                 ∙ over_now (has_arena s c.arena) (arena_of s c.arena).life (sym (r.depicts.life c.arena) ∙ y.life);
@@ -167,14 +164,14 @@ sound_of z ws vs r me v at l lone q =
                 ∙ nobody (arena_of s c.arena).under_way (λ k w. unstanding (r.machine.life c.arena) y.life
                 (r.world.marked k c.arena (r.depicts.under k c.arena w)).stands);
           };
-      loans = λ x i. let y = loan_fits z ws vs r x (subst (λ (es : List Entry). Contains (lent es) x) q i) in
+      loans = λ x i. let y = loan_fits z ws vs r x (subst (λ (es : List Entry). Contains (loans_of es) x) q i) in
           subst (λ (s : Shape). (x.block < s.pages) × (x.part < s.reach)) (sym e) y;
-      unlent = λ c i x h. loan_left z ws vs r me v at l c i x (subst (λ (es : List Entry). Contains (lent es) x) q h);
+      unlent = λ c i x h. loan_left z ws vs r me v at l c i x (subst (λ (es : List Entry). Contains (loans_of es) x) q h);
       covered = λ a w n g.
           let y = given_lent z ws vs r a w (λ o. n (ap (λ (x : State). (arena_of x a).life) st ∙ o))
           (subst (λ (x : State). 8 * w < (arena_of x a).given) st g) in
-          subst (λ (x : Shape × List Entry). HasPart (lent x.1) a (w / x.0.page_words)) (λ i. (sym e i, sym q i)) y;
-      reads = λ a m i j. subst (λ (es : List Entry). Contains (lent es) (loan_of m.page a m.part)) (sym q)
+          subst (λ (x : Shape × List Entry). HasPart (loans_of x.1) a (w / x.0.page_words)) (λ i. (sym e i, sym q i)) y;
+      reads = λ a m i j. subst (λ (es : List Entry). Contains (loans_of es) (loan_of m.page a m.part)) (sym q)
           (mapped_part z ws vs r v.caller a m.part m.page (u.inside ∙ i) (u.pages.read a i m j));
       own_pages = λ p i. subst (λ (s : Shape). p < s.pages) (sym e) (r.pages.claimed_is p me (u.pages.claims p i)).0;
       swept_page = λ a i p w h. subst (λ (s : Shape). p < s.pages) (sym e)

@@ -1,5 +1,5 @@
 -- Sums over views, and how many holds a pass has after it took or dropped one.
-use Rattle.std.proofs.Common.{◌≡◌, ◌≢◌, ℕ, zero, suc, ◌+◌, ◌-◌, ◌<◌, ◌≤◌, inl, inr, Bool, true, false, if◌then◌else◌, List, [], ◌∷◌, ◌++◌, set, sym, refl, ap, ◌∙◌, arith}
+use Rattle.std.proofs.Common.{◌≡◌, ℕ, zero, suc, ◌+◌, ◌-◌, ◌<◌, ◌≤◌, inl, inr, Bool, true, false, if◌then◌else◌, List, [], ◌∷◌, ◌++◌, set, sym, refl, ap, ◌∙◌, arith}
 use mathlib.Core.Logic.{dite}
 use mathlib.Core.Option.{some, some-injective, some-ne-none}
 use lib.ListN.{get_elem?}
@@ -7,7 +7,7 @@ use Rattle.fm_base.specs.declared.arena_id.ArenaId.{ArenaId}
 use Rattle.fm_base.specs.Arenas.{same_id}
 use Rattle.fm_base.proofs.Names.{same_id-true, same_id-self}
 use Rattle.fm_base_machine.specs.Functions.{put_at}
-use Rattle.fm_base_machine.proofs.Putting.{at_cases, one_arena}
+use Rattle.fm_base_machine.proofs.Putting.{at_cases, one_arena, same_id-not}
 use Rattle.fm_rule_facts.specs.Views.{View, In}
 use Rattle.fm_rule_facts.specs.Holds.{released, one_if, how_many, total}
 
@@ -30,13 +30,6 @@ total-has f (x ∷ xs) (suc i) v e = let ih = total-has f xs i v e in omega arit
 
 -- ---- holds
 
-pub same_not : (a b : ArenaId) → a ≢ b → same_id a b ≡ false
-same_not a b n = go (same_id a b) refl
-  where
-    go : (x : Bool) → same_id a b ≡ x → same_id a b ≡ false
-    go true e = absurd (n (same_id-true a b e))
-    go false e = e
-
 -- one hold more
 pub one_more_hold : (a b : ArenaId) (hs : List ArenaId) (f : ArenaId → ℕ) → how_many b (a ∷ hs) + f b ≡ how_many b hs + put_at f a (f a + 1) b
 one_more_hold a b hs f = at_cases f a (f a + 1) b (λ (x : ℕ). how_many b (a ∷ hs) + f b ≡ how_many b hs + x)
@@ -45,7 +38,7 @@ one_more_hold a b hs f = at_cases f a (f a + 1) b (λ (x : ℕ). how_many b (a �
     let c : one_if (same_id a b) ≡ 1 = ap one_if q in
     let g : f b ≡ f a = ap f e in
     omega arith)
-    (λ ne. let c : one_if (same_id a b) ≡ 0 = ap one_if (same_not a b (λ e. ne (sym e))) in omega arith)
+    (λ ne. let c : one_if (same_id a b) ≡ 0 = ap one_if (same_id-not a b (λ e. ne (sym e))) in omega arith)
 
 -- a pass with a hold has one at least
 pub some_hold : (a : ArenaId) (hs : List ArenaId) → In a hs → 0 < how_many a hs
@@ -54,10 +47,11 @@ some_hold a (b ∷ bs) (inl e) =
     let c : one_if (same_id b a) ≡ 1 = ap one_if ((λ j. same_id (sym e j) a) ∙ same_id-self a) in omega arith
 some_hold a (b ∷ bs) (inr i) = let ih = some_hold a bs i in omega arith
 
-swapped : (a b : ArenaId) → one_if (same_id a b) ≡ one_if (same_id b a)
+-- Names are one in either order.
+pub swapped : (a b : ArenaId) → one_if (same_id a b) ≡ one_if (same_id b a)
 swapped a b = dite (one_arena a b)
     (λ e. (λ k. one_if (same_id (e k) (sym e k))))
-    (λ ne. ap one_if (same_not a b ne) ∙ sym (ap one_if (same_not b a (λ e. ne (sym e)))))
+    (λ ne. ap one_if (same_id-not a b ne) ∙ sym (ap one_if (same_id-not b a (λ e. ne (sym e)))))
 
 -- without one of them
 pub one_less : (a b : ArenaId) (hs : List ArenaId) → In a hs → how_many b hs ≡ how_many b (released a hs) + one_if (same_id b a)
@@ -83,6 +77,6 @@ one_hold_less a b hs f i held = at_cases f a (f a - 1) b (λ (x : ℕ). how_many
     let g : f b ≡ f a = ap f e in
     omega arith)
     (λ ne.
-    let c : one_if (same_id b a) ≡ 0 = ap one_if (same_not b a ne) in
+    let c : one_if (same_id b a) ≡ 0 = ap one_if (same_id-not b a ne) in
     let l = one_less a b hs i in
     omega arith)

@@ -11,7 +11,7 @@ use Rattle.fm_base.specs.Histories.{made_by}
 use Rattle.fm_rule_facts.specs.Hands.{Number, no_number, number_taken, number_learnt, number_drawn, number_left, number_joined, HasNumberIn}
 use Rattle.fm_rule_facts.specs.Views.{View, In}
 use Rattle.fm_rule_facts.specs.Facts.{WasDrawn, bit_of, next_of, IsSpent, Somewhere, KeepsNumber, HasNumberInHand, Rule}
-use Rattle.fm_rule_facts.proofs.Standing.{caller_is}
+use Rattle.fm_rule_facts.proofs.Sessions.{caller_is}
 use Rattle.fm_rule_facts.proofs.Callers.{made_in, drawn_or}
 
 -- the caller is a live pass's, or is gathered into one that is to return its number

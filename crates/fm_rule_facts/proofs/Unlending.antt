@@ -8,7 +8,7 @@ use Rattle.fm_base.specs.Machine.{after}
 use Rattle.fm_base.specs.Histories.{IsLegal, state_after}
 use Rattle.fm_base.proofs.Growing.{IsOver, Grows-after, Grows-state_after}
 use Rattle.fm_base.proofs.Making.{state_after-append, IsLegal-split}
-use Rattle.fm_rule_facts.specs.Loans.{Loan, loan_of, loans_by, loans_after, lent, IsUnlent, IsRightlyLent, IsRightlyLentIn, IsRightlyLentFrom}
+use Rattle.fm_rule_facts.specs.Loans.{Loan, loan_of, loans_by, loans_after, loans_of, IsUnlent, IsRightlyLent, IsRightlyLentIn, IsRightlyLentFrom}
 use Rattle.fm_rule_facts.proofs.Lending.{loan_cases, loan_was, loans_after-append}
 
 still_none : (size : ℕ) (s : State) (loans : List Loan) (call : Call) (a : ArenaId) → (arena_of s a).life ≡ Ended → IsRightlyLentIn size s loans call
@@ -63,7 +63,7 @@ over_later limit h more a l k o =
 
 -- and nothing is lent to it
 pub none_lent_later : (size limit : ℕ) (h more : List Entry) (a : ArenaId) → IsLegal limit [] (h ++ more) → IsRightlyLent size limit (h ++ more)
-    → has_arena (state_after limit [] h) a ≡ true → IsOver (arena_of (state_after limit [] h) a) → IsUnlent (lent h) a → IsUnlent (lent (h ++ more)) a
+    → has_arena (state_after limit [] h) a ≡ true → IsOver (arena_of (state_after limit [] h) a) → IsUnlent (loans_of h) a → IsUnlent (loans_of (h ++ more)) a
 none_lent_later size limit h more a l r k o n =
     subst (λ (ls : List Loan). IsUnlent ls a) (sym (loans_after-append [] h more))
-    (none_lent_on size limit (state_after limit [] h) (lent h) more a (IsLegal-split limit [] h more l).1 k o (lent-split size limit [] [] h more r) n)
+    (none_lent_on size limit (state_after limit [] h) (loans_of h) more a (IsLegal-split limit [] h more l).1 k o (lent-split size limit [] [] h more r) n)

@@ -8,7 +8,7 @@ use Rattle.fm_base_machine.proofs.Putting.{put_here, put_else, put_cases, at_cas
 use Rattle.std.specs.Int.{bit_at}
 use Rattle.fm_rule_facts.specs.Views.{Fits}
 use Rattle.fm_rule_facts.specs.Facts.{Session, free, live, shut, Memory, IsStanding, IsMarked, Counts, Givens, World}
-use Rattle.fm_rule_facts.proofs.Standing.{caller_is, standing_known, one_standing, free_apart, sessions_shut, sessions_end, open_new, sessions_open, slots_used}
+use Rattle.fm_rule_facts.proofs.Sessions.{caller_is, standing_known, one_standing, free_apart, sessions_shut, sessions_end, open_new, sessions_open, slots_used}
 
 -- ---- holds, given bytes and words
 

@@ -20,6 +20,6 @@ blank bits page_bits numbers = record {
   cells = λ p w. 0;
 }
 
--- every slot can be lent
+-- every slot can be taken
 abbrev pub first_memory : Shape → (page_bits numbers : ℕ → ℕ) → Memory
 first_memory z page_bits numbers = blank (ones z.slots) page_bits numbers

@@ -8,7 +8,7 @@ use Rattle.fm_base.specs.declared.caller.Caller.{Caller}
 use Rattle.fm_base.specs.declared.arena_id.ArenaId.{ArenaId}
 use Rattle.fm_base.specs.Calls.{Entry}
 use Rattle.fm_base.specs.Histories.{IsLegal, state_after, made_by}
-use Rattle.fm_rule_facts.specs.Loans.{lent, IsRightlyLent}
+use Rattle.fm_rule_facts.specs.Loans.{loans_of, IsRightlyLent}
 use Rattle.fm_base.specs.Finds.{Find, Gathered, Close, Sweep, is_draw, is_number, group_of}
 use Rattle.fm_base_machine.specs.Functions.{Stage, Fresh, Lives, Closes, Over, Machine, Depicts}
 use Rattle.std.specs.Int.{bit_at}
@@ -356,7 +356,7 @@ pub record Rule (z : Shape) (words : List ℕ) (views : List View) : Type 0 wher
   pub valid : IsValid z
   pub legal : IsLegal (limit_of z) [] history
   pub rightly : IsRightlyLent z.page_words (limit_of z) history
-  pub pages : Pages z (lent history) memory.page_bits memory.maps memory.cells owners.berth memory.sessions machine.life machine.word machine.given
+  pub pages : Pages z (loans_of history) memory.page_bits memory.maps memory.cells owners.berth memory.sessions machine.life machine.word machine.given
   pub depicts : Depicts (limit_of z) (state_after (limit_of z) [] history) machine
   pub shows : Shows z words memory
   pub world : World z memory machine

@@ -34,7 +34,7 @@ pub record OpenedApart (limit : ℕ) (before : List Entry) (life : ArenaId → S
   pub opened : life arena ≢ Fresh
   pub apart : (has_arena (state_after limit [] before) arena ≡ true) ⊎ (owner_of arena ≢ c)
 
--- so the slot couldn't be lent to c
+-- so the slot couldn't be taken by c
 abbrev pub IsGone : (z : Shape) (before : List Entry) (m : Memory) (taker : ℕ → Option Caller) (life : ArenaId → Stage) (c : Caller) (s : ℕ) → Type 0
 IsGone z before m taker life c s = OpenedApart (limit_of z) before life c s ⊎ ((k : Caller) × IsTakenBy z m.bits m.sessions taker s k × (k ≢ c))
 

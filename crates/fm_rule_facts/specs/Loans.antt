@@ -25,8 +25,8 @@ loans_after loans [] = loans
 loans_after loans (e ∷ es) = loans_after (loans_by loans e.call) es
 
 -- the loans of a history that weren't taken back
-abbrev pub lent : List Entry → List Loan
-lent es = loans_after [] es
+abbrev pub loans_of : List Entry → List Loan
+loans_of es = loans_after [] es
 
 -- the block is lent to no arena
 abbrev pub IsFree : List Loan → ℕ → Type 0

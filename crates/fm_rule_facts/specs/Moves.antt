@@ -7,7 +7,7 @@ use Rattle.fm_base.specs.declared.caller.Caller.{Caller}
 use Rattle.fm_base.specs.declared.arena_id.ArenaId.{ArenaId}
 use Rattle.fm_base.specs.Calls.{Call, Read, Write, SwapIf, Add, End, Lend, Back, Entry}
 use Rattle.fm_base.specs.Histories.{made_by}
-use Rattle.fm_rule_facts.specs.Loans.{lent, Loan, loan_of, loans_by, IsFree, HasPart}
+use Rattle.fm_rule_facts.specs.Loans.{loans_of, Loan, loan_of, loans_by, IsFree, HasPart}
 use Rattle.fm_base.specs.Finds.{Find, Gathered, Close, Sweep, is_draw}
 use Rattle.fm_base_machine.specs.Functions.{Fresh, Closes, Over, Machine, moved, MayBy, reply_by}
 use Rattle.std.specs.Int.{bit_at}
@@ -222,7 +222,7 @@ pub record LearnsMap (v : View) (a : ArenaId) (i x : ℕ) (w : View) : Type 0 wh
   -- a part with a given byte has a page
   pub given : (word : ℕ) → word / v.shape.page_words ≡ i → 8 * word < given_of v a → x ≢ 0
   -- a part without a page isn't lent
-  pub none : x ≡ 0 → ¬ (HasPart (lent w.seen) a i)
+  pub none : x ≡ 0 → ¬ (HasPart (loans_of w.seen) a i)
   -- it is a page of the pool
   pub low : x ≤ v.shape.pages
 

@@ -10,7 +10,7 @@ use Rattle.fm_base.specs.declared.arena_id.ArenaId.{ArenaId}
 use Rattle.fm_base.specs.Arenas.{State, Alive, Ended, has_arena, arena_of, word_in, kind_number}
 use Rattle.fm_base.specs.Calls.{Entry}
 use Rattle.fm_base.specs.Histories.{state_after}
-use Rattle.fm_rule_facts.specs.Loans.{loan_of, lent, IsFree, HasPart}
+use Rattle.fm_rule_facts.specs.Loans.{loan_of, loans_of, IsFree, HasPart}
 use Rattle.fm_rule_facts.specs.Views.{Fits, span, limit_of}
 
 -- the arena that the session of slot k names was opened
@@ -67,12 +67,12 @@ pub record ShowsWord (z : Shape) (words : List ℕ) (s : State) (a : ArenaId) (w
 pub record ShowsHistory (z : Shape) (words : List ℕ) (h : List Entry) : Type 0 where
   -- of an arena that hasn't ended, a word in a part with a block is the block's, and a word in a part without one is 0
   pub in_block : (a : ArenaId) (w block : ℕ) → (arena_of (state_after (limit_of z) [] h) a).life ≢ Ended → w < span z
-      → Contains (lent h) (loan_of block a (w / z.page_words))
+      → Contains (loans_of h) (loan_of block a (w / z.page_words))
       → word_in (state_after (limit_of z) [] h) a w ≡ slice_index words (at z (page_word block (w % z.page_words)))
-  pub in_none : (a : ArenaId) (w : ℕ) → (arena_of (state_after (limit_of z) [] h) a).life ≢ Ended → w < span z → ¬ (HasPart (lent h) a (w / z.page_words))
+  pub in_none : (a : ArenaId) (w : ℕ) → (arena_of (state_after (limit_of z) [] h) a).life ≢ Ended → w < span z → ¬ (HasPart (loans_of h) a (w / z.page_words))
       → word_in (state_after (limit_of z) [] h) a w ≡ 0
   -- blocks that aren't lent hold zeros
-  pub blank : (block w : ℕ) → block < z.pages → w < z.page_words → IsFree (lent h) block → slice_index words (at z (page_word block w)) ≡ 0
+  pub blank : (block w : ℕ) → block < z.pages → w < z.page_words → IsFree (loans_of h) block → slice_index words (at z (page_word block w)) ≡ 0
   -- a word with a given byte is one of the page that the map word of its part names
   pub named : (a : ArenaId) (w : ℕ) → (arena_of (state_after (limit_of z) [] h) a).life ≢ Ended → 8 * w < (arena_of (state_after (limit_of z) [] h) a).given
       → ShowsWord z words (state_after (limit_of z) [] h) a w

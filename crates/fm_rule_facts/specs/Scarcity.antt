@@ -5,7 +5,7 @@ use Rattle.fm_words.specs.declared.shape.Shape.{Shape}
 use Rattle.fm_base.specs.declared.arena_id.ArenaId.{ArenaId}
 use Rattle.fm_base.specs.Arenas.{same_id}
 use Rattle.fm_base.specs.Machine.{rounded_up}
-use Rattle.fm_rule_facts.specs.Loans.{Loan, lent}
+use Rattle.fm_rule_facts.specs.Loans.{Loan, loans_of}
 use Rattle.fm_rule_facts.specs.Views.{View, given_of, limit_of, one_unless, unlent}
 
 -- the arena has a block as this part
@@ -29,4 +29,4 @@ end_of v a size align = rounded_up (given_of v a) align + size
 -- the range of an allocation is within the limit, and fewer blocks aren't lent than parts up to its end have none
 pub record IsScarce (v : View) (a : ArenaId) (size align : ℕ) : Type 0 where
   pub fits : end_of v a size align ≤ limit_of v.shape
-  pub few : unlent v.shape.pages (lent v.seen) < lacking (parts_before v.shape (end_of v a size align)) (lent v.seen) a
+  pub few : unlent v.shape.pages (loans_of v.seen) < lacking (parts_before v.shape (end_of v a size align)) (loans_of v.seen) a

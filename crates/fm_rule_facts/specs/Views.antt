@@ -11,7 +11,7 @@ use Rattle.fm_base.specs.Arenas.{State, Alive, Ended, IsUnderWay, has_arena, are
 use Rattle.fm_base.specs.Calls.{Entry}
 use Rattle.fm_base.specs.Histories.{IsLegal, state_after, made_by}
 use Rattle.fm_base_machine.specs.Handles.{AreLeft, one_if}
-use Rattle.fm_rule_facts.specs.Loans.{Loan, loan_of, lent as lent_by, HasPart, IsRightlyLent}
+use Rattle.fm_rule_facts.specs.Loans.{Loan, loan_of, loans_of, HasPart, IsRightlyLent}
 use Rattle.fm_base.specs.Finds.{Find, Gathered, Close, Sweep, is_draw, is_slot, is_page, is_number, group_of}
 use Rattle.fm_rule_facts.specs.Hands.{Hand, nothing, HasSlot, Number, no_number, number_drawn, last_term, most_draws}
 use Rattle.fm_rule_facts.specs.Parts.{Mapping, Swept, wiping}
@@ -216,8 +216,8 @@ pub record FewLeft (z : Shape) (seen : List Entry) (f : Find) : Type 0 where
   pub before : List Entry
   pub begins : Begins before seen
   pub long : length before ≡ f.seen
-  pub few : unlent_in z (group_of f.step) (lent_by before) < z.passes
-  pub none : f.clear ≡ true → unlent_in z (group_of f.step) (lent_by before) ≡ 0
+  pub few : unlent_in z (group_of f.step) (loans_of before) < z.passes
+  pub none : f.clear ≡ true → unlent_in z (group_of f.step) (loans_of before) ≡ 0
 
 -- the first so many
 abbrev pub prefix : ℕ → List Gathered → List Gathered
@@ -244,14 +244,14 @@ pub record IsSound (v : View) : Type 0 where
   pub hand : (s : ℕ) → HasSlot s v.hand → s < v.shape.slots
   pub swept : (c : Sweep) → In c v.sweeps → IsOver v c.arena
   -- each page is one of the pool's, lent as one of the parts that an arena can have
-  pub loans : (l : Loan) → Contains (lent_by v.seen) l → (l.block < v.shape.pages) × (l.part < v.shape.reach)
+  pub loans : (l : Loan) → Contains (loans_of v.seen) l → (l.block < v.shape.pages) × (l.part < v.shape.reach)
   -- of an arena that is swept, parts that have no page any more aren't lent
-  pub unlent : (c : Sweep) → In c v.sweeps → (l : Loan) → Contains (lent_by v.seen) l → l.id ≡ c.arena → c.passed ≤ l.part
+  pub unlent : (c : Sweep) → In c v.sweeps → (l : Loan) → Contains (loans_of v.seen) l → l.id ≡ c.arena → c.passed ≤ l.part
   -- of an arena that hasn't ended, each part with a given byte is lent
   pub covered : (a : ArenaId) (word : ℕ) → (arena_of (state_in v) a).life ≢ Ended → 8 * word < given_of v a
-      → HasPart (lent_by v.seen) a (word / v.shape.page_words)
+      → HasPart (loans_of v.seen) a (word / v.shape.page_words)
   -- a page that it has read in a map word of the arena that it is inside is lent so
-  pub reads : (a : ArenaId) (m : Mapping) → v.inside ≡ Some a → In m v.reads → Contains (lent_by v.seen) (loan_of m.page a m.part)
+  pub reads : (a : ArenaId) (m : Mapping) → v.inside ≡ Some a → In m v.reads → Contains (loans_of v.seen) (loan_of m.page a m.part)
   -- an arena of which it has a hold or a handle
   pub held : (a : ArenaId) → In a (grips a v) → IsAlive v a
   pub own_handles : HasOwnHandles v

@@ -29,7 +29,7 @@ pub enum Step {
     Shuts(ArenaId),
     /// Looks at the mark of the pass with this number, for the close of the arena.
     Visits(ArenaId, u32),
-    /// Where the word of slot bits is this one, makes the bit 0; sees which slots can be lent.
+    /// Where the word of slot bits is this one, makes the bit 0; sees which slots can be taken.
     TakesSlot(u64, u32),
     /// Looks which generation the slot that was taken has next.
     LearnsGeneration(u32),

@@ -20,7 +20,9 @@ use Rattle.fm_rule_facts.proofs.Shown.{shows_same, shows_mark}
 use Rattle.fm_rule_steps.proofs.Reading.{Says, says, enter_says}
 use Rattle.fm_rule_facts.proofs.Founds.{no_draw}
 use Rattle.fm_rule_steps.proofs.Quiet.{looks_on}
-use Rattle.fm_rule_steps.proofs.Plain.{same_but, own, low, known_now, Made, plain}
+use Rattle.fm_rule_steps.proofs.Knowing.{own, low, known_now}
+use Rattle.fm_rule_steps.proofs.Staying.{same_but}
+use Rattle.fm_rule_steps.proofs.Plain.{Made, plain}
 
 module _ (z : Shape) (me : ℕ) (v : View) (l : v.live ≡ true) where
   -- the mark goes up

@@ -17,18 +17,20 @@ use Rattle.fm_base.specs.Machine.{IsPower, rounded_up, allocate_reply}
 use Rattle.fm_base_machine.specs.Functions.{put, put_at}
 use Rattle.fm_base_machine.proofs.Putting.{put_else}
 use Rattle.fm_rule_facts.specs.declared.step.Step.TheVariants.{Allocates}
-use Rattle.fm_rule_facts.specs.Loans.{lent}
+use Rattle.fm_rule_facts.specs.Loans.{loans_of}
 use Rattle.fm_rule_facts.specs.Steps.{part, entries, noted, acted, none_noted, where_found, given_next}
 use Rattle.fm_rule_facts.specs.Facts.{IsStanding, Shows, Rule}
 use Rattle.fm_rule_facts.specs.Parts.{mapping_of}
 use Rattle.fm_rule_facts.proofs.Living.{pages_given}
 use Rattle.fm_rule_facts.specs.Moves.{MayStep}
-use Rattle.fm_rule_facts.proofs.Standing.{standing_known}
+use Rattle.fm_rule_facts.proofs.Sessions.{standing_known}
 use Rattle.fm_rule_facts.proofs.Worlds.{world_given}
 use Rattle.fm_rule_facts.proofs.Shown.{shows_same, shows_given}
 use Rattle.fm_rule_steps.proofs.Reading.{eqb_true}
 use Rattle.fm_rule_steps.proofs.Quiet.{looks_on}
-use Rattle.fm_rule_steps.proofs.Plain.{stays_ended, own, Made}
+use Rattle.fm_rule_steps.proofs.Knowing.{own}
+use Rattle.fm_rule_steps.proofs.Staying.{stays_ended}
+use Rattle.fm_rule_steps.proofs.Plain.{Made}
 use Rattle.fm_base.proofs.Growing.{le-rounded_up, power_pos}
 use Rattle.fm_rule_steps.proofs.Reaching.{here, stands, fit, apart, act}
 
@@ -69,7 +71,7 @@ module _ (z : Shape) (me : ℕ) (v : View) (l : v.live ≡ true) (a : ArenaId) (
           r.machine.word (put_at r.machine.given a (round + size)) refl (here z me v l a ins ws vs r at, power) (answer true fits) (λ b n. n) tt refl
           (shows_given z r.valid ws r.memory r.shows a.slot (round + size) (fit z me v l a ins ws vs r at).slot)
           (world_given z r.memory r.machine r.world a (round + size) (stands z me v l a ins ws vs r at))
-          (pages_given z (lent r.history) r.memory.page_bits r.memory.maps r.memory.cells r.owners.berth r.memory.sessions r.machine.life r.machine.word
+          (pages_given z (loans_of r.history) r.memory.page_bits r.memory.maps r.memory.cells r.owners.berth r.memory.sessions r.machine.life r.machine.word
           r.machine.given r.world.sessions r.pages a (round + size) (stands z me v l a ins ws vs r at) (more e) (covered e fits))
           (λ q j b n. refl)
           (λ b o f. record {

@@ -22,7 +22,8 @@ use Rattle.fm_rule_facts.specs.Moves.{MayStep}
 use Rattle.fm_rule_facts.proofs.Gripping.{handles_are, with_handles, last_handle}
 use Rattle.fm_rule_steps.proofs.Reading.{Says, says, alive_read, eqb_true, eqb_false}
 use Rattle.fm_rule_steps.proofs.Quiet.{looks_on}
-use Rattle.fm_rule_steps.proofs.Plain.{known_now, Made}
+use Rattle.fm_rule_steps.proofs.Knowing.{known_now}
+use Rattle.fm_rule_steps.proofs.Plain.{Made}
 use Rattle.fm_rule_steps.proofs.Holding.{known_lives, shows_alive, its_alive, drops, less_word}
 use Rattle.fm_rule_steps.proofs.Shutting.{shuts}
 

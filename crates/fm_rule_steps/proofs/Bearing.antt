@@ -8,25 +8,16 @@ use Rattle.fm_words.specs.Places.{at as place_at, session, given as given_place}
 use Rattle.fm_words.specs.Sessions.{session_of, session_word, free, alive, closing}
 use Rattle.fm_words.proofs.Sessions.{session_word-session_of}
 use Rattle.fm_base.specs.declared.arena_id.ArenaId.{ArenaId}
-use Rattle.fm_base.specs.declared.kind.Kind.{Kind}
-use Rattle.fm_base.specs.declared.kind.Kind.TheVariants.{Global, Automatic, Confined, Shared}
 use Rattle.fm_base.specs.Arenas.{Alive, Ended, State, arena_of, kind_number, has_arena}
 use Rattle.fm_base.specs.Calls.{Entry}
 use Rattle.fm_base.specs.Histories.{state_after}
 use Rattle.fm_base.proofs.Growing.{there_by_life}
+use Rattle.fm_base.proofs.Names.{kind_same}
 use Rattle.fm_rule_facts.specs.Views.{Fits, limit_of}
 use Rattle.fm_rule_facts.specs.Words.{alive_word, alive_holds}
 use Rattle.fm_rule_facts.specs.Rest.{ShowsSlot, ShowsHistory, ShowsArena}
 use Rattle.fm_rule_steps.proofs.Reading.{alive_read, reads_alive}
 use Rattle.fm_rule_steps.proofs.Decoding.{alive_session, live_read}
-
--- a kind is told by its number
-kind_same : (j k : Kind) → kind_number j ≡ kind_number k → j ≡ k
-kind_same Global Global e = refl
-kind_same Automatic Automatic e = refl
-kind_same Confined Confined e = refl
-kind_same Shared Shared e = refl
-kind_same j k e = absurd (cc)
 
 -- names of the same fields are one
 one_name : (a b : ArenaId) → a.slot ≡ b.slot → a.generation ≡ b.generation → a.owner ≡ b.owner → a.term ≡ b.term → kind_number a.kind ≡ kind_number b.kind

@@ -16,7 +16,7 @@ use Rattle.std.specs.Prelude.{◌&&◌}
 use Rattle.fm_rule_facts.specs.Hands.{slots_in}
 use Rattle.fm_base_machine.proofs.Putting.{put_here, put_else, put_cases}
 use Rattle.fm_rule_facts.specs.declared.step.Step.TheVariants.{Claims, GivesPage}
-use Rattle.fm_rule_facts.specs.Loans.{lent}
+use Rattle.fm_rule_facts.specs.Loans.{loans_of}
 use Rattle.fm_rule_facts.specs.Gone.{FoundBy}
 use Rattle.fm_rule_facts.specs.Parts.{pages_taken}
 use Rattle.fm_rule_facts.specs.Views.{View, In}
@@ -29,13 +29,14 @@ use Rattle.fm_rule_facts.proofs.Returning.{pages_give}
 use Rattle.fm_rule_facts.proofs.Shown.{shows_same, shows_page_bits}
 use Rattle.fm_rule_facts.proofs.Ruling.{page_by, page_like, AreLooked, unlooked}
 use Rattle.fm_rule_steps.proofs.Reading.{eqb_true, eqb_false}
-use Rattle.fm_rule_steps.proofs.Plain.{own, Made}
+use Rattle.fm_rule_steps.proofs.Knowing.{own}
+use Rattle.fm_rule_steps.proofs.Plain.{Made}
 use Rattle.fm_rule_steps.proofs.Scarce.{few_left}
 use Rattle.fm_rule_facts.proofs.Gone.{NoSlots, none_founded}
 use Rattle.fm_rule_steps.proofs.Paging.{paged, swept_still}
 
 -- a clear pass is known to be whole
-whole_clear : (v : View) → is_clear v ≡ true → v.whole ≡ true
+pub whole_clear : (v : View) → is_clear v ≡ true → v.whole ≡ true
 whole_clear v h = go v.whole refl
   where
     go : (b : Bool) → v.whole ≡ b → v.whole ≡ true
@@ -110,7 +111,8 @@ module _ (z : Shape) (me : ℕ) (v : View) (l : v.live ≡ true) (ws : List ℕ)
           moved = record { others = λ q j b h. (put_else r.owners.berth p (claimed me) q (far q j b), λ w. refl); stay = λ b k q st f. f };
           ended = λ b o f k. refl;
           lends = tt;
-          pages = pages_take z (lent r.history) r.memory.page_bits r.memory.maps r.memory.cells r.owners.berth r.memory.sessions r.machine.life r.machine.word
+          pages =
+              pages_take z (loans_of r.history) r.memory.page_bits r.memory.maps r.memory.cells r.owners.berth r.memory.sessions r.machine.life r.machine.word
               r.machine.given r.valid.page_words.0 r.world.sessions r.pages bits' me p one' zero others;
           keep = λ q j. put_cases r.owners.berth p (claimed me) q
               (λ (c : Berth). IsAt j c → ((j ≡ me) × HasPage q c (record v { pages = p ∷ v.pages; reads = v.reads }))
@@ -178,7 +180,8 @@ module _ (z : Shape) (me : ℕ) (v : View) (l : v.live ≡ true) (ws : List ℕ)
           };
           ended = λ b o f k. refl;
           lends = tt;
-          pages = pages_give z (lent r.history) r.memory.page_bits r.memory.maps r.memory.cells r.owners.berth r.memory.sessions r.machine.life r.machine.word
+          pages =
+              pages_give z (loans_of r.history) r.memory.page_bits r.memory.maps r.memory.cells r.owners.berth r.memory.sessions r.machine.life r.machine.word
               r.machine.given r.world.sessions r.pages bits' p
               (set_here r.memory.page_bits p (get_or ws bits_place_at 0) is_bits) (set_else r.memory.page_bits p (get_or ws bits_place_at 0) is_bits) me at_hand;
           keep = λ q j. put_cases r.owners.berth p loose q

@@ -1,6 +1,5 @@
 -- The rule over a draw: a caller was drawn.
-use Rattle.std.proofs.Common.{◌≡◌, ◌≢◌, ◌⊎◌, ℕ, ◌+◌, ◌<◌, ◌≤◌, Bool, true, false, List, [], ◌++◌, length, set, sym, refl, ap, ◌∙◌, subst, arith, inl, inr, ⊎_elim}
-use Rattle.std.proofs.lemmas.List.{append-nil}
+use Rattle.std.proofs.Common.{◌≡◌, ◌≢◌, ◌⊎◌, ℕ, ◌+◌, ◌<◌, ◌≤◌, true, false, List, [], ◌++◌, length, set, sym, refl, ap, ◌∙◌, subst, arith, inl, inr, ⊎_elim}
 use mathlib.Core.Option.{some}
 use mathlib.Core.Logic.{dite}
 use native.Mathlib.Decide.{ℕ_discrete}
@@ -9,30 +8,28 @@ use Rattle.atomic_table.proofs.Lists.{at_set}
 use Rattle.fm_words.specs.declared.shape.Shape.{Shape}
 use Rattle.fm_words.specs.Places.{at as place_at, draw as draw_place}
 use Rattle.fm_base.specs.Calls.{Entry}
-use Rattle.fm_base.specs.Histories.{made_by}
 use Rattle.fm_base.specs.Finds.{Find, Gathered, is_number}
 use Rattle.fm_base_machine.specs.Functions.{put, put_by}
 use Rattle.fm_base_machine.proofs.Putting.{put_here, put_else, by_here, by_else}
 use Rattle.fm_rule_facts.specs.Views.{View, In, all_gathered}
 use Rattle.fm_rule_facts.specs.Holds.{holds_of}
-use Rattle.fm_rule_facts.specs.Facts.{Memory, Owners, HasGathered, HasDraw, HasClose, HasSweep, KeepsSlot, DrewIn, IsGathered, IsDrawn, IsOnce, Somewhere, Owns, Knows, Rule, HasPage, WantsNumber, IsUsed, used, wanted, IsLooked, WasDrawn, bit_of, next_of, IsUndrawn, IsSpent, IsCounted, HasNumberInHand, KeepsCaller, KeepsNumber}
+use Rattle.fm_rule_facts.specs.Facts.{Memory, Owners, HasDraw, HasClose, HasSweep, KeepsSlot, DrewIn, IsDrawn, Somewhere, Owns, Knows, Rule, HasPage, WantsNumber, IsUsed, used, wanted, IsLooked, WasDrawn, bit_of, next_of, IsUndrawn, IsSpent, IsCounted, HasNumberInHand, KeepsCaller, KeepsNumber}
 use Rattle.fm_base.specs.declared.caller.Caller.{Caller}
-use Rattle.fm_rule_facts.specs.Hands.{Number, no_number, number_taken, number_learnt, number_drawn, number_left, number_joined, HasNumberIn, most_draws}
+use Rattle.fm_rule_facts.specs.Hands.{number_learnt, number_drawn, HasNumberIn, most_draws}
 use Rattle.fm_rule_facts.proofs.Looking.{looked_on, looked_told, none_looked, wants_in}
 use Rattle.atomic_table.proofs.Lists.{set_else}
 use mathlib.Core.Option.{some-injective}
-use Rattle.fm_rule_facts.proofs.Handing.{hand_view}
 use Rattle.fm_rule_facts.proofs.Callers.{same_caller}
 use Rattle.fm_rule_facts.specs.Moves.{told}
 use Rattle.fm_rule_facts.specs.Gone.{IsFounded}
 use Rattle.fm_rule_facts.proofs.Ruling.{page_like}
 use Rattle.fm_rule_facts.proofs.Gone.{NoSlots, none_founded, founded_same, founded_told}
 use Rattle.fm_rule_facts.proofs.Founds.{AreWithin, counted_later, counted_told, counted_set}
-use Rattle.fm_rule_facts.proofs.Keeping.{set_there, in_left, in_right, stays_somewhere, gathered_all, seated_all, closing_as, sweeping_as}
+use Rattle.fm_rule_facts.proofs.Keeping.{set_there, in_left, in_right, stays_somewhere, gathered_all}
 use Rattle.fm_rule_facts.proofs.Summing.{total-set}
-use Rattle.fm_rule_facts.proofs.Handles.{handles_still}
 use Rattle.fm_rule_facts.proofs.Shown.{shows_draw}
-use Rattle.fm_rule_steps.proofs.Plain.{own}
+use Rattle.fm_rule_steps.proofs.Knowing.{own}
+use Rattle.fm_rule_steps.proofs.Drawn.{knows, other_knows}
 
 module _ (z : Shape) (me : ℕ) (v : View) (l : v.live ≡ true) (lone : v.met ≡ []) (ws : List ℕ) (vs : List View) (r : Rule z ws vs)
     (at : get_elem? vs me ≡ some v) where
@@ -45,158 +42,8 @@ module _ (z : Shape) (me : ℕ) (v : View) (l : v.live ≡ true) (lone : v.met �
   abbrev zs : List Entry
   zs = (r.each me v at).begins.0
 
-  abbrev is : r.history ≡ v.seen ++ zs
-  is = (r.each me v at).begins.1
-
-  -- the memory where so many draws were made, and the owners where these callers were drawn
-  abbrev memory_at : ℕ → Memory
-  memory_at d = record r.memory { draw = d }
-
-  abbrev owners_at : (ℕ → Caller) → (Caller → ℕ) → (Caller → ℕ) → Owners
-  owners_at who rank seat = record r.owners { who = who; rank = rank; seat = seat }
-
-  abbrev pub part_of : Number → Bool → View
-  part_of x wh = record v { number = x; whole = wh }
-
   abbrev Was : Caller → Type 0
   Was c = WasDrawn r.memory.draw r.owners.who r.owners.rank c
-
-  module _ (d : ℕ) (who : ℕ → Caller) (rank : Caller → ℕ) (seat : Caller → ℕ) (on : (c : Caller) → Was c → WasDrawn d who rank c)
-      (same : (c : Caller) → Was c → seat c ≡ r.owners.seat c) where
-    abbrev m' : Memory
-    m' = memory_at d
-
-    abbrev o' : Owners
-    o' = owners_at who rank seat
-
-    -- what the view says after the step
-    module _ (x : Number) (wh : Bool) (fs : ℕ → List Find) (hand : HasNumberInHand z r.history m' r.machine o' me v x)
-        (not_own : (n : ℕ) → HasNumberIn n x → n ≢ v.caller.number)
-        (whole : wh ≡ true → (c : Caller) → WasDrawn d who rank c → c ≢ v.caller → HasGathered c v) where
-      abbrev w : View
-      w = told (part_of x wh) zs [] fs
-
-      seen_is : w.seen ≡ r.history
-      seen_is = append-nil (v.seen ++ zs) ∙ sym is
-
-      pub knows : Knows z r.history m' r.machine o' me w
-      knows =
-          let u = mine in
-          record {
-            shape = (r.each me v at).shape;
-            begins = ([], sym (append-nil w.seen ∙ seen_is));
-            met = λ x j. absurd j;
-            owns = λ e. record {
-              drawn = on v.caller u.drawn;
-              term = u.term;
-              seated = same v.caller u.drawn ∙ u.seated;
-              owner = u.owner;
-              bit = u.bit;
-              mine = ap (made_by v.caller) (sym seen_is);
-              inside = u.inside;
-              mark = u.mark;
-              closes = λ c j. closing_as (u.closes c j);
-              once = u.once;
-              sweeps = λ c j. sweeping_as (u.sweeps c j);
-              swept_once = u.swept_once;
-              hand = u.hand;
-              took = u.took;
-              pages = u.pages;
-              gathered = λ g j.
-                  let y = (gathered_all z r.history r.memory r.machine r.owners me v u g j).1 in
-                  record {
-                    drawn = on g.caller y.drawn;
-                    seated = same g.caller y.drawn ∙ y.seated;
-                    apart = y.apart;
-                    outside = y.outside;
-                    quiet = ap (made_by g.caller) (sym seen_is);
-                  };
-              coming = λ x j. absurd j;
-              one_each = subst (IsOnce (λ (g : Gathered). g.caller)) (sym (append-nil (all_gathered v))) u.one_each;
-              number = hand_view z r.history m' r.machine o' me v w refl (λ g j. subst (In g) (append-nil (all_gathered v)) j)
-                  (λ g j. subst (In g) (sym (append-nil (all_gathered v))) j) x hand;
-              not_own = not_own;
-              whole = λ e c b ne. let g = whole e c b ne in (g.0, subst (In g.0) (sym (append-nil (all_gathered v))) g.1, g.2);
-              handles = handles_still v w.seen (ap (made_by v.caller) seen_is ∙ u.mine) u.handles;
-              seen_all = λ e. seen_is;
-            };
-          }
-
-    -- what another view says
-    module _ (back : (c : Caller) → WasDrawn d who rank c → Was c ⊎ (r.owners.number c.number ≡ me))
-        (most : r.memory.draw ≡ most_draws → d ≡ most_draws) (j : ℕ) (u : View) (ne : j ≢ me) where
-      next_on : (n : ℕ) → IsUndrawn z r.memory r.owners j n → IsUndrawn z m' o' j n
-      next_on n y = record {
-        loose = record { low = y.loose.low; owner = y.loose.owner; bit = y.loose.bit; mark = y.loose.mark };
-        fresh = λ q. ⊎_elim y.fresh (λ (e : r.owners.number n ≡ me). ne (sym y.loose.owner ∙ e)) (back (next_of r.memory.terms n) q);
-      }
-
-      hand_on : (x : Number) → HasNumberInHand z r.history r.memory r.machine r.owners j u x → HasNumberInHand z r.history m' r.machine o' j u x
-      hand_on no_number y = tt
-      hand_on (number_taken n) y = next_on n y
-      hand_on (number_learnt n t) y = (next_on n y.0, y.1)
-      hand_on (number_drawn c) y = record {
-        loose = record { low = y.loose.low; owner = y.loose.owner; bit = y.loose.bit; mark = y.loose.mark };
-        term = y.term;
-        drawn = on c y.drawn;
-        later = y.later;
-        seated = same c y.drawn ∙ y.seated;
-        apart = y.apart;
-        ungathered = y.ungathered;
-        silent = y.silent;
-      }
-      hand_on (number_left n) y = (next_on n y.0, ⊎_elim (λ (e : r.memory.draw ≡ most_draws). inl (most e)) inr y.1)
-      hand_on (number_joined c) y = record {
-        loose = record { low = y.loose.low; owner = y.loose.owner; bit = y.loose.bit; mark = y.loose.mark };
-        term = y.term;
-        left = y.left;
-        gathered = y.gathered;
-      }
-
-      pub other_knows : Knows z r.history r.memory r.machine r.owners j u → Knows z r.history m' r.machine o' j u
-      other_knows k = record {
-        shape = k.shape;
-        begins = k.begins;
-        met = k.met;
-        owns = λ q.
-            let x = k.owns q in
-            let still : (xs : List Entry) (g : Gathered) → IsGathered r.history r.memory r.machine r.owners j u xs g
-            → IsGathered r.history m' r.machine o' j u xs g = (λ xs g y. record {
-              drawn = on g.caller y.drawn;
-              seated = same g.caller y.drawn ∙ y.seated;
-              apart = y.apart;
-              outside = y.outside;
-              quiet = y.quiet;
-            }) in
-            let alone : u.whole ≡ true → ⊥ = (λ e.
-            let g = x.whole e v.caller mine.drawn (λ p. ne (sym x.seated ∙ (ap r.owners.seat (sym p) ∙ mine.seated))) in
-            ne (sym (seated_all z r.history r.memory r.machine r.owners j u x g.0 g.1) ∙ (ap r.owners.seat g.2 ∙ mine.seated))) in
-            record {
-              drawn = on u.caller x.drawn;
-              term = x.term;
-              seated = same u.caller x.drawn ∙ x.seated;
-              owner = x.owner;
-              bit = x.bit;
-              mine = x.mine;
-              inside = x.inside;
-              mark = x.mark;
-              closes = λ c i. closing_as (x.closes c i);
-              once = x.once;
-              sweeps = λ c i. sweeping_as (x.sweeps c i);
-              swept_once = x.swept_once;
-              hand = x.hand;
-              took = x.took;
-              pages = x.pages;
-              gathered = λ g i. still u.seen g (x.gathered g i);
-              coming = λ y n g i. still y.seen g (x.coming y n g i);
-              one_each = x.one_each;
-              number = hand_on u.number x.number;
-              not_own = x.not_own;
-              whole = λ e. absurd (alone e);
-              handles = x.handles;
-              seen_all = λ e. absurd (alone e);
-            };
-      }
 
   -- the rule where the step drew the next caller of the number n in the hand
   module _ (n k : ℕ) (learnt : v.number ≡ number_learnt n k) (room : r.memory.draw ≢ most_draws) (fs : ℕ → List Find)
@@ -259,10 +106,10 @@ module _ (z : Shape) (me : ℕ) (v : View) (l : v.live ≡ true) (lone : v.met �
     ]
 
     abbrev m1 : Memory
-    m1 = memory_at (d + 1)
+    m1 = record r.memory { draw = d + 1 }
 
     abbrev o1 : Owners
-    o1 = owners_at who' rank' seat'
+    o1 = record r.owners { who = who'; rank = rank'; seat = seat' }
 
     drawn_now : IsDrawn z r.history m1 r.machine o1 me v c
     drawn_now = record {
@@ -279,8 +126,11 @@ module _ (z : Shape) (me : ℕ) (v : View) (l : v.live ≡ true) (lone : v.met �
       silent = let y = r.later c new in record { calls = y.calls; outside = y.outside };
     }
 
+    abbrev drawing : View
+    drawing = record v { number = number_drawn c; whole = false }
+
     abbrev pub drawer : View
-    drawer = told (part_of (number_drawn c) false) zs [] fs
+    drawer = told drawing zs [] fs
 
     caller_on : (x : Caller) → KeepsCaller x v → KeepsCaller x drawer
     caller_on x (inl h) = inl h
@@ -304,7 +154,7 @@ module _ (z : Shape) (me : ℕ) (v : View) (l : v.live ≡ true) (lone : v.met �
     who_on j l = put_else r.owners.who d c j (λ e. omega arith)
 
     founds : AreWithin (d + 1) who' rank' fs → IsCounted (d + 1) who' rank' drawer
-    founds few = counted_told (d + 1) who' rank' v (part_of (number_drawn c) false) zs [] fs refl refl few
+    founds few = counted_told (d + 1) who' rank' v drawing zs [] fs refl refl few
         (counted_later d r.owners.who r.owners.rank (d + 1) who' rank' (omega arith) on v (r.counted me v at))
 
     pub drew : AreWithin (d + 1) who' rank' fs → Rule z (set ws i (d + 1)) (set vs me drawer)
@@ -404,14 +254,14 @@ module _ (z : Shape) (me : ℕ) (v : View) (l : v.live ≡ true) (lone : v.met �
       each = λ j y at'. ⊎_elim
           (λ (e : (j ≡ me) × (drawer ≡ y)). subst (λ (x : ℕ × View). Knows z r.history m1 r.machine o1 x.0 x.1)
           (λ k. (sym e.0 k, e.1 k))
-          (knows (d + 1) who' rank' seat' on seat_on (number_drawn c) false fs drawn_now (λ n e. not_own_is n e) (λ e. absurd (cc))))
+          (knows z me v l lone ws vs r at (d + 1) who' rank' seat' on seat_on (number_drawn c) false fs drawn_now (λ n e. not_own_is n e) (λ e. absurd (cc))))
           (λ (e : (j ≢ me) × (get_elem? vs j ≡ some y)).
-          other_knows (d + 1) who' rank' seat' on seat_on mine_only (λ e. absurd (room e)) j y e.0 (r.each j y e.1))
+          other_knows z me v l lone ws vs r at (d + 1) who' rank' seat' on seat_on mine_only (λ e. absurd (room e)) j y e.0 (r.each j y e.1))
           (at_set vs me j drawer y at');
       counted = counted_set d r.owners.who r.owners.rank (d + 1) who' rank' (omega arith) on vs me drawer (founds few) r.counted;
       founds = λ j y at'. ⊎_elim
           (λ (e : (j ≡ me) × (drawer ≡ y)). subst (IsFounded z r.history m1 r.owners.taker r.machine.life) e.1
-          (founded_told z r.history m1 r.owners.taker r.machine.life v (part_of (number_drawn c) false) zs [] fs refl refl refl
+          (founded_told z r.history m1 r.owners.taker r.machine.life v drawing zs [] fs refl refl refl
           (none_founded z r.history m1 r.owners.taker r.machine.life v.caller fs slots (length (v.seen ++ zs)))
           (founded_same z r.history r.memory m1 r.owners.taker r.machine.life (λ s k x. x) v (r.founds me v at))))
           (λ (e : (j ≢ me) × (get_elem? vs j ≡ some y)).
@@ -419,7 +269,7 @@ module _ (z : Shape) (me : ℕ) (v : View) (l : v.live ≡ true) (lone : v.met �
           (at_set vs me j drawer y at');
       looked = λ j y at'. ⊎_elim
           (λ (e : (j ≡ me) × (drawer ≡ y)). subst (IsLooked z m1 o1 (set vs me drawer)) e.1
-          (looked_now drawer (looked_told z r.memory r.owners vs v (part_of (number_drawn c) false) zs [] fs refl refl refl
+          (looked_now drawer (looked_told z r.memory r.owners vs v drawing zs [] fs refl refl refl
           (λ f i. (
             (λ q. absurd (let u : true ≡ false = sym q ∙ idle (length (v.seen ++ zs)) f i in cc)),
             none_looked z r.memory r.owners vs v.gathered f (idle (length (v.seen ++ zs)) f i),

@@ -15,7 +15,7 @@ use Rattle.std.specs.Prelude.{Contains}
 use Rattle.fm_words.specs.declared.shape.Shape.{Shape}
 use Rattle.fm_words.specs.Places.{at as place_at, page_word}
 use Rattle.fm_rule_facts.specs.Views.{View}
-use Rattle.fm_rule_facts.specs.Loans.{Loan, loan_of, lent, IsFree}
+use Rattle.fm_rule_facts.specs.Loans.{Loan, loan_of, loans_of, IsFree}
 
 pub kept_else : (n g : ℕ) → g ≢ n → kept n g ≡ g
 unfolding kept
@@ -70,11 +70,11 @@ module _ (z : Shape) (ws : List ℕ) (vs : List View) (r : Rule z ws vs) where
       r.pages.words a w p st e ∙ sym (r.shows.cells p (w % z.page_words) y.page (mod-lt w r.valid.page_words.0))
 
   -- a block that isn't lent has zeros
-  pub blank_block : (b w : ℕ) → w < z.page_words → IsFree (lent r.history) b → r.memory.cells b w ≡ 0
+  pub blank_block : (b w : ℕ) → w < z.page_words → IsFree (loans_of r.history) b → r.memory.cells b w ≡ 0
   blank_block b w h f = go (r.owners.berth b) refl
     where
-      unlent : (l : Loan) → Contains (lent r.history) l → l.block ≢ b
-      unlent l i = All-contains (λ (x : Loan). x.block ≢ b) (lent r.history) l f i
+      unlent : (l : Loan) → Contains (loans_of r.history) l → l.block ≢ b
+      unlent l i = All-contains (λ (x : Loan). x.block ≢ b) (loans_of r.history) l f i
 
       go : (x : Berth) → r.owners.berth b ≡ x → r.memory.cells b w ≡ 0
       go loose e = r.pages.loose_is b e w h

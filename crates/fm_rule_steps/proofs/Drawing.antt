@@ -35,8 +35,10 @@ use Rattle.fm_rule_facts.proofs.Summing.{total-set}
 use Rattle.fm_rule_facts.proofs.Callers.{counted, all_counted}
 use Rattle.fm_rule_facts.proofs.Shown.{shows_same}
 use Rattle.fm_rule_steps.proofs.Reading.{eqb_true, eqb_false}
-use Rattle.fm_rule_steps.proofs.Plain.{own, Made}
-use Rattle.fm_rule_steps.proofs.Counting.{knows, drew, drew_history, now, who', rank'}
+use Rattle.fm_rule_steps.proofs.Knowing.{own}
+use Rattle.fm_rule_steps.proofs.Plain.{Made}
+use Rattle.fm_rule_steps.proofs.Counting.{drew, drew_history, now, who', rank'}
+use Rattle.fm_rule_steps.proofs.Drawn.{knows}
 
 both : (a b : Bool) → (a && b) ≡ true → b ≡ true
 both true b e = e

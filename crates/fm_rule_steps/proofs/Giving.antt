@@ -19,7 +19,9 @@ use Rattle.fm_rule_facts.proofs.Founds.{no_draw}
 use Rattle.fm_rule_facts.proofs.Retiring.{world_give}
 use Rattle.fm_rule_facts.proofs.Shown.{shows_bits}
 use Rattle.fm_rule_facts.proofs.Ruling.{page_like, keeps}
-use Rattle.fm_rule_steps.proofs.Plain.{same_but, own, Made, sweeps_still, numbers_stay, number_stays}
+use Rattle.fm_rule_steps.proofs.Knowing.{own}
+use Rattle.fm_rule_steps.proofs.Staying.{same_but, sweeps_still, numbers_stay, number_stays}
+use Rattle.fm_rule_steps.proofs.Plain.{Made}
 
 module _ (z : Shape) (me : ℕ) (v : View) (l : v.live ≡ true) (s : ℕ) (hand : v.hand ≡ retired s) (ws : List ℕ) (vs : List View) (r : Rule z ws vs)
     (at : get_elem? vs me ≡ some v) where

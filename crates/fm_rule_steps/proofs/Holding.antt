@@ -26,7 +26,9 @@ use Rattle.fm_rule_facts.proofs.Gripping.{holds_are, with_holds, with_same, held
 use Rattle.fm_rule_steps.proofs.Reading.{kind_below, Says, says, hold_says, eqb_true, eqb_false}
 use Rattle.fm_rule_facts.proofs.Founds.{no_draw}
 use Rattle.fm_rule_steps.proofs.Quiet.{answers_on, looks_on}
-use Rattle.fm_rule_steps.proofs.Plain.{same_but, own, known_now, Made, plain}
+use Rattle.fm_rule_steps.proofs.Knowing.{own, known_now}
+use Rattle.fm_rule_steps.proofs.Staying.{same_but}
+use Rattle.fm_rule_steps.proofs.Plain.{Made, plain}
 
 -- one hold more in a session word
 more_word : (a : ArenaId) (n : ℕ) → alive_word a n + 1 ≡ alive_word a (n + 1)

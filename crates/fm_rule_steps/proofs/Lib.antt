@@ -1,11 +1,14 @@
 pub mod Reading
 pub mod Decoding
+pub mod Knowing
+pub mod Staying
 pub mod Plain
 pub mod Quiet
 pub mod Acting
 pub mod Reaching
 pub mod Allocating
 pub mod Holding
+pub mod Drawn
 pub mod Counting
 pub mod Drawing
 pub mod Closes
@@ -26,6 +29,7 @@ pub mod Resetting
 pub mod Retiring
 pub mod Giving
 pub mod Numbering
+pub mod TakingNumbers
 pub mod Opening
 pub mod Splitting
 pub mod Halving

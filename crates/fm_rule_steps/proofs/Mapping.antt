@@ -13,7 +13,7 @@ use Rattle.fm_base.specs.Finds.{Find, Maps as Mapped}
 use Rattle.fm_base_machine.specs.Functions.{Over, put}
 use Rattle.fm_base_machine.proofs.Putting.{put_here, put_else, put_cases}
 use Rattle.fm_rule_facts.specs.declared.step.Step.TheVariants.{Maps, ReadsMap}
-use Rattle.fm_rule_facts.specs.Loans.{lent, HasPart}
+use Rattle.fm_rule_facts.specs.Loans.{loans_of, HasPart}
 use Rattle.fm_rule_facts.specs.Gone.{FoundBy}
 use Rattle.fm_rule_facts.specs.Parts.{Mapping, mapping_of}
 use Rattle.fm_rule_facts.specs.Views.{View, In}
@@ -21,13 +21,14 @@ use Rattle.fm_rule_facts.specs.Steps.{part, entries, noted, none_noted, note_of,
 use Rattle.fm_rule_facts.specs.Facts.{own_map, shut, IsStanding, Berth, claimed, mapped, unmapped, IsAt, HasPage, Owns, Rule}
 use Rattle.fm_rule_facts.specs.Moves.{LearnsMap, MayStep}
 use Rattle.fm_rule_facts.proofs.Founds.{NoneDrawn, NoDraw, no_draw, note_no_draw}
-use Rattle.fm_rule_facts.proofs.Standing.{standing_known, ended_apart, unstanding}
+use Rattle.fm_rule_facts.proofs.Sessions.{standing_known, ended_apart, unstanding}
 use Rattle.fm_rule_facts.proofs.Moving.{pages_map, no_part, claimed_free, read_mapped}
 use Rattle.fm_rule_facts.proofs.Shown.{shows_same, shows_map}
 use Rattle.fm_rule_facts.proofs.Ruling.{page_by, page_like}
 use Rattle.fm_rule_facts.proofs.Keeping.{set_there}
 use Rattle.fm_rule_steps.proofs.Reading.{eqb_true, eqb_false, none_read, page_read, page_back}
-use Rattle.fm_rule_steps.proofs.Plain.{own, given_now, Made}
+use Rattle.fm_rule_steps.proofs.Knowing.{own, given_now}
+use Rattle.fm_rule_steps.proofs.Plain.{Made}
 use Rattle.fm_rule_facts.proofs.Gone.{none_founded}
 use Rattle.fm_rule_facts.proofs.Ruling.{AreLooked, unlooked}
 use Rattle.fm_rule_steps.proofs.Paging.{paged, swept_still}
@@ -131,7 +132,7 @@ module _ (z : Shape) (me : ℕ) (v : View) (l : v.live ≡ true) (ws : List ℕ)
           (λ j. put_here r.memory.maps a.slot (put (r.memory.maps a.slot) i (Some p)) j i) ∙ put_here (r.memory.maps a.slot) i (Some p) in
           let stay : (b : ArenaId) (k q : ℕ) → IsStanding (r.machine.life b) → r.memory.maps b.slot k ≡ Some q → maps' b.slot k ≡ Some q =
           (λ b k q st f. read_mapped z
-          (lent r.history) r.memory.page_bits r.memory.maps r.memory.cells r.owners.berth r.memory.sessions r.machine.life r.machine.word
+          (loans_of r.history) r.memory.page_bits r.memory.maps r.memory.cells r.owners.berth r.memory.sessions r.machine.life r.machine.word
           r.machine.given r.valid.page_words.0 r.world.sessions r.pages a i p none b k q f) in
           let ended : (b : ArenaId) → r.machine.life b ≡ Over → r.memory.sessions b.slot ≡ shut b → (k : ℕ) → maps' b.slot k ≡ r.memory.maps b.slot k =
           (λ b o f k. λ j. put_else r.memory.maps a.slot (put (r.memory.maps a.slot) i (Some p)) b.slot (apart b f o) j k) in
@@ -150,16 +151,18 @@ module _ (z : Shape) (me : ℕ) (v : View) (l : v.live ≡ true) (ws : List ℕ)
             ended = ended;
             lends = (
               (
-                claimed_free z (lent r.history) r.memory.page_bits r.memory.maps r.memory.cells r.owners.berth r.memory.sessions r.machine.life r.machine.word
+                claimed_free z (loans_of r.history) r.memory.page_bits r.memory.maps r.memory.cells r.owners.berth r.memory.sessions
+                r.machine.life r.machine.word
                     r.machine.given r.valid.page_words.0 r.world.sessions r.pages p me at_hand,
                 standing_known (r.machine.life a) stands,
                 λ o. unstanding (r.machine.life a) o stands,
-                no_part z (lent r.history) r.memory.page_bits r.memory.maps r.memory.cells r.owners.berth r.memory.sessions r.machine.life r.machine.word
+                no_part z (loans_of r.history) r.memory.page_bits r.memory.maps r.memory.cells r.owners.berth r.memory.sessions r.machine.life r.machine.word
                     r.machine.given r.valid.page_words.0 r.world.sessions r.pages a i stands none,
               ),
               tt,
             );
-            pages = pages_map z (lent r.history) r.memory.page_bits r.memory.maps r.memory.cells r.owners.berth r.memory.sessions r.machine.life r.machine.word
+            pages =
+                pages_map z (loans_of r.history) r.memory.page_bits r.memory.maps r.memory.cells r.owners.berth r.memory.sessions r.machine.life r.machine.word
                 r.machine.given r.valid.page_words.0 r.world.sessions r.pages me a i p stands low none at_hand;
             keep = λ q j. put_cases r.owners.berth p (mapped a.slot i) q
                 (λ (c : Berth). IsAt j c → ((j ≡ me) × HasPage q c p')
@@ -234,10 +237,10 @@ module _ (z : Shape) (me : ℕ) (v : View) (l : v.live ≡ true) (ws : List ℕ)
             let word : get_or (set ws map_at seen) map_at 0 ≡ own_map (rule.memory.maps a.slot i) =
             rule.shows.maps a.slot i (rule.world.sessions.fits a (standing_known (rule.machine.life a) st)).slot low in
             let same : get_or (set ws map_at seen) map_at 0 ≡ 0 = ap (λ (xs : List ℕ). get_or xs map_at 0) (set-get_or ws map_at 0) ∙ e in
-            no_part z (lent rule.history) rule.memory.page_bits rule.memory.maps rule.memory.cells rule.owners.berth rule.memory.sessions rule.machine.life
+            no_part z (loans_of rule.history) rule.memory.page_bits rule.memory.maps rule.memory.cells rule.owners.berth rule.memory.sessions rule.machine.life
             rule.machine.word rule.machine.given rule.valid.page_words.0 rule.world.sessions rule.pages a i st
             (none_read (rule.memory.maps a.slot i) (sym word ∙ same))
-            (subst (λ (es : List Entry). HasPart (lent es) a i) g.3 h);
+            (subst (λ (es : List Entry). HasPart (loans_of es) a i) g.3 h);
         low = low_map sh;
       }
 

@@ -24,15 +24,17 @@ use Rattle.fm_rule_facts.specs.Facts.{Memory, free, live, shut, IsHeld, HasInHan
 use Rattle.fm_rule_facts.specs.Moves.{MayMake, StaysEnded, Moved, Same, KeepsSweeps, KeepsSlots, MayStore}
 use Rattle.fm_rule_facts.proofs.Keeping.{closing_on, sweeping_on}
 use Rattle.fm_rule_facts.proofs.Founds.{no_draw}
-use Rattle.fm_rule_facts.proofs.Standing.{open_new}
+use Rattle.fm_rule_facts.proofs.Sessions.{open_new}
 use Rattle.fm_rule_facts.proofs.Worlds.{world_open}
-use Rattle.fm_rule_facts.specs.Loans.{lent}
+use Rattle.fm_rule_facts.specs.Loans.{loans_of}
 use Rattle.fm_rule_facts.proofs.Living.{pages_open}
 use Rattle.fm_rule_facts.proofs.Ruling.{page_like, keeps}
 use Rattle.fm_rule_facts.proofs.Shown.{shows_session}
 use Rattle.fm_rule_facts.specs.Holds.{handles_with, one_alive}
 use Rattle.fm_rule_facts.proofs.Gripping.{opened_handles}
-use Rattle.fm_rule_steps.proofs.Plain.{same_but, own, low, Made, numbers_stay, number_stays}
+use Rattle.fm_rule_steps.proofs.Knowing.{own, low}
+use Rattle.fm_rule_steps.proofs.Staying.{same_but, numbers_stay, number_stays}
+use Rattle.fm_rule_steps.proofs.Plain.{Made}
 
 module _ (z : Shape) (me : ℕ) (v : View) (l : v.live ≡ true) (a : ArenaId) (hand : v.hand ≡ learnt a.slot a.generation) (owner : owner_of a ≡ v.caller)
     (ws : List ℕ) (vs : List View) (r : Rule z ws vs) (at : get_elem? vs me ≡ some v) where
@@ -144,7 +146,7 @@ module _ (z : Shape) (me : ℕ) (v : View) (l : v.live ≡ true) (a : ArenaId) (
         tt,
         tt,
       )
-      (pages_open z (lent r.history) r.memory.page_bits r.memory.maps r.memory.cells r.owners.berth r.memory.sessions r.machine.life r.machine.word
+      (pages_open z (loans_of r.history) r.memory.page_bits r.memory.maps r.memory.cells r.owners.berth r.memory.sessions r.machine.life r.machine.word
       r.machine.given r.world.sessions r.pages a free_now new)
       (λ b. at_cases r.machine.life a Lives b
       (λ x. x ≡ Closes → ((r.owners.closer b ≡ me) × HasClose b p) ⊎

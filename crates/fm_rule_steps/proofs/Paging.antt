@@ -9,7 +9,7 @@ use Rattle.fm_base.specs.Finds.{Find}
 use Rattle.fm_base_machine.specs.Functions.{Over, Machine}
 use Rattle.fm_base_machine.specs.Steps.{moved_by}
 use Rattle.fm_rule_facts.specs.Holds.{holds_of, all_holds}
-use Rattle.fm_rule_facts.specs.Loans.{lent}
+use Rattle.fm_rule_facts.specs.Loans.{loans_of}
 use Rattle.fm_rule_facts.specs.Gone.{FoundBy}
 use Rattle.fm_rule_facts.specs.Parts.{Mapping, Swept, unread, named, wiping}
 use Rattle.fm_rule_facts.specs.Views.{View, In, limit_of}
@@ -18,7 +18,9 @@ use Rattle.fm_rule_facts.specs.Moves.{MayMake, NoEnd, StaysEnded, Moved, Same, P
 use Rattle.fm_rule_facts.proofs.Founds.{NoneDrawn}
 use Rattle.fm_rule_facts.proofs.Ruling.{PagesAfter, AreLooked, keeps_with}
 use Rattle.fm_rule_facts.proofs.Keeping.{closing_on, sweeping_on}
-use Rattle.fm_rule_steps.proofs.Plain.{same_but, own, Made, numbers_stay, number_stays}
+use Rattle.fm_rule_steps.proofs.Knowing.{own}
+use Rattle.fm_rule_steps.proofs.Staying.{same_but, numbers_stay, number_stays}
+use Rattle.fm_rule_steps.proofs.Plain.{Made}
 
 module _ (z : Shape) (me : ℕ) (v : View) (l : v.live ≡ true) (ws : List ℕ) (vs : List View) (r : Rule z ws vs) (at : get_elem? vs me ≡ some v) where
   abbrev mine : Owns z r.history r.memory r.machine r.owners me v
@@ -31,7 +33,7 @@ module _ (z : Shape) (me : ℕ) (v : View) (l : v.live ≡ true) (ws : List ℕ)
     pub stays : moved_by r.machine es ≡ r.machine
     pub moved : PagesMoved me r.memory r.machine r.owners (record r.memory { page_bits = bits; maps = maps }) (record r.owners { berth = berth })
     pub ended : (b : ArenaId) → r.machine.life b ≡ Over → r.memory.sessions b.slot ≡ shut b → (k : ℕ) → maps b.slot k ≡ r.memory.maps b.slot k
-    pub lends : MayLend z.page_words r.machine (lent r.history) es
+    pub lends : MayLend z.page_words r.machine (loans_of r.history) es
     pub pages : PagesAfter z r.history (record r.memory { page_bits = bits; maps = maps }) r.machine (record r.owners { berth = berth }) es
     pub keep : KeepsPages me v (record v { pages = ps; reads = ms }) r.owners (record r.owners { berth = berth })
     pub shows : Shows z (set ws i x) (record r.memory { page_bits = bits; maps = maps })

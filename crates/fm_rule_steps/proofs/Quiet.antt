@@ -8,7 +8,7 @@ use Rattle.fm_base.specs.Calls.{Entry}
 use Rattle.fm_base.specs.Finds.{Find}
 use Rattle.fm_base_machine.specs.Functions.{Machine}
 use Rattle.fm_base_machine.specs.Steps.{moved_by}
-use Rattle.fm_rule_facts.specs.Loans.{Loan, lent, loans_after}
+use Rattle.fm_rule_facts.specs.Loans.{Loan, loans_of, loans_after}
 use Rattle.fm_rule_facts.specs.Views.{View, In, limit_of}
 use Rattle.fm_rule_facts.specs.Holds.{holds_of, all_holds}
 use Rattle.fm_rule_facts.specs.Steps.{none_noted}
@@ -19,15 +19,17 @@ use Rattle.fm_rule_facts.proofs.Founds.{NoneDrawn, NoDraw, no_draw}
 use Rattle.fm_rule_facts.proofs.Gone.{none_founded}
 use Rattle.fm_rule_facts.proofs.Ruling.{AreLooked, unlooked}
 use Rattle.fm_rule_facts.proofs.Shown.{shows_same}
-use Rattle.fm_rule_steps.proofs.Plain.{Made, own, same_but, stays_ended, plain_with}
+use Rattle.fm_rule_steps.proofs.Knowing.{own}
+use Rattle.fm_rule_steps.proofs.Staying.{same_but, stays_ended}
+use Rattle.fm_rule_steps.proofs.Plain.{Made, plain_with}
 
 module _ (z : Shape) (ws : List ℕ) (vs : List View) (r : Rule z ws vs) (me : ℕ) (v : View) (at : get_elem? vs me ≡ some v) (l : v.live ≡ true) (i : ℕ) where
   -- entries that move nothing and lend nothing
   pub quiet : (es : List Entry) (fs : ℕ → List Find) → NoneDrawn fs
       → ((f : Find) → In f (fs (length r.history)) → FoundBy z r.history r.memory r.owners.taker r.machine.life v.caller f)
       → AreLooked r v fs → MayMake (limit_of z) r.machine v.caller es → ((b : ArenaId) → NoEnd es b)
-      → MayLend z.page_words r.machine (lent r.history) es
-      → loans_after (lent r.history) es ≡ lent r.history → moved_by r.machine es ≡ r.machine → Made z ws vs me v i (get_or ws i 0) v es fs
+      → MayLend z.page_words r.machine (loans_of r.history) es
+      → loans_after (loans_of r.history) es ≡ loans_of r.history → moved_by r.machine es ≡ r.machine → Made z ws vs me v i (get_or ws i 0) v es fs
   quiet es fs nd new looks may ends lends same stays =
       let mine = own z ws vs r me v at l in
       plain_with z ws vs r me v at l i (get_or ws i 0) v es fs nd new looks r.memory (record {
@@ -75,7 +77,7 @@ module _ (z : Shape) (ws : List ℕ) (vs : List View) (r : Rule z ws vs) (me : �
   none_drawn fs nd n f j = let y = nd n f j in (y.0, y.1)
 
   pub answers_on : (es : List Entry) → MayMake (limit_of z) r.machine v.caller es → ((b : ArenaId) → NoEnd es b)
-      → MayLend z.page_words r.machine (lent r.history) es → loans_after (lent r.history) es ≡ lent r.history → moved_by r.machine es ≡ r.machine
+      → MayLend z.page_words r.machine (loans_of r.history) es → loans_after (loans_of r.history) es ≡ loans_of r.history → moved_by r.machine es ≡ r.machine
       → Made z ws vs me v i (get_or ws i 0) v es none_noted
   answers_on es = quiet es none_noted (none_drawn none_noted no_draw) (unfound none_noted no_draw) (unlooked r v none_noted (λ n f i. absurd i))
 

@@ -12,7 +12,7 @@ use Rattle.fm_base.specs.Machine.{words_within}
 use Rattle.fm_base_machine.specs.Functions.{Over, Machine, put, put_at, moved, MayBy, reply_by}
 use Rattle.fm_base_machine.proofs.Putting.{put_else}
 use Rattle.fm_rule_facts.specs.declared.step.Step.TheVariants.{Loads, Stores, SwapsIf, Adds}
-use Rattle.fm_rule_facts.specs.Loans.{Loan, loans_by, lent}
+use Rattle.fm_rule_facts.specs.Loans.{Loan, loans_by, loans_of}
 use Rattle.fm_rule_facts.specs.Holds.{holds_of, all_holds}
 use Rattle.fm_rule_facts.specs.Steps.{part, entries, noted, acted, none_noted}
 use Rattle.fm_rule_facts.specs.Facts.{Memory, shut, IsStanding, IsAt, mapped, Pages, Shows, World, Rule}
@@ -22,11 +22,13 @@ use Rattle.fm_rule_facts.proofs.Moving.{mapped_lent}
 use Rattle.fm_rule_facts.proofs.Living.{pages_write}
 use Rattle.std.proofs.Math.Nat.{mod-lt, div-lt_iff_lt-mul}
 use Rattle.fm_rule_facts.specs.Moves.{Ends, LendsBy, StaysEnded, MayStep, MayStore}
-use Rattle.fm_rule_facts.proofs.Standing.{standing_known, standing_shown, ended_apart}
+use Rattle.fm_rule_facts.proofs.Sessions.{standing_known, standing_shown, ended_apart}
 use Rattle.fm_rule_facts.proofs.Worlds.{world_word}
 use Rattle.fm_rule_facts.proofs.Shown.{shows_same, shows_cell}
 use Rattle.fm_rule_facts.proofs.Founds.{no_draw}
-use Rattle.fm_rule_steps.proofs.Plain.{same_but, stays_ended, own, given_now, Made, plain}
+use Rattle.fm_rule_steps.proofs.Knowing.{own, given_now}
+use Rattle.fm_rule_steps.proofs.Staying.{same_but, stays_ended}
+use Rattle.fm_rule_steps.proofs.Plain.{Made, plain}
 
 -- an arena has the words of its slot
 span_within : (z : Shape) (w : ℕ) → w < span z → w < words_within (limit_of z)
@@ -60,10 +62,10 @@ module _ (z : Shape) (me : ℕ) (v : View) (l : v.live ≡ true) (a : ArenaId) (
     -- the step that makes this one entry, and leaves the words and the given bytes so
     pub act : (i x : ℕ) (call : Call) (reply : Reply) (m' : ℕ → ℕ → ℕ) (g' : ℕ → ℕ) (f : ArenaId → ℕ → ℕ) (g : ArenaId → ℕ)
         → moved r.machine v.caller call reply ≡ record r.machine { word = f; given = g } → MayBy (limit_of z) r.machine v.caller call
-        → reply ≡ reply_by (limit_of z) r.machine call → ((b : ArenaId) → ¬ (Ends call b)) → LendsBy z.page_words r.machine (lent r.history) call
-        → loans_by (lent r.history) call ≡ lent r.history → Shows z (set ws i x) (record r.memory { cells = m'; given = g' })
+        → reply ≡ reply_by (limit_of z) r.machine call → ((b : ArenaId) → ¬ (Ends call b)) → LendsBy z.page_words r.machine (loans_of r.history) call
+        → loans_by (loans_of r.history) call ≡ loans_of r.history → Shows z (set ws i x) (record r.memory { cells = m'; given = g' })
         → World z (record r.memory { cells = m'; given = g' }) (record r.machine { word = f; given = g })
-        → Pages z (lent r.history) r.memory.page_bits r.memory.maps m' r.owners.berth r.memory.sessions r.machine.life f g
+        → Pages z (loans_of r.history) r.memory.page_bits r.memory.maps m' r.owners.berth r.memory.sessions r.machine.life f g
         → ((p j : ℕ) → IsAt j (r.owners.berth p) → (o : ℕ) → m' p o ≡ r.memory.cells p o)
         → ((b : ArenaId) → r.machine.life b ≡ Over → r.memory.sessions b.slot ≡ shut b → StaysEnded r.memory (record r.memory { cells = m'; given = g' }) b)
         → Made z ws vs me v i x v (entry_of v.caller call reply ∷ []) none_noted
@@ -126,7 +128,7 @@ module _ (z : Shape) (me : ℕ) (v : View) (l : v.live ≡ true) (a : ArenaId) (
       at_it : r.owners.berth p ≡ mapped a.slot part_of
       at_it = r.pages.map_is a.slot part_of p named
 
-      there : IsMapped z (lent r.history) r.memory.maps r.memory.cells r.memory.sessions r.machine.given p a.slot part_of
+      there : IsMapped z (loans_of r.history) r.memory.maps r.memory.cells r.memory.sessions r.machine.given p a.slot part_of
       there = r.pages.mapped_is p a.slot part_of at_it
 
       in_page : o < z.page_words
@@ -136,10 +138,10 @@ module _ (z : Shape) (me : ℕ) (v : View) (l : v.live ≡ true) (a : ArenaId) (
       is_word : found ws ≡ r.machine.word a w
       is_word = r.shows.cells p o there.page in_page ∙ sym (r.pages.words a w p (stands ws vs r at) named)
 
-      lends : LendsBy z.page_words r.machine (lent r.history) (Read a w)
+      lends : LendsBy z.page_words r.machine (loans_of r.history) (Read a w)
       lends = (
         p,
-        mapped_lent z (lent r.history) r.memory.page_bits r.memory.maps r.memory.cells r.owners.berth r.memory.sessions r.machine.life r.machine.word
+        mapped_lent z (loans_of r.history) r.memory.page_bits r.memory.maps r.memory.cells r.owners.berth r.memory.sessions r.machine.life r.machine.word
             r.machine.given r.valid.page_words.0 r.world.sessions r.pages a part_of p
             (standing_shown z r.memory.sessions r.machine.life r.world.sessions a (stands ws vs r at)) named,
       )
@@ -149,8 +151,8 @@ module _ (z : Shape) (me : ℕ) (v : View) (l : v.live ≡ true) (a : ArenaId) (
 
       -- the word is left as it was
       looks : (call : Call) (reply : Reply) → moved r.machine v.caller call reply ≡ r.machine → MayBy (limit_of z) r.machine v.caller call
-          → reply ≡ reply_by (limit_of z) r.machine call → ((b : ArenaId) → ¬ (Ends call b)) → LendsBy z.page_words r.machine (lent r.history) call
-          → loans_by (lent r.history) call ≡ lent r.history → Made z ws vs me v i (found ws) v (entry_of v.caller call reply ∷ []) none_noted
+          → reply ≡ reply_by (limit_of z) r.machine call → ((b : ArenaId) → ¬ (Ends call b)) → LendsBy z.page_words r.machine (loans_of r.history) call
+          → loans_by (loans_of r.history) call ≡ loans_of r.history → Made z ws vs me v i (found ws) v (entry_of v.caller call reply ∷ []) none_noted
       looks call reply is may answer ends lends same =
           act ws vs r at i (found ws) call reply r.memory.cells r.memory.given r.machine.word r.machine.given is may answer ends lends same
           (shows_same z r.valid ws r.memory r.shows i) r.world r.pages (λ q j b n. refl) (λ b o f. stays_ended r.memory b f)
@@ -159,14 +161,14 @@ module _ (z : Shape) (me : ℕ) (v : View) (l : v.live ≡ true) (a : ArenaId) (
       puts : (y : ℕ) (call : Call) (reply : Reply)
           → moved r.machine v.caller call reply ≡ record r.machine { word = put_at r.machine.word a (put (r.machine.word a) w y) }
           → MayBy (limit_of z) r.machine v.caller call → reply ≡ reply_by (limit_of z) r.machine call → ((b : ArenaId) → ¬ (Ends call b))
-          → LendsBy z.page_words r.machine (lent r.history) call → loans_by (lent r.history) call ≡ lent r.history
+          → LendsBy z.page_words r.machine (loans_of r.history) call → loans_by (loans_of r.history) call ≡ loans_of r.history
           → Made z ws vs me v i y v (entry_of v.caller call reply ∷ []) none_noted
       puts y call reply is may answer ends lends same =
           act ws vs r at i y call reply (put r.memory.cells p (put (r.memory.cells p) o y)) r.memory.given
           (put_at r.machine.word a (put (r.machine.word a) w y)) r.machine.given is may answer ends lends same
           (shows_cell z r.valid ws r.memory r.shows p o y there.page in_page)
           (world_word z r.memory r.machine r.world (put r.memory.cells p (put (r.memory.cells p) o y)) (put_at r.machine.word a (put (r.machine.word a) w y)))
-          (pages_write z (lent r.history) r.memory.page_bits r.memory.maps r.memory.cells r.owners.berth r.memory.sessions r.machine.life r.machine.word
+          (pages_write z (loans_of r.history) r.memory.page_bits r.memory.maps r.memory.cells r.owners.berth r.memory.sessions r.machine.life r.machine.word
           r.machine.given r.world.sessions r.pages a w p y (stands ws vs r at) named (let n = given_now z ws vs r me v at l a in omega arith))
           (λ q j b n. λ k. put_else r.memory.cells p (put (r.memory.cells p) o y) q (λ e. unmapped_at j (subst (IsAt j) (ap r.owners.berth e ∙ at_it) b)) k n)
           (λ b o f. record { session = f; maps = λ i. refl; given = refl })

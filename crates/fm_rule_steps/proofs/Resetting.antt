@@ -26,7 +26,8 @@ use Rattle.fm_rule_facts.proofs.Keeping.{set_there}
 use Rattle.fm_rule_facts.proofs.Ruling.{page_like}
 use Rattle.fm_rule_steps.proofs.Closes.{in_advanced, once_advanced}
 use Rattle.fm_rule_steps.proofs.Quiet.{looks_on}
-use Rattle.fm_rule_steps.proofs.Plain.{own, Made}
+use Rattle.fm_rule_steps.proofs.Knowing.{own}
+use Rattle.fm_rule_steps.proofs.Plain.{Made}
 use Rattle.fm_rule_steps.proofs.Sweeping.{its, its_sweep, ended_now, shut_now, apart, fit, its_count, memory_of, sweep_on, visits}
 
 module _ (z : Shape) (me : ℕ) (v : View) (l : v.live ≡ true) (a : ArenaId) (k : ℕ) (has : passed_of v.sweeps a ≡ Some k)

@@ -20,14 +20,15 @@ use Rattle.fm_base_machine.specs.Functions.{Stage, Fresh, Lives, Closes, Over, s
 use Rattle.fm_rule_facts.specs.Hands.{nothing, HasSlot}
 use Rattle.fm_rule_facts.specs.Views.{View, Fits, limit_of}
 use Rattle.fm_rule_facts.specs.Words.{kept}
-use Rattle.fm_rule_facts.specs.Loans.{lent, HasPart}
+use Rattle.fm_rule_facts.specs.Loans.{loans_of, HasPart}
 use Rattle.fm_rule_facts.specs.Facts.{Session, free, live, shut, session_code, own_map, IsStanding, Rule}
 use Rattle.fm_rule_facts.proofs.Moving.{lent_mapped, mapped_lent}
 use Rattle.fm_rule_facts.specs.Rest.{IsNamed, IsUsed, ShowsSlot, ShowsWord, ShowsHistory}
-use Rattle.fm_rule_facts.proofs.Standing.{standing_known, standing_shown, free_apart}
-use Rattle.fm_rule_facts.proofs.Sounding.{opened_life, life_opened}
+use Rattle.fm_rule_facts.proofs.Sessions.{standing_known, standing_shown, free_apart}
+use Rattle.fm_rule_facts.proofs.Sounding.{opened_life}
 use Rattle.fm_rule_steps.proofs.Decoding.{page_word_of, blank_block, kept_else, kept_last, kept_least, alive_session, shut_session, free_read, live_read, shut_read, stands_not}
 use Rattle.fm_rule_facts.proofs.Alone.{lonely}
+use Rattle.fm_base_machine.proofs.Allowing.{not_fresh}
 
 module _ (z : Shape) (me : ℕ) (v : View) (l : v.live ≡ true) (ws : List ℕ) (vs : List View) (r : Rule z ws vs) (at : get_elem? vs me ≡ some v)
     (whole : v.whole ≡ true) (none : v.hand ≡ nothing) where
@@ -40,7 +41,7 @@ module _ (z : Shape) (me : ℕ) (v : View) (l : v.live ≡ true) (ws : List ℕ)
   is_stage a x e = sym (r.depicts.life a) ∙ e
 
   known : (a : ArenaId) → r.machine.life a ≢ Fresh → has_arena s a ≡ true
-  known a n = life_opened (has_arena s a) (arena_of s a).life (λ f. n (r.depicts.life a ∙ f))
+  known a n = not_fresh (has_arena s a) (arena_of s a).life (λ f. n (r.depicts.life a ∙ f))
 
   opened : (a : ArenaId) → has_arena s a ≡ true → r.machine.life a ≢ Fresh
   opened a h f = opened_life (has_arena s a) (arena_of s a).life h (is_stage a Fresh f)
@@ -261,7 +262,7 @@ module _ (z : Shape) (me : ℕ) (v : View) (l : v.live ≡ true) (ws : List ℕ)
     in_block = λ a w b n h c.
         let st = standing a n in
         sym (r.depicts.word a w) ∙ page_word_of z ws vs r a w b st
-        (lent_mapped z (lent r.history) r.memory.page_bits r.memory.maps r.memory.cells r.owners.berth r.memory.sessions r.machine.life r.machine.word
+        (lent_mapped z (loans_of r.history) r.memory.page_bits r.memory.maps r.memory.cells r.owners.berth r.memory.sessions r.machine.life r.machine.word
         r.machine.given r.valid.page_words.0 r.world.sessions r.pages a (w / z.page_words) b st c);
     in_none = λ a w n h u. sym (r.depicts.word a w) ∙ none_there a w (standing a n) u (r.memory.maps a.slot (w / z.page_words)) refl;
     blank = λ b w low h f. r.shows.cells b w low h ∙ blank_block z ws vs r b w h f;
@@ -272,12 +273,12 @@ module _ (z : Shape) (me : ℕ) (v : View) (l : v.live ≡ true) (ws : List ℕ)
     slots = slot_shown;
   }
     where
-      none_there : (a : ArenaId) (w : ℕ) → IsStanding (r.machine.life a) → ¬ (HasPart (lent r.history) a (w / z.page_words)) → (o : Option ℕ)
+      none_there : (a : ArenaId) (w : ℕ) → IsStanding (r.machine.life a) → ¬ (HasPart (loans_of r.history) a (w / z.page_words)) → (o : Option ℕ)
           → r.memory.maps a.slot (w / z.page_words) ≡ o → r.machine.word a w ≡ 0
       none_there a w st u None e = r.pages.bare a w st e
       none_there a w st u (Some p) e = absurd (u (
         p,
-        mapped_lent z (lent r.history) r.memory.page_bits r.memory.maps r.memory.cells r.owners.berth
+        mapped_lent z (loans_of r.history) r.memory.page_bits r.memory.maps r.memory.cells r.owners.berth
             r.memory.sessions r.machine.life r.machine.word r.machine.given r.valid.page_words.0 r.world.sessions r.pages a (w / z.page_words) p
             (standing_shown z r.memory.sessions r.machine.life r.world.sessions a st) e,
       ))

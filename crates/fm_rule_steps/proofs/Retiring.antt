@@ -18,7 +18,7 @@ use Rattle.fm_rule_facts.specs.Views.{View, limit_of}
 use Rattle.fm_rule_facts.specs.Words.{free_word}
 use Rattle.fm_rule_facts.specs.Closes.{passed_of, dropped}
 use Rattle.fm_rule_facts.specs.Steps.{part, entries, noted, none_noted}
-use Rattle.fm_rule_facts.specs.Loans.{lent}
+use Rattle.fm_rule_facts.specs.Loans.{loans_of}
 use Rattle.fm_rule_facts.specs.Facts.{Memory, Session, free, shut, Owners, IsHeld, HasInHand, HasSweep, KeepsSlot, Owns, Rule, HasSwept}
 use Rattle.fm_rule_facts.specs.Moves.{MayMake, StaysEnded, Moved, Same, KeepsSweeps, KeepsSlots, MayStore}
 use Rattle.fm_rule_facts.proofs.Founds.{no_draw}
@@ -31,7 +31,9 @@ use Rattle.fm_rule_facts.proofs.Ruling.{keeps}
 use Rattle.fm_rule_steps.proofs.Reading.{eqb_true, eqb_false}
 use Rattle.fm_rule_steps.proofs.Closes.{in_dropped, dropped_in, once_dropped}
 use Rattle.fm_rule_steps.proofs.Sweeping.{its, its_sweep, ended_now, shut_now, mine_now, apart, fit}
-use Rattle.fm_rule_steps.proofs.Plain.{same_but, own, Made, pages_there, numbers_stay, number_stays}
+use Rattle.fm_rule_steps.proofs.Knowing.{own}
+use Rattle.fm_rule_steps.proofs.Staying.{same_but, pages_there, numbers_stay, number_stays}
+use Rattle.fm_rule_steps.proofs.Plain.{Made}
 
 module _ (z : Shape) (me : ℕ) (v : View) (l : v.live ≡ true) (sh : v.shape ≡ z) (none : v.hand ≡ nothing) (idle : v.swept ≡ unread) (a : ArenaId)
     (has : passed_of v.sweeps a ≡ Some (z.reach + 1)) (ws : List ℕ) (vs : List View) (r : Rule z ws vs) (at : get_elem? vs me ≡ some v) where
@@ -193,7 +195,7 @@ module _ (z : Shape) (me : ℕ) (v : View) (l : v.live ≡ true) (sh : v.shape �
         keeps z ws (set ws (place_at z (session a.slot)) (free_word z.generations next)) vs r me v (part_by last) es none_noted m' o' at l moved_on
         (same_part last) no_draw
         tt
-        (pages_retire z (lent r.history) r.memory.page_bits r.memory.maps r.memory.cells r.owners.berth r.memory.sessions r.machine.life r.machine.word
+        (pages_retire z (loans_of r.history) r.memory.page_bits r.memory.maps r.memory.cells r.owners.berth r.memory.sessions r.machine.life r.machine.word
         r.machine.given r.world.sessions r.pages a next no_map)
         (λ b h. inr (h, refl, (λ y. y)))
         (sweeps_on last)

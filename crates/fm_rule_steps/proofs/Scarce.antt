@@ -10,13 +10,13 @@ use Rattle.fm_words.specs.declared.shape.Shape.{Shape}
 use Rattle.fm_base.specs.Finds.{Find, group_of}
 use Rattle.fm_words.specs.Bits.{number_at, bit_of}
 use Rattle.fm_rule_facts.proofs.Groups.{in_group, none_from}
-use Rattle.fm_rule_facts.specs.Loans.{Loan, lent}
+use Rattle.fm_rule_facts.specs.Loans.{Loan, loans_of}
 use Rattle.fm_rule_facts.specs.Views.{View, In, is_lent, one_unless, unlent_from, unlent_in, pages_in, FewLeft}
 use Rattle.fm_rule_facts.specs.Facts.{Berth, loose, claimed, mapped, unmapped, IsAt, HasPage, IsLone, Owns, Rule}
 use Rattle.fm_rule_facts.proofs.Lending.{loan_cases}
 use Rattle.fm_rule_facts.proofs.Counting.{Distinct, at_most}
 use Rattle.fm_rule_facts.proofs.Alone.{lonely}
-use Rattle.fm_rule_steps.proofs.Plain.{own}
+use Rattle.fm_rule_steps.proofs.Knowing.{own}
 
 -- a loan's block is lent
 pub lent_block : (loans : List Loan) (l : Loan) → Contains loans l → is_lent loans l.block ≡ true
@@ -46,7 +46,7 @@ module _ (z : Shape) (me : ℕ) (v : View) (l : v.live ≡ true) (ws : List ℕ)
   mine = own z ws vs r me v at l
 
   abbrev loans : List Loan
-  loans = lent r.history
+  loans = loans_of r.history
 
   -- a page of the group that isn't lent is in a hand
   claimer : (q : ℕ) → q < z.pages → q / 64 ≡ g → is_lent loans q ≡ false → (j : ℕ) × (r.owners.berth q ≡ claimed j)
@@ -91,7 +91,7 @@ module _ (z : Shape) (me : ℕ) (v : View) (l : v.live ≡ true) (ws : List ℕ)
   holders zero h = record { nums = []; long = refl; distinct = tt; low = λ m i. absurd i; other = λ m i. absurd i; ones = λ m i. absurd i }
   holders (suc n) h = go (is_lent loans (first + n)) refl (holders n (omega arith))
     where
-      go : (lent : Bool) → is_lent loans (first + n) ≡ lent → Holders n → Holders (suc n)
+      go : (b : Bool) → is_lent loans (first + n) ≡ b → Holders n → Holders (suc n)
       go true e y = record {
         nums = y.nums;
         long = (let a = y.long in

@@ -22,16 +22,18 @@ use Rattle.fm_rule_facts.specs.Steps.{part, entries, noted, none_noted}
 use Rattle.fm_rule_facts.specs.Facts.{Memory, free, live, shut, Owners, IsClosing, HasClose, Rule}
 use Rattle.fm_rule_facts.specs.Moves.{MayMake, StaysEnded, Moved, Same, KeepsHolds, MayStep}
 use Rattle.fm_rule_facts.proofs.Keeping.{closing_on, sweeping_on}
-use Rattle.fm_rule_facts.proofs.Standing.{free_apart}
+use Rattle.fm_rule_facts.proofs.Sessions.{free_apart}
 use Rattle.fm_rule_facts.proofs.Worlds.{world_shut}
-use Rattle.fm_rule_facts.specs.Loans.{lent}
+use Rattle.fm_rule_facts.specs.Loans.{loans_of}
 use Rattle.fm_rule_facts.proofs.Living.{pages_shut}
 use Rattle.fm_rule_facts.proofs.Ruling.{page_like, keeps}
 use Rattle.fm_rule_facts.proofs.Shown.{shows_session}
 use Rattle.fm_rule_facts.proofs.Gripping.{by_hand, same_handles}
 use Rattle.fm_rule_steps.proofs.Reading.{Says, says, shut_says, alive_read, alive_one, reads_alive, eqb_true, eqb_false}
 use Rattle.fm_rule_steps.proofs.Quiet.{answers_on}
-use Rattle.fm_rule_steps.proofs.Plain.{same_but, own, known_now, Made, hand_still, sweeps_still, slots_still, numbers_stay, number_stays}
+use Rattle.fm_rule_steps.proofs.Knowing.{own, known_now}
+use Rattle.fm_rule_steps.proofs.Staying.{same_but, hand_still, sweeps_still, slots_still, numbers_stay, number_stays}
+use Rattle.fm_rule_steps.proofs.Plain.{Made}
 use Rattle.fm_rule_facts.proofs.Founds.{no_draw}
 
 module _ (z : Shape) (me : ℕ) (v : View) (l : v.live ≡ true) (a : ArenaId) (known : IsKnown v a) (use_it : MayUse a v.caller) (not_global : a.kind ≢ Global)
@@ -106,7 +108,7 @@ module _ (z : Shape) (me : ℕ) (v : View) (l : v.live ≡ true) (a : ArenaId) (
       (at_other r.owners.closer a me c.arena (other c.arena y.life)) ((λ h. h), tt)) in
       keeps z ws (set ws i (closing_word a)) vs r me v p es none_noted m' o' at l d same no_draw
       (tt, tt)
-      (pages_shut z (lent r.history) r.memory.page_bits r.memory.maps r.memory.cells r.owners.berth r.memory.sessions r.machine.life r.machine.word
+      (pages_shut z (loans_of r.history) r.memory.page_bits r.memory.maps r.memory.cells r.owners.berth r.memory.sessions r.machine.life r.machine.word
       r.machine.given r.world.sessions r.pages a al)
       (λ b h. dite (one_arena b a)
       (λ e. inl (ap (put_at r.owners.closer a me) e ∙ at_here r.owners.closer a me, (l, (walk_of a 0, inl refl, sym e))))

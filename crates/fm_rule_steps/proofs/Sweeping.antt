@@ -10,7 +10,7 @@ use Rattle.fm_base.specs.Calls.{Entry}
 use Rattle.fm_base.specs.Finds.{Sweep}
 use Rattle.fm_base_machine.specs.Functions.{Over, Machine}
 use Rattle.fm_base_machine.specs.Steps.{moved_by}
-use Rattle.fm_rule_facts.specs.Loans.{lent}
+use Rattle.fm_rule_facts.specs.Loans.{loans_of}
 use Rattle.fm_rule_facts.specs.Parts.{Swept, wiping}
 use Rattle.fm_rule_facts.specs.Views.{View, Fits, In, limit_of}
 use Rattle.fm_rule_facts.specs.Holds.{holds_of, all_holds}
@@ -19,12 +19,14 @@ use Rattle.fm_rule_facts.specs.Steps.{none_noted}
 use Rattle.fm_rule_facts.specs.Facts.{Memory, Owners, shut, Berth, loose, claimed, mapped, unmapped, IsAt, IsOnce, IsNext, HasSwept, HasPage, IsSweeping, HasSweep, Owns, Shows, World, Rule}
 use Rattle.fm_rule_facts.specs.Moves.{MayMake, MayLend, NoEnd, Moved, KeepsPages}
 use Rattle.fm_rule_facts.proofs.Founds.{no_draw}
-use Rattle.fm_rule_facts.proofs.Standing.{ended_apart}
+use Rattle.fm_rule_facts.proofs.Sessions.{ended_apart}
 use Rattle.fm_rule_facts.proofs.Retiring.{ended_fits}
 use Rattle.fm_rule_facts.proofs.Keeping.{closing_on}
 use Rattle.fm_rule_facts.proofs.Ruling.{PagesAfter, keeps}
 use Rattle.fm_rule_steps.proofs.Closes.{Found, passed_of-found, count_of, in_advanced, advanced_in}
-use Rattle.fm_rule_steps.proofs.Plain.{same_but, own, Made, numbers_stay, number_stays}
+use Rattle.fm_rule_steps.proofs.Knowing.{own}
+use Rattle.fm_rule_steps.proofs.Staying.{same_but, numbers_stay, number_stays}
+use Rattle.fm_rule_steps.proofs.Plain.{Made}
 
 -- where the sweep of the arena has come so far
 module _ (z : Shape) (me : ℕ) (v : View) (l : v.live ≡ true) (a : ArenaId) (k : ℕ) (has : passed_of v.sweeps a ≡ Some k)
@@ -85,7 +87,7 @@ module _ (z : Shape) (me : ℕ) (v : View) (l : v.live ≡ true) (a : ArenaId) (
     pub same_given : (b : ℕ) → b ≢ a.slot → given b ≡ r.memory.given b
     pub others : (p j : ℕ) → IsAt j (r.owners.berth p) → j ≢ me → (berth p ≡ r.owners.berth p) × ((w : ℕ) → cells p w ≡ r.memory.cells p w)
     pub claims : (p : ℕ) → r.owners.berth p ≡ claimed me → berth p ≡ claimed me
-    pub lends : MayLend z.page_words r.machine (lent r.history) es
+    pub lends : MayLend z.page_words r.machine (loans_of r.history) es
     pub pages : PagesAfter z r.history (memory_of bits maps cells given) r.machine (record r.owners { berth = berth }) es
     pub there : (c : Sweep) → In c v.sweeps → (d : Sweep) × In d cs × (d.arena ≡ c.arena)
     pub keep : KeepsPages me v (record v { sweeps = cs; swept = s }) r.owners (record r.owners { berth = berth })

@@ -30,7 +30,9 @@ use Rattle.fm_rule_facts.proofs.Ruling.{AreLooked, unlooked, page_like, keeps, k
 use Rattle.fm_rule_steps.proofs.Reading.{eqb_true, eqb_false}
 use Rattle.fm_rule_steps.proofs.Telling.{some_bit, idle, busy, none_left}
 use Rattle.fm_rule_steps.proofs.Quiet.{quiet}
-use Rattle.fm_rule_steps.proofs.Plain.{same_but, stays_ended, pages_still, own, Made, sweeps_still, numbers_stay, number_stays}
+use Rattle.fm_rule_steps.proofs.Knowing.{own}
+use Rattle.fm_rule_steps.proofs.Staying.{same_but, stays_ended, pages_still, sweeps_still, numbers_stay, number_stays}
+use Rattle.fm_rule_steps.proofs.Plain.{Made}
 
 module _ (z : Shape) (me : ℕ) (v : View) (l : v.live ≡ true) (ws : List ℕ) (vs : List View) (r : Rule z ws vs) (at : get_elem? vs me ≡ some v) where
   abbrev mine : Owns z r.history r.memory r.machine r.owners me v

@@ -22,9 +22,9 @@ use Rattle.fm_rule_facts.specs.Hands.{Hand, nothing, taken, learnt, retired, Has
 use Rattle.fm_rule_facts.specs.Views.{View, In, IsKnown, IsBusy, IsBusyIn, limit_of, state_in}
 use Rattle.fm_rule_facts.specs.Facts.{Session, free, live, shut, IsStanding, HasInHand, Owns, Rule}
 use Rattle.fm_rule_facts.proofs.Alone.{lonely}
-use Rattle.fm_rule_facts.proofs.Standing.{free_apart}
-use Rattle.fm_rule_facts.proofs.Sounding.{life_opened}
-use Rattle.fm_rule_steps.proofs.Plain.{own, known_now}
+use Rattle.fm_rule_facts.proofs.Sessions.{free_apart}
+use Rattle.fm_rule_steps.proofs.Knowing.{own, known_now}
+use Rattle.fm_base_machine.proofs.Allowing.{not_fresh}
 
 none_in : {A : Type 0} (xs : List A) → is_empty xs ≡ true → xs ≡ []
 none_in [] e = refl
@@ -65,7 +65,7 @@ module _ (z : Shape) (me : ℕ) (v : View) (l : v.live ≡ true) (ws : List ℕ)
   known w a n =
       let s : State = state_after (limit_of z) [] r.history in
       let e : state_in v ≡ s = λ i. state_after (limit_of ((r.each me v at).shape l i)) [] (mine.seen_all w i) in
-      ap (λ (x : State). has_arena x a) e ∙ life_opened (has_arena s a) (arena_of s a).life (λ f. n (r.depicts.life a ∙ f))
+      ap (λ (x : State). has_arena x a) e ∙ not_fresh (has_arena s a) (arena_of s a).life (λ f. n (r.depicts.life a ∙ f))
 
   -- what the pass sees of an arena is so
   seen_life : v.whole ≡ true → (a : ArenaId) → IsKnown v a → (x : Life) → (arena_of (state_in v) a).life ≡ x → r.machine.life a ≡ stage_of true x
@@ -170,7 +170,7 @@ module _ (z : Shape) (me : ℕ) (v : View) (l : v.live ≡ true) (ws : List ℕ)
       by : (a : ArenaId) → a.slot ≡ s → r.machine.life a ≢ Fresh → IsGone z r.history r.memory r.owners.taker r.machine.life v.caller s
       by a i n =
           let now : State = state_after (limit_of z) [] r.history in
-          let k : has_arena now a ≡ true = life_opened (has_arena now a) (arena_of now a).life (λ f. n (r.depicts.life a ∙ f)) in
+          let k : has_arena now a ≡ true = not_fresh (has_arena now a) (arena_of now a).life (λ f. n (r.depicts.life a ∙ f)) in
           inl (record { arena = a; in_slot = i; opened = n; apart = inl k })
 
       go : (x : Session) → r.memory.sessions s ≡ x → IsGone z r.history r.memory r.owners.taker r.machine.life v.caller s

@@ -23,11 +23,13 @@ use Rattle.fm_rule_facts.specs.Moves.{MayMake, Moved, Same, MayStep}
 use Rattle.fm_rule_facts.proofs.Keeping.{closing_on, sweeping_on}
 use Rattle.fm_rule_facts.proofs.Founds.{NoDraw, note_no_draw}
 use Rattle.fm_rule_facts.proofs.Worlds.{world_end}
-use Rattle.fm_rule_facts.specs.Loans.{lent}
+use Rattle.fm_rule_facts.specs.Loans.{loans_of}
 use Rattle.fm_rule_facts.specs.Parts.{Swept, unread, named, wiping}
 use Rattle.fm_rule_facts.proofs.Living.{pages_end}
 use Rattle.fm_rule_steps.proofs.Quiet.{looks_with}
-use Rattle.fm_rule_steps.proofs.Plain.{pages_still, pages_there, same_but, stays_ended, own, Made, sweeps_still, slots_still, numbers_stay, number_stays}
+use Rattle.fm_rule_steps.proofs.Knowing.{own}
+use Rattle.fm_rule_steps.proofs.Staying.{pages_still, pages_there, same_but, stays_ended, sweeps_still, slots_still, numbers_stay, number_stays}
+use Rattle.fm_rule_steps.proofs.Plain.{Made}
 use Rattle.fm_rule_facts.proofs.Shown.{shows_same}
 use Rattle.fm_rule_facts.proofs.Ruling.{keeps}
 use Rattle.fm_rule_facts.specs.Holds.{one_alive}
@@ -178,7 +180,7 @@ module _ (z : Shape) (me : ℕ) (v : View) (l : v.live ≡ true) (sh : v.shape �
       (λ b. at_cases r.machine.life a Over b (λ x. x ≡ Closes → b ≢ a) (λ e q. absurd (cc)) (λ ne q. ne)) in
       keeps z ws (set ws i found) vs r me v p es fs r.memory r.owners at l d same no_draws
       (tt, tt)
-      (pages_end z (lent r.history) r.memory.page_bits r.memory.maps r.memory.cells r.owners.berth r.memory.sessions r.machine.life r.machine.word
+      (pages_end z (loans_of r.history) r.memory.page_bits r.memory.maps r.memory.cells r.owners.berth r.memory.sessions r.machine.life r.machine.word
       r.machine.given r.world.sessions r.pages a closes_now)
       (λ b h. let ne = other b h in inr (
         sym (at_other r.machine.life a Over b ne)

@@ -11,7 +11,7 @@ use Rattle.fm_base.specs.Calls.{Back, Fine, entry_of}
 use Rattle.fm_base_machine.specs.Functions.{Over, put}
 use Rattle.fm_base_machine.proofs.Putting.{put_here, put_else, put_cases}
 use Rattle.fm_rule_facts.specs.declared.step.Step.TheVariants.{SweepsMap, Unmaps, Wipes, ReturnsPage}
-use Rattle.fm_rule_facts.specs.Loans.{lent}
+use Rattle.fm_rule_facts.specs.Loans.{loans_of}
 use Rattle.fm_rule_facts.specs.Parts.{unread, named, wiping}
 use Rattle.fm_rule_facts.specs.Views.{View, IsOver, given_of}
 use Rattle.fm_rule_facts.specs.Pages.{IsBlank}
@@ -28,7 +28,8 @@ use Rattle.fm_rule_facts.proofs.Shown.{shows_same, shows_map, shows_cell, shows_
 use Rattle.fm_rule_facts.proofs.Groups.{set_here, set_else, page_group}
 use Rattle.fm_rule_steps.proofs.Closes.{once_advanced}
 use Rattle.fm_rule_steps.proofs.Reading.{eqb_true, eqb_false, none_read, page_read, page_back}
-use Rattle.fm_rule_steps.proofs.Plain.{own, given_over, Made}
+use Rattle.fm_rule_steps.proofs.Knowing.{own, given_over}
+use Rattle.fm_rule_steps.proofs.Plain.{Made}
 use Rattle.fm_rule_steps.proofs.Sweeping.{ended_now, shut_now, fit, next_here, sweep_on, sweeps_kept, sweeps_more, visits, stays_there, not_wiping}
 
 -- what was none is none, where one is taken away
@@ -138,7 +139,8 @@ module _ (z : Shape) (me : ℕ) (v : View) (l : v.live ≡ true) (a : ArenaId) (
           others = λ q j b n. (put_else r.owners.berth p (unmapped me a k) q (far q j b), λ w. refl);
           claims = λ q e. put_else r.owners.berth p (unmapped me a k) q (far q me (subst (IsAt me) (sym e) refl)) ∙ e;
           lends = tt;
-          pages = pages_unmap z (lent r.history) r.memory.page_bits r.memory.maps r.memory.cells r.owners.berth r.memory.sessions r.machine.life r.machine.word
+          pages =
+              pages_unmap z (loans_of r.history) r.memory.page_bits r.memory.maps r.memory.cells r.owners.berth r.memory.sessions r.machine.life r.machine.word
               r.machine.given r.valid.page_words.0 r.world.sessions r.pages me a k p is_over is_shut h.1;
           there = stays_there z me v l a k has ws vs r at;
           keep = λ q j. put_cases r.owners.berth p (unmapped me a k) q
@@ -186,7 +188,8 @@ module _ (z : Shape) (me : ℕ) (v : View) (l : v.live ≡ true) (a : ArenaId) (
             );
             claims = λ q e. e;
             lends = tt;
-            pages = pages_wipe z (lent r.history) r.memory.page_bits r.memory.maps r.memory.cells r.owners.berth r.memory.sessions r.machine.life r.machine.word
+            pages =
+                pages_wipe z (loans_of r.history) r.memory.page_bits r.memory.maps r.memory.cells r.owners.berth r.memory.sessions r.machine.life r.machine.word
                 r.machine.given r.world.sessions r.pages p me k w a held.owner;
             there = stays_there z me v l a k has ws vs r at;
             keep = λ q j b. inr (refl, still q (r.owners.berth q));
@@ -254,7 +257,8 @@ module _ (z : Shape) (me : ℕ) (v : View) (l : v.live ≡ true) (a : ArenaId) (
             claims = λ q e. put_else r.owners.berth p loose q
                 (λ n. absurd (let u : unmapped me a k ≡ claimed me = sym held.owner ∙ (ap r.owners.berth (sym n) ∙ e) in cc)) ∙ e;
             lends = ((a, k, (r.pages.unmapped_is p me k a held.owner).lent, is_over), tt);
-            pages = pages_back z (lent r.history) r.memory.page_bits r.memory.maps r.memory.cells r.owners.berth r.memory.sessions r.machine.life r.machine.word
+            pages =
+                pages_back z (loans_of r.history) r.memory.page_bits r.memory.maps r.memory.cells r.owners.berth r.memory.sessions r.machine.life r.machine.word
                 r.machine.given r.world.sessions r.pages bits' p (set_here r.memory.page_bits p found is) (set_else r.memory.page_bits p found is) me k a held.owner
                 (is_blank all over);
             there = visits z me v l a k has ws vs r at;

@@ -1,26 +1,16 @@
 -- The holds and handles of names, as one is made or given back.
 use Rattle.std.proofs.Common.{◌≡◌, ℕ, zero, suc, ◌+◌, ◌<◌, Bool, true, false, if◌then◌else◌, List, [], ◌∷◌, ◌++◌, length, get_or, set, refl, ap, sym, ◌∙◌, subst, arith, Option, Some, None, inl, inr}
-use mathlib.Core.Logic.{dite}
 use Rattle.fm_base.specs.declared.arena_id.ArenaId.{ArenaId}
 use Rattle.fm_base.specs.Arenas.{same_id}
-use Rattle.fm_base.proofs.Names.{same_id-self, same_id-true}
-use Rattle.fm_base_machine.proofs.Putting.{one_arena}
+use Rattle.fm_base.proofs.Names.{same_id-self}
 use Rattle.fm_rule_facts.specs.Views.{In}
 use Rattle.fm_rule_facts.specs.Holds.{how_many, one_if, released}
 use Rattle.fm_rule_facts.proofs.Keeping.{in_left}
-use Rattle.fm_rule_facts.proofs.Summing.{one_less}
+use Rattle.fm_rule_facts.proofs.Summing.{one_less, swapped}
 use Rattle.fm_script_lines.specs.declared.standing.Standing.{Standing}
 use Rattle.fm_script_lines.specs.declared.standing.Standing.TheVariants.{Nothing}
 use Rattle.fm_script_lines.specs.Tokens.{onto, among, HasTokens}
-
--- Some are there where one is counted.
-pub some_in : (a : ArenaId) (hs : List ArenaId) → 0 < how_many a hs → In a hs
-some_in a [] h = absurd (omega (arith, h))
-some_in a (b ∷ bs) h = go (same_id b a) refl h (some_in a bs)
-  where
-    go : (x : Bool) → same_id b a ≡ x → 0 < one_if x + how_many a bs → (0 < how_many a bs → In a bs) → In a (b ∷ bs)
-    go true e k ih = inl (sym (same_id-true b a e))
-    go false e k ih = inr (ih (omega (arith, k)))
+use Rattle.fm_gate.proofs.Counted.{some_in}
 
 -- The first of them is released among those in front.
 pub released_front : (a : ArenaId) (xs ys : List ArenaId) → In a xs → released a (xs ++ ys) ≡ released a xs ++ ys
@@ -32,18 +22,6 @@ released_front a (b ∷ bs) ys i = go (same_id b a) refl i (released_front a bs 
     go true e j ih = refl
     go false e (inl q) ih = absurd (let t : same_id b a ≡ true = (λ k. same_id (sym q k) a) ∙ same_id-self a in cc)
     go false e (inr j) ih = ap (λ (zs : List ArenaId). b ∷ zs) (ih j)
-
-not_this : (a b : ArenaId) → (a ≡ b → ⊥) → same_id a b ≡ false
-not_this a b ne = go (same_id a b) refl
-  where
-    go : (x : Bool) → same_id a b ≡ x → same_id a b ≡ false
-    go true e = absurd (ne (same_id-true a b e))
-    go false e = e
-
-swapped : (a b : ArenaId) → one_if (same_id a b) ≡ one_if (same_id b a)
-swapped a b = dite (one_arena a b)
-    (λ e. (λ k. one_if (same_id (e k) (sym e k))))
-    (λ ne. ap one_if (not_this a b ne) ∙ sym (ap one_if (not_this b a (λ e. ne (sym e)))))
 
 -- One more in front.
 pub how_many_onto : (a : ArenaId) (o : Option ArenaId) (xs : List ArenaId) → how_many a (onto o xs) ≡ how_many a (onto o []) + how_many a xs

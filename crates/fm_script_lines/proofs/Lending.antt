@@ -13,7 +13,7 @@ use Rattle.fm_base.specs.Calls.{Entry, Enter, Fine, entry_of}
 use Rattle.fm_base.specs.Histories.{made_by}
 use Rattle.fm_base.specs.View.{is_loan}
 use Rattle.fm_base_lists.specs.Among.{IsAmong}
-use Rattle.fm_rule_facts.specs.Loans.{lent}
+use Rattle.fm_rule_facts.specs.Loans.{loans_of}
 use Rattle.fm_rule_facts.specs.Views.{View, Begins, In, unlent_in}
 use Rattle.fm_rule_facts.proofs.Keeping.{begins_on}
 use Rattle.fm_gate.specs.Pages.{FoundNoPage, LendsInRange}
@@ -85,7 +85,7 @@ module _ {p q r : View} {own run : List Entry} (w : Went p q own) (v : Went q r 
       record {
         at = left.before;
         point = point_of left.before left.begins.0 left.begins.1 (omega (arith, early, long));
-        few = subst (λ (y : Shape × ℕ). unlent_in y.0 y.1 (lent left.before) < y.0.passes) (λ j. (shape_is j, x.of j)) left.few;
+        few = subst (λ (y : Shape × ℕ). unlent_in y.0 y.1 (loans_of left.before) < y.0.passes) (λ j. (shape_is j, x.of j)) left.few;
       }
 
   -- What is lent is a part of the range.

@@ -10,10 +10,7 @@ use Rattle.fm_rule_facts.specs.Views.{View, limit_of}
 use Rattle.fm_rule_calls.specs.Kept.{rest_of}
 use Rattle.fm_rule_calls.specs.Told.{view_of_pass}
 use Rattle.fm_script_lines.specs.Laws.{SettledIsMade}
-
-by_itself : (p : View) → IsByItself (view_of_pass p) → p.whole ≡ true
-by_itself p (inl e) = absurd (cc)
-by_itself p (inr w) = w
+use Rattle.fm_rule_calls.proofs.Telling.{by_itself}
 
 pub settled : SettledIsMade
 settled p q own g hs ks sound =

@@ -13,7 +13,7 @@ use Rattle.fm_base.specs.Histories.{made_by, state_after}
 use Rattle.fm_base.specs.Machine.{rounded_up}
 use Rattle.fm_base.specs.View.{is_loan}
 use Rattle.fm_base_lists.specs.Among.{IsAmong}
-use Rattle.fm_rule_facts.specs.Loans.{lent}
+use Rattle.fm_rule_facts.specs.Loans.{loans_of}
 use Rattle.fm_rule_facts.specs.Scarcity.{lacking, parts_before}
 use Rattle.fm_rule_facts.specs.Views.{View, Begins, limit_of, unlent, unlent_in}
 use Rattle.fm_arena.specs.Allocating.{AllocatesExactly}
@@ -53,7 +53,7 @@ end_behind z es id size align = rounded_up (given_behind z es id) align + size
 -- the range is within the arena's limit, and fewer pages aren't lent than parts up to its end lack one
 pub record IsScarceBehind (z : Shape) (es : List Entry) (id : ArenaId) (size align : ℕ) : Type 0 where
   pub fits : end_behind z es id size align ≤ limit_of z
-  pub few : unlent z.pages (lent es) < lacking (parts_before z (end_behind z es id size align)) (lent es) id
+  pub few : unlent z.pages (loans_of es) < lacking (parts_before z (end_behind z es id size align)) (loans_of es) id
 
 -- the line is refused so exactly where the arena lets it in and pages are too scarce for its range
 pub record IsFullRightly (z : Shape) (before : List Entry) (size align : ℕ) (d : Done) : Type 0 where
@@ -81,7 +81,7 @@ pub record IsPointOf (c : Caller) (history own run at : List Entry) : Type 0 whe
 pub record FoundFew (z : Shape) (c : Caller) (history own run : List Entry) (group : ℕ) : Type 0 where
   pub at : List Entry
   pub point : IsPointOf c history own run at
-  pub few : unlent_in z group (lent at) < z.passes
+  pub few : unlent_in z group (loans_of at) < z.passes
 
 -- so it was for each word of page bits, if the line allocates, and is refused for want of pages
 abbrev pub FindsFew : Shape → Caller → (history own : List Entry) → Done → Type 0

@@ -2,7 +2,7 @@ ghost use Rattle.std.specs.Prelude.{◌≡◌, ◌≤◌, length, true};
 ghost use Rattle.fm_base.specs.Arenas.{has_arena};
 ghost use Rattle.fm_rule_calls.specs.Kept.{Lasts};
 ghost use Rattle.fm_arena.specs.Shares.{CanShare};
-ghost use Rattle.fm_gate.specs.Standing.{CanVisit, IsInside, IsOutside};
+ghost use Rattle.fm_gate.specs.Needs.{CanVisit, IsInside, IsOutside};
 ghost use Rattle.fm_rule_facts.specs.Views.{IsKnown, given_of};
 ghost use Rattle.fm_rule.specs.GivenBytes.{state_of};
 

@@ -69,7 +69,8 @@ pub record IsPlaced (value v shift : ℕ) : Type 0 where
   pub whole : v * 2 ^ shift % 2 ^ 64 ≡ v * 2 ^ shift
   pub fits : value + v * 2 ^ shift < 2 ^ 64
 
-below_behind : (m v n k : ℕ) → m < 2 ^ (8 * n) → v < 2 ^ (8 * k) → m + v * 2 ^ (8 * n) < 2 ^ (8 * (n + k))
+-- Lower bytes and upper ones behind them together are below what all of them can be.
+pub below_behind : (m v n k : ℕ) → m < 2 ^ (8 * n) → v < 2 ^ (8 * k) → m + v * 2 ^ (8 * n) < 2 ^ (8 * (n + k))
 below_behind m v n k p q = rw (pow_bytes n k) (grind arith)
 
 -- A number that crosses a word's end: the pieces before and behind it.

@@ -49,7 +49,8 @@ pub stay_unless : (a : ArenaId) (end : ℕ) (none : Bool) (result : Result (Unit
 stay_unless a end true result own Does f d = stay_none a end own d.1
 stay_unless a end false result own Does f d = f d
 
-stay_append : (a : ArenaId) (end : ℕ) (es fs : List Entry) → StayBelow a end es → StayBelow a end fs → StayBelow a end (es ++ fs)
+-- What stays below goes on so behind what does.
+pub stay_append : (a : ArenaId) (end : ℕ) (es fs : List Entry) → StayBelow a end es → StayBelow a end fs → StayBelow a end (es ++ fs)
 stay_append a end [] fs h k = k
 stay_append a end (e ∷ es) fs h k = (h.0, stay_append a end es fs h.1 k)
 

@@ -13,10 +13,10 @@ use Rattle.fm_top.specs.Queries.{IsRecordLayout, IsPlanned, IsAnswered, TextEnds
 use Rattle.fm_top.specs.Run.{EndsBy}
 use Rattle.fm_top.specs.Scripts.{ScriptEnds, no_script, long_script, bad_script, ran}
 use Rattle.fm_top.specs.Words.{Request, Sum, Layout, Ask, Demo, Run}
-use Rattle.fm_top.specs.declared.layout_text.LayoutText.{LayoutText}
-use Rattle.fm_top.specs.declared.question.Question.{Question}
-use Rattle.fm_top.specs.declared.status.Status.{Status}
-use Rattle.fm_top.specs.declared.status.Status.TheVariants.{Answered, Missing, LayoutRefused, QueryRefused, Ragged, TooLong, ScriptRefused}
+use Rattle.fm_top.specs.declared.command.layout_text.LayoutText.{LayoutText}
+use Rattle.fm_top.specs.declared.command.question.Question.{Question}
+use Rattle.fm_top.specs.declared.outcome.status.Status.{Status}
+use Rattle.fm_top.specs.declared.outcome.status.Status.TheVariants.{Answered, Missing, LayoutRefused, QueryRefused, Ragged, TooLong, ScriptRefused}
 
 -- the cause of a status: an answer needs none, and what is no outcome's status has none
 abbrev pub CauseOf : Status → Request → Option (List ℕ) → Option (List ℕ) → Type 0

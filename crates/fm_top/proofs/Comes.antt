@@ -8,9 +8,9 @@ use Rattle.fm_top.specs.Outcome.{Outcome}
 use Rattle.fm_top.specs.Run.{EndsBy, HasOutcome, IsOutcomeOver, IsOutcome, faulty, asked, Traces, Runs}
 use Rattle.fm_top.specs.Statuses.{AskFor, ComesOf}
 use Rattle.fm_top.specs.Words.{Request, first_file, last_file}
-use Rattle.fm_top.specs.declared.left.Left.{Left}
-use Rattle.fm_top.specs.declared.status.Status.{Status}
-use Rattle.fm_top.specs.declared.status.Status.TheVariants.{Answered, Usage, Missing, Unread, Unwritten, NoMemory}
+use Rattle.fm_top.specs.declared.outcome.left.Left.{Left}
+use Rattle.fm_top.specs.declared.outcome.status.Status.{Status}
+use Rattle.fm_top.specs.declared.outcome.status.Status.TheVariants.{Answered, Usage, Missing, Unread, Unwritten, NoMemory}
 use Rattle.fm_top.proofs.Causes.{CauseOf, end_cause}
 use Rattle.fm_top.proofs.Runs.{outcome_status, only_unread, only_unwritten, usage_faulty}
 
@@ -45,16 +45,16 @@ asks_for words told o s (asked request x asks has) is other =
     (request, asks, subst (λ (r : Status). IfSome told (OverFiles (CauseOf r) request)) is (cause_told request told x has))
 
 -- each status has its cause
-pub comes_of : {words : List (List ℕ)} {told : Option Contents} {t : Traces} {k : Left} (before missed : ℕ) (s : Status) → Runs words told t k s
-    → (s ≡ Missing → Rose before missed) → ComesOf words told t before missed s
-comes_of {words} {told} {t} {k} before missed Answered runs rose = tt
-comes_of {words} {told} {t} {k} before missed Usage runs rose =
-    let has = outcome_status words told t k Usage runs (λ late. late) in usage_faulty words told has.outcome has.is_outcome has.status_is
-comes_of {words} {told} {t} {k} before missed Missing runs rose =
-    let has = outcome_status words told t k Missing runs (λ late. late) in
-    (asks_for words told has.outcome Missing has.is_outcome has.status_is (λ e. cc), rose refl)
-comes_of {words} {told} {t} {k} before missed Unread runs rose = only_unread words told t k Unread runs refl
-comes_of {words} {told} {t} {k} before missed Unwritten runs rose = only_unwritten words told t k Unwritten runs refl
-comes_of {words} {told} {t} {k} before missed NoMemory runs rose = tt
-comes_of {words} {told} {t} {k} before missed s runs rose =
-    let has = outcome_status words told t k s runs (λ late. late) in asks_for words told has.outcome s has.is_outcome has.status_is (λ e. cc)
+pub comes_of : {words : List (List ℕ)} {t : Traces} {k : Left} (s : Status) → Runs words t k s → (s ≡ Missing → Rose t.old.misses t.new.misses)
+    → ComesOf words t s
+comes_of {words} {t} {k} Answered runs rose = tt
+comes_of {words} {t} {k} Usage runs rose =
+    let has = outcome_status words t k Usage runs (λ late. late) in usage_faulty words t.old.holds has.outcome has.is_outcome has.status_is
+comes_of {words} {t} {k} Missing runs rose =
+    let has = outcome_status words t k Missing runs (λ late. late) in
+    (asks_for words t.old.holds has.outcome Missing has.is_outcome has.status_is (λ e. cc), rose refl)
+comes_of {words} {t} {k} Unread runs rose = only_unread words t k Unread runs refl
+comes_of {words} {t} {k} Unwritten runs rose = only_unwritten words t k Unwritten runs refl
+comes_of {words} {t} {k} NoMemory runs rose = tt
+comes_of {words} {t} {k} s runs rose =
+    let has = outcome_status words t k s runs (λ late. late) in asks_for words t.old.holds has.outcome s has.is_outcome has.status_is (λ e. cc)

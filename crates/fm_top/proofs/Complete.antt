@@ -4,11 +4,11 @@ use Rattle.fm_io.specs.Count.{Rose, Raised}
 use Rattle.fm_io.specs.Files.{Contents}
 use Rattle.fm_top.specs.Causes.{OverFiles}
 use Rattle.fm_top.specs.Outcome.{Outcome}
-use Rattle.fm_top.specs.Run.{HasOutcome, IsOutcome, faulty, asked, Traces, Runs, whole, unread, unwritten, no_memory, unknown, code_of, IsValid, Answers, is_answered, cut_short, wants_memory}
+use Rattle.fm_top.specs.Run.{HasOutcome, IsOutcome, faulty, asked, Traces, printed, failed, stopped, Runs, ended, unread, unknown, IsValid, Answers, is_answered, cut_short, wants_memory}
 use Rattle.fm_top.specs.Words.{Request, Asks}
-use Rattle.fm_top.specs.declared.left.Left.{Left}
-use Rattle.fm_top.specs.declared.status.Status.{Status}
-use Rattle.fm_top.specs.declared.status.Status.TheVariants.{Answered, Missing, LayoutRefused, QueryRefused, Ragged, TooLong, ScriptRefused}
+use Rattle.fm_top.specs.declared.outcome.left.Left.{Left}
+use Rattle.fm_top.specs.declared.outcome.status.Status.{Status}
+use Rattle.fm_top.specs.declared.outcome.status.Status.TheVariants.{Answered, Missing, LayoutRefused, QueryRefused, Ragged, TooLong, ScriptRefused}
 use Rattle.fm_top.proofs.Causes.{CauseOf}
 use Rattle.fm_top.proofs.Comes.{told_cause}
 use Rattle.fm_top.proofs.Requests.{same_request}
@@ -33,20 +33,14 @@ valid_answered words told o request contents (asked r x asks_r has) asks tells v
     (told_cause request contents x (subst (λ (h : Option Contents). HasOutcome request h x) tells of_request))
 
 -- valid input is answered, where no read or write failed
-ran : (words : List (List ℕ)) (told : Option Contents) (t : Traces) (k : Left) (s : Status) → Runs words told t k s
-    → (request : Request) (contents : Contents) → Asks words request → told ≡ Some contents → IsValid request contents
-    → (Rose t.reads_before t.reads_failed → ⊥) → (Raised t.writes_before t.writes_failed → ⊥) → Answers words told t.before t.after k (code_of s)
-ran words told t k s (whole o is all) request contents asks tells valid no_read no_write =
-    let status = valid_answered words told o request contents is asks tells valid in
-    subst (λ (r : Status). Answers words told t.before t.after o.left (code_of r)) (sym status) (is_answered o is status all)
-ran words told t k s (unread ask rose same) request contents asks tells valid no_read no_write = absurd (no_read rose)
-ran words told t k s (unwritten o is rose front) request contents asks tells valid no_read no_write = absurd (no_write rose)
-ran words told t k s (no_memory o is front) request contents asks tells valid no_read no_write =
-    cut_short o is (valid_answered words told o request contents is asks tells valid) front
-ran words told t k s (unknown same) request contents asks tells valid no_read no_write = wants_memory same
-
-pub complete : {words : List (List ℕ)} {told : Option Contents} {t : Traces} {k : Left} {s : Status} {code : ℕ} → Runs words told t k s → code ≡ code_of s
-    → (request : Request) (contents : Contents) → Asks words request → told ≡ Some contents → IsValid request contents
-    → (Rose t.reads_before t.reads_failed → ⊥) → (Raised t.writes_before t.writes_failed → ⊥) → Answers words told t.before t.after k code
-complete {words} {told} {t} {k} {s} runs same request contents asks tells valid no_read no_write =
-    subst (λ (n : ℕ). Answers words told t.before t.after k n) (sym same) (ran words told t k s runs request contents asks tells valid no_read no_write)
+pub complete : {words : List (List ℕ)} {t : Traces} {k : Left} {s : Status} → Runs words t k s → (request : Request) (contents : Contents)
+    → Asks words request → t.old.holds ≡ Some contents → IsValid request contents
+    → (Rose t.old.faults t.new.faults → ⊥) → (Raised t.before.faults t.after.faults → ⊥) → Answers words t k s
+complete {words} {t} (ended o r is (printed all)) request contents asks tells valid no_read no_write =
+    let status = valid_answered words t.old.holds o request contents is asks tells valid in
+    subst (λ (r : Status). Answers words t o.left r) (sym status) (is_answered o is status all)
+complete (ended o r is (failed rose front)) request contents asks tells valid no_read no_write = absurd (no_write rose)
+complete {words} {t} (ended o r is (stopped front)) request contents asks tells valid no_read no_write =
+    cut_short o is (valid_answered words t.old.holds o request contents is asks tells valid) front
+complete (unread ask rose same) request contents asks tells valid no_read no_write = absurd (no_read rose)
+complete (unknown same) request contents asks tells valid no_read no_write = wants_memory same

@@ -12,7 +12,7 @@ use Rattle.fm_workers.specs.Printed.{counts_text}
 use Rattle.fm_top.specs.Outcome.{Outcome, answered_by_pool}
 use Rattle.fm_top.specs.Queries.{IsAnswered}
 use Rattle.fm_top.specs.Tallies.{counts_of}
-use Rattle.fm_top.specs.declared.question.Question.TheVariants.{Tally}
+use Rattle.fm_top.specs.declared.command.question.Question.TheVariants.{Tally}
 
 -- the count at a place
 count_at : (ns : List ℤ) (k : ℕ) → k < 256 → get_or (counts_of ns) k 0 ≡ how_many (number_of k) ns

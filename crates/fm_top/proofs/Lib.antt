@@ -3,11 +3,13 @@ pub mod Comes
 pub mod Complete
 pub mod Counted
 pub mod Demos
+pub mod Ends
 pub mod NamedKinds
 pub mod Numbers
 pub mod OneEnd
 pub mod Outcomes
 pub mod Planned
+pub mod Ran
 pub mod ReadFor
 pub mod Requests
 pub mod Runs

@@ -19,8 +19,8 @@ use Rattle.fm_top.specs.Queries.{IsRecordLayout, IsNoRecordLayout, IsLayoutRefus
 use Rattle.fm_top.specs.Tallies.{IsTallied, IsPathRefused, no_list, no_bytes}
 use Rattle.fm_top.specs.Run.{HasOutcome, IsOutcomeOver, faulty, asked}
 use Rattle.fm_top.specs.Words.{Request, Sum, Layout, Ask, Demo, Run, Asks, IsRun}
-use Rattle.fm_top.specs.declared.question.Question.{Question}
-use Rattle.fm_top.specs.declared.question.Question.TheVariants.{Query, Tally}
+use Rattle.fm_top.specs.declared.command.question.Question.{Question}
+use Rattle.fm_top.specs.declared.command.question.Question.TheVariants.{Query, Tally}
 use Rattle.fm_top.proofs.Comes.{over_told}
 use Rattle.fm_top.proofs.Requests.{same_request}
 use Rattle.fm_workers.specs.Counts.{IsTally}

@@ -14,8 +14,8 @@ use Rattle.fm_top.specs.Queries.{IsLayoutRefused, IsUnplanned, TextEnds, unplann
 use Rattle.fm_top.specs.Run.{HasOutcome}
 use Rattle.fm_top_load.specs.Whole.{IsWhole, IsOver}
 use Rattle.fm_top.specs.Words.{Layout, Ask}
-use Rattle.fm_top.specs.declared.layout_text.LayoutText.{LayoutText}
-use Rattle.fm_top.specs.declared.question.Question.{Question}
+use Rattle.fm_top.specs.declared.command.layout_text.LayoutText.{LayoutText}
+use Rattle.fm_top.specs.declared.command.question.Question.{Question}
 
 -- ---- what is found
 
@@ -41,10 +41,6 @@ long_found (Some held) name limit long = long_of limit (file_of held name) long
 
 -- ---- layouts
 
-pub layout-whole : (text : LayoutText) (name bytes : List ℕ) (told : Option Contents) (o : Outcome) → IsWhole told name bytes → o ≡ layout_of_file text bytes
-    → HasOutcome (Layout text name) told o
-layout-whole text name bytes told o whole is = (Some bytes, whole, is)
-
 -- a layout that is too long
 pub long_layout_ends : (text : LayoutText) (bytes : List ℕ) → layout_file_limit < length bytes → layout_of_file text bytes ≡ too_long
 long_layout_ends text bytes long =
@@ -65,25 +61,20 @@ module _ (q : Question) (threads : ℕ) (layout text file : List ℕ) (told : Op
 pub some_end : (told : Option Contents) (name : List ℕ) (P : Option (List ℕ) → Type 0) → ((found : Option (List ℕ)) → P found) → OfFound told name P
 some_end told name P each = let found = some_found told name in (found.0, found.1, each found.0)
 
-module _ (q : Question) (told : Option Contents) (text file : List ℕ) (o : Outcome) where
+-- whatever is found of the record file
+module _ (q : Question) (text file : List ℕ) (found : Option (List ℕ)) (o : Outcome) where
+  -- the layout is refused
   pub refused-layout : (layout bytes : List ℕ) (e : Refusal) → IsLayoutRefused bytes e ⊎ (e ≡ Memory) → e ≢ Memory → o ≡ layout_refused e
-      → OfFound told file (λ found. AskEnds q layout text file found (Some bytes) o)
+      → AskEnds q layout text file found (Some bytes) o
   refused-layout layout bytes e (inr memory) other is = absurd (other memory)
   refused-layout layout bytes e (inl denied) other is =
-      some_end told file (λ found. AskEnds q layout text file found (Some bytes) o)
-      (λ found. subst (λ (x : Outcome). AskEnds q layout text file found (Some bytes) x) (sym is) (bad_layout bytes e denied))
+      subst (λ (x : Outcome). AskEnds q layout text file found (Some bytes) x) (sym is) (bad_layout bytes e denied)
 
-  pub refused-text : (t : Tree) (e : Refusal) → (e ≢ Memory → IsUnplanned q text t e) → e ≢ Memory → o ≡ query_refused e
-      → OfFound told file (λ found. TextEnds q text t file found o)
-  refused-text t e denied other is =
-      some_end told file (λ found. TextEnds q text t file found o)
-      (λ found. subst (λ (x : Outcome). TextEnds q text t file found x) (sym is) (unplanned e (denied other)))
+  -- the text is refused
+  pub refused-text : (t : Tree) (e : Refusal) → (e ≢ Memory → IsUnplanned q text t e) → e ≢ Memory → o ≡ query_refused e → TextEnds q text t file found o
+  refused-text t e denied other is = subst (λ (x : Outcome). TextEnds q text t file found x) (sym is) (unplanned e (denied other))
 
--- what follows of two clauses of an answer
-pub both_ok : {T E : Type 0} (r : Result T E) (P Q R : T → Type 0) → ((x : T) → P x → Q x → R x) → IfOk r P → IfOk r Q → IfOk r R
-both_ok (Ok x) P Q R f p q = f x p q
-both_ok (Err e) P Q R f p q = tt
-
+-- an end over a ragged file
 pub records-rest : (size rest : ℕ) (file : List ℕ) (Answers : List ℕ → Outcome → Type 0) (bytes : List ℕ) (o : Outcome)
     → length bytes ≤ record_file_limit → rest ≡ length bytes % size → (rest ≡ 0 → ⊥) → o ≡ ragged rest → RecordsEnd size file Answers (Some bytes) o
 records-rest size rest file Answers bytes o short same some is =

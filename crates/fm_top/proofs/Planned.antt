@@ -1,5 +1,5 @@
 -- What texts come to.
-use Rattle.std.proofs.Common.{◌≡◌, ◌≢◌, ℕ, List, Bool, true, false, Result, Ok, Err, IfErr, subst, sym}
+use Rattle.std.proofs.Common.{◌≡◌, ◌≢◌, ℕ, List, Bool, true, false, Result, Ok, Err, IfOk, IfErr, subst, sym, ◌∙◌}
 use Rattle.std.specs.Prelude.{MatchBool}
 use Rattle.fm_base.specs.declared.refusal.Refusal.{Refusal}
 use Rattle.fm_base.specs.declared.refusal.Refusal.TheVariants.{Memory}
@@ -8,8 +8,15 @@ use Rattle.fm_records_query.specs.Parsed.{IsNoQuery}
 use Rattle.fm_records_query.specs.Plan.{Plan}
 use Rattle.fm_workers.specs.Counts.{IsTally}
 use Rattle.fm_top.specs.Queries.{IsPlanned, IsTextRefused, IsUnplanned}
-use Rattle.fm_top.specs.declared.question.Question.{Question}
-use Rattle.fm_top.specs.declared.question.Question.TheVariants.{Query, Tally}
+use Rattle.fm_top.specs.declared.command.question.Question.{Question}
+use Rattle.fm_top.specs.declared.command.question.Question.TheVariants.{Query, Tally}
+
+-- what is known of an answer
+pub of_ok : {T E : Type 0} {answered answer : Result T E} {x : T} (P : T → Type 0) → answer ≡ answered → answer ≡ Ok x → IfOk answered P → P x
+of_ok P same is known = subst (λ r. IfOk r P) (sym same ∙ is) known
+
+pub of_err : {T E : Type 0} {answered answer : Result T E} {e : E} (P : E → Type 0) → answer ≡ answered → answer ≡ Err e → IfErr answered P → P e
+of_err P same is known = subst (λ r. IfErr r P) (sym same ∙ is) known
 
 -- the plan of a tally lists bytes or booleans
 pub tally_planned : (q : Question) (text : List ℕ) (t : Tree) (p : Plan) → IsPlanned q text t p → q ≡ Tally → IsTally p

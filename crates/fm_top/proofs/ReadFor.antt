@@ -11,7 +11,7 @@ use Rattle.fm_top_load.specs.Reading.{ReadsUpTo}
 use Rattle.fm_top.specs.Reading.{ReadsIf, AreReadsOf, first_limit, ReadsFor}
 use Rattle.fm_top_load.specs.Whole.{IsWhole}
 use Rattle.fm_top.specs.Words.{Request, Ask, first_file, last_file}
-use Rattle.fm_top.specs.declared.question.Question.{Question}
+use Rattle.fm_top.specs.declared.command.question.Question.{Question}
 
 append_nil : (xs : List Read) → xs ++ [] ≡ xs
 append_nil [] = refl
@@ -48,8 +48,8 @@ read_since so reads = record { reads = reads.reads; noted = reads.noted; follow 
 only_first : (old new : Option (List Read)) (reads : List Read) → ReadsOn old new reads → ReadsOn old new (reads ++ [])
 only_first old new reads noted = subst (λ (rs : List Read). ReadsOn old new rs) (sym (append_nil reads)) noted
 
-pub first_reads : (request : Request) (told : Option Contents) {old new : Option (List Read)} {name : List ℕ} {Goes : Next → Type 0}
-    → first_file request ≡ Some name → ReadsUpTo old new name (first_limit request) Goes → ReadsFor request told old new
+pub first_reads : (request : Request) (told : Option Contents) {old new : Option (List Read)} {name : List ℕ} {P : Type 0}
+    → first_file request ≡ Some name → ReadsIf old new name (first_limit request) P → ReadsFor request told old new
 first_reads request told {old} {new} is reads = record {
   first = reads.reads;
   last = [];

@@ -9,10 +9,10 @@ use Rattle.fm_lanes.specs.declared.value_kind.ValueKind.{ValueKind}
 use Rattle.fm_top_options.proofs.Said.{one_saying}
 use Rattle.fm_top_options.specs.Options.{Say}
 use Rattle.fm_top.specs.Words.{Request, Sum, Layout, Ask, Demo, Run, Asks, IsSum, IsOfFile, IsThreaded, IsAsk, IsCount, IsDemo, AreThreadsBy, IsLayout, layout_word, question_word, three}
-use Rattle.fm_top.specs.declared.layout_text.LayoutText.{LayoutText}
-use Rattle.fm_top.specs.declared.layout_text.LayoutText.TheVariants.{Places, Json}
-use Rattle.fm_top.specs.declared.question.Question.{Question}
-use Rattle.fm_top.specs.declared.question.Question.TheVariants.{Query, Tally}
+use Rattle.fm_top.specs.declared.command.layout_text.LayoutText.{LayoutText}
+use Rattle.fm_top.specs.declared.command.layout_text.LayoutText.TheVariants.{Places, Json}
+use Rattle.fm_top.specs.declared.command.question.Question.{Question}
+use Rattle.fm_top.specs.declared.command.question.Question.TheVariants.{Query, Tally}
 use Rattle.fm_top.proofs.Threaded.{one_count}
 
 same_sum : (words : List (List ℕ)) (n m n' m' : ℕ) (kind kind' : ValueKind) (file file' : List ℕ)

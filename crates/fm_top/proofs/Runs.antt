@@ -6,11 +6,11 @@ use Rattle.fm_io.specs.Files.{Contents}
 use Rattle.fm_top.specs.Ending.{TellsMiss}
 use Rattle.fm_top.specs.Found.{OfFile}
 use Rattle.fm_top.specs.Outcome.{Outcome}
-use Rattle.fm_top.specs.Run.{EndsBy, HasOutcome, IsOutcome, faulty, asked, Traces, Prints, printed, failed, stopped, Runs, whole, unread, unwritten, no_memory, unknown, TellsMissing, code_of, EndsWith}
+use Rattle.fm_top.specs.Run.{EndsBy, HasOutcome, IsOutcome, faulty, asked, Traces, Prints, printed, failed, stopped, Runs, ended, unread, unknown, TellsMissing, code_of, EndsWith}
 use Rattle.fm_top.specs.Words.{Request, Sum, Layout, Ask, Demo, Run, Asks, CanBeAsked, AreFaulty, first_file, last_file}
-use Rattle.fm_top.specs.declared.left.Left.{Left}
-use Rattle.fm_top.specs.declared.status.Status.{Status}
-use Rattle.fm_top.specs.declared.status.Status.TheVariants.{Answered, Usage, Missing, Unread, LayoutRefused, QueryRefused, Ragged, TooLong, Unwritten, NoMemory, ScriptRefused}
+use Rattle.fm_top.specs.declared.outcome.left.Left.{Left}
+use Rattle.fm_top.specs.declared.outcome.status.Status.{Status}
+use Rattle.fm_top.specs.declared.outcome.status.Status.TheVariants.{Answered, Usage, Missing, Unread, LayoutRefused, QueryRefused, Ragged, TooLong, Unwritten, NoMemory, ScriptRefused}
 use Rattle.fm_top.proofs.Threaded.{are_threads}
 use Rattle.fm_top.proofs.Causes.{CauseOf, end_cause}
 
@@ -42,24 +42,17 @@ found_cause request told o has =
     let last = found_under told (last_file request) (λ y. EndsBy request first.0 y o) first.1 in
     (first.0, last.0, end_cause request first.0 last.0 o last.1)
 
--- what is printed of an outcome that the words have is a run of them
-pub runs-printed : {words : List (List ℕ)} {told : Option Contents} {t : Traces} (o : Outcome) {status : Status}
-    → IsOutcome words told o → Prints o t.writes_before t.writes_failed t.before t.after status → Runs words told t o.left status
-runs-printed o is (printed all) = whole o is all
-runs-printed o is (failed rose front) = unwritten o is rose front
-runs-printed o is (stopped front) = no_memory o is front
-
 missing_or : (s : Status) → (s ≡ Missing) ⊎ (s ≢ Missing)
 missing_or Missing = inl refl
 missing_or s = inr (λ e. absurd (cc))
 
--- and where the count of misses changed, the run tells that a file is missing
-pub misses-printed : {words : List (List ℕ)} {told : Option Contents} {t : Traces} {before now : ℕ} (o : Outcome) {status : Status}
-    → IsOutcome words told o → Prints o t.writes_before t.writes_failed t.before t.after status → TellsMiss before now o.status
-    → (now ≡ before) ⊎ TellsMissing words told t o.left status
+-- where the count of misses changed, the run tells that a file is missing
+pub misses-printed : {words : List (List ℕ)} {t : Traces} (o : Outcome) {status : Status} → IsOutcome words t.old.holds o
+    → Prints o t.before t.after status → TellsMiss t.old.misses t.new.misses o.status
+    → (t.new.misses ≡ t.old.misses) ⊎ TellsMissing words t o.left status
 misses-printed o is prints tells =
     elim (missing_or o.status) [
-      | inl missing ↦ inr (record { outcome = o; is_outcome = is; missing = missing; prints = prints; left = refl })
+      | inl missing ↦ inr (record { outcome = o; is_outcome = is; missing = missing; prints = prints; left_is = refl })
       | inr other ↦ inl (tells.well other)
     ]
 
@@ -103,22 +96,21 @@ outcome_early words told o (asked request x asks has) late =
     not_late x.status request found.0 found.1 found.2 late
 
 -- what comes of a failed read
-pub only_unread : (words : List (List ℕ)) (told : Option Contents) (t : Traces) (k : Left) (s : Status) → Runs words told t k s → s ≡ Unread
-    → Rose t.reads_before t.reads_failed
-only_unread words told t k s (whole o is_outcome all) is = absurd (outcome_early words told o is_outcome (subst IsLate (sym is) tt))
-only_unread words told t k s (unread asks rose same) is = rose
-only_unread words told t k s (unwritten o is_outcome rose front) is = absurd (cc)
-only_unread words told t k s (no_memory o is_outcome front) is = absurd (cc)
-only_unread words told t k s (unknown same) is = absurd (cc)
+pub only_unread : (words : List (List ℕ)) (t : Traces) (k : Left) (s : Status) → Runs words t k s → s ≡ Unread → Rose t.old.faults t.new.faults
+only_unread words t k s (ended o r known (printed all)) is = absurd (outcome_early words t.old.holds o known (subst IsLate (sym is) tt))
+only_unread words t k s (ended o r known (failed rose front)) is = absurd (cc)
+only_unread words t k s (ended o r known (stopped front)) is = absurd (cc)
+only_unread words t k s (unread asks rose same) is = rose
+only_unread words t k s (unknown same) is = absurd (cc)
 
 -- what comes of a failed write
-pub only_unwritten : (words : List (List ℕ)) (told : Option Contents) (t : Traces) (k : Left) (s : Status) → Runs words told t k s → s ≡ Unwritten
-    → Raised t.writes_before t.writes_failed
-only_unwritten words told t k s (whole o is_outcome all) is = absurd (outcome_early words told o is_outcome (subst IsLate (sym is) tt))
-only_unwritten words told t k s (unread asks rose same) is = absurd (cc)
-only_unwritten words told t k s (unwritten o is_outcome rose front) is = rose
-only_unwritten words told t k s (no_memory o is_outcome front) is = absurd (cc)
-only_unwritten words told t k s (unknown same) is = absurd (cc)
+pub only_unwritten : (words : List (List ℕ)) (t : Traces) (k : Left) (s : Status) → Runs words t k s → s ≡ Unwritten
+    → Raised t.before.faults t.after.faults
+only_unwritten words t k s (ended o r known (printed all)) is = absurd (outcome_early words t.old.holds o known (subst IsLate (sym is) tt))
+only_unwritten words t k s (ended o r known (failed rose front)) is = rose
+only_unwritten words t k s (ended o r known (stopped front)) is = absurd (cc)
+only_unwritten words t k s (unread asks rose same) is = absurd (cc)
+only_unwritten words t k s (unknown same) is = absurd (cc)
 
 -- The words have an outcome of this status.
 pub record HasStatus (words : List (List ℕ)) (told : Option Contents) (s : Status) : Type 0 where
@@ -127,13 +119,12 @@ pub record HasStatus (words : List (List ℕ)) (told : Option Contents) (s : Sta
   pub status_is : outcome.status ≡ s
 
 -- a status that comes of no fault is the outcome's
-pub outcome_status : (words : List (List ℕ)) (told : Option Contents) (t : Traces) (k : Left) (s : Status) → Runs words told t k s → (IsLate s → ⊥)
-    → HasStatus words told s
-outcome_status words told t k s (whole o is_outcome all) not_late = record { outcome = o; is_outcome = is_outcome; status_is = refl }
-outcome_status words told t k s (unread asks rose same) not_late = absurd (not_late tt)
-outcome_status words told t k s (unwritten o is_outcome rose front) not_late = absurd (not_late tt)
-outcome_status words told t k s (no_memory o is_outcome front) not_late = absurd (not_late tt)
-outcome_status words told t k s (unknown same) not_late = absurd (not_late tt)
+pub outcome_status : (words : List (List ℕ)) (t : Traces) (k : Left) (s : Status) → Runs words t k s → (IsLate s → ⊥) → HasStatus words t.old.holds s
+outcome_status words t k s (ended o r known (printed all)) not_late = record { outcome = o; is_outcome = known; status_is = refl }
+outcome_status words t k s (ended o r known (failed rose front)) not_late = absurd (not_late tt)
+outcome_status words t k s (ended o r known (stopped front)) not_late = absurd (not_late tt)
+outcome_status words t k s (unread asks rose same) not_late = absurd (not_late tt)
+outcome_status words t k s (unknown same) not_late = absurd (not_late tt)
 
 -- usage comes of words that ask for nothing
 pub usage_faulty : (words : List (List ℕ)) (told : Option Contents) (o : Outcome) → IsOutcome words told o → o.status ≡ Usage → AreFaulty words
@@ -147,10 +138,10 @@ faulty_outcome : (words : List (List ℕ)) (told : Option Contents) (o : Outcome
 faulty_outcome words told o none (faulty same) = refl
 faulty_outcome words told o none (asked request x asks has) = absurd (none request asks)
 
-pub faulty_ends : {words : List (List ℕ)} {told : Option Contents} {t : Traces} {k : Left} {s : Status} {code : ℕ} → Runs words told t k s → code ≡ code_of s
-    → AreFaulty words → EndsWith Usage code
-faulty_ends {words} {told} (whole o is_outcome all) same none = inl (same ∙ ap code_of (faulty_outcome words told o none is_outcome))
-faulty_ends (unread asks rose kept) same none = absurd (none asks.0 asks.1)
-faulty_ends (unwritten o is_outcome rose front) same none = inr (inl same)
-faulty_ends (no_memory o is_outcome front) same none = inr (inr same)
-faulty_ends (unknown kept) same none = inr (inr same)
+-- so their run ends with usage, or in the writing of that, or for want of memory
+pub faulty_ends : {words : List (List ℕ)} {t : Traces} {k : Left} {s : Status} → Runs words t k s → AreFaulty words → EndsWith Usage s
+faulty_ends {words} {t} (ended o r known (printed all)) none = inl (faulty_outcome words t.old.holds o none known)
+faulty_ends (ended o r known (failed rose front)) none = inr (inl refl)
+faulty_ends (ended o r known (stopped front)) none = inr (inr refl)
+faulty_ends (unread asks rose kept) none = absurd (none asks.0 asks.1)
+faulty_ends (unknown kept) none = inr (inr refl)

@@ -11,7 +11,7 @@ use Rattle.fm_top.specs.Found.{file_under}
 use Rattle.fm_top.specs.Outcome.{layout_file_limit, script_file_limit}
 use Rattle.fm_top.specs.Queries.{IsRecordLayout, IsLayoutRefused, IsPlanned, IsUnplanned}
 use Rattle.fm_top.specs.Words.{Request, Sum, Layout, Ask, Demo, Run, first_file, last_file}
-use Rattle.fm_top.specs.declared.question.Question.{Question}
+use Rattle.fm_top.specs.declared.command.question.Question.{Question}
 
 -- it holds of what these files have under the request's names
 abbrev pub OverFiles : (Request → Option (List ℕ) → Option (List ℕ) → Type 0) → Request → Contents → Type 0

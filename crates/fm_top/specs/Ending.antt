@@ -1,15 +1,15 @@
 -- What a run's ending says.
 use Rattle.std.specs.Prelude.{◌≡◌, ◌≢◌, ℕ, List, ◌++◌, Result, Ok, Err, string_bytes}
 use Rattle.fm_io.specs.Count.{Rose}
+use Rattle.fm_io.specs.declared.fault.Fault.{Fault}
 use Rattle.fm_records.specs.Texts.{answer_text}
 use Rattle.fm_top.specs.Outcome.{Outcome, missing}
-use Rattle.fm_top.specs.declared.answered.Answered.{Answered}
-use Rattle.fm_top.specs.declared.ending.Ending.{Ending}
-use Rattle.fm_top.specs.declared.status.Status.{Status}
-use Rattle.fm_top.specs.declared.status.Status.TheVariants.{Missing}
-use Rattle.fm_top.specs.declared.text.Text.{Text}
-use Rattle.fm_top.specs.declared.text.Text.TheVariants.{Whole, Bytes, NoFile, Answer, Both}
-use Rattle.fm_top.specs.declared.stop.Stop.{Stop}
+use Rattle.fm_top.specs.declared.outcome.answered.Answered.{Answered}
+use Rattle.fm_top.specs.declared.outcome.ending.Ending.{Ending}
+use Rattle.fm_top.specs.declared.outcome.status.Status.{Status}
+use Rattle.fm_top.specs.declared.outcome.status.Status.TheVariants.{Missing}
+use Rattle.fm_top.specs.declared.outcome.text.Text.{Text}
+use Rattle.fm_top.specs.declared.outcome.text.Text.TheVariants.{Whole, Bytes, NoFile, Answer, Both}
 
 abbrev pub answered_text : Answered → List ℕ
 answered_text a = answer_text a.query a.answer
@@ -30,6 +30,6 @@ pub record TellsMiss (before now : ℕ) (status : Status) : Type 0 where
   pub well : status ≢ Missing → now ≡ before
 
 -- so does a stop before the end is known
-abbrev pub TellsMisses : ℕ → ℕ → Result Ending Stop → Type 0
+abbrev pub TellsMisses : ℕ → ℕ → Result Ending Fault → Type 0
 TellsMisses before now (Ok ending) = TellsMiss before now ending.status
-TellsMisses before now (Err stop) = now ≡ before
+TellsMisses before now (Err fault) = now ≡ before

@@ -2,8 +2,8 @@
 use Rattle.std.specs.Prelude.{Option, None, Some}
 use Rattle.fm_script_report.specs.Views.{ReportView}
 use Rattle.fm_rule.specs.Finishing.{FinishedView}
-use Rattle.fm_top.specs.declared.left.Left.{Left}
-use Rattle.fm_top.specs.declared.left.Left.TheVariants.{Nothing, Pool, Report}
+use Rattle.fm_top.specs.declared.outcome.left.Left.{Left}
+use Rattle.fm_top.specs.declared.outcome.left.Left.TheVariants.{Nothing, Pool, Report}
 
 -- the pool that is kept, if one is
 abbrev pub pool_in : Left → Option FinishedView

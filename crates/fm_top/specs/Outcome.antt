@@ -13,12 +13,12 @@ use Rattle.fm_script_report.specs.Texts.{report_text}
 use Rattle.fm_script_report.specs.Views.{ReportView}
 use Rattle.fm_rule.specs.Finishing.{FinishedView}
 use Rattle.fm_top.specs.Records.{sum_of_values}
-use Rattle.fm_top.specs.declared.layout_text.LayoutText.{LayoutText}
-use Rattle.fm_top.specs.declared.layout_text.LayoutText.TheVariants.{Places, Json}
-use Rattle.fm_top.specs.declared.left.Left.{Left}
-use Rattle.fm_top.specs.declared.left.Left.TheVariants.{Nothing, Pool, Report}
-use Rattle.fm_top.specs.declared.status.Status.{Status}
-use Rattle.fm_top.specs.declared.status.Status.TheVariants.{Answered, Usage, Missing, LayoutRefused, QueryRefused, Ragged, TooLong, ScriptRefused}
+use Rattle.fm_top.specs.declared.command.layout_text.LayoutText.{LayoutText}
+use Rattle.fm_top.specs.declared.command.layout_text.LayoutText.TheVariants.{Places, Json}
+use Rattle.fm_top.specs.declared.outcome.left.Left.{Left}
+use Rattle.fm_top.specs.declared.outcome.left.Left.TheVariants.{Nothing, Pool, Report}
+use Rattle.fm_top.specs.declared.outcome.status.Status.{Status}
+use Rattle.fm_top.specs.declared.outcome.status.Status.TheVariants.{Answered, Usage, Missing, LayoutRefused, QueryRefused, Ragged, TooLong, ScriptRefused}
 
 pub record Outcome : Type 0 where
   pub status : Status

@@ -14,8 +14,8 @@ use Rattle.fm_rule.specs.Finishing.{FinishedView}
 use Rattle.fm_workers.specs.Counts.{listed}
 use Rattle.fm_top.specs.Outcome.{Outcome, missing, too_long, layout_refused, query_refused, answered_by_pool, RecordsEnd, layout_file_limit}
 use Rattle.fm_top.specs.Tallies.{IsTallied, IsPathRefused, tally_text}
-use Rattle.fm_top.specs.declared.question.Question.{Question}
-use Rattle.fm_top.specs.declared.question.Question.TheVariants.{Query, Tally}
+use Rattle.fm_top.specs.declared.command.question.Question.{Question}
+use Rattle.fm_top.specs.declared.command.question.Question.TheVariants.{Query, Tally}
 
 -- ---- the layout
 

@@ -9,11 +9,12 @@ use Rattle.fm_top.specs.Found.{OfFile}
 use Rattle.fm_top.specs.Outcome.{Outcome, SumEnds, layout_outcome, usage}
 use Rattle.fm_top.specs.Queries.{AskEnds}
 use Rattle.fm_top.specs.Scripts.{ScriptEnds}
+use Rattle.fm_top.specs.Told.{FilesTold, SinkTold}
 use Rattle.fm_top.specs.Words.{Request, Sum, Layout, Ask, Demo, Run, Asks, AreFaulty, first_file, last_file}
-use Rattle.fm_top.specs.declared.left.Left.{Left}
-use Rattle.fm_top.specs.declared.left.Left.TheVariants.{Nothing}
-use Rattle.fm_top.specs.declared.status.Status.{Status}
-use Rattle.fm_top.specs.declared.status.Status.TheVariants.{Answered, Usage, Missing, Unread, LayoutRefused, QueryRefused, Ragged, TooLong, Unwritten, NoMemory, ScriptRefused}
+use Rattle.fm_top.specs.declared.outcome.left.Left.{Left}
+use Rattle.fm_top.specs.declared.outcome.left.Left.TheVariants.{Nothing}
+use Rattle.fm_top.specs.declared.outcome.status.Status.{Status}
+use Rattle.fm_top.specs.declared.outcome.status.Status.TheVariants.{Answered, Usage, Missing, Unread, LayoutRefused, QueryRefused, Ragged, TooLong, Unwritten, NoMemory, ScriptRefused}
 
 -- the status as the process answers it
 abbrev pub code_of : Status → ℕ
@@ -55,57 +56,42 @@ pub data IsOutcome (words : List (List ℕ)) (told : Option Contents) : Outcome 
   faulty : AreFaulty words → IsOutcome words told usage
   asked : (request : Request) (o : Outcome) → Asks words request → HasOutcome request told o → IsOutcome words told o
 
--- How often reads and writes had failed before the run, and have after it; what the sink tells before and after.
+-- What the files and the sink tell before a run and after it.
 pub record Traces : Type 0 where
-  pub reads_before : ℕ
-  pub reads_failed : ℕ
-  pub writes_before : ℕ
-  pub writes_failed : ℕ
-  pub before : Option (List ℕ)
-  pub after : Option (List ℕ)
+  pub old : FilesTold
+  pub new : FilesTold
+  pub before : SinkTold
+  pub after : SinkTold
 
-abbrev pub traces_of : ℕ → ℕ → ℕ → ℕ → Option (List ℕ) → Option (List ℕ) → Traces
-traces_of reads_before reads_failed writes_before writes_failed before after = record {
-  reads_before = reads_before;
-  reads_failed = reads_failed;
-  writes_before = writes_before;
-  writes_failed = writes_failed;
-  before = before;
-  after = after;
-}
+abbrev pub traces_of : FilesTold → FilesTold → SinkTold → SinkTold → Traces
+traces_of old new before after = record { old = old; new = new; before = before; after = after }
 
 -- with which status the writing of an outcome's text may end
-pub data Prints (o : Outcome) (writes_before writes_failed : ℕ) (before after : Option (List ℕ)) : Status → Type 0 where
-  printed : Appends before after o.text → Prints o writes_before writes_failed before after o.status
-  failed : Raised writes_before writes_failed → AppendsPrefix before after o.text → Prints o writes_before writes_failed before after Unwritten
-  stopped : AppendsPrefix before after o.text → Prints o writes_before writes_failed before after NoMemory
+pub data Prints (o : Outcome) (before after : SinkTold) : Status → Type 0 where
+  printed : Appends before.written after.written o.text → Prints o before after o.status
+  failed : Raised before.faults after.faults → AppendsPrefix before.written after.written o.text → Prints o before after Unwritten
+  stopped : AppendsPrefix before.written after.written o.text → Prints o before after NoMemory
 
--- what a run of the words leaves and keeps, where the files tell this, and with which status it may end
-pub data Runs (words : List (List ℕ)) (told : Option Contents) (t : Traces) : Left → Status → Type 0 where
-  -- the whole text of their outcome was written
-  whole : (o : Outcome) → IsOutcome words told o → Appends t.before t.after o.text → Runs words told t o.left o.status
+-- what a run of the words leaves and keeps, and with which status it may end
+pub data Runs (words : List (List ℕ)) (t : Traces) : Left → Status → Type 0 where
+  -- an outcome of the words was known, and its text was written, or a prefix of it where a write failed or memory ran out
+  ended : (o : Outcome) (status : Status) → IsOutcome words t.old.holds o → Prints o t.before t.after status → Runs words t o.left status
   -- a read failed, and nothing was written
-  unread : AskSome words → Rose t.reads_before t.reads_failed → t.after ≡ t.before → Runs words told t Nothing Unread
-  -- a write failed, and a prefix was written
-  unwritten : (o : Outcome) → IsOutcome words told o → Raised t.writes_before t.writes_failed
-      → AppendsPrefix t.before t.after o.text → Runs words told t o.left Unwritten
-  -- memory ran out, and a prefix was written
-  no_memory : (o : Outcome) → IsOutcome words told o → AppendsPrefix t.before t.after o.text → Runs words told t o.left NoMemory
+  unread : AskSome words → Rose t.old.faults t.new.faults → t.after.written ≡ t.before.written → Runs words t Nothing Unread
   -- memory ran out before the outcome was known: nothing was written, and nothing is kept
-  unknown : t.after ≡ t.before → Runs words told t Nothing NoMemory
+  unknown : t.after.written ≡ t.before.written → Runs words t Nothing NoMemory
 
 -- The run tells that a file is missing: it came to such an outcome, and ended as the writing of its text did.
-pub record TellsMissing (words : List (List ℕ)) (told : Option Contents) (t : Traces) (k : Left) (status : Status) : Type 0 where
+pub record TellsMissing (words : List (List ℕ)) (t : Traces) (left : Left) (status : Status) : Type 0 where
   pub outcome : Outcome
-  pub is_outcome : IsOutcome words told outcome
+  pub is_outcome : IsOutcome words t.old.holds outcome
   pub missing : outcome.status ≡ Missing
-  pub prints : Prints outcome t.writes_before t.writes_failed t.before t.after status
-  pub left : k ≡ outcome.left
+  pub prints : Prints outcome t.before t.after status
+  pub left_is : left ≡ outcome.left
 
 -- the status, or an end in the writing of its text or for want of memory
-abbrev pub EndsWith : Status → ℕ → Type 0
-EndsWith status code =
-    (code ≡ code_of status) ⊎ ((code ≡ code_of Unwritten) ⊎ (code ≡ code_of NoMemory))
+abbrev pub EndsWith : Status → Status → Type 0
+EndsWith wanted status = (status ≡ wanted) ⊎ ((status ≡ Unwritten) ⊎ (status ≡ NoMemory))
 
 -- The input is valid: no cause of another status than 0 applies.
 pub record IsValid (request : Request) (contents : Contents) : Type 0 where
@@ -118,9 +104,9 @@ pub record IsValid (request : Request) (contents : Contents) : Type 0 where
 
 -- the run ends with an answer of the words written whole, with what it keeps, or for want of memory: as that answer is written, or
 -- before it was known
-pub data Answers (words : List (List ℕ)) (told : Option Contents) (before after : Option (List ℕ)) : Left → ℕ → Type 0 where
-  is_answered : (o : Outcome) → IsOutcome words told o → o.status ≡ Answered → Appends before after o.text
-      → Answers words told before after o.left (code_of Answered)
-  cut_short : (o : Outcome) → IsOutcome words told o → o.status ≡ Answered → AppendsPrefix before after o.text
-      → Answers words told before after o.left (code_of NoMemory)
-  wants_memory : after ≡ before → Answers words told before after Nothing (code_of NoMemory)
+pub data Answers (words : List (List ℕ)) (t : Traces) : Left → Status → Type 0 where
+  is_answered : (o : Outcome) → IsOutcome words t.old.holds o → o.status ≡ Answered → Appends t.before.written t.after.written o.text
+      → Answers words t o.left Answered
+  cut_short : (o : Outcome) → IsOutcome words t.old.holds o → o.status ≡ Answered → AppendsPrefix t.before.written t.after.written o.text
+      → Answers words t o.left NoMemory
+  wants_memory : t.after.written ≡ t.before.written → Answers words t Nothing NoMemory

@@ -5,10 +5,10 @@ use Rattle.fm_lanes.specs.declared.value_kind.ValueKind.{ValueKind}
 use Rattle.fm_lanes.specs.Kind.{width_of}
 use Rattle.fm_lanes.specs.Named.{kind_text}
 use Rattle.fm_top_options.specs.Options.{Say}
-use Rattle.fm_top.specs.declared.layout_text.LayoutText.{LayoutText}
-use Rattle.fm_top.specs.declared.layout_text.LayoutText.TheVariants as layout_text
-use Rattle.fm_top.specs.declared.question.Question.{Question}
-use Rattle.fm_top.specs.declared.question.Question.TheVariants as question
+use Rattle.fm_top.specs.declared.command.layout_text.LayoutText.{LayoutText}
+use Rattle.fm_top.specs.declared.command.layout_text.LayoutText.TheVariants as layout_text
+use Rattle.fm_top.specs.declared.command.question.Question.{Question}
+use Rattle.fm_top.specs.declared.command.question.Question.TheVariants as question
 
 -- what a user asks for
 pub data Request : Type 0 where

@@ -1,51 +1,33 @@
-//! The tool: what its words ask for, how a run ends, and what it prints. Each command has a file for its words and one
-//! for its end.
+//! The tool: what its words ask for, how a run ends, and what it prints.
+//!
+//! `command` reads the words, a file for each form of them. `outcome` does what they ask for, a file for each command's
+//! end, up to the writing. `run` is the top call.
+//!
+//! **The problem.** A run can go wrong at its words, at a file, at a limit, in a query or in the writing, and more than
+//! one of these may apply. What is printed must not be half of an answer over data that was read in part, and the
+//! status has to say what was wrong.
+//!
+//! **The idea.** Words ask for one request or for none (`Asks`). A request and what the files hold have an outcome: a
+//! status, a text, and what is kept. [`run_tool`] comes to the outcome first, and only then writes its text.
+//!
+//! **Both sides.** Files and the sink are the caller's, and may tell what they hold and count their faults (`fm_io`).
+//! The outcome is said over what they tell, and a fault is answered only where one of them shows it.
+//!
+//! **Why it is safe.** The status, what was written and what is kept are those of one outcome (`runs`), each status has
+//! its cause by one table (`causes`), and input to which no other cause applies is answered whole, but for want of
+//! memory (`complete`). What an earlier run kept is gone first.
+//!
+//! **What is not promised.** Which of its possible reports a script's run gives. That memory is there: want of it may
+//! end any run. That a text which was written in part is taken back: after a failed write a prefix of it stands in the
+//! sink.
 #![tactic(auto)]
 
-mod answered;
-mod answering;
-mod ask_words;
-mod asking;
 mod command;
-mod demo;
-mod demo_layout;
-mod demo_words;
-mod ending;
-mod file_words;
-mod kept;
 mod laws;
-mod layout;
-mod layout_text;
-mod left;
-mod load_ending;
-mod number;
-mod plain;
-mod planning;
-mod printing;
-mod question;
+mod outcome;
 mod run;
-mod scripting;
-mod status;
-mod stop;
-mod sum;
-mod sum_words;
-mod summing;
-mod text;
-mod threaded_words;
-mod threads;
 
-pub use ask_words::AskCommand;
-pub use command::Command;
-pub use demo_words::DemoCommand;
-pub use file_words::{LayoutCommand, RunCommand};
-pub use fm_top_load::{
-    LAYOUT_FILE_LIMIT, LoadFault, Loaded, RECORD_FILE_LIMIT, load, load_into, read_whole,
-};
-pub use kept::Kept;
+pub use fm_top_load::{LAYOUT_FILE_LIMIT, RECORD_FILE_LIMIT};
 pub use laws::words_have_one_outcome;
-pub use layout_text::LayoutText;
-pub use question::Question;
+pub use outcome::{Kept, SCRIPT_FILE_LIMIT, Status};
 pub use run::run_tool;
-pub use scripting::SCRIPT_FILE_LIMIT;
-pub use status::Status;
-pub use sum_words::SumCommand;

@@ -13,7 +13,8 @@ pub(crate) fn matched<'a>(
     words: &'a [String],
 ) -> Result<Option<ArgMatches<'a>>, AllocError>
     ensures found { IfOk result (λ found. IfSome found (Match (texts words.now))) }
-    ensures none { IfOk result (λ found. IfNone found ((text : Option (List ℕ)) (names : List (List ℕ)) →
+    ensures none { IfOk result (λ found.
+        IfNone found ((text : Option (List ℕ)) (names : List (List ℕ)) →
         Say (texts words.now) text names → ⊥)) }
 {
     match command(alloc)?.try_get_matches_from(words) {

@@ -23,7 +23,8 @@ pub struct Options<'a> {
 pub fn options_of<'a>(alloc: Global, words: &'a [String]) -> Result<Option<Options<'a>>, AllocError>
     ensures found { IfOk result (λ found. IfSome found (λ options.
         Say (texts words.now) (lent_one options.threads) (lent options.words.items))) }
-    ensures none { IfOk result (λ found. IfNone found ((text : Option (List ℕ)) (names : List (List ℕ)) →
+    ensures none { IfOk result (λ found.
+        IfNone found ((text : Option (List ℕ)) (names : List (List ℕ)) →
         Say (texts words.now) text names → ⊥)) }
 {
     match matched(alloc, words)? {

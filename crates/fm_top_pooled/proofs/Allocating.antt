@@ -16,7 +16,7 @@ use Rattle.fm_gate.specs.Learnt.{AfterAllocate}
 use Rattle.fm_gate.proofs.Scarce.{one_empty}
 use Rattle.fm_top_load.specs.Held.{HoldsThen, IsEmpty, OnlyIn, Wants, words_at}
 use Rattle.fm_top_load.proofs.Holding.{allocated_held, allocated_only, refusal_wants}
-use Rattle.fm_rule_facts.specs.Loans.{lent}
+use Rattle.fm_rule_facts.specs.Loans.{loans_of}
 use Rattle.fm_rule_facts.specs.Scarcity.{IsScarce, lacking, parts_before}
 use Rattle.fm_rule_facts.specs.Views.{View, given_of, limit_of, state_in, unlent}
 use Rattle.fm_rule_facts.proofs.Scarcity.{lacking_most}
@@ -39,7 +39,7 @@ first_room pool p a size lone empty room =
 -- where an arena with so many bytes has no more parts than pages are left, these aren't too few
 not_scarce : (p : View) (a : ArenaId) (size : ℕ) → IsEmpty (view_of_pass p) a → HasPagesFor p size → ¬ (IsScarce p a size 8)
 not_scarce p a size empty pages scarce =
-    let loans = lent p.seen in
+    let loans = loans_of p.seen in
     let none : rounded_up (given_of p a) 8 ≡ 0 = nothing_given p a empty in
     let end : rounded_up (given_of p a) 8 + size ≡ size = omega (arith, none) in
     let few : unlent p.shape.pages loans < lacking (parts_before p.shape size) loans a =

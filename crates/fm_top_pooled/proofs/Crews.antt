@@ -16,7 +16,7 @@ use Rattle.fm_base_bytes.specs.Words.{byte_at}
 use Rattle.fm_segment_laws.proofs.Staying.{ChangesBelow, StayBelow, tidy_alone}
 use Rattle.fm_rule_calls.specs.Told.{view_of_pass}
 use Rattle.fm_rule_calls.proofs.Going.{Reached, reached_by}
-use Rattle.fm_gate.specs.Standing.{IsOutside}
+use Rattle.fm_gate.specs.Needs.{IsOutside}
 use Rattle.fm_base_lists.specs.Among.{IsAmong}
 use Rattle.fm_base_lists.proofs.Each.{all_both, all_weaker}
 use Rattle.fm_rule_facts.specs.Views.{View, IsSound, limit_of, state_in}
@@ -27,7 +27,7 @@ use Rattle.fm_records.proofs.AnsweringBytes.{get_or-places, length-places}
 use Rattle.fm_rule.specs.declared.pool.Pool.{Pool}
 use Rattle.fm_segment.specs.Access.{IsKnown}
 use Rattle.fm_segment.specs.Region.{Region}
-use Rattle.fm_workers.specs.Crew.{CrewGathered}
+use Rattle.fm_workers_crew.specs.Crew.{CrewGathered}
 use Rattle.fm_workers.specs.Query.{OnlyReads, reads, stops}
 use Rattle.fm_workers.proofs.Sparing.{by_either}
 use Rattle.fm_top_pooled.specs.Stocked.{IsStocked, bytes_in_pool}

@@ -13,7 +13,7 @@ use Rattle.fm_segment_access.specs.Alone.{bytes_of_arena}
 use Rattle.fm_segment_laws.proofs.Putting.{put_all_stays}
 use Rattle.fm_segment_laws.proofs.Staying.{StayBelow, stay_kept}
 use Rattle.fm_rule_calls.specs.Told.{view_of_pass}
-use Rattle.fm_gate.specs.Standing.{IsOutside}
+use Rattle.fm_gate.specs.Needs.{IsOutside}
 use Rattle.fm_io.specs.Files.{Contents, AreBytesFrom}
 use Rattle.fm_io.specs.Reads.{Read, Next, At}
 use Rattle.fm_top_load.specs.Filling.{Puts, no_run, run}

@@ -18,7 +18,7 @@ use Rattle.fm_segment_laws.proofs.Staying.{StayBelow, tidy_alone}
 use Rattle.fm_arena.proofs.Lasting.{keeps as pool_keeps}
 use Rattle.fm_rule_calls.specs.Told.{view_of_pass}
 use Rattle.fm_rule_calls.proofs.Sweeps.{no_sweeps}
-use Rattle.fm_gate.specs.Standing.{IsOutside}
+use Rattle.fm_gate.specs.Needs.{IsOutside}
 use Rattle.fm_top_load.specs.Held.{IsHeld, OnlyIn, words_at}
 use Rattle.fm_rule_facts.specs.Views.{View, IsKnown, IsSound, limit_of, state_in}
 use Rattle.fm_records.specs.Alone.{bytes_at_places}

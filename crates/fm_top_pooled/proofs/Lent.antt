@@ -8,11 +8,10 @@ use Rattle.fm_base.specs.Calls.{Call, Lend, Back, Entry}
 use Rattle.fm_base.specs.Histories.{IsLegal, state_after}
 use Rattle.fm_base.specs.Machine.{after}
 use Rattle.fm_base.proofs.Growing.{Grows-after}
-use Rattle.fm_rule_facts.specs.Loans.{Loan, loan_of, loans_after, loans_by, lent, HasPart, IsFree, IsRightlyLentFrom, IsRightlyLentIn}
+use Rattle.fm_rule_facts.specs.Loans.{Loan, loan_of, loans_after, loans_by, loans_of, HasPart, IsFree, IsRightlyLentFrom, IsRightlyLentIn}
 use Rattle.fm_rule_facts.specs.Scarcity.{lacking, parts_before}
 use Rattle.fm_rule_facts.specs.Views.{View, IsKnown, IsSound, limit_of, unlent}
-use Rattle.fm_rule_facts.proofs.Lending.{loan_cases, loan_was}
-use Rattle.fm_rule_facts.proofs.Moving.{first_loan, more_loans}
+use Rattle.fm_rule_facts.proofs.Lending.{loan_cases, loan_was, first_loan, more_loans}
 use Rattle.fm_rule_facts.proofs.Scarcity.{block_free, has_part_not, lacking_lend, unlent_lend}
 use Rattle.fm_words.specs.declared.shape.Shape.{Shape}
 
@@ -106,13 +105,13 @@ counted pages reach a (l ∷ ls) apart each =
 
 -- A pass that knows one arena alone has at most as many pages lent as an arena can have.
 pub lent_to_one : (p : View) (a : ArenaId) → IsSound p → ((b : ArenaId) → IsKnown p b → b ≡ a)
-    → p.shape.pages ≤ unlent p.shape.pages (lent p.seen) + p.shape.reach
+    → p.shape.pages ≤ unlent p.shape.pages (loans_of p.seen) + p.shape.reach
 lent_to_one p a sound only =
     let size = p.shape.page_words in
     let limit = limit_of p.shape in
     let apart = apart_on size limit [] [] p.seen sound.lent tt in
     let known = known_on size limit [] [] p.seen sound.legal sound.lent (λ l i. absurd (let none = i.1 in omega arith)) in
-    let all = counted p.shape.pages p.shape.reach a (lent p.seen) apart
+    let all = counted p.shape.pages p.shape.reach a (loans_of p.seen) apart
     (λ l i. record { id = only l.id (known l i); block = (sound.loans l i).0; part = (sound.loans l i).1 }) in
     omega arith
 

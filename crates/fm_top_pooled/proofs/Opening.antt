@@ -18,7 +18,7 @@ use Rattle.fm_rule_calls.proofs.Sweeps.{no_sweeps}
 use Rattle.fm_rule_calls.proofs.Telling.{did_of}
 use Rattle.fm_gate.specs.Learnt.{AfterOpen, AllBusy}
 use Rattle.fm_top_load.proofs.Holding.{did_only, opened_held}
-use Rattle.fm_rule_facts.specs.Loans.{Loan, lent}
+use Rattle.fm_rule_facts.specs.Loans.{Loan, loans_of}
 use Rattle.fm_rule_facts.specs.Scarcity.{parts_before}
 use Rattle.fm_rule_facts.specs.Views.{View, IsKnown, IsSound, limit_of, state_in, unlent}
 use Rattle.fm_rule.specs.declared.pool.Pool.{Pool}
@@ -64,7 +64,7 @@ all_left p size sound none room =
     let fits : size ≤ z.reach * (z.page_words * 8) = omega arith in
     let parts = parts_within z size z.reach (omega arith) fits in
     let pages = sound.valid.reach.1 in
-    let left : unlent z.pages (lent p.seen) ≡ z.pages = ap (λ (es : List Entry). unlent z.pages (lent es)) none ∙ none_lent z.pages in
+    let left : unlent z.pages (loans_of p.seen) ≡ z.pages = ap (λ (es : List Entry). unlent z.pages (loans_of es)) none ∙ none_lent z.pages in
     omega arith
 
 -- so there are a slot and pages for the first one

@@ -11,7 +11,7 @@ use Rattle.fm_base.specs.Arenas.{State, are_one, has_arena}
 use Rattle.fm_base.specs.Calls.{Entry, Read, Found as Found_word, entry_of}
 use Rattle.fm_base.specs.Histories.{IsTidy, made_by, state_after}
 use Rattle.fm_base.specs.Untouched.{Spares}
-use Rattle.fm_gate.specs.Standing.{IsOutside}
+use Rattle.fm_gate.specs.Needs.{IsOutside}
 use Rattle.fm_base_lists.specs.Among.{IsAmong}
 use Rattle.fm_base_lists.proofs.Among.{among_kept, among_left, among_right}
 use Rattle.fm_base_lists.proofs.Each.{all_among, all_both, all_weaker}
@@ -30,9 +30,9 @@ use Rattle.fm_rule.specs.Finishing.{FinishedView, Finishes}
 use Rattle.fm_rule.specs.GivenBytes.{state_of}
 use Rattle.fm_segment.specs.Region.{Region, region_of}
 use Rattle.fm_words.specs.declared.shape.Shape.{Shape}
-use Rattle.fm_workers.specs.Crew.{AreTooMany, CrewGathered, IsFresh, IsWhole, callers}
+use Rattle.fm_workers_crew.specs.Crew.{AreTooMany, CrewGathered, IsFresh, IsWhole, callers}
 use Rattle.fm_workers.specs.Query.{CanQueryWith, IsReadByCrew, NobodyElseWrites, OnlyReads, QueriedWith}
-use Rattle.fm_workers.proofs.Wanting.{few_last}
+use Rattle.fm_workers_crew.proofs.Wanting.{few_last}
 use Rattle.fm_top_pooled.specs.Asking.{Asked, HasPasses, KeepsHistory}
 use Rattle.fm_top_pooled.specs.Shown.{AreRead, AsksWord, IsReadByOther, ShowsBoth, ShowsQuery, ShowsRecords, state_before}
 use Rattle.fm_top_pooled.specs.Stocked.{IsStocked, bytes_in_pool}

@@ -16,11 +16,11 @@ use Rattle.fm_base.specs.Visits.{visit}
 use Rattle.fm_rule_calls.specs.Told.{view_of_pass}
 use Rattle.fm_base_bytes.specs.Words.{byte_at}
 use Rattle.fm_gate.specs.Learnt.{AllBusy}
-use Rattle.fm_gate.specs.Standing.{IsOutside}
+use Rattle.fm_gate.specs.Needs.{IsOutside}
 use Rattle.fm_base_lists.specs.Among.{IsAmong}
 use Rattle.fm_base_lists.proofs.Each.{all_both, all_weaker}
 use Rattle.fm_top_load.specs.Held.{HoldsThen}
-use Rattle.fm_rule_facts.specs.Loans.{lent}
+use Rattle.fm_rule_facts.specs.Loans.{loans_of}
 use Rattle.fm_rule_facts.specs.Scarcity.{parts_before}
 use Rattle.fm_rule_facts.specs.Views.{View, IsKnown, IsSound, limit_of, state_in, unlent}
 use Rattle.fm_records_query.specs.Plan.{Plan}
@@ -31,7 +31,7 @@ use Rattle.fm_segment.specs.Region.{Region, region_of}
 use Rattle.fm_words.specs.declared.shape.Shape.{Shape}
 use Rattle.fm_workers.specs.Adding.{HasCounts}
 use Rattle.fm_workers.specs.Counts.{AreCounts, IsTally, listed}
-use Rattle.fm_workers.specs.Crew.{callers}
+use Rattle.fm_workers_crew.specs.Crew.{callers}
 use Rattle.fm_workers.specs.Query.{NobodyElseWrites}
 use Rattle.fm_workers.specs.Tally.{CanTallyWith, OnlyAddsTo, no_more, closed, one_add, OnlyTallies, TalliedWith}
 use Rattle.fm_top_pooled.specs.Asking.{Asked, HasPasses}
@@ -77,7 +77,7 @@ second_pages {p = p} {a = a} can opened =
     let wide = can.wide in
     let more = can.more in
     let one : parts_before z 2048 ≤ 1 = parts_within z 2048 1 (omega (arith, wide)) (omega (arith, wide)) in
-    let left : parts_before z 2048 ≤ unlent z.pages (lent p.seen) = omega (arith, lent_few, more, one) in
+    let left : parts_before z 2048 ≤ unlent z.pages (loans_of p.seen) = omega (arith, lent_few, more, one) in
     pages_left 2048 can.lone opened left
 
 -- which have room for the counts

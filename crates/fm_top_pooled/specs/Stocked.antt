@@ -6,7 +6,7 @@ use Rattle.fm_base.specs.Arenas.{Alive, arena_of}
 use Rattle.fm_base.specs.Histories.{IsTidy}
 use Rattle.fm_rule_calls.specs.Told.{view_of_pass}
 use Rattle.fm_gate.specs.Learnt.{AllBusy}
-use Rattle.fm_gate.specs.Standing.{IsOutside}
+use Rattle.fm_gate.specs.Needs.{IsOutside}
 use Rattle.fm_base.specs.View.{given_in}
 use Rattle.fm_io.specs.Files.{Contents}
 use Rattle.fm_segment_access.specs.Alone.{bytes_of_arena}
@@ -15,7 +15,7 @@ use Rattle.fm_top_load.specs.Held.{HoldsThen, IsEmpty, IsHeld, OnlyIn, words_at}
 use Rattle.fm_top_load.specs.Limits.{record_file_limit}
 use Rattle.fm_top_load.specs.Reached.{Reaches}
 use Rattle.fm_top_load.specs.Whole.{IsWhole}
-use Rattle.fm_rule_facts.specs.Loans.{lent}
+use Rattle.fm_rule_facts.specs.Loans.{loans_of}
 use Rattle.fm_rule_facts.specs.Scarcity.{parts_before}
 use Rattle.fm_rule_facts.specs.Views.{View, IsKnown, IsSound, limit_of, state_in, unlent}
 use Rattle.fm_records.specs.Alone.{bytes_at_places}
@@ -46,7 +46,7 @@ pub record IsLone (pool : Pool) (p : View) : Type 0 where
 
 -- an arena has no more parts for so many bytes than there are pages that aren't lent
 abbrev pub HasPagesFor : View → (size : ℕ) → Type 0
-HasPagesFor p size = parts_before p.shape size ≤ unlent p.shape.pages (lent p.seen)
+HasPagesFor p size = parts_before p.shape size ≤ unlent p.shape.pages (loans_of p.seen)
 
 -- and a slot is left to it, and room and the pages for so many bytes
 pub record CanStock (pool : Pool) (p : View) (size : ℕ) : Type 0 where
@@ -68,7 +68,7 @@ pub record IsOpened (pool : Pool) (p q : View) (a : ArenaId) : Type 0 where
   pub unknown : ¬ (IsKnown p a)
   pub only : (b : ArenaId) → IsKnown q b → (b ≡ a) ⊎ IsKnown p b
   pub keeps : KeepsArenas p q
-  pub loans : lent q.seen ≡ lent p.seen
+  pub loans : loans_of q.seen ≡ loans_of p.seen
 
 -- the arena, of which nothing was given, gave so many bytes, and no other has changed
 pub record HasGiven (pool : Pool) (p q : View) (a : ArenaId) (size : ℕ) : Type 0 where

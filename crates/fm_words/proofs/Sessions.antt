@@ -1,5 +1,5 @@
 -- Words of sessions read back, and what one word more or less changes.
-use Rattle.std.proofs.Common.{◌≡◌, ℕ, ◌+◌, ◌-◌, ◌*◌, ◌/◌, ◌%◌, ◌^◌, ◌<◌, ◌≤◌, refl, ap, sym, ◌∙◌, arith}
+use Rattle.std.proofs.Common.{◌≡◌, ℕ, ◌+◌, ◌-◌, ◌*◌, ◌/◌, ◌%◌, ◌^◌, ◌<◌, refl, ap, sym, ◌∙◌, arith}
 use Rattle.std.proofs.Common.{zero, suc}
 use Rattle.fm_words.specs.declared.life.Life.{Life}
 use Rattle.fm_words.specs.declared.life.Life.TheVariants.{Free, Alive, Closing, Unused}

@@ -8,7 +8,7 @@ pub data Place : Type 0 where
   front : Place
   -- the count of drawn pass numbers
   draw : Place
-  -- bit k is 1 where slot k can be lent
+  -- bit k is 1 where slot k can be taken
   slot_bits : Place
   -- the mark of a pass
   mark : ℕ → Place

@@ -59,7 +59,7 @@ impl Shape {
         1
     }
 
-    /// The place of the word whose bit k is 1 where slot k can be lent.
+    /// The place of the word whose bit k is 1 where slot k can be taken.
     pub fn slot_bits_place(&self) -> u64
         ensures { result ≡ at self.now slot_bits }
     {

@@ -1,5 +1,5 @@
 -- What is answered where nobody else writes.
-use Rattle.std.proofs.Common.{◌≡◌, ℕ, Bool, true, false, List, [], ◌∷◌, refl, sym, ap, ◌∙◌, subst, inl, inr, ⊎_elim, eq-eqb}
+use Rattle.std.proofs.Common.{◌≡◌, ℕ, Bool, true, false, List, [], ◌∷◌, refl, sym, ap, ◌∙◌, subst, inl, inr, ⊎_elim}
 use Rattle.std.specs.Prelude.{◌⊎◌, cond}
 use Rattle.std.specs.List.{AllByRecursion, flat_map}
 use Rattle.fm_base_lists.specs.Among.{IsAmong}
@@ -19,9 +19,10 @@ use Rattle.fm_records.specs.declared.found.Found.{Found}
 use Rattle.fm_records.specs.Reads.{read_visit}
 use Rattle.fm_records.specs.Shares.{Share, AreSpared, IsSpared}
 use Rattle.fm_records.proofs.Sharing.{shares_answer, shares_read}
-use Rattle.fm_workers.specs.Crew.{CrewGathered, callers}
+use Rattle.fm_workers_crew.specs.Crew.{CrewGathered, callers}
 use Rattle.fm_workers.specs.Query.{OnlyReads, reads, stops, AnsweredBy, NobodyElseWrites, IsAnswer}
-use Rattle.fm_workers.proofs.Working.{nobody}
+use Rattle.fm_workers_crew.proofs.Working.{nobody}
+use Rattle.fm_base_machine.proofs.Putting.{are_one-equal}
 
 visits_spare : (c : Caller) (id a : ArenaId) (place : ℕ) (rs : List (ℕ × ℕ)) → AllByRecursion (λ e. Spares id place e.call) (flat_map (read_visit c a) rs)
 visits_spare c id a place [] = tt
@@ -36,14 +37,11 @@ reads_spare s c own place (stops h) =
     subst (λ (es : List Entry). AllByRecursion (λ e. Spares s.arena place e.call) es) (sym h.stops)
     (all_both (λ e. Spares s.arena place e.call) h.before (refused_visit c s.arena) before (tt, tt))
 
-are_same : (c d : Caller) → c ≡ d → are_one c d ≡ true
-are_same c d e = rw (eq-eqb c.number d.number (ap (λ (x : Caller). x.number) e), eq-eqb c.term d.term (ap (λ (x : Caller). x.term) e)) refl
-
 module _ (P : Entry → Type 0) where
   made_first : (c : Caller) (e : Entry) (es : List Entry) → e.caller ≡ c → AllByRecursion P (made_by c (e ∷ es)) → P e
   made_first c e es is h =
       let k : AllByRecursion P (cond true (e ∷ made_by c es) (made_by c es)) =
-      subst (λ (b : Bool). AllByRecursion P (cond b (e ∷ made_by c es) (made_by c es))) (are_same e.caller c is) h in
+      subst (λ (b : Bool). AllByRecursion P (cond b (e ∷ made_by c es) (made_by c es))) (are_one-equal e.caller c is) h in
       k.0
 
   made_later : (c : Caller) (e : Entry) (es : List Entry) → AllByRecursion P (made_by c (e ∷ es)) → AllByRecursion P (made_by c es)

@@ -5,7 +5,7 @@ mod tallies;
 
 ghost use Rattle.std.specs.Prelude.{◌≡◌, ◌<◌, ◌≤◌, ◌≢◌, []};
 ghost use Rattle.fm_rule_calls.specs.Told.{view_of_pass};
-ghost use Rattle.fm_gate.specs.Standing.{IsInside, IsOutside};
+ghost use Rattle.fm_gate.specs.Needs.{IsInside, IsOutside};
 ghost use Rattle.fm_rule_facts.specs.Views.{given_of, span, IsKnown as HasArena};
 ghost use Rattle.fm_segment.specs.Access.{IsKnown};
 

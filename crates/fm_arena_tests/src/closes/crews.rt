@@ -1,6 +1,6 @@
 ghost use Rattle.std.specs.Prelude.{◌≡◌, ◌≤◌};
 ghost use Rattle.fm_rule_facts.specs.Views.{given_of, span};
-ghost use Rattle.fm_gate.specs.Standing.{CanAllocate, CanVisit, IsInside};
+ghost use Rattle.fm_gate.specs.Needs.{CanAllocate, CanVisit, IsInside};
 ghost use Rattle.fm_arena.specs.Shares.{CanShare};
 
 use super::{made, made_for, put};

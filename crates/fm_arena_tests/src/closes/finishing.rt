@@ -2,7 +2,7 @@ ghost use Rattle.std.specs.Prelude.{◌≡◌, true, IfSome};
 ghost use Rattle.fm_base.specs.Arenas.{has_arena};
 ghost use Rattle.fm_rule_facts.specs.Views.{IsKnown};
 ghost use Rattle.fm_rule.specs.GivenBytes.{state_of};
-ghost use Rattle.fm_gate.specs.Standing.{IsOutside};
+ghost use Rattle.fm_gate.specs.Needs.{IsOutside};
 ghost use Rattle.fm_arena.specs.Shares.{CanShare};
 
 use super::{made, put};

@@ -1,6 +1,6 @@
 ghost use Rattle.std.specs.Prelude.{IfOk};
-ghost use Rattle.fm_gate.specs.Standing.{CanUnhold, CanVisit, IsOutside};
-ghost use Rattle.fm_gate.specs.Holding.{HasBoth};
+ghost use Rattle.fm_gate.specs.Needs.{CanUnhold, CanVisit, IsOutside};
+ghost use Rattle.fm_gate.specs.HoldLaws.{HasBoth};
 
 use super::made;
 use fm_base::{ArenaId, Kind, Refusal};

@@ -1,6 +1,6 @@
 ghost use Rattle.std.specs.Prelude.{◌<◌};
 ghost use Rattle.fm_rule_facts.specs.Holds.{how_many};
-ghost use Rattle.fm_gate.specs.Standing.{CanAllocate, CanVisit, IsOutside};
+ghost use Rattle.fm_gate.specs.Needs.{CanAllocate, CanVisit, IsOutside};
 ghost use Rattle.fm_close.specs.Learnt.{CanGiveBack};
 
 use super::made;

@@ -1,7 +1,7 @@
 ghost use Rattle.std.specs.Prelude.{IfOk};
 ghost use Rattle.fm_rule_facts.specs.Views.{IsKnown};
 ghost use Rattle.fm_rule_calls.specs.Kept.{Lasts};
-ghost use Rattle.fm_gate.specs.Standing.{IsOutside};
+ghost use Rattle.fm_gate.specs.Needs.{IsOutside};
 
 use super::{made, made_for, put};
 use crate::pools::{drawn, given};

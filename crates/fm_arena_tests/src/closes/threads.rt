@@ -2,7 +2,7 @@
 ghost use Rattle.std.specs.Prelude.{◌≤◌, All};
 ghost use Rattle.fm_rule_facts.specs.Views.{given_of};
 ghost use Rattle.fm_gate.specs.Crews.{HasNothing};
-ghost use Rattle.fm_gate.specs.Standing.{CanVisit};
+ghost use Rattle.fm_gate.specs.Needs.{CanVisit};
 
 use super::made;
 use crate::pools::{drawn, word_of};

@@ -2,7 +2,7 @@ ghost use Rattle.std.specs.Prelude.{◌≡◌, ◌≤◌, true};
 ghost use Rattle.fm_base.specs.Arenas.{has_arena};
 ghost use Rattle.fm_rule_facts.specs.Views.{IsKnown, given_of};
 ghost use Rattle.fm_rule.specs.GivenBytes.{state_of};
-ghost use Rattle.fm_gate.specs.Standing.{IsInside, IsOutside};
+ghost use Rattle.fm_gate.specs.Needs.{IsInside, IsOutside};
 ghost use Rattle.fm_arena.specs.Shares.{CanShare};
 
 use fm_base::{ArenaId, Kind};

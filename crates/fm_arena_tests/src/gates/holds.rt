@@ -1,4 +1,4 @@
-ghost use Rattle.fm_gate.specs.Standing.{CanVisit};
+ghost use Rattle.fm_gate.specs.Needs.{CanVisit};
 ghost use Rattle.fm_arena_tests.specs.Holds.{AreHeld};
 
 use super::made;

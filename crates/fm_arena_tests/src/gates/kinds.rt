@@ -1,4 +1,4 @@
-ghost use Rattle.fm_gate.specs.Standing.{CanVisit, HasHandle};
+ghost use Rattle.fm_gate.specs.Needs.{CanVisit, HasHandle};
 
 use super::{made, read, write};
 use crate::pools::given;

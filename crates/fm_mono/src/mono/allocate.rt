@@ -21,32 +21,32 @@ impl Mono {
     ///
     /// Refused, in this order: `BadAlignment`, `Closed`, `NoRoom`, `Memory`. A refused call gives nothing. It takes memory
     /// only where the bytes need more words than those given before.
-    pub fn allot(&mut self, a: ArenaId, size: u64, align: u64) -> Result<u64, Refusal>
-        requires { CanVisit (view_of self.old) a }
-        ensures got { AfterAllocate nature_of_mono (view_of self.old) (view_of self.new) a size align result }
-        ensures wants { result ≡ Err Refusal.Memory → WantsWords self.old a size align }
+    pub fn allot(&mut self, id: ArenaId, size: u64, align: u64) -> Result<u64, Refusal>
+        requires { CanVisit (view_of self.old) id }
+        ensures got { AfterAllocate nature_of_mono (view_of self.old) (view_of self.new) id size align result }
+        ensures wants { result ≡ Err Refusal.Memory → WantsWords self.old id size align }
     {
-        let alive = self.is_alive(a);
+        let alive = self.is_alive(id);
         if !align.is_power_of_two() {
             return Err(Refusal::BadAlignment);
         }
         if !alive {
             return Err(Refusal::Closed);
         }
-        self.grow(a, size, align)
+        self.grow(id, size, align)
     }
 
     /// Gives bytes of an arena that is alive. Each word is zeroed once, when its first byte is given.
-    fn grow(&mut self, a: ArenaId, size: u64, align: u64) -> Result<u64, Refusal>
+    fn grow(&mut self, id: ArenaId, size: u64, align: u64) -> Result<u64, Refusal>
         requires outside { self.old.inside ≡ None }
-        requires known { has_arena self.old.state a ≡ true }
-        requires alive { (arena_of self.old.state a).life ≡ Alive }
+        requires known { has_arena self.old.state id ≡ true }
+        requires alive { (arena_of self.old.state id).life ≡ Alive }
         requires power { IsPower align }
-        ensures got { Allots self.old a size align result self.new }
-        ensures wants { result ≡ Err Refusal.Memory → WantsWords self.old a size align }
+        ensures got { Allots self.old id size align result self.new }
+        ensures wants { result ≡ Err Refusal.Memory → WantsWords self.old id size align }
     {
         let limit = self.limit;
-        let arena = &mut self.arenas[a.slot as usize];
+        let arena = &mut self.arenas[id.slot as usize];
         let given = arena.given;
         let place = rounded(given, align);
         let end = place + u128::from(size);

@@ -18,9 +18,9 @@ impl Memory for Mono {
         Caller { number: 0, term: 0 }
     }
 
-    fn enter(&mut self, a: ArenaId) -> Result<(), Refusal> {
-        if self.is_alive(a) {
-            self.come_in(a);
+    fn enter(&mut self, id: ArenaId) -> Result<(), Refusal> {
+        if self.is_alive(id) {
+            self.come_in(id);
             Ok(())
         } else {
             Err(Refusal::Closed)
@@ -72,19 +72,19 @@ impl Memory for Mono {
     fn allocate<R: Wait>(
         &mut self,
         rt: &R,
-        a: ArenaId,
+        id: ArenaId,
         size: u64,
         align: u64,
     ) -> Result<u64, Refusal>
-        requires { CanVisit (view_of self.old) a }
-        ensures got { AfterAllocate nature_of_mono (view_of self.old) (view_of self.new) a size align result }
-        ensures wants { result ≡ Err Refusal.Memory → WantsWords self.old a size align }
+        requires { CanVisit (view_of self.old) id }
+        ensures got { AfterAllocate nature_of_mono (view_of self.old) (view_of self.new) id size align result }
+        ensures wants { result ≡ Err Refusal.Memory → WantsWords self.old id size align }
     {
-        self.allot(a, size, align)
+        self.allot(id, size, align)
     }
 
-    fn close<R: Wait>(&mut self, rt: &R, a: ArenaId) -> Result<(), Refusal> {
-        self.end(a)
+    fn close<R: Wait>(&mut self, rt: &R, id: ArenaId) -> Result<(), Refusal> {
+        self.end(id)
     }
 
     ghost alone_is = { λ m. refl };

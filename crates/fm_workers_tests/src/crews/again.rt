@@ -1,6 +1,6 @@
 ghost use Rattle.std.specs.Prelude.{◌≡◌};
 ghost use Rattle.fm_rule_calls.specs.Told.{view_of_pass};
-ghost use Rattle.fm_gate.specs.Standing.{IsOutside};
+ghost use Rattle.fm_gate.specs.Needs.{IsOutside};
 ghost use Rattle.fm_segment.specs.Access.{IsKnown};
 
 use super::tallies::{held, made_wide, query_of, tallied, zeros};

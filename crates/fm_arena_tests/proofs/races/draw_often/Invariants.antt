@@ -1,4 +1,4 @@
-use Rattle.fm_gate.specs.Standing.{IsOutside}
+use Rattle.fm_gate.specs.Needs.{IsOutside}
 use Rattle.fm_arena_tests.proofs.races.draw_often.Given as goal
 
 abbrev pub invariant-loop-drawn : goal.invariant-loop-drawn

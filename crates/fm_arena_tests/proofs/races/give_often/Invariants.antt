@@ -1,4 +1,4 @@
-use Rattle.fm_gate.specs.Standing.{CanAllocate}
+use Rattle.fm_gate.specs.Needs.{CanAllocate}
 use Rattle.fm_arena_tests.proofs.races.give_often.Given as goal
 
 abbrev pub invariant-loop-given : goal.invariant-loop-given

@@ -1,6 +1,6 @@
 use Rattle.std.proofs.Common.{◌≤◌}
 use Rattle.fm_rule_facts.specs.Views.{IsKnown, given_of}
-use Rattle.fm_gate.specs.Standing.{IsInside}
+use Rattle.fm_gate.specs.Needs.{IsInside}
 use Rattle.fm_arena_tests.proofs.races.put_numbers.Given as goal
 
 abbrev pub invariant-loop-number : goal.invariant-loop-number

@@ -1,5 +1,5 @@
 use Rattle.fm_gate.specs.Crews.{HasNothing}
-use Rattle.fm_gate.specs.Standing.{IsOutside}
+use Rattle.fm_gate.specs.Needs.{IsOutside}
 use Rattle.fm_arena_tests.proofs.races.renew_often.Given as goal
 
 abbrev pub invariant-loop : goal.invariant-loop

@@ -12,14 +12,14 @@ pub step_back-found-requires-clause-of : goal.step_back-found-requires-clause-of
 step_back-found-requires-clause-of g c = waited_of c.args.pool.now c.loop.invariant c.requires.of
 
 pub step_back-found-requires-clause-known : goal.step_back-found-requires-clause-known
-step_back-found-requires-clause-known g c = c.loop.invariant.known c.args.a c.requires.known
+step_back-found-requires-clause-known g c = c.loop.invariant.known c.args.id c.requires.known
 
 pub step_back-found-requires-clause-handle : goal.step_back-found-requires-clause-handle
-step_back-found-requires-clause-handle g c = subst (λ (x : View). In c.args.a x.handles) (sym c.loop.invariant.is) c.requires.has
+step_back-found-requires-clause-handle g c = subst (λ (x : View). In c.args.id x.handles) (sym c.loop.invariant.is) c.requires.has
 
 pub loop-preserved : goal.loop-preserved
-loop-preserved g c = backs_on c.args.a _ _ c.loop.invariant c.step_back-found.ensures.stepped c.if-found-word.false
+loop-preserved g c = backs_on c.args.id _ _ c.loop.invariant c.step_back-found.ensures.stepped c.if-found-word.false
 
 pub returns-then-found-word : goal.returns-then-found-word
 returns-then-found-word g c =
-    after_back c.args.a _ _ c.loop.invariant c.step_back-found.ensures.stepped c.if-found-word.true c.step_back-found.ensures.alive
+    after_back c.args.id _ _ c.loop.invariant c.step_back-found.ensures.stepped c.if-found-word.true c.step_back-found.ensures.alive

@@ -1,5 +1,5 @@
 use Rattle.std.proofs.Common.{◌∙◌, sym, arith}
-use Rattle.fm_gate.proofs.Standing.{of_on}
+use Rattle.fm_gate.proofs.Outside.{of_on}
 use Rattle.fm_close.proofs.Backs.{owner_after, spent_one, spent_last}
 use Rattle.fm_close.proofs.giving.spend.Goals as goal
 

@@ -10,7 +10,7 @@ pub step_return_page-requires-clause-all : goal.step_return_page-requires-clause
 step_return_page-requires-clause-all c =
     let n = part_named c.args.part c.step_sweep_map-word.result c.step_sweep_map-word.ensures.stepped c.if-word-eq0.false in
     let w = sweeps_same (part_unmapped n c.step_unmap.ensures) c.wipe.ensures in
-    all_words c.args.a c.args.part c.args.given _ c.given_words-words.result w c.requires.sound c.requires.sweep c.requires.gave
+    all_words c.args.id c.args.part c.args.given _ c.given_words-words.result w c.requires.sound c.requires.sweep c.requires.gave
     (ap (λ (z : Shape). z.page_words) (c.shape.ensures.shape ∙ sym c.requires.of.1)) c.given_words-words.ensures.all
 
 pub returns : goal.returns

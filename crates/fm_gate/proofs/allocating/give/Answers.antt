@@ -5,7 +5,7 @@ use Rattle.fm_gate.proofs.allocating.give.Goals as goal
 
 pub loop-init : goal.loop-init
 loop-init g c =
-    gives_begin c.args.a c.args.size c.args.align c.first_count-count.result c.step_allocate-found.result c.requires.inside c.first_count-count.ensures
+    gives_begin c.args.id c.args.size c.args.align c.first_count-count.result c.step_allocate-found.result c.requires.inside c.first_count-count.ensures
     c.step_allocate-found.ensures.stepped c.step_allocate-found.ensures.count
 
 pub returns-in-Some-room : goal.returns-in-Some-room

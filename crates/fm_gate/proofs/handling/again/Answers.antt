@@ -3,7 +3,7 @@ use Rattle.fm_gate.proofs.Handles.{all_may_use, its_alive, owner_after, after_mo
 use Rattle.fm_gate.proofs.handling.again.Goals as goal
 
 pub take-word-requires-clause-may : goal.take-word-requires-clause-may
-take-word-requires-clause-may g c = all_may_use c.args.a _ c.requires.automatic
+take-word-requires-clause-may g c = all_may_use c.args.id _ c.requires.automatic
 
 pub alive_holds-requires : goal.alive_holds-requires
 alive_holds-requires g c = owner_after c.requires c.take-word.ensures

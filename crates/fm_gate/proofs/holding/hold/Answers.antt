@@ -1,18 +1,18 @@
 use Rattle.std.proofs.Common.{◌∙◌, sym, subst, refl}
 use Rattle.fm_base.specs.declared.caller.Caller.{Caller}
 use Rattle.fm_base.specs.Arenas.{MayUse}
-use Rattle.fm_gate.proofs.Standing.{of_on}
+use Rattle.fm_gate.proofs.Outside.{of_on}
 use Rattle.fm_gate.proofs.Holds.{after_closed, after_most, after_taken}
 use Rattle.fm_gate.proofs.holding.hold.Goals as goal
 
 pub returns-in-None : goal.returns-in-None
 returns-in-None g c =
-    let may = subst (λ (x : Caller). MayUse c.args.a x) c.caller-caller.ensures.caller (c.may_use.ensures.yes c.if-not-may_use.false) in
+    let may = subst (λ (x : Caller). MayUse c.args.id x) c.caller-caller.ensures.caller (c.may_be_used_by.ensures.yes c.if-not-may_be_used_by.false) in
     after_closed c.requires c.in_default.not-Automatic may c.take-word.ensures (sym c.alive_holds.ensures ∙ c.in-None.is)
 
 pub returns-then-holds-eq-MOST_HOLDS : goal.returns-then-holds-eq-MOST_HOLDS
 returns-then-holds-eq-MOST_HOLDS g c =
-    let may = subst (λ (x : Caller). MayUse c.args.a x) c.caller-caller.ensures.caller (c.may_use.ensures.yes c.if-not-may_use.false) in
+    let may = subst (λ (x : Caller). MayUse c.args.id x) c.caller-caller.ensures.caller (c.may_be_used_by.ensures.yes c.if-not-may_be_used_by.false) in
     after_most c.requires c.in_default.not-Automatic may c.take-word.ensures _ (sym c.alive_holds.ensures ∙ c.in-Some.is) c.if-holds-eq-MOST_HOLDS.true
 
 pub of-requires : goal.of-requires
@@ -20,6 +20,6 @@ of-requires g c = of_on c.args.pool.now c.take-word.ensures.goes c.requires.outs
 
 pub returns-else-holds-eq-MOST_HOLDS : goal.returns-else-holds-eq-MOST_HOLDS
 returns-else-holds-eq-MOST_HOLDS g c =
-    let may = subst (λ (x : Caller). MayUse c.args.a x) c.caller-caller.ensures.caller (c.may_use.ensures.yes c.if-not-may_use.false) in
+    let may = subst (λ (x : Caller). MayUse c.args.id x) c.caller-caller.ensures.caller (c.may_be_used_by.ensures.yes c.if-not-may_be_used_by.false) in
     rw c.of.ensures.same (after_taken c.requires c.in_default.not-Automatic may c.take-word.ensures _
-    (record { arena = c.args.a; maker = c.of.result }) (sym c.alive_holds.ensures ∙ c.in-Some.is) c.if-holds-eq-MOST_HOLDS.false refl c.of.ensures.maker)
+    (record { arena = c.args.id; maker = c.of.result }) (sym c.alive_holds.ensures ∙ c.in-Some.is) c.if-holds-eq-MOST_HOLDS.false refl c.of.ensures.maker)

@@ -9,14 +9,14 @@ pub step_hold-found-requires-clause-of : goal.step_hold-found-requires-clause-of
 step_hold-found-requires-clause-of g c = waited_of c.args.pool.now c.loop.invariant c.requires.of
 
 pub step_hold-found-requires-clause-known : goal.step_hold-found-requires-clause-known
-step_hold-found-requires-clause-known g c = c.loop.invariant.known c.args.a c.requires.known
+step_hold-found-requires-clause-known g c = c.loop.invariant.known c.args.id c.requires.known
 
 pub step_hold-found-requires-clause-may : goal.step_hold-found-requires-clause-may
-step_hold-found-requires-clause-may g c = waited_may c.args.a c.loop.invariant c.requires.may
+step_hold-found-requires-clause-may g c = waited_may c.args.id c.loop.invariant c.requires.may
 
 pub loop-preserved : goal.loop-preserved
-loop-preserved g c = takes_on c.args.a _ _ c.loop.invariant c.step_hold-found.ensures.stepped c.if-found-word.false
+loop-preserved g c = takes_on c.args.id _ _ c.loop.invariant c.step_hold-found.ensures.stepped c.if-found-word.false
 
 pub returns-then-found-word : goal.returns-then-found-word
 returns-then-found-word g c =
-    after_take c.args.a _ _ c.loop.invariant c.step_hold-found.ensures.stepped c.if-found-word.true c.step_hold-found.ensures.alive
+    after_take c.args.id _ _ c.loop.invariant c.step_hold-found.ensures.stepped c.if-found-word.true c.step_hold-found.ensures.alive

@@ -11,8 +11,8 @@ loop-part-init g c =
     let size : page_bytes c.args.pass.now ≡ c.from-bytes.result * 8 =
     ap (λ (z : Shape). z.page_words * 8) (c.requires.of.1 ∙ sym c.shape-shape.ensures.shape) ∙ ap (λ (n : ℕ). n * 8) (sym c.from-bytes.ensures) in (
       c.requires.of,
-      subst (λ (n : ℕ). Covering c.args.pass.now c.args.pass.now c.args.a c.args.from c.args.to (c.args.from / n)) size
-          (covering_begins c.args.a c.args.from c.args.to c.number-number.ensures.sound c.requires.none),
+      subst (λ (n : ℕ). Covering c.args.pass.now c.args.pass.now c.args.id c.args.from c.args.to (c.args.from / n)) size
+          (covering_begins c.args.id c.args.from c.args.to c.number-number.ensures.sound c.requires.none),
     )
 
 pub returns-then-from-bytes : goal.returns-then-from-bytes

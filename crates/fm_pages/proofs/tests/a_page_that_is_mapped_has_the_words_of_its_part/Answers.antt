@@ -1,7 +1,7 @@
 use Rattle.std.proofs.Common.{◌≡◌, ◌/◌, ℕ, ap, sym, ◌∙◌, subst, inr}
 use Rattle.fm_words.specs.declared.shape.Shape.{Shape}
 use Rattle.fm_base.specs.declared.arena_id.ArenaId.{ArenaId}
-use Rattle.fm_rule_facts.specs.Loans.{HasPart, lent}
+use Rattle.fm_rule_facts.specs.Loans.{HasPart, loans_of}
 use Rattle.fm_rule_facts.specs.Parts.{mapping_of}
 use Rattle.fm_rule_facts.specs.Views.{View}
 use Rattle.fm_pages.proofs.tests.a_page_that_is_mapped_has_the_words_of_its_part.Goals as goal
@@ -15,5 +15,5 @@ place_of-place-requires-clause-find g c =
     let size : v.shape.page_words ≡ 4 = ap (λ (z : Shape). z.page_words)
     (m.way.goes.same_shape ∙ (c.claimed-page.ensures.went.goes.same_shape ∙ (c.entered-pool.ensures.of.1 ∙ c.entered-pool.ensures.shape))) in
     let page : ℕ = c.claimed-page.result.index in
-    let part : HasPart (lent v.seen) a 1 = (page, m.way.goes.sound.reads a (mapping_of 1 page) inside m.read) in
-    record { id = a; inside = inside; part = inr (subst (λ (n : ℕ). HasPart (lent v.seen) a (5 / n)) (sym size) part) }
+    let part : HasPart (loans_of v.seen) a 1 = (page, m.way.goes.sound.reads a (mapping_of 1 page) inside m.read) in
+    record { id = a; inside = inside; part = inr (subst (λ (n : ℕ). HasPart (loans_of v.seen) a (5 / n)) (sym size) part) }

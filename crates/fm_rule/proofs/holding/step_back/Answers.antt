@@ -8,28 +8,28 @@ use Rattle.fm_rule.proofs.Keeping.{back_keeps}
 use Rattle.fm_rule.proofs.holding.step_back.Goals as goal
 
 pub session_place-place-requires : goal.session_place-place-requires
-session_place-place-requires c = (fits _ c.pass.inside.seat.me.0 _ _ c.pass.view_is c.requires.of.1 c.pass.invariant.sound c.args.a c.requires.known).slot
+session_place-place-requires c = (fits _ c.pass.inside.seat.me.0 _ _ c.pass.view_is c.requires.of.1 c.pass.invariant.sound c.args.id c.requires.known).slot
 
 pub back_word-next-requires : goal.back_word-next-requires
-back_word-next-requires c = owner_below _ c.pass.inside.seat.me.0 _ _ c.pass.view_is c.requires.of.1 c.pass.invariant.sound c.args.a c.requires.known
+back_word-next-requires c = owner_below _ c.pass.inside.seat.me.0 _ _ c.pass.view_is c.requires.of.1 c.pass.invariant.sound c.args.id c.requires.known
 
 pub exchange_as-requires-clause-can : goal.exchange_as-requires-clause-can
 exchange_as-requires-clause-can c = record {
   table = in_pool _ c.pass.inside.seat.me.0 _ c.args.pool.now c.pass.view_is c.requires.of;
   place = session_below _ _ _
-      (fits _ c.pass.inside.seat.me.0 _ _ c.pass.view_is c.requires.of.1 c.pass.invariant.sound c.args.a c.requires.known).slot c.session_place-place.ensures;
-  may = (let has = subst (λ (x : View). In c.args.a x.handles) (sym c.pass.view_is) c.requires.handle in
-      may_back _ _ c.pass.inside.seat.me.0 c.pass.invariant.live _ c.args.a c.args.word _
-      (knows _ c.pass.inside.seat.me.0 _ _ c.pass.view_is c.requires.of.1 c.args.a c.requires.known)
+      (fits _ c.pass.inside.seat.me.0 _ _ c.pass.view_is c.requires.of.1 c.pass.invariant.sound c.args.id c.requires.known).slot c.session_place-place.ensures;
+  may = (let has = subst (λ (x : View). In c.args.id x.handles) (sym c.pass.view_is) c.requires.handle in
+      may_back _ _ c.pass.inside.seat.me.0 c.pass.invariant.live _ c.args.id c.args.word _
+      (knows _ c.pass.inside.seat.me.0 _ _ c.pass.view_is c.requires.of.1 c.args.id c.requires.known)
       c.requires.automatic has c.session_place-place.ensures c.back_word-next.ensures);
 }
 
 pub invariant_of-pass : goal.invariant_of-pass
-invariant_of-pass c = back_keeps _ _ _ _ _ _ _ _ c.pass.invariant c.exchange_as.ensures.slots c.args.a c.args.word _ c.exchange_as.ensures.tells
+invariant_of-pass c = back_keeps _ _ _ _ _ _ _ _ c.pass.invariant c.exchange_as.ensures.slots c.args.id c.args.word _ c.exchange_as.ensures.tells
 
 pub returns-clause-alive : goal.returns-clause-alive
 returns-clause-alive c = c.exchange_as.ensures.tells.learns
 
 pub returns-clause-stepped : goal.returns-clause-stepped
 returns-clause-stepped c =
-    back_stepped _ _ _ _ _ c.pass.view_is (ap numbers_of c.exchange_as.ensures.table) c.pass.invariant.met c.args.a c.args.word _ c.exchange_as.ensures.tells
+    back_stepped _ _ _ _ _ c.pass.view_is (ap numbers_of c.exchange_as.ensures.table) c.pass.invariant.met c.args.id c.args.word _ c.exchange_as.ensures.tells

@@ -12,7 +12,7 @@ map_place-place-requires-clause-valid c = (valid _ c.pass.inside.seat.me.0 _ _ c
 
 pub map_place-place-requires-clause-place : goal.map_place-place-requires-clause-place
 map_place-place-requires-clause-place c =
-    ((inside_slot _ c.pass.inside.seat.me.0 _ _ c.pass.view_is c.requires.of.1 c.pass.invariant.sound c.args.a c.requires.inside), c.requires.low)
+    ((inside_slot _ c.pass.inside.seat.me.0 _ _ c.pass.view_is c.requires.of.1 c.pass.invariant.sound c.args.id c.requires.inside), c.requires.low)
 
 pub map_word-new-requires : goal.map_word-new-requires
 map_word-new-requires c = let s = (valid _ c.pass.inside.seat.me.0 _ _ c.pass.view_is c.requires.of.1 c.pass.invariant.sound).pages.1 in let l =
@@ -21,9 +21,9 @@ map_word-new-requires c = let s = (valid _ c.pass.inside.seat.me.0 _ _ c.pass.vi
 pub exchange_as-requires-clause-can : goal.exchange_as-requires-clause-can
 exchange_as-requires-clause-can c = record {
   table = in_pool _ c.pass.inside.seat.me.0 _ c.args.pool.now c.pass.view_is c.requires.of;
-  place = map_below _ _ _ _ (inside_slot _ c.pass.inside.seat.me.0 _ _ c.pass.view_is c.requires.of.1 c.pass.invariant.sound c.args.a c.requires.inside)
+  place = map_below _ _ _ _ (inside_slot _ c.pass.inside.seat.me.0 _ _ c.pass.view_is c.requires.of.1 c.pass.invariant.sound c.args.id c.requires.inside)
       c.requires.low c.map_place-place.ensures;
-  may = may_map _ _ c.pass.inside.seat.me.0 c.pass.invariant.live _ c.args.a c.args.index c.args.page _
+  may = may_map _ _ c.pass.inside.seat.me.0 c.pass.invariant.live _ c.args.id c.args.index c.args.page _
       (shape_is _ c.pass.inside.seat.me.0 _ _ c.pass.view_is c.requires.of.1)
       (ap (λ (x : View). x.inside) c.pass.view_is ∙ c.requires.inside) c.requires.low
       (ap (λ (x : View). x.pages) c.pass.view_is ∙ c.requires.page) c.map_place-place.ensures c.map_word-new.ensures.word;
@@ -32,12 +32,12 @@ exchange_as-requires-clause-can c = record {
 pub returns-clause-low : goal.returns-clause-low
 returns-clause-low c =
     map_low _ _ _ _ _ c.pass.view_is
-    (ap numbers_of c.exchange_as.ensures.table) c.pass.invariant.met c.args.a c.args.index c.args.page _ c.exchange_as.ensures.tells
+    (ap numbers_of c.exchange_as.ensures.table) c.pass.invariant.met c.args.id c.args.index c.args.page _ c.exchange_as.ensures.tells
 
 pub invariant_of-pass : goal.invariant_of-pass
-invariant_of-pass c = map_keeps _ _ _ _ _ _ _ _ c.pass.invariant c.exchange_as.ensures.slots c.args.a c.args.index c.args.page _ c.exchange_as.ensures.tells
+invariant_of-pass c = map_keeps _ _ _ _ _ _ _ _ c.pass.invariant c.exchange_as.ensures.slots c.args.id c.args.index c.args.page _ c.exchange_as.ensures.tells
 
 pub returns-clause-stepped : goal.returns-clause-stepped
 returns-clause-stepped c =
     map_stepped _ _ _ _ _ c.pass.view_is
-    (ap numbers_of c.exchange_as.ensures.table) c.pass.invariant.met c.args.a c.args.index c.args.page _ c.exchange_as.ensures.tells
+    (ap numbers_of c.exchange_as.ensures.table) c.pass.invariant.met c.args.id c.args.index c.args.page _ c.exchange_as.ensures.tells

@@ -12,13 +12,13 @@ store_as-requires-clause-can c = record {
   table = in_pool _ c.pass.inside.seat.me.0 _ c.args.pool.now c.pass.view_is c.requires.of;
   place = mark_below _ _ _ (subst (λ (d : Caller). d.number < c.args.pool.now.shape.passes) (sym c.pass.invariant.caller)
       (number_below _ c.pass.inside.seat.me.0 _ _ c.pass.view_is c.requires.of.1 c.pass.invariant.sound)) c.mark_place-place.ensures;
-  may = may_mark _ _ _ c.pass.invariant.live _ c.args.a c.pass.inside.caller _
+  may = may_mark _ _ _ c.pass.invariant.live _ c.args.id c.pass.inside.caller _
       (is_outside _ c.pass.inside.seat.me.0 _ _ c.pass.view_is
       c.requires.of.1 c.requires.outside) c.pass.invariant.caller c.mark_place-place.ensures c.mark_of.ensures;
 }
 
 pub invariant_of-pass : goal.invariant_of-pass
-invariant_of-pass c = mark_keeps _ _ _ _ _ _ _ _ c.pass.invariant c.store_as.ensures.slots c.args.a _ c.store_as.ensures.tells
+invariant_of-pass c = mark_keeps _ _ _ _ _ _ _ _ c.pass.invariant c.store_as.ensures.slots c.args.id _ c.store_as.ensures.tells
 
 pub returns : goal.returns
-returns c = mark_stepped _ _ _ _ _ c.pass.view_is (ap numbers_of c.store_as.ensures.table) c.pass.invariant.met c.args.a _ c.store_as.ensures.tells
+returns c = mark_stepped _ _ _ _ _ c.pass.view_is (ap numbers_of c.store_as.ensures.table) c.pass.invariant.met c.args.id _ c.store_as.ensures.tells

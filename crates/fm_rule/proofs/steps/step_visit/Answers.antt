@@ -14,17 +14,17 @@ pub load_as-requires-clause-can : goal.load_as-requires-clause-can
 load_as-requires-clause-can c = record {
   table = in_pool _ c.pass.inside.seat.me.0 _ c.args.pool.now c.pass.view_is c.requires.of;
   place = mark_below _ _ _ (subst (λ (x : Shape). c.args.k < x.passes) c.requires.of.1 c.requires.low) c.mark_place-place.ensures;
-  may = may_visit _ _ c.pass.inside.seat.me.0 c.pass.invariant.live _ c.args.a c.args.k (shape_is _ c.pass.inside.seat.me.0 _ _ c.pass.view_is c.requires.of.1)
-      (ap (λ (x : View). passed_of x.closes c.args.a) c.pass.view_is
+  may = may_visit _ _ c.pass.inside.seat.me.0 c.pass.invariant.live _ c.args.id c.args.k (shape_is _ c.pass.inside.seat.me.0 _ _ c.pass.view_is c.requires.of.1)
+      (ap (λ (x : View). passed_of x.closes c.args.id) c.pass.view_is
       ∙ c.requires.close) (subst (λ (x : Shape). c.args.k < x.passes) c.requires.of.1 c.requires.low) c.mark_place-place.ensures;
 }
 
 pub invariant_of-pass : goal.invariant_of-pass
-invariant_of-pass c = visit_keeps _ _ _ _ _ _ _ _ c.pass.invariant c.load_as.ensures.slots c.args.a c.args.k _ c.load_as.ensures.tells
+invariant_of-pass c = visit_keeps _ _ _ _ _ _ _ _ c.pass.invariant c.load_as.ensures.slots c.args.id c.args.k _ c.load_as.ensures.tells
 
 pub returns-clause-stepped : goal.returns-clause-stepped
 returns-clause-stepped c =
-    visit_stepped _ _ _ _ _ c.pass.view_is (ap numbers_of c.load_as.ensures.table) c.pass.invariant.met c.args.a c.args.k _ c.load_as.ensures.tells
+    visit_stepped _ _ _ _ _ c.pass.view_is (ap numbers_of c.load_as.ensures.table) c.pass.invariant.met c.args.id c.args.k _ c.load_as.ensures.tells
 
 pub returns-clause-own : goal.returns-clause-own
 returns-clause-own c =

@@ -13,21 +13,21 @@ map_place-place-requires-clause-valid c = (valid _ c.pass.inside.seat.me.0 _ _ c
 
 pub map_place-place-requires-clause-place : goal.map_place-place-requires-clause-place
 map_place-place-requires-clause-place c =
-    ((swept_fits _ c.pass.inside.seat.me.0 _ _ c.pass.view_is c.requires.of.1 c.pass.invariant.sound c.args.a _ c.requires.sweep).slot, c.requires.low)
+    ((swept_fits _ c.pass.inside.seat.me.0 _ _ c.pass.view_is c.requires.of.1 c.pass.invariant.sound c.args.id _ c.requires.sweep).slot, c.requires.low)
 
 pub store_as-requires-clause-can : goal.store_as-requires-clause-can
 store_as-requires-clause-can c = record {
   table = in_pool _ c.pass.inside.seat.me.0 _ c.args.pool.now c.pass.view_is c.requires.of;
-  place = map_below _ _ _ _ (swept_fits _ c.pass.inside.seat.me.0 _ _ c.pass.view_is c.requires.of.1 c.pass.invariant.sound c.args.a _
+  place = map_below _ _ _ _ (swept_fits _ c.pass.inside.seat.me.0 _ _ c.pass.view_is c.requires.of.1 c.pass.invariant.sound c.args.id _
       c.requires.sweep).slot c.requires.low c.map_place-place.ensures;
-  may = may_unmap _ _ c.pass.inside.seat.me.0 c.pass.invariant.live _ c.args.a c.args.index c.args.page
-      (ap (λ (x : View). passed_of x.sweeps c.args.a) c.pass.view_is ∙ c.requires.sweep) c.requires.low
+  may = may_unmap _ _ c.pass.inside.seat.me.0 c.pass.invariant.live _ c.args.id c.args.index c.args.page
+      (ap (λ (x : View). passed_of x.sweeps c.args.id) c.pass.view_is ∙ c.requires.sweep) c.requires.low
       (ap (λ (x : View). x.swept) c.pass.view_is ∙ c.requires.named) c.map_place-place.ensures;
 }
 
 pub invariant_of-pass : goal.invariant_of-pass
-invariant_of-pass c = unmap_keeps _ _ _ _ _ _ _ _ c.pass.invariant c.store_as.ensures.slots c.args.a c.args.index c.args.page _ c.store_as.ensures.tells
+invariant_of-pass c = unmap_keeps _ _ _ _ _ _ _ _ c.pass.invariant c.store_as.ensures.slots c.args.id c.args.index c.args.page _ c.store_as.ensures.tells
 
 pub returns : goal.returns
 returns c = unmap_stepped _ _ _ _ _ c.pass.view_is
-    (ap numbers_of c.store_as.ensures.table) c.pass.invariant.met c.args.a c.args.index c.args.page _ c.store_as.ensures.tells
+    (ap numbers_of c.store_as.ensures.table) c.pass.invariant.met c.args.id c.args.index c.args.page _ c.store_as.ensures.tells

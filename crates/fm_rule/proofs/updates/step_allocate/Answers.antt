@@ -18,7 +18,7 @@ parts c h = subst (λ (x : View). HasParts x c.args.given (rounded_up c.args.giv
     (c.requires.parts (subst (λ (x : View). rounded_up c.args.given c.args.align + c.args.size ≤ limit_of x.shape) c.pass.view_is h))
 
 pub given_place-place-requires : goal.given_place-place-requires
-given_place-place-requires c = inside_slot _ c.pass.inside.seat.me.0 _ _ c.pass.view_is c.requires.of.1 c.pass.invariant.sound c.args.a c.requires.inside
+given_place-place-requires c = inside_slot _ c.pass.inside.seat.me.0 _ _ c.pass.view_is c.requires.of.1 c.pass.invariant.sound c.args.id c.requires.inside
 
 pub given_next-next-requires : goal.given_next-next-requires
 given_next-next-requires c = power_pos c.args.align c.requires.power
@@ -26,9 +26,9 @@ given_next-next-requires c = power_pos c.args.align c.requires.power
 pub exchange_as-requires-clause-can : goal.exchange_as-requires-clause-can
 exchange_as-requires-clause-can c = record {
   table = in_pool _ c.pass.inside.seat.me.0 _ c.args.pool.now c.pass.view_is c.requires.of;
-  place = given_below _ _ _ (inside_slot _ c.pass.inside.seat.me.0 _ _ c.pass.view_is c.requires.of.1 c.pass.invariant.sound c.args.a c.requires.inside)
+  place = given_below _ _ _ (inside_slot _ c.pass.inside.seat.me.0 _ _ c.pass.view_is c.requires.of.1 c.pass.invariant.sound c.args.id c.requires.inside)
       c.given_place-place.ensures;
-  may = may_allocate _ _ c.pass.inside.seat.me.0 c.pass.invariant.live _ c.args.a c.args.given c.args.size c.args.align _ _
+  may = may_allocate _ _ c.pass.inside.seat.me.0 c.pass.invariant.live _ c.args.id c.args.given c.args.size c.args.align _ _
       (ap (λ (x : View). x.inside) c.pass.view_is ∙ c.requires.inside) c.requires.power
       (shape_is _ c.pass.inside.seat.me.0 _ _ c.pass.view_is c.requires.of.1) (parts (goal.at.exchange_as-requires-clause-can c).After-pass)
       c.given_place-place.ensures c.limit.ensures c.given_next-next.ensures;
@@ -40,7 +40,7 @@ invariant_of-pass c =
 
 pub returns-clause-count : goal.returns-clause-count
 returns-clause-count c =
-    λ n. count_found _ _ _ _ _ c.pass.view_is (ap numbers_of c.exchange_as.ensures.table) c.pass.invariant.met c.args.given c.args.size c.args.align _ c.args.a
+    λ n. count_found _ _ _ _ _ c.pass.view_is (ap numbers_of c.exchange_as.ensures.table) c.pass.invariant.met c.args.given c.args.size c.args.align _ c.args.id
     c.exchange_as.ensures.tells c.requires.inside n
 
 pub returns-clause-stepped : goal.returns-clause-stepped

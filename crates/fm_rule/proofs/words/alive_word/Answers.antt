@@ -8,4 +8,4 @@ unfolding alive_word
 returns c =
     c.session_word.ensures.word
     ∙ ap (λ (k : ℕ). session_word
-    (record { generation = c.args.a.generation; life = alive; kind = k; owner = c.args.a.owner; holds = c.args.holds })) c.number.ensures
+    (record { generation = c.args.id.generation; life = alive; kind = k; owner = c.args.id.owner; holds = c.args.holds })) c.number.ensures

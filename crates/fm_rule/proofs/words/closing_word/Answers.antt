@@ -8,4 +8,4 @@ unfolding closing_word
 returns c =
     c.session_word.ensures.word
     ∙ ap (λ (k : ℕ). session_word
-    (record { generation = c.args.a.generation; life = closing; kind = k; owner = c.args.a.owner; holds = 0 })) c.number.ensures
+    (record { generation = c.args.id.generation; life = closing; kind = k; owner = c.args.id.owner; holds = 0 })) c.number.ensures

@@ -1,26 +1,14 @@
-use Rattle.std.proofs.Common.{Err, ap, ◌∙◌, refl, inl}
-use Rattle.fm_top.specs.Ending.{shown}
-use Rattle.fm_top.specs.Run.{unread, unknown}
-use Rattle.fm_top.proofs.Runs.{runs-printed, misses-printed}
+use Rattle.std.proofs.Common.{Err, ap, ◌∙◌}
+use Rattle.fm_top.proofs.Ran.{ran_printed, ran_unread, ran_wanting}
 use Rattle.fm_top.proofs.run.run_words.Goals as goal
 
-pub returns-in-Ok-clause-runs : goal.returns-in-Ok-clause-runs
-returns-in-Ok-clause-runs g c = rw c.of.ensures (runs-printed (shown c.in-Ok.ending) c.in-Ok.ensures.outcome c.print-status.ensures.prints)
+pub returns-in-Ok-clause-ran : goal.returns-in-Ok-clause-ran
+returns-in-Ok-clause-ran g c =
+    let print = c.print-status.ensures in
+    rw c.of.ensures (ran_printed c.in-Ok.ensures.ends print.prints print.missing print.quiet print.faults_stay)
 
-pub returns-in-Err-Failed-clause-runs : goal.returns-in-Err-Failed-clause-runs
-returns-in-Err-Failed-clause-runs g c =
-    let failed = c.in-Err-Failed.is ∙ ap Err c.in-Err-Failed.field-0-is in
-    rw c.new.ensures (unread (c.ending_of.ensures.asked failed) (c.ending_of.ensures.unread failed) (refl {a = g.O.Sink.written c.args.out.now}))
+pub returns-in-Err-Failed-clause-ran : goal.returns-in-Err-Failed-clause-ran
+returns-in-Err-Failed-clause-ran g c = rw c.new.ensures (ran_unread (c.in-Err-Failed.is ∙ ap Err c.in-Err-Failed.field-0-is) c.ending_of.ensures.ends)
 
-pub returns-in-Err-Memory-clause-runs : goal.returns-in-Err-Memory-clause-runs
-returns-in-Err-Memory-clause-runs g c = rw c.new.ensures (unknown (refl {a = g.O.Sink.written c.args.out.now}))
-
-pub returns-in-Ok-clause-missed_well : goal.returns-in-Ok-clause-missed_well
-returns-in-Ok-clause-missed_well g c =
-    rw c.of.ensures (misses-printed (shown c.in-Ok.ending) c.in-Ok.ensures.outcome c.print-status.ensures.prints c.in-Ok.ensures.missed)
-
-pub returns-in-Err-Failed-clause-missed_well : goal.returns-in-Err-Failed-clause-missed_well
-returns-in-Err-Failed-clause-missed_well g c = inl c.in-Err-Failed.ensures.missed
-
-pub returns-in-Err-Memory-clause-missed_well : goal.returns-in-Err-Memory-clause-missed_well
-returns-in-Err-Memory-clause-missed_well g c = inl c.in-Err-Memory.ensures.missed
+pub returns-in-Err-Memory-clause-ran : goal.returns-in-Err-Memory-clause-ran
+returns-in-Err-Memory-clause-ran g c = rw c.new.ensures (ran_wanting (c.in-Err-Memory.is ∙ ap Err c.in-Err-Memory.field-0-is) c.ending_of.ensures.ends)

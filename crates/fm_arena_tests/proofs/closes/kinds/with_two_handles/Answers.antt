@@ -2,7 +2,7 @@ use Rattle.std.proofs.Common.{refl, subst}
 use Rattle.std.specs.Prelude.{Result, IfOk}
 use Rattle.fm_base.specs.declared.arena_id.ArenaId.{ArenaId}
 use Rattle.fm_base.specs.declared.refusal.Refusal.{Refusal}
-use Rattle.fm_gate.specs.Standing.{HasHandle}
+use Rattle.fm_gate.specs.Needs.{HasHandle}
 use Rattle.fm_gate.specs.Learnt.{AfterAgain}
 use Rattle.fm_arena_tests.proofs.closes.kinds.with_two_handles.Goals as goal
 

@@ -1,7 +1,7 @@
 use Rattle.std.specs.Prelude.{◌≤◌}
 use Rattle.fm_rule_facts.specs.Views.{given_of}
 use Rattle.fm_gate.specs.Crews.{HasNothing}
-use Rattle.fm_gate.specs.Standing.{CanVisit}
+use Rattle.fm_gate.specs.Needs.{CanVisit}
 use Rattle.fm_arena_tests.proofs.closes.threads.add_often.Given as goal
 
 abbrev pub invariant-loop-done : goal.invariant-loop-done

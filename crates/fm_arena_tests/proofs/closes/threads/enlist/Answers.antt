@@ -3,7 +3,7 @@ use Rattle.std.specs.Prelude.{is_ok}
 use Rattle.std.proofs.lemmas.List.Elements.{All-same, All-push}
 use Rattle.fm_rule_facts.specs.Views.{View, given_of}
 use Rattle.fm_gate.specs.Crews.{HasNothing}
-use Rattle.fm_gate.specs.Standing.{CanVisit}
+use Rattle.fm_gate.specs.Needs.{CanVisit}
 use Rattle.fm_arena_tests.proofs.closes.threads.enlist.Goals as goal
 
 pub returns-clause-crew : goal.returns-clause-crew

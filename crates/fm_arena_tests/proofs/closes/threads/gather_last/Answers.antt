@@ -7,7 +7,7 @@ use Rattle.fm_rule_facts.specs.Hands.{no_number}
 use Rattle.fm_rule.specs.declared.pool.Pool.{Pool}
 use Rattle.fm_rule.specs.Draws.{Gathers}
 use Rattle.fm_gate.specs.Crews.{CrewStands, HasNothing}
-use Rattle.fm_gate.specs.Standing.{CanVisit}
+use Rattle.fm_gate.specs.Needs.{CanVisit}
 use Rattle.fm_arena_tests.proofs.closes.threads.gather_last.Goals as goal
 
 -- The pass that took the other in stands on.

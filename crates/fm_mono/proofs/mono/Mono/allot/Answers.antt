@@ -13,9 +13,9 @@ returns-then-not-alive-clause-got c =
     let over = s.life ∙ ap (λ (b : Bool). if b then Alive else Ended) c.if-not-alive.true in
     let power : IsPower c.args.align = sym c.is_power_of_two.ensures ∙ c.if-not-is_power_of_two.false in
     after_allocate c.requires (sound_of c.args.self.now s.small) tt (λ e. absurd (cc)) (record {
-      own = refused_visit only_caller c.args.a;
+      own = refused_visit only_caller c.args.id;
       does = (power, s.can.may, refl);
-      makes = enter_closed c.args.self.now c.args.a s.can over;
+      makes = enter_closed c.args.self.now c.args.id s.can over;
     })
 
 pub returns-clause-got : goal.returns-clause-got
@@ -24,4 +24,4 @@ returns-clause-got c =
     let alive = s.life ∙ ap (λ (b : Bool). if b then Alive else Ended) c.if-not-alive.false in
     let power : IsPower c.args.align = sym c.is_power_of_two.ensures ∙ c.if-not-is_power_of_two.false in
     after_allocate c.requires (sound_of c.args.self.now s.small) (search rules) (λ e. tt)
-    (allocates c.args.self.now c.args.a s.can alive c.grow.new.self c.args.size c.args.align c.grow.result power c.grow.ensures.got)
+    (allocates c.args.self.now c.args.id s.can alive c.grow.new.self c.args.size c.args.align c.grow.result power c.grow.ensures.got)

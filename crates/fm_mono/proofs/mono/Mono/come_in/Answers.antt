@@ -10,8 +10,8 @@ invariant_of-self c =
     let r = rw (← c.self.view_is) at c.requires in
     let f = c.self.inside in
     let i = c.self.invariant.arenas in
-    let e = enters_shown f.limit (entered_of f) f.arenas.items c.args.a i.names r.outside r.known r.alive in
-    let name : name_at c.args.a.slot f.arenas.items ≡ c.args.a = name_at_is c.args.a.slot f.arenas.items e.1.0 e.1.1 ∙ e.1.2 in
+    let e = enters_shown f.limit (entered_of f) f.arenas.items c.args.id i.names r.outside r.known r.alive in
+    let name : name_at c.args.id.slot f.arenas.items ≡ c.args.id = name_at_is c.args.id.slot f.arenas.items e.1.0 e.1.1 ∙ e.1.2 in
     rw name (record { arenas = record { small = i.small; few = i.few; names = i.names; fit = i.fit; there = e.1 }; place = refl })
 
 pub returns : goal.returns
@@ -19,6 +19,6 @@ returns c =
     let r = rw (← c.self.view_is) at c.requires in
     let f = c.self.inside in
     let i = c.self.invariant.arenas in
-    let e = enters_shown f.limit (entered_of f) f.arenas.items c.args.a i.names r.outside r.known r.alive in
-    let name : name_at c.args.a.slot f.arenas.items ≡ c.args.a = name_at_is c.args.a.slot f.arenas.items e.1.0 e.1.1 ∙ e.1.2 in
-    rw (← c.self.view_is, name) (ap (λ (s : State). record { limit = f.limit; state = s; inside = Some c.args.a }) e.0)
+    let e = enters_shown f.limit (entered_of f) f.arenas.items c.args.id i.names r.outside r.known r.alive in
+    let name : name_at c.args.id.slot f.arenas.items ≡ c.args.id = name_at_is c.args.id.slot f.arenas.items e.1.0 e.1.1 ∙ e.1.2 in
+    rw (← c.self.view_is, name) (ap (λ (s : State). record { limit = f.limit; state = s; inside = Some c.args.id }) e.0)

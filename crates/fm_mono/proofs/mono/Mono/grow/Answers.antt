@@ -12,15 +12,15 @@ use Rattle.fm_mono.proofs.Allotting.{IsRead, is_read, no_room, gives_place, grow
 use Rattle.fm_mono.proofs.mono.Mono.grow.Goals as goal
 use Rattle.fm_mono.proofs.mono.Mono.grow.Goals.{After-struct_known-1, After-index_mut-arena}
 
-found : (c : After-struct_known-1) → IsPlaced c.self.inside.limit (entered_of c.self.inside) c.self.inside.arenas.items c.args.a
+found : (c : After-struct_known-1) → IsPlaced c.self.inside.limit (entered_of c.self.inside) c.self.inside.arenas.items c.args.id
 found c = let r = rw (← c.self.view_is) at c.requires in
-    placed c.self.inside.limit (entered_of c.self.inside) c.self.inside.arenas.items c.args.a c.self.invariant.arenas.names r.known
+    placed c.self.inside.limit (entered_of c.self.inside) c.self.inside.arenas.items c.args.id c.self.invariant.arenas.names r.known
 
-here : (c : After-index_mut-arena) → IsRead c.self.inside.limit (entered_of c.self.inside) c.self.inside.arenas.items c.args.a c.index_mut-arena.result.now
+here : (c : After-index_mut-arena) → IsRead c.self.inside.limit (entered_of c.self.inside) c.self.inside.arenas.items c.args.id c.index_mut-arena.result.now
 here c =
     let r = rw (← c.self.view_is) at c.requires in
-    is_read c.self.inside.limit (entered_of c.self.inside) c.self.inside.arenas.items c.args.a c.index_mut-arena.result.now
-    (placed c.self.inside.limit (entered_of c.self.inside) c.self.inside.arenas.items c.args.a c.self.invariant.arenas.names r.known)
+    is_read c.self.inside.limit (entered_of c.self.inside) c.self.inside.arenas.items c.args.id c.index_mut-arena.result.now
+    (placed c.self.inside.limit (entered_of c.self.inside) c.self.inside.arenas.items c.args.id c.self.invariant.arenas.names r.known)
     c.index_mut-arena.ensures.value r.alive
 
 pub index_mut-arena-requires : goal.index_mut-arena-requires
@@ -33,9 +33,9 @@ returns-then-end-from-clause-got c =
     let o = c.index_mut-arena.result.now in
     let past : f.limit < rounded_up o.given c.args.align + c.args.size =
     omega (arith, c.if-end-from.true, c.from-2.ensures, c.from.ensures, c.rounded-place.ensures) in
-    let u = unchanged f.limit (entered_of f) f.arenas.items c.args.a o c.self.invariant.arenas h in
-    rw (← c.self.view_is, inside_of-set f.is_inside f.current c.args.a.slot f.arenas.items o o h.place refl) (
-      no_room f.limit (entered_of f) f.arenas.items c.args.a o c.self.invariant.arenas h c.args.size c.args.align past,
+    let u = unchanged f.limit (entered_of f) f.arenas.items c.args.id o c.self.invariant.arenas h in
+    rw (← c.self.view_is, inside_of-set f.is_inside f.current c.args.id.slot f.arenas.items o o h.place refl) (
+      no_room f.limit (entered_of f) f.arenas.items c.args.id o c.self.invariant.arenas h c.args.size c.args.align past,
       ap (λ (s : State). record { limit = f.limit; state = s; inside = entered_of f }) u.1,
     )
 
@@ -44,8 +44,8 @@ invariant_of-self-in_err-resize c =
     let f = c.self.inside in
     let h = here (goal.at.invariant_of-self-in_err-resize c).After-index_mut-arena in
     let o = c.index_mut-arena.result.now in
-    rw (inside_of-set f.is_inside f.current c.args.a.slot f.arenas.items o (record o { words = c.resize.new.self }) h.place refl) (record {
-      arenas = (same_shown f.limit (entered_of f) f.arenas.items c.args.a o c.self.invariant.arenas h (record o { words = c.resize.new.self }) refl refl refl
+    rw (inside_of-set f.is_inside f.current c.args.id.slot f.arenas.items o (record o { words = c.resize.new.self }) h.place refl) (record {
+      arenas = (same_shown f.limit (entered_of f) f.arenas.items c.args.id o c.self.invariant.arenas h (record o { words = c.resize.new.self }) refl refl refl
           c.in_err-resize.ensures.items).0;
       place = c.self.invariant.place;
     })
@@ -56,13 +56,13 @@ returns-in_err-resize-clause-got c =
     let f = c.self.inside in
     let h = here (goal.at.returns-in_err-resize-clause-got c).After-index_mut-arena in
     let o = c.index_mut-arena.result.now in
-    let e = same_shown f.limit (entered_of f) f.arenas.items c.args.a o c.self.invariant.arenas h (record o { words = c.resize.new.self }) refl refl refl
+    let e = same_shown f.limit (entered_of f) f.arenas.items c.args.id o c.self.invariant.arenas h (record o { words = c.resize.new.self }) refl refl refl
     c.in_err-resize.ensures.items in
     rw (
       p.1,
       p.2,
       ← c.self.view_is,
-      inside_of-set f.is_inside f.current c.args.a.slot f.arenas.items o (record o { words = c.resize.new.self }) h.place
+      inside_of-set f.is_inside f.current c.args.id.slot f.arenas.items o (record o { words = c.resize.new.self }) h.place
           refl,
     ) (ap (λ (s : State). record { limit = f.limit; state = s; inside = entered_of f }) e.1)
 
@@ -76,12 +76,12 @@ invariant_of-self-2 c =
     let r = rw (← c.self.view_is) at c.requires in
     let more : length o.words.items ≤ words_within end =
     rw (c.rounded-place.ensures, c.from.ensures)
-    (grows f.limit (entered_of f) f.arenas.items c.args.a o c.self.invariant.arenas h c.args.size c.args.align (power_pos c.args.align r.power)) in
+    (grows f.limit (entered_of f) f.arenas.items c.args.id o c.self.invariant.arenas h c.args.size c.args.align (power_pos c.args.align r.power)) in
     let len : vec_len o.words ≡ length o.words.items = omega (arith, o.words.ok.0) in
     let grown = is_grown o.words.items c.resize.new.self.items (words_within end) more (c.in_ok-resize.ensures.items
     ∙ ap (λ l. take (words_within end) o.words.items ++ replicate (words_within end - l) 0) len) in
-    rw (inside_of-set f.is_inside f.current c.args.a.slot f.arenas.items o (record o { words = c.resize.new.self; given = end }) h.place refl) (record {
-      arenas = (allotted_shown f.limit (entered_of f) f.arenas.items c.args.a o c.self.invariant.arenas h end (record o {
+    rw (inside_of-set f.is_inside f.current c.args.id.slot f.arenas.items o (record o { words = c.resize.new.self; given = end }) h.place refl) (record {
+      arenas = (allotted_shown f.limit (entered_of f) f.arenas.items c.args.id o c.self.invariant.arenas h end (record o {
         words = c.resize.new.self;
         given = end;
       }) fits refl refl refl more grown).1;
@@ -98,11 +98,11 @@ returns-clause-got c =
     let r = rw (← c.self.view_is) at c.requires in
     let more : length o.words.items ≤ words_within end =
     rw (c.rounded-place.ensures, c.from.ensures)
-    (grows f.limit (entered_of f) f.arenas.items c.args.a o c.self.invariant.arenas h c.args.size c.args.align (power_pos c.args.align r.power)) in
+    (grows f.limit (entered_of f) f.arenas.items c.args.id o c.self.invariant.arenas h c.args.size c.args.align (power_pos c.args.align r.power)) in
     let len : vec_len o.words ≡ length o.words.items = omega (arith, o.words.ok.0) in
     let grown = is_grown o.words.items c.resize.new.self.items (words_within end) more (c.in_ok-resize.ensures.items
     ∙ ap (λ l. take (words_within end) o.words.items ++ replicate (words_within end - l) 0) len) in
-    let e = allotted_shown f.limit (entered_of f) f.arenas.items c.args.a o c.self.invariant.arenas h end (record o {
+    let e = allotted_shown f.limit (entered_of f) f.arenas.items c.args.id o c.self.invariant.arenas h end (record o {
       words = c.resize.new.self;
       given = end;
     }) fits refl refl refl more grown in
@@ -110,12 +110,12 @@ returns-clause-got c =
     let same : end ≡ c.rounded-place.result + c.args.size = omega (arith, c.from.ensures) in
     rw (
       ← c.self.view_is,
-      inside_of-set f.is_inside f.current c.args.a.slot f.arenas.items o (record o { words = c.resize.new.self; given = end })
+      inside_of-set f.is_inside f.current c.args.id.slot f.arenas.items o (record o { words = c.resize.new.self; given = end })
           h.place refl,
     ) (
-      ap Given c.rounded-place.ensures ∙ gives_place f.limit (entered_of f) f.arenas.items c.args.a o c.self.invariant.arenas h c.args.size c.args.align room,
+      ap Given c.rounded-place.ensures ∙ gives_place f.limit (entered_of f) f.arenas.items c.args.id o c.self.invariant.arenas h c.args.size c.args.align room,
       ap (λ (s : State). record { limit = f.limit; state = s; inside = entered_of f }) (e.0
-          ∙ ap (λ k. changed (shown_all f.limit (entered_of f) f.arenas.items) c.args.a (given_up_to k)) same),
+          ∙ ap (λ k. changed (shown_all f.limit (entered_of f) f.arenas.items) c.args.id (given_up_to k)) same),
     )
 
 pub returns-in_err-resize-clause-wants : goal.returns-in_err-resize-clause-wants
@@ -128,5 +128,5 @@ returns-in_err-resize-clause-wants c = λ memory.
     omega (arith, c.in_err-resize.ensures.full, c.from.ensures, c.rounded-place.ensures) in
     let room : rounded_up o.given c.args.align + c.args.size ≤ f.limit =
     omega (arith, c.if-end-from.false, c.from-2.ensures, c.from.ensures, c.rounded-place.ensures) in
-    rw (← c.self.view_is) (wants_words f.limit (entered_of f) f.arenas.items c.args.a o c.self.invariant.arenas h c.args.size c.args.align
+    rw (← c.self.view_is) (wants_words f.limit (entered_of f) f.arenas.items c.args.id o c.self.invariant.arenas h c.args.size c.args.align
     (vec_capacity o.words) most more room)

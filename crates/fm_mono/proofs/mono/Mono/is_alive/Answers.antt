@@ -6,10 +6,10 @@ use Rattle.fm_mono.proofs.Steps.{IsPlaced, placed, placed_read, nobody_shown}
 use Rattle.fm_mono.proofs.mono.Mono.is_alive.Goals as goal
 use Rattle.fm_mono.proofs.mono.Mono.is_alive.Goals.{After-struct_known-1}
 
-here : (c : After-struct_known-1) → IsPlaced c.self.inside.limit (entered_of c.self.inside) c.self.inside.arenas.items c.args.a
+here : (c : After-struct_known-1) → IsPlaced c.self.inside.limit (entered_of c.self.inside) c.self.inside.arenas.items c.args.id
 here c =
     let r = rw (← c.self.view_is) at c.requires in
-    placed c.self.inside.limit (entered_of c.self.inside) c.self.inside.arenas.items c.args.a c.self.invariant.arenas.names r.known
+    placed c.self.inside.limit (entered_of c.self.inside) c.self.inside.arenas.items c.args.id c.self.invariant.arenas.names r.known
 
 pub index-requires : goal.index-requires
 index-requires c = omega (arith, (here c).in_range, c.self.inside.arenas.ok.0)
@@ -17,7 +17,7 @@ index-requires c = omega (arith, (here c).in_range, c.self.inside.arenas.ok.0)
 pub returns-clause-life : goal.returns-clause-life
 returns-clause-life c =
     let p = here (goal.at.returns-clause-life c).After-struct_known-1 in
-    let same = placed_read c.self.inside.arenas.items c.args.a.slot p.arena c.index.result.now p.place c.index.ensures in
+    let same = placed_read c.self.inside.arenas.items c.args.id.slot p.arena c.index.result.now p.place c.index.ensures in
     rw (← c.self.view_is, ← same) (ap (λ (x : Arena). x.life) p.looked)
 
 pub returns-clause-can : goal.returns-clause-can
@@ -30,5 +30,5 @@ returns-clause-can c =
       known = r.known;
       may = λ confined. p.owner;
       nowhere = nobody_shown f.limit (entered_of f) f.arenas.items r.outside;
-      empty = rw r.outside (nobody f.limit f.arenas.items c.args.a);
+      empty = rw r.outside (nobody f.limit f.arenas.items c.args.id);
     })

@@ -1,6 +1,9 @@
-use Rattle.std.proofs.Common.{◌≡◌, ◌<◌, List, ◌++◌, ◌∷◌, [], ℕ, Bool, true, not, if◌then◌else◌, ap, ◌∙◌, subst}
+use Rattle.std.proofs.Common.{◌≡◌, ◌⊎◌, inl, inr, refl, zero, suc, ◌+◌, ◌/◌, ◌%◌, ◌<◌, List, ◌++◌, ◌∷◌, [], ℕ, Bool, true, not, if◌then◌else◌, ap, ◌∙◌, subst, arith}
 use Rattle.std.specs.Prelude.{is_ok}
 use Rattle.fm_words.specs.declared.shape.Shape.{Shape}
+use Rattle.fm_base_bytes.specs.Words.{byte_of}
+use Rattle.fm_base.specs.Arenas.{State, word_in}
+use Rattle.fm_base.specs.declared.arena_id.ArenaId.{ArenaId}
 use Rattle.fm_words.specs.Places.{at, given as given_place}
 use Rattle.fm_rule.proofs.Knowing.{given_below as place_below}
 use Rattle.fm_rule.proofs.GivenBytes.{shape_in, finished_in, given_now, one_byte}
@@ -8,21 +11,30 @@ use Rattle.fm_rule.proofs.finishing.Finished.collect.Goals as goal
 
 pub word-given-requires : goal.word-given-requires
 word-given-requires c =
-    place_below _ c.args.a.slot _ c.requires.fits.slot
-    (c.given_place.ensures ∙ ap (λ (x : Shape). at x (given_place c.args.a.slot)) (shape_in _ _ c.self.view_is))
+    place_below _ c.args.id.slot _ c.requires.fits.slot
+    (c.given_place.ensures ∙ ap (λ (x : Shape). at x (given_place c.args.id.slot)) (shape_in _ _ c.self.view_is))
 
-pub byte-byte-requires-clause-low : goal.byte-byte-requires-clause-low
-byte-byte-requires-clause-low c =
-    subst (λ (n : ℕ). c.loop-k.k < n) (given_now c.args.self.now c.args.a c.requires c.self.inside.shape (shape_in _ _ c.self.view_is) c.given_place.result
+pub word_after-word-requires-clause-low : goal.word_after-word-requires-clause-low
+word_after-word-requires-clause-low c =
+    subst (λ (n : ℕ). c.loop-k.k < n) (given_now c.args.self.now c.args.id c.requires c.self.inside.shape (shape_in _ _ c.self.view_is) c.given_place.result
     c.word-given.result c.given_place.ensures c.word-given.ensures) c.loop-k-test.true
+
+-- the next byte stands in the same word, or is the first of its word
+next : (s : State) (a : ArenaId) (k word rest : ℕ) → (k + 1) % 8 ≡ rest → word ≡ word_in s a (k / 8)
+    → ((k + 1) % 8 ≡ 0) ⊎ (word ≡ word_in s a ((k + 1) / 8))
+next s a k word zero e is = inl e
+next s a k word (suc r) e is = inr (is ∙ ap (word_in s a) (let same : k / 8 ≡ (k + 1) / 8 = omega arith in same))
 
 pub loop-k-preserved : goal.loop-k-preserved
 loop-k-preserved c =
     let old : List ℕ = c.loop-k.bytes.items in
+    let value : ℕ = byte_of c.word_after-word.result (c.loop-k.k % 8) in
     let ok : is_ok c.push.result ≡ true = c.is_err.ensures.negation ∙ ap not c.if-is_err.false in
-    let low = subst (λ (n : ℕ). c.loop-k.k < n) (given_now c.args.self.now c.args.a c.requires c.self.inside.shape (shape_in _ _ c.self.view_is)
-    c.given_place.result c.word-given.result c.given_place.ensures c.word-given.ensures) c.loop-k-test.true in
-    c.push.ensures.items ∙ (ap (λ (b : Bool). if b then old ++ c.byte-byte.result ∷ [] else old) ok
-    ∙ (ap (λ (bs : List ℕ). bs ++ c.byte-byte.result ∷ []) c.loop-k.invariant
-    ∙ one_byte c.args.self.now (finished_in _ _ c.self.view_is c.self.invariant) c.args.a c.requires c.loop-k.k c.byte-byte.result low
-    c.byte-byte.ensures))
+    let low = subst (λ (n : ℕ). c.loop-k.k < n) (given_now c.args.self.now c.args.id c.requires c.self.inside.shape (shape_in _ _ c.self.view_is)
+    c.given_place.result c.word-given.result c.given_place.ensures c.word-given.ensures) c.loop-k-test.true in (
+      c.push.ensures.items ∙ (ap (λ (b : Bool). if b then old ++ value ∷ [] else old) ok
+          ∙ (ap (λ (bs : List ℕ). bs ++ value ∷ []) c.loop-k.invariant.0
+          ∙ one_byte c.args.self.now (finished_in _ _ c.self.view_is c.self.invariant) c.args.id c.requires c.loop-k.k value low
+          (ap (λ (w : ℕ). byte_of w (c.loop-k.k % 8)) c.word_after-word.ensures))),
+      next _ _ c.loop-k.k _ _ refl c.word_after-word.ensures,
+    )

@@ -1,12 +1,8 @@
 use Rattle.std.proofs.Common.{◌≡◌, ◌*◌, ◌<◌, ◌≤◌, ℕ, Some, None, ap, ◌∙◌, arith}
 use Rattle.fm_words.specs.Places.{at, page_word}
 use Rattle.fm_words.specs.Maps.{map_word, map_of}
-use Rattle.fm_words.proofs.Maps.{map_of-map_word}
+use Rattle.fm_words.proofs.Maps.{map_of-map_word, map_word-injective}
 use Rattle.fm_rule.proofs.pool.Pool.part_of.Goals as goal
-
-one_page : (p q : ℕ) → map_word p ≡ map_word q → p ≡ q
-unfolding map_word
-one_page p q e = omega arith
 
 low_page : (p x n : ℕ) → map_word p ≡ x → x ≤ n → p < n
 unfolding map_word
@@ -20,7 +16,7 @@ pub returns-in-Some-clause-some : goal.returns-in-Some-clause-some
 returns-in-Some-clause-some c = λ page e. (
   (λ j. c.from.ensures j * c.from-in-Some.ensures j),
   c.from-in-Some-2.ensures,
-  c.page_place.ensures ∙ ap (λ (p : ℕ). at c.args.self.now.shape (page_word p 0)) (one_page _ _ (c.in-Some.ensures.back ∙ e)),
+  c.page_place.ensures ∙ ap (λ (p : ℕ). at c.args.self.now.shape (page_word p 0)) (map_word-injective _ _ (c.in-Some.ensures.back ∙ e)),
 )
 
 pub returns-in-None-clause-some : goal.returns-in-None-clause-some

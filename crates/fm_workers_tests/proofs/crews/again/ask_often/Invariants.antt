@@ -1,5 +1,5 @@
 use Rattle.fm_rule_calls.specs.Told.{view_of_pass}
-use Rattle.fm_gate.specs.Standing.{IsOutside}
+use Rattle.fm_gate.specs.Needs.{IsOutside}
 use Rattle.fm_segment.specs.Access.{IsKnown}
 use Rattle.fm_workers_tests.proofs.crews.again.ask_often.Given as goal
 

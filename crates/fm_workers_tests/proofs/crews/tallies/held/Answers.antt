@@ -1,6 +1,6 @@
 use Rattle.std.proofs.Common.{◌≡◌, ◌+◌, ◌≤◌, ap, subst, arith, IfOk}
 use Rattle.fm_rule_facts.specs.Views.{given_of}
-use Rattle.fm_gate.specs.Standing.{IsInside}
+use Rattle.fm_gate.specs.Needs.{IsInside}
 use Rattle.fm_workers.specs.Asking.{known_later}
 use Rattle.fm_workers_tests.proofs.crews.tallies.held.Goals as goal
 

@@ -15,9 +15,9 @@ returns-then-is_alive c =
     let s = c.is_alive.ensures in
     let alive = s.life ∙ ap (λ (b : Bool). if b then Alive else Ended) c.if-is_alive.true in
     after_enter c.requires (sound_of c.args.self.now s.small) (record {
-      own = entry_of only_caller (Enter c.args.a) Fine ∷ [];
+      own = entry_of only_caller (Enter c.args.id) Fine ∷ [];
       does = (s.can.may, refl);
-      makes = makes_one c.args.self.now c.come_in.new.self (Enter c.args.a) Fine (s.can.known, s.can.may, s.can.nowhere) (sym (ap enter_reply alive))
+      makes = makes_one c.args.self.now c.come_in.new.self (Enter c.args.id) Fine (s.can.known, s.can.may, s.can.nowhere) (sym (ap enter_reply alive))
           (ap (λ (x : Arenas). x.state) e) (ap (λ (x : Arenas). x.inside) e) (ap (λ (x : Arenas). x.limit) e);
     })
 
@@ -26,7 +26,7 @@ returns-else-is_alive c =
     let s = c.is_alive.ensures in
     let over = s.life ∙ ap (λ (b : Bool). if b then Alive else Ended) c.if-is_alive.false in
     after_enter c.requires (sound_of c.args.self.now s.small) (record {
-      own = refused_visit only_caller c.args.a;
+      own = refused_visit only_caller c.args.id;
       does = (s.can.may, refl);
-      makes = enter_closed c.args.self.now c.args.a s.can over;
+      makes = enter_closed c.args.self.now c.args.id s.can over;
     })

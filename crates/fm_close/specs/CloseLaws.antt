@@ -1,0 +1,64 @@
+-- What a close outlives, until its marks are visited, and then until its arena is swept.
+use Rattle.std.specs.Prelude.{◌≡◌, ◌≢◌, List, Result}
+use Rattle.fm_base.specs.declared.arena_id.ArenaId.{ArenaId}
+use Rattle.fm_base.specs.declared.kind.Kind.{Kind}
+use Rattle.fm_base.specs.declared.refusal.Refusal.{Refusal}
+use Rattle.fm_base.specs.Calls.{Entry}
+use Rattle.fm_rule_facts.specs.Hands.{nothing}
+use Rattle.fm_rule_facts.specs.Views.{View}
+use Rattle.fm_rule.specs.declared.pool.Pool.{Pool}
+use Rattle.fm_rule_calls.specs.Kept.{Goes, rest_of}
+use Rattle.fm_gate.specs.declared.held.Hold.{Hold}
+use Rattle.fm_gate.specs.Crews.{StandsOn}
+use Rattle.fm_gate.specs.Needs.{IsOutside}
+use Rattle.fm_gate.specs.Learnt.{AfterHold, AfterUnhold, AfterOpen, AfterAgain}
+use Rattle.fm_close.specs.declared.gave_back.GaveBack.{GaveBack}
+use Rattle.fm_close.specs.declared.shutting.Shutting.{Shutting}
+use Rattle.fm_close.specs.declared.outcome.Visit.{Visit}
+use Rattle.fm_close.specs.Learnt.{IsUnderWay, IsToSweep, AfterShut, AfterVisit, AfterSweep, AfterGiveBack}
+
+-- it stands, at the same mark, where the pass goes on and has what it had
+abbrev pub CloseStands : Type 0
+CloseStands =
+    (old new : View) (own : List Entry) (s : Shutting) → Goes old new own → rest_of new ≡ rest_of old
+    → IsUnderWay old s → IsUnderWay new s
+
+abbrev pub SweepStands : Type 0
+SweepStands =
+    (old new : View) (own : List Entry) (s : Shutting) → Goes old new own → rest_of new ≡ rest_of old
+    → old.hand ≡ nothing → new.hand ≡ nothing → IsToSweep old s → IsToSweep new s
+
+-- what stands of this close through the calls of another
+pub record StandsBeside (P : View → Shutting → Type 0) : Type 0 where
+  -- where another arena is shut
+  pub at_shut : (pool : Pool) (old new : View) (other : ArenaId) (result : Result Shutting Refusal) (s : Shutting)
+      → AfterShut pool old new other result → other ≢ s.arena → P old s → P new s
+  -- and where a mark is visited for the close of another arena
+  pub at_visit : (pool : Pool) (old new : View) (t u : Shutting) (result : Visit) (s : Shutting)
+      → AfterVisit pool old new t u result → t.arena ≢ s.arena → P old s → P new s
+  -- and where another arena is swept
+  pub at_sweep : (pool : Pool) (old new : View) (other : ArenaId) (s : Shutting)
+      → AfterSweep pool old new other → other ≢ s.arena → P old s → P new s
+  -- and where passes are drawn from its pass, met by it or gathered into it
+  pub onward : (pool : Pool) (old new : View) (s : Shutting) → StandsOn pool old new → P old s → P new s
+
+-- what stands of it where the pass, which is outside, takes and spends holds and handles, and opens arenas
+pub record StandsThrough (P : View → Shutting → Type 0) : Type 0 where
+  pub at_hold : (pool : Pool) (old new : View) (id : ArenaId) (result : Result Hold Refusal) (s : Shutting)
+      → IsOutside pool old → AfterHold pool old new id result → P old s → P new s
+  pub at_unhold : (pool : Pool) (old new : View) (id : ArenaId) (s : Shutting)
+      → IsOutside pool old → AfterUnhold pool old new id → P old s → P new s
+  pub at_open : (pool : Pool) (old new : View) (kind : Kind) (result : Result ArenaId Refusal) (s : Shutting)
+      → IsOutside pool old → AfterOpen pool old new kind result → P old s → P new s
+  pub at_again : (pool : Pool) (old new : View) (id : ArenaId) (result : Result (Unit {0}) Refusal) (s : Shutting)
+      → IsOutside pool old → AfterAgain pool old new id result → P old s → P new s
+  pub at_give_back : (pool : Pool) (old new : View) (id : ArenaId) (result : GaveBack) (s : Shutting)
+      → IsOutside pool old → AfterGiveBack pool old new id result → P old s → P new s
+
+pub record CloseLasts : Type 0 where
+  pub stands : CloseStands
+  pub beside : StandsBeside IsUnderWay
+  pub through : StandsThrough IsUnderWay
+  pub ended : SweepStands
+  pub ended_beside : StandsBeside IsToSweep
+  pub ended_through : StandsThrough IsToSweep

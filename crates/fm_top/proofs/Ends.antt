@@ -1,0 +1,113 @@
+-- How ends follow from one another.
+use Rattle.std.proofs.Common.{◌≡◌, ◌≢◌, ℕ, List, length, Option, None, Some, Result, Ok, Err, refl, ap, sym, subst, ◌∙◌, arith}
+use Rattle.std.proofs.lemmas.Result.{IfOk-weaker}
+use Rattle.fm_io.specs.declared.fault.Fault.{Fault}
+use Rattle.fm_io.specs.declared.fault.Fault.TheVariants.{Memory}
+use Rattle.fm_top.specs.Causes.{LacksFile}
+use Rattle.fm_top.specs.Ending.{shown, TellsMisses}
+use Rattle.fm_top.specs.Ends.{EndsFile, EndsRequest, ShowsFiles}
+use Rattle.fm_top.specs.Found.{OfFile, OfFound}
+use Rattle.fm_top.specs.Outcome.{Outcome, no_file, too_many, uneven, even}
+use Rattle.fm_top.specs.Queries.{PlanEnds}
+use Rattle.fm_records_query.specs.Plan.{Plan}
+use Rattle.fm_top.specs.Reading.{first_limit}
+use Rattle.fm_top.specs.Run.{EndsBy}
+use Rattle.fm_top.specs.Told.{FilesTold}
+use Rattle.fm_top.specs.Words.{Request, first_file, last_file}
+use Rattle.fm_top.specs.declared.command.question.Question.{Question}
+use Rattle.fm_top.specs.declared.outcome.ending.Ending.{Ending}
+use Rattle.fm_top.specs.declared.outcome.status.Status.{Status}
+use Rattle.fm_top.specs.declared.outcome.status.Status.TheVariants as status
+use Rattle.fm_top.proofs.Causes.{CauseOf, end_cause}
+use Rattle.fm_top.proofs.Outcomes.{some_end}
+use Rattle.fm_top.proofs.ReadFor.{first_reads, not_read, read_since}
+
+module _ {old new : FilesTold} (faults : new.faults ≡ old.faults) (misses : new.misses ≡ old.misses) (held : new.holds ≡ old.holds) where
+  -- no count changed, and the end is not that a file is missing
+  pub shows_found : {ending : Ending} → (ending.status ≡ status.Missing → ⊥) → ShowsFiles old new (Ok ending)
+  shows_found there = record {
+    missed = record { rose = λ is. absurd (there is); well = λ other. misses };
+    failed = λ is. absurd (cc);
+    quiet = λ other. faults;
+    held = held;
+    faults_stay = omega (arith, faults);
+    misses_stay = omega (arith, misses);
+  }
+
+  -- no count changed, and memory ran out
+  pub shows_wanting : ShowsFiles old new (Err Memory)
+  shows_wanting = record {
+    missed = misses;
+    failed = λ is. absurd (cc);
+    quiet = λ other. faults;
+    held = held;
+    faults_stay = omega (arith, faults);
+    misses_stay = omega (arith, misses);
+  }
+
+  -- what is shown since then is shown since before
+  pub shows_since : {later : FilesTold} {result : Result Ending Fault} → ShowsFiles new later result → ShowsFiles old later result
+  shows_since {later} {result} shows = record {
+    missed = subst (λ (n : ℕ). TellsMisses n later.misses result) misses shows.missed;
+    failed = λ is. let rose = shows.failed is in omega (arith, rose, faults);
+    quiet = λ other. shows.quiet other ∙ faults;
+    held = shows.held ∙ held;
+    faults_stay = let stays = shows.faults_stay in omega (arith, stays, faults);
+    misses_stay = let stays = shows.misses_stay in omega (arith, stays, misses);
+  }
+
+module _ {name : List ℕ} {limit : ℕ} {Needs : Type 0} {Has : Option (List ℕ) → Outcome → Type 0} where
+  -- no file was read for an end that is the same whatever would be found
+  pub unread_ends : {files : FilesTold} {ending : Ending} → ((found : Option (List ℕ)) → Has found (shown ending))
+      → (ending.status ≡ status.Missing → ⊥) → EndsFile name limit Needs Has files files (Ok ending)
+  unread_ends {files} each there = record {
+    outcome = some_end files.holds name _ each;
+    reads = not_read;
+    files = shows_found refl refl refl there;
+  }
+
+  -- or memory ran out before one was
+  pub unread_wants : {files : FilesTold} → EndsFile name limit Needs Has files files (Err Memory)
+  unread_wants = record { outcome = tt; reads = not_read; files = shows_wanting refl refl refl }
+
+  -- the same end is seen by other definitions
+  pub ends_as : {old new : FilesTold} {result : Result Ending Fault} {Wants : Type 0} {Ends : Option (List ℕ) → Outcome → Type 0} → (Needs → Wants)
+      → ((found : Option (List ℕ)) (o : Outcome) → Has found o → Ends found o) → EndsFile name limit Needs Has old new result
+      → EndsFile name limit Wants Ends old new result
+  ends_as {result = result} so each ends = record {
+    outcome = IfOk-weaker result _ _ (λ ending has. (has.0, has.1, each has.0 (shown ending) has.2)) ends.outcome;
+    reads = read_since so ends.reads;
+    files = ends.files;
+  }
+
+-- the end of a command that reads one file is its request's
+pub asked_file : (request : Request) {name : List ℕ} {Needs : Type 0} {old new : FilesTold} {result : Result Ending Fault} → first_file request ≡ Some name
+    → EndsFile name (first_limit request) Needs (λ first o. OfFile old.holds (last_file request) (λ last. EndsBy request first last o)) old new result
+    → EndsRequest request old new result
+asked_file request {old = old} {result = result} is ends = record {
+  outcome = IfOk-weaker result _ _ (λ ending has. subst (λ (name : Option (List ℕ)). OfFile old.holds name
+      (λ first. OfFile old.holds (last_file request) (λ last. EndsBy request first last (shown ending)))) (sym is) has) ends.outcome;
+  reads = first_reads request old.holds is ends.reads;
+  files = ends.files;
+}
+
+-- ---- which ends tell of no missing file
+
+-- one that is another outcome
+pub other_end : {o x : Outcome} → o ≡ x → (x.status ≡ status.Missing → ⊥) → o.status ≡ status.Missing → ⊥
+other_end same other is = other (sym (ap (λ (y : Outcome). y.status) same) ∙ is)
+
+-- an end over a file that was found, where a found file is not lacked
+pub first_found : (request : Request) (bytes : List ℕ) (last : Option (List ℕ)) (o : Outcome) → (LacksFile request (Some bytes) last → ⊥)
+    → EndsBy request (Some bytes) last o → o.status ≡ status.Missing → ⊥
+first_found request bytes last o there ends is =
+    there (subst (λ (s : Status). CauseOf s request (Some bytes) last) is (end_cause request (Some bytes) last o ends))
+
+-- that of a plan over a record file that was found
+pub plan_found : (q : Question) (p : Plan) (file bytes : List ℕ) (found : Option (List ℕ)) (o : Outcome) → found ≡ Some bytes → PlanEnds q p file found o
+    → o.status ≡ status.Missing → ⊥
+plan_found q p file bytes found o some no_file is = absurd (cc)
+plan_found q p file bytes found o some (too_many all long) is = let same : status.TooLong ≡ status.Missing = is in absurd (cc)
+plan_found q p file bytes found o some (uneven all short rest) is = let same : status.Ragged ≡ status.Missing = is in absurd (cc)
+plan_found q p file bytes found o some (even all x short whole answer) is =
+    let same : status.Answered ≡ status.Missing = sym (ap (λ (y : Outcome). y.status) answer.outcome) ∙ is in absurd (cc)

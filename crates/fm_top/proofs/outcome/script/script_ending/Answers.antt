@@ -1,0 +1,28 @@
+use Rattle.std.proofs.Common.{rules, ℕ, List, None, Some, subst}
+use Rattle.fm_top.specs.Ending.{shown}
+use Rattle.fm_top.specs.Scripts.{ScriptEnds, no_script, long_script}
+use Rattle.fm_top.specs.Words.{Run}
+use Rattle.fm_top.proofs.Ends.{first_found}
+use Rattle.fm_top.proofs.Unloaded.{found_ends, unloaded_ends, wanting_ends}
+use Rattle.fm_top.proofs.outcome.script.script_ending.Goals as goal
+
+pub returns-in_ok-bytes_ending-in-Ok : goal.returns-in_ok-bytes_ending-in-Ok
+returns-in_ok-bytes_ending-in-Ok g c =
+    let load = c.read_whole.ensures in
+    let ending = c.in_ok-bytes_ending-in-Ok.field-0 in
+    let ends = subst (λ (bytes : List ℕ). ScriptEnds c.args.file.now (Some bytes) (shown ending)) c.deref.ensures.value c.in_ok-bytes_ending-in-Ok.ensures in
+    found_ends load.reads load.quiet load.found load.held c.in-Ok.bytes.items c.in-Ok.is c.in-Ok.ensures.whole
+    ends
+    (first_found (Run c.args.file.now) c.in-Ok.bytes.items None (shown ending) (λ lacks. absurd (cc)) ends)
+
+pub returns-in_err-bytes_ending-in-Ok : goal.returns-in_err-bytes_ending-in-Ok
+returns-in_err-bytes_ending-in-Ok g c =
+    let load = c.read_whole.ensures in
+    wanting_ends load.reads load.quiet load.found load.held c.in-Ok.is (search rules)
+
+pub returns-in-Err : goal.returns-in-Err
+returns-in-Err g c =
+    let load = c.read_whole.ensures in
+    let end = c.unloaded_ending.ensures in
+    unloaded_ends load.reads load.quiet load.found load.held c.in-Err.is load.absent load.too_long load.missing load.failed load.faults_stay
+    load.misses_stay end.ending end.told end.failed no_script (λ bytes over. long_script bytes over)

@@ -1,0 +1,55 @@
+ghost use Rattle.std.specs.Prelude.{◌≡◌, IfOk, IfSome, IfNone, List, ℕ};
+ghost use Rattle.fm_top_options.specs.Options.{lent, texts};
+ghost use Rattle.fm_top.specs.Words.{IsAsk, three};
+
+use crate::command::question::Question;
+use crate::command::threaded::{Threaded, threaded_words};
+use std::alloc::{AllocError, Global};
+
+/// `query [--threads N] LAYOUT QUERY FILE` or `tally [--threads N] LAYOUT PATH FILE`: what this text asks of the records
+/// of the file, by the layout that its file has.
+#[derive(Clone, Copy, Debug)]
+pub struct AskCommand<'a> {
+    pub question: Question,
+    pub threads: u64,
+    pub layout: &'a str,
+    pub text: &'a str,
+    pub file: &'a str,
+}
+
+/// What the words ask of records by this question.
+pub fn ask_words<'a>(
+    alloc: Global,
+    words: &'a [String],
+    question: Question,
+) -> Result<Option<AskCommand<'a>>, AllocError>
+    ensures found { IfOk result (λ found. IfSome found (λ ask.
+        IsAsk (texts words.now) ask.question ask.threads ask.layout.now ask.text.now ask.file.now)) }
+    ensures none { IfOk result (λ found. IfNone found ((threads : ℕ) (layout text file : List ℕ) →
+        IsAsk (texts words.now) question threads layout text file → ⊥)) }
+{
+    match threaded_words(alloc, words, question.word())? {
+        Some(said) => Ok(ask_by(question, &said)),
+        None => Ok(None),
+    }
+}
+
+/// The same of what the words say.
+fn ask_by<'a>(question: Question, said: &Threaded<'a>) -> Option<AskCommand<'a>>
+    ensures found { IfSome result (λ ask.
+        (ask.question ≡ question) × (ask.threads ≡ said.now.threads)
+        × (lent said.now.words.items ≡ three ask.layout.now ask.text.now ask.file.now)) }
+    ensures none { IfNone result ((layout text file : List ℕ) →
+        lent said.now.words.items ≡ three layout text file → ⊥) }
+{
+    let [layout, text, file] = said.words.as_slice() else {
+        return None;
+    };
+    Some(AskCommand {
+        question,
+        threads: said.threads,
+        layout: *layout,
+        text: *text,
+        file: *file,
+    })
+}

@@ -1,0 +1,70 @@
+ghost use Rattle.std.specs.Prelude.{◌≡◌, IfOk};
+ghost use Rattle.fm_top_demo.specs.Records.{made_records};
+ghost use Rattle.fm_top.specs.Demos.{AreMadeQueries, DemoEnds};
+ghost use Rattle.fm_top.specs.Ending.{shown};
+ghost use Rattle.fm_top.specs.Words.{AreThreads, IsCount};
+
+use crate::command::DemoCommand;
+use crate::outcome::answered::Answered;
+use crate::outcome::demo_layout::demo_layout;
+use crate::outcome::ending::Ending;
+use crate::outcome::text::Text;
+use fm_base::Refusal;
+use fm_io::Gate;
+use fm_records_query::{Query, parse_query};
+use fm_top_demo::made_records;
+use fm_top_pooled::Pooled;
+use std::alloc::{AllocError, Global};
+use std::sync::Wait;
+use std::thread::Threads;
+
+/// Makes so many records, and answers how the run ends.
+pub fn demo_ending<'a, R: Threads + Wait + Sync, G: Gate>(
+    rt: &R,
+    alloc: Global,
+    demo: &DemoCommand,
+    gate: &G,
+) -> Result<Ending<'a>, AllocError>
+    requires threads { AreThreads demo.now.threads }
+    requires count { IsCount demo.now.count }
+    ensures { IfOk result (λ ending. DemoEnds demo.now.count (shown ending)) }
+{
+    let Ok((first, second)) = made_queries(alloc) else {
+        return Err(AllocError);
+    };
+    let pooled = made_pool(rt, alloc, demo.count)?;
+    let threads = demo.threads as u32;
+    let (one, two, finished) = pooled.answer_both(rt, alloc, &first, &second, threads, gate)?;
+    let one = Answered {
+        query: first,
+        answer: one,
+    };
+    let two = Answered {
+        query: second,
+        answer: two,
+    };
+    Ok(Ending::answered_by_pool(Text::Both(one, two), finished))
+}
+
+/// So many records, in a pool of their own.
+fn made_pool<R: Wait>(rt: &R, alloc: Global, count: u64) -> Result<Pooled, AllocError>
+    requires { IsCount count }
+    ensures { IfOk result (λ pooled. pooled ≡ made_records count) }
+{
+    let records = made_records(alloc, count as u32)?;
+    Pooled::of_bytes(rt, alloc, records)
+}
+
+/// The two queries. Refused: `Memory`; that both are queries over the records is tested alone.
+fn made_queries(alloc: Global) -> Result<(Query, Query), Refusal>
+    ensures { IfOk result (λ queries. AreMadeQueries queries.0 queries.1) }
+{
+    let layout = demo_layout(alloc)?;
+    let first = parse_query(
+        alloc,
+        "count,sum(.amount),min(.amount),max(.amount)",
+        &layout,
+    )?;
+    let second = parse_query(alloc, "count,sum(.id) where .kind=3", &layout)?;
+    Ok((first, second))
+}

@@ -1,0 +1,54 @@
+ghost use Rattle.std.specs.Prelude.{◌≤◌, ⊤, IfOk, None, Some, length};
+ghost use Rattle.fm_top.specs.Ending.{shown};
+ghost use Rattle.fm_top.specs.Ends.{EndsFile};
+ghost use Rattle.fm_top.specs.Outcome.{SumEnds};
+ghost use Rattle.fm_top.specs.Run.{EndsBy};
+ghost use Rattle.fm_top.specs.Told.{told};
+ghost use Rattle.fm_top.specs.Words.{Sum, HasValue};
+
+use crate::command::SumCommand;
+use crate::outcome::ending::Ending;
+use crate::outcome::sum_values::sum_values;
+use crate::outcome::unloaded::unloaded_ending;
+use fm_io::{Fault, Files};
+use fm_top_load::{Loaded, RECORD_FILE_LIMIT, load};
+use std::alloc::{AllocError, Global};
+use std::sync::Wait;
+
+/// Reads the file of a sum, and answers how the run ends.
+pub fn sum_ending<'a, R: Wait, F: Files>(
+    rt: &R,
+    alloc: Global,
+    files: &mut F,
+    sum: &SumCommand<'a>,
+) -> Result<Ending<'a>, Fault>
+    requires { HasValue sum.now.size sum.now.at sum.now.kind }
+    ensures { EndsFile sum.now.file.now RECORD_FILE_LIMIT ⊤
+        (λ found. EndsBy (Sum sum.now.size sum.now.at sum.now.kind sum.now.file.now) found None)
+        (told F.holds F.faults F.misses F.reads files.old)
+        (told F.holds F.faults F.misses F.reads files.new) result }
+{
+    match load(rt, alloc, files, sum.file) {
+        Ok(mut loaded) => Ok(loaded_ending(alloc, &mut loaded, sum)?),
+        Err(fault) => unloaded_ending(alloc, sum.file, fault),
+    }
+}
+
+/// How the run ends for a file that was loaded whole.
+fn loaded_ending<'a>(
+    alloc: Global,
+    loaded: &mut Loaded,
+    sum: &SumCommand<'_>,
+) -> Result<Ending<'a>, AllocError>
+    requires value { HasValue sum.now.size sum.now.at sum.now.kind }
+    requires short { length loaded.old ≤ RECORD_FILE_LIMIT }
+    ensures { IfOk result (λ ending.
+        SumEnds sum.now.size sum.now.at sum.now.kind sum.now.file.now (Some loaded.old) (shown ending)) }
+{
+    let rest = loaded.len() % sum.size;
+    if rest == 0 {
+        Ending::sum(alloc, sum_values(loaded, sum.size, sum.at, sum.kind))
+    } else {
+        Ending::ragged(alloc, rest)
+    }
+}

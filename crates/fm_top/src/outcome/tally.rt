@@ -1,0 +1,88 @@
+ghost use Rattle.std.specs.Prelude.{◌≡◌, ◌%◌, ◌≤◌, ⊤, ℕ, List, Some, length, IfOk};
+ghost use Rattle.fm_top.specs.Ending.{shown};
+ghost use Rattle.fm_top.specs.Ends.{EndsFile};
+ghost use Rattle.fm_top.specs.Queries.{IsAnswered, PlanEnds};
+ghost use Rattle.fm_top.specs.Told.{told};
+ghost use Rattle.fm_top.specs.Words.{AreThreads};
+ghost use Rattle.fm_top.specs.declared.command.question.Question.TheVariants as question;
+ghost use Rattle.fm_workers.specs.Counts.{IsTally};
+
+use crate::outcome::ending::Ending;
+use crate::outcome::plan::rest_of;
+use crate::outcome::text::Text;
+use crate::outcome::unloaded::unloaded_ending;
+use fm_io::{Fault, Files, Gate};
+use fm_records_query::Query;
+use fm_top_load::RECORD_FILE_LIMIT;
+use fm_top_pooled::PooledWithCounts;
+use fm_workers::print_counts;
+use std::alloc::{AllocError, Global};
+use std::sync::Wait;
+use std::thread::Threads;
+
+/// Reads the record file, whose bytes or booleans are counted.
+pub fn tally_ending<'a, R: Threads + Wait + Sync, F: Files, G: Gate>(
+    rt: &R,
+    alloc: Global,
+    files: &mut F,
+    file: &'a str,
+    q: &Query,
+    threads: u32,
+    gate: &G,
+) -> Result<Ending<'a>, Fault>
+    requires threads { AreThreads threads }
+    requires tally { IsTally q.now }
+    ensures { EndsFile file.now RECORD_FILE_LIMIT ⊤ (PlanEnds question.Tally q.now file.now)
+        (told F.holds F.faults F.misses F.reads files.old)
+        (told F.holds F.faults F.misses F.reads files.new) result }
+{
+    let guess = files.guess(file);
+    match PooledWithCounts::load(rt, alloc, files, file, guess) {
+        Ok(pooled) => Ok(tallied_ending(rt, alloc, pooled, q, threads, gate)?),
+        Err(fault) => unloaded_ending(alloc, file, fault),
+    }
+}
+
+/// How the tally ends over these bytes.
+fn tallied_ending<'a, R: Threads + Wait + Sync, G: Gate>(
+    rt: &R,
+    alloc: Global,
+    pooled: PooledWithCounts,
+    q: &Query,
+    threads: u32,
+    gate: &G,
+) -> Result<Ending<'a>, AllocError>
+    requires short { length pooled ≤ RECORD_FILE_LIMIT }
+    requires threads { AreThreads threads }
+    requires tally { IsTally q.now }
+    ensures { IfOk result (λ ending. (file : List ℕ) →
+        PlanEnds question.Tally q.now file (Some pooled) (shown ending)) }
+{
+    let rest = rest_of(pooled.len(), q);
+    if rest != 0 {
+        return Ending::ragged(alloc, rest);
+    }
+    tally_answer(rt, alloc, pooled, q, threads, gate)
+}
+
+/// How often each number comes that the query lists over a whole number of records.
+fn tally_answer<'a, R: Threads + Wait + Sync, G: Gate>(
+    rt: &R,
+    alloc: Global,
+    pooled: PooledWithCounts,
+    q: &Query,
+    threads: u32,
+    gate: &G,
+) -> Result<Ending<'a>, AllocError>
+    requires even { length pooled % q.now.size ≡ 0 }
+    requires threads { AreThreads threads }
+    requires tally { IsTally q.now }
+    ensures { IfOk result (λ ending. IsAnswered question.Tally q.now pooled (shown ending)) }
+{
+    let (counts, finished) = pooled.tally(rt, alloc, q, threads, gate)?;
+    match print_counts(alloc, &counts) {
+        Ok(text) => Ok(Ending::answered_by_pool(Text::Whole(text), finished)),
+        // It is refused for want of memory alone.
+        Err(_) => Err(AllocError),
+    }
+}

@@ -1,0 +1,74 @@
+ghost use Rattle.std.specs.Prelude.{◌≡◌, ◌≢◌, ◌≤◌, Err, IsErrOf, OnOk};
+ghost use Rattle.fm_io.specs.Count.{Raised};
+ghost use Rattle.fm_io.specs.Sink.{Appends, AppendsPrefix};
+ghost use Rattle.fm_top.specs.Ending.{text_of};
+ghost use Rattle.fm_top.specs.Outcome.{line, missing};
+
+use crate::outcome::answered::Answered;
+use fm_io::{Fault, Sink, write_text};
+use std::alloc::Global;
+
+/// What a run prints.
+#[derive(Drop)]
+pub enum Text<'a> {
+    /// This text.
+    Whole(String),
+    /// The text of these bytes.
+    Bytes(Vec<u8>),
+    /// That there is no file of this name: written part by part, so that it takes no memory.
+    NoFile(&'a str),
+    /// The answer of a query, of which lists can be long: its text is made as it is written.
+    Answer(Answered),
+    /// The answers of two queries, one behind the other.
+    Both(Answered, Answered),
+}
+
+impl Text<'_> {
+    /// Writes all of it. After an error a prefix of it was written.
+    pub fn write<O: Sink>(&self, alloc: Global, out: &mut O) -> Result<(), Fault>
+        ensures whole { OnOk result
+            (Appends (O.written out.old) (O.written out.new) (text_of self.now)) }
+        ensures prefix { AppendsPrefix (O.written out.old) (O.written out.new) (text_of self.now) }
+        ensures failed { IsErrOf result Fault.Failed →
+            Raised (O.faults out.old) (O.faults out.new) }
+        ensures quiet { result ≢ Err Fault.Failed → O.faults out.new ≡ O.faults out.old }
+        ensures faults_stay { O.faults out.old ≤ O.faults out.new }
+    {
+        match self {
+            Text::Whole(text) => write_text(out, text.as_str().as_bytes()),
+            Text::Bytes(bytes) => write_text(out, bytes),
+            Text::NoFile(file) => write_missing(out, file),
+            Text::Answer(answered) => answered.write(alloc, out),
+            Text::Both(first, second) => {
+                first.write(alloc, out)?;
+                second.write(alloc, out)
+            }
+        }
+    }
+}
+
+/// Writes that there is no file of this name.
+fn write_missing<O: Sink>(out: &mut O, file: &str) -> Result<(), Fault>
+    ensures whole { OnOk result
+        (Appends (O.written out.old) (O.written out.new) (missing file.now).text) }
+    ensures prefix { AppendsPrefix (O.written out.old) (O.written out.new) (missing file.now).text }
+    ensures failed { IsErrOf result Fault.Failed → Raised (O.faults out.old) (O.faults out.new) }
+    ensures quiet { result ≢ Err Fault.Failed → O.faults out.new ≡ O.faults out.old }
+    ensures faults_stay { O.faults out.old ≤ O.faults out.new }
+{
+    write_text(out, b"missing ")?;
+    write_line(out, file)
+}
+
+/// Writes a line of this text.
+fn write_line<O: Sink>(out: &mut O, text: &str) -> Result<(), Fault>
+    ensures whole { OnOk result
+        (Appends (O.written out.old) (O.written out.new) (line text.now)) }
+    ensures prefix { AppendsPrefix (O.written out.old) (O.written out.new) (line text.now) }
+    ensures failed { IsErrOf result Fault.Failed → Raised (O.faults out.old) (O.faults out.new) }
+    ensures quiet { result ≢ Err Fault.Failed → O.faults out.new ≡ O.faults out.old }
+    ensures faults_stay { O.faults out.old ≤ O.faults out.new }
+{
+    write_text(out, text.as_bytes())?;
+    write_text(out, b"\n")
+}

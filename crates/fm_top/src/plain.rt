@@ -1,9 +1,0 @@
-ghost use Rattle.std.specs.Prelude.{◌↔◌, IsTrue};
-ghost use Rattle.fm_top.specs.Words.{IsFileWord};
-
-/// The word names a file where options are looked for.
-pub fn is_file_word(word: &str) -> bool
-    ensures { IsTrue result ↔ IsFileWord word.now }
-{
-    !word.starts_with('-')
-}
