@@ -1,18 +1,19 @@
 -- How ends follow from one another.
-use Rattle.std.proofs.Common.{◌≡◌, ◌≢◌, ℕ, List, length, Option, None, Some, Result, Ok, Err, refl, ap, sym, subst, ◌∙◌, arith}
+use Rattle.std.proofs.Common.{◌≡◌, ℕ, List, Option, Some, Result, Ok, Err, ap, sym, subst, ◌∙◌, arith}
 use Rattle.std.proofs.lemmas.Result.{IfOk-weaker}
 use Rattle.fm_io.specs.declared.fault.Fault.{Fault}
 use Rattle.fm_io.specs.declared.fault.Fault.TheVariants.{Memory}
+use Rattle.fm_io.proofs.Left.{leaves_none}
 use Rattle.fm_top.specs.Causes.{LacksFile}
 use Rattle.fm_top.specs.Ending.{shown, TellsMisses}
 use Rattle.fm_top.specs.Ends.{EndsFile, EndsRequest, ShowsFiles}
-use Rattle.fm_top.specs.Found.{OfFile, OfFound}
+use Rattle.fm_top.specs.Found.{OfFile}
 use Rattle.fm_top.specs.Outcome.{Outcome, no_file, too_many, uneven, even}
 use Rattle.fm_top.specs.Queries.{PlanEnds}
 use Rattle.fm_records_query.specs.Plan.{Plan}
 use Rattle.fm_top.specs.Reading.{first_limit}
 use Rattle.fm_top.specs.Run.{EndsBy}
-use Rattle.fm_top.specs.Told.{FilesTold}
+use Rattle.fm_io.specs.View.{FilesView, Leaves}
 use Rattle.fm_top.specs.Words.{Request, first_file, last_file}
 use Rattle.fm_top.specs.declared.command.question.Question.{Question}
 use Rattle.fm_top.specs.declared.outcome.ending.Ending.{Ending}
@@ -22,56 +23,62 @@ use Rattle.fm_top.proofs.Causes.{CauseOf, end_cause}
 use Rattle.fm_top.proofs.Outcomes.{some_end}
 use Rattle.fm_top.proofs.ReadFor.{first_reads, not_read, read_since}
 
-module _ {old new : FilesTold} (faults : new.faults ≡ old.faults) (misses : new.misses ≡ old.misses) (held : new.holds ≡ old.holds) where
+module _ {old new : FilesView} (left : Leaves ⊥ ⊥ old new) where
+  same_faults : new.faults ≡ old.faults
+  same_faults = left.faults.quiet (λ e. e)
+
+  same_misses : new.misses ≡ old.misses
+  same_misses = left.misses.quiet (λ e. e)
+
   -- no count changed, and the end is not that a file is missing
   pub shows_found : {ending : Ending} → (ending.status ≡ status.Missing → ⊥) → ShowsFiles old new (Ok ending)
   shows_found there = record {
-    missed = record { rose = λ is. absurd (there is); well = λ other. misses };
+    missed = record { rose = λ is. absurd (there is); well = λ other. same_misses };
     failed = λ is. absurd (cc);
-    quiet = λ other. faults;
-    held = held;
-    faults_stay = omega (arith, faults);
-    misses_stay = omega (arith, misses);
+    quiet = λ other. same_faults;
+    held = left.held;
+    faults_stay = left.faults.stays;
+    misses_stay = left.misses.stays;
   }
 
   -- no count changed, and memory ran out
   pub shows_wanting : ShowsFiles old new (Err Memory)
   shows_wanting = record {
-    missed = misses;
+    missed = same_misses;
     failed = λ is. absurd (cc);
-    quiet = λ other. faults;
-    held = held;
-    faults_stay = omega (arith, faults);
-    misses_stay = omega (arith, misses);
+    quiet = λ other. same_faults;
+    held = left.held;
+    faults_stay = left.faults.stays;
+    misses_stay = left.misses.stays;
   }
 
   -- what is shown since then is shown since before
-  pub shows_since : {later : FilesTold} {result : Result Ending Fault} → ShowsFiles new later result → ShowsFiles old later result
+  pub shows_since : {later : FilesView} {result : Result Ending Fault} → ShowsFiles new later result → ShowsFiles old later result
   shows_since {later} {result} shows = record {
-    missed = subst (λ (n : ℕ). TellsMisses n later.misses result) misses shows.missed;
-    failed = λ is. let rose = shows.failed is in omega (arith, rose, faults);
-    quiet = λ other. shows.quiet other ∙ faults;
-    held = shows.held ∙ held;
-    faults_stay = let stays = shows.faults_stay in omega (arith, stays, faults);
-    misses_stay = let stays = shows.misses_stay in omega (arith, stays, misses);
+    missed = subst (λ (n : ℕ). TellsMisses n later.misses result) same_misses shows.missed;
+    failed = λ is. let rose = shows.failed is in omega (arith, rose, same_faults);
+    quiet = λ other. shows.quiet other ∙ same_faults;
+    held = shows.held ∙ left.held;
+    faults_stay = let stays = shows.faults_stay in omega (arith, stays, left.faults.stays);
+    misses_stay = let stays = shows.misses_stay in omega (arith, stays, left.misses.stays);
   }
 
 module _ {name : List ℕ} {limit : ℕ} {Needs : Type 0} {Has : Option (List ℕ) → Outcome → Type 0} where
   -- no file was read for an end that is the same whatever would be found
-  pub unread_ends : {files : FilesTold} {ending : Ending} → ((found : Option (List ℕ)) → Has found (shown ending))
+  pub unread_ends : {files : FilesView} {ending : Ending} → ((found : Option (List ℕ)) → Has found (shown ending))
       → (ending.status ≡ status.Missing → ⊥) → EndsFile name limit Needs Has files files (Ok ending)
   unread_ends {files} each there = record {
     outcome = some_end files.holds name _ each;
     reads = not_read;
-    files = shows_found refl refl refl there;
+    files = shows_found (leaves_none _ (λ e. e) (λ e. e)) there;
   }
 
   -- or memory ran out before one was
-  pub unread_wants : {files : FilesTold} → EndsFile name limit Needs Has files files (Err Memory)
-  unread_wants = record { outcome = tt; reads = not_read; files = shows_wanting refl refl refl }
+  pub unread_wants : {files : FilesView} → EndsFile name limit Needs Has files files (Err Memory)
+  unread_wants = record { outcome = tt; reads = not_read; files = shows_wanting (leaves_none _ (λ e. e) (λ e. e)) }
 
   -- the same end is seen by other definitions
-  pub ends_as : {old new : FilesTold} {result : Result Ending Fault} {Wants : Type 0} {Ends : Option (List ℕ) → Outcome → Type 0} → (Needs → Wants)
+  pub ends_as : {old new : FilesView} {result : Result Ending Fault} {Wants : Type 0} {Ends : Option (List ℕ) → Outcome → Type 0} → (Needs → Wants)
       → ((found : Option (List ℕ)) (o : Outcome) → Has found o → Ends found o) → EndsFile name limit Needs Has old new result
       → EndsFile name limit Wants Ends old new result
   ends_as {result = result} so each ends = record {
@@ -81,7 +88,7 @@ module _ {name : List ℕ} {limit : ℕ} {Needs : Type 0} {Has : Option (List �
   }
 
 -- the end of a command that reads one file is its request's
-pub asked_file : (request : Request) {name : List ℕ} {Needs : Type 0} {old new : FilesTold} {result : Result Ending Fault} → first_file request ≡ Some name
+pub asked_file : (request : Request) {name : List ℕ} {Needs : Type 0} {old new : FilesView} {result : Result Ending Fault} → first_file request ≡ Some name
     → EndsFile name (first_limit request) Needs (λ first o. OfFile old.holds (last_file request) (λ last. EndsBy request first last o)) old new result
     → EndsRequest request old new result
 asked_file request {old = old} {result = result} is ends = record {

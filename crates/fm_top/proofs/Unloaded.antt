@@ -1,5 +1,5 @@
 -- How a run ends where a file was loaded, and where it wasn't.
-use Rattle.std.proofs.Common.{◌≡◌, ◌≢◌, ℕ, ◌<◌, ◌≤◌, List, length, Option, None, Some, Result, Ok, Err, refl, ap, sym, subst, ◌∙◌}
+use Rattle.std.proofs.Common.{◌≡◌, ◌≢◌, ℕ, ◌<◌, List, length, Option, None, Some, Result, Ok, Err, refl, ap, sym, subst}
 use Rattle.std.specs.Prelude.{◌↔◌, ⊤, IfOk, IsOk}
 use Rattle.std.proofs.lemmas.Result.{IfOk-weaker}
 use Rattle.fm_io.specs.Count.{Rose}
@@ -7,13 +7,14 @@ use Rattle.fm_io.specs.Files.{Contents, IsAbsent}
 use Rattle.fm_io.specs.declared.fault.Fault.{Fault}
 use Rattle.fm_io.specs.declared.fault.Fault.TheVariants as fault
 use Rattle.fm_top.specs.Ending.{shown, TellsMisses}
-use Rattle.fm_top.specs.Ends.{EndsFile, ShowsFiles}
+use Rattle.fm_top.specs.Ends.{EndsFile}
 use Rattle.fm_top.specs.Found.{OfFound}
 use Rattle.fm_top.specs.Outcome.{Outcome, missing, too_long}
-use Rattle.fm_top.specs.Told.{FilesTold}
+use Rattle.fm_io.specs.View.{FilesView}
 use Rattle.fm_top.specs.Unloaded.{EndsUnloaded}
 use Rattle.fm_top_load.specs.Reading.{ReadsSome}
-use Rattle.fm_top_load.specs.Whole.{IsOver, IsWhole}
+use Rattle.fm_top_load.specs.Whole.{IsOver, IsWhole, TellsLoad}
+use Rattle.fm_top_load.proofs.Telling.{read_quietly}
 use Rattle.fm_top_load.specs.declared.load_fault.LoadFault.{LoadFault}
 use Rattle.fm_top_load.specs.declared.load_fault.LoadFault.TheVariants.{Missing, Failed, TooLong, Memory, PoolFull}
 use Rattle.fm_top.specs.declared.outcome.ending.Ending.{Ending}
@@ -54,42 +55,35 @@ tells before now name PoolFull (Ok ending) rose same ends told = absurd ends
 tells before now name PoolFull (Err stop) rose same ends told = same (λ e. absurd (cc))
 
 -- what the load of a file tells, whatever it came to
-module _ {X : Type 0} {r : Result X LoadFault} {old new : FilesTold} {name : List ℕ} {limit : ℕ} {Has : Option (List ℕ) → Outcome → Type 0}
-    (reads : ReadsSome old.reads new.reads name limit) (quiet : r ≢ Err Failed → new.faults ≡ old.faults)
-    (found : r ≢ Err Missing → new.misses ≡ old.misses) (held : new.holds ≡ old.holds) where
+module _ {old new : FilesView} {name : List ℕ} {limit : ℕ} {Has : Option (List ℕ) → Outcome → Type 0} (reads : ReadsSome old.reads new.reads name limit) where
   -- it was loaded, and an end is known
-  pub found_ends : {x : X} (bytes : List ℕ) {ending : Ending} → r ≡ Ok x → IsWhole old.holds name bytes → Has (Some bytes) (shown ending)
+  pub found_ends : TellsLoad ⊥ limit old new name None → (bytes : List ℕ) {ending : Ending} → IsWhole old.holds name bytes → Has (Some bytes) (shown ending)
       → (ending.status ≡ status.Missing → ⊥) → EndsFile name limit ⊤ Has old new (Ok ending)
-  found_ends {x} bytes had whole ends there = record {
+  found_ends load bytes whole ends there = record {
     outcome = (Some bytes, whole, ends);
     reads = read_for reads tt;
-    files = shows_found (quiet (λ e. absurd (cc))) (found (λ e. absurd (cc))) held there;
+    files = shows_found (read_quietly load) there;
   }
 
   -- it was loaded, and memory ran out
-  pub wanting_ends : {x : X} {end : Result Ending Fault} → r ≡ Ok x → end ≡ Err fault.Memory → EndsFile name limit ⊤ Has old new end
-  wanting_ends {x} had is = rw is (record {
-    outcome = tt;
-    reads = read_for reads tt;
-    files = shows_wanting (quiet (λ e. absurd (cc))) (found (λ e. absurd (cc))) held;
-  })
+  pub wanting_ends : TellsLoad ⊥ limit old new name None → {end : Result Ending Fault} → end ≡ Err fault.Memory → EndsFile name limit ⊤ Has old new end
+  wanting_ends load is = rw is (record { outcome = tt; reads = read_for reads tt; files = shows_wanting (read_quietly load) })
 
   -- it wasn't loaded
-  pub unloaded_ends : {why : LoadFault} {end : Result Ending Fault} → r ≡ Err why → (r ≡ Err Missing → IsAbsent old.holds name)
-      → (r ≡ Err TooLong → IsOver old.holds name limit) → (r ≡ Err Missing → Rose old.misses new.misses) → (r ≡ Err Failed → Rose old.faults new.faults)
-      → old.faults ≤ new.faults → old.misses ≤ new.misses
+  pub unloaded_ends : {why : LoadFault} → TellsLoad ⊥ limit old new name (Some why) → {end : Result Ending Fault}
       → IfOk end (λ ending. EndsUnloaded why name (shown ending)) → (why ≡ Missing → IsOk end) → (end ≡ Err fault.Failed) ↔ (why ≡ Failed)
       → Has None (missing name) → ((bytes : List ℕ) → limit < length bytes → Has (Some bytes) too_long) → EndsFile name limit ⊤ Has old new end
-  unloaded_ends {why} {end} had absent over rose failed faults_stay misses_stay ends told alike none long = record {
+  unloaded_ends {why} load {end} ends told alike none long = record {
     outcome = IfOk-weaker end _ _ (λ ending is. unloaded old.holds name limit Has why (shown ending) none long
-        (λ same. absent (had ∙ ap Err same)) (λ same. over (had ∙ ap Err same)) is) ends;
+        (λ same. load.absent (ap Some same)) (λ same. load.too_long (ap Some same)) is) ends;
     reads = read_for reads tt;
     files = record {
-      missed = tells old.misses new.misses name why end (λ is. rose (had ∙ ap Err is)) (λ other. found (λ is. other (cc))) ends told;
-      failed = λ is. failed (had ∙ ap Err (alike.0 is));
-      quiet = λ other. quiet (λ is. other (alike.1 (cc)));
-      held = held;
-      faults_stay = faults_stay;
-      misses_stay = misses_stay;
+      missed = tells old.misses new.misses name why end (λ is. load.left.misses.rose (ap Some is))
+          (λ other. load.left.misses.quiet (λ is. other (cc))) ends told;
+      failed = λ is. load.left.faults.rose (ap Some (alike.0 is));
+      quiet = λ other. load.left.faults.quiet (λ is. other (alike.1 (cc)));
+      held = load.left.held;
+      faults_stay = load.left.faults.stays;
+      misses_stay = load.left.misses.stays;
     };
   }

@@ -9,7 +9,8 @@ use Rattle.fm_top.specs.Found.{OfFile}
 use Rattle.fm_top.specs.Outcome.{Outcome, SumEnds, layout_outcome, usage}
 use Rattle.fm_top.specs.Queries.{AskEnds}
 use Rattle.fm_top.specs.Scripts.{ScriptEnds}
-use Rattle.fm_top.specs.Told.{FilesTold, SinkTold}
+use Rattle.fm_io.specs.View.{FilesView}
+use Rattle.fm_top.specs.Told.{SinkTold}
 use Rattle.fm_top.specs.Words.{Request, Sum, Layout, Ask, Demo, Run, Asks, AreFaulty, first_file, last_file}
 use Rattle.fm_top.specs.declared.outcome.left.Left.{Left}
 use Rattle.fm_top.specs.declared.outcome.left.Left.TheVariants.{Nothing}
@@ -58,12 +59,12 @@ pub data IsOutcome (words : List (List ℕ)) (told : Option Contents) : Outcome 
 
 -- What the files and the sink tell before a run and after it.
 pub record Traces : Type 0 where
-  pub old : FilesTold
-  pub new : FilesTold
+  pub old : FilesView
+  pub new : FilesView
   pub before : SinkTold
   pub after : SinkTold
 
-abbrev pub traces_of : FilesTold → FilesTold → SinkTold → SinkTold → Traces
+abbrev pub traces_of : FilesView → FilesView → SinkTold → SinkTold → Traces
 traces_of old new before after = record { old = old; new = new; before = before; after = after }
 
 -- with which status the writing of an outcome's text may end

@@ -1,17 +1,5 @@
--- What files and a sink tell of themselves.
+-- What a sink tells of itself.
 use Rattle.std.specs.Prelude.{ℕ, List, Option}
-use Rattle.fm_io.specs.Files.{Contents}
-use Rattle.fm_io.specs.Reads.{Read}
-
--- of files: what they hold, how many reads failed, how many found no file, and all reads so far
-pub record FilesTold : Type 0 where
-  pub holds : Option Contents
-  pub faults : ℕ
-  pub misses : ℕ
-  pub reads : Option (List Read)
-
-abbrev pub told : {F : Type 0} → (F → Option Contents) → (F → ℕ) → (F → ℕ) → (F → Option (List Read)) → F → FilesTold
-told holds faults misses reads files = record { holds = holds files; faults = faults files; misses = misses files; reads = reads files }
 
 -- of a sink: how many writes failed, and the bytes that it took
 pub record SinkTold : Type 0 where

@@ -4,7 +4,6 @@ ghost use Rattle.std.specs.Prelude.{◌≡◌};
 ghost use Rattle.fm_top_options.specs.Options.{texts};
 ghost use Rattle.fm_top.specs.Asked.{request_of};
 ghost use Rattle.fm_top.specs.Ends.{EndsRequest, EndsWords};
-ghost use Rattle.fm_top.specs.Told.{told};
 ghost use Rattle.fm_top.specs.Words.{AreFaulty, CanBeAsked};
 
 mod answered;
@@ -51,8 +50,8 @@ pub fn ending_of<'a, R: Threads + Wait + Sync, F: Files, G: Gate>(
     gate: &G,
 ) -> Result<Ending<'a>, Fault>
     ensures ends { EndsWords (texts words.now)
-        (told F.holds F.faults F.misses F.reads files.old)
-        (told F.holds F.faults F.misses F.reads files.new) result }
+        (F.view files.old)
+        (F.view files.new) result }
     ensures reads_nothing { AreFaulty (texts words.now) → files.new ≡ files.old }
 {
     match command_of(alloc, words)? {
@@ -71,8 +70,8 @@ fn command_ending<'a, R: Threads + Wait + Sync, F: Files, G: Gate>(
 ) -> Result<Ending<'a>, Fault>
     requires { CanBeAsked (request_of command.now) }
     ensures { EndsRequest (request_of command.now)
-        (told F.holds F.faults F.misses F.reads files.old)
-        (told F.holds F.faults F.misses F.reads files.new) result }
+        (F.view files.old)
+        (F.view files.new) result }
 {
     match command {
         Command::Sum(sum) => sum_ending(rt, alloc, files, sum),

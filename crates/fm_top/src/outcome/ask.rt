@@ -4,7 +4,6 @@ ghost use Rattle.fm_records_query.specs.Records.{IsRecord};
 ghost use Rattle.fm_top.specs.Causes.{IsAsked};
 ghost use Rattle.fm_top.specs.Ends.{EndsFile, EndsRequest};
 ghost use Rattle.fm_top.specs.Queries.{AskEnds, IsLayoutRefused, IsPlanned, IsRecordLayout, PlanEnds, TextEnds};
-ghost use Rattle.fm_top.specs.Told.{told};
 ghost use Rattle.fm_top.specs.Words.{AreThreads, Ask};
 ghost use Rattle.fm_workers.specs.Counts.{IsTally};
 
@@ -36,8 +35,8 @@ pub fn ask_ending<'a, R: Threads + Wait + Sync, F: Files, G: Gate>(
     requires { AreThreads ask.now.threads }
     ensures { EndsRequest
         (Ask ask.now.question ask.now.threads ask.now.layout.now ask.now.text.now ask.now.file.now)
-        (told F.holds F.faults F.misses F.reads files.old)
-        (told F.holds F.faults F.misses F.reads files.new) result }
+        (F.view files.old)
+        (F.view files.new) result }
 {
     match read_whole(alloc, files, ask.layout, LAYOUT_FILE_LIMIT) {
         Ok(bytes) => layout_ending(rt, alloc, files, ask, &bytes, gate),
@@ -61,8 +60,8 @@ fn layout_ending<'a, R: Threads + Wait + Sync, F: Files, G: Gate>(
         ((p : Plan) × IsAsked ask.now.question (Some bytes.now) ask.now.text.now p)
         (λ found. AskEnds ask.now.question ask.now.layout.now ask.now.text.now ask.now.file.now
         found (Some bytes.now))
-        (told F.holds F.faults F.misses F.reads files.old)
-        (told F.holds F.faults F.misses F.reads files.new) result }
+        (F.view files.old)
+        (F.view files.new) result }
 {
     match but_for_memory(record_layout(alloc, bytes))? {
         Ok(layout) => text_ending(rt, alloc, files, ask, &layout, gate),
@@ -96,8 +95,8 @@ fn text_ending<'a, R: Threads + Wait + Sync, F: Files, G: Gate>(
     ensures { EndsFile ask.now.file.now RECORD_FILE_LIMIT
         ((p : Plan) × IsPlanned ask.now.question ask.now.text.now layout.now p)
         (λ found. TextEnds ask.now.question ask.now.text.now layout.now ask.now.file.now found)
-        (told F.holds F.faults F.misses F.reads files.old)
-        (told F.holds F.faults F.misses F.reads files.new) result }
+        (F.view files.old)
+        (F.view files.new) result }
 {
     match but_for_memory(plan_for(alloc, ask.question, ask.text, layout))? {
         Ok(plan) => plan_ending(rt, alloc, files, ask, plan, gate),
@@ -118,8 +117,8 @@ fn plan_ending<'a, R: Threads + Wait + Sync, F: Files, G: Gate>(
     requires tally { ask.now.question ≡ Question.Tally → IsTally plan }
     ensures { EndsFile ask.now.file.now RECORD_FILE_LIMIT ⊤
         (PlanEnds ask.now.question plan ask.now.file.now)
-        (told F.holds F.faults F.misses F.reads files.old)
-        (told F.holds F.faults F.misses F.reads files.new) result }
+        (F.view files.old)
+        (F.view files.new) result }
 {
     let threads = ask.threads as u32;
     match ask.question {

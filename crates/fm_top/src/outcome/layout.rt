@@ -3,7 +3,6 @@ ghost use Rattle.fm_top.specs.Ending.{shown};
 ghost use Rattle.fm_top.specs.Ends.{EndsFile};
 ghost use Rattle.fm_top.specs.Outcome.{layout_of_file};
 ghost use Rattle.fm_top.specs.Run.{EndsBy};
-ghost use Rattle.fm_top.specs.Told.{told};
 ghost use Rattle.fm_top.specs.Words.{Layout};
 
 use crate::command::{LayoutCommand, LayoutText};
@@ -24,8 +23,8 @@ pub fn layout_file_ending<'a, F: Files>(
 ) -> Result<Ending<'a>, Fault>
     ensures { EndsFile layout.now.file.now LAYOUT_FILE_LIMIT ⊤
         (λ found. EndsBy (Layout layout.now.text layout.now.file.now) found None)
-        (told F.holds F.faults F.misses F.reads files.old)
-        (told F.holds F.faults F.misses F.reads files.new) result }
+        (F.view files.old)
+        (F.view files.new) result }
 {
     match read_whole(alloc, files, layout.file, LAYOUT_FILE_LIMIT) {
         Ok(bytes) => Ok(bytes_ending(alloc, layout.text, &bytes)?),

@@ -2,7 +2,6 @@ ghost use Rattle.std.specs.Prelude.{◌≡◌, ◌%◌, ◌≤◌, ⊤, ℕ, Lis
 ghost use Rattle.fm_top.specs.Ending.{shown};
 ghost use Rattle.fm_top.specs.Ends.{EndsFile};
 ghost use Rattle.fm_top.specs.Queries.{IsAnswered, PlanEnds};
-ghost use Rattle.fm_top.specs.Told.{told};
 ghost use Rattle.fm_top.specs.Words.{AreThreads};
 ghost use Rattle.fm_top.specs.declared.command.question.Question.TheVariants as question;
 
@@ -31,8 +30,8 @@ pub fn query_ending<'a, R: Threads + Wait + Sync, F: Files, G: Gate>(
 ) -> Result<Ending<'a>, Fault>
     requires { AreThreads threads }
     ensures { EndsFile file.now RECORD_FILE_LIMIT ⊤ (PlanEnds question.Query q file.now)
-        (told F.holds F.faults F.misses F.reads files.old)
-        (told F.holds F.faults F.misses F.reads files.new) result }
+        (F.view files.old)
+        (F.view files.new) result }
 {
     let guess = files.guess(file);
     match Pooled::load(rt, alloc, files, file, guess) {

@@ -4,7 +4,6 @@ ghost use Rattle.fm_top.specs.Ending.{shown};
 ghost use Rattle.fm_top.specs.Ends.{EndsFile};
 ghost use Rattle.fm_top.specs.Run.{EndsBy};
 ghost use Rattle.fm_top.specs.Scripts.{ScriptEnds};
-ghost use Rattle.fm_top.specs.Told.{told};
 ghost use Rattle.fm_top.specs.Words.{Run};
 
 use crate::outcome::ending::Ending;
@@ -31,8 +30,8 @@ pub fn script_ending<'a, R: Threads + Wait + Sync, F: Files, G: Gate>(
     gate: &G,
 ) -> Result<Ending<'a>, Fault>
     ensures { EndsFile file.now SCRIPT_FILE_LIMIT ⊤ (λ found. EndsBy (Run file.now) found None)
-        (told F.holds F.faults F.misses F.reads files.old)
-        (told F.holds F.faults F.misses F.reads files.new) result }
+        (F.view files.old)
+        (F.view files.new) result }
 {
     match read_whole(alloc, files, file, SCRIPT_FILE_LIMIT) {
         Ok(bytes) => Ok(bytes_ending(rt, alloc, file, &bytes, gate)?),

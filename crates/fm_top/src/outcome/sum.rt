@@ -3,7 +3,6 @@ ghost use Rattle.fm_top.specs.Ending.{shown};
 ghost use Rattle.fm_top.specs.Ends.{EndsFile};
 ghost use Rattle.fm_top.specs.Outcome.{SumEnds};
 ghost use Rattle.fm_top.specs.Run.{EndsBy};
-ghost use Rattle.fm_top.specs.Told.{told};
 ghost use Rattle.fm_top.specs.Words.{Sum, HasValue};
 
 use crate::command::SumCommand;
@@ -25,8 +24,8 @@ pub fn sum_ending<'a, R: Wait, F: Files>(
     requires { HasValue sum.now.size sum.now.at sum.now.kind }
     ensures { EndsFile sum.now.file.now RECORD_FILE_LIMIT ⊤
         (λ found. EndsBy (Sum sum.now.size sum.now.at sum.now.kind sum.now.file.now) found None)
-        (told F.holds F.faults F.misses F.reads files.old)
-        (told F.holds F.faults F.misses F.reads files.new) result }
+        (F.view files.old)
+        (F.view files.new) result }
 {
     match load(rt, alloc, files, sum.file) {
         Ok(mut loaded) => Ok(loaded_ending(alloc, &mut loaded, sum)?),

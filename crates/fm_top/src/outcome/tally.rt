@@ -2,7 +2,6 @@ ghost use Rattle.std.specs.Prelude.{◌≡◌, ◌%◌, ◌≤◌, ⊤, ℕ, Lis
 ghost use Rattle.fm_top.specs.Ending.{shown};
 ghost use Rattle.fm_top.specs.Ends.{EndsFile};
 ghost use Rattle.fm_top.specs.Queries.{IsAnswered, PlanEnds};
-ghost use Rattle.fm_top.specs.Told.{told};
 ghost use Rattle.fm_top.specs.Words.{AreThreads};
 ghost use Rattle.fm_top.specs.declared.command.question.Question.TheVariants as question;
 ghost use Rattle.fm_workers.specs.Counts.{IsTally};
@@ -33,8 +32,8 @@ pub fn tally_ending<'a, R: Threads + Wait + Sync, F: Files, G: Gate>(
     requires threads { AreThreads threads }
     requires tally { IsTally q.now }
     ensures { EndsFile file.now RECORD_FILE_LIMIT ⊤ (PlanEnds question.Tally q.now file.now)
-        (told F.holds F.faults F.misses F.reads files.old)
-        (told F.holds F.faults F.misses F.reads files.new) result }
+        (F.view files.old)
+        (F.view files.new) result }
 {
     let guess = files.guess(file);
     match PooledWithCounts::load(rt, alloc, files, file, guess) {

@@ -1,5 +1,6 @@
 use Rattle.std.proofs.Common.{◌≡◌, Err, refl, rules}
 use Rattle.fm_io.specs.declared.fault.Fault.TheVariants.{Memory}
+use Rattle.fm_io.proofs.Left.{leaves_none}
 use Rattle.fm_top.specs.Words.{Sum, Layout, Run}
 use Rattle.fm_top.proofs.Ends.{asked_file, other_end, shows_found, shows_wanting}
 use Rattle.fm_top.proofs.ReadFor.{no_reads}
@@ -22,9 +23,9 @@ pub returns-in_ok-demo_ending-in-Demo : goal.returns-in_ok-demo_ending-in-Demo
 returns-in_ok-demo_ending-in-Demo g c =
     let ends = c.in_ok-demo_ending-in-Demo.ensures in
     rw c.in-Demo.is
-    (record { outcome = ends; reads = no_reads; files = shows_found refl refl refl (other_end ends.outcome (λ e. absurd (cc))) })
+    (record { outcome = ends; reads = no_reads; files = shows_found (leaves_none _ (λ e. e) (λ e. e)) (other_end ends.outcome (λ e. absurd (cc))) })
 
 pub returns-in_err-demo_ending-in-Demo : goal.returns-in_err-demo_ending-in-Demo
 returns-in_err-demo_ending-in-Demo g c =
     let wants : c.from_residual.result ≡ Err Memory = search rules in
-    rw wants (record { outcome = tt; reads = no_reads; files = shows_wanting refl refl refl })
+    rw wants (record { outcome = tt; reads = no_reads; files = shows_wanting (leaves_none _ (λ e. e) (λ e. e)) })

@@ -1,7 +1,8 @@
-use Rattle.std.proofs.Common.{◌≡◌, Err, refl, rules}
+use Rattle.std.proofs.Common.{◌≡◌, Err, rules}
 use Rattle.std.proofs.lemmas.Result.{IfOk-weaker}
 use Rattle.fm_io.specs.declared.fault.Fault.TheVariants.{Memory}
 use Rattle.fm_top_options.specs.Options.{texts}
+use Rattle.fm_io.proofs.Left.{leaves_none}
 use Rattle.fm_top.specs.Asked.{request_of}
 use Rattle.fm_top.specs.Ending.{shown}
 use Rattle.fm_top.specs.Run.{faulty, asked}
@@ -19,7 +20,7 @@ command_ending-requires-after_bounds g c κs within =
 pub returns-in_err-command-clause-ends : goal.returns-in_err-command-clause-ends
 returns-in_err-command-clause-ends g c =
     let wants : c.from_residual.result ≡ Err Memory = search rules in
-    rw wants (record { outcome = tt; asked = λ is. absurd (cc); reads = λ request asks. no_reads; files = shows_wanting refl refl refl })
+    rw wants (record { outcome = tt; asked = λ is. absurd (cc); reads = λ request asks. no_reads; files = shows_wanting (leaves_none _ (λ e. e) (λ e. e)) })
 
 pub returns-in_ok-usage-in-None-clause-ends : goal.returns-in_ok-usage-in-None-clause-ends
 returns-in_ok-usage-in-None-clause-ends g c =
@@ -28,7 +29,7 @@ returns-in_ok-usage-in-None-clause-ends g c =
       outcome = rw is (faulty (of_none c.in-None.is c.in_ok-command.ensures.none));
       asked = λ failed. absurd (cc);
       reads = λ request asks. no_reads;
-      files = shows_found refl refl refl (other_end is (λ e. absurd (cc)));
+      files = shows_found (leaves_none _ (λ e. e) (λ e. e)) (other_end is (λ e. absurd (cc)));
     }
 
 pub returns-in-Some-clause-ends : goal.returns-in-Some-clause-ends

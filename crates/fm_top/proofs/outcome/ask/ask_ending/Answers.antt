@@ -3,6 +3,7 @@ use Rattle.std.proofs.lemmas.Result.{IfOk-weaker}
 use Rattle.fm_top.specs.Ending.{shown}
 use Rattle.fm_top.specs.Queries.{no_layout, long_layout}
 use Rattle.fm_top.specs.Words.{Ask}
+use Rattle.fm_top_load.proofs.Telling.{read_quietly}
 use Rattle.fm_top.proofs.Ends.{asked_file, shows_since}
 use Rattle.fm_top.proofs.Outcomes.{ask-whole, some_end}
 use Rattle.fm_top.proofs.ReadFor.{ask_both}
@@ -12,24 +13,23 @@ use Rattle.fm_top.proofs.outcome.ask.ask_ending.Goals as goal
 pub returns-in-Ok : goal.returns-in-Ok
 returns-in-Ok g c =
     let ask = c.args.ask.now in
-    let told = g.F.Files.holds c.args.files.now in
+    let told = (g.F.Files.view c.args.files.now).holds in
     let load = c.in-Ok.ensures in
     let ends = c.layout_ending.ensures in
     record {
       outcome = IfOk-weaker c.layout_ending.result _ _
           (λ ending has. ask-whole ask.question ask.threads ask.layout.now ask.text.now ask.file.now told (shown ending) load.whole c.deref.ensures.value
-          load.held has) ends.outcome;
+          (read_quietly load.tells).held has) ends.outcome;
       reads = ask_both ask.question ask.threads ask.layout.now ask.text.now ask.file.now told load.whole c.deref.ensures.value load.reads_whole ends.reads;
-      files = shows_since (load.quiet (λ e. absurd (cc))) (load.found (λ e. absurd (cc))) load.held ends.files;
+      files = shows_since (read_quietly load.tells) ends.files;
     }
 
 pub returns-in-Err : goal.returns-in-Err
 returns-in-Err g c =
     let ask = c.args.ask.now in
-    let told = g.F.Files.holds c.args.files.now in
-    let load = c.read_whole.ensures in
+    let told = (g.F.Files.view c.args.files.now).holds in
+    let load = c.in-Err.ensures in
     let end = c.unloaded_ending.ensures in
     asked_file (Ask ask.question ask.threads ask.layout.now ask.text.now ask.file.now) refl
-    (unloaded_ends load.reads load.quiet load.found load.held c.in-Err.is load.absent load.too_long load.missing load.failed load.faults_stay
-    load.misses_stay end.ending end.told end.failed (some_end told ask.file.now _ (λ last. no_layout))
+    (unloaded_ends load.reads load.tells end.ending end.told end.failed (some_end told ask.file.now _ (λ last. no_layout))
     (λ bytes over. some_end told ask.file.now _ (λ last. long_layout bytes over)))
