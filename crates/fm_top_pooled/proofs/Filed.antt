@@ -11,7 +11,7 @@ use Rattle.fm_base.specs.View.{given_in}
 use Rattle.fm_base_bytes.specs.Words.{bytes_in}
 use Rattle.fm_segment_access.specs.Alone.{bytes_of_arena}
 use Rattle.fm_segment_laws.proofs.Putting.{put_all_stays}
-use Rattle.fm_segment_laws.proofs.Staying.{StayBelow, stay_kept}
+use Rattle.fm_segment_laws.proofs.Staying.{StayBelow, stay_append}
 use Rattle.fm_rule_calls.specs.Told.{view_of_pass}
 use Rattle.fm_gate.specs.Needs.{IsOutside}
 use Rattle.fm_io.specs.Files.{Contents, AreBytesFrom}
@@ -45,7 +45,7 @@ use Rattle.fm_top_pooled.proofs.Opening.{knows_none}
 puts_stay : (c : Caller) (a : ArenaId) (room : ℕ) (own : List Entry) → Puts c a room own → StayBelow a room own
 puts_stay c a room own no_run = tt
 puts_stay c a room own (run place bytes before now puts are fits does) =
-    (stay_kept a room c).both before now (puts_stay c a room before puts) (put_all_stays c a room place bytes (Ok tt) now are fits does)
+    stay_append a room before now (puts_stay c a room before puts) (put_all_stays c a room place bytes (Ok tt) now are fits does)
 
 -- The arena has the room still behind them.
 pub room_still : (pool : Pool) (p m q r : View) (a : ArenaId) (room : ℕ) → HasRoomIn room pool p a → m ≡ p
