@@ -152,7 +152,7 @@ module _ (z : Shape) (me : ℕ) (v : View) (l : v.live ≡ true) (ws : List ℕ)
             lends = (
               (
                 claimed_free z (loans_of r.history) r.memory.page_bits r.memory.maps r.memory.cells r.owners.berth r.memory.sessions
-                r.machine.life r.machine.word
+                    r.machine.life r.machine.word
                     r.machine.given r.valid.page_words.0 r.world.sessions r.pages p me at_hand,
                 standing_known (r.machine.life a) stands,
                 λ o. unstanding (r.machine.life a) o stands,
