@@ -2,7 +2,7 @@
 use Rattle.std.proofs.Common.{◌≡◌, ℕ, List, [], ◌++◌, length, take, drop, Option, None, Some, Result, Ok, Err, refl, ap, sym, subst, ◌∙◌, append_assoc, arith}
 use Rattle.std.proofs.Math.Seq.{take-append_seam}
 use Rattle.std.proofs.lemmas.List.{append-nil, length-append, take-append-drop}
-use Rattle.fm_io.specs.Sink.{Appends, AppendsPrefix}
+use Rattle.fm_io.specs.Sink.{Appends, AppendsPrefix, SinkView}
 use Rattle.fm_io.specs.Sending.{Passes, Sends}
 use Rattle.fm_io.specs.declared.fault.Fault.{Fault}
 use Rattle.fm_io.specs.declared.fault.Fault.TheVariants.{Memory}
@@ -27,28 +27,28 @@ Appends-none None = refl
 Appends-none (Some w) = ap Some (sym (append-nil w))
 
 -- nothing was sent
-pub nothing_sent : (told : Option (List ℕ)) (faults : ℕ) (before : List ℕ) → Sends told told faults faults before before [] (Ok tt)
-nothing_sent told faults before = record {
-  passes = record { written = []; appended = Appends-none told; whole = sym (append-nil before) };
+pub nothing_sent : (told : SinkView) (before : List ℕ) → Sends told told before before [] (Ok tt)
+nothing_sent told before = record {
+  passes = record { written = []; appended = Appends-none told.written; whole = sym (append-nil before) };
   prefix = tt;
-  counted = counts_none faults (λ e. absurd (cc));
+  counted = counts_none told.faults (λ e. absurd (cc));
 }
 
 -- bytes pend behind those that did
-pub pushed : (told : Option (List ℕ)) (faults : ℕ) (before after bytes : List ℕ) → after ≡ before ++ bytes
-    → Sends told told faults faults before after bytes (Ok tt)
-pushed told faults before after bytes is = record {
-  passes = record { written = []; appended = Appends-none told; whole = is };
+pub pushed : (told : SinkView) (before after bytes : List ℕ) → after ≡ before ++ bytes
+    → Sends told told before after bytes (Ok tt)
+pushed told before after bytes is = record {
+  passes = record { written = []; appended = Appends-none told.written; whole = is };
   prefix = tt;
-  counted = counts_none faults (λ e. absurd (cc));
+  counted = counts_none told.faults (λ e. absurd (cc));
 }
 
 -- memory ran out before they pend
-pub not_pushed : (told : Option (List ℕ)) (faults : ℕ) (before after bytes : List ℕ) → Sends told told faults faults before after bytes (Err Memory)
-not_pushed told faults before after bytes = record {
+pub not_pushed : (told : SinkView) (before after bytes : List ℕ) → Sends told told before after bytes (Err Memory)
+not_pushed told before after bytes = record {
   passes = tt;
-  prefix = front told told [] (before ++ bytes) (before ++ bytes) (Appends-none told) refl;
-  counted = counts_none faults (λ e. absurd (cc));
+  prefix = front told.written told.written [] (before ++ bytes) (before ++ bytes) (Appends-none told.written) refl;
+  counted = counts_none told.faults (λ e. absurd (cc));
 }
 
 -- what passes in two steps
@@ -78,52 +78,52 @@ prefix-more old new xs ys (n, within, appended) =
     (sym (append_assoc (take n xs) (drop n xs) ys) ∙ ap (λ t. t ++ ys) (take-append-drop n xs))
 
 -- first these bytes were sent, and then those
-pub sent_then : {old mid new : Option (List ℕ)} {f g h : ℕ} {a b c xs ys : List ℕ} {r : Result (Unit {0}) Fault}
-    → Sends old mid f g a b xs (Ok tt) → Sends mid new g h b c ys r → Sends old new f h a c (xs ++ ys) r
+pub sent_then : {old mid new : SinkView} {a b c xs ys : List ℕ} {r : Result (Unit {0}) Fault}
+    → Sends old mid a b xs (Ok tt) → Sends mid new b c ys r → Sends old new a c (xs ++ ys) r
 sent_then {r = Ok tt} p q = record {
   passes = passes-append _ _ _ _ _ _ _ _ p.passes q.passes;
   prefix = tt;
   counted = counts_then p.counted (λ e. absurd (cc)) q.counted;
 }
-sent_then {h = h} {r = Err e} p q = record {
+sent_then {r = Err e} p q = record {
   passes = tt;
   prefix = prefix-behind _ _ _ _ _ _ _ p.passes q.prefix;
   counted = counts_then p.counted (λ e. absurd (cc)) q.counted;
 }
 
 -- what stopped at these bytes stops at more
-pub sent_stop : {old new : Option (List ℕ)} {f g : ℕ} {a b c xs : List ℕ} {e : Fault} (ys : List ℕ) → Sends old new f g a b xs (Err e)
-    → Sends old new f g a c (xs ++ ys) (Err e)
+pub sent_stop : {old new : SinkView} {a b c xs : List ℕ} {e : Fault} (ys : List ℕ) → Sends old new a b xs (Err e)
+    → Sends old new a c (xs ++ ys) (Err e)
 sent_stop {old = old} {new = new} {a = a} {xs = xs} ys p = record {
   passes = tt;
-  prefix = subst (λ (t : List ℕ). AppendsPrefix old new t) (append_assoc a xs ys) (prefix-more old new (a ++ xs) ys p.prefix);
+  prefix = subst (λ (t : List ℕ). AppendsPrefix old.written new.written t) (append_assoc a xs ys) (prefix-more old.written new.written (a ++ xs) ys p.prefix);
   counted = p.counted;
 }
 
 -- nothing pended before what was sent, and then the rest was written: so far a prefix of it came out
-pub front_sent : {old mid new : Option (List ℕ)} {f g h : ℕ} {a b c xs bytes : List ℕ} {r : Result (Unit {0}) Fault} → Sends old mid f g a b xs (Ok tt)
-    → Sends mid new g h b c [] r → a ≡ [] → xs ≡ bytes → AppendsPrefix old new bytes
+pub front_sent : {old mid new : SinkView} {a b c xs bytes : List ℕ} {r : Result (Unit {0}) Fault} → Sends old mid a b xs (Ok tt)
+    → Sends mid new b c [] r → a ≡ [] → xs ≡ bytes → AppendsPrefix old.written new.written bytes
 front_sent {old = old} {new = new} {c = c} {xs = xs} {bytes = bytes} {r = Ok tt} p q none is =
     let all = sent_then p q in
-    front old new all.passes.written c bytes all.passes.appended (all.passes.whole ∙ ap (λ t. t ++ (xs ++ [])) none ∙ append-nil xs ∙ is)
+    front old.written new.written all.passes.written c bytes all.passes.appended (all.passes.whole ∙ ap (λ t. t ++ (xs ++ [])) none ∙ append-nil xs ∙ is)
 front_sent {old = old} {new = new} {xs = xs} {r = Err e} p q none is =
-    subst (λ (t : List ℕ). AppendsPrefix old new t) (ap (λ t. t ++ (xs ++ [])) none ∙ append-nil xs ∙ is) (sent_then p q).prefix
+    subst (λ (t : List ℕ). AppendsPrefix old.written new.written t) (ap (λ t. t ++ (xs ++ [])) none ∙ append-nil xs ∙ is) (sent_then p q).prefix
 
 -- ---- a text that is sent part by part
 
 -- some first bytes of the whole were sent, and the rest is to come
-pub record IsUnderWay (old new : Option (List ℕ)) (faults_old faults_new : ℕ) (before after rest whole : List ℕ) : Type 0 where
+pub record IsUnderWay (old new : SinkView) (before after rest whole : List ℕ) : Type 0 where
   pub first : List ℕ
-  pub sent : Sends old new faults_old faults_new before after first (Ok tt)
+  pub sent : Sends old new before after first (Ok tt)
   pub all : first ++ rest ≡ whole
 
 -- none was sent yet
-pub begins : (told : Option (List ℕ)) (faults : ℕ) (before whole : List ℕ) → IsUnderWay told told faults faults before before whole whole
-begins told faults before whole = record { first = []; sent = nothing_sent told faults before; all = refl }
+pub begins : (told : SinkView) (before whole : List ℕ) → IsUnderWay told told before before whole whole
+begins told before whole = record { first = []; sent = nothing_sent told before; all = refl }
 
 -- the next part was sent
-pub goes_on : {old mid new : Option (List ℕ)} {f g h : ℕ} {a b c rest whole : List ℕ} (part more : List ℕ) → IsUnderWay old mid f g a b rest whole
-    → Sends mid new g h b c part (Ok tt) → rest ≡ part ++ more → IsUnderWay old new f h a c more whole
+pub goes_on : {old mid new : SinkView} {a b c rest whole : List ℕ} (part more : List ℕ) → IsUnderWay old mid a b rest whole
+    → Sends mid new b c part (Ok tt) → rest ≡ part ++ more → IsUnderWay old new a c more whole
 goes_on part more p q is = record {
   first = p.first ++ part;
   sent = sent_then p.sent q;
@@ -131,15 +131,15 @@ goes_on part more p q is = record {
 }
 
 -- it stopped in the next part
-pub stops : {old mid new : Option (List ℕ)} {f g h : ℕ} {a b c rest whole : List ℕ} {e : Fault} (part more : List ℕ) → IsUnderWay old mid f g a b rest whole
-    → Sends mid new g h b c part (Err e) → rest ≡ part ++ more → Sends old new f h a c whole (Err e)
-stops {old = old} {new = new} {f = f} {h = h} {a = a} {c = c} {e = e} part more p q is =
-    subst (λ (t : List ℕ). Sends old new f h a c t (Err e))
+pub stops : {old mid new : SinkView} {a b c rest whole : List ℕ} {e : Fault} (part more : List ℕ) → IsUnderWay old mid a b rest whole
+    → Sends mid new b c part (Err e) → rest ≡ part ++ more → Sends old new a c whole (Err e)
+stops {old = old} {new = new} {a = a} {c = c} {e = e} part more p q is =
+    subst (λ (t : List ℕ). Sends old new a c t (Err e))
     (append_assoc p.first part more ∙ ap (λ t. p.first ++ t) (sym is) ∙ p.all)
     (sent_stop more (sent_then p.sent q))
 
 -- nothing is left
-pub ends : {old new : Option (List ℕ)} {f g : ℕ} {a b rest whole : List ℕ} → IsUnderWay old new f g a b rest whole → rest ≡ []
-    → Sends old new f g a b whole (Ok tt)
-ends {old = old} {new = new} {f = f} {g = g} {a = a} {b = b} p is =
-    subst (λ (t : List ℕ). Sends old new f g a b t (Ok tt)) (sym (append-nil p.first) ∙ ap (λ t. p.first ++ t) (sym is) ∙ p.all) p.sent
+pub ends : {old new : SinkView} {a b rest whole : List ℕ} → IsUnderWay old new a b rest whole → rest ≡ []
+    → Sends old new a b whole (Ok tt)
+ends {old = old} {new = new} {a = a} {b = b} p is =
+    subst (λ (t : List ℕ). Sends old new a b t (Ok tt)) (sym (append-nil p.first) ∙ ap (λ t. p.first ++ t) (sym is) ∙ p.all) p.sent

@@ -1,7 +1,7 @@
 -- Text on its way to a sink: what was written of it, and what pends behind that.
 use Rattle.std.specs.Prelude.{◌≡◌, ℕ, List, ◌++◌, Option, Result, OnOk, OnErr, IsErrOf}
 use Rattle.fm_io.specs.Count.{Counts, Raised}
-use Rattle.fm_io.specs.Sink.{Appends, AppendsPrefix}
+use Rattle.fm_io.specs.Sink.{Appends, AppendsPrefix, SinkView}
 use Rattle.fm_io.specs.declared.fault.Fault.{Fault}
 use Rattle.fm_io.specs.declared.fault.Fault.TheVariants.{Failed}
 
@@ -12,7 +12,7 @@ pub record Passes (old new : Option (List ℕ)) (before after bytes : List ℕ) 
   pub whole : written ++ after ≡ before ++ bytes
 
 -- How sending bytes behind the pending ones ends: they pend or are written, or after a fault a prefix was written.
-pub record Sends (old new : Option (List ℕ)) (faults_old faults_new : ℕ) (before after bytes : List ℕ) (result : Result (Unit {0}) Fault) : Type 0 where
-  pub passes : OnOk result (Passes old new before after bytes)
-  pub prefix : OnErr result (AppendsPrefix old new (before ++ bytes))
-  pub counted : Counts Raised (IsErrOf result Failed) faults_old faults_new
+pub record Sends (old new : SinkView) (before after bytes : List ℕ) (result : Result (Unit {0}) Fault) : Type 0 where
+  pub passes : OnOk result (Passes old.written new.written before after bytes)
+  pub prefix : OnErr result (AppendsPrefix old.written new.written (before ++ bytes))
+  pub counted : Counts Raised (IsErrOf result Failed) old.faults new.faults

@@ -1,7 +1,13 @@
--- What a sink tells of the bytes that it took.
+-- What contracts see of a sink, and of the bytes that it took.
 use Rattle.std.specs.Prelude.{◌≡◌, ℕ, ◌≤◌, List, ◌++◌, length, take, Option, Result, Ok, Err}
 use Rattle.std.specs.Option.{option_map}
 use Rattle.fm_io.specs.declared.fault.Fault.{Fault}
+
+pub record SinkView : Type 0 where
+  -- what was written, where it is told
+  pub written : Option (List ℕ)
+  -- how many writes failed
+  pub faults : ℕ
 
 -- where it tells what was written, these bytes were appended
 abbrev pub Appends : Option (List ℕ) → Option (List ℕ) → List ℕ → Type 0

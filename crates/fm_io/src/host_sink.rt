@@ -27,9 +27,7 @@ impl<W: Write> HostSink<W> {
 }
 
 impl<W: Write> Sink for HostSink<W> {
-    ghost written = { λ _. None };
-
-    ghost faults = { λ s. s.faults };
+    ghost view = { λ s. record { written = None; faults = s.faults } };
 
     fn write(&mut self, piece: &[u8]) -> Result<usize, Fault>
         requires { 0 < length piece.now }

@@ -65,9 +65,7 @@ impl Sink for MemSink {
     ghost use Rattle.fm_io.specs.Failing.{calls_failed};
     ghost use Rattle.fm_io.specs.InMemory.{FailsAsListed, mem_written, mem_writes, write_limit};
 
-    ghost written = { λ s. Some (mem_written s) };
-
-    ghost faults = { λ s. calls_failed (mem_writes s) };
+    ghost view = { λ s. record { written = Some (mem_written s); faults = calls_failed (mem_writes s) } };
 
     fn write(&mut self, piece: &[u8]) -> Result<usize, Fault>
         requires { 0 < length piece.now }

@@ -13,7 +13,7 @@ pub const PIECE: usize = 65_536;
 #[inline]
 #[tactic(auto, using(crate::proofs::Sent::nothing_sent))]
 pub fn send_piece<O: Sink>(out: &mut O, text: &mut String) -> Result<(), Fault>
-    ensures sends { Sends (O.written out.old) (O.written out.new) (O.faults out.old) (O.faults out.new)
+    ensures sends { Sends (O.view out.old) (O.view out.new)
         (string_bytes text.old) (string_bytes text.new) [] result }
     ensures short { OnOk result (length (string_bytes text.new) < PIECE) }
     ensures waits { length (string_bytes text.old) < PIECE → string_bytes text.new ≡ string_bytes
@@ -27,7 +27,7 @@ pub fn send_piece<O: Sink>(out: &mut O, text: &mut String) -> Result<(), Fault>
 
 /// Writes all the pending text, and empties it. After a fault a prefix of it was written.
 pub fn send_rest<O: Sink>(out: &mut O, text: &mut String) -> Result<(), Fault>
-    ensures sends { Sends (O.written out.old) (O.written out.new) (O.faults out.old) (O.faults out.new)
+    ensures sends { Sends (O.view out.old) (O.view out.new)
         (string_bytes text.old) (string_bytes text.new) [] result }
     ensures empty { OnOk result (string_bytes text.new ≡ []) }
 {

@@ -32,9 +32,7 @@ impl SureSink {
 impl Sink for SureSink {
     ghost use Rattle.fm_io.specs.InMemory.{sure_written};
 
-    ghost written = { λ s. Some (sure_written s) };
-
-    ghost faults = { λ s. 0 };
+    ghost view = { λ s. record { written = Some (sure_written s); faults = 0 } };
 
     fn write(&mut self, piece: &[u8]) -> Result<usize, Fault> {
         self.written.extend_from_slice(piece)?;

@@ -1,4 +1,4 @@
-ghost use Rattle.std.specs.Prelude.{◌≡◌, ◌≤◌, IsErrOf, OnOk, ◌≢◌, Err};
+ghost use Rattle.std.specs.Prelude.{IsErrOf, OnOk};
 ghost use Rattle.fm_io.specs.Count.{Counts, Raised};
 ghost use Rattle.fm_io.specs.Sink.{Appends, AppendsPrefix};
 
@@ -7,10 +7,10 @@ use crate::sink::Sink;
 
 /// Writes the whole text, in as many writes as that takes. After an error a prefix of it was written.
 pub fn write_text<O: Sink>(out: &mut O, text: &[u8]) -> Result<(), Fault>
-    ensures whole { OnOk result (Appends (O.written out.old) (O.written out.new) text.now) }
-    ensures prefix { AppendsPrefix (O.written out.old) (O.written out.new) text.now }
-    ensures counted { Counts Raised (IsErrOf result Fault.Failed) (O.faults out.old)
-        (O.faults out.new) }
+    ensures whole { OnOk result (Appends (O.view out.old).written (O.view out.new).written text.now) }
+    ensures prefix { AppendsPrefix (O.view out.old).written (O.view out.new).written text.now }
+    ensures counted { Counts Raised (IsErrOf result Fault.Failed) (O.view out.old).faults
+        (O.view out.new).faults }
 {
     let mut taken = 0;
     while taken < text.len() {

@@ -1,6 +1,6 @@
-ghost use Rattle.std.specs.Prelude.{◌≡◌, ◌≢◌, ◌++◌, ◌≤◌, codes, Err, IsErrOf, OnOk, string_bytes};
+ghost use Rattle.std.specs.Prelude.{◌≡◌, ◌++◌, codes, IsErrOf, OnOk, string_bytes};
 ghost use Rattle.std.specs.List.{flat_map};
-ghost use Rattle.fm_io.specs.Count.{Raised};
+ghost use Rattle.fm_io.specs.Count.{Counts, Raised};
 ghost use Rattle.fm_io.specs.Sending.{Sends};
 ghost use Rattle.fm_io.specs.Sink.{Appends, AppendsPrefix};
 ghost use Rattle.fm_records.specs.Texts.{answer_text, lines_text, line_text, found_text, end_text, number_text};
@@ -19,11 +19,12 @@ use std::alloc::{AllocError, Global};
 /// there are none the line is the item's text alone. The text is made as it is written, so that a long list never stands
 /// whole in memory as text. After an error a prefix of it was written.
 pub fn write_answer<O: Sink>(alloc: Global, out: &mut O, q: &Query, a: &Answer) -> Result<(), Fault>
-    ensures whole { OnOk result (Appends (O.written out.old) (O.written out.new) (answer_text q.now a.now)) }
-    ensures prefix { AppendsPrefix (O.written out.old) (O.written out.new) (answer_text q.now a.now) }
-    ensures failed { IsErrOf result Fault.Failed → Raised (O.faults out.old) (O.faults out.new) }
-    ensures quiet { result ≢ Err Fault.Failed → O.faults out.new ≡ O.faults out.old }
-    ensures faults_stay { O.faults out.old ≤ O.faults out.new }
+    ensures whole { OnOk result
+        (Appends (O.view out.old).written (O.view out.new).written (answer_text q.now a.now)) }
+    ensures prefix { AppendsPrefix (O.view out.old).written (O.view out.new).written
+        (answer_text q.now a.now) }
+    ensures counted { Counts Raised (IsErrOf result Fault.Failed)
+        (O.view out.old).faults (O.view out.new).faults }
 {
     let mut text = String::new(alloc);
     send_lines(out, &mut text, q.items(), a.found())?;
@@ -37,7 +38,7 @@ pub(crate) fn send_lines<O: Sink>(
     items: &[Item],
     found: &[Found],
 ) -> Result<(), Fault>
-    ensures { Sends (O.written out.old) (O.written out.new) (O.faults out.old) (O.faults out.new)
+    ensures { Sends (O.view out.old) (O.view out.new)
         (string_bytes text.old) (string_bytes text.new) (lines_text items.now found.now) result }
 {
     for k in 0..items.len().min(found.len()) {
@@ -52,7 +53,7 @@ fn send_line<O: Sink>(
     item: &Item,
     found: &Found,
 ) -> Result<(), Fault>
-    ensures { Sends (O.written out.old) (O.written out.new) (O.faults out.old) (O.faults out.new)
+    ensures { Sends (O.view out.old) (O.view out.new)
         (string_bytes text.old) (string_bytes text.new) (line_text item.now found.now) result }
 {
     text.push_str(item.text.as_str())?;
@@ -63,7 +64,7 @@ fn send_line<O: Sink>(
 
 /// What stands behind an item's text.
 fn send_found<O: Sink>(out: &mut O, text: &mut String, found: &Found) -> Result<(), Fault>
-    ensures { Sends (O.written out.old) (O.written out.new) (O.faults out.old) (O.faults out.new)
+    ensures { Sends (O.view out.old) (O.view out.new)
         (string_bytes text.old) (string_bytes text.new) (found_text found.now) result }
 {
     match found {
@@ -77,7 +78,7 @@ fn send_found<O: Sink>(out: &mut O, text: &mut String, found: &Found) -> Result<
 
 #[tactic(auto, using(crate::proofs::Sent::no_number))]
 fn send_numbers<O: Sink>(out: &mut O, text: &mut String, numbers: &Numbers) -> Result<(), Fault>
-    ensures { Sends (O.written out.old) (O.written out.new) (O.faults out.old) (O.faults out.new)
+    ensures { Sends (O.view out.old) (O.view out.new)
         (string_bytes text.old) (string_bytes text.new) (flat_map number_text numbers.now) result }
 {
     for k in 0..numbers.len() {
@@ -87,7 +88,7 @@ fn send_numbers<O: Sink>(out: &mut O, text: &mut String, numbers: &Numbers) -> R
 }
 
 fn send_number<O: Sink>(out: &mut O, text: &mut String, number: i64) -> Result<(), Fault>
-    ensures { Sends (O.written out.old) (O.written out.new) (O.faults out.old) (O.faults out.new)
+    ensures { Sends (O.view out.old) (O.view out.new)
         (string_bytes text.old) (string_bytes text.new) (number_text number) result }
 {
     push_spaced(text, Buffer::new().format(number))?;

@@ -9,7 +9,7 @@ use Rattle.fm_top.specs.Ends.{EndsWords}
 use Rattle.fm_top.specs.Ran.{Ran}
 use Rattle.fm_top.specs.Run.{Prints, Runs, ended, unread, unknown, TellsMissing, code_of, traces_of}
 use Rattle.fm_io.specs.View.{FilesView}
-use Rattle.fm_top.specs.Told.{SinkTold}
+use Rattle.fm_io.specs.Sink.{SinkView}
 use Rattle.fm_top.specs.declared.outcome.ending.Ending.{Ending}
 use Rattle.fm_top.specs.declared.outcome.left.Left.{Left}
 use Rattle.fm_top.specs.declared.outcome.left.Left.TheVariants.{Nothing}
@@ -19,7 +19,7 @@ use Rattle.fm_top.proofs.Comes.{comes_of}
 use Rattle.fm_top.proofs.Complete.{complete}
 use Rattle.fm_top.proofs.Runs.{code_of-injective, faulty_ends, misses-printed}
 
-module _ {words : List (List ℕ)} {old new : FilesView} {before after : SinkTold} where
+module _ {words : List (List ℕ)} {old new : FilesView} {before after : SinkView} where
   -- the rest follows from how the run ended and what its end showed of the files
   ran_so : {result : Result Ending Fault} {left : Left} {status : Status} → EndsWords words old new result
       → Runs words (traces_of old new before after) left status
@@ -52,7 +52,7 @@ module _ {words : List (List ℕ)} {old new : FilesView} {before after : SinkTol
       ran_so ends (ended (shown ending) status ends.outcome prints) (λ is. ends.files.missed.rose (missing is))
       (misses-printed (shown ending) ends.outcome prints ends.files.missed) (λ other. ends.files.quiet (λ e. absurd (cc))) written_well writes_stay
 
-module _ {words : List (List ℕ)} {old new : FilesView} {out : SinkTold} where
+module _ {words : List (List ℕ)} {old new : FilesView} {out : SinkView} where
   -- a read failed
   pub ran_unread : {result : Result Ending Fault} → result ≡ Err fault.Failed → EndsWords words old new result
       → Ran words (traces_of old new out out) Nothing (code_of Unread)

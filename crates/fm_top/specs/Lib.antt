@@ -15,6 +15,5 @@ pub mod Run
 pub mod Scripts
 pub mod Statuses
 pub mod Tallies
-pub mod Told
 pub mod Unloaded
 pub mod Words

@@ -2,7 +2,7 @@
 use Rattle.std.specs.Prelude.{◌≡◌, ◌⊎◌, ℕ, List, Option}
 use Rattle.fm_io.specs.Count.{Rose, Raised}
 use Rattle.fm_io.specs.Files.{Contents}
-use Rattle.fm_io.specs.Sink.{Appends, AppendsPrefix}
+use Rattle.fm_io.specs.Sink.{Appends, AppendsPrefix, SinkView}
 use Rattle.fm_top.specs.Causes.{OverFiles, LacksFile, HasLongFile, HasRefusedLayout, HasRefusedQuery, HasRaggedFile, HasRefusedScript}
 use Rattle.fm_top.specs.Demos.{DemoEnds}
 use Rattle.fm_top.specs.Found.{OfFile}
@@ -10,7 +10,6 @@ use Rattle.fm_top.specs.Outcome.{Outcome, SumEnds, layout_outcome, usage}
 use Rattle.fm_top.specs.Queries.{AskEnds}
 use Rattle.fm_top.specs.Scripts.{ScriptEnds}
 use Rattle.fm_io.specs.View.{FilesView}
-use Rattle.fm_top.specs.Told.{SinkTold}
 use Rattle.fm_top.specs.Words.{Request, Sum, Layout, Ask, Demo, Run, Asks, AreFaulty, first_file, last_file}
 use Rattle.fm_top.specs.declared.outcome.left.Left.{Left}
 use Rattle.fm_top.specs.declared.outcome.left.Left.TheVariants.{Nothing}
@@ -61,14 +60,14 @@ pub data IsOutcome (words : List (List ℕ)) (told : Option Contents) : Outcome 
 pub record Traces : Type 0 where
   pub old : FilesView
   pub new : FilesView
-  pub before : SinkTold
-  pub after : SinkTold
+  pub before : SinkView
+  pub after : SinkView
 
-abbrev pub traces_of : FilesView → FilesView → SinkTold → SinkTold → Traces
+abbrev pub traces_of : FilesView → FilesView → SinkView → SinkView → Traces
 traces_of old new before after = record { old = old; new = new; before = before; after = after }
 
 -- with which status the writing of an outcome's text may end
-pub data Prints (o : Outcome) (before after : SinkTold) : Status → Type 0 where
+pub data Prints (o : Outcome) (before after : SinkView) : Status → Type 0 where
   printed : Appends before.written after.written o.text → Prints o before after o.status
   failed : Raised before.faults after.faults → AppendsPrefix before.written after.written o.text → Prints o before after Unwritten
   stopped : AppendsPrefix before.written after.written o.text → Prints o before after NoMemory

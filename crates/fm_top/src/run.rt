@@ -2,7 +2,6 @@ ghost use Rattle.std.specs.Prelude.{◌≡◌};
 ghost use Rattle.fm_top_options.specs.Options.{texts};
 ghost use Rattle.fm_top.specs.Ran.{Ran};
 ghost use Rattle.fm_top.specs.Run.{code_of, traces_of};
-ghost use Rattle.fm_top.specs.Told.{sunk};
 ghost use Rattle.fm_top.specs.Words.{AreFaulty};
 
 use crate::outcome::{Ending, Kept, Status, ending_of};
@@ -40,7 +39,7 @@ where
     ensures ran { Ran (texts words.now)
         (traces_of (F.view files.old)
         (F.view files.new)
-        (sunk O.faults O.written out.old) (sunk O.faults O.written out.new))
+        (O.view out.old) (O.view out.new))
         kept.new result }
     ensures reads_nothing { AreFaulty (texts words.now) → files.new ≡ files.old }
 {
@@ -60,7 +59,7 @@ fn run_words<R: Threads + Wait + Sync, F: Files, O: Sink, G: Gate>(
     ensures ran { Ran (texts words.now)
         (traces_of (F.view files.old)
         (F.view files.new)
-        (sunk O.faults O.written out.old) (sunk O.faults O.written out.new))
+        (O.view out.old) (O.view out.new))
         kept.new (code_of result) }
     ensures reads_nothing { AreFaulty (texts words.now) → files.new ≡ files.old }
 {

@@ -1,5 +1,5 @@
-ghost use Rattle.std.specs.Prelude.{◌≡◌, ◌≢◌, ◌≤◌, Err, IsErrOf, OnOk};
-ghost use Rattle.fm_io.specs.Count.{Raised};
+ghost use Rattle.std.specs.Prelude.{IsErrOf, OnOk};
+ghost use Rattle.fm_io.specs.Count.{Counts, Raised};
 ghost use Rattle.fm_io.specs.Sink.{Appends, AppendsPrefix};
 ghost use Rattle.fm_top.specs.Ending.{answered_text};
 
@@ -19,13 +19,11 @@ impl Answered {
     /// Writes the answer's text. After an error a prefix of it was written.
     pub fn write<O: Sink>(&self, alloc: Global, out: &mut O) -> Result<(), Fault>
         ensures whole { OnOk result
-            (Appends (O.written out.old) (O.written out.new) (answered_text self.now)) }
-        ensures prefix { AppendsPrefix (O.written out.old) (O.written out.new)
+            (Appends (O.view out.old).written (O.view out.new).written (answered_text self.now)) }
+        ensures prefix { AppendsPrefix (O.view out.old).written (O.view out.new).written
             (answered_text self.now) }
-        ensures failed { IsErrOf result Fault.Failed →
-            Raised (O.faults out.old) (O.faults out.new) }
-        ensures quiet { result ≢ Err Fault.Failed → O.faults out.new ≡ O.faults out.old }
-        ensures faults_stay { O.faults out.old ≤ O.faults out.new }
+        ensures counted { Counts Raised (IsErrOf result Fault.Failed)
+            (O.view out.old).faults (O.view out.new).faults }
     {
         write_answer(alloc, out, &self.query, &self.answer)
     }

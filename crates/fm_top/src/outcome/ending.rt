@@ -4,7 +4,6 @@ ghost use Rattle.fm_top.specs.Outcome.{answered, answered_by_pool, bare, layout_
 ghost use Rattle.fm_script_report.specs.Texts.{report_text};
 ghost use Rattle.fm_top.specs.Ending.{shown, text_of};
 ghost use Rattle.fm_top.specs.Run.{Prints};
-ghost use Rattle.fm_top.specs.Told.{sunk};
 
 use crate::outcome::left::Left;
 use crate::outcome::status::Status;
@@ -137,11 +136,12 @@ impl<'a> Ending<'a> {
 
     /// Writes the text, and answers the status that this leaves.
     pub fn print<O: Sink>(&self, alloc: Global, out: &mut O) -> Status
-        ensures prints { Prints (shown self.now) (sunk O.faults O.written out.old)
-            (sunk O.faults O.written out.new) result }
+        ensures prints { Prints (shown self.now) (O.view out.old)
+            (O.view out.new) result }
         ensures missing { result ≡ Status.Missing → self.now.status ≡ Status.Missing }
-        ensures quiet { result ≢ Status.Unwritten → O.faults out.new ≡ O.faults out.old }
-        ensures faults_stay { O.faults out.old ≤ O.faults out.new }
+        ensures quiet { result ≢ Status.Unwritten → (O.view out.new).faults ≡
+            (O.view out.old).faults }
+        ensures faults_stay { (O.view out.old).faults ≤ (O.view out.new).faults }
     {
         match self.text.write(alloc, out) {
             Ok(()) => self.status,

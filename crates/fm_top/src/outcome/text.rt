@@ -1,5 +1,5 @@
-ghost use Rattle.std.specs.Prelude.{◌≡◌, ◌≢◌, ◌≤◌, Err, IsErrOf, OnOk};
-ghost use Rattle.fm_io.specs.Count.{Raised};
+ghost use Rattle.std.specs.Prelude.{IsErrOf, OnOk};
+ghost use Rattle.fm_io.specs.Count.{Counts, Raised};
 ghost use Rattle.fm_io.specs.Sink.{Appends, AppendsPrefix};
 ghost use Rattle.fm_top.specs.Ending.{text_of};
 ghost use Rattle.fm_top.specs.Outcome.{line, missing};
@@ -27,12 +27,11 @@ impl Text<'_> {
     /// Writes all of it. After an error a prefix of it was written.
     pub fn write<O: Sink>(&self, alloc: Global, out: &mut O) -> Result<(), Fault>
         ensures whole { OnOk result
-            (Appends (O.written out.old) (O.written out.new) (text_of self.now)) }
-        ensures prefix { AppendsPrefix (O.written out.old) (O.written out.new) (text_of self.now) }
-        ensures failed { IsErrOf result Fault.Failed →
-            Raised (O.faults out.old) (O.faults out.new) }
-        ensures quiet { result ≢ Err Fault.Failed → O.faults out.new ≡ O.faults out.old }
-        ensures faults_stay { O.faults out.old ≤ O.faults out.new }
+            (Appends (O.view out.old).written (O.view out.new).written (text_of self.now)) }
+        ensures prefix { AppendsPrefix (O.view out.old).written (O.view out.new).written
+            (text_of self.now) }
+        ensures counted { Counts Raised (IsErrOf result Fault.Failed)
+            (O.view out.old).faults (O.view out.new).faults }
     {
         match self {
             Text::Whole(text) => write_text(out, text.as_str().as_bytes()),
@@ -50,11 +49,11 @@ impl Text<'_> {
 /// Writes that there is no file of this name.
 fn write_missing<O: Sink>(out: &mut O, file: &str) -> Result<(), Fault>
     ensures whole { OnOk result
-        (Appends (O.written out.old) (O.written out.new) (missing file.now).text) }
-    ensures prefix { AppendsPrefix (O.written out.old) (O.written out.new) (missing file.now).text }
-    ensures failed { IsErrOf result Fault.Failed → Raised (O.faults out.old) (O.faults out.new) }
-    ensures quiet { result ≢ Err Fault.Failed → O.faults out.new ≡ O.faults out.old }
-    ensures faults_stay { O.faults out.old ≤ O.faults out.new }
+        (Appends (O.view out.old).written (O.view out.new).written (missing file.now).text) }
+    ensures prefix { AppendsPrefix (O.view out.old).written (O.view out.new).written
+        (missing file.now).text }
+    ensures counted { Counts Raised (IsErrOf result Fault.Failed)
+        (O.view out.old).faults (O.view out.new).faults }
 {
     write_text(out, b"missing ")?;
     write_line(out, file)
@@ -63,11 +62,10 @@ fn write_missing<O: Sink>(out: &mut O, file: &str) -> Result<(), Fault>
 /// Writes a line of this text.
 fn write_line<O: Sink>(out: &mut O, text: &str) -> Result<(), Fault>
     ensures whole { OnOk result
-        (Appends (O.written out.old) (O.written out.new) (line text.now)) }
-    ensures prefix { AppendsPrefix (O.written out.old) (O.written out.new) (line text.now) }
-    ensures failed { IsErrOf result Fault.Failed → Raised (O.faults out.old) (O.faults out.new) }
-    ensures quiet { result ≢ Err Fault.Failed → O.faults out.new ≡ O.faults out.old }
-    ensures faults_stay { O.faults out.old ≤ O.faults out.new }
+        (Appends (O.view out.old).written (O.view out.new).written (line text.now)) }
+    ensures prefix { AppendsPrefix (O.view out.old).written (O.view out.new).written (line text.now) }
+    ensures counted { Counts Raised (IsErrOf result Fault.Failed)
+        (O.view out.old).faults (O.view out.new).faults }
 {
     write_text(out, text.as_bytes())?;
     write_text(out, b"\n")

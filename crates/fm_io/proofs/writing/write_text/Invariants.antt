@@ -6,11 +6,12 @@ use Rattle.fm_io.proofs.writing.write_text.Given as goal
 -- the text's first bytes were written
 abbrev pub invariant-loop-taken : goal.invariant-loop-taken
 invariant-loop-taken g l =
-    let out = g.O.Sink in
+    let old = g.O.Sink.view l.fn.out in
+    let new = g.O.Sink.view l.out in
     record {
       within : l.taken ≤ length l.text;
-      written : Appends (out.written l.fn.out) (out.written l.out) (take l.taken l.text);
-      counted : Counts Raised ⊥ (out.faults l.fn.out) (out.faults l.out);
+      written : Appends old.written new.written (take l.taken l.text);
+      counted : Counts Raised ⊥ old.faults new.faults;
     }
 
 abbrev pub decreases-loop-taken : goal.decreases-loop-taken

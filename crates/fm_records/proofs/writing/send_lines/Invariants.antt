@@ -6,6 +6,4 @@ use Rattle.fm_records.proofs.writing.send_lines.Given as goal
 
 abbrev pub invariant-loop-k : goal.invariant-loop-k
 invariant-loop-k g l =
-    let out = g.O.Sink in
-    IsUnderWay (out.written l.fn.out) (out.written l.out) (out.faults l.fn.out) (out.faults l.out)
-    (string_bytes l.fn.text) (string_bytes l.text) (lines_text (drop l.k l.items) (drop l.k l.found)) (lines_text l.items l.found)
+    IsUnderWay (g.O.Sink.view l.fn.out) (g.O.Sink.view l.out) (string_bytes l.fn.text) (string_bytes l.text) (lines_text (drop l.k l.items) (drop l.k l.found)) (lines_text l.items l.found)

@@ -7,6 +7,4 @@ use Rattle.fm_records.proofs.writing.send_numbers.Given as goal
 
 abbrev pub invariant-loop-k : goal.invariant-loop-k
 invariant-loop-k g l =
-    let out = g.O.Sink in
-    IsUnderWay (out.written l.fn.out) (out.written l.out) (out.faults l.fn.out) (out.faults l.out)
-    (string_bytes l.fn.text) (string_bytes l.text) (flat_map number_text (drop l.k l.numbers)) (flat_map number_text l.numbers)
+    IsUnderWay (g.O.Sink.view l.fn.out) (g.O.Sink.view l.out) (string_bytes l.fn.text) (string_bytes l.text) (flat_map number_text (drop l.k l.numbers)) (flat_map number_text l.numbers)

@@ -5,7 +5,7 @@ use Rattle.fm_top.proofs.outcome.text.write_line.Goals as goal
 
 pub returns-clause-prefix : goal.returns-clause-prefix
 returns-clause-prefix g c =
-    let told = g.O.Sink.written in
-    let all = subst (λ (bytes : List ℕ). Appends (told c.args.out.now) (told c.write_text.new.out) bytes) c.as_bytes.ensures.value
+    let told = g.O.Sink.view in
+    let all = subst (λ (bytes : List ℕ). Appends (told c.args.out.now).written (told c.write_text.new.out).written bytes) c.as_bytes.ensures.value
     c.in_ok-write_text.ensures.whole in
-    prefix-after (told c.args.out.now) (told c.write_text.new.out) (told c.write_text-2.new.out) c.args.text.now (10 ∷ []) all c.write_text-2.ensures.prefix
+    prefix-after (told c.args.out.now).written (told c.write_text.new.out).written (told c.write_text-2.new.out).written c.args.text.now (10 ∷ []) all c.write_text-2.ensures.prefix

@@ -5,11 +5,11 @@ use Rattle.fm_top.proofs.outcome.text.write_missing.Goals as goal
 
 pub returns-in_err-write_text-clause-prefix : goal.returns-in_err-write_text-clause-prefix
 returns-in_err-write_text-clause-prefix g c =
-    let told = g.O.Sink.written in
-    prefix-more (told c.args.out.now) (told c.write_text.new.out) (codes "missing ") (line c.args.file.now) c.write_text.ensures.prefix
+    let told = g.O.Sink.view in
+    prefix-more (told c.args.out.now).written (told c.write_text.new.out).written (codes "missing ") (line c.args.file.now) c.write_text.ensures.prefix
 
 pub returns-clause-prefix : goal.returns-clause-prefix
 returns-clause-prefix g c =
-    let told = g.O.Sink.written in
-    prefix-after (told c.args.out.now) (told c.write_text.new.out) (told c.write_line.new.out) (codes "missing ") (line c.args.file.now)
+    let told = g.O.Sink.view in
+    prefix-after (told c.args.out.now).written (told c.write_text.new.out).written (told c.write_line.new.out).written (codes "missing ") (line c.args.file.now)
     c.in_ok-write_text.ensures.whole c.write_line.ensures.prefix

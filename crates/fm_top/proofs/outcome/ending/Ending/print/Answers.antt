@@ -7,7 +7,7 @@ returns-in-Ok-clause-prints g c = printed c.in-Ok.ensures.whole
 
 pub returns-in-Err-Failed-clause-prints : goal.returns-in-Err-Failed-clause-prints
 returns-in-Err-Failed-clause-prints g c =
-    failed (c.write.ensures.failed (c.in-Err-Failed.is ∙ ap Err c.in-Err-Failed.field-0-is))
+    failed (c.write.ensures.counted.rose (c.in-Err-Failed.is ∙ ap Err c.in-Err-Failed.field-0-is))
     c.write.ensures.prefix
 
 pub returns-in-Err-Memory-clause-prints : goal.returns-in-Err-Memory-clause-prints

@@ -4,7 +4,7 @@ use Rattle.fm_top.proofs.outcome.text.Text.write.Goals as goal
 
 pub returns-in_ok-write-in-Both-clause-prefix : goal.returns-in_ok-write-in-Both-clause-prefix
 returns-in_ok-write-in-Both-clause-prefix g c =
-    let told = g.O.Sink.written in
+    let told = g.O.Sink.view in
     rw (c.in-Both.is)
-    (prefix-after (told c.args.out.now) (told c.write-in-Both.new.out) (told c.write-in-Both-2.new.out) (answered_text c.in-Both.first)
+    (prefix-after (told c.args.out.now).written (told c.write-in-Both.new.out).written (told c.write-in-Both-2.new.out).written (answered_text c.in-Both.first)
     (answered_text c.in-Both.second) c.in_ok-write-in-Both.ensures.whole c.write-in-Both-2.ensures.prefix)
