@@ -1,5 +1,5 @@
 -- Holds and handles beside others of their pass.
-use Rattle.std.proofs.Common.{◌≡◌, ◌<◌, List, ◌∷◌, ap, sym, subst, arith, Result, Ok, Err, inr}
+use Rattle.std.proofs.Common.{◌≡◌, ◌<◌, List, ◌∷◌, ap, sym, subst, arith, Result, Ok, Err}
 use Rattle.std.specs.Prelude.{IfOk}
 use Rattle.fm_base.specs.declared.arena_id.ArenaId.{ArenaId}
 use Rattle.fm_base.specs.declared.refusal.Refusal.{Refusal}
@@ -10,7 +10,6 @@ use Rattle.fm_rule_facts.specs.Views.{View, In}
 use Rattle.fm_rule_facts.specs.Holds.{how_many, one_if, released}
 use Rattle.fm_rule_facts.proofs.Summing.{some_hold, one_less}
 use Rattle.fm_gate.specs.declared.held.Hold.{Hold}
-use Rattle.fm_gate.specs.Learnt.{holds_taken, handles_opened, handles_again}
 use Rattle.fm_gate.proofs.Counted.{some_in, in_released}
 use Rattle.fm_gate.proofs.Outside.{made_on}
 use Rattle.fm_base.specs.declared.kind.Kind.TheVariants.{Automatic}

@@ -37,13 +37,13 @@ pub fn close_an_arena<R: Abort + Wait, M: Memory>(rt: &R, m: &mut M)
 }
 
 /// What every memory does with an arena that is confined to another caller.
-pub fn stay_out<R: Abort + Wait, M: Memory>(rt: &R, m: &mut M, a: ArenaId)
+pub fn stay_out<R: Abort + Wait, M: Memory>(rt: &R, m: &mut M, id: ArenaId)
     requires outside { (M.view m.old).inside ≡ None }
-    requires known { has_arena (M.view m.old).state a ≡ true }
+    requires known { has_arena (M.view m.old).state id ≡ true }
     ensures { (M.view m.new).inside ≡ None }
 {
-    assert_eq!(rt; m.enter(a), Err(Refusal::WrongThread));
-    assert_eq!(rt; m.allocate(rt, a, 1, 3), Err(Refusal::BadAlignment));
-    assert_eq!(rt; m.allocate(rt, a, 1, 1), Err(Refusal::WrongThread));
-    assert_eq!(rt; m.close(rt, a), Err(Refusal::WrongThread));
+    assert_eq!(rt; m.enter(id), Err(Refusal::WrongThread));
+    assert_eq!(rt; m.allocate(rt, id, 1, 3), Err(Refusal::BadAlignment));
+    assert_eq!(rt; m.allocate(rt, id, 1, 1), Err(Refusal::WrongThread));
+    assert_eq!(rt; m.close(rt, id), Err(Refusal::WrongThread));
 }

@@ -43,11 +43,11 @@ fn hear<R: Wait>(rt: &R, heard: &mut Vec<Heard>, what: Heard)
 }
 
 /// The arena that the caller is inside after an `enter`.
-fn entered_by(a: ArenaId, answer: Result<(), Refusal>) -> Option<ArenaId>
-    ensures { result ≡ inside_by a answer }
+fn entered_by(id: ArenaId, answer: Result<(), Refusal>) -> Option<ArenaId>
+    ensures { result ≡ inside_by id answer }
 {
     match answer {
-        Ok(()) => Some(a),
+        Ok(()) => Some(id),
         Err(_) => None,
     }
 }
@@ -120,19 +120,19 @@ impl<'a, H: Wait> Double<'a, H> {
     }
 
     /// What another does before this caller enters the arena.
-    fn come_before(&mut self, a: ArenaId)
-        requires { CanVisit (view_of self.old.mono) a }
+    fn come_before(&mut self, id: ArenaId)
+        requires { CanVisit (view_of self.old.mono) id }
         ensures makes { Makes (double_view self.old) (double_view self.new) [] }
-        ensures can { CanVisit (view_of self.new.mono) a }
+        ensures can { CanVisit (view_of self.new.mono) id }
         ensures sound { IsSound (double_view self.old) }
     {
         if let Others::Close { left } = self.others {
             self.turn = self.turn.wrapping_add(1);
             if self.turn == left {
-                if is_for_all(a.kind) {
+                if is_for_all(id.kind) {
                     let closer = Caller { number: 1, term: 0 };
-                    let answer = self.mono.end(a);
-                    let close = Heard::Close(closer, a, answer);
+                    let answer = self.mono.end(id);
+                    let close = Heard::Close(closer, id, answer);
                     hear(self.rt, &mut self.heard, close);
                 }
             }
@@ -152,11 +152,11 @@ impl<'a, H: Wait> Memory for Double<'a, H> {
         self.mono.caller()
     }
 
-    fn enter(&mut self, a: ArenaId) -> Result<(), Refusal> {
-        self.come_before(a);
-        let answer = self.mono.enter(a);
-        hear(self.rt, &mut self.heard, Heard::Enter(a, answer));
-        self.inside = entered_by(a, answer);
+    fn enter(&mut self, id: ArenaId) -> Result<(), Refusal> {
+        self.come_before(id);
+        let answer = self.mono.enter(id);
+        hear(self.rt, &mut self.heard, Heard::Enter(id, answer));
+        self.inside = entered_by(id, answer);
         answer
     }
 
@@ -217,20 +217,20 @@ impl<'a, H: Wait> Memory for Double<'a, H> {
     fn allocate<R: Wait>(
         &mut self,
         rt: &R,
-        a: ArenaId,
+        id: ArenaId,
         size: u64,
         align: u64,
     ) -> Result<u64, Refusal> {
-        let answer = self.mono.allocate(rt, a, size, align);
-        let given = Heard::Allocate(a, size, align, answer);
+        let answer = self.mono.allocate(rt, id, size, align);
+        let given = Heard::Allocate(id, size, align, answer);
         hear(self.rt, &mut self.heard, given);
         answer
     }
 
-    fn close<R: Wait>(&mut self, rt: &R, a: ArenaId) -> Result<(), Refusal> {
-        let answer = self.mono.close(rt, a);
+    fn close<R: Wait>(&mut self, rt: &R, id: ArenaId) -> Result<(), Refusal> {
+        let answer = self.mono.close(rt, id);
         let caller = self.mono.caller();
-        hear(self.rt, &mut self.heard, Heard::Close(caller, a, answer));
+        hear(self.rt, &mut self.heard, Heard::Close(caller, id, answer));
         answer
     }
 

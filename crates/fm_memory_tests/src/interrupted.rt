@@ -46,15 +46,15 @@ impl<'a, H: Wait> Interrupted<'a, H> {
     }
 
     /// What the other does before this one enters the arena.
-    fn come_before(&mut self, a: ArenaId)
-        requires { CanVisit (view_of_pass self.old) a }
+    fn come_before(&mut self, id: ArenaId)
+        requires { CanVisit (view_of_pass self.old) id }
         ensures { self.new ≡ self.old }
     {
         if self.left == 1 {
             let note = self.ours.note();
             self.theirs.meet(note);
             // Where the arena is confined to this pass nothing is closed.
-            let _ = self.theirs.close(self.rt, a);
+            let _ = self.theirs.close(self.rt, id);
         }
         self.left = self.left.wrapping_sub(1);
     }
@@ -73,9 +73,9 @@ impl<'a, H: Wait> Memory for Interrupted<'a, H> {
         self.ours.caller()
     }
 
-    fn enter(&mut self, a: ArenaId) -> Result<(), Refusal> {
-        self.come_before(a);
-        self.ours.enter(a)
+    fn enter(&mut self, id: ArenaId) -> Result<(), Refusal> {
+        self.come_before(id);
+        self.ours.enter(id)
     }
 
     fn load(&mut self, word: u64) -> u64 {
@@ -109,15 +109,15 @@ impl<'a, H: Wait> Memory for Interrupted<'a, H> {
     fn allocate<R: Wait>(
         &mut self,
         rt: &R,
-        a: ArenaId,
+        id: ArenaId,
         size: u64,
         align: u64,
     ) -> Result<u64, Refusal> {
-        self.ours.allocate(rt, a, size, align)
+        self.ours.allocate(rt, id, size, align)
     }
 
-    fn close<R: Wait>(&mut self, rt: &R, a: ArenaId) -> Result<(), Refusal> {
-        self.ours.close(rt, a)
+    fn close<R: Wait>(&mut self, rt: &R, id: ArenaId) -> Result<(), Refusal> {
+        self.ours.close(rt, id)
     }
 
     ghost alone_is = { λ m. refl };

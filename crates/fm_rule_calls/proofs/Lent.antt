@@ -1,5 +1,5 @@
 -- A loan of an arena that hasn't ended lasts.
-use Rattle.std.proofs.Common.{◌≡◌, ◌≢◌, ℕ, ◌==◌, Bool, true, false, not, List, [], ◌∷◌, ◌++◌, refl, ap, sym, ◌∙◌, subst, ⊎_elim, Some, arith, ne_eqb}
+use Rattle.std.proofs.Common.{◌≡◌, ◌≢◌, ℕ, ◌==◌, true, not, List, [], ◌∷◌, ◌++◌, ap, sym, ◌∙◌, subst, ⊎_elim, Some, arith, ne_eqb}
 use Rattle.std.specs.Prelude.{Contains}
 use Rattle.std.proofs.lemmas.List.Elements.{All-contains}
 use Rattle.fm_words.specs.declared.shape.Shape.{Shape}
@@ -10,7 +10,6 @@ use Rattle.fm_base.specs.Machine.{after}
 use Rattle.fm_base.specs.Histories.{IsLegal, state_after}
 use Rattle.fm_base.proofs.Growing.{Grows-after}
 use Rattle.fm_base.proofs.Making.{IsLegal-split, state_after-append}
-use Rattle.fm_base.proofs.Placing.{there_by_way}
 use Rattle.fm_rule_facts.specs.Loans.{Loan, loan_of, loans_by, loans_after, loans_of, HasPart, IsRightlyLent, IsRightlyLentIn, IsRightlyLentFrom}
 use Rattle.fm_rule_facts.specs.Views.{View, IsKnown, IsSound, limit_of, state_in}
 use Rattle.fm_rule_facts.proofs.Lending.{loan_cases, loan_kept, loan_was, loans_after-append, more_loans}

@@ -1,6 +1,5 @@
 -- What had ended stays so as a pass goes on: it gives no more, and words that were taken back from it aren't lent to it again.
 use Rattle.std.proofs.Common.{◌≡◌, true, List, [], ◌++◌, sym, ◌∙◌, subst, arith, ◌≤◌}
-use Rattle.std.specs.Prelude.{Contains}
 use Rattle.fm_base.specs.declared.arena_id.ArenaId.{ArenaId}
 use Rattle.fm_base.specs.Arenas.{State, has_arena, arena_of}
 use Rattle.fm_base.specs.Calls.{Entry}

@@ -10,7 +10,7 @@
 //!
 //! **The idea.** Names are numbers, known before the run from the lines in their order of printing, in which each
 //! pass's lines are one run. A worker looks up what the first lines made, which changes no more, and writes down what
-//! its own lines made and were answered in lists of its own. The workers are the tasks of a crew (`fm_workers`), so the
+//! its own lines made and were answered in lists of its own. The workers are the tasks of a crew (`fm_workers_crew`), so the
 //! history that is left has three parts: the first lines' entries, the workers', the last lines'. The lists are put
 //! together when all are gathered.
 //!

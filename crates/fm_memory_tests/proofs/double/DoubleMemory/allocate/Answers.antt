@@ -4,7 +4,7 @@ use Rattle.fm_memory_tests.proofs.double.DoubleMemory.allocate.Goals as goal
 
 pub invariant_of-self : goal.invariant_of-self
 invariant_of-self g c =
-    (allocates c.args.a c.args.size c.args.align c.allocate-answer.result c.self.invariant
+    (allocates c.args.id c.args.size c.args.align c.allocate-answer.result c.self.invariant
     (rw (← c.self.view_is) at c.requires).outside c.allocate-answer.ensures.got.did c.allocate-answer.ensures.got.outside c.hear.ensures).keeps
 
 pub returns : goal.returns
@@ -12,5 +12,5 @@ returns g c =
     let r = rw (← c.self.view_is) at c.requires in
     rw (← c.self.view_is)
     (after_allocate r (sound_of c.self.invariant) c.allocate-answer.ensures.got.comes (never_full c.allocate-answer.ensures.got.comes)
-    (allocates c.args.a c.args.size c.args.align c.allocate-answer.result c.self.invariant
+    (allocates c.args.id c.args.size c.args.align c.allocate-answer.result c.self.invariant
     (rw (← c.self.view_is) at c.requires).outside c.allocate-answer.ensures.got.did c.allocate-answer.ensures.got.outside c.hear.ensures).did)

@@ -4,7 +4,7 @@ use Rattle.fm_memory_tests.proofs.double.DoubleMemory.close.Goals as goal
 
 pub invariant_of-self : goal.invariant_of-self
 invariant_of-self g c =
-    (closes c.args.a c.close-answer.result c.self.invariant
+    (closes c.args.id c.close-answer.result c.self.invariant
     (rw (← c.self.view_is) at c.requires).outside c.close-answer.ensures.did c.close-answer.ensures.outside
     (rw c.caller-caller.ensures.is at c.hear.ensures)).keeps
 
@@ -13,6 +13,6 @@ returns g c =
     let r = rw (← c.self.view_is) at c.requires in
     rw (← c.self.view_is)
     (after_close r (sound_of c.self.invariant)
-    (closes c.args.a c.close-answer.result c.self.invariant
+    (closes c.args.id c.close-answer.result c.self.invariant
     (rw (← c.self.view_is) at c.requires).outside c.close-answer.ensures.did c.close-answer.ensures.outside
     (rw c.caller-caller.ensures.is at c.hear.ensures)).did)
