@@ -1,4 +1,4 @@
-use Rattle.std.proofs.Common.{◌≡◌, ◌+◌, ◌≤◌, ℕ, List, length, take, arith}
+use Rattle.std.proofs.Common.{◌+◌, take, arith}
 use Rattle.fm_segment_access.specs.Alone.{bytes_of_arena}
 use Rattle.fm_io.proofs.Followed.{ReadsFile-none}
 use Rattle.fm_io.proofs.Left.{leaves_none, leaves_then}
