@@ -2,7 +2,7 @@
 use Rattle.std.proofs.Common.{◌≡◌, ◌≢◌, ℕ, List, length, Option, None, Some, Result, Ok, Err, refl, ap, sym, subst, ◌∙◌, arith}
 use Rattle.std.proofs.lemmas.Result.{IfOk-weaker}
 use Rattle.fm_io.specs.declared.fault.Fault.{Fault}
-use Rattle.fm_io.specs.declared.fault.Fault.TheVariants.{Memory}
+use Rattle.fm_io.specs.declared.fault.Fault.TheVariants.{Failed, Memory}
 use Rattle.fm_top.specs.Causes.{LacksFile}
 use Rattle.fm_top.specs.Ending.{shown, TellsMisses}
 use Rattle.fm_top.specs.Ends.{EndsFile, EndsRequest, ShowsFiles}
@@ -23,27 +23,24 @@ use Rattle.fm_top.proofs.Outcomes.{some_end}
 use Rattle.fm_top.proofs.ReadFor.{first_reads, not_read, read_since}
 
 module _ {old new : FilesTold} (faults : new.faults ≡ old.faults) (misses : new.misses ≡ old.misses) (held : new.holds ≡ old.holds) where
-  -- no count changed, and the end is not that a file is missing
-  pub shows_found : {ending : Ending} → (ending.status ≡ status.Missing → ⊥) → ShowsFiles old new (Ok ending)
-  shows_found there = record {
-    missed = record { rose = λ is. absurd (there is); well = λ other. misses };
-    failed = λ is. absurd (cc);
+  -- no count changed, and the end comes of no failed read
+  shows_same : {result : Result Ending Fault} → TellsMisses old.misses new.misses result → (result ≡ Err Failed → ⊥) → ShowsFiles old new result
+  shows_same missed well = record {
+    missed = missed;
+    failed = λ is. absurd (well is);
     quiet = λ other. faults;
     held = held;
     faults_stay = omega (arith, faults);
     misses_stay = omega (arith, misses);
   }
 
-  -- no count changed, and memory ran out
+  -- nor is it that a file is missing
+  pub shows_found : {ending : Ending} → (ending.status ≡ status.Missing → ⊥) → ShowsFiles old new (Ok ending)
+  shows_found there = shows_same (record { rose = λ is. absurd (there is); well = λ other. misses }) (λ is. absurd (cc))
+
+  -- or memory ran out
   pub shows_wanting : ShowsFiles old new (Err Memory)
-  shows_wanting = record {
-    missed = misses;
-    failed = λ is. absurd (cc);
-    quiet = λ other. faults;
-    held = held;
-    faults_stay = omega (arith, faults);
-    misses_stay = omega (arith, misses);
-  }
+  shows_wanting = shows_same misses (λ is. absurd (cc))
 
   -- what is shown since then is shown since before
   pub shows_since : {later : FilesTold} {result : Result Ending Fault} → ShowsFiles new later result → ShowsFiles old later result
@@ -65,10 +62,6 @@ module _ {name : List ℕ} {limit : ℕ} {Needs : Type 0} {Has : Option (List �
     reads = not_read;
     files = shows_found refl refl refl there;
   }
-
-  -- or memory ran out before one was
-  pub unread_wants : {files : FilesTold} → EndsFile name limit Needs Has files files (Err Memory)
-  unread_wants = record { outcome = tt; reads = not_read; files = shows_wanting refl refl refl }
 
   -- the same end is seen by other definitions
   pub ends_as : {old new : FilesTold} {result : Result Ending Fault} {Wants : Type 0} {Ends : Option (List ℕ) → Outcome → Type 0} → (Needs → Wants)

@@ -11,20 +11,15 @@ pub returns-in_ok-bytes_ending-in-Ok : goal.returns-in_ok-bytes_ending-in-Ok
 returns-in_ok-bytes_ending-in-Ok g c =
     let load = c.read_whole.ensures in
     let layout = c.args.layout.now in
-    let ending = c.in_ok-bytes_ending-in-Ok.field-0 in
     let ends = c.in_ok-bytes_ending-in-Ok.ensures ∙ ap (layout_of_file layout.text) c.deref.ensures.value in
-    found_ends load.reads load.quiet load.found load.held c.in-Ok.bytes.items c.in-Ok.is c.in-Ok.ensures.whole
-    ends
-    (first_found (Layout layout.text layout.file.now) c.in-Ok.bytes.items None (shown ending) (λ lacks. absurd (cc)) ends)
+    found_ends load.reads load.quiet load.found load.held c.in-Ok.bytes.items c.in-Ok.is c.in-Ok.ensures.whole ends
+    (first_found (Layout layout.text layout.file.now) c.in-Ok.bytes.items None (shown c.in_ok-bytes_ending-in-Ok.field-0) (λ lacks. absurd (cc)) ends)
 
 pub returns-in_err-bytes_ending-in-Ok : goal.returns-in_err-bytes_ending-in-Ok
-returns-in_err-bytes_ending-in-Ok g c =
-    let load = c.read_whole.ensures in
-    wanting_ends load.reads load.quiet load.found load.held c.in-Ok.is (search rules)
+returns-in_err-bytes_ending-in-Ok g c = let load = c.read_whole.ensures in wanting_ends load.reads load.quiet load.found load.held c.in-Ok.is (search rules)
 
 pub returns-in-Err : goal.returns-in-Err
 returns-in-Err g c =
-    let load = c.read_whole.ensures in
-    let end = c.unloaded_ending.ensures in
+    let load = c.read_whole.ensures in let end = c.unloaded_ending.ensures in
     unloaded_ends load.reads load.quiet load.found load.held c.in-Err.is load.absent load.too_long load.missing load.failed load.faults_stay
     load.misses_stay end.ending end.told end.failed refl (λ bytes over. sym (long_layout_ends c.args.layout.now.text bytes over))

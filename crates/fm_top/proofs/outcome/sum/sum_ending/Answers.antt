@@ -10,19 +10,15 @@ pub returns-in_ok-loaded_ending-in-Ok : goal.returns-in_ok-loaded_ending-in-Ok
 returns-in_ok-loaded_ending-in-Ok g c =
     let load = c.load.ensures in
     let sum = c.args.sum.now in
-    let ending = c.in_ok-loaded_ending-in-Ok.field-0 in
-    found_ends load.reads load.quiet load.found load.held c.in-Ok.loaded c.in-Ok.is c.in-Ok.ensures.whole
-    c.in_ok-loaded_ending-in-Ok.ensures
-    (first_found (Sum sum.size sum.at sum.kind sum.file.now) c.in-Ok.loaded None (shown ending) (λ lacks. absurd (cc)) c.in_ok-loaded_ending-in-Ok.ensures)
+    let ends = c.in_ok-loaded_ending-in-Ok.ensures sum.file.now in
+    found_ends load.reads load.quiet load.found load.held c.in-Ok.loaded c.in-Ok.is c.in-Ok.ensures.whole ends
+    (first_found (Sum sum.size sum.at sum.kind sum.file.now) c.in-Ok.loaded None (shown c.in_ok-loaded_ending-in-Ok.field-0) (λ lacks. absurd (cc)) ends)
 
 pub returns-in_err-loaded_ending-in-Ok : goal.returns-in_err-loaded_ending-in-Ok
-returns-in_err-loaded_ending-in-Ok g c =
-    let load = c.load.ensures in
-    wanting_ends load.reads load.quiet load.found load.held c.in-Ok.is (search rules)
+returns-in_err-loaded_ending-in-Ok g c = let load = c.load.ensures in wanting_ends load.reads load.quiet load.found load.held c.in-Ok.is (search rules)
 
 pub returns-in-Err : goal.returns-in-Err
 returns-in-Err g c =
-    let load = c.load.ensures in
-    let end = c.unloaded_ending.ensures in
+    let load = c.load.ensures in let end = c.unloaded_ending.ensures in
     unloaded_ends load.reads load.quiet load.found load.held c.in-Err.is load.absent load.too_long load.missing load.failed load.faults_stay
     load.misses_stay end.ending end.told end.failed no_file (λ bytes over. too_many bytes over)
