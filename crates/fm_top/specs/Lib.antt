@@ -13,8 +13,6 @@ pub mod Reading
 pub mod Records
 pub mod Run
 pub mod Scripts
-pub mod Statuses
 pub mod Tallies
 pub mod Told
-pub mod Unloaded
 pub mod Words
