@@ -5,14 +5,14 @@ use Rattle.fm_io.specs.Files.{Contents}
 use Rattle.fm_top.specs.Causes.{OverFiles}
 use Rattle.fm_top.specs.Found.{OfFile, file_under}
 use Rattle.fm_top.specs.Outcome.{Outcome}
-use Rattle.fm_top.specs.Run.{EndsBy, HasOutcome, IsOutcomeOver, IsOutcome, faulty, asked, Traces, Runs}
-use Rattle.fm_top.specs.Statuses.{AskFor, ComesOf}
+use Rattle.fm_top.specs.Run.{EndsBy, HasOutcome, IsOutcomeOver, IsOutcome, faulty, asked, Traces, printed, failed, stopped, Runs, ended, unread, unknown}
+use Rattle.fm_top.specs.Ran.{AskFor, ComesOf}
 use Rattle.fm_top.specs.Words.{Request, first_file, last_file}
 use Rattle.fm_top.specs.declared.outcome.left.Left.{Left}
 use Rattle.fm_top.specs.declared.outcome.status.Status.{Status}
 use Rattle.fm_top.specs.declared.outcome.status.Status.TheVariants.{Answered, Usage, Missing, Unread, Unwritten, NoMemory}
 use Rattle.fm_top.proofs.Causes.{CauseOf, end_cause}
-use Rattle.fm_top.proofs.Runs.{outcome_status, only_unread, only_unwritten, usage_faulty}
+use Rattle.fm_top.proofs.Runs.{found_cause}
 
 -- where the files tell, what is found is what they hold
 of_told : (contents : Contents) (name : Option (List ℕ)) (P : Option (List ℕ) → Type 0) → OfFile (Some contents) name P → P (file_under contents name)
@@ -37,24 +37,25 @@ cause_told : (request : Request) (told : Option Contents) (o : Outcome) → HasO
 cause_told request None o has = tt
 cause_told request (Some contents) o has = told_cause request contents o has
 
--- words whose outcome isn't usage ask for what its status comes of
-asks_for : (words : List (List ℕ)) (told : Option Contents) (o : Outcome) (s : Status) → IsOutcome words told o → o.status ≡ s → Usage ≢ s
-    → AskFor words told (CauseOf s)
-asks_for words told o s (faulty none) is other = absurd (other is)
-asks_for words told o s (asked request x asks has) is other =
-    (request, asks, subst (λ (r : Status). IfSome told (OverFiles (CauseOf r) request)) is (cause_told request told x has))
+-- the cause of an outcome's status is that of a run with it
+caused : {words : List (List ℕ)} (t : Traces) (request : Request) (first last : Option (List ℕ)) (s : Status) → CauseOf s request first last
+    → AskFor words t.old.holds (CauseOf s) → (s ≡ Missing → Rose t.old.misses t.new.misses) → ComesOf words t s
+caused t request first last Answered cause asks rose = tt
+caused t request first last Missing cause asks rose = (asks, rose refl)
+caused t request first last Usage cause asks rose = absurd cause
+caused t request first last Unread cause asks rose = absurd cause
+caused t request first last Unwritten cause asks rose = absurd cause
+caused t request first last NoMemory cause asks rose = absurd cause
+caused t request first last s cause asks rose = asks
 
 -- each status has its cause
-pub comes_of : {words : List (List ℕ)} {t : Traces} {k : Left} (s : Status) → Runs words t k s → (s ≡ Missing → Rose t.old.misses t.new.misses)
+pub comes_of : {words : List (List ℕ)} {t : Traces} {k : Left} {s : Status} → Runs words t k s → (s ≡ Missing → Rose t.old.misses t.new.misses)
     → ComesOf words t s
-comes_of {words} {t} {k} Answered runs rose = tt
-comes_of {words} {t} {k} Usage runs rose =
-    let has = outcome_status words t k Usage runs (λ late. late) in usage_faulty words t.old.holds has.outcome has.is_outcome has.status_is
-comes_of {words} {t} {k} Missing runs rose =
-    let has = outcome_status words t k Missing runs (λ late. late) in
-    (asks_for words t.old.holds has.outcome Missing has.is_outcome has.status_is (λ e. cc), rose refl)
-comes_of {words} {t} {k} Unread runs rose = only_unread words t k Unread runs refl
-comes_of {words} {t} {k} Unwritten runs rose = only_unwritten words t k Unwritten runs refl
-comes_of {words} {t} {k} NoMemory runs rose = tt
-comes_of {words} {t} {k} s runs rose =
-    let has = outcome_status words t k s runs (λ late. late) in asks_for words t.old.holds has.outcome s has.is_outcome has.status_is (λ e. cc)
+comes_of (ended o r (faulty none) (printed all)) missed = none
+comes_of {words} {t} (ended o r (asked request x asks has) (printed all)) missed =
+    let found = found_cause request t.old.holds x has in
+    caused t request found.0 found.1 x.status found.2 (request, asks, cause_told request t.old.holds x has) missed
+comes_of (ended o r known (failed rose front)) missed = rose
+comes_of (ended o r known (stopped front)) missed = tt
+comes_of (unread asks rose same) missed = rose
+comes_of (unknown same) missed = tt

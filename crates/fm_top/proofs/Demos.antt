@@ -60,8 +60,6 @@ demo_ends count bytes text p q a b f o are is is_a is_b shows is_text is_o = rec
   second = q;
   are_queries = are;
   finished = f;
-  outcome = is_o ∙ ap (λ (t : List ℕ). answered_by_pool t f) (is_text
-      ∙ ap (λ (xs : List Found). answer_text p xs ++ answer_text q b) (is_a ∙ ap (answer p) is)
-      ∙ ap (λ (xs : List Found). answer_text p (answer p (made_records count)) ++ answer_text q xs) (is_b ∙ ap (answer q) is));
+  outcome = cc;
   shows = subst (λ (bs : List ℕ). ShowsBoth f p q bs) is shows;
 }

@@ -2,7 +2,7 @@
 use Rattle.std.proofs.Common.{◌≡◌, ℕ, List, Option, Some, Result, Ok, Err, ap, sym, subst, ◌∙◌, arith}
 use Rattle.std.proofs.lemmas.Result.{IfOk-weaker}
 use Rattle.fm_io.specs.declared.fault.Fault.{Fault}
-use Rattle.fm_io.specs.declared.fault.Fault.TheVariants.{Memory}
+use Rattle.fm_io.specs.declared.fault.Fault.TheVariants.{Failed, Memory}
 use Rattle.fm_io.proofs.Left.{leaves_none}
 use Rattle.fm_top.specs.Causes.{LacksFile}
 use Rattle.fm_top.specs.Ending.{shown, TellsMisses}
@@ -30,27 +30,24 @@ module _ {old new : FilesView} (left : Leaves ⊥ ⊥ old new) where
   same_misses : new.misses ≡ old.misses
   same_misses = left.misses.quiet (λ e. e)
 
-  -- no count changed, and the end is not that a file is missing
-  pub shows_found : {ending : Ending} → (ending.status ≡ status.Missing → ⊥) → ShowsFiles old new (Ok ending)
-  shows_found there = record {
-    missed = record { rose = λ is. absurd (there is); well = λ other. same_misses };
-    failed = λ is. absurd (cc);
+  -- no count changed, and the end comes of no failed read
+  shows_same : {result : Result Ending Fault} → TellsMisses old.misses new.misses result → (result ≡ Err Failed → ⊥) → ShowsFiles old new result
+  shows_same missed well = record {
+    missed = missed;
+    failed = λ is. absurd (well is);
     quiet = λ other. same_faults;
     held = left.held;
     faults_stay = left.faults.stays;
     misses_stay = left.misses.stays;
   }
 
-  -- no count changed, and memory ran out
+  -- nor is it that a file is missing
+  pub shows_found : {ending : Ending} → (ending.status ≡ status.Missing → ⊥) → ShowsFiles old new (Ok ending)
+  shows_found there = shows_same (record { rose = λ is. absurd (there is); well = λ other. same_misses }) (λ is. absurd (cc))
+
+  -- or memory ran out
   pub shows_wanting : ShowsFiles old new (Err Memory)
-  shows_wanting = record {
-    missed = same_misses;
-    failed = λ is. absurd (cc);
-    quiet = λ other. same_faults;
-    held = left.held;
-    faults_stay = left.faults.stays;
-    misses_stay = left.misses.stays;
-  }
+  shows_wanting = shows_same same_misses (λ is. absurd (cc))
 
   -- what is shown since then is shown since before
   pub shows_since : {later : FilesView} {result : Result Ending Fault} → ShowsFiles new later result → ShowsFiles old later result
@@ -72,10 +69,6 @@ module _ {name : List ℕ} {limit : ℕ} {Needs : Type 0} {Has : Option (List �
     reads = not_read;
     files = shows_found (leaves_none _ (λ e. e) (λ e. e)) there;
   }
-
-  -- or memory ran out before one was
-  pub unread_wants : {files : FilesView} → EndsFile name limit Needs Has files files (Err Memory)
-  unread_wants = record { outcome = tt; reads = not_read; files = shows_wanting (leaves_none _ (λ e. e) (λ e. e)) }
 
   -- the same end is seen by other definitions
   pub ends_as : {old new : FilesView} {result : Result Ending Fault} {Wants : Type 0} {Ends : Option (List ℕ) → Outcome → Type 0} → (Needs → Wants)

@@ -1,6 +1,5 @@
 pub mod Causes
 pub mod Comes
-pub mod Complete
 pub mod Counted
 pub mod Demos
 pub mod Ends
@@ -13,7 +12,6 @@ pub mod Ran
 pub mod ReadFor
 pub mod Requests
 pub mod Runs
-pub mod Scripts
 pub mod Sums
 pub mod Threaded
 pub mod Unloaded

@@ -1,19 +1,23 @@
 -- Which outcome a request has.
 use Rattle.std.proofs.Common.{◌≡◌, ◌≢◌, ◌⊎◌, inl, inr, ℕ, suc, ◌%◌, ◌<◌, ◌≤◌, List, ap, length, replicate, Option, None, Some, true, sym, ◌∙◌, subst, refl, arith}
 use Rattle.std.proofs.lemmas.List.{length-replicate}
-use Rattle.std.specs.Prelude.{IsSomeAnd, nat_lt}
+use Rattle.std.specs.Prelude.{IsSomeAnd, nat_lt, Result, IfOk}
 use Rattle.std.proofs.lemmas.Bool.Decides.{Decides-ltb}
+use Rattle.std.proofs.lemmas.Result.{IfOk-weaker}
+use Rattle.std.specs.declared.alloc.AllocError.{AllocError}
 use Rattle.fm_io.specs.Files.{Contents, file_of}
 use Rattle.fm_layout.specs.Tree.{Tree}
 use Rattle.fm_base.specs.declared.refusal.Refusal.{Refusal}
 use Rattle.fm_base.specs.declared.refusal.Refusal.TheVariants.{Memory}
+use Rattle.fm_top.specs.Ending.{shown}
 use Rattle.fm_top.specs.Found.{IsFound, OfFound}
 use Rattle.fm_top_load.specs.Limits.{record_file_limit}
-use Rattle.fm_top.specs.Outcome.{Outcome, RecordsEnd, uneven, ragged, layout_of_file, too_long, layout_refused, query_refused, layout_file_limit}
+use Rattle.fm_top.specs.Outcome.{Outcome, RecordsEnd, uneven, even, ragged, layout_of_file, too_long, layout_refused, query_refused, layout_file_limit}
 use Rattle.fm_top.specs.Queries.{IsLayoutRefused, IsUnplanned, TextEnds, unplanned, AskEnds, bad_layout}
 use Rattle.fm_top.specs.Run.{HasOutcome}
 use Rattle.fm_top_load.specs.Whole.{IsWhole, IsOver}
 use Rattle.fm_top.specs.Words.{Ask}
+use Rattle.fm_top.specs.declared.outcome.ending.Ending.{Ending}
 use Rattle.fm_top.specs.declared.command.layout_text.LayoutText.{LayoutText}
 use Rattle.fm_top.specs.declared.command.question.Question.{Question}
 
@@ -74,8 +78,21 @@ module _ (q : Question) (text file : List ℕ) (found : Option (List ℕ)) (o : 
   pub refused-text : (t : Tree) (e : Refusal) → (e ≢ Memory → IsUnplanned q text t e) → e ≢ Memory → o ≡ query_refused e → TextEnds q text t file found o
   refused-text t e denied other is = subst (λ (x : Outcome). TextEnds q text t file found x) (sym is) (unplanned e (denied other))
 
--- an end over a ragged file
-pub records-rest : (size rest : ℕ) (file : List ℕ) (Answers : List ℕ → Outcome → Type 0) (bytes : List ℕ) (o : Outcome)
-    → length bytes ≤ record_file_limit → rest ≡ length bytes % size → (rest ≡ 0 → ⊥) → o ≡ ragged rest → RecordsEnd size file Answers (Some bytes) o
-records-rest size rest file Answers bytes o short same some is =
-    subst (λ (x : Outcome). RecordsEnd size file Answers (Some bytes) x) (sym (is ∙ ap ragged same)) (uneven bytes short (λ whole. some (same ∙ whole)))
+-- the rest of so many bytes behind the last whole record was taken
+module _ (size : ℕ) (bytes : List ℕ) (Answers : List ℕ → Outcome → Type 0) {n rest : ℕ} (short : length bytes ≤ record_file_limit)
+    (is_rest : rest ≡ n % size) (is_count : n ≡ length bytes) where
+  same_rest : rest ≡ length bytes % size
+  same_rest = is_rest ∙ ap (λ (m : ℕ). m % size) is_count
+
+  -- there is one, and the run ends so
+  pub ragged_ends : (end : Result Ending AllocError) → (rest ≡ 0 → ⊥) → IfOk end (λ ending. shown ending ≡ ragged rest)
+      → IfOk end (λ ending. (file : List ℕ) → RecordsEnd size file Answers (Some bytes) (shown ending))
+  ragged_ends end some ends = IfOk-weaker end _ _ (λ ending is file.
+      subst (λ (o : Outcome). RecordsEnd size file Answers (Some bytes) o) (sym (is ∙ ap ragged same_rest))
+      (uneven bytes short (λ whole. some (same_rest ∙ whole)))) ends
+
+  -- there is none, and the run answers
+  pub even_ends : (end : Result Ending AllocError) → rest ≡ 0 → IfOk end (λ ending. Answers bytes (shown ending))
+      → IfOk end (λ ending. (file : List ℕ) → RecordsEnd size file Answers (Some bytes) (shown ending))
+  even_ends end none ends =
+      IfOk-weaker end _ _ (λ ending answers file. even bytes (shown ending) short (sym same_rest ∙ none) answers) ends

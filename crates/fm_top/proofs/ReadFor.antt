@@ -1,5 +1,6 @@
 -- What is read for a request.
 use Rattle.std.proofs.Common.{◌≡◌, ℕ, List, [], ◌∷◌, ◌++◌, Option, None, Some, refl, sym, ap, subst}
+use Rattle.std.proofs.lemmas.List.{append-nil}
 use Rattle.fm_io.specs.Files.{Contents}
 use Rattle.fm_io.specs.Reads.{Read, ReadsOn, Next, Ended}
 use Rattle.fm_io.proofs.Followed.{ReadsOn-none, ReadsOn-append}
@@ -12,10 +13,6 @@ use Rattle.fm_top.specs.Reading.{ReadsIf, AreReadsOf, first_limit, ReadsFor}
 use Rattle.fm_top_load.specs.Whole.{IsWhole}
 use Rattle.fm_top.specs.Words.{Request, Ask, first_file, last_file}
 use Rattle.fm_top.specs.declared.command.question.Question.{Question}
-
-append_nil : (xs : List Read) → xs ++ [] ≡ xs
-append_nil [] = refl
-append_nil (x ∷ xs) = ap (λ ys. x ∷ ys) (append_nil xs)
 
 none_of : (name : Option (List ℕ)) (limit : ℕ) → AreReadsOf name limit []
 none_of None limit = refl
@@ -46,7 +43,7 @@ read_since so reads = record { reads = reads.reads; noted = reads.noted; follow 
 
 -- one file was read
 only_first : (old new : Option (List Read)) (reads : List Read) → ReadsOn old new reads → ReadsOn old new (reads ++ [])
-only_first old new reads noted = subst (λ (rs : List Read). ReadsOn old new rs) (sym (append_nil reads)) noted
+only_first old new reads noted = subst (λ (rs : List Read). ReadsOn old new rs) (sym (append-nil reads)) noted
 
 pub first_reads : (request : Request) (told : Option Contents) {old new : Option (List Read)} {name : List ℕ} {P : Type 0}
     → first_file request ≡ Some name → ReadsIf old new name (first_limit request) P → ReadsFor request told old new

@@ -63,25 +63,19 @@ same_word words command command' threads threads' names names' a b =
     cc
 
 -- words that begin otherwise are others
-other_letter : (n m q t : ℕ) → (q ≡ t → ⊥) → n ≡ q → m ≡ t → n ≡ m → ⊥
-other_letter n m q t other is_q is_t same = other (sym is_q ∙ same ∙ is_t)
+other_words : (v w : List ℕ) → (get_or v 0 0 ≡ get_or w 0 0 → ⊥) → v ≡ w → ⊥
+other_words v w other same = other (ap (λ (x : List ℕ). get_or x 0 0) same)
 
 one_question : (q r : Question) → question_word q ≡ question_word r → q ≡ r
 one_question Query Query is = refl
-one_question Query Tally is =
-    absurd (other_letter (get_or (codes "query") 0 0) (get_or (codes "tally") 0 0) 113 116 (λ e. omega (arith, e)) refl refl
-    (ap (λ (w : List ℕ). get_or w 0 0) is))
-one_question Tally Query is =
-    absurd (other_letter (get_or (codes "query") 0 0) (get_or (codes "tally") 0 0) 113 116 (λ e. omega (arith, e)) refl refl
-    (sym (ap (λ (w : List ℕ). get_or w 0 0) is)))
+one_question Query Tally is = absurd (other_words (codes "query") (codes "tally") (λ (e : 113 ≡ 116). omega (arith, e)) is)
+one_question Tally Query is = absurd (other_words (codes "tally") (codes "query") (λ (e : 116 ≡ 113). omega (arith, e)) is)
 one_question Tally Tally is = refl
 
 one_text : (t u : LayoutText) → layout_word t ≡ layout_word u → t ≡ u
 one_text Places Places is = refl
-one_text Places Json is = absurd (other_letter (get_or (codes "layout") 0 0) (get_or (codes "migrate") 0 0) 108 109 (λ e. omega (arith, e)) refl refl
-    (ap (λ (w : List ℕ). get_or w 0 0) is))
-one_text Json Places is = absurd (other_letter (get_or (codes "layout") 0 0) (get_or (codes "migrate") 0 0) 108 109 (λ e. omega (arith, e)) refl refl
-    (sym (ap (λ (w : List ℕ). get_or w 0 0) is)))
+one_text Places Json is = absurd (other_words (codes "layout") (codes "migrate") (λ (e : 108 ≡ 109). omega (arith, e)) is)
+one_text Json Places is = absurd (other_words (codes "migrate") (codes "layout") (λ (e : 109 ≡ 108). omega (arith, e)) is)
 one_text Json Json is = refl
 
 same_layout : (words : List (List ℕ)) (text text' : LayoutText) (file file' : List ℕ) → IsLayout words text file → IsLayout words text' file'

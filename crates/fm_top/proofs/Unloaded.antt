@@ -6,12 +6,11 @@ use Rattle.fm_io.specs.Count.{Rose}
 use Rattle.fm_io.specs.Files.{Contents, IsAbsent}
 use Rattle.fm_io.specs.declared.fault.Fault.{Fault}
 use Rattle.fm_io.specs.declared.fault.Fault.TheVariants as fault
-use Rattle.fm_top.specs.Ending.{shown, TellsMisses}
+use Rattle.fm_io.specs.View.{FilesView}
+use Rattle.fm_top.specs.Ending.{EndsUnloaded, shown, TellsMisses}
 use Rattle.fm_top.specs.Ends.{EndsFile}
 use Rattle.fm_top.specs.Found.{OfFound}
 use Rattle.fm_top.specs.Outcome.{Outcome, missing, too_long}
-use Rattle.fm_io.specs.View.{FilesView}
-use Rattle.fm_top.specs.Unloaded.{EndsUnloaded}
 use Rattle.fm_top_load.specs.Reading.{ReadsSome}
 use Rattle.fm_top_load.specs.Whole.{IsOver, IsWhole, TellsLoad}
 use Rattle.fm_top_load.proofs.Telling.{read_quietly}
@@ -32,9 +31,7 @@ unloaded told name limit P Missing o none long absent over ends = (None, absent 
 unloaded told name limit P TooLong o none long absent over ends =
     let found = long_found told name limit (over refl) in
     (Some found.0, found.1, subst (λ (x : Outcome). P (Some found.0) x) (sym ends) (long found.0 found.2))
-unloaded told name limit P Failed o none long absent over ends = absurd ends
-unloaded told name limit P Memory o none long absent over ends = absurd ends
-unloaded told name limit P PoolFull o none long absent over ends = absurd ends
+unloaded told name limit P fault o none long absent over ends = absurd ends
 
 -- the end tells of a missing file just where the file was missing
 tells : (before now : ℕ) (name : List ℕ) (fault : LoadFault) (end : Result Ending Fault) → (fault ≡ Missing → Rose before now)
@@ -46,13 +43,8 @@ tells before now name Missing (Err stop) rose same ends told = absurd (let ok = 
 tells before now name TooLong (Ok ending) rose same ends told =
     let long : ending.status ≡ status.TooLong = ap (λ (o : Outcome). o.status) ends in
     record { rose = λ is. absurd (cc); well = λ other. same (λ e. absurd (cc)) }
-tells before now name TooLong (Err stop) rose same ends told = same (λ e. absurd (cc))
-tells before now name Failed (Ok ending) rose same ends told = absurd ends
-tells before now name Failed (Err stop) rose same ends told = same (λ e. absurd (cc))
-tells before now name Memory (Ok ending) rose same ends told = absurd ends
-tells before now name Memory (Err stop) rose same ends told = same (λ e. absurd (cc))
-tells before now name PoolFull (Ok ending) rose same ends told = absurd ends
-tells before now name PoolFull (Err stop) rose same ends told = same (λ e. absurd (cc))
+tells before now name fault (Ok ending) rose same ends told = absurd ends
+tells before now name fault (Err stop) rose same ends told = same (λ e. absurd (cc))
 
 -- what the load of a file tells, whatever it came to
 module _ {old new : FilesView} {name : List ℕ} {limit : ℕ} {Has : Option (List ℕ) → Outcome → Type 0} (reads : ReadsSome old.reads new.reads name limit) where

@@ -3,11 +3,13 @@ use Rattle.std.specs.Prelude.{◌≡◌, ◌≢◌, ℕ, List, ◌++◌, Result,
 use Rattle.fm_io.specs.Count.{Rose}
 use Rattle.fm_io.specs.declared.fault.Fault.{Fault}
 use Rattle.fm_records.specs.Texts.{answer_text}
-use Rattle.fm_top.specs.Outcome.{Outcome, missing}
+use Rattle.fm_top.specs.Outcome.{Outcome, missing, too_long}
 use Rattle.fm_top.specs.declared.outcome.answered.Answered.{Answered}
 use Rattle.fm_top.specs.declared.outcome.ending.Ending.{Ending}
 use Rattle.fm_top.specs.declared.outcome.status.Status.{Status}
 use Rattle.fm_top.specs.declared.outcome.status.Status.TheVariants.{Missing}
+use Rattle.fm_top_load.specs.declared.load_fault.LoadFault.{LoadFault}
+use Rattle.fm_top_load.specs.declared.load_fault.LoadFault.TheVariants as fault
 use Rattle.fm_top.specs.declared.outcome.text.Text.{Text}
 use Rattle.fm_top.specs.declared.outcome.text.Text.TheVariants.{Whole, Bytes, NoFile, Answer, Both}
 
@@ -33,3 +35,11 @@ pub record TellsMiss (before now : ℕ) (status : Status) : Type 0 where
 abbrev pub TellsMisses : ℕ → ℕ → Result Ending Fault → Type 0
 TellsMisses before now (Ok ending) = TellsMiss before now ending.status
 TellsMisses before now (Err fault) = now ≡ before
+
+-- how it ends where a file of this name wasn't loaded: after a failed read, and for want of memory, it has no such end
+abbrev pub EndsUnloaded : LoadFault → List ℕ → Outcome → Type 0
+EndsUnloaded fault.Missing name o = o ≡ missing name
+EndsUnloaded fault.TooLong name o = o ≡ too_long
+EndsUnloaded fault.Failed name o = ⊥
+EndsUnloaded fault.Memory name o = ⊥
+EndsUnloaded fault.PoolFull name o = ⊥

@@ -13,7 +13,5 @@ pub mod Reading
 pub mod Records
 pub mod Run
 pub mod Scripts
-pub mod Statuses
 pub mod Tallies
-pub mod Unloaded
 pub mod Words

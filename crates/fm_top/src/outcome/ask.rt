@@ -10,8 +10,8 @@ ghost use Rattle.fm_workers.specs.Counts.{IsTally};
 use crate::command::{AskCommand, Question};
 use crate::outcome::ending::Ending;
 use crate::outcome::plan::plan_for;
-use crate::outcome::query::query_ending;
-use crate::outcome::tally::tally_ending;
+use crate::outcome::query::queried_ending;
+use crate::outcome::tally::tallied_ending;
 use crate::outcome::unloaded::unloaded_ending;
 use crate::outcome::wanting::but_for_memory;
 use fm_base::Refusal;
@@ -20,6 +20,7 @@ use fm_layout::Layout;
 use fm_ljson::layout_from_json;
 use fm_records_query::{Query, check_record};
 use fm_top_load::{LAYOUT_FILE_LIMIT, RECORD_FILE_LIMIT, read_whole};
+use fm_top_pooled::{Pooled, PooledWithCounts};
 use std::alloc::Global;
 use std::sync::Wait;
 use std::thread::Threads;
@@ -121,8 +122,15 @@ fn plan_ending<'a, R: Threads + Wait + Sync, F: Files, G: Gate>(
         (F.view files.new) result }
 {
     let threads = ask.threads as u32;
+    let guess = files.guess(ask.file);
     match ask.question {
-        Question::Query => query_ending(rt, alloc, files, ask.file, plan, threads, gate),
-        Question::Tally => tally_ending(rt, alloc, files, ask.file, &plan, threads, gate),
+        Question::Query => match Pooled::load(rt, alloc, files, ask.file, guess) {
+            Ok(pooled) => Ok(queried_ending(rt, alloc, pooled, plan, threads, gate)?),
+            Err(fault) => unloaded_ending(alloc, ask.file, fault),
+        },
+        Question::Tally => match PooledWithCounts::load(rt, alloc, files, ask.file, guess) {
+            Ok(pooled) => Ok(tallied_ending(rt, alloc, pooled, &plan, threads, gate)?),
+            Err(fault) => unloaded_ending(alloc, ask.file, fault),
+        },
     }
 }

@@ -1,6 +1,5 @@
-ghost use Rattle.std.specs.Prelude.{◌≡◌, ◌%◌, ◌≤◌, ⊤, ℕ, List, Some, length, IfOk};
+ghost use Rattle.std.specs.Prelude.{◌≡◌, ◌%◌, ◌≤◌, ℕ, List, Some, length, IfOk};
 ghost use Rattle.fm_top.specs.Ending.{shown};
-ghost use Rattle.fm_top.specs.Ends.{EndsFile};
 ghost use Rattle.fm_top.specs.Queries.{IsAnswered, PlanEnds};
 ghost use Rattle.fm_top.specs.Words.{AreThreads};
 ghost use Rattle.fm_top.specs.declared.command.question.Question.TheVariants as question;
@@ -9,8 +8,7 @@ use crate::outcome::answered::Answered;
 use crate::outcome::ending::Ending;
 use crate::outcome::plan::rest_of;
 use crate::outcome::text::Text;
-use crate::outcome::unloaded::unloaded_ending;
-use fm_io::{Fault, Files, Gate};
+use fm_io::Gate;
 use fm_records_query::Query;
 use fm_top_load::RECORD_FILE_LIMIT;
 use fm_top_pooled::Pooled;
@@ -18,30 +16,8 @@ use std::alloc::{AllocError, Global};
 use std::sync::Wait;
 use std::thread::Threads;
 
-/// Reads the record file, of which the query asks.
-pub fn query_ending<'a, R: Threads + Wait + Sync, F: Files, G: Gate>(
-    rt: &R,
-    alloc: Global,
-    files: &mut F,
-    file: &'a str,
-    q: Query,
-    threads: u32,
-    gate: &G,
-) -> Result<Ending<'a>, Fault>
-    requires { AreThreads threads }
-    ensures { EndsFile file.now RECORD_FILE_LIMIT ⊤ (PlanEnds question.Query q file.now)
-        (F.view files.old)
-        (F.view files.new) result }
-{
-    let guess = files.guess(file);
-    match Pooled::load(rt, alloc, files, file, guess) {
-        Ok(pooled) => Ok(queried_ending(rt, alloc, pooled, q, threads, gate)?),
-        Err(fault) => unloaded_ending(alloc, file, fault),
-    }
-}
-
 /// How the query ends over these bytes.
-fn queried_ending<'a, R: Threads + Wait + Sync, G: Gate>(
+pub fn queried_ending<'a, R: Threads + Wait + Sync, G: Gate>(
     rt: &R,
     alloc: Global,
     pooled: Pooled,

@@ -1,4 +1,4 @@
-ghost use Rattle.std.specs.Prelude.{◌≤◌, ⊤, IfOk, None, Some, length};
+ghost use Rattle.std.specs.Prelude.{◌≤◌, ⊤, IfOk, List, None, Some, length, ℕ};
 ghost use Rattle.fm_top.specs.Ending.{shown};
 ghost use Rattle.fm_top.specs.Ends.{EndsFile};
 ghost use Rattle.fm_top.specs.Outcome.{SumEnds};
@@ -41,8 +41,8 @@ fn loaded_ending<'a>(
 ) -> Result<Ending<'a>, AllocError>
     requires value { HasValue sum.now.size sum.now.at sum.now.kind }
     requires short { length loaded.old ≤ RECORD_FILE_LIMIT }
-    ensures { IfOk result (λ ending.
-        SumEnds sum.now.size sum.now.at sum.now.kind sum.now.file.now (Some loaded.old) (shown ending)) }
+    ensures { IfOk result (λ ending. (file : List ℕ) →
+        SumEnds sum.now.size sum.now.at sum.now.kind file (Some loaded.old) (shown ending)) }
 {
     let rest = loaded.len() % sum.size;
     if rest == 0 {

@@ -1,6 +1,5 @@
-ghost use Rattle.std.specs.Prelude.{◌≡◌, ◌%◌, ◌≤◌, ⊤, ℕ, List, Some, length, IfOk};
+ghost use Rattle.std.specs.Prelude.{◌≡◌, ◌%◌, ◌≤◌, ℕ, List, Some, length, IfOk};
 ghost use Rattle.fm_top.specs.Ending.{shown};
-ghost use Rattle.fm_top.specs.Ends.{EndsFile};
 ghost use Rattle.fm_top.specs.Queries.{IsAnswered, PlanEnds};
 ghost use Rattle.fm_top.specs.Words.{AreThreads};
 ghost use Rattle.fm_top.specs.declared.command.question.Question.TheVariants as question;
@@ -9,8 +8,7 @@ ghost use Rattle.fm_workers.specs.Counts.{IsTally};
 use crate::outcome::ending::Ending;
 use crate::outcome::plan::rest_of;
 use crate::outcome::text::Text;
-use crate::outcome::unloaded::unloaded_ending;
-use fm_io::{Fault, Files, Gate};
+use fm_io::Gate;
 use fm_records_query::Query;
 use fm_top_load::RECORD_FILE_LIMIT;
 use fm_top_pooled::PooledWithCounts;
@@ -19,31 +17,8 @@ use std::alloc::{AllocError, Global};
 use std::sync::Wait;
 use std::thread::Threads;
 
-/// Reads the record file, whose bytes or booleans are counted.
-pub fn tally_ending<'a, R: Threads + Wait + Sync, F: Files, G: Gate>(
-    rt: &R,
-    alloc: Global,
-    files: &mut F,
-    file: &'a str,
-    q: &Query,
-    threads: u32,
-    gate: &G,
-) -> Result<Ending<'a>, Fault>
-    requires threads { AreThreads threads }
-    requires tally { IsTally q.now }
-    ensures { EndsFile file.now RECORD_FILE_LIMIT ⊤ (PlanEnds question.Tally q.now file.now)
-        (F.view files.old)
-        (F.view files.new) result }
-{
-    let guess = files.guess(file);
-    match PooledWithCounts::load(rt, alloc, files, file, guess) {
-        Ok(pooled) => Ok(tallied_ending(rt, alloc, pooled, q, threads, gate)?),
-        Err(fault) => unloaded_ending(alloc, file, fault),
-    }
-}
-
 /// How the tally ends over these bytes.
-fn tallied_ending<'a, R: Threads + Wait + Sync, G: Gate>(
+pub fn tallied_ending<'a, R: Threads + Wait + Sync, G: Gate>(
     rt: &R,
     alloc: Global,
     pooled: PooledWithCounts,

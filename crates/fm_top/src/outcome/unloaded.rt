@@ -1,6 +1,5 @@
 ghost use Rattle.std.specs.Prelude.{◌≡◌, ◌≢◌, ◌↔◌, IfOk, IsOk, Err};
-ghost use Rattle.fm_top.specs.Ending.{shown};
-ghost use Rattle.fm_top.specs.Unloaded.{EndsUnloaded};
+ghost use Rattle.fm_top.specs.Ending.{EndsUnloaded, shown};
 
 use crate::outcome::ending::Ending;
 use fm_io::Fault;

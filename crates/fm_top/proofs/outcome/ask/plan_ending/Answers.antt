@@ -1,15 +1,39 @@
-use Rattle.std.proofs.Common.{sym, subst}
-use Rattle.fm_top.specs.Queries.{PlanEnds}
-use Rattle.fm_top.specs.declared.command.question.Question.{Question}
-use Rattle.fm_top.proofs.Ends.{ends_as}
+use Rattle.std.proofs.Common.{rules, Some, refl}
+use Rattle.fm_top.specs.Ending.{shown}
+use Rattle.fm_top.specs.Outcome.{no_file, too_many}
+use Rattle.fm_top.specs.declared.command.question.Question.TheVariants.{Query, Tally}
+use Rattle.fm_top.proofs.Ends.{plan_found}
+use Rattle.fm_top.proofs.Unloaded.{found_ends, unloaded_ends, wanting_ends}
 use Rattle.fm_top.proofs.outcome.ask.plan_ending.Goals as goal
+
+pub returns-in-Ok : goal.returns-in-Ok
+returns-in-Ok g c =
+    let load = c.in-Ok.ensures in
+    let file = c.args.ask.now.file.now in
+    let ends = c.in_ok-queried_ending-in-Ok.ensures file in
+    rw c.in-Query.is (found_ends load.reads load.tells c.in-Ok.pooled load.whole ends
+    (plan_found Query c.args.plan file c.in-Ok.pooled (Some c.in-Ok.pooled) (shown c.in_ok-queried_ending-in-Ok.field-0) refl ends))
+
+pub returns-in_err-queried_ending-in-Ok : goal.returns-in_err-queried_ending-in-Ok
+returns-in_err-queried_ending-in-Ok g c = let load = c.in-Ok.ensures in wanting_ends load.reads load.tells (search rules)
 
 pub returns-in-Query : goal.returns-in-Query
 returns-in-Query g c =
-    ends_as (λ none. none) (λ found o is. subst (λ (q : Question). PlanEnds q c.args.plan c.args.ask.now.file.now found o) (sym c.in-Query.is) is)
-    c.query_ending.ensures
+    let load = c.in-Err.ensures in let end = c.unloaded_ending.ensures in
+    unloaded_ends load.reads load.tells end.ending end.told end.failed no_file (λ bytes over. too_many bytes over)
+
+pub returns-in-Ok-load : goal.returns-in-Ok-load
+returns-in-Ok-load g c =
+    let load = c.in-Ok-load.ensures in
+    let file = c.args.ask.now.file.now in
+    let ends = c.in_ok-tallied_ending-in-Ok-load.ensures file in
+    rw c.in-Tally.is (found_ends load.reads load.tells c.in-Ok-load.pooled load.whole ends
+    (plan_found Tally c.args.plan file c.in-Ok-load.pooled (Some c.in-Ok-load.pooled) (shown c.in_ok-tallied_ending-in-Ok-load.field-0) refl ends))
+
+pub returns-in_err-tallied_ending-in-Ok-load : goal.returns-in_err-tallied_ending-in-Ok-load
+returns-in_err-tallied_ending-in-Ok-load g c = let load = c.in-Ok-load.ensures in wanting_ends load.reads load.tells (search rules)
 
 pub returns : goal.returns
 returns g c =
-    ends_as (λ none. none) (λ found o is. subst (λ (q : Question). PlanEnds q c.args.plan c.args.ask.now.file.now found o) (sym c.in-Tally.is) is)
-    c.tally_ending.ensures
+    let load = c.in-Err-load.ensures in let end = c.unloaded_ending-in-Err-load.ensures in
+    unloaded_ends load.reads load.tells end.ending end.told end.failed no_file (λ bytes over. too_many bytes over)

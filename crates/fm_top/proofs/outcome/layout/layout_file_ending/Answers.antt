@@ -11,19 +11,14 @@ pub returns-in_ok-bytes_ending-in-Ok : goal.returns-in_ok-bytes_ending-in-Ok
 returns-in_ok-bytes_ending-in-Ok g c =
     let load = c.in-Ok.ensures in
     let layout = c.args.layout.now in
-    let ending = c.in_ok-bytes_ending-in-Ok.field-0 in
     let ends = c.in_ok-bytes_ending-in-Ok.ensures ∙ ap (layout_of_file layout.text) c.deref.ensures.value in
-    found_ends load.reads load.tells c.in-Ok.bytes.items load.whole
-    ends
-    (first_found (Layout layout.text layout.file.now) c.in-Ok.bytes.items None (shown ending) (λ lacks. absurd (cc)) ends)
+    found_ends load.reads load.tells c.in-Ok.bytes.items load.whole ends
+    (first_found (Layout layout.text layout.file.now) c.in-Ok.bytes.items None (shown c.in_ok-bytes_ending-in-Ok.field-0) (λ lacks. absurd (cc)) ends)
 
 pub returns-in_err-bytes_ending-in-Ok : goal.returns-in_err-bytes_ending-in-Ok
-returns-in_err-bytes_ending-in-Ok g c =
-    let load = c.in-Ok.ensures in
-    wanting_ends load.reads load.tells (search rules)
+returns-in_err-bytes_ending-in-Ok g c = let load = c.in-Ok.ensures in wanting_ends load.reads load.tells (search rules)
 
 pub returns-in-Err : goal.returns-in-Err
 returns-in-Err g c =
-    let load = c.in-Err.ensures in
-    let end = c.unloaded_ending.ensures in
+    let load = c.in-Err.ensures in let end = c.unloaded_ending.ensures in
     unloaded_ends load.reads load.tells end.ending end.told end.failed refl (λ bytes over. sym (long_layout_ends c.args.layout.now.text bytes over))

@@ -9,19 +9,15 @@ use Rattle.fm_top.proofs.outcome.script.script_ending.Goals as goal
 pub returns-in_ok-bytes_ending-in-Ok : goal.returns-in_ok-bytes_ending-in-Ok
 returns-in_ok-bytes_ending-in-Ok g c =
     let load = c.in-Ok.ensures in
-    let ending = c.in_ok-bytes_ending-in-Ok.field-0 in
-    let ends = subst (λ (bytes : List ℕ). ScriptEnds c.args.file.now (Some bytes) (shown ending)) c.deref.ensures.value c.in_ok-bytes_ending-in-Ok.ensures in
-    found_ends load.reads load.tells c.in-Ok.bytes.items load.whole
-    ends
-    (first_found (Run c.args.file.now) c.in-Ok.bytes.items None (shown ending) (λ lacks. absurd (cc)) ends)
+    let o = shown c.in_ok-bytes_ending-in-Ok.field-0 in
+    let ends = subst (λ (bytes : List ℕ). ScriptEnds c.args.file.now (Some bytes) o) c.deref.ensures.value c.in_ok-bytes_ending-in-Ok.ensures in
+    found_ends load.reads load.tells c.in-Ok.bytes.items load.whole ends
+    (first_found (Run c.args.file.now) c.in-Ok.bytes.items None o (λ lacks. absurd (cc)) ends)
 
 pub returns-in_err-bytes_ending-in-Ok : goal.returns-in_err-bytes_ending-in-Ok
-returns-in_err-bytes_ending-in-Ok g c =
-    let load = c.in-Ok.ensures in
-    wanting_ends load.reads load.tells (search rules)
+returns-in_err-bytes_ending-in-Ok g c = let load = c.in-Ok.ensures in wanting_ends load.reads load.tells (search rules)
 
 pub returns-in-Err : goal.returns-in-Err
 returns-in-Err g c =
-    let load = c.in-Err.ensures in
-    let end = c.unloaded_ending.ensures in
+    let load = c.in-Err.ensures in let end = c.unloaded_ending.ensures in
     unloaded_ends load.reads load.tells end.ending end.told end.failed no_script (λ bytes over. long_script bytes over)

@@ -10,18 +10,14 @@ pub returns-in_ok-loaded_ending-in-Ok : goal.returns-in_ok-loaded_ending-in-Ok
 returns-in_ok-loaded_ending-in-Ok g c =
     let load = c.in-Ok.ensures in
     let sum = c.args.sum.now in
-    let ending = c.in_ok-loaded_ending-in-Ok.field-0 in
-    found_ends load.reads load.tells c.in-Ok.loaded load.whole
-    c.in_ok-loaded_ending-in-Ok.ensures
-    (first_found (Sum sum.size sum.at sum.kind sum.file.now) c.in-Ok.loaded None (shown ending) (λ lacks. absurd (cc)) c.in_ok-loaded_ending-in-Ok.ensures)
+    let ends = c.in_ok-loaded_ending-in-Ok.ensures sum.file.now in
+    found_ends load.reads load.tells c.in-Ok.loaded load.whole ends
+    (first_found (Sum sum.size sum.at sum.kind sum.file.now) c.in-Ok.loaded None (shown c.in_ok-loaded_ending-in-Ok.field-0) (λ lacks. absurd (cc)) ends)
 
 pub returns-in_err-loaded_ending-in-Ok : goal.returns-in_err-loaded_ending-in-Ok
-returns-in_err-loaded_ending-in-Ok g c =
-    let load = c.in-Ok.ensures in
-    wanting_ends load.reads load.tells (search rules)
+returns-in_err-loaded_ending-in-Ok g c = let load = c.in-Ok.ensures in wanting_ends load.reads load.tells (search rules)
 
 pub returns-in-Err : goal.returns-in-Err
 returns-in-Err g c =
-    let load = c.in-Err.ensures in
-    let end = c.unloaded_ending.ensures in
+    let load = c.in-Err.ensures in let end = c.unloaded_ending.ensures in
     unloaded_ends load.reads load.tells end.ending end.told end.failed no_file (λ bytes over. too_many bytes over)
