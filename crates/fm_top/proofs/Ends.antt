@@ -1,12 +1,12 @@
 -- How ends follow from one another.
-use Rattle.std.proofs.Common.{◌≡◌, ◌≢◌, ℕ, List, length, Option, None, Some, Result, Ok, Err, refl, ap, sym, subst, ◌∙◌, arith}
+use Rattle.std.proofs.Common.{◌≡◌, ℕ, List, Option, Some, Result, Ok, Err, refl, ap, sym, subst, ◌∙◌, arith}
 use Rattle.std.proofs.lemmas.Result.{IfOk-weaker}
 use Rattle.fm_io.specs.declared.fault.Fault.{Fault}
 use Rattle.fm_io.specs.declared.fault.Fault.TheVariants.{Failed, Memory}
 use Rattle.fm_top.specs.Causes.{LacksFile}
 use Rattle.fm_top.specs.Ending.{shown, TellsMisses}
 use Rattle.fm_top.specs.Ends.{EndsFile, EndsRequest, ShowsFiles}
-use Rattle.fm_top.specs.Found.{OfFile, OfFound}
+use Rattle.fm_top.specs.Found.{OfFile}
 use Rattle.fm_top.specs.Outcome.{Outcome, no_file, too_many, uneven, even}
 use Rattle.fm_top.specs.Queries.{PlanEnds}
 use Rattle.fm_records_query.specs.Plan.{Plan}

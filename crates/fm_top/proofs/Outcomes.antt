@@ -1,7 +1,7 @@
 -- Which outcome a request has.
 use Rattle.std.proofs.Common.{◌≡◌, ◌≢◌, ◌⊎◌, inl, inr, ℕ, suc, ◌%◌, ◌<◌, ◌≤◌, List, ap, length, replicate, Option, None, Some, true, sym, ◌∙◌, subst, refl, arith}
 use Rattle.std.proofs.lemmas.List.{length-replicate}
-use Rattle.std.specs.Prelude.{IsSomeAnd, nat_lt, Result, Ok, Err, IfOk}
+use Rattle.std.specs.Prelude.{IsSomeAnd, nat_lt, Result, IfOk}
 use Rattle.std.proofs.lemmas.Bool.Decides.{Decides-ltb}
 use Rattle.std.proofs.lemmas.Result.{IfOk-weaker}
 use Rattle.std.specs.declared.alloc.AllocError.{AllocError}
@@ -16,7 +16,7 @@ use Rattle.fm_top.specs.Outcome.{Outcome, RecordsEnd, uneven, even, ragged, layo
 use Rattle.fm_top.specs.Queries.{IsLayoutRefused, IsUnplanned, TextEnds, unplanned, AskEnds, bad_layout}
 use Rattle.fm_top.specs.Run.{HasOutcome}
 use Rattle.fm_top_load.specs.Whole.{IsWhole, IsOver}
-use Rattle.fm_top.specs.Words.{Layout, Ask}
+use Rattle.fm_top.specs.Words.{Ask}
 use Rattle.fm_top.specs.declared.outcome.ending.Ending.{Ending}
 use Rattle.fm_top.specs.declared.command.layout_text.LayoutText.{LayoutText}
 use Rattle.fm_top.specs.declared.command.question.Question.{Question}

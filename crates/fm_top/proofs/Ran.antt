@@ -6,10 +6,9 @@ use Rattle.fm_io.specs.Files.{Contents}
 use Rattle.fm_io.specs.declared.fault.Fault.{Fault}
 use Rattle.fm_top.specs.Causes.{OverFiles}
 use Rattle.fm_top.specs.Ending.{shown}
-use Rattle.fm_top.specs.Ends.{EndsWords, ShowsFiles}
+use Rattle.fm_top.specs.Ends.{EndsWords}
 use Rattle.fm_top.specs.Outcome.{Outcome}
 use Rattle.fm_top.specs.Ran.{Ran}
-use Rattle.fm_top.specs.Reading.{ReadsFor}
 use Rattle.fm_top.specs.Run.{HasOutcome, IsOutcome, faulty, asked, Traces, printed, failed, stopped, Runs, ended, unread, unknown, IsValid, Answers, is_answered, cut_short, wants_memory, Prints, TellsMissing, code_of, traces_of}
 use Rattle.fm_top.specs.Told.{FilesTold, SinkTold}
 use Rattle.fm_top.specs.Words.{Request, Asks}

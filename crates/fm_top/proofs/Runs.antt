@@ -1,7 +1,6 @@
 -- How runs end.
 use Rattle.std.proofs.Common.{◌≡◌, ◌≢◌, ℕ, List, [], ◌∷◌, get_or, Option, None, Some, refl, sym, ap, ◌∙◌, inl, inr}
 use Rattle.std.specs.Prelude.{◌⊎◌}
-use Rattle.fm_io.specs.Count.{Rose, Raised}
 use Rattle.fm_io.specs.Files.{Contents}
 use Rattle.fm_top.specs.Ending.{TellsMiss}
 use Rattle.fm_top.specs.Found.{OfFile}

@@ -7,14 +7,14 @@ use Rattle.fm_io.specs.Files.{Contents, IsAbsent}
 use Rattle.fm_io.specs.declared.fault.Fault.{Fault}
 use Rattle.fm_io.specs.declared.fault.Fault.TheVariants as fault
 use Rattle.fm_top.specs.Ending.{EndsUnloaded, shown, TellsMisses}
-use Rattle.fm_top.specs.Ends.{EndsFile, ShowsFiles}
+use Rattle.fm_top.specs.Ends.{EndsFile}
 use Rattle.fm_top.specs.Found.{OfFound}
 use Rattle.fm_top.specs.Outcome.{Outcome, missing, too_long}
 use Rattle.fm_top.specs.Told.{FilesTold}
 use Rattle.fm_top_load.specs.Reading.{ReadsSome}
 use Rattle.fm_top_load.specs.Whole.{IsOver, IsWhole}
 use Rattle.fm_top_load.specs.declared.load_fault.LoadFault.{LoadFault}
-use Rattle.fm_top_load.specs.declared.load_fault.LoadFault.TheVariants.{Missing, Failed, TooLong, Memory, PoolFull}
+use Rattle.fm_top_load.specs.declared.load_fault.LoadFault.TheVariants.{Missing, Failed, TooLong}
 use Rattle.fm_top.specs.declared.outcome.ending.Ending.{Ending}
 use Rattle.fm_top.specs.declared.outcome.status.Status.TheVariants as status
 use Rattle.fm_top.proofs.Ends.{shows_found, shows_wanting}
