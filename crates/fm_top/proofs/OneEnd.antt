@@ -163,11 +163,8 @@ request_once (Run file) contents o x one a b = absurd one
 
 -- words that run no script ask for another thing
 is_one : (words : List (List ℕ)) (request : Request) → ((file : List ℕ) → IsRun words file → ⊥) → Asks words request → IsOne request
-is_one words (Sum size at kind file) none asks = tt
-is_one words (Layout text file) none asks = tt
-is_one words (Ask q threads layout text file) none asks = tt
-is_one words (Demo threads count) none asks = tt
 is_one words (Run file) none asks = none file asks
+is_one words request none asks = tt
 
 -- words print one outcome over files that tell
 pub one_outcome : HaveOneOutcome

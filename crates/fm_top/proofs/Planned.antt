@@ -1,13 +1,10 @@
 -- What texts come to.
-use Rattle.std.proofs.Common.{◌≡◌, ◌≢◌, ℕ, List, Bool, true, false, Result, Ok, Err, IfOk, IfErr, subst, sym, ◌∙◌}
+use Rattle.std.proofs.Common.{◌≡◌, ℕ, List, Bool, true, false, Result, Ok, Err, IfOk, IfErr, subst, sym, ◌∙◌}
 use Rattle.std.specs.Prelude.{MatchBool}
-use Rattle.fm_base.specs.declared.refusal.Refusal.{Refusal}
-use Rattle.fm_base.specs.declared.refusal.Refusal.TheVariants.{Memory}
 use Rattle.fm_layout.specs.Tree.{Tree}
-use Rattle.fm_records_query.specs.Parsed.{IsNoQuery}
 use Rattle.fm_records_query.specs.Plan.{Plan}
 use Rattle.fm_workers.specs.Counts.{IsTally}
-use Rattle.fm_top.specs.Queries.{IsPlanned, IsTextRefused, IsUnplanned}
+use Rattle.fm_top.specs.Queries.{IsPlanned}
 use Rattle.fm_top.specs.declared.command.question.Question.{Question}
 use Rattle.fm_top.specs.declared.command.question.Question.TheVariants.{Query, Tally}
 

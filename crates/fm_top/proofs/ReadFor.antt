@@ -1,5 +1,5 @@
 -- What is read for a request.
-use Rattle.std.proofs.Common.{◌≡◌, ℕ, List, [], ◌∷◌, ◌++◌, Option, None, Some, refl, sym, ap, subst}
+use Rattle.std.proofs.Common.{◌≡◌, ℕ, List, [], ◌++◌, Option, None, Some, refl, sym, subst}
 use Rattle.std.proofs.lemmas.List.{append-nil}
 use Rattle.fm_io.specs.Files.{Contents}
 use Rattle.fm_io.specs.Reads.{Read, ReadsOn, Next, Ended}

@@ -1,7 +1,6 @@
 -- How runs end.
 use Rattle.std.proofs.Common.{◌≡◌, ◌≢◌, ℕ, List, [], ◌∷◌, get_or, Option, None, Some, refl, sym, ap, ◌∙◌, inl, inr}
 use Rattle.std.specs.Prelude.{◌⊎◌}
-use Rattle.fm_io.specs.Count.{Rose, Raised}
 use Rattle.fm_io.specs.Files.{Contents}
 use Rattle.fm_top.specs.Ending.{TellsMiss}
 use Rattle.fm_top.specs.Found.{OfFile}
@@ -17,10 +16,9 @@ use Rattle.fm_top.proofs.Causes.{CauseOf, end_cause}
 -- what words ask for can be asked
 pub can_be_asked : (words : List (List ℕ)) (request : Request) → Asks words request → CanBeAsked request
 can_be_asked words (Sum size at kind file) asks = asks.has_value
-can_be_asked words (Layout text file) asks = tt
 can_be_asked words (Ask q threads layout text file) asks = are_threads asks.text threads asks.are_threads
-can_be_asked words (Run file) asks = tt
 can_be_asked words (Demo threads count) asks = (are_threads asks.threaded.text threads asks.threaded.are_threads, asks.is_count)
+can_be_asked words request asks = tt
 
 -- what is found, and what is said of it
 pub found_under : (told : Option Contents) (name : Option (List ℕ)) (P : Option (List ℕ) → Type 0) → OfFile told name P → (found : Option (List ℕ)) × P found
@@ -57,19 +55,8 @@ status_of n = get_or (Answered ∷ Usage ∷ Missing ∷ Unread ∷ LayoutRefuse
 
 status_of-code_of : (s : Status) → status_of (code_of s) ≡ s
 unfolding status_of
-status_of-code_of = elim [
-  | Answered ↦ refl
-  | Usage ↦ refl
-  | Missing ↦ refl
-  | Unread ↦ refl
-  | LayoutRefused ↦ refl
-  | QueryRefused ↦ refl
-  | Ragged ↦ refl
-  | TooLong ↦ refl
-  | Unwritten ↦ refl
-  | NoMemory ↦ refl
-  | ScriptRefused ↦ refl
-]
+status_of-code_of Answered = refl
+status_of-code_of s = refl
 
 -- no two statuses have one code
 pub code_of-injective : (r s : Status) → code_of r ≡ code_of s → r ≡ s

@@ -15,7 +15,7 @@ use Rattle.fm_top_load.specs.Reading.{ReadsSome}
 use Rattle.fm_top_load.specs.Whole.{IsOver, IsWhole, TellsLoad}
 use Rattle.fm_top_load.proofs.Telling.{read_quietly}
 use Rattle.fm_top_load.specs.declared.load_fault.LoadFault.{LoadFault}
-use Rattle.fm_top_load.specs.declared.load_fault.LoadFault.TheVariants.{Missing, Failed, TooLong, Memory, PoolFull}
+use Rattle.fm_top_load.specs.declared.load_fault.LoadFault.TheVariants.{Missing, Failed, TooLong}
 use Rattle.fm_top.specs.declared.outcome.ending.Ending.{Ending}
 use Rattle.fm_top.specs.declared.outcome.status.Status.TheVariants as status
 use Rattle.fm_top.proofs.Ends.{shows_found, shows_wanting}

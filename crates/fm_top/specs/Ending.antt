@@ -40,6 +40,4 @@ TellsMisses before now (Err fault) = now ≡ before
 abbrev pub EndsUnloaded : LoadFault → List ℕ → Outcome → Type 0
 EndsUnloaded fault.Missing name o = o ≡ missing name
 EndsUnloaded fault.TooLong name o = o ≡ too_long
-EndsUnloaded fault.Failed name o = ⊥
-EndsUnloaded fault.Memory name o = ⊥
-EndsUnloaded fault.PoolFull name o = ⊥
+EndsUnloaded other name o = ⊥

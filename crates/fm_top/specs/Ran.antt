@@ -39,10 +39,10 @@ pub record Ran (words : List (List ℕ)) (t : Traces) (left : Left) (code : ℕ)
   pub causes : ComesOf words t status
   -- Words that are no command are told so.
   pub faulty : AreFaulty words → EndsWith Usage status
-  -- Where a read failed the status is 3, and where a write failed it is 8: any other leaves the count.
+  -- Where a read failed the status is `Unread`, and where a write failed it is `Unwritten`: any other leaves the count.
   pub read_well : status ≢ Unread → t.new.faults ≡ t.old.faults
   pub written_well : status ≢ Unwritten → t.after.faults ≡ t.before.faults
-  -- Where a read found no file the run tells so, and ends as the writing of that does: with 2, 8 or 9. Any other end leaves the count.
+  -- Where a read found no file the run tells so, and ends as the writing of that does: with `Missing`, `Unwritten` or `NoMemory`. Any other end leaves the count.
   pub missed_well : (t.new.misses ≡ t.old.misses) ⊎ TellsMissing words t left status
   -- Valid input is answered where files tell and no read or write failed.
   pub complete : (request : Request) (contents : Contents) → Asks words request → t.old.holds ≡ Some contents → IsValid request contents

@@ -32,11 +32,8 @@ first_limit (Run file) = script_file_limit
 
 -- for this that was found first, a second file is read: the layout and the text stand
 abbrev pub NeedsLast : Request → Option (List ℕ) → Type 0
-NeedsLast (Sum size at kind file) first = ⊥
-NeedsLast (Layout text file) first = ⊥
 NeedsLast (Ask q threads layout text file) first = (p : Plan) × IsAsked q first text p
-NeedsLast (Demo threads count) first = ⊥
-NeedsLast (Run file) first = ⊥
+NeedsLast request first = ⊥
 
 -- What was read for a request: its first file, and behind that its last one, which is read only where the first was read to its end and needs it.
 pub record ReadsFor (request : Request) (told : Option Contents) (old new : Option (List Read)) : Type 0 where

@@ -33,11 +33,8 @@ first_file (Run file) = Some file
 
 -- the name of the file that is read behind it, if a second one is read
 abbrev pub last_file : Request → Option (List ℕ)
-last_file (Sum size at kind file) = None
-last_file (Layout text file) = None
 last_file (Ask question threads layout text file) = Some file
-last_file (Demo threads count) = None
-last_file (Run file) = None
+last_file request = None
 
 -- a value of this kind stands at byte `at` of each record of `size` bytes, aligned to its width in each record
 pub record HasValue (size at : ℕ) (kind : ValueKind) : Type 0 where
@@ -135,10 +132,9 @@ Asks words (Run file) = IsRun words file
 -- what some words ask for
 abbrev pub CanBeAsked : Request → Type 0
 CanBeAsked (Sum size at kind file) = HasValue size at kind
-CanBeAsked (Layout text file) = Unit {0}
 CanBeAsked (Ask q threads layout text file) = AreThreads threads
 CanBeAsked (Demo threads count) = AreThreads threads × IsCount count
-CanBeAsked (Run file) = Unit {0}
+CanBeAsked request = Unit {0}
 
 -- the words ask for nothing that there is
 abbrev pub AreFaulty : List (List ℕ) → Type 0
