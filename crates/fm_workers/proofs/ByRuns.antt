@@ -59,8 +59,8 @@ as_many keeps spec k l places result own ns (next_turn {xs = left} j first rest 
     ap (λ gs. length (gs ++ more)) h.2 ∙ ap suc (as_many keeps spec j l left result rest more others e)
 as_many keeps spec k l places result own ns (short_turn first given apart h) e = absurd (apart e)
 
-as_many_of : (ds : List Dim) (spec : ValueSpec) (k l : List Seen) (places : List ℕ) (own : List Seen) (ns : List ℤ) → TakesPath ds spec k places (Ok tt) own ns l
-    → length ns ≡ length places
+as_many_of : (ds : List Dim) (spec : ValueSpec) (k l : List Seen) (places : List ℕ) (own : List Seen) (ns : List ℤ)
+    → TakesPath ds spec k places (Ok tt) own ns l → length ns ≡ length places
 as_many_of [] spec k l places own ns t = as_many kept_all spec k l places (Ok tt) own ns t refl
 as_many_of (d ∷ ds) spec k l places own ns t = as_many kept_last spec [] t.0 places (Ok tt) own ns t.1 refl
 

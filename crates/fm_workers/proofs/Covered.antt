@@ -109,7 +109,8 @@ module _ (limit : ℕ) (now : State) (w : Tallying) (s : Region) (more : List En
             let ends = run_ends from h.0 w.plan.size first in
             let theirs = asked_of w.plan _ (bytes_at_places now (piece w.plan s h.0 to)) index (index - (h.0 - from)) r is asks
             (ap (λ k. slice_get (records w.plan.size b) (index - k)) (sym count) ∙ there.stands) in
-            later c (counted_read h.0 to cs ts us e.share.rest (index - (h.0 - from)) r is word within d.1 h.2 (subst (SumsTo us) e.share.is_rest e.comes) theirs
+            later c (counted_read h.0 to cs ts us e.share.rest (index - (h.0 - from)) r is word within d.1 h.2
+            (subst (SumsTo us) e.share.is_rest e.comes) theirs
             (record { above = omega (arith, above, left, ends); below = omega (arith, below, left, ends) }))
       ]
   counted_read from to cs ts us ns index r is word within d h e asks at = absurd d

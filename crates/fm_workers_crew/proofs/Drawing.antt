@@ -154,8 +154,8 @@ module _ {T : Type 0} {old now next : View} {ws : List (Worker T)} where
   }
 
   -- No pass was left for the last task.
-  pub refused_draws : {tasks left : List T} (before : List T) (t : T) (r : Refusal) → old.number ≡ no_number → DrewCrew old now ws → (r ≡ NoPass) × NoneDrawn now next
-      → tasks ≡ left ++ tasks_of ws → left ≡ before ++ t ∷ [] → AfterDraws old next tasks left ws (Err r)
+  pub refused_draws : {tasks left : List T} (before : List T) (t : T) (r : Refusal) → old.number ≡ no_number → DrewCrew old now ws
+      → (r ≡ NoPass) × NoneDrawn now next → tasks ≡ left ++ tasks_of ws → left ≡ before ++ t ∷ [] → AfterDraws old next tasks left ws (Err r)
   refused_draws {left = left} before t r none m k parts last =
       let long : length left ≡ length before + 1 = ap (λ (ts : List T). length ts) last ∙ length-append before (t ∷ []) in
       record {

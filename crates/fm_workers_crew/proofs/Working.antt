@@ -131,7 +131,8 @@ module _ {T : Type 0} {old drew got new : View} {vs : List (Worker T)} {b : Bool
       number = ap (λ (v : View). v.number) l.asked.is;
       shape = ap (λ (v : View). v.shape) round_is;
       gathered = gathered_now;
-      finds = λ f i. subst (In f) (sym l.asked.found) (in_left f got.finds (l.find ∷ []) (subst (In f) (sym (finds_again m g)) (in_right f old.finds m.draws i)));
+      finds = λ f i. subst (In f) (sym l.asked.found)
+          (in_left f got.finds (l.find ∷ []) (subst (In f) (sym (finds_again m g)) (in_right f old.finds m.draws i)));
       before = m.gathered;
       count = found_most w;
     }
