@@ -15,8 +15,7 @@ returns-in-Ok g c =
     (plan_found Query c.args.plan file c.in-Ok.pooled (Some c.in-Ok.pooled) (shown c.in_ok-queried_ending-in-Ok.field-0) refl ends))
 
 pub returns-in_err-queried_ending-in-Ok : goal.returns-in_err-queried_ending-in-Ok
-returns-in_err-queried_ending-in-Ok g c =
-    let load = c.load.ensures in wanting_ends load.reads load.quiet load.found load.held c.in-Ok.is (search rules)
+returns-in_err-queried_ending-in-Ok g c = let load = c.load.ensures in wanting_ends load.reads load.quiet load.found load.held c.in-Ok.is (search rules)
 
 pub returns-in-Query : goal.returns-in-Query
 returns-in-Query g c =
