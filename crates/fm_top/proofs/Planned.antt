@@ -1,6 +1,5 @@
 -- What texts come to.
-use Rattle.std.proofs.Common.{◌≡◌, ℕ, List, Bool, true, false, Result, Ok, Err, IfOk, IfErr, subst, sym, ◌∙◌}
-use Rattle.std.specs.Prelude.{MatchBool}
+use Rattle.std.proofs.Common.{◌≡◌, ℕ, List, Result, Ok, Err, IfOk, IfErr, subst, sym, ◌∙◌}
 use Rattle.fm_layout.specs.Tree.{Tree}
 use Rattle.fm_records_query.specs.Plan.{Plan}
 use Rattle.fm_workers.specs.Counts.{IsTally}
@@ -19,8 +18,3 @@ of_err P same is known = subst (λ r. IfErr r P) (sym same ∙ is) known
 pub tally_planned : (q : Question) (text : List ℕ) (t : Tree) (p : Plan) → IsPlanned q text t p → q ≡ Tally → IsTally p
 tally_planned Query text t p plan is = absurd (cc)
 tally_planned Tally text t p plan is = plan.bytes
-
--- what holds where a test fails
-pub where_false : (b : Bool) (P Q : Type 0) → b ≡ false → MatchBool b P Q → Q
-where_false true P Q is holds = absurd (cc)
-where_false false P Q is holds = holds

@@ -1,8 +1,9 @@
 -- Which words are those of a command with threads.
 use Rattle.std.proofs.Common.{◌≡◌, ℕ, ◌-◌, ◌≤◌, List, [], ◌∷◌, length, take, drop, get_or, Option, None, Some, refl, sym, ap, subst, ◌∙◌, arith}
-use Rattle.std.specs.Prelude.{Bool, true, false, not, IfSome, IfNone, String, string_bytes}
+use Rattle.std.specs.Prelude.{Bool, false, not, IfSome, IfNone, String, string_bytes}
 use Rattle.std.specs.Str.{bytes_eq}
 use Rattle.std.specs.declared.alloc.Global.{Global}
+use Rattle.std.proofs.lemmas.Bool.{not-false}
 use Rattle.std.proofs.lemmas.Fmt.{decimal_injective}
 use Rattle.std.proofs.lemmas.List.{take_all}
 use Rattle.std.proofs.lemmas.Slice.Eq.{bytes_eq-Decides}
@@ -10,13 +11,9 @@ use Rattle.fm_top_options.proofs.Said.{one_saying}
 use Rattle.fm_top_options.specs.Options.{Say, texts}
 use Rattle.fm_top.specs.Words.{AreThreads, AreThreadsBy, IsThreaded}
 
-not_false : (b : Bool) → not b ≡ false → b ≡ true
-not_false true is = refl
-not_false false is = absurd (cc)
-
 -- a word that was tested not to differ
 pub is_same : {w text : List ℕ} {other : Bool} → other ≡ not (bytes_eq w text) → other ≡ false → w ≡ text
-is_same {w} {text} is fails = (bytes_eq-Decides w text).0 (not_false (bytes_eq w text) (sym is ∙ fails))
+is_same {w} {text} is fails = (bytes_eq-Decides w text).0 (not-false (bytes_eq w text) (sym is ∙ fails))
 
 -- what is known of what was found, or where nothing was
 pub of_some : {X : Type 0} {r : Option X} {x : X} (P : X → Type 0) → r ≡ Some x → IfSome r P → P x
